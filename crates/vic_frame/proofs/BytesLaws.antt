@@ -1,0 +1,96 @@
+-- Numbers and their bytes.
+use Rattle.std.proofs.Common.{◌≡◌, ℕ, zero, suc, ◌+◌, ◌*◌, ◌/◌, ◌^◌, ◌%◌, ◌<◌, ◌≤◌, List, [], ◌∷◌, ◌++◌, length, take, drop, refl, sym, ap, ◌∙◌, arith, append_assoc, append-nil}
+use Rattle.std.proofs.lemmas.List.{get_or-drop, length-take}
+use Rattle.std.proofs.Math.Seq.{take-append_seam}
+use Rattle.std.proofs.lemmas.Nat.{pow-add, mul-le}
+use Rattle.std.proofs.Math.Nat.{pow-le-pow_right}
+use Rattle.vic_frame.specs.Bytes.{number_of, bytes_of, AreBytes}
+
+pub length_bytes_of : (count n : ℕ) → length (bytes_of count n) ≡ count
+unfolding bytes_of
+length_bytes_of zero n = refl
+length_bytes_of (suc count) n = ap suc (length_bytes_of count (n / 256))
+
+-- the bytes of a number have that number
+pub number_of-bytes_of : (count n : ℕ) → n < 256 ^ count → number_of (bytes_of count n) ≡ n
+unfolding bytes_of
+number_of-bytes_of zero n h = omega arith
+number_of-bytes_of (suc count) n h =
+    let below : n / 256 < 256 ^ count = omega arith in
+    let rest = number_of-bytes_of count (n / 256) below in
+    omega (arith, rest)
+
+-- and the number of bytes has those bytes
+pub bytes_of-number_of : (xs : List ℕ) → AreBytes xs → bytes_of (length xs) (number_of xs) ≡ xs
+unfolding bytes_of
+bytes_of-number_of [] h = refl
+bytes_of-number_of (x ∷ xs) h =
+    let low : x < 256 = h 0 in
+    let head : (x + 256 * number_of xs) % 256 ≡ x = omega arith in
+    let rest : (x + 256 * number_of xs) / 256 ≡ number_of xs = omega arith in
+    rw (head, rest) (ap (λ ys. x ∷ ys) (bytes_of-number_of xs (λ i. h (suc i))))
+
+pub number_below : (xs : List ℕ) → AreBytes xs → number_of xs < 256 ^ length xs
+number_below [] h = omega arith
+number_below (x ∷ xs) h =
+    let low : x < 256 = h 0 in
+    let rest = number_below xs (λ i. h (suc i)) in
+    let all : x + 256 * number_of xs < 256 ^ suc (length xs) = omega (arith, rest) in
+    all
+
+pub number_below_7 : (xs : List ℕ) → AreBytes xs → length xs ≤ 7 → number_of xs < 256 ^ 7
+number_below_7 xs h short =
+    let below = number_below xs h in
+    let most = pow-le-pow_right {n = 256} (omega arith) {i = length xs} {j = 7} short in
+    omega (arith, below, most)
+
+pub AreBytes-drop : (n : ℕ) (xs : List ℕ) → AreBytes xs → AreBytes (drop n xs)
+AreBytes-drop n xs h i = rw (get_or-drop n xs i 0) (h (n + i))
+
+pub AreBytes-take : (n : ℕ) (xs : List ℕ) → AreBytes xs → AreBytes (take n xs)
+AreBytes-take zero xs h i = omega arith
+AreBytes-take (suc n) [] h i = h i
+AreBytes-take (suc n) (x ∷ xs) h zero = h 0
+AreBytes-take (suc n) (x ∷ xs) h (suc i) = AreBytes-take n xs (λ j. h (suc j)) i
+
+-- one byte more
+pub bytes_of-push : (out : List ℕ) (k j n : ℕ) → k ≡ suc j → (out ++ n % 256 ∷ []) ++ bytes_of j (n / 256) ≡ out ++ bytes_of k n
+unfolding bytes_of
+bytes_of-push out k j n e = rw (e, append_assoc) refl
+
+pub bytes_of-end : (out : List ℕ) (k n : ℕ) → k ≡ 0 → out ++ bytes_of k n ≡ out
+unfolding bytes_of
+bytes_of-end out k n e = rw (e, append-nil) refl
+
+pub take_front : (k : ℕ) (xs ys : List ℕ) → length xs ≡ k → take k (xs ++ ys) ≡ xs
+take_front k xs ys e = ap (λ j. take j (xs ++ ys)) (sym e) ∙ take-append_seam xs ys
+
+-- so many bytes of a list, and their number
+pub bytes_of-take : (k : ℕ) (xs : List ℕ) → AreBytes xs → k ≤ length xs → bytes_of k (number_of (take k xs)) ≡ take k xs
+bytes_of-take k xs h long =
+    let len : length (take k xs) ≡ k = omega (arith, length-take k xs) in
+    ap (λ j. bytes_of j (number_of (take k xs))) (sym len) ∙ bytes_of-number_of (take k xs) (AreBytes-take k xs h)
+
+pow_bytes : (k : ℕ) → 2 ^ (8 * k) ≡ 256 ^ k
+pow_bytes zero = refl
+pow_bytes (suc k) =
+    let split : 8 * suc k ≡ 8 + 8 * k = omega arith in
+    let more : 256 ^ suc k ≡ 256 * 256 ^ k = omega arith in
+    ap (λ n. 2 ^ n) split ∙ pow-add 2 8 (8 * k) ∙ ap (λ p. 256 * p) (pow_bytes k) ∙ sym more
+
+-- the least number of bytes for so many bits holds them
+pub holds_bits : (bits n : ℕ) → n < 2 ^ bits → n < 256 ^ ((bits + 7) / 8)
+holds_bits bits n h =
+    let most = pow-le-pow_right {n = 2} (omega arith) {i = bits} {j = 8 * ((bits + 7) / 8)} (omega arith) in
+    let is = pow_bytes ((bits + 7) / 8) in
+    omega (arith, most, is)
+
+pub number_below_8 : (xs : List ℕ) → AreBytes xs → length xs ≤ 8 → number_of xs < 256 ^ 8
+number_below_8 xs h short =
+    let below = number_below xs h in
+    let most = pow-le-pow_right {n = 256} (omega arith) {i = length xs} {j = 8} short in
+    omega (arith, below, most)
+
+-- four bits above others
+pub sixteen_times : (k p : ℕ) → k ≤ 15 → k * p + p ≤ 16 * p
+sixteen_times k p h = let most = mul-le k p 15 p h (omega arith) in omega (arith, most)

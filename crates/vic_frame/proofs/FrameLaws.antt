@@ -1,0 +1,79 @@
+-- Frames and their CRC; the first fault.
+use Rattle.std.proofs.Common.{◌≡◌, ℕ, ◌+◌, ◌-◌, ◌^◌, ◌<◌, ◌≤◌, ◌==◌, nat_le, Bool, true, false, Option, Some, None, IfOk, List, [], ◌∷◌, ◌++◌, length, take, drop, refl, sym, ap, ◌∙◌, arith, length-append}
+use Rattle.std.proofs.lemmas.Bool.{and_parts, and_from, leb-true, le-leb, eqb-true, eq-eqb}
+use Rattle.std.proofs.lemmas.List.{length-drop, take-append-drop}
+use Rattle.std.proofs.Math.Seq.{take-append_seam, drop-append_seam}
+use Rattle.vic_frame.specs.declared.fault.FrameFault.{FrameFault}
+use Rattle.vic_frame.specs.Bytes.{AreBytes, number_of, bytes_of}
+use Rattle.vic_frame.specs.Crc.{crc, crc_right, with_crc}
+use Rattle.vic_frame.specs.Faults.{first_fault}
+use Rattle.vic_frame.specs.Reading.{fault_or}
+use Rattle.vic_frame.proofs.BytesLaws.{AreBytes-drop, bytes_of-number_of, number_of-bytes_of, length_bytes_of}
+
+-- a frame whose CRC is right is what stands before, and the CRC
+pub crc_frame : (f : List ℕ) → AreBytes f → crc_right f ≡ true → f ≡ with_crc (take (length f - 2) f)
+crc_frame f h right =
+    let parts = and_parts (nat_le 2 (length f)) (number_of (drop (length f - 2) f) == crc (take (length f - 2) f)) right in
+    let long : 2 ≤ length f = leb-true 2 (length f) parts.0 in
+    let same : number_of (drop (length f - 2) f) ≡ crc (take (length f - 2) f) = eqb-true (number_of (drop (length f - 2) f)) (crc (take (length f - 2) f)) parts.1 in
+    let two : length (drop (length f - 2) f) ≡ 2 = omega (arith, length-drop (length f - 2) f) in
+    let tail : bytes_of 2 (crc (take (length f - 2) f)) ≡ drop (length f - 2) f =
+    ap (bytes_of 2) (sym same)
+    ∙ ap (λ k. bytes_of k (number_of (drop (length f - 2) f))) (sym two)
+    ∙ bytes_of-number_of (drop (length f - 2) f) (AreBytes-drop (length f - 2) f h) in
+    sym (take-append-drop (length f - 2) f) ∙ ap (λ t. take (length f - 2) f ++ t) (sym tail)
+
+pub length-with_crc : (b : List ℕ) → length (with_crc b) ≡ length b + 2
+length-with_crc b = length-append b (bytes_of 2 (crc b)) ∙ ap (λ k. length b + k) (length_bytes_of 2 (crc b))
+
+-- what is put together so has its CRC right
+pub with_crc-right : (b : List ℕ) → crc_right (with_crc b) ≡ true
+with_crc-right b =
+    let len = length-with_crc b in
+    let cut : length (with_crc b) - 2 ≡ length b = omega (arith, len) in
+    let front : take (length (with_crc b) - 2) (with_crc b) ≡ b = ap (λ k. take k (with_crc b)) cut ∙ take-append_seam b (bytes_of 2 (crc b)) in
+    let back : drop (length (with_crc b) - 2) (with_crc b) ≡ bytes_of 2 (crc b) = ap (λ k. drop k (with_crc b)) cut ∙ drop-append_seam b (bytes_of 2 (crc b)) in
+    let small : crc b < 256 ^ 2 = omega arith in
+    and_from _ _ (le-leb 2 (length (with_crc b)) (omega (arith, len)))
+    (eq-eqb (number_of (drop (length (with_crc b) - 2) (with_crc b))) (crc (take (length (with_crc b) - 2) (with_crc b)))
+    (ap number_of back ∙ number_of-bytes_of 2 (crc b) small ∙ ap crc (sym front)))
+
+-- every test fails
+abbrev pub AllFail : List (FrameFault × Bool) → Type 0
+AllFail [] = Unit {0}
+AllFail (e ∷ es) = (e.1 ≡ false) × AllFail es
+
+pub all_fail : (es : List (FrameFault × Bool)) → first_fault es ≡ None → AllFail es
+all_fail [] h = tt
+all_fail ((e, false) ∷ es) h = (refl, all_fail es h)
+all_fail ((e, true) ∷ es) h = absurd cc
+
+pub none_from : (es : List (FrameFault × Bool)) → AllFail es → first_fault es ≡ None
+none_from [] h = refl
+none_from ((e, false) ∷ es) h = none_from es h.1
+none_from ((e, true) ∷ es) (h, k) = absurd cc
+
+pub none_append : (es fs : List (FrameFault × Bool)) → first_fault (es ++ fs) ≡ None → (first_fault es ≡ None) × (first_fault fs ≡ None)
+none_append [] fs h = (refl, h)
+none_append ((e, false) ∷ es) fs h = none_append es fs h
+none_append ((e, true) ∷ es) fs h = absurd cc
+
+pub none_both : (es fs : List (FrameFault × Bool)) → first_fault es ≡ None → first_fault fs ≡ None → first_fault (es ++ fs) ≡ None
+none_both [] fs h k = k
+none_both ((e, false) ∷ es) fs h k = none_both es fs h k
+none_both ((e, true) ∷ es) fs h k = absurd cc
+
+pub some_append : (es fs : List (FrameFault × Bool)) (x : FrameFault) → first_fault es ≡ Some x → first_fault (es ++ fs) ≡ Some x
+some_append [] fs x h = absurd cc
+some_append ((e, false) ∷ es) fs x h = some_append es fs x h
+some_append ((e, true) ∷ es) fs x h = h
+
+pub none_first : (es fs : List (FrameFault × Bool)) → first_fault es ≡ None → first_fault (es ++ fs) ≡ first_fault fs
+none_first [] fs h = refl
+none_first ((e, false) ∷ es) fs h = none_first es fs h
+none_first ((e, true) ∷ es) fs h = absurd cc
+
+-- what is read is spelled, if whatever has no fault is
+pub found_from : {A : Type 0} (o : Option FrameFault) (x : A) (P : A → Type 0) → (o ≡ None → P x) → IfOk (fault_or o x) P
+found_from None x P h = h refl
+found_from (Some e) x P h = tt

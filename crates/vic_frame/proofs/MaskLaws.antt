@@ -1,0 +1,88 @@
+-- Laws on masks.
+use Rattle.std.proofs.Common.{Bool, true, false, ◌==◌, ◌≡◌, ℕ, ◌+◌, ◌-◌, ◌*◌, ◌/◌, ◌^◌, ◌%◌, ◌<◌, ◌≤◌, ◌⊎◌, inl, inr, refl, sym, ap, ◌∙◌, arith, zero, suc, add_comm}
+use Rattle.std.proofs.Math.Nat.{pow-le-pow_right, mul_assoc}
+use Rattle.std.proofs.lemmas.Nat.{mod-pow-add, mod_low, pow_pos, pow-add, mod_below}
+use Rattle.std.proofs.lemmas.Bool.{cases_eq, eqb-true, eq-eqb}
+use Rattle.std.proofs.lemmas.Bool.Decides.{nat_tests}
+use Rattle.vic_frame.specs.Masks.{BitMask, IsMask, LiesIn, lies_in}
+use Rattle.vic_frame.specs.Uids.{IsUid}
+use Rattle.vic_frame.specs.MaskLaws.{NestedOrApart, IsParted}
+
+-- the low bits of the low bits
+pub mod_mod_pow : (u m n : ℕ) → m ≤ n → u % 2 ^ n % 2 ^ m ≡ u % 2 ^ m
+mod_mod_pow u m n le =
+    let j : ℕ = n - m in
+    let is : j + m ≡ n = omega arith in
+    let e : u % 2 ^ (j + m) ≡ (u / 2 ^ m % 2 ^ j) * 2 ^ m + u % 2 ^ m = mod-pow-add u j m in
+    let f : u % 2 ^ n ≡ (u / 2 ^ m % 2 ^ j) * 2 ^ m + u % 2 ^ m = rw is at e in
+    ap (λ x. x % 2 ^ m) f ∙ mod_low (u / 2 ^ m % 2 ^ j) m (u % 2 ^ m) (mod_below u (2 ^ m) (pow_pos m))
+
+-- one bit more
+pub mod_pow_more : (u l : ℕ) → u % 2 ^ (l + 1) ≡ (u / 2 ^ l % 2) * 2 ^ l + u % 2 ^ l
+mod_pow_more u l = let e : u % 2 ^ (1 + l) ≡ (u / 2 ^ l % 2 ^ 1) * 2 ^ l + u % 2 ^ l = mod-pow-add u 1 l in rw add_comm at e
+
+pub nested_or_apart_lem : (m n : BitMask) → IsMask m → IsMask n → m.len ≤ n.len → NestedOrApart m n
+nested_or_apart_lem m n p q le = elim (cases_eq (n.value % 2 ^ m.len) m.value) [
+  | inl same ↦ inl (λ u h. sym (mod_mod_pow u m.len n.len le) ∙ ap (λ x. x % 2 ^ m.len) h ∙ same)
+  | inr other ↦ inr (λ u h k. other (sym (ap (λ x. x % 2 ^ m.len) k) ∙ mod_mod_pow u m.len n.len le ∙ h))
+]
+
+-- x has the bit b above the rest r, which is below t
+record Parts (x t r v : ℕ) : Type 0 where
+  covers : r ≡ v → (x ≡ v) ⊎ (x ≡ v + t)
+  lower : x ≡ v → r ≡ v
+  upper : x ≡ v + t → r ≡ v
+  apart : x ≡ v → x ≡ v + t → ⊥
+
+parts : (x b t r v : ℕ) → b < 2 → r < t → v < t → x ≡ b * t + r → Parts x t r v
+parts x zero t r v p q h e = record { covers = λ k. inl (omega arith); lower = λ k. omega arith; upper = λ k. absurd (omega arith); apart = λ k l. omega arith }
+parts x (suc zero) t r v p q h e = record { covers = λ k. inr (omega arith); lower = λ k. absurd (omega arith); upper = λ k. omega arith; apart = λ k l. omega arith }
+parts x (suc (suc b)) t r v p q h e = absurd (omega arith)
+
+pub parted : (m : BitMask) (u : ℕ) → IsMask m → IsParted m u
+parted m u p =
+    let low : u / 2 ^ m.len % 2 < 2 = mod_below (u / 2 ^ m.len) 2 (omega arith) in
+    let rest = mod_below u (2 ^ m.len) (pow_pos m.len) in
+    let d = parts (u % 2 ^ (m.len + 1)) (u / 2 ^ m.len % 2) (2 ^ m.len) (u % 2 ^ m.len) m.value low rest p.1 (mod_pow_more u m.len) in
+    record { covers = d.covers; lower = d.lower; upper = d.upper; apart = d.apart }
+
+-- the one UID that a long mask can hold
+abbrev pub only_uid : ℕ → ℕ
+only_uid value = 0xE0 * 2 ^ 56 + value % 2 ^ 56
+
+pub is_only : (m : BitMask) (u : ℕ) → 56 ≤ m.len → IsUid u → u % 2 ^ m.len ≡ m.value → u ≡ only_uid m.value
+is_only m u long is_uid e =
+    let f : m.value % 2 ^ 56 ≡ u % 2 ^ 56 = sym (ap (λ x. x % 2 ^ 56) e) ∙ mod_mod_pow u 56 m.len long in
+    omega arith
+
+low_of_only : (u v : ℕ) → IsUid u → (u % 2 ^ 56 == v % 2 ^ 56) ≡ (u == only_uid v)
+low_of_only u v h = grind (arith, nat_tests)
+
+pub long_none : (m : BitMask) (u : ℕ) → 56 ≤ m.len → IsUid u → lies_in m (only_uid m.value) ≡ false → lies_in m u ≡ false
+long_none m u long is_uid none = go (lies_in m u) refl where
+  go : (b : Bool) → lies_in m u ≡ b → lies_in m u ≡ false
+  go false e = e
+  go true e = ap (lies_in m) (is_only m u long is_uid (eqb-true (u % 2 ^ m.len) m.value e)) ∙ none
+
+pub long_same : (m : BitMask) (u : ℕ) → 56 ≤ m.len → IsUid u → lies_in m (only_uid m.value) ≡ true → (u % 2 ^ 56 == m.value % 2 ^ 56) ≡ lies_in m u
+long_same m u long is_uid some = low_of_only u m.value is_uid ∙ go (lies_in m u) refl where
+  other : (b : Bool) → (u == only_uid m.value) ≡ b → lies_in m u ≡ false → b ≡ false
+  other false e f = refl
+  other true e f = sym some ∙ ap (lies_in m) (sym (eqb-true u (only_uid m.value) e)) ∙ f
+
+  go : (b : Bool) → lies_in m u ≡ b → (u == only_uid m.value) ≡ lies_in m u
+  go false e = other (u == only_uid m.value) refl e ∙ sym e
+  go true e = eq-eqb u (only_uid m.value) (is_only m u long is_uid (eqb-true (u % 2 ^ m.len) m.value e)) ∙ sym e
+
+-- a mask of at most 56 bits holds the UID whose other bits below E0 are 0
+pub short_holds : (m : BitMask) → IsMask m → m.len ≤ 56 → (u : ℕ) × IsUid u × LiesIn m u
+short_holds m p short =
+    let w = 2 ^ m.len in
+    let j : ℕ = 56 - m.len in
+    let below : w ≤ 2 ^ 56 = pow-le-pow_right (let z : 0 < 2 = omega arith in z) short in
+    let split : 2 ^ (j + m.len) ≡ 2 ^ j * w = pow-add 2 j m.len in
+    let is : j + m.len ≡ 56 = omega arith in
+    let whole : 2 ^ 56 ≡ 2 ^ j * w = rw is at split in
+    let above : 0xE0 * 2 ^ 56 ≡ 0xE0 * 2 ^ j * w = ap (λ x. 0xE0 * x) whole ∙ sym (mul_assoc 0xE0 (2 ^ j) w) in
+    let low : (0xE0 * 2 ^ j * w + m.value) % w ≡ m.value = mod_low (0xE0 * 2 ^ j) m.len m.value p.1 in
+    (0xE0 * 2 ^ 56 + m.value, (omega arith, omega (arith, below, p.1)), ap (λ x. (x + m.value) % w) above ∙ low)

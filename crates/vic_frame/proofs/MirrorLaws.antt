@@ -1,0 +1,153 @@
+-- Laws of the mirrored bits.
+use Rattle.std.proofs.Common.{◌&&◌, ◌==◌, ◌≡◌, ℕ, ◌+◌, ◌-◌, ◌*◌, ◌/◌, ◌^◌, ◌%◌, ◌<◌, ◌≤◌, ◌⊎◌, inl, inr, refl, sym, ap, ◌∙◌, arith, zero, suc, add-one}
+use Rattle.std.specs.Prelude.{nat_le}
+use Rattle.std.specs.Int.{reverse_bits_onto, reverse_bits, w64}
+use Rattle.std.proofs.lemmas.Nat.{pow-add, mod-pow-add, field_of, shr_high, mod_low, shr-shr}
+use Rattle.std.proofs.lemmas.Bool.{cases_order}
+use Rattle.std.proofs.lemmas.Bool.Decides.{nat_tests}
+use Rattle.std.proofs.Math.Nat.{add_assoc, add-mul, mul_assoc, mul_comm, pow-suc, div-one, mod-one, mod-eq_of_lt, div-eq_of_lt, mul-le-mul_right, suc-mul}
+use Rattle.vic_frame.proofs.MaskLaws.{mod_mod_pow}
+use Rattle.vic_frame.specs.Uids.{IsUid}
+use Rattle.vic_frame.specs.LowBitsFirst.{mirror_bits, mirror, uid_of}
+
+pow_more : (k : ℕ) → 2 ^ suc k ≡ 2 * 2 ^ k
+pow_more k = pow-suc 2 k ∙ mul_comm (2 ^ k) 2
+
+-- a bit above what is below t is below 2 * t
+bit_below : (b t r w : ℕ) → b < 2 → r < t → w ≡ 2 * t → b * t + r < w
+bit_below zero t r w p q e = omega arith
+bit_below (suc zero) t r w p q e = omega arith
+bit_below (suc (suc b)) t r w p q e = absurd (omega arith)
+
+pub mirror_below : (k n : ℕ) → mirror_bits k n < 2 ^ k
+unfolding mirror_bits
+mirror_below zero n = omega arith
+mirror_below (suc k) n = bit_below (n % 2) (2 ^ k) (mirror_bits k (n / 2)) (2 ^ suc k) (omega arith) (mirror_below k (n / 2)) (pow_more k)
+
+joined : (b s t m a r x : ℕ) → m ≡ s * t → x ≡ a * t + r → b * m + x ≡ (b * s + a) * t + r
+joined b s t m a r x p q =
+    ap (λ (y : ℕ). b * y + x) p
+    ∙ ap (λ (y : ℕ). b * (s * t) + y) q
+    ∙ sym (add_assoc (b * (s * t)) (a * t) r)
+    ∙ ap (λ (y : ℕ). y + r) (ap (λ (y : ℕ). y + a * t) (sym (mul_assoc b s t)) ∙ sym (add-mul (b * s) a t))
+
+none_above : (t r : ℕ) → r ≡ 0 * t + r
+none_above t r = omega arith
+
+-- the first k bits stand above the next j
+pub mirror_split : (k j m n : ℕ) → m ≡ k + j → mirror_bits m n ≡ mirror_bits k n * 2 ^ j + mirror_bits j (n / 2 ^ k)
+unfolding mirror_bits
+mirror_split zero j m n e =
+    let f : m ≡ j = omega arith in
+    ap (λ (x : ℕ). mirror_bits x n) f ∙ ap (mirror_bits j) (sym (div-one n)) ∙ none_above (2 ^ j) (mirror_bits j (n / 1))
+mirror_split (suc k) j zero n e = absurd (omega arith)
+mirror_split (suc k) j (suc m) n e =
+    let f : m ≡ k + j = omega arith in
+    let p : 2 ^ m ≡ 2 ^ k * 2 ^ j = ap (λ (x : ℕ). 2 ^ x) f ∙ pow-add 2 k j in
+    let g : 1 + k ≡ suc k = omega arith in
+    let h : n / 2 / 2 ^ k ≡ n / 2 ^ suc k = shr-shr n 1 k ∙ ap (λ (x : ℕ). n / 2 ^ x) g in
+    joined (n % 2) (2 ^ k) (2 ^ j) (2 ^ m) (mirror_bits k (n / 2)) (mirror_bits j (n / 2 ^ suc k)) (mirror_bits m (n / 2)) p
+    (mirror_split k j m (n / 2) f ∙ ap (λ (x : ℕ). mirror_bits k (n / 2) * 2 ^ j + mirror_bits j x) h)
+
+onto_step : (a b t w m : ℕ) → w ≡ 2 * t → (a * 2 + b) * t + m ≡ a * w + (b * t + m)
+onto_step a b t w m e =
+    ap (λ (y : ℕ). y + m) (add-mul (a * 2) b t)
+    ∙ add_assoc (a * 2 * t) (b * t) m
+    ∙ ap (λ (y : ℕ). y + (b * t + m)) (mul_assoc a 2 t ∙ ap (λ (y : ℕ). a * y) (sym e))
+
+pub onto_mirror : (k n a : ℕ) → reverse_bits_onto k n a ≡ a * 2 ^ k + mirror_bits k n
+unfolding mirror_bits reverse_bits_onto
+onto_mirror zero n a = omega arith
+onto_mirror (suc k) n a = onto_mirror k (n / 2) (a * 2 + n % 2) ∙ onto_step a (n % 2) (2 ^ k) (2 ^ suc k) (mirror_bits k (n / 2)) (pow_more k)
+
+pub mirror_mod : (k n : ℕ) → mirror_bits k (n % 2 ^ k) ≡ mirror_bits k n
+unfolding mirror_bits
+mirror_mod zero n = refl
+mirror_mod (suc k) n =
+    let b : n % 2 ^ suc k % 2 ≡ n % 2 = mod_mod_pow n 1 (suc k) (omega arith) in
+    let h : n % 2 ^ suc k / 2 ≡ n / 2 % 2 ^ k = rw add-one at (field_of n k 1) in
+    ap (λ (x : ℕ). x * 2 ^ k + mirror_bits k (n % 2 ^ suc k / 2)) b
+    ∙ ap (λ (x : ℕ). (n % 2) * 2 ^ k + x) (ap (mirror_bits k) h ∙ mirror_mod k (n / 2))
+
+one_bit : (b : ℕ) → b < 2 → mirror_bits 1 b ≡ b
+unfolding mirror_bits
+one_bit b h = omega arith
+
+-- mirrored twice, a number's low bits are back
+pub mirror_twice : (k n : ℕ) → mirror_bits k (mirror_bits k n) ≡ n % 2 ^ k
+unfolding mirror_bits
+mirror_twice zero n = sym (mod-one n)
+mirror_twice (suc k) n =
+    let b : ℕ = n % 2 in
+    let r : ℕ = mirror_bits k (n / 2) in
+    let m : ℕ = b * 2 ^ k + r in
+    let small : r < 2 ^ k = mirror_below k (n / 2) in
+    let parts : mirror_bits (suc k) m ≡ mirror_bits k m * 2 + mirror_bits 1 (m / 2 ^ k) = mirror_split k 1 (suc k) m (omega arith) in
+    let low : mirror_bits k m ≡ n / 2 % 2 ^ k = sym (mirror_mod k m) ∙ ap (mirror_bits k) (mod_low b k r small) ∙ mirror_twice k (n / 2) in
+    let high : mirror_bits 1 (m / 2 ^ k) ≡ n % 2 = ap (mirror_bits 1) (shr_high b k r small) ∙ one_bit b (omega arith) in
+    let whole : n % 2 ^ suc k ≡ (n / 2 % 2 ^ k) * 2 + n % 2 = rw add-one at (mod-pow-add n k 1) in
+    parts ∙ ap (λ (x : ℕ). x * 2 + mirror_bits 1 (m / 2 ^ k)) low ∙ ap (λ (x : ℕ). (n / 2 % 2 ^ k) * 2 + x) high ∙ sym whole
+
+pub mirror_none : (k : ℕ) → mirror_bits k 0 ≡ 0
+unfolding mirror_bits
+mirror_none zero = refl
+mirror_none (suc k) = sym (none_above (2 ^ k) (mirror_bits k 0)) ∙ mirror_none k
+
+-- what `reverse_bits() >> 8` gives
+pub mirror_is : (u : ℕ) → reverse_bits w64 u / 2 ^ 8 ≡ mirror u
+mirror_is u =
+    ap (λ (x : ℕ). x / 2 ^ 8) (onto_mirror 64 u 0 ∙ sym (none_above (2 ^ 64) (mirror_bits 64 u)) ∙ mirror_split 56 8 64 u refl)
+    ∙ shr_high (mirror_bits 56 u) 8 (mirror_bits 8 (u / 2 ^ 56)) (mirror_below 8 (u / 2 ^ 56))
+
+pub uid_of_mirror : (u : ℕ) → IsUid u → uid_of (mirror u) ≡ u
+uid_of_mirror u h = let e : mirror_bits 56 (mirror_bits 56 u) ≡ u % 2 ^ 56 = mirror_twice 56 u in omega arith
+
+pub mirror_of_uid : (k : ℕ) → k < 2 ^ 56 → mirror (uid_of k) ≡ k
+mirror_of_uid k h =
+    let e : mirror_bits 56 (mirror_bits 56 k) ≡ k % 2 ^ 56 = mirror_twice 56 k in
+    let s : mirror_bits 56 k < 2 ^ 56 = mirror_below 56 k in
+    let f : uid_of k % 2 ^ 56 ≡ mirror_bits 56 k = omega arith in
+    sym (mirror_mod 56 (uid_of k)) ∙ ap (mirror_bits 56) f ∙ e ∙ mod-eq_of_lt h
+
+pub same_test : (x y a b : ℕ) → (x ≡ y → a ≡ b) → (a ≡ b → x ≡ y) → (x == y) ≡ (a == b)
+same_test x y a b f g = grind (arith, nat_tests)
+
+-- numbers p and q in blocks of t
+near : (a b t p q : ℕ) → p ≡ a * t → q ≡ b * t → ((a ≡ b) × (p ≡ q)) ⊎ ((a < b) × (p + t ≤ q)) ⊎ ((b < a) × (q + t ≤ p))
+near a b t p q e f = elim (cases_order a b) [
+  | inl same ↦ inl (same, e ∙ ap (λ (x : ℕ). x * t) same ∙ sym f)
+  | inr (inl less) ↦ inr (inl (less, above a b less p q e f))
+  | inr (inr more) ↦ inr (inr (more, above b a more q p f e))
+] where
+  above : (a b : ℕ) → a < b → (p q : ℕ) → p ≡ a * t → q ≡ b * t → p + t ≤ q
+  above a b h p q e f =
+      let k : suc a * t ≤ b * t = mul-le-mul_right t h in
+      let m : suc a * t ≡ a * t + t = suc-mul a t in
+      omega arith
+
+span_test : (a b t r x y : ℕ) → r < t → x ≡ a * t + r → y ≡ b * t → (a == b) ≡ (nat_le y x && nat_le x (y + (t - 1)))
+span_test a b t r x y h e f = elim (near a b t (a * t) (b * t) refl refl) [
+  | inl same ↦ equal_here a b t r (a * t) x y h same.0 e (f ∙ sym same.1)
+  | inr (inl less) ↦ below_here a b t r (a * t) (b * t) x y h less.0 less.1 e f
+  | inr (inr more) ↦ above_here a b t r (a * t) (b * t) x y h more.0 more.1 e f
+] where
+  equal_here : (a b t r p x y : ℕ) → r < t → a ≡ b → x ≡ p + r → y ≡ p → (a == b) ≡ (nat_le y x && nat_le x (y + (t - 1)))
+  equal_here a b t r p x y h k e f = grind (arith, nat_tests)
+
+  below_here : (a b t r p q x y : ℕ) → r < t → a < b → p + t ≤ q → x ≡ p + r → y ≡ q → (a == b) ≡ (nat_le y x && nat_le x (y + (t - 1)))
+  below_here a b t r p q x y h k l e f = grind (arith, nat_tests)
+
+  above_here : (a b t r p q x y : ℕ) → r < t → b < a → q + t ≤ p → x ≡ p + r → y ≡ q → (a == b) ≡ (nat_le y x && nat_le x (y + (t - 1)))
+  above_here a b t r p q x y h k l e f = grind (arith, nat_tests)
+
+more_none : (n : ℕ) → n + 0 ≡ n
+more_none n = omega arith
+
+pub in_span : (l h v u : ℕ) → 56 ≡ l + h → v < 2 ^ l → (u % 2 ^ l == v) ≡ (nat_le (mirror v) (mirror u) && nat_le (mirror u) (mirror v + (2 ^ h - 1)))
+in_span l h v u e below =
+    let first : mirror_bits 56 v ≡ mirror_bits l v * 2 ^ h =
+    mirror_split l h 56 v e ∙ ap (λ (x : ℕ). mirror_bits l v * 2 ^ h + x) (ap (mirror_bits h) (div-eq_of_lt below) ∙ mirror_none h) ∙ more_none (mirror_bits l v * 2 ^ h) in
+    let there = λ (s : u % 2 ^ l ≡ v). sym (mirror_mod l u) ∙ ap (mirror_bits l) s in
+    let back = λ (s : mirror_bits l u ≡ mirror_bits l v). sym (mirror_twice l u) ∙ ap (mirror_bits l) s ∙ mirror_twice l v ∙ mod-eq_of_lt below in
+    same_test (u % 2 ^ l) v (mirror_bits l u) (mirror_bits l v) there back
+    ∙ span_test (mirror_bits l u) (mirror_bits l v) (2 ^ h) (mirror_bits h (u / 2 ^ l)) (mirror u) (mirror v) (mirror_below h (u / 2 ^ l)) (mirror_split l h 56 u e) first

@@ -1,0 +1,7 @@
+use Rattle.std.proofs.Common.{◌∙◌, ap, sym, arith}
+use Rattle.vic_frame.proofs.CrcLaws.{shifts, table_to, low_step}
+use Rattle.vic_frame.proofs.checksum.low_after_byte.Goals as goal
+
+pub returns : goal.returns
+unfolding shifts
+returns c = table_to 256 c.from.result (omega arith) ∙ ap (shifts 8) c.from.ensures ∙ sym (low_step c.args.low)

@@ -1,0 +1,21 @@
+use Rattle.std.proofs.Common.{ℕ, ◌<◌, ◌≤◌, ◌^◌, ap, arith}
+use Rattle.std.proofs.Math.Nat.{pow-le-pow_right}
+use Rattle.vic_frame.specs.Masks.{BitMask}
+use Rattle.vic_frame.proofs.mask.Mask.least_uid.Goals as goal
+
+below : (len value : ℕ) → len ≤ 56 → value < 2 ^ len → value < 2 ^ 56
+below len value h k = let fits : 2 ^ len ≤ 2 ^ 56 = pow-le-pow_right (let z : 0 < 2 = omega arith in z) h in omega arith
+
+pub overflow_add-self-inside : goal.overflow_add-self-inside
+overflow_add-self-inside c =
+    let e = ap (λ (m : BitMask). m.len) c.self.view_is in
+    let short : c.self.inside.len ≤ 56 = omega (arith, c.requires, e) in
+    let b = below c.self.inside.len c.self.inside.value short c.self.invariant.1 in
+    omega arith
+
+pub unreachable-requires : goal.unreachable-requires
+unreachable-requires c =
+    let e = ap (λ (m : BitMask). m.len) c.self.view_is in
+    let short : c.self.inside.len ≤ 56 = omega (arith, c.requires, e) in
+    let b = below c.self.inside.len c.self.inside.value short c.self.invariant.1 in
+    c.in_default.ensures (omega arith, omega arith)

@@ -1,0 +1,12 @@
+pub mod Uids
+pub mod Masks
+pub mod MaskLaws
+pub mod LowBitsFirst
+pub mod Bytes
+pub mod Crc
+pub mod Requests
+pub mod Slots
+pub mod Replies
+pub mod Faults
+pub mod Names
+pub mod Reading

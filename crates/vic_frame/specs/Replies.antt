@@ -1,0 +1,27 @@
+-- A tag's reply, and how it is spelled (ISO/IEC 15693-3, Inventory response).
+use Rattle.std.specs.Prelude.{◌≡◌, ℕ, ◌%◌, ◌<◌, List, ◌∷◌}
+use Rattle.vic_frame.specs.Uids.{IsUid}
+use Rattle.vic_frame.specs.Bytes.{bytes_of}
+use Rattle.vic_frame.specs.Crc.{with_crc}
+
+-- a reply: its flags, its DSFID and the UID that it gives
+pub record Reply : Type 0 where
+  pub flags : ℕ
+  pub dsfid : ℕ
+  pub uid : ℕ
+
+-- two bytes and a UID; the flag for errors, the lowest bit of the flags, is 0
+pub record IsReply (r : Reply) : Type 0 where
+  pub flags : r.flags < 256
+  pub dsfid : r.dsfid < 256
+  pub even : r.flags % 2 ≡ 0
+  pub uid : IsUid r.uid
+
+abbrev pub reply_body : Reply → List ℕ
+reply_body r = r.flags ∷ r.dsfid ∷ bytes_of 8 r.uid
+
+abbrev pub reply_spelling : Reply → List ℕ
+reply_spelling r = with_crc (reply_body r)
+
+abbrev pub SpellsReply : List ℕ → Reply → Type 0
+SpellsReply f r = IsReply r × (f ≡ reply_spelling r)

@@ -1,0 +1,33 @@
+-- How a request is spelled.
+use Rattle.std.specs.Prelude.{◌≡◌, ℕ, ◌+◌, ◌/◌, ◌^◌, ◌<◌, ◌≤◌, true, false, List, ◌∷◌, if◌then◌else◌}
+use Rattle.vic_frame.specs.declared.request.Request.{Request}
+use Rattle.vic_frame.specs.declared.request.Request.TheVariants.{Inventory, StayQuiet}
+use Rattle.vic_frame.specs.Masks.{IsMask}
+use Rattle.vic_frame.specs.Bytes.{bytes_of}
+use Rattle.vic_frame.specs.Crc.{with_crc}
+
+-- two bits of link; with sixteen slots a mask of at most 60 bits
+abbrev pub IsValid : Request → Type 0
+IsValid (Inventory link true m) = (link ≤ 3) × (m.len ≤ 60)
+IsValid (Inventory link false m) = link ≤ 3
+IsValid (StayQuiet link uid) = link ≤ 3
+
+-- the numbers that a request's type leaves it
+abbrev pub IsInRange : Request → Type 0
+IsInRange (Inventory link sixteen m) = IsMask m
+IsInRange (StayQuiet link uid) = uid < 2 ^ 64
+
+-- the least number of bytes that hold so many bits
+abbrev pub byte_count : ℕ → ℕ
+byte_count bits = (bits + 7) / 8
+
+-- flags, command, and what the command asks for
+abbrev pub request_body : Request → List ℕ
+request_body (Inventory link sixteen m) = ((if sixteen then 0x04 else 0x24) + link) ∷ 0x01 ∷ m.len ∷ bytes_of (byte_count m.len) m.value
+request_body (StayQuiet link uid) = (0x20 + link) ∷ 0x02 ∷ bytes_of 8 uid
+
+abbrev pub request_spelling : Request → List ℕ
+request_spelling q = with_crc (request_body q)
+
+abbrev pub SpellsRequest : List ℕ → Request → Type 0
+SpellsRequest f q = IsInRange q × IsValid q × (f ≡ request_spelling q)

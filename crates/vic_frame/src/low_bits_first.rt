@@ -1,0 +1,43 @@
+//! The order of UIDs by their low bits, in which the UIDs of a mask stand together.
+ghost use Rattle.std.specs.Prelude.{◌≡◌, ℕ, ◌+◌, ◌-◌, ◌^◌, ◌<◌, ◌≤◌, ◌&&◌, nat_le};
+ghost use Rattle.vic_frame.specs.Uids.{IsUid};
+ghost use Rattle.vic_frame.specs.Masks.{lies_in};
+ghost use Rattle.vic_frame.specs.LowBitsFirst.{mirror, uid_of};
+
+use crate::mask::Mask;
+use crate::uid::Uid;
+
+/// A UID's 56 low bits, the lowest first.
+pub fn key(uid: Uid) -> u64
+    ensures value { result ≡ mirror uid }
+    ensures small { result < 2 ^ 56 }
+    ensures back { uid_of result ≡ uid }
+    ensures is_uid { IsUid uid }
+{
+    uid.number().reverse_bits() >> 8
+}
+
+/// The UID that has these bits, the lowest first.
+pub fn uid_at(key: u64) -> Uid
+    requires { key < 2 ^ 56 }
+    ensures value { result ≡ uid_of key }
+    ensures back { mirror result ≡ key }
+{
+    let Some(uid) = Uid::new((0xE0 << 56) + (key.reverse_bits() >> 8)) else {
+        unreachable!()
+    };
+    uid
+}
+
+/// The first and the last place of a mask's UIDs in the order.
+pub fn places(mask: &Mask) -> (u64, u64)
+    requires { mask.now.len ≤ 56 }
+    ensures first { result.0 ≡ mirror mask.now.value }
+    ensures last { result.1 ≡ mirror mask.now.value + (2 ^ (56 - mask.now.len) - 1) }
+    ensures forward { result.0 ≤ result.1 }
+    ensures inside { (u : ℕ) → lies_in mask.now u ≡ (nat_le result.0 (mirror u) && nat_le (mirror u) result.1) }
+{
+    let first = mask.value().reverse_bits() >> 8;
+    let more = (1 << (56 - mask.len())) - 1;
+    (first, first + more)
+}

@@ -1,0 +1,140 @@
+//! Masks on the low bits of UIDs.
+
+ghost use Rattle.std.specs.Prelude.{◌≡◌, ℕ, ◌^◌, ◌%◌, ◌<◌, ◌≤◌, ◌+◌, ◌*◌, false, SomeIff, IfSome, IfNone};
+ghost use Rattle.vic_frame.specs.Uids.{IsUid};
+ghost use Rattle.vic_frame.specs.Masks.{BitMask, IsMask, lies_in, sixteenth, own_mask, least_uid_in};
+
+use crate::uid::Uid;
+use std::marker::Model;
+
+/// The low bits that a UID is asked for.
+#[derive(Clone, Copy, Debug, PartialEq, Eq)]
+pub struct Mask {
+    len: u8,
+    value: u64,
+}
+
+impl Model for Mask {
+    ghost Value = { BitMask };
+
+    ghost view = { λ a. record { len = a.len; value = a.value } };
+
+    ghost invariant = { λ a. IsMask (record { len = a.len; value = a.value }) };
+
+    ghost inverse = { λ m. record { len = m.len; value = m.value } };
+}
+
+/// The low `len` bits of a number.
+fn low_bits(number: u64, len: u8) -> u64
+    requires { len ≤ 64 }
+    ensures { result ≡ number % 2 ^ len }
+{
+    if len < 64 {
+        number % (1 << len)
+    } else {
+        number
+    }
+}
+
+/// The number of a slot above `len` bits.
+fn slot_number(k: u8, len: u8) -> u64
+    requires slot { k ≤ 15 }
+    requires short { len ≤ 60 }
+    ensures value { result ≡ k * 2 ^ len }
+    ensures fits { result + 2 ^ len ≤ 2 ^ (len + 4) }
+    ensures small { 2 ^ (len + 4) ≤ 2 ^ 64 }
+{
+    u64::from(k) << len
+}
+
+impl Mask {
+    /// The mask of a length and a value, if they make one.
+    pub fn new(len: u8, value: u64) -> Option<Mask>
+        ensures { SomeIff result (IsMask (record { len = len; value = value })) (record { len = len; value = value }) }
+    {
+        if len <= 64 && low_bits(value, len) == value {
+            Some(Mask { len, value })
+        } else {
+            None
+        }
+    }
+
+    /// The mask of 56 bits that holds this UID and no other.
+    pub fn of(uid: Uid) -> Mask
+        ensures { result ≡ own_mask uid }
+    {
+        Mask {
+            len: 56,
+            value: uid.number() % (1 << 56),
+        }
+    }
+
+    /// How many bits it fixes.
+    pub fn len(&self) -> u8
+        ensures value { result ≡ self.now.len }
+        ensures is_mask { IsMask self.now }
+    {
+        self.len
+    }
+
+    /// The value of those bits.
+    pub fn value(&self) -> u64
+        ensures value { result ≡ self.now.value }
+        ensures is_mask { IsMask self.now }
+    {
+        self.value
+    }
+
+    /// Whether a UID lies in it.
+    pub fn matches(&self, uid: Uid) -> bool
+        ensures value { result ≡ lies_in self.now uid }
+        ensures is_uid { IsUid uid }
+    {
+        low_bits(uid.number(), self.len) == self.value
+    }
+
+    /// The mask of slot `k` of sixteen, if it has one.
+    pub fn slot(&self, k: u8) -> Option<Mask>
+        ensures { SomeIff result ((self.now.len ≤ 60) × (k ≤ 15)) (sixteenth self.now k) }
+    {
+        if self.len <= 60 && k <= 15 {
+            Some(Mask {
+                len: self.len + 4,
+                value: self.value + slot_number(k, self.len),
+            })
+        } else {
+            None
+        }
+    }
+    /// The least UID in it.
+    pub fn least_uid(&self) -> Uid
+        requires { self.now.len ≤ 56 }
+        ensures value { result ≡ least_uid_in self.now }
+        ensures range { IsUid result }
+    {
+        let Some(uid) = Uid::new((0xE0 << 56) + self.value) else {
+            unreachable!()
+        };
+        uid
+    }
+}
+
+/// The mask of at most 56 bits that holds the same UIDs, if the mask holds any.
+pub fn low_mask(mask: &Mask) -> Option<Mask>
+    ensures short { IfSome result (λ m. IsMask m × (m.len ≤ 56)) }
+    ensures same { IfSome result (λ m. (u : ℕ) → IsUid u → lies_in m u ≡ lies_in mask.now u) }
+    ensures none { IfNone result ((u : ℕ) → IsUid u → lies_in mask.now u ≡ false) }
+{
+    if mask.len <= 56 {
+        return Some(*mask);
+    }
+    let value = mask.value % (1 << 56);
+    let Some(uid) = Uid::new((0xE0 << 56) + value) else {
+        unreachable!()
+    };
+    if mask.matches(uid) {
+        Some(Mask { len: 56, value })
+    } else {
+        None
+    }
+}

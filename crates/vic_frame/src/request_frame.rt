@@ -1,0 +1,164 @@
+//! Requests as bytes.
+
+ghost use Rattle.std.specs.Prelude.{◌≡◌, ℕ, ◌≤◌, Ok, Err, IfOk, IfErr, Some, length};
+ghost use Rattle.vic_frame.specs.Bytes.{bytes_of};
+ghost use Rattle.vic_frame.specs.Crc.{with_crc};
+ghost use Rattle.vic_frame.specs.Requests.{IsInRange, IsValid, SpellsRequest, request_body, request_spelling};
+ghost use Rattle.vic_frame.specs.Faults.{first_fault, head_faults, inventory_faults, stay_quiet_faults, request_faults};
+ghost use Rattle.vic_frame.specs.Reading.{fault_or, inventory_in, stay_quiet_in, request_in};
+ghost use Rattle.arrayvec.specs.ArrayVec.{array_vec_len};
+
+use crate::bytes::{bit, number_of, push_number};
+use crate::checksum::{crc, crc_right};
+use crate::fault::FrameFault;
+use crate::mask::Mask;
+use crate::request::Request;
+use arrayvec::ArrayVec;
+
+/// The first fault that a request of any command can have.
+fn head_fault(bytes: &[u8]) -> Option<FrameFault>
+    ensures { result ≡ first_fault (head_faults bytes.now) }
+{
+    if bytes.len() < 4 {
+        return Some(FrameFault::Short);
+    }
+    if !crc_right(bytes) {
+        return Some(FrameFault::Crc);
+    }
+    let flags = bytes[0];
+    let command = bytes[1];
+    if bit(flags, 4) {
+        return Some(FrameFault::Extension);
+    }
+    if bit(flags, 8) {
+        return Some(FrameFault::Reserved);
+    }
+    if bit(flags, 7) {
+        return Some(FrameFault::OptionFlag);
+    }
+    if command != 1 && command != 2 {
+        return Some(FrameFault::OtherCommand);
+    }
+    if bit(flags, 3) != (command == 1) {
+        return Some(FrameFault::InventoryFlag);
+    }
+    None
+}
+
+/// Reads an Inventory request whose head has no fault.
+fn read_inventory(bytes: &[u8]) -> Result<Request, FrameFault>
+    requires { 4 ≤ length bytes.now }
+    ensures { result ≡ fault_or (first_fault (inventory_faults bytes.now)) (inventory_in bytes.now) }
+{
+    let flags = bytes[0];
+    if bit(flags, 5) {
+        return Err(FrameFault::Afi);
+    }
+    if bytes.len() == 4 {
+        return Err(FrameFault::Length);
+    }
+    let one_slot = bit(flags, 6);
+    let len = bytes[2];
+    let longest = if one_slot { 64 } else { 60 };
+    if len > longest {
+        return Err(FrameFault::MaskTooLong);
+    }
+    if bytes.len() != usize::from((len + 7) / 8) + 5 {
+        return Err(FrameFault::Length);
+    }
+    let value = number_of(&bytes[3..bytes.len() - 2]);
+    let Some(mask) = Mask::new(len, value) else {
+        return Err(FrameFault::MaskPadding);
+    };
+    Ok(Request::Inventory {
+        link: flags % 4,
+        sixteen: !one_slot,
+        mask,
+    })
+}
+
+/// Reads a Stay Quiet request whose head has no fault.
+fn read_stay_quiet(bytes: &[u8]) -> Result<Request, FrameFault>
+    requires { 4 ≤ length bytes.now }
+    ensures { result ≡ fault_or (first_fault (stay_quiet_faults bytes.now)) (stay_quiet_in bytes.now) }
+{
+    let flags = bytes[0];
+    if bit(flags, 5) {
+        return Err(FrameFault::SelectFlag);
+    }
+    if !bit(flags, 6) {
+        return Err(FrameFault::NotAddressed);
+    }
+    if bytes.len() != 12 {
+        return Err(FrameFault::Length);
+    }
+    Ok(Request::StayQuiet {
+        link: flags % 4,
+        uid: number_of(&bytes[2..10]),
+    })
+}
+
+/// What the fields hold, or the first fault.
+fn read_fields(bytes: &[u8]) -> Result<Request, FrameFault>
+    ensures { result ≡ fault_or (first_fault (request_faults bytes.now)) (request_in bytes.now) }
+{
+    if let Some(fault) = head_fault(bytes) {
+        return Err(fault);
+    }
+    if bytes[1] == 1 {
+        read_inventory(bytes)
+    } else {
+        read_stay_quiet(bytes)
+    }
+}
+
+/// The request that the bytes spell.
+pub fn read_request(bytes: &[u8]) -> Result<Request, FrameFault>
+    ensures found { IfOk result (λ q. SpellsRequest bytes.now q) }
+    ensures only { (q : Request) → SpellsRequest bytes.now q → result ≡ Ok q }
+    ensures fault { IfErr result (λ e. first_fault (request_faults bytes.now) ≡ Some e) }
+{
+    read_fields(bytes)
+}
+
+/// The bytes before the CRC.
+fn body(request: &Request) -> ArrayVec<u8, 13>
+    requires { IsValid request.now }
+    ensures items { result.items ≡ request_body request.now }
+    ensures len { array_vec_len result ≤ 11 }
+    ensures in_range { IsInRange request.now }
+{
+    let mut out = ArrayVec::new();
+    match *request {
+        Request::Inventory {
+            link,
+            sixteen,
+            mask,
+        } => {
+            let flags: u8 = if sixteen { 0x04 } else { 0x24 };
+            let len = mask.len();
+            out.push(flags + link);
+            out.push(1);
+            out.push(len);
+            push_number(&mut out, usize::from((len + 7) / 8), mask.value());
+        }
+        Request::StayQuiet { link, uid } => {
+            out.push(0x20 + link);
+            out.push(2);
+            push_number(&mut out, 8, uid);
+        }
+    }
+    out
+}
+
+/// The one spelling of a request.
+pub fn write_request(request: &Request) -> ArrayVec<u8, 13>
+    requires { IsValid request.now }
+    ensures spells { SpellsRequest result.items request.now }
+    ensures items { result.items ≡ request_spelling request.now }
+{
+    let mut out = body(request);
+    let code = crc(out.as_slice());
+    push_number(&mut out, 2, u64::from(code));
+    out
+}

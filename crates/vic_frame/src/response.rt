@@ -1,0 +1,62 @@
+//! What a tag replies.
+
+ghost use Rattle.std.specs.Prelude.{◌≡◌, ℕ, ◌%◌, SomeIff};
+ghost use Rattle.vic_frame.specs.Replies.{Reply, IsReply};
+
+use crate::uid::Uid;
+use std::marker::Model;
+
+/// A tag's reply to an Inventory request.
+#[derive(Clone, Copy, Debug, PartialEq, Eq)]
+pub struct Response {
+    flags: u8,
+    dsfid: u8,
+    uid: Uid,
+}
+
+impl Model for Response {
+    ghost Value = { Reply };
+
+    ghost view = { λ r. record { flags = r.flags; dsfid = r.dsfid; uid = r.uid } };
+
+    ghost invariant = { λ r. IsReply (record { flags = r.flags; dsfid = r.dsfid; uid = r.uid }) };
+
+    ghost inverse = { λ r. record { flags = r.flags; dsfid = r.dsfid; uid = r.uid } };
+}
+
+impl Response {
+    /// A reply without an error, if the flags say so.
+    pub fn new(flags: u8, dsfid: u8, uid: Uid) -> Option<Response>
+        ensures { SomeIff result (flags % 2 ≡ 0) (record { flags = flags; dsfid = dsfid; uid = uid }) }
+    {
+        if flags % 2 == 0 {
+            Some(Response { flags, dsfid, uid })
+        } else {
+            None
+        }
+    }
+
+    /// The flags.
+    pub fn flags(&self) -> u8
+        ensures value { result ≡ self.now.flags }
+        ensures is_reply { IsReply self.now }
+    {
+        self.flags
+    }
+
+    /// The DSFID.
+    pub fn dsfid(&self) -> u8
+        ensures value { result ≡ self.now.dsfid }
+        ensures is_reply { IsReply self.now }
+    {
+        self.dsfid
+    }
+
+    /// The UID.
+    pub fn uid(&self) -> Uid
+        ensures value { result ≡ self.now.uid }
+        ensures is_reply { IsReply self.now }
+    {
+        self.uid
+    }
+}

@@ -1,0 +1,61 @@
+//! Replies as bytes.
+
+ghost use Rattle.std.specs.Prelude.{◌≡◌, ℕ, Ok, Err, IfOk, IfErr, Some};
+ghost use Rattle.vic_frame.specs.Replies.{Reply, SpellsReply, reply_spelling};
+ghost use Rattle.vic_frame.specs.Faults.{first_fault, reply_faults};
+ghost use Rattle.vic_frame.specs.Reading.{fault_or, reply_in};
+
+use crate::bytes::{bit, number_of, push_number};
+use crate::checksum::{crc, crc_right};
+use crate::fault::FrameFault;
+use crate::response::Response;
+use crate::uid::Uid;
+use arrayvec::ArrayVec;
+
+/// What the fields hold, or the first fault.
+fn read_fields(bytes: &[u8]) -> Result<Response, FrameFault>
+    ensures { result ≡ fault_or (first_fault (reply_faults bytes.now)) (reply_in bytes.now) }
+{
+    if bytes.len() != 12 {
+        return Err(FrameFault::Length);
+    }
+    if !crc_right(bytes) {
+        return Err(FrameFault::Crc);
+    }
+    let flags = bytes[0];
+    if bit(flags, 1) {
+        return Err(FrameFault::ErrorFlag);
+    }
+    let Some(uid) = Uid::new(number_of(&bytes[2..10])) else {
+        return Err(FrameFault::NotVicinity);
+    };
+    let Some(response) = Response::new(flags, bytes[1], uid) else {
+        return Err(FrameFault::ErrorFlag);
+    };
+    Ok(response)
+}
+
+/// The reply that the bytes spell.
+pub fn read_response(bytes: &[u8]) -> Result<Response, FrameFault>
+    ensures found { IfOk result (λ r. SpellsReply bytes.now r) }
+    ensures only { (r : Reply) → SpellsReply bytes.now r → result ≡ Ok r }
+    ensures fault { IfErr result (λ e. first_fault (reply_faults bytes.now) ≡ Some e) }
+{
+    read_fields(bytes)
+}
+
+/// The one spelling of a reply.
+pub fn write_response(response: &Response) -> [u8; 12]
+    ensures spells { SpellsReply result response.now }
+    ensures items { result ≡ reply_spelling response.now }
+{
+    let mut out: ArrayVec<u8, 13> = ArrayVec::new();
+    out.push(response.flags());
+    out.push(response.dsfid());
+    push_number(&mut out, 8, response.uid().number());
+    let code = crc(out.as_slice());
+    push_number(&mut out, 2, u64::from(code));
+    let mut bytes = [0; 12];
+    bytes.copy_from_slice(out.as_slice());
+    bytes
+}
