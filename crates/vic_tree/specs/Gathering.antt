@@ -1,0 +1,27 @@
+-- Lists of UIDs that are gathered from a set, three at most.
+use Rattle.std.specs.Prelude.{◌≡◌, ℕ, ◌/◌, ◌^◌, ◌%◌, ◌<◌, ◌≤◌, ◌⊎◌, true, false, List, length}
+use Rattle.vic_frame.specs.Uids.{IsUid, has}
+use Rattle.vic_tree.specs.declared.node.Node.{Node}
+use Rattle.vic_tree.specs.Nodes.{open_at}
+use Rattle.vic_tree.specs.OpenSet.{Distinct}
+
+-- a UID with these low bits that isn't an exception
+pub record IsFree (depth low : ℕ) (except : List ℕ) (u : ℕ) : Type 0 where
+  pub is_uid : IsUid u
+  pub inside : u % 2 ^ depth ≡ low
+  pub free : has except u ≡ false
+
+-- such a UID that is open below a node at this depth
+pub record IsFreeUnder (node : Node) (depth low : ℕ) (except : List ℕ) (u : ℕ) : Type 0 where
+  pub is_uid : IsUid u
+  pub inside : u % 2 ^ depth ≡ low
+  pub is_open : open_at node (u / 2 ^ depth) ≡ true
+  pub free : has except u ≡ false
+
+-- the new list is the old one and elements that are wanted: all of them, unless it is full
+pub record Gathers (P : ℕ → Type 0) (old new : List ℕ) : Type 0 where
+  pub keeps : (u : ℕ) → has old u ≡ true → has new u ≡ true
+  pub only : (u : ℕ) → has new u ≡ true → (has old u ≡ true) ⊎ P u
+  pub different : Distinct old → Distinct new
+  pub all : length new < 3 → (u : ℕ) → P u → has new u ≡ true
+  pub longer : length old ≤ length new

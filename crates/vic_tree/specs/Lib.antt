@@ -1,0 +1,4 @@
+pub mod OpenSet
+pub mod Nodes
+pub mod Widest
+pub mod Gathering

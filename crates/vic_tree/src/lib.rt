@@ -1,0 +1,11 @@
+//! Which UIDs are still open.
+#![tactic(auto)]
+
+mod gather;
+mod mask_tree;
+mod node;
+mod open_set;
+mod widest;
+
+pub use mask_tree::MaskTree;
+pub use open_set::OpenSet;
