@@ -10,7 +10,7 @@ use Rattle.vic_frame.specs.Reading.{fault_or, reply_in}
 use Rattle.vic_frame.proofs.BytesLaws.{bytes_of-take, number_of-bytes_of, length_bytes_of, take_front}
 use Rattle.vic_frame.proofs.FrameLaws.{crc_frame, with_crc-right, length-with_crc, all_fail, none_from, found_from}
 
-body_of : (f : List ℕ) → length f ≡ 12 → AreBytes f → take (length f - 2) f ≡ reply_body (reply_in f)
+pub body_of : (f : List ℕ) → length f ≡ 12 → AreBytes f → take (length f - 2) f ≡ reply_body (reply_in f)
 body_of [] len h = absurd (omega arith)
 body_of (x ∷ []) len h = absurd (omega arith)
 body_of (x ∷ y ∷ xs) len h =
@@ -41,7 +41,7 @@ reply_sound f h none =
       crc_frame f h right ∙ ap with_crc (body_of f len h),
     )
 
-uid_in : (r : Reply) → IsReply r → number_of (uid_bytes (reply_spelling r)) ≡ r.uid
+pub uid_in : (r : Reply) → IsReply r → number_of (uid_bytes (reply_spelling r)) ≡ r.uid
 uid_in r h =
     let small : r.uid < 256 ^ 8 = omega (arith, h.uid) in
     ap number_of (take_front 8 (bytes_of 8 r.uid) (bytes_of 2 (crc (reply_body r))) (length_bytes_of 8 r.uid)) ∙ number_of-bytes_of 8 r.uid small

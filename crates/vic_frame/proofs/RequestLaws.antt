@@ -47,7 +47,7 @@ head_of f none =
       third = p.1.1.1.1.1.1.0;
     }
 
-inventory_body : (f : List ℕ) → command f ≡ 1 → flags f ≡ (if not (bit 6 (flags f)) then 0x04 else 0x24) + flags f % 4 → length f ≡ byte_count (mask_len f) + 5 → AreBytes f
+pub inventory_body : (f : List ℕ) → command f ≡ 1 → flags f ≡ (if not (bit 6 (flags f)) then 0x04 else 0x24) + flags f % 4 → length f ≡ byte_count (mask_len f) + 5 → AreBytes f
     → take (length f - 2) f ≡ request_body (inventory_in f)
 inventory_body [] c b len h = absurd (omega arith)
 inventory_body (x ∷ []) c b len h = absurd (omega arith)
@@ -64,7 +64,7 @@ inventory_body (x ∷ y ∷ z ∷ xs) c b len h =
     ∙ ap (λ y. x ∷ y ∷ z ∷ bytes_of (byte_count z) (number_of (take (length (x ∷ y ∷ z ∷ xs) - 2 - 3) xs))) c
     ∙ ap (λ w. w ∷ 1 ∷ z ∷ bytes_of (byte_count z) (number_of (take (length (x ∷ y ∷ z ∷ xs) - 2 - 3) xs))) b
 
-stay_quiet_body : (f : List ℕ) → command f ≡ 2 → flags f ≡ 0x20 + flags f % 4 → length f ≡ 12 → AreBytes f
+pub stay_quiet_body : (f : List ℕ) → command f ≡ 2 → flags f ≡ 0x20 + flags f % 4 → length f ≡ 12 → AreBytes f
     → take (length f - 2) f ≡ request_body (stay_quiet_in f)
 stay_quiet_body [] c b len h = absurd (omega arith)
 stay_quiet_body (x ∷ []) c b len h = absurd (omega arith)
@@ -138,16 +138,16 @@ request_found f h = found_from (first_fault (request_faults f)) (request_in f) (
 -- ---- what is spelled has no fault
 
 -- a record of what the flags of an Inventory say
-record InventoryBits (s : Bool) (link x : ℕ) : Type 0 where
-  b3 : bit 3 x ≡ true
-  b4 : bit 4 x ≡ false
-  b5 : bit 5 x ≡ false
-  b6 : not (bit 6 x) ≡ s
-  b7 : bit 7 x ≡ false
-  b8 : bit 8 x ≡ false
-  low : x % 4 ≡ link
+pub record InventoryBits (s : Bool) (link x : ℕ) : Type 0 where
+  pub b3 : bit 3 x ≡ true
+  pub b4 : bit 4 x ≡ false
+  pub b5 : bit 5 x ≡ false
+  pub b6 : not (bit 6 x) ≡ s
+  pub b7 : bit 7 x ≡ false
+  pub b8 : bit 8 x ≡ false
+  pub low : x % 4 ≡ link
 
-inventory_bits : (s : Bool) (link : ℕ) → link ≤ 3 → InventoryBits s link ((if s then 0x04 else 0x24) + link)
+pub inventory_bits : (s : Bool) (link : ℕ) → link ≤ 3 → InventoryBits s link ((if s then 0x04 else 0x24) + link)
 inventory_bits true zero h = record { b3 = refl; b4 = refl; b5 = refl; b6 = refl; b7 = refl; b8 = refl; low = refl }
 inventory_bits true (suc zero) h = record { b3 = refl; b4 = refl; b5 = refl; b6 = refl; b7 = refl; b8 = refl; low = refl }
 inventory_bits true (suc (suc zero)) h = record { b3 = refl; b4 = refl; b5 = refl; b6 = refl; b7 = refl; b8 = refl; low = refl }
@@ -159,23 +159,23 @@ inventory_bits false (suc (suc zero)) h = record { b3 = refl; b4 = refl; b5 = re
 inventory_bits false (suc (suc (suc zero))) h = record { b3 = refl; b4 = refl; b5 = refl; b6 = refl; b7 = refl; b8 = refl; low = refl }
 inventory_bits false (suc (suc (suc (suc n)))) h = absurd (omega arith)
 
-record StayQuietBits (link x : ℕ) : Type 0 where
-  b3 : bit 3 x ≡ false
-  b4 : bit 4 x ≡ false
-  b5 : bit 5 x ≡ false
-  b6 : bit 6 x ≡ true
-  b7 : bit 7 x ≡ false
-  b8 : bit 8 x ≡ false
-  low : x % 4 ≡ link
+pub record StayQuietBits (link x : ℕ) : Type 0 where
+  pub b3 : bit 3 x ≡ false
+  pub b4 : bit 4 x ≡ false
+  pub b5 : bit 5 x ≡ false
+  pub b6 : bit 6 x ≡ true
+  pub b7 : bit 7 x ≡ false
+  pub b8 : bit 8 x ≡ false
+  pub low : x % 4 ≡ link
 
-stay_quiet_bits : (link : ℕ) → link ≤ 3 → StayQuietBits link (0x20 + link)
+pub stay_quiet_bits : (link : ℕ) → link ≤ 3 → StayQuietBits link (0x20 + link)
 stay_quiet_bits zero h = record { b3 = refl; b4 = refl; b5 = refl; b6 = refl; b7 = refl; b8 = refl; low = refl }
 stay_quiet_bits (suc zero) h = record { b3 = refl; b4 = refl; b5 = refl; b6 = refl; b7 = refl; b8 = refl; low = refl }
 stay_quiet_bits (suc (suc zero)) h = record { b3 = refl; b4 = refl; b5 = refl; b6 = refl; b7 = refl; b8 = refl; low = refl }
 stay_quiet_bits (suc (suc (suc zero))) h = record { b3 = refl; b4 = refl; b5 = refl; b6 = refl; b7 = refl; b8 = refl; low = refl }
 stay_quiet_bits (suc (suc (suc (suc n)))) h = absurd (omega arith)
 
-link_of : (s : Bool) (link : ℕ) (m : BitMask) → IsValid (Inventory link s m) → link ≤ 3
+pub link_of : (s : Bool) (link : ℕ) (m : BitMask) → IsValid (Inventory link s m) → link ≤ 3
 link_of true link m h = h.0
 link_of false link m h = h
 
@@ -190,13 +190,13 @@ head_none : (f : List ℕ) → 4 ≤ length f → crc_right f ≡ true → bit 4
 head_none f long right b4 b8 b7 known third =
     none_from (head_faults f) (le-ltb (length f) 4 long, (not_from_true (crc_right f) right, (b4, (b8, (b7, (known, (third, tt)))))))
 
-inventory_len : (link : ℕ) (s : Bool) (m : BitMask) → length (request_spelling (Inventory link s m)) ≡ byte_count m.len + 5
+pub inventory_len : (link : ℕ) (s : Bool) (m : BitMask) → length (request_spelling (Inventory link s m)) ≡ byte_count m.len + 5
 inventory_len link s m =
     let total = length-with_crc (request_body (Inventory link s m)) in
     let inner = length_bytes_of (byte_count m.len) m.value in
     omega (arith, total, inner)
 
-inventory_value : (link : ℕ) (s : Bool) (m : BitMask) → IsMask m → number_of (mask_bytes (request_spelling (Inventory link s m))) ≡ m.value
+pub inventory_value : (link : ℕ) (s : Bool) (m : BitMask) → IsMask m → number_of (mask_bytes (request_spelling (Inventory link s m))) ≡ m.value
 inventory_value link s m h =
     let len = inventory_len link s m in
     let inner : length (bytes_of (byte_count m.len) m.value) ≡ length (request_spelling (Inventory link s m)) - 2 - 3 = length_bytes_of (byte_count m.len) m.value ∙ omega (arith, len) in
@@ -227,10 +227,10 @@ inventory_again link s m h v =
     ∙ ap (λ t. Inventory link t (record { len = m.len; value = read })) bits.b6
     ∙ ap (λ n. Inventory link s (record { len = m.len; value = n })) (inventory_value link s m h)
 
-stay_quiet_len : (link uid : ℕ) → length (request_spelling (StayQuiet link uid)) ≡ 12
+pub stay_quiet_len : (link uid : ℕ) → length (request_spelling (StayQuiet link uid)) ≡ 12
 stay_quiet_len link uid = omega (arith, length-with_crc (request_body (StayQuiet link uid)), length_bytes_of 8 uid)
 
-stay_quiet_uid : (link uid : ℕ) → uid < 2 ^ 64 → number_of (uid_bytes (request_spelling (StayQuiet link uid))) ≡ uid
+pub stay_quiet_uid : (link uid : ℕ) → uid < 2 ^ 64 → number_of (uid_bytes (request_spelling (StayQuiet link uid))) ≡ uid
 stay_quiet_uid link uid h = ap number_of (take_front 8 (bytes_of 8 uid) (bytes_of 2 (crc (request_body (StayQuiet link uid)))) (length_bytes_of 8 uid)) ∙ number_of-bytes_of 8 uid h
 
 stay_quiet_none : (link uid : ℕ) → link ≤ 3 → first_fault (request_faults (request_spelling (StayQuiet link uid))) ≡ None

@@ -7,6 +7,7 @@ pub mod Crc
 pub mod Requests
 pub mod Slots
 pub mod Replies
+pub mod Fields
 pub mod Faults
 pub mod Names
 pub mod Reading

@@ -7,11 +7,11 @@ use Rattle.vic_frame.specs.Masks.{BitMask, LiesIn}
 abbrev pub NestedOrApart : BitMask → BitMask → Type 0
 NestedOrApart m n = ((u : ℕ) → LiesIn n u → LiesIn m u) ⊎ ((u : ℕ) → LiesIn m u → LiesIn n u → ⊥)
 
--- a mask with one bit more, which is 0
+-- the mask with one bit more, which is 0
 abbrev pub lower_half : BitMask → BitMask
 lower_half m = record { len = m.len + 1; value = m.value }
 
--- and with that bit 1
+-- the mask with one bit more, which is 1
 abbrev pub upper_half : BitMask → BitMask
 upper_half m = record { len = m.len + 1; value = m.value + 2 ^ m.len }
 

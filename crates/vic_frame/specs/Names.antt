@@ -1,8 +1,9 @@
--- The name of a fault.
+-- The names of the faults, as they are displayed (profile).
 use Rattle.std.specs.Prelude.{ℕ, List, codes}
 use Rattle.vic_frame.specs.declared.fault.FrameFault.{FrameFault}
 use Rattle.vic_frame.specs.declared.fault.FrameFault.TheVariants.{Short, Crc, Extension, Reserved, OptionFlag, OtherCommand, InventoryFlag, Afi, Length, MaskTooLong, MaskPadding, SelectFlag, NotAddressed, ErrorFlag, NotVicinity}
 
+-- the text that a fault is displayed as
 abbrev pub fault_name : FrameFault → List ℕ
 fault_name Short = codes "Short"
 fault_name Crc = codes "Crc"

@@ -1,4 +1,5 @@
--- What stands in the fields of a frame without fault.
+-- What stands in the fields of a frame that has no fault. Only private functions cite this module: the public
+-- clauses on reading speak of the spelling and of the faults alone.
 use Rattle.std.specs.Prelude.{ℕ, ◌%◌, ◌==◌, not, Option, Some, None, Result, Ok, Err, List, slice_index, if◌then◌else◌}
 use Rattle.vic_frame.specs.declared.fault.FrameFault.{FrameFault}
 use Rattle.vic_frame.specs.declared.request.Request.{Request}
@@ -7,19 +8,23 @@ use Rattle.vic_frame.specs.Replies.{Reply}
 use Rattle.vic_frame.specs.Bytes.{number_of, bit}
 use Rattle.vic_frame.specs.Faults.{flags, command, mask_len, mask_bytes, uid_bytes}
 
--- the fault, or else the value
+-- the fault if there is one, else the value
 abbrev pub fault_or : {A : Type 0} → Option FrameFault → A → Result A FrameFault
 fault_or None x = Ok x
 fault_or (Some e) x = Err e
 
+-- the fields of an Inventory request
 abbrev pub inventory_in : List ℕ → Request
 inventory_in f = Inventory (flags f % 4) (not (bit 6 (flags f))) (record { len = mask_len f; value = number_of (mask_bytes f) })
 
+-- the fields of a Stay Quiet request
 abbrev pub stay_quiet_in : List ℕ → Request
 stay_quiet_in f = StayQuiet (flags f % 4) (number_of (uid_bytes f))
 
+-- the fields of a request, by its command
 abbrev pub request_in : List ℕ → Request
 request_in f = if command f == 1 then inventory_in f else stay_quiet_in f
 
+-- the fields of a reply
 abbrev pub reply_in : List ℕ → Reply
 reply_in f = record { flags = flags f; dsfid = slice_index f 1; uid = number_of (uid_bytes f) }

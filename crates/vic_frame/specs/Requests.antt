@@ -1,4 +1,4 @@
--- How a request is spelled.
+-- How a request is spelled (ISO/IEC 15693-3, request format; Inventory request; Stay Quiet).
 use Rattle.std.specs.Prelude.{◌≡◌, ℕ, ◌+◌, ◌/◌, ◌^◌, ◌<◌, ◌≤◌, true, false, List, ◌∷◌, if◌then◌else◌}
 use Rattle.vic_frame.specs.declared.request.Request.{Request}
 use Rattle.vic_frame.specs.declared.request.Request.TheVariants.{Inventory, StayQuiet}
@@ -6,28 +6,30 @@ use Rattle.vic_frame.specs.Masks.{IsMask}
 use Rattle.vic_frame.specs.Bytes.{bytes_of}
 use Rattle.vic_frame.specs.Crc.{with_crc}
 
--- two bits of link; with sixteen slots a mask of at most 60 bits
+-- two bits of link, and with sixteen slots a mask of at most 60 bits (profile)
 abbrev pub IsValid : Request → Type 0
 IsValid (Inventory link true m) = (link ≤ 3) × (m.len ≤ 60)
 IsValid (Inventory link false m) = link ≤ 3
 IsValid (StayQuiet link uid) = link ≤ 3
 
--- the numbers that a request's type leaves it
+-- what the type of a request says of its numbers: a mask, or 64 bits
 abbrev pub IsInRange : Request → Type 0
 IsInRange (Inventory link sixteen m) = IsMask m
 IsInRange (StayQuiet link uid) = uid < 2 ^ 64
 
--- the least number of bytes that hold so many bits
+-- the least number of bytes that hold so many bits (ISO/IEC 15693-3, Inventory request: mask value)
 abbrev pub byte_count : ℕ → ℕ
 byte_count bits = (bits + 7) / 8
 
--- flags, command, and what the command asks for
+-- flags, command, and the command's own fields: 24 or 04 and 01 for Inventory, 20 and 02 for Stay Quiet
 abbrev pub request_body : Request → List ℕ
 request_body (Inventory link sixteen m) = ((if sixteen then 0x04 else 0x24) + link) ∷ 0x01 ∷ m.len ∷ bytes_of (byte_count m.len) m.value
 request_body (StayQuiet link uid) = (0x20 + link) ∷ 0x02 ∷ bytes_of 8 uid
 
+-- and the CRC behind them: the one spelling of the request
 abbrev pub request_spelling : Request → List ℕ
 request_spelling q = with_crc (request_body q)
 
+-- bytes spell a request that is valid and that they are the spelling of
 abbrev pub SpellsRequest : List ℕ → Request → Type 0
 SpellsRequest f q = IsInRange q × IsValid q × (f ≡ request_spelling q)

@@ -2,14 +2,14 @@
 use Rattle.std.specs.Prelude.{ℕ, Bool, List, ◌*◌, ◌^◌, ◌≤◌, ◌<◌, ◌&&◌, nat_eq, nat_le, nat_lt}
 use Rattle.std.specs.List.{list_any}
 
--- a number of 64 bits whose most significant byte is E0
+-- a number of 64 bits whose most significant byte is E0 (ISO/IEC 15693-3, unique identifier)
 abbrev pub IsUid : ℕ → Type 0
 IsUid u = (0xE0 * 2 ^ 56 ≤ u) × (u < 0xE1 * 2 ^ 56)
 
--- the test for it
+-- the same, as a test
 abbrev pub is_uid : ℕ → Bool
 is_uid u = nat_le (0xE0 * 2 ^ 56) u && nat_lt u (0xE1 * 2 ^ 56)
 
--- whether a list has the number
+-- whether the number is in the list
 abbrev pub has : List ℕ → ℕ → Bool
 has us u = list_any (nat_eq u) us
