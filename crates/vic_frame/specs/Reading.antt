@@ -1,12 +1,11 @@
--- What stands in the fields of a frame that has no fault. Only private functions cite this module: the public
--- clauses on reading speak of the spelling and of the faults alone.
+-- What a frame reads as: its first fault, or what stands in its fields.
 use Rattle.std.specs.Prelude.{ℕ, ◌%◌, ◌==◌, not, Option, Some, None, Result, Ok, Err, List, slice_index, if◌then◌else◌}
 use Rattle.vic_frame.specs.declared.fault.FrameFault.{FrameFault}
 use Rattle.vic_frame.specs.declared.request.Request.{Request}
 use Rattle.vic_frame.specs.declared.request.Request.TheVariants.{Inventory, StayQuiet}
 use Rattle.vic_frame.specs.Replies.{Reply}
 use Rattle.vic_frame.specs.Bytes.{number_of, bit}
-use Rattle.vic_frame.specs.Faults.{flags, command, mask_len, mask_bytes, uid_bytes}
+use Rattle.vic_frame.specs.Faults.{flags, command, mask_len, mask_bytes, uid_bytes, first_fault, request_faults, reply_faults}
 
 -- the fault if there is one, else the value
 abbrev pub fault_or : {A : Type 0} → Option FrameFault → A → Result A FrameFault
@@ -25,6 +24,14 @@ stay_quiet_in f = StayQuiet (flags f % 4) (number_of (uid_bytes f))
 abbrev pub request_in : List ℕ → Request
 request_in f = if command f == 1 then inventory_in f else stay_quiet_in f
 
+-- the request of a frame, or the frame's first fault
+abbrev pub request_reading : List ℕ → Result Request FrameFault
+request_reading f = fault_or (first_fault (request_faults f)) (request_in f)
+
 -- the fields of a reply
 abbrev pub reply_in : List ℕ → Reply
 reply_in f = record { flags = flags f; dsfid = slice_index f 1; uid = number_of (uid_bytes f) }
+
+-- the reply of a frame, or the frame's first fault
+abbrev pub reply_reading : List ℕ → Result Reply FrameFault
+reply_reading f = fault_or (first_fault (reply_faults f)) (reply_in f)

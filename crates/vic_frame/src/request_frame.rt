@@ -5,7 +5,7 @@ ghost use Rattle.vic_frame.specs.Bytes.{bytes_of};
 ghost use Rattle.vic_frame.specs.Crc.{with_crc};
 ghost use Rattle.vic_frame.specs.Requests.{IsInRange, IsValid, SpellsRequest, request_body, request_spelling};
 ghost use Rattle.vic_frame.specs.Faults.{first_fault, head_faults, inventory_faults, stay_quiet_faults, request_faults};
-ghost use Rattle.vic_frame.specs.Reading.{fault_or, inventory_in, stay_quiet_in, request_in};
+ghost use Rattle.vic_frame.specs.Reading.{fault_or, inventory_in, stay_quiet_in, request_reading};
 ghost use Rattle.arrayvec.specs.ArrayVec.{array_vec_len};
 
 use crate::bytes::{bit, number_of, push_number};
@@ -100,7 +100,7 @@ fn read_stay_quiet(bytes: &[u8]) -> Result<Request, FrameFault>
 
 /// What the fields hold, or the first fault.
 fn read_fields(bytes: &[u8]) -> Result<Request, FrameFault>
-    ensures { result ≡ fault_or (first_fault (request_faults bytes.now)) (request_in bytes.now) }
+    ensures { result ≡ request_reading bytes.now }
 {
     if let Some(fault) = head_fault(bytes) {
         return Err(fault);
@@ -114,6 +114,7 @@ fn read_fields(bytes: &[u8]) -> Result<Request, FrameFault>
 
 /// The request that the bytes spell.
 pub fn read_request(bytes: &[u8]) -> Result<Request, FrameFault>
+    ensures reading { result ≡ request_reading bytes.now }
     ensures found { IfOk result (λ q. SpellsRequest bytes.now q) }
     ensures only { (q : Request) → SpellsRequest bytes.now q → result ≡ Ok q }
     ensures fault { IfErr result (λ e. first_fault (request_faults bytes.now) ≡ Some e) }

@@ -3,7 +3,7 @@
 ghost use Rattle.std.specs.Prelude.{◌≡◌, ℕ, Ok, Err, IfOk, IfErr, Some};
 ghost use Rattle.vic_frame.specs.Replies.{Reply, SpellsReply, reply_spelling};
 ghost use Rattle.vic_frame.specs.Faults.{first_fault, reply_faults};
-ghost use Rattle.vic_frame.specs.Reading.{fault_or, reply_in};
+ghost use Rattle.vic_frame.specs.Reading.{reply_reading};
 
 use crate::bytes::{bit, number_of, push_number};
 use crate::checksum::{crc, crc_right};
@@ -14,7 +14,7 @@ use arrayvec::ArrayVec;
 
 /// What the fields hold, or the first fault.
 fn read_fields(bytes: &[u8]) -> Result<Response, FrameFault>
-    ensures { result ≡ fault_or (first_fault (reply_faults bytes.now)) (reply_in bytes.now) }
+    ensures { result ≡ reply_reading bytes.now }
 {
     if bytes.len() != 12 {
         return Err(FrameFault::Length);
@@ -37,6 +37,7 @@ fn read_fields(bytes: &[u8]) -> Result<Response, FrameFault>
 
 /// The reply that the bytes spell.
 pub fn read_response(bytes: &[u8]) -> Result<Response, FrameFault>
+    ensures reading { result ≡ reply_reading bytes.now }
     ensures found { IfOk result (λ r. SpellsReply bytes.now r) }
     ensures only { (r : Reply) → SpellsReply bytes.now r → result ≡ Ok r }
     ensures fault { IfErr result (λ e. first_fault (reply_faults bytes.now) ≡ Some e) }
