@@ -122,7 +122,7 @@ CouldHaveGiven-front p es fs h i e k =
 
 -- ---- one entry more
 
-slice_get_last : (es : List Entry) (e : Entry) → slice_get (es ++ e ∷ []) (length es) ≡ Some e
+pub slice_get_last : (es : List Entry) (e : Entry) → slice_get (es ++ e ∷ []) (length es) ≡ Some e
 slice_get_last [] e = refl
 slice_get_last (x ∷ es) e = slice_get_last es e
 

@@ -4,3 +4,5 @@ pub mod Populations
 pub mod Slots
 pub mod Order
 pub mod FirstVersion
+pub mod Log
+pub mod Device

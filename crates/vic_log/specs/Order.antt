@@ -1,11 +1,14 @@
 -- Entries in the order of a log.
-use Rattle.std.specs.Prelude.{◌≡◌, ◌≢◌, ℕ, ◌<◌, true, Some, List, [], ◌∷◌, map, ⊤, slice_get}
+use Rattle.std.specs.Prelude.{◌≡◌, ◌≢◌, ℕ, ◌<◌, Bool, true, false, not, Option, Some, None, List, [], ◌∷◌, map, ⊤, length, slice_get, nat_lt, if◌then◌else◌}
 use Rattle.vic_frame.specs.declared.request.Request.{Request}
 use Rattle.vic_frame.specs.Requests.{IsValid}
+use Rattle.vic_frame.specs.Uids.{has}
 use Rattle.vic_log.specs.declared.entry.Entry.{Entry}
 use Rattle.vic_log.specs.declared.entry.Entry.TheVariants.{Sent, Listed, FieldCycle}
 use Rattle.vic_log.specs.declared.entry.LogLine.{LogLine}
-use Rattle.vic_log.specs.Rounds.{is_slot, IsInRound}
+use Rattle.vic_log.specs.declared.fault.PushFault.{PushFault}
+use Rattle.vic_log.specs.declared.fault.PushFault.TheVariants.{SlotOutsideRound, EntryAfterList, DuplicateListed}
+use Rattle.vic_log.specs.Rounds.{is_slot, IsInRound, slots_left}
 
 -- the UIDs that the entries list, in order
 abbrev pub listed : List Entry → List ℕ
@@ -19,6 +22,33 @@ pub record IsInOrder (es : List Entry) : Type 0 where
   pub requests_first : (i j : ℕ) (u : ℕ) (q : Request) → i < j → slice_get es i ≡ Some (Listed u) → slice_get es j ≢ Some (Sent q)
   pub cycles_first : (i j : ℕ) (u : ℕ) → i < j → slice_get es i ≡ Some (Listed u) → slice_get es j ≢ Some FieldCycle
   pub once : (i j : ℕ) (u w : ℕ) → i < j → slice_get es i ≡ Some (Listed u) → slice_get es j ≡ Some (Listed w) → u ≢ w
+
+-- a slot line with no slot of a round left
+abbrev pub is_outside_round : List Entry → Entry → Bool
+is_outside_round es e = if is_slot e then not (nat_lt 0 (slots_left es (length es))) else false
+
+abbrev pub is_empty : List ℕ → Bool
+is_empty [] = true
+is_empty (u ∷ us) = false
+
+-- a request or a field cycle after a listed UID
+abbrev pub is_after_list : List Entry → Entry → Bool
+is_after_list es (Sent q) = not (is_empty (listed es))
+is_after_list es FieldCycle = not (is_empty (listed es))
+is_after_list es e = false
+
+-- a UID listed before
+abbrev pub is_duplicate : List Entry → Entry → Bool
+is_duplicate es (Listed u) = has (listed es) u
+is_duplicate es e = false
+
+-- the first reason why an entry can't follow others in order
+abbrev pub refusal : List Entry → Entry → Option PushFault
+refusal es e =
+    if is_outside_round es e then Some SlotOutsideRound
+    else if is_after_list es e then Some EntryAfterList
+    else if is_duplicate es e then Some DuplicateListed
+    else None
 
 -- each request that was sent is valid
 abbrev pub AreValid : List Entry → Type 0

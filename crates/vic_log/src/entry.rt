@@ -21,7 +21,16 @@ pub enum Entry {
     FieldCycle,
 }
 
-/// An entry with the number of its line, from 2 to 1,000,000.
+/// Which lines a log may hold.
+#[derive(Clone, Copy, PartialEq, Eq, Debug)]
+pub enum Version {
+    /// Neither `D` nor `F`.
+    V1,
+    /// All.
+    V2,
+}
+
+/// An entry with the number of its line. In a log the numbers rise, from 2 to 1,000,000.
 #[derive(Clone, Copy, PartialEq, Eq, Debug)]
 pub struct LogLine {
     pub number: u32,

@@ -1,6 +1,15 @@
 //! The log of an inventory session: its entries, and what a population of tags could have given.
 #![tactic(auto)]
 
+pub mod devices;
 mod entry;
+mod fault;
+mod log;
+mod sink;
+mod source;
 
-pub use entry::{Entry, LogLine};
+pub use entry::{Entry, LogLine, Version};
+pub use fault::{LineFault, LogFault, PushFault, WriteFault};
+pub use log::Log;
+pub use sink::{Sink, ToWrite, write_whole};
+pub use source::{DeviceFault, FromRead, ReadFault, Source, read_whole};

@@ -1,0 +1,209 @@
+-- One entry more: what entries in order keep, and what a log keeps.
+use Rattle.std.proofs.Common.{◌≡◌, ℕ, zero, suc, ◌+◌, ◌-◌, ◌<◌, ◌≤◌, Bool, true, false, Option, Some, None, List, [], ◌∷◌, ◌++◌, length, length-append, refl, sym, ap, subst, ◌∙◌, arith, ⊎_elim}
+use Rattle.std.specs.Prelude.{slice_get, nat_eq, nat_lt, if◌then◌else◌, not, ◌||◌}
+use Rattle.std.proofs.lemmas.Bool.{cases_lt, not-false, ltb-true, eq-eqb}
+use Rattle.std.proofs.lemmas.List.{map-append, length-map}
+use Rattle.std.proofs.lemmas.List.Folds.{list_any-append}
+use Rattle.std.proofs.lemmas.Option.{slice_get_within}
+use Rattle.vic_log.specs.declared.entry.Entry.{Entry}
+use Rattle.vic_log.specs.declared.entry.Entry.TheVariants.{Sent, Silent, Collision, Heard, Listed, Garbled, FieldCycle}
+use Rattle.vic_log.specs.declared.entry.LogLine.{LogLine}
+use Rattle.vic_log.specs.declared.fault.PushFault.{PushFault}
+use Rattle.vic_log.specs.declared.fault.PushFault.TheVariants.{SlotOutsideRound, EntryAfterList, DuplicateListed}
+use Rattle.vic_frame.specs.Uids.{has}
+use Rattle.vic_log.specs.declared.entry.Version.{Version}
+use Rattle.vic_log.specs.declared.entry.Version.TheVariants.{V1}
+use Rattle.vic_log.specs.FirstVersion.{IsOfFirstVersion, AreOfFirstVersion}
+use Rattle.vic_log.specs.Rounds.{opener, slots_opened, left_since, slots_left, is_slot}
+use Rattle.vic_log.specs.Order.{IsInOrder, entries, listed, IsRisingFrom, AreValid, is_outside_round, is_empty, is_after_list, is_duplicate, refusal}
+use Rattle.vic_log.specs.Log.{last_from, IsValidEntry, IsLog, left_after, Keeps}
+use Rattle.vic_log.proofs.Places.{AgreeBefore, opener_agrees, opener_below, agree_append, slice_get_last, agree_upto}
+use Rattle.vic_log.proofs.Order.{in_round-slots_left}
+
+-- ---- slots left
+
+left_agrees : (n : ℕ) (es fs : List Entry) → AgreeBefore n es fs → (o : Option ℕ) → ((k : ℕ) → o ≡ Some k → k < n) → left_since es n o ≡ left_since fs n o
+left_agrees n es fs a None b = refl
+left_agrees n es fs a (Some j) b = let h : slice_get es j ≡ slice_get fs j = a j (b j refl) in rw h
+
+-- how many slots are left at a place is told by the entries before it
+pub slots_left_agrees : (n : ℕ) (es fs : List Entry) → AgreeBefore n es fs → slots_left es n ≡ slots_left fs n
+slots_left_agrees n es fs a =
+    left_agrees n es fs a (opener es n) (opener_below es n) ∙ ap (left_since fs n) (opener_agrees n es fs a)
+
+one_less : (es fs : List Entry) (n : ℕ) → AgreeBefore n es fs → (o : Option ℕ) → ((k : ℕ) → o ≡ Some k → k < n) → left_since fs (suc n) o ≡ left_since es n o - 1
+one_less es fs n a None b = refl
+one_less es fs n a (Some j) b =
+    let h : slice_get es j ≡ slice_get fs j = a j (b j refl) in
+    let below : j < n = b j refl in
+    let many = slots_opened (slice_get es j) in
+    let same : slots_opened (slice_get fs j) ≡ many = ap slots_opened (sym h) in
+    ap (λ m. m - (suc n - suc j)) same ∙ omega arith
+
+left_by : (es fs : List Entry) (n : ℕ) → AgreeBefore n es fs → (e : Entry) → slice_get fs n ≡ Some e → slots_left fs (suc n) ≡ left_after (slots_left es n) e
+left_by es fs n a (Sent q) k = rw k (rw k (omega arith))
+left_by es fs n a (Listed u) k = rw k (rw k (omega arith))
+left_by es fs n a FieldCycle k = rw k (rw k (omega arith))
+left_by es fs n a Silent k = rw k (one_less es fs n a (opener fs n) (opener_below fs n) ∙ ap (λ o. left_since es n o - 1) (sym (opener_agrees n es fs a)))
+left_by es fs n a Collision k = rw k (one_less es fs n a (opener fs n) (opener_below fs n) ∙ ap (λ o. left_since es n o - 1) (sym (opener_agrees n es fs a)))
+left_by es fs n a (Heard r) k = rw k (one_less es fs n a (opener fs n) (opener_below fs n) ∙ ap (λ o. left_since es n o - 1) (sym (opener_agrees n es fs a)))
+left_by es fs n a Garbled k = rw k (one_less es fs n a (opener fs n) (opener_below fs n) ∙ ap (λ o. left_since es n o - 1) (sym (opener_agrees n es fs a)))
+
+-- the slots left behind the last entry
+pub slots_left-push : (es : List Entry) (e : Entry) → slots_left (es ++ e ∷ []) (suc (length es)) ≡ left_after (slots_left es (length es)) e
+slots_left-push es e = left_by es (es ++ e ∷ []) (length es) (agree_upto es (e ∷ []) (length es) (omega arith)) e (slice_get_last es e)
+
+-- ---- listed UIDs
+
+pub listed-append : (es fs : List Entry) → listed (es ++ fs) ≡ listed es ++ listed fs
+listed-append [] fs = refl
+listed-append (Sent q ∷ es) fs = listed-append es fs
+listed-append (Silent ∷ es) fs = listed-append es fs
+listed-append (Collision ∷ es) fs = listed-append es fs
+listed-append (Heard r ∷ es) fs = listed-append es fs
+listed-append (Garbled ∷ es) fs = listed-append es fs
+listed-append (FieldCycle ∷ es) fs = listed-append es fs
+listed-append (Listed u ∷ es) fs = ap (λ us. u ∷ us) (listed-append es fs)
+
+or_right : (a b : Bool) → b ≡ true → (a || b) ≡ true
+or_right true b h = refl
+or_right false b h = h
+
+pub has-there : (es : List Entry) (i u : ℕ) → slice_get es i ≡ Some (Listed u) → has (listed es) u ≡ true
+has-there [] i u k = cc
+has-there (e ∷ es) zero u k = let same : e ≡ Listed u = cc in rw same (ap (λ b. b || has (listed es) u) (eq-eqb u u refl))
+has-there (Sent q ∷ es) (suc i) u k = has-there es i u k
+has-there (Silent ∷ es) (suc i) u k = has-there es i u k
+has-there (Collision ∷ es) (suc i) u k = has-there es i u k
+has-there (Heard r ∷ es) (suc i) u k = has-there es i u k
+has-there (Garbled ∷ es) (suc i) u k = has-there es i u k
+has-there (FieldCycle ∷ es) (suc i) u k = has-there es i u k
+has-there (Listed w ∷ es) (suc i) u k = or_right (nat_eq u w) (has (listed es) u) (has-there es i u k)
+
+empty_has : (us : List ℕ) (u : ℕ) → is_empty us ≡ true → has us u ≡ false
+empty_has [] u h = refl
+empty_has (x ∷ us) u h = cc
+
+empty-append : (us ws : List ℕ) → not (is_empty (us ++ ws)) ≡ (not (is_empty us) || not (is_empty ws))
+empty-append [] ws = refl
+empty-append (u ∷ us) ws = refl
+
+-- ---- order
+
+-- no reason to refuse: none of the three holds
+none_of : (a b d : Bool) (x y z : PushFault) → (if a then Some x else if b then Some y else if d then Some z else None) ≡ None → (a ≡ false) × (b ≡ false) × (d ≡ false)
+none_of true b d x y z h = cc
+none_of false true d x y z h = cc
+none_of false false true x y z h = cc
+none_of false false false x y z h = (refl, refl, refl)
+
+pub refusal_none : (es : List Entry) (e : Entry) → refusal es e ≡ None → (is_outside_round es e ≡ false) × (is_after_list es e ≡ false) × (is_duplicate es e ≡ false)
+refusal_none es e h = none_of (is_outside_round es e) (is_after_list es e) (is_duplicate es e) SlotOutsideRound EntryAfterList DuplicateListed h
+
+slot_has_left : (b : Bool) (left : ℕ) → b ≡ true → (if b then not (nat_lt 0 left) else false) ≡ false → 0 < left
+slot_has_left true left s h = ltb-true 0 left (not-false (nat_lt 0 left) h)
+slot_has_left false left s h = cc
+
+-- a place of the list with one entry more: one before, or the last
+last_or : {P : Type 0} (es : List Entry) (e f : Entry) (i : ℕ) → slice_get (es ++ e ∷ []) i ≡ Some f → (i < length es → slice_get es i ≡ Some f → P) → (i ≡ length es → e ≡ f → P) → P
+last_or es e f i k before last =
+    let within = slice_get_within (es ++ e ∷ []) i f k in
+    let long : length (es ++ e ∷ []) ≡ length es + 1 = length-append es (e ∷ []) in
+    ⊎_elim
+    (λ below. before below (agree_append es (e ∷ []) i below ∙ k))
+    (λ above.
+    let same : i ≡ length es = omega arith in
+    let it : Some e ≡ Some f = sym (slice_get_last es e) ∙ (ap (slice_get (es ++ e ∷ [])) (sym same) ∙ k) in
+    let e_is : e ≡ f = cc in
+    last same e_is)
+    (cases_lt i (length es))
+
+-- entries in order with one more that nothing refuses are in order
+pub IsInOrder-push : (es : List Entry) (e : Entry) → IsInOrder es → refusal es e ≡ None → IsInOrder (es ++ e ∷ [])
+IsInOrder-push es e o h =
+    let free = refusal_none es e h in
+    let all = es ++ e ∷ [] in
+    let left_is = λ (i : ℕ) (le : i ≤ length es). slots_left_agrees i es all (agree_upto es (e ∷ []) i le) in
+    record {
+      rounds = λ i f k s. (in_round-slots_left all i).1 (last_or es e f i k
+          (λ below here. subst (λ n. 0 < n) (left_is i (omega arith)) ((in_round-slots_left es i).0 (o.rounds i f here s)))
+          (λ same it. subst (λ n. 0 < n) (left_is i (omega arith)) (subst (λ j. 0 < slots_left es j) (sym same) (slot_has_left (is_slot e) (slots_left es (length es)) (ap is_slot it ∙ s) free.0))));
+      requests_first = λ i j u q lt a b. last_or es e (Sent q) j b
+          (λ below here. o.requests_first i j u q lt (agree_append es (e ∷ []) i (omega arith) ∙ a) here)
+          (λ same it.
+          let there : slice_get es i ≡ Some (Listed u) = agree_append es (e ∷ []) i (omega arith) ∙ a in
+          let some : has (listed es) u ≡ true = has-there es i u there in
+          let after : is_after_list es (Sent q) ≡ false = ap (is_after_list es) (sym it) ∙ free.1 in
+          let none : has (listed es) u ≡ false = empty_has (listed es) u (not-false (is_empty (listed es)) after) in
+          cc);
+      cycles_first = λ i j u lt a b. last_or es e FieldCycle j b
+          (λ below here. o.cycles_first i j u lt (agree_append es (e ∷ []) i (omega arith) ∙ a) here)
+          (λ same it.
+          let there : slice_get es i ≡ Some (Listed u) = agree_append es (e ∷ []) i (omega arith) ∙ a in
+          let some : has (listed es) u ≡ true = has-there es i u there in
+          let after : is_after_list es FieldCycle ≡ false = ap (is_after_list es) (sym it) ∙ free.1 in
+          let none : has (listed es) u ≡ false = empty_has (listed es) u (not-false (is_empty (listed es)) after) in
+          cc);
+      once = λ i j u w lt a b. last_or es e (Listed w) j b
+          (λ below here. o.once i j u w lt (agree_append es (e ∷ []) i (omega arith) ∙ a) here)
+          (λ same it d.
+          let there : slice_get es i ≡ Some (Listed u) = agree_append es (e ∷ []) i (omega arith) ∙ a in
+          let some : has (listed es) u ≡ true = has-there es i u there in
+          let none : has (listed es) w ≡ false = ap (is_duplicate es) (sym it) ∙ free.2 in
+          let same_uid : has (listed es) u ≡ has (listed es) w = ap (has (listed es)) d in
+          cc);
+    }
+
+-- ---- numbers and requests
+
+pub last_from-push : (n : ℕ) (ls : List LogLine) (l : LogLine) → last_from n (ls ++ l ∷ []) ≡ l.number
+last_from-push n [] l = refl
+last_from-push n (x ∷ ls) l = last_from-push x.number ls l
+
+rising-push : (n : ℕ) (ls : List LogLine) (l : LogLine) → IsRisingFrom n ls → last_from n ls < l.number → IsRisingFrom n (ls ++ l ∷ [])
+rising-push n [] l r h = (h, tt)
+rising-push n (x ∷ ls) l r h = (r.0, rising-push x.number ls l r.1 h)
+
+valid-push : (es : List Entry) (e : Entry) → AreValid es → IsValidEntry e → AreValid (es ++ e ∷ [])
+valid-push es e v h i q k = last_or es e (Sent q) i k (λ below here. v i q here) (λ same it. subst IsValidEntry it h)
+
+first_version-push : (es : List Entry) (e : Entry) → AreOfFirstVersion es → IsOfFirstVersion e → AreOfFirstVersion (es ++ e ∷ [])
+first_version-push es e v h i f k = last_or es e f i k (λ below here. v i f here) (λ same it. subst IsOfFirstVersion it h)
+
+pub entries-push : (ls : List LogLine) (l : LogLine) → entries (ls ++ l ∷ []) ≡ entries ls ++ l.item ∷ []
+entries-push ls l = map-append (λ (x : LogLine). x.item) ls (l ∷ [])
+
+pub last_from-last : (n : ℕ) (ls : List LogLine) (l : LogLine) → slice_get ls (length ls - 1) ≡ Some l → last_from n ls ≡ l.number
+last_from-last n [] l k = cc
+last_from-last n (x ∷ []) l k = let same : x ≡ l = cc in ap (λ (m : LogLine). m.number) same
+last_from-last n (x ∷ y ∷ ls) l k =
+    let place : length (x ∷ y ∷ ls) - 1 ≡ suc (length (y ∷ ls) - 1) = omega arith in
+    last_from-last x.number (y ∷ ls) l (ap (slice_get (x ∷ y ∷ ls)) (sym place) ∙ k)
+
+-- ---- what a log keeps
+
+pub IsLog-push : (v : Version) (ls : List LogLine) (l : LogLine) → IsLog v ls → refusal (entries ls) l.item ≡ None → last_from 1 ls < l.number → l.number ≤ 1000000 → IsValidEntry l.item → (v ≡ V1 → IsOfFirstVersion l.item) → IsLog v (ls ++ l ∷ [])
+IsLog-push v ls l g h above limit valid first = record {
+  order = subst IsInOrder (sym (entries-push ls l)) (IsInOrder-push (entries ls) l.item g.order h);
+  rising = rising-push 1 ls l g.rising above;
+  limit = let e = last_from-push 1 ls l in omega arith;
+  valid = subst AreValid (sym (entries-push ls l)) (valid-push (entries ls) l.item g.valid valid);
+  first_version = λ is. subst AreOfFirstVersion (sym (entries-push ls l)) (first_version-push (entries ls) l.item (g.first_version is) (first is));
+}
+
+pub Keeps-push : (v : Version) (ls : List LogLine) (l : LogLine) (index more : ℕ → Bool) (listing further : Bool) (left rest : ℕ) → Keeps v ls index listing left
+    → refusal (entries ls) l.item ≡ None → last_from 1 ls < l.number → l.number ≤ 1000000 → IsValidEntry l.item → (v ≡ V1 → IsOfFirstVersion l.item)
+    → ((u : ℕ) → more u ≡ (index u || has (listed (l.item ∷ [])) u)) → further ≡ (listing || not (is_empty (listed (l.item ∷ [])))) → rest ≡ left_after left l.item
+    → Keeps v (ls ++ l ∷ []) more further rest
+Keeps-push v ls l index more listing further left rest k h above limit valid first m f r =
+    let es = entries ls in
+    let es_is : entries (ls ++ l ∷ []) ≡ es ++ l.item ∷ [] = entries-push ls l in
+    let listed_is : listed (entries (ls ++ l ∷ [])) ≡ listed es ++ listed (l.item ∷ []) = ap listed es_is ∙ listed-append es (l.item ∷ []) in
+    let es_long : length es ≡ length ls = length-map ls (λ (x : LogLine). x.item) in
+    let long : length (ls ++ l ∷ []) ≡ suc (length es) = length-append ls (l ∷ []) ∙ omega arith in
+    record {
+      is_log = IsLog-push v ls l k.is_log h above limit valid first;
+      index_is = λ u. m u ∙ (ap (λ b. b || has (listed (l.item ∷ [])) u) (k.index_is u) ∙ (sym (list_any-append (nat_eq u) (listed es) (listed (l.item ∷ []))) ∙ ap (λ us. has us u) (sym listed_is)));
+      listing_is = f ∙ (ap (λ b. b || not (is_empty (listed (l.item ∷ [])))) k.listing_is ∙ (sym (empty-append (listed es) (listed (l.item ∷ []))) ∙ ap (λ us. not (is_empty us)) (sym listed_is)));
+      left_is = r ∙ (ap (λ n. left_after n l.item) (k.left_is ∙ ap (slots_left es) (sym es_long)) ∙ (sym (slots_left-push es l.item) ∙ (ap (λ x. slots_left x (suc (length es))) (sym es_is) ∙ ap (slots_left (entries (ls ++ l ∷ []))) (sym long))));
+    }

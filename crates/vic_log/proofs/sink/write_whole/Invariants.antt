@@ -1,0 +1,12 @@
+use Rattle.std.proofs.Common.{length, ◌-◌, ◌≡◌, ◌≤◌, false, take}
+use Rattle.std.specs.Io.KnownBytes.{Appends}
+use Rattle.vic_log.proofs.sink.write_whole.Given as goal
+
+abbrev pub invariant-loop-at : goal.invariant-loop-at
+invariant-loop-at g l =
+    (l.at ≤ length l.bytes)
+    × (g.W.Sink.has_failed l.sink ≡ false)
+    × Appends (g.W.Sink.taken l.initial.sink) (g.W.Sink.taken l.sink) (take l.at l.bytes)
+
+abbrev pub decreases-loop-at : goal.decreases-loop-at
+decreases-loop-at g l = length l.bytes - l.at

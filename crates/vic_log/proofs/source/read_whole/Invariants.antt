@@ -1,0 +1,11 @@
+use Rattle.std.proofs.Common.{◌≡◌, ◌≤◌, ◌+◌, false, vec_len}
+use Rattle.vic_log.specs.Device.{GivesBytes}
+use Rattle.vic_log.proofs.source.read_whole.Given as goal
+
+abbrev pub invariant-loop : goal.invariant-loop
+invariant-loop g l =
+    GivesBytes (g.R.Source.left l.initial.source) (g.R.Source.left l.source) l.text.items
+    × (vec_len l.text ≤ l.limit)
+    × (l.counter ≤ vec_len l.text)
+    × (g.R.Source.has_failed l.source ≡ false)
+    × (g.R.Source.reads l.source ≤ g.R.Source.reads l.initial.source + l.counter)

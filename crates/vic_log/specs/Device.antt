@@ -1,0 +1,43 @@
+-- What a read or a write does to the bytes that a device tells.
+use Rattle.std.specs.Prelude.{◌≡◌, ◌≤◌, ◌<◌, ◌⊎◌, ℕ, List, ◌++◌, length, take, ⊤, None, Some, MatchResult, Option, Result}
+use Rattle.std.specs.Io.KnownBytes.{Consumes, Appends, IsAtEnd}
+use Rattle.vic_log.specs.declared.source.FromRead.{FromRead}
+use Rattle.vic_log.specs.declared.sink.ToWrite.{ToWrite}
+
+-- told bytes stay as they were, or are told no more
+abbrev pub KeepsOrHides : Option (List ℕ) → Option (List ℕ) → Type 0
+KeepsOrHides None new = ⊤
+KeepsOrHides (Some xs) None = ⊤
+KeepsOrHides (Some xs) (Some ys) = ys ≡ xs
+
+-- a read put the next n bytes at the front at `Ok(n)`, none only at the end or with no room
+abbrev pub SourceStep : {E : Type 0} → Option (List ℕ) → Option (List ℕ) → Result ℕ E → List ℕ → Type 0
+SourceStep old new r buf =
+    MatchResult r
+    (λ n. Consumes old new (take n buf) × (n ≡ 0 → 0 < length buf → IsAtEnd new))
+    (λ _. KeepsOrHides old new)
+
+-- the bytes handed out are those told before without those told after
+abbrev pub GivesBytes : Option (List ℕ) → Option (List ℕ) → List ℕ → Type 0
+GivesBytes old new bs = Consumes old new bs
+
+-- reading stopped at the end or at the limit
+abbrev pub Stops : Option (List ℕ) → List ℕ → ℕ → Type 0
+Stops new bs limit = IsAtEnd new ⊎ (length bs ≡ limit)
+
+-- a write took the first n bytes at `Ok(n)`
+abbrev pub SinkStep : {E : Type 0} → Option (List ℕ) → Option (List ℕ) → Result ℕ E → List ℕ → Type 0
+SinkStep old new r bytes =
+    MatchResult r (λ n. Appends old new (take n bytes)) (λ _. KeepsOrHides old new)
+
+-- where the sink tells its bytes before and after, it has taken a prefix of these
+abbrev pub HasTakenPrefix : Option (List ℕ) → Option (List ℕ) → List ℕ → Type 0
+HasTakenPrefix None new bytes = ⊤
+HasTakenPrefix (Some xs) None bytes = ⊤
+HasTakenPrefix (Some xs) (Some ys) bytes = (k : ℕ) × (k ≤ length bytes) × (ys ≡ xs ++ take k bytes)
+
+abbrev pub from_read_inner : {R : Type 0} → FromRead R → R
+from_read_inner r = r.inner
+
+abbrev pub to_write_inner : {W : Type 0} → ToWrite W → W
+to_write_inner w = w.inner

@@ -1,0 +1,247 @@
+// Readers and writers for tests: in pieces, failing at a call, or without end.
+ghost use Rattle.std.specs.Prelude.{◌≡◌, ◌+◌, ◌-◌, ◌^◌, ◌<◌, ◌≤◌, ℕ, List, Bool, true, false, min, length, take, drop, Some, None};
+
+use crate::sink::Sink;
+use crate::source::{DeviceFault, Source};
+use std::io;
+use std::io::Write;
+
+/// Hands out its bytes in pieces, and fails at one call.
+#[derive(Drop)]
+pub struct Pieces<'a> {
+    bytes: &'a [u8],
+    piece: usize,
+    fail_at: u64,
+    reads: u64,
+    failed: bool,
+}
+
+impl<'a> Pieces<'a> {
+    /// The calls are numbered from 1; a `fail_at` of 0 is none.
+    pub fn new(bytes: &'a [u8], piece: usize, fail_at: u64) -> Pieces<'a>
+        requires { 0 < piece }
+        ensures reads { ⟦<Pieces<'a> as Source>⟧.reads result ≡ 0 }
+        ensures left { ⟦<Pieces<'a> as Source>⟧.left result ≡ Some bytes.entry.now }
+        ensures works { ⟦<Pieces<'a> as Source>⟧.has_failed result ≡ false }
+    {
+        Pieces {
+            bytes,
+            piece,
+            fail_at,
+            reads: 0,
+            failed: false,
+        }
+    }
+
+    pub fn reads(&self) -> u64
+        ensures { result ≡ ⟦<Pieces<'a> as Source>⟧.reads self.now }
+    {
+        self.reads
+    }
+}
+
+impl<'a> Source for Pieces<'a> {
+    ghost reads = { λ s. s.reads };
+
+    ghost left = { λ s. Some s.bytes.now };
+
+    ghost has_failed = { λ s. s.failed };
+
+    fn read(&mut self, buf: &mut [u8]) -> Result<usize, DeviceFault> {
+        self.reads = self.reads.saturating_add(1);
+        if self.reads == self.fail_at {
+            self.failed = true;
+            return Err(DeviceFault);
+        }
+        let n = self.bytes.len().min(buf.len()).min(self.piece.max(1));
+        let (first, rest) = self.bytes.split_at(n);
+        buf[..n].copy_from_slice(first);
+        self.bytes = rest;
+        self.failed = false;
+        Ok(n)
+    }
+
+    fn failed(&self) -> bool {
+        self.failed
+    }
+}
+
+/// Hands out one byte without end, and tells nothing.
+#[derive(Drop)]
+pub struct Endless {
+    byte: u8,
+    reads: u64,
+}
+
+impl Endless {
+    pub fn new(byte: u8) -> Endless {
+        Endless { byte, reads: 0 }
+    }
+}
+
+impl Source for Endless {
+    ghost reads = { λ s. s.reads };
+
+    ghost left = { λ _. None };
+
+    ghost has_failed = { λ _. false };
+
+    fn read(&mut self, buf: &mut [u8]) -> Result<usize, DeviceFault> {
+        self.reads = self.reads.saturating_add(1);
+        for b in buf.iter_mut() {
+            *b = self.byte;
+        }
+        Ok(buf.len())
+    }
+
+    fn failed(&self) -> bool {
+        false
+    }
+}
+
+/// Takes one byte a call, and fails at one call, or in `flush`.
+#[derive(Drop)]
+pub struct OneByOne {
+    taken: Vec<u8>,
+    fail_at: u64,
+    fails_flush: bool,
+    writes: u64,
+    failed: bool,
+}
+
+impl OneByOne {
+    pub fn new(taken: Vec<u8>, fail_at: u64, fails_flush: bool) -> OneByOne {
+        OneByOne {
+            taken,
+            fail_at,
+            fails_flush,
+            writes: 0,
+            failed: false,
+        }
+    }
+
+    pub fn taken(&self) -> &[u8]
+        ensures { Some result.now ≡ ⟦<OneByOne as Sink>⟧.taken self.now }
+    {
+        self.taken.as_slice()
+    }
+}
+
+impl Sink for OneByOne {
+    ghost taken = { λ s. Some s.taken.items };
+
+    ghost has_failed = { λ s. s.failed };
+
+    fn write(&mut self, bytes: &[u8]) -> Result<usize, DeviceFault> {
+        self.writes = self.writes.saturating_add(1);
+        if self.writes == self.fail_at {
+            self.failed = true;
+            return Err(DeviceFault);
+        }
+        if bytes.is_empty() {
+            self.failed = false;
+            return Ok(0);
+        }
+        if self.taken.push(bytes[0]).is_err() {
+            self.failed = true;
+            return Err(DeviceFault);
+        }
+        self.failed = false;
+        Ok(1)
+    }
+
+    fn flush(&mut self) -> Result<(), DeviceFault> {
+        self.failed = self.fails_flush;
+        if self.fails_flush {
+            return Err(DeviceFault);
+        }
+        Ok(())
+    }
+
+    fn failed(&self) -> bool {
+        self.failed
+    }
+}
+
+/// A writer of std that takes nothing at one call.
+#[derive(Drop)]
+pub struct Stuck {
+    stuck_at: u64,
+    writes: u64,
+}
+
+impl Stuck {
+    pub fn new(stuck_at: u64) -> Stuck {
+        Stuck {
+            stuck_at,
+            writes: 0,
+        }
+    }
+}
+
+impl Write for Stuck {
+    fn write(&mut self, buf: &[u8]) -> io::Result<usize> {
+        self.writes = self.writes.saturating_add(1);
+        if self.writes == self.stuck_at {
+            return Ok(0);
+        }
+        Ok(buf.len())
+    }
+
+    fn flush(&mut self) -> io::Result<()> {
+        Ok(())
+    }
+}
+
+#[cfg(test)]
+mod tests {
+    use super::*;
+    use crate::sink::{ToWrite, write_whole};
+    use crate::source::{FromRead, ReadFault, read_whole};
+    use std::test::Fail;
+
+    #[test]
+    fn reads(rt: HostRuntime) -> Result<(), Fail> {
+        let text = b"one two three";
+        for piece in 1..20usize {
+            let mut source = Pieces::new(text, piece, 0);
+            let got = read_whole(rt.alloc(), &mut source, 100)?;
+            assert_eq!(rt; got.as_slice(), text.as_slice());
+        }
+        let mut source = Pieces::new(text, 5, 2);
+        assert_eq!(rt;
+            read_whole(rt.alloc(), &mut source, 100).err(),
+            Some(ReadFault::Read)
+        );
+        assert_eq!(rt;
+            read_whole(rt.alloc(), &mut source, 100).err(),
+            Some(ReadFault::Read)
+        );
+        assert_eq!(rt; source.reads(), 2);
+        let mut memory = FromRead::new(text.as_slice());
+        let got = read_whole(rt.alloc(), &mut memory, 7)?;
+        assert_eq!(rt; got.as_slice(), b"one two".as_slice());
+        let got = read_whole(rt.alloc(), &mut Endless::new(9), 10000)?;
+        assert_eq!(rt; got.len(), 10000);
+        Ok(())
+    }
+
+    #[test]
+    fn writes(rt: HostRuntime) -> Result<(), Fail> {
+        let mut sink = OneByOne::new(Vec::new(rt.alloc()), 0, false);
+        assert!(rt; !sink.failed());
+        assert_eq!(rt; write_whole(&mut sink, b"abc"), Ok(()));
+        assert_eq!(rt; sink.taken(), b"abc".as_slice());
+        let mut sink = OneByOne::new(Vec::new(rt.alloc()), 3, false);
+        assert!(rt; !sink.failed());
+        assert_eq!(rt; write_whole(&mut sink, b"abc"), Err(DeviceFault));
+        assert_eq!(rt; sink.taken(), b"ab".as_slice());
+        let mut sink = ToWrite::new(Stuck::new(1));
+        assert_eq!(rt; write_whole(&mut sink, b"abc"), Err(DeviceFault));
+        assert!(rt; sink.failed());
+        let mut held = ToWrite::new(Vec::new(rt.alloc()));
+        assert_eq!(rt; write_whole(&mut held, b"abc"), Ok(()));
+        assert_eq!(rt; held.into_inner().as_slice(), b"abc".as_slice());
+        Ok(())
+    }
+}

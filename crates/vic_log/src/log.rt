@@ -1,0 +1,172 @@
+//! A log as a value.
+
+ghost use Rattle.std.specs.Prelude.{◌≡◌, ◌<◌, ◌≤◌, ℕ, [], ◌∷◌, ◌++◌, length, None, MatchResult, OnOk, OnErr, IfErr, not, ◌||◌};
+ghost use Rattle.std.specs.BTreeSet as sorted;
+ghost use Rattle.std.specs.Ordering.{nat_cmp};
+ghost use Rattle.vic_log.specs.declared.fault.PushFault.TheVariants.{Memory as NoRoom};
+ghost use Rattle.vic_frame.specs.Uids.{has};
+ghost use Rattle.vic_log.specs.declared.entry.Version.TheVariants.{V1};
+ghost use Rattle.vic_log.specs.FirstVersion.{IsOfFirstVersion};
+ghost use Rattle.vic_log.specs.Log.{IsLog, LogValue, last_from, RefusesOr, IsValidEntry, left_after, Keeps};
+ghost use Rattle.vic_log.specs.Order.{entries, listed, is_empty, refusal};
+
+use crate::entry::{Entry, LogLine, Version};
+use crate::fault::PushFault;
+use std::alloc::Global;
+use std::collections::BTreeSet;
+use std::marker::Model;
+use vic_frame::Uid;
+
+/// A log: entries in order, each with the number of its line.
+#[derive(Drop)]
+pub struct Log {
+    version: Version,
+    lines: Vec<LogLine>,
+    /// The UIDs listed.
+    index: BTreeSet<Uid>,
+    /// Whether a UID is listed.
+    listing: bool,
+    /// How many slots of the round are left.
+    slots_left: u8,
+}
+
+impl Model for Log {
+    ghost Value = { LogValue };
+
+    ghost view = { λ l. record { lines = l.lines.items; version = l.version } };
+
+    ghost invariant = { λ l. Keeps l.version l.lines.items (λ u. sorted.contains nat_cmp l.index u) l.listing l.slots_left };
+}
+
+impl Log {
+    /// A log of version 1 without lines.
+    pub fn new(alloc: Global) -> Log
+        ensures { result ≡ record { lines = []; version = V1 } }
+    {
+        Log::with_version(alloc, Version::V1)
+    }
+
+    /// A log without lines.
+    pub fn with_version(alloc: Global, version: Version) -> Log
+        ensures { result ≡ record { lines = []; version = version } }
+    {
+        Log {
+            version,
+            lines: Vec::new(alloc),
+            index: BTreeSet::new(alloc),
+            listing: false,
+            slots_left: 0,
+        }
+    }
+
+    /// Its version.
+    pub fn version(&self) -> Version
+        ensures { result ≡ self.now.version }
+    {
+        self.version
+    }
+
+    /// Its lines.
+    pub fn lines(&self) -> &[LogLine]
+        ensures value { result.now ≡ self.now.lines }
+        ensures log { IsLog self.now.version result.now }
+    {
+        &self.lines
+    }
+
+    /// The number of its last line, 1 where it has none.
+    pub fn last_line(&self) -> u32
+        ensures value { result ≡ last_from 1 self.now.lines }
+        ensures limit { result ≤ 1000000 }
+    {
+        match self.lines.last() {
+            Some(line) => line.number,
+            None => 1,
+        }
+    }
+
+    /// Why an entry can't follow the lines, if it can't.
+    pub fn refusal(&self, item: &Entry) -> Option<PushFault>
+        ensures { result ≡ refusal (entries self.now.lines) item.now }
+    {
+        match *item {
+            Entry::Sent(_) | Entry::FieldCycle => {
+                if self.listing {
+                    Some(PushFault::EntryAfterList)
+                } else {
+                    None
+                }
+            }
+            Entry::Listed(uid) => {
+                if self.index.contains(&uid) {
+                    Some(PushFault::DuplicateListed)
+                } else {
+                    None
+                }
+            }
+            Entry::Silent | Entry::Collision | Entry::Heard(_) | Entry::Garbled => {
+                if self.slots_left > 0 {
+                    None
+                } else {
+                    Some(PushFault::SlotOutsideRound)
+                }
+            }
+        }
+    }
+
+    /// Adds a line, unless its entry can't follow those before, or memory is wanting. Then the log stays as it was.
+    pub fn push(&mut self, number: u32, item: Entry) -> Result<(), PushFault>
+        requires above { last_from 1 self.old.lines < number }
+        requires limit { number ≤ 1000000 }
+        requires valid { IsValidEntry item }
+        requires first_version { self.old.version ≡ V1 → IsOfFirstVersion item }
+        ensures answer { MatchResult result (λ _. refusal (entries self.old.lines) item ≡ None) (RefusesOr (refusal (entries self.old.lines) item)) }
+        ensures added { OnOk result (self.new ≡ record { lines = self.old.lines ++ record { number = number; item = item } ∷ []; version = self.old.version }) }
+        ensures unchanged { OnErr result (self.new ≡ self.old) }
+    {
+        if let Some(fault) = self.refusal(&item) {
+            return Err(fault);
+        }
+        self.lines.reserve(1)?;
+        index_entry(&mut self.index, &item)?;
+        self.listing = listing_after(self.listing, &item);
+        self.slots_left = slots_after(self.slots_left, &item);
+        self.lines.push_reserved(LogLine { number, item });
+        Ok(())
+    }
+}
+
+/// How many slots are left after an entry.
+fn slots_after(left: u8, item: &Entry) -> u8
+    ensures { result ≡ left_after left item.now }
+{
+    match *item {
+        Entry::Sent(request) => request.slots(),
+        Entry::Listed(_) | Entry::FieldCycle => 0,
+        Entry::Silent | Entry::Collision | Entry::Heard(_) | Entry::Garbled => left.saturating_sub(
+            1,
+        ),
+    }
+}
+
+/// Whether a UID is listed after an entry.
+fn listing_after(listing: bool, item: &Entry) -> bool
+    ensures { result ≡ (listing || not (is_empty (listed (item.now ∷ [])))) }
+{
+    match *item {
+        Entry::Listed(_) => true,
+        _ => listing,
+    }
+}
+
+/// Puts the UID that an entry lists, if it lists one, into an index.
+fn index_entry(index: &mut BTreeSet<Uid>, item: &Entry) -> Result<(), PushFault>
+    ensures more { OnOk result ((u : ℕ) → sorted.contains nat_cmp index.new u ≡ (sorted.contains nat_cmp index.old u || has (listed (item.now ∷ [])) u)) }
+    ensures same { OnErr result ((u : ℕ) → sorted.contains nat_cmp index.new u ≡ sorted.contains nat_cmp index.old u) }
+    ensures fault { IfErr result (λ e. e ≡ NoRoom) }
+{
+    if let Entry::Listed(uid) = *item {
+        index.insert(uid)?;
+    }
+    Ok(())
+}

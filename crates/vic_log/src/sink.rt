@@ -1,0 +1,107 @@
+// A writer that takes pieces.
+ghost use Rattle.std.specs.Prelude.{◌≡◌, ◌≢◌, ◌+◌, ◌-◌, ◌^◌, ◌<◌, ◌≤◌, ℕ, List, [], Bool, true, false, min, length, IfOk, IfErr, OnErr, OnOk, is_err, take, vec_len, Option, ◌↔◌};
+ghost use Rattle.std.specs.Io.KnownBytes.{Appends};
+ghost use Rattle.vic_log.specs.Device.{SinkStep, KeepsOrHides, HasTakenPrefix, to_write_inner};
+
+use crate::source::DeviceFault;
+use std::io::Write;
+
+pub trait Sink {
+    // The bytes that it has taken, where it tells them.
+    ghost taken: { Self → Option (List ℕ) };
+
+    ghost has_failed: { Self → Bool };
+
+    fn write(&mut self, bytes: &[u8]) -> Result<usize, DeviceFault>
+        requires { has_failed self.old ≡ false }
+        ensures bound { IfOk result (λ n. n ≤ length bytes.now) }
+        ensures some { IfOk result (λ n. 0 < length bytes.now → 0 < n) }
+        ensures bytes { SinkStep (taken self.old) (taken self.new) result bytes.now }
+        ensures state { has_failed self.new ≡ is_err result };
+
+    fn flush(&mut self) -> Result<(), DeviceFault>
+        requires { has_failed self.old ≡ false }
+        ensures kept { OnOk result (Appends (taken self.old) (taken self.new) []) }
+        ensures err { OnErr result (KeepsOrHides (taken self.old) (taken self.new)) }
+        ensures state { has_failed self.new ≡ is_err result };
+
+    fn failed(&self) -> bool
+        ensures { result ≡ has_failed self.now };
+}
+
+/// A sink over a writer of std.
+#[derive(Drop)]
+pub struct ToWrite<W> {
+    inner: W,
+    failed: bool,
+}
+
+impl<W: Write> ToWrite<W> {
+    pub fn new(inner: W) -> ToWrite<W>
+        ensures inner { to_write_inner result ≡ inner }
+        ensures taken { ⟦<ToWrite<W> as Sink>⟧.taken result ≡ W.contents inner }
+        ensures works { ⟦<ToWrite<W> as Sink>⟧.has_failed result ≡ false }
+    {
+        ToWrite {
+            inner,
+            failed: false,
+        }
+    }
+
+    pub fn into_inner(self) -> W
+        ensures { result ≡ to_write_inner self }
+    {
+        let ToWrite { inner, failed: _ } = self;
+        inner
+    }
+}
+
+impl<W: Write> Sink for ToWrite<W> {
+    ghost taken = { λ s. W.contents s.inner };
+
+    ghost has_failed = { λ s. s.failed };
+
+    fn write(&mut self, bytes: &[u8]) -> Result<usize, DeviceFault> {
+        match self.inner.write(bytes) {
+            Ok(n) if n > 0 || bytes.is_empty() => {
+                self.failed = false;
+                Ok(n)
+            }
+            _ => {
+                self.failed = true;
+                Err(DeviceFault)
+            }
+        }
+    }
+
+    fn flush(&mut self) -> Result<(), DeviceFault> {
+        match self.inner.flush() {
+            Ok(()) => {
+                self.failed = false;
+                Ok(())
+            }
+            Err(_) => {
+                self.failed = true;
+                Err(DeviceFault)
+            }
+        }
+    }
+
+    fn failed(&self) -> bool {
+        self.failed
+    }
+}
+
+/// Writes all the bytes, in as many writes as it takes.
+pub fn write_whole<W: Sink>(sink: &mut W, bytes: &[u8]) -> Result<(), DeviceFault>
+    requires { W.has_failed sink.old ≡ false }
+    ensures all { OnOk result (Appends (W.taken sink.old) (W.taken sink.new) bytes.now) }
+    ensures prefix { HasTakenPrefix (W.taken sink.old) (W.taken sink.new) bytes.now }
+    ensures state { W.has_failed sink.new ≡ is_err result }
+{
+    let mut at = 0;
+    while at < bytes.len() {
+        at += sink.write(&bytes[at..])?;
+    }
+    Ok(())
+}
