@@ -5,3 +5,4 @@ pub mod WidestLaws
 pub mod GatheringLaws
 pub mod Places
 pub mod LowBits
+pub mod SetLaws

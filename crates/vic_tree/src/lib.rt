@@ -5,6 +5,7 @@ mod gather;
 mod mask_tree;
 mod node;
 mod open_set;
+pub mod set_laws;
 mod widest;
 
 pub use mask_tree::MaskTree;
