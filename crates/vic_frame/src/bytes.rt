@@ -1,4 +1,4 @@
-//! Numbers in bytes, the low byte first.
+//! Numbers in bytes, the least significant byte first, and the bits of a byte.
 
 ghost use Rattle.std.specs.Prelude.{◌≡◌, ℕ, ◌+◌, ◌≤◌, ◌++◌, length, drop};
 ghost use Rattle.vic_frame.specs.Bytes as spec;
@@ -6,7 +6,7 @@ ghost use Rattle.arrayvec.specs.ArrayVec.{array_vec_len};
 
 use arrayvec::ArrayVec;
 
-/// The number of at most eight bytes.
+/// The number that at most eight bytes spell, the least significant first.
 pub(crate) fn number_of(bytes: &[u8]) -> u64
     requires { length bytes.now ≤ 8 }
     ensures { result ≡ spec.number_of bytes.now }
@@ -20,7 +20,7 @@ pub(crate) fn number_of(bytes: &[u8]) -> u64
     number
 }
 
-/// Puts so many bytes of a number at the end.
+/// Appends the `count` low bytes of a number, the least significant first.
 pub(crate) fn push_number(out: &mut ArrayVec<u8, 13>, count: usize, number: u64)
     requires { array_vec_len out.old + count ≤ 13 }
     ensures items { out.new.items ≡ out.old.items ++ spec.bytes_of count number }
@@ -33,7 +33,7 @@ pub(crate) fn push_number(out: &mut ArrayVec<u8, 13>, count: usize, number: u64)
     }
 }
 
-/// Whether bit `place` of a byte is 1; 1 is the lowest.
+/// Whether a bit of a byte is 1; `place` counts from 1, the least significant, to 8.
 pub(crate) fn bit(byte: u8, place: u8) -> bool
     requires low { 1 ≤ place }
     requires high { place ≤ 8 }

@@ -1,4 +1,4 @@
-//! The CRC of ISO/IEC 13239.
+//! The CRC of a frame.
 
 ghost use Rattle.std.specs.Prelude.{◌≡◌, ℕ};
 ghost use Rattle.vic_frame.specs.Bytes.{bits_of};
@@ -6,7 +6,46 @@ ghost use Rattle.vic_frame.specs.Crc as spec;
 
 use crate::bytes::number_of;
 
-/// What a register's low byte becomes within eight bits.
+/// The CRC of these bytes. It is sent behind them, its low byte first.
+///
+/// `ISO/IEC 13239, 16-bit FCS`.
+pub fn crc(bytes: &[u8]) -> u16
+    ensures { result ≡ spec.crc bytes.now }
+{
+    let mut register: u16 = 0xFFFF;
+    for byte in bytes {
+        register = after_byte(register, *byte);
+    }
+    0xFFFF - register
+}
+
+/// Whether there are at least two bytes, and the last two are the CRC of those before them.
+pub fn crc_right(bytes: &[u8]) -> bool
+    ensures { result ≡ spec.crc_right bytes.now }
+{
+    if bytes.len() < 2 {
+        return false;
+    }
+    let (body, end) = bytes.split_at(bytes.len() - 2);
+    number_of(end) == u64::from(crc(body))
+}
+
+/// The register after one byte more.
+fn after_byte(register: u16, byte: u8) -> u16
+    ensures { result ≡ spec.after_bits register (bits_of 8 byte) }
+{
+    let low = ((register ^ u16::from(byte)) % 256) as u8;
+    (register / 256) ^ low_after_byte(low)
+}
+
+/// A register of eight bits after eight bits 0.
+fn low_after_byte(low: u8) -> u16
+    ensures { result ≡ spec.after_bits low (bits_of 8 0) }
+{
+    TABLE[usize::from(low)]
+}
+
+/// The register after eight bits 0, for each register of eight bits.
 const TABLE: [u16; 256] = [
     0x0000, 0x1189, 0x2312, 0x329B, 0x4624, 0x57AD, 0x6536, 0x74BF, 0x8C48, 0x9DC1, 0xAF5A, 0xBED3,
     0xCA6C, 0xDBE5, 0xE97E, 0xF8F7, 0x1081, 0x0108, 0x3393, 0x221A, 0x56A5, 0x472C, 0x75B7, 0x643E,
@@ -31,40 +70,3 @@ const TABLE: [u16; 256] = [
     0xF78F, 0xE606, 0xD49D, 0xC514, 0xB1AB, 0xA022, 0x92B9, 0x8330, 0x7BC7, 0x6A4E, 0x58D5, 0x495C,
     0x3DE3, 0x2C6A, 0x1EF1, 0x0F78,
 ];
-
-/// A register of eight bits after eight bits 0.
-fn low_after_byte(low: u8) -> u16
-    ensures { result ≡ spec.after_bits low (bits_of 8 0) }
-{
-    TABLE[usize::from(low)]
-}
-
-/// The register after one byte more.
-fn after_byte(register: u16, byte: u8) -> u16
-    ensures { result ≡ spec.after_bits register (bits_of 8 byte) }
-{
-    let low = ((register ^ u16::from(byte)) % 256) as u8;
-    (register / 256) ^ low_after_byte(low)
-}
-
-/// The CRC of these bytes; its low byte is sent first.
-pub fn crc(bytes: &[u8]) -> u16
-    ensures { result ≡ spec.crc bytes.now }
-{
-    let mut register: u16 = 0xFFFF;
-    for byte in bytes {
-        register = after_byte(register, *byte);
-    }
-    0xFFFF - register
-}
-
-/// Whether the last two bytes are the CRC of those before.
-pub fn crc_right(bytes: &[u8]) -> bool
-    ensures { result ≡ spec.crc_right bytes.now }
-{
-    if bytes.len() < 2 {
-        return false;
-    }
-    let (body, end) = bytes.split_at(bytes.len() - 2);
-    number_of(end) == u64::from(crc(body))
-}

@@ -1,4 +1,8 @@
-//! UIDs, masks, requests, replies, and their frames.
+//! Vicinity tags' UIDs, the masks that a reader asks by, and the frames on the air.
+//!
+//! A UID is its number, a mask the low bits that a UID must have, a request what a reader sends, a
+//! response what one tag answers. A frame is the bytes of a request or a response with its CRC;
+//! which of the two it is, the caller says. Nothing here takes memory.
 #![tactic(auto)]
 
 mod bytes;

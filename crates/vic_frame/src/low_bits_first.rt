@@ -1,4 +1,8 @@
-//! The order of UIDs by their low bits, in which the UIDs of a mask stand together.
+//! UIDs in the order of their bits read from the lowest up.
+//!
+//! In this order the UIDs of a mask stand together, so that a sorted set finds them by one range.
+//! A UID's place is its 56 low bits turned round, a number below `2^56`.
+
 ghost use Rattle.std.specs.Prelude.{◌≡◌, ℕ, ◌+◌, ◌-◌, ◌^◌, ◌<◌, ◌≤◌, ◌&&◌, nat_le};
 ghost use Rattle.vic_frame.specs.Uids.{IsUid};
 ghost use Rattle.vic_frame.specs.Masks.{lies_in};
@@ -7,7 +11,7 @@ ghost use Rattle.vic_frame.specs.LowBitsFirst.{mirror, uid_of};
 use crate::mask::Mask;
 use crate::uid::Uid;
 
-/// A UID's 56 low bits, the lowest first.
+/// The place of a UID in the order. Different UIDs have different places.
 pub fn key(uid: Uid) -> u64
     ensures value { result ≡ mirror uid }
     ensures small { result < 2 ^ 56 }
@@ -17,11 +21,12 @@ pub fn key(uid: Uid) -> u64
     uid.number().reverse_bits() >> 8
 }
 
-/// The UID that has these bits, the lowest first.
+/// The UID at a place below `2^56`.
 pub fn uid_at(key: u64) -> Uid
     requires { key < 2 ^ 56 }
     ensures value { result ≡ uid_of key }
     ensures back { mirror result ≡ key }
+    ensures is_uid { IsUid result }
 {
     let Some(uid) = Uid::new((0xE0 << 56) + (key.reverse_bits() >> 8)) else {
         unreachable!()
@@ -29,7 +34,8 @@ pub fn uid_at(key: u64) -> Uid
     uid
 }
 
-/// The first and the last place of a mask's UIDs in the order.
+/// The first and the last place of a mask's UIDs: a UID lies in the mask exactly where its place
+/// is between them, both counted. For a longer mask take `low_mask` first.
 pub fn places(mask: &Mask) -> (u64, u64)
     requires { mask.now.len ≤ 56 }
     ensures first { result.0 ≡ mirror mask.now.value }

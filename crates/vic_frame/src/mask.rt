@@ -1,13 +1,16 @@
-//! Masks on the low bits of UIDs.
+//! Masks: which UIDs a request asks for, by their low bits.
 
-ghost use Rattle.std.specs.Prelude.{◌≡◌, ℕ, ◌^◌, ◌%◌, ◌<◌, ◌≤◌, ◌+◌, ◌*◌, false, SomeIff, IfSome, IfNone};
+ghost use Rattle.std.specs.Prelude.{◌≡◌, ℕ, ◌^◌, ◌%◌, ◌<◌, ◌≤◌, ◌+◌, ◌*◌, ◌==◌, false, SomeIff, IfSome, IfNone};
 ghost use Rattle.vic_frame.specs.Uids.{IsUid};
-ghost use Rattle.vic_frame.specs.Masks.{BitMask, IsMask, lies_in, sixteenth, own_mask, least_uid_in};
+ghost use Rattle.vic_frame.specs.Masks.{BitMask, IsMask, LiesIn, lies_in, sixteenth, own_mask, least_uid_in};
 
 use crate::uid::Uid;
 use std::marker::Model;
 
-/// The low bits that a UID is asked for.
+/// The low bits that a UID must have: how many, from 0 to 64, and their value.
+///
+/// A mask of at most 56 bits holds `2^(56 - len)` UIDs, a longer one at most one, since it fixes
+/// bits of E0. `ISO/IEC 15693-3, Inventory request` (mask length and mask value).
 #[derive(Clone, Copy, Debug, PartialEq, Eq)]
 pub struct Mask {
     len: u8,
@@ -24,31 +27,9 @@ impl Model for Mask {
     ghost inverse = { λ m. record { len = m.len; value = m.value } };
 }
 
-/// The low `len` bits of a number.
-fn low_bits(number: u64, len: u8) -> u64
-    requires { len ≤ 64 }
-    ensures { result ≡ number % 2 ^ len }
-{
-    if len < 64 {
-        number % (1 << len)
-    } else {
-        number
-    }
-}
-
-/// The number of a slot above `len` bits.
-fn slot_number(k: u8, len: u8) -> u64
-    requires slot { k ≤ 15 }
-    requires short { len ≤ 60 }
-    ensures value { result ≡ k * 2 ^ len }
-    ensures fits { result + 2 ^ len ≤ 2 ^ (len + 4) }
-    ensures small { 2 ^ (len + 4) ≤ 2 ^ 64 }
-{
-    u64::from(k) << len
-}
-
 impl Mask {
-    /// The mask of a length and a value, if they make one.
+    /// The mask of `len` bits with this value; `None` where `len` is above 64, or `value` has a
+    /// bit above the lowest `len`.
     pub fn new(len: u8, value: u64) -> Option<Mask>
         ensures { SomeIff result (IsMask (record { len = len; value = value })) (record { len = len; value = value }) }
     {
@@ -61,7 +42,8 @@ impl Mask {
 
     /// The mask of 56 bits that holds this UID and no other.
     pub fn of(uid: Uid) -> Mask
-        ensures { result ≡ own_mask uid }
+        ensures value { result ≡ own_mask uid }
+        ensures alone { (u : ℕ) → IsUid u → lies_in result u ≡ (u == uid) }
     {
         Mask {
             len: 56,
@@ -69,7 +51,7 @@ impl Mask {
         }
     }
 
-    /// How many bits it fixes.
+    /// How many bits it fixes, from 0 to 64.
     pub fn len(&self) -> u8
         ensures value { result ≡ self.now.len }
         ensures is_mask { IsMask self.now }
@@ -77,7 +59,7 @@ impl Mask {
         self.len
     }
 
-    /// The value of those bits.
+    /// The value of those bits, below `2^len`.
     pub fn value(&self) -> u64
         ensures value { result ≡ self.now.value }
         ensures is_mask { IsMask self.now }
@@ -85,7 +67,9 @@ impl Mask {
         self.value
     }
 
-    /// Whether a UID lies in it.
+    /// Whether the UID lies in it: whether its low bits are the mask's.
+    ///
+    /// `ISO/IEC 15693-3, inventory sequence`.
     pub fn matches(&self, uid: Uid) -> bool
         ensures value { result ≡ lies_in self.now uid }
         ensures is_uid { IsUid uid }
@@ -93,7 +77,10 @@ impl Mask {
         low_bits(uid.number(), self.len) == self.value
     }
 
-    /// The mask of slot `k` of sixteen, if it has one.
+    /// The mask of slot `k` of sixteen: four bits more, the number of the slot above the value.
+    /// `None` where the mask has more than 60 bits, or `k` is above 15.
+    ///
+    /// `ISO/IEC 15693-3, inventory sequence`.
     pub fn slot(&self, k: u8) -> Option<Mask>
         ensures { SomeIff result ((self.now.len ≤ 60) × (k ≤ 15)) (sixteenth self.now k) }
     {
@@ -106,10 +93,13 @@ impl Mask {
             None
         }
     }
-    /// The least UID in it.
+
+    /// The least UID in it. A mask of more than 56 bits may hold none.
     pub fn least_uid(&self) -> Uid
         requires { self.now.len ≤ 56 }
         ensures value { result ≡ least_uid_in self.now }
+        ensures inside { LiesIn self.now result }
+        ensures least { (u : ℕ) → IsUid u → LiesIn self.now u → result ≤ u }
         ensures range { IsUid result }
     {
         let Some(uid) = Uid::new((0xE0 << 56) + self.value) else {
@@ -119,7 +109,7 @@ impl Mask {
     }
 }
 
-/// The mask of at most 56 bits that holds the same UIDs, if the mask holds any.
+/// The mask of at most 56 bits that holds the same UIDs; `None` where the mask holds no UID.
 pub fn low_mask(mask: &Mask) -> Option<Mask>
     ensures short { IfSome result (λ m. IsMask m × (m.len ≤ 56)) }
     ensures same { IfSome result (λ m. (u : ℕ) → IsUid u → lies_in m u ≡ lies_in mask.now u) }
@@ -137,4 +127,27 @@ pub fn low_mask(mask: &Mask) -> Option<Mask>
     } else {
         None
     }
+}
+
+/// The low `len` bits of a number.
+fn low_bits(number: u64, len: u8) -> u64
+    requires { len ≤ 64 }
+    ensures { result ≡ number % 2 ^ len }
+{
+    if len < 64 {
+        number % (1 << len)
+    } else {
+        number
+    }
+}
+
+/// The number of a slot, standing above `len` bits.
+fn slot_number(k: u8, len: u8) -> u64
+    requires slot { k ≤ 15 }
+    requires short { len ≤ 60 }
+    ensures value { result ≡ k * 2 ^ len }
+    ensures fits { result + 2 ^ len ≤ 2 ^ (len + 4) }
+    ensures small { 2 ^ (len + 4) ≤ 2 ^ 64 }
+{
+    u64::from(k) << len
 }

@@ -1,26 +1,27 @@
-//! Laws on masks: how they nest, part, and how many UIDs they hold.
+//! Laws on masks: how they lie to each other, and how many UIDs they hold.
 
 ghost use Rattle.std.specs.Prelude.{◌≡◌, ℕ, ◌<◌, ◌≤◌};
 ghost use Rattle.vic_frame.specs.Uids.{IsUid};
 ghost use Rattle.vic_frame.specs.Masks.{BitMask, IsMask, LiesIn};
 ghost use Rattle.vic_frame.specs.MaskLaws.{NestedOrApart, IsParted, HoldsAtMostOne};
 
-/// The shorter of two masks holds the longer one, or they hold no common UID.
+/// Of two masks the shorter one holds all that the longer one does, or they hold no UID in common.
 pub fn nested_or_apart()
     ensures { (m n : BitMask) → IsMask m → IsMask n → m.len ≤ n.len → NestedOrApart m n }
 {}
 
-/// The two halves of a mask part it.
+/// A mask is parted by the two masks of one bit more: what lies in it lies in one of them, and in
+/// no two.
 pub fn halves_part()
     ensures { (m : BitMask) (u : ℕ) → IsMask m → IsParted m u }
 {}
 
-/// A mask longer than 56 bits holds at most one UID, since the bits above are those of E0.
+/// A mask of more than 56 bits holds at most one UID: it fixes every bit in which UIDs differ.
 pub fn long_masks_hold_at_most_one()
     ensures { (m : BitMask) → 56 < m.len → HoldsAtMostOne m }
 {}
 
-/// A mask of at most 56 bits holds a UID.
+/// A mask of at most 56 bits holds at least one UID.
 pub fn short_masks_hold_one()
     ensures { (m : BitMask) → IsMask m → m.len ≤ 56 → (u : ℕ) × IsUid u × LiesIn m u }
 {}

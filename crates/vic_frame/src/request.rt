@@ -1,4 +1,4 @@
-//! What a reader sends.
+//! What a reader sends: who shall answer, and in which slots.
 
 ghost use Rattle.std.specs.Prelude.{◌≡◌, ℕ, ◌<◌, ◌↔◌, IsTrue, SomeIff};
 ghost use Rattle.vic_frame.specs.Requests.{IsValid};
@@ -6,15 +6,22 @@ ghost use Rattle.vic_frame.specs.Slots.{slot_count, mask_in, slot_mask};
 
 use crate::mask::Mask;
 
-/// A request that a reader sends.
+/// A request of a reader. `link`, from 0 to 3, is the sub-carrier flag and twice the data rate
+/// flag; it does not change who answers.
 #[derive(Clone, Copy, Debug, PartialEq, Eq)]
 pub enum Request {
+    /// Each tag that is ready and lies in the mask of a slot answers in that slot. There are
+    /// sixteen slots or one; with sixteen the mask has at most 60 bits. `ISO/IEC 15693-3,
+    /// Inventory request`.
     Inventory { link: u8, sixteen: bool, mask: Mask },
+    /// The tag with this UID answers no more. The number may be no UID, and then no tag has it.
+    /// `ISO/IEC 15693-3, Stay Quiet`.
     StayQuiet { link: u8, uid: u64 },
 }
 
 impl Request {
-    /// Whether it can be sent.
+    /// Whether it has a frame: `link` is at most 3, and with sixteen slots the mask has at most 60
+    /// bits.
     pub fn is_valid(&self) -> bool
         ensures { IsTrue result ↔ IsValid self.now }
     {
@@ -28,7 +35,7 @@ impl Request {
         }
     }
 
-    /// How many slots it opens.
+    /// How many slots it opens: 1 or 16, and 0 for Stay Quiet.
     pub fn slots(&self) -> u8
         ensures { result ≡ slot_count self.now }
     {
@@ -38,7 +45,9 @@ impl Request {
         }
     }
 
-    /// The mask of slot `k`, if the request is valid and has that slot.
+    /// The mask of slot `k`; `None` where the request is not valid, or has no such slot.
+    ///
+    /// `ISO/IEC 15693-3, inventory sequence`.
     pub fn slot_mask(&self, k: u8) -> Option<Mask>
         ensures mask { SomeIff result (IsValid self.now × (k < slot_count self.now)) (mask_in self.now k) }
         ensures valid { IsValid self.now → result ≡ slot_mask self.now k }

@@ -1,4 +1,4 @@
-//! Requests as bytes.
+//! Requests as frames.
 
 ghost use Rattle.std.specs.Prelude.{◌≡◌, ℕ, ◌≤◌, Ok, Err, IfOk, IfErr, Some, length};
 ghost use Rattle.vic_frame.specs.Bytes.{bytes_of};
@@ -15,7 +15,33 @@ use crate::mask::Mask;
 use crate::request::Request;
 use arrayvec::ArrayVec;
 
-/// The first fault that a request of any command can have.
+/// The request that the bytes spell, or the first fault of a request that applies.
+///
+/// `ISO/IEC 15693-3, Inventory request` and `.. Stay Quiet`.
+pub fn read_request(bytes: &[u8]) -> Result<Request, FrameFault>
+    ensures reading { result ≡ request_reading bytes.now }
+    ensures found { IfOk result (λ q. SpellsRequest bytes.now q) }
+    ensures only { (q : Request) → SpellsRequest bytes.now q → result ≡ Ok q }
+    ensures fault { IfErr result (λ e. first_fault (request_faults bytes.now) ≡ Some e) }
+{
+    read_fields(bytes)
+}
+
+/// What the fields hold, whatever the frame, or the first fault that applies.
+fn read_fields(bytes: &[u8]) -> Result<Request, FrameFault>
+    ensures { result ≡ request_reading bytes.now }
+{
+    if let Some(fault) = head_fault(bytes) {
+        return Err(fault);
+    }
+    if bytes[1] == 1 {
+        read_inventory(bytes)
+    } else {
+        read_stay_quiet(bytes)
+    }
+}
+
+/// The first fault that applies of those that a request of any command can have.
 fn head_fault(bytes: &[u8]) -> Option<FrameFault>
     ensures { result ≡ first_fault (head_faults bytes.now) }
 {
@@ -45,7 +71,7 @@ fn head_fault(bytes: &[u8]) -> Option<FrameFault>
     None
 }
 
-/// Reads an Inventory request whose head has no fault.
+/// The fields of an Inventory request, or the first fault of its own that applies.
 fn read_inventory(bytes: &[u8]) -> Result<Request, FrameFault>
     requires { 4 ≤ length bytes.now }
     ensures { result ≡ fault_or (first_fault (inventory_faults bytes.now)) (inventory_in bytes.now) }
@@ -77,7 +103,7 @@ fn read_inventory(bytes: &[u8]) -> Result<Request, FrameFault>
     })
 }
 
-/// Reads a Stay Quiet request whose head has no fault.
+/// The fields of a Stay Quiet request, or the first fault of its own that applies.
 fn read_stay_quiet(bytes: &[u8]) -> Result<Request, FrameFault>
     requires { 4 ≤ length bytes.now }
     ensures { result ≡ fault_or (first_fault (stay_quiet_faults bytes.now)) (stay_quiet_in bytes.now) }
@@ -98,28 +124,18 @@ fn read_stay_quiet(bytes: &[u8]) -> Result<Request, FrameFault>
     })
 }
 
-/// What the fields hold, or the first fault.
-fn read_fields(bytes: &[u8]) -> Result<Request, FrameFault>
-    ensures { result ≡ request_reading bytes.now }
+/// The one spelling of a valid request: 5 to 13 bytes for Inventory, 12 for Stay Quiet.
+///
+/// `ISO/IEC 15693-3, Inventory request` and `.. Stay Quiet`.
+pub fn write_request(request: &Request) -> ArrayVec<u8, 13>
+    requires { IsValid request.now }
+    ensures spells { SpellsRequest result.items request.now }
+    ensures items { result.items ≡ request_spelling request.now }
 {
-    if let Some(fault) = head_fault(bytes) {
-        return Err(fault);
-    }
-    if bytes[1] == 1 {
-        read_inventory(bytes)
-    } else {
-        read_stay_quiet(bytes)
-    }
-}
-
-/// The request that the bytes spell.
-pub fn read_request(bytes: &[u8]) -> Result<Request, FrameFault>
-    ensures reading { result ≡ request_reading bytes.now }
-    ensures found { IfOk result (λ q. SpellsRequest bytes.now q) }
-    ensures only { (q : Request) → SpellsRequest bytes.now q → result ≡ Ok q }
-    ensures fault { IfErr result (λ e. first_fault (request_faults bytes.now) ≡ Some e) }
-{
-    read_fields(bytes)
+    let mut out = body(request);
+    let code = crc(out.as_slice());
+    push_number(&mut out, 2, u64::from(code));
+    out
 }
 
 /// The bytes before the CRC.
@@ -149,17 +165,5 @@ fn body(request: &Request) -> ArrayVec<u8, 13>
             push_number(&mut out, 8, uid);
         }
     }
-    out
-}
-
-/// The one spelling of a request.
-pub fn write_request(request: &Request) -> ArrayVec<u8, 13>
-    requires { IsValid request.now }
-    ensures spells { SpellsRequest result.items request.now }
-    ensures items { result.items ≡ request_spelling request.now }
-{
-    let mut out = body(request);
-    let code = crc(out.as_slice());
-    push_number(&mut out, 2, u64::from(code));
     out
 }

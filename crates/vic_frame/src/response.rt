@@ -1,4 +1,4 @@
-//! What a tag replies.
+//! What one tag answers.
 
 ghost use Rattle.std.specs.Prelude.{◌≡◌, ℕ, ◌%◌, SomeIff};
 ghost use Rattle.vic_frame.specs.Replies.{Reply, IsReply};
@@ -6,7 +6,10 @@ ghost use Rattle.vic_frame.specs.Replies.{Reply, IsReply};
 use crate::uid::Uid;
 use std::marker::Model;
 
-/// A tag's reply to an Inventory request.
+/// A tag's reply to an Inventory request: its flags, of which the lowest, Error_flag, is 0, its
+/// DSFID and its UID. The other flags and the DSFID are carried and not judged.
+///
+/// `ISO/IEC 15693-3, Inventory response`.
 #[derive(Clone, Copy, Debug, PartialEq, Eq)]
 pub struct Response {
     flags: u8,
@@ -25,7 +28,7 @@ impl Model for Response {
 }
 
 impl Response {
-    /// A reply without an error, if the flags say so.
+    /// The reply with these fields; `None` where Error_flag, the lowest bit of `flags`, is 1.
     pub fn new(flags: u8, dsfid: u8, uid: Uid) -> Option<Response>
         ensures { SomeIff result (flags % 2 ≡ 0) (record { flags = flags; dsfid = dsfid; uid = uid }) }
     {
@@ -36,7 +39,7 @@ impl Response {
         }
     }
 
-    /// The flags.
+    /// The response flags; the lowest, Error_flag, is 0.
     pub fn flags(&self) -> u8
         ensures value { result ≡ self.now.flags }
         ensures is_reply { IsReply self.now }
@@ -44,7 +47,7 @@ impl Response {
         self.flags
     }
 
-    /// The DSFID.
+    /// The data storage format identifier.
     pub fn dsfid(&self) -> u8
         ensures value { result ≡ self.now.dsfid }
         ensures is_reply { IsReply self.now }
@@ -52,7 +55,7 @@ impl Response {
         self.dsfid
     }
 
-    /// The UID.
+    /// The UID that the tag gives.
     pub fn uid(&self) -> Uid
         ensures value { result ≡ self.now.uid }
         ensures is_reply { IsReply self.now }

@@ -1,4 +1,4 @@
-//! Replies as bytes.
+//! Replies as frames.
 
 ghost use Rattle.std.specs.Prelude.{◌≡◌, ℕ, Ok, Err, IfOk, IfErr, Some};
 ghost use Rattle.vic_frame.specs.Replies.{Reply, SpellsReply, reply_spelling};
@@ -12,7 +12,19 @@ use crate::response::Response;
 use crate::uid::Uid;
 use arrayvec::ArrayVec;
 
-/// What the fields hold, or the first fault.
+/// The reply that the bytes spell, or the first fault of a reply that applies.
+///
+/// `ISO/IEC 15693-3, Inventory response`.
+pub fn read_response(bytes: &[u8]) -> Result<Response, FrameFault>
+    ensures reading { result ≡ reply_reading bytes.now }
+    ensures found { IfOk result (λ r. SpellsReply bytes.now r) }
+    ensures only { (r : Reply) → SpellsReply bytes.now r → result ≡ Ok r }
+    ensures fault { IfErr result (λ e. first_fault (reply_faults bytes.now) ≡ Some e) }
+{
+    read_fields(bytes)
+}
+
+/// What the fields hold, or the first fault that applies.
 fn read_fields(bytes: &[u8]) -> Result<Response, FrameFault>
     ensures { result ≡ reply_reading bytes.now }
 {
@@ -35,17 +47,9 @@ fn read_fields(bytes: &[u8]) -> Result<Response, FrameFault>
     Ok(response)
 }
 
-/// The reply that the bytes spell.
-pub fn read_response(bytes: &[u8]) -> Result<Response, FrameFault>
-    ensures reading { result ≡ reply_reading bytes.now }
-    ensures found { IfOk result (λ r. SpellsReply bytes.now r) }
-    ensures only { (r : Reply) → SpellsReply bytes.now r → result ≡ Ok r }
-    ensures fault { IfErr result (λ e. first_fault (reply_faults bytes.now) ≡ Some e) }
-{
-    read_fields(bytes)
-}
-
 /// The one spelling of a reply.
+///
+/// `ISO/IEC 15693-3, Inventory response`.
 pub fn write_response(response: &Response) -> [u8; 12]
     ensures spells { SpellsReply result response.now }
     ensures items { result ≡ reply_spelling response.now }

@@ -1,11 +1,14 @@
-//! UIDs.
+//! The UIDs of tags.
 
 ghost use Rattle.std.specs.Prelude.{◌≡◌, ℕ, ◌*◌, ◌^◌, ◌≤◌, SomeIff};
 ghost use Rattle.vic_frame.specs.Uids.{IsUid};
 
 use std::marker::Model;
 
-/// A UID.
+/// A tag's UID: a number of 64 bits whose most significant byte is E0.
+///
+/// The next byte is the manufacturer's code, and 48 bits of serial number follow; neither is
+/// judged. UIDs are in the order of their numbers. `ISO/IEC 15693-3, unique identifier`.
 #[derive(Clone, Copy, Debug, PartialEq, Eq, PartialOrd, Ord)]
 pub struct Uid {
     number: u64,
@@ -21,6 +24,7 @@ impl Model for Uid {
     ghost inverse = { λ n. record { number = n } };
 }
 
+/// The least UID, E000000000000000: what an `ArrayVec` of UIDs fills its free places with.
 impl Default for Uid {
     ghost is_default = { λ u. u ≡ 0xE0 * 2 ^ 56 };
 
@@ -30,7 +34,7 @@ impl Default for Uid {
 }
 
 impl Uid {
-    /// The UID of a number, if its top byte is E0.
+    /// The UID with this number; `None` where the most significant byte is not E0.
     pub fn new(number: u64) -> Option<Uid>
         ensures { SomeIff result (IsUid number) number }
     {
@@ -41,7 +45,7 @@ impl Uid {
         }
     }
 
-    /// Its number.
+    /// Its number, of which the most significant byte is E0.
     pub fn number(&self) -> u64
         ensures value { result ≡ self.now }
         ensures range { IsUid self.now }
