@@ -1,0 +1,60 @@
+-- A slot line in a round has a mask.
+use Rattle.std.proofs.Common.{◌≡◌, ℕ, suc, ◌-◌, ◌<◌, List, true, Option, Some, None, refl, ap, sym, ◌∙◌, ◌++◌, arith}
+use Rattle.std.specs.Prelude.{◌↔◌, if◌then◌else◌, ltb, slice_get}
+use Rattle.std.proofs.lemmas.Bool.{lt-ltb}
+use Rattle.vic_frame.specs.Masks.{BitMask}
+use Rattle.vic_log.specs.declared.entry.Entry.{Entry}
+use Rattle.vic_frame.specs.Slots.{slot_count, mask_in}
+use Rattle.vic_log.specs.Rounds.{opener, slots_opened, left_since, slots_left, mask_of_slot, mask_since, mask_at, IsInRound}
+use Rattle.vic_log.specs.Order.{IsInOrder}
+use Rattle.vic_log.specs.declared.entry.Entry.TheVariants.{Sent, Silent, Collision, Heard, Listed, Garbled, FieldCycle}
+use Rattle.vic_log.proofs.Places.{agree_append, agree_upto, opener_agrees, opener_below}
+use Rattle.std.proofs.lemmas.Option.{slice_get_within}
+use Rattle.std.proofs.Math.Nat.{le_of_lt}
+
+pub mask_at-in_round : (es : List Entry) (i : ℕ) → IsInRound es i → (m : BitMask) × (mask_at es i ≡ Some m)
+mask_at-in_round es i r =
+    let k = i - suc r.0 in
+    let e : ltb k (slot_count r.1) ≡ true = lt-ltb k (slot_count r.1) r.4 in
+    (mask_in r.1 k, ap (mask_since es i) r.2 ∙ (ap (λ o. mask_of_slot o k) r.3 ∙ ap (λ b. if b then Some (mask_in r.1 k) else None) e))
+
+pub still_there : (es fs : List Entry) (i : ℕ) (e : Entry) → slice_get es i ≡ Some e → slice_get (es ++ fs) i ≡ Some e
+still_there es fs i e k = sym (agree_append es fs i (slice_get_within es i e k)) ∙ k
+
+-- what entries in order begin with is in order
+pub IsInOrder-front : (es fs : List Entry) → IsInOrder (es ++ fs) → IsInOrder es
+IsInOrder-front es fs o = record {
+  rounds = λ i e k r.
+      let within = slice_get_within es i e k in
+      let round = o.rounds i e (still_there es fs i e k) r in
+      let agree = agree_upto es fs i (le_of_lt within) in
+      let below = opener_below (es ++ fs) i round.0 round.2 in
+      (round.0, round.1, opener_agrees i es (es ++ fs) agree ∙ round.2, agree round.0 below ∙ round.3, round.4);
+  requests_first = λ i j u q lt a b. o.requests_first i j u q lt (still_there es fs i (Listed u) a) (still_there es fs j (Sent q) b);
+  cycles_first = λ i j u lt a b. o.cycles_first i j u lt (still_there es fs i (Listed u) a) (still_there es fs j FieldCycle b);
+  once = λ i j u w lt a b. o.once i j u w lt (still_there es fs i (Listed u) a) (still_there es fs j (Listed w) b);
+}
+
+-- a place is in a round exactly where a slot of the round is left
+slots_left-in_round : (es : List Entry) (i : ℕ) → IsInRound es i → 0 < slots_left es i
+slots_left-in_round es i r =
+    let left : slots_left es i ≡ slot_count r.1 - (i - suc r.0) = ap (left_since es i) r.2 ∙ ap (λ e. slots_opened e - (i - suc r.0)) r.3 in
+    let some = r.4 in
+    omega arith
+
+in_round_by : (es : List Entry) (i j : ℕ) → opener es i ≡ Some j → (e : Option Entry) → slice_get es j ≡ e → 0 < slots_opened e - (i - suc j) → IsInRound es i
+in_round_by es i j o None s h = absurd (omega arith)
+in_round_by es i j o (Some (Sent q)) s h = (j, q, o, s, omega arith)
+in_round_by es i j o (Some Silent) s h = absurd (omega arith)
+in_round_by es i j o (Some Collision) s h = absurd (omega arith)
+in_round_by es i j o (Some (Heard r)) s h = absurd (omega arith)
+in_round_by es i j o (Some (Listed u)) s h = absurd (omega arith)
+in_round_by es i j o (Some Garbled) s h = absurd (omega arith)
+in_round_by es i j o (Some FieldCycle) s h = absurd (omega arith)
+
+in_round_since : (es : List Entry) (i : ℕ) (o : Option ℕ) → opener es i ≡ o → 0 < left_since es i o → IsInRound es i
+in_round_since es i None e h = absurd (omega arith)
+in_round_since es i (Some j) e h = in_round_by es i j e (slice_get es j) refl h
+
+pub in_round-slots_left : (es : List Entry) (i : ℕ) → IsInRound es i ↔ (0 < slots_left es i)
+in_round-slots_left es i = (slots_left-in_round es i, in_round_since es i (opener es i) refl)

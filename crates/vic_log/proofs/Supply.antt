@@ -1,0 +1,125 @@
+-- A population meets the slots where its members are open and it supplies what the slots ask for.
+use Rattle.std.proofs.Common.{◌≡◌, ℕ, List, [], ◌∷◌, Bool, true, false, refl, sym, ap, ◌∙◌, subst, ⊎_elim}
+use Rattle.std.specs.Prelude.{◌≢◌, ◌↔◌}
+use Rattle.std.specs.List.{list_all}
+use Rattle.std.proofs.lemmas.Bool.{eqb-true, eq-eqb, leb-true, ltb-true, le-leb, lt-ltb, and_parts, and_from, false≢true, both_ways}
+use Rattle.vic_frame.specs.Uids.{has, is_uid, IsUid}
+use Rattle.vic_log.specs.Populations.{IsPopulation, Lone, outcome_of}
+use Rattle.vic_log.specs.Slots.{Reading, NoReply, OneReply, ManyReplies, SomeReply, Slot, ReadingFits, Meets, MeetsAll, may_be, allows, is_open, Asks, Supplies, SuppliesAll}
+use Rattle.vic_log.proofs.Sets.{IsWithin, Distinct, has_here, has_at, has_there, has_cases, has_filter, filter_has, Distinct-filter, Distinct-population, IsUid-member}
+
+-- ---- one slot, by the tags that answer in it
+
+only_member : (u x : ℕ) → has (x ∷ []) u ≡ true → u ≡ x
+only_member u x h = ⊎_elim (λ e. e) (λ k. absurd (false≢true k)) (has_cases u x [] h)
+
+two_differ : (x y : ℕ) (q : List ℕ) → Distinct (x ∷ y ∷ q) → x ≢ y
+two_differ x y q d e = both_ways (has (y ∷ q) x) d.0 (has_at x y q e)
+
+fits_allows : (r : Reading) (q : List ℕ) → ReadingFits r (outcome_of q) → (u : ℕ) → has q u ≡ true → may_be r true u ≡ true
+fits_allows NoReply [] f u h = absurd (false≢true h)
+fits_allows NoReply (x ∷ []) f u h = cc
+fits_allows NoReply (x ∷ y ∷ q) f u h = cc
+fits_allows (OneReply w) [] f u h = cc
+fits_allows (OneReply w) (x ∷ []) f u h = let e : x ≡ w = cc in eq-eqb u w (only_member u x h ∙ e)
+fits_allows (OneReply w) (x ∷ y ∷ q) f u h = cc
+fits_allows ManyReplies q f u h = refl
+fits_allows SomeReply q f u h = refl
+
+pub fits_asks : (r : Reading) (q : List ℕ) → Distinct q → ReadingFits r (outcome_of q) → Asks r (has q)
+fits_asks NoReply q d f = tt
+fits_asks (OneReply w) [] d f = cc
+fits_asks (OneReply w) (x ∷ []) d f = let e : w ≡ x = cc in has_at w x [] e
+fits_asks (OneReply w) (x ∷ y ∷ q) d f = cc
+fits_asks ManyReplies [] d f = cc
+fits_asks ManyReplies (x ∷ []) d f = cc
+fits_asks ManyReplies (x ∷ y ∷ q) d f =
+    (x, y, two_differ x y q d, has_here x (y ∷ q), has_there y x (y ∷ q) (has_here y q))
+fits_asks SomeReply [] d f = absurd (f refl)
+fits_asks SomeReply (x ∷ q) d f = (x, has_here x q)
+
+asks_fits : (r : Reading) (q : List ℕ) → Distinct q → ((u : ℕ) → has q u ≡ true → may_be r true u ≡ true) → Asks r (has q) → ReadingFits r (outcome_of q)
+asks_fits NoReply [] d m a = refl
+asks_fits NoReply (x ∷ q) d m a = absurd (false≢true (m x (has_here x q)))
+asks_fits (OneReply w) [] d m a = absurd (false≢true a)
+asks_fits (OneReply w) (x ∷ []) d m a = ap Lone (eqb-true x w (m x (has_here x [])))
+asks_fits (OneReply w) (x ∷ y ∷ q) d m a =
+    let e = eqb-true x w (m x (has_here x (y ∷ q))) in
+    let k = eqb-true y w (m y (has_there y x (y ∷ q) (has_here y q))) in
+    absurd (two_differ x y q d (e ∙ sym k))
+asks_fits ManyReplies [] d m a = absurd (false≢true a.3)
+asks_fits ManyReplies (x ∷ []) d m a = absurd (a.2 (only_member a.0 x a.3 ∙ sym (only_member a.1 x a.4)))
+asks_fits ManyReplies (x ∷ y ∷ q) d m a = refl
+asks_fits SomeReply [] d m a = absurd (false≢true a.1)
+asks_fits SomeReply (x ∷ []) d m a = λ e. cc
+asks_fits SomeReply (x ∷ y ∷ q) d m a = λ e. cc
+
+-- ---- one slot, by the population
+
+pub asks_within : (r : Reading) (s t : ℕ → Bool) → IsWithin s t → Asks r s → Asks r t
+asks_within NoReply s t k a = tt
+asks_within (OneReply w) s t k a = k w a
+asks_within ManyReplies s t k a = (a.0, a.1, a.2, k a.0 a.3, k a.1 a.4)
+asks_within SomeReply s t k a = (a.0, k a.0 a.1)
+
+may_be_aside : (r : Reading) (u : ℕ) → may_be r false u ≡ true
+may_be_aside NoReply u = refl
+may_be_aside (OneReply w) u = refl
+may_be_aside ManyReplies u = refl
+may_be_aside SomeReply u = refl
+
+allows_by : (r : Reading) (b : Bool) (u : ℕ) → (b ≡ true → may_be r true u ≡ true) → may_be r b u ≡ true
+allows_by r true u h = h refl
+allows_by r false u h = may_be_aside r u
+
+pub Meets-allows : (p : List ℕ) (s : Slot) → Meets p s → (u : ℕ) → has p u ≡ true → allows u s ≡ true
+Meets-allows p s m u h =
+    allows_by s.reading (s.answers u) u
+    (λ e. fits_allows s.reading _ m u (filter_has s.answers p u (and_from _ _ h e)))
+
+pub Meets-supplies : (p : List ℕ) (s : Slot) → Distinct p → Meets p s → Supplies (has p) s
+Meets-supplies p s d m =
+    asks_within s.reading _ _ (has_filter s.answers p) (fits_asks s.reading _ (Distinct-filter s.answers p d) m)
+
+pub Supplies-meets : (p : List ℕ) (s : Slot) → Distinct p → ((u : ℕ) → has p u ≡ true → allows u s ≡ true) → Supplies (has p) s → Meets p s
+Supplies-meets p s d k a =
+    asks_fits s.reading _ (Distinct-filter s.answers p d)
+    (λ u h. let w = and_parts (has p u) (s.answers u) (has_filter s.answers p u h) in subst (λ b. may_be s.reading b u ≡ true) w.1 (k u w.0))
+    (asks_within s.reading _ _ (filter_has s.answers p) a)
+
+pub Supplies-within : (s t : ℕ → Bool) (x : Slot) → IsWithin s t → Supplies s x → Supplies t x
+Supplies-within s t x k a =
+    asks_within x.reading _ _ (λ u h. let w = and_parts (s u) (x.answers u) h in and_from _ _ (k u w.0) w.1) a
+
+-- ---- all slots
+
+pub SuppliesAll-within : (s t : ℕ → Bool) (slots : List Slot) → IsWithin s t → SuppliesAll s slots → SuppliesAll t slots
+SuppliesAll-within s t [] k a = tt
+SuppliesAll-within s t (x ∷ slots) k a = (Supplies-within s t x k a.0, SuppliesAll-within s t slots k a.1)
+
+MeetsAll-allows : (p : List ℕ) (slots : List Slot) → MeetsAll p slots → (u : ℕ) → has p u ≡ true → list_all (allows u) slots ≡ true
+MeetsAll-allows p [] m u h = refl
+MeetsAll-allows p (s ∷ slots) m u h = and_from _ _ (Meets-allows p s m.0 u h) (MeetsAll-allows p slots m.1 u h)
+
+MeetsAll-supplies : (p : List ℕ) (slots : List Slot) → Distinct p → MeetsAll p slots → SuppliesAll (has p) slots
+MeetsAll-supplies p [] d m = tt
+MeetsAll-supplies p (s ∷ slots) d m = (Meets-supplies p s d m.0, MeetsAll-supplies p slots d m.1)
+
+MeetsAll-from : (p : List ℕ) (slots : List Slot) → Distinct p → ((u : ℕ) → has p u ≡ true → list_all (allows u) slots ≡ true) → SuppliesAll (has p) slots → MeetsAll p slots
+MeetsAll-from p [] d k a = tt
+MeetsAll-from p (s ∷ slots) d k a =
+    (Supplies-meets p s d (λ u h. (and_parts _ _ (k u h)).0) a.0, MeetsAll-from p slots d (λ u h. (and_parts _ _ (k u h)).1) a.1)
+
+pub is_uid_from : (u : ℕ) → IsUid u → is_uid u ≡ true
+is_uid_from u h = and_from _ _ (le-leb _ _ h.0) (lt-ltb _ _ h.1)
+
+pub IsUid-from : (u : ℕ) → is_uid u ≡ true → IsUid u
+IsUid-from u h = let w = and_parts _ _ h in (leb-true _ _ w.0, ltb-true _ _ w.1)
+
+-- a population meets all slots exactly where its members are open and it supplies what the slots ask for
+pub MeetsAll-iff : (p : List ℕ) (slots : List Slot) → IsPopulation p → MeetsAll p slots ↔ (IsWithin (has p) (is_open slots) × SuppliesAll (has p) slots)
+MeetsAll-iff p slots q =
+    let d = Distinct-population p q in (
+      (λ m. ((λ u h. and_from _ _ (is_uid_from u (IsUid-member p u q h)) (MeetsAll-allows p slots m u h)), MeetsAll-supplies p slots d m)),
+      (λ w. MeetsAll-from p slots d (λ u h. (and_parts _ _ (w.0 u h)).1) w.1),
+    )

@@ -1,0 +1,47 @@
+-- Populations of tags, which of them answer, and which populations could have given a log's entries.
+use Rattle.std.specs.Prelude.{◌≡◌, ◌≢◌, ℕ, Bool, false, not, ◌&&◌, Some, List, [], ◌∷◌, ⊤, slice_get}
+use Rattle.std.specs.List.{filter}
+use Rattle.vic_frame.specs.Uids.{IsUid, has}
+use Rattle.vic_log.specs.declared.entry.Entry.{Entry}
+use Rattle.vic_log.specs.declared.entry.Entry.TheVariants.{Sent, Silent, Collision, Heard, Listed, Garbled, FieldCycle}
+use Rattle.vic_log.specs.Rounds.{mask_at, lies_in_some}
+use Rattle.vic_log.specs.Quiet.{is_quiet}
+
+-- a population: different UIDs
+abbrev pub IsPopulation : List ℕ → Type 0
+IsPopulation [] = ⊤
+IsPopulation (u ∷ us) = IsUid u × (has us u ≡ false) × IsPopulation us
+
+-- a tag with this UID answers in the slot at place i, where it is in the field: it is Ready, and lies in the slot's mask
+abbrev pub answers_at : List Entry → ℕ → ℕ → Bool
+answers_at es i u = lies_in_some (mask_at es i) u && not (is_quiet es i u)
+
+-- what happens in a slot
+pub data Outcome : Type 0 where
+  Nobody : Outcome
+  Lone : (uid : ℕ) → Outcome
+  Several : Outcome
+
+-- the outcome where these tags answer
+abbrev pub outcome_of : List ℕ → Outcome
+outcome_of [] = Nobody
+outcome_of (u ∷ []) = Lone u
+outcome_of (u ∷ v ∷ us) = Several
+
+-- the outcome of the slot at place i in a population
+abbrev pub outcome_at : List Entry → ℕ → List ℕ → Outcome
+outcome_at es i p = outcome_of (filter (answers_at es i) p)
+
+-- an entry fits an outcome of its slot; an entry that is no slot line fits any
+abbrev pub Fits : Entry → Outcome → Type 0
+Fits Silent o = o ≡ Nobody
+Fits (Heard r) o = o ≡ Lone r.uid
+Fits Collision o = o ≡ Several
+Fits Garbled o = o ≢ Nobody
+Fits (Sent q) o = ⊤
+Fits (Listed u) o = ⊤
+Fits FieldCycle o = ⊤
+
+-- every slot line fits the outcome of its slot
+abbrev pub CouldHaveGiven : List ℕ → List Entry → Type 0
+CouldHaveGiven p es = (i : ℕ) (e : Entry) → slice_get es i ≡ Some e → Fits e (outcome_at es i p)

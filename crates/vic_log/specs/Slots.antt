@@ -1,0 +1,113 @@
+-- What a log says, slot by slot, without its requests and places: for each slot line, which tags would answer, and
+-- what was read. And which UIDs that leaves open.
+use Rattle.std.specs.Prelude.{◌≡◌, ◌≢◌, ◌⊎◌, ℕ, zero, suc, ◌==◌, Bool, true, not, ◌&&◌, ◌||◌, Option, Some, None, List, [], ◌∷◌, ⊤, slice_get, length}
+use Rattle.std.specs.List.{list_all, filter, AllByRecursion}
+use Rattle.vic_log.specs.declared.entry.Entry.{Entry}
+use Rattle.vic_log.specs.declared.entry.Entry.TheVariants.{Sent, Silent, Collision, Heard, Listed, Garbled, FieldCycle}
+use Rattle.vic_frame.specs.Uids.{is_uid, has}
+use Rattle.vic_log.specs.Populations.{IsPopulation, answers_at, Outcome, Nobody, Lone, Several, outcome_of}
+
+-- what was read in a slot
+pub data Reading : Type 0 where
+  NoReply : Reading
+  OneReply : (uid : ℕ) → Reading
+  ManyReplies : Reading
+  SomeReply : Reading
+
+pub record Slot : Type 0 where
+  pub answers : ℕ → Bool  -- the UIDs of the tags that answer, where they are in the field
+  pub reading : Reading
+
+-- the reading of a slot line
+abbrev pub reading_of : Entry → Option Reading
+reading_of Silent = Some NoReply
+reading_of (Heard r) = Some (OneReply r.uid)
+reading_of Collision = Some ManyReplies
+reading_of Garbled = Some SomeReply
+reading_of (Sent q) = None
+reading_of (Listed u) = None
+reading_of FieldCycle = None
+
+-- one slot more, where there is one
+abbrev pub with_reading : (ℕ → Bool) → Option Reading → List Slot → List Slot
+with_reading answers None slots = slots
+with_reading answers (Some r) slots = record { answers = answers; reading = r } ∷ slots
+
+abbrev pub with_entry : (ℕ → Bool) → Option Entry → List Slot → List Slot
+with_entry answers None slots = slots
+with_entry answers (Some e) slots = with_reading answers (reading_of e) slots
+
+-- the slots of the first n entries, the last one first
+abbrev pub slots_before : List Entry → ℕ → List Slot
+slots_before es zero = []
+slots_before es (suc i) = with_entry (answers_at es i) (slice_get es i) (slots_before es i)
+
+-- the slots of all entries
+abbrev pub slots_of : List Entry → List Slot
+slots_of es = slots_before es (length es)
+
+-- a reading fits an outcome
+abbrev pub ReadingFits : Reading → Outcome → Type 0
+ReadingFits NoReply o = o ≡ Nobody
+ReadingFits (OneReply h) o = o ≡ Lone h
+ReadingFits ManyReplies o = o ≡ Several
+ReadingFits SomeReply o = o ≢ Nobody
+
+-- every slot was read as an outcome of it in this population
+abbrev pub Meets : List ℕ → Slot → Type 0
+Meets p s = ReadingFits s.reading (outcome_of (filter s.answers p))
+
+abbrev pub MeetsAll : List ℕ → List Slot → Type 0
+MeetsAll p slots = AllByRecursion (Meets p) slots
+
+-- a tag that answers (or not) may be in the field, by this reading alone
+abbrev pub may_be : Reading → Bool → ℕ → Bool
+may_be NoReply answers u = not answers
+may_be (OneReply h) answers u = not answers || (u == h)
+may_be ManyReplies answers u = true
+may_be SomeReply answers u = true
+
+abbrev pub allows : ℕ → Slot → Bool
+allows u s = may_be s.reading (s.answers u) u
+
+-- the UID is open: no slot rules it out
+abbrev pub is_open : List Slot → ℕ → Bool
+is_open slots u = is_uid u && list_all (allows u) slots
+
+-- what a reading asks of the set of tags that could have answered
+abbrev pub Asks : Reading → (ℕ → Bool) → Type 0
+Asks NoReply t = ⊤
+Asks (OneReply h) t = t h ≡ true
+Asks ManyReplies t = (u v : ℕ) × (u ≢ v) × (t u ≡ true) × (t v ≡ true)
+Asks SomeReply t = (u : ℕ) × (t u ≡ true)
+
+-- the set of UIDs has the tags that the slot asks for
+abbrev pub Supplies : (ℕ → Bool) → Slot → Type 0
+Supplies set s = Asks s.reading (λ u. set u && s.answers u)
+
+abbrev pub SuppliesAll : (ℕ → Bool) → List Slot → Type 0
+SuppliesAll set slots = AllByRecursion (Supplies set) slots
+
+-- a population meets every slot
+abbrev pub ArePossible : List Slot → Type 0
+ArePossible slots = (p : List ℕ) × IsPopulation p × MeetsAll p slots
+
+-- some population that meets every slot has the UID
+abbrev pub MayHave : List Slot → ℕ → Type 0
+MayHave slots u = (p : List ℕ) × IsPopulation p × MeetsAll p slots × (has p u ≡ true)
+
+-- every population that meets every slot has the UID
+abbrev pub MustHave : List Slot → ℕ → Type 0
+MustHave slots u = (p : List ℕ) → IsPopulation p → MeetsAll p slots → has p u ≡ true
+
+-- the reading tells that the UID is there, where t are the UIDs that could have answered
+abbrev pub Forces : Reading → (ℕ → Bool) → ℕ → Type 0
+Forces NoReply t u = ⊥
+Forces (OneReply h) t u = h ≡ u
+Forces ManyReplies t u = (v : ℕ) × (v ≢ u) × (t u ≡ true) × (t v ≡ true) × ((w : ℕ) → t w ≡ true → (w ≡ u) ⊎ (w ≡ v))
+Forces SomeReply t u = (t u ≡ true) × ((w : ℕ) → t w ≡ true → w ≡ u)
+
+-- some slot tells that the UID is there, by the open UIDs
+abbrev pub IsForcedBy : (ℕ → Bool) → List Slot → ℕ → Type 0
+IsForcedBy set [] u = ⊥
+IsForcedBy set (s ∷ slots) u = Forces s.reading (λ w. set w && s.answers w) u ⊎ IsForcedBy set slots u

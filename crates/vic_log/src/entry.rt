@@ -1,0 +1,29 @@
+//! The entries of a log.
+
+use vic_frame::{Request, Response, Uid};
+
+/// What one line of a log says (profile).
+#[derive(Clone, Copy, PartialEq, Eq, Debug)]
+pub enum Entry {
+    /// `T`: a request was sent.
+    Sent(Request),
+    /// `S`: nobody answered in the next slot.
+    Silent,
+    /// `C`: two or more tags answered in the next slot.
+    Collision,
+    /// `R`: one tag answered in the next slot, and its reply was read.
+    Heard(Response),
+    /// `U`: the reader claims this UID.
+    Listed(Uid),
+    /// `D`, in version 2 alone: one or more tags answered in the next slot, and none was read.
+    Garbled,
+    /// `F`, in version 2 alone: the field was switched off and on.
+    FieldCycle,
+}
+
+/// An entry with the number of its line, from 2 to 1,000,000.
+#[derive(Clone, Copy, PartialEq, Eq, Debug)]
+pub struct LogLine {
+    pub number: u32,
+    pub item: Entry,
+}
