@@ -1,0 +1,17 @@
+pub mod Possibility
+pub mod Search
+pub mod Populations
+pub mod Decide
+pub mod Masks
+pub mod Verdicts
+pub mod Judging
+pub mod Passing
+pub mod Stands
+pub mod FirstLine
+pub mod Supplied
+pub mod Halving
+pub mod Inserted
+pub mod Failing
+pub mod Forced
+pub mod Listing
+pub mod Cases

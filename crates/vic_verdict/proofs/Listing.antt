@@ -1,0 +1,32 @@
+-- The UIDs that a log lists, line by line.
+use Rattle.std.proofs.Common.{◌≡◌, ℕ, zero, suc, ◌<◌, ◌≤◌, ◌+◌, List, [], ◌∷◌, ◌++◌, Some, length, take, refl, sym, ap, ◌∙◌, arith, append_assoc}
+use Rattle.std.specs.Prelude.{slice_get}
+use Rattle.vic_log.specs.declared.entry.Entry.{Entry}
+use Rattle.vic_log.specs.declared.entry.Entry.TheVariants.{Sent, Silent, Collision, Heard, Listed, Garbled, FieldCycle}
+use Rattle.vic_log.specs.declared.entry.LogLine.{LogLine}
+use Rattle.vic_log.specs.Order.{entries, listed, IsRisingFrom}
+
+listed_cons : (e : Entry) (es : List Entry) → listed (e ∷ es) ≡ listed (e ∷ []) ++ listed es
+listed_cons (Sent q) es = refl
+listed_cons Silent es = refl
+listed_cons Collision es = refl
+listed_cons (Heard r) es = refl
+listed_cons (Listed u) es = refl
+listed_cons Garbled es = refl
+listed_cons FieldCycle es = refl
+
+-- one line more
+pub listed_more : (lines : List LogLine) (i : ℕ) (l : LogLine) → slice_get lines i ≡ Some l → listed (entries (take (suc i) lines)) ≡ listed (entries (take i lines)) ++ listed (l.item ∷ [])
+listed_more [] i l k = cc
+listed_more (x ∷ lines) zero l k = let same : x ≡ l = cc in ap (λ y. listed (y.item ∷ [])) same
+listed_more (x ∷ lines) (suc i) l k =
+    listed_cons x.item (entries (take (suc i) lines))
+    ∙ (ap (λ us. listed (x.item ∷ []) ++ us) (listed_more lines i l k)
+    ∙ (sym (append_assoc (listed (x.item ∷ [])) (listed (entries (take i lines))) (listed (l.item ∷ [])))
+    ∙ ap (λ us. us ++ listed (l.item ∷ [])) (sym (listed_cons x.item (entries (take i lines))))))
+
+-- each line's number is above its place
+pub number_above : (n : ℕ) (lines : List LogLine) (i : ℕ) (l : LogLine) → IsRisingFrom n lines → slice_get lines i ≡ Some l → n + i < l.number
+number_above n [] i l r k = cc
+number_above n (x ∷ lines) zero l r k = let same : x ≡ l = cc in let e = ap (λ y. y.number) same in let h = r.0 in omega arith
+number_above n (x ∷ lines) (suc i) l r k = let h = number_above x.number lines i l r.1 k in let b = r.0 in omega arith

@@ -1,0 +1,44 @@
+-- Possible logs, possible and certain UIDs, by the slots of a log.
+use Rattle.std.proofs.Common.{◌≡◌, ℕ, List, ◌++◌, Bool, true, Some, subst}
+use Rattle.std.specs.Prelude.{◌↔◌, slice_get}
+use Rattle.std.specs.List.{filter}
+use Rattle.std.proofs.lemmas.Bool.{and_parts}
+use Rattle.vic_frame.specs.Uids.{has}
+use Rattle.vic_frame.specs.Replies.{Reply}
+use Rattle.vic_log.specs.declared.entry.Entry.{Entry}
+use Rattle.vic_log.specs.declared.entry.Entry.TheVariants.{Heard}
+use Rattle.vic_log.specs.Populations.{answers_at}
+use Rattle.vic_log.specs.Slots.{slots_of, OneReply, ArePossible, MayHave, MustHave}
+use Rattle.vic_log.proofs.Sets.{has_filter, Distinct-filter, Distinct-population}
+use Rattle.vic_log.proofs.Supply.{fits_asks}
+use Rattle.vic_log.proofs.Places.{CouldHaveGiven-slots, CouldHaveGiven-front}
+use Rattle.vic_verdict.specs.Possible.{IsPossible, IsPossibleUid, IsCertainUid}
+
+pub IsPossible-slots : (es : List Entry) → IsPossible es ↔ ArePossible (slots_of es)
+IsPossible-slots es = (
+  (λ h. (h.0, h.1, (CouldHaveGiven-slots h.0 es).0 h.2)),
+  (λ h. (h.0, h.1, (CouldHaveGiven-slots h.0 es).1 h.2)),
+)
+
+pub IsPossibleUid-slots : (es : List Entry) (u : ℕ) → IsPossibleUid es u ↔ MayHave (slots_of es) u
+IsPossibleUid-slots es u = (
+  (λ h. (h.0, h.1, (CouldHaveGiven-slots h.0 es).0 h.2, h.3)),
+  (λ h. (h.0, h.1, (CouldHaveGiven-slots h.0 es).1 h.2, h.3)),
+)
+
+pub IsCertainUid-slots : (es : List Entry) (u : ℕ) → IsCertainUid es u ↔ MustHave (slots_of es) u
+IsCertainUid-slots es u = (
+  (λ h p i m. h p i ((CouldHaveGiven-slots p es).1 m)),
+  (λ h p i m. h p i ((CouldHaveGiven-slots p es).0 m)),
+)
+
+pub IsPossible-front : (es fs : List Entry) → IsPossible (es ++ fs) → IsPossible es
+IsPossible-front es fs h = (h.0, h.1, CouldHaveGiven-front h.0 es fs h.2)
+
+-- a UID that was heard is certain
+pub Heard-certain : (es : List Entry) (i : ℕ) (r : Reply) → slice_get es i ≡ Some (Heard r) → IsCertainUid es r.uid
+Heard-certain es i r k p q g =
+    let answers = answers_at es i in
+    let u = r.uid in
+    let there = fits_asks (OneReply u) (filter answers p) (Distinct-filter answers p (Distinct-population p q)) (g i (Heard r) k) in
+    (and_parts _ _ (has_filter answers p u there)).0

@@ -1,0 +1,323 @@
+-- Each log has exactly one verdict.
+use Rattle.std.proofs.Common.{◌≡◌, ℕ, suc, ◌<◌, ◌≤◌, ◌+◌, ◌^◌, List, [], ◌∷◌, ◌++◌, length, Bool, true, false, cond, not, ◌&&◌, refl, sym, ap, ◌∙◌, subst, arith, inl, inr, ⊎_elim}
+use Rattle.std.specs.Prelude.{◌⊎◌, ◌↔◌, nat_le, leb}
+use Rattle.std.specs.List.{filter}
+use Rattle.std.proofs.Math.Nat.{le_refl, le_of_lt}
+use Rattle.std.proofs.lemmas.Bool.{not-true, and_parts, and_from, cases_Bool, cases_lt, both_ways, false≢true, not_from_false, true_from_ne_false, le-leb, lt-leb, leb-true, leb-false}
+use Rattle.vic_frame.specs.Masks.{BitMask}
+use Rattle.vic_log.specs.declared.entry.Entry.{Entry}
+use Rattle.vic_log.specs.declared.entry.LogLine.{LogLine}
+use Rattle.vic_verdict.specs.declared.verdict.Verdict.{Verdict}
+use Rattle.vic_verdict.specs.declared.verdict.Verdict.TheVariants.{Impossible, Absent, Unlisted, Unsettled, Doubtful, Complete}
+use Rattle.vic_frame.specs.Masks.{lies_in}
+use Rattle.vic_frame.specs.Uids.{has, is_uid, IsUid}
+use Rattle.vic_verdict.specs.Possible.{IsPossible, IsPossibleUid, IsCertainUid}
+use Rattle.vic_log.specs.Slots.{slots_of, is_open}
+use Rattle.vic_log.specs.Order.{entries, IsRisingFrom, listed}
+use Rattle.vic_verdict.specs.Verdict.{entries_to, IsAbsent, IsUnlisted, IsUnsettled, IsDoubtful, IsLeast, IsWidest, NoSuch, IsVerdict, IsSettled, IsReached}
+use Rattle.vic_log.proofs.Sets.{has_cases, IsUid-member}
+use Rattle.vic_log.proofs.Supply.{is_uid_from, IsUid-from}
+use Rattle.vic_verdict.proofs.Search.{Either, test_either, false_either, not_either, and_either, search_below, least_of, least_or_none}
+use Rattle.vic_verdict.proofs.Populations.{uid_end, uid_below}
+use Rattle.vic_verdict.proofs.Possibility.{IsPossible-front, Heard-certain}
+use Rattle.vic_verdict.proofs.Decide.{IsPossible-either, IsPossibleUid-either, IsPossibleUid-iff, IsCertainUid-either}
+use Rattle.vic_verdict.proofs.Masks.{mask_of, mask_of-alone, mask_of-value, uid_in, IsUid-in, lies_in-uid_in}
+
+-- ---- the lines 1 to n
+
+pub none_to : (n k : ℕ) (lines : List LogLine) → n ≤ k → IsRisingFrom k lines → entries_to n lines ≡ []
+none_to n k [] h r = refl
+none_to n k (l ∷ lines) h r =
+    let above : n < l.number = omega (arith, r.0) in
+    let no : leb l.number n ≡ false = lt-leb l.number n above in
+    ap (λ b. entries (cond b (l ∷ filter (λ x. nat_le x.number n) lines) (filter (λ x. nat_le x.number n) lines))) no ∙ none_to n l.number lines (le_of_lt above) r.1
+
+-- with one line more in front, kept or left out
+abbrev pub line_kept : ℕ → LogLine → List LogLine → Bool → List Entry
+line_kept n l lines b = entries (cond b (l ∷ filter (λ x. nat_le x.number n) lines) (filter (λ x. nat_le x.number n) lines))
+
+-- the entries of the lines 1 to n are a front of those of the lines 1 to m
+pub entries_to_front : (n m k : ℕ) (lines : List LogLine) → n ≤ m → IsRisingFrom k lines → (rest : List Entry) × (entries_to n lines ++ rest ≡ entries_to m lines)
+entries_to_front n m k [] le r = ([], refl)
+entries_to_front n m k (l ∷ lines) le r =
+    let front = entries_to_front n m l.number lines le r.1 in
+    let all = entries_to m (l ∷ lines) in
+    ⊎_elim
+    (λ yes.
+    let within : l.number ≤ n = leb-true l.number n yes in
+    let yes' : leb l.number m ≡ true = le-leb l.number m (omega arith) in
+    (front.0, ap (λ b. line_kept n l lines b ++ front.0) yes ∙ (ap (λ es. l.item ∷ es) front.1 ∙ sym (ap (line_kept m l lines) yes'))))
+    (λ out. (all, ap (λ es. es ++ all) (ap (line_kept n l lines) out ∙ none_to n l.number lines (le_of_lt (leb-false l.number n out)) r.1)))
+    (cases_Bool (leb l.number n))
+
+-- a line number that no number is above
+last_line : List LogLine → ℕ
+last_line [] = 0
+last_line (l ∷ lines) = l.number + last_line lines
+
+all_to : (n : ℕ) (lines : List LogLine) → last_line lines ≤ n → entries_to n lines ≡ entries lines
+unfolding last_line
+all_to n [] h = refl
+all_to n (l ∷ lines) h =
+    let yes : leb l.number n ≡ true = le-leb l.number n (omega arith) in
+    ap (λ b. entries (cond b (l ∷ filter (λ x. nat_le x.number n) lines) (filter (λ x. nat_le x.number n) lines))) yes ∙ ap (λ es. l.item ∷ es) (all_to n lines (omega arith))
+
+-- the lines 1 to n are possible where more lines are
+pub possible_less : (lines : List LogLine) → IsRisingFrom 0 lines → (n m : ℕ) → n ≤ m → IsPossible (entries_to m lines) → IsPossible (entries_to n lines)
+possible_less lines r n m le p =
+    let front = entries_to_front n m 0 lines le r in
+    IsPossible-front (entries_to n lines) front.0 (subst IsPossible (sym front.1) p)
+
+-- a possible log has no impossible line
+pub possible_to : (lines : List LogLine) → IsRisingFrom 0 lines → IsPossible (entries lines) → (n : ℕ) → IsPossible (entries_to n lines)
+possible_to lines r p n =
+    let m = n + last_line lines in
+    possible_less lines r n m (omega arith) (subst IsPossible (sym (all_to m lines (omega arith))) p)
+
+-- ---- at most one verdict
+
+least_same : (P : ℕ → Type 0) (m n : ℕ) → IsLeast P m → IsLeast P n → m ≡ n
+least_same P m n h k = let a = h.1 n k.0 in let b = k.1 m h.0 in omega arith
+
+widest_same : (P : BitMask → Type 0) (m k : BitMask) → IsWidest P m → IsWidest P k → m ≡ k
+widest_same P m k h g =
+    let a = h.1 k g.0 in
+    let b = g.1 m h.0 in
+    let e : m.len ≡ k.len = omega arith in
+    let f : m.value ≡ k.value = omega arith in
+    λ i. record { len = e i; value = f i }
+
+impossible_not : (lines : List LogLine) → IsRisingFrom 0 lines → IsPossible (entries lines) → (n : ℕ) → IsLeast (λ k. IsPossible (entries_to k lines) → ⊥) n → ⊥
+impossible_not lines r p n h = h.0 (possible_to lines r p n)
+
+pub one_verdict : (lines : List LogLine) → IsRisingFrom 0 lines → (v w : Verdict) → IsVerdict lines v → IsVerdict lines w → v ≡ w
+one_verdict lines r (Impossible n1) (Impossible n2) h k = ap Impossible (least_same _ n1 n2 h k)
+one_verdict lines r (Impossible n1) (Absent u2) h k = absurd (impossible_not lines r k.0 n1 h)
+one_verdict lines r (Impossible n1) (Unlisted u2) h k = absurd (impossible_not lines r k.0 n1 h)
+one_verdict lines r (Impossible n1) (Unsettled m2) h k = absurd (impossible_not lines r k.0 n1 h)
+one_verdict lines r (Impossible n1) (Doubtful u2) h k = absurd (impossible_not lines r k.0 n1 h)
+one_verdict lines r (Impossible n1) (Complete c2) h k = absurd (impossible_not lines r k.0 n1 h)
+one_verdict lines r (Absent u1) (Impossible n2) h k = absurd (impossible_not lines r h.0 n2 k)
+one_verdict lines r (Absent u1) (Absent u2) h k = ap Absent (least_same (IsAbsent (entries lines)) u1 u2 h.1 k.1)
+one_verdict lines r (Absent u1) (Unlisted u2) h k = absurd (k.1 u1 h.1.0)
+one_verdict lines r (Absent u1) (Unsettled m2) h k = absurd (k.1 u1 h.1.0)
+one_verdict lines r (Absent u1) (Doubtful u2) h k = absurd (k.1 u1 h.1.0)
+one_verdict lines r (Absent u1) (Complete c2) h k = absurd (k.1 u1 h.1.0)
+one_verdict lines r (Unlisted u1) (Impossible n2) h k = absurd (impossible_not lines r h.0 n2 k)
+one_verdict lines r (Unlisted u1) (Absent u2) h k = absurd (h.1 u2 k.1.0)
+one_verdict lines r (Unlisted u1) (Unlisted u2) h k = ap Unlisted (least_same (IsUnlisted (entries lines)) u1 u2 h.2 k.2)
+one_verdict lines r (Unlisted u1) (Unsettled m2) h k = absurd (k.2 u1 h.2.0)
+one_verdict lines r (Unlisted u1) (Doubtful u2) h k = absurd (k.2 u1 h.2.0)
+one_verdict lines r (Unlisted u1) (Complete c2) h k = absurd (k.2 u1 h.2.0)
+one_verdict lines r (Unsettled m1) (Impossible n2) h k = absurd (impossible_not lines r h.0 n2 k)
+one_verdict lines r (Unsettled m1) (Absent u2) h k = absurd (h.1 u2 k.1.0)
+one_verdict lines r (Unsettled m1) (Unlisted u2) h k = absurd (h.2 u2 k.2.0)
+one_verdict lines r (Unsettled m1) (Unsettled m2) h k = ap Unsettled (widest_same (IsUnsettled (entries lines)) m1 m2 h.3 k.3)
+one_verdict lines r (Unsettled m1) (Doubtful u2) h k = absurd (k.3 m1 h.3.0)
+one_verdict lines r (Unsettled m1) (Complete c2) h k = absurd (k.3 m1 h.3.0)
+one_verdict lines r (Doubtful u1) (Impossible n2) h k = absurd (impossible_not lines r h.0 n2 k)
+one_verdict lines r (Doubtful u1) (Absent u2) h k = absurd (h.1 u2 k.1.0)
+one_verdict lines r (Doubtful u1) (Unlisted u2) h k = absurd (h.2 u2 k.2.0)
+one_verdict lines r (Doubtful u1) (Unsettled m2) h k = absurd (h.3 m2 k.3.0)
+one_verdict lines r (Doubtful u1) (Doubtful u2) h k = ap Doubtful (least_same (IsDoubtful (entries lines)) u1 u2 h.4 k.4)
+one_verdict lines r (Doubtful u1) (Complete c2) h k = absurd (k.4 u1 h.4.0)
+one_verdict lines r (Complete c1) (Impossible n2) h k = absurd (impossible_not lines r h.0 n2 k)
+one_verdict lines r (Complete c1) (Absent u2) h k = absurd (h.1 u2 k.1.0)
+one_verdict lines r (Complete c1) (Unlisted u2) h k = absurd (h.2 u2 k.2.0)
+one_verdict lines r (Complete c1) (Unsettled m2) h k = absurd (h.3 m2 k.3.0)
+one_verdict lines r (Complete c1) (Doubtful u2) h k = absurd (h.4 u2 k.4.0)
+one_verdict lines r (Complete c1) (Complete c2) h k = ap Complete (h.5 ∙ sym k.5)
+
+-- ---- at least one verdict
+
+-- a number above each member
+above : List ℕ → ℕ
+above [] = 0
+above (u ∷ us) = suc u + above us
+
+below_above : (us : List ℕ) (u : ℕ) → has us u ≡ true → u < above us
+unfolding above
+below_above [] u h = absurd (false≢true h)
+below_above (x ∷ us) u h =
+    ⊎_elim (λ e. omega arith) (λ k. let b = below_above us u k in omega arith) (has_cases u x us h)
+
+absent_or_none : (es : List Entry) → IsPossible es → ((u : ℕ) × IsLeast (IsAbsent es) u) ⊎ NoSuch (IsAbsent es)
+absent_or_none es p =
+    least_or_none (IsAbsent es)
+    (λ u. and_either (test_either (has (listed es) u)) (not_either (IsPossibleUid-either es u p)))
+    (above (listed es))
+    (λ u h. below_above (listed es) u h.0)
+
+certain_uid : (es : List Entry) (u : ℕ) → IsPossible es → IsCertainUid es u → IsUid u
+certain_uid es u p c = IsUid-member p.0 u p.1 (c p.0 p.1 p.2)
+
+unlisted_or_none : (es : List Entry) → IsPossible es → ((u : ℕ) × IsLeast (IsUnlisted es) u) ⊎ NoSuch (IsUnlisted es)
+unlisted_or_none es p =
+    least_or_none (IsUnlisted es)
+    (λ u. and_either (IsCertainUid-either es u p) (false_either (has (listed es) u)))
+    uid_end
+    (λ u h. uid_below u (certain_uid es u p h.0))
+
+doubtful_or_none : (es : List Entry) → IsPossible es → ((u : ℕ) × IsLeast (IsDoubtful es) u) ⊎ NoSuch (IsDoubtful es)
+doubtful_or_none es p =
+    least_or_none (IsDoubtful es)
+    (λ u. and_either (test_either (has (listed es) u)) (not_either (IsCertainUid-either es u p)))
+    (above (listed es))
+    (λ u h. below_above (listed es) u h.0)
+
+le_either : (a b : ℕ) → Either (a ≤ b)
+le_either a b = ⊎_elim (λ h. inr (λ k. omega arith)) (λ h. inl h) (cases_lt b a)
+
+-- a UID of the mask that isn't open, or is listed
+abbrev is_against : List Entry → BitMask → ℕ → Bool
+is_against es m u = (is_uid u && lies_in m u) && not (is_open (slots_of es) u && not (has (listed es) u))
+
+all_either : (es : List Entry) (m : BitMask) → IsPossible es → Either ((u : ℕ) → IsUid u → lies_in m u ≡ true → IsPossibleUid es u × (has (listed es) u ≡ false))
+all_either es m p =
+    ⊎_elim
+    (λ found.
+    let w = and_parts (is_uid found.0 && lies_in m found.0) _ found.2 in
+    let v = and_parts (is_uid found.0) (lies_in m found.0) w.0 in
+    inr (λ h.
+    let k = h found.0 (IsUid-from found.0 v.0) v.1 in
+    both_ways _ (not-true _ w.1) (and_from _ _ ((IsPossibleUid-iff es found.0 p).0 k.0) (not_from_false _ k.1))))
+    (λ none. inl (λ u i h.
+    let in' : is_uid u && lies_in m u ≡ true = and_from _ _ (is_uid_from u i) h in
+    let w = and_parts (is_open (slots_of es) u) (not (has (listed es) u)) (true_from_ne_false _ (λ e. both_ways _ (none u (uid_below u i)) (and_from _ _ in' (not_from_false _ e)))) in
+    ((IsPossibleUid-iff es u p).1 w.0, not-true _ w.1)))
+    (search_below (is_against es m) uid_end)
+
+unsettled_either : (es : List Entry) (m : BitMask) → IsPossible es → Either (IsUnsettled es m)
+unsettled_either es m p =
+    ⊎_elim
+    (λ short. ⊎_elim
+    (λ low. ⊎_elim
+    (λ all. inl (short, low, all))
+    (λ no. inr (λ h. no h.2))
+    (all_either es m p))
+    (λ no. inr (λ h. no h.1))
+    (le_either (suc m.value) (2 ^ m.len)))
+    (λ no. inr (λ h. no h.0))
+    (le_either m.len 56)
+
+-- a mask by its length and value
+abbrev mask : ℕ → ℕ → BitMask
+mask len value = record { len = len; value = value }
+
+-- the least value of an unsettled mask of this length
+value_or_none : (es : List Entry) (len : ℕ) → IsPossible es → ((v : ℕ) × IsLeast (λ w. IsUnsettled es (mask len w)) v) ⊎ NoSuch (λ w. IsUnsettled es (mask len w))
+value_or_none es len p =
+    least_or_none (λ w. IsUnsettled es (mask len w)) (λ w. unsettled_either es (mask len w) p) (2 ^ len) (λ w h. h.1)
+
+abbrev HasUnsettled : List Entry → ℕ → Type 0
+HasUnsettled es len = (v : ℕ) × IsUnsettled es (mask len v)
+
+length_either : (es : List Entry) (len : ℕ) → IsPossible es → Either (HasUnsettled es len)
+length_either es len p =
+    ⊎_elim (λ v. inl (v.0, v.1.0)) (λ none. inr (λ h. none h.0 h.1)) (value_or_none es len p)
+
+widest_from : (es : List Entry) (len v : ℕ) → IsLeast (HasUnsettled es) len → IsLeast (λ w. IsUnsettled es (mask len w)) v → IsWidest (IsUnsettled es) (mask len v)
+widest_from es len v l least = (
+  least.0,
+  λ k h. ⊎_elim
+      (λ lt. inl lt)
+      (λ ge.
+      let longer = l.1 k.len (k.value, h) in
+      let e : len ≡ k.len = omega arith in
+      inr (e, least.1 k.value (subst (λ n. IsUnsettled es (mask n k.value)) (sym e) h)))
+      (cases_lt len k.len),
+)
+
+unsettled_or_none : (es : List Entry) → IsPossible es → ((m : BitMask) × IsWidest (IsUnsettled es) m) ⊎ NoSuch (IsUnsettled es)
+unsettled_or_none es p =
+    ⊎_elim
+    (λ len. ⊎_elim
+    (λ v. inl (mask len.0 v.0, widest_from es len.0 v.0 len.1 v.1))
+    (λ none. absurd (none len.1.0.0 len.1.0.1))
+    (value_or_none es len.0 p))
+    (λ none. inr (λ m h. none m.len (m.value, h)))
+    (least_or_none (HasUnsettled es) (λ len. length_either es len p) 57 (λ len h. let short = h.1.0 in omega arith))
+
+abbrev HasVerdict : List LogLine → Type 0
+HasVerdict lines = (v : Verdict) × IsVerdict lines v
+
+possible_verdict : (lines : List LogLine) → IsPossible (entries lines) → HasVerdict lines
+possible_verdict lines p =
+    let es = entries lines in
+    ⊎_elim
+    (λ a. (Absent a.0, (p, a.1)))
+    (λ no_absent. ⊎_elim
+    (λ a. (Unlisted a.0, (p, no_absent, a.1)))
+    (λ no_unlisted. ⊎_elim
+    (λ m. (Unsettled m.0, (p, no_absent, no_unlisted, m.1)))
+    (λ no_unsettled. ⊎_elim
+    (λ a. (Doubtful a.0, (p, no_absent, no_unlisted, no_unsettled, a.1)))
+    (λ no_doubtful. (Complete (length (listed es)), (p, no_absent, no_unlisted, no_unsettled, no_doubtful, refl)))
+    (doubtful_or_none es p))
+    (unsettled_or_none es p))
+    (unlisted_or_none es p))
+    (absent_or_none es p)
+
+pub some_verdict : (lines : List LogLine) → HasVerdict lines
+some_verdict lines =
+    ⊎_elim
+    (λ p. possible_verdict lines p)
+    (λ no.
+    let last = last_line lines in
+    let n = least_of (λ k. IsPossible (entries_to k lines) → ⊥) (λ k. not_either (IsPossible-either (entries_to k lines))) last (subst (λ es. IsPossible es → ⊥) (sym (all_to last lines (le_refl last))) no) in
+    (Impossible n.0, n.1))
+    (IsPossible-either (entries lines))
+
+-- ---- the cases 4 and 6 in other words
+
+-- a mask is unsettled exactly where an unlisted UID is possible
+pub unsettled_iff : (es : List Entry) → ((m : BitMask) × IsUnsettled es m) ↔ ((u : ℕ) × IsPossibleUid es u × (has (listed es) u ≡ false))
+unsettled_iff es = (
+  (λ h. let m = h.0 in let w = h.1.2 (uid_in m) (IsUid-in m h.1.0 h.1.1) (lies_in-uid_in m h.1.0 h.1.1) in (uid_in m, w.0, w.1)),
+  (λ h.
+      let q = h.1 in
+      let i = IsUid-member q.0 h.0 q.1 q.3 in (
+        mask_of h.0,
+        (
+          le_refl 56,
+          mask_of-value h.0,
+          λ w j k.
+              let e = mask_of-alone h.0 w i j k in
+              subst (λ z. IsPossibleUid es z × (has (listed es) z ≡ false)) (sym e) (q, h.2),
+        ),
+      )),
+)
+
+-- a log is complete where it is settled
+pub complete_settled : (lines : List LogLine) (count : ℕ) → IsVerdict lines (Complete count) → IsSettled (entries lines)
+complete_settled lines count h =
+    let es = entries lines in (
+      h.0,
+      λ p i g u. (
+        (λ k. true_from_ne_false _ (λ e. let m = (unsettled_iff es).1 (u, (p, i, g, k), e) in h.3 m.0 m.1)),
+        (λ k. true_from_ne_false _ (λ e. h.4 u (k, λ c. both_ways _ e (c p i g)))),
+      ),
+    )
+
+pub settled_complete : (lines : List LogLine) → IsSettled (entries lines) → IsVerdict lines (Complete (length (listed (entries lines))))
+settled_complete lines h =
+    let p = h.0 in (
+      p,
+      (λ u a. a.1 (p.0, p.1, p.2, (h.1 p.0 p.1 p.2 u).1 a.0)),
+      (λ u a. both_ways _ a.1 ((h.1 p.0 p.1 p.2 u).0 (a.0 p.0 p.1 p.2))),
+      (λ m a. let w = (unsettled_iff (entries lines)).0 (m, a) in let q = w.1 in both_ways _ w.2 ((h.1 q.0 q.1 q.2 w.0).0 q.3)),
+      (λ u a. a.1 (λ q i g. (h.1 q i g u).1 a.0)),
+      refl,
+    )
+
+-- a log that is reached is complete
+pub reached_complete : (lines : List LogLine) → IsReached (entries lines) → IsVerdict lines (Complete (length (listed (entries lines))))
+reached_complete lines h =
+    let es = entries lines in
+    settled_complete lines (
+      h.0,
+      λ p i g u. (
+        (λ k. h.2 u (p, i, g, k)),
+        (λ k. let w = h.1 u k in subst (λ z. has p z ≡ true) w.3 (Heard-certain es w.0 w.1 w.2 p i g)),
+      ),
+    )

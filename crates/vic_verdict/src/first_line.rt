@@ -1,0 +1,39 @@
+//! The first line of a log that no population could have given.
+
+ghost use Rattle.std.specs.Prelude.{◌≡◌, ℕ, IfOk, MatchOption};
+ghost use Rattle.vic_log.specs.Order.{IsInOrder, entries, IsRisingFrom, AreValid};
+ghost use Rattle.vic_verdict.specs.Possible.{IsPossible};
+ghost use Rattle.vic_verdict.specs.Verdict.{IsVerdict};
+ghost use Rattle.vic_verdict.specs.declared.verdict.Verdict.TheVariants.{Impossible};
+
+use crate::possible::is_possible;
+use std::alloc::{AllocError, Global};
+use vic_log::LogLine;
+use vic_tree::OpenSet;
+
+/// The number of the first impossible line, or none where the log is possible.
+pub fn first_impossible_line<S: OpenSet>(
+    alloc: Global,
+    lines: &[LogLine],
+) -> Result<Option<u32>, AllocError>
+    requires order { IsInOrder (entries lines.now) }
+    requires valid { AreValid (entries lines.now) }
+    requires rising { IsRisingFrom 0 lines.now }
+    ensures { IfOk result (λ answer. MatchOption answer (IsPossible (entries lines.now)) (λ n. IsVerdict lines.now (Impossible n))) }
+{
+    if is_possible::<S>(alloc, lines)? {
+        return Ok(None);
+    }
+    let mut low = 0;
+    let mut high = lines.len();
+    while high - low > 1 {
+        let middle = low + (high - low) / 2;
+        let front = &lines[..middle];
+        if is_possible::<S>(alloc, front)? {
+            low = middle;
+        } else {
+            high = middle;
+        }
+    }
+    Ok(Some(lines[low].number))
+}

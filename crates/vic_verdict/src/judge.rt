@@ -1,0 +1,77 @@
+//! The verdict on a log.
+
+ghost use Rattle.std.specs.Prelude.{◌≡◌, ℕ, IfOk, OnOk, true, length};
+ghost use Rattle.std.specs.List.Sorted.{IsStrictlyIncreasing};
+ghost use Rattle.vic_frame.specs.Uids.{IsUid, has};
+ghost use Rattle.vic_tree.specs.OpenSet.{SameUids};
+ghost use Rattle.vic_verdict.specs.Possible.{IsPossible};
+ghost use Rattle.vic_log.specs.Order.{IsInOrder, entries, listed, IsRisingFrom, AreValid};
+ghost use Rattle.vic_verdict.specs.Verdict.{IsVerdict, IsSettled, IsReached};
+ghost use Rattle.vic_verdict.specs.Rising.{without_all};
+ghost use Rattle.vic_verdict.specs.declared.verdict.Verdict.{Verdict as VerdictValue};
+ghost use Rattle.vic_verdict.specs.declared.verdict.Verdict.TheVariants.{Complete};
+
+use crate::certain::certain_uids;
+use crate::first_line::first_impossible_line;
+use crate::listed::{count_listed, listed_uids};
+use crate::rising::{is_among, least_failing};
+use crate::settle::settle_all;
+use crate::verdict::Verdict;
+use std::alloc::{AllocError, Global};
+use vic_frame::{Mask, Uid};
+use vic_log::LogLine;
+use vic_tree::OpenSet;
+
+/// Takes the UIDs out of a set.
+pub fn take_out<S: OpenSet>(set: &mut S, uids: &[Uid]) -> Result<(), AllocError>
+    ensures { OnOk result (SameUids (S.is_open set.new) (without_all (S.is_open set.old) uids.now)) }
+{
+    for uid in uids {
+        let _number = uid.number();
+        set.settle(&Mask::of(*uid), &[])?;
+    }
+    Ok(())
+}
+
+/// The verdict on a possible log.
+fn judge_possible<S: OpenSet>(alloc: Global, lines: &[LogLine]) -> Result<Verdict, AllocError>
+    requires order { IsInOrder (entries lines.now) }
+    requires valid { AreValid (entries lines.now) }
+    requires rising { IsRisingFrom 0 lines.now }
+    requires possible { IsPossible (entries lines.now) }
+    ensures { IfOk result (λ v. IsVerdict lines.now v) }
+{
+    let mut set: S = settle_all(alloc, lines)?;
+    let certain = certain_uids(alloc, &set, lines)?;
+    let listed = listed_uids(alloc, lines)?;
+    if let Some(uid) = least_failing(&listed, |u| set.has(u)) {
+        return Ok(Verdict::Absent(uid));
+    }
+    if let Some(uid) = least_failing(&certain, |u| is_among(&listed, u)) {
+        return Ok(Verdict::Unlisted(uid));
+    }
+    take_out(&mut set, &listed)?;
+    if let Some(mask) = set.widest() {
+        return Ok(Verdict::Unsettled(mask));
+    }
+    if let Some(uid) = least_failing(&listed, |u| is_among(&certain, u)) {
+        return Ok(Verdict::Doubtful(uid));
+    }
+    let count = count_listed(lines);
+    Ok(Verdict::Complete { count })
+}
+
+/// The verdict on a log, over any set of open UIDs.
+pub fn judge_with<S: OpenSet>(alloc: Global, lines: &[LogLine]) -> Result<Verdict, AllocError>
+    requires order { IsInOrder (entries lines.now) }
+    requires valid { AreValid (entries lines.now) }
+    requires rising { IsRisingFrom 0 lines.now }
+    ensures verdict { IfOk result (λ v. IsVerdict lines.now v) }
+    ensures settled { IfOk result (λ v. (count : ℕ) → v ≡ Complete count → IsSettled (entries lines.now)) }
+    ensures reached { IfOk result (λ v. IsReached (entries lines.now) → v ≡ Complete (length (listed (entries lines.now)))) }
+{
+    if let Some(line) = first_impossible_line::<S>(alloc, lines)? {
+        return Ok(Verdict::Impossible { line });
+    }
+    judge_possible::<S>(alloc, lines)
+}

@@ -1,0 +1,47 @@
+//! Laws of the definitions. The functions do nothing: each stands for what its clauses say.
+
+ghost use Rattle.std.specs.Prelude.{◌≡◌, ◌↔◌, ℕ, ◌≤◌, List, ◌++◌, true, false, length};
+ghost use Rattle.vic_frame.specs.Uids.{has};
+ghost use Rattle.vic_log.specs.Populations.{IsPopulation, CouldHaveGiven};
+ghost use Rattle.vic_verdict.specs.Possible.{IsPossible, IsPossibleUid, IsCertainUid};
+ghost use Rattle.vic_log.specs.Slots.{slots_of, is_open, IsForcedBy, SuppliesAll};
+ghost use Rattle.vic_log.specs.Order.{entries, listed, IsRisingFrom};
+ghost use Rattle.vic_verdict.specs.Verdict.{entries_to, IsVerdict, IsUnsettled, IsSettled};
+ghost use Rattle.vic_log.specs.declared.entry.Entry.{Entry};
+ghost use Rattle.vic_log.specs.declared.entry.LogLine.{LogLine};
+ghost use Rattle.vic_frame.specs.Masks.{BitMask};
+ghost use Rattle.vic_verdict.specs.declared.verdict.Verdict.{Verdict};
+ghost use Rattle.vic_verdict.specs.declared.verdict.Verdict.TheVariants.{Complete};
+
+/// Entries are possible where their open UIDs supply what each slot asks for.
+pub fn possible_entries()
+    ensures { (es : List Entry) → IsPossible es ↔ SuppliesAll (is_open (slots_of es)) (slots_of es) }
+{}
+
+/// A UID is possible where it is open, and certain where some slot forces it.
+pub fn possible_and_certain_uids()
+    ensures possible { (es : List Entry) (u : ℕ) → IsPossible es → IsPossibleUid es u ↔ (is_open (slots_of es) u ≡ true) }
+    ensures certain { (es : List Entry) (u : ℕ) → IsPossible es → IsCertainUid es u ↔ IsForcedBy (is_open (slots_of es)) (slots_of es) u }
+{}
+
+/// What entries make impossible stays impossible when entries follow.
+pub fn impossible_stays()
+    ensures { (es more : List Entry) → (IsPossible es → ⊥) → IsPossible (es ++ more) → ⊥ }
+{}
+
+/// Each log has exactly one verdict.
+pub fn exactly_one_verdict()
+    ensures some { (lines : List LogLine) → (v : Verdict) × IsVerdict lines v }
+    ensures one { (lines : List LogLine) → IsRisingFrom 0 lines → (v w : Verdict) → IsVerdict lines v → IsVerdict lines w → v ≡ w }
+{}
+
+/// A mask is unsettled exactly where an unlisted UID is possible.
+pub fn unsettled_where_unlisted_is_possible()
+    ensures { (es : List Entry) → ((m : BitMask) × IsUnsettled es m) ↔ ((u : ℕ) × IsPossibleUid es u × (has (listed es) u ≡ false)) }
+{}
+
+/// A complete log is settled, and a settled log complete.
+pub fn complete_is_settled()
+    ensures sound { (lines : List LogLine) (count : ℕ) → IsVerdict lines (Complete count) → IsSettled (entries lines) }
+    ensures exact { (lines : List LogLine) → IsSettled (entries lines) → IsVerdict lines (Complete (length (listed (entries lines)))) }
+{}

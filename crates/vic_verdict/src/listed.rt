@@ -1,0 +1,62 @@
+//! The UIDs that a log lists.
+
+ghost use Rattle.std.specs.Prelude.{◌≡◌, ℕ, ◌≤◌, IfOk, OnOk, length, true, [], ◌∷◌, ◌++◌};
+ghost use Rattle.std.specs.List.Sorted.{IsStrictlyIncreasing};
+ghost use Rattle.vic_frame.specs.Uids.{IsUid, has};
+ghost use Rattle.vic_log.specs.Order.{entries, listed, IsRisingFrom};
+ghost use Rattle.vic_verdict.specs.Rising.{SameMembers};
+
+use crate::rising::put_in_order;
+use std::alloc::{AllocError, Global};
+use vic_frame::Uid;
+use vic_log::{Entry, LogLine};
+
+/// Adds the UID that an entry lists.
+fn pass_listed(uids: &mut Vec<Uid>, entry: &Entry) -> Result<(), AllocError>
+    ensures items { OnOk result (uids.new.items ≡ uids.old.items ++ listed (entry.now ∷ [])) }
+    ensures uids { OnOk result ((u : ℕ) → has (listed (entry.now ∷ [])) u ≡ true → IsUid u) }
+{
+    if let Entry::Listed(uid) = *entry {
+        let _number = uid.number();
+        uids.push(uid)?;
+    }
+    Ok(())
+}
+
+/// The UIDs that a log lists, in rising order.
+pub fn listed_uids(alloc: Global, lines: &[LogLine]) -> Result<Vec<Uid>, AllocError>
+    ensures rising { IfOk result (λ v. IsStrictlyIncreasing v.items) }
+    ensures members { IfOk result (λ v. SameMembers v.items (listed (entries lines.now))) }
+    ensures uids { IfOk result (λ v. (u : ℕ) → has v.items u ≡ true → IsUid u) }
+{
+    let mut uids = Vec::new(alloc);
+    for line in lines {
+        pass_listed(&mut uids, &line.item)?;
+    }
+    put_in_order(&mut uids);
+    Ok(uids)
+}
+
+/// Whether an entry lists a UID, as a count.
+fn count_one(entry: &Entry) -> u32
+    ensures value { result ≡ length (listed (entry.now ∷ [])) }
+    ensures small { result ≤ 1 }
+{
+    match *entry {
+        Entry::Listed(_) => 1,
+        _ => 0,
+    }
+}
+
+/// How many UIDs a log lists.
+pub fn count_listed(lines: &[LogLine]) -> u32
+    requires { IsRisingFrom 0 lines.now }
+    ensures { result ≡ length (listed (entries lines.now)) }
+{
+    let mut count = 0;
+    for line in lines {
+        let _number = line.number;
+        count += count_one(&line.item);
+    }
+    count
+}
