@@ -1,0 +1,3 @@
+pub mod Populations
+pub mod Tags
+pub mod Keys
