@@ -16,7 +16,7 @@ use Rattle.vic_frame.specs.Uids.{IsUid, has}
 use Rattle.vic_frame.specs.LowBitsFirst.{mirror_bits, mirror, uid_of}
 use Rattle.vic_frame.proofs.MirrorLaws.{mirror_below, mirror_of_uid, uid_of_mirror, same_test}
 use Rattle.vic_field.specs.Keys.{tags_of}
-use Rattle.vic_field.specs.Populations.{IsPopulation}
+use Rattle.vic_log.specs.Populations.{IsPopulation}
 use Rattle.vic_field.specs.Tags.{uids}
 
 -- a key of 56 bits

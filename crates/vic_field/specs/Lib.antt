@@ -1,3 +1,2 @@
-pub mod Populations
 pub mod Tags
 pub mod Keys

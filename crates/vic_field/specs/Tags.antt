@@ -10,7 +10,7 @@ use Rattle.vic_field.specs.declared.field.AddFault.{AddFault}
 use Rattle.vic_field.specs.declared.field.AddFault.TheVariants.{Already, Memory}
 use Rattle.vic_field.specs.declared.field.Outcome.{Outcome as Told}
 use Rattle.vic_field.specs.declared.field.Outcome.TheVariants.{Silent as ToldSilent, Lone as ToldLone, Several as ToldSeveral}
-use Rattle.vic_field.specs.Populations.{Outcome, Nobody, Lone, Several, outcome_of}
+use Rattle.vic_log.specs.Populations.{Outcome, Nobody, Lone, Several, outcome_of}
 
 -- the UIDs of the tags
 abbrev pub uids : List (ℕ × Bool) → List ℕ

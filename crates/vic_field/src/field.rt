@@ -5,7 +5,7 @@ ghost use Rattle.std.specs.Option.{option_map};
 ghost use Rattle.std.specs.BTreeMap.{keys};
 ghost use Rattle.vic_field.specs.declared.field.AddFault.TheVariants.{Memory as NoRoom};
 ghost use Rattle.vic_field.specs.Keys.{AreKeys, ready_between};
-ghost use Rattle.vic_field.specs.Populations.{IsPopulation};
+ghost use Rattle.vic_log.specs.Populations.{IsPopulation};
 ghost use Rattle.vic_field.specs.Tags.{uids, readiness, ready_in, quiets, heard, RefusesTag};
 ghost use Rattle.vic_frame.specs.Uids.{IsUid, has};
 

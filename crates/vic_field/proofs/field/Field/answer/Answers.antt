@@ -1,6 +1,6 @@
 use Rattle.std.proofs.Common.{ℕ, Bool, List, ◌≡◌, ◌∙◌, ap, sym, subst}
 use Rattle.vic_field.specs.Keys.{ready_between}
-use Rattle.vic_field.specs.Populations.{IsPopulation}
+use Rattle.vic_log.specs.Populations.{IsPopulation}
 use Rattle.vic_field.specs.Tags.{uids, ready_in, heard}
 use Rattle.vic_field.proofs.Keys.{population_of}
 use Rattle.vic_field.proofs.TagLaws.{ready_of_mask, same_ready, none_ready}
