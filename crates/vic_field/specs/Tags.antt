@@ -1,0 +1,45 @@
+-- The tags of a field: the UID of each, and whether it is Ready (ISO/IEC 15693-3, states of a VICC).
+use Rattle.std.specs.Prelude.{◌≡◌, ℕ, Bool, true, false, List, ◌&&◌, map, Option, nat_eq}
+use Rattle.std.specs.List.{filter}
+use Rattle.std.specs.Map.{lookup}
+use Rattle.vic_frame.specs.declared.request.Request.{Request}
+use Rattle.vic_frame.specs.declared.request.Request.TheVariants.{Inventory, StayQuiet}
+use Rattle.vic_frame.specs.Masks.{BitMask, lies_in}
+use Rattle.vic_frame.specs.Uids.{has}
+use Rattle.vic_field.specs.declared.field.AddFault.{AddFault}
+use Rattle.vic_field.specs.declared.field.AddFault.TheVariants.{Already, Memory}
+use Rattle.vic_field.specs.declared.field.Outcome.{Outcome as Told}
+use Rattle.vic_field.specs.declared.field.Outcome.TheVariants.{Silent as ToldSilent, Lone as ToldLone, Several as ToldSeveral}
+use Rattle.vic_log.specs.Populations.{Outcome, Nobody, Lone, Several, outcome_of}
+
+-- the UIDs of the tags
+abbrev pub uids : List (ℕ × Bool) → List ℕ
+uids tags = map (λ t. t.0) tags
+
+-- whether the tag u is Ready, if it is there
+abbrev pub readiness : List (ℕ × Bool) → ℕ → Option Bool
+readiness tags u = lookup (nat_eq u) tags
+
+-- the Ready tags in a mask
+abbrev pub ready_in : BitMask → List (ℕ × Bool) → List ℕ
+ready_in m tags = map (λ t. t.0) (filter (λ t. lies_in m t.0 && t.1) tags)
+
+-- the request makes the tag u Quiet (ISO/IEC 15693-3, Stay Quiet)
+abbrev pub quiets : Request → ℕ → Bool
+quiets (StayQuiet link uid) u = nat_eq uid u
+quiets (Inventory link sixteen m) u = false
+
+-- an outcome, as a field tells it
+abbrev pub told : Outcome → Told
+told Nobody = ToldSilent
+told (Lone u) = ToldLone u
+told Several = ToldSeveral
+
+-- what is told where these tags answer
+abbrev pub heard : List ℕ → Told
+heard us = told (outcome_of us)
+
+-- why a field doesn't take the tag u: it is there, or there is no memory for one more
+abbrev pub RefusesTag : List (ℕ × Bool) → ℕ → AddFault → Type 0
+RefusesTag tags u Already = has (uids tags) u ≡ true
+RefusesTag tags u Memory = has (uids tags) u ≡ false

@@ -1,0 +1,6 @@
+//! Tags as machines: what a field of tags answers, and the log of a session with them.
+#![tactic(auto)]
+
+mod field;
+
+pub use field::{AddFault, Field, Outcome};
