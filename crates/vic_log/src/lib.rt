@@ -4,6 +4,7 @@
 pub mod devices;
 mod entry;
 mod fault;
+pub mod laws;
 mod line;
 mod log;
 mod read;
