@@ -19,9 +19,8 @@ use Rattle.vic_frame.specs.Reading.{request_in, reply_in}
 use Rattle.vic_frame.proofs.RequestLaws.{request_only}
 use Rattle.vic_frame.proofs.ReplyLaws.{reply_only}
 use Rattle.vic_log.specs.FirstVersion.{IsOfFirstVersion, AreOfFirstVersion}
-use Rattle.vic_log.specs.Log.{IsValidEntry}
+use Rattle.vic_log.specs.Log.{IsValidEntry, IsTyped, AreTyped}
 use Rattle.vic_log.specs.Order.{AreValid}
-use Rattle.vic_log.specs.Writing.{IsTyped, AreTyped}
 use Rattle.vic_log.proofs.FrameBytes.{AreBytes-request, length-request, AreBytes-reply, length-reply}
 use Rattle.vic_log.proofs.Written.{IsPlain, IsSpelled, AreSpelled}
 

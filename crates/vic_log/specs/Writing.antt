@@ -32,13 +32,3 @@ text_of es = joined (codes "vicinity-log 1" ∷ map entry_text es)
 abbrev pub numbered : ℕ → List Entry → List LogLine
 numbered n [] = []
 numbered n (e ∷ es) = record { number = n; item = e } ∷ numbered (suc n) es
-
--- the numbers that an entry's type leaves it
-abbrev pub IsTyped : Entry → Type 0
-IsTyped (Sent q) = IsInRange q
-IsTyped (Heard r) = IsReply r
-IsTyped (Listed u) = IsUid u
-IsTyped e = ⊤
-
-abbrev pub AreTyped : List Entry → Type 0
-AreTyped es = (i : ℕ) (e : Entry) → slice_get es i ≡ Some e → IsTyped e
