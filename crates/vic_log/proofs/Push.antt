@@ -16,7 +16,7 @@ use Rattle.vic_log.specs.declared.entry.Version.TheVariants.{V1}
 use Rattle.vic_log.specs.FirstVersion.{IsOfFirstVersion, AreOfFirstVersion}
 use Rattle.vic_log.specs.Rounds.{opener, slots_opened, left_since, slots_left, is_slot}
 use Rattle.vic_log.specs.Order.{IsInOrder, entries, listed, IsRisingFrom, AreValid, is_outside_round, is_empty, is_after_list, is_duplicate, refusal}
-use Rattle.vic_log.specs.Log.{last_from, IsValidEntry, IsLog, left_after, Keeps}
+use Rattle.vic_log.specs.Log.{last_from, IsValidEntry, IsTyped, AreTyped, IsLog, left_after, Keeps}
 use Rattle.vic_log.proofs.Places.{AgreeBefore, opener_agrees, opener_below, agree_append, slice_get_last, agree_upto}
 use Rattle.vic_log.proofs.Order.{in_round-slots_left}
 
@@ -167,6 +167,9 @@ rising-push n (x ∷ ls) l r h = (r.0, rising-push x.number ls l r.1 h)
 valid-push : (es : List Entry) (e : Entry) → AreValid es → IsValidEntry e → AreValid (es ++ e ∷ [])
 valid-push es e v h i q k = last_or es e (Sent q) i k (λ below here. v i q here) (λ same it. subst IsValidEntry it h)
 
+typed-push : (es : List Entry) (e : Entry) → AreTyped es → IsTyped e → AreTyped (es ++ e ∷ [])
+typed-push es e t h i f k = last_or es e f i k (λ below here. t i f here) (λ same it. subst IsTyped it h)
+
 first_version-push : (es : List Entry) (e : Entry) → AreOfFirstVersion es → IsOfFirstVersion e → AreOfFirstVersion (es ++ e ∷ [])
 first_version-push es e v h i f k = last_or es e f i k (λ below here. v i f here) (λ same it. subst IsOfFirstVersion it h)
 
@@ -182,28 +185,42 @@ last_from-last n (x ∷ y ∷ ls) l k =
 
 -- ---- what a log keeps
 
-pub IsLog-push : (v : Version) (ls : List LogLine) (l : LogLine) → IsLog v ls → refusal (entries ls) l.item ≡ None → last_from 1 ls < l.number → l.number ≤ 1000000 → IsValidEntry l.item → (v ≡ V1 → IsOfFirstVersion l.item) → IsLog v (ls ++ l ∷ [])
-IsLog-push v ls l g h above limit valid first = record {
+pub IsLog-push : (v : Version) (ls : List LogLine) (l : LogLine) → IsLog v ls → refusal (entries ls) l.item ≡ None → last_from 1 ls < l.number → l.number ≤ 1000000 → IsValidEntry l.item → IsTyped l.item → (v ≡ V1 → IsOfFirstVersion l.item) → IsLog v (ls ++ l ∷ [])
+IsLog-push v ls l g h above limit valid typed first = record {
   order = subst IsInOrder (sym (entries-push ls l)) (IsInOrder-push (entries ls) l.item g.order h);
   rising = rising-push 1 ls l g.rising above;
   limit = let e = last_from-push 1 ls l in omega arith;
   valid = subst AreValid (sym (entries-push ls l)) (valid-push (entries ls) l.item g.valid valid);
+  typed = subst AreTyped (sym (entries-push ls l)) (typed-push (entries ls) l.item g.typed typed);
   first_version = λ is. subst AreOfFirstVersion (sym (entries-push ls l)) (first_version-push (entries ls) l.item (g.first_version is) (first is));
 }
 
 pub Keeps-push : (v : Version) (ls : List LogLine) (l : LogLine) (index more : ℕ → Bool) (listing further : Bool) (left rest : ℕ) → Keeps v ls index listing left
-    → refusal (entries ls) l.item ≡ None → last_from 1 ls < l.number → l.number ≤ 1000000 → IsValidEntry l.item → (v ≡ V1 → IsOfFirstVersion l.item)
+    → refusal (entries ls) l.item ≡ None → last_from 1 ls < l.number → l.number ≤ 1000000 → IsValidEntry l.item → IsTyped l.item → (v ≡ V1 → IsOfFirstVersion l.item)
     → ((u : ℕ) → more u ≡ (index u || has (listed (l.item ∷ [])) u)) → further ≡ (listing || not (is_empty (listed (l.item ∷ [])))) → rest ≡ left_after left l.item
     → Keeps v (ls ++ l ∷ []) more further rest
-Keeps-push v ls l index more listing further left rest k h above limit valid first m f r =
+Keeps-push v ls l index more listing further left rest k h above limit valid typed first m f r =
     let es = entries ls in
     let es_is : entries (ls ++ l ∷ []) ≡ es ++ l.item ∷ [] = entries-push ls l in
     let listed_is : listed (entries (ls ++ l ∷ [])) ≡ listed es ++ listed (l.item ∷ []) = ap listed es_is ∙ listed-append es (l.item ∷ []) in
     let es_long : length es ≡ length ls = length-map ls (λ (x : LogLine). x.item) in
     let long : length (ls ++ l ∷ []) ≡ suc (length es) = length-append ls (l ∷ []) ∙ omega arith in
     record {
-      is_log = IsLog-push v ls l k.is_log h above limit valid first;
+      is_log = IsLog-push v ls l k.is_log h above limit valid typed first;
       index_is = λ u. m u ∙ (ap (λ b. b || has (listed (l.item ∷ [])) u) (k.index_is u) ∙ (sym (list_any-append (nat_eq u) (listed es) (listed (l.item ∷ []))) ∙ ap (λ us. has us u) (sym listed_is)));
       listing_is = f ∙ (ap (λ b. b || not (is_empty (listed (l.item ∷ [])))) k.listing_is ∙ (sym (empty-append (listed es) (listed (l.item ∷ []))) ∙ ap (λ us. not (is_empty us)) (sym listed_is)));
       left_is = r ∙ (ap (λ n. left_after n l.item) (k.left_is ∙ ap (slots_left es) (sym es_long)) ∙ (sym (slots_left-push es l.item) ∙ (ap (λ x. slots_left x (suc (length es))) (sym es_is) ∙ ap (slots_left (entries (ls ++ l ∷ []))) (sym long))));
     }
+
+-- ---- how many lines a log has
+
+pub rising_long : (n : ℕ) (ls : List LogLine) → IsRisingFrom n ls → n + length ls ≤ last_from n ls
+rising_long n [] r = omega arith
+rising_long n (l ∷ ls) r = let above = r.0 in let rest = rising_long l.number ls r.1 in omega arith
+
+pub IsLog-long : (v : Version) (ls : List LogLine) → IsLog v ls → length (entries ls) ≤ 999999
+IsLog-long v ls g =
+    let long = rising_long 1 ls g.rising in
+    let limit = g.limit in
+    let same : length (entries ls) ≡ length ls = length-map ls (λ (x : LogLine). x.item) in
+    omega arith

@@ -5,4 +5,9 @@ pub mod Slots
 pub mod Order
 pub mod FirstVersion
 pub mod Log
+pub mod Lines
+pub mod LineReading
+pub mod Text
+pub mod Early
+pub mod Writing
 pub mod Device

@@ -1,8 +1,9 @@
 -- What a log holds.
-use Rattle.std.specs.Prelude.{◌≡◌, ℕ, ◌≤◌, ◌-◌, Bool, not, Option, Some, List, [], ◌∷◌, ⊤, length}
-use Rattle.vic_frame.specs.Requests.{IsValid}
+use Rattle.std.specs.Prelude.{◌≡◌, ℕ, ◌≤◌, ◌-◌, Bool, not, Option, Some, List, [], ◌∷◌, ⊤, length, slice_get}
+use Rattle.vic_frame.specs.Requests.{IsInRange, IsValid}
+use Rattle.vic_frame.specs.Replies.{IsReply}
 use Rattle.vic_frame.specs.Slots.{slot_count}
-use Rattle.vic_frame.specs.Uids.{has}
+use Rattle.vic_frame.specs.Uids.{IsUid, has}
 use Rattle.vic_log.specs.declared.entry.Entry.{Entry}
 use Rattle.vic_log.specs.declared.entry.Entry.TheVariants.{Sent, Silent, Collision, Heard, Listed, Garbled, FieldCycle}
 use Rattle.vic_log.specs.declared.entry.LogLine.{LogLine}
@@ -19,12 +20,23 @@ abbrev pub last_from : ℕ → List LogLine → ℕ
 last_from n [] = n
 last_from n (l ∷ lines) = last_from l.number lines
 
--- the lines of a log: entries in order, on lines 2 to 1,000,000, and in version 1 no others than it knows
+-- an entry's numbers are in the ranges of their types
+abbrev pub IsTyped : Entry → Type 0
+IsTyped (Sent q) = IsInRange q
+IsTyped (Heard r) = IsReply r
+IsTyped (Listed u) = IsUid u
+IsTyped e = ⊤
+
+abbrev pub AreTyped : List Entry → Type 0
+AreTyped es = (i : ℕ) (e : Entry) → slice_get es i ≡ Some e → IsTyped e
+
+-- the lines of a log: entries in order, on lines 2 to 1,000,000, in version 1 no others than it knows
 pub record IsLog (version : Version) (lines : List LogLine) : Type 0 where
   pub order : IsInOrder (entries lines)
   pub rising : IsRisingFrom 1 lines
   pub limit : last_from 1 lines ≤ 1000000
   pub valid : AreValid (entries lines)
+  pub typed : AreTyped (entries lines)
   pub first_version : version ≡ V1 → AreOfFirstVersion (entries lines)
 
 -- a log as a value

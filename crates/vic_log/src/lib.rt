@@ -4,12 +4,17 @@
 pub mod devices;
 mod entry;
 mod fault;
+pub mod laws;
+mod line;
 mod log;
+mod read;
 mod sink;
 mod source;
 
 pub use entry::{Entry, LogLine, Version};
 pub use fault::{LineFault, LogFault, PushFault, WriteFault};
+pub use line::line_entry;
 pub use log::Log;
+pub use read::read_log;
 pub use sink::{Sink, ToWrite, write_whole};
 pub use source::{DeviceFault, FromRead, ReadFault, Source, read_whole};

@@ -1,0 +1,149 @@
+-- A text read line by line.
+use Rattle.std.proofs.Common.{◌≡◌, ℕ, zero, suc, ◌+◌, ◌<◌, ◌≤◌, Bool, true, false, Option, Some, None, Result, Ok, Err, List, [], ◌∷◌, ◌++◌, length, drop, refl, sym, ap, subst, ◌∙◌, arith, ⊎_elim, append-nil}
+use Rattle.std.specs.Prelude.{slice_get, nat_lt, if◌then◌else◌, ◌==◌}
+use Rattle.std.proofs.lemmas.Bool.{cases_eq, cases_lt, ltb-false, ne_eqb}
+use Rattle.std.proofs.lemmas.Option.{slice_get_past}
+use Rattle.vic_log.specs.declared.entry.Entry.{Entry}
+use Rattle.vic_log.specs.declared.entry.LogLine.{LogLine}
+use Rattle.vic_log.specs.declared.fault.LineFault.{LineFault}
+use Rattle.vic_log.specs.declared.fault.LineFault.TheVariants.{TooManyLines, Header}
+use Rattle.vic_log.specs.declared.fault.LogFault.{LogFault}
+use Rattle.vic_log.specs.declared.fault.LogFault.TheVariants.{Line, Read, Memory, Spent}
+use Rattle.vic_log.specs.Lines.{lines_of_text}
+use Rattle.vic_log.specs.Order.{entries}
+use Rattle.vic_log.specs.Log.{last_from}
+use Rattle.vic_log.specs.LineReading.{line_reading}
+use Rattle.vic_log.specs.Text.{line_fault, entry_line, logged, log_upto, fault_on, IsFirstFault, IsLogOf, Refuses, RefusesLine}
+use Rattle.vic_log.proofs.Push.{last_from-push}
+
+-- the first n lines have no fault, their log lines are these, and the other lines are the rest
+pub record HasRead (lines rest : List (List ℕ)) (log : List LogLine) (n : ℕ) : Type 0 where
+  pub rest_is : drop n lines ≡ rest
+  pub count : n + length rest ≡ length lines
+  pub log_is : log ≡ log_upto lines n
+  pub clean : (m : ℕ) → m ≤ n → fault_on lines m ≡ None
+  pub limit : n ≤ 1000000
+
+head_at : (n : ℕ) (xs : List (List ℕ)) (x : List ℕ) (rest : List (List ℕ)) → drop n xs ≡ x ∷ rest → slice_get xs n ≡ Some x
+head_at zero [] x rest h = cc
+head_at zero (y ∷ xs) x rest h = let same : y ≡ x = cc in ap Some same
+head_at (suc n) [] x rest h = cc
+head_at (suc n) (y ∷ xs) x rest h = head_at n xs x rest h
+
+tail_at : (n : ℕ) (xs : List (List ℕ)) (x : List ℕ) (rest : List (List ℕ)) → drop n xs ≡ x ∷ rest → drop (suc n) xs ≡ rest
+tail_at zero [] x rest h = cc
+tail_at zero (y ∷ xs) x rest h = let same : xs ≡ rest = cc in same
+tail_at (suc n) [] x rest h = cc
+tail_at (suc n) (y ∷ xs) x rest h = tail_at n xs x rest h
+
+pub HasRead-start : (lines : List (List ℕ)) → HasRead lines lines [] 0
+HasRead-start lines = record {
+  rest_is = refl;
+  count = omega arith;
+  log_is = refl;
+  clean = λ m le. let none : m ≡ 0 = omega arith in ap (fault_on lines) none;
+  limit = omega arith;
+}
+
+fault_next : (lines : List (List ℕ)) (line : List ℕ) (rest : List (List ℕ)) (log : List LogLine) (n : ℕ) → HasRead lines (line ∷ rest) log n → line_fault (entries log) (suc n) (Some line) ≡ fault_on lines (suc n)
+fault_next lines line rest log n r =
+    let at : slice_get lines n ≡ Some line = head_at n lines line rest r.rest_is in
+    ap (λ ls. line_fault (entries ls) (suc n) (Some line)) r.log_is ∙ ap (line_fault (entries (log_upto lines n)) (suc n)) (sym at)
+
+not_many : (b : Bool) (f : LineFault) (rest : Option LineFault) → (if b then Some f else rest) ≡ None → b ≡ false
+not_many true f rest h = cc
+not_many false f rest h = refl
+
+pub in_limit : (es : List Entry) (n : ℕ) (line : List ℕ) → line_fault es n (Some line) ≡ None → n ≤ 1000000
+in_limit es n line h = ltb-false 1000000 n (not_many (nat_lt 1000000 n) TooManyLines _ h)
+
+-- one line more without a fault
+pub HasRead-step : (lines : List (List ℕ)) (line : List ℕ) (rest : List (List ℕ)) (log : List LogLine) (n : ℕ) → HasRead lines (line ∷ rest) log n → line_fault (entries log) (suc n) (Some line) ≡ None → HasRead lines rest (log ++ logged (suc n) (Some line)) (suc n)
+HasRead-step lines line rest log n r h =
+    let at : slice_get lines n ≡ Some line = head_at n lines line rest r.rest_is in
+    let k : n + length (line ∷ rest) ≡ length lines = r.count in
+    record {
+      rest_is = tail_at n lines line rest r.rest_is;
+      count = omega arith;
+      log_is = ap (λ ls. ls ++ logged (suc n) (Some line)) r.log_is ∙ ap (λ o. log_upto lines n ++ logged (suc n) o) (sym at);
+      clean = λ m le. ⊎_elim
+          (λ same. ap (fault_on lines) same ∙ (sym (fault_next lines line rest log n r) ∙ h))
+          (λ ne. r.clean m (omega arith))
+          (cases_eq m (suc n));
+      limit = in_limit (entries log) (suc n) line h;
+    }
+
+-- a line with a fault
+pub HasRead-fault : (lines : List (List ℕ)) (line : List ℕ) (rest : List (List ℕ)) (log : List LogLine) (n : ℕ) (f : LineFault) → HasRead lines (line ∷ rest) log n → line_fault (entries log) (suc n) (Some line) ≡ Some f → IsFirstFault lines (suc n) f
+HasRead-fault lines line rest log n f r h = record {
+  here = sym (fault_next lines line rest log n r) ∙ h;
+  first = λ m lt. r.clean m (omega arith);
+}
+
+-- no line at all
+pub HasRead-empty : (lines : List (List ℕ)) (log : List LogLine) → HasRead lines [] log 0 → IsFirstFault lines 1 Header
+HasRead-empty lines log r =
+    let none : slice_get lines 0 ≡ None = slice_get_past lines 0 (let k : 0 + 0 ≡ length lines = r.count in omega arith) in
+    record {
+      here = ap (line_fault [] 1) none;
+      first = λ m lt. let zero_is : m ≡ 0 = omega arith in ap (fault_on lines) zero_is;
+    }
+
+past_end : (lines : List (List ℕ)) (k : ℕ) → 0 < k → length lines ≤ k → fault_on lines (suc k) ≡ None
+past_end lines (suc k) some le = ap (line_fault (entries (log_upto lines (suc k))) (suc (suc k))) (slice_get_past lines (suc k) le)
+    ∙ ap (λ b. if b then Some Header else None) (ne_eqb (suc (suc k)) 1 (λ e. absurd (omega arith)))
+past_end lines zero some le = absurd (omega arith)
+
+clean_all : (lines : List (List ℕ)) (n : ℕ) → 0 < n → length lines ≤ n → ((m : ℕ) → m ≤ n → fault_on lines m ≡ None) → (m : ℕ) → fault_on lines m ≡ None
+clean_all lines n some le clean zero = refl
+clean_all lines n some le clean (suc k) = ⊎_elim
+    (λ below. clean (suc k) (omega arith))
+    (λ above. past_end lines k (omega arith) (omega arith))
+    (cases_lt k n)
+
+-- all lines
+pub HasRead-end : (lines : List (List ℕ)) (log : List LogLine) (n : ℕ) → HasRead lines [] log n → 0 < n → IsLogOf lines log
+HasRead-end lines log n r some =
+    let k : n + 0 ≡ length lines = r.count in
+    let same : n ≡ length lines = omega arith in
+    record {
+      no_fault = clean_all lines n some (omega arith) r.clean;
+      all = r.log_is ∙ ap (log_upto lines) same;
+    }
+
+-- the last number of the log lines so far
+last_logged : (ls : List LogLine) (n k : ℕ) → last_from 1 ls ≤ k → k ≤ n → (r : Result (Option Entry) LineFault) → last_from 1 (ls ++ entry_line n r) ≤ n
+last_logged ls n k h le (Ok (Some e)) = let p = last_from-push 1 ls (record { number = n; item = e }) in omega arith
+last_logged ls n k h le (Ok None) = let p = ap (last_from 1) (append-nil ls) in omega arith
+last_logged ls n k h le (Err f) = let p = ap (last_from 1) (append-nil ls) in omega arith
+
+first_or : (ls : List LogLine) (n k : ℕ) (b : Bool) → last_from 1 ls ≤ k → k ≤ n → (r : Result (Option Entry) LineFault) → last_from 1 (ls ++ (if b then [] else entry_line n r)) ≤ n
+first_or ls n k true h le r = let p = ap (last_from 1) (append-nil ls) in omega arith
+first_or ls n k false h le r = last_logged ls n k h le r
+
+logged_last : (ls : List LogLine) (n k : ℕ) (o : Option (List ℕ)) → last_from 1 ls ≤ k → k ≤ n → last_from 1 (ls ++ logged n o) ≤ n
+logged_last ls n k None h le = let p = ap (last_from 1) (append-nil ls) in omega arith
+logged_last ls n k (Some line) h le = first_or ls n k (n == 1) h le (line_reading line)
+
+pub log_upto-last : (lines : List (List ℕ)) (k : ℕ) → last_from 1 (log_upto lines (suc k)) ≤ suc k
+log_upto-last lines zero = logged_last [] 1 1 (slice_get lines 0) (omega arith) (omega arith)
+log_upto-last lines (suc k) = logged_last (log_upto lines (suc k)) (suc (suc k)) (suc k) (slice_get lines (suc k)) (log_upto-last lines k) (omega arith)
+
+pub HasRead-above : (lines rest : List (List ℕ)) (log : List LogLine) (n : ℕ) → HasRead lines rest log n → 0 < n → last_from 1 log ≤ n
+HasRead-above lines rest log zero r some = absurd (omega arith)
+HasRead-above lines rest log (suc k) r some = let e = ap (last_from 1) r.log_is in let l = log_upto-last lines k in omega arith
+
+-- ---- the same at a number that is one more
+
+pub HasRead-next : (lines : List (List ℕ)) (line : List ℕ) (rest : List (List ℕ)) (log : List LogLine) (n m : ℕ) → HasRead lines (line ∷ rest) log n → m ≡ suc n → line_fault (entries log) m (Some line) ≡ None → HasRead lines rest (log ++ logged m (Some line)) m
+HasRead-next lines line rest log n m r e h =
+    subst (λ k. HasRead lines rest (log ++ logged k (Some line)) k) (sym e) (HasRead-step lines line rest log n r (ap (λ k. line_fault (entries log) k (Some line)) (sym e) ∙ h))
+
+pub HasRead-refuses : (text : List ℕ) (line : List ℕ) (rest : List (List ℕ)) (log : List LogLine) (n m : ℕ) → HasRead (lines_of_text text) (line ∷ rest) log n → m ≡ suc n → (fault : LogFault) → RefusesLine (line_fault (entries log) m (Some line)) m fault → Refuses text fault
+HasRead-refuses text line rest log n m r e (Line k f) h =
+    let lines = lines_of_text text in
+    let same : k ≡ suc n = h.0 ∙ e in
+    subst (λ (j : ℕ). IsFirstFault lines j f) (sym same) (HasRead-fault lines line rest log n f r (ap (λ j. line_fault (entries log) j (Some line)) (sym e) ∙ h.1))
+HasRead-refuses text line rest log n m r e Memory h = tt
+HasRead-refuses text line rest log n m r e Read h = h
+HasRead-refuses text line rest log n m r e Spent h = h

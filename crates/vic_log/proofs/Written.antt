@@ -1,0 +1,157 @@
+-- The text of a log reads back.
+use Rattle.std.proofs.Common.{◌≡◌, ℕ, zero, suc, ◌+◌, ◌-◌, ◌<◌, ◌≤◌, Bool, true, false, Option, Some, None, Ok, List, [], ◌∷◌, ◌++◌, length, take, refl, sym, ap, subst, ◌∙◌, arith, ⊎_elim, append_assoc, append-nil, length-append}
+use Rattle.std.specs.Prelude.{slice_get, slice_index, nat_eq, nat_lt, if◌then◌else◌, ◌==◌, ◌&&◌, ◌||◌, map, codes, ⊤}
+use Rattle.std.proofs.lemmas.Bool.{cases_eq, ne_eqb, le-ltb, lt-ltb}
+use Rattle.vic_log.specs.declared.entry.Entry.{Entry}
+use Rattle.vic_log.specs.declared.entry.LogLine.{LogLine}
+use Rattle.vic_log.specs.declared.fault.LineFault.{LineFault}
+use Rattle.vic_log.specs.declared.fault.LineFault.TheVariants.{TooManyLines, LineTooLong, Header}
+use Rattle.vic_frame.specs.Uids.{has}
+use Rattle.vic_log.specs.Order.{IsInOrder, entries}
+use Rattle.vic_log.specs.Lines.{onto, cut, ends_with, all_but_last, without_last, content, lines_of_text}
+use Rattle.vic_log.specs.LineReading.{line_reading}
+use Rattle.vic_log.specs.Text.{line_fault, reading_fault, entry_line, logged, IsLogOf, is_header}
+use Rattle.vic_log.specs.Writing.{entry_text, joined, text_of, numbered}
+use Rattle.vic_log.proofs.Passing.{HasRead, HasRead-start, HasRead-step, HasRead-end}
+use Rattle.vic_log.proofs.Follow.{order_fault-none}
+
+-- ---- lines that are joined are cut again
+
+or_parts : (a b : Bool) → (a || b) ≡ false → (a ≡ false) × (b ≡ false)
+or_parts true b h = cc
+or_parts false b h = (refl, h)
+
+flip_test : (a b : ℕ) → nat_eq a b ≡ false → b == a ≡ false
+flip_test a b h = ⊎_elim
+    (λ (e : a ≡ b). let t : nat_eq a b ≡ true = grind (arith) in cc)
+    (λ ne. ne_eqb b a (λ e. ne (sym e)))
+    (cases_eq a b)
+
+pub cut-line : (line rest : List ℕ) → has line 10 ≡ false → cut (line ++ 10 ∷ rest) ≡ (line ++ 10 ∷ []) ∷ cut rest
+cut-line [] rest h = refl
+cut-line (b ∷ line) rest h =
+    let parts = or_parts (nat_eq 10 b) (has line 10) h in
+    let other : b == 10 ≡ false = flip_test 10 b parts.0 in
+    let tail = cut-line line rest parts.1 in
+    ap (λ t. if t then (b ∷ []) ∷ cut (line ++ 10 ∷ rest) else onto b (cut (line ++ 10 ∷ rest))) other ∙ ap (onto b) tail
+
+index_last : (line : List ℕ) (b : ℕ) → slice_index (line ++ b ∷ []) (length line) ≡ b
+index_last [] b = refl
+index_last (x ∷ line) b = index_last line b
+
+pub take_front : (line : List ℕ) (b : ℕ) → take (length line) (line ++ b ∷ []) ≡ line
+take_front [] b = refl
+take_front (x ∷ line) b = ap (λ l. x ∷ l) (take_front line b)
+
+not_there : (line : List ℕ) (b k : ℕ) → has line b ≡ false → k < length line → slice_index line k == b ≡ false
+not_there [] b k h lt = absurd (omega arith)
+not_there (x ∷ line) b zero h lt = flip_test b x (or_parts (nat_eq b x) (has line b) h).0
+not_there (x ∷ line) b (suc k) h lt = not_there line b k (or_parts (nat_eq b x) (has line b) h).1 (omega arith)
+
+and_false : (a b : Bool) → b ≡ false → (a && b) ≡ false
+and_false true b h = h
+and_false false b h = refl
+
+and_true : (a b : Bool) → a ≡ true → b ≡ true → (a && b) ≡ true
+and_true true b g h = h
+and_true false b g h = cc
+
+pub not_last : (line : List ℕ) (b : ℕ) → has line b ≡ false → ends_with b line ≡ false
+not_last [] b h = refl
+not_last (x ∷ line) b h = and_false _ _ (not_there (x ∷ line) b (length (x ∷ line) - 1) h (omega arith))
+
+pub content-line : (line : List ℕ) → has line 13 ≡ false → content (line ++ 10 ∷ []) ≡ line
+content-line line h =
+    let long : length (line ++ 10 ∷ []) ≡ suc (length line) = length-append line (10 ∷ []) ∙ omega arith in
+    let place : length (line ++ 10 ∷ []) - 1 ≡ length line = omega arith in
+    let last : slice_index (line ++ 10 ∷ []) (length (line ++ 10 ∷ []) - 1) ≡ 10 = ap (slice_index (line ++ 10 ∷ [])) place ∙ index_last line 10 in
+    let ends : ends_with 10 (line ++ 10 ∷ []) ≡ true = and_true _ _ (lt-ltb 0 (length (line ++ 10 ∷ [])) (omega arith)) (ap (λ v. v == 10) last) in
+    let front : all_but_last (line ++ 10 ∷ []) ≡ line = ap (λ n. take n (line ++ 10 ∷ [])) place ∙ take_front line 10 in
+    ap (λ t. if t then without_last 13 (all_but_last (line ++ 10 ∷ [])) else line ++ 10 ∷ []) ends
+    ∙ (ap (without_last 13) front ∙ ap (λ t. if t then all_but_last line else line) (not_last line 13 h))
+
+-- neither LF nor CR is in a line
+pub record IsPlain (line : List ℕ) : Type 0 where
+  pub no_lf : has line 10 ≡ false
+  pub no_cr : has line 13 ≡ false
+
+pub lines-joined : (lines : List (List ℕ)) → ((i : ℕ) (line : List ℕ) → slice_get lines i ≡ Some line → IsPlain line) → lines_of_text (joined lines) ≡ lines
+lines-joined [] plain = refl
+lines-joined (line ∷ lines) plain =
+    let here = plain 0 line refl in
+    ap (map content) (cut-line line (joined lines) here.no_lf)
+    ∙ (ap (λ l. l ∷ lines_of_text (joined lines)) (content-line line here.no_cr)
+    ∙ ap (λ ls. line ∷ ls) (lines-joined lines (λ i l k. plain (suc i) l k)))
+
+-- ---- the lines of entries in order have no fault
+
+-- the entry's line reads back
+pub record IsSpelled (e : Entry) : Type 0 where
+  pub reads : line_reading (entry_text e) ≡ Ok (Some e)
+  pub short : length (entry_text e) ≤ 128
+  pub plain : IsPlain (entry_text e)
+
+entries-numbered : (n : ℕ) (es : List Entry) → entries (numbered n es) ≡ es
+entries-numbered n [] = refl
+entries-numbered n (e ∷ es) = ap (λ l. e ∷ l) (entries-numbered (suc n) es)
+
+numbered-push : (n : ℕ) (es : List Entry) (e : Entry) → numbered n (es ++ e ∷ []) ≡ numbered n es ++ record { number = n + length es; item = e } ∷ []
+numbered-push n [] e = let same : n ≡ n + 0 = omega arith in ap (λ k. record { number = k; item = e } ∷ []) same
+numbered-push n (x ∷ es) e =
+    let same : suc n + length es ≡ n + suc (length es) = omega arith in
+    ap (λ ls. record { number = n; item = x } ∷ ls) (numbered-push (suc n) es e ∙ ap (λ k. numbered (suc n) es ++ record { number = k; item = e } ∷ []) same)
+
+chain : (a b d : Bool) (x y z w : Option LineFault) → a ≡ false → b ≡ false → d ≡ false → (if a then x else if b then y else if d then z else w) ≡ w
+chain true b d x y z w p q r = cc
+chain false true d x y z w p q r = cc
+chain false false true x y z w p q r = cc
+chain false false false x y z w p q r = refl
+
+no_fault : (es fs : List Entry) (e : Entry) (n : ℕ) → IsInOrder (es ++ e ∷ fs) → IsSpelled e → 1 < n → n ≤ 1000000 → line_fault es n (Some (entry_text e)) ≡ None
+no_fault es fs e n o s some few =
+    let line = entry_text e in
+    chain (nat_lt 1000000 n) (nat_lt 128 (length line)) (nat_eq n 1) (Some TooManyLines) (Some LineTooLong) (if is_header line then None else Some Header) (reading_fault es (line_reading line))
+    (le-ltb 1000000 n few) (le-ltb 128 (length line) s.short) (ne_eqb n 1 (λ same. absurd (omega arith)))
+    ∙ (ap (reading_fault es) s.reads ∙ order_fault-none es fs e o)
+
+chosen : (b : Bool) (x y : List LogLine) → b ≡ false → (if b then x else y) ≡ y
+chosen true x y h = cc
+chosen false x y h = refl
+
+logged_is : (e : Entry) (n : ℕ) → IsSpelled e → 1 < n → logged n (Some (entry_text e)) ≡ record { number = n; item = e } ∷ []
+logged_is e n s some =
+    chosen (nat_eq n 1) [] (entry_line n (line_reading (entry_text e))) (ne_eqb n 1 (λ same. absurd (omega arith))) ∙ ap (entry_line n) s.reads
+
+abbrev pub AreSpelled : List Entry → Type 0
+AreSpelled es = (i : ℕ) (e : Entry) → slice_get es i ≡ Some e → IsSpelled e
+
+reads_on : (lines : List (List ℕ)) (es rest : List Entry) → HasRead lines (map entry_text rest) (numbered 2 es) (suc (length es)) → IsInOrder (es ++ rest) → AreSpelled rest → length es + length rest ≤ 999999 → IsLogOf lines (numbered 2 (es ++ rest))
+reads_on lines es [] r o s few = subst (λ fs. IsLogOf lines (numbered 2 fs)) (sym (append-nil es)) (HasRead-end lines (numbered 2 es) (suc (length es)) r (omega arith))
+reads_on lines es (e ∷ rest) r o s few =
+    let n = suc (length es) in
+    let line = entry_text e in
+    let first = s 0 e refl in
+    let clean : line_fault (entries (numbered 2 es)) (suc n) (Some line) ≡ None = ap (λ fs. line_fault fs (suc n) (Some line)) (entries-numbered 2 es) ∙ no_fault es rest e (suc n) o first (omega arith) (omega arith) in
+    let step = HasRead-step lines line (map entry_text rest) (numbered 2 es) n r clean in
+    let at : 2 + length es ≡ suc n = omega arith in
+    let log_is : numbered 2 es ++ logged (suc n) (Some line) ≡ numbered 2 (es ++ e ∷ []) = ap (λ ls. numbered 2 es ++ ls) (logged_is e (suc n) first (omega arith)) ∙ sym (numbered-push 2 es e ∙ ap (λ k. numbered 2 es ++ record { number = k; item = e } ∷ []) at) in
+    let long : length (es ++ e ∷ []) ≡ n = length-append es (e ∷ []) ∙ omega arith in
+    let more = subst (λ k. HasRead lines (map entry_text rest) (numbered 2 (es ++ e ∷ [])) (suc k)) (sym long) (subst (λ ls. HasRead lines (map entry_text rest) ls (suc n)) log_is step) in
+    let regroup : (es ++ e ∷ []) ++ rest ≡ es ++ e ∷ rest = append_assoc es (e ∷ []) rest in
+    subst (λ fs. IsLogOf lines (numbered 2 fs)) regroup (reads_on lines (es ++ e ∷ []) rest more (subst IsInOrder (sym regroup) o) (λ i f k. s (suc i) f k) (omega arith))
+
+plain_all : (es : List Entry) → AreSpelled es → (i : ℕ) (line : List ℕ) → slice_get (map entry_text es) i ≡ Some line → IsPlain line
+plain_all [] s i line k = cc
+plain_all (e ∷ es) s zero line k = let same : entry_text e ≡ line = cc in subst IsPlain same (s 0 e refl).plain
+plain_all (e ∷ es) s (suc i) line k = plain_all es (λ j f g. s (suc j) f g) i line k
+
+plain_lines : (es : List Entry) → AreSpelled es → (i : ℕ) (line : List ℕ) → slice_get (codes "vicinity-log 1" ∷ map entry_text es) i ≡ Some line → IsPlain line
+plain_lines es s zero line k = let same : codes "vicinity-log 1" ≡ line = cc in subst IsPlain same (record { no_lf = refl; no_cr = refl })
+plain_lines es s (suc i) line k = plain_all es s i line k
+
+-- the text of entries in order reads back as these entries, numbered from 2 on
+pub text_of-reads : (es : List Entry) → IsInOrder es → AreSpelled es → length es ≤ 999999 → IsLogOf (lines_of_text (text_of es)) (numbered 2 es)
+text_of-reads es o s few =
+    let lines = codes "vicinity-log 1" ∷ map entry_text es in
+    let start = HasRead-step lines (codes "vicinity-log 1") (map entry_text es) [] 0 (HasRead-start lines) refl in
+    subst (λ ls. IsLogOf ls (numbered 2 es)) (sym (lines-joined lines (plain_lines es s))) (reads_on lines [] es start o s (omega arith))

@@ -1,0 +1,81 @@
+-- The log of a text, or its first fault.
+use Rattle.std.specs.Prelude.{◌≡◌, ℕ, zero, suc, ◌<◌, ◌==◌, Bool, nat_lt, ⊤, if◌then◌else◌, Option, Some, None, Result, Ok, Err, List, [], ◌∷◌, ◌++◌, length, slice_get, codes}
+use Rattle.std.specs.Str.{bytes_eq}
+use Rattle.vic_log.specs.declared.entry.Entry.{Entry}
+use Rattle.vic_log.specs.declared.entry.LogLine.{LogLine}
+use Rattle.vic_log.specs.declared.fault.LineFault.{LineFault}
+use Rattle.vic_log.specs.declared.fault.LineFault.TheVariants.{TooManyLines, LineTooLong, Header, SlotOutsideRound, EntryAfterList, DuplicateListed}
+use Rattle.vic_log.specs.declared.fault.LogFault.{LogFault}
+use Rattle.vic_log.specs.declared.fault.LogFault.TheVariants.{Line, Read, Memory, Spent}
+use Rattle.vic_log.specs.Order.{entries, is_outside_round, is_after_list, is_duplicate}
+use Rattle.vic_log.specs.Lines.{lines_of_text}
+use Rattle.vic_log.specs.LineReading.{line_reading}
+
+abbrev pub is_header : List ℕ → Bool
+is_header line = bytes_eq line (codes "vicinity-log 1")
+
+-- the first fault of an entry after others
+abbrev pub order_fault : List Entry → Entry → Option LineFault
+order_fault es e =
+    if is_outside_round es e then Some SlotOutsideRound
+    else if is_after_list es e then Some EntryAfterList
+    else if is_duplicate es e then Some DuplicateListed
+    else None
+
+abbrev pub reading_fault : List Entry → Result (Option Entry) LineFault → Option LineFault
+reading_fault es (Ok (Some e)) = order_fault es e
+reading_fault es (Ok None) = None
+reading_fault es (Err f) = Some f
+
+-- the first fault of the line with a number, after the entries of the lines before. A text without lines has no header
+abbrev pub line_fault : List Entry → ℕ → Option (List ℕ) → Option LineFault
+line_fault es number None = if number == 1 then Some Header else None
+line_fault es number (Some line) =
+    if nat_lt 1000000 number then Some TooManyLines
+    else if nat_lt 128 (length line) then Some LineTooLong
+    else if number == 1 then (if is_header line then None else Some Header)
+    else reading_fault es (line_reading line)
+
+abbrev pub entry_line : ℕ → Result (Option Entry) LineFault → List LogLine
+entry_line number (Ok (Some e)) = record { number = number; item = e } ∷ []
+entry_line number (Ok None) = []
+entry_line number (Err f) = []
+
+-- the log line of a line after the first, where it spells an entry
+abbrev pub logged : ℕ → Option (List ℕ) → List LogLine
+logged number None = []
+logged number (Some line) = if number == 1 then [] else entry_line number (line_reading line)
+
+-- the log lines of the lines 1 to n
+abbrev pub log_upto : List (List ℕ) → ℕ → List LogLine
+log_upto lines zero = []
+log_upto lines (suc k) = log_upto lines k ++ logged (suc k) (slice_get lines k)
+
+-- the first fault of line n, read with the entries of the lines before it
+abbrev pub fault_on : List (List ℕ) → ℕ → Option LineFault
+fault_on lines zero = None
+fault_on lines (suc k) = line_fault (entries (log_upto lines k)) (suc k) (slice_get lines k)
+
+-- line n is the first that has a fault, and f is its first
+pub record IsFirstFault (lines : List (List ℕ)) (n : ℕ) (f : LineFault) : Type 0 where
+  pub here : fault_on lines n ≡ Some f
+  pub first : (m : ℕ) → m < n → fault_on lines m ≡ None
+
+-- no line has a fault, and these are the log lines of all lines
+pub record IsLogOf (lines : List (List ℕ)) (log : List LogLine) : Type 0 where
+  pub no_fault : (n : ℕ) → fault_on lines n ≡ None
+  pub all : log ≡ log_upto lines (length lines)
+
+-- why a whole text gives no log
+abbrev pub Refuses : List ℕ → LogFault → Type 0
+Refuses text (Line n f) = IsFirstFault (lines_of_text text) n f
+Refuses text Memory = ⊤
+Refuses text Read = ⊥
+Refuses text Spent = ⊥
+
+-- why a line isn't taken
+abbrev pub RefusesLine : Option LineFault → ℕ → LogFault → Type 0
+RefusesLine fault number (Line n f) = (n ≡ number) × (fault ≡ Some f)
+RefusesLine fault number Memory = ⊤
+RefusesLine fault number Read = ⊥
+RefusesLine fault number Spent = ⊥

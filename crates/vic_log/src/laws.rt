@@ -1,0 +1,45 @@
+//! Laws on logs and their text.
+
+ghost use Rattle.std.specs.Prelude.{◌≡◌, ◌++◌, ◌∷◌, ◌↔◌, ℕ, [], List, None};
+ghost use Rattle.vic_log.specs.declared.entry.Entry.{Entry};
+ghost use Rattle.vic_log.specs.declared.entry.LogLine.{LogLine};
+ghost use Rattle.vic_log.specs.declared.entry.Version.TheVariants.{V1};
+ghost use Rattle.vic_log.specs.declared.fault.LineFault.{LineFault};
+ghost use Rattle.vic_log.specs.Early.{IsEarlyFault};
+ghost use Rattle.vic_log.specs.FirstVersion.{IsOfFirstVersion, AreOfFirstVersion, first_opener, is_first_quiet, FitsFirst};
+ghost use Rattle.vic_log.specs.Lines.{lines_of_text};
+ghost use Rattle.vic_log.specs.Log.{IsLog};
+ghost use Rattle.vic_log.specs.Order.{IsInOrder, entries, refusal};
+ghost use Rattle.vic_log.specs.Populations.{Outcome, Fits};
+ghost use Rattle.vic_log.specs.Quiet.{is_quiet};
+ghost use Rattle.vic_log.specs.Rounds.{opener};
+ghost use Rattle.vic_log.specs.Text.{IsLogOf, IsFirstFault};
+ghost use Rattle.vic_log.specs.Writing.{text_of, numbered};
+
+/// The text of a log is that of a log with the same entries, on the lines 2, 3, 4 and so on.
+pub fn text_reads_back()
+    ensures { (lines : List LogLine) → IsLog V1 lines → IsLogOf (lines_of_text (text_of (entries lines))) (numbered 2 (entries lines)) }
+{}
+
+/// A text has at most one first fault, and none where it has a log.
+pub fn one_answer()
+    ensures fault { (lines : List (List ℕ)) (n m : ℕ) (f g : LineFault) → IsFirstFault lines n f → IsFirstFault lines m g → (n ≡ m) × (f ≡ g) }
+    ensures log { (lines : List (List ℕ)) (n : ℕ) (f : LineFault) (log : List LogLine) → IsFirstFault lines n f → IsLogOf lines log → ⊥ }
+{}
+
+/// An early fault is the fault of every text that begins with the bytes.
+pub fn early_fault_stays()
+    ensures { (text more : List ℕ) (n : ℕ) (f : LineFault) → IsEarlyFault text n f → IsFirstFault (lines_of_text (text ++ more)) n f }
+{}
+
+/// Entries in order stay in order with one more exactly where nothing refuses it.
+pub fn push_keeps_order()
+    ensures { (es : List Entry) (e : Entry) → IsInOrder es → IsInOrder (es ++ e ∷ []) ↔ (refusal es e ≡ None) }
+{}
+
+/// On entries of version 1, rounds, Quiet tags and outcomes are what they are without garbled slots and field cycles.
+pub fn first_version_is_kept()
+    ensures opener { (es : List Entry) → AreOfFirstVersion es → (i : ℕ) → opener es i ≡ first_opener es i }
+    ensures quiet { (es : List Entry) → AreOfFirstVersion es → (i u : ℕ) → is_quiet es i u ≡ is_first_quiet es i u }
+    ensures fits { (e : Entry) → IsOfFirstVersion e → (o : Outcome) → Fits e o ↔ FitsFirst e o }
+{}
