@@ -1,6 +1,6 @@
 //! What can be wrong with a frame.
 
-ghost use Rattle.std.specs.Prelude.{Some};
+ghost use Rattle.std.specs.Prelude.{◌≡◌, ◌≤◌, Some, length};
 ghost use Rattle.vic_frame.specs.Names.{fault_name};
 
 use std::fmt;
@@ -42,11 +42,13 @@ pub enum FrameFault {
     NotVicinity,
 }
 
-impl fmt::Display for FrameFault {
-    ghost output = { λ e. Some (fault_name e) };
-
-    fn fmt<W: fmt::Write>(&self, f: &mut fmt::Formatter<W>) -> fmt::Result {
-        f.write_str(match self {
+impl FrameFault {
+    /// Its name, of at most 13 bytes.
+    pub fn name(&self) -> &'static str
+        ensures name { result.now ≡ fault_name self.now }
+        ensures short { length result.now ≤ 13 }
+    {
+        match self {
             FrameFault::Short => "Short",
             FrameFault::Crc => "Crc",
             FrameFault::Extension => "Extension",
@@ -62,6 +64,14 @@ impl fmt::Display for FrameFault {
             FrameFault::NotAddressed => "NotAddressed",
             FrameFault::ErrorFlag => "ErrorFlag",
             FrameFault::NotVicinity => "NotVicinity",
-        })
+        }
+    }
+}
+
+impl fmt::Display for FrameFault {
+    ghost output = { λ e. Some (fault_name e) };
+
+    fn fmt<W: fmt::Write>(&self, f: &mut fmt::Formatter<W>) -> fmt::Result {
+        f.write_str(self.name())
     }
 }

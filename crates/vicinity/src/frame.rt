@@ -1,0 +1,98 @@
+//! The command `frame`.
+
+ghost use Rattle.std.specs.Prelude.{◌≡◌, ◌*◌, ◌≤◌, ◌+◌, ℕ, [], ◌++◌, length, take, drop, IfOk, IfErr, OnOk, is_err, Ok, Some, None, MatchResult};
+ghost use Rattle.std.specs.Io.KnownBytes.{Appends};
+ghost use Rattle.arrayvec.specs.ArrayVec.{array_vec_len};
+ghost use Rattle.hex.specs.Hex.{decode_of};
+ghost use Rattle.vic_log.specs.Device.{HasTakenPrefix};
+ghost use Rattle.vicinity.specs.FrameText.{readings_text, frame_text, frame_status, readings_status};
+
+use crate::digits::{Text, put};
+use crate::status::{RunFault, Status};
+use crate::text::{reply_line, request_line};
+use arrayvec::ArrayVec;
+use vic_frame::{read_request, read_response};
+use vic_log::{Sink, write_whole};
+
+/// The two readings of some bytes, and whether there is one.
+fn readings(bytes: &[u8]) -> (Text, Status)
+    ensures text { result.0.items ≡ readings_text (Ok bytes.now) }
+    ensures status { result.1 ≡ readings_status (Ok bytes.now) }
+{
+    let request = read_request(bytes);
+    let reply = read_response(bytes);
+    let mut text = request_line(&request);
+    let line = reply_line(&reply);
+    let Ok(()) = text.try_extend_from_slice(line.as_slice()) else {
+        unreachable!()
+    };
+    let status = if request.is_ok() || reply.is_ok() {
+        Status::Whole
+    } else {
+        Status::Refused
+    };
+    (text, status)
+}
+
+/// A refusal of a word.
+fn refused(line: &str) -> (Text, Status)
+    requires { length line.now ≤ 192 }
+    ensures text { result.0.items ≡ line.now }
+    ensures status { result.1 ≡ Status.Refused }
+{
+    let mut text = ArrayVec::new();
+    put(&mut text, line);
+    (text, Status::Refused)
+}
+
+/// The bytes that hex digits spell, at the front of some room, and how many they are.
+fn decode(digits: &[u8], room: &mut [u8]) -> Option<usize>
+    requires { length digits.now ≤ 2 * length room.old }
+    ensures { MatchResult (decode_of digits.now) (λ bytes. (result ≡ Some (length bytes)) × (take (length bytes) room.new ≡ bytes)) (λ _. result ≡ None) }
+{
+    let count = digits.len() / 2;
+    match hex::decode_to_slice(digits, &mut room[..count]) {
+        Ok(()) => Some(count),
+        Err(_) => None,
+    }
+}
+
+/// What is answered to a word that is short enough.
+fn decoded(word: &[u8]) -> (Text, Status)
+    requires { length word.now ≤ 128 }
+    ensures text { result.0.items ≡ readings_text (decode_of word.now) }
+    ensures status { result.1 ≡ readings_status (decode_of word.now) }
+{
+    let mut room = [0; 64];
+    let Some(count) = decode(word, &mut room) else {
+        return refused("refused Hex\n");
+    };
+    readings(&room[..count])
+}
+
+/// What is answered to a word.
+fn answer(word: &[u8]) -> (Text, Status)
+    ensures text { result.0.items ≡ frame_text word.now }
+    ensures status { result.1 ≡ frame_status word.now }
+{
+    if word.len() > 128 {
+        refused("refused LineTooLong\n")
+    } else {
+        decoded(word)
+    }
+}
+
+/// Writes the two readings of a word of hex digits, or why it is no frame.
+pub fn run_frame<W: Sink>(word: &[u8], sink: &mut W) -> Result<Status, RunFault>
+    ensures status { IfOk result (λ s. s ≡ frame_status word.now) }
+    ensures written { OnOk result (Appends (W.taken sink.old) (W.taken sink.new) (frame_text word.now)) }
+    ensures begun { HasTakenPrefix (W.taken sink.old) (W.taken sink.new) (frame_text word.now) }
+    ensures fault { IfErr result (λ e. e ≡ RunFault.Write) }
+    ensures failed { W.has_failed sink.new ≡ is_err result }
+{
+    let (text, status) = answer(word);
+    if sink.failed() || write_whole(sink, text.as_slice()).is_err() || sink.flush().is_err() {
+        return Err(RunFault::Write);
+    }
+    Ok(status)
+}

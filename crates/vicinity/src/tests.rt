@@ -1,0 +1,4 @@
+//! The program's calls, with what they answer.
+
+mod frame;
+mod words;

@@ -1,0 +1,84 @@
+//! What the program's words ask for.
+
+use clap::error::ErrorKind;
+use clap::{Arg, ArgAction, ArgMatches, Command, Error};
+use std::alloc::{AllocError, Global};
+
+/// What the program is asked to do. A file is named as it was given; without one it is standard
+/// input.
+#[derive(Debug, Drop)]
+pub enum Task {
+    /// To judge a log.
+    Check(Option<String>),
+    /// To fill in the slots of a log.
+    Simulate(Option<String>),
+    /// To read one frame, given in hex digits.
+    Frame(String),
+}
+
+/// Why the words ask for nothing.
+#[derive(Clone, Copy, Debug, Drop, PartialEq, Eq)]
+pub enum WordsFault {
+    /// They aren't a command with its operand.
+    Usage,
+    /// There was no memory to read them.
+    Memory,
+}
+
+impl From<AllocError> for WordsFault {
+    fn from(_: AllocError) -> WordsFault {
+        WordsFault::Memory
+    }
+}
+
+impl From<Error> for WordsFault {
+    fn from(error: Error) -> WordsFault {
+        match error.kind() {
+            ErrorKind::OutOfMemory => WordsFault::Memory,
+            _ => WordsFault::Usage,
+        }
+    }
+}
+
+/// A command with one operand.
+fn with_operand<'a>(
+    alloc: Global,
+    name: &'a str,
+    operand: &'a str,
+    required: bool,
+) -> Result<Command<'a>, AllocError> {
+    let operand = Arg::new(alloc, operand)
+        .required(required)
+        .action(ArgAction::Set);
+    Command::new(alloc, name).arg(operand)
+}
+
+/// The program's commands.
+fn commands<'a>(alloc: Global) -> Result<Command<'a>, AllocError> {
+    Command::new(alloc, "vicinity")
+        .subcommand(with_operand(alloc, "check", "file", false)?)?
+        .subcommand(with_operand(alloc, "simulate", "file", false)?)?
+        .subcommand(with_operand(alloc, "frame", "hex", true)?)
+}
+
+/// The text of an operand, if it was given.
+fn operand(alloc: Global, given: &ArgMatches<'_>, id: &str) -> Result<Option<String>, AllocError> {
+    match given.get_str(id) {
+        Some(text) => Ok(Some(String::from_str(alloc, text)?)),
+        None => Ok(None),
+    }
+}
+
+/// What the program's words ask for, the first of them being its name.
+pub fn read_words(alloc: Global, words: Vec<String>) -> Result<Task, WordsFault> {
+    let matches = commands(alloc)?.try_get_matches_from(words.as_slice())?;
+    match matches.subcommand() {
+        Some(("check", given)) => Ok(Task::Check(operand(alloc, given, "file")?)),
+        Some(("simulate", given)) => Ok(Task::Simulate(operand(alloc, given, "file")?)),
+        Some(("frame", given)) => match operand(alloc, given, "hex")? {
+            Some(word) => Ok(Task::Frame(word)),
+            None => Err(WordsFault::Usage),
+        },
+        _ => Err(WordsFault::Usage),
+    }
+}
