@@ -14,10 +14,15 @@ use Rattle.vic_log.specs.Quiet.{is_quiet}
 use Rattle.vic_log.specs.Populations.{answers_at}
 use Rattle.vic_log.specs.Slots.{Reading, NoReply, OneReply, ManyReplies, SomeReply, Slot, reading_of, with_reading, with_entry, slots_before, may_be, allows, is_open, Asks, SuppliesAll, Forces, IsForcedBy}
 use Rattle.vic_tree.specs.OpenSet.{UpToThree}
-use Rattle.vic_verdict.specs.Passing.{entry_allows, entry_asks, entry_forces}
+use Rattle.vic_verdict.specs.Places.{answering, entry_asks, entry_forces}
 use Rattle.vic_log.proofs.Sets.{IsWithin, Distinct, has_here, has_at, has_there, has_cases}
 
 -- ---- the open UIDs, entry by entry
+
+-- an entry leaves the UIDs open that it allows
+abbrev pub entry_allows : Option Reading → Bool → ℕ → Bool
+entry_allows None answers u = true
+entry_allows (Some r) answers u = may_be r answers u
 
 pub and_true : (b : Bool) → (b && true) ≡ b
 and_true true = refl
@@ -44,34 +49,11 @@ pub open_step : (es : List Entry) (i : ℕ) (e : Entry) (u : ℕ) → slice_get 
 open_step es i e u k =
     ap (λ o. is_open (with_entry (answers_at es i) o (slots_before es i)) u) k ∙ open_reading (answers_at es i) e (slots_before es i) u
 
-not_both : (l q : Bool) → not (l && not q) ≡ (not l || q)
-not_both true true = refl
-not_both true false = refl
-not_both false q = refl
-
--- who answers at a place, by its mask and a list of the Quiet UIDs
-pub answers_by : (es : List Entry) (i : ℕ) (m : BitMask) (quiet : List ℕ) (u : ℕ) → mask_at es i ≡ Some m → has quiet u ≡ is_quiet es i u → answers_at es i u ≡ (lies_in m u && not (has quiet u))
-answers_by es i m quiet u k q = ap (λ o. lies_in_some o u && not (is_quiet es i u)) k ∙ ap (λ b. lies_in m u && not b) (sym q)
-
--- a silent slot settles its mask, except the Quiet UIDs
-pub silent_settles : (es : List Entry) (i : ℕ) (m : BitMask) (quiet : List ℕ) (u : ℕ) → slice_get es i ≡ Some Silent → mask_at es i ≡ Some m → has quiet u ≡ is_quiet es i u → is_open (slots_before es (suc i)) u ≡ (is_open (slots_before es i) u && (not (lies_in m u) || has quiet u))
-silent_settles es i m quiet u k n q =
-    open_step es i Silent u k ∙ (ap (λ b. is_open (slots_before es i) u && not b) (answers_by es i m quiet u n q) ∙ ap (λ b. is_open (slots_before es i) u && b) (not_both (lies_in m u) (has quiet u)))
-
--- an answered slot settles its mask, except the Quiet UIDs and the one that was heard
-pub heard_settles : (es : List Entry) (i : ℕ) (r : Reply) (m : BitMask) (quiet : List ℕ) (u : ℕ) → slice_get es i ≡ Some (Heard r) → mask_at es i ≡ Some m → has quiet u ≡ is_quiet es i u → is_open (slots_before es (suc i)) u ≡ (is_open (slots_before es i) u && ((not (lies_in m u) || has quiet u) || (u == r.uid)))
-heard_settles es i r m quiet u k n q =
-    open_step es i (Heard r) u k ∙ (ap (λ b. is_open (slots_before es i) u && (not b || (u == r.uid))) (answers_by es i m quiet u n q) ∙ ap (λ b. is_open (slots_before es i) u && (b || (u == r.uid))) (not_both (lies_in m u) (has quiet u)))
-
 -- ---- slot by slot, by places
-
--- what a set has of the tags that answer at a place
-abbrev pub at_place : (ℕ → Bool) → List Entry → ℕ → ℕ → Bool
-at_place set es i u = set u && answers_at es i u
 
 -- the slots of the first n places get what they ask for
 abbrev pub SuppliesBefore : (ℕ → Bool) → List Entry → ℕ → Type 0
-SuppliesBefore set es n = (i : ℕ) (e : Entry) → i < n → slice_get es i ≡ Some e → entry_asks (reading_of e) (at_place set es i)
+SuppliesBefore set es n = (i : ℕ) (e : Entry) → i < n → slice_get es i ≡ Some e → entry_asks (reading_of e) (answering set es i)
 
 supplies_reading : (set answers : ℕ → Bool) (o : Option Reading) (slots : List Slot) → SuppliesAll set (with_reading answers o slots) ↔ (entry_asks o (λ u. set u && answers u) × SuppliesAll set slots)
 supplies_reading set answers None slots = ((λ h. (tt, h)), (λ h. h.1))
@@ -85,10 +67,10 @@ supplies_step set answers (Some e) slots =
       (λ h. r.1 (h.0 e refl, h.1)),
     )
 
-pub supplies_more : (set : ℕ → Bool) (es : List Entry) (n : ℕ) → SuppliesBefore set es n → ((e : Entry) → slice_get es n ≡ Some e → entry_asks (reading_of e) (at_place set es n)) → SuppliesBefore set es (suc n)
+pub supplies_more : (set : ℕ → Bool) (es : List Entry) (n : ℕ) → SuppliesBefore set es n → ((e : Entry) → slice_get es n ≡ Some e → entry_asks (reading_of e) (answering set es n)) → SuppliesBefore set es (suc n)
 supplies_more set es n below here i e h k =
     ⊎_elim
-    (λ same. subst (λ j. slice_get es j ≡ Some e → entry_asks (reading_of e) (at_place set es j)) (sym same) (here e) k)
+    (λ same. subst (λ j. slice_get es j ≡ Some e → entry_asks (reading_of e) (answering set es j)) (sym same) (here e) k)
     (λ ne. below i e (omega arith) k)
     (cases_eq i n)
 
@@ -101,10 +83,6 @@ SuppliesAll-places set es (suc n) =
       (λ h. step.1 ((λ e k. h n e (omega arith) k), rest.1 (λ i e k g. h i e (omega arith) g))),
     )
 
--- some slot of the first n places forces the UID
-abbrev pub ForcedBefore : (ℕ → Bool) → List Entry → ℕ → ℕ → Type 0
-ForcedBefore set es n u = (i : ℕ) × (e : Entry) × (i < n) × (slice_get es i ≡ Some e) × entry_forces (reading_of e) (at_place set es i) u
-
 forced_reading : (set answers : ℕ → Bool) (o : Option Reading) (slots : List Slot) (u : ℕ) → IsForcedBy set (with_reading answers o slots) u ↔ (entry_forces o (λ w. set w && answers w) u ⊎ IsForcedBy set slots u)
 forced_reading set answers None slots u = ((λ h. inr h), (λ h. ⊎_elim (λ f. absurd f) (λ k. k) h))
 forced_reading set answers (Some r) slots u = ((λ h. h), (λ h. h))
@@ -115,18 +93,6 @@ forced_step set answers (Some e) slots u =
     let r = forced_reading set answers (reading_of e) slots u in (
       (λ h. ⊎_elim (λ f. inl (e, refl, f)) (λ k. inr k) (r.0 h)),
       (λ h. r.1 (⊎_elim (λ f. let bad = f.1 in let same : f.0 ≡ e = cc in inl (subst (λ g. entry_forces (reading_of g) (λ w. set w && answers w) u) same f.2)) (λ k. inr k) h)),
-    )
-
-pub IsForcedBy-places : (set : ℕ → Bool) (es : List Entry) (n u : ℕ) → IsForcedBy set (slots_before es n) u ↔ ForcedBefore set es n u
-IsForcedBy-places set es zero u = ((λ h. absurd h), (λ h. absurd (let bad = h.2 in omega arith)))
-IsForcedBy-places set es (suc n) u =
-    let step = forced_step set (answers_at es n) (slice_get es n) (slots_before es n) u in
-    let rest = IsForcedBy-places set es n u in (
-      (λ h. ⊎_elim (λ f. (n, f.0, omega arith, f.1, f.2)) (λ k. let w = rest.0 k in (w.0, w.1, omega (arith, w.2), w.3, w.4)) (step.0 h)),
-      (λ h. step.1 (⊎_elim
-          (λ same. inl (h.1, subst (λ j. slice_get es j ≡ Some h.1) same h.3, subst (λ j. entry_forces (reading_of h.1) (at_place set es j) u) same h.4))
-          (λ ne. inr (rest.1 (h.0, h.1, (let b = h.2 in omega arith), h.3, h.4)))
-          (cases_eq h.0 n))),
     )
 
 -- ---- up to three of a set

@@ -1,3 +1,4 @@
+pub mod Keys
 pub mod Possibility
 pub mod Search
 pub mod Populations

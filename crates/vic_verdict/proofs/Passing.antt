@@ -1,35 +1,36 @@
--- The open round and the Quiet UIDs that a judge carries are those that looking back finds.
-use Rattle.std.proofs.Common.{◌≡◌, ℕ, suc, ◌<◌, ◌+◌, ◌-◌, List, [], ◌∷◌, ◌++◌, Bool, true, false, not, ◌&&◌, ◌||◌, Option, Some, None, refl, sym, ap, ◌∙◌, subst, arith, ⊎_elim}
+-- The open round and the Quiet UIDs, from one place to the next.
+use Rattle.std.proofs.Common.{◌≡◌, ℕ, suc, ◌<◌, ◌+◌, ◌-◌, List, Bool, true, false, not, ◌&&◌, ◌||◌, Option, Some, None, refl, sym, ap, ◌∙◌, subst, arith, ⊎_elim, add-one}
 use Rattle.std.specs.Prelude.{◌==◌, nat_eq, slice_get, if◌then◌else◌}
 use Rattle.std.proofs.lemmas.Bool.{eq-eqb, ne_eqb, cases_eq, both_ways}
-use Rattle.vic_frame.specs.Masks.{BitMask, lies_in}
-use Rattle.vic_frame.specs.Replies.{Reply}
-use Rattle.vic_tree.specs.OpenSet.{settled}
-use Rattle.vic_frame.specs.declared.request.Request.TheVariants.{Inventory, StayQuiet}
+use Rattle.vic_frame.specs.Masks.{BitMask}
+use Rattle.vic_frame.specs.Slots.{slot_mask}
+use Rattle.vic_frame.specs.Uids.{IsUid, has}
 use Rattle.vic_log.specs.declared.entry.Entry.{Entry}
 use Rattle.vic_log.specs.declared.entry.Entry.TheVariants.{Sent, Silent, Collision, Heard, Listed, Garbled, FieldCycle}
-use Rattle.vic_frame.specs.Uids.{has, is_uid, IsUid}
 use Rattle.vic_log.specs.Rounds.{opener, ends_round, mask_of_slot, mask_since, mask_at}
 use Rattle.vic_log.specs.Quiet.{silences, wakes, is_quiet}
-use Rattle.vic_log.proofs.Supply.{is_uid_from}
 use Rattle.vic_log.proofs.Places.{opener_below}
-use Rattle.vic_verdict.specs.declared.round.Round.{Round}
-use Rattle.vic_verdict.specs.Passing.{next_slot, after_round, after_quiet, round_mask, open_after}
+use Rattle.vic_verdict.specs.declared.place.Round.{Round}
+use Rattle.vic_verdict.specs.Places.{round_of, round_since, round_at, HasQuiet}
 
 -- ---- the open round
 
-abbrev pub round_of : Option Entry → ℕ → Option Round
-round_of (Some (Sent q)) k = Some (record { request = q; next = k })
-round_of (Some e) k = None
-round_of None k = None
+-- one slot further
+abbrev pub next_slot : Option Round → Option Round
+next_slot None = None
+next_slot (Some r) = Some (record { request = r.request; next = r.next + 1 })
 
-abbrev pub round_since : List Entry → ℕ → Option ℕ → Option Round
-round_since es i None = None
-round_since es i (Some j) = round_of (slice_get es j) (i - suc j)
+-- the open round after an entry
+abbrev pub after_round : Option Round → Entry → Option Round
+after_round round (Sent q) = Some (record { request = q; next = 0 })
+after_round round (Listed u) = None
+after_round round FieldCycle = None
+after_round round e = next_slot round
 
--- the round that is open at a place, by looking back
-abbrev pub round_at : List Entry → ℕ → Option Round
-round_at es i = round_since es i (opener es i)
+-- the mask of the next slot
+abbrev pub round_mask : Option Round → Option BitMask
+round_mask None = None
+round_mask (Some r) = slot_mask r.request r.next
 
 mask_of_round : (o : Option Entry) (k : ℕ) → mask_of_slot o k ≡ round_mask (round_of o k)
 mask_of_round None k = refl
@@ -73,11 +74,17 @@ round_with es i Garbled k = next_since es i (opener es i) (opener_below es i)
 pub round_step : (es : List Entry) (i : ℕ) (e : Entry) → slice_get es i ≡ Some e → round_at es (suc i) ≡ after_round (round_at es i) e
 round_step es i e k = ap (λ o. round_since es (suc i) (opener_with es i o)) k ∙ round_with es i e k
 
+pub round_passed : (es : List Entry) (i : ℕ) (e : Entry) (round next : Option Round) → next ≡ after_round round e → slice_get es i ≡ Some e → round ≡ round_at es i → next ≡ round_at es (i + 1)
+round_passed es i e round next h k r =
+    h ∙ (ap (λ o. after_round o e) r ∙ (sym (round_step es i e k) ∙ ap (round_at es) (sym (add-one i))))
+
 -- ---- the Quiet UIDs
 
--- the list has the UIDs that are Quiet at a place
-abbrev pub HasQuiet : List Entry → ℕ → List ℕ → Type 0
-HasQuiet es i quiet = (u : ℕ) → IsUid u → has quiet u ≡ is_quiet es i u
+-- the Quiet UIDs of the next place, by those of this one
+pub quiet_passed : (es : List Entry) (i : ℕ) (e : Entry) (quiet next : List ℕ) → slice_get es i ≡ Some e → ((u : ℕ) → IsUid u → has next u ≡ (silences (Some e) u || (not (wakes (Some e)) && has quiet u))) → HasQuiet es i quiet → HasQuiet es (i + 1) next
+quiet_passed es i e quiet next k h before =
+    subst (λ n. HasQuiet es n next) (sym (add-one i)) (λ u w.
+    h u w ∙ (ap (λ b. silences (Some e) u || (not (wakes (Some e)) && b)) (before u w) ∙ sym (ap (λ o. silences o u || (not (wakes o) && is_quiet es i u)) k)))
 
 pub same_either_way : (u w : ℕ) → nat_eq u w ≡ (w == u)
 same_either_way u w =
@@ -85,36 +92,3 @@ same_either_way u w =
     (λ e. eq-eqb u w e ∙ sym (eq-eqb w u (sym e)))
     (λ ne. ne_eqb u w ne ∙ sym (ne_eqb w u (λ k. ne (sym k))))
     (cases_eq u w)
-
-quiet_uid : (quiet : List ℕ) (w u : ℕ) → IsUid u → (b : Bool) → is_uid w ≡ b → has (if b then w ∷ quiet else quiet) u ≡ ((w == u) || has quiet u)
-quiet_uid quiet w u i true e = ap (λ b. b || has quiet u) (same_either_way u w)
-quiet_uid quiet w u i false e =
-    let ne = λ (k : w ≡ u). both_ways (is_uid w) e (subst (λ z. is_uid z ≡ true) (sym k) (is_uid_from u i)) in
-    ap (λ b. b || has quiet u) (sym (ne_eqb w u ne))
-
-quiet_after : (quiet : List ℕ) (e : Entry) (u : ℕ) → IsUid u → has (after_quiet quiet e) u ≡ (silences (Some e) u || (not (wakes (Some e)) && has quiet u))
-quiet_after quiet (Sent (Inventory link sixteen m)) u i = refl
-quiet_after quiet (Sent (StayQuiet link w)) u i = quiet_uid quiet w u i (is_uid w) refl
-quiet_after quiet Silent u i = refl
-quiet_after quiet Collision u i = refl
-quiet_after quiet (Heard r) u i = refl
-quiet_after quiet (Listed w) u i = refl
-quiet_after quiet Garbled u i = refl
-quiet_after quiet FieldCycle u i = refl
-
-pub quiet_step : (es : List Entry) (i : ℕ) (e : Entry) (quiet : List ℕ) → slice_get es i ≡ Some e → HasQuiet es i quiet → HasQuiet es (suc i) (after_quiet quiet e)
-quiet_step es i e quiet k h u w =
-    quiet_after quiet e u w ∙ (ap (λ b. silences (Some e) u || (not (wakes (Some e)) && b)) (h u w) ∙ sym (ap (λ o. silences o u || (not (wakes o) && is_quiet es i u)) k))
-
--- ---- a slot that was answered
-
-heard_test : (l q e : Bool) → (not l || (e || q)) ≡ (not (l && not q) || e)
-heard_test true true true = refl
-heard_test true true false = refl
-heard_test true false true = refl
-heard_test true false false = refl
-heard_test false q e = refl
-
-pub heard_after : (set : ℕ → Bool) (mask : BitMask) (quiet : List ℕ) (r : Reply) (u : ℕ) → settled set mask (r.uid ∷ quiet) u ≡ open_after set (Some mask) quiet (Heard r) u
-heard_after set mask quiet r u =
-    ap (λ b. set u && b) (heard_test (lies_in mask u) (has quiet u) (u == r.uid))

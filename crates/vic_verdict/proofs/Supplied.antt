@@ -1,69 +1,110 @@
 -- What a judge finds slot by slot is what makes a log possible.
-use Rattle.std.proofs.Common.{◌≡◌, ℕ, zero, suc, ◌<◌, ◌≤◌, List, [], ◌∷◌, length, Bool, true, false, not, ◌&&◌, Option, Some, None, refl, sym, ap, ◌∙◌, subst, arith, ⊎_elim}
+use Rattle.std.proofs.Common.{◌≡◌, ℕ, suc, ◌<◌, ◌≤◌, ◌+◌, List, [], length, Bool, true, false, not, ◌&&◌, Option, Some, None, refl, sym, ap, ◌∙◌, subst, arith, ⊎_elim, add-one}
 use Rattle.std.specs.Prelude.{◌↔◌, IsTrue, leb, slice_get}
 use Rattle.std.specs.List.{list_all}
-use Rattle.std.proofs.lemmas.Bool.{cases_Bool, cases_eq, le-leb, leb-true}
+use Rattle.std.proofs.lemmas.Bool.{both_ways, false≢true, le-leb, leb-true}
 use Rattle.std.proofs.lemmas.Option.{slice_get_within}
-use mathlib.Core.Path.{fun_ext}
 use Rattle.vic_frame.specs.Uids.{IsUid, is_uid, has}
 use Rattle.vic_frame.specs.Masks.{BitMask, lies_in}
+use Rattle.vic_frame.specs.Replies.{Reply}
 use Rattle.vic_tree.specs.OpenSet.{SameUids, UpToThree, in_mask}
 use Rattle.vic_log.specs.declared.entry.Entry.{Entry}
-use Rattle.vic_log.specs.declared.entry.Entry.TheVariants.{Collision, Garbled}
+use Rattle.vic_log.specs.declared.entry.Entry.TheVariants.{Heard, Collision, Garbled}
 use Rattle.vic_log.specs.Rounds.{mask_at, lies_in_some}
 use Rattle.vic_log.specs.Quiet.{is_quiet}
 use Rattle.vic_log.specs.Populations.{answers_at}
-use Rattle.vic_verdict.specs.Possible.{IsPossible}
-use Rattle.vic_log.specs.Slots.{Slot, allows, reading_of, slots_of, is_open, SuppliesAll}
+use Rattle.vic_log.specs.Slots.{Slot, allows, reading_of, slots_of, is_open}
 use Rattle.vic_log.proofs.Supply.{IsUid-from}
-use Rattle.vic_verdict.specs.declared.round.Round.{Round}
-use Rattle.vic_verdict.specs.Passing.{round_mask, answering, entry_asks}
+use Rattle.vic_verdict.specs.declared.place.Place.{Place}
+use Rattle.vic_verdict.specs.Possible.{IsPossible}
+use Rattle.vic_verdict.specs.Places.{IsPlace, answering, entry_asks}
 use Rattle.vic_verdict.proofs.Decide.{IsPossible-iff}
-use Rattle.vic_verdict.proofs.Judging.{asks_two_iff, asks_one_iff, at_place, SuppliesBefore, SuppliesAll-places, supplies_more}
-use Rattle.vic_verdict.proofs.Passing.{mask_at-round}
-use Rattle.vic_verdict.proofs.Stands.{IsPlace}
+use Rattle.vic_verdict.proofs.Judging.{asks_two_iff, asks_one_iff, SuppliesBefore, SuppliesAll-places, supplies_more}
 
-pub collision_test : (set : ℕ → Bool) (m : BitMask) (quiet xs : List ℕ) (n : ℕ) (e : Entry) (o : Option BitMask) → e ≡ Collision → o ≡ Some m → UpToThree (in_mask set m quiet) xs → n ≡ length xs → IsTrue (leb 2 n) ↔ entry_asks (reading_of e) (answering set o quiet)
-collision_test set m quiet xs n e o is_e is_o h k =
-    let w = asks_two_iff (in_mask set m quiet) xs h in
-    let same : entry_asks (reading_of Collision) (answering set (Some m) quiet) ≡ entry_asks (reading_of e) (answering set o quiet) = ap (λ o. entry_asks (reading_of Collision) (answering set o quiet)) (sym is_o) ∙ ap (λ e. entry_asks (reading_of e) (answering set o quiet)) (sym is_e) in
-    ((λ t. subst (λ T. T) same (w.1 (let a = leb-true 2 n t in omega arith))), (λ a. le-leb 2 n (let b = w.0 (subst (λ T. T) (sym same) a) in omega arith)))
+-- ---- who answers
 
-pub garbled_test : (set : ℕ → Bool) (m : BitMask) (quiet xs : List ℕ) (n : ℕ) (e : Entry) (o : Option BitMask) → e ≡ Garbled → o ≡ Some m → UpToThree (in_mask set m quiet) xs → n ≡ length xs → IsTrue (leb 1 n) ↔ entry_asks (reading_of e) (answering set o quiet)
-garbled_test set m quiet xs n e o is_e is_o h k =
-    let w = asks_one_iff (in_mask set m quiet) xs h in
-    let same : entry_asks (reading_of Garbled) (answering set (Some m) quiet) ≡ entry_asks (reading_of e) (answering set o quiet) = ap (λ o. entry_asks (reading_of Garbled) (answering set o quiet)) (sym is_o) ∙ ap (λ e. entry_asks (reading_of e) (answering set o quiet)) (sym is_e) in
-    ((λ t. subst (λ T. T) same (w.1 (let a = leb-true 1 n t in omega arith))), (λ a. le-leb 1 n (let b = w.0 (subst (λ T. T) (sym same) a) in omega arith)))
+-- the same set
+pub UpToThree-same : (s t : ℕ → Bool) (us : List ℕ) → ((u : ℕ) → s u ≡ t u) → UpToThree s us → UpToThree t us
+UpToThree-same s t us e h = record {
+  different = h.different;
+  members = λ u m. sym (e u) ∙ h.members u m;
+  all = λ few u k. h.all few u (e u ∙ k);
+}
 
-same_by : (set : ℕ → Bool) (slots : List Slot) (x y : Bool) (u : ℕ) → SameUids set (is_open slots) → (IsUid u → x ≡ y) → (b : Bool) → is_uid u ≡ b → ((is_uid u && set u) && x) ≡ (is_open slots u && y)
-same_by set slots x y u s k true e = let i = IsUid-from u e in ap (λ b. (b && set u) && x) e ∙ (ap (λ b. b && x) (s u i) ∙ ap (λ b. is_open slots u && b) (k i))
-same_by set slots x y u s k false e = ap (λ b. (b && set u) && x) e ∙ sym (ap (λ b. (b && list_all (allows u) slots) && y) e)
+answers_in : (es : List Entry) (i : ℕ) (p : Place) (m : BitMask) (mask : Option BitMask) (u : ℕ) → IsPlace es i p → mask ≡ mask_at es i → mask ≡ Some m → IsUid u → (lies_in m u && not (has p.quiet u)) ≡ answers_at es i u
+answers_in es i p m mask u s h k w =
+    ap (λ b. lies_in m u && not b) (s.quiet_uids u w) ∙ ap (λ o. lies_in_some o u && not (is_quiet es i u)) (sym k ∙ h)
 
-pub place_answering : (es : List Entry) (slots : List Slot) (i : ℕ) (set : ℕ → Bool) (round : Option Round) (quiet : List ℕ) → SameUids set (is_open slots) → IsPlace es i round quiet → answering set (round_mask round) quiet ≡ at_place (is_open slots) es i
-place_answering es slots i set round quiet s p = fun_ext (λ u.
-    same_by set slots (lies_in_some (round_mask round) u && not (has quiet u)) (answers_at es i u) u s
-    (λ w. ap (λ b. lies_in_some (round_mask round) u && not b) (p.quiet_uids u w) ∙ ap (λ m. lies_in_some m u && not (is_quiet es i u)) (sym (mask_at-round es i ∙ ap round_mask (sym p.open_round))))
-    (is_uid u) refl)
+-- whether a UID is open and answers
+pub answers_here : (es : List Entry) (i : ℕ) (p : Place) (m : BitMask) (mask : Option BitMask) (set : ℕ → Bool) (u : ℕ) → IsPlace es i p → mask ≡ mask_at es i → mask ≡ Some m → SameUids set (is_open (slots_of es)) → IsUid u → (set u && (lies_in m u && not (has p.quiet u))) ≡ answering (is_open (slots_of es)) es i u
+answers_here es i p m mask set u s h k same w =
+    ap (λ b. b && (lies_in m u && not (has p.quiet u))) (same u w) ∙ ap (λ b. is_open (slots_of es) u && b) (answers_in es i p m mask u s h k w)
+
+and_false : (b : Bool) → (b && false) ≡ false
+and_false true = refl
+and_false false = refl
+
+pub none_answers : (es : List Entry) (i : ℕ) (mask : Option BitMask) (set : ℕ → Bool) (u : ℕ) → mask ≡ mask_at es i → mask ≡ None → answering set es i u ≡ false
+none_answers es i mask set u h k = ap (λ o. set u && (lies_in_some o u && not (is_quiet es i u))) (sym h ∙ k) ∙ and_false (set u)
+
+pub up_to_three_of_none : (es : List Entry) (i : ℕ) (mask : Option BitMask) (set : ℕ → Bool) → mask ≡ mask_at es i → mask ≡ None → UpToThree (answering set es i) []
+up_to_three_of_none es i mask set h k = record {
+  different = tt;
+  members = λ u m. absurd (false≢true m);
+  all = λ few u m. absurd (both_ways _ (none_answers es i mask set u h k) m);
+}
+
+except_test : (l q : Bool) → (l && not (l && q)) ≡ (l && not q)
+except_test true q = refl
+except_test false q = refl
+
+of_uid : (b x : Bool) (set open_set y : Bool) → (b ≡ true → set ≡ open_set) → (b ≡ true → x ≡ y) → ((b && set) && x) ≡ (b && (open_set && y))
+of_uid true x set o y f g = ap (λ z. z && x) (f refl) ∙ ap (λ z. o && z) (g refl)
+of_uid false x set o y f g = refl
+
+is_uid_once : (b o y : Bool) → (b && ((b && o) && y)) ≡ ((b && o) && y)
+is_uid_once true o y = refl
+is_uid_once false o y = refl
+
+-- up to three of the open UIDs in the mask, except the Quiet ones, are up to three that answer
+pub up_to_three_here : (es : List Entry) (i : ℕ) (p : Place) (m : BitMask) (mask : Option BitMask) (except xs : List ℕ) (set : ℕ → Bool) → IsPlace es i p → mask ≡ mask_at es i → mask ≡ Some m → SameUids set (is_open (slots_of es)) → ((u : ℕ) → has except u ≡ (lies_in m u && has p.quiet u)) → UpToThree (in_mask set m except) xs → UpToThree (answering (is_open (slots_of es)) es i) xs
+up_to_three_here es i p m mask except xs set s h k same members =
+    UpToThree-same (in_mask set m except) (answering (is_open (slots_of es)) es i) xs (λ u.
+    of_uid (is_uid u) (lies_in m u && not (has except u)) (set u) (is_open (slots_of es) u) (answers_at es i u)
+    (λ e. same u (IsUid-from u e))
+    (λ e. ap (λ b. lies_in m u && not b) (members u) ∙ (except_test (lies_in m u) (has p.quiet u) ∙ answers_in es i p m mask u s h k (IsUid-from u e)))
+    ∙ is_uid_once (is_uid u) (list_all (allows u) (slots_of es)) (answers_at es i u))
+
+-- ---- what each entry asks for
+
+pub heard_asks : (t : ℕ → Bool) (e : Entry) (r : Reply) (given : Bool) → e ≡ Heard r → given ≡ t r.uid → IsTrue given ↔ entry_asks (reading_of e) t
+heard_asks t e r given is h = subst (λ f. IsTrue given ↔ entry_asks (reading_of f) t) (sym is) ((λ k. sym h ∙ k), (λ k. h ∙ k))
+
+pub collision_asks : (t : ℕ → Bool) (e : Entry) (xs : List ℕ) (n : ℕ) → e ≡ Collision → n ≡ length xs → UpToThree t xs → IsTrue (leb 2 n) ↔ entry_asks (reading_of e) t
+collision_asks t e xs n is k h =
+    let w = asks_two_iff t xs h in
+    subst (λ f. IsTrue (leb 2 n) ↔ entry_asks (reading_of f) t) (sym is) ((λ y. w.1 (let a = leb-true 2 n y in omega arith)), (λ a. le-leb 2 n (let b = w.0 a in omega arith)))
+
+pub garbled_asks : (t : ℕ → Bool) (e : Entry) (xs : List ℕ) (n : ℕ) → e ≡ Garbled → n ≡ length xs → UpToThree t xs → IsTrue (leb 1 n) ↔ entry_asks (reading_of e) t
+garbled_asks t e xs n is k h =
+    let w = asks_one_iff t xs h in
+    subst (λ f. IsTrue (leb 1 n) ↔ entry_asks (reading_of f) t) (sym is) ((λ y. w.1 (let a = leb-true 1 n y in omega arith)), (λ a. le-leb 1 n (let b = w.0 a in omega arith)))
+
+-- ---- all entries
 
 -- one slot more has what it asks for
-pub supplied_more : (es : List Entry) (i : ℕ) (e : Entry) (set : ℕ → Bool) (round : Option Round) (quiet : List ℕ) → slice_get es i ≡ Some e → SameUids set (is_open (slots_of es)) → IsPlace es i round quiet → entry_asks (reading_of e) (answering set (round_mask round) quiet) → SuppliesBefore (is_open (slots_of es)) es i → SuppliesBefore (is_open (slots_of es)) es (suc i)
-supplied_more es i e set round quiet k s p a before =
-    let slots = slots_of es in
-    supplies_more (is_open slots) es i before
+pub supplied_more : (es : List Entry) (i : ℕ) (e : Entry) → slice_get es i ≡ Some e → entry_asks (reading_of e) (answering (is_open (slots_of es)) es i) → SuppliesBefore (is_open (slots_of es)) es i → SuppliesBefore (is_open (slots_of es)) es (i + 1)
+supplied_more es i e k a before =
+    let set = is_open (slots_of es) in
+    subst (SuppliesBefore set es) (sym (add-one i)) (supplies_more set es i before
     (λ f g.
     let both : Some e ≡ Some f = sym k ∙ g in
     let same : e ≡ f = cc in
-    subst (λ h. entry_asks (reading_of h) (at_place (is_open slots) es i)) same (subst (entry_asks (reading_of e)) (place_answering es slots i set round quiet s p) a))
+    subst (λ h. entry_asks (reading_of h) (answering set es i)) same a))
 
 pub supplied_all : (es : List Entry) → SuppliesBefore (is_open (slots_of es)) es (length es) → IsPossible es
 supplied_all es h = (IsPossible-iff es).1 ((SuppliesAll-places (is_open (slots_of es)) es (length es)).1 h)
 
-pub supplied_each : (es : List Entry) (i : ℕ) (e : Entry) (set : ℕ → Bool) (round : Option Round) (quiet : List ℕ) → slice_get es i ≡ Some e → SameUids set (is_open (slots_of es)) → IsPlace es i round quiet → IsPossible es → entry_asks (reading_of e) (answering set (round_mask round) quiet)
-supplied_each es i e set round quiet k s p possible =
-    let slots = slots_of es in
-    let all = (SuppliesAll-places (is_open slots) es (length es)).0 ((IsPossible-iff es).0 possible) in
-    subst (entry_asks (reading_of e)) (sym (place_answering es slots i set round quiet s p)) (all i e (slice_get_within es i e k) k)
-
--- as the judge has them: the mask by a call, the Quiet UIDs through a slice
-pub judged_same : (e : Entry) (set : ℕ → Bool) (round : Option Round) (quiet quiet' : List ℕ) (mask : Option BitMask) → mask ≡ round_mask round → quiet' ≡ quiet → entry_asks (reading_of e) (answering set mask quiet') ≡ entry_asks (reading_of e) (answering set (round_mask round) quiet)
-judged_same e set round quiet quiet' mask m q = ap (λ o. entry_asks (reading_of e) (answering set o quiet')) m ∙ ap (λ us. entry_asks (reading_of e) (answering set (round_mask round) us)) q
+pub supplied_each : (es : List Entry) (i : ℕ) (e : Entry) → slice_get es i ≡ Some e → IsPossible es → entry_asks (reading_of e) (answering (is_open (slots_of es)) es i)
+supplied_each es i e k possible =
+    (SuppliesAll-places (is_open (slots_of es)) es (length es)).0 ((IsPossible-iff es).0 possible) i e (slice_get_within es i e k) k

@@ -1,4 +1,4 @@
 pub mod Possible
 pub mod Verdict
-pub mod Passing
+pub mod Places
 pub mod Rising

@@ -1,19 +1,19 @@
 //! Which UIDs every population that could have given a log has.
 
-ghost use Rattle.std.specs.Prelude.{◌≡◌, IfOk, OnOk, length, true};
-ghost use Rattle.std.specs.List.Sorted.{IsStrictlyIncreasing};
-ghost use Rattle.vic_tree.specs.OpenSet.{SameUids};
+ghost use Rattle.std.specs.Prelude.{◌≡◌, ℕ, List, IfOk, OnOk, length, true};
 ghost use Rattle.vic_frame.specs.Uids.{has};
+ghost use Rattle.vic_tree.specs.OpenSet.{SameUids};
+ghost use Rattle.vic_log.specs.declared.entry.Entry.{Entry as EntryValue};
 ghost use Rattle.vic_log.specs.Slots.{slots_of, is_open, reading_of, IsForcedBy};
 ghost use Rattle.vic_log.specs.Order.{IsInOrder, entries, AreValid};
-ghost use Rattle.vic_verdict.specs.Passing.{answering, entry_forces};
+ghost use Rattle.vic_verdict.specs.Places.{StandsAt, answering, entry_forces};
 ghost use Rattle.vic_verdict.specs.Rising.{Adds, IsListOf};
 
-use crate::quiet::pass_quiet;
+use crate::answering::up_to_three;
+use crate::place::Place;
 use crate::rising::put_in_order;
-use crate::round::{Round, next_mask, pass_round};
 use std::alloc::{AllocError, Global};
-use vic_frame::{Mask, Uid};
+use vic_frame::Uid;
 use vic_log::{Entry, LogLine};
 use vic_tree::OpenSet;
 
@@ -27,35 +27,29 @@ fn add_exactly(certain: &mut Vec<Uid>, uids: &[Uid], count: usize) -> Result<(),
     Ok(())
 }
 
-/// Adds the UIDs that a slot line forces.
+/// Adds the UIDs that an entry forces: the one that was heard, and of a collision the two that
+/// answer, where there are no others.
 fn add_certain<S: OpenSet>(
+    alloc: Global,
     certain: &mut Vec<Uid>,
     set: &S,
-    mask: &Option<Mask>,
-    quiet: &[Uid],
+    place: &Place,
     entry: &Entry,
 ) -> Result<(), AllocError>
-    requires { IsStrictlyIncreasing quiet.now }
-    ensures { OnOk result (Adds (entry_forces (reading_of entry.now) (answering (S.is_open set.now) mask.now quiet.now)) certain.old.items certain.new.items) }
+    ensures { OnOk result ((es : List EntryValue) (i : ℕ) → StandsAt es i place.now entry.now → SameUids (S.is_open set.now) (is_open (slots_of es)) → Adds (entry_forces (reading_of entry.now) (answering (is_open (slots_of es)) es i)) certain.old.items certain.new.items) }
 {
     match *entry {
         Entry::Heard(response) => {
             certain.push(response.uid())?;
             Ok(())
         }
-        Entry::Collision => match *mask {
-            Some(mask) => add_exactly(certain, &set.up_to_three(&mask, quiet), 2),
-            None => Ok(()),
-        },
-        Entry::Garbled => match *mask {
-            Some(mask) => add_exactly(certain, &set.up_to_three(&mask, quiet), 1),
-            None => Ok(()),
-        },
+        Entry::Collision => add_exactly(certain, &up_to_three(alloc, set, place)?, 2),
+        Entry::Garbled => add_exactly(certain, &up_to_three(alloc, set, place)?, 1),
         _ => Ok(()),
     }
 }
 
-/// The UIDs that the slot lines of a log force, in rising order.
+/// The UIDs that the entries of a log force, in rising order.
 pub fn certain_uids<S: OpenSet>(
     alloc: Global,
     set: &S,
@@ -67,14 +61,10 @@ pub fn certain_uids<S: OpenSet>(
     ensures { IfOk result (λ v. IsListOf (IsForcedBy (is_open (slots_of (entries lines.now))) (slots_of (entries lines.now))) v.items) }
 {
     let mut certain = Vec::new(alloc);
-    let mut quiet = Vec::new(alloc);
-    let mut round: Option<Round> = None;
+    let mut place = Place::first(alloc);
     for line in lines {
-        let entry = line.item;
-        let mask = next_mask(&round);
-        add_certain(&mut certain, set, &mask, &quiet, &entry)?;
-        round = pass_round(&round, &entry);
-        pass_quiet(&mut quiet, &entry)?;
+        add_certain(alloc, &mut certain, set, &place, &line.item)?;
+        place.pass(&line.item)?;
     }
     put_in_order(&mut certain);
     Ok(certain)

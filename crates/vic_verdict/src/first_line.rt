@@ -1,6 +1,6 @@
 //! The first line of a log that no population could have given.
 
-ghost use Rattle.std.specs.Prelude.{◌≡◌, ℕ, IfOk, MatchOption};
+ghost use Rattle.std.specs.Prelude.{IfOk};
 ghost use Rattle.vic_log.specs.Order.{IsInOrder, entries, IsRisingFrom, AreValid};
 ghost use Rattle.vic_verdict.specs.Possible.{IsPossible};
 ghost use Rattle.vic_verdict.specs.Verdict.{IsVerdict};
@@ -11,19 +11,18 @@ use std::alloc::{AllocError, Global};
 use vic_log::LogLine;
 use vic_tree::OpenSet;
 
-/// The number of the first impossible line, or none where the log is possible.
+/// The number of the first line up to which no population could have given the log, found by
+/// halving: what is impossible stays so when lines follow.
 pub fn first_impossible_line<S: OpenSet>(
     alloc: Global,
     lines: &[LogLine],
-) -> Result<Option<u32>, AllocError>
+) -> Result<u32, AllocError>
     requires order { IsInOrder (entries lines.now) }
     requires valid { AreValid (entries lines.now) }
     requires rising { IsRisingFrom 0 lines.now }
-    ensures { IfOk result (λ answer. MatchOption answer (IsPossible (entries lines.now)) (λ n. IsVerdict lines.now (Impossible n))) }
+    requires impossible { IsPossible (entries lines.now) → ⊥ }
+    ensures { IfOk result (λ n. IsVerdict lines.now (Impossible n)) }
 {
-    if is_possible::<S>(alloc, lines)? {
-        return Ok(None);
-    }
     let mut low = 0;
     let mut high = lines.len();
     while high - low > 1 {
@@ -35,5 +34,5 @@ pub fn first_impossible_line<S: OpenSet>(
             high = middle;
         }
     }
-    Ok(Some(lines[low].number))
+    Ok(lines[low].number)
 }

@@ -4,6 +4,7 @@ ghost use Rattle.std.specs.Prelude.{◌≡◌, ℕ, IfOk, OnOk, true, length};
 ghost use Rattle.std.specs.List.Sorted.{IsStrictlyIncreasing};
 ghost use Rattle.vic_frame.specs.Uids.{IsUid, has};
 ghost use Rattle.vic_tree.specs.OpenSet.{SameUids};
+ghost use Rattle.vic_log.specs.Slots.{slots_of, is_open};
 ghost use Rattle.vic_verdict.specs.Possible.{IsPossible};
 ghost use Rattle.vic_log.specs.Order.{IsInOrder, entries, listed, IsRisingFrom, AreValid};
 ghost use Rattle.vic_verdict.specs.Verdict.{IsVerdict, IsSettled, IsReached};
@@ -14,6 +15,7 @@ ghost use Rattle.vic_verdict.specs.declared.verdict.Verdict.TheVariants.{Complet
 use crate::certain::certain_uids;
 use crate::first_line::first_impossible_line;
 use crate::listed::{count_listed, listed_uids};
+use crate::possible::supplies_all;
 use crate::rising::{is_among, least_failing};
 use crate::settle::settle_all;
 use crate::verdict::Verdict;
@@ -33,15 +35,19 @@ pub fn take_out<S: OpenSet>(set: &mut S, uids: &[Uid]) -> Result<(), AllocError>
     Ok(())
 }
 
-/// The verdict on a possible log.
-fn judge_possible<S: OpenSet>(alloc: Global, lines: &[LogLine]) -> Result<Verdict, AllocError>
+/// The verdict on a possible log, by the UIDs that it leaves open.
+fn judge_possible<S: OpenSet>(
+    alloc: Global,
+    mut set: S,
+    lines: &[LogLine],
+) -> Result<Verdict, AllocError>
     requires order { IsInOrder (entries lines.now) }
     requires valid { AreValid (entries lines.now) }
     requires rising { IsRisingFrom 0 lines.now }
     requires possible { IsPossible (entries lines.now) }
+    requires open { SameUids (S.is_open set) (is_open (slots_of (entries lines.now))) }
     ensures { IfOk result (λ v. IsVerdict lines.now v) }
 {
-    let mut set: S = settle_all(alloc, lines)?;
     let certain = certain_uids(alloc, &set, lines)?;
     let listed = listed_uids(alloc, lines)?;
     if let Some(uid) = least_failing(&listed, |u| set.has(u)) {
@@ -61,6 +67,22 @@ fn judge_possible<S: OpenSet>(alloc: Global, lines: &[LogLine]) -> Result<Verdic
     Ok(Verdict::Complete { count })
 }
 
+/// The verdict on the lines of a log.
+fn judge_lines<S: OpenSet>(alloc: Global, lines: &[LogLine]) -> Result<Verdict, AllocError>
+    requires order { IsInOrder (entries lines.now) }
+    requires valid { AreValid (entries lines.now) }
+    requires rising { IsRisingFrom 0 lines.now }
+    ensures { IfOk result (λ v. IsVerdict lines.now v) }
+{
+    let set: S = settle_all(alloc, lines)?;
+    if supplies_all(alloc, &set, lines)? {
+        judge_possible(alloc, set, lines)
+    } else {
+        let line = first_impossible_line::<S>(alloc, lines)?;
+        Ok(Verdict::Impossible { line })
+    }
+}
+
 /// The verdict on a log, over any set of open UIDs.
 pub fn judge_with<S: OpenSet>(alloc: Global, lines: &[LogLine]) -> Result<Verdict, AllocError>
     requires order { IsInOrder (entries lines.now) }
@@ -70,8 +92,5 @@ pub fn judge_with<S: OpenSet>(alloc: Global, lines: &[LogLine]) -> Result<Verdic
     ensures settled { IfOk result (λ v. (count : ℕ) → v ≡ Complete count → IsSettled (entries lines.now)) }
     ensures reached { IfOk result (λ v. IsReached (entries lines.now) → v ≡ Complete (length (listed (entries lines.now)))) }
 {
-    if let Some(line) = first_impossible_line::<S>(alloc, lines)? {
-        return Ok(Verdict::Impossible { line });
-    }
-    judge_possible::<S>(alloc, lines)
+    judge_lines::<S>(alloc, lines)
 }

@@ -1,15 +1,16 @@
 //! What the log of an inventory session proves of its list of tags.
 #![tactic(auto)]
 
+mod answering;
 mod certain;
 mod first_line;
 mod judge;
 pub mod laws;
 mod listed;
+mod place;
 mod possible;
 mod quiet;
 mod rising;
-mod round;
 mod settle;
 mod verdict;
 

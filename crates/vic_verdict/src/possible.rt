@@ -1,77 +1,60 @@
 //! Whether some population could have given a log.
 
-ghost use Rattle.std.specs.Prelude.{◌≡◌, ℕ, IfOk, IfSome, Some, OnOk, ◌<◌, ◌≤◌, ◌↔◌, IsTrue};
-ghost use Rattle.std.specs.List.Sorted.{IsStrictlyIncreasing};
-ghost use Rattle.vic_frame.specs.Uids.{IsUid};
-ghost use Rattle.vic_frame.specs.Requests.{IsValid};
+ghost use Rattle.std.specs.Prelude.{◌≡◌, ℕ, List, IfOk, ◌↔◌, IsTrue};
 ghost use Rattle.vic_tree.specs.OpenSet.{SameUids};
-ghost use Rattle.vic_log.specs.Slots.{slots_of, is_open, reading_of, SuppliesAll};
-ghost use Rattle.vic_verdict.specs.Possible.{IsPossible};
-ghost use Rattle.vic_log.specs.Order.{IsInOrder, entries, AreValid};
-ghost use Rattle.vic_verdict.specs.Passing.{after_round, after_quiet, round_mask, open_after, answering, entry_asks};
-ghost use Rattle.vic_verdict.specs.Rising.{SameMembers};
 ghost use Rattle.vic_log.specs.declared.entry.Entry.{Entry as EntryValue};
+ghost use Rattle.vic_log.specs.Slots.{slots_of, is_open, reading_of};
+ghost use Rattle.vic_log.specs.Order.{IsInOrder, entries, AreValid};
+ghost use Rattle.vic_verdict.specs.Possible.{IsPossible};
+ghost use Rattle.vic_verdict.specs.Places.{StandsAt, answering, entry_asks};
 
-use crate::quiet::pass_quiet;
-use crate::round::{Round, next_mask, pass_round};
+use crate::answering::{answers, up_to_three};
+use crate::place::Place;
 use crate::settle::settle_all;
 use std::alloc::{AllocError, Global};
-use vic_frame::{Mask, Uid};
 use vic_log::{Entry, LogLine};
 use vic_tree::OpenSet;
 
-/// Whether a UID is in a set and its tag answers in a slot.
-fn could_answer<S: OpenSet>(set: &S, mask: &Mask, quiet: &[Uid], uid: Uid) -> bool
-    ensures { result ≡ answering (S.is_open set.now) (Some mask.now) quiet.now uid }
-{
-    let _number = uid.number();
-    set.has(uid) & (mask.matches(uid) & !quiet.contains(&uid))
-}
-
-/// Whether a set has the UIDs that a slot line asks for.
-fn supplies_slot<S: OpenSet>(set: &S, mask: &Option<Mask>, quiet: &[Uid], entry: &Entry) -> bool
-    requires { IsStrictlyIncreasing quiet.now }
-    ensures { IsTrue result ↔ entry_asks (reading_of entry.now) (answering (S.is_open set.now) mask.now quiet.now) }
+/// Whether the open UIDs have what an entry asks for: an answered slot asks for the UID that was
+/// heard, a collision for two UIDs that answer.
+fn supplies_slot<S: OpenSet>(
+    alloc: Global,
+    set: &S,
+    place: &Place,
+    entry: &Entry,
+) -> Result<bool, AllocError>
+    ensures { IfOk result (λ yes. (es : List EntryValue) (i : ℕ) → StandsAt es i place.now entry.now → SameUids (S.is_open set.now) (is_open (slots_of es)) → IsTrue yes ↔ entry_asks (reading_of entry.now) (answering (is_open (slots_of es)) es i)) }
 {
     match *entry {
-        Entry::Collision => match *mask {
-            Some(mask) => set.up_to_three(&mask, quiet).len() >= 2,
-            None => false,
-        },
-        Entry::Garbled => match *mask {
-            Some(mask) => set.up_to_three(&mask, quiet).len() >= 1,
-            None => false,
-        },
-        Entry::Heard(response) => match *mask {
-            Some(mask) => could_answer(set, &mask, quiet, response.uid()),
-            None => false,
-        },
-        _ => true,
+        Entry::Heard(response) => Ok(answers(set, place, response.uid())),
+        Entry::Collision => Ok(up_to_three(alloc, set, place)?.len() >= 2),
+        Entry::Garbled => Ok(up_to_three(alloc, set, place)?.len() >= 1),
+        _ => Ok(true),
     }
 }
 
-/// Whether a set has the UIDs that all slot lines ask for.
-fn supplies_all<S: OpenSet>(alloc: Global, set: &S, lines: &[LogLine]) -> Result<bool, AllocError>
+/// Whether the open UIDs have what all entries ask for: then, and only then, is the log possible.
+pub fn supplies_all<S: OpenSet>(
+    alloc: Global,
+    set: &S,
+    lines: &[LogLine],
+) -> Result<bool, AllocError>
     requires order { IsInOrder (entries lines.now) }
     requires valid { AreValid (entries lines.now) }
     requires open { SameUids (S.is_open set.now) (is_open (slots_of (entries lines.now))) }
     ensures { IfOk result (λ yes. IsTrue yes ↔ IsPossible (entries lines.now)) }
 {
-    let mut quiet = Vec::new(alloc);
-    let mut round: Option<Round> = None;
+    let mut place = Place::first(alloc);
     for line in lines {
-        let entry = line.item;
-        let mask = next_mask(&round);
-        if !supplies_slot(set, &mask, &quiet, &entry) {
+        if !supplies_slot(alloc, set, &place, &line.item)? {
             return Ok(false);
         }
-        round = pass_round(&round, &entry);
-        pass_quiet(&mut quiet, &entry)?;
+        place.pass(&line.item)?;
     }
     Ok(true)
 }
 
-/// Whether some population could have given the log.
+/// Whether some population could have given a log.
 pub fn is_possible<S: OpenSet>(alloc: Global, lines: &[LogLine]) -> Result<bool, AllocError>
     requires order { IsInOrder (entries lines.now) }
     requires valid { AreValid (entries lines.now) }

@@ -1,43 +1,38 @@
 //! Which UIDs the silent and answered slots of a log leave open.
 
-ghost use Rattle.std.specs.Prelude.{◌≡◌, ℕ, IfOk, IfSome, Some, OnOk, ◌<◌, ◌≤◌, ◌↔◌, IsTrue};
-ghost use Rattle.std.specs.List.Sorted.{IsStrictlyIncreasing};
-ghost use Rattle.vic_frame.specs.Uids.{IsUid};
-ghost use Rattle.vic_frame.specs.Requests.{IsValid};
+ghost use Rattle.std.specs.Prelude.{◌≡◌, ℕ, ◌+◌, List, IfOk, OnOk};
 ghost use Rattle.vic_tree.specs.OpenSet.{SameUids};
-ghost use Rattle.vic_log.specs.Slots.{slots_of, is_open, reading_of, SuppliesAll};
-ghost use Rattle.vic_verdict.specs.Possible.{IsPossible};
-ghost use Rattle.vic_log.specs.Order.{IsInOrder, entries, AreValid};
-ghost use Rattle.vic_verdict.specs.Passing.{after_round, after_quiet, round_mask, open_after, answering, entry_asks};
-ghost use Rattle.vic_verdict.specs.Rising.{SameMembers};
 ghost use Rattle.vic_log.specs.declared.entry.Entry.{Entry as EntryValue};
+ghost use Rattle.vic_log.specs.Slots.{slots_before, slots_of, is_open};
+ghost use Rattle.vic_log.specs.Order.{IsInOrder, entries, AreValid};
+ghost use Rattle.vic_verdict.specs.Places.{StandsAt};
 
-use crate::quiet::pass_quiet;
+use crate::place::Place;
 use crate::rising::insert_rising;
-use crate::round::{Round, next_mask, pass_round};
 use std::alloc::{AllocError, Global};
-use vic_frame::{Mask, Uid};
 use vic_log::{Entry, LogLine};
 use vic_tree::OpenSet;
 
-/// Settles what a slot line tells.
+/// Settles what an entry tells: in a silent slot only Quiet tags of its mask may be, in an answered
+/// one these and the tag that was heard.
 fn settle_slot<S: OpenSet>(
     alloc: Global,
     set: &mut S,
-    mask: Option<Mask>,
-    quiet: &[Uid],
+    place: &Place,
     entry: &Entry,
 ) -> Result<(), AllocError>
-    requires { IsStrictlyIncreasing quiet.now }
-    ensures { OnOk result (SameUids (S.is_open set.new) (open_after (S.is_open set.old) mask quiet.now entry.now)) }
+    ensures { OnOk result ((es : List EntryValue) (i : ℕ) → StandsAt es i place.now entry.now → SameUids (S.is_open set.old) (is_open (slots_before es i)) → SameUids (S.is_open set.new) (is_open (slots_before es (i + 1)))) }
 {
-    let Some(mask) = mask else {
+    let Some(mask) = place.mask() else {
         return Ok(());
     };
     match *entry {
-        Entry::Silent => set.settle(&mask, quiet),
+        Entry::Silent => {
+            let quiet = place.quiet.in_mask(alloc, &mask)?;
+            set.settle(&mask, &quiet)
+        }
         Entry::Heard(response) => {
-            let mut except = Vec::from_slice(alloc, quiet)?;
+            let mut except = place.quiet.in_mask(alloc, &mask)?;
             insert_rising(&mut except, response.uid())?;
             set.settle(&mask, &except)
         }
@@ -52,14 +47,10 @@ pub fn settle_all<S: OpenSet>(alloc: Global, lines: &[LogLine]) -> Result<S, All
     ensures { IfOk result (λ s. SameUids (S.is_open s) (is_open (slots_of (entries lines.now)))) }
 {
     let mut set = S::everything(alloc)?;
-    let mut quiet = Vec::new(alloc);
-    let mut round: Option<Round> = None;
+    let mut place = Place::first(alloc);
     for line in lines {
-        let entry = line.item;
-        let mask = next_mask(&round);
-        settle_slot(alloc, &mut set, mask, &quiet, &entry)?;
-        round = pass_round(&round, &entry);
-        pass_quiet(&mut quiet, &entry)?;
+        settle_slot(alloc, &mut set, &place, &line.item)?;
+        place.pass(&line.item)?;
     }
     Ok(set)
 }

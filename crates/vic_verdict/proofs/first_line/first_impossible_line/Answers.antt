@@ -8,15 +8,15 @@ use Rattle.vic_verdict.proofs.Halving.{between_first, order_front, valid_front}
 use Rattle.vic_verdict.proofs.first_line.first_impossible_line.Goals as goal
 
 pub loop-high-init : goal.loop-high-init
-loop-high-init g c = between_first c.args.lines.now (λ p. both_ways c.in_ok-is_possible.field-0 c.if-branch.false (c.in_ok-is_possible.ensures.1 p))
+loop-high-init g c = between_first c.args.lines.now c.requires.impossible
 
-pub is_possible-requires-in-loop-high-clause-order :
-    goal.is_possible-requires-in-loop-high-clause-order
-is_possible-requires-in-loop-high-clause-order g c = order_front (c.loop-high.low + (c.loop-high.high - c.loop-high.low) / 2) c.args.lines.now c.requires.order
+pub is_possible-requires-clause-order :
+    goal.is_possible-requires-clause-order
+is_possible-requires-clause-order g c = order_front (c.loop-high.low + (c.loop-high.high - c.loop-high.low) / 2) c.args.lines.now c.requires.order
 
-pub is_possible-requires-in-loop-high-clause-valid :
-    goal.is_possible-requires-in-loop-high-clause-valid
-is_possible-requires-in-loop-high-clause-valid g c = valid_front (c.loop-high.low + (c.loop-high.high - c.loop-high.low) / 2) c.args.lines.now c.requires.valid
+pub is_possible-requires-clause-valid :
+    goal.is_possible-requires-clause-valid
+is_possible-requires-clause-valid g c = valid_front (c.loop-high.low + (c.loop-high.high - c.loop-high.low) / 2) c.args.lines.now c.requires.valid
 
 pub returns : goal.returns
 returns g c =

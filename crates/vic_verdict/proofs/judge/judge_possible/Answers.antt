@@ -7,29 +7,29 @@ use Rattle.vic_verdict.proofs.judge.judge_possible.Goals as goal
 pub returns-in-Some : goal.returns-in-Some
 returns-in-Some g c =
     let es = entries c.args.lines.now in
-    let set = g.S.OpenSet.is_open c.in_ok-set.set in
+    let set = g.S.OpenSet.is_open c.args.set in
     let us = c.in_ok-listed.listed.items in
     let certain = c.in_ok-certain.certain.items in
-    let j : Has es set us certain = record { possible = c.requires.possible; uids_open = c.in_ok-set.ensures; uids_listed = c.in_ok-listed.ensures.members; are_uids = c.in_ok-listed.ensures.uids; uids_certain = c.in_ok-certain.ensures } in
+    let j : Has es set us certain = record { possible = c.requires.possible; uids_open = c.requires.open; uids_listed = c.in_ok-listed.ensures.members; are_uids = c.in_ok-listed.ensures.uids; uids_certain = c.in_ok-certain.ensures } in
     (c.requires.possible, absent_at es set us certain c.deref.result.now (Some c.in-Some.uid) j c.deref.ensures.value (c.in-Some.ensures set (λ u b p. search rules)))
 
 pub returns-in-Some-least_failing : goal.returns-in-Some-least_failing
 returns-in-Some-least_failing g c =
     let es = entries c.args.lines.now in
-    let set = g.S.OpenSet.is_open c.in_ok-set.set in
+    let set = g.S.OpenSet.is_open c.args.set in
     let us = c.in_ok-listed.listed.items in
     let certain = c.in_ok-certain.certain.items in
-    let j : Has es set us certain = record { possible = c.requires.possible; uids_open = c.in_ok-set.ensures; uids_listed = c.in_ok-listed.ensures.members; are_uids = c.in_ok-listed.ensures.uids; uids_certain = c.in_ok-certain.ensures } in
+    let j : Has es set us certain = record { possible = c.requires.possible; uids_open = c.requires.open; uids_listed = c.in_ok-listed.ensures.members; are_uids = c.in_ok-listed.ensures.uids; uids_certain = c.in_ok-certain.ensures } in
     let none_absent = absent_at es set us certain c.deref.result.now None j c.deref.ensures.value (c.in_default.ensures set (λ u b p. search rules)) in
     (c.requires.possible, none_absent, unlisted_at es set us certain c.deref-2.result.now (Some c.in-Some-least_failing.uid) j c.deref-2.ensures.value (c.in-Some-least_failing.ensures (has us) (λ u b p. search rules)))
 
 pub returns-in-Some-widest : goal.returns-in-Some-widest
 returns-in-Some-widest g c =
     let es = entries c.args.lines.now in
-    let set = g.S.OpenSet.is_open c.in_ok-set.set in
+    let set = g.S.OpenSet.is_open c.args.set in
     let us = c.in_ok-listed.listed.items in
     let certain = c.in_ok-certain.certain.items in
-    let j : Has es set us certain = record { possible = c.requires.possible; uids_open = c.in_ok-set.ensures; uids_listed = c.in_ok-listed.ensures.members; are_uids = c.in_ok-listed.ensures.uids; uids_certain = c.in_ok-certain.ensures } in
+    let j : Has es set us certain = record { possible = c.requires.possible; uids_open = c.requires.open; uids_listed = c.in_ok-listed.ensures.members; are_uids = c.in_ok-listed.ensures.uids; uids_certain = c.in_ok-certain.ensures } in
     let none_absent = absent_at es set us certain c.deref.result.now None j c.deref.ensures.value (c.in_default.ensures set (λ u b p. search rules)) in
     let none_unlisted = unlisted_at es set us certain c.deref-2.result.now None j c.deref-2.ensures.value (c.in_default-least_failing.ensures (has us) (λ u b p. search rules)) in
     let left = left_at es set (g.S.OpenSet.is_open c.take_out.new.set) us certain c.deref-3.result.now j c.deref-3.ensures.value c.in_ok-take_out.ensures in
@@ -38,10 +38,10 @@ returns-in-Some-widest g c =
 pub returns-in-Some-least_failing-2 : goal.returns-in-Some-least_failing-2
 returns-in-Some-least_failing-2 g c =
     let es = entries c.args.lines.now in
-    let set = g.S.OpenSet.is_open c.in_ok-set.set in
+    let set = g.S.OpenSet.is_open c.args.set in
     let us = c.in_ok-listed.listed.items in
     let certain = c.in_ok-certain.certain.items in
-    let j : Has es set us certain = record { possible = c.requires.possible; uids_open = c.in_ok-set.ensures; uids_listed = c.in_ok-listed.ensures.members; are_uids = c.in_ok-listed.ensures.uids; uids_certain = c.in_ok-certain.ensures } in
+    let j : Has es set us certain = record { possible = c.requires.possible; uids_open = c.requires.open; uids_listed = c.in_ok-listed.ensures.members; are_uids = c.in_ok-listed.ensures.uids; uids_certain = c.in_ok-certain.ensures } in
     let none_absent = absent_at es set us certain c.deref.result.now None j c.deref.ensures.value (c.in_default.ensures set (λ u b p. search rules)) in
     let none_unlisted = unlisted_at es set us certain c.deref-2.result.now None j c.deref-2.ensures.value (c.in_default-least_failing.ensures (has us) (λ u b p. search rules)) in
     let left = left_at es set (g.S.OpenSet.is_open c.take_out.new.set) us certain c.deref-3.result.now j c.deref-3.ensures.value c.in_ok-take_out.ensures in
@@ -51,10 +51,10 @@ returns-in-Some-least_failing-2 g c =
 pub returns : goal.returns
 returns g c =
     let es = entries c.args.lines.now in
-    let set = g.S.OpenSet.is_open c.in_ok-set.set in
+    let set = g.S.OpenSet.is_open c.args.set in
     let us = c.in_ok-listed.listed.items in
     let certain = c.in_ok-certain.certain.items in
-    let j : Has es set us certain = record { possible = c.requires.possible; uids_open = c.in_ok-set.ensures; uids_listed = c.in_ok-listed.ensures.members; are_uids = c.in_ok-listed.ensures.uids; uids_certain = c.in_ok-certain.ensures } in
+    let j : Has es set us certain = record { possible = c.requires.possible; uids_open = c.requires.open; uids_listed = c.in_ok-listed.ensures.members; are_uids = c.in_ok-listed.ensures.uids; uids_certain = c.in_ok-certain.ensures } in
     let none_absent = absent_at es set us certain c.deref.result.now None j c.deref.ensures.value (c.in_default.ensures set (λ u b p. search rules)) in
     let none_unlisted = unlisted_at es set us certain c.deref-2.result.now None j c.deref-2.ensures.value (c.in_default-least_failing.ensures (has us) (λ u b p. search rules)) in
     let left = left_at es set (g.S.OpenSet.is_open c.take_out.new.set) us certain c.deref-3.result.now j c.deref-3.ensures.value c.in_ok-take_out.ensures in

@@ -11,15 +11,9 @@ use Rattle.vic_verdict.proofs.judge.judge_with.Goals as goal
 pub returns-clause-settled : goal.returns-clause-settled
 returns-clause-settled g c =
     let lines = c.args.lines.now in
-    IfOk-weaker c.judge_possible.result (IsVerdict lines) _ (λ v h count e. complete_settled lines count (subst (IsVerdict lines) e h)) c.judge_possible.ensures
+    IfOk-weaker c.judge_lines.result (IsVerdict lines) _ (λ v h count e. complete_settled lines count (subst (IsVerdict lines) e h)) c.judge_lines.ensures
 
 pub returns-clause-reached : goal.returns-clause-reached
 returns-clause-reached g c =
     let lines = c.args.lines.now in
-    IfOk-weaker c.judge_possible.result (IsVerdict lines) _ (λ v h r. one_verdict lines c.requires.rising v (Complete (length (listed (entries lines)))) h (reached_complete lines r)) c.judge_possible.ensures
-
-pub returns-in-Some-clause-reached : goal.returns-in-Some-clause-reached
-returns-in-Some-clause-reached g c r =
-    let lines = c.args.lines.now in
-    let h : IsVerdict lines (Impossible c.in-Some.line) = subst (λ (o : Option ℕ). MatchOption o (IsPossible (entries lines)) (λ n. IsVerdict lines (Impossible n))) c.in-Some.is c.in_ok-line.ensures in
-    one_verdict lines c.requires.rising (Impossible c.in-Some.line) (Complete (length (listed (entries lines)))) h (reached_complete lines r)
+    IfOk-weaker c.judge_lines.result (IsVerdict lines) _ (λ v h r. one_verdict lines c.requires.rising v (Complete (length (listed (entries lines)))) h (reached_complete lines r)) c.judge_lines.ensures

@@ -1,8 +1,12 @@
-use Rattle.vic_verdict.proofs.Supplied.{collision_test, garbled_test}
+use Rattle.vic_log.specs.Slots.{slots_of, is_open}
+use Rattle.vic_verdict.specs.Places.{answering}
+use Rattle.vic_verdict.proofs.Supplied.{collision_asks, garbled_asks}
 use Rattle.vic_verdict.proofs.possible.supplies_slot.Goals as goal
 
-pub returns-in-Some : goal.returns-in-Some
-returns-in-Some g c = collision_test (g.S.OpenSet.is_open c.args.set.now) c.in-Some.mask c.args.quiet.now c.up_to_three.result.items c.len.result c.args.entry.now c.args.mask.now c.in-Collision.is c.in-Some.is c.up_to_three.ensures c.len.ensures.value
+pub returns-in_ok-up_to_three-in-Collision : goal.returns-in_ok-up_to_three-in-Collision
+returns-in_ok-up_to_three-in-Collision g c es i s same =
+    collision_asks (answering (is_open (slots_of es)) es i) c.args.entry.now c.in_ok-up_to_three-in-Collision.field-0.items c.len.result c.in-Collision.is c.len.ensures.value (c.in_ok-up_to_three-in-Collision.ensures es i s.valid s.place same)
 
-pub returns-in-Some-mask : goal.returns-in-Some-mask
-returns-in-Some-mask g c = garbled_test (g.S.OpenSet.is_open c.args.set.now) c.in-Some-mask.mask c.args.quiet.now c.up_to_three-in-Some-mask.result.items c.len-in-Some-mask.result c.args.entry.now c.args.mask.now c.in-Garbled.is c.in-Some-mask.is c.up_to_three-in-Some-mask.ensures c.len-in-Some-mask.ensures.value
+pub returns-in_ok-up_to_three-in-Garbled : goal.returns-in_ok-up_to_three-in-Garbled
+returns-in_ok-up_to_three-in-Garbled g c es i s same =
+    garbled_asks (answering (is_open (slots_of es)) es i) c.args.entry.now c.in_ok-up_to_three-in-Garbled.field-0.items c.len-in-Garbled.result c.in-Garbled.is c.len-in-Garbled.ensures.value (c.in_ok-up_to_three-in-Garbled.ensures es i s.valid s.place same)

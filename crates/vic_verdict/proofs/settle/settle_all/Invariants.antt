@@ -1,6 +1,11 @@
+use Rattle.vic_tree.specs.OpenSet.{SameUids}
 use Rattle.vic_log.specs.Order.{entries}
-use Rattle.vic_verdict.proofs.Stands.{Stands}
+use Rattle.vic_log.specs.Slots.{slots_before, is_open}
+use Rattle.vic_verdict.specs.Places.{IsPlace}
 use Rattle.vic_verdict.proofs.settle.settle_all.Given as goal
 
 abbrev pub invariant-loop-line : goal.invariant-loop-line
-invariant-loop-line g l = Stands (entries l.lines) l.line-index (g.S.OpenSet.is_open l.set) l.round l.quiet.items
+invariant-loop-line g l = record {
+  uids : SameUids (g.S.OpenSet.is_open l.set) (is_open (slots_before (entries l.lines) l.line-index));
+  place : IsPlace (entries l.lines) l.line-index l.place;
+}
