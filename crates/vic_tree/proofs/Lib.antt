@@ -6,3 +6,6 @@ pub mod GatheringLaws
 pub mod Places
 pub mod LowBits
 pub mod SetLaws
+pub mod CutLaws
+pub mod CellLaws
+pub mod Covered

@@ -1,17 +1,15 @@
 -- What a node says depends on the low bits alone.
-use Rattle.std.proofs.Common.{◌≡◌, ℕ, zero, suc, ◌+◌, ◌-◌, ◌*◌, ◌/◌, ◌^◌, ◌%◌, ◌<◌, ◌≤◌, max, refl, sym, ap, subst, ◌∙◌, arith, true, Option, Some, None, IfSome}
+use Rattle.std.proofs.Common.{◌≡◌, ℕ, ◌+◌, ◌-◌, ◌*◌, ◌/◌, ◌^◌, ◌%◌, ◌<◌, ◌≤◌, refl, sym, ap, subst, ◌∙◌, arith, true, Option, Some, None, IfSome}
 use Rattle.std.specs.Option.{SomeIff}
 use Rattle.std.proofs.lemmas.Nat.{mod_below, shr-shr}
 use Rattle.std.proofs.lemmas.Bool.{eqb-true, eq-eqb}
 use Rattle.vic_frame.specs.Masks.{BitMask}
-use Rattle.vic_frame.specs.Uids.{IsUid}
-use Rattle.vic_frame.specs.Masks.{LiesIn}
 use Rattle.vic_frame.proofs.MaskLaws.{mod_mod_pow}
 use Rattle.vic_tree.specs.declared.node.Node.{Node, Fork'}
 use Rattle.vic_tree.specs.declared.node.Node.TheVariants.{Clear, Shut}
 use Rattle.vic_tree.specs.Nodes.{open_at, height}
 use Rattle.vic_tree.specs.OpenSet.{AllOpen, IsWidest}
-use Rattle.vic_tree.specs.Widest.{AllPass, IsWidestOf}
+use Rattle.vic_tree.specs.Widest.{IsWidestOf}
 use Rattle.vic_tree.proofs.Bits.{low_and_rest}
 
 -- the lowest bit and the rest of the low bits

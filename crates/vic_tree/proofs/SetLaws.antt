@@ -1,5 +1,5 @@
 -- What respects that two sets have the same UIDs.
-use Rattle.std.proofs.Common.{◌≡◌, ℕ, ◌≤◌, sym, ap, ◌∙◌, arith, Bool, false, not, ◌&&◌, ◌||◌, List, Option, Some, None, IfSome, IfNone}
+use Rattle.std.proofs.Common.{◌≡◌, ℕ, sym, ap, ◌∙◌, arith, Bool, false, not, ◌&&◌, ◌||◌, List, Option, Some, None, IfSome, IfNone}
 use Rattle.vic_frame.specs.Uids.{has}
 use Rattle.vic_frame.specs.Masks.{BitMask, lies_in}
 use Rattle.vic_tree.specs.OpenSet.{SameUids, settled, IsWidest}

@@ -1,8 +1,7 @@
 -- The widest place of a fork, from those of its halves.
-use Rattle.std.proofs.Common.{◌≡◌, ℕ, zero, suc, ◌+◌, ◌-◌, ◌*◌, ◌/◌, ◌^◌, ◌%◌, ◌<◌, ◌≤◌, ◌⊎◌, inl, inr, Box, refl, add-one, sym, ap, subst, ◌∙◌, arith, Bool, true, false, cond, ◌&&◌, ◌==◌}
-use Rattle.std.proofs.lemmas.Nat.{mod_below, pow_pos}
+use Rattle.std.proofs.Common.{◌≡◌, ℕ, zero, suc, ◌+◌, ◌*◌, ◌/◌, ◌^◌, ◌%◌, ◌<◌, ◌≤◌, ◌⊎◌, inl, inr, Box, refl, add-one, sym, subst, ◌∙◌, arith, Bool, true, false, cond, ◌==◌}
+use Rattle.std.proofs.lemmas.Nat.{mod_below}
 use Rattle.std.proofs.Math.Nat.{pow-suc, pow-le-pow_right, mod-eq_of_lt}
-use Rattle.std.proofs.lemmas.Bool.{eq-eqb}
 use Rattle.vic_frame.specs.Masks.{BitMask}
 use Rattle.vic_tree.specs.declared.node.Node.{Node, Fork'}
 use Rattle.vic_tree.specs.declared.node.Node.TheVariants.{Clear, Shut, Fork}
@@ -11,7 +10,7 @@ use Rattle.vic_tree.specs.declared.node.Halves.{Halves}
 use Rattle.vic_tree.specs.Nodes.{open_at, IsReduced, AreOneLeaf, IsClearNode}
 use Rattle.vic_tree.specs.OpenSet.{IsAtMost}
 use Rattle.vic_tree.specs.Widest.{AllPass, IsWidestOf}
-use Rattle.vic_tree.proofs.Bits.{low_and_rest, half_below}
+use Rattle.vic_tree.proofs.Bits.{low_and_rest}
 
 -- what a fork of two tests answers
 abbrev pub forked : (ℕ → Bool) → (ℕ → Bool) → ℕ → Bool

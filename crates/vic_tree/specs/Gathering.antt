@@ -1,6 +1,7 @@
 -- Lists of UIDs that are gathered from a set, three at most.
-use Rattle.std.specs.Prelude.{◌≡◌, ℕ, ◌/◌, ◌^◌, ◌%◌, ◌<◌, ◌≤◌, ◌⊎◌, true, false, List, length}
+use Rattle.std.specs.Prelude.{◌≡◌, ℕ, ◌/◌, ◌^◌, ◌%◌, ◌<◌, ◌≤◌, ◌⊎◌, Bool, true, false, List, length}
 use Rattle.vic_frame.specs.Uids.{IsUid, has}
+use Rattle.vic_frame.specs.Masks.{BitMask, lies_in}
 use Rattle.vic_tree.specs.declared.node.Node.{Node}
 use Rattle.vic_tree.specs.Nodes.{open_at}
 use Rattle.vic_tree.specs.OpenSet.{Distinct}
@@ -11,7 +12,14 @@ pub record IsFree (depth low : ℕ) (except : List ℕ) (u : ℕ) : Type 0 where
   pub inside : u % 2 ^ depth ≡ low
   pub free : has except u ≡ false
 
--- such a UID that is open below a node at this depth
+-- a UID of a set that lies in a mask and isn't an exception
+pub record IsFreeIn (set : ℕ → Bool) (m : BitMask) (except : List ℕ) (u : ℕ) : Type 0 where
+  pub is_uid : IsUid u
+  pub is_open : set u ≡ true
+  pub inside : lies_in m u ≡ true
+  pub free : has except u ≡ false
+
+-- a UID with these low bits that is open below a node at this depth
 pub record IsFreeUnder (node : Node) (depth low : ℕ) (except : List ℕ) (u : ℕ) : Type 0 where
   pub is_uid : IsUid u
   pub inside : u % 2 ^ depth ≡ low

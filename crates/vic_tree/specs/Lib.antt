@@ -1,4 +1,5 @@
 pub mod OpenSet
 pub mod Nodes
 pub mod Widest
+pub mod Cells
 pub mod Gathering

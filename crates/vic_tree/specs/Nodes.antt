@@ -1,5 +1,5 @@
 -- What a tree of bits says.
-use Rattle.std.specs.Prelude.{◌≡◌, ℕ, ◌+◌, ◌/◌, ◌%◌, ◌==◌, ◌&&◌, ◌||◌, Bool, true, false, not, max, if◌then◌else◌}
+use Rattle.std.specs.Prelude.{ℕ, ◌+◌, ◌/◌, ◌%◌, ◌==◌, Bool, true, false, max, if◌then◌else◌}
 use Rattle.vic_tree.specs.declared.node.Node.{Node, Fork'}
 use Rattle.vic_tree.specs.declared.node.Node.TheVariants.{Clear, Shut}
 

@@ -1,6 +1,9 @@
 //! Which UIDs are still open.
 #![tactic(auto)]
 
+mod cell_list;
+mod cells;
+mod cut;
 mod gather;
 mod mask_tree;
 mod node;
@@ -8,5 +11,6 @@ mod open_set;
 pub mod set_laws;
 mod widest;
 
+pub use cell_list::CellList;
 pub use mask_tree::MaskTree;
 pub use open_set::OpenSet;

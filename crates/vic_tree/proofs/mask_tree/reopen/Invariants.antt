@@ -1,4 +1,4 @@
-use Rattle.std.proofs.Common.{◌≡◌, ℕ, ◌≤◌, ◌||◌, ◌==◌, take}
+use Rattle.std.proofs.Common.{◌≡◌, ℕ, ◌≤◌, ◌||◌, take}
 use Rattle.vic_frame.specs.Uids.{IsUid, has}
 use Rattle.vic_tree.specs.Nodes.{open_at, height, IsReduced}
 use Rattle.vic_tree.proofs.mask_tree.reopen.Given as goal

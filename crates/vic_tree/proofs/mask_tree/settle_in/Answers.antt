@@ -1,4 +1,4 @@
-use Rattle.std.proofs.Common.{◌≡◌, ◌∙◌, ap, cond, false, Bool, ◌&&◌, ◌||◌, ◌==◌, ℕ, ◌%◌, ◌^◌}
+use Rattle.std.proofs.Common.{◌≡◌, ◌∙◌, cond, false, ◌&&◌, ℕ}
 use Rattle.vic_frame.specs.Uids.{has}
 use Rattle.vic_frame.specs.Masks.{lies_in}
 use Rattle.vic_tree.specs.Nodes.{open_at}

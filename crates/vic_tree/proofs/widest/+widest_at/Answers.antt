@@ -1,4 +1,4 @@
-use Rattle.std.proofs.Common.{◌≡◌, ℕ, ◌+◌, ◌*◌, ◌<◌, ◌≤◌, Bool, true, false, arith}
+use Rattle.std.proofs.Common.{◌≡◌, ℕ, false, arith}
 use Rattle.vic_frame.specs.Masks.{BitMask}
 use Rattle.vic_tree.specs.Nodes.{open_at}
 use Rattle.vic_tree.specs.Widest.{IsWidestOf}

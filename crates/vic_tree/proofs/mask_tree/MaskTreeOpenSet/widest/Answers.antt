@@ -1,4 +1,4 @@
-use Rattle.std.proofs.Common.{ap, arith}
+use Rattle.std.proofs.Common.{arith}
 use Rattle.vic_frame.specs.Masks.{BitMask}
 use Rattle.vic_tree.specs.Nodes.{open_at}
 use Rattle.vic_tree.specs.OpenSet.{IsWidest}

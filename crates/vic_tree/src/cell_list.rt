@@ -1,0 +1,75 @@
+//! A set of open UIDs as a list of masks.
+
+ghost use Rattle.std.specs.Prelude.{◌≡◌, ℕ, Bool};
+ghost use Rattle.vic_tree.specs.Cells.{in_cells};
+
+use crate::cells::{gather_cells, is_in, least, settled};
+use crate::open_set::OpenSet;
+use arrayvec::ArrayVec;
+use std::alloc::{AllocError, Global};
+use std::marker::Model;
+use vic_frame::{Mask, Uid, low_mask};
+
+/// A set of UIDs as a list of masks: the plain and slow way to keep one.
+#[derive(Drop)]
+pub struct CellList {
+    cells: Vec<Mask>,
+    alloc: Global,
+}
+
+impl Model for CellList {
+    ghost use Rattle.std.specs.Prelude.{List};
+    ghost use Rattle.vic_frame.specs.Masks.{BitMask};
+    ghost use Rattle.vic_tree.specs.Cells.{AreCells};
+
+    ghost Value = { List BitMask };
+
+    ghost view = { λ a. a.cells.items };
+
+    ghost invariant = { λ a. AreCells a.cells.items };
+}
+
+impl OpenSet for CellList {
+    ghost is_open = { in_cells };
+
+    fn everything(alloc: Global) -> Result<CellList, AllocError> {
+        let Some(whole) = Mask::new(0, 0) else {
+            unreachable!()
+        };
+        let mut cells = Vec::new(alloc);
+        cells.push(whole)?;
+        Ok(CellList { cells, alloc })
+    }
+
+    fn settle(&mut self, mask: &Mask, except: &[Uid]) -> Result<(), AllocError> {
+        let Some(mask) = low_mask(mask) else {
+            return Ok(());
+        };
+        match settled(self.alloc, &self.cells, &mask, except) {
+            Ok(left) => {
+                self.cells = left;
+                Ok(())
+            }
+            Err(error) => {
+                self.cells.clear();
+                Err(error)
+            }
+        }
+    }
+
+    fn has(&self, uid: Uid) -> bool {
+        is_in(&self.cells, uid)
+    }
+
+    fn up_to_three(&self, mask: &Mask, except: &[Uid]) -> ArrayVec<Uid, 3> {
+        let mut out = ArrayVec::new();
+        if let Some(mask) = low_mask(mask) {
+            gather_cells(&mut out, except, &self.cells, &mask);
+        }
+        out
+    }
+
+    fn widest(&self) -> Option<Mask> {
+        least(&self.cells)
+    }
+}
