@@ -2,7 +2,7 @@
 //!
 //! A UID is its number, a mask the low bits that a UID must have, a request what a reader sends, a
 //! response what one tag answers. A frame is the bytes of a request or a response with its CRC;
-//! which of the two it is, the caller says. Nothing here takes memory.
+//! which of the two it is, the caller says. No call takes memory.
 #![tactic(auto)]
 
 mod bytes;

@@ -6,15 +6,18 @@ ghost use Rattle.vic_frame.specs.Slots.{slot_count, mask_in, slot_mask};
 
 use crate::mask::Mask;
 
-/// A request of a reader. `link`, from 0 to 3, is the sub-carrier flag and twice the data rate
+/// A request of a reader. `link`, from 0 to 3, is the sub-carrier flag plus twice the data rate
 /// flag; it does not change who answers.
 #[derive(Clone, Copy, Debug, PartialEq, Eq)]
 pub enum Request {
-    /// Each tag that is ready and lies in the mask of a slot answers in that slot. There are
-    /// sixteen slots or one; with sixteen the mask has at most 60 bits. `ISO/IEC 15693-3,
-    /// Inventory request`.
+    /// Each Ready tag answers in the slot whose mask it lies in. There are sixteen slots or one;
+    /// with sixteen the mask has at most 60 bits.
+    ///
+    /// `ISO/IEC 15693-3, Inventory request`.
     Inventory { link: u8, sixteen: bool, mask: Mask },
-    /// The tag with this UID answers no more. The number may be no UID, and then no tag has it.
+    /// The tag with this UID becomes Quiet, and answers no Inventory request until it loses power.
+    /// The number may be no UID, and then it is no tag's.
+    ///
     /// `ISO/IEC 15693-3, Stay Quiet`.
     StayQuiet { link: u8, uid: u64 },
 }
