@@ -25,6 +25,6 @@ reply_body r = r.flags ∷ r.dsfid ∷ bytes_of 8 r.uid
 abbrev pub reply_spelling : Reply → List ℕ
 reply_spelling r = with_crc (reply_body r)
 
--- bytes spell a reply that they are the spelling of
+-- the bytes spell the reply: they are its spelling
 abbrev pub SpellsReply : List ℕ → Reply → Type 0
 SpellsReply f r = IsReply r × (f ≡ reply_spelling r)

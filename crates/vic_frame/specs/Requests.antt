@@ -30,6 +30,6 @@ request_body (StayQuiet link uid) = (0x20 + link) ∷ 0x02 ∷ bytes_of 8 uid
 abbrev pub request_spelling : Request → List ℕ
 request_spelling q = with_crc (request_body q)
 
--- bytes spell a request that is valid and that they are the spelling of
+-- the bytes spell the request: it is valid, and they are its spelling
 abbrev pub SpellsRequest : List ℕ → Request → Type 0
 SpellsRequest f q = IsInRange q × IsValid q × (f ≡ request_spelling q)

@@ -1,6 +1,6 @@
 //! Laws on frames: what a contract of this crate says of one call, said of all frames.
 
-ghost use Rattle.std.specs.Prelude.{◌≡◌, ℕ, ◌<◌, ◌≤◌, ◌^◌, ◌↔◌, true, None, Bool, List, length};
+ghost use Rattle.std.specs.Prelude.{◌≡◌, ℕ, ◌<◌, ◌≤◌, ◌^◌, ◌↔◌, true, None, Ok, Bool, List, length};
 ghost use Rattle.vic_frame.specs.declared.request.Request.{Request};
 ghost use Rattle.vic_frame.specs.declared.request.Request.TheVariants.{Inventory, StayQuiet};
 ghost use Rattle.vic_frame.specs.Masks.{BitMask, IsMask};
@@ -10,6 +10,7 @@ ghost use Rattle.vic_frame.specs.Crc.{crc_right, register};
 ghost use Rattle.vic_frame.specs.Requests.{IsInRange, IsValid, SpellsRequest};
 ghost use Rattle.vic_frame.specs.Fields.{HasInventoryFields, HasStayQuietFields, HasReplyFields};
 ghost use Rattle.vic_frame.specs.Faults.{first_fault, request_faults, reply_faults};
+ghost use Rattle.vic_frame.specs.Reading.{request_reading, reply_reading};
 
 /// Bytes spell a value exactly where the value is in range and each field stands in its place.
 ///
@@ -29,6 +30,12 @@ pub fn one_spelling()
     ensures some_reply { (r : Reply) → IsReply r → (f : List ℕ) × SpellsReply f r }
     ensures one_reply { (f g : List ℕ) (r : Reply) → SpellsReply f r → SpellsReply g r → f ≡ g }
     ensures reply { (f : List ℕ) (r s : Reply) → SpellsReply f r → SpellsReply f s → r ≡ s }
+{}
+
+/// Bytes read as a value exactly where they spell it.
+pub fn read_where_spelled()
+    ensures request { (f : List ℕ) (q : Request) → AreBytes f → (request_reading f ≡ Ok q) ↔ SpellsRequest f q }
+    ensures reply { (f : List ℕ) (r : Reply) → AreBytes f → (reply_reading f ≡ Ok r) ↔ SpellsReply f r }
 {}
 
 /// No fault applies exactly where the bytes spell something.

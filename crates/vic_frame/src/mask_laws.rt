@@ -10,8 +10,8 @@ pub fn nested_or_apart()
     ensures { (m n : BitMask) → IsMask m → IsMask n → m.len ≤ n.len → NestedOrApart m n }
 {}
 
-/// A mask is parted by the two masks of one bit more: what lies in it lies in one of them, and in
-/// no two.
+/// A mask is parted by the two masks of one bit more: what lies in it lies in one of them, and
+/// never in both.
 pub fn halves_part()
     ensures { (m : BitMask) (u : ℕ) → IsMask m → IsParted m u }
 {}

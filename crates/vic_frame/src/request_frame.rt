@@ -27,7 +27,7 @@ pub fn read_request(bytes: &[u8]) -> Result<Request, FrameFault>
     read_fields(bytes)
 }
 
-/// What the fields hold, whatever the frame, or the first fault that applies.
+/// The fields of a request, or the first fault that applies.
 fn read_fields(bytes: &[u8]) -> Result<Request, FrameFault>
     ensures { result ≡ request_reading bytes.now }
 {

@@ -24,7 +24,7 @@ pub fn read_response(bytes: &[u8]) -> Result<Response, FrameFault>
     read_fields(bytes)
 }
 
-/// What the fields hold, or the first fault that applies.
+/// The fields of a reply, or the first fault that applies.
 fn read_fields(bytes: &[u8]) -> Result<Response, FrameFault>
     ensures { result ≡ reply_reading bytes.now }
 {
@@ -41,8 +41,9 @@ fn read_fields(bytes: &[u8]) -> Result<Response, FrameFault>
     let Some(uid) = Uid::new(number_of(&bytes[2..10])) else {
         return Err(FrameFault::NotVicinity);
     };
+    // Error_flag is 0, as was tested above.
     let Some(response) = Response::new(flags, bytes[1], uid) else {
-        return Err(FrameFault::ErrorFlag);
+        unreachable!()
     };
     Ok(response)
 }
