@@ -15,7 +15,6 @@ use Rattle.vic_log.specs.declared.entry.Entry.TheVariants.{Sent, Silent, Collisi
 use Rattle.vic_log.specs.declared.fault.LineFault.{LineFault}
 use Rattle.vic_log.specs.declared.fault.LineFault.TheVariants.{LineTooLong, UnknownEntry, NotVicinity}
 use Rattle.vic_log.specs.LineReading.{line_reading, with_digits, with_bytes, sent, heard, listed_uid, one_letter}
-use Rattle.vic_frame.specs.Reading.{request_in, reply_in}
 use Rattle.vic_frame.proofs.RequestLaws.{request_only}
 use Rattle.vic_frame.proofs.ReplyLaws.{reply_only}
 use Rattle.vic_log.specs.FirstVersion.{IsOfFirstVersion, AreOfFirstVersion}
@@ -140,7 +139,7 @@ spelled (Listed u) t v o =
 spelled Garbled t v o = absurd o
 spelled FieldCycle t v o = absurd o
 
-valid_at : (es : List Entry) → AreValid es → (i : ℕ) (e : Entry) → slice_get es i ≡ Some e → IsValidEntry e
+pub valid_at : (es : List Entry) → AreValid es → (i : ℕ) (e : Entry) → slice_get es i ≡ Some e → IsValidEntry e
 valid_at es v i (Sent q) k = v i q k
 valid_at es v i Silent k = tt
 valid_at es v i Collision k = tt

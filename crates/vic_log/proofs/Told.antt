@@ -1,8 +1,10 @@
 -- Bytes that are taken in turn.
-use Rattle.std.proofs.Common.{arith, ◌+◌, ◌-◌, ℕ, List, length, take, drop, None, Some, Option}
+use Rattle.std.proofs.Common.{arith, ◌≡◌, ◌≤◌, ◌+◌, ◌-◌, ℕ, zero, suc, List, [], ◌∷◌, ◌++◌, length, length-append, take, drop, None, Some, Option, refl, sym, ◌∙◌, ap, subst, append_assoc, append-nil}
+use Rattle.std.proofs.KnownBytes.{Appends-nil, Appends-trans}
 use Rattle.std.proofs.lemmas.Grind.{common_steps}
 use Rattle.std.proofs.Math.Seq.{take-add}
 use Rattle.std.specs.Io.KnownBytes.{Appends}
+use Rattle.vic_log.specs.Device.{KeepsOrHides, HasTakenPrefix}
 
 -- the first n bytes, and then the next m of the rest
 pub appended-more : (a b c : Option (List ℕ)) (n m : ℕ) (xs : List ℕ) →
@@ -11,3 +13,51 @@ appended-more None b c n m xs h k = tt
 appended-more (Some us) None c n m xs h k = absurd h
 appended-more (Some us) (Some vs) None n m xs h k = absurd k
 appended-more (Some us) (Some vs) (Some ws) n m xs h k = grind (arith, common_steps, take-add n m xs, h, k)
+
+-- the sink has taken the text but for the rest
+abbrev pub HasTakenBut : Option (List ℕ) → Option (List ℕ) → List ℕ → List ℕ → Type 0
+HasTakenBut old new rest text = (sent : List ℕ) × Appends old new sent × (sent ++ rest ≡ text)
+
+pub HasTakenBut-start : (a : Option (List ℕ)) (text : List ℕ) → HasTakenBut a a text text
+HasTakenBut-start a text = ([], Appends-nil a, refl)
+
+-- one piece more was taken
+pub HasTakenBut-step : (a b c : Option (List ℕ)) (piece rest more text : List ℕ) → HasTakenBut a b more text → piece ++ rest ≡ more → Appends b c piece → HasTakenBut a c rest text
+HasTakenBut-step a b c piece rest more text h e k =
+    (h.0 ++ piece, Appends-trans a b c h.0 piece h.1 k, append_assoc h.0 piece rest ∙ (ap (λ xs. h.0 ++ xs) e ∙ h.2))
+
+take_past : (k : ℕ) (xs ys : List ℕ) → take (length xs + k) (xs ++ ys) ≡ xs ++ take k ys
+take_past k [] ys = let same : 0 + k ≡ k = omega arith in ap (λ n. take n ys) same
+take_past k (x ∷ xs) ys =
+    let next : suc (length xs) + k ≡ suc (length xs + k) = omega arith in ap (λ n. take n (x ∷ xs ++ ys)) next ∙ ap (λ zs. x ∷ zs) (take_past k xs ys)
+
+take_within : (k : ℕ) (xs ys : List ℕ) → k ≤ length xs → take k (xs ++ ys) ≡ take k xs
+take_within zero xs ys h = refl
+take_within (suc k) [] ys h = absurd (omega arith)
+take_within (suc k) (x ∷ xs) ys h = ap (λ zs. x ∷ zs) (take_within k xs ys (omega arith))
+
+-- of the last piece only a first part was taken
+pub HasTakenBut-part : (a b c : Option (List ℕ)) (piece rest more text : List ℕ) → HasTakenBut a b more text → piece ++ rest ≡ more → HasTakenPrefix b c piece → HasTakenPrefix a c text
+HasTakenBut-part None b c piece rest more text h e k = tt
+HasTakenBut-part (Some xs) None c piece rest more text h e k = absurd h.1
+HasTakenBut-part (Some xs) (Some ys) None piece rest more text h e k = tt
+HasTakenBut-part (Some xs) (Some ys) (Some zs) piece rest more text h e k =
+    let sent = h.0 in
+    let whole : text ≡ sent ++ (piece ++ rest) = sym h.2 ∙ ap (λ ws. sent ++ ws) (sym e) in
+    let long : length text ≡ length sent + (length piece + length rest) = ap length whole ∙ (length-append sent (piece ++ rest) ∙ ap (λ n. length sent + n) (length-append piece rest)) in
+    let front : take (length sent + k.0) text ≡ sent ++ take k.0 piece = ap (take (length sent + k.0)) whole ∙ (take_past k.0 sent (piece ++ rest) ∙ ap (λ ws. sent ++ ws) (take_within k.0 piece rest k.1)) in
+    (length sent + k.0, omega arith, k.2 ∙ (ap (λ ws. ws ++ take k.0 piece) h.1 ∙ (append_assoc xs sent (take k.0 piece) ∙ ap (λ ws. xs ++ ws) (sym front))))
+
+-- nothing is left to take
+pub HasTakenBut-end : (a b : Option (List ℕ)) (text : List ℕ) → HasTakenBut a b [] text → Appends a b text
+HasTakenBut-end a b text h = subst (Appends a b) (sym (append-nil h.0) ∙ h.2) h.1
+
+pub HasTakenPrefix-kept : (a b : Option (List ℕ)) → KeepsOrHides a b → HasTakenPrefix a b []
+HasTakenPrefix-kept None b h = tt
+HasTakenPrefix-kept (Some xs) None h = tt
+HasTakenPrefix-kept (Some xs) (Some ys) h = (0, omega arith, h ∙ sym (append-nil xs))
+
+pub HasTakenPrefix-none : (a b : Option (List ℕ)) → Appends a b [] → HasTakenPrefix a b []
+HasTakenPrefix-none None b h = tt
+HasTakenPrefix-none (Some xs) None h = tt
+HasTakenPrefix-none (Some xs) (Some ys) h = (0, omega arith, h)

@@ -1,6 +1,6 @@
 -- The text of a log reads back.
 use Rattle.std.proofs.Common.{◌≡◌, ℕ, zero, suc, ◌+◌, ◌-◌, ◌<◌, ◌≤◌, Bool, true, false, Option, Some, None, Ok, List, [], ◌∷◌, ◌++◌, length, take, refl, sym, ap, subst, ◌∙◌, arith, ⊎_elim, append_assoc, append-nil, length-append}
-use Rattle.std.specs.Prelude.{slice_get, slice_index, nat_eq, nat_lt, if◌then◌else◌, ◌==◌, ◌&&◌, ◌||◌, map, codes, ⊤}
+use Rattle.std.specs.Prelude.{slice_get, slice_index, nat_eq, nat_lt, if◌then◌else◌, ◌==◌, ◌&&◌, ◌||◌, map}
 use Rattle.std.proofs.lemmas.Bool.{cases_eq, ne_eqb, le-ltb, lt-ltb}
 use Rattle.vic_log.specs.declared.entry.Entry.{Entry}
 use Rattle.vic_log.specs.declared.entry.LogLine.{LogLine}
@@ -10,8 +10,9 @@ use Rattle.vic_frame.specs.Uids.{has}
 use Rattle.vic_log.specs.Order.{IsInOrder, entries}
 use Rattle.vic_log.specs.Lines.{onto, cut, ends_with, all_but_last, without_last, content, lines_of_text}
 use Rattle.vic_log.specs.LineReading.{line_reading}
-use Rattle.vic_log.specs.Text.{line_fault, reading_fault, entry_line, logged, IsLogOf, is_header}
-use Rattle.vic_log.specs.Writing.{entry_text, joined, text_of, numbered}
+use Rattle.vic_log.specs.Text.{line_fault, reading_fault, entry_line, logged, IsLogOf, header, is_header}
+use Rattle.vic_log.specs.declared.entry.Version.TheVariants.{V1}
+use Rattle.vic_log.specs.Writing.{entry_text, joined, numbered}
 use Rattle.vic_log.proofs.Passing.{HasRead, HasRead-start, HasRead-step, HasRead-end}
 use Rattle.vic_log.proofs.Follow.{order_fault-none}
 
@@ -145,13 +146,13 @@ plain_all [] s i line k = cc
 plain_all (e ∷ es) s zero line k = let same : entry_text e ≡ line = cc in subst IsPlain same (s 0 e refl).plain
 plain_all (e ∷ es) s (suc i) line k = plain_all es (λ j f g. s (suc j) f g) i line k
 
-plain_lines : (es : List Entry) → AreSpelled es → (i : ℕ) (line : List ℕ) → slice_get (codes "vicinity-log 1" ∷ map entry_text es) i ≡ Some line → IsPlain line
-plain_lines es s zero line k = let same : codes "vicinity-log 1" ≡ line = cc in subst IsPlain same (record { no_lf = refl; no_cr = refl })
+plain_lines : (es : List Entry) → AreSpelled es → (i : ℕ) (line : List ℕ) → slice_get (header V1 ∷ map entry_text es) i ≡ Some line → IsPlain line
+plain_lines es s zero line k = let same : header V1 ≡ line = cc in subst IsPlain same (record { no_lf = refl; no_cr = refl })
 plain_lines es s (suc i) line k = plain_all es s i line k
 
 -- the text of entries in order reads back as these entries, numbered from 2 on
-pub text_of-reads : (es : List Entry) → IsInOrder es → AreSpelled es → length es ≤ 999999 → IsLogOf (lines_of_text (text_of es)) (numbered 2 es)
+pub text_of-reads : (es : List Entry) → IsInOrder es → AreSpelled es → length es ≤ 999999 → IsLogOf (lines_of_text (joined (header V1 ∷ map entry_text es))) (numbered 2 es)
 text_of-reads es o s few =
-    let lines = codes "vicinity-log 1" ∷ map entry_text es in
-    let start = HasRead-step lines (codes "vicinity-log 1") (map entry_text es) [] 0 (HasRead-start lines) refl in
+    let lines = header V1 ∷ map entry_text es in
+    let start = HasRead-step lines (header V1) (map entry_text es) [] 0 (HasRead-start lines) refl in
     subst (λ ls. IsLogOf ls (numbered 2 es)) (sym (lines-joined lines (plain_lines es s))) (reads_on lines [] es start o s (omega arith))

@@ -3,6 +3,8 @@ use Rattle.std.specs.Prelude.{◌≡◌, ℕ, zero, suc, ◌<◌, ◌==◌, Bool
 use Rattle.std.specs.Str.{bytes_eq}
 use Rattle.vic_log.specs.declared.entry.Entry.{Entry}
 use Rattle.vic_log.specs.declared.entry.LogLine.{LogLine}
+use Rattle.vic_log.specs.declared.entry.Version.{Version}
+use Rattle.vic_log.specs.declared.entry.Version.TheVariants.{V1, V2}
 use Rattle.vic_log.specs.declared.fault.LineFault.{LineFault}
 use Rattle.vic_log.specs.declared.fault.LineFault.TheVariants.{TooManyLines, LineTooLong, Header, SlotOutsideRound, EntryAfterList, DuplicateListed}
 use Rattle.vic_log.specs.declared.fault.LogFault.{LogFault}
@@ -11,8 +13,14 @@ use Rattle.vic_log.specs.Order.{entries, is_outside_round, is_after_list, is_dup
 use Rattle.vic_log.specs.Lines.{lines_of_text}
 use Rattle.vic_log.specs.LineReading.{line_reading}
 
+-- the first line of a log's text
+abbrev pub header : Version → List ℕ
+header V1 = codes "vicinity-log 1"
+header V2 = codes "vicinity-log 2"
+
+-- texts of version 2 aren't read yet
 abbrev pub is_header : List ℕ → Bool
-is_header line = bytes_eq line (codes "vicinity-log 1")
+is_header line = bytes_eq line (header V1)
 
 -- the first fault of an entry after others
 abbrev pub order_fault : List Entry → Entry → Option LineFault

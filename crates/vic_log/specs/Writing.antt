@@ -1,13 +1,15 @@
 -- The text of a log.
-use Rattle.std.specs.Prelude.{◌≡◌, ℕ, suc, Some, ⊤, List, [], ◌∷◌, ◌++◌, map, slice_get, codes}
+use Rattle.std.specs.Prelude.{ℕ, suc, List, [], ◌∷◌, ◌++◌, map, codes}
 use Rattle.std.specs.Int.{to_be_bytes, w64}
 use Rattle.hex.specs.Hex.{encode_upper}
-use Rattle.vic_frame.specs.Uids.{IsUid}
-use Rattle.vic_frame.specs.Requests.{IsInRange, request_spelling}
-use Rattle.vic_frame.specs.Replies.{IsReply, reply_spelling}
+use Rattle.vic_frame.specs.Requests.{request_spelling}
+use Rattle.vic_frame.specs.Replies.{reply_spelling}
 use Rattle.vic_log.specs.declared.entry.Entry.{Entry}
 use Rattle.vic_log.specs.declared.entry.Entry.TheVariants.{Sent, Silent, Collision, Heard, Listed, Garbled, FieldCycle}
 use Rattle.vic_log.specs.declared.entry.LogLine.{LogLine}
+use Rattle.vic_log.specs.Log.{LogValue}
+use Rattle.vic_log.specs.Order.{entries}
+use Rattle.vic_log.specs.Text.{header}
 
 -- an entry's line, with digits in upper case
 abbrev pub entry_text : Entry → List ℕ
@@ -24,9 +26,13 @@ abbrev pub joined : List (List ℕ) → List ℕ
 joined [] = []
 joined (line ∷ lines) = line ++ 10 ∷ joined lines
 
--- the text of a log's entries
-abbrev pub text_of : List Entry → List ℕ
-text_of es = joined (codes "vicinity-log 1" ∷ map entry_text es)
+-- the text of lines behind the header
+abbrev pub lines_text : List LogLine → List ℕ
+lines_text lines = joined (map entry_text (entries lines))
+
+-- the text of a log
+abbrev pub text_of : LogValue → List ℕ
+text_of log = header log.version ++ 10 ∷ lines_text log.lines
 
 -- entries on lines numbered from n on
 abbrev pub numbered : ℕ → List Entry → List LogLine

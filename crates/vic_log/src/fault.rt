@@ -3,6 +3,7 @@
 ghost use Rattle.std.specs.Prelude.{◌≡◌};
 ghost use Rattle.vic_log.specs.declared.fault.PushFault.TheVariants.{Memory as NoRoom};
 
+use crate::source::DeviceFault;
 use std::alloc::{AllocError, AllocFailed};
 use vic_frame::FrameFault;
 
@@ -59,3 +60,9 @@ impl<T: Drop> From<AllocFailed<T>> for PushFault {
 /// The sink took only a first part of the text.
 #[derive(Clone, Copy, PartialEq, Eq, Debug)]
 pub struct WriteFault;
+
+impl From<DeviceFault> for WriteFault {
+    fn from(_: DeviceFault) -> WriteFault {
+        WriteFault
+    }
+}

@@ -18,7 +18,7 @@ ghost use Rattle.vic_log.specs.Writing.{text_of, numbered};
 
 /// The text of a log is that of a log with the same entries, on the lines 2, 3, 4 and so on.
 pub fn text_reads_back()
-    ensures { (lines : List LogLine) → IsLog V1 lines → IsLogOf (lines_of_text (text_of (entries lines))) (numbered 2 (entries lines)) }
+    ensures { (lines : List LogLine) → IsLog V1 lines → IsLogOf (lines_of_text (text_of (record { lines = lines; version = V1 }))) (numbered 2 (entries lines)) }
 {}
 
 /// A text has at most one first fault, and none where it has a log.

@@ -10,6 +10,7 @@ mod log;
 mod read;
 mod sink;
 mod source;
+mod write;
 
 pub use entry::{Entry, LogLine, Version};
 pub use fault::{LineFault, LogFault, PushFault, WriteFault};
@@ -18,3 +19,4 @@ pub use log::Log;
 pub use read::read_log;
 pub use sink::{Sink, ToWrite, write_whole};
 pub use source::{DeviceFault, FromRead, ReadFault, Source, read_whole};
+pub use write::write_log;

@@ -92,13 +92,16 @@ impl<W: Write> Sink for ToWrite<W> {
     }
 }
 
-/// Writes all the bytes, in as many writes as it takes.
+/// Writes all the bytes, in as many writes as it takes. A sink that has failed is not written again.
 pub fn write_whole<W: Sink>(sink: &mut W, bytes: &[u8]) -> Result<(), DeviceFault>
-    requires { W.has_failed sink.old ≡ false }
     ensures all { OnOk result (Appends (W.taken sink.old) (W.taken sink.new) bytes.now) }
     ensures prefix { HasTakenPrefix (W.taken sink.old) (W.taken sink.new) bytes.now }
     ensures state { W.has_failed sink.new ≡ is_err result }
+    ensures untouched { W.has_failed sink.old ≡ true → sink.new ≡ sink.old }
 {
+    if sink.failed() {
+        return Err(DeviceFault);
+    }
     let mut at = 0;
     while at < bytes.len() {
         at += sink.write(&bytes[at..])?;

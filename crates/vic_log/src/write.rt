@@ -1,0 +1,107 @@
+//! A log to its text.
+
+ghost use Rattle.std.specs.Prelude.{◌≡◌, ◌+◌, ◌*◌, ◌<◌, ◌≤◌, ◌++◌, ◌∷◌, [], true, length, drop, is_err, OnOk};
+ghost use Rattle.std.specs.Io.KnownBytes.{Appends};
+ghost use Rattle.arrayvec.specs.ArrayVec.{array_vec_len};
+ghost use Rattle.hex.specs.Hex.{encode_upper};
+ghost use Rattle.vic_log.specs.Device.{HasTakenPrefix};
+ghost use Rattle.vic_log.specs.Log.{IsValidEntry};
+ghost use Rattle.vic_log.specs.Order.{AreValid, entries};
+ghost use Rattle.vic_log.specs.Text.{header};
+ghost use Rattle.vic_log.specs.Writing.{entry_text, lines_text, text_of};
+
+use crate::entry::{Entry, LogLine, Version};
+use crate::fault::WriteFault;
+use crate::log::Log;
+use crate::sink::{Sink, write_whole};
+use arrayvec::ArrayVec;
+use vic_frame::{write_request, write_response};
+
+/// Lines that wait for one write.
+type Piece = ArrayVec<u8, 4096>;
+
+const DIGITS: [u8; 16] = *b"0123456789ABCDEF";
+
+/// Adds a letter, a space, and bytes as hex digits in upper case.
+fn push_bytes(piece: &mut Piece, letter: u8, bytes: &[u8])
+    requires { array_vec_len piece.old + 2 + 2 * length bytes.now ≤ 4096 }
+    ensures items { piece.new.items ≡ piece.old.items ++ letter ∷ 32 ∷ encode_upper bytes.now }
+    ensures len { array_vec_len piece.new ≡ array_vec_len piece.old + 2 + 2 * length bytes.now }
+{
+    piece.push(letter);
+    piece.push(b' ');
+    for byte in bytes {
+        piece.push(DIGITS[usize::from(*byte / 16)]);
+        piece.push(DIGITS[usize::from(*byte % 16)]);
+    }
+}
+
+/// Adds an entry's line, with its LF: at most 29 bytes.
+fn push_entry(piece: &mut Piece, item: &Entry)
+    requires room { array_vec_len piece.old + 29 ≤ 4096 }
+    requires valid { IsValidEntry item.now }
+    ensures items { piece.new.items ≡ piece.old.items ++ entry_text item.now ++ 10 ∷ [] }
+{
+    match *item {
+        Entry::Sent(request) => push_bytes(piece, b'T', write_request(&request).as_slice()),
+        Entry::Silent => piece.push(b'S'),
+        Entry::Collision => piece.push(b'C'),
+        Entry::Heard(response) => push_bytes(piece, b'R', write_response(&response).as_slice()),
+        Entry::Listed(uid) => push_bytes(piece, b'U', uid.number().to_be_bytes().as_slice()),
+        Entry::Garbled => piece.push(b'D'),
+        Entry::FieldCycle => piece.push(b'F'),
+    }
+    piece.push(b'\n');
+}
+
+/// A piece that begins with the header.
+fn with_header(version: Version) -> Piece
+    ensures items { result.items ≡ header version ++ 10 ∷ [] }
+{
+    let line = match version {
+        Version::V1 => b"vicinity-log 1\n".as_slice(),
+        Version::V2 => b"vicinity-log 2\n".as_slice(),
+    };
+    let mut piece = ArrayVec::new();
+    let Ok(()) = piece.try_extend_from_slice(line) else {
+        unreachable!()
+    };
+    piece
+}
+
+/// Adds lines from place `start` on, as long as one more has room, and gives the place of the next.
+fn fill(piece: &mut Piece, lines: &[LogLine], start: usize) -> usize
+    requires start { start ≤ length lines.now }
+    requires valid { AreValid (entries lines.now) }
+    ensures bound { result ≤ length lines.now }
+    ensures more { array_vec_len piece.old + 29 ≤ 4096 → start < length lines.now → start < result }
+    ensures items { piece.new.items ++ lines_text (drop result lines.now) ≡ piece.old.items ++ lines_text (drop start lines.now) }
+{
+    let mut next = start;
+    while next < lines.len() && piece.len() + 29 <= 4096 {
+        push_entry(piece, &lines[next].item);
+        next += 1;
+    }
+    next
+}
+
+/// Writes the text of a log: the header of its version, and each entry on a line, with upper-case digits and LF ends.
+/// A sink that has failed is not written again.
+pub fn write_log<W: Sink>(log: &Log, sink: &mut W) -> Result<(), WriteFault>
+    ensures all { OnOk result (Appends (W.taken sink.old) (W.taken sink.new) (text_of log.now)) }
+    ensures prefix { HasTakenPrefix (W.taken sink.old) (W.taken sink.new) (text_of log.now) }
+    ensures state { W.has_failed sink.new ≡ is_err result }
+    ensures untouched { W.has_failed sink.old ≡ true → sink.new ≡ sink.old }
+{
+    let lines = log.lines();
+    let mut piece = with_header(log.version());
+    let mut next = fill(&mut piece, lines, 0);
+    write_whole(sink, piece.as_slice())?;
+    while next < lines.len() {
+        piece.clear();
+        next = fill(&mut piece, lines, next);
+        write_whole(sink, piece.as_slice())?;
+    }
+    sink.flush()?;
+    Ok(())
+}
