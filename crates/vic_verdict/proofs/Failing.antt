@@ -1,10 +1,10 @@
 -- The least member of a rising list that fails a test.
-use Rattle.std.proofs.Common.{◌≡◌, ℕ, zero, suc, ◌<◌, ◌≤◌, List, [], ◌∷◌, length, get_or, Bool, true, false, Result, Ok, Err, refl, sym, ◌∙◌, subst, arith, ⊎_elim}
+use Rattle.std.proofs.Common.{◌≡◌, ℕ, zero, suc, ◌<◌, List, [], ◌∷◌, length, get_or, Bool, true, false, Result, Ok, Err, refl, sym, subst, arith, ⊎_elim}
 use Rattle.std.specs.Prelude.{is_ok}
 use Rattle.std.specs.List.{dedup}
 use Rattle.std.specs.List.Sorted.{IsStrictlyIncreasing, IsBinarySearchResult}
 use Rattle.std.specs.Ordering.{nat_cmp}
-use Rattle.std.proofs.lemmas.Bool.{both_ways, false≢true, true_from_ne_false, false_from_ne_true, cases_lt, cases_Bool}
+use Rattle.std.proofs.lemmas.Bool.{both_ways, false≢true, false_from_ne_true, cases_lt}
 use Rattle.std.proofs.lemmas.List.Kept.{Contains-dedup_nat, Contains-from_dedup}
 use Rattle.std.proofs.lemmas.List.Sorted.{searched}
 use lib.Dec.{eqb}

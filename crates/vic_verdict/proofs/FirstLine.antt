@@ -1,15 +1,14 @@
 -- The first impossible line, found by counting lines.
-use Rattle.std.proofs.Common.{◌≡◌, ℕ, zero, suc, ◌<◌, ◌≤◌, ◌+◌, List, [], ◌∷◌, ◌++◌, Bool, true, false, cond, Some, take, refl, sym, ap, ◌∙◌, subst, arith, ⊎_elim}
-use Rattle.std.specs.Prelude.{slice_get, nat_le, leb}
-use Rattle.std.specs.List.{filter}
-use Rattle.std.proofs.lemmas.Bool.{cases_Bool, le-leb, lt-leb, leb-true, leb-false}
+use Rattle.std.proofs.Common.{◌≡◌, ℕ, zero, suc, ◌<◌, List, [], ◌∷◌, ◌++◌, true, Some, take, sym, ap, ◌∙◌, subst, arith, ⊎_elim}
+use Rattle.std.specs.Prelude.{slice_get, leb}
+use Rattle.std.proofs.lemmas.Bool.{cases_Bool, le-leb, leb-false}
 use Rattle.vic_log.specs.declared.entry.Entry.{Entry}
 use Rattle.vic_log.specs.declared.entry.LogLine.{LogLine}
 use Rattle.vic_verdict.specs.Possible.{IsPossible}
 use Rattle.vic_verdict.proofs.Possibility.{IsPossible-front}
 use Rattle.vic_verdict.specs.declared.verdict.Verdict.TheVariants.{Impossible}
 use Rattle.vic_log.specs.Order.{entries, IsRisingFrom}
-use Rattle.vic_verdict.specs.Verdict.{entries_to, IsLeast, IsVerdict}
+use Rattle.vic_verdict.specs.Verdict.{entries_to, IsVerdict}
 use Rattle.vic_verdict.proofs.Verdicts.{none_to, line_kept}
 use Rattle.vic_verdict.proofs.Search.{least_by}
 

@@ -1,6 +1,6 @@
 -- The UIDs that the slots of a log force, entry by entry.
-use Rattle.std.proofs.Common.{◌≡◌, ℕ, suc, ◌+◌, List, length, Bool, true, Some, refl, sym, ap, ◌∙◌, subst, inl, inr, ⊎_elim, add-one}
-use Rattle.std.specs.Prelude.{◌↔◌, ◌⊎◌, slice_get}
+use Rattle.std.proofs.Common.{◌≡◌, ℕ, ◌+◌, List, length, Bool, true, Some, sym, ◌∙◌, subst, inl, inr, ⊎_elim, add-one}
+use Rattle.std.specs.Prelude.{◌↔◌, slice_get}
 use Rattle.vic_frame.specs.Uids.{has}
 use Rattle.vic_tree.specs.OpenSet.{UpToThree}
 use Rattle.vic_log.specs.declared.entry.Entry.{Entry}
@@ -9,7 +9,7 @@ use Rattle.vic_log.specs.Populations.{answers_at}
 use Rattle.vic_log.specs.Slots.{reading_of, slots_of, slots_before, is_open, IsForcedBy}
 use Rattle.vic_verdict.specs.Places.{answering, entry_forces}
 use Rattle.vic_verdict.specs.Rising.{Adds}
-use Rattle.vic_verdict.proofs.Judging.{forces_two_iff, forces_one_iff, forced_step}
+use Rattle.vic_verdict.proofs.Entries.{forces_two_iff, forces_one_iff, forced_step}
 
 adds_same : (P Q : ℕ → Type 0) (old new : List ℕ) → ((u : ℕ) → Q u ↔ P u) → Adds P old new → Adds Q old new
 adds_same P Q old new same a u =

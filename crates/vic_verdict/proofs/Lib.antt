@@ -5,7 +5,7 @@ pub mod Populations
 pub mod Decide
 pub mod Masks
 pub mod Verdicts
-pub mod Judging
+pub mod Entries
 pub mod Passing
 pub mod Stands
 pub mod FirstLine

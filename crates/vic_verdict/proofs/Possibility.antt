@@ -1,9 +1,8 @@
 -- Possible logs, possible and certain UIDs, by the slots of a log.
-use Rattle.std.proofs.Common.{◌≡◌, ℕ, List, ◌++◌, Bool, true, Some, subst}
+use Rattle.std.proofs.Common.{◌≡◌, ℕ, List, ◌++◌, Some}
 use Rattle.std.specs.Prelude.{◌↔◌, slice_get}
 use Rattle.std.specs.List.{filter}
 use Rattle.std.proofs.lemmas.Bool.{and_parts}
-use Rattle.vic_frame.specs.Uids.{has}
 use Rattle.vic_frame.specs.Replies.{Reply}
 use Rattle.vic_log.specs.declared.entry.Entry.{Entry}
 use Rattle.vic_log.specs.declared.entry.Entry.TheVariants.{Heard}

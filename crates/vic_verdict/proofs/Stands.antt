@@ -1,12 +1,12 @@
 -- Where a judge stands that goes over the entries once.
-use Rattle.std.proofs.Common.{◌≡◌, ℕ, suc, ◌≤◌, ◌<◌, ◌+◌, ◌-◌, List, [], Bool, true, false, not, ◌&&◌, ◌||◌, Option, Some, None, refl, sym, ap, ◌∙◌, subst, arith, add-one, length, get_or}
+use Rattle.std.proofs.Common.{◌≡◌, ℕ, suc, ◌≤◌, ◌<◌, ◌+◌, ◌-◌, List, Bool, true, false, not, ◌&&◌, ◌||◌, Option, Some, None, refl, sym, ap, ◌∙◌, subst, arith, add-one, length, get_or}
 use Rattle.std.specs.Prelude.{◌==◌, IfSome, slice_get}
 use Rattle.std.specs.Option.{option_map}
 use Rattle.std.proofs.lemmas.Option.{slice_get-map, slice_get_read}
 use Rattle.vic_frame.specs.Uids.{IsUid, has}
 use Rattle.vic_frame.specs.Masks.{BitMask, lies_in}
 use Rattle.vic_frame.specs.Replies.{Reply}
-use Rattle.vic_frame.specs.Slots.{slot_count, slot_mask}
+use Rattle.vic_frame.specs.Slots.{slot_count}
 use Rattle.vic_frame.specs.Requests.{IsValid}
 use Rattle.vic_frame.specs.declared.request.Request.{Request}
 use Rattle.vic_frame.specs.declared.request.Request.TheVariants.{Inventory, StayQuiet}
@@ -23,8 +23,8 @@ use Rattle.vic_log.proofs.Supply.{is_uid_from}
 use Rattle.vic_verdict.specs.declared.place.Round.{Round}
 use Rattle.vic_verdict.specs.declared.place.Place.{Place}
 use Rattle.vic_verdict.specs.Places.{round_of, round_since, round_at, IsPlace, StandsAt}
-use Rattle.vic_verdict.proofs.Judging.{entry_allows, and_true, open_step}
-use Rattle.vic_verdict.proofs.Passing.{after_round, round_mask, next_slot, mask_at-round, round_passed, round_step}
+use Rattle.vic_verdict.proofs.Entries.{entry_allows, and_true, open_step}
+use Rattle.vic_verdict.proofs.Passing.{after_round, round_mask, next_slot, mask_at-round, round_step}
 
 -- ---- the place
 

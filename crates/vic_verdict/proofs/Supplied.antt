@@ -1,5 +1,5 @@
 -- What a judge finds slot by slot is what makes a log possible.
-use Rattle.std.proofs.Common.{◌≡◌, ℕ, suc, ◌<◌, ◌≤◌, ◌+◌, List, [], length, Bool, true, false, not, ◌&&◌, Option, Some, None, refl, sym, ap, ◌∙◌, subst, arith, ⊎_elim, add-one}
+use Rattle.std.proofs.Common.{◌≡◌, ℕ, ◌+◌, List, [], length, Bool, true, false, not, ◌&&◌, Option, Some, None, refl, sym, ap, ◌∙◌, subst, arith, add-one}
 use Rattle.std.specs.Prelude.{◌↔◌, IsTrue, leb, slice_get}
 use Rattle.std.specs.List.{list_all}
 use Rattle.std.proofs.lemmas.Bool.{both_ways, false≢true, le-leb, leb-true}
@@ -13,13 +13,13 @@ use Rattle.vic_log.specs.declared.entry.Entry.TheVariants.{Heard, Collision, Gar
 use Rattle.vic_log.specs.Rounds.{mask_at, lies_in_some}
 use Rattle.vic_log.specs.Quiet.{is_quiet}
 use Rattle.vic_log.specs.Populations.{answers_at}
-use Rattle.vic_log.specs.Slots.{Slot, allows, reading_of, slots_of, is_open}
+use Rattle.vic_log.specs.Slots.{allows, reading_of, slots_of, is_open}
 use Rattle.vic_log.proofs.Supply.{IsUid-from}
 use Rattle.vic_verdict.specs.declared.place.Place.{Place}
 use Rattle.vic_verdict.specs.Possible.{IsPossible}
 use Rattle.vic_verdict.specs.Places.{IsPlace, answering, entry_asks}
 use Rattle.vic_verdict.proofs.Decide.{IsPossible-iff}
-use Rattle.vic_verdict.proofs.Judging.{asks_two_iff, asks_one_iff, SuppliesBefore, SuppliesAll-places, supplies_more}
+use Rattle.vic_verdict.proofs.Entries.{asks_two_iff, asks_one_iff, SuppliesBefore, SuppliesAll-places, supplies_more}
 
 -- ---- who answers
 

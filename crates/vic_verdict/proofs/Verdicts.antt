@@ -74,6 +74,11 @@ possible_to lines r p n =
     let m = n + last_line lines in
     possible_less lines r n m (omega arith) (subst IsPossible (sym (all_to m lines (omega arith))) p)
 
+-- numbers that rise above 1 rise above 0
+pub rising_lower : (lines : List LogLine) → IsRisingFrom 1 lines → IsRisingFrom 0 lines
+rising_lower [] r = tt
+rising_lower (l ∷ lines) r = let a = r.0 in (omega arith, r.1)
+
 -- ---- at most one verdict
 
 least_same : (P : ℕ → Type 0) (m n : ℕ) → IsLeast P m → IsLeast P n → m ≡ n
@@ -298,6 +303,9 @@ complete_settled lines count h =
         (λ k. true_from_ne_false _ (λ e. h.4 u (k, λ c. both_ways _ e (c p i g)))),
       ),
     )
+
+pub complete_count : (lines : List LogLine) (count : ℕ) → IsVerdict lines (Complete count) → IsSettled (entries lines) × (count ≡ length (listed (entries lines)))
+complete_count lines count h = (complete_settled lines count h, h.5)
 
 pub settled_complete : (lines : List LogLine) → IsSettled (entries lines) → IsVerdict lines (Complete (length (listed (entries lines))))
 settled_complete lines h =

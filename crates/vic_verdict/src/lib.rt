@@ -4,7 +4,7 @@
 mod answering;
 mod certain;
 mod first_line;
-mod judge;
+mod judging;
 pub mod laws;
 mod listed;
 mod place;
@@ -14,5 +14,5 @@ mod rising;
 mod settle;
 mod verdict;
 
-pub use judge::judge_with;
+pub use judging::{judge, judge_with};
 pub use verdict::Verdict;

@@ -1,4 +1,4 @@
-use Rattle.std.proofs.Common.{◌≡◌, ℕ, ◌≤◌, take, length}
+use Rattle.std.proofs.Common.{◌≡◌, ◌≤◌, take, length}
 use Rattle.vic_log.specs.Order.{entries, listed}
 use Rattle.vic_verdict.proofs.listed.count_listed.Given as goal
 

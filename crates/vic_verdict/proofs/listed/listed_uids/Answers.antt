@@ -1,11 +1,10 @@
-use Rattle.std.proofs.Common.{◌≡◌, ℕ, suc, List, Some, length, take, refl, sym, ap, ◌∙◌, subst, add-one, ⊎_elim, ◌++◌, [], ◌∷◌, true}
+use Rattle.std.proofs.Common.{◌≡◌, Some, length, take, refl, sym, ap, ◌∙◌, add-one, ⊎_elim, ◌++◌, [], ◌∷◌}
 use Rattle.std.specs.Prelude.{nat_eq, slice_get}
 use Rattle.std.specs.List.{list_any}
 use Rattle.std.proofs.lemmas.Bool.{or_cases}
 use Rattle.std.proofs.lemmas.List.Folds.{list_any-append}
 use Rattle.std.proofs.lemmas.Option.{slice_get_read}
 use Rattle.vic_frame.specs.Uids.{has}
-use Rattle.vic_log.specs.declared.entry.LogLine.{LogLine}
 use Rattle.vic_log.specs.Order.{entries, listed}
 use Rattle.vic_verdict.proofs.Listing.{listed_more}
 use Rattle.vic_verdict.proofs.listed.listed_uids.Goals as goal

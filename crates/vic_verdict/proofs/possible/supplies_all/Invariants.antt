@@ -1,7 +1,7 @@
 use Rattle.vic_log.specs.Order.{entries}
 use Rattle.vic_log.specs.Slots.{slots_of, is_open}
 use Rattle.vic_verdict.specs.Places.{IsPlace}
-use Rattle.vic_verdict.proofs.Judging.{SuppliesBefore}
+use Rattle.vic_verdict.proofs.Entries.{SuppliesBefore}
 use Rattle.vic_verdict.proofs.possible.supplies_all.Given as goal
 
 abbrev pub invariant-loop-line : goal.invariant-loop-line

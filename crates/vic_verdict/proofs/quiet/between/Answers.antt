@@ -1,4 +1,4 @@
-use Rattle.std.proofs.Common.{ℕ, Bool, List, [], ◌∷◌, ◌++◌, ◌≡◌, ◌∙◌, ◌^◌, ◌<◌, ◌&&◌, ap, map, rules, subst, sym}
+use Rattle.std.proofs.Common.{ℕ, Bool, List, ◌≡◌, ◌∙◌, ◌&&◌, ap, map, rules, subst, sym}
 use Rattle.std.specs.Prelude.{nat_le, nat_eq}
 use Rattle.std.specs.declared.ops.Bound.TheVariants.{Included}
 use Rattle.std.specs.Ordering.{nat_cmp}

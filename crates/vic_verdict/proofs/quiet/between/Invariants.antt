@@ -1,4 +1,4 @@
-use Rattle.std.proofs.Common.{ℕ, ◌≡◌, ◌^◌, ◌<◌, ◌++◌, Bool, ◌&&◌, map}
+use Rattle.std.proofs.Common.{◌≡◌, ◌^◌, ◌<◌, ◌++◌, map}
 use Rattle.std.specs.List.{All}
 use Rattle.vic_frame.specs.LowBitsFirst.{uid_of}
 use Rattle.vic_verdict.proofs.quiet.between.Given as goal

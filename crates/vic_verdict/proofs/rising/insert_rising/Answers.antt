@@ -1,4 +1,4 @@
-use Rattle.std.proofs.Common.{◌≡◌, ℕ, List, Ok, Err, sym, ap, subst, ◌∙◌, arith}
+use Rattle.std.proofs.Common.{◌≡◌, ℕ, List, Ok, Err, sym, ap, subst, ◌∙◌}
 use Rattle.std.specs.Prelude.{nat_eq, ◌||◌}
 use Rattle.std.specs.List.{list_any, insert}
 use Rattle.std.specs.List.Sorted.{IsStrictlyIncreasing}

@@ -1,13 +1,12 @@
-use Rattle.std.proofs.Common.{ℕ, Bool, true, false, not, List, ◌≡◌, ◌∙◌, ◌^◌, ◌<◌, ◌&&◌, ◌==◌, ap, map, sym}
+use Rattle.std.proofs.Common.{ℕ, false, List, ◌∙◌, ◌&&◌, ◌==◌, ap, map, sym}
 use Rattle.std.specs.Prelude.{nat_eq}
-use Rattle.std.specs.List.{list_any, filter}
 use Rattle.std.proofs.lemmas.Bool.{eqb-true}
 use Rattle.std.proofs.lemmas.List.Sorted.{list_any-IsPermutation, IsNonDecreasingBy-from_sort}
 use Rattle.std.proofs.lemmas.Map.Views.{any-filter_same}
 use Rattle.std.proofs.lemmas.Map.Keys.{IsStrictlyIncreasing-from_distinct, IsDistinct-IsPermutation}
 use Rattle.vic_frame.specs.Masks.{lies_in}
-use Rattle.vic_frame.specs.LowBitsFirst.{mirror, uid_of}
-use Rattle.vic_frame.specs.Uids.{IsUid, has}
+use Rattle.vic_frame.specs.LowBitsFirst.{uid_of}
+use Rattle.vic_frame.specs.Uids.{has}
 use Rattle.vic_verdict.proofs.Keys.{of_mask, has_uid, and_same, flips}
 use Rattle.vic_verdict.proofs.quiet.QuietUids.in_mask.Goals as goal
 

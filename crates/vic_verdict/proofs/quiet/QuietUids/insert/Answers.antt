@@ -1,11 +1,9 @@
 use Rattle.std.proofs.Common.{ℕ, List, ◌∙◌, ◌||◌, ◌==◌, ap, map}
 use Rattle.std.specs.Ordering.{nat_cmp}
-use Rattle.std.specs.List.{list_any}
-use Rattle.std.specs.BTreeMap.{is_at}
 use Rattle.std.proofs.lemmas.Map.Views.{All-insert_key}
-use Rattle.vic_frame.specs.LowBitsFirst.{mirror, uid_of}
-use Rattle.vic_frame.specs.Uids.{IsUid, has}
-use Rattle.vic_verdict.proofs.Keys.{found, inserted, IsKey}
+use Rattle.vic_frame.specs.LowBitsFirst.{uid_of}
+use Rattle.vic_frame.specs.Uids.{has}
+use Rattle.vic_verdict.proofs.Keys.{inserted, IsKey}
 use Rattle.vic_verdict.proofs.quiet.QuietUids.insert.Goals as goal
 
 pub invariant_of-self-2 : goal.invariant_of-self-2

@@ -21,8 +21,8 @@ use crate::settle::settle_all;
 use crate::verdict::Verdict;
 use std::alloc::{AllocError, Global};
 use vic_frame::{Mask, Uid};
-use vic_log::LogLine;
-use vic_tree::OpenSet;
+use vic_log::{Log, LogLine};
+use vic_tree::{MaskTree, OpenSet};
 
 /// Takes the UIDs out of a set.
 pub fn take_out<S: OpenSet>(set: &mut S, uids: &[Uid]) -> Result<(), AllocError>
@@ -84,13 +84,19 @@ fn judge_lines<S: OpenSet>(alloc: Global, lines: &[LogLine]) -> Result<Verdict, 
 }
 
 /// The verdict on a log, over any set of open UIDs.
-pub fn judge_with<S: OpenSet>(alloc: Global, lines: &[LogLine]) -> Result<Verdict, AllocError>
-    requires order { IsInOrder (entries lines.now) }
-    requires valid { AreValid (entries lines.now) }
-    requires rising { IsRisingFrom 0 lines.now }
-    ensures verdict { IfOk result (λ v. IsVerdict lines.now v) }
-    ensures settled { IfOk result (λ v. (count : ℕ) → v ≡ Complete count → IsSettled (entries lines.now)) }
-    ensures reached { IfOk result (λ v. IsReached (entries lines.now) → v ≡ Complete (length (listed (entries lines.now)))) }
+pub fn judge_with<S: OpenSet>(alloc: Global, log: &Log) -> Result<Verdict, AllocError>
+    ensures verdict { IfOk result (λ v. IsVerdict log.now.lines v) }
+    ensures settled { IfOk result (λ v. (count : ℕ) → v ≡ Complete count → IsSettled (entries log.now.lines) × (count ≡ length (listed (entries log.now.lines)))) }
+    ensures reached { IfOk result (λ v. IsReached (entries log.now.lines) → v ≡ Complete (length (listed (entries log.now.lines)))) }
 {
-    judge_lines::<S>(alloc, lines)
+    judge_lines::<S>(alloc, log.lines())
+}
+
+/// The verdict on a log.
+pub fn judge(alloc: Global, log: &Log) -> Result<Verdict, AllocError>
+    ensures verdict { IfOk result (λ v. IsVerdict log.now.lines v) }
+    ensures settled { IfOk result (λ v. (count : ℕ) → v ≡ Complete count → IsSettled (entries log.now.lines) × (count ≡ length (listed (entries log.now.lines)))) }
+    ensures reached { IfOk result (λ v. IsReached (entries log.now.lines) → v ≡ Complete (length (listed (entries log.now.lines)))) }
+{
+    judge_with::<MaskTree>(alloc, log)
 }

@@ -1,8 +1,8 @@
-use Rattle.std.proofs.Common.{◌≡◌, ℕ, Option, Some, None, Bool, true, sym, ap, ◌∙◌, subst, rules}
+use Rattle.std.proofs.Common.{Some, None, rules}
 use Rattle.vic_frame.specs.Uids.{has}
 use Rattle.vic_log.specs.Order.{entries}
 use Rattle.vic_verdict.proofs.Cases.{Has, absent_at, unlisted_at, doubtful_at, left_at, widest_unsettled, none_unsettled}
-use Rattle.vic_verdict.proofs.judge.judge_possible.Goals as goal
+use Rattle.vic_verdict.proofs.judging.judge_possible.Goals as goal
 
 pub returns-in-Some : goal.returns-in-Some
 returns-in-Some g c =

@@ -1,21 +1,17 @@
 -- What a judge that goes over the entries once needs: what each entry does to the open UIDs, and what the open UIDs that
 -- could have answered in a slot, up to three of them, tell.
-use Rattle.std.proofs.Common.{◌≡◌, ℕ, zero, suc, ◌<◌, ◌≤◌, List, [], ◌∷◌, length, Bool, true, false, not, ◌&&◌, ◌||◌, Option, Some, None, refl, sym, ap, ◌∙◌, subst, arith, inl, inr, ⊎_elim}
-use Rattle.std.specs.Prelude.{◌⊎◌, ◌≢◌, ◌↔◌, ◌==◌, slice_get, ⊤}
+use Rattle.std.proofs.Common.{◌≡◌, ℕ, zero, suc, ◌<◌, ◌≤◌, List, [], ◌∷◌, length, Bool, true, false, ◌&&◌, Option, Some, None, refl, sym, ap, ◌∙◌, subst, arith, inl, inr, ⊎_elim}
+use Rattle.std.specs.Prelude.{◌⊎◌, ◌≢◌, ◌↔◌, slice_get}
 use Rattle.std.specs.List.{list_all}
 use Rattle.std.proofs.lemmas.Bool.{both_ways, false≢true, cases_eq}
-use Rattle.vic_frame.specs.Masks.{BitMask, lies_in}
-use Rattle.vic_frame.specs.Replies.{Reply}
 use Rattle.vic_log.specs.declared.entry.Entry.{Entry}
 use Rattle.vic_log.specs.declared.entry.Entry.TheVariants.{Sent, Silent, Collision, Heard, Listed, Garbled, FieldCycle}
 use Rattle.vic_frame.specs.Uids.{has, is_uid}
-use Rattle.vic_log.specs.Rounds.{mask_at, lies_in_some}
-use Rattle.vic_log.specs.Quiet.{is_quiet}
 use Rattle.vic_log.specs.Populations.{answers_at}
 use Rattle.vic_log.specs.Slots.{Reading, NoReply, OneReply, ManyReplies, SomeReply, Slot, reading_of, with_reading, with_entry, slots_before, may_be, allows, is_open, Asks, SuppliesAll, Forces, IsForcedBy}
 use Rattle.vic_tree.specs.OpenSet.{UpToThree}
 use Rattle.vic_verdict.specs.Places.{answering, entry_asks, entry_forces}
-use Rattle.vic_log.proofs.Sets.{IsWithin, Distinct, has_here, has_at, has_there, has_cases}
+use Rattle.vic_log.proofs.Sets.{has_here, has_at, has_there, has_cases}
 
 -- ---- the open UIDs, entry by entry
 

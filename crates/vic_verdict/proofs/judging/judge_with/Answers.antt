@@ -1,0 +1,25 @@
+use Rattle.std.proofs.Common.{List, subst, length}
+use Rattle.std.specs.Prelude.{IfOk}
+use Rattle.std.proofs.lemmas.Result.{IfOk-weaker}
+use Rattle.vic_log.specs.declared.entry.LogLine.{LogLine}
+use Rattle.vic_log.specs.Order.{entries, listed, IsRisingFrom}
+use Rattle.vic_verdict.specs.declared.verdict.Verdict.TheVariants.{Complete}
+use Rattle.vic_verdict.specs.Verdict.{IsVerdict}
+use Rattle.vic_verdict.proofs.Verdicts.{rising_lower, complete_count, reached_complete, one_verdict}
+use Rattle.vic_verdict.proofs.judging.judge_with.Goals as goal
+
+pub judge_lines-requires-clause-rising : goal.judge_lines-requires-clause-rising
+judge_lines-requires-clause-rising g c = rising_lower c.lines.result.now c.lines.ensures.log.rising
+
+pub returns-clause-settled : goal.returns-clause-settled
+returns-clause-settled g c =
+    let lines = c.args.log.now.lines in
+    let verdict = subst (λ (ls : List LogLine). IfOk c.judge_lines.result (IsVerdict ls)) c.lines.ensures.value c.judge_lines.ensures in
+    IfOk-weaker c.judge_lines.result (IsVerdict lines) _ (λ v h count e. complete_count lines count (subst (IsVerdict lines) e h)) verdict
+
+pub returns-clause-reached : goal.returns-clause-reached
+returns-clause-reached g c =
+    let lines = c.args.log.now.lines in
+    let verdict = subst (λ (ls : List LogLine). IfOk c.judge_lines.result (IsVerdict ls)) c.lines.ensures.value c.judge_lines.ensures in
+    let rising = rising_lower lines (subst (IsRisingFrom 1) c.lines.ensures.value c.lines.ensures.log.rising) in
+    IfOk-weaker c.judge_lines.result (IsVerdict lines) _ (λ v h r. one_verdict lines rising v (Complete (length (listed (entries lines)))) h (reached_complete lines r)) verdict
