@@ -1,6 +1,5 @@
 -- A frame spells a value exactly where its fields do.
-use Rattle.std.proofs.Common.{◌≡◌, ℕ, ◌+◌, ◌%◌, ◌≤◌, ◌^◌, ◌<◌, not, Bool, List, length, if◌then◌else◌, refl, sym, ap, subst, ◌∙◌, arith, true}
-use Rattle.vic_frame.specs.declared.request.Request.{Request}
+use Rattle.std.proofs.Common.{◌≡◌, ℕ, ◌+◌, ◌%◌, ◌≤◌, ◌^◌, ◌<◌, not, Bool, List, length, if◌then◌else◌, refl, sym, ap, ◌∙◌, arith}
 use Rattle.vic_frame.specs.declared.request.Request.TheVariants.{Inventory, StayQuiet}
 use Rattle.vic_frame.specs.Masks.{BitMask, IsMask}
 use Rattle.vic_frame.specs.Bytes.{AreBytes, number_of, bit}
