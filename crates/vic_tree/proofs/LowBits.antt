@@ -41,7 +41,7 @@ open_at_low (Fork' p l r) k u v h e =
     let right = open_at_low r (k - 1) (u / 2) (v / 2) (omega arith) same in
     rw (bit, left, right) refl
 
--- the widest place of a tree is the widest mask of its UIDs
+-- the widest mask of a tree is the widest mask of its UIDs
 pub widest_of_uids : (n : Node) (m : BitMask) → height n ≤ 56 → m.len ≤ 56 → IsWidestOf (open_at n) m → IsWidest (open_at n) m
 widest_of_uids n m low short w = record {
   is_mask = (omega arith, w.fits);
@@ -56,7 +56,3 @@ widest_of_uids n m low short w = record {
       let same : u % 2 ^ 56 ≡ uid % 2 ^ 56 = omega arith in
       let there : uid % 2 ^ k.len ≡ k.value = sym (mod_mod_pow uid k.len 56 k_short) ∙ ap (λ x. x % 2 ^ k.len) (sym same) ∙ mod_mod_pow u k.len 56 k_short ∙ inside in
       open_at_low n 56 u uid low same ∙ all uid (omega arith, omega arith) (eq-eqb _ _ there)
-
-pub some_has : {X : Type 0} (P : Type 0) (Q : X → Type 0) (r : Option X) (v : X) → SomeIff r P v → Q v → IfSome r Q
-some_has P Q None v h q = tt
-some_has P Q (Some x) v h q = subst Q (sym h.1) q

@@ -1,4 +1,4 @@
--- The widest place of a fork, from those of its halves.
+-- The widest mask of a fork, from those of its halves.
 use Rattle.std.proofs.Common.{◌≡◌, ℕ, zero, suc, ◌+◌, ◌*◌, ◌/◌, ◌^◌, ◌%◌, ◌<◌, ◌≤◌, ◌⊎◌, inl, inr, Box, refl, add-one, sym, subst, ◌∙◌, arith, Bool, true, false, cond, ◌==◌}
 use Rattle.std.proofs.lemmas.Nat.{mod_below}
 use Rattle.std.proofs.Math.Nat.{pow-suc, pow-le-pow_right, mod-eq_of_lt}
@@ -7,48 +7,44 @@ use Rattle.vic_tree.specs.declared.node.Node.{Node, Fork'}
 use Rattle.vic_tree.specs.declared.node.Node.TheVariants.{Clear, Shut, Fork}
 use Rattle.std.specs.declared.alloc.Global.{Global}
 use Rattle.vic_tree.specs.declared.node.Halves.{Halves}
-use Rattle.vic_tree.specs.Nodes.{open_at, IsReduced, AreOneLeaf, IsClearNode}
+use Rattle.vic_tree.specs.Nodes.{open_at, IsReduced, AreOneLeaf}
 use Rattle.vic_tree.specs.OpenSet.{IsAtMost}
-use Rattle.vic_tree.specs.Widest.{AllPass, IsWidestOf}
+use Rattle.vic_tree.specs.Widest.{AllPass, IsWidestOf, with_low_bit}
 use Rattle.vic_tree.proofs.Bits.{low_and_rest}
 
 -- what a fork of two tests answers
 abbrev pub forked : (ℕ → Bool) → (ℕ → Bool) → ℕ → Bool
 forked p q u = cond (u % 2 == 0) (p (u / 2)) (q (u / 2))
 
-pub forked-even : (p q : ℕ → Bool) (u : ℕ) → forked p q (2 * u) ≡ p u
+forked-even : (p q : ℕ → Bool) (u : ℕ) → forked p q (2 * u) ≡ p u
 forked-even p q u =
     let e : 2 * u % 2 ≡ 0 = omega arith in
     let f : 2 * u / 2 ≡ u = omega arith in
     rw (e, f) refl
 
-pub forked-odd : (p q : ℕ → Bool) (u : ℕ) → forked p q (2 * u + 1) ≡ q u
+forked-odd : (p q : ℕ → Bool) (u : ℕ) → forked p q (2 * u + 1) ≡ q u
 forked-odd p q u =
     let e : (2 * u + 1) % 2 ≡ 1 = omega arith in
     let f : (2 * u + 1) / 2 ≡ u = omega arith in
     rw (e, f) refl
 
--- a place one bit down
-abbrev pub even_half : BitMask → BitMask
-even_half m = record { len = m.len + 1; value = 2 * m.value }
+-- the same mask of a fork, whose numbers have a bit more
+abbrev even_half : BitMask → BitMask
+even_half m = with_low_bit 0 m
 
-abbrev pub odd_half : BitMask → BitMask
-odd_half m = record { len = m.len + 1; value = 2 * m.value + 1 }
+abbrev odd_half : BitMask → BitMask
+odd_half m = with_low_bit 1 m
 
 two_pow : (l : ℕ) → 2 ^ (l + 1) ≡ 2 ^ l * 2
 two_pow l = rw add-one (pow-suc 2 l)
 
-pub even_fits : (m : BitMask) → m.value < 2 ^ m.len → 2 * m.value < 2 ^ (m.len + 1)
+even_fits : (m : BitMask) → m.value < 2 ^ m.len → 2 * m.value + 0 < 2 ^ (m.len + 1)
 even_fits m h = let e = two_pow m.len in omega arith
 
-pub odd_fits : (m : BitMask) → m.value < 2 ^ m.len → 2 * m.value + 1 < 2 ^ (m.len + 1)
+odd_fits : (m : BitMask) → m.value < 2 ^ m.len → 2 * m.value + 1 < 2 ^ (m.len + 1)
 odd_fits m h = let e = two_pow m.len in omega arith
 
--- the value of a place of fewer than 56 bits
-pub short_value : (l v : ℕ) → v < 2 ^ l → l < 56 → v < 2 ^ 55
-short_value l v h k = let p : 2 ^ l ≤ 2 ^ 55 = pow-le-pow_right {n = 2} (omega arith) {i = l} {j = 55} (omega arith) in omega arith
-
-pub even_passes : (p q : ℕ → Bool) (m : BitMask) → AllPass p m → AllPass (forked p q) (even_half m)
+even_passes : (p q : ℕ → Bool) (m : BitMask) → AllPass p m → AllPass (forked p q) (even_half m)
 even_passes p q m h u e =
     let f = low_and_rest u m.len in
     let low = mod_below u 2 (omega arith) in
@@ -56,7 +52,7 @@ even_passes p q m h u e =
     let rest : u / 2 % 2 ^ m.len ≡ m.value = omega arith in
     rw even (h (u / 2) rest)
 
-pub odd_passes : (p q : ℕ → Bool) (m : BitMask) → AllPass q m → AllPass (forked p q) (odd_half m)
+odd_passes : (p q : ℕ → Bool) (m : BitMask) → AllPass q m → AllPass (forked p q) (odd_half m)
 odd_passes p q m h u e =
     let f = low_and_rest u m.len in
     let low = mod_below u 2 (omega arith) in
@@ -64,12 +60,12 @@ odd_passes p q m h u e =
     let rest : u / 2 % 2 ^ m.len ≡ m.value = omega arith in
     rw odd (h (u / 2) rest)
 
--- a place of a fork that passes is a place of a half, unless it holds every number
-pub data HalfPass (p q : ℕ → Bool) (n : BitMask) : Type 0 where
+-- a mask of a fork that passes is a mask of a half, unless it holds every number
+data HalfPass (p q : ℕ → Bool) (n : BitMask) : Type 0 where
   at_even : (m : BitMask) → m.value < 2 ^ m.len → AllPass p m → n.len ≡ m.len + 1 → n.value ≡ 2 * m.value → HalfPass p q n
   at_odd : (m : BitMask) → m.value < 2 ^ m.len → AllPass q m → n.len ≡ m.len + 1 → n.value ≡ 2 * m.value + 1 → HalfPass p q n
 
-pub half_pass : (p q : ℕ → Bool) (n : BitMask) (u : ℕ) → forked p q u ≡ false → n.value < 2 ^ n.len → AllPass (forked p q) n → HalfPass p q n
+half_pass : (p q : ℕ → Bool) (n : BitMask) (u : ℕ) → forked p q u ≡ false → n.value < 2 ^ n.len → AllPass (forked p q) n → HalfPass p q n
 half_pass p q n u closed fits h = go n.len refl (n.value % 2) refl where
   go : (len : ℕ) → n.len ≡ len → (b : ℕ) → n.value % 2 ≡ b → HalfPass p q n
   go zero e b f =
@@ -94,7 +90,7 @@ half_pass p q n u closed fits h = go n.len refl (n.value % 2) refl where
       sym (forked-odd p q w) ∙ h (2 * w + 1) (rw is (omega arith)))
       is (omega arith)
 
--- the widest place of the half with the bit 0 is that of a fork, where no place of the other half comes before it
+-- the widest mask of the half with the bit 0 is that of a fork, where no mask of the other half comes before it
 pub even_widest : (p q : ℕ → Bool) (m : BitMask) (u : ℕ) → forked p q u ≡ false → IsWidestOf p m → ((n : BitMask) → n.value < 2 ^ n.len → AllPass q n → IsAtMost (even_half m) (odd_half n)) → IsWidestOf (forked p q) (even_half m)
 even_widest p q m u closed w other = record { fits = even_fits m w.fits; passes = even_passes p q m w.passes; least = λ n fits h. at_half n (half_pass p q n u closed fits h) } where
   at_half : (n : BitMask) → HalfPass p q n → IsAtMost (even_half m) n
@@ -111,6 +107,12 @@ odd_widest p q m u closed w other = record { fits = odd_fits m w.fits; passes = 
 pub none_passes : {A : Type 0} (q : ℕ → Bool) (n : BitMask) → ((u : ℕ) → q u ≡ false) → n.value < 2 ^ n.len → AllPass q n → A
 none_passes q n none fits h = let e : n.value % 2 ^ n.len ≡ n.value = mod-eq_of_lt fits in absurd (cc (h n.value e, none n.value))
 
+-- every number is open
+abbrev IsClearNode : Node → Type 0
+IsClearNode Clear = Unit {0}
+IsClearNode Shut = ⊥
+IsClearNode (Fork' p l h) = ⊥
+
 both_clear : (m n : Node) → IsClearNode m → IsClearNode n → AreOneLeaf m n
 both_clear Clear Clear a b = tt
 both_clear Clear Shut a b = absurd b
@@ -119,7 +121,7 @@ both_clear Shut n a b = absurd a
 both_clear (Fork' p l r) n a b = absurd a
 
 -- a reduced node that isn't clear has a number that is shut
-pub shut_number : (n : Node) → IsReduced n → IsClearNode n ⊎ ((u : ℕ) × (open_at n u ≡ false))
+shut_number : (n : Node) → IsReduced n → IsClearNode n ⊎ ((u : ℕ) × (open_at n u ≡ false))
 shut_number Clear r = inl tt
 shut_number Shut r = inr (0, refl)
 shut_number (Fork' p l h) r = inr (at_sides (shut_number l r.0) (shut_number h r.1)) where

@@ -4,6 +4,7 @@ ghost use Rattle.std.specs.Prelude.{◌≡◌, ℕ, Bool};
 ghost use Rattle.vic_tree.specs.Cells.{in_cells};
 
 use crate::cells::{gather_cells, is_in, least, settled};
+use crate::cut::whole;
 use crate::open_set::OpenSet;
 use arrayvec::ArrayVec;
 use std::alloc::{AllocError, Global};
@@ -33,11 +34,8 @@ impl OpenSet for CellList {
     ghost is_open = { in_cells };
 
     fn everything(alloc: Global) -> Result<CellList, AllocError> {
-        let Some(whole) = Mask::new(0, 0) else {
-            unreachable!()
-        };
         let mut cells = Vec::new(alloc);
-        cells.push(whole)?;
+        cells.push(whole())?;
         Ok(CellList { cells, alloc })
     }
 

@@ -1,7 +1,6 @@
 //! Lists of disjoint masks of which no two are the halves of one.
 
 ghost use Rattle.std.specs.Prelude.{◌≡◌, ℕ, ◌≤◌, ◌&&◌, ◌||◌, Bool, not, IfOk, OnOk, IfSome, IfNone, All, Contains, []};
-ghost use Rattle.std.specs.Bool.{OnTrue, OnFalse};
 ghost use Rattle.std.specs.List.Sorted.{IsStrictlyIncreasing};
 ghost use Rattle.vic_frame.specs.Uids.{has};
 ghost use Rattle.vic_frame.specs.Masks.{lies_in};
@@ -11,6 +10,7 @@ ghost use Rattle.vic_tree.specs.Cells.{in_cells, IsCell, IsApart, AreCells};
 
 use crate::cut::{flipped, shared, widened};
 use crate::gather::gather_all;
+use crate::widest::comes_before;
 use arrayvec::ArrayVec;
 use std::alloc::{AllocError, Global};
 use vic_frame::{Mask, Uid};
@@ -20,6 +20,70 @@ pub fn is_in(cells: &[Mask], uid: Uid) -> bool
     ensures { result ≡ in_cells cells.now uid }
 {
     cells.iter().any(|cell| cell.matches(uid))
+}
+
+/// What is left of some cells once a mask is settled, except some UIDs.
+pub fn settled(
+    alloc: Global,
+    cells: &[Mask],
+    mask: &Mask,
+    except: &[Uid],
+) -> Result<Vec<Mask>, AllocError>
+    requires cells { AreCells cells.now }
+    requires short { mask.now.len ≤ 56 }
+    ensures cells { IfOk result (λ left. AreCells left.items) }
+    ensures left { IfOk result (λ left. SameUids (in_cells left.items) (settled (in_cells cells.now) mask.now except.now)) }
+{
+    let mut left = outside(alloc, cells, mask)?;
+    add_back(&mut left, cells, except)?;
+    Ok(left)
+}
+
+/// What some cells hold outside of a mask.
+fn outside(alloc: Global, cells: &[Mask], mask: &Mask) -> Result<Vec<Mask>, AllocError>
+    requires cells { AreCells cells.now }
+    requires short { mask.now.len ≤ 56 }
+    ensures cells { IfOk result (λ left. AreCells left.items) }
+    ensures left { IfOk result (λ left. SameUids (in_cells left.items) (λ u. in_cells cells.now u && not (lies_in mask.now u))) }
+{
+    let mut left = Vec::new(alloc);
+    for cell in cells {
+        add_rest(&mut left, cell, mask)?;
+    }
+    Ok(left)
+}
+
+/// Adds what a cell holds outside of a mask.
+fn add_rest(cells: &mut Vec<Mask>, cell: &Mask, mask: &Mask) -> Result<(), AllocError>
+    requires cells { AreCells cells.old.items }
+    requires cell { IsCell cell.now }
+    requires short { mask.now.len ≤ 56 }
+    requires apart { IsApart cell.now cells.old.items }
+    ensures cells { OnOk result (AreCells cells.new.items) }
+    ensures added { OnOk result (SameUids (in_cells cells.new.items) (λ u. in_cells cells.old.items u || (lies_in cell.now u && not (lies_in mask.now u)))) }
+{
+    let Some(inner) = shared(cell, mask) else {
+        add(cells, *cell)?;
+        return Ok(());
+    };
+    for len in cell.len()..inner.len() {
+        add(cells, flipped(&inner, len))?;
+    }
+    Ok(())
+}
+
+/// Adds those UIDs of a list that lie in some cells.
+fn add_back(left: &mut Vec<Mask>, cells: &[Mask], uids: &[Uid]) -> Result<(), AllocError>
+    requires { AreCells left.old.items }
+    ensures cells { OnOk result (AreCells left.new.items) }
+    ensures added { OnOk result (SameUids (in_cells left.new.items) (λ u. in_cells left.old.items u || (in_cells cells.now u && has uids.now u))) }
+{
+    for uid in uids {
+        if is_in(cells, *uid) && !is_in(left, *uid) {
+            add(left, Mask::of(*uid))?;
+        }
+    }
+    Ok(())
 }
 
 /// Adds a mask, joined with the other half of a mask wherever that is there.
@@ -42,70 +106,6 @@ fn add(cells: &mut Vec<Mask>, mask: Mask) -> Result<(), AllocError>
     Ok(())
 }
 
-/// Adds what a cell holds outside of a mask.
-fn add_rest(cells: &mut Vec<Mask>, cell: &Mask, mask: &Mask) -> Result<(), AllocError>
-    requires cells { AreCells cells.old.items }
-    requires cell { IsCell cell.now }
-    requires short { mask.now.len ≤ 56 }
-    requires apart { IsApart cell.now cells.old.items }
-    ensures cells { OnOk result (AreCells cells.new.items) }
-    ensures added { OnOk result (SameUids (in_cells cells.new.items) (λ u. in_cells cells.old.items u || (lies_in cell.now u && not (lies_in mask.now u)))) }
-{
-    let Some(inner) = shared(cell, mask) else {
-        add(cells, *cell)?;
-        return Ok(());
-    };
-    for len in cell.len()..inner.len() {
-        add(cells, flipped(&inner, len))?;
-    }
-    Ok(())
-}
-
-/// What some cells hold outside of a mask.
-fn outside(alloc: Global, cells: &[Mask], mask: &Mask) -> Result<Vec<Mask>, AllocError>
-    requires cells { AreCells cells.now }
-    requires short { mask.now.len ≤ 56 }
-    ensures cells { IfOk result (λ left. AreCells left.items) }
-    ensures left { IfOk result (λ left. SameUids (in_cells left.items) (λ u. in_cells cells.now u && not (lies_in mask.now u))) }
-{
-    let mut left = Vec::new(alloc);
-    for cell in cells {
-        add_rest(&mut left, cell, mask)?;
-    }
-    Ok(left)
-}
-
-/// Adds those UIDs of a list that lie in some cells.
-fn add_back(left: &mut Vec<Mask>, cells: &[Mask], uids: &[Uid]) -> Result<(), AllocError>
-    requires { AreCells left.old.items }
-    ensures cells { OnOk result (AreCells left.new.items) }
-    ensures added { OnOk result (SameUids (in_cells left.new.items) (λ u. in_cells left.old.items u || (in_cells cells.now u && has uids.now u))) }
-{
-    for uid in uids {
-        if is_in(cells, *uid) && !is_in(left, *uid) {
-            add(left, Mask::of(*uid))?;
-        }
-    }
-    Ok(())
-}
-
-/// What is left of some cells once a mask is settled, except some UIDs.
-pub fn settled(
-    alloc: Global,
-    cells: &[Mask],
-    mask: &Mask,
-    except: &[Uid],
-) -> Result<Vec<Mask>, AllocError>
-    requires cells { AreCells cells.now }
-    requires short { mask.now.len ≤ 56 }
-    ensures cells { IfOk result (λ left. AreCells left.items) }
-    ensures left { IfOk result (λ left. SameUids (in_cells left.items) (settled (in_cells cells.now) mask.now except.now)) }
-{
-    let mut left = outside(alloc, cells, mask)?;
-    add_back(&mut left, cells, except)?;
-    Ok(left)
-}
-
 /// Appends the UIDs that lie in a mask and in one of the cells, and are no exceptions.
 pub fn gather_cells(out: &mut ArrayVec<Uid, 3>, except: &[Uid], cells: &[Mask], mask: &Mask)
     requires rising { IsStrictlyIncreasing except.now }
@@ -118,14 +118,6 @@ pub fn gather_cells(out: &mut ArrayVec<Uid, 3>, except: &[Uid], cells: &[Mask], 
             gather_all(out, except, both.len(), both.value());
         }
     }
-}
-
-/// Whether a mask is shorter than another, or as long and of lesser value.
-fn comes_before(a: &Mask, b: &Mask) -> bool
-    ensures before { OnTrue result (IsAtMost a.now b.now) }
-    ensures after { OnFalse result (IsAtMost b.now a.now) }
-{
-    a.len() < b.len() || (a.len() == b.len() && a.value() < b.value())
 }
 
 /// The shortest of the cells, and of those the one of least value.

@@ -6,6 +6,16 @@ ghost use Rattle.vic_tree.specs.Cells.{IsCell, holds, cut_at, beside};
 
 use vic_frame::Mask;
 
+/// The mask of no bits, in which every UID lies.
+pub fn whole() -> Mask
+    ensures { result ≡ record { len = 0; value = 0 } }
+{
+    let Some(whole) = Mask::new(0, 0) else {
+        unreachable!()
+    };
+    whole
+}
+
 /// Whether a mask holds all of another.
 fn holds(outer: &Mask, inner: &Mask) -> bool
     requires short { outer.now.len ≤ 56 }

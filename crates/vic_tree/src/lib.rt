@@ -9,6 +9,8 @@ mod mask_tree;
 mod node;
 mod open_set;
 pub mod set_laws;
+#[cfg(test)]
+mod tests;
 mod widest;
 
 pub use cell_list::CellList;

@@ -1,61 +1,22 @@
-ghost use Rattle.std.specs.Prelude.{◌≡◌, ℕ, ◌+◌, ◌*◌, ◌/◌, ◌^◌, ◌%◌, ◌<◌, ◌≤◌, ◌&&◌, ◌||◌, ◌==◌, ◌↔◌, IsTrue, Bool, true, false, not, IfOk, OnOk, OnErr, max, filter};
+//! A set of open UIDs as a tree of their low bits.
+
+ghost use Rattle.std.specs.Prelude.{◌≡◌, ℕ, ◌≤◌, ◌&&◌, ◌||◌, IfOk, OnOk, filter};
 ghost use Rattle.vic_frame.specs.Uids.{IsUid, has};
-ghost use Rattle.vic_frame.specs.Masks.{IsMask, lies_in};
-ghost use Rattle.vic_tree.specs.OpenSet.{settled, SameUids};
+ghost use Rattle.vic_frame.specs.Masks.{lies_in};
+ghost use Rattle.vic_tree.specs.OpenSet.{SameUids, settled};
 ghost use Rattle.vic_tree.specs.Nodes.{open_at, height, IsReduced};
 
 use crate::gather::gather_open;
 use crate::node::{Node, below, fill, is_open_at};
 use crate::open_set::OpenSet;
-use crate::widest::widest_at;
+use crate::widest::widest_below;
 use arrayvec::ArrayVec;
 use std::alloc::{AllocError, Global};
 use std::marker::Model;
 use vic_frame::{Mask, Uid, low_mask};
 
-/// The exceptions that are open and in the mask.
-fn keep(alloc: Global, root: &Node, mask: &Mask, except: &[Uid]) -> Result<Vec<Uid>, AllocError>
-    ensures { IfOk result (λ kept. kept.items ≡ filter (λ u. lies_in mask.now u && open_at root.now u) except.now) }
-{
-    let mut kept = Vec::new(alloc);
-    for uid in except {
-        if mask.matches(*uid) && is_open_at(root, uid.number()) {
-            kept.push(*uid)?;
-        }
-    }
-    Ok(kept)
-}
-
-/// Opens the UIDs of a list.
-fn reopen(root: &mut Node, alloc: Global, kept: &[Uid]) -> Result<(), AllocError>
-    requires reduced { IsReduced root.old }
-    requires low { height root.old ≤ 56 }
-    ensures reduced { OnOk result (IsReduced root.new) }
-    ensures low { OnOk result (height root.new ≤ 56) }
-    ensures opened { OnOk result ((u : ℕ) → IsUid u → open_at root.new u ≡ (has kept.now u || open_at root.old u)) }
-{
-    for uid in kept {
-        fill(root, alloc, 56, uid.number() % (1 << 56), true)?;
-    }
-    Ok(())
-}
-
-/// Shuts a mask but for some UIDs.
-fn settle_in(root: &mut Node, alloc: Global, mask: &Mask, except: &[Uid]) -> Result<(), AllocError>
-    requires reduced { IsReduced root.old }
-    requires low { height root.old ≤ 56 }
-    requires mask_low { mask.now.len ≤ 56 }
-    ensures reduced { OnOk result (IsReduced root.new) }
-    ensures low { OnOk result (height root.new ≤ 56) }
-    ensures settled { OnOk result ((u : ℕ) → IsUid u → open_at root.new u ≡ settled (open_at root.old) mask.now except.now u) }
-{
-    let kept = keep(alloc, root, mask, except)?;
-    fill(root, alloc, mask.len(), mask.value(), false)?;
-    reopen(root, alloc, &kept)?;
-    Ok(())
-}
-
-/// A tree over the low 56 bits of a UID.
+/// A set of UIDs as a tree that asks for their low 56 bits, the lowest first. It is at most 56
+/// forks deep. Settling a mask takes a step for each of its bits, and 56 for each exception in it.
 #[derive(Drop)]
 pub struct MaskTree {
     root: Node,
@@ -92,7 +53,7 @@ impl OpenSet for MaskTree {
         let Some(mask) = low_mask(mask) else {
             return Ok(());
         };
-        match settle_in(&mut self.root, self.alloc, &mask, except) {
+        match settle_below(&mut self.root, self.alloc, &mask, except) {
             Ok(()) => Ok(()),
             Err(error) => {
                 self.root = Node::Shut;
@@ -106,16 +67,67 @@ impl OpenSet for MaskTree {
     }
 
     fn up_to_three(&self, mask: &Mask, except: &[Uid]) -> ArrayVec<Uid, 3> {
-        let mut out = ArrayVec::new();
+        let mut found = ArrayVec::new();
         if let Some(mask) = low_mask(mask) {
             let node = below(&self.root, mask.len(), mask.value());
-            gather_open(&mut out, except, node, mask.len(), mask.value());
+            gather_open(&mut found, except, node, mask.len(), mask.value());
         }
-        out
+        found
     }
 
     fn widest(&self) -> Option<Mask> {
-        let place = widest_at(&self.root)?;
-        Mask::new(place.len, place.value)
+        widest_below(&self.root)
     }
+}
+
+/// Shuts a mask, and opens those exceptions in it again that were open.
+fn settle_below(
+    root: &mut Node,
+    alloc: Global,
+    mask: &Mask,
+    except: &[Uid],
+) -> Result<(), AllocError>
+    requires reduced { IsReduced root.old }
+    requires low { height root.old ≤ 56 }
+    requires short { mask.now.len ≤ 56 }
+    ensures reduced { OnOk result (IsReduced root.new) }
+    ensures low { OnOk result (height root.new ≤ 56) }
+    ensures settled { OnOk result (SameUids (open_at root.new) (settled (open_at root.old) mask.now except.now)) }
+{
+    let kept = open_in_mask(alloc, root, mask, except)?;
+    fill(root, alloc, mask.len(), mask.value(), false)?;
+    reopen(root, alloc, &kept)?;
+    Ok(())
+}
+
+/// The UIDs of a list that are open and lie in a mask.
+fn open_in_mask(
+    alloc: Global,
+    root: &Node,
+    mask: &Mask,
+    uids: &[Uid],
+) -> Result<Vec<Uid>, AllocError>
+    ensures { IfOk result (λ kept. kept.items ≡ filter (λ u. lies_in mask.now u && open_at root.now u) uids.now) }
+{
+    let mut kept = Vec::new(alloc);
+    for uid in uids {
+        if mask.matches(*uid) && is_open_at(root, uid.number()) {
+            kept.push(*uid)?;
+        }
+    }
+    Ok(kept)
+}
+
+/// Opens the UIDs of a list.
+fn reopen(root: &mut Node, alloc: Global, uids: &[Uid]) -> Result<(), AllocError>
+    requires reduced { IsReduced root.old }
+    requires low { height root.old ≤ 56 }
+    ensures reduced { OnOk result (IsReduced root.new) }
+    ensures low { OnOk result (height root.new ≤ 56) }
+    ensures opened { OnOk result ((u : ℕ) → IsUid u → open_at root.new u ≡ (has uids.now u || open_at root.old u)) }
+{
+    for uid in uids {
+        fill(root, alloc, 56, uid.number() % (1 << 56), true)?;
+    }
+    Ok(())
 }

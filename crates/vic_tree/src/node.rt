@@ -1,9 +1,11 @@
-ghost use Rattle.std.specs.Prelude.{◌≡◌, ℕ, ◌+◌, ◌*◌, ◌/◌, ◌^◌, ◌%◌, ◌<◌, ◌≤◌, ◌&&◌, ◌==◌, ◌↔◌, IsTrue, Bool, true, false, not, IfOk, OnOk, OnErr, max, if◌then◌else◌};
+//! Trees of bits.
+
+ghost use Rattle.std.specs.Prelude.{◌≡◌, ℕ, ◌+◌, ◌/◌, ◌^◌, ◌%◌, ◌<◌, ◌≤◌, ◌==◌, OnOk, max, if◌then◌else◌};
 ghost use Rattle.vic_tree.specs.Nodes.{open_at, height, IsReduced, HasReducedSides, IsFork};
 
 use std::alloc::{AllocError, Global};
 
-/// A tree over the low bits of a number, the lowest first.
+/// Which numbers are open, asked bit by bit, the lowest bit first.
 #[cycle(node)]
 #[derive(Drop)]
 pub enum Node {
@@ -11,14 +13,17 @@ pub enum Node {
     Clear,
     /// No number is open.
     Shut,
-    /// The next bit tells.
+    /// The next bit decides in which half the bits above it are looked up.
     Fork(Box<Halves>),
 }
 
+/// The two sides of a fork.
 #[cycle(node)]
 #[derive(Drop)]
 pub struct Halves {
+    /// The numbers whose bit is 0, without it.
     pub zero: Node,
+    /// The numbers whose bit is 1, without it.
     pub one: Node,
 }
 
@@ -39,7 +44,7 @@ pub fn is_open_at(node: &Node, number: u64) -> bool
     }
 }
 
-/// Makes one leaf of a fork of two that are equal.
+/// Makes one leaf of a fork of two equal leaves.
 fn merge(node: &mut Node)
     requires { HasReducedSides node.old }
     ensures reduced { IsReduced node.new }
@@ -80,7 +85,7 @@ fn split(node: &mut Node, alloc: Global) -> Result<(), AllocError>
     Ok(())
 }
 
-/// Opens or shuts every number of a mask.
+/// Makes every number with these low bits open, or none of them.
 pub fn fill(
     node: &mut Node,
     alloc: Global,
