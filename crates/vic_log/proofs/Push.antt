@@ -16,7 +16,8 @@ use Rattle.vic_log.specs.declared.entry.Version.TheVariants.{V1}
 use Rattle.vic_log.specs.FirstVersion.{IsOfFirstVersion, AreOfFirstVersion}
 use Rattle.vic_log.specs.Rounds.{opener, slots_opened, left_since, slots_left, is_slot}
 use Rattle.vic_log.specs.Order.{IsInOrder, entries, listed, IsRisingFrom, AreValid, is_outside_round, is_empty, is_after_list, is_duplicate, refusal}
-use Rattle.vic_log.specs.Log.{last_from, IsValidEntry, IsTyped, AreTyped, IsLog, left_after, Keeps}
+use Rattle.vic_log.specs.Log.{last_from, IsValidEntry, IsTyped, AreTyped, IsLog}
+use Rattle.vic_log.specs.Kept.{left_after, Keeps}
 use Rattle.vic_log.proofs.Places.{AgreeBefore, opener_agrees, opener_below, agree_append, slice_get_last, agree_upto}
 use Rattle.vic_log.proofs.Order.{in_round-slots_left}
 

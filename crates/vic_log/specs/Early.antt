@@ -1,12 +1,12 @@
 -- Faults that no further bytes can change.
 use Rattle.std.specs.Prelude.{◌≡◌, ℕ, suc, ◌≤◌, false, true, Some, List, length, slice_get, ◌⊎◌}
 use Rattle.vic_log.specs.declared.fault.LineFault.{LineFault}
-use Rattle.vic_log.specs.Lines.{cut, ends_with, lines_of_text}
+use Rattle.vic_log.specs.Lines.{lf, cr, cut, ends_with, lines_of_text}
 use Rattle.vic_log.specs.Text.{IsFirstFault}
 
 -- a part with its LF, or of 130 bytes, or of 129 of which the last isn't CR
 abbrev pub IsJudged : List ℕ → Type 0
-IsJudged part = (ends_with 10 part ≡ true) ⊎ ((130 ≤ length part) ⊎ ((129 ≤ length part) × (ends_with 13 part ≡ false)))
+IsJudged part = (ends_with lf part ≡ true) ⊎ ((130 ≤ length part) ⊎ ((129 ≤ length part) × (ends_with cr part ≡ false)))
 
 -- f is the first fault, on line n, and the line is judged by then, or is line 1,000,001
 pub record IsEarlyFault (text : List ℕ) (n : ℕ) (f : LineFault) : Type 0 where

@@ -5,9 +5,11 @@ pub mod Slots
 pub mod Order
 pub mod FirstVersion
 pub mod Log
+pub mod Kept
 pub mod Lines
 pub mod LineReading
 pub mod Text
 pub mod Early
 pub mod Writing
+pub mod Names
 pub mod Device

@@ -1,5 +1,6 @@
 -- What one line says.
 use Rattle.std.specs.Prelude.{ℕ, ◌==◌, Bool, ◌||◌, nat_lt, if◌then◌else◌, Option, Some, None, Result, Ok, Err, List, length, drop, slice_index}
+use Rattle.std.specs.Str.{byte}
 use Rattle.std.specs.Int.{from_be_bytes, w64}
 use Rattle.hex.specs.Hex.{decode_of}
 use Rattle.hex.specs.declared.error.FromHexError.{FromHexError}
@@ -15,7 +16,7 @@ use Rattle.vic_log.specs.declared.fault.LineFault.TheVariants.{LineTooLong, Unkn
 
 -- an empty line and a line whose first byte is # are passed over
 abbrev pub is_passed_over : List ℕ → Bool
-is_passed_over line = length line == 0 || slice_index line 0 == 35
+is_passed_over line = length line == 0 || slice_index line 0 == byte "#"
 
 abbrev pub sent : Result Request FrameFault → Result (Option Entry) LineFault
 sent (Ok q) = Ok (Some (Sent q))
@@ -39,16 +40,16 @@ with_bytes f (Err e) = Err Hex
 -- S and C alone
 abbrev pub one_letter : ℕ → Result (Option Entry) LineFault
 one_letter letter =
-    if letter == 83 then Ok (Some Silent)
-    else if letter == 67 then Ok (Some Collision)
+    if letter == byte "S" then Ok (Some Silent)
+    else if letter == byte "C" then Ok (Some Collision)
     else Err UnknownEntry
 
 -- T, R and U with hex digits behind a space
 abbrev pub with_digits : ℕ → List ℕ → Result (Option Entry) LineFault
 with_digits letter digits =
-    if letter == 84 then with_bytes (λ bytes. sent (request_reading bytes)) (decode_of digits)
-    else if letter == 82 then with_bytes (λ bytes. heard (reply_reading bytes)) (decode_of digits)
-    else if letter == 85 then with_bytes listed_uid (decode_of digits)
+    if letter == byte "T" then with_bytes (λ bytes. sent (request_reading bytes)) (decode_of digits)
+    else if letter == byte "R" then with_bytes (λ bytes. heard (reply_reading bytes)) (decode_of digits)
+    else if letter == byte "U" then with_bytes listed_uid (decode_of digits)
     else Err UnknownEntry
 
 -- the entry that a line after the header spells, None where it is passed over, or the first of the faults that it has by itself
@@ -57,5 +58,5 @@ line_reading line =
     if nat_lt 128 (length line) then Err LineTooLong
     else if is_passed_over line then Ok None
     else if length line == 1 then one_letter (slice_index line 0)
-    else if slice_index line 1 == 32 then with_digits (slice_index line 0) (drop 2 line)
+    else if slice_index line 1 == byte " " then with_digits (slice_index line 0) (drop 2 line)
     else Err UnknownEntry

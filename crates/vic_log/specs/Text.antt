@@ -30,12 +30,13 @@ order_fault es e =
     else if is_duplicate es e then Some DuplicateListed
     else None
 
+-- the first fault of what a line after the header says, after the entries of the lines before
 abbrev pub reading_fault : List Entry → Result (Option Entry) LineFault → Option LineFault
 reading_fault es (Ok (Some e)) = order_fault es e
 reading_fault es (Ok None) = None
 reading_fault es (Err f) = Some f
 
--- the first fault of the line with a number, after the entries of the lines before. A text without lines has no header
+-- the first fault of the line with this number, after the entries of the lines before. A text without lines has no header
 abbrev pub line_fault : List Entry → ℕ → Option (List ℕ) → Option LineFault
 line_fault es number None = if number == 1 then Some Header else None
 line_fault es number (Some line) =
@@ -59,7 +60,7 @@ abbrev pub log_upto : List (List ℕ) → ℕ → List LogLine
 log_upto lines zero = []
 log_upto lines (suc k) = log_upto lines k ++ logged (suc k) (slice_get lines k)
 
--- the first fault of line n, read with the entries of the lines before it
+-- the first fault of line n, read with the entries of the lines before it. There is no line 0
 abbrev pub fault_on : List (List ℕ) → ℕ → Option LineFault
 fault_on lines zero = None
 fault_on lines (suc k) = line_fault (entries (log_upto lines k)) (suc k) (slice_get lines k)

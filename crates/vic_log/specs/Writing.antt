@@ -7,6 +7,7 @@ use Rattle.vic_frame.specs.Replies.{reply_spelling}
 use Rattle.vic_log.specs.declared.entry.Entry.{Entry}
 use Rattle.vic_log.specs.declared.entry.Entry.TheVariants.{Sent, Silent, Collision, Heard, Listed, Garbled, FieldCycle}
 use Rattle.vic_log.specs.declared.entry.LogLine.{LogLine}
+use Rattle.vic_log.specs.Lines.{lf}
 use Rattle.vic_log.specs.Log.{LogValue}
 use Rattle.vic_log.specs.Order.{entries}
 use Rattle.vic_log.specs.Text.{header}
@@ -24,7 +25,7 @@ entry_text FieldCycle = codes "F"
 -- each line with LF behind it
 abbrev pub joined : List (List ℕ) → List ℕ
 joined [] = []
-joined (line ∷ lines) = line ++ 10 ∷ joined lines
+joined (line ∷ lines) = line ++ lf ∷ joined lines
 
 -- the text of lines behind the header
 abbrev pub lines_text : List LogLine → List ℕ
@@ -32,7 +33,7 @@ lines_text lines = joined (map entry_text (entries lines))
 
 -- the text of a log
 abbrev pub text_of : LogValue → List ℕ
-text_of log = header log.version ++ 10 ∷ lines_text log.lines
+text_of log = header log.version ++ lf ∷ lines_text log.lines
 
 -- entries on lines numbered from n on
 abbrev pub numbered : ℕ → List Entry → List LogLine

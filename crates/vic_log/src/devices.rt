@@ -1,4 +1,5 @@
-// Readers and writers for tests: in pieces, failing at a call, or without end.
+//! Readers and writers for tests: in pieces, failing at a call, or without end.
+
 ghost use Rattle.std.specs.Prelude.{◌≡◌, ◌+◌, ◌-◌, ◌^◌, ◌<◌, ◌≤◌, ℕ, List, Bool, true, false, min, length, take, drop, Some, None};
 
 use crate::sink::Sink;
@@ -6,7 +7,7 @@ use crate::source::{DeviceFault, Source};
 use std::io;
 use std::io::Write;
 
-/// Hands out its bytes in pieces, and fails at one call.
+/// A source that gives at most so many bytes a call, and fails at one call.
 #[derive(Drop)]
 pub struct Pieces<'a> {
     bytes: &'a [u8],
@@ -17,7 +18,7 @@ pub struct Pieces<'a> {
 }
 
 impl<'a> Pieces<'a> {
-    /// The calls are numbered from 1; a `fail_at` of 0 is none.
+    /// A source of these bytes. Its calls are numbered from 1; with a `fail_at` of 0 none fails.
     pub fn new(bytes: &'a [u8], piece: usize, fail_at: u64) -> Pieces<'a>
         requires { 0 < piece }
         ensures reads { ⟦<Pieces<'a> as Source>⟧.reads result ≡ 0 }
@@ -33,6 +34,7 @@ impl<'a> Pieces<'a> {
         }
     }
 
+    /// How often it was read.
     pub fn reads(&self) -> u64
         ensures { result ≡ ⟦<Pieces<'a> as Source>⟧.reads self.now }
     {
@@ -66,7 +68,7 @@ impl<'a> Source for Pieces<'a> {
     }
 }
 
-/// Hands out one byte without end, and tells nothing.
+/// A source that gives one byte again and again, without end.
 #[derive(Drop)]
 pub struct Endless {
     byte: u8,
@@ -74,7 +76,10 @@ pub struct Endless {
 }
 
 impl Endless {
-    pub fn new(byte: u8) -> Endless {
+    /// A source of this byte.
+    pub fn new(byte: u8) -> Endless
+        ensures { ⟦<Endless as Source>⟧.reads result ≡ 0 }
+    {
         Endless { byte, reads: 0 }
     }
 }
@@ -99,7 +104,7 @@ impl Source for Endless {
     }
 }
 
-/// Takes one byte a call, and fails at one call, or in `flush`.
+/// A sink that takes one byte a call, and fails at one call, or in `flush`.
 #[derive(Drop)]
 pub struct OneByOne {
     taken: Vec<u8>,
@@ -110,7 +115,11 @@ pub struct OneByOne {
 }
 
 impl OneByOne {
-    pub fn new(taken: Vec<u8>, fail_at: u64, fails_flush: bool) -> OneByOne {
+    /// A sink that has taken these bytes. Its writes are numbered from 1; with a `fail_at` of 0 none fails.
+    pub fn new(taken: Vec<u8>, fail_at: u64, fails_flush: bool) -> OneByOne
+        ensures taken { ⟦<OneByOne as Sink>⟧.taken result ≡ Some taken.items }
+        ensures works { ⟦<OneByOne as Sink>⟧.has_failed result ≡ false }
+    {
         OneByOne {
             taken,
             fail_at,
@@ -120,6 +129,7 @@ impl OneByOne {
         }
     }
 
+    /// The bytes that it has taken.
     pub fn taken(&self) -> &[u8]
         ensures { Some result.now ≡ ⟦<OneByOne as Sink>⟧.taken self.now }
     {
@@ -163,7 +173,7 @@ impl Sink for OneByOne {
     }
 }
 
-/// A writer of std that takes nothing at one call.
+/// A writer of std that takes all it is given, but nothing at one call.
 #[derive(Drop)]
 pub struct Stuck {
     stuck_at: u64,
@@ -171,6 +181,7 @@ pub struct Stuck {
 }
 
 impl Stuck {
+    /// Its writes are numbered from 1; with a `stuck_at` of 0 none takes nothing.
     pub fn new(stuck_at: u64) -> Stuck {
         Stuck {
             stuck_at,
@@ -189,59 +200,6 @@ impl Write for Stuck {
     }
 
     fn flush(&mut self) -> io::Result<()> {
-        Ok(())
-    }
-}
-
-#[cfg(test)]
-mod tests {
-    use super::*;
-    use crate::sink::{ToWrite, write_whole};
-    use crate::source::{FromRead, ReadFault, read_whole};
-    use std::test::Fail;
-
-    #[test]
-    fn reads(rt: HostRuntime) -> Result<(), Fail> {
-        let text = b"one two three";
-        for piece in 1..20usize {
-            let mut source = Pieces::new(text, piece, 0);
-            let got = read_whole(rt.alloc(), &mut source, 100)?;
-            assert_eq!(rt; got.as_slice(), text.as_slice());
-        }
-        let mut source = Pieces::new(text, 5, 2);
-        assert_eq!(rt;
-            read_whole(rt.alloc(), &mut source, 100).err(),
-            Some(ReadFault::Read)
-        );
-        assert_eq!(rt;
-            read_whole(rt.alloc(), &mut source, 100).err(),
-            Some(ReadFault::Read)
-        );
-        assert_eq!(rt; source.reads(), 2);
-        let mut memory = FromRead::new(text.as_slice());
-        let got = read_whole(rt.alloc(), &mut memory, 7)?;
-        assert_eq!(rt; got.as_slice(), b"one two".as_slice());
-        let got = read_whole(rt.alloc(), &mut Endless::new(9), 10000)?;
-        assert_eq!(rt; got.len(), 10000);
-        Ok(())
-    }
-
-    #[test]
-    fn writes(rt: HostRuntime) -> Result<(), Fail> {
-        let mut sink = OneByOne::new(Vec::new(rt.alloc()), 0, false);
-        assert!(rt; !sink.failed());
-        assert_eq!(rt; write_whole(&mut sink, b"abc"), Ok(()));
-        assert_eq!(rt; sink.taken(), b"abc".as_slice());
-        let mut sink = OneByOne::new(Vec::new(rt.alloc()), 3, false);
-        assert!(rt; !sink.failed());
-        assert_eq!(rt; write_whole(&mut sink, b"abc"), Err(DeviceFault));
-        assert_eq!(rt; sink.taken(), b"ab".as_slice());
-        let mut sink = ToWrite::new(Stuck::new(1));
-        assert_eq!(rt; write_whole(&mut sink, b"abc"), Err(DeviceFault));
-        assert!(rt; sink.failed());
-        let mut held = ToWrite::new(Vec::new(rt.alloc()));
-        assert_eq!(rt; write_whole(&mut held, b"abc"), Ok(()));
-        assert_eq!(rt; held.into_inner().as_slice(), b"abc".as_slice());
         Ok(())
     }
 }

@@ -1,50 +1,95 @@
-//! What is wrong with a log's text.
+//! What is wrong with a log, its text, or a device.
 
-ghost use Rattle.std.specs.Prelude.{◌≡◌};
+ghost use Rattle.std.specs.Prelude.{◌≡◌, Some};
 ghost use Rattle.vic_log.specs.declared.fault.PushFault.TheVariants.{Memory as NoRoom};
+ghost use Rattle.vic_log.specs.Names.{line_fault_name};
 
 use crate::source::DeviceFault;
 use std::alloc::{AllocError, AllocFailed};
+use std::fmt;
 use vic_frame::FrameFault;
 
-/// What is wrong with one line.
+/// What is wrong with a line of a log's text. Of several faults of one line the first in this order counts.
 #[derive(Clone, Copy, PartialEq, Eq, Debug)]
 pub enum LineFault {
+    /// It is line 1,000,001.
     TooManyLines,
+    /// It has more than 128 bytes, without its end.
     LineTooLong,
+    /// It is line 1 and isn't the header, or the text is empty.
     Header,
+    /// It is neither passed over, nor `S` or `C`, nor begins with `T `, `R ` or `U `.
     UnknownEntry,
+    /// What follows the space isn't an even number of hex digits.
     Hex,
+    /// A `U` line without exactly eight bytes.
     ListedLength,
+    /// A `T` or `R` line whose frame has this fault.
     Frame(FrameFault),
+    /// A `U` line whose first byte isn't E0.
     NotVicinity,
+    /// A slot line where no slot of a round is left.
     SlotOutsideRound,
+    /// A `T` line after a `U` line.
     EntryAfterList,
+    /// A UID that was listed before.
     DuplicateListed,
 }
 
-/// Why a log takes no further line.
+/// Why a log takes no further line. Of several reasons the first in this order counts.
 #[derive(Clone, Copy, PartialEq, Eq, Debug)]
 pub enum PushFault {
+    /// The entry tells of a slot, and no slot of a round is left.
     SlotOutsideRound,
+    /// The entry is a request or a field cycle, and a UID is listed.
     EntryAfterList,
+    /// The UID is listed.
     DuplicateListed,
+    /// There is no memory for it.
     Memory,
 }
 
 /// Why a text gives no log.
 #[derive(Clone, Copy, PartialEq, Eq, Debug)]
 pub enum LogFault {
+    /// The first line with a fault, numbered from 1, and the first of its faults.
     Line { line: u32, fault: LineFault },
+    /// The text can't be read.
     Read,
+    /// There is no memory for the log.
     Memory,
+    /// The reader was used before.
     Spent,
+}
+
+/// The sink failed, and has taken only a first part of the text.
+#[derive(Clone, Copy, PartialEq, Eq, Debug)]
+pub struct WriteFault;
+
+impl fmt::Display for LineFault {
+    ghost output = { λ e. Some (line_fault_name e) };
+
+    fn fmt<W: fmt::Write>(&self, f: &mut fmt::Formatter<W>) -> fmt::Result {
+        f.write_str(match self {
+            LineFault::TooManyLines => "TooManyLines",
+            LineFault::LineTooLong => "LineTooLong",
+            LineFault::Header => "Header",
+            LineFault::UnknownEntry => "UnknownEntry",
+            LineFault::Hex => "Hex",
+            LineFault::ListedLength => "ListedLength",
+            LineFault::Frame(fault) => return fault.fmt(f),
+            LineFault::NotVicinity => "NotVicinity",
+            LineFault::SlotOutsideRound => "SlotOutsideRound",
+            LineFault::EntryAfterList => "EntryAfterList",
+            LineFault::DuplicateListed => "DuplicateListed",
+        })
+    }
 }
 
 impl From<AllocError> for PushFault {
     ghost from_gives = { λ _ e. e ≡ NoRoom };
 
-    fn from(_e: AllocError) -> PushFault {
+    fn from(_: AllocError) -> PushFault {
         PushFault::Memory
     }
 }
@@ -52,14 +97,10 @@ impl From<AllocError> for PushFault {
 impl<T: Drop> From<AllocFailed<T>> for PushFault {
     ghost from_gives = { λ _ e. e ≡ NoRoom };
 
-    fn from(_e: AllocFailed<T>) -> PushFault {
+    fn from(_: AllocFailed<T>) -> PushFault {
         PushFault::Memory
     }
 }
-
-/// The sink took only a first part of the text.
-#[derive(Clone, Copy, PartialEq, Eq, Debug)]
-pub struct WriteFault;
 
 impl From<DeviceFault> for WriteFault {
     fn from(_: DeviceFault) -> WriteFault {

@@ -7,7 +7,8 @@ ghost use Rattle.vic_log.specs.declared.fault.PushFault.TheVariants.{Memory as N
 ghost use Rattle.vic_frame.specs.Uids.{has};
 ghost use Rattle.vic_log.specs.declared.entry.Version.TheVariants.{V1};
 ghost use Rattle.vic_log.specs.FirstVersion.{IsOfFirstVersion};
-ghost use Rattle.vic_log.specs.Log.{IsLog, LogValue, last_from, RefusesOr, IsValidEntry, left_after, Keeps};
+ghost use Rattle.vic_log.specs.Kept.{left_after, Keeps};
+ghost use Rattle.vic_log.specs.Log.{IsLog, LogValue, last_from, RefusesOr, IsValidEntry};
 ghost use Rattle.vic_log.specs.Order.{entries, listed, is_empty, refusal};
 
 use crate::entry::{Entry, LogLine, Version};

@@ -1,17 +1,21 @@
-// A writer that takes pieces.
-ghost use Rattle.std.specs.Prelude.{◌≡◌, ◌≢◌, ◌+◌, ◌-◌, ◌^◌, ◌<◌, ◌≤◌, ℕ, List, [], Bool, true, false, min, length, IfOk, IfErr, OnErr, OnOk, is_err, take, vec_len, Option, ◌↔◌};
+//! Writers that are written in pieces.
+
+ghost use Rattle.std.specs.Prelude.{◌≡◌, ◌<◌, ◌≤◌, ℕ, List, [], Bool, true, false, length, IfOk, OnErr, OnOk, is_err, Option};
 ghost use Rattle.std.specs.Io.KnownBytes.{Appends};
 ghost use Rattle.vic_log.specs.Device.{SinkStep, KeepsOrHides, HasTakenPrefix, to_write_inner};
 
 use crate::source::DeviceFault;
 use std::io::Write;
 
+/// A writer of bytes that remembers whether its last write or flush failed.
 pub trait Sink {
     // The bytes that it has taken, where it tells them.
     ghost taken: { Self → Option (List ℕ) };
 
     ghost has_failed: { Self → Bool };
 
+    /// Takes some of the first bytes and says how many: none only where there are none. A failed write leaves the
+    /// bytes taken as they were, or tells them no more. A sink that has failed is not written.
     fn write(&mut self, bytes: &[u8]) -> Result<usize, DeviceFault>
         requires { has_failed self.old ≡ false }
         ensures bound { IfOk result (λ n. n ≤ length bytes.now) }
@@ -19,17 +23,20 @@ pub trait Sink {
         ensures bytes { SinkStep (taken self.old) (taken self.new) result bytes.now }
         ensures state { has_failed self.new ≡ is_err result };
 
+    /// Hands on what it has taken. A sink that has failed is not flushed.
     fn flush(&mut self) -> Result<(), DeviceFault>
         requires { has_failed self.old ≡ false }
         ensures kept { OnOk result (Appends (taken self.old) (taken self.new) []) }
         ensures err { OnErr result (KeepsOrHides (taken self.old) (taken self.new)) }
         ensures state { has_failed self.new ≡ is_err result };
 
+    /// Whether the last write or flush failed.
     fn failed(&self) -> bool
         ensures { result ≡ has_failed self.now };
 }
 
-/// A sink over a writer of std.
+/// A sink over a writer of std. Each write or flush makes one call of that, which is not repeated. A write that takes
+/// nothing of some bytes has failed.
 #[derive(Drop)]
 pub struct ToWrite<W> {
     inner: W,
@@ -37,6 +44,7 @@ pub struct ToWrite<W> {
 }
 
 impl<W: Write> ToWrite<W> {
+    /// A sink that has not failed.
     pub fn new(inner: W) -> ToWrite<W>
         ensures inner { to_write_inner result ≡ inner }
         ensures taken { ⟦<ToWrite<W> as Sink>⟧.taken result ≡ W.contents inner }
@@ -48,6 +56,7 @@ impl<W: Write> ToWrite<W> {
         }
     }
 
+    /// The writer of std.
     pub fn into_inner(self) -> W
         ensures { result ≡ to_write_inner self }
     {

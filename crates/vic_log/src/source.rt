@@ -1,5 +1,6 @@
-// A reader that is read in pieces, and the whole of one.
-ghost use Rattle.std.specs.Prelude.{◌≡◌, ◌≢◌, ◌+◌, ◌-◌, ◌^◌, ◌<◌, ◌≤◌, ℕ, List, Bool, true, false, min, length, IfOk, IfErr, OnErr, OnOk, is_err, take, vec_len, Option, ◌↔◌};
+//! Readers that are read in pieces.
+
+ghost use Rattle.std.specs.Prelude.{◌≡◌, ◌+◌, ◌-◌, ◌^◌, ◌<◌, ◌≤◌, ℕ, List, Bool, true, false, min, length, IfOk, IfErr, OnOk, is_err, vec_len, Option, ◌↔◌};
 ghost use Rattle.vic_log.specs.Device.{SourceStep, GivesBytes, Stops, from_read_inner};
 
 use std::alloc::{AllocError, Global};
@@ -9,6 +10,7 @@ use std::io::Read;
 #[derive(Clone, Copy, Debug, Drop, PartialEq, Eq)]
 pub struct DeviceFault;
 
+/// A reader of bytes that remembers whether its last read failed.
 pub trait Source {
     // How often it was read.
     ghost reads: { Self → ℕ };
@@ -18,6 +20,8 @@ pub trait Source {
 
     ghost has_failed: { Self → Bool };
 
+    /// Puts the next bytes at the front of `buf` and says how many they are: none only at the end, or where `buf` is
+    /// empty. A failed read leaves the bytes as they were, or tells them no more. A source that has failed is not read.
     fn read(&mut self, buf: &mut [u8]) -> Result<usize, DeviceFault>
         requires { has_failed self.old ≡ false }
         ensures counts { reads self.new ≡ min (reads self.old + 1) (2 ^ 64 - 1) }
@@ -25,11 +29,12 @@ pub trait Source {
         ensures bytes { SourceStep (left self.old) (left self.new) result buf.new }
         ensures state { has_failed self.new ≡ is_err result };
 
+    /// Whether the last read failed.
     fn failed(&self) -> bool
         ensures { result ≡ has_failed self.now };
 }
 
-/// A source over a reader of std.
+/// A source over a reader of std. Each read makes one read of that, which is not repeated.
 #[derive(Drop)]
 pub struct FromRead<R> {
     inner: R,
@@ -38,6 +43,7 @@ pub struct FromRead<R> {
 }
 
 impl<R: Read> FromRead<R> {
+    /// A source that was never read.
     pub fn new(inner: R) -> FromRead<R>
         ensures inner { from_read_inner result ≡ inner }
         ensures reads { ⟦<FromRead<R> as Source>⟧.reads result ≡ 0 }
@@ -51,6 +57,7 @@ impl<R: Read> FromRead<R> {
         }
     }
 
+    /// The reader of std.
     pub fn into_inner(self) -> R
         ensures { result ≡ from_read_inner self }
     {
@@ -89,10 +96,23 @@ impl<R: Read> Source for FromRead<R> {
     }
 }
 
+/// Why a source wasn't read to its end or limit.
 #[derive(Clone, Copy, Debug, Drop, PartialEq, Eq)]
 pub enum ReadFault {
+    /// The source has failed.
     Read,
+    /// There is no memory for the bytes.
     Memory,
+}
+
+impl From<DeviceFault> for ReadFault {
+    ghost use Rattle.vic_log.specs.declared.source.ReadFault.{ReadFault};
+
+    ghost from_gives = { λ _ r. r ≡ ReadFault.Read };
+
+    fn from(_: DeviceFault) -> ReadFault {
+        ReadFault::Read
+    }
 }
 
 impl From<AllocError> for ReadFault {
@@ -105,38 +125,35 @@ impl From<AllocError> for ReadFault {
     }
 }
 
-/// A read gives at most this many bytes.
-pub const PIECE: usize = 4096;
+/// How many bytes are asked for at once.
+const PIECE: usize = 16384;
 
-/// The bytes of a source, to its end, or the first `limit` of them.
+/// The bytes of a source, to its end, or the first `limit` of them. A source that has failed is not read.
 pub fn read_whole<R: Source>(
     alloc: Global,
     source: &mut R,
     limit: usize,
 ) -> Result<Vec<u8>, ReadFault>
-    requires { limit < 2 ^ 63 }
     ensures bytes { IfOk result (λ text. GivesBytes (R.left source.old) (R.left source.new) text.items) }
     ensures end { IfOk result (λ text. Stops (R.left source.new) text.items limit) }
     ensures bound { IfOk result (λ text. vec_len text ≤ limit) }
     ensures read { IfErr result (λ e. (e ≡ ReadFault.Read) ↔ (R.has_failed source.new ≡ true)) }
     ensures works { OnOk result (R.has_failed source.new ≡ false) }
     ensures reads { R.reads source.new ≤ R.reads source.old + limit }
+    ensures untouched { R.has_failed source.old ≡ true → source.new ≡ source.old }
 {
-    let mut text = Vec::new(alloc);
     if source.failed() {
         return Err(ReadFault::Read);
     }
-    let mut buf = [0u8; PIECE];
-    for _ in 0..limit {
-        let room = (limit - text.len()).min(PIECE);
-        if room == 0 {
+    let mut text = Vec::new(alloc);
+    let mut piece = [0; PIECE];
+    while text.len() < limit {
+        let room = PIECE.min(limit - text.len());
+        let count = source.read(&mut piece[..room])?;
+        if count == 0 {
             return Ok(text);
         }
-        match source.read(&mut buf[..room]) {
-            Err(_) => return Err(ReadFault::Read),
-            Ok(0) => return Ok(text),
-            Ok(n) => text.extend_from_slice(&buf[..n])?,
-        }
+        text.extend_from_slice(&piece[..count])?;
     }
     Ok(text)
 }

@@ -1,10 +1,12 @@
 //! A log to its text.
 
 ghost use Rattle.std.specs.Prelude.{◌≡◌, ◌+◌, ◌*◌, ◌<◌, ◌≤◌, ◌++◌, ◌∷◌, [], true, length, drop, is_err, OnOk};
+ghost use Rattle.std.specs.Str.{byte};
 ghost use Rattle.std.specs.Io.KnownBytes.{Appends};
 ghost use Rattle.arrayvec.specs.ArrayVec.{array_vec_len};
 ghost use Rattle.hex.specs.Hex.{encode_upper};
 ghost use Rattle.vic_log.specs.Device.{HasTakenPrefix};
+ghost use Rattle.vic_log.specs.Lines.{lf};
 ghost use Rattle.vic_log.specs.Log.{IsValidEntry};
 ghost use Rattle.vic_log.specs.Order.{AreValid, entries};
 ghost use Rattle.vic_log.specs.Text.{header};
@@ -25,7 +27,7 @@ const DIGITS: [u8; 16] = *b"0123456789ABCDEF";
 /// Adds a letter, a space, and bytes as hex digits in upper case.
 fn push_bytes(piece: &mut Piece, letter: u8, bytes: &[u8])
     requires { array_vec_len piece.old + 2 + 2 * length bytes.now ≤ 4096 }
-    ensures items { piece.new.items ≡ piece.old.items ++ letter ∷ 32 ∷ encode_upper bytes.now }
+    ensures items { piece.new.items ≡ piece.old.items ++ letter ∷ byte " " ∷ encode_upper bytes.now }
     ensures len { array_vec_len piece.new ≡ array_vec_len piece.old + 2 + 2 * length bytes.now }
 {
     piece.push(letter);
@@ -40,7 +42,7 @@ fn push_bytes(piece: &mut Piece, letter: u8, bytes: &[u8])
 fn push_entry(piece: &mut Piece, item: &Entry)
     requires room { array_vec_len piece.old + 29 ≤ 4096 }
     requires valid { IsValidEntry item.now }
-    ensures items { piece.new.items ≡ piece.old.items ++ entry_text item.now ++ 10 ∷ [] }
+    ensures items { piece.new.items ≡ piece.old.items ++ entry_text item.now ++ lf ∷ [] }
 {
     match *item {
         Entry::Sent(request) => push_bytes(piece, b'T', write_request(&request).as_slice()),
@@ -56,7 +58,7 @@ fn push_entry(piece: &mut Piece, item: &Entry)
 
 /// A piece that begins with the header.
 fn with_header(version: Version) -> Piece
-    ensures items { result.items ≡ header version ++ 10 ∷ [] }
+    ensures items { result.items ≡ header version ++ lf ∷ [] }
 {
     let line = match version {
         Version::V1 => b"vicinity-log 1\n".as_slice(),

@@ -1,11 +1,13 @@
-use Rattle.std.proofs.Common.{◌≡◌, ◌≤◌, ◌+◌, false, vec_len}
+use Rattle.std.proofs.Common.{◌≡◌, ◌≤◌, ◌+◌, ◌-◌, ℕ, List, false, vec_len}
 use Rattle.vic_log.specs.Device.{GivesBytes}
 use Rattle.vic_log.proofs.source.read_whole.Given as goal
 
-abbrev pub invariant-loop : goal.invariant-loop
-invariant-loop g l =
+abbrev pub invariant-loop-piece : goal.invariant-loop-piece
+invariant-loop-piece g l =
     GivesBytes (g.R.Source.left l.initial.source) (g.R.Source.left l.source) l.text.items
     × (vec_len l.text ≤ l.limit)
-    × (l.counter ≤ vec_len l.text)
     × (g.R.Source.has_failed l.source ≡ false)
-    × (g.R.Source.reads l.source ≤ g.R.Source.reads l.initial.source + l.counter)
+    × (g.R.Source.reads l.source ≤ g.R.Source.reads l.initial.source + vec_len l.text)
+
+abbrev pub decreases-loop-piece : goal.decreases-loop-piece
+decreases-loop-piece g l = l.limit - vec_len l.text
