@@ -11,7 +11,8 @@ use std::alloc::{AllocError, Global};
 use std::marker::Model;
 use vic_frame::{Mask, Uid, low_mask};
 
-/// A set of UIDs as a list of masks: the plain and slow way to keep one.
+/// A set of UIDs as a list of masks, the plain and slow way to keep one: the masks have at most 56
+/// bits, no UID lies in two of them, and no two are the halves of one mask.
 #[derive(Drop)]
 pub struct CellList {
     cells: Vec<Mask>,

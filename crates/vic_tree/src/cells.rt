@@ -1,4 +1,4 @@
-//! Lists of disjoint masks of which no two are the halves of one.
+//! Lists of disjoint masks of at most 56 bits, of which no two are the halves of one mask.
 
 ghost use Rattle.std.specs.Prelude.{◌≡◌, ℕ, ◌≤◌, ◌&&◌, ◌||◌, Bool, not, IfOk, OnOk, IfSome, IfNone, All, Contains, []};
 ghost use Rattle.std.specs.List.Sorted.{IsStrictlyIncreasing};
@@ -22,7 +22,7 @@ pub fn is_in(cells: &[Mask], uid: Uid) -> bool
     cells.iter().any(|cell| cell.matches(uid))
 }
 
-/// What is left of some cells once a mask is settled, except some UIDs.
+/// What is left of some cells once a mask is taken out, except some UIDs.
 pub fn settled(
     alloc: Global,
     cells: &[Mask],
@@ -86,7 +86,7 @@ fn add_back(left: &mut Vec<Mask>, cells: &[Mask], uids: &[Uid]) -> Result<(), Al
     Ok(())
 }
 
-/// Adds a mask, joined with the other half of a mask wherever that is there.
+/// Adds a mask. Where the other half of a mask one bit shorter is there, the two become that mask.
 fn add(cells: &mut Vec<Mask>, mask: Mask) -> Result<(), AllocError>
     requires cells { AreCells cells.old.items }
     requires cell { IsCell mask }

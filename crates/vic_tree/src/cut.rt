@@ -1,4 +1,4 @@
-//! Masks cut from masks.
+//! Masks of at most 56 bits, and what is cut from them.
 
 ghost use Rattle.std.specs.Prelude.{◌≡◌, ℕ, ◌+◌, ◌-◌, ◌^◌, ◌%◌, ◌<◌, ◌≤◌, ◌&&◌, false, IfSome, IfNone};
 ghost use Rattle.vic_frame.specs.Masks.{IsMask, lies_in};
@@ -43,7 +43,7 @@ pub fn shared(a: &Mask, b: &Mask) -> Option<Mask>
     }
 }
 
-/// The mask that fixes `len` bits as another does, and the next one otherwise.
+/// The mask that fixes the low `len` bits as another does, and the next one otherwise.
 pub fn flipped(mask: &Mask, len: u8) -> Mask
     requires inside { len < mask.now.len }
     requires short { mask.now.len ≤ 56 }
