@@ -1,5 +1,5 @@
 -- What a log holds.
-use Rattle.std.specs.Prelude.{◌≡◌, ℕ, ◌≤◌, Option, Some, List, [], ◌∷◌, ⊤, slice_get}
+use Rattle.std.specs.Prelude.{◌≡◌, ℕ, ◌≤◌, Option, Some, List, [], ◌∷◌, ◌++◌, ⊤, slice_get}
 use Rattle.vic_frame.specs.Requests.{IsInRange, IsValid}
 use Rattle.vic_frame.specs.Replies.{IsReply}
 use Rattle.vic_frame.specs.Uids.{IsUid}
@@ -12,6 +12,19 @@ use Rattle.vic_log.specs.declared.fault.PushFault.{PushFault}
 use Rattle.vic_log.specs.declared.fault.PushFault.TheVariants.{Memory}
 use Rattle.vic_log.specs.FirstVersion.{AreOfFirstVersion}
 use Rattle.vic_log.specs.Order.{IsInOrder, entries, IsRisingFrom, AreValid}
+
+-- a log as a value
+pub record LogValue : Type 0 where
+  pub lines : List LogLine
+  pub version : Version
+
+-- with these lines more
+abbrev pub with_lines : LogValue → List LogLine → LogValue
+with_lines log lines = record { lines = log.lines ++ lines; version = log.version }
+
+-- with this line more
+abbrev pub with_line : LogValue → ℕ → Entry → LogValue
+with_line log number item = with_lines log (record { number = number; item = item } ∷ [])
 
 -- the number of the last line, n where there is none
 abbrev pub last_from : ℕ → List LogLine → ℕ
@@ -41,11 +54,6 @@ pub record IsLog (version : Version) (lines : List LogLine) : Type 0 where
   pub valid : AreValid (entries lines)
   pub typed : AreTyped (entries lines)
   pub first_version : version ≡ V1 → AreOfFirstVersion (entries lines)
-
--- a log as a value
-pub record LogValue : Type 0 where
-  pub lines : List LogLine
-  pub version : Version
 
 -- why an entry is refused: by its reason, or for want of memory
 abbrev pub RefusesOr : Option PushFault → PushFault → Type 0

@@ -1,6 +1,8 @@
 //! The log of an inventory session: its entries, and what a population of tags could have given.
 #![tactic(auto)]
 
+#[cfg(test)]
+mod device_tests;
 pub mod devices;
 mod entry;
 mod fault;
@@ -10,6 +12,8 @@ mod log;
 mod read;
 mod sink;
 mod source;
+#[cfg(test)]
+mod tests;
 mod write;
 
 pub use entry::{Entry, LogLine, Version};

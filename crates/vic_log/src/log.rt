@@ -8,7 +8,7 @@ ghost use Rattle.vic_frame.specs.Uids.{has};
 ghost use Rattle.vic_log.specs.declared.entry.Version.TheVariants.{V1};
 ghost use Rattle.vic_log.specs.FirstVersion.{IsOfFirstVersion};
 ghost use Rattle.vic_log.specs.Kept.{left_after, Keeps};
-ghost use Rattle.vic_log.specs.Log.{IsLog, LogValue, last_from, RefusesOr, IsValidEntry};
+ghost use Rattle.vic_log.specs.Log.{LogValue, IsLog, with_line, last_from, RefusesOr, IsValidEntry};
 ghost use Rattle.vic_log.specs.Order.{entries, listed, is_empty, refusal};
 
 use crate::entry::{Entry, LogLine, Version};
@@ -91,27 +91,11 @@ impl Log {
         ensures { result ≡ refusal (entries self.now.lines) item.now }
     {
         match *item {
-            Entry::Sent(_) | Entry::FieldCycle => {
-                if self.listing {
-                    Some(PushFault::EntryAfterList)
-                } else {
-                    None
-                }
-            }
-            Entry::Listed(uid) => {
-                if self.index.contains(&uid) {
-                    Some(PushFault::DuplicateListed)
-                } else {
-                    None
-                }
-            }
-            Entry::Silent | Entry::Collision | Entry::Heard(_) | Entry::Garbled => {
-                if self.slots_left > 0 {
-                    None
-                } else {
-                    Some(PushFault::SlotOutsideRound)
-                }
-            }
+            Entry::Sent(_) | Entry::FieldCycle if self.listing => Some(PushFault::EntryAfterList),
+            Entry::Listed(uid) if self.index.contains(&uid) => Some(PushFault::DuplicateListed),
+            Entry::Silent | Entry::Collision | Entry::Heard(_) | Entry::Garbled
+                if self.slots_left == 0 => Some(PushFault::SlotOutsideRound),
+            _ => None,
         }
     }
 
@@ -121,8 +105,10 @@ impl Log {
         requires limit { number ≤ 1000000 }
         requires valid { IsValidEntry item }
         requires first_version { self.old.version ≡ V1 → IsOfFirstVersion item }
-        ensures answer { MatchResult result (λ _. refusal (entries self.old.lines) item ≡ None) (RefusesOr (refusal (entries self.old.lines) item)) }
-        ensures added { OnOk result (self.new ≡ record { lines = self.old.lines ++ record { number = number; item = item } ∷ []; version = self.old.version }) }
+        ensures answer { MatchResult result
+            (λ _. refusal (entries self.old.lines) item ≡ None)
+            (RefusesOr (refusal (entries self.old.lines) item)) }
+        ensures added { OnOk result (self.new ≡ with_line self.old number item) }
         ensures unchanged { OnErr result (self.new ≡ self.old) }
     {
         if let Some(fault) = self.refusal(&item) {
@@ -144,9 +130,7 @@ fn slots_after(left: u8, item: &Entry) -> u8
     match *item {
         Entry::Sent(request) => request.slots(),
         Entry::Listed(_) | Entry::FieldCycle => 0,
-        Entry::Silent | Entry::Collision | Entry::Heard(_) | Entry::Garbled => left.saturating_sub(
-            1,
-        ),
+        _ => left.saturating_sub(1),
     }
 }
 

@@ -5,7 +5,7 @@ ghost use Rattle.vic_log.specs.declared.entry.Version.TheVariants.{V1};
 ghost use Rattle.vic_log.specs.FirstVersion.{IsOfFirstVersion};
 ghost use Rattle.vic_log.specs.Lines.{lines_of_text};
 ghost use Rattle.vic_log.specs.Order.{entries};
-ghost use Rattle.vic_log.specs.Log.{last_from, IsValidEntry};
+ghost use Rattle.vic_log.specs.Log.{last_from, with_line, with_lines, IsValidEntry};
 ghost use Rattle.vic_log.specs.Text.{IsLogOf, Refuses, RefusesLine, line_fault, logged, order_fault};
 
 use crate::entry::Entry;
@@ -21,8 +21,10 @@ fn take_entry(log: &mut Log, number: u32, entry: Entry) -> Result<(), LogFault>
     requires limit { number ≤ 1000000 }
     requires valid { IsValidEntry entry }
     requires first_version { IsOfFirstVersion entry }
-    ensures answer { MatchResult result (λ _. order_fault (entries log.old.lines) entry ≡ None) (RefusesLine (order_fault (entries log.old.lines) entry) number) }
-    ensures added { OnOk result (log.new ≡ record { lines = log.old.lines ++ record { number = number; item = entry } ∷ []; version = log.old.version }) }
+    ensures answer { MatchResult result
+        (λ _. order_fault (entries log.old.lines) entry ≡ None)
+        (RefusesLine (order_fault (entries log.old.lines) entry) number) }
+    ensures added { OnOk result (log.new ≡ with_line log.old number entry) }
 {
     let fault = match log.push(number, entry) {
         Ok(()) => return Ok(()),
@@ -41,8 +43,10 @@ fn take_entry(log: &mut Log, number: u32, entry: Entry) -> Result<(), LogFault>
 pub(crate) fn take_line(log: &mut Log, number: u32, line: &[u8]) -> Result<(), LogFault>
     requires first { 1 ≤ number }
     requires above { 1 < number → last_from 1 log.old.lines < number }
-    ensures answer { MatchResult result (λ _. line_fault (entries log.old.lines) number (Some line.now) ≡ None) (RefusesLine (line_fault (entries log.old.lines) number (Some line.now)) number) }
-    ensures added { OnOk result (log.new ≡ record { lines = log.old.lines ++ logged number (Some line.now); version = log.old.version }) }
+    ensures answer { MatchResult result
+        (λ _. line_fault (entries log.old.lines) number (Some line.now) ≡ None)
+        (RefusesLine (line_fault (entries log.old.lines) number (Some line.now)) number) }
+    ensures added { OnOk result (log.new ≡ with_lines log.old (logged number (Some line.now))) }
 {
     let fault = if number > 1_000_000 {
         LineFault::TooManyLines
@@ -68,7 +72,9 @@ pub(crate) fn take_line(log: &mut Log, number: u32, line: &[u8]) -> Result<(), L
 
 /// The log of a whole text.
 pub fn read_log(alloc: Global, text: &[u8]) -> Result<Log, LogFault>
-    ensures { MatchResult result (λ log. IsLogOf (lines_of_text text.now) log.lines × (log.version ≡ V1)) (Refuses text.now) }
+    ensures { MatchResult result
+        (λ log. IsLogOf (lines_of_text text.now) log.lines × (log.version ≡ V1))
+        (Refuses text.now) }
 {
     let mut log = Log::new(alloc);
     let mut number = 0;

@@ -1,0 +1,259 @@
+//! Logs that are read, refused, and written.
+
+use crate::devices::{OneByOne, Stuck};
+use crate::{
+    Entry, LineFault, Log, LogFault, PushFault, Sink, ToWrite, Version, WriteFault, line_entry,
+    read_log, write_log,
+};
+use std::test::Fail;
+use vic_frame::{FrameFault, read_request};
+
+/// The texts whose first line is the header, with what refuses them.
+const REFUSED: [(&str, u32, LineFault); 22] = [
+    ("T 260100F60B\n", 2, LineFault::Frame(FrameFault::Crc)),
+    ("T 260100F6\n", 2, LineFault::Frame(FrameFault::Crc)),
+    ("T 260100F60\n", 2, LineFault::Hex),
+    ("T 26\n", 2, LineFault::Frame(FrameFault::Short)),
+    ("T \n", 2, LineFault::Frame(FrameFault::Short)),
+    ("T\n", 2, LineFault::UnknownEntry),
+    ("T 360100006AA1\n", 2, LineFault::Frame(FrameFault::Afi)),
+    (
+        "T 26010411A304\n",
+        2,
+        LineFault::Frame(FrameFault::MaskPadding),
+    ),
+    (
+        "T 260100F60A\nR 0000A1\n",
+        3,
+        LineFault::Frame(FrameFault::Length),
+    ),
+    ("S\n", 2, LineFault::SlotOutsideRound),
+    ("T 260100F60A\nS\nS\n", 4, LineFault::SlotOutsideRound),
+    (
+        "T 2202A1000000000104E0662A\nS\n",
+        3,
+        LineFault::SlotOutsideRound,
+    ),
+    (
+        "U E0040100000000A1\nT 260100F60A\n",
+        3,
+        LineFault::EntryAfterList,
+    ),
+    ("U E0040100000000A1\nS\n", 3, LineFault::SlotOutsideRound),
+    (
+        "U E0040100000000A1\nU e0040100000000a1",
+        3,
+        LineFault::DuplicateListed,
+    ),
+    ("U 04\n", 2, LineFault::ListedLength),
+    ("U \n", 2, LineFault::ListedLength),
+    ("U 04040100000000A1\n", 2, LineFault::NotVicinity),
+    ("U E0040100000000A1\r", 2, LineFault::Hex),
+    ("T 260100F60A\nD\n", 3, LineFault::UnknownEntry),
+    ("F\n", 2, LineFault::UnknownEntry),
+    ("s\n", 2, LineFault::UnknownEntry),
+];
+
+/// The header, and then a line of `#` with so many bytes.
+fn comment(rt: &HostRuntime, bytes: usize) -> Result<Vec<u8>, Fail> {
+    let mut text = Vec::new(rt.alloc());
+    text.extend_from_slice(b"vicinity-log 1\n")?;
+    for _ in 0..bytes {
+        text.push(b'#')?;
+    }
+    Ok(text)
+}
+
+/// The header, and then so many empty lines.
+fn empty_lines(rt: &HostRuntime, count: usize) -> Result<Vec<u8>, Fail> {
+    let mut text = Vec::new(rt.alloc());
+    text.extend_from_slice(b"vicinity-log 1\n")?;
+    for _ in 0..count {
+        text.push(b'\n')?;
+    }
+    Ok(text)
+}
+
+fn refusal(rt: &HostRuntime, text: &[u8]) -> Option<LogFault> {
+    read_log(rt.alloc(), text).err()
+}
+
+#[test]
+fn texts_that_are_refused(rt: HostRuntime) -> Result<(), Fail> {
+    for (lines, line, fault) in REFUSED {
+        let text = format!(in rt.alloc(); "vicinity-log 1\n{lines}")?;
+        assert_eq!(rt;
+            refusal(&rt, text.as_bytes()),
+            Some(LogFault::Line { line, fault }),
+            "{lines}"
+        );
+    }
+    let header = Some(LogFault::Line {
+        line: 1,
+        fault: LineFault::Header,
+    });
+    for text in [
+        "",
+        "\n",
+        "vicinity-log 2\n",
+        "vicinity-log 1\r",
+        "Vicinity-log 1\n",
+        "vicinity-log 1 \n",
+    ] {
+        assert_eq!(rt; refusal(&rt, text.as_bytes()), header, "{text}");
+    }
+    Ok(())
+}
+
+#[test]
+fn limits(rt: HostRuntime) -> Result<(), Fail> {
+    assert_eq!(rt; refusal(&rt, &comment(&rt, 128)?), None);
+    assert_eq!(rt;
+        refusal(&rt, &comment(&rt, 129)?),
+        Some(LogFault::Line {
+            line: 2,
+            fault: LineFault::LineTooLong
+        })
+    );
+    assert_eq!(rt; refusal(&rt, &empty_lines(&rt, 999_999)?), None);
+    assert_eq!(rt;
+        refusal(&rt, &empty_lines(&rt, 1_000_000)?),
+        Some(LogFault::Line {
+            line: 1_000_001,
+            fault: LineFault::TooManyLines
+        })
+    );
+    Ok(())
+}
+
+#[test]
+fn line_ends_and_digits(rt: HostRuntime) -> Result<(), Fail> {
+    let plain = read_log(
+        rt.alloc(),
+        b"vicinity-log 1\nT 260100F60A\nR 0000A1000000000104E06745\nU E0040100000000A1\n",
+    )
+    .map_err(|_| "refused")?;
+    for text in [
+        "vicinity-log 1\r\nT 260100f60a\r\nR 0000a1000000000104e06745\r\nU e0040100000000a1\r\n",
+        "vicinity-log 1\r\nT 260100f60a\r\nR 0000a1000000000104e06745\r\nU e0040100000000a1",
+    ] {
+        let log = read_log(rt.alloc(), text.as_bytes()).map_err(|_| "refused")?;
+        assert!(rt; log.lines() == plain.lines());
+        assert_eq!(rt; log.last_line(), 4);
+    }
+    Ok(())
+}
+
+#[test]
+fn names(rt: HostRuntime) -> Result<(), Fail> {
+    for (fault, name) in [
+        (LineFault::TooManyLines, "TooManyLines"),
+        (LineFault::LineTooLong, "LineTooLong"),
+        (LineFault::Header, "Header"),
+        (LineFault::UnknownEntry, "UnknownEntry"),
+        (LineFault::Hex, "Hex"),
+        (LineFault::ListedLength, "ListedLength"),
+        (LineFault::Frame(FrameFault::MaskPadding), "MaskPadding"),
+        (LineFault::NotVicinity, "NotVicinity"),
+        (LineFault::SlotOutsideRound, "SlotOutsideRound"),
+        (LineFault::EntryAfterList, "EntryAfterList"),
+        (LineFault::DuplicateListed, "DuplicateListed"),
+    ] {
+        let text = format!(in rt.alloc(); "{fault}")?;
+        assert_eq!(rt; text.as_str(), name);
+    }
+    Ok(())
+}
+
+#[test]
+fn entries_of_lines(rt: HostRuntime) {
+    assert_eq!(rt; line_entry(b"S"), Ok(Some(Entry::Silent)));
+    assert_eq!(rt; line_entry(b"C"), Ok(Some(Entry::Collision)));
+    assert_eq!(rt; line_entry(b"# S"), Ok(None));
+    assert_eq!(rt; line_entry(b""), Ok(None));
+}
+
+#[test]
+fn entries_that_are_pushed(rt: HostRuntime) -> Result<(), Fail> {
+    let request = read_request(&[0x26, 0x01, 0x00, 0xF6, 0x0A]).map_err(|_| "refused")?;
+    let mut log = Log::new(rt.alloc());
+    assert_eq!(rt; log.last_line(), 1);
+    assert_eq!(rt;
+        log.push(2, Entry::Silent),
+        Err(PushFault::SlotOutsideRound)
+    );
+    assert_eq!(rt; log.push(2, Entry::Sent(request)), Ok(()));
+    assert_eq!(rt; log.push(5, Entry::Silent), Ok(()));
+    assert_eq!(rt; log.last_line(), 5);
+    assert_eq!(rt;
+        log.refusal(&Entry::Silent),
+        Some(PushFault::SlotOutsideRound)
+    );
+    Ok(())
+}
+
+/// A log with passed over lines, and the text that is written of it.
+fn worked(rt: &HostRuntime) -> Result<Log, Fail> {
+    Ok(read_log(rt.alloc(), b"vicinity-log 1\n\n#x\nT 260100f60a\nS").map_err(|_| "refused")?)
+}
+
+const WRITTEN: &[u8] = b"vicinity-log 1\nT 260100F60A\nS\n";
+
+#[test]
+fn a_log_both_ways(rt: HostRuntime) -> Result<(), Fail> {
+    let log = worked(&rt)?;
+    let mut sink = ToWrite::new(Vec::new(rt.alloc()));
+    assert_eq!(rt; write_log(&log, &mut sink), Ok(()));
+    let text = sink.into_inner();
+    assert_eq!(rt; text.as_slice(), WRITTEN);
+    let again = read_log(rt.alloc(), &text).map_err(|_| "refused")?;
+    assert_eq!(rt; log.lines().len(), 2);
+    assert_eq!(rt; again.lines().len(), 2);
+    let numbers = [(4, 2), (5, 3)];
+    for ((line, other), (before, after)) in log.lines().iter().zip(again.lines()).zip(numbers) {
+        assert_eq!(rt; line.number, before);
+        assert_eq!(rt; other.number, after);
+        assert!(rt; line.item == other.item);
+    }
+    Ok(())
+}
+
+#[test]
+fn a_log_of_version_2(rt: HostRuntime) -> Result<(), Fail> {
+    let request = read_request(&[0x26, 0x01, 0x00, 0xF6, 0x0A]).map_err(|_| "refused")?;
+    let mut log = Log::with_version(rt.alloc(), Version::V2);
+    assert_eq!(rt; log.push(2, Entry::Sent(request)), Ok(()));
+    assert_eq!(rt; log.push(3, Entry::Garbled), Ok(()));
+    assert_eq!(rt; log.push(4, Entry::FieldCycle), Ok(()));
+    assert_eq!(rt; log.version(), Version::V2);
+    let mut sink = ToWrite::new(Vec::new(rt.alloc()));
+    assert_eq!(rt; write_log(&log, &mut sink), Ok(()));
+    assert_eq!(rt;
+        sink.into_inner().as_slice(),
+        b"vicinity-log 2\nT 260100F60A\nD\nF\n".as_slice()
+    );
+    Ok(())
+}
+
+#[test]
+fn writers_that_fail(rt: HostRuntime) -> Result<(), Fail> {
+    let log = worked(&rt)?;
+    let mut slow = OneByOne::new(Vec::new(rt.alloc()), 0, false);
+    assert_eq!(rt; write_log(&log, &mut slow), Ok(()));
+    assert_eq!(rt; slow.taken(), WRITTEN);
+    for call in 1..=WRITTEN.len() {
+        let mut sink = OneByOne::new(Vec::new(rt.alloc()), call as u64, false);
+        assert_eq!(rt; write_log(&log, &mut sink), Err(WriteFault));
+        assert!(rt; sink.failed());
+        assert_eq!(rt; sink.taken(), &WRITTEN[..call - 1]);
+        assert_eq!(rt; write_log(&log, &mut sink), Err(WriteFault));
+        assert_eq!(rt; sink.taken(), &WRITTEN[..call - 1]);
+    }
+    let mut sink = OneByOne::new(Vec::new(rt.alloc()), 0, true);
+    assert_eq!(rt; write_log(&log, &mut sink), Err(WriteFault));
+    assert_eq!(rt; sink.taken(), WRITTEN);
+    let mut stuck = ToWrite::new(Stuck::new(1));
+    assert_eq!(rt; write_log(&log, &mut stuck), Err(WriteFault));
+    assert!(rt; stuck.failed());
+    Ok(())
+}
