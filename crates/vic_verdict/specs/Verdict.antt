@@ -1,17 +1,16 @@
--- The verdict on a log: the first of six cases that applies.
+-- The verdict on a log (profile): the first of six cases that applies.
 use Rattle.std.specs.Prelude.{◌≡◌, ◌↔◌, ◌⊎◌, ℕ, ◌^◌, ◌<◌, ◌≤◌, true, false, List, length, nat_le, Some, slice_get}
 use Rattle.std.specs.List.{filter}
-use Rattle.vic_frame.specs.Masks.{BitMask}
+use Rattle.vic_frame.specs.Uids.{IsUid, has}
+use Rattle.vic_frame.specs.Masks.{BitMask, lies_in}
+use Rattle.vic_frame.specs.Replies.{Reply}
 use Rattle.vic_log.specs.declared.entry.Entry.{Entry}
 use Rattle.vic_log.specs.declared.entry.Entry.TheVariants.{Heard}
 use Rattle.vic_log.specs.declared.entry.LogLine.{LogLine}
-use Rattle.vic_verdict.specs.declared.verdict.Verdict.{Verdict}
-use Rattle.vic_verdict.specs.declared.verdict.Verdict.TheVariants.{Impossible, Absent, Unlisted, Unsettled, Doubtful, Complete}
-use Rattle.vic_frame.specs.Uids.{IsUid, has}
-use Rattle.vic_frame.specs.Replies.{Reply}
-use Rattle.vic_frame.specs.Masks.{lies_in}
 use Rattle.vic_log.specs.Populations.{IsPopulation, CouldHaveGiven}
 use Rattle.vic_log.specs.Order.{entries, listed}
+use Rattle.vic_verdict.specs.declared.verdict.Verdict.{Verdict}
+use Rattle.vic_verdict.specs.declared.verdict.Verdict.TheVariants.{Impossible, Absent, Unlisted, Unsettled, Doubtful, Complete}
 use Rattle.vic_verdict.specs.Possible.{IsPossible, IsPossibleUid, IsCertainUid}
 
 -- the entries of the lines 1 to n
@@ -26,24 +25,28 @@ IsAbsent es u = (has (listed es) u ≡ true) × (IsPossibleUid es u → ⊥)
 abbrev pub IsUnlisted : List Entry → ℕ → Type 0
 IsUnlisted es u = IsCertainUid es u × (has (listed es) u ≡ false)
 
--- a mask all of whose UIDs are possible and not listed
+-- a mask of at most 56 bits all of whose UIDs are possible and not listed
 abbrev pub IsUnsettled : List Entry → BitMask → Type 0
-IsUnsettled es m = (m.len ≤ 56) × (m.value < 2 ^ m.len) × ((u : ℕ) → IsUid u → lies_in m u ≡ true → IsPossibleUid es u × (has (listed es) u ≡ false))
+IsUnsettled es m =
+    (m.len ≤ 56) × (m.value < 2 ^ m.len) × ((u : ℕ) → IsUid u → lies_in m u ≡ true → IsPossibleUid es u × (has (listed es) u ≡ false))
 
 -- a listed UID that isn't certain
 abbrev pub IsDoubtful : List Entry → ℕ → Type 0
 IsDoubtful es u = (has (listed es) u ≡ true) × (IsCertainUid es u → ⊥)
 
-abbrev pub IsLeast : (ℕ → Type 0) → ℕ → Type 0
-IsLeast P n = P n × ((m : ℕ) → P m → n ≤ m)
-
--- of least length, then of least value
-abbrev pub IsWidest : (BitMask → Type 0) → BitMask → Type 0
-IsWidest P m = P m × ((k : BitMask) → P k → (m.len < k.len) ⊎ ((m.len ≡ k.len) × (m.value ≤ k.value)))
-
+-- there is none
 abbrev pub NoSuch : {A : Type 0} → (A → Type 0) → Type 0
 NoSuch {A} P = (x : A) → P x → ⊥
 
+-- the least number
+abbrev pub IsLeast : (ℕ → Type 0) → ℕ → Type 0
+IsLeast P n = P n × ((m : ℕ) → P m → n ≤ m)
+
+-- the mask of least length, then of least value
+abbrev pub IsWidest : (BitMask → Type 0) → BitMask → Type 0
+IsWidest P m = P m × ((k : BitMask) → P k → (m.len < k.len) ⊎ ((m.len ≡ k.len) × (m.value ≤ k.value)))
+
+-- the verdict on a log's lines
 abbrev pub IsVerdict : List LogLine → Verdict → Type 0
 IsVerdict lines (Impossible n) = IsLeast (λ k. IsPossible (entries_to k lines) → ⊥) n
 IsVerdict lines (Absent u) =
@@ -61,7 +64,7 @@ IsVerdict lines (Complete count) =
     IsPossible es × NoSuch (IsAbsent es) × NoSuch (IsUnlisted es) × NoSuch (IsUnsettled es) × NoSuch (IsDoubtful es)
     × (count ≡ length (listed es))
 
--- some population could have given the entries, and each that could has exactly the listed UIDs
+-- the list is settled: some population could have given the entries, and each that could has exactly the listed UIDs
 abbrev pub IsSettled : List Entry → Type 0
 IsSettled es =
     IsPossible es
@@ -71,7 +74,7 @@ IsSettled es =
 abbrev pub WasHeard : List Entry → ℕ → Type 0
 WasHeard es u = (i : ℕ) × (r : Reply) × (slice_get es i ≡ Some (Heard r)) × (r.uid ≡ u)
 
--- a possible log whose listed UIDs were all heard, and that leaves no other UID possible
+-- the reader is done: its log is possible, it heard each UID that it lists, and no other is possible
 abbrev pub IsReached : List Entry → Type 0
 IsReached es =
     IsPossible es

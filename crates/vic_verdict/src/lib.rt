@@ -12,6 +12,8 @@ mod possible;
 mod quiet;
 mod rising;
 mod settle;
+#[cfg(test)]
+mod tests;
 mod verdict;
 
 pub use judging::{judge, judge_with};
