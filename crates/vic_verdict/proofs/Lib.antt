@@ -19,3 +19,4 @@ pub mod Cases
 pub mod MaskMaps
 pub mod Repeating
 pub mod OpenRounds
+pub mod Skipping

@@ -5,7 +5,7 @@ use Rattle.vic_log.specs.declared.entry.Entry.{Entry}
 use Rattle.vic_log.specs.Order.{IsInOrder}
 use Rattle.vic_verdict.specs.declared.place.Round.{Round}
 use Rattle.vic_verdict.specs.Places.{round_at}
-use Rattle.vic_verdict.proofs.Passing.{after_round, round_step}
+use Rattle.vic_verdict.proofs.Passing.{round_step}
 use Rattle.vic_verdict.proofs.Stands.{small_step}
 
 -- the round is the one that is open at the place

@@ -1,12 +1,11 @@
 -- What slot lines leave of a mask, and which rule out nobody more.
-use Rattle.std.proofs.Common.{◌≡◌, ℕ, zero, suc, [], ◌∷◌, set, arith, inl, inr, ⊎_elim, Bool, true, false, not, ◌&&◌, ◌||◌, List, Option, Some, None, refl, sym, ap, ◌∙◌, subst}
+use Rattle.std.proofs.Common.{◌≡◌, ℕ, zero, suc, [], ◌∷◌, set, arith, inl, inr, ⊎_elim, Bool, true, false, not, ◌&&◌, ◌||◌, List, Option, Some, refl, sym, ap, ◌∙◌, subst}
 use Rattle.std.specs.Prelude.{◌⊎◌, slice_get, IsTrue}
 use Rattle.std.proofs.lemmas.Bool.{and_parts, and_from, both_ways, eq-eqb, eqb-true}
 use Rattle.std.specs.BTreeMap.{BTreeMap, get, Updates}
 use Rattle.vic_frame.specs.Masks.{BitMask, lies_in}
 use Rattle.vic_log.specs.declared.entry.Entry.{Entry}
 use Rattle.vic_log.specs.declared.entry.Entry.TheVariants.{Collision, Garbled, FieldCycle}
-use Rattle.vic_frame.specs.Replies.{Reply}
 use Rattle.vic_log.specs.Rounds.{mask_at, lies_in_some}
 use Rattle.vic_log.specs.Quiet.{silences, wakes, is_quiet}
 use Rattle.vic_log.specs.Populations.{answers_at}

@@ -75,3 +75,7 @@ pub record AreRepeats (es : List Entry) (r : Repeats) : Type 0 where
   pub places : length es ≤ length r.again.items
   pub none : RuleOutNone es r.rules_out_none.items
   pub again : AreSaidAgain es r.again.items
+
+-- a later line says again what the line at place i says
+abbrev pub IsSaidLater : List Entry → ℕ → Type 0
+IsSaidLater es i = (j : ℕ) × (j < length es) × IsSaidAgain es i j

@@ -1,9 +1,10 @@
 //! Lines of a log that need no work of their own, so that a mask that comes again and again costs
 //! the judge no more than once.
 
-ghost use Rattle.std.specs.Prelude.{IfOk};
+ghost use Rattle.std.specs.Prelude.{◌≡◌, ◌<◌, List, IfOk, IsTrue, length};
+ghost use Rattle.vic_log.specs.declared.entry.Entry.{Entry as EntryValue};
 ghost use Rattle.vic_log.specs.Order.{IsInOrder, entries, AreValid};
-ghost use Rattle.vic_verdict.specs.Repeats.{AreRepeats};
+ghost use Rattle.vic_verdict.specs.Repeats.{AreRepeats, RulesOutNone, IsSaidLater};
 
 use crate::again::lines_again;
 use crate::known::settled_lines;
@@ -29,4 +30,25 @@ pub fn find_repeats(alloc: Global, lines: &[LogLine]) -> Result<Repeats, AllocEr
         rules_out_none: settled_lines(alloc, lines)?,
         again: lines_again(alloc, lines)?,
     })
+}
+
+impl Repeats {
+    /// Whether the line at a place rules out no UID that is open before it.
+    pub fn rules_out_none(&self, index: usize) -> bool
+        requires { index < length self.now.rules_out_none.items }
+        ensures { (es : List EntryValue) → AreRepeats es self.now → index < length es → IsTrue result → RulesOutNone es index }
+    {
+        self.rules_out_none[index]
+    }
+
+    /// Whether one of the first `count` lines says again what the line at a place says.
+    pub fn is_said_later(&self, index: usize, count: usize) -> bool
+        requires { index < length self.now.again.items }
+        ensures { (es : List EntryValue) → AreRepeats es self.now → length es ≡ count → IsTrue result → IsSaidLater es index }
+    {
+        match self.again[index] {
+            Some(later) => later < count,
+            None => false,
+        }
+    }
 }

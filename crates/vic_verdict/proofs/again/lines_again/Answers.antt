@@ -1,6 +1,4 @@
-use Rattle.std.proofs.Common.{◌≡◌, ℕ, suc, ◌<◌, length, sym, ap, ◌∙◌, subst, arith, add-one}
-use Rattle.std.proofs.lemmas.List.{length-map}
-use Rattle.vic_log.specs.declared.entry.LogLine.{LogLine}
+use Rattle.std.proofs.Common.{sym, ◌∙◌, subst, arith, add-one}
 use Rattle.vic_log.specs.Order.{entries}
 use Rattle.vic_verdict.specs.Repeats.{AreLast}
 use Rattle.vic_verdict.proofs.Stands.{entry_at}

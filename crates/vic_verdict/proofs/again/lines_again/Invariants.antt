@@ -1,4 +1,4 @@
-use Rattle.std.proofs.Common.{◌≡◌, ℕ, length}
+use Rattle.std.proofs.Common.{◌≡◌, length}
 use Rattle.vic_log.specs.Order.{entries}
 use Rattle.vic_verdict.specs.Repeats.{AreSaidAgain, AreLast}
 use Rattle.vic_verdict.proofs.OpenRounds.{IsOpenRound}

@@ -1,4 +1,4 @@
-use Rattle.std.proofs.Common.{◌≡◌, ◌∙◌, refl, sym, ap, Some}
+use Rattle.std.proofs.Common.{◌∙◌, refl, sym, ap, Some}
 use Rattle.std.proofs.lemmas.Result.{on_ok_weaker}
 use Rattle.vic_log.specs.declared.entry.Entry.TheVariants.{Collision, Garbled}
 use Rattle.vic_log.specs.Quiet.{wakes}

@@ -1,4 +1,4 @@
-use Rattle.std.proofs.Common.{◌≡◌, ℕ, suc, ◌+◌, true, Some, sym, ap, ◌∙◌, subst, ⊎_elim, arith, add-one, length, length-append, [], ◌∷◌}
+use Rattle.std.proofs.Common.{◌≡◌, ◌+◌, true, Some, sym, ap, ◌∙◌, subst, ⊎_elim, add-one, length, length-append, [], ◌∷◌}
 use Rattle.std.specs.Prelude.{slice_get}
 use Rattle.vic_log.specs.Order.{entries}
 use Rattle.vic_verdict.specs.Repeats.{RulesOutNone, TellsOf, open_and_ready}
