@@ -11,7 +11,7 @@ use std::marker::Model;
 ///
 /// A mask of at most 56 bits holds `2^(56 - len)` UIDs, a longer one at most one, since it fixes
 /// bits of E0. `ISO/IEC 15693-3, Inventory request` (mask length and mask value).
-#[derive(Clone, Copy, Debug, PartialEq, Eq)]
+#[derive(Clone, Copy, Debug, PartialEq, Eq, PartialOrd, Ord)]
 pub struct Mask {
     len: u8,
     value: u64,

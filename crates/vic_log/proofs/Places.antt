@@ -96,7 +96,7 @@ mask_agrees : (n : ℕ) (es fs : List Entry) → AgreeBefore n es fs → mask_at
 mask_agrees n es fs a =
     mask_since_agrees n es fs a (opener es n) (opener_below es n) ∙ ap (mask_since fs n) (opener_agrees n es fs a)
 
-answers_agree : (n : ℕ) (es fs : List Entry) → AgreeBefore n es fs → (u : ℕ) → answers_at es n u ≡ answers_at fs n u
+pub answers_agree : (n : ℕ) (es fs : List Entry) → AgreeBefore n es fs → (u : ℕ) → answers_at es n u ≡ answers_at fs n u
 answers_agree n es fs a u =
     let h : mask_at es n ≡ mask_at fs n = mask_agrees n es fs a in
     let k : is_quiet es n u ≡ is_quiet fs n u = quiet_agrees n es fs u a in

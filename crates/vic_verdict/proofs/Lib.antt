@@ -16,3 +16,7 @@ pub mod Failing
 pub mod Forced
 pub mod Listing
 pub mod Cases
+pub mod MaskMaps
+pub mod Repeating
+pub mod OpenRounds
+pub mod Skipping

@@ -47,7 +47,7 @@ next_in es i r =
     let small : k + 1 ≤ 16 = omega arith in
     subst (λ o. IfSome (next_slot o) (λ s. s.next ≤ 16)) (sym here) small
 
-small_step : (es : List Entry) (i : ℕ) (e : Entry) → IsInOrder es → slice_get es i ≡ Some e → IfSome (after_round (round_at es i) e) (λ r. r.next ≤ 16)
+pub small_step : (es : List Entry) (i : ℕ) (e : Entry) → IsInOrder es → slice_get es i ≡ Some e → IfSome (after_round (round_at es i) e) (λ r. r.next ≤ 16)
 small_step es i (Sent q) o k = omega arith
 small_step es i (Listed u) o k = tt
 small_step es i FieldCycle o k = tt

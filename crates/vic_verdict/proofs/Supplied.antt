@@ -1,5 +1,5 @@
 -- What a judge finds slot by slot is what makes a log possible.
-use Rattle.std.proofs.Common.{◌≡◌, ℕ, ◌+◌, List, [], length, Bool, true, false, not, ◌&&◌, Option, Some, None, refl, sym, ap, ◌∙◌, subst, arith, add-one}
+use Rattle.std.proofs.Common.{◌≡◌, ℕ, List, [], length, Bool, true, false, not, ◌&&◌, Option, Some, None, refl, sym, ap, ◌∙◌, subst, arith}
 use Rattle.std.specs.Prelude.{◌↔◌, IsTrue, leb, slice_get}
 use Rattle.std.specs.List.{list_all}
 use Rattle.std.proofs.lemmas.Bool.{both_ways, false≢true, le-leb, leb-true}
@@ -19,7 +19,7 @@ use Rattle.vic_verdict.specs.declared.place.Place.{Place}
 use Rattle.vic_verdict.specs.Possible.{IsPossible}
 use Rattle.vic_verdict.specs.Places.{IsPlace, answering, entry_asks}
 use Rattle.vic_verdict.proofs.Decide.{IsPossible-iff}
-use Rattle.vic_verdict.proofs.Entries.{asks_two_iff, asks_one_iff, SuppliesBefore, SuppliesAll-places, supplies_more}
+use Rattle.vic_verdict.proofs.Entries.{asks_two_iff, asks_one_iff, SuppliesBefore, SuppliesAll-places}
 
 -- ---- who answers
 
@@ -91,16 +91,6 @@ garbled_asks t e xs n is k h =
     subst (λ f. IsTrue (leb 1 n) ↔ entry_asks (reading_of f) t) (sym is) ((λ y. w.1 (let a = leb-true 1 n y in omega arith)), (λ a. le-leb 1 n (let b = w.0 a in omega arith)))
 
 -- ---- all entries
-
--- one slot more has what it asks for
-pub supplied_more : (es : List Entry) (i : ℕ) (e : Entry) → slice_get es i ≡ Some e → entry_asks (reading_of e) (answering (is_open (slots_of es)) es i) → SuppliesBefore (is_open (slots_of es)) es i → SuppliesBefore (is_open (slots_of es)) es (i + 1)
-supplied_more es i e k a before =
-    let set = is_open (slots_of es) in
-    subst (SuppliesBefore set es) (sym (add-one i)) (supplies_more set es i before
-    (λ f g.
-    let both : Some e ≡ Some f = sym k ∙ g in
-    let same : e ≡ f = cc in
-    subst (λ h. entry_asks (reading_of h) (answering set es i)) same a))
 
 pub supplied_all : (es : List Entry) → SuppliesBefore (is_open (slots_of es)) es (length es) → IsPossible es
 supplied_all es h = (IsPossible-iff es).1 ((SuppliesAll-places (is_open (slots_of es)) es (length es)).1 h)

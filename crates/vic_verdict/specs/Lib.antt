@@ -2,3 +2,4 @@ pub mod Possible
 pub mod Verdict
 pub mod Places
 pub mod Rising
+pub mod Repeats

@@ -7,10 +7,13 @@ ghost use Rattle.vic_log.specs.declared.entry.Entry.{Entry as EntryValue};
 ghost use Rattle.vic_log.specs.Slots.{slots_of, is_open, reading_of, IsForcedBy};
 ghost use Rattle.vic_log.specs.Order.{IsInOrder, entries, AreValid};
 ghost use Rattle.vic_verdict.specs.Places.{StandsAt, answering, entry_forces};
+ghost use Rattle.vic_verdict.specs.Possible.{IsPossible};
+ghost use Rattle.vic_verdict.specs.Repeats.{AreRepeats};
 ghost use Rattle.vic_verdict.specs.Rising.{Adds, IsListOf};
 
 use crate::answering::up_to_three;
 use crate::place::Place;
+use crate::repeats::Repeats;
 use crate::rising::put_in_order;
 use std::alloc::{AllocError, Global};
 use vic_frame::Uid;
@@ -54,16 +57,21 @@ pub fn certain_uids<S: OpenSet>(
     alloc: Global,
     set: &S,
     lines: &[LogLine],
+    repeats: &Repeats,
 ) -> Result<Vec<Uid>, AllocError>
     requires order { IsInOrder (entries lines.now) }
     requires valid { AreValid (entries lines.now) }
+    requires repeats { AreRepeats (entries lines.now) repeats.now }
+    requires possible { IsPossible (entries lines.now) }
     requires open { SameUids (S.is_open set.now) (is_open (slots_of (entries lines.now))) }
     ensures { IfOk result (λ v. IsListOf (IsForcedBy (is_open (slots_of (entries lines.now))) (slots_of (entries lines.now))) v.items) }
 {
     let mut certain = Vec::new(alloc);
     let mut place = Place::first(alloc);
-    for line in lines {
-        add_certain(alloc, &mut certain, set, &place, &line.item)?;
+    for (index, line) in lines.iter().enumerate() {
+        if !repeats.is_said_later(index, lines.len()) {
+            add_certain(alloc, &mut certain, set, &place, &line.item)?;
+        }
         place.pass(&line.item)?;
     }
     put_in_order(&mut certain);

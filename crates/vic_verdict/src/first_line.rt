@@ -3,10 +3,12 @@
 ghost use Rattle.std.specs.Prelude.{IfOk};
 ghost use Rattle.vic_log.specs.Order.{IsInOrder, entries, IsRisingFrom, AreValid};
 ghost use Rattle.vic_verdict.specs.Possible.{IsPossible};
+ghost use Rattle.vic_verdict.specs.Repeats.{AreRepeats};
 ghost use Rattle.vic_verdict.specs.Verdict.{IsVerdict};
 ghost use Rattle.vic_verdict.specs.declared.verdict.Verdict.TheVariants.{Impossible};
 
 use crate::possible::is_possible;
+use crate::repeats::Repeats;
 use std::alloc::{AllocError, Global};
 use vic_log::LogLine;
 use vic_tree::OpenSet;
@@ -16,10 +18,12 @@ use vic_tree::OpenSet;
 pub fn first_impossible_line<S: OpenSet>(
     alloc: Global,
     lines: &[LogLine],
+    repeats: &Repeats,
 ) -> Result<u32, AllocError>
     requires order { IsInOrder (entries lines.now) }
     requires valid { AreValid (entries lines.now) }
     requires rising { IsRisingFrom 0 lines.now }
+    requires repeats { AreRepeats (entries lines.now) repeats.now }
     requires impossible { IsPossible (entries lines.now) → ⊥ }
     ensures { IfOk result (λ n. IsVerdict lines.now (Impossible n)) }
 {
@@ -28,7 +32,7 @@ pub fn first_impossible_line<S: OpenSet>(
     while high - low > 1 {
         let middle = low + (high - low) / 2;
         let front = &lines[..middle];
-        if is_possible::<S>(alloc, front)? {
+        if is_possible::<S>(alloc, front, repeats)? {
             low = middle;
         } else {
             high = middle;

@@ -8,6 +8,7 @@ ghost use Rattle.vic_log.specs.Slots.{slots_of, is_open};
 ghost use Rattle.vic_verdict.specs.Possible.{IsPossible};
 ghost use Rattle.vic_log.specs.Order.{IsInOrder, entries, listed, IsRisingFrom, AreValid};
 ghost use Rattle.vic_verdict.specs.Verdict.{IsVerdict, IsSettled, IsReached};
+ghost use Rattle.vic_verdict.specs.Repeats.{AreRepeats};
 ghost use Rattle.vic_verdict.specs.Rising.{without_all};
 ghost use Rattle.vic_verdict.specs.declared.verdict.Verdict.{Verdict as VerdictValue};
 ghost use Rattle.vic_verdict.specs.declared.verdict.Verdict.TheVariants.{Complete};
@@ -16,6 +17,7 @@ use crate::certain::certain_uids;
 use crate::first_line::first_impossible_line;
 use crate::listed::{count_listed, listed_uids};
 use crate::possible::supplies_all;
+use crate::repeats::{Repeats, find_repeats};
 use crate::rising::{is_among, least_failing};
 use crate::settle::settle_all;
 use crate::verdict::Verdict;
@@ -40,15 +42,17 @@ fn judge_possible<S: OpenSet>(
     alloc: Global,
     mut set: S,
     lines: &[LogLine],
+    repeats: &Repeats,
 ) -> Result<Verdict, AllocError>
     requires order { IsInOrder (entries lines.now) }
     requires valid { AreValid (entries lines.now) }
     requires rising { IsRisingFrom 0 lines.now }
+    requires repeats { AreRepeats (entries lines.now) repeats.now }
     requires possible { IsPossible (entries lines.now) }
     requires open { SameUids (S.is_open set) (is_open (slots_of (entries lines.now))) }
     ensures { IfOk result (λ v. IsVerdict lines.now v) }
 {
-    let certain = certain_uids(alloc, &set, lines)?;
+    let certain = certain_uids(alloc, &set, lines, repeats)?;
     let listed = listed_uids(alloc, lines)?;
     if let Some(uid) = least_failing(&listed, |u| set.has(u)) {
         return Ok(Verdict::Absent(uid));
@@ -74,11 +78,12 @@ fn judge_lines<S: OpenSet>(alloc: Global, lines: &[LogLine]) -> Result<Verdict, 
     requires rising { IsRisingFrom 0 lines.now }
     ensures { IfOk result (λ v. IsVerdict lines.now v) }
 {
-    let set: S = settle_all(alloc, lines)?;
-    if supplies_all(alloc, &set, lines)? {
-        judge_possible(alloc, set, lines)
+    let repeats = find_repeats(alloc, lines)?;
+    let set: S = settle_all(alloc, lines, &repeats)?;
+    if supplies_all(alloc, &set, lines, &repeats)? {
+        judge_possible(alloc, set, lines, &repeats)
     } else {
-        let line = first_impossible_line::<S>(alloc, lines)?;
+        let line = first_impossible_line::<S>(alloc, lines, &repeats)?;
         Ok(Verdict::Impossible { line })
     }
 }

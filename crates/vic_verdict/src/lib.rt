@@ -1,15 +1,18 @@
 //! What the log of an inventory session proves of its list of tags.
 #![tactic(auto)]
 
+mod again;
 mod answering;
 mod certain;
 mod first_line;
 mod judging;
+mod known;
 pub mod laws;
 mod listed;
 mod place;
 mod possible;
 mod quiet;
+mod repeats;
 mod rising;
 mod settle;
 #[cfg(test)]

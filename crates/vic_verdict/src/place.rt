@@ -26,7 +26,7 @@ pub struct Place {
 }
 
 /// The open round at the place after an entry.
-fn pass_round(round: &Option<Round>, entry: &Entry) -> Option<Round>
+pub fn pass_round(round: &Option<Round>, entry: &Entry) -> Option<Round>
     requires { IfSome round.now (λ r. r.next ≤ 16) }
     ensures { (es : List EntryValue) (i : ℕ) → slice_get es i ≡ Some entry.now → round.now ≡ round_at es i → result ≡ round_at es (i + 1) }
 {
@@ -40,6 +40,16 @@ fn pass_round(round: &Option<Round>, entry: &Entry) -> Option<Round>
             }),
             None => None,
         },
+    }
+}
+
+/// The mask of the slot that an entry here tells of, in the open round.
+pub fn next_mask(round: &Option<Round>) -> Option<Mask>
+    ensures { (es : List EntryValue) (i : ℕ) → AreValid es → round.now ≡ round_at es i → result ≡ mask_at es i }
+{
+    match *round {
+        Some(r) => r.request.slot_mask(r.next),
+        None => None,
     }
 }
 
@@ -67,9 +77,6 @@ impl Place {
     pub fn mask(&self) -> Option<Mask>
         ensures { (es : List EntryValue) (i : ℕ) → AreValid es → IsPlace es i self.now → result ≡ mask_at es i }
     {
-        match self.round {
-            Some(r) => r.request.slot_mask(r.next),
-            None => None,
-        }
+        next_mask(&self.round)
     }
 }

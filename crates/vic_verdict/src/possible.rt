@@ -7,9 +7,11 @@ ghost use Rattle.vic_log.specs.Slots.{slots_of, is_open, reading_of};
 ghost use Rattle.vic_log.specs.Order.{IsInOrder, entries, AreValid};
 ghost use Rattle.vic_verdict.specs.Possible.{IsPossible};
 ghost use Rattle.vic_verdict.specs.Places.{StandsAt, answering, entry_asks};
+ghost use Rattle.vic_verdict.specs.Repeats.{AreRepeats};
 
 use crate::answering::{answers, up_to_three};
 use crate::place::Place;
+use crate::repeats::Repeats;
 use crate::settle::settle_all;
 use std::alloc::{AllocError, Global};
 use vic_log::{Entry, LogLine};
@@ -38,15 +40,18 @@ pub fn supplies_all<S: OpenSet>(
     alloc: Global,
     set: &S,
     lines: &[LogLine],
+    repeats: &Repeats,
 ) -> Result<bool, AllocError>
     requires order { IsInOrder (entries lines.now) }
     requires valid { AreValid (entries lines.now) }
+    requires repeats { AreRepeats (entries lines.now) repeats.now }
     requires open { SameUids (S.is_open set.now) (is_open (slots_of (entries lines.now))) }
     ensures { IfOk result (λ yes. IsTrue yes ↔ IsPossible (entries lines.now)) }
 {
     let mut place = Place::first(alloc);
-    for line in lines {
-        if !supplies_slot(alloc, set, &place, &line.item)? {
+    for (index, line) in lines.iter().enumerate() {
+        let later = repeats.is_said_later(index, lines.len());
+        if !later && !supplies_slot(alloc, set, &place, &line.item)? {
             return Ok(false);
         }
         place.pass(&line.item)?;
@@ -55,11 +60,16 @@ pub fn supplies_all<S: OpenSet>(
 }
 
 /// Whether some population could have given a log.
-pub fn is_possible<S: OpenSet>(alloc: Global, lines: &[LogLine]) -> Result<bool, AllocError>
+pub fn is_possible<S: OpenSet>(
+    alloc: Global,
+    lines: &[LogLine],
+    repeats: &Repeats,
+) -> Result<bool, AllocError>
     requires order { IsInOrder (entries lines.now) }
     requires valid { AreValid (entries lines.now) }
+    requires repeats { AreRepeats (entries lines.now) repeats.now }
     ensures { IfOk result (λ yes. IsTrue yes ↔ IsPossible (entries lines.now)) }
 {
-    let set: S = settle_all(alloc, lines)?;
-    supplies_all(alloc, &set, lines)
+    let set: S = settle_all(alloc, lines, repeats)?;
+    supplies_all(alloc, &set, lines, repeats)
 }

@@ -1,20 +1,33 @@
+use Rattle.std.proofs.Common.{sym, subst, ◌+◌}
+use Rattle.std.proofs.lemmas.Option.{slice_get_within}
+use Rattle.vic_tree.specs.OpenSet.{SameUids}
 use Rattle.vic_log.specs.Order.{entries}
+use Rattle.vic_log.specs.Slots.{slots_before, is_open}
+use Rattle.vic_verdict.proofs.Skipping.{skipped_open}
 use Rattle.vic_verdict.proofs.Stands.{entry_at, open_first}
 use Rattle.vic_verdict.proofs.settle.settle_all.Goals as goal
+use Rattle.vic_verdict.proofs.settle.settle_all.Goals.{then-not-rules_out_none+in_ok-settle_slot, else-not-rules_out_none}
 
-pub loop-line-init : goal.loop-line-init
-loop-line-init g c = record {
+pub loop-index-init : goal.loop-index-init
+loop-index-init g c = record {
   uids = open_first (entries c.args.lines.now) (g.S.OpenSet.is_open c.in_ok-set.set) c.in_ok-set.ensures;
   place = c.first-place.ensures (entries c.args.lines.now);
 }
 
-pub loop-line-preserved : goal.loop-line-preserved
-loop-line-preserved g c =
+pub loop-index-preserved : goal.loop-index-preserved
+loop-index-preserved g c =
     let es = entries c.args.lines.now in
-    let i = c.loop-line.line-index in
-    let here = entry_at c.args.lines.now i c.line-item.result c.loop-line-test.true c.line-item.is in
-    let at = c.loop-line.invariant.place in
+    let i = c.loop-index.index in
+    let e = c.index-lines-index.result.item in
+    let here = entry_at c.args.lines.now i c.index-lines-index.result c.loop-index-test.true c.index-lines-index.is in
+    let at = c.loop-index.invariant.place in
+    let before = c.loop-index.invariant.uids in
     record {
-      uids = c.in_ok-settle_slot.ensures es i (record { valid = c.requires.valid; here = here; place = at }) c.loop-line.invariant.uids;
+      uids = elim c.if-not-rules_out_none.branch [
+        | then-not-rules_out_none+in_ok-settle_slot w ↦
+            subst (λ s. SameUids (g.S.OpenSet.is_open s) (is_open (slots_before es (i + 1)))) (sym w.set-is) (w.in_ok-settle_slot.ensures es i (record { valid = c.requires.valid; here = here; place = at }) before)
+        | else-not-rules_out_none w ↦
+            subst (λ s. SameUids (g.S.OpenSet.is_open s) (is_open (slots_before es (i + 1)))) (sym w.set-is) (skipped_open es i (g.S.OpenSet.is_open c.loop-index.set) (c.rules_out_none.ensures es c.requires.repeats (slice_get_within es i e here) w.if-not-rules_out_none.false) before)
+      ];
       place = c.in_ok-pass.ensures es i c.requires.order here at;
     }
