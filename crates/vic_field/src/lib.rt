@@ -2,5 +2,7 @@
 #![tactic(auto)]
 
 mod field;
+mod session;
 
 pub use field::{AddFault, Field, Outcome};
+pub use session::{SimFault, simulate};
