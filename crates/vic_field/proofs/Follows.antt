@@ -1,6 +1,6 @@
 -- What entries in order leave for the next entry, and whom they list.
-use Rattle.std.proofs.Common.{◌≡◌, ℕ, zero, suc, ◌+◌, ◌<◌, ◌≤◌, Bool, true, false, not, ◌||◌, List, [], ◌∷◌, ◌++◌, length, take, Option, Some, None, refl, sym, ap, ◌∙◌, subst, arith, ⊎_elim}
-use Rattle.std.specs.Prelude.{◌≢◌, slice_get, nat_eq, if◌then◌else◌}
+use Rattle.std.proofs.Common.{◌≡◌, ℕ, zero, suc, ◌<◌, ◌≤◌, Bool, true, false, not, List, [], ◌∷◌, take, Some, None, refl, sym, ap, ◌∙◌, arith, ⊎_elim}
+use Rattle.std.specs.Prelude.{◌≢◌, slice_get, if◌then◌else◌}
 use Rattle.std.proofs.lemmas.Bool.{false_from_ne_true, false≢true}
 use Rattle.vic_frame.specs.Uids.{IsUid, has}
 use Rattle.vic_log.specs.declared.entry.Entry.{Entry}
@@ -8,8 +8,9 @@ use Rattle.vic_log.specs.declared.entry.Entry.TheVariants.{Sent, Silent, Collisi
 use Rattle.vic_log.specs.declared.fault.PushFault.TheVariants.{EntryAfterList, DuplicateListed}
 use Rattle.vic_log.specs.declared.entry.LogLine.{LogLine}
 use Rattle.vic_log.specs.Order.{entries, IsInOrder, listed, is_empty, refusal}
+use Rattle.vic_log.specs.Log.{AreTyped}
 use Rattle.vic_log.specs.Populations.{IsPopulation}
-use Rattle.vic_log.specs.Rounds.{is_slot, slots_opened}
+use Rattle.vic_log.specs.Rounds.{is_slot}
 use Rattle.vic_log.proofs.Sets.{has_here, has_there, has_cases}
 use Rattle.vic_field.specs.declared.session.SimFault.{SimFault}
 use Rattle.vic_field.specs.declared.session.SimFault.TheVariants.{OutcomeGiven, TooManyLines, Memory}
@@ -36,20 +37,23 @@ AreOnce es = (i j : ℕ) (u w : ℕ) → i < j → slice_get es i ≡ Some (List
 once_rest : (e : Entry) (es : List Entry) → AreOnce (e ∷ es) → AreOnce es
 once_rest e es h i j u w less a b = h (suc i) (suc j) u w (omega arith) a b
 
--- the listed UIDs are a population
-pub listed_population : (es : List Entry) → AreOnce es → ((u : ℕ) → has (listed es) u ≡ true → IsUid u) → IsPopulation (listed es)
-listed_population [] once uids = tt
-listed_population (Sent q ∷ es) once uids = listed_population es (once_rest (Sent q) es once) uids
-listed_population (Silent ∷ es) once uids = listed_population es (once_rest Silent es once) uids
-listed_population (Collision ∷ es) once uids = listed_population es (once_rest Collision es once) uids
-listed_population (Heard r ∷ es) once uids = listed_population es (once_rest (Heard r) es once) uids
-listed_population (Garbled ∷ es) once uids = listed_population es (once_rest Garbled es once) uids
-listed_population (FieldCycle ∷ es) once uids = listed_population es (once_rest FieldCycle es once) uids
-listed_population (Listed v ∷ es) once uids = (
+listed_different : (es : List Entry) → AreOnce es → ((u : ℕ) → has (listed es) u ≡ true → IsUid u) → IsPopulation (listed es)
+listed_different [] once uids = tt
+listed_different (Sent q ∷ es) once uids = listed_different es (once_rest (Sent q) es once) uids
+listed_different (Silent ∷ es) once uids = listed_different es (once_rest Silent es once) uids
+listed_different (Collision ∷ es) once uids = listed_different es (once_rest Collision es once) uids
+listed_different (Heard r ∷ es) once uids = listed_different es (once_rest (Heard r) es once) uids
+listed_different (Garbled ∷ es) once uids = listed_different es (once_rest Garbled es once) uids
+listed_different (FieldCycle ∷ es) once uids = listed_different es (once_rest FieldCycle es once) uids
+listed_different (Listed v ∷ es) once uids = (
   uids v (has_here v (listed es)),
   false_from_ne_true _ (λ h. let w = place_of es v h in once 0 (suc w.0) v v (omega arith) refl w.1 refl),
-  listed_population es (once_rest (Listed v) es once) (λ u h. uids u (has_there u v (listed es) h)),
+  listed_different es (once_rest (Listed v) es once) (λ u h. uids u (has_there u v (listed es) h)),
 )
+
+-- the listed UIDs are a population
+pub listed_population : (es : List Entry) → IsInOrder es → AreTyped es → IsPopulation (listed es)
+listed_population es order typed = listed_different es order.once (λ u h. let w = place_of es u h in typed w.0 (Listed u) w.1)
 
 -- slot lines list none
 listed_kept : (es : List Entry) → listed (without_slots es) ≡ listed es

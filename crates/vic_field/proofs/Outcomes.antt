@@ -2,7 +2,7 @@
 use Rattle.std.proofs.Common.{◌≡◌, ℕ, Bool, true, false, not, cond, ◌&&◌, List, [], ◌∷◌, length, Option, Some, None, refl, sym, ap, ◌∙◌, subst, map, ⊎_elim}
 use Rattle.std.specs.Prelude.{nat_eq, if◌then◌else◌}
 use Rattle.std.specs.List.{filter}
-use Rattle.std.proofs.lemmas.Bool.{eqb-true, eq-eqb, and_parts, and_from, both_ways, cases_Bool, false≢true, false_from_ne_true}
+use Rattle.std.proofs.lemmas.Bool.{eqb-true, eq-eqb, and_parts, and_from, both_ways, false≢true, false_from_ne_true}
 use Rattle.vic_frame.specs.Masks.{BitMask, lies_in}
 use Rattle.vic_frame.specs.Uids.{IsUid, has}
 use Rattle.vic_log.specs.declared.entry.Entry.{Entry}
@@ -107,22 +107,22 @@ pub outcome_told : (p : List ℕ) (es : List Entry) (tags : List (ℕ × Bool)) 
     → outcome_of (ready_in m tags) ≡ outcome_of (filter (λ u. lies_in m u && not (is_quiet es (length es) u)) p)
 outcome_told p es tags m pop tagged tells =
     same_outcome (ready_in m tags) (filter answers p) (ready_distinct m tags tagged) (Distinct-filter answers p (Distinct-population p pop)) forth back where
-  answers : ℕ → Bool
-  answers u = lies_in m u && not (is_quiet es (length es) u)
+      answers : ℕ → Bool
+      answers u = lies_in m u && not (is_quiet es (length es) u)
 
-  forth : IsWithin (has (ready_in m tags)) (has (filter answers p))
-  forth u h =
-      let uid : IsUid u = IsUid-member (uids tags) u tagged (ready_within m tags u h) in
-      let r = ready_is m tags u tagged h in
-      let k = told_ready (has p u) (is_quiet es (length es) u) (readiness tags u) (tells u uid) r.1 in
-      filter_has answers p u (and_from (has p u) (answers u) k.0 (and_from (lies_in m u) (not (is_quiet es (length es) u)) r.0 (not_true (is_quiet es (length es) u) k.1)))
+      forth : IsWithin (has (ready_in m tags)) (has (filter answers p))
+      forth u h =
+          let uid : IsUid u = IsUid-member (uids tags) u tagged (ready_within m tags u h) in
+          let r = ready_is m tags u tagged h in
+          let k = told_ready (has p u) (is_quiet es (length es) u) (readiness tags u) (tells u uid) r.1 in
+          filter_has answers p u (and_from (has p u) (answers u) k.0 (and_from (lies_in m u) (not (is_quiet es (length es) u)) r.0 (not_true (is_quiet es (length es) u) k.1)))
 
-  back : IsWithin (has (filter answers p)) (has (ready_in m tags))
-  back u h =
-      let k = and_parts (has p u) (answers u) (has_filter answers p u h) in
-      let a = and_parts (lies_in m u) (not (is_quiet es (length es) u)) k.1 in
-      let uid : IsUid u = IsUid-member p u pop k.0 in
-      is_ready m tags u a.0 (tells u uid ∙ ready_told (has p u) (is_quiet es (length es) u) k.0 a.1)
+      back : IsWithin (has (filter answers p)) (has (ready_in m tags))
+      back u h =
+          let k = and_parts (has p u) (answers u) (has_filter answers p u h) in
+          let a = and_parts (lies_in m u) (not (is_quiet es (length es) u)) k.1 in
+          let uid : IsUid u = IsUid-member p u pop k.0 in
+          is_ready m tags u a.0 (tells u uid ∙ ready_told (has p u) (is_quiet es (length es) u) k.0 a.1)
 
 -- the line of an outcome fits it
 pub fits_told : (o : Outcome) → Fits (slot_line (told o)) o

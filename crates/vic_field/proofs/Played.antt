@@ -1,11 +1,10 @@
 -- A session in play: the entries of a log so far, filled, and the field's tags behind them.
-use Rattle.std.proofs.Common.{◌≡◌, ℕ, zero, suc, ◌+◌, ◌<◌, ◌≤◌, ◌⊎◌, inl, inr, Bool, true, false, not, ◌&&◌, ◌||◌, List, [], ◌∷◌, ◌++◌, length, take, Option, Some, None, refl, sym, ap, ◌∙◌, subst, arith, append_assoc, append-nil, length-append, ⊎_elim}
+use Rattle.std.proofs.Common.{◌≡◌, ℕ, zero, suc, ◌+◌, ◌<◌, ◌≤◌, Bool, true, false, not, ◌&&◌, ◌||◌, List, [], ◌∷◌, ◌++◌, length, Option, Some, None, refl, sym, ap, ◌∙◌, subst, arith, append_assoc, append-nil, length-append, ⊎_elim}
 use Rattle.std.specs.Prelude.{slice_get, if◌then◌else◌}
-use Rattle.std.specs.List.{filter}
 use Rattle.std.specs.Option.{option_map}
-use Rattle.std.proofs.lemmas.Bool.{cases_eq, cases_lt, false_from_ne_true, both_ways, false≢true, not-false}
+use Rattle.std.proofs.lemmas.Bool.{false≢true}
 use Rattle.std.proofs.lemmas.List.Elements.{filter-append, filter_agree}
-use Rattle.std.proofs.lemmas.Option.{slice_get_within, slice_get_cases}
+use Rattle.std.proofs.lemmas.Option.{slice_get_cases}
 use Rattle.vic_frame.specs.declared.request.Request.{Request}
 use Rattle.vic_frame.specs.Masks.{BitMask, lies_in}
 use Rattle.vic_frame.specs.Slots.{slot_count, mask_in}
@@ -21,7 +20,7 @@ use Rattle.vic_field.specs.Simulation.{without_slots, HasAllSlots, IsPlain, AreP
 use Rattle.vic_field.specs.Steps.{slot_line, slots_to, slots_of, ready_after}
 use Rattle.vic_field.specs.Tags.{uids, readiness, ready_in, heard}
 use Rattle.vic_field.proofs.Outcomes.{Tells, outcome_told, fits_told}
-use Rattle.vic_field.proofs.Rounds.{place_in, second_place, next_length, slot_line-is_slot, slots_to-length, slots_of-slots, slots_of-plain, slots_of-length, IsOpen, IsOpen-sent, IsOpen-slots, IsOpen-mask, quiet-next, quiet-slot}
+use Rattle.vic_field.proofs.Rounds.{place_in, second_place, slot_line-is_slot, slots_of-slots, slots_of-plain, slots_of-length, IsOpen, IsOpen-sent, IsOpen-slots, IsOpen-mask, quiet-next, quiet-slot}
 
 -- ---- one slot
 
@@ -34,8 +33,8 @@ slot_fits : (p : List ℕ) (es : List Entry) (tags : List (ℕ × Bool)) (m : Bi
     → Fits (slot_line (heard (ready_in m tags))) (outcome_at es (length es) p)
 slot_fits p es tags m pop tagged tells at =
     let same : outcome_of (ready_in m tags) ≡ outcome_at es (length es) p =
-            outcome_told p es tags m pop tagged tells
-            ∙ ap outcome_of (filter_agree (λ u. lies_in m u && not (is_quiet es (length es) u)) (answers_at es (length es)) (λ u. ap (λ (o : Option BitMask). lies_in_some o u && not (is_quiet es (length es) u)) (sym at)) p) in
+    outcome_told p es tags m pop tagged tells
+    ∙ ap outcome_of (filter_agree (λ u. lies_in m u && not (is_quiet es (length es) u)) (answers_at es (length es)) (λ u. ap (λ (o : Option BitMask). lies_in_some o u && not (is_quiet es (length es) u)) (sym at)) p) in
     subst (Fits (slot_line (heard (ready_in m tags)))) same (fits_told (outcome_of (ready_in m tags)))
 
 -- ---- a round
@@ -172,10 +171,10 @@ pub IsPlayed-next : (p : List ℕ) (done es : List Entry) (tags after : List (�
 IsPlayed-next p done es tags after e pop s tagged step h =
     let joined : (es ++ e ∷ []) ++ slots_of after e ≡ es ++ e ∷ slots_of after e = append_assoc es (e ∷ []) (slots_of after e) in
     let all : HasRound p (es ++ e ∷ slots_of after e) after =
-            subst (λ fs. HasRound p fs after) joined (entry_round p es after e s pop tagged record {
-              outcomes = CouldHaveGiven-push p es e h.outcomes (fits_any e s (outcome_at es (length es) p));
-              tells = Tells-entry p es tags after e step h.tells;
-            }) in
+    subst (λ fs. HasRound p fs after) joined (entry_round p es after e s pop tagged record {
+      outcomes = CouldHaveGiven-push p es e h.outcomes (fits_any e s (outcome_at es (length es) p));
+      tells = Tells-entry p es tags after e step h.tells;
+    }) in
     record {
       kept = kept_next done es after e s h.kept;
       slots = slots_next es after e h.slots;

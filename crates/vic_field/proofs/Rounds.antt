@@ -1,17 +1,16 @@
 -- The rounds of entries: what one entry more, and the slot lines of a request, leave as it was.
-use Rattle.std.proofs.Common.{◌≡◌, ℕ, zero, suc, ◌+◌, ◌-◌, ◌<◌, ◌≤◌, ◌⊎◌, inl, inr, Bool, true, false, not, ◌&&◌, ◌||◌, List, [], ◌∷◌, ◌++◌, length, Option, Some, None, refl, sym, ap, ◌∙◌, subst, arith, append_assoc, append-nil, length-append, ⊎_elim}
+use Rattle.std.proofs.Common.{◌≡◌, ℕ, zero, suc, ◌+◌, ◌-◌, ◌<◌, ◌⊎◌, inl, inr, Bool, true, false, not, ◌&&◌, ◌||◌, List, [], ◌∷◌, ◌++◌, length, Some, None, refl, sym, ap, ◌∙◌, subst, arith, append_assoc, append-nil, length-append, ⊎_elim}
 use Rattle.std.specs.Prelude.{slice_get, nat_lt, if◌then◌else◌}
 use Rattle.std.proofs.lemmas.Bool.{lt-ltb}
 use Rattle.std.proofs.lemmas.Option.{slice_get_within}
 use Rattle.vic_frame.specs.declared.request.Request.{Request}
-use Rattle.vic_frame.specs.Masks.{BitMask}
 use Rattle.vic_frame.specs.Slots.{slot_count, mask_in}
 use Rattle.vic_log.specs.declared.entry.Entry.{Entry}
 use Rattle.vic_log.specs.declared.entry.Entry.TheVariants.{Sent, Silent, Collision, Heard, Listed, Garbled, FieldCycle}
 use Rattle.vic_log.specs.Order.{refusal}
 use Rattle.vic_log.specs.Quiet.{silences, wakes, is_quiet}
 use Rattle.vic_log.specs.Rounds.{is_slot, ends_round, opener, slots_opened, left_since, slots_left, mask_of_slot, mask_since, mask_at}
-use Rattle.vic_log.proofs.Places.{AgreeBefore, opener_agrees, quiet_agrees, agree_append, agree_upto, slice_get_last}
+use Rattle.vic_log.proofs.Places.{opener_agrees, quiet_agrees, agree_append, slice_get_last}
 use Rattle.vic_field.specs.declared.field.Outcome.{Outcome as Told}
 use Rattle.vic_field.specs.declared.field.Outcome.TheVariants.{Silent as ToldSilent, Lone as ToldLone, Several as ToldSeveral}
 use Rattle.vic_field.specs.Simulation.{IsPlain}
@@ -58,12 +57,12 @@ slots_to-each P each tags q (suc n) i e h =
     (λ k. slots_to-each P each tags q n i e k)
     (λ k. last k.0 k.2)
     (place_in (slots_to tags q n) (line ∷ []) i e h) where
-  line : Entry
-  line = slot_line (heard (ready_in (mask_in q n) tags))
+      line : Entry
+      line = slot_line (heard (ready_in (mask_in q n) tags))
 
-  last : (j : ℕ) → slice_get (line ∷ []) j ≡ Some e → P e
-  last zero k = let same : line ≡ e = cc in subst P same (each (heard (ready_in (mask_in q n) tags)))
-  last (suc j) k = absurd (cc)
+      last : (j : ℕ) → slice_get (line ∷ []) j ≡ Some e → P e
+      last zero k = let same : line ≡ e = cc in subst P same (each (heard (ready_in (mask_in q n) tags)))
+      last (suc j) k = absurd (cc)
 
 slots_of-each : (P : Entry → Type 0) → ((o : Told) → P (slot_line o)) → (tags : List (ℕ × Bool)) (x : Entry) (i : ℕ) (e : Entry) → slice_get (slots_of tags x) i ≡ Some e → P e
 slots_of-each P each tags (Sent q) i e h = slots_to-each P each tags q (slot_count q) i e h

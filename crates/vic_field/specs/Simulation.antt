@@ -1,5 +1,5 @@
 -- What the simulation of a log gives: its entries, with a line for each slot.
-use Rattle.std.specs.Prelude.{◌≡◌, ℕ, suc, ◌+◌, ◌<◌, Bool, true, false, not, Some, List, [], ◌∷◌, ⊤, slice_get}
+use Rattle.std.specs.Prelude.{◌≡◌, ℕ, suc, ◌+◌, ◌<◌, true, false, not, Some, List, [], ◌∷◌, ⊤, slice_get}
 use Rattle.std.specs.List.{filter}
 use Rattle.vic_frame.specs.declared.request.Request.{Request}
 use Rattle.vic_frame.specs.Slots.{slot_count}
@@ -9,6 +9,7 @@ use Rattle.vic_log.specs.declared.entry.LogLine.{LogLine}
 use Rattle.vic_log.specs.Order.{entries, listed}
 use Rattle.vic_log.specs.Populations.{IsPopulation, CouldHaveGiven}
 use Rattle.vic_log.specs.Rounds.{is_slot, slots_opened}
+use Rattle.vic_log.specs.Writing.{numbered}
 use Rattle.vic_field.specs.declared.session.SimFault.{SimFault}
 use Rattle.vic_field.specs.declared.session.SimFault.TheVariants.{OutcomeGiven, TooManyLines, Memory}
 
@@ -28,11 +29,6 @@ IsPlain e = ⊤
 
 abbrev pub ArePlain : List Entry → Type 0
 ArePlain es = (i : ℕ) (e : Entry) → slice_get es i ≡ Some e → IsPlain e
-
--- entries on the lines n, n + 1, n + 2 and so on
-abbrev pub numbered : ℕ → List Entry → List LogLine
-numbered n [] = []
-numbered n (e ∷ es) = record { number = n; item = e } ∷ numbered (suc n) es
 
 -- the filled lines are those given, with all slots, as the listed UIDs as a population could have given them
 pub record IsSimulation (given filled : List LogLine) : Type 0 where

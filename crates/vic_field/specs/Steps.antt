@@ -1,5 +1,5 @@
 -- The steps of a simulation.
-use Rattle.std.specs.Prelude.{◌≡◌, ℕ, zero, suc, ◌<◌, Bool, not, ◌&&◌, ◌||◌, Some, List, [], ◌∷◌, ◌++◌, ⊤}
+use Rattle.std.specs.Prelude.{ℕ, zero, suc, ◌<◌, Bool, not, ◌&&◌, ◌||◌, Some, List, [], ◌∷◌, ◌++◌, ⊤}
 use Rattle.vic_frame.specs.declared.request.Request.{Request}
 use Rattle.vic_frame.specs.Slots.{slot_count, mask_in}
 use Rattle.vic_log.specs.declared.entry.Entry.{Entry}
@@ -10,7 +10,7 @@ use Rattle.vic_field.specs.declared.field.Outcome.{Outcome}
 use Rattle.vic_field.specs.declared.field.Outcome.TheVariants.{Silent, Lone, Several}
 use Rattle.vic_field.specs.declared.session.SimFault.{SimFault}
 use Rattle.vic_field.specs.declared.session.SimFault.TheVariants.{OutcomeGiven, TooManyLines, Memory}
-use Rattle.vic_field.specs.Simulation.{numbered}
+use Rattle.vic_log.specs.Writing.{numbered}
 use Rattle.vic_field.specs.Tags.{ready_in, heard}
 
 -- the slot line of what is heard

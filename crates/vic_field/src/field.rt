@@ -87,7 +87,6 @@ impl Field {
     pub(crate) fn bring(&mut self, uid: Uid) -> Result<(), AllocError>
         ensures brought { OnOk result ((u : ℕ) → IsUid u → readiness self.new u ≡ (if u == uid then Some true else readiness self.old u)) }
         ensures unchanged { OnErr result (self.new ≡ self.old) }
-        ensures is_uid { IsUid uid }
     {
         self.order.insert(low_bits_first::key(uid), true)?;
         Ok(())

@@ -90,8 +90,7 @@ fn is_slot(item: &Entry) -> bool
 
 /// A field of the tags that are listed, all Ready.
 fn populate(alloc: Global, lines: &[LogLine]) -> Result<Field, AllocError>
-    ensures tags { IfOk result (λ field. (u : ℕ) → IsUid u → readiness field u ≡ (if has (listed (entries lines.now)) u then Some true else None)) }
-    ensures are_uids { OnOk result ((u : ℕ) → has (listed (entries lines.now)) u ≡ true → IsUid u) }
+    ensures { IfOk result (λ field. (u : ℕ) → IsUid u → readiness field u ≡ (if has (listed (entries lines.now)) u then Some true else None)) }
 {
     let mut field = Field::new(alloc);
     for line in lines {
@@ -102,8 +101,7 @@ fn populate(alloc: Global, lines: &[LogLine]) -> Result<Field, AllocError>
 
 /// Brings the tag that an entry lists, if it lists one, into the field.
 fn bring_listed(field: &mut Field, item: &Entry) -> Result<(), AllocError>
-    ensures tags { OnOk result ((u : ℕ) → IsUid u → readiness field.new u ≡ (if has (listed (item.now ∷ [])) u then Some true else readiness field.old u)) }
-    ensures are_uids { OnOk result ((u : ℕ) → has (listed (item.now ∷ [])) u ≡ true → IsUid u) }
+    ensures { OnOk result ((u : ℕ) → IsUid u → readiness field.new u ≡ (if has (listed (item.now ∷ [])) u then Some true else readiness field.old u)) }
 {
     if let Entry::Listed(uid) = *item {
         field.bring(uid)?;
@@ -132,7 +130,8 @@ fn play(filled: &mut Log, field: &mut Field, item: &Entry) -> Result<(), SimFaul
             field.power_cycle();
             Ok(())
         }
-        Entry::Listed(_) | Entry::Silent | Entry::Collision | Entry::Heard(_) | Entry::Garbled => Ok(()),
+        Entry::Listed(_) | Entry::Silent | Entry::Collision | Entry::Heard(_) | Entry::Garbled =>
+            Ok(()),
     }
 }
 

@@ -1,7 +1,6 @@
-use Rattle.std.proofs.Common.{◌≡◌, ℕ, suc, Some, length, refl, sym, ◌∙◌, add-one, arith}
+use Rattle.std.proofs.Common.{◌≡◌, Some, length, refl, sym, ◌∙◌, add-one, arith}
 use Rattle.std.specs.Prelude.{slice_get}
 use Rattle.std.proofs.lemmas.Option.{slice_get_read}
-use Rattle.vic_field.specs.Simulation.{IsFirstSlot}
 use Rattle.vic_field.proofs.Listing.{no_slots_next}
 use Rattle.vic_field.proofs.session.first_slot.Goals as goal
 

@@ -1,12 +1,11 @@
-use Rattle.std.proofs.Common.{rules, ◌≡◌, ℕ, suc, ◌+◌, ◌<◌, ◌≤◌, ◌++◌, [], ◌∷◌, List, Bool, Some, length, refl, sym, ap, ◌∙◌, subst, arith}
+use Rattle.std.proofs.Common.{◌≡◌, suc, ◌+◌, ◌++◌, [], ◌∷◌, Some, sym, ap, ◌∙◌, arith}
 use Rattle.std.proofs.lemmas.Result.{on_ok_weaker, IfErr-weaker}
 use Rattle.vic_frame.specs.Slots.{slot_count}
 use Rattle.vic_log.specs.declared.entry.Entry.{Entry}
-use Rattle.vic_log.specs.declared.entry.Entry.TheVariants.{Sent}
 use Rattle.vic_log.specs.Log.{last_from, LogValue}
 use Rattle.vic_log.specs.Order.{entries}
 use Rattle.vic_log.specs.Rounds.{slots_opened}
-use Rattle.vic_field.specs.Steps.{slots_to, slots_of, with_entries, StopsBefore}
+use Rattle.vic_field.specs.Steps.{slots_to, slots_of, with_entries}
 use Rattle.vic_field.proofs.Numbering.{entries-with, last_from-with, with-append, stops_more}
 use Rattle.vic_field.proofs.session.play.Goals as goal
 
@@ -14,8 +13,8 @@ pub push_slots-requires-clause-sent : goal.push_slots-requires-clause-sent
 push_slots-requires-clause-sent c = (
   entries c.args.filled.now.lines,
   ap (λ (v : LogValue). entries v.lines) c.in_ok-push_next.ensures.added
-  ∙ entries-with c.args.filled.now (c.args.item.now ∷ [])
-  ∙ ap (λ (e : Entry). entries c.args.filled.now.lines ++ e ∷ []) c.in-Sent.is,
+      ∙ entries-with c.args.filled.now (c.args.item.now ∷ [])
+      ∙ ap (λ (e : Entry). entries c.args.filled.now.lines ++ e ∷ []) c.in-Sent.is,
 )
 
 -- the last number with the entry
@@ -35,10 +34,10 @@ returns-in-Sent-clause-added c =
     let slots = slots_to c.send.new.self c.in-Sent.request (slot_count c.in-Sent.request) in
     on_ok_weaker c.push_slots.result
     (λ e.
-        e
-        ∙ ap (λ (v : LogValue). with_entries v slots) c.in_ok-push_next.ensures.added
-        ∙ with-append log (item ∷ []) slots
-        ∙ ap (λ (x : Entry). with_entries log (item ∷ slots_of c.send.new.self x)) (sym c.in-Sent.is))
+    e
+    ∙ ap (λ (v : LogValue). with_entries v slots) c.in_ok-push_next.ensures.added
+    ∙ with-append log (item ∷ []) slots
+    ∙ ap (λ (x : Entry). with_entries log (item ∷ slots_of c.send.new.self x)) (sym c.in-Sent.is))
     c.push_slots.ensures.added
 
 pub returns-in-Sent-clause-room : goal.returns-in-Sent-clause-room

@@ -6,7 +6,4 @@ use Rattle.vic_field.specs.Tags.{readiness}
 use Rattle.vic_field.proofs.session.populate.Given as goal
 
 abbrev pub invariant-loop-line : goal.invariant-loop-line
-invariant-loop-line l = record {
-  tags : (u : ℕ) → IsUid u → readiness l.field u ≡ (if has (listed (entries (take l.line-index l.lines))) u then Some true else None);
-  are_uids : (u : ℕ) → has (listed (entries (take l.line-index l.lines))) u ≡ true → IsUid u;
-}
+invariant-loop-line l = (u : ℕ) → IsUid u → readiness l.field u ≡ (if has (listed (entries (take l.line-index l.lines))) u then Some true else None)

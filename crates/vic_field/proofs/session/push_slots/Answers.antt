@@ -1,9 +1,9 @@
-use Rattle.std.proofs.Common.{rules, ◌≡◌, ℕ, suc, ◌+◌, ◌<◌, ◌≤◌, ◌++◌, [], ◌∷◌, List, Bool, length, refl, sym, ap, ◌∙◌, subst, add-one, arith}
+use Rattle.std.proofs.Common.{rules, ◌≡◌, ℕ, suc, ◌+◌, ◌<◌, ◌++◌, [], ◌∷◌, List, Bool, sym, ap, ◌∙◌, subst, add-one, arith}
 use Rattle.vic_frame.specs.declared.request.Request.{Request}
 use Rattle.vic_frame.specs.Slots.{slot_count, mask_in}
 use Rattle.vic_log.specs.declared.entry.Entry.{Entry}
 use Rattle.vic_log.specs.Log.{last_from, LogValue}
-use Rattle.vic_log.specs.Order.{entries, refusal}
+use Rattle.vic_log.specs.Order.{entries}
 use Rattle.vic_frame.specs.Masks.{BitMask}
 use Rattle.vic_field.specs.Steps.{slot_line, slots_to, with_entries, StopsBefore}
 use Rattle.vic_field.specs.Tags.{heard, ready_in}

@@ -1,4 +1,4 @@
-use Rattle.std.proofs.Common.{◌≡◌, ℕ, ◌+◌, ◌<◌, ◌≤◌}
+use Rattle.std.proofs.Common.{◌≡◌, ◌+◌, ◌<◌, ◌≤◌}
 use Rattle.vic_log.specs.Log.{last_from}
 use Rattle.vic_log.specs.Populations.{IsPopulation}
 use Rattle.vic_field.specs.Steps.{slots_to, with_entries}

@@ -1,15 +1,14 @@
-use Rattle.std.proofs.Common.{rules, ◌≡◌, ℕ, suc, ◌+◌, ◌<◌, ◌≤◌, ◌++◌, [], ◌∷◌, List, Bool, false, Some, length, take, refl, sym, ap, ◌∙◌, subst, arith, add-one}
+use Rattle.std.proofs.Common.{rules, ◌≡◌, suc, ◌+◌, ◌≤◌, ◌++◌, [], ◌∷◌, Some, length, take, refl, sym, ap, ◌∙◌, subst, arith, add-one}
 use Rattle.std.specs.Prelude.{slice_get}
 use Rattle.std.proofs.lemmas.List.{take_all}
 use Rattle.std.proofs.lemmas.Option.{slice_get_read}
 use Rattle.vic_log.specs.declared.entry.Entry.{Entry}
-use Rattle.vic_log.specs.declared.entry.LogLine.{LogLine}
-use Rattle.vic_log.specs.Log.{LogValue, last_from}
+use Rattle.vic_log.specs.Log.{last_from}
 use Rattle.vic_log.specs.Order.{entries, listed}
 use Rattle.vic_log.specs.Populations.{IsPopulation}
-use Rattle.vic_log.specs.Rounds.{is_slot, slots_opened}
+use Rattle.vic_log.specs.Rounds.{slots_opened}
 use Rattle.vic_field.specs.Simulation.{line_count, RefusesLines, IsSimulation}
-use Rattle.vic_field.specs.Steps.{slots_of, with_entries, StopsBefore}
+use Rattle.vic_field.specs.Steps.{slots_of, with_entries}
 use Rattle.vic_field.proofs.Follows.{follows, refuses, listed_population, line_count-front}
 use Rattle.vic_field.proofs.Listing.{entries_next, entries_take, entry_at, valid_entry}
 use Rattle.vic_field.proofs.Numbering.{entries-with, last_is, numbers_next}
@@ -22,7 +21,7 @@ loop-line-init c =
       version = c.version.ensures;
       numbers = refl;
       room = omega arith;
-      played = IsPlayed-start (listed (entries c.lines-lines.result.now)) c.in_ok-field.field c.in_ok-field.ensures.tags;
+      played = IsPlayed-start (listed (entries c.lines-lines.result.now)) c.in_ok-field.field c.in_ok-field.ensures;
     }
 
 pub play-requires-clause-follows : goal.play-requires-clause-follows
@@ -66,14 +65,14 @@ loop-line-preserved c =
     let lined = h.played.count in
     let counted = line_count-next (entries (take i lines)) l.item in
     let room = c.in_ok-play.ensures.room in
-    let pop : IsPopulation (listed (entries lines)) = listed_population (entries lines) c.lines-lines.ensures.log.order.once c.in_ok-field.ensures.are_uids in
+    let pop : IsPopulation (listed (entries lines)) = listed_population (entries lines) c.lines-lines.ensures.log.order c.lines-lines.ensures.log.typed in
     rw (add-one, added, next) record {
       version = h.version;
       numbers = numbers_next log more h.numbers;
       room = omega arith;
       played = subst (λ es. IsPlayed (listed (entries lines)) (entries (take i lines) ++ l.item ∷ []) es c.play.new.field) (sym (entries-with log more))
           (IsPlayed-next (listed (entries lines)) (entries (take i lines)) (entries log.lines) c.loop-line.field c.play.new.field l.item pop
-              (c.in_default.ensures i l c.loop-line-test.true at) c.in_ok-play.ensures.population c.in_ok-play.ensures.tags h.played);
+          (c.in_default.ensures i l c.loop-line-test.true at) c.in_ok-play.ensures.population c.in_ok-play.ensures.tags h.played);
     }
 
 pub returns-in_err-play-clause-refused : goal.returns-in_err-play-clause-refused
@@ -87,7 +86,7 @@ returns-in_err-play-clause-refused c =
     let counted = line_count-next (entries (take i lines)) l.item in
     let front : line_count (entries (take i lines) ++ l.item ∷ []) ≤ line_count (entries lines) = subst (λ es. line_count es ≤ line_count (entries lines)) (sym (entries_take lines (suc i)) ∙ entries_next lines i l at) (line_count-front (entries lines) (suc i)) in
     let h : RefusesLines c.args.log.now.lines c.in_err-play.field-0.0 = subst (λ ls. RefusesLines ls c.in_err-play.field-0.0) c.lines-lines.ensures.value
-        (refuses lines (suc (last_from 1 c.loop-line.filled.lines) + slots_opened (Some l.item)) c.in_err-play.field-0.0 (omega arith) c.in_err-play.ensures.refused) in
+    (refuses lines (suc (last_from 1 c.loop-line.filled.lines) + slots_opened (Some l.item)) c.in_err-play.field-0.0 (omega arith) c.in_err-play.ensures.refused) in
     search rules
 
 pub returns-clause-simulated : goal.returns-clause-simulated
@@ -99,7 +98,7 @@ returns-clause-simulated c =
     subst (λ ls. IsSimulation ls c.loop-line.filled.lines) c.lines-lines.ensures.value record {
       kept = played.kept;
       slots = played.slots;
-      population = listed_population (entries lines) c.lines-lines.ensures.log.order.once c.in_ok-field.ensures.are_uids;
+      population = listed_population (entries lines) c.lines-lines.ensures.log.order c.lines-lines.ensures.log.typed;
       outcomes = played.outcomes;
       plain = played.plain;
       numbers = c.loop-line.invariant.numbers;

@@ -1,6 +1,7 @@
-use Rattle.std.proofs.Common.{◌≡◌, ℕ, suc, ◌≤◌, take}
+use Rattle.std.proofs.Common.{◌≡◌, suc, ◌≤◌, take}
 use Rattle.vic_log.specs.Order.{entries, listed}
-use Rattle.vic_field.specs.Simulation.{numbered, line_count}
+use Rattle.vic_field.specs.Simulation.{line_count}
+use Rattle.vic_log.specs.Writing.{numbered}
 use Rattle.vic_field.proofs.Played.{IsPlayed}
 use Rattle.vic_field.proofs.session.simulate.Given as goal
 
