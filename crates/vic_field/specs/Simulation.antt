@@ -1,5 +1,5 @@
 -- What the simulation of a log gives: its entries, with a line for each slot.
-use Rattle.std.specs.Prelude.{◌≡◌, ℕ, suc, ◌+◌, ◌<◌, true, false, not, Some, List, [], ◌∷◌, ⊤, slice_get}
+use Rattle.std.specs.Prelude.{◌≡◌, ℕ, suc, ◌+◌, ◌<◌, true, false, not, Some, List, [], ◌∷◌, ⊤, length, slice_get}
 use Rattle.std.specs.List.{filter}
 use Rattle.vic_frame.specs.declared.request.Request.{Request}
 use Rattle.vic_frame.specs.Slots.{slot_count}
@@ -57,8 +57,8 @@ pub record IsFirstSlot (lines : List LogLine) (n : ℕ) : Type 0 where
   pub is_slot_line : is_slot line.item ≡ true
   pub first : HasNoSlots place lines
 
--- why lines aren't simulated: a slot line is there; a line above 1,000,000 would be needed; or memory is wanting
+-- why lines aren't simulated: a slot line is there; else a line above 1,000,000 would be needed, or memory is wanting
 abbrev pub RefusesLines : List LogLine → SimFault → Type 0
 RefusesLines lines (OutcomeGiven n) = IsFirstSlot lines n
-RefusesLines lines TooManyLines = 1000000 < suc (line_count (entries lines))
-RefusesLines lines Memory = ⊤
+RefusesLines lines TooManyLines = HasNoSlots (length lines) lines × (1000000 < suc (line_count (entries lines)))
+RefusesLines lines Memory = HasNoSlots (length lines) lines

@@ -3,6 +3,8 @@
 
 mod field;
 mod session;
+#[cfg(test)]
+mod tests;
 
 pub use field::{AddFault, Field, Outcome};
 pub use session::{SimFault, simulate};

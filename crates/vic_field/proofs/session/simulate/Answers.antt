@@ -86,7 +86,7 @@ returns-in_err-play-clause-refused c =
     let counted = line_count-next (entries (take i lines)) l.item in
     let front : line_count (entries (take i lines) ++ l.item ∷ []) ≤ line_count (entries lines) = subst (λ es. line_count es ≤ line_count (entries lines)) (sym (entries_take lines (suc i)) ∙ entries_next lines i l at) (line_count-front (entries lines) (suc i)) in
     let h : RefusesLines c.args.log.now.lines c.in_err-play.field-0.0 = subst (λ ls. RefusesLines ls c.in_err-play.field-0.0) c.lines-lines.ensures.value
-    (refuses lines (suc (last_from 1 c.loop-line.filled.lines) + slots_opened (Some l.item)) c.in_err-play.field-0.0 (omega arith) c.in_err-play.ensures.refused) in
+    (refuses lines (suc (last_from 1 c.loop-line.filled.lines) + slots_opened (Some l.item)) c.in_err-play.field-0.0 c.in_default.ensures (omega arith) c.in_err-play.ensures.refused) in
     search rules
 
 pub returns-clause-simulated : goal.returns-clause-simulated
