@@ -1,2 +1,4 @@
 pub mod Tags
 pub mod Keys
+pub mod Simulation
+pub mod Steps

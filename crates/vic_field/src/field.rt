@@ -9,7 +9,7 @@ ghost use Rattle.vic_log.specs.Populations.{IsPopulation};
 ghost use Rattle.vic_field.specs.Tags.{uids, readiness, ready_in, quiets, heard, RefusesTag};
 ghost use Rattle.vic_frame.specs.Uids.{IsUid, has};
 
-use std::alloc::{AllocError, AllocFailed, Global};
+use std::alloc::{AllocError, Global};
 use std::collections::BTreeMap;
 use std::marker::Model;
 use vic_frame::{Mask, Request, Uid, low_bits_first, low_mask};
@@ -38,14 +38,6 @@ impl From<AllocError> for AddFault {
     ghost from_gives = { λ _ e. e ≡ NoRoom };
 
     fn from(_e: AllocError) -> AddFault {
-        AddFault::Memory
-    }
-}
-
-impl<T: Drop> From<AllocFailed<T>> for AddFault {
-    ghost from_gives = { λ _ e. e ≡ NoRoom };
-
-    fn from(_e: AllocFailed<T>) -> AddFault {
         AddFault::Memory
     }
 }
@@ -87,6 +79,15 @@ impl Field {
         if self.holds(uid) {
             return Err(AddFault::Already);
         }
+        self.bring(uid)?;
+        Ok(())
+    }
+
+    /// Brings a tag into the field. It is Ready then, also where it was there.
+    pub(crate) fn bring(&mut self, uid: Uid) -> Result<(), AllocError>
+        ensures brought { OnOk result ((u : ℕ) → IsUid u → readiness self.new u ≡ (if u == uid then Some true else readiness self.old u)) }
+        ensures unchanged { OnErr result (self.new ≡ self.old) }
+    {
         self.order.insert(low_bits_first::key(uid), true)?;
         Ok(())
     }

@@ -2,5 +2,9 @@
 #![tactic(auto)]
 
 mod field;
+mod session;
+#[cfg(test)]
+mod tests;
 
 pub use field::{AddFault, Field, Outcome};
+pub use session::{SimFault, simulate};

@@ -73,7 +73,7 @@ opener_agrees (suc n) es fs a =
     let k : opener es n ≡ opener fs n = opener_agrees n es fs (agree_less n es fs a) in
     rw (h, k)
 
-quiet_agrees : (n : ℕ) (es fs : List Entry) (u : ℕ) → AgreeBefore n es fs → is_quiet es n u ≡ is_quiet fs n u
+pub quiet_agrees : (n : ℕ) (es fs : List Entry) (u : ℕ) → AgreeBefore n es fs → is_quiet es n u ≡ is_quiet fs n u
 quiet_agrees zero es fs u a = refl
 quiet_agrees (suc n) es fs u a =
     let h : slice_get es n ≡ slice_get fs n = a n (omega arith) in

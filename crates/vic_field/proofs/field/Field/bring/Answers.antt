@@ -8,7 +8,7 @@ use Rattle.vic_frame.specs.LowBitsFirst.{mirror}
 use Rattle.vic_field.specs.Tags.{readiness}
 use Rattle.vic_field.proofs.Keys.{IsKey}
 use Rattle.vic_field.proofs.TagLaws.{by_key, same_key}
-use Rattle.vic_field.proofs.field.Field.add.Goals as goal
+use Rattle.vic_field.proofs.field.Field.bring.Goals as goal
 
 pub invariant_of-self-2 : goal.invariant_of-self-2
 invariant_of-self-2 c =
@@ -18,8 +18,8 @@ invariant_of-self-2 c =
           (All-keys-insert_entry nat_cmp c.key.result true IsKey c.self.inside.order.entries c.self.invariant.small c.key.ensures.small);
     }
 
-pub returns-clause-added : goal.returns-clause-added
-returns-clause-added c u h =
+pub returns-clause-brought : goal.returns-clause-brought
+returns-clause-brought c u h =
     sym (by_key u c.insert.new.self.entries h (invariant_of-self-2 c).small)
     ∙ c.in_ok-insert.ensures.updates.0 (mirror u)
     ∙ ap (λ (x : ℕ). cond (is_eq (nat_cmp x (mirror u))) (Some true) (lookup (is_at (nat_cmp (mirror u))) c.self.inside.order.entries)) c.key.ensures.value

@@ -1,0 +1,116 @@
+-- What entries in order leave for the next entry, and whom they list.
+use Rattle.std.proofs.Common.{◌≡◌, ℕ, zero, suc, ◌<◌, ◌≤◌, Bool, true, false, not, List, [], ◌∷◌, length, take, Some, None, refl, sym, ap, ◌∙◌, arith, ⊎_elim}
+use Rattle.std.specs.Prelude.{◌≢◌, slice_get, if◌then◌else◌}
+use Rattle.std.proofs.lemmas.Bool.{false_from_ne_true, false≢true}
+use Rattle.vic_frame.specs.Uids.{IsUid, has}
+use Rattle.vic_log.specs.declared.entry.Entry.{Entry}
+use Rattle.vic_log.specs.declared.entry.Entry.TheVariants.{Sent, Silent, Collision, Heard, Listed, Garbled, FieldCycle}
+use Rattle.vic_log.specs.declared.fault.PushFault.TheVariants.{EntryAfterList, DuplicateListed}
+use Rattle.vic_log.specs.declared.entry.LogLine.{LogLine}
+use Rattle.vic_log.specs.Order.{entries, IsInOrder, listed, is_empty, refusal}
+use Rattle.vic_log.specs.Log.{AreTyped}
+use Rattle.vic_log.specs.Populations.{IsPopulation}
+use Rattle.vic_log.specs.Rounds.{is_slot}
+use Rattle.vic_log.proofs.Sets.{has_here, has_there, has_cases}
+use Rattle.vic_field.specs.declared.session.SimFault.{SimFault}
+use Rattle.vic_field.specs.declared.session.SimFault.TheVariants.{OutcomeGiven, TooManyLines, Memory}
+use Rattle.vic_field.specs.Simulation.{without_slots, line_count, HasNoSlots, RefusesLines}
+use Rattle.vic_field.specs.Steps.{StopsBefore}
+
+-- ---- whom entries list
+
+-- a listed UID has a place
+pub place_of : (es : List Entry) (u : ℕ) → has (listed es) u ≡ true → (i : ℕ) × (slice_get es i ≡ Some (Listed u))
+place_of [] u h = absurd (false≢true h)
+place_of (Sent q ∷ es) u h = let w = place_of es u h in (suc w.0, w.1)
+place_of (Silent ∷ es) u h = let w = place_of es u h in (suc w.0, w.1)
+place_of (Collision ∷ es) u h = let w = place_of es u h in (suc w.0, w.1)
+place_of (Heard r ∷ es) u h = let w = place_of es u h in (suc w.0, w.1)
+place_of (Garbled ∷ es) u h = let w = place_of es u h in (suc w.0, w.1)
+place_of (FieldCycle ∷ es) u h = let w = place_of es u h in (suc w.0, w.1)
+place_of (Listed v ∷ es) u h = ⊎_elim (λ same. (0, ap (λ (w : ℕ). Some (Listed w)) (sym same))) (λ k. let w = place_of es u k in (suc w.0, w.1)) (has_cases u v (listed es) h)
+
+-- no UID is listed twice
+abbrev AreOnce : List Entry → Type 0
+AreOnce es = (i j : ℕ) (u w : ℕ) → i < j → slice_get es i ≡ Some (Listed u) → slice_get es j ≡ Some (Listed w) → u ≢ w
+
+once_rest : (e : Entry) (es : List Entry) → AreOnce (e ∷ es) → AreOnce es
+once_rest e es h i j u w less a b = h (suc i) (suc j) u w (omega arith) a b
+
+listed_different : (es : List Entry) → AreOnce es → ((u : ℕ) → has (listed es) u ≡ true → IsUid u) → IsPopulation (listed es)
+listed_different [] once uids = tt
+listed_different (Sent q ∷ es) once uids = listed_different es (once_rest (Sent q) es once) uids
+listed_different (Silent ∷ es) once uids = listed_different es (once_rest Silent es once) uids
+listed_different (Collision ∷ es) once uids = listed_different es (once_rest Collision es once) uids
+listed_different (Heard r ∷ es) once uids = listed_different es (once_rest (Heard r) es once) uids
+listed_different (Garbled ∷ es) once uids = listed_different es (once_rest Garbled es once) uids
+listed_different (FieldCycle ∷ es) once uids = listed_different es (once_rest FieldCycle es once) uids
+listed_different (Listed v ∷ es) once uids = (
+  uids v (has_here v (listed es)),
+  false_from_ne_true _ (λ h. let w = place_of es v h in once 0 (suc w.0) v v (omega arith) refl w.1 refl),
+  listed_different es (once_rest (Listed v) es once) (λ u h. uids u (has_there u v (listed es) h)),
+)
+
+-- the listed UIDs are a population
+pub listed_population : (es : List Entry) → IsInOrder es → AreTyped es → IsPopulation (listed es)
+listed_population es order typed = listed_different es order.once (λ u h. let w = place_of es u h in typed w.0 (Listed u) w.1)
+
+-- slot lines list none
+listed_kept : (es : List Entry) → listed (without_slots es) ≡ listed es
+listed_kept [] = refl
+listed_kept (Sent q ∷ es) = listed_kept es
+listed_kept (Silent ∷ es) = listed_kept es
+listed_kept (Collision ∷ es) = listed_kept es
+listed_kept (Heard r ∷ es) = listed_kept es
+listed_kept (Garbled ∷ es) = listed_kept es
+listed_kept (FieldCycle ∷ es) = listed_kept es
+listed_kept (Listed u ∷ es) = ap (λ (us : List ℕ). u ∷ us) (listed_kept es)
+
+-- ---- what may follow
+
+-- a place of the first entries
+front_place : (es : List Entry) (i j : ℕ) (e : Entry) → slice_get (take i es) j ≡ Some e → (j < i) × (slice_get es j ≡ Some e)
+front_place es zero j e h = absurd (cc)
+front_place [] (suc i) j e h = absurd (cc)
+front_place (x ∷ es) (suc i) zero e h = (omega arith, h)
+front_place (x ∷ es) (suc i) (suc j) e h = let w = front_place es i j e h in let less = w.0 in (omega arith, w.1)
+
+-- a UID listed in the filled entries was listed before place i
+listed_before : (given es : List Entry) (i u : ℕ) → without_slots es ≡ take i given → has (listed es) u ≡ true → (j : ℕ) × (j < i) × (slice_get given j ≡ Some (Listed u))
+listed_before given es i u kept h =
+    let w = place_of (take i given) u (ap (λ (xs : List Entry). has (listed xs) u) (sym kept) ∙ (ap (λ (us : List ℕ). has us u) (listed_kept es) ∙ h)) in
+    let k = front_place given i w.0 (Listed u) w.1 in
+    (w.0, k.0, k.1)
+
+none_listed : (us : List ℕ) → ((u : ℕ) → has us u ≡ true → ⊥) → is_empty us ≡ true
+none_listed [] h = refl
+none_listed (u ∷ us) h = absurd (h u (has_here u us))
+
+-- what follows in the order of a log follows in the filled one
+pub follows : (given es : List Entry) (i : ℕ) (e : Entry) → IsInOrder given → slice_get given i ≡ Some e → is_slot e ≡ false → without_slots es ≡ take i given → refusal es e ≡ None
+follows given es i (Sent q) o at s kept =
+    let none : is_empty (listed es) ≡ true = none_listed (listed es) (λ u h. let w = listed_before given es i u kept h in o.requests_first w.0 i u q w.1 w.2 at) in
+    ap (λ (b : Bool). if not b then Some EntryAfterList else None) none
+follows given es i FieldCycle o at s kept =
+    let none : is_empty (listed es) ≡ true = none_listed (listed es) (λ u h. let w = listed_before given es i u kept h in o.cycles_first w.0 i u w.1 w.2 at) in
+    ap (λ (b : Bool). if not b then Some EntryAfterList else None) none
+follows given es i (Listed v) o at s kept =
+    let fresh : has (listed es) v ≡ false = false_from_ne_true _ (λ h. let w = listed_before given es i v kept h in o.once w.0 i v v w.1 w.2 at refl) in
+    ap (λ (b : Bool). if b then Some DuplicateListed else None) fresh
+follows given es i Silent o at s kept = absurd (cc)
+follows given es i Collision o at s kept = absurd (cc)
+follows given es i (Heard r) o at s kept = absurd (cc)
+follows given es i Garbled o at s kept = absurd (cc)
+
+-- ---- how many lines
+
+pub line_count-front : (es : List Entry) (n : ℕ) → line_count (take n es) ≤ line_count es
+line_count-front es zero = omega arith
+line_count-front [] (suc n) = omega arith
+line_count-front (e ∷ es) (suc n) = let h = line_count-front es n in omega arith
+
+-- what stops the next lines refuses all
+pub refuses : (lines : List LogLine) (n : ℕ) (fault : SimFault) → HasNoSlots (length lines) lines → n ≤ suc (line_count (entries lines)) → StopsBefore n fault → RefusesLines lines fault
+refuses lines n (OutcomeGiven line) free le h = absurd h
+refuses lines n TooManyLines free le h = (free, omega arith)
+refuses lines n Memory free le h = free

@@ -1,0 +1,64 @@
+-- The entries of lines, one by one, and the UIDs that they list.
+use Rattle.std.proofs.Common.{◌≡◌, ℕ, zero, suc, Bool, true, false, ◌||◌, List, [], ◌∷◌, ◌++◌, take, Option, Some, None, refl, sym, ap, ◌∙◌, subst, arith, ⊎_elim}
+use Rattle.std.specs.Prelude.{slice_get, nat_eq, if◌then◌else◌}
+use Rattle.std.proofs.lemmas.Bool.{cases_eq}
+use Rattle.std.proofs.lemmas.List.Folds.{list_any-append}
+use Rattle.vic_frame.specs.Uids.{has}
+use Rattle.vic_log.specs.declared.entry.Entry.{Entry}
+use Rattle.vic_log.specs.declared.entry.Entry.TheVariants.{Sent, Silent, Collision, Heard, Listed, Garbled, FieldCycle}
+use Rattle.vic_log.specs.declared.entry.LogLine.{LogLine}
+use Rattle.vic_frame.specs.declared.request.Request.{Request}
+use Rattle.vic_frame.specs.Requests.{IsValid}
+use Rattle.std.specs.Option.{option_map}
+use Rattle.std.proofs.lemmas.Option.{slice_get-map}
+use Rattle.vic_log.specs.Log.{IsValidEntry}
+use Rattle.vic_log.specs.Order.{entries, listed}
+use Rattle.vic_log.proofs.Push.{listed-append}
+use Rattle.vic_field.specs.Simulation.{HasNoSlots}
+use Rattle.vic_log.specs.Rounds.{is_slot}
+
+-- one line more
+pub entries_next : (lines : List LogLine) (i : ℕ) (l : LogLine) → slice_get lines i ≡ Some l → entries (take (suc i) lines) ≡ entries (take i lines) ++ l.item ∷ []
+entries_next [] i l k = absurd (cc)
+entries_next (x ∷ lines) zero l k = let same : x ≡ l = cc in ap (λ (y : LogLine). y.item ∷ []) same
+entries_next (x ∷ lines) (suc i) l k = ap (λ (es : List Entry). x.item ∷ es) (entries_next lines i l k)
+
+pub has_listed_next : (lines : List LogLine) (i : ℕ) (l : LogLine) (u : ℕ) → slice_get lines i ≡ Some l → has (listed (entries (take (suc i) lines))) u ≡ (has (listed (entries (take i lines))) u || has (listed (l.item ∷ [])) u)
+has_listed_next lines i l u k =
+    ap (λ (es : List Entry). has (listed es) u) (entries_next lines i l k)
+    ∙ ap (λ (us : List ℕ). has us u) (listed-append (entries (take i lines)) (l.item ∷ []))
+    ∙ list_any-append (nat_eq u) (listed (entries (take i lines))) (listed (l.item ∷ []))
+
+-- what is Ready with one listed UID more
+pub ready_next : (h k : Bool) (r s : Option Bool) → r ≡ (if h then Some true else None) → s ≡ (if k then Some true else r) → s ≡ (if (h || k) then Some true else None)
+ready_next true true r s e f = f
+ready_next true false r s e f = f ∙ e
+ready_next false true r s e f = f
+ready_next false false r s e f = f ∙ e
+
+-- one line more that tells of no slot
+pub no_slots_next : (n : ℕ) (lines : List LogLine) (l : LogLine) → HasNoSlots n lines → slice_get lines n ≡ Some l → is_slot l.item ≡ false → HasNoSlots (suc n) lines
+no_slots_next n lines l h k s i m below there =
+    ⊎_elim
+    (λ same. let it : Some l ≡ Some m = sym k ∙ (ap (slice_get lines) (sym same) ∙ there) in let is : l ≡ m = cc in subst (λ (x : LogLine). is_slot x.item ≡ false) is s)
+    (λ ne. h i m (omega arith) there)
+    (cases_eq i n)
+
+-- the entries of the first lines
+pub entries_take : (lines : List LogLine) (n : ℕ) → entries (take n lines) ≡ take n (entries lines)
+entries_take lines zero = refl
+entries_take [] (suc n) = refl
+entries_take (l ∷ lines) (suc n) = ap (λ (es : List Entry). l.item ∷ es) (entries_take lines n)
+
+-- the entry of a line
+pub entry_at : (lines : List LogLine) (i : ℕ) (l : LogLine) → slice_get lines i ≡ Some l → slice_get (entries lines) i ≡ Some l.item
+entry_at lines i l k = slice_get-map (λ (x : LogLine). x.item) lines i ∙ ap (option_map (λ (x : LogLine). x.item)) k
+
+pub valid_entry : (e : Entry) → ((q : Request) → e ≡ Sent q → IsValid q) → IsValidEntry e
+valid_entry (Sent q) h = h q refl
+valid_entry Silent h = tt
+valid_entry Collision h = tt
+valid_entry (Heard r) h = tt
+valid_entry (Listed u) h = tt
+valid_entry Garbled h = tt
+valid_entry FieldCycle h = tt

@@ -1,0 +1,72 @@
+-- Entries on numbered lines.
+use Rattle.std.proofs.Common.{◌≡◌, ℕ, suc, ◌+◌, ◌≤◌, List, [], ◌∷◌, ◌++◌, length, refl, sym, ap, ◌∙◌, arith, append_assoc, append-nil}
+use Rattle.std.proofs.lemmas.List.{map-append}
+use Rattle.vic_log.specs.declared.entry.Entry.{Entry}
+use Rattle.vic_log.specs.declared.entry.LogLine.{LogLine}
+use Rattle.vic_log.specs.Log.{LogValue, last_from}
+use Rattle.vic_log.specs.Order.{entries}
+use Rattle.vic_log.specs.Writing.{numbered}
+use Rattle.vic_field.specs.declared.session.SimFault.{SimFault}
+use Rattle.vic_field.specs.declared.session.SimFault.TheVariants.{OutcomeGiven, TooManyLines, Memory}
+use Rattle.vic_field.specs.Steps.{with_entries, StopsBefore}
+
+pub entries-append : (ls ms : List LogLine) → entries (ls ++ ms) ≡ entries ls ++ entries ms
+entries-append ls ms = map-append (λ (x : LogLine). x.item) ls ms
+
+pub entries-numbered : (n : ℕ) (es : List Entry) → entries (numbered n es) ≡ es
+entries-numbered n [] = refl
+entries-numbered n (e ∷ es) = ap (λ (fs : List Entry). e ∷ fs) (entries-numbered (suc n) es)
+
+last_from-append : (n : ℕ) (ls ms : List LogLine) → last_from n (ls ++ ms) ≡ last_from (last_from n ls) ms
+last_from-append n [] ms = refl
+last_from-append n (l ∷ ls) ms = last_from-append l.number ls ms
+
+pub last_from-numbered : (n : ℕ) (es : List Entry) → last_from n (numbered (suc n) es) ≡ n + length es
+last_from-numbered n [] = omega arith
+last_from-numbered n (e ∷ es) = let h : last_from (suc n) (numbered (suc (suc n)) es) ≡ suc n + length es = last_from-numbered (suc n) es in h ∙ omega arith
+
+pub numbered-append : (n : ℕ) (es fs : List Entry) → numbered n (es ++ fs) ≡ numbered n es ++ numbered (n + length es) fs
+numbered-append n [] fs = let h : n ≡ n + 0 = omega arith in ap (λ (m : ℕ). numbered m fs) h
+numbered-append n (e ∷ es) fs =
+    let h : suc n + length es ≡ n + length (e ∷ es) = omega arith in
+    ap (λ (ls : List LogLine). record { number = n; item = e } ∷ ls) (numbered-append (suc n) es fs ∙ ap (λ (m : ℕ). numbered (suc n) es ++ numbered m fs) h)
+
+-- the entries with more
+pub entries-with : (log : LogValue) (es : List Entry) → entries (with_entries log es).lines ≡ entries log.lines ++ es
+entries-with log es = entries-append log.lines (numbered (suc (last_from 1 log.lines)) es) ∙ ap (λ (fs : List Entry). entries log.lines ++ fs) (entries-numbered (suc (last_from 1 log.lines)) es)
+
+-- the last number with more
+pub last_from-with : (log : LogValue) (es : List Entry) → last_from 1 (with_entries log es).lines ≡ last_from 1 log.lines + length es
+last_from-with log es = last_from-append 1 log.lines (numbered (suc (last_from 1 log.lines)) es) ∙ last_from-numbered (last_from 1 log.lines) es
+
+pub with_none : (log : LogValue) → log ≡ with_entries log []
+with_none log = ap (λ (ls : List LogLine). record { lines = ls; version = log.version }) (sym (append-nil log.lines))
+
+-- more, and more again
+pub with-append : (log : LogValue) (es fs : List Entry) → with_entries (with_entries log es) fs ≡ with_entries log (es ++ fs)
+with-append log es fs =
+    let n = last_from 1 log.lines in
+    let at : suc (last_from 1 (with_entries log es).lines) ≡ suc n + length es = let h = last_from-with log es in omega arith in
+    ap (λ (ls : List LogLine). record { lines = ls; version = log.version })
+    (append_assoc log.lines (numbered (suc n) es) (numbered (suc (last_from 1 (with_entries log es).lines)) fs)
+    ∙ ap (λ (ms : List LogLine). log.lines ++ ms) (ap (λ (m : ℕ). numbered (suc n) es ++ numbered m fs) at ∙ sym (numbered-append (suc n) es fs)))
+
+-- what stops lines stops more
+pub stops_more : (n m : ℕ) (fault : SimFault) → n ≤ m → StopsBefore n fault → StopsBefore m fault
+stops_more n m (OutcomeGiven line) le h = h
+stops_more n m TooManyLines le h = omega arith
+stops_more n m Memory le h = tt
+
+-- ---- lines from 2 on
+
+pub last_is : (lines : List LogLine) → lines ≡ numbered 2 (entries lines) → last_from 1 lines ≡ suc (length (entries lines))
+last_is lines h = ap (last_from 1) h ∙ last_from-numbered 1 (entries lines) ∙ omega arith
+
+pub numbers_next : (log : LogValue) (es : List Entry) → log.lines ≡ numbered 2 (entries log.lines) → (with_entries log es).lines ≡ numbered 2 (entries (with_entries log es).lines)
+numbers_next log es h =
+    let last = last_is log.lines h in
+    let at : suc (last_from 1 log.lines) ≡ 2 + length (entries log.lines) = omega arith in
+    ap (λ (ls : List LogLine). ls ++ numbered (suc (last_from 1 log.lines)) es) h
+    ∙ ap (λ (n : ℕ). numbered 2 (entries log.lines) ++ numbered n es) at
+    ∙ sym (numbered-append 2 (entries log.lines) es)
+    ∙ ap (numbered 2) (sym (entries-with log es))

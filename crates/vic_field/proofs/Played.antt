@@ -1,0 +1,196 @@
+-- A session in play: the entries of a log so far, filled, and the field's tags behind them.
+use Rattle.std.proofs.Common.{◌≡◌, ℕ, zero, suc, ◌+◌, ◌<◌, ◌≤◌, Bool, true, false, not, ◌&&◌, ◌||◌, List, [], ◌∷◌, ◌++◌, length, Option, Some, None, refl, sym, ap, ◌∙◌, subst, arith, append_assoc, append-nil, length-append, ⊎_elim}
+use Rattle.std.specs.Prelude.{slice_get, if◌then◌else◌}
+use Rattle.std.specs.Option.{option_map}
+use Rattle.std.proofs.lemmas.Bool.{false≢true}
+use Rattle.std.proofs.lemmas.List.Elements.{filter-append, filter_agree}
+use Rattle.std.proofs.lemmas.Option.{slice_get_cases}
+use Rattle.vic_frame.specs.declared.request.Request.{Request}
+use Rattle.vic_frame.specs.Masks.{BitMask, lies_in}
+use Rattle.vic_frame.specs.Slots.{slot_count, mask_in}
+use Rattle.vic_frame.specs.Uids.{IsUid, has}
+use Rattle.vic_log.specs.declared.entry.Entry.{Entry}
+use Rattle.vic_log.specs.declared.entry.Entry.TheVariants.{Sent, Silent, Collision, Heard, Listed, Garbled, FieldCycle}
+use Rattle.vic_log.specs.Populations.{IsPopulation, answers_at, outcome_of, outcome_at, Fits, CouldHaveGiven}
+use Rattle.vic_log.specs.Quiet.{silences, wakes, is_quiet}
+use Rattle.vic_log.specs.Rounds.{is_slot, slots_opened, mask_at, lies_in_some}
+use Rattle.vic_log.proofs.Order.{still_there}
+use Rattle.vic_log.proofs.Places.{CouldHaveGiven-push}
+use Rattle.vic_field.specs.Simulation.{without_slots, HasAllSlots, IsPlain, ArePlain, line_count}
+use Rattle.vic_field.specs.Steps.{slot_line, slots_to, slots_of, ready_after}
+use Rattle.vic_field.specs.Tags.{uids, readiness, ready_in, heard}
+use Rattle.vic_field.proofs.Outcomes.{Tells, outcome_told, fits_told}
+use Rattle.vic_field.proofs.Rounds.{place_in, second_place, slot_line-is_slot, slots_of-slots, slots_of-plain, slots_of-length, IsOpen, IsOpen-sent, IsOpen-slots, IsOpen-mask, quiet-next, quiet-slot}
+
+-- ---- one slot
+
+-- a slot line changes no tag
+Tells-slot : (p : List ℕ) (es : List Entry) (tags : List (ℕ × Bool)) (e : Entry) → is_slot e ≡ true → Tells p es tags → Tells p (es ++ e ∷ []) tags
+Tells-slot p es tags e s t u h = t u h ∙ ap (λ (b : Bool). if has p u then Some (not b) else None) (sym (quiet-slot es e u s))
+
+-- the line of a slot fits its outcome in the population
+slot_fits : (p : List ℕ) (es : List Entry) (tags : List (ℕ × Bool)) (m : BitMask) → IsPopulation p → IsPopulation (uids tags) → Tells p es tags → mask_at es (length es) ≡ Some m
+    → Fits (slot_line (heard (ready_in m tags))) (outcome_at es (length es) p)
+slot_fits p es tags m pop tagged tells at =
+    let same : outcome_of (ready_in m tags) ≡ outcome_at es (length es) p =
+    outcome_told p es tags m pop tagged tells
+    ∙ ap outcome_of (filter_agree (λ u. lies_in m u && not (is_quiet es (length es) u)) (answers_at es (length es)) (λ u. ap (λ (o : Option BitMask). lies_in_some o u && not (is_quiet es (length es) u)) (sym at)) p) in
+    subst (Fits (slot_line (heard (ready_in m tags)))) same (fits_told (outcome_of (ready_in m tags)))
+
+-- ---- a round
+
+-- the entries with the first n slots: the population could have given them, and the field still tells of it
+record HasRound (p : List ℕ) (es : List Entry) (tags : List (ℕ × Bool)) : Type 0 where
+  outcomes : CouldHaveGiven p es
+  tells : Tells p es tags
+
+round : (p : List ℕ) (es : List Entry) (q : Request) (tags : List (ℕ × Bool)) (n : ℕ) → IsPopulation p → (0 < slot_count q → IsPopulation (uids tags)) → IsOpen es q 0 → n ≤ slot_count q
+    → HasRound p es tags → HasRound p (es ++ slots_to tags q n) tags
+round p es q tags zero pop tagged open_now le h = subst (λ fs. HasRound p fs tags) (sym (append-nil es)) h
+round p es q tags (suc n) pop tagged open_now le h =
+    let fs : List Entry = es ++ slots_to tags q n in
+    let line : Entry = slot_line (heard (ready_in (mask_in q n) tags)) in
+    let before : HasRound p fs tags = round p es q tags n pop tagged open_now (omega arith) h in
+    let at : mask_at fs (length fs) ≡ Some (mask_in q n) = IsOpen-mask fs q n (IsOpen-slots es q tags n open_now) (omega arith) in
+    subst (λ gs. HasRound p gs tags) (append_assoc es (slots_to tags q n) (line ∷ [])) record {
+      outcomes = CouldHaveGiven-push p fs line before.outcomes (slot_fits p fs tags (mask_in q n) pop (tagged (omega arith)) before.tells at);
+      tells = Tells-slot p fs tags line (slot_line-is_slot (heard (ready_in (mask_in q n) tags))) before.tells;
+    }
+
+-- ---- one entry
+
+fits_any : (e : Entry) → is_slot e ≡ false → (o : _) → Fits e o
+fits_any (Sent q) s o = tt
+fits_any Silent s o = absurd (cc)
+fits_any Collision s o = absurd (cc)
+fits_any (Heard r) s o = absurd (cc)
+fits_any (Listed u) s o = tt
+fits_any Garbled s o = absurd (cc)
+fits_any FieldCycle s o = tt
+
+plain_any : (e : Entry) → is_slot e ≡ false → IsPlain e
+plain_any (Sent q) s = tt
+plain_any Silent s = absurd (cc)
+plain_any Collision s = absurd (cc)
+plain_any (Heard r) s = absurd (cc)
+plain_any (Listed u) s = tt
+plain_any Garbled s = absurd (cc)
+plain_any FieldCycle s = tt
+
+told_after : (h s w q : Bool) (r t : Option Bool) → r ≡ (if h then Some (not q) else None) → t ≡ option_map (λ b. not s && (w || b)) r → t ≡ (if h then Some (not (s || (not w && q))) else None)
+told_after true true w q r t e f = f ∙ ap (option_map (λ b. not true && (w || b))) e
+told_after true false true q r t e f = f ∙ ap (option_map (λ b. not false && (true || b))) e
+told_after true false false q r t e f = f ∙ ap (option_map (λ b. not false && (false || b))) e
+told_after false s w q r t e f = f ∙ ap (option_map (λ b. not s && (w || b))) e
+
+Tells-entry : (p : List ℕ) (es : List Entry) (tags after : List (ℕ × Bool)) (e : Entry) → ((u : ℕ) → IsUid u → readiness after u ≡ option_map (ready_after e u) (readiness tags u)) → Tells p es tags → Tells p (es ++ e ∷ []) after
+Tells-entry p es tags after e step t u h =
+    told_after (has p u) (silences (Some e) u) (wakes (Some e)) (is_quiet es (length es) u) (readiness tags u) (readiness after u) (t u h) (step u h)
+    ∙ ap (λ (b : Bool). if has p u then Some (not b) else None) (sym (quiet-next es e u))
+
+entry_round : (p : List ℕ) (es : List Entry) (tags : List (ℕ × Bool)) (e : Entry) → is_slot e ≡ false → IsPopulation p → (0 < slots_opened (Some e) → IsPopulation (uids tags))
+    → HasRound p (es ++ e ∷ []) tags → HasRound p ((es ++ e ∷ []) ++ slots_of tags e) tags
+entry_round p es tags (Sent q) s pop tagged h = round p (es ++ Sent q ∷ []) q tags (slot_count q) pop tagged (IsOpen-sent es q) (omega arith) h
+entry_round p es tags Silent s pop tagged h = absurd (cc)
+entry_round p es tags Collision s pop tagged h = absurd (cc)
+entry_round p es tags (Heard r) s pop tagged h = absurd (cc)
+entry_round p es tags (Listed u) s pop tagged h = subst (λ fs. HasRound p fs tags) (sym (append-nil (es ++ Listed u ∷ []))) h
+entry_round p es tags Garbled s pop tagged h = absurd (cc)
+entry_round p es tags FieldCycle s pop tagged h = subst (λ fs. HasRound p fs tags) (sym (append-nil (es ++ FieldCycle ∷ []))) h
+
+-- ---- what a session keeps
+
+-- the entries `done` of a log are filled to `es`, and the field has the tags of the population p as they are then
+pub record IsPlayed (p : List ℕ) (done es : List Entry) (tags : List (ℕ × Bool)) : Type 0 where
+  pub kept : without_slots es ≡ done
+  pub slots : HasAllSlots es
+  pub outcomes : CouldHaveGiven p es
+  pub plain : ArePlain es
+  pub tells : Tells p es tags
+  pub count : length es ≡ line_count done
+
+-- a list of slot lines has no other
+none_kept : (ss : List Entry) → ((i : ℕ) (e : Entry) → slice_get ss i ≡ Some e → is_slot e ≡ true) → without_slots ss ≡ []
+none_kept [] h = refl
+none_kept (s ∷ ss) h =
+    ap (λ (b : Bool). if not b then s ∷ without_slots ss else without_slots ss) (h 0 s refl)
+    ∙ none_kept ss (λ i e k. h (suc i) e k)
+
+one_kept : (e : Entry) (ss : List Entry) → is_slot e ≡ false → without_slots (e ∷ ss) ≡ e ∷ without_slots ss
+one_kept e ss h = ap (λ (b : Bool). if not b then e ∷ without_slots ss else without_slots ss) h
+
+kept_next : (done es : List Entry) (tags : List (ℕ × Bool)) (e : Entry) → is_slot e ≡ false → without_slots es ≡ done → without_slots (es ++ e ∷ slots_of tags e) ≡ done ++ e ∷ []
+kept_next done es tags e s k =
+    filter-append (λ x. not (is_slot x)) es (e ∷ slots_of tags e)
+    ∙ ap (λ (xs : List Entry). without_slots es ++ xs) (one_kept e (slots_of tags e) s ∙ ap (λ (xs : List Entry). e ∷ xs) (none_kept (slots_of tags e) (slots_of-slots tags e)))
+    ∙ ap (λ (xs : List Entry). xs ++ e ∷ []) k
+
+pub line_count-next : (es : List Entry) (e : Entry) → line_count (es ++ e ∷ []) ≡ line_count es + suc (slots_opened (Some e))
+line_count-next [] e = omega arith
+line_count-next (x ∷ es) e = let h = line_count-next es e in omega arith
+
+count_next : (done es : List Entry) (tags : List (ℕ × Bool)) (e : Entry) → length es ≡ line_count done → length (es ++ e ∷ slots_of tags e) ≡ line_count (done ++ e ∷ [])
+count_next done es tags e h =
+    let long : length (es ++ e ∷ slots_of tags e) ≡ length es + suc (length (slots_of tags e)) = length-append es (e ∷ slots_of tags e) in
+    let slots = slots_of-length tags e in
+    let more = line_count-next done e in
+    omega arith
+
+-- an element of the list is there
+here_is : (xs : List Entry) (k : ℕ) → k < length xs → (x : Entry) × (slice_get xs k ≡ Some x)
+here_is xs k h = ⊎_elim (λ w. (w.0, w.2)) (λ w. let past = w.0 in absurd (omega arith)) (slice_get_cases xs k).1
+
+-- the slots of one entry more
+slots_next : (es : List Entry) (tags : List (ℕ × Bool)) (e : Entry) → HasAllSlots es → HasAllSlots (es ++ e ∷ slots_of tags e)
+slots_next es tags e h i k q at less = ⊎_elim before here (place_in es (e ∷ slots_of tags e) i (Sent q) at) where
+  before : slice_get es i ≡ Some (Sent q) → (x : Entry) × (slice_get (es ++ e ∷ slots_of tags e) (suc i + k) ≡ Some x) × (is_slot x ≡ true)
+  before b = let w = h i k q b less in (w.0, still_there es (e ∷ slots_of tags e) (suc i + k) w.0 w.1, w.2)
+
+  its_own : i ≡ length es → e ≡ Sent q → (x : Entry) × (slice_get (es ++ e ∷ slots_of tags e) (suc i + k) ≡ Some x) × (is_slot x ≡ true)
+  its_own place same =
+      let long : length (slots_of tags e) ≡ slot_count q = slots_of-length tags e ∙ ap (λ (x : Entry). slots_opened (Some x)) same in
+      let w = here_is (slots_of tags e) k (omega arith) in
+      (w.0, second_place es (e ∷ slots_of tags e) (suc i + k) (suc k) (omega arith) ∙ w.1, slots_of-slots tags e k w.0 w.1)
+
+  at_place : (j : ℕ) → i ≡ length es + j → slice_get (e ∷ slots_of tags e) j ≡ Some (Sent q) → (x : Entry) × (slice_get (es ++ e ∷ slots_of tags e) (suc i + k) ≡ Some x) × (is_slot x ≡ true)
+  at_place zero place b = let same : e ≡ Sent q = cc in its_own (omega arith) same
+  at_place (suc j) place b = absurd (false≢true (slots_of-slots tags e j (Sent q) b))
+
+  here : (j : ℕ) × (i ≡ length es + j) × (slice_get (e ∷ slots_of tags e) j ≡ Some (Sent q)) → (x : Entry) × (slice_get (es ++ e ∷ slots_of tags e) (suc i + k) ≡ Some x) × (is_slot x ≡ true)
+  here w = at_place w.0 w.1 w.2
+
+plain_next : (es : List Entry) (tags : List (ℕ × Bool)) (e : Entry) → is_slot e ≡ false → ArePlain es → ArePlain (es ++ e ∷ slots_of tags e)
+plain_next es tags e s h i x at = ⊎_elim (λ b. h i x b) (λ w. later w.0 w.2) (place_in es (e ∷ slots_of tags e) i x at) where
+  later : (j : ℕ) → slice_get (e ∷ slots_of tags e) j ≡ Some x → IsPlain x
+  later zero b = let same : e ≡ x = cc in subst IsPlain same (plain_any e s)
+  later (suc j) b = slots_of-plain tags e j x b
+
+-- one entry more, with its slots
+pub IsPlayed-next : (p : List ℕ) (done es : List Entry) (tags after : List (ℕ × Bool)) (e : Entry) → IsPopulation p → is_slot e ≡ false → (0 < slots_opened (Some e) → IsPopulation (uids after))
+    → ((u : ℕ) → IsUid u → readiness after u ≡ option_map (ready_after e u) (readiness tags u)) → IsPlayed p done es tags → IsPlayed p (done ++ e ∷ []) (es ++ e ∷ slots_of after e) after
+IsPlayed-next p done es tags after e pop s tagged step h =
+    let joined : (es ++ e ∷ []) ++ slots_of after e ≡ es ++ e ∷ slots_of after e = append_assoc es (e ∷ []) (slots_of after e) in
+    let all : HasRound p (es ++ e ∷ slots_of after e) after =
+    subst (λ fs. HasRound p fs after) joined (entry_round p es after e s pop tagged record {
+      outcomes = CouldHaveGiven-push p es e h.outcomes (fits_any e s (outcome_at es (length es) p));
+      tells = Tells-entry p es tags after e step h.tells;
+    }) in
+    record {
+      kept = kept_next done es after e s h.kept;
+      slots = slots_next es after e h.slots;
+      outcomes = all.outcomes;
+      plain = plain_next es after e s h.plain;
+      tells = all.tells;
+      count = count_next done es after e h.count;
+    }
+
+-- nothing played yet
+pub IsPlayed-start : (p : List ℕ) (tags : List (ℕ × Bool)) → ((u : ℕ) → IsUid u → readiness tags u ≡ (if has p u then Some true else None)) → IsPlayed p [] [] tags
+IsPlayed-start p tags h = record {
+  kept = refl;
+  slots = λ i k q at less. absurd (cc);
+  outcomes = λ i e at. absurd (cc);
+  plain = λ i e at. absurd (cc);
+  tells = h;
+  count = refl;
+}

@@ -1,0 +1,193 @@
+-- The rounds of entries: what one entry more, and the slot lines of a request, leave as it was.
+use Rattle.std.proofs.Common.{◌≡◌, ℕ, zero, suc, ◌+◌, ◌-◌, ◌<◌, ◌⊎◌, inl, inr, Bool, true, false, not, ◌&&◌, ◌||◌, List, [], ◌∷◌, ◌++◌, length, Some, None, refl, sym, ap, ◌∙◌, subst, arith, append_assoc, append-nil, length-append, ⊎_elim}
+use Rattle.std.specs.Prelude.{slice_get, nat_lt, if◌then◌else◌}
+use Rattle.std.proofs.lemmas.Bool.{lt-ltb}
+use Rattle.std.proofs.lemmas.Option.{slice_get_within}
+use Rattle.vic_frame.specs.declared.request.Request.{Request}
+use Rattle.vic_frame.specs.Slots.{slot_count, mask_in}
+use Rattle.vic_log.specs.declared.entry.Entry.{Entry}
+use Rattle.vic_log.specs.declared.entry.Entry.TheVariants.{Sent, Silent, Collision, Heard, Listed, Garbled, FieldCycle}
+use Rattle.vic_log.specs.Order.{refusal}
+use Rattle.vic_log.specs.Quiet.{silences, wakes, is_quiet}
+use Rattle.vic_log.specs.Rounds.{is_slot, ends_round, opener, slots_opened, left_since, slots_left, mask_of_slot, mask_since, mask_at}
+use Rattle.vic_log.proofs.Places.{opener_agrees, quiet_agrees, agree_append, slice_get_last}
+use Rattle.vic_field.specs.declared.field.Outcome.{Outcome as Told}
+use Rattle.vic_field.specs.declared.field.Outcome.TheVariants.{Silent as ToldSilent, Lone as ToldLone, Several as ToldSeveral}
+use Rattle.vic_field.specs.Simulation.{IsPlain}
+use Rattle.vic_field.specs.Steps.{slot_line, slots_to, slots_of}
+use Rattle.vic_field.specs.Tags.{heard, ready_in}
+
+-- ---- places of joined lists
+
+-- a place of two lists is one of the first or one of the second
+pub place_in : (xs ys : List Entry) (i : ℕ) (e : Entry) → slice_get (xs ++ ys) i ≡ Some e → (slice_get xs i ≡ Some e) ⊎ ((j : ℕ) × (i ≡ length xs + j) × (slice_get ys j ≡ Some e))
+place_in [] ys i e h = inr (i, omega arith, h)
+place_in (x ∷ xs) ys zero e h = inl h
+place_in (x ∷ xs) ys (suc i) e h = ⊎_elim (λ k. inl k) (λ k. let same = k.1 in inr (k.0, omega arith, k.2)) (place_in xs ys i e h)
+
+pub second_place : (xs ys : List Entry) (i j : ℕ) → i ≡ length xs + j → slice_get (xs ++ ys) i ≡ slice_get ys j
+second_place [] ys i j e = let same : i ≡ j = omega arith in ap (slice_get ys) same
+second_place (x ∷ xs) ys zero j e = absurd (omega arith)
+second_place (x ∷ xs) ys (suc i) j e = second_place xs ys i j (omega arith)
+
+pub next_length : (es : List Entry) (e : Entry) → length (es ++ e ∷ []) ≡ suc (length es)
+next_length es e = length-append es (e ∷ []) ∙ omega arith
+
+-- ---- slot lines
+
+pub slot_line-is_slot : (o : Told) → is_slot (slot_line o) ≡ true
+slot_line-is_slot ToldSilent = refl
+slot_line-is_slot (ToldLone u) = refl
+slot_line-is_slot ToldSeveral = refl
+
+slot_line-plain : (o : Told) → IsPlain (slot_line o)
+slot_line-plain ToldSilent = tt
+slot_line-plain (ToldLone u) = (refl, refl)
+slot_line-plain ToldSeveral = tt
+
+pub slots_to-length : (tags : List (ℕ × Bool)) (q : Request) (n : ℕ) → length (slots_to tags q n) ≡ n
+slots_to-length tags q zero = refl
+slots_to-length tags q (suc n) = next_length (slots_to tags q n) (slot_line (heard (ready_in (mask_in q n) tags))) ∙ ap suc (slots_to-length tags q n)
+
+-- what holds of the line of any outcome holds of the lines of slots
+slots_to-each : (P : Entry → Type 0) → ((o : Told) → P (slot_line o)) → (tags : List (ℕ × Bool)) (q : Request) (n : ℕ) (i : ℕ) (e : Entry) → slice_get (slots_to tags q n) i ≡ Some e → P e
+slots_to-each P each tags q zero i e h = absurd (cc)
+slots_to-each P each tags q (suc n) i e h =
+    ⊎_elim
+    (λ k. slots_to-each P each tags q n i e k)
+    (λ k. last k.0 k.2)
+    (place_in (slots_to tags q n) (line ∷ []) i e h) where
+      line : Entry
+      line = slot_line (heard (ready_in (mask_in q n) tags))
+
+      last : (j : ℕ) → slice_get (line ∷ []) j ≡ Some e → P e
+      last zero k = let same : line ≡ e = cc in subst P same (each (heard (ready_in (mask_in q n) tags)))
+      last (suc j) k = absurd (cc)
+
+slots_of-each : (P : Entry → Type 0) → ((o : Told) → P (slot_line o)) → (tags : List (ℕ × Bool)) (x : Entry) (i : ℕ) (e : Entry) → slice_get (slots_of tags x) i ≡ Some e → P e
+slots_of-each P each tags (Sent q) i e h = slots_to-each P each tags q (slot_count q) i e h
+slots_of-each P each tags Silent i e h = absurd (cc)
+slots_of-each P each tags Collision i e h = absurd (cc)
+slots_of-each P each tags (Heard r) i e h = absurd (cc)
+slots_of-each P each tags (Listed u) i e h = absurd (cc)
+slots_of-each P each tags Garbled i e h = absurd (cc)
+slots_of-each P each tags FieldCycle i e h = absurd (cc)
+
+pub slots_of-slots : (tags : List (ℕ × Bool)) (x : Entry) (i : ℕ) (e : Entry) → slice_get (slots_of tags x) i ≡ Some e → is_slot e ≡ true
+slots_of-slots tags x i e h = slots_of-each (λ y. is_slot y ≡ true) slot_line-is_slot tags x i e h
+
+pub slots_of-plain : (tags : List (ℕ × Bool)) (x : Entry) (i : ℕ) (e : Entry) → slice_get (slots_of tags x) i ≡ Some e → IsPlain e
+slots_of-plain tags x i e h = slots_of-each IsPlain slot_line-plain tags x i e h
+
+pub slots_of-length : (tags : List (ℕ × Bool)) (x : Entry) → length (slots_of tags x) ≡ slots_opened (Some x)
+slots_of-length tags (Sent q) = slots_to-length tags q (slot_count q)
+slots_of-length tags Silent = refl
+slots_of-length tags Collision = refl
+slots_of-length tags (Heard r) = refl
+slots_of-length tags (Listed u) = refl
+slots_of-length tags Garbled = refl
+slots_of-length tags FieldCycle = refl
+
+-- ---- an open round
+
+-- k slots of the request q are told, and the next one comes
+pub record IsOpen (es : List Entry) (q : Request) (k : ℕ) : Type 0 where
+  pub place : ℕ
+  pub opened : opener es (length es) ≡ Some place
+  pub sent : slice_get es place ≡ Some (Sent q)
+  pub count : length es ≡ suc place + k
+
+opener-next : (es : List Entry) (e : Entry) → opener (es ++ e ∷ []) (length (es ++ e ∷ [])) ≡ (if ends_round (Some e) then Some (length es) else opener es (length es))
+opener-next es e =
+    ap (opener (es ++ e ∷ [])) (next_length es e)
+    ∙ ap (λ o. if ends_round o then Some (length es) else opener (es ++ e ∷ []) (length es)) (slice_get_last es e)
+    ∙ ap (λ o. if ends_round (Some e) then Some (length es) else o) (sym (opener_agrees (length es) es (es ++ e ∷ []) (agree_append es (e ∷ []))))
+
+pub IsOpen-sent : (es : List Entry) (q : Request) → IsOpen (es ++ Sent q ∷ []) q 0
+IsOpen-sent es q = record {
+  place = length es;
+  opened = opener-next es (Sent q);
+  sent = slice_get_last es (Sent q);
+  count = let h = next_length es (Sent q) in omega arith;
+}
+
+slot_stays : (e : Entry) → is_slot e ≡ true → ends_round (Some e) ≡ false
+slot_stays (Sent q) h = cc
+slot_stays Silent h = refl
+slot_stays Collision h = refl
+slot_stays (Heard r) h = refl
+slot_stays (Listed u) h = cc
+slot_stays Garbled h = refl
+slot_stays FieldCycle h = cc
+
+pub IsOpen-slot : (es : List Entry) (q : Request) (k : ℕ) (e : Entry) → IsOpen es q k → is_slot e ≡ true → IsOpen (es ++ e ∷ []) q (suc k)
+IsOpen-slot es q k e o h =
+    let within = slice_get_within es o.place (Sent q) o.sent in
+    record {
+      place = o.place;
+      opened = opener-next es e ∙ (ap (λ b. if b then Some (length es) else opener es (length es)) (slot_stays e h) ∙ o.opened);
+      sent = sym (agree_append es (e ∷ []) o.place within) ∙ o.sent;
+      count = let n = next_length es e in let c = o.count in omega arith;
+    }
+
+pub IsOpen-slots : (es : List Entry) (q : Request) (tags : List (ℕ × Bool)) (n : ℕ) → IsOpen es q 0 → IsOpen (es ++ slots_to tags q n) q n
+IsOpen-slots es q tags zero o = subst (λ fs. IsOpen fs q 0) (sym (append-nil es)) o
+IsOpen-slots es q tags (suc n) o =
+    let line = slot_line (heard (ready_in (mask_in q n) tags)) in
+    subst (λ fs. IsOpen fs q (suc n)) (append_assoc es (slots_to tags q n) (line ∷ []))
+    (IsOpen-slot (es ++ slots_to tags q n) q n line (IsOpen-slots es q tags n o) (slot_line-is_slot (heard (ready_in (mask_in q n) tags))))
+
+-- the mask of the next slot
+pub IsOpen-mask : (es : List Entry) (q : Request) (k : ℕ) → IsOpen es q k → k < slot_count q → mask_at es (length es) ≡ Some (mask_in q k)
+IsOpen-mask es q k o h =
+    let c = o.count in
+    let at : length es - suc o.place ≡ k = omega arith in
+    ap (mask_since es (length es)) o.opened
+    ∙ ap (λ e. mask_of_slot e (length es - suc o.place)) o.sent
+    ∙ ap (mask_of_slot (Some (Sent q))) at
+    ∙ ap (λ b. if b then Some (mask_in q k) else None) (lt-ltb k (slot_count q) h)
+
+left_open : (es : List Entry) (q : Request) (k : ℕ) → IsOpen es q k → slots_left es (length es) ≡ slot_count q - k
+left_open es q k o =
+    let c = o.count in
+    let at : length es - suc o.place ≡ k = omega arith in
+    ap (left_since es (length es)) o.opened
+    ∙ ap (λ e. slots_opened e - (length es - suc o.place)) o.sent
+    ∙ ap (λ n. slot_count q - n) at
+
+-- a slot line may follow where a slot is left
+pub slot_follows : (es : List Entry) (e : Entry) → is_slot e ≡ true → nat_lt 0 (slots_left es (length es)) ≡ true → refusal es e ≡ None
+slot_follows es (Sent q) s h = cc
+slot_follows es Silent s h = rw h
+slot_follows es Collision s h = rw h
+slot_follows es (Heard r) s h = rw h
+slot_follows es (Listed u) s h = cc
+slot_follows es Garbled s h = rw h
+slot_follows es FieldCycle s h = cc
+
+pub IsOpen-follows : (es : List Entry) (q : Request) (k : ℕ) (e : Entry) → IsOpen es q k → k < slot_count q → is_slot e ≡ true → refusal es e ≡ None
+IsOpen-follows es q k e o h s =
+    let left = left_open es q k o in
+    let some : 0 < slots_left es (length es) = omega arith in
+    slot_follows es e s (lt-ltb 0 (slots_left es (length es)) some)
+
+-- ---- Quiet tags
+
+-- which tags are Quiet behind one entry more
+pub quiet-next : (es : List Entry) (e : Entry) (u : ℕ) → is_quiet (es ++ e ∷ []) (length (es ++ e ∷ [])) u ≡ (silences (Some e) u || (not (wakes (Some e)) && is_quiet es (length es) u))
+quiet-next es e u =
+    ap (λ n. is_quiet (es ++ e ∷ []) n u) (next_length es e)
+    ∙ ap (λ o. silences o u || (not (wakes o) && is_quiet (es ++ e ∷ []) (length es) u)) (slice_get_last es e)
+    ∙ ap (λ b. silences (Some e) u || (not (wakes (Some e)) && b)) (sym (quiet_agrees (length es) es (es ++ e ∷ []) u (agree_append es (e ∷ []))))
+
+-- a slot line changes none
+pub quiet-slot : (es : List Entry) (e : Entry) (u : ℕ) → is_slot e ≡ true → is_quiet (es ++ e ∷ []) (length (es ++ e ∷ [])) u ≡ is_quiet es (length es) u
+quiet-slot es e u h = quiet-next es e u ∙ go e h where
+  go : (e : Entry) → is_slot e ≡ true → (silences (Some e) u || (not (wakes (Some e)) && is_quiet es (length es) u)) ≡ is_quiet es (length es) u
+  go (Sent q) h = cc
+  go Silent h = refl
+  go Collision h = refl
+  go (Heard r) h = refl
+  go (Listed u) h = cc
+  go Garbled h = refl
+  go FieldCycle h = cc

@@ -1,0 +1,23 @@
+use Rattle.std.proofs.Common.{◌≡◌, Some, length, refl, sym, ◌∙◌, add-one, arith}
+use Rattle.std.specs.Prelude.{slice_get}
+use Rattle.std.proofs.lemmas.Option.{slice_get_read}
+use Rattle.vic_field.proofs.Listing.{no_slots_next}
+use Rattle.vic_field.proofs.session.first_slot.Goals as goal
+
+pub loop-line-init : goal.loop-line-init
+loop-line-init c = λ i l below at. absurd (omega arith)
+
+pub returns-then-is_slot : goal.returns-then-is_slot
+returns-then-is_slot c = record {
+  place = c.loop-line.line-index;
+  line = c.line-item.result;
+  here = slice_get_read c.args.lines.now (length c.args.lines.now) c.loop-line.line-index c.line-item.result refl c.loop-line-test.true c.line-item.is;
+  number = refl;
+  is_slot_line = sym c.is_slot.ensures ∙ c.if-is_slot.true;
+  first = c.loop-line.invariant;
+}
+
+pub loop-line-preserved : goal.loop-line-preserved
+loop-line-preserved c =
+    let at : slice_get c.args.lines.now c.loop-line.line-index ≡ Some c.line-item.result = slice_get_read c.args.lines.now (length c.args.lines.now) c.loop-line.line-index c.line-item.result refl c.loop-line-test.true c.line-item.is in
+    rw add-one (no_slots_next c.loop-line.line-index c.args.lines.now c.line-item.result c.loop-line.invariant at (sym c.is_slot.ensures ∙ c.if-is_slot.false))

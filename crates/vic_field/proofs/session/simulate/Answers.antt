@@ -1,0 +1,105 @@
+use Rattle.std.proofs.Common.{rules, ◌≡◌, suc, ◌+◌, ◌≤◌, ◌++◌, [], ◌∷◌, Some, length, take, refl, sym, ap, ◌∙◌, subst, arith, add-one}
+use Rattle.std.specs.Prelude.{slice_get}
+use Rattle.std.proofs.lemmas.List.{take_all}
+use Rattle.std.proofs.lemmas.Option.{slice_get_read}
+use Rattle.vic_log.specs.declared.entry.Entry.{Entry}
+use Rattle.vic_log.specs.Log.{last_from}
+use Rattle.vic_log.specs.Order.{entries, listed}
+use Rattle.vic_log.specs.Populations.{IsPopulation}
+use Rattle.vic_log.specs.Rounds.{slots_opened}
+use Rattle.vic_field.specs.Simulation.{line_count, RefusesLines, IsSimulation}
+use Rattle.vic_field.specs.Steps.{slots_of, with_entries}
+use Rattle.vic_field.proofs.Follows.{follows, refuses, listed_population, line_count-front}
+use Rattle.vic_field.proofs.Listing.{entries_next, entries_take, entry_at, valid_entry}
+use Rattle.vic_field.proofs.Numbering.{entries-with, last_is, numbers_next}
+use Rattle.vic_field.proofs.Played.{IsPlayed, IsPlayed-start, IsPlayed-next, line_count-next}
+use Rattle.vic_field.proofs.session.simulate.Goals as goal
+
+pub loop-line-init : goal.loop-line-init
+loop-line-init c =
+    rw c.with_version-filled.ensures record {
+      version = c.version.ensures;
+      numbers = refl;
+      room = omega arith;
+      played = IsPlayed-start (listed (entries c.lines-lines.result.now)) c.in_ok-field.field c.in_ok-field.ensures;
+    }
+
+pub play-requires-clause-follows : goal.play-requires-clause-follows
+play-requires-clause-follows c =
+    let lines = c.lines-lines.result.now in
+    let i = c.loop-line.line-index in
+    let l = c.line-item.result in
+    let at : slice_get lines i ≡ Some l = slice_get_read lines (length lines) i l refl c.loop-line-test.true c.line-item.is in
+    follows (entries lines) (entries c.loop-line.filled.lines) i l.item c.lines-lines.ensures.log.order (entry_at lines i l at)
+    (c.in_default.ensures i l c.loop-line-test.true at)
+    (c.loop-line.invariant.played.kept ∙ entries_take lines i)
+
+pub play-requires-clause-valid : goal.play-requires-clause-valid
+play-requires-clause-valid c =
+    let lines = c.lines-lines.result.now in
+    let i = c.loop-line.line-index in
+    let l = c.line-item.result in
+    let at : slice_get lines i ≡ Some l = slice_get_read lines (length lines) i l refl c.loop-line-test.true c.line-item.is in
+    valid_entry l.item (λ q e. c.lines-lines.ensures.log.valid i q (entry_at lines i l at ∙ ap (λ (x : Entry). Some x) e))
+
+pub play-requires-clause-first_version : goal.play-requires-clause-first_version
+play-requires-clause-first_version c v =
+    let lines = c.lines-lines.result.now in
+    let i = c.loop-line.line-index in
+    let l = c.line-item.result in
+    let at : slice_get lines i ≡ Some l = slice_get_read lines (length lines) i l refl c.loop-line-test.true c.line-item.is in
+    c.lines-lines.ensures.log.first_version (sym c.loop-line.invariant.version ∙ v) i l.item (entry_at lines i l at)
+
+pub loop-line-preserved : goal.loop-line-preserved
+loop-line-preserved c =
+    let lines = c.lines-lines.result.now in
+    let i = c.loop-line.line-index in
+    let l = c.line-item.result in
+    let log = c.loop-line.filled in
+    let more = l.item ∷ slots_of c.play.new.field l.item in
+    let h = c.loop-line.invariant in
+    let at : slice_get lines i ≡ Some l = slice_get_read lines (length lines) i l refl c.loop-line-test.true c.line-item.is in
+    let added : c.play.new.filled ≡ with_entries log more = c.in_ok-play.ensures.added in
+    let next : entries (take (suc i) lines) ≡ entries (take i lines) ++ l.item ∷ [] = entries_next lines i l at in
+    let last = last_is log.lines h.numbers in
+    let lined = h.played.count in
+    let counted = line_count-next (entries (take i lines)) l.item in
+    let room = c.in_ok-play.ensures.room in
+    let pop : IsPopulation (listed (entries lines)) = listed_population (entries lines) c.lines-lines.ensures.log.order c.lines-lines.ensures.log.typed in
+    rw (add-one, added, next) record {
+      version = h.version;
+      numbers = numbers_next log more h.numbers;
+      room = omega arith;
+      played = subst (λ es. IsPlayed (listed (entries lines)) (entries (take i lines) ++ l.item ∷ []) es c.play.new.field) (sym (entries-with log more))
+          (IsPlayed-next (listed (entries lines)) (entries (take i lines)) (entries log.lines) c.loop-line.field c.play.new.field l.item pop
+          (c.in_default.ensures i l c.loop-line-test.true at) c.in_ok-play.ensures.population c.in_ok-play.ensures.tags h.played);
+    }
+
+pub returns-in_err-play-clause-refused : goal.returns-in_err-play-clause-refused
+returns-in_err-play-clause-refused c =
+    let lines = c.lines-lines.result.now in
+    let i = c.loop-line.line-index in
+    let l = c.line-item.result in
+    let last = last_is c.loop-line.filled.lines c.loop-line.invariant.numbers in
+    let lined = c.loop-line.invariant.played.count in
+    let at : slice_get lines i ≡ Some l = slice_get_read lines (length lines) i l refl c.loop-line-test.true c.line-item.is in
+    let counted = line_count-next (entries (take i lines)) l.item in
+    let front : line_count (entries (take i lines) ++ l.item ∷ []) ≤ line_count (entries lines) = subst (λ es. line_count es ≤ line_count (entries lines)) (sym (entries_take lines (suc i)) ∙ entries_next lines i l at) (line_count-front (entries lines) (suc i)) in
+    let h : RefusesLines c.args.log.now.lines c.in_err-play.field-0.0 = subst (λ ls. RefusesLines ls c.in_err-play.field-0.0) c.lines-lines.ensures.value
+    (refuses lines (suc (last_from 1 c.loop-line.filled.lines) + slots_opened (Some l.item)) c.in_err-play.field-0.0 c.in_default.ensures (omega arith) c.in_err-play.ensures.refused) in
+    search rules
+
+pub returns-clause-simulated : goal.returns-clause-simulated
+returns-clause-simulated c =
+    let lines = c.lines-lines.result.now in
+    let i = c.loop-line.line-index in
+    let all : take i lines ≡ lines = take_all i lines (omega arith) in
+    let played = subst (λ ls. IsPlayed (listed (entries lines)) (entries ls) (entries c.loop-line.filled.lines) c.loop-line.field) all c.loop-line.invariant.played in
+    subst (λ ls. IsSimulation ls c.loop-line.filled.lines) c.lines-lines.ensures.value record {
+      kept = played.kept;
+      slots = played.slots;
+      population = listed_population (entries lines) c.lines-lines.ensures.log.order c.lines-lines.ensures.log.typed;
+      outcomes = played.outcomes;
+      plain = played.plain;
+      numbers = c.loop-line.invariant.numbers;
+    }

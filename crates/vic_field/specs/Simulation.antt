@@ -1,0 +1,64 @@
+-- What the simulation of a log gives: its entries, with a line for each slot.
+use Rattle.std.specs.Prelude.{◌≡◌, ℕ, suc, ◌+◌, ◌<◌, true, false, not, Some, List, [], ◌∷◌, ⊤, length, slice_get}
+use Rattle.std.specs.List.{filter}
+use Rattle.vic_frame.specs.declared.request.Request.{Request}
+use Rattle.vic_frame.specs.Slots.{slot_count}
+use Rattle.vic_log.specs.declared.entry.Entry.{Entry}
+use Rattle.vic_log.specs.declared.entry.Entry.TheVariants.{Sent, Heard, Garbled}
+use Rattle.vic_log.specs.declared.entry.LogLine.{LogLine}
+use Rattle.vic_log.specs.Order.{entries, listed}
+use Rattle.vic_log.specs.Populations.{IsPopulation, CouldHaveGiven}
+use Rattle.vic_log.specs.Rounds.{is_slot, slots_opened}
+use Rattle.vic_log.specs.Writing.{numbered}
+use Rattle.vic_field.specs.declared.session.SimFault.{SimFault}
+use Rattle.vic_field.specs.declared.session.SimFault.TheVariants.{OutcomeGiven, TooManyLines, Memory}
+
+-- the entries that are no slot lines
+abbrev pub without_slots : List Entry → List Entry
+without_slots es = filter (λ e. not (is_slot e)) es
+
+-- each request is followed by a line for each of its slots
+abbrev pub HasAllSlots : List Entry → Type 0
+HasAllSlots es = (i k : ℕ) (q : Request) → slice_get es i ≡ Some (Sent q) → k < slot_count q → (e : Entry) × (slice_get es (suc i + k) ≡ Some e) × (is_slot e ≡ true)
+
+-- no reply is garbled, and a reply has flags 0 and DSFID 0
+abbrev pub IsPlain : Entry → Type 0
+IsPlain (Heard r) = (r.flags ≡ 0) × (r.dsfid ≡ 0)
+IsPlain Garbled = ⊥
+IsPlain e = ⊤
+
+abbrev pub ArePlain : List Entry → Type 0
+ArePlain es = (i : ℕ) (e : Entry) → slice_get es i ≡ Some e → IsPlain e
+
+-- the filled lines are those given, with all slots, as the listed UIDs as a population could have given them
+pub record IsSimulation (given filled : List LogLine) : Type 0 where
+  pub kept : without_slots (entries filled) ≡ entries given
+  pub slots : HasAllSlots (entries filled)
+  pub population : IsPopulation (listed (entries given))
+  pub outcomes : CouldHaveGiven (listed (entries given)) (entries filled)
+  pub plain : ArePlain (entries filled)
+  pub numbers : filled ≡ numbered 2 (entries filled)
+
+-- how many lines the entries need with all their slots
+abbrev pub line_count : List Entry → ℕ
+line_count [] = 0
+line_count (e ∷ es) = suc (slots_opened (Some e)) + line_count es
+
+-- the first n lines tell of no slot
+abbrev pub HasNoSlots : ℕ → List LogLine → Type 0
+HasNoSlots n lines = (i : ℕ) (l : LogLine) → i < n → slice_get lines i ≡ Some l → is_slot l.item ≡ false
+
+-- the first line that tells of a slot has the number n
+pub record IsFirstSlot (lines : List LogLine) (n : ℕ) : Type 0 where
+  pub place : ℕ
+  pub line : LogLine
+  pub here : slice_get lines place ≡ Some line
+  pub number : line.number ≡ n
+  pub is_slot_line : is_slot line.item ≡ true
+  pub first : HasNoSlots place lines
+
+-- why lines aren't simulated: a slot line is there; else a line above 1,000,000 would be needed, or memory is wanting
+abbrev pub RefusesLines : List LogLine → SimFault → Type 0
+RefusesLines lines (OutcomeGiven n) = IsFirstSlot lines n
+RefusesLines lines TooManyLines = HasNoSlots (length lines) lines × (1000000 < suc (line_count (entries lines)))
+RefusesLines lines Memory = HasNoSlots (length lines) lines

@@ -1,0 +1,44 @@
+-- The steps of a simulation.
+use Rattle.std.specs.Prelude.{ℕ, zero, suc, ◌<◌, Bool, not, ◌&&◌, ◌||◌, Some, List, [], ◌∷◌, ◌++◌, ⊤}
+use Rattle.vic_frame.specs.declared.request.Request.{Request}
+use Rattle.vic_frame.specs.Slots.{slot_count, mask_in}
+use Rattle.vic_log.specs.declared.entry.Entry.{Entry}
+use Rattle.vic_log.specs.declared.entry.Entry.TheVariants.{Sent, Silent as SilentLine, Collision, Heard}
+use Rattle.vic_log.specs.Log.{LogValue, last_from}
+use Rattle.vic_log.specs.Quiet.{silences, wakes}
+use Rattle.vic_field.specs.declared.field.Outcome.{Outcome}
+use Rattle.vic_field.specs.declared.field.Outcome.TheVariants.{Silent, Lone, Several}
+use Rattle.vic_field.specs.declared.session.SimFault.{SimFault}
+use Rattle.vic_field.specs.declared.session.SimFault.TheVariants.{OutcomeGiven, TooManyLines, Memory}
+use Rattle.vic_log.specs.Writing.{numbered}
+use Rattle.vic_field.specs.Tags.{ready_in, heard}
+
+-- the slot line of what is heard
+abbrev pub slot_line : Outcome → Entry
+slot_line Silent = SilentLine
+slot_line (Lone u) = Heard (record { flags = 0; dsfid = 0; uid = u })
+slot_line Several = Collision
+
+-- the lines of the first n slots of a request
+abbrev pub slots_to : List (ℕ × Bool) → Request → ℕ → List Entry
+slots_to tags q zero = []
+slots_to tags q (suc k) = slots_to tags q k ++ slot_line (heard (ready_in (mask_in q k) tags)) ∷ []
+
+-- the lines of all slots that an entry opens
+abbrev pub slots_of : List (ℕ × Bool) → Entry → List Entry
+slots_of tags (Sent q) = slots_to tags q (slot_count q)
+slots_of tags e = []
+
+-- a log with more entries on the next lines
+abbrev pub with_entries : LogValue → List Entry → LogValue
+with_entries log es = record { lines = log.lines ++ numbered (suc (last_from 1 log.lines)) es; version = log.version }
+
+-- whether the tag u is Ready after an entry, where it is so or not before
+abbrev pub ready_after : Entry → ℕ → Bool → Bool
+ready_after e u ready = not (silences (Some e) u) && (wakes (Some e) || ready)
+
+-- why lines up to the number n aren't added: that is above 1,000,000, or memory is wanting
+abbrev pub StopsBefore : ℕ → SimFault → Type 0
+StopsBefore n (OutcomeGiven line) = ⊥
+StopsBefore n TooManyLines = 1000000 < n
+StopsBefore n Memory = ⊤

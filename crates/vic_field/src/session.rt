@@ -1,0 +1,191 @@
+//! The log of a session with the tags that a log lists.
+
+ghost use Rattle.std.specs.Prelude.{◌≡◌, ℕ, suc, ◌+◌, ◌<◌, ◌≤◌, ◌++◌, [], ◌∷◌, List, length, true, false, Some, None, IfOk, IfErr, OnOk, MatchOption, if◌then◌else◌};
+ghost use Rattle.std.specs.Option.{option_map};
+ghost use Rattle.vic_field.specs.declared.session.SimFault.TheVariants.{Memory as NoRoom};
+ghost use Rattle.vic_field.specs.Simulation.{IsSimulation, HasNoSlots, IsFirstSlot, RefusesLines, line_count};
+ghost use Rattle.vic_field.specs.Steps.{slot_line, slots_to, slots_of, with_entries, ready_after, StopsBefore};
+ghost use Rattle.vic_field.specs.Tags.{readiness, uids};
+ghost use Rattle.vic_frame.specs.Requests.{IsValid};
+ghost use Rattle.vic_frame.specs.Slots.{slot_count};
+ghost use Rattle.vic_frame.specs.Uids.{IsUid, has};
+ghost use Rattle.vic_log.specs.declared.entry.Entry.{Entry};
+ghost use Rattle.vic_log.specs.declared.entry.Version.TheVariants.{V1};
+ghost use Rattle.vic_log.specs.FirstVersion.{IsOfFirstVersion};
+ghost use Rattle.vic_log.specs.Log.{last_from, IsValidEntry};
+ghost use Rattle.vic_log.specs.Order.{entries, listed, refusal};
+ghost use Rattle.vic_log.specs.Populations.{IsPopulation};
+ghost use Rattle.vic_log.specs.Rounds.{is_slot, slots_opened};
+
+use crate::field::{Field, Outcome};
+use std::alloc::{AllocError, Global};
+use vic_frame::{Request, Response};
+use vic_log::{Entry, Log, LogLine, PushFault};
+
+/// Why a log isn't simulated.
+#[derive(Clone, Copy, Debug, PartialEq, Eq)]
+pub enum SimFault {
+    /// A slot line is handed in: the number of the first one.
+    OutcomeGiven(u32),
+    /// A line number above 1,000,000 would be needed.
+    TooManyLines,
+    /// There is no memory for the tags or the lines.
+    Memory,
+}
+
+impl From<AllocError> for SimFault {
+    ghost from_gives = { λ _ e. e ≡ NoRoom };
+
+    fn from(_e: AllocError) -> SimFault {
+        SimFault::Memory
+    }
+}
+
+/// The log of the session in which the tags that a log lists answer its requests: its entries,
+/// and after each Inventory request a line for each of its 1 or 16 slots, on the lines 2, 3, 4
+/// and so on. A reply has flags 00 and DSFID 00.
+///
+/// Refused where a slot line is handed in, which is looked for first, and where the lines don't
+/// fit into a log.
+pub fn simulate(alloc: Global, log: &Log) -> Result<Log, SimFault>
+    ensures simulated { IfOk result (λ filled. IsSimulation log.now.lines filled.lines) }
+    ensures version { IfOk result (λ filled. filled.version ≡ log.now.version) }
+    ensures no_slots { OnOk result (HasNoSlots (length log.now.lines) log.now.lines) }
+    ensures room { OnOk result (suc (line_count (entries log.now.lines)) ≤ 1000000) }
+    ensures refused { IfErr result (RefusesLines log.now.lines) }
+{
+    let lines = log.lines();
+    if let Some(number) = first_slot(lines) {
+        return Err(SimFault::OutcomeGiven(number));
+    }
+    let mut field = populate(alloc, lines)?;
+    let mut filled = Log::with_version(alloc, log.version());
+    for line in lines {
+        play(&mut filled, &mut field, &line.item)?;
+    }
+    Ok(filled)
+}
+
+/// The number of the first line that tells of a slot.
+fn first_slot(lines: &[LogLine]) -> Option<u32>
+    ensures { MatchOption result (HasNoSlots (length lines.now) lines.now) (IsFirstSlot lines.now) }
+{
+    for line in lines {
+        if is_slot(&line.item) {
+            return Some(line.number);
+        }
+    }
+    None
+}
+
+/// Whether an entry tells of a slot.
+fn is_slot(item: &Entry) -> bool
+    ensures { result ≡ is_slot item.now }
+{
+    match *item {
+        Entry::Silent | Entry::Collision | Entry::Heard(_) | Entry::Garbled => true,
+        Entry::Sent(_) | Entry::Listed(_) | Entry::FieldCycle => false,
+    }
+}
+
+/// A field of the tags that are listed, all Ready.
+fn populate(alloc: Global, lines: &[LogLine]) -> Result<Field, AllocError>
+    ensures { IfOk result (λ field. (u : ℕ) → IsUid u → readiness field u ≡ (if has (listed (entries lines.now)) u then Some true else None)) }
+{
+    let mut field = Field::new(alloc);
+    for line in lines {
+        bring_listed(&mut field, &line.item)?;
+    }
+    Ok(field)
+}
+
+/// Brings the tag that an entry lists, if it lists one, into the field.
+fn bring_listed(field: &mut Field, item: &Entry) -> Result<(), AllocError>
+    ensures { OnOk result ((u : ℕ) → IsUid u → readiness field.new u ≡ (if has (listed (item.now ∷ [])) u then Some true else readiness field.old u)) }
+{
+    if let Entry::Listed(uid) = *item {
+        field.bring(uid)?;
+    }
+    Ok(())
+}
+
+/// Adds an entry, and a line for each slot that it opens, as the tags answer.
+fn play(filled: &mut Log, field: &mut Field, item: &Entry) -> Result<(), SimFault>
+    requires follows { refusal (entries filled.old.lines) item.now ≡ None }
+    requires valid { IsValidEntry item.now }
+    requires first_version { filled.old.version ≡ V1 → IsOfFirstVersion item.now }
+    ensures added { OnOk result (filled.new ≡ with_entries filled.old (item.now ∷ slots_of field.new item.now)) }
+    ensures tags { OnOk result ((u : ℕ) → IsUid u → readiness field.new u ≡ option_map (ready_after item.now u) (readiness field.old u)) }
+    ensures population { OnOk result (0 < slots_opened (Some item.now) → IsPopulation (uids field.new)) }
+    ensures room { OnOk result (suc (last_from 1 filled.old.lines) + slots_opened (Some item.now) ≤ 1000000) }
+    ensures refused { IfErr result (StopsBefore (suc (last_from 1 filled.old.lines) + slots_opened (Some item.now))) }
+{
+    push_next(filled, *item)?;
+    match *item {
+        Entry::Sent(request) => {
+            field.send(&request);
+            push_slots(filled, field, &request)
+        }
+        Entry::FieldCycle => {
+            field.power_cycle();
+            Ok(())
+        }
+        Entry::Listed(_) | Entry::Silent | Entry::Collision | Entry::Heard(_) | Entry::Garbled =>
+            Ok(()),
+    }
+}
+
+/// Adds a line for each slot of the request that was sent last.
+fn push_slots(filled: &mut Log, field: &Field, request: &Request) -> Result<(), SimFault>
+    requires sent { (es : List Entry) × (entries filled.old.lines ≡ es ++ Entry.Sent request.now ∷ []) }
+    requires valid { IsValid request.now }
+    requires limit { last_from 1 filled.old.lines ≤ 1000000 }
+    ensures added { OnOk result (filled.new ≡ with_entries filled.old (slots_to field.now request.now (slot_count request.now))) }
+    ensures population { OnOk result (0 < slot_count request.now → IsPopulation (uids field.now)) }
+    ensures room { OnOk result (last_from 1 filled.old.lines + slot_count request.now ≤ 1000000) }
+    ensures refused { IfErr result (StopsBefore (last_from 1 filled.old.lines + slot_count request.now)) }
+{
+    for k in 0..request.slots() {
+        let Some(mask) = request.slot_mask(k) else {
+            unreachable!()
+        };
+        push_next(filled, slot_line(field.answer(&mask)))?;
+    }
+    Ok(())
+}
+
+/// The slot line of what is heard.
+fn slot_line(outcome: Outcome) -> Entry
+    ensures { result ≡ slot_line outcome }
+{
+    match outcome {
+        Outcome::Silent => Entry::Silent,
+        Outcome::Lone(uid) => {
+            let Some(reply) = Response::new(0, 0, uid) else {
+                unreachable!()
+            };
+            Entry::Heard(reply)
+        }
+        Outcome::Several => Entry::Collision,
+    }
+}
+
+/// Adds an entry on the next line.
+fn push_next(filled: &mut Log, item: Entry) -> Result<(), SimFault>
+    requires follows { refusal (entries filled.old.lines) item ≡ None }
+    requires valid { IsValidEntry item }
+    requires first_version { filled.old.version ≡ V1 → IsOfFirstVersion item }
+    ensures added { OnOk result (filled.new ≡ with_entries filled.old (item ∷ [])) }
+    ensures room { OnOk result (last_from 1 filled.old.lines < 1000000) }
+    ensures refused { IfErr result (StopsBefore (suc (last_from 1 filled.old.lines))) }
+{
+    let number = filled.last_line() + 1;
+    if number > 1_000_000 {
+        return Err(SimFault::TooManyLines);
+    }
+    match filled.push(number, item) {
+        Ok(()) => Ok(()),
+        Err(PushFault::Memory) => Err(SimFault::Memory),
+        Err(_) => unreachable!(),
+    }
+}
