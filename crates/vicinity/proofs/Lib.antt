@@ -1,2 +1,3 @@
 mod HexDigits
 mod Decoded
+mod CheckLines

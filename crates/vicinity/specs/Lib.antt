@@ -1,3 +1,5 @@
 pub mod Status
 pub mod Digits
 pub mod FrameText
+pub mod CheckText
+pub mod CheckRun

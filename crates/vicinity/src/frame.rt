@@ -1,6 +1,6 @@
 //! The command `frame`.
 
-ghost use Rattle.std.specs.Prelude.{◌≡◌, ◌*◌, ◌≤◌, ◌+◌, ℕ, [], ◌++◌, length, take, drop, IfOk, IfErr, OnOk, is_err, Ok, Some, None, MatchResult};
+ghost use Rattle.std.specs.Prelude.{◌≡◌, ◌*◌, ◌≤◌, ◌+◌, ℕ, [], ◌++◌, length, take, drop, IfOk, IfErr, OnOk, is_err, true, Ok, Some, None, MatchResult};
 ghost use Rattle.std.specs.Io.KnownBytes.{Appends};
 ghost use Rattle.arrayvec.specs.ArrayVec.{array_vec_len};
 ghost use Rattle.hex.specs.Hex.{decode_of};
@@ -8,11 +8,12 @@ ghost use Rattle.vic_log.specs.Device.{HasTakenPrefix};
 ghost use Rattle.vicinity.specs.FrameText.{readings_text, frame_text, frame_status, readings_status};
 
 use crate::digits::{Text, put};
+use crate::output::send;
 use crate::status::{RunFault, Status};
 use crate::text::{reply_line, request_line};
 use arrayvec::ArrayVec;
 use vic_frame::{read_request, read_response};
-use vic_log::{Sink, write_whole};
+use vic_log::Sink;
 
 /// The two readings of some bytes, and whether there is one.
 fn readings(bytes: &[u8]) -> (Text, Status)
@@ -89,10 +90,9 @@ pub fn run_frame<W: Sink>(word: &[u8], sink: &mut W) -> Result<Status, RunFault>
     ensures begun { HasTakenPrefix (W.taken sink.old) (W.taken sink.new) (frame_text word.now) }
     ensures fault { IfErr result (λ e. e ≡ RunFault.Write) }
     ensures failed { W.has_failed sink.new ≡ is_err result }
+    ensures untouched { W.has_failed sink.old ≡ true → sink.new ≡ sink.old }
 {
     let (text, status) = answer(word);
-    if sink.failed() || write_whole(sink, text.as_slice()).is_err() || sink.flush().is_err() {
-        return Err(RunFault::Write);
-    }
+    send(sink, text.as_slice())?;
     Ok(status)
 }

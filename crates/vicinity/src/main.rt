@@ -1,19 +1,22 @@
 //! Whether a list of vicinity tags is complete, from the log of the session that found them.
 #![tactic(auto)]
 
+mod check;
 mod digits;
 mod frame;
+mod output;
 mod status;
 #[cfg(test)]
 mod tests;
 mod text;
 mod words;
 
+use check::run_check;
 use frame::run_frame;
 use status::{RunFault, Status, fault_text};
 use std::process::ExitCode;
-use std::{env, io};
-use vic_log::ToWrite;
+use std::{env, fs, io};
+use vic_log::{FromRead, ToWrite};
 use words::{Task, WordsFault, read_words};
 
 /// The exit status of a run that has no answer.
@@ -33,6 +36,12 @@ fn no_answer(rt: &HostRuntime, why: &str) -> io::Result<ExitCode> {
     Ok(ExitCode::from(NO_ANSWER))
 }
 
+/// Says that a file can't be opened.
+fn cannot_open(rt: &HostRuntime, file: &str) -> io::Result<ExitCode> {
+    eprintln!(rt; "vicinity: cannot open {file}")?;
+    Ok(ExitCode::from(NO_ANSWER))
+}
+
 /// Ends as a run has ended.
 fn end(rt: &HostRuntime, answer: Result<Status, RunFault>) -> io::Result<ExitCode> {
     match answer {
@@ -41,19 +50,31 @@ fn end(rt: &HostRuntime, answer: Result<Status, RunFault>) -> io::Result<ExitCod
     }
 }
 
+/// Judges the log in a file, or that on standard input.
+fn check_file(rt: &HostRuntime, file: Option<String>) -> io::Result<ExitCode> {
+    let mut sink = ToWrite::new(rt.stdout());
+    let answer = match file {
+        None => run_check(rt.alloc(), &mut FromRead::new(rt.stdin()), &mut sink),
+        Some(file) => match fs::open(rt, file.as_str()) {
+            Ok(opened) => run_check(rt.alloc(), &mut FromRead::new(opened), &mut sink),
+            Err(_) => return cannot_open(rt, file.as_str()),
+        },
+    };
+    end(rt, answer)
+}
+
 fn main(rt: HostRuntime) -> io::Result<ExitCode> {
     let task = match given_words(&rt) {
         Ok(words) => read_words(rt.alloc(), words),
         Err(fault) => Err(fault),
     };
     match task {
+        Ok(Task::Check(file)) => check_file(&rt, file),
         Ok(Task::Frame(word)) => {
             let mut sink = ToWrite::new(rt.stdout());
             end(&rt, run_frame(word.as_bytes(), &mut sink))
         }
-        Ok(Task::Check(_)) | Ok(Task::Simulate(_)) | Err(WordsFault::Usage) => {
-            no_answer(&rt, "vicinity: usage")
-        }
+        Ok(Task::Simulate(_)) | Err(WordsFault::Usage) => no_answer(&rt, "vicinity: usage"),
         Err(WordsFault::Memory) => no_answer(&rt, "vicinity: out of memory"),
     }
 }

@@ -1,12 +1,15 @@
 //! The lines that are written.
 
-ghost use Rattle.std.specs.Prelude.{◌≡◌, ◌≤◌};
+ghost use Rattle.std.specs.Prelude.{◌≡◌, ◌≤◌, length};
 ghost use Rattle.arrayvec.specs.ArrayVec.{array_vec_len};
 ghost use Rattle.vicinity.specs.FrameText as spec;
+ghost use Rattle.vicinity.specs.CheckText as check;
 
 use crate::digits::{Text, put, put_bytes, put_decimal, put_value};
 use arrayvec::ArrayVec;
 use vic_frame::{FrameFault, Request, Response};
+use vic_log::LineFault;
+use vic_verdict::Verdict;
 
 /// The line of a reading as a request.
 pub(crate) fn request_line(reading: &Result<Request, FrameFault>) -> Text
@@ -62,6 +65,76 @@ pub(crate) fn reply_line(reading: &Result<Response, FrameFault>) -> Text
             put(&mut text, fault.name());
         }
     }
+    put(&mut text, "\n");
+    text
+}
+
+/// The line of a verdict.
+pub(crate) fn verdict_line(verdict: &Verdict) -> Text
+    ensures { result.items ≡ check.verdict_line verdict.now }
+{
+    let mut text = ArrayVec::new();
+    match *verdict {
+        Verdict::Complete { count } => {
+            put(&mut text, "complete ");
+            put_decimal(&mut text, count);
+        }
+        Verdict::Absent(uid) => {
+            put(&mut text, "absent ");
+            put_bytes(&mut text, 8, uid.number());
+        }
+        Verdict::Unlisted(uid) => {
+            put(&mut text, "unlisted ");
+            put_bytes(&mut text, 8, uid.number());
+        }
+        Verdict::Unsettled(mask) => {
+            put(&mut text, "unsettled ");
+            put_decimal(&mut text, u32::from(mask.len()));
+            put(&mut text, " ");
+            put_value(&mut text, &mask);
+        }
+        Verdict::Doubtful(uid) => {
+            put(&mut text, "doubtful ");
+            put_bytes(&mut text, 8, uid.number());
+        }
+        Verdict::Impossible { line } => {
+            put(&mut text, "impossible at line ");
+            put_decimal(&mut text, line);
+        }
+    }
+    put(&mut text, "\n");
+    text
+}
+
+/// The name of a line's fault.
+fn fault_name(fault: &LineFault) -> &'static str
+    ensures name { result.now ≡ check.line_fault_name fault.now }
+    ensures short { length result.now ≤ 16 }
+{
+    match fault {
+        LineFault::TooManyLines => "TooManyLines",
+        LineFault::LineTooLong => "LineTooLong",
+        LineFault::Header => "Header",
+        LineFault::UnknownEntry => "UnknownEntry",
+        LineFault::Hex => "Hex",
+        LineFault::ListedLength => "ListedLength",
+        LineFault::Frame(fault) => fault.name(),
+        LineFault::NotVicinity => "NotVicinity",
+        LineFault::SlotOutsideRound => "SlotOutsideRound",
+        LineFault::EntryAfterList => "EntryAfterList",
+        LineFault::DuplicateListed => "DuplicateListed",
+    }
+}
+
+/// The line of a refusal.
+pub(crate) fn refusal_line(line: u32, fault: &LineFault) -> Text
+    ensures { result.items ≡ check.refusal_line line fault.now }
+{
+    let mut text = ArrayVec::new();
+    put(&mut text, "refused at line ");
+    put_decimal(&mut text, line);
+    put(&mut text, ": ");
+    put(&mut text, fault_name(fault));
     put(&mut text, "\n");
     text
 }

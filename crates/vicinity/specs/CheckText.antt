@@ -1,0 +1,71 @@
+-- What `check` answers to a text: the line and the status of its verdict, or of its refusal.
+use Rattle.std.specs.Prelude.{◌≡◌, ℕ, List, ◌++◌, length, codes, decimal}
+use Rattle.vic_frame.specs.Names.{fault_name}
+use Rattle.vic_log.specs.declared.entry.LogLine.{LogLine}
+use Rattle.vic_log.specs.declared.fault.LineFault.{LineFault}
+use Rattle.vic_log.specs.declared.fault.LineFault.TheVariants.{TooManyLines, LineTooLong, Header, UnknownEntry, Hex, ListedLength, Frame, NotVicinity, SlotOutsideRound, EntryAfterList, DuplicateListed}
+use Rattle.vic_log.specs.Lines.{lines_of_text}
+use Rattle.vic_log.specs.Order.{entries, listed}
+use Rattle.vic_log.specs.Text.{IsLogOf, IsFirstFault}
+use Rattle.vic_verdict.specs.declared.verdict.Verdict.{Verdict}
+use Rattle.vic_verdict.specs.declared.verdict.Verdict.TheVariants.{Impossible, Absent, Unlisted, Unsettled, Doubtful, Complete}
+use Rattle.vic_verdict.specs.Verdict.{IsVerdict, IsSettled}
+use Rattle.vicinity.specs.Digits.{uid_text, value_text}
+use Rattle.vicinity.specs.declared.status.Status.{Status}
+use Rattle.vicinity.specs.declared.status.Status.TheVariants.{Whole, NotWhole, Impossible as NoPopulation, Refused}
+use Rattle.vicinity.specs.declared.check.Answer.{Answer}
+use Rattle.vicinity.specs.declared.check.Answer.TheVariants.{Judged, RefusedAt}
+
+-- the line of a verdict
+abbrev pub verdict_line : Verdict → List ℕ
+verdict_line (Complete count) = codes "complete " ++ decimal count ++ codes "\n"
+verdict_line (Absent u) = codes "absent " ++ uid_text u ++ codes "\n"
+verdict_line (Unlisted u) = codes "unlisted " ++ uid_text u ++ codes "\n"
+verdict_line (Unsettled m) = codes "unsettled " ++ decimal m.len ++ codes " " ++ value_text m ++ codes "\n"
+verdict_line (Doubtful u) = codes "doubtful " ++ uid_text u ++ codes "\n"
+verdict_line (Impossible n) = codes "impossible at line " ++ decimal n ++ codes "\n"
+
+-- and its status
+abbrev pub verdict_status : Verdict → Status
+verdict_status (Complete count) = Whole
+verdict_status (Impossible n) = NoPopulation
+verdict_status v = NotWhole
+
+-- the name of a line's fault
+abbrev pub line_fault_name : LineFault → List ℕ
+line_fault_name TooManyLines = codes "TooManyLines"
+line_fault_name LineTooLong = codes "LineTooLong"
+line_fault_name Header = codes "Header"
+line_fault_name UnknownEntry = codes "UnknownEntry"
+line_fault_name Hex = codes "Hex"
+line_fault_name ListedLength = codes "ListedLength"
+line_fault_name (Frame fault) = fault_name fault
+line_fault_name NotVicinity = codes "NotVicinity"
+line_fault_name SlotOutsideRound = codes "SlotOutsideRound"
+line_fault_name EntryAfterList = codes "EntryAfterList"
+line_fault_name DuplicateListed = codes "DuplicateListed"
+
+-- the line of a refusal
+abbrev pub refusal_line : ℕ → LineFault → List ℕ
+refusal_line n fault = codes "refused at line " ++ decimal n ++ codes ": " ++ line_fault_name fault ++ codes "\n"
+
+-- the verdict on the log of a text, or the text's first fault
+abbrev pub IsAnswer : List ℕ → Answer → Type 0
+IsAnswer text (Judged v) = (log : List LogLine) × IsLogOf (lines_of_text text) log × IsVerdict log v
+IsAnswer text (RefusedAt n fault) = IsFirstFault (lines_of_text text) n fault
+
+abbrev pub answer_line : Answer → List ℕ
+answer_line (Judged v) = verdict_line v
+answer_line (RefusedAt n fault) = refusal_line n fault
+
+abbrev pub answer_status : Answer → Status
+answer_status (Judged v) = verdict_status v
+answer_status (RefusedAt n fault) = Refused
+
+-- the text has a log that is settled, and lists so many UIDs: some population could have given the log, and each that
+-- could has exactly the UIDs that it lists
+pub record IsCompleteText (text : List ℕ) (count : ℕ) : Type 0 where
+  pub log : List LogLine
+  pub is_log : IsLogOf (lines_of_text text) log
+  pub settled : IsSettled (entries log)
+  pub counted : count ≡ length (listed (entries log))

@@ -1,0 +1,92 @@
+//! The command `check`.
+
+ghost use Rattle.std.specs.Prelude.{◌≡◌, ◌≢◌, ◌↔◌, ℕ, List, ◌++◌, true, false, Some, IfOk, IfErr, OnOk, codes};
+ghost use Rattle.vic_verdict.specs.declared.verdict.Verdict.TheVariants.{Complete};
+ghost use Rattle.vicinity.specs.CheckText.{IsAnswer, IsCompleteText, answer_line, answer_status};
+ghost use Rattle.vicinity.specs.CheckRun.{Answers, AnswersInPart, HandsOutComplete};
+
+use crate::digits::Text;
+use crate::output::send;
+use crate::status::{RunFault, Status};
+use crate::text::{refusal_line, verdict_line};
+use std::alloc::{AllocError, Global};
+use vic_log::{LineFault, LogFault, ReadFault, Sink, Source, read_log, read_whole};
+use vic_verdict::{Verdict, judge};
+
+/// What is answered to a text.
+#[derive(Clone, Copy, Debug, PartialEq, Eq)]
+pub(crate) enum Answer {
+    /// It has a log, and this is the verdict on it.
+    Judged(Verdict),
+    /// A line of it has a fault, and this is the first.
+    RefusedAt { line: u32, fault: LineFault },
+}
+
+/// The answer to a text.
+fn judge_text(alloc: Global, text: &[u8]) -> Result<Answer, AllocError>
+    ensures answer { IfOk result (λ a. IsAnswer text.now a) }
+    ensures complete { IfOk result (λ a. (count : ℕ) → a ≡ Answer.Judged (Complete count) → IsCompleteText text.now count) }
+{
+    let log = match read_log(alloc, text) {
+        Ok(log) => log,
+        Err(LogFault::Line { line, fault }) => return Ok(Answer::RefusedAt { line, fault }),
+        Err(LogFault::Memory) => return Err(AllocError),
+        Err(LogFault::Read) | Err(LogFault::Spent) => unreachable!(),
+    };
+    let verdict = judge(alloc, &log)?;
+    Ok(Answer::Judged(verdict))
+}
+
+/// The line of an answer.
+fn answer_line(answer: &Answer) -> Text
+    ensures { result.items ≡ answer_line answer.now }
+{
+    match answer {
+        Answer::Judged(verdict) => verdict_line(verdict),
+        Answer::RefusedAt { line, fault } => refusal_line(*line, fault),
+    }
+}
+
+/// The status of an answer.
+fn answer_status(answer: &Answer) -> Status
+    ensures { result ≡ answer_status answer.now }
+{
+    match answer {
+        Answer::Judged(Verdict::Complete { .. }) => Status::Whole,
+        Answer::Judged(Verdict::Impossible { .. }) => Status::Impossible,
+        Answer::Judged(_) => Status::NotWhole,
+        Answer::RefusedAt { .. } => Status::Refused,
+    }
+}
+
+/// More bytes than a log's text can have.
+const READ_AT_MOST: usize = 130_000_001;
+
+/// Judges the log that a source hands out, and writes the answer's one line.
+pub fn run_check<R: Source, W: Sink>(
+    alloc: Global,
+    source: &mut R,
+    sink: &mut W,
+) -> Result<Status, RunFault>
+    ensures answer { IfOk result (λ s. Answers (R.left source.old) (R.left source.new) (W.taken sink.old) (W.taken sink.new) s) }
+    ensures read { IfErr result (λ e. (e ≡ RunFault.Read) ↔ (R.has_failed source.new ≡ true)) }
+    ensures was_read { OnOk result (R.has_failed source.new ≡ false) }
+    ensures unwritten { IfErr result (λ e. e ≢ RunFault.Write → sink.new ≡ sink.old) }
+    ensures write { IfErr result (λ e. e ≡ RunFault.Write → W.has_failed sink.new ≡ true) }
+    ensures not_again { W.has_failed sink.old ≡ true → sink.new ≡ sink.old }
+    ensures was_written { OnOk result (W.has_failed sink.new ≡ false) }
+    ensures begun { IfErr result (λ e. e ≡ RunFault.Write → AnswersInPart (R.left source.old) (R.left source.new) (W.taken sink.old) (W.taken sink.new)) }
+    ensures complete { OnOk result ((before rest : List ℕ) → W.taken sink.old ≡ Some before
+        → W.taken sink.new ≡ Some (before ++ (codes "complete " ++ rest))
+        → HandsOutComplete (R.left source.old) (R.left source.new) rest) }
+{
+    let text = match read_whole(alloc, source, READ_AT_MOST) {
+        Ok(text) => text,
+        Err(ReadFault::Read) => return Err(RunFault::Read),
+        Err(ReadFault::Memory) => return Err(RunFault::Memory),
+    };
+    let answer = judge_text(alloc, &text)?;
+    let line = answer_line(&answer);
+    send(sink, line.as_slice())?;
+    Ok(answer_status(&answer))
+}
