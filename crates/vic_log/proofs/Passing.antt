@@ -89,7 +89,7 @@ HasRead-empty lines log r =
       first = λ m lt. let zero_is : m ≡ 0 = omega arith in ap (fault_on lines) zero_is;
     }
 
-past_end : (lines : List (List ℕ)) (k : ℕ) → 0 < k → length lines ≤ k → fault_on lines (suc k) ≡ None
+pub past_end : (lines : List (List ℕ)) (k : ℕ) → 0 < k → length lines ≤ k → fault_on lines (suc k) ≡ None
 past_end lines (suc k) some le = ap (line_fault (entries (log_upto lines (suc k))) (suc (suc k))) (slice_get_past lines (suc k) le)
     ∙ ap (λ b. if b then Some Header else None) (ne_eqb (suc (suc k)) 1 (λ e. absurd (omega arith)))
 past_end lines zero some le = absurd (omega arith)

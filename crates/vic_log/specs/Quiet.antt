@@ -1,5 +1,5 @@
 -- Which tags are Quiet (ISO/IEC 15693-3, Stay Quiet), found by looking back from a place.
-use Rattle.std.specs.Prelude.{ℕ, zero, suc, ◌==◌, Bool, true, false, not, ◌&&◌, ◌||◌, Option, Some, None, List, slice_get}
+use Rattle.std.specs.Prelude.{◌≡◌, ◌≢◌, ◌<◌, ℕ, zero, suc, ◌==◌, Bool, true, false, not, ◌&&◌, ◌||◌, Option, Some, None, List, slice_get}
 use Rattle.vic_frame.specs.declared.request.Request.TheVariants.{StayQuiet}
 use Rattle.vic_log.specs.declared.entry.Entry.{Entry}
 use Rattle.vic_log.specs.declared.entry.Entry.TheVariants.{Sent, FieldCycle}
@@ -20,3 +20,8 @@ wakes None = false
 abbrev pub is_quiet : List Entry → ℕ → ℕ → Bool
 is_quiet es zero u = false
 is_quiet es (suc j) u = silences (slice_get es j) u || (not (wakes (slice_get es j)) && is_quiet es j u)
+
+-- the same, said of all places between
+abbrev pub IsSilenced : List Entry → ℕ → ℕ → Type 0
+IsSilenced es i u =
+    (j : ℕ) × (j < i) × (silences (slice_get es j) u ≡ true) × ((k : ℕ) → j < k → k < i → slice_get es k ≢ Some FieldCycle)

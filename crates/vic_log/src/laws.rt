@@ -1,6 +1,6 @@
 //! Laws on logs and their text.
 
-ghost use Rattle.std.specs.Prelude.{◌≡◌, ◌++◌, ◌∷◌, ◌↔◌, ℕ, [], List, None};
+ghost use Rattle.std.specs.Prelude.{◌≡◌, ◌++◌, ◌∷◌, ◌↔◌, ◌⊎◌, ℕ, true, [], List, None};
 ghost use Rattle.vic_log.specs.declared.entry.Entry.{Entry};
 ghost use Rattle.vic_log.specs.declared.entry.LogLine.{LogLine};
 ghost use Rattle.vic_log.specs.declared.entry.Version.TheVariants.{V1};
@@ -11,7 +11,7 @@ ghost use Rattle.vic_log.specs.Lines.{lines_of_text};
 ghost use Rattle.vic_log.specs.Log.{IsLog};
 ghost use Rattle.vic_log.specs.Order.{IsInOrder, entries, refusal};
 ghost use Rattle.vic_log.specs.Populations.{Outcome, Fits};
-ghost use Rattle.vic_log.specs.Quiet.{is_quiet};
+ghost use Rattle.vic_log.specs.Quiet.{is_quiet, IsSilenced};
 ghost use Rattle.vic_log.specs.Rounds.{opener};
 ghost use Rattle.vic_log.specs.Text.{IsLogOf, IsFirstFault};
 ghost use Rattle.vic_log.specs.Writing.{text_of, numbered};
@@ -21,8 +21,9 @@ pub fn text_reads_back()
     ensures { (lines : List LogLine) → IsLog V1 lines → IsLogOf (lines_of_text (text_of (record { lines = lines; version = V1 }))) (numbered 2 (entries lines)) }
 {}
 
-/// A text has at most one first fault, and none where it has a log.
+/// A text has a log or a first fault, never both, and never two.
 pub fn one_answer()
+    ensures some { (lines : List (List ℕ)) → ((n : ℕ) × (f : LineFault) × IsFirstFault lines n f) ⊎ ((log : List LogLine) × IsLogOf lines log) }
     ensures fault { (lines : List (List ℕ)) (n m : ℕ) (f g : LineFault) → IsFirstFault lines n f → IsFirstFault lines m g → (n ≡ m) × (f ≡ g) }
     ensures log { (lines : List (List ℕ)) (n : ℕ) (f : LineFault) (log : List LogLine) → IsFirstFault lines n f → IsLogOf lines log → ⊥ }
 {}
@@ -35,6 +36,11 @@ pub fn early_fault_stays()
 /// Entries in order stay in order with one more exactly where nothing refuses it.
 pub fn push_keeps_order()
     ensures { (es : List Entry) (e : Entry) → IsInOrder es → IsInOrder (es ++ e ∷ []) ↔ (refusal es e ≡ None) }
+{}
+
+/// A tag is Quiet at a place exactly where a Stay Quiet with its UID stands before, and no field cycle between.
+pub fn quiet_since_stay_quiet()
+    ensures { (es : List Entry) (i u : ℕ) → (is_quiet es i u ≡ true) ↔ IsSilenced es i u }
 {}
 
 /// On entries of version 1, rounds, Quiet tags and outcomes are what they are without garbled slots and field cycles.

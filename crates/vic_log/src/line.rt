@@ -1,25 +1,27 @@
 //! One line.
 
-ghost use Rattle.std.specs.Prelude.{◌≡◌, ◌≤◌, ◌*◌, MatchResult, IfOk, IfSome, length, take};
+ghost use Rattle.std.specs.Prelude.{◌≡◌, ◌≤◌, Ok, IfOk, IfErr, IfSome, IsErr, length};
 ghost use Rattle.vic_log.specs.Log.{IsValidEntry};
 ghost use Rattle.vic_log.specs.FirstVersion.{IsOfFirstVersion};
 ghost use Rattle.hex.specs.Hex.{decode_of};
 ghost use Rattle.vic_frame.specs.Reading.{request_reading, reply_reading};
-ghost use Rattle.vic_log.specs.LineReading.{line_reading, with_bytes, sent, heard, listed_uid};
+ghost use Rattle.vic_log.specs.declared.fault.LineFault.TheVariants.{Hex};
+ghost use Rattle.vic_log.specs.LineReading.{line_reading, sent, heard, listed_uid};
 
 use crate::entry::Entry;
 use crate::fault::LineFault;
 use vic_frame::{Uid, read_request, read_response};
 
-/// The bytes that hex digits spell, at the front of some room, and how many they are.
-fn decode(digits: &[u8], room: &mut [u8]) -> Option<usize>
-    requires { length digits.now ≤ 2 * length room.old }
-    ensures { MatchResult (decode_of digits.now) (λ bytes. (result ≡ Some (length bytes)) × (take (length bytes) room.new ≡ bytes)) (λ _. result ≡ None) }
+/// The bytes that hex digits spell, in some room.
+fn decode<'a>(digits: &[u8], room: &'a mut [u8; 63]) -> Result<&'a [u8], LineFault>
+    requires { length digits.now ≤ 126 }
+    ensures ok { IfOk result (λ bytes. decode_of digits.now ≡ Ok bytes.now) }
+    ensures err { IfErr result (λ e. (e ≡ Hex) × IsErr (decode_of digits.now)) }
 {
-    let count = digits.len() / 2;
-    match hex::decode_to_slice(digits, &mut room[..count]) {
-        Ok(()) => Some(count),
-        Err(_) => None,
+    let bytes = &mut room[..digits.len() / 2];
+    match hex::decode_to_slice(digits, bytes) {
+        Ok(()) => Ok(bytes),
+        Err(_) => Err(LineFault::Hex),
     }
 }
 
@@ -65,45 +67,6 @@ fn uid_entry(bytes: &[u8]) -> Result<Option<Entry>, LineFault>
     }
 }
 
-fn sent(digits: &[u8]) -> Result<Option<Entry>, LineFault>
-    requires { length digits.now ≤ 126 }
-    ensures reading { result ≡ with_bytes (λ bytes. sent (request_reading bytes)) (decode_of digits.now) }
-    ensures valid { IfOk result (λ entry. IfSome entry IsValidEntry) }
-    ensures first_version { IfOk result (λ entry. IfSome entry IsOfFirstVersion) }
-{
-    let mut room = [0; 63];
-    let Some(count) = decode(digits, &mut room) else {
-        return Err(LineFault::Hex);
-    };
-    request_entry(&room[..count])
-}
-
-fn heard(digits: &[u8]) -> Result<Option<Entry>, LineFault>
-    requires { length digits.now ≤ 126 }
-    ensures reading { result ≡ with_bytes (λ bytes. heard (reply_reading bytes)) (decode_of digits.now) }
-    ensures valid { IfOk result (λ entry. IfSome entry IsValidEntry) }
-    ensures first_version { IfOk result (λ entry. IfSome entry IsOfFirstVersion) }
-{
-    let mut room = [0; 63];
-    let Some(count) = decode(digits, &mut room) else {
-        return Err(LineFault::Hex);
-    };
-    reply_entry(&room[..count])
-}
-
-fn listed(digits: &[u8]) -> Result<Option<Entry>, LineFault>
-    requires { length digits.now ≤ 126 }
-    ensures reading { result ≡ with_bytes listed_uid (decode_of digits.now) }
-    ensures valid { IfOk result (λ entry. IfSome entry IsValidEntry) }
-    ensures first_version { IfOk result (λ entry. IfSome entry IsOfFirstVersion) }
-{
-    let mut room = [0; 63];
-    let Some(count) = decode(digits, &mut room) else {
-        return Err(LineFault::Hex);
-    };
-    uid_entry(&room[..count])
-}
-
 /// The entry on one line after the header, without its end; None where the line is passed over.
 pub fn line_entry(line: &[u8]) -> Result<Option<Entry>, LineFault>
     ensures reading { result ≡ line_reading line.now }
@@ -127,10 +90,11 @@ pub fn line_entry(line: &[u8]) -> Result<Option<Entry>, LineFault>
         return Err(LineFault::UnknownEntry);
     }
     let digits = &line[2..];
+    let mut room = [0; 63];
     match line[0] {
-        b'T' => sent(digits),
-        b'R' => heard(digits),
-        b'U' => listed(digits),
+        b'T' => request_entry(decode(digits, &mut room)?),
+        b'R' => reply_entry(decode(digits, &mut room)?),
+        b'U' => uid_entry(decode(digits, &mut room)?),
         _ => Err(LineFault::UnknownEntry),
     }
 }
