@@ -170,11 +170,11 @@ repeats_front : (es fs : List Entry) (r : Repeats) → AreRepeats (es ++ fs) r �
 repeats_front es fs r h = record {
   flags = let long : length (es ++ fs) ≡ length es + length fs = length-append es fs in let all = h.flags in omega arith;
   places = let long : length (es ++ fs) ≡ length es + length fs = length-append es fs in let all = h.places in omega arith;
-  none = λ i below flag u.
+  known = λ i below flag u.
       let long : length (es ++ fs) ≡ length es + length fs = length-append es fs in
       let here = slots_agree i es (es ++ fs) (agree_at es fs i (omega arith)) in
       let next = slots_agree (suc i) es (es ++ fs) (agree_at es fs (suc i) (omega arith)) in
-      ap (λ s. is_open s u) next ∙ (h.none i (omega arith) flag u ∙ ap (λ s. is_open s u) (sym here));
+      ap (λ s. is_open s u) next ∙ (h.known i (omega arith) flag u ∙ ap (λ s. is_open s u) (sym here));
   again = λ i j below found.
       let long : length (es ++ fs) ≡ length es + length fs = length-append es fs in
       let there = h.again i j (omega arith) found in

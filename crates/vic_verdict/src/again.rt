@@ -1,4 +1,7 @@
 //! Slot lines that a later line says again.
+//!
+//! Between two field cycles tags only fall silent. So whoever answers in a later slot of a mask
+//! answered in the earlier ones too: of equal collisions the last one alone has to be looked at.
 
 ghost use Rattle.std.specs.Prelude.{◌≡◌, ℕ, suc, ◌<◌, false, List, Option, Some, IfOk, OnOk, slice_get, length};
 ghost use Rattle.vic_log.specs.declared.entry.Entry.{Entry as EntryValue};
@@ -20,7 +23,7 @@ struct LastSlots {
     garbled: BTreeMap<Mask, usize>,
 }
 
-/// Notes the place of a slot, and at the last place of such a slot that it is said again here.
+/// Notes the last place of a slot with this mask, and at the one before that it is said again here.
 fn note(
     last: &mut BTreeMap<Mask, usize>,
     again: &mut Vec<Option<usize>>,
@@ -38,7 +41,7 @@ fn note(
     Ok(())
 }
 
-/// Goes on past an entry.
+/// Notes the place of an entry, where it tells of a collision or a garbled slot.
 fn pass_again(
     last: &mut LastSlots,
     again: &mut Vec<Option<usize>>,

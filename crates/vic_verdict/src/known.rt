@@ -1,10 +1,13 @@
-//! Slot lines that rule out no more UIDs than those before them.
+//! Slot lines that rule out nobody whom the lines before them leave open.
+//!
+//! Between two field cycles tags only fall silent. So of those in a mask that aren't Quiet, a slot
+//! leaves nobody, or the one that was heard, and later slots of the mask can rule out no others.
 
 ghost use Rattle.std.specs.Prelude.{◌≡◌, ℕ, suc, Bool, true, List, Option, Some, IfOk, OnOk, IsTrue, slice_get, length};
 ghost use Rattle.vic_log.specs.declared.entry.Entry.{Entry as EntryValue};
 ghost use Rattle.vic_log.specs.Rounds.{mask_at};
 ghost use Rattle.vic_log.specs.Order.{IsInOrder, entries, AreValid};
-ghost use Rattle.vic_verdict.specs.Repeats.{RulesOutNone, RuleOutNone, open_and_ready, HasAtMost, TellsOf};
+ghost use Rattle.vic_verdict.specs.Repeats.{RulesOutNone, AreKnown, open_and_ready, HasAtMost, TellsOf};
 
 use crate::place::{Round, next_mask, pass_round};
 use std::alloc::{AllocError, Global};
@@ -12,7 +15,7 @@ use std::collections::BTreeMap;
 use vic_frame::{Mask, Uid};
 use vic_log::{Entry, LogLine};
 
-/// Notes who is left of a mask, at most one UID, and says whether that was known.
+/// Notes who is left of a mask, one UID at most, and says whether that was known.
 fn note(
     known: &mut BTreeMap<Mask, Option<Uid>>,
     mask: &Mask,
@@ -34,7 +37,7 @@ fn note(
     Ok(false)
 }
 
-/// Goes on past an entry, and says whether it is known to rule out nobody.
+/// Notes what an entry tells of the mask of its slot, and says whether that was known.
 fn pass_known(
     known: &mut BTreeMap<Mask, Option<Uid>>,
     mask: &Option<Mask>,
@@ -60,12 +63,12 @@ fn pass_known(
     }
 }
 
-/// For each line whether it is known to rule out no UID that is open before it.
-pub fn settled_lines(alloc: Global, lines: &[LogLine]) -> Result<Vec<bool>, AllocError>
+/// For each line whether the lines before it are known to rule out all that it rules out.
+pub fn lines_known(alloc: Global, lines: &[LogLine]) -> Result<Vec<bool>, AllocError>
     requires order { IsInOrder (entries lines.now) }
     requires valid { AreValid (entries lines.now) }
     ensures long { IfOk result (λ flags. length flags.items ≡ length lines.now) }
-    ensures none { IfOk result (λ flags. RuleOutNone (entries lines.now) flags.items) }
+    ensures known { IfOk result (λ flags. AreKnown (entries lines.now) flags.items) }
 {
     let mut flags = Vec::new(alloc);
     let mut known = BTreeMap::new(alloc);

@@ -56,7 +56,7 @@ pub fn settle_all<S: OpenSet>(
     let mut set = S::everything(alloc)?;
     let mut place = Place::first(alloc);
     for (index, line) in lines.iter().enumerate() {
-        if !repeats.rules_out_none(index) {
+        if !repeats.is_known(index) {
             settle_slot(alloc, &mut set, &place, &line.item)?;
         }
         place.pass(&line.item)?;

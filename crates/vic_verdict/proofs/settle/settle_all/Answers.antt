@@ -6,7 +6,7 @@ use Rattle.vic_log.specs.Slots.{slots_before, is_open}
 use Rattle.vic_verdict.proofs.Skipping.{skipped_open}
 use Rattle.vic_verdict.proofs.Stands.{entry_at, open_first}
 use Rattle.vic_verdict.proofs.settle.settle_all.Goals as goal
-use Rattle.vic_verdict.proofs.settle.settle_all.Goals.{then-not-rules_out_none+in_ok-settle_slot, else-not-rules_out_none}
+use Rattle.vic_verdict.proofs.settle.settle_all.Goals.{then-not-is_known+in_ok-settle_slot, else-not-is_known}
 
 pub loop-index-init : goal.loop-index-init
 loop-index-init g c = record {
@@ -23,11 +23,11 @@ loop-index-preserved g c =
     let at = c.loop-index.invariant.place in
     let before = c.loop-index.invariant.uids in
     record {
-      uids = elim c.if-not-rules_out_none.branch [
-        | then-not-rules_out_none+in_ok-settle_slot w ↦
+      uids = elim c.if-not-is_known.branch [
+        | then-not-is_known+in_ok-settle_slot w ↦
             subst (λ s. SameUids (g.S.OpenSet.is_open s) (is_open (slots_before es (i + 1)))) (sym w.set-is) (w.in_ok-settle_slot.ensures es i (record { valid = c.requires.valid; here = here; place = at }) before)
-        | else-not-rules_out_none w ↦
-            subst (λ s. SameUids (g.S.OpenSet.is_open s) (is_open (slots_before es (i + 1)))) (sym w.set-is) (skipped_open es i (g.S.OpenSet.is_open c.loop-index.set) (c.rules_out_none.ensures es c.requires.repeats (slice_get_within es i e here) w.if-not-rules_out_none.false) before)
+        | else-not-is_known w ↦
+            subst (λ s. SameUids (g.S.OpenSet.is_open s) (is_open (slots_before es (i + 1)))) (sym w.set-is) (skipped_open es i (g.S.OpenSet.is_open c.loop-index.set) (c.is_known.ensures es c.requires.repeats (slice_get_within es i e here) w.if-not-is_known.false) before)
       ];
       place = c.in_ok-pass.ensures es i c.requires.order here at;
     }

@@ -3,7 +3,7 @@ use Rattle.std.specs.Prelude.{slice_get}
 use Rattle.vic_log.specs.Order.{entries}
 use Rattle.vic_verdict.specs.Repeats.{RulesOutNone, TellsOf, open_and_ready}
 use Rattle.vic_verdict.proofs.OpenRounds.{IsOpenRound}
-use Rattle.vic_verdict.proofs.known.settled_lines.Given as goal
+use Rattle.vic_verdict.proofs.known.lines_known.Given as goal
 
 abbrev pub invariant-loop-line : goal.invariant-loop-line
 invariant-loop-line l = record {

@@ -4,7 +4,7 @@ use Rattle.vic_log.specs.Order.{entries}
 use Rattle.vic_verdict.specs.Repeats.{RulesOutNone, TellsOf, open_and_ready}
 use Rattle.vic_verdict.proofs.Stands.{entry_at}
 use Rattle.vic_verdict.proofs.OpenRounds.{next_round, pushed}
-use Rattle.vic_verdict.proofs.known.settled_lines.Goals as goal
+use Rattle.vic_verdict.proofs.known.lines_known.Goals as goal
 
 pub loop-line-preserved : goal.loop-line-preserved
 loop-line-preserved c =
