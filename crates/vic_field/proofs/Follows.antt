@@ -1,5 +1,5 @@
 -- What entries in order leave for the next entry, and whom they list.
-use Rattle.std.proofs.Common.{◌≡◌, ℕ, zero, suc, ◌<◌, ◌≤◌, Bool, true, false, not, List, [], ◌∷◌, length, take, Some, None, refl, sym, ap, ◌∙◌, arith, ⊎_elim}
+use Rattle.std.proofs.Common.{◌≡◌, ℕ, zero, suc, ◌<◌, ◌≤◌, Bool, true, false, not, List, [], ◌∷◌, take, Some, None, refl, sym, ap, ◌∙◌, arith, ⊎_elim}
 use Rattle.std.specs.Prelude.{◌≢◌, slice_get, if◌then◌else◌}
 use Rattle.std.proofs.lemmas.Bool.{false_from_ne_true, false≢true}
 use Rattle.vic_frame.specs.Uids.{IsUid, has}
@@ -7,14 +7,14 @@ use Rattle.vic_log.specs.declared.entry.Entry.{Entry}
 use Rattle.vic_log.specs.declared.entry.Entry.TheVariants.{Sent, Silent, Collision, Heard, Listed, Garbled, FieldCycle}
 use Rattle.vic_log.specs.declared.fault.PushFault.TheVariants.{EntryAfterList, DuplicateListed}
 use Rattle.vic_log.specs.declared.entry.LogLine.{LogLine}
-use Rattle.vic_log.specs.Order.{entries, IsInOrder, listed, is_empty, refusal}
+use Rattle.vic_log.specs.Order.{IsInOrder, listed, is_empty, refusal}
 use Rattle.vic_log.specs.Log.{AreTyped}
 use Rattle.vic_log.specs.Populations.{IsPopulation}
 use Rattle.vic_log.specs.Rounds.{is_slot}
 use Rattle.vic_log.proofs.Sets.{has_here, has_there, has_cases}
 use Rattle.vic_field.specs.declared.session.SimFault.{SimFault}
 use Rattle.vic_field.specs.declared.session.SimFault.TheVariants.{OutcomeGiven, TooManyLines, Memory}
-use Rattle.vic_field.specs.Simulation.{without_slots, line_count, HasNoSlots, RefusesLines}
+use Rattle.vic_field.specs.Simulation.{without_slots, line_count, last_needed, HasNoSlots, RefusesLines}
 use Rattle.vic_field.specs.Steps.{StopsBefore}
 
 -- ---- whom entries list
@@ -110,7 +110,7 @@ line_count-front [] (suc n) = omega arith
 line_count-front (e ∷ es) (suc n) = let h = line_count-front es n in omega arith
 
 -- what stops the next lines refuses all
-pub refuses : (lines : List LogLine) (n : ℕ) (fault : SimFault) → HasNoSlots (length lines) lines → n ≤ suc (line_count (entries lines)) → StopsBefore n fault → RefusesLines lines fault
+pub refuses : (lines : List LogLine) (n : ℕ) (fault : SimFault) → HasNoSlots lines → n ≤ last_needed lines → StopsBefore n fault → RefusesLines lines fault
 refuses lines n (OutcomeGiven line) free le h = absurd h
 refuses lines n TooManyLines free le h = (free, omega arith)
 refuses lines n Memory free le h = free

@@ -14,7 +14,7 @@ use Rattle.std.proofs.lemmas.Option.{slice_get-map}
 use Rattle.vic_log.specs.Log.{IsValidEntry}
 use Rattle.vic_log.specs.Order.{entries, listed}
 use Rattle.vic_log.proofs.Push.{listed-append}
-use Rattle.vic_field.specs.Simulation.{HasNoSlots}
+use Rattle.vic_field.specs.Simulation.{HasNoSlotsBefore}
 use Rattle.vic_log.specs.Rounds.{is_slot}
 
 -- one line more
@@ -37,7 +37,7 @@ ready_next false true r s e f = f
 ready_next false false r s e f = f ∙ e
 
 -- one line more that tells of no slot
-pub no_slots_next : (n : ℕ) (lines : List LogLine) (l : LogLine) → HasNoSlots n lines → slice_get lines n ≡ Some l → is_slot l.item ≡ false → HasNoSlots (suc n) lines
+pub no_slots_next : (n : ℕ) (lines : List LogLine) (l : LogLine) → HasNoSlotsBefore n lines → slice_get lines n ≡ Some l → is_slot l.item ≡ false → HasNoSlotsBefore (suc n) lines
 no_slots_next n lines l h k s i m below there =
     ⊎_elim
     (λ same. let it : Some l ≡ Some m = sym k ∙ (ap (slice_get lines) (sym same) ∙ there) in let is : l ≡ m = cc in subst (λ (x : LogLine). is_slot x.item ≡ false) is s)

@@ -30,7 +30,7 @@ IsPlain e = ⊤
 abbrev pub ArePlain : List Entry → Type 0
 ArePlain es = (i : ℕ) (e : Entry) → slice_get es i ≡ Some e → IsPlain e
 
--- the filled lines are those given, with all slots, as the listed UIDs as a population could have given them
+-- how lines are filled: those given stay, each slot has its line, and the listed UIDs are a population that could have given all of it
 pub record IsSimulation (given filled : List LogLine) : Type 0 where
   pub kept : without_slots (entries filled) ≡ entries given
   pub slots : HasAllSlots (entries filled)
@@ -44,9 +44,17 @@ abbrev pub line_count : List Entry → ℕ
 line_count [] = 0
 line_count (e ∷ es) = suc (slots_opened (Some e)) + line_count es
 
+-- the number of the last of them, behind the header
+abbrev pub last_needed : List LogLine → ℕ
+last_needed lines = suc (line_count (entries lines))
+
 -- the first n lines tell of no slot
-abbrev pub HasNoSlots : ℕ → List LogLine → Type 0
-HasNoSlots n lines = (i : ℕ) (l : LogLine) → i < n → slice_get lines i ≡ Some l → is_slot l.item ≡ false
+abbrev pub HasNoSlotsBefore : ℕ → List LogLine → Type 0
+HasNoSlotsBefore n lines = (i : ℕ) (l : LogLine) → i < n → slice_get lines i ≡ Some l → is_slot l.item ≡ false
+
+-- no line tells of a slot
+abbrev pub HasNoSlots : List LogLine → Type 0
+HasNoSlots lines = HasNoSlotsBefore (length lines) lines
 
 -- the first line that tells of a slot has the number n
 pub record IsFirstSlot (lines : List LogLine) (n : ℕ) : Type 0 where
@@ -54,11 +62,11 @@ pub record IsFirstSlot (lines : List LogLine) (n : ℕ) : Type 0 where
   pub line : LogLine
   pub here : slice_get lines place ≡ Some line
   pub number : line.number ≡ n
-  pub is_slot_line : is_slot line.item ≡ true
-  pub first : HasNoSlots place lines
+  pub tells : is_slot line.item ≡ true
+  pub first : HasNoSlotsBefore place lines
 
 -- why lines aren't simulated: a slot line is there; else a line above 1,000,000 would be needed, or memory is wanting
 abbrev pub RefusesLines : List LogLine → SimFault → Type 0
 RefusesLines lines (OutcomeGiven n) = IsFirstSlot lines n
-RefusesLines lines TooManyLines = HasNoSlots (length lines) lines × (1000000 < suc (line_count (entries lines)))
-RefusesLines lines Memory = HasNoSlots (length lines) lines
+RefusesLines lines TooManyLines = HasNoSlots lines × (1000000 < last_needed lines)
+RefusesLines lines Memory = HasNoSlots lines

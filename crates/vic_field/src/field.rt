@@ -42,9 +42,10 @@ impl From<AllocError> for AddFault {
     }
 }
 
-/// The tags of a field, by their low bits, and whether each is Ready.
+/// The tags of a field, each Ready or Quiet. No two have one UID.
 #[derive(Drop)]
 pub struct Field {
+    /// Whether each tag is Ready, in the order of the low bits of UIDs.
     order: BTreeMap<u64, bool>,
 }
 
@@ -132,8 +133,8 @@ impl Field {
 
     /// What a reader hears of the Ready tags in a mask. Takes no memory.
     ///
-    /// It looks at the tags of the mask alone, up to the second that is Ready. Quiet tags in the
-    /// mask are passed over one by one.
+    /// It looks at the tags of the mask alone, up to the second that is Ready; the Quiet tags before
+    /// that are passed over one by one.
     pub fn answer(&self, mask: &Mask) -> Outcome
         ensures heard { result ≡ heard (ready_in mask.now self.now) }
         ensures population { IsPopulation (uids self.now) }

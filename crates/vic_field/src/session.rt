@@ -1,9 +1,9 @@
 //! The log of a session with the tags that a log lists.
 
-ghost use Rattle.std.specs.Prelude.{◌≡◌, ℕ, suc, ◌+◌, ◌<◌, ◌≤◌, ◌++◌, [], ◌∷◌, List, length, true, false, Some, None, IfOk, IfErr, OnOk, MatchOption, if◌then◌else◌};
+ghost use Rattle.std.specs.Prelude.{◌≡◌, ℕ, suc, ◌+◌, ◌<◌, ◌≤◌, ◌++◌, [], ◌∷◌, List, true, Some, None, IfOk, IfErr, OnOk, MatchOption, if◌then◌else◌};
 ghost use Rattle.std.specs.Option.{option_map};
 ghost use Rattle.vic_field.specs.declared.session.SimFault.TheVariants.{Memory as NoRoom};
-ghost use Rattle.vic_field.specs.Simulation.{IsSimulation, HasNoSlots, IsFirstSlot, RefusesLines, line_count};
+ghost use Rattle.vic_field.specs.Simulation.{IsSimulation, HasNoSlots, IsFirstSlot, RefusesLines, last_needed};
 ghost use Rattle.vic_field.specs.Steps.{slot_line, slots_to, slots_of, with_entries, ready_after, StopsBefore};
 ghost use Rattle.vic_field.specs.Tags.{readiness, uids};
 ghost use Rattle.vic_frame.specs.Requests.{IsValid};
@@ -50,8 +50,8 @@ impl From<AllocError> for SimFault {
 pub fn simulate(alloc: Global, log: &Log) -> Result<Log, SimFault>
     ensures simulated { IfOk result (λ filled. IsSimulation log.now.lines filled.lines) }
     ensures version { IfOk result (λ filled. filled.version ≡ log.now.version) }
-    ensures no_slots { OnOk result (HasNoSlots (length log.now.lines) log.now.lines) }
-    ensures room { OnOk result (suc (line_count (entries log.now.lines)) ≤ 1000000) }
+    ensures no_slots { OnOk result (HasNoSlots log.now.lines) }
+    ensures room { OnOk result (last_needed log.now.lines ≤ 1000000) }
     ensures refused { IfErr result (RefusesLines log.now.lines) }
 {
     let lines = log.lines();
@@ -68,7 +68,7 @@ pub fn simulate(alloc: Global, log: &Log) -> Result<Log, SimFault>
 
 /// The number of the first line that tells of a slot.
 fn first_slot(lines: &[LogLine]) -> Option<u32>
-    ensures { MatchOption result (HasNoSlots (length lines.now) lines.now) (IsFirstSlot lines.now) }
+    ensures { MatchOption result (HasNoSlots lines.now) (IsFirstSlot lines.now) }
 {
     for line in lines {
         if is_slot(&line.item) {

@@ -13,7 +13,7 @@ returns-then-is_slot c = record {
   line = c.line-item.result;
   here = slice_get_read c.args.lines.now (length c.args.lines.now) c.loop-line.line-index c.line-item.result refl c.loop-line-test.true c.line-item.is;
   number = refl;
-  is_slot_line = sym c.is_slot.ensures ∙ c.if-is_slot.true;
+  tells = sym c.is_slot.ensures ∙ c.if-is_slot.true;
   first = c.loop-line.invariant;
 }
 

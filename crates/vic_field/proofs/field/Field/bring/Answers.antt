@@ -15,7 +15,7 @@ invariant_of-self-2 c =
     record {
       rising = c.in_ok-insert.ensures.ordered;
       small = subst (λ (es : List (ℕ × Bool)). All IsKey (keys_of es)) (sym c.in_ok-insert.ensures.entries)
-          (All-keys-insert_entry nat_cmp c.key.result true IsKey c.self.inside.order.entries c.self.invariant.small c.key.ensures.small);
+          (All-keys-insert_entry nat_cmp c.key.result _ IsKey c.self.inside.order.entries c.self.invariant.small c.key.ensures.small);
     }
 
 pub returns-clause-brought : goal.returns-clause-brought
