@@ -1,6 +1,6 @@
 //! What is wrong with a log, its text, or a device.
 
-ghost use Rattle.std.specs.Prelude.{◌≡◌, Some};
+ghost use Rattle.std.specs.Prelude.{◌≡◌, ◌≤◌, Some, length};
 ghost use Rattle.vic_log.specs.declared.fault.PushFault.TheVariants.{Memory as NoRoom};
 ghost use Rattle.vic_log.specs.Names.{line_fault_name};
 
@@ -66,23 +66,33 @@ pub enum LogFault {
 #[derive(Clone, Copy, PartialEq, Eq, Debug)]
 pub struct WriteFault;
 
-impl fmt::Display for LineFault {
-    ghost output = { λ e. Some (line_fault_name e) };
-
-    fn fmt<W: fmt::Write>(&self, f: &mut fmt::Formatter<W>) -> fmt::Result {
-        f.write_str(match self {
+impl LineFault {
+    /// Its name, of at most 16 bytes; that of a frame's fault is the frame's.
+    pub fn name(&self) -> &'static str
+        ensures name { result.now ≡ line_fault_name self.now }
+        ensures short { length result.now ≤ 16 }
+    {
+        match self {
             LineFault::TooManyLines => "TooManyLines",
             LineFault::LineTooLong => "LineTooLong",
             LineFault::Header => "Header",
             LineFault::UnknownEntry => "UnknownEntry",
             LineFault::Hex => "Hex",
             LineFault::ListedLength => "ListedLength",
-            LineFault::Frame(fault) => return fault.fmt(f),
+            LineFault::Frame(fault) => fault.name(),
             LineFault::NotVicinity => "NotVicinity",
             LineFault::SlotOutsideRound => "SlotOutsideRound",
             LineFault::EntryAfterList => "EntryAfterList",
             LineFault::DuplicateListed => "DuplicateListed",
-        })
+        }
+    }
+}
+
+impl fmt::Display for LineFault {
+    ghost output = { λ e. Some (line_fault_name e) };
+
+    fn fmt<W: fmt::Write>(&self, f: &mut fmt::Formatter<W>) -> fmt::Result {
+        f.write_str(self.name())
     }
 }
 

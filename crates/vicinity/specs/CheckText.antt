@@ -1,9 +1,7 @@
 -- What `check` answers to a text: the line and the status of its verdict, or of its refusal.
 use Rattle.std.specs.Prelude.{◌≡◌, ℕ, List, ◌++◌, length, codes, decimal}
-use Rattle.vic_frame.specs.Names.{fault_name}
 use Rattle.vic_log.specs.declared.entry.LogLine.{LogLine}
 use Rattle.vic_log.specs.declared.fault.LineFault.{LineFault}
-use Rattle.vic_log.specs.declared.fault.LineFault.TheVariants.{TooManyLines, LineTooLong, Header, UnknownEntry, Hex, ListedLength, Frame, NotVicinity, SlotOutsideRound, EntryAfterList, DuplicateListed}
 use Rattle.vic_log.specs.Lines.{lines_of_text}
 use Rattle.vic_log.specs.Order.{entries, listed}
 use Rattle.vic_log.specs.Text.{IsLogOf, IsFirstFault}
@@ -11,6 +9,7 @@ use Rattle.vic_verdict.specs.declared.verdict.Verdict.{Verdict}
 use Rattle.vic_verdict.specs.declared.verdict.Verdict.TheVariants.{Impossible, Absent, Unlisted, Unsettled, Doubtful, Complete}
 use Rattle.vic_verdict.specs.Verdict.{IsVerdict, IsSettled}
 use Rattle.vicinity.specs.Digits.{uid_text, value_text}
+use Rattle.vicinity.specs.Refusals.{refusal_line}
 use Rattle.vicinity.specs.declared.status.Status.{Status}
 use Rattle.vicinity.specs.declared.status.Status.TheVariants.{Whole, NotWhole, Impossible as NoPopulation, Refused}
 use Rattle.vicinity.specs.declared.check.Answer.{Answer}
@@ -31,24 +30,6 @@ verdict_status (Complete count) = Whole
 verdict_status (Impossible n) = NoPopulation
 verdict_status v = NotWhole
 
--- the name of a line's fault
-abbrev pub line_fault_name : LineFault → List ℕ
-line_fault_name TooManyLines = codes "TooManyLines"
-line_fault_name LineTooLong = codes "LineTooLong"
-line_fault_name Header = codes "Header"
-line_fault_name UnknownEntry = codes "UnknownEntry"
-line_fault_name Hex = codes "Hex"
-line_fault_name ListedLength = codes "ListedLength"
-line_fault_name (Frame fault) = fault_name fault
-line_fault_name NotVicinity = codes "NotVicinity"
-line_fault_name SlotOutsideRound = codes "SlotOutsideRound"
-line_fault_name EntryAfterList = codes "EntryAfterList"
-line_fault_name DuplicateListed = codes "DuplicateListed"
-
--- the line of a refusal
-abbrev pub refusal_line : ℕ → LineFault → List ℕ
-refusal_line n fault = codes "refused at line " ++ decimal n ++ codes ": " ++ line_fault_name fault ++ codes "\n"
-
 -- the verdict on the log of a text, or the text's first fault
 abbrev pub IsAnswer : List ℕ → Answer → Type 0
 IsAnswer text (Judged v) = (log : List LogLine) × IsLogOf (lines_of_text text) log × IsVerdict log v
@@ -61,6 +42,13 @@ answer_line (RefusedAt n fault) = refusal_line n fault
 abbrev pub answer_status : Answer → Status
 answer_status (Judged v) = verdict_status v
 answer_status (RefusedAt n fault) = Refused
+
+-- the line and the status of the answer to a text
+pub record IsCheckOf (text line : List ℕ) (status : Status) : Type 0 where
+  pub answer : Answer
+  pub right : IsAnswer text answer
+  pub line_is : line ≡ answer_line answer
+  pub status_is : status ≡ answer_status answer
 
 -- the text has a log that is settled, and lists so many UIDs: some population could have given the log, and each that
 -- could has exactly the UIDs that it lists

@@ -2,15 +2,17 @@
 
 ghost use Rattle.std.specs.Prelude.{◌≡◌, ◌≢◌, ◌↔◌, ℕ, List, ◌++◌, true, false, Some, IfOk, IfErr, OnOk, codes};
 ghost use Rattle.vic_verdict.specs.declared.verdict.Verdict.TheVariants.{Complete};
-ghost use Rattle.vicinity.specs.CheckText.{IsAnswer, IsCompleteText, answer_line, answer_status};
-ghost use Rattle.vicinity.specs.CheckRun.{Answers, AnswersInPart, HandsOutComplete};
+ghost use Rattle.vicinity.specs.CheckText.{IsAnswer, IsCheckOf, IsCompleteText, answer_line, answer_status};
+ghost use Rattle.vicinity.specs.Runs.{Answers, AnswersInPart};
+ghost use Rattle.vicinity.specs.CompleteRun.{HandsOutComplete};
 
 use crate::digits::Text;
+use crate::input::read_text;
 use crate::output::send;
 use crate::status::{RunFault, Status};
 use crate::text::{refusal_line, verdict_line};
 use std::alloc::{AllocError, Global};
-use vic_log::{LineFault, LogFault, ReadFault, Sink, Source, read_log, read_whole};
+use vic_log::{LineFault, LogFault, Sink, Source, read_log};
 use vic_verdict::{Verdict, judge};
 
 /// What is answered to a text.
@@ -59,34 +61,29 @@ fn answer_status(answer: &Answer) -> Status
     }
 }
 
-/// More bytes than a log's text can have.
-const READ_AT_MOST: usize = 130_000_001;
-
 /// Judges the log that a source hands out, and writes the answer's one line.
 pub fn run_check<R: Source, W: Sink>(
     alloc: Global,
     source: &mut R,
     sink: &mut W,
 ) -> Result<Status, RunFault>
-    ensures answer { IfOk result (λ s. Answers (R.left source.old) (R.left source.new) (W.taken sink.old) (W.taken sink.new) s) }
+    ensures answer { IfOk result (λ s. Answers IsCheckOf (R.left source.old) (R.left source.new) (W.taken sink.old) (W.taken sink.new) s) }
     ensures read { IfErr result (λ e. (e ≡ RunFault.Read) ↔ (R.has_failed source.new ≡ true)) }
     ensures was_read { OnOk result (R.has_failed source.new ≡ false) }
+    ensures not_read_again { R.has_failed source.old ≡ true → source.new ≡ source.old }
     ensures unwritten { IfErr result (λ e. e ≢ RunFault.Write → sink.new ≡ sink.old) }
     ensures write { IfErr result (λ e. e ≡ RunFault.Write → W.has_failed sink.new ≡ true) }
-    ensures not_again { W.has_failed sink.old ≡ true → sink.new ≡ sink.old }
+    ensures not_written_again { W.has_failed sink.old ≡ true → sink.new ≡ sink.old }
     ensures was_written { OnOk result (W.has_failed sink.new ≡ false) }
-    ensures begun { IfErr result (λ e. e ≡ RunFault.Write → AnswersInPart (R.left source.old) (R.left source.new) (W.taken sink.old) (W.taken sink.new)) }
+    ensures begun { IfErr result (λ e. e ≡ RunFault.Write → AnswersInPart IsCheckOf (R.left source.old) (R.left source.new) (W.taken sink.old) (W.taken sink.new)) }
     ensures complete { OnOk result ((before rest : List ℕ) → W.taken sink.old ≡ Some before
         → W.taken sink.new ≡ Some (before ++ (codes "complete " ++ rest))
         → HandsOutComplete (R.left source.old) (R.left source.new) rest) }
 {
-    let text = match read_whole(alloc, source, READ_AT_MOST) {
-        Ok(text) => text,
-        Err(ReadFault::Read) => return Err(RunFault::Read),
-        Err(ReadFault::Memory) => return Err(RunFault::Memory),
-    };
+    let text = read_text(alloc, source)?;
     let answer = judge_text(alloc, &text)?;
     let line = answer_line(&answer);
+    let status = answer_status(&answer);
     send(sink, line.as_slice())?;
-    Ok(answer_status(&answer))
+    Ok(status)
 }

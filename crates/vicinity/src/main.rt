@@ -4,7 +4,9 @@
 mod check;
 mod digits;
 mod frame;
+mod input;
 mod output;
+mod simulate;
 mod status;
 #[cfg(test)]
 mod tests;
@@ -13,10 +15,11 @@ mod words;
 
 use check::run_check;
 use frame::run_frame;
+use simulate::run_simulate;
 use status::{RunFault, Status, fault_text};
 use std::process::ExitCode;
 use std::{env, fs, io};
-use vic_log::{FromRead, ToWrite};
+use vic_log::{FromRead, Source, ToWrite};
 use words::{Task, WordsFault, read_words};
 
 /// The exit status of a run that has no answer.
@@ -36,12 +39,6 @@ fn no_answer(rt: &HostRuntime, why: &str) -> io::Result<ExitCode> {
     Ok(ExitCode::from(NO_ANSWER))
 }
 
-/// Says that a file can't be opened.
-fn cannot_open(rt: &HostRuntime, file: &str) -> io::Result<ExitCode> {
-    eprintln!(rt; "vicinity: cannot open {file}")?;
-    Ok(ExitCode::from(NO_ANSWER))
-}
-
 /// Ends as a run has ended.
 fn end(rt: &HostRuntime, answer: Result<Status, RunFault>) -> io::Result<ExitCode> {
     match answer {
@@ -50,17 +47,35 @@ fn end(rt: &HostRuntime, answer: Result<Status, RunFault>) -> io::Result<ExitCod
     }
 }
 
-/// Judges the log in a file, or that on standard input.
-fn check_file(rt: &HostRuntime, file: Option<String>) -> io::Result<ExitCode> {
+/// A command over the text of a log.
+#[derive(Clone, Copy)]
+enum Command {
+    Check,
+    Simulate,
+}
+
+/// Runs a command from a source to standard output.
+fn run<R: Source>(rt: &HostRuntime, command: Command, source: &mut R) -> io::Result<ExitCode> {
     let mut sink = ToWrite::new(rt.stdout());
-    let answer = match file {
-        None => run_check(rt.alloc(), &mut FromRead::new(rt.stdin()), &mut sink),
-        Some(file) => match fs::open(rt, file.as_str()) {
-            Ok(opened) => run_check(rt.alloc(), &mut FromRead::new(opened), &mut sink),
-            Err(_) => return cannot_open(rt, file.as_str()),
-        },
+    let answer = match command {
+        Command::Check => run_check(rt.alloc(), source, &mut sink),
+        Command::Simulate => run_simulate(rt.alloc(), source, &mut sink),
     };
     end(rt, answer)
+}
+
+/// Runs a command over a file, or over standard input where none is named.
+fn run_over(rt: &HostRuntime, command: Command, file: Option<String>) -> io::Result<ExitCode> {
+    let Some(file) = file else {
+        return run(rt, command, &mut FromRead::new(rt.stdin()));
+    };
+    match fs::open(rt, file.as_str()) {
+        Ok(opened) => run(rt, command, &mut FromRead::new(opened)),
+        Err(_) => {
+            eprintln!(rt; "vicinity: cannot open {file}")?;
+            Ok(ExitCode::from(NO_ANSWER))
+        }
+    }
 }
 
 fn main(rt: HostRuntime) -> io::Result<ExitCode> {
@@ -69,12 +84,13 @@ fn main(rt: HostRuntime) -> io::Result<ExitCode> {
         Err(fault) => Err(fault),
     };
     match task {
-        Ok(Task::Check(file)) => check_file(&rt, file),
+        Ok(Task::Check(file)) => run_over(&rt, Command::Check, file),
+        Ok(Task::Simulate(file)) => run_over(&rt, Command::Simulate, file),
         Ok(Task::Frame(word)) => {
-            let mut sink = ToWrite::new(rt.stdout());
-            end(&rt, run_frame(word.as_bytes(), &mut sink))
+            let answer = run_frame(word.as_bytes(), &mut ToWrite::new(rt.stdout()));
+            end(&rt, answer)
         }
-        Ok(Task::Simulate(_)) | Err(WordsFault::Usage) => no_answer(&rt, "vicinity: usage"),
-        Err(WordsFault::Memory) => no_answer(&rt, "vicinity: out of memory"),
+        Err(WordsFault::Usage) => no_answer(&rt, "vicinity: usage"),
+        Err(WordsFault::Memory) => no_answer(&rt, fault_text(&RunFault::Memory)),
     }
 }

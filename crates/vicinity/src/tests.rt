@@ -1,4 +1,8 @@
 //! The program's calls, with what they answer.
 
+mod check;
+mod damage;
 mod frame;
+mod logs;
+mod simulate;
 mod words;

@@ -4,6 +4,7 @@ ghost use Rattle.std.specs.Prelude.{◌≡◌, ◌≤◌, length};
 ghost use Rattle.arrayvec.specs.ArrayVec.{array_vec_len};
 ghost use Rattle.vicinity.specs.FrameText as spec;
 ghost use Rattle.vicinity.specs.CheckText as check;
+ghost use Rattle.vicinity.specs.Refusals as refusals;
 
 use crate::digits::{Text, put, put_bytes, put_decimal, put_value};
 use arrayvec::ArrayVec;
@@ -106,35 +107,23 @@ pub(crate) fn verdict_line(verdict: &Verdict) -> Text
     text
 }
 
-/// The name of a line's fault.
-fn fault_name(fault: &LineFault) -> &'static str
-    ensures name { result.now ≡ check.line_fault_name fault.now }
-    ensures short { length result.now ≤ 16 }
-{
-    match fault {
-        LineFault::TooManyLines => "TooManyLines",
-        LineFault::LineTooLong => "LineTooLong",
-        LineFault::Header => "Header",
-        LineFault::UnknownEntry => "UnknownEntry",
-        LineFault::Hex => "Hex",
-        LineFault::ListedLength => "ListedLength",
-        LineFault::Frame(fault) => fault.name(),
-        LineFault::NotVicinity => "NotVicinity",
-        LineFault::SlotOutsideRound => "SlotOutsideRound",
-        LineFault::EntryAfterList => "EntryAfterList",
-        LineFault::DuplicateListed => "DuplicateListed",
-    }
-}
-
-/// The line of a refusal.
-pub(crate) fn refusal_line(line: u32, fault: &LineFault) -> Text
-    ensures { result.items ≡ check.refusal_line line fault.now }
+/// The line of a refusal, by a reason with a name.
+pub(crate) fn refused_at(line: u32, name: &str) -> Text
+    requires { length name.now ≤ 16 }
+    ensures { result.items ≡ refusals.refused_at line name.now }
 {
     let mut text = ArrayVec::new();
     put(&mut text, "refused at line ");
     put_decimal(&mut text, line);
     put(&mut text, ": ");
-    put(&mut text, fault_name(fault));
+    put(&mut text, name);
     put(&mut text, "\n");
     text
+}
+
+/// The line of a refusal, by the fault of a line.
+pub(crate) fn refusal_line(line: u32, fault: &LineFault) -> Text
+    ensures { result.items ≡ refusals.refusal_line line fault.now }
+{
+    refused_at(line, fault.name())
 }

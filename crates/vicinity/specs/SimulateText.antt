@@ -1,0 +1,39 @@
+-- What `simulate` answers to a text: the text of the log with its slots filled in, or the line of a refusal.
+use Rattle.std.specs.Prelude.{◌≡◌, ℕ, suc, ◌<◌, List, length, codes}
+use Rattle.vic_log.specs.declared.entry.LogLine.{LogLine}
+use Rattle.vic_log.specs.declared.fault.LineFault.TheVariants.{TooManyLines as ManyLines}
+use Rattle.vic_log.specs.Lines.{lines_of_text}
+use Rattle.vic_log.specs.Order.{entries}
+use Rattle.vic_log.specs.Text.{IsLogOf, IsFirstFault}
+use Rattle.vic_log.specs.Writing.{text_of}
+use Rattle.vic_field.specs.Simulation.{IsSimulation, HasNoSlots, IsFirstSlot, line_count}
+use Rattle.vicinity.specs.Refusals.{refused_at, refusal_line}
+use Rattle.vicinity.specs.declared.status.Status.{Status}
+use Rattle.vicinity.specs.declared.status.Status.TheVariants.{Whole, Refused}
+use Rattle.vicinity.specs.declared.simulate.Filling.{Filling}
+use Rattle.vicinity.specs.declared.simulate.Filling.TheVariants.{Filled, RefusedAt, OutcomeGiven, TooManyLines}
+
+-- the log of a text with its slots filled in; or the text's first fault; or why its log can't be filled in: a slot
+-- line is there already; or none is, and a line above 1,000,000 would be needed
+abbrev pub IsFilling : List ℕ → Filling → Type 0
+IsFilling text (Filled log) = (given : List LogLine) × IsLogOf (lines_of_text text) given × IsSimulation given log.lines
+IsFilling text (RefusedAt n fault) = IsFirstFault (lines_of_text text) n fault
+IsFilling text (OutcomeGiven n) = (given : List LogLine) × IsLogOf (lines_of_text text) given × IsFirstSlot given n
+IsFilling text TooManyLines = (given : List LogLine) × IsLogOf (lines_of_text text) given × HasNoSlots (length given) given × (1000000 < suc (line_count (entries given)))
+
+abbrev pub filling_text : Filling → List ℕ
+filling_text (Filled log) = text_of log
+filling_text (RefusedAt n fault) = refusal_line n fault
+filling_text (OutcomeGiven n) = refused_at n (codes "OutcomeGiven")
+filling_text TooManyLines = refusal_line 1000001 ManyLines
+
+abbrev pub filling_status : Filling → Status
+filling_status (Filled log) = Whole
+filling_status f = Refused
+
+-- the text and the status of the answer to a text
+pub record IsSimulationOf (text answer : List ℕ) (status : Status) : Type 0 where
+  pub filling : Filling
+  pub right : IsFilling text filling
+  pub answer_is : answer ≡ filling_text filling
+  pub status_is : status ≡ filling_status filling
