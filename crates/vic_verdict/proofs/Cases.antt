@@ -13,7 +13,7 @@ use Rattle.vic_verdict.specs.Possible.{IsPossible, IsPossibleUid}
 use Rattle.vic_log.specs.Slots.{slots_of, is_open, IsForcedBy}
 use Rattle.vic_log.proofs.Sets.{IsUid-member}
 use Rattle.vic_log.specs.Order.{listed}
-use Rattle.vic_verdict.specs.Verdict.{IsAbsent, IsUnlisted, IsUnsettled, IsDoubtful, IsLeast, IsWidest, NoSuch}
+use Rattle.vic_verdict.specs.Verdict.{IsAbsent, IsUnlisted, IsUnsettled, IsDoubtful, IsLeast, IsFirstMask, NoSuch}
 use Rattle.vic_verdict.specs.Rising.{SameMembers, IsListOf, IsFailing, without_all}
 use Rattle.vic_verdict.proofs.Decide.{IsPossibleUid-iff, IsCertainUid-iff}
 use Rattle.vic_verdict.proofs.Failing.{same_tests}
@@ -71,18 +71,13 @@ unsettled_from es set m left is_mask short all = (short, is_mask.1, λ u i k. le
 unsettled_open : (es : List Entry) (set : ℕ → Bool) (m : BitMask) → IsLeft es set → IsUnsettled es m → AllOpen set m
 unsettled_open es set m left h u i k = let w = h.2 u i k in left.back u i w.0 w.1
 
-pub widest_unsettled : (es : List Entry) (set : ℕ → Bool) (m : BitMask) → IsLeft es set → tree.IsWidest set m → IsWidest (IsUnsettled es) m
+pub widest_unsettled : (es : List Entry) (set : ℕ → Bool) (m : BitMask) → IsLeft es set → tree.IsWidest set m → IsFirstMask (IsUnsettled es) m
 widest_unsettled es set m left w = (
   unsettled_from es set m left w.is_mask w.short w.open_throughout,
   λ k h.
       let short = h.0 in
       let fits = h.1 in
-      let least = w.least k (omega arith, fits) short (unsettled_open es set k left h) in
-      let a = least.0 in
-      ⊎_elim
-      (λ lt. inl lt)
-      (λ ge. let e : m.len ≡ k.len = omega arith in inr (e, least.1 e))
-      (cases_lt m.len k.len),
+      w.least k (omega arith, fits) short (unsettled_open es set k left h),
 )
 
 pub none_unsettled : (es : List Entry) (set : ℕ → Bool) → IsLeft es set → SameUids set (λ u. false) → NoSuch (IsUnsettled es)

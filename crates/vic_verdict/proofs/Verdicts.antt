@@ -14,7 +14,7 @@ use Rattle.vic_frame.specs.Uids.{has, is_uid, IsUid}
 use Rattle.vic_verdict.specs.Possible.{IsPossible, IsPossibleUid, IsCertainUid}
 use Rattle.vic_log.specs.Slots.{slots_of, is_open}
 use Rattle.vic_log.specs.Order.{entries, IsRisingFrom, listed}
-use Rattle.vic_verdict.specs.Verdict.{entries_to, IsAbsent, IsUnlisted, IsUnsettled, IsDoubtful, IsLeast, IsWidest, NoSuch, IsVerdict, IsSettled, IsReached}
+use Rattle.vic_verdict.specs.Verdict.{entries_to, IsAbsent, IsUnlisted, IsUnsettled, IsDoubtful, IsLeast, IsFirstMask, NoSuch, IsVerdict, IsWhole, IsReached}
 use Rattle.vic_log.proofs.Sets.{has_cases, IsUid-member}
 use Rattle.vic_log.proofs.Supply.{is_uid_from, IsUid-from}
 use Rattle.vic_verdict.proofs.Search.{Either, test_either, false_either, not_either, and_either, search_below, least_of, least_or_none}
@@ -84,12 +84,12 @@ rising_lower (l ∷ lines) r = let a = r.0 in (omega arith, r.1)
 least_same : (P : ℕ → Type 0) (m n : ℕ) → IsLeast P m → IsLeast P n → m ≡ n
 least_same P m n h k = let a = h.1 n k.0 in let b = k.1 m h.0 in omega arith
 
-widest_same : (P : BitMask → Type 0) (m k : BitMask) → IsWidest P m → IsWidest P k → m ≡ k
-widest_same P m k h g =
+first_mask_same : (P : BitMask → Type 0) (m k : BitMask) → IsFirstMask P m → IsFirstMask P k → m ≡ k
+first_mask_same P m k h g =
     let a = h.1 k g.0 in
     let b = g.1 m h.0 in
-    let e : m.len ≡ k.len = omega arith in
-    let f : m.value ≡ k.value = omega arith in
+    let e : m.len ≡ k.len = omega (arith, a.0, b.0) in
+    let f : m.value ≡ k.value = omega (arith, a.1 e, b.1 (sym e)) in
     λ i. record { len = e i; value = f i }
 
 impossible_not : (lines : List LogLine) → IsRisingFrom 0 lines → IsPossible (entries lines) → (n : ℕ) → IsLeast (λ k. IsPossible (entries_to k lines) → ⊥) n → ⊥
@@ -117,7 +117,7 @@ one_verdict lines r (Unlisted u1) (Complete c2) h k = absurd (k.2 u1 h.2.0)
 one_verdict lines r (Unsettled m1) (Impossible n2) h k = absurd (impossible_not lines r h.0 n2 k)
 one_verdict lines r (Unsettled m1) (Absent u2) h k = absurd (h.1 u2 k.1.0)
 one_verdict lines r (Unsettled m1) (Unlisted u2) h k = absurd (h.2 u2 k.2.0)
-one_verdict lines r (Unsettled m1) (Unsettled m2) h k = ap Unsettled (widest_same (IsUnsettled (entries lines)) m1 m2 h.3 k.3)
+one_verdict lines r (Unsettled m1) (Unsettled m2) h k = ap Unsettled (first_mask_same (IsUnsettled (entries lines)) m1 m2 h.3 k.3)
 one_verdict lines r (Unsettled m1) (Doubtful u2) h k = absurd (k.3 m1 h.3.0)
 one_verdict lines r (Unsettled m1) (Complete c2) h k = absurd (k.3 m1 h.3.0)
 one_verdict lines r (Doubtful u1) (Impossible n2) h k = absurd (impossible_not lines r h.0 n2 k)
@@ -221,23 +221,17 @@ length_either : (es : List Entry) (len : ℕ) → IsPossible es → Either (HasU
 length_either es len p =
     ⊎_elim (λ v. inl (v.0, v.1.0)) (λ none. inr (λ h. none h.0 h.1)) (value_or_none es len p)
 
-widest_from : (es : List Entry) (len v : ℕ) → IsLeast (HasUnsettled es) len → IsLeast (λ w. IsUnsettled es (mask len w)) v → IsWidest (IsUnsettled es) (mask len v)
-widest_from es len v l least = (
+first_mask_from : (es : List Entry) (len v : ℕ) → IsLeast (HasUnsettled es) len → IsLeast (λ w. IsUnsettled es (mask len w)) v → IsFirstMask (IsUnsettled es) (mask len v)
+first_mask_from es len v l least = (
   least.0,
-  λ k h. ⊎_elim
-      (λ lt. inl lt)
-      (λ ge.
-      let longer = l.1 k.len (k.value, h) in
-      let e : len ≡ k.len = omega arith in
-      inr (e, least.1 k.value (subst (λ n. IsUnsettled es (mask n k.value)) (sym e) h)))
-      (cases_lt len k.len),
+  λ k h. (l.1 k.len (k.value, h), λ e. least.1 k.value (subst (λ n. IsUnsettled es (mask n k.value)) (sym e) h)),
 )
 
-unsettled_or_none : (es : List Entry) → IsPossible es → ((m : BitMask) × IsWidest (IsUnsettled es) m) ⊎ NoSuch (IsUnsettled es)
+unsettled_or_none : (es : List Entry) → IsPossible es → ((m : BitMask) × IsFirstMask (IsUnsettled es) m) ⊎ NoSuch (IsUnsettled es)
 unsettled_or_none es p =
     ⊎_elim
     (λ len. ⊎_elim
-    (λ v. inl (mask len.0 v.0, widest_from es len.0 v.0 len.1 v.1))
+    (λ v. inl (mask len.0 v.0, first_mask_from es len.0 v.0 len.1 v.1))
     (λ none. absurd (none len.1.0.0 len.1.0.1))
     (value_or_none es len.0 p))
     (λ none. inr (λ m h. none m.len (m.value, h)))
@@ -294,8 +288,8 @@ unsettled_iff es = (
 )
 
 -- a log is complete where it is settled
-pub complete_settled : (lines : List LogLine) (count : ℕ) → IsVerdict lines (Complete count) → IsSettled (entries lines)
-complete_settled lines count h =
+pub complete_whole : (lines : List LogLine) (count : ℕ) → IsVerdict lines (Complete count) → IsWhole (entries lines)
+complete_whole lines count h =
     let es = entries lines in (
       h.0,
       λ p i g u. (
@@ -304,11 +298,11 @@ complete_settled lines count h =
       ),
     )
 
-pub complete_count : (lines : List LogLine) (count : ℕ) → IsVerdict lines (Complete count) → IsSettled (entries lines) × (count ≡ length (listed (entries lines)))
-complete_count lines count h = (complete_settled lines count h, h.5)
+pub complete_count : (lines : List LogLine) (count : ℕ) → IsVerdict lines (Complete count) → IsWhole (entries lines) × (count ≡ length (listed (entries lines)))
+complete_count lines count h = (complete_whole lines count h, h.5)
 
-pub settled_complete : (lines : List LogLine) → IsSettled (entries lines) → IsVerdict lines (Complete (length (listed (entries lines))))
-settled_complete lines h =
+pub whole_complete : (lines : List LogLine) → IsWhole (entries lines) → IsVerdict lines (Complete (length (listed (entries lines))))
+whole_complete lines h =
     let p = h.0 in (
       p,
       (λ u a. a.1 (p.0, p.1, p.2, (h.1 p.0 p.1 p.2 u).1 a.0)),
@@ -322,7 +316,7 @@ settled_complete lines h =
 pub reached_complete : (lines : List LogLine) → IsReached (entries lines) → IsVerdict lines (Complete (length (listed (entries lines))))
 reached_complete lines h =
     let es = entries lines in
-    settled_complete lines (
+    whole_complete lines (
       h.0,
       λ p i g u. (
         (λ k. h.2 u (p, i, g, k)),

@@ -9,6 +9,7 @@ use Rattle.vic_log.specs.declared.entry.Entry.TheVariants.{Heard}
 use Rattle.vic_log.specs.declared.entry.LogLine.{LogLine}
 use Rattle.vic_log.specs.Populations.{IsPopulation, CouldHaveGiven}
 use Rattle.vic_log.specs.Order.{entries, listed}
+use Rattle.vic_tree.specs.OpenSet.{IsAtMost}
 use Rattle.vic_verdict.specs.declared.verdict.Verdict.{Verdict}
 use Rattle.vic_verdict.specs.declared.verdict.Verdict.TheVariants.{Impossible, Absent, Unlisted, Unsettled, Doubtful, Complete}
 use Rattle.vic_verdict.specs.Possible.{IsPossible, IsPossibleUid, IsCertainUid}
@@ -43,8 +44,8 @@ abbrev pub IsLeast : (ℕ → Type 0) → ℕ → Type 0
 IsLeast P n = P n × ((m : ℕ) → P m → n ≤ m)
 
 -- the mask of least length, then of least value
-abbrev pub IsWidest : (BitMask → Type 0) → BitMask → Type 0
-IsWidest P m = P m × ((k : BitMask) → P k → (m.len < k.len) ⊎ ((m.len ≡ k.len) × (m.value ≤ k.value)))
+abbrev pub IsFirstMask : (BitMask → Type 0) → BitMask → Type 0
+IsFirstMask P m = P m × ((k : BitMask) → P k → IsAtMost m k)
 
 -- the verdict on a log's lines
 abbrev pub IsVerdict : List LogLine → Verdict → Type 0
@@ -55,7 +56,7 @@ IsVerdict lines (Unlisted u) =
     let es = entries lines in IsPossible es × NoSuch (IsAbsent es) × IsLeast (IsUnlisted es) u
 IsVerdict lines (Unsettled m) =
     let es = entries lines in
-    IsPossible es × NoSuch (IsAbsent es) × NoSuch (IsUnlisted es) × IsWidest (IsUnsettled es) m
+    IsPossible es × NoSuch (IsAbsent es) × NoSuch (IsUnlisted es) × IsFirstMask (IsUnsettled es) m
 IsVerdict lines (Doubtful u) =
     let es = entries lines in
     IsPossible es × NoSuch (IsAbsent es) × NoSuch (IsUnlisted es) × NoSuch (IsUnsettled es) × IsLeast (IsDoubtful es) u
@@ -64,9 +65,9 @@ IsVerdict lines (Complete count) =
     IsPossible es × NoSuch (IsAbsent es) × NoSuch (IsUnlisted es) × NoSuch (IsUnsettled es) × NoSuch (IsDoubtful es)
     × (count ≡ length (listed es))
 
--- the list is settled: some population could have given the entries, and each that could has exactly the listed UIDs
-abbrev pub IsSettled : List Entry → Type 0
-IsSettled es =
+-- the list is whole: some population could have given the entries, and each that could has exactly the listed UIDs
+abbrev pub IsWhole : List Entry → Type 0
+IsWhole es =
     IsPossible es
     × ((p : List ℕ) → IsPopulation p → CouldHaveGiven p es → (u : ℕ) → (has p u ≡ true) ↔ (has (listed es) u ≡ true))
 

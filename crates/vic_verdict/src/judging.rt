@@ -7,7 +7,7 @@ ghost use Rattle.vic_tree.specs.OpenSet.{SameUids};
 ghost use Rattle.vic_log.specs.Slots.{slots_of, is_open};
 ghost use Rattle.vic_verdict.specs.Possible.{IsPossible};
 ghost use Rattle.vic_log.specs.Order.{IsInOrder, entries, listed, IsRisingFrom, AreValid};
-ghost use Rattle.vic_verdict.specs.Verdict.{IsVerdict, IsSettled, IsReached};
+ghost use Rattle.vic_verdict.specs.Verdict.{IsVerdict, IsWhole, IsReached};
 ghost use Rattle.vic_verdict.specs.Repeats.{AreRepeats};
 ghost use Rattle.vic_verdict.specs.Rising.{without_all};
 ghost use Rattle.vic_verdict.specs.declared.verdict.Verdict.{Verdict as VerdictValue};
@@ -91,7 +91,7 @@ fn judge_lines<S: OpenSet>(alloc: Global, lines: &[LogLine]) -> Result<Verdict, 
 /// The verdict on a log, over any set of open UIDs.
 pub fn judge_with<S: OpenSet>(alloc: Global, log: &Log) -> Result<Verdict, AllocError>
     ensures verdict { IfOk result (λ v. IsVerdict log.now.lines v) }
-    ensures settled { IfOk result (λ v. (count : ℕ) → v ≡ Complete count → IsSettled (entries log.now.lines) × (count ≡ length (listed (entries log.now.lines)))) }
+    ensures whole { IfOk result (λ v. (count : ℕ) → v ≡ Complete count → IsWhole (entries log.now.lines) × (count ≡ length (listed (entries log.now.lines)))) }
     ensures reached { IfOk result (λ v. IsReached (entries log.now.lines) → v ≡ Complete (length (listed (entries log.now.lines)))) }
 {
     judge_lines::<S>(alloc, log.lines())
@@ -100,7 +100,7 @@ pub fn judge_with<S: OpenSet>(alloc: Global, log: &Log) -> Result<Verdict, Alloc
 /// The verdict on a log.
 pub fn judge(alloc: Global, log: &Log) -> Result<Verdict, AllocError>
     ensures verdict { IfOk result (λ v. IsVerdict log.now.lines v) }
-    ensures settled { IfOk result (λ v. (count : ℕ) → v ≡ Complete count → IsSettled (entries log.now.lines) × (count ≡ length (listed (entries log.now.lines)))) }
+    ensures whole { IfOk result (λ v. (count : ℕ) → v ≡ Complete count → IsWhole (entries log.now.lines) × (count ≡ length (listed (entries log.now.lines)))) }
     ensures reached { IfOk result (λ v. IsReached (entries log.now.lines) → v ≡ Complete (length (listed (entries log.now.lines)))) }
 {
     judge_with::<MaskTree>(alloc, log)

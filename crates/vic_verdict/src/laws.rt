@@ -6,7 +6,7 @@ ghost use Rattle.vic_log.specs.Populations.{IsPopulation, CouldHaveGiven};
 ghost use Rattle.vic_verdict.specs.Possible.{IsPossible, IsPossibleUid, IsCertainUid};
 ghost use Rattle.vic_log.specs.Slots.{slots_of, is_open, IsForcedBy, SuppliesAll};
 ghost use Rattle.vic_log.specs.Order.{entries, listed, IsRisingFrom};
-ghost use Rattle.vic_verdict.specs.Verdict.{entries_to, IsVerdict, IsUnsettled, IsSettled};
+ghost use Rattle.vic_verdict.specs.Verdict.{entries_to, IsVerdict, IsUnsettled, IsWhole};
 ghost use Rattle.vic_log.specs.declared.entry.Entry.{Entry};
 ghost use Rattle.vic_log.specs.declared.entry.LogLine.{LogLine};
 ghost use Rattle.vic_frame.specs.Masks.{BitMask};
@@ -41,7 +41,7 @@ pub fn unsettled_where_unlisted_is_possible()
 {}
 
 /// A complete log is settled, and a settled log complete.
-pub fn complete_is_settled()
-    ensures sound { (lines : List LogLine) (count : ℕ) → IsVerdict lines (Complete count) → IsSettled (entries lines) }
-    ensures exact { (lines : List LogLine) → IsSettled (entries lines) → IsVerdict lines (Complete (length (listed (entries lines)))) }
+pub fn complete_is_whole()
+    ensures sound { (lines : List LogLine) (count : ℕ) → IsVerdict lines (Complete count) → IsWhole (entries lines) }
+    ensures exact { (lines : List LogLine) → IsWhole (entries lines) → IsVerdict lines (Complete (length (listed (entries lines)))) }
 {}

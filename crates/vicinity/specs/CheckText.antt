@@ -7,7 +7,7 @@ use Rattle.vic_log.specs.Order.{entries, listed}
 use Rattle.vic_log.specs.Text.{IsLogOf, IsFirstFault}
 use Rattle.vic_verdict.specs.declared.verdict.Verdict.{Verdict}
 use Rattle.vic_verdict.specs.declared.verdict.Verdict.TheVariants.{Impossible, Absent, Unlisted, Unsettled, Doubtful, Complete}
-use Rattle.vic_verdict.specs.Verdict.{IsVerdict, IsSettled}
+use Rattle.vic_verdict.specs.Verdict.{IsVerdict, IsWhole}
 use Rattle.vicinity.specs.Digits.{uid_text, value_text}
 use Rattle.vicinity.specs.Refusals.{refusal_line}
 use Rattle.vicinity.specs.declared.status.Status.{Status}
@@ -50,10 +50,10 @@ pub record IsCheckOf (text line : List ℕ) (status : Status) : Type 0 where
   pub line_is : line ≡ answer_line answer
   pub status_is : status ≡ answer_status answer
 
--- the text has a log that is settled, and lists so many UIDs: some population could have given the log, and each that
+-- the text has a log whose list is whole, of so many UIDs: some population could have given the log, and each that
 -- could has exactly the UIDs that it lists
 pub record IsCompleteText (text : List ℕ) (count : ℕ) : Type 0 where
   pub log : List LogLine
   pub is_log : IsLogOf (lines_of_text text) log
-  pub settled : IsSettled (entries log)
+  pub whole : IsWhole (entries log)
   pub counted : count ≡ length (listed (entries log))

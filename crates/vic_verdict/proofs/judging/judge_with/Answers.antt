@@ -11,8 +11,8 @@ use Rattle.vic_verdict.proofs.judging.judge_with.Goals as goal
 pub judge_lines-requires-clause-rising : goal.judge_lines-requires-clause-rising
 judge_lines-requires-clause-rising g c = rising_lower c.lines.result.now c.lines.ensures.log.rising
 
-pub returns-clause-settled : goal.returns-clause-settled
-returns-clause-settled g c =
+pub returns-clause-whole : goal.returns-clause-whole
+returns-clause-whole g c =
     let lines = c.args.log.now.lines in
     let verdict = subst (λ (ls : List LogLine). IfOk c.judge_lines.result (IsVerdict ls)) c.lines.ensures.value c.judge_lines.ensures in
     IfOk-weaker c.judge_lines.result (IsVerdict lines) _ (λ v h count e. complete_count lines count (subst (IsVerdict lines) e h)) verdict
