@@ -1,6 +1,6 @@
 //! Laws of the definitions. The functions do nothing: each stands for what its clauses say.
 
-ghost use Rattle.std.specs.Prelude.{◌≡◌, ◌↔◌, ℕ, ◌≤◌, List, ◌++◌, true, false, length};
+ghost use Rattle.std.specs.Prelude.{◌≡◌, ◌↔◌, ℕ, ◌≤◌, List, ◌∷◌, ◌++◌, true, false, length};
 ghost use Rattle.vic_frame.specs.Uids.{has};
 ghost use Rattle.vic_log.specs.Populations.{IsPopulation, CouldHaveGiven};
 ghost use Rattle.vic_verdict.specs.Possible.{IsPossible, IsPossibleUid, IsCertainUid};
@@ -27,6 +27,11 @@ pub fn possible_and_certain_uids()
 /// What entries make impossible stays impossible when entries follow.
 pub fn impossible_stays()
     ensures { (es more : List Entry) → (IsPossible es → ⊥) → IsPossible (es ++ more) → ⊥ }
+{}
+
+/// A population that could have given the entries still could with one possible UID more.
+pub fn one_possible_uid_more()
+    ensures { (es : List Entry) (p : List ℕ) (u : ℕ) → IsPopulation p → CouldHaveGiven p es → IsPossibleUid es u → has p u ≡ false → IsPopulation (u ∷ p) × CouldHaveGiven (u ∷ p) es }
 {}
 
 /// Each log has exactly one verdict.

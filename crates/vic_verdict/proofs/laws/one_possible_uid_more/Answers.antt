@@ -1,0 +1,15 @@
+use Rattle.std.proofs.Common.{ℕ, Bool, subst}
+use Rattle.vic_log.specs.Populations.{IsPopulation, CouldHaveGiven}
+use Rattle.vic_log.specs.Slots.{slots_of}
+use Rattle.vic_log.proofs.Places.{CouldHaveGiven-slots}
+use Rattle.vic_log.proofs.Sets.{insert_if, with_member}
+use Rattle.vic_verdict.proofs.Decide.{IsPossibleUid-iff}
+use Rattle.vic_verdict.proofs.Populations.{MeetsAll-with_member}
+use Rattle.vic_verdict.proofs.laws.one_possible_uid_more.Goals as goal
+
+pub returns : goal.returns
+returns c es p u i g may new =
+    let uid_open = (IsPossibleUid-iff es u (p, i, g)).0 may in
+    let w = MeetsAll-with_member p (slots_of es) u i ((CouldHaveGiven-slots p es).0 g) uid_open in
+    subst (λ (b : Bool). IsPopulation (insert_if b u p) × CouldHaveGiven (insert_if b u p) es) new
+        (w.0, (CouldHaveGiven-slots (with_member u p) es).1 w.1)
