@@ -12,4 +12,4 @@ returns c es p u i g may new =
     let uid_open = (IsPossibleUid-iff es u (p, i, g)).0 may in
     let w = MeetsAll-with_member p (slots_of es) u i ((CouldHaveGiven-slots p es).0 g) uid_open in
     subst (λ (b : Bool). IsPopulation (insert_if b u p) × CouldHaveGiven (insert_if b u p) es) new
-        (w.0, (CouldHaveGiven-slots (with_member u p) es).1 w.1)
+    (w.0, (CouldHaveGiven-slots (with_member u p) es).1 w.1)
