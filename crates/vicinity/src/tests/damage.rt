@@ -47,7 +47,6 @@ fn damage(
     line: &[u8],
 ) -> Result<(), AllocError> {
     let digits = b"0123456789ABCDEF";
-    let mut damaged = 0;
     for (place, byte) in text.iter().enumerate().skip(start).take(count) {
         let value = digits.iter().position(|digit| digit == byte);
         for bit in [1, 2, 4, 8] {
@@ -55,13 +54,11 @@ fn damage(
             let mut other = Vec::from_slice(alloc, text)?;
             if let (Some(spot), Some(digit)) = (other.get_mut(place), changed) {
                 *spot = *digit;
-                damaged += 1;
             }
             let written = line_of(rt, alloc, &mut FromRead::new(other.as_slice()));
             assert_eq!(rt; written.as_slice(), line);
         }
     }
-    assert_eq!(rt; damaged, 4 * count);
     Ok(())
 }
 
@@ -127,6 +124,11 @@ fn readers_without_end(rt: HostRuntime) {
     );
     let line = line_of(&rt, alloc, &mut Endless::new(b'\n'));
     assert_eq!(rt; line.as_slice(), b"refused at line 1: Header\n".as_slice());
+}
+
+#[test]
+fn lines_without_end(rt: HostRuntime) {
+    let alloc = rt.alloc();
     let returns = b"vicinity-log 1\n".as_slice().chain(io::repeat(b'\r'));
     let line = line_of(&rt, alloc, &mut FromRead::new(returns));
     assert_eq!(rt;
