@@ -1,6 +1,6 @@
 //! The first line of a log that no population could have given.
 
-ghost use Rattle.std.specs.Prelude.{IfOk};
+ghost use Rattle.std.specs.Prelude.{◌+◌, ◌<◌, IfOk};
 ghost use Rattle.vic_log.specs.Order.{IsInOrder, entries, IsRisingFrom, AreValid};
 ghost use Rattle.vic_verdict.specs.Possible.{IsPossible};
 ghost use Rattle.vic_verdict.specs.Repeats.{AreRepeats};
@@ -9,12 +9,26 @@ ghost use Rattle.vic_verdict.specs.declared.verdict.Verdict.TheVariants.{Impossi
 
 use crate::possible::is_possible;
 use crate::repeats::Repeats;
+use crate::suspect::suspect_line;
 use std::alloc::{AllocError, Global};
 use vic_log::LogLine;
 use vic_tree::OpenSet;
 
+/// A place between two: the guess where it is one, else the middle.
+fn between(low: usize, high: usize, guess: usize) -> usize
+    requires { low + 1 < high }
+    ensures above { low < result }
+    ensures below { result < high }
+{
+    if low < guess && guess < high {
+        guess
+    } else {
+        low + (high - low) / 2
+    }
+}
+
 /// The number of the first line up to which no population could have given the log, found by
-/// halving: what is impossible stays so when lines follow.
+/// halving: what is impossible stays so when lines follow. Halving begins where a line is suspect.
 pub fn first_impossible_line<S: OpenSet>(
     alloc: Global,
     lines: &[LogLine],
@@ -29,11 +43,13 @@ pub fn first_impossible_line<S: OpenSet>(
 {
     let mut low = 0;
     let mut high = lines.len();
+    let mut guess = suspect_line::<S>(alloc, lines, repeats)?;
     while high - low > 1 {
-        let middle = low + (high - low) / 2;
+        let middle = between(low, high, guess);
         let front = &lines[..middle];
         if is_possible::<S>(alloc, front, repeats)? {
             low = middle;
+            guess = guess.saturating_add(1);
         } else {
             high = middle;
         }

@@ -15,6 +15,7 @@ mod quiet;
 mod repeats;
 mod rising;
 mod settle;
+mod suspect;
 #[cfg(test)]
 mod tests;
 mod verdict;

@@ -19,7 +19,7 @@ use vic_tree::OpenSet;
 
 /// Whether the open UIDs have what an entry asks for: an answered slot asks for the UID that was
 /// heard, a collision for two UIDs that answer.
-fn supplies_slot<S: OpenSet>(
+pub fn supplies_slot<S: OpenSet>(
     alloc: Global,
     set: &S,
     place: &Place,

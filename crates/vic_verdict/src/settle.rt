@@ -17,7 +17,7 @@ use vic_tree::OpenSet;
 
 /// Settles what an entry tells: in a silent slot only Quiet tags of its mask may be, in an answered
 /// one these and the tag that was heard.
-fn settle_slot<S: OpenSet>(
+pub fn settle_slot<S: OpenSet>(
     alloc: Global,
     set: &mut S,
     place: &Place,

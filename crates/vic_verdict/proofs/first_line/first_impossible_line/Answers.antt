@@ -12,15 +12,15 @@ loop-high-init g c = between_first c.args.lines.now c.requires.impossible
 
 pub is_possible-requires-clause-order :
     goal.is_possible-requires-clause-order
-is_possible-requires-clause-order g c = order_front (c.loop-high.low + (c.loop-high.high - c.loop-high.low) / 2) c.args.lines.now c.requires.order
+is_possible-requires-clause-order g c = order_front c.between-middle.result c.args.lines.now c.requires.order
 
 pub is_possible-requires-clause-valid :
     goal.is_possible-requires-clause-valid
-is_possible-requires-clause-valid g c = valid_front (c.loop-high.low + (c.loop-high.high - c.loop-high.low) / 2) c.args.lines.now c.requires.valid
+is_possible-requires-clause-valid g c = valid_front c.between-middle.result c.args.lines.now c.requires.valid
 
 pub is_possible-requires-clause-repeats :
     goal.is_possible-requires-clause-repeats
-is_possible-requires-clause-repeats g c = repeats_of_front (c.loop-high.low + (c.loop-high.high - c.loop-high.low) / 2) c.args.lines.now c.args.repeats.now c.requires.repeats
+is_possible-requires-clause-repeats g c = repeats_of_front c.between-middle.result c.args.lines.now c.args.repeats.now c.requires.repeats
 
 pub returns : goal.returns
 returns g c =
