@@ -1,12 +1,11 @@
 -- What `simulate` answers to a text: the text of the log with its slots filled in, or the line of a refusal.
-use Rattle.std.specs.Prelude.{◌≡◌, ℕ, suc, ◌<◌, List, length, codes}
+use Rattle.std.specs.Prelude.{◌≡◌, ℕ, ◌<◌, List, codes}
 use Rattle.vic_log.specs.declared.entry.LogLine.{LogLine}
 use Rattle.vic_log.specs.declared.fault.LineFault.TheVariants.{TooManyLines as ManyLines}
 use Rattle.vic_log.specs.Lines.{lines_of_text}
-use Rattle.vic_log.specs.Order.{entries}
 use Rattle.vic_log.specs.Text.{IsLogOf, IsFirstFault}
 use Rattle.vic_log.specs.Writing.{text_of}
-use Rattle.vic_field.specs.Simulation.{IsSimulation, HasNoSlots, IsFirstSlot, line_count}
+use Rattle.vic_field.specs.Simulation.{IsSimulation, HasNoSlots, IsFirstSlot, last_needed}
 use Rattle.vicinity.specs.Refusals.{refused_at, refusal_line}
 use Rattle.vicinity.specs.declared.status.Status.{Status}
 use Rattle.vicinity.specs.declared.status.Status.TheVariants.{Whole, Refused}
@@ -19,7 +18,7 @@ abbrev pub IsFilling : List ℕ → Filling → Type 0
 IsFilling text (Filled log) = (given : List LogLine) × IsLogOf (lines_of_text text) given × IsSimulation given log.lines
 IsFilling text (RefusedAt n fault) = IsFirstFault (lines_of_text text) n fault
 IsFilling text (OutcomeGiven n) = (given : List LogLine) × IsLogOf (lines_of_text text) given × IsFirstSlot given n
-IsFilling text TooManyLines = (given : List LogLine) × IsLogOf (lines_of_text text) given × HasNoSlots (length given) given × (1000000 < suc (line_count (entries given)))
+IsFilling text TooManyLines = (given : List LogLine) × IsLogOf (lines_of_text text) given × HasNoSlots given × (1000000 < last_needed given)
 
 abbrev pub filling_text : Filling → List ℕ
 filling_text (Filled log) = text_of log

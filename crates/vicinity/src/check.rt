@@ -27,7 +27,7 @@ pub(crate) enum Answer {
 /// The answer to a text.
 fn judge_text(alloc: Global, text: &[u8]) -> Result<Answer, AllocError>
     ensures answer { IfOk result (λ a. IsAnswer text.now a) }
-    ensures complete { IfOk result (λ a. (count : ℕ) → a ≡ Answer.Judged (Complete count) → IsCompleteText text.now count) }
+    ensures whole { IfOk result (λ a. (count : ℕ) → a ≡ Answer.Judged (Complete count) → IsCompleteText text.now count) }
 {
     let log = match read_log(alloc, text) {
         Ok(log) => log,
@@ -76,7 +76,7 @@ pub fn run_check<R: Source, W: Sink>(
     ensures not_written_again { W.has_failed sink.old ≡ true → sink.new ≡ sink.old }
     ensures was_written { OnOk result (W.has_failed sink.new ≡ false) }
     ensures begun { IfErr result (λ e. e ≡ RunFault.Write → AnswersInPart IsCheckOf (R.left source.old) (R.left source.new) (W.taken sink.old) (W.taken sink.new)) }
-    ensures complete { OnOk result ((before rest : List ℕ) → W.taken sink.old ≡ Some before
+    ensures whole { OnOk result ((before rest : List ℕ) → W.taken sink.old ≡ Some before
         → W.taken sink.new ≡ Some (before ++ (codes "complete " ++ rest))
         → HandsOutComplete (R.left source.old) (R.left source.new) rest) }
 {
