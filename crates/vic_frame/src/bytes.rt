@@ -1,6 +1,6 @@
 //! Numbers in bytes, the least significant byte first, and the bits of a byte.
 
-ghost use Rattle.std.specs.Prelude.{◌≡◌, ℕ, ◌+◌, ◌≤◌, ◌++◌, length, drop};
+ghost use Rattle.std.specs.Prelude.{◌≡◌, ◌+◌, ◌≤◌, ◌++◌, length};
 ghost use Rattle.vic_frame.specs.Bytes as spec;
 ghost use Rattle.arrayvec.specs.ArrayVec.{array_vec_len};
 

@@ -1,6 +1,6 @@
 //! The CRC of a frame.
 
-ghost use Rattle.std.specs.Prelude.{◌≡◌, ℕ};
+ghost use Rattle.std.specs.Prelude.{◌≡◌};
 ghost use Rattle.vic_frame.specs.Bytes.{bits_of};
 ghost use Rattle.vic_frame.specs.Crc as spec;
 

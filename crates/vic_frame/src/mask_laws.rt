@@ -1,6 +1,6 @@
 //! Laws on masks: how they lie to each other, and how many UIDs they hold.
 
-ghost use Rattle.std.specs.Prelude.{◌≡◌, ℕ, ◌<◌, ◌≤◌};
+ghost use Rattle.std.specs.Prelude.{ℕ, ◌<◌, ◌≤◌};
 ghost use Rattle.vic_frame.specs.Uids.{IsUid};
 ghost use Rattle.vic_frame.specs.Masks.{BitMask, IsMask, LiesIn};
 ghost use Rattle.vic_frame.specs.MaskLaws.{NestedOrApart, IsParted, HoldsAtMostOne};

@@ -1,6 +1,6 @@
 //! What a reader sends: who shall answer, and in which slots.
 
-ghost use Rattle.std.specs.Prelude.{◌≡◌, ℕ, ◌<◌, ◌↔◌, IsTrue, SomeIff};
+ghost use Rattle.std.specs.Prelude.{◌≡◌, ◌<◌, ◌↔◌, IsTrue, SomeIff};
 ghost use Rattle.vic_frame.specs.Requests.{IsValid};
 ghost use Rattle.vic_frame.specs.Slots.{slot_count, mask_in, slot_mask};
 

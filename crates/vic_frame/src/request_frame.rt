@@ -1,8 +1,6 @@
 //! Requests as frames.
 
-ghost use Rattle.std.specs.Prelude.{◌≡◌, ℕ, ◌≤◌, Ok, Err, IfOk, IfErr, Some, length};
-ghost use Rattle.vic_frame.specs.Bytes.{bytes_of};
-ghost use Rattle.vic_frame.specs.Crc.{with_crc};
+ghost use Rattle.std.specs.Prelude.{◌≡◌, ◌≤◌, Ok, Err, IfOk, IfErr, Some, length};
 ghost use Rattle.vic_frame.specs.Requests.{IsInRange, IsValid, SpellsRequest, request_body, request_spelling};
 ghost use Rattle.vic_frame.specs.Faults.{first_fault, head_faults, inventory_faults, stay_quiet_faults, request_faults};
 ghost use Rattle.vic_frame.specs.Reading.{fault_or, inventory_in, stay_quiet_in, request_reading};

@@ -1,6 +1,6 @@
 //! What one tag answers.
 
-ghost use Rattle.std.specs.Prelude.{◌≡◌, ℕ, ◌%◌, SomeIff};
+ghost use Rattle.std.specs.Prelude.{◌≡◌, ◌%◌, SomeIff};
 ghost use Rattle.vic_frame.specs.Replies.{Reply, IsReply};
 
 use crate::uid::Uid;

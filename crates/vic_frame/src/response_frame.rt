@@ -1,6 +1,6 @@
 //! Replies as frames.
 
-ghost use Rattle.std.specs.Prelude.{◌≡◌, ℕ, Ok, Err, IfOk, IfErr, Some};
+ghost use Rattle.std.specs.Prelude.{◌≡◌, Ok, Err, IfOk, IfErr, Some};
 ghost use Rattle.vic_frame.specs.Replies.{Reply, SpellsReply, reply_spelling};
 ghost use Rattle.vic_frame.specs.Faults.{first_fault, reply_faults};
 ghost use Rattle.vic_frame.specs.Reading.{reply_reading};

@@ -1,6 +1,6 @@
 //! The UIDs of tags.
 
-ghost use Rattle.std.specs.Prelude.{◌≡◌, ℕ, ◌*◌, ◌^◌, ◌≤◌, SomeIff};
+ghost use Rattle.std.specs.Prelude.{◌≡◌, ℕ, ◌*◌, ◌^◌, SomeIff};
 ghost use Rattle.vic_frame.specs.Uids.{IsUid};
 
 use std::marker::Model;

@@ -1,12 +1,12 @@
 //! Laws of the definitions. The functions do nothing: each stands for what its clauses say.
 
-ghost use Rattle.std.specs.Prelude.{◌≡◌, ◌↔◌, ℕ, ◌≤◌, List, ◌∷◌, ◌++◌, true, false, length};
+ghost use Rattle.std.specs.Prelude.{◌≡◌, ◌↔◌, ℕ, List, ◌∷◌, ◌++◌, true, false, length};
 ghost use Rattle.vic_frame.specs.Uids.{has};
 ghost use Rattle.vic_log.specs.Populations.{IsPopulation, CouldHaveGiven};
 ghost use Rattle.vic_verdict.specs.Possible.{IsPossible, IsPossibleUid, IsCertainUid};
 ghost use Rattle.vic_log.specs.Slots.{slots_of, is_open, IsForcedBy, SuppliesAll};
 ghost use Rattle.vic_log.specs.Order.{entries, listed, IsRisingFrom};
-ghost use Rattle.vic_verdict.specs.Verdict.{entries_to, IsVerdict, IsUnsettled, IsWhole};
+ghost use Rattle.vic_verdict.specs.Verdict.{IsVerdict, IsUnsettled, IsWhole};
 ghost use Rattle.vic_log.specs.declared.entry.Entry.{Entry};
 ghost use Rattle.vic_log.specs.declared.entry.LogLine.{LogLine};
 ghost use Rattle.vic_frame.specs.Masks.{BitMask};

@@ -1,6 +1,6 @@
 //! Whether some population could have given a log.
 
-ghost use Rattle.std.specs.Prelude.{◌≡◌, ℕ, List, IfOk, ◌↔◌, IsTrue};
+ghost use Rattle.std.specs.Prelude.{ℕ, List, IfOk, ◌↔◌, IsTrue};
 ghost use Rattle.vic_tree.specs.OpenSet.{SameUids};
 ghost use Rattle.vic_log.specs.declared.entry.Entry.{Entry as EntryValue};
 ghost use Rattle.vic_log.specs.Slots.{slots_of, is_open, reading_of};

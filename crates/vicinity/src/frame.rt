@@ -1,8 +1,7 @@
 //! The command `frame`.
 
-ghost use Rattle.std.specs.Prelude.{◌≡◌, ◌*◌, ◌≤◌, ◌+◌, ℕ, [], ◌++◌, length, take, drop, IfOk, IfErr, OnOk, is_err, true, Ok, Some, None, MatchResult};
+ghost use Rattle.std.specs.Prelude.{◌≡◌, ◌*◌, ◌≤◌, length, take, IfOk, IfErr, OnOk, is_err, true, Ok, Some, None, MatchResult};
 ghost use Rattle.std.specs.Io.KnownBytes.{Appends};
-ghost use Rattle.arrayvec.specs.ArrayVec.{array_vec_len};
 ghost use Rattle.hex.specs.Hex.{decode_of};
 ghost use Rattle.vic_log.specs.Device.{HasTakenPrefix};
 ghost use Rattle.vicinity.specs.FrameText.{readings_text, frame_text, frame_status, readings_status};
