@@ -1,6 +1,7 @@
 -- What `simulate` answers to a text: the text of the log with its slots filled in, or the line of a refusal.
 use Rattle.std.specs.Prelude.{◌≡◌, ℕ, ◌<◌, List, codes}
 use Rattle.vic_log.specs.declared.entry.LogLine.{LogLine}
+use Rattle.vic_log.specs.declared.entry.Version.TheVariants.{V1}
 use Rattle.vic_log.specs.declared.fault.LineFault.TheVariants.{TooManyLines as ManyLines}
 use Rattle.vic_log.specs.Lines.{lines_of_text}
 use Rattle.vic_log.specs.Text.{IsLogOf, IsFirstFault}
@@ -12,10 +13,10 @@ use Rattle.vicinity.specs.declared.status.Status.TheVariants.{Whole, Refused}
 use Rattle.vicinity.specs.declared.simulate.Filling.{Filling}
 use Rattle.vicinity.specs.declared.simulate.Filling.TheVariants.{Filled, RefusedAt, OutcomeGiven, TooManyLines}
 
--- the log of a text with its slots filled in; or the text's first fault; or why its log can't be filled in: a slot
--- line is there already; or none is, and a line above 1,000,000 would be needed
+-- the log of a text with its slots filled in, of the same version; or the text's first fault; or why its log can't be
+-- filled in: a slot line is there already; or none is, and a line above 1,000,000 would be needed
 abbrev pub IsFilling : List ℕ → Filling → Type 0
-IsFilling text (Filled log) = (given : List LogLine) × IsLogOf (lines_of_text text) given × IsSimulation given log.lines
+IsFilling text (Filled log) = (given : List LogLine) × IsLogOf (lines_of_text text) given × IsSimulation given log.lines × (log.version ≡ V1)
 IsFilling text (RefusedAt n fault) = IsFirstFault (lines_of_text text) n fault
 IsFilling text (OutcomeGiven n) = (given : List LogLine) × IsLogOf (lines_of_text text) given × IsFirstSlot given n
 IsFilling text TooManyLines = (given : List LogLine) × IsLogOf (lines_of_text text) given × HasNoSlots given × (1000000 < last_needed given)

@@ -24,6 +24,36 @@ pub(crate) enum Answer {
     RefusedAt { line: u32, fault: LineFault },
 }
 
+/// Judges the log that a source hands out, and writes the answer's one line. The status is the
+/// answer's. `Read` where the source has failed, `Memory` where memory was refused: nothing is
+/// written then. `Write` where the sink has failed: a prefix of the line may be out.
+pub fn run_check<R: Source, W: Sink>(
+    alloc: Global,
+    source: &mut R,
+    sink: &mut W,
+) -> Result<Status, RunFault>
+    ensures answer { IfOk result (λ s. Answers IsCheckOf (R.left source.old) (R.left source.new) (W.taken sink.old) (W.taken sink.new) s) }
+    // where it wrote `complete N`, the list of the log is whole and N long
+    ensures whole { OnOk result ((before rest : List ℕ) → W.taken sink.old ≡ Some before
+        → W.taken sink.new ≡ Some (before ++ (codes "complete " ++ rest))
+        → HandsOutComplete (R.left source.old) (R.left source.new) rest) }
+    ensures source_works { OnOk result (R.has_failed source.new ≡ false) }
+    ensures sink_works { OnOk result (W.has_failed sink.new ≡ false) }
+    ensures read { IfErr result (λ e. (e ≡ RunFault.Read) ↔ (R.has_failed source.new ≡ true)) }
+    ensures unwritten { IfErr result (λ e. e ≢ RunFault.Write → sink.new ≡ sink.old) }
+    ensures write { IfErr result (λ e. e ≡ RunFault.Write → W.has_failed sink.new ≡ true) }
+    ensures begun { IfErr result (λ e. e ≡ RunFault.Write → AnswersInPart IsCheckOf (R.left source.old) (R.left source.new) (W.taken sink.old) (W.taken sink.new)) }
+    ensures not_read_again { R.has_failed source.old ≡ true → source.new ≡ source.old }
+    ensures not_written_again { W.has_failed sink.old ≡ true → sink.new ≡ sink.old }
+{
+    let text = read_text(alloc, source)?;
+    let answer = judge_text(alloc, &text)?;
+    let line = answer_line(&answer);
+    let status = answer_status(&answer);
+    send(sink, line.as_slice())?;
+    Ok(status)
+}
+
 /// The answer to a text.
 fn judge_text(alloc: Global, text: &[u8]) -> Result<Answer, AllocError>
     ensures answer { IfOk result (λ a. IsAnswer text.now a) }
@@ -59,31 +89,4 @@ fn answer_status(answer: &Answer) -> Status
         Answer::Judged(_) => Status::NotWhole,
         Answer::RefusedAt { .. } => Status::Refused,
     }
-}
-
-/// Judges the log that a source hands out, and writes the answer's one line.
-pub fn run_check<R: Source, W: Sink>(
-    alloc: Global,
-    source: &mut R,
-    sink: &mut W,
-) -> Result<Status, RunFault>
-    ensures answer { IfOk result (λ s. Answers IsCheckOf (R.left source.old) (R.left source.new) (W.taken sink.old) (W.taken sink.new) s) }
-    ensures read { IfErr result (λ e. (e ≡ RunFault.Read) ↔ (R.has_failed source.new ≡ true)) }
-    ensures was_read { OnOk result (R.has_failed source.new ≡ false) }
-    ensures not_read_again { R.has_failed source.old ≡ true → source.new ≡ source.old }
-    ensures unwritten { IfErr result (λ e. e ≢ RunFault.Write → sink.new ≡ sink.old) }
-    ensures write { IfErr result (λ e. e ≡ RunFault.Write → W.has_failed sink.new ≡ true) }
-    ensures not_written_again { W.has_failed sink.old ≡ true → sink.new ≡ sink.old }
-    ensures was_written { OnOk result (W.has_failed sink.new ≡ false) }
-    ensures begun { IfErr result (λ e. e ≡ RunFault.Write → AnswersInPart IsCheckOf (R.left source.old) (R.left source.new) (W.taken sink.old) (W.taken sink.new)) }
-    ensures whole { OnOk result ((before rest : List ℕ) → W.taken sink.old ≡ Some before
-        → W.taken sink.new ≡ Some (before ++ (codes "complete " ++ rest))
-        → HandsOutComplete (R.left source.old) (R.left source.new) rest) }
-{
-    let text = read_text(alloc, source)?;
-    let answer = judge_text(alloc, &text)?;
-    let line = answer_line(&answer);
-    let status = answer_status(&answer);
-    send(sink, line.as_slice())?;
-    Ok(status)
 }

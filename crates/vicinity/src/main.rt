@@ -18,7 +18,7 @@ use frame::run_frame;
 use simulate::run_simulate;
 use status::{RunFault, Status, fault_text};
 use std::process::ExitCode;
-use std::{env, fs, io};
+use std::{env, fs};
 use vic_log::{FromRead, Source, ToWrite};
 use words::{Task, WordsFault, read_words};
 
@@ -33,16 +33,17 @@ fn given_words(rt: &HostRuntime) -> Result<Vec<String>, WordsFault> {
     }
 }
 
-/// Says on standard error why there is no answer.
-fn no_answer(rt: &HostRuntime, why: &str) -> io::Result<ExitCode> {
-    eprintln!(rt; "{why}")?;
-    Ok(ExitCode::from(NO_ANSWER))
+/// Says on standard error why there is no answer. Where that can't be said, the exit status is
+/// the same.
+fn no_answer(rt: &HostRuntime, why: &str) -> ExitCode {
+    let _ = eprintln!(rt; "{why}");
+    ExitCode::from(NO_ANSWER)
 }
 
 /// Ends as a run has ended.
-fn end(rt: &HostRuntime, answer: Result<Status, RunFault>) -> io::Result<ExitCode> {
+fn end(rt: &HostRuntime, answer: Result<Status, RunFault>) -> ExitCode {
     match answer {
-        Ok(status) => Ok(ExitCode::from(status.code())),
+        Ok(status) => ExitCode::from(status.code()),
         Err(fault) => no_answer(rt, fault_text(&fault)),
     }
 }
@@ -55,7 +56,7 @@ enum Command {
 }
 
 /// Runs a command from a source to standard output.
-fn run<R: Source>(rt: &HostRuntime, command: Command, source: &mut R) -> io::Result<ExitCode> {
+fn run<R: Source>(rt: &HostRuntime, command: Command, source: &mut R) -> ExitCode {
     let mut sink = ToWrite::new(rt.stdout());
     let answer = match command {
         Command::Check => run_check(rt.alloc(), source, &mut sink),
@@ -65,20 +66,20 @@ fn run<R: Source>(rt: &HostRuntime, command: Command, source: &mut R) -> io::Res
 }
 
 /// Runs a command over a file, or over standard input where none is named.
-fn run_over(rt: &HostRuntime, command: Command, file: Option<String>) -> io::Result<ExitCode> {
+fn run_over(rt: &HostRuntime, command: Command, file: Option<String>) -> ExitCode {
     let Some(file) = file else {
         return run(rt, command, &mut FromRead::new(rt.stdin()));
     };
     match fs::open(rt, file.as_str()) {
         Ok(opened) => run(rt, command, &mut FromRead::new(opened)),
         Err(_) => {
-            eprintln!(rt; "vicinity: cannot open {file}")?;
-            Ok(ExitCode::from(NO_ANSWER))
+            let _ = eprintln!(rt; "vicinity: cannot open {file}");
+            ExitCode::from(NO_ANSWER)
         }
     }
 }
 
-fn main(rt: HostRuntime) -> io::Result<ExitCode> {
+fn main(rt: HostRuntime) -> ExitCode {
     let task = match given_words(&rt) {
         Ok(words) => read_words(rt.alloc(), words),
         Err(fault) => Err(fault),

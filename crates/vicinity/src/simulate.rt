@@ -28,6 +28,30 @@ pub(crate) enum Filling {
     TooManyLines,
 }
 
+/// Fills in the slots of the log that a source hands out, as the tags that it lists would answer,
+/// and writes the log's text, or the one line of a refusal. `Read` where the source has failed,
+/// `Memory` where memory was refused: nothing is written then. `Write` where the sink has failed: a
+/// prefix may be out.
+pub fn run_simulate<R: Source, W: Sink>(
+    alloc: Global,
+    source: &mut R,
+    sink: &mut W,
+) -> Result<Status, RunFault>
+    ensures answer { IfOk result (λ s. Answers IsSimulationOf (R.left source.old) (R.left source.new) (W.taken sink.old) (W.taken sink.new) s) }
+    ensures source_works { OnOk result (R.has_failed source.new ≡ false) }
+    ensures sink_works { OnOk result (W.has_failed sink.new ≡ false) }
+    ensures read { IfErr result (λ e. (e ≡ RunFault.Read) ↔ (R.has_failed source.new ≡ true)) }
+    ensures unwritten { IfErr result (λ e. e ≢ RunFault.Write → sink.new ≡ sink.old) }
+    ensures write { IfErr result (λ e. e ≡ RunFault.Write → W.has_failed sink.new ≡ true) }
+    ensures begun { IfErr result (λ e. e ≡ RunFault.Write → AnswersInPart IsSimulationOf (R.left source.old) (R.left source.new) (W.taken sink.old) (W.taken sink.new)) }
+    ensures not_read_again { R.has_failed source.old ≡ true → source.new ≡ source.old }
+    ensures not_written_again { W.has_failed sink.old ≡ true → sink.new ≡ sink.old }
+{
+    let text = read_text(alloc, source)?;
+    let filling = fill_text(alloc, &text)?;
+    write_filling(filling, sink)
+}
+
 /// The answer to a text.
 fn fill_text(alloc: Global, text: &[u8]) -> Result<Filling, AllocError>
     ensures { IfOk result (λ f. IsFilling text.now f) }
@@ -77,26 +101,4 @@ fn write_filling<W: Sink>(filling: Filling, sink: &mut W) -> Result<Status, RunF
         Filling::OutcomeGiven { line } => refuse(&refused_at(line, "OutcomeGiven"), sink),
         Filling::TooManyLines => refuse(&refusal_line(1_000_001, &LineFault::TooManyLines), sink),
     }
-}
-
-/// Fills in the slots of the log that a source hands out, as the tags that it lists would answer,
-/// and writes the log's text, or the one line of a refusal.
-pub fn run_simulate<R: Source, W: Sink>(
-    alloc: Global,
-    source: &mut R,
-    sink: &mut W,
-) -> Result<Status, RunFault>
-    ensures answer { IfOk result (λ s. Answers IsSimulationOf (R.left source.old) (R.left source.new) (W.taken sink.old) (W.taken sink.new) s) }
-    ensures read { IfErr result (λ e. (e ≡ RunFault.Read) ↔ (R.has_failed source.new ≡ true)) }
-    ensures was_read { OnOk result (R.has_failed source.new ≡ false) }
-    ensures not_read_again { R.has_failed source.old ≡ true → source.new ≡ source.old }
-    ensures unwritten { IfErr result (λ e. e ≢ RunFault.Write → sink.new ≡ sink.old) }
-    ensures write { IfErr result (λ e. e ≡ RunFault.Write → W.has_failed sink.new ≡ true) }
-    ensures not_written_again { W.has_failed sink.old ≡ true → sink.new ≡ sink.old }
-    ensures was_written { OnOk result (W.has_failed sink.new ≡ false) }
-    ensures begun { IfErr result (λ e. e ≡ RunFault.Write → AnswersInPart IsSimulationOf (R.left source.old) (R.left source.new) (W.taken sink.old) (W.taken sink.new)) }
-{
-    let text = read_text(alloc, source)?;
-    let filling = fill_text(alloc, &text)?;
-    write_filling(filling, sink)
 }
