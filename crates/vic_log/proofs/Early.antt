@@ -12,22 +12,22 @@ use Rattle.vic_log.specs.Lines.{onto, cut, ends_with, all_but_last, without_last
 use Rattle.vic_log.specs.LineReading.{line_reading}
 use Rattle.vic_log.specs.Text.{is_header, line_fault, reading_fault, log_upto, fault_on, IsFirstFault}
 use Rattle.vic_log.specs.Writing.{joined}
-use Rattle.vic_log.specs.Early.{IsJudged, IsEarlyFault}
+use Rattle.vic_log.specs.Early.{IsLong, IsJudged, IsEarlyFault}
 use Rattle.vic_log.proofs.Written.{not_last, take_front}
 
 -- ---- a fault is told by the lines up to its own
 
-abbrev AgreeBelow : ℕ → List (List ℕ) → List (List ℕ) → Type 0
+abbrev pub AgreeBelow : ℕ → List (List ℕ) → List (List ℕ) → Type 0
 AgreeBelow n ls ms = (i : ℕ) → i < n → slice_get ls i ≡ slice_get ms i
 
-log_agrees : (n : ℕ) (ls ms : List (List ℕ)) → AgreeBelow n ls ms → log_upto ls n ≡ log_upto ms n
+pub log_agrees : (n : ℕ) (ls ms : List (List ℕ)) → AgreeBelow n ls ms → log_upto ls n ≡ log_upto ms n
 log_agrees zero ls ms a = refl
 log_agrees (suc n) ls ms a =
     let h : slice_get ls n ≡ slice_get ms n = a n (omega arith) in
     let k : log_upto ls n ≡ log_upto ms n = log_agrees n ls ms (λ i below. a i (omega arith)) in
     rw (h, k)
 
-fault_agrees : (n : ℕ) (ls ms : List (List ℕ)) → AgreeBelow n ls ms → fault_on ls n ≡ fault_on ms n
+pub fault_agrees : (n : ℕ) (ls ms : List (List ℕ)) → AgreeBelow n ls ms → fault_on ls n ≡ fault_on ms n
 fault_agrees zero ls ms a = refl
 fault_agrees (suc n) ls ms a =
     let h : slice_get ls n ≡ slice_get ms n = a n (omega arith) in
@@ -101,12 +101,12 @@ split [] = record { lines = []; tail = []; whole = refl; cuts = λ more. refl; o
 split (b ∷ text) = split_by b text (split text) (cases_Bool (b == 10))
 
 -- bytes without LF are one part, which goes on with what follows
-record Begins (tail : List ℕ) (parts : List (List ℕ)) : Type 0 where
-  rest : List ℕ
-  others : List (List ℕ)
-  parts_are : parts ≡ (tail ++ rest) ∷ others
+pub record Begins (tail : List ℕ) (parts : List (List ℕ)) : Type 0 where
+  pub rest : List ℕ
+  pub others : List (List ℕ)
+  pub parts_are : parts ≡ (tail ++ rest) ∷ others
 
-onto_begins : (b : ℕ) (parts : List (List ℕ)) → Begins (b ∷ []) (onto b parts)
+pub onto_begins : (b : ℕ) (parts : List (List ℕ)) → Begins (b ∷ []) (onto b parts)
 onto_begins b [] = record { rest = []; others = []; parts_are = refl }
 onto_begins b (part ∷ parts) = record { rest = part; others = parts; parts_are = refl }
 
@@ -123,13 +123,13 @@ lf_parts b tail h = ⊎_elim
     (λ (other : b == 10 ≡ false). (other, (let e = flip_false b 10 other in let k : has (b ∷ tail) 10 ≡ has tail 10 = rw e in sym k ∙ h)))
     (cases_Bool (b == 10))
 
-begins : (b : ℕ) (tail more : List ℕ) → has (b ∷ tail) 10 ≡ false → Begins (b ∷ tail) (cut (b ∷ tail ++ more))
+pub begins : (b : ℕ) (tail more : List ℕ) → has (b ∷ tail) 10 ≡ false → Begins (b ∷ tail) (cut (b ∷ tail ++ more))
 begins b [] more h = begins_by b [] (cut more) (b == 10) (lf_parts b [] h).0 (onto_begins b (cut more))
 begins b (x ∷ tail) more h =
     let p = lf_parts b (x ∷ tail) h in
     begins_by b (x ∷ tail) (cut (x ∷ tail ++ more)) (b == 10) p.0 (onto_more b (x ∷ tail) (cut (x ∷ tail ++ more)) (begins x tail more p.1))
 
-open_part : (b : ℕ) (tail : List ℕ) → has (b ∷ tail) 10 ≡ false → cut (b ∷ tail) ≡ (b ∷ tail) ∷ []
+pub open_part : (b : ℕ) (tail : List ℕ) → has (b ∷ tail) 10 ≡ false → cut (b ∷ tail) ≡ (b ∷ tail) ∷ []
 open_part b [] h = ap (λ t. if t then (b ∷ []) ∷ [] else onto b []) (lf_parts b [] h).0
 open_part b (x ∷ tail) h =
     let p = lf_parts b (x ∷ tail) h in
@@ -155,7 +155,7 @@ content_by part false = omega arith
 content_long : (part : List ℕ) → length part ≤ length (content part) + 2
 content_long part = content_by part (ends_with 10 part)
 
-content_open : (part : List ℕ) → ends_with 10 part ≡ false → content part ≡ part
+pub content_open : (part : List ℕ) → ends_with 10 part ≡ false → content part ≡ part
 content_open part h = ap (λ t. if t then without_last 13 (all_but_last part) else part) h
 
 one_more : (part : List ℕ) (b : ℕ) (t : Bool) → 129 ≤ length part → ends_with 13 part ≡ false → 129 ≤ length (if t then without_last 13 (all_but_last (part ++ b ∷ [])) else part ++ b ∷ [])
@@ -168,10 +168,7 @@ one_more part b true long cr =
     omega arith
 one_more part b false long cr = let size : length (part ++ b ∷ []) ≡ length part + 1 = length-append part (b ∷ []) in omega arith
 
-abbrev IsLong : List ℕ → Type 0
-IsLong part = (130 ≤ length part) ⊎ ((129 ≤ length part) × (ends_with 13 part ≡ false))
-
-still_long : (part rest : List ℕ) → ends_with 10 part ≡ false → IsLong part → 128 < length (content (part ++ rest))
+pub still_long : (part rest : List ℕ) → ends_with 10 part ≡ false → IsLong part → 128 < length (content (part ++ rest))
 still_long part [] h l =
     let e : content (part ++ []) ≡ part = ap content (append-nil part) ∙ content_open part h in
     let n = ap length e in
@@ -185,10 +182,10 @@ still_long part (x ∷ y ∷ rest) h l =
     let size : length (part ++ x ∷ y ∷ rest) ≡ length part + length (x ∷ y ∷ rest) = length-append part (x ∷ y ∷ rest) in
     ⊎_elim (λ (a : 130 ≤ length part). omega arith) (λ (b : (129 ≤ length part) × (ends_with 13 part ≡ false)). let j = b.0 in omega arith) l
 
-too_many : (es : List Entry) (n : ℕ) (line : List ℕ) → 1000000 < n → line_fault es n (Some line) ≡ Some TooManyLines
+pub too_many : (es : List Entry) (n : ℕ) (line : List ℕ) → 1000000 < n → line_fault es n (Some line) ≡ Some TooManyLines
 too_many es n line h = taken (nat_lt 1000000 n) _ _ (lt-ltb 1000000 n h)
 
-too_long : (es : List Entry) (n : ℕ) (line : List ℕ) → 128 < length line → line_fault es n (Some line) ≡ (if nat_lt 1000000 n then Some TooManyLines else Some LineTooLong)
+pub too_long : (es : List Entry) (n : ℕ) (line : List ℕ) → 128 < length line → line_fault es n (Some line) ≡ (if nat_lt 1000000 n then Some TooManyLines else Some LineTooLong)
 too_long es n line h =
     let rest = if nat_eq n 1 then (if is_header line then None else Some Header) else reading_fault es (line_reading line) in
     ap (λ o. if nat_lt 1000000 n then Some TooManyLines else o) (taken (nat_lt 128 (length line)) (Some LineTooLong) rest (lt-ltb 128 (length line) h))
@@ -203,16 +200,16 @@ same_fault es n part rest h (inl (inr l)) =
 
 -- ---- places in a list with more behind it
 
-front_at : (xs ys : List (List ℕ)) (i : ℕ) → i < length xs → slice_get (xs ++ ys) i ≡ slice_get xs i
+pub front_at : (xs ys : List (List ℕ)) (i : ℕ) → i < length xs → slice_get (xs ++ ys) i ≡ slice_get xs i
 front_at [] ys i h = absurd (omega arith)
 front_at (x ∷ xs) ys zero h = refl
 front_at (x ∷ xs) ys (suc i) h = front_at xs ys i (omega arith)
 
-last_at : (xs : List (List ℕ)) (y : List ℕ) (ys : List (List ℕ)) → slice_get (xs ++ y ∷ ys) (length xs) ≡ Some y
+pub last_at : (xs : List (List ℕ)) (y : List ℕ) (ys : List (List ℕ)) → slice_get (xs ++ y ∷ ys) (length xs) ≡ Some y
 last_at [] y ys = refl
 last_at (x ∷ xs) y ys = last_at xs y ys
 
-lines_agree : (n : ℕ) (xs ys : List (List ℕ)) → AgreeBelow n xs ys → AgreeBelow n (map content xs) (map content ys)
+pub lines_agree : (n : ℕ) (xs ys : List (List ℕ)) → AgreeBelow n xs ys → AgreeBelow n (map content xs) (map content ys)
 lines_agree n xs ys a i below = slice_get-map content xs i ∙ (ap (option_map content) (a i below) ∙ sym (slice_get-map content ys i))
 
 -- the last part goes on

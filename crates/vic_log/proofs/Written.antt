@@ -18,11 +18,11 @@ use Rattle.vic_log.proofs.Follow.{order_fault-none}
 
 -- ---- lines that are joined are cut again
 
-or_parts : (a b : Bool) → (a || b) ≡ false → (a ≡ false) × (b ≡ false)
+pub or_parts : (a b : Bool) → (a || b) ≡ false → (a ≡ false) × (b ≡ false)
 or_parts true b h = cc
 or_parts false b h = (refl, h)
 
-flip_test : (a b : ℕ) → nat_eq a b ≡ false → b == a ≡ false
+pub flip_test : (a b : ℕ) → nat_eq a b ≡ false → b == a ≡ false
 flip_test a b h = ⊎_elim
     (λ (e : a ≡ b). let t : nat_eq a b ≡ true = grind (arith) in cc)
     (λ ne. ne_eqb b a (λ e. ne (sym e)))
@@ -36,7 +36,7 @@ cut-line (b ∷ line) rest h =
     let tail = cut-line line rest parts.1 in
     ap (λ t. if t then (b ∷ []) ∷ cut (line ++ 10 ∷ rest) else onto b (cut (line ++ 10 ∷ rest))) other ∙ ap (onto b) tail
 
-index_last : (line : List ℕ) (b : ℕ) → slice_index (line ++ b ∷ []) (length line) ≡ b
+pub index_last : (line : List ℕ) (b : ℕ) → slice_index (line ++ b ∷ []) (length line) ≡ b
 index_last [] b = refl
 index_last (x ∷ line) b = index_last line b
 
@@ -53,7 +53,7 @@ and_false : (a b : Bool) → b ≡ false → (a && b) ≡ false
 and_false true b h = h
 and_false false b h = refl
 
-and_true : (a b : Bool) → a ≡ true → b ≡ true → (a && b) ≡ true
+pub and_true : (a b : Bool) → a ≡ true → b ≡ true → (a && b) ≡ true
 and_true true b g h = h
 and_true false b g h = cc
 

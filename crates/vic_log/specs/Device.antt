@@ -21,6 +21,12 @@ SourceStep old new r buf =
 abbrev pub GivesBytes : Option (List ℕ) → Option (List ℕ) → List ℕ → Type 0
 GivesBytes old new bs = Consumes old new bs
 
+-- the same, where the source tells its bytes before and after
+abbrev pub HandsOut : Option (List ℕ) → Option (List ℕ) → List ℕ → Type 0
+HandsOut None new bytes = ⊤
+HandsOut (Some xs) None bytes = ⊤
+HandsOut (Some xs) (Some ys) bytes = xs ≡ bytes ++ ys
+
 -- reading stopped at the end or at the limit
 abbrev pub Stops : Option (List ℕ) → List ℕ → ℕ → Type 0
 Stops new bs limit = IsAtEnd new ⊎ (length bs ≡ limit)

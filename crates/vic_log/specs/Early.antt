@@ -1,12 +1,21 @@
--- Faults that no further bytes can change.
-use Rattle.std.specs.Prelude.{◌≡◌, ℕ, suc, ◌≤◌, false, true, Some, List, length, slice_get, ◌⊎◌}
+-- Faults that no further bytes can change, and what a source that is read in pieces gives.
+use Rattle.std.specs.Prelude.{◌≡◌, ◌⊎◌, ℕ, suc, ◌≤◌, false, true, ⊤, Option, Some, Result, Ok, Err, List, length, slice_get}
+use Rattle.std.specs.Io.KnownBytes.{IsAtEnd}
+use Rattle.vic_log.specs.declared.entry.Version.TheVariants.{V1}
 use Rattle.vic_log.specs.declared.fault.LineFault.{LineFault}
+use Rattle.vic_log.specs.declared.fault.LogFault.{LogFault}
+use Rattle.vic_log.specs.declared.fault.LogFault.TheVariants.{Line, Read, Memory, Spent}
 use Rattle.vic_log.specs.Lines.{lf, cr, cut, ends_with, lines_of_text}
-use Rattle.vic_log.specs.Text.{IsFirstFault}
+use Rattle.vic_log.specs.Log.{LogValue}
+use Rattle.vic_log.specs.Text.{IsFirstFault, IsLogOf}
 
--- a part with its LF, or of 130 bytes, or of 129 of which the last isn't CR
+-- bytes of one line that are too many whatever follows: 130, or 129 of which the last isn't CR
+abbrev pub IsLong : List ℕ → Type 0
+IsLong part = (130 ≤ length part) ⊎ ((129 ≤ length part) × (ends_with cr part ≡ false))
+
+-- a part with its LF, or one that is too long
 abbrev pub IsJudged : List ℕ → Type 0
-IsJudged part = (ends_with lf part ≡ true) ⊎ ((130 ≤ length part) ⊎ ((129 ≤ length part) × (ends_with cr part ≡ false)))
+IsJudged part = (ends_with lf part ≡ true) ⊎ IsLong part
 
 -- f is the first fault, on line n, and the line is judged by then, or is line 1,000,001
 pub record IsEarlyFault (text : List ℕ) (n : ℕ) (f : LineFault) : Type 0 where
@@ -16,3 +25,19 @@ pub record IsEarlyFault (text : List ℕ) (n : ℕ) (f : LineFault) : Type 0 whe
   pub part : List ℕ
   pub there : slice_get (cut text) place ≡ Some part
   pub judged : IsJudged part ⊎ (n ≡ 1000001)
+
+-- the fault of a line is early; want of memory may come anywhere
+abbrev pub IsEarly : LogFault → List ℕ → Type 0
+IsEarly (Line n f) text = IsEarlyFault text n f
+IsEarly Memory text = ⊤
+IsEarly Read text = ⊥
+IsEarly Spent text = ⊥
+
+-- what these bytes give, handed out by a source that has these left: their log, or the first fault, at the end; an
+-- early fault before it; and a failed read only where they have no early fault
+abbrev pub ReadsAs : Option (List ℕ) → List ℕ → Result LogValue LogFault → Type 0
+ReadsAs left text (Ok log) = IsAtEnd left × IsLogOf (lines_of_text text) log.lines × (log.version ≡ V1)
+ReadsAs left text (Err Read) = (n : ℕ) (f : LineFault) → IsEarlyFault text n f → ⊥
+ReadsAs left text (Err (Line n f)) = IsEarlyFault text n f ⊎ (IsAtEnd left × IsFirstFault (lines_of_text text) n f)
+ReadsAs left text (Err Memory) = ⊤
+ReadsAs left text (Err Spent) = ⊥

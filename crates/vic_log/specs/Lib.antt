@@ -10,6 +10,7 @@ pub mod Lines
 pub mod LineReading
 pub mod Text
 pub mod Early
+pub mod Begun
 pub mod Writing
 pub mod Names
 pub mod Device

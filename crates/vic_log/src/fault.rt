@@ -2,6 +2,7 @@
 
 ghost use Rattle.std.specs.Prelude.{◌≡◌, ◌≤◌, Some, length};
 ghost use Rattle.vic_log.specs.declared.fault.PushFault.TheVariants.{Memory as NoRoom};
+ghost use Rattle.vic_log.specs.declared.fault.LogFault.TheVariants.{Read as NotRead};
 ghost use Rattle.vic_log.specs.Names.{line_fault_name};
 
 use crate::source::DeviceFault;
@@ -109,6 +110,14 @@ impl<T: Drop> From<AllocFailed<T>> for PushFault {
 
     fn from(_: AllocFailed<T>) -> PushFault {
         PushFault::Memory
+    }
+}
+
+impl From<DeviceFault> for LogFault {
+    ghost from_gives = { λ _ e. e ≡ NotRead };
+
+    fn from(_: DeviceFault) -> LogFault {
+        LogFault::Read
     }
 }
 

@@ -10,6 +10,7 @@ pub mod laws;
 mod line;
 mod log;
 mod read;
+mod reader;
 mod sink;
 mod source;
 #[cfg(test)]
@@ -21,6 +22,7 @@ pub use fault::{LineFault, LogFault, PushFault, WriteFault};
 pub use line::line_entry;
 pub use log::Log;
 pub use read::read_log;
+pub use reader::LogReader;
 pub use sink::{Sink, ToWrite, write_whole};
 pub use source::{DeviceFault, FromRead, ReadFault, Source, read_whole};
 pub use write::write_log;

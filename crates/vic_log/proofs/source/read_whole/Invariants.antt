@@ -1,4 +1,4 @@
-use Rattle.std.proofs.Common.{◌≡◌, ◌≤◌, ◌+◌, ◌-◌, ℕ, List, false, vec_len}
+use Rattle.std.proofs.Common.{◌≡◌, ◌≤◌, ◌+◌, ◌-◌, false, vec_len}
 use Rattle.vic_log.specs.Device.{GivesBytes}
 use Rattle.vic_log.proofs.source.read_whole.Given as goal
 

@@ -1,0 +1,26 @@
+-- A text that is read in pieces: its lines so far were judged, and one more may have begun.
+use Rattle.std.specs.Prelude.{◌≡◌, ◌⊎◌, ℕ, ◌*◌, ◌-◌, ◌≤◌, true, false, None, List, [], ◌++◌, length, map}
+use Rattle.vic_frame.specs.Uids.{has}
+use Rattle.vic_log.specs.declared.entry.LogLine.{LogLine}
+use Rattle.vic_log.specs.Lines.{lf, cr, cut, ends_with, content}
+use Rattle.vic_log.specs.Text.{log_upto, fault_on}
+
+-- bytes without LF that may be a line yet, with the CR of its end
+abbrev pub IsShort : List ℕ → Type 0
+IsShort line = (length line ≤ 128) ⊎ ((length line ≡ 129) × (ends_with cr line ≡ true))
+
+-- the text is so many lines without a fault, which gave these log lines, and a line begun that isn't too long yet
+pub record HasJudged (text : List ℕ) (log : List LogLine) (number : ℕ) (line : List ℕ) : Type 0 where
+  pub parts : List (List ℕ)
+  pub cuts : (more : List ℕ) → cut (text ++ more) ≡ parts ++ cut (line ++ more)
+  pub count : length parts ≡ number
+  pub clean : (m : ℕ) → m ≤ number → fault_on (map content parts) m ≡ None
+  pub log_is : log ≡ log_upto (map content parts) number
+  pub limit : number ≤ 1000000
+  pub no_lf : has line lf ≡ false
+  pub short : IsShort line
+  pub last : number ≡ 1000000 → line ≡ []
+
+-- so many bytes at most can still come before a line is too long or is line 1,000,001
+abbrev pub spare : ℕ → List ℕ → ℕ
+spare number line = 130 * (1000000 - number) - length line
