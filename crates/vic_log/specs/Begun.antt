@@ -1,9 +1,12 @@
 -- A text that is read in pieces: its lines so far were judged, and one more may have begun.
-use Rattle.std.specs.Prelude.{◌≡◌, ◌⊎◌, ℕ, ◌*◌, ◌-◌, ◌≤◌, true, false, None, List, [], ◌++◌, length, map}
+use Rattle.std.specs.Prelude.{◌≡◌, ◌⊎◌, ℕ, ◌+◌, ◌*◌, ◌-◌, ◌≤◌, true, false, Option, Some, None, List, [], ◌++◌, length, map}
 use Rattle.vic_frame.specs.Uids.{has}
 use Rattle.vic_log.specs.declared.entry.LogLine.{LogLine}
-use Rattle.vic_log.specs.Lines.{lf, cr, cut, ends_with, content}
-use Rattle.vic_log.specs.Text.{log_upto, fault_on}
+use Rattle.vic_log.specs.declared.fault.LineFault.{LineFault}
+use Rattle.vic_log.specs.declared.reader.Begun.{Begun}
+use Rattle.vic_log.specs.Lines.{lf, cr, cut, ends_with, without_last, content}
+use Rattle.vic_log.specs.Order.{entries}
+use Rattle.vic_log.specs.Text.{line_fault, log_upto, fault_on}
 
 -- bytes without LF that may be a line yet, with the CR of its end
 abbrev pub IsShort : List ℕ → Type 0
@@ -24,3 +27,17 @@ pub record HasJudged (text : List ℕ) (log : List LogLine) (number : ℕ) (line
 -- so many bytes at most can still come before a line is too long or is line 1,000,001
 abbrev pub spare : ℕ → List ℕ → ℕ
 spare number line = 130 * (1000000 - number) - length line
+
+-- the same of what a reader keeps
+abbrev pub HasTaken : List ℕ → Begun → Type 0
+HasTaken text b = HasJudged text b.log.lines b.number b.line.items
+
+abbrev pub spare_of : Begun → ℕ
+spare_of b = spare b.number b.line.items
+
+-- the line begun, once its LF has come
+abbrev pub ended_line : Begun → Option (List ℕ)
+ended_line b = Some (without_last cr b.line.items)
+
+abbrev pub ended_fault : Begun → Option LineFault
+ended_fault b = line_fault (entries b.log.lines) (b.number + 1) (ended_line b)

@@ -41,3 +41,9 @@ ReadsAs left text (Err Read) = (n : ℕ) (f : LineFault) → IsEarlyFault text n
 ReadsAs left text (Err (Line n f)) = IsEarlyFault text n f ⊎ (IsAtEnd left × IsFirstFault (lines_of_text text) n f)
 ReadsAs left text (Err Memory) = ⊤
 ReadsAs left text (Err Spent) = ⊥
+
+-- the log of a whole text, or its first fault, unless the text couldn't be read
+abbrev pub Judges : List ℕ → Result LogValue LogFault → Type 0
+Judges text (Ok log) = IsLogOf (lines_of_text text) log.lines × (log.version ≡ V1)
+Judges text (Err (Line n f)) = IsFirstFault (lines_of_text text) n f
+Judges text (Err e) = ⊤

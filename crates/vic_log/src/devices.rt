@@ -1,6 +1,6 @@
 //! Readers and writers for tests: in pieces, failing at a call, or without end.
 
-ghost use Rattle.std.specs.Prelude.{◌≡◌, ◌-◌, ◌<◌, true, false, min, Some, None};
+ghost use Rattle.std.specs.Prelude.{◌≡◌, ◌-◌, ◌<◌, true, false, Some, None};
 
 use crate::sink::Sink;
 use crate::source::{DeviceFault, Source};

@@ -1,14 +1,15 @@
 //! Laws on logs and their text.
 
-ghost use Rattle.std.specs.Prelude.{◌≡◌, ◌++◌, ◌∷◌, ◌↔◌, ◌⊎◌, ℕ, true, [], List, None};
+ghost use Rattle.std.specs.Prelude.{◌≡◌, ◌++◌, ◌∷◌, ◌↔◌, ◌⊎◌, ℕ, true, [], List, Some, None, Result};
 ghost use Rattle.vic_log.specs.declared.entry.Entry.{Entry};
 ghost use Rattle.vic_log.specs.declared.entry.LogLine.{LogLine};
 ghost use Rattle.vic_log.specs.declared.entry.Version.TheVariants.{V1};
 ghost use Rattle.vic_log.specs.declared.fault.LineFault.{LineFault};
-ghost use Rattle.vic_log.specs.Early.{IsEarlyFault};
+ghost use Rattle.vic_log.specs.declared.fault.LogFault.{LogFault};
+ghost use Rattle.vic_log.specs.Early.{IsEarlyFault, ReadsAs, Judges};
 ghost use Rattle.vic_log.specs.FirstVersion.{IsOfFirstVersion, AreOfFirstVersion, first_opener, is_first_quiet, FitsFirst};
 ghost use Rattle.vic_log.specs.Lines.{lines_of_text};
-ghost use Rattle.vic_log.specs.Log.{IsLog};
+ghost use Rattle.vic_log.specs.Log.{IsLog, LogValue};
 ghost use Rattle.vic_log.specs.Order.{IsInOrder, entries, refusal};
 ghost use Rattle.vic_log.specs.Populations.{Outcome, Fits};
 ghost use Rattle.vic_log.specs.Quiet.{is_quiet, IsSilenced};
@@ -31,6 +32,11 @@ pub fn one_answer()
 /// An early fault is the fault of every text that begins with the bytes.
 pub fn early_fault_stays()
     ensures { (text more : List ℕ) (n : ℕ) (f : LineFault) → IsEarlyFault text n f → IsFirstFault (lines_of_text (text ++ more)) n f }
+{}
+
+/// What a source gives in pieces is what its whole text gives: the bytes handed out, and those that it has left.
+pub fn pieces_give_the_whole()
+    ensures { (given left : List ℕ) (r : Result LogValue LogFault) → ReadsAs (Some left) given r → Judges (given ++ left) r }
 {}
 
 /// Entries in order stay in order with one more exactly where nothing refuses it.

@@ -1,16 +1,13 @@
 //! A log read in pieces.
 
 ghost use Rattle.std.specs.Prelude.{◌≡◌, ◌+◌, ◌-◌, ◌*◌, ◌<◌, ◌≤◌, ◌↔◌, ◌++◌, ◌∷◌, [], ℕ, List, Bool, true, false, Some, None, Err, length, MatchResult, IfOk, IfErr, OnOk, IsTrue};
-ghost use Rattle.arrayvec.specs.ArrayVec.{array_vec_len};
-ghost use Rattle.vic_log.specs.declared.entry.Version.TheVariants.{V1};
 ghost use Rattle.vic_log.specs.declared.fault.LogFault.TheVariants.{Read as NotRead, Spent as IsSpent};
-ghost use Rattle.vic_log.specs.Begun.{HasJudged, IsShort, spare};
+ghost use Rattle.vic_log.specs.Begun.{IsShort, HasTaken, spare_of, ended_line, ended_fault};
 ghost use Rattle.vic_log.specs.Device.{HandsOut};
 ghost use Rattle.vic_log.specs.Early.{IsLong, IsEarly, ReadsAs};
 ghost use Rattle.vic_log.specs.Lines.{cr, without_last, lines_of_text};
 ghost use Rattle.vic_log.specs.Log.{last_from, with_lines};
-ghost use Rattle.vic_log.specs.Order.{entries};
-ghost use Rattle.vic_log.specs.Text.{IsLogOf, Refuses, RefusesLine, line_fault, logged};
+ghost use Rattle.vic_log.specs.Text.{IsLogOf, Refuses, RefusesLine, logged};
 
 use crate::fault::{LineFault, LogFault};
 use crate::log::Log;
@@ -23,11 +20,14 @@ use std::marker::Model;
 /// How many bytes are asked for at once.
 const PIECE: usize = 16384;
 
-/// The lines of a text that were judged, and the line begun.
+/// What was read so far.
 #[derive(Drop)]
 struct Begun {
+    /// The log of the lines judged.
     log: Log,
+    /// How many lines were judged.
     number: u32,
+    /// The bytes of the line begun. A line has at most 128 bytes, and CR and LF.
     line: ArrayVec<u8, 130>,
 }
 
@@ -55,9 +55,9 @@ fn end_line(begun: &mut Begun) -> Result<(), LogFault>
     requires above { 0 < begun.old.number → last_from 1 begun.old.log.lines ≤ begun.old.number }
     requires limit { begun.old.number ≤ 1000000 }
     ensures answer { MatchResult result
-        (λ _. line_fault (entries begun.old.log.lines) (begun.old.number + 1) (Some (without_last cr begun.old.line.items)) ≡ None)
-        (RefusesLine (line_fault (entries begun.old.log.lines) (begun.old.number + 1) (Some (without_last cr begun.old.line.items))) (begun.old.number + 1)) }
-    ensures log { OnOk result (begun.new.log ≡ with_lines begun.old.log (logged (begun.old.number + 1) (Some (without_last cr begun.old.line.items)))) }
+        (λ _. ended_fault begun.old ≡ None)
+        (RefusesLine (ended_fault begun.old) (begun.old.number + 1)) }
+    ensures log { OnOk result (begun.new.log ≡ with_lines begun.old.log (logged (begun.old.number + 1) (ended_line begun.old))) }
     ensures number { OnOk result (begun.new.number ≡ begun.old.number + 1) }
     ensures line { OnOk result (begun.new.line.items ≡ []) }
 {
@@ -72,11 +72,11 @@ fn end_line(begun: &mut Begun) -> Result<(), LogFault>
 
 /// Takes one byte more of the text.
 fn take_byte(begun: &mut Begun, byte: u8) -> Result<(), LogFault>
-    requires judged { (text : List ℕ) × HasJudged text begun.old.log.lines begun.old.number begun.old.line.items }
-    ensures ok { OnOk result ((text : List ℕ) → HasJudged text begun.old.log.lines begun.old.number begun.old.line.items → HasJudged (text ++ byte ∷ []) begun.new.log.lines begun.new.number begun.new.line.items) }
-    ensures err { IfErr result (λ e. (text more : List ℕ) → HasJudged text begun.old.log.lines begun.old.number begun.old.line.items → IsEarly e (text ++ byte ∷ more)) }
+    requires judged { (text : List ℕ) × HasTaken text begun.old }
+    ensures ok { OnOk result ((text : List ℕ) → HasTaken text begun.old → HasTaken (text ++ byte ∷ []) begun.new) }
+    ensures err { IfErr result (λ e. (text more : List ℕ) → HasTaken text begun.old → IsEarly e (text ++ byte ∷ more)) }
     ensures version { OnOk result (begun.new.log.version ≡ begun.old.log.version) }
-    ensures less { OnOk result (spare begun.new.number begun.new.line.items + 1 ≤ spare begun.old.number begun.old.line.items) }
+    ensures less { OnOk result (spare_of begun.new + 1 ≤ spare_of begun.old) }
 {
     if begun.number == 1_000_000 {
         return Err(LogFault::Line {
@@ -99,11 +99,11 @@ fn take_byte(begun: &mut Begun, byte: u8) -> Result<(), LogFault>
 
 /// Takes some bytes more of the text.
 fn take_piece(begun: &mut Begun, bytes: &[u8]) -> Result<(), LogFault>
-    requires judged { (text : List ℕ) × HasJudged text begun.old.log.lines begun.old.number begun.old.line.items }
-    ensures ok { OnOk result ((text : List ℕ) → HasJudged text begun.old.log.lines begun.old.number begun.old.line.items → HasJudged (text ++ bytes.now) begun.new.log.lines begun.new.number begun.new.line.items) }
-    ensures err { IfErr result (λ e. (text : List ℕ) → HasJudged text begun.old.log.lines begun.old.number begun.old.line.items → IsEarly e (text ++ bytes.now)) }
+    requires judged { (text : List ℕ) × HasTaken text begun.old }
+    ensures ok { OnOk result ((text : List ℕ) → HasTaken text begun.old → HasTaken (text ++ bytes.now) begun.new) }
+    ensures err { IfErr result (λ e. (text : List ℕ) → HasTaken text begun.old → IsEarly e (text ++ bytes.now)) }
     ensures version { OnOk result (begun.new.log.version ≡ begun.old.log.version) }
-    ensures less { OnOk result (spare begun.new.number begun.new.line.items + length bytes.now ≤ spare begun.old.number begun.old.line.items) }
+    ensures less { OnOk result (spare_of begun.new + length bytes.now ≤ spare_of begun.old) }
 {
     for byte in bytes {
         take_byte(begun, *byte)?;
@@ -113,8 +113,8 @@ fn take_piece(begun: &mut Begun, bytes: &[u8]) -> Result<(), LogFault>
 
 /// Judges what is left at the end of the text.
 fn end_text(begun: Begun) -> Result<Log, LogFault>
-    requires judged { (text : List ℕ) × HasJudged text begun.log.lines begun.number begun.line.items }
-    ensures answer { (text : List ℕ) → HasJudged text begun.log.lines begun.number begun.line.items →
+    requires judged { (text : List ℕ) × HasTaken text begun }
+    ensures answer { (text : List ℕ) → HasTaken text begun →
         MatchResult result (λ log. IsLogOf (lines_of_text text) log.lines) (Refuses text) }
     ensures version { IfOk result (λ log. log.version ≡ begun.log.version) }
 {

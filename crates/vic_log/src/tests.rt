@@ -1,9 +1,9 @@
 //! Logs that are read, refused, and written.
 
-use crate::devices::{OneByOne, Stuck};
+use crate::devices::{OneByOne, Pieces, Stuck};
 use crate::{
-    Entry, LineFault, Log, LogFault, PushFault, Sink, ToWrite, Version, WriteFault, line_entry,
-    read_log, write_log,
+    Entry, LineFault, Log, LogFault, LogReader, PushFault, Sink, Source, ToWrite, Version,
+    WriteFault, line_entry, read_log, write_log,
 };
 use std::test::Fail;
 use vic_frame::{FrameFault, read_request};
@@ -255,5 +255,60 @@ fn writers_that_fail(rt: HostRuntime) -> Result<(), Fail> {
     let mut stuck = ToWrite::new(Stuck::new(1));
     assert_eq!(rt; write_log(&log, &mut stuck), Err(WriteFault));
     assert!(rt; stuck.failed());
+    Ok(())
+}
+
+/// A round of sixteen slots in which two tags answer.
+const SESSION: &[u8] =
+    b"vicinity-log 1\nT 060100CD09\nS\nR 0000A1000000000104E06745\nR 0000B2000000000104E0CF94\nS\nS\nS\nS\nS\nS\nS\nS\nS\nS\nS\nS\nS\nU E0040100000000A1\nU E0040100000000B2\n";
+
+#[test]
+fn logs_in_pieces(rt: HostRuntime) -> Result<(), Fail> {
+    let whole = read_log(rt.alloc(), SESSION).map_err(|_| "refused")?;
+    for piece in 1..300usize {
+        let mut reader = LogReader::new(rt.alloc());
+        let mut source = Pieces::new(SESSION, piece, 0);
+        let log = reader.read_all(&mut source).map_err(|_| "refused")?;
+        assert!(rt; log.lines() == whole.lines());
+        let reads = source.reads();
+        assert_eq!(rt; reader.read_all(&mut source).err(), Some(LogFault::Spent));
+        assert_eq!(rt; source.reads(), reads);
+    }
+    Ok(())
+}
+
+#[test]
+fn faults_in_pieces(rt: HostRuntime) -> Result<(), Fail> {
+    let header = LogFault::Line {
+        line: 1,
+        fault: LineFault::Header,
+    };
+    let long = LogFault::Line {
+        line: 2,
+        fault: LineFault::LineTooLong,
+    };
+    let too_long = comment(&rt, 129)?;
+    let mut carriage_return = comment(&rt, 128)?;
+    carriage_return.push(b'\r')?;
+    let mut ended = comment(&rt, 128)?;
+    ended.extend_from_slice(b"\r\n")?;
+    let texts: [(&[u8], u64, Option<LogFault>); 8] = [
+        (b"vicinity-log 1\n", 2, Some(LogFault::Read)),
+        (b"vicinity-log 9\n", 2, Some(header)),
+        (b"vicinity-log 9", 2, Some(LogFault::Read)),
+        (&too_long, 2, Some(long)),
+        (&carriage_return, 2, Some(LogFault::Read)),
+        (&carriage_return, 0, Some(long)),
+        (&ended, 0, None),
+        (b"", 0, Some(header)),
+    ];
+    for (text, fail_at, fault) in texts {
+        let mut source = Pieces::new(text, 1000, fail_at);
+        assert_eq!(rt;
+            LogReader::new(rt.alloc()).read_all(&mut source).err(),
+            fault
+        );
+        assert!(rt; source.failed() == (fault == Some(LogFault::Read)));
+    }
     Ok(())
 }
