@@ -1,5 +1,5 @@
 -- What a run over a text reads and writes.
-use Rattle.std.specs.Prelude.{ℕ, List, Option}
+use Rattle.std.specs.Prelude.{ℕ, ◌≤◌, List, length, Option}
 use Rattle.std.specs.Io.KnownBytes.{Appends}
 use Rattle.vic_log.specs.Device.{GivesBytes, Stops, HasTakenPrefix}
 use Rattle.vicinity.specs.declared.status.Status.{Status}
@@ -8,6 +8,7 @@ use Rattle.vicinity.specs.declared.status.Status.{Status}
 pub record HandsOut (left left' : Option (List ℕ)) (text : List ℕ) : Type 0 where
   pub given : GivesBytes left left' text
   pub stopped : Stops left' text 130000001
+  pub bound : length text ≤ 130000001
 
 -- the source handed out a text, and the sink took what is the answer to it, with this status, and nothing else
 pub record Answers (IsAnswerTo : List ℕ → List ℕ → Status → Type 0) (left left' taken taken' : Option (List ℕ)) (status : Status) : Type 0 where
