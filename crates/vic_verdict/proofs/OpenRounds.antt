@@ -1,5 +1,5 @@
 -- The open round at a place, as it is kept where the Quiet UIDs aren't needed; and lists that grow.
-use Rattle.std.proofs.Common.{◌≡◌, ℕ, zero, suc, ◌+◌, ◌≤◌, List, [], ◌∷◌, ◌++◌, Option, Some, None, length, refl, sym, ap, ◌∙◌, subst, arith, inl, inr, ⊎_elim, add-one}
+use Rattle.std.proofs.Common.{◌≡◌, ℕ, zero, suc, ◌+◌, ◌≤◌, List, [], ◌∷◌, ◌++◌, Option, Some, length, refl, sym, ap, ◌∙◌, subst, arith, inl, inr, ⊎_elim, add-one}
 use Rattle.std.specs.Prelude.{◌⊎◌, IfSome, slice_get}
 use Rattle.vic_log.specs.declared.entry.Entry.{Entry}
 use Rattle.vic_log.specs.Order.{IsInOrder}
@@ -12,9 +12,6 @@ use Rattle.vic_verdict.proofs.Stands.{small_step}
 pub record IsOpenRound (es : List Entry) (i : ℕ) (round : Option Round) : Type 0 where
   pub open_round : round ≡ round_at es i
   pub few_slots : IfSome round (λ r. r.next ≤ 16)
-
-pub no_round : (es : List Entry) → IsOpenRound es 0 None
-no_round es = record { open_round = refl; few_slots = tt }
 
 pub next_round : (es : List Entry) (i : ℕ) (e : Entry) (next : Option Round) → IsInOrder es → slice_get es i ≡ Some e → next ≡ round_at es (i + 1) → IsOpenRound es (i + 1) next
 next_round es i e next o k r = record {

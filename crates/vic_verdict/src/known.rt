@@ -3,7 +3,7 @@
 //! Between two field cycles tags only fall silent. So of those in a mask that aren't Quiet, a slot
 //! leaves nobody, or the one that was heard, and later slots of the mask can rule out no others.
 
-ghost use Rattle.std.specs.Prelude.{◌≡◌, ℕ, suc, Bool, true, List, Option, Some, IfOk, OnOk, IsTrue, slice_get, length};
+ghost use Rattle.std.specs.Prelude.{◌≡◌, ℕ, suc, Bool, true, List, Some, IfOk, OnOk, IsTrue, slice_get, length};
 ghost use Rattle.vic_log.specs.declared.entry.Entry.{Entry as EntryValue};
 ghost use Rattle.vic_log.specs.Rounds.{mask_at};
 ghost use Rattle.vic_log.specs.Order.{IsInOrder, entries, AreValid};
