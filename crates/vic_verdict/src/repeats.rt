@@ -84,8 +84,15 @@ mod tests {
         }
         let log = read_log(alloc, text.as_bytes())?;
         let repeats = find_repeats(alloc, log.lines())?;
-        assert_eq!(rt; repeats.known.as_slice(), known);
+        assert_eq!(rt; repeats.known.len(), known.len());
+        for (index, flag) in known.iter().enumerate() {
+            assert_eq!(rt; repeats.is_known(index), *flag);
+        }
         assert_eq!(rt; repeats.again.as_slice(), again);
+        for (index, place) in again.iter().enumerate() {
+            let later = repeats.is_said_later(index, log.lines().len());
+            assert_eq!(rt; later, place.is_some());
+        }
         Ok(())
     }
 
