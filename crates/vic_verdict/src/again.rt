@@ -3,7 +3,7 @@
 //! Between two field cycles tags only fall silent. So whoever answers in a later slot of a mask
 //! answered in the earlier ones too: of equal collisions the last one alone has to be looked at.
 
-ghost use Rattle.std.specs.Prelude.{◌≡◌, suc, false, List, Some, IfOk, OnOk, slice_get, length};
+ghost use Rattle.std.specs.Prelude.{◌≡◌, ℕ, suc, false, List, Some, IfOk, OnOk, slice_get, length};
 ghost use Rattle.vic_log.specs.declared.entry.Entry.{Entry as EntryValue};
 ghost use Rattle.vic_log.specs.Rounds.{mask_at};
 ghost use Rattle.vic_log.specs.Quiet.{wakes};

@@ -79,11 +79,11 @@ fn judge_lines<S: OpenSet>(alloc: Global, lines: &[LogLine]) -> Result<Verdict, 
     let repeats = find_repeats(alloc, lines)?;
     let set: S = settle_all(alloc, lines, &repeats)?;
     if supplies_all(alloc, &set, lines, &repeats)? {
-        judge_possible(alloc, set, lines, &repeats)
-    } else {
-        let line = first_impossible_line::<S>(alloc, lines, &repeats)?;
-        Ok(Verdict::Impossible { line })
+        return judge_possible(alloc, set, lines, &repeats);
     }
+    drop(set);
+    let line = first_impossible_line::<S>(alloc, lines, &repeats)?;
+    Ok(Verdict::Impossible { line })
 }
 
 /// The verdict on a log, over any set of open UIDs.
