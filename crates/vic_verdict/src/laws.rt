@@ -45,7 +45,7 @@ pub fn unsettled_where_unlisted_is_possible()
     ensures { (es : List Entry) → ((m : BitMask) × IsUnsettled es m) ↔ ((u : ℕ) × IsPossibleUid es u × (has (listed es) u ≡ false)) }
 {}
 
-/// A complete log is settled, and a settled log complete.
+/// Where the verdict is `Complete`, the list is whole, and where the list is whole, it is the verdict.
 pub fn complete_is_whole()
     ensures sound { (lines : List LogLine) (count : ℕ) → IsVerdict lines (Complete count) → IsWhole (entries lines) }
     ensures exact { (lines : List LogLine) → IsWhole (entries lines) → IsVerdict lines (Complete (length (listed (entries lines)))) }
