@@ -1,7 +1,6 @@
 -- What `check` answers to a text: the line and the status of its verdict, or of its refusal.
 use Rattle.std.specs.Prelude.{◌≡◌, ℕ, List, ◌++◌, length, codes, decimal}
 use Rattle.vic_log.specs.declared.entry.LogLine.{LogLine}
-use Rattle.vic_log.specs.declared.fault.LineFault.{LineFault}
 use Rattle.vic_log.specs.Lines.{lines_of_text}
 use Rattle.vic_log.specs.Order.{entries, listed}
 use Rattle.vic_log.specs.Text.{IsLogOf, IsFirstFault}
