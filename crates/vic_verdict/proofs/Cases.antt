@@ -134,7 +134,3 @@ unlisted_at es set us certain xs r j e h =
 pub doubtful_at : (es : List Entry) (set : ℕ → Bool) (us certain xs : List ℕ) (r : Option ℕ) → Has es set us certain → xs ≡ us → LeastFailing xs (has certain) r → MatchOption r (NoSuch (IsDoubtful es)) (IsLeast (IsDoubtful es))
 doubtful_at es set us certain xs r j e h =
     least_as (IsFailing us (has certain)) (IsDoubtful es) r (doubtful_iff es certain us j.possible j.uids_certain j.uids_listed) (subst (λ ys. LeastFailing ys (has certain) r) e h)
-
-pub left_at : (es : List Entry) (set set' : ℕ → Bool) (us certain xs : List ℕ) → Has es set us certain → xs ≡ us → SameUids set' (without_all set xs) → IsLeft es set'
-left_at es set set' us certain xs j e h =
-    left_of es set set' us j.possible j.uids_open j.uids_listed (subst (λ ys. SameUids set' (without_all set ys)) e h)

@@ -20,3 +20,4 @@ pub mod MaskMaps
 pub mod Repeating
 pub mod OpenRounds
 pub mod Skipping
+pub mod Wide

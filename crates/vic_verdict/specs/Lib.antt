@@ -3,3 +3,4 @@ pub mod Verdict
 pub mod Places
 pub mod Rising
 pub mod Repeats
+pub mod Unsettled

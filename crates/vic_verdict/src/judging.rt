@@ -1,6 +1,6 @@
 //! The verdict on a log.
 
-ghost use Rattle.std.specs.Prelude.{◌≡◌, ℕ, IfOk, OnOk, length};
+ghost use Rattle.std.specs.Prelude.{◌≡◌, ℕ, IfOk, length};
 ghost use Rattle.vic_frame.specs.Uids.{has};
 ghost use Rattle.vic_tree.specs.OpenSet.{SameUids};
 ghost use Rattle.vic_log.specs.Slots.{slots_of, is_open};
@@ -8,7 +8,6 @@ ghost use Rattle.vic_verdict.specs.Possible.{IsPossible};
 ghost use Rattle.vic_log.specs.Order.{IsInOrder, entries, listed, IsRisingFrom, AreValid};
 ghost use Rattle.vic_verdict.specs.Verdict.{IsVerdict, IsWhole, IsReached};
 ghost use Rattle.vic_verdict.specs.Repeats.{AreRepeats};
-ghost use Rattle.vic_verdict.specs.Rising.{without_all};
 ghost use Rattle.vic_verdict.specs.declared.verdict.Verdict.TheVariants.{Complete};
 
 use crate::certain::certain_uids;
@@ -18,27 +17,16 @@ use crate::possible::supplies_all;
 use crate::repeats::{Repeats, find_repeats};
 use crate::rising::{is_among, least_failing};
 use crate::settle::settle_all;
+use crate::unsettled::first_unsettled;
 use crate::verdict::Verdict;
 use std::alloc::{AllocError, Global};
-use vic_frame::{Mask, Uid};
 use vic_log::{Log, LogLine};
 use vic_tree::{MaskTree, OpenSet};
-
-/// Takes the UIDs out of a set.
-pub fn take_out<S: OpenSet>(set: &mut S, uids: &[Uid]) -> Result<(), AllocError>
-    ensures { OnOk result (SameUids (S.is_open set.new) (without_all (S.is_open set.old) uids.now)) }
-{
-    for uid in uids {
-        let _number = uid.number();
-        set.settle(&Mask::of(*uid), &[])?;
-    }
-    Ok(())
-}
 
 /// The verdict on a possible log, by the UIDs that it leaves open.
 fn judge_possible<S: OpenSet>(
     alloc: Global,
-    mut set: S,
+    set: S,
     lines: &[LogLine],
     repeats: &Repeats,
 ) -> Result<Verdict, AllocError>
@@ -58,8 +46,7 @@ fn judge_possible<S: OpenSet>(
     if let Some(uid) = least_failing(&certain, |u| is_among(&listed, u)) {
         return Ok(Verdict::Unlisted(uid));
     }
-    take_out(&mut set, &listed)?;
-    if let Some(mask) = set.widest() {
+    if let Some(mask) = first_unsettled(alloc, set, lines, repeats, &listed)? {
         return Ok(Verdict::Unsettled(mask));
     }
     if let Some(uid) = least_failing(&listed, |u| is_among(&certain, u)) {

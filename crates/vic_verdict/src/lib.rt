@@ -18,6 +18,7 @@ mod settle;
 mod suspect;
 #[cfg(test)]
 mod tests;
+mod unsettled;
 mod verdict;
 
 pub use judging::{judge, judge_with};

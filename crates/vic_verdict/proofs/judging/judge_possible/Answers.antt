@@ -1,7 +1,9 @@
-use Rattle.std.proofs.Common.{Some, None, rules}
+use Rattle.std.proofs.Common.{Some, None, subst, rules}
+use Rattle.std.specs.Prelude.{MatchOption}
 use Rattle.vic_frame.specs.Uids.{has}
 use Rattle.vic_log.specs.Order.{entries}
-use Rattle.vic_verdict.proofs.Cases.{Has, absent_at, unlisted_at, doubtful_at, left_at, widest_unsettled, none_unsettled}
+use Rattle.vic_verdict.specs.Verdict.{IsUnsettled, IsFirstMask, NoSuch}
+use Rattle.vic_verdict.proofs.Cases.{Has, absent_at, unlisted_at, doubtful_at}
 use Rattle.vic_verdict.proofs.judging.judge_possible.Goals as goal
 
 pub returns-in-Some : goal.returns-in-Some
@@ -23,8 +25,8 @@ returns-in-Some-least_failing g c =
     let none_absent = absent_at es set us certain c.deref.result.now None j c.deref.ensures.value (c.in_default.ensures set (λ u b p. search rules)) in
     (c.requires.possible, none_absent, unlisted_at es set us certain c.deref-2.result.now (Some c.in-Some-least_failing.uid) j c.deref-2.ensures.value (c.in-Some-least_failing.ensures (has us) (λ u b p. search rules)))
 
-pub returns-in-Some-widest : goal.returns-in-Some-widest
-returns-in-Some-widest g c =
+pub returns-in-Some-2 : goal.returns-in-Some-2
+returns-in-Some-2 g c =
     let es = entries c.args.lines.now in
     let set = g.S.OpenSet.is_open c.args.set in
     let us = c.in_ok-listed.listed.items in
@@ -32,8 +34,7 @@ returns-in-Some-widest g c =
     let j : Has es set us certain = record { possible = c.requires.possible; uids_open = c.requires.open; uids_listed = c.in_ok-listed.ensures.members; are_uids = c.in_ok-listed.ensures.uids; uids_certain = c.in_ok-certain.ensures } in
     let none_absent = absent_at es set us certain c.deref.result.now None j c.deref.ensures.value (c.in_default.ensures set (λ u b p. search rules)) in
     let none_unlisted = unlisted_at es set us certain c.deref-2.result.now None j c.deref-2.ensures.value (c.in_default-least_failing.ensures (has us) (λ u b p. search rules)) in
-    let left = left_at es set (g.S.OpenSet.is_open c.take_out.new.set) us certain c.deref-3.result.now j c.deref-3.ensures.value c.in_ok-take_out.ensures in
-    (c.requires.possible, none_absent, none_unlisted, widest_unsettled es (g.S.OpenSet.is_open c.take_out.new.set) c.in-Some-widest.mask left c.in-Some-widest.ensures.found)
+    (c.requires.possible, none_absent, none_unlisted, subst (λ m. MatchOption m (NoSuch (IsUnsettled es)) (IsFirstMask (IsUnsettled es))) c.in-Some-2.is c.in_ok-mask.ensures)
 
 pub returns-in-Some-least_failing-2 : goal.returns-in-Some-least_failing-2
 returns-in-Some-least_failing-2 g c =
@@ -44,8 +45,7 @@ returns-in-Some-least_failing-2 g c =
     let j : Has es set us certain = record { possible = c.requires.possible; uids_open = c.requires.open; uids_listed = c.in_ok-listed.ensures.members; are_uids = c.in_ok-listed.ensures.uids; uids_certain = c.in_ok-certain.ensures } in
     let none_absent = absent_at es set us certain c.deref.result.now None j c.deref.ensures.value (c.in_default.ensures set (λ u b p. search rules)) in
     let none_unlisted = unlisted_at es set us certain c.deref-2.result.now None j c.deref-2.ensures.value (c.in_default-least_failing.ensures (has us) (λ u b p. search rules)) in
-    let left = left_at es set (g.S.OpenSet.is_open c.take_out.new.set) us certain c.deref-3.result.now j c.deref-3.ensures.value c.in_ok-take_out.ensures in
-    let none_left = none_unsettled es (g.S.OpenSet.is_open c.take_out.new.set) left c.in_default-widest.ensures.empty in
+    let none_left : NoSuch (IsUnsettled es) = subst (λ m. MatchOption m (NoSuch (IsUnsettled es)) (IsFirstMask (IsUnsettled es))) c.in_default-2.is c.in_ok-mask.ensures in
     (c.requires.possible, none_absent, none_unlisted, none_left, doubtful_at es set us certain c.deref-4.result.now (Some c.in-Some-least_failing-2.uid) j c.deref-4.ensures.value (c.in-Some-least_failing-2.ensures (has certain) (λ u b p. search rules)))
 
 pub returns : goal.returns
@@ -57,7 +57,6 @@ returns g c =
     let j : Has es set us certain = record { possible = c.requires.possible; uids_open = c.requires.open; uids_listed = c.in_ok-listed.ensures.members; are_uids = c.in_ok-listed.ensures.uids; uids_certain = c.in_ok-certain.ensures } in
     let none_absent = absent_at es set us certain c.deref.result.now None j c.deref.ensures.value (c.in_default.ensures set (λ u b p. search rules)) in
     let none_unlisted = unlisted_at es set us certain c.deref-2.result.now None j c.deref-2.ensures.value (c.in_default-least_failing.ensures (has us) (λ u b p. search rules)) in
-    let left = left_at es set (g.S.OpenSet.is_open c.take_out.new.set) us certain c.deref-3.result.now j c.deref-3.ensures.value c.in_ok-take_out.ensures in
-    let none_left = none_unsettled es (g.S.OpenSet.is_open c.take_out.new.set) left c.in_default-widest.ensures.empty in
+    let none_left : NoSuch (IsUnsettled es) = subst (λ m. MatchOption m (NoSuch (IsUnsettled es)) (IsFirstMask (IsUnsettled es))) c.in_default-2.is c.in_ok-mask.ensures in
     let none_doubtful = doubtful_at es set us certain c.deref-4.result.now None j c.deref-4.ensures.value (c.in_default-least_failing-2.ensures (has certain) (λ u b p. search rules)) in
     (c.requires.possible, none_absent, none_unlisted, none_left, none_doubtful, c.count_listed-count.ensures)
