@@ -73,20 +73,29 @@ fn judge_lines<S: OpenSet>(alloc: Global, lines: &[LogLine]) -> Result<Verdict, 
     Ok(Verdict::Impossible { line })
 }
 
-/// The verdict on a log, over any set of open UIDs.
+/// The verdict on a log, over any set of open UIDs: the same over each. It is want of memory alone
+/// that keeps it from an answer.
 pub fn judge_with<S: OpenSet>(alloc: Global, log: &Log) -> Result<Verdict, AllocError>
     ensures verdict { IfOk result (λ v. IsVerdict log.now.lines v) }
-    ensures whole { IfOk result (λ v. (count : ℕ) → v ≡ Complete count → IsWhole (entries log.now.lines) × (count ≡ length (listed (entries log.now.lines)))) }
-    ensures reached { IfOk result (λ v. IsReached (entries log.now.lines) → v ≡ Complete (length (listed (entries log.now.lines)))) }
+    ensures whole { IfOk result (λ v. (count : ℕ) → v ≡ Complete count
+        → IsWhole (entries log.now.lines) × (count ≡ length (listed (entries log.now.lines)))) }
+    ensures reached { IfOk result (λ v. IsReached (entries log.now.lines)
+        → v ≡ Complete (length (listed (entries log.now.lines)))) }
 {
     judge_lines::<S>(alloc, log.lines())
 }
 
 /// The verdict on a log.
+///
+/// Where it is `Complete`, some population could have given the log, and every population that
+/// could has exactly the listed UIDs (clause `whole`). A log that leaves nothing open but what it
+/// heard and lists is `Complete` (clause `reached`).
 pub fn judge(alloc: Global, log: &Log) -> Result<Verdict, AllocError>
     ensures verdict { IfOk result (λ v. IsVerdict log.now.lines v) }
-    ensures whole { IfOk result (λ v. (count : ℕ) → v ≡ Complete count → IsWhole (entries log.now.lines) × (count ≡ length (listed (entries log.now.lines)))) }
-    ensures reached { IfOk result (λ v. IsReached (entries log.now.lines) → v ≡ Complete (length (listed (entries log.now.lines)))) }
+    ensures whole { IfOk result (λ v. (count : ℕ) → v ≡ Complete count
+        → IsWhole (entries log.now.lines) × (count ≡ length (listed (entries log.now.lines)))) }
+    ensures reached { IfOk result (λ v. IsReached (entries log.now.lines)
+        → v ≡ Complete (length (listed (entries log.now.lines)))) }
 {
     judge_with::<MaskTree>(alloc, log)
 }
