@@ -4,7 +4,7 @@ ghost use Rattle.std.specs.Prelude.{◌≡◌, ◌≢◌, ◌↔◌, ℕ, List, 
 ghost use Rattle.vic_verdict.specs.declared.verdict.Verdict.TheVariants.{Complete};
 ghost use Rattle.vicinity.specs.CheckText.{IsAnswer, IsCheckOf, IsCompleteText, answer_line, answer_status};
 ghost use Rattle.vicinity.specs.Runs.{Answers, AnswersInPart};
-ghost use Rattle.vicinity.specs.CompleteRun.{HandsOutComplete};
+ghost use Rattle.vicinity.specs.CompleteRun.{GivesCompleteText};
 
 use crate::digits::Text;
 use crate::input::read_text;
@@ -36,7 +36,7 @@ pub fn run_check<R: Source, W: Sink>(
     // where it wrote `complete N`, the list of the log is whole and N long
     ensures whole { OnOk result ((before rest : List ℕ) → W.taken sink.old ≡ Some before
         → W.taken sink.new ≡ Some (before ++ (codes "complete " ++ rest))
-        → HandsOutComplete (R.left source.old) (R.left source.new) rest) }
+        → GivesCompleteText (R.left source.old) (R.left source.new) rest) }
     ensures source_works { OnOk result (R.has_failed source.new ≡ false) }
     ensures sink_works { OnOk result (W.has_failed sink.new ≡ false) }
     ensures read { IfErr result (λ e. (e ≡ RunFault.Read) ↔ (R.has_failed source.new ≡ true)) }

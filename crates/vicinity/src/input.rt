@@ -1,7 +1,7 @@
 //! How a text comes in.
 
 ghost use Rattle.std.specs.Prelude.{◌≡◌, ◌≢◌, ◌↔◌, true, false, IfOk, IfErr, OnOk};
-ghost use Rattle.vicinity.specs.Runs.{HandsOut};
+ghost use Rattle.vicinity.specs.Runs.{GivesText};
 
 use crate::status::RunFault;
 use std::alloc::Global;
@@ -12,7 +12,7 @@ const READ_AT_MOST: usize = 130_000_001;
 
 /// The text that a source hands out. A source that has failed is not read again.
 pub(crate) fn read_text<R: Source>(alloc: Global, source: &mut R) -> Result<Vec<u8>, RunFault>
-    ensures text { IfOk result (λ text. HandsOut (R.left source.old) (R.left source.new) text.items) }
+    ensures text { IfOk result (λ text. GivesText (R.left source.old) (R.left source.new) text.items) }
     ensures works { OnOk result (R.has_failed source.new ≡ false) }
     ensures failed { IfErr result (λ e. (e ≡ RunFault.Read) ↔ (R.has_failed source.new ≡ true)) }
     ensures fault { IfErr result (λ e. e ≢ RunFault.Write) }
