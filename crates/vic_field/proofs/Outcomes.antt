@@ -4,11 +4,11 @@ use Rattle.std.specs.Prelude.{nat_eq, if◌then◌else◌}
 use Rattle.std.specs.List.{filter}
 use Rattle.std.proofs.lemmas.Bool.{eqb-true, eq-eqb, and_parts, and_from, both_ways, false≢true, false_from_ne_true}
 use Rattle.vic_frame.specs.Masks.{BitMask, lies_in}
-use Rattle.vic_frame.specs.Uids.{IsUid, has}
+use Rattle.vic_frame.specs.Uids.{IsUid, has, AreDifferent}
 use Rattle.vic_log.specs.declared.entry.Entry.{Entry}
 use Rattle.vic_log.specs.Populations.{IsPopulation, Outcome, Nobody, Lone, Several, outcome_of, Fits}
 use Rattle.vic_log.specs.Quiet.{is_quiet}
-use Rattle.vic_log.proofs.Sets.{IsWithin, Distinct, Distinct-population, Distinct-filter, has_at, has_here, has_there, has_cases, has_filter, filter_has, IsUid-member}
+use Rattle.vic_log.proofs.Sets.{IsWithin, AreDifferent-population, AreDifferent-filter, has_at, has_here, has_there, has_cases, has_filter, filter_has, IsUid-member}
 use Rattle.vic_field.specs.Steps.{slot_line}
 use Rattle.vic_field.specs.Tags.{uids, readiness, ready_in, told}
 
@@ -22,7 +22,7 @@ two_in_one x y z ys apart g =
     both_ways (has (z ∷ ys) y) apart (has_at y z ys (first ∙ sym second))
 
 -- the outcome where different tags answer is told by which they are
-pub same_outcome : (xs ys : List ℕ) → Distinct xs → Distinct ys → IsWithin (has xs) (has ys) → IsWithin (has ys) (has xs) → outcome_of xs ≡ outcome_of ys
+pub same_outcome : (xs ys : List ℕ) → AreDifferent xs → AreDifferent ys → IsWithin (has xs) (has ys) → IsWithin (has ys) (has xs) → outcome_of xs ≡ outcome_of ys
 same_outcome [] [] dx dy f g = refl
 same_outcome [] (y ∷ ys) dx dy f g = absurd (false≢true (g y (has_here y ys)))
 same_outcome (x ∷ xs) [] dx dy f g = absurd (false≢true (f x (has_here x xs)))
@@ -40,10 +40,10 @@ ready_within m (t ∷ ts) u h = go (lies_in m t.0 && t.1) (ready_within m ts u) 
   go true ih k = ⊎_elim (λ e. has_at u t.0 (uids ts) e) (λ r. has_there u t.0 (uids ts) (ih r)) (has_cases u t.0 (ready_in m ts) k)
   go false ih k = has_there u t.0 (uids ts) (ih k)
 
-ready_distinct : (m : BitMask) (ts : List (ℕ × Bool)) → IsPopulation (uids ts) → Distinct (ready_in m ts)
+ready_distinct : (m : BitMask) (ts : List (ℕ × Bool)) → IsPopulation (uids ts) → AreDifferent (ready_in m ts)
 ready_distinct m [] p = tt
 ready_distinct m (t ∷ ts) p = go (lies_in m t.0 && t.1) (ready_distinct m ts p.2) where
-  go : (b : Bool) → Distinct (ready_in m ts) → Distinct (map (λ s. s.0) (cond b (t ∷ filter (λ s. lies_in m s.0 && s.1) ts) (filter (λ s. lies_in m s.0 && s.1) ts)))
+  go : (b : Bool) → AreDifferent (ready_in m ts) → AreDifferent (map (λ s. s.0) (cond b (t ∷ filter (λ s. lies_in m s.0 && s.1) ts) (filter (λ s. lies_in m s.0 && s.1) ts)))
   go true ih = (false_from_ne_true _ (λ h. both_ways (has (uids ts) t.0) p.1 (ready_within m ts t.0 h)), ih)
   go false ih = ih
 
@@ -106,7 +106,7 @@ not_true q e = ap not e
 pub outcome_told : (p : List ℕ) (es : List Entry) (tags : List (ℕ × Bool)) (m : BitMask) → IsPopulation p → IsPopulation (uids tags) → Tells p es tags
     → outcome_of (ready_in m tags) ≡ outcome_of (filter (λ u. lies_in m u && not (is_quiet es (length es) u)) p)
 outcome_told p es tags m pop tagged tells =
-    same_outcome (ready_in m tags) (filter answers p) (ready_distinct m tags tagged) (Distinct-filter answers p (Distinct-population p pop)) forth back where
+    same_outcome (ready_in m tags) (filter answers p) (ready_distinct m tags tagged) (AreDifferent-filter answers p (AreDifferent-population p pop)) forth back where
       answers : ℕ → Bool
       answers u = lies_in m u && not (is_quiet es (length es) u)
 

@@ -17,10 +17,10 @@ use Rattle.vic_log.specs.Rounds.{is_slot, slots_opened, mask_at, lies_in_some}
 use Rattle.vic_log.proofs.Order.{still_there}
 use Rattle.vic_log.proofs.Places.{CouldHaveGiven-push}
 use Rattle.vic_field.specs.Simulation.{without_slots, HasAllSlots, IsPlain, ArePlain, line_count}
-use Rattle.vic_field.specs.Steps.{slot_line, slots_to, slots_of, ready_after}
+use Rattle.vic_field.specs.Steps.{slot_line, slot_lines_to, slot_lines, ready_after}
 use Rattle.vic_field.specs.Tags.{uids, readiness, ready_in, heard}
 use Rattle.vic_field.proofs.Outcomes.{Tells, outcome_told, fits_told}
-use Rattle.vic_field.proofs.Rounds.{place_in, second_place, slot_line-is_slot, slots_of-slots, slots_of-plain, slots_of-length, IsOpen, IsOpen-sent, IsOpen-slots, IsOpen-mask, quiet-next, quiet-slot}
+use Rattle.vic_field.proofs.Rounds.{place_in, second_place, slot_line-is_slot, slot_lines-slots, slot_lines-plain, slot_lines-length, IsOpen, IsOpen-sent, IsOpen-slots, IsOpen-mask, quiet-next, quiet-slot}
 
 -- ---- one slot
 
@@ -45,14 +45,14 @@ record HasRound (p : List ℕ) (es : List Entry) (tags : List (ℕ × Bool)) : T
   tells : Tells p es tags
 
 round : (p : List ℕ) (es : List Entry) (q : Request) (tags : List (ℕ × Bool)) (n : ℕ) → IsPopulation p → (0 < slot_count q → IsPopulation (uids tags)) → IsOpen es q 0 → n ≤ slot_count q
-    → HasRound p es tags → HasRound p (es ++ slots_to tags q n) tags
+    → HasRound p es tags → HasRound p (es ++ slot_lines_to tags q n) tags
 round p es q tags zero pop tagged open_now le h = subst (λ fs. HasRound p fs tags) (sym (append-nil es)) h
 round p es q tags (suc n) pop tagged open_now le h =
-    let fs : List Entry = es ++ slots_to tags q n in
+    let fs : List Entry = es ++ slot_lines_to tags q n in
     let line : Entry = slot_line (heard (ready_in (mask_in q n) tags)) in
     let before : HasRound p fs tags = round p es q tags n pop tagged open_now (omega arith) h in
     let at : mask_at fs (length fs) ≡ Some (mask_in q n) = IsOpen-mask fs q n (IsOpen-slots es q tags n open_now) (omega arith) in
-    subst (λ gs. HasRound p gs tags) (append_assoc es (slots_to tags q n) (line ∷ [])) record {
+    subst (λ gs. HasRound p gs tags) (append_assoc es (slot_lines_to tags q n) (line ∷ [])) record {
       outcomes = CouldHaveGiven-push p fs line before.outcomes (slot_fits p fs tags (mask_in q n) pop (tagged (omega arith)) before.tells at);
       tells = Tells-slot p fs tags line (slot_line-is_slot (heard (ready_in (mask_in q n) tags))) before.tells;
     }
@@ -89,7 +89,7 @@ Tells-entry p es tags after e step t u h =
     ∙ ap (λ (b : Bool). if has p u then Some (not b) else None) (sym (quiet-next es e u))
 
 entry_round : (p : List ℕ) (es : List Entry) (tags : List (ℕ × Bool)) (e : Entry) → is_slot e ≡ false → IsPopulation p → (0 < slots_opened (Some e) → IsPopulation (uids tags))
-    → HasRound p (es ++ e ∷ []) tags → HasRound p ((es ++ e ∷ []) ++ slots_of tags e) tags
+    → HasRound p (es ++ e ∷ []) tags → HasRound p ((es ++ e ∷ []) ++ slot_lines tags e) tags
 entry_round p es tags (Sent q) s pop tagged h = round p (es ++ Sent q ∷ []) q tags (slot_count q) pop tagged (IsOpen-sent es q) (omega arith) h
 entry_round p es tags Silent s pop tagged h = absurd (cc)
 entry_round p es tags Collision s pop tagged h = absurd (cc)
@@ -119,20 +119,20 @@ none_kept (s ∷ ss) h =
 one_kept : (e : Entry) (ss : List Entry) → is_slot e ≡ false → without_slots (e ∷ ss) ≡ e ∷ without_slots ss
 one_kept e ss h = ap (λ (b : Bool). if not b then e ∷ without_slots ss else without_slots ss) h
 
-kept_next : (done es : List Entry) (tags : List (ℕ × Bool)) (e : Entry) → is_slot e ≡ false → without_slots es ≡ done → without_slots (es ++ e ∷ slots_of tags e) ≡ done ++ e ∷ []
+kept_next : (done es : List Entry) (tags : List (ℕ × Bool)) (e : Entry) → is_slot e ≡ false → without_slots es ≡ done → without_slots (es ++ e ∷ slot_lines tags e) ≡ done ++ e ∷ []
 kept_next done es tags e s k =
-    filter-append (λ x. not (is_slot x)) es (e ∷ slots_of tags e)
-    ∙ ap (λ (xs : List Entry). without_slots es ++ xs) (one_kept e (slots_of tags e) s ∙ ap (λ (xs : List Entry). e ∷ xs) (none_kept (slots_of tags e) (slots_of-slots tags e)))
+    filter-append (λ x. not (is_slot x)) es (e ∷ slot_lines tags e)
+    ∙ ap (λ (xs : List Entry). without_slots es ++ xs) (one_kept e (slot_lines tags e) s ∙ ap (λ (xs : List Entry). e ∷ xs) (none_kept (slot_lines tags e) (slot_lines-slots tags e)))
     ∙ ap (λ (xs : List Entry). xs ++ e ∷ []) k
 
 pub line_count-next : (es : List Entry) (e : Entry) → line_count (es ++ e ∷ []) ≡ line_count es + suc (slots_opened (Some e))
 line_count-next [] e = omega arith
 line_count-next (x ∷ es) e = let h = line_count-next es e in omega arith
 
-count_next : (done es : List Entry) (tags : List (ℕ × Bool)) (e : Entry) → length es ≡ line_count done → length (es ++ e ∷ slots_of tags e) ≡ line_count (done ++ e ∷ [])
+count_next : (done es : List Entry) (tags : List (ℕ × Bool)) (e : Entry) → length es ≡ line_count done → length (es ++ e ∷ slot_lines tags e) ≡ line_count (done ++ e ∷ [])
 count_next done es tags e h =
-    let long : length (es ++ e ∷ slots_of tags e) ≡ length es + suc (length (slots_of tags e)) = length-append es (e ∷ slots_of tags e) in
-    let slots = slots_of-length tags e in
+    let long : length (es ++ e ∷ slot_lines tags e) ≡ length es + suc (length (slot_lines tags e)) = length-append es (e ∷ slot_lines tags e) in
+    let slots = slot_lines-length tags e in
     let more = line_count-next done e in
     omega arith
 
@@ -141,36 +141,36 @@ here_is : (xs : List Entry) (k : ℕ) → k < length xs → (x : Entry) × (slic
 here_is xs k h = ⊎_elim (λ w. (w.0, w.2)) (λ w. let past = w.0 in absurd (omega arith)) (slice_get_cases xs k).1
 
 -- the slots of one entry more
-slots_next : (es : List Entry) (tags : List (ℕ × Bool)) (e : Entry) → HasAllSlots es → HasAllSlots (es ++ e ∷ slots_of tags e)
-slots_next es tags e h i k q at less = ⊎_elim before here (place_in es (e ∷ slots_of tags e) i (Sent q) at) where
-  before : slice_get es i ≡ Some (Sent q) → (x : Entry) × (slice_get (es ++ e ∷ slots_of tags e) (suc i + k) ≡ Some x) × (is_slot x ≡ true)
-  before b = let w = h i k q b less in (w.0, still_there es (e ∷ slots_of tags e) (suc i + k) w.0 w.1, w.2)
+slots_next : (es : List Entry) (tags : List (ℕ × Bool)) (e : Entry) → HasAllSlots es → HasAllSlots (es ++ e ∷ slot_lines tags e)
+slots_next es tags e h i k q at less = ⊎_elim before here (place_in es (e ∷ slot_lines tags e) i (Sent q) at) where
+  before : slice_get es i ≡ Some (Sent q) → (x : Entry) × (slice_get (es ++ e ∷ slot_lines tags e) (suc i + k) ≡ Some x) × (is_slot x ≡ true)
+  before b = let w = h i k q b less in (w.0, still_there es (e ∷ slot_lines tags e) (suc i + k) w.0 w.1, w.2)
 
-  its_own : i ≡ length es → e ≡ Sent q → (x : Entry) × (slice_get (es ++ e ∷ slots_of tags e) (suc i + k) ≡ Some x) × (is_slot x ≡ true)
+  its_own : i ≡ length es → e ≡ Sent q → (x : Entry) × (slice_get (es ++ e ∷ slot_lines tags e) (suc i + k) ≡ Some x) × (is_slot x ≡ true)
   its_own place same =
-      let long : length (slots_of tags e) ≡ slot_count q = slots_of-length tags e ∙ ap (λ (x : Entry). slots_opened (Some x)) same in
-      let w = here_is (slots_of tags e) k (omega arith) in
-      (w.0, second_place es (e ∷ slots_of tags e) (suc i + k) (suc k) (omega arith) ∙ w.1, slots_of-slots tags e k w.0 w.1)
+      let long : length (slot_lines tags e) ≡ slot_count q = slot_lines-length tags e ∙ ap (λ (x : Entry). slots_opened (Some x)) same in
+      let w = here_is (slot_lines tags e) k (omega arith) in
+      (w.0, second_place es (e ∷ slot_lines tags e) (suc i + k) (suc k) (omega arith) ∙ w.1, slot_lines-slots tags e k w.0 w.1)
 
-  at_place : (j : ℕ) → i ≡ length es + j → slice_get (e ∷ slots_of tags e) j ≡ Some (Sent q) → (x : Entry) × (slice_get (es ++ e ∷ slots_of tags e) (suc i + k) ≡ Some x) × (is_slot x ≡ true)
+  at_place : (j : ℕ) → i ≡ length es + j → slice_get (e ∷ slot_lines tags e) j ≡ Some (Sent q) → (x : Entry) × (slice_get (es ++ e ∷ slot_lines tags e) (suc i + k) ≡ Some x) × (is_slot x ≡ true)
   at_place zero place b = let same : e ≡ Sent q = cc in its_own (omega arith) same
-  at_place (suc j) place b = absurd (false≢true (slots_of-slots tags e j (Sent q) b))
+  at_place (suc j) place b = absurd (false≢true (slot_lines-slots tags e j (Sent q) b))
 
-  here : (j : ℕ) × (i ≡ length es + j) × (slice_get (e ∷ slots_of tags e) j ≡ Some (Sent q)) → (x : Entry) × (slice_get (es ++ e ∷ slots_of tags e) (suc i + k) ≡ Some x) × (is_slot x ≡ true)
+  here : (j : ℕ) × (i ≡ length es + j) × (slice_get (e ∷ slot_lines tags e) j ≡ Some (Sent q)) → (x : Entry) × (slice_get (es ++ e ∷ slot_lines tags e) (suc i + k) ≡ Some x) × (is_slot x ≡ true)
   here w = at_place w.0 w.1 w.2
 
-plain_next : (es : List Entry) (tags : List (ℕ × Bool)) (e : Entry) → is_slot e ≡ false → ArePlain es → ArePlain (es ++ e ∷ slots_of tags e)
-plain_next es tags e s h i x at = ⊎_elim (λ b. h i x b) (λ w. later w.0 w.2) (place_in es (e ∷ slots_of tags e) i x at) where
-  later : (j : ℕ) → slice_get (e ∷ slots_of tags e) j ≡ Some x → IsPlain x
+plain_next : (es : List Entry) (tags : List (ℕ × Bool)) (e : Entry) → is_slot e ≡ false → ArePlain es → ArePlain (es ++ e ∷ slot_lines tags e)
+plain_next es tags e s h i x at = ⊎_elim (λ b. h i x b) (λ w. later w.0 w.2) (place_in es (e ∷ slot_lines tags e) i x at) where
+  later : (j : ℕ) → slice_get (e ∷ slot_lines tags e) j ≡ Some x → IsPlain x
   later zero b = let same : e ≡ x = cc in subst IsPlain same (plain_any e s)
-  later (suc j) b = slots_of-plain tags e j x b
+  later (suc j) b = slot_lines-plain tags e j x b
 
 -- one entry more, with its slots
 pub IsPlayed-next : (p : List ℕ) (done es : List Entry) (tags after : List (ℕ × Bool)) (e : Entry) → IsPopulation p → is_slot e ≡ false → (0 < slots_opened (Some e) → IsPopulation (uids after))
-    → ((u : ℕ) → IsUid u → readiness after u ≡ option_map (ready_after e u) (readiness tags u)) → IsPlayed p done es tags → IsPlayed p (done ++ e ∷ []) (es ++ e ∷ slots_of after e) after
+    → ((u : ℕ) → IsUid u → readiness after u ≡ option_map (ready_after e u) (readiness tags u)) → IsPlayed p done es tags → IsPlayed p (done ++ e ∷ []) (es ++ e ∷ slot_lines after e) after
 IsPlayed-next p done es tags after e pop s tagged step h =
-    let joined : (es ++ e ∷ []) ++ slots_of after e ≡ es ++ e ∷ slots_of after e = append_assoc es (e ∷ []) (slots_of after e) in
-    let all : HasRound p (es ++ e ∷ slots_of after e) after =
+    let joined : (es ++ e ∷ []) ++ slot_lines after e ≡ es ++ e ∷ slot_lines after e = append_assoc es (e ∷ []) (slot_lines after e) in
+    let all : HasRound p (es ++ e ∷ slot_lines after e) after =
     subst (λ fs. HasRound p fs after) joined (entry_round p es after e s pop tagged record {
       outcomes = CouldHaveGiven-push p es e h.outcomes (fits_any e s (outcome_at es (length es) p));
       tells = Tells-entry p es tags after e step h.tells;

@@ -14,7 +14,7 @@ use Rattle.vic_log.proofs.Places.{opener_agrees, quiet_agrees, agree_append, sli
 use Rattle.vic_field.specs.declared.field.Outcome.{Outcome as Told}
 use Rattle.vic_field.specs.declared.field.Outcome.TheVariants.{Silent as ToldSilent, Lone as ToldLone, Several as ToldSeveral}
 use Rattle.vic_field.specs.Simulation.{IsPlain}
-use Rattle.vic_field.specs.Steps.{slot_line, slots_to, slots_of}
+use Rattle.vic_field.specs.Steps.{slot_line, slot_lines_to, slot_lines}
 use Rattle.vic_field.specs.Tags.{heard, ready_in}
 
 -- ---- places of joined lists
@@ -45,18 +45,18 @@ slot_line-plain ToldSilent = tt
 slot_line-plain (ToldLone u) = (refl, refl)
 slot_line-plain ToldSeveral = tt
 
-pub slots_to-length : (tags : List (ℕ × Bool)) (q : Request) (n : ℕ) → length (slots_to tags q n) ≡ n
-slots_to-length tags q zero = refl
-slots_to-length tags q (suc n) = next_length (slots_to tags q n) (slot_line (heard (ready_in (mask_in q n) tags))) ∙ ap suc (slots_to-length tags q n)
+pub slot_lines_to-length : (tags : List (ℕ × Bool)) (q : Request) (n : ℕ) → length (slot_lines_to tags q n) ≡ n
+slot_lines_to-length tags q zero = refl
+slot_lines_to-length tags q (suc n) = next_length (slot_lines_to tags q n) (slot_line (heard (ready_in (mask_in q n) tags))) ∙ ap suc (slot_lines_to-length tags q n)
 
 -- what holds of the line of any outcome holds of the lines of slots
-slots_to-each : (P : Entry → Type 0) → ((o : Told) → P (slot_line o)) → (tags : List (ℕ × Bool)) (q : Request) (n : ℕ) (i : ℕ) (e : Entry) → slice_get (slots_to tags q n) i ≡ Some e → P e
-slots_to-each P each tags q zero i e h = absurd (cc)
-slots_to-each P each tags q (suc n) i e h =
+slot_lines_to-each : (P : Entry → Type 0) → ((o : Told) → P (slot_line o)) → (tags : List (ℕ × Bool)) (q : Request) (n : ℕ) (i : ℕ) (e : Entry) → slice_get (slot_lines_to tags q n) i ≡ Some e → P e
+slot_lines_to-each P each tags q zero i e h = absurd (cc)
+slot_lines_to-each P each tags q (suc n) i e h =
     ⊎_elim
-    (λ k. slots_to-each P each tags q n i e k)
+    (λ k. slot_lines_to-each P each tags q n i e k)
     (λ k. last k.0 k.2)
-    (place_in (slots_to tags q n) (line ∷ []) i e h) where
+    (place_in (slot_lines_to tags q n) (line ∷ []) i e h) where
       line : Entry
       line = slot_line (heard (ready_in (mask_in q n) tags))
 
@@ -64,29 +64,29 @@ slots_to-each P each tags q (suc n) i e h =
       last zero k = let same : line ≡ e = cc in subst P same (each (heard (ready_in (mask_in q n) tags)))
       last (suc j) k = absurd (cc)
 
-slots_of-each : (P : Entry → Type 0) → ((o : Told) → P (slot_line o)) → (tags : List (ℕ × Bool)) (x : Entry) (i : ℕ) (e : Entry) → slice_get (slots_of tags x) i ≡ Some e → P e
-slots_of-each P each tags (Sent q) i e h = slots_to-each P each tags q (slot_count q) i e h
-slots_of-each P each tags Silent i e h = absurd (cc)
-slots_of-each P each tags Collision i e h = absurd (cc)
-slots_of-each P each tags (Heard r) i e h = absurd (cc)
-slots_of-each P each tags (Listed u) i e h = absurd (cc)
-slots_of-each P each tags Garbled i e h = absurd (cc)
-slots_of-each P each tags FieldCycle i e h = absurd (cc)
+slot_lines-each : (P : Entry → Type 0) → ((o : Told) → P (slot_line o)) → (tags : List (ℕ × Bool)) (x : Entry) (i : ℕ) (e : Entry) → slice_get (slot_lines tags x) i ≡ Some e → P e
+slot_lines-each P each tags (Sent q) i e h = slot_lines_to-each P each tags q (slot_count q) i e h
+slot_lines-each P each tags Silent i e h = absurd (cc)
+slot_lines-each P each tags Collision i e h = absurd (cc)
+slot_lines-each P each tags (Heard r) i e h = absurd (cc)
+slot_lines-each P each tags (Listed u) i e h = absurd (cc)
+slot_lines-each P each tags Garbled i e h = absurd (cc)
+slot_lines-each P each tags FieldCycle i e h = absurd (cc)
 
-pub slots_of-slots : (tags : List (ℕ × Bool)) (x : Entry) (i : ℕ) (e : Entry) → slice_get (slots_of tags x) i ≡ Some e → is_slot e ≡ true
-slots_of-slots tags x i e h = slots_of-each (λ y. is_slot y ≡ true) slot_line-is_slot tags x i e h
+pub slot_lines-slots : (tags : List (ℕ × Bool)) (x : Entry) (i : ℕ) (e : Entry) → slice_get (slot_lines tags x) i ≡ Some e → is_slot e ≡ true
+slot_lines-slots tags x i e h = slot_lines-each (λ y. is_slot y ≡ true) slot_line-is_slot tags x i e h
 
-pub slots_of-plain : (tags : List (ℕ × Bool)) (x : Entry) (i : ℕ) (e : Entry) → slice_get (slots_of tags x) i ≡ Some e → IsPlain e
-slots_of-plain tags x i e h = slots_of-each IsPlain slot_line-plain tags x i e h
+pub slot_lines-plain : (tags : List (ℕ × Bool)) (x : Entry) (i : ℕ) (e : Entry) → slice_get (slot_lines tags x) i ≡ Some e → IsPlain e
+slot_lines-plain tags x i e h = slot_lines-each IsPlain slot_line-plain tags x i e h
 
-pub slots_of-length : (tags : List (ℕ × Bool)) (x : Entry) → length (slots_of tags x) ≡ slots_opened (Some x)
-slots_of-length tags (Sent q) = slots_to-length tags q (slot_count q)
-slots_of-length tags Silent = refl
-slots_of-length tags Collision = refl
-slots_of-length tags (Heard r) = refl
-slots_of-length tags (Listed u) = refl
-slots_of-length tags Garbled = refl
-slots_of-length tags FieldCycle = refl
+pub slot_lines-length : (tags : List (ℕ × Bool)) (x : Entry) → length (slot_lines tags x) ≡ slots_opened (Some x)
+slot_lines-length tags (Sent q) = slot_lines_to-length tags q (slot_count q)
+slot_lines-length tags Silent = refl
+slot_lines-length tags Collision = refl
+slot_lines-length tags (Heard r) = refl
+slot_lines-length tags (Listed u) = refl
+slot_lines-length tags Garbled = refl
+slot_lines-length tags FieldCycle = refl
 
 -- ---- an open round
 
@@ -130,12 +130,12 @@ IsOpen-slot es q k e o h =
       count = let n = next_length es e in let c = o.count in omega arith;
     }
 
-pub IsOpen-slots : (es : List Entry) (q : Request) (tags : List (ℕ × Bool)) (n : ℕ) → IsOpen es q 0 → IsOpen (es ++ slots_to tags q n) q n
+pub IsOpen-slots : (es : List Entry) (q : Request) (tags : List (ℕ × Bool)) (n : ℕ) → IsOpen es q 0 → IsOpen (es ++ slot_lines_to tags q n) q n
 IsOpen-slots es q tags zero o = subst (λ fs. IsOpen fs q 0) (sym (append-nil es)) o
 IsOpen-slots es q tags (suc n) o =
     let line = slot_line (heard (ready_in (mask_in q n) tags)) in
-    subst (λ fs. IsOpen fs q (suc n)) (append_assoc es (slots_to tags q n) (line ∷ []))
-    (IsOpen-slot (es ++ slots_to tags q n) q n line (IsOpen-slots es q tags n o) (slot_line-is_slot (heard (ready_in (mask_in q n) tags))))
+    subst (λ fs. IsOpen fs q (suc n)) (append_assoc es (slot_lines_to tags q n) (line ∷ []))
+    (IsOpen-slot (es ++ slot_lines_to tags q n) q n line (IsOpen-slots es q tags n o) (slot_line-is_slot (heard (ready_in (mask_in q n) tags))))
 
 -- the mask of the next slot
 pub IsOpen-mask : (es : List Entry) (q : Request) (k : ℕ) → IsOpen es q k → k < slot_count q → mask_at es (length es) ≡ Some (mask_in q k)

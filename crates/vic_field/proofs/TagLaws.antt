@@ -20,7 +20,7 @@ use Rattle.vic_frame.specs.LowBitsFirst.{mirror, uid_of}
 use Rattle.vic_field.specs.Keys.{tags_of, ready_between}
 use Rattle.vic_field.specs.Tags.{uids, readiness, ready_in, heard}
 use Rattle.vic_frame.proofs.MirrorLaws.{mirror_below, uid_of_mirror, mirror_of_uid}
-use Rattle.vic_field.proofs.Keys.{IsKey, key_test, in_bounds, is_uid}
+use Rattle.vic_frame.proofs.KeyLaws.{IsKey, key_test, in_bounds, is_uid}
 
 -- the Ready tags of entries by key
 abbrev pub ready_of : List (ℕ × Bool) → List ℕ

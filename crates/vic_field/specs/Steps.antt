@@ -20,14 +20,14 @@ slot_line (Lone u) = Heard (record { flags = 0; dsfid = 0; uid = u })
 slot_line Several = Collision
 
 -- the lines of the first n slots of a request
-abbrev pub slots_to : List (ℕ × Bool) → Request → ℕ → List Entry
-slots_to tags q zero = []
-slots_to tags q (suc k) = slots_to tags q k ++ slot_line (heard (ready_in (mask_in q k) tags)) ∷ []
+abbrev pub slot_lines_to : List (ℕ × Bool) → Request → ℕ → List Entry
+slot_lines_to tags q zero = []
+slot_lines_to tags q (suc k) = slot_lines_to tags q k ++ slot_line (heard (ready_in (mask_in q k) tags)) ∷ []
 
 -- the lines of all slots that an entry opens
-abbrev pub slots_of : List (ℕ × Bool) → Entry → List Entry
-slots_of tags (Sent q) = slots_to tags q (slot_count q)
-slots_of tags e = []
+abbrev pub slot_lines : List (ℕ × Bool) → Entry → List Entry
+slot_lines tags (Sent q) = slot_lines_to tags q (slot_count q)
+slot_lines tags e = []
 
 -- a log with more entries on the next lines
 abbrev pub with_entries : LogValue → List Entry → LogValue

@@ -4,7 +4,7 @@ ghost use Rattle.std.specs.Prelude.{◌≡◌, ℕ, suc, ◌+◌, ◌<◌, ◌�
 ghost use Rattle.std.specs.Option.{option_map};
 ghost use Rattle.vic_field.specs.declared.session.SimFault.TheVariants.{Memory as NoRoom};
 ghost use Rattle.vic_field.specs.Simulation.{IsSimulation, HasNoSlots, IsFirstSlot, RefusesLines, last_needed};
-ghost use Rattle.vic_field.specs.Steps.{slot_line, slots_to, slots_of, with_entries, ready_after, StopsBefore};
+ghost use Rattle.vic_field.specs.Steps.{slot_line, slot_lines_to, slot_lines, with_entries, ready_after, StopsBefore};
 ghost use Rattle.vic_field.specs.Tags.{readiness, uids};
 ghost use Rattle.vic_frame.specs.Requests.{IsValid};
 ghost use Rattle.vic_frame.specs.Slots.{slot_count};
@@ -114,7 +114,7 @@ fn play(filled: &mut Log, field: &mut Field, item: &Entry) -> Result<(), SimFaul
     requires follows { refusal (entries filled.old.lines) item.now ≡ None }
     requires valid { IsValidEntry item.now }
     requires first_version { filled.old.version ≡ V1 → IsOfFirstVersion item.now }
-    ensures added { OnOk result (filled.new ≡ with_entries filled.old (item.now ∷ slots_of field.new item.now)) }
+    ensures added { OnOk result (filled.new ≡ with_entries filled.old (item.now ∷ slot_lines field.new item.now)) }
     ensures tags { OnOk result ((u : ℕ) → IsUid u → readiness field.new u ≡ option_map (ready_after item.now u) (readiness field.old u)) }
     ensures population { OnOk result (0 < slots_opened (Some item.now) → IsPopulation (uids field.new)) }
     ensures room { OnOk result (suc (last_from 1 filled.old.lines) + slots_opened (Some item.now) ≤ 1000000) }
@@ -140,7 +140,7 @@ fn push_slots(filled: &mut Log, field: &Field, request: &Request) -> Result<(), 
     requires sent { (es : List Entry) × (entries filled.old.lines ≡ es ++ Entry.Sent request.now ∷ []) }
     requires valid { IsValid request.now }
     requires limit { last_from 1 filled.old.lines ≤ 1000000 }
-    ensures added { OnOk result (filled.new ≡ with_entries filled.old (slots_to field.now request.now (slot_count request.now))) }
+    ensures added { OnOk result (filled.new ≡ with_entries filled.old (slot_lines_to field.now request.now (slot_count request.now))) }
     ensures population { OnOk result (0 < slot_count request.now → IsPopulation (uids field.now)) }
     ensures room { OnOk result (last_from 1 filled.old.lines + slot_count request.now ≤ 1000000) }
     ensures refused { IfErr result (StopsBefore (last_from 1 filled.old.lines + slot_count request.now)) }

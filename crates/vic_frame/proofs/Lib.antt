@@ -7,3 +7,4 @@ pub mod ReplyLaws
 pub mod FieldLaws
 pub mod MaskLaws
 pub mod MirrorLaws
+pub mod KeyLaws

@@ -1,5 +1,5 @@
 -- UIDs, as numbers (ISO/IEC 15693-3, unique identifier).
-use Rattle.std.specs.Prelude.{ℕ, Bool, List, ◌*◌, ◌^◌, ◌≤◌, ◌<◌, ◌&&◌, nat_eq, nat_le, nat_lt}
+use Rattle.std.specs.Prelude.{◌≡◌, ℕ, Bool, false, List, [], ◌∷◌, ◌*◌, ◌^◌, ◌≤◌, ◌<◌, ◌&&◌, ⊤, nat_eq, nat_le, nat_lt}
 use Rattle.std.specs.List.{list_any}
 
 -- a number of 64 bits whose most significant byte is E0 (ISO/IEC 15693-3, unique identifier)
@@ -13,3 +13,8 @@ is_uid u = nat_le (0xE0 * 2 ^ 56) u && nat_lt u (0xE1 * 2 ^ 56)
 -- whether the number is in the list
 abbrev pub has : List ℕ → ℕ → Bool
 has us u = list_any (nat_eq u) us
+
+-- no number stands twice in the list
+abbrev pub AreDifferent : List ℕ → Type 0
+AreDifferent [] = ⊤
+AreDifferent (u ∷ us) = (has us u ≡ false) × AreDifferent us

@@ -1,9 +1,9 @@
 -- Lists of UIDs as sets.
 use Rattle.std.proofs.Common.{◌≡◌, ℕ, List, [], ◌∷◌, Bool, true, false, cond, ◌&&◌, refl, sym, subst, inl, inr, ⊎_elim}
-use Rattle.std.specs.Prelude.{◌⊎◌, nat_eq, ⊤}
+use Rattle.std.specs.Prelude.{◌⊎◌, nat_eq}
 use Rattle.std.specs.List.{filter}
 use Rattle.std.proofs.lemmas.Bool.{eqb-true, eq-eqb, and_parts, and_from, or_cases, or_left, or_right, false≢true, both_ways, false_from_ne_true}
-use Rattle.vic_frame.specs.Uids.{IsUid, has}
+use Rattle.vic_frame.specs.Uids.{IsUid, has, AreDifferent}
 use Rattle.vic_log.specs.Populations.{IsPopulation}
 
 -- a set of numbers within another
@@ -53,23 +53,18 @@ filter_has t [] u h = h
 filter_has t (x ∷ us) u h =
     let w = and_parts (has (x ∷ us) u) (t u) h in filter_has_cons t x us u (filter_has t us) (t x) refl w.0 w.1
 
--- no member stands twice
-abbrev pub Distinct : List ℕ → Type 0
-Distinct [] = ⊤
-Distinct (u ∷ us) = (has us u ≡ false) × Distinct us
+pub AreDifferent-population : (us : List ℕ) → IsPopulation us → AreDifferent us
+AreDifferent-population [] h = tt
+AreDifferent-population (u ∷ us) h = (h.1, AreDifferent-population us h.2)
 
-pub Distinct-population : (us : List ℕ) → IsPopulation us → Distinct us
-Distinct-population [] h = tt
-Distinct-population (u ∷ us) h = (h.1, Distinct-population us h.2)
-
-Distinct-filter_cons : (t : ℕ → Bool) (x : ℕ) (us : List ℕ) → has us x ≡ false → Distinct (filter t us) → (b : Bool) → t x ≡ b → Distinct (cond b (x ∷ filter t us) (filter t us))
-Distinct-filter_cons t x us n d true e =
+AreDifferent-filter_cons : (t : ℕ → Bool) (x : ℕ) (us : List ℕ) → has us x ≡ false → AreDifferent (filter t us) → (b : Bool) → t x ≡ b → AreDifferent (cond b (x ∷ filter t us) (filter t us))
+AreDifferent-filter_cons t x us n d true e =
     (false_from_ne_true _ (λ h. both_ways (has us x) n (and_parts (has us x) (t x) (has_filter t us x h)).0), d)
-Distinct-filter_cons t x us n d false e = d
+AreDifferent-filter_cons t x us n d false e = d
 
-pub Distinct-filter : (t : ℕ → Bool) (us : List ℕ) → Distinct us → Distinct (filter t us)
-Distinct-filter t [] d = tt
-Distinct-filter t (x ∷ us) d = Distinct-filter_cons t x us d.0 (Distinct-filter t us d.1) (t x) refl
+pub AreDifferent-filter : (t : ℕ → Bool) (us : List ℕ) → AreDifferent us → AreDifferent (filter t us)
+AreDifferent-filter t [] d = tt
+AreDifferent-filter t (x ∷ us) d = AreDifferent-filter_cons t x us d.0 (AreDifferent-filter t us d.1) (t x) refl
 
 pub IsUid-member : (us : List ℕ) (u : ℕ) → IsPopulation us → has us u ≡ true → IsUid u
 IsUid-member [] u p h = absurd (false≢true h)

@@ -3,17 +3,17 @@ use Rattle.std.proofs.Common.{◌≡◌, ℕ, List, [], ◌∷◌, Bool, true, f
 use Rattle.std.specs.Prelude.{◌≢◌, ◌↔◌}
 use Rattle.std.specs.List.{list_all}
 use Rattle.std.proofs.lemmas.Bool.{eqb-true, eq-eqb, leb-true, ltb-true, le-leb, lt-ltb, and_parts, and_from, false≢true, both_ways}
-use Rattle.vic_frame.specs.Uids.{has, is_uid, IsUid}
+use Rattle.vic_frame.specs.Uids.{has, is_uid, IsUid, AreDifferent}
 use Rattle.vic_log.specs.Populations.{IsPopulation, Lone, outcome_of}
 use Rattle.vic_log.specs.Slots.{Reading, NoReply, OneReply, ManyReplies, SomeReply, Slot, ReadingFits, Meets, MeetsAll, may_be, allows, is_open, Asks, Supplies, SuppliesAll}
-use Rattle.vic_log.proofs.Sets.{IsWithin, Distinct, has_here, has_at, has_there, has_cases, has_filter, filter_has, Distinct-filter, Distinct-population, IsUid-member}
+use Rattle.vic_log.proofs.Sets.{IsWithin, has_here, has_at, has_there, has_cases, has_filter, filter_has, AreDifferent-filter, AreDifferent-population, IsUid-member}
 
 -- ---- one slot, by the tags that answer in it
 
 only_member : (u x : ℕ) → has (x ∷ []) u ≡ true → u ≡ x
 only_member u x h = ⊎_elim (λ e. e) (λ k. absurd (false≢true k)) (has_cases u x [] h)
 
-two_differ : (x y : ℕ) (q : List ℕ) → Distinct (x ∷ y ∷ q) → x ≢ y
+two_differ : (x y : ℕ) (q : List ℕ) → AreDifferent (x ∷ y ∷ q) → x ≢ y
 two_differ x y q d e = both_ways (has (y ∷ q) x) d.0 (has_at x y q e)
 
 fits_allows : (r : Reading) (q : List ℕ) → ReadingFits r (outcome_of q) → (u : ℕ) → has q u ≡ true → may_be r true u ≡ true
@@ -26,7 +26,7 @@ fits_allows (OneReply w) (x ∷ y ∷ q) f u h = cc
 fits_allows ManyReplies q f u h = refl
 fits_allows SomeReply q f u h = refl
 
-pub fits_asks : (r : Reading) (q : List ℕ) → Distinct q → ReadingFits r (outcome_of q) → Asks r (has q)
+pub fits_asks : (r : Reading) (q : List ℕ) → AreDifferent q → ReadingFits r (outcome_of q) → Asks r (has q)
 fits_asks NoReply q d f = tt
 fits_asks (OneReply w) [] d f = cc
 fits_asks (OneReply w) (x ∷ []) d f = let e : w ≡ x = cc in has_at w x [] e
@@ -38,7 +38,7 @@ fits_asks ManyReplies (x ∷ y ∷ q) d f =
 fits_asks SomeReply [] d f = absurd (f refl)
 fits_asks SomeReply (x ∷ q) d f = (x, has_here x q)
 
-asks_fits : (r : Reading) (q : List ℕ) → Distinct q → ((u : ℕ) → has q u ≡ true → may_be r true u ≡ true) → Asks r (has q) → ReadingFits r (outcome_of q)
+asks_fits : (r : Reading) (q : List ℕ) → AreDifferent q → ((u : ℕ) → has q u ≡ true → may_be r true u ≡ true) → Asks r (has q) → ReadingFits r (outcome_of q)
 asks_fits NoReply [] d m a = refl
 asks_fits NoReply (x ∷ q) d m a = absurd (false≢true (m x (has_here x q)))
 asks_fits (OneReply w) [] d m a = absurd (false≢true a)
@@ -77,13 +77,13 @@ Meets-allows p s m u h =
     allows_by s.reading (s.answers u) u
     (λ e. fits_allows s.reading _ m u (filter_has s.answers p u (and_from _ _ h e)))
 
-pub Meets-supplies : (p : List ℕ) (s : Slot) → Distinct p → Meets p s → Supplies (has p) s
+pub Meets-supplies : (p : List ℕ) (s : Slot) → AreDifferent p → Meets p s → Supplies (has p) s
 Meets-supplies p s d m =
-    asks_within s.reading _ _ (has_filter s.answers p) (fits_asks s.reading _ (Distinct-filter s.answers p d) m)
+    asks_within s.reading _ _ (has_filter s.answers p) (fits_asks s.reading _ (AreDifferent-filter s.answers p d) m)
 
-pub Supplies-meets : (p : List ℕ) (s : Slot) → Distinct p → ((u : ℕ) → has p u ≡ true → allows u s ≡ true) → Supplies (has p) s → Meets p s
+pub Supplies-meets : (p : List ℕ) (s : Slot) → AreDifferent p → ((u : ℕ) → has p u ≡ true → allows u s ≡ true) → Supplies (has p) s → Meets p s
 Supplies-meets p s d k a =
-    asks_fits s.reading _ (Distinct-filter s.answers p d)
+    asks_fits s.reading _ (AreDifferent-filter s.answers p d)
     (λ u h. let w = and_parts (has p u) (s.answers u) (has_filter s.answers p u h) in subst (λ b. may_be s.reading b u ≡ true) w.1 (k u w.0))
     (asks_within s.reading _ _ (filter_has s.answers p) a)
 
@@ -101,11 +101,11 @@ MeetsAll-allows : (p : List ℕ) (slots : List Slot) → MeetsAll p slots → (u
 MeetsAll-allows p [] m u h = refl
 MeetsAll-allows p (s ∷ slots) m u h = and_from _ _ (Meets-allows p s m.0 u h) (MeetsAll-allows p slots m.1 u h)
 
-MeetsAll-supplies : (p : List ℕ) (slots : List Slot) → Distinct p → MeetsAll p slots → SuppliesAll (has p) slots
+MeetsAll-supplies : (p : List ℕ) (slots : List Slot) → AreDifferent p → MeetsAll p slots → SuppliesAll (has p) slots
 MeetsAll-supplies p [] d m = tt
 MeetsAll-supplies p (s ∷ slots) d m = (Meets-supplies p s d m.0, MeetsAll-supplies p slots d m.1)
 
-MeetsAll-from : (p : List ℕ) (slots : List Slot) → Distinct p → ((u : ℕ) → has p u ≡ true → list_all (allows u) slots ≡ true) → SuppliesAll (has p) slots → MeetsAll p slots
+MeetsAll-from : (p : List ℕ) (slots : List Slot) → AreDifferent p → ((u : ℕ) → has p u ≡ true → list_all (allows u) slots ≡ true) → SuppliesAll (has p) slots → MeetsAll p slots
 MeetsAll-from p [] d k a = tt
 MeetsAll-from p (s ∷ slots) d k a =
     (Supplies-meets p s d (λ u h. (and_parts _ _ (k u h)).0) a.0, MeetsAll-from p slots d (λ u h. (and_parts _ _ (k u h)).1) a.1)
@@ -119,7 +119,7 @@ IsUid-from u h = let w = and_parts _ _ h in (leb-true _ _ w.0, ltb-true _ _ w.1)
 -- a population meets all slots exactly where its members are open and it supplies what the slots ask for
 pub MeetsAll-iff : (p : List ℕ) (slots : List Slot) → IsPopulation p → MeetsAll p slots ↔ (IsWithin (has p) (is_open slots) × SuppliesAll (has p) slots)
 MeetsAll-iff p slots q =
-    let d = Distinct-population p q in (
+    let d = AreDifferent-population p q in (
       (λ m. ((λ u h. and_from _ _ (is_uid_from u (IsUid-member p u q h)) (MeetsAll-allows p slots m u h)), MeetsAll-supplies p slots d m)),
       (λ w. MeetsAll-from p slots d (λ u h. (and_parts _ _ (w.0 u h)).1) w.1),
     )

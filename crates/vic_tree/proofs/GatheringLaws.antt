@@ -8,8 +8,7 @@ use Rattle.std.proofs.lemmas.List.Folds.{list_any-append, list_any_at, list_any_
 use Rattle.std.proofs.lemmas.Bool.{eq-eqb, eqb-true, cases_lt}
 use Rattle.std.proofs.lemmas.Bool.Decides.{nat_tests}
 use Rattle.std.specs.List.{list_any}
-use Rattle.vic_frame.specs.Uids.{has}
-use Rattle.vic_tree.specs.OpenSet.{Distinct}
+use Rattle.vic_frame.specs.Uids.{has, AreDifferent}
 use Rattle.vic_tree.specs.Gathering.{Gathers}
 
 -- nothing is gathered
@@ -43,7 +42,7 @@ has_turned u (x ∷ xs) = rw (eq_turned x u, has_turned u xs) refl
 has_pushed : (u x : ℕ) (xs : List ℕ) → has (xs ++ x ∷ []) u ≡ (has xs u || (u == x))
 has_pushed u x xs = list_any-append (nat_eq u) xs (x ∷ []) ∙ ap (λ b. has xs u || b) (or_false (u == x))
 
-different_pushed : (x : ℕ) (xs : List ℕ) → has xs x ≡ false → Distinct xs → Distinct (xs ++ x ∷ [])
+different_pushed : (x : ℕ) (xs : List ℕ) → has xs x ≡ false → AreDifferent xs → AreDifferent (xs ++ x ∷ [])
 different_pushed x [] h d = (refl, tt)
 different_pushed x (y ∷ ys) h d =
     let p = or_both_false (x == y) (has ys x) h in

@@ -4,7 +4,7 @@ use Rattle.std.specs.Prelude.{nat_le, nat_eq}
 use Rattle.std.specs.declared.cmp.Ordering.{Ordering}
 use Rattle.std.specs.declared.cmp.Ordering.TheVariants.{Less, Equal, Greater}
 use Rattle.std.specs.declared.ops.Bound.TheVariants.{Included}
-use Rattle.std.specs.Ordering.{nat_cmp, match_ordering, is_eq}
+use Rattle.std.specs.Ordering.{nat_cmp, match_ordering}
 use Rattle.std.specs.List.{All, AllByRecursion, filter, list_any, IsDistinct}
 use Rattle.std.specs.List.Sorted.{IsStrictlySortedBy}
 use Rattle.std.specs.BTreeMap.{is_at}
@@ -16,21 +16,10 @@ use Rattle.std.proofs.lemmas.Cmp.{ranked}
 use Rattle.std.proofs.lemmas.List.Elements.{All-head, All-tail, filter_agree}
 use Rattle.std.proofs.lemmas.Map.Keys.{sorted_head, sorted_tail}
 use Rattle.vic_frame.specs.Masks.{BitMask, lies_in}
-use Rattle.vic_frame.specs.LowBitsFirst.{mirror_bits, mirror, uid_of}
+use Rattle.vic_frame.specs.LowBitsFirst.{mirror, uid_of}
 use Rattle.vic_frame.specs.Uids.{IsUid, has}
-use Rattle.vic_frame.proofs.MirrorLaws.{mirror_below, mirror_of_uid, uid_of_mirror, same_test}
-
--- a key of 56 bits
-abbrev pub IsKey : ℕ → Type 0
-IsKey k = k < 2 ^ 56
-
-pub is_uid : (k : ℕ) → IsUid (uid_of k)
-is_uid k = let h : mirror_bits 56 k < 2 ^ 56 = mirror_below 56 k in (omega arith, omega arith)
-
-pub key_test : (u k : ℕ) → IsUid u → k < 2 ^ 56 → is_eq (nat_cmp (mirror u) k) ≡ (u == uid_of k)
-key_test u k h small = plain (mirror u) k ∙ same_test (mirror u) k u (uid_of k) (λ e. sym (uid_of_mirror u h) ∙ ap uid_of e) (λ e. ap mirror e ∙ mirror_of_uid k small) where
-  plain : (a b : ℕ) → is_eq (nat_cmp a b) ≡ (a == b)
-  plain a b = grind (arith, nat_tests)
+use Rattle.vic_frame.proofs.MirrorLaws.{mirror_of_uid}
+use Rattle.vic_frame.proofs.KeyLaws.{IsKey, is_uid, key_test, in_bounds, differ}
 
 -- a look-up by the key finds the UID
 pub found : (u : ℕ) (ks : List ℕ) → IsUid u → All IsKey ks → list_any (is_at (nat_cmp (mirror u))) ks ≡ has (map uid_of ks) u
@@ -59,24 +48,13 @@ inserted u k (x ∷ xs) = go (inserted u k xs) (nat_cmp k x) refl where
   go ih Equal e = let same : k ≡ x = ranked k x Equal (sym e) in or_again (u == uid_of k) (u == uid_of x) (has (map uid_of xs) u) (ap (λ (y : ℕ). u == uid_of y) same)
   go ih Greater e = ap (λ (y : Bool). (u == uid_of x) || y) ih ∙ or_turn (u == uid_of k) (u == uid_of x) (has (map uid_of xs) u)
 
-pub in_bounds : (a b q : ℕ) → range_contains nat_cmp (Included a) (Included b) q ≡ (nat_le a q && nat_le q b)
-in_bounds a b q = grind (arith, nat_tests)
-
 -- what `range(first..=last)` gives
 pub ranged : (a b : ℕ) (ks : List ℕ) → filter (range_contains nat_cmp (Included a) (Included b)) ks ≡ filter (λ k. nat_le a k && nat_le k b) ks
 ranged a b ks = filter_agree (range_contains nat_cmp (Included a) (Included b)) (λ k. nat_le a k && nat_le k b) (in_bounds a b) ks
 
 apart : (k : ℕ) (ks : List ℕ) → k < 2 ^ 56 → All IsKey ks → AllByRecursion (λ y. nat_cmp k y ≡ Less) ks → AllByRecursion (λ y. nat_eq (uid_of k) y ≡ false) (map uid_of ks)
 apart k [] h small up = tt
-apart k (y ∷ ks) h small up = (one, apart k ks h (All-tail IsKey y ks small) up.1) where
-  differ : (a b : ℕ) → (a ≡ b → ⊥) → (a == b) ≡ false
-  differ a b other = grind (arith, nat_tests)
-
-  one : (uid_of k == uid_of y) ≡ false
-  one = differ (uid_of k) (uid_of y) (λ e.
-      let below : k < y = ranked k y Less (sym up.0) in
-      let same : k ≡ y = sym (mirror_of_uid k h) ∙ ap mirror e ∙ mirror_of_uid y (All-head IsKey y ks small) in
-      omega arith)
+apart k (y ∷ ks) h small up = (differ k y h (All-head IsKey y ks small) up.0, apart k ks h (All-tail IsKey y ks small) up.1)
 
 -- different keys are different UIDs
 pub different : (ks : List ℕ) → All IsKey ks → IsStrictlySortedBy nat_cmp ks → IsDistinct nat_eq (map uid_of ks)

@@ -8,7 +8,7 @@ use Rattle.vic_log.specs.declared.entry.Entry.{Entry}
 use Rattle.vic_log.specs.declared.entry.Entry.TheVariants.{Heard}
 use Rattle.vic_log.specs.Populations.{answers_at}
 use Rattle.vic_log.specs.Slots.{slots_of, OneReply, ArePossible, MayHave, MustHave}
-use Rattle.vic_log.proofs.Sets.{has_filter, Distinct-filter, Distinct-population}
+use Rattle.vic_log.proofs.Sets.{has_filter, AreDifferent-filter, AreDifferent-population}
 use Rattle.vic_log.proofs.Supply.{fits_asks}
 use Rattle.vic_log.proofs.Places.{CouldHaveGiven-slots, CouldHaveGiven-front}
 use Rattle.vic_verdict.specs.Possible.{IsPossible, IsPossibleUid, IsCertainUid}
@@ -39,5 +39,5 @@ pub Heard-certain : (es : List Entry) (i : ℕ) (r : Reply) → slice_get es i �
 Heard-certain es i r k p q g =
     let answers = answers_at es i in
     let u = r.uid in
-    let there = fits_asks (OneReply u) (filter answers p) (Distinct-filter answers p (Distinct-population p q)) (g i (Heard r) k) in
+    let there = fits_asks (OneReply u) (filter answers p) (AreDifferent-filter answers p (AreDifferent-population p q)) (g i (Heard r) k) in
     (and_parts _ _ (has_filter answers p u there)).0

@@ -9,7 +9,7 @@ use Rattle.std.specs.BTreeMap.Range.{range_contains}
 use Rattle.std.proofs.lemmas.List.Elements.{All-tail, All-head}
 use Rattle.std.proofs.lemmas.Map.Iter.{rest_more, rest_all}
 use Rattle.vic_field.specs.Tags.{heard}
-use Rattle.vic_field.proofs.Keys.{IsKey}
+use Rattle.vic_frame.proofs.KeyLaws.{IsKey}
 use Rattle.vic_field.proofs.TagLaws.{ready_of, ranged_ready, passed, first_found, second_tested, none_from_not, at_end, kept_keys}
 use Rattle.vic_field.proofs.field.heard_between.Goals as goal
 

@@ -5,7 +5,7 @@ use Rattle.vic_log.specs.declared.entry.Entry.{Entry}
 use Rattle.vic_log.specs.Log.{last_from, LogValue}
 use Rattle.vic_log.specs.Order.{entries}
 use Rattle.vic_log.specs.Rounds.{slots_opened}
-use Rattle.vic_field.specs.Steps.{slots_to, slots_of, with_entries}
+use Rattle.vic_field.specs.Steps.{slot_lines_to, slot_lines, with_entries}
 use Rattle.vic_field.proofs.Numbering.{entries-with, last_from-with, with-append, stops_more}
 use Rattle.vic_field.proofs.session.play.Goals as goal
 
@@ -31,13 +31,13 @@ pub returns-in-Sent-clause-added : goal.returns-in-Sent-clause-added
 returns-in-Sent-clause-added c =
     let log = c.args.filled.now in
     let item = c.args.item.now in
-    let slots = slots_to c.send.new.self c.in-Sent.request (slot_count c.in-Sent.request) in
+    let slots = slot_lines_to c.send.new.self c.in-Sent.request (slot_count c.in-Sent.request) in
     on_ok_weaker c.push_slots.result
     (λ e.
     e
     ∙ ap (λ (v : LogValue). with_entries v slots) c.in_ok-push_next.ensures.added
     ∙ with-append log (item ∷ []) slots
-    ∙ ap (λ (x : Entry). with_entries log (item ∷ slots_of c.send.new.self x)) (sym c.in-Sent.is))
+    ∙ ap (λ (x : Entry). with_entries log (item ∷ slot_lines c.send.new.self x)) (sym c.in-Sent.is))
     c.push_slots.ensures.added
 
 pub returns-in-Sent-clause-room : goal.returns-in-Sent-clause-room

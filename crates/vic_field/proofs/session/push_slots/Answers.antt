@@ -5,10 +5,10 @@ use Rattle.vic_log.specs.declared.entry.Entry.{Entry}
 use Rattle.vic_log.specs.Log.{last_from, LogValue}
 use Rattle.vic_log.specs.Order.{entries}
 use Rattle.vic_frame.specs.Masks.{BitMask}
-use Rattle.vic_field.specs.Steps.{slot_line, slots_to, with_entries, StopsBefore}
+use Rattle.vic_field.specs.Steps.{slot_line, slot_lines_to, with_entries, StopsBefore}
 use Rattle.vic_field.specs.Tags.{heard, ready_in}
 use Rattle.vic_field.proofs.Numbering.{entries-with, last_from-with, with_none, with-append, stops_more}
-use Rattle.vic_field.proofs.Rounds.{IsOpen, IsOpen-sent, IsOpen-slots, IsOpen-follows, slots_to-length, slot_line-is_slot}
+use Rattle.vic_field.proofs.Rounds.{IsOpen, IsOpen-sent, IsOpen-slots, IsOpen-follows, slot_lines_to-length, slot_line-is_slot}
 use Rattle.vic_field.proofs.session.push_slots.Goals as goal
 
 pub loop-k-init : goal.loop-k-init
@@ -20,13 +20,13 @@ push_next-requires-clause-follows c =
     let tags = c.args.field.now in
     let before = c.requires.sent in
     let open_now : IsOpen (entries c.args.filled.now.lines) q 0 = subst (λ es. IsOpen es q 0) (sym before.1) (IsOpen-sent before.0 q) in
-    let all : entries c.loop-k.filled.lines ≡ entries c.args.filled.now.lines ++ slots_to tags q c.loop-k.k = ap (λ (v : LogValue). entries v.lines) c.loop-k.invariant.filled ∙ entries-with c.args.filled.now (slots_to tags q c.loop-k.k) in
+    let all : entries c.loop-k.filled.lines ≡ entries c.args.filled.now.lines ++ slot_lines_to tags q c.loop-k.k = ap (λ (v : LogValue). entries v.lines) c.loop-k.invariant.filled ∙ entries-with c.args.filled.now (slot_lines_to tags q c.loop-k.k) in
     let more : c.loop-k.k < slot_count q = let e = c.slots-k-end.ensures in let b = c.loop-k-test.true in omega arith in
-    rw (all, c.slot_line.ensures) (IsOpen-follows (entries c.args.filled.now.lines ++ slots_to tags q c.loop-k.k) q c.loop-k.k (slot_line c.answer.result) (IsOpen-slots (entries c.args.filled.now.lines) q tags c.loop-k.k open_now) more (slot_line-is_slot c.answer.result))
+    rw (all, c.slot_line.ensures) (IsOpen-follows (entries c.args.filled.now.lines ++ slot_lines_to tags q c.loop-k.k) q c.loop-k.k (slot_line c.answer.result) (IsOpen-slots (entries c.args.filled.now.lines) q tags c.loop-k.k open_now) more (slot_line-is_slot c.answer.result))
 
 -- the last number of the log so far
-last_is : (log now : LogValue) (tags : List (ℕ × Bool)) (q : Request) (k : ℕ) → now ≡ with_entries log (slots_to tags q k) → last_from 1 now.lines ≡ last_from 1 log.lines + k
-last_is log now tags q k e = ap (λ (v : LogValue). last_from 1 v.lines) e ∙ last_from-with log (slots_to tags q k) ∙ ap (λ n. last_from 1 log.lines + n) (slots_to-length tags q k)
+last_is : (log now : LogValue) (tags : List (ℕ × Bool)) (q : Request) (k : ℕ) → now ≡ with_entries log (slot_lines_to tags q k) → last_from 1 now.lines ≡ last_from 1 log.lines + k
+last_is log now tags q k e = ap (λ (v : LogValue). last_from 1 v.lines) e ∙ last_from-with log (slot_lines_to tags q k) ∙ ap (λ n. last_from 1 log.lines + n) (slot_lines_to-length tags q k)
 
 pub returns-in_err-push_next-clause-refused : goal.returns-in_err-push_next-clause-refused
 returns-in_err-push_next-clause-refused c =
@@ -50,7 +50,7 @@ loop-k-preserved c =
           c.in_ok-push_next.ensures.added
           ∙ ap (λ (e : Entry). with_entries c.loop-k.filled (e ∷ [])) line
           ∙ ap (λ (v : LogValue). with_entries v (slot_line (heard (ready_in (mask_in q k) tags)) ∷ [])) c.loop-k.invariant.filled
-          ∙ with-append log (slots_to tags q k) (slot_line (heard (ready_in (mask_in q k) tags)) ∷ []);
+          ∙ with-append log (slot_lines_to tags q k) (slot_line (heard (ready_in (mask_in q k) tags)) ∷ []);
       room = omega arith;
       population = λ h. c.answer.ensures.population;
     }

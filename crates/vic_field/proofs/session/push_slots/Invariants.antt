@@ -1,13 +1,13 @@
 use Rattle.std.proofs.Common.{◌≡◌, ◌+◌, ◌<◌, ◌≤◌}
 use Rattle.vic_log.specs.Log.{last_from}
 use Rattle.vic_log.specs.Populations.{IsPopulation}
-use Rattle.vic_field.specs.Steps.{slots_to, with_entries}
+use Rattle.vic_field.specs.Steps.{slot_lines_to, with_entries}
 use Rattle.vic_field.specs.Tags.{uids}
 use Rattle.vic_field.proofs.session.push_slots.Given as goal
 
 abbrev pub invariant-loop-k : goal.invariant-loop-k
 invariant-loop-k l = record {
-  filled : l.filled ≡ with_entries l.fn.filled (slots_to l.field l.request l.k);
+  filled : l.filled ≡ with_entries l.fn.filled (slot_lines_to l.field l.request l.k);
   room : last_from 1 l.fn.filled.lines + l.k ≤ 1000000;
   population : 0 < l.k → IsPopulation (uids l.field);
 }

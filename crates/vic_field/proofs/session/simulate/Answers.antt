@@ -8,7 +8,7 @@ use Rattle.vic_log.specs.Order.{entries, listed}
 use Rattle.vic_log.specs.Populations.{IsPopulation}
 use Rattle.vic_log.specs.Rounds.{slots_opened}
 use Rattle.vic_field.specs.Simulation.{line_count, RefusesLines, IsSimulation}
-use Rattle.vic_field.specs.Steps.{slots_of, with_entries}
+use Rattle.vic_field.specs.Steps.{slot_lines, with_entries}
 use Rattle.vic_field.proofs.Follows.{follows, refuses, listed_population, line_count-front}
 use Rattle.vic_field.proofs.Listing.{entries_next, entries_take, entry_at, valid_entry}
 use Rattle.vic_field.proofs.Numbering.{entries-with, last_is, numbers_next}
@@ -56,7 +56,7 @@ loop-line-preserved c =
     let i = c.loop-line.line-index in
     let l = c.line-item.result in
     let log = c.loop-line.filled in
-    let more = l.item ∷ slots_of c.play.new.field l.item in
+    let more = l.item ∷ slot_lines c.play.new.field l.item in
     let h = c.loop-line.invariant in
     let at : slice_get lines i ≡ Some l = slice_get_read lines (length lines) i l refl c.loop-line-test.true c.line-item.is in
     let added : c.play.new.filled ≡ with_entries log more = c.in_ok-play.ensures.added in

@@ -9,7 +9,8 @@ use Rattle.std.proofs.lemmas.List.Elements.{All-filter, All-tail}
 use Rattle.std.proofs.lemmas.List.Kept.{IsStrictlySortedBy-filter}
 use Rattle.std.proofs.lemmas.Map.Iter.{rest_more, rest_all}
 use Rattle.vic_frame.specs.LowBitsFirst.{uid_of}
-use Rattle.vic_verdict.proofs.Keys.{ranged, different, IsKey, pushed, ended}
+use Rattle.vic_verdict.proofs.Keys.{ranged, different, pushed, ended}
+use Rattle.vic_frame.proofs.KeyLaws.{IsKey}
 use Rattle.vic_verdict.proofs.quiet.between.Goals as goal
 
 pub loop-key-preserved : goal.loop-key-preserved

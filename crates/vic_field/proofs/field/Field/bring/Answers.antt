@@ -6,7 +6,7 @@ use Rattle.std.specs.BTreeMap.{is_at}
 use Rattle.std.proofs.lemmas.Map.Views.{All-keys-insert_entry}
 use Rattle.vic_frame.specs.LowBitsFirst.{mirror}
 use Rattle.vic_field.specs.Tags.{readiness}
-use Rattle.vic_field.proofs.Keys.{IsKey}
+use Rattle.vic_frame.proofs.KeyLaws.{IsKey}
 use Rattle.vic_field.proofs.TagLaws.{by_key, same_key}
 use Rattle.vic_field.proofs.field.Field.bring.Goals as goal
 

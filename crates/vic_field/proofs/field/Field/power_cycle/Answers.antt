@@ -5,7 +5,7 @@ use Rattle.std.specs.Option.{option_map}
 use Rattle.std.proofs.lemmas.Map.Made.{map_same_pairs, lookup-map_values, keys_of-map_values}
 use Rattle.vic_field.specs.Keys.{tags_of}
 use Rattle.vic_field.specs.Tags.{readiness}
-use Rattle.vic_field.proofs.Keys.{IsKey}
+use Rattle.vic_frame.proofs.KeyLaws.{IsKey}
 use Rattle.vic_field.proofs.TagLaws.{tags_of-map}
 use Rattle.vic_field.proofs.field.Field.power_cycle.Goals as goal
 

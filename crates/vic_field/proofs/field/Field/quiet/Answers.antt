@@ -7,7 +7,7 @@ use Rattle.std.specs.BTreeMap.{BTreeMap, is_at}
 use Rattle.vic_field.specs.declared.field.Field.TheInside.{Inside}
 use Rattle.vic_field.specs.Keys.{tags_of}
 use Rattle.vic_field.specs.Tags.{readiness}
-use Rattle.vic_field.proofs.Keys.{IsKey}
+use Rattle.vic_frame.proofs.KeyLaws.{IsKey}
 use Rattle.vic_field.proofs.TagLaws.{written, looked, quieted, quieted_none}
 use Rattle.vic_field.proofs.field.Field.quiet.Goals.{in-Some, in_default}
 use Rattle.vic_field.proofs.field.Field.quiet.Goals as goal

@@ -3,7 +3,8 @@ use Rattle.std.specs.Ordering.{nat_cmp}
 use Rattle.std.proofs.lemmas.Map.Views.{All-insert_key}
 use Rattle.vic_frame.specs.LowBitsFirst.{uid_of}
 use Rattle.vic_frame.specs.Uids.{has}
-use Rattle.vic_verdict.proofs.Keys.{inserted, IsKey}
+use Rattle.vic_verdict.proofs.Keys.{inserted}
+use Rattle.vic_frame.proofs.KeyLaws.{IsKey}
 use Rattle.vic_verdict.proofs.quiet.QuietUids.insert.Goals as goal
 
 pub invariant_of-self-2 : goal.invariant_of-self-2
