@@ -1,4 +1,5 @@
 pub mod Tags
 pub mod Keys
+pub mod Trees
 pub mod Simulation
 pub mod Steps

@@ -2,17 +2,15 @@
 
 ghost use Rattle.std.specs.Prelude.{◌≡◌, ℕ, ◌≤◌, ◌==◌, [], true, false, MatchResult, OnOk, OnErr, if◌then◌else◌, Some};
 ghost use Rattle.std.specs.Option.{option_map};
-ghost use Rattle.std.specs.BTreeMap.{keys};
 ghost use Rattle.vic_field.specs.declared.field.AddFault.TheVariants.{Memory as NoRoom};
-ghost use Rattle.vic_field.specs.Keys.{AreKeys, ready_between};
 ghost use Rattle.vic_log.specs.Populations.{IsPopulation};
 ghost use Rattle.vic_field.specs.Tags.{uids, readiness, ready_in, quiets, heard, RefusesTag};
 ghost use Rattle.vic_frame.specs.Uids.{IsUid, has};
 
+use crate::tree::{self, Node};
 use std::alloc::{AllocError, Global};
-use std::collections::BTreeMap;
 use std::marker::Model;
-use vic_frame::{Mask, Request, Uid, low_bits_first, low_mask};
+use vic_frame::{Mask, Request, Uid, low_bits_first, without_top_byte};
 
 /// What a reader hears in a slot.
 #[derive(Clone, Copy, Debug, PartialEq, Eq)]
@@ -45,20 +43,21 @@ impl From<AllocError> for AddFault {
 /// The tags of a field, each Ready or Quiet. No two have one UID.
 #[derive(Drop)]
 pub struct Field {
-    /// Whether each tag is Ready, in the order of the low bits of UIDs.
-    order: BTreeMap<u64, bool>,
+    /// The tags, in the order of the low bits of UIDs.
+    root: Node,
+    alloc: Global,
 }
 
 impl Model for Field {
-    ghost use Rattle.std.specs.Prelude.{ℕ, List, Bool};
-    ghost use Rattle.std.specs.BTreeMap.{keys};
-    ghost use Rattle.vic_field.specs.Keys.{AreKeys, tags_of};
+    ghost use Rattle.std.specs.Prelude.{ℕ, ◌-◌, ◌^◌, List, Bool};
+    ghost use Rattle.vic_field.specs.Keys.{tags_of};
+    ghost use Rattle.vic_field.specs.Trees.{entries, IsTree, IsWithin};
 
     ghost Value = { List (ℕ × Bool) };
 
-    ghost view = { λ a. tags_of a.order.entries };
+    ghost view = { λ a. tags_of (entries a.root) };
 
-    ghost invariant = { λ a. AreKeys (keys a.order) };
+    ghost invariant = { λ a. IsTree a.root × IsWithin 0 (2 ^ 56 - 1) a.root };
 }
 
 impl Field {
@@ -67,7 +66,8 @@ impl Field {
         ensures { result ≡ [] }
     {
         Field {
-            order: BTreeMap::new(alloc),
+            root: Node::Empty,
+            alloc,
         }
     }
 
@@ -89,7 +89,7 @@ impl Field {
         ensures brought { OnOk result ((u : ℕ) → IsUid u → readiness self.new u ≡ (if u == uid then Some true else readiness self.old u)) }
         ensures unchanged { OnErr result (self.new ≡ self.old) }
     {
-        self.order.insert(low_bits_first::key(uid), true)?;
+        tree::bring(&mut self.root, self.alloc, low_bits_first::key(uid))?;
         Ok(())
     }
 
@@ -97,7 +97,7 @@ impl Field {
     fn holds(&self, uid: Uid) -> bool
         ensures { result ≡ has (uids self.now) uid }
     {
-        self.order.contains_key(&low_bits_first::key(uid))
+        tree::holds(&self.root, low_bits_first::key(uid))
     }
 
     /// What the tags do when a request is sent: a Stay Quiet makes the tag with its UID Quiet,
@@ -116,55 +116,28 @@ impl Field {
     fn quiet(&mut self, uid: Uid)
         ensures { (u : ℕ) → IsUid u → readiness self.new u ≡ (if u == uid then option_map (λ _. false) (readiness self.old u) else readiness self.old u) }
     {
-        if let Some(ready) = self.order.get_mut(&low_bits_first::key(uid)) {
-            *ready = false;
-        }
+        tree::silence(&mut self.root, low_bits_first::key(uid));
     }
 
     /// Makes every tag Ready, as a field that is switched off and on does. Takes no memory.
     pub fn power_cycle(&mut self)
         ensures { (u : ℕ) → readiness self.new u ≡ option_map (λ _. true) (readiness self.old u) }
     {
-        self.order.retain(|_, ready| {
-            *ready = true;
-            true
-        });
+        tree::wake(&mut self.root);
     }
 
     /// What a reader hears of the Ready tags in a mask. Takes no memory.
     ///
-    /// It looks at the tags of the mask alone, up to the second that is Ready; the Quiet tags before
-    /// that are passed over one by one.
+    /// It goes down to two Ready tags at most, and passes over Quiet tags by what forks note of them.
     pub fn answer(&self, mask: &Mask) -> Outcome
         ensures heard { result ≡ heard (ready_in mask.now self.now) }
         ensures population { IsPopulation (uids self.now) }
     {
-        let order = &self.order;
-        let Some(mask) = low_mask(mask) else {
+        let root = &self.root;
+        let Some(mask) = without_top_byte(mask) else {
             return Outcome::Silent;
         };
-        let (first, last) = low_bits_first::places(&mask);
-        heard_between(order, first, last)
-    }
-}
-
-/// What a reader hears of the Ready tags from the key `first` to the key `last`.
-fn heard_between(order: &BTreeMap<u64, bool>, first: u64, last: u64) -> Outcome
-    requires keys { AreKeys (keys order.now) }
-    requires forward { first ≤ last }
-    ensures { result ≡ heard (ready_between first last order.now.entries) }
-{
-    let mut lone = None;
-    for (key, ready) in order.range(first..=last) {
-        if *ready {
-            if lone.is_some() {
-                return Outcome::Several;
-            }
-            lone = Some(low_bits_first::uid_at(*key));
-        }
-    }
-    match lone {
-        Some(uid) => Outcome::Lone(uid),
-        None => Outcome::Silent,
+        let (first, last) = low_bits_first::key_range(&mask);
+        tree::hear(root, first, last, Outcome::Silent)
     }
 }

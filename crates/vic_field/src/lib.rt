@@ -5,6 +5,7 @@ mod field;
 mod session;
 #[cfg(test)]
 mod tests;
+mod tree;
 
 pub use field::{AddFault, Field, Outcome};
 pub use session::{SimFault, simulate};

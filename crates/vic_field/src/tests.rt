@@ -94,6 +94,46 @@ fn tags_of_a_field(rt: HostRuntime) -> Result<(), Fail> {
     Ok(())
 }
 
+/// Keys that lie in each order to one another: inside, before and behind what is there, near and far.
+#[test]
+fn many_tags_of_a_field(rt: HostRuntime) -> Result<(), Fail> {
+    let alloc = rt.alloc();
+    let mut field = Field::new(alloc);
+    for i in 0..300_u64 {
+        let number = 0xE000_0000_0000_0000 + i * 0x1_0F0F_1235 % 0x1_0000_0000;
+        assert_eq!(rt; field.add(uid(number)?), Ok(()));
+        assert_eq!(rt; field.add(uid(number)?), Err(AddFault::Already));
+        assert_eq!(rt;
+            field.answer(&mask(56, number % (1 << 56))?),
+            Outcome::Lone(uid(number)?)
+        );
+        field.send(&Request::StayQuiet {
+            link: 2,
+            uid: number,
+        });
+        assert_eq!(rt; field.answer(&mask(0, 0)?), Outcome::Silent);
+    }
+    field.power_cycle();
+    assert_eq!(rt; field.answer(&mask(0, 0)?), Outcome::Several);
+    for i in 0..300_u64 {
+        let number = 0xE000_0000_0000_0000 + i * 0x1_0F0F_1235 % 0x1_0000_0000;
+        assert_eq!(rt;
+            field.answer(&mask(56, number % (1 << 56))?),
+            Outcome::Lone(uid(number)?)
+        );
+        field.send(&Request::StayQuiet {
+            link: 2,
+            uid: number,
+        });
+        assert_eq!(rt;
+            field.answer(&mask(56, number % (1 << 56))?),
+            Outcome::Silent
+        );
+    }
+    assert_eq!(rt; field.answer(&mask(0, 0)?), Outcome::Silent);
+    Ok(())
+}
+
 /// The entries of a log with all lines on the numbers 2, 3, 4 and so on.
 fn assert_filled(rt: &impl Abort, filled: &Log, version: Version, items: &[Entry]) {
     assert_eq!(rt; filled.version(), version);

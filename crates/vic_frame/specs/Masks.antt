@@ -19,8 +19,8 @@ abbrev pub lies_in : BitMask → ℕ → Bool
 lies_in m u = u % 2 ^ m.len == m.value
 
 -- the mask of slot k of sixteen: the number of the slot stands above the value (ISO/IEC 15693-3, inventory sequence)
-abbrev pub sixteenth : BitMask → ℕ → BitMask
-sixteenth m k = record { len = m.len + 4; value = m.value + k * 2 ^ m.len }
+abbrev pub slot_of_sixteen : BitMask → ℕ → BitMask
+slot_of_sixteen m k = record { len = m.len + 4; value = m.value + k * 2 ^ m.len }
 
 -- the mask of a UID's 56 low bits, which holds no other UID: all of them share the top byte
 abbrev pub own_mask : ℕ → BitMask

@@ -2,7 +2,7 @@
 use Rattle.std.specs.Prelude.{ℕ, Option, Some, None, nat_lt, if◌then◌else◌}
 use Rattle.vic_frame.specs.declared.request.Request.{Request}
 use Rattle.vic_frame.specs.declared.request.Request.TheVariants.{Inventory, StayQuiet}
-use Rattle.vic_frame.specs.Masks.{BitMask, sixteenth}
+use Rattle.vic_frame.specs.Masks.{BitMask, slot_of_sixteen}
 
 -- one or sixteen; Stay Quiet opens none
 abbrev pub slot_count : Request → ℕ
@@ -11,7 +11,7 @@ slot_count (StayQuiet link uid) = 0
 
 -- the mask of slot k of an Inventory request; Stay Quiet has no slot, and its mask here means nothing
 abbrev pub mask_in : Request → ℕ → BitMask
-mask_in (Inventory link sixteen m) k = if sixteen then sixteenth m k else m
+mask_in (Inventory link sixteen m) k = if sixteen then slot_of_sixteen m k else m
 mask_in (StayQuiet link uid) k = record { len = 0; value = 0 }
 
 -- the mask of slot k where the request has that slot

@@ -22,7 +22,7 @@ mod uid;
 
 pub use checksum::{crc, crc_right};
 pub use fault::FrameFault;
-pub use mask::{Mask, low_mask};
+pub use mask::{Mask, without_top_byte};
 pub use request::Request;
 pub use request_frame::{read_request, write_request};
 pub use response::Response;

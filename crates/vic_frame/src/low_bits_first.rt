@@ -35,8 +35,8 @@ pub fn uid_at(key: u64) -> Uid
 }
 
 /// The first and the last place of a mask's UIDs: a UID lies in the mask exactly where its place
-/// is between them, both counted. For a longer mask take `low_mask` first.
-pub fn places(mask: &Mask) -> (u64, u64)
+/// is between them, both counted. For a longer mask take `without_top_byte` first.
+pub fn key_range(mask: &Mask) -> (u64, u64)
     requires { mask.now.len ≤ 56 }
     ensures first { result.0 ≡ mirror mask.now.value }
     ensures last { result.1 ≡ mirror mask.now.value + (2 ^ (56 - mask.now.len) - 1) }

@@ -2,7 +2,7 @@
 
 ghost use Rattle.std.specs.Prelude.{◌≡◌, ℕ, ◌^◌, ◌%◌, ◌<◌, ◌≤◌, ◌+◌, ◌*◌, ◌==◌, false, SomeIff, IfSome, IfNone};
 ghost use Rattle.vic_frame.specs.Uids.{IsUid};
-ghost use Rattle.vic_frame.specs.Masks.{BitMask, IsMask, LiesIn, lies_in, sixteenth, own_mask, least_uid_in};
+ghost use Rattle.vic_frame.specs.Masks.{BitMask, IsMask, LiesIn, lies_in, slot_of_sixteen, own_mask, least_uid_in};
 
 use crate::uid::Uid;
 use std::marker::Model;
@@ -41,7 +41,7 @@ impl Mask {
     }
 
     /// The mask of 56 bits that holds this UID and no other.
-    pub fn of(uid: Uid) -> Mask
+    pub fn of_uid(uid: Uid) -> Mask
         ensures value { result ≡ own_mask uid }
         ensures alone { (u : ℕ) → IsUid u → lies_in result u ≡ (u == uid) }
     {
@@ -82,7 +82,7 @@ impl Mask {
     ///
     /// `ISO/IEC 15693-3, inventory sequence`.
     pub fn slot(&self, k: u8) -> Option<Mask>
-        ensures { SomeIff result ((self.now.len ≤ 60) × (k ≤ 15)) (sixteenth self.now k) }
+        ensures { SomeIff result ((self.now.len ≤ 60) × (k ≤ 15)) (slot_of_sixteen self.now k) }
     {
         if self.len <= 60 && k <= 15 {
             Some(Mask {
@@ -110,7 +110,7 @@ impl Mask {
 }
 
 /// The mask of at most 56 bits that holds the same UIDs; `None` where the mask holds no UID.
-pub fn low_mask(mask: &Mask) -> Option<Mask>
+pub fn without_top_byte(mask: &Mask) -> Option<Mask>
     ensures short { IfSome result (λ m. IsMask m × (m.len ≤ 56)) }
     ensures same { IfSome result (λ m. (u : ℕ) → IsUid u → lies_in m u ≡ lies_in mask.now u) }
     ensures none { IfNone result ((u : ℕ) → IsUid u → lies_in mask.now u ≡ false) }

@@ -141,7 +141,7 @@ taken false x y p = cc
 
 -- ---- how long a line is without its end
 
-without_long : (b : ℕ) (line : List ℕ) (t : Bool) → length line ≤ length (if t then all_but_last line else line) + 1
+pub without_long : (b : ℕ) (line : List ℕ) (t : Bool) → length line ≤ length (if t then all_but_last line else line) + 1
 without_long b line true = let e = length-take-le (length line - 1) line (omega arith) in omega arith
 without_long b line false = omega arith
 

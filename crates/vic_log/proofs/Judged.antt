@@ -1,10 +1,11 @@
 -- A text that is read in pieces: one byte more, a fault, and the end.
 use Rattle.std.proofs.Common.{◌≡◌, ◌⊎◌, inl, inr, ℕ, zero, suc, ◌+◌, ◌<◌, ◌≤◌, Bool, true, false, Some, None, List, [], ◌∷◌, ◌++◌, length, length-append, append_assoc, append-nil, refl, sym, ap, subst, ◌∙◌, arith, ⊎_elim}
-use Rattle.std.specs.Prelude.{◌≢◌, slice_get, slice_index, nat_eq, if◌then◌else◌, ◌==◌, ◌||◌, ◌-◌, map, take, drop}
+use Rattle.std.specs.Prelude.{◌≢◌, slice_get, slice_index, nat_eq, if◌then◌else◌, ◌==◌, ◌||◌, ◌-◌, map, take, drop, nat_lt}
 use Rattle.std.proofs.lemmas.Bool.{cases_lt, lt-ltb, le-ltb}
 use Rattle.std.proofs.lemmas.List.{map-append, length-map, drop_all}
 use Rattle.std.proofs.Math.Seq.{drop-append_seam}
 use Rattle.vic_frame.specs.Uids.{has}
+use Rattle.vic_log.specs.declared.entry.Entry.{Entry}
 use Rattle.vic_log.specs.declared.entry.LogLine.{LogLine}
 use Rattle.vic_log.specs.declared.fault.LineFault.{LineFault}
 use Rattle.vic_log.specs.declared.fault.LineFault.TheVariants.{TooManyLines, LineTooLong, Header}
@@ -16,7 +17,7 @@ use Rattle.vic_log.specs.Lines.{lf, cr, cut, onto, ends_with, all_but_last, with
 use Rattle.vic_log.specs.Log.{last_from}
 use Rattle.vic_log.specs.Order.{entries}
 use Rattle.vic_log.specs.Text.{line_fault, logged, log_upto, fault_on, IsFirstFault, IsLogOf, Refuses, RefusesLine}
-use Rattle.vic_log.proofs.Early.{AgreeBelow, log_agrees, fault_agrees, still_long, too_many, too_long, front_at, last_at, open_part, content_open, Begins, begins, onto_begins}
+use Rattle.vic_log.proofs.Early.{AgreeBelow, log_agrees, fault_agrees, still_long, too_many, too_long, front_at, last_at, open_part, content_open, Begins, begins, onto_begins, without_long}
 use Rattle.vic_log.proofs.Passing.{HasRead, HasRead-step, HasRead-fault, HasRead-empty, HasRead-end, HasRead-above}
 use Rattle.vic_log.proofs.Written.{or_parts, cut-line, take_front, index_last, and_true, not_last}
 
@@ -39,7 +40,7 @@ ends-end line =
     let last : slice_index (line ++ lf ∷ []) (length (line ++ lf ∷ []) - 1) ≡ lf = ap (slice_index (line ++ lf ∷ [])) place ∙ index_last line lf in
     and_true _ _ (lt-ltb 0 (length (line ++ lf ∷ [])) (omega arith)) (ap (λ v. v == lf) last)
 
-neither : (a b : Bool) → a ≡ false → b ≡ false → (a || b) ≡ false
+pub neither : (a b : Bool) → a ≡ false → b ≡ false → (a || b) ≡ false
 neither true b p q = cc
 neither false b p q = q
 
@@ -48,10 +49,56 @@ no_lf_push [] b h k = neither (nat_eq lf b) false k refl
 no_lf_push (x ∷ line) b h k =
     let p = or_parts (nat_eq lf x) (has line lf) h in neither (nat_eq lf x) (has (line ++ b ∷ []) lf) p.0 (no_lf_push line b p.1 k)
 
+-- ---- a line begun, however long
+
+-- the text is so many lines without a fault, which gave these log lines, and bytes without LF
+pub record HasCut (text : List ℕ) (log : List LogLine) (number : ℕ) (line : List ℕ) : Type 0 where
+  pub parts : List (List ℕ)
+  pub cuts : (more : List ℕ) → cut (text ++ more) ≡ parts ++ cut (line ++ more)
+  pub count : length parts ≡ number
+  pub clean : (m : ℕ) → m ≤ number → fault_on (map content parts) m ≡ None
+  pub log_is : log ≡ log_upto (map content parts) number
+  pub limit : number ≤ 1000000
+  pub no_lf : has line lf ≡ false
+
+abbrev pub cut_of : (text line : List ℕ) (log : List LogLine) (n : ℕ) → HasJudged text log n line → HasCut text log n line
+cut_of text line log n j = record { parts = j.parts; cuts = j.cuts; count = j.count; clean = j.clean; log_is = j.log_is; limit = j.limit; no_lf = j.no_lf }
+
+no_lf_more : (line more : List ℕ) → has line lf ≡ false → has more lf ≡ false → has (line ++ more) lf ≡ false
+no_lf_more [] more h k = k
+no_lf_more (x ∷ line) more h k =
+    let p = or_parts (nat_eq lf x) (has line lf) h in neither (nat_eq lf x) (has (line ++ more) lf) p.0 (no_lf_more line more p.1 k)
+
+-- more bytes of the line begun
+pub HasCut-more : (text line bytes : List ℕ) (log : List LogLine) (n : ℕ) → HasCut text log n line → has bytes lf ≡ false → HasCut (text ++ bytes) log n (line ++ bytes)
+HasCut-more text line bytes log n j lacks = record {
+  parts = j.parts;
+  cuts = λ more. ap cut (append_assoc text bytes more) ∙ (j.cuts (bytes ++ more) ∙ ap (λ xs. j.parts ++ cut xs) (sym (append_assoc line bytes more)));
+  count = j.count;
+  clean = j.clean;
+  log_is = j.log_is;
+  limit = j.limit;
+  no_lf = no_lf_more line bytes j.no_lf lacks;
+}
+
+-- a line begun that isn't too long yet
+pub HasJudged-short : (text line : List ℕ) (log : List LogLine) (n : ℕ) → HasCut text log n line → n ≢ 1000000 → IsShort line → HasJudged text log n line
+HasJudged-short text line log n j few short = record {
+  parts = j.parts;
+  cuts = j.cuts;
+  count = j.count;
+  clean = j.clean;
+  log_is = j.log_is;
+  limit = j.limit;
+  no_lf = j.no_lf;
+  short = short;
+  last = λ e. absurd (few e);
+}
+
 -- ---- the lines judged, as lines that were read
 
 -- these lines were read, and this one is next
-next_line : (text line : List ℕ) (log : List LogLine) (n : ℕ) → (j : HasJudged text log n line) → (x : List ℕ) (others : List (List ℕ)) → HasRead (map content j.parts ++ x ∷ others) (x ∷ others) log n
+next_line : (text line : List ℕ) (log : List LogLine) (n : ℕ) → (j : HasCut text log n line) → (x : List ℕ) (others : List (List ℕ)) → HasRead (map content j.parts ++ x ∷ others) (x ∷ others) log n
 next_line text line log n j x others =
     let ps = map content j.parts in
     let long : length ps ≡ n = length-map j.parts content ∙ j.count in
@@ -79,23 +126,8 @@ HasJudged-start = record {
   last = λ e. refl;
 }
 
--- a byte of the line begun
-pub HasJudged-byte : (text line : List ℕ) (log : List LogLine) (n b : ℕ) → HasJudged text log n line → nat_eq lf b ≡ false → n ≢ 1000000
-    → IsShort (line ++ b ∷ []) → HasJudged (text ++ b ∷ []) log n (line ++ b ∷ [])
-HasJudged-byte text line log n b j other few short = record {
-  parts = j.parts;
-  cuts = λ more. ap cut (append_assoc text (b ∷ []) more) ∙ (j.cuts (b ∷ more) ∙ ap (λ xs. j.parts ++ cut xs) (sym (append_assoc line (b ∷ []) more)));
-  count = j.count;
-  clean = j.clean;
-  log_is = j.log_is;
-  limit = j.limit;
-  no_lf = no_lf_push line b j.no_lf other;
-  short = short;
-  last = λ e. absurd (few e);
-}
-
 -- the LF of a line without a fault
-pub HasJudged-end : (text line : List ℕ) (log : List LogLine) (n : ℕ) → HasJudged text log n line → line_fault (entries log) (suc n) (Some (without_last cr line)) ≡ None
+pub HasJudged-end : (text line : List ℕ) (log : List LogLine) (n : ℕ) → HasCut text log n line → line_fault (entries log) (suc n) (Some (without_last cr line)) ≡ None
     → HasJudged (text ++ lf ∷ []) (log ++ logged (suc n) (Some (without_last cr line))) (suc n) []
 HasJudged-end text line log n j h =
     let part = line ++ lf ∷ [] in
@@ -118,14 +150,14 @@ HasJudged-end text line log n j h =
 -- ---- early faults
 
 -- a fault of the part that comes next is the first fault of the text
-fault_of_part : (text line all : List ℕ) (log : List LogLine) (n : ℕ) (f : LineFault) (part : List ℕ) (others : List (List ℕ)) → (j : HasJudged text log n line)
+fault_of_part : (text line all : List ℕ) (log : List LogLine) (n : ℕ) (f : LineFault) (part : List ℕ) (others : List (List ℕ)) → (j : HasCut text log n line)
     → cut all ≡ j.parts ++ part ∷ others → line_fault (entries log) (suc n) (Some (content part)) ≡ Some f → IsFirstFault (lines_of_text all) (suc n) f
 fault_of_part text line all log n f part others j c h =
     let lines_are : lines_of_text all ≡ map content j.parts ++ content part ∷ map content others = ap (map content) c ∙ map-append content j.parts (part ∷ others) in
     subst (λ ls. IsFirstFault ls (suc n) f) (sym lines_are)
     (HasRead-fault (map content j.parts ++ content part ∷ map content others) (content part) (map content others) log n f (next_line text line log n j (content part) (map content others)) h)
 
-early_part : (text line all : List ℕ) (log : List LogLine) (n : ℕ) (f : LineFault) (part : List ℕ) (others : List (List ℕ)) → (j : HasJudged text log n line)
+early_part : (text line all : List ℕ) (log : List LogLine) (n : ℕ) (f : LineFault) (part : List ℕ) (others : List (List ℕ)) → (j : HasCut text log n line)
     → cut all ≡ j.parts ++ part ∷ others → line_fault (entries log) (suc n) (Some (content part)) ≡ Some f → IsJudged part ⊎ (suc n ≡ 1000001) → IsEarlyFault all (suc n) f
 early_part text line all log n f part others j c h judged = record {
   fault = fault_of_part text line all log n f part others j c h;
@@ -137,7 +169,7 @@ early_part text line all log n f part others j c h judged = record {
 }
 
 -- a line with its LF
-pub early-end : (text line : List ℕ) (log : List LogLine) (n : ℕ) (f : LineFault) → HasJudged text log n line → line_fault (entries log) (suc n) (Some (without_last cr line)) ≡ Some f
+pub early-end : (text line : List ℕ) (log : List LogLine) (n : ℕ) (f : LineFault) → HasCut text log n line → line_fault (entries log) (suc n) (Some (without_last cr line)) ≡ Some f
     → (more : List ℕ) → IsEarlyFault (text ++ lf ∷ more) (suc n) f
 early-end text line log n f j h more =
     early_part text line (text ++ lf ∷ more) log n f (line ++ lf ∷ []) (cut more) j
@@ -151,6 +183,9 @@ judged_more part (x ∷ rest) l =
     let size : length (part ++ x ∷ rest) ≡ length part + length (x ∷ rest) = length-append part (x ∷ rest) in
     inr (inl (⊎_elim (λ (a : 130 ≤ length part). omega arith) (λ (b : (129 ≤ length part) × (ends_with cr part ≡ false)). let k = b.0 in omega arith) l))
 
+long_some : (part : List ℕ) → IsLong part → 0 < length part
+long_some part l = ⊎_elim (λ (a : 130 ≤ length part). omega arith) (λ (b : (129 ≤ length part) × (ends_with cr part ≡ false)). let k = b.0 in omega arith) l
+
 begins_at : (part more : List ℕ) → 0 < length part → has part lf ≡ false → Begins part (cut (part ++ more))
 begins_at [] more some h = absurd (omega arith)
 begins_at (b ∷ tail) more some h = begins b tail more h
@@ -159,54 +194,63 @@ below_limit : (n : ℕ) → n ≤ 1000000 → n ≢ 1000000 → suc n ≤ 100000
 below_limit n le ne = ⊎_elim (λ (lt : n < 1000000). omega arith) (λ (ge : 1000000 ≤ n). absurd (ne (omega arith))) (cases_lt n 1000000)
 
 -- a line that is too long whatever follows
-pub early-long : (text line : List ℕ) (log : List LogLine) (n b : ℕ) → HasJudged text log n line → nat_eq lf b ≡ false → n ≢ 1000000 → IsLong (line ++ b ∷ [])
-    → (more : List ℕ) → IsEarlyFault (text ++ b ∷ more) (suc n) LineTooLong
-early-long text line log n b j other few l more =
-    let begun = line ++ b ∷ [] in
-    let lacks : has begun lf ≡ false = no_lf_push line b j.no_lf other in
-    let size : length begun ≡ length line + 1 = length-append line (b ∷ []) in
-    let s = begins_at begun more (omega arith) lacks in
-    let part = begun ++ s.rest in
-    let long : 128 < length (content part) = still_long begun s.rest (not_last begun lf lacks) l in
+pub early-long : (text line : List ℕ) (log : List LogLine) (n m : ℕ) → HasCut text log n line → m ≡ suc n → n ≢ 1000000 → IsLong line → (more : List ℕ) → IsEarlyFault (text ++ more) m LineTooLong
+early-long text line log n m j e few l more =
+    let some : 0 < length line = long_some line l in
+    let s = begins_at line more some j.no_lf in
+    let part = line ++ s.rest in
+    let long : 128 < length (content part) = still_long line s.rest (not_last line lf j.no_lf) l in
     let limit = j.limit in
     let within : suc n ≤ 1000000 = below_limit n limit few in
-    early_part text line (text ++ b ∷ more) log n LineTooLong part s.others j
-    (j.cuts (b ∷ more) ∙ ap (λ xs. j.parts ++ xs) (ap cut (sym (append_assoc line (b ∷ []) more)) ∙ s.parts_are))
+    subst (λ (k : ℕ). IsEarlyFault (text ++ more) k LineTooLong) (sym e)
+    (early_part text line (text ++ more) log n LineTooLong part s.others j
+    (j.cuts more ∙ ap (λ xs. j.parts ++ xs) s.parts_are)
     (too_long (entries log) (suc n) (content part) long ∙ ap (λ t. if t then Some TooManyLines else Some LineTooLong) (le-ltb 1000000 (suc n) within))
-    (inl (judged_more begun s.rest l))
+    (inl (judged_more line s.rest l)))
 
 some_part : (b : ℕ) (more : List ℕ) → (t : Bool) → Begins [] (if t then (b ∷ []) ∷ cut more else onto b (cut more))
 some_part b more true = record { rest = b ∷ []; others = cut more; parts_are = refl }
 some_part b more false = let s = onto_begins b (cut more) in record { rest = b ∷ s.rest; others = s.others; parts_are = s.parts_are }
 
--- a byte of line 1,000,001
-pub early-many : (text line : List ℕ) (log : List LogLine) (n b : ℕ) → HasJudged text log n line → n ≡ 1000000 → (more : List ℕ) → IsEarlyFault (text ++ b ∷ more) (suc n) TooManyLines
-early-many text line log n b j all more =
+-- bytes of line 1,000,001
+pub early-many : (text line bytes : List ℕ) (log : List LogLine) (n : ℕ) → HasJudged text log n line → n ≡ 1000000 → 0 < length bytes → IsEarlyFault (text ++ bytes) 1000001 TooManyLines
+early-many text line [] log n j all some = absurd (omega arith)
+early-many text line (b ∷ more) log n j all some =
     let s = some_part b more (b == lf) in
-    early_part text line (text ++ b ∷ more) log n TooManyLines s.rest s.others j
+    subst (λ (k : ℕ). IsEarlyFault (text ++ b ∷ more) (suc k) TooManyLines) all
+    (early_part text line (text ++ b ∷ more) log n TooManyLines s.rest s.others (cut_of text line log n j)
     (j.cuts (b ∷ more) ∙ ap (λ xs. j.parts ++ xs) (ap (λ xs. cut (xs ++ b ∷ more)) (j.last all) ∙ s.parts_are))
     (too_many (entries log) (suc n) (content s.rest) (omega arith))
-    (inr (ap suc all))
+    (inr (ap suc all)))
 
 -- ---- the same at a number that is one more
 
-pub HasJudged-next : (text line : List ℕ) (log : List LogLine) (n m b : ℕ) → HasJudged text log n line → m ≡ suc n → b ≡ lf → line_fault (entries log) m (Some (without_last cr line)) ≡ None
-    → HasJudged (text ++ b ∷ []) (log ++ logged m (Some (without_last cr line))) m []
-HasJudged-next text line log n m b j e is h =
-    subst (λ (x : ℕ). HasJudged (text ++ x ∷ []) (log ++ logged m (Some (without_last cr line))) m []) (sym is)
-    (subst (λ (k : ℕ). HasJudged (text ++ lf ∷ []) (log ++ logged k (Some (without_last cr line))) k []) (sym e)
-    (HasJudged-end text line log n j (ap (λ k. line_fault (entries log) k (Some (without_last cr line))) (sym e) ∙ h)))
+pub HasJudged-next : (text line : List ℕ) (log : List LogLine) (n m : ℕ) → HasCut text log n line → m ≡ suc n → line_fault (entries log) m (Some (without_last cr line)) ≡ None
+    → HasJudged (text ++ lf ∷ []) (log ++ logged m (Some (without_last cr line))) m []
+HasJudged-next text line log n m j e h =
+    subst (λ (k : ℕ). HasJudged (text ++ lf ∷ []) (log ++ logged k (Some (without_last cr line))) k []) (sym e)
+    (HasJudged-end text line log n j (ap (λ k. line_fault (entries log) k (Some (without_last cr line))) (sym e) ∙ h))
 
-pub early-refused : (text line : List ℕ) (log : List LogLine) (n m b : ℕ) → HasJudged text log n line → m ≡ suc n → b ≡ lf → (fault : LogFault) → RefusesLine (line_fault (entries log) m (Some (without_last cr line))) m fault
-    → (more : List ℕ) → IsEarly fault (text ++ b ∷ more)
-early-refused text line log n m b j e is (Line k f) h more =
+pub early-refused : (text line : List ℕ) (log : List LogLine) (n m : ℕ) → HasCut text log n line → m ≡ suc n → (fault : LogFault) → RefusesLine (line_fault (entries log) m (Some (without_last cr line))) m fault
+    → (more : List ℕ) → IsEarly fault (text ++ lf ∷ more)
+early-refused text line log n m j e (Line k f) h more =
     let same : k ≡ suc n = h.0 ∙ e in
-    subst (λ (x : ℕ). IsEarlyFault (text ++ x ∷ more) k f) (sym is)
-    (subst (λ (i : ℕ). IsEarlyFault (text ++ lf ∷ more) i f) (sym same)
-    (early-end text line log n f j (ap (λ i. line_fault (entries log) i (Some (without_last cr line))) (sym e) ∙ h.1) more))
-early-refused text line log n m b j e is Memory h more = tt
-early-refused text line log n m b j e is Read h more = h
-early-refused text line log n m b j e is Spent h more = h
+    subst (λ (i : ℕ). IsEarlyFault (text ++ lf ∷ more) i f) (sym same)
+    (early-end text line log n f j (ap (λ i. line_fault (entries log) i (Some (without_last cr line))) (sym e) ∙ h.1) more)
+early-refused text line log n m j e Memory h more = tt
+early-refused text line log n m j e Read h more = h
+early-refused text line log n m j e Spent h more = h
+
+fault_some : (b : Bool) → (if b then Some TooManyLines else Some LineTooLong) ≡ None → ⊥
+fault_some true h = cc
+fault_some false h = cc
+
+-- a line without a fault, with its LF, is at most 130 bytes
+pub fits : (es : List Entry) (n : ℕ) (line : List ℕ) → line_fault es n (Some (without_last cr line)) ≡ None → length line ≤ 129
+fits es n line h = ⊎_elim
+    (λ (long : 128 < length (without_last cr line)). absurd (fault_some (nat_lt 1000000 n) (sym (too_long es n (without_last cr line) long) ∙ h)))
+    (λ (short : length (without_last cr line) ≤ 128). let k = without_long cr line (ends_with cr line) in omega arith)
+    (cases_lt 128 (length (without_last cr line)))
 
 -- ---- the end of the text
 
@@ -249,14 +293,14 @@ pub end-log : (text line : List ℕ) (log : List LogLine) (n : ℕ) → HasJudge
 end-log text line log n j some h =
     let lines = map content j.parts ++ line ∷ [] in
     subst (λ ls. IsLogOf ls (log ++ logged (suc n) (Some line))) (sym (last_line text line log n j some))
-    (HasRead-end lines (log ++ logged (suc n) (Some line)) (suc n) (HasRead-step lines line [] log n (next_line text line log n j line []) h) (omega arith))
+    (HasRead-end lines (log ++ logged (suc n) (Some line)) (suc n) (HasRead-step lines line [] log n (next_line text line log n (cut_of text line log n j) line []) h) (omega arith))
 
 pub end-fault : (text line : List ℕ) (log : List LogLine) (n : ℕ) (f : LineFault) → HasJudged text log n line → 0 < length line → line_fault (entries log) (suc n) (Some line) ≡ Some f
     → IsFirstFault (lines_of_text text) (suc n) f
 end-fault text line log n f j some h =
     let lines = map content j.parts ++ line ∷ [] in
     subst (λ ls. IsFirstFault ls (suc n) f) (sym (last_line text line log n j some))
-    (HasRead-fault lines line [] log n f (next_line text line log n j line []) h)
+    (HasRead-fault lines line [] log n f (next_line text line log n (cut_of text line log n j) line []) h)
 
 pub end-refused : (text line : List ℕ) (log : List LogLine) (n m : ℕ) → HasJudged text log n line → 0 < length line → m ≡ suc n → (fault : LogFault) → RefusesLine (line_fault (entries log) m (Some line)) m fault → Refuses text fault
 end-refused text line log n m j some e (Line k f) h =

@@ -1,5 +1,5 @@
 -- A text that is read in pieces: its lines so far were judged, and one more may have begun.
-use Rattle.std.specs.Prelude.{◌≡◌, ◌⊎◌, ℕ, ◌+◌, ◌*◌, ◌-◌, ◌≤◌, true, false, Option, Some, None, List, [], ◌++◌, length, map}
+use Rattle.std.specs.Prelude.{◌≡◌, ◌⊎◌, ℕ, ◌+◌, ◌*◌, ◌-◌, ◌≤◌, true, false, Option, Some, None, List, [], ◌∷◌, ◌++◌, length, map}
 use Rattle.vic_frame.specs.Uids.{has}
 use Rattle.vic_log.specs.declared.entry.LogLine.{LogLine}
 use Rattle.vic_log.specs.declared.fault.LineFault.{LineFault}
@@ -35,9 +35,15 @@ HasTaken text b = HasJudged text b.log.lines b.number b.line.items
 abbrev pub spare_of : Begun → ℕ
 spare_of b = spare b.number b.line.items
 
--- the line begun, once its LF has come
-abbrev pub ended_line : Begun → Option (List ℕ)
-ended_line b = Some (without_last cr b.line.items)
+-- a line without LF, and what stands behind its LF
+pub record IsSplit (bytes line rest : List ℕ) : Type 0 where
+  pub whole : bytes ≡ line ++ lf ∷ rest
+  pub no_lf : has line lf ≡ false
 
-abbrev pub ended_fault : Begun → Option LineFault
-ended_fault b = line_fault (entries b.log.lines) (b.number + 1) (ended_line b)
+-- a line, once its LF has come
+abbrev pub ended_line : List ℕ → Option (List ℕ)
+ended_line line = Some (without_last cr line)
+
+-- its first fault behind so many lines
+abbrev pub ended_fault : List LogLine → ℕ → List ℕ → Option LineFault
+ended_fault log number line = line_fault (entries log) (number + 1) (ended_line line)

@@ -14,3 +14,4 @@ pub mod Begun
 pub mod Writing
 pub mod Names
 pub mod Device
+pub mod Index

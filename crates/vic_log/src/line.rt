@@ -1,9 +1,9 @@
 //! One line.
 
-ghost use Rattle.std.specs.Prelude.{◌≡◌, ◌≤◌, Ok, IfOk, IfErr, IfSome, IsErr, length};
+ghost use Rattle.std.specs.Prelude.{◌≡◌, ◌≤◌, ◌*◌, true, false, MatchOption, Ok, IfOk, IfErr, IfSome, IsErr, length};
 ghost use Rattle.vic_log.specs.Log.{IsValidEntry};
 ghost use Rattle.vic_log.specs.FirstVersion.{IsOfFirstVersion};
-ghost use Rattle.hex.specs.Hex.{decode_of};
+ghost use Rattle.hex.specs.Hex.{decode_of, decode_pairs, hex_digit_value};
 ghost use Rattle.vic_frame.specs.Reading.{request_reading, reply_reading};
 ghost use Rattle.vic_log.specs.declared.fault.LineFault.TheVariants.{Hex};
 ghost use Rattle.vic_log.specs.LineReading.{line_reading, sent, heard, listed_uid};
@@ -12,16 +12,62 @@ use crate::entry::Entry;
 use crate::fault::LineFault;
 use vic_frame::{Uid, read_request, read_response};
 
+/// The value of each byte as a hex digit, 255 where it is none.
+const VALUES: [u8; 256] = [
+    255, 255, 255, 255, 255, 255, 255, 255, 255, 255, 255, 255, 255, 255, 255, 255, 255, 255, 255,
+    255, 255, 255, 255, 255, 255, 255, 255, 255, 255, 255, 255, 255, 255, 255, 255, 255, 255, 255,
+    255, 255, 255, 255, 255, 255, 255, 255, 255, 255, 0, 1, 2, 3, 4, 5, 6, 7, 8, 9, 255, 255, 255,
+    255, 255, 255, 255, 10, 11, 12, 13, 14, 15, 255, 255, 255, 255, 255, 255, 255, 255, 255, 255,
+    255, 255, 255, 255, 255, 255, 255, 255, 255, 255, 255, 255, 255, 255, 255, 255, 10, 11, 12, 13,
+    14, 15, 255, 255, 255, 255, 255, 255, 255, 255, 255, 255, 255, 255, 255, 255, 255, 255, 255,
+    255, 255, 255, 255, 255, 255, 255, 255, 255, 255, 255, 255, 255, 255, 255, 255, 255, 255, 255,
+    255, 255, 255, 255, 255, 255, 255, 255, 255, 255, 255, 255, 255, 255, 255, 255, 255, 255, 255,
+    255, 255, 255, 255, 255, 255, 255, 255, 255, 255, 255, 255, 255, 255, 255, 255, 255, 255, 255,
+    255, 255, 255, 255, 255, 255, 255, 255, 255, 255, 255, 255, 255, 255, 255, 255, 255, 255, 255,
+    255, 255, 255, 255, 255, 255, 255, 255, 255, 255, 255, 255, 255, 255, 255, 255, 255, 255, 255,
+    255, 255, 255, 255, 255, 255, 255, 255, 255, 255, 255, 255, 255, 255, 255, 255, 255, 255, 255,
+    255, 255, 255, 255, 255, 255, 255, 255, 255, 255, 255, 255, 255, 255, 255, 255, 255, 255, 255,
+    255, 255, 255,
+];
+
+/// The value of a hex digit in upper or lower case.
+fn digit_value(byte: u8) -> u8
+    ensures { MatchOption (hex_digit_value byte) (result ≡ 255) (λ v. (v ≡ result) × (result ≤ 15)) }
+{
+    VALUES[usize::from(byte)]
+}
+
+/// Puts in the bytes that hex digits spell, and says whether they spell any.
+fn decode_into(digits: &[u8], bytes: &mut [u8]) -> bool
+    requires { length digits.now ≡ 2 * length bytes.old }
+    ensures ok { result ≡ true → decode_pairs 0 digits.now ≡ Ok bytes.new }
+    ensures err { result ≡ false → IsErr (decode_pairs 0 digits.now) }
+{
+    'bytes: for i in 0..bytes.len() {
+        let high = digit_value(digits[2 * i]);
+        let low = digit_value(digits[2 * i + 1]);
+        if high > 15 || low > 15 {
+            return false;
+        }
+        bytes[i] = high * 16 + low;
+    }
+    true
+}
+
 /// The bytes that hex digits spell, in some room.
 fn decode<'a>(digits: &[u8], room: &'a mut [u8; 63]) -> Result<&'a [u8], LineFault>
     requires { length digits.now ≤ 126 }
     ensures ok { IfOk result (λ bytes. decode_of digits.now ≡ Ok bytes.now) }
     ensures err { IfErr result (λ e. (e ≡ Hex) × IsErr (decode_of digits.now)) }
 {
+    if digits.len() % 2 != 0 {
+        return Err(LineFault::Hex);
+    }
     let bytes = &mut room[..digits.len() / 2];
-    match hex::decode_to_slice(digits, bytes) {
-        Ok(()) => Ok(bytes),
-        Err(_) => Err(LineFault::Hex),
+    if decode_into(digits, bytes) {
+        Ok(bytes)
+    } else {
+        Err(LineFault::Hex)
     }
 }
 

@@ -1,12 +1,12 @@
 //! A log as a value.
 
-ghost use Rattle.std.specs.Prelude.{◌≡◌, ◌<◌, ◌≤◌, ℕ, [], ◌∷◌, None, MatchResult, OnOk, OnErr, IfErr, not, ◌||◌};
-ghost use Rattle.std.specs.BTreeSet as sorted;
-ghost use Rattle.std.specs.Ordering.{nat_cmp};
+ghost use Rattle.std.specs.Prelude.{◌≡◌, ◌<◌, ◌≤◌, ℕ, [], ◌∷◌, None, MatchResult, OnOk, OnErr, IfErr, not, ◌||◌, true, false};
 ghost use Rattle.vic_log.specs.declared.fault.PushFault.TheVariants.{Memory as NoRoom};
 ghost use Rattle.vic_frame.specs.Uids.{has};
 ghost use Rattle.vic_log.specs.declared.entry.Version.TheVariants.{V1};
 ghost use Rattle.vic_log.specs.FirstVersion.{IsOfFirstVersion};
+ghost use Rattle.std.specs.List.Sorted.{IsNonDecreasing};
+ghost use Rattle.vic_log.specs.Index.{IsAbove, IsAtMost, IsIndex, is_indexed};
 ghost use Rattle.vic_log.specs.Kept.{left_after, Keeps};
 ghost use Rattle.vic_log.specs.Log.{LogValue, IsLog, with_line, last_from, RefusesOr, IsValidEntry};
 ghost use Rattle.vic_log.specs.Order.{entries, listed, is_empty, refusal};
@@ -23,8 +23,10 @@ use vic_frame::Uid;
 pub struct Log {
     version: Version,
     lines: Vec<LogLine>,
-    /// The UIDs listed.
-    index: BTreeSet<Uid>,
+    /// The UIDs listed that are above all those before, in that order.
+    rising: Vec<Uid>,
+    /// The other UIDs listed.
+    others: BTreeSet<Uid>,
     /// Whether a UID is listed.
     listing: bool,
     /// How many slots of the round are left.
@@ -36,7 +38,7 @@ impl Model for Log {
 
     ghost view = { λ l. record { lines = l.lines.items; version = l.version } };
 
-    ghost invariant = { λ l. Keeps l.version l.lines.items (λ u. sorted.contains nat_cmp l.index u) l.listing l.slots_left };
+    ghost invariant = { λ l. Keeps l.version l.lines.items (is_indexed l.rising.items l.others) l.listing l.slots_left × IsIndex l.rising.items l.others };
 }
 
 impl Log {
@@ -54,7 +56,8 @@ impl Log {
         Log {
             version,
             lines: Vec::new(alloc),
-            index: BTreeSet::new(alloc),
+            rising: Vec::new(alloc),
+            others: BTreeSet::new(alloc),
             listing: false,
             slots_left: 0,
         }
@@ -92,7 +95,9 @@ impl Log {
     {
         match *item {
             Entry::Sent(_) | Entry::FieldCycle if self.listing => Some(PushFault::EntryAfterList),
-            Entry::Listed(uid) if self.index.contains(&uid) => Some(PushFault::DuplicateListed),
+            Entry::Listed(uid) if is_indexed(&self.rising, &self.others, uid) => Some(
+                PushFault::DuplicateListed,
+            ),
             Entry::Silent | Entry::Collision | Entry::Heard(_) | Entry::Garbled
                 if self.slots_left == 0 => Some(PushFault::SlotOutsideRound),
             _ => None,
@@ -115,7 +120,7 @@ impl Log {
             return Err(fault);
         }
         self.lines.reserve(1)?;
-        index_entry(&mut self.index, &item)?;
+        index_entry(&mut self.rising, &mut self.others, &item)?;
         self.listing = listing_after(self.listing, &item);
         self.slots_left = slots_after(self.slots_left, &item);
         self.lines.push_reserved(LogLine { number, item });
@@ -144,14 +149,47 @@ fn listing_after(listing: bool, item: &Entry) -> bool
     }
 }
 
+/// Whether a UID is above all of some that rise.
+fn is_above(rising: &[Uid], uid: Uid) -> bool
+    requires { IsNonDecreasing rising.now }
+    ensures above { result ≡ true → IsAbove uid rising.now }
+    ensures at_most { result ≡ false → IsAtMost uid rising.now }
+{
+    match rising.last() {
+        Some(last) => *last < uid,
+        None => true,
+    }
+}
+
+/// Whether a UID is in an index.
+fn is_indexed(rising: &[Uid], others: &BTreeSet<Uid>, uid: Uid) -> bool
+    requires { IsIndex rising.now others.now }
+    ensures { result ≡ is_indexed rising.now others.now uid }
+{
+    if is_above(rising, uid) {
+        return false;
+    }
+    rising.binary_search(&uid).is_ok() || others.contains(&uid)
+}
+
 /// Puts the UID that an entry lists, if it lists one, into an index.
-fn index_entry(index: &mut BTreeSet<Uid>, item: &Entry) -> Result<(), PushFault>
-    ensures more { OnOk result ((u : ℕ) → sorted.contains nat_cmp index.new u ≡ (sorted.contains nat_cmp index.old u || has (listed (item.now ∷ [])) u)) }
-    ensures same { OnErr result ((u : ℕ) → sorted.contains nat_cmp index.new u ≡ sorted.contains nat_cmp index.old u) }
+fn index_entry(
+    rising: &mut Vec<Uid>,
+    others: &mut BTreeSet<Uid>,
+    item: &Entry,
+) -> Result<(), PushFault>
+    requires { IsIndex rising.old.items others.old }
+    ensures more { OnOk result ((u : ℕ) → is_indexed rising.new.items others.new u ≡ (is_indexed rising.old.items others.old u || has (listed (item.now ∷ [])) u)) }
+    ensures same { OnErr result ((u : ℕ) → is_indexed rising.new.items others.new u ≡ is_indexed rising.old.items others.old u) }
+    ensures index { IsIndex rising.new.items others.new }
     ensures fault { IfErr result (λ e. e ≡ NoRoom) }
 {
     if let Entry::Listed(uid) = *item {
-        index.insert(uid)?;
+        if is_above(rising, uid) {
+            rising.push(uid)?;
+        } else {
+            others.insert(uid)?;
+        }
     }
     Ok(())
 }

@@ -1,11 +1,12 @@
 //! A log read in pieces.
 
-ghost use Rattle.std.specs.Prelude.{◌≡◌, ◌+◌, ◌-◌, ◌*◌, ◌<◌, ◌≤◌, ◌↔◌, ◌++◌, ◌∷◌, [], ℕ, List, Bool, true, false, Some, None, Err, length, MatchResult, IfOk, IfErr, OnOk, IsTrue};
+ghost use Rattle.std.specs.Prelude.{◌≡◌, ◌+◌, ◌-◌, ◌*◌, ◌<◌, ◌≤◌, ◌↔◌, ◌++◌, ◌∷◌, [], ℕ, List, Bool, true, false, Some, None, Err, length, MatchResult, IfOk, IfErr, OnOk, IsTrue, MatchOption};
+ghost use Rattle.vic_frame.specs.Uids.{has};
 ghost use Rattle.vic_log.specs.declared.fault.LogFault.TheVariants.{Read as NotRead, Spent as IsSpent};
-ghost use Rattle.vic_log.specs.Begun.{IsShort, HasTaken, spare_of, ended_line, ended_fault};
+ghost use Rattle.vic_log.specs.Begun.{IsShort, IsSplit, HasTaken, spare_of, ended_line, ended_fault};
 ghost use Rattle.vic_log.specs.Device.{HandsOut};
 ghost use Rattle.vic_log.specs.Early.{IsLong, IsEarly, ReadsAs};
-ghost use Rattle.vic_log.specs.Lines.{cr, without_last, lines_of_text};
+ghost use Rattle.vic_log.specs.Lines.{lf, cr, without_last, lines_of_text};
 ghost use Rattle.vic_log.specs.Log.{last_from, with_lines};
 ghost use Rattle.vic_log.specs.Text.{IsLogOf, Refuses, RefusesLine, logged};
 
@@ -14,6 +15,7 @@ use crate::log::Log;
 use crate::read::take_line;
 use crate::source::Source;
 use arrayvec::ArrayVec;
+use memchr::memchr;
 use std::alloc::Global;
 use std::marker::Model;
 
@@ -50,33 +52,39 @@ fn is_too_long(line: &[u8]) -> bool
     line.len() == 130 || (line.len() == 129 && line[128] != b'\r')
 }
 
-/// Judges the line begun, whose LF has come.
-fn end_line(begun: &mut Begun) -> Result<(), LogFault>
-    requires above { 0 < begun.old.number → last_from 1 begun.old.log.lines ≤ begun.old.number }
-    requires limit { begun.old.number ≤ 1000000 }
-    ensures answer { MatchResult result
-        (λ _. ended_fault begun.old ≡ None)
-        (RefusesLine (ended_fault begun.old) (begun.old.number + 1)) }
-    ensures log { OnOk result (begun.new.log ≡ with_lines begun.old.log (logged (begun.old.number + 1) (ended_line begun.old))) }
-    ensures number { OnOk result (begun.new.number ≡ begun.old.number + 1) }
-    ensures line { OnOk result (begun.new.line.items ≡ []) }
+/// The first line of some bytes without its LF, and what stands behind that.
+fn split_line(bytes: &[u8]) -> Option<(&[u8], &[u8])>
+    ensures { MatchOption result (has bytes.now lf ≡ false) (λ p. IsSplit bytes.now p.0.now p.1.now) }
 {
-    let content = without_cr(begun.line.as_slice());
-    let answer = take_line(&mut begun.log, begun.number + 1, content);
-    if answer.is_ok() {
-        begun.number += 1;
-        begun.line.clear();
+    match memchr(b'\n', bytes) {
+        Some(place) => Some((&bytes[..place], &bytes[place + 1..])),
+        None => None,
     }
-    answer
 }
 
-/// Takes one byte more of the text.
-fn take_byte(begun: &mut Begun, byte: u8) -> Result<(), LogFault>
+/// Judges a line whose LF has come.
+fn end_line(log: &mut Log, number: &mut u32, line: &[u8]) -> Result<(), LogFault>
+    requires above { 0 < number.old → last_from 1 log.old.lines ≤ number.old }
+    requires limit { number.old ≤ 1000000 }
+    ensures answer { MatchResult result
+        (λ _. ended_fault log.old.lines number.old line.now ≡ None)
+        (RefusesLine (ended_fault log.old.lines number.old line.now) (number.old + 1)) }
+    ensures log { OnOk result (log.new ≡ with_lines log.old (logged (number.old + 1) (ended_line line.now))) }
+    ensures number { OnOk result (number.new ≡ number.old + 1) }
+{
+    take_line(log, *number + 1, without_cr(line))?;
+    *number += 1;
+    Ok(())
+}
+
+/// Takes bytes of the line begun and its LF, which follows them.
+fn take_end(begun: &mut Begun, bytes: &[u8]) -> Result<(), LogFault>
     requires judged { (text : List ℕ) × HasTaken text begun.old }
-    ensures ok { OnOk result ((text : List ℕ) → HasTaken text begun.old → HasTaken (text ++ byte ∷ []) begun.new) }
-    ensures err { IfErr result (λ e. (text more : List ℕ) → HasTaken text begun.old → IsEarly e (text ++ byte ∷ more)) }
+    requires no_lf { has bytes.now lf ≡ false }
+    ensures ok { OnOk result ((text : List ℕ) → HasTaken text begun.old → HasTaken (text ++ (bytes.now ++ lf ∷ [])) begun.new) }
+    ensures err { IfErr result (λ e. (text more : List ℕ) → HasTaken text begun.old → IsEarly e (text ++ (bytes.now ++ lf ∷ more))) }
     ensures version { OnOk result (begun.new.log.version ≡ begun.old.log.version) }
-    ensures less { OnOk result (spare_of begun.new + 1 ≤ spare_of begun.old) }
+    ensures less { OnOk result (spare_of begun.new + length bytes.now + 1 ≤ spare_of begun.old) }
 {
     if begun.number == 1_000_000 {
         return Err(LogFault::Line {
@@ -84,11 +92,40 @@ fn take_byte(begun: &mut Begun, byte: u8) -> Result<(), LogFault>
             fault: LineFault::TooManyLines,
         });
     }
-    if byte == b'\n' {
-        return end_line(begun);
+    if begun.line.is_empty() {
+        return end_line(&mut begun.log, &mut begun.number, bytes);
     }
-    begun.line.push(byte);
-    if is_too_long(begun.line.as_slice()) {
+    if begun.line.try_extend_from_slice(bytes).is_err() {
+        return Err(LogFault::Line {
+            line: begun.number + 1,
+            fault: LineFault::LineTooLong,
+        });
+    }
+    end_line(&mut begun.log, &mut begun.number, begun.line.as_slice())?;
+    begun.line.clear();
+    Ok(())
+}
+
+/// Takes bytes of the line begun, whose LF has not come.
+fn take_begun(begun: &mut Begun, bytes: &[u8]) -> Result<(), LogFault>
+    requires judged { (text : List ℕ) × HasTaken text begun.old }
+    requires no_lf { has bytes.now lf ≡ false }
+    ensures ok { OnOk result ((text : List ℕ) → HasTaken text begun.old → HasTaken (text ++ bytes.now) begun.new) }
+    ensures err { IfErr result (λ e. (text : List ℕ) → HasTaken text begun.old → IsEarly e (text ++ bytes.now)) }
+    ensures version { OnOk result (begun.new.log.version ≡ begun.old.log.version) }
+    ensures less { OnOk result (spare_of begun.new + length bytes.now ≤ spare_of begun.old) }
+{
+    if bytes.is_empty() {
+        return Ok(());
+    }
+    if begun.number == 1_000_000 {
+        return Err(LogFault::Line {
+            line: 1_000_001,
+            fault: LineFault::TooManyLines,
+        });
+    }
+    let fits = begun.line.try_extend_from_slice(bytes).is_ok();
+    if !fits || is_too_long(begun.line.as_slice()) {
         return Err(LogFault::Line {
             line: begun.number + 1,
             fault: LineFault::LineTooLong,
@@ -97,7 +134,7 @@ fn take_byte(begun: &mut Begun, byte: u8) -> Result<(), LogFault>
     Ok(())
 }
 
-/// Takes some bytes more of the text.
+/// Takes some bytes more of the text. A line that lies whole among them is judged where it stands.
 fn take_piece(begun: &mut Begun, bytes: &[u8]) -> Result<(), LogFault>
     requires judged { (text : List ℕ) × HasTaken text begun.old }
     ensures ok { OnOk result ((text : List ℕ) → HasTaken text begun.old → HasTaken (text ++ bytes.now) begun.new) }
@@ -105,10 +142,12 @@ fn take_piece(begun: &mut Begun, bytes: &[u8]) -> Result<(), LogFault>
     ensures version { OnOk result (begun.new.log.version ≡ begun.old.log.version) }
     ensures less { OnOk result (spare_of begun.new + length bytes.now ≤ spare_of begun.old) }
 {
-    for byte in bytes {
-        take_byte(begun, *byte)?;
+    let mut rest = bytes;
+    while let Some((line, behind)) = split_line(rest) {
+        take_end(begun, line)?;
+        rest = behind;
     }
-    Ok(())
+    take_begun(begun, rest)
 }
 
 /// Judges what is left at the end of the text.

@@ -21,3 +21,5 @@ pub mod Repeating
 pub mod OpenRounds
 pub mod Skipping
 pub mod Wide
+pub mod Sweeping
+pub mod Stretching

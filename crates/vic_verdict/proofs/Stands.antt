@@ -82,7 +82,7 @@ mask_here es i round mask m r = m ∙ (ap round_mask r ∙ sym (mask_at-round es
 
 -- ---- the open UIDs of the next place
 
-open_next : (es : List Entry) (i : ℕ) (e : Entry) (set next : ℕ → Bool) → slice_get es i ≡ Some e → ((u : ℕ) → IsUid u → next u ≡ (set u && entry_allows (reading_of e) (answers_at es i u) u)) → SameUids set (is_open (slots_before es i)) → SameUids next (is_open (slots_before es (i + 1)))
+pub open_next : (es : List Entry) (i : ℕ) (e : Entry) (set next : ℕ → Bool) → slice_get es i ≡ Some e → ((u : ℕ) → IsUid u → next u ≡ (set u && entry_allows (reading_of e) (answers_at es i u) u)) → SameUids set (is_open (slots_before es i)) → SameUids next (is_open (slots_before es (i + 1)))
 open_next es i e set next k h s =
     subst (λ n. SameUids next (is_open (slots_before es n))) (sym (add-one i)) (λ u w.
     h u w ∙ (ap (λ b. b && entry_allows (reading_of e) (answers_at es i u) u) (s u w) ∙ sym (open_step es i e u k)))

@@ -4,3 +4,5 @@ pub mod Places
 pub mod Rising
 pub mod Repeats
 pub mod Unsettled
+pub mod Sweep
+pub mod Stretches

@@ -43,7 +43,7 @@ pub fn first_impossible_line<S: OpenSet>(
 {
     let mut low = 0;
     let mut high = lines.len();
-    let mut guess = suspect_line::<S>(alloc, lines, repeats)?;
+    let mut guess = suspect_line(alloc, lines)?;
     while high - low > 1 {
         let middle = between(low, high, guess);
         let front = &lines[..middle];

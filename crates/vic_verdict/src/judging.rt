@@ -16,12 +16,12 @@ use crate::listed::{count_listed, listed_uids};
 use crate::possible::supplies_all;
 use crate::repeats::{Repeats, find_repeats};
 use crate::rising::{is_among, least_failing};
-use crate::settle::settle_all;
+use crate::stretches::settle_all;
 use crate::unsettled::first_unsettled;
 use crate::verdict::Verdict;
 use std::alloc::{AllocError, Global};
 use vic_log::{Log, LogLine};
-use vic_tree::{MaskTree, OpenSet};
+use vic_tree::{OpenSet, RangeSet};
 
 /// The verdict on a possible log, by the UIDs that it leaves open.
 fn judge_possible<S: OpenSet>(
@@ -64,7 +64,7 @@ fn judge_lines<S: OpenSet>(alloc: Global, lines: &[LogLine]) -> Result<Verdict, 
     ensures { IfOk result (λ v. IsVerdict lines.now v) }
 {
     let repeats = find_repeats(alloc, lines)?;
-    let set: S = settle_all(alloc, lines, &repeats)?;
+    let set: S = settle_all(alloc, lines)?;
     if supplies_all(alloc, &set, lines, &repeats)? {
         return judge_possible(alloc, set, lines, &repeats);
     }
@@ -97,5 +97,5 @@ pub fn judge(alloc: Global, log: &Log) -> Result<Verdict, AllocError>
     ensures reached { IfOk result (λ v. IsReached (entries log.now.lines)
         → v ≡ Complete (length (listed (entries log.now.lines)))) }
 {
-    judge_with::<MaskTree>(alloc, log)
+    judge_with::<RangeSet>(alloc, log)
 }

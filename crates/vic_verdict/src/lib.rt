@@ -4,18 +4,23 @@
 mod again;
 mod answering;
 mod certain;
+mod fates;
 mod first_line;
 mod judging;
 mod known;
 pub mod laws;
 mod listed;
+mod peaks;
 mod place;
 mod possible;
 mod quiet;
 mod repeats;
 mod rising;
 mod settle;
+mod steps;
 mod suspect;
+mod stretches;
+pub mod sweep;
 #[cfg(test)]
 mod tests;
 mod unsettled;

@@ -12,7 +12,7 @@ ghost use Rattle.vic_verdict.specs.Repeats.{AreRepeats};
 use crate::answering::{answers, up_to_three};
 use crate::place::Place;
 use crate::repeats::Repeats;
-use crate::settle::settle_all;
+use crate::stretches::settle_all;
 use std::alloc::{AllocError, Global};
 use vic_log::{Entry, LogLine};
 use vic_tree::OpenSet;
@@ -70,6 +70,6 @@ pub fn is_possible<S: OpenSet>(
     requires repeats { AreRepeats (entries lines.now) repeats.now }
     ensures { IfOk result (λ yes. IsTrue yes ↔ IsPossible (entries lines.now)) }
 {
-    let set: S = settle_all(alloc, lines, repeats)?;
+    let set: S = settle_all(alloc, lines)?;
     supplies_all(alloc, &set, lines, repeats)
 }

@@ -12,8 +12,8 @@ ghost use Rattle.vic_verdict.specs.Places.{HasQuiet};
 use std::alloc::{AllocError, Global};
 use std::collections::BTreeSet;
 use std::marker::Model;
-use vic_frame::low_bits_first::{key, places, uid_at};
-use vic_frame::{Mask, Request, Uid, low_mask};
+use vic_frame::low_bits_first::{key, key_range, uid_at};
+use vic_frame::{Mask, Request, Uid, without_top_byte};
 use vic_log::Entry;
 
 /// UIDs, kept in the order of their low bits, so that those of a mask are found without a look at the others.
@@ -84,10 +84,10 @@ impl QuietUids {
         ensures members { IfOk result (λ uids. (u : ℕ) → has uids.items u ≡ (lies_in mask.now u && has self.now u)) }
     {
         let order = &self.order;
-        let Some(mask) = low_mask(mask) else {
+        let Some(mask) = without_top_byte(mask) else {
             return Ok(Vec::new(alloc));
         };
-        let (first, last) = places(&mask);
+        let (first, last) = key_range(&mask);
         let mut uids = between(alloc, order, first, last)?;
         uids.sort_unstable();
         Ok(uids)

@@ -1,18 +1,15 @@
 //! Which UIDs the silent and answered slots of a log leave open.
 
-ghost use Rattle.std.specs.Prelude.{ℕ, ◌+◌, List, IfOk, OnOk};
+ghost use Rattle.std.specs.Prelude.{ℕ, ◌+◌, List, OnOk};
 ghost use Rattle.vic_tree.specs.OpenSet.{SameUids};
 ghost use Rattle.vic_log.specs.declared.entry.Entry.{Entry as EntryValue};
-ghost use Rattle.vic_log.specs.Slots.{slots_before, slots_of, is_open};
-ghost use Rattle.vic_log.specs.Order.{IsInOrder, entries, AreValid};
+ghost use Rattle.vic_log.specs.Slots.{slots_before, is_open};
 ghost use Rattle.vic_verdict.specs.Places.{StandsAt};
-ghost use Rattle.vic_verdict.specs.Repeats.{AreRepeats};
 
 use crate::place::Place;
-use crate::repeats::Repeats;
 use crate::rising::insert_rising;
 use std::alloc::{AllocError, Global};
-use vic_log::{Entry, LogLine};
+use vic_log::Entry;
 use vic_tree::OpenSet;
 
 /// Settles what an entry tells: in a silent slot only Quiet tags of its mask may be, in an answered
@@ -40,26 +37,4 @@ pub fn settle_slot<S: OpenSet>(
         }
         _ => Ok(()),
     }
-}
-
-/// The UIDs that the silent and answered slots of a log leave open.
-pub fn settle_all<S: OpenSet>(
-    alloc: Global,
-    lines: &[LogLine],
-    repeats: &Repeats,
-) -> Result<S, AllocError>
-    requires order { IsInOrder (entries lines.now) }
-    requires valid { AreValid (entries lines.now) }
-    requires repeats { AreRepeats (entries lines.now) repeats.now }
-    ensures { IfOk result (λ s. SameUids (S.is_open s) (is_open (slots_of (entries lines.now)))) }
-{
-    let mut set = S::everything(alloc)?;
-    let mut place = Place::first(alloc);
-    for (index, line) in lines.iter().enumerate() {
-        if !repeats.is_known(index) {
-            settle_slot(alloc, &mut set, &place, &line.item)?;
-        }
-        place.pass(&line.item)?;
-    }
-    Ok(set)
 }

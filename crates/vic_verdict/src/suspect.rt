@@ -1,39 +1,44 @@
-//! Where a log that no population could have given is likely to have become so.
+//! Where a log that no population could have given became so.
 
+ghost use Rattle.std.specs.Prelude.{◌≤◌, IfOk, length};
 ghost use Rattle.vic_log.specs.Order.{IsInOrder, entries, AreValid};
-ghost use Rattle.vic_verdict.specs.Repeats.{AreRepeats};
 
-use crate::place::Place;
-use crate::possible::supplies_slot;
-use crate::repeats::Repeats;
-use crate::settle::settle_slot;
+use crate::fates::Fates;
+use crate::steps::{borders_of, number_parts, steps_of};
 use std::alloc::{AllocError, Global};
 use vic_log::LogLine;
-use vic_tree::OpenSet;
 
-/// The place of the first line whose slot lacks what it asks for as soon as it is read, or the
-/// number of lines where there is none. It spares most of the halving, and no verdict rests on it:
-/// a line can also become impossible by a later one.
-pub fn suspect_line<S: OpenSet>(
-    alloc: Global,
-    lines: &[LogLine],
-    repeats: &Repeats,
-) -> Result<usize, AllocError>
+/// How many lines are looked at first, so that an early line costs little: more each time.
+const BEGINNINGS: [usize; 3] = [1_000, 10_000, 100_000];
+
+/// The place of the first line up to which no population could have given a log; the number of lines
+/// where there is none. It spares the halving, and no verdict rests on it.
+pub fn suspect_line(alloc: Global, lines: &[LogLine]) -> Result<usize, AllocError>
     requires order { IsInOrder (entries lines.now) }
     requires valid { AreValid (entries lines.now) }
-    requires repeats { AreRepeats (entries lines.now) repeats.now }
+    ensures { IfOk result (λ place. place ≤ length lines.now) }
 {
-    let mut set = S::everything(alloc)?;
-    let mut place = Place::first(alloc);
-    for (index, line) in lines.iter().enumerate() {
-        if !repeats.is_known(index) {
-            settle_slot(alloc, &mut set, &place, &line.item)?;
+    for count in BEGINNINGS {
+        if count < lines.len() {
+            let place = first_lack(alloc, &lines[..count])?;
+            if place < count {
+                return Ok(place);
+            }
         }
-        let later = repeats.is_said_later(index, lines.len());
-        if !later && !supplies_slot(alloc, &set, &place, &line.item)? {
-            return Ok(index);
-        }
-        place.pass(&line.item)?;
     }
-    Ok(lines.len())
+    first_lack(alloc, lines)
+}
+
+/// The same, by looking at all lines.
+fn first_lack(alloc: Global, lines: &[LogLine]) -> Result<usize, AllocError>
+    requires order { IsInOrder (entries lines.now) }
+    requires valid { AreValid (entries lines.now) }
+    ensures { IfOk result (λ place. place ≤ length lines.now) }
+{
+    let mut steps = steps_of(alloc, lines)?;
+    let borders = borders_of(alloc, &steps)?;
+    number_parts(&mut steps, &borders);
+    let mut fates = Fates::new(alloc, borders.len())?;
+    fates.live_through(&steps)?;
+    fates.first_lack(&steps, &borders, lines.len())
 }

@@ -1,5 +1,6 @@
 //! Logs that are worked out by hand, judged over each set of open UIDs.
 
+use crate::suspect::suspect_line;
 use crate::{Verdict, judge, judge_with};
 use arrayvec::ArrayVec;
 use std::alloc::{AllocError, Global};
@@ -30,6 +31,7 @@ fn line(name: &str) -> &str {
         "R A" => "R 0000A1000000000104E06745",
         "R A, DSFID 1" => "R 0001A1000000000104E09A08",
         "R B" => "R 0000B2000000000104E0CF94",
+        "R Z" => "R 000000000000000000E07684",
         "R B1" => "R 0000B1000000000104E01F1E",
         "Q A" => "T 2202A1000000000104E0662A",
         "Q Z" => "T 220200000000000000E077EB",
@@ -116,6 +118,49 @@ fn impossible(rt: HostRuntime) -> Result<(), Fail> {
         ),
     ] {
         check(&rt, rt.alloc(), lines, Verdict::Impossible { line })?;
+    }
+    Ok(())
+}
+
+/// The number of the line where halving begins, `None` where no line is suspect.
+fn suspect_number(alloc: Global, lines: &str) -> Result<Option<u32>, Fail> {
+    let log = log_of(alloc, lines)?;
+    let place = suspect_line(alloc, log.lines())?;
+    match log.lines().get(place) {
+        Some(line) => Ok(Some(line.number)),
+        None => Ok(None),
+    }
+}
+
+#[test]
+fn halving_begins_at_the_line_itself(rt: HostRuntime) -> Result<(), Fail> {
+    for (lines, line) in [
+        ("I1 / S / I1 / R A / I1 / S", 5),
+        ("I1 / R A / Q A / I1 / R A", 6),
+        ("M64 / C", 3),
+        ("I1 / R A / I1 / R A / I1 / S / I1 / R A", 7),
+        ("I1 / C / I1 / S / I1 / S", 5),
+        ("I1 / C / I1 / R A / I1 / S", 5),
+        ("M55 / C / I1 / R Z", 5),
+        ("M55 / C / Q Z / I1 / S / I1 / S", 6),
+        ("Q Z / M55 / C", 4),
+        ("Q Z / I1 / S / M55 / C", 6),
+        ("M55 / C / Q Y / M55 / C", 6),
+        ("I1 / R A / I1 / C", 5),
+        ("MB / R A", 3),
+    ] {
+        check(&rt, rt.alloc(), lines, Verdict::Impossible { line })?;
+        let found = suspect_number(rt.alloc(), lines)?;
+        assert_eq!(rt; found, Some(line), "{lines}");
+    }
+    for lines in [
+        "",
+        "I1 / S",
+        "M55 / C / Q Z / Q Y / I1 / S",
+        "I1 / C / Q A / I1 / R B",
+    ] {
+        let found = suspect_number(rt.alloc(), lines)?;
+        assert_eq!(rt; found, None, "{lines}");
     }
     Ok(())
 }

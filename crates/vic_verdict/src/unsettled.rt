@@ -12,7 +12,7 @@ ghost use Rattle.vic_verdict.specs.Unsettled.{AreOpenAndListed, without_like};
 ghost use Rattle.vic_verdict.specs.Verdict.{IsUnsettled, IsFirstMask, NoSuch};
 
 use crate::repeats::Repeats;
-use crate::settle::settle_all;
+use crate::stretches::settle_all;
 use std::alloc::{AllocError, Global};
 use vic_frame::{Mask, Uid};
 use vic_log::LogLine;
@@ -43,7 +43,7 @@ pub fn first_unsettled<S: OpenSet>(
     if let Some(mask) = wide_unsettled(set, uids, bits)? {
         return Ok(Some(mask));
     }
-    let again: S = settle_all(alloc, lines, repeats)?;
+    let again: S = settle_all(alloc, lines)?;
     narrow_unsettled(again, uids)
 }
 
@@ -110,7 +110,7 @@ fn take_out<S: OpenSet>(set: &mut S, uids: &[Uid]) -> Result<(), AllocError>
 {
     for uid in uids {
         let _number = uid.number();
-        set.settle(&Mask::of(*uid), &[])?;
+        set.settle(&Mask::of_uid(*uid), &[])?;
     }
     Ok(())
 }

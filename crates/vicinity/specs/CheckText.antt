@@ -1,14 +1,16 @@
 -- What `check` answers to a text: the line and the status of its verdict, or of its refusal.
-use Rattle.std.specs.Prelude.{◌≡◌, ℕ, List, ◌++◌, length, codes, decimal}
+use Rattle.std.specs.Prelude.{◌≡◌, ℕ, Option, List, ◌++◌, length, codes, decimal}
+use Rattle.std.specs.Io.KnownBytes.{IsAtEnd}
 use Rattle.vic_log.specs.declared.entry.LogLine.{LogLine}
 use Rattle.vic_log.specs.Lines.{lines_of_text}
 use Rattle.vic_log.specs.Order.{entries, listed}
-use Rattle.vic_log.specs.Text.{IsLogOf, IsFirstFault}
+use Rattle.vic_log.specs.Text.{IsLogOf}
 use Rattle.vic_verdict.specs.declared.verdict.Verdict.{Verdict}
 use Rattle.vic_verdict.specs.declared.verdict.Verdict.TheVariants.{Impossible, Absent, Unlisted, Unsettled, Doubtful, Complete}
 use Rattle.vic_verdict.specs.Verdict.{IsVerdict, IsWhole}
 use Rattle.vicinity.specs.Digits.{uid_text, value_text}
 use Rattle.vicinity.specs.Refusals.{refusal_line}
+use Rattle.vicinity.specs.Runs.{IsFaultOf}
 use Rattle.vicinity.specs.declared.status.Status.{Status}
 use Rattle.vicinity.specs.declared.status.Status.TheVariants.{Whole, NotWhole, Impossible as NoPopulation, Refused}
 use Rattle.vicinity.specs.declared.check.Answer.{Answer}
@@ -29,10 +31,10 @@ verdict_status (Complete count) = Whole
 verdict_status (Impossible n) = NoPopulation
 verdict_status v = NotWhole
 
--- the verdict on the log of a text, or the text's first fault
-abbrev pub IsAnswer : List ℕ → Answer → Type 0
-IsAnswer text (Judged v) = (log : List LogLine) × IsLogOf (lines_of_text text) log × IsVerdict log v
-IsAnswer text (RefusedAt n fault) = IsFirstFault (lines_of_text text) n fault
+-- the verdict on the log of a text, of which the source has no more, or the text's first fault
+abbrev pub IsAnswer : Option (List ℕ) → List ℕ → Answer → Type 0
+IsAnswer left text (Judged v) = (log : List LogLine) × IsAtEnd left × IsLogOf (lines_of_text text) log × IsVerdict log v
+IsAnswer left text (RefusedAt n fault) = IsFaultOf left text n fault
 
 abbrev pub answer_line : Answer → List ℕ
 answer_line (Judged v) = verdict_line v
@@ -43,9 +45,9 @@ answer_status (Judged v) = verdict_status v
 answer_status (RefusedAt n fault) = Refused
 
 -- the line and the status of the answer to a text
-pub record IsCheckOf (text line : List ℕ) (status : Status) : Type 0 where
+pub record IsCheckOf (left : Option (List ℕ)) (text line : List ℕ) (status : Status) : Type 0 where
   pub answer : Answer
-  pub right : IsAnswer text answer
+  pub right : IsAnswer left text answer
   pub line_is : line ≡ answer_line answer
   pub status_is : status ≡ answer_status answer
 

@@ -1,18 +1,19 @@
 //! The command `check`.
 
-ghost use Rattle.std.specs.Prelude.{◌≡◌, ◌≢◌, ◌↔◌, ℕ, List, ◌++◌, true, false, Some, IfOk, IfErr, OnOk, codes};
+ghost use Rattle.std.specs.Prelude.{◌≡◌, ◌≢◌, ◌↔◌, ℕ, List, ◌++◌, true, false, Option, Some, IfOk, IfErr, OnOk, codes};
+ghost use Rattle.std.specs.Io.KnownBytes.{IsAtEnd};
 ghost use Rattle.vic_verdict.specs.declared.verdict.Verdict.TheVariants.{Complete};
 ghost use Rattle.vicinity.specs.CheckText.{IsAnswer, IsCheckOf, IsCompleteText, answer_line, answer_status};
-ghost use Rattle.vicinity.specs.Runs.{Answers, AnswersInPart};
+ghost use Rattle.vicinity.specs.Runs.{Answers, AnswersInPart, GivesNoEarlyFault, IsReading};
 ghost use Rattle.vicinity.specs.CompleteRun.{GivesCompleteText};
 
 use crate::digits::Text;
-use crate::input::read_text;
+use crate::input::{Reading, read_source};
 use crate::output::send;
 use crate::status::{RunFault, Status};
 use crate::text::{refusal_line, verdict_line};
 use std::alloc::{AllocError, Global};
-use vic_log::{LineFault, LogFault, Sink, Source, read_log};
+use vic_log::{LineFault, Sink, Source};
 use vic_verdict::{Verdict, judge};
 
 /// What is answered to a text.
@@ -25,7 +26,7 @@ pub(crate) enum Answer {
 }
 
 /// Judges the log that a source hands out, and writes the answer's one line. The status is the
-/// answer's. `Read` where the source has failed, `Memory` where memory was refused: nothing is
+/// answer's. It reads to the end, or to the first fault of a line. `Read` where the source has failed before, `Memory` where memory was refused: nothing is
 /// written then. `Write` where the sink has failed: a prefix of the line may be out.
 pub fn run_check<R: Source, W: Sink>(
     alloc: Global,
@@ -40,33 +41,31 @@ pub fn run_check<R: Source, W: Sink>(
     ensures source_works { OnOk result (R.has_failed source.new ≡ false) }
     ensures sink_works { OnOk result (W.has_failed sink.new ≡ false) }
     ensures read { IfErr result (λ e. (e ≡ RunFault.Read) ↔ (R.has_failed source.new ≡ true)) }
+    ensures early { IfErr result (λ e. e ≡ RunFault.Read → GivesNoEarlyFault (R.left source.old) (R.left source.new)) }
     ensures unwritten { IfErr result (λ e. e ≢ RunFault.Write → sink.new ≡ sink.old) }
     ensures write { IfErr result (λ e. e ≡ RunFault.Write → W.has_failed sink.new ≡ true) }
     ensures begun { IfErr result (λ e. e ≡ RunFault.Write → AnswersInPart IsCheckOf (R.left source.old) (R.left source.new) (W.taken sink.old) (W.taken sink.new)) }
     ensures not_read_again { R.has_failed source.old ≡ true → source.new ≡ source.old }
     ensures not_written_again { W.has_failed sink.old ≡ true → sink.new ≡ sink.old }
 {
-    let text = read_text(alloc, source)?;
-    let answer = judge_text(alloc, &text)?;
+    let reading = read_source(alloc, source)?;
+    let answer = judge_reading(alloc, reading)?;
     let line = answer_line(&answer);
     let status = answer_status(&answer);
     send(sink, line.as_slice())?;
     Ok(status)
 }
 
-/// The answer to a text.
-fn judge_text(alloc: Global, text: &[u8]) -> Result<Answer, AllocError>
-    ensures answer { IfOk result (λ a. IsAnswer text.now a) }
-    ensures whole { IfOk result (λ a. (count : ℕ) → a ≡ Answer.Judged (Complete count) → IsCompleteText text.now count) }
+/// The answer to what was read.
+fn judge_reading(alloc: Global, reading: Reading) -> Result<Answer, AllocError>
+    ensures answer { IfOk result (λ a. (left : Option (List ℕ)) (text : List ℕ) → IsReading left text reading → IsAnswer left text a) }
+    ensures whole { IfOk result (λ a. (left : Option (List ℕ)) (text : List ℕ) → IsReading left text reading
+        → (count : ℕ) → a ≡ Answer.Judged (Complete count) → IsAtEnd left × IsCompleteText text count) }
 {
-    let log = match read_log(alloc, text) {
-        Ok(log) => log,
-        Err(LogFault::Line { line, fault }) => return Ok(Answer::RefusedAt { line, fault }),
-        Err(LogFault::Memory) => return Err(AllocError),
-        Err(LogFault::Read) | Err(LogFault::Spent) => unreachable!(),
-    };
-    let verdict = judge(alloc, &log)?;
-    Ok(Answer::Judged(verdict))
+    match reading {
+        Reading::Given(log) => Ok(Answer::Judged(judge(alloc, &log)?)),
+        Reading::RefusedAt { line, fault } => Ok(Answer::RefusedAt { line, fault }),
+    }
 }
 
 /// The line of an answer.

@@ -1,26 +1,36 @@
-//! How a text comes in.
+//! How a log comes in.
 
-ghost use Rattle.std.specs.Prelude.{◌≡◌, ◌≢◌, ◌↔◌, true, false, IfOk, IfErr, OnOk};
-ghost use Rattle.vicinity.specs.Runs.{GivesText};
+ghost use Rattle.std.specs.Prelude.{◌≡◌, ◌≢◌, ◌↔◌, ℕ, List, true, false, IfOk, IfErr, OnOk};
+ghost use Rattle.vicinity.specs.Runs.{GivesReading, GivesNoEarlyFault};
 
 use crate::status::RunFault;
 use std::alloc::Global;
-use vic_log::{ReadFault, Source, read_whole};
+use vic_log::{LineFault, Log, LogFault, LogReader, Source};
 
-/// More bytes than a log's text can have: a text of so many is refused by what stands in them.
-const READ_AT_MOST: usize = 130_000_001;
+/// What the bytes that a source hands out give.
+#[derive(Drop)]
+pub(crate) enum Reading {
+    /// They are all its bytes, and this is their log.
+    Given(Log),
+    /// A line of them has a fault, and this is the first.
+    RefusedAt { line: u32, fault: LineFault },
+}
 
-/// The text that a source hands out. A source that has failed is not read again.
-pub(crate) fn read_text<R: Source>(alloc: Global, source: &mut R) -> Result<Vec<u8>, RunFault>
-    ensures text { IfOk result (λ text. GivesText (R.left source.old) (R.left source.new) text.items) }
+/// Reads the log that a source hands out, to its end or to the first fault of a line. A source that
+/// has failed is not read again.
+pub(crate) fn read_source<R: Source>(alloc: Global, source: &mut R) -> Result<Reading, RunFault>
+    ensures reading { IfOk result (λ r. GivesReading (R.left source.old) (R.left source.new) r) }
     ensures works { OnOk result (R.has_failed source.new ≡ false) }
     ensures failed { IfErr result (λ e. (e ≡ RunFault.Read) ↔ (R.has_failed source.new ≡ true)) }
+    ensures early { IfErr result (λ e. e ≡ RunFault.Read → GivesNoEarlyFault (R.left source.old) (R.left source.new)) }
     ensures fault { IfErr result (λ e. e ≢ RunFault.Write) }
     ensures untouched { R.has_failed source.old ≡ true → source.new ≡ source.old }
 {
-    match read_whole(alloc, source, READ_AT_MOST) {
-        Ok(text) => Ok(text),
-        Err(ReadFault::Read) => Err(RunFault::Read),
-        Err(ReadFault::Memory) => Err(RunFault::Memory),
+    match LogReader::new(alloc).read_all(source) {
+        Ok(log) => Ok(Reading::Given(log)),
+        Err(LogFault::Line { line, fault }) => Ok(Reading::RefusedAt { line, fault }),
+        Err(LogFault::Read) => Err(RunFault::Read),
+        Err(LogFault::Memory) => Err(RunFault::Memory),
+        Err(LogFault::Spent) => unreachable!(),
     }
 }

@@ -1,19 +1,19 @@
 //! The command `simulate`.
 
-ghost use Rattle.std.specs.Prelude.{◌≡◌, ◌≢◌, ◌↔◌, true, false, IfOk, IfErr, OnOk, is_err};
+ghost use Rattle.std.specs.Prelude.{◌≡◌, ◌≢◌, ◌↔◌, ℕ, List, Option, true, false, IfOk, IfErr, OnOk, is_err};
 ghost use Rattle.std.specs.Io.KnownBytes.{Appends};
 ghost use Rattle.vic_log.specs.Device.{HasTakenPrefix};
 ghost use Rattle.vicinity.specs.SimulateText.{IsFilling, IsSimulationOf, filling_text, filling_status};
-ghost use Rattle.vicinity.specs.Runs.{Answers, AnswersInPart};
+ghost use Rattle.vicinity.specs.Runs.{Answers, AnswersInPart, GivesNoEarlyFault, IsReading};
 
 use crate::digits::Text;
-use crate::input::read_text;
+use crate::input::{Reading, read_source};
 use crate::output::send;
 use crate::status::{RunFault, Status};
 use crate::text::{refusal_line, refused_at};
 use std::alloc::{AllocError, Global};
 use vic_field::{SimFault, simulate};
-use vic_log::{LineFault, Log, LogFault, Sink, Source, read_log, write_log};
+use vic_log::{LineFault, Log, Sink, Source, write_log};
 
 /// What is answered to a text.
 #[derive(Drop)]
@@ -41,26 +41,25 @@ pub fn run_simulate<R: Source, W: Sink>(
     ensures source_works { OnOk result (R.has_failed source.new ≡ false) }
     ensures sink_works { OnOk result (W.has_failed sink.new ≡ false) }
     ensures read { IfErr result (λ e. (e ≡ RunFault.Read) ↔ (R.has_failed source.new ≡ true)) }
+    ensures early { IfErr result (λ e. e ≡ RunFault.Read → GivesNoEarlyFault (R.left source.old) (R.left source.new)) }
     ensures unwritten { IfErr result (λ e. e ≢ RunFault.Write → sink.new ≡ sink.old) }
     ensures write { IfErr result (λ e. e ≡ RunFault.Write → W.has_failed sink.new ≡ true) }
     ensures begun { IfErr result (λ e. e ≡ RunFault.Write → AnswersInPart IsSimulationOf (R.left source.old) (R.left source.new) (W.taken sink.old) (W.taken sink.new)) }
     ensures not_read_again { R.has_failed source.old ≡ true → source.new ≡ source.old }
     ensures not_written_again { W.has_failed sink.old ≡ true → sink.new ≡ sink.old }
 {
-    let text = read_text(alloc, source)?;
-    let filling = fill_text(alloc, &text)?;
+    let reading = read_source(alloc, source)?;
+    let filling = fill_reading(alloc, reading)?;
     write_filling(filling, sink)
 }
 
-/// The answer to a text.
-fn fill_text(alloc: Global, text: &[u8]) -> Result<Filling, AllocError>
-    ensures { IfOk result (λ f. IsFilling text.now f) }
+/// The answer to what was read.
+fn fill_reading(alloc: Global, reading: Reading) -> Result<Filling, AllocError>
+    ensures { IfOk result (λ f. (left : Option (List ℕ)) (text : List ℕ) → IsReading left text reading → IsFilling left text f) }
 {
-    let given = match read_log(alloc, text) {
-        Ok(log) => log,
-        Err(LogFault::Line { line, fault }) => return Ok(Filling::RefusedAt { line, fault }),
-        Err(LogFault::Memory) => return Err(AllocError),
-        Err(LogFault::Read) | Err(LogFault::Spent) => unreachable!(),
+    let given = match reading {
+        Reading::Given(log) => log,
+        Reading::RefusedAt { line, fault } => return Ok(Filling::RefusedAt { line, fault }),
     };
     match simulate(alloc, &given) {
         Ok(filled) => Ok(Filling::Filled(filled)),

@@ -1,10 +1,15 @@
-use Rattle.std.proofs.Common.{◌≡◌, ◌≤◌, ◌+◌, ◌++◌, ℕ, List, take}
+use Rattle.std.proofs.Common.{◌≡◌, ◌≤◌, ◌+◌, ◌++◌, ℕ, List, length}
 use Rattle.vic_log.specs.Begun.{HasJudged, spare}
 use Rattle.vic_log.proofs.reader.take_piece.Given as goal
 
-abbrev pub invariant-loop-byte : goal.invariant-loop-byte
-invariant-loop-byte l = record {
-  judged : (text : List ℕ) → HasJudged text l.fn.begun.log.lines l.fn.begun.number l.fn.begun.line.items → HasJudged (text ++ take l.byte-index l.bytes) l.begun.log.lines l.begun.number l.begun.line.items;
+abbrev pub invariant-loop-line : goal.invariant-loop-line
+invariant-loop-line l = record {
+  taken : List ℕ;
+  whole : l.bytes ≡ taken ++ l.rest;
+  judged : (text : List ℕ) → HasJudged text l.fn.begun.log.lines l.fn.begun.number l.fn.begun.line.items → HasJudged (text ++ taken) l.begun.log.lines l.begun.number l.begun.line.items;
   version : l.begun.log.version ≡ l.fn.begun.log.version;
-  less : spare l.begun.number l.begun.line.items + l.byte-index ≤ spare l.fn.begun.number l.fn.begun.line.items;
+  less : spare l.begun.number l.begun.line.items + length taken ≤ spare l.fn.begun.number l.fn.begun.line.items;
 }
+
+abbrev pub decreases-loop-line : goal.decreases-loop-line
+decreases-loop-line l = length l.rest

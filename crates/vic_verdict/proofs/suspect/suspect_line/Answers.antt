@@ -1,11 +1,8 @@
-use Rattle.vic_log.specs.Order.{entries}
-use Rattle.vic_verdict.proofs.Stands.{entry_at}
+use Rattle.vic_verdict.proofs.Halving.{order_front, valid_front}
 use Rattle.vic_verdict.proofs.suspect.suspect_line.Goals as goal
 
-pub loop-index-init : goal.loop-index-init
-loop-index-init g c = c.first-place.ensures (entries c.args.lines.now)
+pub first_lack-requires-clause-order : goal.first_lack-requires-clause-order
+first_lack-requires-clause-order c = order_front _ c.args.lines.now c.requires.order
 
-pub loop-index-preserved : goal.loop-index-preserved
-loop-index-preserved g c =
-    let here = entry_at c.args.lines.now c.loop-index.index c.index-lines-index.result c.loop-index-test.true c.index-lines-index.is in
-    c.in_ok-pass.ensures (entries c.args.lines.now) c.loop-index.index c.requires.order here c.loop-index.invariant
+pub first_lack-requires-clause-valid : goal.first_lack-requires-clause-valid
+first_lack-requires-clause-valid c = valid_front _ c.args.lines.now c.requires.valid

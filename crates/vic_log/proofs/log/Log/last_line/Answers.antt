@@ -15,5 +15,5 @@ returns-in-Some-clause-limit c =
     let items = c.self.inside.lines.items in
     let last : Some c.in-Some.line.now ≡ slice_get items (length items - 1) = c.in-Some.ensures.value ∙ ap (λ xs. slice_get xs (length xs - 1)) c.deref.ensures.value in
     let e = last_from-last 1 items c.in-Some.line.now (sym last) in
-    let limit = c.self.invariant.is_log.limit in
+    let limit = c.self.invariant.0.is_log.limit in
     omega arith

@@ -16,4 +16,4 @@ invariant_of-self-2 c =
     let above : last_from 1 items < l.number = subst (λ (v : LogValue). last_from 1 v.lines < l.number) (sym c.self.view_is) c.requires.above in
     let typed : IsTyped l.item = search rules in
     let first : c.self.inside.version ≡ V1 → IsOfFirstVersion l.item = λ h. c.requires.first_version (ap (λ (v : LogValue). v.version) (sym c.self.view_is) ∙ h) in
-    rw items_is (Keeps-push _ items l _ _ _ _ _ _ c.self.invariant free above c.requires.limit c.requires.valid typed first c.in_ok-index_entry.ensures.more c.listing_after-self-inside.ensures c.slots_after-self-inside.ensures)
+    rw items_is (Keeps-push _ items l _ _ _ _ _ _ c.self.invariant.0 free above c.requires.limit c.requires.valid typed first c.in_ok-index_entry.ensures.more c.listing_after-self-inside.ensures c.slots_after-self-inside.ensures, c.index_entry.ensures.index)

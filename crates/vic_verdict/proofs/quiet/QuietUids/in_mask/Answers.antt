@@ -25,7 +25,7 @@ returns-clause-rising c =
 pub returns-clause-members : goal.returns-clause-members
 returns-clause-members c u =
     sym (list_any-IsPermutation (λ x. u == x) c.in_ok-uids.uids.items c.sort_unstable.new.self.items c.sort_unstable.ensures.permutation)
-    ∙ ap (λ (us : List ℕ). has us u) (c.in_ok-uids.ensures.items ∙ of_mask c.in-Some.mask c.places-first.result.0 c.places-first.result.1 c.self.inside.order.keys c.places-first.ensures.inside c.self.invariant)
+    ∙ ap (λ (us : List ℕ). has us u) (c.in_ok-uids.ensures.items ∙ of_mask c.in-Some.mask c.key_range-first.result.0 c.key_range-first.result.1 c.self.inside.order.keys c.key_range-first.ensures.inside c.self.invariant)
     ∙ any-filter_same (λ x. u == x) (lies_in c.in-Some.mask) (lies_in c.in-Some.mask u) (λ k e. ap (lies_in c.in-Some.mask) (sym (eqb-true u k e))) (map uid_of c.self.inside.order.keys)
     ∙ and_same (lies_in c.in-Some.mask u) (lies_in c.args.mask.now u) (has (map uid_of c.self.inside.order.keys) u) (λ e. c.in-Some.ensures.same u (has_uid c.self.inside.order.keys u e))
     ∙ ap (λ (us : List ℕ). lies_in c.args.mask.now u && has us u) c.self.view_is

@@ -1,0 +1,290 @@
+-- Trees of tags: their entries, and what their forks note.
+use Rattle.std.proofs.Common.{ℕ, Bool, true, false, cond, not, ◌&&◌, ◌||◌, ◌==◌, ◌≡◌, ◌∙◌, ◌<◌, ◌≤◌, ◌-◌, ◌^◌, ◌⊎◌, inl, inr, List, [], ◌∷◌, ◌++◌, map, Option, Some, None, ap, sym, refl, subst, arith, rules, append_assoc}
+use Rattle.std.specs.Prelude.{nat_le, nat_lt, if◌then◌else◌}
+use Rattle.std.specs.declared.cmp.Ordering.TheVariants.{Less}
+use Rattle.std.specs.Ordering.{nat_cmp, is_eq}
+use Rattle.std.specs.List.{All, AllByRecursion, filter}
+use Rattle.std.specs.List.Sorted.{IsStrictlySortedBy}
+use Rattle.std.specs.Map.{lookup, keys_of}
+use Rattle.std.specs.BTreeMap.{is_at}
+use Rattle.std.specs.Option.{is_some}
+use Rattle.std.proofs.lemmas.Bool.Decides.{nat_tests}
+use Rattle.std.proofs.lemmas.List.{map-append}
+use Rattle.std.proofs.lemmas.List.Elements.{All-cons, filter-append}
+use Rattle.vic_frame.specs.LowBitsFirst.{mirror, uid_of}
+use Rattle.vic_frame.specs.Uids.{IsUid, has}
+use Rattle.vic_frame.proofs.KeyLaws.{IsKey}
+use Rattle.vic_field.specs.declared.field.Outcome.{Outcome}
+use Rattle.vic_field.specs.declared.field.Outcome.TheVariants.{Silent, Lone, Several}
+use Rattle.vic_field.specs.declared.tree.Node.{Node, Fork'}
+use Rattle.vic_field.specs.declared.tree.Node.TheVariants.{Empty, Tag}
+use Rattle.vic_field.specs.declared.tree.Fork.{Fork}
+use Rattle.vic_field.specs.Keys.{AreKeys, tags_of, ready_between}
+use Rattle.vic_field.proofs.TagLaws.{by_key, same_key, readiness_there}
+use Rattle.vic_field.specs.Tags.{uids, readiness, heard}
+use Rattle.vic_field.specs.Trees.{entries, state, notes_ready, notes_quiet, IsWithin, IsTree, AreSides, AreNotes, members}
+
+-- ---- where keys lie
+
+pub widen : (a b x y : ℕ) (n : Node) → x ≤ a → b ≤ y → IsWithin a b n → IsWithin x y n
+widen a b x y Empty p q w = tt
+widen a b x y (Tag k r) p q w = (omega arith, omega arith)
+widen a b x y (Fork' ptr first middle last ready quiet zero one) p q w = (omega arith, omega arith)
+
+-- the sides of a fork lie where it does
+pub zero_within : (a b first middle last : ℕ) (zero one : Node) → AreSides first middle last zero one → a ≤ first → last ≤ b → IsWithin a b zero
+zero_within a b first middle last zero one s p q = let h = s.high in widen first (middle - 1) a b zero p (omega arith) s.below
+
+pub one_within : (a b first middle last : ℕ) (zero one : Node) → AreSides first middle last zero one → a ≤ first → last ≤ b → IsWithin a b one
+one_within a b first middle last zero one s p q = let h = s.low in widen middle last a b one (omega arith) q s.above
+
+keys_append : (xs ys : List (ℕ × Bool)) → keys_of (xs ++ ys) ≡ keys_of xs ++ keys_of ys
+keys_append [] ys = refl
+keys_append (x ∷ xs) ys = ap (λ (ks : List ℕ). x.0 ∷ ks) (keys_append xs ys)
+
+pub bounded : (a b : ℕ) (P : ℕ → Type 0) → ((k : ℕ) → a ≤ k → k ≤ b → P k) → (n : Node) → IsTree n → IsWithin a b n → AllByRecursion P (keys_of (entries n))
+bounded a b P f Empty t w = tt
+bounded a b P f (Tag k r) t w = (f k w.0 w.1, tt)
+bounded a b P f (Fork' ptr first middle last ready quiet zero one) t w =
+    subst (λ (ks : List ℕ). AllByRecursion P ks) (sym (keys_append (entries zero) (entries one)))
+    (join (keys_of (entries zero)) (keys_of (entries one))
+    (bounded a b P f zero t.2 (zero_within a b first middle last zero one t.0 w.0 w.1))
+    (bounded a b P f one t.3 (one_within a b first middle last zero one t.0 w.0 w.1))) where
+      join : (xs ys : List ℕ) → AllByRecursion P xs → AllByRecursion P ys → AllByRecursion P (xs ++ ys)
+      join [] ys p q = q
+      join (x ∷ xs) ys p q = (p.0, join xs ys p.1 q)
+
+-- ---- the state of one tag
+
+pub state_outside : (a b q : ℕ) (n : Node) → IsTree n → IsWithin a b n → (q < a) ⊎ (b < q) → state n q ≡ None
+state_outside a b q Empty t w h = refl
+state_outside a b q (Tag k r) t w h = ap (λ (x : Bool). cond x (Some r) None) (other k q a b w.0 w.1 h) where
+  other : (k q a b : ℕ) → a ≤ k → k ≤ b → (q < a) ⊎ (b < q) → (k == q) ≡ false
+  other k q a b l m h = grind (arith, nat_tests)
+state_outside a b q (Fork' ptr first middle last ready quiet zero one) t w h =
+    neither (nat_lt q middle) (state zero q) (state one q)
+    (state_outside a b q zero t.2 (zero_within a b first middle last zero one t.0 w.0 w.1) h)
+    (state_outside a b q one t.3 (one_within a b first middle last zero one t.0 w.0 w.1) h) where
+      neither : (x : Bool) (y z : Option Bool) → y ≡ None → z ≡ None → cond x y z ≡ None
+      neither true y z e f = e
+      neither false y z e f = f
+
+-- a tag before a node's tags
+pub state_before : (key first last middle q : ℕ) (n : Node) → IsTree n → IsWithin first last n → key < middle → middle ≤ first → (if nat_lt q middle then (if key == q then Some true else None) else state n q) ≡ (if key == q then Some true else state n q)
+state_before key first last middle q n t w low high = go (nat_lt q middle) (key == q) (λ e. state_outside first last q n t w (inl (below e))) (above) where
+  below : nat_lt q middle ≡ true → q < first
+  below e = omega (arith, reach q middle e) where
+    reach : (a b : ℕ) → nat_lt a b ≡ true → a < b
+    reach a b e = grind (arith, nat_tests)
+
+  above : nat_lt q middle ≡ false → (key == q) ≡ false
+  above e = miss key q middle low e where
+    miss : (key q middle : ℕ) → key < middle → nat_lt q middle ≡ false → (key == q) ≡ false
+    miss key q middle low e = grind (arith, nat_tests)
+
+  go : (x y : Bool) → (x ≡ true → state n q ≡ None) → (x ≡ false → y ≡ false) → cond x (cond y (Some true) None) (state n q) ≡ cond y (Some true) (state n q)
+  go true true f g = refl
+  go true false f g = sym (f refl)
+  go false true f g = absurd (let h = g refl in cc)
+  go false false f g = refl
+
+-- a tag behind a node's tags
+pub state_behind : (key first last middle q : ℕ) (n : Node) → IsTree n → IsWithin first last n → last < middle → middle ≤ key → (if nat_lt q middle then state n q else (if key == q then Some true else None)) ≡ (if key == q then Some true else state n q)
+state_behind key first last middle q n t w low high = go (nat_lt q middle) (key == q) (λ e. state_outside first last q n t w (inr (above e))) (below) where
+  above : nat_lt q middle ≡ false → last < q
+  above e = omega (arith, reach q middle e) where
+    reach : (a b : ℕ) → nat_lt a b ≡ false → b ≤ a
+    reach a b e = grind (arith, nat_tests)
+
+  below : nat_lt q middle ≡ true → (key == q) ≡ false
+  below e = miss key q middle high e where
+    miss : (key q middle : ℕ) → middle ≤ key → nat_lt q middle ≡ true → (key == q) ≡ false
+    miss key q middle high e = grind (arith, nat_tests)
+
+  go : (x y : Bool) → (x ≡ false → state n q ≡ None) → (x ≡ true → y ≡ false) → cond x (state n q) (cond y (Some true) None) ≡ cond y (Some true) (state n q)
+  go true true f g = absurd (let h = g refl in cc)
+  go true false f g = refl
+  go false true f g = refl
+  go false false f g = sym (f refl)
+
+in_second : (test : ℕ → Bool) (xs ys : List (ℕ × Bool)) → lookup test xs ≡ None → lookup test (xs ++ ys) ≡ lookup test ys
+in_second test [] ys e = refl
+in_second test (x ∷ xs) ys e = go (test x.0) (in_second test xs ys) e where
+  go : (b : Bool) → (lookup test xs ≡ None → lookup test (xs ++ ys) ≡ lookup test ys) → cond b (Some x.1) (lookup test xs) ≡ None → cond b (Some x.1) (lookup test (xs ++ ys)) ≡ lookup test ys
+  go true ih e = absurd (cc)
+  go false ih e = ih e
+
+in_first : (test : ℕ → Bool) (xs ys : List (ℕ × Bool)) → lookup test ys ≡ None → lookup test (xs ++ ys) ≡ lookup test xs
+in_first test [] ys e = e
+in_first test (x ∷ xs) ys e = ap (λ (w : Option Bool). cond (test x.0) (Some x.1) w) (in_first test xs ys e)
+
+-- the tree is gone down as its entries say
+pub state_entry : (q : ℕ) (n : Node) → IsTree n → lookup (is_at (nat_cmp q)) (entries n) ≡ state n q
+state_entry q Empty t = refl
+state_entry q (Tag k r) t = ap (λ (x : Bool). cond x (Some r) None) (plain q k) where
+  plain : (q k : ℕ) → is_eq (nat_cmp q k) ≡ (k == q)
+  plain q k = grind (arith, nat_tests)
+state_entry q (Fork' ptr first middle last ready quiet zero one) t = go (nat_lt q middle) (state_entry q zero t.2) (state_entry q one t.3) refl where
+  ahead : (a b : ℕ) → nat_lt a b ≡ true → a < b
+  ahead a b e = grind (arith, nat_tests)
+
+  past : (a b c : ℕ) → nat_lt a b ≡ false → c < b → b - 1 < a
+  past a b c e h = grind (arith, nat_tests)
+
+  go : (x : Bool) → lookup (is_at (nat_cmp q)) (entries zero) ≡ state zero q → lookup (is_at (nat_cmp q)) (entries one) ≡ state one q → nat_lt q middle ≡ x → lookup (is_at (nat_cmp q)) (entries zero ++ entries one) ≡ cond x (state zero q) (state one q)
+  go true of_zero of_one e =
+      in_first (is_at (nat_cmp q)) (entries zero) (entries one) (of_one ∙ state_outside middle last q one t.3 t.0.above (inl (ahead q middle e)))
+      ∙ of_zero
+  go false of_zero of_one e =
+      in_second (is_at (nat_cmp q)) (entries zero) (entries one) (of_zero ∙ state_outside first (middle - 1) q zero t.2 t.0.below (inr (past q middle first e t.0.low)))
+      ∙ of_one
+
+-- ---- the order of keys
+
+pub is_rising : (n : Node) → IsTree n → IsStrictlySortedBy nat_cmp (keys_of (entries n))
+unfolding IsStrictlySortedBy
+is_rising Empty t = tt
+is_rising (Tag k r) t = (tt, tt)
+is_rising (Fork' ptr first middle last ready quiet zero one) t =
+    subst (λ (ks : List ℕ). IsStrictlySortedBy nat_cmp ks) (sym (keys_append (entries zero) (entries one)))
+    (join (keys_of (entries zero)) (keys_of (entries one)) (is_rising zero t.2) (is_rising one t.3)
+    (bounded first (middle - 1) (λ k. k < middle) (λ k p q. let h = t.0.low in omega arith) zero t.2 t.0.below)
+    (bounded middle last (λ k. middle ≤ k) (λ k p q. p) one t.3 t.0.above)) where
+      less : (a b : ℕ) → a < b → nat_cmp a b ≡ Less
+      less a b h = grind (arith, nat_tests)
+
+      both : (x : ℕ) (xs ys : List ℕ) → x < middle → AllByRecursion (λ y. nat_cmp x y ≡ Less) xs → AllByRecursion (λ k. middle ≤ k) ys → AllByRecursion (λ y. nat_cmp x y ≡ Less) (xs ++ ys)
+      both x [] [] h p q = tt
+      both x [] (y ∷ ys) h p q = let m = q.0 in (less x y (omega arith), both x [] ys h tt q.1)
+      both x (z ∷ xs) ys h p q = (p.0, both x xs ys h p.1 q)
+
+      join : (xs ys : List ℕ) → IsStrictlySortedBy nat_cmp xs → IsStrictlySortedBy nat_cmp ys → AllByRecursion (λ k. k < middle) xs → AllByRecursion (λ k. middle ≤ k) ys → IsStrictlySortedBy nat_cmp (xs ++ ys)
+      join [] ys r s p q = s
+      join (x ∷ xs) ys r s p q = (both x xs ys p.0 r.0 q, join xs ys r.1 s p.1 q)
+
+pub are_keys : (n : Node) → IsTree n → IsWithin 0 (2 ^ 56 - 1) n → AreKeys (keys_of (entries n))
+are_keys n t w = record { small = all (keys_of (entries n)) (bounded 0 (2 ^ 56 - 1) IsKey (λ k p q. omega arith) n t w); rising = is_rising n t } where
+  all : (ks : List ℕ) → AllByRecursion IsKey ks → All IsKey ks
+  all [] h = search rules
+  all (k ∷ ks) h = All-cons IsKey k ks h.0 (all ks h.1)
+
+-- ---- UIDs
+
+pub by_state : (u : ℕ) (n : Node) → IsUid u → IsTree n → IsWithin 0 (2 ^ 56 - 1) n → state n (mirror u) ≡ readiness (tags_of (entries n)) u
+by_state u n h t w = sym (state_entry (mirror u) n t) ∙ by_key u (entries n) h (are_keys n t w).small
+
+-- what is done at v's key is done to the tag v
+pub changed : (u v key : ℕ) (g : Option Bool → Option Bool) (old new : Node) → IsUid u → IsUid v → IsTree old × IsWithin 0 (2 ^ 56 - 1) old → IsTree new × IsWithin 0 (2 ^ 56 - 1) new → key ≡ mirror v
+    → ((q : ℕ) → state new q ≡ cond (key == q) (g (state old q)) (state old q))
+    → readiness (tags_of (entries new)) u ≡ cond (u == v) (g (readiness (tags_of (entries old)) u)) (readiness (tags_of (entries old)) u)
+changed u v key g old new h k before after e up =
+    sym (by_state u new h after.0 after.1)
+    ∙ up (mirror u)
+    ∙ ap (λ (x : ℕ). cond (x == mirror u) (g (state old (mirror u))) (state old (mirror u))) e
+    ∙ ap (λ (b : Bool). cond b (g (state old (mirror u))) (state old (mirror u))) (plain (mirror v) (mirror u) ∙ same_key u v h k)
+    ∙ ap (λ (w : Option Bool). cond (u == v) (g w) w) (by_state u old h before.0 before.1) where
+      plain : (a b : ℕ) → (a == b) ≡ is_eq (nat_cmp a b)
+      plain a b = grind (arith, nat_tests)
+
+-- a tag is there where its key is
+pub there : (u key : ℕ) (n : Node) → IsUid u → IsTree n × IsWithin 0 (2 ^ 56 - 1) n → key ≡ mirror u → is_some (state n key) ≡ has (uids (tags_of (entries n))) u
+there u key n h t e =
+    ap (λ (k : ℕ). is_some (state n k)) e
+    ∙ ap is_some (by_state u n h t.0 t.1)
+    ∙ readiness_there (tags_of (entries n)) u
+
+-- ---- what forks note
+
+both_false : (x y z : Bool) → x ≡ (y || z) → x ≡ false → (y ≡ false) × (z ≡ false)
+both_false x true z e f = absurd (cc)
+both_false x false z e f = (refl, sym e ∙ f)
+
+ready_append : (a b : ℕ) (xs ys : List (ℕ × Bool)) → ready_between a b (xs ++ ys) ≡ ready_between a b xs ++ ready_between a b ys
+ready_append a b xs ys =
+    ap (map (λ (e : ℕ × Bool). uid_of e.0)) (filter-append (λ (e : ℕ × Bool). (nat_le a e.0 && nat_le e.0 b) && e.1) xs ys)
+    ∙ map-append (λ (e : ℕ × Bool). uid_of e.0) (filter (λ (e : ℕ × Bool). (nat_le a e.0 && nat_le e.0 b) && e.1) xs) (filter (λ (e : ℕ × Bool). (nat_le a e.0 && nat_le e.0 b) && e.1) ys)
+
+neither_ready : (a b : ℕ) (xs ys : List (ℕ × Bool)) → ready_between a b xs ≡ [] → ready_between a b ys ≡ [] → ready_between a b (xs ++ ys) ≡ []
+neither_ready a b xs ys e f = ready_append a b xs ys ∙ ap (λ (us : List ℕ). us ++ ready_between a b ys) e ∙ f
+
+pub none_noted : (a b : ℕ) (n : Node) → IsTree n → notes_ready n ≡ false → ready_between a b (entries n) ≡ []
+none_noted a b Empty t e = refl
+none_noted a b (Tag k r) t e = go r (nat_le a k && nat_le k b) e where
+  go : (r s : Bool) → r ≡ false → map (λ (e : ℕ × Bool). uid_of e.0) (cond (s && r) ((k, r) ∷ []) []) ≡ []
+  go true s e = absurd (cc)
+  go false true e = refl
+  go false false e = refl
+none_noted a b (Fork' ptr first middle last ready quiet zero one) t e =
+    let h = both_false ready (notes_ready zero) (notes_ready one) t.1.of_ready e in
+    neither_ready a b (entries zero) (entries one) (none_noted a b zero t.2 h.0) (none_noted a b one t.3 h.1)
+
+pub none_outside : (a b f l : ℕ) (n : Node) → IsTree n → IsWithin f l n → (b < f) ⊎ (l < a) → ready_between a b (entries n) ≡ []
+none_outside a b f l Empty t w h = refl
+none_outside a b f l (Tag k r) t w h = go (nat_le a k && nat_le k b) (miss a b f l k w.0 w.1 h) where
+  miss : (a b f l k : ℕ) → f ≤ k → k ≤ l → (b < f) ⊎ (l < a) → (nat_le a k && nat_le k b) ≡ false
+  miss a b f l k p q h = grind (arith, nat_tests)
+
+  go : (s : Bool) → s ≡ false → map (λ (e : ℕ × Bool). uid_of e.0) (cond (s && r) ((k, r) ∷ []) []) ≡ []
+  go true e = absurd (cc)
+  go false e = refl
+none_outside a b f l (Fork' ptr first middle last ready quiet zero one) t w h =
+    neither_ready a b (entries zero) (entries one)
+    (none_outside a b f l zero t.2 (zero_within f l first middle last zero one t.0 w.0 w.1) h)
+    (none_outside a b f l one t.3 (one_within f l first middle last zero one t.0 w.0 w.1) h)
+
+-- keys from the middle on aren't those of the first side, nor keys below it those of the second
+pub zero_passed : (a b first middle last : ℕ) (zero one : Node) → AreSides first middle last zero one → IsTree zero → middle ≤ a → ready_between a b (entries zero) ≡ []
+zero_passed a b first middle last zero one s t h = let low = s.low in none_outside a b first (middle - 1) zero t s.below (inr (omega arith))
+
+pub one_passed : (a b first middle last : ℕ) (zero one : Node) → AreSides first middle last zero one → IsTree one → b < middle → ready_between a b (entries one) ≡ []
+one_passed a b first middle last zero one s t h = none_outside a b middle last one t s.above (inl h)
+
+all_both : (xs ys : List (ℕ × Bool)) → xs ≡ map (λ (e : ℕ × Bool). (e.0, true)) xs → ys ≡ map (λ (e : ℕ × Bool). (e.0, true)) ys → xs ++ ys ≡ map (λ (e : ℕ × Bool). (e.0, true)) (xs ++ ys)
+all_both xs ys p q =
+    ap (λ (zs : List (ℕ × Bool)). zs ++ ys) p
+    ∙ ap (λ (zs : List (ℕ × Bool)). map (λ (e : ℕ × Bool). (e.0, true)) xs ++ zs) q
+    ∙ sym (map-append (λ (e : ℕ × Bool). (e.0, true)) xs ys)
+
+pub all_noted : (n : Node) → IsTree n → notes_quiet n ≡ false → entries n ≡ map (λ (e : ℕ × Bool). (e.0, true)) (entries n)
+all_noted Empty t e = refl
+all_noted (Tag k r) t e = go r e where
+  one : Bool → List (ℕ × Bool)
+  one b = (k, b) ∷ []
+
+  go : (r : Bool) → not r ≡ false → one r ≡ one true
+  go true e = refl
+  go false e = absurd (cc)
+all_noted (Fork' ptr first middle last ready quiet zero one) t e =
+    let h = both_false quiet (notes_quiet zero) (notes_quiet one) t.1.of_quiet e in
+    all_both (entries zero) (entries one) (all_noted zero t.2 h.0) (all_noted one t.3 h.1)
+
+-- a fork that has noted anew
+pub noted : (old new : Fork) → (new.zero ≡ old.zero) × (new.one ≡ old.one) → (new.first ≡ old.first) × (new.middle ≡ old.middle) × (new.last ≡ old.last) → AreNotes new.ready new.quiet old.zero old.one
+    → AreSides old.first old.middle old.last old.zero old.one × IsTree old.zero × IsTree old.one
+    → AreSides new.first new.middle new.last new.zero new.one × AreNotes new.ready new.quiet new.zero new.one × IsTree new.zero × IsTree new.one
+noted old new s k n p = rw (s.0, s.1, k.0, k.1, k.2) (p.0, n, p.1, p.2)
+
+-- ---- what is heard
+
+pub heard_nothing : (o : Outcome) (us : List ℕ) → us ≡ [] → o ≡ heard (members o ++ us)
+heard_nothing o us e = plain o ∙ ap (λ (vs : List ℕ). heard (members o ++ vs)) (sym e) where
+  plain : (o : Outcome) → o ≡ heard (members o ++ [])
+  plain Silent = refl
+  plain (Lone u) = refl
+  plain Several = refl
+
+pub heard_enough : (o : Outcome) (us : List ℕ) → o ≡ Several → o ≡ heard (members o ++ us)
+heard_enough o us e = e ∙ ap (λ (x : Outcome). heard (members x ++ us)) (sym e)
+
+pub heard_both : (o p r : Outcome) (a b : ℕ) (zero one : Node) → p ≡ heard (members o ++ ready_between a b (entries zero)) → r ≡ heard (members p ++ ready_between a b (entries one))
+    → r ≡ heard (members o ++ ready_between a b (entries zero ++ entries one))
+heard_both o p r a b zero one e f =
+    f
+    ∙ ap (λ (x : Outcome). heard (members x ++ ready_between a b (entries one))) e
+    ∙ twice (members o ++ ready_between a b (entries zero)) (ready_between a b (entries one))
+    ∙ ap heard (append_assoc (members o) (ready_between a b (entries zero)) (ready_between a b (entries one)))
+    ∙ ap (λ (us : List ℕ). heard (members o ++ us)) (sym (ready_append a b (entries zero) (entries one))) where
+      twice : (us vs : List ℕ) → heard (members (heard us) ++ vs) ≡ heard (us ++ vs)
+      twice [] vs = refl
+      twice (u ∷ []) vs = refl
+      twice (u ∷ v ∷ us) vs = refl

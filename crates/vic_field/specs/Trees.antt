@@ -1,0 +1,60 @@
+-- Tags in a tree by their keys: each fork has a key that parts its two sides.
+use Rattle.std.specs.Prelude.{◌≡◌, ℕ, ◌-◌, ◌<◌, ◌≤◌, ◌==◌, Bool, false, not, ◌||◌, List, [], ◌∷◌, ◌++◌, Option, Some, None, nat_lt, if◌then◌else◌}
+use Rattle.vic_field.specs.declared.field.Outcome.{Outcome}
+use Rattle.vic_field.specs.declared.field.Outcome.TheVariants.{Silent, Lone, Several}
+use Rattle.vic_field.specs.declared.tree.Node.{Node, Fork'}
+use Rattle.vic_field.specs.declared.tree.Node.TheVariants.{Empty, Tag}
+
+-- the keys of the tags, and whether each is Ready, in the order of keys
+abbrev pub entries : Node → List (ℕ × Bool)
+entries Empty = []
+entries (Tag k r) = (k, r) ∷ []
+entries (Fork' p first middle last ready quiet zero one) = entries zero ++ entries one
+
+-- whether the tag with the key q is Ready, if it is there
+abbrev pub state : Node → ℕ → Option Bool
+state Empty q = None
+state (Tag k r) q = if k == q then Some r else None
+state (Fork' p first middle last ready quiet zero one) q = if nat_lt q middle then state zero q else state one q
+
+-- what a node notes of Ready tags
+abbrev pub notes_ready : Node → Bool
+notes_ready Empty = false
+notes_ready (Tag k r) = r
+notes_ready (Fork' p first middle last ready quiet zero one) = ready
+
+-- what a node notes of Quiet tags
+abbrev pub notes_quiet : Node → Bool
+notes_quiet Empty = false
+notes_quiet (Tag k r) = not r
+notes_quiet (Fork' p first middle last ready quiet zero one) = quiet
+
+-- a node whose keys lie from a to b
+abbrev pub IsWithin : ℕ → ℕ → Node → Type 0
+IsWithin a b Empty = Unit {0}
+IsWithin a b (Tag k r) = (a ≤ k) × (k ≤ b)
+IsWithin a b (Fork' p first middle last ready quiet zero one) = (a ≤ first) × (last ≤ b)
+
+-- the sides of a fork: the keys of one are below the middle, those of the other aren't
+pub record AreSides (first middle last : ℕ) (zero one : Node) : Type 0 where
+  pub low : first < middle
+  pub high : middle ≤ last
+  pub below : IsWithin first (middle - 1) zero
+  pub above : IsWithin middle last one
+
+-- what a fork notes of its sides
+pub record AreNotes (ready quiet : Bool) (zero one : Node) : Type 0 where
+  pub of_ready : ready ≡ (notes_ready zero || notes_ready one)
+  pub of_quiet : quiet ≡ (notes_quiet zero || notes_quiet one)
+
+-- a tree whose forks part the keys, and note rightly
+abbrev pub IsTree : Node → Type 0
+IsTree Empty = Unit {0}
+IsTree (Tag k r) = Unit {0}
+IsTree (Fork' p first middle last ready quiet zero one) = AreSides first middle last zero one × AreNotes ready quiet zero one × IsTree zero × IsTree one
+
+-- tags that give an outcome
+abbrev pub members : Outcome → List ℕ
+members Silent = []
+members (Lone u) = u ∷ []
+members Several = 0 ∷ 0 ∷ []

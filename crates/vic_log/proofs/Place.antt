@@ -1,0 +1,53 @@
+-- The first LF of some bytes.
+use Rattle.std.proofs.Common.{◌≡◌, ℕ, zero, suc, ◌+◌, ◌-◌, ◌<◌, ◌≤◌, Bool, true, false, List, [], ◌∷◌, ◌++◌, length, take, drop, Result, Ok, Err, ⊎_elim, refl, sym, ap, ◌∙◌, arith}
+use Rattle.std.specs.Prelude.{slice_index, nat_eq, ◌||◌, ◌==◌, ◌↔◌, IsOk, is_ok, OnOk}
+use Rattle.std.proofs.lemmas.Bool.{ne_eqb, eq-eqb, cases_lt}
+use Rattle.vic_frame.specs.Uids.{has}
+use Rattle.vic_log.specs.Begun.{IsSplit}
+use Rattle.vic_log.specs.Lines.{lf}
+use Rattle.vic_log.proofs.Judged.{neither}
+
+pub lacks : (bytes : List ℕ) (k : ℕ) → k ≤ length bytes → ((i : ℕ) → 0 ≤ i → i < k → slice_index bytes i == lf ≡ true → ⊥) → has (take k bytes) lf ≡ false
+lacks bytes zero h none = refl
+lacks [] (suc k) h none = absurd (omega arith)
+lacks (b ∷ bytes) (suc k) h none =
+    let first : nat_eq lf b ≡ false = ne_eqb lf b (λ e. none 0 (omega arith) (omega arith) (eq-eqb b lf (sym e))) in
+    neither (nat_eq lf b) (has (take k bytes) lf) first (lacks bytes k (omega arith) (λ i low below there. none (suc i) (omega arith) (omega arith) there))
+
+pub parted : (bytes : List ℕ) (k : ℕ) → k < length bytes → slice_index bytes k ≡ lf → bytes ≡ take k bytes ++ lf ∷ drop (suc k) bytes
+parted [] k h e = absurd (omega arith)
+parted (b ∷ bytes) zero h e = ap (λ x. x ∷ bytes) e
+parted (b ∷ bytes) (suc k) h e = ap (λ xs. b ∷ xs) (parted bytes k (omega arith) e)
+
+take_whole : (xs : List ℕ) (n : ℕ) → length xs ≤ n → take n xs ≡ xs
+take_whole [] zero h = refl
+take_whole [] (suc n) h = refl
+take_whole (x ∷ xs) zero h = absurd (omega arith)
+take_whole (x ∷ xs) (suc n) h = ap (λ ys. x ∷ ys) (take_whole xs n (omega arith))
+
+drop_length : (xs : List ℕ) (n : ℕ) → length (drop n xs) ≡ length xs - n
+drop_length [] zero = refl
+drop_length [] (suc n) = omega arith
+drop_length (x ∷ xs) zero = omega arith
+drop_length (x ∷ xs) (suc n) = drop_length xs n ∙ omega arith
+
+pub lacks_all : (bytes : List ℕ) → ((i : ℕ) → 0 ≤ i → i < length bytes → slice_index bytes i == lf ≡ true → ⊥) → has bytes lf ≡ false
+lacks_all bytes none = ap (λ xs. has xs lf) (sym (take_whole bytes (length bytes) (omega arith))) ∙ lacks bytes (length bytes) (omega arith) none
+
+pub split_at : (bytes : List ℕ) (k n m : ℕ) → k < length bytes → n ≡ suc k → m ≡ length bytes - n → slice_index bytes k ≡ lf → ((i : ℕ) → 0 ≤ i → i < k → slice_index bytes i == lf ≡ true → ⊥)
+    → IsSplit bytes (take k bytes) (take m (drop n bytes))
+split_at bytes k n m h e f there none = record {
+  whole =
+      let size = drop_length bytes n in
+      parted bytes k h there ∙ (ap (λ i. take k bytes ++ lf ∷ drop i bytes) (sym e) ∙ ap (λ xs. take k bytes ++ lf ∷ xs) (sym (take_whole (drop n bytes) m (omega arith))));
+  no_lf = lacks bytes k (omega arith) none;
+}
+
+-- no room for so many
+pub over : {A E : Type 0} (r : Result A E) (n : ℕ) → (IsOk r ↔ (n ≤ 130)) → is_ok r ≡ false → 130 < n
+over (Ok x) n v h = cc
+over (Err e) n v h = ⊎_elim (λ (lt : 130 < n). lt) (λ (le : n ≤ 130). absurd (let k = v.1 le in cc)) (cases_lt 130 n)
+
+pub on_ok : {A E : Type 0} (r : Result A E) (P : Type 0) → is_ok r ≡ true → OnOk r P → P
+on_ok (Ok x) P h p = p
+on_ok (Err e) P h p = cc

@@ -1,0 +1,115 @@
+//! A set of open UIDs as ranges of their places, the low bits first.
+
+ghost use Rattle.std.specs.Prelude.{◌≡◌, ℕ, ◌^◌, ◌<◌, ◌≤◌, ◌&&◌, true, IfOk, OnOk};
+ghost use Rattle.std.specs.List.Sorted.{IsNonDecreasing};
+ghost use Rattle.vic_frame.specs.Uids.{IsUid, has};
+ghost use Rattle.vic_frame.specs.Masks.{IsMask};
+ghost use Rattle.vic_frame.specs.LowBitsFirst.{mirror};
+ghost use Rattle.vic_tree.specs.OpenSet.{SameUids, settled};
+ghost use Rattle.vic_tree.specs.Ranges.{AreRanges, is_between, is_open_in};
+
+use crate::blocks::widest_of;
+use crate::gather_keys::gather_ranges;
+use crate::open_set::OpenSet;
+use crate::ranges::{is_in, take_out_others};
+use arrayvec::ArrayVec;
+use std::alloc::{AllocError, Global};
+use std::collections::BTreeMap;
+use std::marker::Model;
+use vic_frame::low_bits_first::{key, key_range};
+use vic_frame::{Mask, Uid, without_top_byte};
+
+/// A set of UIDs as the ranges of their places in the order of low bits first, where the UIDs of a
+/// mask stand together. A lone UID takes one entry of a map. To settle a mask takes a few look-ups
+/// for it, for each range in it and for each exception in it, which stays where it is.
+#[derive(Drop)]
+pub struct RangeSet {
+    ranges: BTreeMap<u64, u64>,
+    alloc: Global,
+}
+
+impl Model for RangeSet {
+    ghost use Rattle.std.specs.Prelude.{ℕ, List};
+    ghost use Rattle.vic_tree.specs.Ranges.{AreRanges};
+
+    ghost Value = { List (ℕ × ℕ) };
+
+    ghost view = { λ a. a.ranges.entries };
+
+    ghost invariant = { λ a. AreRanges a.ranges.entries };
+}
+
+impl OpenSet for RangeSet {
+    ghost is_open = { is_open_in };
+
+    fn everything(alloc: Global) -> Result<RangeSet, AllocError> {
+        let mut ranges = BTreeMap::new(alloc);
+        ranges.insert(0, (1 << 56) - 1)?;
+        Ok(RangeSet { ranges, alloc })
+    }
+
+    fn settle(&mut self, mask: &Mask, except: &[Uid]) -> Result<(), AllocError> {
+        let Some(mask) = without_top_byte(mask) else {
+            return Ok(());
+        };
+        match settle_ranges(&mut self.ranges, self.alloc, &mask, except) {
+            Ok(()) => Ok(()),
+            Err(error) => {
+                self.ranges.clear();
+                Err(error)
+            }
+        }
+    }
+
+    fn has(&self, uid: Uid) -> bool {
+        is_in(&self.ranges, key(uid))
+    }
+
+    fn up_to_three(&self, mask: &Mask, except: &[Uid]) -> ArrayVec<Uid, 3> {
+        let mut found = ArrayVec::new();
+        if let Some(mask) = without_top_byte(mask) {
+            let (first, last) = key_range(&mask);
+            gather_ranges(&mut found, except, &self.ranges, first, last);
+        }
+        found
+    }
+
+    fn widest(&self) -> Option<Mask> {
+        widest_of(&self.ranges)
+    }
+}
+
+/// Takes a mask out, except those UIDs of a list that lie in it.
+fn settle_ranges(
+    ranges: &mut BTreeMap<u64, u64>,
+    alloc: Global,
+    mask: &Mask,
+    except: &[Uid],
+) -> Result<(), AllocError>
+    requires ranges { AreRanges ranges.old.entries }
+    requires short { IsMask mask.now × (mask.now.len ≤ 56) }
+    ensures ranges { OnOk result (AreRanges ranges.new.entries) }
+    ensures settled { OnOk result (SameUids (is_open_in ranges.new.entries) (settled (is_open_in ranges.old.entries) mask.now except.now)) }
+{
+    let (first, last) = key_range(mask);
+    let kept = keys_between(alloc, except, first, last)?;
+    take_out_others(ranges, first, last, &kept)?;
+    Ok(())
+}
+
+/// The keys from `first` to `last` of the UIDs of a list, in order.
+fn keys_between(alloc: Global, uids: &[Uid], first: u64, last: u64) -> Result<Vec<u64>, AllocError>
+    ensures order { IfOk result (λ keys. IsNonDecreasing keys.items) }
+    ensures inside { IfOk result (λ keys. (k : ℕ) → has keys.items k ≡ true → is_between first last k ≡ true) }
+    ensures members { IfOk result (λ keys. (u : ℕ) → IsUid u → has keys.items (mirror u) ≡ (is_between first last (mirror u) && has uids.now u)) }
+{
+    let mut keys = Vec::new(alloc);
+    for uid in uids {
+        let key = key(*uid);
+        if first <= key && key <= last {
+            keys.push(key)?;
+        }
+    }
+    keys.sort_unstable();
+    Ok(keys)
+}

@@ -1,0 +1,243 @@
+-- What a judge gathers from field cycle to field cycle.
+use Rattle.std.proofs.Common.{◌≡◌, ℕ, ◌+◌, ◌<◌, ◌≤◌, ◌==◌, ◌++◌, ◌^◌, List, [], ◌∷◌, Bool, true, false, not, ◌&&◌, ◌||◌, Option, Some, None, refl, sym, ap, ◌∙◌, subst, arith, add-one, inl, inr, ⊎_elim}
+use Rattle.std.specs.Prelude.{◌⊎◌, nat_lt, slice_get}
+use Rattle.std.specs.List.{All}
+use Rattle.std.proofs.lemmas.Bool.{eq-eqb, false≢true, and_parts, and_from}
+use Rattle.std.proofs.lemmas.Bool.Decides.{nat_tests}
+use Rattle.std.proofs.lemmas.List.Folds.{list_all-append, list_any-append}
+use Rattle.std.proofs.lemmas.List.Elements.{All-push, All-head, All-tail}
+use Rattle.vic_frame.specs.Uids.{IsUid}
+use Rattle.vic_frame.specs.Masks.{BitMask}
+use Rattle.vic_frame.specs.LowBitsFirst.{mirror, uid_of}
+use Rattle.vic_frame.proofs.MirrorLaws.{uid_of_mirror, same_test}
+use Rattle.vic_tree.specs.OpenSet.{SameUids}
+use Rattle.vic_frame.specs.Replies.{Reply}
+use Rattle.vic_frame.specs.declared.request.Request.{Request}
+use Rattle.vic_log.specs.declared.entry.Entry.{Entry}
+use Rattle.vic_log.specs.declared.entry.Entry.TheVariants.{Sent, Silent, Collision, Heard, Listed, Garbled, FieldCycle}
+use Rattle.vic_log.specs.Rounds.{mask_at, lies_in_some}
+use Rattle.vic_log.specs.Quiet.{silences, wakes, is_quiet}
+use Rattle.vic_log.specs.Populations.{answers_at}
+use Rattle.vic_log.specs.Slots.{reading_of, slots_before, is_open}
+use Rattle.vic_verdict.specs.declared.sweep.Name.{Name}
+use Rattle.vic_verdict.specs.declared.sweep.Spot.{Spot}
+use Rattle.vic_verdict.specs.Sweep.{is_heard, is_in, is_silenced, spot_allows, all_allow, is_named, is_named_if, all_hear_named, are_left}
+use Rattle.vic_verdict.specs.Stretches.{AddsSpot, IsStretch}
+use Rattle.vic_verdict.proofs.Entries.{and_true, entry_allows}
+use Rattle.vic_verdict.proofs.Stands.{open_next}
+
+or_false : (b : Bool) → (b || false) ≡ b
+or_false true = refl
+or_false false = refl
+
+and_no : (b c : Bool) → c ≡ false → (b && c) ≡ false
+and_no true c e = e
+and_no false c e = refl
+
+lt_no : (x y : ℕ) → y ≤ x → nat_lt x y ≡ false
+lt_no x y e = grind (arith, nat_tests)
+
+-- ---- a name more
+
+silenced_pushed : (ns : List Name) (n : Name) (k i : ℕ) → is_silenced (ns ++ n ∷ []) k i ≡ (is_silenced ns k i || ((n.key == k) && nat_lt n.quiet i))
+silenced_pushed ns n k i = list_any-append (λ (m : Name). (m.key == k) && nat_lt m.quiet i) ns (n ∷ []) ∙ ap (λ b. is_silenced ns k i || b) (or_false ((n.key == k) && nat_lt n.quiet i))
+
+silenced_after : (ns : List Name) (n : Name) (k i : ℕ) → i ≤ n.quiet → is_silenced (ns ++ n ∷ []) k i ≡ is_silenced ns k i
+silenced_after ns n k i h = silenced_pushed ns n k i ∙ (ap (λ b. is_silenced ns k i || b) (and_no (n.key == k) (nat_lt n.quiet i) (lt_no n.quiet i h)) ∙ or_false (is_silenced ns k i))
+
+-- places of names before i, or at the end of the log
+abbrev IsPlaced : ℕ → ℕ → Name → Type 0
+IsPlaced i end n = (n.quiet < i) ⊎ (end ≤ n.quiet)
+
+silenced_next : (ns : List Name) (k i end : ℕ) → i < end → All (IsPlaced i end) ns → is_silenced ns k (i + 1) ≡ is_silenced ns k i
+silenced_next [] k i end lt h = refl
+silenced_next (n ∷ ns) k i end lt h =
+    ap (λ b. ((n.key == k) && b) || is_silenced ns k (i + 1)) (go (All-head (IsPlaced i end) n ns h))
+    ∙ ap (λ b. ((n.key == k) && nat_lt n.quiet i) || b) (silenced_next ns k i end lt (All-tail (IsPlaced i end) n ns h))
+  where
+    yes : (x y : ℕ) → x < y → nat_lt x (y + 1) ≡ nat_lt x y
+    yes x y e = grind (arith, nat_tests)
+
+    no : (x y : ℕ) → y < x → nat_lt x (y + 1) ≡ nat_lt x y
+    no x y e = grind (arith, nat_tests)
+
+    go : (n.quiet < i) ⊎ (end ≤ n.quiet) → nat_lt n.quiet (i + 1) ≡ nat_lt n.quiet i
+    go (inl f) = yes n.quiet i f
+    go (inr f) = no n.quiet i (omega (arith, f, lt))
+
+allow_named : (ns : List Name) (n : Name) (k i : ℕ) (ss : List Spot) → i ≤ n.quiet → All (λ (s : Spot). s.at < i) ss → all_allow (ns ++ n ∷ []) ss k ≡ all_allow ns ss k
+allow_named ns n k i [] h before = refl
+allow_named ns n k i (s ∷ ss) h before =
+    let lt = All-head (λ (t : Spot). t.at < i) s ss before in
+    ap (λ b. (not (is_in s k) || (b || is_heard s.heard k)) && all_allow (ns ++ n ∷ []) ss k) (silenced_after ns n k s.at (omega (arith, lt, h)))
+    ∙ ap (λ b. spot_allows ns s k && b) (allow_named ns n k i ss h (All-tail (λ (t : Spot). t.at < i) s ss before))
+
+or_more : (a b : Bool) → a ≡ true → (a || b) ≡ true
+or_more true b e = refl
+or_more false b e = absurd (false≢true e)
+
+pub named_more : (ns : List Name) (n : Name) (h : ℕ) → is_named ns h ≡ true → is_named (ns ++ n ∷ []) h ≡ true
+named_more ns n h e = list_any-append (λ (m : Name). m.key == h) ns (n ∷ []) ∙ or_more _ _ e
+
+all_named_more : (ns : List Name) (n : Name) (ss : List Spot) → all_hear_named ns ss ≡ true → all_hear_named (ns ++ n ∷ []) ss ≡ true
+all_named_more ns n [] e = refl
+all_named_more ns n (s ∷ ss) e =
+    let w = and_parts _ _ e in
+    and_from _ _ (go s.heard w.0) (all_named_more ns n ss w.1)
+  where
+    go : (o : Option ℕ) → is_named_if ns o ≡ true → is_named_if (ns ++ n ∷ []) o ≡ true
+    go None f = refl
+    go (Some h) f = named_more ns n h f
+
+left_more : (ns : List Name) (n : Name) → n.left ≡ true → are_left ns ≡ true → are_left (ns ++ n ∷ []) ≡ true
+left_more ns n l e = list_all-append (λ (m : Name). m.left) ns (n ∷ []) ∙ and_from _ _ e (and_from _ _ l refl)
+
+placed_next : (i end : ℕ) (ns : List Name) → All (IsPlaced i end) ns → All (IsPlaced (i + 1) end) ns
+placed_next i end ns h k d below = ⊎_elim (λ f. inl (omega (arith, f))) (λ f. inr f) (h k d below)
+
+slots_next : (i : ℕ) (ss : List Spot) → All (λ (s : Spot). s.at < i) ss → All (λ (s : Spot). s.at < i + 1) ss
+slots_next i ss h k d below = let lt = h k d below in omega (arith, lt)
+
+-- a UID that is heard is named, from the end of the log on
+pub stretch_named : (es : List Entry) (i end : ℕ) (set : ℕ → Bool) (ns ms : List Name) (ss : List Spot) (n : Name) → i < end → n.key < 2 ^ 56 → n.left ≡ true → end ≤ n.quiet → ms ≡ ns ++ n ∷ [] → IsStretch es i end set ns ss → IsStretch es i end set ms ss
+stretch_named es i end set ns ms ss n lt key left late is h = subst (λ xs. IsStretch es i end set xs ss) (sym is) (record {
+  keys = All-push (λ (m : Name). m.key < 2 ^ 56) ns n h.keys key;
+  left = left_more ns n left h.left;
+  masks = h.masks;
+  named = all_named_more ns n ss h.named;
+  slots = h.slots;
+  names = All-push (IsPlaced i end) ns n h.names (inr late);
+  quiet = λ u w. silenced_after ns n (mirror u) i (omega (arith, lt, late)) ∙ h.quiet u w;
+  uids = λ u w. ap (λ b. set u && b) (allow_named ns n (mirror u) i ss (omega (arith, lt, late)) h.slots) ∙ h.uids u w;
+})
+
+-- ---- an entry more
+
+quiet_next : (es : List Entry) (i u : ℕ) (e : Entry) → slice_get es i ≡ Some e → is_quiet es (i + 1) u ≡ (silences (Some e) u || (not (wakes (Some e)) && is_quiet es i u))
+quiet_next es i u e k = ap (λ j. is_quiet es j u) (add-one i) ∙ ap (λ o. silences o u || (not (wakes o) && is_quiet es i u)) k
+
+still_quiet : (a b q : Bool) → a ≡ false → b ≡ false → q ≡ (a || (not b && q))
+still_quiet false false q e f = refl
+still_quiet true b q e f = absurd (cc)
+still_quiet false true q e f = absurd (cc)
+
+-- an entry that silences and wakes nobody, and rules nobody out
+pub stretch_passed : (es : List Entry) (i end : ℕ) (set : ℕ → Bool) (ns : List Name) (ss : List Spot) (e : Entry) → slice_get es i ≡ Some e → i < end → wakes (Some e) ≡ false → ((u : ℕ) → IsUid u → silences (Some e) u ≡ false) → ((b : Bool) (u : ℕ) → entry_allows (reading_of e) b u ≡ true) → IsStretch es i end set ns ss → IsStretch es (i + 1) end set ns ss
+stretch_passed es i end set ns ss e k lt awake none all h = record {
+  keys = h.keys;
+  left = h.left;
+  masks = h.masks;
+  named = h.named;
+  slots = slots_next i ss h.slots;
+  names = placed_next i end ns h.names;
+  quiet = λ u w. silenced_next ns (mirror u) i end lt h.names ∙ (h.quiet u w ∙ (still_quiet _ _ (is_quiet es i u) (none u w) awake ∙ sym (quiet_next es i u e k)));
+  uids = open_next es i e (λ u. set u && all_allow ns ss (mirror u)) (λ u. set u && all_allow ns ss (mirror u)) k (λ u w. sym (ap (λ b. (set u && all_allow ns ss (mirror u)) && b) (all (answers_at es i u) u) ∙ and_true (set u && all_allow ns ss (mirror u)))) h.uids;
+}
+
+-- a Stay Quiet
+pub stretch_silenced : (es : List Entry) (i end : ℕ) (set : ℕ → Bool) (ns ms : List Name) (ss : List Spot) (e : Entry) (n : Name) → slice_get es i ≡ Some e → i < end → wakes (Some e) ≡ false → ((u : ℕ) → IsUid u → silences (Some e) u ≡ (n.key == mirror u)) → ((b : Bool) (u : ℕ) → entry_allows (reading_of e) b u ≡ true) → n.key < 2 ^ 56 → n.left ≡ true → n.quiet ≡ i → ms ≡ ns ++ n ∷ [] → IsStretch es i end set ns ss → IsStretch es (i + 1) end set ms ss
+stretch_silenced es i end set ns ms ss e n k lt awake one all key left at is h = subst (λ xs. IsStretch es (i + 1) end set xs ss) (sym is) (record {
+  keys = All-push (λ (m : Name). m.key < 2 ^ 56) ns n h.keys key;
+  left = left_more ns n left h.left;
+  masks = h.masks;
+  named = all_named_more ns n ss h.named;
+  slots = slots_next i ss h.slots;
+  names = All-push (IsPlaced (i + 1) end) ns n (placed_next i end ns h.names) (inl (omega (arith, at)));
+  quiet = λ u w.
+      silenced_pushed ns n (mirror u) (i + 1)
+      ∙ (ap (λ b. b || ((n.key == mirror u) && nat_lt n.quiet (i + 1))) (silenced_next ns (mirror u) i end lt h.names ∙ h.quiet u w)
+      ∙ (go (is_quiet es i u) (n.key == mirror u) (nat_lt n.quiet (i + 1)) (silences (Some e) u) (wakes (Some e)) (now n.quiet i at) (one u w) awake ∙ sym (quiet_next es i u e k)));
+  uids = open_next es i e (λ u. set u && all_allow ns ss (mirror u)) (λ u. set u && all_allow (ns ++ n ∷ []) ss (mirror u)) k (λ u w.
+      ap (λ b. set u && b) (allow_named ns n (mirror u) i ss (omega (arith, at)) h.slots)
+      ∙ sym (ap (λ b. (set u && all_allow ns ss (mirror u)) && b) (all (answers_at es i u) u) ∙ and_true (set u && all_allow ns ss (mirror u)))) h.uids;
+}) where
+  now : (x y : ℕ) → x ≡ y → nat_lt x (y + 1) ≡ true
+  now x y e = grind (arith, nat_tests)
+
+  go : (q a b s t : Bool) → b ≡ true → s ≡ a → t ≡ false → (q || (a && b)) ≡ (s || (not t && q))
+  go q a b s true x y z = absurd (cc)
+  go q a false s false x y z = absurd (cc)
+  go true true true true false x y z = refl
+  go true false true false false x y z = refl
+  go false true true true false x y z = refl
+  go false false true false false x y z = refl
+  go q true true false false x y z = absurd (cc)
+  go q false true true false x y z = absurd (cc)
+
+-- a silent or an answered slot
+pub stretch_spotted : (es : List Entry) (i end : ℕ) (set : ℕ → Bool) (ns : List Name) (ss ts : List Spot) (e : Entry) (mask : Option BitMask) (heard : Option ℕ) → slice_get es i ≡ Some e → i < end → mask ≡ mask_at es i → wakes (Some e) ≡ false → ((u : ℕ) → IsUid u → silences (Some e) u ≡ false) → ((b : Bool) (u : ℕ) → IsUid u → entry_allows (reading_of e) b u ≡ (not b || is_heard heard (mirror u))) → is_named_if ns heard ≡ true → AddsSpot mask i heard ss ts → IsStretch es i end set ns ss → IsStretch es (i + 1) end set ns ts
+stretch_spotted es i end set ns ss ts e mask heard k lt m awake none reads named adds h = record {
+  keys = h.keys;
+  left = h.left;
+  masks = adds.masks h.masks;
+  named = adds.named ns named h.named;
+  slots = adds.before (i + 1) (omega arith) (slots_next i ss h.slots);
+  names = placed_next i end ns h.names;
+  quiet = λ u w. silenced_next ns (mirror u) i end lt h.names ∙ (h.quiet u w ∙ (still_quiet _ _ (is_quiet es i u) (none u w) awake ∙ sym (quiet_next es i u e k)));
+  uids = open_next es i e (λ u. set u && all_allow ns ss (mirror u)) (λ u. set u && all_allow ns ts (mirror u)) k (λ u w.
+      ap (λ b. set u && b) (adds.allow ns u w)
+      ∙ (assoc (set u) (all_allow ns ss (mirror u)) _
+      ∙ ap (λ b. (set u && all_allow ns ss (mirror u)) && b) (
+      ap (λ b. not (lies_in_some mask u) || (b || is_heard heard (mirror u))) (h.quiet u w)
+      ∙ (test (lies_in_some mask u) (is_quiet es i u) (is_heard heard (mirror u))
+      ∙ (ap (λ o. not (lies_in_some o u && not (is_quiet es i u)) || is_heard heard (mirror u)) m
+      ∙ sym (reads (answers_at es i u) u w)))))) h.uids;
+} where
+  assoc : (a b c : Bool) → (a && (b && c)) ≡ ((a && b) && c)
+  assoc true b c = refl
+  assoc false b c = refl
+
+  test : (l q x : Bool) → (not l || (q || x)) ≡ (not (l && not q) || x)
+  test false q x = refl
+  test true true x = refl
+  test true false x = refl
+
+pub heard_key : (h u : ℕ) → IsUid h → IsUid u → (u == h) ≡ (mirror h == mirror u)
+heard_key h u v w = same_test u h (mirror h) (mirror u) (λ e. ap mirror (sym e)) (λ e. sym (uid_of_mirror u w) ∙ (ap uid_of (sym e) ∙ uid_of_mirror h v))
+
+pub silenced_key : (h u : ℕ) → IsUid h → IsUid u → (h == u) ≡ (mirror h == mirror u)
+silenced_key h u v w = same_test h u (mirror h) (mirror u) (λ e. ap mirror e) (λ e. sym (uid_of_mirror h v) ∙ (ap uid_of e ∙ uid_of_mirror u w))
+
+-- an entry that is neither sent nor silent nor heard, and no field cycle
+pub stretch_other : (es : List Entry) (i end : ℕ) (set : ℕ → Bool) (ns : List Name) (ss : List Spot) (e : Entry) → slice_get es i ≡ Some e → i < end → ((q : Request) → e ≡ Sent q → ⊥) → (e ≡ Silent → ⊥) → ((r : Reply) → e ≡ Heard r → ⊥) → (e ≡ FieldCycle → ⊥) → IsStretch es i end set ns ss → IsStretch es (i + 1) end set ns ss
+stretch_other es i end set ns ss (Sent q) k lt a b c d h = absurd (a q refl)
+stretch_other es i end set ns ss Silent k lt a b c d h = absurd (b refl)
+stretch_other es i end set ns ss (Heard r) k lt a b c d h = absurd (c r refl)
+stretch_other es i end set ns ss FieldCycle k lt a b c d h = absurd (d refl)
+stretch_other es i end set ns ss Collision k lt a b c d h = stretch_passed es i end set ns ss Collision k lt refl (λ u w. refl) (λ x u. refl) h
+stretch_other es i end set ns ss Garbled k lt a b c d h = stretch_passed es i end set ns ss Garbled k lt refl (λ u w. refl) (λ x u. refl) h
+stretch_other es i end set ns ss (Listed v) k lt a b c d h = stretch_passed es i end set ns ss (Listed v) k lt refl (λ u w. refl) (λ x u. refl) h
+
+pub named_here : (ns : List Name) (n : Name) → is_named (ns ++ n ∷ []) n.key ≡ true
+named_here ns n = list_any-append (λ (m : Name). m.key == n.key) ns (n ∷ []) ∙ or_last (is_named ns n.key) (n.key == n.key) (eq-eqb n.key n.key refl)
+  where
+    or_last : (a b : Bool) → b ≡ true → (a || (b || false)) ≡ true
+    or_last true b e = refl
+    or_last false b e = or_false b ∙ e
+
+-- ---- where a stretch begins and ends
+
+pub stretch_first : (es : List Entry) (end : ℕ) (set : ℕ → Bool) → SameUids set (is_open (slots_before es 0)) → IsStretch es 0 end set [] []
+stretch_first es end set h = record {
+  keys = λ k d below. absurd (omega (arith, below));
+  left = refl;
+  masks = λ k d below. absurd (omega (arith, below));
+  named = refl;
+  slots = λ k d below. absurd (omega (arith, below));
+  names = λ k d below. absurd (omega (arith, below));
+  quiet = λ u w. refl;
+  uids = λ u w. and_true (set u) ∙ h u w;
+}
+
+-- a field cycle, once what was gathered is settled
+pub stretch_anew : (es : List Entry) (i end : ℕ) (old set : ℕ → Bool) (ns ms : List Name) (ss ts : List Spot) (e : Entry) → slice_get es i ≡ Some e → e ≡ FieldCycle → ms ≡ [] → ts ≡ [] → SameUids set (λ u. old u && all_allow ns ss (mirror u)) → IsStretch es i end old ns ss → IsStretch es (i + 1) end set ms ts
+stretch_anew es i end old set ns ms ss ts e k is none empty done h = subst (λ xs. IsStretch es (i + 1) end set xs ts) (sym none) (subst (λ xs. IsStretch es (i + 1) end set [] xs) (sym empty) (record {
+  keys = λ j d below. absurd (omega (arith, below));
+  left = refl;
+  masks = λ j d below. absurd (omega (arith, below));
+  named = refl;
+  slots = λ j d below. absurd (omega (arith, below));
+  names = λ j d below. absurd (omega (arith, below));
+  quiet = λ u w. sym (quiet_next es i u FieldCycle (k ∙ ap (λ x. Some x) is));
+  uids = λ u w. and_true (set u) ∙ open_next es i FieldCycle set set (k ∙ ap (λ x. Some x) is) (λ v z. sym (and_true (set v))) (λ v z. done v z ∙ h.uids v z) u w;
+}))

@@ -1,0 +1,455 @@
+-- What the slots between two field cycles leave, name by name.
+use Rattle.std.proofs.Common.{◌≡◌, ℕ, zero, suc, ◌+◌, ◌-◌, ◌<◌, ◌≤◌, ◌==◌, List, [], ◌∷◌, length, take, get_or, set, Bool, true, false, not, ◌&&◌, ◌||◌, Option, Some, None, refl, sym, ap, ◌∙◌, subst, arith, add-one, ◌++◌, ◌^◌, ⊎_elim}
+use Rattle.std.specs.Prelude.{nat_le, nat_lt}
+use Rattle.std.specs.List.{list_all, list_any}
+use Rattle.std.proofs.lemmas.Bool.{ne_eqb, cases_eq, cases_lt, false≢true, and_parts, and_from, or_cases, or_left, or_right, eqb-true}
+use Rattle.std.proofs.lemmas.Bool.Decides.{nat_tests}
+use Rattle.std.proofs.lemmas.List.{ext_get_or, get_or-map, get_or-set_same, get_or-set_other, length-set, take_all}
+use Rattle.std.proofs.lemmas.List.Folds.{list_all_more, list_any_more, list_any-append}
+use Rattle.vic_frame.specs.Uids.{IsUid, has}
+use Rattle.vic_frame.specs.Masks.{lies_in}
+use Rattle.vic_frame.specs.LowBitsFirst.{mirror, uid_of}
+use Rattle.vic_frame.proofs.MirrorLaws.{mirror_of_uid, uid_of_mirror, same_test}
+use Rattle.vic_tree.specs.OpenSet.{SameUids, settled}
+use Rattle.vic_verdict.specs.declared.sweep.Name.{Name}
+use Rattle.vic_verdict.specs.declared.sweep.Spot.{Spot}
+use Rattle.vic_verdict.specs.declared.sweep.Level.{Level}
+use Rattle.vic_verdict.specs.declared.sweep.Run.{Run}
+use Rattle.vic_verdict.specs.Sweep.{is_heard, slot_leaves, is_between, is_in, spot_leaves, all_leave, level_leaves, mask_leaves, run_leaves, keep, keep_all, has_left, all_cover, is_silenced, spot_allows, all_allow, is_named, is_named_if, hears_named, all_hear_named, are_left, HaveKeys, AreInOrder}
+use Rattle.std.specs.List.Sorted.{IsPermutation}
+use Rattle.std.proofs.lemmas.List.Sorted.{list_any-IsPermutation}
+use Rattle.std.proofs.Math.Seq.{take-append_seam}
+use Rattle.vic_verdict.proofs.Entries.{and_true}
+
+-- ---- names that are kept
+
+and_thrice : (a b c : Bool) → ((a && b) && c) ≡ (a && (b && c))
+and_thrice true b c = refl
+and_thrice false b c = refl
+
+pub keep_twice : (p q : ℕ → ℕ → Bool) (ns : List Name) → keep_all p (keep_all q ns) ≡ keep_all (λ k t. q k t && p k t) ns
+keep_twice p q [] = refl
+keep_twice p q (n ∷ ns) =
+    ap (λ (b : Bool). record { key = n.key; quiet = n.quiet; left = b } ∷ keep_all p (keep_all q ns)) (and_thrice n.left (q n.key n.quiet) (p n.key n.quiet))
+    ∙ ap (λ (ms : List Name). keep (λ k t. q k t && p k t) n ∷ ms) (keep_twice p q ns)
+
+pub keep_alike : (p q : ℕ → ℕ → Bool) → ((k t : ℕ) → p k t ≡ q k t) → (ns : List Name) → keep_all p ns ≡ keep_all q ns
+keep_alike p q same [] = refl
+keep_alike p q same (n ∷ ns) =
+    ap (λ (b : Bool). record { key = n.key; quiet = n.quiet; left = n.left && b } ∷ keep_all p ns) (same n.key n.quiet)
+    ∙ ap (λ (ms : List Name). keep q n ∷ ms) (keep_alike p q same ns)
+
+pub kept_whole : (p : ℕ → ℕ → Bool) (n : Name) → p n.key n.quiet ≡ true → keep p n ≡ n
+kept_whole p n e = ap (λ (b : Bool). record { key = n.key; quiet = n.quiet; left = n.left && b }) e ∙ ap (λ (b : Bool). record { key = n.key; quiet = n.quiet; left = b }) (and_true n.left)
+
+pub keep_none : (ns : List Name) → keep_all (λ k t. true) ns ≡ ns
+keep_none [] = refl
+keep_none (n ∷ ns) = ap (λ (m : Name). m ∷ keep_all (λ k t. true) ns) (kept_whole (λ k t. true) n refl) ∙ ap (λ (ms : List Name). n ∷ ms) (keep_none ns)
+
+pub keep-length : (p : ℕ → ℕ → Bool) (ns : List Name) → length (keep_all p ns) ≡ length ns
+keep-length p [] = refl
+keep-length p (n ∷ ns) = ap suc (keep-length p ns)
+
+pub keep-order : (p : ℕ → ℕ → Bool) (ns : List Name) → AreInOrder ns → AreInOrder (keep_all p ns)
+keep-order p ns up i j d le below =
+    let short : j < length ns = subst (λ m. j < m) (keep-length p ns) below in
+    let a = ap (λ (n : Name). n.key) (get_or-map (keep p) ns i d d (omega (arith, le, short))) in
+    let b = ap (λ (n : Name). n.key) (get_or-map (keep p) ns j d d short) in
+    let h = up i j d le short in
+    omega (arith, a, b, h)
+
+-- ---- a mask rules names out
+
+pub outside_below : (first last : ℕ) (l : Level) (k q : ℕ) → k < first → mask_leaves first last l k q ≡ true
+outside_below first last l k q h = go (nat_le first k) (grind (arith, nat_tests)) where
+  go : (b : Bool) → b ≡ false → (not (b && nat_le k last) || level_leaves l k q) ≡ true
+  go false e = refl
+  go true e = absurd (cc)
+
+pub outside_above : (first last : ℕ) (l : Level) (k q : ℕ) → last < k → mask_leaves first last l k q ≡ true
+outside_above first last l k q h = go (nat_le first k) (nat_le k last) (grind (arith, nat_tests)) where
+  go : (a b : Bool) → b ≡ false → (not (a && b) || level_leaves l k q) ≡ true
+  go false b e = refl
+  go true false e = refl
+  go true true e = absurd (cc)
+
+pub inside : (first last : ℕ) (l : Level) (k q : ℕ) → first ≤ k → k ≤ last → mask_leaves first last l k q ≡ level_leaves l k q
+inside first last l k q f g = go (nat_le first k) (nat_le k last) (grind (arith, nat_tests)) (grind (arith, nat_tests)) where
+  go : (a b : Bool) → a ≡ true → b ≡ true → (not (a && b) || level_leaves l k q) ≡ level_leaves l k q
+  go true true e h = refl
+  go false b e h = absurd (cc)
+  go true false e h = absurd (cc)
+
+-- what stands past the end of a list
+abbrev pub nobody : Name
+nobody = record { key = 0; quiet = 0; left = false }
+
+-- the first i names of a list were gone over
+pub record IsRuled (p : ℕ → ℕ → Bool) (old new : List Name) (i : ℕ) : Type 0 where
+  pub same : length new ≡ length old
+  pub done : (k : ℕ) → k < i → k < length old → get_or new k nobody ≡ keep p (get_or old k nobody)
+  pub rest : (k : ℕ) → i ≤ k → get_or new k nobody ≡ get_or old k nobody
+
+pub ruled_first : (p : ℕ → ℕ → Bool) (ns : List Name) (i : ℕ) → ((k : ℕ) → k < i → p (get_or ns k nobody).key (get_or ns k nobody).quiet ≡ true) → IsRuled p ns ns i
+ruled_first p ns i h = record { same = refl; done = λ k below short. sym (kept_whole p (get_or ns k nobody) (h k below)); rest = λ k ge. refl }
+
+pub ruled_more : (p : ℕ → ℕ → Bool) (old new : List Name) (i : ℕ) (m : Name) → IsRuled p old new i → i < length old → m ≡ keep p (get_or new i nobody) → IsRuled p old (set new i m) (i + 1)
+ruled_more p old new i m h short is = record {
+  same = length-set new i m ∙ h.same;
+  done = λ k below within.
+      ⊎_elim
+      (λ same. subst (λ j. get_or (set new i m) j nobody ≡ keep p (get_or old j nobody)) (sym same) (get_or-set_same new i m nobody (subst (λ n. i < n) (sym h.same) short) ∙ (is ∙ ap (keep p) (h.rest i (omega arith)))))
+      (λ other. get_or-set_other new i k m nobody other ∙ h.done k (omega (arith, below, other)) within)
+      (cases_eq k i);
+  rest = λ k ge. get_or-set_other new i k m nobody (λ e. absurd (omega (arith, e, ge))) ∙ h.rest k (omega (arith, ge));
+}
+
+pub ruled_all : (p : ℕ → ℕ → Bool) (old new : List Name) (i : ℕ) → IsRuled p old new i → ((k : ℕ) → i ≤ k → k < length old → p (get_or old k nobody).key (get_or old k nobody).quiet ≡ true) → new ≡ keep_all p old
+ruled_all p old new i h above =
+    ext_get_or nobody new (keep_all p old) (h.same ∙ sym (keep-length p old)) (λ k below.
+    let short : k < length old = subst (λ m. k < m) h.same below in
+    let there = sym (get_or-map (keep p) old k nobody nobody short) in
+    ⊎_elim
+    (λ lt. h.done k lt short ∙ there)
+    (λ ge. h.rest k ge ∙ (sym (kept_whole p (get_or old k nobody) (above k ge short)) ∙ there))
+    (cases_lt k i))
+
+-- ---- a mask after another
+
+-- a slot more of the same mask
+mask_more : (first last : ℕ) (l m : Level) (at : ℕ) (heard : Option ℕ) (k q : ℕ) → level_leaves m k q ≡ (level_leaves l k q && slot_leaves at heard k q) → mask_leaves first last m k q ≡ (mask_leaves first last l k q && (not (is_between first last k) || slot_leaves at heard k q))
+mask_more first last l m at heard k q e = go (is_between first last k) where
+  go : (b : Bool) → (not b || level_leaves m k q) ≡ ((not b || level_leaves l k q) && (not b || slot_leaves at heard k q))
+  go true = e
+  go false = refl
+
+pub run_more : (r : Run) (s : Spot) (m : Level) (ns : List Name) → r.first ≡ s.first → r.last ≡ s.last → ((k q : ℕ) → level_leaves m k q ≡ (level_leaves r.level k q && slot_leaves s.at s.heard k q)) → keep_all (run_leaves (Some (record { first = r.first; last = r.last; level = m }))) ns ≡ keep_all (λ k q. run_leaves (Some r) k q && spot_leaves s k q) ns
+run_more r s m ns f l h =
+    keep_alike _ _ (λ k q.
+    mask_more r.first r.last r.level m s.at s.heard k q (h k q)
+    ∙ (ap (λ a. mask_leaves r.first r.last r.level k q && (not (is_between a r.last k) || slot_leaves s.at s.heard k q)) f
+    ∙ ap (λ b. mask_leaves r.first r.last r.level k q && (not (is_between s.first b k) || slot_leaves s.at s.heard k q)) l)) ns
+
+mask_of_one : (first last : ℕ) (m : Level) (at : ℕ) (heard : Option ℕ) (k q : ℕ) → level_leaves m k q ≡ slot_leaves at heard k q → mask_leaves first last m k q ≡ (not (is_between first last k) || slot_leaves at heard k q)
+mask_of_one first last m at heard k q e = ap (λ b. not (is_between first last k) || b) e
+
+pub run_first : (s : Spot) (m : Level) (ns : List Name) → ((k q : ℕ) → level_leaves m k q ≡ slot_leaves s.at s.heard k q) → keep_all (run_leaves (Some (record { first = s.first; last = s.last; level = m }))) ns ≡ keep_all (spot_leaves s) ns
+run_first s m ns h = keep_alike _ _ (λ k q. mask_of_one s.first s.last m s.at s.heard k q (h k q)) ns
+
+pub run_next : (r : Run) (s : Spot) (m : Level) (ns new : List Name) → new ≡ keep_all (mask_leaves r.first r.last r.level) ns → ((k q : ℕ) → level_leaves m k q ≡ slot_leaves s.at s.heard k q) → keep_all (run_leaves (Some (record { first = s.first; last = s.last; level = m }))) new ≡ keep_all (λ k q. run_leaves (Some r) k q && spot_leaves s k q) ns
+run_next r s m ns new is h = run_first s m new h ∙ (ap (keep_all (spot_leaves s)) is ∙ keep_twice (spot_leaves s) (mask_leaves r.first r.last r.level) ns)
+
+-- one slot more of all
+pub runs_more : (o : Option Run) (r : Run) (spots : List Spot) (i : ℕ) (s : Spot) (old ns new : List Name) → i < length spots → s ≡ get_or spots i s → keep_all (run_leaves o) ns ≡ keep_all (all_leave (take i spots)) old → keep_all (run_leaves (Some r)) new ≡ keep_all (λ k q. run_leaves o k q && spot_leaves s k q) ns → keep_all (run_leaves (Some r)) new ≡ keep_all (all_leave (take (i + 1) spots)) old
+runs_more o r spots i s old ns new below is before step =
+    step
+    ∙ (sym (keep_twice (spot_leaves s) (run_leaves o) ns)
+    ∙ (ap (keep_all (spot_leaves s)) before
+    ∙ (keep_twice (spot_leaves s) (all_leave (take i spots)) old
+    ∙ keep_alike _ _ (λ k q. ap (λ x. all_leave (take i spots) k q && spot_leaves x k q) is ∙ sym (list_all_more (λ t. spot_leaves t k q) spots i s below)) old)))
+
+-- ---- the names that are left
+
+or_false : (b : Bool) → (b || false) ≡ b
+or_false true = refl
+or_false false = refl
+
+left_skip : (ns : List Name) (k i : ℕ) → i < length ns → ((get_or ns i nobody).key ≡ k → ⊥) → has_left (take (i + 1) ns) k ≡ has_left (take i ns) k
+left_skip ns k i below other =
+    list_any_more (λ (n : Name). (n.key == k) && n.left) ns i nobody below
+    ∙ (ap (λ b. has_left (take i ns) k || (b && (get_or ns i nobody).left)) (ne_eqb _ _ other) ∙ or_false (has_left (take i ns) k))
+
+pub left_below : (ns : List Name) (k i : ℕ) → i ≤ length ns → ((j : ℕ) → j < i → (get_or ns j nobody).key < k) → has_left (take i ns) k ≡ false
+left_below ns k zero le h = refl
+left_below ns k (suc i) le h =
+    ap (λ n. has_left (take n ns) k) (sym (add-one i))
+    ∙ (left_skip ns k i (omega (arith, le)) (λ e. let lt = h i (omega arith) in absurd (omega (arith, e, lt)))
+    ∙ left_below ns k i (omega (arith, le)) (λ j lt. h j (omega (arith, lt))))
+
+pub left_above : (ns : List Name) (k i more : ℕ) → i + more ≡ length ns → ((j : ℕ) → i ≤ j → j < length ns → k < (get_or ns j nobody).key) → has_left (take i ns) k ≡ has_left ns k
+left_above ns k i zero e h = ap (λ ms. has_left ms k) (take_all i ns (omega (arith, e)))
+left_above ns k i (suc more) e h =
+    sym (left_skip ns k i (omega (arith, e)) (λ same. let lt = h i (omega arith) (omega (arith, e)) in absurd (omega (arith, same, lt))))
+    ∙ left_above ns k (i + 1) more (omega (arith, e)) (λ j le lt. h j (omega (arith, le)) lt)
+
+-- the list has the UIDs from a key on that are left by the first i names
+abbrev pub HasLeft : ℕ → List Name → List ℕ → ℕ → Type 0
+HasLeft first ns us i = (u : ℕ) → IsUid u → first ≤ mirror u → has us u ≡ has_left (take i ns) (mirror u)
+
+key_of_uid : (k u : ℕ) → IsUid u → k < 2 ^ 56 → (k == mirror u) ≡ (u == uid_of k)
+key_of_uid k u w small = same_test k (mirror u) u (uid_of k) (λ e. sym (uid_of_mirror u w) ∙ ap uid_of (sym e)) (λ e. sym (mirror_of_uid k small) ∙ ap mirror (sym e))
+
+and_yes : (a b : Bool) → b ≡ true → (a && b) ≡ a
+and_yes a true e = and_true a
+and_yes a false e = absurd (cc)
+
+and_no : (a b : Bool) → b ≡ false → (a && b) ≡ false
+and_no true b e = e
+and_no false b e = refl
+
+pub left_pushed : (first : ℕ) (ns : List Name) (us vs : List ℕ) (i v : ℕ) → HasLeft first ns us i → i < length ns → (get_or ns i nobody).left ≡ true → (get_or ns i nobody).key < 2 ^ 56 → v ≡ uid_of (get_or ns i nobody).key → vs ≡ us ++ v ∷ [] → HasLeft first ns vs (i + 1)
+left_pushed first ns us vs i v h below left small is all u w from =
+    ap (λ ws. has ws u) all
+    ∙ (list_any-append (λ x. u == x) us (v ∷ [])
+    ∙ (ap (λ b. b || ((u == v) || false)) (h u w from)
+    ∙ (ap (λ b. has_left (take i ns) (mirror u) || b) (or_false (u == v) ∙ (ap (λ x. u == x) is ∙ (sym (key_of_uid (get_or ns i nobody).key u w small) ∙ sym (and_yes _ _ left))))
+    ∙ sym (list_any_more (λ (n : Name). (n.key == mirror u) && n.left) ns i nobody below))))
+
+pub left_passed : (first : ℕ) (ns : List Name) (us : List ℕ) (i : ℕ) → HasLeft first ns us i → i < length ns → (get_or ns i nobody).left ≡ false → HasLeft first ns us (i + 1)
+left_passed first ns us i h below left u w from =
+    h u w from
+    ∙ sym (list_any_more (λ (n : Name). (n.key == mirror u) && n.left) ns i nobody below
+    ∙ (ap (λ b. has_left (take i ns) (mirror u) || b) (and_no _ _ left) ∙ or_false (has_left (take i ns) (mirror u))))
+
+pub between_parts : (first last k : ℕ) → is_between first last k ≡ true → (first ≤ k) × (k ≤ last)
+between_parts first last k e = let p = and_parts (nat_le first k) (nat_le k last) e in let a = p.0 in let b = p.1 in (grind (arith, nat_tests, a), grind (arith, nat_tests, b))
+
+pub left_found : (first last : ℕ) (ns : List Name) (us : List ℕ) (i : ℕ) → HasLeft first ns us i → i ≤ length ns → ((j : ℕ) → i ≤ j → j < length ns → last < (get_or ns j nobody).key) → (u : ℕ) → IsUid u → is_between first last (mirror u) ≡ true → has us u ≡ has_left ns (mirror u)
+left_found first last ns us i h le above u w e =
+    let p = between_parts first last (mirror u) e in
+    let to = p.1 in
+    h u w p.0 ∙ left_above ns (mirror u) i (length ns - i) (omega (arith, le)) (λ j from lt. let over = above j from lt in omega (arith, over, to))
+
+-- ---- masks settled
+
+-- a set has no UID between two keys that is not left by name
+abbrev pub IsSettledBetween : (ℕ → Bool) → List Name → ℕ → ℕ → Type 0
+IsSettledBetween set ns first last = (u : ℕ) → IsUid u → is_between first last (mirror u) ≡ true → has_left ns (mirror u) ≡ false → set u ≡ false
+
+-- a set after the first i slots
+abbrev pub IsCoveredTo : (ℕ → Bool) → (ℕ → Bool) → List Name → List Spot → ℕ → Type 0
+IsCoveredTo old now ns spots i = SameUids now (λ u. old u && all_cover ns (take i spots) (mirror u))
+
+pub covered_more : (old now next : ℕ → Bool) (ns : List Name) (spots : List Spot) (i : ℕ) (s : Spot) → i < length spots → s ≡ get_or spots i s → IsCoveredTo old now ns spots i → ((u : ℕ) → IsUid u → next u ≡ (now u && (not (is_in s (mirror u)) || has_left ns (mirror u)))) → IsCoveredTo old next ns spots (i + 1)
+covered_more old now next ns spots i s below is before step u w =
+    step u w
+    ∙ (ap (λ b. b && (not (is_in s (mirror u)) || has_left ns (mirror u))) (before u w)
+    ∙ (and_thrice (old u) (all_cover ns (take i spots) (mirror u)) (not (is_in s (mirror u)) || has_left ns (mirror u))
+    ∙ ap (λ b. old u && b) (ap (λ x. all_cover ns (take i spots) (mirror u) && (not (is_in x (mirror u)) || has_left ns (mirror u))) is ∙ sym (list_all_more (λ t. not (is_in t (mirror u)) || has_left ns (mirror u)) spots i s below))))
+
+-- a mask that is settled
+pub settled_step : (now next : ℕ → Bool) (ns : List Name) (s : Spot) (except : List ℕ) → ((u : ℕ) → lies_in s.mask u ≡ is_in s (mirror u)) → SameUids next (settled now s.mask except) → ((u : ℕ) → IsUid u → is_between s.first s.last (mirror u) ≡ true → has except u ≡ has_left ns (mirror u)) → (u : ℕ) → IsUid u → next u ≡ (now u && (not (is_in s (mirror u)) || has_left ns (mirror u)))
+settled_step now next ns s except mask done members u w =
+    done u w
+    ∙ (ap (λ b. now u && (not b || has except u)) (mask u)
+    ∙ ap (λ b. now u && b) (go (is_in s (mirror u)) refl))
+  where
+    go : (b : Bool) → is_in s (mirror u) ≡ b → (not b || has except u) ≡ (not b || has_left ns (mirror u))
+    go true e = members u w e
+    go false e = refl
+
+pub settled_there : (now next : ℕ → Bool) (ns : List Name) (s : Spot) → ((u : ℕ) → IsUid u → next u ≡ (now u && (not (is_in s (mirror u)) || has_left ns (mirror u)))) → IsSettledBetween next ns s.first s.last
+settled_there now next ns s step u w e none =
+    step u w ∙ (ap (λ b. now u && (not b || has_left ns (mirror u))) e ∙ (ap (λ b. now u && b) none ∙ and_no (now u) false refl))
+
+le_test : (x y : ℕ) → x ≤ y → nat_le x y ≡ true
+le_test x y e = grind (arith, nat_tests)
+
+-- a mask inside one that is settled
+pub inner_step : (now : ℕ → Bool) (ns : List Name) (s : Spot) (first last : ℕ) → IsSettledBetween now ns first last → first ≤ s.first → s.last ≤ last → (u : ℕ) → IsUid u → now u ≡ (now u && (not (is_in s (mirror u)) || has_left ns (mirror u)))
+inner_step now ns s first last h f l u w = go (is_in s (mirror u)) (has_left ns (mirror u)) refl refl where
+  go : (a b : Bool) → is_in s (mirror u) ≡ a → has_left ns (mirror u) ≡ b → now u ≡ (now u && (not a || b))
+  go false b e g = sym (and_true (now u))
+  go true true e g = sym (and_true (now u))
+  go true false e g =
+      let p = between_parts s.first s.last (mirror u) e in
+      let a = p.0 in
+      let b = p.1 in
+      let wide : is_between first last (mirror u) ≡ true = and_from _ _ (le_test first (mirror u) (omega (arith, a, f))) (le_test (mirror u) last (omega (arith, b, l))) in
+      h u w wide g ∙ sym (and_no (now u) false refl)
+
+-- ---- names and slots
+
+lt_test : (x y : ℕ) → nat_lt x y ≡ true → x < y
+lt_test x y e = grind (arith, nat_tests)
+
+lt_yes : (x y : ℕ) → x < y → nat_lt x y ≡ true
+lt_yes x y e = grind (arith, nat_tests)
+
+silenced_named : (ns : List Name) (k i : ℕ) → is_silenced ns k i ≡ true → is_named ns k ≡ true
+silenced_named [] k i e = e
+silenced_named (n ∷ ns) k i e =
+    ⊎_elim
+    (λ here. or_left _ _ (and_parts (n.key == k) (nat_lt n.quiet i) here).0)
+    (λ there. or_right (n.key == k) _ (silenced_named ns k i there))
+    (or_cases _ _ e)
+
+-- where the UID of a key falls silent first, by the names
+record Least (ns : List Name) (k : ℕ) : Type 0 where
+  quiet : ℕ
+  left : (p : ℕ → ℕ → Bool) → p k quiet ≡ true → are_left ns ≡ true → has_left (keep_all p ns) k ≡ true
+  first : (i : ℕ) → is_silenced ns k i ≡ true → quiet < i
+
+least_here : (n : Name) (ns : List Name) (k : ℕ) → (n.key == k) ≡ true → ((i : ℕ) → is_silenced ns k i ≡ true → n.quiet < i) → Least (n ∷ ns) k
+least_here n ns k here h = record {
+  quiet = n.quiet;
+  left = λ p e all.
+      let same = eqb-true n.key k here in
+      let l = and_parts n.left (are_left ns) all in
+      or_left _ _ (and_from _ _ here (and_from _ _ l.0 (subst (λ x. p x n.quiet ≡ true) (sym same) e)));
+  first = λ i e.
+      ⊎_elim
+      (λ now. let lt = (and_parts (n.key == k) (nat_lt n.quiet i) now).1 in lt_test n.quiet i lt)
+      (λ later. h i later)
+      (or_cases _ _ e);
+}
+
+least_there : (n : Name) (ns : List Name) (k : ℕ) → (t : Least ns k) → ((n.key == k) ≡ true → t.quiet ≤ n.quiet) → Least (n ∷ ns) k
+least_there n ns k t h = record {
+  quiet = t.quiet;
+  left = λ p e all. or_right _ _ (t.left p e (and_parts n.left (are_left ns) all).1);
+  first = λ i e.
+      ⊎_elim
+      (λ now. let a = and_parts (n.key == k) (nat_lt n.quiet i) now in let lt = lt_test n.quiet i a.1 in let le = h a.0 in omega (arith, lt, le))
+      (λ later. t.first i later)
+      (or_cases _ _ e);
+}
+
+least : (ns : List Name) (k : ℕ) → is_named ns k ≡ true → Least ns k
+least [] k e = absurd (false≢true e)
+least (n ∷ ns) k e = go (n.key == k) refl (is_named ns k) refl (least ns k) e where
+  go : (a : Bool) → (n.key == k) ≡ a → (b : Bool) → is_named ns k ≡ b → (is_named ns k ≡ true → Least ns k) → (a || b) ≡ true → Least (n ∷ ns) k
+  go true here false none ih _ = least_here n ns k here (λ i s. absurd (false≢true (sym none ∙ silenced_named ns k i s)))
+  go true here true more ih _ =
+      let t = ih more in
+      ⊎_elim
+      (λ lt. least_here n ns k here (λ i s. let f = t.first i s in omega (arith, lt, f)))
+      (λ ge. least_there n ns k t (λ _. ge))
+      (cases_lt n.quiet t.quiet)
+  go false other true more ih _ = least_there n ns k (ih more) (λ same. absurd (false≢true (sym other ∙ same)))
+  go false other false none ih h = absurd (false≢true h)
+
+-- a name that is left leaves the test true, and is silent where it fell silent before
+left_one : (p : ℕ → ℕ → Bool) (ns : List Name) (k : ℕ) → has_left (keep_all p ns) k ≡ true → (q : ℕ) × (p k q ≡ true) × ((i : ℕ) → nat_lt q i ≡ true → is_silenced ns k i ≡ true)
+left_one p [] k e = absurd (false≢true e)
+left_one p (n ∷ ns) k e =
+    ⊎_elim
+    (λ here.
+    let a = and_parts (n.key == k) (n.left && p n.key n.quiet) here in
+    let b = and_parts n.left (p n.key n.quiet) a.1 in
+    (n.quiet, subst (λ x. p x n.quiet ≡ true) (eqb-true n.key k a.0) b.1, λ i lt. or_left _ _ (and_from _ _ a.0 lt)))
+    (λ there. let r = left_one p ns k there in (r.0, r.1, λ i lt. or_right _ _ (r.2 i lt)))
+    (or_cases _ _ e)
+
+allow_from_leave : (ns : List Name) (s : Spot) (k q : ℕ) → (nat_lt q s.at ≡ true → is_silenced ns k s.at ≡ true) → spot_leaves s k q ≡ true → spot_allows ns s k ≡ true
+allow_from_leave ns s k q h e =
+    ⊎_elim
+    (λ out. or_left _ _ out)
+    (λ inner. ⊎_elim (λ lt. or_right _ _ (or_left _ _ (h lt))) (λ heard. or_right _ _ (or_right _ _ heard)) (or_cases (nat_lt q s.at) (is_heard s.heard k) inner))
+    (or_cases _ _ e)
+
+leave_from_allow : (ns : List Name) (s : Spot) (k q : ℕ) → (is_silenced ns k s.at ≡ true → nat_lt q s.at ≡ true) → spot_allows ns s k ≡ true → spot_leaves s k q ≡ true
+leave_from_allow ns s k q h e =
+    ⊎_elim
+    (λ out. or_left _ _ out)
+    (λ inner. ⊎_elim (λ quiet. or_right _ _ (or_left _ _ (h quiet))) (λ heard. or_right _ _ (or_right _ _ heard)) (or_cases (is_silenced ns k s.at) (is_heard s.heard k) inner))
+    (or_cases _ _ e)
+
+all_allow_from : (ns : List Name) (k q : ℕ) → ((i : ℕ) → nat_lt q i ≡ true → is_silenced ns k i ≡ true) → (ss : List Spot) → all_leave ss k q ≡ true → all_allow ns ss k ≡ true
+all_allow_from ns k q h [] e = refl
+all_allow_from ns k q h (s ∷ ss) e = let w = and_parts _ _ e in and_from _ _ (allow_from_leave ns s k q (h s.at) w.0) (all_allow_from ns k q h ss w.1)
+
+all_leave_from : (ns : List Name) (k q : ℕ) → ((i : ℕ) → is_silenced ns k i ≡ true → q < i) → (ss : List Spot) → all_allow ns ss k ≡ true → all_leave ss k q ≡ true
+all_leave_from ns k q h [] e = refl
+all_leave_from ns k q h (s ∷ ss) e = let w = and_parts _ _ e in and_from _ _ (leave_from_allow ns s k q (λ f. lt_yes q s.at (h s.at f)) w.0) (all_leave_from ns k q h ss w.1)
+
+-- in no slot
+abbrev all_outside : List Spot → ℕ → Bool → Bool
+all_outside ss k b = list_all (λ (s : Spot). not (is_in s k) || b) ss
+
+outside_yes : (ss : List Spot) (k : ℕ) → all_outside ss k true ≡ true
+outside_yes [] k = refl
+outside_yes (s ∷ ss) k = and_from _ _ (or_right _ _ refl) (outside_yes ss k)
+
+outside_allow : (ns : List Name) (ss : List Spot) (k : ℕ) → all_outside ss k false ≡ true → all_allow ns ss k ≡ true
+outside_allow ns [] k e = refl
+outside_allow ns (s ∷ ss) k e =
+    let w = and_parts _ _ e in
+    and_from _ _ (⊎_elim (λ out. or_left _ _ out) (λ no. absurd (false≢true no)) (or_cases _ _ w.0)) (outside_allow ns ss k w.1)
+
+-- the slot allows a key that is not named only where the key is not in it
+unnamed_outside : (ns : List Name) (s : Spot) (k : ℕ) → is_named ns k ≡ false → hears_named ns s ≡ true → spot_allows ns s k ≡ true → not (is_in s k) ≡ true
+unnamed_outside ns s k none h e =
+    ⊎_elim
+    (λ out. out)
+    (λ inner. ⊎_elim
+    (λ quiet. absurd (false≢true (sym none ∙ silenced_named ns k s.at quiet)))
+    (λ heard. absurd (false≢true (sym none ∙ go s.heard heard h)))
+    (or_cases (is_silenced ns k s.at) (is_heard s.heard k) inner))
+    (or_cases _ _ e)
+  where
+    go : (o : Option ℕ) → is_heard o k ≡ true → is_named_if ns o ≡ true → is_named ns k ≡ true
+    go None f g = absurd (false≢true f)
+    go (Some x) f g = subst (λ y. is_named ns y ≡ true) (eqb-true x k f) g
+
+all_unnamed : (ns : List Name) (k : ℕ) → is_named ns k ≡ false → (b : Bool) (ss : List Spot) → all_hear_named ns ss ≡ true → all_allow ns ss k ≡ true → all_outside ss k b ≡ true
+all_unnamed ns k none b [] h e = refl
+all_unnamed ns k none b (s ∷ ss) h e =
+    let v = and_parts _ _ h in
+    let w = and_parts _ _ e in
+    and_from _ _ (or_left _ _ (unnamed_outside ns s k none v.0 w.0)) (all_unnamed ns k none b ss v.1 w.1)
+
+same_test_of : (a b : Bool) → (a ≡ true → b ≡ true) → (b ≡ true → a ≡ true) → a ≡ b
+same_test_of true b f g = sym (f refl)
+same_test_of false true f g = g refl
+same_test_of false false f g = refl
+
+-- a key lies in no slot or is left by name exactly where all slots allow it
+pub covered_allowed : (ns : List Name) (ss : List Spot) (k : ℕ) → are_left ns ≡ true → all_hear_named ns ss ≡ true → all_cover (keep_all (all_leave ss) ns) ss k ≡ all_allow ns ss k
+covered_allowed ns ss k left named = same_test_of _ _ to from where
+  to : all_cover (keep_all (all_leave ss) ns) ss k ≡ true → all_allow ns ss k ≡ true
+  to e = go (has_left (keep_all (all_leave ss) ns) k) refl e where
+    go : (b : Bool) → has_left (keep_all (all_leave ss) ns) k ≡ b → all_outside ss k b ≡ true → all_allow ns ss k ≡ true
+    go true f g = let r = left_one (all_leave ss) ns k f in all_allow_from ns k r.0 r.2 ss r.1
+    go false f g = outside_allow ns ss k g
+
+  from : all_allow ns ss k ≡ true → all_cover (keep_all (all_leave ss) ns) ss k ≡ true
+  from e = go (is_named ns k) refl where
+    go : (b : Bool) → is_named ns k ≡ b → all_cover (keep_all (all_leave ss) ns) ss k ≡ true
+    go true f =
+        let t = least ns k f in
+        let l = t.left (all_leave ss) (all_leave_from ns k t.quiet t.first ss e) left in
+        ap (all_outside ss k) l ∙ outside_yes ss k
+    go false f = all_unnamed ns k f (has_left (keep_all (all_leave ss) ns) k) ss named e
+
+-- ---- sorted
+
+all_by_any : {X : Type 0} (p : X → Bool) (xs : List X) → list_all p xs ≡ not (list_any (λ x. not (p x)) xs)
+all_by_any p [] = refl
+all_by_any p (x ∷ xs) = go (p x) (all_by_any p xs) where
+  go : (b : Bool) → list_all p xs ≡ not (list_any (λ y. not (p y)) xs) → (b && list_all p xs) ≡ not (not b || list_any (λ y. not (p y)) xs)
+  go true e = e
+  go false e = refl
+
+all_permuted : {X : Type 0} (p : X → Bool) (xs ys : List X) → IsPermutation xs ys → list_all p xs ≡ list_all p ys
+all_permuted p xs ys m = all_by_any p xs ∙ (ap not (list_any-IsPermutation (λ x. not (p x)) xs ys m) ∙ sym (all_by_any p ys))
+
+all_alike : {X : Type 0} (p q : X → Bool) → ((x : X) → p x ≡ q x) → (xs : List X) → list_all p xs ≡ list_all q xs
+all_alike p q h [] = refl
+all_alike p q h (x ∷ xs) = ap (λ b. b && list_all p xs) (h x) ∙ ap (λ b. q x && b) (all_alike p q h xs)
+
+pub left_permuted : (ns ms : List Name) → IsPermutation ns ms → are_left ns ≡ true → are_left ms ≡ true
+left_permuted ns ms m e = sym (all_permuted (λ (n : Name). n.left) ns ms m) ∙ e
+
+pub named_permuted : (ns ms : List Name) (ss ts : List Spot) → IsPermutation ns ms → IsPermutation ss ts → all_hear_named ns ss ≡ true → all_hear_named ms ts ≡ true
+named_permuted ns ms ss ts m w e =
+    all_alike (hears_named ms) (hears_named ns) (λ (s : Spot). go s.heard) ts ∙ (sym (all_permuted (hears_named ns) ss ts w) ∙ e)
+  where
+    go : (o : Option ℕ) → is_named_if ms o ≡ is_named_if ns o
+    go None = refl
+    go (Some h) = sym (list_any-IsPermutation (λ (n : Name). n.key == h) ns ms m)
+
+pub allow_permuted : (ns ms : List Name) (ss ts : List Spot) (k : ℕ) → IsPermutation ns ms → IsPermutation ss ts → all_allow ms ts k ≡ all_allow ns ss k
+allow_permuted ns ms ss ts k m w =
+    all_alike (λ s. spot_allows ms s k) (λ s. spot_allows ns s k)
+    (λ (s : Spot). ap (λ b. not (is_in s k) || (b || is_heard s.heard k)) (sym (list_any-IsPermutation (λ (n : Name). (n.key == k) && nat_lt n.quiet s.at) ns ms m))) ts
+    ∙ sym (all_permuted (λ s. spot_allows ns s k) ss ts w)
+
+pub keep-keys : (p : ℕ → ℕ → Bool) (ns : List Name) → HaveKeys ns → HaveKeys (keep_all p ns)
+keep-keys p ns h k d below =
+    let short : k < length ns = subst (λ m. k < m) (keep-length p ns) below in
+    subst (λ (n : Name). n.key < 2 ^ 56) (sym (get_or-map (keep p) ns k d d short)) (h k d short)
+
+-- a slice that was borrowed from a list and written
+pub written : (n : ℕ) (xs ys : List Name) → n ≡ length xs → take n (xs ++ ys) ≡ xs
+written n xs ys e = ap (λ m. take m (xs ++ ys)) e ∙ take-append_seam xs ys

@@ -1,0 +1,36 @@
+use Rattle.std.proofs.Common.{◌≡◌, ◌==◌, ◌∙◌, refl, ap, sym, subst, Some, true}
+use Rattle.std.proofs.lemmas.Result.{on_ok_weaker}
+use Rattle.std.proofs.lemmas.Bool.{ne_eqb}
+use Rattle.vic_frame.specs.Uids.{IsUid}
+use Rattle.vic_frame.specs.LowBitsFirst.{mirror}
+use Rattle.vic_frame.specs.declared.request.Request.{Request}
+use Rattle.vic_frame.specs.declared.request.Request.TheVariants.{Inventory, StayQuiet}
+use Rattle.vic_log.specs.declared.entry.Entry.{Entry}
+use Rattle.vic_log.specs.declared.entry.Entry.TheVariants.{Sent}
+use Rattle.vic_verdict.proofs.Stretching.{stretch_passed, stretch_silenced, silenced_key}
+use Rattle.vic_verdict.proofs.stretches.note_sent.Goals as goal
+
+pub returns-in-Some : goal.returns-in-Some
+returns-in-Some c = on_ok_weaker c.push_name.result (λ done es set ss k h.
+    let link = c.in-StayQuiet.link in
+    let uid = c.in-StayQuiet.uid in
+    let e : Entry = Sent (StayQuiet link uid) in
+    let same : c.in-Some.tag ≡ uid = c.in-Some.ensures.1 in
+    stretch_silenced es c.args.index c.args.end set c.args.names.now.items c.push_name.new.names.items ss e (record { key = mirror c.in-Some.tag; quiet = c.args.index; left = true })
+    (k ∙ ap (λ (q : Request). Some (Sent q)) c.in-StayQuiet.is) c.requires refl
+    (λ u w. ap (λ v. v == u) (sym same) ∙ silenced_key c.in-Some.tag u done.2 w)
+    (λ b u. refl) done.1 refl refl done.0 h) c.push_name.ensures
+
+pub returns-in-None : goal.returns-in-None
+returns-in-None c es set ss k h =
+    let e : Entry = Sent (StayQuiet c.in-StayQuiet.link c.in-StayQuiet.uid) in
+    stretch_passed es c.args.index c.args.end set c.args.names.now.items ss e
+    (k ∙ ap (λ (q : Request). Some (Sent q)) c.in-StayQuiet.is) c.requires refl
+    (λ u w. ne_eqb c.in-StayQuiet.uid u (λ same. c.in-None.ensures (subst IsUid (sym same) w)))
+    (λ b u. refl) h
+
+pub returns-in-Inventory : goal.returns-in-Inventory
+returns-in-Inventory c es set ss k h =
+    let e : Entry = Sent (Inventory c.in-Inventory.link c.in-Inventory.sixteen c.in-Inventory.mask) in
+    stretch_passed es c.args.index c.args.end set c.args.names.now.items ss e
+    (k ∙ ap (λ (q : Request). Some (Sent q)) c.in-Inventory.is) c.requires refl (λ u w. refl) (λ b u. refl) h

@@ -1,0 +1,27 @@
+use Rattle.std.proofs.Common.{◌∙◌, ap, sym, Option}
+use Rattle.std.proofs.lemmas.List.{take_all}
+use Rattle.vic_verdict.specs.declared.sweep.Run.{Run}
+use Rattle.vic_verdict.specs.Sweep.{keep_all, run_leaves, all_leave}
+use Rattle.vic_verdict.proofs.Sweeping.{runs_more, keep_none}
+use Rattle.vic_verdict.proofs.sweep.rule_out_all.Goals as goal
+
+pub loop-spot-preserved : goal.loop-spot-preserved
+loop-spot-preserved c = record {
+  order = c.pass_spot.ensures.order;
+  level = c.pass_spot.ensures.level;
+  done = runs_more c.loop-spot.run c.pass_spot.result c.args.spots.now c.loop-spot.spot-index c.spot-item.result c.args.names.now c.loop-spot.names c.pass_spot.new.names c.loop-spot-test.true c.spot-item.is c.loop-spot.invariant.done c.pass_spot.ensures.leaves;
+}
+
+pub returns-in-Some : goal.returns-in-Some
+returns-in-Some c =
+    c.rule_out.ensures
+    ∙ (ap (λ (o : Option Run). keep_all (run_leaves o) c.loop-spot.names) (sym c.in-Some.is)
+    ∙ (c.loop-spot.invariant.done
+    ∙ ap (λ ss. keep_all (all_leave ss) c.args.names.now) (take_all c.loop-spot.spot-index c.args.spots.now c.loop-spot-test.false)))
+
+pub returns-in_default : goal.returns-in_default
+returns-in_default c =
+    sym (keep_none c.loop-spot.names)
+    ∙ (ap (λ (o : Option Run). keep_all (run_leaves o) c.loop-spot.names) (sym c.in_default.is)
+    ∙ (c.loop-spot.invariant.done
+    ∙ ap (λ ss. keep_all (all_leave ss) c.args.names.now) (take_all c.loop-spot.spot-index c.args.spots.now c.loop-spot-test.false)))

@@ -1,0 +1,11 @@
+use Rattle.std.proofs.Common.{◌≡◌, take}
+use Rattle.std.specs.Prelude.{IfSome}
+use Rattle.vic_verdict.specs.Sweep.{keep_all, run_leaves, all_leave, AreInOrder, IsLevel}
+use Rattle.vic_verdict.proofs.sweep.rule_out_all.Given as goal
+
+abbrev pub invariant-loop-spot : goal.invariant-loop-spot
+invariant-loop-spot l = record {
+  order : AreInOrder l.names;
+  level : IfSome l.run (λ r. IsLevel r.level);
+  done : keep_all (run_leaves l.run) l.names ≡ keep_all (all_leave (take l.spot-index l.spots)) l.fn.names;
+}

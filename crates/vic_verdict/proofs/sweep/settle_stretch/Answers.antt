@@ -1,0 +1,51 @@
+use Rattle.std.proofs.Common.{◌≡◌, ℕ, ◌∙◌, ◌&&◌, ◌<◌, ◌^◌, ◌++◌, ap, sym, subst, rules, length, take, List}
+use Rattle.std.specs.List.{All}
+use Rattle.std.proofs.lemmas.Result.{on_ok_weaker}
+use Rattle.std.proofs.lemmas.List.Sorted.{IsNonDecreasingBy-from_sort_by_key, All-permutation}
+use Rattle.vic_frame.specs.LowBitsFirst.{mirror}
+use Rattle.vic_verdict.specs.declared.sweep.Name.{Name}
+use Rattle.vic_verdict.specs.declared.sweep.Spot.{Spot}
+use Rattle.vic_verdict.specs.Sweep.{keep_all, all_leave, all_cover, AreInOrder, HaveKeys, HasMask}
+use Rattle.vic_verdict.proofs.Sweeping.{keep-length, keep-order, keep-keys, written, covered_allowed, left_permuted, named_permuted, allow_permuted}
+use Rattle.vic_verdict.proofs.sweep.settle_stretch.Goals as goal
+
+pub rule_out_all-requires : goal.rule_out_all-requires
+rule_out_all-requires g c =
+    subst AreInOrder (sym c.deref_mut.ensures.value) (IsNonDecreasingBy-from_sort_by_key (λ (n : Name). n.key) _ c.sort_unstable_by_key.ensures.sorted (λ a r q k. search rules))
+
+names_are : (n : ℕ) (ns now new sorted kept : List Name) (ss spots : List Spot) → now ≡ sorted → ss ≡ spots → new ≡ keep_all (all_leave ss) now → length now ≡ n → kept ≡ take n (new ++ ns) → kept ≡ keep_all (all_leave spots) sorted
+names_are n ns now new sorted kept ss spots a b d e f =
+    f ∙ (written n new ns (sym (ap length d ∙ (keep-length (all_leave ss) now ∙ e))) ∙ (d ∙ (ap (λ ts. keep_all (all_leave ts) now) b ∙ ap (keep_all (all_leave spots)) a)))
+
+pub settle_masks-requires-clause-order : goal.settle_masks-requires-clause-order
+settle_masks-requires-clause-order g c =
+    let up = IsNonDecreasingBy-from_sort_by_key (λ (n : Name). n.key) c.sort_unstable_by_key.new.self.items c.sort_unstable_by_key.ensures.sorted (λ a r q k. search rules) in
+    subst AreInOrder (sym (names_are _ _ c.deref_mut.result.now c.rule_out_all.new.names c.sort_unstable_by_key.new.self.items c.deref-2.result.now c.deref.result.now c.sort_unstable.new.self.items c.deref_mut.ensures.value c.deref.ensures.value c.rule_out_all.ensures c.deref_mut.ensures.len c.deref-2.ensures.value))
+    (keep-order (all_leave c.sort_unstable.new.self.items) c.sort_unstable_by_key.new.self.items up)
+
+pub settle_masks-requires-clause-keys : goal.settle_masks-requires-clause-keys
+settle_masks-requires-clause-keys g c =
+    subst HaveKeys (sym (names_are _ _ c.deref_mut.result.now c.rule_out_all.new.names c.sort_unstable_by_key.new.self.items c.deref-2.result.now c.deref.result.now c.sort_unstable.new.self.items c.deref_mut.ensures.value c.deref.ensures.value c.rule_out_all.ensures c.deref_mut.ensures.len c.deref-2.ensures.value))
+    (keep-keys (all_leave c.sort_unstable.new.self.items) c.sort_unstable_by_key.new.self.items (All-permutation (λ (n : Name). n.key < 2 ^ 56) _ _ c.sort_unstable_by_key.ensures.permutation c.requires.keys))
+
+pub settle_masks-requires-clause-masks : goal.settle_masks-requires-clause-masks
+settle_masks-requires-clause-masks g c =
+    subst (All HasMask) (sym c.deref-3.ensures.value) (All-permutation HasMask _ _ c.sort_unstable.ensures.permutation c.requires.masks)
+
+pub returns : goal.returns
+returns g c =
+    let names = c.sort_unstable_by_key.new.self.items in
+    let spots = c.sort_unstable.new.self.items in
+    let old = g.S.OpenSet.is_open c.args.set.now in
+    let are = names_are _ _ c.deref_mut.result.now c.rule_out_all.new.names names c.deref-2.result.now c.deref.result.now spots c.deref_mut.ensures.value c.deref.ensures.value c.rule_out_all.ensures c.deref_mut.ensures.len c.deref-2.ensures.value in
+    let left = left_permuted c.args.names.now.items names c.sort_unstable_by_key.ensures.permutation c.requires.left in
+    let named = named_permuted c.args.names.now.items names c.args.spots.now.items spots c.sort_unstable_by_key.ensures.permutation c.sort_unstable.ensures.permutation c.requires.named in
+    on_ok_weaker c.settle_masks.result
+    (λ done u w.
+    done u w
+    ∙ ap (λ b. old u && b) (
+    ap (λ ns. all_cover ns c.deref-3.result.now (mirror u)) are
+    ∙ (ap (λ ss. all_cover (keep_all (all_leave spots) names) ss (mirror u)) c.deref-3.ensures.value
+    ∙ (covered_allowed names spots (mirror u) left named
+    ∙ allow_permuted c.args.names.now.items names c.args.spots.now.items spots (mirror u) c.sort_unstable_by_key.ensures.permutation c.sort_unstable.ensures.permutation))))
+    c.settle_masks.ensures

@@ -1,0 +1,112 @@
+-- What the slots between two field cycles leave, said of keys: UIDs in the order of their low bits.
+use Rattle.std.specs.Prelude.{◌≡◌, ℕ, ◌==◌, ◌≤◌, ◌<◌, ◌^◌, Bool, true, false, not, ◌&&◌, ◌||◌, Option, Some, None, List, nat_le, nat_lt, map, if◌then◌else◌, IfSome}
+use Rattle.std.specs.List.Sorted.{IsNonDecreasingBy}
+use Rattle.std.specs.List.{list_all, list_any, All}
+use Rattle.vic_frame.specs.Masks.{lies_in}
+use Rattle.vic_frame.specs.LowBitsFirst.{mirror}
+use Rattle.vic_verdict.specs.declared.sweep.Name.{Name}
+use Rattle.vic_verdict.specs.declared.sweep.Spot.{Spot}
+use Rattle.vic_verdict.specs.declared.sweep.Level.{Level}
+use Rattle.vic_verdict.specs.declared.sweep.Run.{Run}
+
+-- the key was heard
+abbrev pub is_heard : Option ℕ → ℕ → Bool
+is_heard None k = false
+is_heard (Some h) k = h == k
+
+-- a slot at a place that heard this key or nobody leaves the key k, that is Quiet after place q
+abbrev pub slot_leaves : ℕ → Option ℕ → ℕ → ℕ → Bool
+slot_leaves at heard k q = nat_lt q at || is_heard heard k
+
+-- a place is before another, if there is one
+abbrev pub is_before : ℕ → Option ℕ → Bool
+is_before q None = true
+is_before q (Some at) = nat_lt q at
+
+-- the key lies between two
+abbrev pub is_between : ℕ → ℕ → ℕ → Bool
+is_between first last k = nat_le first k && nat_le k last
+
+abbrev pub is_in : Spot → ℕ → Bool
+is_in s k = is_between s.first s.last k
+
+-- the slot leaves the key
+abbrev pub spot_leaves : Spot → ℕ → ℕ → Bool
+spot_leaves s k q = not (is_in s k) || slot_leaves s.at s.heard k q
+
+-- all slots do
+abbrev pub all_leave : List Spot → ℕ → ℕ → Bool
+all_leave spots k q = list_all (λ s. spot_leaves s k q) spots
+
+-- what a level leaves of the keys in its mask
+abbrev pub level_leaves : Level → ℕ → ℕ → Bool
+level_leaves l k q = if is_heard l.heard k then is_before q l.other else nat_lt q l.line
+
+-- the first slot of a level is before all that heard another
+abbrev pub IsLevel : Level → Type 0
+IsLevel l = IfSome l.other (λ o. l.line ≤ o)
+
+-- what a mask leaves of all keys
+abbrev pub mask_leaves : ℕ → ℕ → Level → ℕ → ℕ → Bool
+mask_leaves first last l k q = not (is_between first last k) || level_leaves l k q
+
+abbrev pub run_leaves : Option Run → ℕ → ℕ → Bool
+run_leaves None k q = true
+run_leaves (Some r) k q = mask_leaves r.first r.last r.level k q
+
+-- names stay left where a test holds of key and place
+abbrev pub keep : (ℕ → ℕ → Bool) → Name → Name
+keep p n = record { key = n.key; quiet = n.quiet; left = n.left && p n.key n.quiet }
+
+abbrev pub keep_all : (ℕ → ℕ → Bool) → List Name → List Name
+keep_all p ns = map (keep p) ns
+
+-- a name with this key is left
+abbrev pub has_left : List Name → ℕ → Bool
+has_left ns k = list_any (λ n. (n.key == k) && n.left) ns
+
+-- a UID with this key is Quiet at place i, by the names
+abbrev pub is_silenced : List Name → ℕ → ℕ → Bool
+is_silenced ns k i = list_any (λ n. (n.key == k) && nat_lt n.quiet i) ns
+
+-- the slot allows the key, by the names
+abbrev pub spot_allows : List Name → Spot → ℕ → Bool
+spot_allows ns s k = not (is_in s k) || (is_silenced ns k s.at || is_heard s.heard k)
+
+abbrev pub all_allow : List Name → List Spot → ℕ → Bool
+all_allow ns spots k = list_all (λ s. spot_allows ns s k) spots
+
+-- the keys are those of the mask
+abbrev pub HasMask : Spot → Type 0
+HasMask s = (u : ℕ) → lies_in s.mask u ≡ is_in s (mirror u)
+
+-- the key is named
+abbrev pub is_named : List Name → ℕ → Bool
+is_named ns k = list_any (λ n. n.key == k) ns
+
+-- and so is whom a slot heard
+abbrev pub is_named_if : List Name → Option ℕ → Bool
+is_named_if ns None = true
+is_named_if ns (Some h) = is_named ns h
+
+abbrev pub hears_named : List Name → Spot → Bool
+hears_named ns s = is_named_if ns s.heard
+
+abbrev pub all_hear_named : List Name → List Spot → Bool
+all_hear_named ns spots = list_all (hears_named ns) spots
+
+-- all names are left
+abbrev pub are_left : List Name → Bool
+are_left ns = list_all (λ n. n.left) ns
+
+-- a UID with this key lies in no slot, or is left by name
+abbrev pub all_cover : List Name → List Spot → ℕ → Bool
+all_cover ns spots k = list_all (λ s. not (is_in s k) || has_left ns k) spots
+
+-- the names are in the order of their keys
+abbrev pub AreInOrder : List Name → Type 0
+AreInOrder ns = IsNonDecreasingBy (λ (n : Name). n.key) ns
+
+-- keys of UIDs
+abbrev pub HaveKeys : List Name → Type 0
+HaveKeys ns = All (λ (n : Name). n.key < 2 ^ 56) ns

@@ -1,0 +1,128 @@
+//! Which UIDs the silent and answered slots of a log leave open, from field cycle to field cycle.
+
+ghost use Rattle.std.specs.Prelude.{ℕ, ◌≡◌, ◌≢◌, ◌+◌, ◌<◌, ◌^◌, ◌++◌, ◌∷◌, [], true, Bool, List, Some, IfOk, OnOk, slice_get};
+ghost use Rattle.vic_tree.specs.OpenSet.{SameUids};
+ghost use Rattle.vic_log.specs.Slots.{slots_of, is_open};
+ghost use Rattle.vic_log.specs.Order.{IsInOrder, entries, AreValid};
+ghost use Rattle.vic_frame.specs.Uids.{IsUid};
+ghost use Rattle.vic_frame.specs.LowBitsFirst.{mirror};
+ghost use Rattle.vic_log.specs.declared.entry.Entry.{Entry as EntryValue};
+ghost use Rattle.vic_log.specs.declared.entry.Entry.TheVariants.{FieldCycle, Sent};
+ghost use Rattle.vic_verdict.specs.declared.sweep.Spot.{Spot as SpotValue};
+ghost use Rattle.vic_log.specs.Rounds.{mask_at};
+ghost use Rattle.vic_verdict.specs.Stretches.{AddsSpot, IsStretch};
+
+use crate::place::{Round, next_mask, pass_round};
+use crate::sweep::{Name, Spot, settle_stretch};
+use std::alloc::{AllocError, Global};
+use vic_frame::low_bits_first::{key, key_range};
+use vic_frame::{Mask, Request, Uid, without_top_byte};
+use vic_log::{Entry, LogLine};
+use vic_tree::OpenSet;
+
+/// Adds a slot, unless no UID lies in its mask.
+fn push_spot(
+    spots: &mut Vec<Spot>,
+    mask: &Option<Mask>,
+    at: usize,
+    heard: Option<u64>,
+) -> Result<(), AllocError>
+    ensures { OnOk result (AddsSpot mask.now at heard spots.old.items spots.new.items) }
+{
+    let Some(long) = mask else {
+        return Ok(());
+    };
+    let Some(mask) = without_top_byte(long) else {
+        return Ok(());
+    };
+    let (first, last) = key_range(&mask);
+    spots.push(Spot {
+        first,
+        mask,
+        last,
+        at,
+        heard,
+    })?;
+    Ok(())
+}
+
+/// Adds a UID with the place after which it is Quiet.
+fn push_name(names: &mut Vec<Name>, uid: Uid, quiet: usize) -> Result<(), AllocError>
+    ensures { OnOk result ((names.new.items ≡ names.old.items ++ record { key = mirror uid; quiet = quiet; left = true } ∷ []) × (mirror uid < 2 ^ 56) × IsUid uid) }
+{
+    names.push(Name {
+        key: key(uid),
+        quiet,
+        left: true,
+    })?;
+    Ok(())
+}
+
+/// Gathers what a request tells.
+fn note_sent(
+    names: &mut Vec<Name>,
+    request: &Request,
+    index: usize,
+    end: usize,
+) -> Result<(), AllocError>
+    requires { index < end }
+    ensures { OnOk result ((es : List EntryValue) (set : ℕ → Bool) (ss : List SpotValue) → slice_get es index ≡ Some (Sent request.now) → IsStretch es index end set names.old.items ss → IsStretch es (index + 1) end set names.new.items ss) }
+{
+    match *request {
+        Request::StayQuiet { uid, .. } => match Uid::new(uid) {
+            Some(tag) => push_name(names, tag, index),
+            None => Ok(()),
+        },
+        Request::Inventory { .. } => Ok(()),
+    }
+}
+
+/// Gathers what an entry tells that isn't a field cycle.
+fn note_entry(
+    names: &mut Vec<Name>,
+    spots: &mut Vec<Spot>,
+    mask: &Option<Mask>,
+    index: usize,
+    end: usize,
+    entry: &Entry,
+) -> Result<(), AllocError>
+    requires { index < end }
+    ensures { OnOk result ((es : List EntryValue) (set : ℕ → Bool) → slice_get es index ≡ Some entry.now → mask.now ≡ mask_at es index → entry.now ≢ FieldCycle → IsStretch es index end set names.old.items spots.old.items → IsStretch es (index + 1) end set names.new.items spots.new.items) }
+{
+    match *entry {
+        Entry::Sent(request) => note_sent(names, &request, index, end),
+        Entry::Silent => push_spot(spots, mask, index, None),
+        Entry::Heard(response) => {
+            let uid = response.uid();
+            push_name(names, uid, end)?;
+            push_spot(spots, mask, index, Some(key(uid)))
+        }
+        _ => Ok(()),
+    }
+}
+
+/// The UIDs that the silent and answered slots of a log leave open.
+pub fn settle_all<S: OpenSet>(alloc: Global, lines: &[LogLine]) -> Result<S, AllocError>
+    requires order { IsInOrder (entries lines.now) }
+    requires valid { AreValid (entries lines.now) }
+    ensures { IfOk result (λ s. SameUids (S.is_open s) (is_open (slots_of (entries lines.now)))) }
+{
+    let mut set = S::everything(alloc)?;
+    let mut names = Vec::new(alloc);
+    let mut spots = Vec::new(alloc);
+    let mut round: Option<Round> = None;
+    for (index, line) in lines.iter().enumerate() {
+        let entry = line.item;
+        if let Entry::FieldCycle = entry {
+            settle_stretch(alloc, &mut set, &mut names, &mut spots)?;
+            names.clear();
+            spots.clear();
+        } else {
+            let mask = next_mask(&round);
+            note_entry(&mut names, &mut spots, &mask, index, lines.len(), &entry)?;
+        }
+        round = pass_round(&round, &entry);
+    }
+    settle_stretch(alloc, &mut set, &mut names, &mut spots)?;
+    Ok(set)
+}

@@ -1,0 +1,258 @@
+//! What the slots between two field cycles leave open, mask by mask.
+//!
+//! The UIDs that these lines name are kept in the order of their low bits, where those of a mask
+//! stand together. Each mask is looked at once, whatever number of slots it had: for each name in
+//! it, and no other UID. A UID without a name is ruled out where it lies in any of the masks.
+
+ghost use Rattle.std.specs.Prelude.{◌≡◌, ℕ, ◌&&◌, true};
+ghost use Rattle.std.specs.Prelude.{Some, IfSome, IfOk, OnOk};
+ghost use Rattle.std.specs.List.{All};
+ghost use Rattle.std.specs.List.Sorted.{IsStrictlyIncreasing};
+ghost use Rattle.vic_frame.specs.Uids.{IsUid, has};
+ghost use Rattle.vic_frame.specs.LowBitsFirst.{mirror};
+ghost use Rattle.vic_tree.specs.OpenSet.{SameUids};
+ghost use Rattle.vic_verdict.specs.Sweep.{slot_leaves, spot_leaves, all_leave, level_leaves, mask_leaves, run_leaves, IsLevel, keep_all, has_left, all_cover, all_allow, are_left, all_hear_named, HasMask, AreInOrder, HaveKeys, is_between};
+
+use crate::rising::put_in_order;
+use std::alloc::{AllocError, Global};
+use vic_frame::low_bits_first::uid_at;
+use vic_frame::{Mask, Uid};
+use vic_tree::OpenSet;
+
+/// A UID that is silenced or heard: its key, and the place after which it is Quiet; that of the end
+/// of the log where it is heard alone. And whether the slots looked at so far leave it open.
+#[derive(Clone, Copy, PartialEq, Eq, PartialOrd, Ord)]
+pub struct Name {
+    pub key: u64,
+    pub quiet: usize,
+    pub left: bool,
+}
+
+/// A silent or an answered slot: the first and the last key of its mask, its place, and the key
+/// that was heard. In order, outer masks come before inner ones.
+#[derive(Clone, Copy, PartialEq, Eq, PartialOrd, Ord)]
+pub struct Spot {
+    pub first: u64,
+    pub mask: Mask,
+    pub last: u64,
+    pub at: usize,
+    pub heard: Option<u64>,
+}
+
+/// The slots of one mask: the place of the first one, whom it heard, and the place of the first one
+/// that heard another, or nobody in place of somebody.
+#[derive(Clone, Copy)]
+pub struct Level {
+    pub line: usize,
+    pub heard: Option<u64>,
+    pub other: Option<usize>,
+}
+
+impl Level {
+    /// One slot.
+    pub fn of(at: usize, heard: Option<u64>) -> Level
+        ensures level { IsLevel result }
+        ensures leaves { (k q : ℕ) → level_leaves result k q ≡ slot_leaves at heard k q }
+    {
+        Level {
+            line: at,
+            heard,
+            other: None,
+        }
+    }
+
+    /// With one slot more.
+    pub fn with(&self, at: usize, heard: Option<u64>) -> Level
+        requires { IsLevel self.now }
+        ensures level { IsLevel result }
+        ensures leaves { (k q : ℕ) → level_leaves result k q ≡ (level_leaves self.now k q && slot_leaves at heard k q) }
+    {
+        if heard == self.heard {
+            Level {
+                line: self.line.min(at),
+                heard,
+                other: self.other,
+            }
+        } else if at < self.line {
+            Level {
+                line: at,
+                heard,
+                other: Some(self.line),
+            }
+        } else {
+            let other = match self.other {
+                Some(other) => other.min(at),
+                None => at,
+            };
+            Level {
+                line: self.line,
+                heard: self.heard,
+                other: Some(other),
+            }
+        }
+    }
+
+    /// Whether a key that is Quiet after a place is left.
+    pub fn leaves(&self, key: u64, quiet: usize) -> bool
+        ensures { result ≡ level_leaves self.now key quiet }
+    {
+        if self.heard == Some(key) {
+            match self.other {
+                Some(other) => quiet < other,
+                None => true,
+            }
+        } else {
+            quiet < self.line
+        }
+    }
+}
+
+/// Slots of one mask, one after another.
+#[derive(Clone, Copy)]
+pub struct Run {
+    pub first: u64,
+    pub last: u64,
+    pub level: Level,
+}
+
+/// Rules out the names from key `first` to `last` that a level doesn't leave.
+fn rule_out(names: &mut [Name], first: u64, last: u64, level: &Level)
+    requires { AreInOrder names.old }
+    ensures { names.new ≡ keep_all (mask_leaves first last level.now) names.old }
+{
+    let start = names.partition_point(|name| name.key < first);
+    for i in start..names.len() {
+        let name = names[i];
+        if last < name.key {
+            return;
+        }
+        names[i].left = name.left && level.leaves(name.key, name.quiet);
+    }
+}
+
+/// Goes on to a slot: with the slots of its mask before it, or from the mask before it, once that
+/// has ruled out its names.
+fn pass_spot(names: &mut [Name], run: Option<Run>, spot: &Spot) -> Run
+    requires order { AreInOrder names.old }
+    requires level { IfSome run (λ r. IsLevel r.level) }
+    ensures order { AreInOrder names.new }
+    ensures level { IsLevel result.level }
+    ensures leaves { keep_all (run_leaves (Some result)) names.new ≡ keep_all (λ k q. run_leaves run k q && spot_leaves spot.now k q) names.old }
+{
+    if let Some(r) = run {
+        if r.first == spot.first && r.last == spot.last {
+            return Run {
+                first: r.first,
+                last: r.last,
+                level: r.level.with(spot.at, spot.heard),
+            };
+        }
+        rule_out(names, r.first, r.last, &r.level);
+    }
+    Run {
+        first: spot.first,
+        last: spot.last,
+        level: Level::of(spot.at, spot.heard),
+    }
+}
+
+/// Rules out the names that some slot doesn't leave.
+fn rule_out_all(names: &mut [Name], spots: &[Spot])
+    requires { AreInOrder names.old }
+    ensures { names.new ≡ keep_all (all_leave spots.now) names.old }
+{
+    let mut run: Option<Run> = None;
+    for spot in spots {
+        run = Some(pass_spot(names, run, spot));
+    }
+    if let Some(r) = run {
+        rule_out(names, r.first, r.last, &r.level);
+    }
+}
+
+/// The UIDs that are left by name from key `first` to `last`.
+fn left_in_order(
+    alloc: Global,
+    names: &[Name],
+    first: u64,
+    last: u64,
+) -> Result<Vec<Uid>, AllocError>
+    requires order { AreInOrder names.now }
+    requires keys { HaveKeys names.now }
+    ensures { IfOk result (λ uids. (u : ℕ) → IsUid u → is_between first last (mirror u) ≡ true → has uids.items u ≡ has_left names.now (mirror u)) }
+{
+    let mut uids = Vec::new(alloc);
+    let start = names.partition_point(|name| name.key < first);
+    for i in start..names.len() {
+        let name = names[i];
+        if last < name.key {
+            return Ok(uids);
+        }
+        if name.left {
+            uids.push(uid_at(name.key))?;
+        }
+    }
+    Ok(uids)
+}
+
+/// The same, from the least to the greatest.
+fn left_between(
+    alloc: Global,
+    names: &[Name],
+    first: u64,
+    last: u64,
+) -> Result<Vec<Uid>, AllocError>
+    requires order { AreInOrder names.now }
+    requires keys { HaveKeys names.now }
+    ensures rising { IfOk result (λ uids. IsStrictlyIncreasing uids.items) }
+    ensures members { IfOk result (λ uids. (u : ℕ) → IsUid u → is_between first last (mirror u) ≡ true → has uids.items u ≡ has_left names.now (mirror u)) }
+{
+    let mut uids = left_in_order(alloc, names, first, last)?;
+    put_in_order(&mut uids);
+    Ok(uids)
+}
+
+/// Settles the masks of slots, except the names that are left in them. A mask inside the last one
+/// settled has no UID that isn't settled.
+fn settle_masks<S: OpenSet>(
+    alloc: Global,
+    set: &mut S,
+    names: &[Name],
+    spots: &[Spot],
+) -> Result<(), AllocError>
+    requires order { AreInOrder names.now }
+    requires keys { HaveKeys names.now }
+    requires masks { All HasMask spots.now }
+    ensures { OnOk result (SameUids (S.is_open set.new) (λ u. S.is_open set.old u && all_cover names.now spots.now (mirror u))) }
+{
+    let mut first = 1;
+    let mut last = 0;
+    for spot in spots {
+        if spot.first < first || last < spot.last {
+            let left = left_between(alloc, names, spot.first, spot.last)?;
+            set.settle(&spot.mask, &left)?;
+            first = spot.first;
+            last = spot.last;
+        }
+    }
+    Ok(())
+}
+
+/// Settles what the silent and answered slots of some lines tell, by the UIDs that these lines name.
+pub fn settle_stretch<S: OpenSet>(
+    alloc: Global,
+    set: &mut S,
+    names: &mut Vec<Name>,
+    spots: &mut Vec<Spot>,
+) -> Result<(), AllocError>
+    requires keys { HaveKeys names.old.items }
+    requires left { are_left names.old.items ≡ true }
+    requires masks { All HasMask spots.old.items }
+    requires named { all_hear_named names.old.items spots.old.items ≡ true }
+    ensures { OnOk result (SameUids (S.is_open set.new) (λ u. S.is_open set.old u && all_allow names.old.items spots.old.items (mirror u))) }
+{
+    names.sort_unstable_by_key(|name| name.key);
+    spots.sort_unstable();
+    rule_out_all(names, spots);
+    settle_masks(alloc, set, names, spots)
+}
