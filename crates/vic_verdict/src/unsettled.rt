@@ -6,12 +6,10 @@ ghost use Rattle.vic_tree.specs.OpenSet.{SameUids};
 ghost use Rattle.vic_log.specs.declared.entry.Entry.{Entry as EntryValue};
 ghost use Rattle.vic_log.specs.Slots.{is_open};
 ghost use Rattle.vic_log.specs.Order.{IsInOrder, entries, AreValid};
-ghost use Rattle.vic_verdict.specs.Repeats.{AreRepeats};
 ghost use Rattle.vic_verdict.specs.Rising.{without_all};
 ghost use Rattle.vic_verdict.specs.Unsettled.{AreOpenAndListed, without_like};
 ghost use Rattle.vic_verdict.specs.Verdict.{IsUnsettled, IsFirstMask, NoSuch};
 
-use crate::repeats::Repeats;
 use crate::stretches::settle_all;
 use std::alloc::{AllocError, Global};
 use vic_frame::{Mask, Uid};
@@ -27,12 +25,10 @@ pub fn first_unsettled<S: OpenSet>(
     alloc: Global,
     set: S,
     lines: &[LogLine],
-    repeats: &Repeats,
     uids: &[Uid],
 ) -> Result<Option<Mask>, AllocError>
     requires order { IsInOrder (entries lines.now) }
     requires valid { AreValid (entries lines.now) }
-    requires repeats { AreRepeats (entries lines.now) repeats.now }
     requires given { AreOpenAndListed (entries lines.now) (S.is_open set) uids.now }
     ensures { IfOk result (λ m. MatchOption m (NoSuch (IsUnsettled (entries lines.now))) (IsFirstMask (IsUnsettled (entries lines.now)))) }
 {
