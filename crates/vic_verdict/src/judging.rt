@@ -46,7 +46,7 @@ fn judge_possible<S: OpenSet>(
     if let Some(uid) = least_failing(&certain, |u| is_among(&listed, u)) {
         return Ok(Verdict::Unlisted(uid));
     }
-    if let Some(mask) = first_unsettled(alloc, set, lines, &listed)? {
+    if let Some(mask) = first_unsettled(alloc, set, &listed)? {
         return Ok(Verdict::Unsettled(mask));
     }
     if let Some(uid) = least_failing(&listed, |u| is_among(&certain, u)) {
