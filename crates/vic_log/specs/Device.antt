@@ -27,6 +27,12 @@ HandsOut None new bytes = ⊤
 HandsOut (Some xs) None bytes = ⊤
 HandsOut (Some xs) (Some ys) bytes = xs ≡ bytes ++ ys
 
+-- a source that told its bytes tells them still
+abbrev pub TellsOn : Option (List ℕ) → Option (List ℕ) → Type 0
+TellsOn None new = ⊤
+TellsOn (Some xs) None = ⊥
+TellsOn (Some xs) (Some ys) = ⊤
+
 -- reading stopped at the end or at the limit
 abbrev pub Stops : Option (List ℕ) → List ℕ → ℕ → Type 0
 Stops new bs limit = IsAtEnd new ⊎ (length bs ≡ limit)
