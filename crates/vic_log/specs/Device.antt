@@ -17,11 +17,7 @@ SourceStep old new r buf =
     (λ n. Consumes old new (take n buf) × (n ≡ 0 → 0 < length buf → IsAtEnd new))
     (λ _. KeepsOrHides old new)
 
--- the bytes handed out are those told before without those told after
-abbrev pub GivesBytes : Option (List ℕ) → Option (List ℕ) → List ℕ → Type 0
-GivesBytes old new bs = Consumes old new bs
-
--- the same, where the source tells its bytes before and after
+-- the bytes handed out are those told before without those told after, where the source tells both
 abbrev pub HandsOut : Option (List ℕ) → Option (List ℕ) → List ℕ → Type 0
 HandsOut None new bytes = ⊤
 HandsOut (Some xs) None bytes = ⊤
