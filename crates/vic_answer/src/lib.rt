@@ -11,7 +11,7 @@ mod simulate;
 mod status;
 mod text;
 
-pub use check::run_check;
+pub use check::{Answer, answer_line, answer_status, judge_text, run_check};
 pub use frame::run_frame;
 pub use simulate::run_simulate;
 pub use status::{RunFault, Status, fault_text};
