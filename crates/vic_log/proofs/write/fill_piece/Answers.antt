@@ -3,7 +3,7 @@ use Rattle.vic_log.specs.declared.entry.LogLine.{LogLine}
 use Rattle.vic_log.specs.Log.{IsValidEntry}
 use Rattle.vic_log.specs.Order.{AreValid, entries}
 use Rattle.vic_log.proofs.Spelled.{valid_at}
-use Rattle.vic_log.proofs.write.fill.Goals as goal
+use Rattle.vic_log.proofs.write.fill_piece.Goals as goal
 
 valid_line : (lines : List LogLine) (i : ℕ) (other : LogLine) → AreValid (entries lines) → i < length lines → IsValidEntry (slice_index_or lines i other).item
 valid_line [] i other v h = absurd (omega arith)

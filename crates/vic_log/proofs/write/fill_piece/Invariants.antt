@@ -1,6 +1,6 @@
 use Rattle.std.proofs.Common.{length, ◌-◌, ◌≡◌, ◌≤◌, ◌++◌, drop}
 use Rattle.vic_log.specs.Writing.{lines_text}
-use Rattle.vic_log.proofs.write.fill.Given as goal
+use Rattle.vic_log.proofs.write.fill_piece.Given as goal
 
 abbrev pub invariant-loop-next : goal.invariant-loop-next
 invariant-loop-next l = record {
