@@ -1,43 +1,46 @@
 //! A field of the tags that lines list.
 
-ghost use Rattle.std.specs.Prelude.{◌≡◌, ◌++◌, ◌∷◌, [], IfOk, OnOk};
+ghost use Rattle.std.specs.Prelude.{◌<◌, ◌^◌, ◌++◌, ◌∷◌, [], IfOk, OnOk, List, ℕ};
+ghost use Rattle.std.specs.List.{All};
+ghost use Rattle.vic_field.specs.Keys.{AreKeysOf, uids_at};
 ghost use Rattle.vic_field.specs.Tags.{HasAdded};
 ghost use Rattle.vic_frame.specs.Uids.{has};
 ghost use Rattle.vic_log.specs.Order.{entries, listed};
 
 use crate::field::Field;
 use std::alloc::{AllocError, Global};
-use vic_frame::{Uid, low_bits_first};
+use vic_frame::low_bits_first;
 use vic_log::{Entry, LogLine};
 
 /// A field of the tags that are listed, all Ready.
 ///
-/// They are put in by the order of their keys, which keeps the tags of a mask together in memory.
+/// They are put in by the order of their keys, so that those of a mask stand together in memory.
 pub(crate) fn populate(alloc: Global, lines: &[LogLine]) -> Result<Field, AllocError>
     ensures { IfOk result (HasAdded (has (listed (entries lines.now))) []) }
 {
-    let mut uids = listed_uids(alloc, lines)?;
-    uids.sort_unstable_by_key(|uid| low_bits_first::key(*uid));
-    field_of(alloc, &uids)
+    let mut keys = listed_keys(alloc, lines)?;
+    keys.sort_unstable();
+    field_of(alloc, &keys)
 }
 
-/// The UIDs that are listed.
-fn listed_uids(alloc: Global, lines: &[LogLine]) -> Result<Vec<Uid>, AllocError>
-    ensures { IfOk result (λ uids. uids.items ≡ listed (entries lines.now)) }
+/// The keys of the UIDs that are listed.
+fn listed_keys(alloc: Global, lines: &[LogLine]) -> Result<Vec<u64>, AllocError>
+    ensures { IfOk result (λ keys. AreKeysOf (listed (entries lines.now)) keys.items) }
 {
-    let mut uids = Vec::new(alloc);
+    let mut keys = Vec::new(alloc);
     for line in lines {
-        push_listed(&mut uids, &line.item)?;
+        push_listed(&mut keys, &line.item)?;
     }
-    Ok(uids)
+    Ok(keys)
 }
 
-/// Adds the UID that an entry lists, if it lists one.
-fn push_listed(uids: &mut Vec<Uid>, item: &Entry) -> Result<(), AllocError>
-    ensures { OnOk result (uids.new.items ≡ uids.old.items ++ listed (item.now ∷ [])) }
+/// Adds the key of the UID that an entry lists, if it lists one.
+fn push_listed(keys: &mut Vec<u64>, item: &Entry) -> Result<(), AllocError>
+    ensures { OnOk result ((us : List ℕ) → AreKeysOf us keys.old.items
+        → AreKeysOf (us ++ listed (item.now ∷ [])) keys.new.items) }
 {
     match *item {
-        Entry::Listed(uid) => uids.push(uid)?,
+        Entry::Listed(uid) => keys.push(low_bits_first::key(uid))?,
         Entry::Sent(_)
         | Entry::Silent
         | Entry::Collision
@@ -48,13 +51,14 @@ fn push_listed(uids: &mut Vec<Uid>, item: &Entry) -> Result<(), AllocError>
     Ok(())
 }
 
-/// A field of tags with these UIDs, all Ready.
-fn field_of(alloc: Global, uids: &[Uid]) -> Result<Field, AllocError>
-    ensures { IfOk result (HasAdded (has uids.now) []) }
+/// A field of the tags with these keys, all Ready.
+fn field_of(alloc: Global, keys: &[u64]) -> Result<Field, AllocError>
+    requires { All (λ k. k < 2 ^ 56) keys.now }
+    ensures { IfOk result (HasAdded (has (uids_at keys.now)) []) }
 {
     let mut field = Field::new(alloc);
-    for uid in uids {
-        field.put(*uid)?;
+    for key in keys {
+        field.put(low_bits_first::uid_at(*key))?;
     }
     Ok(field)
 }

@@ -1,6 +1,0 @@
-use Rattle.std.proofs.Common.{◌≡◌, take}
-use Rattle.vic_log.specs.Order.{entries, listed}
-use Rattle.vic_field.proofs.populate.listed_uids.Given as goal
-
-abbrev pub invariant-loop-line : goal.invariant-loop-line
-invariant-loop-line l = l.uids.items ≡ listed (entries (take l.line-index l.lines))
