@@ -1,6 +1,5 @@
 -- What the search for an unsettled mask goes by.
-use Rattle.std.specs.Prelude.{◌≡◌, ℕ, ◌^◌, ◌%◌, ◌==◌, Bool, true, not, ◌&&◌, List}
-use Rattle.std.specs.List.{list_any}
+use Rattle.std.specs.Prelude.{◌≡◌, ℕ, Bool, true, List}
 use Rattle.vic_frame.specs.Uids.{IsUid, has}
 use Rattle.vic_tree.specs.OpenSet.{SameUids}
 use Rattle.vic_log.specs.declared.entry.Entry.{Entry}
@@ -15,7 +14,3 @@ pub record AreOpenAndListed (es : List Entry) (set : ℕ → Bool) (us : List �
   pub uids_open : SameUids set (is_open (slots_of es))
   pub uids_listed : SameMembers us (listed es)
   pub are_uids : (u : ℕ) → has us u ≡ true → IsUid u
-
--- a set without the UIDs that agree with one of a list in so many low bits
-abbrev pub without_like : (ℕ → Bool) → ℕ → List ℕ → ℕ → Bool
-without_like set bits us u = set u && not (list_any (λ v. u % 2 ^ bits == v % 2 ^ bits) us)

@@ -7,7 +7,7 @@ use Rattle.vic_log.specs.Order.{entries}
 use Rattle.vic_log.specs.Rounds.{slots_opened}
 use Rattle.vic_field.specs.Steps.{slot_lines_to, slot_lines, with_entries}
 use Rattle.vic_field.proofs.Numbering.{entries-with, last_from-with, with-append, stops_more}
-use Rattle.vic_field.proofs.session.play.Goals as goal
+use Rattle.vic_field.proofs.session.play_entry.Goals as goal
 
 pub push_slots-requires-clause-sent : goal.push_slots-requires-clause-sent
 push_slots-requires-clause-sent c = (

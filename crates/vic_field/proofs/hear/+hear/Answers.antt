@@ -3,8 +3,8 @@ use Rattle.vic_field.specs.Keys.{ready_between}
 use Rattle.vic_field.specs.Tags.{heard}
 use Rattle.vic_field.specs.Trees.{members, entries, notes_ready, IsWithin}
 use Rattle.vic_field.proofs.TreeLaws.{heard_nothing, heard_both, none_noted, none_outside, zero_passed, one_passed}
-use Rattle.vic_field.proofs.tree.+hear.Goals.{then-first-deref, else-first-deref, then-not-deref-via-then-not-deref, then-not-deref-via-else-not-deref+then-last-deref, then-not-deref-via-else-not-deref+else-last-deref+then-deref-first}
-use Rattle.vic_field.proofs.tree.+hear.Goals as goal
+use Rattle.vic_field.proofs.hear.+hear.Goals.{then-first-deref, else-first-deref, then-not-deref-via-then-not-deref, then-not-deref-via-else-not-deref+then-last-deref, then-not-deref-via-else-not-deref+else-last-deref+then-deref-first}
+use Rattle.vic_field.proofs.hear.+hear.Goals as goal
 
 pub returns-then-last-deref-2 : goal.returns-then-last-deref-2
 returns-then-last-deref-2 t c =
