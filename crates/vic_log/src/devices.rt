@@ -1,4 +1,5 @@
-//! Readers and writers for tests: in pieces, failing at a call, or without end.
+//! Readers and writers for tests, those of the crates above too: in pieces, failing at a call, or
+//! without end. No program needs them.
 
 ghost use Rattle.std.specs.Prelude.{◌≡◌, ◌-◌, ◌<◌, true, false, Some, None};
 
@@ -117,7 +118,8 @@ pub struct OneByOne {
 }
 
 impl OneByOne {
-    /// A sink that has taken these bytes. Its writes are numbered from 1; with a `fail_at` of 0 none fails.
+    /// A sink that has taken these bytes. Its writes are numbered from 1; with a `fail_at` of 0 none
+    /// fails.
     pub fn new(taken: Vec<u8>, fail_at: u64, fails_flush: bool) -> OneByOne
         ensures taken { ⟦<OneByOne as Sink>⟧.taken result ≡ Some taken.items }
         ensures works { ⟦<OneByOne as Sink>⟧.has_failed result ≡ false }

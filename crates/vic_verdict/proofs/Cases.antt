@@ -1,9 +1,11 @@
 -- The cases 2 to 6 of the verdict, by the open, the certain and the listed UIDs.
-use Rattle.std.proofs.Common.{◌≡◌, ℕ, ◌≤◌, List, Bool, true, false, not, Option, Some, None, sym, ◌∙◌, subst, arith}
-use Rattle.std.specs.Prelude.{◌↔◌, IfSome, IfNone, MatchOption}
+use Rattle.std.proofs.lemmas.List.Folds.{list_any-append, list_any_more}
+use Rattle.std.proofs.Common.{◌≡◌, ℕ, ◌+◌, ◌<◌, ◌≤◌, ◌==◌, take, get_or, length, List, Bool, true, false, not, Option, Some, None, sym, ◌∙◌, subst, arith, ◌||◌, ◌++◌, ◌∷◌, [], ap, refl}
+use Rattle.std.specs.Prelude.{◌↔◌, IfSome, IfNone, MatchOption, nat_eq}
 use Rattle.std.proofs.lemmas.Bool.{both_ways, and_parts, and_from, not-true, not_from_false, false_from_ne_true}
 use Rattle.vic_frame.specs.Uids.{IsUid, has}
 use Rattle.vic_frame.specs.Masks.{BitMask, IsMask}
+use Rattle.vic_frame.specs.LowBitsFirst.{uid_of}
 use Rattle.vic_tree.specs.OpenSet as tree
 use Rattle.vic_tree.specs.OpenSet.{SameUids, AllOpen, settled}
 use Rattle.vic_log.specs.declared.entry.Entry.{Entry}
@@ -13,7 +15,7 @@ use Rattle.vic_log.proofs.Sets.{IsUid-member}
 use Rattle.vic_log.specs.Order.{listed}
 use Rattle.vic_verdict.specs.Verdict.{IsAbsent, IsUnlisted, IsUnsettled, IsDoubtful, IsLeast, IsFirstMask, NoSuch}
 use Rattle.vic_verdict.specs.Rising.{SameMembers, IsListOf, IsFailing, without_all}
-use Rattle.vic_verdict.specs.Unsettled.{AreOpenAndListed}
+use Rattle.vic_verdict.specs.Unsettled.{AreOpenAndListed, has_key}
 use Rattle.vic_verdict.proofs.Decide.{IsPossibleUid-iff, IsCertainUid-iff}
 use Rattle.vic_verdict.proofs.Verdicts.{unsettled_iff}
 
@@ -99,6 +101,21 @@ first_unsettled_is es set set' us None own t found empty =
     none_unsettled es set' (left_of es set set' us own.possible own.uids_open own.uids_listed t) empty
 first_unsettled_is es set set' us (Some m) own t found empty =
     widest_unsettled es set' m (left_of es set set' us own.possible own.uids_open own.uids_listed t) found
+
+-- ---- the listed UIDs by their keys
+
+pub key_pushed : (keys uids : List ℕ) (n k x u : ℕ) → n < length uids → x ≡ get_or uids n x → uid_of k ≡ x
+    → has_key keys u ≡ has (take n uids) u → has_key (keys ++ k ∷ []) u ≡ has (take (n + 1) uids) u
+key_pushed keys uids n k x u lt is back h =
+    list_any-append (λ j. u == uid_of j) keys (k ∷ [])
+    ∙ ap (λ b. b || ((u == uid_of k) || false)) h
+    ∙ ap (λ b. has (take n uids) u || b) (one (u == uid_of k))
+    ∙ ap (λ y. has (take n uids) u || (u == y)) (back ∙ is)
+    ∙ sym (list_any_more (nat_eq u) uids n x lt)
+  where
+    one : (b : Bool) → (b || false) ≡ b
+    one true = refl
+    one false = refl
 
 -- ---- what the judge has
 

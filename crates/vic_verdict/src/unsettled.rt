@@ -1,14 +1,14 @@
 //! The first mask of which all UIDs are possible and not listed.
 
-ghost use Rattle.std.specs.Prelude.{List, IfOk, MatchOption, OnOk};
+ghost use Rattle.std.specs.Prelude.{◌≡◌, ℕ, List, IfOk, MatchOption, OnOk};
+ghost use Rattle.vic_frame.specs.Uids.{has};
 ghost use Rattle.vic_tree.specs.OpenSet.{SameUids};
 ghost use Rattle.vic_log.specs.declared.entry.Entry.{Entry as EntryValue};
-ghost use Rattle.vic_verdict.specs.Rising.{SameMembers, without_all};
-ghost use Rattle.vic_verdict.specs.Unsettled.{AreOpenAndListed};
+ghost use Rattle.vic_verdict.specs.Unsettled.{AreOpenAndListed, AreKeys, has_key, without_keys};
 ghost use Rattle.vic_verdict.specs.Verdict.{IsUnsettled, IsFirstMask, NoSuch};
 
 use std::alloc::{AllocError, Global};
-use vic_frame::low_bits_first::key;
+use vic_frame::low_bits_first::{key, uid_at};
 use vic_frame::{Mask, Uid};
 use vic_tree::OpenSet;
 
@@ -23,27 +23,32 @@ pub fn first_unsettled<S: OpenSet>(
         → AreOpenAndListed es (S.is_open set) listed.now
         → MatchOption m (NoSuch (IsUnsettled es)) (IsFirstMask (IsUnsettled es))) }
 {
-    let uids = in_key_order(alloc, listed)?;
-    take_out(&mut set, &uids)?;
+    let keys = keys_in_order(alloc, listed)?;
+    take_out(&mut set, &keys)?;
     Ok(set.widest())
 }
 
-/// The same UIDs in the order of their keys, in which a set of ranges is cut from its first range
-/// to its last.
-fn in_key_order(alloc: Global, uids: &[Uid]) -> Result<Vec<Uid>, AllocError>
-    ensures { IfOk result (λ v. SameMembers v.items uids.now) }
+/// The keys of UIDs in their order, in which a set of ranges is cut from its first range to its
+/// last.
+fn keys_in_order(alloc: Global, uids: &[Uid]) -> Result<Vec<u64>, AllocError>
+    ensures keys { IfOk result (λ keys. AreKeys keys.items) }
+    ensures members { IfOk result (λ keys. (u : ℕ) → has_key keys.items u ≡ has uids.now u) }
 {
-    let mut ordered = uids.to_vec(alloc)?;
-    ordered.sort_unstable_by_key(|uid| key(*uid));
-    Ok(ordered)
+    let mut keys = Vec::new(alloc);
+    for uid in uids {
+        keys.push(key(*uid))?;
+    }
+    keys.sort_unstable();
+    Ok(keys)
 }
 
-/// Takes UIDs out of a set.
-fn take_out<S: OpenSet>(set: &mut S, uids: &[Uid]) -> Result<(), AllocError>
-    ensures { OnOk result (SameUids (S.is_open set.new) (without_all (S.is_open set.old) uids.now)) }
+/// Takes the UIDs at some keys out of a set.
+fn take_out<S: OpenSet>(set: &mut S, keys: &[u64]) -> Result<(), AllocError>
+    requires { AreKeys keys.now }
+    ensures { OnOk result (SameUids (S.is_open set.new) (without_keys (S.is_open set.old) keys.now)) }
 {
-    for uid in uids {
-        set.settle(&Mask::of_uid(*uid), &[])?;
+    for key in keys {
+        set.settle(&Mask::of_uid(uid_at(*key)), &[])?;
     }
     Ok(())
 }

@@ -1,17 +1,16 @@
-use Rattle.std.proofs.Common.{ap, sym, ◌∙◌}
-use Rattle.vic_frame.specs.Uids.{has}
-use Rattle.vic_verdict.specs.Rising.{SameMembers}
+use Rattle.std.proofs.Common.{◌∙◌, ap, not}
+use Rattle.std.specs.Prelude.{◌&&◌}
+use Rattle.vic_tree.specs.OpenSet.{SameUids}
+use Rattle.vic_verdict.specs.Rising.{without_all}
+use Rattle.vic_verdict.specs.Unsettled.{has_key}
 use Rattle.vic_verdict.proofs.Cases.{first_unsettled_is}
 use Rattle.vic_verdict.proofs.unsettled.first_unsettled.Goals as goal
 
 pub returns : goal.returns
 returns g c es own =
-    let same : SameMembers c.deref.result.now c.args.listed.now = λ u. ap (λ xs. has xs u) c.deref.ensures.value ∙ c.in_ok-uids.ensures u in
-    first_unsettled_is es (g.S.OpenSet.is_open c.args.set) (g.S.OpenSet.is_open c.take_out.new.set) c.deref.result.now c.widest.result
-    (record {
-      possible = own.possible;
-      uids_open = own.uids_open;
-      uids_listed = λ u. same u ∙ own.uids_listed u;
-      are_uids = λ u h. own.are_uids u (sym (same u) ∙ h);
-    })
-    c.in_ok-take_out.ensures c.widest.ensures.found c.widest.ensures.empty
+    let set = g.S.OpenSet.is_open c.args.set in
+    let left : SameUids (g.S.OpenSet.is_open c.take_out.new.set) (without_all set c.args.listed.now) = λ u i.
+    c.in_ok-take_out.ensures u i
+    ∙ ap (λ ks. set u && not (has_key ks u)) c.deref.ensures.value
+    ∙ ap (λ b. set u && not b) (c.in_ok-keys.ensures.members u) in
+    first_unsettled_is es set (g.S.OpenSet.is_open c.take_out.new.set) c.args.listed.now c.widest.result own left c.widest.ensures.found c.widest.ensures.empty
