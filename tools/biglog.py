@@ -204,6 +204,40 @@ def heard_turns(random_, size):
         yield from (ask(EVERYONE), reply(0xE0 << BITS | 5))
 
 
+def truly(random_, tags, size, cycles):
+    """Random rounds of one slot and Stay Quiet, answered as these tags would, and perhaps a few field cycles."""
+    lengths = (8, 12, 14, 16, 18, 20, 24, 32, 40, BITS)
+    inside = {length: {} for length in lengths}
+    for uid in tags:
+        for length in lengths:
+            inside[length].setdefault(low(uid, length), []).append(uid)
+    silenced = set()
+    for _ in range(size):
+        turn, uid = random_.random(), random_.choice(tags)
+        if turn < 0.25:
+            silenced.add(uid)
+            yield silence(uid)
+        elif turn < 0.2502 and cycles:
+            silenced.clear()
+            yield "F"
+        else:
+            mask = low(uid, random_.choice(lengths))
+            yield from (ask(mask), heard([uid for uid in inside[mask[0]][mask] if uid not in silenced]))
+    yield from map(claim, sorted(tags))
+
+
+@shape
+def mix(random_, size):
+    """SIZE random rounds and Stay Quiet over SIZE / 10 tags, answered truly: unsettled."""
+    return truly(random_, new_tags(random_, max(size // 10, 1)), size, cycles=False)
+
+
+@shape
+def mix_cycles(random_, size):
+    """Version 2. The same with a few field cycles."""
+    return truly(random_, new_tags(random_, max(size // 10, 1)), size, cycles=True)
+
+
 @shape
 def storm_cycles(random_, size):
     """Version 2. SIZE Stay Quiet and a silent open round, then SIZE times: a field cycle and a silent open round."""
@@ -215,12 +249,20 @@ def storm_cycles(random_, size):
 
 @shape
 def quiet_cycles(random_, size):
-    """Version 2. SIZE Stay Quiet and an open collision, then for half of them: a field cycle, its Stay Quiet, the same."""
+    """Version 2. SIZE Stay Quiet and an open collision; for half of them a field cycle, it again, and a collision."""
     tags = new_tags(random_, size)
     yield from map(silence, tags)
     yield from (ask(EVERYONE), "C")
     for uid in tags[: size // 2]:
         yield from ("F", silence(uid), ask(EVERYONE), "C")
+
+
+@shape
+def jump_cycles(random_, size):
+    """Version 2. SIZE / 2 times: a field cycle, and silent rounds of 56 bits at both ends of the order of low bits."""
+    tags = sorted(new_tags(random_, size), key=lambda uid: bin(uid)[:1:-1])
+    for first, last in zip(tags[: size // 2], reversed(tags)):
+        yield from ("F", ask(low(first, BITS)), "S", ask(low(last, BITS)), "S")
 
 
 @shape
@@ -239,6 +281,15 @@ def sim_session(random_, size):
 def sim_storm(random_, size):
     """For simulate: SIZE tags, all silenced, then SIZE open rounds."""
     tags = new_tags(random_, size)
+    yield from map(silence, tags)
+    yield from [ask(EVERYONE)] * size
+    yield from map(claim, tags)
+
+
+@shape
+def sim_pairs(random_, size):
+    """The same where tags differ in pairs, in their highest serial bit alone."""
+    tags = [uid & ~(1 << 47) | bit for uid in new_tags(random_, size // 2) for bit in (0, 1 << 47)]
     yield from map(silence, tags)
     yield from [ask(EVERYONE)] * size
     yield from map(claim, tags)
