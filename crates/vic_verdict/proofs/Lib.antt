@@ -25,3 +25,4 @@ pub mod Sweeping
 pub mod Stretching
 pub mod Choosing
 pub mod Gathering
+pub mod Explaining
