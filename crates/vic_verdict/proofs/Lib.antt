@@ -23,3 +23,5 @@ pub mod Skipping
 pub mod Wide
 pub mod Sweeping
 pub mod Stretching
+pub mod Silencing
+pub mod Demanding
