@@ -25,3 +25,5 @@ pub mod Stretching
 pub mod Choosing
 pub mod Gathering
 pub mod Explaining
+pub mod Silencing
+pub mod Demanding
