@@ -18,8 +18,8 @@ mod repeats;
 mod rising;
 mod settle;
 mod steps;
-mod suspect;
 mod stretches;
+mod suspect;
 pub mod sweep;
 #[cfg(test)]
 mod tests;
