@@ -5,11 +5,11 @@ ghost use Rattle.vic_log.specs.declared.entry.Entry.{Entry};
 ghost use Rattle.vic_log.specs.declared.fault.LineFault.{LineFault};
 ghost use Rattle.vic_log.specs.declared.fault.LogFault.{LogFault};
 ghost use Rattle.vic_log.specs.Early.{IsEarlyFault, ReadsAs, Judges};
-ghost use Rattle.vic_log.specs.FirstVersion.{IsOfFirstVersion, AreOfFirstVersion, first_opener, is_first_quiet, FitsFirst};
+ghost use Rattle.vic_log.specs.FirstVersion.{IsOfFirstVersion, AreOfFirstVersion, first_opener, is_first_quiet, FitsFirst, CouldHaveGivenFirst, IsInFirstOrder};
 ghost use Rattle.vic_log.specs.Lines.{lines_of_text};
 ghost use Rattle.vic_log.specs.Log.{IsLog, LogValue};
 ghost use Rattle.vic_log.specs.Order.{IsInOrder, refusal};
-ghost use Rattle.vic_log.specs.Populations.{Outcome, Fits};
+ghost use Rattle.vic_log.specs.Populations.{Outcome, Fits, CouldHaveGiven};
 ghost use Rattle.vic_log.specs.Quiet.{is_quiet, IsSilenced};
 ghost use Rattle.vic_log.specs.Rounds.{opener};
 ghost use Rattle.vic_log.specs.Text.{IsLogOf, IsFirstFault};
@@ -47,9 +47,12 @@ pub fn quiet_since_stay_quiet()
     ensures { (es : List Entry) (i u : ℕ) → (is_quiet es i u ≡ true) ↔ IsSilenced es i u }
 {}
 
-/// On entries of version 1, rounds, Quiet tags and outcomes are what they are without garbled slots and field cycles.
+/// On entries of version 1, rounds, Quiet tags, outcomes, the order of entries and what a population could have given
+/// are what they are without garbled slots and field cycles.
 pub fn first_version_is_kept()
     ensures opener { (es : List Entry) → AreOfFirstVersion es → (i : ℕ) → opener es i ≡ first_opener es i }
     ensures quiet { (es : List Entry) → AreOfFirstVersion es → (i u : ℕ) → is_quiet es i u ≡ is_first_quiet es i u }
     ensures fits { (e : Entry) → IsOfFirstVersion e → (o : Outcome) → Fits e o ↔ FitsFirst e o }
+    ensures order { (es : List Entry) → AreOfFirstVersion es → IsInOrder es ↔ IsInFirstOrder es }
+    ensures given { (es : List Entry) → AreOfFirstVersion es → (p : List ℕ) → CouldHaveGiven p es ↔ CouldHaveGivenFirst p es }
 {}

@@ -5,6 +5,7 @@ pub mod Populations
 pub mod Decide
 pub mod Masks
 pub mod Verdicts
+pub mod TwoVersions
 pub mod Entries
 pub mod Passing
 pub mod Stands

@@ -1,5 +1,6 @@
 pub mod Possible
 pub mod Verdict
+pub mod TwoVersions
 pub mod Places
 pub mod Rising
 pub mod Repeats

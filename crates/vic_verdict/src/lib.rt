@@ -25,6 +25,7 @@ mod settle;
 mod silenced;
 mod steps;
 mod stretches;
+mod suspect;
 pub mod sweep;
 #[cfg(test)]
 mod tests;
