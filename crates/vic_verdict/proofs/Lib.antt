@@ -22,3 +22,6 @@ pub mod OpenRounds
 pub mod Skipping
 pub mod Sweeping
 pub mod Stretching
+pub mod Choosing
+pub mod Gathering
+pub mod Explaining

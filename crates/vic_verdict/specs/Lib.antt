@@ -7,3 +7,5 @@ pub mod Unsettled
 pub mod Sweep
 pub mod Stretches
 pub mod Demands
+pub mod Explained
+pub mod Gathered
