@@ -26,3 +26,4 @@ pub mod Stretching
 pub mod Choosing
 pub mod Gathering
 pub mod Explaining
+pub mod Meetings

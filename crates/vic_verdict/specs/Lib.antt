@@ -9,3 +9,4 @@ pub mod Stretches
 pub mod Demands
 pub mod Explained
 pub mod Gathered
+pub mod Meeting
