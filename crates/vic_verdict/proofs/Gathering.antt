@@ -79,13 +79,13 @@ no_more (x ∷ xs) ys d w =
 has_append : (xs ys : List ℕ) (u : ℕ) → has (xs ++ ys) u ≡ (has xs u || has ys u)
 has_append xs ys u = list_any-append (nat_eq u) xs ys
 
-append_cases : (xs ys : List ℕ) (u : ℕ) → has (xs ++ ys) u ≡ true → (has xs u ≡ true) ⊎ (has ys u ≡ true)
+pub append_cases : (xs ys : List ℕ) (u : ℕ) → has (xs ++ ys) u ≡ true → (has xs u ≡ true) ⊎ (has ys u ≡ true)
 append_cases xs ys u h = or_cases (has xs u) (has ys u) (sym (has_append xs ys u) ∙ h)
 
-append_left : (xs ys : List ℕ) (u : ℕ) → has xs u ≡ true → has (xs ++ ys) u ≡ true
+pub append_left : (xs ys : List ℕ) (u : ℕ) → has xs u ≡ true → has (xs ++ ys) u ≡ true
 append_left xs ys u h = has_append xs ys u ∙ or_left _ _ h
 
-append_right : (xs ys : List ℕ) (u : ℕ) → has ys u ≡ true → has (xs ++ ys) u ≡ true
+pub append_right : (xs ys : List ℕ) (u : ℕ) → has ys u ≡ true → has (xs ++ ys) u ≡ true
 append_right xs ys u h = has_append xs ys u ∙ or_right _ _ h
 
 -- ---- what is chosen

@@ -28,3 +28,4 @@ pub mod Gathering
 pub mod Explaining
 pub mod Silencing
 pub mod Demanding
+pub mod Meetings
