@@ -1,11 +1,14 @@
 //! Laws on logs and their text.
 
-ghost use Rattle.std.specs.Prelude.{◌≡◌, ◌++◌, ◌∷◌, ◌↔◌, ◌⊎◌, ℕ, true, [], List, Some, None, Result};
+ghost use Rattle.std.specs.Prelude.{◌≡◌, ◌++◌, ◌∷◌, ◌↔◌, ◌⊎◌, ℕ, true, [], List, Some, None, Ok, Result};
 ghost use Rattle.vic_log.specs.declared.entry.Entry.{Entry};
 ghost use Rattle.vic_log.specs.declared.fault.LineFault.{LineFault};
 ghost use Rattle.vic_log.specs.declared.fault.LogFault.{LogFault};
 ghost use Rattle.vic_log.specs.Early.{IsEarlyFault, ReadsAs, Judges};
 ghost use Rattle.vic_log.specs.FirstVersion.{IsOfFirstVersion, AreOfFirstVersion, first_opener, is_first_quiet, FitsFirst, CouldHaveGivenFirst, IsInFirstOrder};
+ghost use Rattle.vic_log.specs.declared.entry.Version.{Version};
+ghost use Rattle.vic_log.specs.Grammar.{SpellsEntry, IsPassedOver};
+ghost use Rattle.vic_log.specs.LineReading.{line_reading};
 ghost use Rattle.vic_log.specs.Lines.{lines_of_text};
 ghost use Rattle.vic_log.specs.Log.{IsLog, LogValue};
 ghost use Rattle.vic_log.specs.Order.{IsInOrder, refusal};
@@ -14,6 +17,12 @@ ghost use Rattle.vic_log.specs.Quiet.{is_quiet, IsSilenced};
 ghost use Rattle.vic_log.specs.Rounds.{opener};
 ghost use Rattle.vic_log.specs.Text.{IsLogOf, IsFirstFault};
 ghost use Rattle.vic_log.specs.Writing.{text_of, renumbered};
+
+/// A line reads as an entry exactly where it spells it, and is passed over exactly where it is empty or begins with `#`.
+pub fn read_where_spelled()
+    ensures entry { (version : Version) (line : List ℕ) (e : Entry) → (line_reading version line ≡ Ok (Some e)) ↔ SpellsEntry version line e }
+    ensures passed_over { (version : Version) (line : List ℕ) → (line_reading version line ≡ Ok None) ↔ IsPassedOver line }
+{}
 
 /// The text of a log is that of a log of the same version with the same entries, on the lines 2, 3, 4 and so on.
 pub fn text_reads_back()
