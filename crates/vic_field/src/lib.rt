@@ -2,6 +2,9 @@
 #![tactic(auto)]
 
 mod field;
+mod hear;
+mod populate;
+mod put;
 mod session;
 #[cfg(test)]
 mod tests;

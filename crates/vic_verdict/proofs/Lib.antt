@@ -21,6 +21,11 @@ pub mod MaskMaps
 pub mod Repeating
 pub mod OpenRounds
 pub mod Skipping
-pub mod Wide
 pub mod Sweeping
 pub mod Stretching
+pub mod Choosing
+pub mod Gathering
+pub mod Explaining
+pub mod Silencing
+pub mod Demanding
+pub mod Meetings

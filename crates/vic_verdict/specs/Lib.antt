@@ -7,3 +7,8 @@ pub mod Repeats
 pub mod Unsettled
 pub mod Sweep
 pub mod Stretches
+pub mod Demands
+pub mod Explained
+pub mod Gathered
+pub mod Silenced
+pub mod Meeting

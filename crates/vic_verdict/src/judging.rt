@@ -25,7 +25,7 @@ use vic_log::{Log, LogLine};
 use vic_tree::{OpenSet, RangeSet};
 
 /// The verdict on a possible log, by the UIDs that it leaves open.
-fn judge_possible<S: OpenSet>(
+pub fn judge_possible<S: OpenSet>(
     alloc: Global,
     set: S,
     lines: &[LogLine],
@@ -47,7 +47,7 @@ fn judge_possible<S: OpenSet>(
     if let Some(uid) = least_failing(&certain, |u| is_among(&listed, u)) {
         return Ok(Verdict::Unlisted(uid));
     }
-    if let Some(mask) = first_unsettled(alloc, set, lines, repeats, &listed)? {
+    if let Some(mask) = first_unsettled(alloc, set, &listed)? {
         return Ok(Verdict::Unsettled(mask));
     }
     if let Some(uid) = least_failing(&listed, |u| is_among(&certain, u)) {
@@ -70,7 +70,7 @@ fn judge_lines<S: OpenSet>(alloc: Global, lines: &[LogLine]) -> Result<Verdict, 
         return judge_possible(alloc, set, lines, &repeats);
     }
     drop(set);
-    let line = first_impossible_line::<S>(alloc, lines, &repeats)?;
+    let line = first_impossible_line::<S>(alloc, lines)?;
     Ok(Verdict::Impossible { line })
 }
 

@@ -1,0 +1,5 @@
+mod HexDigits
+mod Decoded
+mod CheckLines
+mod Standing
+mod Numbered

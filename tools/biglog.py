@@ -1,0 +1,312 @@
+#!/usr/bin/env python3
+"""Writes a large log to standard output, always the same one for the same words:
+
+    biglog.py SHAPE SIZE [SEED] [--refused]
+
+--refused adds a last line with a fault, so that the time of `vicinity check` is the time of reading alone. Without
+words it lists the shapes. SIZE counts what the shape is made of; a log has at most 1,000,000 lines.
+"""
+import random
+import sys
+
+BITS = 56
+EVERYONE = (0, 0)
+SHAPES = {}
+
+
+def shape(function):
+    SHAPES[function.__name__.replace("_", "-")] = function
+    return function
+
+
+def crc_step(byte):
+    for _ in range(8):
+        byte = byte >> 1 ^ (0x8408 if byte & 1 else 0)
+    return byte
+
+
+CRC_TABLE = [crc_step(byte) for byte in range(256)]
+
+
+def frame(body):
+    register = 0xFFFF
+    for byte in body:
+        register = register >> 8 ^ CRC_TABLE[(register ^ byte) & 0xFF]
+    return (body + (register ^ 0xFFFF).to_bytes(2, "little")).hex().upper()
+
+
+def ask(mask, slots=1):
+    length, value = mask
+    flags = 0x06 if slots == 16 else 0x26
+    return "T " + frame(bytes((flags, 1, length)) + value.to_bytes((length + 7) // 8, "little"))
+
+
+def silence(uid):
+    return "T " + frame(b"\x22\x02" + uid.to_bytes(8, "little"))
+
+
+def reply(uid):
+    return "R " + frame(b"\x00\x00" + uid.to_bytes(8, "little"))
+
+
+def claim(uid):
+    return "U %016X" % uid
+
+
+def heard(tags):
+    """The line of a slot in which these tags answer."""
+    return "S" if not tags else reply(tags[0]) if len(tags) == 1 else "C"
+
+
+def low(uid, length):
+    return length, uid & (1 << length) - 1
+
+
+def new_tags(random_, size):
+    """Different UIDs of one maker, in no order."""
+    return [0xE004 << 48 | serial for serial in random_.sample(range(1 << 48), size)]
+
+
+def search(tags):
+    """Sixteen-slot rounds, one digit deeper on each collision, a Stay Quiet on each reply, until all is silent."""
+    asked = [(EVERYONE, tags)]
+    while asked:
+        (length, value), here = asked.pop()
+        yield ask((length, value), 16)
+        slots = [[] for _ in range(16)]
+        for uid in here:
+            slots[uid >> length & 15].append(uid)
+        for number, inside in enumerate(slots):
+            yield heard(inside)
+            if len(inside) > 1:
+                asked.append(((length + 4, value | number << length), inside))
+        yield from (silence(inside[0]) for inside in slots if len(inside) == 1)
+    yield ask(EVERYONE)
+    yield "S"
+
+
+@shape
+def session(random_, size):
+    """A whole search of SIZE tags: complete SIZE."""
+    tags = new_tags(random_, size)
+    yield from search(tags)
+    yield from map(claim, sorted(tags))
+
+
+@shape
+def session_cut(random_, size):
+    """The same without its last round and the one before: unsettled."""
+    tags = new_tags(random_, size)
+    lines = list(search(tags))
+    for _ in range(2):
+        while not lines.pop().startswith(("T 06", "T 26")):
+            pass
+    yield from lines
+    yield from map(claim, sorted(tags))
+
+
+@shape
+def session_late(random_, size):
+    """A whole search, and then a silenced tag answers: impossible near the end."""
+    tags = new_tags(random_, size)
+    yield from search(tags)
+    yield ask(EVERYONE)
+    yield reply(tags[0])
+    yield from map(claim, sorted(tags))
+
+
+@shape
+def deep(random_, size):
+    """Each of SIZE tags asked by a mask of 56 bits and silenced, then nobody is left: complete SIZE."""
+    tags = new_tags(random_, size)
+    for uid in tags:
+        yield from (ask(low(uid, BITS)), reply(uid), silence(uid))
+    yield from (ask(EVERYONE), "S")
+    yield from map(claim, sorted(tags))
+
+
+@shape
+def one_slot(random_, size):
+    """SIZE times: an open round, a reply, its Stay Quiet: impossible at line 6."""
+    for uid in new_tags(random_, size):
+        yield from (ask(EVERYONE), reply(uid), silence(uid))
+
+
+@shape
+def listed(random_, size):
+    """SIZE different U lines and nothing else: unsettled."""
+    yield from map(claim, new_tags(random_, size))
+
+
+def storm(random_, size, outcome):
+    yield from map(silence, new_tags(random_, size))
+    for _ in range(size):
+        yield from (ask(EVERYONE), outcome)
+
+
+@shape
+def quiet_storm(random_, size):
+    """SIZE Stay Quiet, then SIZE times the same silent open round: unsettled 56 .."""
+    return storm(random_, size, "S")
+
+
+@shape
+def collision_storm(random_, size):
+    """SIZE Stay Quiet, then SIZE times the same open collision: unsettled 0 -"""
+    return storm(random_, size, "C")
+
+
+def nested(random_, size, lengths, outcome):
+    value = random_.getrandbits(36)
+    yield from (silence(0xE0 << BITS | high << 36 | value) for high in random_.sample(range(1 << 20), size))
+    for length in lengths:
+        yield from (ask(low(value, length)), outcome)
+
+
+@shape
+def nest(random_, size):
+    """SIZE Stay Quiet inside a mask of 36 bits, then silent rounds of 36, 35, .. 0 of its bits."""
+    return nested(random_, size, range(36, -1, -1), "S")
+
+
+@shape
+def nest_out(random_, size):
+    """The same from 0 bits to 36."""
+    return nested(random_, size, range(37), "S")
+
+
+@shape
+def nest_coll(random_, size):
+    """As nest, with collisions."""
+    return nested(random_, size, range(36, -1, -1), "C")
+
+
+@shape
+def coll_masks(random_, size):
+    """SIZE Stay Quiet, then SIZE collisions of random masks of at most 16 bits."""
+    yield from map(silence, new_tags(random_, size))
+    for _ in range(size):
+        yield from (ask(low(random_.getrandbits(16), random_.randrange(17))), "C")
+
+
+@shape
+def quiet_turns(random_, size):
+    """SIZE times: a Stay Quiet and a silent open round."""
+    for uid in new_tags(random_, size):
+        yield from (silence(uid), ask(EVERYONE), "S")
+
+
+@shape
+def heard_turns(random_, size):
+    """SIZE Stay Quiet, then SIZE times an open round that one tag answers."""
+    yield from map(silence, new_tags(random_, size))
+    for _ in range(size):
+        yield from (ask(EVERYONE), reply(0xE0 << BITS | 5))
+
+
+def truly(random_, tags, size, cycles):
+    """Random rounds of one slot and Stay Quiet, answered as these tags would, and perhaps a few field cycles."""
+    lengths = (8, 12, 14, 16, 18, 20, 24, 32, 40, BITS)
+    inside = {length: {} for length in lengths}
+    for uid in tags:
+        for length in lengths:
+            inside[length].setdefault(low(uid, length), []).append(uid)
+    silenced = set()
+    for _ in range(size):
+        turn, uid = random_.random(), random_.choice(tags)
+        if turn < 0.25:
+            silenced.add(uid)
+            yield silence(uid)
+        elif turn < 0.2502 and cycles:
+            silenced.clear()
+            yield "F"
+        else:
+            mask = low(uid, random_.choice(lengths))
+            yield from (ask(mask), heard([uid for uid in inside[mask[0]][mask] if uid not in silenced]))
+    yield from map(claim, sorted(tags))
+
+
+@shape
+def mix(random_, size):
+    """SIZE random rounds and Stay Quiet over SIZE / 10 tags, answered truly: unsettled."""
+    return truly(random_, new_tags(random_, max(size // 10, 1)), size, cycles=False)
+
+
+@shape
+def mix_cycles(random_, size):
+    """Version 2. The same with a few field cycles."""
+    return truly(random_, new_tags(random_, max(size // 10, 1)), size, cycles=True)
+
+
+@shape
+def storm_cycles(random_, size):
+    """Version 2. SIZE Stay Quiet and a silent open round, then SIZE times: a field cycle and a silent open round."""
+    yield from map(silence, new_tags(random_, size))
+    yield from (ask(EVERYONE), "S")
+    for _ in range(size):
+        yield from ("F", ask(EVERYONE), "S")
+
+
+@shape
+def quiet_cycles(random_, size):
+    """Version 2. SIZE Stay Quiet and an open collision; for half of them a field cycle, it again, and a collision."""
+    tags = new_tags(random_, size)
+    yield from map(silence, tags)
+    yield from (ask(EVERYONE), "C")
+    for uid in tags[: size // 2]:
+        yield from ("F", silence(uid), ask(EVERYONE), "C")
+
+
+@shape
+def jump_cycles(random_, size):
+    """Version 2. SIZE / 2 times: a field cycle, and silent rounds of 56 bits at both ends of the order of low bits."""
+    tags = sorted(new_tags(random_, size), key=lambda uid: bin(uid)[:1:-1])
+    for first, last in zip(tags[: size // 2], reversed(tags)):
+        yield from ("F", ask(low(first, BITS)), "S", ask(low(last, BITS)), "S")
+
+
+@shape
+def sim_session(random_, size):
+    """For simulate: SIZE / 20 tags, SIZE rounds of sixteen slots around them, a Stay Quiet after every tenth."""
+    tags = new_tags(random_, max(size // 20, 1))
+    for number in range(size):
+        uid = random_.choice(tags)
+        yield ask(low(uid, random_.choice((0, 4, 8, 12, 16))), 16)
+        if number % 10 == 9:
+            yield silence(uid)
+    yield from map(claim, tags)
+
+
+@shape
+def sim_storm(random_, size):
+    """For simulate: SIZE tags, all silenced, then SIZE open rounds."""
+    tags = new_tags(random_, size)
+    yield from map(silence, tags)
+    yield from [ask(EVERYONE)] * size
+    yield from map(claim, tags)
+
+
+@shape
+def sim_pairs(random_, size):
+    """The same where tags differ in pairs, in their highest serial bit alone."""
+    tags = [uid & ~(1 << 47) | bit for uid in new_tags(random_, size // 2) for bit in (0, 1 << 47)]
+    yield from map(silence, tags)
+    yield from [ask(EVERYONE)] * size
+    yield from map(claim, tags)
+
+
+def main():
+    words = [word for word in sys.argv[1:] if word != "--refused"]
+    if len(words) not in (2, 3) or words[0] not in SHAPES:
+        listing = ["    %-16s %s\n" % (name, function.__doc__) for name, function in SHAPES.items()]
+        sys.exit(__doc__ + "\n" + "".join(listing))
+    lines = SHAPES[words[0]](random.Random(int((words + [1])[2])), int(words[1]))
+    version = 2 if words[0].endswith("cycles") else 1
+    sys.stdout.write("vicinity-log %d\n" % version)
+    sys.stdout.writelines(line + "\n" for line in lines)
+    if "--refused" in sys.argv:
+        sys.stdout.write("X\n")
+
+
+if __name__ == "__main__":
+    main()
