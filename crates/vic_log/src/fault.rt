@@ -1,8 +1,8 @@
 //! What is wrong with a log, its text, or a device.
 
 ghost use Rattle.std.specs.Prelude.{◌≡◌, ◌≤◌, Some, length};
-ghost use Rattle.vic_log.specs.declared.fault.PushFault.TheVariants.{Memory as NoRoom};
-ghost use Rattle.vic_log.specs.declared.fault.LogFault.TheVariants.{Read as NotRead};
+ghost use Rattle.vic_log.specs.declared.fault.PushFault.{PushFault};
+ghost use Rattle.vic_log.specs.declared.fault.LogFault.{LogFault};
 ghost use Rattle.vic_log.specs.Names.{line_fault_name};
 
 use crate::source::DeviceFault;
@@ -98,7 +98,7 @@ impl fmt::Display for LineFault {
 }
 
 impl From<AllocError> for PushFault {
-    ghost from_gives = { λ _ e. e ≡ NoRoom };
+    ghost from_gives = { λ _ e. e ≡ PushFault.Memory };
 
     fn from(_: AllocError) -> PushFault {
         PushFault::Memory
@@ -106,7 +106,7 @@ impl From<AllocError> for PushFault {
 }
 
 impl<T: Drop> From<AllocFailed<T>> for PushFault {
-    ghost from_gives = { λ _ e. e ≡ NoRoom };
+    ghost from_gives = { λ _ e. e ≡ PushFault.Memory };
 
     fn from(_: AllocFailed<T>) -> PushFault {
         PushFault::Memory
@@ -114,7 +114,7 @@ impl<T: Drop> From<AllocFailed<T>> for PushFault {
 }
 
 impl From<DeviceFault> for LogFault {
-    ghost from_gives = { λ _ e. e ≡ NotRead };
+    ghost from_gives = { λ _ e. e ≡ LogFault.Read };
 
     fn from(_: DeviceFault) -> LogFault {
         LogFault::Read
