@@ -25,3 +25,5 @@ pub mod Sweeping
 pub mod Stretching
 pub mod Silencing
 pub mod Demanding
+pub mod Heard
+pub mod Meeting

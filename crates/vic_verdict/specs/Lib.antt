@@ -8,3 +8,4 @@ pub mod Sweep
 pub mod Stretches
 pub mod Demands
 pub mod Silenced
+pub mod Replies
