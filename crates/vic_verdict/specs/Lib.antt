@@ -3,7 +3,6 @@ pub mod Verdict
 pub mod TwoVersions
 pub mod Places
 pub mod Rising
-pub mod Repeats
 pub mod Unsettled
 pub mod Sweep
 pub mod Stretches
