@@ -22,3 +22,5 @@ pub mod OpenRounds
 pub mod Skipping
 pub mod Sweeping
 pub mod Stretching
+pub mod Silencing
+pub mod Demanding

@@ -7,3 +7,4 @@ pub mod Unsettled
 pub mod Sweep
 pub mod Stretches
 pub mod Demands
+pub mod Silenced

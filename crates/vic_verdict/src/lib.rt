@@ -20,6 +20,7 @@ mod quiet;
 mod repeats;
 mod rising;
 mod settle;
+mod silenced;
 mod steps;
 mod stretches;
 pub mod sweep;
