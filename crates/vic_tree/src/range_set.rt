@@ -1,4 +1,4 @@
-//! A set of open UIDs as ranges of their places, the low bits first.
+//! A set of open UIDs as ranges of their keys, in the order of low bits first.
 
 ghost use Rattle.std.specs.Prelude.{◌≡◌, ℕ, ◌^◌, ◌<◌, ◌≤◌, ◌&&◌, true, IfOk, OnOk};
 ghost use Rattle.std.specs.List.Sorted.{IsNonDecreasing};
@@ -19,9 +19,10 @@ use std::marker::Model;
 use vic_frame::low_bits_first::{key, key_range};
 use vic_frame::{Mask, Uid, without_top_byte};
 
-/// A set of UIDs as the ranges of their places in the order of low bits first, where the UIDs of a
+/// A set of UIDs as the ranges of their keys in the order of low bits first, where the UIDs of a
 /// mask stand together. A lone UID takes one entry of a map. To settle a mask takes a few look-ups
-/// for it, for each range in it and for each exception in it, which stays where it is.
+/// for it, for each range in it and for each exception in it, which stays where it is. Masks may
+/// come in any order; in the order of keys the look-ups are cheapest.
 #[derive(Drop)]
 pub struct RangeSet {
     ranges: BTreeMap<u64, u64>,
@@ -89,7 +90,8 @@ fn settle_ranges(
     requires ranges { AreRanges ranges.old.entries }
     requires short { IsMask mask.now × (mask.now.len ≤ 56) }
     ensures ranges { OnOk result (AreRanges ranges.new.entries) }
-    ensures settled { OnOk result (SameUids (is_open_in ranges.new.entries) (settled (is_open_in ranges.old.entries) mask.now except.now)) }
+    ensures settled { OnOk result (SameUids (is_open_in ranges.new.entries)
+        (settled (is_open_in ranges.old.entries) mask.now except.now)) }
 {
     let (first, last) = key_range(mask);
     let kept = keys_between(alloc, except, first, last)?;
@@ -100,8 +102,10 @@ fn settle_ranges(
 /// The keys from `first` to `last` of the UIDs of a list, in order.
 fn keys_between(alloc: Global, uids: &[Uid], first: u64, last: u64) -> Result<Vec<u64>, AllocError>
     ensures order { IfOk result (λ keys. IsNonDecreasing keys.items) }
-    ensures inside { IfOk result (λ keys. (k : ℕ) → has keys.items k ≡ true → is_between first last k ≡ true) }
-    ensures members { IfOk result (λ keys. (u : ℕ) → IsUid u → has keys.items (mirror u) ≡ (is_between first last (mirror u) && has uids.now u)) }
+    ensures inside { IfOk result (λ keys. (k : ℕ)
+        → has keys.items k ≡ true → is_between first last k ≡ true) }
+    ensures members { IfOk result (λ keys. (u : ℕ) → IsUid u
+        → has keys.items (mirror u) ≡ (is_between first last (mirror u) && has uids.now u)) }
 {
     let mut keys = Vec::new(alloc);
     for uid in uids {

@@ -1,0 +1,9 @@
+use Rattle.std.proofs.Common.{arith}
+use Rattle.vic_tree.proofs.BlockLaws.{no_wider, few_bits}
+use Rattle.vic_tree.proofs.blocks.least_len.Goals as goal
+
+pub overflow_sub-result : goal.overflow_sub-result
+overflow_sub-result c = few_bits c.ilog2-bits.result (omega (arith, c.ilog2-bits.ensures.power_le))
+
+pub returns-clause-none : goal.returns-clause-none
+returns-clause-none c l n lt w = no_wider c.args.first c.args.last c.ilog2-bits.result l n (few_bits c.ilog2-bits.result (omega (arith, c.ilog2-bits.ensures.power_le))) c.requires.forward (omega (arith, c.ilog2-bits.ensures.next_power_gt)) lt w
