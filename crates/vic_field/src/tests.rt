@@ -224,6 +224,34 @@ fn ready_after_a_field_cycle(rt: HostRuntime) -> Result<(), Fail> {
 }
 
 #[test]
+fn a_field_cycle_after_a_collision(rt: HostRuntime) -> Result<(), Fail> {
+    let alloc = rt.alloc();
+    let round = inventory(false)?;
+    let (a, b) = (listed(A1)?, listed(B2)?);
+    let quiet = stay_quiet(A1);
+    let log = log_of(
+        alloc,
+        Version::V2,
+        &[round, quiet, round, Entry::FieldCycle, round, a, b],
+    )?;
+    let filled = simulate(alloc, &log)?;
+    let want = [
+        round,
+        Entry::Collision,
+        quiet,
+        round,
+        heard(B2)?,
+        Entry::FieldCycle,
+        round,
+        Entry::Collision,
+        a,
+        b,
+    ];
+    assert_filled(&rt, &filled, Version::V2, &want);
+    Ok(())
+}
+
+#[test]
 fn no_tags_and_no_entries(rt: HostRuntime) -> Result<(), Fail> {
     let alloc = rt.alloc();
     let log = log_of(alloc, Version::V1, &[inventory(false)?])?;

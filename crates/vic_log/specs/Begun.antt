@@ -1,6 +1,8 @@
 -- A text that is read in pieces: its lines so far were judged, and one more may have begun.
-use Rattle.std.specs.Prelude.{◌≡◌, ◌⊎◌, ℕ, ◌*◌, ◌-◌, ◌<◌, ◌≤◌, true, false, None, List, [], ◌∷◌, ◌++◌, length, map}
+use Rattle.std.specs.Prelude.{◌≡◌, ◌⊎◌, ℕ, ◌+◌, ◌*◌, ◌-◌, ◌<◌, ◌≤◌, true, false, None, List, [], ◌∷◌, ◌++◌, length, map}
 use Rattle.vic_frame.specs.Uids.{has}
+use Rattle.vic_log.specs.declared.reader.TheConstants.{LINE_ROOM}
+use Rattle.vic_log.specs.declared.entry.TheConstants.{MAX_LINE_LEN, MAX_LINES}
 use Rattle.vic_log.specs.declared.reader.Begun.{Begun}
 use Rattle.vic_log.specs.Lines.{lf, cr, cut, ends_with, content}
 use Rattle.vic_log.specs.Log.{LogValue}
@@ -8,7 +10,7 @@ use Rattle.vic_log.specs.Text.{version_of, log_upto, fault_on}
 
 -- bytes without LF that may be a line yet, with the CR of its end
 abbrev pub IsShort : List ℕ → Type 0
-IsShort line = (length line ≤ 128) ⊎ ((length line ≡ 129) × (ends_with cr line ≡ true))
+IsShort line = (length line ≤ MAX_LINE_LEN) ⊎ ((length line ≡ MAX_LINE_LEN + 1) × (ends_with cr line ≡ true))
 
 -- the text is so many lines without a fault, which gave this log, and a line begun that isn't too long yet
 pub record HasJudged (text : List ℕ) (log : LogValue) (number : ℕ) (line : List ℕ) : Type 0 where
@@ -18,14 +20,14 @@ pub record HasJudged (text : List ℕ) (log : LogValue) (number : ℕ) (line : L
   pub clean : (m : ℕ) → m ≤ number → fault_on (map content parts) m ≡ None
   pub log_is : log.lines ≡ log_upto (map content parts) number
   pub version : 0 < number → log.version ≡ version_of (map content parts)
-  pub limit : number ≤ 1000000
+  pub limit : number ≤ MAX_LINES
   pub no_lf : has line lf ≡ false
   pub short : IsShort line
-  pub last : number ≡ 1000000 → line ≡ []
+  pub last : number ≡ MAX_LINES → line ≡ []
 
--- so many bytes at most can still come before a line is too long or is line 1,000,001
+-- so many bytes at most can still come before a line is too long or one too many
 abbrev pub spare : ℕ → List ℕ → ℕ
-spare number line = 130 * (1000000 - number) - length line
+spare number line = LINE_ROOM * (MAX_LINES - number) - length line
 
 -- the same of what a reader keeps
 abbrev pub HasTaken : List ℕ → Begun → Type 0

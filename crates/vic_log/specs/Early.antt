@@ -1,6 +1,7 @@
 -- Faults that no further bytes can change, and what a source that is read in pieces gives.
-use Rattle.std.specs.Prelude.{◌≡◌, ◌⊎◌, ℕ, suc, ◌≤◌, false, true, ⊤, Option, Some, Result, Ok, Err, List, length, slice_get}
+use Rattle.std.specs.Prelude.{◌≡◌, ◌⊎◌, ℕ, suc, ◌+◌, ◌≤◌, false, true, ⊤, Option, Some, Result, Ok, Err, List, length, slice_get}
 use Rattle.std.specs.Io.KnownBytes.{IsAtEnd}
+use Rattle.vic_log.specs.declared.entry.TheConstants.{MAX_LINE_LEN, MAX_LINES}
 use Rattle.vic_log.specs.declared.fault.LineFault.{LineFault}
 use Rattle.vic_log.specs.declared.fault.LogFault.{LogFault}
 use Rattle.vic_log.specs.declared.fault.LogFault.TheVariants.{Line, Read, Memory, Spent}
@@ -8,22 +9,23 @@ use Rattle.vic_log.specs.Lines.{lf, cr, cut, ends_with, lines_of_text}
 use Rattle.vic_log.specs.Log.{LogValue}
 use Rattle.vic_log.specs.Text.{IsFirstFault, IsLogOf}
 
--- bytes of one line that are too many whatever follows: 130, or 129 of which the last isn't CR
+-- bytes of one line that are too many whatever follows: more than a line and its CR, or a byte more than a line that
+-- isn't CR
 abbrev pub IsLong : List ℕ → Type 0
-IsLong part = (130 ≤ length part) ⊎ ((129 ≤ length part) × (ends_with cr part ≡ false))
+IsLong part = (MAX_LINE_LEN + 2 ≤ length part) ⊎ ((MAX_LINE_LEN + 1 ≤ length part) × (ends_with cr part ≡ false))
 
 -- a part with its LF, or one that is too long
 abbrev pub IsJudged : List ℕ → Type 0
 IsJudged part = (ends_with lf part ≡ true) ⊎ IsLong part
 
--- f is the first fault, on line n, and the line is judged by then, or is line 1,000,001
+-- f is the first fault, on line n, and the line is judged by then, or is one too many
 pub record IsEarlyFault (text : List ℕ) (n : ℕ) (f : LineFault) : Type 0 where
   pub fault : IsFirstFault (lines_of_text text) n f
   pub place : ℕ
   pub number : n ≡ suc place
   pub part : List ℕ
   pub there : slice_get (cut text) place ≡ Some part
-  pub judged : IsJudged part ⊎ (n ≡ 1000001)
+  pub judged : IsJudged part ⊎ (n ≡ MAX_LINES + 1)
 
 -- the fault of a line is early; want of memory may come anywhere
 abbrev pub IsEarly : LogFault → List ℕ → Type 0

@@ -5,6 +5,7 @@ use Rattle.std.specs.Str.{byte}
 use Rattle.vic_frame.specs.Uids.{IsUid}
 use Rattle.vic_frame.specs.Requests.{SpellsRequest}
 use Rattle.vic_frame.specs.Replies.{SpellsReply}
+use Rattle.vic_log.specs.declared.entry.TheConstants.{MAX_LINE_LEN}
 use Rattle.vic_log.specs.declared.entry.Entry.{Entry}
 use Rattle.vic_log.specs.declared.entry.Entry.TheVariants.{Sent, Silent, Collision, Heard, Listed, Garbled, FieldCycle}
 use Rattle.vic_log.specs.declared.entry.Version.{Version}
@@ -39,4 +40,4 @@ SpellsEntry version line FieldCycle = (version ≡ V2) × (line ≡ codes "F")
 
 -- the content is passed over: it is empty, or begins with #
 abbrev pub IsPassedOver : List ℕ → Type 0
-IsPassedOver line = (length line ≤ 128) × ((line ≡ []) ⊎ ((rest : List ℕ) × (line ≡ byte "#" ∷ rest)))
+IsPassedOver line = (length line ≤ MAX_LINE_LEN) × ((line ≡ []) ⊎ ((rest : List ℕ) × (line ≡ byte "#" ∷ rest)))

@@ -9,6 +9,7 @@ use Rattle.vic_frame.specs.Replies.{Reply}
 use Rattle.vic_frame.specs.Reading.{request_reading, reply_reading}
 use Rattle.vic_frame.specs.declared.request.Request.{Request}
 use Rattle.vic_frame.specs.declared.fault.FrameFault.{FrameFault}
+use Rattle.vic_log.specs.declared.entry.TheConstants.{MAX_LINE_LEN}
 use Rattle.vic_log.specs.declared.entry.Entry.{Entry}
 use Rattle.vic_log.specs.declared.entry.Entry.TheVariants.{Sent, Silent, Collision, Heard, Listed, Garbled, FieldCycle}
 use Rattle.vic_log.specs.declared.entry.Version.{Version}
@@ -66,7 +67,7 @@ with_digits letter digits =
 -- faults that it has by itself
 abbrev pub line_reading : Version → List ℕ → Result (Option Entry) LineFault
 line_reading version line =
-    if nat_lt 128 (length line) then Err LineTooLong
+    if nat_lt MAX_LINE_LEN (length line) then Err LineTooLong
     else if is_passed_over line then Ok None
     else if length line == 1 then one_letter version (slice_index line 0)
     else if slice_index line 1 == byte " " then with_digits (slice_index line 0) (drop 2 line)

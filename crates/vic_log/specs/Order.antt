@@ -42,13 +42,17 @@ abbrev pub is_duplicate : List Entry → Entry → Bool
 is_duplicate es (Listed u) = has (listed es) u
 is_duplicate es e = false
 
--- the first reason why an entry can't follow others in order
-abbrev pub refusal : List Entry → Entry → Option PushFault
-refusal es e =
-    if is_outside_round es e then Some SlotOutsideRound
-    else if is_after_list es e then Some EntryAfterList
-    else if is_duplicate es e then Some DuplicateListed
+-- the first reason why an entry can't follow others in order, by names for the three
+abbrev pub first_reason : {F : Type 0} → F → F → F → List Entry → Entry → Option F
+first_reason outside_round after_list duplicate es e =
+    if is_outside_round es e then Some outside_round
+    else if is_after_list es e then Some after_list
+    else if is_duplicate es e then Some duplicate
     else None
+
+-- why a log refuses an entry behind others
+abbrev pub refusal : List Entry → Entry → Option PushFault
+refusal es e = first_reason SlotOutsideRound EntryAfterList DuplicateListed es e
 
 -- each request that was sent is valid
 abbrev pub AreValid : List Entry → Type 0

@@ -1,6 +1,7 @@
 -- The log of a text, or its first fault.
 use Rattle.std.specs.Prelude.{◌≡◌, ℕ, zero, suc, ◌<◌, ◌==◌, Bool, ◌||◌, nat_lt, ⊤, if◌then◌else◌, Option, Some, None, Result, Ok, Err, List, [], ◌∷◌, ◌++◌, length, slice_get, codes}
 use Rattle.std.specs.Str.{bytes_eq}
+use Rattle.vic_log.specs.declared.entry.TheConstants.{MAX_LINE_LEN, MAX_LINES}
 use Rattle.vic_log.specs.declared.entry.Entry.{Entry}
 use Rattle.vic_log.specs.declared.entry.LogLine.{LogLine}
 use Rattle.vic_log.specs.declared.entry.Version.{Version}
@@ -9,7 +10,7 @@ use Rattle.vic_log.specs.declared.fault.LineFault.{LineFault}
 use Rattle.vic_log.specs.declared.fault.LineFault.TheVariants.{TooManyLines, LineTooLong, Header, SlotOutsideRound, EntryAfterList, DuplicateListed}
 use Rattle.vic_log.specs.declared.fault.LogFault.{LogFault}
 use Rattle.vic_log.specs.declared.fault.LogFault.TheVariants.{Line, Read, Memory, Spent}
-use Rattle.vic_log.specs.Order.{entries, is_outside_round, is_after_list, is_duplicate}
+use Rattle.vic_log.specs.Order.{entries, first_reason}
 use Rattle.vic_log.specs.Lines.{lines_of_text}
 use Rattle.vic_log.specs.Log.{LogValue}
 use Rattle.vic_log.specs.LineReading.{line_reading}
@@ -34,11 +35,7 @@ version_of lines = named_version (slice_get lines 0)
 
 -- the first fault of an entry after others
 abbrev pub order_fault : List Entry → Entry → Option LineFault
-order_fault es e =
-    if is_outside_round es e then Some SlotOutsideRound
-    else if is_after_list es e then Some EntryAfterList
-    else if is_duplicate es e then Some DuplicateListed
-    else None
+order_fault es e = first_reason SlotOutsideRound EntryAfterList DuplicateListed es e
 
 -- the first fault of what a line after the header says, after the entries of the lines before
 abbrev pub reading_fault : List Entry → Result (Option Entry) LineFault → Option LineFault
@@ -51,8 +48,8 @@ reading_fault es (Err f) = Some f
 abbrev pub line_fault : Version → List Entry → ℕ → Option (List ℕ) → Option LineFault
 line_fault version es number None = if number == 1 then Some Header else None
 line_fault version es number (Some line) =
-    if nat_lt 1000000 number then Some TooManyLines
-    else if nat_lt 128 (length line) then Some LineTooLong
+    if nat_lt MAX_LINES number then Some TooManyLines
+    else if nat_lt MAX_LINE_LEN (length line) then Some LineTooLong
     else if number == 1 then (if is_header line then None else Some Header)
     else reading_fault es (line_reading version line)
 

@@ -5,6 +5,9 @@ use vic_frame::{Request, Response, Uid};
 /// The number of the last line that a log may have (profile).
 pub const MAX_LINES: u32 = 1_000_000;
 
+/// The greatest length of a line without its end, in bytes (profile).
+pub const MAX_LINE_LEN: usize = 128;
+
 /// What one line of a log says (profile).
 #[derive(Clone, Copy, Debug, PartialEq, Eq)]
 pub enum Entry {

@@ -13,9 +13,9 @@ use vic_frame::FrameFault;
 /// What is wrong with a line of a log's text. Of several faults of one line the first in this order counts.
 #[derive(Clone, Copy, Debug, PartialEq, Eq)]
 pub enum LineFault {
-    /// It is line 1,000,001.
+    /// It is line `MAX_LINES + 1`.
     TooManyLines,
-    /// It has more than 128 bytes, without its end.
+    /// It has more than `MAX_LINE_LEN` bytes, without its end.
     LineTooLong,
     /// It is line 1 and isn't a version's header, or the text is empty.
     Header,

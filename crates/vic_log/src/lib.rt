@@ -27,12 +27,12 @@ mod tests;
 mod write;
 
 pub use digits::push_hex;
-pub use entry::{Entry, LogLine, MAX_LINES, Version};
+pub use entry::{Entry, LogLine, MAX_LINE_LEN, MAX_LINES, Version};
 pub use fault::{LineFault, LogFault, PushFault, WriteFault};
 pub use line::{line_entry, line_entry_of};
 pub use log::Log;
 pub use read::read_log;
-pub use reader::LogReader;
+pub use reader::{LogReader, MAX_READS};
 pub use rounds::{OpenRound, RoundCursor};
 pub use sink::{Sink, ToWrite, write_whole};
 pub use source::{DeviceFault, FromRead, ReadFault, Source, read_whole};

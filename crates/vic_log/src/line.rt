@@ -9,7 +9,7 @@ ghost use Rattle.vic_log.specs.declared.fault.LineFault.TheVariants.{Hex};
 ghost use Rattle.vic_log.specs.declared.entry.Version.TheVariants.{V1};
 ghost use Rattle.vic_log.specs.LineReading.{line_reading, one_letter, sent, heard, listed_uid};
 
-use crate::entry::{Entry, Version};
+use crate::entry::{Entry, MAX_LINE_LEN, Version};
 use crate::fault::LineFault;
 use vic_frame::{Uid, read_request, read_response};
 
@@ -135,7 +135,7 @@ pub fn line_entry_of(version: Version, line: &[u8]) -> Result<Option<Entry>, Lin
     ensures valid { IfOk result (λ entry. IfSome entry IsValidEntry) }
     ensures first_version { version ≡ V1 → IfOk result (λ entry. IfSome entry IsOfFirstVersion) }
 {
-    if line.len() > 128 {
+    if line.len() > MAX_LINE_LEN {
         return Err(LineFault::LineTooLong);
     }
     if line.is_empty() || line[0] == b'#' {

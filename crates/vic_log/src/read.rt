@@ -1,15 +1,14 @@
 //! A whole text.
 
-ghost use Rattle.std.specs.Prelude.{◌≡◌, ◌<◌, ◌≤◌, [], Some, None, MatchResult, OnOk, if◌then◌else◌, IfOk};
+ghost use Rattle.std.specs.Prelude.{◌≡◌, ◌<◌, ◌≤◌, [], Some, None, MatchResult, OnOk, if◌then◌else◌};
 ghost use Rattle.vic_log.specs.declared.entry.Version.TheVariants.{V1};
-ghost use Rattle.vic_log.specs.declared.fault.LineFault.TheVariants.{Header};
 ghost use Rattle.vic_log.specs.FirstVersion.{IsOfFirstVersion};
 ghost use Rattle.vic_log.specs.Lines.{lines_of_text};
 ghost use Rattle.vic_log.specs.Order.{entries};
 ghost use Rattle.vic_log.specs.Log.{last_from, with_line, IsValidEntry};
 ghost use Rattle.vic_log.specs.Text.{IsLogOf, Refuses, RefusesLine, next_fault, after_line, order_fault, is_header, named_version};
 
-use crate::entry::{Entry, Version};
+use crate::entry::{Entry, MAX_LINE_LEN, MAX_LINES, Version};
 use crate::fault::{LineFault, LogFault, PushFault};
 use crate::line::line_entry_of;
 use crate::log::Log;
@@ -32,7 +31,7 @@ fn version_named(line: &[u8]) -> Option<Version>
 /// Adds an entry behind a log.
 fn take_entry(log: &mut Log, number: u32, entry: Entry) -> Result<(), LogFault>
     requires above { last_from 1 log.old.lines < number }
-    requires limit { number ≤ 1000000 }
+    requires limit { number ≤ MAX_LINES }
     requires valid { IsValidEntry entry }
     requires first_version { log.old.version ≡ V1 → IsOfFirstVersion entry }
     ensures answer { MatchResult result
@@ -63,9 +62,9 @@ pub(crate) fn take_line(log: &mut Log, number: u32, line: &[u8]) -> Result<(), L
         (RefusesLine (next_fault log.old number line.now) number) }
     ensures added { OnOk result (log.new ≡ after_line log.old number line.now) }
 {
-    let fault = if number > 1_000_000 {
+    let fault = if number > MAX_LINES {
         LineFault::TooManyLines
-    } else if line.len() > 128 {
+    } else if line.len() > MAX_LINE_LEN {
         LineFault::LineTooLong
     } else if number == 1 {
         if let Some(version) = version_named(line) {

@@ -10,6 +10,7 @@ ghost use Rattle.vic_log.specs.Lines.{lf, cr, without_last, lines_of_text};
 ghost use Rattle.vic_log.specs.Log.{last_from};
 ghost use Rattle.vic_log.specs.Text.{IsLogOf, Refuses, RefusesLine, next_fault, after_line};
 
+use crate::entry::{MAX_LINE_LEN, MAX_LINES};
 use crate::fault::{LineFault, LogFault};
 use crate::log::Log;
 use crate::read::take_line;
@@ -18,6 +19,14 @@ use arrayvec::ArrayVec;
 use memchr::memchr;
 use std::alloc::Global;
 use std::marker::Model;
+
+/// The greatest length of a line with its end, CR and LF.
+const LINE_ROOM: usize = 130;
+
+const _: () = prove!(LINE_ROOM == MAX_LINE_LEN + 2);
+
+/// How often a source is read at most: for each byte of the longest log, and at its end.
+pub const MAX_READS: u64 = 130_000_001;
 
 /// How many bytes are asked for at once.
 const PIECE: usize = 16384;
@@ -29,8 +38,8 @@ struct Begun {
     log: Log,
     /// How many lines were judged.
     number: u32,
-    /// The bytes of the line begun. A line has at most 128 bytes, and CR and LF.
-    line: ArrayVec<u8, 130>,
+    /// The bytes of the line begun.
+    line: ArrayVec<u8, LINE_ROOM>,
 }
 
 /// A line without one CR at its end.
@@ -45,16 +54,18 @@ fn without_cr(line: &[u8]) -> &[u8]
 
 /// Whether a line without LF is too long, whatever follows.
 fn is_too_long(line: &[u8]) -> bool
-    requires { length line.now ≤ 130 }
+    requires { length line.now ≤ LINE_ROOM }
     ensures long { IsTrue result → IsLong line.now }
     ensures short { result ≡ false → IsShort line.now }
 {
-    line.len() == 130 || (line.len() == 129 && line[128] != b'\r')
+    line.len() == LINE_ROOM || (line.len() > MAX_LINE_LEN && line[MAX_LINE_LEN] != b'\r')
 }
 
 /// The first line of some bytes without its LF, and what stands behind that.
 fn split_line(bytes: &[u8]) -> Option<(&[u8], &[u8])>
-    ensures { MatchOption result (has bytes.now lf ≡ false) (λ p. IsSplit bytes.now p.0.now p.1.now) }
+    ensures { MatchOption result
+        (has bytes.now lf ≡ false)
+        (λ p. IsSplit bytes.now p.0.now p.1.now) }
 {
     match memchr(b'\n', bytes) {
         Some(place) => Some((&bytes[..place], &bytes[place + 1..])),
@@ -66,7 +77,7 @@ fn split_line(bytes: &[u8]) -> Option<(&[u8], &[u8])>
 fn end_line(log: &mut Log, number: &mut u32, line: &[u8]) -> Result<(), LogFault>
     requires begin { number.old ≡ 0 → log.old.lines ≡ [] }
     requires above { 0 < number.old → last_from 1 log.old.lines ≤ number.old }
-    requires limit { number.old ≤ 1000000 }
+    requires limit { number.old ≤ MAX_LINES }
     ensures answer { MatchResult result
         (λ _. next_fault log.old (number.old + 1) (without_last cr line.now) ≡ None)
         (RefusesLine (next_fault log.old (number.old + 1) (without_last cr line.now)) (number.old + 1)) }
@@ -83,13 +94,15 @@ fn end_line(log: &mut Log, number: &mut u32, line: &[u8]) -> Result<(), LogFault
 fn take_end(begun: &mut Begun, bytes: &[u8]) -> Result<(), LogFault>
     requires judged { (text : List ℕ) × HasTaken text begun.old }
     requires no_lf { has bytes.now lf ≡ false }
-    ensures ok { OnOk result ((text : List ℕ) → HasTaken text begun.old → HasTaken (text ++ (bytes.now ++ lf ∷ [])) begun.new) }
-    ensures err { IfErr result (λ e. (text more : List ℕ) → HasTaken text begun.old → IsEarly e (text ++ (bytes.now ++ lf ∷ more))) }
+    ensures ok { OnOk result ((text : List ℕ) → HasTaken text begun.old
+        → HasTaken (text ++ (bytes.now ++ lf ∷ [])) begun.new) }
+    ensures err { IfErr result (λ e. (text more : List ℕ) → HasTaken text begun.old
+        → IsEarly e (text ++ (bytes.now ++ lf ∷ more))) }
     ensures less { OnOk result (spare_of begun.new + length bytes.now + 1 ≤ spare_of begun.old) }
 {
-    if begun.number == 1_000_000 {
+    if begun.number == MAX_LINES {
         return Err(LogFault::Line {
-            line: 1_000_001,
+            line: MAX_LINES + 1,
             fault: LineFault::TooManyLines,
         });
     }
@@ -111,16 +124,18 @@ fn take_end(begun: &mut Begun, bytes: &[u8]) -> Result<(), LogFault>
 fn take_begun(begun: &mut Begun, bytes: &[u8]) -> Result<(), LogFault>
     requires judged { (text : List ℕ) × HasTaken text begun.old }
     requires no_lf { has bytes.now lf ≡ false }
-    ensures ok { OnOk result ((text : List ℕ) → HasTaken text begun.old → HasTaken (text ++ bytes.now) begun.new) }
-    ensures err { IfErr result (λ e. (text : List ℕ) → HasTaken text begun.old → IsEarly e (text ++ bytes.now)) }
+    ensures ok { OnOk result ((text : List ℕ) → HasTaken text begun.old
+        → HasTaken (text ++ bytes.now) begun.new) }
+    ensures err { IfErr result (λ e. (text : List ℕ) → HasTaken text begun.old
+        → IsEarly e (text ++ bytes.now)) }
     ensures less { OnOk result (spare_of begun.new + length bytes.now ≤ spare_of begun.old) }
 {
     if bytes.is_empty() {
         return Ok(());
     }
-    if begun.number == 1_000_000 {
+    if begun.number == MAX_LINES {
         return Err(LogFault::Line {
-            line: 1_000_001,
+            line: MAX_LINES + 1,
             fault: LineFault::TooManyLines,
         });
     }
@@ -137,8 +152,10 @@ fn take_begun(begun: &mut Begun, bytes: &[u8]) -> Result<(), LogFault>
 /// Takes some bytes more of the text. A line that lies whole among them is judged where it stands.
 fn take_piece(begun: &mut Begun, bytes: &[u8]) -> Result<(), LogFault>
     requires judged { (text : List ℕ) × HasTaken text begun.old }
-    ensures ok { OnOk result ((text : List ℕ) → HasTaken text begun.old → HasTaken (text ++ bytes.now) begun.new) }
-    ensures err { IfErr result (λ e. (text : List ℕ) → HasTaken text begun.old → IsEarly e (text ++ bytes.now)) }
+    ensures ok { OnOk result ((text : List ℕ) → HasTaken text begun.old
+        → HasTaken (text ++ bytes.now) begun.new) }
+    ensures err { IfErr result (λ e. (text : List ℕ) → HasTaken text begun.old
+        → IsEarly e (text ++ bytes.now)) }
     ensures less { OnOk result (spare_of begun.new + length bytes.now ≤ spare_of begun.old) }
 {
     let mut rest = bytes;
@@ -181,7 +198,7 @@ fn read_from<R: Source>(alloc: Global, source: &mut R) -> Result<Log, LogFault>
     ensures tells { result ≢ Err NotRead → TellsOn (R.left source.old) (R.left source.new) }
     ensures read { IfErr result (λ e. (e ≡ NotRead) ↔ (R.has_failed source.new ≡ true)) }
     ensures works { OnOk result (R.has_failed source.new ≡ false) }
-    ensures reads { R.reads source.new ≤ R.reads source.old + 130000001 }
+    ensures reads { R.reads source.new ≤ R.reads source.old + MAX_READS }
 {
     let mut begun = Begun {
         log: Log::new(alloc),
@@ -232,7 +249,7 @@ impl LogReader {
         ensures tells { result ≢ Err NotRead → TellsOn (R.left source.old) (R.left source.new) }
         ensures read { self.old ≡ false → IfErr result (λ e. (e ≡ NotRead) ↔ (R.has_failed source.new ≡ true)) }
         ensures works { OnOk result (R.has_failed source.new ≡ false) }
-        ensures reads { R.reads source.new ≤ R.reads source.old + 130000001 }
+        ensures reads { R.reads source.new ≤ R.reads source.old + MAX_READS }
         ensures spent { self.new ≡ true }
         ensures again { self.old ≡ true → (result ≡ Err IsSpent) × (source.new ≡ source.old) }
         ensures untouched { R.has_failed source.old ≡ true → source.new ≡ source.old }

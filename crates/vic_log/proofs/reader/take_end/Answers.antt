@@ -48,12 +48,12 @@ alone_refused : {A : Type 0} (log : LogValue) (n : ℕ) (line bytes : List ℕ) 
 alone_refused log n line bytes (Ok x) none lacks a = tt
 alone_refused log n line bytes (Err f) none lacks a = λ text more j. refused log n text [] bytes more f (subst (HasJudged text log n) none j) lacks a
 
-pub returns-then-begun-eq1000000-clause-err : goal.returns-then-begun-eq1000000-clause-err
-returns-then-begun-eq1000000-clause-err c = λ text more j.
+pub returns-then-begun-eq-MAX_LINES-clause-err : goal.returns-then-begun-eq-MAX_LINES-clause-err
+returns-then-begun-eq-MAX_LINES-clause-err c = λ text more j.
     let begun = c.args.begun.now in
     let bytes = c.args.bytes.now in
     let size = length-append bytes (lf ∷ more) in
-    early-many text begun.line.items (bytes ++ lf ∷ more) begun.log begun.number j c.if-begun-eq1000000.true (omega arith)
+    early-many text begun.line.items (bytes ++ lf ∷ more) begun.log begun.number j c.if-begun-eq-MAX_LINES.true (omega arith)
 
 pub end_line-requires-clause-begin : goal.end_line-requires-clause-begin
 end_line-requires-clause-begin c = λ first.
@@ -92,7 +92,7 @@ returns-then-is_err-clause-err c = λ text more j.
     let full = over c.try_extend_from_slice.result (length line + length bytes) c.try_extend_from_slice.ensures.variant (search rules) in
     let long : IsLong (line ++ bytes) = inl (omega arith) in
     subst (λ (xs : List ℕ). IsEarlyFault xs (begun.number + 1) LineTooLong) (append_assoc text bytes (lf ∷ more))
-    (early-long (text ++ bytes) (line ++ bytes) begun.log begun.number (begun.number + 1) (with_bytes text line bytes begun.log begun.number j c.requires.no_lf) (omega arith) c.if-begun-eq1000000.false long (lf ∷ more))
+    (early-long (text ++ bytes) (line ++ bytes) begun.log begun.number (begun.number + 1) (with_bytes text line bytes begun.log begun.number j c.requires.no_lf) (omega arith) c.if-begun-eq-MAX_LINES.false long (lf ∷ more))
 
 pub returns-in_err-end_line-clause-err : goal.returns-in_err-end_line-clause-err
 returns-in_err-end_line-clause-err c =
