@@ -7,3 +7,4 @@ pub mod SimulateText
 pub mod Runs
 pub mod Readings
 pub mod CompleteRun
+pub mod ExplainText

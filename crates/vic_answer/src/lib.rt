@@ -3,6 +3,7 @@
 #![tactic(auto)]
 
 mod check;
+mod explain;
 mod frame;
 mod input;
 mod lines;
@@ -12,6 +13,7 @@ mod status;
 mod text;
 
 pub use check::{Answer, answer_line, answer_status, judge_text, run_check};
+pub use explain::run_explain;
 pub use frame::run_frame;
 pub use simulate::run_simulate;
 pub use status::{RunFault, Status, fault_text};
