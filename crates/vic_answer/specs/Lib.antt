@@ -7,5 +7,6 @@ pub mod SimulateText
 pub mod Runs
 pub mod Readings
 pub mod CompleteRun
+pub mod ExplainText
 pub mod FaultNumbers
 pub mod Numbers

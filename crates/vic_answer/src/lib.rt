@@ -3,6 +3,7 @@
 #![tactic(auto)]
 
 mod check;
+mod explain;
 mod fault_numbers;
 mod frame;
 mod input;
@@ -14,6 +15,7 @@ mod status;
 mod text;
 
 pub use check::{Answer, answer_line, answer_status, judge_text, run_check};
+pub use explain::run_explain;
 pub use fault_numbers::{fault_number, frame_fault_number};
 pub use frame::run_frame;
 pub use lines::LINE_ROOM;

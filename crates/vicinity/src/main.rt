@@ -7,7 +7,7 @@ mod words;
 
 use std::process::ExitCode;
 use std::{env, fs};
-use vic_answer::{RunFault, Status, fault_text, run_check, run_frame, run_simulate};
+use vic_answer::{RunFault, Status, fault_text, run_check, run_explain, run_frame, run_simulate};
 use vic_log::{FromRead, Source, ToWrite};
 use words::{Task, WordsFault, read_words};
 
@@ -43,6 +43,7 @@ fn run_task<R: Source>(rt: &HostRuntime, task: &Task, source: &mut R) -> ExitCod
     let answer = match task {
         Task::Check(_) => run_check(rt.alloc(), source, &mut sink),
         Task::Simulate(_) => run_simulate(rt.alloc(), source, &mut sink),
+        Task::Explain(_) => run_explain(rt.alloc(), source, &mut sink),
         Task::Frame(word) => run_frame(word.as_bytes(), &mut sink),
     };
     end(rt, answer)

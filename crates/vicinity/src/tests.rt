@@ -2,6 +2,7 @@
 
 mod check;
 mod damage;
+mod explain;
 mod frame;
 mod logs;
 mod simulate;

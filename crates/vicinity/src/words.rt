@@ -12,6 +12,8 @@ pub enum Task {
     Check(Option<String>),
     /// To fill in the slots of a log.
     Simulate(Option<String>),
+    /// To judge a log and show a population behind the verdict.
+    Explain(Option<String>),
     /// To read one frame, given in hex digits.
     Frame(String),
 }
@@ -20,7 +22,9 @@ impl Task {
     /// The file that it reads, where one is named.
     pub fn file(&self) -> Option<&str> {
         match self {
-            Task::Check(file) | Task::Simulate(file) => file.as_ref().map(|name| name.as_str()),
+            Task::Check(file) | Task::Simulate(file) | Task::Explain(file) => {
+                file.as_ref().map(|name| name.as_str())
+            }
             Task::Frame(_) => None,
         }
     }
@@ -68,6 +72,7 @@ fn commands<'a>(alloc: Global) -> Result<Command<'a>, AllocError> {
     Command::new(alloc, "vicinity")
         .subcommand(with_operand(alloc, "check", "file", false)?)?
         .subcommand(with_operand(alloc, "simulate", "file", false)?)?
+        .subcommand(with_operand(alloc, "explain", "file", false)?)?
         .subcommand(with_operand(alloc, "frame", "hex", true)?)
 }
 
@@ -85,6 +90,7 @@ pub fn read_words(alloc: Global, words: Vec<String>) -> Result<Task, WordsFault>
     match matches.subcommand() {
         Some(("check", given)) => Ok(Task::Check(operand(alloc, given, "file")?)),
         Some(("simulate", given)) => Ok(Task::Simulate(operand(alloc, given, "file")?)),
+        Some(("explain", given)) => Ok(Task::Explain(operand(alloc, given, "file")?)),
         Some(("frame", given)) => match operand(alloc, given, "hex")? {
             Some(word) => Ok(Task::Frame(word)),
             None => Err(WordsFault::Usage),

@@ -16,6 +16,8 @@ fn asked(alloc: Global, words: &[&str]) -> Result<String, AllocError> {
         Ok(Task::Check(Some(file))) => format!(in alloc; "check of {file}"),
         Ok(Task::Simulate(None)) => format!(in alloc; "simulate"),
         Ok(Task::Simulate(Some(file))) => format!(in alloc; "simulate of {file}"),
+        Ok(Task::Explain(None)) => format!(in alloc; "explain"),
+        Ok(Task::Explain(Some(file))) => format!(in alloc; "explain of {file}"),
         Ok(Task::Frame(word)) => format!(in alloc; "frame of {word}"),
         Err(WordsFault::Usage) => format!(in alloc; "usage"),
         Err(WordsFault::Memory) => format!(in alloc; "memory"),
@@ -37,6 +39,11 @@ fn commands(rt: HostRuntime) -> Result<(), Fail> {
     assert_eq!(rt;
         asked(alloc, &["vicinity", "simulate", "a.txt"])?.as_str(),
         "simulate of a.txt"
+    );
+    assert_eq!(rt; asked(alloc, &["vicinity", "explain"])?.as_str(), "explain");
+    assert_eq!(rt;
+        asked(alloc, &["vicinity", "explain", "a.txt"])?.as_str(),
+        "explain of a.txt"
     );
     assert_eq!(rt;
         asked(alloc, &["vicinity", "frame", "26"])?.as_str(),
@@ -62,7 +69,10 @@ fn no_commands(rt: HostRuntime) -> Result<(), Fail> {
     );
     assert_eq!(rt; asked(alloc, &["vicinity", "help"])?.as_str(), "usage");
     assert_eq!(rt; asked(alloc, &["vicinity", "list"])?.as_str(), "usage");
-    assert_eq!(rt; asked(alloc, &["vicinity", "explain"])?.as_str(), "usage");
+    assert_eq!(rt;
+        asked(alloc, &["vicinity", "explain", "a", "b"])?.as_str(),
+        "usage"
+    );
     assert_eq!(rt; asked(alloc, &["check"])?.as_str(), "usage");
     Ok(())
 }
