@@ -1,8 +1,8 @@
 -- What `explain` answers to a text: the line of `check`, and then a population that shows the verdict, if one can.
 use Rattle.std.specs.Prelude.{◌≡◌, ℕ, Option, Some, None, List, [], ◌∷◌, ◌++◌, length, codes, decimal}
 use Rattle.std.specs.Option.{option_map}
-use Rattle.vic_log.specs.declared.entry.LogLine.{LogLine}
 use Rattle.vic_log.specs.Lines.{lines_of_text}
+use Rattle.vic_log.specs.Log.{LogValue}
 use Rattle.vic_log.specs.Text.{IsLogOf, IsFirstFault}
 use Rattle.vic_verdict.specs.declared.explanation.Explanation.{Explanation}
 use Rattle.vic_verdict.specs.Explained.{IsExplanation}
@@ -35,7 +35,7 @@ explanation_text x = verdict_line x.verdict ++ population_text (option_map (λ v
 
 -- the answer to a text: its log's verdict with a population that shows it, or its first fault
 abbrev pub IsExplained : List ℕ → Explained → Type 0
-IsExplained text (Judged x) = (log : List LogLine) × IsLogOf (lines_of_text text) log × IsExplanation log x
+IsExplained text (Judged x) = (log : LogValue) × IsLogOf (lines_of_text text) log × IsExplanation log.lines x
 IsExplained text (RefusedAt n fault) = IsFirstFault (lines_of_text text) n fault
 
 abbrev pub explained_text : Explained → List ℕ
