@@ -11,9 +11,6 @@ use Rattle.vic_frame.specs.Masks.{lies_in}
 abbrev pub mask_of : ℕ → BitMask
 mask_of u = record { len = 56; value = u % 2 ^ 56 }
 
-pub mask_of-has : (u : ℕ) → lies_in (mask_of u) u ≡ true
-mask_of-has u = eq-eqb _ _ refl
-
 pub mask_of-alone : (u w : ℕ) → IsUid u → IsUid w → lies_in (mask_of u) w ≡ true → w ≡ u
 mask_of-alone u w i j h = let e = eqb-true _ _ h in omega arith
 
