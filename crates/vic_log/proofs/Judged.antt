@@ -81,21 +81,6 @@ HasCut-more text line bytes log n j lacks = record {
   no_lf = no_lf_more line bytes j.no_lf lacks;
 }
 
--- a line begun that isn't too long yet
-pub HasJudged-short : (text line : List ℕ) (log : LogValue) (n : ℕ) → HasCut text log n line → n ≢ 1000000 → IsShort line → HasJudged text log n line
-HasJudged-short text line log n j few short = record {
-  parts = j.parts;
-  cuts = j.cuts;
-  count = j.count;
-  clean = j.clean;
-  log_is = j.log_is;
-  version = j.version;
-  limit = j.limit;
-  no_lf = j.no_lf;
-  short = short;
-  last = λ e. absurd (few e);
-}
-
 -- ---- the lines judged, as lines that were read
 
 -- these lines were read, and this one is next

@@ -13,7 +13,7 @@ use crate::entry::{Entry, MAX_LINE_LEN, Version};
 use crate::fault::LineFault;
 use vic_frame::{Uid, read_request, read_response};
 
-/// The value of each byte as a hex digit, 255 where it is none.
+/// The value of each byte as a hex digit, 255 where it is none. A table, so that a digit takes one look-up and no branch.
 const VALUES: [u8; 256] = [
     255, 255, 255, 255, 255, 255, 255, 255, 255, 255, 255, 255, 255, 255, 255, 255, 255, 255, 255,
     255, 255, 255, 255, 255, 255, 255, 255, 255, 255, 255, 255, 255, 255, 255, 255, 255, 255, 255,
