@@ -21,7 +21,7 @@ use Rattle.vic_verdict.specs.declared.demands.Found.{Found}
 use Rattle.vic_verdict.specs.declared.demands.Met.{Met}
 use Rattle.vic_verdict.specs.Demands.{needs_of, IsFoundAt, IsFound, IsMet, all_needs}
 use Rattle.vic_verdict.specs.Gathered.{is_other, chosen, all_chosen, gathered}
-use Rattle.vic_verdict.specs.Explained.{HasHeard}
+use Rattle.vic_verdict.specs.Explained.{HasAllHeard}
 use Rattle.vic_verdict.specs.Places.{answering, entry_asks, entry_forces}
 use Rattle.vic_verdict.specs.Possible.{IsPossible, IsCertainUid}
 use Rattle.vic_verdict.specs.Rising.{SameMembers}
@@ -257,7 +257,7 @@ gathered_other es m a n met h =
     (append_cases m.heard.items (all_chosen (Some a) m.found.items) a h)
 
 -- they are few
-gathered_few : (es : List Entry) (m : Met) (avoid : Option ℕ) (us : List ℕ) → IsMet es m → AreDifferent us → IsWithin (has us) (has (gathered avoid m)) → (heard : List ℕ) → HasHeard es heard → length us ≤ length heard + all_needs es
+gathered_few : (es : List Entry) (m : Met) (avoid : Option ℕ) (us : List ℕ) → IsMet es m → AreDifferent us → IsWithin (has us) (has (gathered avoid m)) → (heard : List ℕ) → HasAllHeard es heard → length us ≤ length heard + all_needs es
 gathered_few es m avoid us met different within heard all =
     let picks = all_chosen avoid m.found.items in
     let le = no_more us (heard ++ picks) different (λ u h. ⊎_elim (λ a. append_left heard picks u (all u ((met.heard u).0 a))) (λ b. append_right heard picks u b) (append_cases m.heard.items picks u (within u h))) in
@@ -305,7 +305,7 @@ pub record IsGathered (es : List Entry) (us : List ℕ) : Type 0 where
   pub rising : IsStrictlyIncreasing us
   pub population : IsPopulation us
   pub could : CouldHaveGiven us es
-  pub few : (heard : List ℕ) → HasHeard es heard → length us ≤ length heard + all_needs es
+  pub few : (heard : List ℕ) → HasAllHeard es heard → length us ≤ length heard + all_needs es
 
 asks_entry : (o : Option Reading) (s t : ℕ → Bool) → IsWithin s t → entry_asks o s → entry_asks o t
 asks_entry None s t w a = tt
