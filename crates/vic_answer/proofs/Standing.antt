@@ -1,5 +1,5 @@
 -- From what reading gives to what a run answers.
-use Rattle.std.proofs.Common.{◌≡◌, ◌⊎◌, ℕ, List, Option, Result, Ok, Err, IfOk, IfErr, OnOk, inl, inr, subst, sym}
+use Rattle.std.proofs.Common.{◌≡◌, ℕ, List, Option, Result, Ok, Err, IfOk, IfErr, OnOk, inl, inr, subst, sym}
 use Rattle.std.specs.Io.KnownBytes.{Appends}
 use Rattle.vic_log.specs.Device.{HasTakenPrefix}
 use Rattle.vic_answer.specs.declared.input.Reading.{Reading}

@@ -53,8 +53,8 @@ pub record IsCheckOf (text line : List ℕ) (status : Status) : Type 0 where
   pub line_is : line ≡ answer_line answer
   pub status_is : status ≡ answer_status answer
 
--- the text has a log whose list is whole, of so many UIDs: some population could have given the log, and each that
--- could has exactly the UIDs that it lists; and the same in the words of version 2
+-- the text has a log whose list is whole, of so many UIDs: some population could have given the
+-- log, and each that could has exactly the UIDs that it lists; and the same in the words of version 2
 pub record IsCompleteText (text : List ℕ) (count : ℕ) : Type 0 where
   pub log : LogValue
   pub is_log : IsLogOf (lines_of_text text) log

@@ -3,7 +3,8 @@ use Rattle.std.specs.Prelude.{◌≡◌, ℕ, List, ◌++◌, Option, codes, dec
 use Rattle.std.specs.Io.KnownBytes.{Consumes, IsAtEnd}
 use Rattle.vic_answer.specs.CheckText.{IsCompleteText}
 
--- the source handed out a complete text and has no more, and these are the digits of how many UIDs it lists, and LF
+-- the source handed out a complete text and has no more, and these are the digits of how many UIDs
+-- it lists, and LF
 pub record GivesCompleteText (left left' : Option (List ℕ)) (rest : List ℕ) : Type 0 where
   pub text : List ℕ
   pub given : Consumes left left' text

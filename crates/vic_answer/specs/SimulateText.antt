@@ -1,4 +1,5 @@
--- What `simulate` answers to a text: the text of the log with its slots filled in, or the line of a refusal.
+-- What `simulate` answers to a text: the text of the log with its slots filled in, or the line of a
+-- refusal.
 use Rattle.std.specs.Prelude.{◌≡◌, ℕ, ◌<◌, List, codes}
 use Rattle.vic_log.specs.declared.fault.LineFault.TheVariants.{TooManyLines as ManyLines}
 use Rattle.vic_log.specs.Lines.{lines_of_text}
@@ -12,8 +13,9 @@ use Rattle.vic_answer.specs.declared.status.Status.TheVariants.{Whole, Refused}
 use Rattle.vic_answer.specs.declared.simulate.Simulated.{Simulated}
 use Rattle.vic_answer.specs.declared.simulate.Simulated.TheVariants.{Filled, RefusedAt, OutcomeGiven, TooManyLines}
 
--- what becomes of a text: its log with the slots filled in, of the same version; or its first fault; or why its log
--- can't be filled in: it tells of a slot already, or no slot line is there and a line above 1,000,000 would be needed
+-- what becomes of a text: its log with the slots filled in, of the same version; or its first
+-- fault; or why its log can't be filled in: it tells of a slot already, or no slot line is there
+-- and a line above 1,000,000 would be needed
 abbrev pub IsSimulated : List ℕ → Simulated → Type 0
 IsSimulated text (Filled log) =
     (given : LogValue) × IsLogOf (lines_of_text text) given × IsSimulation given.lines log.lines

@@ -2,10 +2,10 @@
 
 ghost use Rattle.std.specs.Prelude.{◌≤◌, length};
 
-use vic_answer::{NO_ANSWER, VicinityAnswer};
 use crate::{vicinity_check, vicinity_interface};
 use std::alloc::Global;
 use std::process::Abort;
+use vic_answer::{NO_ANSWER, VicinityAnswer};
 
 /// Judges a text into an answer that says other things, and asks for this one.
 fn says(rt: &impl Abort, alloc: Global, text: &str, line: &str, numbers: VicinityAnswer)

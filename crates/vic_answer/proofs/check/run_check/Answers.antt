@@ -1,8 +1,7 @@
-use Rattle.std.proofs.Common.{◌≡◌, ◌∙◌, Err, subst, sym, refl, rules}
+use Rattle.std.proofs.Common.{◌∙◌, subst, refl}
 use Rattle.std.proofs.lemmas.Result.{err_from_is_err_and}
 use Rattle.vic_log.specs.Device.{HasTakenPrefix}
 use Rattle.vic_answer.specs.CheckText.{answer_line, answer_status}
-use Rattle.vic_answer.specs.Runs.{Runs}
 use Rattle.vic_answer.proofs.CheckLines.{complete_line, line_taken}
 use Rattle.vic_answer.proofs.Standing.{enough}
 use Rattle.vic_answer.proofs.check.run_check.Goals as goal

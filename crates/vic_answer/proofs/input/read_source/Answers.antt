@@ -1,4 +1,4 @@
-use Rattle.std.proofs.Common.{ap, sym, subst, Err, List, ℕ}
+use Rattle.std.proofs.Common.{subst, Err}
 use Rattle.vic_log.specs.declared.fault.LogFault.{LogFault}
 use Rattle.vic_log.specs.Early.{ReadsAs}
 use Rattle.vic_answer.proofs.input.read_source.Goals as goal
