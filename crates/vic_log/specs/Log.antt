@@ -1,5 +1,5 @@
 -- What a log holds.
-use Rattle.std.specs.Prelude.{◌≡◌, ℕ, ◌≤◌, Option, Some, List, [], ◌∷◌, ◌++◌, ⊤, slice_get}
+use Rattle.std.specs.Prelude.{◌≡◌, ℕ, ◌≤◌, Option, Some, None, List, [], ◌∷◌, ◌++◌, ⊤, slice_get}
 use Rattle.vic_frame.specs.Requests.{IsInRange, IsValid}
 use Rattle.vic_frame.specs.Replies.{IsReply}
 use Rattle.vic_frame.specs.Uids.{IsUid}
@@ -55,7 +55,7 @@ pub record IsLog (version : Version) (lines : List LogLine) : Type 0 where
   pub typed : AreTyped (entries lines)
   pub first_version : version ≡ V1 → AreOfFirstVersion (entries lines)
 
--- why an entry is refused: by its reason, or for want of memory
+-- an entry is refused by its reason, and for want of memory only where there is none
 abbrev pub RefusesOr : Option PushFault → PushFault → Type 0
-RefusesOr reason Memory = ⊤
+RefusesOr reason Memory = reason ≡ None
 RefusesOr reason fault = reason ≡ Some fault

@@ -15,6 +15,7 @@ pub struct Pieces<'a> {
     fail_at: u64,
     reads: u64,
     failed: bool,
+    ghost gives_some: { 0 < piece },
 }
 
 impl<'a> Pieces<'a> {
@@ -55,7 +56,7 @@ impl<'a> Source for Pieces<'a> {
             self.failed = true;
             return Err(DeviceFault);
         }
-        let n = self.bytes.len().min(buf.len()).min(self.piece.max(1));
+        let n = self.bytes.len().min(buf.len()).min(self.piece);
         let (first, rest) = self.bytes.split_at(n);
         buf[..n].copy_from_slice(first);
         self.bytes = rest;
@@ -111,6 +112,7 @@ pub struct OneByOne {
     fail_at: u64,
     fails_flush: bool,
     writes: u64,
+    flushed: bool,
     failed: bool,
 }
 
@@ -125,6 +127,7 @@ impl OneByOne {
             fail_at,
             fails_flush,
             writes: 0,
+            flushed: false,
             failed: false,
         }
     }
@@ -140,10 +143,13 @@ impl OneByOne {
 impl Sink for OneByOne {
     ghost taken = { λ s. Some s.taken.items };
 
+    ghost is_flushed = { λ s. s.flushed };
+
     ghost has_failed = { λ s. s.failed };
 
     fn write(&mut self, bytes: &[u8]) -> Result<usize, DeviceFault> {
         self.writes = self.writes.saturating_add(1);
+        self.flushed = false;
         if self.writes == self.fail_at {
             self.failed = true;
             return Err(DeviceFault);
@@ -162,6 +168,7 @@ impl Sink for OneByOne {
 
     fn flush(&mut self) -> Result<(), DeviceFault> {
         self.failed = self.fails_flush;
+        self.flushed = !self.fails_flush;
         if self.fails_flush {
             return Err(DeviceFault);
         }

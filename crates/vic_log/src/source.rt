@@ -1,7 +1,8 @@
 //! Readers that are read in pieces.
 
 ghost use Rattle.std.specs.Prelude.{◌≡◌, ◌+◌, ◌-◌, ◌^◌, ◌<◌, ◌≤◌, ℕ, List, Bool, true, false, min, length, IfOk, IfErr, OnOk, is_err, vec_len, Option, ◌↔◌};
-ghost use Rattle.vic_log.specs.Device.{SourceStep, GivesBytes, Stops, from_read_inner};
+ghost use Rattle.std.specs.Io.KnownBytes.{Consumes};
+ghost use Rattle.vic_log.specs.Device.{SourceStep, Stops, from_read_inner};
 
 use std::alloc::{AllocError, Global};
 use std::io::Read;
@@ -134,7 +135,7 @@ pub fn read_whole<R: Source>(
     source: &mut R,
     limit: usize,
 ) -> Result<Vec<u8>, ReadFault>
-    ensures bytes { IfOk result (λ text. GivesBytes (R.left source.old) (R.left source.new) text.items) }
+    ensures bytes { IfOk result (λ text. Consumes (R.left source.old) (R.left source.new) text.items) }
     ensures end { IfOk result (λ text. Stops (R.left source.new) text.items limit) }
     ensures bound { IfOk result (λ text. vec_len text ≤ limit) }
     ensures read { IfErr result (λ e. (e ≡ ReadFault.Read) ↔ (R.has_failed source.new ≡ true)) }

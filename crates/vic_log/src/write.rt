@@ -87,10 +87,11 @@ fn fill(piece: &mut Piece, lines: &[LogLine], start: usize) -> usize
     next
 }
 
-/// Writes the text of a log: the header of its version, and each entry on a line, with upper-case digits and LF ends.
-/// A sink that has failed is not written again.
+/// Writes the text of a log, and flushes: the header of its version, and each entry on a line, with
+/// upper-case digits and LF ends. A sink that has failed is not written again.
 pub fn write_log<W: Sink>(log: &Log, sink: &mut W) -> Result<(), WriteFault>
     ensures all { OnOk result (Appends (W.taken sink.old) (W.taken sink.new) (text_of log.now)) }
+    ensures flushed { OnOk result (W.is_flushed sink.new ≡ true) }
     ensures prefix { HasTakenPrefix (W.taken sink.old) (W.taken sink.new) (text_of log.now) }
     ensures state { W.has_failed sink.new ≡ is_err result }
     ensures untouched { W.has_failed sink.old ≡ true → sink.new ≡ sink.old }

@@ -1,24 +1,13 @@
 //! Whether a list of vicinity tags is complete, from the log of the session that found them.
 #![tactic(auto)]
 
-mod check;
-mod digits;
-mod frame;
-mod input;
-mod output;
-mod simulate;
-mod status;
 #[cfg(test)]
 mod tests;
-mod text;
 mod words;
 
-use check::run_check;
-use frame::run_frame;
-use simulate::run_simulate;
-use status::{RunFault, Status, fault_text};
 use std::process::ExitCode;
 use std::{env, fs};
+use vic_answer::{RunFault, Status, fault_text, run_check, run_frame, run_simulate};
 use vic_log::{FromRead, Source, ToWrite};
 use words::{Task, WordsFault, read_words};
 

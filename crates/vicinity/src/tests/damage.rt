@@ -1,14 +1,12 @@
 //! Damaged logs, readers that fail or don't end, and writers that fail.
 
 use super::logs::log_of;
-use crate::check::run_check;
-use crate::simulate::run_simulate;
-use crate::status::{RunFault, Status};
 use std::alloc::{AllocError, Global};
 use std::io;
 use std::io::Read;
 use std::process::Abort;
 use std::test::Fail;
+use vic_answer::{RunFault, Status, run_check, run_simulate};
 use vic_log::devices::{Endless, OneByOne, Pieces, Stuck};
 use vic_log::{FromRead, Source, ToWrite};
 
