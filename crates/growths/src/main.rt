@@ -62,7 +62,7 @@ fn main(rt: HostRuntime) -> io::Result<()> {
     say(&rt, "settle RangeSet", sets::settle_masks::<RangeSet>(alloc))?;
     say(&rt, "judge", verdicts::judge_rows(alloc))?;
     say(&rt, "judge_with CellList", verdicts::judge_rows_with::<CellList>(alloc))?;
-    say(&rt, "judge_with MaskTree", verdicts::judge_rows_with::<MaskTree>(alloc))?;
+    say(&rt, "judge_with MaskTree", verdicts::judge_one_with::<MaskTree>(alloc))?;
     say(&rt, "run_check", runs::check_rows(alloc))?;
     say(&rt, "run_simulate", runs::simulate_rows(alloc))?;
     say(&rt, "read_words", words::read(alloc))

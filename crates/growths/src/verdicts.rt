@@ -39,6 +39,12 @@ pub fn judge_rows(alloc: Global) -> Found {
     both(both(heard, silenced), both(parted, unmet))
 }
 
+/// Judges one log by a set of one kind.
+pub fn judge_one_with<S: OpenSet>(alloc: Global) -> Found {
+    let complete = Verdict::Complete { count: 2 };
+    call_again(|| judge_row_with::<S>(alloc, TWO_HEARD, complete))
+}
+
 /// Judges logs by a set of one kind.
 pub fn judge_rows_with<S: OpenSet>(alloc: Global) -> Found {
     let complete = Verdict::Complete { count: 2 };

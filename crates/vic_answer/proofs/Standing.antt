@@ -1,7 +1,7 @@
 -- From what reading gives to what a run answers.
 use Rattle.std.proofs.Common.{◌≡◌, ◌⊎◌, ℕ, List, Option, Result, Ok, Err, IfOk, IfErr, OnOk, inl, inr, subst, sym}
 use Rattle.std.specs.Io.KnownBytes.{Appends}
-use Rattle.vic_log.specs.Device.{GivesBytes, HasTakenPrefix}
+use Rattle.vic_log.specs.Device.{HasTakenPrefix}
 use Rattle.vic_answer.specs.declared.input.Reading.{Reading}
 use Rattle.vic_answer.specs.declared.input.Reading.TheVariants.{Given, RefusedAt}
 use Rattle.vic_answer.specs.declared.status.RunFault.{RunFault}

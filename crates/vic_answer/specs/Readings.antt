@@ -1,8 +1,7 @@
 -- What the bytes give that a source hands out.
 use Rattle.std.specs.Prelude.{◌≡◌, ◌⊎◌, ℕ, ⊤, List, Option, Result, Ok, Err}
-use Rattle.std.specs.Io.KnownBytes.{IsAtEnd}
+use Rattle.std.specs.Io.KnownBytes.{Consumes, IsAtEnd}
 use Rattle.vic_log.specs.declared.entry.Version.TheVariants.{V1}
-use Rattle.vic_log.specs.Device.{GivesBytes}
 use Rattle.vic_log.specs.Early.{IsEarlyFault}
 use Rattle.vic_log.specs.Lines.{lines_of_text}
 use Rattle.vic_log.specs.Text.{IsLogOf, IsFirstFault}
@@ -25,7 +24,7 @@ Stands left text (RefusedAt n fault) = IsEarlyFault text n fault ⊎ IsAtEnd lef
 -- a source handed out bytes, and this is what they give, whatever follows
 pub record GivesReading (left left' : Option (List ℕ)) (reading : Reading) : Type 0 where
   pub text : List ℕ
-  pub given : GivesBytes left left' text
+  pub given : Consumes left left' text
   pub right : IsReading text reading
   pub stands : Stands left' text reading
 

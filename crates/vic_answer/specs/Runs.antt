@@ -1,8 +1,8 @@
 -- What a run over a text reads and writes, and how it leaves its source and its sink.
-use Rattle.std.specs.Prelude.{◌≡◌, ◌≢◌, ◌↔◌, ◌⊎◌, ◌≤◌, ℕ, ◌+◌, ◌*◌, Bool, true, false, ⊤, List, Option, Result, Ok, Err, OnOk, IfErr}
-use Rattle.std.specs.Io.KnownBytes.{Appends, IsAtEnd}
+use Rattle.std.specs.Prelude.{◌≡◌, ◌≢◌, ◌↔◌, ◌⊎◌, ◌≤◌, ℕ, ◌+◌, ◌*◌, Bool, true, false, ⊤, List, Option, Result, Ok, Err, OnOk, IfErr, is_err}
+use Rattle.std.specs.Io.KnownBytes.{Consumes, Appends, IsAtEnd}
 use Rattle.vic_log.specs.declared.fault.LineFault.{LineFault}
-use Rattle.vic_log.specs.Device.{GivesBytes, HandsOut, HasTakenPrefix}
+use Rattle.vic_log.specs.Device.{HandsOut, HasTakenPrefix}
 use Rattle.vic_log.specs.Early.{IsEarlyFault}
 use Rattle.vic_answer.specs.declared.status.RunFault.{RunFault}
 use Rattle.vic_answer.specs.declared.status.RunFault.TheVariants.{Read, Write, Memory}
@@ -21,7 +21,7 @@ IsEnough left text = IsAtEnd left ⊎ HasEarlyFault text
 -- the source handed out bytes that can be answered, and the sink took their answer, with this status, and nothing else
 pub record Answers (IsAnswerTo : List ℕ → List ℕ → Status → Type 0) (left left' taken taken' : Option (List ℕ)) (status : Status) : Type 0 where
   pub text : List ℕ
-  pub given : GivesBytes left left' text
+  pub given : Consumes left left' text
   pub enough : IsEnough left' text
   pub answer : List ℕ
   pub right : IsAnswerTo text answer status
@@ -30,7 +30,7 @@ pub record Answers (IsAnswerTo : List ℕ → List ℕ → Status → Type 0) (l
 -- the same, but the sink took a prefix of their answer
 pub record AnswersInPart (IsAnswerTo : List ℕ → List ℕ → Status → Type 0) (left left' taken taken' : Option (List ℕ)) : Type 0 where
   pub text : List ℕ
-  pub given : GivesBytes left left' text
+  pub given : Consumes left left' text
   pub enough : IsEnough left' text
   pub answer : List ℕ
   pub status : Status
@@ -62,10 +62,20 @@ pub record LeavesSource {R : Type 0} (reads : R → ℕ) (has_failed : R → Boo
   pub untouched : has_failed old ≡ true → new ≡ old
   pub at_most : reads new ≤ reads old + most_reads
 
--- how a run leaves its sink: failed where the result is `Write`, untouched at any other fault and where it had failed
--- before
-pub record LeavesSink {W : Type 0} (has_failed : W → Bool) (old new : W) (result : Result Status RunFault) : Type 0 where
+-- how a run leaves its sink: all handed on where it ended with a status, failed where the result is `Write`, untouched
+-- at any other fault and where it had failed before
+pub record LeavesSink {W : Type 0} (is_flushed has_failed : W → Bool) (old new : W) (result : Result Status RunFault) : Type 0 where
+  pub flushed : OnOk result (is_flushed new ≡ true)
   pub works : OnOk result (has_failed new ≡ false)
   pub write : IfErr result (λ e. e ≡ Write → has_failed new ≡ true)
   pub unwritten : IfErr result (λ e. e ≢ Write → new ≡ old)
+  pub untouched : has_failed old ≡ true → new ≡ old
+
+-- a sink took a text and handed it on, or failed and took a prefix of it; it is untouched where it had failed before
+pub record Writes {W A : Type 0} (taken : W → Option (List ℕ)) (is_flushed has_failed : W → Bool) (old new : W) (text : List ℕ) (result : Result A RunFault) : Type 0 where
+  pub all : OnOk result (Appends (taken old) (taken new) text)
+  pub flushed : OnOk result (is_flushed new ≡ true)
+  pub begun : HasTakenPrefix (taken old) (taken new) text
+  pub fault : IfErr result (λ e. e ≡ Write)
+  pub failed : has_failed new ≡ is_err result
   pub untouched : has_failed old ≡ true → new ≡ old

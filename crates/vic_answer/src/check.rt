@@ -1,7 +1,8 @@
 //! The command `check`.
 
-ghost use Rattle.std.specs.Prelude.{◌≡◌, ℕ, List, ◌++◌, Option, Some, IfOk, OnOk, codes};
+ghost use Rattle.std.specs.Prelude.{◌≡◌, ◌<◌, ℕ, List, ◌++◌, Option, Some, IfOk, OnOk, codes};
 ghost use Rattle.std.specs.Io.KnownBytes.{IsAtEnd};
+ghost use Rattle.arrayvec.specs.ArrayVec.{array_vec_len};
 ghost use Rattle.vic_verdict.specs.declared.verdict.Verdict.TheVariants.{Complete};
 ghost use Rattle.vic_answer.specs.CheckText.{IsAnswer, IsCheckOf, IsCompleteText, answer_line, answer_status, verdict_status};
 ghost use Rattle.vic_answer.specs.CompleteRun.{GivesCompleteText};
@@ -9,12 +10,12 @@ ghost use Rattle.vic_answer.specs.Readings.{IsReading, Stands};
 ghost use Rattle.vic_answer.specs.Runs.{Runs, LeavesSource, LeavesSink};
 
 use crate::input::{Reading, read_source};
-use crate::lines::{refusal_line, verdict_line};
+use crate::lines::{LINE_ROOM, refusal_line, verdict_line};
 use crate::output::write_and_flush;
 use crate::status::{RunFault, Status};
 use crate::text::Text;
 use std::alloc::{AllocError, Global};
-use vic_log::{LineFault, Sink, Source};
+use vic_log::{LineFault, LogFault, Sink, Source, read_log};
 use vic_verdict::{Verdict, judge};
 
 /// What is answered to a text.
@@ -24,6 +25,21 @@ pub enum Answer {
     Judged(Verdict),
     /// A line of it has a fault, and this is the first.
     RefusedAt { line: u32, fault: LineFault },
+}
+
+/// The answer to a whole text. It is refused for want of memory alone.
+pub fn judge_text(alloc: Global, text: &[u8]) -> Result<Answer, AllocError>
+    ensures answer { IfOk result (IsAnswer text.now) }
+    // where it is `complete`, the list of the log is whole and so long
+    ensures whole { IfOk result (λ a. (count : ℕ) → a ≡ Answer.Judged (Complete count)
+        → IsCompleteText text.now count) }
+{
+    match read_log(alloc, text) {
+        Ok(log) => Ok(Answer::Judged(judge(alloc, &log)?)),
+        Err(LogFault::Line { line, fault }) => Ok(Answer::RefusedAt { line, fault }),
+        Err(LogFault::Memory) => Err(AllocError),
+        Err(LogFault::Read) | Err(LogFault::Spent) => unreachable!(),
+    }
 }
 
 /// Judges the log that a source hands out, writes the answer's one line and flushes it. The status
@@ -42,7 +58,7 @@ pub fn run_check<R: Source, W: Sink>(
         → W.taken sink.new ≡ Some (before ++ (codes "complete " ++ rest))
         → GivesCompleteText (R.left source.old) (R.left source.new) rest) }
     ensures leaves_source { LeavesSource R.reads R.has_failed source.old source.new result }
-    ensures leaves_sink { LeavesSink W.has_failed sink.old sink.new result }
+    ensures leaves_sink { LeavesSink W.is_flushed W.has_failed sink.old sink.new result }
 {
     let reading = read_source(alloc, source)?;
     let answer = judge_reading(alloc, reading)?;
@@ -64,9 +80,10 @@ fn judge_reading(alloc: Global, reading: Reading) -> Result<Answer, AllocError>
     }
 }
 
-/// The line of an answer.
-fn answer_line(answer: &Answer) -> Text
-    ensures { result.items ≡ answer_line answer.now }
+/// The line of an answer, with its LF.
+pub fn answer_line(answer: &Answer) -> Text
+    ensures items { result.items ≡ answer_line answer.now }
+    ensures len { array_vec_len result < LINE_ROOM }
 {
     match answer {
         Answer::Judged(verdict) => verdict_line(verdict),
@@ -75,7 +92,7 @@ fn answer_line(answer: &Answer) -> Text
 }
 
 /// The status of an answer.
-fn answer_status(answer: &Answer) -> Status
+pub fn answer_status(answer: &Answer) -> Status
     ensures { result ≡ answer_status answer.now }
 {
     match answer {
@@ -91,9 +108,7 @@ fn verdict_status(verdict: &Verdict) -> Status
     match verdict {
         Verdict::Complete { .. } => Status::Whole,
         Verdict::Impossible { .. } => Status::Impossible,
-        Verdict::Absent(_)
-        | Verdict::Unlisted(_)
-        | Verdict::Unsettled(_)
-        | Verdict::Doubtful(_) => Status::NotWhole,
+        Verdict::Absent(_) | Verdict::Unlisted(_) | Verdict::Unsettled(_) | Verdict::Doubtful(_) =>
+            Status::NotWhole,
     }
 }

@@ -1,28 +1,27 @@
 //! The command `frame`.
 
-ghost use Rattle.std.specs.Prelude.{◌≡◌, ◌*◌, ◌≤◌, length, take, IfOk, IfErr, OnOk, is_err, true, Ok, Some, None, MatchResult};
-ghost use Rattle.std.specs.Io.KnownBytes.{Appends};
+ghost use Rattle.std.specs.Prelude.{◌≡◌, ◌*◌, ◌≤◌, length, take, IfOk, Ok, Some, None, MatchResult};
 ghost use Rattle.hex.specs.Hex.{decode_of};
-ghost use Rattle.vic_log.specs.Device.{HasTakenPrefix};
 ghost use Rattle.vic_answer.specs.FrameText.{readings_text, frame_text, frame_status, readings_status};
+ghost use Rattle.vic_answer.specs.Runs.{Writes};
 
-use crate::text::{Text, put};
+use crate::lines::{request_line, response_line};
 use crate::output::write_and_flush;
 use crate::status::{RunFault, Status};
-use crate::lines::{response_line, request_line};
+use crate::text::{TEXT_ROOM, Text, put};
 use arrayvec::ArrayVec;
 use vic_frame::{read_request, read_response};
 use vic_log::Sink;
 
+/// The longest word that is read, in bytes: that of a line of a log.
+const MAX_WORD_LEN: usize = 128;
+
 /// Writes the two readings of a word of hex digits, as a request and as a response, or why it is no
-/// frame. `Write` where the sink has failed: a prefix may be out. It takes no memory.
+/// frame, and flushes. `Write` where the sink has failed: a prefix may be out. It takes no memory.
 pub fn run_frame<W: Sink>(word: &[u8], sink: &mut W) -> Result<Status, RunFault>
     ensures status { IfOk result (λ s. s ≡ frame_status word.now) }
-    ensures written { OnOk result (Appends (W.taken sink.old) (W.taken sink.new) (frame_text word.now)) }
-    ensures begun { HasTakenPrefix (W.taken sink.old) (W.taken sink.new) (frame_text word.now) }
-    ensures fault { IfErr result (λ e. e ≡ RunFault.Write) }
-    ensures failed { W.has_failed sink.new ≡ is_err result }
-    ensures untouched { W.has_failed sink.old ≡ true → sink.new ≡ sink.old }
+    ensures written { Writes W.taken W.is_flushed W.has_failed
+        sink.old sink.new (frame_text word.now) result }
 {
     let (text, status) = answer(word);
     write_and_flush(sink, text.as_slice())?;
@@ -34,7 +33,7 @@ fn answer(word: &[u8]) -> (Text, Status)
     ensures text { result.0.items ≡ frame_text word.now }
     ensures status { result.1 ≡ frame_status word.now }
 {
-    if word.len() > 128 {
+    if word.len() > MAX_WORD_LEN {
         refused("refused LineTooLong\n")
     } else {
         decoded(word)
@@ -43,11 +42,11 @@ fn answer(word: &[u8]) -> (Text, Status)
 
 /// What is answered to a word that is short enough.
 fn decoded(word: &[u8]) -> (Text, Status)
-    requires { length word.now ≤ 128 }
+    requires { length word.now ≤ MAX_WORD_LEN }
     ensures text { result.0.items ≡ readings_text (decode_of word.now) }
     ensures status { result.1 ≡ readings_status (decode_of word.now) }
 {
-    let mut room = [0; 64];
+    let mut room = [0; MAX_WORD_LEN / 2];
     let Some(count) = decode(word, &mut room) else {
         return refused("refused Hex\n");
     };
@@ -57,7 +56,9 @@ fn decoded(word: &[u8]) -> (Text, Status)
 /// The bytes that hex digits spell, at the front of some room, and how many they are.
 fn decode(digits: &[u8], room: &mut [u8]) -> Option<usize>
     requires { length digits.now ≤ 2 * length room.old }
-    ensures { MatchResult (decode_of digits.now) (λ bytes. (result ≡ Some (length bytes)) × (take (length bytes) room.new ≡ bytes)) (λ _. result ≡ None) }
+    ensures { MatchResult (decode_of digits.now)
+        (λ bytes. (result ≡ Some (length bytes)) × (take (length bytes) room.new ≡ bytes))
+        (λ _. result ≡ None) }
 {
     let count = digits.len() / 2;
     match hex::decode_to_slice(digits, &mut room[..count]) {
@@ -88,7 +89,7 @@ fn readings(bytes: &[u8]) -> (Text, Status)
 
 /// A refusal of a word.
 fn refused(line: &str) -> (Text, Status)
-    requires { length line.now ≤ 192 }
+    requires { length line.now ≤ TEXT_ROOM }
     ensures text { result.0.items ≡ line.now }
     ensures status { result.1 ≡ Status.Refused }
 {

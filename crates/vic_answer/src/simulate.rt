@@ -1,11 +1,9 @@
 //! The command `simulate`.
 
-ghost use Rattle.std.specs.Prelude.{◌≡◌, ℕ, List, true, IfOk, IfErr, OnOk, is_err};
-ghost use Rattle.std.specs.Io.KnownBytes.{Appends};
-ghost use Rattle.vic_log.specs.Device.{HasTakenPrefix};
+ghost use Rattle.std.specs.Prelude.{◌≡◌, ℕ, List, IfOk};
 ghost use Rattle.vic_answer.specs.SimulateText.{IsSimulated, IsSimulationOf, simulated_text, simulated_status};
 ghost use Rattle.vic_answer.specs.Readings.{IsReading};
-ghost use Rattle.vic_answer.specs.Runs.{Runs, LeavesSource, LeavesSink};
+ghost use Rattle.vic_answer.specs.Runs.{Runs, LeavesSource, LeavesSink, Writes};
 
 use crate::input::{Reading, read_source};
 use crate::lines::{refusal_line, refused_at};
@@ -45,7 +43,7 @@ pub fn run_simulate<R: Source, W: Sink>(
     ensures answer { Runs IsSimulationOf (R.left source.old) (R.left source.new)
         (W.taken sink.old) (W.taken sink.new) result }
     ensures leaves_source { LeavesSource R.reads R.has_failed source.old source.new result }
-    ensures leaves_sink { LeavesSink W.has_failed sink.old sink.new result }
+    ensures leaves_sink { LeavesSink W.is_flushed W.has_failed sink.old sink.new result }
 {
     let reading = read_source(alloc, source)?;
     let simulated = simulate_reading(alloc, reading)?;
@@ -71,11 +69,8 @@ fn simulate_reading(alloc: Global, reading: Reading) -> Result<Simulated, AllocE
 /// Writes the line of a refusal.
 fn refuse<W: Sink>(line: &Text, sink: &mut W) -> Result<Status, RunFault>
     ensures status { IfOk result (λ s. s ≡ Status.Refused) }
-    ensures written { OnOk result (Appends (W.taken sink.old) (W.taken sink.new) line.now.items) }
-    ensures begun { HasTakenPrefix (W.taken sink.old) (W.taken sink.new) line.now.items }
-    ensures fault { IfErr result (λ e. e ≡ RunFault.Write) }
-    ensures failed { W.has_failed sink.new ≡ is_err result }
-    ensures untouched { W.has_failed sink.old ≡ true → sink.new ≡ sink.old }
+    ensures written { Writes W.taken W.is_flushed W.has_failed
+        sink.old sink.new line.now.items result }
 {
     write_and_flush(sink, line.as_slice())?;
     Ok(Status::Refused)
@@ -84,11 +79,8 @@ fn refuse<W: Sink>(line: &Text, sink: &mut W) -> Result<Status, RunFault>
 /// Writes the text of an answer.
 fn write_simulated<W: Sink>(simulated: Simulated, sink: &mut W) -> Result<Status, RunFault>
     ensures status { IfOk result (λ s. s ≡ simulated_status simulated) }
-    ensures written { OnOk result (Appends (W.taken sink.old) (W.taken sink.new) (simulated_text simulated)) }
-    ensures begun { HasTakenPrefix (W.taken sink.old) (W.taken sink.new) (simulated_text simulated) }
-    ensures fault { IfErr result (λ e. e ≡ RunFault.Write) }
-    ensures failed { W.has_failed sink.new ≡ is_err result }
-    ensures untouched { W.has_failed sink.old ≡ true → sink.new ≡ sink.old }
+    ensures written { Writes W.taken W.is_flushed W.has_failed
+        sink.old sink.new (simulated_text simulated) result }
 {
     match simulated {
         Simulated::Filled(log) => match write_log(&log, sink) {

@@ -30,9 +30,10 @@ fn says(
     names: &str,
     line: &str,
     status: Status,
-) -> Result<(), AllocError> {
+) -> Result<(), Fail> {
     let text = log_of(alloc, names)?;
-    judge(rt, alloc, text.as_bytes(), line, status)
+    judge(rt, alloc, text.as_bytes(), line, status)?;
+    Ok(())
 }
 
 #[test]

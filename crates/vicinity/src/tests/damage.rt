@@ -125,6 +125,30 @@ fn readers_without_end(rt: HostRuntime) {
 }
 
 #[test]
+fn early_faults(rt: HostRuntime) {
+    let alloc = rt.alloc();
+    let refusal = b"refused at line 1: Header\n".as_slice();
+    let wrong = b"vicinity-log 9\n".as_slice();
+    let line = line_of(
+        &rt,
+        alloc,
+        &mut FromRead::new(wrong.chain(io::repeat(b' '))),
+    );
+    assert_eq!(rt; line.as_slice(), refusal);
+    let mut source = Pieces::new(b"vicinity-log 9\nS\n", wrong.len(), 2);
+    assert_eq!(rt; line_of(&rt, alloc, &mut source).as_slice(), refusal);
+    assert_eq!(rt; source.reads(), 1);
+    let mut source = Pieces::new(b"vicinity-log 9\nS\n", wrong.len(), 2);
+    let mut sink = ToWrite::new(Vec::new(alloc));
+    assert_eq!(rt;
+        run_simulate(alloc, &mut source, &mut sink),
+        Ok(Status::Refused)
+    );
+    assert_eq!(rt; sink.into_inner().as_slice(), refusal);
+    assert_eq!(rt; source.reads(), 1);
+}
+
+#[test]
 fn lines_without_end(rt: HostRuntime) {
     let alloc = rt.alloc();
     let returns = b"vicinity-log 1\n".as_slice().chain(io::repeat(b'\r'));

@@ -10,4 +10,4 @@ returns-clause-answer g c =
     let w = c.write_simulated.ensures in
     ends_written IsSimulationOf _ _ _ _ c.in_ok-reading.reading r (simulated_text simulated) (simulated_status simulated)
     record { simulated = simulated; right = c.in_ok-simulated.ensures r.text r.right; answer_is = refl; status_is = refl }
-    c.write_simulated.result w.status w.written w.begun w.fault
+    c.write_simulated.result w.status w.written.all w.written.begun w.written.fault
