@@ -32,8 +32,10 @@ fn list(log: &mut Log, uid: Uid) -> Found {
 
 /// Lists a UID, and then one below it.
 pub fn push(alloc: Global) -> Found {
-    let (Some(low), Some(high)) = (Uid::new(0xE004_0100_0000_00A1), Uid::new(0xE004_0100_0000_00B2))
-    else {
+    let (Some(low), Some(high)) = (
+        Uid::new(0xE004_0100_0000_00A1),
+        Uid::new(0xE004_0100_0000_00B2),
+    ) else {
         return Found::Wrong;
     };
     let mut log = Log::new(alloc);
@@ -82,12 +84,18 @@ fn read_row_in_pieces(alloc: Global, text: &[u8]) -> Result<bool, AllocError> {
 pub fn read_rows(alloc: Global) -> Found {
     let first = call_again(|| read_row(alloc, TWO_HEARD));
     let second = call_again(|| read_row(alloc, ONE_SILENCED));
-    both(both(first, second), call_again(|| read_row(alloc, COLLISION_PARTED)))
+    both(
+        both(first, second),
+        call_again(|| read_row(alloc, COLLISION_PARTED)),
+    )
 }
 
 /// Reads logs in pieces.
 pub fn read_rows_in_pieces(alloc: Global) -> Found {
     let first = call_again(|| read_row_in_pieces(alloc, TWO_HEARD));
     let second = call_again(|| read_row_in_pieces(alloc, ONE_SILENCED));
-    both(both(first, second), call_again(|| read_row_in_pieces(alloc, COLLISION_PARTED)))
+    both(
+        both(first, second),
+        call_again(|| read_row_in_pieces(alloc, COLLISION_PARTED)),
+    )
 }

@@ -25,7 +25,9 @@ fn number_of(bytes: &[u8]) -> u32 {
     let mut number = 0u32;
     for byte in bytes {
         if byte.is_ascii_digit() {
-            number = number.wrapping_mul(10).wrapping_add(u32::from(*byte - b'0'));
+            number = number
+                .wrapping_mul(10)
+                .wrapping_add(u32::from(*byte - b'0'));
         }
     }
     number
@@ -57,12 +59,32 @@ fn main(rt: HostRuntime) -> io::Result<()> {
     say(&rt, "read_all", logs::read_rows_in_pieces(alloc))?;
     say(&rt, "add", tags::add(alloc))?;
     say(&rt, "simulate", tags::simulate_rows(alloc))?;
-    say(&rt, "settle CellList", sets::settle_masks::<CellList>(alloc))?;
-    say(&rt, "settle MaskTree", sets::settle_masks::<MaskTree>(alloc))?;
-    say(&rt, "settle RangeSet", sets::settle_masks::<RangeSet>(alloc))?;
+    say(
+        &rt,
+        "settle CellList",
+        sets::settle_masks::<CellList>(alloc),
+    )?;
+    say(
+        &rt,
+        "settle MaskTree",
+        sets::settle_masks::<MaskTree>(alloc),
+    )?;
+    say(
+        &rt,
+        "settle RangeSet",
+        sets::settle_masks::<RangeSet>(alloc),
+    )?;
     say(&rt, "judge", verdicts::judge_rows(alloc))?;
-    say(&rt, "judge_with CellList", verdicts::judge_rows_with::<CellList>(alloc))?;
-    say(&rt, "judge_with MaskTree", verdicts::judge_one_with::<MaskTree>(alloc))?;
+    say(
+        &rt,
+        "judge_with CellList",
+        verdicts::judge_rows_with::<CellList>(alloc),
+    )?;
+    say(
+        &rt,
+        "judge_with MaskTree",
+        verdicts::judge_one_with::<MaskTree>(alloc),
+    )?;
     say(&rt, "run_check", runs::check_rows(alloc))?;
     say(&rt, "run_simulate", runs::simulate_rows(alloc))?;
     say(&rt, "read_words", words::read(alloc))
