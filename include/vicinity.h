@@ -1,0 +1,1 @@
+../crates/vicinity_header/stdout
