@@ -1,5 +1,5 @@
-use Rattle.std.proofs.Common.{◌≡◌, ℕ, suc, Bool, true, false, ◌<◌, ◌==◌, ◌||◌, List, [], ◌∷◌, ◌++◌, Some, None, length, take, sym, ap, ◌∙◌, refl, add-one}
-use Rattle.std.specs.Prelude.{nat_eq, get_or, if◌then◌else◌}
+use Rattle.std.proofs.Common.{◌≡◌, ℕ, suc, Bool, true, false, ◌<◌, ◌==◌, ◌||◌, List, [], ◌∷◌, length, take, ap, ◌∙◌, refl, add-one}
+use Rattle.std.specs.Prelude.{nat_eq, get_or}
 use Rattle.std.proofs.Math.Seq.{take-suc}
 use Rattle.std.proofs.lemmas.List.{map-append}
 use Rattle.std.proofs.lemmas.List.Folds.{list_any-append}

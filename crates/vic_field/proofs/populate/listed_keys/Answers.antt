@@ -1,4 +1,4 @@
-use Rattle.std.proofs.Common.{◌≡◌, ℕ, List, Some, length, take, ◌++◌, [], ◌∷◌, refl, sym, ap, ◌∙◌, subst, add-one}
+use Rattle.std.proofs.Common.{◌≡◌, ℕ, List, Some, length, take, [], ◌∷◌, refl, sym, ap, ◌∙◌, subst, add-one}
 use Rattle.std.specs.Prelude.{slice_get}
 use Rattle.std.proofs.lemmas.Option.{slice_get_read}
 use Rattle.vic_log.specs.declared.entry.Entry.{Entry}
