@@ -3,13 +3,12 @@
 
 #[cfg(test)]
 mod tests;
-mod words;
 
 use std::process::ExitCode;
 use std::{env, fs};
 use vic_answer::{RunFault, Status, fault_text, run_check, run_explain, run_frame, run_simulate};
 use vic_log::{FromRead, Source, ToWrite};
-use words::{Task, WordsFault, read_words};
+use vic_words::{Task, WordsFault, read_words};
 
 /// The exit status of a run that has no answer.
 const NO_ANSWER: u8 = 4;

@@ -1,4 +1,5 @@
 //! What the program's words ask for.
+#![tactic(auto)]
 
 use clap::error::ErrorKind;
 use clap::{Arg, ArgAction, ArgMatches, Command, Error};

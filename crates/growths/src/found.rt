@@ -1,0 +1,47 @@
+//! What a call gave where one growth may be refused.
+
+use std::alloc::AllocError;
+
+/// What a call gave.
+#[derive(Clone, Copy, Debug, PartialEq, Eq)]
+pub enum Found {
+    /// The right answer; no growth was refused.
+    Right,
+    /// Want of memory, and the right answer when it was called again.
+    Memory,
+    /// Anything else.
+    Wrong,
+}
+
+impl Found {
+    /// Its word.
+    pub fn word(self) -> &'static str {
+        match self {
+            Found::Right => "right",
+            Found::Memory => "memory",
+            Found::Wrong => "wrong",
+        }
+    }
+}
+
+/// Makes a call that says whether its answer is right, and makes it again where memory was wanting.
+pub fn call_again<F: Fn() -> Result<bool, AllocError>>(call: F) -> Found
+    requires { F.IsAlwaysCallable call }
+{
+    match call() {
+        Ok(true) => Found::Right,
+        Ok(false) => Found::Wrong,
+        Err(AllocError) => match call() {
+            Ok(true) => Found::Memory,
+            Ok(false) | Err(AllocError) => Found::Wrong,
+        },
+    }
+}
+
+/// What two calls gave, one after the other.
+pub fn both(first: Found, second: Found) -> Found {
+    match (first, second) {
+        (Found::Right, found) | (found, Found::Right) => found,
+        _ => Found::Wrong,
+    }
+}

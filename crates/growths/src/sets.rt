@@ -1,0 +1,51 @@
+//! Sets of open UIDs: `everything` and `settle`.
+
+use crate::found::{Found, both, call_again};
+use std::alloc::{AllocError, Global};
+use vic_frame::{Mask, Uid};
+use vic_tree::OpenSet;
+
+/// Settles one half of the UIDs, and then the other but for one UID.
+fn settle_halves<S: OpenSet>(alloc: Global) -> Result<bool, AllocError> {
+    let (Some(uid), Some(other), Some(even), Some(odd), Some(all)) = (
+        Uid::new(0xE004_0100_0000_00A1),
+        Uid::new(0xE004_0100_0000_00B2),
+        Mask::new(1, 0),
+        Mask::new(1, 1),
+        Mask::new(0, 0),
+    ) else {
+        return Ok(false);
+    };
+    let mut set: S = S::everything(alloc)?;
+    let whole = set.widest() == Some(all);
+    set.settle(&even, &[])?;
+    let half = set.widest() == Some(odd) && set.has(uid) && !set.has(other);
+    set.settle(&odd, &[uid])?;
+    let one = set.widest() == Mask::new(56, 0x04_0100_0000_00A1);
+    Ok(whole && half && one)
+}
+
+/// Settles a mask but for one UID. Where memory is wanting, no UID is left.
+fn settle_mask<S: OpenSet>(alloc: Global) -> Result<bool, AllocError> {
+    let (Some(uid), Some(other), Some(mask)) = (
+        Uid::new(0xE004_0100_0000_00A1),
+        Uid::new(0xE004_0100_0000_00B2),
+        Mask::new(8, 0xA1),
+    ) else {
+        return Ok(false);
+    };
+    let mut set: S = S::everything(alloc)?;
+    match set.settle(&mask, &[uid]) {
+        Ok(()) => Ok(set.has(uid) && set.has(other)),
+        Err(AllocError) if set.has(other) || set.widest().is_some() => Ok(false),
+        Err(AllocError) => Err(AllocError),
+    }
+}
+
+/// Settles masks in a set of one kind.
+pub fn settle_masks<S: OpenSet>(alloc: Global) -> Found {
+    both(
+        call_again(|| settle_halves::<S>(alloc)),
+        call_again(|| settle_mask::<S>(alloc)),
+    )
+}
