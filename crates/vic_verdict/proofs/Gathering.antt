@@ -21,7 +21,7 @@ use Rattle.vic_verdict.specs.declared.demands.Found.{Found}
 use Rattle.vic_verdict.specs.declared.demands.Met.{Met}
 use Rattle.vic_verdict.specs.Demands.{needs_of, IsFoundAt, IsFound, IsMet, all_needs}
 use Rattle.vic_verdict.specs.Gathered.{is_other, chosen, all_chosen, gathered}
-use Rattle.vic_verdict.specs.Explained.{HasHeard}
+use Rattle.vic_verdict.specs.Explained.{HasAllHeard}
 use Rattle.vic_verdict.specs.Places.{answering, entry_asks, entry_forces}
 use Rattle.vic_verdict.specs.Possible.{IsPossible, IsCertainUid}
 use Rattle.vic_verdict.specs.Rising.{SameMembers}
@@ -79,13 +79,13 @@ no_more (x ∷ xs) ys d w =
 has_append : (xs ys : List ℕ) (u : ℕ) → has (xs ++ ys) u ≡ (has xs u || has ys u)
 has_append xs ys u = list_any-append (nat_eq u) xs ys
 
-pub append_cases : (xs ys : List ℕ) (u : ℕ) → has (xs ++ ys) u ≡ true → (has xs u ≡ true) ⊎ (has ys u ≡ true)
+append_cases : (xs ys : List ℕ) (u : ℕ) → has (xs ++ ys) u ≡ true → (has xs u ≡ true) ⊎ (has ys u ≡ true)
 append_cases xs ys u h = or_cases (has xs u) (has ys u) (sym (has_append xs ys u) ∙ h)
 
-pub append_left : (xs ys : List ℕ) (u : ℕ) → has xs u ≡ true → has (xs ++ ys) u ≡ true
+append_left : (xs ys : List ℕ) (u : ℕ) → has xs u ≡ true → has (xs ++ ys) u ≡ true
 append_left xs ys u h = has_append xs ys u ∙ or_left _ _ h
 
-pub append_right : (xs ys : List ℕ) (u : ℕ) → has ys u ≡ true → has (xs ++ ys) u ≡ true
+append_right : (xs ys : List ℕ) (u : ℕ) → has ys u ≡ true → has (xs ++ ys) u ≡ true
 append_right xs ys u h = has_append xs ys u ∙ or_right _ _ h
 
 -- ---- what is chosen
@@ -257,7 +257,7 @@ gathered_other es m a n met h =
     (append_cases m.heard.items (all_chosen (Some a) m.found.items) a h)
 
 -- they are few
-gathered_few : (es : List Entry) (m : Met) (avoid : Option ℕ) (us : List ℕ) → IsMet es m → AreDifferent us → IsWithin (has us) (has (gathered avoid m)) → (heard : List ℕ) → HasHeard es heard → length us ≤ length heard + all_needs es
+gathered_few : (es : List Entry) (m : Met) (avoid : Option ℕ) (us : List ℕ) → IsMet es m → AreDifferent us → IsWithin (has us) (has (gathered avoid m)) → (heard : List ℕ) → HasAllHeard es heard → length us ≤ length heard + all_needs es
 gathered_few es m avoid us met different within heard all =
     let picks = all_chosen avoid m.found.items in
     let le = no_more us (heard ++ picks) different (λ u h. ⊎_elim (λ a. append_left heard picks u (all u ((met.heard u).0 a))) (λ b. append_right heard picks u b) (append_cases m.heard.items picks u (within u h))) in
@@ -305,7 +305,7 @@ pub record IsGathered (es : List Entry) (us : List ℕ) : Type 0 where
   pub rising : IsStrictlyIncreasing us
   pub population : IsPopulation us
   pub could : CouldHaveGiven us es
-  pub few : (heard : List ℕ) → HasHeard es heard → length us ≤ length heard + all_needs es
+  pub few : (heard : List ℕ) → HasAllHeard es heard → length us ≤ length heard + all_needs es
 
 asks_entry : (o : Option Reading) (s t : ℕ → Bool) → IsWithin s t → entry_asks o s → entry_asks o t
 asks_entry None s t w a = tt

@@ -26,4 +26,7 @@ pub mod Stretching
 pub mod Choosing
 pub mod Gathering
 pub mod Explaining
-pub mod Meetings
+pub mod Silencing
+pub mod Demanding
+pub mod Heard
+pub mod Meeting

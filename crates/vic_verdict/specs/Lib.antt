@@ -9,4 +9,5 @@ pub mod Stretches
 pub mod Demands
 pub mod Explained
 pub mod Gathered
-pub mod Meeting
+pub mod Silenced
+pub mod Replies
