@@ -203,15 +203,19 @@ heard_key h u v w = same_test u h (mirror h) (mirror u) (λ e. ap mirror (sym e)
 pub silenced_key : (h u : ℕ) → IsUid h → IsUid u → (h == u) ≡ (mirror h == mirror u)
 silenced_key h u v w = same_test h u (mirror h) (mirror u) (λ e. ap mirror e) (λ e. sym (uid_of_mirror h v) ∙ (ap uid_of e ∙ uid_of_mirror u w))
 
--- an entry that is neither sent nor silent nor heard, and no field cycle
-pub stretch_other : (es : List Entry) (i end : ℕ) (set : ℕ → Bool) (ns : List Name) (ss : List Spot) (e : Entry) → slice_get es i ≡ Some e → i < end → ((q : Request) → e ≡ Sent q → ⊥) → (e ≡ Silent → ⊥) → ((r : Reply) → e ≡ Heard r → ⊥) → (e ≡ FieldCycle → ⊥) → IsStretch es i end set ns ss → IsStretch es (i + 1) end set ns ss
-stretch_other es i end set ns ss (Sent q) k lt a b c d h = absurd (a q refl)
-stretch_other es i end set ns ss Silent k lt a b c d h = absurd (b refl)
-stretch_other es i end set ns ss (Heard r) k lt a b c d h = absurd (c r refl)
-stretch_other es i end set ns ss FieldCycle k lt a b c d h = absurd (d refl)
-stretch_other es i end set ns ss Collision k lt a b c d h = stretch_passed es i end set ns ss Collision k lt refl (λ u w. refl) (λ x u. refl) h
-stretch_other es i end set ns ss Garbled k lt a b c d h = stretch_passed es i end set ns ss Garbled k lt refl (λ u w. refl) (λ x u. refl) h
-stretch_other es i end set ns ss (Listed v) k lt a b c d h = stretch_passed es i end set ns ss (Listed v) k lt refl (λ u w. refl) (λ x u. refl) h
+-- a collision, a garbled slot or a listed UID
+pub stretch_other : (es : List Entry) (i end : ℕ) (set : ℕ → Bool) (ns : List Name) (ss : List Spot) (e : Entry) → slice_get es i ≡ Some e → i < end → (e ≡ Collision) ⊎ ((e ≡ Garbled) ⊎ (((v : ℕ) × (e ≡ Listed v)) ⊎ (e ≡ FieldCycle))) → (e ≡ FieldCycle → ⊥) → IsStretch es i end set ns ss → IsStretch es (i + 1) end set ns ss
+stretch_other es i end set ns ss e k lt is other h =
+    ⊎_elim
+    (λ s. stretch_passed es i end set ns ss Collision (k ∙ ap (λ (x : Entry). Some x) s) lt refl (λ u w. refl) (λ x u. refl) h)
+    (λ w. ⊎_elim
+    (λ s. stretch_passed es i end set ns ss Garbled (k ∙ ap (λ (x : Entry). Some x) s) lt refl (λ u v. refl) (λ x u. refl) h)
+    (λ y. ⊎_elim
+    (λ s. stretch_passed es i end set ns ss (Listed s.0) (k ∙ ap (λ (x : Entry). Some x) s.1) lt refl (λ u v. refl) (λ x u. refl) h)
+    (λ s. absurd (other s))
+    y)
+    w)
+    is
 
 pub named_here : (ns : List Name) (n : Name) → is_named (ns ++ n ∷ []) n.key ≡ true
 named_here ns n = list_any-append (λ (m : Name). m.key == n.key) ns (n ∷ []) ∙ or_last (is_named ns n.key) (n.key == n.key) (eq-eqb n.key n.key refl)
