@@ -1,5 +1,5 @@
 -- What meets the demands of a stretch.
-use Rattle.std.proofs.Common.{◌≡◌, ℕ, zero, suc, ◌+◌, ◌<◌, ◌≤◌, ◌==◌, ◌++◌, List, [], ◌∷◌, length, take, get_or, length-append, Bool, true, false, not, ◌&&◌, ◌||◌, Option, Some, None, refl, sym, ap, ◌∙◌, subst, arith, inl, inr, ⊎_elim}
+use Rattle.std.proofs.Common.{◌≡◌, ℕ, zero, suc, ◌+◌, ◌<◌, ◌≤◌, ◌++◌, List, [], ◌∷◌, length, take, get_or, length-append, Bool, true, false, not, ◌&&◌, Option, Some, None, refl, sym, ap, ◌∙◌, subst, arith, inl, inr, ⊎_elim}
 use Rattle.std.specs.Prelude.{◌⊎◌, slice_get}
 use Rattle.std.specs.List.{All, Any, list_all, list_any, sum_by}
 use Rattle.std.specs.List.Sorted.{IsPermutation}
@@ -18,16 +18,16 @@ use Rattle.vic_tree.specs.OpenSet.{SameUids, UpToThree, in_mask}
 use Rattle.vic_log.specs.declared.entry.Entry.{Entry}
 use Rattle.vic_log.specs.declared.entry.Entry.TheVariants.{Sent, Silent, Collision, Heard, Listed, Garbled, FieldCycle}
 use Rattle.vic_log.specs.Rounds.{mask_at, lies_in_some}
-use Rattle.vic_log.specs.Quiet.{silences, wakes, is_quiet}
+use Rattle.vic_log.specs.Quiet.{silences, wakes}
 use Rattle.vic_log.specs.Populations.{answers_at}
-use Rattle.vic_log.specs.Slots.{allows, slots_of, is_open, reading_of}
+use Rattle.vic_log.specs.Slots.{allows, slots_of, is_open}
 use Rattle.vic_log.proofs.Supply.{IsUid-from}
 use Rattle.vic_verdict.specs.declared.demands.Demand.{Demand}
 use Rattle.vic_verdict.specs.declared.demands.Found.{Found}
 use Rattle.vic_verdict.specs.declared.sweep.Name.{Name}
 use Rattle.vic_verdict.specs.Possible.{IsPossible}
-use Rattle.vic_verdict.specs.Places.{answering, entry_asks}
-use Rattle.vic_verdict.specs.Sweep.{is_silenced, is_between}
+use Rattle.vic_verdict.specs.Places.{answering}
+use Rattle.vic_verdict.specs.Sweep.{is_silenced}
 use Rattle.vic_verdict.specs.Silenced.{TellsQuiet}
 use Rattle.vic_verdict.specs.Demands.{needs, needs_of, needs_at, all_needs, IsFoundAt, IsFound, Meets, IsDemand, is_ready, IsSaidBy, IsAskedAgain, AreMet, AreAsked, AreFound}
 use Rattle.vic_verdict.proofs.Silencing.{silenced_later, tells_first, tells_anew, tells_passed}

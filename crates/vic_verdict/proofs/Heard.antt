@@ -1,10 +1,10 @@
 -- Whether the UIDs that were heard could have answered, from place to place.
-use Rattle.std.proofs.Common.{◌≡◌, ℕ, ◌+◌, ◌<◌, ◌≤◌, ◌++◌, List, [], ◌∷◌, length, get_or, Bool, true, false, not, ◌&&◌, ◌||◌, Option, Some, None, refl, sym, ap, ◌∙◌, subst, arith, inl, inr, ⊎_elim}
+use Rattle.std.proofs.Common.{◌≡◌, ℕ, ◌+◌, ◌<◌, ◌++◌, List, [], ◌∷◌, length, get_or, Bool, true, false, not, ◌||◌, Some, refl, sym, ap, ◌∙◌, subst, arith, inl, inr, ⊎_elim}
 use Rattle.std.specs.Prelude.{◌⊎◌, slice_get}
-use Rattle.std.specs.List.{All, Any, list_any}
+use Rattle.std.specs.List.{All, list_any}
 use Rattle.std.specs.List.Sorted.{IsPermutation}
 use Rattle.std.proofs.lemmas.List.Sorted.{list_any-IsPermutation}
-use Rattle.std.proofs.lemmas.Bool.{cases_eq, and_parts, and_from, both_ways, false≢true}
+use Rattle.std.proofs.lemmas.Bool.{cases_eq, and_parts, and_from, both_ways}
 use Rattle.std.proofs.lemmas.List.Elements.{All-push}
 use Rattle.std.proofs.lemmas.List.Quantifiers.{Any-push}
 use Rattle.std.proofs.lemmas.List.Folds.{list_any_at, Any-from_list_any}
@@ -12,14 +12,13 @@ use Rattle.vic_frame.specs.Uids.{IsUid}
 use Rattle.vic_frame.specs.LowBitsFirst.{mirror}
 use Rattle.vic_frame.specs.Replies.{Reply}
 use Rattle.vic_log.specs.declared.entry.Entry.{Entry}
-use Rattle.vic_log.specs.declared.entry.Entry.TheVariants.{Sent, Silent, Collision, Heard, Listed, Garbled, FieldCycle}
+use Rattle.vic_log.specs.declared.entry.Entry.TheVariants.{Silent, Collision, Heard, Listed, Garbled, FieldCycle}
 use Rattle.vic_log.specs.Rounds.{mask_at, lies_in_some}
 use Rattle.vic_log.specs.Quiet.{silences, wakes, is_quiet}
 use Rattle.vic_log.specs.Populations.{answers_at}
 use Rattle.vic_verdict.specs.declared.replies.HeardAt.{HeardAt}
 use Rattle.vic_verdict.specs.declared.sweep.Name.{Name}
 use Rattle.vic_verdict.specs.Possible.{IsPossible}
-use Rattle.vic_verdict.specs.Sweep.{is_silenced}
 use Rattle.vic_verdict.specs.Silenced.{TellsQuiet}
 use Rattle.vic_verdict.specs.Replies.{Answers, is_reply_silenced, IsHeardAt, AreHeard}
 use Rattle.vic_verdict.proofs.Silencing.{tells_first, tells_anew, tells_passed, silenced_permuted}

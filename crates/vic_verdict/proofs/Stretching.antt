@@ -11,10 +11,8 @@ use Rattle.vic_frame.specs.Masks.{BitMask}
 use Rattle.vic_frame.specs.LowBitsFirst.{mirror, uid_of}
 use Rattle.vic_frame.proofs.MirrorLaws.{uid_of_mirror, same_test}
 use Rattle.vic_tree.specs.OpenSet.{SameUids}
-use Rattle.vic_frame.specs.Replies.{Reply}
-use Rattle.vic_frame.specs.declared.request.Request.{Request}
 use Rattle.vic_log.specs.declared.entry.Entry.{Entry}
-use Rattle.vic_log.specs.declared.entry.Entry.TheVariants.{Sent, Silent, Collision, Heard, Listed, Garbled, FieldCycle}
+use Rattle.vic_log.specs.declared.entry.Entry.TheVariants.{Collision, Listed, Garbled, FieldCycle}
 use Rattle.vic_log.specs.Rounds.{mask_at, lies_in_some}
 use Rattle.vic_log.specs.Quiet.{silences, wakes, is_quiet}
 use Rattle.vic_log.specs.Populations.{answers_at}

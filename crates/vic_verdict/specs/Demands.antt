@@ -1,5 +1,5 @@
 -- What the slot lines of a log ask for, and which open UIDs meet it.
-use Rattle.std.specs.Prelude.{◌≡◌, ◌↔◌, ◌⊎◌, ℕ, suc, ◌+◌, ◌<◌, ◌≤◌, Bool, true, not, ◌&&◌, Option, Some, None, List, length, take, slice_get, slice_index_or}
+use Rattle.std.specs.Prelude.{◌≡◌, ◌↔◌, ◌⊎◌, ℕ, ◌+◌, ◌<◌, ◌≤◌, Bool, true, not, ◌&&◌, Option, Some, None, List, length, take, slice_get, slice_index_or}
 use Rattle.std.specs.List.{All, Any, sum_by}
 use Rattle.vic_frame.specs.Uids.{has}
 use Rattle.vic_frame.specs.Replies.{Reply}

@@ -3,7 +3,7 @@ use Rattle.std.specs.List.{list_any}
 use Rattle.vic_frame.specs.LowBitsFirst.{mirror}
 use Rattle.vic_log.specs.Rounds.{lies_in_some}
 use Rattle.vic_verdict.specs.Sweep.{is_silenced}
-use Rattle.vic_verdict.proofs.Demanding.{first_ready, others_ready}
+use Rattle.vic_verdict.proofs.Demanding.{first_ready}
 use Rattle.vic_verdict.proofs.demands.respondents.Goals as goal
 
 pub returns-then-not-is_any_silenced : goal.returns-then-not-is_any_silenced

@@ -1,4 +1,4 @@
-use Rattle.std.proofs.Common.{◌≡◌, ◌+◌, ◌∙◌, ap, sym, subst, Some}
+use Rattle.std.proofs.Common.{◌+◌, ◌∙◌, ap, sym, subst, Some}
 use Rattle.vic_log.specs.declared.entry.Entry.{Entry}
 use Rattle.vic_log.specs.Order.{entries}
 use Rattle.vic_verdict.specs.Demands.{HasHeard}

@@ -1,4 +1,4 @@
-use Rattle.std.proofs.Common.{◌≡◌, ◌∙◌, ap, sym, subst, List, ℕ, length, arith}
+use Rattle.std.proofs.Common.{◌∙◌, ap, sym, subst, List, ℕ, length, arith}
 use Rattle.std.specs.Prelude.{MatchOption}
 use Rattle.std.specs.List.{list_all}
 use Rattle.vic_verdict.specs.Possible.{IsPossible}
