@@ -11,6 +11,7 @@ mod line;
 mod log;
 mod read;
 mod reader;
+mod rounds;
 mod sink;
 mod source;
 #[cfg(test)]
@@ -23,6 +24,7 @@ pub use line::line_entry;
 pub use log::Log;
 pub use read::read_log;
 pub use reader::LogReader;
+pub use rounds::{OpenRound, RoundCursor};
 pub use sink::{Sink, ToWrite, write_whole};
 pub use source::{DeviceFault, FromRead, ReadFault, Source, read_whole};
 pub use write::write_log;

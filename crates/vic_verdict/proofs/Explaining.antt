@@ -1,14 +1,15 @@
 -- A gathered population shows the verdict.
-use Rattle.std.proofs.Common.{◌≡◌, ℕ, ◌≤◌, List, ◌∷◌, length, true, Some, None, sym, ◌∙◌, subst, arith, ⊎_elim}
+use Rattle.std.proofs.Common.{◌≡◌, ℕ, ◌≤◌, List, [], ◌∷◌, ◌++◌, length, true, Some, None, sym, ◌∙◌, subst, arith, inl, inr, ⊎_elim, length-append}
+use Rattle.std.specs.Prelude.{◌⊎◌}
 use Rattle.std.specs.List.Sorted.{IsStrictlyIncreasing}
-use Rattle.std.proofs.lemmas.Bool.{false_from_ne_true}
+use Rattle.std.proofs.lemmas.Bool.{false≢true, false_from_ne_true}
 use Rattle.vic_frame.specs.Uids.{IsUid, has}
 use Rattle.vic_frame.specs.Masks.{BitMask, lies_in, least_uid_in}
 use Rattle.vic_log.specs.declared.entry.Entry.{Entry}
 use Rattle.vic_log.specs.declared.entry.LogLine.{LogLine}
 use Rattle.vic_log.specs.Order.{entries}
 use Rattle.vic_log.specs.Slots.{slots_of, is_open}
-use Rattle.vic_log.proofs.Sets.{IsWithin, AreDifferent-population, IsUid-member, has_here, has_there, has_cases}
+use Rattle.vic_log.proofs.Sets.{IsWithin, AreDifferent-population, IsUid-member, has_here, has_cases}
 use Rattle.vic_log.proofs.Supply.{MeetsAll-iff, SuppliesAll-within}
 use Rattle.vic_log.proofs.Places.{CouldHaveGiven-slots}
 use Rattle.vic_verdict.specs.declared.demands.Met.{Met}
@@ -20,7 +21,7 @@ use Rattle.vic_verdict.specs.Possible.{IsPossible, IsPossibleUid, IsCertainUid}
 use Rattle.vic_verdict.specs.Rising.{SameMembers}
 use Rattle.vic_verdict.specs.Verdict.{IsVerdict}
 use Rattle.vic_verdict.proofs.Decide.{IsPossibleUid-iff}
-use Rattle.vic_verdict.proofs.Gathering.{IsGathered, AvoidsNoneCertain, rising_population, no_more, gathered_population, gathered_without}
+use Rattle.vic_verdict.proofs.Gathering.{IsGathered, AvoidsNoneCertain, append_cases, append_left, append_right, rising_population, no_more, gathered_population, gathered_without}
 use Rattle.vic_verdict.proofs.Masks.{lies_in-uid_in, IsUid-in}
 
 small_from : (es : List Entry) (us : List ℕ) → IsGathered es us → IsSmallPopulation es us
@@ -53,16 +54,25 @@ doubtful_shown lines m us u v met rising same =
     let g = gathered_population es m (Some u) us v.0 spared met rising same in
     (small_from es us g, gathered_without es m u us v.4.0.1 met same)
 
+with_last : (us : List ℕ) (x u : ℕ) → has (us ++ x ∷ []) u ≡ true → (has us u ≡ true) ⊎ (u ≡ x)
+with_last us x u h =
+    ⊎_elim
+    (λ k. inl k)
+    (λ m. inr (⊎_elim (λ e. e) (λ none. absurd (false≢true none)) (has_cases u x [] m)))
+    (append_cases us (x ∷ []) u h)
+
 -- a gathered population with one possible UID more
-with_possible : (es : List Entry) (x : ℕ) (us vs : List ℕ) → IsPossible es → IsUid x → IsPossibleUid es x → IsGathered es us → IsStrictlyIncreasing vs → SameMembers vs (x ∷ us) → IsSmallPopulation es vs
+with_possible : (es : List Entry) (x : ℕ) (us vs : List ℕ) → IsPossible es → IsUid x → IsPossibleUid es x → IsGathered es us → IsStrictlyIncreasing vs → SameMembers vs (us ++ x ∷ []) → IsSmallPopulation es vs
 with_possible es x us vs possible i p g rising same =
     let slots = slots_of es in
-    let split : IsWithin (has vs) (has (x ∷ us)) = λ u h. sym (same u) ∙ h in
+    let split : IsWithin (has vs) (has (us ++ x ∷ [])) = λ u h. sym (same u) ∙ h in
+    let parts : (u : ℕ) → has vs u ≡ true → (has us u ≡ true) ⊎ (u ≡ x) = λ u h. with_last us x u (split u h) in
     let old = (MeetsAll-iff us slots g.population).0 ((CouldHaveGiven-slots us es).0 g.could) in
-    let within : IsWithin (has vs) (is_open slots) = λ u h. ⊎_elim (λ e. subst (λ z. is_open slots z ≡ true) (sym e) ((IsPossibleUid-iff es x possible).0 p)) (λ k. old.0 u k) (has_cases u x us (split u h)) in
-    let population = rising_population vs rising (λ u h. ⊎_elim (λ e. subst IsUid (sym e) i) (λ k. IsUid-member us u g.population k) (has_cases u x us (split u h))) in
-    let supplied = SuppliesAll-within (has us) (has vs) slots (λ u h. same u ∙ has_there u x us h) old.1 in
-    let longer : length vs ≤ length (x ∷ us) = no_more vs (x ∷ us) (AreDifferent-population vs population) split in
+    let within : IsWithin (has vs) (is_open slots) = λ u h. ⊎_elim (λ k. old.0 u k) (λ e. subst (λ z. is_open slots z ≡ true) (sym e) ((IsPossibleUid-iff es x possible).0 p)) (parts u h) in
+    let population = rising_population vs rising (λ u h. ⊎_elim (λ k. IsUid-member us u g.population k) (λ e. subst IsUid (sym e) i) (parts u h)) in
+    let supplied = SuppliesAll-within (has us) (has vs) slots (λ u h. same u ∙ append_left us (x ∷ []) u h) old.1 in
+    let long = length-append us (x ∷ []) in
+    let longer : length vs ≤ length (us ++ x ∷ []) = no_more vs (us ++ x ∷ []) (AreDifferent-population vs population) split in
     record {
       rising = rising;
       population = population;
@@ -70,11 +80,11 @@ with_possible es x us vs possible i p g rising same =
       few = λ heard all. let n = g.few heard all in omega arith;
     }
 
-pub unsettled_shown : (lines : List LogLine) (m : Met) (us vs : List ℕ) (k : BitMask) (x : ℕ) → IsVerdict lines (Unsettled k) → IsMet (entries lines) m → IsStrictlyIncreasing us → SameMembers us (gathered None m) → x ≡ least_uid_in k → IsStrictlyIncreasing vs → SameMembers vs (x ∷ us) → IsPopulationBehind (entries lines) (Unsettled k) vs
+pub unsettled_shown : (lines : List LogLine) (m : Met) (us vs : List ℕ) (k : BitMask) (x : ℕ) → IsVerdict lines (Unsettled k) → IsMet (entries lines) m → IsStrictlyIncreasing us → SameMembers us (gathered None m) → x ≡ least_uid_in k → IsStrictlyIncreasing vs → SameMembers vs (us ++ x ∷ []) → IsPopulationBehind (entries lines) (Unsettled k) vs
 unsettled_shown lines m us vs k x v met rising same is rising' same' =
     let es = entries lines in
     let g = gathered_population es m None us v.0 (none_avoided es) met rising same in
     let mask = v.3.0 in
     let i : IsUid x = subst IsUid (sym is) (IsUid-in k mask.0 mask.1) in
     let inside : lies_in k x ≡ true = subst (λ z. lies_in k z ≡ true) (sym is) (lies_in-uid_in k mask.0 mask.1) in
-    (with_possible es x us vs v.0 i (mask.2 x i inside).0 g rising' same', (x, inside, same' x ∙ has_here x us))
+    (with_possible es x us vs v.0 i (mask.2 x i inside).0 g rising' same', (x, inside, same' x ∙ append_right us (x ∷ []) x (has_here x [])))

@@ -14,12 +14,12 @@ use Rattle.vic_verdict.specs.Demands.{IsHeard, all_needs}
 use Rattle.vic_verdict.specs.Verdict.{IsVerdict}
 
 -- the list has every UID that was heard
-abbrev pub HasHeard : List Entry → List ℕ → Type 0
-HasHeard es heard = (u : ℕ) → IsHeard es u → has heard u ≡ true
+abbrev pub HasAllHeard : List Entry → List ℕ → Type 0
+HasAllHeard es heard = (u : ℕ) → IsHeard es u → has heard u ≡ true
 
 -- at most as many as the UIDs heard, two for each collision, one for each garbled slot, and one more
 abbrev pub AreFew : List Entry → List ℕ → Type 0
-AreFew es us = (heard : List ℕ) → HasHeard es heard → length us ≤ length heard + all_needs es + 1
+AreFew es us = (heard : List ℕ) → HasAllHeard es heard → length us ≤ length heard + all_needs es + 1
 
 -- few UIDs, in rising order, that could have given the entries
 pub record IsSmallPopulation (es : List Entry) (us : List ℕ) : Type 0 where

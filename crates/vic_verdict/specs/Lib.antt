@@ -2,11 +2,11 @@ pub mod Possible
 pub mod Verdict
 pub mod Places
 pub mod Rising
-pub mod Repeats
 pub mod Unsettled
 pub mod Sweep
 pub mod Stretches
 pub mod Demands
 pub mod Explained
 pub mod Gathered
-pub mod Meeting
+pub mod Silenced
+pub mod Replies

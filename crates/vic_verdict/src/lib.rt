@@ -1,26 +1,21 @@
 //! What the log of an inventory session proves of its list of tags.
 #![tactic(auto)]
 
-mod again;
-mod answering;
 mod certain;
 mod demands;
 mod explanation;
 mod fates;
 mod first_line;
 mod judging;
-mod known;
 pub mod laws;
 mod listed;
-mod meeting;
+mod met;
 mod peaks;
-mod place;
 mod population;
 mod possible;
-mod quiet;
-mod repeats;
+mod replies;
 mod rising;
-mod settle;
+mod silenced;
 mod steps;
 mod stretches;
 mod suspect;

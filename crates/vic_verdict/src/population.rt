@@ -1,12 +1,12 @@
 //! A population that could have given a possible log, from what its slots ask for.
 
-ghost use Rattle.std.specs.Prelude.{◌≡◌, ◌++◌, ◌∷◌, IfOk, OnOk};
+ghost use Rattle.std.specs.Prelude.{◌≡◌, ◌++◌, ◌∷◌, [], IfOk, OnOk};
 ghost use Rattle.std.specs.List.Sorted.{IsStrictlyIncreasing};
 ghost use Rattle.vic_verdict.specs.Gathered.{is_other, chosen, gathered};
 ghost use Rattle.vic_verdict.specs.Rising.{SameMembers};
 
 use crate::demands::{Found, Met};
-use crate::rising::{insert_rising, put_in_order};
+use crate::rising::put_in_order;
 use std::alloc::AllocError;
 use vic_frame::Uid;
 
@@ -52,12 +52,12 @@ pub fn gather(met: Met, avoid: &Option<Uid>) -> Result<Vec<Uid>, AllocError>
     Ok(uids)
 }
 
-/// UIDs in rising order with one UID more, unless it is there.
-pub fn with_uid(mut uids: Vec<Uid>, uid: Uid) -> Result<Vec<Uid>, AllocError>
-    requires { IsStrictlyIncreasing uids.items }
+/// UIDs and one UID more: in rising order.
+pub fn with_uid(mut tags: Vec<Uid>, uid: Uid) -> Result<Vec<Uid>, AllocError>
     ensures rising { IfOk result (λ v. IsStrictlyIncreasing v.items) }
-    ensures members { IfOk result (λ v. SameMembers v.items (uid ∷ uids.items)) }
+    ensures members { IfOk result (λ v. SameMembers v.items (tags.items ++ uid ∷ [])) }
 {
-    insert_rising(&mut uids, uid)?;
-    Ok(uids)
+    tags.push(uid)?;
+    put_in_order(&mut tags);
+    Ok(tags)
 }

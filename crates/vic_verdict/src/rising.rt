@@ -1,25 +1,12 @@
 //! Rising lists of UIDs.
 
-ghost use Rattle.std.specs.Prelude.{◌≡◌, ℕ, ◌||◌, nat_eq, OnOk, MatchOption, Bool};
+ghost use Rattle.std.specs.Prelude.{◌≡◌, ℕ, MatchOption, Bool};
 ghost use Rattle.std.specs.List.Sorted.{IsStrictlyIncreasing};
 ghost use Rattle.vic_frame.specs.Uids.{has};
 ghost use Rattle.vic_verdict.specs.Rising.{SameMembers, IsFailing};
 ghost use Rattle.vic_verdict.specs.Verdict.{IsLeast, NoSuch};
 
-use std::alloc::AllocError;
 use vic_frame::Uid;
-
-/// Puts a UID into a rising list, unless it is there.
-pub fn insert_rising(uids: &mut Vec<Uid>, uid: Uid) -> Result<(), AllocError>
-    requires { IsStrictlyIncreasing uids.old.items }
-    ensures rising { OnOk result (IsStrictlyIncreasing uids.new.items) }
-    ensures members { OnOk result ((u : ℕ) → has uids.new.items u ≡ (nat_eq u uid || has uids.old.items u)) }
-{
-    if let Err(place) = uids.binary_search(&uid) {
-        uids.insert(place, uid)?;
-    }
-    Ok(())
-}
 
 /// Puts a list in rising order, each UID once.
 pub fn put_in_order(uids: &mut Vec<Uid>)

@@ -3,11 +3,10 @@
 ghost use Rattle.std.specs.Prelude.{◌≤◌, IfSome};
 ghost use Rattle.vic_log.specs.Order.{IsInOrder, entries, AreValid};
 
-use crate::place::{Round, next_mask, pass_round};
 use std::alloc::{AllocError, Global};
 use vic_frame::low_bits_first::{key, key_range};
 use vic_frame::{Request, Uid, without_top_byte};
-use vic_log::{Entry, LogLine};
+use vic_log::{Entry, LogLine, RoundCursor};
 
 /// UIDs that stand together: from the number `from` to the one before `to`.
 #[derive(Clone, Copy)]
@@ -41,8 +40,8 @@ pub enum Step {
 }
 
 /// The keys of the UIDs in the mask of the next slot.
-fn next_span(round: &Option<Round>) -> Span {
-    if let Some(mask) = next_mask(round) {
+fn next_span(cursor: &RoundCursor) -> Span {
+    if let Some(mask) = cursor.mask() {
         if let Some(low) = without_top_byte(&mask) {
             let (first, last) = key_range(&low);
             return Span {
@@ -55,7 +54,7 @@ fn next_span(round: &Option<Round>) -> Span {
 }
 
 /// What an entry does in an open round, by keys.
-fn step_of(round: &Option<Round>, place: usize, entry: &Entry) -> Option<Step> {
+fn step_of(cursor: &RoundCursor, place: usize, entry: &Entry) -> Option<Step> {
     let found = match *entry {
         Entry::Silent => Found::Nobody,
         Entry::Heard(response) => Found::One(key(response.uid()) as usize),
@@ -70,7 +69,7 @@ fn step_of(round: &Option<Round>, place: usize, entry: &Entry) -> Option<Step> {
         }
         _ => return None,
     };
-    Some(Step::Slot(place, next_span(round), found))
+    Some(Step::Slot(place, next_span(cursor), found))
 }
 
 /// What the lines of a log do, by keys.
@@ -79,13 +78,13 @@ pub fn steps_of(alloc: Global, lines: &[LogLine]) -> Result<Vec<Step>, AllocErro
     requires valid { AreValid (entries lines.now) }
 {
     let mut steps = Vec::new(alloc);
-    let mut round: Option<Round> = None;
+    let mut cursor = RoundCursor::first();
     for (place, line) in lines.iter().enumerate() {
         let entry = line.item;
-        if let Some(step) = step_of(&round, place, &entry) {
+        if let Some(step) = step_of(&cursor, place, &entry) {
             steps.push(step)?;
         }
-        round = pass_round(&round, &entry);
+        cursor.advance(&entry);
     }
     Ok(steps)
 }

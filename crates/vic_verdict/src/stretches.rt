@@ -12,12 +12,11 @@ ghost use Rattle.vic_verdict.specs.declared.sweep.Spot.{Spot as SpotValue};
 ghost use Rattle.vic_log.specs.Rounds.{mask_at};
 ghost use Rattle.vic_verdict.specs.Stretches.{AddsSpot, IsStretch};
 
-use crate::place::{Round, next_mask, pass_round};
 use crate::sweep::{Name, Spot, settle_stretch};
 use std::alloc::{AllocError, Global};
 use vic_frame::low_bits_first::{key, key_range};
 use vic_frame::{Mask, Request, Uid, without_top_byte};
-use vic_log::{Entry, LogLine};
+use vic_log::{Entry, LogLine, RoundCursor};
 use vic_tree::OpenSet;
 
 /// Adds a slot, unless no UID lies in its mask.
@@ -47,7 +46,7 @@ fn push_spot(
 }
 
 /// Adds a UID with the place after which it is Quiet.
-fn push_name(names: &mut Vec<Name>, uid: Uid, quiet: usize) -> Result<(), AllocError>
+pub fn push_name(names: &mut Vec<Name>, uid: Uid, quiet: usize) -> Result<(), AllocError>
     ensures { OnOk result ((names.new.items ≡ names.old.items ++ record { key = mirror uid; quiet = quiet; left = true } ∷ []) × (mirror uid < 2 ^ 56) × IsUid uid) }
 {
     names.push(Name {
@@ -97,7 +96,7 @@ fn note_entry(
             push_name(names, uid, end)?;
             push_spot(spots, mask, index, Some(key(uid)))
         }
-        _ => Ok(()),
+        Entry::Collision | Entry::Garbled | Entry::Listed(_) | Entry::FieldCycle => Ok(()),
     }
 }
 
@@ -110,7 +109,7 @@ pub fn settle_all<S: OpenSet>(alloc: Global, lines: &[LogLine]) -> Result<S, All
     let mut set = S::everything(alloc)?;
     let mut names = Vec::new(alloc);
     let mut spots = Vec::new(alloc);
-    let mut round: Option<Round> = None;
+    let mut cursor = RoundCursor::first();
     for (index, line) in lines.iter().enumerate() {
         let entry = line.item;
         if let Entry::FieldCycle = entry {
@@ -118,10 +117,10 @@ pub fn settle_all<S: OpenSet>(alloc: Global, lines: &[LogLine]) -> Result<S, All
             names.clear();
             spots.clear();
         } else {
-            let mask = next_mask(&round);
+            let mask = cursor.mask();
             note_entry(&mut names, &mut spots, &mask, index, lines.len(), &entry)?;
         }
-        round = pass_round(&round, &entry);
+        cursor.advance(&entry);
     }
     settle_stretch(alloc, &mut set, &mut names, &mut spots)?;
     Ok(set)

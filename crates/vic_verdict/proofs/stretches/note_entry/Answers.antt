@@ -7,8 +7,8 @@ use Rattle.vic_verdict.specs.Sweep.{is_named}
 use Rattle.vic_verdict.proofs.Stretching.{named_here, stretch_named, stretch_spotted, stretch_other, heard_key}
 use Rattle.vic_verdict.proofs.stretches.note_entry.Goals as goal
 
-pub returns-in_default : goal.returns-in_default
-returns-in_default c es set k m other h = stretch_other es c.args.index c.args.end set c.args.names.now.items c.args.spots.now.items c.args.entry.now k c.requires c.in_default.not-Sent c.in_default.not-Silent c.in_default.not-Heard other h
+pub returns-in-Collision : goal.returns-in-Collision
+returns-in-Collision c es set k m other h = stretch_other es c.args.index c.args.end set c.args.names.now.items c.args.spots.now.items c.args.entry.now k c.requires c.in-Collision.is other h
 
 pub returns-in-Silent : goal.returns-in-Silent
 returns-in-Silent c = on_ok_weaker c.push_spot.result (λ adds es set k m other h. stretch_spotted es c.args.index c.args.end set c.args.names.now.items c.args.spots.now.items c.push_spot.new.spots.items Silent c.args.mask.now None (k ∙ ap (λ e. Some e) c.in-Silent.is) c.requires m refl (λ u w. refl) (λ b u w. no b) refl adds h) c.push_spot.ensures

@@ -1,11 +1,21 @@
-use Rattle.std.proofs.Common.{◌+◌, ◌∙◌, ap, sym, subst, length}
+use Rattle.std.proofs.Common.{◌+◌, ◌∙◌, ap, sym, subst, length, []}
 use Rattle.vic_log.specs.Order.{entries}
 use Rattle.vic_verdict.specs.Stretches.{IsStretch}
-use Rattle.vic_verdict.proofs.Stands.{entry_at}
-use Rattle.vic_verdict.proofs.OpenRounds.{next_round}
-use Rattle.vic_verdict.proofs.Stretching.{stretch_anew}
+use Rattle.vic_verdict.proofs.Stands.{entry_at, open_first}
+use Rattle.vic_verdict.proofs.Stretching.{stretch_first, stretch_anew}
 use Rattle.vic_verdict.proofs.stretches.settle_all.Goals as goal
 use Rattle.vic_verdict.proofs.stretches.settle_all.Goals.{in-FieldCycle+in_ok-settle_stretch, in_default+in_ok-note_entry}
+
+pub loop-index-init : goal.loop-index-init
+loop-index-init g c =
+    let es = entries c.args.lines.now in
+    let set = g.S.OpenSet.is_open c.in_ok-set.set in
+    let n = length c.args.lines.now in
+    record {
+      round = c.first-cursor.ensures es;
+      stretch = subst (λ ns. IsStretch es 0 n set ns c.new-spots.result.items) (sym c.new-names.ensures.items)
+          (subst (λ ss. IsStretch es 0 n set [] ss) (sym c.new-spots.ensures.items) (stretch_first es n set (open_first es set c.in_ok-set.ensures)));
+    }
 
 pub loop-index-preserved : goal.loop-index-preserved
 loop-index-preserved g c =
@@ -16,7 +26,7 @@ loop-index-preserved g c =
     let before = c.loop-index.invariant in
     let here = entry_at c.args.lines.now i l c.loop-index-test.true c.index-lines-index.is in
     record {
-      round = next_round es i l.item c.pass_round-round.result c.requires.order here (c.pass_round-round.ensures es i here before.round.open_round);
+      round = c.advance.ensures es i c.requires.order here before.round;
       stretch = elim c.match-entry.branch [
         | in-FieldCycle+in_ok-settle_stretch w ↦
             subst (λ s. IsStretch es (i + 1) n (g.S.OpenSet.is_open s) c.match-entry.names.items c.match-entry.spots.items) (sym w.set-is)
@@ -27,6 +37,6 @@ loop-index-preserved g c =
             subst (λ s. IsStretch es (i + 1) n (g.S.OpenSet.is_open s) c.match-entry.names.items c.match-entry.spots.items) (sym w.set-is)
             (subst (λ v. IsStretch es (i + 1) n (g.S.OpenSet.is_open c.loop-index.set) v.items c.match-entry.spots.items) (sym w.names-is)
             (subst (λ v. IsStretch es (i + 1) n (g.S.OpenSet.is_open c.loop-index.set) w.note_entry.new.names.items v.items) (sym w.spots-is)
-            (w.in_ok-note_entry.ensures es (g.S.OpenSet.is_open c.loop-index.set) here (w.next_mask-mask.ensures es i c.requires.valid before.round.open_round) w.in_default.not-FieldCycle before.stretch)))
+            (w.in_ok-note_entry.ensures es (g.S.OpenSet.is_open c.loop-index.set) here (w.mask-mask.ensures es i c.requires.valid before.round) w.in_default.not-FieldCycle before.stretch)))
       ];
     }
