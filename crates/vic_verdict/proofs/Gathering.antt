@@ -240,7 +240,7 @@ gathered_open es m avoid possible met u h =
     let certain = subst (IsCertainUid es) heard.3 (Heard-certain es heard.0 heard.1 heard.2) in
     (IsPossibleUid-iff es u possible).0 (possible.0, possible.1, possible.2, certain possible.0 possible.1 possible.2))
     (λ b.
-    let from = all_chosen_from avoid (IsFound es) m.found.items u met.found b in
+    let from = all_chosen_from avoid (IsFound es) m.found.items u met.found.found b in
     (and_parts _ _ (from.1.1.uids.members u (chosen_parts avoid from.0 u from.2).0)).0)
     (append_cases m.heard.items (all_chosen avoid m.found.items) u h)
 
@@ -252,7 +252,7 @@ gathered_other es m a n met h =
     let heard = (met.heard a).0 b in
     n (subst (IsCertainUid es) heard.3 (Heard-certain es heard.0 heard.1 heard.2)))
     (λ b.
-    let from = all_chosen_from (Some a) (IsFound es) m.found.items a met.found b in
+    let from = all_chosen_from (Some a) (IsFound es) m.found.items a met.found.found b in
     is_other-self a (chosen_parts (Some a) from.0 a from.2).1)
     (append_cases m.heard.items (all_chosen (Some a) m.found.items) a h)
 
@@ -263,16 +263,16 @@ gathered_few es m avoid us met different within heard all =
     let le = no_more us (heard ++ picks) different (λ u h. ⊎_elim (λ a. append_left heard picks u (all u ((met.heard u).0 a))) (λ b. append_right heard picks u b) (append_cases m.heard.items picks u (within u h))) in
     let n = length-append heard picks in
     let few = few_chosen avoid m.found.items in
-    let needed = met.few in
+    let needed = met.found.few in
     omega arith
 
 -- what a place asks for
 asked_there : (es : List Entry) (m : Met) (avoid : Option ℕ) (i n : ℕ) (e : Entry) → slice_get es i ≡ Some e → needs_of (Some e) ≡ n → 0 < n → AvoidsNoneCertain es avoid → IsMet es m → (xs : List ℕ) × AreDifferent xs × (n ≤ length xs) × IsWithin (has (take n xs)) (answering (has (gathered avoid m)) es i)
 asked_there es m avoid i n e k is some none met =
     let asked : 0 < needs_of (slice_get es i) = subst (λ o. 0 < needs_of o) (sym k) (subst (λ z. 0 < z) (sym is) some) in
-    let any = met.met i asked in
+    let any = met.found.met i asked in
     let f = any.1 in
-    let found : IsFound es f = subst (IsFound es) any.3 (met.found any.0 f any.2) in
+    let found : IsFound es f = subst (IsFound es) any.3 (met.found.found any.0 f any.2) in
     let need : f.need ≡ n = sym any.4.need ∙ (ap needs_of k ∙ is) in
     let others = found_others es f avoid none found in
     let xs = filter (is_other avoid) f.uids.items in (
@@ -282,7 +282,7 @@ asked_there es m avoid i n e k is some none met =
       λ u h.
           let c : has (chosen avoid f) u ≡ true = subst (λ z. has (take z xs) u ≡ true) (sym need) h in
           let member = all_chosen_has avoid m.found.items any.0 f u any.2 any.3 c in
-          and_from _ _ (append_right m.heard.items (all_chosen avoid m.found.items) u member) (any.4.answer u (chosen_parts avoid f u c).0),
+          and_from _ _ (append_right m.heard.items (all_chosen avoid m.found.items) u member) (and_parts (is_open (slots_of es) u) _ (any.4.answer u (chosen_parts avoid f u c).0)).1,
     )
 
 gathered_asks : (es : List Entry) (m : Met) (avoid : Option ℕ) → IsPossible es → AvoidsNoneCertain es avoid → IsMet es m → (i : ℕ) (e : Entry) → slice_get es i ≡ Some e → entry_asks (reading_of e) (answering (has (gathered avoid m)) es i)

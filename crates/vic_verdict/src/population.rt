@@ -53,11 +53,11 @@ pub fn gather(met: Met, avoid: &Option<Uid>) -> Result<Vec<Uid>, AllocError>
 }
 
 /// UIDs and one UID more: in rising order.
-pub fn with_uid(mut uids: Vec<Uid>, uid: Uid) -> Result<Vec<Uid>, AllocError>
+pub fn with_uid(mut tags: Vec<Uid>, uid: Uid) -> Result<Vec<Uid>, AllocError>
     ensures rising { IfOk result (λ v. IsStrictlyIncreasing v.items) }
-    ensures members { IfOk result (λ v. SameMembers v.items (uids.items ++ uid ∷ [])) }
+    ensures members { IfOk result (λ v. SameMembers v.items (tags.items ++ uid ∷ [])) }
 {
-    uids.push(uid)?;
-    put_in_order(&mut uids);
-    Ok(uids)
+    tags.push(uid)?;
+    put_in_order(&mut tags);
+    Ok(tags)
 }
