@@ -1,7 +1,9 @@
 -- The steps of a simulation.
-use Rattle.std.specs.Prelude.{ℕ, zero, suc, ◌<◌, Bool, not, ◌&&◌, ◌||◌, Some, List, [], ◌∷◌, ◌++◌, ⊤}
+use Rattle.std.specs.Prelude.{◌≡◌, ℕ, zero, suc, ◌<◌, Bool, not, ◌&&◌, ◌||◌, Some, List, [], ◌∷◌, ◌++◌, ⊤}
 use Rattle.vic_frame.specs.declared.request.Request.{Request}
+use Rattle.std.specs.Option.{option_map}
 use Rattle.vic_frame.specs.Slots.{slot_count, mask_in}
+use Rattle.vic_frame.specs.Uids.{IsUid}
 use Rattle.vic_log.specs.declared.entry.Entry.{Entry}
 use Rattle.vic_log.specs.declared.entry.Entry.TheVariants.{Sent, Silent as SilentLine, Collision, Heard}
 use Rattle.vic_log.specs.Log.{LogValue, last_from}
@@ -11,7 +13,7 @@ use Rattle.vic_field.specs.declared.field.Outcome.TheVariants.{Silent, Lone, Sev
 use Rattle.vic_field.specs.declared.session.SimFault.{SimFault}
 use Rattle.vic_field.specs.declared.session.SimFault.TheVariants.{OutcomeGiven, TooManyLines, Memory}
 use Rattle.vic_log.specs.Writing.{numbered}
-use Rattle.vic_field.specs.Tags.{ready_in, heard}
+use Rattle.vic_field.specs.Tags.{ready_in, readiness, heard}
 
 -- the slot line of what is heard
 abbrev pub slot_line : Outcome → Entry
@@ -29,13 +31,21 @@ abbrev pub slot_lines : List (ℕ × Bool) → Entry → List Entry
 slot_lines tags (Sent q) = slot_lines_to tags q (slot_count q)
 slot_lines tags e = []
 
+-- the number of the line behind a log's last one
+abbrev pub next_line : LogValue → ℕ
+next_line log = suc (last_from 1 log.lines)
+
 -- a log with more entries on the next lines
 abbrev pub with_entries : LogValue → List Entry → LogValue
-with_entries log es = record { lines = log.lines ++ numbered (suc (last_from 1 log.lines)) es; version = log.version }
+with_entries log es = record { lines = log.lines ++ numbered (next_line log) es; version = log.version }
 
 -- whether the tag u is Ready after an entry, where it is so or not before
 abbrev pub ready_after : Entry → ℕ → Bool → Bool
 ready_after e u ready = not (silences (Some e) u) && (wakes (Some e) || ready)
+
+-- the tags after an entry, where they were others before
+abbrev pub IsAfter : Entry → List (ℕ × Bool) → List (ℕ × Bool) → Type 0
+IsAfter e old new = (u : ℕ) → IsUid u → readiness new u ≡ option_map (ready_after e u) (readiness old u)
 
 -- why lines up to the number n aren't added: that is above 1,000,000, or memory is wanting
 abbrev pub StopsBefore : ℕ → SimFault → Type 0

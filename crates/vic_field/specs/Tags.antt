@@ -1,11 +1,12 @@
 -- The tags of a field: the UID of each, and whether it is Ready (ISO/IEC 15693-3, states of a VICC).
-use Rattle.std.specs.Prelude.{◌≡◌, ℕ, Bool, true, false, List, ◌&&◌, map, Option, nat_eq}
+use Rattle.std.specs.Prelude.{◌≡◌, ℕ, Bool, true, false, List, ◌&&◌, map, Option, Some, nat_eq, if◌then◌else◌}
 use Rattle.std.specs.List.{filter}
 use Rattle.std.specs.Map.{lookup}
+use Rattle.std.specs.Option.{option_map}
 use Rattle.vic_frame.specs.declared.request.Request.{Request}
 use Rattle.vic_frame.specs.declared.request.Request.TheVariants.{Inventory, StayQuiet}
 use Rattle.vic_frame.specs.Masks.{BitMask, lies_in}
-use Rattle.vic_frame.specs.Uids.{has}
+use Rattle.vic_frame.specs.Uids.{IsUid, has}
 use Rattle.vic_field.specs.declared.field.AddFault.{AddFault}
 use Rattle.vic_field.specs.declared.field.AddFault.TheVariants.{Already, Memory}
 use Rattle.vic_field.specs.declared.field.Outcome.{Outcome as Told}
@@ -28,6 +29,14 @@ ready_in m tags = map (λ t. t.0) (filter (λ t. lies_in m t.0 && t.1) tags)
 abbrev pub quiets : Request → ℕ → Bool
 quiets (StayQuiet link uid) u = nat_eq uid u
 quiets (Inventory link sixteen m) u = false
+
+-- some tags are there now and Ready, and the others are as they were
+abbrev pub HasAdded : (ℕ → Bool) → List (ℕ × Bool) → List (ℕ × Bool) → Type 0
+HasAdded which old new = (u : ℕ) → IsUid u → readiness new u ≡ (if which u then Some true else readiness old u)
+
+-- some tags are Quiet now, where they are there, and the others are as they were
+abbrev pub HasSilenced : (ℕ → Bool) → List (ℕ × Bool) → List (ℕ × Bool) → Type 0
+HasSilenced which old new = (u : ℕ) → IsUid u → readiness new u ≡ (if which u then option_map (λ _. false) (readiness old u) else readiness old u)
 
 -- an outcome, as a field tells it
 abbrev pub told : Outcome → Told

@@ -1,12 +1,14 @@
 //! The tags of a field, each Ready or Quiet.
 
-ghost use Rattle.std.specs.Prelude.{◌≡◌, ℕ, ◌≤◌, ◌==◌, [], true, false, MatchResult, OnOk, OnErr, if◌then◌else◌, Some};
+ghost use Rattle.std.specs.Prelude.{◌≡◌, ℕ, ◌==◌, [], true, false, MatchResult, OnOk, OnErr};
 ghost use Rattle.std.specs.Option.{option_map};
 ghost use Rattle.vic_field.specs.declared.field.AddFault.TheVariants.{Memory as NoRoom};
 ghost use Rattle.vic_log.specs.Populations.{IsPopulation};
-ghost use Rattle.vic_field.specs.Tags.{uids, readiness, ready_in, quiets, heard, RefusesTag};
-ghost use Rattle.vic_frame.specs.Uids.{IsUid, has};
+ghost use Rattle.vic_field.specs.Tags.{uids, readiness, ready_in, quiets, heard, RefusesTag, HasAdded, HasSilenced};
+ghost use Rattle.vic_frame.specs.Uids.{has};
 
+use crate::hear::hear;
+use crate::put::put;
 use crate::tree::{self, Node};
 use std::alloc::{AllocError, Global};
 use std::marker::Model;
@@ -71,25 +73,27 @@ impl Field {
         }
     }
 
-    /// Brings a tag into the field, which is Ready then. Refused where a tag with this UID is there.
+    /// Adds a tag to the field, which is Ready then. Refused where a tag with this UID is there.
     pub fn add(&mut self, uid: Uid) -> Result<(), AddFault>
-        ensures answer { MatchResult result (λ _. has (uids self.old) uid ≡ false) (RefusesTag self.old uid) }
-        ensures added { OnOk result ((u : ℕ) → IsUid u → readiness self.new u ≡ (if u == uid then Some true else readiness self.old u)) }
+        ensures answer { MatchResult result
+            (λ _. has (uids self.old) uid ≡ false)
+            (RefusesTag self.old uid) }
+        ensures added { OnOk result (HasAdded (λ u. u == uid) self.old self.new) }
         ensures unchanged { OnErr result (self.new ≡ self.old) }
     {
         if self.holds(uid) {
             return Err(AddFault::Already);
         }
-        self.bring(uid)?;
+        self.put(uid)?;
         Ok(())
     }
 
-    /// Brings a tag into the field. It is Ready then, also where it was there.
-    pub(crate) fn bring(&mut self, uid: Uid) -> Result<(), AllocError>
-        ensures brought { OnOk result ((u : ℕ) → IsUid u → readiness self.new u ≡ (if u == uid then Some true else readiness self.old u)) }
+    /// Puts a tag into the field. It is Ready then, also where it was there.
+    pub(crate) fn put(&mut self, uid: Uid) -> Result<(), AllocError>
+        ensures added { OnOk result (HasAdded (λ u. u == uid) self.old self.new) }
         ensures unchanged { OnErr result (self.new ≡ self.old) }
     {
-        tree::bring(&mut self.root, self.alloc, low_bits_first::key(uid))?;
+        put(&mut self.root, self.alloc, low_bits_first::key(uid))?;
         Ok(())
     }
 
@@ -103,7 +107,7 @@ impl Field {
     /// What the tags do when a request is sent: a Stay Quiet makes the tag with its UID Quiet,
     /// if it is there (ISO/IEC 15693-3, Stay Quiet). Takes no memory.
     pub fn send(&mut self, request: &Request)
-        ensures { (u : ℕ) → IsUid u → readiness self.new u ≡ (if quiets request.now u then option_map (λ _. false) (readiness self.old u) else readiness self.old u) }
+        ensures { HasSilenced (quiets request.now) self.old self.new }
     {
         if let Request::StayQuiet { uid, .. } = *request {
             if let Some(uid) = Uid::new(uid) {
@@ -114,21 +118,23 @@ impl Field {
 
     /// Makes a tag Quiet, if it is there.
     fn quiet(&mut self, uid: Uid)
-        ensures { (u : ℕ) → IsUid u → readiness self.new u ≡ (if u == uid then option_map (λ _. false) (readiness self.old u) else readiness self.old u) }
+        ensures { HasSilenced (λ u. u == uid) self.old self.new }
     {
         tree::silence(&mut self.root, low_bits_first::key(uid));
     }
 
     /// Makes every tag Ready, as a field that is switched off and on does. Takes no memory.
     pub fn power_cycle(&mut self)
-        ensures { (u : ℕ) → readiness self.new u ≡ option_map (λ _. true) (readiness self.old u) }
+        ensures { (u : ℕ) → readiness self.new u
+            ≡ option_map (λ _. true) (readiness self.old u) }
     {
         tree::wake(&mut self.root);
     }
 
     /// What a reader hears of the Ready tags in a mask. Takes no memory.
     ///
-    /// It goes down to two Ready tags at most, and passes over Quiet tags by what forks note of them.
+    /// It goes down to two Ready tags at most, and passes over Quiet tags by what forks note of
+    /// them.
     pub fn answer(&self, mask: &Mask) -> Outcome
         ensures heard { result ≡ heard (ready_in mask.now self.now) }
         ensures population { IsPopulation (uids self.now) }
@@ -138,6 +144,6 @@ impl Field {
             return Outcome::Silent;
         };
         let (first, last) = low_bits_first::key_range(&mask);
-        tree::hear(root, first, last, Outcome::Silent)
+        hear(root, first, last, Outcome::Silent)
     }
 }

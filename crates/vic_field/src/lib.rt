@@ -2,6 +2,8 @@
 #![tactic(auto)]
 
 mod field;
+mod hear;
+mod put;
 mod session;
 #[cfg(test)]
 mod tests;

@@ -1,14 +1,13 @@
 //! The log of a session with the tags that a log lists.
 
-ghost use Rattle.std.specs.Prelude.{◌≡◌, ℕ, suc, ◌+◌, ◌<◌, ◌≤◌, ◌++◌, [], ◌∷◌, List, true, Some, None, IfOk, IfErr, OnOk, MatchOption, if◌then◌else◌};
-ghost use Rattle.std.specs.Option.{option_map};
+ghost use Rattle.std.specs.Prelude.{◌≡◌, ◌+◌, ◌<◌, ◌≤◌, ◌++◌, [], ◌∷◌, List, Some, None, IfOk, IfErr, OnOk, MatchOption};
 ghost use Rattle.vic_field.specs.declared.session.SimFault.TheVariants.{Memory as NoRoom};
 ghost use Rattle.vic_field.specs.Simulation.{IsSimulation, HasNoSlots, IsFirstSlot, RefusesLines, last_needed};
-ghost use Rattle.vic_field.specs.Steps.{slot_line, slot_lines_to, slot_lines, with_entries, ready_after, StopsBefore};
-ghost use Rattle.vic_field.specs.Tags.{readiness, uids};
+ghost use Rattle.vic_field.specs.Steps.{slot_line, slot_lines_to, slot_lines, with_entries, next_line, IsAfter, StopsBefore};
+ghost use Rattle.vic_field.specs.Tags.{uids, HasAdded};
 ghost use Rattle.vic_frame.specs.Requests.{IsValid};
 ghost use Rattle.vic_frame.specs.Slots.{slot_count};
-ghost use Rattle.vic_frame.specs.Uids.{IsUid, has};
+ghost use Rattle.vic_frame.specs.Uids.{has};
 ghost use Rattle.vic_log.specs.declared.entry.Entry.{Entry};
 ghost use Rattle.vic_log.specs.declared.entry.Version.TheVariants.{V1};
 ghost use Rattle.vic_log.specs.FirstVersion.{IsOfFirstVersion};
@@ -61,7 +60,7 @@ pub fn simulate(alloc: Global, log: &Log) -> Result<Log, SimFault>
     let mut field = populate(alloc, lines)?;
     let mut filled = Log::with_version(alloc, log.version());
     for line in lines {
-        play(&mut filled, &mut field, &line.item)?;
+        play_entry(&mut filled, &mut field, &line.item)?;
     }
     Ok(filled)
 }
@@ -90,35 +89,38 @@ fn is_slot(item: &Entry) -> bool
 
 /// A field of the tags that are listed, all Ready.
 fn populate(alloc: Global, lines: &[LogLine]) -> Result<Field, AllocError>
-    ensures { IfOk result (λ field. (u : ℕ) → IsUid u → readiness field u ≡ (if has (listed (entries lines.now)) u then Some true else None)) }
+    ensures { IfOk result (HasAdded (has (listed (entries lines.now))) []) }
 {
     let mut field = Field::new(alloc);
     for line in lines {
-        bring_listed(&mut field, &line.item)?;
+        put_listed(&mut field, &line.item)?;
     }
     Ok(field)
 }
 
-/// Brings the tag that an entry lists, if it lists one, into the field.
-fn bring_listed(field: &mut Field, item: &Entry) -> Result<(), AllocError>
-    ensures { OnOk result ((u : ℕ) → IsUid u → readiness field.new u ≡ (if has (listed (item.now ∷ [])) u then Some true else readiness field.old u)) }
+/// Puts the tag that an entry lists, if it lists one, into the field.
+fn put_listed(field: &mut Field, item: &Entry) -> Result<(), AllocError>
+    ensures { OnOk result (HasAdded (has (listed (item.now ∷ []))) field.old field.new) }
 {
     if let Entry::Listed(uid) = *item {
-        field.bring(uid)?;
+        field.put(uid)?;
     }
     Ok(())
 }
 
 /// Adds an entry, and a line for each slot that it opens, as the tags answer.
-fn play(filled: &mut Log, field: &mut Field, item: &Entry) -> Result<(), SimFault>
+fn play_entry(filled: &mut Log, field: &mut Field, item: &Entry) -> Result<(), SimFault>
     requires follows { refusal (entries filled.old.lines) item.now ≡ None }
     requires valid { IsValidEntry item.now }
     requires first_version { filled.old.version ≡ V1 → IsOfFirstVersion item.now }
-    ensures added { OnOk result (filled.new ≡ with_entries filled.old (item.now ∷ slot_lines field.new item.now)) }
-    ensures tags { OnOk result ((u : ℕ) → IsUid u → readiness field.new u ≡ option_map (ready_after item.now u) (readiness field.old u)) }
-    ensures population { OnOk result (0 < slots_opened (Some item.now) → IsPopulation (uids field.new)) }
-    ensures room { OnOk result (suc (last_from 1 filled.old.lines) + slots_opened (Some item.now) ≤ 1000000) }
-    ensures refused { IfErr result (StopsBefore (suc (last_from 1 filled.old.lines) + slots_opened (Some item.now))) }
+    ensures added { OnOk result
+        (filled.new ≡ with_entries filled.old (item.now ∷ slot_lines field.new item.now)) }
+    ensures tags { OnOk result (IsAfter item.now field.old field.new) }
+    ensures population { OnOk result
+        (0 < slots_opened (Some item.now) → IsPopulation (uids field.new)) }
+    ensures room { OnOk result (next_line filled.old + slots_opened (Some item.now) ≤ 1000000) }
+    ensures refused { IfErr result
+        (StopsBefore (next_line filled.old + slots_opened (Some item.now))) }
 {
     push_next(filled, *item)?;
     match *item {
@@ -137,13 +139,17 @@ fn play(filled: &mut Log, field: &mut Field, item: &Entry) -> Result<(), SimFaul
 
 /// Adds a line for each slot of the request that was sent last.
 fn push_slots(filled: &mut Log, field: &Field, request: &Request) -> Result<(), SimFault>
-    requires sent { (es : List Entry) × (entries filled.old.lines ≡ es ++ Entry.Sent request.now ∷ []) }
+    requires sent { (es : List Entry)
+        × (entries filled.old.lines ≡ es ++ Entry.Sent request.now ∷ []) }
     requires valid { IsValid request.now }
     requires limit { last_from 1 filled.old.lines ≤ 1000000 }
-    ensures added { OnOk result (filled.new ≡ with_entries filled.old (slot_lines_to field.now request.now (slot_count request.now))) }
-    ensures population { OnOk result (0 < slot_count request.now → IsPopulation (uids field.now)) }
+    ensures added { OnOk result (filled.new
+        ≡ with_entries filled.old (slot_lines_to field.now request.now (slot_count request.now))) }
+    ensures population { OnOk result
+        (0 < slot_count request.now → IsPopulation (uids field.now)) }
     ensures room { OnOk result (last_from 1 filled.old.lines + slot_count request.now ≤ 1000000) }
-    ensures refused { IfErr result (StopsBefore (last_from 1 filled.old.lines + slot_count request.now)) }
+    ensures refused { IfErr result
+        (StopsBefore (last_from 1 filled.old.lines + slot_count request.now)) }
 {
     for k in 0..request.slots() {
         let Some(mask) = request.slot_mask(k) else {
@@ -177,7 +183,7 @@ fn push_next(filled: &mut Log, item: Entry) -> Result<(), SimFault>
     requires first_version { filled.old.version ≡ V1 → IsOfFirstVersion item }
     ensures added { OnOk result (filled.new ≡ with_entries filled.old (item ∷ [])) }
     ensures room { OnOk result (last_from 1 filled.old.lines < 1000000) }
-    ensures refused { IfErr result (StopsBefore (suc (last_from 1 filled.old.lines))) }
+    ensures refused { IfErr result (StopsBefore (next_line filled.old)) }
 {
     let number = filled.last_line() + 1;
     if number > 1_000_000 {

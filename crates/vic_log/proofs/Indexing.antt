@@ -1,7 +1,7 @@
 -- UIDs that rise, and the others.
 use Rattle.std.proofs.Common.{◌≡◌, ℕ, zero, suc, ◌-◌, ◌<◌, ◌≤◌, Bool, true, false, cond, List, [], ◌∷◌, length, get_or, Result, Ok, Err, MatchResult, ⊎_elim, refl, sym, ap, ◌∙◌, arith}
 use Rattle.std.specs.Prelude.{◌≢◌, nat_eq, ◌||◌, is_ok}
-use Rattle.std.proofs.lemmas.Bool.{cases_Bool, cases_lt, cases_eq, ne_eqb, eq-eqb, eqb-true}
+use Rattle.std.proofs.lemmas.Bool.{cases_Bool, cases_lt, cases_eq, ne_eqb, eq-eqb, eqb-true, or_from, or_right}
 use Rattle.std.proofs.lemmas.Grind.{common_steps}
 use Rattle.std.proofs.lemmas.List.Sorted.{searched}
 use Rattle.std.specs.BTreeMap.{is_at}
@@ -12,17 +12,9 @@ use Rattle.std.specs.Ordering.{nat_cmp}
 use Rattle.vic_frame.specs.Uids.{has}
 use Rattle.vic_log.specs.Index.{IsAbove, IsAtMost, IsIndex, is_indexed}
 
-neither : (a b : Bool) → a ≡ false → b ≡ false → (a || b) ≡ false
-neither true b p q = cc
-neither false b p q = q
-
-or_right : (a b : Bool) → b ≡ true → (a || b) ≡ true
-or_right true b h = refl
-or_right false b h = h
-
 none_has : (us : List ℕ) (u : ℕ) → ((k : ℕ) → k < length us → get_or us k 0 ≡ u → ⊥) → has us u ≡ false
 none_has [] u none = refl
-none_has (x ∷ us) u none = neither (nat_eq u x) (has us u) (ne_eqb u x (λ e. none 0 (omega arith) (sym e))) (none_has us u (λ k lt e. none (suc k) (omega arith) e))
+none_has (x ∷ us) u none = or_from (nat_eq u x) (has us u) (ne_eqb u x (λ e. none 0 (omega arith) (sym e))) (none_has us u (λ k lt e. none (suc k) (omega arith) e))
 
 has_at : (us : List ℕ) (u k : ℕ) → k < length us → get_or us k 0 ≡ u → has us u ≡ true
 has_at [] u k lt e = absurd (omega arith)
@@ -31,7 +23,7 @@ has_at (x ∷ us) u (suc k) lt e = or_right (nat_eq u x) (has us u) (has_at us u
 
 -- above all
 pub above_all : (us : List ℕ) (others : BTreeSet ℕ) (u : ℕ) → IsIndex us others → IsAbove u us → false ≡ is_indexed us others u
-above_all us others u h above = sym (neither (has us u) (sorted.contains nat_cmp others u)
+above_all us others u h above = sym (or_from (has us u) (sorted.contains nat_cmp others u)
     (none_has us u (λ k lt e. let a = above k lt in omega arith))
     (⊎_elim
     (λ (there : sorted.contains nat_cmp others u ≡ true). let m = h.at_most u there in let a = above (length us - 1) (omega (arith, m.0)) in absurd (omega (arith, m.1)))

@@ -1,4 +1,4 @@
--- A slot line in a round has a mask.
+-- Slots in a round, and entries in order.
 use Rattle.std.proofs.Common.{◌≡◌, ℕ, suc, ◌-◌, ◌<◌, List, true, Option, Some, None, refl, ap, sym, ◌∙◌, ◌++◌, arith}
 use Rattle.std.specs.Prelude.{◌↔◌, if◌then◌else◌, ltb, slice_get}
 use Rattle.std.proofs.lemmas.Bool.{lt-ltb}
@@ -11,12 +11,6 @@ use Rattle.vic_log.specs.declared.entry.Entry.TheVariants.{Sent, Silent, Collisi
 use Rattle.vic_log.proofs.Places.{agree_append, agree_upto, opener_agrees, opener_below}
 use Rattle.std.proofs.lemmas.Option.{slice_get_within}
 use Rattle.std.proofs.Math.Nat.{le_of_lt}
-
-pub mask_at-in_round : (es : List Entry) (i : ℕ) → IsInRound es i → (m : BitMask) × (mask_at es i ≡ Some m)
-mask_at-in_round es i r =
-    let k = i - suc r.0 in
-    let e : ltb k (slot_count r.1) ≡ true = lt-ltb k (slot_count r.1) r.4 in
-    (mask_in r.1 k, ap (mask_since es i) r.2 ∙ (ap (λ o. mask_of_slot o k) r.3 ∙ ap (λ b. if b then Some (mask_in r.1 k) else None) e))
 
 pub still_there : (es fs : List Entry) (i : ℕ) (e : Entry) → slice_get es i ≡ Some e → slice_get (es ++ fs) i ≡ Some e
 still_there es fs i e k = sym (agree_append es fs i (slice_get_within es i e k)) ∙ k

@@ -10,7 +10,8 @@ use Rattle.vic_log.specs.declared.entry.Entry.TheVariants.{Sent, Silent, Collisi
 use Rattle.vic_log.specs.Rounds.{ends_round, opener, mask_since, mask_at}
 use Rattle.vic_log.specs.Quiet.{is_quiet}
 use Rattle.vic_log.specs.Populations.{answers_at, outcome_of, outcome_at, Fits, CouldHaveGiven}
-use Rattle.vic_log.specs.Slots.{Slot, MeetsAll, with_entry, slots_before, slots_of}
+use Rattle.vic_log.proofs.Meeting.{MeetsAll}
+use Rattle.vic_log.specs.Slots.{Slot, with_entry, slots_before, slots_of}
 
 -- ---- entries and slots
 

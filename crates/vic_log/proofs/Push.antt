@@ -1,7 +1,7 @@
 -- One entry more: what entries in order keep, and what a log keeps.
 use Rattle.std.proofs.Common.{◌≡◌, ℕ, zero, suc, ◌+◌, ◌-◌, ◌<◌, ◌≤◌, Bool, true, false, Option, Some, None, List, [], ◌∷◌, ◌++◌, length, length-append, refl, sym, ap, subst, ◌∙◌, arith, ⊎_elim}
 use Rattle.std.specs.Prelude.{slice_get, nat_eq, nat_lt, if◌then◌else◌, not, ◌||◌}
-use Rattle.std.proofs.lemmas.Bool.{cases_lt, not-false, ltb-true, eq-eqb}
+use Rattle.std.proofs.lemmas.Bool.{cases_lt, not-false, ltb-true, eq-eqb, or_right}
 use Rattle.std.proofs.lemmas.List.{map-append, length-map}
 use Rattle.std.proofs.lemmas.List.Folds.{list_any-append}
 use Rattle.std.proofs.lemmas.Option.{slice_get_within}
@@ -65,10 +65,6 @@ listed-append (Heard r ∷ es) fs = listed-append es fs
 listed-append (Garbled ∷ es) fs = listed-append es fs
 listed-append (FieldCycle ∷ es) fs = listed-append es fs
 listed-append (Listed u ∷ es) fs = ap (λ us. u ∷ us) (listed-append es fs)
-
-or_right : (a b : Bool) → b ≡ true → (a || b) ≡ true
-or_right true b h = refl
-or_right false b h = h
 
 pub has-there : (es : List Entry) (i u : ℕ) → slice_get es i ≡ Some (Listed u) → has (listed es) u ≡ true
 has-there [] i u k = cc

@@ -17,15 +17,17 @@ SourceStep old new r buf =
     (λ n. Consumes old new (take n buf) × (n ≡ 0 → 0 < length buf → IsAtEnd new))
     (λ _. KeepsOrHides old new)
 
--- the bytes handed out are those told before without those told after
-abbrev pub GivesBytes : Option (List ℕ) → Option (List ℕ) → List ℕ → Type 0
-GivesBytes old new bs = Consumes old new bs
-
--- the same, where the source tells its bytes before and after
+-- the bytes handed out are those told before without those told after, where the source tells both
 abbrev pub HandsOut : Option (List ℕ) → Option (List ℕ) → List ℕ → Type 0
 HandsOut None new bytes = ⊤
 HandsOut (Some xs) None bytes = ⊤
 HandsOut (Some xs) (Some ys) bytes = xs ≡ bytes ++ ys
+
+-- a source that told its bytes tells them still
+abbrev pub TellsOn : Option (List ℕ) → Option (List ℕ) → Type 0
+TellsOn None new = ⊤
+TellsOn (Some xs) None = ⊥
+TellsOn (Some xs) (Some ys) = ⊤
 
 -- reading stopped at the end or at the limit
 abbrev pub Stops : Option (List ℕ) → List ℕ → ℕ → Type 0

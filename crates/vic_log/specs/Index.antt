@@ -19,3 +19,12 @@ IsAtMost u us = (0 < length us) × (u ≤ slice_index us (length us - 1))
 pub record IsIndex (rising : List ℕ) (others : BTreeSet ℕ) : Type 0 where
   pub in_order : IsNonDecreasing rising
   pub at_most : (u : ℕ) → sorted.contains nat_cmp others u ≡ true → IsAtMost u rising
+
+-- the second index has the UIDs of the first
+abbrev pub IndexesSame : List ℕ → BTreeSet ℕ → List ℕ → BTreeSet ℕ → Type 0
+IndexesSame rising others rising' others' = (u : ℕ) → is_indexed rising' others' u ≡ is_indexed rising others u
+
+-- the second index has the UIDs of the first, and these
+abbrev pub IndexesAlso : List ℕ → BTreeSet ℕ → List ℕ → BTreeSet ℕ → List ℕ → Type 0
+IndexesAlso rising others rising' others' us =
+    (u : ℕ) → is_indexed rising' others' u ≡ (is_indexed rising others u || has us u)

@@ -15,3 +15,4 @@ pub mod Writing
 pub mod Names
 pub mod Device
 pub mod Index
+pub mod OpenRounds

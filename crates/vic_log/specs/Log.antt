@@ -1,11 +1,12 @@
 -- What a log holds.
-use Rattle.std.specs.Prelude.{◌≡◌, ℕ, ◌≤◌, Option, Some, List, [], ◌∷◌, ◌++◌, ⊤, slice_get}
+use Rattle.std.specs.Prelude.{◌≡◌, ℕ, ◌≤◌, Option, Some, None, List, [], ◌∷◌, ◌++◌, ⊤, slice_get}
 use Rattle.vic_frame.specs.Requests.{IsInRange, IsValid}
 use Rattle.vic_frame.specs.Replies.{IsReply}
 use Rattle.vic_frame.specs.Uids.{IsUid}
 use Rattle.vic_log.specs.declared.entry.Entry.{Entry}
 use Rattle.vic_log.specs.declared.entry.Entry.TheVariants.{Sent, Heard, Listed}
 use Rattle.vic_log.specs.declared.entry.LogLine.{LogLine}
+use Rattle.vic_log.specs.declared.entry.TheConstants.{MAX_LINES}
 use Rattle.vic_log.specs.declared.entry.Version.{Version}
 use Rattle.vic_log.specs.declared.entry.Version.TheVariants.{V1}
 use Rattle.vic_log.specs.declared.fault.PushFault.{PushFault}
@@ -50,12 +51,12 @@ IsValidEntry e = ⊤
 pub record IsLog (version : Version) (lines : List LogLine) : Type 0 where
   pub order : IsInOrder (entries lines)
   pub rising : IsRisingFrom 1 lines
-  pub limit : last_from 1 lines ≤ 1000000
+  pub limit : last_from 1 lines ≤ MAX_LINES
   pub valid : AreValid (entries lines)
   pub typed : AreTyped (entries lines)
   pub first_version : version ≡ V1 → AreOfFirstVersion (entries lines)
 
--- why an entry is refused: by its reason, or for want of memory
+-- an entry is refused by its reason, and for want of memory only where there is none
 abbrev pub RefusesOr : Option PushFault → PushFault → Type 0
-RefusesOr reason Memory = ⊤
+RefusesOr reason Memory = reason ≡ None
 RefusesOr reason fault = reason ≡ Some fault

@@ -1,11 +1,11 @@
 -- What a log says, slot by slot, without its requests and places: for each slot line, which tags would answer, and
 -- what was read. And which UIDs that leaves open.
 use Rattle.std.specs.Prelude.{◌≡◌, ◌≢◌, ◌⊎◌, ℕ, zero, suc, ◌==◌, Bool, true, not, ◌&&◌, ◌||◌, Option, Some, None, List, [], ◌∷◌, ⊤, slice_get, length}
-use Rattle.std.specs.List.{list_all, filter, AllByRecursion}
+use Rattle.std.specs.List.{list_all, AllByRecursion}
 use Rattle.vic_log.specs.declared.entry.Entry.{Entry}
 use Rattle.vic_log.specs.declared.entry.Entry.TheVariants.{Sent, Silent, Collision, Heard, Listed, Garbled, FieldCycle}
-use Rattle.vic_frame.specs.Uids.{is_uid, has}
-use Rattle.vic_log.specs.Populations.{IsPopulation, answers_at, Outcome, Nobody, Lone, Several, outcome_of}
+use Rattle.vic_frame.specs.Uids.{is_uid}
+use Rattle.vic_log.specs.Populations.{answers_at}
 
 -- what was read in a slot
 pub data Reading : Type 0 where
@@ -46,20 +46,6 @@ slots_before es (suc i) = with_entry (answers_at es i) (slice_get es i) (slots_b
 abbrev pub slots_of : List Entry → List Slot
 slots_of es = slots_before es (length es)
 
--- a reading fits an outcome
-abbrev pub ReadingFits : Reading → Outcome → Type 0
-ReadingFits NoReply o = o ≡ Nobody
-ReadingFits (OneReply h) o = o ≡ Lone h
-ReadingFits ManyReplies o = o ≡ Several
-ReadingFits SomeReply o = o ≢ Nobody
-
--- every slot was read as an outcome of it in this population
-abbrev pub Meets : List ℕ → Slot → Type 0
-Meets p s = ReadingFits s.reading (outcome_of (filter s.answers p))
-
-abbrev pub MeetsAll : List ℕ → List Slot → Type 0
-MeetsAll p slots = AllByRecursion (Meets p) slots
-
 -- a tag that answers (or not) may be in the field, by this reading alone
 abbrev pub may_be : Reading → Bool → ℕ → Bool
 may_be NoReply answers u = not answers
@@ -87,18 +73,6 @@ Supplies set s = Asks s.reading (λ u. set u && s.answers u)
 
 abbrev pub SuppliesAll : (ℕ → Bool) → List Slot → Type 0
 SuppliesAll set slots = AllByRecursion (Supplies set) slots
-
--- a population meets every slot
-abbrev pub ArePossible : List Slot → Type 0
-ArePossible slots = (p : List ℕ) × IsPopulation p × MeetsAll p slots
-
--- some population that meets every slot has the UID
-abbrev pub MayHave : List Slot → ℕ → Type 0
-MayHave slots u = (p : List ℕ) × IsPopulation p × MeetsAll p slots × (has p u ≡ true)
-
--- every population that meets every slot has the UID
-abbrev pub MustHave : List Slot → ℕ → Type 0
-MustHave slots u = (p : List ℕ) → IsPopulation p → MeetsAll p slots → has p u ≡ true
 
 -- the reading tells that the UID is there, where t are the UIDs that could have answered
 abbrev pub Forces : Reading → (ℕ → Bool) → ℕ → Type 0

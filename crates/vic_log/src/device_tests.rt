@@ -3,7 +3,7 @@
 use crate::devices::{Endless, OneByOne, Pieces, Stuck};
 use crate::{DeviceFault, FromRead, ReadFault, Sink, Source, ToWrite, read_whole, write_whole};
 use std::io;
-use std::io::{Read, Write};
+use std::io::{BufWriter, Read, Write};
 use std::test::Fail;
 
 /// A reader and writer of std that fails at each call.
@@ -89,4 +89,30 @@ fn writers_of_std(rt: HostRuntime) {
     let mut sink = ToWrite::new(Broken);
     assert_eq!(rt; sink.flush(), Err(DeviceFault));
     assert!(rt; sink.failed());
+}
+
+#[test]
+fn nothing_written_and_nothing_read(rt: HostRuntime) -> Result<(), Fail> {
+    let mut sink = ToWrite::new(Vec::new(rt.alloc()));
+    assert_eq!(rt; sink.write(b""), Ok(0));
+    assert!(rt; !sink.failed());
+    assert_eq!(rt; write_whole(&mut sink, b""), Ok(()));
+    assert_eq!(rt; sink.into_inner().as_slice(), b"".as_slice());
+    let mut source = FromRead::new(TEXT);
+    assert_eq!(rt; source.read(&mut []), Ok(0));
+    assert!(rt; !source.failed());
+    let text = read_whole(rt.alloc(), &mut source, 100)?;
+    assert_eq!(rt; text.as_slice(), TEXT);
+    Ok(())
+}
+
+#[test]
+fn what_waits_is_flushed(rt: HostRuntime) -> Result<(), Fail> {
+    let mut sink = ToWrite::new(BufWriter::new(rt.alloc(), Vec::new(rt.alloc()))?);
+    assert_eq!(rt; write_whole(&mut sink, TEXT), Ok(()));
+    assert_eq!(rt; sink.flush(), Ok(()));
+    let writer = sink.into_inner();
+    assert_eq!(rt; writer.get_ref().as_slice(), TEXT);
+    assert_eq!(rt; writer.buffer(), b"".as_slice());
+    Ok(())
 }

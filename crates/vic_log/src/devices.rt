@@ -1,4 +1,5 @@
-//! Readers and writers for tests: in pieces, failing at a call, or without end.
+//! Readers and writers for tests, those of the crates above too: in pieces, failing at a call, or
+//! without end. No program needs them.
 
 ghost use Rattle.std.specs.Prelude.{◌≡◌, ◌-◌, ◌<◌, true, false, Some, None};
 
@@ -15,6 +16,7 @@ pub struct Pieces<'a> {
     fail_at: u64,
     reads: u64,
     failed: bool,
+    ghost gives_some: { 0 < piece },
 }
 
 impl<'a> Pieces<'a> {
@@ -55,7 +57,7 @@ impl<'a> Source for Pieces<'a> {
             self.failed = true;
             return Err(DeviceFault);
         }
-        let n = self.bytes.len().min(buf.len()).min(self.piece.max(1));
+        let n = self.bytes.len().min(buf.len()).min(self.piece);
         let (first, rest) = self.bytes.split_at(n);
         buf[..n].copy_from_slice(first);
         self.bytes = rest;
@@ -111,11 +113,13 @@ pub struct OneByOne {
     fail_at: u64,
     fails_flush: bool,
     writes: u64,
+    flushed: bool,
     failed: bool,
 }
 
 impl OneByOne {
-    /// A sink that has taken these bytes. Its writes are numbered from 1; with a `fail_at` of 0 none fails.
+    /// A sink that has taken these bytes. Its writes are numbered from 1; with a `fail_at` of 0 none
+    /// fails.
     pub fn new(taken: Vec<u8>, fail_at: u64, fails_flush: bool) -> OneByOne
         ensures taken { ⟦<OneByOne as Sink>⟧.taken result ≡ Some taken.items }
         ensures works { ⟦<OneByOne as Sink>⟧.has_failed result ≡ false }
@@ -125,6 +129,7 @@ impl OneByOne {
             fail_at,
             fails_flush,
             writes: 0,
+            flushed: false,
             failed: false,
         }
     }
@@ -140,10 +145,13 @@ impl OneByOne {
 impl Sink for OneByOne {
     ghost taken = { λ s. Some s.taken.items };
 
+    ghost is_flushed = { λ s. s.flushed };
+
     ghost has_failed = { λ s. s.failed };
 
     fn write(&mut self, bytes: &[u8]) -> Result<usize, DeviceFault> {
         self.writes = self.writes.saturating_add(1);
+        self.flushed = false;
         if self.writes == self.fail_at {
             self.failed = true;
             return Err(DeviceFault);
@@ -162,6 +170,7 @@ impl Sink for OneByOne {
 
     fn flush(&mut self) -> Result<(), DeviceFault> {
         self.failed = self.fails_flush;
+        self.flushed = !self.fails_flush;
         if self.fails_flush {
             return Err(DeviceFault);
         }

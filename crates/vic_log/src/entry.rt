@@ -2,6 +2,9 @@
 
 use vic_frame::{Request, Response, Uid};
 
+/// The number of the last line that a log may have (profile).
+pub const MAX_LINES: u32 = 1_000_000;
+
 /// What one line of a log says (profile).
 #[derive(Clone, Copy, PartialEq, Eq, Debug)]
 pub enum Entry {

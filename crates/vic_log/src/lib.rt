@@ -1,9 +1,17 @@
-//! The log of an inventory session: its entries, and what a population of tags could have given.
+//! The log of an inventory session: its text, its entries, and what a population of tags could have
+//! given them.
+//!
+//! A log is a list of entries on numbered lines, in an order that an inventory session can have. It
+//! is read from its text, whole or in pieces, or from its first fault on refused; built entry by
+//! entry; and written back. Bytes come from a `Source` and go to a `Sink`, which remember a failure.
+//! `specs/` has what the crates above stand on: rounds, Quiet tags, populations, and a log's slots.
+//! `devices` are readers and writers for tests.
 #![tactic(auto)]
 
 #[cfg(test)]
 mod device_tests;
 pub mod devices;
+mod digits;
 mod entry;
 mod fault;
 pub mod laws;
@@ -11,18 +19,21 @@ mod line;
 mod log;
 mod read;
 mod reader;
+mod rounds;
 mod sink;
 mod source;
 #[cfg(test)]
 mod tests;
 mod write;
 
-pub use entry::{Entry, LogLine, Version};
+pub use digits::push_hex;
+pub use entry::{Entry, LogLine, MAX_LINES, Version};
 pub use fault::{LineFault, LogFault, PushFault, WriteFault};
 pub use line::line_entry;
 pub use log::Log;
 pub use read::read_log;
 pub use reader::LogReader;
+pub use rounds::{OpenRound, RoundCursor};
 pub use sink::{Sink, ToWrite, write_whole};
 pub use source::{DeviceFault, FromRead, ReadFault, Source, read_whole};
 pub use write::write_log;

@@ -1,17 +1,17 @@
 //! A log as a value.
 
-ghost use Rattle.std.specs.Prelude.{◌≡◌, ◌<◌, ◌≤◌, ℕ, [], ◌∷◌, None, MatchResult, OnOk, OnErr, IfErr, not, ◌||◌, true, false};
-ghost use Rattle.vic_log.specs.declared.fault.PushFault.TheVariants.{Memory as NoRoom};
-ghost use Rattle.vic_frame.specs.Uids.{has};
+ghost use Rattle.std.specs.Prelude.{◌≡◌, ◌<◌, ◌≤◌, [], ◌∷◌, not, ◌||◌, true, false};
+ghost use Rattle.std.specs.Prelude.{None, MatchResult, OnOk, OnErr, IfErr};
 ghost use Rattle.vic_log.specs.declared.entry.Version.TheVariants.{V1};
 ghost use Rattle.vic_log.specs.FirstVersion.{IsOfFirstVersion};
 ghost use Rattle.std.specs.List.Sorted.{IsNonDecreasing};
 ghost use Rattle.vic_log.specs.Index.{IsAbove, IsAtMost, IsIndex, is_indexed};
+ghost use Rattle.vic_log.specs.Index.{IndexesAlso, IndexesSame};
 ghost use Rattle.vic_log.specs.Kept.{left_after, Keeps};
 ghost use Rattle.vic_log.specs.Log.{LogValue, IsLog, with_line, last_from, RefusesOr, IsValidEntry};
 ghost use Rattle.vic_log.specs.Order.{entries, listed, is_empty, refusal};
 
-use crate::entry::{Entry, LogLine, Version};
+use crate::entry::{Entry, LogLine, MAX_LINES, Version};
 use crate::fault::PushFault;
 use std::alloc::Global;
 use std::collections::BTreeSet;
@@ -38,7 +38,9 @@ impl Model for Log {
 
     ghost view = { λ l. record { lines = l.lines.items; version = l.version } };
 
-    ghost invariant = { λ l. Keeps l.version l.lines.items (is_indexed l.rising.items l.others) l.listing l.slots_left × IsIndex l.rising.items l.others };
+    ghost invariant = { λ l. Keeps l.version l.lines.items
+        (is_indexed l.rising.items l.others) l.listing l.slots_left
+        × IsIndex l.rising.items l.others };
 }
 
 impl Log {
@@ -81,7 +83,7 @@ impl Log {
     /// The number of its last line, 1 where it has none.
     pub fn last_line(&self) -> u32
         ensures value { result ≡ last_from 1 self.now.lines }
-        ensures limit { result ≤ 1000000 }
+        ensures limit { result ≤ MAX_LINES }
     {
         match self.lines.last() {
             Some(line) => line.number,
@@ -90,24 +92,27 @@ impl Log {
     }
 
     /// Why an entry can't follow the lines, if it can't.
-    pub fn refusal(&self, item: &Entry) -> Option<PushFault>
+    pub(crate) fn refusal(&self, item: &Entry) -> Option<PushFault>
         ensures { result ≡ refusal (entries self.now.lines) item.now }
     {
         match *item {
-            Entry::Sent(_) | Entry::FieldCycle if self.listing => Some(PushFault::EntryAfterList),
-            Entry::Listed(uid) if is_indexed(&self.rising, &self.others, uid) => Some(
-                PushFault::DuplicateListed,
-            ),
-            Entry::Silent | Entry::Collision | Entry::Heard(_) | Entry::Garbled
-                if self.slots_left == 0 => Some(PushFault::SlotOutsideRound),
-            _ => None,
+            Entry::Silent | Entry::Collision | Entry::Heard(_) | Entry::Garbled => {
+                (self.slots_left == 0).then_some(PushFault::SlotOutsideRound)
+            }
+            Entry::Sent(_) | Entry::FieldCycle => {
+                self.listing.then_some(PushFault::EntryAfterList)
+            }
+            Entry::Listed(uid) => {
+                is_indexed(&self.rising, &self.others, uid).then_some(PushFault::DuplicateListed)
+            }
         }
     }
 
-    /// Adds a line, unless its entry can't follow those before, or memory is wanting. Then the log stays as it was.
+    /// Adds a line, unless its entry can't follow those before, or memory is wanting. Then the log
+    /// stays as it was.
     pub fn push(&mut self, number: u32, item: Entry) -> Result<(), PushFault>
         requires above { last_from 1 self.old.lines < number }
-        requires limit { number ≤ 1000000 }
+        requires limit { number ≤ MAX_LINES }
         requires valid { IsValidEntry item }
         requires first_version { self.old.version ≡ V1 → IsOfFirstVersion item }
         ensures answer { MatchResult result
@@ -135,7 +140,9 @@ fn slots_after(left: u8, item: &Entry) -> u8
     match *item {
         Entry::Sent(request) => request.slots(),
         Entry::Listed(_) | Entry::FieldCycle => 0,
-        _ => left.saturating_sub(1),
+        Entry::Silent | Entry::Collision | Entry::Heard(_) | Entry::Garbled => {
+            left.saturating_sub(1)
+        }
     }
 }
 
@@ -145,7 +152,8 @@ fn listing_after(listing: bool, item: &Entry) -> bool
 {
     match *item {
         Entry::Listed(_) => true,
-        _ => listing,
+        Entry::Sent(_) | Entry::FieldCycle => listing,
+        Entry::Silent | Entry::Collision | Entry::Heard(_) | Entry::Garbled => listing,
     }
 }
 
@@ -179,10 +187,12 @@ fn index_entry(
     item: &Entry,
 ) -> Result<(), PushFault>
     requires { IsIndex rising.old.items others.old }
-    ensures more { OnOk result ((u : ℕ) → is_indexed rising.new.items others.new u ≡ (is_indexed rising.old.items others.old u || has (listed (item.now ∷ [])) u)) }
-    ensures same { OnErr result ((u : ℕ) → is_indexed rising.new.items others.new u ≡ is_indexed rising.old.items others.old u) }
+    ensures more { OnOk result (IndexesAlso rising.old.items others.old
+        rising.new.items others.new (listed (item.now ∷ []))) }
+    ensures same { OnErr result (IndexesSame rising.old.items others.old
+        rising.new.items others.new) }
     ensures index { IsIndex rising.new.items others.new }
-    ensures fault { IfErr result (λ e. e ≡ NoRoom) }
+    ensures fault { IfErr result (λ e. e ≡ PushFault.Memory) }
 {
     if let Entry::Listed(uid) = *item {
         if is_above(rising, uid) {

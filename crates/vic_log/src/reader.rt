@@ -1,10 +1,10 @@
 //! A log read in pieces.
 
-ghost use Rattle.std.specs.Prelude.{◌≡◌, ◌+◌, ◌-◌, ◌*◌, ◌<◌, ◌≤◌, ◌↔◌, ◌++◌, ◌∷◌, [], ℕ, List, Bool, true, false, Some, None, Err, length, MatchResult, IfOk, IfErr, OnOk, IsTrue, MatchOption};
+ghost use Rattle.std.specs.Prelude.{◌≡◌, ◌≢◌, ◌+◌, ◌-◌, ◌*◌, ◌<◌, ◌≤◌, ◌↔◌, ◌++◌, ◌∷◌, [], ℕ, List, Bool, true, false, Some, None, Err, length, MatchResult, IfOk, IfErr, OnOk, IsTrue, MatchOption};
 ghost use Rattle.vic_frame.specs.Uids.{has};
 ghost use Rattle.vic_log.specs.declared.fault.LogFault.TheVariants.{Read as NotRead, Spent as IsSpent};
 ghost use Rattle.vic_log.specs.Begun.{IsShort, IsSplit, HasTaken, spare_of, ended_line, ended_fault};
-ghost use Rattle.vic_log.specs.Device.{HandsOut};
+ghost use Rattle.vic_log.specs.Device.{HandsOut, TellsOn};
 ghost use Rattle.vic_log.specs.Early.{IsLong, IsEarly, ReadsAs};
 ghost use Rattle.vic_log.specs.Lines.{lf, cr, without_last, lines_of_text};
 ghost use Rattle.vic_log.specs.Log.{last_from, with_lines};
@@ -180,6 +180,7 @@ fn read_from<R: Source>(alloc: Global, source: &mut R) -> Result<Log, LogFault>
     requires { R.has_failed source.old ≡ false }
     ensures answer { (given : List ℕ) × HandsOut (R.left source.old) (R.left source.new) given
         × ReadsAs (R.left source.new) given result }
+    ensures tells { result ≢ Err NotRead → TellsOn (R.left source.old) (R.left source.new) }
     ensures read { IfErr result (λ e. (e ≡ NotRead) ↔ (R.has_failed source.new ≡ true)) }
     ensures works { OnOk result (R.has_failed source.new ≡ false) }
     ensures reads { R.reads source.new ≤ R.reads source.old + 130000001 }
@@ -224,11 +225,13 @@ impl LogReader {
 
     /// The log of a source's bytes, which `read_log` would give for all of them, or its first fault. A line is judged
     /// when its LF has come, when it is too long whatever follows, when it is line 1,000,001, or at the end. A failed
-    /// read is answered where no line judged by then has a fault. A second call answers `Spent` and reads nothing.
+    /// read is answered where no line judged by then has a fault; only there may a source that told its bytes tell them
+    /// no more. A second call answers `Spent` and reads nothing.
     pub fn read_all<R: Source>(&mut self, source: &mut R) -> Result<Log, LogFault>
         ensures answer { self.old ≡ false →
             (given : List ℕ) × HandsOut (R.left source.old) (R.left source.new) given
             × ReadsAs (R.left source.new) given result }
+        ensures tells { result ≢ Err NotRead → TellsOn (R.left source.old) (R.left source.new) }
         ensures read { self.old ≡ false → IfErr result (λ e. (e ≡ NotRead) ↔ (R.has_failed source.new ≡ true)) }
         ensures works { OnOk result (R.has_failed source.new ≡ false) }
         ensures reads { R.reads source.new ≤ R.reads source.old + 130000001 }

@@ -1,6 +1,7 @@
 //! Writers that are written in pieces.
 
-ghost use Rattle.std.specs.Prelude.{◌≡◌, ◌<◌, ◌≤◌, ℕ, List, [], Bool, true, false, length, IfOk, OnErr, OnOk, is_err, Option};
+ghost use Rattle.std.specs.Prelude.{◌≡◌, ◌<◌, ◌≤◌, ℕ, List, [], Bool, true, false, length};
+ghost use Rattle.std.specs.Prelude.{IfOk, OnErr, OnOk, is_err, Option};
 ghost use Rattle.std.specs.Io.KnownBytes.{Appends};
 ghost use Rattle.vic_log.specs.Device.{SinkStep, KeepsOrHides, HasTakenPrefix, to_write_inner};
 
@@ -12,10 +13,14 @@ pub trait Sink {
     // The bytes that it has taken, where it tells them.
     ghost taken: { Self → Option (List ℕ) };
 
+    // Whether it has handed on all that it has taken.
+    ghost is_flushed: { Self → Bool };
+
     ghost has_failed: { Self → Bool };
 
-    /// Takes some of the first bytes and says how many: none only where there are none. A failed write leaves the
-    /// bytes taken as they were, or tells them no more. A sink that has failed is not written.
+    /// Takes some of the first bytes and says how many: none only where there are none. A failed
+    /// write leaves the bytes taken as they were, or tells them no more. A sink that has failed is
+    /// not written.
     fn write(&mut self, bytes: &[u8]) -> Result<usize, DeviceFault>
         requires { has_failed self.old ≡ false }
         ensures bound { IfOk result (λ n. n ≤ length bytes.now) }
@@ -26,6 +31,7 @@ pub trait Sink {
     /// Hands on what it has taken. A sink that has failed is not flushed.
     fn flush(&mut self) -> Result<(), DeviceFault>
         requires { has_failed self.old ≡ false }
+        ensures handed_on { OnOk result (is_flushed self.new ≡ true) }
         ensures kept { OnOk result (Appends (taken self.old) (taken self.new) []) }
         ensures err { OnErr result (KeepsOrHides (taken self.old) (taken self.new)) }
         ensures state { has_failed self.new ≡ is_err result };
@@ -35,11 +41,13 @@ pub trait Sink {
         ensures { result ≡ has_failed self.now };
 }
 
-/// A sink over a writer of std. Each write or flush makes one call of that, which is not repeated. A write that takes
-/// nothing of some bytes has failed.
+/// A sink over a writer of std. Each write or flush makes one call of that, which is not repeated.
+/// A write that takes nothing of some bytes has failed.
 #[derive(Drop)]
 pub struct ToWrite<W> {
     inner: W,
+    /// Whether the last call was a flush that succeeded.
+    flushed: bool,
     failed: bool,
 }
 
@@ -52,6 +60,7 @@ impl<W: Write> ToWrite<W> {
     {
         ToWrite {
             inner,
+            flushed: false,
             failed: false,
         }
     }
@@ -60,7 +69,11 @@ impl<W: Write> ToWrite<W> {
     pub fn into_inner(self) -> W
         ensures { result ≡ to_write_inner self }
     {
-        let ToWrite { inner, failed: _ } = self;
+        let ToWrite {
+            inner,
+            flushed: _,
+            failed: _,
+        } = self;
         inner
     }
 }
@@ -68,9 +81,12 @@ impl<W: Write> ToWrite<W> {
 impl<W: Write> Sink for ToWrite<W> {
     ghost taken = { λ s. W.contents s.inner };
 
+    ghost is_flushed = { λ s. s.flushed };
+
     ghost has_failed = { λ s. s.failed };
 
     fn write(&mut self, bytes: &[u8]) -> Result<usize, DeviceFault> {
+        self.flushed = false;
         match self.inner.write(bytes) {
             Ok(n) if n > 0 || bytes.is_empty() => {
                 self.failed = false;
@@ -86,10 +102,12 @@ impl<W: Write> Sink for ToWrite<W> {
     fn flush(&mut self) -> Result<(), DeviceFault> {
         match self.inner.flush() {
             Ok(()) => {
+                self.flushed = true;
                 self.failed = false;
                 Ok(())
             }
             Err(_) => {
+                self.flushed = false;
                 self.failed = true;
                 Err(DeviceFault)
             }
@@ -101,7 +119,8 @@ impl<W: Write> Sink for ToWrite<W> {
     }
 }
 
-/// Writes all the bytes, in as many writes as it takes. A sink that has failed is not written again.
+/// Writes all the bytes, in as many writes as it takes, and does not flush. A sink that has failed
+/// is not written again.
 pub fn write_whole<W: Sink>(sink: &mut W, bytes: &[u8]) -> Result<(), DeviceFault>
     ensures all { OnOk result (Appends (W.taken sink.old) (W.taken sink.new) bytes.now) }
     ensures prefix { HasTakenPrefix (W.taken sink.old) (W.taken sink.new) bytes.now }

@@ -1,7 +1,9 @@
 //! Readers that are read in pieces.
 
-ghost use Rattle.std.specs.Prelude.{◌≡◌, ◌+◌, ◌-◌, ◌^◌, ◌<◌, ◌≤◌, ℕ, List, Bool, true, false, min, length, IfOk, IfErr, OnOk, is_err, vec_len, Option, ◌↔◌};
-ghost use Rattle.vic_log.specs.Device.{SourceStep, GivesBytes, Stops, from_read_inner};
+ghost use Rattle.std.specs.Prelude.{◌≡◌, ◌↔◌, ◌+◌, ◌-◌, ◌^◌, ◌<◌, ◌≤◌, ℕ, List, Bool, true, false};
+ghost use Rattle.std.specs.Prelude.{min, length, vec_len, IfOk, IfErr, OnOk, is_err, Option};
+ghost use Rattle.std.specs.Io.KnownBytes.{Consumes};
+ghost use Rattle.vic_log.specs.Device.{SourceStep, Stops, from_read_inner};
 
 use std::alloc::{AllocError, Global};
 use std::io::Read;
@@ -20,8 +22,9 @@ pub trait Source {
 
     ghost has_failed: { Self → Bool };
 
-    /// Puts the next bytes at the front of `buf` and says how many they are: none only at the end, or where `buf` is
-    /// empty. A failed read leaves the bytes as they were, or tells them no more. A source that has failed is not read.
+    /// Puts the next bytes at the front of `buf` and says how many they are: none only at the end,
+    /// or where `buf` is empty. A failed read leaves the bytes as they were, or tells them no more.
+    /// A source that has failed is not read.
     fn read(&mut self, buf: &mut [u8]) -> Result<usize, DeviceFault>
         requires { has_failed self.old ≡ false }
         ensures counts { reads self.new ≡ min (reads self.old + 1) (2 ^ 64 - 1) }
@@ -128,13 +131,14 @@ impl From<AllocError> for ReadFault {
 /// How many bytes are asked for at once.
 const PIECE: usize = 16384;
 
-/// The bytes of a source, to its end, or the first `limit` of them. A source that has failed is not read.
+/// The bytes of a source, to its end, or the first `limit` of them. A source that has failed is not
+/// read.
 pub fn read_whole<R: Source>(
     alloc: Global,
     source: &mut R,
     limit: usize,
 ) -> Result<Vec<u8>, ReadFault>
-    ensures bytes { IfOk result (λ text. GivesBytes (R.left source.old) (R.left source.new) text.items) }
+    ensures bytes { IfOk result (λ text. Consumes (R.left source.old) (R.left source.new) text.items) }
     ensures end { IfOk result (λ text. Stops (R.left source.new) text.items limit) }
     ensures bound { IfOk result (λ text. vec_len text ≤ limit) }
     ensures read { IfErr result (λ e. (e ≡ ReadFault.Read) ↔ (R.has_failed source.new ≡ true)) }

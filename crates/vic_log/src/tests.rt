@@ -5,6 +5,7 @@ use crate::{
     Entry, LineFault, Log, LogFault, LogReader, PushFault, Sink, Source, ToWrite, Version,
     WriteFault, line_entry, read_log, write_log,
 };
+use std::io::BufWriter;
 use std::test::Fail;
 use vic_frame::{FrameFault, read_request};
 
@@ -255,6 +256,15 @@ fn writers_that_fail(rt: HostRuntime) -> Result<(), Fail> {
     let mut stuck = ToWrite::new(Stuck::new(1));
     assert_eq!(rt; write_log(&log, &mut stuck), Err(WriteFault));
     assert!(rt; stuck.failed());
+    Ok(())
+}
+
+#[test]
+fn a_written_log_is_flushed(rt: HostRuntime) -> Result<(), Fail> {
+    let log = worked(&rt)?;
+    let mut sink = ToWrite::new(BufWriter::new(rt.alloc(), Vec::new(rt.alloc()))?);
+    assert_eq!(rt; write_log(&log, &mut sink), Ok(()));
+    assert_eq!(rt; sink.into_inner().get_ref().as_slice(), WRITTEN);
     Ok(())
 }
 

@@ -1,6 +1,7 @@
 //! A log to its text.
 
-ghost use Rattle.std.specs.Prelude.{◌≡◌, ◌+◌, ◌*◌, ◌<◌, ◌≤◌, ◌++◌, ◌∷◌, [], true, length, drop, is_err, OnOk};
+ghost use Rattle.std.specs.Prelude.{◌≡◌, ◌+◌, ◌*◌, ◌<◌, ◌≤◌, ◌++◌, ◌∷◌, [], true, length};
+ghost use Rattle.std.specs.Prelude.{drop, is_err, OnOk};
 ghost use Rattle.std.specs.Str.{byte};
 ghost use Rattle.std.specs.Io.KnownBytes.{Appends};
 ghost use Rattle.arrayvec.specs.ArrayVec.{array_vec_len};
@@ -12,6 +13,7 @@ ghost use Rattle.vic_log.specs.Order.{AreValid, entries};
 ghost use Rattle.vic_log.specs.Text.{header};
 ghost use Rattle.vic_log.specs.Writing.{entry_text, lines_text, text_of};
 
+use crate::digits::push_hex;
 use crate::entry::{Entry, LogLine, Version};
 use crate::fault::WriteFault;
 use crate::log::Log;
@@ -19,28 +21,30 @@ use crate::sink::{Sink, write_whole};
 use arrayvec::ArrayVec;
 use vic_frame::{write_request, write_response};
 
-/// Lines that wait for one write.
-type Piece = ArrayVec<u8, 4096>;
+/// How many bytes are written at once, at most.
+const PIECE: usize = 4096;
 
-const DIGITS: [u8; 16] = *b"0123456789ABCDEF";
+/// How many bytes an entry's line has at most, with its LF.
+const LONGEST_LINE: usize = 29;
+
+/// Lines that wait for one write.
+type Piece = ArrayVec<u8, PIECE>;
 
 /// Adds a letter, a space, and bytes as hex digits in upper case.
 fn push_bytes(piece: &mut Piece, letter: u8, bytes: &[u8])
-    requires { array_vec_len piece.old + 2 + 2 * length bytes.now ≤ 4096 }
-    ensures items { piece.new.items ≡ piece.old.items ++ letter ∷ byte " " ∷ encode_upper bytes.now }
+    requires { array_vec_len piece.old + 2 + 2 * length bytes.now ≤ PIECE }
+    ensures items { piece.new.items
+        ≡ piece.old.items ++ letter ∷ byte " " ∷ encode_upper bytes.now }
     ensures len { array_vec_len piece.new ≡ array_vec_len piece.old + 2 + 2 * length bytes.now }
 {
     piece.push(letter);
     piece.push(b' ');
-    for byte in bytes {
-        piece.push(DIGITS[usize::from(*byte / 16)]);
-        piece.push(DIGITS[usize::from(*byte % 16)]);
-    }
+    push_hex(piece, bytes);
 }
 
-/// Adds an entry's line, with its LF: at most 29 bytes.
+/// Adds an entry's line, with its LF.
 fn push_entry(piece: &mut Piece, item: &Entry)
-    requires room { array_vec_len piece.old + 29 ≤ 4096 }
+    requires room { array_vec_len piece.old + LONGEST_LINE ≤ PIECE }
     requires valid { IsValidEntry item.now }
     ensures items { piece.new.items ≡ piece.old.items ++ entry_text item.now ++ lf ∷ [] }
 {
@@ -71,37 +75,40 @@ fn with_header(version: Version) -> Piece
     piece
 }
 
-/// Adds lines from place `start` on, as long as one more has room, and gives the place of the next.
-fn fill(piece: &mut Piece, lines: &[LogLine], start: usize) -> usize
+/// Adds lines from index `start` on, as long as one more has room, and gives the index of the next.
+fn fill_piece(piece: &mut Piece, lines: &[LogLine], start: usize) -> usize
     requires start { start ≤ length lines.now }
     requires valid { AreValid (entries lines.now) }
     ensures bound { result ≤ length lines.now }
-    ensures more { array_vec_len piece.old + 29 ≤ 4096 → start < length lines.now → start < result }
-    ensures items { piece.new.items ++ lines_text (drop result lines.now) ≡ piece.old.items ++ lines_text (drop start lines.now) }
+    ensures more { array_vec_len piece.old + LONGEST_LINE ≤ PIECE → start < length lines.now
+        → start < result }
+    ensures items { piece.new.items ++ lines_text (drop result lines.now)
+        ≡ piece.old.items ++ lines_text (drop start lines.now) }
 {
     let mut next = start;
-    while next < lines.len() && piece.len() + 29 <= 4096 {
+    while next < lines.len() && piece.len() + LONGEST_LINE <= PIECE {
         push_entry(piece, &lines[next].item);
         next += 1;
     }
     next
 }
 
-/// Writes the text of a log: the header of its version, and each entry on a line, with upper-case digits and LF ends.
-/// A sink that has failed is not written again.
+/// Writes the text of a log, and flushes: the header of its version, and each entry on a line, with
+/// upper-case digits and LF ends. A sink that has failed is not written again.
 pub fn write_log<W: Sink>(log: &Log, sink: &mut W) -> Result<(), WriteFault>
     ensures all { OnOk result (Appends (W.taken sink.old) (W.taken sink.new) (text_of log.now)) }
+    ensures flushed { OnOk result (W.is_flushed sink.new ≡ true) }
     ensures prefix { HasTakenPrefix (W.taken sink.old) (W.taken sink.new) (text_of log.now) }
     ensures state { W.has_failed sink.new ≡ is_err result }
     ensures untouched { W.has_failed sink.old ≡ true → sink.new ≡ sink.old }
 {
     let lines = log.lines();
     let mut piece = with_header(log.version());
-    let mut next = fill(&mut piece, lines, 0);
+    let mut next = fill_piece(&mut piece, lines, 0);
     write_whole(sink, piece.as_slice())?;
     while next < lines.len() {
         piece.clear();
-        next = fill(&mut piece, lines, next);
+        next = fill_piece(&mut piece, lines, next);
         write_whole(sink, piece.as_slice())?;
     }
     sink.flush()?;

@@ -1,11 +1,11 @@
 -- The cases 2 to 6 of the verdict, by the open, the certain and the listed UIDs.
-use Rattle.std.proofs.Common.{◌≡◌, ℕ, ◌≤◌, List, [], ◌∷◌, ◌++◌, Bool, true, false, not, ◌&&◌, ◌||◌, Option, Some, None, refl, sym, ap, ◌∙◌, subst, arith}
-use Rattle.std.specs.Prelude.{◌↔◌, MatchOption, nat_eq}
-use Rattle.std.specs.List.{list_any}
-use Rattle.std.proofs.lemmas.Bool.{both_ways, and_parts, and_from, not-true, not_from_false, false_from_ne_true, eq-eqb, eqb-true}
-use Rattle.std.proofs.lemmas.List.Folds.{list_any-append}
+use Rattle.std.proofs.lemmas.List.Folds.{list_any-append, list_any_more}
+use Rattle.std.proofs.Common.{◌≡◌, ℕ, ◌+◌, ◌<◌, ◌≤◌, ◌==◌, take, get_or, length, List, Bool, true, false, not, Option, Some, None, sym, ◌∙◌, subst, arith, ◌||◌, ◌++◌, ◌∷◌, [], ap, refl}
+use Rattle.std.specs.Prelude.{◌↔◌, IfSome, IfNone, MatchOption, nat_eq}
+use Rattle.std.proofs.lemmas.Bool.{both_ways, and_parts, and_from, not-true, not_from_false, false_from_ne_true}
 use Rattle.vic_frame.specs.Uids.{IsUid, has}
-use Rattle.vic_frame.specs.Masks.{BitMask, IsMask, lies_in, own_mask}
+use Rattle.vic_frame.specs.Masks.{BitMask, IsMask}
+use Rattle.vic_frame.specs.LowBitsFirst.{uid_of}
 use Rattle.vic_tree.specs.OpenSet as tree
 use Rattle.vic_tree.specs.OpenSet.{SameUids, AllOpen, settled}
 use Rattle.vic_log.specs.declared.entry.Entry.{Entry}
@@ -15,9 +15,8 @@ use Rattle.vic_log.proofs.Sets.{IsUid-member}
 use Rattle.vic_log.specs.Order.{listed}
 use Rattle.vic_verdict.specs.Verdict.{IsAbsent, IsUnlisted, IsUnsettled, IsDoubtful, IsLeast, IsFirstMask, NoSuch}
 use Rattle.vic_verdict.specs.Rising.{SameMembers, IsListOf, IsFailing, without_all}
+use Rattle.vic_verdict.specs.Unsettled.{AreOpenAndListed, has_key}
 use Rattle.vic_verdict.proofs.Decide.{IsPossibleUid-iff, IsCertainUid-iff}
-use Rattle.vic_verdict.proofs.Failing.{same_tests}
-use Rattle.vic_verdict.proofs.Masks.{mask_of-alone, mask_of-has}
 use Rattle.vic_verdict.proofs.Verdicts.{unsettled_iff}
 
 -- the same test has the same least number
@@ -87,27 +86,36 @@ none_unsettled es set left none m h =
     let i = IsUid-member q.0 w.0 q.1 q.3 in
     both_ways (set w.0) (none w.0 i) (left.back w.0 i q w.2)
 
--- ---- the listed UIDs taken out
+-- what `first_unsettled` asks for, of a list that is the listed UIDs
+pub given_at : (es : List Entry) (set : ℕ → Bool) (us xs : List ℕ) → IsPossible es → SameUids set (is_open (slots_of es))
+    → SameMembers us (listed es) → ((u : ℕ) → has us u ≡ true → IsUid u) → xs ≡ us → AreOpenAndListed es set xs
+given_at es set us xs possible open_ listed_ uids e =
+    subst (AreOpenAndListed es set) (sym e) (record { possible = possible; uids_open = open_; uids_listed = listed_; are_uids = uids })
 
-own_mask_test : (u w : ℕ) → IsUid u → IsUid w → lies_in (own_mask u) w ≡ nat_eq w u
-own_mask_test u w i j =
-    same_tests (lies_in (own_mask u) w) (nat_eq w u)
-    (λ h. eq-eqb w u (mask_of-alone u w i j h))
-    (λ h. ap (λ x. lies_in (own_mask u) x) (eqb-true w u h) ∙ mask_of-has u)
+-- the widest mask that is left is the first unsettled one
+pub first_unsettled_is : (es : List Entry) (set set' : ℕ → Bool) (us : List ℕ) (r : Option BitMask)
+    → AreOpenAndListed es set us → SameUids set' (without_all set us)
+    → IfSome r (tree.IsWidest set') → IfNone r (SameUids set' (λ _. false))
+    → MatchOption r (NoSuch (IsUnsettled es)) (IsFirstMask (IsUnsettled es))
+first_unsettled_is es set set' us None own t found empty =
+    none_unsettled es set' (left_of es set set' us own.possible own.uids_open own.uids_listed t) empty
+first_unsettled_is es set set' us (Some m) own t found empty =
+    widest_unsettled es set' m (left_of es set set' us own.possible own.uids_open own.uids_listed t) found
 
-out_test : (a b c : Bool) → ((a && not b) && (not c || false)) ≡ (a && not (b || (c || false)))
-out_test false b c = refl
-out_test true true c = refl
-out_test true false true = refl
-out_test true false false = refl
+-- ---- the listed UIDs by their keys
 
-pub taken_out : (set now next : ℕ → Bool) (us vs : List ℕ) (u : ℕ) → IsUid u → vs ≡ us ++ u ∷ [] → SameUids now (without_all set us) → SameUids next (settled now (own_mask u) []) → SameUids next (without_all set vs)
-taken_out set now next us vs u i e s t w j =
-    t w j
-    ∙ (ap (λ b. b && (not (lies_in (own_mask u) w) || false)) (s w j)
-    ∙ (ap (λ b. (set w && not (has us w)) && (not b || false)) (own_mask_test u w i j)
-    ∙ (out_test (set w) (has us w) (nat_eq w u)
-    ∙ ap (λ b. set w && not b) (sym (ap (list_any (nat_eq w)) e ∙ list_any-append (nat_eq w) us (u ∷ []))))))
+pub key_pushed : (keys uids : List ℕ) (n k x u : ℕ) → n < length uids → x ≡ get_or uids n x → uid_of k ≡ x
+    → has_key keys u ≡ has (take n uids) u → has_key (keys ++ k ∷ []) u ≡ has (take (n + 1) uids) u
+key_pushed keys uids n k x u lt is back h =
+    list_any-append (λ j. u == uid_of j) keys (k ∷ [])
+    ∙ ap (λ b. b || ((u == uid_of k) || false)) h
+    ∙ ap (λ b. has (take n uids) u || b) (one (u == uid_of k))
+    ∙ ap (λ y. has (take n uids) u || (u == y)) (back ∙ is)
+    ∙ sym (list_any_more (nat_eq u) uids n x lt)
+  where
+    one : (b : Bool) → (b || false) ≡ b
+    one true = refl
+    one false = refl
 
 -- ---- what the judge has
 

@@ -20,6 +20,5 @@ pub mod MaskMaps
 pub mod Repeating
 pub mod OpenRounds
 pub mod Skipping
-pub mod Wide
 pub mod Sweeping
 pub mod Stretching

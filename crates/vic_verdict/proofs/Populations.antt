@@ -4,10 +4,23 @@ use Rattle.std.specs.Prelude.{◌⊎◌, ◌≢◌, ◌↔◌, ◌==◌}
 use Rattle.std.proofs.lemmas.Bool.{eqb-false, ne_eqb, and_parts, and_from, not_from_false, not-true, cases_eq, false≢true, both_ways}
 use Rattle.vic_frame.specs.Uids.{has, is_uid, IsUid}
 use Rattle.vic_log.specs.Populations.{IsPopulation}
-use Rattle.vic_log.specs.Slots.{Reading, NoReply, OneReply, ManyReplies, SomeReply, Slot, MeetsAll, is_open, Asks, SuppliesAll, ArePossible, MayHave, MustHave, Forces, IsForcedBy}
+use Rattle.vic_log.specs.Slots.{Reading, NoReply, OneReply, ManyReplies, SomeReply, Slot, is_open, Asks, SuppliesAll, Forces, IsForcedBy}
+use Rattle.vic_log.proofs.Meeting.{MeetsAll}
 use Rattle.vic_log.proofs.Sets.{IsWithin, has_with_member, with_member, with_member_keeps, with_member_cases, IsPopulation-with_member}
 use Rattle.vic_log.proofs.Supply.{asks_within, SuppliesAll-within, MeetsAll-iff, IsUid-from}
 use Rattle.vic_verdict.proofs.Search.{search_below}
+
+-- a population meets every slot
+abbrev pub ArePossible : List Slot → Type 0
+ArePossible slots = (p : List ℕ) × IsPopulation p × MeetsAll p slots
+
+-- some population that meets every slot has the UID
+abbrev pub MayHave : List Slot → ℕ → Type 0
+MayHave slots u = (p : List ℕ) × IsPopulation p × MeetsAll p slots × (has p u ≡ true)
+
+-- every population that meets every slot has the UID
+abbrev pub MustHave : List Slot → ℕ → Type 0
+MustHave slots u = (p : List ℕ) → IsPopulation p → MeetsAll p slots → has p u ≡ true
 
 -- ---- a population within a set
 

@@ -7,10 +7,11 @@ use Rattle.vic_frame.specs.Replies.{Reply}
 use Rattle.vic_log.specs.declared.entry.Entry.{Entry}
 use Rattle.vic_log.specs.declared.entry.Entry.TheVariants.{Heard}
 use Rattle.vic_log.specs.Populations.{answers_at}
-use Rattle.vic_log.specs.Slots.{slots_of, OneReply, ArePossible, MayHave, MustHave}
+use Rattle.vic_log.specs.Slots.{slots_of, OneReply}
 use Rattle.vic_log.proofs.Sets.{has_filter, AreDifferent-filter, AreDifferent-population}
 use Rattle.vic_log.proofs.Supply.{fits_asks}
 use Rattle.vic_log.proofs.Places.{CouldHaveGiven-slots, CouldHaveGiven-front}
+use Rattle.vic_verdict.proofs.Populations.{ArePossible, MayHave, MustHave}
 use Rattle.vic_verdict.specs.Possible.{IsPossible, IsPossibleUid, IsCertainUid}
 
 pub IsPossible-slots : (es : List Entry) → IsPossible es ↔ ArePossible (slots_of es)

@@ -6,3 +6,4 @@ pub mod Repeats
 pub mod Unsettled
 pub mod Sweep
 pub mod Stretches
+pub mod Demands

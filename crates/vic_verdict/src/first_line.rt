@@ -3,12 +3,10 @@
 ghost use Rattle.std.specs.Prelude.{◌+◌, ◌<◌, IfOk};
 ghost use Rattle.vic_log.specs.Order.{IsInOrder, entries, IsRisingFrom, AreValid};
 ghost use Rattle.vic_verdict.specs.Possible.{IsPossible};
-ghost use Rattle.vic_verdict.specs.Repeats.{AreRepeats};
 ghost use Rattle.vic_verdict.specs.Verdict.{IsVerdict};
 ghost use Rattle.vic_verdict.specs.declared.verdict.Verdict.TheVariants.{Impossible};
 
 use crate::possible::is_possible;
-use crate::repeats::Repeats;
 use crate::suspect::suspect_line;
 use std::alloc::{AllocError, Global};
 use vic_log::LogLine;
@@ -32,12 +30,10 @@ fn between(low: usize, high: usize, guess: usize) -> usize
 pub fn first_impossible_line<S: OpenSet>(
     alloc: Global,
     lines: &[LogLine],
-    repeats: &Repeats,
 ) -> Result<u32, AllocError>
     requires order { IsInOrder (entries lines.now) }
     requires valid { AreValid (entries lines.now) }
     requires rising { IsRisingFrom 0 lines.now }
-    requires repeats { AreRepeats (entries lines.now) repeats.now }
     requires impossible { IsPossible (entries lines.now) → ⊥ }
     ensures { IfOk result (λ n. IsVerdict lines.now (Impossible n)) }
 {
@@ -47,7 +43,7 @@ pub fn first_impossible_line<S: OpenSet>(
     while high - low > 1 {
         let middle = between(low, high, guess);
         let front = &lines[..middle];
-        if is_possible::<S>(alloc, front, repeats)? {
+        if is_possible::<S>(alloc, front)? {
             low = middle;
             guess = guess.saturating_add(1);
         } else {

@@ -46,7 +46,7 @@ fn judge_possible<S: OpenSet>(
     if let Some(uid) = least_failing(&certain, |u| is_among(&listed, u)) {
         return Ok(Verdict::Unlisted(uid));
     }
-    if let Some(mask) = first_unsettled(alloc, set, lines, repeats, &listed)? {
+    if let Some(mask) = first_unsettled(alloc, set, &listed)? {
         return Ok(Verdict::Unsettled(mask));
     }
     if let Some(uid) = least_failing(&listed, |u| is_among(&certain, u)) {
@@ -69,7 +69,7 @@ fn judge_lines<S: OpenSet>(alloc: Global, lines: &[LogLine]) -> Result<Verdict, 
         return judge_possible(alloc, set, lines, &repeats);
     }
     drop(set);
-    let line = first_impossible_line::<S>(alloc, lines, &repeats)?;
+    let line = first_impossible_line::<S>(alloc, lines)?;
     Ok(Verdict::Impossible { line })
 }
 

@@ -4,6 +4,7 @@
 mod again;
 mod answering;
 mod certain;
+mod demands;
 mod fates;
 mod first_line;
 mod judging;
@@ -18,8 +19,8 @@ mod repeats;
 mod rising;
 mod settle;
 mod steps;
-mod suspect;
 mod stretches;
+mod suspect;
 pub mod sweep;
 #[cfg(test)]
 mod tests;

@@ -11,7 +11,7 @@ ghost use Rattle.vic_verdict.specs.Repeats.{AreRepeats};
 
 use crate::answering::{answers, up_to_three};
 use crate::place::Place;
-use crate::repeats::Repeats;
+use crate::repeats::{Repeats, find_repeats};
 use crate::stretches::settle_all;
 use std::alloc::{AllocError, Global};
 use vic_log::{Entry, LogLine};
@@ -60,16 +60,12 @@ pub fn supplies_all<S: OpenSet>(
 }
 
 /// Whether some population could have given a log.
-pub fn is_possible<S: OpenSet>(
-    alloc: Global,
-    lines: &[LogLine],
-    repeats: &Repeats,
-) -> Result<bool, AllocError>
+pub fn is_possible<S: OpenSet>(alloc: Global, lines: &[LogLine]) -> Result<bool, AllocError>
     requires order { IsInOrder (entries lines.now) }
     requires valid { AreValid (entries lines.now) }
-    requires repeats { AreRepeats (entries lines.now) repeats.now }
     ensures { IfOk result (λ yes. IsTrue yes ↔ IsPossible (entries lines.now)) }
 {
     let set: S = settle_all(alloc, lines)?;
-    supplies_all(alloc, &set, lines, repeats)
+    let repeats = find_repeats(alloc, lines)?;
+    supplies_all(alloc, &set, lines, &repeats)
 }

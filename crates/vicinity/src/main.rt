@@ -1,24 +1,13 @@
 //! Whether a list of vicinity tags is complete, from the log of the session that found them.
 #![tactic(auto)]
 
-mod check;
-mod digits;
-mod frame;
-mod input;
-mod output;
-mod simulate;
-mod status;
 #[cfg(test)]
 mod tests;
-mod text;
 mod words;
 
-use check::run_check;
-use frame::run_frame;
-use simulate::run_simulate;
-use status::{RunFault, Status, fault_text};
 use std::process::ExitCode;
 use std::{env, fs};
+use vic_answer::{RunFault, Status, fault_text, run_check, run_frame, run_simulate};
 use vic_log::{FromRead, Source, ToWrite};
 use words::{Task, WordsFault, read_words};
 
@@ -48,30 +37,24 @@ fn end(rt: &HostRuntime, answer: Result<Status, RunFault>) -> ExitCode {
     }
 }
 
-/// A command over the text of a log.
-#[derive(Clone, Copy)]
-enum Command {
-    Check,
-    Simulate,
-}
-
-/// Runs a command from a source to standard output.
-fn run<R: Source>(rt: &HostRuntime, command: Command, source: &mut R) -> ExitCode {
+/// Does a task from a source, which a frame leaves alone, to standard output.
+fn run_task<R: Source>(rt: &HostRuntime, task: &Task, source: &mut R) -> ExitCode {
     let mut sink = ToWrite::new(rt.stdout());
-    let answer = match command {
-        Command::Check => run_check(rt.alloc(), source, &mut sink),
-        Command::Simulate => run_simulate(rt.alloc(), source, &mut sink),
+    let answer = match task {
+        Task::Check(_) => run_check(rt.alloc(), source, &mut sink),
+        Task::Simulate(_) => run_simulate(rt.alloc(), source, &mut sink),
+        Task::Frame(word) => run_frame(word.as_bytes(), &mut sink),
     };
     end(rt, answer)
 }
 
-/// Runs a command over a file, or over standard input where none is named.
-fn run_over(rt: &HostRuntime, command: Command, file: Option<String>) -> ExitCode {
-    let Some(file) = file else {
-        return run(rt, command, &mut FromRead::new(rt.stdin()));
+/// Does a task over the file that it names, or over standard input where it names none.
+fn run(rt: &HostRuntime, task: &Task) -> ExitCode {
+    let Some(file) = task.file() else {
+        return run_task(rt, task, &mut FromRead::new(rt.stdin()));
     };
-    match fs::open(rt, file.as_str()) {
-        Ok(opened) => run(rt, command, &mut FromRead::new(opened)),
+    match fs::open(rt, file) {
+        Ok(opened) => run_task(rt, task, &mut FromRead::new(opened)),
         Err(_) => {
             let _ = eprintln!(rt; "vicinity: cannot open {file}");
             ExitCode::from(NO_ANSWER)
@@ -85,12 +68,7 @@ fn main(rt: HostRuntime) -> ExitCode {
         Err(fault) => Err(fault),
     };
     match task {
-        Ok(Task::Check(file)) => run_over(&rt, Command::Check, file),
-        Ok(Task::Simulate(file)) => run_over(&rt, Command::Simulate, file),
-        Ok(Task::Frame(word)) => {
-            let answer = run_frame(word.as_bytes(), &mut ToWrite::new(rt.stdout()));
-            end(&rt, answer)
-        }
+        Ok(task) => run(&rt, &task),
         Err(WordsFault::Usage) => no_answer(&rt, "vicinity: usage"),
         Err(WordsFault::Memory) => no_answer(&rt, fault_text(&RunFault::Memory)),
     }

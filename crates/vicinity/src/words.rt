@@ -16,6 +16,16 @@ pub enum Task {
     Frame(String),
 }
 
+impl Task {
+    /// The file that it reads, where one is named.
+    pub fn file(&self) -> Option<&str> {
+        match self {
+            Task::Check(file) | Task::Simulate(file) => file.as_ref().map(|name| name.as_str()),
+            Task::Frame(_) => None,
+        }
+    }
+}
+
 /// Why the words ask for nothing.
 #[derive(Clone, Copy, Debug, Drop, PartialEq, Eq)]
 pub enum WordsFault {

@@ -1,11 +1,10 @@
 //! Logs, with what `check` answers.
 
 use super::logs::{empty_lines, log_of};
-use crate::check::run_check;
-use crate::status::Status;
 use std::alloc::{AllocError, Global};
 use std::process::Abort;
 use std::test::Fail;
+use vic_answer::{Status, run_check};
 use vic_log::{FromRead, ToWrite};
 
 /// Judges a text, and asks for the answer's line and status.
@@ -31,9 +30,10 @@ fn says(
     names: &str,
     line: &str,
     status: Status,
-) -> Result<(), AllocError> {
+) -> Result<(), Fail> {
     let text = log_of(alloc, names)?;
-    judge(rt, alloc, text.as_bytes(), line, status)
+    judge(rt, alloc, text.as_bytes(), line, status)?;
+    Ok(())
 }
 
 #[test]

@@ -1,14 +1,12 @@
 //! Damaged logs, readers that fail or don't end, and writers that fail.
 
 use super::logs::log_of;
-use crate::check::run_check;
-use crate::simulate::run_simulate;
-use crate::status::{RunFault, Status};
 use std::alloc::{AllocError, Global};
 use std::io;
 use std::io::Read;
 use std::process::Abort;
 use std::test::Fail;
+use vic_answer::{RunFault, Status, run_check, run_simulate};
 use vic_log::devices::{Endless, OneByOne, Pieces, Stuck};
 use vic_log::{FromRead, Source, ToWrite};
 
@@ -124,6 +122,30 @@ fn readers_without_end(rt: HostRuntime) {
     );
     let line = line_of(&rt, alloc, &mut Endless::new(b'\n'));
     assert_eq!(rt; line.as_slice(), b"refused at line 1: Header\n".as_slice());
+}
+
+#[test]
+fn early_faults(rt: HostRuntime) {
+    let alloc = rt.alloc();
+    let refusal = b"refused at line 1: Header\n".as_slice();
+    let wrong = b"vicinity-log 9\n".as_slice();
+    let line = line_of(
+        &rt,
+        alloc,
+        &mut FromRead::new(wrong.chain(io::repeat(b' '))),
+    );
+    assert_eq!(rt; line.as_slice(), refusal);
+    let mut source = Pieces::new(b"vicinity-log 9\nS\n", wrong.len(), 2);
+    assert_eq!(rt; line_of(&rt, alloc, &mut source).as_slice(), refusal);
+    assert_eq!(rt; source.reads(), 1);
+    let mut source = Pieces::new(b"vicinity-log 9\nS\n", wrong.len(), 2);
+    let mut sink = ToWrite::new(Vec::new(alloc));
+    assert_eq!(rt;
+        run_simulate(alloc, &mut source, &mut sink),
+        Ok(Status::Refused)
+    );
+    assert_eq!(rt; sink.into_inner().as_slice(), refusal);
+    assert_eq!(rt; source.reads(), 1);
 }
 
 #[test]

@@ -1,9 +1,8 @@
 //! Words of hex digits, with what `frame` writes of them.
 
-use crate::frame::run_frame;
-use crate::status::{RunFault, Status};
 use std::alloc::Global;
 use std::process::Abort;
+use vic_answer::{RunFault, Status, run_frame};
 use vic_log::ToWrite;
 use vic_log::devices::{OneByOne, Stuck};
 

@@ -6,10 +6,11 @@
 //! in sixteen slots, `M55`, `M60` and `M64` those with so many low bits 0.
 
 use std::alloc::{AllocError, Global};
+use std::test::Fail;
 
-/// The line of a name.
-fn line(name: &str) -> &'static str {
-    match name {
+/// The lines of a name: how many, and which.
+fn lines_of(name: &str) -> Option<(usize, &'static str)> {
+    let line = match name {
         "I1" => "T 260100F60A",
         "I16" => "T 060100CD09",
         "MA" => "T 260108A18818",
@@ -34,33 +35,26 @@ fn line(name: &str) -> &'static str {
         "S" => "S",
         "C" => "C",
         "#" => "#",
-        _ => "",
-    }
+        "empty" => "",
+        "S4" => return Some((4, "S")),
+        "S10" => return Some((10, "S")),
+        "S12" => return Some((12, "S")),
+        "S13" => return Some((13, "S")),
+        "S14" => return Some((14, "S")),
+        "S16" => return Some((16, "S")),
+        _ => return None,
+    };
+    Some((1, line))
 }
 
-/// How many lines a name stands for.
-fn count(name: &str) -> usize {
-    match name {
-        "S4" => 4,
-        "S10" => 10,
-        "S12" => 12,
-        "S13" => 13,
-        "S14" => 14,
-        "S16" => 16,
-        _ => 1,
-    }
-}
-
-/// The text of a log, its lines by their names.
-pub fn log_of(alloc: Global, names: &str) -> Result<String, AllocError> {
+/// The text of a log, its lines by their names. An unknown name fails the test.
+pub fn log_of(alloc: Global, names: &str) -> Result<String, Fail> {
     let mut text = String::from_str(alloc, "vicinity-log 1\n")?;
-    for name in names.split(' ') {
-        if !name.is_empty() {
-            let count = count(name);
-            for _ in 0..count {
-                text.push_str(if count > 1 { "S" } else { line(name) })?;
-                text.push_str("\n")?;
-            }
+    for name in names.split(' ').filter(|name| !name.is_empty()) {
+        let (count, line) = lines_of(name).ok_or("a line without a name")?;
+        for _ in 0..count {
+            text.push_str(line)?;
+            text.push('\n')?;
         }
     }
     Ok(text)

@@ -1,12 +1,10 @@
 //! Logs, with what `simulate` writes of them.
 
 use super::logs::log_of;
-use crate::check::run_check;
-use crate::simulate::run_simulate;
-use crate::status::Status;
-use std::alloc::{AllocError, Global};
+use std::alloc::Global;
 use std::process::Abort;
 use std::test::Fail;
+use vic_answer::{Status, run_check, run_simulate};
 use vic_log::{FromRead, ToWrite};
 
 /// Fills in the slots of a text, and gives what was written.
@@ -24,7 +22,7 @@ fn gives(
     names: &str,
     filled_names: &str,
     line: &[u8],
-) -> Result<(), AllocError> {
+) -> Result<(), Fail> {
     let text = log_of(alloc, names)?;
     let written = filled(rt, alloc, text.as_bytes(), Status::Whole);
     let wanted = log_of(alloc, filled_names)?;

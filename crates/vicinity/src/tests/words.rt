@@ -1,9 +1,9 @@
 //! The program's words, and the texts and numbers of its ends.
 
-use crate::status::{RunFault, Status, fault_text};
 use crate::words::{Task, WordsFault, read_words};
 use std::alloc::{AllocError, Global};
 use std::test::Fail;
+use vic_answer::{RunFault, Status, fault_text};
 
 /// What some words ask for, in one text.
 fn asked(alloc: Global, words: &[&str]) -> Result<String, AllocError> {

@@ -14,6 +14,6 @@ loop-line-preserved c u h =
     let l = c.line-item.result in
     let at : slice_get lines i ≡ Some l = slice_get_read lines (length lines) i l refl c.loop-line-test.true c.line-item.is in
     rw add-one
-    (ready_next (has (listed (entries (take i lines))) u) (has (listed (l.item ∷ [])) u) (readiness c.loop-line.field u) (readiness c.bring_listed.new.field u)
-    (c.loop-line.invariant u h) (c.in_ok-bring_listed.ensures u h)
+    (ready_next (has (listed (entries (take i lines))) u) (has (listed (l.item ∷ [])) u) (readiness c.loop-line.field u) (readiness c.put_listed.new.field u)
+    (c.loop-line.invariant u h) (c.in_ok-put_listed.ensures u h)
     ∙ ap (λ (b : Bool). if b then Some true else None) (sym (has_listed_next lines i l u at)))

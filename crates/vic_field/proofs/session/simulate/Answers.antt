@@ -24,8 +24,8 @@ loop-line-init c =
       played = IsPlayed-start (listed (entries c.lines-lines.result.now)) c.in_ok-field.field c.in_ok-field.ensures;
     }
 
-pub play-requires-clause-follows : goal.play-requires-clause-follows
-play-requires-clause-follows c =
+pub play_entry-requires-clause-follows : goal.play_entry-requires-clause-follows
+play_entry-requires-clause-follows c =
     let lines = c.lines-lines.result.now in
     let i = c.loop-line.line-index in
     let l = c.line-item.result in
@@ -34,16 +34,16 @@ play-requires-clause-follows c =
     (c.in_default.ensures i l c.loop-line-test.true at)
     (c.loop-line.invariant.played.kept ∙ entries_take lines i)
 
-pub play-requires-clause-valid : goal.play-requires-clause-valid
-play-requires-clause-valid c =
+pub play_entry-requires-clause-valid : goal.play_entry-requires-clause-valid
+play_entry-requires-clause-valid c =
     let lines = c.lines-lines.result.now in
     let i = c.loop-line.line-index in
     let l = c.line-item.result in
     let at : slice_get lines i ≡ Some l = slice_get_read lines (length lines) i l refl c.loop-line-test.true c.line-item.is in
     valid_entry l.item (λ q e. c.lines-lines.ensures.log.valid i q (entry_at lines i l at ∙ ap (λ (x : Entry). Some x) e))
 
-pub play-requires-clause-first_version : goal.play-requires-clause-first_version
-play-requires-clause-first_version c v =
+pub play_entry-requires-clause-first_version : goal.play_entry-requires-clause-first_version
+play_entry-requires-clause-first_version c v =
     let lines = c.lines-lines.result.now in
     let i = c.loop-line.line-index in
     let l = c.line-item.result in
@@ -56,27 +56,27 @@ loop-line-preserved c =
     let i = c.loop-line.line-index in
     let l = c.line-item.result in
     let log = c.loop-line.filled in
-    let more = l.item ∷ slot_lines c.play.new.field l.item in
+    let more = l.item ∷ slot_lines c.play_entry.new.field l.item in
     let h = c.loop-line.invariant in
     let at : slice_get lines i ≡ Some l = slice_get_read lines (length lines) i l refl c.loop-line-test.true c.line-item.is in
-    let added : c.play.new.filled ≡ with_entries log more = c.in_ok-play.ensures.added in
+    let added : c.play_entry.new.filled ≡ with_entries log more = c.in_ok-play_entry.ensures.added in
     let next : entries (take (suc i) lines) ≡ entries (take i lines) ++ l.item ∷ [] = entries_next lines i l at in
     let last = last_is log.lines h.numbers in
     let lined = h.played.count in
     let counted = line_count-next (entries (take i lines)) l.item in
-    let room = c.in_ok-play.ensures.room in
+    let room = c.in_ok-play_entry.ensures.room in
     let pop : IsPopulation (listed (entries lines)) = listed_population (entries lines) c.lines-lines.ensures.log.order c.lines-lines.ensures.log.typed in
     rw (add-one, added, next) record {
       version = h.version;
       numbers = numbers_next log more h.numbers;
       room = omega arith;
-      played = subst (λ es. IsPlayed (listed (entries lines)) (entries (take i lines) ++ l.item ∷ []) es c.play.new.field) (sym (entries-with log more))
-          (IsPlayed-next (listed (entries lines)) (entries (take i lines)) (entries log.lines) c.loop-line.field c.play.new.field l.item pop
-          (c.in_default.ensures i l c.loop-line-test.true at) c.in_ok-play.ensures.population c.in_ok-play.ensures.tags h.played);
+      played = subst (λ es. IsPlayed (listed (entries lines)) (entries (take i lines) ++ l.item ∷ []) es c.play_entry.new.field) (sym (entries-with log more))
+          (IsPlayed-next (listed (entries lines)) (entries (take i lines)) (entries log.lines) c.loop-line.field c.play_entry.new.field l.item pop
+          (c.in_default.ensures i l c.loop-line-test.true at) c.in_ok-play_entry.ensures.population c.in_ok-play_entry.ensures.tags h.played);
     }
 
-pub returns-in_err-play-clause-refused : goal.returns-in_err-play-clause-refused
-returns-in_err-play-clause-refused c =
+pub returns-in_err-play_entry-clause-refused : goal.returns-in_err-play_entry-clause-refused
+returns-in_err-play_entry-clause-refused c =
     let lines = c.lines-lines.result.now in
     let i = c.loop-line.line-index in
     let l = c.line-item.result in
@@ -85,8 +85,8 @@ returns-in_err-play-clause-refused c =
     let at : slice_get lines i ≡ Some l = slice_get_read lines (length lines) i l refl c.loop-line-test.true c.line-item.is in
     let counted = line_count-next (entries (take i lines)) l.item in
     let front : line_count (entries (take i lines) ++ l.item ∷ []) ≤ line_count (entries lines) = subst (λ es. line_count es ≤ line_count (entries lines)) (sym (entries_take lines (suc i)) ∙ entries_next lines i l at) (line_count-front (entries lines) (suc i)) in
-    let h : RefusesLines c.args.log.now.lines c.in_err-play.field-0.0 = subst (λ ls. RefusesLines ls c.in_err-play.field-0.0) c.lines-lines.ensures.value
-    (refuses lines (suc (last_from 1 c.loop-line.filled.lines) + slots_opened (Some l.item)) c.in_err-play.field-0.0 c.in_default.ensures (omega arith) c.in_err-play.ensures.refused) in
+    let h : RefusesLines c.args.log.now.lines c.in_err-play_entry.field-0.0 = subst (λ ls. RefusesLines ls c.in_err-play_entry.field-0.0) c.lines-lines.ensures.value
+    (refuses lines (suc (last_from 1 c.loop-line.filled.lines) + slots_opened (Some l.item)) c.in_err-play_entry.field-0.0 c.in_default.ensures (omega arith) c.in_err-play_entry.ensures.refused) in
     search rules
 
 pub returns-clause-simulated : goal.returns-clause-simulated

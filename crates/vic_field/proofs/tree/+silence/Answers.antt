@@ -6,7 +6,7 @@ use Rattle.vic_field.proofs.tree.+silence.Goals as goal
 pub returns-after-key-deref-clause-tree : goal.returns-after-key-deref-clause-tree
 returns-after-key-deref-clause-tree t c =
     let was = rw c.in-Fork.is at c.requires in
-    noted c.deref_mut-in-Fork.result.now c.note.new.fork c.note.ensures.sides c.note.ensures.keys c.note.ensures.notes
+    noted c.deref_mut-in-Fork.result.now c.note.new.fork c.note.ensures.sides c.note.ensures.span c.note.ensures.notes
     (elim c.if-key-deref.branch [
       | then-key-deref w ↦
           let inside = w.silence.ensures.within c.in-Fork.fork.value.first (c.in-Fork.fork.value.middle - 1) (rw w.deref_mut.ensures.value was.0.below) in

@@ -6,7 +6,7 @@ use Rattle.std.specs.Io.KnownBytes.{Consumes, IsAtEnd}
 use Rattle.vic_log.specs.declared.entry.Version.TheVariants.{V1}
 use Rattle.vic_log.specs.declared.fault.LogFault.{LogFault}
 use Rattle.vic_log.specs.declared.fault.LogFault.TheVariants.{Line, Read, Memory, Spent}
-use Rattle.vic_log.specs.Device.{KeepsOrHides, HandsOut}
+use Rattle.vic_log.specs.Device.{KeepsOrHides, HandsOut, TellsOn}
 use Rattle.vic_log.specs.Early.{IsEarly, ReadsAs}
 use Rattle.vic_log.specs.Lines.{lines_of_text}
 use Rattle.vic_log.specs.Log.{LogValue}
@@ -24,6 +24,11 @@ handed_kept None b d xs h k = tt
 handed_kept (Some as_) None d xs h k = absurd h
 handed_kept (Some as_) (Some bs) None xs h k = tt
 handed_kept (Some as_) (Some bs) (Some ds) xs h k = h ∙ ap (λ ys. xs ++ ys) (sym k)
+
+tells_on : (a b : Option (List ℕ)) (xs : List ℕ) → Consumes a b xs → TellsOn a b
+tells_on None b xs h = tt
+tells_on (Some as_) None xs h = absurd h
+tells_on (Some as_) (Some bs) xs h = tt
 
 reads_early : (left : Option (List ℕ)) (text : List ℕ) (e : LogFault) → IsEarly e text → ReadsAs left text (Err e)
 reads_early left text (Line n f) h = inl h
@@ -100,3 +105,9 @@ returns-clause-answer g c =
 pub returns-clause-read : goal.returns-clause-read
 returns-clause-read g c =
     let i = c.loop-count.invariant in rw i.works (not_read i.text c.end_text.result (c.end_text.ensures.answer i.text i.judged))
+
+pub returns-in_err-take_piece-clause-tells : goal.returns-in_err-take_piece-clause-tells
+returns-in_err-take_piece-clause-tells g c read = tells_on _ _ _ c.loop-count.invariant.given
+
+pub returns-clause-tells : goal.returns-clause-tells
+returns-clause-tells g c read = tells_on _ _ _ c.loop-count.invariant.given

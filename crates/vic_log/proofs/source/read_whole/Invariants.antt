@@ -1,10 +1,10 @@
 use Rattle.std.proofs.Common.{◌≡◌, ◌≤◌, ◌+◌, ◌-◌, false, vec_len}
-use Rattle.vic_log.specs.Device.{GivesBytes}
+use Rattle.std.specs.Io.KnownBytes.{Consumes}
 use Rattle.vic_log.proofs.source.read_whole.Given as goal
 
 abbrev pub invariant-loop-piece : goal.invariant-loop-piece
 invariant-loop-piece g l =
-    GivesBytes (g.R.Source.left l.initial.source) (g.R.Source.left l.source) l.text.items
+    Consumes (g.R.Source.left l.initial.source) (g.R.Source.left l.source) l.text.items
     × (vec_len l.text ≤ l.limit)
     × (g.R.Source.has_failed l.source ≡ false)
     × (g.R.Source.reads l.source ≤ g.R.Source.reads l.initial.source + vec_len l.text)

@@ -14,11 +14,11 @@ all_taken a b lines n text le h = subst (λ ls. HasTakenBut a b (lines_text ls) 
 pub loop-next-preserved : goal.loop-next-preserved
 loop-next-preserved g c =
     let lines = c.lines-lines.result.now in
-    let piece = c.fill-next-in-loop-next.new.piece.items in
-    let filled : piece ++ lines_text (drop c.fill-next-in-loop-next.result lines) ≡ lines_text (drop c.loop-next.next lines) = c.fill-next-in-loop-next.ensures.items ∙ ap (λ xs. xs ++ lines_text (drop c.loop-next.next lines)) c.clear.ensures in
+    let piece = c.fill_piece-next-in-loop-next.new.piece.items in
+    let filled : piece ++ lines_text (drop c.fill_piece-next-in-loop-next.result lines) ≡ lines_text (drop c.loop-next.next lines) = c.fill_piece-next-in-loop-next.ensures.items ∙ ap (λ xs. xs ++ lines_text (drop c.loop-next.next lines)) c.clear.ensures in
     let sent = subst (Appends (g.W.Sink.taken c.loop-next.sink) (g.W.Sink.taken c.write_whole-in-loop-next.new.sink)) c.as_slice-in-loop-next.ensures.value c.in_ok-write_whole-2.ensures.all in
     record {
-      bound = c.fill-next-in-loop-next.ensures.bound;
+      bound = c.fill_piece-next-in-loop-next.ensures.bound;
       works = search rules;
       told = HasTakenBut-step _ _ _ piece _ _ _ c.loop-next.invariant.told filled sent;
     }
@@ -26,8 +26,8 @@ loop-next-preserved g c =
 pub returns-in_err-write_whole-2-clause-prefix : goal.returns-in_err-write_whole-2-clause-prefix
 returns-in_err-write_whole-2-clause-prefix g c =
     let lines = c.lines-lines.result.now in
-    let piece = c.fill-next-in-loop-next.new.piece.items in
-    let filled : piece ++ lines_text (drop c.fill-next-in-loop-next.result lines) ≡ lines_text (drop c.loop-next.next lines) = c.fill-next-in-loop-next.ensures.items ∙ ap (λ xs. xs ++ lines_text (drop c.loop-next.next lines)) c.clear.ensures in
+    let piece = c.fill_piece-next-in-loop-next.new.piece.items in
+    let filled : piece ++ lines_text (drop c.fill_piece-next-in-loop-next.result lines) ≡ lines_text (drop c.loop-next.next lines) = c.fill_piece-next-in-loop-next.ensures.items ∙ ap (λ xs. xs ++ lines_text (drop c.loop-next.next lines)) c.clear.ensures in
     let part = subst (HasTakenPrefix (g.W.Sink.taken c.loop-next.sink) (g.W.Sink.taken c.write_whole-in-loop-next.new.sink)) c.as_slice-in-loop-next.ensures.value c.in_err-write_whole-2.ensures.prefix in
     HasTakenBut-part _ _ _ piece _ _ _ c.loop-next.invariant.told filled part
 

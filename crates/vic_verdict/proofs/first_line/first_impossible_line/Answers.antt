@@ -4,7 +4,6 @@ use Rattle.vic_verdict.specs.Possible.{IsPossible}
 use Rattle.vic_log.specs.Order.{entries}
 use Rattle.vic_verdict.proofs.FirstLine.{first_impossible}
 use Rattle.vic_verdict.proofs.Halving.{between_first, order_front, valid_front}
-use Rattle.vic_verdict.proofs.Skipping.{repeats_of_front}
 use Rattle.vic_verdict.proofs.first_line.first_impossible_line.Goals as goal
 
 pub loop-high-init : goal.loop-high-init
@@ -17,10 +16,6 @@ is_possible-requires-clause-order g c = order_front c.between-middle.result c.ar
 pub is_possible-requires-clause-valid :
     goal.is_possible-requires-clause-valid
 is_possible-requires-clause-valid g c = valid_front c.between-middle.result c.args.lines.now c.requires.valid
-
-pub is_possible-requires-clause-repeats :
-    goal.is_possible-requires-clause-repeats
-is_possible-requires-clause-repeats g c = repeats_of_front c.between-middle.result c.args.lines.now c.args.repeats.now c.requires.repeats
 
 pub returns : goal.returns
 returns g c =

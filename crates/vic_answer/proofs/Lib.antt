@@ -1,0 +1,4 @@
+mod HexDigits
+mod Decoded
+mod CheckLines
+mod Standing

@@ -1,0 +1,41 @@
+-- From what reading gives to what a run answers.
+use Rattle.std.proofs.Common.{◌≡◌, ◌⊎◌, ℕ, List, Option, Result, Ok, Err, IfOk, IfErr, OnOk, inl, inr, subst, sym}
+use Rattle.std.specs.Io.KnownBytes.{Appends}
+use Rattle.vic_log.specs.Device.{HasTakenPrefix}
+use Rattle.vic_answer.specs.declared.input.Reading.{Reading}
+use Rattle.vic_answer.specs.declared.input.Reading.TheVariants.{Given, RefusedAt}
+use Rattle.vic_answer.specs.declared.status.RunFault.{RunFault}
+use Rattle.vic_answer.specs.declared.status.RunFault.TheVariants.{Read, Write, Memory}
+use Rattle.vic_answer.specs.declared.status.Status.{Status}
+use Rattle.vic_answer.specs.Readings.{GivesReading, Stands}
+use Rattle.vic_answer.specs.Runs.{IsEnough, Runs}
+
+-- bytes whose reading stands can be answered
+pub enough : (left : Option (List ℕ)) (text : List ℕ) (reading : Reading) → Stands left text reading → IsEnough left text
+enough left text (Given log) h = inl h
+enough left text (RefusedAt n fault) (inl early) = inr record { line = n; fault = fault; early = early }
+enough left text (RefusedAt n fault) (inr ended) = inl ended
+
+-- a run that ends with the writing of its answer
+pub ends_written : (IsAnswerTo : List ℕ → List ℕ → Status → Type 0) (left left' taken taken' : Option (List ℕ)) (reading : Reading) (given : GivesReading left left' reading) (answer : List ℕ) (status : Status)
+    → IsAnswerTo given.text answer status → (r : Result Status RunFault) → IfOk r (λ s. s ≡ status) → OnOk r (Appends taken taken' answer) → HasTakenPrefix taken taken' answer → IfErr r (λ e. e ≡ Write)
+    → Runs IsAnswerTo left left' taken taken' r
+ends_written A left left' taken taken' reading given answer status right (Ok s) is written begun fault = record {
+  text = given.text;
+  given = given.given;
+  enough = enough left' given.text reading given.stands;
+  answer = answer;
+  right = subst (A given.text answer) (sym is) right;
+  written = written;
+}
+ends_written A left left' taken taken' reading given answer status right (Err Write) is written begun fault = record {
+  text = given.text;
+  given = given.given;
+  enough = enough left' given.text reading given.stands;
+  answer = answer;
+  status = status;
+  right = right;
+  begun = begun;
+}
+ends_written A left left' taken taken' reading given answer status right (Err Read) is written begun fault = cc
+ends_written A left left' taken taken' reading given answer status right (Err Memory) is written begun fault = cc

@@ -1,0 +1,10 @@
+use Rattle.std.proofs.Common.{◌≡◌, ◌+◌, ◌*◌, ◌++◌, drop}
+use Rattle.arrayvec.specs.ArrayVec.{array_vec_len}
+use Rattle.hex.specs.Hex.{encode_upper}
+use Rattle.vic_answer.proofs.text.put_hex.Given as goal
+
+abbrev pub invariant-loop-byte : goal.invariant-loop-byte
+invariant-loop-byte l = record {
+  long : array_vec_len l.text ≡ array_vec_len l.initial.text + 2 * l.byte-index;
+  told : l.text.items ++ encode_upper (drop l.byte-index l.bytes) ≡ l.initial.text.items ++ encode_upper l.bytes;
+}

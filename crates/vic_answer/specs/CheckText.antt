@@ -1,0 +1,61 @@
+-- What `check` answers to a text: the line and the status of its verdict, or of its refusal.
+use Rattle.std.specs.Prelude.{◌≡◌, ℕ, List, ◌++◌, length, codes, decimal}
+use Rattle.vic_log.specs.declared.entry.LogLine.{LogLine}
+use Rattle.vic_log.specs.Lines.{lines_of_text}
+use Rattle.vic_log.specs.Order.{entries, listed}
+use Rattle.vic_log.specs.Text.{IsLogOf, IsFirstFault}
+use Rattle.vic_verdict.specs.declared.verdict.Verdict.{Verdict}
+use Rattle.vic_verdict.specs.declared.verdict.Verdict.TheVariants.{Impossible, Absent, Unlisted, Unsettled, Doubtful, Complete}
+use Rattle.vic_verdict.specs.Verdict.{IsVerdict, IsWhole}
+use Rattle.vic_answer.specs.Digits.{uid_text, value_text}
+use Rattle.vic_answer.specs.Refusals.{refusal_line}
+use Rattle.vic_answer.specs.declared.status.Status.{Status}
+use Rattle.vic_answer.specs.declared.status.Status.TheVariants.{Whole, NotWhole, Impossible as NoPopulation, Refused}
+use Rattle.vic_answer.specs.declared.check.Answer.{Answer}
+use Rattle.vic_answer.specs.declared.check.Answer.TheVariants.{Judged, RefusedAt}
+
+-- the line of a verdict
+abbrev pub verdict_line : Verdict → List ℕ
+verdict_line (Complete count) = codes "complete " ++ decimal count ++ codes "\n"
+verdict_line (Absent u) = codes "absent " ++ uid_text u ++ codes "\n"
+verdict_line (Unlisted u) = codes "unlisted " ++ uid_text u ++ codes "\n"
+verdict_line (Unsettled m) = codes "unsettled " ++ decimal m.len ++ codes " " ++ value_text m ++ codes "\n"
+verdict_line (Doubtful u) = codes "doubtful " ++ uid_text u ++ codes "\n"
+verdict_line (Impossible n) = codes "impossible at line " ++ decimal n ++ codes "\n"
+
+-- and its status
+abbrev pub verdict_status : Verdict → Status
+verdict_status (Complete count) = Whole
+verdict_status (Impossible n) = NoPopulation
+verdict_status (Absent u) = NotWhole
+verdict_status (Unlisted u) = NotWhole
+verdict_status (Unsettled m) = NotWhole
+verdict_status (Doubtful u) = NotWhole
+
+-- the answer to a text: the verdict on its log, or its first fault
+abbrev pub IsAnswer : List ℕ → Answer → Type 0
+IsAnswer text (Judged v) = (log : List LogLine) × IsLogOf (lines_of_text text) log × IsVerdict log v
+IsAnswer text (RefusedAt n fault) = IsFirstFault (lines_of_text text) n fault
+
+abbrev pub answer_line : Answer → List ℕ
+answer_line (Judged v) = verdict_line v
+answer_line (RefusedAt n fault) = refusal_line n fault
+
+abbrev pub answer_status : Answer → Status
+answer_status (Judged v) = verdict_status v
+answer_status (RefusedAt n fault) = Refused
+
+-- the line and the status of the answer to a text
+pub record IsCheckOf (text line : List ℕ) (status : Status) : Type 0 where
+  pub answer : Answer
+  pub right : IsAnswer text answer
+  pub line_is : line ≡ answer_line answer
+  pub status_is : status ≡ answer_status answer
+
+-- the text has a log whose list is whole, of so many UIDs: some population could have given the log, and each that
+-- could has exactly the UIDs that it lists
+pub record IsCompleteText (text : List ℕ) (count : ℕ) : Type 0 where
+  pub log : List LogLine
+  pub is_log : IsLogOf (lines_of_text text) log
+  pub whole : IsWhole (entries log)
+  pub counted : count ≡ length (listed (entries log))

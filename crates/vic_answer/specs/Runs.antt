@@ -1,0 +1,81 @@
+-- What a run over a text reads and writes, and how it leaves its source and its sink.
+use Rattle.std.specs.Prelude.{◌≡◌, ◌≢◌, ◌↔◌, ◌⊎◌, ◌≤◌, ℕ, ◌+◌, ◌*◌, Bool, true, false, ⊤, List, Option, Result, Ok, Err, OnOk, IfErr, is_err}
+use Rattle.std.specs.Io.KnownBytes.{Consumes, Appends, IsAtEnd}
+use Rattle.vic_log.specs.declared.fault.LineFault.{LineFault}
+use Rattle.vic_log.specs.Device.{HandsOut, HasTakenPrefix}
+use Rattle.vic_log.specs.Early.{IsEarlyFault}
+use Rattle.vic_answer.specs.declared.status.RunFault.{RunFault}
+use Rattle.vic_answer.specs.declared.status.RunFault.TheVariants.{Read, Write, Memory}
+use Rattle.vic_answer.specs.declared.status.Status.{Status}
+
+-- bytes with a fault that no further byte can change
+pub record HasEarlyFault (text : List ℕ) : Type 0 where
+  pub line : ℕ
+  pub fault : LineFault
+  pub early : IsEarlyFault text line fault
+
+-- bytes that can be answered: the source has no more, or no further byte can change their fault
+abbrev pub IsEnough : Option (List ℕ) → List ℕ → Type 0
+IsEnough left text = IsAtEnd left ⊎ HasEarlyFault text
+
+-- the source handed out bytes that can be answered, and the sink took their answer, with this status, and nothing else
+pub record Answers (IsAnswerTo : List ℕ → List ℕ → Status → Type 0) (left left' taken taken' : Option (List ℕ)) (status : Status) : Type 0 where
+  pub text : List ℕ
+  pub given : Consumes left left' text
+  pub enough : IsEnough left' text
+  pub answer : List ℕ
+  pub right : IsAnswerTo text answer status
+  pub written : Appends taken taken' answer
+
+-- the same, but the sink took a prefix of their answer
+pub record AnswersInPart (IsAnswerTo : List ℕ → List ℕ → Status → Type 0) (left left' taken taken' : Option (List ℕ)) : Type 0 where
+  pub text : List ℕ
+  pub given : Consumes left left' text
+  pub enough : IsEnough left' text
+  pub answer : List ℕ
+  pub status : Status
+  pub right : IsAnswerTo text answer status
+  pub begun : HasTakenPrefix taken taken' answer
+
+-- the source handed out bytes that have no early fault
+pub record GivesNoEarlyFault (left left' : Option (List ℕ)) : Type 0 where
+  pub text : List ℕ
+  pub given : HandsOut left left' text
+  pub none : HasEarlyFault text → ⊥
+
+-- what a run read and wrote, by its result: the answer is out, or a prefix of it where the sink failed; where the
+-- source failed there was none yet to give
+abbrev pub Runs : (List ℕ → List ℕ → Status → Type 0) → Option (List ℕ) → Option (List ℕ) → Option (List ℕ) → Option (List ℕ) → Result Status RunFault → Type 0
+Runs IsAnswerTo left left' taken taken' (Ok status) = Answers IsAnswerTo left left' taken taken' status
+Runs IsAnswerTo left left' taken taken' (Err Write) = AnswersInPart IsAnswerTo left left' taken taken'
+Runs IsAnswerTo left left' taken taken' (Err Read) = GivesNoEarlyFault left left'
+Runs IsAnswerTo left left' taken taken' (Err Memory) = ⊤
+
+-- a log has 1,000,000 lines of at most 128 bytes, CR and LF; one read more tells the end
+abbrev pub most_reads : ℕ
+most_reads = 130 * 1000000 + 1
+
+-- how a run leaves its source: failed exactly where the result is `Read`, and untouched where it had failed before
+pub record LeavesSource {R : Type 0} (reads : R → ℕ) (has_failed : R → Bool) (old new : R) (result : Result Status RunFault) : Type 0 where
+  pub works : OnOk result (has_failed new ≡ false)
+  pub read : IfErr result (λ e. (e ≡ Read) ↔ (has_failed new ≡ true))
+  pub untouched : has_failed old ≡ true → new ≡ old
+  pub at_most : reads new ≤ reads old + most_reads
+
+-- how a run leaves its sink: all handed on where it ended with a status, failed where the result is `Write`, untouched
+-- at any other fault and where it had failed before
+pub record LeavesSink {W : Type 0} (is_flushed has_failed : W → Bool) (old new : W) (result : Result Status RunFault) : Type 0 where
+  pub flushed : OnOk result (is_flushed new ≡ true)
+  pub works : OnOk result (has_failed new ≡ false)
+  pub write : IfErr result (λ e. e ≡ Write → has_failed new ≡ true)
+  pub unwritten : IfErr result (λ e. e ≢ Write → new ≡ old)
+  pub untouched : has_failed old ≡ true → new ≡ old
+
+-- a sink took a text and handed it on, or failed and took a prefix of it; it is untouched where it had failed before
+pub record Writes {W A : Type 0} (taken : W → Option (List ℕ)) (is_flushed has_failed : W → Bool) (old new : W) (text : List ℕ) (result : Result A RunFault) : Type 0 where
+  pub all : OnOk result (Appends (taken old) (taken new) text)
+  pub flushed : OnOk result (is_flushed new ≡ true)
+  pub begun : HasTakenPrefix (taken old) (taken new) text
+  pub fault : IfErr result (λ e. e ≡ Write)
+  pub failed : has_failed new ≡ is_err result
+  pub untouched : has_failed old ≡ true → new ≡ old

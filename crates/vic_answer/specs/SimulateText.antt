@@ -1,0 +1,43 @@
+-- What `simulate` answers to a text: the text of the log with its slots filled in, or the line of a refusal.
+use Rattle.std.specs.Prelude.{◌≡◌, ℕ, ◌<◌, List, codes}
+use Rattle.vic_log.specs.declared.entry.LogLine.{LogLine}
+use Rattle.vic_log.specs.declared.entry.Version.TheVariants.{V1}
+use Rattle.vic_log.specs.declared.fault.LineFault.TheVariants.{TooManyLines as ManyLines}
+use Rattle.vic_log.specs.Lines.{lines_of_text}
+use Rattle.vic_log.specs.Text.{IsLogOf, IsFirstFault}
+use Rattle.vic_log.specs.Writing.{text_of}
+use Rattle.vic_field.specs.Simulation.{IsSimulation, HasNoSlots, IsFirstSlot, last_needed}
+use Rattle.vic_answer.specs.Refusals.{refused_at, refusal_line}
+use Rattle.vic_answer.specs.declared.status.Status.{Status}
+use Rattle.vic_answer.specs.declared.status.Status.TheVariants.{Whole, Refused}
+use Rattle.vic_answer.specs.declared.simulate.Simulated.{Simulated}
+use Rattle.vic_answer.specs.declared.simulate.Simulated.TheVariants.{Filled, RefusedAt, OutcomeGiven, TooManyLines}
+
+-- what becomes of a text: its log with the slots filled in, of the same version; or its first fault; or why its log
+-- can't be filled in: it tells of a slot already, or no slot line is there and a line above 1,000,000 would be needed
+abbrev pub IsSimulated : List ℕ → Simulated → Type 0
+IsSimulated text (Filled log) =
+    (given : List LogLine) × IsLogOf (lines_of_text text) given × IsSimulation given log.lines × (log.version ≡ V1)
+IsSimulated text (RefusedAt n fault) = IsFirstFault (lines_of_text text) n fault
+IsSimulated text (OutcomeGiven n) = (given : List LogLine) × IsLogOf (lines_of_text text) given × IsFirstSlot given n
+IsSimulated text TooManyLines =
+    (given : List LogLine) × IsLogOf (lines_of_text text) given × HasNoSlots given × (1000000 < last_needed given)
+
+abbrev pub simulated_text : Simulated → List ℕ
+simulated_text (Filled log) = text_of log
+simulated_text (RefusedAt n fault) = refusal_line n fault
+simulated_text (OutcomeGiven n) = refused_at n (codes "OutcomeGiven")
+simulated_text TooManyLines = refusal_line 1000001 ManyLines
+
+abbrev pub simulated_status : Simulated → Status
+simulated_status (Filled log) = Whole
+simulated_status (RefusedAt n fault) = Refused
+simulated_status (OutcomeGiven n) = Refused
+simulated_status TooManyLines = Refused
+
+-- the text and the status of the answer to a text
+pub record IsSimulationOf (text answer : List ℕ) (status : Status) : Type 0 where
+  pub simulated : Simulated
+  pub right : IsSimulated text simulated
+  pub answer_is : answer ≡ simulated_text simulated
+  pub status_is : status ≡ simulated_status simulated

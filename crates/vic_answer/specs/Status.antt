@@ -1,0 +1,19 @@
+-- How a run's end is told.
+use Rattle.std.specs.Prelude.{ℕ, List, codes}
+use Rattle.vic_answer.specs.declared.status.Status.{Status}
+use Rattle.vic_answer.specs.declared.status.Status.TheVariants.{Whole, NotWhole, Impossible, Refused}
+use Rattle.vic_answer.specs.declared.status.RunFault.{RunFault}
+use Rattle.vic_answer.specs.declared.status.RunFault.TheVariants.{Read, Write, Memory}
+
+-- the exit status
+abbrev pub status_code : Status → ℕ
+status_code Whole = 0
+status_code NotWhole = 1
+status_code Impossible = 2
+status_code Refused = 3
+
+-- what standard error says
+abbrev pub fault_line : RunFault → List ℕ
+fault_line Read = codes "vicinity: read failed"
+fault_line Write = codes "vicinity: write failed"
+fault_line Memory = codes "vicinity: out of memory"

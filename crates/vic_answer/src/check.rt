@@ -1,0 +1,112 @@
+//! The command `check`.
+
+ghost use Rattle.std.specs.Prelude.{◌≡◌, ℕ, List, ◌++◌, Option, Some, IfOk, OnOk, codes};
+ghost use Rattle.std.specs.Io.KnownBytes.{IsAtEnd};
+ghost use Rattle.vic_verdict.specs.declared.verdict.Verdict.TheVariants.{Complete};
+ghost use Rattle.vic_answer.specs.CheckText.{IsAnswer, IsCheckOf, IsCompleteText, answer_line, answer_status, verdict_status};
+ghost use Rattle.vic_answer.specs.CompleteRun.{GivesCompleteText};
+ghost use Rattle.vic_answer.specs.Readings.{IsReading, Stands};
+ghost use Rattle.vic_answer.specs.Runs.{Runs, LeavesSource, LeavesSink};
+
+use crate::input::{Reading, read_source};
+use crate::lines::{refusal_line, verdict_line};
+use crate::output::write_and_flush;
+use crate::status::{RunFault, Status};
+use crate::text::Text;
+use std::alloc::{AllocError, Global};
+use vic_log::{LineFault, LogFault, Sink, Source, read_log};
+use vic_verdict::{Verdict, judge};
+
+/// What is answered to a text.
+#[derive(Clone, Copy, Debug, PartialEq, Eq)]
+pub enum Answer {
+    /// It has a log, and this is the verdict on it.
+    Judged(Verdict),
+    /// A line of it has a fault, and this is the first.
+    RefusedAt { line: u32, fault: LineFault },
+}
+
+/// The answer to a whole text. It is refused for want of memory alone.
+pub fn judge_text(alloc: Global, text: &[u8]) -> Result<Answer, AllocError>
+    ensures answer { IfOk result (IsAnswer text.now) }
+    // where it is `complete`, the list of the log is whole and so long
+    ensures whole { IfOk result (λ a. (count : ℕ) → a ≡ Answer.Judged (Complete count)
+        → IsCompleteText text.now count) }
+{
+    match read_log(alloc, text) {
+        Ok(log) => Ok(Answer::Judged(judge(alloc, &log)?)),
+        Err(LogFault::Line { line, fault }) => Ok(Answer::RefusedAt { line, fault }),
+        Err(LogFault::Memory) => Err(AllocError),
+        Err(LogFault::Read) | Err(LogFault::Spent) => unreachable!(),
+    }
+}
+
+/// Judges the log that a source hands out, writes the answer's one line and flushes it. The status
+/// is the answer's. It reads to the end, or to the first fault of a line that no further byte can
+/// change. `Read` where the source has failed, `Memory` where memory was refused: nothing is
+/// written then. `Write` where the sink has failed: a prefix of the line may be out.
+pub fn run_check<R: Source, W: Sink>(
+    alloc: Global,
+    source: &mut R,
+    sink: &mut W,
+) -> Result<Status, RunFault>
+    ensures answer { Runs IsCheckOf (R.left source.old) (R.left source.new)
+        (W.taken sink.old) (W.taken sink.new) result }
+    // where it wrote `complete N`, the list of the log is whole and N long
+    ensures whole { OnOk result ((before rest : List ℕ) → W.taken sink.old ≡ Some before
+        → W.taken sink.new ≡ Some (before ++ (codes "complete " ++ rest))
+        → GivesCompleteText (R.left source.old) (R.left source.new) rest) }
+    ensures leaves_source { LeavesSource R.reads R.has_failed source.old source.new result }
+    ensures leaves_sink { LeavesSink W.is_flushed W.has_failed sink.old sink.new result }
+{
+    let reading = read_source(alloc, source)?;
+    let answer = judge_reading(alloc, reading)?;
+    let line = answer_line(&answer);
+    write_and_flush(sink, line.as_slice())?;
+    Ok(answer_status(&answer))
+}
+
+/// The answer to what was read.
+fn judge_reading(alloc: Global, reading: Reading) -> Result<Answer, AllocError>
+    ensures answer { IfOk result (λ a. (text : List ℕ) → IsReading text reading → IsAnswer text a) }
+    ensures whole { IfOk result (λ a. (left : Option (List ℕ)) (text : List ℕ) (count : ℕ)
+        → IsReading text reading → Stands left text reading
+        → a ≡ Answer.Judged (Complete count) → IsAtEnd left × IsCompleteText text count) }
+{
+    match reading {
+        Reading::Given(log) => Ok(Answer::Judged(judge(alloc, &log)?)),
+        Reading::RefusedAt { line, fault } => Ok(Answer::RefusedAt { line, fault }),
+    }
+}
+
+/// The line of an answer, with its LF.
+pub fn answer_line(answer: &Answer) -> Text
+    ensures { result.items ≡ answer_line answer.now }
+{
+    match answer {
+        Answer::Judged(verdict) => verdict_line(verdict),
+        Answer::RefusedAt { line, fault } => refusal_line(*line, fault),
+    }
+}
+
+/// The status of an answer.
+pub fn answer_status(answer: &Answer) -> Status
+    ensures { result ≡ answer_status answer.now }
+{
+    match answer {
+        Answer::Judged(verdict) => verdict_status(verdict),
+        Answer::RefusedAt { .. } => Status::Refused,
+    }
+}
+
+/// The status of a verdict.
+fn verdict_status(verdict: &Verdict) -> Status
+    ensures { result ≡ verdict_status verdict.now }
+{
+    match verdict {
+        Verdict::Complete { .. } => Status::Whole,
+        Verdict::Impossible { .. } => Status::Impossible,
+        Verdict::Absent(_) | Verdict::Unlisted(_) | Verdict::Unsettled(_) | Verdict::Doubtful(_) =>
+            Status::NotWhole,
+    }
+}

@@ -1,0 +1,37 @@
+//! How a log comes in.
+
+ghost use Rattle.std.specs.Prelude.{◌≡◌, ◌≢◌, ◌↔◌, ◌≤◌, ◌+◌, true, false, IfErr, OnOk};
+ghost use Rattle.vic_answer.specs.Readings.{Gives};
+ghost use Rattle.vic_answer.specs.Runs.{most_reads};
+
+use crate::status::RunFault;
+use std::alloc::Global;
+use vic_log::{LineFault, Log, LogFault, LogReader, Source};
+
+/// What the bytes that a source hands out give.
+#[derive(Drop)]
+pub(crate) enum Reading {
+    /// They are all its bytes, and this is their log.
+    Given(Log),
+    /// A line of them has a fault, and this is the first.
+    RefusedAt { line: u32, fault: LineFault },
+}
+
+/// Reads the log that a source hands out, to its end or to the first fault of a line. `Read` where
+/// the source has failed; one that had failed before is not read. `Memory` where memory was
+/// refused.
+pub(crate) fn read_source<R: Source>(alloc: Global, source: &mut R) -> Result<Reading, RunFault>
+    ensures reading { Gives (R.left source.old) (R.left source.new) result }
+    ensures works { OnOk result (R.has_failed source.new ≡ false) }
+    ensures read { IfErr result (λ e. (e ≡ RunFault.Read) ↔ (R.has_failed source.new ≡ true)) }
+    ensures untouched { R.has_failed source.old ≡ true → source.new ≡ source.old }
+    ensures reads { R.reads source.new ≤ R.reads source.old + most_reads }
+{
+    match LogReader::new(alloc).read_all(source) {
+        Ok(log) => Ok(Reading::Given(log)),
+        Err(LogFault::Line { line, fault }) => Ok(Reading::RefusedAt { line, fault }),
+        Err(LogFault::Read) => Err(RunFault::Read),
+        Err(LogFault::Memory) => Err(RunFault::Memory),
+        Err(LogFault::Spent) => unreachable!(),
+    }
+}

@@ -1,0 +1,17 @@
+//! What is answered to the text of a log, or to a frame: the answer, its text and its status, and
+//! the runs that read the one and write the other.
+#![tactic(auto)]
+
+mod check;
+mod frame;
+mod input;
+mod lines;
+mod output;
+mod simulate;
+mod status;
+mod text;
+
+pub use check::{Answer, answer_line, answer_status, judge_text, run_check};
+pub use frame::run_frame;
+pub use simulate::run_simulate;
+pub use status::{RunFault, Status, fault_text};

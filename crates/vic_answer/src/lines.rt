@@ -1,0 +1,129 @@
+//! The lines that are written.
+
+ghost use Rattle.std.specs.Prelude.{◌≡◌, ◌≤◌, length};
+ghost use Rattle.arrayvec.specs.ArrayVec.{array_vec_len};
+ghost use Rattle.vic_answer.specs.FrameText as spec;
+ghost use Rattle.vic_answer.specs.CheckText as check;
+ghost use Rattle.vic_answer.specs.Refusals as refusals;
+
+use crate::text::{Text, put, put_bytes, put_decimal, put_value};
+use arrayvec::ArrayVec;
+use vic_frame::{FrameFault, Request, Response};
+use vic_log::LineFault;
+use vic_verdict::Verdict;
+
+/// The line of a reading as a request.
+pub(crate) fn request_line(reading: &Result<Request, FrameFault>) -> Text
+    ensures items { result.items ≡ spec.request_line reading.now }
+    ensures len { array_vec_len result ≤ 96 }
+{
+    let mut text = ArrayVec::new();
+    match reading {
+        Ok(request) => match *request {
+            Request::Inventory { link, mask, .. } => {
+                put(&mut text, "request inventory link ");
+                put_decimal(&mut text, u32::from(link));
+                put(&mut text, " slots ");
+                put_decimal(&mut text, u32::from(request.slots()));
+                put(&mut text, " mask ");
+                put_decimal(&mut text, u32::from(mask.len()));
+                put(&mut text, " ");
+                put_value(&mut text, &mask);
+            }
+            Request::StayQuiet { link, uid } => {
+                put(&mut text, "request stay-quiet link ");
+                put_decimal(&mut text, u32::from(link));
+                put(&mut text, " uid ");
+                put_bytes(&mut text, 8, uid);
+            }
+        },
+        Err(fault) => {
+            put(&mut text, "request refused ");
+            put(&mut text, fault.name());
+        }
+    }
+    put(&mut text, "\n");
+    text
+}
+
+/// The line of a reading as a response.
+pub(crate) fn response_line(reading: &Result<Response, FrameFault>) -> Text
+    ensures items { result.items ≡ spec.response_line reading.now }
+    ensures len { array_vec_len result ≤ 96 }
+{
+    let mut text = ArrayVec::new();
+    match reading {
+        Ok(response) => {
+            put(&mut text, "response flags ");
+            put_bytes(&mut text, 1, u64::from(response.flags()));
+            put(&mut text, " dsfid ");
+            put_bytes(&mut text, 1, u64::from(response.dsfid()));
+            put(&mut text, " uid ");
+            put_bytes(&mut text, 8, response.uid().number());
+        }
+        Err(fault) => {
+            put(&mut text, "response refused ");
+            put(&mut text, fault.name());
+        }
+    }
+    put(&mut text, "\n");
+    text
+}
+
+/// The line of a verdict.
+pub(crate) fn verdict_line(verdict: &Verdict) -> Text
+    ensures { result.items ≡ check.verdict_line verdict.now }
+{
+    let mut text = ArrayVec::new();
+    match *verdict {
+        Verdict::Complete { count } => {
+            put(&mut text, "complete ");
+            put_decimal(&mut text, count);
+        }
+        Verdict::Absent(uid) => {
+            put(&mut text, "absent ");
+            put_bytes(&mut text, 8, uid.number());
+        }
+        Verdict::Unlisted(uid) => {
+            put(&mut text, "unlisted ");
+            put_bytes(&mut text, 8, uid.number());
+        }
+        Verdict::Unsettled(mask) => {
+            put(&mut text, "unsettled ");
+            put_decimal(&mut text, u32::from(mask.len()));
+            put(&mut text, " ");
+            put_value(&mut text, &mask);
+        }
+        Verdict::Doubtful(uid) => {
+            put(&mut text, "doubtful ");
+            put_bytes(&mut text, 8, uid.number());
+        }
+        Verdict::Impossible { line } => {
+            put(&mut text, "impossible at line ");
+            put_decimal(&mut text, line);
+        }
+    }
+    put(&mut text, "\n");
+    text
+}
+
+/// The line of a refusal, by a reason with a name.
+pub(crate) fn refused_at(line: u32, name: &str) -> Text
+    requires { length name.now ≤ 16 }
+    ensures { result.items ≡ refusals.refused_at line name.now }
+{
+    let mut text = ArrayVec::new();
+    put(&mut text, "refused at line ");
+    put_decimal(&mut text, line);
+    put(&mut text, ": ");
+    put(&mut text, name);
+    put(&mut text, "\n");
+    text
+}
+
+/// The line of a refusal, by the fault of a line.
+pub(crate) fn refusal_line(line: u32, fault: &LineFault) -> Text
+    ensures { result.items ≡ refusals.refusal_line line fault.now }
+{
+    refused_at(line, fault.name())
+}

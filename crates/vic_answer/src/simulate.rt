@@ -1,0 +1,96 @@
+//! The command `simulate`.
+
+ghost use Rattle.std.specs.Prelude.{◌≡◌, ℕ, List, IfOk};
+ghost use Rattle.vic_answer.specs.SimulateText.{IsSimulated, IsSimulationOf, simulated_text, simulated_status};
+ghost use Rattle.vic_answer.specs.Readings.{IsReading};
+ghost use Rattle.vic_answer.specs.Runs.{Runs, LeavesSource, LeavesSink, Writes};
+
+use crate::input::{Reading, read_source};
+use crate::lines::{refusal_line, refused_at};
+use crate::output::write_and_flush;
+use crate::status::{RunFault, Status};
+use crate::text::Text;
+use std::alloc::{AllocError, Global};
+use vic_field::{SimFault, simulate};
+use vic_log::{LineFault, Log, Sink, Source, write_log};
+
+/// The line that no log has: the first behind its 1,000,000.
+const LINE_TOO_MANY: u32 = 1_000_001;
+
+/// What is answered to a text.
+#[derive(Drop)]
+pub(crate) enum Simulated {
+    /// Its log with the slots filled in.
+    Filled(Log),
+    /// A line of it has a fault, and this is the first.
+    RefusedAt { line: u32, fault: LineFault },
+    /// Its log tells of a slot already, first on this line.
+    OutcomeGiven { line: u32 },
+    /// Its log would have too many lines.
+    TooManyLines,
+}
+
+/// Fills in the slots of the log that a source hands out, as the tags that it lists would answer,
+/// writes the log's text, or the one line of a refusal, and flushes it. It reads to the end, or to
+/// the first fault of a line that no further byte can change. `Read` where the source has failed,
+/// `Memory` where memory was refused: nothing is written then. `Write` where the sink has failed: a
+/// prefix of the text may be out.
+pub fn run_simulate<R: Source, W: Sink>(
+    alloc: Global,
+    source: &mut R,
+    sink: &mut W,
+) -> Result<Status, RunFault>
+    ensures answer { Runs IsSimulationOf (R.left source.old) (R.left source.new)
+        (W.taken sink.old) (W.taken sink.new) result }
+    ensures leaves_source { LeavesSource R.reads R.has_failed source.old source.new result }
+    ensures leaves_sink { LeavesSink W.is_flushed W.has_failed sink.old sink.new result }
+{
+    let reading = read_source(alloc, source)?;
+    let simulated = simulate_reading(alloc, reading)?;
+    write_simulated(simulated, sink)
+}
+
+/// The answer to what was read.
+fn simulate_reading(alloc: Global, reading: Reading) -> Result<Simulated, AllocError>
+    ensures { IfOk result (λ s. (text : List ℕ) → IsReading text reading → IsSimulated text s) }
+{
+    let given = match reading {
+        Reading::Given(log) => log,
+        Reading::RefusedAt { line, fault } => return Ok(Simulated::RefusedAt { line, fault }),
+    };
+    match simulate(alloc, &given) {
+        Ok(filled) => Ok(Simulated::Filled(filled)),
+        Err(SimFault::OutcomeGiven(line)) => Ok(Simulated::OutcomeGiven { line }),
+        Err(SimFault::TooManyLines) => Ok(Simulated::TooManyLines),
+        Err(SimFault::Memory) => Err(AllocError),
+    }
+}
+
+/// Writes the line of a refusal.
+fn refuse<W: Sink>(line: &Text, sink: &mut W) -> Result<Status, RunFault>
+    ensures status { IfOk result (λ s. s ≡ Status.Refused) }
+    ensures written { Writes W.taken W.is_flushed W.has_failed
+        sink.old sink.new line.now.items result }
+{
+    write_and_flush(sink, line.as_slice())?;
+    Ok(Status::Refused)
+}
+
+/// Writes the text of an answer.
+fn write_simulated<W: Sink>(simulated: Simulated, sink: &mut W) -> Result<Status, RunFault>
+    ensures status { IfOk result (λ s. s ≡ simulated_status simulated) }
+    ensures written { Writes W.taken W.is_flushed W.has_failed
+        sink.old sink.new (simulated_text simulated) result }
+{
+    match simulated {
+        Simulated::Filled(log) => match write_log(&log, sink) {
+            Ok(()) => Ok(Status::Whole),
+            Err(_) => Err(RunFault::Write),
+        },
+        Simulated::RefusedAt { line, fault } => refuse(&refusal_line(line, &fault), sink),
+        Simulated::OutcomeGiven { line } => refuse(&refused_at(line, "OutcomeGiven"), sink),
+        Simulated::TooManyLines => {
+            refuse(&refusal_line(LINE_TOO_MANY, &LineFault::TooManyLines), sink)
+        }
+    }
+}

@@ -1,0 +1,65 @@
+//! How a run ends.
+
+ghost use Rattle.std.specs.Prelude.{◌≡◌};
+ghost use Rattle.vic_answer.specs.Status.{status_code, fault_line};
+
+use std::alloc::AllocError;
+
+/// What a run that ended found.
+#[derive(Clone, Copy, Debug, PartialEq, Eq)]
+pub enum Status {
+    /// The list is complete, or what was asked for was written.
+    Whole,
+    /// The list isn't known to be complete.
+    NotWhole,
+    /// No population could have given the log.
+    Impossible,
+    /// The log, or the frame, was refused.
+    Refused,
+}
+
+/// What kept a run from its answer.
+#[derive(Clone, Copy, Debug, Drop, PartialEq, Eq)]
+pub enum RunFault {
+    /// The reader failed.
+    Read,
+    /// The writer failed.
+    Write,
+    /// Memory was refused.
+    Memory,
+}
+
+impl From<AllocError> for RunFault {
+    ghost use Rattle.vic_answer.specs.declared.status.RunFault.{RunFault};
+
+    ghost from_gives = { λ _ r. r ≡ RunFault.Memory };
+
+    fn from(_: AllocError) -> RunFault {
+        RunFault::Memory
+    }
+}
+
+impl Status {
+    /// The exit status, 0 to 3.
+    pub fn code(&self) -> u8
+        ensures { result ≡ status_code self.now }
+    {
+        match self {
+            Status::Whole => 0,
+            Status::NotWhole => 1,
+            Status::Impossible => 2,
+            Status::Refused => 3,
+        }
+    }
+}
+
+/// What standard error says of a fault, without its LF.
+pub fn fault_text(fault: &RunFault) -> &'static str
+    ensures { result.now ≡ fault_line fault.now }
+{
+    match fault {
+        RunFault::Read => "vicinity: read failed",
+        RunFault::Write => "vicinity: write failed",
+        RunFault::Memory => "vicinity: out of memory",
+    }
+}

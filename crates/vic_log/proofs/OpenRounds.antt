@@ -1,0 +1,107 @@
+-- The open round, from one place to the next.
+use Rattle.std.proofs.Common.{◌≡◌, ℕ, suc, ◌<◌, ◌≤◌, ◌+◌, ◌-◌, List, Bool, true, false, Option, Some, None, refl, sym, ap, ◌∙◌, subst, arith, add-one}
+use Rattle.std.specs.Prelude.{IfSome, slice_get, if◌then◌else◌}
+use Rattle.vic_frame.specs.Masks.{BitMask}
+use Rattle.vic_frame.specs.Slots.{slot_count, slot_mask}
+use Rattle.vic_frame.specs.declared.request.Request.{Request}
+use Rattle.vic_frame.specs.declared.request.Request.TheVariants.{Inventory, StayQuiet}
+use Rattle.vic_log.specs.declared.entry.Entry.{Entry}
+use Rattle.vic_log.specs.declared.entry.Entry.TheVariants.{Sent, Silent, Collision, Heard, Listed, Garbled, FieldCycle}
+use Rattle.vic_log.specs.declared.rounds.OpenRound.{OpenRound}
+use Rattle.vic_log.specs.declared.rounds.RoundCursor.{RoundCursor}
+use Rattle.vic_log.specs.Rounds.{opener, ends_round, IsInRound, mask_of_slot, mask_since, mask_at}
+use Rattle.vic_log.specs.Order.{IsInOrder}
+use Rattle.vic_log.specs.OpenRounds.{round_of, round_since, round_at, IsCursorAt}
+use Rattle.vic_log.proofs.Places.{opener_below}
+
+-- one slot further
+abbrev pub next_slot : Option OpenRound → Option OpenRound
+next_slot None = None
+next_slot (Some r) = Some (record { request = r.request; next = r.next + 1 })
+
+-- the open round after an entry
+abbrev pub after_round : Option OpenRound → Entry → Option OpenRound
+after_round round (Sent q) = Some (record { request = q; next = 0 })
+after_round round (Listed u) = None
+after_round round FieldCycle = None
+after_round round e = next_slot round
+
+-- the mask of the next slot
+abbrev pub round_mask : Option OpenRound → Option BitMask
+round_mask None = None
+round_mask (Some r) = slot_mask r.request r.next
+
+mask_of_round : (o : Option Entry) (k : ℕ) → mask_of_slot o k ≡ round_mask (round_of o k)
+mask_of_round None k = refl
+mask_of_round (Some (Sent q)) k = refl
+mask_of_round (Some e) k = refl
+
+mask_since_round : (es : List Entry) (i : ℕ) (o : Option ℕ) → mask_since es i o ≡ round_mask (round_since es i o)
+mask_since_round es i None = refl
+mask_since_round es i (Some j) = mask_of_round (slice_get es j) (i - suc j)
+
+pub mask_at-round : (es : List Entry) (i : ℕ) → mask_at es i ≡ round_mask (round_at es i)
+mask_at-round es i = mask_since_round es i (opener es i)
+
+next_of_round : (o : Option Entry) (k n : ℕ) → n ≡ k + 1 → round_of o n ≡ next_slot (round_of o k)
+next_of_round None k n e = refl
+next_of_round (Some (Sent q)) k n e = rw e
+next_of_round (Some Silent) k n e = refl
+next_of_round (Some e') k n e = refl
+
+next_since : (es : List Entry) (i : ℕ) (o : Option ℕ) → ((j : ℕ) → o ≡ Some j → j < i) → round_since es (suc i) o ≡ next_slot (round_since es i o)
+next_since es i None b = refl
+next_since es i (Some j) b =
+    let below = b j refl in next_of_round (slice_get es j) (i - suc j) (suc i - suc j) (omega arith)
+
+-- the round after one entry more
+abbrev opener_with : List Entry → ℕ → Option Entry → Option ℕ
+opener_with es i o = if ends_round o then Some i else opener es i
+
+round_opens : (es : List Entry) (i : ℕ) (e : Entry) → slice_get es i ≡ Some e → round_since es (suc i) (Some i) ≡ round_of (Some e) 0
+round_opens es i e k = let z : suc i - suc i ≡ 0 = omega arith in ap (λ o. round_of o (suc i - suc i)) k ∙ ap (round_of (Some e)) z
+
+round_with : (es : List Entry) (i : ℕ) (e : Entry) → slice_get es i ≡ Some e → round_since es (suc i) (opener_with es i (Some e)) ≡ after_round (round_at es i) e
+round_with es i (Sent q) k = round_opens es i (Sent q) k
+round_with es i (Listed u) k = round_opens es i (Listed u) k
+round_with es i FieldCycle k = round_opens es i FieldCycle k
+round_with es i Silent k = next_since es i (opener es i) (opener_below es i)
+round_with es i Collision k = next_since es i (opener es i) (opener_below es i)
+round_with es i (Heard r) k = next_since es i (opener es i) (opener_below es i)
+round_with es i Garbled k = next_since es i (opener es i) (opener_below es i)
+
+pub round_step : (es : List Entry) (i : ℕ) (e : Entry) → slice_get es i ≡ Some e → round_at es (suc i) ≡ after_round (round_at es i) e
+round_step es i e k = ap (λ o. round_since es (suc i) (opener_with es i o)) k ∙ round_with es i e k
+
+pub round_passed : (es : List Entry) (i : ℕ) (e : Entry) (round next : Option OpenRound) → next ≡ after_round round e → slice_get es i ≡ Some e → round ≡ round_at es i → next ≡ round_at es (i + 1)
+round_passed es i e round next h k r =
+    h ∙ (ap (λ o. after_round o e) r ∙ (sym (round_step es i e k) ∙ ap (round_at es) (sym (add-one i))))
+
+slots_few : (q : Request) → slot_count q ≤ 16
+slots_few (Inventory link true m) = omega arith
+slots_few (Inventory link false m) = omega arith
+slots_few (StayQuiet link uid) = omega arith
+
+next_in : (es : List Entry) (i : ℕ) → IsInRound es i → IfSome (next_slot (round_at es i)) (λ r. r.next ≤ 16)
+next_in es i r =
+    let k = i - suc r.0 in
+    let here : round_at es i ≡ Some (record { request = r.1; next = k }) = ap (round_since es i) r.2 ∙ ap (λ o. round_of o k) r.3 in
+    let few = slots_few r.1 in
+    let lt = r.4 in
+    let small : k + 1 ≤ 16 = omega arith in
+    subst (λ o. IfSome (next_slot o) (λ s. s.next ≤ 16)) (sym here) small
+
+pub small_step : (es : List Entry) (i : ℕ) (e : Entry) → IsInOrder es → slice_get es i ≡ Some e → IfSome (after_round (round_at es i) e) (λ r. r.next ≤ 16)
+small_step es i (Sent q) o k = omega arith
+small_step es i (Listed u) o k = tt
+small_step es i FieldCycle o k = tt
+small_step es i Silent o k = next_in es i (o.rounds i Silent k refl)
+small_step es i Collision o k = next_in es i (o.rounds i Collision k refl)
+small_step es i (Heard r) o k = next_in es i (o.rounds i (Heard r) k refl)
+small_step es i Garbled o k = next_in es i (o.rounds i Garbled k refl)
+
+pub cursor_passed : (es : List Entry) (i : ℕ) (e : Entry) (old new : RoundCursor) → IsInOrder es → slice_get es i ≡ Some e → new.round ≡ round_at es (i + 1) → IsCursorAt es (i + 1) new
+cursor_passed es i e old new o k r = record {
+  open_round = r;
+  few_slots = subst (λ x. IfSome x (λ y. y.next ≤ 16)) (sym (round_step es i e k) ∙ (ap (round_at es) (sym (add-one i)) ∙ sym r)) (small_step es i e o k);
+}

@@ -1,3 +1,0 @@
-mod HexDigits
-mod Decoded
-mod CheckLines
