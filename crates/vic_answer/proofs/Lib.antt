@@ -2,3 +2,4 @@ mod HexDigits
 mod Decoded
 mod CheckLines
 mod Standing
+mod Numbered

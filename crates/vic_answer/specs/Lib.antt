@@ -7,3 +7,5 @@ pub mod SimulateText
 pub mod Runs
 pub mod Readings
 pub mod CompleteRun
+pub mod FaultNumbers
+pub mod Numbers

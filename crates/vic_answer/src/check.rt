@@ -1,7 +1,8 @@
 //! The command `check`.
 
-ghost use Rattle.std.specs.Prelude.{◌≡◌, ℕ, List, ◌++◌, Option, Some, IfOk, OnOk, codes};
+ghost use Rattle.std.specs.Prelude.{◌≡◌, ◌<◌, ℕ, List, ◌++◌, Option, Some, IfOk, OnOk, codes};
 ghost use Rattle.std.specs.Io.KnownBytes.{IsAtEnd};
+ghost use Rattle.arrayvec.specs.ArrayVec.{array_vec_len};
 ghost use Rattle.vic_verdict.specs.declared.verdict.Verdict.TheVariants.{Complete};
 ghost use Rattle.vic_answer.specs.CheckText.{IsAnswer, IsCheckOf, IsCompleteText, answer_line, answer_status, verdict_status};
 ghost use Rattle.vic_answer.specs.CompleteRun.{GivesCompleteText};
@@ -9,7 +10,7 @@ ghost use Rattle.vic_answer.specs.Readings.{IsReading, Stands};
 ghost use Rattle.vic_answer.specs.Runs.{Runs, LeavesSource, LeavesSink};
 
 use crate::input::{Reading, read_source};
-use crate::lines::{refusal_line, verdict_line};
+use crate::lines::{LINE_ROOM, refusal_line, verdict_line};
 use crate::output::write_and_flush;
 use crate::status::{RunFault, Status};
 use crate::text::Text;
@@ -81,7 +82,8 @@ fn judge_reading(alloc: Global, reading: Reading) -> Result<Answer, AllocError>
 
 /// The line of an answer, with its LF.
 pub fn answer_line(answer: &Answer) -> Text
-    ensures { result.items ≡ answer_line answer.now }
+    ensures items { result.items ≡ answer_line answer.now }
+    ensures len { array_vec_len result < LINE_ROOM }
 {
     match answer {
         Answer::Judged(verdict) => verdict_line(verdict),

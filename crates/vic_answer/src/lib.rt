@@ -3,15 +3,20 @@
 #![tactic(auto)]
 
 mod check;
+mod fault_numbers;
 mod frame;
 mod input;
 mod lines;
+mod numbers;
 mod output;
 mod simulate;
 mod status;
 mod text;
 
 pub use check::{Answer, answer_line, answer_status, judge_text, run_check};
+pub use fault_numbers::{fault_number, frame_fault_number};
 pub use frame::run_frame;
+pub use lines::LINE_ROOM;
+pub use numbers::{Kind, NO_ANSWER, VicinityAnswer, numbers_of};
 pub use simulate::run_simulate;
 pub use status::{RunFault, Status, fault_text};

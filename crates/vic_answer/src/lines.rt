@@ -1,6 +1,6 @@
 //! The lines that are written.
 
-ghost use Rattle.std.specs.Prelude.{◌≡◌, ◌≤◌, length};
+ghost use Rattle.std.specs.Prelude.{◌≡◌, ◌<◌, ◌≤◌, length};
 ghost use Rattle.arrayvec.specs.ArrayVec.{array_vec_len};
 ghost use Rattle.vic_answer.specs.FrameText as spec;
 ghost use Rattle.vic_answer.specs.CheckText as check;
@@ -11,6 +11,9 @@ use arrayvec::ArrayVec;
 use vic_frame::{FrameFault, Request, Response};
 use vic_log::LineFault;
 use vic_verdict::Verdict;
+
+/// The room for the line of an answer: 45 bytes at most, and a zero.
+pub const LINE_ROOM: usize = 64;
 
 /// The line of a reading as a request.
 pub(crate) fn request_line(reading: &Result<Request, FrameFault>) -> Text
@@ -72,7 +75,8 @@ pub(crate) fn response_line(reading: &Result<Response, FrameFault>) -> Text
 
 /// The line of a verdict.
 pub(crate) fn verdict_line(verdict: &Verdict) -> Text
-    ensures { result.items ≡ check.verdict_line verdict.now }
+    ensures items { result.items ≡ check.verdict_line verdict.now }
+    ensures len { array_vec_len result < LINE_ROOM }
 {
     let mut text = ArrayVec::new();
     match *verdict {
@@ -110,7 +114,8 @@ pub(crate) fn verdict_line(verdict: &Verdict) -> Text
 /// The line of a refusal, by a reason with a name.
 pub(crate) fn refused_at(line: u32, name: &str) -> Text
     requires { length name.now ≤ 16 }
-    ensures { result.items ≡ refusals.refused_at line name.now }
+    ensures items { result.items ≡ refusals.refused_at line name.now }
+    ensures len { array_vec_len result < LINE_ROOM }
 {
     let mut text = ArrayVec::new();
     put(&mut text, "refused at line ");
@@ -123,7 +128,8 @@ pub(crate) fn refused_at(line: u32, name: &str) -> Text
 
 /// The line of a refusal, by the fault of a line.
 pub(crate) fn refusal_line(line: u32, fault: &LineFault) -> Text
-    ensures { result.items ≡ refusals.refusal_line line fault.now }
+    ensures items { result.items ≡ refusals.refusal_line line fault.now }
+    ensures len { array_vec_len result < LINE_ROOM }
 {
     refused_at(line, fault.name())
 }

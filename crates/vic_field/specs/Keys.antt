@@ -1,5 +1,5 @@
 -- How a field keeps its tags: by the low bits of their UIDs, the lowest first.
-use Rattle.std.specs.Prelude.{ℕ, Bool, List, ◌<◌, ◌^◌, ◌&&◌, nat_le, map}
+use Rattle.std.specs.Prelude.{◌≡◌, ℕ, Bool, List, ◌<◌, ◌^◌, ◌&&◌, nat_le, map}
 use Rattle.std.specs.Ordering.{nat_cmp}
 use Rattle.std.specs.List.{All, filter}
 use Rattle.std.specs.List.Sorted.{IsStrictlySortedBy}
@@ -17,3 +17,12 @@ tags_of es = map (λ e. (uid_of e.0, e.1)) es
 -- the Ready tags whose keys lie from a to b
 abbrev pub ready_between : ℕ → ℕ → List (ℕ × Bool) → List ℕ
 ready_between a b es = map (λ e. uid_of e.0) (filter (λ e. (nat_le a e.0 && nat_le e.0 b) && e.1) es)
+
+-- the UIDs that keys stand for
+abbrev pub uids_at : List ℕ → List ℕ
+uids_at ks = map uid_of ks
+
+-- keys of 56 bits that stand for these UIDs
+pub record AreKeysOf (us ks : List ℕ) : Type 0 where
+  pub uids : uids_at ks ≡ us
+  pub small : All (λ k. k < 2 ^ 56) ks

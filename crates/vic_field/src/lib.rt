@@ -3,6 +3,7 @@
 
 mod field;
 mod hear;
+mod populate;
 mod put;
 mod session;
 #[cfg(test)]

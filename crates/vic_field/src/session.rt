@@ -4,19 +4,19 @@ ghost use Rattle.std.specs.Prelude.{◌≡◌, ◌+◌, ◌<◌, ◌≤◌, ◌+
 ghost use Rattle.vic_field.specs.declared.session.SimFault.TheVariants.{Memory as NoRoom};
 ghost use Rattle.vic_field.specs.Simulation.{IsSimulation, HasNoSlots, IsFirstSlot, RefusesLines, last_needed};
 ghost use Rattle.vic_field.specs.Steps.{slot_line, slot_lines_to, slot_lines, with_entries, next_line, IsAfter, StopsBefore};
-ghost use Rattle.vic_field.specs.Tags.{uids, HasAdded};
+ghost use Rattle.vic_field.specs.Tags.{uids};
 ghost use Rattle.vic_frame.specs.Requests.{IsValid};
 ghost use Rattle.vic_frame.specs.Slots.{slot_count};
-ghost use Rattle.vic_frame.specs.Uids.{has};
 ghost use Rattle.vic_log.specs.declared.entry.Entry.{Entry};
 ghost use Rattle.vic_log.specs.declared.entry.Version.TheVariants.{V1};
 ghost use Rattle.vic_log.specs.FirstVersion.{IsOfFirstVersion};
 ghost use Rattle.vic_log.specs.Log.{last_from, IsValidEntry};
-ghost use Rattle.vic_log.specs.Order.{entries, listed, refusal};
+ghost use Rattle.vic_log.specs.Order.{entries, refusal};
 ghost use Rattle.vic_log.specs.Populations.{IsPopulation};
 ghost use Rattle.vic_log.specs.Rounds.{is_slot, slots_opened};
 
 use crate::field::{Field, Outcome};
+use crate::populate::populate;
 use std::alloc::{AllocError, Global};
 use vic_frame::{Request, Response};
 use vic_log::{Entry, Log, LogLine, PushFault};
@@ -85,27 +85,6 @@ fn is_slot(item: &Entry) -> bool
         Entry::Silent | Entry::Collision | Entry::Heard(_) | Entry::Garbled => true,
         Entry::Sent(_) | Entry::Listed(_) | Entry::FieldCycle => false,
     }
-}
-
-/// A field of the tags that are listed, all Ready.
-fn populate(alloc: Global, lines: &[LogLine]) -> Result<Field, AllocError>
-    ensures { IfOk result (HasAdded (has (listed (entries lines.now))) []) }
-{
-    let mut field = Field::new(alloc);
-    for line in lines {
-        put_listed(&mut field, &line.item)?;
-    }
-    Ok(field)
-}
-
-/// Puts the tag that an entry lists, if it lists one, into the field.
-fn put_listed(field: &mut Field, item: &Entry) -> Result<(), AllocError>
-    ensures { OnOk result (HasAdded (has (listed (item.now ∷ []))) field.old field.new) }
-{
-    if let Entry::Listed(uid) = *item {
-        field.put(uid)?;
-    }
-    Ok(())
 }
 
 /// Adds an entry, and a line for each slot that it opens, as the tags answer.

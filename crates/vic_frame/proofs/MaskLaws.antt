@@ -1,11 +1,11 @@
 -- Laws on masks.
 use Rattle.std.proofs.Common.{Bool, true, false, ◌==◌, ◌≡◌, ℕ, ◌+◌, ◌-◌, ◌*◌, ◌/◌, ◌^◌, ◌%◌, ◌<◌, ◌≤◌, ◌⊎◌, inl, inr, refl, sym, ap, ◌∙◌, arith, zero, suc, add_comm}
-use Rattle.std.proofs.Math.Nat.{pow-le-pow_right, mul_assoc, mul-add-mod_self_right, mod-le}
+use Rattle.std.proofs.Math.Nat.{pow-le-pow_right, mul_assoc}
 use Rattle.std.proofs.lemmas.Nat.{mod-pow-add, mod_low, pow_pos, pow-add, mod_below}
 use Rattle.std.proofs.lemmas.Bool.{cases_eq, eqb-true, eq-eqb}
 use Rattle.std.proofs.lemmas.Bool.Decides.{nat_tests}
-use Rattle.vic_frame.specs.Masks.{BitMask, IsMask, LiesIn, lies_in, least_uid_in}
-use Rattle.vic_frame.specs.Uids.{IsUid}
+use Rattle.vic_frame.specs.Masks.{BitMask, IsMask, LiesIn, lies_in}
+use Rattle.vic_frame.specs.Uids.{IsUid, uid_from_low_bits}
 use Rattle.vic_frame.specs.MaskLaws.{NestedOrApart, IsParted}
 
 -- the low bits of the low bits
@@ -48,7 +48,7 @@ parted m u p =
 
 -- the one UID that a long mask can hold
 abbrev pub only_uid : ℕ → ℕ
-only_uid value = 0xE0 * 2 ^ 56 + value % 2 ^ 56
+only_uid value = uid_from_low_bits (value % 2 ^ 56)
 
 pub is_only : (m : BitMask) (u : ℕ) → 56 ≤ m.len → IsUid u → u % 2 ^ m.len ≡ m.value → u ≡ only_uid m.value
 is_only m u long is_uid e =
@@ -82,23 +82,14 @@ top_is len short =
     let whole : 2 ^ 56 ≡ 2 ^ j * 2 ^ len = rw is at (pow-add 2 j len) in
     ap (λ x. 0xE0 * x) whole ∙ sym (mul_assoc 0xE0 (2 ^ j) (2 ^ len))
 
-pub least_inside : (m : BitMask) → IsMask m → m.len ≤ 56 → LiesIn m (least_uid_in m)
+least_inside : (m : BitMask) → IsMask m → m.len ≤ 56 → LiesIn m (uid_from_low_bits m.value)
 least_inside m p short = ap (λ x. (x + m.value) % 2 ^ m.len) (top_is m.len short) ∙ mod_low (0xE0 * 2 ^ (56 - m.len)) m.len m.value p.1
 
-pub least_is_uid : (m : BitMask) → IsMask m → m.len ≤ 56 → IsUid (least_uid_in m)
+least_is_uid : (m : BitMask) → IsMask m → m.len ≤ 56 → IsUid (uid_from_low_bits m.value)
 least_is_uid m p short =
     let below : 2 ^ m.len ≤ 2 ^ 56 = pow-le-pow_right (let z : 0 < 2 = omega arith in z) short in
     (omega arith, omega (arith, below, p.1))
 
--- a UID in the mask is at least its value above E0 and seven bytes 0
-pub least_first : (m : BitMask) (u : ℕ) → m.len ≤ 56 → IsUid u → LiesIn m u → least_uid_in m ≤ u
-least_first m u short is_uid inside =
-    let d : ℕ = u - 0xE0 * 2 ^ 56 in
-    let split : u ≡ 0xE0 * 2 ^ 56 + d = omega (arith, is_uid) in
-    let low : u % 2 ^ m.len ≡ d % 2 ^ m.len = ap (λ x. x % 2 ^ m.len) (split ∙ ap (λ x. x + d) (top_is m.len short)) ∙ mul-add-mod_self_right (0xE0 * 2 ^ (56 - m.len)) (2 ^ m.len) d in
-    let most : d % 2 ^ m.len ≤ d = mod-le d (2 ^ m.len) in
-    omega (arith, split, low, most, inside)
-
 -- a mask of at most 56 bits holds the UID whose other bits below E0 are 0
 pub short_holds : (m : BitMask) → IsMask m → m.len ≤ 56 → (u : ℕ) × IsUid u × LiesIn m u
-short_holds m p short = (least_uid_in m, least_is_uid m p short, least_inside m p short)
+short_holds m p short = (uid_from_low_bits m.value, least_is_uid m p short, least_inside m p short)

@@ -2,6 +2,7 @@
 use Rattle.std.specs.Prelude.{ℕ, ◌+◌, ◌-◌, ◌/◌, ◌^◌, ◌==◌, ◌&&◌, not, Bool, Option, Some, None, List, [], ◌∷◌, ◌++◌, length, slice_index, slice_range, nat_lt, if◌then◌else◌}
 use Rattle.vic_frame.specs.declared.fault.FrameFault.{FrameFault}
 use Rattle.vic_frame.specs.declared.fault.FrameFault.TheVariants.{Short, Crc, Extension, Reserved, OptionFlag, OtherCommand, InventoryFlag, Afi, Length, MaskTooLong, MaskPadding, SelectFlag, NotAddressed, ErrorFlag, NotVicinity}
+use Rattle.vic_frame.specs.declared.mask.TheConstants.{MAX_MASK_LEN, MAX_MASK_LEN_OF_SIXTEEN}
 use Rattle.vic_frame.specs.Bytes.{number_of, bit}
 use Rattle.vic_frame.specs.Crc.{crc_right}
 use Rattle.vic_frame.specs.Requests.{byte_count}
@@ -31,9 +32,9 @@ mask_bytes f = slice_range f 3 (length f - 2)
 abbrev pub uid_bytes : List ℕ → List ℕ
 uid_bytes f = slice_range f 2 10
 
--- the longest mask that the number of slots allows: bit 6 is Nb_slots_flag, 1 for one slot (profile: 64 and 60)
+-- the longest mask that the number of slots allows: bit 6 is Nb_slots_flag, 1 for one slot (profile)
 abbrev pub longest_mask : List ℕ → ℕ
-longest_mask f = if bit 6 (flags f) then 64 else 60
+longest_mask f = if bit 6 (flags f) then MAX_MASK_LEN else MAX_MASK_LEN_OF_SIXTEEN
 
 -- the faults that a request of any command can have, in order
 abbrev pub head_faults : List ℕ → List (FrameFault × Bool)

@@ -1,5 +1,6 @@
 -- UIDs by their low bits, the lowest first (profile). In that order the UIDs of a mask stand together.
 use Rattle.std.specs.Prelude.{ℕ, zero, suc, ◌+◌, ◌*◌, ◌/◌, ◌^◌, ◌%◌}
+use Rattle.vic_frame.specs.Uids.{uid_from_low_bits}
 
 -- the low k bits of n turned round: the lowest becomes the highest
 unfoldable pub mirror_bits : ℕ → ℕ → ℕ
@@ -12,4 +13,4 @@ mirror u = mirror_bits 56 u
 
 -- the UID at a place
 abbrev pub uid_of : ℕ → ℕ
-uid_of k = 0xE0 * 2 ^ 56 + mirror k
+uid_of k = uid_from_low_bits (mirror k)

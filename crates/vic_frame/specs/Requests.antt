@@ -2,13 +2,14 @@
 use Rattle.std.specs.Prelude.{◌≡◌, ℕ, ◌+◌, ◌/◌, ◌^◌, ◌<◌, ◌≤◌, true, false, List, ◌∷◌, if◌then◌else◌}
 use Rattle.vic_frame.specs.declared.request.Request.{Request}
 use Rattle.vic_frame.specs.declared.request.Request.TheVariants.{Inventory, StayQuiet}
+use Rattle.vic_frame.specs.declared.mask.TheConstants.{MAX_MASK_LEN_OF_SIXTEEN}
 use Rattle.vic_frame.specs.Masks.{IsMask}
 use Rattle.vic_frame.specs.Bytes.{bytes_of}
 use Rattle.vic_frame.specs.Crc.{with_crc}
 
--- two bits of link, and with sixteen slots a mask of at most 60 bits (profile)
+-- two bits of link, and with sixteen slots a mask that leaves four bits for their numbers (profile)
 abbrev pub IsValid : Request → Type 0
-IsValid (Inventory link true m) = (link ≤ 3) × (m.len ≤ 60)
+IsValid (Inventory link true m) = (link ≤ 3) × (m.len ≤ MAX_MASK_LEN_OF_SIXTEEN)
 IsValid (Inventory link false m) = link ≤ 3
 IsValid (StayQuiet link uid) = link ≤ 3
 

@@ -1,5 +1,5 @@
 -- UIDs, as numbers (ISO/IEC 15693-3, unique identifier).
-use Rattle.std.specs.Prelude.{◌≡◌, ℕ, Bool, false, List, [], ◌∷◌, ◌*◌, ◌^◌, ◌≤◌, ◌<◌, ◌&&◌, ⊤, nat_eq, nat_le, nat_lt}
+use Rattle.std.specs.Prelude.{◌≡◌, ℕ, Bool, false, List, [], ◌∷◌, ◌+◌, ◌*◌, ◌^◌, ◌≤◌, ◌<◌, ◌&&◌, ⊤, nat_eq, nat_le, nat_lt}
 use Rattle.std.specs.List.{list_any}
 
 -- a number of 64 bits whose most significant byte is E0 (ISO/IEC 15693-3, unique identifier)
@@ -9,6 +9,10 @@ IsUid u = (0xE0 * 2 ^ 56 ≤ u) × (u < 0xE1 * 2 ^ 56)
 -- the same, as a test
 abbrev pub is_uid : ℕ → Bool
 is_uid u = nat_le (0xE0 * 2 ^ 56) u && nat_lt u (0xE1 * 2 ^ 56)
+
+-- the UID with these 56 bits under its top byte
+abbrev pub uid_from_low_bits : ℕ → ℕ
+uid_from_low_bits bits = 0xE0 * 2 ^ 56 + bits
 
 -- whether the number is in the list
 abbrev pub has : List ℕ → ℕ → Bool

@@ -21,8 +21,12 @@ pub(crate) fn number_of(bytes: &[u8]) -> u64
 }
 
 /// Appends the `count` low bytes of a number, the least significant first.
-pub(crate) fn push_number(out: &mut ArrayVec<u8, 13>, count: usize, number: u64)
-    requires { array_vec_len out.old + count ≤ 13 }
+pub(crate) fn push_number<const ROOM: usize>(
+    out: &mut ArrayVec<u8, ROOM>,
+    count: usize,
+    number: u64,
+)
+    requires { array_vec_len out.old + count ≤ ROOM }
     ensures items { out.new.items ≡ out.old.items ++ spec.bytes_of count number }
     ensures len { array_vec_len out.new ≡ array_vec_len out.old + count }
 {

@@ -6,6 +6,9 @@ ghost use Rattle.vic_frame.specs.Crc as spec;
 
 use crate::bytes::number_of;
 
+/// How many bytes a CRC has.
+pub(crate) const CRC_LEN: usize = 2;
+
 /// The CRC of these bytes. It is sent behind them, its low byte first.
 ///
 /// `ISO/IEC 13239, 16-bit FCS`.
@@ -23,10 +26,10 @@ pub fn crc(bytes: &[u8]) -> u16
 pub fn crc_right(bytes: &[u8]) -> bool
     ensures { result ≡ spec.crc_right bytes.now }
 {
-    if bytes.len() < 2 {
+    if bytes.len() < CRC_LEN {
         return false;
     }
-    let (body, end) = bytes.split_at(bytes.len() - 2);
+    let (body, end) = bytes.split_at(bytes.len() - CRC_LEN);
     number_of(end) == u64::from(crc(body))
 }
 

@@ -16,9 +16,14 @@ ghost use Rattle.vic_frame.specs.Reading.{request_reading, reply_reading};
 ///
 /// `ISO/IEC 15693-3, Inventory request`, `.. Stay Quiet` and `.. Inventory response`.
 pub fn spelled_by_fields()
-    ensures inventory { (f : List ℕ) (link : ℕ) (sixteen : Bool) (m : BitMask) → AreBytes f → SpellsRequest f (Inventory link sixteen m) ↔ (IsMask m × IsValid (Inventory link sixteen m) × HasInventoryFields f link sixteen m) }
-    ensures stay_quiet { (f : List ℕ) (link uid : ℕ) → AreBytes f → SpellsRequest f (StayQuiet link uid) ↔ ((uid < 2 ^ 64) × (link ≤ 3) × HasStayQuietFields f link uid) }
-    ensures reply { (f : List ℕ) (r : Reply) → AreBytes f → SpellsReply f r ↔ (IsReply r × HasReplyFields f r) }
+    ensures inventory { (f : List ℕ) (link : ℕ) (sixteen : Bool) (m : BitMask) → AreBytes f
+        → SpellsRequest f (Inventory link sixteen m)
+        ↔ (IsMask m × IsValid (Inventory link sixteen m) × HasInventoryFields f link sixteen m) }
+    ensures stay_quiet { (f : List ℕ) (link uid : ℕ) → AreBytes f
+        → SpellsRequest f (StayQuiet link uid)
+        ↔ ((uid < 2 ^ 64) × (link ≤ 3) × HasStayQuietFields f link uid) }
+    ensures reply { (f : List ℕ) (r : Reply) → AreBytes f
+        → SpellsReply f r ↔ (IsReply r × HasReplyFields f r) }
 {}
 
 /// A valid request has exactly one spelling, and so has a reply; bytes spell at most one request
@@ -34,19 +39,24 @@ pub fn one_spelling()
 
 /// Bytes read as a value exactly where they spell it.
 pub fn read_where_spelled()
-    ensures request { (f : List ℕ) (q : Request) → AreBytes f → (request_reading f ≡ Ok q) ↔ SpellsRequest f q }
-    ensures reply { (f : List ℕ) (r : Reply) → AreBytes f → (reply_reading f ≡ Ok r) ↔ SpellsReply f r }
+    ensures request { (f : List ℕ) (q : Request) → AreBytes f
+        → (request_reading f ≡ Ok q) ↔ SpellsRequest f q }
+    ensures reply { (f : List ℕ) (r : Reply) → AreBytes f
+        → (reply_reading f ≡ Ok r) ↔ SpellsReply f r }
 {}
 
 /// No fault applies exactly where the bytes spell something.
 pub fn no_fault_where_spelled()
-    ensures request { (f : List ℕ) → AreBytes f → (first_fault (request_faults f) ≡ None) ↔ ((q : Request) × SpellsRequest f q) }
-    ensures reply { (f : List ℕ) → AreBytes f → (first_fault (reply_faults f) ≡ None) ↔ ((r : Reply) × SpellsReply f r) }
+    ensures request { (f : List ℕ) → AreBytes f
+        → (first_fault (request_faults f) ≡ None) ↔ ((q : Request) × SpellsRequest f q) }
+    ensures reply { (f : List ℕ) → AreBytes f
+        → (first_fault (reply_faults f) ≡ None) ↔ ((r : Reply) × SpellsReply f r) }
 {}
 
 /// The CRC is right exactly where the register, run over all the bytes, ends at F0B8.
 ///
 /// `ISO/IEC 13239, 16-bit FCS`.
 pub fn crc_right_by_register()
-    ensures { (f : List ℕ) → AreBytes f → 2 ≤ length f → (crc_right f ≡ true) ↔ (register f ≡ 0xF0B8) }
+    ensures { (f : List ℕ) → AreBytes f → 2 ≤ length f
+        → (crc_right f ≡ true) ↔ (register f ≡ 0xF0B8) }
 {}

@@ -22,9 +22,9 @@ mod uid;
 
 pub use checksum::{crc, crc_right};
 pub use fault::FrameFault;
-pub use mask::{Mask, without_top_byte};
+pub use mask::{MAX_MASK_LEN, MAX_MASK_LEN_OF_SIXTEEN, Mask, without_top_byte};
 pub use request::Request;
-pub use request_frame::{read_request, write_request};
+pub use request_frame::{MAX_REQUEST_LEN, read_request, write_request};
 pub use response::Response;
-pub use response_frame::{read_response, write_response};
-pub use uid::Uid;
+pub use response_frame::{RESPONSE_LEN, read_response, write_response};
+pub use uid::{UID_BITS, Uid};

@@ -9,7 +9,10 @@ ghost use Rattle.vic_frame.specs.Masks.{lies_in};
 ghost use Rattle.vic_frame.specs.LowBitsFirst.{mirror, uid_of};
 
 use crate::mask::Mask;
-use crate::uid::Uid;
+use crate::uid::{UID_BITS, Uid};
+
+/// How many bits the top byte of a UID has. Turned round, they are the lowest.
+const TOP_BITS: u8 = 64 - UID_BITS;
 
 /// The place of a UID in the order. Different UIDs have different places.
 pub fn key(uid: Uid) -> u64
@@ -18,7 +21,7 @@ pub fn key(uid: Uid) -> u64
     ensures back { uid_of result ≡ uid }
     ensures is_uid { IsUid uid }
 {
-    uid.number().reverse_bits() >> 8
+    uid.number().reverse_bits() >> TOP_BITS
 }
 
 /// The UID at a place below `2^56`.
@@ -28,10 +31,7 @@ pub fn uid_at(key: u64) -> Uid
     ensures back { mirror result ≡ key }
     ensures is_uid { IsUid result }
 {
-    let Some(uid) = Uid::new((0xE0 << 56) + (key.reverse_bits() >> 8)) else {
-        unreachable!()
-    };
-    uid
+    Uid::from_low_bits(key.reverse_bits() >> TOP_BITS)
 }
 
 /// The first and the last place of a mask's UIDs: a UID lies in the mask exactly where its place
@@ -41,9 +41,10 @@ pub fn key_range(mask: &Mask) -> (u64, u64)
     ensures first { result.0 ≡ mirror mask.now.value }
     ensures last { result.1 ≡ mirror mask.now.value + (2 ^ (56 - mask.now.len) - 1) }
     ensures forward { result.0 ≤ result.1 }
-    ensures inside { (u : ℕ) → lies_in mask.now u ≡ (nat_le result.0 (mirror u) && nat_le (mirror u) result.1) }
+    ensures inside { (u : ℕ) →
+        lies_in mask.now u ≡ (nat_le result.0 (mirror u) && nat_le (mirror u) result.1) }
 {
-    let first = mask.value().reverse_bits() >> 8;
-    let more = (1 << (56 - mask.len())) - 1;
+    let first = mask.value().reverse_bits() >> TOP_BITS;
+    let more = (1 << (UID_BITS - mask.len())) - 1;
     (first, first + more)
 }

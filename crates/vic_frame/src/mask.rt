@@ -1,11 +1,21 @@
 //! Masks: which UIDs a request asks for, by their low bits.
 
-ghost use Rattle.std.specs.Prelude.{◌≡◌, ℕ, ◌^◌, ◌%◌, ◌<◌, ◌≤◌, ◌+◌, ◌*◌, ◌==◌, false, SomeIff, IfSome, IfNone};
+ghost use Rattle.std.specs.Prelude.{◌≡◌, ℕ, ◌^◌, ◌%◌, ◌<◌, ◌≤◌, ◌+◌, ◌*◌, ◌==◌, false};
+ghost use Rattle.std.specs.Prelude.{SomeIff, IfSome, IfNone};
 ghost use Rattle.vic_frame.specs.Uids.{IsUid};
-ghost use Rattle.vic_frame.specs.Masks.{BitMask, IsMask, LiesIn, lies_in, slot_of_sixteen, own_mask, least_uid_in};
+ghost use Rattle.vic_frame.specs.Masks.{BitMask, IsMask, lies_in, slot_of_sixteen, own_mask};
 
-use crate::uid::Uid;
+use crate::uid::{UID_BITS, Uid};
 use std::marker::Model;
+
+/// How many bits a mask fixes at most (profile).
+pub const MAX_MASK_LEN: u8 = 64;
+
+/// How many bits a mask fixes at most where sixteen slots are asked for: four are the slot's number.
+pub const MAX_MASK_LEN_OF_SIXTEEN: u8 = 60;
+
+/// The number of the last of sixteen slots.
+const LAST_SLOT: u8 = 15;
 
 /// The low bits that a UID must have: how many, from 0 to 64, and their value.
 ///
@@ -31,9 +41,10 @@ impl Mask {
     /// The mask of `len` bits with this value; `None` where `len` is above 64, or `value` has a
     /// bit above the lowest `len`.
     pub fn new(len: u8, value: u64) -> Option<Mask>
-        ensures { SomeIff result (IsMask (record { len = len; value = value })) (record { len = len; value = value }) }
+        ensures { SomeIff result (IsMask (record { len = len; value = value }))
+            (record { len = len; value = value }) }
     {
-        if len <= 64 && low_bits(value, len) == value {
+        if len <= MAX_MASK_LEN && low_bits(value, len) == value {
             Some(Mask { len, value })
         } else {
             None
@@ -46,8 +57,8 @@ impl Mask {
         ensures alone { (u : ℕ) → IsUid u → lies_in result u ≡ (u == uid) }
     {
         Mask {
-            len: 56,
-            value: uid.number() % (1 << 56),
+            len: UID_BITS,
+            value: uid.number() % (1 << UID_BITS),
         }
     }
 
@@ -82,9 +93,10 @@ impl Mask {
     ///
     /// `ISO/IEC 15693-3, inventory sequence`.
     pub fn slot(&self, k: u8) -> Option<Mask>
-        ensures { SomeIff result ((self.now.len ≤ 60) × (k ≤ 15)) (slot_of_sixteen self.now k) }
+        ensures { SomeIff result ((self.now.len ≤ MAX_MASK_LEN_OF_SIXTEEN) × (k ≤ 15))
+            (slot_of_sixteen self.now k) }
     {
-        if self.len <= 60 && k <= 15 {
+        if self.len <= MAX_MASK_LEN_OF_SIXTEEN && k <= LAST_SLOT {
             Some(Mask {
                 len: self.len + 4,
                 value: self.value + slot_number(k, self.len),
@@ -92,20 +104,6 @@ impl Mask {
         } else {
             None
         }
-    }
-
-    /// The least UID in it. A mask of more than 56 bits may hold none.
-    pub fn least_uid(&self) -> Uid
-        requires { self.now.len ≤ 56 }
-        ensures value { result ≡ least_uid_in self.now }
-        ensures inside { LiesIn self.now result }
-        ensures least { (u : ℕ) → IsUid u → LiesIn self.now u → result ≤ u }
-        ensures range { IsUid result }
-    {
-        let Some(uid) = Uid::new((0xE0 << 56) + self.value) else {
-            unreachable!()
-        };
-        uid
     }
 }
 
@@ -115,15 +113,15 @@ pub fn without_top_byte(mask: &Mask) -> Option<Mask>
     ensures same { IfSome result (λ m. (u : ℕ) → IsUid u → lies_in m u ≡ lies_in mask.now u) }
     ensures none { IfNone result ((u : ℕ) → IsUid u → lies_in mask.now u ≡ false) }
 {
-    if mask.len <= 56 {
+    if mask.len <= UID_BITS {
         return Some(*mask);
     }
-    let value = mask.value % (1 << 56);
-    let Some(uid) = Uid::new((0xE0 << 56) + value) else {
-        unreachable!()
-    };
-    if mask.matches(uid) {
-        Some(Mask { len: 56, value })
+    let value = mask.value % (1 << UID_BITS);
+    if mask.matches(Uid::from_low_bits(value)) {
+        Some(Mask {
+            len: UID_BITS,
+            value,
+        })
     } else {
         None
     }
@@ -131,10 +129,10 @@ pub fn without_top_byte(mask: &Mask) -> Option<Mask>
 
 /// The low `len` bits of a number.
 fn low_bits(number: u64, len: u8) -> u64
-    requires { len ≤ 64 }
+    requires { len ≤ MAX_MASK_LEN }
     ensures { result ≡ number % 2 ^ len }
 {
-    if len < 64 {
+    if len < MAX_MASK_LEN {
         number % (1 << len)
     } else {
         number
@@ -143,8 +141,8 @@ fn low_bits(number: u64, len: u8) -> u64
 
 /// The number of a slot, standing above `len` bits.
 fn slot_number(k: u8, len: u8) -> u64
-    requires slot { k ≤ 15 }
-    requires short { len ≤ 60 }
+    requires slot { k ≤ LAST_SLOT }
+    requires short { len ≤ MAX_MASK_LEN_OF_SIXTEEN }
     ensures value { result ≡ k * 2 ^ len }
     ensures fits { result + 2 ^ len ≤ 2 ^ (len + 4) }
     ensures small { 2 ^ (len + 4) ≤ 2 ^ 64 }

@@ -4,7 +4,7 @@ ghost use Rattle.std.specs.Prelude.{◌≡◌, ◌<◌, ◌↔◌, IsTrue, SomeI
 ghost use Rattle.vic_frame.specs.Requests.{IsValid};
 ghost use Rattle.vic_frame.specs.Slots.{slot_count, mask_in, slot_mask};
 
-use crate::mask::Mask;
+use crate::mask::{MAX_MASK_LEN_OF_SIXTEEN, Mask};
 
 /// A request of a reader. `link`, from 0 to 3, is the sub-carrier flag plus twice the data rate
 /// flag; it does not change who answers.
@@ -33,7 +33,7 @@ impl Request {
                 link,
                 sixteen,
                 mask,
-            } => link <= 3 && (!sixteen || mask.len() <= 60),
+            } => link <= 3 && (!sixteen || mask.len() <= MAX_MASK_LEN_OF_SIXTEEN),
             Request::StayQuiet { link, .. } => link <= 3,
         }
     }
@@ -52,7 +52,8 @@ impl Request {
     ///
     /// `ISO/IEC 15693-3, inventory sequence`.
     pub fn slot_mask(&self, k: u8) -> Option<Mask>
-        ensures mask { SomeIff result (IsValid self.now × (k < slot_count self.now)) (mask_in self.now k) }
+        ensures mask { SomeIff result (IsValid self.now × (k < slot_count self.now))
+            (mask_in self.now k) }
         ensures valid { IsValid self.now → result ≡ slot_mask self.now k }
     {
         if !self.is_valid() || k >= self.slots() {

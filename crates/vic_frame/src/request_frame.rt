@@ -1,17 +1,34 @@
 //! Requests as frames.
 
 ghost use Rattle.std.specs.Prelude.{◌≡◌, ◌≤◌, Ok, Err, IfOk, IfErr, Some, length};
-ghost use Rattle.vic_frame.specs.Requests.{IsInRange, IsValid, SpellsRequest, request_body, request_spelling};
-ghost use Rattle.vic_frame.specs.Faults.{first_fault, head_faults, inventory_faults, stay_quiet_faults, request_faults};
+ghost use Rattle.vic_frame.specs.Requests.{IsInRange, IsValid, SpellsRequest};
+ghost use Rattle.vic_frame.specs.Requests.{byte_count, request_body, request_spelling};
+ghost use Rattle.vic_frame.specs.Faults.{first_fault, head_faults};
+ghost use Rattle.vic_frame.specs.Faults.{inventory_faults, stay_quiet_faults, request_faults};
 ghost use Rattle.vic_frame.specs.Reading.{fault_or, inventory_in, stay_quiet_in, request_reading};
 ghost use Rattle.arrayvec.specs.ArrayVec.{array_vec_len};
 
 use crate::bytes::{bit, number_of, push_number};
-use crate::checksum::{crc, crc_right};
+use crate::checksum::{CRC_LEN, crc, crc_right};
 use crate::fault::FrameFault;
-use crate::mask::Mask;
+use crate::mask::{MAX_MASK_LEN, MAX_MASK_LEN_OF_SIXTEEN, Mask};
 use crate::request::Request;
 use arrayvec::ArrayVec;
+
+/// How many bytes a request has at most: an Inventory request with a mask of 64 bits.
+pub const MAX_REQUEST_LEN: usize = 13;
+
+/// How many bytes any request has at least: flags, command and CRC.
+const MIN_REQUEST_LEN: usize = 4;
+
+/// How many bytes a Stay Quiet request has.
+const STAY_QUIET_LEN: usize = 12;
+
+/// The command of an Inventory request.
+const INVENTORY: u8 = 0x01;
+
+/// The command of a Stay Quiet request.
+const STAY_QUIET: u8 = 0x02;
 
 /// The request that the bytes spell, or the first fault of a request that applies.
 ///
@@ -32,7 +49,7 @@ fn read_fields(bytes: &[u8]) -> Result<Request, FrameFault>
     if let Some(fault) = head_fault(bytes) {
         return Err(fault);
     }
-    if bytes[1] == 1 {
+    if bytes[1] == INVENTORY {
         read_inventory(bytes)
     } else {
         read_stay_quiet(bytes)
@@ -43,7 +60,7 @@ fn read_fields(bytes: &[u8]) -> Result<Request, FrameFault>
 fn head_fault(bytes: &[u8]) -> Option<FrameFault>
     ensures { result ≡ first_fault (head_faults bytes.now) }
 {
-    if bytes.len() < 4 {
+    if bytes.len() < MIN_REQUEST_LEN {
         return Some(FrameFault::Short);
     }
     if !crc_right(bytes) {
@@ -60,10 +77,10 @@ fn head_fault(bytes: &[u8]) -> Option<FrameFault>
     if bit(flags, 7) {
         return Some(FrameFault::OptionFlag);
     }
-    if command != 1 && command != 2 {
+    if command != INVENTORY && command != STAY_QUIET {
         return Some(FrameFault::OtherCommand);
     }
-    if bit(flags, 3) != (command == 1) {
+    if bit(flags, 3) != (command == INVENTORY) {
         return Some(FrameFault::InventoryFlag);
     }
     None
@@ -71,26 +88,31 @@ fn head_fault(bytes: &[u8]) -> Option<FrameFault>
 
 /// The fields of an Inventory request, or the first fault of its own that applies.
 fn read_inventory(bytes: &[u8]) -> Result<Request, FrameFault>
-    requires { 4 ≤ length bytes.now }
-    ensures { result ≡ fault_or (first_fault (inventory_faults bytes.now)) (inventory_in bytes.now) }
+    requires { MIN_REQUEST_LEN ≤ length bytes.now }
+    ensures { result
+        ≡ fault_or (first_fault (inventory_faults bytes.now)) (inventory_in bytes.now) }
 {
     let flags = bytes[0];
     if bit(flags, 5) {
         return Err(FrameFault::Afi);
     }
-    if bytes.len() == 4 {
+    if bytes.len() == MIN_REQUEST_LEN {
         return Err(FrameFault::Length);
     }
     let one_slot = bit(flags, 6);
     let len = bytes[2];
-    let longest = if one_slot { 64 } else { 60 };
+    let longest = if one_slot {
+        MAX_MASK_LEN
+    } else {
+        MAX_MASK_LEN_OF_SIXTEEN
+    };
     if len > longest {
         return Err(FrameFault::MaskTooLong);
     }
-    if bytes.len() != usize::from((len + 7) / 8) + 5 {
+    if bytes.len() != 3 + byte_count(len) + CRC_LEN {
         return Err(FrameFault::Length);
     }
-    let value = number_of(&bytes[3..bytes.len() - 2]);
+    let value = number_of(&bytes[3..bytes.len() - CRC_LEN]);
     let Some(mask) = Mask::new(len, value) else {
         return Err(FrameFault::MaskPadding);
     };
@@ -103,8 +125,9 @@ fn read_inventory(bytes: &[u8]) -> Result<Request, FrameFault>
 
 /// The fields of a Stay Quiet request, or the first fault of its own that applies.
 fn read_stay_quiet(bytes: &[u8]) -> Result<Request, FrameFault>
-    requires { 4 ≤ length bytes.now }
-    ensures { result ≡ fault_or (first_fault (stay_quiet_faults bytes.now)) (stay_quiet_in bytes.now) }
+    requires { MIN_REQUEST_LEN ≤ length bytes.now }
+    ensures { result
+        ≡ fault_or (first_fault (stay_quiet_faults bytes.now)) (stay_quiet_in bytes.now) }
 {
     let flags = bytes[0];
     if bit(flags, 5) {
@@ -113,7 +136,7 @@ fn read_stay_quiet(bytes: &[u8]) -> Result<Request, FrameFault>
     if !bit(flags, 6) {
         return Err(FrameFault::NotAddressed);
     }
-    if bytes.len() != 12 {
+    if bytes.len() != STAY_QUIET_LEN {
         return Err(FrameFault::Length);
     }
     Ok(Request::StayQuiet {
@@ -125,19 +148,19 @@ fn read_stay_quiet(bytes: &[u8]) -> Result<Request, FrameFault>
 /// The one spelling of a valid request: 5 to 13 bytes for Inventory, 12 for Stay Quiet.
 ///
 /// `ISO/IEC 15693-3, Inventory request` and `.. Stay Quiet`.
-pub fn write_request(request: &Request) -> ArrayVec<u8, 13>
+pub fn write_request(request: &Request) -> ArrayVec<u8, MAX_REQUEST_LEN>
     requires { IsValid request.now }
     ensures spells { SpellsRequest result.items request.now }
     ensures items { result.items ≡ request_spelling request.now }
 {
     let mut out = body(request);
     let code = crc(out.as_slice());
-    push_number(&mut out, 2, u64::from(code));
+    push_number(&mut out, CRC_LEN, u64::from(code));
     out
 }
 
 /// The bytes before the CRC.
-fn body(request: &Request) -> ArrayVec<u8, 13>
+fn body(request: &Request) -> ArrayVec<u8, MAX_REQUEST_LEN>
     requires { IsValid request.now }
     ensures items { result.items ≡ request_body request.now }
     ensures len { array_vec_len result ≤ 11 }
@@ -153,15 +176,23 @@ fn body(request: &Request) -> ArrayVec<u8, 13>
             let flags: u8 = if sixteen { 0x04 } else { 0x24 };
             let len = mask.len();
             out.push(flags + link);
-            out.push(1);
+            out.push(INVENTORY);
             out.push(len);
-            push_number(&mut out, usize::from((len + 7) / 8), mask.value());
+            push_number(&mut out, byte_count(len), mask.value());
         }
         Request::StayQuiet { link, uid } => {
             out.push(0x20 + link);
-            out.push(2);
+            out.push(STAY_QUIET);
             push_number(&mut out, 8, uid);
         }
     }
     out
+}
+
+/// How many bytes so many bits of a mask take.
+fn byte_count(bits: u8) -> usize
+    requires { bits ≤ MAX_MASK_LEN }
+    ensures { result ≡ byte_count bits }
+{
+    usize::from((bits + 7) / 8)
 }

@@ -30,7 +30,8 @@ impl Model for Response {
 impl Response {
     /// The reply with these fields; `None` where Error_flag, the lowest bit of `flags`, is 1.
     pub fn new(flags: u8, dsfid: u8, uid: Uid) -> Option<Response>
-        ensures { SomeIff result (flags % 2 ≡ 0) (record { flags = flags; dsfid = dsfid; uid = uid }) }
+        ensures { SomeIff result (flags % 2 ≡ 0)
+            (record { flags = flags; dsfid = dsfid; uid = uid }) }
     {
         if flags % 2 == 0 {
             Some(Response { flags, dsfid, uid })

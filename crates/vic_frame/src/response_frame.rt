@@ -6,11 +6,14 @@ ghost use Rattle.vic_frame.specs.Faults.{first_fault, reply_faults};
 ghost use Rattle.vic_frame.specs.Reading.{reply_reading};
 
 use crate::bytes::{bit, number_of, push_number};
-use crate::checksum::{crc, crc_right};
+use crate::checksum::{CRC_LEN, crc, crc_right};
 use crate::fault::FrameFault;
 use crate::response::Response;
 use crate::uid::Uid;
 use arrayvec::ArrayVec;
+
+/// How many bytes a reply has.
+pub const RESPONSE_LEN: usize = 12;
 
 /// The reply that the bytes spell, or the first fault of a reply that applies.
 ///
@@ -28,7 +31,7 @@ pub fn read_response(bytes: &[u8]) -> Result<Response, FrameFault>
 fn read_fields(bytes: &[u8]) -> Result<Response, FrameFault>
     ensures { result ≡ reply_reading bytes.now }
 {
-    if bytes.len() != 12 {
+    if bytes.len() != RESPONSE_LEN {
         return Err(FrameFault::Length);
     }
     if !crc_right(bytes) {
@@ -51,17 +54,17 @@ fn read_fields(bytes: &[u8]) -> Result<Response, FrameFault>
 /// The one spelling of a reply.
 ///
 /// `ISO/IEC 15693-3, Inventory response`.
-pub fn write_response(response: &Response) -> [u8; 12]
+pub fn write_response(response: &Response) -> [u8; RESPONSE_LEN]
     ensures spells { SpellsReply result response.now }
     ensures items { result ≡ reply_spelling response.now }
 {
-    let mut out: ArrayVec<u8, 13> = ArrayVec::new();
+    let mut out: ArrayVec<u8, RESPONSE_LEN> = ArrayVec::new();
     out.push(response.flags());
     out.push(response.dsfid());
     push_number(&mut out, 8, response.uid().number());
     let code = crc(out.as_slice());
-    push_number(&mut out, 2, u64::from(code));
-    let mut bytes = [0; 12];
+    push_number(&mut out, CRC_LEN, u64::from(code));
+    let mut bytes = [0; RESPONSE_LEN];
     bytes.copy_from_slice(out.as_slice());
     bytes
 }

@@ -1,9 +1,15 @@
 //! The UIDs of tags.
 
-ghost use Rattle.std.specs.Prelude.{◌≡◌, ℕ, ◌*◌, ◌^◌, SomeIff};
-ghost use Rattle.vic_frame.specs.Uids.{IsUid};
+ghost use Rattle.std.specs.Prelude.{◌≡◌, ℕ, ◌*◌, ◌^◌, ◌<◌, SomeIff};
+ghost use Rattle.vic_frame.specs.Uids.{IsUid, uid_from_low_bits};
 
 use std::marker::Model;
+
+/// The most significant byte of every UID.
+const TOP_BYTE: u64 = 0xE0;
+
+/// How many bits stand below the top byte, and tell UIDs apart.
+pub const UID_BITS: u8 = 56;
 
 /// A tag's UID: a number of 64 bits whose most significant byte is E0.
 ///
@@ -29,7 +35,7 @@ impl Default for Uid {
     ghost is_default = { λ u. u ≡ 0xE0 * 2 ^ 56 };
 
     fn default() -> Self {
-        Uid { number: 0xE0 << 56 }
+        Uid::from_low_bits(0)
     }
 }
 
@@ -38,10 +44,21 @@ impl Uid {
     pub fn new(number: u64) -> Option<Uid>
         ensures { SomeIff result (IsUid number) number }
     {
-        if number >> 56 == 0xE0 {
+        if number >> UID_BITS == TOP_BYTE {
             Some(Uid { number })
         } else {
             None
+        }
+    }
+
+    /// The UID with these bits, below `2^56`, under its top byte.
+    pub fn from_low_bits(bits: u64) -> Uid
+        requires { bits < 2 ^ 56 }
+        ensures value { result ≡ uid_from_low_bits bits }
+        ensures range { IsUid result }
+    {
+        Uid {
+            number: (TOP_BYTE << UID_BITS) + bits,
         }
     }
 

@@ -10,7 +10,8 @@ use Rattle.vic_frame.specs.Uids.{has}
 use Rattle.vic_log.specs.Order.{entries}
 use Rattle.vic_log.specs.Lines.{onto, cut, ends_with, all_but_last, without_last, content, lines_of_text}
 use Rattle.vic_log.specs.LineReading.{line_reading}
-use Rattle.vic_log.specs.Text.{is_header, line_fault, reading_fault, log_upto, fault_on, IsFirstFault}
+use Rattle.vic_log.specs.declared.entry.Version.{Version}
+use Rattle.vic_log.specs.Text.{is_header, named_version, version_of, line_fault, reading_fault, logged, log_upto, fault_on, IsFirstFault}
 use Rattle.vic_log.specs.Writing.{joined}
 use Rattle.vic_log.specs.Early.{IsLong, IsJudged, IsEarlyFault}
 use Rattle.vic_log.proofs.Written.{not_last, take_front}
@@ -20,19 +21,26 @@ use Rattle.vic_log.proofs.Written.{not_last, take_front}
 abbrev pub AgreeBelow : ℕ → List (List ℕ) → List (List ℕ) → Type 0
 AgreeBelow n ls ms = (i : ℕ) → i < n → slice_get ls i ≡ slice_get ms i
 
+pub version_agrees : (n : ℕ) (ls ms : List (List ℕ)) → AgreeBelow n ls ms → 0 < n → version_of ls ≡ version_of ms
+version_agrees n ls ms a some = ap named_version (a 0 some)
+
 pub log_agrees : (n : ℕ) (ls ms : List (List ℕ)) → AgreeBelow n ls ms → log_upto ls n ≡ log_upto ms n
 log_agrees zero ls ms a = refl
 log_agrees (suc n) ls ms a =
     let h : slice_get ls n ≡ slice_get ms n = a n (omega arith) in
+    let v : version_of ls ≡ version_of ms = version_agrees (suc n) ls ms a (omega arith) in
     let k : log_upto ls n ≡ log_upto ms n = log_agrees n ls ms (λ i below. a i (omega arith)) in
-    rw (h, k)
+    ap (λ log. log ++ logged (version_of ls) (suc n) (slice_get ls n)) k
+    ∙ (ap (λ w. log_upto ms n ++ logged w (suc n) (slice_get ls n)) v ∙ ap (λ o. log_upto ms n ++ logged (version_of ms) (suc n) o) h)
 
 pub fault_agrees : (n : ℕ) (ls ms : List (List ℕ)) → AgreeBelow n ls ms → fault_on ls n ≡ fault_on ms n
 fault_agrees zero ls ms a = refl
 fault_agrees (suc n) ls ms a =
     let h : slice_get ls n ≡ slice_get ms n = a n (omega arith) in
+    let v : version_of ls ≡ version_of ms = version_agrees (suc n) ls ms a (omega arith) in
     let k : log_upto ls n ≡ log_upto ms n = log_agrees n ls ms (λ i below. a i (omega arith)) in
-    rw (h, k)
+    ap (λ log. line_fault (version_of ls) (entries log) (suc n) (slice_get ls n)) k
+    ∙ (ap (λ w. line_fault w (entries (log_upto ms n)) (suc n) (slice_get ls n)) v ∙ ap (line_fault (version_of ms) (entries (log_upto ms n)) (suc n)) h)
 
 pub first_agrees : (n : ℕ) (ls ms : List (List ℕ)) (f : LineFault) → AgreeBelow n ls ms → IsFirstFault ls n f → IsFirstFault ms n f
 first_agrees n ls ms f a r = record {
@@ -182,21 +190,22 @@ still_long part (x ∷ y ∷ rest) h l =
     let size : length (part ++ x ∷ y ∷ rest) ≡ length part + length (x ∷ y ∷ rest) = length-append part (x ∷ y ∷ rest) in
     ⊎_elim (λ (a : 130 ≤ length part). omega arith) (λ (b : (129 ≤ length part) × (ends_with 13 part ≡ false)). let j = b.0 in omega arith) l
 
-pub too_many : (es : List Entry) (n : ℕ) (line : List ℕ) → 1000000 < n → line_fault es n (Some line) ≡ Some TooManyLines
-too_many es n line h = taken (nat_lt 1000000 n) _ _ (lt-ltb 1000000 n h)
+pub too_many : (v : Version) (es : List Entry) (n : ℕ) (line : List ℕ) → 1000000 < n → line_fault v es n (Some line) ≡ Some TooManyLines
+too_many v es n line h = taken (nat_lt 1000000 n) _ _ (lt-ltb 1000000 n h)
 
-pub too_long : (es : List Entry) (n : ℕ) (line : List ℕ) → 128 < length line → line_fault es n (Some line) ≡ (if nat_lt 1000000 n then Some TooManyLines else Some LineTooLong)
-too_long es n line h =
-    let rest = if nat_eq n 1 then (if is_header line then None else Some Header) else reading_fault es (line_reading line) in
+pub too_long : (v : Version) (es : List Entry) (n : ℕ) (line : List ℕ) → 128 < length line → line_fault v es n (Some line) ≡ (if nat_lt 1000000 n then Some TooManyLines else Some LineTooLong)
+too_long v es n line h =
+    let rest = if nat_eq n 1 then (if is_header line then None else Some Header) else reading_fault es (line_reading v line) in
     ap (λ o. if nat_lt 1000000 n then Some TooManyLines else o) (taken (nat_lt 128 (length line)) (Some LineTooLong) rest (lt-ltb 128 (length line) h))
 
-same_fault : (es : List Entry) (n : ℕ) (part rest : List ℕ) → ends_with 10 part ≡ false → IsJudged part ⊎ (n ≡ 1000001) → line_fault es n (Some (content part)) ≡ line_fault es n (Some (content (part ++ rest)))
-same_fault es n part rest h (inr last) = too_many es n (content part) (omega arith) ∙ sym (too_many es n (content (part ++ rest)) (omega arith))
-same_fault es n part rest h (inl (inl lf)) = cc
-same_fault es n part rest h (inl (inr l)) =
+-- a judged part has its fault in either version, and whatever follows
+same_fault : (v w : Version) (es : List Entry) (n : ℕ) (part rest : List ℕ) → ends_with 10 part ≡ false → IsJudged part ⊎ (n ≡ 1000001) → line_fault v es n (Some (content part)) ≡ line_fault w es n (Some (content (part ++ rest)))
+same_fault v w es n part rest h (inr last) = too_many v es n (content part) (omega arith) ∙ sym (too_many w es n (content (part ++ rest)) (omega arith))
+same_fault v w es n part rest h (inl (inl lf)) = cc
+same_fault v w es n part rest h (inl (inr l)) =
     let a = still_long part [] h l in
     let long : 128 < length (content part) = subst (λ p. 128 < length (content p)) (append-nil part) a in
-    too_long es n (content part) long ∙ sym (too_long es n (content (part ++ rest)) (still_long part rest h l))
+    too_long v es n (content part) long ∙ sym (too_long w es n (content (part ++ rest)) (still_long part rest h l))
 
 -- ---- places in a list with more behind it
 
@@ -224,10 +233,10 @@ grown ps tail rest others n f h e j r =
     let at_m : slice_get ms k ≡ Some (content (tail ++ rest)) = slice_get-map content (ps ++ (tail ++ rest) ∷ others) k ∙ ap (option_map content) (last_at ps (tail ++ rest) others) in
     let j_k : IsJudged tail ⊎ (suc k ≡ 1000001) = subst (λ (m : ℕ). IsJudged tail ⊎ (m ≡ 1000001)) e j in
     let same : fault_on ls (suc k) ≡ fault_on ms (suc k) =
-    ap (line_fault (entries (log_upto ls k)) (suc k)) at_l
-    ∙ (same_fault (entries (log_upto ls k)) (suc k) tail rest h j_k
-    ∙ (ap (λ log. line_fault (entries log) (suc k) (Some (content (tail ++ rest)))) (log_agrees k ls ms agree)
-    ∙ ap (line_fault (entries (log_upto ms k)) (suc k)) (sym at_m))) in
+    ap (line_fault (version_of ls) (entries (log_upto ls k)) (suc k)) at_l
+    ∙ (same_fault (version_of ls) (version_of ms) (entries (log_upto ls k)) (suc k) tail rest h j_k
+    ∙ (ap (λ log. line_fault (version_of ms) (entries log) (suc k) (Some (content (tail ++ rest)))) (log_agrees k ls ms agree)
+    ∙ ap (line_fault (version_of ms) (entries (log_upto ms k)) (suc k)) (sym at_m))) in
     record {
       here = ap (fault_on ms) e ∙ (sym same ∙ (ap (fault_on ls) (sym e) ∙ r.here));
       first = λ m lt. sym (fault_agrees m ls ms (λ i below. agree i (omega arith))) ∙ r.first m lt;

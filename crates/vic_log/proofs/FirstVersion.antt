@@ -1,12 +1,15 @@
 -- On entries of version 1 both versions say the same.
-use Rattle.std.proofs.Common.{◌≡◌, ℕ, zero, suc, List, false, not, ◌&&◌, ◌||◌, Option, Some, None, refl, ap, ◌∙◌}
+use Rattle.std.proofs.Common.{◌≡◌, ℕ, zero, suc, List, false, not, ◌&&◌, ◌||◌, Option, Some, None, refl, sym, ap, subst, ◌∙◌}
+use Rattle.std.specs.List.{filter}
 use Rattle.std.specs.Prelude.{◌↔◌, slice_get, if◌then◌else◌}
 use Rattle.vic_log.specs.declared.entry.Entry.{Entry}
 use Rattle.vic_log.specs.declared.entry.Entry.TheVariants.{Sent, Silent, Collision, Heard, Listed, Garbled, FieldCycle}
-use Rattle.vic_log.specs.Rounds.{ends_round, opener}
+use Rattle.vic_log.specs.Order.{IsInOrder}
+use Rattle.vic_log.specs.Rounds.{is_slot, ends_round, opener, mask_since, lies_in_some}
 use Rattle.vic_log.specs.Quiet.{silences, wakes, is_quiet}
-use Rattle.vic_log.specs.Populations.{Outcome, Fits}
-use Rattle.vic_log.specs.FirstVersion.{IsOfFirstVersion, AreOfFirstVersion, ends_first_round, first_opener, is_first_quiet, FitsFirst}
+use Rattle.vic_log.specs.Populations.{Outcome, Fits, answers_at, outcome_of, CouldHaveGiven}
+use Rattle.vic_log.specs.FirstVersion.{IsOfFirstVersion, AreOfFirstVersion, ends_first_round, first_opener, is_first_quiet, FitsFirst, answers_first_at, CouldHaveGivenFirst, is_first_slot, IsInFirstOrder}
+use Rattle.std.proofs.lemmas.List.Elements.{filter_agree}
 
 ends_same : (o : Option Entry) → ((e : Entry) → o ≡ Some e → IsOfFirstVersion e) → ends_round o ≡ ends_first_round o
 ends_same None h = refl
@@ -40,3 +43,41 @@ fits-first (Heard r) h o = ((λ k. k), (λ k. k))
 fits-first (Listed u) h o = ((λ k. k), (λ k. k))
 fits-first Garbled h o = absurd h
 fits-first FieldCycle h o = absurd h
+
+answers-first : (es : List Entry) → AreOfFirstVersion es → (i u : ℕ) → answers_at es i u ≡ answers_first_at es i u
+answers-first es h i u =
+    ap (λ o. lies_in_some (mask_since es i o) u && not (is_quiet es i u)) (opener-first es h i)
+    ∙ ap (λ b. lies_in_some (mask_since es i (first_opener es i)) u && not b) (quiet-first es h i u)
+
+outcome-first : (es : List Entry) → AreOfFirstVersion es → (i : ℕ) (p : List ℕ) → outcome_of (filter (answers_at es i) p) ≡ outcome_of (filter (answers_first_at es i) p)
+outcome-first es h i p = ap outcome_of (filter_agree (answers_at es i) (answers_first_at es i) (answers-first es h i) p)
+
+pub given-first : (es : List Entry) → AreOfFirstVersion es → (p : List ℕ) → CouldHaveGiven p es ↔ CouldHaveGivenFirst p es
+given-first es h p = (
+  (λ g i e k. (fits-first e (h i e k) _).0 (subst (Fits e) (outcome-first es h i p) (g i e k))),
+  (λ g i e k. subst (Fits e) (sym (outcome-first es h i p)) ((fits-first e (h i e k) _).1 (g i e k))),
+)
+
+slot-first : (e : Entry) → IsOfFirstVersion e → is_slot e ≡ is_first_slot e
+slot-first (Sent q) h = refl
+slot-first Silent h = refl
+slot-first Collision h = refl
+slot-first (Heard r) h = refl
+slot-first (Listed u) h = refl
+slot-first Garbled h = absurd h
+slot-first FieldCycle h = absurd h
+
+pub order-first : (es : List Entry) → AreOfFirstVersion es → IsInOrder es ↔ IsInFirstOrder es
+order-first es h = (
+  (λ o. record {
+    rounds = λ i e k s. let r = o.rounds i e k (slot-first e (h i e k) ∙ s) in (r.0, r.1, sym (opener-first es h i) ∙ r.2, r.3, r.4);
+    requests_first = o.requests_first;
+    once = o.once;
+  }),
+  (λ o. record {
+    rounds = λ i e k s. let r = o.rounds i e k (sym (slot-first e (h i e k)) ∙ s) in (r.0, r.1, opener-first es h i ∙ r.2, r.3, r.4);
+    requests_first = o.requests_first;
+    cycles_first = λ i j u lt a b. h j FieldCycle b;
+    once = o.once;
+  }),
+)

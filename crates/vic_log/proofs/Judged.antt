@@ -1,12 +1,10 @@
 -- A text that is read in pieces: one byte more, a fault, and the end.
 use Rattle.std.proofs.Common.{◌≡◌, ◌⊎◌, inl, inr, ℕ, zero, suc, ◌+◌, ◌<◌, ◌≤◌, Bool, true, false, Some, None, List, [], ◌∷◌, ◌++◌, length, length-append, append_assoc, append-nil, refl, sym, ap, subst, ◌∙◌, arith, ⊎_elim}
-use Rattle.std.specs.Prelude.{◌≢◌, slice_get, slice_index, nat_eq, if◌then◌else◌, ◌==◌, ◌||◌, ◌-◌, map, take, drop, nat_lt}
+use Rattle.std.specs.Prelude.{◌≢◌, slice_get, slice_index, nat_eq, if◌then◌else◌, ◌==◌, ◌||◌, ◌-◌, map, take, drop}
 use Rattle.std.proofs.lemmas.Bool.{cases_lt, lt-ltb, le-ltb}
 use Rattle.std.proofs.lemmas.List.{map-append, length-map, drop_all}
 use Rattle.std.proofs.Math.Seq.{drop-append_seam}
 use Rattle.vic_frame.specs.Uids.{has}
-use Rattle.vic_log.specs.declared.entry.Entry.{Entry}
-use Rattle.vic_log.specs.declared.entry.LogLine.{LogLine}
 use Rattle.vic_log.specs.declared.fault.LineFault.{LineFault}
 use Rattle.vic_log.specs.declared.fault.LineFault.TheVariants.{TooManyLines, LineTooLong, Header}
 use Rattle.vic_log.specs.declared.fault.LogFault.{LogFault}
@@ -14,11 +12,11 @@ use Rattle.vic_log.specs.declared.fault.LogFault.TheVariants.{Line, Read, Memory
 use Rattle.vic_log.specs.Begun.{HasJudged, IsShort}
 use Rattle.vic_log.specs.Early.{IsLong, IsJudged, IsEarlyFault, IsEarly}
 use Rattle.vic_log.specs.Lines.{lf, cr, cut, onto, ends_with, all_but_last, without_last, content, lines_of_text}
-use Rattle.vic_log.specs.Log.{last_from}
+use Rattle.vic_log.specs.Log.{LogValue, last_from}
 use Rattle.vic_log.specs.Order.{entries}
-use Rattle.vic_log.specs.Text.{line_fault, logged, log_upto, fault_on, IsFirstFault, IsLogOf, Refuses, RefusesLine}
-use Rattle.vic_log.proofs.Early.{AgreeBelow, log_agrees, fault_agrees, still_long, too_many, too_long, front_at, last_at, open_part, content_open, Begins, begins, onto_begins, without_long}
-use Rattle.vic_log.proofs.Passing.{HasRead, HasRead-step, HasRead-fault, HasRead-empty, HasRead-end, HasRead-above}
+use Rattle.vic_log.specs.Text.{version_of, next_fault, after_line, log_upto, fault_on, IsFirstFault, IsLogOf, Refuses, RefusesLine}
+use Rattle.vic_log.proofs.Early.{AgreeBelow, version_agrees, log_agrees, fault_agrees, still_long, too_many, too_long, front_at, last_at, open_part, content_open, Begins, begins, onto_begins}
+use Rattle.vic_log.proofs.Passing.{HasRead, HasRead-step, HasRead-fault, HasRead-empty, HasRead-end, HasRead-above, HasRead-none}
 use Rattle.vic_log.proofs.Written.{or_parts, cut-line, take_front, index_last, and_true, not_last}
 
 -- ---- lines
@@ -52,17 +50,18 @@ no_lf_push (x ∷ line) b h k =
 -- ---- a line begun, however long
 
 -- the text is so many lines without a fault, which gave these log lines, and bytes without LF
-pub record HasCut (text : List ℕ) (log : List LogLine) (number : ℕ) (line : List ℕ) : Type 0 where
+pub record HasCut (text : List ℕ) (log : LogValue) (number : ℕ) (line : List ℕ) : Type 0 where
   pub parts : List (List ℕ)
   pub cuts : (more : List ℕ) → cut (text ++ more) ≡ parts ++ cut (line ++ more)
   pub count : length parts ≡ number
   pub clean : (m : ℕ) → m ≤ number → fault_on (map content parts) m ≡ None
-  pub log_is : log ≡ log_upto (map content parts) number
+  pub log_is : log.lines ≡ log_upto (map content parts) number
+  pub version : 0 < number → log.version ≡ version_of (map content parts)
   pub limit : number ≤ 1000000
   pub no_lf : has line lf ≡ false
 
-abbrev pub cut_of : (text line : List ℕ) (log : List LogLine) (n : ℕ) → HasJudged text log n line → HasCut text log n line
-cut_of text line log n j = record { parts = j.parts; cuts = j.cuts; count = j.count; clean = j.clean; log_is = j.log_is; limit = j.limit; no_lf = j.no_lf }
+abbrev pub cut_of : (text line : List ℕ) (log : LogValue) (n : ℕ) → HasJudged text log n line → HasCut text log n line
+cut_of text line log n j = record { parts = j.parts; cuts = j.cuts; count = j.count; clean = j.clean; log_is = j.log_is; version = j.version; limit = j.limit; no_lf = j.no_lf }
 
 no_lf_more : (line more : List ℕ) → has line lf ≡ false → has more lf ≡ false → has (line ++ more) lf ≡ false
 no_lf_more [] more h k = k
@@ -70,25 +69,27 @@ no_lf_more (x ∷ line) more h k =
     let p = or_parts (nat_eq lf x) (has line lf) h in neither (nat_eq lf x) (has (line ++ more) lf) p.0 (no_lf_more line more p.1 k)
 
 -- more bytes of the line begun
-pub HasCut-more : (text line bytes : List ℕ) (log : List LogLine) (n : ℕ) → HasCut text log n line → has bytes lf ≡ false → HasCut (text ++ bytes) log n (line ++ bytes)
+pub HasCut-more : (text line bytes : List ℕ) (log : LogValue) (n : ℕ) → HasCut text log n line → has bytes lf ≡ false → HasCut (text ++ bytes) log n (line ++ bytes)
 HasCut-more text line bytes log n j lacks = record {
   parts = j.parts;
   cuts = λ more. ap cut (append_assoc text bytes more) ∙ (j.cuts (bytes ++ more) ∙ ap (λ xs. j.parts ++ cut xs) (sym (append_assoc line bytes more)));
   count = j.count;
   clean = j.clean;
   log_is = j.log_is;
+  version = j.version;
   limit = j.limit;
   no_lf = no_lf_more line bytes j.no_lf lacks;
 }
 
 -- a line begun that isn't too long yet
-pub HasJudged-short : (text line : List ℕ) (log : List LogLine) (n : ℕ) → HasCut text log n line → n ≢ 1000000 → IsShort line → HasJudged text log n line
+pub HasJudged-short : (text line : List ℕ) (log : LogValue) (n : ℕ) → HasCut text log n line → n ≢ 1000000 → IsShort line → HasJudged text log n line
 HasJudged-short text line log n j few short = record {
   parts = j.parts;
   cuts = j.cuts;
   count = j.count;
   clean = j.clean;
   log_is = j.log_is;
+  version = j.version;
   limit = j.limit;
   no_lf = j.no_lf;
   short = short;
@@ -98,7 +99,7 @@ HasJudged-short text line log n j few short = record {
 -- ---- the lines judged, as lines that were read
 
 -- these lines were read, and this one is next
-next_line : (text line : List ℕ) (log : List LogLine) (n : ℕ) → (j : HasCut text log n line) → (x : List ℕ) (others : List (List ℕ)) → HasRead (map content j.parts ++ x ∷ others) (x ∷ others) log n
+next_line : (text line : List ℕ) (log : LogValue) (n : ℕ) → (j : HasCut text log n line) → (x : List ℕ) (others : List (List ℕ)) → HasRead (map content j.parts ++ x ∷ others) (x ∷ others) log n
 next_line text line log n j x others =
     let ps = map content j.parts in
     let long : length ps ≡ n = length-map j.parts content ∙ j.count in
@@ -107,19 +108,21 @@ next_line text line log n j x others =
       rest_is = ap (λ k. drop k (ps ++ x ∷ others)) (sym long) ∙ drop-append_seam ps (x ∷ others);
       count = let size = length-append ps (x ∷ others) in omega arith;
       log_is = j.log_is ∙ log_agrees n ps (ps ++ x ∷ others) agree;
+      version = λ some. j.version some ∙ version_agrees n ps (ps ++ x ∷ others) agree some;
       clean = λ m le. sym (fault_agrees m ps (ps ++ x ∷ others) (λ i below. agree i (omega arith))) ∙ j.clean m le;
       limit = j.limit;
     }
 
 -- ---- one byte more
 
-pub HasJudged-start : HasJudged [] [] 0 []
-HasJudged-start = record {
+pub HasJudged-start : (log : LogValue) → log.lines ≡ [] → HasJudged [] log 0 []
+HasJudged-start log empty = record {
   parts = [];
   cuts = λ more. refl;
   count = refl;
   clean = λ m le. let none : m ≡ 0 = omega arith in ap (fault_on []) none;
-  log_is = refl;
+  log_is = empty;
+  version = λ some. absurd (omega arith);
   limit = omega arith;
   no_lf = refl;
   short = inl (omega arith);
@@ -127,8 +130,8 @@ HasJudged-start = record {
 }
 
 -- the LF of a line without a fault
-pub HasJudged-end : (text line : List ℕ) (log : List LogLine) (n : ℕ) → HasCut text log n line → line_fault (entries log) (suc n) (Some (without_last cr line)) ≡ None
-    → HasJudged (text ++ lf ∷ []) (log ++ logged (suc n) (Some (without_last cr line))) (suc n) []
+pub HasJudged-end : (text line : List ℕ) (log : LogValue) (n : ℕ) → HasCut text log n line → next_fault log (suc n) (without_last cr line) ≡ None
+    → HasJudged (text ++ lf ∷ []) (after_line log (suc n) (without_last cr line)) (suc n) []
 HasJudged-end text line log n j h =
     let part = line ++ lf ∷ [] in
     let content_is : content part ≡ without_last cr line = content-end line in
@@ -141,6 +144,7 @@ HasJudged-end text line log n j h =
       count = length-append j.parts (part ∷ []) ∙ omega arith;
       clean = λ m le. ap (λ ls. fault_on ls m) parts_are ∙ read.clean m le;
       log_is = read.log_is ∙ ap (λ ls. log_upto ls (suc n)) (sym parts_are);
+      version = λ some. read.version some ∙ ap version_of (sym parts_are);
       limit = read.limit;
       no_lf = refl;
       short = inl (omega arith);
@@ -150,15 +154,15 @@ HasJudged-end text line log n j h =
 -- ---- early faults
 
 -- a fault of the part that comes next is the first fault of the text
-fault_of_part : (text line all : List ℕ) (log : List LogLine) (n : ℕ) (f : LineFault) (part : List ℕ) (others : List (List ℕ)) → (j : HasCut text log n line)
-    → cut all ≡ j.parts ++ part ∷ others → line_fault (entries log) (suc n) (Some (content part)) ≡ Some f → IsFirstFault (lines_of_text all) (suc n) f
+fault_of_part : (text line all : List ℕ) (log : LogValue) (n : ℕ) (f : LineFault) (part : List ℕ) (others : List (List ℕ)) → (j : HasCut text log n line)
+    → cut all ≡ j.parts ++ part ∷ others → next_fault log (suc n) (content part) ≡ Some f → IsFirstFault (lines_of_text all) (suc n) f
 fault_of_part text line all log n f part others j c h =
     let lines_are : lines_of_text all ≡ map content j.parts ++ content part ∷ map content others = ap (map content) c ∙ map-append content j.parts (part ∷ others) in
     subst (λ ls. IsFirstFault ls (suc n) f) (sym lines_are)
     (HasRead-fault (map content j.parts ++ content part ∷ map content others) (content part) (map content others) log n f (next_line text line log n j (content part) (map content others)) h)
 
-early_part : (text line all : List ℕ) (log : List LogLine) (n : ℕ) (f : LineFault) (part : List ℕ) (others : List (List ℕ)) → (j : HasCut text log n line)
-    → cut all ≡ j.parts ++ part ∷ others → line_fault (entries log) (suc n) (Some (content part)) ≡ Some f → IsJudged part ⊎ (suc n ≡ 1000001) → IsEarlyFault all (suc n) f
+early_part : (text line all : List ℕ) (log : LogValue) (n : ℕ) (f : LineFault) (part : List ℕ) (others : List (List ℕ)) → (j : HasCut text log n line)
+    → cut all ≡ j.parts ++ part ∷ others → next_fault log (suc n) (content part) ≡ Some f → IsJudged part ⊎ (suc n ≡ 1000001) → IsEarlyFault all (suc n) f
 early_part text line all log n f part others j c h judged = record {
   fault = fault_of_part text line all log n f part others j c h;
   place = n;
@@ -169,12 +173,12 @@ early_part text line all log n f part others j c h judged = record {
 }
 
 -- a line with its LF
-pub early-end : (text line : List ℕ) (log : List LogLine) (n : ℕ) (f : LineFault) → HasCut text log n line → line_fault (entries log) (suc n) (Some (without_last cr line)) ≡ Some f
+pub early-end : (text line : List ℕ) (log : LogValue) (n : ℕ) (f : LineFault) → HasCut text log n line → next_fault log (suc n) (without_last cr line) ≡ Some f
     → (more : List ℕ) → IsEarlyFault (text ++ lf ∷ more) (suc n) f
 early-end text line log n f j h more =
     early_part text line (text ++ lf ∷ more) log n f (line ++ lf ∷ []) (cut more) j
     (j.cuts (lf ∷ more) ∙ ap (λ xs. j.parts ++ xs) (cut-line line more j.no_lf))
-    (ap (λ x. line_fault (entries log) (suc n) (Some x)) (content-end line) ∙ h)
+    (ap (λ x. next_fault log (suc n) x) (content-end line) ∙ h)
     (inl (inl (ends-end line)))
 
 judged_more : (part rest : List ℕ) → IsLong part → IsJudged (part ++ rest)
@@ -194,7 +198,7 @@ below_limit : (n : ℕ) → n ≤ 1000000 → n ≢ 1000000 → suc n ≤ 100000
 below_limit n le ne = ⊎_elim (λ (lt : n < 1000000). omega arith) (λ (ge : 1000000 ≤ n). absurd (ne (omega arith))) (cases_lt n 1000000)
 
 -- a line that is too long whatever follows
-pub early-long : (text line : List ℕ) (log : List LogLine) (n m : ℕ) → HasCut text log n line → m ≡ suc n → n ≢ 1000000 → IsLong line → (more : List ℕ) → IsEarlyFault (text ++ more) m LineTooLong
+pub early-long : (text line : List ℕ) (log : LogValue) (n m : ℕ) → HasCut text log n line → m ≡ suc n → n ≢ 1000000 → IsLong line → (more : List ℕ) → IsEarlyFault (text ++ more) m LineTooLong
 early-long text line log n m j e few l more =
     let some : 0 < length line = long_some line l in
     let s = begins_at line more some j.no_lf in
@@ -205,7 +209,7 @@ early-long text line log n m j e few l more =
     subst (λ (k : ℕ). IsEarlyFault (text ++ more) k LineTooLong) (sym e)
     (early_part text line (text ++ more) log n LineTooLong part s.others j
     (j.cuts more ∙ ap (λ xs. j.parts ++ xs) s.parts_are)
-    (too_long (entries log) (suc n) (content part) long ∙ ap (λ t. if t then Some TooManyLines else Some LineTooLong) (le-ltb 1000000 (suc n) within))
+    (too_long log.version (entries log.lines) (suc n) (content part) long ∙ ap (λ t. if t then Some TooManyLines else Some LineTooLong) (le-ltb 1000000 (suc n) within))
     (inl (judged_more line s.rest l)))
 
 some_part : (b : ℕ) (more : List ℕ) → (t : Bool) → Begins [] (if t then (b ∷ []) ∷ cut more else onto b (cut more))
@@ -213,68 +217,58 @@ some_part b more true = record { rest = b ∷ []; others = cut more; parts_are =
 some_part b more false = let s = onto_begins b (cut more) in record { rest = b ∷ s.rest; others = s.others; parts_are = s.parts_are }
 
 -- bytes of line 1,000,001
-pub early-many : (text line bytes : List ℕ) (log : List LogLine) (n : ℕ) → HasJudged text log n line → n ≡ 1000000 → 0 < length bytes → IsEarlyFault (text ++ bytes) 1000001 TooManyLines
+pub early-many : (text line bytes : List ℕ) (log : LogValue) (n : ℕ) → HasJudged text log n line → n ≡ 1000000 → 0 < length bytes → IsEarlyFault (text ++ bytes) 1000001 TooManyLines
 early-many text line [] log n j all some = absurd (omega arith)
 early-many text line (b ∷ more) log n j all some =
     let s = some_part b more (b == lf) in
     subst (λ (k : ℕ). IsEarlyFault (text ++ b ∷ more) (suc k) TooManyLines) all
     (early_part text line (text ++ b ∷ more) log n TooManyLines s.rest s.others (cut_of text line log n j)
     (j.cuts (b ∷ more) ∙ ap (λ xs. j.parts ++ xs) (ap (λ xs. cut (xs ++ b ∷ more)) (j.last all) ∙ s.parts_are))
-    (too_many (entries log) (suc n) (content s.rest) (omega arith))
+    (too_many log.version (entries log.lines) (suc n) (content s.rest) (omega arith))
     (inr (ap suc all)))
 
 -- ---- the same at a number that is one more
 
-pub HasJudged-next : (text line : List ℕ) (log : List LogLine) (n m : ℕ) → HasCut text log n line → m ≡ suc n → line_fault (entries log) m (Some (without_last cr line)) ≡ None
-    → HasJudged (text ++ lf ∷ []) (log ++ logged m (Some (without_last cr line))) m []
+pub HasJudged-next : (text line : List ℕ) (log : LogValue) (n m : ℕ) → HasCut text log n line → m ≡ suc n → next_fault log m (without_last cr line) ≡ None
+    → HasJudged (text ++ lf ∷ []) (after_line log m (without_last cr line)) m []
 HasJudged-next text line log n m j e h =
-    subst (λ (k : ℕ). HasJudged (text ++ lf ∷ []) (log ++ logged k (Some (without_last cr line))) k []) (sym e)
-    (HasJudged-end text line log n j (ap (λ k. line_fault (entries log) k (Some (without_last cr line))) (sym e) ∙ h))
+    subst (λ (k : ℕ). HasJudged (text ++ lf ∷ []) (after_line log k (without_last cr line)) k []) (sym e)
+    (HasJudged-end text line log n j (ap (λ k. next_fault log k (without_last cr line)) (sym e) ∙ h))
 
-pub early-refused : (text line : List ℕ) (log : List LogLine) (n m : ℕ) → HasCut text log n line → m ≡ suc n → (fault : LogFault) → RefusesLine (line_fault (entries log) m (Some (without_last cr line))) m fault
+pub early-refused : (text line : List ℕ) (log : LogValue) (n m : ℕ) → HasCut text log n line → m ≡ suc n → (fault : LogFault) → RefusesLine (next_fault log m (without_last cr line)) m fault
     → (more : List ℕ) → IsEarly fault (text ++ lf ∷ more)
 early-refused text line log n m j e (Line k f) h more =
     let same : k ≡ suc n = h.0 ∙ e in
     subst (λ (i : ℕ). IsEarlyFault (text ++ lf ∷ more) i f) (sym same)
-    (early-end text line log n f j (ap (λ i. line_fault (entries log) i (Some (without_last cr line))) (sym e) ∙ h.1) more)
+    (early-end text line log n f j (ap (λ i. next_fault log i (without_last cr line)) (sym e) ∙ h.1) more)
 early-refused text line log n m j e Memory h more = tt
 early-refused text line log n m j e Read h more = h
 early-refused text line log n m j e Spent h more = h
 
-fault_some : (b : Bool) → (if b then Some TooManyLines else Some LineTooLong) ≡ None → ⊥
-fault_some true h = cc
-fault_some false h = cc
-
--- a line without a fault, with its LF, is at most 130 bytes
-pub fits : (es : List Entry) (n : ℕ) (line : List ℕ) → line_fault es n (Some (without_last cr line)) ≡ None → length line ≤ 129
-fits es n line h = ⊎_elim
-    (λ (long : 128 < length (without_last cr line)). absurd (fault_some (nat_lt 1000000 n) (sym (too_long es n (without_last cr line) long) ∙ h)))
-    (λ (short : length (without_last cr line) ≤ 128). let k = without_long cr line (ends_with cr line) in omega arith)
-    (cases_lt 128 (length (without_last cr line)))
-
 -- ---- the end of the text
 
-no_line : (text line : List ℕ) (log : List LogLine) (n : ℕ) → (j : HasJudged text log n line) → line ≡ [] → lines_of_text text ≡ map content j.parts
+no_line : (text line : List ℕ) (log : LogValue) (n : ℕ) → (j : HasJudged text log n line) → line ≡ [] → lines_of_text text ≡ map content j.parts
 no_line text line log n j none =
     ap (map content) (ap cut (sym (append-nil text)) ∙ (j.cuts [] ∙ (ap (λ xs. j.parts ++ cut (xs ++ [])) none ∙ append-nil j.parts)))
 
-all_read : (text line : List ℕ) (log : List LogLine) (n : ℕ) → (j : HasJudged text log n line) → HasRead (map content j.parts) [] log n
+all_read : (text line : List ℕ) (log : LogValue) (n : ℕ) → (j : HasJudged text log n line) → HasRead (map content j.parts) [] log n
 all_read text line log n j =
     let long : length (map content j.parts) ≡ n = length-map j.parts content ∙ j.count in
     record {
       rest_is = ap (λ k. drop k (map content j.parts)) (sym long) ∙ drop_all (length (map content j.parts)) (map content j.parts) (omega arith);
       count = omega arith;
       log_is = j.log_is;
+      version = j.version;
       clean = j.clean;
       limit = j.limit;
     }
 
-pub end-empty : (text line : List ℕ) (log : List LogLine) (n : ℕ) → HasJudged text log n line → line ≡ [] → n ≡ 0 → IsFirstFault (lines_of_text text) 1 Header
+pub end-empty : (text line : List ℕ) (log : LogValue) (n : ℕ) → HasJudged text log n line → line ≡ [] → n ≡ 0 → IsFirstFault (lines_of_text text) 1 Header
 end-empty text line log n j none zero_is =
     subst (λ ls. IsFirstFault ls 1 Header) (sym (no_line text line log n j none))
     (HasRead-empty (map content j.parts) log (subst (λ k. HasRead (map content j.parts) [] log k) zero_is (all_read text line log n j)))
 
-pub end-lines : (text line : List ℕ) (log : List LogLine) (n : ℕ) → HasJudged text log n line → line ≡ [] → 0 < n → IsLogOf (lines_of_text text) log
+pub end-lines : (text line : List ℕ) (log : LogValue) (n : ℕ) → HasJudged text log n line → line ≡ [] → 0 < n → IsLogOf (lines_of_text text) log
 end-lines text line log n j none some =
     subst (λ ls. IsLogOf ls log) (sym (no_line text line log n j none)) (HasRead-end (map content j.parts) log n (all_read text line log n j) some)
 
@@ -283,37 +277,37 @@ open_line : (line : List ℕ) → has line lf ≡ false → 0 < length line → 
 open_line [] h some = absurd (omega arith)
 open_line (b ∷ tail) h some = open_part b tail h
 
-last_line : (text line : List ℕ) (log : List LogLine) (n : ℕ) → (j : HasJudged text log n line) → 0 < length line → lines_of_text text ≡ map content j.parts ++ line ∷ []
+last_line : (text line : List ℕ) (log : LogValue) (n : ℕ) → (j : HasJudged text log n line) → 0 < length line → lines_of_text text ≡ map content j.parts ++ line ∷ []
 last_line text line log n j some =
     ap (map content) (ap cut (sym (append-nil text)) ∙ (j.cuts [] ∙ ap (λ xs. j.parts ++ xs) (ap cut (append-nil line) ∙ open_line line j.no_lf some)))
     ∙ (map-append content j.parts (line ∷ []) ∙ ap (λ x. map content j.parts ++ x ∷ []) (content_open line (not_last line lf j.no_lf)))
 
-pub end-log : (text line : List ℕ) (log : List LogLine) (n : ℕ) → HasJudged text log n line → 0 < length line → line_fault (entries log) (suc n) (Some line) ≡ None
-    → IsLogOf (lines_of_text text) (log ++ logged (suc n) (Some line))
+pub end-log : (text line : List ℕ) (log : LogValue) (n : ℕ) → HasJudged text log n line → 0 < length line → next_fault log (suc n) line ≡ None
+    → IsLogOf (lines_of_text text) (after_line log (suc n) line)
 end-log text line log n j some h =
     let lines = map content j.parts ++ line ∷ [] in
-    subst (λ ls. IsLogOf ls (log ++ logged (suc n) (Some line))) (sym (last_line text line log n j some))
-    (HasRead-end lines (log ++ logged (suc n) (Some line)) (suc n) (HasRead-step lines line [] log n (next_line text line log n (cut_of text line log n j) line []) h) (omega arith))
+    subst (λ ls. IsLogOf ls (after_line log (suc n) line)) (sym (last_line text line log n j some))
+    (HasRead-end lines (after_line log (suc n) line) (suc n) (HasRead-step lines line [] log n (next_line text line log n (cut_of text line log n j) line []) h) (omega arith))
 
-pub end-fault : (text line : List ℕ) (log : List LogLine) (n : ℕ) (f : LineFault) → HasJudged text log n line → 0 < length line → line_fault (entries log) (suc n) (Some line) ≡ Some f
+pub end-fault : (text line : List ℕ) (log : LogValue) (n : ℕ) (f : LineFault) → HasJudged text log n line → 0 < length line → next_fault log (suc n) line ≡ Some f
     → IsFirstFault (lines_of_text text) (suc n) f
 end-fault text line log n f j some h =
     let lines = map content j.parts ++ line ∷ [] in
     subst (λ ls. IsFirstFault ls (suc n) f) (sym (last_line text line log n j some))
     (HasRead-fault lines line [] log n f (next_line text line log n (cut_of text line log n j) line []) h)
 
-pub end-refused : (text line : List ℕ) (log : List LogLine) (n m : ℕ) → HasJudged text log n line → 0 < length line → m ≡ suc n → (fault : LogFault) → RefusesLine (line_fault (entries log) m (Some line)) m fault → Refuses text fault
+pub end-refused : (text line : List ℕ) (log : LogValue) (n m : ℕ) → HasJudged text log n line → 0 < length line → m ≡ suc n → (fault : LogFault) → RefusesLine (next_fault log m line) m fault → Refuses text fault
 end-refused text line log n m j some e (Line k f) h =
     let same : k ≡ suc n = h.0 ∙ e in
-    subst (λ (i : ℕ). IsFirstFault (lines_of_text text) i f) (sym same) (end-fault text line log n f j some (ap (λ i. line_fault (entries log) i (Some line)) (sym e) ∙ h.1))
+    subst (λ (i : ℕ). IsFirstFault (lines_of_text text) i f) (sym same) (end-fault text line log n f j some (ap (λ i. next_fault log i line) (sym e) ∙ h.1))
 end-refused text line log n m j some e Memory h = tt
 end-refused text line log n m j some e Read h = h
 end-refused text line log n m j some e Spent h = h
 
-pub end-next : (text line : List ℕ) (log : List LogLine) (n m : ℕ) → HasJudged text log n line → 0 < length line → m ≡ suc n → line_fault (entries log) m (Some line) ≡ None
-    → IsLogOf (lines_of_text text) (log ++ logged m (Some line))
+pub end-next : (text line : List ℕ) (log : LogValue) (n m : ℕ) → HasJudged text log n line → 0 < length line → m ≡ suc n → next_fault log m line ≡ None
+    → IsLogOf (lines_of_text text) (after_line log m line)
 end-next text line log n m j some e h =
-    subst (λ (k : ℕ). IsLogOf (lines_of_text text) (log ++ logged k (Some line))) (sym e) (end-log text line log n j some (ap (λ k. line_fault (entries log) k (Some line)) (sym e) ∙ h))
+    subst (λ (k : ℕ). IsLogOf (lines_of_text text) (after_line log k line)) (sym e) (end-log text line log n j some (ap (λ k. next_fault log k line) (sym e) ∙ h))
 
 -- ---- bytes without an early fault
 
@@ -338,7 +332,7 @@ not_judged line h (inr full) (inr (inl many)) = let e = full.0 in omega arith
 not_judged line h (inl few) (inr (inr long)) = let e = long.0 in omega arith
 not_judged line h (inr full) (inr (inr long)) = let yes_ = full.1 in let no_ = long.1 in cc
 
-not_beyond : (text line : List ℕ) (log : List LogLine) (n m : ℕ) (f : LineFault) → HasJudged text log n line → IsEarlyFault text m f → suc n ≤ m → ⊥
+not_beyond : (text line : List ℕ) (log : LogValue) (n m : ℕ) (f : LineFault) → HasJudged text log n line → IsEarlyFault text m f → suc n ≤ m → ⊥
 not_beyond text line log n m f j e above =
     let number = e.number in
     let count = j.count in
@@ -352,7 +346,7 @@ not_beyond text line log n m f j e above =
     (λ (last : m ≡ 1000001). let none = ap length (j.last (omega arith)) in omega arith)
     e.judged
 
-not_before : (text line : List ℕ) (log : List LogLine) (n m : ℕ) (f : LineFault) → HasJudged text log n line → IsEarlyFault text m f → m < suc n → ⊥
+not_before : (text line : List ℕ) (log : LogValue) (n m : ℕ) (f : LineFault) → HasJudged text log n line → IsEarlyFault text m f → m < suc n → ⊥
 not_before text line log n m f j e below =
     let rest = map content (cut (line ++ [])) in
     let lines_are : lines_of_text text ≡ map content j.parts ++ rest = ap (map content) (ap cut (sym (append-nil text)) ∙ j.cuts []) ∙ map-append content j.parts (cut (line ++ [])) in
@@ -362,12 +356,16 @@ not_before text line log n m f j e below =
     let fault = e.fault.here in
     cc
 
-pub no-early : (text line : List ℕ) (log : List LogLine) (n m : ℕ) (f : LineFault) → HasJudged text log n line → IsEarlyFault text m f → ⊥
+pub no-early : (text line : List ℕ) (log : LogValue) (n m : ℕ) (f : LineFault) → HasJudged text log n line → IsEarlyFault text m f → ⊥
 no-early text line log n m f j e = ⊎_elim (not_before text line log n m f j e) (not_beyond text line log n m f j e) (cases_lt m (suc n))
 
 -- the last number of the log so far
-pub HasJudged-above : (text line : List ℕ) (log : List LogLine) (n : ℕ) → HasJudged text log n line → 0 < n → last_from 1 log ≤ n
+pub HasJudged-above : (text line : List ℕ) (log : LogValue) (n : ℕ) → HasJudged text log n line → 0 < n → last_from 1 log.lines ≤ n
 HasJudged-above text line log n j some = HasRead-above (map content j.parts) [] log n (all_read text line log n j) some
+
+-- before the first line nothing is logged
+pub HasJudged-none : (text line : List ℕ) (log : LogValue) (n : ℕ) → HasJudged text log n line → n ≡ 0 → log.lines ≡ []
+HasJudged-none text line log n j none = HasRead-none (map content j.parts) [] log n (all_read text line log n j) none
 
 pub none_begun : (line : List ℕ) → length line ≡ 0 → line ≡ []
 none_begun [] h = refl

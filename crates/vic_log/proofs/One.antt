@@ -1,9 +1,9 @@
 -- A text has one answer.
 use Rattle.std.proofs.Common.{◌≡◌, ◌⊎◌, inl, inr, ℕ, zero, suc, ◌<◌, Option, Some, None, List, length, refl, sym, ap, ◌∙◌, arith, ⊎_elim}
 use Rattle.std.proofs.lemmas.Bool.{cases_eq, cases_lt}
-use Rattle.vic_log.specs.declared.entry.LogLine.{LogLine}
 use Rattle.vic_log.specs.declared.fault.LineFault.{LineFault}
-use Rattle.vic_log.specs.Text.{log_upto, fault_on, IsFirstFault, IsLogOf}
+use Rattle.vic_log.specs.Log.{LogValue}
+use Rattle.vic_log.specs.Text.{version_of, log_upto, fault_on, IsFirstFault, IsLogOf}
 use Rattle.vic_log.proofs.Passing.{past_end}
 
 not_before : (lines : List (List ℕ)) (n m : ℕ) (f g : LineFault) → IsFirstFault lines n f → IsFirstFault lines m g → n < m → ⊥
@@ -22,7 +22,7 @@ one_fault lines n m f g h k =
     let it : f ≡ g = cc in
     (same, it)
 
-pub not_both : (lines : List (List ℕ)) (n : ℕ) (f : LineFault) (log : List LogLine) → IsFirstFault lines n f → IsLogOf lines log → ⊥
+pub not_both : (lines : List (List ℕ)) (n : ℕ) (f : LineFault) (log : LogValue) → IsFirstFault lines n f → IsLogOf lines log → ⊥
 not_both lines n f log h k = let some = h.here in let none = k.no_fault n in cc
 
 -- ---- there is an answer
@@ -45,8 +45,8 @@ clean_everywhere lines clean (suc k) = ⊎_elim
     (λ above. past_end lines k (omega arith) (omega arith))
     (cases_lt k (suc (length lines)))
 
-pub some_answer : (lines : List (List ℕ)) → ((n : ℕ) × (f : LineFault) × IsFirstFault lines n f) ⊎ ((log : List LogLine) × IsLogOf lines log)
+pub some_answer : (lines : List (List ℕ)) → ((n : ℕ) × (f : LineFault) × IsFirstFault lines n f) ⊎ ((log : LogValue) × IsLogOf lines log)
 some_answer lines = ⊎_elim
     (λ found. inl found)
-    (λ clean. inr (log_upto lines (length lines), record { no_fault = clean_everywhere lines clean; all = refl }))
+    (λ clean. inr (record { lines = log_upto lines (length lines); version = version_of lines }, record { no_fault = clean_everywhere lines clean; all = refl; version = refl }))
     (first_below lines (suc (suc (length lines))))

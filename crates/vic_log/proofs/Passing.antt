@@ -11,16 +11,18 @@ use Rattle.vic_log.specs.declared.fault.LogFault.{LogFault}
 use Rattle.vic_log.specs.declared.fault.LogFault.TheVariants.{Line, Read, Memory, Spent}
 use Rattle.vic_log.specs.Lines.{lines_of_text}
 use Rattle.vic_log.specs.Order.{entries}
-use Rattle.vic_log.specs.Log.{last_from}
+use Rattle.vic_log.specs.declared.entry.Version.{Version}
+use Rattle.vic_log.specs.Log.{LogValue, last_from}
 use Rattle.vic_log.specs.LineReading.{line_reading}
-use Rattle.vic_log.specs.Text.{line_fault, entry_line, logged, log_upto, fault_on, IsFirstFault, IsLogOf, Refuses, RefusesLine}
+use Rattle.vic_log.specs.Text.{named_version, version_of, line_fault, next_fault, after_line, entry_line, logged, log_upto, fault_on, IsFirstFault, IsLogOf, Refuses, RefusesLine}
 use Rattle.vic_log.proofs.Push.{last_from-push}
 
--- the first n lines have no fault, their log lines are these, and the other lines are the rest
-pub record HasRead (lines rest : List (List ℕ)) (log : List LogLine) (n : ℕ) : Type 0 where
+-- the first n lines have no fault, their log is this, and the other lines are the rest
+pub record HasRead (lines rest : List (List ℕ)) (log : LogValue) (n : ℕ) : Type 0 where
   pub rest_is : drop n lines ≡ rest
   pub count : n + length rest ≡ length lines
-  pub log_is : log ≡ log_upto lines n
+  pub log_is : log.lines ≡ log_upto lines n
+  pub version : 0 < n → log.version ≡ version_of lines
   pub clean : (m : ℕ) → m ≤ n → fault_on lines m ≡ None
   pub limit : n ≤ 1000000
 
@@ -36,61 +38,89 @@ tail_at zero (y ∷ xs) x rest h = let same : xs ≡ rest = cc in same
 tail_at (suc n) [] x rest h = cc
 tail_at (suc n) (y ∷ xs) x rest h = tail_at n xs x rest h
 
-pub HasRead-start : (lines : List (List ℕ)) → HasRead lines lines [] 0
-HasRead-start lines = record {
+pub HasRead-start : (lines : List (List ℕ)) (log : LogValue) → log.lines ≡ [] → HasRead lines lines log 0
+HasRead-start lines log none = record {
   rest_is = refl;
   count = omega arith;
-  log_is = refl;
-  clean = λ m le. let none : m ≡ 0 = omega arith in ap (fault_on lines) none;
+  log_is = none;
+  version = λ some. absurd (omega arith);
+  clean = λ m le. let zero_is : m ≡ 0 = omega arith in ap (fault_on lines) zero_is;
   limit = omega arith;
 }
 
-fault_next : (lines : List (List ℕ)) (line : List ℕ) (rest : List (List ℕ)) (log : List LogLine) (n : ℕ) → HasRead lines (line ∷ rest) log n → line_fault (entries log) (suc n) (Some line) ≡ fault_on lines (suc n)
-fault_next lines line rest log n r =
+-- the version says nothing of line 1
+first_fault : (v w : Version) (es fs : List Entry) (line : List ℕ) → line_fault v es 1 (Some line) ≡ line_fault w fs 1 (Some line)
+first_fault v w es fs line = refl
+
+fault_next : (lines : List (List ℕ)) (line : List ℕ) (rest : List (List ℕ)) (log : LogValue) (n : ℕ) → HasRead lines (line ∷ rest) log n → next_fault log (suc n) line ≡ fault_on lines (suc n)
+fault_next lines line rest log zero r =
+    let at : slice_get lines 0 ≡ Some line = head_at 0 lines line rest r.rest_is in
+    first_fault log.version (version_of lines) (entries log.lines) [] line ∙ ap (line_fault (version_of lines) [] 1) (sym at)
+fault_next lines line rest log (suc k) r =
+    let n = suc k in
     let at : slice_get lines n ≡ Some line = head_at n lines line rest r.rest_is in
-    ap (λ ls. line_fault (entries ls) (suc n) (Some line)) r.log_is ∙ ap (line_fault (entries (log_upto lines n)) (suc n)) (sym at)
+    ap (λ v. line_fault v (entries log.lines) (suc n) (Some line)) (r.version (omega arith))
+    ∙ (ap (λ ls. line_fault (version_of lines) (entries ls) (suc n) (Some line)) r.log_is
+    ∙ ap (line_fault (version_of lines) (entries (log_upto lines n)) (suc n)) (sym at))
+
+-- what the next line adds
+logged_next : (lines : List (List ℕ)) (line : List ℕ) (rest : List (List ℕ)) (log : LogValue) (n : ℕ) → HasRead lines (line ∷ rest) log n → (after_line log (suc n) line).lines ≡ log_upto lines (suc n)
+logged_next lines line rest log zero r =
+    let at : slice_get lines 0 ≡ Some line = head_at 0 lines line rest r.rest_is in
+    ap (λ ls. ls ++ []) r.log_is ∙ ap (logged (version_of lines) 1) (sym at)
+logged_next lines line rest log (suc k) r =
+    let n = suc k in
+    let at : slice_get lines n ≡ Some line = head_at n lines line rest r.rest_is in
+    ap (λ v. log.lines ++ logged v (suc n) (Some line)) (r.version (omega arith))
+    ∙ (ap (λ ls. ls ++ logged (version_of lines) (suc n) (Some line)) r.log_is
+    ∙ ap (λ o. log_upto lines n ++ logged (version_of lines) (suc n) o) (sym at))
+
+version_next : (lines : List (List ℕ)) (line : List ℕ) (rest : List (List ℕ)) (log : LogValue) (n : ℕ) → HasRead lines (line ∷ rest) log n → (after_line log (suc n) line).version ≡ version_of lines
+version_next lines line rest log zero r = ap named_version (sym (head_at 0 lines line rest r.rest_is))
+version_next lines line rest log (suc k) r =
+    ap (λ b. if b then named_version (Some line) else log.version) (ne_eqb (suc (suc k)) 1 (λ e. absurd (omega arith))) ∙ r.version (omega arith)
 
 not_many : (b : Bool) (f : LineFault) (rest : Option LineFault) → (if b then Some f else rest) ≡ None → b ≡ false
 not_many true f rest h = cc
 not_many false f rest h = refl
 
-pub in_limit : (es : List Entry) (n : ℕ) (line : List ℕ) → line_fault es n (Some line) ≡ None → n ≤ 1000000
-in_limit es n line h = ltb-false 1000000 n (not_many (nat_lt 1000000 n) TooManyLines _ h)
+pub in_limit : (version : Version) (es : List Entry) (n : ℕ) (line : List ℕ) → line_fault version es n (Some line) ≡ None → n ≤ 1000000
+in_limit version es n line h = ltb-false 1000000 n (not_many (nat_lt 1000000 n) TooManyLines _ h)
 
 -- one line more without a fault
-pub HasRead-step : (lines : List (List ℕ)) (line : List ℕ) (rest : List (List ℕ)) (log : List LogLine) (n : ℕ) → HasRead lines (line ∷ rest) log n → line_fault (entries log) (suc n) (Some line) ≡ None → HasRead lines rest (log ++ logged (suc n) (Some line)) (suc n)
+pub HasRead-step : (lines : List (List ℕ)) (line : List ℕ) (rest : List (List ℕ)) (log : LogValue) (n : ℕ) → HasRead lines (line ∷ rest) log n → next_fault log (suc n) line ≡ None → HasRead lines rest (after_line log (suc n) line) (suc n)
 HasRead-step lines line rest log n r h =
-    let at : slice_get lines n ≡ Some line = head_at n lines line rest r.rest_is in
     let k : n + length (line ∷ rest) ≡ length lines = r.count in
     record {
       rest_is = tail_at n lines line rest r.rest_is;
       count = omega arith;
-      log_is = ap (λ ls. ls ++ logged (suc n) (Some line)) r.log_is ∙ ap (λ o. log_upto lines n ++ logged (suc n) o) (sym at);
+      log_is = logged_next lines line rest log n r;
+      version = λ some. version_next lines line rest log n r;
       clean = λ m le. ⊎_elim
           (λ same. ap (fault_on lines) same ∙ (sym (fault_next lines line rest log n r) ∙ h))
           (λ ne. r.clean m (omega arith))
           (cases_eq m (suc n));
-      limit = in_limit (entries log) (suc n) line h;
+      limit = in_limit log.version (entries log.lines) (suc n) line h;
     }
 
 -- a line with a fault
-pub HasRead-fault : (lines : List (List ℕ)) (line : List ℕ) (rest : List (List ℕ)) (log : List LogLine) (n : ℕ) (f : LineFault) → HasRead lines (line ∷ rest) log n → line_fault (entries log) (suc n) (Some line) ≡ Some f → IsFirstFault lines (suc n) f
+pub HasRead-fault : (lines : List (List ℕ)) (line : List ℕ) (rest : List (List ℕ)) (log : LogValue) (n : ℕ) (f : LineFault) → HasRead lines (line ∷ rest) log n → next_fault log (suc n) line ≡ Some f → IsFirstFault lines (suc n) f
 HasRead-fault lines line rest log n f r h = record {
   here = sym (fault_next lines line rest log n r) ∙ h;
   first = λ m lt. r.clean m (omega arith);
 }
 
 -- no line at all
-pub HasRead-empty : (lines : List (List ℕ)) (log : List LogLine) → HasRead lines [] log 0 → IsFirstFault lines 1 Header
+pub HasRead-empty : (lines : List (List ℕ)) (log : LogValue) → HasRead lines [] log 0 → IsFirstFault lines 1 Header
 HasRead-empty lines log r =
     let none : slice_get lines 0 ≡ None = slice_get_past lines 0 (let k : 0 + 0 ≡ length lines = r.count in omega arith) in
     record {
-      here = ap (line_fault [] 1) none;
+      here = ap (line_fault (version_of lines) [] 1) none;
       first = λ m lt. let zero_is : m ≡ 0 = omega arith in ap (fault_on lines) zero_is;
     }
 
 pub past_end : (lines : List (List ℕ)) (k : ℕ) → 0 < k → length lines ≤ k → fault_on lines (suc k) ≡ None
-past_end lines (suc k) some le = ap (line_fault (entries (log_upto lines (suc k))) (suc (suc k))) (slice_get_past lines (suc k) le)
+past_end lines (suc k) some le = ap (line_fault (version_of lines) (entries (log_upto lines (suc k))) (suc (suc k))) (slice_get_past lines (suc k) le)
     ∙ ap (λ b. if b then Some Header else None) (ne_eqb (suc (suc k)) 1 (λ e. absurd (omega arith)))
 past_end lines zero some le = absurd (omega arith)
 
@@ -102,13 +132,14 @@ clean_all lines n some le clean (suc k) = ⊎_elim
     (cases_lt k n)
 
 -- all lines
-pub HasRead-end : (lines : List (List ℕ)) (log : List LogLine) (n : ℕ) → HasRead lines [] log n → 0 < n → IsLogOf lines log
+pub HasRead-end : (lines : List (List ℕ)) (log : LogValue) (n : ℕ) → HasRead lines [] log n → 0 < n → IsLogOf lines log
 HasRead-end lines log n r some =
     let k : n + 0 ≡ length lines = r.count in
     let same : n ≡ length lines = omega arith in
     record {
       no_fault = clean_all lines n some (omega arith) r.clean;
       all = r.log_is ∙ ap (log_upto lines) same;
+      version = r.version some;
     }
 
 -- the last number of the log lines so far
@@ -121,29 +152,33 @@ first_or : (ls : List LogLine) (n k : ℕ) (b : Bool) → last_from 1 ls ≤ k �
 first_or ls n k true h le r = let p = ap (last_from 1) (append-nil ls) in omega arith
 first_or ls n k false h le r = last_logged ls n k h le r
 
-logged_last : (ls : List LogLine) (n k : ℕ) (o : Option (List ℕ)) → last_from 1 ls ≤ k → k ≤ n → last_from 1 (ls ++ logged n o) ≤ n
-logged_last ls n k None h le = let p = ap (last_from 1) (append-nil ls) in omega arith
-logged_last ls n k (Some line) h le = first_or ls n k (n == 1) h le (line_reading line)
+logged_last : (version : Version) (ls : List LogLine) (n k : ℕ) (o : Option (List ℕ)) → last_from 1 ls ≤ k → k ≤ n → last_from 1 (ls ++ logged version n o) ≤ n
+logged_last version ls n k None h le = let p = ap (last_from 1) (append-nil ls) in omega arith
+logged_last version ls n k (Some line) h le = first_or ls n k (n == 1) h le (line_reading version line)
 
 pub log_upto-last : (lines : List (List ℕ)) (k : ℕ) → last_from 1 (log_upto lines (suc k)) ≤ suc k
-log_upto-last lines zero = logged_last [] 1 1 (slice_get lines 0) (omega arith) (omega arith)
-log_upto-last lines (suc k) = logged_last (log_upto lines (suc k)) (suc (suc k)) (suc k) (slice_get lines (suc k)) (log_upto-last lines k) (omega arith)
+log_upto-last lines zero = logged_last (version_of lines) [] 1 1 (slice_get lines 0) (omega arith) (omega arith)
+log_upto-last lines (suc k) = logged_last (version_of lines) (log_upto lines (suc k)) (suc (suc k)) (suc k) (slice_get lines (suc k)) (log_upto-last lines k) (omega arith)
 
-pub HasRead-above : (lines rest : List (List ℕ)) (log : List LogLine) (n : ℕ) → HasRead lines rest log n → 0 < n → last_from 1 log ≤ n
+pub HasRead-above : (lines rest : List (List ℕ)) (log : LogValue) (n : ℕ) → HasRead lines rest log n → 0 < n → last_from 1 log.lines ≤ n
 HasRead-above lines rest log zero r some = absurd (omega arith)
 HasRead-above lines rest log (suc k) r some = let e = ap (last_from 1) r.log_is in let l = log_upto-last lines k in omega arith
 
+-- before the first line nothing is logged
+pub HasRead-none : (lines rest : List (List ℕ)) (log : LogValue) (n : ℕ) → HasRead lines rest log n → n ≡ 0 → log.lines ≡ []
+HasRead-none lines rest log n r none = r.log_is ∙ ap (log_upto lines) none
+
 -- ---- the same at a number that is one more
 
-pub HasRead-next : (lines : List (List ℕ)) (line : List ℕ) (rest : List (List ℕ)) (log : List LogLine) (n m : ℕ) → HasRead lines (line ∷ rest) log n → m ≡ suc n → line_fault (entries log) m (Some line) ≡ None → HasRead lines rest (log ++ logged m (Some line)) m
+pub HasRead-next : (lines : List (List ℕ)) (line : List ℕ) (rest : List (List ℕ)) (log : LogValue) (n m : ℕ) → HasRead lines (line ∷ rest) log n → m ≡ suc n → next_fault log m line ≡ None → HasRead lines rest (after_line log m line) m
 HasRead-next lines line rest log n m r e h =
-    subst (λ k. HasRead lines rest (log ++ logged k (Some line)) k) (sym e) (HasRead-step lines line rest log n r (ap (λ k. line_fault (entries log) k (Some line)) (sym e) ∙ h))
+    subst (λ k. HasRead lines rest (after_line log k line) k) (sym e) (HasRead-step lines line rest log n r (ap (λ k. next_fault log k line) (sym e) ∙ h))
 
-pub HasRead-refuses : (text : List ℕ) (line : List ℕ) (rest : List (List ℕ)) (log : List LogLine) (n m : ℕ) → HasRead (lines_of_text text) (line ∷ rest) log n → m ≡ suc n → (fault : LogFault) → RefusesLine (line_fault (entries log) m (Some line)) m fault → Refuses text fault
+pub HasRead-refuses : (text : List ℕ) (line : List ℕ) (rest : List (List ℕ)) (log : LogValue) (n m : ℕ) → HasRead (lines_of_text text) (line ∷ rest) log n → m ≡ suc n → (fault : LogFault) → RefusesLine (next_fault log m line) m fault → Refuses text fault
 HasRead-refuses text line rest log n m r e (Line k f) h =
     let lines = lines_of_text text in
     let same : k ≡ suc n = h.0 ∙ e in
-    subst (λ (j : ℕ). IsFirstFault lines j f) (sym same) (HasRead-fault lines line rest log n f r (ap (λ j. line_fault (entries log) j (Some line)) (sym e) ∙ h.1))
+    subst (λ (j : ℕ). IsFirstFault lines j f) (sym same) (HasRead-fault lines line rest log n f r (ap (λ j. next_fault log j line) (sym e) ∙ h.1))
 HasRead-refuses text line rest log n m r e Memory h = tt
 HasRead-refuses text line rest log n m r e Read h = h
 HasRead-refuses text line rest log n m r e Spent h = h

@@ -12,6 +12,8 @@ use Rattle.vic_frame.specs.Replies.{reply_spelling}
 use Rattle.vic_frame.specs.Reading.{request_reading, reply_reading}
 use Rattle.vic_log.specs.declared.entry.Entry.{Entry}
 use Rattle.vic_log.specs.declared.entry.Entry.TheVariants.{Sent, Silent, Collision, Heard, Listed, Garbled, FieldCycle}
+use Rattle.vic_log.specs.declared.entry.Version.{Version}
+use Rattle.vic_log.specs.declared.entry.Version.TheVariants.{V1, V2}
 use Rattle.vic_log.specs.declared.fault.LineFault.{LineFault}
 use Rattle.vic_log.specs.declared.fault.LineFault.TheVariants.{LineTooLong, UnknownEntry, NotVicinity}
 use Rattle.vic_log.specs.LineReading.{line_reading, with_digits, with_bytes, sent, heard, listed_uid, one_letter}
@@ -53,17 +55,17 @@ choose : (a : Bool) (x y : Result (Option Entry) LineFault) → a ≡ false → 
 choose true x y p = cc
 choose false x y p = refl
 
-lettered : (letter : ℕ) (bytes : List ℕ) → letter == 35 ≡ false → length bytes ≤ 63 → line_reading (letter ∷ 32 ∷ encode_upper bytes) ≡ with_digits letter (encode_upper bytes)
-lettered letter bytes other few =
+lettered : (v : Version) (letter : ℕ) (bytes : List ℕ) → letter == 35 ≡ false → length bytes ≤ 63 → line_reading v (letter ∷ 32 ∷ encode_upper bytes) ≡ with_digits letter (encode_upper bytes)
+lettered v letter bytes other few =
     let digits = encode_upper bytes in
     let line = letter ∷ 32 ∷ digits in
     let long = hex_long bytes in
     let rest = if slice_index line 1 == 32 then with_digits letter (drop 2 line) else Err UnknownEntry in
-    let one = if length line == 1 then one_letter letter else rest in
+    let one = if length line == 1 then one_letter v letter else rest in
     let passed = if length line == 0 || letter == 35 then Ok None else one in
     choose (nat_lt 128 (length line)) (Err LineTooLong) passed (le-ltb 128 (length line) (omega arith))
     ∙ (choose (length line == 0 || letter == 35) (Ok None) one (ap (λ b. b || letter == 35) (ne_eqb (length line) 0 (λ e. absurd (omega arith))) ∙ other)
-    ∙ (choose (length line == 1) (one_letter letter) rest (ne_eqb (length line) 1 (λ e. absurd (omega arith)))))
+    ∙ (choose (length line == 1) (one_letter v letter) rest (ne_eqb (length line) 1 (λ e. absurd (omega arith)))))
 
 plain_line : (letter : ℕ) (bytes : List ℕ) → nat_eq 10 letter ≡ false → nat_eq 13 letter ≡ false → IsBytes bytes → IsPlain (letter ∷ 32 ∷ encode_upper bytes)
 plain_line letter bytes a b h = record {
@@ -105,39 +107,41 @@ uid_reads u h =
     let below = h.1 in
     uid_of (from_be_bytes w64 (to_be_bytes w64 u)) u (from_be_bytes-to_be_bytes_8 u (omega arith)) h
 
-spelled : (e : Entry) → IsTyped e → IsValidEntry e → IsOfFirstVersion e → IsSpelled e
-spelled (Sent q) t v o =
+spelled : (version : Version) (e : Entry) → IsTyped e → IsValidEntry e → (version ≡ V1 → IsOfFirstVersion e) → IsSpelled version e
+spelled version (Sent q) t v o =
     let frame = request_spelling q in
     let are_bytes = AreBytes-request q t v in
     let few = length-request q t in
     let reads_back : request_reading frame ≡ Ok q = request_only frame q (t, v, refl) in
     record {
-      reads = lettered 84 frame refl (omega arith) ∙ (ap (with_bytes (λ bytes. sent (request_reading bytes))) (decode_of-encode_upper frame are_bytes) ∙ ap sent reads_back);
+      reads = lettered version 84 frame refl (omega arith) ∙ (ap (with_bytes (λ bytes. sent (request_reading bytes))) (decode_of-encode_upper frame are_bytes) ∙ ap sent reads_back);
       short = let long = hex_long frame in omega arith;
       plain = plain_line 84 frame refl refl are_bytes;
     }
-spelled Silent t v o = record { reads = refl; short = omega arith; plain = record { no_lf = refl; no_cr = refl } }
-spelled Collision t v o = record { reads = refl; short = omega arith; plain = record { no_lf = refl; no_cr = refl } }
-spelled (Heard r) t v o =
+spelled version Silent t v o = record { reads = refl; short = omega arith; plain = record { no_lf = refl; no_cr = refl } }
+spelled version Collision t v o = record { reads = refl; short = omega arith; plain = record { no_lf = refl; no_cr = refl } }
+spelled version (Heard r) t v o =
     let frame = reply_spelling r in
     let are_bytes = AreBytes-reply r t in
     let few = length-reply r in
     let reads_back : reply_reading frame ≡ Ok r = reply_only frame r (t, refl) in
     record {
-      reads = lettered 82 frame refl (omega arith) ∙ (ap (with_bytes (λ bytes. heard (reply_reading bytes))) (decode_of-encode_upper frame are_bytes) ∙ ap heard reads_back);
+      reads = lettered version 82 frame refl (omega arith) ∙ (ap (with_bytes (λ bytes. heard (reply_reading bytes))) (decode_of-encode_upper frame are_bytes) ∙ ap heard reads_back);
       short = let long = hex_long frame in omega arith;
       plain = plain_line 82 frame refl refl are_bytes;
     }
-spelled (Listed u) t v o =
+spelled version (Listed u) t v o =
     let bytes = to_be_bytes w64 u in
     let eight = be_long u in
     record {
-      reads = lettered 85 bytes refl (omega arith) ∙ (ap (with_bytes listed_uid) (decode_of-encode_upper bytes (be_bytes u)) ∙ uid_reads u t);
+      reads = lettered version 85 bytes refl (omega arith) ∙ (ap (with_bytes listed_uid) (decode_of-encode_upper bytes (be_bytes u)) ∙ uid_reads u t);
       short = let long = hex_long bytes in omega arith;
       plain = plain_line 85 bytes refl refl (be_bytes u);
     }
-spelled Garbled t v o = absurd o
-spelled FieldCycle t v o = absurd o
+spelled V1 Garbled t v o = absurd (o refl)
+spelled V2 Garbled t v o = record { reads = refl; short = omega arith; plain = record { no_lf = refl; no_cr = refl } }
+spelled V1 FieldCycle t v o = absurd (o refl)
+spelled V2 FieldCycle t v o = record { reads = refl; short = omega arith; plain = record { no_lf = refl; no_cr = refl } }
 
 pub valid_at : (es : List Entry) → AreValid es → (i : ℕ) (e : Entry) → slice_get es i ≡ Some e → IsValidEntry e
 valid_at es v i (Sent q) k = v i q k
@@ -148,5 +152,5 @@ valid_at es v i (Listed u) k = tt
 valid_at es v i Garbled k = tt
 valid_at es v i FieldCycle k = tt
 
-pub spelled_all : (es : List Entry) → AreTyped es → AreValid es → AreOfFirstVersion es → AreSpelled es
-spelled_all es t v o i e k = spelled e (t i e k) (valid_at es v i e k) (o i e k)
+pub spelled_all : (version : Version) (es : List Entry) → AreTyped es → AreValid es → (version ≡ V1 → AreOfFirstVersion es) → AreSpelled version es
+spelled_all version es t v o i e k = spelled version e (t i e k) (valid_at es v i e k) (λ is. o is i e k)

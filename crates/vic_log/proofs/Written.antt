@@ -3,15 +3,16 @@ use Rattle.std.proofs.Common.{◌≡◌, ℕ, zero, suc, ◌+◌, ◌-◌, ◌<�
 use Rattle.std.specs.Prelude.{slice_get, slice_index, nat_eq, nat_lt, if◌then◌else◌, ◌==◌, ◌&&◌, ◌||◌, map}
 use Rattle.std.proofs.lemmas.Bool.{cases_eq, ne_eqb, le-ltb, lt-ltb}
 use Rattle.vic_log.specs.declared.entry.Entry.{Entry}
-use Rattle.vic_log.specs.declared.entry.LogLine.{LogLine}
 use Rattle.vic_log.specs.declared.fault.LineFault.{LineFault}
 use Rattle.vic_log.specs.declared.fault.LineFault.TheVariants.{TooManyLines, LineTooLong, Header}
 use Rattle.vic_frame.specs.Uids.{has}
 use Rattle.vic_log.specs.Order.{IsInOrder, entries}
 use Rattle.vic_log.specs.Lines.{onto, cut, ends_with, all_but_last, without_last, content, lines_of_text}
 use Rattle.vic_log.specs.LineReading.{line_reading}
-use Rattle.vic_log.specs.Text.{line_fault, reading_fault, entry_line, logged, IsLogOf, header, is_header}
-use Rattle.vic_log.specs.declared.entry.Version.TheVariants.{V1}
+use Rattle.vic_log.specs.Text.{named_version, line_fault, after_line, reading_fault, entry_line, logged, IsLogOf, header, is_header}
+use Rattle.vic_log.specs.Log.{LogValue}
+use Rattle.vic_log.specs.declared.entry.Version.{Version}
+use Rattle.vic_log.specs.declared.entry.Version.TheVariants.{V1, V2}
 use Rattle.vic_log.specs.Writing.{entry_text, joined, numbered}
 use Rattle.vic_log.proofs.Passing.{HasRead, HasRead-start, HasRead-step, HasRead-end}
 use Rattle.vic_log.proofs.Follow.{order_fault-none}
@@ -86,9 +87,9 @@ lines-joined (line ∷ lines) plain =
 
 -- ---- the lines of entries in order have no fault
 
--- the entry's line reads back
-pub record IsSpelled (e : Entry) : Type 0 where
-  pub reads : line_reading (entry_text e) ≡ Ok (Some e)
+-- the entry's line reads back in this version
+pub record IsSpelled (version : Version) (e : Entry) : Type 0 where
+  pub reads : line_reading version (entry_text e) ≡ Ok (Some e)
   pub short : length (entry_text e) ≤ 128
   pub plain : IsPlain (entry_text e)
 
@@ -108,51 +109,71 @@ chain false true d x y z w p q r = cc
 chain false false true x y z w p q r = cc
 chain false false false x y z w p q r = refl
 
-no_fault : (es fs : List Entry) (e : Entry) (n : ℕ) → IsInOrder (es ++ e ∷ fs) → IsSpelled e → 1 < n → n ≤ 1000000 → line_fault es n (Some (entry_text e)) ≡ None
-no_fault es fs e n o s some few =
+no_fault : (v : Version) (es fs : List Entry) (e : Entry) (n : ℕ) → IsInOrder (es ++ e ∷ fs) → IsSpelled v e → 1 < n → n ≤ 1000000 → line_fault v es n (Some (entry_text e)) ≡ None
+no_fault v es fs e n o s some few =
     let line = entry_text e in
-    chain (nat_lt 1000000 n) (nat_lt 128 (length line)) (nat_eq n 1) (Some TooManyLines) (Some LineTooLong) (if is_header line then None else Some Header) (reading_fault es (line_reading line))
+    chain (nat_lt 1000000 n) (nat_lt 128 (length line)) (nat_eq n 1) (Some TooManyLines) (Some LineTooLong) (if is_header line then None else Some Header) (reading_fault es (line_reading v line))
     (le-ltb 1000000 n few) (le-ltb 128 (length line) s.short) (ne_eqb n 1 (λ same. absurd (omega arith)))
     ∙ (ap (reading_fault es) s.reads ∙ order_fault-none es fs e o)
 
-chosen : (b : Bool) (x y : List LogLine) → b ≡ false → (if b then x else y) ≡ y
+chosen : {A : Type 0} (b : Bool) (x y : A) → b ≡ false → (if b then x else y) ≡ y
 chosen true x y h = cc
 chosen false x y h = refl
 
-logged_is : (e : Entry) (n : ℕ) → IsSpelled e → 1 < n → logged n (Some (entry_text e)) ≡ record { number = n; item = e } ∷ []
-logged_is e n s some =
-    chosen (nat_eq n 1) [] (entry_line n (line_reading (entry_text e))) (ne_eqb n 1 (λ same. absurd (omega arith))) ∙ ap (entry_line n) s.reads
+not_first : (n : ℕ) → 1 < n → nat_eq n 1 ≡ false
+not_first n some = ne_eqb n 1 (λ same. absurd (omega arith))
 
-abbrev pub AreSpelled : List Entry → Type 0
-AreSpelled es = (i : ℕ) (e : Entry) → slice_get es i ≡ Some e → IsSpelled e
+logged_is : (v : Version) (e : Entry) (n : ℕ) → IsSpelled v e → 1 < n → logged v n (Some (entry_text e)) ≡ record { number = n; item = e } ∷ []
+logged_is v e n s some =
+    chosen (nat_eq n 1) [] (entry_line n (line_reading v (entry_text e))) (not_first n some) ∙ ap (entry_line n) s.reads
 
-reads_on : (lines : List (List ℕ)) (es rest : List Entry) → HasRead lines (map entry_text rest) (numbered 2 es) (suc (length es)) → IsInOrder (es ++ rest) → AreSpelled rest → length es + length rest ≤ 999999 → IsLogOf lines (numbered 2 (es ++ rest))
-reads_on lines es [] r o s few = subst (λ fs. IsLogOf lines (numbered 2 fs)) (sym (append-nil es)) (HasRead-end lines (numbered 2 es) (suc (length es)) r (omega arith))
-reads_on lines es (e ∷ rest) r o s few =
+-- these entries on the lines 2, 3, 4 and so on
+abbrev of_version : Version → List Entry → LogValue
+of_version v es = record { lines = numbered 2 es; version = v }
+
+after_line-is : (v : Version) (es : List Entry) (e : Entry) (n : ℕ) → n ≡ 2 + length es → IsSpelled v e → after_line (of_version v es) n (entry_text e) ≡ of_version v (es ++ e ∷ [])
+after_line-is v es e n at s =
+    let lines_are : numbered 2 es ++ logged v n (Some (entry_text e)) ≡ numbered 2 (es ++ e ∷ []) = ap (λ ls. numbered 2 es ++ ls) (logged_is v e n s (omega arith)) ∙ sym (numbered-push 2 es e ∙ ap (λ k. numbered 2 es ++ record { number = k; item = e } ∷ []) (sym at)) in
+    let version_is : (if nat_eq n 1 then named_version (Some (entry_text e)) else v) ≡ v = chosen (nat_eq n 1) (named_version (Some (entry_text e))) v (not_first n (omega arith)) in
+    rw (lines_are, version_is) refl
+
+abbrev pub AreSpelled : Version → List Entry → Type 0
+AreSpelled v es = (i : ℕ) (e : Entry) → slice_get es i ≡ Some e → IsSpelled v e
+
+reads_on : (v : Version) (lines : List (List ℕ)) (es rest : List Entry) → HasRead lines (map entry_text rest) (of_version v es) (suc (length es)) → IsInOrder (es ++ rest) → AreSpelled v rest → length es + length rest ≤ 999999 → IsLogOf lines (of_version v (es ++ rest))
+reads_on v lines es [] r o s few = subst (λ fs. IsLogOf lines (of_version v fs)) (sym (append-nil es)) (HasRead-end lines (of_version v es) (suc (length es)) r (omega arith))
+reads_on v lines es (e ∷ rest) r o s few =
     let n = suc (length es) in
     let line = entry_text e in
     let first = s 0 e refl in
-    let clean : line_fault (entries (numbered 2 es)) (suc n) (Some line) ≡ None = ap (λ fs. line_fault fs (suc n) (Some line)) (entries-numbered 2 es) ∙ no_fault es rest e (suc n) o first (omega arith) (omega arith) in
-    let step = HasRead-step lines line (map entry_text rest) (numbered 2 es) n r clean in
-    let at : 2 + length es ≡ suc n = omega arith in
-    let log_is : numbered 2 es ++ logged (suc n) (Some line) ≡ numbered 2 (es ++ e ∷ []) = ap (λ ls. numbered 2 es ++ ls) (logged_is e (suc n) first (omega arith)) ∙ sym (numbered-push 2 es e ∙ ap (λ k. numbered 2 es ++ record { number = k; item = e } ∷ []) at) in
+    let clean : line_fault v (entries (numbered 2 es)) (suc n) (Some line) ≡ None = ap (λ fs. line_fault v fs (suc n) (Some line)) (entries-numbered 2 es) ∙ no_fault v es rest e (suc n) o first (omega arith) (omega arith) in
+    let step = HasRead-step lines line (map entry_text rest) (of_version v es) n r clean in
     let long : length (es ++ e ∷ []) ≡ n = length-append es (e ∷ []) ∙ omega arith in
-    let more = subst (λ k. HasRead lines (map entry_text rest) (numbered 2 (es ++ e ∷ [])) (suc k)) (sym long) (subst (λ ls. HasRead lines (map entry_text rest) ls (suc n)) log_is step) in
+    let more = subst (λ k. HasRead lines (map entry_text rest) (of_version v (es ++ e ∷ [])) (suc k)) (sym long)
+    (subst (λ log. HasRead lines (map entry_text rest) log (suc n)) (after_line-is v es e (suc n) (omega arith) first) step) in
     let regroup : (es ++ e ∷ []) ++ rest ≡ es ++ e ∷ rest = append_assoc es (e ∷ []) rest in
-    subst (λ fs. IsLogOf lines (numbered 2 fs)) regroup (reads_on lines (es ++ e ∷ []) rest more (subst IsInOrder (sym regroup) o) (λ i f k. s (suc i) f k) (omega arith))
+    subst (λ fs. IsLogOf lines (of_version v fs)) regroup (reads_on v lines (es ++ e ∷ []) rest more (subst IsInOrder (sym regroup) o) (λ i f k. s (suc i) f k) (omega arith))
 
-plain_all : (es : List Entry) → AreSpelled es → (i : ℕ) (line : List ℕ) → slice_get (map entry_text es) i ≡ Some line → IsPlain line
-plain_all [] s i line k = cc
-plain_all (e ∷ es) s zero line k = let same : entry_text e ≡ line = cc in subst IsPlain same (s 0 e refl).plain
-plain_all (e ∷ es) s (suc i) line k = plain_all es (λ j f g. s (suc j) f g) i line k
+plain_all : (v : Version) (es : List Entry) → AreSpelled v es → (i : ℕ) (line : List ℕ) → slice_get (map entry_text es) i ≡ Some line → IsPlain line
+plain_all v [] s i line k = cc
+plain_all v (e ∷ es) s zero line k = let same : entry_text e ≡ line = cc in subst IsPlain same (s 0 e refl).plain
+plain_all v (e ∷ es) s (suc i) line k = plain_all v es (λ j f g. s (suc j) f g) i line k
 
-plain_lines : (es : List Entry) → AreSpelled es → (i : ℕ) (line : List ℕ) → slice_get (header V1 ∷ map entry_text es) i ≡ Some line → IsPlain line
-plain_lines es s zero line k = let same : header V1 ≡ line = cc in subst IsPlain same (record { no_lf = refl; no_cr = refl })
-plain_lines es s (suc i) line k = plain_all es s i line k
+header_plain : (v : Version) → IsPlain (header v)
+header_plain V1 = record { no_lf = refl; no_cr = refl }
+header_plain V2 = record { no_lf = refl; no_cr = refl }
+
+plain_lines : (v : Version) (es : List Entry) → AreSpelled v es → (i : ℕ) (line : List ℕ) → slice_get (header v ∷ map entry_text es) i ≡ Some line → IsPlain line
+plain_lines v es s zero line k = let same : header v ≡ line = cc in subst IsPlain same (header_plain v)
+plain_lines v es s (suc i) line k = plain_all v es s i line k
+
+-- the header is line 1, and names its version
+header_read : (v : Version) (lines : List (List ℕ)) → HasRead (header v ∷ lines) lines (of_version v []) 1
+header_read V1 lines = HasRead-step (header V1 ∷ lines) (header V1) lines (of_version V1 []) 0 (HasRead-start (header V1 ∷ lines) (of_version V1 []) refl) refl
+header_read V2 lines = HasRead-step (header V2 ∷ lines) (header V2) lines (of_version V2 []) 0 (HasRead-start (header V2 ∷ lines) (of_version V2 []) refl) refl
 
 -- the text of entries in order reads back as these entries, numbered from 2 on
-pub text_of-reads : (es : List Entry) → IsInOrder es → AreSpelled es → length es ≤ 999999 → IsLogOf (lines_of_text (joined (header V1 ∷ map entry_text es))) (numbered 2 es)
-text_of-reads es o s few =
-    let lines = header V1 ∷ map entry_text es in
-    let start = HasRead-step lines (header V1) (map entry_text es) [] 0 (HasRead-start lines) refl in
-    subst (λ ls. IsLogOf ls (numbered 2 es)) (sym (lines-joined lines (plain_lines es s))) (reads_on lines [] es start o s (omega arith))
+pub text_of-reads : (v : Version) (es : List Entry) → IsInOrder es → AreSpelled v es → length es ≤ 999999 → IsLogOf (lines_of_text (joined (header v ∷ map entry_text es))) (of_version v es)
+text_of-reads v es o s few =
+    let lines = header v ∷ map entry_text es in
+    subst (λ ls. IsLogOf ls (of_version v es)) (sym (lines-joined lines (plain_lines v es s))) (reads_on v lines [] es (header_read v (map entry_text es)) o s (omega arith))

@@ -1,24 +1,23 @@
 -- A text that is read in pieces: its lines so far were judged, and one more may have begun.
-use Rattle.std.specs.Prelude.{◌≡◌, ◌⊎◌, ℕ, ◌+◌, ◌*◌, ◌-◌, ◌≤◌, true, false, Option, Some, None, List, [], ◌∷◌, ◌++◌, length, map}
+use Rattle.std.specs.Prelude.{◌≡◌, ◌⊎◌, ℕ, ◌*◌, ◌-◌, ◌<◌, ◌≤◌, true, false, None, List, [], ◌∷◌, ◌++◌, length, map}
 use Rattle.vic_frame.specs.Uids.{has}
-use Rattle.vic_log.specs.declared.entry.LogLine.{LogLine}
-use Rattle.vic_log.specs.declared.fault.LineFault.{LineFault}
 use Rattle.vic_log.specs.declared.reader.Begun.{Begun}
-use Rattle.vic_log.specs.Lines.{lf, cr, cut, ends_with, without_last, content}
-use Rattle.vic_log.specs.Order.{entries}
-use Rattle.vic_log.specs.Text.{line_fault, log_upto, fault_on}
+use Rattle.vic_log.specs.Lines.{lf, cr, cut, ends_with, content}
+use Rattle.vic_log.specs.Log.{LogValue}
+use Rattle.vic_log.specs.Text.{version_of, log_upto, fault_on}
 
 -- bytes without LF that may be a line yet, with the CR of its end
 abbrev pub IsShort : List ℕ → Type 0
 IsShort line = (length line ≤ 128) ⊎ ((length line ≡ 129) × (ends_with cr line ≡ true))
 
--- the text is so many lines without a fault, which gave these log lines, and a line begun that isn't too long yet
-pub record HasJudged (text : List ℕ) (log : List LogLine) (number : ℕ) (line : List ℕ) : Type 0 where
+-- the text is so many lines without a fault, which gave this log, and a line begun that isn't too long yet
+pub record HasJudged (text : List ℕ) (log : LogValue) (number : ℕ) (line : List ℕ) : Type 0 where
   pub parts : List (List ℕ)
   pub cuts : (more : List ℕ) → cut (text ++ more) ≡ parts ++ cut (line ++ more)
   pub count : length parts ≡ number
   pub clean : (m : ℕ) → m ≤ number → fault_on (map content parts) m ≡ None
-  pub log_is : log ≡ log_upto (map content parts) number
+  pub log_is : log.lines ≡ log_upto (map content parts) number
+  pub version : 0 < number → log.version ≡ version_of (map content parts)
   pub limit : number ≤ 1000000
   pub no_lf : has line lf ≡ false
   pub short : IsShort line
@@ -30,7 +29,7 @@ spare number line = 130 * (1000000 - number) - length line
 
 -- the same of what a reader keeps
 abbrev pub HasTaken : List ℕ → Begun → Type 0
-HasTaken text b = HasJudged text b.log.lines b.number b.line.items
+HasTaken text b = HasJudged text b.log b.number b.line.items
 
 abbrev pub spare_of : Begun → ℕ
 spare_of b = spare b.number b.line.items
@@ -39,11 +38,3 @@ spare_of b = spare b.number b.line.items
 pub record IsSplit (bytes line rest : List ℕ) : Type 0 where
   pub whole : bytes ≡ line ++ lf ∷ rest
   pub no_lf : has line lf ≡ false
-
--- a line, once its LF has come
-abbrev pub ended_line : List ℕ → Option (List ℕ)
-ended_line line = Some (without_last cr line)
-
--- its first fault behind so many lines
-abbrev pub ended_fault : List LogLine → ℕ → List ℕ → Option LineFault
-ended_fault log number line = line_fault (entries log) (number + 1) (ended_line line)

@@ -1,7 +1,6 @@
 -- Faults that no further bytes can change, and what a source that is read in pieces gives.
 use Rattle.std.specs.Prelude.{◌≡◌, ◌⊎◌, ℕ, suc, ◌≤◌, false, true, ⊤, Option, Some, Result, Ok, Err, List, length, slice_get}
 use Rattle.std.specs.Io.KnownBytes.{IsAtEnd}
-use Rattle.vic_log.specs.declared.entry.Version.TheVariants.{V1}
 use Rattle.vic_log.specs.declared.fault.LineFault.{LineFault}
 use Rattle.vic_log.specs.declared.fault.LogFault.{LogFault}
 use Rattle.vic_log.specs.declared.fault.LogFault.TheVariants.{Line, Read, Memory, Spent}
@@ -36,7 +35,7 @@ IsEarly Spent text = ⊥
 -- what these bytes give, handed out by a source that has these left: their log, or the first fault, at the end; an
 -- early fault before it; and a failed read only where they have no early fault
 abbrev pub ReadsAs : Option (List ℕ) → List ℕ → Result LogValue LogFault → Type 0
-ReadsAs left text (Ok log) = IsAtEnd left × IsLogOf (lines_of_text text) log.lines × (log.version ≡ V1)
+ReadsAs left text (Ok log) = IsAtEnd left × IsLogOf (lines_of_text text) log
 ReadsAs left text (Err Read) = (n : ℕ) (f : LineFault) → IsEarlyFault text n f → ⊥
 ReadsAs left text (Err (Line n f)) = IsEarlyFault text n f ⊎ (IsAtEnd left × IsFirstFault (lines_of_text text) n f)
 ReadsAs left text (Err Memory) = ⊤
@@ -44,6 +43,6 @@ ReadsAs left text (Err Spent) = ⊥
 
 -- the log of a whole text, or its first fault, unless the text couldn't be read
 abbrev pub Judges : List ℕ → Result LogValue LogFault → Type 0
-Judges text (Ok log) = IsLogOf (lines_of_text text) log.lines × (log.version ≡ V1)
+Judges text (Ok log) = IsLogOf (lines_of_text text) log
 Judges text (Err (Line n f)) = IsFirstFault (lines_of_text text) n f
 Judges text (Err e) = ⊤

@@ -10,7 +10,9 @@ use Rattle.vic_frame.specs.Reading.{request_reading, reply_reading}
 use Rattle.vic_frame.specs.declared.request.Request.{Request}
 use Rattle.vic_frame.specs.declared.fault.FrameFault.{FrameFault}
 use Rattle.vic_log.specs.declared.entry.Entry.{Entry}
-use Rattle.vic_log.specs.declared.entry.Entry.TheVariants.{Sent, Silent, Collision, Heard, Listed}
+use Rattle.vic_log.specs.declared.entry.Entry.TheVariants.{Sent, Silent, Collision, Heard, Listed, Garbled, FieldCycle}
+use Rattle.vic_log.specs.declared.entry.Version.{Version}
+use Rattle.vic_log.specs.declared.entry.Version.TheVariants.{V1, V2}
 use Rattle.vic_log.specs.declared.fault.LineFault.{LineFault}
 use Rattle.vic_log.specs.declared.fault.LineFault.TheVariants.{LineTooLong, UnknownEntry, Hex, ListedLength, Frame, NotVicinity}
 
@@ -37,12 +39,20 @@ abbrev pub with_bytes : (List ℕ → Result (Option Entry) LineFault) → Resul
 with_bytes f (Ok bytes) = f bytes
 with_bytes f (Err e) = Err Hex
 
--- S and C alone
-abbrev pub one_letter : ℕ → Result (Option Entry) LineFault
-one_letter letter =
+-- the letters that version 2 adds: D and F
+abbrev pub added_letter : Version → ℕ → Result (Option Entry) LineFault
+added_letter V1 letter = Err UnknownEntry
+added_letter V2 letter =
+    if letter == byte "D" then Ok (Some Garbled)
+    else if letter == byte "F" then Ok (Some FieldCycle)
+    else Err UnknownEntry
+
+-- a letter alone: S and C, and those that the version adds
+abbrev pub one_letter : Version → ℕ → Result (Option Entry) LineFault
+one_letter version letter =
     if letter == byte "S" then Ok (Some Silent)
     else if letter == byte "C" then Ok (Some Collision)
-    else Err UnknownEntry
+    else added_letter version letter
 
 -- T, R and U with hex digits behind a space
 abbrev pub with_digits : ℕ → List ℕ → Result (Option Entry) LineFault
@@ -52,11 +62,12 @@ with_digits letter digits =
     else if letter == byte "U" then with_bytes listed_uid (decode_of digits)
     else Err UnknownEntry
 
--- the entry that a line after the header spells, None where it is passed over, or the first of the faults that it has by itself
-abbrev pub line_reading : List ℕ → Result (Option Entry) LineFault
-line_reading line =
+-- the entry that a line after the header spells in this version, None where it is passed over, or the first of the
+-- faults that it has by itself
+abbrev pub line_reading : Version → List ℕ → Result (Option Entry) LineFault
+line_reading version line =
     if nat_lt 128 (length line) then Err LineTooLong
     else if is_passed_over line then Ok None
-    else if length line == 1 then one_letter (slice_index line 0)
+    else if length line == 1 then one_letter version (slice_index line 0)
     else if slice_index line 1 == byte " " then with_digits (slice_index line 0) (drop 2 line)
     else Err UnknownEntry

@@ -39,3 +39,7 @@ text_of log = header log.version ++ lf ∷ lines_text log.lines
 abbrev pub numbered : ℕ → List Entry → List LogLine
 numbered n [] = []
 numbered n (e ∷ es) = record { number = n; item = e } ∷ numbered (suc n) es
+
+-- a log with its entries on the lines 2, 3, 4 and so on
+abbrev pub renumbered : LogValue → LogValue
+renumbered log = record { lines = numbered 2 (entries log.lines); version = log.version }

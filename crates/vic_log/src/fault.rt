@@ -17,9 +17,9 @@ pub enum LineFault {
     TooManyLines,
     /// It has more than 128 bytes, without its end.
     LineTooLong,
-    /// It is line 1 and isn't the header, or the text is empty.
+    /// It is line 1 and isn't a version's header, or the text is empty.
     Header,
-    /// It is neither passed over, nor `S` or `C`, nor begins with `T `, `R ` or `U `.
+    /// It is neither passed over, nor `S`, `C` or in version 2 `D` or `F`, nor begins with `T `, `R ` or `U `.
     UnknownEntry,
     /// What follows the space isn't an even number of hex digits.
     Hex,
@@ -31,7 +31,7 @@ pub enum LineFault {
     NotVicinity,
     /// A slot line where no slot of a round is left.
     SlotOutsideRound,
-    /// A `T` line after a `U` line.
+    /// A `T` or `F` line after a `U` line.
     EntryAfterList,
     /// A UID that was listed before.
     DuplicateListed,

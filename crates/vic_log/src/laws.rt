@@ -2,31 +2,29 @@
 
 ghost use Rattle.std.specs.Prelude.{◌≡◌, ◌++◌, ◌∷◌, ◌↔◌, ◌⊎◌, ℕ, true, [], List, Some, None, Result};
 ghost use Rattle.vic_log.specs.declared.entry.Entry.{Entry};
-ghost use Rattle.vic_log.specs.declared.entry.LogLine.{LogLine};
-ghost use Rattle.vic_log.specs.declared.entry.Version.TheVariants.{V1};
 ghost use Rattle.vic_log.specs.declared.fault.LineFault.{LineFault};
 ghost use Rattle.vic_log.specs.declared.fault.LogFault.{LogFault};
 ghost use Rattle.vic_log.specs.Early.{IsEarlyFault, ReadsAs, Judges};
-ghost use Rattle.vic_log.specs.FirstVersion.{IsOfFirstVersion, AreOfFirstVersion, first_opener, is_first_quiet, FitsFirst};
+ghost use Rattle.vic_log.specs.FirstVersion.{IsOfFirstVersion, AreOfFirstVersion, first_opener, is_first_quiet, FitsFirst, CouldHaveGivenFirst, IsInFirstOrder};
 ghost use Rattle.vic_log.specs.Lines.{lines_of_text};
 ghost use Rattle.vic_log.specs.Log.{IsLog, LogValue};
-ghost use Rattle.vic_log.specs.Order.{IsInOrder, entries, refusal};
-ghost use Rattle.vic_log.specs.Populations.{Outcome, Fits};
+ghost use Rattle.vic_log.specs.Order.{IsInOrder, refusal};
+ghost use Rattle.vic_log.specs.Populations.{Outcome, Fits, CouldHaveGiven};
 ghost use Rattle.vic_log.specs.Quiet.{is_quiet, IsSilenced};
 ghost use Rattle.vic_log.specs.Rounds.{opener};
 ghost use Rattle.vic_log.specs.Text.{IsLogOf, IsFirstFault};
-ghost use Rattle.vic_log.specs.Writing.{text_of, numbered};
+ghost use Rattle.vic_log.specs.Writing.{text_of, renumbered};
 
-/// The text of a log is that of a log with the same entries, on the lines 2, 3, 4 and so on.
+/// The text of a log is that of a log of the same version with the same entries, on the lines 2, 3, 4 and so on.
 pub fn text_reads_back()
-    ensures { (lines : List LogLine) → IsLog V1 lines → IsLogOf (lines_of_text (text_of (record { lines = lines; version = V1 }))) (numbered 2 (entries lines)) }
+    ensures { (log : LogValue) → IsLog log.version log.lines → IsLogOf (lines_of_text (text_of log)) (renumbered log) }
 {}
 
 /// A text has a log or a first fault, never both, and never two.
 pub fn one_answer()
-    ensures some { (lines : List (List ℕ)) → ((n : ℕ) × (f : LineFault) × IsFirstFault lines n f) ⊎ ((log : List LogLine) × IsLogOf lines log) }
+    ensures some { (lines : List (List ℕ)) → ((n : ℕ) × (f : LineFault) × IsFirstFault lines n f) ⊎ ((log : LogValue) × IsLogOf lines log) }
     ensures fault { (lines : List (List ℕ)) (n m : ℕ) (f g : LineFault) → IsFirstFault lines n f → IsFirstFault lines m g → (n ≡ m) × (f ≡ g) }
-    ensures log { (lines : List (List ℕ)) (n : ℕ) (f : LineFault) (log : List LogLine) → IsFirstFault lines n f → IsLogOf lines log → ⊥ }
+    ensures log { (lines : List (List ℕ)) (n : ℕ) (f : LineFault) (log : LogValue) → IsFirstFault lines n f → IsLogOf lines log → ⊥ }
 {}
 
 /// An early fault is the fault of every text that begins with the bytes.
@@ -49,9 +47,12 @@ pub fn quiet_since_stay_quiet()
     ensures { (es : List Entry) (i u : ℕ) → (is_quiet es i u ≡ true) ↔ IsSilenced es i u }
 {}
 
-/// On entries of version 1, rounds, Quiet tags and outcomes are what they are without garbled slots and field cycles.
+/// On entries of version 1, rounds, Quiet tags, outcomes, the order of entries and what a population could have given
+/// are what they are without garbled slots and field cycles.
 pub fn first_version_is_kept()
     ensures opener { (es : List Entry) → AreOfFirstVersion es → (i : ℕ) → opener es i ≡ first_opener es i }
     ensures quiet { (es : List Entry) → AreOfFirstVersion es → (i u : ℕ) → is_quiet es i u ≡ is_first_quiet es i u }
     ensures fits { (e : Entry) → IsOfFirstVersion e → (o : Outcome) → Fits e o ↔ FitsFirst e o }
+    ensures order { (es : List Entry) → AreOfFirstVersion es → IsInOrder es ↔ IsInFirstOrder es }
+    ensures given { (es : List Entry) → AreOfFirstVersion es → (p : List ℕ) → CouldHaveGiven p es ↔ CouldHaveGivenFirst p es }
 {}

@@ -29,7 +29,7 @@ mod write;
 pub use digits::push_hex;
 pub use entry::{Entry, LogLine, MAX_LINES, Version};
 pub use fault::{LineFault, LogFault, PushFault, WriteFault};
-pub use line::line_entry;
+pub use line::{line_entry, line_entry_of};
 pub use log::Log;
 pub use read::read_log;
 pub use reader::LogReader;

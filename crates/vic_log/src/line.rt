@@ -6,9 +6,10 @@ ghost use Rattle.vic_log.specs.FirstVersion.{IsOfFirstVersion};
 ghost use Rattle.hex.specs.Hex.{decode_of, decode_pairs, hex_digit_value};
 ghost use Rattle.vic_frame.specs.Reading.{request_reading, reply_reading};
 ghost use Rattle.vic_log.specs.declared.fault.LineFault.TheVariants.{Hex};
-ghost use Rattle.vic_log.specs.LineReading.{line_reading, sent, heard, listed_uid};
+ghost use Rattle.vic_log.specs.declared.entry.Version.TheVariants.{V1};
+ghost use Rattle.vic_log.specs.LineReading.{line_reading, one_letter, sent, heard, listed_uid};
 
-use crate::entry::Entry;
+use crate::entry::{Entry, Version};
 use crate::fault::LineFault;
 use vic_frame::{Uid, read_request, read_response};
 
@@ -71,6 +72,21 @@ fn decode<'a>(digits: &[u8], room: &'a mut [u8; 63]) -> Result<&'a [u8], LineFau
     }
 }
 
+/// The entry of a letter alone. `D` and `F` are known in version 2.
+fn letter_entry(version: Version, letter: u8) -> Result<Option<Entry>, LineFault>
+    ensures reading { result ≡ one_letter version letter }
+    ensures valid { IfOk result (λ entry. IfSome entry IsValidEntry) }
+    ensures first_version { version ≡ V1 → IfOk result (λ entry. IfSome entry IsOfFirstVersion) }
+{
+    match (version, letter) {
+        (_, b'S') => Ok(Some(Entry::Silent)),
+        (_, b'C') => Ok(Some(Entry::Collision)),
+        (Version::V2, b'D') => Ok(Some(Entry::Garbled)),
+        (Version::V2, b'F') => Ok(Some(Entry::FieldCycle)),
+        _ => Err(LineFault::UnknownEntry),
+    }
+}
+
 /// The entry of a sent frame.
 fn request_entry(bytes: &[u8]) -> Result<Option<Entry>, LineFault>
     ensures reading { result ≡ sent (request_reading bytes.now) }
@@ -113,11 +129,11 @@ fn uid_entry(bytes: &[u8]) -> Result<Option<Entry>, LineFault>
     }
 }
 
-/// The entry on one line after the header, without its end; None where the line is passed over.
-pub fn line_entry(line: &[u8]) -> Result<Option<Entry>, LineFault>
-    ensures reading { result ≡ line_reading line.now }
+/// The entry on one line after the header of a log of this version, without its end; None where the line is passed over.
+pub fn line_entry_of(version: Version, line: &[u8]) -> Result<Option<Entry>, LineFault>
+    ensures reading { result ≡ line_reading version line.now }
     ensures valid { IfOk result (λ entry. IfSome entry IsValidEntry) }
-    ensures first_version { IfOk result (λ entry. IfSome entry IsOfFirstVersion) }
+    ensures first_version { version ≡ V1 → IfOk result (λ entry. IfSome entry IsOfFirstVersion) }
 {
     if line.len() > 128 {
         return Err(LineFault::LineTooLong);
@@ -126,11 +142,7 @@ pub fn line_entry(line: &[u8]) -> Result<Option<Entry>, LineFault>
         return Ok(None);
     }
     if line.len() == 1 {
-        return match line[0] {
-            b'S' => Ok(Some(Entry::Silent)),
-            b'C' => Ok(Some(Entry::Collision)),
-            _ => Err(LineFault::UnknownEntry),
-        };
+        return letter_entry(version, line[0]);
     }
     if line[1] != b' ' {
         return Err(LineFault::UnknownEntry);
@@ -143,4 +155,13 @@ pub fn line_entry(line: &[u8]) -> Result<Option<Entry>, LineFault>
         b'U' => uid_entry(decode(digits, &mut room)?),
         _ => Err(LineFault::UnknownEntry),
     }
+}
+
+/// The entry on one line after the header of a log of version 1, without its end; None where the line is passed over.
+pub fn line_entry(line: &[u8]) -> Result<Option<Entry>, LineFault>
+    ensures reading { result ≡ line_reading V1 line.now }
+    ensures valid { IfOk result (λ entry. IfSome entry IsValidEntry) }
+    ensures first_version { IfOk result (λ entry. IfSome entry IsOfFirstVersion) }
+{
+    line_entry_of(Version::V1, line)
 }

@@ -65,6 +65,14 @@ impl Log {
         }
     }
 
+    /// Gives a log without lines this version.
+    pub(crate) fn set_version(&mut self, version: Version)
+        requires { self.old.lines ≡ [] }
+        ensures { self.new ≡ record { lines = []; version = version } }
+    {
+        self.version = version;
+    }
+
     /// Its version.
     pub fn version(&self) -> Version
         ensures { result ≡ self.now.version }

@@ -1,26 +1,40 @@
 //! A whole text.
 
-ghost use Rattle.std.specs.Prelude.{◌≡◌, ◌<◌, ◌≤◌, MatchResult, OnOk};
+ghost use Rattle.std.specs.Prelude.{◌≡◌, ◌<◌, ◌≤◌, [], Some, None, MatchResult, OnOk, if◌then◌else◌, IfOk};
 ghost use Rattle.vic_log.specs.declared.entry.Version.TheVariants.{V1};
+ghost use Rattle.vic_log.specs.declared.fault.LineFault.TheVariants.{Header};
 ghost use Rattle.vic_log.specs.FirstVersion.{IsOfFirstVersion};
 ghost use Rattle.vic_log.specs.Lines.{lines_of_text};
 ghost use Rattle.vic_log.specs.Order.{entries};
-ghost use Rattle.vic_log.specs.Log.{last_from, with_line, with_lines, IsValidEntry};
-ghost use Rattle.vic_log.specs.Text.{IsLogOf, Refuses, RefusesLine, line_fault, logged, order_fault};
+ghost use Rattle.vic_log.specs.Log.{last_from, with_line, IsValidEntry};
+ghost use Rattle.vic_log.specs.Text.{IsLogOf, Refuses, RefusesLine, next_fault, after_line, order_fault, is_header, named_version};
 
-use crate::entry::Entry;
+use crate::entry::{Entry, Version};
 use crate::fault::{LineFault, LogFault, PushFault};
-use crate::line::line_entry;
+use crate::line::line_entry_of;
 use crate::log::Log;
 use bstr::ByteSlice;
 use std::alloc::Global;
+
+/// The version that the first line of a text names; None where it isn't a header.
+fn version_named(line: &[u8]) -> Option<Version>
+    ensures { result ≡ (if is_header line.now then Some (named_version (Some line.now)) else None) }
+{
+    if line == b"vicinity-log 1".as_slice() {
+        Some(Version::V1)
+    } else if line == b"vicinity-log 2".as_slice() {
+        Some(Version::V2)
+    } else {
+        None
+    }
+}
 
 /// Adds an entry behind a log.
 fn take_entry(log: &mut Log, number: u32, entry: Entry) -> Result<(), LogFault>
     requires above { last_from 1 log.old.lines < number }
     requires limit { number ≤ 1000000 }
     requires valid { IsValidEntry entry }
-    requires first_version { IsOfFirstVersion entry }
+    requires first_version { log.old.version ≡ V1 → IsOfFirstVersion entry }
     ensures answer { MatchResult result
         (λ _. order_fault (entries log.old.lines) entry ≡ None)
         (RefusesLine (order_fault (entries log.old.lines) entry) number) }
@@ -42,23 +56,25 @@ fn take_entry(log: &mut Log, number: u32, entry: Entry) -> Result<(), LogFault>
 /// Reads one line behind those that a log was read from.
 pub(crate) fn take_line(log: &mut Log, number: u32, line: &[u8]) -> Result<(), LogFault>
     requires first { 1 ≤ number }
+    requires begin { number ≡ 1 → log.old.lines ≡ [] }
     requires above { 1 < number → last_from 1 log.old.lines < number }
     ensures answer { MatchResult result
-        (λ _. line_fault (entries log.old.lines) number (Some line.now) ≡ None)
-        (RefusesLine (line_fault (entries log.old.lines) number (Some line.now)) number) }
-    ensures added { OnOk result (log.new ≡ with_lines log.old (logged number (Some line.now))) }
+        (λ _. next_fault log.old number line.now ≡ None)
+        (RefusesLine (next_fault log.old number line.now) number) }
+    ensures added { OnOk result (log.new ≡ after_line log.old number line.now) }
 {
     let fault = if number > 1_000_000 {
         LineFault::TooManyLines
     } else if line.len() > 128 {
         LineFault::LineTooLong
     } else if number == 1 {
-        if line == b"vicinity-log 1".as_slice() {
+        if let Some(version) = version_named(line) {
+            log.set_version(version);
             return Ok(());
         }
         LineFault::Header
     } else {
-        match line_entry(line) {
+        match line_entry_of(log.version(), line) {
             Ok(Some(entry)) => return take_entry(log, number, entry),
             Ok(None) => return Ok(()),
             Err(fault) => fault,
@@ -70,10 +86,10 @@ pub(crate) fn take_line(log: &mut Log, number: u32, line: &[u8]) -> Result<(), L
     })
 }
 
-/// The log of a whole text.
+/// The log of a whole text, of the version that its first line names.
 pub fn read_log(alloc: Global, text: &[u8]) -> Result<Log, LogFault>
     ensures { MatchResult result
-        (λ log. IsLogOf (lines_of_text text.now) log.lines × (log.version ≡ V1))
+        (IsLogOf (lines_of_text text.now))
         (Refuses text.now) }
 {
     let mut log = Log::new(alloc);

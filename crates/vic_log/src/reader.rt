@@ -3,12 +3,12 @@
 ghost use Rattle.std.specs.Prelude.{◌≡◌, ◌≢◌, ◌+◌, ◌-◌, ◌*◌, ◌<◌, ◌≤◌, ◌↔◌, ◌++◌, ◌∷◌, [], ℕ, List, Bool, true, false, Some, None, Err, length, MatchResult, IfOk, IfErr, OnOk, IsTrue, MatchOption};
 ghost use Rattle.vic_frame.specs.Uids.{has};
 ghost use Rattle.vic_log.specs.declared.fault.LogFault.TheVariants.{Read as NotRead, Spent as IsSpent};
-ghost use Rattle.vic_log.specs.Begun.{IsShort, IsSplit, HasTaken, spare_of, ended_line, ended_fault};
+ghost use Rattle.vic_log.specs.Begun.{IsShort, IsSplit, HasTaken, spare_of};
 ghost use Rattle.vic_log.specs.Device.{HandsOut, TellsOn};
 ghost use Rattle.vic_log.specs.Early.{IsLong, IsEarly, ReadsAs};
 ghost use Rattle.vic_log.specs.Lines.{lf, cr, without_last, lines_of_text};
-ghost use Rattle.vic_log.specs.Log.{last_from, with_lines};
-ghost use Rattle.vic_log.specs.Text.{IsLogOf, Refuses, RefusesLine, logged};
+ghost use Rattle.vic_log.specs.Log.{last_from};
+ghost use Rattle.vic_log.specs.Text.{IsLogOf, Refuses, RefusesLine, next_fault, after_line};
 
 use crate::fault::{LineFault, LogFault};
 use crate::log::Log;
@@ -64,12 +64,14 @@ fn split_line(bytes: &[u8]) -> Option<(&[u8], &[u8])>
 
 /// Judges a line whose LF has come.
 fn end_line(log: &mut Log, number: &mut u32, line: &[u8]) -> Result<(), LogFault>
+    requires begin { number.old ≡ 0 → log.old.lines ≡ [] }
     requires above { 0 < number.old → last_from 1 log.old.lines ≤ number.old }
     requires limit { number.old ≤ 1000000 }
     ensures answer { MatchResult result
-        (λ _. ended_fault log.old.lines number.old line.now ≡ None)
-        (RefusesLine (ended_fault log.old.lines number.old line.now) (number.old + 1)) }
-    ensures log { OnOk result (log.new ≡ with_lines log.old (logged (number.old + 1) (ended_line line.now))) }
+        (λ _. next_fault log.old (number.old + 1) (without_last cr line.now) ≡ None)
+        (RefusesLine (next_fault log.old (number.old + 1) (without_last cr line.now)) (number.old + 1)) }
+    ensures log { OnOk result
+        (log.new ≡ after_line log.old (number.old + 1) (without_last cr line.now)) }
     ensures number { OnOk result (number.new ≡ number.old + 1) }
 {
     take_line(log, *number + 1, without_cr(line))?;
@@ -83,7 +85,6 @@ fn take_end(begun: &mut Begun, bytes: &[u8]) -> Result<(), LogFault>
     requires no_lf { has bytes.now lf ≡ false }
     ensures ok { OnOk result ((text : List ℕ) → HasTaken text begun.old → HasTaken (text ++ (bytes.now ++ lf ∷ [])) begun.new) }
     ensures err { IfErr result (λ e. (text more : List ℕ) → HasTaken text begun.old → IsEarly e (text ++ (bytes.now ++ lf ∷ more))) }
-    ensures version { OnOk result (begun.new.log.version ≡ begun.old.log.version) }
     ensures less { OnOk result (spare_of begun.new + length bytes.now + 1 ≤ spare_of begun.old) }
 {
     if begun.number == 1_000_000 {
@@ -112,7 +113,6 @@ fn take_begun(begun: &mut Begun, bytes: &[u8]) -> Result<(), LogFault>
     requires no_lf { has bytes.now lf ≡ false }
     ensures ok { OnOk result ((text : List ℕ) → HasTaken text begun.old → HasTaken (text ++ bytes.now) begun.new) }
     ensures err { IfErr result (λ e. (text : List ℕ) → HasTaken text begun.old → IsEarly e (text ++ bytes.now)) }
-    ensures version { OnOk result (begun.new.log.version ≡ begun.old.log.version) }
     ensures less { OnOk result (spare_of begun.new + length bytes.now ≤ spare_of begun.old) }
 {
     if bytes.is_empty() {
@@ -139,7 +139,6 @@ fn take_piece(begun: &mut Begun, bytes: &[u8]) -> Result<(), LogFault>
     requires judged { (text : List ℕ) × HasTaken text begun.old }
     ensures ok { OnOk result ((text : List ℕ) → HasTaken text begun.old → HasTaken (text ++ bytes.now) begun.new) }
     ensures err { IfErr result (λ e. (text : List ℕ) → HasTaken text begun.old → IsEarly e (text ++ bytes.now)) }
-    ensures version { OnOk result (begun.new.log.version ≡ begun.old.log.version) }
     ensures less { OnOk result (spare_of begun.new + length bytes.now ≤ spare_of begun.old) }
 {
     let mut rest = bytes;
@@ -153,9 +152,8 @@ fn take_piece(begun: &mut Begun, bytes: &[u8]) -> Result<(), LogFault>
 /// Judges what is left at the end of the text.
 fn end_text(begun: Begun) -> Result<Log, LogFault>
     requires judged { (text : List ℕ) × HasTaken text begun }
-    ensures answer { (text : List ℕ) → HasTaken text begun →
-        MatchResult result (λ log. IsLogOf (lines_of_text text) log.lines) (Refuses text) }
-    ensures version { IfOk result (λ log. log.version ≡ begun.log.version) }
+    ensures { (text : List ℕ) → HasTaken text begun →
+        MatchResult result (IsLogOf (lines_of_text text)) (Refuses text) }
 {
     let Begun {
         mut log,

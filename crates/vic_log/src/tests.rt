@@ -3,7 +3,7 @@
 use crate::devices::{OneByOne, Pieces, Stuck};
 use crate::{
     Entry, LineFault, Log, LogFault, LogReader, PushFault, Sink, Source, ToWrite, Version,
-    WriteFault, line_entry, read_log, write_log,
+    WriteFault, line_entry, line_entry_of, read_log, write_log,
 };
 use std::io::BufWriter;
 use std::test::Fail;
@@ -55,6 +55,17 @@ const REFUSED: [(&str, u32, LineFault); 22] = [
     ("s\n", 2, LineFault::UnknownEntry),
 ];
 
+/// The same under the header of version 2.
+const REFUSED_IN_VERSION_2: [(&str, u32, LineFault); 7] = [
+    ("D\n", 2, LineFault::SlotOutsideRound),
+    ("T 260100F60A\nD\nD\n", 4, LineFault::SlotOutsideRound),
+    ("T 260100F60A\nF\nS\n", 4, LineFault::SlotOutsideRound),
+    ("U E0040100000000A1\nF\n", 3, LineFault::EntryAfterList),
+    ("F \n", 2, LineFault::UnknownEntry),
+    ("d\n", 2, LineFault::UnknownEntry),
+    ("FF\n", 2, LineFault::UnknownEntry),
+];
+
 /// The header, and then a line of `#` with so many bytes.
 fn comment(rt: &HostRuntime, bytes: usize) -> Result<Vec<u8>, Fail> {
     let mut text = Vec::new(rt.alloc());
@@ -89,6 +100,14 @@ fn texts_that_are_refused(rt: HostRuntime) -> Result<(), Fail> {
             "{lines}"
         );
     }
+    for (lines, line, fault) in REFUSED_IN_VERSION_2 {
+        let text = format!(in rt.alloc(); "vicinity-log 2\n{lines}")?;
+        assert_eq!(rt;
+            refusal(&rt, text.as_bytes()),
+            Some(LogFault::Line { line, fault }),
+            "{lines}"
+        );
+    }
     let header = Some(LogFault::Line {
         line: 1,
         fault: LineFault::Header,
@@ -96,7 +115,8 @@ fn texts_that_are_refused(rt: HostRuntime) -> Result<(), Fail> {
     for text in [
         "",
         "\n",
-        "vicinity-log 2\n",
+        "vicinity-log 3\n",
+        "vicinity-log 2 \n",
         "vicinity-log 1\r",
         "Vicinity-log 1\n",
         "vicinity-log 1 \n",
@@ -172,6 +192,14 @@ fn entries_of_lines(rt: HostRuntime) {
     assert_eq!(rt; line_entry(b"C"), Ok(Some(Entry::Collision)));
     assert_eq!(rt; line_entry(b"# S"), Ok(None));
     assert_eq!(rt; line_entry(b""), Ok(None));
+    for (line, entry) in [(b"D", Entry::Garbled), (b"F", Entry::FieldCycle)] {
+        assert_eq!(rt; line_entry(line), Err(LineFault::UnknownEntry));
+        assert_eq!(rt;
+            line_entry_of(Version::V1, line),
+            Err(LineFault::UnknownEntry)
+        );
+        assert_eq!(rt; line_entry_of(Version::V2, line), Ok(Some(entry)));
+    }
 }
 
 #[test]
@@ -210,6 +238,7 @@ fn a_log_both_ways(rt: HostRuntime) -> Result<(), Fail> {
     let again = read_log(rt.alloc(), &text).map_err(|_| "refused")?;
     assert_eq!(rt; log.lines().len(), 2);
     assert_eq!(rt; again.lines().len(), 2);
+    assert_eq!(rt; again.version(), Version::V1);
     let numbers = [(4, 2), (5, 3)];
     for ((line, other), (before, after)) in log.lines().iter().zip(again.lines()).zip(numbers) {
         assert_eq!(rt; line.number, before);
@@ -218,6 +247,8 @@ fn a_log_both_ways(rt: HostRuntime) -> Result<(), Fail> {
     }
     Ok(())
 }
+
+const SECOND: &[u8] = b"vicinity-log 2\nT 260100F60A\nD\nF\n";
 
 #[test]
 fn a_log_of_version_2(rt: HostRuntime) -> Result<(), Fail> {
@@ -229,10 +260,13 @@ fn a_log_of_version_2(rt: HostRuntime) -> Result<(), Fail> {
     assert_eq!(rt; log.version(), Version::V2);
     let mut sink = ToWrite::new(Vec::new(rt.alloc()));
     assert_eq!(rt; write_log(&log, &mut sink), Ok(()));
-    assert_eq!(rt;
-        sink.into_inner().as_slice(),
-        b"vicinity-log 2\nT 260100F60A\nD\nF\n".as_slice()
-    );
+    assert_eq!(rt; sink.into_inner().as_slice(), SECOND);
+    let read = read_log(rt.alloc(), SECOND).map_err(|_| "refused")?;
+    assert_eq!(rt; read.version(), Version::V2);
+    assert!(rt; read.lines() == log.lines());
+    let empty = read_log(rt.alloc(), b"vicinity-log 2\r\n").map_err(|_| "refused")?;
+    assert_eq!(rt; empty.version(), Version::V2);
+    assert!(rt; empty.lines().is_empty());
     Ok(())
 }
 
@@ -283,6 +317,21 @@ fn logs_in_pieces(rt: HostRuntime) -> Result<(), Fail> {
         let reads = source.reads();
         assert_eq!(rt; reader.read_all(&mut source).err(), Some(LogFault::Spent));
         assert_eq!(rt; source.reads(), reads);
+    }
+    Ok(())
+}
+
+#[test]
+fn versions_in_pieces(rt: HostRuntime) -> Result<(), Fail> {
+    for (text, version) in [(SESSION, Version::V1), (SECOND, Version::V2)] {
+        let whole = read_log(rt.alloc(), text).map_err(|_| "refused")?;
+        for piece in 1..20usize {
+            let log = LogReader::new(rt.alloc())
+                .read_all(&mut Pieces::new(text, piece, 0))
+                .map_err(|_| "refused")?;
+            assert_eq!(rt; log.version(), version);
+            assert!(rt; log.lines() == whole.lines());
+        }
     }
     Ok(())
 }

@@ -5,6 +5,7 @@ pub mod Populations
 pub mod Decide
 pub mod Masks
 pub mod Verdicts
+pub mod TwoVersions
 pub mod Entries
 pub mod Passing
 pub mod Stands
@@ -22,3 +23,9 @@ pub mod OpenRounds
 pub mod Skipping
 pub mod Sweeping
 pub mod Stretching
+pub mod Choosing
+pub mod Gathering
+pub mod Explaining
+pub mod Silencing
+pub mod Demanding
+pub mod Meetings

@@ -161,7 +161,7 @@ spare SomeReply t n b u a =
     (cases_eq a.0 u)
 
 -- where a slot tells that the UID is there, each set that has what it asks for has the UID
-forced : (r : Reading) (s t : ℕ → Bool) (u : ℕ) → Forces r t u → IsWithin s t → Asks r s → s u ≡ true
+pub forced : (r : Reading) (s t : ℕ → Bool) (u : ℕ) → Forces r t u → IsWithin s t → Asks r s → s u ≡ true
 forced NoReply s t u f k a = absurd f
 forced (OneReply h) s t u f k a = subst (λ z. s z ≡ true) f a
 forced ManyReplies s t u f k a =

@@ -34,22 +34,22 @@ and_no : (b c : Bool) → c ≡ false → (b && c) ≡ false
 and_no true c e = e
 and_no false c e = refl
 
-lt_no : (x y : ℕ) → y ≤ x → nat_lt x y ≡ false
+pub lt_no : (x y : ℕ) → y ≤ x → nat_lt x y ≡ false
 lt_no x y e = grind (arith, nat_tests)
 
 -- ---- a name more
 
-silenced_pushed : (ns : List Name) (n : Name) (k i : ℕ) → is_silenced (ns ++ n ∷ []) k i ≡ (is_silenced ns k i || ((n.key == k) && nat_lt n.quiet i))
+pub silenced_pushed : (ns : List Name) (n : Name) (k i : ℕ) → is_silenced (ns ++ n ∷ []) k i ≡ (is_silenced ns k i || ((n.key == k) && nat_lt n.quiet i))
 silenced_pushed ns n k i = list_any-append (λ (m : Name). (m.key == k) && nat_lt m.quiet i) ns (n ∷ []) ∙ ap (λ b. is_silenced ns k i || b) (or_false ((n.key == k) && nat_lt n.quiet i))
 
-silenced_after : (ns : List Name) (n : Name) (k i : ℕ) → i ≤ n.quiet → is_silenced (ns ++ n ∷ []) k i ≡ is_silenced ns k i
+pub silenced_after : (ns : List Name) (n : Name) (k i : ℕ) → i ≤ n.quiet → is_silenced (ns ++ n ∷ []) k i ≡ is_silenced ns k i
 silenced_after ns n k i h = silenced_pushed ns n k i ∙ (ap (λ b. is_silenced ns k i || b) (and_no (n.key == k) (nat_lt n.quiet i) (lt_no n.quiet i h)) ∙ or_false (is_silenced ns k i))
 
 -- places of names before i, or at the end of the log
 abbrev IsPlaced : ℕ → ℕ → Name → Type 0
 IsPlaced i end n = (n.quiet < i) ⊎ (end ≤ n.quiet)
 
-silenced_next : (ns : List Name) (k i end : ℕ) → i < end → All (IsPlaced i end) ns → is_silenced ns k (i + 1) ≡ is_silenced ns k i
+pub silenced_next : (ns : List Name) (k i end : ℕ) → i < end → All (IsPlaced i end) ns → is_silenced ns k (i + 1) ≡ is_silenced ns k i
 silenced_next [] k i end lt h = refl
 silenced_next (n ∷ ns) k i end lt h =
     ap (λ b. ((n.key == k) && b) || is_silenced ns k (i + 1)) (go (All-head (IsPlaced i end) n ns h))
@@ -113,10 +113,10 @@ stretch_named es i end set ns ms ss n lt key left late is h = subst (λ xs. IsSt
 
 -- ---- an entry more
 
-quiet_next : (es : List Entry) (i u : ℕ) (e : Entry) → slice_get es i ≡ Some e → is_quiet es (i + 1) u ≡ (silences (Some e) u || (not (wakes (Some e)) && is_quiet es i u))
+pub quiet_next : (es : List Entry) (i u : ℕ) (e : Entry) → slice_get es i ≡ Some e → is_quiet es (i + 1) u ≡ (silences (Some e) u || (not (wakes (Some e)) && is_quiet es i u))
 quiet_next es i u e k = ap (λ j. is_quiet es j u) (add-one i) ∙ ap (λ o. silences o u || (not (wakes o) && is_quiet es i u)) k
 
-still_quiet : (a b q : Bool) → a ≡ false → b ≡ false → q ≡ (a || (not b && q))
+pub still_quiet : (a b q : Bool) → a ≡ false → b ≡ false → q ≡ (a || (not b && q))
 still_quiet false false q e f = refl
 still_quiet true b q e f = absurd (cc)
 still_quiet false true q e f = absurd (cc)
@@ -134,6 +134,26 @@ stretch_passed es i end set ns ss e k lt awake none all h = record {
   uids = open_next es i e (λ u. set u && all_allow ns ss (mirror u)) (λ u. set u && all_allow ns ss (mirror u)) k (λ u w. sym (ap (λ b. (set u && all_allow ns ss (mirror u)) && b) (all (answers_at es i u) u) ∙ and_true (set u && all_allow ns ss (mirror u)))) h.uids;
 }
 
+-- whoever a Stay Quiet names is Quiet after it, by the name
+pub quiet_named : (es : List Entry) (i u : ℕ) (e : Entry) (ns : List Name) (n : Name) → slice_get es i ≡ Some e → wakes (Some e) ≡ false → silences (Some e) u ≡ (n.key == mirror u) → n.quiet ≡ i → is_silenced ns (mirror u) (i + 1) ≡ is_quiet es i u → is_silenced (ns ++ n ∷ []) (mirror u) (i + 1) ≡ is_quiet es (i + 1) u
+quiet_named es i u e ns n k awake one at before =
+    silenced_pushed ns n (mirror u) (i + 1)
+    ∙ (ap (λ b. b || ((n.key == mirror u) && nat_lt n.quiet (i + 1))) before
+    ∙ (go (is_quiet es i u) (n.key == mirror u) (nat_lt n.quiet (i + 1)) (silences (Some e) u) (wakes (Some e)) (now n.quiet i at) one awake ∙ sym (quiet_next es i u e k)))
+  where
+    now : (x y : ℕ) → x ≡ y → nat_lt x (y + 1) ≡ true
+    now x y e = grind (arith, nat_tests)
+
+    go : (q a b s t : Bool) → b ≡ true → s ≡ a → t ≡ false → (q || (a && b)) ≡ (s || (not t && q))
+    go q a b s true x y z = absurd (cc)
+    go q a false s false x y z = absurd (cc)
+    go true true true true false x y z = refl
+    go true false true false false x y z = refl
+    go false true true true false x y z = refl
+    go false false true false false x y z = refl
+    go q true true false false x y z = absurd (cc)
+    go q false true true false x y z = absurd (cc)
+
 -- a Stay Quiet
 pub stretch_silenced : (es : List Entry) (i end : ℕ) (set : ℕ → Bool) (ns ms : List Name) (ss : List Spot) (e : Entry) (n : Name) → slice_get es i ≡ Some e → i < end → wakes (Some e) ≡ false → ((u : ℕ) → IsUid u → silences (Some e) u ≡ (n.key == mirror u)) → ((b : Bool) (u : ℕ) → entry_allows (reading_of e) b u ≡ true) → n.key < 2 ^ 56 → n.left ≡ true → n.quiet ≡ i → ms ≡ ns ++ n ∷ [] → IsStretch es i end set ns ss → IsStretch es (i + 1) end set ms ss
 stretch_silenced es i end set ns ms ss e n k lt awake one all key left at is h = subst (λ xs. IsStretch es (i + 1) end set xs ss) (sym is) (record {
@@ -143,26 +163,11 @@ stretch_silenced es i end set ns ms ss e n k lt awake one all key left at is h =
   named = all_named_more ns n ss h.named;
   slots = slots_next i ss h.slots;
   names = All-push (IsPlaced (i + 1) end) ns n (placed_next i end ns h.names) (inl (omega (arith, at)));
-  quiet = λ u w.
-      silenced_pushed ns n (mirror u) (i + 1)
-      ∙ (ap (λ b. b || ((n.key == mirror u) && nat_lt n.quiet (i + 1))) (silenced_next ns (mirror u) i end lt h.names ∙ h.quiet u w)
-      ∙ (go (is_quiet es i u) (n.key == mirror u) (nat_lt n.quiet (i + 1)) (silences (Some e) u) (wakes (Some e)) (now n.quiet i at) (one u w) awake ∙ sym (quiet_next es i u e k)));
+  quiet = λ u w. quiet_named es i u e ns n k awake (one u w) at (silenced_next ns (mirror u) i end lt h.names ∙ h.quiet u w);
   uids = open_next es i e (λ u. set u && all_allow ns ss (mirror u)) (λ u. set u && all_allow (ns ++ n ∷ []) ss (mirror u)) k (λ u w.
       ap (λ b. set u && b) (allow_named ns n (mirror u) i ss (omega (arith, at)) h.slots)
       ∙ sym (ap (λ b. (set u && all_allow ns ss (mirror u)) && b) (all (answers_at es i u) u) ∙ and_true (set u && all_allow ns ss (mirror u)))) h.uids;
-}) where
-  now : (x y : ℕ) → x ≡ y → nat_lt x (y + 1) ≡ true
-  now x y e = grind (arith, nat_tests)
-
-  go : (q a b s t : Bool) → b ≡ true → s ≡ a → t ≡ false → (q || (a && b)) ≡ (s || (not t && q))
-  go q a b s true x y z = absurd (cc)
-  go q a false s false x y z = absurd (cc)
-  go true true true true false x y z = refl
-  go true false true false false x y z = refl
-  go false true true true false x y z = refl
-  go false false true false false x y z = refl
-  go q true true false false x y z = absurd (cc)
-  go q false true true false x y z = absurd (cc)
+})
 
 -- a silent or an answered slot
 pub stretch_spotted : (es : List Entry) (i end : ℕ) (set : ℕ → Bool) (ns : List Name) (ss ts : List Spot) (e : Entry) (mask : Option BitMask) (heard : Option ℕ) → slice_get es i ≡ Some e → i < end → mask ≡ mask_at es i → wakes (Some e) ≡ false → ((u : ℕ) → IsUid u → silences (Some e) u ≡ false) → ((b : Bool) (u : ℕ) → IsUid u → entry_allows (reading_of e) b u ≡ (not b || is_heard heard (mirror u))) → is_named_if ns heard ≡ true → AddsSpot mask i heard ss ts → IsStretch es i end set ns ss → IsStretch es (i + 1) end set ns ts

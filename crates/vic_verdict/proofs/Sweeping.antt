@@ -15,7 +15,7 @@ use Rattle.vic_verdict.specs.declared.sweep.Name.{Name}
 use Rattle.vic_verdict.specs.declared.sweep.Spot.{Spot}
 use Rattle.vic_verdict.specs.declared.sweep.Level.{Level}
 use Rattle.vic_verdict.specs.declared.sweep.Run.{Run}
-use Rattle.vic_verdict.specs.Sweep.{is_heard, slot_leaves, is_between, is_in, spot_leaves, all_leave, level_leaves, mask_leaves, run_leaves, keep, keep_all, has_left, all_cover, is_silenced, spot_allows, all_allow, is_named, is_named_if, hears_named, all_hear_named, are_left, HaveKeys, AreInOrder}
+use Rattle.vic_verdict.specs.Sweep.{is_heard, slot_leaves, is_between, is_in, spot_leaves, all_leave, level_leaves, mask_leaves, run_leaves, keep, keep_all, has_where, has_left, all_cover, is_silenced, spot_allows, all_allow, is_named, is_named_if, hears_named, all_hear_named, are_left, HaveKeys, AreInOrder}
 use Rattle.std.specs.List.Sorted.{IsPermutation}
 use Rattle.std.proofs.lemmas.List.Sorted.{list_any-IsPermutation}
 use Rattle.std.proofs.Math.Seq.{take-append_seam}
@@ -148,33 +148,33 @@ runs_more o r spots i s old ns new below is before step =
     ∙ (keep_twice (spot_leaves s) (all_leave (take i spots)) old
     ∙ keep_alike _ _ (λ k q. ap (λ x. all_leave (take i spots) k q && spot_leaves x k q) is ∙ sym (list_all_more (λ t. spot_leaves t k q) spots i s below)) old)))
 
--- ---- the names that are left
+-- ---- the names that pass a test
 
 or_false : (b : Bool) → (b || false) ≡ b
 or_false true = refl
 or_false false = refl
 
-left_skip : (ns : List Name) (k i : ℕ) → i < length ns → ((get_or ns i nobody).key ≡ k → ⊥) → has_left (take (i + 1) ns) k ≡ has_left (take i ns) k
-left_skip ns k i below other =
-    list_any_more (λ (n : Name). (n.key == k) && n.left) ns i nobody below
-    ∙ (ap (λ b. has_left (take i ns) k || (b && (get_or ns i nobody).left)) (ne_eqb _ _ other) ∙ or_false (has_left (take i ns) k))
+where_skip : (p : Name → Bool) (ns : List Name) (k i : ℕ) → i < length ns → ((get_or ns i nobody).key ≡ k → ⊥) → has_where p (take (i + 1) ns) k ≡ has_where p (take i ns) k
+where_skip p ns k i below other =
+    list_any_more (λ (n : Name). (n.key == k) && p n) ns i nobody below
+    ∙ (ap (λ b. has_where p (take i ns) k || (b && p (get_or ns i nobody))) (ne_eqb _ _ other) ∙ or_false (has_where p (take i ns) k))
 
-pub left_below : (ns : List Name) (k i : ℕ) → i ≤ length ns → ((j : ℕ) → j < i → (get_or ns j nobody).key < k) → has_left (take i ns) k ≡ false
-left_below ns k zero le h = refl
-left_below ns k (suc i) le h =
-    ap (λ n. has_left (take n ns) k) (sym (add-one i))
-    ∙ (left_skip ns k i (omega (arith, le)) (λ e. let lt = h i (omega arith) in absurd (omega (arith, e, lt)))
-    ∙ left_below ns k i (omega (arith, le)) (λ j lt. h j (omega (arith, lt))))
+pub where_below : (p : Name → Bool) (ns : List Name) (k i : ℕ) → i ≤ length ns → ((j : ℕ) → j < i → (get_or ns j nobody).key < k) → has_where p (take i ns) k ≡ false
+where_below p ns k zero le h = refl
+where_below p ns k (suc i) le h =
+    ap (λ n. has_where p (take n ns) k) (sym (add-one i))
+    ∙ (where_skip p ns k i (omega (arith, le)) (λ e. let lt = h i (omega arith) in absurd (omega (arith, e, lt)))
+    ∙ where_below p ns k i (omega (arith, le)) (λ j lt. h j (omega (arith, lt))))
 
-pub left_above : (ns : List Name) (k i more : ℕ) → i + more ≡ length ns → ((j : ℕ) → i ≤ j → j < length ns → k < (get_or ns j nobody).key) → has_left (take i ns) k ≡ has_left ns k
-left_above ns k i zero e h = ap (λ ms. has_left ms k) (take_all i ns (omega (arith, e)))
-left_above ns k i (suc more) e h =
-    sym (left_skip ns k i (omega (arith, e)) (λ same. let lt = h i (omega arith) (omega (arith, e)) in absurd (omega (arith, same, lt))))
-    ∙ left_above ns k (i + 1) more (omega (arith, e)) (λ j le lt. h j (omega (arith, le)) lt)
+pub where_above : (p : Name → Bool) (ns : List Name) (k i more : ℕ) → i + more ≡ length ns → ((j : ℕ) → i ≤ j → j < length ns → k < (get_or ns j nobody).key) → has_where p (take i ns) k ≡ has_where p ns k
+where_above p ns k i zero e h = ap (λ ms. has_where p ms k) (take_all i ns (omega (arith, e)))
+where_above p ns k i (suc more) e h =
+    sym (where_skip p ns k i (omega (arith, e)) (λ same. let lt = h i (omega arith) (omega (arith, e)) in absurd (omega (arith, same, lt))))
+    ∙ where_above p ns k (i + 1) more (omega (arith, e)) (λ j le lt. h j (omega (arith, le)) lt)
 
--- the list has the UIDs from a key on that are left by the first i names
-abbrev pub HasLeft : ℕ → List Name → List ℕ → ℕ → Type 0
-HasLeft first ns us i = (u : ℕ) → IsUid u → first ≤ mirror u → has us u ≡ has_left (take i ns) (mirror u)
+-- the list has the UIDs from a key on that pass a test by the first i names
+abbrev pub HasWhere : (Name → Bool) → ℕ → List Name → List ℕ → ℕ → Type 0
+HasWhere p first ns us i = (u : ℕ) → IsUid u → first ≤ mirror u → has us u ≡ has_where p (take i ns) (mirror u)
 
 key_of_uid : (k u : ℕ) → IsUid u → k < 2 ^ 56 → (k == mirror u) ≡ (u == uid_of k)
 key_of_uid k u w small = same_test k (mirror u) u (uid_of k) (λ e. sym (uid_of_mirror u w) ∙ ap uid_of (sym e)) (λ e. sym (mirror_of_uid k small) ∙ ap mirror (sym e))
@@ -187,28 +187,28 @@ and_no : (a b : Bool) → b ≡ false → (a && b) ≡ false
 and_no true b e = e
 and_no false b e = refl
 
-pub left_pushed : (first : ℕ) (ns : List Name) (us vs : List ℕ) (i v : ℕ) → HasLeft first ns us i → i < length ns → (get_or ns i nobody).left ≡ true → (get_or ns i nobody).key < 2 ^ 56 → v ≡ uid_of (get_or ns i nobody).key → vs ≡ us ++ v ∷ [] → HasLeft first ns vs (i + 1)
-left_pushed first ns us vs i v h below left small is all u w from =
+pub where_pushed : (p : Name → Bool) (first : ℕ) (ns : List Name) (us vs : List ℕ) (i v : ℕ) → HasWhere p first ns us i → i < length ns → p (get_or ns i nobody) ≡ true → (get_or ns i nobody).key < 2 ^ 56 → v ≡ uid_of (get_or ns i nobody).key → vs ≡ us ++ v ∷ [] → HasWhere p first ns vs (i + 1)
+where_pushed p first ns us vs i v h below left small is all u w from =
     ap (λ ws. has ws u) all
     ∙ (list_any-append (λ x. u == x) us (v ∷ [])
     ∙ (ap (λ b. b || ((u == v) || false)) (h u w from)
-    ∙ (ap (λ b. has_left (take i ns) (mirror u) || b) (or_false (u == v) ∙ (ap (λ x. u == x) is ∙ (sym (key_of_uid (get_or ns i nobody).key u w small) ∙ sym (and_yes _ _ left))))
-    ∙ sym (list_any_more (λ (n : Name). (n.key == mirror u) && n.left) ns i nobody below))))
+    ∙ (ap (λ b. has_where p (take i ns) (mirror u) || b) (or_false (u == v) ∙ (ap (λ x. u == x) is ∙ (sym (key_of_uid (get_or ns i nobody).key u w small) ∙ sym (and_yes _ _ left))))
+    ∙ sym (list_any_more (λ (n : Name). (n.key == mirror u) && p n) ns i nobody below))))
 
-pub left_passed : (first : ℕ) (ns : List Name) (us : List ℕ) (i : ℕ) → HasLeft first ns us i → i < length ns → (get_or ns i nobody).left ≡ false → HasLeft first ns us (i + 1)
-left_passed first ns us i h below left u w from =
+pub where_passed : (p : Name → Bool) (first : ℕ) (ns : List Name) (us : List ℕ) (i : ℕ) → HasWhere p first ns us i → i < length ns → p (get_or ns i nobody) ≡ false → HasWhere p first ns us (i + 1)
+where_passed p first ns us i h below left u w from =
     h u w from
-    ∙ sym (list_any_more (λ (n : Name). (n.key == mirror u) && n.left) ns i nobody below
-    ∙ (ap (λ b. has_left (take i ns) (mirror u) || b) (and_no _ _ left) ∙ or_false (has_left (take i ns) (mirror u))))
+    ∙ sym (list_any_more (λ (n : Name). (n.key == mirror u) && p n) ns i nobody below
+    ∙ (ap (λ b. has_where p (take i ns) (mirror u) || b) (and_no _ _ left) ∙ or_false (has_where p (take i ns) (mirror u))))
 
 pub between_parts : (first last k : ℕ) → is_between first last k ≡ true → (first ≤ k) × (k ≤ last)
 between_parts first last k e = let p = and_parts (nat_le first k) (nat_le k last) e in let a = p.0 in let b = p.1 in (grind (arith, nat_tests, a), grind (arith, nat_tests, b))
 
-pub left_found : (first last : ℕ) (ns : List Name) (us : List ℕ) (i : ℕ) → HasLeft first ns us i → i ≤ length ns → ((j : ℕ) → i ≤ j → j < length ns → last < (get_or ns j nobody).key) → (u : ℕ) → IsUid u → is_between first last (mirror u) ≡ true → has us u ≡ has_left ns (mirror u)
-left_found first last ns us i h le above u w e =
-    let p = between_parts first last (mirror u) e in
-    let to = p.1 in
-    h u w p.0 ∙ left_above ns (mirror u) i (length ns - i) (omega (arith, le)) (λ j from lt. let over = above j from lt in omega (arith, over, to))
+pub where_found : (p : Name → Bool) (first last : ℕ) (ns : List Name) (us : List ℕ) (i : ℕ) → HasWhere p first ns us i → i ≤ length ns → ((j : ℕ) → i ≤ j → j < length ns → last < (get_or ns j nobody).key) → (u : ℕ) → IsUid u → is_between first last (mirror u) ≡ true → has us u ≡ has_where p ns (mirror u)
+where_found p first last ns us i h le above u w e =
+    let parts = between_parts first last (mirror u) e in
+    let to = parts.1 in
+    h u w parts.0 ∙ where_above p ns (mirror u) i (length ns - i) (omega (arith, le)) (λ j from lt. let over = above j from lt in omega (arith, over, to))
 
 -- ---- masks settled
 
@@ -263,7 +263,7 @@ inner_step now ns s first last h f l u w = go (is_in s (mirror u)) (has_left ns 
 lt_test : (x y : ℕ) → nat_lt x y ≡ true → x < y
 lt_test x y e = grind (arith, nat_tests)
 
-lt_yes : (x y : ℕ) → x < y → nat_lt x y ≡ true
+pub lt_yes : (x y : ℕ) → x < y → nat_lt x y ≡ true
 lt_yes x y e = grind (arith, nat_tests)
 
 silenced_named : (ns : List Name) (k i : ℕ) → is_silenced ns k i ≡ true → is_named ns k ≡ true

@@ -1,15 +1,20 @@
 -- What the slot lines of a log ask for, and which open UIDs meet it.
-use Rattle.std.specs.Prelude.{◌≡◌, ◌↔◌, ℕ, ◌<◌, ◌≤◌, true, Option, Some, None, List, length, slice_get}
+use Rattle.std.specs.Prelude.{◌≡◌, ◌↔◌, ◌⊎◌, ℕ, suc, ◌+◌, ◌<◌, ◌≤◌, Bool, true, not, ◌&&◌, Option, Some, None, List, length, take, slice_get, slice_index_or}
 use Rattle.std.specs.List.{All, Any, sum_by}
 use Rattle.vic_frame.specs.Uids.{has}
 use Rattle.vic_frame.specs.Replies.{Reply}
 use Rattle.vic_tree.specs.OpenSet.{UpToThree}
 use Rattle.vic_log.specs.declared.entry.Entry.{Entry}
 use Rattle.vic_log.specs.declared.entry.Entry.TheVariants.{Sent, Silent, Collision, Heard, Listed, Garbled, FieldCycle}
-use Rattle.vic_log.specs.Populations.{answers_at}
+use Rattle.vic_frame.specs.LowBitsFirst.{mirror}
+use Rattle.vic_log.specs.Rounds.{mask_at, lies_in_some}
 use Rattle.vic_log.specs.Slots.{slots_of, is_open}
 use Rattle.vic_verdict.specs.declared.demands.Found.{Found}
 use Rattle.vic_verdict.specs.declared.demands.Met.{Met}
+use Rattle.vic_verdict.specs.declared.demands.Demand.{Demand}
+use Rattle.vic_verdict.specs.declared.sweep.Name.{Name}
+use Rattle.vic_verdict.specs.Silenced.{TellsQuiet}
+use Rattle.vic_verdict.specs.Sweep.{is_silenced}
 use Rattle.vic_verdict.specs.Places.{answering}
 
 -- how many tags answered in a slot, at least, that its line doesn't name
@@ -49,15 +54,58 @@ pub record IsFoundAt (es : List Entry) (i : ℕ) (f : Found) : Type 0 where
 abbrev pub IsFound : List Entry → Found → Type 0
 IsFound es f = (i : ℕ) × IsFoundAt es i f
 
--- they are what place i asks for: all of them answer there too
+-- they are what place i asks for: all of them are open and answer there too
 pub record Meets (es : List Entry) (f : Found) (i : ℕ) : Type 0 where
   pub need : needs_at es i ≡ f.need
-  pub answer : (u : ℕ) → has f.uids.items u ≡ true → answers_at es i u ≡ true
+  pub answer : (u : ℕ) → has f.uids.items u ≡ true → answering (is_open (slots_of es)) es i u ≡ true
 
--- the UIDs heard, and for each slot line that asks for tags and names none UIDs that meet it, no more in all than the
--- lines ask for. So a slot line that makes a UID certain heard it, or has it among exactly as many as it asks for
+-- what meets each slot line that asks for tags and names none, no more in all than the lines ask for. So such a line
+-- makes a UID certain where it is one of exactly as many as it asks for
+pub record AreFound (es : List Entry) (fs : List Found) : Type 0 where
+  pub found : All (IsFound es) fs
+  pub met : (i : ℕ) → 0 < needs_at es i → Any (λ (f : Found). Meets es f i) fs
+  pub few : sum_by (λ (f : Found). f.need) fs ≤ all_needs es
+
+-- the UIDs heard, and what meets the other slot lines in which tags answered
 pub record IsMet (es : List Entry) (m : Met) : Type 0 where
   pub heard : (u : ℕ) → (has m.heard.items u ≡ true) ↔ IsHeard es u
-  pub found : All (IsFound es) m.found.items
-  pub met : (i : ℕ) → 0 < needs_at es i → Any (λ (f : Found). Meets es f i) m.found.items
-  pub few : sum_by (λ (f : Found). f.need) m.found.items ≤ all_needs es
+  pub found : AreFound es m.found.items
+
+-- ---- what is gathered of the slots since the last field cycle
+
+-- the demand is that of a slot line before place i, from a place on
+pub record IsDemand (es : List Entry) (from i : ℕ) (d : Demand) : Type 0 where
+  pub asked : 0 < d.need
+  pub need : needs_at es d.at ≡ d.need
+  pub mask : d.mask ≡ mask_at es d.at
+  pub since : from ≤ d.at
+  pub before : d.at < i
+
+-- the UID answers in the slot, by the names
+abbrev pub is_ready : List Name → Demand → ℕ → Bool
+is_ready ns d u = lies_in_some d.mask u && not (is_silenced ns (mirror u) d.at)
+
+-- the next demand asks for as much of the same mask, no earlier
+pub record IsSaidBy (d next : Demand) : Type 0 where
+  pub mask : d.mask ≡ next.mask
+  pub need : d.need ≡ next.need
+  pub later : d.at ≤ next.at
+
+abbrev pub IsAskedAgain : List Demand → ℕ → Type 0
+IsAskedAgain ds k = (k + 1 < length ds) × ((d : Demand) → IsSaidBy (slice_index_or ds k d) (slice_index_or ds (k + 1) d))
+
+-- what is found for the slots of some demands, more than was found before
+pub record AreMet (es : List Entry) (ds : List Demand) (old new : List Found) : Type 0 where
+  pub found : All (IsFound es) old → All (IsFound es) new
+  pub kept : (i : ℕ) → Any (λ (f : Found). Meets es f i) old → Any (λ (f : Found). Meets es f i) new
+  pub met : All (λ (d : Demand). Any (λ (f : Found). Meets es f d.at) new) ds
+  pub few : sum_by (λ (f : Found). f.need) new ≤ sum_by (λ (f : Found). f.need) old + sum_by (λ (d : Demand). d.need) ds
+
+-- the names and the demands of the entries since the last field cycle before place i, and what meets the slots before
+pub record AreAsked (es : List Entry) (i : ℕ) (ns : List Name) (ds : List Demand) (fs : List Found) : Type 0 where
+  pub from : ℕ
+  pub quiet : TellsQuiet es from i ns
+  pub demands : All (IsDemand es from i) ds
+  pub found : All (IsFound es) fs
+  pub met : (j : ℕ) → j < i → 0 < needs_at es j → Any (λ (f : Found). Meets es f j) fs ⊎ Any (λ (d : Demand). d.at ≡ j) ds
+  pub few : sum_by (λ (f : Found). f.need) fs + sum_by (λ (d : Demand). d.need) ds ≤ all_needs (take i es)

@@ -1,5 +1,6 @@
 pub mod Possible
 pub mod Verdict
+pub mod TwoVersions
 pub mod Places
 pub mod Rising
 pub mod Repeats
@@ -7,3 +8,7 @@ pub mod Unsettled
 pub mod Sweep
 pub mod Stretches
 pub mod Demands
+pub mod Explained
+pub mod Gathered
+pub mod Silenced
+pub mod Meeting

@@ -61,13 +61,17 @@ keep p n = record { key = n.key; quiet = n.quiet; left = n.left && p n.key n.qui
 abbrev pub keep_all : (ℕ → ℕ → Bool) → List Name → List Name
 keep_all p ns = map (keep p) ns
 
+-- a name with this key passes a test
+abbrev pub has_where : (Name → Bool) → List Name → ℕ → Bool
+has_where p ns k = list_any (λ n. (n.key == k) && p n) ns
+
 -- a name with this key is left
 abbrev pub has_left : List Name → ℕ → Bool
-has_left ns k = list_any (λ n. (n.key == k) && n.left) ns
+has_left ns k = has_where (λ n. n.left) ns k
 
 -- a UID with this key is Quiet at place i, by the names
 abbrev pub is_silenced : List Name → ℕ → ℕ → Bool
-is_silenced ns k i = list_any (λ n. (n.key == k) && nat_lt n.quiet i) ns
+is_silenced ns k i = has_where (λ n. nat_lt n.quiet i) ns k
 
 -- the slot allows the key, by the names
 abbrev pub spot_allows : List Name → Spot → ℕ → Bool

@@ -1,7 +1,31 @@
-//! What the slots of a log ask for, and the open UIDs that meet it.
+//! What the slots of a log ask for in which tags answered and none was read, and the open UIDs that
+//! meet it.
+//!
+//! Between two field cycles tags only fall silent. So whoever answers in the last of some slots of
+//! one mask answered in the earlier ones too, and that one alone has to be looked at.
 
+ghost use Rattle.std.specs.Prelude.{◌≡◌, ◌≢◌, ℕ, ◌+◌, ◌<◌, ◌&&◌, ◌++◌, ◌∷◌, [], true, false, IsTrue, Some, List, IfOk, OnOk, slice_get, length};
+ghost use Rattle.std.specs.List.{All};
+ghost use Rattle.vic_frame.specs.Uids.{is_uid};
+ghost use Rattle.vic_tree.specs.OpenSet.{SameUids, UpToThree};
+ghost use Rattle.vic_log.specs.declared.entry.Entry.{Entry as EntryValue};
+ghost use Rattle.vic_log.specs.declared.entry.Entry.TheVariants.{FieldCycle};
+ghost use Rattle.vic_log.specs.Rounds.{mask_at};
+ghost use Rattle.vic_log.specs.Slots.{slots_of, is_open};
+ghost use Rattle.vic_verdict.specs.declared.demands.Found.{Found as FoundValue};
+ghost use Rattle.vic_verdict.specs.Possible.{IsPossible};
+ghost use Rattle.vic_verdict.specs.Sweep.{AreInOrder, HaveKeys};
+ghost use Rattle.vic_verdict.specs.Silenced.{TellsQuiet};
+ghost use Rattle.vic_verdict.specs.Demands.{IsDemand, is_ready, IsAskedAgain, AreAsked, AreMet};
+
+use crate::silenced::{is_any_silenced, note_silenced, silenced_between};
+use crate::sweep::Name;
 use arrayvec::ArrayVec;
-use vic_frame::Uid;
+use std::alloc::{AllocError, Global};
+use vic_frame::low_bits_first::key_range;
+use vic_frame::{Mask, Uid, without_top_byte};
+use vic_log::Entry;
+use vic_tree::OpenSet;
 
 /// What the slots of a possible log ask for, met by its open UIDs.
 #[derive(Drop)]
@@ -20,4 +44,170 @@ pub struct Found {
     /// How many there have to be: 2 in a collision, 1 in a garbled slot.
     pub need: usize,
     pub uids: ArrayVec<Uid, 3>,
+}
+
+/// A slot in which tags answered and none was read. In order, the slots of one mask stand together,
+/// the last one last.
+#[derive(Clone, Copy, PartialEq, Eq, PartialOrd, Ord)]
+pub struct Demand {
+    /// The first key of its mask.
+    pub first: u64,
+    pub mask: Option<Mask>,
+    /// How many tags have to be there.
+    pub need: usize,
+    /// The place of its line.
+    pub at: usize,
+}
+
+/// Adds a slot.
+fn push_demand(
+    demands: &mut Vec<Demand>,
+    mask: &Option<Mask>,
+    need: usize,
+    at: usize,
+) -> Result<(), AllocError>
+    ensures { OnOk result ((first : ℕ) × (demands.new.items ≡ demands.old.items
+        ++ record { first = first; mask = mask.now; need = need; at = at } ∷ [])) }
+{
+    let first = match mask {
+        Some(mask) => first_key(mask),
+        None => 0,
+    };
+    demands.push(Demand {
+        first,
+        mask: *mask,
+        need,
+        at,
+    })?;
+    Ok(())
+}
+
+/// The first key of a mask, 0 where no UID lies in it.
+fn first_key(mask: &Mask) -> u64 {
+    match without_top_byte(mask) {
+        Some(low) => key_range(&low).0,
+        None => 0,
+    }
+}
+
+/// Gathers what an entry tells that isn't a field cycle.
+pub fn note_asked(
+    names: &mut Vec<Name>,
+    demands: &mut Vec<Demand>,
+    mask: &Option<Mask>,
+    index: usize,
+    entry: &Entry,
+) -> Result<(), AllocError>
+    ensures { OnOk result ((es : List EntryValue) (found : List FoundValue)
+        → slice_get es index ≡ Some entry.now → mask.now ≡ mask_at es index → entry.now ≢ FieldCycle
+        → AreAsked es index names.old.items demands.old.items found
+        → AreAsked es (index + 1) names.new.items demands.new.items found) }
+{
+    match *entry {
+        Entry::Sent(request) => note_silenced(names, &request, index),
+        Entry::Collision => push_demand(demands, mask, 2, index),
+        Entry::Garbled => push_demand(demands, mask, 1, index),
+        Entry::Silent | Entry::Heard(_) | Entry::Listed(_) | Entry::FieldCycle => Ok(()),
+    }
+}
+
+/// Open UIDs that answer in a slot: all where they are fewer than three, three otherwise. Mostly
+/// those that are found first are not Quiet, and no list of the Quiet ones is needed.
+fn respondents<S: OpenSet>(
+    alloc: Global,
+    set: &S,
+    names: &[Name],
+    demand: &Demand,
+) -> Result<ArrayVec<Uid, 3>, AllocError>
+    requires order { AreInOrder names.now }
+    requires keys { HaveKeys names.now }
+    ensures { IfOk result (λ uids.
+        UpToThree (λ u. (is_uid u && S.is_open set.now u) && is_ready names.now demand.now u) uids.items) }
+{
+    let Some(long) = demand.mask else {
+        return Ok(ArrayVec::new());
+    };
+    let Some(mask) = without_top_byte(&long) else {
+        return Ok(ArrayVec::new());
+    };
+    let uids = set.up_to_three(&mask, &[]);
+    if !is_any_silenced(names, &uids, demand.at) {
+        return Ok(uids);
+    }
+    let (first, last) = key_range(&mask);
+    let quiet = silenced_between(alloc, names, first, last, demand.at)?;
+    Ok(set.up_to_three(&mask, &quiet))
+}
+
+/// Whether the next slot of some asks for as much of the same mask, no earlier.
+fn is_asked_again(demands: &[Demand], index: usize) -> bool
+    requires { index < length demands.now }
+    ensures { result ≡ true → IsAskedAgain demands.now index }
+{
+    let demand = demands[index];
+    match demands.get(index + 1) {
+        Some(next) => {
+            next.mask == demand.mask && next.need == demand.need && demand.at <= next.at
+        }
+        None => false,
+    }
+}
+
+/// Finds what meets slots, and whether all of them are met.
+fn meet_each<S: OpenSet>(
+    alloc: Global,
+    set: &S,
+    names: &[Name],
+    demands: &[Demand],
+    found: &mut Vec<Found>,
+) -> Result<bool, AllocError>
+    requires order { AreInOrder names.now }
+    requires keys { HaveKeys names.now }
+    ensures met { IfOk result (λ yes. (es : List EntryValue) (from i : ℕ)
+        → SameUids (S.is_open set.now) (is_open (slots_of es)) → TellsQuiet es from i names.now
+        → All (IsDemand es from i) demands.now → IsTrue yes
+        → AreMet es demands.now found.old.items found.new.items) }
+    ensures unmet { IfOk result (λ yes. (es : List EntryValue) (from i : ℕ)
+        → SameUids (S.is_open set.now) (is_open (slots_of es)) → TellsQuiet es from i names.now
+        → All (IsDemand es from i) demands.now → yes ≡ false → IsPossible es → ⊥) }
+{
+    for index in 0..demands.len() {
+        if !is_asked_again(demands, index) {
+            let demand = demands[index];
+            let uids = respondents(alloc, set, names, &demand)?;
+            if uids.len() < demand.need {
+                return Ok(false);
+            }
+            found.push(Found {
+                need: demand.need,
+                uids,
+            })?;
+        }
+    }
+    Ok(true)
+}
+
+/// Finds what meets the slots of a stretch, and whether all of them are met.
+pub fn meet_stretch<S: OpenSet>(
+    alloc: Global,
+    set: &S,
+    names: &mut Vec<Name>,
+    demands: &mut Vec<Demand>,
+    found: &mut Vec<Found>,
+) -> Result<bool, AllocError>
+    requires { HaveKeys names.old.items }
+    ensures met { IfOk result (λ yes. (es : List EntryValue) (from i : ℕ)
+        → SameUids (S.is_open set.now) (is_open (slots_of es)) → TellsQuiet es from i names.old.items
+        → All (IsDemand es from i) demands.old.items → IsTrue yes
+        → AreMet es demands.old.items found.old.items found.new.items) }
+    ensures unmet { IfOk result (λ yes. (es : List EntryValue) (from i : ℕ)
+        → SameUids (S.is_open set.now) (is_open (slots_of es)) → TellsQuiet es from i names.old.items
+        → All (IsDemand es from i) demands.old.items → yes ≡ false → IsPossible es → ⊥) }
+{
+    if demands.is_empty() {
+        return Ok(true);
+    }
+    names.sort_unstable_by_key(|name| name.key);
+    demands.sort_unstable();
+    meet_each(alloc, set, names, demands, found)
 }

@@ -6,8 +6,8 @@ ghost use Rattle.vic_verdict.specs.Possible.{IsPossible};
 ghost use Rattle.vic_verdict.specs.Verdict.{IsVerdict};
 ghost use Rattle.vic_verdict.specs.declared.verdict.Verdict.TheVariants.{Impossible};
 
+use crate::guess::guess_impossible_line;
 use crate::possible::is_possible;
-use crate::suspect::suspect_line;
 use std::alloc::{AllocError, Global};
 use vic_log::LogLine;
 use vic_tree::OpenSet;
@@ -26,7 +26,7 @@ fn between(low: usize, high: usize, guess: usize) -> usize
 }
 
 /// The number of the first line up to which no population could have given the log, found by
-/// halving: what is impossible stays so when lines follow. Halving begins where a line is suspect.
+/// halving: what is impossible stays so when lines follow. Halving begins at the guess.
 pub fn first_impossible_line<S: OpenSet>(
     alloc: Global,
     lines: &[LogLine],
@@ -39,7 +39,7 @@ pub fn first_impossible_line<S: OpenSet>(
 {
     let mut low = 0;
     let mut high = lines.len();
-    let mut guess = suspect_line(alloc, lines)?;
+    let mut guess = guess_impossible_line(alloc, lines)?;
     while high - low > 1 {
         let middle = between(low, high, guess);
         let front = &lines[..middle];

@@ -7,6 +7,7 @@ ghost use Rattle.vic_log.specs.Slots.{slots_of, is_open};
 ghost use Rattle.vic_verdict.specs.Possible.{IsPossible};
 ghost use Rattle.vic_log.specs.Order.{IsInOrder, entries, listed, IsRisingFrom, AreValid};
 ghost use Rattle.vic_verdict.specs.Verdict.{IsVerdict, IsWhole, IsReached};
+ghost use Rattle.vic_verdict.specs.TwoVersions.{IsWholeSecond};
 ghost use Rattle.vic_verdict.specs.Repeats.{AreRepeats};
 ghost use Rattle.vic_verdict.specs.declared.verdict.Verdict.TheVariants.{Complete};
 
@@ -24,7 +25,7 @@ use vic_log::{Log, LogLine};
 use vic_tree::{OpenSet, RangeSet};
 
 /// The verdict on a possible log, by the UIDs that it leaves open.
-fn judge_possible<S: OpenSet>(
+pub fn judge_possible<S: OpenSet>(
     alloc: Global,
     set: S,
     lines: &[LogLine],
@@ -79,6 +80,8 @@ pub fn judge_with<S: OpenSet>(alloc: Global, log: &Log) -> Result<Verdict, Alloc
     ensures verdict { IfOk result (λ v. IsVerdict log.now.lines v) }
     ensures whole { IfOk result (λ v. (count : ℕ) → v ≡ Complete count
         → IsWhole (entries log.now.lines) × (count ≡ length (listed (entries log.now.lines)))) }
+    ensures second { IfOk result (λ v. (count : ℕ) → v ≡ Complete count
+        → IsWholeSecond (entries log.now.lines)) }
     ensures reached { IfOk result (λ v. IsReached (entries log.now.lines)
         → v ≡ Complete (length (listed (entries log.now.lines)))) }
 {
@@ -88,12 +91,15 @@ pub fn judge_with<S: OpenSet>(alloc: Global, log: &Log) -> Result<Verdict, Alloc
 /// The verdict on a log.
 ///
 /// Where it is `Complete`, some population could have given the log, and every population that
-/// could has exactly the listed UIDs (clause `whole`). A log that leaves nothing open but what it
+/// could has exactly the listed UIDs (clause `whole`; clause `second` says the same in the words of
+/// version 2, whose logs have field cycles and garbled slots). A log that leaves nothing open but what it
 /// heard and lists is `Complete` (clause `reached`).
 pub fn judge(alloc: Global, log: &Log) -> Result<Verdict, AllocError>
     ensures verdict { IfOk result (λ v. IsVerdict log.now.lines v) }
     ensures whole { IfOk result (λ v. (count : ℕ) → v ≡ Complete count
         → IsWhole (entries log.now.lines) × (count ≡ length (listed (entries log.now.lines)))) }
+    ensures second { IfOk result (λ v. (count : ℕ) → v ≡ Complete count
+        → IsWholeSecond (entries log.now.lines)) }
     ensures reached { IfOk result (λ v. IsReached (entries log.now.lines)
         → v ≡ Complete (length (listed (entries log.now.lines)))) }
 {

@@ -7,6 +7,8 @@ ghost use Rattle.vic_verdict.specs.Possible.{IsPossible, IsPossibleUid, IsCertai
 ghost use Rattle.vic_log.specs.Slots.{slots_of, is_open, IsForcedBy, SuppliesAll};
 ghost use Rattle.vic_log.specs.Order.{entries, listed, IsRisingFrom};
 ghost use Rattle.vic_verdict.specs.Verdict.{IsVerdict, IsUnsettled, IsWhole};
+ghost use Rattle.vic_verdict.specs.TwoVersions.{IsWholeFirst, IsWholeSecond};
+ghost use Rattle.vic_log.specs.FirstVersion.{AreOfFirstVersion};
 ghost use Rattle.vic_log.specs.declared.entry.Entry.{Entry};
 ghost use Rattle.vic_log.specs.declared.entry.LogLine.{LogLine};
 ghost use Rattle.vic_frame.specs.Masks.{BitMask};
@@ -49,4 +51,11 @@ pub fn unsettled_where_unlisted_is_possible()
 pub fn complete_is_whole()
     ensures sound { (lines : List LogLine) (count : ℕ) → IsVerdict lines (Complete count) → IsWhole (entries lines) }
     ensures exact { (lines : List LogLine) → IsWhole (entries lines) → IsVerdict lines (Complete (length (listed (entries lines)))) }
+{}
+
+/// The headline says the same in the words of each version: in those of version 2 on all entries, in those of version 1 on
+/// entries that it knows.
+pub fn one_headline()
+    ensures second { (es : List Entry) → IsWhole es ↔ IsWholeSecond es }
+    ensures first { (es : List Entry) → AreOfFirstVersion es → IsWholeFirst es ↔ IsWholeSecond es }
 {}

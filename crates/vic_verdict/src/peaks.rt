@@ -4,15 +4,15 @@ ghost use Rattle.std.specs.Prelude.{◌<◌, ◌^◌};
 
 use std::alloc::{AllocError, Global};
 
-/// A number of a row, and the place where it stands.
+/// A number of a row, and its index there.
 #[derive(Clone, Copy)]
 pub struct Peak {
-    pub value: usize,
-    pub place: usize,
+    pub value: u32,
+    pub index: u32,
 }
 
 /// What there is of a part with no numbers.
-const NOTHING: Peak = Peak { value: 0, place: 0 };
+const NOTHING: Peak = Peak { value: 0, index: 0 };
 
 fn greater(a: Peak, b: Peak) -> Peak {
     if a.value < b.value { b } else { a }
@@ -27,12 +27,11 @@ pub struct Peaks {
 
 impl Peaks {
     /// So many numbers, all equal.
-    pub fn new(alloc: Global, count: usize, value: usize) -> Result<Peaks, AllocError>
-        requires { count < 2 ^ 63 }
-    {
-        let mut nodes = vec![in alloc; Peak { value, place: 0 }; 2 * count]?;
-        for place in 0..count {
-            nodes[count + place].place = place;
+    pub fn new(alloc: Global, count: u32, value: u32) -> Result<Peaks, AllocError> {
+        let count = count as usize;
+        let mut nodes = vec![in alloc; Peak { value, index: 0 }; 2 * count]?;
+        for index in 0..count {
+            nodes[count + index].index = index as u32;
         }
         for node in (1..count).rev() {
             nodes[node] = nodes[2 * node];
@@ -40,13 +39,13 @@ impl Peaks {
         Ok(Peaks { nodes })
     }
 
-    /// Puts a number into a place, if it is one of the row.
-    pub fn set(&mut self, place: usize, value: usize) {
+    /// Puts a number at an index, if the row has it.
+    pub fn set(&mut self, index: u32, value: u32) {
         let nodes = self.nodes.as_mut_slice();
         let count = nodes.len() / 2;
-        if place < count {
-            let mut node = count + place;
-            nodes[node] = Peak { value, place };
+        if (index as usize) < count {
+            let mut node = count + index as usize;
+            nodes[node] = Peak { value, index };
             while node > 1 {
                 node /= 2;
                 nodes[node] = greater(nodes[2 * node], nodes[2 * node + 1]);
@@ -54,14 +53,14 @@ impl Peaks {
         }
     }
 
-    /// The greatest number of the places from `from` to the one before `to`.
-    pub fn greatest(&self, from: usize, to: usize) -> Peak {
+    /// The greatest number from the index `from` to the one before `to`.
+    pub fn greatest(&self, from: u32, to: u32) -> Peak {
         let nodes = self.nodes.as_slice();
         let count = nodes.len() / 2;
         let mut best = NOTHING;
-        if from < to && to <= count {
-            let mut low = count + from;
-            let mut high = count + to;
+        if from < to && to as usize <= count {
+            let mut low = count + from as usize;
+            let mut high = count + to as usize;
             while low < high {
                 if low % 2 == 1 {
                     best = greater(best, nodes[low]);

@@ -1,19 +1,34 @@
-//! What the lines of a log do to stretches of UIDs.
+//! What the lines of a log do to the UIDs, part by part.
 
-ghost use Rattle.std.specs.Prelude.{◌≤◌, IfSome};
-ghost use Rattle.vic_log.specs.Order.{IsInOrder, entries, AreValid};
-
-use crate::place::{Round, next_mask, pass_round};
+use crate::parts::Parts;
 use std::alloc::{AllocError, Global};
 use vic_frame::low_bits_first::{key, key_range};
 use vic_frame::{Request, Uid, without_top_byte};
-use vic_log::{Entry, LogLine};
+use vic_log::{Entry, LogLine, RoundCursor};
 
-/// UIDs that stand together: from the number `from` to the one before `to`.
+/// Parts that stand together: from the number `from` to the one before `to`.
 #[derive(Clone, Copy)]
 pub struct Span {
-    pub from: usize,
-    pub to: usize,
+    pub from: u32,
+    pub to: u32,
+}
+
+impl Span {
+    /// What of it comes before a part.
+    pub fn before(&self, part: u32) -> Span {
+        Span {
+            from: self.from,
+            to: self.to.min(part),
+        }
+    }
+
+    /// What of it comes after a part.
+    pub fn after(&self, part: u32) -> Span {
+        Span {
+            from: self.from.max(part.saturating_add(1)),
+            to: self.to,
+        }
+    }
 }
 
 /// What a slot was found to hold.
@@ -22,7 +37,7 @@ pub enum Found {
     /// Nobody.
     Nobody,
     /// One UID, which was read.
-    One(usize),
+    One(u32),
     /// One or more, of which none was read.
     Some,
     /// Two or more.
@@ -33,124 +48,94 @@ pub enum Found {
 #[derive(Clone, Copy)]
 pub enum Step {
     /// A UID falls silent.
-    Quiet(usize),
+    Quiet(u32),
     /// All are Ready again.
     Wake,
-    /// A slot: the place of its line, the UIDs of its mask, and what it held.
-    Slot(usize, Span, Found),
+    /// A slot: the number of its line, the UIDs of its mask, and what it held.
+    Slot(u32, Span, Found),
 }
 
-/// The keys of the UIDs in the mask of the next slot.
-fn next_span(round: &Option<Round>) -> Span {
-    if let Some(mask) = next_mask(round) {
-        if let Some(low) = without_top_byte(&mask) {
-            let (first, last) = key_range(&low);
-            return Span {
-                from: first as usize,
-                to: (last as usize).saturating_add(1),
-            };
+/// The first key of the slot that comes next, and the one after its last; none where no UID lies in
+/// its mask.
+fn slot_keys(rounds: &RoundCursor) -> Option<(u64, u64)> {
+    let mask = without_top_byte(&rounds.mask()?)?;
+    let (first, last) = key_range(&mask);
+    Some((first, last.saturating_add(1)))
+}
+
+/// The UID that an entry silences or heard.
+fn named_uid(entry: &Entry) -> Option<Uid> {
+    match *entry {
+        Entry::Heard(response) => Some(response.uid()),
+        Entry::Sent(Request::StayQuiet { uid, .. }) => Uid::new(uid),
+        Entry::Sent(Request::Inventory { .. })
+        | Entry::Silent
+        | Entry::Collision
+        | Entry::Garbled
+        | Entry::FieldCycle
+        | Entry::Listed(_) => None,
+    }
+}
+
+/// Adds the borders of an entry's slot, and of the UID that it names.
+fn push_borders(
+    borders: &mut Vec<u64>,
+    rounds: &RoundCursor,
+    entry: &Entry,
+) -> Result<(), AllocError> {
+    if entry.is_slot() {
+        if let Some((from, to)) = slot_keys(rounds) {
+            borders.push(from)?;
+            borders.push(to)?;
         }
     }
-    Span { from: 0, to: 0 }
+    if let Some(uid) = named_uid(entry) {
+        borders.push(key(uid))?;
+        borders.push(key(uid) + 1)?;
+    }
+    Ok(())
 }
 
-/// What an entry does in an open round, by keys.
-fn step_of(round: &Option<Round>, place: usize, entry: &Entry) -> Option<Step> {
-    let found = match *entry {
+/// The parts of the UIDs that fare alike in a log.
+pub fn parts_of(alloc: Global, lines: &[LogLine]) -> Result<Parts, AllocError> {
+    let mut borders = Vec::new(alloc);
+    let mut rounds = RoundCursor::first();
+    for line in lines {
+        push_borders(&mut borders, &rounds, &line.item)?;
+        rounds.advance(&line.item);
+    }
+    Parts::between(alloc, borders)
+}
+
+/// What a line does.
+fn step_of(line: &LogLine, rounds: &RoundCursor, parts: &Parts) -> Option<Step> {
+    let found = match line.item {
         Entry::Silent => Found::Nobody,
-        Entry::Heard(response) => Found::One(key(response.uid()) as usize),
+        Entry::Heard(response) => Found::One(parts.part_at(key(response.uid()))),
         Entry::Garbled => Found::Some,
         Entry::Collision => Found::Two,
         Entry::FieldCycle => return Some(Step::Wake),
         Entry::Sent(Request::StayQuiet { uid, .. }) => {
-            return match Uid::new(uid) {
-                Some(tag) => Some(Step::Quiet(key(tag) as usize)),
-                None => None,
-            };
+            return Some(Step::Quiet(parts.part_at(key(Uid::new(uid)?))));
         }
-        _ => return None,
+        Entry::Sent(Request::Inventory { .. }) | Entry::Listed(_) => return None,
     };
-    Some(Step::Slot(place, next_span(round), found))
+    let span = match slot_keys(rounds) {
+        Some((from, to)) => parts.span(from, to),
+        None => Span { from: 0, to: 0 },
+    };
+    Some(Step::Slot(line.number, span, found))
 }
 
-/// What the lines of a log do, by keys.
-pub fn steps_of(alloc: Global, lines: &[LogLine]) -> Result<Vec<Step>, AllocError>
-    requires order { IsInOrder (entries lines.now) }
-    requires valid { AreValid (entries lines.now) }
-{
+/// What the lines of a log do.
+pub fn steps_of(alloc: Global, lines: &[LogLine], parts: &Parts) -> Result<Vec<Step>, AllocError> {
     let mut steps = Vec::new(alloc);
-    let mut round: Option<Round> = None;
-    for (place, line) in lines.iter().enumerate() {
-        let entry = line.item;
-        if let Some(step) = step_of(&round, place, &entry) {
+    let mut rounds = RoundCursor::first();
+    for line in lines {
+        if let Some(step) = step_of(line, &rounds, parts) {
             steps.push(step)?;
         }
-        round = pass_round(&round, &entry);
+        rounds.advance(&line.item);
     }
     Ok(steps)
-}
-
-/// The ends of all spans, in order, and those of each UID that is named: between two of them UIDs
-/// fare alike.
-pub fn borders_of(alloc: Global, steps: &[Step]) -> Result<Vec<usize>, AllocError> {
-    let mut borders = Vec::new(alloc);
-    for step in steps {
-        match *step {
-            Step::Quiet(uid) => push_uid(&mut borders, uid)?,
-            Step::Wake => {}
-            Step::Slot(_, span, found) => {
-                borders.push(span.from)?;
-                borders.push(span.to)?;
-                if let Found::One(uid) = found {
-                    push_uid(&mut borders, uid)?;
-                }
-            }
-        }
-    }
-    borders.sort_unstable();
-    borders.dedup();
-    Ok(borders)
-}
-
-/// Adds the ends of a span of one UID.
-fn push_uid(borders: &mut Vec<usize>, uid: usize) -> Result<(), AllocError> {
-    borders.push(uid)?;
-    borders.push(uid.saturating_add(1))?;
-    Ok(())
-}
-
-/// The number of a key among the borders.
-fn rank(borders: &[usize], key: usize) -> usize {
-    match borders.binary_search(&key) {
-        Ok(place) => place,
-        Err(place) => place,
-    }
-}
-
-fn span_ranks(borders: &[usize], span: Span) -> Span {
-    Span {
-        from: rank(borders, span.from),
-        to: rank(borders, span.to),
-    }
-}
-
-fn step_ranks(borders: &[usize], step: Step) -> Step {
-    match step {
-        Step::Quiet(uid) => Step::Quiet(rank(borders, uid)),
-        Step::Wake => Step::Wake,
-        Step::Slot(place, span, found) => {
-            let found = match found {
-                Found::One(uid) => Found::One(rank(borders, uid)),
-                other => other,
-            };
-            Step::Slot(place, span_ranks(borders, span), found)
-        }
-    }
-}
-
-/// Turns keys into the numbers of the parts that borders make.
-pub fn number_parts(steps: &mut [Step], borders: &[usize]) {
-    for step in steps.iter_mut() {
-        *step = step_ranks(borders, *step);
-    }
 }

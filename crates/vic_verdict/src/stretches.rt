@@ -47,7 +47,7 @@ fn push_spot(
 }
 
 /// Adds a UID with the place after which it is Quiet.
-fn push_name(names: &mut Vec<Name>, uid: Uid, quiet: usize) -> Result<(), AllocError>
+pub fn push_name(names: &mut Vec<Name>, uid: Uid, quiet: usize) -> Result<(), AllocError>
     ensures { OnOk result ((names.new.items ≡ names.old.items ++ record { key = mirror uid; quiet = quiet; left = true } ∷ []) × (mirror uid < 2 ^ 56) × IsUid uid) }
 {
     names.push(Name {

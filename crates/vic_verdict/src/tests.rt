@@ -1,6 +1,6 @@
 //! Logs that are worked out by hand, judged over each set of open UIDs.
 
-use crate::suspect::suspect_line;
+use crate::guess::guess_impossible_line;
 use crate::{Verdict, judge, judge_with};
 use arrayvec::ArrayVec;
 use std::alloc::{AllocError, Global};
@@ -122,10 +122,10 @@ fn impossible(rt: HostRuntime) -> Result<(), Fail> {
     Ok(())
 }
 
-/// The number of the line where halving begins, `None` where no line is suspect.
-fn suspect_number(alloc: Global, lines: &str) -> Result<Option<u32>, Fail> {
+/// The number of the line where halving begins, `None` where no line seems impossible.
+fn guessed_number(alloc: Global, lines: &str) -> Result<Option<u32>, Fail> {
     let log = log_of(alloc, lines)?;
-    let place = suspect_line(alloc, log.lines())?;
+    let place = guess_impossible_line(alloc, log.lines())?;
     match log.lines().get(place) {
         Some(line) => Ok(Some(line.number)),
         None => Ok(None),
@@ -150,7 +150,7 @@ fn halving_begins_at_the_line_itself(rt: HostRuntime) -> Result<(), Fail> {
         ("MB / R A", 3),
     ] {
         check(&rt, rt.alloc(), lines, Verdict::Impossible { line })?;
-        let found = suspect_number(rt.alloc(), lines)?;
+        let found = guessed_number(rt.alloc(), lines)?;
         assert_eq!(rt; found, Some(line), "{lines}");
     }
     for lines in [
@@ -159,7 +159,7 @@ fn halving_begins_at_the_line_itself(rt: HostRuntime) -> Result<(), Fail> {
         "M55 / C / Q Z / Q Y / I1 / S",
         "I1 / C / Q A / I1 / R B",
     ] {
-        let found = suspect_number(rt.alloc(), lines)?;
+        let found = guessed_number(rt.alloc(), lines)?;
         assert_eq!(rt; found, None, "{lines}");
     }
     Ok(())

@@ -19,7 +19,7 @@ returns-in_err-write_and_flush-clause-answer g c =
       answer = answer_line answer;
       status = answer_status answer;
       right = record { answer = answer; right = c.in_ok-answer.ensures.answer r.text r.right; line_is = refl; status_is = refl };
-      begun = subst (HasTakenPrefix _ _) (c.as_slice.ensures.value ∙ c.answer_line-line.ensures) c.in_err-write_and_flush.ensures.begun;
+      begun = subst (HasTakenPrefix _ _) (c.as_slice.ensures.value ∙ c.answer_line-line.ensures.items) c.in_err-write_and_flush.ensures.begun;
     }
 
 pub returns-clause-answer : goal.returns-clause-answer
@@ -30,14 +30,14 @@ returns-clause-answer g c =
       given = r.given;
       enough = enough _ r.text c.in_ok-reading.reading r.stands;
       answer = c.as_slice.result.now;
-      right = record { answer = c.in_ok-answer.answer; right = c.in_ok-answer.ensures.answer r.text r.right; line_is = c.as_slice.ensures.value ∙ c.answer_line-line.ensures; status_is = c.answer_status.ensures };
+      right = record { answer = c.in_ok-answer.answer; right = c.in_ok-answer.ensures.answer r.text r.right; line_is = c.as_slice.ensures.value ∙ c.answer_line-line.ensures.items; status_is = c.answer_status.ensures };
       written = c.in_ok-write_and_flush.ensures.all;
     }
 
 pub returns-clause-whole : goal.returns-clause-whole
 returns-clause-whole g c before rest was now =
     let r = c.in_ok-reading.ensures.reading in
-    let line = complete_line c.in_ok-answer.answer rest (line_taken _ _ before _ _ was now c.in_ok-write_and_flush.ensures.all ∙ (c.as_slice.ensures.value ∙ c.answer_line-line.ensures)) in
+    let line = complete_line c.in_ok-answer.answer rest (line_taken _ _ before _ _ was now c.in_ok-write_and_flush.ensures.all ∙ (c.as_slice.ensures.value ∙ c.answer_line-line.ensures.items)) in
     let whole = c.in_ok-answer.ensures.whole _ r.text line.count r.right r.stands line.answer_is in
     record {
       text = r.text;

@@ -6,7 +6,7 @@ use Rattle.vic_frame.proofs.low_bits_first.uid_at.Goals as goal
 pub returns-clause-value : goal.returns-clause-value
 returns-clause-value c =
     let e : c.reverse_bits.result / 256 ≡ mirror c.args.key = ap (λ (x : ℕ). x / 256) c.reverse_bits.ensures ∙ mirror_is c.args.key in
-    (c.in-Some.ensures).1 ∙ ap (λ (x : ℕ). 0xE0 * 2 ^ 56 + x) e
+    c.from_low_bits.ensures.value ∙ ap (λ (x : ℕ). 0xE0 * 2 ^ 56 + x) e
 
 pub returns-clause-back : goal.returns-clause-back
 returns-clause-back c = ap mirror (returns-clause-value c) ∙ mirror_of_uid c.args.key c.requires

@@ -12,7 +12,7 @@ at_end : (given left : List ℕ) → left ≡ [] → given ≡ given ++ left
 at_end given left h = sym (ap (λ xs. given ++ xs) h ∙ append-nil given)
 
 whole : (given left : List ℕ) (r : Result LogValue LogFault) → ReadsAs (Some left) given r → Judges (given ++ left) r
-whole given left (Ok log) h = (subst (λ xs. IsLogOf (lines_of_text xs) log.lines) (at_end given left h.0) h.1, h.2)
+whole given left (Ok log) h = subst (λ xs. IsLogOf (lines_of_text xs) log) (at_end given left h.0) h.1
 whole given left (Err (Line n f)) h = ⊎_elim
     (λ (e : IsEarlyFault given n f). early given left n f e)
     (λ end. subst (λ xs. IsFirstFault (lines_of_text xs) n f) (at_end given left end.0) end.1)

@@ -1,4 +1,4 @@
-use Rattle.std.proofs.Common.{◌≡◌, ◌∙◌, refl, sym, subst, List, ℕ}
+use Rattle.std.proofs.Common.{refl, subst, List, ℕ}
 use Rattle.vic_log.specs.Index.{IsAtMost}
 use Rattle.vic_log.proofs.Indexing.{one_other, still_index}
 use Rattle.vic_log.proofs.log.index_entry.Goals as goal

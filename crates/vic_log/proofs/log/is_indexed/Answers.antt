@@ -1,4 +1,4 @@
-use Rattle.std.proofs.Common.{◌≡◌, ◌∙◌, refl, sym}
+use Rattle.std.proofs.Common.{◌∙◌, refl}
 use Rattle.vic_log.proofs.Indexing.{above_all, found, by_first, by_second}
 use Rattle.vic_log.proofs.log.is_indexed.Goals as goal
 

@@ -1,9 +1,8 @@
-use Rattle.std.proofs.Common.{rules, ◌≡◌, ◌++◌, [], ℕ, List, Option, Some, None, Result, Ok, Err, MatchResult, IfOk, IfErr, take, false, true, inl, inr, ap, sym, subst, ◌∙◌, append-nil, arith}
+use Rattle.std.proofs.Common.{rules, ◌≡◌, ◌++◌, [], ℕ, List, Option, Some, None, Result, Ok, Err, MatchResult, IfErr, take, false, true, inl, inr, ap, sym, subst, ◌∙◌, append-nil, arith}
 use Rattle.std.specs.Prelude.{◌↔◌}
 use Rattle.std.proofs.KnownBytes.{Consumes-trans}
 use Rattle.std.proofs.lemmas.Result.{err_from_is_err_and}
 use Rattle.std.specs.Io.KnownBytes.{Consumes, IsAtEnd}
-use Rattle.vic_log.specs.declared.entry.Version.TheVariants.{V1}
 use Rattle.vic_log.specs.declared.fault.LogFault.{LogFault}
 use Rattle.vic_log.specs.declared.fault.LogFault.TheVariants.{Line, Read, Memory, Spent}
 use Rattle.vic_log.specs.Device.{KeepsOrHides, HandsOut, TellsOn}
@@ -36,15 +35,14 @@ reads_early left text Memory h = tt
 reads_early left text Read h = absurd h
 reads_early left text Spent h = h
 
-reads_end : (left : Option (List ℕ)) (text : List ℕ) (r : Result LogValue LogFault) → IsAtEnd left → MatchResult r (λ log. IsLogOf (lines_of_text text) log.lines) (Refuses text)
-    → IfOk r (λ log. log.version ≡ V1) → ReadsAs left text r
-reads_end left text (Ok log) e h v = (e, h, v)
-reads_end left text (Err (Line n f)) e h v = inr (e, h)
-reads_end left text (Err Memory) e h v = tt
-reads_end left text (Err Read) e h v = absurd h
-reads_end left text (Err Spent) e h v = h
+reads_end : (left : Option (List ℕ)) (text : List ℕ) (r : Result LogValue LogFault) → IsAtEnd left → MatchResult r (IsLogOf (lines_of_text text)) (Refuses text) → ReadsAs left text r
+reads_end left text (Ok log) e h = (e, h)
+reads_end left text (Err (Line n f)) e h = inr (e, h)
+reads_end left text (Err Memory) e h = tt
+reads_end left text (Err Read) e h = absurd h
+reads_end left text (Err Spent) e h = h
 
-not_read : (text : List ℕ) (r : Result LogValue LogFault) → MatchResult r (λ log. IsLogOf (lines_of_text text) log.lines) (Refuses text) → IfErr r (λ e. (e ≡ Read) ↔ (false ≡ true))
+not_read : (text : List ℕ) (r : Result LogValue LogFault) → MatchResult r (IsLogOf (lines_of_text text)) (Refuses text) → IfErr r (λ e. (e ≡ Read) ↔ (false ≡ true))
 not_read text (Ok log) h = tt
 not_read text (Err (Line n f)) h = ((λ e. cc), (λ e. cc))
 not_read text (Err Memory) h = ((λ e. cc), (λ e. cc))
@@ -54,12 +52,11 @@ not_read text (Err Spent) h = absurd h
 pub loop-count-init : goal.loop-count-init
 loop-count-init g c = record {
   text = [];
-  judged = rw (c.new.ensures, c.new-2.ensures) HasJudged-start;
+  judged = rw c.new-2.ensures (HasJudged-start c.new.result (ap (λ (v : LogValue). v.lines) c.new.ensures));
   given = c.in_ok-count.ensures.bytes.0;
   works = search rules;
   bound = search rules;
   end = search rules;
-  version = ap (λ (v : LogValue). v.version) c.new.ensures;
   reads = search rules;
 }
 
@@ -77,7 +74,7 @@ returns-in_err-count-2-clause-answer g c =
     let begun = c.take_piece.new.begun in
     let j = c.in_ok-take_piece.ensures.ok i.text i.judged in
     let p = err_from_is_err_and c.from_residual-in_err-count-2.result c.from_residual-in_err-count-2.ensures.1 in
-    rw (p.1, p.2) (given, handed_kept _ _ _ given i.given c.in_err-count-2.ensures.bytes, λ n f e. no-early given begun.line.items begun.log.lines begun.number n f j e)
+    rw (p.1, p.2) (given, handed_kept _ _ _ given i.given c.in_err-count-2.ensures.bytes, λ n f e. no-early given begun.line.items begun.log begun.number n f j e)
 
 pub loop-count-preserved : goal.loop-count-preserved
 loop-count-preserved g c =
@@ -91,7 +88,6 @@ loop-count-preserved g c =
       works = search rules;
       bound = search rules;
       end = search rules;
-      version = c.in_ok-take_piece.ensures.version ∙ i.version;
       reads = search rules;
     }
 
@@ -100,11 +96,11 @@ returns-clause-answer g c =
     let i = c.loop-count.invariant in
     let none : c.loop-count.count ≡ 0 = omega arith in
     let all : i.text ++ take c.loop-count.count c.loop-count.piece ≡ i.text = ap (λ n. i.text ++ take n c.loop-count.piece) none ∙ append-nil i.text in
-    (i.text, handed _ _ i.text (subst (Consumes _ _) all i.given), reads_end _ i.text c.end_text.result (i.end none) (c.end_text.ensures.answer i.text i.judged) (search rules))
+    (i.text, handed _ _ i.text (subst (Consumes _ _) all i.given), reads_end _ i.text c.end_text.result (i.end none) (c.end_text.ensures i.text i.judged))
 
 pub returns-clause-read : goal.returns-clause-read
 returns-clause-read g c =
-    let i = c.loop-count.invariant in rw i.works (not_read i.text c.end_text.result (c.end_text.ensures.answer i.text i.judged))
+    let i = c.loop-count.invariant in rw i.works (not_read i.text c.end_text.result (c.end_text.ensures i.text i.judged))
 
 pub returns-in_err-take_piece-clause-tells : goal.returns-in_err-take_piece-clause-tells
 returns-in_err-take_piece-clause-tells g c read = tells_on _ _ _ c.loop-count.invariant.given

@@ -1,18 +1,16 @@
 use Rattle.std.proofs.Common.{◌≡◌, ◌≤◌, ◌+◌, ◌++◌, ℕ, List, take, false, length}
 use Rattle.std.specs.Io.KnownBytes.{Consumes, IsAtEnd}
-use Rattle.vic_log.specs.declared.entry.Version.TheVariants.{V1}
 use Rattle.vic_log.specs.Begun.{HasJudged, spare}
 use Rattle.vic_log.proofs.reader.read_from.Given as goal
 
 abbrev pub invariant-loop-count : goal.invariant-loop-count
 invariant-loop-count g l = record {
   text : List ℕ;
-  judged : HasJudged text l.begun.log.lines l.begun.number l.begun.line.items;
+  judged : HasJudged text l.begun.log l.begun.number l.begun.line.items;
   given : Consumes (g.R.Source.left l.fn.source) (g.R.Source.left l.source) (text ++ take l.count l.piece);
   works : g.R.Source.has_failed l.source ≡ false;
   bound : l.count ≤ length l.piece;
   end : l.count ≡ 0 → IsAtEnd (g.R.Source.left l.source);
-  version : l.begun.log.version ≡ V1;
   reads : g.R.Source.reads l.source + spare l.begun.number l.begun.line.items ≤ g.R.Source.reads l.fn.source + 130000001;
 }
 

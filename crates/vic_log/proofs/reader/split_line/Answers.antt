@@ -1,4 +1,4 @@
-use Rattle.std.proofs.Common.{◌≡◌, suc, ◌+◌, length, refl, arith}
+use Rattle.std.proofs.Common.{◌≡◌, ◌+◌, refl, arith}
 use Rattle.std.proofs.lemmas.Bool.{eqb-true}
 use Rattle.std.specs.Prelude.{slice_index}
 use Rattle.vic_log.specs.Lines.{lf}

@@ -1,5 +1,4 @@
-use Rattle.std.proofs.Common.{rules, ◌≡◌, ◌<◌, ◌≤◌, ◌+◌, ◌++◌, ℕ, List, [], append-nil, length, subst, sym, refl, ◌∙◌, arith, inl, length-append}
-use Rattle.vic_frame.specs.Uids.{has}
+use Rattle.std.proofs.Common.{rules, ◌<◌, ◌+◌, ◌++◌, ℕ, List, [], append-nil, length, subst, sym, refl, ◌∙◌, arith, inl, length-append}
 use Rattle.vic_log.specs.Early.{IsLong, IsEarlyFault}
 use Rattle.vic_log.specs.declared.fault.LineFault.TheVariants.{LineTooLong}
 use Rattle.vic_log.proofs.Judged.{cut_of, HasCut-more, early-long, early-many}
@@ -11,7 +10,7 @@ pub returns-then-begun-eq1000000-clause-err : goal.returns-then-begun-eq1000000-
 returns-then-begun-eq1000000-clause-err c = λ text j.
     let begun = c.args.begun.now in
     let some : 0 < length c.args.bytes.now = search rules in
-    early-many text begun.line.items c.args.bytes.now begun.log.lines begun.number j c.if-begun-eq1000000.true some
+    early-many text begun.line.items c.args.bytes.now begun.log begun.number j c.if-begun-eq1000000.true some
 
 pub returns-then-not-fits-clause-err : goal.returns-then-not-fits-clause-err
 returns-then-not-fits-clause-err c = λ text j.
@@ -25,5 +24,5 @@ returns-then-not-fits-clause-err c = λ text j.
           let items = on_ok c.try_extend_from_slice.result _ (sym w.if-not-fits.ensures.value) c.try_extend_from_slice.ensures.ok in
           subst IsLong (w.as_slice.ensures.value ∙ items) (w.if-is_too_long.ensures.long refl)
     ] in
-    let early = early-long (text ++ bytes) (line ++ bytes) begun.log.lines begun.number (begun.number + 1) (HasCut-more text line bytes begun.log.lines begun.number (cut_of text line begun.log.lines begun.number j) c.requires.no_lf) (omega arith) c.if-begun-eq1000000.false long [] in
+    let early = early-long (text ++ bytes) (line ++ bytes) begun.log begun.number (begun.number + 1) (HasCut-more text line bytes begun.log begun.number (cut_of text line begun.log begun.number j) c.requires.no_lf) (omega arith) c.if-begun-eq1000000.false long [] in
     subst (λ (xs : List ℕ). IsEarlyFault xs (begun.number + 1) LineTooLong) (append-nil (text ++ bytes)) early

@@ -1,4 +1,4 @@
-use Rattle.std.proofs.Common.{rules, ◌≡◌, ◌+◌, ◌++◌, ◌∷◌, [], ℕ, List, Result, Ok, Err, OnOk, IfErr, length, refl, ap, sym, subst, ◌∙◌, append_assoc, append-nil, length-append, arith}
+use Rattle.std.proofs.Common.{◌≡◌, ◌++◌, ◌∷◌, [], ℕ, List, Result, Ok, Err, OnOk, IfErr, refl, ap, sym, subst, ◌∙◌, append_assoc, append-nil, length-append, arith}
 use Rattle.std.proofs.lemmas.Result.{err_from_is_err_and}
 use Rattle.vic_log.specs.Begun.{HasJudged}
 use Rattle.vic_log.specs.Early.{IsEarly}
@@ -8,6 +8,16 @@ use Rattle.vic_log.proofs.reader.take_piece.Goals as goal
 -- what was taken, the line, and what stands behind it
 regrouped : (text taken line behind bytes rest : List ℕ) → bytes ≡ taken ++ rest → rest ≡ line ++ lf ∷ behind → (text ++ taken) ++ (line ++ lf ∷ behind) ≡ text ++ bytes
 regrouped text taken line behind bytes rest e f = append_assoc text taken (line ++ lf ∷ behind) ∙ ap (λ xs. text ++ xs) (ap (λ xs. taken ++ xs) (sym f) ∙ sym e)
+
+pub loop-line-init : goal.loop-line-init
+loop-line-init c =
+    let begun = c.args.begun.now in
+    record {
+      taken = [];
+      whole = refl;
+      judged = λ text j. subst (λ (xs : List ℕ). HasJudged xs begun.log begun.number begun.line.items) (sym (append-nil text)) j;
+      less = omega arith;
+    }
 
 pub take_end-requires-clause-judged : goal.take_end-requires-clause-judged
 take_end-requires-clause-judged c = (c.requires.judged.0 ++ c.loop-line.invariant.taken, c.loop-line.invariant.judged c.requires.judged.0 c.requires.judged.1)
@@ -37,9 +47,8 @@ loop-line-preserved c =
     record {
       taken = i.taken ++ (line ++ lf ∷ []);
       whole = i.whole ∙ (ap (λ xs. i.taken ++ xs) (split.whole ∙ sym (append_assoc line (lf ∷ []) behind)) ∙ sym (append_assoc i.taken (line ++ lf ∷ []) behind));
-      judged = λ text j. subst (λ (xs : List ℕ). HasJudged xs begun.log.lines begun.number begun.line.items) (append_assoc text i.taken (line ++ lf ∷ []))
+      judged = λ text j. subst (λ (xs : List ℕ). HasJudged xs begun.log begun.number begun.line.items) (append_assoc text i.taken (line ++ lf ∷ []))
           (c.in_ok-take_end.ensures.ok (text ++ i.taken) (i.judged text j));
-      version = c.in_ok-take_end.ensures.version ∙ i.version;
       less = omega arith;
     }
 
@@ -60,7 +69,7 @@ returns-clause-ok c =
     let i = c.loop-line.invariant in
     let begun = c.take_begun.new.begun in
     ok_more c.take_begun.result _ _
-    (λ taken text j. subst (λ (xs : List ℕ). HasJudged xs begun.log.lines begun.number begun.line.items) (more_taken text i.taken c.loop-line.rest.now c.args.bytes.now i.whole) (taken (text ++ i.taken) (i.judged text j)))
+    (λ taken text j. subst (λ (xs : List ℕ). HasJudged xs begun.log begun.number begun.line.items) (more_taken text i.taken c.loop-line.rest.now c.args.bytes.now i.whole) (taken (text ++ i.taken) (i.judged text j)))
     c.take_begun.ensures.ok
 
 pub returns-clause-err : goal.returns-clause-err

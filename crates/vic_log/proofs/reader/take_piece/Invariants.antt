@@ -6,8 +6,7 @@ abbrev pub invariant-loop-line : goal.invariant-loop-line
 invariant-loop-line l = record {
   taken : List ℕ;
   whole : l.bytes ≡ taken ++ l.rest;
-  judged : (text : List ℕ) → HasJudged text l.fn.begun.log.lines l.fn.begun.number l.fn.begun.line.items → HasJudged (text ++ taken) l.begun.log.lines l.begun.number l.begun.line.items;
-  version : l.begun.log.version ≡ l.fn.begun.log.version;
+  judged : (text : List ℕ) → HasJudged text l.fn.begun.log l.fn.begun.number l.fn.begun.line.items → HasJudged (text ++ taken) l.begun.log l.begun.number l.begun.line.items;
   less : spare l.begun.number l.begun.line.items + length taken ≤ spare l.fn.begun.number l.fn.begun.line.items;
 }
 

@@ -6,6 +6,7 @@ use Rattle.vic_log.specs.Order.{entries, listed, IsRisingFrom}
 use Rattle.vic_verdict.specs.declared.verdict.Verdict.TheVariants.{Complete}
 use Rattle.vic_verdict.specs.Verdict.{IsVerdict}
 use Rattle.vic_verdict.proofs.Verdicts.{rising_lower, complete_count, reached_complete, one_verdict}
+use Rattle.vic_verdict.proofs.TwoVersions.{complete_second}
 use Rattle.vic_verdict.proofs.judging.judge_with.Goals as goal
 
 pub judge_lines-requires-clause-rising : goal.judge_lines-requires-clause-rising
@@ -16,6 +17,12 @@ returns-clause-whole g c =
     let lines = c.args.log.now.lines in
     let verdict = subst (λ (ls : List LogLine). IfOk c.judge_lines.result (IsVerdict ls)) c.lines.ensures.value c.judge_lines.ensures in
     IfOk-weaker c.judge_lines.result (IsVerdict lines) _ (λ v h count e. complete_count lines count (subst (IsVerdict lines) e h)) verdict
+
+pub returns-clause-second : goal.returns-clause-second
+returns-clause-second g c =
+    let lines = c.args.log.now.lines in
+    let verdict = subst (λ (ls : List LogLine). IfOk c.judge_lines.result (IsVerdict ls)) c.lines.ensures.value c.judge_lines.ensures in
+    IfOk-weaker c.judge_lines.result (IsVerdict lines) _ (λ v h count e. complete_second lines count (subst (IsVerdict lines) e h)) verdict
 
 pub returns-clause-reached : goal.returns-clause-reached
 returns-clause-reached g c =

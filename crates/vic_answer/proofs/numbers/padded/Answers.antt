@@ -1,0 +1,9 @@
+use Rattle.std.proofs.Common.{ℕ, List, ◌++◌, length, drop, replicate, ap, ◌∙◌}
+use Rattle.std.proofs.lemmas.List.{drop-replicate}
+use Rattle.vic_answer.proofs.numbers.padded.Goals as goal
+
+pub returns : goal.returns
+returns c =
+    let text = c.args.text.now in
+    ap (λ (xs : List ℕ). xs ++ drop (length text) (replicate 64 0)) c.copy_from_slice.ensures.after
+    ∙ ap (λ (ys : List ℕ). text ++ ys) (drop-replicate (length text) 64 0)

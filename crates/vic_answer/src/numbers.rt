@@ -1,0 +1,142 @@
+//! An answer in numbers, with its line.
+
+ghost use Rattle.std.specs.Prelude.{◌≡◌, ◌≢◌, ◌<◌, length};
+ghost use Rattle.vic_verdict.specs.declared.verdict.Verdict.TheVariants.{Complete};
+ghost use Rattle.vic_answer.specs.CheckText.{answer_line};
+ghost use Rattle.vic_answer.specs.Numbers as spec;
+
+use crate::check::{Answer, answer_line, answer_status};
+use crate::fault_numbers::fault_number;
+use crate::lines::LINE_ROOM;
+use vic_verdict::Verdict;
+
+/// What an answer in numbers is.
+#[derive(Clone, Copy, Debug, PartialEq, Eq)]
+pub enum Kind {
+    /// None: memory was refused.
+    NoAnswer = 0,
+    Complete = 1,
+    Absent = 2,
+    Unlisted = 3,
+    Unsettled = 4,
+    Doubtful = 5,
+    Impossible = 6,
+    Refused = 7,
+}
+
+/// What is answered to a text, in numbers. What the kind does not speak of is 0.
+///
+/// | `kind` | answer | `status` | it has |
+/// |---|---|---|---|
+/// | 0 | none: memory was refused | 4 | |
+/// | 1 | complete | 0 | `count` |
+/// | 2 | absent | 1 | `uid` |
+/// | 3 | unlisted | 1 | `uid` |
+/// | 4 | unsettled | 1 | `mask_len`, `mask_value` |
+/// | 5 | doubtful | 1 | `uid` |
+/// | 6 | impossible | 2 | `line` |
+/// | 7 | refused | 3 | `line`, `fault` |
+#[repr(C)]
+#[derive(Clone, Copy, Debug, PartialEq, Eq)]
+pub struct VicinityAnswer {
+    pub kind: u32,
+    /// The exit status of the program.
+    pub status: u32,
+    pub count: u32,
+    pub line: u32,
+    pub fault: u32,
+    pub mask_len: u32,
+    pub mask_value: u64,
+    pub uid: u64,
+    /// The line that the program writes, LF included, with zeros behind it.
+    pub text: [u8; LINE_ROOM],
+}
+
+/// No answer, since memory was refused.
+pub const NO_ANSWER: VicinityAnswer = VicinityAnswer {
+    kind: 0,
+    status: 4,
+    count: 0,
+    line: 0,
+    fault: 0,
+    mask_len: 0,
+    mask_value: 0,
+    uid: 0,
+    text: [0; LINE_ROOM],
+};
+
+/// The kind of an answer, and what belongs to it.
+fn kind_of(answer: &Answer) -> VicinityAnswer
+    ensures { result ≡ spec.kind_of answer.now }
+{
+    match *answer {
+        Answer::Judged(Verdict::Complete { count }) => VicinityAnswer {
+            kind: Kind::Complete as u32,
+            count,
+            ..NO_ANSWER
+        },
+        Answer::Judged(Verdict::Absent(uid)) => VicinityAnswer {
+            kind: Kind::Absent as u32,
+            uid: uid.number(),
+            ..NO_ANSWER
+        },
+        Answer::Judged(Verdict::Unlisted(uid)) => VicinityAnswer {
+            kind: Kind::Unlisted as u32,
+            uid: uid.number(),
+            ..NO_ANSWER
+        },
+        Answer::Judged(Verdict::Unsettled(mask)) => VicinityAnswer {
+            kind: Kind::Unsettled as u32,
+            mask_len: u32::from(mask.len()),
+            mask_value: mask.value(),
+            ..NO_ANSWER
+        },
+        Answer::Judged(Verdict::Doubtful(uid)) => VicinityAnswer {
+            kind: Kind::Doubtful as u32,
+            uid: uid.number(),
+            ..NO_ANSWER
+        },
+        Answer::Judged(Verdict::Impossible { line }) => VicinityAnswer {
+            kind: Kind::Impossible as u32,
+            line,
+            ..NO_ANSWER
+        },
+        Answer::RefusedAt { line, fault } => VicinityAnswer {
+            kind: Kind::Refused as u32,
+            line,
+            fault: fault_number(&fault),
+            ..NO_ANSWER
+        },
+    }
+}
+
+/// A text with zeros behind it, one at least.
+fn padded(text: &[u8]) -> [u8; LINE_ROOM]
+    requires { length text.now < LINE_ROOM }
+    ensures { result ≡ spec.padded text.now }
+{
+    let mut room = [0; LINE_ROOM];
+    room[..text.len()].copy_from_slice(text);
+    room
+}
+
+/// The line of an answer, with zeros behind it.
+fn padded_line(answer: &Answer) -> [u8; LINE_ROOM]
+    ensures { result ≡ spec.padded (answer_line answer.now) }
+{
+    padded(answer_line(answer).as_slice())
+}
+
+/// An answer in numbers, with its line.
+#[tactic(auto, using(crate::proofs::Numbered::kind_complete, crate::proofs::Numbered::kind_some))]
+pub fn numbers_of(answer: &Answer) -> VicinityAnswer
+    ensures numbers { result ≡ spec.numbers_of answer.now }
+    ensures complete { result.kind ≡ 1 → answer.now ≡ Answer.Judged (Complete result.count) }
+    ensures some { result.kind ≢ 0 }
+{
+    VicinityAnswer {
+        status: u32::from(answer_status(answer).code()),
+        text: padded_line(answer),
+        ..kind_of(answer)
+    }
+}

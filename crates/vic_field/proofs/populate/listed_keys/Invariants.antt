@@ -1,0 +1,7 @@
+use Rattle.std.proofs.Common.{take}
+use Rattle.vic_log.specs.Order.{entries, listed}
+use Rattle.vic_field.specs.Keys.{AreKeysOf}
+use Rattle.vic_field.proofs.populate.listed_keys.Given as goal
+
+abbrev pub invariant-loop-line : goal.invariant-loop-line
+invariant-loop-line l = AreKeysOf (listed (entries (take l.line-index l.lines))) l.keys.items

@@ -1,0 +1,30 @@
+use Rattle.std.proofs.Common.{◌≡◌, ℕ, ◌<◌, ◌^◌, Bool, true, List, [], ◌∷◌, Some, None, sym, ap, ◌∙◌, ◌||◌, refl}
+use Rattle.std.specs.Prelude.{nat_eq, if◌then◌else◌}
+use Rattle.std.specs.List.{list_any}
+use Rattle.std.proofs.lemmas.List.Sorted.{list_any-IsPermutation, All-permutation}
+use Rattle.std.proofs.lemmas.Result.{IfOk-weaker}
+use Rattle.vic_frame.specs.LowBitsFirst.{uid_of}
+use Rattle.vic_frame.specs.Uids.{has}
+use Rattle.vic_field.specs.Keys.{uids_at}
+use Rattle.vic_field.proofs.populate.populate.Goals as goal
+
+has_at : (ks : List ℕ) (u : ℕ) → has (uids_at ks) u ≡ list_any (λ k. nat_eq u (uid_of k)) ks
+has_at [] u = refl
+has_at (k ∷ ks) u = ap (λ (b : Bool). nat_eq u (uid_of k) || b) (has_at ks u)
+
+pub field_of-requires : goal.field_of-requires
+field_of-requires c = rw c.deref.ensures.value (All-permutation (λ (k : ℕ). k < 2 ^ 56) c.in_ok-keys.keys.items c.sort_unstable.new.self.items c.sort_unstable.ensures.permutation c.in_ok-keys.ensures.small)
+
+pub returns : goal.returns
+returns c =
+    let old = c.in_ok-keys.keys.items in
+    let new = c.sort_unstable.new.self.items in
+    let same = λ (u : ℕ).
+    ap (λ (ks : List ℕ). has (uids_at ks) u) c.deref.ensures.value
+    ∙ has_at new u
+    ∙ sym (list_any-IsPermutation (λ k. nat_eq u (uid_of k)) old new c.sort_unstable.ensures.permutation)
+    ∙ sym (has_at old u)
+    ∙ ap (λ (us : List ℕ). has us u) c.in_ok-keys.ensures.uids in
+    IfOk-weaker c.field_of.result _ _
+    (λ field k u h. k u h ∙ ap (λ (b : Bool). if b then Some true else None) (same u))
+    c.field_of.ensures

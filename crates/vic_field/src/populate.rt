@@ -1,0 +1,64 @@
+//! A field of the tags that lines list.
+
+ghost use Rattle.std.specs.Prelude.{◌<◌, ◌^◌, ◌++◌, ◌∷◌, [], IfOk, OnOk, List, ℕ};
+ghost use Rattle.std.specs.List.{All};
+ghost use Rattle.vic_field.specs.Keys.{AreKeysOf, uids_at};
+ghost use Rattle.vic_field.specs.Tags.{HasAdded};
+ghost use Rattle.vic_frame.specs.Uids.{has};
+ghost use Rattle.vic_log.specs.Order.{entries, listed};
+
+use crate::field::Field;
+use std::alloc::{AllocError, Global};
+use vic_frame::low_bits_first;
+use vic_log::{Entry, LogLine};
+
+/// A field of the tags that are listed, all Ready.
+///
+/// They are put in by the order of their keys, so that those of a mask stand together in memory.
+pub(crate) fn populate(alloc: Global, lines: &[LogLine]) -> Result<Field, AllocError>
+    ensures { IfOk result (HasAdded (has (listed (entries lines.now))) []) }
+{
+    let mut keys = listed_keys(alloc, lines)?;
+    keys.sort_unstable();
+    field_of(alloc, &keys)
+}
+
+/// The keys of the UIDs that are listed.
+fn listed_keys(alloc: Global, lines: &[LogLine]) -> Result<Vec<u64>, AllocError>
+    ensures { IfOk result (λ keys. AreKeysOf (listed (entries lines.now)) keys.items) }
+{
+    let mut keys = Vec::new(alloc);
+    for line in lines {
+        push_listed(&mut keys, &line.item)?;
+    }
+    Ok(keys)
+}
+
+/// Adds the key of the UID that an entry lists, if it lists one.
+fn push_listed(keys: &mut Vec<u64>, item: &Entry) -> Result<(), AllocError>
+    ensures { OnOk result ((us : List ℕ) → AreKeysOf us keys.old.items
+        → AreKeysOf (us ++ listed (item.now ∷ [])) keys.new.items) }
+{
+    match *item {
+        Entry::Listed(uid) => keys.push(low_bits_first::key(uid))?,
+        Entry::Sent(_)
+        | Entry::Silent
+        | Entry::Collision
+        | Entry::Heard(_)
+        | Entry::Garbled
+        | Entry::FieldCycle => {}
+    }
+    Ok(())
+}
+
+/// A field of the tags with these keys, all Ready.
+fn field_of(alloc: Global, keys: &[u64]) -> Result<Field, AllocError>
+    requires { All (λ k. k < 2 ^ 56) keys.now }
+    ensures { IfOk result (HasAdded (has (uids_at keys.now)) []) }
+{
+    let mut field = Field::new(alloc);
+    for key in keys {
+        field.put(low_bits_first::uid_at(*key))?;
+    }
+    Ok(field)
+}

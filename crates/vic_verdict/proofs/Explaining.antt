@@ -1,0 +1,80 @@
+-- A gathered population shows the verdict.
+use Rattle.std.proofs.Common.{◌≡◌, ℕ, ◌≤◌, List, ◌∷◌, length, true, Some, None, sym, ◌∙◌, subst, arith, ⊎_elim}
+use Rattle.std.specs.List.Sorted.{IsStrictlyIncreasing}
+use Rattle.std.proofs.lemmas.Bool.{false_from_ne_true}
+use Rattle.vic_frame.specs.Uids.{IsUid, has}
+use Rattle.vic_frame.specs.Masks.{BitMask, lies_in, least_uid_in}
+use Rattle.vic_log.specs.declared.entry.Entry.{Entry}
+use Rattle.vic_log.specs.declared.entry.LogLine.{LogLine}
+use Rattle.vic_log.specs.Order.{entries}
+use Rattle.vic_log.specs.Slots.{slots_of, is_open}
+use Rattle.vic_log.proofs.Sets.{IsWithin, AreDifferent-population, IsUid-member, has_here, has_there, has_cases}
+use Rattle.vic_log.proofs.Supply.{MeetsAll-iff, SuppliesAll-within}
+use Rattle.vic_log.proofs.Places.{CouldHaveGiven-slots}
+use Rattle.vic_verdict.specs.declared.demands.Met.{Met}
+use Rattle.vic_verdict.specs.declared.verdict.Verdict.TheVariants.{Absent, Unlisted, Unsettled, Doubtful}
+use Rattle.vic_verdict.specs.Demands.{IsMet}
+use Rattle.vic_verdict.specs.Explained.{IsSmallPopulation, IsPopulationBehind}
+use Rattle.vic_verdict.specs.Gathered.{gathered}
+use Rattle.vic_verdict.specs.Possible.{IsPossible, IsPossibleUid, IsCertainUid}
+use Rattle.vic_verdict.specs.Rising.{SameMembers}
+use Rattle.vic_verdict.specs.Verdict.{IsVerdict}
+use Rattle.vic_verdict.proofs.Decide.{IsPossibleUid-iff}
+use Rattle.vic_verdict.proofs.Gathering.{IsGathered, AvoidsNoneCertain, rising_population, no_more, gathered_population, gathered_without}
+use Rattle.vic_verdict.proofs.Masks.{lies_in-uid_in, IsUid-in}
+
+small_from : (es : List Entry) (us : List ℕ) → IsGathered es us → IsSmallPopulation es us
+small_from es us g = record {
+  rising = g.rising;
+  population = g.population;
+  could = g.could;
+  few = λ heard all. let n = g.few heard all in omega arith;
+}
+
+none_avoided : (es : List Entry) → AvoidsNoneCertain es None
+none_avoided es a e = cc
+
+pub absent_shown : (lines : List LogLine) (m : Met) (us : List ℕ) (u : ℕ) → IsVerdict lines (Absent u) → IsMet (entries lines) m → IsStrictlyIncreasing us → SameMembers us (gathered None m) → IsPopulationBehind (entries lines) (Absent u) us
+absent_shown lines m us u v met rising same =
+    let es = entries lines in
+    let g = gathered_population es m None us v.0 (none_avoided es) met rising same in
+    (small_from es us g, false_from_ne_true _ (λ h. v.1.0.1 (us, g.population, g.could, h)))
+
+pub unlisted_shown : (lines : List LogLine) (m : Met) (us : List ℕ) (u : ℕ) → IsVerdict lines (Unlisted u) → IsMet (entries lines) m → IsStrictlyIncreasing us → SameMembers us (gathered None m) → IsPopulationBehind (entries lines) (Unlisted u) us
+unlisted_shown lines m us u v met rising same =
+    let es = entries lines in
+    let g = gathered_population es m None us v.0 (none_avoided es) met rising same in
+    (small_from es us g, v.2.0.0 us g.population g.could)
+
+pub doubtful_shown : (lines : List LogLine) (m : Met) (us : List ℕ) (u : ℕ) → IsVerdict lines (Doubtful u) → IsMet (entries lines) m → IsStrictlyIncreasing us → SameMembers us (gathered (Some u) m) → IsPopulationBehind (entries lines) (Doubtful u) us
+doubtful_shown lines m us u v met rising same =
+    let es = entries lines in
+    let spared : AvoidsNoneCertain es (Some u) = λ a e certain. let it : u ≡ a = cc in v.4.0.1 (subst (IsCertainUid es) (sym it) certain) in
+    let g = gathered_population es m (Some u) us v.0 spared met rising same in
+    (small_from es us g, gathered_without es m u us v.4.0.1 met same)
+
+-- a gathered population with one possible UID more
+with_possible : (es : List Entry) (x : ℕ) (us vs : List ℕ) → IsPossible es → IsUid x → IsPossibleUid es x → IsGathered es us → IsStrictlyIncreasing vs → SameMembers vs (x ∷ us) → IsSmallPopulation es vs
+with_possible es x us vs possible i p g rising same =
+    let slots = slots_of es in
+    let split : IsWithin (has vs) (has (x ∷ us)) = λ u h. sym (same u) ∙ h in
+    let old = (MeetsAll-iff us slots g.population).0 ((CouldHaveGiven-slots us es).0 g.could) in
+    let within : IsWithin (has vs) (is_open slots) = λ u h. ⊎_elim (λ e. subst (λ z. is_open slots z ≡ true) (sym e) ((IsPossibleUid-iff es x possible).0 p)) (λ k. old.0 u k) (has_cases u x us (split u h)) in
+    let population = rising_population vs rising (λ u h. ⊎_elim (λ e. subst IsUid (sym e) i) (λ k. IsUid-member us u g.population k) (has_cases u x us (split u h))) in
+    let supplied = SuppliesAll-within (has us) (has vs) slots (λ u h. same u ∙ has_there u x us h) old.1 in
+    let longer : length vs ≤ length (x ∷ us) = no_more vs (x ∷ us) (AreDifferent-population vs population) split in
+    record {
+      rising = rising;
+      population = population;
+      could = (CouldHaveGiven-slots vs es).1 ((MeetsAll-iff vs slots population).1 (within, supplied));
+      few = λ heard all. let n = g.few heard all in omega arith;
+    }
+
+pub unsettled_shown : (lines : List LogLine) (m : Met) (us vs : List ℕ) (k : BitMask) (x : ℕ) → IsVerdict lines (Unsettled k) → IsMet (entries lines) m → IsStrictlyIncreasing us → SameMembers us (gathered None m) → x ≡ least_uid_in k → IsStrictlyIncreasing vs → SameMembers vs (x ∷ us) → IsPopulationBehind (entries lines) (Unsettled k) vs
+unsettled_shown lines m us vs k x v met rising same is rising' same' =
+    let es = entries lines in
+    let g = gathered_population es m None us v.0 (none_avoided es) met rising same in
+    let mask = v.3.0 in
+    let i : IsUid x = subst IsUid (sym is) (IsUid-in k mask.0 mask.1) in
+    let inside : lies_in k x ≡ true = subst (λ z. lies_in k z ≡ true) (sym is) (lies_in-uid_in k mask.0 mask.1) in
+    (with_possible es x us vs v.0 i (mask.2 x i inside).0 g rising' same', (x, inside, same' x ∙ has_here x us))

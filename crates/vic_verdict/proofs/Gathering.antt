@@ -1,0 +1,328 @@
+-- A small population, gathered from what the slots of a possible log ask for.
+use Rattle.std.proofs.Common.{◌≡◌, ℕ, zero, suc, ◌+◌, ◌<◌, ◌≤◌, List, [], ◌∷◌, ◌++◌, length, take, get_or, Bool, true, false, ◌||◌, Option, Some, None, refl, sym, ap, ◌∙◌, subst, arith, inl, inr, ⊎_elim, length-append}
+use Rattle.std.specs.Prelude.{◌⊎◌, ◌==◌, nat_eq, slice_get}
+use Rattle.std.specs.List.{filter, All, sum_by}
+use Rattle.std.specs.List.Sorted.{IsStrictlyIncreasing}
+use Rattle.std.proofs.lemmas.Bool.{both_ways, false≢true, and_parts, and_from, or_cases, or_left, or_right, false_from_ne_true, eq-eqb, ne_eqb, cases_eq, not-true, not_from_false}
+use Rattle.std.proofs.lemmas.List.{length-take}
+use Rattle.std.proofs.lemmas.List.Folds.{list_any-append}
+use Rattle.std.proofs.lemmas.List.Kept.{AllPairs-from_increasing}
+use Rattle.std.proofs.lemmas.List.Sums.{sum_by-cons}
+use Rattle.std.proofs.lemmas.Option.{slice_get_within}
+use Rattle.vic_frame.specs.Uids.{IsUid, has, AreDifferent}
+use Rattle.vic_log.specs.declared.entry.Entry.{Entry}
+use Rattle.vic_log.specs.declared.entry.Entry.TheVariants.{Sent, Silent, Collision, Heard, Listed, Garbled, FieldCycle}
+use Rattle.vic_log.specs.Populations.{IsPopulation, CouldHaveGiven, answers_at}
+use Rattle.vic_log.specs.Slots.{Reading, ManyReplies, SomeReply, reading_of, slots_of, is_open, Asks}
+use Rattle.vic_log.proofs.Sets.{IsWithin, AreDifferent-population, AreDifferent-filter, has_filter, has_here, has_at, has_there, has_cases}
+use Rattle.vic_log.proofs.Supply.{asks_within, MeetsAll-iff, IsUid-from}
+use Rattle.vic_log.proofs.Places.{CouldHaveGiven-slots}
+use Rattle.vic_verdict.specs.declared.demands.Found.{Found}
+use Rattle.vic_verdict.specs.declared.demands.Met.{Met}
+use Rattle.vic_verdict.specs.Demands.{needs_of, IsFoundAt, IsFound, IsMet, all_needs}
+use Rattle.vic_verdict.specs.Gathered.{is_other, chosen, all_chosen, gathered}
+use Rattle.vic_verdict.specs.Explained.{HasHeard}
+use Rattle.vic_verdict.specs.Places.{answering, entry_asks, entry_forces}
+use Rattle.vic_verdict.specs.Possible.{IsPossible, IsCertainUid}
+use Rattle.vic_verdict.specs.Rising.{SameMembers}
+use Rattle.vic_verdict.proofs.Choosing.{filter_yes, filter_no}
+use Rattle.vic_verdict.proofs.Decide.{IsPossibleUid-iff}
+use Rattle.vic_verdict.proofs.Entries.{SuppliesBefore, SuppliesAll-places, forces_two_iff, forces_one_iff}
+use Rattle.vic_verdict.proofs.Failing.{place_of}
+use Rattle.vic_verdict.proofs.Populations.{forced, is_open-is_uid}
+use Rattle.vic_verdict.proofs.Possibility.{Heard-certain}
+use Rattle.vic_verdict.proofs.Supplied.{supplied_each}
+
+-- ---- rising lists of UIDs are populations
+
+rising_tail : (x : ℕ) (us : List ℕ) → IsStrictlyIncreasing (x ∷ us) → IsStrictlyIncreasing us
+rising_tail x us r k h =
+    let e : suc k + 1 ≡ suc (k + 1) = omega arith in
+    subst (λ n. get_or us k 0 < get_or (x ∷ us) n 0) e (r (suc k) (omega arith))
+
+rising_first : (x : ℕ) (us : List ℕ) → IsStrictlyIncreasing (x ∷ us) → has us x ≡ false
+rising_first x us r =
+    false_from_ne_true _ (λ h.
+    let p = place_of us x 0 h in
+    let lt = p.1 in
+    let e = p.2 in
+    let below : x < get_or us p.0 0 = AllPairs-from_increasing (x ∷ us) r 0 (suc p.0) 0 (omega arith) (omega arith) in
+    omega arith)
+
+pub rising_population : (us : List ℕ) → IsStrictlyIncreasing us → ((u : ℕ) → has us u ≡ true → IsUid u) → IsPopulation us
+rising_population [] r i = tt
+rising_population (x ∷ us) r i =
+    (i x (has_here x us), rising_first x us r, rising_population us (rising_tail x us r) (λ u h. i u (has_there u x us h)))
+
+-- ---- different members of a list are no more than the list
+
+-- the list without one of its members
+less_one : (x : ℕ) (ys : List ℕ) → has ys x ≡ true → (zs : List ℕ) × (length ys ≡ suc (length zs)) × ((u : ℕ) → has ys u ≡ true → (u ≡ x) ⊎ (has zs u ≡ true))
+less_one x [] h = absurd (false≢true h)
+less_one x (y ∷ ys) h =
+    ⊎_elim
+    (λ e. (ys, refl, λ u k. ⊎_elim (λ f. inl (f ∙ sym e)) (λ m. inr m) (has_cases u y ys k)))
+    (λ k.
+    let r = less_one x ys k in
+    let n = r.1 in
+    (y ∷ r.0, omega arith, λ u m. ⊎_elim (λ f. inr (has_at u y r.0 f)) (λ w. ⊎_elim (λ f. inl f) (λ v. inr (has_there u y r.0 v)) (r.2 u w)) (has_cases u y ys m)))
+    (has_cases x y ys h)
+
+pub no_more : (xs ys : List ℕ) → AreDifferent xs → IsWithin (has xs) (has ys) → length xs ≤ length ys
+no_more [] ys d w = omega arith
+no_more (x ∷ xs) ys d w =
+    let r = less_one x ys (w x (has_here x xs)) in
+    let n = r.1 in
+    let h = no_more xs r.0 d.1 (λ u m. ⊎_elim (λ e. absurd (both_ways (has xs x) d.0 (subst (λ z. has xs z ≡ true) e m))) (λ k. k) (r.2 u (w u (has_there u x xs m)))) in
+    omega arith
+
+has_append : (xs ys : List ℕ) (u : ℕ) → has (xs ++ ys) u ≡ (has xs u || has ys u)
+has_append xs ys u = list_any-append (nat_eq u) xs ys
+
+pub append_cases : (xs ys : List ℕ) (u : ℕ) → has (xs ++ ys) u ≡ true → (has xs u ≡ true) ⊎ (has ys u ≡ true)
+append_cases xs ys u h = or_cases (has xs u) (has ys u) (sym (has_append xs ys u) ∙ h)
+
+pub append_left : (xs ys : List ℕ) (u : ℕ) → has xs u ≡ true → has (xs ++ ys) u ≡ true
+append_left xs ys u h = has_append xs ys u ∙ or_left _ _ h
+
+pub append_right : (xs ys : List ℕ) (u : ℕ) → has ys u ≡ true → has (xs ++ ys) u ≡ true
+append_right xs ys u h = has_append xs ys u ∙ or_right _ _ h
+
+-- ---- what is chosen
+
+has_take : (n : ℕ) (xs : List ℕ) (u : ℕ) → has (take n xs) u ≡ true → has xs u ≡ true
+has_take zero xs u h = absurd (false≢true h)
+has_take (suc n) [] u h = h
+has_take (suc n) (x ∷ xs) u h =
+    ⊎_elim (λ e. has_at u x xs e) (λ k. has_there u x xs (has_take n xs u k)) (has_cases u x (take n xs) h)
+
+chosen_parts : (avoid : Option ℕ) (f : Found) (u : ℕ) → has (chosen avoid f) u ≡ true → (has f.uids.items u ≡ true) × (is_other avoid u ≡ true)
+chosen_parts avoid f u h =
+    and_parts _ _ (has_filter (is_other avoid) f.uids.items u (has_take f.need (filter (is_other avoid) f.uids.items) u h))
+
+-- each of all that are chosen is chosen of one that was found
+all_chosen_from : (avoid : Option ℕ) (P : Found → Type 0) (fs : List Found) (u : ℕ) → All P fs → has (all_chosen avoid fs) u ≡ true → (f : Found) × P f × (has (chosen avoid f) u ≡ true)
+all_chosen_from avoid P [] u all h = absurd (false≢true h)
+all_chosen_from avoid P (f ∷ fs) u all h =
+    ⊎_elim
+    (λ here. (f, all 0 f (omega arith), here))
+    (λ there. all_chosen_from avoid P fs u (λ k d lt. all (suc k) d (omega arith)) there)
+    (append_cases (chosen avoid f) (all_chosen avoid fs) u h)
+
+all_chosen_has : (avoid : Option ℕ) (fs : List Found) (k : ℕ) (f : Found) (u : ℕ) → k < length fs → get_or fs k f ≡ f → has (chosen avoid f) u ≡ true → has (all_chosen avoid fs) u ≡ true
+all_chosen_has avoid [] k f u lt e h = absurd (omega arith)
+all_chosen_has avoid (g ∷ fs) zero f u lt e h =
+    append_left (chosen avoid g) (all_chosen avoid fs) u (ap (λ x. has (chosen avoid x) u) e ∙ h)
+all_chosen_has avoid (g ∷ fs) (suc k) f u lt e h =
+    append_right (chosen avoid g) (all_chosen avoid fs) u (all_chosen_has avoid fs k f u (omega arith) e h)
+
+-- no more than are needed
+few_chosen : (avoid : Option ℕ) (fs : List Found) → length (all_chosen avoid fs) ≤ sum_by (λ (f : Found). f.need) fs
+few_chosen avoid [] = omega arith
+few_chosen avoid (f ∷ fs) =
+    let h = few_chosen avoid fs in
+    let long = length-append (chosen avoid f) (all_chosen avoid fs) in
+    let taken = length-take f.need (filter (is_other avoid) f.uids.items) in
+    let total = sum_by-cons (λ (g : Found). g.need) f fs in
+    omega arith
+
+-- ---- there are enough others
+
+filter_all : (p : ℕ → Bool) (xs : List ℕ) → ((u : ℕ) → has xs u ≡ true → p u ≡ true) → filter p xs ≡ xs
+filter_all p [] h = refl
+filter_all p (x ∷ xs) h =
+    filter_yes p x xs (h x (has_here x xs)) ∙ ap (λ ys. x ∷ ys) (filter_all p xs (λ u m. h u (has_there u x xs m)))
+
+is_other-from : (a u : ℕ) → (u ≡ a → ⊥) → is_other (Some a) u ≡ true
+is_other-from a u ne = not_from_false _ (ne_eqb u a ne)
+
+is_other-self : (a : ℕ) → is_other (Some a) a ≡ true → ⊥
+is_other-self a h = both_ways (a == a) (not-true _ h) (eq-eqb a a refl)
+
+-- one at most is avoided
+others_but_one : (a : ℕ) (xs : List ℕ) → AreDifferent xs → length xs ≤ length (filter (is_other (Some a)) xs) + 1
+others_but_one a [] d = omega arith
+others_but_one a (x ∷ xs) d =
+    let p = is_other (Some a) in
+    ⊎_elim
+    (λ e.
+    let rest : filter p xs ≡ xs = filter_all p xs (λ u m. is_other-from a u (λ k. both_ways _ d.0 (subst (λ z. has xs z ≡ true) (k ∙ sym e) m))) in
+    let none : p x ≡ false = subst (λ z. p z ≡ false) (sym e) (false_from_ne_true _ (is_other-self a)) in
+    let n = ap (λ ys. length ys) (filter_no p x xs none ∙ rest) in
+    omega arith)
+    (λ ne.
+    let n = ap (λ ys. length ys) (filter_yes p x xs (is_other-from a x ne)) in
+    let h = others_but_one a xs d.1 in
+    omega arith)
+    (cases_eq x a)
+
+-- the UID to avoid isn't one of exactly as many as are needed
+abbrev IsSpared : Option ℕ → List ℕ → ℕ → Type 0
+IsSpared avoid xs n = (a : ℕ) → avoid ≡ Some a → length xs ≡ n → has xs a ≡ true → ⊥
+
+true_or_false : (b : Bool) → (b ≡ true) ⊎ (b ≡ false)
+true_or_false true = inl refl
+true_or_false false = inr refl
+
+enough_others : (avoid : Option ℕ) (xs : List ℕ) (n : ℕ) → AreDifferent xs → n ≤ length xs → IsSpared avoid xs n → n ≤ length (filter (is_other avoid) xs)
+enough_others None xs n d h spared =
+    let e = ap (λ ys. length ys) (filter_all (is_other None) xs (λ u m. refl)) in omega arith
+enough_others (Some a) xs n d h spared =
+    ⊎_elim
+    (λ m.
+    let ne : length xs ≡ n → ⊥ = λ e. spared a refl e m in
+    let most = others_but_one a xs d in
+    omega arith)
+    (λ out.
+    let e = ap (λ ys. length ys) (filter_all (is_other (Some a)) xs (λ u m. is_other-from a u (λ k. both_ways _ out (subst (λ z. has xs z ≡ true) k m)))) in
+    omega arith)
+    (true_or_false (has xs a))
+
+two_of : (xs : List ℕ) → AreDifferent xs → 2 ≤ length xs → Asks ManyReplies (has (take 2 xs))
+two_of [] d h = absurd (omega arith)
+two_of (x ∷ []) d h = absurd (omega arith)
+two_of (x ∷ y ∷ xs) d h =
+    (x, y, (λ e. both_ways _ d.0 (has_at x y xs e)), has_here x (y ∷ []), has_there y x (y ∷ []) (has_here y []))
+
+one_of : (xs : List ℕ) → 1 ≤ length xs → Asks SomeReply (has (take 1 xs))
+one_of [] h = absurd (omega arith)
+one_of (x ∷ xs) h = (x, has_here x [])
+
+-- ---- who is certain
+
+-- whom a slot line tells of is certain
+certain_there : (es : List Entry) (i : ℕ) (e : Entry) (u : ℕ) → slice_get es i ≡ Some e → entry_forces (reading_of e) (answering (is_open (slots_of es)) es i) u → IsCertainUid es u
+certain_there es i e u k f p population could =
+    let w = (MeetsAll-iff p (slots_of es) population).0 ((CouldHaveGiven-slots p es).0 could) in
+    let asks = (SuppliesAll-places (has p) es (length es)).0 w.1 i e (slice_get_within es i e k) k in
+    let inner : IsWithin (answering (has p) es i) (answering (is_open (slots_of es)) es i) = λ v h. let x = and_parts (has p v) (answers_at es i v) h in and_from _ _ (w.0 v x.0) x.1 in
+    (and_parts _ _ (forced_entry (reading_of e) _ _ u f inner asks)).0
+  where
+    forced_entry : (o : Option Reading) (s t : ℕ → Bool) (u : ℕ) → entry_forces o t u → IsWithin s t → entry_asks o s → s u ≡ true
+    forced_entry None s t u f w a = absurd f
+    forced_entry (Some r) s t u f w a = forced r s t u f w a
+
+-- a UID that isn't certain is to be avoided, if any
+abbrev pub AvoidsNoneCertain : List Entry → Option ℕ → Type 0
+AvoidsNoneCertain es avoid = (a : ℕ) → avoid ≡ Some a → IsCertainUid es a → ⊥
+
+spared_at : (es : List Entry) (i : ℕ) (f : Found) (avoid : Option ℕ) (o : Option Entry) → slice_get es i ≡ o → AvoidsNoneCertain es avoid → IsFoundAt es i f → IsSpared avoid f.uids.items f.need
+spared_at es i f avoid None k n h a is long m = let need = ap needs_of (sym k) ∙ h.need in let some = h.asked in absurd (omega arith)
+spared_at es i f avoid (Some Collision) k n h a is long m =
+    let need : 2 ≡ f.need = ap needs_of (sym k) ∙ h.need in
+    n a is (certain_there es i Collision a k ((forces_two_iff _ f.uids.items a h.uids).1 (long ∙ sym need, m)))
+spared_at es i f avoid (Some Garbled) k n h a is long m =
+    let need : 1 ≡ f.need = ap needs_of (sym k) ∙ h.need in
+    n a is (certain_there es i Garbled a k ((forces_one_iff _ f.uids.items a h.uids).1 (long ∙ sym need, m)))
+spared_at es i f avoid (Some Silent) k n h a is long m = let need = ap needs_of (sym k) ∙ h.need in let some = h.asked in absurd (omega arith)
+spared_at es i f avoid (Some (Heard r)) k n h a is long m = let need = ap needs_of (sym k) ∙ h.need in let some = h.asked in absurd (omega arith)
+spared_at es i f avoid (Some (Sent q)) k n h a is long m = let need = ap needs_of (sym k) ∙ h.need in let some = h.asked in absurd (omega arith)
+spared_at es i f avoid (Some (Listed u)) k n h a is long m = let need = ap needs_of (sym k) ∙ h.need in let some = h.asked in absurd (omega arith)
+spared_at es i f avoid (Some FieldCycle) k n h a is long m = let need = ap needs_of (sym k) ∙ h.need in let some = h.asked in absurd (omega arith)
+
+-- so there are enough others
+found_others : (es : List Entry) (f : Found) (avoid : Option ℕ) → AvoidsNoneCertain es avoid → IsFound es f → AreDifferent (filter (is_other avoid) f.uids.items) × (f.need ≤ length (filter (is_other avoid) f.uids.items))
+found_others es f avoid n h =
+    let at = h.1 in
+    let different = at.uids.different in (
+      AreDifferent-filter (is_other avoid) f.uids.items different,
+      enough_others avoid f.uids.items f.need different at.enough (spared_at es h.0 f avoid (slice_get es h.0) refl n at),
+    )
+
+-- ---- the UIDs that were gathered
+
+-- all are open
+gathered_open : (es : List Entry) (m : Met) (avoid : Option ℕ) → IsPossible es → IsMet es m → IsWithin (has (gathered avoid m)) (is_open (slots_of es))
+gathered_open es m avoid possible met u h =
+    ⊎_elim
+    (λ a.
+    let heard = (met.heard u).0 a in
+    let certain = subst (IsCertainUid es) heard.3 (Heard-certain es heard.0 heard.1 heard.2) in
+    (IsPossibleUid-iff es u possible).0 (possible.0, possible.1, possible.2, certain possible.0 possible.1 possible.2))
+    (λ b.
+    let from = all_chosen_from avoid (IsFound es) m.found.items u met.found b in
+    (and_parts _ _ (from.1.1.uids.members u (chosen_parts avoid from.0 u from.2).0)).0)
+    (append_cases m.heard.items (all_chosen avoid m.found.items) u h)
+
+-- the one to avoid isn't there
+gathered_other : (es : List Entry) (m : Met) (a : ℕ) → (IsCertainUid es a → ⊥) → IsMet es m → has (gathered (Some a) m) a ≡ true → ⊥
+gathered_other es m a n met h =
+    ⊎_elim
+    (λ b.
+    let heard = (met.heard a).0 b in
+    n (subst (IsCertainUid es) heard.3 (Heard-certain es heard.0 heard.1 heard.2)))
+    (λ b.
+    let from = all_chosen_from (Some a) (IsFound es) m.found.items a met.found b in
+    is_other-self a (chosen_parts (Some a) from.0 a from.2).1)
+    (append_cases m.heard.items (all_chosen (Some a) m.found.items) a h)
+
+-- they are few
+gathered_few : (es : List Entry) (m : Met) (avoid : Option ℕ) (us : List ℕ) → IsMet es m → AreDifferent us → IsWithin (has us) (has (gathered avoid m)) → (heard : List ℕ) → HasHeard es heard → length us ≤ length heard + all_needs es
+gathered_few es m avoid us met different within heard all =
+    let picks = all_chosen avoid m.found.items in
+    let le = no_more us (heard ++ picks) different (λ u h. ⊎_elim (λ a. append_left heard picks u (all u ((met.heard u).0 a))) (λ b. append_right heard picks u b) (append_cases m.heard.items picks u (within u h))) in
+    let n = length-append heard picks in
+    let few = few_chosen avoid m.found.items in
+    let needed = met.few in
+    omega arith
+
+-- what a place asks for
+asked_there : (es : List Entry) (m : Met) (avoid : Option ℕ) (i n : ℕ) (e : Entry) → slice_get es i ≡ Some e → needs_of (Some e) ≡ n → 0 < n → AvoidsNoneCertain es avoid → IsMet es m → (xs : List ℕ) × AreDifferent xs × (n ≤ length xs) × IsWithin (has (take n xs)) (answering (has (gathered avoid m)) es i)
+asked_there es m avoid i n e k is some none met =
+    let asked : 0 < needs_of (slice_get es i) = subst (λ o. 0 < needs_of o) (sym k) (subst (λ z. 0 < z) (sym is) some) in
+    let any = met.met i asked in
+    let f = any.1 in
+    let found : IsFound es f = subst (IsFound es) any.3 (met.found any.0 f any.2) in
+    let need : f.need ≡ n = sym any.4.need ∙ (ap needs_of k ∙ is) in
+    let others = found_others es f avoid none found in
+    let xs = filter (is_other avoid) f.uids.items in (
+      xs,
+      others.0,
+      subst (λ z. z ≤ length xs) need others.1,
+      λ u h.
+          let c : has (chosen avoid f) u ≡ true = subst (λ z. has (take z xs) u ≡ true) (sym need) h in
+          let member = all_chosen_has avoid m.found.items any.0 f u any.2 any.3 c in
+          and_from _ _ (append_right m.heard.items (all_chosen avoid m.found.items) u member) (any.4.answer u (chosen_parts avoid f u c).0),
+    )
+
+gathered_asks : (es : List Entry) (m : Met) (avoid : Option ℕ) → IsPossible es → AvoidsNoneCertain es avoid → IsMet es m → (i : ℕ) (e : Entry) → slice_get es i ≡ Some e → entry_asks (reading_of e) (answering (has (gathered avoid m)) es i)
+gathered_asks es m avoid possible none met i Silent k = tt
+gathered_asks es m avoid possible none met i (Sent q) k = tt
+gathered_asks es m avoid possible none met i (Listed u) k = tt
+gathered_asks es m avoid possible none met i FieldCycle k = tt
+gathered_asks es m avoid possible none met i (Heard r) k =
+    let member = append_left m.heard.items (all_chosen avoid m.found.items) r.uid ((met.heard r.uid).1 (i, r, k, refl)) in
+    and_from _ _ member (and_parts _ _ (supplied_each es i (Heard r) k possible)).1
+gathered_asks es m avoid possible none met i Collision k =
+    let w = asked_there es m avoid i 2 Collision k refl (omega arith) none met in
+    asks_within ManyReplies _ _ w.3 (two_of w.0 w.1 w.2)
+gathered_asks es m avoid possible none met i Garbled k =
+    let w = asked_there es m avoid i 1 Garbled k refl (omega arith) none met in
+    asks_within SomeReply _ _ w.3 (one_of w.0 w.2)
+
+-- a population that could have given the entries, with no member to spare
+pub record IsGathered (es : List Entry) (us : List ℕ) : Type 0 where
+  pub rising : IsStrictlyIncreasing us
+  pub population : IsPopulation us
+  pub could : CouldHaveGiven us es
+  pub few : (heard : List ℕ) → HasHeard es heard → length us ≤ length heard + all_needs es
+
+asks_entry : (o : Option Reading) (s t : ℕ → Bool) → IsWithin s t → entry_asks o s → entry_asks o t
+asks_entry None s t w a = tt
+asks_entry (Some r) s t w a = asks_within r s t w a
+
+pub gathered_population : (es : List Entry) (m : Met) (avoid : Option ℕ) (us : List ℕ) → IsPossible es → AvoidsNoneCertain es avoid → IsMet es m → IsStrictlyIncreasing us → SameMembers us (gathered avoid m) → IsGathered es us
+gathered_population es m avoid us possible none met rising same =
+    let slots = slots_of es in
+    let within : IsWithin (has us) (is_open slots) = λ u h. gathered_open es m avoid possible met u (sym (same u) ∙ h) in
+    let population = rising_population us rising (λ u h. IsUid-from u (is_open-is_uid slots u (within u h))) in
+    let supplied : SuppliesBefore (has us) es (length es) = λ i e lt k. asks_entry (reading_of e) _ _ (λ u h. let x = and_parts (has (gathered avoid m) u) (answers_at es i u) h in and_from _ _ (same u ∙ x.0) x.1) (gathered_asks es m avoid possible none met i e k) in
+    record {
+      rising = rising;
+      population = population;
+      could = (CouldHaveGiven-slots us es).1 ((MeetsAll-iff us slots population).1 (within, (SuppliesAll-places (has us) es (length es)).1 supplied));
+      few = gathered_few es m avoid us met (AreDifferent-population us population) (λ u h. sym (same u) ∙ h);
+    }
+
+pub gathered_without : (es : List Entry) (m : Met) (a : ℕ) (us : List ℕ) → (IsCertainUid es a → ⊥) → IsMet es m → SameMembers us (gathered (Some a) m) → has us a ≡ false
+gathered_without es m a us n met same = false_from_ne_true _ (λ h. gathered_other es m a n met (sym (same a) ∙ h))

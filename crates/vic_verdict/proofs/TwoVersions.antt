@@ -1,0 +1,155 @@
+-- The headline says the same in the words of each version.
+use Rattle.std.proofs.Common.{◌≡◌, ◌⊎◌, inl, inr, ℕ, zero, suc, Bool, true, false, not, ◌&&◌, ◌||◌, List, [], ◌∷◌, Option, Some, None, refl, sym, ap, subst, ◌∙◌, arith, ⊎_elim}
+use Rattle.std.specs.Prelude.{◌≢◌, ◌↔◌, slice_get}
+use Rattle.std.specs.List.{filter}
+use Rattle.std.proofs.lemmas.Bool.{cases_eq, and_parts, and_from, both_ways, false_from_ne_true, not-true}
+use Rattle.vic_frame.specs.Uids.{has, AreDifferent}
+use Rattle.vic_log.specs.declared.entry.Entry.{Entry}
+use Rattle.vic_log.specs.declared.entry.Entry.TheVariants.{Sent, Silent, Collision, Heard, Listed, Garbled, FieldCycle}
+use Rattle.vic_log.specs.FirstVersion.{AreOfFirstVersion, CouldHaveGivenFirst}
+use Rattle.vic_log.specs.declared.entry.LogLine.{LogLine}
+use Rattle.vic_log.specs.Order.{entries}
+use Rattle.vic_log.specs.Populations.{IsPopulation, answers_at, Outcome, Nobody, Lone, Several, outcome_of, outcome_at, Fits, CouldHaveGiven}
+use Rattle.vic_log.specs.Quiet.{silences, wakes, is_quiet}
+use Rattle.vic_log.specs.Rounds.{mask_at, lies_in_some}
+use Rattle.vic_log.proofs.FirstVersion.{given-first}
+use Rattle.vic_log.proofs.Quiet.{quiet-silenced}
+use Rattle.vic_log.proofs.Sets.{has_here, has_there, has_cases, has_filter, filter_has, AreDifferent-population, AreDifferent-filter}
+use Rattle.vic_verdict.specs.TwoVersions.{HasExactlyListed, IsWholeFirst, IsReady, Answers, AnswersAlone, SeveralAnswer, IsToldOf, CouldHaveGivenSecond, IsWholeSecond}
+use Rattle.vic_verdict.specs.Verdict.{IsVerdict, IsWhole}
+use Rattle.vic_verdict.specs.declared.verdict.Verdict.TheVariants.{Complete}
+use Rattle.vic_verdict.proofs.Verdicts.{complete_whole}
+
+-- ---- Ready tags
+
+or_parts : (a b : Bool) → (a || b) ≡ false → (a ≡ false) × (b ≡ false)
+or_parts true b h = cc
+or_parts false b h = (refl, h)
+
+cycle_at : (o : Option Entry) → wakes o ≡ true → o ≡ Some FieldCycle
+cycle_at None h = cc
+cycle_at (Some FieldCycle) h = refl
+cycle_at (Some e) h = cc
+
+unless : (w q : Bool) → (not w && q) ≡ false → (w ≡ true) ⊎ (q ≡ false)
+unless true q h = inl refl
+unless false q h = inr h
+
+not_quiet-ready : (es : List Entry) (i u : ℕ) → is_quiet es i u ≡ false → IsReady es i u
+not_quiet-ready es zero u h j below s = absurd (omega arith)
+not_quiet-ready es (suc n) u h j below s =
+    let w = or_parts (silences (slice_get es n) u) (not (wakes (slice_get es n)) && is_quiet es n u) h in
+    ⊎_elim
+    (λ same. absurd (both_ways (silences (slice_get es j) u) (ap (λ k. silences (slice_get es k) u) same ∙ w.0) s))
+    (λ ne. ⊎_elim
+    (λ woken. (n, omega arith, omega arith, cycle_at (slice_get es n) woken))
+    (λ before. let r = not_quiet-ready es n u before j (omega arith) s in (r.0, r.1, omega arith, r.3))
+    (unless (wakes (slice_get es n)) (is_quiet es n u) w.1))
+    (cases_eq j n)
+
+ready-not_quiet : (es : List Entry) (i u : ℕ) → IsReady es i u → is_quiet es i u ≡ false
+ready-not_quiet es i u r = false_from_ne_true _ (λ q. let s = quiet-silenced es i u q in let k = r s.0 s.1 s.2 in s.3 k.0 k.1 k.2 k.3)
+
+-- ---- who answers
+
+abbrev answerers : List ℕ → List Entry → ℕ → List ℕ
+answerers p es i = filter (answers_at es i) p
+
+answers-member : (p : List ℕ) (es : List Entry) (i u : ℕ) → Answers p es i u → has (answerers p es i) u ≡ true
+answers-member p es i u a =
+    filter_has (answers_at es i) p u (and_from _ _ a.0 (and_from _ _ a.2 (ap not (ready-not_quiet es i u a.1))))
+
+member-answers : (p : List ℕ) (es : List Entry) (i u : ℕ) → has (answerers p es i) u ≡ true → Answers p es i u
+member-answers p es i u h =
+    let w = and_parts (has p u) (answers_at es i u) (has_filter (answers_at es i) p u h) in
+    let a = and_parts (lies_in_some (mask_at es i) u) (not (is_quiet es i u)) w.1 in
+    (w.0, not_quiet-ready es i u (not-true (is_quiet es i u) a.1), a.0)
+
+-- ---- outcomes, by the members of a list
+
+only : (x u : ℕ) → has (x ∷ []) u ≡ true → u ≡ x
+only x u h = ⊎_elim (λ e. e) (λ k. cc) (has_cases u x [] h)
+
+differ : (x y : ℕ) (xs : List ℕ) → AreDifferent (x ∷ y ∷ xs) → x ≢ y
+differ x y xs d e = both_ways (has (y ∷ xs) x) d.0 (subst (λ z. has (y ∷ xs) z ≡ true) (sym e) (has_here y xs))
+
+-- nobody answers, and that is the outcome
+abbrev Nobodys : List ℕ → List Entry → ℕ → Outcome → Type 0
+Nobodys p es i o = (o ≡ Nobody) × ((u : ℕ) → Answers p es i u → ⊥)
+
+abbrev OneAnswers : List ℕ → List Entry → ℕ → Outcome → Type 0
+OneAnswers p es i o = (x : ℕ) × (o ≡ Lone x) × AnswersAlone p es i x
+
+abbrev MoreAnswer : List ℕ → List Entry → ℕ → Outcome → Type 0
+MoreAnswer p es i o = (o ≡ Several) × SeveralAnswer p es i
+
+abbrev IsOutcome : List ℕ → List Entry → ℕ → Outcome → Type 0
+IsOutcome p es i o = Nobodys p es i o ⊎ (OneAnswers p es i o ⊎ MoreAnswer p es i o)
+
+is_outcome : (p : List ℕ) (es : List Entry) (i : ℕ) (xs : List ℕ) → AreDifferent xs → ((u : ℕ) → Answers p es i u → has xs u ≡ true) → ((u : ℕ) → has xs u ≡ true → Answers p es i u) → IsOutcome p es i (outcome_of xs)
+is_outcome p es i [] d to from = inl (refl, λ u a. let h = to u a in cc)
+is_outcome p es i (x ∷ []) d to from = inr (inl (x, refl, (from x (has_here x []), λ v a. only x v (to v a))))
+is_outcome p es i (x ∷ y ∷ xs) d to from = inr (inr (refl, (x, y, differ x y xs d, from x (has_here x (y ∷ xs)), from y (has_there y x (y ∷ xs) (has_here y xs)))))
+
+not_several : (p : List ℕ) (es : List Entry) (i x : ℕ) → ((v : ℕ) → Answers p es i v → v ≡ x) → SeveralAnswer p es i → ⊥
+not_several p es i x alone s = s.2 (alone s.0 s.3 ∙ sym (alone s.1 s.4))
+
+told-iff : (p : List ℕ) (es : List Entry) (i : ℕ) (e : Entry) (o : Outcome) → IsOutcome p es i o → Fits e o ↔ IsToldOf p es i e
+told-iff p es i (Sent q) o c = ((λ k. k), (λ k. k))
+told-iff p es i (Listed u) o c = ((λ k. k), (λ k. k))
+told-iff p es i FieldCycle o c = ((λ k. k), (λ k. k))
+told-iff p es i Silent o (inl n) = ((λ k. n.1), (λ k. n.0))
+told-iff p es i Silent o (inr (inl w)) = ((λ k. let e = w.1 in cc), (λ k. absurd (k w.0 w.2.0)))
+told-iff p es i Silent o (inr (inr s)) = ((λ k. let e = s.0 in cc), (λ k. absurd (k s.1.0 s.1.3)))
+told-iff p es i (Heard r) o (inl n) = ((λ k. let e = n.0 in cc), (λ k. absurd (n.1 r.uid k.0)))
+told-iff p es i (Heard r) o (inr (inl w)) = (
+  (λ k. let e = w.1 in let same : w.0 ≡ r.uid = cc in subst (AnswersAlone p es i) same w.2),
+  (λ k. w.1 ∙ ap Lone (sym (w.2.1 r.uid k.0))),
+)
+told-iff p es i (Heard r) o (inr (inr s)) = ((λ k. let e = s.0 in cc), (λ k. absurd (not_several p es i r.uid k.1 s.1)))
+told-iff p es i Collision o (inl n) = ((λ k. let e = n.0 in cc), (λ k. absurd (n.1 k.0 k.3)))
+told-iff p es i Collision o (inr (inl w)) = ((λ k. let e = w.1 in cc), (λ k. absurd (not_several p es i w.0 w.2.1 k)))
+told-iff p es i Collision o (inr (inr s)) = ((λ k. s.1), (λ k. s.0))
+told-iff p es i Garbled o (inl n) = ((λ k. absurd (k n.0)), (λ k. absurd (⊎_elim (λ (w : (u : ℕ) × AnswersAlone p es i u). n.1 w.0 w.1.0) (λ (s : SeveralAnswer p es i). n.1 s.0 s.3) k)))
+told-iff p es i Garbled o (inr (inl w)) = ((λ k. inl (w.0, w.2)), (λ k none. let e = w.1 in cc))
+told-iff p es i Garbled o (inr (inr s)) = ((λ k. inr s.1), (λ k none. let e = s.0 in cc))
+
+-- ---- what a population could have given
+
+outcome-is : (p : List ℕ) (es : List Entry) (i : ℕ) → IsPopulation p → IsOutcome p es i (outcome_at es i p)
+outcome-is p es i pop = is_outcome p es i (answerers p es i) (AreDifferent-filter (answers_at es i) p (AreDifferent-population p pop)) (answers-member p es i) (member-answers p es i)
+
+given-second : (es : List Entry) (p : List ℕ) → IsPopulation p → CouldHaveGiven p es ↔ CouldHaveGivenSecond p es
+given-second es p pop = (
+  (λ g i e k. (told-iff p es i e (outcome_at es i p) (outcome-is p es i pop)).0 (g i e k)),
+  (λ g i e k. (told-iff p es i e (outcome_at es i p) (outcome-is p es i pop)).1 (g i e k)),
+)
+
+-- the headline over relations that say the same of populations
+same_headline : (F G : List ℕ → List Entry → Type 0) (es : List Entry) → ((p : List ℕ) → IsPopulation p → F p es ↔ G p es) → HasExactlyListed F es → HasExactlyListed G es
+same_headline F G es same h = (
+  (h.0.0, h.0.1, (same h.0.0 h.0.1).0 h.0.2),
+  λ p pop g. h.1 p pop ((same p pop).1 g),
+)
+
+turned : {A B : Type 0} → A ↔ B → B ↔ A
+turned h = (h.1, h.0)
+
+pub whole-second : (es : List Entry) → IsWhole es ↔ IsWholeSecond es
+whole-second es = (
+  same_headline CouldHaveGiven CouldHaveGivenSecond es (given-second es),
+  same_headline CouldHaveGivenSecond CouldHaveGiven es (λ p pop. turned (given-second es p pop)),
+)
+
+pub whole-first : (es : List Entry) → AreOfFirstVersion es → IsWhole es ↔ IsWholeFirst es
+whole-first es h = (
+  same_headline CouldHaveGiven CouldHaveGivenFirst es (λ p pop. given-first es h p),
+  same_headline CouldHaveGivenFirst CouldHaveGiven es (λ p pop. turned (given-first es h p)),
+)
+
+pub first-second : (es : List Entry) → AreOfFirstVersion es → IsWholeFirst es ↔ IsWholeSecond es
+first-second es h = ((λ w. (whole-second es).0 ((whole-first es h).1 w)), (λ w. (whole-first es h).0 ((whole-second es).1 w)))
+
+-- where the verdict is `Complete`, the headline for version 2 holds
+pub complete_second : (lines : List LogLine) (count : ℕ) → IsVerdict lines (Complete count) → IsWholeSecond (entries lines)
+complete_second lines count h = (whole-second (entries lines)).0 (complete_whole lines count h)

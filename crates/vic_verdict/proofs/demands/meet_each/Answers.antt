@@ -1,0 +1,37 @@
+use Rattle.std.proofs.Common.{◌≡◌, ◌+◌, ◌∙◌, ap, sym, subst, refl, arith}
+use Rattle.vic_verdict.specs.declared.demands.Demand.{Demand}
+use Rattle.vic_verdict.specs.declared.demands.Found.{Found}
+use Rattle.vic_verdict.specs.Demands.{IsDemand}
+use Rattle.vic_verdict.proofs.Demanding.{AreMetTo, met_skipped, met_found, met_all, found_at, unmet}
+use Rattle.vic_verdict.proofs.demands.meet_each.Goals as goal
+use Rattle.vic_verdict.proofs.demands.meet_each.Goals.{then-not-is_asked_again+in_ok-uids+else-len-demand+in_ok-push, else-not-is_asked_again}
+
+pub returns-then-len-demand-clause-unmet : goal.returns-then-len-demand-clause-unmet
+returns-then-len-demand-clause-unmet g c es from i same t h failed =
+    let ds = c.args.demands.now in
+    let k = c.loop-index.index in
+    let d = c.index-demands-index.result in
+    let asked = subst (IsDemand es from i) (sym c.index-demands-index.is) (h k d c.loop-index-test.true) in
+    unmet es from i (g.S.OpenSet.is_open c.args.set.now) c.args.names.now d c.in_ok-uids.uids.items same t asked c.in_ok-uids.ensures (let short = c.if-len-demand.true in let len = c.len.ensures.value in omega (arith, short, len))
+
+pub loop-index-preserved : goal.loop-index-preserved
+loop-index-preserved g c es from i same t h =
+    let ds = c.args.demands.now in
+    let k = c.loop-index.index in
+    let before = c.loop-index.invariant es from i same t h in
+    elim c.if-not-is_asked_again.branch [
+      | then-not-is_asked_again+in_ok-uids+else-len-demand+in_ok-push w ↦
+          let d = w.index-demands-index.result in
+          let asked = subst (IsDemand es from i) (sym w.index-demands-index.is) (h k d c.loop-index-test.true) in
+          let f : Found = record { need = d.need; uids = w.in_ok-uids.uids } in
+          subst (λ v. AreMetTo es ds (k + 1) c.args.found.now.items v.items) (sym w.found-is)
+          (met_found es ds k d f c.args.found.now.items c.loop-index.found.items w.push.new.self.items c.loop-index-test.true w.index-demands-index.is w.in_ok-push.ensures.items
+          (found_at es from i (g.S.OpenSet.is_open c.args.set.now) c.args.names.now d f same t asked w.in_ok-uids.ensures refl (let long = w.if-len-demand.false in let len = w.len.ensures.value in omega (arith, long, len))) refl before)
+      | else-not-is_asked_again w ↦
+          subst (λ v. AreMetTo es ds (k + 1) c.args.found.now.items v.items) (sym w.found-is)
+          (met_skipped es ds k c.args.found.now.items c.loop-index.found.items c.loop-index-test.true (c.is_asked_again.ensures w.if-not-is_asked_again.false) before)
+    ]
+
+pub returns-clause-met : goal.returns-clause-met
+returns-clause-met g c es from i same t h done =
+    met_all es from i c.args.names.now c.args.demands.now c.loop-index.index c.args.found.now.items c.loop-index.found.items t h (let last = c.loop-index-test.false in let within = c.loop-index.auto.index-end in omega (arith, last, within)) (c.loop-index.invariant es from i same t h)

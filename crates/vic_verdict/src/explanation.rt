@@ -1,0 +1,97 @@
+//! A verdict with a small population that shows it.
+
+ghost use Rattle.std.specs.Prelude.{IfOk};
+ghost use Rattle.vic_tree.specs.OpenSet.{SameUids};
+ghost use Rattle.vic_log.specs.Slots.{slots_of, is_open};
+ghost use Rattle.vic_log.specs.Order.{IsInOrder, AreValid, IsRisingFrom, entries};
+ghost use Rattle.vic_verdict.specs.Explained.{IsExplanation};
+ghost use Rattle.vic_verdict.specs.Possible.{IsPossible};
+ghost use Rattle.vic_verdict.specs.Repeats.{AreRepeats};
+
+use crate::first_line::first_impossible_line;
+use crate::judging::judge_possible;
+use crate::meeting::meet;
+use crate::population::{gather, with_uid};
+use crate::possible::supplies_all;
+use crate::repeats::{Repeats, find_repeats};
+use crate::stretches::settle_all;
+use crate::verdict::Verdict;
+use std::alloc::{AllocError, Global};
+use vic_frame::Uid;
+use vic_log::{Log, LogLine};
+use vic_tree::{OpenSet, RangeSet};
+
+/// The verdict on a log, and a population that shows it.
+#[derive(Drop)]
+pub struct Explanation {
+    pub verdict: Verdict,
+    /// Tags that could have given the log: without the UID that is absent or doubtful, with the one
+    /// that is unlisted, or with one of the unsettled mask. In rising order, and at most as many as
+    /// the UIDs heard, two for each collision, one for each garbled slot, and one more. `None` where
+    /// the log is impossible or its list complete.
+    pub population: Option<Vec<Uid>>,
+}
+
+/// The verdict on a possible log with a population that shows it, by the UIDs that it leaves open.
+fn explain_possible<S: OpenSet>(
+    alloc: Global,
+    set: S,
+    lines: &[LogLine],
+    repeats: &Repeats,
+) -> Result<Explanation, AllocError>
+    requires order { IsInOrder (entries lines.now) }
+    requires valid { AreValid (entries lines.now) }
+    requires rising { IsRisingFrom 0 lines.now }
+    requires repeats { AreRepeats (entries lines.now) repeats.now }
+    requires possible { IsPossible (entries lines.now) }
+    requires open { SameUids (S.is_open set) (is_open (slots_of (entries lines.now))) }
+    ensures { IfOk result (IsExplanation lines.now) }
+{
+    let met = meet(alloc, &set, lines, repeats)?;
+    let verdict = judge_possible(alloc, set, lines, repeats)?;
+    let population = match verdict {
+        Verdict::Impossible { .. } | Verdict::Complete { .. } => None,
+        Verdict::Absent(_) | Verdict::Unlisted(_) => Some(gather(met, &None)?),
+        Verdict::Unsettled(mask) => Some(with_uid(gather(met, &None)?, mask.least_uid())?),
+        Verdict::Doubtful(uid) => Some(gather(met, &Some(uid))?),
+    };
+    Ok(Explanation {
+        verdict,
+        population,
+    })
+}
+
+/// The verdict on the lines of a log with a population that shows it.
+fn explain_lines<S: OpenSet>(alloc: Global, lines: &[LogLine]) -> Result<Explanation, AllocError>
+    requires order { IsInOrder (entries lines.now) }
+    requires valid { AreValid (entries lines.now) }
+    requires rising { IsRisingFrom 0 lines.now }
+    ensures { IfOk result (IsExplanation lines.now) }
+{
+    let repeats = find_repeats(alloc, lines)?;
+    let set: S = settle_all(alloc, lines)?;
+    if supplies_all(alloc, &set, lines, &repeats)? {
+        return explain_possible(alloc, set, lines, &repeats);
+    }
+    drop(set);
+    let line = first_impossible_line::<S>(alloc, lines)?;
+    Ok(Explanation {
+        verdict: Verdict::Impossible { line },
+        population: None,
+    })
+}
+
+/// The verdict on a log with a small population that shows it, over any set of open UIDs. It is want
+/// of memory alone that keeps it from an answer.
+pub fn explain_with<S: OpenSet>(alloc: Global, log: &Log) -> Result<Explanation, AllocError>
+    ensures { IfOk result (IsExplanation log.now.lines) }
+{
+    explain_lines::<S>(alloc, log.lines())
+}
+
+/// The verdict on a log, that of `judge`, with a small population that shows it.
+pub fn explain(alloc: Global, log: &Log) -> Result<Explanation, AllocError>
+    ensures { IfOk result (IsExplanation log.now.lines) }
+{
+    explain_with::<RangeSet>(alloc, log)
+}

@@ -1,0 +1,43 @@
+//! A guess at the line where a log became one that no population could have given.
+//!
+//! Tests show it to be exact; no verdict rests on it.
+
+ghost use Rattle.std.specs.Prelude.{◌≤◌, IfOk, length};
+
+use crate::fates::Fates;
+use crate::steps::{parts_of, steps_of};
+use std::alloc::{AllocError, Global};
+use vic_log::LogLine;
+
+/// How many lines are looked at first, so that an early line costs little: more each time.
+const BEGINNINGS: [usize; 3] = [1_000, 10_000, 100_000];
+
+/// How many lines come before the first one up to which no population could have given a log; all
+/// where there is none.
+pub fn guess_impossible_line(alloc: Global, lines: &[LogLine]) -> Result<usize, AllocError>
+    ensures { IfOk result (λ index. index ≤ length lines.now) }
+{
+    for count in BEGINNINGS {
+        if count < lines.len() {
+            let index = first_lack(alloc, &lines[..count])?;
+            if index < count {
+                return Ok(index);
+            }
+        }
+    }
+    first_lack(alloc, lines)
+}
+
+/// The same, by looking at all lines.
+fn first_lack(alloc: Global, lines: &[LogLine]) -> Result<usize, AllocError>
+    ensures { IfOk result (λ index. index ≤ length lines.now) }
+{
+    let parts = parts_of(alloc, lines)?;
+    let steps = steps_of(alloc, lines, &parts)?;
+    let mut fates = Fates::new(alloc, parts.count())?;
+    fates.live_through(&steps)?;
+    match fates.first_lack(&steps, &parts)? {
+        Some(number) => Ok(lines.partition_point(|line| line.number < number)),
+        None => Ok(lines.len()),
+    }
+}

@@ -1,0 +1,111 @@
+//! Parts of the UIDs that fare alike in a log, numbered in the order of their keys.
+
+ghost use Rattle.std.specs.Prelude.{◌≤◌};
+
+use crate::steps::Span;
+use std::alloc::{AllocError, Global};
+
+/// How many of a key's 56 bits the index over the borders goes by at most.
+const MOST_INDEX_BITS: u32 = 24;
+
+/// The borders between the parts: part `i` has the keys from border `i` to the one before the next.
+#[derive(Drop)]
+pub struct Parts {
+    /// In rising order.
+    borders: Vec<u64>,
+    /// How many borders are lower than the least key with given top bits, so that a border is
+    /// looked for among few.
+    lower: Vec<u32>,
+    /// By how many bits a key is shifted to its top bits.
+    shift: u32,
+    ghost in_key: { shift ≤ 56 },
+}
+
+/// A count as a number of 32 bits, which no log's counts exceed.
+fn number_of(count: usize) -> u32 {
+    match u32::try_from(count) {
+        Ok(number) => number,
+        Err(_) => u32::MAX,
+    }
+}
+
+/// How many borders have each value of their top bits, one further on; 0 at first.
+fn count_by_top(
+    alloc: Global,
+    borders: &[u64],
+    bits: u32,
+    shift: u32,
+) -> Result<Vec<u32>, AllocError>
+    requires bits { bits ≤ MOST_INDEX_BITS }
+    requires shift { shift ≤ 56 }
+{
+    let mut counts = vec![in alloc; 0; (1usize << bits) + 2]?;
+    for border in borders {
+        let top = (*border >> shift) as usize;
+        if let Some(count) = counts.get_mut(top.saturating_add(1)) {
+            *count = u32::saturating_add(*count, 1);
+        }
+    }
+    Ok(counts)
+}
+
+/// Puts the sum of all numbers up to each into its place.
+fn sum_up(counts: &mut [u32]) {
+    let mut sum: u32 = 0;
+    for count in counts.iter_mut() {
+        sum = sum.saturating_add(*count);
+        *count = sum;
+    }
+}
+
+impl Parts {
+    /// The parts between some borders.
+    pub fn between(alloc: Global, mut borders: Vec<u64>) -> Result<Parts, AllocError> {
+        borders.sort_unstable();
+        borders.dedup();
+        let bits = (borders.len() + 1).ilog2().min(MOST_INDEX_BITS);
+        let shift = 56 - bits;
+        let mut lower = count_by_top(alloc, &borders, bits, shift)?;
+        sum_up(&mut lower);
+        Ok(Parts {
+            borders,
+            lower,
+            shift,
+        })
+    }
+
+    /// How many there are.
+    pub fn count(&self) -> u32 {
+        number_of(self.borders.len())
+    }
+
+    /// The part that begins at a border.
+    pub fn part_at(&self, border: u64) -> u32 {
+        let top = (border >> self.shift) as usize;
+        let (Some(from), Some(to)) = (self.lower.get(top), self.lower.get(top.saturating_add(1)))
+        else {
+            return self.count();
+        };
+        match self.borders.get(*from as usize..*to as usize) {
+            Some(near) => from.saturating_add(number_of(near.partition_point(|b| *b < border))),
+            None => self.count(),
+        }
+    }
+
+    /// The parts from one border to another.
+    pub fn span(&self, from: u64, to: u64) -> Span {
+        Span {
+            from: self.part_at(from),
+            to: self.part_at(to),
+        }
+    }
+
+    /// Whether a part has more UIDs than one.
+    pub fn has_several(&self, part: u32) -> bool {
+        let part = part as usize;
+        match (self.borders.get(part), self.borders.get(part + 1)) {
+            (Some(from), Some(to)) => *from < to.saturating_sub(1),
+            _ => false,
+        }
+    }
+}

@@ -1,0 +1,114 @@
+//! Which UIDs of a stretch are Quiet at its places, by the Stay Quiets between two field cycles.
+
+ghost use Rattle.std.specs.Prelude.{◌≡◌, ◌≢◌, ℕ, ◌+◌, true, Some, List, IfOk, OnOk, slice_get};
+ghost use Rattle.std.specs.List.{list_any};
+ghost use Rattle.std.specs.List.Sorted.{IsStrictlyIncreasing};
+ghost use Rattle.vic_frame.specs.Uids.{IsUid, has};
+ghost use Rattle.vic_frame.specs.LowBitsFirst.{mirror};
+ghost use Rattle.vic_log.specs.declared.entry.Entry.{Entry as EntryValue};
+ghost use Rattle.vic_log.specs.declared.entry.Entry.TheVariants.{Sent};
+ghost use Rattle.vic_verdict.specs.Sweep.{is_silenced, AreInOrder, HaveKeys, is_between};
+ghost use Rattle.vic_verdict.specs.Silenced.{TellsQuiet};
+
+use crate::rising::put_in_order;
+use crate::stretches::push_name;
+use crate::sweep::Name;
+use std::alloc::{AllocError, Global};
+use vic_frame::low_bits_first::{key, uid_at};
+use vic_frame::{Request, Uid};
+
+/// Gathers whom a request silences.
+pub fn note_silenced(
+    names: &mut Vec<Name>,
+    request: &Request,
+    index: usize,
+) -> Result<(), AllocError>
+    ensures { OnOk result ((es : List EntryValue) (from : ℕ) → slice_get es index ≡ Some (Sent request.now)
+        → TellsQuiet es from index names.old.items → TellsQuiet es from (index + 1) names.new.items) }
+{
+    match *request {
+        Request::StayQuiet { uid, .. } => match Uid::new(uid) {
+            Some(tag) => push_name(names, tag, index),
+            None => Ok(()),
+        },
+        Request::Inventory { .. } => Ok(()),
+    }
+}
+
+/// Whether a UID is Quiet at a place.
+pub fn is_silenced(names: &[Name], uid: Uid, at: usize) -> bool
+    requires { AreInOrder names.now }
+    ensures { result ≡ is_silenced names.now (mirror uid) at }
+{
+    let key = key(uid);
+    let start = names.partition_point(|name| name.key < key);
+    for i in start..names.len() {
+        let name = names[i];
+        if key < name.key {
+            return false;
+        }
+        if name.quiet < at {
+            return true;
+        }
+    }
+    false
+}
+
+/// Whether one of some UIDs is Quiet at a place.
+pub fn is_any_silenced(names: &[Name], uids: &[Uid], at: usize) -> bool
+    requires { AreInOrder names.now }
+    ensures { result ≡ list_any (λ u. is_silenced names.now (mirror u) at) uids.now }
+{
+    for uid in uids {
+        if is_silenced(names, *uid, at) {
+            return true;
+        }
+    }
+    false
+}
+
+/// The UIDs that are Quiet at a place, from key `first` to `last`.
+fn silenced_in_order(
+    alloc: Global,
+    names: &[Name],
+    first: u64,
+    last: u64,
+    at: usize,
+) -> Result<Vec<Uid>, AllocError>
+    requires order { AreInOrder names.now }
+    requires keys { HaveKeys names.now }
+    ensures { IfOk result (λ uids. (u : ℕ) → IsUid u → is_between first last (mirror u) ≡ true
+        → has uids.items u ≡ is_silenced names.now (mirror u) at) }
+{
+    let mut uids = Vec::new(alloc);
+    let start = names.partition_point(|name| name.key < first);
+    for i in start..names.len() {
+        let name = names[i];
+        if last < name.key {
+            return Ok(uids);
+        }
+        if name.quiet < at {
+            uids.push(uid_at(name.key))?;
+        }
+    }
+    Ok(uids)
+}
+
+/// The same, from the least to the greatest.
+pub fn silenced_between(
+    alloc: Global,
+    names: &[Name],
+    first: u64,
+    last: u64,
+    at: usize,
+) -> Result<Vec<Uid>, AllocError>
+    requires order { AreInOrder names.now }
+    requires keys { HaveKeys names.now }
+    ensures rising { IfOk result (λ uids. IsStrictlyIncreasing uids.items) }
+    ensures members { IfOk result (λ uids. (u : ℕ) → IsUid u → is_between first last (mirror u) ≡ true
+        → has uids.items u ≡ is_silenced names.now (mirror u) at) }
+{
+    let mut uids = silenced_in_order(alloc, names, first, last, at)?;
+    put_in_order(&mut uids);
+    Ok(uids)
+}
