@@ -1,11 +1,12 @@
 -- What `check` answers to a text: the line and the status of its verdict, or of its refusal.
 use Rattle.std.specs.Prelude.{◌≡◌, ℕ, List, ◌++◌, length, codes, decimal}
-use Rattle.vic_log.specs.declared.entry.LogLine.{LogLine}
 use Rattle.vic_log.specs.Lines.{lines_of_text}
+use Rattle.vic_log.specs.Log.{LogValue}
 use Rattle.vic_log.specs.Order.{entries, listed}
 use Rattle.vic_log.specs.Text.{IsLogOf, IsFirstFault}
 use Rattle.vic_verdict.specs.declared.verdict.Verdict.{Verdict}
 use Rattle.vic_verdict.specs.declared.verdict.Verdict.TheVariants.{Impossible, Absent, Unlisted, Unsettled, Doubtful, Complete}
+use Rattle.vic_verdict.specs.TwoVersions.{IsWholeSecond}
 use Rattle.vic_verdict.specs.Verdict.{IsVerdict, IsWhole}
 use Rattle.vic_answer.specs.Digits.{uid_text, value_text}
 use Rattle.vic_answer.specs.Refusals.{refusal_line}
@@ -34,7 +35,7 @@ verdict_status (Doubtful u) = NotWhole
 
 -- the answer to a text: the verdict on its log, or its first fault
 abbrev pub IsAnswer : List ℕ → Answer → Type 0
-IsAnswer text (Judged v) = (log : List LogLine) × IsLogOf (lines_of_text text) log × IsVerdict log v
+IsAnswer text (Judged v) = (log : LogValue) × IsLogOf (lines_of_text text) log × IsVerdict log.lines v
 IsAnswer text (RefusedAt n fault) = IsFirstFault (lines_of_text text) n fault
 
 abbrev pub answer_line : Answer → List ℕ
@@ -53,9 +54,10 @@ pub record IsCheckOf (text line : List ℕ) (status : Status) : Type 0 where
   pub status_is : status ≡ answer_status answer
 
 -- the text has a log whose list is whole, of so many UIDs: some population could have given the log, and each that
--- could has exactly the UIDs that it lists
+-- could has exactly the UIDs that it lists; and the same in the words of version 2
 pub record IsCompleteText (text : List ℕ) (count : ℕ) : Type 0 where
-  pub log : List LogLine
+  pub log : LogValue
   pub is_log : IsLogOf (lines_of_text text) log
-  pub whole : IsWhole (entries log)
-  pub counted : count ≡ length (listed (entries log))
+  pub whole : IsWhole (entries log.lines)
+  pub second : IsWholeSecond (entries log.lines)
+  pub counted : count ≡ length (listed (entries log.lines))

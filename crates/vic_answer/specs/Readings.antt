@@ -1,7 +1,6 @@
 -- What the bytes give that a source hands out.
 use Rattle.std.specs.Prelude.{◌≡◌, ◌⊎◌, ℕ, ⊤, List, Option, Result, Ok, Err}
 use Rattle.std.specs.Io.KnownBytes.{Consumes, IsAtEnd}
-use Rattle.vic_log.specs.declared.entry.Version.TheVariants.{V1}
 use Rattle.vic_log.specs.Early.{IsEarlyFault}
 use Rattle.vic_log.specs.Lines.{lines_of_text}
 use Rattle.vic_log.specs.Text.{IsLogOf, IsFirstFault}
@@ -13,7 +12,7 @@ use Rattle.vic_answer.specs.Runs.{GivesNoEarlyFault}
 
 -- the log of a text, or its first fault
 abbrev pub IsReading : List ℕ → Reading → Type 0
-IsReading text (Given log) = IsLogOf (lines_of_text text) log.lines × (log.version ≡ V1)
+IsReading text (Given log) = IsLogOf (lines_of_text text) log
 IsReading text (RefusedAt n fault) = IsFirstFault (lines_of_text text) n fault
 
 -- it stands, whatever follows: the source has no more, or no further byte can change the fault

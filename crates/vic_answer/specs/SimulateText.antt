@@ -1,9 +1,8 @@
 -- What `simulate` answers to a text: the text of the log with its slots filled in, or the line of a refusal.
 use Rattle.std.specs.Prelude.{◌≡◌, ℕ, ◌<◌, List, codes}
-use Rattle.vic_log.specs.declared.entry.LogLine.{LogLine}
-use Rattle.vic_log.specs.declared.entry.Version.TheVariants.{V1}
 use Rattle.vic_log.specs.declared.fault.LineFault.TheVariants.{TooManyLines as ManyLines}
 use Rattle.vic_log.specs.Lines.{lines_of_text}
+use Rattle.vic_log.specs.Log.{LogValue}
 use Rattle.vic_log.specs.Text.{IsLogOf, IsFirstFault}
 use Rattle.vic_log.specs.Writing.{text_of}
 use Rattle.vic_field.specs.Simulation.{IsSimulation, HasNoSlots, IsFirstSlot, last_needed}
@@ -17,11 +16,13 @@ use Rattle.vic_answer.specs.declared.simulate.Simulated.TheVariants.{Filled, Ref
 -- can't be filled in: it tells of a slot already, or no slot line is there and a line above 1,000,000 would be needed
 abbrev pub IsSimulated : List ℕ → Simulated → Type 0
 IsSimulated text (Filled log) =
-    (given : List LogLine) × IsLogOf (lines_of_text text) given × IsSimulation given log.lines × (log.version ≡ V1)
+    (given : LogValue) × IsLogOf (lines_of_text text) given × IsSimulation given.lines log.lines
+    × (log.version ≡ given.version)
 IsSimulated text (RefusedAt n fault) = IsFirstFault (lines_of_text text) n fault
-IsSimulated text (OutcomeGiven n) = (given : List LogLine) × IsLogOf (lines_of_text text) given × IsFirstSlot given n
+IsSimulated text (OutcomeGiven n) = (given : LogValue) × IsLogOf (lines_of_text text) given × IsFirstSlot given.lines n
 IsSimulated text TooManyLines =
-    (given : List LogLine) × IsLogOf (lines_of_text text) given × HasNoSlots given × (1000000 < last_needed given)
+    (given : LogValue) × IsLogOf (lines_of_text text) given × HasNoSlots given.lines
+    × (1000000 < last_needed given.lines)
 
 abbrev pub simulated_text : Simulated → List ℕ
 simulated_text (Filled log) = text_of log

@@ -1,6 +1,6 @@
 -- Laws on masks.
 use Rattle.std.proofs.Common.{Bool, true, false, ◌==◌, ◌≡◌, ℕ, ◌+◌, ◌-◌, ◌*◌, ◌/◌, ◌^◌, ◌%◌, ◌<◌, ◌≤◌, ◌⊎◌, inl, inr, refl, sym, ap, ◌∙◌, arith, zero, suc, add_comm}
-use Rattle.std.proofs.Math.Nat.{pow-le-pow_right, mul_assoc}
+use Rattle.std.proofs.Math.Nat.{pow-le-pow_right, mul_assoc, mul-add-mod_self_right, mod-le}
 use Rattle.std.proofs.lemmas.Nat.{mod-pow-add, mod_low, pow_pos, pow-add, mod_below}
 use Rattle.std.proofs.lemmas.Bool.{cases_eq, eqb-true, eq-eqb}
 use Rattle.std.proofs.lemmas.Bool.Decides.{nat_tests}
@@ -82,13 +82,22 @@ top_is len short =
     let whole : 2 ^ 56 ≡ 2 ^ j * 2 ^ len = rw is at (pow-add 2 j len) in
     ap (λ x. 0xE0 * x) whole ∙ sym (mul_assoc 0xE0 (2 ^ j) (2 ^ len))
 
-least_inside : (m : BitMask) → IsMask m → m.len ≤ 56 → LiesIn m (uid_from_low_bits m.value)
+pub least_inside : (m : BitMask) → IsMask m → m.len ≤ 56 → LiesIn m (uid_from_low_bits m.value)
 least_inside m p short = ap (λ x. (x + m.value) % 2 ^ m.len) (top_is m.len short) ∙ mod_low (0xE0 * 2 ^ (56 - m.len)) m.len m.value p.1
 
-least_is_uid : (m : BitMask) → IsMask m → m.len ≤ 56 → IsUid (uid_from_low_bits m.value)
+pub least_is_uid : (m : BitMask) → IsMask m → m.len ≤ 56 → IsUid (uid_from_low_bits m.value)
 least_is_uid m p short =
     let below : 2 ^ m.len ≤ 2 ^ 56 = pow-le-pow_right (let z : 0 < 2 = omega arith in z) short in
     (omega arith, omega (arith, below, p.1))
+
+-- a UID in the mask is at least its value above E0 and seven bytes 0
+pub least_first : (m : BitMask) (u : ℕ) → m.len ≤ 56 → IsUid u → LiesIn m u → uid_from_low_bits m.value ≤ u
+least_first m u short is_uid inside =
+    let d : ℕ = u - 0xE0 * 2 ^ 56 in
+    let split : u ≡ 0xE0 * 2 ^ 56 + d = omega (arith, is_uid) in
+    let low : u % 2 ^ m.len ≡ d % 2 ^ m.len = ap (λ x. x % 2 ^ m.len) (split ∙ ap (λ x. x + d) (top_is m.len short)) ∙ mul-add-mod_self_right (0xE0 * 2 ^ (56 - m.len)) (2 ^ m.len) d in
+    let most : d % 2 ^ m.len ≤ d = mod-le d (2 ^ m.len) in
+    omega (arith, split, low, most, inside)
 
 -- a mask of at most 56 bits holds the UID whose other bits below E0 are 0
 pub short_holds : (m : BitMask) → IsMask m → m.len ≤ 56 → (u : ℕ) × IsUid u × LiesIn m u

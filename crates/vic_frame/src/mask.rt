@@ -3,7 +3,8 @@
 ghost use Rattle.std.specs.Prelude.{◌≡◌, ℕ, ◌^◌, ◌%◌, ◌<◌, ◌≤◌, ◌+◌, ◌*◌, ◌==◌, false};
 ghost use Rattle.std.specs.Prelude.{SomeIff, IfSome, IfNone};
 ghost use Rattle.vic_frame.specs.Uids.{IsUid};
-ghost use Rattle.vic_frame.specs.Masks.{BitMask, IsMask, lies_in, slot_of_sixteen, own_mask};
+ghost use Rattle.vic_frame.specs.Masks.{BitMask, IsMask, LiesIn, lies_in};
+ghost use Rattle.vic_frame.specs.Masks.{slot_of_sixteen, own_mask, least_uid_in};
 
 use crate::uid::{UID_BITS, Uid};
 use std::marker::Model;
@@ -104,6 +105,17 @@ impl Mask {
         } else {
             None
         }
+    }
+
+    /// The least UID in it. A mask of more than 56 bits may hold none.
+    pub fn least_uid(&self) -> Uid
+        requires { self.now.len ≤ 56 }
+        ensures value { result ≡ least_uid_in self.now }
+        ensures inside { LiesIn self.now result }
+        ensures least { (u : ℕ) → IsUid u → LiesIn self.now u → result ≤ u }
+        ensures range { IsUid result }
+    {
+        Uid::from_low_bits(self.value)
     }
 }
 

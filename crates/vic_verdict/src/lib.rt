@@ -26,7 +26,6 @@ mod settle;
 mod silenced;
 mod steps;
 mod stretches;
-mod suspect;
 pub mod sweep;
 #[cfg(test)]
 mod tests;

@@ -1,0 +1,29 @@
+use Rattle.std.proofs.Common.{ℕ, ◌<◌, ◌≤◌, ◌^◌, ◌%◌, ◌∙◌, ap, arith}
+use Rattle.std.proofs.Math.Nat.{pow-le-pow_right}
+use Rattle.vic_frame.specs.Masks.{BitMask}
+use Rattle.vic_frame.proofs.MaskLaws.{least_inside, least_first}
+use Rattle.vic_frame.proofs.mask.Mask.least_uid.Goals as goal
+
+below : (len value : ℕ) → len ≤ 56 → value < 2 ^ len → value < 2 ^ 56
+below len value h k = let fits : 2 ^ len ≤ 2 ^ 56 = pow-le-pow_right (let z : 0 < 2 = omega arith in z) h in omega arith
+
+pub from_low_bits-requires : goal.from_low_bits-requires
+from_low_bits-requires c =
+    let e = ap (λ (m : BitMask). m.len) c.self.view_is in
+    let short : c.self.inside.len ≤ 56 = omega (arith, c.requires, e) in
+    below c.self.inside.len c.self.inside.value short c.self.invariant.1
+
+pub returns-clause-inside : goal.returns-clause-inside
+returns-clause-inside c =
+    let m : BitMask = record { len = c.self.inside.len; value = c.self.inside.value } in
+    let e = ap (λ (m : BitMask). m.len) c.self.view_is in
+    let short : c.self.inside.len ≤ 56 = omega (arith, c.requires, e) in
+    rw (← c.self.view_is) (ap (λ (u : ℕ). u % 2 ^ m.len) c.from_low_bits.ensures.value ∙ least_inside m c.self.invariant short)
+
+pub returns-clause-least : goal.returns-clause-least
+returns-clause-least c u is_uid inside =
+    let m : BitMask = record { len = c.self.inside.len; value = c.self.inside.value } in
+    let e = ap (λ (m : BitMask). m.len) c.self.view_is in
+    let short : c.self.inside.len ≤ 56 = omega (arith, c.requires, e) in
+    let first = least_first m u short is_uid (rw (← c.self.view_is) at inside) in
+    omega (arith, first, c.from_low_bits.ensures.value)
