@@ -13,9 +13,6 @@ len_nil : line_len [] ≡ 0
 unfolding line_len
 len_nil = refl
 
-first_part : (b : ℕ) (bytes : List ℕ) (len : ℕ) → lines_of (b ∷ bytes) ≡ take (line_len (b ∷ bytes)) (b ∷ bytes) ∷ lines_of (drop (line_len (b ∷ bytes)) (b ∷ bytes))
-first_part b bytes len = lines-step (b ∷ bytes) (omega arith)
-
 onto_rest : (b : ℕ) (bytes : List ℕ) → cut bytes ≡ lines_of bytes → onto b (lines_of bytes) ≡ (b ∷ take (line_len bytes) bytes) ∷ lines_of (drop (line_len bytes) bytes)
 onto_rest b [] h = ap (onto b) lines-nil ∙ sym (ap (λ n. (b ∷ take n []) ∷ lines_of (drop n [])) len_nil ∙ ap (λ ls. (b ∷ []) ∷ ls) lines-nil)
 onto_rest b (x ∷ bytes) h = ap (onto b) (lines-step (x ∷ bytes) (omega arith))

@@ -1,6 +1,6 @@
 -- Bytes that are taken in turn.
-use Rattle.std.proofs.Common.{arith, ◌≡◌, ◌≤◌, ◌+◌, ◌-◌, ℕ, zero, suc, List, [], ◌∷◌, ◌++◌, length, length-append, take, drop, None, Some, Option, refl, sym, ◌∙◌, ap, subst, append_assoc, append-nil}
-use Rattle.std.proofs.KnownBytes.{Appends-nil, Appends-trans}
+use Rattle.std.proofs.Common.{arith, ◌≡◌, ◌≤◌, ◌+◌, ◌-◌, ℕ, zero, suc, List, [], ◌∷◌, ◌++◌, length, length-append, take, drop, None, Some, Option, refl, sym, ◌∙◌, ap, append_assoc, append-nil}
+use Rattle.std.proofs.KnownBytes.{Appends-trans}
 use Rattle.std.proofs.lemmas.Grind.{common_steps}
 use Rattle.std.proofs.Math.Seq.{take-add}
 use Rattle.std.specs.Io.KnownBytes.{Appends}
@@ -17,9 +17,6 @@ appended-more (Some us) (Some vs) (Some ws) n m xs h k = grind (arith, common_st
 -- the sink has taken the text but for the rest
 abbrev pub HasTakenBut : Option (List ℕ) → Option (List ℕ) → List ℕ → List ℕ → Type 0
 HasTakenBut old new rest text = (sent : List ℕ) × Appends old new sent × (sent ++ rest ≡ text)
-
-pub HasTakenBut-start : (a : Option (List ℕ)) (text : List ℕ) → HasTakenBut a a text text
-HasTakenBut-start a text = ([], Appends-nil a, refl)
 
 -- one piece more was taken
 pub HasTakenBut-step : (a b c : Option (List ℕ)) (piece rest more text : List ℕ) → HasTakenBut a b more text → piece ++ rest ≡ more → Appends b c piece → HasTakenBut a c rest text
@@ -47,10 +44,6 @@ HasTakenBut-part (Some xs) (Some ys) (Some zs) piece rest more text h e k =
     let long : length text ≡ length sent + (length piece + length rest) = ap length whole ∙ (length-append sent (piece ++ rest) ∙ ap (λ n. length sent + n) (length-append piece rest)) in
     let front : take (length sent + k.0) text ≡ sent ++ take k.0 piece = ap (take (length sent + k.0)) whole ∙ (take_past k.0 sent (piece ++ rest) ∙ ap (λ ws. sent ++ ws) (take_within k.0 piece rest k.1)) in
     (length sent + k.0, omega arith, k.2 ∙ (ap (λ ws. ws ++ take k.0 piece) h.1 ∙ (append_assoc xs sent (take k.0 piece) ∙ ap (λ ws. xs ++ ws) (sym front))))
-
--- nothing is left to take
-pub HasTakenBut-end : (a b : Option (List ℕ)) (text : List ℕ) → HasTakenBut a b [] text → Appends a b text
-HasTakenBut-end a b text h = subst (Appends a b) (sym (append-nil h.0) ∙ h.2) h.1
 
 pub HasTakenPrefix-kept : (a b : Option (List ℕ)) → KeepsOrHides a b → HasTakenPrefix a b []
 HasTakenPrefix-kept None b h = tt

@@ -118,8 +118,8 @@ pub struct OneByOne {
 }
 
 impl OneByOne {
-    /// A sink that has taken these bytes. Its writes are numbered from 1; with a `fail_at` of 0 none
-    /// fails.
+    /// A sink that has taken these bytes. Its writes are numbered from 1; with a `fail_at` of 0
+    /// none fails.
     pub fn new(taken: Vec<u8>, fail_at: u64, fails_flush: bool) -> OneByOne
         ensures taken { ⟦<OneByOne as Sink>⟧.taken result ≡ Some taken.items }
         ensures works { ⟦<OneByOne as Sink>⟧.has_failed result ≡ false }

@@ -6,7 +6,7 @@ use vic_frame::{Request, Response, Uid};
 pub const MAX_LINES: u32 = 1_000_000;
 
 /// What one line of a log says (profile).
-#[derive(Clone, Copy, PartialEq, Eq, Debug)]
+#[derive(Clone, Copy, Debug, PartialEq, Eq)]
 pub enum Entry {
     /// `T`: a request was sent.
     Sent(Request),
@@ -25,7 +25,7 @@ pub enum Entry {
 }
 
 /// Which lines a log may hold.
-#[derive(Clone, Copy, PartialEq, Eq, Debug)]
+#[derive(Clone, Copy, Debug, PartialEq, Eq)]
 pub enum Version {
     /// Neither `D` nor `F`.
     V1,
@@ -34,7 +34,7 @@ pub enum Version {
 }
 
 /// An entry with the number of its line. In a log the numbers rise, from 2 to 1,000,000.
-#[derive(Clone, Copy, PartialEq, Eq, Debug)]
+#[derive(Clone, Copy, Debug, PartialEq, Eq)]
 pub struct LogLine {
     pub number: u32,
     pub item: Entry,

@@ -1,8 +1,8 @@
 //! What is wrong with a log, its text, or a device.
 
 ghost use Rattle.std.specs.Prelude.{◌≡◌, ◌≤◌, Some, length};
-ghost use Rattle.vic_log.specs.declared.fault.PushFault.TheVariants.{Memory as NoRoom};
-ghost use Rattle.vic_log.specs.declared.fault.LogFault.TheVariants.{Read as NotRead};
+ghost use Rattle.vic_log.specs.declared.fault.PushFault.{PushFault};
+ghost use Rattle.vic_log.specs.declared.fault.LogFault.{LogFault};
 ghost use Rattle.vic_log.specs.Names.{line_fault_name};
 
 use crate::source::DeviceFault;
@@ -11,7 +11,7 @@ use std::fmt;
 use vic_frame::FrameFault;
 
 /// What is wrong with a line of a log's text. Of several faults of one line the first in this order counts.
-#[derive(Clone, Copy, PartialEq, Eq, Debug)]
+#[derive(Clone, Copy, Debug, PartialEq, Eq)]
 pub enum LineFault {
     /// It is line 1,000,001.
     TooManyLines,
@@ -38,7 +38,7 @@ pub enum LineFault {
 }
 
 /// Why a log takes no further line. Of several reasons the first in this order counts.
-#[derive(Clone, Copy, PartialEq, Eq, Debug)]
+#[derive(Clone, Copy, Debug, PartialEq, Eq)]
 pub enum PushFault {
     /// The entry tells of a slot, and no slot of a round is left.
     SlotOutsideRound,
@@ -51,7 +51,7 @@ pub enum PushFault {
 }
 
 /// Why a text gives no log.
-#[derive(Clone, Copy, PartialEq, Eq, Debug)]
+#[derive(Clone, Copy, Debug, PartialEq, Eq)]
 pub enum LogFault {
     /// The first line with a fault, numbered from 1, and the first of its faults.
     Line { line: u32, fault: LineFault },
@@ -64,7 +64,7 @@ pub enum LogFault {
 }
 
 /// The sink failed, and has taken only a first part of the text.
-#[derive(Clone, Copy, PartialEq, Eq, Debug)]
+#[derive(Clone, Copy, Debug, PartialEq, Eq)]
 pub struct WriteFault;
 
 impl LineFault {
@@ -98,7 +98,7 @@ impl fmt::Display for LineFault {
 }
 
 impl From<AllocError> for PushFault {
-    ghost from_gives = { λ _ e. e ≡ NoRoom };
+    ghost from_gives = { λ _ e. e ≡ PushFault.Memory };
 
     fn from(_: AllocError) -> PushFault {
         PushFault::Memory
@@ -106,7 +106,7 @@ impl From<AllocError> for PushFault {
 }
 
 impl<T: Drop> From<AllocFailed<T>> for PushFault {
-    ghost from_gives = { λ _ e. e ≡ NoRoom };
+    ghost from_gives = { λ _ e. e ≡ PushFault.Memory };
 
     fn from(_: AllocFailed<T>) -> PushFault {
         PushFault::Memory
@@ -114,7 +114,7 @@ impl<T: Drop> From<AllocFailed<T>> for PushFault {
 }
 
 impl From<DeviceFault> for LogFault {
-    ghost from_gives = { λ _ e. e ≡ NotRead };
+    ghost from_gives = { λ _ e. e ≡ LogFault.Read };
 
     fn from(_: DeviceFault) -> LogFault {
         LogFault::Read

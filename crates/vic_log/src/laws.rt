@@ -1,11 +1,14 @@
 //! Laws on logs and their text.
 
-ghost use Rattle.std.specs.Prelude.{◌≡◌, ◌++◌, ◌∷◌, ◌↔◌, ◌⊎◌, ℕ, true, [], List, Some, None, Result};
+ghost use Rattle.std.specs.Prelude.{◌≡◌, ◌++◌, ◌∷◌, ◌↔◌, ◌⊎◌, ℕ, true, [], List, Some, None, Ok, Result};
 ghost use Rattle.vic_log.specs.declared.entry.Entry.{Entry};
 ghost use Rattle.vic_log.specs.declared.fault.LineFault.{LineFault};
 ghost use Rattle.vic_log.specs.declared.fault.LogFault.{LogFault};
 ghost use Rattle.vic_log.specs.Early.{IsEarlyFault, ReadsAs, Judges};
 ghost use Rattle.vic_log.specs.FirstVersion.{IsOfFirstVersion, AreOfFirstVersion, first_opener, is_first_quiet, FitsFirst, CouldHaveGivenFirst, IsInFirstOrder};
+ghost use Rattle.vic_log.specs.declared.entry.Version.{Version};
+ghost use Rattle.vic_log.specs.Grammar.{SpellsEntry, IsPassedOver};
+ghost use Rattle.vic_log.specs.LineReading.{line_reading};
 ghost use Rattle.vic_log.specs.Lines.{lines_of_text};
 ghost use Rattle.vic_log.specs.Log.{IsLog, LogValue};
 ghost use Rattle.vic_log.specs.Order.{IsInOrder, refusal};
@@ -15,44 +18,67 @@ ghost use Rattle.vic_log.specs.Rounds.{opener};
 ghost use Rattle.vic_log.specs.Text.{IsLogOf, IsFirstFault};
 ghost use Rattle.vic_log.specs.Writing.{text_of, renumbered};
 
-/// The text of a log is that of a log of the same version with the same entries, on the lines 2, 3, 4 and so on.
+/// A line reads as an entry exactly where it spells it, and is passed over exactly where it is empty
+/// or begins with `#`.
+pub fn read_where_spelled()
+    ensures entry { (version : Version) (line : List ℕ) (e : Entry)
+        → (line_reading version line ≡ Ok (Some e)) ↔ SpellsEntry version line e }
+    ensures passed_over { (version : Version) (line : List ℕ)
+        → (line_reading version line ≡ Ok None) ↔ IsPassedOver line }
+{}
+
+/// The text of a log is that of a log of the same version with the same entries, on the lines 2, 3,
+/// 4 and so on.
 pub fn text_reads_back()
-    ensures { (log : LogValue) → IsLog log.version log.lines → IsLogOf (lines_of_text (text_of log)) (renumbered log) }
+    ensures { (log : LogValue) → IsLog log.version log.lines
+        → IsLogOf (lines_of_text (text_of log)) (renumbered log) }
 {}
 
 /// A text has a log or a first fault, never both, and never two.
 pub fn one_answer()
-    ensures some { (lines : List (List ℕ)) → ((n : ℕ) × (f : LineFault) × IsFirstFault lines n f) ⊎ ((log : LogValue) × IsLogOf lines log) }
-    ensures fault { (lines : List (List ℕ)) (n m : ℕ) (f g : LineFault) → IsFirstFault lines n f → IsFirstFault lines m g → (n ≡ m) × (f ≡ g) }
-    ensures log { (lines : List (List ℕ)) (n : ℕ) (f : LineFault) (log : LogValue) → IsFirstFault lines n f → IsLogOf lines log → ⊥ }
+    ensures some { (lines : List (List ℕ))
+        → ((n : ℕ) × (f : LineFault) × IsFirstFault lines n f)
+        ⊎ ((log : LogValue) × IsLogOf lines log) }
+    ensures fault { (lines : List (List ℕ)) (n m : ℕ) (f g : LineFault)
+        → IsFirstFault lines n f → IsFirstFault lines m g → (n ≡ m) × (f ≡ g) }
+    ensures log { (lines : List (List ℕ)) (n : ℕ) (f : LineFault) (log : LogValue)
+        → IsFirstFault lines n f → IsLogOf lines log → ⊥ }
 {}
 
 /// An early fault is the fault of every text that begins with the bytes.
 pub fn early_fault_stays()
-    ensures { (text more : List ℕ) (n : ℕ) (f : LineFault) → IsEarlyFault text n f → IsFirstFault (lines_of_text (text ++ more)) n f }
+    ensures { (text more : List ℕ) (n : ℕ) (f : LineFault) → IsEarlyFault text n f
+        → IsFirstFault (lines_of_text (text ++ more)) n f }
 {}
 
-/// What a source gives in pieces is what its whole text gives: the bytes handed out, and those that it has left.
+/// What a source gives in pieces is what its whole text gives: the bytes handed out, and those that
+/// it has left.
 pub fn pieces_give_the_whole()
-    ensures { (given left : List ℕ) (r : Result LogValue LogFault) → ReadsAs (Some left) given r → Judges (given ++ left) r }
+    ensures { (given left : List ℕ) (r : Result LogValue LogFault)
+        → ReadsAs (Some left) given r → Judges (given ++ left) r }
 {}
 
 /// Entries in order stay in order with one more exactly where nothing refuses it.
 pub fn push_keeps_order()
-    ensures { (es : List Entry) (e : Entry) → IsInOrder es → IsInOrder (es ++ e ∷ []) ↔ (refusal es e ≡ None) }
+    ensures { (es : List Entry) (e : Entry) → IsInOrder es
+        → IsInOrder (es ++ e ∷ []) ↔ (refusal es e ≡ None) }
 {}
 
-/// A tag is Quiet at a place exactly where a Stay Quiet with its UID stands before, and no field cycle between.
+/// A tag is Quiet at a place exactly where a Stay Quiet with its UID stands before, and no field
+/// cycle between.
 pub fn quiet_since_stay_quiet()
     ensures { (es : List Entry) (i u : ℕ) → (is_quiet es i u ≡ true) ↔ IsSilenced es i u }
 {}
 
-/// On entries of version 1, rounds, Quiet tags, outcomes, the order of entries and what a population could have given
-/// are what they are without garbled slots and field cycles.
+/// On entries of version 1, rounds, Quiet tags, outcomes, the order of entries and what a
+/// population could have given are what they are without garbled slots and field cycles.
 pub fn first_version_is_kept()
-    ensures opener { (es : List Entry) → AreOfFirstVersion es → (i : ℕ) → opener es i ≡ first_opener es i }
-    ensures quiet { (es : List Entry) → AreOfFirstVersion es → (i u : ℕ) → is_quiet es i u ≡ is_first_quiet es i u }
+    ensures opener { (es : List Entry) → AreOfFirstVersion es
+        → (i : ℕ) → opener es i ≡ first_opener es i }
+    ensures quiet { (es : List Entry) → AreOfFirstVersion es
+        → (i u : ℕ) → is_quiet es i u ≡ is_first_quiet es i u }
     ensures fits { (e : Entry) → IsOfFirstVersion e → (o : Outcome) → Fits e o ↔ FitsFirst e o }
     ensures order { (es : List Entry) → AreOfFirstVersion es → IsInOrder es ↔ IsInFirstOrder es }
-    ensures given { (es : List Entry) → AreOfFirstVersion es → (p : List ℕ) → CouldHaveGiven p es ↔ CouldHaveGivenFirst p es }
+    ensures given { (es : List Entry) → AreOfFirstVersion es
+        → (p : List ℕ) → CouldHaveGiven p es ↔ CouldHaveGivenFirst p es }
 {}

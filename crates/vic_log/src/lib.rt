@@ -2,8 +2,8 @@
 //! given them.
 //!
 //! A log is a list of entries on numbered lines, in an order that an inventory session can have. It
-//! is read from its text, whole or in pieces, or from its first fault on refused; built entry by
-//! entry; and written back. Bytes come from a `Source` and go to a `Sink`, which remember a failure.
+//! is read from its text, whole or in pieces, or refused by its first fault; built entry by entry;
+//! and written back. Bytes come from a `Source` and go to a `Sink`, which remember a failure.
 //! `specs/` has what the crates above stand on: rounds, Quiet tags, populations, and a log's slots.
 //! `devices` are readers and writers for tests.
 #![tactic(auto)]

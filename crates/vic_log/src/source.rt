@@ -138,7 +138,8 @@ pub fn read_whole<R: Source>(
     source: &mut R,
     limit: usize,
 ) -> Result<Vec<u8>, ReadFault>
-    ensures bytes { IfOk result (λ text. Consumes (R.left source.old) (R.left source.new) text.items) }
+    ensures bytes { IfOk result (λ text.
+        Consumes (R.left source.old) (R.left source.new) text.items) }
     ensures end { IfOk result (λ text. Stops (R.left source.new) text.items limit) }
     ensures bound { IfOk result (λ text. vec_len text ≤ limit) }
     ensures read { IfErr result (λ e. (e ≡ ReadFault.Read) ↔ (R.has_failed source.new ≡ true)) }

@@ -30,34 +30,26 @@ const LONGEST_LINE: usize = 29;
 /// Lines that wait for one write.
 type Piece = ArrayVec<u8, PIECE>;
 
-/// Adds a letter, a space, and bytes as hex digits in upper case.
-fn push_bytes(piece: &mut Piece, letter: u8, bytes: &[u8])
-    requires { array_vec_len piece.old + 2 + 2 * length bytes.now ≤ PIECE }
-    ensures items { piece.new.items
-        ≡ piece.old.items ++ letter ∷ byte " " ∷ encode_upper bytes.now }
-    ensures len { array_vec_len piece.new ≡ array_vec_len piece.old + 2 + 2 * length bytes.now }
+/// Writes the text of a log, and flushes: the header of its version, and each entry on a line, with
+/// upper-case digits and LF ends. A sink that has failed is not written again.
+pub fn write_log<W: Sink>(log: &Log, sink: &mut W) -> Result<(), WriteFault>
+    ensures all { OnOk result (Appends (W.taken sink.old) (W.taken sink.new) (text_of log.now)) }
+    ensures flushed { OnOk result (W.is_flushed sink.new ≡ true) }
+    ensures prefix { HasTakenPrefix (W.taken sink.old) (W.taken sink.new) (text_of log.now) }
+    ensures state { W.has_failed sink.new ≡ is_err result }
+    ensures untouched { W.has_failed sink.old ≡ true → sink.new ≡ sink.old }
 {
-    piece.push(letter);
-    piece.push(b' ');
-    push_hex(piece, bytes);
-}
-
-/// Adds an entry's line, with its LF.
-fn push_entry(piece: &mut Piece, item: &Entry)
-    requires room { array_vec_len piece.old + LONGEST_LINE ≤ PIECE }
-    requires valid { IsValidEntry item.now }
-    ensures items { piece.new.items ≡ piece.old.items ++ entry_text item.now ++ lf ∷ [] }
-{
-    match *item {
-        Entry::Sent(request) => push_bytes(piece, b'T', write_request(&request).as_slice()),
-        Entry::Silent => piece.push(b'S'),
-        Entry::Collision => piece.push(b'C'),
-        Entry::Heard(response) => push_bytes(piece, b'R', write_response(&response).as_slice()),
-        Entry::Listed(uid) => push_bytes(piece, b'U', uid.number().to_be_bytes().as_slice()),
-        Entry::Garbled => piece.push(b'D'),
-        Entry::FieldCycle => piece.push(b'F'),
+    let lines = log.lines();
+    let mut piece = with_header(log.version());
+    let mut next = fill_piece(&mut piece, lines, 0);
+    write_whole(sink, piece.as_slice())?;
+    while next < lines.len() {
+        piece.clear();
+        next = fill_piece(&mut piece, lines, next);
+        write_whole(sink, piece.as_slice())?;
     }
-    piece.push(b'\n');
+    sink.flush()?;
+    Ok(())
 }
 
 /// A piece that begins with the header.
@@ -93,24 +85,32 @@ fn fill_piece(piece: &mut Piece, lines: &[LogLine], start: usize) -> usize
     next
 }
 
-/// Writes the text of a log, and flushes: the header of its version, and each entry on a line, with
-/// upper-case digits and LF ends. A sink that has failed is not written again.
-pub fn write_log<W: Sink>(log: &Log, sink: &mut W) -> Result<(), WriteFault>
-    ensures all { OnOk result (Appends (W.taken sink.old) (W.taken sink.new) (text_of log.now)) }
-    ensures flushed { OnOk result (W.is_flushed sink.new ≡ true) }
-    ensures prefix { HasTakenPrefix (W.taken sink.old) (W.taken sink.new) (text_of log.now) }
-    ensures state { W.has_failed sink.new ≡ is_err result }
-    ensures untouched { W.has_failed sink.old ≡ true → sink.new ≡ sink.old }
+/// Adds an entry's line, with its LF.
+fn push_entry(piece: &mut Piece, item: &Entry)
+    requires room { array_vec_len piece.old + LONGEST_LINE ≤ PIECE }
+    requires valid { IsValidEntry item.now }
+    ensures items { piece.new.items ≡ piece.old.items ++ entry_text item.now ++ lf ∷ [] }
 {
-    let lines = log.lines();
-    let mut piece = with_header(log.version());
-    let mut next = fill_piece(&mut piece, lines, 0);
-    write_whole(sink, piece.as_slice())?;
-    while next < lines.len() {
-        piece.clear();
-        next = fill_piece(&mut piece, lines, next);
-        write_whole(sink, piece.as_slice())?;
+    match *item {
+        Entry::Sent(request) => push_bytes(piece, b'T', write_request(&request).as_slice()),
+        Entry::Silent => piece.push(b'S'),
+        Entry::Collision => piece.push(b'C'),
+        Entry::Heard(response) => push_bytes(piece, b'R', write_response(&response).as_slice()),
+        Entry::Listed(uid) => push_bytes(piece, b'U', uid.number().to_be_bytes().as_slice()),
+        Entry::Garbled => piece.push(b'D'),
+        Entry::FieldCycle => piece.push(b'F'),
     }
-    sink.flush()?;
-    Ok(())
+    piece.push(b'\n');
+}
+
+/// Adds a letter, a space, and bytes as hex digits in upper case.
+fn push_bytes(piece: &mut Piece, letter: u8, bytes: &[u8])
+    requires { array_vec_len piece.old + 2 + 2 * length bytes.now ≤ PIECE }
+    ensures items { piece.new.items
+        ≡ piece.old.items ++ letter ∷ byte " " ∷ encode_upper bytes.now }
+    ensures len { array_vec_len piece.new ≡ array_vec_len piece.old + 2 + 2 * length bytes.now }
+{
+    piece.push(letter);
+    piece.push(b' ');
+    push_hex(piece, bytes);
 }

@@ -140,7 +140,7 @@ meets_again es from i ns d next f t h g said m = record {
 
 -- ---- a demand that is not
 
-asked_two_or_one : (o : Option Entry) (n : ℕ) → needs_of o ≡ n → 0 < n → ((o ≡ Some Collision) × (n ≡ 2)) ⊎ ((o ≡ Some Garbled) × (n ≡ 1))
+pub asked_two_or_one : (o : Option Entry) (n : ℕ) → needs_of o ≡ n → 0 < n → ((o ≡ Some Collision) × (n ≡ 2)) ⊎ ((o ≡ Some Garbled) × (n ≡ 1))
 asked_two_or_one None n e lt = absurd (omega (arith, e, lt))
 asked_two_or_one (Some Collision) n e lt = inl (refl, sym e)
 asked_two_or_one (Some Garbled) n e lt = inr (refl, sym e)
@@ -164,7 +164,7 @@ no_demand : Demand
 no_demand = record { first = 0; mask = None; need = 0; at = 0 }
 
 -- an element of a list with one more is one of it, or the one more
-any_kept : {X : Type 0} (P : X → Type 0) (xs : List X) (y : X) → Any P xs → Any P (xs ++ y ∷ [])
+pub any_kept : {X : Type 0} (P : X → Type 0) (xs : List X) (y : X) → Any P xs → Any P (xs ++ y ∷ [])
 any_kept P xs y h = (h.0, h.1, (let longer = length-append xs (y ∷ []) in let below = h.2 in omega (arith, longer, below)), get_or_append_left xs (y ∷ []) h.1 h.0 h.2 ∙ h.3, h.4)
 
 -- what the first k demands are met by, where the next demand doesn't ask again

@@ -107,7 +107,7 @@ of_two : (x y w : ℕ) → has (x ∷ y ∷ []) w ≡ true → (w ≡ x) ⊎ (w 
 of_two x y w h =
     ⊎_elim (λ e. inl e) (λ k. ⊎_elim (λ e. inr e) (λ n. absurd (false≢true n)) (has_cases w y [] k)) (has_cases w x (y ∷ []) h)
 
-three_in_two : (x y z u v : ℕ) → x ≢ y → x ≢ z → y ≢ z → (x ≡ u) ⊎ (x ≡ v) → (y ≡ u) ⊎ (y ≡ v) → (z ≡ u) ⊎ (z ≡ v) → ⊥
+pub three_in_two : (x y z u v : ℕ) → x ≢ y → x ≢ z → y ≢ z → (x ≡ u) ⊎ (x ≡ v) → (y ≡ u) ⊎ (y ≡ v) → (z ≡ u) ⊎ (z ≡ v) → ⊥
 three_in_two x y z u v a b c d e f = omega arith
 
 -- a collision is possible where there are two

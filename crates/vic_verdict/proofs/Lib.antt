@@ -28,4 +28,5 @@ pub mod Gathering
 pub mod Explaining
 pub mod Silencing
 pub mod Demanding
-pub mod Meetings
+pub mod Heard
+pub mod Meeting

@@ -72,7 +72,7 @@ tells_anew es i ms e k is none = subst (TellsQuiet es (i + 1) (i + 1)) (sym none
   quiet = λ j u since upto w. subst (λ n. false ≡ is_quiet es n u) (let e : i + 1 ≡ j = omega (arith, since, upto) in e) (sym (quiet_next es i u FieldCycle (k ∙ ap (λ x. Some x) is)));
 })
 
-silenced_permuted : (ns ms : List Name) (k i : ℕ) → IsPermutation ns ms → is_silenced ms k i ≡ is_silenced ns k i
+pub silenced_permuted : (ns ms : List Name) (k i : ℕ) → IsPermutation ns ms → is_silenced ms k i ≡ is_silenced ns k i
 silenced_permuted ns ms k i m = sym (list_any-IsPermutation (λ (n : Name). (n.key == k) && nat_lt n.quiet i) ns ms m)
 
 -- in another order

@@ -43,6 +43,10 @@ all_needs es = sum_by needs es
 abbrev pub IsHeard : List Entry → ℕ → Type 0
 IsHeard es u = (i : ℕ) × (r : Reply) × (slice_get es i ≡ Some (Heard r)) × (r.uid ≡ u)
 
+-- the list has the UIDs that were heard before place i
+abbrev pub HasHeard : List Entry → ℕ → List ℕ → Type 0
+HasHeard es i us = (u : ℕ) → (has us u ≡ true) ↔ ((j : ℕ) × (r : Reply) × (j < i) × (slice_get es j ≡ Some (Heard r)) × (r.uid ≡ u))
+
 -- the UIDs are open and answer at place i, and there are as many as it takes
 pub record IsFoundAt (es : List Entry) (i : ℕ) (f : Found) : Type 0 where
   pub asked : 0 < f.need

@@ -11,4 +11,4 @@ pub mod Demands
 pub mod Explained
 pub mod Gathered
 pub mod Silenced
-pub mod Meeting
+pub mod Replies

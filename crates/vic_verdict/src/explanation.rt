@@ -4,17 +4,15 @@ ghost use Rattle.std.specs.Prelude.{IfOk};
 ghost use Rattle.vic_tree.specs.OpenSet.{SameUids};
 ghost use Rattle.vic_log.specs.Slots.{slots_of, is_open};
 ghost use Rattle.vic_log.specs.Order.{IsInOrder, AreValid, IsRisingFrom, entries};
+ghost use Rattle.vic_verdict.specs.Demands.{IsMet};
 ghost use Rattle.vic_verdict.specs.Explained.{IsExplanation};
 ghost use Rattle.vic_verdict.specs.Possible.{IsPossible};
-ghost use Rattle.vic_verdict.specs.Repeats.{AreRepeats};
 
+use crate::demands::Met;
 use crate::first_line::first_impossible_line;
 use crate::judging::judge_possible;
-use crate::meeting::meet;
+use crate::met::open_and_met;
 use crate::population::{gather, with_uid};
-use crate::possible::supplies_all;
-use crate::repeats::{Repeats, find_repeats};
-use crate::stretches::settle_all;
 use crate::verdict::Verdict;
 use std::alloc::{AllocError, Global};
 use vic_frame::Uid;
@@ -32,23 +30,23 @@ pub struct Explanation {
     pub population: Option<Vec<Uid>>,
 }
 
-/// The verdict on a possible log with a population that shows it, by the UIDs that it leaves open.
+/// The verdict on a possible log with a population that shows it, by the UIDs that it leaves open
+/// and what they meet.
 fn explain_possible<S: OpenSet>(
     alloc: Global,
     set: S,
+    met: Met,
     lines: &[LogLine],
-    repeats: &Repeats,
 ) -> Result<Explanation, AllocError>
     requires order { IsInOrder (entries lines.now) }
     requires valid { AreValid (entries lines.now) }
     requires rising { IsRisingFrom 0 lines.now }
-    requires repeats { AreRepeats (entries lines.now) repeats.now }
     requires possible { IsPossible (entries lines.now) }
     requires open { SameUids (S.is_open set) (is_open (slots_of (entries lines.now))) }
+    requires met { IsMet (entries lines.now) met }
     ensures { IfOk result (IsExplanation lines.now) }
 {
-    let met = meet(alloc, &set, lines, repeats)?;
-    let verdict = judge_possible(alloc, set, lines, repeats)?;
+    let verdict = judge_possible(alloc, set, &met, lines)?;
     let population = match verdict {
         Verdict::Impossible { .. } | Verdict::Complete { .. } => None,
         Verdict::Absent(_) | Verdict::Unlisted(_) => Some(gather(met, &None)?),
@@ -68,12 +66,9 @@ fn explain_lines<S: OpenSet>(alloc: Global, lines: &[LogLine]) -> Result<Explana
     requires rising { IsRisingFrom 0 lines.now }
     ensures { IfOk result (IsExplanation lines.now) }
 {
-    let repeats = find_repeats(alloc, lines)?;
-    let set: S = settle_all(alloc, lines)?;
-    if supplies_all(alloc, &set, lines, &repeats)? {
-        return explain_possible(alloc, set, lines, &repeats);
+    if let Some((set, met)) = open_and_met::<S>(alloc, lines)? {
+        return explain_possible(alloc, set, met, lines);
     }
-    drop(set);
     let line = first_impossible_line::<S>(alloc, lines)?;
     Ok(Explanation {
         verdict: Verdict::Impossible { line },

@@ -8,38 +8,37 @@ ghost use Rattle.vic_verdict.specs.Possible.{IsPossible};
 ghost use Rattle.vic_log.specs.Order.{IsInOrder, entries, listed, IsRisingFrom, AreValid};
 ghost use Rattle.vic_verdict.specs.Verdict.{IsVerdict, IsWhole, IsReached};
 ghost use Rattle.vic_verdict.specs.TwoVersions.{IsWholeSecond};
-ghost use Rattle.vic_verdict.specs.Repeats.{AreRepeats};
+ghost use Rattle.vic_verdict.specs.Demands.{IsMet};
 ghost use Rattle.vic_verdict.specs.declared.verdict.Verdict.TheVariants.{Complete};
 
 use crate::certain::certain_uids;
+use crate::demands::Met;
 use crate::first_line::first_impossible_line;
 use crate::listed::{count_listed, listed_uids};
-use crate::possible::supplies_all;
-use crate::repeats::{Repeats, find_repeats};
+use crate::met::open_and_met;
 use crate::rising::{is_among, least_failing};
-use crate::stretches::settle_all;
 use crate::unsettled::first_unsettled;
 use crate::verdict::Verdict;
 use std::alloc::{AllocError, Global};
 use vic_log::{Log, LogLine};
 use vic_tree::{OpenSet, RangeSet};
 
-/// The verdict on a possible log, by the UIDs that it leaves open.
+/// The verdict on a possible log, by the UIDs that it leaves open and what they meet.
 pub fn judge_possible<S: OpenSet>(
     alloc: Global,
     set: S,
+    met: &Met,
     lines: &[LogLine],
-    repeats: &Repeats,
 ) -> Result<Verdict, AllocError>
     requires order { IsInOrder (entries lines.now) }
     requires valid { AreValid (entries lines.now) }
     requires rising { IsRisingFrom 0 lines.now }
-    requires repeats { AreRepeats (entries lines.now) repeats.now }
     requires possible { IsPossible (entries lines.now) }
     requires open { SameUids (S.is_open set) (is_open (slots_of (entries lines.now))) }
+    requires met { IsMet (entries lines.now) met.now }
     ensures { IfOk result (λ v. IsVerdict lines.now v) }
 {
-    let certain = certain_uids(alloc, &set, lines, repeats)?;
+    let certain = certain_uids(alloc, met)?;
     let listed = listed_uids(alloc, lines)?;
     if let Some(uid) = least_failing(&listed, |u| set.has(u)) {
         return Ok(Verdict::Absent(uid));
@@ -64,12 +63,9 @@ fn judge_lines<S: OpenSet>(alloc: Global, lines: &[LogLine]) -> Result<Verdict, 
     requires rising { IsRisingFrom 0 lines.now }
     ensures { IfOk result (λ v. IsVerdict lines.now v) }
 {
-    let repeats = find_repeats(alloc, lines)?;
-    let set: S = settle_all(alloc, lines)?;
-    if supplies_all(alloc, &set, lines, &repeats)? {
-        return judge_possible(alloc, set, lines, &repeats);
+    if let Some((set, met)) = open_and_met::<S>(alloc, lines)? {
+        return judge_possible(alloc, set, &met, lines);
     }
-    drop(set);
     let line = first_impossible_line::<S>(alloc, lines)?;
     Ok(Verdict::Impossible { line })
 }

@@ -12,7 +12,7 @@ returns-in-Some g c =
     let set = g.S.OpenSet.is_open c.args.set in
     let us = c.in_ok-listed.listed.items in
     let certain = c.in_ok-certain.certain.items in
-    let j : Has es set us certain = record { possible = c.requires.possible; uids_open = c.requires.open; uids_listed = c.in_ok-listed.ensures.members; are_uids = c.in_ok-listed.ensures.uids; uids_certain = c.in_ok-certain.ensures } in
+    let j : Has es set us certain = record { possible = c.requires.possible; uids_open = c.requires.open; uids_listed = c.in_ok-listed.ensures.members; are_uids = c.in_ok-listed.ensures.uids; uids_certain = c.in_ok-certain.ensures.certain es c.requires.met } in
     (c.requires.possible, absent_at es set us certain c.deref.result.now (Some c.in-Some.uid) j c.deref.ensures.value (c.in-Some.ensures set (λ u b p. search rules)))
 
 pub returns-in-Some-least_failing : goal.returns-in-Some-least_failing
@@ -21,7 +21,7 @@ returns-in-Some-least_failing g c =
     let set = g.S.OpenSet.is_open c.args.set in
     let us = c.in_ok-listed.listed.items in
     let certain = c.in_ok-certain.certain.items in
-    let j : Has es set us certain = record { possible = c.requires.possible; uids_open = c.requires.open; uids_listed = c.in_ok-listed.ensures.members; are_uids = c.in_ok-listed.ensures.uids; uids_certain = c.in_ok-certain.ensures } in
+    let j : Has es set us certain = record { possible = c.requires.possible; uids_open = c.requires.open; uids_listed = c.in_ok-listed.ensures.members; are_uids = c.in_ok-listed.ensures.uids; uids_certain = c.in_ok-certain.ensures.certain es c.requires.met } in
     let none_absent = absent_at es set us certain c.deref.result.now None j c.deref.ensures.value (c.in_default.ensures set (λ u b p. search rules)) in
     (c.requires.possible, none_absent, unlisted_at es set us certain c.deref-2.result.now (Some c.in-Some-least_failing.uid) j c.deref-2.ensures.value (c.in-Some-least_failing.ensures (has us) (λ u b p. search rules)))
 
@@ -32,7 +32,7 @@ returns-in-Some-2 g c =
     let us = c.in_ok-listed.listed.items in
     let certain = c.in_ok-certain.certain.items in
     let given = given_at es set us c.deref-3.result.now c.requires.possible c.requires.open c.in_ok-listed.ensures.members c.in_ok-listed.ensures.uids c.deref-3.ensures.value in
-    let j : Has es set us certain = record { possible = c.requires.possible; uids_open = c.requires.open; uids_listed = c.in_ok-listed.ensures.members; are_uids = c.in_ok-listed.ensures.uids; uids_certain = c.in_ok-certain.ensures } in
+    let j : Has es set us certain = record { possible = c.requires.possible; uids_open = c.requires.open; uids_listed = c.in_ok-listed.ensures.members; are_uids = c.in_ok-listed.ensures.uids; uids_certain = c.in_ok-certain.ensures.certain es c.requires.met } in
     let none_absent = absent_at es set us certain c.deref.result.now None j c.deref.ensures.value (c.in_default.ensures set (λ u b p. search rules)) in
     let none_unlisted = unlisted_at es set us certain c.deref-2.result.now None j c.deref-2.ensures.value (c.in_default-least_failing.ensures (has us) (λ u b p. search rules)) in
     (c.requires.possible, none_absent, none_unlisted, subst (λ m. MatchOption m (NoSuch (IsUnsettled es)) (IsFirstMask (IsUnsettled es))) c.in-Some-2.is (c.in_ok-mask.ensures es given))
@@ -44,7 +44,7 @@ returns-in-Some-least_failing-2 g c =
     let us = c.in_ok-listed.listed.items in
     let certain = c.in_ok-certain.certain.items in
     let given = given_at es set us c.deref-3.result.now c.requires.possible c.requires.open c.in_ok-listed.ensures.members c.in_ok-listed.ensures.uids c.deref-3.ensures.value in
-    let j : Has es set us certain = record { possible = c.requires.possible; uids_open = c.requires.open; uids_listed = c.in_ok-listed.ensures.members; are_uids = c.in_ok-listed.ensures.uids; uids_certain = c.in_ok-certain.ensures } in
+    let j : Has es set us certain = record { possible = c.requires.possible; uids_open = c.requires.open; uids_listed = c.in_ok-listed.ensures.members; are_uids = c.in_ok-listed.ensures.uids; uids_certain = c.in_ok-certain.ensures.certain es c.requires.met } in
     let none_absent = absent_at es set us certain c.deref.result.now None j c.deref.ensures.value (c.in_default.ensures set (λ u b p. search rules)) in
     let none_unlisted = unlisted_at es set us certain c.deref-2.result.now None j c.deref-2.ensures.value (c.in_default-least_failing.ensures (has us) (λ u b p. search rules)) in
     let none_left : NoSuch (IsUnsettled es) = subst (λ m. MatchOption m (NoSuch (IsUnsettled es)) (IsFirstMask (IsUnsettled es))) c.in_default-2.is (c.in_ok-mask.ensures es given) in
@@ -57,7 +57,7 @@ returns g c =
     let us = c.in_ok-listed.listed.items in
     let certain = c.in_ok-certain.certain.items in
     let given = given_at es set us c.deref-3.result.now c.requires.possible c.requires.open c.in_ok-listed.ensures.members c.in_ok-listed.ensures.uids c.deref-3.ensures.value in
-    let j : Has es set us certain = record { possible = c.requires.possible; uids_open = c.requires.open; uids_listed = c.in_ok-listed.ensures.members; are_uids = c.in_ok-listed.ensures.uids; uids_certain = c.in_ok-certain.ensures } in
+    let j : Has es set us certain = record { possible = c.requires.possible; uids_open = c.requires.open; uids_listed = c.in_ok-listed.ensures.members; are_uids = c.in_ok-listed.ensures.uids; uids_certain = c.in_ok-certain.ensures.certain es c.requires.met } in
     let none_absent = absent_at es set us certain c.deref.result.now None j c.deref.ensures.value (c.in_default.ensures set (λ u b p. search rules)) in
     let none_unlisted = unlisted_at es set us certain c.deref-2.result.now None j c.deref-2.ensures.value (c.in_default-least_failing.ensures (has us) (λ u b p. search rules)) in
     let none_left : NoSuch (IsUnsettled es) = subst (λ m. MatchOption m (NoSuch (IsUnsettled es)) (IsFirstMask (IsUnsettled es))) c.in_default-2.is (c.in_ok-mask.ensures es given) in

@@ -1,0 +1,268 @@
+-- What is met makes a log possible, and UIDs certain.
+use Rattle.std.proofs.Common.{◌≡◌, ℕ, zero, suc, ◌+◌, ◌<◌, ◌≤◌, ◌==◌, ◌++◌, List, [], ◌∷◌, length, take, get_or, Bool, true, false, ◌&&◌, ◌||◌, Option, Some, None, refl, sym, ap, ◌∙◌, subst, arith, inl, inr, ⊎_elim, add-one}
+use Rattle.std.specs.Prelude.{◌⊎◌, ◌≢◌, ◌↔◌, nat_eq, slice_get}
+use Rattle.std.specs.List.{All, Any, list_all, list_any}
+use Rattle.std.proofs.lemmas.Bool.{cases_eq, and_parts, and_from, both_ways, false≢true, or_cases, or_left, or_right}
+use Rattle.std.proofs.lemmas.Option.{slice_get_within}
+use Rattle.std.proofs.lemmas.List.{get_or_default}
+use Rattle.std.proofs.lemmas.List.Folds.{list_any-append}
+use Rattle.vic_frame.specs.Uids.{is_uid, has, AreDifferent}
+use Rattle.vic_frame.specs.Replies.{Reply}
+use Rattle.vic_tree.specs.OpenSet.{SameUids, UpToThree}
+use Rattle.vic_log.specs.declared.entry.Entry.{Entry}
+use Rattle.vic_log.specs.declared.entry.Entry.TheVariants.{Sent, Silent, Collision, Heard, Listed, Garbled, FieldCycle}
+use Rattle.vic_log.specs.Populations.{answers_at}
+use Rattle.vic_log.specs.Slots.{Reading, NoReply, OneReply, ManyReplies, SomeReply, reading_of, slots_before, slots_of, is_open, Asks, Forces, IsForcedBy}
+use Rattle.vic_log.proofs.Supply.{IsUid-from}
+use Rattle.vic_log.proofs.Sets.{has_here, has_at, has_there, has_cases}
+use Rattle.vic_verdict.specs.declared.demands.Found.{Found}
+use Rattle.vic_verdict.specs.declared.demands.Met.{Met}
+use Rattle.vic_verdict.specs.Possible.{IsPossible}
+use Rattle.vic_verdict.specs.Places.{answering, entry_asks, entry_forces}
+use Rattle.vic_verdict.specs.Replies.{RepliesAnswer}
+use Rattle.vic_verdict.specs.Demands.{needs, needs_of, needs_at, IsHeard, HasHeard, IsFoundAt, IsFound, Meets, AreFound, IsMet}
+use Rattle.vic_verdict.proofs.Entries.{forced_step, forces_two_iff, forces_one_iff, three_in_two}
+use Rattle.vic_verdict.proofs.Demanding.{asked_two_or_one}
+use Rattle.vic_verdict.specs.Rising.{Adds}
+use Rattle.vic_verdict.proofs.Supplied.{supplied_all, supplied_each}
+
+-- ---- who was heard
+
+pub heard_none : (es : List Entry) (us : List ℕ) → us ≡ [] → HasHeard es 0 us
+heard_none es us e u = ((λ h. absurd (false≢true (sym (ap (λ xs. has xs u) e) ∙ h))), (λ w. let below = w.2 in absurd (omega (arith, below))))
+
+has_pushed : (us : List ℕ) (v u : ℕ) → has (us ++ v ∷ []) u ≡ true → (has us u ≡ true) ⊎ (u ≡ v)
+has_pushed us v u h =
+    ⊎_elim (λ a. inl a) (λ b. ⊎_elim (λ e. inr e) (λ n. absurd (false≢true n)) (has_cases u v [] b)) (or_cases _ _ (sym (list_any-append (nat_eq u) us (v ∷ [])) ∙ h))
+
+pub heard_kept : (es : List Entry) (i : ℕ) (us : List ℕ) (e : Entry) → slice_get es i ≡ Some e → ((r : Reply) → e ≡ Heard r → ⊥) → HasHeard es i us → HasHeard es (i + 1) us
+heard_kept es i us e k none h u = (
+  (λ m. let w = (h u).0 m in let below = w.2 in (w.0, w.1, omega (arith, below), w.3, w.4)),
+  (λ w.
+      let below = w.2 in
+      (h u).1 (
+        w.0,
+        w.1,
+        ⊎_elim
+            (λ here. absurd (none w.1 (let both : Some e ≡ Some (Heard w.1) = sym k ∙ subst (λ n. slice_get es n ≡ Some (Heard w.1)) here w.3 in cc)))
+            (λ ne. omega (arith, below, ne))
+            (cases_eq w.0 i),
+        w.3,
+        w.4,
+      )),
+)
+
+pub heard_pushed : (es : List Entry) (i : ℕ) (us vs : List ℕ) (r : Reply) (v : ℕ) → slice_get es i ≡ Some (Heard r) → v ≡ r.uid → vs ≡ us ++ v ∷ [] → HasHeard es i us → HasHeard es (i + 1) vs
+heard_pushed es i us vs r v k is all h = subst (HasHeard es (i + 1)) (sym all) (λ u. (
+  (λ m. ⊎_elim
+      (λ old. let w = (h u).0 old in let below = w.2 in (w.0, w.1, omega (arith, below), w.3, w.4))
+      (λ new. (i, r, omega arith, k, sym is ∙ sym new))
+      (has_pushed us v u m)),
+  (λ w.
+      let below = w.2 in
+      list_any-append (nat_eq u) us (v ∷ [])
+      ∙ ⊎_elim
+      (λ here.
+      let both : Some (Heard w.1) ≡ Some (Heard r) = sym w.3 ∙ subst (λ n. slice_get es n ≡ Some (Heard r)) (sym here) k in
+      let same : w.1 ≡ r = cc in
+      or_right (has us u) (has (v ∷ []) u) (has_at u v [] (sym w.4 ∙ (ap (λ (x : Reply). x.uid) same ∙ sym is))))
+      (λ ne. or_left (has us u) (has (v ∷ []) u) ((h u).1 (w.0, w.1, omega (arith, below, ne), w.3, w.4)))
+      (cases_eq w.0 i)),
+))
+
+-- ---- whether they are open
+
+all_from : (p : ℕ → Bool) (us : List ℕ) → ((u : ℕ) → has us u ≡ true → p u ≡ true) → list_all p us ≡ true
+all_from p [] h = refl
+all_from p (x ∷ us) h = and_from _ _ (h x (has_here x us)) (all_from p us (λ u k. h u (has_there u x us k)))
+
+all_has : (p : ℕ → Bool) (us : List ℕ) (u : ℕ) → list_all p us ≡ true → has us u ≡ true → p u ≡ true
+all_has p [] u h k = absurd (false≢true k)
+all_has p (x ∷ us) u h k =
+    let w = and_parts _ _ h in
+    ⊎_elim (λ e. subst (λ y. p y ≡ true) (sym e) w.0) (λ m. all_has p us u w.1 m) (has_cases u x us k)
+
+-- of a possible log all that were heard are open
+pub heard_open : (es : List Entry) (n : ℕ) (set : ℕ → Bool) (us : List ℕ) → SameUids set (is_open (slots_of es)) → HasHeard es n us → IsPossible es → list_all set us ≡ true
+heard_open es n set us same h possible = all_from set us (λ u k.
+    let w = (h u).0 k in
+    let asks : answering (is_open (slots_of es)) es w.0 w.1.uid ≡ true = supplied_each es w.0 (Heard w.1) w.3 possible in
+    let open_uid : is_open (slots_of es) u ≡ true = subst (λ v. is_open (slots_of es) v ≡ true) w.4 (and_parts (is_open (slots_of es) w.1.uid) _ asks).0 in
+    same u (IsUid-from u (and_parts (is_uid u) _ open_uid).0) ∙ open_uid)
+
+-- ---- what makes a log possible
+
+two_of : (t : ℕ → Bool) (xs : List ℕ) → AreDifferent xs → ((u : ℕ) → has xs u ≡ true → t u ≡ true) → 2 ≤ length xs → Asks ManyReplies t
+two_of t [] d h n = absurd (omega (arith, n))
+two_of t (x ∷ []) d h n = absurd (omega (arith, n))
+two_of t (x ∷ y ∷ xs) d h n = (x, y, (λ e. both_ways _ d.0 (has_at x y xs e)), h x (has_here x (y ∷ xs)), h y (has_there y x (y ∷ xs) (has_here y xs)))
+
+one_of : (t : ℕ → Bool) (xs : List ℕ) → ((u : ℕ) → has xs u ≡ true → t u ≡ true) → 1 ≤ length xs → Asks SomeReply t
+one_of t [] h n = absurd (omega (arith, n))
+one_of t (x ∷ xs) h n = (x, h x (has_here x xs))
+
+-- what meets place i, and how many they are
+record MetBy (es : List Entry) (i n : ℕ) : Type 0 where
+  uids : List ℕ
+  different : AreDifferent uids
+  answer : (u : ℕ) → has uids u ≡ true → answering (is_open (slots_of es)) es i u ≡ true
+  enough : n ≤ length uids
+
+met_by : (es : List Entry) (fs : List Found) (i n : ℕ) → AreFound es fs → needs_at es i ≡ n → 0 < n → MetBy es i n
+met_by es fs i n a e some =
+    let w = a.met i (omega (arith, e, some)) in
+    let f : Found = w.1 in
+    let at = subst (IsFound es) w.3 (a.found w.0 f w.2) in
+    let m : Meets es f i = w.4 in
+    let enough = at.1.enough in
+    let need = m.need in
+    record { uids = f.uids.items; different = at.1.uids.different; answer = m.answer; enough = omega (arith, enough, need, e) }
+
+pub met_is_possible : (es : List Entry) (set : ℕ → Bool) (us : List ℕ) (fs : List Found) (n : ℕ) → RepliesAnswer es → SameUids set (is_open (slots_of es)) → HasHeard es n us → length es ≤ n → list_all set us ≡ true → AreFound es fs → IsPossible es
+met_is_possible es set us fs n replies same heard long all found = supplied_all es (λ i e below k. go i e k)
+  where
+    go : (i : ℕ) (e : Entry) → slice_get es i ≡ Some e → entry_asks (reading_of e) (answering (is_open (slots_of es)) es i)
+    go i (Sent q) k = tt
+    go i (Listed u) k = tt
+    go i FieldCycle k = tt
+    go i Silent k = tt
+    go i (Heard r) k =
+        let a = replies i r k in
+        let within = slice_get_within es i (Heard r) k in
+        let member = (heard r.uid).1 (i, r, omega (arith, within, long), k, refl) in
+        and_from _ _ (sym (same r.uid a.0) ∙ all_has set us r.uid all member) a.1
+    go i Collision k =
+        let m = met_by es fs i 2 found (ap needs_of k) (omega arith) in
+        two_of (answering (is_open (slots_of es)) es i) m.uids m.different m.answer m.enough
+    go i Garbled k =
+        let m = met_by es fs i 1 found (ap needs_of k) (omega arith) in
+        one_of (answering (is_open (slots_of es)) es i) m.uids m.answer m.enough
+
+pub is_met : (es : List Entry) (m : Met) (n : ℕ) → HasHeard es n m.heard.items → length es ≤ n → AreFound es m.found.items → IsMet es m
+is_met es m n heard long found = record {
+  heard = λ u. (
+    (λ k. let w = (heard u).0 k in (w.0, w.1, w.3, w.4)),
+    (λ w. let within = slice_get_within es w.0 (Heard w.1) w.2 in (heard u).1 (w.0, w.1, omega (arith, within, long), w.2, w.3)),
+  );
+  found = found;
+}
+
+-- ---- what makes a UID certain
+
+-- so many of a list's members
+abbrev pub Exactly : ℕ → List ℕ → ℕ → Type 0
+Exactly n us u = (length us ≡ n) × (has us u ≡ true)
+
+-- the list has the UIDs that were heard, and those of the first k found that are exactly as many as it takes
+pub record HasCertain (heard : List ℕ) (fs : List Found) (k : ℕ) (us : List ℕ) : Type 0 where
+  pub from : (u : ℕ) → has us u ≡ true → (has heard u ≡ true) ⊎ Any (λ (f : Found). Exactly f.need f.uids.items u) fs
+  pub kept : (u : ℕ) → has heard u ≡ true → has us u ≡ true
+  pub found : (j u : ℕ) (d : Found) → j < k → Exactly (get_or fs j d).need (get_or fs j d).uids.items u → has us u ≡ true
+
+pub certain_first : (heard us : List ℕ) (fs : List Found) → us ≡ heard → HasCertain heard fs 0 us
+certain_first heard us fs e = record {
+  from = λ u h. inl (ap (λ xs. has xs u) (sym e) ∙ h);
+  kept = λ u h. ap (λ xs. has xs u) e ∙ h;
+  found = λ j u d below x. absurd (omega (arith, below));
+}
+
+pub certain_more : (heard old new ys : List ℕ) (fs : List Found) (k : ℕ) (f : Found) → k < length fs → f ≡ get_or fs k f → ys ≡ f.uids.items → Adds (λ u. (length ys ≡ f.need) × (has ys u ≡ true)) old new → HasCertain heard fs k old → HasCertain heard fs (k + 1) new
+certain_more heard old new ys fs k f below is same adds h = record {
+  from = λ u m.
+      ⊎_elim
+      (λ x. inr (k, f, below, sym is, (ap length (sym same) ∙ x.0, ap (λ zs. has zs u) (sym same) ∙ x.1)))
+      (λ o. h.from u o)
+      ((adds u).0 m);
+  kept = λ u m. (adds u).1 (inr (h.kept u m));
+  found = λ j u d lt x.
+      ⊎_elim
+      (λ here.
+      let it : get_or fs j d ≡ f = ap (λ n. get_or fs n d) here ∙ (get_or_default fs k d f below ∙ sym is) in
+      (adds u).1 (inl (ap length same ∙ (ap (λ (y : Found). length y.uids.items) (sym it) ∙ (x.0 ∙ ap (λ (y : Found). y.need) it)), ap (λ zs. has zs u) same ∙ (ap (λ (y : Found). has y.uids.items u) (sym it) ∙ x.1))))
+      (λ ne. (adds u).1 (inr (h.found j u d (omega (arith, lt, ne)) x)))
+      (cases_eq j k);
+}
+
+-- an entry of the first n places forces the UID
+abbrev ForcedBefore : (ℕ → Bool) → List Entry → ℕ → ℕ → Type 0
+ForcedBefore set es n u = (i : ℕ) × (e : Entry) × (i < n) × (slice_get es i ≡ Some e) × entry_forces (reading_of e) (answering set es i) u
+
+forced_before : (set : ℕ → Bool) (es : List Entry) (n u : ℕ) → IsForcedBy set (slots_before es n) u → ForcedBefore set es n u
+forced_before set es zero u h = absurd h
+forced_before set es (suc n) u h =
+    ⊎_elim
+    (λ f. (n, f.0, omega arith, f.1, f.2))
+    (λ k. let w = forced_before set es n u k in (w.0, w.1, omega (arith, w.2), w.3, w.4))
+    ((forced_step set (answers_at es n) (slice_get es n) (slots_before es n) u).0 h)
+
+forced_at : (set : ℕ → Bool) (es : List Entry) (n i u : ℕ) (e : Entry) → i < n → slice_get es i ≡ Some e → entry_forces (reading_of e) (answering set es i) u → IsForcedBy set (slots_before es n) u
+forced_at set es zero i u e below k f = absurd (omega (arith, below))
+forced_at set es (suc n) i u e below k f =
+    let step = forced_step set (answers_at es n) (slice_get es n) (slots_before es n) u in
+    ⊎_elim
+    (λ here. step.1 (inl (e, subst (λ j. slice_get es j ≡ Some e) here k, subst (λ j. entry_forces (reading_of e) (answering set es j) u) here f)))
+    (λ ne. step.1 (inr (forced_at set es n i u e (omega (arith, below, ne)) k f)))
+    (cases_eq i n)
+
+two_exact : (t : ℕ → Bool) (xs : List ℕ) (u : ℕ) → AreDifferent xs → ((w : ℕ) → has xs w ≡ true → t w ≡ true) → 2 ≤ length xs → Forces ManyReplies t u → Exactly 2 xs u
+two_exact t [] u d h n f = absurd (omega (arith, n))
+two_exact t (x ∷ []) u d h n f = absurd (omega (arith, n))
+two_exact t (x ∷ y ∷ []) u d h n f = (
+  refl,
+  ⊎_elim
+      (λ e. has_at u x (y ∷ []) (sym e))
+      (λ e. ⊎_elim
+      (λ g. has_there u x (y ∷ []) (has_at u y [] (sym g)))
+      (λ g. absurd (both_ways _ d.0 (has_at x y [] (e ∙ sym g))))
+      (f.4 y (h y (has_there y x (y ∷ []) (has_here y [])))))
+      (f.4 x (h x (has_here x (y ∷ [])))),
+)
+two_exact t (x ∷ y ∷ z ∷ xs) u d h n f =
+    let a = f.4 x (h x (has_here x (y ∷ z ∷ xs))) in
+    let b = f.4 y (h y (has_there y x (y ∷ z ∷ xs) (has_here y (z ∷ xs)))) in
+    let c = f.4 z (h z (has_there z x (y ∷ z ∷ xs) (has_there z y (z ∷ xs) (has_here z xs)))) in
+    absurd (three_in_two x y z u f.0 (λ e. both_ways _ d.0 (has_at x y (z ∷ xs) e)) (λ e. both_ways _ d.0 (has_there x y (z ∷ xs) (has_at x z xs e))) (λ e. both_ways _ d.1.0 (has_at y z xs e)) a b c)
+
+one_exact : (t : ℕ → Bool) (xs : List ℕ) (u : ℕ) → AreDifferent xs → ((w : ℕ) → has xs w ≡ true → t w ≡ true) → 1 ≤ length xs → Forces SomeReply t u → Exactly 1 xs u
+one_exact t [] u d h n f = absurd (omega (arith, n))
+one_exact t (x ∷ []) u d h n f = (refl, has_at u x [] (sym (f.1 x (h x (has_here x [])))))
+one_exact t (x ∷ y ∷ xs) u d h n f =
+    absurd (both_ways _ d.0 (has_at x y xs (f.1 x (h x (has_here x (y ∷ xs))) ∙ sym (f.1 y (h y (has_there y x (y ∷ xs) (has_here y xs)))))))
+
+-- found where exactly as many are open, the UIDs are forced there
+found_forces : (es : List Entry) (i u : ℕ) (f : Found) → IsFoundAt es i f → Exactly f.need f.uids.items u → IsForcedBy (is_open (slots_of es)) (slots_of es) u
+found_forces es i u f h x =
+    ⊎_elim
+    (λ w. let two = w.1 in forced_at (is_open (slots_of es)) es (length es) i u Collision (slice_get_within es i Collision w.0) w.0 ((forces_two_iff _ f.uids.items u h.uids).1 (x.0 ∙ two, x.1)))
+    (λ w. let one = w.1 in forced_at (is_open (slots_of es)) es (length es) i u Garbled (slice_get_within es i Garbled w.0) w.0 ((forces_one_iff _ f.uids.items u h.uids).1 (x.0 ∙ one, x.1)))
+    (asked_two_or_one (slice_get es i) f.need h.need h.asked)
+
+pub certain_all : (es : List Entry) (m : Met) (us : List ℕ) (k : ℕ) → length m.found.items ≤ k → IsMet es m → HasCertain m.heard.items m.found.items k us → (u : ℕ) → (has us u ≡ true) ↔ IsForcedBy (is_open (slots_of es)) (slots_of es) u
+certain_all es m us k long met h u = (
+  (λ c. ⊎_elim
+      (λ x. let w = (met.heard u).0 x in forced_at (is_open (slots_of es)) es (length es) w.0 u (Heard w.1) (slice_get_within es w.0 (Heard w.1) w.2) w.2 w.3)
+      (λ w. let at = subst (IsFound es) w.3 (met.found.found w.0 w.1 w.2) in found_forces es at.0 u w.1 at.1 w.4)
+      (h.from u c)),
+  (λ f. let w = forced_before (is_open (slots_of es)) es (length es) u f in back w.0 w.1 w.3 w.4),
+) where
+  exact : (i n : ℕ) → needs_at es i ≡ n → 0 < n → ((xs : List ℕ) → AreDifferent xs → ((v : ℕ) → has xs v ≡ true → answering (is_open (slots_of es)) es i v ≡ true) → n ≤ length xs → Exactly n xs u) → has us u ≡ true
+  exact i n e some x =
+      let w = met.found.met i (omega (arith, e, some)) in
+      let f : Found = w.1 in
+      let at = subst (IsFound es) w.3 (met.found.found w.0 f w.2) in
+      let it : Meets es f i = w.4 in
+      let enough = at.1.enough in
+      let need = it.need in
+      let all = x f.uids.items at.1.uids.different it.answer (omega (arith, enough, need, e)) in
+      let below = w.2 in
+      let this : Exactly f.need f.uids.items u = (all.0 ∙ (sym e ∙ need), all.1) in
+      h.found w.0 u f (omega (arith, below, long)) (subst (λ (y : Found). Exactly y.need y.uids.items u) (sym w.3) this)
+
+  back : (i : ℕ) (e : Entry) → slice_get es i ≡ Some e → entry_forces (reading_of e) (answering (is_open (slots_of es)) es i) u → has us u ≡ true
+  back i (Heard r) k f = h.kept u ((met.heard u).1 (i, r, k, f))
+  back i Collision k f = exact i 2 (ap needs_of k) (omega arith) (λ xs d a n. two_exact _ xs u d a n f)
+  back i Garbled k f = exact i 1 (ap needs_of k) (omega arith) (λ xs d a n. one_exact _ xs u d a n f)
+  back i Silent k f = absurd f
+  back i (Sent q) k f = absurd f
+  back i (Listed v) k f = absurd f
+  back i FieldCycle k f = absurd f

@@ -1,0 +1,109 @@
+//! Whether some population could have given a log, and what its open UIDs meet.
+
+ghost use Rattle.std.specs.Prelude.{◌≡◌, ◌+◌, true, List, length, IfOk, MatchOption};
+ghost use Rattle.std.specs.List.Sorted.{IsStrictlyIncreasing};
+ghost use Rattle.std.specs.List.{list_all};
+ghost use Rattle.vic_frame.specs.Uids.{has};
+ghost use Rattle.vic_tree.specs.OpenSet.{SameUids};
+ghost use Rattle.vic_log.specs.Order.{IsInOrder, entries, AreValid};
+ghost use Rattle.vic_log.specs.Slots.{slots_of, is_open};
+ghost use Rattle.vic_verdict.specs.Possible.{IsPossible};
+ghost use Rattle.vic_verdict.specs.Demands.{AreFound, IsMet, HasHeard};
+
+use crate::demands::{Found, Met, meet_stretch, note_asked};
+use crate::replies::replies_fit;
+use crate::rising::put_in_order;
+use crate::stretches::settle_all;
+use std::alloc::{AllocError, Global};
+use vic_frame::Uid;
+use vic_log::{Entry, LogLine, RoundCursor};
+use vic_tree::OpenSet;
+
+/// The UIDs that the slots of a log heard, in rising order.
+fn heard_uids(alloc: Global, lines: &[LogLine]) -> Result<Vec<Uid>, AllocError>
+    ensures { IfOk result (λ v. HasHeard (entries lines.now) (length lines.now) v.items) }
+{
+    let mut heard = Vec::new(alloc);
+    for line in lines {
+        if let Entry::Heard(response) = line.item {
+            heard.push(response.uid())?;
+        }
+    }
+    put_in_order(&mut heard);
+    Ok(heard)
+}
+
+/// Whether all UIDs of a list are open.
+fn are_open<S: OpenSet>(set: &S, uids: &[Uid]) -> bool
+    ensures { result ≡ list_all (S.is_open set.now) uids.now }
+{
+    for uid in uids {
+        if !set.has(*uid) {
+            return false;
+        }
+    }
+    true
+}
+
+/// What meets the slots of a log in which tags answered and none was read, by the UIDs that it
+/// leaves open. None where a slot lacks what it asks for.
+fn find_all<S: OpenSet>(
+    alloc: Global,
+    set: &S,
+    lines: &[LogLine],
+) -> Result<Option<Vec<Found>>, AllocError>
+    requires order { IsInOrder (entries lines.now) }
+    requires valid { AreValid (entries lines.now) }
+    requires open { SameUids (S.is_open set.now) (is_open (slots_of (entries lines.now))) }
+    ensures { IfOk result (λ r. MatchOption r (IsPossible (entries lines.now) → ⊥)
+        (λ found. AreFound (entries lines.now) found.items)) }
+{
+    let mut found = Vec::new(alloc);
+    let mut names = Vec::new(alloc);
+    let mut demands = Vec::new(alloc);
+    let mut cursor = RoundCursor::first();
+    for (index, line) in lines.iter().enumerate() {
+        let entry = line.item;
+        if let Entry::FieldCycle = entry {
+            if !meet_stretch(alloc, set, &mut names, &mut demands, &mut found)? {
+                return Ok(None);
+            }
+            names.clear();
+            demands.clear();
+        } else {
+            let mask = cursor.mask();
+            note_asked(&mut names, &mut demands, &mask, index, &entry)?;
+        }
+        cursor.advance(&entry);
+    }
+    if !meet_stretch(alloc, set, &mut names, &mut demands, &mut found)? {
+        return Ok(None);
+    }
+    Ok(Some(found))
+}
+
+/// The UIDs that a log leaves open, and what they meet. None where no population could have given
+/// the log.
+pub fn open_and_met<S: OpenSet>(
+    alloc: Global,
+    lines: &[LogLine],
+) -> Result<Option<(S, Met)>, AllocError>
+    requires order { IsInOrder (entries lines.now) }
+    requires valid { AreValid (entries lines.now) }
+    ensures { IfOk result (λ r. MatchOption r (IsPossible (entries lines.now) → ⊥)
+        (λ p. IsPossible (entries lines.now) × SameUids (S.is_open p.0) (is_open (slots_of (entries lines.now)))
+        × IsMet (entries lines.now) p.1)) }
+{
+    if !replies_fit(alloc, lines)? {
+        return Ok(None);
+    }
+    let set: S = settle_all(alloc, lines)?;
+    let heard = heard_uids(alloc, lines)?;
+    if !are_open(&set, &heard) {
+        return Ok(None);
+    }
+    let Some(found) = find_all(alloc, &set, lines)? else {
+        return Ok(None);
+    };
+    Ok(Some((set, Met { heard, found })))
+}
