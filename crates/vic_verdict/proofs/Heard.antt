@@ -1,10 +1,10 @@
 -- Whether the UIDs that were heard could have answered, from place to place.
-use Rattle.std.proofs.Common.{◌≡◌, ℕ, ◌+◌, ◌<◌, ◌++◌, List, [], ◌∷◌, length, get_or, Bool, true, false, not, ◌||◌, Some, refl, sym, ap, ◌∙◌, subst, arith, inl, inr, ⊎_elim}
+use Rattle.std.proofs.Common.{◌≡◌, ℕ, ◌+◌, ◌<◌, ◌++◌, List, [], ◌∷◌, length, get_or, zero, suc, ◌≤◌, Bool, true, false, not, ◌||◌, Some, refl, sym, ap, ◌∙◌, subst, arith, inl, inr, ⊎_elim}
 use Rattle.std.specs.Prelude.{◌⊎◌, slice_get}
 use Rattle.std.specs.List.{All, list_any}
 use Rattle.std.specs.List.Sorted.{IsPermutation}
 use Rattle.std.proofs.lemmas.List.Sorted.{list_any-IsPermutation}
-use Rattle.std.proofs.lemmas.Bool.{cases_eq, and_parts, and_from, both_ways}
+use Rattle.std.proofs.lemmas.Bool.{cases_eq, and_parts, and_from, both_ways, false_from_ne_true}
 use Rattle.std.proofs.lemmas.List.Elements.{All-push}
 use Rattle.std.proofs.lemmas.List.Quantifiers.{Any-push}
 use Rattle.std.proofs.lemmas.List.Folds.{list_any_at, Any-from_list_any}
@@ -20,8 +20,9 @@ use Rattle.vic_verdict.specs.declared.replies.HeardAt.{HeardAt}
 use Rattle.vic_verdict.specs.declared.sweep.Name.{Name}
 use Rattle.vic_verdict.specs.Possible.{IsPossible}
 use Rattle.vic_verdict.specs.Silenced.{TellsQuiet}
-use Rattle.vic_verdict.specs.Replies.{Answers, is_reply_silenced, IsHeardAt, AreHeard}
-use Rattle.vic_verdict.proofs.Silencing.{tells_first, tells_anew, tells_passed, silenced_permuted}
+use Rattle.vic_verdict.specs.Replies.{Answers, is_reply_silenced, IsRepeatedBy, IsHeardAgain, IsHeardAt, AreHeard}
+use Rattle.vic_verdict.specs.Sweep.{is_silenced}
+use Rattle.vic_verdict.proofs.Silencing.{tells_first, tells_anew, tells_passed, silenced_permuted, silenced_later}
 use Rattle.vic_verdict.proofs.Supplied.{supplied_each}
 use Rattle.vic_verdict.proofs.Demanding.{any_kept}
 
@@ -169,3 +170,36 @@ any_permuted ns ms hs gs p q = go gs ∙ sym (list_any-IsPermutation (is_reply_s
     go : (xs : List HeardAt) → list_any (is_reply_silenced ms) xs ≡ list_any (is_reply_silenced ns) xs
     go [] = refl
     go (x ∷ xs) = ap (λ b. b || list_any (is_reply_silenced ms) xs) (silenced_permuted ns ms (mirror x.uid) x.at p) ∙ ap (λ b. is_reply_silenced ns x || b) (go xs)
+
+-- ---- one reply after another
+
+-- who isn't Quiet at a later reply wasn't at the one before
+ready_before : (ns : List Name) (h n : HeardAt) → IsRepeatedBy h n → is_reply_silenced ns n ≡ false → is_reply_silenced ns h ≡ false
+ready_before ns h n by none =
+    false_from_ne_true _ (λ e. both_ways _ none (subst (λ u. is_silenced ns (mirror u) n.at ≡ true) by.uid (silenced_later ns (mirror h.uid) h.at n.at by.later e)))
+
+-- of the first k replies each was given by a Ready tag, or the next one is of the same UID
+abbrev pub AreReadyTo : List Name → List HeardAt → ℕ → Type 0
+AreReadyTo ns hs k = (j : ℕ) (d : HeardAt) → j < k → (is_reply_silenced ns (get_or hs j d) ≡ false) ⊎ IsHeardAgain hs j
+
+pub ready_next : (ns : List Name) (hs : List HeardAt) (k : ℕ) → ((d : HeardAt) → (is_reply_silenced ns (get_or hs k d) ≡ false) ⊎ IsHeardAgain hs k) → AreReadyTo ns hs k → AreReadyTo ns hs (k + 1)
+ready_next ns hs k here before j d lt =
+    ⊎_elim
+    (λ e. subst (λ n. (is_reply_silenced ns (get_or hs n d) ≡ false) ⊎ IsHeardAgain hs n) (sym e) (here d))
+    (λ ne. before j d (omega (arith, lt, ne)))
+    (cases_eq j k)
+
+-- from the last reply back
+ready_from : (ns : List Name) (hs : List HeardAt) → AreReadyTo ns hs (length hs) → (left j : ℕ) (d : HeardAt) → length hs ≤ j + left → j < length hs → is_reply_silenced ns (get_or hs j d) ≡ false
+ready_from ns hs m zero j d far below = absurd (omega (arith, far, below))
+ready_from ns hs m (suc left) j d far below =
+    ⊎_elim
+    (λ here. here)
+    (λ again. ready_before ns (get_or hs j d) (get_or hs (j + 1) d) (again.1 d) (ready_from ns hs m left (j + 1) d (omega (arith, far)) again.0))
+    (m j d below)
+
+pub all_ready : (ns : List Name) (hs : List HeardAt) (k : ℕ) → k ≡ length hs → AreReadyTo ns hs k → list_any (is_reply_silenced ns) hs ≡ false
+all_ready ns hs k end m =
+    false_from_ne_true _ (λ e.
+    let a = Any-from_list_any (is_reply_silenced ns) hs e in
+    both_ways _ (ready_from ns hs (subst (AreReadyTo ns hs) end m) (length hs) a.0 a.1 (omega arith) a.2) (subst (λ h. is_reply_silenced ns h ≡ true) (sym a.3) a.4))

@@ -1,5 +1,5 @@
 -- Whether the UIDs that were heard could have answered.
-use Rattle.std.specs.Prelude.{◌≡◌, ◌⊎◌, ℕ, ◌<◌, ◌≤◌, Bool, true, Some, List, slice_get}
+use Rattle.std.specs.Prelude.{◌≡◌, ◌⊎◌, ℕ, ◌+◌, ◌<◌, ◌≤◌, Bool, true, Some, List, length, slice_get, slice_index_or}
 use Rattle.std.specs.List.{All, Any}
 use Rattle.vic_frame.specs.Uids.{IsUid}
 use Rattle.vic_frame.specs.LowBitsFirst.{mirror}
@@ -24,6 +24,14 @@ RepliesAnswer es = (i : ℕ) (r : Reply) → slice_get es i ≡ Some (Heard r) �
 -- the UID is Quiet where it was heard, by the names
 abbrev pub is_reply_silenced : List Name → HeardAt → Bool
 is_reply_silenced ns h = is_silenced ns (mirror h.uid) h.at
+
+-- the next reply is of the same UID, no earlier
+pub record IsRepeatedBy (h next : HeardAt) : Type 0 where
+  pub uid : h.uid ≡ next.uid
+  pub later : h.at ≤ next.at
+
+abbrev pub IsHeardAgain : List HeardAt → ℕ → Type 0
+IsHeardAgain hs k = (k + 1 < length hs) × ((h : HeardAt) → IsRepeatedBy (slice_index_or hs k h) (slice_index_or hs (k + 1) h))
 
 -- the UID was heard before place i, from a place on, in a slot of a mask that it lies in
 pub record IsHeardAt (es : List Entry) (from i : ℕ) (h : HeardAt) : Type 0 where

@@ -1,7 +1,7 @@
 //! Whether the UIDs that were heard could have answered: each lies in the mask of its slot and isn't
 //! Quiet there. This needs none of the UIDs that a log leaves open.
 
-ghost use Rattle.std.specs.Prelude.{◌≡◌, ◌≢◌, ℕ, ◌+◌, false, IsTrue, Some, List, IfOk, slice_get};
+ghost use Rattle.std.specs.Prelude.{◌≡◌, ◌≢◌, ℕ, ◌+◌, ◌<◌, true, false, IsTrue, Some, List, IfOk, length, slice_get};
 ghost use Rattle.std.specs.List.{All, list_any};
 ghost use Rattle.vic_frame.specs.LowBitsFirst.{mirror};
 ghost use Rattle.vic_log.specs.declared.entry.Entry.{Entry as EntryValue};
@@ -10,7 +10,7 @@ ghost use Rattle.vic_log.specs.Rounds.{mask_at, lies_in_some};
 ghost use Rattle.vic_log.specs.Order.{IsInOrder, entries, AreValid};
 ghost use Rattle.vic_verdict.specs.Possible.{IsPossible};
 ghost use Rattle.vic_verdict.specs.Sweep.{is_silenced, HaveKeys, AreInOrder};
-ghost use Rattle.vic_verdict.specs.Replies.{RepliesAnswer, AreHeard, is_reply_silenced};
+ghost use Rattle.vic_verdict.specs.Replies.{RepliesAnswer, AreHeard, IsHeardAgain, is_reply_silenced};
 
 use crate::silenced::{is_silenced, note_silenced};
 use crate::sweep::Name;
@@ -75,14 +75,30 @@ fn lies_in(mask: &Option<Mask>, uid: Uid) -> bool
     }
 }
 
-/// Whether one of some UIDs is Quiet where it was heard.
+/// Whether the next reply of some is of the same UID, no earlier.
+fn is_heard_again(replies: &[HeardAt], index: usize) -> bool
+    requires { index < length replies.now }
+    ensures { result ≡ true → IsHeardAgain replies.now index }
+{
+    let reply = replies[index];
+    match replies.get(index + 1) {
+        Some(next) => next.uid == reply.uid && reply.at <= next.at,
+        None => false,
+    }
+}
+
+/// Whether one of some UIDs is Quiet where it was heard. Whoever is Quiet stays so, so of the replies
+/// of one UID the last one alone is looked at.
 fn is_any_quiet(names: &[Name], replies: &[HeardAt]) -> bool
     requires { AreInOrder names.now }
     ensures { result ≡ list_any (is_reply_silenced names.now) replies.now }
 {
-    for reply in replies {
-        if is_silenced(names, reply.uid, reply.at) {
-            return true;
+    for index in 0..replies.len() {
+        if !is_heard_again(replies, index) {
+            let reply = replies[index];
+            if is_silenced(names, reply.uid, reply.at) {
+                return true;
+            }
         }
     }
     false
