@@ -30,11 +30,11 @@ pub(crate) enum Explained {
 }
 
 /// Judges the log that a source hands out and writes the line of `check`; where a population can
-/// show the verdict, also `population N` and its N UIDs, each on a line as a log lists it, in rising
-/// order; and flushes. The status is that of `check`. It reads to the end, or to the first fault of
-/// a line that no further byte can change. `Read` where the source has failed, `Memory` where memory
-/// was refused: nothing is written then. `Write` where the sink has failed: a prefix of the text may
-/// be out.
+/// show the verdict, also `population N` and its N UIDs, each on a line as a log lists it, in
+/// rising order; and flushes. The status is that of `check`. It reads to the end, or to the first
+/// fault of a line that no further byte can change. `Read` where the source has failed, `Memory`
+/// where memory was refused: nothing is written then. `Write` where the sink has failed: a prefix
+/// of the text may be out.
 pub fn run_explain<R: Source, W: Sink>(
     alloc: Global,
     source: &mut R,

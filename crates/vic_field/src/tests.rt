@@ -94,7 +94,8 @@ fn tags_of_a_field(rt: HostRuntime) -> Result<(), Fail> {
     Ok(())
 }
 
-/// Keys that lie in each order to one another: inside, before and behind what is there, near and far.
+/// Keys that lie in each order to one another: inside, before and behind what is there, near and
+/// far.
 #[test]
 fn many_tags_of_a_field(rt: HostRuntime) -> Result<(), Fail> {
     let alloc = rt.alloc();

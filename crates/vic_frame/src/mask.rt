@@ -12,7 +12,8 @@ use std::marker::Model;
 /// How many bits a mask fixes at most (profile).
 pub const MAX_MASK_LEN: u8 = 64;
 
-/// How many bits a mask fixes at most where sixteen slots are asked for: four are the slot's number.
+/// How many bits a mask fixes at most where sixteen slots are asked for: four are the slot's
+/// number.
 pub const MAX_MASK_LEN_OF_SIXTEEN: u8 = 60;
 
 /// The number of the last of sixteen slots.

@@ -10,7 +10,8 @@ use std::alloc::{AllocError, AllocFailed};
 use std::fmt;
 use vic_frame::FrameFault;
 
-/// What is wrong with a line of a log's text. Of several faults of one line the first in this order counts.
+/// What is wrong with a line of a log's text. Of several faults of one line the first in this order
+/// counts.
 #[derive(Clone, Copy, Debug, PartialEq, Eq)]
 pub enum LineFault {
     /// It is line `MAX_LINES + 1`.
@@ -19,7 +20,8 @@ pub enum LineFault {
     LineTooLong,
     /// It is line 1 and isn't a version's header, or the text is empty.
     Header,
-    /// It is neither passed over, nor `S`, `C` or in version 2 `D` or `F`, nor begins with `T `, `R ` or `U `.
+    /// It is neither passed over, nor `S`, `C` or in version 2 `D` or `F`, nor begins with `T `,
+    /// `R ` or `U `.
     UnknownEntry,
     /// What follows the space isn't an even number of hex digits.
     Hex,

@@ -18,8 +18,8 @@ ghost use Rattle.vic_log.specs.Rounds.{opener};
 ghost use Rattle.vic_log.specs.Text.{IsLogOf, IsFirstFault};
 ghost use Rattle.vic_log.specs.Writing.{text_of, renumbered};
 
-/// A line reads as an entry exactly where it spells it, and is passed over exactly where it is empty
-/// or begins with `#`.
+/// A line reads as an entry exactly where it spells it, and is passed over exactly where it is
+/// empty or begins with `#`.
 pub fn read_where_spelled()
     ensures entry { (version : Version) (line : List ℕ) (e : Entry)
         → (line_reading version line ≡ Ok (Some e)) ↔ SpellsEntry version line e }

@@ -13,7 +13,8 @@ use crate::entry::{Entry, MAX_LINE_LEN, Version};
 use crate::fault::LineFault;
 use vic_frame::{Uid, read_request, read_response};
 
-/// The value of each byte as a hex digit, 255 where it is none. A table, so that a digit takes one look-up and no branch.
+/// The value of each byte as a hex digit, 255 where it is none. A table, so that a digit takes one
+/// look-up and no branch.
 const VALUES: [u8; 256] = [
     255, 255, 255, 255, 255, 255, 255, 255, 255, 255, 255, 255, 255, 255, 255, 255, 255, 255, 255,
     255, 255, 255, 255, 255, 255, 255, 255, 255, 255, 255, 255, 255, 255, 255, 255, 255, 255, 255,
@@ -33,7 +34,8 @@ const VALUES: [u8; 256] = [
 
 /// The value of a hex digit in upper or lower case.
 fn digit_value(byte: u8) -> u8
-    ensures { MatchOption (hex_digit_value byte) (result ≡ 255) (λ v. (v ≡ result) × (result ≤ 15)) }
+    ensures { MatchOption (hex_digit_value byte) (result ≡ 255)
+        (λ v. (v ≡ result) × (result ≤ 15)) }
 {
     VALUES[usize::from(byte)]
 }
@@ -129,7 +131,8 @@ fn uid_entry(bytes: &[u8]) -> Result<Option<Entry>, LineFault>
     }
 }
 
-/// The entry on one line after the header of a log of this version, without its end; None where the line is passed over.
+/// The entry on one line after the header of a log of this version, without its end; None where the
+/// line is passed over.
 pub fn line_entry_of(version: Version, line: &[u8]) -> Result<Option<Entry>, LineFault>
     ensures reading { result ≡ line_reading version line.now }
     ensures valid { IfOk result (λ entry. IfSome entry IsValidEntry) }
@@ -157,7 +160,8 @@ pub fn line_entry_of(version: Version, line: &[u8]) -> Result<Option<Entry>, Lin
     }
 }
 
-/// The entry on one line after the header of a log of version 1, without its end; None where the line is passed over.
+/// The entry on one line after the header of a log of version 1, without its end; None where the
+/// line is passed over.
 pub fn line_entry(line: &[u8]) -> Result<Option<Entry>, LineFault>
     ensures reading { result ≡ line_reading V1 line.now }
     ensures valid { IfOk result (λ entry. IfSome entry IsValidEntry) }

@@ -80,7 +80,8 @@ fn end_line(log: &mut Log, number: &mut u32, line: &[u8]) -> Result<(), LogFault
     requires limit { number.old ≤ MAX_LINES }
     ensures answer { MatchResult result
         (λ _. next_fault log.old (number.old + 1) (without_last cr line.now) ≡ None)
-        (RefusesLine (next_fault log.old (number.old + 1) (without_last cr line.now)) (number.old + 1)) }
+        (RefusesLine (next_fault log.old (number.old + 1) (without_last cr line.now))
+        (number.old + 1)) }
     ensures log { OnOk result
         (log.new ≡ after_line log.old (number.old + 1) (without_last cr line.now)) }
     ensures number { OnOk result (number.new ≡ number.old + 1) }
@@ -238,16 +239,18 @@ impl LogReader {
         }
     }
 
-    /// The log of a source's bytes, which `read_log` would give for all of them, or its first fault. A line is judged
-    /// when its LF has come, when it is too long whatever follows, when it is line 1,000,001, or at the end. A failed
-    /// read is answered where no line judged by then has a fault; only there may a source that told its bytes tell them
-    /// no more. A second call answers `Spent` and reads nothing.
+    /// The log of a source's bytes, which `read_log` would give for all of them, or its first
+    /// fault. A line is judged when its LF has come, when it is too long whatever follows, when it
+    /// is line 1,000,001, or at the end. A failed read is answered where no line judged by then has
+    /// a fault; only there may a source that told its bytes tell them no more. A second call
+    /// answers `Spent` and reads nothing.
     pub fn read_all<R: Source>(&mut self, source: &mut R) -> Result<Log, LogFault>
         ensures answer { self.old ≡ false →
             (given : List ℕ) × HandsOut (R.left source.old) (R.left source.new) given
             × ReadsAs (R.left source.new) given result }
         ensures tells { result ≢ Err NotRead → TellsOn (R.left source.old) (R.left source.new) }
-        ensures read { self.old ≡ false → IfErr result (λ e. (e ≡ NotRead) ↔ (R.has_failed source.new ≡ true)) }
+        ensures read { self.old ≡ false
+            → IfErr result (λ e. (e ≡ NotRead) ↔ (R.has_failed source.new ≡ true)) }
         ensures works { OnOk result (R.has_failed source.new ≡ false) }
         ensures reads { R.reads source.new ≤ R.reads source.old + MAX_READS }
         ensures spent { self.new ≡ true }

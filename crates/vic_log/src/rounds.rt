@@ -56,7 +56,8 @@ impl RoundCursor {
 /// The open round after an entry.
 fn round_after(round: &Option<OpenRound>, entry: &Entry) -> Option<OpenRound>
     ensures { (es : List EntryValue) (i : ℕ) → IfSome round.now (λ r. r.next ≤ 16)
-        → slice_get es i ≡ Some entry.now → round.now ≡ round_at es i → result ≡ round_at es (i + 1) }
+        → slice_get es i ≡ Some entry.now → round.now ≡ round_at es i
+        → result ≡ round_at es (i + 1) }
 {
     match *entry {
         Entry::Sent(request) => Some(OpenRound { request, next: 0 }),

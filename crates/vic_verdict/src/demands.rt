@@ -122,7 +122,8 @@ fn respondents<S: OpenSet>(
     requires order { AreInOrder names.now }
     requires keys { HaveKeys names.now }
     ensures { IfOk result (λ uids.
-        UpToThree (λ u. (is_uid u && S.is_open set.now u) && is_ready names.now demand.now u) uids.items) }
+        UpToThree (λ u. (is_uid u && S.is_open set.now u) && is_ready names.now demand.now u)
+        uids.items) }
 {
     let Some(long) = demand.mask else {
         return Ok(ArrayVec::new());
@@ -197,11 +198,13 @@ pub fn meet_stretch<S: OpenSet>(
 ) -> Result<bool, AllocError>
     requires { HaveKeys names.old.items }
     ensures met { IfOk result (λ yes. (es : List EntryValue) (from i : ℕ)
-        → SameUids (S.is_open set.now) (is_open (slots_of es)) → TellsQuiet es from i names.old.items
+        → SameUids (S.is_open set.now) (is_open (slots_of es))
+        → TellsQuiet es from i names.old.items
         → All (IsDemand es from i) demands.old.items → IsTrue yes
         → AreMet es demands.old.items found.old.items found.new.items) }
     ensures unmet { IfOk result (λ yes. (es : List EntryValue) (from i : ℕ)
-        → SameUids (S.is_open set.now) (is_open (slots_of es)) → TellsQuiet es from i names.old.items
+        → SameUids (S.is_open set.now) (is_open (slots_of es))
+        → TellsQuiet es from i names.old.items
         → All (IsDemand es from i) demands.old.items → yes ≡ false → IsPossible es → ⊥) }
 {
     if demands.is_empty() {

@@ -25,8 +25,8 @@ pub struct Explanation {
     pub verdict: Verdict,
     /// Tags that could have given the log: without the UID that is absent or doubtful, with the one
     /// that is unlisted, or with one of the unsettled mask. In rising order, and at most as many as
-    /// the UIDs heard, two for each collision, one for each garbled slot, and one more. `None` where
-    /// the log is impossible or its list complete.
+    /// the UIDs heard, two for each collision, one for each garbled slot, and one more. `None`
+    /// where the log is impossible or its list complete.
     pub population: Option<Vec<Uid>>,
 }
 
@@ -76,8 +76,8 @@ fn explain_lines<S: OpenSet>(alloc: Global, lines: &[LogLine]) -> Result<Explana
     })
 }
 
-/// The verdict on a log with a small population that shows it, over any set of open UIDs. It is want
-/// of memory alone that keeps it from an answer.
+/// The verdict on a log with a small population that shows it, over any set of open UIDs. It is
+/// want of memory alone that keeps it from an answer.
 pub fn explain_with<S: OpenSet>(alloc: Global, log: &Log) -> Result<Explanation, AllocError>
     ensures { IfOk result (IsExplanation log.now.lines) }
 {

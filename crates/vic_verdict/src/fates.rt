@@ -107,7 +107,8 @@ impl Fates {
         }
     }
 
-    /// The number of the first line at which some slot lacks what it was found to hold, if one does.
+    /// The number of the first line at which some slot lacks what it was found to hold, if one
+    /// does.
     pub fn first_lack(&mut self, steps: &[Step], parts: &Parts) -> Result<Option<u32>, AllocError> {
         let mut first = NEVER;
         for step in steps {

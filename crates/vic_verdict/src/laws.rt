@@ -17,13 +17,16 @@ ghost use Rattle.vic_verdict.specs.declared.verdict.Verdict.TheVariants.{Complet
 
 /// Entries are possible where their open UIDs supply what each slot asks for.
 pub fn possible_entries()
-    ensures { (es : List Entry) → IsPossible es ↔ SuppliesAll (is_open (slots_of es)) (slots_of es) }
+    ensures { (es : List Entry)
+        → IsPossible es ↔ SuppliesAll (is_open (slots_of es)) (slots_of es) }
 {}
 
 /// A UID is possible where it is open, and certain where some slot forces it.
 pub fn possible_and_certain_uids()
-    ensures possible { (es : List Entry) (u : ℕ) → IsPossible es → IsPossibleUid es u ↔ (is_open (slots_of es) u ≡ true) }
-    ensures certain { (es : List Entry) (u : ℕ) → IsPossible es → IsCertainUid es u ↔ IsForcedBy (is_open (slots_of es)) (slots_of es) u }
+    ensures possible { (es : List Entry) (u : ℕ) → IsPossible es
+        → IsPossibleUid es u ↔ (is_open (slots_of es) u ≡ true) }
+    ensures certain { (es : List Entry) (u : ℕ) → IsPossible es
+        → IsCertainUid es u ↔ IsForcedBy (is_open (slots_of es)) (slots_of es) u }
 {}
 
 /// What entries make impossible stays impossible when entries follow.
@@ -33,28 +36,34 @@ pub fn impossible_stays()
 
 /// A population that could have given the entries still could with one possible UID more.
 pub fn one_possible_uid_more()
-    ensures { (es : List Entry) (p : List ℕ) (u : ℕ) → IsPopulation p → CouldHaveGiven p es → IsPossibleUid es u → has p u ≡ false → IsPopulation (u ∷ p) × CouldHaveGiven (u ∷ p) es }
+    ensures { (es : List Entry) (p : List ℕ) (u : ℕ) → IsPopulation p → CouldHaveGiven p es
+        → IsPossibleUid es u → has p u ≡ false → IsPopulation (u ∷ p) × CouldHaveGiven (u ∷ p) es }
 {}
 
 /// Each log has exactly one verdict.
 pub fn exactly_one_verdict()
     ensures some { (lines : List LogLine) → (v : Verdict) × IsVerdict lines v }
-    ensures one { (lines : List LogLine) → IsRisingFrom 0 lines → (v w : Verdict) → IsVerdict lines v → IsVerdict lines w → v ≡ w }
+    ensures one { (lines : List LogLine) → IsRisingFrom 0 lines → (v w : Verdict)
+        → IsVerdict lines v → IsVerdict lines w → v ≡ w }
 {}
 
 /// A mask is unsettled exactly where an unlisted UID is possible.
 pub fn unsettled_where_unlisted_is_possible()
-    ensures { (es : List Entry) → ((m : BitMask) × IsUnsettled es m) ↔ ((u : ℕ) × IsPossibleUid es u × (has (listed es) u ≡ false)) }
+    ensures { (es : List Entry) → ((m : BitMask) × IsUnsettled es m) ↔ ((u : ℕ) × IsPossibleUid es u
+        × (has (listed es) u ≡ false)) }
 {}
 
-/// Where the verdict is `Complete`, the list is whole, and where the list is whole, it is the verdict.
+/// Where the verdict is `Complete`, the list is whole, and where the list is whole, it is the
+/// verdict.
 pub fn complete_is_whole()
-    ensures sound { (lines : List LogLine) (count : ℕ) → IsVerdict lines (Complete count) → IsWhole (entries lines) }
-    ensures exact { (lines : List LogLine) → IsWhole (entries lines) → IsVerdict lines (Complete (length (listed (entries lines)))) }
+    ensures sound { (lines : List LogLine) (count : ℕ) → IsVerdict lines (Complete count)
+        → IsWhole (entries lines) }
+    ensures exact { (lines : List LogLine) → IsWhole (entries lines)
+        → IsVerdict lines (Complete (length (listed (entries lines)))) }
 {}
 
-/// The headline says the same in the words of each version: in those of version 2 on all entries, in those of version 1 on
-/// entries that it knows.
+/// The headline says the same in the words of each version: in those of version 2 on all entries,
+/// in those of version 1 on entries that it knows.
 pub fn one_headline()
     ensures second { (es : List Entry) → IsWhole es ↔ IsWholeSecond es }
     ensures first { (es : List Entry) → AreOfFirstVersion es → IsWholeFirst es ↔ IsWholeSecond es }

@@ -91,7 +91,8 @@ pub fn open_and_met<S: OpenSet>(
     requires order { IsInOrder (entries lines.now) }
     requires valid { AreValid (entries lines.now) }
     ensures { IfOk result (λ r. MatchOption r (IsPossible (entries lines.now) → ⊥)
-        (λ p. IsPossible (entries lines.now) × SameUids (S.is_open p.0) (is_open (slots_of (entries lines.now)))
+        (λ p. IsPossible (entries lines.now)
+        × SameUids (S.is_open p.0) (is_open (slots_of (entries lines.now)))
         × IsMet (entries lines.now) p.1)) }
 {
     if !replies_fit(alloc, lines)? {

@@ -1,5 +1,5 @@
-//! Whether the UIDs that were heard could have answered: each lies in the mask of its slot and isn't
-//! Quiet there. This needs none of the UIDs that a log leaves open.
+//! Whether the UIDs that were heard could have answered: each lies in the mask of its slot and
+//! isn't Quiet there. This needs none of the UIDs that a log leaves open.
 
 ghost use Rattle.std.specs.Prelude.{◌≡◌, ◌≢◌, ℕ, ◌+◌, ◌<◌, true, false, IsTrue, Some, List, IfOk, length, slice_get};
 ghost use Rattle.std.specs.List.{All, list_any};
@@ -27,8 +27,8 @@ pub struct HeardAt {
     pub uid: Uid,
 }
 
-/// Gathers what an entry tells that isn't a field cycle, and says whether the UID that it heard lies
-/// in the mask of its slot.
+/// Gathers what an entry tells that isn't a field cycle, and says whether the UID that it heard
+/// lies in the mask of its slot.
 fn note_reply(
     names: &mut Vec<Name>,
     replies: &mut Vec<HeardAt>,
@@ -87,8 +87,8 @@ fn is_heard_again(replies: &[HeardAt], index: usize) -> bool
     }
 }
 
-/// Whether one of some UIDs is Quiet where it was heard. Whoever is Quiet stays so, so of the replies
-/// of one UID the last one alone is looked at.
+/// Whether one of some UIDs is Quiet where it was heard. Whoever is Quiet stays so, so of the
+/// replies of one UID the last one alone is looked at.
 fn is_any_quiet(names: &[Name], replies: &[HeardAt]) -> bool
     requires { AreInOrder names.now }
     ensures { result ≡ list_any (is_reply_silenced names.now) replies.now }

@@ -28,7 +28,9 @@ pub fn is_among(uids: &[Uid], uid: Uid) -> bool
 pub fn least_failing<F: Fn(Uid) -> bool>(uids: &[Uid], test: F) -> Option<Uid>
     requires rising { IsStrictlyIncreasing uids.now }
     requires callable { F.IsAlwaysCallable test }
-    ensures { (passes : ℕ → Bool) → ((u : ℕ) (b : Bool) → F.post test u b → b ≡ passes u) → MatchOption result (NoSuch (IsFailing uids.now passes)) (IsLeast (IsFailing uids.now passes)) }
+    ensures { (passes : ℕ → Bool) → ((u : ℕ) (b : Bool) → F.post test u b → b ≡ passes u)
+        → MatchOption result (NoSuch (IsFailing uids.now passes))
+        (IsLeast (IsFailing uids.now passes)) }
 {
     for uid in uids {
         if !test(*uid) {

@@ -23,8 +23,10 @@ pub fn note_silenced(
     request: &Request,
     index: usize,
 ) -> Result<(), AllocError>
-    ensures { OnOk result ((es : List EntryValue) (from : ℕ) → slice_get es index ≡ Some (Sent request.now)
-        → TellsQuiet es from index names.old.items → TellsQuiet es from (index + 1) names.new.items) }
+    ensures { OnOk result ((es : List EntryValue) (from : ℕ)
+        → slice_get es index ≡ Some (Sent request.now)
+        → TellsQuiet es from index names.old.items
+        → TellsQuiet es from (index + 1) names.new.items) }
 {
     match *request {
         Request::StayQuiet { uid, .. } => match Uid::new(uid) {
@@ -105,7 +107,8 @@ pub fn silenced_between(
     requires order { AreInOrder names.now }
     requires keys { HaveKeys names.now }
     ensures rising { IfOk result (λ uids. IsStrictlyIncreasing uids.items) }
-    ensures members { IfOk result (λ uids. (u : ℕ) → IsUid u → is_between first last (mirror u) ≡ true
+    ensures members { IfOk result (λ uids. (u : ℕ) → IsUid u
+        → is_between first last (mirror u) ≡ true
         → has uids.items u ≡ is_silenced names.now (mirror u) at) }
 {
     let mut uids = silenced_in_order(alloc, names, first, last, at)?;

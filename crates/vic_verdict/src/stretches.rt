@@ -47,7 +47,10 @@ fn push_spot(
 
 /// Adds a UID with the place after which it is Quiet.
 pub fn push_name(names: &mut Vec<Name>, uid: Uid, quiet: usize) -> Result<(), AllocError>
-    ensures { OnOk result ((names.new.items ≡ names.old.items ++ record { key = mirror uid; quiet = quiet; left = true } ∷ []) × (mirror uid < 2 ^ 56) × IsUid uid) }
+    ensures { OnOk result
+        ((names.new.items ≡ names.old.items
+        ++ record { key = mirror uid; quiet = quiet; left = true } ∷ [])
+        × (mirror uid < 2 ^ 56) × IsUid uid) }
 {
     names.push(Name {
         key: key(uid),
@@ -65,7 +68,10 @@ fn note_sent(
     end: usize,
 ) -> Result<(), AllocError>
     requires { index < end }
-    ensures { OnOk result ((es : List EntryValue) (set : ℕ → Bool) (ss : List SpotValue) → slice_get es index ≡ Some (Sent request.now) → IsStretch es index end set names.old.items ss → IsStretch es (index + 1) end set names.new.items ss) }
+    ensures { OnOk result ((es : List EntryValue) (set : ℕ → Bool) (ss : List SpotValue)
+        → slice_get es index ≡ Some (Sent request.now)
+        → IsStretch es index end set names.old.items ss
+        → IsStretch es (index + 1) end set names.new.items ss) }
 {
     match *request {
         Request::StayQuiet { uid, .. } => match Uid::new(uid) {
@@ -86,7 +92,10 @@ fn note_entry(
     entry: &Entry,
 ) -> Result<(), AllocError>
     requires { index < end }
-    ensures { OnOk result ((es : List EntryValue) (set : ℕ → Bool) → slice_get es index ≡ Some entry.now → mask.now ≡ mask_at es index → entry.now ≢ FieldCycle → IsStretch es index end set names.old.items spots.old.items → IsStretch es (index + 1) end set names.new.items spots.new.items) }
+    ensures { OnOk result ((es : List EntryValue) (set : ℕ → Bool)
+        → slice_get es index ≡ Some entry.now → mask.now ≡ mask_at es index → entry.now ≢ FieldCycle
+        → IsStretch es index end set names.old.items spots.old.items
+        → IsStretch es (index + 1) end set names.new.items spots.new.items) }
 {
     match *entry {
         Entry::Sent(request) => note_sent(names, &request, index, end),

@@ -65,7 +65,8 @@ impl Level {
     pub fn with(&self, at: usize, heard: Option<u64>) -> Level
         requires { IsLevel self.now }
         ensures level { IsLevel result }
-        ensures leaves { (k q : ℕ) → level_leaves result k q ≡ (level_leaves self.now k q && slot_leaves at heard k q) }
+        ensures leaves { (k q : ℕ)
+            → level_leaves result k q ≡ (level_leaves self.now k q && slot_leaves at heard k q) }
     {
         if heard == self.heard {
             Level {
@@ -137,7 +138,8 @@ fn pass_spot(names: &mut [Name], run: Option<Run>, spot: &Spot) -> Run
     requires level { IfSome run (λ r. IsLevel r.level) }
     ensures order { AreInOrder names.new }
     ensures level { IsLevel result.level }
-    ensures leaves { keep_all (run_leaves (Some result)) names.new ≡ keep_all (λ k q. run_leaves run k q && spot_leaves spot.now k q) names.old }
+    ensures leaves { keep_all (run_leaves (Some result)) names.new
+        ≡ keep_all (λ k q. run_leaves run k q && spot_leaves spot.now k q) names.old }
 {
     if let Some(r) = run {
         if r.first == spot.first && r.last == spot.last {
@@ -179,7 +181,8 @@ fn left_in_order(
 ) -> Result<Vec<Uid>, AllocError>
     requires order { AreInOrder names.now }
     requires keys { HaveKeys names.now }
-    ensures { IfOk result (λ uids. (u : ℕ) → IsUid u → is_between first last (mirror u) ≡ true → has uids.items u ≡ has_left names.now (mirror u)) }
+    ensures { IfOk result (λ uids. (u : ℕ) → IsUid u → is_between first last (mirror u) ≡ true
+        → has uids.items u ≡ has_left names.now (mirror u)) }
 {
     let mut uids = Vec::new(alloc);
     let start = names.partition_point(|name| name.key < first);
@@ -205,7 +208,9 @@ fn left_between(
     requires order { AreInOrder names.now }
     requires keys { HaveKeys names.now }
     ensures rising { IfOk result (λ uids. IsStrictlyIncreasing uids.items) }
-    ensures members { IfOk result (λ uids. (u : ℕ) → IsUid u → is_between first last (mirror u) ≡ true → has uids.items u ≡ has_left names.now (mirror u)) }
+    ensures members { IfOk result (λ uids. (u : ℕ) → IsUid u
+        → is_between first last (mirror u) ≡ true
+        → has uids.items u ≡ has_left names.now (mirror u)) }
 {
     let mut uids = left_in_order(alloc, names, first, last)?;
     put_in_order(&mut uids);
@@ -223,7 +228,8 @@ fn settle_masks<S: OpenSet>(
     requires order { AreInOrder names.now }
     requires keys { HaveKeys names.now }
     requires masks { All HasMask spots.now }
-    ensures { OnOk result (SameUids (S.is_open set.new) (λ u. S.is_open set.old u && all_cover names.now spots.now (mirror u))) }
+    ensures { OnOk result (SameUids (S.is_open set.new)
+        (λ u. S.is_open set.old u && all_cover names.now spots.now (mirror u))) }
 {
     let mut first = 1;
     let mut last = 0;
@@ -238,7 +244,8 @@ fn settle_masks<S: OpenSet>(
     Ok(())
 }
 
-/// Settles what the silent and answered slots of some lines tell, by the UIDs that these lines name.
+/// Settles what the silent and answered slots of some lines tell, by the UIDs that these lines
+/// name.
 pub fn settle_stretch<S: OpenSet>(
     alloc: Global,
     set: &mut S,
@@ -249,7 +256,8 @@ pub fn settle_stretch<S: OpenSet>(
     requires left { are_left names.old.items ≡ true }
     requires masks { All HasMask spots.old.items }
     requires named { all_hear_named names.old.items spots.old.items ≡ true }
-    ensures { OnOk result (SameUids (S.is_open set.new) (λ u. S.is_open set.old u && all_allow names.old.items spots.old.items (mirror u))) }
+    ensures { OnOk result (SameUids (S.is_open set.new)
+        (λ u. S.is_open set.old u && all_allow names.old.items spots.old.items (mirror u))) }
 {
     names.sort_unstable_by_key(|name| name.key);
     spots.sort_unstable();

@@ -45,7 +45,8 @@ fn keys_in_order(alloc: Global, uids: &[Uid]) -> Result<Vec<u64>, AllocError>
 /// Takes the UIDs at some keys out of a set.
 fn take_out<S: OpenSet>(set: &mut S, keys: &[u64]) -> Result<(), AllocError>
     requires { AreKeys keys.now }
-    ensures { OnOk result (SameUids (S.is_open set.new) (without_keys (S.is_open set.old) keys.now)) }
+    ensures { OnOk result (SameUids (S.is_open set.new) (without_keys
+        (S.is_open set.old) keys.now)) }
 {
     for key in keys {
         set.settle(&Mask::of_uid(uid_at(*key)), &[])?;
