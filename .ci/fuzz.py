@@ -8,7 +8,7 @@ import vicinity
 
 LINES = [
     b"T 260100F60A", b"T 060100CD09", b"T 2202A1000000000104E0662A", b"R 0000A1000000000104E06745",
-    b"R 0000B2000000000104E0CF94", b"U E0040100000000A1", b"U E0040100000000B2", b"S", b"C", b"# x", b"",
+    b"R 0000B2000000000104E0CF94", b"U E0040100000000A1", b"U E0040100000000B2", b"S", b"C", b"D", b"F", b"# x", b"",
     b"T 26013700000000000000641B", b"T 06013C0000000000000000069E",
 ]
 
@@ -36,7 +36,7 @@ def main(program, number, logs):
     seen = collections.Counter()
     for _ in range(number):
         if rng.random() < 0.4:
-            lines = [b"vicinity-log 1"] + [rng.choice(LINES) for _ in range(rng.randrange(9))]
+            lines = [b"vicinity-log %d" % rng.randint(1, 2)] + [rng.choice(LINES) for _ in range(rng.randrange(9))]
         else:
             lines = rng.choice(seeds).split(b"\n")
         for _ in range(rng.randrange(4)):
