@@ -1,6 +1,6 @@
 -- UIDs that rise, and the others.
 use Rattle.std.proofs.Common.{◌≡◌, ℕ, zero, suc, ◌-◌, ◌<◌, ◌≤◌, Bool, true, false, cond, List, [], ◌∷◌, length, get_or, Result, Ok, Err, MatchResult, ⊎_elim, refl, sym, ap, ◌∙◌, arith}
-use Rattle.std.specs.Prelude.{◌≢◌, nat_eq, ◌||◌, is_ok}
+use Rattle.std.specs.Prelude.{nat_eq, ◌||◌, is_ok}
 use Rattle.std.proofs.lemmas.Bool.{cases_Bool, cases_lt, cases_eq, ne_eqb, eq-eqb, eqb-true, or_from, or_right}
 use Rattle.std.proofs.lemmas.Grind.{common_steps}
 use Rattle.std.proofs.lemmas.List.Sorted.{searched}

@@ -14,9 +14,9 @@ use Rattle.vic_log.specs.Early.{IsLong, IsJudged, IsEarlyFault, IsEarly}
 use Rattle.vic_log.specs.Lines.{lf, cr, cut, onto, ends_with, all_but_last, without_last, content, lines_of_text}
 use Rattle.vic_log.specs.Log.{LogValue, last_from}
 use Rattle.vic_log.specs.Order.{entries}
-use Rattle.vic_log.specs.Text.{version_of, next_fault, after_line, log_upto, fault_on, IsFirstFault, IsLogOf, Refuses, RefusesLine}
+use Rattle.vic_log.specs.Text.{version_of, next_fault, after_line, log_upto, fault_on, IsFirstFault, IsLogOf, GiveEntries, Refuses, RefusesNext}
 use Rattle.vic_log.proofs.Early.{AgreeBelow, version_agrees, log_agrees, fault_agrees, still_long, too_many, too_long, front_at, last_at, open_part, content_open, Begins, begins, onto_begins}
-use Rattle.vic_log.proofs.Passing.{HasRead, HasRead-step, HasRead-fault, HasRead-empty, HasRead-end, HasRead-above, HasRead-none}
+use Rattle.vic_log.proofs.Passing.{HasRead, HasRead-step, HasRead-entries, HasRead-fault, HasRead-empty, HasRead-end, HasRead-above, HasRead-none}
 use Rattle.vic_log.proofs.Written.{or_parts, cut-line, take_front, index_last, and_true, not_last}
 
 -- ---- lines
@@ -166,6 +166,17 @@ early-end text line log n f j h more =
     (ap (λ x. next_fault log (suc n) x) (content-end line) ∙ h)
     (inl (inl (ends-end line)))
 
+-- the lines without a fault up to one with its LF, which adds to the log
+early-entries : (text line : List ℕ) (log : LogValue) (n : ℕ) → HasCut text log n line → RefusesNext log (suc n) (without_last cr line) Memory → (more : List ℕ) → GiveEntries (lines_of_text (text ++ lf ∷ more)) (suc n)
+early-entries text line log n j h more =
+    let part = line ++ lf ∷ [] in
+    let lines = map content j.parts ++ content part ∷ map content (cut more) in
+    let lines_are : lines_of_text (text ++ lf ∷ more) ≡ lines =
+    ap (map content) (j.cuts (lf ∷ more) ∙ ap (λ xs. j.parts ++ xs) (cut-line line more j.no_lf)) ∙ map-append content j.parts (part ∷ cut more) in
+    subst (λ ls. GiveEntries ls (suc n)) (sym lines_are)
+    (HasRead-entries lines (content part) (map content (cut more)) log n (next_line text line log n j (content part) (map content (cut more)))
+    (subst (λ x. RefusesNext log (suc n) x Memory) (sym (content-end line)) h))
+
 judged_more : (part rest : List ℕ) → IsLong part → IsJudged (part ++ rest)
 judged_more part [] l = subst IsJudged (sym (append-nil part)) (inr l)
 judged_more part (x ∷ rest) l =
@@ -220,13 +231,14 @@ HasJudged-next text line log n m j e h =
     subst (λ (k : ℕ). HasJudged (text ++ lf ∷ []) (after_line log k (without_last cr line)) k []) (sym e)
     (HasJudged-end text line log n j (ap (λ k. next_fault log k (without_last cr line)) (sym e) ∙ h))
 
-pub early-refused : (text line : List ℕ) (log : LogValue) (n m : ℕ) → HasCut text log n line → m ≡ suc n → (fault : LogFault) → RefusesLine (next_fault log m (without_last cr line)) m fault
+pub early-refused : (text line : List ℕ) (log : LogValue) (n m : ℕ) → HasCut text log n line → m ≡ suc n → (fault : LogFault) → RefusesNext log m (without_last cr line) fault
     → (more : List ℕ) → IsEarly fault (text ++ lf ∷ more)
 early-refused text line log n m j e (Line k f) h more =
     let same : k ≡ suc n = h.0 ∙ e in
     subst (λ (i : ℕ). IsEarlyFault (text ++ lf ∷ more) i f) (sym same)
     (early-end text line log n f j (ap (λ i. next_fault log i (without_last cr line)) (sym e) ∙ h.1) more)
-early-refused text line log n m j e Memory h more = tt
+early-refused text line log n m j e Memory h more =
+    (suc n, early-entries text line log n j (subst (λ (i : ℕ). RefusesNext log i (without_last cr line) Memory) e h) more)
 early-refused text line log n m j e Read h more = h
 early-refused text line log n m j e Spent h more = h
 
@@ -281,11 +293,18 @@ end-fault text line log n f j some h =
     subst (λ ls. IsFirstFault ls (suc n) f) (sym (last_line text line log n j some))
     (HasRead-fault lines line [] log n f (next_line text line log n (cut_of text line log n j) line []) h)
 
-pub end-refused : (text line : List ℕ) (log : LogValue) (n m : ℕ) → HasJudged text log n line → 0 < length line → m ≡ suc n → (fault : LogFault) → RefusesLine (next_fault log m line) m fault → Refuses text fault
+end-entries : (text line : List ℕ) (log : LogValue) (n : ℕ) → HasJudged text log n line → 0 < length line → RefusesNext log (suc n) line Memory → GiveEntries (lines_of_text text) (suc n)
+end-entries text line log n j some h =
+    let lines = map content j.parts ++ line ∷ [] in
+    subst (λ ls. GiveEntries ls (suc n)) (sym (last_line text line log n j some))
+    (HasRead-entries lines line [] log n (next_line text line log n (cut_of text line log n j) line []) h)
+
+pub end-refused : (text line : List ℕ) (log : LogValue) (n m : ℕ) → HasJudged text log n line → 0 < length line → m ≡ suc n → (fault : LogFault) → RefusesNext log m line fault → Refuses text fault
 end-refused text line log n m j some e (Line k f) h =
     let same : k ≡ suc n = h.0 ∙ e in
     subst (λ (i : ℕ). IsFirstFault (lines_of_text text) i f) (sym same) (end-fault text line log n f j some (ap (λ i. next_fault log i line) (sym e) ∙ h.1))
-end-refused text line log n m j some e Memory h = tt
+end-refused text line log n m j some e Memory h =
+    (suc n, end-entries text line log n j some (subst (λ (i : ℕ). RefusesNext log i line Memory) e h))
 end-refused text line log n m j some e Read h = h
 end-refused text line log n m j some e Spent h = h
 

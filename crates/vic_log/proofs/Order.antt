@@ -1,11 +1,9 @@
 -- Slots in a round, and entries in order.
-use Rattle.std.proofs.Common.{◌≡◌, ℕ, suc, ◌-◌, ◌<◌, List, true, Option, Some, None, refl, ap, sym, ◌∙◌, ◌++◌, arith}
-use Rattle.std.specs.Prelude.{◌↔◌, if◌then◌else◌, ltb, slice_get}
-use Rattle.std.proofs.lemmas.Bool.{lt-ltb}
-use Rattle.vic_frame.specs.Masks.{BitMask}
+use Rattle.std.proofs.Common.{◌≡◌, ℕ, suc, ◌-◌, ◌<◌, List, Option, Some, None, refl, ap, sym, ◌∙◌, ◌++◌, arith}
+use Rattle.std.specs.Prelude.{◌↔◌, slice_get}
 use Rattle.vic_log.specs.declared.entry.Entry.{Entry}
-use Rattle.vic_frame.specs.Slots.{slot_count, mask_in}
-use Rattle.vic_log.specs.Rounds.{opener, slots_opened, left_since, slots_left, mask_of_slot, mask_since, mask_at, IsInRound}
+use Rattle.vic_frame.specs.Slots.{slot_count}
+use Rattle.vic_log.specs.Rounds.{opener, slots_opened, left_since, slots_left, IsInRound}
 use Rattle.vic_log.specs.Order.{IsInOrder}
 use Rattle.vic_log.specs.declared.entry.Entry.TheVariants.{Sent, Silent, Collision, Heard, Listed, Garbled, FieldCycle}
 use Rattle.vic_log.proofs.Places.{agree_append, agree_upto, opener_agrees, opener_below}

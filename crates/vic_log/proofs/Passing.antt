@@ -1,6 +1,6 @@
 -- A text read line by line.
 use Rattle.std.proofs.Common.{◌≡◌, ℕ, zero, suc, ◌+◌, ◌<◌, ◌≤◌, Bool, true, false, Option, Some, None, Result, Ok, Err, List, [], ◌∷◌, ◌++◌, length, drop, refl, sym, ap, subst, ◌∙◌, arith, ⊎_elim, append-nil}
-use Rattle.std.specs.Prelude.{slice_get, nat_lt, if◌then◌else◌, ◌==◌}
+use Rattle.std.specs.Prelude.{◌≢◌, slice_get, nat_lt, if◌then◌else◌, ◌==◌}
 use Rattle.std.proofs.lemmas.Bool.{cases_eq, cases_lt, ltb-false, ne_eqb}
 use Rattle.std.proofs.lemmas.Option.{slice_get_past}
 use Rattle.vic_log.specs.declared.entry.Entry.{Entry}
@@ -14,7 +14,7 @@ use Rattle.vic_log.specs.Order.{entries}
 use Rattle.vic_log.specs.declared.entry.Version.{Version}
 use Rattle.vic_log.specs.Log.{LogValue, last_from}
 use Rattle.vic_log.specs.LineReading.{line_reading}
-use Rattle.vic_log.specs.Text.{named_version, version_of, line_fault, next_fault, after_line, entry_line, logged, log_upto, fault_on, IsFirstFault, IsLogOf, Refuses, RefusesLine}
+use Rattle.vic_log.specs.Text.{named_version, version_of, line_fault, next_fault, after_line, entry_line, logged, log_upto, fault_on, IsFirstFault, IsLogOf, GiveEntries, Refuses, RefusesNext}
 use Rattle.vic_log.proofs.Push.{last_from-push}
 
 -- the first n lines have no fault, their log is this, and the other lines are the rest
@@ -103,6 +103,16 @@ HasRead-step lines line rest log n r h =
       limit = in_limit log.version (entries log.lines) (suc n) line h;
     }
 
+more_than_none : {A : Type 0} (xs ys : List A) → ys ≢ [] → xs ++ ys ≢ []
+more_than_none [] ys h = h
+more_than_none (x ∷ xs) ys h = λ e. cc
+
+-- a line without a fault that adds to the log
+pub HasRead-entries : (lines : List (List ℕ)) (line : List ℕ) (rest : List (List ℕ)) (log : LogValue) (n : ℕ) → HasRead lines (line ∷ rest) log n → RefusesNext log (suc n) line Memory → GiveEntries lines (suc n)
+HasRead-entries lines line rest log n r h =
+    let next = HasRead-step lines line rest log n r h.0 in
+    record { no_fault = next.clean; some = λ none. more_than_none log.lines (logged log.version (suc n) (Some line)) h.1 (next.log_is ∙ none) }
+
 -- a line with a fault
 pub HasRead-fault : (lines : List (List ℕ)) (line : List ℕ) (rest : List (List ℕ)) (log : LogValue) (n : ℕ) (f : LineFault) → HasRead lines (line ∷ rest) log n → next_fault log (suc n) line ≡ Some f → IsFirstFault lines (suc n) f
 HasRead-fault lines line rest log n f r h = record {
@@ -174,11 +184,11 @@ pub HasRead-next : (lines : List (List ℕ)) (line : List ℕ) (rest : List (Lis
 HasRead-next lines line rest log n m r e h =
     subst (λ k. HasRead lines rest (after_line log k line) k) (sym e) (HasRead-step lines line rest log n r (ap (λ k. next_fault log k line) (sym e) ∙ h))
 
-pub HasRead-refuses : (text : List ℕ) (line : List ℕ) (rest : List (List ℕ)) (log : LogValue) (n m : ℕ) → HasRead (lines_of_text text) (line ∷ rest) log n → m ≡ suc n → (fault : LogFault) → RefusesLine (next_fault log m line) m fault → Refuses text fault
+pub HasRead-refuses : (text : List ℕ) (line : List ℕ) (rest : List (List ℕ)) (log : LogValue) (n m : ℕ) → HasRead (lines_of_text text) (line ∷ rest) log n → m ≡ suc n → (fault : LogFault) → RefusesNext log m line fault → Refuses text fault
 HasRead-refuses text line rest log n m r e (Line k f) h =
     let lines = lines_of_text text in
     let same : k ≡ suc n = h.0 ∙ e in
     subst (λ (j : ℕ). IsFirstFault lines j f) (sym same) (HasRead-fault lines line rest log n f r (ap (λ j. next_fault log j line) (sym e) ∙ h.1))
-HasRead-refuses text line rest log n m r e Memory h = tt
+HasRead-refuses text line rest log n m r e Memory h = (suc n, HasRead-entries (lines_of_text text) line rest log n r (subst (λ j. RefusesNext log j line Memory) e h))
 HasRead-refuses text line rest log n m r e Read h = h
 HasRead-refuses text line rest log n m r e Spent h = h

@@ -7,7 +7,7 @@ use Rattle.vic_log.specs.declared.fault.LogFault.{LogFault}
 use Rattle.vic_log.specs.declared.fault.LogFault.TheVariants.{Line, Read, Memory, Spent}
 use Rattle.vic_log.specs.Lines.{lf, cr, cut, ends_with, lines_of_text}
 use Rattle.vic_log.specs.Log.{LogValue}
-use Rattle.vic_log.specs.Text.{IsFirstFault, IsLogOf}
+use Rattle.vic_log.specs.Text.{IsFirstFault, IsLogOf, GiveEntries}
 
 -- bytes of one line that are too many whatever follows: more than a line and its CR, or a byte more than a line that
 -- isn't CR
@@ -27,20 +27,21 @@ pub record IsEarlyFault (text : List ℕ) (n : ℕ) (f : LineFault) : Type 0 whe
   pub there : slice_get (cut text) place ≡ Some part
   pub judged : IsJudged part ⊎ (n ≡ MAX_LINES + 1)
 
--- the fault of a line is early; want of memory may come anywhere
+-- the fault of a line is early; want of memory comes behind entries before one
 abbrev pub IsEarly : LogFault → List ℕ → Type 0
 IsEarly (Line n f) text = IsEarlyFault text n f
-IsEarly Memory text = ⊤
+IsEarly Memory text = (n : ℕ) × GiveEntries (lines_of_text text) n
 IsEarly Read text = ⊥
 IsEarly Spent text = ⊥
 
 -- what these bytes give, handed out by a source that has these left: their log, or the first fault, at the end; an
--- early fault before it; and a failed read only where they have no early fault
+-- early fault before it; want of memory for entries before a fault; and a failed read only where they have no early
+-- fault
 abbrev pub ReadsAs : Option (List ℕ) → List ℕ → Result LogValue LogFault → Type 0
 ReadsAs left text (Ok log) = IsAtEnd left × IsLogOf (lines_of_text text) log
 ReadsAs left text (Err Read) = (n : ℕ) (f : LineFault) → IsEarlyFault text n f → ⊥
 ReadsAs left text (Err (Line n f)) = IsEarlyFault text n f ⊎ (IsAtEnd left × IsFirstFault (lines_of_text text) n f)
-ReadsAs left text (Err Memory) = ⊤
+ReadsAs left text (Err Memory) = (n : ℕ) × GiveEntries (lines_of_text text) n
 ReadsAs left text (Err Spent) = ⊥
 
 -- the log of a whole text, or its first fault, unless the text couldn't be read

@@ -1,5 +1,5 @@
 -- The log of a text, or its first fault.
-use Rattle.std.specs.Prelude.{◌≡◌, ℕ, zero, suc, ◌<◌, ◌==◌, Bool, ◌||◌, nat_lt, ⊤, if◌then◌else◌, Option, Some, None, Result, Ok, Err, List, [], ◌∷◌, ◌++◌, length, slice_get, codes}
+use Rattle.std.specs.Prelude.{◌≡◌, ◌≢◌, ℕ, zero, suc, ◌<◌, ◌≤◌, ◌==◌, Bool, ◌||◌, nat_lt, if◌then◌else◌, Option, Some, None, Result, Ok, Err, List, [], ◌∷◌, ◌++◌, length, slice_get, codes}
 use Rattle.std.specs.Str.{bytes_eq}
 use Rattle.vic_log.specs.declared.entry.TheConstants.{MAX_LINE_LEN, MAX_LINES}
 use Rattle.vic_log.specs.declared.entry.Entry.{Entry}
@@ -96,16 +96,26 @@ after_line log number line = record {
   version = if number == 1 then named_version (Some line) else log.version;
 }
 
--- why a whole text gives no log
+-- the lines 1 to n have no fault, and spell entries
+pub record GiveEntries (lines : List (List ℕ)) (n : ℕ) : Type 0 where
+  pub no_fault : (m : ℕ) → m ≤ n → fault_on lines m ≡ None
+  pub some : log_upto lines n ≢ []
+
+-- why a whole text gives no log: its first fault; or memory is wanting for entries before one
 abbrev pub Refuses : List ℕ → LogFault → Type 0
 Refuses text (Line n f) = IsFirstFault (lines_of_text text) n f
-Refuses text Memory = ⊤
+Refuses text Memory = (n : ℕ) × GiveEntries (lines_of_text text) n
 Refuses text Read = ⊥
 Refuses text Spent = ⊥
 
--- why a line isn't taken
-abbrev pub RefusesLine : Option LineFault → ℕ → LogFault → Type 0
-RefusesLine fault number (Line n f) = (n ≡ number) × (fault ≡ Some f)
-RefusesLine fault number Memory = ⊤
-RefusesLine fault number Read = ⊥
-RefusesLine fault number Spent = ⊥
+-- why a line with this first fault isn't taken: for it, or where it has none and adds to the log, for want of memory
+abbrev pub RefusesLine : Option LineFault → List LogLine → ℕ → LogFault → Type 0
+RefusesLine fault added number (Line n f) = (n ≡ number) × (fault ≡ Some f)
+RefusesLine fault added number Memory = (fault ≡ None) × (added ≢ [])
+RefusesLine fault added number Read = ⊥
+RefusesLine fault added number Spent = ⊥
+
+-- why the line with this number isn't taken behind a log
+abbrev pub RefusesNext : LogValue → ℕ → List ℕ → LogFault → Type 0
+RefusesNext log number line =
+    RefusesLine (next_fault log number line) (logged log.version number (Some line)) number

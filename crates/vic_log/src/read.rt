@@ -1,12 +1,12 @@
 //! A whole text.
 
-ghost use Rattle.std.specs.Prelude.{◌≡◌, ◌<◌, ◌≤◌, [], Some, None, MatchResult, OnOk, if◌then◌else◌};
+ghost use Rattle.std.specs.Prelude.{◌≡◌, ◌<◌, ◌≤◌, [], ◌∷◌, Some, None, MatchResult, OnOk, if◌then◌else◌};
 ghost use Rattle.vic_log.specs.declared.entry.Version.TheVariants.{V1};
 ghost use Rattle.vic_log.specs.FirstVersion.{IsOfFirstVersion};
 ghost use Rattle.vic_log.specs.Lines.{lines_of_text};
 ghost use Rattle.vic_log.specs.Order.{entries};
 ghost use Rattle.vic_log.specs.Log.{last_from, with_line, IsValidEntry};
-ghost use Rattle.vic_log.specs.Text.{IsLogOf, Refuses, RefusesLine, next_fault, after_line, order_fault, is_header, named_version};
+ghost use Rattle.vic_log.specs.Text.{IsLogOf, Refuses, RefusesLine, RefusesNext, next_fault, after_line, order_fault, is_header, named_version};
 
 use crate::entry::{Entry, MAX_LINE_LEN, MAX_LINES, Version};
 use crate::fault::{LineFault, LogFault, PushFault};
@@ -36,7 +36,8 @@ fn take_entry(log: &mut Log, number: u32, entry: Entry) -> Result<(), LogFault>
     requires first_version { log.old.version ≡ V1 → IsOfFirstVersion entry }
     ensures answer { MatchResult result
         (λ _. order_fault (entries log.old.lines) entry ≡ None)
-        (RefusesLine (order_fault (entries log.old.lines) entry) number) }
+        (RefusesLine (order_fault (entries log.old.lines) entry)
+        (record { number = number; item = entry } ∷ []) number) }
     ensures added { OnOk result (log.new ≡ with_line log.old number entry) }
 {
     let fault = match log.push(number, entry) {
@@ -59,7 +60,7 @@ pub(crate) fn take_line(log: &mut Log, number: u32, line: &[u8]) -> Result<(), L
     requires above { 1 < number → last_from 1 log.old.lines < number }
     ensures answer { MatchResult result
         (λ _. next_fault log.old number line.now ≡ None)
-        (RefusesLine (next_fault log.old number line.now) number) }
+        (RefusesNext log.old number line.now) }
     ensures added { OnOk result (log.new ≡ after_line log.old number line.now) }
 {
     let fault = if number > MAX_LINES {

@@ -8,7 +8,7 @@ ghost use Rattle.vic_log.specs.Device.{HandsOut, TellsOn};
 ghost use Rattle.vic_log.specs.Early.{IsLong, IsEarly, ReadsAs};
 ghost use Rattle.vic_log.specs.Lines.{lf, cr, without_last, lines_of_text};
 ghost use Rattle.vic_log.specs.Log.{last_from};
-ghost use Rattle.vic_log.specs.Text.{IsLogOf, Refuses, RefusesLine, next_fault, after_line};
+ghost use Rattle.vic_log.specs.Text.{IsLogOf, Refuses, RefusesNext, next_fault, after_line};
 
 use crate::entry::{MAX_LINE_LEN, MAX_LINES};
 use crate::fault::{LineFault, LogFault};
@@ -80,8 +80,7 @@ fn end_line(log: &mut Log, number: &mut u32, line: &[u8]) -> Result<(), LogFault
     requires limit { number.old ≤ MAX_LINES }
     ensures answer { MatchResult result
         (λ _. next_fault log.old (number.old + 1) (without_last cr line.now) ≡ None)
-        (RefusesLine (next_fault log.old (number.old + 1) (without_last cr line.now))
-        (number.old + 1)) }
+        (RefusesNext log.old (number.old + 1) (without_last cr line.now)) }
     ensures log { OnOk result
         (log.new ≡ after_line log.old (number.old + 1) (without_last cr line.now)) }
     ensures number { OnOk result (number.new ≡ number.old + 1) }

@@ -1,7 +1,7 @@
 use Rattle.std.proofs.Common.{rules, ◌≡◌, ◌<◌, ◌+◌, ℕ, List, length, None, ap, sym, subst, ◌∙◌, arith}
 use Rattle.std.proofs.lemmas.Result.{err_from_is_err_and}
 use Rattle.vic_log.specs.Lines.{lines_of_text}
-use Rattle.vic_log.specs.Text.{IsLogOf, RefusesLine, next_fault, after_line}
+use Rattle.vic_log.specs.Text.{IsLogOf, RefusesNext, next_fault, after_line}
 use Rattle.vic_log.proofs.Judged.{HasJudged-above, HasJudged-none, end-empty, end-lines, end-next, end-refused, none_begun}
 use Rattle.vic_log.proofs.reader.end_text.Goals as goal
 
@@ -23,7 +23,7 @@ returns-in_err-take_line c = λ text j.
     let begun = c.args.begun in
     let line = begun.line.items in
     let p = err_from_is_err_and c.from_residual.result c.from_residual.ensures.1 in
-    let refused = subst (λ (xs : List ℕ). RefusesLine (next_fault begun.log (begun.number + 1) xs) (begun.number + 1) c.in_err-take_line.field-0.0) c.as_slice.ensures.value c.in_err-take_line.ensures.answer in
+    let refused = subst (λ (xs : List ℕ). RefusesNext begun.log (begun.number + 1) xs c.in_err-take_line.field-0.0) c.as_slice.ensures.value c.in_err-take_line.ensures.answer in
     let some : 0 < length line = search rules in
     rw (p.1, p.2) (end-refused text line begun.log begun.number (begun.number + 1) j some (omega arith) c.in_err-take_line.field-0.0 refused)
 

@@ -31,14 +31,14 @@ tells_on (Some as_) (Some bs) xs h = tt
 
 reads_early : (left : Option (List ℕ)) (text : List ℕ) (e : LogFault) → IsEarly e text → ReadsAs left text (Err e)
 reads_early left text (Line n f) h = inl h
-reads_early left text Memory h = tt
+reads_early left text Memory h = h
 reads_early left text Read h = absurd h
 reads_early left text Spent h = h
 
 reads_end : (left : Option (List ℕ)) (text : List ℕ) (r : Result LogValue LogFault) → IsAtEnd left → MatchResult r (IsLogOf (lines_of_text text)) (Refuses text) → ReadsAs left text r
 reads_end left text (Ok log) e h = (e, h)
 reads_end left text (Err (Line n f)) e h = inr (e, h)
-reads_end left text (Err Memory) e h = tt
+reads_end left text (Err Memory) e h = h
 reads_end left text (Err Read) e h = absurd h
 reads_end left text (Err Spent) e h = h
 

@@ -8,7 +8,7 @@ use Rattle.vic_log.specs.Begun.{HasJudged}
 use Rattle.vic_log.specs.Early.{IsEarly, IsEarlyFault, IsLong}
 use Rattle.vic_log.specs.Lines.{lf, cr, without_last}
 use Rattle.vic_log.specs.Log.{LogValue}
-use Rattle.vic_log.specs.Text.{next_fault, after_line, RefusesLine}
+use Rattle.vic_log.specs.Text.{next_fault, after_line, RefusesNext}
 use Rattle.vic_log.proofs.Judged.{HasCut, cut_of, HasCut-more, HasJudged-above, HasJudged-none, HasJudged-next, early-refused, early-long, early-many, none_begun}
 use Rattle.vic_log.proofs.Place.{over}
 use Rattle.vic_log.proofs.reader.take_end.Goals as goal
@@ -21,6 +21,9 @@ with_bytes text line bytes log n j lacks = HasCut-more text line bytes log n (cu
 abbrev ended_fault : LogValue → ℕ → List ℕ → Option LineFault
 ended_fault log n line = next_fault log (n + 1) (without_last cr line)
 
+abbrev RefusesEnded : LogValue → ℕ → List ℕ → LogFault → Type 0
+RefusesEnded log n line = RefusesNext log (n + 1) (without_last cr line)
+
 abbrev after_ended : LogValue → ℕ → List ℕ → LogValue
 after_ended log n line = after_line log (n + 1) (without_last cr line)
 
@@ -30,20 +33,20 @@ ended old new n m text line bytes next j lacks a l k e = rw (l, k, e)
     (subst (λ (xs : List ℕ). HasJudged xs (after_ended old n (line ++ bytes)) (n + 1) []) (append_assoc text bytes (lf ∷ []))
     (HasJudged-next (text ++ bytes) (line ++ bytes) old n (n + 1) (with_bytes text line bytes old n j lacks) (omega arith) a))
 
-refused : (log : LogValue) (n : ℕ) (text line bytes more : List ℕ) (e : LogFault) → HasJudged text log n line → has bytes lf ≡ false → RefusesLine (ended_fault log n (line ++ bytes)) (n + 1) e
+refused : (log : LogValue) (n : ℕ) (text line bytes more : List ℕ) (e : LogFault) → HasJudged text log n line → has bytes lf ≡ false → RefusesEnded log n (line ++ bytes) e
     → IsEarly e (text ++ (bytes ++ lf ∷ more))
 refused log n text line bytes more e j lacks a = subst (IsEarly e) (append_assoc text bytes (lf ∷ more))
     (early-refused (text ++ bytes) (line ++ bytes) log n (n + 1) (with_bytes text line bytes log n j lacks) (omega arith) e a more)
 
 alone_ended : {A : Type 0} (old new : LogValue) (n m : ℕ) (line bytes : List ℕ) (r : Result A LogFault) → line ≡ [] → has bytes lf ≡ false
-    → MatchResult r (λ _. ended_fault old n bytes ≡ None) (RefusesLine (ended_fault old n bytes) (n + 1))
+    → MatchResult r (λ _. ended_fault old n bytes ≡ None) (RefusesEnded old n bytes)
     → OnOk r (new ≡ after_ended old n bytes) → OnOk r (m ≡ n + 1)
     → OnOk r ((text : List ℕ) → HasJudged text old n line → HasJudged (text ++ (bytes ++ lf ∷ [])) new m line)
 alone_ended old new n m line bytes (Ok x) none lacks a l k = λ text j. ended old new n m text [] bytes line (subst (HasJudged text old n) none j) lacks a l k none
 alone_ended old new n m line bytes (Err f) none lacks a l k = tt
 
 alone_refused : {A : Type 0} (log : LogValue) (n : ℕ) (line bytes : List ℕ) (r : Result A LogFault) → line ≡ [] → has bytes lf ≡ false
-    → MatchResult r (λ _. ended_fault log n bytes ≡ None) (RefusesLine (ended_fault log n bytes) (n + 1))
+    → MatchResult r (λ _. ended_fault log n bytes ≡ None) (RefusesEnded log n bytes)
     → IfErr r (λ e. (text more : List ℕ) → HasJudged text log n line → IsEarly e (text ++ (bytes ++ lf ∷ more)))
 alone_refused log n line bytes (Ok x) none lacks a = tt
 alone_refused log n line bytes (Err f) none lacks a = λ text more j. refused log n text [] bytes more f (subst (HasJudged text log n) none j) lacks a
@@ -100,8 +103,8 @@ returns-in_err-end_line-clause-err c =
     let fault = c.in_err-end_line.field-0.0 in
     let p = err_from_is_err_and c.from_residual.result c.from_residual.ensures.1 in
     let line_is : c.as_slice.result.now ≡ begun.line.items ++ c.args.bytes.now = search rules in
-    let a : RefusesLine (ended_fault begun.log begun.number (begun.line.items ++ c.args.bytes.now)) (begun.number + 1) fault =
-    subst (λ (xs : List ℕ). RefusesLine (ended_fault begun.log begun.number xs) (begun.number + 1) fault) line_is c.in_err-end_line.ensures.answer in
+    let a : RefusesEnded begun.log begun.number (begun.line.items ++ c.args.bytes.now) fault =
+    subst (λ (xs : List ℕ). RefusesEnded begun.log begun.number xs fault) line_is c.in_err-end_line.ensures.answer in
     rw (p.1, p.2) (λ text more j. refused begun.log begun.number text begun.line.items c.args.bytes.now more fault j c.requires.no_lf a)
 
 pub returns-clause-ok : goal.returns-clause-ok
