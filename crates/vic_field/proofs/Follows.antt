@@ -6,16 +6,12 @@ use Rattle.vic_frame.specs.Uids.{IsUid, has}
 use Rattle.vic_log.specs.declared.entry.Entry.{Entry}
 use Rattle.vic_log.specs.declared.entry.Entry.TheVariants.{Sent, Silent, Collision, Heard, Listed, Garbled, FieldCycle}
 use Rattle.vic_log.specs.declared.fault.PushFault.TheVariants.{EntryAfterList, DuplicateListed}
-use Rattle.vic_log.specs.declared.entry.LogLine.{LogLine}
 use Rattle.vic_log.specs.Order.{IsInOrder, listed, is_empty, refusal}
 use Rattle.vic_log.specs.Log.{AreTyped}
 use Rattle.vic_log.specs.Populations.{IsPopulation}
 use Rattle.vic_log.specs.Rounds.{is_slot}
 use Rattle.vic_log.proofs.Sets.{has_here, has_there, has_cases}
-use Rattle.vic_field.specs.declared.session.SimFault.{SimFault}
-use Rattle.vic_field.specs.declared.session.SimFault.TheVariants.{OutcomeGiven, TooManyLines, Memory}
-use Rattle.vic_field.specs.Simulation.{without_slots, line_count, last_needed, HasNoSlots, RefusesLines}
-use Rattle.vic_field.specs.Steps.{StopsBefore}
+use Rattle.vic_field.specs.Simulation.{without_slots, line_count}
 
 -- ---- whom entries list
 
@@ -108,9 +104,3 @@ pub line_count-front : (es : List Entry) (n : ℕ) → line_count (take n es) �
 line_count-front es zero = omega arith
 line_count-front [] (suc n) = omega arith
 line_count-front (e ∷ es) (suc n) = let h = line_count-front es n in omega arith
-
--- what stops the next lines refuses all
-pub refuses : (lines : List LogLine) (n : ℕ) (fault : SimFault) → HasNoSlots lines → n ≤ last_needed lines → StopsBefore n fault → RefusesLines lines fault
-refuses lines n (OutcomeGiven line) free le h = absurd h
-refuses lines n TooManyLines free le h = (free, omega arith)
-refuses lines n Memory free le h = free

@@ -1,14 +1,12 @@
 -- Entries on numbered lines.
-use Rattle.std.proofs.Common.{◌≡◌, ℕ, suc, ◌+◌, ◌≤◌, List, [], ◌∷◌, ◌++◌, length, refl, sym, ap, ◌∙◌, arith, append_assoc, append-nil}
+use Rattle.std.proofs.Common.{◌≡◌, ℕ, suc, ◌+◌, List, [], ◌∷◌, ◌++◌, length, refl, sym, ap, ◌∙◌, arith, append_assoc, append-nil}
 use Rattle.std.proofs.lemmas.List.{map-append}
 use Rattle.vic_log.specs.declared.entry.Entry.{Entry}
 use Rattle.vic_log.specs.declared.entry.LogLine.{LogLine}
 use Rattle.vic_log.specs.Log.{LogValue, last_from}
 use Rattle.vic_log.specs.Order.{entries}
 use Rattle.vic_log.specs.Writing.{numbered}
-use Rattle.vic_field.specs.declared.session.SimFault.{SimFault}
-use Rattle.vic_field.specs.declared.session.SimFault.TheVariants.{OutcomeGiven, TooManyLines, Memory}
-use Rattle.vic_field.specs.Steps.{with_entries, StopsBefore}
+use Rattle.vic_field.specs.Steps.{with_entries}
 
 pub entries-append : (ls ms : List LogLine) → entries (ls ++ ms) ≡ entries ls ++ entries ms
 entries-append ls ms = map-append (λ (x : LogLine). x.item) ls ms
@@ -50,12 +48,6 @@ with-append log es fs =
     ap (λ (ls : List LogLine). record { lines = ls; version = log.version })
     (append_assoc log.lines (numbered (suc n) es) (numbered (suc (last_from 1 (with_entries log es).lines)) fs)
     ∙ ap (λ (ms : List LogLine). log.lines ++ ms) (ap (λ (m : ℕ). numbered (suc n) es ++ numbered m fs) at ∙ sym (numbered-append (suc n) es fs)))
-
--- what stops lines stops more
-pub stops_more : (n m : ℕ) (fault : SimFault) → n ≤ m → StopsBefore n fault → StopsBefore m fault
-stops_more n m (OutcomeGiven line) le h = h
-stops_more n m TooManyLines le h = omega arith
-stops_more n m Memory le h = tt
 
 -- ---- lines from 2 on
 

@@ -1,11 +1,12 @@
 -- What the simulation of a log gives: its entries, with a line for each slot.
-use Rattle.std.specs.Prelude.{◌≡◌, ℕ, suc, ◌+◌, ◌<◌, true, false, not, Some, List, [], ◌∷◌, ⊤, length, slice_get}
+use Rattle.std.specs.Prelude.{◌≡◌, ℕ, suc, ◌+◌, ◌<◌, ◌≤◌, true, false, not, Some, List, [], ◌∷◌, ⊤, length, slice_get}
 use Rattle.std.specs.List.{filter}
 use Rattle.vic_frame.specs.declared.request.Request.{Request}
 use Rattle.vic_frame.specs.Slots.{slot_count}
 use Rattle.vic_log.specs.declared.entry.Entry.{Entry}
 use Rattle.vic_log.specs.declared.entry.Entry.TheVariants.{Sent, Heard, Garbled}
 use Rattle.vic_log.specs.declared.entry.LogLine.{LogLine}
+use Rattle.vic_log.specs.declared.entry.TheConstants.{MAX_LINES}
 use Rattle.vic_log.specs.Order.{entries, listed}
 use Rattle.vic_log.specs.Populations.{IsPopulation, CouldHaveGiven}
 use Rattle.vic_log.specs.Rounds.{is_slot, slots_opened}
@@ -65,8 +66,9 @@ pub record IsFirstSlot (lines : List LogLine) (n : ℕ) : Type 0 where
   pub tells : is_slot line.item ≡ true
   pub first : HasNoSlotsBefore place lines
 
--- why lines aren't simulated: a slot line is there; else a line above 1,000,000 would be needed, or memory is wanting
+-- why lines aren't simulated: a slot line is there; else more lines would be needed than a log may have; else memory is
+-- wanting
 abbrev pub RefusesLines : List LogLine → SimFault → Type 0
 RefusesLines lines (OutcomeGiven n) = IsFirstSlot lines n
-RefusesLines lines TooManyLines = HasNoSlots lines × (1000000 < last_needed lines)
-RefusesLines lines Memory = HasNoSlots lines
+RefusesLines lines TooManyLines = HasNoSlots lines × (MAX_LINES < last_needed lines)
+RefusesLines lines Memory = HasNoSlots lines × (last_needed lines ≤ MAX_LINES)

@@ -1,5 +1,5 @@
 -- The steps of a simulation.
-use Rattle.std.specs.Prelude.{◌≡◌, ℕ, zero, suc, ◌<◌, Bool, not, ◌&&◌, ◌||◌, Some, List, [], ◌∷◌, ◌++◌, ⊤}
+use Rattle.std.specs.Prelude.{◌≡◌, ℕ, zero, suc, Bool, not, ◌&&◌, ◌||◌, Some, List, [], ◌∷◌, ◌++◌}
 use Rattle.vic_frame.specs.declared.request.Request.{Request}
 use Rattle.std.specs.Option.{option_map}
 use Rattle.vic_frame.specs.Slots.{slot_count, mask_in}
@@ -10,8 +10,6 @@ use Rattle.vic_log.specs.Log.{LogValue, last_from}
 use Rattle.vic_log.specs.Quiet.{silences, wakes}
 use Rattle.vic_field.specs.declared.field.Outcome.{Outcome}
 use Rattle.vic_field.specs.declared.field.Outcome.TheVariants.{Silent, Lone, Several}
-use Rattle.vic_field.specs.declared.session.SimFault.{SimFault}
-use Rattle.vic_field.specs.declared.session.SimFault.TheVariants.{OutcomeGiven, TooManyLines, Memory}
 use Rattle.vic_log.specs.Writing.{numbered}
 use Rattle.vic_field.specs.Tags.{ready_in, readiness, heard}
 
@@ -46,9 +44,3 @@ ready_after e u ready = not (silences (Some e) u) && (wakes (Some e) || ready)
 -- the tags after an entry, where they were others before
 abbrev pub IsAfter : Entry → List (ℕ × Bool) → List (ℕ × Bool) → Type 0
 IsAfter e old new = (u : ℕ) → IsUid u → readiness new u ≡ option_map (ready_after e u) (readiness old u)
-
--- why lines up to the number n aren't added: that is above 1,000,000, or memory is wanting
-abbrev pub StopsBefore : ℕ → SimFault → Type 0
-StopsBefore n (OutcomeGiven line) = ⊥
-StopsBefore n TooManyLines = 1000000 < n
-StopsBefore n Memory = ⊤

@@ -1,9 +1,8 @@
 //! The log of a session with the tags that a log lists.
 
-ghost use Rattle.std.specs.Prelude.{◌≡◌, ◌+◌, ◌<◌, ◌≤◌, ◌++◌, [], ◌∷◌, List, Some, None, IfOk, IfErr, OnOk, MatchOption};
-ghost use Rattle.vic_field.specs.declared.session.SimFault.TheVariants.{Memory as NoRoom};
+ghost use Rattle.std.specs.Prelude.{◌≡◌, ◌+◌, ◌<◌, ◌≤◌, ◌++◌, [], ◌∷◌, List, Some, None, IfOk, IfErr, OnOk, MatchOption, nat_le};
 ghost use Rattle.vic_field.specs.Simulation.{IsSimulation, HasNoSlots, IsFirstSlot, RefusesLines, last_needed};
-ghost use Rattle.vic_field.specs.Steps.{slot_line, slot_lines_to, slot_lines, with_entries, next_line, IsAfter, StopsBefore};
+ghost use Rattle.vic_field.specs.Steps.{slot_line, slot_lines_to, slot_lines, with_entries, next_line, IsAfter};
 ghost use Rattle.vic_field.specs.Tags.{uids};
 ghost use Rattle.vic_frame.specs.Requests.{IsValid};
 ghost use Rattle.vic_frame.specs.Slots.{slot_count};
@@ -13,13 +12,13 @@ ghost use Rattle.vic_log.specs.FirstVersion.{IsOfFirstVersion};
 ghost use Rattle.vic_log.specs.Log.{last_from, IsValidEntry};
 ghost use Rattle.vic_log.specs.Order.{entries, refusal};
 ghost use Rattle.vic_log.specs.Populations.{IsPopulation};
-ghost use Rattle.vic_log.specs.Rounds.{is_slot, slots_opened};
+ghost use Rattle.vic_log.specs.Rounds.{slots_opened};
 
 use crate::field::{Field, Outcome};
 use crate::populate::populate;
 use std::alloc::{AllocError, Global};
 use vic_frame::{Request, Response};
-use vic_log::{Entry, Log, LogLine, PushFault};
+use vic_log::{Entry, Log, LogLine, MAX_LINES, PushFault};
 
 /// Why a log isn't simulated.
 #[derive(Clone, Copy, Debug, PartialEq, Eq)]
@@ -33,7 +32,9 @@ pub enum SimFault {
 }
 
 impl From<AllocError> for SimFault {
-    ghost from_gives = { λ _ e. e ≡ NoRoom };
+    ghost use Rattle.vic_field.specs.declared.session.SimFault.{SimFault};
+
+    ghost from_gives = { λ _ e. e ≡ SimFault.Memory };
 
     fn from(_e: AllocError) -> SimFault {
         SimFault::Memory
@@ -45,17 +46,20 @@ impl From<AllocError> for SimFault {
 /// and so on. A reply has flags 00 and DSFID 00.
 ///
 /// Refused where a slot line is handed in, which is looked for first, and where the lines don't
-/// fit into a log.
+/// fit into a log, which is looked at next. Memory is taken after that.
 pub fn simulate(alloc: Global, log: &Log) -> Result<Log, SimFault>
     ensures simulated { IfOk result (λ filled. IsSimulation log.now.lines filled.lines) }
     ensures version { IfOk result (λ filled. filled.version ≡ log.now.version) }
     ensures no_slots { OnOk result (HasNoSlots log.now.lines) }
-    ensures room { OnOk result (last_needed log.now.lines ≤ 1000000) }
+    ensures room { OnOk result (last_needed log.now.lines ≤ MAX_LINES) }
     ensures refused { IfErr result (RefusesLines log.now.lines) }
 {
     let lines = log.lines();
     if let Some(number) = first_slot(lines) {
         return Err(SimFault::OutcomeGiven(number));
+    }
+    if !fit_filled(lines) {
+        return Err(SimFault::TooManyLines);
     }
     let mut field = populate(alloc, lines)?;
     let mut filled = Log::with_version(alloc, log.version());
@@ -70,20 +74,40 @@ fn first_slot(lines: &[LogLine]) -> Option<u32>
     ensures { MatchOption result (HasNoSlots lines.now) (IsFirstSlot lines.now) }
 {
     for line in lines {
-        if is_slot(&line.item) {
+        if line.item.is_slot() {
             return Some(line.number);
         }
     }
     None
 }
 
-/// Whether an entry tells of a slot.
-fn is_slot(item: &Entry) -> bool
-    ensures { result ≡ is_slot item.now }
+/// Whether the lines fit into a log with all their slots.
+fn fit_filled(lines: &[LogLine]) -> bool
+    ensures { result ≡ nat_le (last_needed lines.now) MAX_LINES }
+{
+    let mut last = 1;
+    for line in lines {
+        last += 1 + slots_opened(&line.item);
+        if last > MAX_LINES {
+            return false;
+        }
+    }
+    true
+}
+
+/// How many slots an entry opens.
+fn slots_opened(item: &Entry) -> u32
+    ensures value { result ≡ slots_opened (Some item.now) }
+    ensures few { result ≤ 16 }
 {
     match *item {
-        Entry::Silent | Entry::Collision | Entry::Heard(_) | Entry::Garbled => true,
-        Entry::Sent(_) | Entry::Listed(_) | Entry::FieldCycle => false,
+        Entry::Sent(request) => u32::from(request.slots()),
+        Entry::Silent
+        | Entry::Collision
+        | Entry::Heard(_)
+        | Entry::Listed(_)
+        | Entry::Garbled
+        | Entry::FieldCycle => 0,
     }
 }
 
@@ -92,14 +116,13 @@ fn play_entry(filled: &mut Log, field: &mut Field, item: &Entry) -> Result<(), S
     requires follows { refusal (entries filled.old.lines) item.now ≡ None }
     requires valid { IsValidEntry item.now }
     requires first_version { filled.old.version ≡ V1 → IsOfFirstVersion item.now }
+    requires room { next_line filled.old + slots_opened (Some item.now) ≤ MAX_LINES }
     ensures added { OnOk result
         (filled.new ≡ with_entries filled.old (item.now ∷ slot_lines field.new item.now)) }
     ensures tags { OnOk result (IsAfter item.now field.old field.new) }
     ensures population { OnOk result
         (0 < slots_opened (Some item.now) → IsPopulation (uids field.new)) }
-    ensures room { OnOk result (next_line filled.old + slots_opened (Some item.now) ≤ 1000000) }
-    ensures refused { IfErr result
-        (StopsBefore (next_line filled.old + slots_opened (Some item.now))) }
+    ensures memory { IfErr result (λ e. e ≡ SimFault.Memory) }
 {
     push_next(filled, *item)?;
     match *item {
@@ -121,14 +144,12 @@ fn push_slots(filled: &mut Log, field: &Field, request: &Request) -> Result<(), 
     requires sent { (es : List Entry)
         × (entries filled.old.lines ≡ es ++ Entry.Sent request.now ∷ []) }
     requires valid { IsValid request.now }
-    requires limit { last_from 1 filled.old.lines ≤ 1000000 }
+    requires room { last_from 1 filled.old.lines + slot_count request.now ≤ MAX_LINES }
     ensures added { OnOk result (filled.new
         ≡ with_entries filled.old (slot_lines_to field.now request.now (slot_count request.now))) }
     ensures population { OnOk result
         (0 < slot_count request.now → IsPopulation (uids field.now)) }
-    ensures room { OnOk result (last_from 1 filled.old.lines + slot_count request.now ≤ 1000000) }
-    ensures refused { IfErr result
-        (StopsBefore (last_from 1 filled.old.lines + slot_count request.now)) }
+    ensures memory { IfErr result (λ e. e ≡ SimFault.Memory) }
 {
     for k in 0..request.slots() {
         let Some(mask) = request.slot_mask(k) else {
@@ -160,15 +181,11 @@ fn push_next(filled: &mut Log, item: Entry) -> Result<(), SimFault>
     requires follows { refusal (entries filled.old.lines) item ≡ None }
     requires valid { IsValidEntry item }
     requires first_version { filled.old.version ≡ V1 → IsOfFirstVersion item }
+    requires room { next_line filled.old ≤ MAX_LINES }
     ensures added { OnOk result (filled.new ≡ with_entries filled.old (item ∷ [])) }
-    ensures room { OnOk result (last_from 1 filled.old.lines < 1000000) }
-    ensures refused { IfErr result (StopsBefore (next_line filled.old)) }
+    ensures memory { IfErr result (λ e. e ≡ SimFault.Memory) }
 {
-    let number = filled.last_line() + 1;
-    if number > 1_000_000 {
-        return Err(SimFault::TooManyLines);
-    }
-    match filled.push(number, item) {
+    match filled.push(filled.last_line() + 1, item) {
         Ok(()) => Ok(()),
         Err(PushFault::Memory) => Err(SimFault::Memory),
         Err(_) => unreachable!(),

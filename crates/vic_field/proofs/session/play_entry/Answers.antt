@@ -1,12 +1,12 @@
-use Rattle.std.proofs.Common.{◌≡◌, suc, ◌+◌, ◌++◌, [], ◌∷◌, Some, sym, ap, ◌∙◌, arith}
-use Rattle.std.proofs.lemmas.Result.{on_ok_weaker, IfErr-weaker}
+use Rattle.std.proofs.Common.{◌≡◌, suc, ◌++◌, [], ◌∷◌, Some, sym, ap, ◌∙◌, arith}
+use Rattle.std.proofs.lemmas.Result.{on_ok_weaker}
 use Rattle.vic_frame.specs.Slots.{slot_count}
 use Rattle.vic_log.specs.declared.entry.Entry.{Entry}
 use Rattle.vic_log.specs.Log.{last_from, LogValue}
 use Rattle.vic_log.specs.Order.{entries}
 use Rattle.vic_log.specs.Rounds.{slots_opened}
 use Rattle.vic_field.specs.Steps.{slot_lines_to, slot_lines, with_entries}
-use Rattle.vic_field.proofs.Numbering.{entries-with, last_from-with, with-append, stops_more}
+use Rattle.vic_field.proofs.Numbering.{entries-with, last_from-with, with-append}
 use Rattle.vic_field.proofs.session.play_entry.Goals as goal
 
 pub push_slots-requires-clause-sent : goal.push_slots-requires-clause-sent
@@ -21,10 +21,11 @@ push_slots-requires-clause-sent c = (
 last_is : (log now : LogValue) (e : Entry) → now ≡ with_entries log (e ∷ []) → last_from 1 now.lines ≡ suc (last_from 1 log.lines)
 last_is log now e h = ap (λ (v : LogValue). last_from 1 v.lines) h ∙ last_from-with log (e ∷ []) ∙ omega arith
 
-pub push_slots-requires-clause-limit : goal.push_slots-requires-clause-limit
-push_slots-requires-clause-limit c =
+pub push_slots-requires-clause-room : goal.push_slots-requires-clause-room
+push_slots-requires-clause-room c =
     let last = last_is c.args.filled.now c.push_next.new.filled c.args.item.now c.in_ok-push_next.ensures.added in
-    let room = c.in_ok-push_next.ensures.room in
+    let count : slots_opened (Some c.args.item.now) ≡ slot_count c.in-Sent.request = ap (λ (x : Entry). slots_opened (Some x)) c.in-Sent.is in
+    let room = c.requires.room in
     omega arith
 
 pub returns-in-Sent-clause-added : goal.returns-in-Sent-clause-added
@@ -39,17 +40,3 @@ returns-in-Sent-clause-added c =
     ∙ with-append log (item ∷ []) slots
     ∙ ap (λ (x : Entry). with_entries log (item ∷ slot_lines c.send.new.self x)) (sym c.in-Sent.is))
     c.push_slots.ensures.added
-
-pub returns-in-Sent-clause-room : goal.returns-in-Sent-clause-room
-returns-in-Sent-clause-room c =
-    let last = last_is c.args.filled.now c.push_next.new.filled c.args.item.now c.in_ok-push_next.ensures.added in
-    let count : slots_opened (Some c.args.item.now) ≡ slot_count c.in-Sent.request = ap (λ (x : Entry). slots_opened (Some x)) c.in-Sent.is in
-    on_ok_weaker c.push_slots.result (λ h. omega arith) c.push_slots.ensures.room
-
-pub returns-in-Sent-clause-refused : goal.returns-in-Sent-clause-refused
-returns-in-Sent-clause-refused c =
-    let last = last_is c.args.filled.now c.push_next.new.filled c.args.item.now c.in_ok-push_next.ensures.added in
-    let count : slots_opened (Some c.args.item.now) ≡ slot_count c.in-Sent.request = ap (λ (x : Entry). slots_opened (Some x)) c.in-Sent.is in
-    IfErr-weaker c.push_slots.result _ _
-    (λ fault h. stops_more (last_from 1 c.push_next.new.filled.lines + slot_count c.in-Sent.request) (suc (last_from 1 c.args.filled.now.lines) + slots_opened (Some c.args.item.now)) fault (omega arith) h)
-    c.push_slots.ensures.refused

@@ -1,18 +1,18 @@
-use Rattle.std.proofs.Common.{rules, ◌≡◌, ℕ, suc, ◌+◌, ◌<◌, ◌++◌, [], ◌∷◌, List, Bool, sym, ap, ◌∙◌, subst, add-one, arith}
+use Rattle.std.proofs.Common.{◌≡◌, ℕ, ◌+◌, ◌<◌, ◌++◌, [], ◌∷◌, List, Bool, sym, ap, ◌∙◌, subst, add-one, arith}
 use Rattle.vic_frame.specs.declared.request.Request.{Request}
 use Rattle.vic_frame.specs.Slots.{slot_count, mask_in}
 use Rattle.vic_log.specs.declared.entry.Entry.{Entry}
 use Rattle.vic_log.specs.Log.{last_from, LogValue}
 use Rattle.vic_log.specs.Order.{entries}
 use Rattle.vic_frame.specs.Masks.{BitMask}
-use Rattle.vic_field.specs.Steps.{slot_line, slot_lines_to, with_entries, StopsBefore}
+use Rattle.vic_field.specs.Steps.{slot_line, slot_lines_to, with_entries}
 use Rattle.vic_field.specs.Tags.{heard, ready_in}
-use Rattle.vic_field.proofs.Numbering.{entries-with, last_from-with, with_none, with-append, stops_more}
+use Rattle.vic_field.proofs.Numbering.{entries-with, last_from-with, with_none, with-append}
 use Rattle.vic_field.proofs.Rounds.{IsOpen, IsOpen-sent, IsOpen-slots, IsOpen-follows, slot_lines_to-length, slot_line-is_slot}
 use Rattle.vic_field.proofs.session.push_slots.Goals as goal
 
 pub loop-k-init : goal.loop-k-init
-loop-k-init c = record { filled = with_none c.args.filled.now; room = let h = c.requires.limit in omega arith; population = λ h. absurd (omega arith) }
+loop-k-init c = record { filled = with_none c.args.filled.now; population = λ h. absurd (omega arith) }
 
 pub push_next-requires-clause-follows : goal.push_next-requires-clause-follows
 push_next-requires-clause-follows c =
@@ -28,12 +28,12 @@ push_next-requires-clause-follows c =
 last_is : (log now : LogValue) (tags : List (ℕ × Bool)) (q : Request) (k : ℕ) → now ≡ with_entries log (slot_lines_to tags q k) → last_from 1 now.lines ≡ last_from 1 log.lines + k
 last_is log now tags q k e = ap (λ (v : LogValue). last_from 1 v.lines) e ∙ last_from-with log (slot_lines_to tags q k) ∙ ap (λ n. last_from 1 log.lines + n) (slot_lines_to-length tags q k)
 
-pub returns-in_err-push_next-clause-refused : goal.returns-in_err-push_next-clause-refused
-returns-in_err-push_next-clause-refused c =
+pub push_next-requires-clause-room : goal.push_next-requires-clause-room
+push_next-requires-clause-room c =
     let last = last_is c.args.filled.now c.loop-k.filled c.args.field.now c.args.request.now c.loop-k.k c.loop-k.invariant.filled in
     let more : c.loop-k.k < slot_count c.args.request.now = let e = c.slots-k-end.ensures in let b = c.loop-k-test.true in omega arith in
-    let h : StopsBefore (last_from 1 c.args.filled.now.lines + slot_count c.args.request.now) c.in_err-push_next.field-0.0 = stops_more (suc (last_from 1 c.loop-k.filled.lines)) (last_from 1 c.args.filled.now.lines + slot_count c.args.request.now) c.in_err-push_next.field-0.0 (omega arith) c.in_err-push_next.ensures.refused in
-    search rules
+    let room = c.requires.room in
+    omega arith
 
 pub loop-k-preserved : goal.loop-k-preserved
 loop-k-preserved c =
@@ -41,8 +41,6 @@ loop-k-preserved c =
     let q = c.args.request.now in
     let tags = c.args.field.now in
     let k = c.loop-k.k in
-    let last = last_is log c.loop-k.filled tags q k c.loop-k.invariant.filled in
-    let room = c.in_ok-push_next.ensures.room in
     let mask : c.in-Some.mask ≡ mask_in q k = (c.in-Some.ensures.mask).1 in
     let line : c.slot_line.result ≡ slot_line (heard (ready_in (mask_in q k) tags)) = c.slot_line.ensures ∙ ap slot_line (c.answer.ensures.heard ∙ ap (λ (m : BitMask). heard (ready_in m tags)) mask) in
     rw add-one record {
@@ -51,6 +49,5 @@ loop-k-preserved c =
           ∙ ap (λ (e : Entry). with_entries c.loop-k.filled (e ∷ [])) line
           ∙ ap (λ (v : LogValue). with_entries v (slot_line (heard (ready_in (mask_in q k) tags)) ∷ [])) c.loop-k.invariant.filled
           ∙ with-append log (slot_lines_to tags q k) (slot_line (heard (ready_in (mask_in q k) tags)) ∷ []);
-      room = omega arith;
       population = λ h. c.answer.ensures.population;
     }

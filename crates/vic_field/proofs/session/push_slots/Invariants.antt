@@ -1,5 +1,4 @@
-use Rattle.std.proofs.Common.{◌≡◌, ◌+◌, ◌<◌, ◌≤◌}
-use Rattle.vic_log.specs.Log.{last_from}
+use Rattle.std.proofs.Common.{◌≡◌, ◌<◌}
 use Rattle.vic_log.specs.Populations.{IsPopulation}
 use Rattle.vic_field.specs.Steps.{slot_lines_to, with_entries}
 use Rattle.vic_field.specs.Tags.{uids}
@@ -8,6 +7,5 @@ use Rattle.vic_field.proofs.session.push_slots.Given as goal
 abbrev pub invariant-loop-k : goal.invariant-loop-k
 invariant-loop-k l = record {
   filled : l.filled ≡ with_entries l.fn.filled (slot_lines_to l.field l.request l.k);
-  room : last_from 1 l.fn.filled.lines + l.k ≤ 1000000;
   population : 0 < l.k → IsPopulation (uids l.field);
 }

@@ -1,15 +1,15 @@
-use Rattle.std.proofs.Common.{rules, ◌≡◌, suc, ◌+◌, ◌≤◌, ◌++◌, [], ◌∷◌, Some, length, take, refl, sym, ap, ◌∙◌, subst, arith, add-one}
-use Rattle.std.specs.Prelude.{slice_get}
+use Rattle.std.proofs.Common.{◌≡◌, ℕ, true, suc, ◌≤◌, ◌++◌, [], ◌∷◌, Some, length, take, refl, sym, ap, ◌∙◌, subst, arith, add-one}
+use Rattle.std.specs.Prelude.{slice_get, nat_le}
+use Rattle.std.proofs.lemmas.Bool.Decides.{nat_tests}
 use Rattle.std.proofs.lemmas.List.{take_all}
 use Rattle.std.proofs.lemmas.Option.{slice_get_read}
 use Rattle.vic_log.specs.declared.entry.Entry.{Entry}
-use Rattle.vic_log.specs.Log.{last_from}
+use Rattle.vic_log.specs.declared.entry.TheConstants.{MAX_LINES}
 use Rattle.vic_log.specs.Order.{entries, listed}
 use Rattle.vic_log.specs.Populations.{IsPopulation}
-use Rattle.vic_log.specs.Rounds.{slots_opened}
-use Rattle.vic_field.specs.Simulation.{line_count, RefusesLines, IsSimulation}
+use Rattle.vic_field.specs.Simulation.{line_count, last_needed, IsSimulation}
 use Rattle.vic_field.specs.Steps.{slot_lines, with_entries}
-use Rattle.vic_field.proofs.Follows.{follows, refuses, listed_population, line_count-front}
+use Rattle.vic_field.proofs.Follows.{follows, listed_population, line_count-front}
 use Rattle.vic_field.proofs.Listing.{entries_next, entries_take, entry_at, valid_entry}
 use Rattle.vic_field.proofs.Numbering.{entries-with, last_is, numbers_next}
 use Rattle.vic_field.proofs.Played.{IsPlayed, IsPlayed-start, IsPlayed-next, line_count-next}
@@ -20,7 +20,6 @@ loop-line-init c =
     rw c.with_version-filled.ensures record {
       version = c.version.ensures;
       numbers = refl;
-      room = omega arith;
       played = IsPlayed-start (listed (entries c.lines-lines.result.now)) c.in_ok-field.field c.in_ok-field.ensures;
     }
 
@@ -61,22 +60,20 @@ loop-line-preserved c =
     let at : slice_get lines i ≡ Some l = slice_get_read lines (length lines) i l refl c.loop-line-test.true c.line-item.is in
     let added : c.play_entry.new.filled ≡ with_entries log more = c.in_ok-play_entry.ensures.added in
     let next : entries (take (suc i) lines) ≡ entries (take i lines) ++ l.item ∷ [] = entries_next lines i l at in
-    let last = last_is log.lines h.numbers in
-    let lined = h.played.count in
-    let counted = line_count-next (entries (take i lines)) l.item in
-    let room = c.in_ok-play_entry.ensures.room in
     let pop : IsPopulation (listed (entries lines)) = listed_population (entries lines) c.lines-lines.ensures.log.order c.lines-lines.ensures.log.typed in
     rw (add-one, added, next) record {
       version = h.version;
       numbers = numbers_next log more h.numbers;
-      room = omega arith;
       played = subst (λ es. IsPlayed (listed (entries lines)) (entries (take i lines) ++ l.item ∷ []) es c.play_entry.new.field) (sym (entries-with log more))
           (IsPlayed-next (listed (entries lines)) (entries (take i lines)) (entries log.lines) c.loop-line.field c.play_entry.new.field l.item pop
           (c.in_default.ensures i l c.loop-line-test.true at) c.in_ok-play_entry.ensures.population c.in_ok-play_entry.ensures.tags h.played);
     }
 
-pub returns-in_err-play_entry-clause-refused : goal.returns-in_err-play_entry-clause-refused
-returns-in_err-play_entry-clause-refused c =
+fitting : (a b : ℕ) → nat_le a b ≡ true → a ≤ b
+fitting a b h = grind (arith, nat_tests)
+
+pub play_entry-requires-clause-room : goal.play_entry-requires-clause-room
+play_entry-requires-clause-room c =
     let lines = c.lines-lines.result.now in
     let i = c.loop-line.line-index in
     let l = c.line-item.result in
@@ -85,9 +82,8 @@ returns-in_err-play_entry-clause-refused c =
     let at : slice_get lines i ≡ Some l = slice_get_read lines (length lines) i l refl c.loop-line-test.true c.line-item.is in
     let counted = line_count-next (entries (take i lines)) l.item in
     let front : line_count (entries (take i lines) ++ l.item ∷ []) ≤ line_count (entries lines) = subst (λ es. line_count es ≤ line_count (entries lines)) (sym (entries_take lines (suc i)) ∙ entries_next lines i l at) (line_count-front (entries lines) (suc i)) in
-    let h : RefusesLines c.args.log.now.lines c.in_err-play_entry.field-0.0 = subst (λ ls. RefusesLines ls c.in_err-play_entry.field-0.0) c.lines-lines.ensures.value
-    (refuses lines (suc (last_from 1 c.loop-line.filled.lines) + slots_opened (Some l.item)) c.in_err-play_entry.field-0.0 c.in_default.ensures (omega arith) c.in_err-play_entry.ensures.refused) in
-    search rules
+    let room : last_needed lines ≤ MAX_LINES = fitting (last_needed lines) MAX_LINES (sym c.fit_filled.ensures ∙ c.if-not-fit_filled.false) in
+    omega arith
 
 pub returns-clause-simulated : goal.returns-clause-simulated
 returns-clause-simulated c =

@@ -1,6 +1,5 @@
-use Rattle.std.proofs.Common.{◌≡◌, suc, ◌≤◌, take}
+use Rattle.std.proofs.Common.{◌≡◌, take}
 use Rattle.vic_log.specs.Order.{entries, listed}
-use Rattle.vic_field.specs.Simulation.{line_count}
 use Rattle.vic_log.specs.Writing.{numbered}
 use Rattle.vic_field.proofs.Played.{IsPlayed}
 use Rattle.vic_field.proofs.session.simulate.Given as goal
@@ -9,6 +8,5 @@ abbrev pub invariant-loop-line : goal.invariant-loop-line
 invariant-loop-line l = record {
   version : l.filled.version ≡ l.fn.log.version;
   numbers : l.filled.lines ≡ numbered 2 (entries l.filled.lines);
-  room : suc (line_count (entries (take l.line-index l.lines))) ≤ 1000000;
   played : IsPlayed (listed (entries l.lines)) (entries (take l.line-index l.lines)) (entries l.filled.lines) l.field;
 }

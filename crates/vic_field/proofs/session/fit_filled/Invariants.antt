@@ -1,0 +1,11 @@
+use Rattle.std.proofs.Common.{◌≡◌, ◌≤◌, suc, take}
+use Rattle.vic_log.specs.declared.entry.TheConstants.{MAX_LINES}
+use Rattle.vic_log.specs.Order.{entries}
+use Rattle.vic_field.specs.Simulation.{line_count}
+use Rattle.vic_field.proofs.session.fit_filled.Given as goal
+
+abbrev pub invariant-loop-line : goal.invariant-loop-line
+invariant-loop-line l = record {
+  last : l.last ≡ suc (line_count (entries (take l.line-index l.lines)));
+  room : l.last ≤ MAX_LINES;
+}
