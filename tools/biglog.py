@@ -182,6 +182,15 @@ def nest_coll(random_, size):
 
 
 @shape
+def nest_quiet(random_, size):
+    """Version 2. SIZE Stay Quiet of the first UIDs of all nested masks of 36 to 0 zeros; in each a collision and a garbled slot."""
+    yield from (silence(0xE0 << BITS | int(format(place, "020b")[::-1], 2) << 36) for place in range(size))
+    for length in range(37):
+        yield from (ask((length, 0)), "C", ask((length, 0)), "D")
+    yield from (ask((BITS, 1)), "C")
+
+
+@shape
 def coll_masks(random_, size):
     """SIZE Stay Quiet, then SIZE collisions of random masks of at most 16 bits."""
     yield from map(silence, new_tags(random_, size))
@@ -301,7 +310,7 @@ def main():
         listing = ["    %-16s %s\n" % (name, function.__doc__) for name, function in SHAPES.items()]
         sys.exit(__doc__ + "\n" + "".join(listing))
     lines = SHAPES[words[0]](random.Random(int((words + [1])[2])), int(words[1]))
-    version = 2 if words[0].endswith("cycles") else 1
+    version = 2 if SHAPES[words[0]].__doc__.startswith("Version 2") else 1
     sys.stdout.write("vicinity-log %d\n" % version)
     sys.stdout.writelines(line + "\n" for line in lines)
     if "--refused" in sys.argv:

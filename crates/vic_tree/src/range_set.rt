@@ -8,7 +8,7 @@ ghost use Rattle.vic_frame.specs.LowBitsFirst.{mirror};
 ghost use Rattle.vic_tree.specs.OpenSet.{SameUids, settled};
 ghost use Rattle.vic_tree.specs.Ranges.{AreRanges, is_between, is_open_in};
 
-use crate::blocks::widest_of;
+use crate::gaps::{gather_besides, widest_besides};
 use crate::gather_keys::gather_ranges;
 use crate::open_set::OpenSet;
 use crate::ranges::{is_in, take_out_others};
@@ -76,7 +76,25 @@ impl OpenSet for RangeSet {
     }
 
     fn widest(&self) -> Option<Mask> {
-        widest_of(&self.ranges)
+        widest_besides(&self.ranges, &[])
+    }
+
+    fn up_to_three_besides(
+        &self,
+        _alloc: Global,
+        mask: &Mask,
+        keys: &[u64],
+    ) -> Result<ArrayVec<Uid, 3>, AllocError> {
+        let mut found = ArrayVec::new();
+        if let Some(mask) = without_top_byte(mask) {
+            let (first, last) = key_range(&mask);
+            gather_besides(&mut found, keys, &self.ranges, first, last);
+        }
+        Ok(found)
+    }
+
+    fn widest_besides(self, keys: &[u64]) -> Result<Option<Mask>, AllocError> {
+        Ok(widest_besides(&self.ranges, keys))
     }
 }
 

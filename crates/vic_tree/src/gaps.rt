@@ -1,0 +1,127 @@
+//! Ranges of keys without some keys: what is gathered from them, and their widest mask.
+//!
+//! Both the ranges and the keys come in order, and are gone over side by side, once.
+
+ghost use Rattle.std.specs.Prelude.{◌≡◌, ℕ, ◌+◌, ◌^◌, ◌<◌, ◌≤◌, Bool, false, IfSome, IfNone, length, get_or};
+ghost use Rattle.std.specs.List.Sorted.{IsNonDecreasing};
+ghost use Rattle.vic_tree.specs.Gathering.{Gathers};
+ghost use Rattle.vic_tree.specs.OpenSet.{IsWidest, SameUids, has_key, without_keys};
+ghost use Rattle.vic_tree.specs.Ranges.{AreRanges, IsFoundBelow, IsFreeBetween, IsFreeInRanges, PassBesides, is_open_in};
+
+use crate::blocks::widest_with;
+use crate::gather_keys::{first_meeting, gather_keys};
+use arrayvec::ArrayVec;
+use std::collections::BTreeMap;
+use vic_frame::{Mask, Uid};
+
+/// Appends the UIDs at the keys from `first` to `last` that are in some ranges and not in a list.
+pub fn gather_besides(
+    out: &mut ArrayVec<Uid, 3>,
+    keys: &[u64],
+    ranges: &BTreeMap<u64, u64>,
+    first: u64,
+    last: u64,
+)
+    requires order { IsNonDecreasing keys.now }
+    requires ranges { AreRanges ranges.now.entries }
+    requires forward { first ≤ last }
+    requires small { last < 2 ^ 56 }
+    ensures { Gathers (IsFreeInRanges ranges.now.entries first last (has_key keys.now))
+        out.old.items out.new.items }
+{
+    let start = first_meeting(ranges, first);
+    let mut next = 0;
+    for (from, to) in ranges.range(start..=last) {
+        if out.is_full() {
+            return;
+        }
+        next = gather_gaps(out, keys, next, (*from).max(first), (*to).min(last));
+    }
+}
+
+/// Appends the UIDs at the keys from `first` to `last` that aren't in a list, of which those before
+/// index `start` are lower. How many are no greater than `last`.
+fn gather_gaps(
+    out: &mut ArrayVec<Uid, 3>,
+    keys: &[u64],
+    start: usize,
+    first: u64,
+    last: u64,
+) -> usize
+    requires order { IsNonDecreasing keys.now }
+    requires start { start ≤ length keys.now }
+    requires lower { (i : ℕ) → i < start → get_or keys.now i 0 < first }
+    requires small { last < 2 ^ 56 }
+    ensures gathers { Gathers (IsFreeBetween first last (has_key keys.now))
+        out.old.items out.new.items }
+    ensures count { result ≤ length keys.now }
+    ensures passed { (i : ℕ) → start ≤ i → i < result → get_or keys.now i 0 ≤ last }
+{
+    let mut from = first;
+    let mut next = start;
+    while next < keys.len() && keys[next] <= last {
+        let key = keys[next];
+        if from < key {
+            gather_keys(out, &[], from, key - 1);
+        }
+        from = from.max(key + 1);
+        next += 1;
+    }
+    if from <= last {
+        gather_keys(out, &[], from, last);
+    }
+    next
+}
+
+/// The widest mask in some ranges without the keys of a list.
+pub fn widest_besides(ranges: &BTreeMap<u64, u64>, keys: &[u64]) -> Option<Mask>
+    requires order { IsNonDecreasing keys.now }
+    requires ranges { AreRanges ranges.now.entries }
+    ensures found { IfSome result
+        (IsWidest (without_keys (is_open_in ranges.now.entries) keys.now)) }
+    ensures none { IfNone result
+        (SameUids (without_keys (is_open_in ranges.now.entries) keys.now) (λ _. false)) }
+{
+    let mut widest: Option<Mask> = None;
+    let mut next = 0;
+    for (first, last) in ranges {
+        (widest, next) = widest_in_gaps(widest, keys, next, *first, *last);
+    }
+    widest
+}
+
+/// The widest mask of one that was found before, if any was, and those in a range without the keys
+/// of a list, of which those before index `start` are lower. How many are no greater than `last`.
+fn widest_in_gaps(
+    found: Option<Mask>,
+    keys: &[u64],
+    start: usize,
+    first: u64,
+    last: u64,
+) -> (Option<Mask>, usize)
+    requires order { IsNonDecreasing keys.now }
+    requires start { start ≤ length keys.now }
+    requires lower { (i : ℕ) → i < start → get_or keys.now i 0 < first }
+    requires forward { first ≤ last }
+    requires small { last < 2 ^ 56 }
+    ensures widest { (p : ℕ → Bool) → PassBesides p first last keys.now
+        → IsFoundBelow p first found → IsFoundBelow p (last + 1) result.0 }
+    ensures count { result.1 ≤ length keys.now }
+    ensures passed { (i : ℕ) → i < result.1 → get_or keys.now i 0 ≤ last }
+{
+    let mut widest = found;
+    let mut from = first;
+    let mut next = start;
+    while next < keys.len() && keys[next] <= last {
+        let key = keys[next];
+        if from < key {
+            widest = Some(widest_with(widest, from, key - 1));
+        }
+        from = from.max(key + 1);
+        next += 1;
+    }
+    if from <= last {
+        widest = Some(widest_with(widest, from, last));
+    }
+    (widest, next)
+}
