@@ -1,5 +1,6 @@
 """The library against the program, on changed logs: fuzz.py PROGRAM NUMBER LOG.."""
 import collections
+import ctypes
 import random
 import subprocess
 import sys
@@ -11,6 +12,9 @@ LINES = [
     b"R 0000B2000000000104E0CF94", b"U E0040100000000A1", b"U E0040100000000B2", b"S", b"C", b"D", b"F", b"# x", b"",
     b"T 26013700000000000000641B", b"T 06013C0000000000000000069E",
 ]
+
+# the answers that a population can show
+SHOWN = ("absent", "unlisted", "unsettled", "doubtful")
 
 
 def change(rng, lines):
@@ -30,23 +34,51 @@ def change(rng, lines):
         lines[at] = bytes(line)
 
 
+def changed(rng, seeds):
+    """A log of a few lines, or one of the seeds, with up to three changes."""
+    if rng.random() < 0.4:
+        lines = [b"vicinity-log %d" % rng.randint(1, 2)] + [rng.choice(LINES) for _ in range(rng.randrange(9))]
+    else:
+        lines = rng.choice(seeds).split(b"\n")
+    for _ in range(rng.randrange(4)):
+        change(rng, lines)
+    return b"\n".join(lines)
+
+
+def run(program, command, text):
+    ran = subprocess.run([program, command], input=text, capture_output=True)
+    return ran.stdout.decode(), ran.returncode
+
+
+def explained(text):
+    """What the program would write of the library's explanation, by rooms without a place, with one too few, with as
+    many as are needed, and with more. What stands in a room that isn't written has to stay."""
+    answer, uids = vicinity.explain(text)
+    for places in {0, max(len(uids) - 1, 0), len(uids), len(uids) + 3}:
+        room = (ctypes.c_uint64 * places)(*[7] * places)
+        wanted = uids + [7] * (places - len(uids)) if len(uids) <= places else [7] * places
+        if vicinity.explain_into(text, room) != (answer, len(uids)) or room[:] != wanted:
+            sys.exit(f"differ by room {places}: {text!r}: {answer} {uids}; {room[:]}")
+    written = f"{answer}\n"
+    if answer.kind in SHOWN:
+        written += f"population {len(uids)}\n" + "".join(f"U {uid:016X}\n" for uid in uids)
+    elif uids:
+        sys.exit(f"a population of {answer}: {text!r}: {uids}")
+    return written, answer.status
+
+
 def main(program, number, logs):
     rng = random.Random(7)
     seeds = [open(log, "rb").read() for log in logs]
+    texts = seeds + [changed(rng, seeds) for _ in range(number)]
     seen = collections.Counter()
-    for _ in range(number):
-        if rng.random() < 0.4:
-            lines = [b"vicinity-log %d" % rng.randint(1, 2)] + [rng.choice(LINES) for _ in range(rng.randrange(9))]
-        else:
-            lines = rng.choice(seeds).split(b"\n")
-        for _ in range(rng.randrange(4)):
-            change(rng, lines)
-        text = b"\n".join(lines)
-        ran = subprocess.run([program, "check"], input=text, capture_output=True)
+    for text in texts:
         answer = vicinity.check(text)
         seen[answer.kind] += 1
-        if (ran.stdout.decode(), ran.returncode) != (f"{answer}\n", answer.status):
-            sys.exit(f"differ: {text!r}: {ran.stdout!r}, {ran.returncode}; {answer}")
+        for command, given in (("check", (f"{answer}\n", answer.status)), ("explain", explained(text))):
+            wanted = run(program, command, text)
+            if given != wanted:
+                sys.exit(f"differ in {command}: {text!r}: {wanted}; {given}")
     print(f"{number} changed logs, the same answers: {dict(seen)}")
 
 

@@ -10,3 +10,4 @@ pub mod CompleteRun
 pub mod ExplainText
 pub mod FaultNumbers
 pub mod Numbers
+pub mod ExplainedNumbers

@@ -1,5 +1,5 @@
 -- What the bytes give that a source hands out.
-use Rattle.std.specs.Prelude.{◌≡◌, ◌⊎◌, ℕ, ⊤, List, Option, Result, Ok, Err}
+use Rattle.std.specs.Prelude.{◌⊎◌, ℕ, ⊤, List, Option, Result, Ok, Err}
 use Rattle.std.specs.Io.KnownBytes.{Consumes, IsAtEnd}
 use Rattle.vic_log.specs.Early.{IsEarlyFault}
 use Rattle.vic_log.specs.Lines.{lines_of_text}

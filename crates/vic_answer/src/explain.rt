@@ -1,15 +1,15 @@
 //! The command `explain`.
 
-ghost use Rattle.std.specs.Prelude.{◌≡◌, ◌≤◌, ℕ, List, ◌++◌, IfOk, OnOk};
-ghost use Rattle.arrayvec.specs.ArrayVec.{array_vec_len};
+ghost use Rattle.std.specs.Prelude.{◌≡◌, ℕ, List, ◌++◌, IfOk, OnOk};
+ghost use Rattle.vic_verdict.specs.declared.verdict.Verdict.TheVariants.{Complete};
+ghost use Rattle.vic_answer.specs.CheckText.{IsAnswer, IsCompleteText};
 ghost use Rattle.vic_answer.specs.ExplainText as spec;
-ghost use Rattle.vic_answer.specs.ExplainText.{IsExplained, IsExplanationOf, uid_line, uid_lines};
+ghost use Rattle.vic_answer.specs.ExplainText.{IsExplained, IsExplanationOf, answer_of, uid_line, uid_lines};
 ghost use Rattle.vic_answer.specs.Readings.{IsReading};
 ghost use Rattle.vic_answer.specs.Runs.{Runs, LeavesSource, LeavesSink};
 
-use crate::check::verdict_status;
+use crate::check::{Answer, answer_line, answer_status};
 use crate::input::{Reading, read_source};
-use crate::lines::{refusal_line, verdict_line};
 use crate::output::write_and_flush;
 use crate::status::{RunFault, Status};
 use crate::text::{Text, put, put_bytes};
@@ -17,16 +17,49 @@ use arrayvec::ArrayVec;
 use itoa::Buffer;
 use std::alloc::{AllocError, Global};
 use vic_frame::Uid;
-use vic_log::{LineFault, Sink, Source};
+use vic_log::{LineFault, LogFault, Sink, Source, read_log};
+use vic_verdict::laws::{complete_is_whole, one_headline};
 use vic_verdict::{Explanation, explain};
 
-/// What is answered to a text.
+/// What is answered to a text, with a population that shows it, where one can.
 #[derive(Drop)]
-pub(crate) enum Explained {
+pub enum Explained {
     /// It has a log, and this is the verdict on it with a population that shows it.
     Judged(Explanation),
     /// A line of it has a fault, and this is the first.
     RefusedAt { line: u32, fault: LineFault },
+}
+
+/// The answer to a whole text, with a population that shows it, where one can. It is refused for
+/// want of memory alone.
+pub fn explain_text(alloc: Global, text: &[u8]) -> Result<Explained, AllocError>
+    ensures explained { IfOk result (IsExplained text.now) }
+    ensures answer { IfOk result (λ e. IsAnswer text.now (answer_of e)) }
+    // where it is `complete`, the list of the log is whole and so long
+    ensures whole { IfOk result (λ e. (count : ℕ) → answer_of e ≡ Answer.Judged (Complete count)
+        → IsCompleteText text.now count) }
+{
+    complete_is_whole();
+    one_headline();
+    match read_log(alloc, text) {
+        Ok(log) => Ok(Explained::Judged(explain(alloc, &log)?)),
+        Err(LogFault::Line { line, fault }) => Ok(Explained::RefusedAt { line, fault }),
+        Err(LogFault::Memory) => Err(AllocError),
+        Err(LogFault::Read) | Err(LogFault::Spent) => unreachable!(),
+    }
+}
+
+/// The answer of `check` in it.
+pub fn answer_of(explained: &Explained) -> Answer
+    ensures { result ≡ answer_of explained.now }
+{
+    match explained {
+        Explained::Judged(explanation) => Answer::Judged(explanation.verdict),
+        Explained::RefusedAt { line, fault } => Answer::RefusedAt {
+            line: *line,
+            fault: *fault,
+        },
+    }
 }
 
 /// Judges the log that a source hands out and writes the line of `check`; where a population can
@@ -49,7 +82,7 @@ pub fn run_explain<R: Source, W: Sink>(
     let explained = explain_reading(alloc, reading)?;
     let text = explained_text(alloc, &explained)?;
     write_and_flush(sink, text.as_slice())?;
-    Ok(explained_status(&explained))
+    Ok(answer_status(&answer_of(&explained)))
 }
 
 /// The answer to what was read.
@@ -95,36 +128,16 @@ fn add_uids(text: &mut Vec<u8>, uids: &[Uid]) -> Result<(), AllocError>
     Ok(())
 }
 
-/// The text of an explanation.
-fn explanation_text(alloc: Global, explanation: &Explanation) -> Result<Vec<u8>, AllocError>
-    ensures { IfOk result (λ t. t.items ≡ spec.explanation_text explanation.now) }
-{
-    let mut text = Vec::from_slice(alloc, &verdict_line(&explanation.verdict))?;
-    if let Some(uids) = &explanation.population {
-        text.extend_from_slice(&population_line(uids.len()))?;
-        add_uids(&mut text, uids)?;
-    }
-    Ok(text)
-}
-
 /// The text of an answer.
 fn explained_text(alloc: Global, explained: &Explained) -> Result<Vec<u8>, AllocError>
     ensures { IfOk result (λ t. t.items ≡ spec.explained_text explained.now) }
 {
-    match explained {
-        Explained::Judged(explanation) => explanation_text(alloc, explanation),
-        Explained::RefusedAt { line, fault } => {
-            Vec::from_slice(alloc, &refusal_line(*line, fault))
+    let mut text = Vec::from_slice(alloc, &answer_line(&answer_of(explained)))?;
+    if let Explained::Judged(explanation) = explained {
+        if let Some(uids) = &explanation.population {
+            text.extend_from_slice(&population_line(uids.len()))?;
+            add_uids(&mut text, uids)?;
         }
     }
-}
-
-/// The status of an answer.
-fn explained_status(explained: &Explained) -> Status
-    ensures { result ≡ spec.explained_status explained.now }
-{
-    match explained {
-        Explained::Judged(explanation) => verdict_status(&explanation.verdict),
-        Explained::RefusedAt { .. } => Status::Refused,
-    }
+    Ok(text)
 }

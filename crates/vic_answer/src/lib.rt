@@ -10,15 +10,17 @@ mod input;
 mod lines;
 mod numbers;
 mod output;
+mod population;
 mod simulate;
 mod status;
 mod text;
 
 pub use check::{Answer, answer_line, answer_status, judge_text, run_check};
-pub use explain::run_explain;
+pub use explain::{Explained, answer_of, explain_text, run_explain};
 pub use fault_numbers::{fault_number, frame_fault_number};
 pub use frame::run_frame;
 pub use lines::LINE_ROOM;
 pub use numbers::{Kind, NO_ANSWER, VicinityAnswer, numbers_of};
+pub use population::put_population;
 pub use simulate::run_simulate;
 pub use status::{RunFault, Status, fault_text};

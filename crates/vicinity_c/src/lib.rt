@@ -6,13 +6,16 @@ mod tests;
 
 ghost use Rattle.std.specs.Prelude.{◌≡◌, ◌≢◌};
 ghost use Rattle.vic_answer.specs.CheckText.{IsCompleteText};
+ghost use Rattle.vic_answer.specs.ExplainedNumbers.{AreExplainedNumbersFor};
 ghost use Rattle.vic_answer.specs.Numbers.{AreNumbersFor, no_answer};
 
 use std::alloc::Global;
-use vic_answer::{NO_ANSWER, VicinityAnswer, judge_text, numbers_of};
+use vic_answer::{
+    NO_ANSWER, VicinityAnswer, answer_of, explain_text, judge_text, numbers_of, put_population,
+};
 
 /// The number of this interface: it changes where the struct, a number or the meaning of a call
-/// does.
+/// does, not where a call is added.
 #[unsafe(no_mangle)]
 pub extern "C" fn vicinity_interface() -> u32
     ensures { result ≡ 1 }
@@ -38,4 +41,36 @@ pub extern "C" fn vicinity_check(alloc: Global, text: &[u8], answer: &mut Vicini
         Err(_) => NO_ANSWER,
     };
     answer.status
+}
+
+/// Judges the log that a text spells, as `vicinity_check`, and hands over the population that
+/// `vicinity explain` shows: `needed` is how many UIDs it has, 0 where there is none. Where the
+/// room for it has so many places, they stand at its front, in rising order; else it is as it was,
+/// and the same call with `needed` places gives them.
+#[unsafe(no_mangle)]
+pub extern "C" fn vicinity_explain(
+    alloc: Global,
+    text: &[u8],
+    answer: &mut VicinityAnswer,
+    population: &mut [u64],
+    needed: &mut usize,
+) -> u32
+    ensures answer { answer.new.kind ≢ 0 → AreNumbersFor text.now answer.new }
+    ensures whole { answer.new.kind ≡ 1 → IsCompleteText text.now answer.new.count }
+    ensures explained { answer.new.kind ≢ 0
+        → AreExplainedNumbersFor text.now answer.new needed.new population.old population.new }
+    ensures no_answer { answer.new.kind ≡ 0 → answer.new ≡ no_answer }
+    ensures no_population { answer.new.kind ≡ 0
+        → (needed.new ≡ 0) × (population.new ≡ population.old) }
+    ensures status { result ≡ answer.new.status }
+{
+    let Ok(explained) = explain_text(alloc, text) else {
+        *answer = NO_ANSWER;
+        *needed = 0;
+        return NO_ANSWER.status;
+    };
+    *needed = put_population(&explained, population);
+    let numbers = numbers_of(&answer_of(&explained));
+    *answer = numbers;
+    numbers.status
 }

@@ -2,7 +2,7 @@
 
 ghost use Rattle.std.specs.Prelude.{◌≤◌, length};
 
-use crate::{vicinity_check, vicinity_interface};
+use crate::{vicinity_check, vicinity_explain, vicinity_interface};
 use std::alloc::Global;
 use std::process::Abort;
 use vic_answer::{NO_ANSWER, VicinityAnswer};
@@ -130,6 +130,50 @@ fn refused(rt: HostRuntime) {
         "refused at line 2: Crc\n",
         wanted,
     );
+}
+
+/// Explains a text into a room of three places, of which `given` are handed over.
+fn hands_over(
+    rt: &impl Abort,
+    alloc: Global,
+    text: &str,
+    given: usize,
+    wanted: [u64; 3],
+    count: usize,
+)
+    requires { given ≤ 3 }
+{
+    let mut room = [7; 3];
+    let mut needed = 9;
+    let mut answer = NO_ANSWER;
+    let mut checked = NO_ANSWER;
+    let status = vicinity_explain(
+        alloc,
+        text.as_bytes(),
+        &mut answer,
+        &mut room[..given],
+        &mut needed,
+    );
+    assert_eq!(rt;
+        status,
+        vicinity_check(alloc, text.as_bytes(), &mut checked)
+    );
+    assert_eq!(rt; answer, checked);
+    assert_eq!(rt; room, wanted);
+    assert_eq!(rt; needed, count);
+}
+
+#[test]
+fn populations(rt: HostRuntime) {
+    let heard = "vicinity-log 1\nT 260100F60A\nR 0000A1000000000104E06745\n";
+    hands_over(&rt, rt.alloc(), heard, 0, [7, 7, 7], 1);
+    hands_over(&rt, rt.alloc(), heard, 1, [0xE004_0100_0000_00A1, 7, 7], 1);
+    hands_over(&rt, rt.alloc(), heard, 3, [0xE004_0100_0000_00A1, 7, 7], 1);
+    let collided = "vicinity-log 1\nT 260100F60A\nC\n";
+    hands_over(&rt, rt.alloc(), collided, 1, [7, 7, 7], 2);
+    let complete = "vicinity-log 1\nT 260100F60A\nS\n";
+    hands_over(&rt, rt.alloc(), complete, 3, [7, 7, 7], 0);
+    hands_over(&rt, rt.alloc(), "", 3, [7, 7, 7], 0);
 }
 
 #[test]

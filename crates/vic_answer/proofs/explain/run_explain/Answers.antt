@@ -1,7 +1,8 @@
-use Rattle.std.proofs.Common.{◌≡◌, ◌∙◌, Err, subst, sym, refl}
+use Rattle.std.proofs.Common.{ap, ◌∙◌, subst, refl}
 use Rattle.std.proofs.lemmas.Result.{err_from_is_err_and}
 use Rattle.vic_log.specs.Device.{HasTakenPrefix}
-use Rattle.vic_answer.specs.ExplainText.{explained_text, explained_status}
+use Rattle.vic_answer.specs.CheckText.{answer_status}
+use Rattle.vic_answer.specs.ExplainText.{explained_text, answer_of}
 use Rattle.vic_answer.proofs.Standing.{enough}
 use Rattle.vic_answer.proofs.explain.run_explain.Goals as goal
 
@@ -15,7 +16,7 @@ returns-in_err-write_and_flush-clause-answer g c =
       given = r.given;
       enough = enough _ r.text c.in_ok-reading.reading r.stands;
       answer = explained_text explained;
-      status = explained_status explained;
+      status = answer_status (answer_of explained);
       right = record { explained = explained; right = c.in_ok-explained.ensures r.text r.right; answer_is = refl; status_is = refl };
       begun = subst (HasTakenPrefix _ _) (c.as_slice.ensures.value ∙ c.in_ok-text.ensures) c.in_err-write_and_flush.ensures.begun;
     }
@@ -28,6 +29,6 @@ returns-clause-answer g c =
       given = r.given;
       enough = enough _ r.text c.in_ok-reading.reading r.stands;
       answer = c.as_slice.result.now;
-      right = record { explained = c.in_ok-explained.explained; right = c.in_ok-explained.ensures r.text r.right; answer_is = c.as_slice.ensures.value ∙ c.in_ok-text.ensures; status_is = c.explained_status.ensures };
+      right = record { explained = c.in_ok-explained.explained; right = c.in_ok-explained.ensures r.text r.right; answer_is = c.as_slice.ensures.value ∙ c.in_ok-text.ensures; status_is = c.answer_status.ensures ∙ ap answer_status c.answer_of.ensures };
       written = c.in_ok-write_and_flush.ensures.all;
     }

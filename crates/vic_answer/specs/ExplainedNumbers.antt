@@ -1,0 +1,21 @@
+-- An explained answer in numbers, with its population in a caller's room.
+use Rattle.std.specs.Prelude.{◌≡◌, ℕ, ◌<◌, ◌≤◌, List, ◌++◌, length, drop}
+use Rattle.vic_answer.specs.declared.explain.Explained.{Explained}
+use Rattle.vic_answer.specs.declared.numbers.VicinityAnswer.{VicinityAnswer}
+use Rattle.vic_answer.specs.ExplainText.{IsExplained, answer_of, uids_of}
+use Rattle.vic_answer.specs.Numbers.{numbers_of}
+
+-- a list stands at the front of a room, which is as it was behind it; a room too small is as it was
+pub record IsPutInto (list room room' : List ℕ) : Type 0 where
+  pub fits : length list ≤ length room → room' ≡ list ++ drop (length list) room
+  pub too_small : length room < length list → room' ≡ room
+
+-- these are the numbers of the explained answer to a text, so many UIDs has its population, and
+-- this is what becomes of the room for them
+pub record AreExplainedNumbersFor (text : List ℕ) (numbers : VicinityAnswer) (count : ℕ)
+    (room room' : List ℕ) : Type 0 where
+  pub explained : Explained
+  pub right : IsExplained text explained
+  pub numbers_are : numbers ≡ numbers_of (answer_of explained)
+  pub counted : count ≡ length (uids_of explained)
+  pub put : IsPutInto (uids_of explained) room room'

@@ -1,0 +1,43 @@
+//! The population of an explained answer in a room of the caller.
+
+ghost use Rattle.std.specs.Prelude.{◌≡◌, ◌≤◌, ◌++◌, length, drop};
+ghost use Rattle.vic_answer.specs.ExplainText.{uids_of};
+ghost use Rattle.vic_answer.specs.ExplainedNumbers.{IsPutInto};
+
+use crate::explain::Explained;
+use vic_frame::Uid;
+
+/// Puts the UIDs of an answer's population at the front of a room, in rising order, where it has
+/// enough room, and gives how many they are: 0 where it has no population.
+pub fn put_population(explained: &Explained, room: &mut [u64]) -> usize
+    ensures count { result ≡ length (uids_of explained.now) }
+    ensures put { IsPutInto (uids_of explained.now) room.old room.new }
+{
+    let uids = uids_of(explained);
+    if uids.len() <= room.len() {
+        put_uids(uids, room);
+    }
+    uids.len()
+}
+
+/// The UIDs of an answer's population, none where it has none.
+fn uids_of(explained: &Explained) -> &[Uid]
+    ensures { result.now ≡ uids_of explained.now }
+{
+    if let Explained::Judged(explanation) = explained {
+        if let Some(uids) = &explanation.population {
+            return uids.as_slice();
+        }
+    }
+    &[]
+}
+
+/// Puts UIDs at the front of a room.
+fn put_uids(uids: &[Uid], room: &mut [u64])
+    requires { length uids.now ≤ length room.old }
+    ensures { room.new ≡ uids.now ++ drop (length uids.now) room.old }
+{
+    for (index, uid) in uids.iter().enumerate() {
+        room[index] = uid.number();
+    }
+}
