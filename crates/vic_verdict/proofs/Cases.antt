@@ -1,13 +1,14 @@
 -- The cases 2 to 6 of the verdict, by the open, the certain and the listed UIDs.
 use Rattle.std.proofs.lemmas.List.Folds.{list_any-append, list_any_more}
-use Rattle.std.proofs.Common.{◌≡◌, ℕ, ◌+◌, ◌<◌, ◌≤◌, ◌==◌, take, get_or, length, List, Bool, true, false, not, Option, Some, None, sym, ◌∙◌, subst, arith, ◌||◌, ◌++◌, ◌∷◌, [], ap, refl}
+use Rattle.std.proofs.Common.{◌≡◌, ℕ, ◌+◌, ◌<◌, ◌≤◌, ◌^◌, ◌==◌, take, get_or, length, List, Bool, true, false, not, Option, Some, None, sym, ◌∙◌, subst, arith, ◌||◌, ◌++◌, ◌∷◌, [], ap, refl}
 use Rattle.std.specs.Prelude.{◌↔◌, IfSome, IfNone, MatchOption, nat_eq}
 use Rattle.std.proofs.lemmas.Bool.{both_ways, and_parts, and_from, not-true, not_from_false, false_from_ne_true}
 use Rattle.vic_frame.specs.Uids.{IsUid, has}
 use Rattle.vic_frame.specs.Masks.{BitMask, IsMask}
-use Rattle.vic_frame.specs.LowBitsFirst.{uid_of}
+use Rattle.vic_frame.specs.LowBitsFirst.{mirror, uid_of}
+use Rattle.vic_frame.proofs.MirrorLaws.{mirror_of_uid, uid_of_mirror, same_test}
 use Rattle.vic_tree.specs.OpenSet as tree
-use Rattle.vic_tree.specs.OpenSet.{SameUids, AllOpen, settled}
+use Rattle.vic_tree.specs.OpenSet.{SameUids, AllOpen, has_key, settled}
 use Rattle.vic_log.specs.declared.entry.Entry.{Entry}
 use Rattle.vic_verdict.specs.Possible.{IsPossible, IsPossibleUid}
 use Rattle.vic_log.specs.Slots.{slots_of, is_open, IsForcedBy}
@@ -15,7 +16,7 @@ use Rattle.vic_log.proofs.Sets.{IsUid-member}
 use Rattle.vic_log.specs.Order.{listed}
 use Rattle.vic_verdict.specs.Verdict.{IsAbsent, IsUnlisted, IsUnsettled, IsDoubtful, IsLeast, IsFirstMask, NoSuch}
 use Rattle.vic_verdict.specs.Rising.{SameMembers, IsListOf, IsFailing, without_all}
-use Rattle.vic_verdict.specs.Unsettled.{AreOpenAndListed, has_key}
+use Rattle.vic_verdict.specs.Unsettled.{AreOpenAndListed}
 use Rattle.vic_verdict.proofs.Decide.{IsPossibleUid-iff, IsCertainUid-iff}
 use Rattle.vic_verdict.proofs.Verdicts.{unsettled_iff}
 
@@ -104,12 +105,12 @@ first_unsettled_is es set set' us (Some m) own t found empty =
 
 -- ---- the listed UIDs by their keys
 
-pub key_pushed : (keys uids : List ℕ) (n k x u : ℕ) → n < length uids → x ≡ get_or uids n x → uid_of k ≡ x
+pub key_pushed : (keys uids : List ℕ) (n k x u : ℕ) → n < length uids → x ≡ get_or uids n x → uid_of k ≡ x → k < 2 ^ 56 → IsUid u
     → has_key keys u ≡ has (take n uids) u → has_key (keys ++ k ∷ []) u ≡ has (take (n + 1) uids) u
-key_pushed keys uids n k x u lt is back h =
-    list_any-append (λ j. u == uid_of j) keys (k ∷ [])
-    ∙ ap (λ b. b || ((u == uid_of k) || false)) h
-    ∙ ap (λ b. has (take n uids) u || b) (one (u == uid_of k))
+key_pushed keys uids n k x u lt is back small w h =
+    list_any-append (nat_eq (mirror u)) keys (k ∷ [])
+    ∙ ap (λ b. b || ((mirror u == k) || false)) h
+    ∙ ap (λ b. has (take n uids) u || b) (one (mirror u == k) ∙ same_test (mirror u) k u (uid_of k) (λ e. sym (uid_of_mirror u w) ∙ ap uid_of e) (λ e. ap mirror e ∙ mirror_of_uid k small))
     ∙ ap (λ y. has (take n uids) u || (u == y)) (back ∙ is)
     ∙ sym (list_any_more (nat_eq u) uids n x lt)
   where

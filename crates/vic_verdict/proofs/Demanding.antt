@@ -14,7 +14,7 @@ use Rattle.vic_frame.specs.Uids.{IsUid, is_uid, has}
 use Rattle.vic_frame.specs.Masks.{BitMask, lies_in}
 use Rattle.vic_frame.specs.LowBitsFirst.{mirror}
 use Rattle.vic_frame.specs.Replies.{Reply}
-use Rattle.vic_tree.specs.OpenSet.{SameUids, UpToThree, in_mask}
+use Rattle.vic_tree.specs.OpenSet.{SameUids, UpToThree, in_mask, without_keys}
 use Rattle.vic_log.specs.declared.entry.Entry.{Entry}
 use Rattle.vic_log.specs.declared.entry.Entry.TheVariants.{Sent, Silent, Collision, Heard, Listed, Garbled, FieldCycle}
 use Rattle.vic_log.specs.Rounds.{mask_at, lies_in_some}
@@ -78,15 +78,26 @@ first_ready set ns d m us same h none = record {
     go false f = refl
 
 -- those found except the Quiet ones
-pub others_ready : (set : ℕ → Bool) (ns : List Name) (d : Demand) (m : BitMask) (quiet us : List ℕ) → ((u : ℕ) → IsUid u → lies_in_some d.mask u ≡ lies_in m u) → ((u : ℕ) → IsUid u → lies_in m u ≡ true → has quiet u ≡ is_silenced ns (mirror u) d.at) → UpToThree (in_mask set m quiet) us → UpToThree (ready_of set ns d) us
-others_ready set ns d m quiet us same members h = UpToThree-same (in_mask set m quiet) (ready_of set ns d) us (λ u. go u (is_uid u) refl) h
+pub others_ready : (set : ℕ → Bool) (ns : List Name) (d : Demand) (m : BitMask) (keys us : List ℕ) → ((u : ℕ) → IsUid u → lies_in_some d.mask u ≡ lies_in m u) → ((u : ℕ) → IsUid u → lies_in m u ≡ true → has keys (mirror u) ≡ is_silenced ns (mirror u) d.at) → UpToThree (in_mask (without_keys set keys) m []) us → UpToThree (ready_of set ns d) us
+others_ready set ns d m keys us same members h = UpToThree-same (in_mask (without_keys set keys) m []) (ready_of set ns d) us (λ u. go u (is_uid u) refl) h
   where
-    inner : (u : ℕ) → IsUid u → (b : Bool) → lies_in m u ≡ b → (b && not (has quiet u)) ≡ (b && not (is_silenced ns (mirror u) d.at))
-    inner u w true e = ap not (members u w e)
-    inner u w false e = refl
+    both : (a b : Bool) → a ≡ b → (not a && true) ≡ not b
+    both true true e = refl
+    both false false e = refl
+    both true false e = absurd (cc)
+    both false true e = absurd (cc)
 
-    go : (u : ℕ) (b : Bool) → is_uid u ≡ b → ((b && set u) && (lies_in m u && not (has quiet u))) ≡ ((b && set u) && is_ready ns d u)
-    go u true e = ap (λ x. set u && x) (inner u (IsUid-from u e) (lies_in m u) refl ∙ ap (λ l. l && not (is_silenced ns (mirror u) d.at)) (sym (same u (IsUid-from u e))))
+    none : (a : Bool) → (not a && false) ≡ false
+    none true = refl
+    none false = refl
+
+    inner : (u : ℕ) → IsUid u → (a b : Bool) → lies_in m u ≡ b → ((a && not (has keys (mirror u))) && (b && not false)) ≡ (a && (b && not (is_silenced ns (mirror u) d.at)))
+    inner u w false b e = refl
+    inner u w true true e = both (has keys (mirror u)) (is_silenced ns (mirror u) d.at) (members u w e)
+    inner u w true false e = none (has keys (mirror u))
+
+    go : (u : ℕ) (b : Bool) → is_uid u ≡ b → ((b && (set u && not (has keys (mirror u)))) && (lies_in m u && not false)) ≡ ((b && set u) && is_ready ns d u)
+    go u true e = inner u (IsUid-from u e) (set u) (lies_in m u) refl ∙ ap (λ l. set u && (l && not (is_silenced ns (mirror u) d.at))) (sym (same u (IsUid-from u e)))
     go u false e = refl
 
 -- whoever answers by the names answers

@@ -1,13 +1,7 @@
 -- The least member of a rising list that fails a test.
-use Rattle.std.proofs.Common.{◌≡◌, ℕ, zero, suc, ◌<◌, List, [], ◌∷◌, length, get_or, Bool, true, false, Result, Ok, Err, refl, sym, subst, arith, ⊎_elim}
-use Rattle.std.specs.Prelude.{is_ok}
-use Rattle.std.specs.List.{dedup}
-use Rattle.std.specs.List.Sorted.{IsStrictlyIncreasing, IsBinarySearchResult}
-use Rattle.std.specs.Ordering.{nat_cmp}
-use Rattle.std.proofs.lemmas.Bool.{both_ways, false≢true, false_from_ne_true, cases_lt}
-use Rattle.std.proofs.lemmas.List.Kept.{Contains-dedup_nat, Contains-from_dedup}
-use Rattle.std.proofs.lemmas.List.Sorted.{searched}
-use lib.Dec.{eqb}
+use Rattle.std.proofs.Common.{◌≡◌, ℕ, zero, suc, ◌<◌, List, [], ◌∷◌, length, get_or, Bool, true, false, refl, sym, subst, arith, ⊎_elim}
+use Rattle.std.specs.List.Sorted.{IsStrictlyIncreasing}
+use Rattle.std.proofs.lemmas.Bool.{both_ways, false≢true, cases_lt}
 use Rattle.vic_frame.specs.Uids.{has}
 use Rattle.vic_log.proofs.Sets.{has_at, has_there, has_cases}
 use Rattle.vic_verdict.specs.Rising.{IsFailing}
@@ -27,32 +21,6 @@ pub member_at : (us : List ℕ) (k u d : ℕ) → k < length us → get_or us k 
 member_at [] k u d lt e = absurd (omega arith)
 member_at (x ∷ us) zero u d lt e = has_at u x us (sym e)
 member_at (x ∷ us) (suc k) u d lt e = has_there u x us (member_at us k u d (omega arith) e)
-
-pub same_tests : (a b : Bool) → (a ≡ true → b ≡ true) → (b ≡ true → a ≡ true) → a ≡ b
-same_tests true b f g = sym (f refl)
-same_tests false true f g = g refl
-same_tests false false f g = refl
-
--- what `dedup` leaves has the same members
-pub has_dedup : (us : List ℕ) (u : ℕ) → has (dedup eqb us) u ≡ has us u
-has_dedup us u =
-    same_tests (has (dedup eqb us) u) (has us u)
-    (λ h. let c = Contains-from_dedup eqb us u (place_of (dedup eqb us) u u h) in member_at us c.0 u u c.1 c.2)
-    (λ h. let c = Contains-dedup_nat us u (place_of us u u h) in member_at (dedup eqb us) c.0 u u c.1 c.2)
-
--- what a search in a rising list found
-pub search_has : (us : List ℕ) (u : ℕ) (r : Result ℕ ℕ) → IsStrictlyIncreasing us → IsBinarySearchResult (λ y. nat_cmp y u) us r → is_ok r ≡ has us u
-search_has us u (Ok i) rise h =
-    let s = searched us u (Ok i) h (rising_order us rise) in sym (member_at us i u 0 s.0 s.1)
-search_has us u (Err i) rise h =
-    let s = searched us u (Err i) h (rising_order us rise) in
-    sym (false_from_ne_true _ (λ m.
-    let p = place_of us u 0 m in
-    let e = p.2 in
-    ⊎_elim
-    (λ lt. let a = s.1 p.0 lt in omega arith)
-    (λ ge. let a = s.2 p.0 ge p.1 in omega arith)
-    (cases_lt p.0 i)))
 
 -- each member below a place passes
 abbrev pub PassBelow : (ℕ → Bool) → List ℕ → ℕ → Type 0

@@ -30,7 +30,7 @@ use vic_tree::OpenSet;
 /// What the slots of a possible log ask for, met by its open UIDs.
 #[derive(Drop)]
 pub struct Met {
-    /// The UIDs that were heard, in no order.
+    /// The UIDs that were heard, in rising order.
     pub heard: Vec<Uid>,
     /// What meets the slots in which tags answered and none was read: each of these slots is met by
     /// one of them, and one may meet many.
@@ -137,7 +137,7 @@ fn respondents<S: OpenSet>(
     }
     let (first, last) = key_range(&mask);
     let quiet = silenced_between(alloc, names, first, last, demand.at)?;
-    Ok(set.up_to_three(&mask, &quiet))
+    set.up_to_three_besides(alloc, &mask, &quiet)
 }
 
 /// Whether the next slot of some asks for as much of the same mask, no earlier.

@@ -2,19 +2,19 @@
 
 ghost use Rattle.std.specs.Prelude.{◌≡◌, ◌≢◌, ℕ, ◌+◌, true, Some, List, IfOk, OnOk, slice_get};
 ghost use Rattle.std.specs.List.{list_any};
-ghost use Rattle.std.specs.List.Sorted.{IsStrictlyIncreasing};
-ghost use Rattle.vic_frame.specs.Uids.{IsUid, has};
+ghost use Rattle.std.specs.List.Sorted.{IsNonDecreasing};
+ghost use Rattle.vic_frame.specs.Uids.{has};
 ghost use Rattle.vic_frame.specs.LowBitsFirst.{mirror};
+ghost use Rattle.vic_tree.specs.OpenSet.{AreKeys};
 ghost use Rattle.vic_log.specs.declared.entry.Entry.{Entry as EntryValue};
 ghost use Rattle.vic_log.specs.declared.entry.Entry.TheVariants.{Sent};
 ghost use Rattle.vic_verdict.specs.Sweep.{is_silenced, AreInOrder, HaveKeys, is_between};
 ghost use Rattle.vic_verdict.specs.Silenced.{TellsQuiet};
 
-use crate::rising::put_in_order;
 use crate::stretches::push_name;
 use crate::sweep::Name;
 use std::alloc::{AllocError, Global};
-use vic_frame::low_bits_first::{key, uid_at};
+use vic_frame::low_bits_first::key;
 use vic_frame::{Request, Uid};
 
 /// Gathers whom a request silences.
@@ -69,49 +69,31 @@ pub fn is_any_silenced(names: &[Name], uids: &[Uid], at: usize) -> bool
     false
 }
 
-/// The UIDs that are Quiet at a place, from key `first` to `last`.
-fn silenced_in_order(
-    alloc: Global,
-    names: &[Name],
-    first: u64,
-    last: u64,
-    at: usize,
-) -> Result<Vec<Uid>, AllocError>
-    requires order { AreInOrder names.now }
-    requires keys { HaveKeys names.now }
-    ensures { IfOk result (λ uids. (u : ℕ) → IsUid u → is_between first last (mirror u) ≡ true
-        → has uids.items u ≡ is_silenced names.now (mirror u) at) }
-{
-    let mut uids = Vec::new(alloc);
-    let start = names.partition_point(|name| name.key < first);
-    for i in start..names.len() {
-        let name = names[i];
-        if last < name.key {
-            return Ok(uids);
-        }
-        if name.quiet < at {
-            uids.push(uid_at(name.key))?;
-        }
-    }
-    Ok(uids)
-}
-
-/// The same, from the least to the greatest.
+/// The keys from `first` to `last` of the UIDs that are Quiet at a place, in order.
 pub fn silenced_between(
     alloc: Global,
     names: &[Name],
     first: u64,
     last: u64,
     at: usize,
-) -> Result<Vec<Uid>, AllocError>
+) -> Result<Vec<u64>, AllocError>
     requires order { AreInOrder names.now }
     requires keys { HaveKeys names.now }
-    ensures rising { IfOk result (λ uids. IsStrictlyIncreasing uids.items) }
-    ensures members { IfOk result (λ uids. (u : ℕ) → IsUid u
-        → is_between first last (mirror u) ≡ true
-        → has uids.items u ≡ is_silenced names.now (mirror u) at) }
+    ensures order { IfOk result (λ keys. IsNonDecreasing keys.items) }
+    ensures keys { IfOk result (λ keys. AreKeys keys.items) }
+    ensures members { IfOk result (λ keys. (k : ℕ) → is_between first last k ≡ true
+        → has keys.items k ≡ is_silenced names.now k at) }
 {
-    let mut uids = silenced_in_order(alloc, names, first, last, at)?;
-    put_in_order(&mut uids);
-    Ok(uids)
+    let mut keys = Vec::new(alloc);
+    let start = names.partition_point(|name| name.key < first);
+    for i in start..names.len() {
+        let name = names[i];
+        if last < name.key {
+            return Ok(keys);
+        }
+        if name.quiet < at {
+            keys.push(name.key)?;
+        }
+    }
+    Ok(keys)
 }

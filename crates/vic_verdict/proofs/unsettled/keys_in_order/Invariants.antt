@@ -1,10 +1,10 @@
 use Rattle.std.proofs.Common.{◌≡◌, ℕ, take}
-use Rattle.vic_frame.specs.Uids.{has}
-use Rattle.vic_verdict.specs.Unsettled.{AreKeys, has_key}
+use Rattle.vic_frame.specs.Uids.{IsUid, has}
+use Rattle.vic_tree.specs.OpenSet.{AreKeys, has_key}
 use Rattle.vic_verdict.proofs.unsettled.keys_in_order.Given as goal
 
 abbrev pub invariant-loop-uid : goal.invariant-loop-uid
 invariant-loop-uid l = record {
   keys : AreKeys l.keys.items;
-  members : (u : ℕ) → has_key l.keys.items u ≡ has (take l.uid-index l.uids) u;
+  members : (u : ℕ) → IsUid u → has_key l.keys.items u ≡ has (take l.uid-index l.uids) u;
 }
