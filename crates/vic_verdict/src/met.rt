@@ -11,7 +11,6 @@ ghost use Rattle.vic_verdict.specs.Possible.{IsPossible};
 ghost use Rattle.vic_verdict.specs.Demands.{AreFound, IsMet, HasHeard};
 
 use crate::demands::{Found, Met, meet_stretch, note_asked};
-use crate::replies::replies_fit;
 use crate::rising::put_in_order;
 use crate::stretches::settle_all;
 use std::alloc::{AllocError, Global};
@@ -95,10 +94,9 @@ pub fn open_and_met<S: OpenSet>(
         × SameUids (S.is_open p.0) (is_open (slots_of (entries lines.now)))
         × IsMet (entries lines.now) p.1)) }
 {
-    if !replies_fit(alloc, lines)? {
+    let Ok(set) = settle_all::<S>(alloc, lines)? else {
         return Ok(None);
-    }
-    let set: S = settle_all(alloc, lines)?;
+    };
     let heard = heard_uids(alloc, lines)?;
     if !are_open(&set, &heard) {
         return Ok(None);

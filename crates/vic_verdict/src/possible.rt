@@ -9,6 +9,12 @@ use std::alloc::{AllocError, Global};
 use vic_log::LogLine;
 use vic_tree::OpenSet;
 
+/// The place of a line of a log, counted from 0, up to which no population could have given it.
+#[derive(Clone, Copy)]
+pub struct Contradiction {
+    pub at: usize,
+}
+
 /// Whether some population could have given a log.
 pub fn is_possible<S: OpenSet>(alloc: Global, lines: &[LogLine]) -> Result<bool, AllocError>
     requires order { IsInOrder (entries lines.now) }
