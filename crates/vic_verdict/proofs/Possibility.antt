@@ -1,6 +1,5 @@
 -- Possible logs, possible and certain UIDs, by the slots of a log.
-use Rattle.std.proofs.Common.{◌≡◌, ℕ, ◌+◌, List, ◌++◌, take, drop, Some, sym, subst}
-use Rattle.std.proofs.lemmas.List.{take-append-drop}
+use Rattle.std.proofs.Common.{◌≡◌, ℕ, List, ◌++◌, Some}
 use Rattle.std.specs.Prelude.{◌↔◌, slice_get}
 use Rattle.std.specs.List.{filter}
 use Rattle.std.proofs.lemmas.Bool.{and_parts}
@@ -13,7 +12,7 @@ use Rattle.vic_log.proofs.Sets.{has_filter, AreDifferent-filter, AreDifferent-po
 use Rattle.vic_log.proofs.Supply.{fits_asks}
 use Rattle.vic_log.proofs.Places.{CouldHaveGiven-slots, CouldHaveGiven-front}
 use Rattle.vic_verdict.proofs.Populations.{ArePossible, MayHave, MustHave}
-use Rattle.vic_verdict.specs.Possible.{IsPossible, IsPossibleUid, IsCertainUid, IsContradictedAt}
+use Rattle.vic_verdict.specs.Possible.{IsPossible, IsPossibleUid, IsCertainUid}
 
 pub IsPossible-slots : (es : List Entry) → IsPossible es ↔ ArePossible (slots_of es)
 IsPossible-slots es = (
@@ -35,10 +34,6 @@ IsCertainUid-slots es u = (
 
 pub IsPossible-front : (es fs : List Entry) → IsPossible (es ++ fs) → IsPossible es
 IsPossible-front es fs h = (h.0, h.1, CouldHaveGiven-front h.0 es fs h.2)
-
--- a log that is contradicted somewhere is impossible
-pub contradicted_whole : (es : List Entry) (i : ℕ) → IsContradictedAt es i → IsPossible es → ⊥
-contradicted_whole es i h p = h.impossible (IsPossible-front (take (i + 1) es) (drop (i + 1) es) (subst IsPossible (sym (take-append-drop (i + 1) es)) p))
 
 -- a UID that was heard is certain
 pub Heard-certain : (es : List Entry) (i : ℕ) (r : Reply) → slice_get es i ≡ Some (Heard r) → IsCertainUid es r.uid

@@ -5,7 +5,6 @@ use Rattle.vic_tree.specs.OpenSet.{SameUids}
 use Rattle.vic_log.specs.Slots.{slots_of, is_open}
 use Rattle.vic_verdict.specs.Replies.{RepliesAnswer}
 use Rattle.vic_verdict.specs.Possible.{IsPossible, IsContradictedAt}
-use Rattle.vic_verdict.proofs.Possibility.{contradicted_whole}
 use Rattle.vic_verdict.specs.Demands.{AreFound}
 use Rattle.std.proofs.lemmas.Bool.{both_ways}
 use Rattle.std.proofs.lemmas.List.{length-map}
@@ -14,13 +13,8 @@ use Rattle.vic_log.specs.Order.{entries}
 use Rattle.vic_verdict.proofs.Meeting.{heard_open, met_is_possible, is_met}
 use Rattle.vic_verdict.proofs.met.open_and_met.Goals as goal
 
-pub returns-in_default : goal.returns-in_default
-returns-in_default g c =
-    let es = entries c.args.lines.now in
-    contradicted_whole es c.in_default.field-0.at (subst (λ r. MatchResult r (λ s. RepliesAnswer es × SameUids (g.S.OpenSet.is_open s) (is_open (slots_of es))) (λ x. IsContradictedAt es x.at)) c.in_default.is c.in_ok-set.ensures)
-
-pub returns-then-not-are_open : goal.returns-then-not-are_open
-returns-then-not-are_open g c possible =
+pub at_end-requires : goal.at_end-requires
+at_end-requires g c possible =
     let es = entries c.args.lines.now in
     let set = g.S.OpenSet.is_open c.in-Ok.set in
     let settled = subst (λ r. MatchResult r (λ s. RepliesAnswer es × SameUids (g.S.OpenSet.is_open s) (is_open (slots_of es))) (λ x. IsContradictedAt es x.at)) c.in-Ok.is c.in_ok-set.ensures in
