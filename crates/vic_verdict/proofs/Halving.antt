@@ -1,10 +1,12 @@
 -- Halving over the lines of a log.
-use Rattle.std.proofs.Common.{◌≡◌, ℕ, ◌<◌, ◌≤◌, List, [], ◌∷◌, ◌++◌, Some, length, take, drop, refl, sym, ap, ◌∙◌, subst, arith}
+use Rattle.std.proofs.Common.{◌≡◌, ℕ, zero, suc, ◌+◌, ◌<◌, ◌≤◌, List, [], ◌∷◌, ◌++◌, Some, length, take, drop, refl, sym, ap, ◌∙◌, subst, arith, ⊎_elim}
 use Rattle.std.specs.Prelude.{slice_get}
-use Rattle.std.proofs.lemmas.List.{take-append-drop}
+use Rattle.std.proofs.lemmas.Bool.{cases_lt}
+use Rattle.std.proofs.lemmas.List.{take-append-drop, take-map, take_all, length-map, length-take}
 use Rattle.vic_log.specs.declared.entry.Entry.TheVariants.{Sent}
 use Rattle.vic_log.specs.declared.entry.LogLine.{LogLine}
-use Rattle.vic_verdict.specs.Possible.{IsPossible}
+use Rattle.vic_verdict.specs.Possible.{IsPossible, IsContradictedAt}
+use Rattle.vic_verdict.proofs.Possibility.{IsPossible-front}
 use Rattle.vic_log.specs.Order.{IsInOrder, entries, AreValid}
 use Rattle.vic_log.proofs.Order.{IsInOrder-front, still_there}
 
@@ -31,15 +33,61 @@ order_front n lines o = IsInOrder-front (entries (take n lines)) (entries (drop 
 pub valid_front : (n : ℕ) (lines : List LogLine) → AreValid (entries lines) → AreValid (entries (take n lines))
 valid_front n lines v i q k = v i q (subst (λ es. slice_get es i ≡ Some (Sent q)) (front_and_rest n lines) (still_there (entries (take n lines)) (entries (drop n lines)) i (Sent q) k))
 
-pub between_first : (lines : List LogLine) → (IsPossible (entries lines) → ⊥) → Between lines 0 (length lines)
-between_first [] h = absurd (h nothing_possible)
-between_first (l ∷ lines) h = record {
-  ordered = omega arith;
-  within = omega arith;
-  possible = nothing_possible;
-  impossible = λ p. h (subst (λ xs. IsPossible (entries xs)) (take_whole (l ∷ lines)) p);
-}
-  where
-    take_whole : (xs : List LogLine) → take (length xs) xs ≡ xs
-    take_whole [] = refl
-    take_whole (x ∷ xs) = ap (λ ys. x ∷ ys) (take_whole xs)
+-- the first of the first lines
+take_twice : (m n : ℕ) (lines : List LogLine) → m ≤ n → take m (take n lines) ≡ take m lines
+take_twice zero n lines le = refl
+take_twice (suc m) zero lines le = absurd (omega (arith, le))
+take_twice (suc m) (suc n) [] le = refl
+take_twice (suc m) (suc n) (l ∷ lines) le = ap (λ ls. l ∷ ls) (take_twice m n lines (omega (arith, le)))
+
+-- what begins a possible log is possible
+possible_shorter : (m n : ℕ) (lines : List LogLine) → m ≤ n → IsPossible (entries (take n lines)) → IsPossible (entries (take m lines))
+possible_shorter m n lines le h =
+    subst (λ ls. IsPossible (entries ls)) (take_twice m n lines le)
+    (IsPossible-front (entries (take m (take n lines))) (entries (drop m (take n lines))) (subst IsPossible (sym (front_and_rest m (take n lines))) h))
+
+-- a contradiction of the first lines is one of all
+contradicted_lines : (lines : List LogLine) (i : ℕ) → IsContradictedAt (entries lines) i → (i < length lines) × (IsPossible (entries (take (i + 1) lines)) → ⊥)
+contradicted_lines lines i h = (
+  (let within = h.within in let long = length-map lines (λ (l : LogLine). l.item) in omega (arith, within, long)),
+  (λ p. h.impossible (subst IsPossible (sym (take-map (λ (l : LogLine). l.item) (i + 1) lines)) p)),
+)
+
+pub between_first : (lines : List LogLine) (i : ℕ) → IsContradictedAt (entries lines) i → Between lines 0 (i + 1)
+between_first lines i h =
+    let c = contradicted_lines lines i h in
+    let within = c.0 in
+    record { ordered = omega arith; within = omega (arith, within); possible = nothing_possible; impossible = c.1 }
+
+-- more lines that are possible
+pub between_more : (lines : List LogLine) (low high count : ℕ) → count < high → IsPossible (entries (take count lines)) → Between lines low high → Between lines count high
+between_more lines low high count lt possible b = record { ordered = lt; within = b.within; possible = possible; impossible = b.impossible }
+
+-- an earlier contradiction
+pub between_earlier : (lines : List LogLine) (low high count i : ℕ) → count < high → IsContradictedAt (entries (take count lines)) i → Between lines low high → Between lines low (i + 1)
+between_earlier lines low high count i lt h b =
+    let c = contradicted_lines (take count lines) i h in
+    let short = c.0 in
+    let size = length-take count lines in
+    let below : i < count = grind (arith, size, short) in
+    let impossible = λ (p : IsPossible (entries (take (i + 1) lines))). c.1 (subst (λ ls. IsPossible (entries ls)) (sym (take_twice (i + 1) count lines (omega (arith, below)))) p) in
+    record {
+      ordered = ⊎_elim (λ yes. yes) (λ no. absurd (impossible (possible_shorter (i + 1) low lines no b.possible))) (cases_lt low (i + 1));
+      within = let within = b.within in omega (arith, below, lt, within);
+      possible = b.possible;
+      impossible = impossible;
+    }
+
+-- ---- a contradiction of all lines
+
+pub some_line : (lines : List LogLine) → (IsPossible (entries lines) → ⊥) → 0 < length lines
+some_line [] h = absurd (h nothing_possible)
+some_line (l ∷ lines) h = omega arith
+
+pub contradicted_end : (lines : List LogLine) (i : ℕ) → i + 1 ≡ length lines → (IsPossible (entries lines) → ⊥) → IsContradictedAt (entries lines) i
+contradicted_end lines i last h =
+    let long = length-map lines (λ (l : LogLine). l.item) in
+    record {
+      within = omega (arith, long, last);
+      impossible = λ p. h (subst IsPossible (take_all (i + 1) (entries lines) (omega (arith, long, last))) p);
+    }

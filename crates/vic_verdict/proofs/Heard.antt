@@ -1,13 +1,16 @@
 -- Whether the UIDs that were heard could have answered, from place to place.
-use Rattle.std.proofs.Common.{◌≡◌, ℕ, ◌+◌, ◌<◌, ◌++◌, List, [], ◌∷◌, length, get_or, zero, suc, ◌≤◌, Bool, true, false, not, ◌||◌, Some, refl, sym, ap, ◌∙◌, subst, arith, inl, inr, ⊎_elim}
-use Rattle.std.specs.Prelude.{◌⊎◌, slice_get}
+use Rattle.std.proofs.Common.{◌≡◌, ℕ, ◌+◌, ◌<◌, ◌++◌, ◌==◌, List, [], ◌∷◌, length, get_or, take, drop, zero, suc, ◌≤◌, Bool, true, false, not, ◌&&◌, ◌||◌, Some, refl, sym, ap, ◌∙◌, subst, arith, inl, inr, ⊎_elim}
+use Rattle.std.specs.Prelude.{◌⊎◌, slice_get, nat_lt, if◌then◌else◌}
 use Rattle.std.specs.List.{All, list_any}
 use Rattle.std.specs.List.Sorted.{IsPermutation}
 use Rattle.std.proofs.lemmas.List.Sorted.{list_any-IsPermutation}
-use Rattle.std.proofs.lemmas.Bool.{cases_eq, and_parts, and_from, both_ways, false_from_ne_true}
+use Rattle.std.proofs.lemmas.List.{take-append-drop}
+use Rattle.std.proofs.lemmas.Bool.{cases_eq, and_parts, and_from, both_ways, eqb-true}
+use Rattle.std.proofs.lemmas.Bool.Decides.{nat_tests}
 use Rattle.std.proofs.lemmas.List.Elements.{All-push}
 use Rattle.std.proofs.lemmas.List.Quantifiers.{Any-push}
 use Rattle.std.proofs.lemmas.List.Folds.{list_any_at, Any-from_list_any}
+use Rattle.std.proofs.lemmas.Option.{slice_get_within}
 use Rattle.vic_frame.specs.Uids.{IsUid}
 use Rattle.vic_frame.specs.LowBitsFirst.{mirror}
 use Rattle.vic_frame.specs.Replies.{Reply}
@@ -16,45 +19,160 @@ use Rattle.vic_log.specs.declared.entry.Entry.TheVariants.{Silent, Collision, He
 use Rattle.vic_log.specs.Rounds.{mask_at, lies_in_some}
 use Rattle.vic_log.specs.Quiet.{silences, wakes, is_quiet}
 use Rattle.vic_log.specs.Populations.{answers_at}
-use Rattle.vic_verdict.specs.declared.replies.HeardAt.{HeardAt}
+use Rattle.vic_log.proofs.Places.{answers_agree, agree_upto}
 use Rattle.vic_verdict.specs.declared.sweep.Name.{Name}
-use Rattle.vic_verdict.specs.Possible.{IsPossible}
-use Rattle.vic_verdict.specs.Silenced.{TellsQuiet}
-use Rattle.vic_verdict.specs.Replies.{Answers, is_reply_silenced, IsRepeatedBy, IsHeardAgain, IsHeardAt, AreHeard}
+use Rattle.vic_verdict.specs.Possible.{IsPossible, IsContradictedAt}
+use Rattle.vic_verdict.specs.Replies.{Answers, reply_place, is_quiet_reply, AreReady, IsQuietReply, IsHeardAt, IsReplyAt, AreHeard}
 use Rattle.vic_verdict.specs.Sweep.{is_silenced}
-use Rattle.vic_verdict.proofs.Silencing.{tells_first, tells_anew, tells_passed, silenced_permuted, silenced_later}
+use Rattle.vic_verdict.proofs.Silencing.{silenced_permuted}
+use Rattle.vic_verdict.proofs.Stretching.{IsPlaced, placed_next, silenced_next, silenced_after, quiet_named, quiet_next, still_quiet}
 use Rattle.vic_verdict.proofs.Supplied.{supplied_each}
 use Rattle.vic_verdict.proofs.Demanding.{any_kept}
 
-replies_next : (es : List Entry) (from i : ℕ) (hs : List HeardAt) → All (IsHeardAt es from i) hs → All (IsHeardAt es from (i + 1)) hs
-replies_next es from i hs h k d below =
-    let it = h k d below in
-    let lt = it.before in
-    record { reply = it.reply; heard = it.heard; uid = it.uid; is_uid = it.is_uid; inside = it.inside; since = it.since; before = omega (arith, lt) }
+-- ---- who could have answered
 
--- who is heard answers, where it could be in the field
-pub heard_answers : (es : List Entry) (i : ℕ) (r : Reply) → slice_get es i ≡ Some (Heard r) → IsPossible es → answers_at es i r.uid ≡ true
-heard_answers es i r k possible = (and_parts _ _ (supplied_each es i (Heard r) k possible)).1
+front_get : {X : Type 0} (n i : ℕ) (xs : List X) → i < n → slice_get (take n xs) i ≡ slice_get xs i
+front_get zero i xs lt = absurd (omega (arith, lt))
+front_get (suc n) i [] lt = refl
+front_get (suc n) zero (x ∷ xs) lt = refl
+front_get (suc n) (suc i) (x ∷ xs) lt = front_get n i xs (omega (arith, lt))
 
--- an entry that hears nobody
-pub heard_passed : (es : List Entry) (i : ℕ) (ns ms : List Name) (hs : List HeardAt) (e : Entry) → slice_get es i ≡ Some e → ((r : Reply) → e ≡ Heard r → ⊥) → ((from : ℕ) → TellsQuiet es from i ns → TellsQuiet es from (i + 1) ms) → AreHeard es i ns hs → AreHeard es (i + 1) ms hs
-heard_passed es i ns ms hs e k none tells h = record {
+-- who is heard answers, where a population could have given the entries up to there
+heard_answers : (es : List Entry) (i : ℕ) (r : Reply) → slice_get es i ≡ Some (Heard r) → IsPossible (take (i + 1) es) → answers_at es i r.uid ≡ true
+heard_answers es i r k possible =
+    let front = take (i + 1) es in
+    let here = front_get (i + 1) i es (omega arith) ∙ k in
+    let within = slice_get_within front i (Heard r) here in
+    let same = answers_agree i front (front ++ drop (i + 1) es) (agree_upto front (drop (i + 1) es) i (omega (arith, within))) r.uid in
+    ap (λ xs. answers_at xs i r.uid) (sym (take-append-drop (i + 1) es)) ∙ (sym same ∙ (and_parts _ _ (supplied_each front i (Heard r) here possible)).1)
+
+up_to_it : (es : List Entry) (i : ℕ) (r : Reply) → slice_get es i ≡ Some (Heard r) → (answers_at es i r.uid ≡ true → ⊥) → IsContradictedAt es i
+up_to_it es i r k none = record {
+  within = slice_get_within es i (Heard r) k;
+  impossible = λ possible. none (heard_answers es i r k possible);
+}
+
+-- a reply by a UID outside of the mask
+pub outside_reply : (es : List Entry) (i : ℕ) (r : Reply) → slice_get es i ≡ Some (Heard r) → lies_in_some (mask_at es i) r.uid ≡ false → IsContradictedAt es i
+outside_reply es i r k out = up_to_it es i r k (λ answers. both_ways _ out (and_parts (lies_in_some (mask_at es i) r.uid) (not (is_quiet es i r.uid)) answers).0)
+
+-- ---- the place of a reply
+
+lt_from : (x y : ℕ) → nat_lt x y ≡ true → x < y
+lt_from x y e = grind (arith, nat_tests)
+
+lt_yes : (x y : ℕ) → x < y → nat_lt x y ≡ true
+lt_yes x y e = grind (arith, nat_tests)
+
+none_at_start : (ns : List Name) (k : ℕ) → is_silenced ns k 0 ≡ false
+none_at_start [] k = refl
+none_at_start (n ∷ ns) k = ap (λ b. b || is_silenced ns k 0) (and_no (n.key == k) _ (not_below n.quiet)) ∙ none_at_start ns k
+  where
+    not_below : (q : ℕ) → nat_lt q 0 ≡ false
+    not_below q = grind (arith, nat_tests)
+
+    and_no : (a b : Bool) → b ≡ false → (a && b) ≡ false
+    and_no true b e = e
+    and_no false b e = refl
+
+place_of : (n : Name) → n.at < n.quiet → reply_place n ≡ n.at
+place_of n lt = go (nat_lt n.at n.quiet) (lt_yes n.at n.quiet lt)
+  where
+    go : (b : Bool) → b ≡ true → (if b then n.at else 0) ≡ n.at
+    go true e = refl
+    go false e = absurd (both_ways false refl e)
+
+-- whoever is Quiet at its reply was heard there
+quiet_place : (ns : List Name) (n : Name) → is_silenced ns n.key (reply_place n) ≡ true → n.at < n.quiet
+quiet_place ns n e = go (nat_lt n.at n.quiet) refl e
+  where
+    go : (b : Bool) → nat_lt n.at n.quiet ≡ b → is_silenced ns n.key (if b then n.at else 0) ≡ true → n.at < n.quiet
+    go true f h = lt_from n.at n.quiet f
+    go false f h = absurd (both_ways _ (none_at_start ns n.key) h)
+
+-- ---- from place to place
+
+abbrev HeardIn : List Entry → ℕ → ℕ → Name → Type 0
+HeardIn es from i n = n.at < n.quiet → IsHeardAt es from i n
+
+replies_next : (es : List Entry) (from i : ℕ) (ns : List Name) → All (HeardIn es from i) ns → All (HeardIn es from (i + 1)) ns
+replies_next es from i ns h k d below lt =
+    let it = h k d below lt in
+    let before = it.before in
+    record { reply = it.reply; heard = it.heard; key = it.key; is_uid = it.is_uid; inside = it.inside; since = it.since; before = omega (arith, before) }
+
+-- at the next place
+quiet_range : (es : List Entry) (from i end : ℕ) (ns ms : List Name) → ((j u : ℕ) → j ≤ i → is_silenced ms (mirror u) j ≡ is_silenced ns (mirror u) j) → ((u : ℕ) → IsUid u → is_silenced ms (mirror u) (i + 1) ≡ is_quiet es (i + 1) u) → ((j u : ℕ) → from ≤ j → j ≤ i → IsUid u → is_silenced ns (mirror u) j ≡ is_quiet es j u) → (j u : ℕ) → from ≤ j → j ≤ i + 1 → IsUid u → is_silenced ms (mirror u) j ≡ is_quiet es j u
+quiet_range es from i end ns ms same next quiet j u since upto w =
+    ⊎_elim
+    (λ e. subst (λ n. is_silenced ms (mirror u) n ≡ is_quiet es n u) (sym e) (next u w))
+    (λ ne. same j u (omega (arith, upto, ne)) ∙ quiet j u since (omega (arith, upto, ne)) w)
+    (cases_eq j (i + 1))
+
+-- what the names tell at the place after an entry that silences and wakes nobody
+quiet_still : (es : List Entry) (i end u : ℕ) (ns : List Name) (e : Entry) → slice_get es i ≡ Some e → i < end → wakes (Some e) ≡ false → silences (Some e) u ≡ false → IsUid u → AreHeard es i end ns → is_silenced ns (mirror u) (i + 1) ≡ is_quiet es (i + 1) u
+quiet_still es i end u ns e k lt awake none w h =
+    silenced_next ns (mirror u) i end lt h.names ∙ (h.quiet i u h.begun (omega arith) w ∙ (still_quiet _ _ (is_quiet es i u) none awake ∙ sym (quiet_next es i u e k)))
+
+-- an entry that hears, silences and wakes nobody
+pub heard_passed : (es : List Entry) (i end : ℕ) (ns : List Name) (e : Entry) → slice_get es i ≡ Some e → i < end → ((r : Reply) → e ≡ Heard r → ⊥) → wakes (Some e) ≡ false → ((u : ℕ) → IsUid u → silences (Some e) u ≡ false) → AreHeard es i end ns → AreHeard es (i + 1) end ns
+heard_passed es i end ns e k lt deaf awake none h = record {
   from = h.from;
-  quiet = tells h.from h.quiet;
-  replies = replies_next es h.from i hs h.replies;
-  answer = λ j r lt f.
+  begun = let b = h.begun in omega (arith, b);
+  names = placed_next i end ns h.names;
+  quiet = quiet_range es h.from i end ns ns (λ j u le. refl) (λ u w. quiet_still es i end u ns e k lt awake (none u w) w h) h.quiet;
+  replies = replies_next es h.from i ns h.replies;
+  answer = λ j r below f.
       ⊎_elim
-      (λ here. absurd (none r (let both : Some e ≡ Some (Heard r) = sym k ∙ subst (λ n. slice_get es n ≡ Some (Heard r)) here f in cc)))
-      (λ ne. h.answer j r (omega (arith, lt, ne)) f)
+      (λ here. absurd (deaf r (let both : Some e ≡ Some (Heard r) = sym k ∙ subst (λ n. slice_get es n ≡ Some (Heard r)) here f in cc)))
+      (λ ne. h.answer j r (omega (arith, below, ne)) f)
       (cases_eq j i);
 }
 
--- an entry that hears, silences and wakes nobody
-pub heard_other : (es : List Entry) (i : ℕ) (ns : List Name) (hs : List HeardAt) (e : Entry) → slice_get es i ≡ Some e → (e ≡ Silent) ⊎ ((e ≡ Collision) ⊎ ((e ≡ Garbled) ⊎ (((u : ℕ) × (e ≡ Listed u)) ⊎ (e ≡ FieldCycle)))) → (e ≡ FieldCycle → ⊥) → AreHeard es i ns hs → AreHeard es (i + 1) ns hs
-heard_other es i ns hs e k is other h =
+-- a Stay Quiet
+pub heard_silenced : (es : List Entry) (i end : ℕ) (ns ms : List Name) (e : Entry) (n : Name) → slice_get es i ≡ Some e → i < end → ((r : Reply) → e ≡ Heard r → ⊥) → wakes (Some e) ≡ false → ((u : ℕ) → IsUid u → silences (Some e) u ≡ (n.key == mirror u)) → n.at ≡ i → n.quiet ≡ i → ms ≡ ns ++ n ∷ [] → AreHeard es i end ns → AreHeard es (i + 1) end ms
+heard_silenced es i end ns ms e n k lt deaf awake one at quiet is h = subst (AreHeard es (i + 1) end) (sym is) (record {
+  from = h.from;
+  begun = let b = h.begun in omega (arith, b);
+  names = All-push (IsPlaced (i + 1) end) ns n (placed_next i end ns h.names) (inl (omega (arith, quiet)));
+  quiet = quiet_range es h.from i end ns (ns ++ n ∷ []) (λ j u le. silenced_after ns n (mirror u) j (omega (arith, le, quiet)))
+      (λ u w. quiet_named es i u e ns n k awake (one u w) quiet (silenced_next ns (mirror u) i end lt h.names ∙ h.quiet i u h.begun (omega arith) w)) h.quiet;
+  replies = All-push (HeardIn es h.from (i + 1)) ns n (replies_next es h.from i ns h.replies) (λ late. absurd (omega (arith, late, at, quiet)));
+  answer = λ j r below f.
+      ⊎_elim
+      (λ here. absurd (deaf r (let both : Some e ≡ Some (Heard r) = sym k ∙ subst (λ n. slice_get es n ≡ Some (Heard r)) here f in cc)))
+      (λ ne. ⊎_elim (λ y. inl y) (λ w. inr (any_kept (IsReplyAt j) ns n w)) (h.answer j r (omega (arith, below, ne)) f))
+      (cases_eq j i);
+})
+
+-- an entry that hears a UID of its mask
+pub heard_more : (es : List Entry) (i end : ℕ) (ns ms : List Name) (r : Reply) (n : Name) → slice_get es i ≡ Some (Heard r) → i < end → n.key ≡ mirror r.uid → IsUid r.uid → n.at ≡ i → n.quiet ≡ end → lies_in_some (mask_at es i) r.uid ≡ true → ms ≡ ns ++ n ∷ [] → AreHeard es i end ns → AreHeard es (i + 1) end ms
+heard_more es i end ns ms r n k lt key is_uid at quiet inside is h = subst (AreHeard es (i + 1) end) (sym is) (record {
+  from = h.from;
+  begun = let b = h.begun in omega (arith, b);
+  names = All-push (IsPlaced (i + 1) end) ns n (placed_next i end ns h.names) (inr (omega (arith, quiet)));
+  quiet = quiet_range es h.from i end ns (ns ++ n ∷ []) (λ j u le. silenced_after ns n (mirror u) j (omega (arith, le, lt, quiet)))
+      (λ u w. silenced_after ns n (mirror u) (i + 1) (omega (arith, lt, quiet)) ∙ quiet_still es i end u ns (Heard r) k lt refl refl w h) h.quiet;
+  replies = All-push (HeardIn es h.from (i + 1)) ns n (replies_next es h.from i ns h.replies) (λ late. record {
+    reply = r;
+    heard = subst (λ j. slice_get es j ≡ Some (Heard r)) (sym at) k;
+    key = key;
+    is_uid = is_uid;
+    inside = ap (λ j. lies_in_some (mask_at es j) r.uid) at ∙ inside;
+    since = let b = h.begun in omega (arith, b, at);
+    before = omega (arith, at);
+  });
+  answer = λ j q below f.
+      ⊎_elim
+      (λ here. inr (Any-push (IsReplyAt j) ns n (at ∙ sym here, omega (arith, at, quiet, lt))))
+      (λ ne. ⊎_elim (λ y. inl y) (λ w. inr (any_kept (IsReplyAt j) ns n w)) (h.answer j q (omega (arith, below, ne)) f))
+      (cases_eq j i);
+})
+
+-- a silent slot, a collision, a garbled slot or a listed UID
+pub heard_other : (es : List Entry) (i end : ℕ) (ns : List Name) (e : Entry) → slice_get es i ≡ Some e → i < end → (e ≡ Collision) ⊎ ((e ≡ Garbled) ⊎ (((u : ℕ) × (e ≡ Listed u)) ⊎ (e ≡ FieldCycle))) → (e ≡ FieldCycle → ⊥) → AreHeard es i end ns → AreHeard es (i + 1) end ns
+heard_other es i end ns e k lt is other h =
     ⊎_elim
-    (λ s. pass Silent (k ∙ ap (λ (x : Entry). Some x) s) (λ r c. cc) refl (λ u. refl))
-    (λ w. ⊎_elim
     (λ s. pass Collision (k ∙ ap (λ (x : Entry). Some x) s) (λ r c. cc) refl (λ u. refl))
     (λ v. ⊎_elim
     (λ s. pass Garbled (k ∙ ap (λ (x : Entry). Some x) s) (λ r c. cc) refl (λ u. refl))
@@ -63,91 +181,84 @@ heard_other es i ns hs e k is other h =
     (λ s. absurd (other s))
     x)
     v)
-    w)
     is
   where
-    pass : (f : Entry) → slice_get es i ≡ Some f → ((r : Reply) → f ≡ Heard r → ⊥) → wakes (Some f) ≡ false → ((u : ℕ) → silences (Some f) u ≡ false) → AreHeard es (i + 1) ns hs
-    pass f g none awake loud = heard_passed es i ns ns hs f g none (λ from t. tells_passed es from i ns f g awake (λ u w. loud u) t) h
+    pass : (f : Entry) → slice_get es i ≡ Some f → ((r : Reply) → f ≡ Heard r → ⊥) → wakes (Some f) ≡ false → ((u : ℕ) → silences (Some f) u ≡ false) → AreHeard es (i + 1) end ns
+    pass f g deaf awake loud = heard_passed es i end ns f g lt deaf awake (λ u w. loud u) h
 
--- an entry that hears a UID of its mask
-pub heard_more : (es : List Entry) (i : ℕ) (ns : List Name) (hs new : List HeardAt) (r : Reply) (h : HeardAt) → slice_get es i ≡ Some (Heard r) → r.uid ≡ h.uid → IsUid h.uid → h.at ≡ i → lies_in_some (mask_at es i) h.uid ≡ true → new ≡ hs ++ h ∷ [] → AreHeard es i ns hs → AreHeard es (i + 1) ns new
-heard_more es i ns hs new r h k uid is_uid at inside all a = subst (AreHeard es (i + 1) ns) (sym all) (record {
-  from = a.from;
-  quiet = tells_passed es a.from i ns (Heard r) k refl (λ u w. refl) a.quiet;
-  replies = All-push (IsHeardAt es a.from (i + 1)) hs h (replies_next es a.from i hs a.replies) (record {
-    reply = r;
-    heard = subst (λ n. slice_get es n ≡ Some (Heard r)) (sym at) k;
-    uid = uid;
-    is_uid = is_uid;
-    inside = ap (λ n. lies_in_some (mask_at es n) h.uid) at ∙ inside;
-    since = let begun = a.quiet.begun in omega (arith, begun, at);
-    before = omega (arith, at);
-  });
-  answer = λ j q lt f.
-      ⊎_elim
-      (λ here. inr (Any-push (λ (x : HeardAt). x.at ≡ j) hs h (at ∙ sym here)))
-      (λ ne. ⊎_elim (λ y. inl y) (λ w. inr (any_kept (λ (x : HeardAt). x.at ≡ j) hs h w)) (a.answer j q (omega (arith, lt, ne)) f))
-      (cases_eq j i);
-})
+pub heard_silent : (es : List Entry) (i end : ℕ) (ns : List Name) → slice_get es i ≡ Some Silent → i < end → AreHeard es i end ns → AreHeard es (i + 1) end ns
+heard_silent es i end ns k lt h = heard_passed es i end ns Silent k lt (λ r c. cc) refl (λ u w. refl) h
 
--- a reply by a UID that is Quiet there
-pub quiet_reply : (es : List Entry) (i : ℕ) (ns : List Name) (hs : List HeardAt) → AreHeard es i ns hs → list_any (is_reply_silenced ns) hs ≡ true → IsPossible es → ⊥
-quiet_reply es i ns hs a some possible =
-    let w = Any-from_list_any (is_reply_silenced ns) hs some in
-    let h : HeardAt = w.1 in
-    let it = subst (IsHeardAt es a.from i) w.3 (a.replies w.0 h w.2) in
-    let before = it.before in
-    let quiet = sym (a.quiet.quiet h.at h.uid it.since (omega (arith, before)) it.is_uid) ∙ w.4 in
-    let answers = subst (λ u. answers_at es h.at u ≡ true) it.uid (heard_answers es h.at it.reply it.heard possible) in
-    let awake = (and_parts (lies_in_some (mask_at es h.at) h.uid) (not (is_quiet es h.at h.uid)) answers).1 in
-    both_ways _ (ap not quiet) awake
+-- ---- what the names tell
 
 not_quiet : (b : Bool) → b ≡ false → not b ≡ true
 not_quiet true e = sym e
 not_quiet false e = refl
 
-any_false : (p : HeardAt → Bool) (hs : List HeardAt) (k : ℕ) (d : HeardAt) → k < length hs → list_any p hs ≡ false → p (get_or hs k d) ≡ false
-any_false p hs k d below none = go (p (get_or hs k d)) refl
+-- a reply by a UID that is Quiet there
+pub quiet_contradicts : (es : List Entry) (i end at : ℕ) (ns : List Name) → AreHeard es i end ns → IsQuietReply ns at → IsContradictedAt es at
+quiet_contradicts es i end at ns a some =
+    let w = Any-from_list_any (λ (n : Name). (reply_place n == at) && is_silenced ns n.key at) ns some in
+    let n : Name = w.1 in
+    let parts = and_parts (reply_place n == at) (is_silenced ns n.key at) w.4 in
+    let place = eqb-true (reply_place n) at parts.0 in
+    let late = quiet_place ns n (subst (λ p. is_silenced ns n.key p ≡ true) (sym place) parts.1) in
+    let here : n.at ≡ at = sym (place_of n late) ∙ place in
+    let it = subst (HeardIn es a.from i) w.3 (a.replies w.0 n w.2) late in
+    let before = it.before in
+    let quiet = sym (a.quiet n.at it.reply.uid it.since (omega (arith, before)) it.is_uid) ∙ (ap (λ key. is_silenced ns key n.at) (sym it.key) ∙ (ap (is_silenced ns n.key) here ∙ parts.1)) in
+    subst (λ p. IsContradictedAt es p) here (up_to_it es n.at it.reply it.heard (λ answers.
+    both_ways _ (ap not quiet) (and_parts (lies_in_some (mask_at es n.at) it.reply.uid) (not (is_quiet es n.at it.reply.uid)) answers).1))
+
+any_false : (p : Name → Bool) (ns : List Name) (k : ℕ) (d : Name) → k < length ns → list_any p ns ≡ false → p (get_or ns k d) ≡ false
+any_false p ns k d below none = go (p (get_or ns k d)) refl
   where
-    go : (b : Bool) → p (get_or hs k d) ≡ b → p (get_or hs k d) ≡ false
-    go true e = absurd (both_ways _ none (list_any_at p hs k d below e))
+    go : (b : Bool) → p (get_or ns k d) ≡ b → p (get_or ns k d) ≡ false
+    go true e = absurd (both_ways _ none (list_any_at p ns k d below e))
     go false e = e
 
 -- where there is none, those before place i answer
-pub answers_before : (es : List Entry) (i : ℕ) (ns : List Name) (hs : List HeardAt) → AreHeard es i ns hs → list_any (is_reply_silenced ns) hs ≡ false → (j : ℕ) (r : Reply) → j < i → slice_get es j ≡ Some (Heard r) → Answers es j r.uid
-answers_before es i ns hs a none j r below k =
+pub answers_before : (es : List Entry) (i end : ℕ) (ns : List Name) → AreHeard es i end ns → AreReady ns → (j : ℕ) (r : Reply) → j < i → slice_get es j ≡ Some (Heard r) → Answers es j r.uid
+answers_before es i end ns a none j r below k =
     ⊎_elim
     (λ y. y)
     (λ w.
-    let h : HeardAt = w.1 in
-    let it = subst (IsHeardAt es a.from i) w.3 (a.replies w.0 h w.2) in
+    let n : Name = w.1 in
+    let late = w.4.1 in
+    let it = subst (HeardIn es a.from i) w.3 (a.replies w.0 n w.2) late in
     let before = it.before in
-    let silent = ap (is_reply_silenced ns) (sym w.3) ∙ any_false (is_reply_silenced ns) hs w.0 h w.2 none in
-    let awake = sym (a.quiet.quiet h.at h.uid it.since (omega (arith, before)) it.is_uid) ∙ silent in
-    let here = and_from _ _ it.inside (not_quiet (is_quiet es h.at h.uid) awake) in
-    let both : Some (Heard it.reply) ≡ Some (Heard r) = sym it.heard ∙ subst (λ n. slice_get es n ≡ Some (Heard r)) (sym w.4) k in
+    let silent = ap (is_quiet_reply ns) (sym w.3) ∙ any_false (is_quiet_reply ns) ns w.0 n w.2 none in
+    let awake = sym (a.quiet n.at it.reply.uid it.since (omega (arith, before)) it.is_uid) ∙ (ap (λ key. is_silenced ns key n.at) (sym it.key) ∙ (ap (is_silenced ns n.key) (sym (place_of n late)) ∙ silent)) in
+    let here = and_from _ _ it.inside (not_quiet (is_quiet es n.at it.reply.uid) awake) in
+    let both : Some (Heard it.reply) ≡ Some (Heard r) = sym it.heard ∙ subst (λ m. slice_get es m ≡ Some (Heard r)) (sym w.4.0) k in
     let same : it.reply ≡ r = cc in
-    subst (λ n. Answers es n r.uid) w.4 (subst (Answers es h.at) (sym it.uid ∙ ap (λ (x : Reply). x.uid) same) (it.is_uid, here)))
+    subst (λ m. Answers es m r.uid) w.4.0 (subst (Answers es n.at) (ap (λ (x : Reply). x.uid) same) (it.is_uid, here)))
     (a.answer j r below k)
 
-pub heard_first : (es : List Entry) → AreHeard es 0 [] []
-heard_first es = record {
+-- ---- where a stretch begins
+
+pub heard_first : (es : List Entry) (end : ℕ) → AreHeard es 0 end []
+heard_first es end = record {
   from = 0;
-  quiet = tells_first es;
+  begun = omega arith;
+  names = λ k d below. absurd (omega (arith, below));
+  quiet = λ j u since upto w. subst (λ n. false ≡ is_quiet es n u) (let e : 0 ≡ j = omega (arith, upto) in e) refl;
   replies = λ k d below. absurd (omega (arith, below));
   answer = λ j r below k. absurd (omega (arith, below));
 }
 
 -- a field cycle
-pub heard_anew : (es : List Entry) (i : ℕ) (ns ms : List Name) (hs gs : List HeardAt) (e : Entry) → slice_get es i ≡ Some e → e ≡ FieldCycle → ms ≡ [] → gs ≡ [] → list_any (is_reply_silenced ns) hs ≡ false → AreHeard es i ns hs → AreHeard es (i + 1) ms gs
-heard_anew es i ns ms hs gs e k is empty none quiet a = subst (λ xs. AreHeard es (i + 1) ms xs) (sym none) (record {
+pub heard_anew : (es : List Entry) (i end : ℕ) (ns ms : List Name) (e : Entry) → slice_get es i ≡ Some e → e ≡ FieldCycle → ms ≡ [] → AreReady ns → AreHeard es i end ns → AreHeard es (i + 1) end ms
+heard_anew es i end ns ms e k is none ready a = subst (AreHeard es (i + 1) end) (sym none) (record {
   from = i + 1;
-  quiet = tells_anew es i ms e k is empty;
+  begun = omega arith;
+  names = λ j d below. absurd (omega (arith, below));
+  quiet = λ j u since upto w. subst (λ n. false ≡ is_quiet es n u) (let e : i + 1 ≡ j = omega (arith, since, upto) in e) (sym (quiet_next es i u FieldCycle (k ∙ ap (λ x. Some x) is)));
   replies = λ j d below. absurd (omega (arith, below));
   answer = λ j r lt f.
       ⊎_elim
       (λ here. absurd (let both : Some FieldCycle ≡ Some (Heard r) = ap (λ (x : Entry). Some x) (sym is) ∙ (sym k ∙ subst (λ n. slice_get es n ≡ Some (Heard r)) here f) in cycle_heard r both))
-      (λ ne. inl (answers_before es i ns hs a quiet j r (omega (arith, lt, ne)) f))
+      (λ ne. inl (answers_before es i end ns a ready j r (omega (arith, lt, ne)) f))
       (cases_eq j i);
 })
   where
@@ -156,50 +267,16 @@ heard_anew es i ns ms hs gs e k is empty none quiet a = subst (λ xs. AreHeard e
 
 -- ---- in another order
 
-none_silenced : (hs : List HeardAt) → list_any (is_reply_silenced []) hs ≡ false
-none_silenced [] = refl
-none_silenced (h ∷ hs) = none_silenced hs
+any_alike : (p q : Name → Bool) → ((n : Name) → p n ≡ q n) → (ns : List Name) → list_any p ns ≡ list_any q ns
+any_alike p q h [] = refl
+any_alike p q h (n ∷ ns) = ap (λ b. b || list_any p ns) (h n) ∙ ap (λ b. q n || b) (any_alike p q h ns)
 
-pub none_in_stretch : (ns : List Name) (hs : List HeardAt) → length ns ≡ 0 → false ≡ list_any (is_reply_silenced ns) hs
-none_in_stretch [] hs e = sym (none_silenced hs)
-none_in_stretch (n ∷ ns) hs e = absurd (omega (arith, e))
+pub ready_permuted : (ns ms : List Name) → IsPermutation ns ms → AreReady ms → AreReady ns
+ready_permuted ns ms m e =
+    list_any-IsPermutation (is_quiet_reply ns) ns ms m
+    ∙ (any_alike (is_quiet_reply ns) (is_quiet_reply ms) (λ n. sym (silenced_permuted ns ms n.key (reply_place n) m)) ms ∙ e)
 
-pub any_permuted : (ns ms : List Name) (hs gs : List HeardAt) → IsPermutation ns ms → IsPermutation hs gs → list_any (is_reply_silenced ms) gs ≡ list_any (is_reply_silenced ns) hs
-any_permuted ns ms hs gs p q = go gs ∙ sym (list_any-IsPermutation (is_reply_silenced ns) hs gs q)
-  where
-    go : (xs : List HeardAt) → list_any (is_reply_silenced ms) xs ≡ list_any (is_reply_silenced ns) xs
-    go [] = refl
-    go (x ∷ xs) = ap (λ b. b || list_any (is_reply_silenced ms) xs) (silenced_permuted ns ms (mirror x.uid) x.at p) ∙ ap (λ b. is_reply_silenced ns x || b) (go xs)
-
--- ---- one reply after another
-
--- who isn't Quiet at a later reply wasn't at the one before
-ready_before : (ns : List Name) (h n : HeardAt) → IsRepeatedBy h n → is_reply_silenced ns n ≡ false → is_reply_silenced ns h ≡ false
-ready_before ns h n by none =
-    false_from_ne_true _ (λ e. both_ways _ none (subst (λ u. is_silenced ns (mirror u) n.at ≡ true) by.uid (silenced_later ns (mirror h.uid) h.at n.at by.later e)))
-
--- of the first k replies each was given by a Ready tag, or the next one is of the same UID
-abbrev pub AreReadyTo : List Name → List HeardAt → ℕ → Type 0
-AreReadyTo ns hs k = (j : ℕ) (d : HeardAt) → j < k → (is_reply_silenced ns (get_or hs j d) ≡ false) ⊎ IsHeardAgain hs j
-
-pub ready_next : (ns : List Name) (hs : List HeardAt) (k : ℕ) → ((d : HeardAt) → (is_reply_silenced ns (get_or hs k d) ≡ false) ⊎ IsHeardAgain hs k) → AreReadyTo ns hs k → AreReadyTo ns hs (k + 1)
-ready_next ns hs k here before j d lt =
-    ⊎_elim
-    (λ e. subst (λ n. (is_reply_silenced ns (get_or hs n d) ≡ false) ⊎ IsHeardAgain hs n) (sym e) (here d))
-    (λ ne. before j d (omega (arith, lt, ne)))
-    (cases_eq j k)
-
--- from the last reply back
-ready_from : (ns : List Name) (hs : List HeardAt) → AreReadyTo ns hs (length hs) → (left j : ℕ) (d : HeardAt) → length hs ≤ j + left → j < length hs → is_reply_silenced ns (get_or hs j d) ≡ false
-ready_from ns hs m zero j d far below = absurd (omega (arith, far, below))
-ready_from ns hs m (suc left) j d far below =
-    ⊎_elim
-    (λ here. here)
-    (λ again. ready_before ns (get_or hs j d) (get_or hs (j + 1) d) (again.1 d) (ready_from ns hs m left (j + 1) d (omega (arith, far)) again.0))
-    (m j d below)
-
-pub all_ready : (ns : List Name) (hs : List HeardAt) (k : ℕ) → k ≡ length hs → AreReadyTo ns hs k → list_any (is_reply_silenced ns) hs ≡ false
-all_ready ns hs k end m =
-    false_from_ne_true _ (λ e.
-    let a = Any-from_list_any (is_reply_silenced ns) hs e in
-    both_ways _ (ready_from ns hs (subst (AreReadyTo ns hs) end m) (length hs) a.0 a.1 (omega arith) a.2) (subst (λ h. is_reply_silenced ns h ≡ true) (sym a.3) a.4))
+pub quiet_permuted : (ns ms : List Name) (at : ℕ) → IsPermutation ns ms → IsQuietReply ms at → IsQuietReply ns at
+quiet_permuted ns ms at m e =
+    list_any-IsPermutation (λ n. (reply_place n == at) && is_silenced ns n.key at) ns ms m
+    ∙ (any_alike _ _ (λ n. ap (λ b. (reply_place n == at) && b) (sym (silenced_permuted ns ms n.key at m))) ms ∙ e)

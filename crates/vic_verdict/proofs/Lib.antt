@@ -22,5 +22,6 @@ pub mod Gathering
 pub mod Explaining
 pub mod Silencing
 pub mod Demanding
+pub mod Replying
 pub mod Heard
 pub mod Meeting

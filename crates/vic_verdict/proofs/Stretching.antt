@@ -44,7 +44,7 @@ pub silenced_after : (ns : List Name) (n : Name) (k i : ℕ) → i ≤ n.quiet �
 silenced_after ns n k i h = silenced_pushed ns n k i ∙ (ap (λ b. is_silenced ns k i || b) (and_no (n.key == k) (nat_lt n.quiet i) (lt_no n.quiet i h)) ∙ or_false (is_silenced ns k i))
 
 -- places of names before i, or at the end of the log
-abbrev IsPlaced : ℕ → ℕ → Name → Type 0
+abbrev pub IsPlaced : ℕ → ℕ → Name → Type 0
 IsPlaced i end n = (n.quiet < i) ⊎ (end ≤ n.quiet)
 
 pub silenced_next : (ns : List Name) (k i end : ℕ) → i < end → All (IsPlaced i end) ns → is_silenced ns k (i + 1) ≡ is_silenced ns k i
@@ -90,7 +90,7 @@ all_named_more ns n (s ∷ ss) e =
 left_more : (ns : List Name) (n : Name) → n.left ≡ true → are_left ns ≡ true → are_left (ns ++ n ∷ []) ≡ true
 left_more ns n l e = list_all-append (λ (m : Name). m.left) ns (n ∷ []) ∙ and_from _ _ e (and_from _ _ l refl)
 
-placed_next : (i end : ℕ) (ns : List Name) → All (IsPlaced i end) ns → All (IsPlaced (i + 1) end) ns
+pub placed_next : (i end : ℕ) (ns : List Name) → All (IsPlaced i end) ns → All (IsPlaced (i + 1) end) ns
 placed_next i end ns h k d below = ⊎_elim (λ f. inl (omega (arith, f))) (λ f. inr f) (h k d below)
 
 slots_next : (i : ℕ) (ss : List Spot) → All (λ (s : Spot). s.at < i) ss → All (λ (s : Spot). s.at < i + 1) ss

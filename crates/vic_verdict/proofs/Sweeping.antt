@@ -30,17 +30,17 @@ and_thrice false b c = refl
 pub keep_twice : (p q : ℕ → ℕ → Bool) (ns : List Name) → keep_all p (keep_all q ns) ≡ keep_all (λ k t. q k t && p k t) ns
 keep_twice p q [] = refl
 keep_twice p q (n ∷ ns) =
-    ap (λ (b : Bool). record { key = n.key; quiet = n.quiet; left = b } ∷ keep_all p (keep_all q ns)) (and_thrice n.left (q n.key n.quiet) (p n.key n.quiet))
+    ap (λ (b : Bool). record { key = n.key; at = n.at; quiet = n.quiet; left = b } ∷ keep_all p (keep_all q ns)) (and_thrice n.left (q n.key n.quiet) (p n.key n.quiet))
     ∙ ap (λ (ms : List Name). keep (λ k t. q k t && p k t) n ∷ ms) (keep_twice p q ns)
 
 pub keep_alike : (p q : ℕ → ℕ → Bool) → ((k t : ℕ) → p k t ≡ q k t) → (ns : List Name) → keep_all p ns ≡ keep_all q ns
 keep_alike p q same [] = refl
 keep_alike p q same (n ∷ ns) =
-    ap (λ (b : Bool). record { key = n.key; quiet = n.quiet; left = n.left && b } ∷ keep_all p ns) (same n.key n.quiet)
+    ap (λ (b : Bool). record { key = n.key; at = n.at; quiet = n.quiet; left = n.left && b } ∷ keep_all p ns) (same n.key n.quiet)
     ∙ ap (λ (ms : List Name). keep q n ∷ ms) (keep_alike p q same ns)
 
 pub kept_whole : (p : ℕ → ℕ → Bool) (n : Name) → p n.key n.quiet ≡ true → keep p n ≡ n
-kept_whole p n e = ap (λ (b : Bool). record { key = n.key; quiet = n.quiet; left = n.left && b }) e ∙ ap (λ (b : Bool). record { key = n.key; quiet = n.quiet; left = b }) (and_true n.left)
+kept_whole p n e = ap (λ (b : Bool). record { key = n.key; at = n.at; quiet = n.quiet; left = n.left && b }) e ∙ ap (λ (b : Bool). record { key = n.key; at = n.at; quiet = n.quiet; left = b }) (and_true n.left)
 
 pub keep_none : (ns : List Name) → keep_all (λ k t. true) ns ≡ ns
 keep_none [] = refl
@@ -82,7 +82,7 @@ inside first last l k q f g = go (nat_le first k) (nat_le k last) (grind (arith,
 
 -- what stands past the end of a list
 abbrev pub nobody : Name
-nobody = record { key = 0; quiet = 0; left = false }
+nobody = record { key = 0; at = 0; quiet = 0; left = false }
 
 -- the first i names of a list were gone over
 pub record IsRuled (p : ℕ → ℕ → Bool) (old new : List Name) (i : ℕ) : Type 0 where

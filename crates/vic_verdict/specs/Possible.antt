@@ -1,6 +1,6 @@
 -- What a log tells of the tags in the field: whether some population could have given it, which UIDs are in some such
 -- population, and which are in every one.
-use Rattle.std.specs.Prelude.{◌≡◌, ℕ, true, List}
+use Rattle.std.specs.Prelude.{◌≡◌, ℕ, ◌+◌, ◌<◌, true, List, length, take}
 use Rattle.vic_frame.specs.Uids.{has}
 use Rattle.vic_log.specs.declared.entry.Entry.{Entry}
 use Rattle.vic_log.specs.Populations.{IsPopulation, CouldHaveGiven}
@@ -16,3 +16,8 @@ IsPossibleUid es u = (p : List ℕ) × IsPopulation p × CouldHaveGiven p es × 
 -- every population that could have given the entries has the UID
 abbrev pub IsCertainUid : List Entry → ℕ → Type 0
 IsCertainUid es u = (p : List ℕ) → IsPopulation p → CouldHaveGiven p es → has p u ≡ true
+
+-- no population could have given the entries up to place i
+pub record IsContradictedAt (es : List Entry) (i : ℕ) : Type 0 where
+  pub within : i < length es
+  pub impossible : IsPossible (take (i + 1) es) → ⊥

@@ -1,6 +1,6 @@
 -- Whether the UIDs that were heard could have answered.
-use Rattle.std.specs.Prelude.{◌≡◌, ◌⊎◌, ℕ, ◌+◌, ◌<◌, ◌≤◌, Bool, true, Some, List, length, slice_get, slice_index_or}
-use Rattle.std.specs.List.{All, Any}
+use Rattle.std.specs.Prelude.{◌≡◌, ◌⊎◌, ℕ, ◌<◌, ◌≤◌, ◌==◌, ◌&&◌, Bool, true, false, Option, Some, None, List, slice_get, nat_lt, min, max, if◌then◌else◌}
+use Rattle.std.specs.List.{All, Any, list_any}
 use Rattle.vic_frame.specs.Uids.{IsUid}
 use Rattle.vic_frame.specs.LowBitsFirst.{mirror}
 use Rattle.vic_frame.specs.Replies.{Reply}
@@ -8,10 +8,10 @@ use Rattle.vic_log.specs.declared.entry.Entry.{Entry}
 use Rattle.vic_log.specs.declared.entry.Entry.TheVariants.{Heard}
 use Rattle.vic_log.specs.Rounds.{mask_at, lies_in_some}
 use Rattle.vic_log.specs.Populations.{answers_at}
-use Rattle.vic_verdict.specs.declared.replies.HeardAt.{HeardAt}
+use Rattle.vic_log.specs.Quiet.{is_quiet}
+use Rattle.vic_verdict.specs.declared.replies.Told.{Told}
 use Rattle.vic_verdict.specs.declared.sweep.Name.{Name}
 use Rattle.vic_verdict.specs.Sweep.{is_silenced}
-use Rattle.vic_verdict.specs.Silenced.{TellsQuiet}
 
 -- a tag with this UID answers in the slot at place i, where it is in the field
 abbrev pub Answers : List Entry → ℕ → ℕ → Type 0
@@ -21,31 +21,61 @@ Answers es i u = IsUid u × (answers_at es i u ≡ true)
 abbrev pub RepliesAnswer : List Entry → Type 0
 RepliesAnswer es = (i : ℕ) (r : Reply) → slice_get es i ≡ Some (Heard r) → Answers es i r.uid
 
--- the UID is Quiet where it was heard, by the names
-abbrev pub is_reply_silenced : List Name → HeardAt → Bool
-is_reply_silenced ns h = is_silenced ns (mirror h.uid) h.at
+-- the place at which the line of a name hears its UID; 0 where it silences it
+abbrev pub reply_place : Name → ℕ
+reply_place n = if nat_lt n.at n.quiet then n.at else 0
 
--- the next reply is of the same UID, no earlier
-pub record IsRepeatedBy (h next : HeardAt) : Type 0 where
-  pub uid : h.uid ≡ next.uid
-  pub later : h.at ≤ next.at
+-- the UID is Quiet there, by the names
+abbrev pub is_quiet_reply : List Name → Name → Bool
+is_quiet_reply ns n = is_silenced ns n.key (reply_place n)
 
-abbrev pub IsHeardAgain : List HeardAt → ℕ → Type 0
-IsHeardAgain hs k = (k + 1 < length hs) × ((h : HeardAt) → IsRepeatedBy (slice_index_or hs k h) (slice_index_or hs (k + 1) h))
+-- no UID was heard while it was Quiet
+abbrev pub AreReady : List Name → Type 0
+AreReady ns = list_any (is_quiet_reply ns) ns ≡ false
 
--- the UID was heard before place i, from a place on, in a slot of a mask that it lies in
-pub record IsHeardAt (es : List Entry) (from i : ℕ) (h : HeardAt) : Type 0 where
+-- a UID was, at this place
+abbrev pub IsQuietReply : List Name → ℕ → Type 0
+IsQuietReply ns at =
+    list_any (λ n. (reply_place n == at) && is_silenced ns n.key at) ns ≡ true
+
+-- the name tells of a UID that was heard before place i, from a place on, in a slot of a mask that
+-- it lies in
+pub record IsHeardAt (es : List Entry) (from i : ℕ) (n : Name) : Type 0 where
   pub reply : Reply
-  pub heard : slice_get es h.at ≡ Some (Heard reply)
-  pub uid : reply.uid ≡ h.uid
-  pub is_uid : IsUid h.uid
-  pub inside : lies_in_some (mask_at es h.at) h.uid ≡ true
-  pub since : from ≤ h.at
-  pub before : h.at < i
+  pub heard : slice_get es n.at ≡ Some (Heard reply)
+  pub key : n.key ≡ mirror reply.uid
+  pub is_uid : IsUid reply.uid
+  pub inside : lies_in_some (mask_at es n.at) reply.uid ≡ true
+  pub since : from ≤ n.at
+  pub before : n.at < i
 
--- the names and the replies of the entries since the last field cycle before place i
-pub record AreHeard (es : List Entry) (i : ℕ) (ns : List Name) (hs : List HeardAt) : Type 0 where
+-- the name tells of a reply at place j
+abbrev pub IsReplyAt : ℕ → Name → Type 0
+IsReplyAt j n = (n.at ≡ j) × (n.at < n.quiet)
+
+-- the names of the entries since the last field cycle before place i, of a log that ends at a
+-- place. They tell which UIDs are Quiet at each place since, and who was heard at which; the
+-- replies before that cycle answer
+pub record AreHeard (es : List Entry) (i end : ℕ) (ns : List Name) : Type 0 where
   pub from : ℕ
-  pub quiet : TellsQuiet es from i ns
-  pub replies : All (IsHeardAt es from i) hs
-  pub answer : (j : ℕ) (r : Reply) → j < i → slice_get es j ≡ Some (Heard r) → Answers es j r.uid ⊎ Any (λ (h : HeardAt). h.at ≡ j) hs
+  pub begun : from ≤ i
+  pub names : All (λ (n : Name). (n.quiet < i) ⊎ (end ≤ n.quiet)) ns
+  pub quiet : (j u : ℕ) → from ≤ j → j ≤ i → IsUid u
+      → is_silenced ns (mirror u) j ≡ is_quiet es j u
+  pub replies : All (λ (n : Name). n.at < n.quiet → IsHeardAt es from i n) ns
+  pub answer : (j : ℕ) (r : Reply) → j < i → slice_get es j ≡ Some (Heard r)
+      → Answers es j r.uid ⊎ Any (IsReplyAt j) ns
+
+-- ---- what the names of one UID tell together
+
+abbrev pub told_by : Name → Told
+told_by n = record { key = n.key; quiet = n.quiet; heard = reply_place n }
+
+abbrev pub told_with : Told → Name → Told
+told_with t n =
+    record { key = t.key; quiet = min t.quiet n.quiet; heard = max t.heard (reply_place n) }
+
+-- the later place is the first one, or that of the reply told of, where the UID was Quiet
+abbrev pub IsEarlier : Option ℕ → Told → Option ℕ → Type 0
+IsEarlier first t None = (first ≡ None) × (t.heard ≤ t.quiet)
+IsEarlier first t (Some at) = (first ≡ Some at) ⊎ ((t.heard ≡ at) × (t.quiet < t.heard))

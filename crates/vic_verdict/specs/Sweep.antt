@@ -56,7 +56,7 @@ run_leaves (Some r) k q = mask_leaves r.first r.last r.level k q
 
 -- names stay left where a test holds of key and place
 abbrev pub keep : (ℕ → ℕ → Bool) → Name → Name
-keep p n = record { key = n.key; quiet = n.quiet; left = n.left && p n.key n.quiet }
+keep p n = record { key = n.key; at = n.at; quiet = n.quiet; left = n.left && p n.key n.quiet }
 
 abbrev pub keep_all : (ℕ → ℕ → Bool) → List Name → List Name
 keep_all p ns = map (keep p) ns

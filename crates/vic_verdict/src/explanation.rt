@@ -66,14 +66,16 @@ fn explain_lines<S: OpenSet>(alloc: Global, lines: &[LogLine]) -> Result<Explana
     requires rising { IsRisingFrom 0 lines.now }
     ensures { IfOk result (IsExplanation lines.now) }
 {
-    if let Some((set, met)) = open_and_met::<S>(alloc, lines)? {
-        return explain_possible(alloc, set, met, lines);
+    match open_and_met::<S>(alloc, lines)? {
+        Ok((set, met)) => explain_possible(alloc, set, met, lines),
+        Err(contradiction) => {
+            let line = first_impossible_line::<S>(alloc, lines, contradiction)?;
+            Ok(Explanation {
+                verdict: Verdict::Impossible { line },
+                population: None,
+            })
+        }
     }
-    let line = first_impossible_line::<S>(alloc, lines)?;
-    Ok(Explanation {
-        verdict: Verdict::Impossible { line },
-        population: None,
-    })
 }
 
 /// The verdict on a log with a small population that shows it, over any set of open UIDs. It is

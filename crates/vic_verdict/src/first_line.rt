@@ -1,54 +1,75 @@
 //! The first line of a log that no population could have given.
 
-ghost use Rattle.std.specs.Prelude.{◌+◌, ◌<◌, IfOk};
+ghost use Rattle.std.specs.Prelude.{◌<◌, ◌≤◌, IfOk};
 ghost use Rattle.vic_log.specs.Order.{IsInOrder, entries, IsRisingFrom, AreValid};
-ghost use Rattle.vic_verdict.specs.Possible.{IsPossible};
+ghost use Rattle.vic_verdict.specs.Possible.{IsContradictedAt};
 ghost use Rattle.vic_verdict.specs.Verdict.{IsVerdict};
 ghost use Rattle.vic_verdict.specs.declared.verdict.Verdict.TheVariants.{Impossible};
 
 use crate::guess::guess_impossible_line;
-use crate::possible::is_possible;
+use crate::met::open_and_met;
+use crate::possible::Contradiction;
 use std::alloc::{AllocError, Global};
 use vic_log::LogLine;
 use vic_tree::OpenSet;
 
-/// A place between two: the guess where it is one, else the middle.
-fn between(low: usize, high: usize, guess: usize) -> usize
-    requires { low + 1 < high }
+/// A place above one and up to another: the guess where it is one, else the middle.
+fn between(low: usize, last: usize, guess: usize) -> usize
+    requires { low < last }
     ensures above { low < result }
-    ensures below { result < high }
+    ensures within { result ≤ last }
 {
-    if low < guess && guess < high {
+    if low < guess && guess <= last {
         guess
     } else {
-        low + (high - low) / 2
+        last - (last - low) / 2
+    }
+}
+
+/// Where to look first, below a contradiction among so many lines: before it, if it stands before
+/// their end, where only the whole of them told of it.
+fn first_guess(contradiction: Contradiction, count: usize) -> Option<usize>
+    requires { contradiction.at < count }
+{
+    if contradiction.at + 1 < count {
+        Some(contradiction.at)
+    } else {
+        None
     }
 }
 
 /// The number of the first line up to which no population could have given the log, found by
-/// halving: what is impossible stays so when lines follow. Halving begins at the guess.
+/// halving: what is impossible stays so when lines follow. Halving begins at a guess.
 pub fn first_impossible_line<S: OpenSet>(
     alloc: Global,
     lines: &[LogLine],
+    contradiction: Contradiction,
 ) -> Result<u32, AllocError>
     requires order { IsInOrder (entries lines.now) }
     requires valid { AreValid (entries lines.now) }
     requires rising { IsRisingFrom 0 lines.now }
-    requires impossible { IsPossible (entries lines.now) → ⊥ }
+    requires impossible { IsContradictedAt (entries lines.now) contradiction.at }
     ensures { IfOk result (λ n. IsVerdict lines.now (Impossible n)) }
 {
     let mut low = 0;
-    let mut high = lines.len();
-    let mut guess = guess_impossible_line(alloc, lines)?;
-    while high - low > 1 {
-        let middle = between(low, high, guess);
-        let front = &lines[..middle];
-        if is_possible::<S>(alloc, front)? {
-            low = middle;
-            guess = guess.saturating_add(1);
-        } else {
-            high = middle;
+    let mut last = contradiction.at;
+    let mut guess = first_guess(contradiction, lines.len());
+    while low < last {
+        let place = match guess {
+            Some(place) => place,
+            None => guess_impossible_line(alloc, &lines[..last])?,
+        };
+        let count = between(low, last, place);
+        match open_and_met::<S>(alloc, &lines[..count])? {
+            Ok(_) => {
+                low = count;
+                guess = Some(place.saturating_add(1));
+            }
+            Err(earlier) => {
+                last = earlier.at;
+                guess = first_guess(earlier, count);
+            }
         }
     }
-    Ok(lines[low].number)
+    Ok(lines[last].number)
 }

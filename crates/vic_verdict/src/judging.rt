@@ -63,11 +63,13 @@ fn judge_lines<S: OpenSet>(alloc: Global, lines: &[LogLine]) -> Result<Verdict, 
     requires rising { IsRisingFrom 0 lines.now }
     ensures { IfOk result (λ v. IsVerdict lines.now v) }
 {
-    if let Some((set, met)) = open_and_met::<S>(alloc, lines)? {
-        return judge_possible(alloc, set, &met, lines);
+    match open_and_met::<S>(alloc, lines)? {
+        Ok((set, met)) => judge_possible(alloc, set, &met, lines),
+        Err(contradiction) => {
+            let line = first_impossible_line::<S>(alloc, lines, contradiction)?;
+            Ok(Verdict::Impossible { line })
+        }
     }
-    let line = first_impossible_line::<S>(alloc, lines)?;
-    Ok(Verdict::Impossible { line })
 }
 
 /// The verdict on a log, over any set of open UIDs: the same over each. It is want of memory alone

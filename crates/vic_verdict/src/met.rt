@@ -1,17 +1,17 @@
 //! Whether some population could have given a log, and what its open UIDs meet.
 
-ghost use Rattle.std.specs.Prelude.{◌≡◌, ◌+◌, true, List, length, IfOk, MatchOption};
+ghost use Rattle.std.specs.Prelude.{◌≡◌, ◌+◌, true, List, length, IfOk, MatchOption, MatchResult};
 ghost use Rattle.std.specs.List.Sorted.{IsStrictlyIncreasing};
 ghost use Rattle.std.specs.List.{list_all};
 ghost use Rattle.vic_frame.specs.Uids.{has};
 ghost use Rattle.vic_tree.specs.OpenSet.{SameUids};
 ghost use Rattle.vic_log.specs.Order.{IsInOrder, entries, AreValid};
 ghost use Rattle.vic_log.specs.Slots.{slots_of, is_open};
-ghost use Rattle.vic_verdict.specs.Possible.{IsPossible};
+ghost use Rattle.vic_verdict.specs.Possible.{IsPossible, IsContradictedAt};
 ghost use Rattle.vic_verdict.specs.Demands.{AreFound, IsMet, HasHeard};
 
 use crate::demands::{Found, Met, meet_stretch, note_asked};
-use crate::replies::replies_fit;
+use crate::possible::Contradiction;
 use crate::rising::put_in_order;
 use crate::stretches::settle_all;
 use std::alloc::{AllocError, Global};
@@ -82,29 +82,29 @@ fn find_all<S: OpenSet>(
     Ok(Some(found))
 }
 
-/// The UIDs that a log leaves open, and what they meet. None where no population could have given
-/// the log.
+/// The UIDs that a log leaves open, and what they meet, if some population could have given it.
 pub fn open_and_met<S: OpenSet>(
     alloc: Global,
     lines: &[LogLine],
-) -> Result<Option<(S, Met)>, AllocError>
+) -> Result<Result<(S, Met), Contradiction>, AllocError>
     requires order { IsInOrder (entries lines.now) }
     requires valid { AreValid (entries lines.now) }
-    ensures { IfOk result (λ r. MatchOption r (IsPossible (entries lines.now) → ⊥)
+    ensures { IfOk result (λ r. MatchResult r
         (λ p. IsPossible (entries lines.now)
         × SameUids (S.is_open p.0) (is_open (slots_of (entries lines.now)))
-        × IsMet (entries lines.now) p.1)) }
+        × IsMet (entries lines.now) p.1)
+        (λ c. IsContradictedAt (entries lines.now) c.at)) }
 {
-    if !replies_fit(alloc, lines)? {
-        return Ok(None);
-    }
-    let set: S = settle_all(alloc, lines)?;
+    let set = match settle_all::<S>(alloc, lines)? {
+        Ok(set) => set,
+        Err(contradiction) => return Ok(Err(contradiction)),
+    };
     let heard = heard_uids(alloc, lines)?;
     if !are_open(&set, &heard) {
-        return Ok(None);
+        return Ok(Err(Contradiction::at_end(lines)));
     }
     let Some(found) = find_all(alloc, &set, lines)? else {
-        return Ok(None);
+        return Ok(Err(Contradiction::at_end(lines)));
     };
-    Ok(Some((set, Met { heard, found })))
+    Ok(Ok((set, Met { heard, found })))
 }

@@ -1,22 +1,25 @@
-//! Whether some population could have given a log.
+//! Where a log became one that no population could have given.
 
-ghost use Rattle.std.specs.Prelude.{IfOk, ◌↔◌, IsTrue};
-ghost use Rattle.vic_log.specs.Order.{IsInOrder, entries, AreValid};
-ghost use Rattle.vic_verdict.specs.Possible.{IsPossible};
+ghost use Rattle.vic_log.specs.Order.{entries};
+ghost use Rattle.vic_verdict.specs.Possible.{IsPossible, IsContradictedAt};
 
-use crate::met::open_and_met;
-use std::alloc::{AllocError, Global};
 use vic_log::LogLine;
-use vic_tree::OpenSet;
 
-/// Whether some population could have given a log.
-pub fn is_possible<S: OpenSet>(alloc: Global, lines: &[LogLine]) -> Result<bool, AllocError>
-    requires order { IsInOrder (entries lines.now) }
-    requires valid { AreValid (entries lines.now) }
-    ensures { IfOk result (λ yes. IsTrue yes ↔ IsPossible (entries lines.now)) }
-{
-    match open_and_met::<S>(alloc, lines)? {
-        Some(_) => Ok(true),
-        None => Ok(false),
+/// The place of a line of a log, counted from 0, up to which no population could have given it.
+/// Earlier ones may do as well.
+#[derive(Clone, Copy)]
+pub struct Contradiction {
+    pub at: usize,
+}
+
+impl Contradiction {
+    /// The last line.
+    pub fn at_end(lines: &[LogLine]) -> Contradiction
+        requires { IsPossible (entries lines.now) → ⊥ }
+        ensures { IsContradictedAt (entries lines.now) result.at }
+    {
+        Contradiction {
+            at: lines.len() - 1,
+        }
     }
 }

@@ -1,152 +1,80 @@
-//! Whether the UIDs that were heard could have answered: each lies in the mask of its slot and
-//! isn't Quiet there. This needs none of the UIDs that a log leaves open.
+//! Whether the UIDs that were heard between two field cycles were Ready there.
 
-ghost use Rattle.std.specs.Prelude.{◌≡◌, ◌≢◌, ℕ, ◌+◌, ◌<◌, true, false, IsTrue, Some, List, IfOk, length, slice_get};
-ghost use Rattle.std.specs.List.{All, list_any};
-ghost use Rattle.vic_frame.specs.LowBitsFirst.{mirror};
-ghost use Rattle.vic_log.specs.declared.entry.Entry.{Entry as EntryValue};
-ghost use Rattle.vic_log.specs.declared.entry.Entry.TheVariants.{FieldCycle};
-ghost use Rattle.vic_log.specs.Rounds.{mask_at, lies_in_some};
-ghost use Rattle.vic_log.specs.Order.{IsInOrder, entries, AreValid};
-ghost use Rattle.vic_verdict.specs.Possible.{IsPossible};
-ghost use Rattle.vic_verdict.specs.Sweep.{is_silenced, HaveKeys, AreInOrder};
-ghost use Rattle.vic_verdict.specs.Replies.{RepliesAnswer, AreHeard, IsHeardAgain, is_reply_silenced};
+ghost use Rattle.std.specs.Prelude.{◌≡◌, None, IfSome};
+ghost use Rattle.vic_verdict.specs.Sweep.{AreInOrder};
+ghost use Rattle.vic_verdict.specs.Replies.{reply_place, told_by, told_with, AreReady, IsQuietReply, IsEarlier};
 
-use crate::silenced::{is_silenced, note_silenced};
 use crate::sweep::Name;
-use std::alloc::{AllocError, Global};
-use vic_frame::low_bits_first::key;
-use vic_frame::{Mask, Uid};
-use vic_log::{Entry, LogLine, RoundCursor};
 
-/// A UID that was heard, its key, and the place of the line.
-#[derive(Clone, Copy, PartialEq, Eq, PartialOrd, Ord)]
-pub struct HeardAt {
+/// What lines tell of one UID: the place after which it is Quiet, and the last one at which it was
+/// heard, 0 where it wasn't.
+#[derive(Clone, Copy)]
+pub struct Told {
     pub key: u64,
-    pub at: usize,
-    pub uid: Uid,
+    pub quiet: usize,
+    pub heard: usize,
 }
 
-/// Gathers what an entry tells that isn't a field cycle, and says whether the UID that it heard
-/// lies in the mask of its slot.
-fn note_reply(
-    names: &mut Vec<Name>,
-    replies: &mut Vec<HeardAt>,
-    mask: &Option<Mask>,
-    index: usize,
-    entry: &Entry,
-) -> Result<bool, AllocError>
-    ensures fits { IfOk result (λ yes. (es : List EntryValue) → slice_get es index ≡ Some entry.now
-        → mask.now ≡ mask_at es index → entry.now ≢ FieldCycle → IsTrue yes
-        → AreHeard es index names.old.items replies.old.items
-        → AreHeard es (index + 1) names.new.items replies.new.items) }
-    ensures unfit { IfOk result (λ yes. (es : List EntryValue) → slice_get es index ≡ Some entry.now
-        → mask.now ≡ mask_at es index → yes ≡ false → IsPossible es → ⊥) }
+/// The place at which a line hears the UID; 0 where it silences it.
+fn reply_place(name: &Name) -> usize
+    ensures { result ≡ reply_place name.now }
 {
-    match *entry {
-        Entry::Sent(request) => {
-            note_silenced(names, &request, index)?;
-            Ok(true)
+    if name.at < name.quiet { name.at } else { 0 }
+}
+
+impl Told {
+    /// By one line.
+    fn by(name: &Name) -> Told
+        ensures { result ≡ told_by name.now }
+    {
+        Told {
+            key: name.key,
+            quiet: name.quiet,
+            heard: reply_place(name),
         }
-        Entry::Heard(response) => {
-            let uid = response.uid();
-            if !lies_in(mask, uid) {
-                return Ok(false);
-            }
-            replies.push(HeardAt {
-                key: key(uid),
-                at: index,
-                uid,
-            })?;
-            Ok(true)
+    }
+
+    /// By one line more.
+    fn with(&self, name: &Name) -> Told
+        ensures { result ≡ told_with self.now name.now }
+    {
+        Told {
+            key: self.key,
+            quiet: self.quiet.min(name.quiet),
+            heard: self.heard.max(reply_place(name)),
         }
-        Entry::Silent | Entry::Collision | Entry::Garbled | Entry::Listed(_) | Entry::FieldCycle =>
-            { Ok(true) }
     }
 }
 
-/// Whether a UID lies in a mask, where there is one.
-fn lies_in(mask: &Option<Mask>, uid: Uid) -> bool
-    ensures { result ≡ lies_in_some mask.now uid }
+/// The earlier of a place and that of the reply told of, if the UID was Quiet there.
+fn earlier(first: Option<usize>, told: &Told) -> Option<usize>
+    ensures { IsEarlier first told.now result }
 {
-    match mask {
-        Some(mask) => mask.matches(uid),
-        None => false,
+    if told.quiet < told.heard {
+        match first {
+            Some(at) => Some(at.min(told.heard)),
+            None => Some(told.heard),
+        }
+    } else {
+        first
     }
 }
 
-/// Whether the next reply of some is of the same UID, no earlier.
-fn is_heard_again(replies: &[HeardAt], index: usize) -> bool
-    requires { index < length replies.now }
-    ensures { result ≡ true → IsHeardAgain replies.now index }
-{
-    let reply = replies[index];
-    match replies.get(index + 1) {
-        Some(next) => next.uid == reply.uid && reply.at <= next.at,
-        None => false,
-    }
-}
-
-/// Whether one of some UIDs is Quiet where it was heard. Whoever is Quiet stays so, so of the
-/// replies of one UID the last one alone is looked at.
-fn is_any_quiet(names: &[Name], replies: &[HeardAt]) -> bool
+/// The place of a reply by a UID that was Quiet there, if there is one.
+pub fn quiet_reply(names: &[Name]) -> Option<usize>
     requires { AreInOrder names.now }
-    ensures { result ≡ list_any (is_reply_silenced names.now) replies.now }
+    ensures fit { result ≡ None → AreReady names.now }
+    ensures unfit { IfSome result (IsQuietReply names.now) }
 {
-    for index in 0..replies.len() {
-        if !is_heard_again(replies, index) {
-            let reply = replies[index];
-            if is_silenced(names, reply.uid, reply.at) {
-                return true;
-            }
-        }
+    let mut told: Option<Told> = None;
+    let mut first = None;
+    for name in names {
+        let next = match told {
+            Some(t) if t.key == name.key => t.with(name),
+            _ => Told::by(name),
+        };
+        first = earlier(first, &next);
+        told = Some(next);
     }
-    false
-}
-
-/// The same, of a stretch.
-fn is_any_quiet_in_stretch(names: &mut Vec<Name>, replies: &mut Vec<HeardAt>) -> bool
-    ensures { result ≡ list_any (is_reply_silenced names.old.items) replies.old.items }
-{
-    if names.is_empty() {
-        return false;
-    }
-    if replies.is_empty() {
-        return false;
-    }
-    names.sort_unstable_by_key(|name| name.key);
-    replies.sort_unstable();
-    is_any_quiet(names, replies)
-}
-
-/// Whether each UID that was heard could have answered there.
-pub fn replies_fit(alloc: Global, lines: &[LogLine]) -> Result<bool, AllocError>
-    requires order { IsInOrder (entries lines.now) }
-    requires valid { AreValid (entries lines.now) }
-    ensures fit { IfOk result (λ yes. IsTrue yes → RepliesAnswer (entries lines.now)) }
-    ensures unfit { IfOk result (λ yes. yes ≡ false → IsPossible (entries lines.now) → ⊥) }
-{
-    let mut names = Vec::new(alloc);
-    let mut replies = Vec::new(alloc);
-    let mut cursor = RoundCursor::first();
-    for (index, line) in lines.iter().enumerate() {
-        let entry = line.item;
-        if let Entry::FieldCycle = entry {
-            if is_any_quiet_in_stretch(&mut names, &mut replies) {
-                return Ok(false);
-            }
-            names.clear();
-            replies.clear();
-        } else {
-            let mask = cursor.mask();
-            if !note_reply(&mut names, &mut replies, &mask, index, &entry)? {
-                return Ok(false);
-            }
-        }
-        cursor.advance(&entry);
-    }
-    if is_any_quiet_in_stretch(&mut names, &mut replies) {
-        return Ok(false);
-    }
-    Ok(true)
+    first
 }

@@ -30,7 +30,7 @@ pub fn note_silenced(
 {
     match *request {
         Request::StayQuiet { uid, .. } => match Uid::new(uid) {
-            Some(tag) => push_name(names, tag, index),
+            Some(tag) => push_name(names, tag, index, index),
             None => Ok(()),
         },
         Request::Inventory { .. } => Ok(()),

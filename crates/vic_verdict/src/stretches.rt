@@ -1,6 +1,6 @@
 //! Which UIDs the silent and answered slots of a log leave open, from field cycle to field cycle.
 
-ghost use Rattle.std.specs.Prelude.{ℕ, ◌≡◌, ◌≢◌, ◌+◌, ◌<◌, ◌^◌, ◌++◌, ◌∷◌, [], true, Bool, List, Some, IfOk, OnOk, slice_get};
+ghost use Rattle.std.specs.Prelude.{ℕ, ◌≡◌, ◌≢◌, ◌+◌, ◌<◌, ◌^◌, ◌++◌, ◌∷◌, [], true, false, Bool, List, Some, IsTrue, IfOk, OnOk, MatchResult, slice_get};
 ghost use Rattle.vic_tree.specs.OpenSet.{SameUids};
 ghost use Rattle.vic_log.specs.Slots.{slots_of, is_open};
 ghost use Rattle.vic_log.specs.Order.{IsInOrder, entries, AreValid};
@@ -9,9 +9,12 @@ ghost use Rattle.vic_frame.specs.LowBitsFirst.{mirror};
 ghost use Rattle.vic_log.specs.declared.entry.Entry.{Entry as EntryValue};
 ghost use Rattle.vic_log.specs.declared.entry.Entry.TheVariants.{FieldCycle, Sent};
 ghost use Rattle.vic_verdict.specs.declared.sweep.Spot.{Spot as SpotValue};
-ghost use Rattle.vic_log.specs.Rounds.{mask_at};
+ghost use Rattle.vic_log.specs.Rounds.{mask_at, lies_in_some};
+ghost use Rattle.vic_verdict.specs.Possible.{IsContradictedAt};
+ghost use Rattle.vic_verdict.specs.Replies.{RepliesAnswer, AreHeard};
 ghost use Rattle.vic_verdict.specs.Stretches.{AddsSpot, IsStretch};
 
+use crate::possible::Contradiction;
 use crate::sweep::{Name, Spot, settle_stretch};
 use std::alloc::{AllocError, Global};
 use vic_frame::low_bits_first::{key, key_range};
@@ -45,15 +48,16 @@ fn push_spot(
     Ok(())
 }
 
-/// Adds a UID with the place after which it is Quiet.
-pub fn push_name(names: &mut Vec<Name>, uid: Uid, quiet: usize) -> Result<(), AllocError>
+/// Adds a line that names a UID, with its place and the one after which the UID is Quiet by it.
+pub fn push_name(names: &mut Vec<Name>, uid: Uid, at: usize, quiet: usize) -> Result<(), AllocError>
     ensures { OnOk result
         ((names.new.items ≡ names.old.items
-        ++ record { key = mirror uid; quiet = quiet; left = true } ∷ [])
+        ++ record { key = mirror uid; at = at; quiet = quiet; left = true } ∷ [])
         × (mirror uid < 2 ^ 56) × IsUid uid) }
 {
     names.push(Name {
         key: key(uid),
+        at,
         quiet,
         left: true,
     })?;
@@ -68,21 +72,36 @@ fn note_sent(
     end: usize,
 ) -> Result<(), AllocError>
     requires { index < end }
-    ensures { OnOk result ((es : List EntryValue) (set : ℕ → Bool) (ss : List SpotValue)
+    ensures stretch { OnOk result ((es : List EntryValue) (set : ℕ → Bool) (ss : List SpotValue)
         → slice_get es index ≡ Some (Sent request.now)
         → IsStretch es index end set names.old.items ss
         → IsStretch es (index + 1) end set names.new.items ss) }
+    ensures heard { OnOk result ((es : List EntryValue)
+        → slice_get es index ≡ Some (Sent request.now)
+        → AreHeard es index end names.old.items
+        → AreHeard es (index + 1) end names.new.items) }
 {
     match *request {
         Request::StayQuiet { uid, .. } => match Uid::new(uid) {
-            Some(tag) => push_name(names, tag, index),
+            Some(tag) => push_name(names, tag, index, index),
             None => Ok(()),
         },
         Request::Inventory { .. } => Ok(()),
     }
 }
 
-/// Gathers what an entry tells that isn't a field cycle.
+/// Whether a UID lies in a mask, where there is one.
+fn lies_in(mask: &Option<Mask>, uid: Uid) -> bool
+    ensures { result ≡ lies_in_some mask.now uid }
+{
+    match mask {
+        Some(mask) => mask.matches(uid),
+        None => false,
+    }
+}
+
+/// Gathers what an entry tells that isn't a field cycle, and says whether the UID that it heard
+/// lies in the mask of its slot.
 fn note_entry(
     names: &mut Vec<Name>,
     spots: &mut Vec<Spot>,
@@ -90,30 +109,48 @@ fn note_entry(
     index: usize,
     end: usize,
     entry: &Entry,
-) -> Result<(), AllocError>
+) -> Result<bool, AllocError>
     requires { index < end }
-    ensures { OnOk result ((es : List EntryValue) (set : ℕ → Bool)
+    ensures stretch { IfOk result (λ yes. (es : List EntryValue) (set : ℕ → Bool)
         → slice_get es index ≡ Some entry.now → mask.now ≡ mask_at es index → entry.now ≢ FieldCycle
-        → IsStretch es index end set names.old.items spots.old.items
+        → IsTrue yes → IsStretch es index end set names.old.items spots.old.items
         → IsStretch es (index + 1) end set names.new.items spots.new.items) }
+    ensures heard { IfOk result (λ yes. (es : List EntryValue)
+        → slice_get es index ≡ Some entry.now → mask.now ≡ mask_at es index → entry.now ≢ FieldCycle
+        → IsTrue yes → AreHeard es index end names.old.items
+        → AreHeard es (index + 1) end names.new.items) }
+    ensures unfit { IfOk result (λ yes. (es : List EntryValue)
+        → slice_get es index ≡ Some entry.now → mask.now ≡ mask_at es index
+        → yes ≡ false → IsContradictedAt es index) }
 {
     match *entry {
-        Entry::Sent(request) => note_sent(names, &request, index, end),
-        Entry::Silent => push_spot(spots, mask, index, None),
+        Entry::Sent(request) => note_sent(names, &request, index, end)?,
+        Entry::Silent => push_spot(spots, mask, index, None)?,
         Entry::Heard(response) => {
             let uid = response.uid();
-            push_name(names, uid, end)?;
-            push_spot(spots, mask, index, Some(key(uid)))
+            if !lies_in(mask, uid) {
+                return Ok(false);
+            }
+            push_name(names, uid, index, end)?;
+            push_spot(spots, mask, index, Some(key(uid)))?;
         }
-        Entry::Collision | Entry::Garbled | Entry::Listed(_) | Entry::FieldCycle => Ok(()),
+        Entry::Collision | Entry::Garbled | Entry::Listed(_) | Entry::FieldCycle => {}
     }
+    Ok(true)
 }
 
-/// The UIDs that the silent and answered slots of a log leave open.
-pub fn settle_all<S: OpenSet>(alloc: Global, lines: &[LogLine]) -> Result<S, AllocError>
+/// The UIDs that the silent and answered slots of a log leave open, unless a UID was heard that
+/// couldn't have answered there.
+pub fn settle_all<S: OpenSet>(
+    alloc: Global,
+    lines: &[LogLine],
+) -> Result<Result<S, Contradiction>, AllocError>
     requires order { IsInOrder (entries lines.now) }
     requires valid { AreValid (entries lines.now) }
-    ensures { IfOk result (λ s. SameUids (S.is_open s) (is_open (slots_of (entries lines.now)))) }
+    ensures { IfOk result (λ r. MatchResult r
+        (λ s. RepliesAnswer (entries lines.now)
+        × SameUids (S.is_open s) (is_open (slots_of (entries lines.now))))
+        (λ c. IsContradictedAt (entries lines.now) c.at)) }
 {
     let mut set = S::everything(alloc)?;
     let mut names = Vec::new(alloc);
@@ -122,15 +159,21 @@ pub fn settle_all<S: OpenSet>(alloc: Global, lines: &[LogLine]) -> Result<S, All
     for (index, line) in lines.iter().enumerate() {
         let entry = line.item;
         if let Entry::FieldCycle = entry {
-            settle_stretch(alloc, &mut set, &mut names, &mut spots)?;
+            if let Some(at) = settle_stretch(alloc, &mut set, &mut names, &mut spots)? {
+                return Ok(Err(Contradiction { at }));
+            }
             names.clear();
             spots.clear();
         } else {
             let mask = cursor.mask();
-            note_entry(&mut names, &mut spots, &mask, index, lines.len(), &entry)?;
+            if !note_entry(&mut names, &mut spots, &mask, index, lines.len(), &entry)? {
+                return Ok(Err(Contradiction { at: index }));
+            }
         }
         cursor.advance(&entry);
     }
-    settle_stretch(alloc, &mut set, &mut names, &mut spots)?;
-    Ok(set)
+    match settle_stretch(alloc, &mut set, &mut names, &mut spots)? {
+        Some(at) => Ok(Err(Contradiction { at })),
+        None => Ok(Ok(set)),
+    }
 }

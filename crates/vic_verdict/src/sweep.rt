@@ -5,25 +5,29 @@
 //! it, and no other UID. A UID without a name is ruled out where it lies in any of the masks.
 
 ghost use Rattle.std.specs.Prelude.{◌≡◌, ℕ, ◌&&◌, true};
-ghost use Rattle.std.specs.Prelude.{Some, IfSome, IfOk, OnOk};
+ghost use Rattle.std.specs.Prelude.{Some, None, IfSome, IfOk, OnOk};
 ghost use Rattle.std.specs.List.{All};
 ghost use Rattle.std.specs.List.Sorted.{IsStrictlyIncreasing};
 ghost use Rattle.vic_frame.specs.Uids.{IsUid, has};
 ghost use Rattle.vic_frame.specs.LowBitsFirst.{mirror};
 ghost use Rattle.vic_tree.specs.OpenSet.{SameUids};
+ghost use Rattle.vic_verdict.specs.Replies.{AreReady, IsQuietReply};
 ghost use Rattle.vic_verdict.specs.Sweep.{slot_leaves, spot_leaves, all_leave, level_leaves, mask_leaves, run_leaves, IsLevel, keep_all, has_left, all_cover, all_allow, are_left, all_hear_named, HasMask, AreInOrder, HaveKeys, is_between};
 
+use crate::replies::quiet_reply;
 use crate::rising::put_in_order;
 use std::alloc::{AllocError, Global};
 use vic_frame::low_bits_first::uid_at;
 use vic_frame::{Mask, Uid};
 use vic_tree::OpenSet;
 
-/// A UID that is silenced or heard: its key, and the place after which it is Quiet; that of the end
-/// of the log where it is heard alone. And whether the slots looked at so far leave it open.
-#[derive(Clone, Copy, PartialEq, Eq, PartialOrd, Ord)]
+/// A line that silences a UID or hears it: the UID's key, the line's place, and the place after
+/// which the UID is Quiet by it; the end of the log where it is heard. And whether the slots looked
+/// at so far leave it open.
+#[derive(Clone, Copy)]
 pub struct Name {
     pub key: u64,
+    pub at: usize,
     pub quiet: usize,
     pub left: bool,
 }
@@ -245,22 +249,29 @@ fn settle_masks<S: OpenSet>(
 }
 
 /// Settles what the silent and answered slots of some lines tell, by the UIDs that these lines
-/// name.
+/// name. The place of a reply by a UID that was Quiet there, if there is one: then nothing is
+/// settled.
 pub fn settle_stretch<S: OpenSet>(
     alloc: Global,
     set: &mut S,
     names: &mut Vec<Name>,
     spots: &mut Vec<Spot>,
-) -> Result<(), AllocError>
+) -> Result<Option<usize>, AllocError>
     requires keys { HaveKeys names.old.items }
     requires left { are_left names.old.items ≡ true }
     requires masks { All HasMask spots.old.items }
     requires named { all_hear_named names.old.items spots.old.items ≡ true }
-    ensures { OnOk result (SameUids (S.is_open set.new)
+    ensures fit { IfOk result (λ r. r ≡ None → AreReady names.old.items) }
+    ensures settled { IfOk result (λ r. r ≡ None → SameUids (S.is_open set.new)
         (λ u. S.is_open set.old u && all_allow names.old.items spots.old.items (mirror u))) }
+    ensures unfit { IfOk result (λ r. IfSome r (IsQuietReply names.old.items)) }
 {
     names.sort_unstable_by_key(|name| name.key);
+    if let Some(at) = quiet_reply(names) {
+        return Ok(Some(at));
+    }
     spots.sort_unstable();
     rule_out_all(names, spots);
-    settle_masks(alloc, set, names, spots)
+    settle_masks(alloc, set, names, spots)?;
+    Ok(None)
 }

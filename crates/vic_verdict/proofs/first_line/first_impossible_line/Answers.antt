@@ -1,29 +1,49 @@
-use Rattle.std.proofs.Common.{◌≡◌, ℕ, suc, ◌<◌, length, take, get_or, subst, arith}
+use Rattle.std.proofs.Common.{◌≡◌, ℕ, ◌+◌, ◌<◌, length, take, get_or, sym, subst, arith, add-one}
+use Rattle.std.specs.Prelude.{MatchResult}
 use Rattle.std.proofs.lemmas.Option.{slice_get-get_or}
-use Rattle.vic_verdict.specs.Possible.{IsPossible}
+use Rattle.vic_tree.specs.OpenSet.{SameUids}
 use Rattle.vic_log.specs.Order.{entries}
+use Rattle.vic_log.specs.Slots.{slots_of, is_open}
+use Rattle.vic_verdict.specs.Demands.{IsMet}
+use Rattle.vic_verdict.specs.Possible.{IsPossible, IsContradictedAt}
 use Rattle.vic_verdict.proofs.FirstLine.{first_impossible}
-use Rattle.vic_verdict.proofs.Halving.{between_first, order_front, valid_front}
+use Rattle.vic_verdict.proofs.Halving.{Between, between_first, between_more, between_earlier, order_front, valid_front}
 use Rattle.vic_verdict.proofs.first_line.first_impossible_line.Goals as goal
+use Rattle.vic_verdict.proofs.first_line.first_impossible_line.Goals.{in-Ok, in-Err}
 
-pub loop-high-init : goal.loop-high-init
-loop-high-init g c = between_first c.args.lines.now c.requires.impossible
+pub loop-low-init : goal.loop-low-init
+loop-low-init g c = between_first c.args.lines.now c.args.contradiction.at c.requires.impossible
 
-pub is_possible-requires-clause-order :
-    goal.is_possible-requires-clause-order
-is_possible-requires-clause-order g c = order_front c.between-middle.result c.args.lines.now c.requires.order
+pub open_and_met-requires-clause-order : goal.open_and_met-requires-clause-order
+open_and_met-requires-clause-order g c = order_front c.between-count.result c.args.lines.now c.requires.order
 
-pub is_possible-requires-clause-valid :
-    goal.is_possible-requires-clause-valid
-is_possible-requires-clause-valid g c = valid_front c.between-middle.result c.args.lines.now c.requires.valid
+pub open_and_met-requires-clause-valid : goal.open_and_met-requires-clause-valid
+open_and_met-requires-clause-valid g c = valid_front c.between-count.result c.args.lines.now c.requires.valid
+
+pub loop-low-preserved : goal.loop-low-preserved
+loop-low-preserved g c =
+    let lines = c.args.lines.now in
+    let count = c.between-count.result in
+    let es = entries (take count lines) in
+    let inside = c.between-count.ensures.within in
+    elim c.match-branch-3.branch [
+      | in-Ok w ↦
+          subst (λ n. Between lines n (c.match-branch-3.last + 1)) (sym w.low-is)
+          (subst (λ n. Between lines count (n + 1)) (sym w.last-is)
+          (between_more lines c.loop-low.low (c.loop-low.last + 1) count (omega (arith, inside)) (subst (λ r. MatchResult r (λ p. IsPossible es × SameUids (g.S.OpenSet.is_open p.0) (is_open (slots_of es)) × IsMet es p.1) (λ x. IsContradictedAt es x.at)) w.in-Ok.is c.in_ok-earlier.ensures).0 c.loop-low.invariant))
+      | in-Err w ↦
+          subst (λ n. Between lines n (c.match-branch-3.last + 1)) (sym w.low-is)
+          (subst (λ n. Between lines c.loop-low.low (n + 1)) (sym w.last-is)
+          (between_earlier lines c.loop-low.low (c.loop-low.last + 1) count _ (omega (arith, inside)) (subst (λ r. MatchResult r (λ p. IsPossible es × SameUids (g.S.OpenSet.is_open p.0) (is_open (slots_of es)) × IsMet es p.1) (λ x. IsContradictedAt es x.at)) w.in-Err.is c.in_ok-earlier.ensures) c.loop-low.invariant))
+    ]
 
 pub returns : goal.returns
 returns g c =
     let lines = c.args.lines.now in
-    let low = c.loop-high.low in
-    let b = c.loop-high.invariant in
-    let close = c.loop-high-test.false in
-    let within : low < length lines = omega (arith, b.ordered, b.within) in
-    let next : c.loop-high.high ≡ suc low = omega (arith, b.ordered, close) in
-    let l = get_or lines low c.index-lines-low.result in
-    first_impossible lines low l c.requires.rising (slice_get-get_or lines low c.index-lines-low.result within) b.possible (subst (λ (n : ℕ). IsPossible (entries (take n lines)) → ⊥) next b.impossible)
+    let last = c.loop-low.last in
+    let b = c.loop-low.invariant in
+    let close = c.loop-low-test.false in
+    let within : last < length lines = let w = b.within in omega (arith, w) in
+    let end : c.loop-low.low ≡ last = let o = b.ordered in omega (arith, o, close) in
+    let l = get_or lines last c.index-lines-last.result in
+    first_impossible lines last l c.requires.rising (slice_get-get_or lines last c.index-lines-last.result within) (subst (λ n. IsPossible (entries (take n lines))) end b.possible) (subst (λ (n : ℕ). IsPossible (entries (take n lines)) → ⊥) (add-one last) b.impossible)

@@ -1,9 +1,9 @@
-use Rattle.std.proofs.Common.{◌-◌}
+use Rattle.std.proofs.Common.{◌+◌, ◌-◌}
 use Rattle.vic_verdict.proofs.Halving.{Between}
 use Rattle.vic_verdict.proofs.first_line.first_impossible_line.Given as goal
 
-abbrev pub invariant-loop-high : goal.invariant-loop-high
-invariant-loop-high g l = Between l.lines l.low l.high
+abbrev pub invariant-loop-low : goal.invariant-loop-low
+invariant-loop-low g l = Between l.lines l.low (l.last + 1)
 
-abbrev pub decreases-loop-high : goal.decreases-loop-high
-decreases-loop-high g l = l.high - l.low
+abbrev pub decreases-loop-low : goal.decreases-loop-low
+decreases-loop-low g l = l.last - l.low

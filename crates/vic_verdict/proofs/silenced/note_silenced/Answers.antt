@@ -15,7 +15,7 @@ pub returns-in-Some : goal.returns-in-Some
 returns-in-Some c = on_ok_weaker c.push_name.result (λ done es from k t.
     let e : Entry = Sent (StayQuiet c.in-StayQuiet.link c.in-StayQuiet.uid) in
     let same : c.in-Some.tag ≡ c.in-StayQuiet.uid = c.in-Some.ensures.1 in
-    tells_silenced es from c.args.index c.args.names.now.items c.push_name.new.names.items e (record { key = mirror c.in-Some.tag; quiet = c.args.index; left = true })
+    tells_silenced es from c.args.index c.args.names.now.items c.push_name.new.names.items e (record { key = mirror c.in-Some.tag; at = c.args.index; quiet = c.args.index; left = true })
     (k ∙ ap (λ (q : Request). Some (Sent q)) c.in-StayQuiet.is) refl
     (λ u w. ap (λ v. v == u) (sym same) ∙ silenced_key c.in-Some.tag u done.2 w)
     done.1 refl done.0 t) c.push_name.ensures

@@ -1,10 +1,18 @@
-use Rattle.std.proofs.Common.{◌+◌, ◌∙◌, ap, sym, subst, length, []}
+use Rattle.std.proofs.Common.{◌+◌, ◌∙◌, ap, sym, subst, length, [], arith, ◌≡◌}
+use Rattle.std.specs.Prelude.{IfSome}
+use Rattle.std.proofs.lemmas.List.{length-map}
+use Rattle.std.proofs.lemmas.Option.{slice_get_within}
+use Rattle.vic_log.specs.declared.entry.Entry.TheVariants.{Heard}
+use Rattle.vic_log.specs.declared.entry.LogLine.{LogLine}
 use Rattle.vic_log.specs.Order.{entries}
+use Rattle.vic_log.specs.Slots.{slots_before, is_open}
+use Rattle.vic_verdict.specs.Replies.{AreHeard, IsQuietReply}
 use Rattle.vic_verdict.specs.Stretches.{IsStretch}
 use Rattle.vic_verdict.proofs.Stands.{entry_at, open_first}
 use Rattle.vic_verdict.proofs.Stretching.{stretch_first, stretch_anew}
+use Rattle.vic_verdict.proofs.Heard.{heard_first, heard_anew, quiet_contradicts, answers_before}
 use Rattle.vic_verdict.proofs.stretches.settle_all.Goals as goal
-use Rattle.vic_verdict.proofs.stretches.settle_all.Goals.{in-FieldCycle+in_ok-settle_stretch, in_default+in_ok-note_entry}
+use Rattle.vic_verdict.proofs.stretches.settle_all.Goals.{in-FieldCycle+in_ok-at+in_default-2, in_default+in_ok-note_entry+else-not-branch}
 
 pub loop-index-init : goal.loop-index-init
 loop-index-init g c =
@@ -15,7 +23,18 @@ loop-index-init g c =
       round = c.first-cursor.ensures es;
       stretch = subst (λ ns. IsStretch es 0 n set ns c.new-spots.result.items) (sym c.new-names.ensures.items)
           (subst (λ ss. IsStretch es 0 n set [] ss) (sym c.new-spots.ensures.items) (stretch_first es n set (open_first es set c.in_ok-set.ensures)));
+      heard = subst (λ ns. AreHeard es 0 n ns) (sym c.new-names.ensures.items) (heard_first es n);
     }
+
+pub returns-in-Some : goal.returns-in-Some
+returns-in-Some g c =
+    quiet_contradicts (entries c.args.lines.now) c.loop-index.index (length c.args.lines.now) c.in-Some.at c.loop-index.names.items c.loop-index.invariant.heard (subst (λ o. IfSome o (IsQuietReply c.loop-index.names.items)) c.in-Some.is c.in_ok-at.ensures.unfit)
+
+pub returns-then-not-branch : goal.returns-then-not-branch
+returns-then-not-branch g c =
+    let es = entries c.args.lines.now in
+    let here = entry_at c.args.lines.now c.loop-index.index c.index-lines-index.result c.loop-index-test.true c.index-lines-index.is in
+    c.in_ok-note_entry.ensures.unfit es here (c.mask-mask.ensures es c.loop-index.index c.requires.valid c.loop-index.invariant.round) c.if-not-branch.true
 
 pub loop-index-preserved : goal.loop-index-preserved
 loop-index-preserved g c =
@@ -28,15 +47,39 @@ loop-index-preserved g c =
     record {
       round = c.advance.ensures es i c.requires.order here before.round;
       stretch = elim c.match-entry.branch [
-        | in-FieldCycle+in_ok-settle_stretch w ↦
+        | in-FieldCycle+in_ok-at+in_default-2 w ↦
             subst (λ s. IsStretch es (i + 1) n (g.S.OpenSet.is_open s) c.match-entry.names.items c.match-entry.spots.items) (sym w.set-is)
             (stretch_anew es i n (g.S.OpenSet.is_open c.loop-index.set) (g.S.OpenSet.is_open w.settle_stretch.new.set) c.loop-index.names.items c.match-entry.names.items c.loop-index.spots.items c.match-entry.spots.items l.item here w.in-FieldCycle.is
             (ap (λ v. v.items) w.names-is ∙ w.clear.ensures.items) (ap (λ v. v.items) w.spots-is ∙ w.clear-in-FieldCycle.ensures.items)
-            w.in_ok-settle_stretch.ensures before.stretch)
-        | in_default+in_ok-note_entry w ↦
+            (w.in_ok-at.ensures.settled w.in_default-2.is) before.stretch)
+        | in_default+in_ok-note_entry+else-not-branch w ↦
             subst (λ s. IsStretch es (i + 1) n (g.S.OpenSet.is_open s) c.match-entry.names.items c.match-entry.spots.items) (sym w.set-is)
             (subst (λ v. IsStretch es (i + 1) n (g.S.OpenSet.is_open c.loop-index.set) v.items c.match-entry.spots.items) (sym w.names-is)
             (subst (λ v. IsStretch es (i + 1) n (g.S.OpenSet.is_open c.loop-index.set) w.note_entry.new.names.items v.items) (sym w.spots-is)
-            (w.in_ok-note_entry.ensures es (g.S.OpenSet.is_open c.loop-index.set) here (w.mask-mask.ensures es i c.requires.valid before.round) w.in_default.not-FieldCycle before.stretch)))
+            (w.in_ok-note_entry.ensures.stretch es (g.S.OpenSet.is_open c.loop-index.set) here (w.mask-mask.ensures es i c.requires.valid before.round) w.in_default.not-FieldCycle w.if-not-branch.false before.stretch)))
+      ];
+      heard = elim c.match-entry.branch [
+        | in-FieldCycle+in_ok-at+in_default-2 w ↦
+            heard_anew es i n c.loop-index.names.items c.match-entry.names.items l.item here w.in-FieldCycle.is
+            (ap (λ v. v.items) w.names-is ∙ w.clear.ensures.items) (w.in_ok-at.ensures.fit w.in_default-2.is) before.heard
+        | in_default+in_ok-note_entry+else-not-branch w ↦
+            subst (λ v. AreHeard es (i + 1) n v.items) (sym w.names-is)
+            (w.in_ok-note_entry.ensures.heard es here (w.mask-mask.ensures es i c.requires.valid before.round) w.in_default.not-FieldCycle w.if-not-branch.false before.heard)
       ];
     }
+
+pub returns-in-Some-2 : goal.returns-in-Some-2
+returns-in-Some-2 g c =
+    quiet_contradicts (entries c.args.lines.now) c.loop-index.index (length c.args.lines.now) c.in-Some-2.at c.loop-index.names.items c.loop-index.invariant.heard (subst (λ o. IfSome o (IsQuietReply c.loop-index.names.items)) c.in-Some-2.is c.in_ok-at-2.ensures.unfit)
+
+pub returns-in-None : goal.returns-in-None
+returns-in-None g c =
+    let es = entries c.args.lines.now in
+    let n = length c.args.lines.now in
+    let i = c.loop-index.index in
+    let last = c.loop-index-test.false in
+    let long = length-map c.args.lines.now (λ (x : LogLine). x.item) in
+    let end : i ≡ length es = let upto = c.loop-index.auto.index-end in omega (arith, long, last, upto) in (
+      (λ j r k. answers_before es i n c.loop-index.names.items c.loop-index.invariant.heard (c.in_ok-at-2.ensures.fit c.in-None.is) j r (let within = slice_get_within es j (Heard r) k in omega (arith, within, end)) k),
+      (λ u w. c.in_ok-at-2.ensures.settled c.in-None.is u w ∙ (c.loop-index.invariant.stretch.uids u w ∙ ap (λ m. is_open (slots_before es m) u) end)),
+    )

@@ -28,7 +28,7 @@ loop-i-preserved c =
       | then-name w ↦ w.names-is ∙ (w.leaves.ensures ∙ sym (ap (λ b. b && p n.key n.quiet) w.if-name.true ∙ in_mask))
       | else-name w ↦ w.names-is ∙ (w.if-name.false ∙ sym (ap (λ b. b && p n.key n.quiet) w.if-name.false))
     ] in
-    ruled_more p c.args.names.now c.loop-i.names c.loop-i.i _ c.loop-i.invariant c.loop-i-test.true (ap (λ (b : Bool). record { key = n.key; quiet = n.quiet; left = b }) left)
+    ruled_more p c.args.names.now c.loop-i.names c.loop-i.i _ c.loop-i.invariant c.loop-i-test.true (ap (λ (b : Bool). record { key = n.key; at = n.at; quiet = n.quiet; left = b }) left)
 
 pub returns-then-last-name : goal.returns-then-last-name
 returns-then-last-name c =
