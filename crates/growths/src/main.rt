@@ -1,12 +1,14 @@
 //! Makes each call that takes memory, and says how it answered: `right`, `memory` (want of memory,
 //! and the right answer when called again) or `wrong`.
 //!
-//! `.ci/growths` runs it with one growth refused, each in turn. The refused growth is that of a
-//! fixed number, so standard input says how many growths to make before the first call.
+//! `.ci/growths` runs it with one growth refused, each in turn. With something on standard input it
+//! makes calls that are wrong on purpose.
 #![tactic(auto)]
 
+mod explanations;
 mod found;
 mod logs;
+mod planted;
 mod rows;
 mod runs;
 mod sets;
@@ -15,31 +17,10 @@ mod verdicts;
 mod words;
 
 use found::Found;
-use std::alloc::{AllocError, Global};
+use std::alloc::Global;
 use std::io;
 use std::io::Read;
 use vic_tree::{CellList, MaskTree, RangeSet};
-
-/// The number that decimal digits write, which at most four bytes hold.
-fn number_of(bytes: &[u8]) -> u32 {
-    let mut number = 0u32;
-    for byte in bytes {
-        if byte.is_ascii_digit() {
-            number = number
-                .wrapping_mul(10)
-                .wrapping_add(u32::from(*byte - b'0'));
-        }
-    }
-    number
-}
-
-/// Makes so many growths.
-fn grow(alloc: Global, count: u32) -> Result<(), AllocError> {
-    for _ in 0..count {
-        let _ = Box::new(alloc, 0u64)?;
-    }
-    Ok(())
-}
 
 /// Says how a call answered.
 fn say(rt: &HostRuntime, call: &str, found: Found) -> io::Result<()> {
@@ -47,12 +28,18 @@ fn say(rt: &HostRuntime, call: &str, found: Found) -> io::Result<()> {
     println!(rt; "{call} {word}")
 }
 
+/// Makes the calls that are wrong on purpose.
+fn say_planted(rt: &HostRuntime, alloc: Global) -> io::Result<()> {
+    say(rt, "planted answer", planted::answers(alloc))?;
+    say(rt, "planted writing", planted::writes_early(alloc))?;
+    say(rt, "planted idleness", planted::takes_none())
+}
+
 fn main(rt: HostRuntime) -> io::Result<()> {
-    let mut input = [0u8; 8];
-    let count = rt.reader().read(&mut input)?.min(input.len());
     let alloc = rt.alloc();
-    if grow(alloc, number_of(&input[..count])).is_err() {
-        return say(&rt, "grow", Found::Wrong);
+    let mut input = [0u8; 1];
+    if rt.reader().read(&mut input)? > 0 {
+        return say_planted(&rt, alloc);
     }
     say(&rt, "push", logs::push(alloc))?;
     say(&rt, "read_log", logs::read_rows(alloc))?;
@@ -85,7 +72,30 @@ fn main(rt: HostRuntime) -> io::Result<()> {
         "judge_with MaskTree",
         verdicts::judge_one_with::<MaskTree>(alloc),
     )?;
+    say(
+        &rt,
+        "judge_with RangeSet",
+        verdicts::judge_one_with::<RangeSet>(alloc),
+    )?;
+    say(&rt, "explain", explanations::explain_rows(alloc))?;
+    say(
+        &rt,
+        "explain_with CellList",
+        explanations::explain_rows_with::<CellList>(alloc),
+    )?;
+    say(
+        &rt,
+        "explain_with MaskTree",
+        explanations::explain_rows_with::<MaskTree>(alloc),
+    )?;
+    say(
+        &rt,
+        "explain_with RangeSet",
+        explanations::explain_rows_with::<RangeSet>(alloc),
+    )?;
+    say(&rt, "judge_text", verdicts::judge_texts(alloc))?;
     say(&rt, "run_check", runs::check_rows(alloc))?;
     say(&rt, "run_simulate", runs::simulate_rows(alloc))?;
+    say(&rt, "run_explain", runs::explain_rows(alloc))?;
     say(&rt, "read_words", words::read(alloc))
 }

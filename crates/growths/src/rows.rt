@@ -143,3 +143,41 @@ R 0000B2000000000104E0CF94
 U E0040100000000A1
 U E0040100000000B2
 ";
+
+/// A is heard, and not listed.
+pub const ONE_HEARD: &[u8] = b"vicinity-log 1
+T 260100F60A
+R 0000A1000000000104E06745
+";
+
+/// A is listed, and didn't answer.
+pub const ONE_MISSING: &[u8] = b"vicinity-log 1
+T 260100F60A
+S
+U E0040100000000A1
+";
+
+/// A alone may be there, and be Quiet.
+pub const ONE_QUIET: &[u8] = b"vicinity-log 1
+T 2202A1000000000104E0662A
+T 260100F60A
+S
+";
+
+/// The same with A listed.
+pub const QUIET_LISTED: &[u8] = b"vicinity-log 1
+T 2202A1000000000104E0662A
+T 260100F60A
+S
+U E0040100000000A1
+";
+
+/// A collision of E000000000000000 and E080000000000000, which are Quiet then.
+pub const TWO_COLLIDED: &[u8] = b"vicinity-log 1
+T 26013700000000000000641B
+C
+T 220200000000000000E077EB
+T 220200000000000080E0BB67
+T 260100F60A
+S
+";

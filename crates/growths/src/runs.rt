@@ -1,25 +1,27 @@
-//! Runs: `run_check` and `run_simulate`.
+//! Runs: `run_check`, `run_simulate` and `run_explain`.
 
 use crate::found::{Found, both, call_again};
 use crate::rows::{
-    COLLISION_PARTED, ONE_SILENCED, SILENCED_BETWEEN, SILENCED_BETWEEN_FILLED, TWO_ASKED, TWO_HEARD,
+    COLLISION_PARTED, COLLISION_UNMET, ONE_HEARD, ONE_MISSING, ONE_QUIET, ONE_SILENCED,
+    QUIET_LISTED, SILENCED_BETWEEN, SILENCED_BETWEEN_FILLED, TWO_ASKED, TWO_COLLIDED, TWO_HEARD,
 };
 use arrayvec::ArrayVec;
 use std::alloc::{AllocError, Global};
-use vic_answer::{RunFault, Status, fault_text, run_check, run_simulate};
+use vic_answer::{RunFault, Status, fault_text, run_check, run_explain, run_simulate};
 use vic_log::{FromRead, ToWrite};
 
 /// What a run writes on.
-type Paper = ArrayVec<u8, 1024>;
+pub type Paper = ArrayVec<u8, 1024>;
 
-/// Whether a run ended with this text. Where memory was wanting, nothing may be written.
-fn has_ended(
+/// Whether a run ended with this status and text. Where memory was wanting, nothing may be written.
+pub fn has_ended(
     answer: Result<Status, RunFault>,
     written: &[u8],
+    status: Status,
     text: &[u8],
 ) -> Result<bool, AllocError> {
     match answer {
-        Ok(status) => Ok(status == Status::Whole && written == text),
+        Ok(ended) => Ok(ended == status && written == text),
         Err(fault) => {
             if written.is_empty() && fault_text(&fault) == "vicinity: out of memory" {
                 Err(AllocError)
@@ -34,14 +36,26 @@ fn has_ended(
 fn check_row(alloc: Global, given: &[u8], line: &[u8]) -> Result<bool, AllocError> {
     let mut sink = ToWrite::new(Paper::new());
     let answer = run_check(alloc, &mut FromRead::new(given), &mut sink);
-    has_ended(answer, sink.into_inner().as_slice(), line)
+    has_ended(answer, sink.into_inner().as_slice(), Status::Whole, line)
 }
 
 /// Fills in the slots of a log.
 fn simulate_row(alloc: Global, given: &[u8], filled: &[u8]) -> Result<bool, AllocError> {
     let mut sink = ToWrite::new(Paper::new());
     let answer = run_simulate(alloc, &mut FromRead::new(given), &mut sink);
-    has_ended(answer, sink.into_inner().as_slice(), filled)
+    has_ended(answer, sink.into_inner().as_slice(), Status::Whole, filled)
+}
+
+/// Explains a log.
+fn explain_row(
+    alloc: Global,
+    given: &[u8],
+    status: Status,
+    text: &[u8],
+) -> Result<bool, AllocError> {
+    let mut sink = ToWrite::new(Paper::new());
+    let answer = run_explain(alloc, &mut FromRead::new(given), &mut sink);
+    has_ended(answer, sink.into_inner().as_slice(), status, text)
 }
 
 /// Checks logs.
@@ -59,4 +73,48 @@ pub fn simulate_rows(alloc: Global) -> Found {
         call_again(|| simulate_row(alloc, TWO_ASKED, TWO_HEARD)),
         call_again(|| simulate_row(alloc, SILENCED_BETWEEN, SILENCED_BETWEEN_FILLED)),
     )
+}
+
+/// Explains logs: one for each kind of verdict that a population shows, and one that is impossible.
+pub fn explain_rows(alloc: Global) -> Found {
+    let rows: [(&[u8], Status, &[u8]); 6] = [
+        (
+            ONE_HEARD,
+            Status::NotWhole,
+            b"unlisted E0040100000000A1\npopulation 1\nU E0040100000000A1\n",
+        ),
+        (
+            ONE_MISSING,
+            Status::NotWhole,
+            b"absent E0040100000000A1\npopulation 0\n",
+        ),
+        (
+            ONE_QUIET,
+            Status::NotWhole,
+            b"unsettled 56 040100000000A1\npopulation 1\nU E0040100000000A1\n",
+        ),
+        (
+            QUIET_LISTED,
+            Status::NotWhole,
+            b"doubtful E0040100000000A1\npopulation 0\n",
+        ),
+        (
+            TWO_COLLIDED,
+            Status::NotWhole,
+            b"unlisted E000000000000000\npopulation 2\nU E000000000000000\nU E080000000000000\n",
+        ),
+        (
+            COLLISION_UNMET,
+            Status::Impossible,
+            b"impossible at line 35\n",
+        ),
+    ];
+    let mut found = Found::Right;
+    for (given, status, text) in rows {
+        found = both(
+            found,
+            call_again(|| explain_row(alloc, given, status, text)),
+        );
+    }
+    found
 }

@@ -1,9 +1,10 @@
-//! Verdicts: `judge` and `judge_with`.
+//! Verdicts: `judge` and `judge_with`, `judge_text`.
 
 use crate::found::{Found, both, call_again};
 use crate::logs::log_of;
 use crate::rows::{COLLISION_PARTED, COLLISION_UNMET, ONE_SILENCED, TWO_HEARD};
 use std::alloc::{AllocError, Global};
+use vic_answer::{Answer, judge_text};
 use vic_tree::OpenSet;
 use vic_verdict::{Verdict, judge, judge_with};
 
@@ -52,4 +53,20 @@ pub fn judge_rows_with<S: OpenSet>(alloc: Global) -> Found {
     let silenced = call_again(|| judge_row_with::<S>(alloc, ONE_SILENCED, complete));
     let parted = call_again(|| judge_row_with::<S>(alloc, COLLISION_PARTED, complete));
     both(both(heard, silenced), parted)
+}
+
+/// Judges a text.
+fn judge_text_row(alloc: Global, text: &[u8], verdict: Verdict) -> Result<bool, AllocError> {
+    Ok(judge_text(alloc, text)? == Answer::Judged(verdict))
+}
+
+/// Judges texts.
+pub fn judge_texts(alloc: Global) -> Found {
+    let complete = Verdict::Complete { count: 2 };
+    let heard = call_again(|| judge_text_row(alloc, TWO_HEARD, complete));
+    let silenced = call_again(|| judge_text_row(alloc, ONE_SILENCED, complete));
+    let unmet = call_again(|| {
+        judge_text_row(alloc, COLLISION_UNMET, Verdict::Impossible { line: 35 })
+    });
+    both(both(heard, silenced), unmet)
 }

@@ -4,6 +4,7 @@
 #[cfg(test)]
 mod tests;
 
+use std::io::ErrorKind;
 use std::process::ExitCode;
 use std::{env, fs};
 use vic_answer::{RunFault, Status, fault_text, run_check, run_explain, run_frame, run_simulate};
@@ -17,7 +18,10 @@ const NO_ANSWER: u8 = 4;
 fn given_words(rt: &HostRuntime) -> Result<Vec<String>, WordsFault> {
     match env::args(rt) {
         Ok(words) => Ok(words.collect(rt.alloc())?),
-        Err(_) => Err(WordsFault::Usage),
+        Err(error) => match error.kind() {
+            ErrorKind::OutOfMemory => Err(WordsFault::Memory),
+            _ => Err(WordsFault::Usage),
+        },
     }
 }
 

@@ -1,0 +1,107 @@
+//! Verdicts with a population that shows them: `explain` and `explain_with`.
+
+use crate::found::{Found, both, call_again};
+use crate::logs::log_of;
+use crate::rows::{COLLISION_UNMET, ONE_HEARD, ONE_MISSING, ONE_QUIET, QUIET_LISTED, TWO_COLLIDED};
+use std::alloc::{AllocError, Global};
+use vic_frame::{Mask, Uid};
+use vic_tree::OpenSet;
+use vic_verdict::{Explanation, Verdict, explain, explain_with};
+
+/// A log, the verdict on it, and the numbers of the UIDs that show it.
+#[derive(Clone, Copy)]
+struct Row {
+    text: &'static [u8],
+    verdict: Verdict,
+    population: Option<&'static [u64]>,
+}
+
+impl Row {
+    /// Whether this is the row's explanation.
+    fn has(&self, explanation: &Explanation) -> bool {
+        let same = match (&explanation.population, self.population) {
+            (Some(uids), Some(numbers)) => {
+                uids.len() == numbers.len()
+                    && uids
+                        .iter()
+                        .zip(numbers)
+                        .all(|(uid, number)| uid.number() == *number)
+            }
+            (None, None) => true,
+            (Some(_), None) | (None, Some(_)) => false,
+        };
+        same && explanation.verdict == self.verdict
+    }
+}
+
+/// A log for each kind of verdict that a population shows, and one that is impossible.
+fn rows() -> Option<[Row; 6]> {
+    let uid = Uid::new(0xE004_0100_0000_00A1)?;
+    let least = Uid::new(0xE000_0000_0000_0000)?;
+    let mask = Mask::new(56, 0x04_0100_0000_00A1)?;
+    let only: &'static [u64] = &[0xE004_0100_0000_00A1];
+    let two: &'static [u64] = &[0xE000_0000_0000_0000, 0xE080_0000_0000_0000];
+    let row = |text, verdict, population| Row {
+        text,
+        verdict,
+        population,
+    };
+    Some([
+        row(ONE_HEARD, Verdict::Unlisted(uid), Some(only)),
+        row(ONE_MISSING, Verdict::Absent(uid), Some(&[])),
+        row(ONE_QUIET, Verdict::Unsettled(mask), Some(only)),
+        row(QUIET_LISTED, Verdict::Doubtful(uid), Some(&[])),
+        row(TWO_COLLIDED, Verdict::Unlisted(least), Some(two)),
+        row(COLLISION_UNMET, Verdict::Impossible { line: 35 }, None),
+    ])
+}
+
+/// Explains a log.
+fn explain_row(alloc: Global, row: &Row) -> Result<bool, AllocError> {
+    match log_of(alloc, row.text)? {
+        Some(log) => Ok(row.has(&explain(alloc, &log)?)),
+        None => Ok(false),
+    }
+}
+
+/// Explains a log by a set of one kind.
+fn explain_row_with<S: OpenSet>(alloc: Global, row: &Row) -> Result<bool, AllocError> {
+    match log_of(alloc, row.text)? {
+        Some(log) => Ok(row.has(&explain_with::<S>(alloc, &log)?)),
+        None => Ok(false),
+    }
+}
+
+/// Explains a log, and again where memory was wanting.
+fn explain_again(alloc: Global, row: &Row) -> Found {
+    call_again(|| explain_row(alloc, row))
+}
+
+/// The same by a set of one kind.
+fn explain_again_with<S: OpenSet>(alloc: Global, row: &Row) -> Found {
+    call_again(|| explain_row_with::<S>(alloc, row))
+}
+
+/// Explains logs.
+pub fn explain_rows(alloc: Global) -> Found {
+    let Some(rows) = rows() else {
+        return Found::Wrong;
+    };
+    let mut found = Found::Right;
+    for row in rows.iter() {
+        found = both(found, explain_again(alloc, row));
+    }
+    found
+}
+
+/// Explains logs by a set of one kind.
+pub fn explain_rows_with<S: OpenSet>(alloc: Global) -> Found {
+    let Some(rows) = rows() else {
+        return Found::Wrong;
+    };
+    let mut found = Found::Right;
+    for row in rows.iter() {
+        found = both(found, explain_again_with::<S>(alloc, row));
+    }
+    found
+}
