@@ -14,7 +14,7 @@ use Rattle.vic_frame.specs.Uids.{IsUid, is_uid, has}
 use Rattle.vic_frame.specs.Masks.{BitMask, lies_in}
 use Rattle.vic_frame.specs.LowBitsFirst.{mirror}
 use Rattle.vic_frame.specs.Replies.{Reply}
-use Rattle.vic_tree.specs.OpenSet.{SameUids, UpToThree, in_mask, without_keys}
+use Rattle.vic_tree.specs.OpenSet.{SameUids, UpToThree, in_mask}
 use Rattle.vic_log.specs.declared.entry.Entry.{Entry}
 use Rattle.vic_log.specs.declared.entry.Entry.TheVariants.{Sent, Silent, Collision, Heard, Listed, Garbled, FieldCycle}
 use Rattle.vic_log.specs.Rounds.{mask_at, lies_in_some}
@@ -76,29 +76,6 @@ first_ready set ns d m us same h none = record {
     go : (b : Bool) → (b ≡ true → not b ≡ true) → not b ≡ true
     go true f = f refl
     go false f = refl
-
--- those found except the Quiet ones
-pub others_ready : (set : ℕ → Bool) (ns : List Name) (d : Demand) (m : BitMask) (keys us : List ℕ) → ((u : ℕ) → IsUid u → lies_in_some d.mask u ≡ lies_in m u) → ((u : ℕ) → IsUid u → lies_in m u ≡ true → has keys (mirror u) ≡ is_silenced ns (mirror u) d.at) → UpToThree (in_mask (without_keys set keys) m []) us → UpToThree (ready_of set ns d) us
-others_ready set ns d m keys us same members h = UpToThree-same (in_mask (without_keys set keys) m []) (ready_of set ns d) us (λ u. go u (is_uid u) refl) h
-  where
-    both : (a b : Bool) → a ≡ b → (not a && true) ≡ not b
-    both true true e = refl
-    both false false e = refl
-    both true false e = absurd (cc)
-    both false true e = absurd (cc)
-
-    none : (a : Bool) → (not a && false) ≡ false
-    none true = refl
-    none false = refl
-
-    inner : (u : ℕ) → IsUid u → (a b : Bool) → lies_in m u ≡ b → ((a && not (has keys (mirror u))) && (b && not false)) ≡ (a && (b && not (is_silenced ns (mirror u) d.at)))
-    inner u w false b e = refl
-    inner u w true true e = both (has keys (mirror u)) (is_silenced ns (mirror u) d.at) (members u w e)
-    inner u w true false e = none (has keys (mirror u))
-
-    go : (u : ℕ) (b : Bool) → is_uid u ≡ b → ((b && (set u && not (has keys (mirror u)))) && (lies_in m u && not false)) ≡ ((b && set u) && is_ready ns d u)
-    go u true e = inner u (IsUid-from u e) (set u) (lies_in m u) refl ∙ ap (λ l. set u && (l && not (is_silenced ns (mirror u) d.at))) (sym (same u (IsUid-from u e)))
-    go u false e = refl
 
 -- whoever answers by the names answers
 ready_answers : (es : List Entry) (from i : ℕ) (ns : List Name) (d : Demand) (u : ℕ) → TellsQuiet es from i ns → IsDemand es from i d → IsUid u → is_ready ns d u ≡ answers_at es d.at u
@@ -185,14 +162,6 @@ pub record AreMetTo (es : List Entry) (ds : List Demand) (k : ℕ) (old new : Li
   pub met : (j : ℕ) (d : Demand) → j < k → Any (λ (f : Found). Meets es f (get_or ds j d).at) new ⊎ IsAskedAgain ds j
   pub few : sum_by (λ (f : Found). f.need) new ≤ sum_by (λ (f : Found). f.need) old + sum_by (λ (d : Demand). d.need) (take k ds)
 
-pub met_first : (es : List Entry) (ds : List Demand) (fs : List Found) → AreMetTo es ds 0 fs fs
-met_first es ds fs = record {
-  found = λ h. h;
-  kept = λ i h. h;
-  met = λ j d below. absurd (omega (arith, below));
-  few = omega arith;
-}
-
 pub met_skipped : (es : List Entry) (ds : List Demand) (k : ℕ) (old new : List Found) → k < length ds → IsAskedAgain ds k → AreMetTo es ds k old new → AreMetTo es ds (k + 1) old new
 met_skipped es ds k old new below again h = record {
   found = h.found;
@@ -249,15 +218,6 @@ met_permuted es ds fs old new p m = record {
   kept = m.kept;
   met = All-permutation (λ (d : Demand). Any (λ (f : Found). Meets es f d.at) new) fs ds (IsPermutation-sym ds fs p) m.met;
   few = let few = m.few in let same = sum_by-IsPermutation (λ (d : Demand). d.need) ds fs p in omega (arith, few, same);
-}
-
--- no demands
-pub met_none : (es : List Entry) (ds : List Demand) (fs : List Found) → ds ≡ [] → AreMet es ds fs fs
-met_none es ds fs none = record {
-  found = λ h. h;
-  kept = λ i h. h;
-  met = λ k d below. absurd (let e = ap length none in omega (arith, below, e));
-  few = omega arith;
 }
 
 -- ---- an entry more
