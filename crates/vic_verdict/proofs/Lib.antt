@@ -16,6 +16,7 @@ pub mod Failing
 pub mod Listing
 pub mod Cases
 pub mod Sweeping
+pub mod Covering
 pub mod Stretching
 pub mod Choosing
 pub mod Gathering

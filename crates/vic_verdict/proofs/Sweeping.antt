@@ -7,10 +7,8 @@ use Rattle.std.proofs.lemmas.Bool.Decides.{nat_tests}
 use Rattle.std.proofs.lemmas.List.{ext_get_or, get_or-map, get_or-set_same, get_or-set_other, length-set, take_all}
 use Rattle.std.proofs.lemmas.List.Folds.{list_all_more, list_any_more, list_any-append}
 use Rattle.vic_frame.specs.Uids.{IsUid, has}
-use Rattle.vic_frame.specs.Masks.{lies_in}
 use Rattle.vic_frame.specs.LowBitsFirst.{mirror, uid_of}
 use Rattle.vic_frame.proofs.MirrorLaws.{mirror_of_uid, uid_of_mirror, same_test}
-use Rattle.vic_tree.specs.OpenSet.{SameUids, settled}
 use Rattle.vic_verdict.specs.declared.sweep.Name.{Name}
 use Rattle.vic_verdict.specs.declared.sweep.Spot.{Spot}
 use Rattle.vic_verdict.specs.declared.sweep.Level.{Level}
@@ -209,54 +207,6 @@ where_found p first last ns us i h le above u w e =
     let parts = between_parts first last (mirror u) e in
     let to = parts.1 in
     h u w parts.0 ∙ where_above p ns (mirror u) i (length ns - i) (omega (arith, le)) (λ j from lt. let over = above j from lt in omega (arith, over, to))
-
--- ---- masks settled
-
--- a set has no UID between two keys that is not left by name
-abbrev pub IsSettledBetween : (ℕ → Bool) → List Name → ℕ → ℕ → Type 0
-IsSettledBetween set ns first last = (u : ℕ) → IsUid u → is_between first last (mirror u) ≡ true → has_left ns (mirror u) ≡ false → set u ≡ false
-
--- a set after the first i slots
-abbrev pub IsCoveredTo : (ℕ → Bool) → (ℕ → Bool) → List Name → List Spot → ℕ → Type 0
-IsCoveredTo old now ns spots i = SameUids now (λ u. old u && all_cover ns (take i spots) (mirror u))
-
-pub covered_more : (old now next : ℕ → Bool) (ns : List Name) (spots : List Spot) (i : ℕ) (s : Spot) → i < length spots → s ≡ get_or spots i s → IsCoveredTo old now ns spots i → ((u : ℕ) → IsUid u → next u ≡ (now u && (not (is_in s (mirror u)) || has_left ns (mirror u)))) → IsCoveredTo old next ns spots (i + 1)
-covered_more old now next ns spots i s below is before step u w =
-    step u w
-    ∙ (ap (λ b. b && (not (is_in s (mirror u)) || has_left ns (mirror u))) (before u w)
-    ∙ (and_thrice (old u) (all_cover ns (take i spots) (mirror u)) (not (is_in s (mirror u)) || has_left ns (mirror u))
-    ∙ ap (λ b. old u && b) (ap (λ x. all_cover ns (take i spots) (mirror u) && (not (is_in x (mirror u)) || has_left ns (mirror u))) is ∙ sym (list_all_more (λ t. not (is_in t (mirror u)) || has_left ns (mirror u)) spots i s below))))
-
--- a mask that is settled
-pub settled_step : (now next : ℕ → Bool) (ns : List Name) (s : Spot) (except : List ℕ) → ((u : ℕ) → lies_in s.mask u ≡ is_in s (mirror u)) → SameUids next (settled now s.mask except) → ((u : ℕ) → IsUid u → is_between s.first s.last (mirror u) ≡ true → has except u ≡ has_left ns (mirror u)) → (u : ℕ) → IsUid u → next u ≡ (now u && (not (is_in s (mirror u)) || has_left ns (mirror u)))
-settled_step now next ns s except mask done members u w =
-    done u w
-    ∙ (ap (λ b. now u && (not b || has except u)) (mask u)
-    ∙ ap (λ b. now u && b) (go (is_in s (mirror u)) refl))
-  where
-    go : (b : Bool) → is_in s (mirror u) ≡ b → (not b || has except u) ≡ (not b || has_left ns (mirror u))
-    go true e = members u w e
-    go false e = refl
-
-pub settled_there : (now next : ℕ → Bool) (ns : List Name) (s : Spot) → ((u : ℕ) → IsUid u → next u ≡ (now u && (not (is_in s (mirror u)) || has_left ns (mirror u)))) → IsSettledBetween next ns s.first s.last
-settled_there now next ns s step u w e none =
-    step u w ∙ (ap (λ b. now u && (not b || has_left ns (mirror u))) e ∙ (ap (λ b. now u && b) none ∙ and_no (now u) false refl))
-
-le_test : (x y : ℕ) → x ≤ y → nat_le x y ≡ true
-le_test x y e = grind (arith, nat_tests)
-
--- a mask inside one that is settled
-pub inner_step : (now : ℕ → Bool) (ns : List Name) (s : Spot) (first last : ℕ) → IsSettledBetween now ns first last → first ≤ s.first → s.last ≤ last → (u : ℕ) → IsUid u → now u ≡ (now u && (not (is_in s (mirror u)) || has_left ns (mirror u)))
-inner_step now ns s first last h f l u w = go (is_in s (mirror u)) (has_left ns (mirror u)) refl refl where
-  go : (a b : Bool) → is_in s (mirror u) ≡ a → has_left ns (mirror u) ≡ b → now u ≡ (now u && (not a || b))
-  go false b e g = sym (and_true (now u))
-  go true true e g = sym (and_true (now u))
-  go true false e g =
-      let p = between_parts s.first s.last (mirror u) e in
-      let a = p.0 in
-      let b = p.1 in
-      let wide : is_between first last (mirror u) ≡ true = and_from _ _ (le_test first (mirror u) (omega (arith, a, f))) (le_test (mirror u) last (omega (arith, b, l))) in
-      h u w wide g ∙ sym (and_no (now u) false refl)
 
 -- ---- names and slots
 

@@ -5,6 +5,7 @@ pub mod Places
 pub mod Rising
 pub mod Unsettled
 pub mod Sweep
+pub mod Covers
 pub mod Stretches
 pub mod Demands
 pub mod Explained

@@ -2,6 +2,7 @@
 #![tactic(auto)]
 
 mod certain;
+mod covers;
 mod demands;
 mod explanation;
 mod fates;

@@ -11,9 +11,11 @@ ghost use Rattle.std.specs.List.Sorted.{IsStrictlyIncreasing};
 ghost use Rattle.vic_frame.specs.Uids.{IsUid, has};
 ghost use Rattle.vic_frame.specs.LowBitsFirst.{mirror};
 ghost use Rattle.vic_tree.specs.OpenSet.{SameUids};
+ghost use Rattle.vic_verdict.specs.Covers.{IsCover, all_leave_named};
 ghost use Rattle.vic_verdict.specs.Replies.{AreReady, IsQuietReply};
 ghost use Rattle.vic_verdict.specs.Sweep.{slot_leaves, spot_leaves, all_leave, level_leaves, mask_leaves, run_leaves, IsLevel, keep_all, has_left, all_cover, all_allow, are_left, all_hear_named, HasMask, AreInOrder, HaveKeys, is_between};
 
+use crate::covers::{Cover, covers_of};
 use crate::replies::quiet_reply;
 use crate::rising::put_in_order;
 use std::alloc::{AllocError, Global};
@@ -221,29 +223,22 @@ fn left_between(
     Ok(uids)
 }
 
-/// Settles the masks of slots, except the names that are left in them. A mask inside the last one
-/// settled has no UID that isn't settled.
+/// Settles masks, except the names that are left in them.
 fn settle_masks<S: OpenSet>(
     alloc: Global,
     set: &mut S,
     names: &[Name],
-    spots: &[Spot],
+    covers: &[Cover],
 ) -> Result<(), AllocError>
     requires order { AreInOrder names.now }
     requires keys { HaveKeys names.now }
-    requires masks { All HasMask spots.now }
+    requires masks { All IsCover covers.now }
     ensures { OnOk result (SameUids (S.is_open set.new)
-        (λ u. S.is_open set.old u && all_cover names.now spots.now (mirror u))) }
+        (λ u. S.is_open set.old u && all_leave_named names.now covers.now (mirror u))) }
 {
-    let mut first = 1;
-    let mut last = 0;
-    for spot in spots {
-        if spot.first < first || last < spot.last {
-            let left = left_between(alloc, names, spot.first, spot.last)?;
-            set.settle(&spot.mask, &left)?;
-            first = spot.first;
-            last = spot.last;
-        }
+    for cover in covers {
+        let left = left_between(alloc, names, cover.first, cover.last)?;
+        set.settle(&cover.mask, &left)?;
     }
     Ok(())
 }
@@ -272,6 +267,7 @@ pub fn settle_stretch<S: OpenSet>(
     }
     spots.sort_unstable();
     rule_out_all(names, spots);
-    settle_masks(alloc, set, names, spots)?;
+    let covers = covers_of(alloc, spots)?;
+    settle_masks(alloc, set, names, &covers)?;
     Ok(None)
 }

@@ -1,8 +1,5 @@
-use Rattle.vic_verdict.proofs.Sweeping.{IsCoveredTo, IsSettledBetween}
+use Rattle.vic_verdict.proofs.Covering.{IsSettledTo}
 use Rattle.vic_verdict.proofs.sweep.settle_masks.Given as goal
 
-abbrev pub invariant-loop-spot : goal.invariant-loop-spot
-invariant-loop-spot g l = record {
-  covered : IsCoveredTo (g.S.OpenSet.is_open l.fn.set) (g.S.OpenSet.is_open l.set) l.names l.spots l.spot-index;
-  outer : IsSettledBetween (g.S.OpenSet.is_open l.set) l.names l.first l.last;
-}
+abbrev pub invariant-loop-cover : goal.invariant-loop-cover
+invariant-loop-cover g l = IsSettledTo (g.S.OpenSet.is_open l.fn.set) (g.S.OpenSet.is_open l.set) l.names l.covers l.cover-index
