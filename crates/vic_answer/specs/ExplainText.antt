@@ -1,4 +1,5 @@
--- What `explain` answers to a text: the line of `check`, and then a population that shows the verdict, if one can.
+-- What `explain` answers to a text: the line of `check`, and then a population that shows the
+-- verdict, if one can.
 use Rattle.std.specs.Prelude.{◌≡◌, ℕ, Option, Some, None, List, [], ◌++◌, length, codes, decimal}
 use Rattle.std.specs.Option.{option_map, unwrap_or}
 use Rattle.vic_log.specs.Lines.{lines_of_text}
