@@ -13,6 +13,9 @@ LINES = [
     b"T 26013700000000000000641B", b"T 06013C0000000000000000069E",
 ]
 
+OUTCOMES = [b"S", b"C", b"D", b"R 0000A1000000000104E06745", b"R 0000B2000000000104E0CF94"]
+LISTED = [b"U E0040100000000A1", b"U E0040100000000B2"]
+
 # the answers that a population can show
 SHOWN = ("absent", "unlisted", "unsettled", "doubtful")
 
@@ -34,9 +37,20 @@ def change(rng, lines):
         lines[at] = bytes(line)
 
 
+def session(rng):
+    """A log of rounds of one slot, Stay Quiets and field cycles, which lists some of two UIDs."""
+    lines = [b"vicinity-log 2"]
+    for _ in range(rng.randint(1, 5)):
+        lines += rng.choice(([b"T 260100F60A", rng.choice(OUTCOMES)], [b"T 2202A1000000000104E0662A"], [b"F"]))
+    return lines + [uid for uid in LISTED if rng.randrange(2)]
+
+
 def changed(rng, seeds):
-    """A log of a few lines, or one of the seeds, with up to three changes."""
-    if rng.random() < 0.4:
+    """A session; or a log of a few lines, or one of the seeds, with up to three changes."""
+    kind = rng.randrange(3)
+    if kind == 0:
+        return b"\n".join(session(rng))
+    if kind == 1:
         lines = [b"vicinity-log %d" % rng.randint(1, 2)] + [rng.choice(LINES) for _ in range(rng.randrange(9))]
     else:
         lines = rng.choice(seeds).split(b"\n")

@@ -1,4 +1,3 @@
-mod HexDigits
 mod Decoded
 mod CheckLines
 mod Standing

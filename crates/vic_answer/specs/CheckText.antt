@@ -20,7 +20,8 @@ abbrev pub verdict_line : Verdict → List ℕ
 verdict_line (Complete count) = codes "complete " ++ decimal count ++ codes "\n"
 verdict_line (Absent u) = codes "absent " ++ uid_text u ++ codes "\n"
 verdict_line (Unlisted u) = codes "unlisted " ++ uid_text u ++ codes "\n"
-verdict_line (Unsettled m) = codes "unsettled " ++ decimal m.len ++ codes " " ++ value_text m ++ codes "\n"
+verdict_line (Unsettled m) =
+    codes "unsettled " ++ decimal m.len ++ codes " " ++ value_text m ++ codes "\n"
 verdict_line (Doubtful u) = codes "doubtful " ++ uid_text u ++ codes "\n"
 verdict_line (Impossible n) = codes "impossible at line " ++ decimal n ++ codes "\n"
 
@@ -35,7 +36,8 @@ verdict_status (Doubtful u) = NotWhole
 
 -- the answer to a text: the verdict on its log, or its first fault
 abbrev pub IsAnswer : List ℕ → Answer → Type 0
-IsAnswer text (Judged v) = (log : LogValue) × IsLogOf (lines_of_text text) log × IsVerdict log.lines v
+IsAnswer text (Judged v) =
+    (log : LogValue) × IsLogOf (lines_of_text text) log × IsVerdict log.lines v
 IsAnswer text (RefusedAt n fault) = IsFirstFault (lines_of_text text) n fault
 
 abbrev pub answer_line : Answer → List ℕ
@@ -54,7 +56,8 @@ pub record IsCheckOf (text line : List ℕ) (status : Status) : Type 0 where
   pub status_is : status ≡ answer_status answer
 
 -- the text has a log whose list is whole, of so many UIDs: some population could have given the
--- log, and each that could has exactly the UIDs that it lists; and the same in the words of version 2
+-- log, and each that could has exactly the UIDs that it lists; and the same in the words of
+-- version 2
 pub record IsCompleteText (text : List ℕ) (count : ℕ) : Type 0 where
   pub log : LogValue
   pub is_log : IsLogOf (lines_of_text text) log

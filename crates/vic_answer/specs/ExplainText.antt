@@ -1,12 +1,13 @@
--- What `explain` answers to a text: the line of `check`, and then a population that shows the verdict, if one can.
-use Rattle.std.specs.Prelude.{◌≡◌, ℕ, Option, Some, None, List, [], ◌∷◌, ◌++◌, length, codes, decimal}
+-- What `explain` answers to a text: the line of `check`, and then a population that shows the
+-- verdict, if one can.
+use Rattle.std.specs.Prelude.{◌≡◌, ℕ, Option, Some, None, List, [], ◌++◌, length, codes, decimal}
 use Rattle.std.specs.Option.{option_map, unwrap_or}
 use Rattle.vic_log.specs.Lines.{lines_of_text}
 use Rattle.vic_log.specs.Log.{LogValue}
 use Rattle.vic_log.specs.Text.{IsLogOf, IsFirstFault}
+use Rattle.vic_log.specs.Writing.{listed_text}
 use Rattle.vic_verdict.specs.Explained.{IsExplanation}
 use Rattle.vic_answer.specs.CheckText.{answer_line, answer_status}
-use Rattle.vic_answer.specs.Digits.{uid_text}
 use Rattle.vic_answer.specs.declared.check.Answer.{Answer}
 use Rattle.vic_answer.specs.declared.check.Answer.TheVariants as answer
 use Rattle.vic_answer.specs.declared.explain.Explained.{Explained}
@@ -33,21 +34,14 @@ population_of (RefusedAt n fault) = None
 abbrev pub uids_of : Explained → List ℕ
 uids_of explained = unwrap_or (population_of explained) []
 
--- a line for each UID, as a log lists it
-abbrev pub uid_line : ℕ → List ℕ
-uid_line u = codes "U " ++ uid_text u ++ codes "\n"
-
-abbrev pub uid_lines : List ℕ → List ℕ
-uid_lines [] = []
-uid_lines (u ∷ us) = uid_line u ++ uid_lines us
-
--- how many they are, and which
+-- how many UIDs a population has
 abbrev pub population_line : ℕ → List ℕ
 population_line count = codes "population " ++ decimal count ++ codes "\n"
 
+-- and which: each on a line, as a log lists it
 abbrev pub population_text : Option (List ℕ) → List ℕ
 population_text None = []
-population_text (Some us) = population_line (length us) ++ uid_lines us
+population_text (Some us) = population_line (length us) ++ listed_text us
 
 abbrev pub explained_text : Explained → List ℕ
 explained_text explained =

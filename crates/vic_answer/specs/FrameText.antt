@@ -9,6 +9,7 @@ use Rattle.vic_frame.specs.Slots.{slot_count}
 use Rattle.vic_frame.specs.Replies.{Reply}
 use Rattle.vic_frame.specs.Names.{fault_name}
 use Rattle.vic_frame.specs.Reading.{request_reading, reply_reading}
+use Rattle.vic_log.specs.declared.entry.TheConstants.{MAX_LINE_LEN}
 use Rattle.vic_answer.specs.Digits.{hex_bytes, uid_text, value_text}
 use Rattle.vic_answer.specs.declared.status.Status.{Status}
 use Rattle.vic_answer.specs.declared.status.Status.TheVariants.{Whole, Refused}
@@ -16,29 +17,38 @@ use Rattle.vic_answer.specs.declared.status.Status.TheVariants.{Whole, Refused}
 -- the line of a reading as a request
 abbrev pub request_line : Result Request FrameFault → List ℕ
 request_line (Ok (Inventory link sixteen m)) =
-    codes "request inventory link " ++ decimal link ++ codes " slots " ++ decimal (slot_count (Inventory link sixteen m))
+    codes "request inventory link " ++ decimal link
+    ++ codes " slots " ++ decimal (slot_count (Inventory link sixteen m))
     ++ codes " mask " ++ decimal m.len ++ codes " " ++ value_text m ++ codes "\n"
-request_line (Ok (StayQuiet link uid)) = codes "request stay-quiet link " ++ decimal link ++ codes " uid " ++ uid_text uid ++ codes "\n"
+request_line (Ok (StayQuiet link uid)) =
+    codes "request stay-quiet link " ++ decimal link ++ codes " uid " ++ uid_text uid ++ codes "\n"
 request_line (Err fault) = codes "request refused " ++ fault_name fault ++ codes "\n"
 
 -- the line of a reading as a response
 abbrev pub response_line : Result Reply FrameFault → List ℕ
-response_line (Ok r) = codes "response flags " ++ hex_bytes 1 r.flags ++ codes " dsfid " ++ hex_bytes 1 r.dsfid ++ codes " uid " ++ uid_text r.uid ++ codes "\n"
+response_line (Ok r) =
+    codes "response flags " ++ hex_bytes 1 r.flags ++ codes " dsfid " ++ hex_bytes 1 r.dsfid
+    ++ codes " uid " ++ uid_text r.uid ++ codes "\n"
 response_line (Err fault) = codes "response refused " ++ fault_name fault ++ codes "\n"
 
 -- the lines of the bytes that a word's digits spell
 abbrev pub readings_text : Result (List ℕ) FromHexError → List ℕ
-readings_text (Ok bytes) = request_line (request_reading bytes) ++ response_line (reply_reading bytes)
+readings_text (Ok bytes) =
+    request_line (request_reading bytes) ++ response_line (reply_reading bytes)
 readings_text (Err e) = codes "refused Hex\n"
 
 -- the text for a word
 abbrev pub frame_text : List ℕ → List ℕ
-frame_text word = if nat_lt 128 (length word) then codes "refused LineTooLong\n" else readings_text (decode_of word)
+frame_text word =
+    if nat_lt MAX_LINE_LEN (length word) then codes "refused LineTooLong\n"
+    else readings_text (decode_of word)
 
 -- a word is refused where its bytes have no reading
 abbrev pub readings_status : Result (List ℕ) FromHexError → Status
-readings_status (Ok bytes) = if is_ok (request_reading bytes) || is_ok (reply_reading bytes) then Whole else Refused
+readings_status (Ok bytes) =
+    if is_ok (request_reading bytes) || is_ok (reply_reading bytes) then Whole else Refused
 readings_status (Err e) = Refused
 
 abbrev pub frame_status : List ℕ → Status
-frame_status word = if nat_lt 128 (length word) then Refused else readings_status (decode_of word)
+frame_status word =
+    if nat_lt MAX_LINE_LEN (length word) then Refused else readings_status (decode_of word)

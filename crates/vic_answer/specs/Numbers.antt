@@ -3,6 +3,7 @@ use Rattle.std.specs.Prelude.{◌≡◌, ℕ, ◌-◌, List, ◌++◌, length, r
 use Rattle.vic_verdict.specs.declared.verdict.Verdict.TheVariants.{Impossible, Absent, Unlisted, Unsettled, Doubtful, Complete}
 use Rattle.vic_answer.specs.declared.check.Answer.{Answer}
 use Rattle.vic_answer.specs.declared.check.Answer.TheVariants.{Judged, RefusedAt}
+use Rattle.vic_answer.specs.declared.lines.TheConstants.{LINE_ROOM}
 use Rattle.vic_answer.specs.declared.numbers.VicinityAnswer.{VicinityAnswer}
 use Rattle.vic_answer.specs.CheckText.{IsAnswer, answer_line, answer_status}
 use Rattle.vic_answer.specs.FaultNumbers.{fault_number}
@@ -10,25 +11,39 @@ use Rattle.vic_answer.specs.Status.{status_code}
 
 -- none: memory was refused
 abbrev pub no_answer : VicinityAnswer
-no_answer = record { kind = 0; status = 4; count = 0; line = 0; fault = 0; mask_len = 0; mask_value = 0; uid = 0; text = replicate 64 0 }
+no_answer = record {
+  kind = 0;
+  status = 4;
+  count = 0;
+  line = 0;
+  fault = 0;
+  mask_len = 0;
+  mask_value = 0;
+  uid = 0;
+  text = replicate LINE_ROOM 0;
+}
 
 -- the kind of an answer, and what belongs to it
 abbrev pub kind_of : Answer → VicinityAnswer
 kind_of (Judged (Complete n)) = record no_answer { kind = 1; count = n }
 kind_of (Judged (Absent u)) = record no_answer { kind = 2; uid = u }
 kind_of (Judged (Unlisted u)) = record no_answer { kind = 3; uid = u }
-kind_of (Judged (Unsettled m)) = record no_answer { kind = 4; mask_len = m.len; mask_value = m.value }
+kind_of (Judged (Unsettled m)) =
+    record no_answer { kind = 4; mask_len = m.len; mask_value = m.value }
 kind_of (Judged (Doubtful u)) = record no_answer { kind = 5; uid = u }
 kind_of (Judged (Impossible n)) = record no_answer { kind = 6; line = n }
 kind_of (RefusedAt n f) = record no_answer { kind = 7; line = n; fault = fault_number f }
 
--- a text with zeros behind it, 64 bytes in all
+-- a text with zeros behind it, as many bytes in all as the line of an answer has room for
 abbrev pub padded : List ℕ → List ℕ
-padded text = text ++ replicate (64 - length text) 0
+padded text = text ++ replicate (LINE_ROOM - length text) 0
 
 -- with the exit status and the line of the program
 abbrev pub numbers_of : Answer → VicinityAnswer
-numbers_of a = record (kind_of a) { status = status_code (answer_status a); text = padded (answer_line a) }
+numbers_of a = record (kind_of a) {
+  status = status_code (answer_status a);
+  text = padded (answer_line a);
+}
 
 -- these are the numbers of the answer to a text
 pub record AreNumbersFor (text : List ℕ) (numbers : VicinityAnswer) : Type 0 where

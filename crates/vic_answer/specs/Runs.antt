@@ -1,7 +1,8 @@
 -- What a run over a text reads and writes, and how it leaves its source and its sink.
-use Rattle.std.specs.Prelude.{◌≡◌, ◌≢◌, ◌↔◌, ◌⊎◌, ◌≤◌, ℕ, ◌+◌, ◌*◌, Bool, true, false, ⊤, List, Option, Result, Ok, Err, OnOk, IfErr, is_err}
+use Rattle.std.specs.Prelude.{◌≡◌, ◌≢◌, ◌↔◌, ◌⊎◌, ◌≤◌, ℕ, ◌+◌, Bool, true, false, ⊤, List, Option, Result, Ok, Err, OnOk, IfErr, is_err}
 use Rattle.std.specs.Io.KnownBytes.{Consumes, Appends, IsAtEnd}
 use Rattle.vic_log.specs.declared.fault.LineFault.{LineFault}
+use Rattle.vic_log.specs.declared.reader.TheConstants.{MAX_READS}
 use Rattle.vic_log.specs.Device.{HandsOut, HasTakenPrefix}
 use Rattle.vic_log.specs.Early.{IsEarlyFault}
 use Rattle.vic_answer.specs.declared.status.RunFault.{RunFault}
@@ -57,10 +58,6 @@ Runs IsAnswerTo left left' taken taken' (Err Write) =
 Runs IsAnswerTo left left' taken taken' (Err Read) = GivesNoEarlyFault left left'
 Runs IsAnswerTo left left' taken taken' (Err Memory) = ⊤
 
--- a log has 1,000,000 lines of at most 128 bytes, CR and LF; one read more tells the end
-abbrev pub most_reads : ℕ
-most_reads = 130 * 1000000 + 1
-
 -- how a run leaves its source: failed exactly where the result is `Read`, and untouched where it
 -- had failed before
 pub record LeavesSource {R : Type 0} (reads : R → ℕ) (has_failed : R → Bool)
@@ -68,7 +65,7 @@ pub record LeavesSource {R : Type 0} (reads : R → ℕ) (has_failed : R → Boo
   pub works : OnOk result (has_failed new ≡ false)
   pub read : IfErr result (λ e. (e ≡ Read) ↔ (has_failed new ≡ true))
   pub untouched : has_failed old ≡ true → new ≡ old
-  pub at_most : reads new ≤ reads old + most_reads
+  pub at_most : reads new ≤ reads old + MAX_READS
 
 -- how a run leaves its sink: all handed on where it ended with a status, failed where the result is
 -- `Write`, untouched at any other fault and where it had failed before

@@ -1,6 +1,7 @@
 -- What `simulate` answers to a text: the text of the log with its slots filled in, or the line of a
 -- refusal.
-use Rattle.std.specs.Prelude.{◌≡◌, ℕ, ◌<◌, List, codes}
+use Rattle.std.specs.Prelude.{◌≡◌, ℕ, ◌+◌, ◌<◌, List, codes}
+use Rattle.vic_log.specs.declared.entry.TheConstants.{MAX_LINES}
 use Rattle.vic_log.specs.declared.fault.LineFault.TheVariants.{TooManyLines as ManyLines}
 use Rattle.vic_log.specs.Lines.{lines_of_text}
 use Rattle.vic_log.specs.Log.{LogValue}
@@ -15,22 +16,23 @@ use Rattle.vic_answer.specs.declared.simulate.Simulated.TheVariants.{Filled, Ref
 
 -- what becomes of a text: its log with the slots filled in, of the same version; or its first
 -- fault; or why its log can't be filled in: it tells of a slot already, or no slot line is there
--- and a line above 1,000,000 would be needed
+-- and a line above the last that a log has would be needed
 abbrev pub IsSimulated : List ℕ → Simulated → Type 0
 IsSimulated text (Filled log) =
     (given : LogValue) × IsLogOf (lines_of_text text) given × IsSimulation given.lines log.lines
     × (log.version ≡ given.version)
 IsSimulated text (RefusedAt n fault) = IsFirstFault (lines_of_text text) n fault
-IsSimulated text (OutcomeGiven n) = (given : LogValue) × IsLogOf (lines_of_text text) given × IsFirstSlot given.lines n
+IsSimulated text (OutcomeGiven n) =
+    (given : LogValue) × IsLogOf (lines_of_text text) given × IsFirstSlot given.lines n
 IsSimulated text TooManyLines =
     (given : LogValue) × IsLogOf (lines_of_text text) given × HasNoSlots given.lines
-    × (1000000 < last_needed given.lines)
+    × (MAX_LINES < last_needed given.lines)
 
 abbrev pub simulated_text : Simulated → List ℕ
 simulated_text (Filled log) = text_of log
 simulated_text (RefusedAt n fault) = refusal_line n fault
 simulated_text (OutcomeGiven n) = refused_at n (codes "OutcomeGiven")
-simulated_text TooManyLines = refusal_line 1000001 ManyLines
+simulated_text TooManyLines = refusal_line (MAX_LINES + 1) ManyLines
 
 abbrev pub simulated_status : Simulated → Status
 simulated_status (Filled log) = Whole

@@ -1,23 +1,23 @@
 //! The command `explain`.
 
-ghost use Rattle.std.specs.Prelude.{◌≡◌, ℕ, List, ◌++◌, IfOk, OnOk};
+ghost use Rattle.std.specs.Prelude.{◌≡◌, ◌<◌, ℕ, List, ◌++◌, IfOk};
+ghost use Rattle.arrayvec.specs.ArrayVec.{array_vec_len};
+ghost use Rattle.vic_log.specs.Writing.{listed_text};
 ghost use Rattle.vic_verdict.specs.declared.verdict.Verdict.TheVariants.{Complete};
-ghost use Rattle.vic_answer.specs.CheckText.{IsAnswer, IsCompleteText};
-ghost use Rattle.vic_answer.specs.ExplainText as spec;
-ghost use Rattle.vic_answer.specs.ExplainText.{IsExplained, IsExplanationOf, answer_of, uid_line, uid_lines};
+ghost use Rattle.vic_answer.specs.CheckText.{IsAnswer, IsCompleteText, answer_status};
+ghost use Rattle.vic_answer.specs.ExplainText.{IsExplained, IsExplanationOf, answer_of, explained_text, population_line, uids_of};
 ghost use Rattle.vic_answer.specs.Readings.{IsReading};
-ghost use Rattle.vic_answer.specs.Runs.{Runs, LeavesSource, LeavesSink};
+ghost use Rattle.vic_answer.specs.Runs.{Runs, LeavesSource, LeavesSink, Writes};
 
 use crate::check::{Answer, answer_line, answer_status};
 use crate::input::{Reading, read_source};
-use crate::output::write_and_flush;
+use crate::lines::LINE_ROOM;
+use crate::population::uids_of;
 use crate::status::{RunFault, Status};
-use crate::text::{Text, put, put_bytes};
-use arrayvec::ArrayVec;
+use crate::text::{Text, put};
 use itoa::Buffer;
 use std::alloc::{AllocError, Global};
-use vic_frame::Uid;
-use vic_log::{LineFault, LogFault, Sink, Source, read_log};
+use vic_log::{LineFault, LogFault, Sink, Source, read_log, write_listed};
 use vic_verdict::laws::{complete_is_whole, one_headline};
 use vic_verdict::{Explanation, explain};
 
@@ -39,6 +39,7 @@ pub fn explain_text(alloc: Global, text: &[u8]) -> Result<Explained, AllocError>
     ensures whole { IfOk result (λ e. (count : ℕ) → answer_of e ≡ Answer.Judged (Complete count)
         → IsCompleteText text.now count) }
 {
+    // the laws by which a complete list is whole
     complete_is_whole();
     one_headline();
     match read_log(alloc, text) {
@@ -80,9 +81,7 @@ pub fn run_explain<R: Source, W: Sink>(
 {
     let reading = read_source(alloc, source)?;
     let explained = explain_reading(alloc, reading)?;
-    let text = explained_text(alloc, &explained)?;
-    write_and_flush(sink, text.as_slice())?;
-    Ok(answer_status(&answer_of(&explained)))
+    write_explained(&explained, sink)
 }
 
 /// The answer to what was read.
@@ -95,49 +94,38 @@ fn explain_reading(alloc: Global, reading: Reading) -> Result<Explained, AllocEr
     }
 }
 
-/// The line of a population's size.
-fn population_line(count: usize) -> Text
-    ensures { result.items ≡ spec.population_line count }
+/// Writes the text of an answer.
+fn write_explained<W: Sink>(explained: &Explained, sink: &mut W) -> Result<Status, RunFault>
+    ensures status { IfOk result (λ s. s ≡ answer_status (answer_of explained.now)) }
+    ensures written { Writes W.taken W.is_flushed W.has_failed
+        sink.old sink.new (explained_text explained.now) result }
 {
-    let mut text = ArrayVec::new();
-    put(&mut text, "population ");
-    let mut buffer = Buffer::new();
-    put(&mut text, buffer.format(count));
-    put(&mut text, "\n");
-    text
-}
-
-/// The line of a UID, as a log lists it.
-fn uid_line(uid: Uid) -> Text
-    ensures { result.items ≡ uid_line uid }
-{
-    let mut text = ArrayVec::new();
-    put(&mut text, "U ");
-    put_bytes(&mut text, 8, uid.number());
-    put(&mut text, "\n");
-    text
-}
-
-/// Adds the lines of some UIDs.
-fn add_uids(text: &mut Vec<u8>, uids: &[Uid]) -> Result<(), AllocError>
-    ensures { OnOk result (text.new.items ≡ text.old.items ++ uid_lines uids.now) }
-{
-    for uid in uids {
-        text.extend_from_slice(&uid_line(*uid))?;
+    match write_listed(opening(explained).as_slice(), uids_of(explained), sink) {
+        Ok(()) => Ok(answer_status(&answer_of(explained))),
+        Err(_) => Err(RunFault::Write),
     }
-    Ok(())
 }
 
-/// The text of an answer.
-fn explained_text(alloc: Global, explained: &Explained) -> Result<Vec<u8>, AllocError>
-    ensures { IfOk result (λ t. t.items ≡ spec.explained_text explained.now) }
+/// What stands before the UIDs.
+fn opening(explained: &Explained) -> Text
+    ensures { result.items ++ listed_text (uids_of explained.now) ≡ explained_text explained.now }
 {
-    let mut text = Vec::from_slice(alloc, &answer_line(&answer_of(explained)))?;
+    let mut text = answer_line(&answer_of(explained));
     if let Explained::Judged(explanation) = explained {
         if let Some(uids) = &explanation.population {
-            text.extend_from_slice(&population_line(uids.len()))?;
-            add_uids(&mut text, uids)?;
+            put_size(&mut text, uids.len());
         }
     }
-    Ok(text)
+    text
+}
+
+/// Puts the line of a population's size at the end of the line of an answer.
+fn put_size(text: &mut Text, count: usize)
+    requires { array_vec_len text.old < LINE_ROOM }
+    ensures { text.new.items ≡ text.old.items ++ population_line count }
+{
+    put(text, "population ");
+    let mut buffer = Buffer::new();
+    put(text, buffer.format(count));
+    put(text, "\n");
 }

@@ -11,13 +11,10 @@ use crate::status::{RunFault, Status};
 use crate::text::{TEXT_ROOM, Text, put};
 use arrayvec::ArrayVec;
 use vic_frame::{read_request, read_response};
-use vic_log::Sink;
-
-/// The longest word that is read, in bytes: that of a line of a log.
-const MAX_WORD_LEN: usize = 128;
+use vic_log::{MAX_LINE_LEN, Sink};
 
 /// Writes the two readings of a word of hex digits, as a request and as a response, or why it is no
-/// frame, and flushes. `Write` where the sink has failed: a prefix may be out. It takes no memory.
+/// frame, and flushes. A word is at most as long as a line of a log. `Write` where the sink has failed: a prefix may be out. It takes no memory.
 pub fn run_frame<W: Sink>(word: &[u8], sink: &mut W) -> Result<Status, RunFault>
     ensures status { IfOk result (λ s. s ≡ frame_status word.now) }
     ensures written { Writes W.taken W.is_flushed W.has_failed
@@ -33,7 +30,7 @@ fn answer(word: &[u8]) -> (Text, Status)
     ensures text { result.0.items ≡ frame_text word.now }
     ensures status { result.1 ≡ frame_status word.now }
 {
-    if word.len() > MAX_WORD_LEN {
+    if word.len() > MAX_LINE_LEN {
         refused("refused LineTooLong\n")
     } else {
         decoded(word)
@@ -42,11 +39,11 @@ fn answer(word: &[u8]) -> (Text, Status)
 
 /// What is answered to a word that is short enough.
 fn decoded(word: &[u8]) -> (Text, Status)
-    requires { length word.now ≤ MAX_WORD_LEN }
+    requires { length word.now ≤ MAX_LINE_LEN }
     ensures text { result.0.items ≡ readings_text (decode_of word.now) }
     ensures status { result.1 ≡ readings_status (decode_of word.now) }
 {
-    let mut room = [0; MAX_WORD_LEN / 2];
+    let mut room = [0; MAX_LINE_LEN / 2];
     let Some(count) = decode(word, &mut room) else {
         return refused("refused Hex\n");
     };

@@ -2,11 +2,10 @@
 
 ghost use Rattle.std.specs.Prelude.{◌≡◌, ◌≢◌, ◌↔◌, ◌≤◌, ◌+◌, true, false, IfErr, OnOk};
 ghost use Rattle.vic_answer.specs.Readings.{Gives};
-ghost use Rattle.vic_answer.specs.Runs.{most_reads};
 
 use crate::status::RunFault;
 use std::alloc::Global;
-use vic_log::{LineFault, Log, LogFault, LogReader, Source};
+use vic_log::{LineFault, Log, LogFault, LogReader, MAX_READS, Source};
 
 /// What the bytes that a source hands out give.
 #[derive(Drop)]
@@ -25,7 +24,7 @@ pub(crate) fn read_source<R: Source>(alloc: Global, source: &mut R) -> Result<Re
     ensures works { OnOk result (R.has_failed source.new ≡ false) }
     ensures read { IfErr result (λ e. (e ≡ RunFault.Read) ↔ (R.has_failed source.new ≡ true)) }
     ensures untouched { R.has_failed source.old ≡ true → source.new ≡ source.old }
-    ensures reads { R.reads source.new ≤ R.reads source.old + most_reads }
+    ensures reads { R.reads source.new ≤ R.reads source.old + MAX_READS }
 {
     match LogReader::new(alloc).read_all(source) {
         Ok(log) => Ok(Reading::Given(log)),

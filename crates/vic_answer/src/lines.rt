@@ -1,12 +1,12 @@
 //! The lines that are written.
 
-ghost use Rattle.std.specs.Prelude.{◌≡◌, ◌<◌, ◌≤◌, length};
+ghost use Rattle.std.specs.Prelude.{◌≡◌, ◌*◌, ◌<◌, ◌≤◌, length};
 ghost use Rattle.arrayvec.specs.ArrayVec.{array_vec_len};
 ghost use Rattle.vic_answer.specs.FrameText as spec;
 ghost use Rattle.vic_answer.specs.CheckText as check;
 ghost use Rattle.vic_answer.specs.Refusals as refusals;
 
-use crate::text::{Text, put, put_bytes, put_decimal, put_value};
+use crate::text::{TEXT_ROOM, Text, put, put_bytes, put_decimal, put_value};
 use arrayvec::ArrayVec;
 use vic_frame::{FrameFault, Request, Response};
 use vic_log::LineFault;
@@ -18,7 +18,7 @@ pub const LINE_ROOM: usize = 64;
 /// The line of a reading as a request.
 pub(crate) fn request_line(reading: &Result<Request, FrameFault>) -> Text
     ensures items { result.items ≡ spec.request_line reading.now }
-    ensures len { array_vec_len result ≤ 96 }
+    ensures len { 2 * array_vec_len result ≤ TEXT_ROOM }
 {
     let mut text = ArrayVec::new();
     match reading {
@@ -52,7 +52,7 @@ pub(crate) fn request_line(reading: &Result<Request, FrameFault>) -> Text
 /// The line of a reading as a response.
 pub(crate) fn response_line(reading: &Result<Response, FrameFault>) -> Text
     ensures items { result.items ≡ spec.response_line reading.now }
-    ensures len { array_vec_len result ≤ 96 }
+    ensures len { 2 * array_vec_len result ≤ TEXT_ROOM }
 {
     let mut text = ArrayVec::new();
     match reading {

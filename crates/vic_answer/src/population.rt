@@ -21,7 +21,7 @@ pub fn put_population(explained: &Explained, room: &mut [u64]) -> usize
 }
 
 /// The UIDs of an answer's population, none where it has none.
-fn uids_of(explained: &Explained) -> &[Uid]
+pub(crate) fn uids_of(explained: &Explained) -> &[Uid]
     ensures { result.now ≡ uids_of explained.now }
 {
     if let Explained::Judged(explanation) = explained {

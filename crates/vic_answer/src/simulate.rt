@@ -12,10 +12,10 @@ use crate::status::{RunFault, Status};
 use crate::text::Text;
 use std::alloc::{AllocError, Global};
 use vic_field::{SimFault, simulate};
-use vic_log::{LineFault, Log, Sink, Source, write_log};
+use vic_log::{LineFault, Log, MAX_LINES, Sink, Source, write_log};
 
-/// The line that no log has: the first behind its 1,000,000.
-const LINE_TOO_MANY: u32 = 1_000_001;
+/// The line that no log has: the first behind its last.
+const LINE_TOO_MANY: u32 = MAX_LINES + 1;
 
 /// What is answered to a text.
 #[derive(Drop)]

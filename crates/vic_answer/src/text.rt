@@ -1,13 +1,13 @@
 //! Text of a fixed room, and how numbers are put into it.
 
-ghost use Rattle.std.specs.Prelude.{◌≡◌, ◌+◌, ◌*◌, ◌≤◌, ◌++◌, length, decimal};
+ghost use Rattle.std.specs.Prelude.{◌≡◌, ◌+◌, ◌≤◌, ◌++◌, length, decimal};
 ghost use Rattle.arrayvec.specs.ArrayVec.{array_vec_len};
-ghost use Rattle.hex.specs.Hex.{encode_upper};
 ghost use Rattle.vic_answer.specs.Digits.{hex_bytes, value_text};
 
 use arrayvec::ArrayVec;
 use itoa::Buffer;
 use vic_frame::Mask;
+use vic_log::push_hex;
 
 /// How many bytes the text of an answer has room for: two lines.
 pub const TEXT_ROOM: usize = 192;
@@ -20,8 +20,6 @@ const DECIMAL_LEN: usize = 10;
 
 /// How many digits eight bytes have in hex.
 const HEX_LEN: usize = 16;
-
-const DIGITS: [u8; 16] = *b"0123456789ABCDEF";
 
 /// Puts a word at the end.
 pub(crate) fn put(text: &mut Text, word: &str)
@@ -44,18 +42,6 @@ pub(crate) fn put_decimal(text: &mut Text, number: u32)
     put(text, buffer.format(number));
 }
 
-/// Puts bytes at the end, each as two hex digits.
-fn put_hex(text: &mut Text, bytes: &[u8])
-    requires { array_vec_len text.old + 2 * length bytes.now ≤ TEXT_ROOM }
-    ensures items { text.new.items ≡ text.old.items ++ encode_upper bytes.now }
-    ensures len { array_vec_len text.new ≡ array_vec_len text.old + 2 * length bytes.now }
-{
-    for byte in bytes {
-        text.push(DIGITS[usize::from(*byte / 16)]);
-        text.push(DIGITS[usize::from(*byte % 16)]);
-    }
-}
-
 /// Puts the last `count` bytes of a number at the end, the most significant first, in hex digits.
 pub(crate) fn put_bytes(text: &mut Text, count: usize, number: u64)
     requires room { array_vec_len text.old + HEX_LEN ≤ TEXT_ROOM }
@@ -64,7 +50,7 @@ pub(crate) fn put_bytes(text: &mut Text, count: usize, number: u64)
     ensures len { array_vec_len text.new ≤ array_vec_len text.old + HEX_LEN }
 {
     let bytes = number.to_be_bytes();
-    put_hex(text, &bytes[8 - count..]);
+    push_hex(text, &bytes[8 - count..]);
 }
 
 /// Puts the value of a mask at the end.

@@ -1,10 +1,10 @@
 -- Bytes that are taken in turn.
-use Rattle.std.proofs.Common.{arith, ◌≡◌, ◌≤◌, ◌+◌, ◌-◌, ℕ, zero, suc, List, [], ◌∷◌, ◌++◌, length, length-append, take, drop, None, Some, Option, refl, sym, ◌∙◌, ap, append_assoc, append-nil}
+use Rattle.std.proofs.Common.{arith, ◌≡◌, ◌≤◌, ◌+◌, ◌-◌, ℕ, zero, suc, List, [], ◌∷◌, ◌++◌, length, length-append, take, drop, None, Some, Option, refl, sym, ◌∙◌, ap, append_assoc}
 use Rattle.std.proofs.KnownBytes.{Appends-trans}
 use Rattle.std.proofs.lemmas.Grind.{common_steps}
 use Rattle.std.proofs.Math.Seq.{take-add}
 use Rattle.std.specs.Io.KnownBytes.{Appends}
-use Rattle.vic_log.specs.Device.{KeepsOrHides, HasTakenPrefix}
+use Rattle.vic_log.specs.Device.{HasTakenBut, HasTakenPrefix}
 
 -- the first n bytes, and then the next m of the rest
 pub appended-more : (a b c : Option (List ℕ)) (n m : ℕ) (xs : List ℕ) →
@@ -14,14 +14,16 @@ appended-more (Some us) None c n m xs h k = absurd h
 appended-more (Some us) (Some vs) None n m xs h k = absurd k
 appended-more (Some us) (Some vs) (Some ws) n m xs h k = grind (arith, common_steps, take-add n m xs, h, k)
 
--- the sink has taken the text but for the rest
-abbrev pub HasTakenBut : Option (List ℕ) → Option (List ℕ) → List ℕ → List ℕ → Type 0
-HasTakenBut old new rest text = (sent : List ℕ) × Appends old new sent × (sent ++ rest ≡ text)
-
 -- one piece more was taken
-pub HasTakenBut-step : (a b c : Option (List ℕ)) (piece rest more text : List ℕ) → HasTakenBut a b more text → piece ++ rest ≡ more → Appends b c piece → HasTakenBut a c rest text
+HasTakenBut-step : (a b c : Option (List ℕ)) (piece rest more text : List ℕ) → HasTakenBut a b more text → piece ++ rest ≡ more → Appends b c piece → HasTakenBut a c rest text
 HasTakenBut-step a b c piece rest more text h e k =
     (h.0 ++ piece, Appends-trans a b c h.0 piece h.1 k, append_assoc h.0 piece rest ∙ (ap (λ xs. h.0 ++ xs) e ∙ h.2))
+
+-- a line was put behind what waited, of which some may have been taken
+pub HasTakenBut-line : (a b c : Option (List ℕ)) (piece piece' line rest more text : List ℕ) → HasTakenBut a b (piece ++ more) text → HasTakenBut b c piece' (piece ++ line) → line ++ rest ≡ more → HasTakenBut a c (piece' ++ rest) text
+HasTakenBut-line a b c piece piece' line rest more text h k e =
+    let same : k.0 ++ (piece' ++ rest) ≡ piece ++ more = sym (append_assoc k.0 piece' rest) ∙ (ap (λ xs. xs ++ rest) k.2 ∙ (append_assoc piece line rest ∙ ap (λ xs. piece ++ xs) e)) in
+    HasTakenBut-step a b c k.0 (piece' ++ rest) (piece ++ more) text h same k.1
 
 take_past : (k : ℕ) (xs ys : List ℕ) → take (length xs + k) (xs ++ ys) ≡ xs ++ take k ys
 take_past k [] ys = let same : 0 + k ≡ k = omega arith in ap (λ n. take n ys) same
@@ -44,13 +46,3 @@ HasTakenBut-part (Some xs) (Some ys) (Some zs) piece rest more text h e k =
     let long : length text ≡ length sent + (length piece + length rest) = ap length whole ∙ (length-append sent (piece ++ rest) ∙ ap (λ n. length sent + n) (length-append piece rest)) in
     let front : take (length sent + k.0) text ≡ sent ++ take k.0 piece = ap (take (length sent + k.0)) whole ∙ (take_past k.0 sent (piece ++ rest) ∙ ap (λ ws. sent ++ ws) (take_within k.0 piece rest k.1)) in
     (length sent + k.0, omega arith, k.2 ∙ (ap (λ ws. ws ++ take k.0 piece) h.1 ∙ (append_assoc xs sent (take k.0 piece) ∙ ap (λ ws. xs ++ ws) (sym front))))
-
-pub HasTakenPrefix-kept : (a b : Option (List ℕ)) → KeepsOrHides a b → HasTakenPrefix a b []
-HasTakenPrefix-kept None b h = tt
-HasTakenPrefix-kept (Some xs) None h = tt
-HasTakenPrefix-kept (Some xs) (Some ys) h = (0, omega arith, h ∙ sym (append-nil xs))
-
-pub HasTakenPrefix-none : (a b : Option (List ℕ)) → Appends a b [] → HasTakenPrefix a b []
-HasTakenPrefix-none None b h = tt
-HasTakenPrefix-none (Some xs) None h = tt
-HasTakenPrefix-none (Some xs) (Some ys) h = (0, omega arith, h)

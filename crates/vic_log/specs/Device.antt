@@ -44,6 +44,10 @@ HasTakenPrefix None new bytes = ⊤
 HasTakenPrefix (Some xs) None bytes = ⊤
 HasTakenPrefix (Some xs) (Some ys) bytes = (k : ℕ) × (k ≤ length bytes) × (ys ≡ xs ++ take k bytes)
 
+-- it has taken the text but for the rest
+abbrev pub HasTakenBut : Option (List ℕ) → Option (List ℕ) → List ℕ → List ℕ → Type 0
+HasTakenBut old new rest text = (sent : List ℕ) × Appends old new sent × (sent ++ rest ≡ text)
+
 abbrev pub from_read_inner : {R : Type 0} → FromRead R → R
 from_read_inner r = r.inner
 

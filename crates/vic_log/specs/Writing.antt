@@ -31,6 +31,10 @@ joined (line ∷ lines) = line ++ lf ∷ joined lines
 abbrev pub lines_text : List LogLine → List ℕ
 lines_text lines = joined (map entry_text (entries lines))
 
+-- the text of UIDs, each on a line as a log lists it
+abbrev pub listed_text : List ℕ → List ℕ
+listed_text us = joined (map (λ u. entry_text (Listed u)) us)
+
 -- the text of a log
 abbrev pub text_of : LogValue → List ℕ
 text_of log = header log.version ++ lf ∷ lines_text log.lines

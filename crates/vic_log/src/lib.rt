@@ -36,4 +36,4 @@ pub use reader::{LogReader, MAX_READS};
 pub use rounds::{OpenRound, RoundCursor};
 pub use sink::{Sink, ToWrite, write_whole};
 pub use source::{DeviceFault, FromRead, ReadFault, Source, read_whole};
-pub use write::write_log;
+pub use write::{WRITTEN_AT_ONCE, write_listed, write_log};

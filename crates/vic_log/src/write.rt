@@ -1,34 +1,34 @@
 //! A log to its text.
 
-ghost use Rattle.std.specs.Prelude.{◌≡◌, ◌+◌, ◌*◌, ◌<◌, ◌≤◌, ◌++◌, ◌∷◌, [], true, length};
-ghost use Rattle.std.specs.Prelude.{drop, is_err, OnOk};
+ghost use Rattle.std.specs.Prelude.{◌≡◌, ◌+◌, ◌*◌, ◌≤◌, ◌++◌, ◌∷◌, [], true, length};
+ghost use Rattle.std.specs.Prelude.{is_err, OnErr, OnOk};
 ghost use Rattle.std.specs.Str.{byte};
 ghost use Rattle.std.specs.Io.KnownBytes.{Appends};
 ghost use Rattle.arrayvec.specs.ArrayVec.{array_vec_len};
 ghost use Rattle.hex.specs.Hex.{encode_upper};
-ghost use Rattle.vic_log.specs.Device.{HasTakenPrefix};
+ghost use Rattle.vic_log.specs.Device.{HasTakenBut, HasTakenPrefix};
 ghost use Rattle.vic_log.specs.Lines.{lf};
 ghost use Rattle.vic_log.specs.Log.{IsValidEntry};
-ghost use Rattle.vic_log.specs.Order.{AreValid, entries};
 ghost use Rattle.vic_log.specs.Text.{header};
-ghost use Rattle.vic_log.specs.Writing.{entry_text, lines_text, text_of};
+ghost use Rattle.vic_log.specs.Writing.{entry_text, listed_text, text_of};
 
 use crate::digits::push_hex;
-use crate::entry::{Entry, LogLine, Version};
+use crate::entry::{Entry, Version};
 use crate::fault::WriteFault;
 use crate::log::Log;
 use crate::sink::{Sink, write_whole};
+use crate::source::DeviceFault;
 use arrayvec::ArrayVec;
-use vic_frame::{write_request, write_response};
+use vic_frame::{Uid, write_request, write_response};
 
 /// How many bytes are written at once, at most.
-const PIECE: usize = 4096;
+pub const WRITTEN_AT_ONCE: usize = 4096;
 
 /// How many bytes an entry's line has at most, with its LF.
 const LONGEST_LINE: usize = 29;
 
-/// Lines that wait for one write.
-type Piece = ArrayVec<u8, PIECE>;
+/// Bytes that wait for one write.
+type Piece = ArrayVec<u8, WRITTEN_AT_ONCE>;
 
 /// Writes the text of a log, and flushes: the header of its version, and each entry on a line, with
 /// upper-case digits and LF ends. A sink that has failed is not written again.
@@ -41,15 +41,43 @@ pub fn write_log<W: Sink>(log: &Log, sink: &mut W) -> Result<(), WriteFault>
 {
     let lines = log.lines();
     let mut piece = with_header(log.version());
-    let mut next = fill_piece(&mut piece, lines, 0);
-    write_whole(sink, piece.as_slice())?;
-    while next < lines.len() {
-        piece.clear();
-        next = fill_piece(&mut piece, lines, next);
-        write_whole(sink, piece.as_slice())?;
+    for line in lines {
+        put_entry(&mut piece, &line.item, sink)?;
     }
-    sink.flush()?;
+    write_last(&piece, sink)?;
     Ok(())
+}
+
+/// Writes an opening, and behind it each UID on a line as a log lists it, and flushes. A sink that
+/// has failed is not written again.
+pub fn write_listed<W: Sink>(opening: &[u8], uids: &[Uid], sink: &mut W) -> Result<(), WriteFault>
+    requires { length opening.now ≤ WRITTEN_AT_ONCE }
+    ensures all { OnOk result (Appends (W.taken sink.old) (W.taken sink.new)
+        (opening.now ++ listed_text uids.now)) }
+    ensures flushed { OnOk result (W.is_flushed sink.new ≡ true) }
+    ensures prefix { HasTakenPrefix (W.taken sink.old) (W.taken sink.new)
+        (opening.now ++ listed_text uids.now) }
+    ensures state { W.has_failed sink.new ≡ is_err result }
+    ensures untouched { W.has_failed sink.old ≡ true → sink.new ≡ sink.old }
+{
+    let mut piece = beginning(opening);
+    for uid in uids {
+        put_entry(&mut piece, &Entry::Listed(*uid), sink)?;
+    }
+    write_last(&piece, sink)?;
+    Ok(())
+}
+
+/// A piece that begins with a text.
+fn beginning(text: &[u8]) -> Piece
+    requires { length text.now ≤ WRITTEN_AT_ONCE }
+    ensures { result.items ≡ text.now }
+{
+    let mut piece = ArrayVec::new();
+    let Ok(()) = piece.try_extend_from_slice(text) else {
+        unreachable!()
+    };
+    piece
 }
 
 /// A piece that begins with the header.
@@ -60,34 +88,42 @@ fn with_header(version: Version) -> Piece
         Version::V1 => b"vicinity-log 1\n".as_slice(),
         Version::V2 => b"vicinity-log 2\n".as_slice(),
     };
-    let mut piece = ArrayVec::new();
-    let Ok(()) = piece.try_extend_from_slice(line) else {
-        unreachable!()
-    };
-    piece
+    beginning(line)
 }
 
-/// Adds lines from index `start` on, as long as one more has room, and gives the index of the next.
-fn fill_piece(piece: &mut Piece, lines: &[LogLine], start: usize) -> usize
-    requires start { start ≤ length lines.now }
-    requires valid { AreValid (entries lines.now) }
-    ensures bound { result ≤ length lines.now }
-    ensures more { array_vec_len piece.old + LONGEST_LINE ≤ PIECE → start < length lines.now
-        → start < result }
-    ensures items { piece.new.items ++ lines_text (drop result lines.now)
-        ≡ piece.old.items ++ lines_text (drop start lines.now) }
+/// Puts an entry's line behind what waits, which is written first where the line may have no room.
+fn put_entry<W: Sink>(piece: &mut Piece, item: &Entry, sink: &mut W) -> Result<(), DeviceFault>
+    requires { IsValidEntry item.now }
+    ensures told { OnOk result (HasTakenBut (W.taken sink.old) (W.taken sink.new) piece.new.items
+        (piece.old.items ++ (entry_text item.now ++ lf ∷ []))) }
+    ensures prefix { OnErr result
+        (HasTakenPrefix (W.taken sink.old) (W.taken sink.new) piece.old.items) }
+    ensures failed { OnErr result (W.has_failed sink.new ≡ true) }
+    ensures untouched { W.has_failed sink.old ≡ true → sink.new ≡ sink.old }
 {
-    let mut next = start;
-    while next < lines.len() && piece.len() + LONGEST_LINE <= PIECE {
-        push_entry(piece, &lines[next].item);
-        next += 1;
+    if piece.len() + LONGEST_LINE > WRITTEN_AT_ONCE {
+        write_whole(sink, piece.as_slice())?;
+        piece.clear();
     }
-    next
+    push_entry(piece, item);
+    Ok(())
+}
+
+/// Writes what waits, and flushes.
+fn write_last<W: Sink>(piece: &Piece, sink: &mut W) -> Result<(), DeviceFault>
+    ensures all { OnOk result (Appends (W.taken sink.old) (W.taken sink.new) piece.now.items) }
+    ensures flushed { OnOk result (W.is_flushed sink.new ≡ true) }
+    ensures prefix { HasTakenPrefix (W.taken sink.old) (W.taken sink.new) piece.now.items }
+    ensures state { W.has_failed sink.new ≡ is_err result }
+    ensures untouched { W.has_failed sink.old ≡ true → sink.new ≡ sink.old }
+{
+    write_whole(sink, piece.as_slice())?;
+    sink.flush()
 }
 
 /// Adds an entry's line, with its LF.
 fn push_entry(piece: &mut Piece, item: &Entry)
-    requires room { array_vec_len piece.old + LONGEST_LINE ≤ PIECE }
+    requires room { array_vec_len piece.old + LONGEST_LINE ≤ WRITTEN_AT_ONCE }
     requires valid { IsValidEntry item.now }
     ensures items { piece.new.items ≡ piece.old.items ++ entry_text item.now ++ lf ∷ [] }
 {
@@ -105,7 +141,7 @@ fn push_entry(piece: &mut Piece, item: &Entry)
 
 /// Adds a letter, a space, and bytes as hex digits in upper case.
 fn push_bytes(piece: &mut Piece, letter: u8, bytes: &[u8])
-    requires { array_vec_len piece.old + 2 + 2 * length bytes.now ≤ PIECE }
+    requires { array_vec_len piece.old + 2 + 2 * length bytes.now ≤ WRITTEN_AT_ONCE }
     ensures items { piece.new.items
         ≡ piece.old.items ++ letter ∷ byte " " ∷ encode_upper bytes.now }
     ensures len { array_vec_len piece.new ≡ array_vec_len piece.old + 2 + 2 * length bytes.now }

@@ -16,10 +16,11 @@ const OPENING: &str = "/*
  *
  * What a caller owes, since nothing checks it:
  * - `text` points to `text_len` bytes that may be read. It is not NULL, also where `text_len` is 0.
- *   `text_len` is at most PTRDIFF_MAX. No NUL is needed at the end; one inside is a byte like others.
+ *   `text_len` is at most PTRDIFF_MAX. No NUL is needed at the end; one inside is a byte like
+ *   others.
  * - `answer` points to a struct that may be written. It is aligned to 8 bytes and is not NULL.
- * - `population` points to `room` numbers that may be written, `needed` to one. They are aligned, and
- *   not NULL, also where `room` is 0.
+ * - `population` points to `room` numbers that may be written, `needed` to one. They are aligned,
+ *   and not NULL, also where `room` is 0.
  * - None of these overlaps another or the text.
  * - Nobody changes the text or touches what is written while the call runs.
  * - malloc, realloc and free are of one allocator, which aligns to 16 bytes.
@@ -97,9 +98,9 @@ uint32_t vicinity_check(const uint8_t *text, size_t text_len, struct vicinity_an
 /*
  * The same, and hands over the population that `vicinity explain` writes: UIDs of tags that could
  * have given the log and show the answer. `*needed` is how many they are. Where `room` is at least
- * that, they stand at the front of `population`, in rising order; else nothing is written there, and
- * the call again with room for `*needed` gives them. A population may be empty; none, and `*needed`
- * 0, is there for VICINITY_COMPLETE, _IMPOSSIBLE, _REFUSED and _NO_ANSWER.
+ * that, they stand at the front of `population`, in rising order; else nothing is written there,
+ * and the call again with room for `*needed` gives them. A population may be empty; none, and
+ * `*needed` 0, is there for VICINITY_COMPLETE, _IMPOSSIBLE, _REFUSED and _NO_ANSWER.
  */
 uint32_t vicinity_explain(const uint8_t *text, size_t text_len, struct vicinity_answer *answer,
                           uint64_t *population, size_t room, size_t *needed);

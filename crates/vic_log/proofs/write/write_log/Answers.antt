@@ -1,42 +1,48 @@
-use Rattle.std.proofs.Common.{rules, ◌≡◌, ◌≤◌, ℕ, List, [], ◌++◌, length, drop, Option, ap, ◌∙◌, subst, refl, arith}
+use Rattle.std.proofs.Common.{rules, subst, ◌≡◌, ℕ, zero, ◌+◌, ◌<◌, suc, List, [], ◌∷◌, ◌++◌, length, drop, drop-cons, slice_index_or, refl, ap, sym, ◌∙◌, append_assoc, arith}
 use Rattle.std.proofs.lemmas.List.{drop_all}
-use Rattle.std.specs.Io.KnownBytes.{Appends}
 use Rattle.vic_log.specs.declared.entry.LogLine.{LogLine}
-use Rattle.vic_log.specs.Device.{HasTakenPrefix}
-use Rattle.vic_log.specs.Writing.{lines_text}
-use Rattle.vic_log.proofs.Told.{HasTakenBut, HasTakenBut-step, HasTakenBut-part, HasTakenPrefix-kept, HasTakenPrefix-none}
+use Rattle.vic_log.specs.Lines.{lf}
+use Rattle.vic_log.specs.Log.{IsValidEntry}
+use Rattle.vic_log.specs.Order.{AreValid, entries}
+use Rattle.vic_log.specs.Writing.{entry_text, lines_text}
+use Rattle.vic_log.proofs.Spelled.{valid_at}
+use Rattle.vic_log.proofs.Told.{HasTakenBut-line, HasTakenBut-part}
 use Rattle.vic_log.proofs.write.write_log.Goals as goal
 
--- no line is left
-all_taken : (a b : Option (List ℕ)) (lines : List LogLine) (n : ℕ) (text : List ℕ) → length lines ≤ n → HasTakenBut a b (lines_text (drop n lines)) text → HasTakenBut a b [] text
-all_taken a b lines n text le h = subst (λ ls. HasTakenBut a b (lines_text ls) text) (drop_all n lines le) h
+valid_line : (lines : List LogLine) (i : ℕ) (other : LogLine) → AreValid (entries lines) → i < length lines → IsValidEntry (slice_index_or lines i other).item
+valid_line [] i other v h = absurd (omega arith)
+valid_line (l ∷ lines) zero other v h = valid_at (entries (l ∷ lines)) v 0 l.item refl
+valid_line (l ∷ lines) (suc i) other v h = valid_line lines i other (λ j q k. v (suc j) q k) (omega arith)
 
-pub loop-next-preserved : goal.loop-next-preserved
-loop-next-preserved g c =
+next_line : (lines : List LogLine) (i : ℕ) (l : LogLine) → i < length lines → l ≡ slice_index_or lines i l → (entry_text l.item ++ lf ∷ []) ++ lines_text (drop (i + 1) lines) ≡ lines_text (drop i lines)
+next_line lines i l h is =
+    let next : i + 1 ≡ suc i = omega arith in
+    append_assoc (entry_text l.item) (lf ∷ []) (lines_text (drop (i + 1) lines))
+    ∙ ap lines_text (ap (λ k. k ∷ drop (i + 1) lines) is ∙ (ap (λ n. slice_index_or lines i l ∷ drop n lines) next ∙ sym (drop-cons lines i l h)))
+
+pub put_entry-requires : goal.put_entry-requires
+put_entry-requires g c =
+    subst (λ (l : LogLine). IsValidEntry l.item) (sym c.line-item.is) (valid_line c.lines-lines.result.now c.loop-line.line-index c.line-item.result c.lines-lines.ensures.log.valid c.loop-line-test.true)
+
+pub loop-line-preserved : goal.loop-line-preserved
+loop-line-preserved g c =
     let lines = c.lines-lines.result.now in
-    let piece = c.fill_piece-next-in-loop-next.new.piece.items in
-    let filled : piece ++ lines_text (drop c.fill_piece-next-in-loop-next.result lines) ≡ lines_text (drop c.loop-next.next lines) = c.fill_piece-next-in-loop-next.ensures.items ∙ ap (λ xs. xs ++ lines_text (drop c.loop-next.next lines)) c.clear.ensures in
-    let sent = subst (Appends (g.W.Sink.taken c.loop-next.sink) (g.W.Sink.taken c.write_whole-in-loop-next.new.sink)) c.as_slice-in-loop-next.ensures.value c.in_ok-write_whole-2.ensures.all in
+    let next = next_line lines c.loop-line.line-index c.line-item.result c.loop-line-test.true c.line-item.is in
     record {
-      bound = c.fill_piece-next-in-loop-next.ensures.bound;
-      works = search rules;
-      told = HasTakenBut-step _ _ _ piece _ _ _ c.loop-next.invariant.told filled sent;
+      untouched = search rules;
+      told = HasTakenBut-line _ _ _ c.loop-line.piece.items _ (entry_text c.line-item.result.item ++ lf ∷ []) _ _ _ c.loop-line.invariant.told c.in_ok-put_entry.ensures.told next;
     }
 
-pub returns-in_err-write_whole-2-clause-prefix : goal.returns-in_err-write_whole-2-clause-prefix
-returns-in_err-write_whole-2-clause-prefix g c =
-    let lines = c.lines-lines.result.now in
-    let piece = c.fill_piece-next-in-loop-next.new.piece.items in
-    let filled : piece ++ lines_text (drop c.fill_piece-next-in-loop-next.result lines) ≡ lines_text (drop c.loop-next.next lines) = c.fill_piece-next-in-loop-next.ensures.items ∙ ap (λ xs. xs ++ lines_text (drop c.loop-next.next lines)) c.clear.ensures in
-    let part = subst (HasTakenPrefix (g.W.Sink.taken c.loop-next.sink) (g.W.Sink.taken c.write_whole-in-loop-next.new.sink)) c.as_slice-in-loop-next.ensures.value c.in_err-write_whole-2.ensures.prefix in
-    HasTakenBut-part _ _ _ piece _ _ _ c.loop-next.invariant.told filled part
+pub returns-in_err-put_entry-clause-prefix : goal.returns-in_err-put_entry-clause-prefix
+returns-in_err-put_entry-clause-prefix g c =
+    HasTakenBut-part _ _ _ c.loop-line.piece.items (lines_text (drop c.loop-line.line-index c.lines-lines.result.now)) _ _ c.loop-line.invariant.told refl c.in_err-put_entry.ensures.prefix
 
-pub returns-in_err-flush-clause-prefix : goal.returns-in_err-flush-clause-prefix
-returns-in_err-flush-clause-prefix g c =
-    let all = all_taken _ _ c.lines-lines.result.now c.loop-next.next _ (omega arith) c.loop-next.invariant.told in
-    HasTakenBut-part _ _ _ [] [] [] _ all refl (HasTakenPrefix-kept _ _ c.in_err-flush.ensures.err)
+pub returns-in_err-write_last-clause-prefix : goal.returns-in_err-write_last-clause-prefix
+returns-in_err-write_last-clause-prefix g c =
+    let none = drop_all c.loop-line.line-index c.lines-lines.result.now (omega arith) in
+    HasTakenBut-part _ _ _ c.loop-line.piece.items [] _ _ c.loop-line.invariant.told (ap (λ ls. c.loop-line.piece.items ++ lines_text ls) (sym none)) c.in_err-write_last.ensures.prefix
 
 pub returns-clause-prefix : goal.returns-clause-prefix
 returns-clause-prefix g c =
-    let all = all_taken _ _ c.lines-lines.result.now c.loop-next.next _ (omega arith) c.loop-next.invariant.told in
-    HasTakenBut-part _ _ _ [] [] [] _ all refl (HasTakenPrefix-none _ _ c.in_ok-flush.ensures.kept)
+    let none = drop_all c.loop-line.line-index c.lines-lines.result.now (omega arith) in
+    HasTakenBut-part _ _ _ c.loop-line.piece.items [] _ _ c.loop-line.invariant.told (ap (λ ls. c.loop-line.piece.items ++ lines_text ls) (sym none)) c.in_ok-write_last.ensures.prefix

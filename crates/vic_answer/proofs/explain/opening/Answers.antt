@@ -1,0 +1,22 @@
+use Rattle.std.proofs.Common.{◌≡◌, List, ℕ, [], ◌++◌, Some, length, ap, sym, ◌∙◌, append_assoc, arith}
+use Rattle.std.specs.Option.{option_map, unwrap_or}
+use Rattle.vic_log.specs.Writing.{listed_text}
+use Rattle.vic_answer.specs.declared.explain.Explained.{Explained}
+use Rattle.vic_answer.specs.CheckText.{answer_line}
+use Rattle.vic_answer.specs.ExplainText.{answer_of, population_of, population_line, population_text, explained_text, uids_of}
+use Rattle.vic_answer.proofs.explain.opening.Goals as goal
+
+with_population : (e : Explained) (us text : List ℕ) → population_of e ≡ Some us → text ≡ answer_line (answer_of e) ++ population_line (length us) → text ++ listed_text (uids_of e) ≡ explained_text e
+with_population e us text is told =
+    let line = answer_line (answer_of e) in
+    let size = population_line (length us) in
+    ap (λ xs. xs ++ listed_text (uids_of e)) told
+    ∙ (ap (λ p. (line ++ size) ++ listed_text (unwrap_or p [])) is
+    ∙ (append_assoc line size (listed_text us) ∙ ap (λ p. line ++ population_text p) (sym is)))
+
+pub returns-in-Some : goal.returns-in-Some
+returns-in-Some c =
+    let line = c.answer_line-text.ensures.items ∙ ap answer_line c.answer_of.ensures in
+    let long : c.len.result ≡ length c.in-Some.uids.items = grind (arith, c.len.ensures, c.in-Some.uids.ok) in
+    let told = c.put_size.ensures ∙ (ap (λ xs. xs ++ population_line c.len.result) line ∙ ap (λ n. answer_line (answer_of c.args.explained.now) ++ population_line n) long) in
+    with_population c.args.explained.now c.in-Some.uids.items c.put_size.new.text.items (ap population_of c.in-Judged.is ∙ ap (option_map (λ v. v.items)) c.in-Some.is) told

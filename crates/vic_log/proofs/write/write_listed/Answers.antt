@@ -1,0 +1,36 @@
+use Rattle.std.proofs.Common.{rules, ◌≡◌, ℕ, ◌+◌, ◌<◌, suc, List, [], ◌∷◌, ◌++◌, length, drop, drop-cons, slice_index_or, refl, ap, sym, ◌∙◌, append_assoc, arith}
+use Rattle.std.proofs.lemmas.List.{drop_all}
+use Rattle.vic_log.specs.declared.entry.Entry.TheVariants.{Listed}
+use Rattle.vic_log.specs.Lines.{lf}
+use Rattle.vic_log.specs.Writing.{entry_text, listed_text}
+use Rattle.vic_log.proofs.Told.{HasTakenBut-line, HasTakenBut-part}
+use Rattle.vic_log.proofs.write.write_listed.Goals as goal
+
+next_uid : (us : List ℕ) (i u : ℕ) → i < length us → u ≡ slice_index_or us i u → (entry_text (Listed u) ++ lf ∷ []) ++ listed_text (drop (i + 1) us) ≡ listed_text (drop i us)
+next_uid us i u h is =
+    let next : i + 1 ≡ suc i = omega arith in
+    append_assoc (entry_text (Listed u)) (lf ∷ []) (listed_text (drop (i + 1) us))
+    ∙ ap listed_text (ap (λ v. v ∷ drop (i + 1) us) is ∙ (ap (λ n. slice_index_or us i u ∷ drop n us) next ∙ sym (drop-cons us i u h)))
+
+pub loop-uid-preserved : goal.loop-uid-preserved
+loop-uid-preserved g c =
+    let us = c.args.uids.now in
+    let next = next_uid us c.loop-uid.uid-index c.uid-item.result c.loop-uid-test.true c.uid-item.is in
+    record {
+      untouched = search rules;
+      told = HasTakenBut-line _ _ _ c.loop-uid.piece.items _ (entry_text (Listed c.uid-item.result) ++ lf ∷ []) _ _ _ c.loop-uid.invariant.told c.in_ok-put_entry.ensures.told next;
+    }
+
+pub returns-in_err-put_entry-clause-prefix : goal.returns-in_err-put_entry-clause-prefix
+returns-in_err-put_entry-clause-prefix g c =
+    HasTakenBut-part _ _ _ c.loop-uid.piece.items (listed_text (drop c.loop-uid.uid-index c.args.uids.now)) _ _ c.loop-uid.invariant.told refl c.in_err-put_entry.ensures.prefix
+
+pub returns-in_err-write_last-clause-prefix : goal.returns-in_err-write_last-clause-prefix
+returns-in_err-write_last-clause-prefix g c =
+    let none = drop_all c.loop-uid.uid-index c.args.uids.now (omega arith) in
+    HasTakenBut-part _ _ _ c.loop-uid.piece.items [] _ _ c.loop-uid.invariant.told (ap (λ us. c.loop-uid.piece.items ++ listed_text us) (sym none)) c.in_err-write_last.ensures.prefix
+
+pub returns-clause-prefix : goal.returns-clause-prefix
+returns-clause-prefix g c =
+    let none = drop_all c.loop-uid.uid-index c.args.uids.now (omega arith) in
+    HasTakenBut-part _ _ _ c.loop-uid.piece.items [] _ _ c.loop-uid.invariant.told (ap (λ us. c.loop-uid.piece.items ++ listed_text us) (sym none)) c.in_ok-write_last.ensures.prefix
