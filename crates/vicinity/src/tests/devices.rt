@@ -9,7 +9,7 @@ use std::process::Abort;
 use std::test::Fail;
 use vic_answer::{RunFault, Status};
 use vic_log::devices::{Endless, OneByOne, Pieces};
-use vic_log::{FromRead, ToWrite};
+use vic_log::{FromRead, Log, ToWrite, WriteFault, read_log, write_log};
 
 const COMMANDS: [Command; 3] = [Command::Check, Command::Simulate, Command::Explain];
 
@@ -177,5 +177,30 @@ fn writers_that_fail(rt: HostRuntime) -> Result<(), Fail> {
     is_written_to(&rt, alloc, Command::Simulate, "I1 QA I1 UA UB", &filled)?;
     let filled = log_of(alloc, "I16 S RA RB S13 UA UB")?;
     is_written_to(&rt, alloc, Command::Simulate, "I16 UA UB", &filled)?;
+    Ok(())
+}
+
+/// What goes out of a log to writers that fail, or take nothing, behind these.
+fn is_cut_behind(rt: &impl Abort, alloc: Global, log: &Log, out: &[u8]) -> Result<(), AllocError> {
+    let mut failing = OneByOne::new(Vec::new(alloc), out.len() as u64 + 1, false);
+    assert!(rt; write_log(log, &mut failing) == Err(WriteFault));
+    is_written(rt, failing.taken(), out);
+    let mut room = Vec::from_slice(alloc, out)?;
+    room.fill(0);
+    let mut sticking = ToWrite::new(room.as_mut_slice());
+    assert!(rt; write_log(log, &mut sticking) == Err(WriteFault));
+    is_written(rt, &room, out);
+    Ok(())
+}
+
+#[test]
+fn logs_to_writers_that_fail(rt: HostRuntime) -> Result<(), Fail> {
+    let alloc = rt.alloc();
+    let text = log_of(alloc, "I16 S RA RB S13 UA UB")?;
+    let bytes = text.as_bytes();
+    let log = read_log(alloc, bytes).ok().ok_or("refused")?;
+    for taken in 0..bytes.len() {
+        is_cut_behind(&rt, alloc, &log, &bytes[..taken])?;
+    }
     Ok(())
 }
