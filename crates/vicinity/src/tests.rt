@@ -2,8 +2,10 @@
 
 mod check;
 mod damage;
+mod devices;
 mod explain;
 mod frame;
 mod logs;
+mod runs;
 mod simulate;
 mod words;

@@ -122,6 +122,7 @@ fn refused_lines(rt: HostRuntime) -> Result<(), Fail> {
             "vicinity-log 1\nT 260100F60A\nR 0000A1",
             "refused at line 3: Length",
         ),
+        ("vicinity-log 2\nF ", "refused at line 2: UnknownEntry"),
         ("vicinity-log 1\nU 04", "refused at line 2: ListedLength"),
         (
             "vicinity-log 1\nU 04040100000000A1",
@@ -147,6 +148,58 @@ fn refused_order(rt: HostRuntime) -> Result<(), Fail> {
     ];
     for (names, line) in rows {
         says(&rt, alloc, names, line, Status::Refused)?;
+    }
+    Ok(())
+}
+
+#[test]
+fn second_version(rt: HostRuntime) -> Result<(), Fail> {
+    let alloc = rt.alloc();
+    let rows = [
+        ("V2", "unsettled 0 -", Status::NotWhole),
+        ("V2 I1 D UA", "unsettled 1 00", Status::NotWhole),
+        ("V2 QZ I1 S F I1 D UZ", "complete 1", Status::Whole),
+        (
+            "V2 QZ I1 S F I1 D",
+            "unlisted E000000000000000",
+            Status::NotWhole,
+        ),
+        (
+            "V2 QZ I1 S I1 D",
+            "impossible at line 6",
+            Status::Impossible,
+        ),
+        ("V2 I1 RA QA F I1 RA UA", "complete 1", Status::Whole),
+        (
+            "V2 I1 RA QA F I1 S",
+            "impossible at line 7",
+            Status::Impossible,
+        ),
+        (
+            "V2 D",
+            "refused at line 2: SlotOutsideRound",
+            Status::Refused,
+        ),
+        (
+            "V2 I1 D D",
+            "refused at line 4: SlotOutsideRound",
+            Status::Refused,
+        ),
+        (
+            "V2 I1 F S",
+            "refused at line 4: SlotOutsideRound",
+            Status::Refused,
+        ),
+        (
+            "V2 UA F",
+            "refused at line 3: EntryAfterList",
+            Status::Refused,
+        ),
+        ("I1 D", "refused at line 3: UnknownEntry", Status::Refused),
+        ("F", "refused at line 2: UnknownEntry", Status::Refused),
+    ];
+    for (names, line, status) in rows {
+        says(&rt, alloc, names, line, status)?;
     }
     Ok(())
 }

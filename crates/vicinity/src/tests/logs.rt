@@ -8,8 +8,8 @@
 use std::alloc::{AllocError, Global};
 use std::test::Fail;
 
-/// The lines of a name: how many, and which.
-fn lines_of(name: &str) -> Option<(usize, &'static str)> {
+/// The line of a name that stands for a frame or a listed UID.
+fn long_line(name: &str) -> Option<&'static str> {
     let line = match name {
         "I1" => "T 260100F60A",
         "I16" => "T 060100CD09",
@@ -32,24 +32,47 @@ fn lines_of(name: &str) -> Option<(usize, &'static str)> {
         "UC" => "U E0040100000000B1",
         "UZ" => "U E000000000000000",
         "UY" => "U E080000000000000",
-        "S" => "S",
-        "C" => "C",
-        "#" => "#",
-        "empty" => "",
-        "S4" => return Some((4, "S")),
-        "S10" => return Some((10, "S")),
-        "S12" => return Some((12, "S")),
-        "S13" => return Some((13, "S")),
-        "S14" => return Some((14, "S")),
-        "S16" => return Some((16, "S")),
         _ => return None,
     };
-    Some((1, line))
+    Some(line)
 }
 
-/// The text of a log, its lines by their names. An unknown name fails the test.
+/// The other lines of a name: how many, and which.
+fn short_lines(name: &str) -> Option<(usize, &'static str)> {
+    let lines = match name {
+        "C" => (1, "C"),
+        "D" => (1, "D"),
+        "F" => (1, "F"),
+        "#" => (1, "#"),
+        "empty" => (1, ""),
+        "S" => (1, "S"),
+        "S4" => (4, "S"),
+        "S10" => (10, "S"),
+        "S12" => (12, "S"),
+        "S13" => (13, "S"),
+        "S14" => (14, "S"),
+        "S16" => (16, "S"),
+        _ => return None,
+    };
+    Some(lines)
+}
+
+/// The lines of a name: how many, and which.
+fn lines_of(name: &str) -> Option<(usize, &'static str)> {
+    match long_line(name) {
+        Some(line) => Some((1, line)),
+        None => short_lines(name),
+    }
+}
+
+/// The text of a log, its lines by their names, behind `V2` in version 2. An unknown name fails the
+/// test.
 pub fn log_of(alloc: Global, names: &str) -> Result<String, Fail> {
-    let mut text = String::from_str(alloc, "vicinity-log 1\n")?;
+    let (header, names) = match names.strip_prefix("V2") {
+        Some(rest) => ("vicinity-log 2\n", rest),
+        None => ("vicinity-log 1\n", names),
+    };
+    let mut text = String::from_str(alloc, header)?;
     for name in names.split(' ').filter(|name| !name.is_empty()) {
         let (count, line) = lines_of(name).ok_or("a line without a name")?;
         for _ in 0..count {

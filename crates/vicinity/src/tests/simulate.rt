@@ -53,6 +53,13 @@ fn slots_filled_in(rt: HostRuntime) -> Result<(), Fail> {
     )?;
     gives(&rt, alloc, "I1", "I1 S", b"complete 0\n")?;
     gives(&rt, alloc, "", "", b"unsettled 0 -\n")?;
+    gives(
+        &rt,
+        alloc,
+        "V2 I1 QA I1 F I1 UA UB",
+        "V2 I1 C QA I1 RB F I1 C UA UB",
+        b"complete 2\n",
+    )?;
     Ok(())
 }
 
