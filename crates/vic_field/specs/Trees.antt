@@ -16,7 +16,8 @@ entries (Fork' ready quiet p middle zero one first last) = entries zero ++ entri
 abbrev pub state : Node → ℕ → Option Bool
 state Empty q = None
 state (Tag k r) q = if k == q then Some r else None
-state (Fork' ready quiet p middle zero one first last) q = if nat_lt q middle then state zero q else state one q
+state (Fork' ready quiet p middle zero one first last) q =
+    if nat_lt q middle then state zero q else state one q
 
 -- what a node notes of Ready tags
 abbrev pub notes_ready : Node → Bool
@@ -52,7 +53,8 @@ pub record AreNotes (ready quiet : Bool) (zero one : Node) : Type 0 where
 abbrev pub IsTree : Node → Type 0
 IsTree Empty = Unit {0}
 IsTree (Tag k r) = Unit {0}
-IsTree (Fork' ready quiet p middle zero one first last) = AreSides first middle last zero one × AreNotes ready quiet zero one × IsTree zero × IsTree one
+IsTree (Fork' ready quiet p middle zero one first last) =
+    AreSides first middle last zero one × AreNotes ready quiet zero one × IsTree zero × IsTree one
 
 -- the keys lie where they lay
 abbrev pub StaysWithin : Node → Node → Type 0
@@ -68,7 +70,9 @@ HasPutKey key old new = (q : ℕ) → state new q ≡ (if key == q then Some tru
 
 -- the tag with this key is Quiet now, if it was there, and the others are as they were
 abbrev pub HasSilencedKey : ℕ → Node → Node → Type 0
-HasSilencedKey key old new = (q : ℕ) → state new q ≡ (if key == q then option_map (λ _. false) (state old q) else state old q)
+HasSilencedKey key old new =
+    (q : ℕ) → state new q
+    ≡ (if key == q then option_map (λ _. false) (state old q) else state old q)
 
 -- tags that give an outcome
 abbrev pub members : Outcome → List ℕ

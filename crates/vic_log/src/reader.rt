@@ -243,13 +243,15 @@ impl LogReader {
         ensures answer { self.old ≡ false →
             (given : List ℕ) × HandsOut (R.left source.old) (R.left source.new) given
             × ReadsAs (R.left source.new) given result }
-        ensures tells { result ≢ Err LogFault.Read → TellsOn (R.left source.old) (R.left source.new) }
+        ensures tells { result ≢ Err LogFault.Read
+            → TellsOn (R.left source.old) (R.left source.new) }
         ensures read { self.old ≡ false
             → IfErr result (λ e. (e ≡ LogFault.Read) ↔ (R.has_failed source.new ≡ true)) }
         ensures works { OnOk result (R.has_failed source.new ≡ false) }
         ensures reads { R.reads source.new ≤ R.reads source.old + MAX_READS }
         ensures spent { self.new ≡ true }
-        ensures again { self.old ≡ true → (result ≡ Err LogFault.Spent) × (source.new ≡ source.old) }
+        ensures again { self.old ≡ true
+            → (result ≡ Err LogFault.Spent) × (source.new ≡ source.old) }
         ensures untouched { R.has_failed source.old ≡ true → source.new ≡ source.old }
     {
         if self.spent {
