@@ -1,9 +1,7 @@
 -- The entries of lines, one by one, and the UIDs that they list.
 use Rattle.std.proofs.Common.{◌≡◌, ℕ, zero, suc, Bool, true, false, ◌||◌, List, [], ◌∷◌, ◌++◌, take, Option, Some, None, refl, sym, ap, ◌∙◌, subst, arith, ⊎_elim}
-use Rattle.std.specs.Prelude.{slice_get, nat_eq, if◌then◌else◌}
+use Rattle.std.specs.Prelude.{slice_get, if◌then◌else◌}
 use Rattle.std.proofs.lemmas.Bool.{cases_eq}
-use Rattle.std.proofs.lemmas.List.Folds.{list_any-append}
-use Rattle.vic_frame.specs.Uids.{has}
 use Rattle.vic_log.specs.declared.entry.Entry.{Entry}
 use Rattle.vic_log.specs.declared.entry.Entry.TheVariants.{Sent, Silent, Collision, Heard, Listed, Garbled, FieldCycle}
 use Rattle.vic_log.specs.declared.entry.LogLine.{LogLine}
@@ -12,8 +10,7 @@ use Rattle.vic_frame.specs.Requests.{IsValid}
 use Rattle.std.specs.Option.{option_map}
 use Rattle.std.proofs.lemmas.Option.{slice_get-map}
 use Rattle.vic_log.specs.Log.{IsValidEntry}
-use Rattle.vic_log.specs.Order.{entries, listed}
-use Rattle.vic_log.proofs.Push.{listed-append}
+use Rattle.vic_log.specs.Order.{entries}
 use Rattle.vic_field.specs.Simulation.{HasNoSlotsBefore}
 use Rattle.vic_log.specs.Rounds.{is_slot}
 
@@ -22,12 +19,6 @@ pub entries_next : (lines : List LogLine) (i : ℕ) (l : LogLine) → slice_get 
 entries_next [] i l k = absurd (cc)
 entries_next (x ∷ lines) zero l k = let same : x ≡ l = cc in ap (λ (y : LogLine). y.item ∷ []) same
 entries_next (x ∷ lines) (suc i) l k = ap (λ (es : List Entry). x.item ∷ es) (entries_next lines i l k)
-
-pub has_listed_next : (lines : List LogLine) (i : ℕ) (l : LogLine) (u : ℕ) → slice_get lines i ≡ Some l → has (listed (entries (take (suc i) lines))) u ≡ (has (listed (entries (take i lines))) u || has (listed (l.item ∷ [])) u)
-has_listed_next lines i l u k =
-    ap (λ (es : List Entry). has (listed es) u) (entries_next lines i l k)
-    ∙ ap (λ (us : List ℕ). has us u) (listed-append (entries (take i lines)) (l.item ∷ []))
-    ∙ list_any-append (nat_eq u) (listed (entries (take i lines))) (listed (l.item ∷ []))
 
 -- what is Ready with one listed UID more
 pub ready_next : (h k : Bool) (r s : Option Bool) → r ≡ (if h then Some true else None) → s ≡ (if k then Some true else r) → s ≡ (if (h || k) then Some true else None)

@@ -6,14 +6,11 @@ use Rattle.vic_log.specs.declared.entry.LogLine.{LogLine}
 use Rattle.vic_log.specs.Log.{LogValue, last_from}
 use Rattle.vic_log.specs.Order.{entries}
 use Rattle.vic_log.specs.Writing.{numbered}
+use Rattle.vic_log.proofs.Push.{entries-numbered}
 use Rattle.vic_field.specs.Steps.{with_entries}
 
 pub entries-append : (ls ms : List LogLine) → entries (ls ++ ms) ≡ entries ls ++ entries ms
 entries-append ls ms = map-append (λ (x : LogLine). x.item) ls ms
-
-pub entries-numbered : (n : ℕ) (es : List Entry) → entries (numbered n es) ≡ es
-entries-numbered n [] = refl
-entries-numbered n (e ∷ es) = ap (λ (fs : List Entry). e ∷ fs) (entries-numbered (suc n) es)
 
 last_from-append : (n : ℕ) (ls ms : List LogLine) → last_from n (ls ++ ms) ≡ last_from (last_from n ls) ms
 last_from-append n [] ms = refl

@@ -18,18 +18,17 @@ use Rattle.vic_field.specs.declared.field.Outcome.{Outcome}
 use Rattle.vic_field.specs.declared.field.Outcome.TheVariants.{Silent, Lone, Several}
 use Rattle.vic_field.specs.declared.tree.Node.{Node, Fork'}
 use Rattle.vic_field.specs.declared.tree.Node.TheVariants.{Empty, Tag}
-use Rattle.vic_field.specs.declared.tree.Fork.{Fork}
 use Rattle.vic_field.specs.Keys.{AreKeys, tags_of, ready_between}
 use Rattle.vic_field.proofs.TagLaws.{by_key, same_key, readiness_there}
 use Rattle.vic_field.specs.Tags.{uids, readiness, heard}
-use Rattle.vic_field.specs.Trees.{entries, state, notes_ready, notes_quiet, IsWithin, IsTree, AreSides, AreNotes, HasSides, HasSpan, members}
+use Rattle.vic_field.specs.Trees.{entries, state, notes_ready, notes_quiet, IsWithin, IsTree, AreSides, members}
 
 -- ---- where keys lie
 
 pub widen : (a b x y : ℕ) (n : Node) → x ≤ a → b ≤ y → IsWithin a b n → IsWithin x y n
 widen a b x y Empty p q w = tt
 widen a b x y (Tag k r) p q w = (omega arith, omega arith)
-widen a b x y (Fork' ptr middle ready quiet zero one first last) p q w = (omega arith, omega arith)
+widen a b x y (Fork' ready quiet ptr middle zero one first last) p q w = (omega arith, omega arith)
 
 -- the sides of a fork lie where it does
 pub zero_within : (a b first middle last : ℕ) (zero one : Node) → AreSides first middle last zero one → a ≤ first → last ≤ b → IsWithin a b zero
@@ -45,7 +44,7 @@ keys_append (x ∷ xs) ys = ap (λ (ks : List ℕ). x.0 ∷ ks) (keys_append xs 
 pub bounded : (a b : ℕ) (P : ℕ → Type 0) → ((k : ℕ) → a ≤ k → k ≤ b → P k) → (n : Node) → IsTree n → IsWithin a b n → AllByRecursion P (keys_of (entries n))
 bounded a b P f Empty t w = tt
 bounded a b P f (Tag k r) t w = (f k w.0 w.1, tt)
-bounded a b P f (Fork' ptr middle ready quiet zero one first last) t w =
+bounded a b P f (Fork' ready quiet ptr middle zero one first last) t w =
     subst (λ (ks : List ℕ). AllByRecursion P ks) (sym (keys_append (entries zero) (entries one)))
     (join (keys_of (entries zero)) (keys_of (entries one))
     (bounded a b P f zero t.2 (zero_within a b first middle last zero one t.0 w.0 w.1))
@@ -61,7 +60,7 @@ state_outside a b q Empty t w h = refl
 state_outside a b q (Tag k r) t w h = ap (λ (x : Bool). cond x (Some r) None) (other k q a b w.0 w.1 h) where
   other : (k q a b : ℕ) → a ≤ k → k ≤ b → (q < a) ⊎ (b < q) → (k == q) ≡ false
   other k q a b l m h = grind (arith, nat_tests)
-state_outside a b q (Fork' ptr middle ready quiet zero one first last) t w h =
+state_outside a b q (Fork' ready quiet ptr middle zero one first last) t w h =
     neither (nat_lt q middle) (state zero q) (state one q)
     (state_outside a b q zero t.2 (zero_within a b first middle last zero one t.0 w.0 w.1) h)
     (state_outside a b q one t.3 (one_within a b first middle last zero one t.0 w.0 w.1) h) where
@@ -124,7 +123,7 @@ state_entry q Empty t = refl
 state_entry q (Tag k r) t = ap (λ (x : Bool). cond x (Some r) None) (plain q k) where
   plain : (q k : ℕ) → is_eq (nat_cmp q k) ≡ (k == q)
   plain q k = grind (arith, nat_tests)
-state_entry q (Fork' ptr middle ready quiet zero one first last) t = go (nat_lt q middle) (state_entry q zero t.2) (state_entry q one t.3) refl where
+state_entry q (Fork' ready quiet ptr middle zero one first last) t = go (nat_lt q middle) (state_entry q zero t.2) (state_entry q one t.3) refl where
   ahead : (a b : ℕ) → nat_lt a b ≡ true → a < b
   ahead a b e = grind (arith, nat_tests)
 
@@ -145,7 +144,7 @@ pub is_rising : (n : Node) → IsTree n → IsStrictlySortedBy nat_cmp (keys_of 
 unfolding IsStrictlySortedBy
 is_rising Empty t = tt
 is_rising (Tag k r) t = (tt, tt)
-is_rising (Fork' ptr middle ready quiet zero one first last) t =
+is_rising (Fork' ready quiet ptr middle zero one first last) t =
     subst (λ (ks : List ℕ). IsStrictlySortedBy nat_cmp ks) (sym (keys_append (entries zero) (entries one)))
     (join (keys_of (entries zero)) (keys_of (entries one)) (is_rising zero t.2) (is_rising one t.3)
     (bounded first (middle - 1) (λ k. k < middle) (λ k p q. let h = t.0.low in omega arith) zero t.2 t.0.below)
@@ -199,12 +198,14 @@ both_false : (x y z : Bool) → x ≡ (y || z) → x ≡ false → (y ≡ false)
 both_false x true z e f = absurd (cc)
 both_false x false z e f = (refl, sym e ∙ f)
 
--- a side that stays without Quiet tags
-pub still_calm_zero : (q x y z : Bool) → q ≡ (x || y) → (x ≡ false → z ≡ false) → q ≡ false → (z || y) ≡ false
-still_calm_zero q x y z e f h = let both = both_false q x y e h in rw (f both.0, both.1) refl
+-- a Ready tag behind others
+pub with_ready : (b : Bool) → true ≡ (b || true)
+with_ready true = refl
+with_ready false = refl
 
-pub still_calm_one : (q x y z : Bool) → q ≡ (x || y) → (y ≡ false → z ≡ false) → q ≡ false → (x || z) ≡ false
-still_calm_one q x y z e f h = let both = both_false q x y e h in rw (both.0, f both.1) refl
+pub with_none : (b : Bool) → b ≡ (b || false)
+with_none true = refl
+with_none false = refl
 
 ready_append : (a b : ℕ) (xs ys : List (ℕ × Bool)) → ready_between a b (xs ++ ys) ≡ ready_between a b xs ++ ready_between a b ys
 ready_append a b xs ys =
@@ -221,7 +222,7 @@ none_noted a b (Tag k r) t e = go r (nat_le a k && nat_le k b) e where
   go true s e = absurd (cc)
   go false true e = refl
   go false false e = refl
-none_noted a b (Fork' ptr middle ready quiet zero one first last) t e =
+none_noted a b (Fork' ready quiet ptr middle zero one first last) t e =
     let h = both_false ready (notes_ready zero) (notes_ready one) t.1.of_ready e in
     neither_ready a b (entries zero) (entries one) (none_noted a b zero t.2 h.0) (none_noted a b one t.3 h.1)
 
@@ -234,7 +235,7 @@ none_outside a b f l (Tag k r) t w h = go (nat_le a k && nat_le k b) (miss a b f
   go : (s : Bool) → s ≡ false → map (λ (e : ℕ × Bool). uid_of e.0) (cond (s && r) ((k, r) ∷ []) []) ≡ []
   go true e = absurd (cc)
   go false e = refl
-none_outside a b f l (Fork' ptr middle ready quiet zero one first last) t w h =
+none_outside a b f l (Fork' ready quiet ptr middle zero one first last) t w h =
     neither_ready a b (entries zero) (entries one)
     (none_outside a b f l zero t.2 (zero_within f l first middle last zero one t.0 w.0 w.1) h)
     (none_outside a b f l one t.3 (one_within f l first middle last zero one t.0 w.0 w.1) h)
@@ -245,6 +246,41 @@ zero_passed a b first middle last zero one s t h = let low = s.low in none_outsi
 
 pub one_passed : (a b first middle last : ℕ) (zero one : Node) → AreSides first middle last zero one → IsTree one → b < middle → ready_between a b (entries one) ≡ []
 one_passed a b first middle last zero one s t h = none_outside a b middle last one t s.above (inl h)
+
+-- ---- where a Ready tag is noted, there is one
+
+pub record HasSome (us : List ℕ) : Type 0 where
+  head : ℕ
+  tail : List ℕ
+  some : us ≡ head ∷ tail
+
+some_first : (xs ys : List ℕ) → HasSome xs → HasSome (xs ++ ys)
+some_first xs ys h = record { head = h.head; tail = h.tail ++ ys; some = ap (λ (zs : List ℕ). zs ++ ys) h.some }
+
+some_second : (xs ys : List ℕ) → HasSome ys → HasSome (xs ++ ys)
+some_second [] ys h = h
+some_second (x ∷ xs) ys h = record { head = x; tail = xs ++ ys; some = refl }
+
+pub some_noted : (a b f l : ℕ) (n : Node) → IsTree n → IsWithin f l n → a ≤ f → l ≤ b → notes_ready n ≡ true → HasSome (ready_between a b (entries n))
+some_noted a b f l Empty t w p q e = absurd (cc)
+some_noted a b f l (Tag k r) t w p q e = record { head = uid_of k; tail = []; some = go r (nat_le a k && nat_le k b) e (inside a b f l k w.0 w.1 p q) } where
+  inside : (a b f l k : ℕ) → f ≤ k → k ≤ l → a ≤ f → l ≤ b → (nat_le a k && nat_le k b) ≡ true
+  inside a b f l k x y p q = grind (arith, nat_tests)
+
+  go : (r s : Bool) → r ≡ true → s ≡ true → map (λ (e : ℕ × Bool). uid_of e.0) (cond (s && r) ((k, r) ∷ []) []) ≡ uid_of k ∷ []
+  go true true e f = refl
+  go true false e f = absurd (cc)
+  go false s e f = absurd (cc)
+some_noted a b f l (Fork' ready quiet ptr middle zero one first last) t w p q e =
+    subst HasSome (sym (ready_append a b (entries zero) (entries one)))
+    (go (notes_ready zero) (notes_ready one) (sym t.1.of_ready ∙ e)
+    (some_noted a b f l zero t.2 (zero_within f l first middle last zero one t.0 w.0 w.1) p q)
+    (some_noted a b f l one t.3 (one_within f l first middle last zero one t.0 w.0 w.1) p q)) where
+      go : (x y : Bool) → (x || y) ≡ true → (x ≡ true → HasSome (ready_between a b (entries zero))) → (y ≡ true → HasSome (ready_between a b (entries one)))
+          → HasSome (ready_between a b (entries zero) ++ ready_between a b (entries one))
+      go true y e g h = some_first (ready_between a b (entries zero)) (ready_between a b (entries one)) (g refl)
+      go false true e g h = some_second (ready_between a b (entries zero)) (ready_between a b (entries one)) (h refl)
+      go false false e g h = absurd (cc)
 
 all_both : (xs ys : List (ℕ × Bool)) → xs ≡ map (λ (e : ℕ × Bool). (e.0, true)) xs → ys ≡ map (λ (e : ℕ × Bool). (e.0, true)) ys → xs ++ ys ≡ map (λ (e : ℕ × Bool). (e.0, true)) (xs ++ ys)
 all_both xs ys p q =
@@ -261,15 +297,9 @@ all_noted (Tag k r) t e = go r e where
   go : (r : Bool) → not r ≡ false → one r ≡ one true
   go true e = refl
   go false e = absurd (cc)
-all_noted (Fork' ptr middle ready quiet zero one first last) t e =
+all_noted (Fork' ready quiet ptr middle zero one first last) t e =
     let h = both_false quiet (notes_quiet zero) (notes_quiet one) t.1.of_quiet e in
     all_both (entries zero) (entries one) (all_noted zero t.2 h.0) (all_noted one t.3 h.1)
-
--- a fork that has noted anew
-pub noted : (old new : Fork) → HasSides old new → HasSpan old new → AreNotes new.ready new.quiet old.zero old.one
-    → AreSides old.first old.middle old.last old.zero old.one × IsTree old.zero × IsTree old.one
-    → AreSides new.first new.middle new.last new.zero new.one × AreNotes new.ready new.quiet new.zero new.one × IsTree new.zero × IsTree new.one
-noted old new s k n p = rw (s.zero, s.one, k.first, k.middle, k.last) (p.0, n, p.1, p.2)
 
 -- ---- what is heard
 
@@ -279,9 +309,6 @@ heard_nothing o us e = plain o ∙ ap (λ (vs : List ℕ). heard (members o ++ v
   plain Silent = refl
   plain (Lone u) = refl
   plain Several = refl
-
-pub heard_enough : (o : Outcome) (us : List ℕ) → o ≡ Several → o ≡ heard (members o ++ us)
-heard_enough o us e = e ∙ ap (λ (x : Outcome). heard (members x ++ us)) (sym e)
 
 pub heard_both : (o p r : Outcome) (a b : ℕ) (zero one : Node) → p ≡ heard (members o ++ ready_between a b (entries zero)) → r ≡ heard (members p ++ ready_between a b (entries one))
     → r ≡ heard (members o ++ ready_between a b (entries zero ++ entries one))
@@ -295,3 +322,17 @@ heard_both o p r a b zero one e f =
       twice [] vs = refl
       twice (u ∷ []) vs = refl
       twice (u ∷ v ∷ us) vs = refl
+
+-- a Ready tag on either side of a fork
+pub heard_several : (o : Outcome) (a b : ℕ) (zero one : Node) → HasSome (ready_between a b (entries zero)) → HasSome (ready_between a b (entries one))
+    → Several ≡ heard (members o ++ ready_between a b (entries zero ++ entries one))
+heard_several o a b zero one g h =
+    several o g.head h.head g.tail h.tail
+    ∙ ap (λ (us : List ℕ). heard (members o ++ (us ++ h.head ∷ h.tail))) (sym g.some)
+    ∙ ap (λ (us : List ℕ). heard (members o ++ (ready_between a b (entries zero) ++ us))) (sym h.some)
+    ∙ ap (λ (us : List ℕ). heard (members o ++ us)) (sym (ready_append a b (entries zero) (entries one))) where
+      several : (o : Outcome) (x y : ℕ) (xs ys : List ℕ) → Several ≡ heard (members o ++ ((x ∷ xs) ++ y ∷ ys))
+      several Silent x y [] ys = refl
+      several Silent x y (z ∷ xs) ys = refl
+      several (Lone u) x y xs ys = refl
+      several Several x y xs ys = refl

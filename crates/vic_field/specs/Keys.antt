@@ -16,7 +16,8 @@ tags_of es = map (λ e. (uid_of e.0, e.1)) es
 
 -- the Ready tags whose keys lie from a to b
 abbrev pub ready_between : ℕ → ℕ → List (ℕ × Bool) → List ℕ
-ready_between a b es = map (λ e. uid_of e.0) (filter (λ e. (nat_le a e.0 && nat_le e.0 b) && e.1) es)
+ready_between a b es =
+    map (λ e. uid_of e.0) (filter (λ e. (nat_le a e.0 && nat_le e.0 b) && e.1) es)
 
 -- the UIDs that keys stand for
 abbrev pub uids_at : List ℕ → List ℕ

@@ -20,7 +20,9 @@ without_slots es = filter (λ e. not (is_slot e)) es
 
 -- each request is followed by a line for each of its slots
 abbrev pub HasAllSlots : List Entry → Type 0
-HasAllSlots es = (i k : ℕ) (q : Request) → slice_get es i ≡ Some (Sent q) → k < slot_count q → (e : Entry) × (slice_get es (suc i + k) ≡ Some e) × (is_slot e ≡ true)
+HasAllSlots es =
+    (i k : ℕ) (q : Request) → slice_get es i ≡ Some (Sent q) → k < slot_count q
+    → (e : Entry) × (slice_get es (suc i + k) ≡ Some e) × (is_slot e ≡ true)
 
 -- no reply is garbled, and a reply has flags 0 and DSFID 0
 abbrev pub IsPlain : Entry → Type 0
@@ -31,7 +33,8 @@ IsPlain e = ⊤
 abbrev pub ArePlain : List Entry → Type 0
 ArePlain es = (i : ℕ) (e : Entry) → slice_get es i ≡ Some e → IsPlain e
 
--- how lines are filled: those given stay, each slot has its line, and the listed UIDs are a population that could have given all of it
+-- how lines are filled: those given stay, each slot has its line, and the listed UIDs are a
+-- population that could have given all of it
 pub record IsSimulation (given filled : List LogLine) : Type 0 where
   pub kept : without_slots (entries filled) ≡ entries given
   pub slots : HasAllSlots (entries filled)
@@ -51,7 +54,8 @@ last_needed lines = suc (line_count (entries lines))
 
 -- the first n lines tell of no slot
 abbrev pub HasNoSlotsBefore : ℕ → List LogLine → Type 0
-HasNoSlotsBefore n lines = (i : ℕ) (l : LogLine) → i < n → slice_get lines i ≡ Some l → is_slot l.item ≡ false
+HasNoSlotsBefore n lines =
+    (i : ℕ) (l : LogLine) → i < n → slice_get lines i ≡ Some l → is_slot l.item ≡ false
 
 -- no line tells of a slot
 abbrev pub HasNoSlots : List LogLine → Type 0
@@ -66,8 +70,8 @@ pub record IsFirstSlot (lines : List LogLine) (n : ℕ) : Type 0 where
   pub tells : is_slot line.item ≡ true
   pub first : HasNoSlotsBefore place lines
 
--- why lines aren't simulated: a slot line is there; else more lines would be needed than a log may have; else memory is
--- wanting
+-- why lines aren't simulated: a slot line is there; else more lines would be needed than a log may
+-- have; else memory is wanting
 abbrev pub RefusesLines : List LogLine → SimFault → Type 0
 RefusesLines lines (OutcomeGiven n) = IsFirstSlot lines n
 RefusesLines lines TooManyLines = HasNoSlots lines × (MAX_LINES < last_needed lines)

@@ -22,7 +22,8 @@ slot_line Several = Collision
 -- the lines of the first n slots of a request
 abbrev pub slot_lines_to : List (ℕ × Bool) → Request → ℕ → List Entry
 slot_lines_to tags q zero = []
-slot_lines_to tags q (suc k) = slot_lines_to tags q k ++ slot_line (heard (ready_in (mask_in q k) tags)) ∷ []
+slot_lines_to tags q (suc k) =
+    slot_lines_to tags q k ++ slot_line (heard (ready_in (mask_in q k) tags)) ∷ []
 
 -- the lines of all slots that an entry opens
 abbrev pub slot_lines : List (ℕ × Bool) → Entry → List Entry
@@ -35,7 +36,8 @@ next_line log = suc (last_from 1 log.lines)
 
 -- a log with more entries on the next lines
 abbrev pub with_entries : LogValue → List Entry → LogValue
-with_entries log es = record { lines = log.lines ++ numbered (next_line log) es; version = log.version }
+with_entries log es =
+    record { lines = log.lines ++ numbered (next_line log) es; version = log.version }
 
 -- whether the tag u is Ready after an entry, where it is so or not before
 abbrev pub ready_after : Entry → ℕ → Bool → Bool
@@ -43,4 +45,5 @@ ready_after e u ready = not (silences (Some e) u) && (wakes (Some e) || ready)
 
 -- the tags after an entry, where they were others before
 abbrev pub IsAfter : Entry → List (ℕ × Bool) → List (ℕ × Bool) → Type 0
-IsAfter e old new = (u : ℕ) → IsUid u → readiness new u ≡ option_map (ready_after e u) (readiness old u)
+IsAfter e old new =
+    (u : ℕ) → IsUid u → readiness new u ≡ option_map (ready_after e u) (readiness old u)

@@ -1,4 +1,5 @@
--- The tags of a field: the UID of each, and whether it is Ready (ISO/IEC 15693-3, states of a VICC).
+-- The tags of a field: the UID of each, and whether it is Ready (ISO/IEC 15693-3, states of a
+-- VICC).
 use Rattle.std.specs.Prelude.{◌≡◌, ℕ, Bool, true, false, List, ◌&&◌, map, Option, Some, nat_eq, if◌then◌else◌}
 use Rattle.std.specs.List.{filter}
 use Rattle.std.specs.Map.{lookup}
@@ -32,11 +33,14 @@ quiets (Inventory link sixteen m) u = false
 
 -- some tags are there now and Ready, and the others are as they were
 abbrev pub HasAdded : (ℕ → Bool) → List (ℕ × Bool) → List (ℕ × Bool) → Type 0
-HasAdded which old new = (u : ℕ) → IsUid u → readiness new u ≡ (if which u then Some true else readiness old u)
+HasAdded which old new =
+    (u : ℕ) → IsUid u → readiness new u ≡ (if which u then Some true else readiness old u)
 
 -- some tags are Quiet now, where they are there, and the others are as they were
 abbrev pub HasSilenced : (ℕ → Bool) → List (ℕ × Bool) → List (ℕ × Bool) → Type 0
-HasSilenced which old new = (u : ℕ) → IsUid u → readiness new u ≡ (if which u then option_map (λ _. false) (readiness old u) else readiness old u)
+HasSilenced which old new =
+    (u : ℕ) → IsUid u → readiness new u
+    ≡ (if which u then option_map (λ _. false) (readiness old u) else readiness old u)
 
 -- an outcome, as a field tells it
 abbrev pub told : Outcome → Told

@@ -3,7 +3,6 @@ use Rattle.std.specs.Prelude.{◌≡◌, ℕ, ◌-◌, ◌<◌, ◌≤◌, ◌==
 use Rattle.std.specs.Option.{option_map}
 use Rattle.vic_field.specs.declared.field.Outcome.{Outcome}
 use Rattle.vic_field.specs.declared.field.Outcome.TheVariants.{Silent, Lone, Several}
-use Rattle.vic_field.specs.declared.tree.Fork.{Fork}
 use Rattle.vic_field.specs.declared.tree.Node.{Node, Fork'}
 use Rattle.vic_field.specs.declared.tree.Node.TheVariants.{Empty, Tag}
 
@@ -11,31 +10,32 @@ use Rattle.vic_field.specs.declared.tree.Node.TheVariants.{Empty, Tag}
 abbrev pub entries : Node → List (ℕ × Bool)
 entries Empty = []
 entries (Tag k r) = (k, r) ∷ []
-entries (Fork' p middle ready quiet zero one first last) = entries zero ++ entries one
+entries (Fork' ready quiet p middle zero one first last) = entries zero ++ entries one
 
 -- whether the tag with the key q is Ready, if it is there
 abbrev pub state : Node → ℕ → Option Bool
 state Empty q = None
 state (Tag k r) q = if k == q then Some r else None
-state (Fork' p middle ready quiet zero one first last) q = if nat_lt q middle then state zero q else state one q
+state (Fork' ready quiet p middle zero one first last) q =
+    if nat_lt q middle then state zero q else state one q
 
 -- what a node notes of Ready tags
 abbrev pub notes_ready : Node → Bool
 notes_ready Empty = false
 notes_ready (Tag k r) = r
-notes_ready (Fork' p middle ready quiet zero one first last) = ready
+notes_ready (Fork' ready quiet p middle zero one first last) = ready
 
 -- what a node notes of Quiet tags
 abbrev pub notes_quiet : Node → Bool
 notes_quiet Empty = false
 notes_quiet (Tag k r) = not r
-notes_quiet (Fork' p middle ready quiet zero one first last) = quiet
+notes_quiet (Fork' ready quiet p middle zero one first last) = quiet
 
 -- a node whose keys lie from a to b
 abbrev pub IsWithin : ℕ → ℕ → Node → Type 0
 IsWithin a b Empty = Unit {0}
 IsWithin a b (Tag k r) = (a ≤ k) × (k ≤ b)
-IsWithin a b (Fork' p middle ready quiet zero one first last) = (a ≤ first) × (last ≤ b)
+IsWithin a b (Fork' ready quiet p middle zero one first last) = (a ≤ first) × (last ≤ b)
 
 -- the sides of a fork: the keys of one are below the middle, those of the other aren't
 pub record AreSides (first middle last : ℕ) (zero one : Node) : Type 0 where
@@ -49,22 +49,12 @@ pub record AreNotes (ready quiet : Bool) (zero one : Node) : Type 0 where
   pub of_ready : ready ≡ (notes_ready zero || notes_ready one)
   pub of_quiet : quiet ≡ (notes_quiet zero || notes_quiet one)
 
--- a fork whose sides are those of another
-pub record HasSides (old new : Fork) : Type 0 where
-  pub zero : new.zero ≡ old.zero
-  pub one : new.one ≡ old.one
-
--- a fork that parts the same keys at the same one
-pub record HasSpan (old new : Fork) : Type 0 where
-  pub first : new.first ≡ old.first
-  pub middle : new.middle ≡ old.middle
-  pub last : new.last ≡ old.last
-
 -- a tree whose forks part the keys, and note rightly
 abbrev pub IsTree : Node → Type 0
 IsTree Empty = Unit {0}
 IsTree (Tag k r) = Unit {0}
-IsTree (Fork' p middle ready quiet zero one first last) = AreSides first middle last zero one × AreNotes ready quiet zero one × IsTree zero × IsTree one
+IsTree (Fork' ready quiet p middle zero one first last) =
+    AreSides first middle last zero one × AreNotes ready quiet zero one × IsTree zero × IsTree one
 
 -- the keys lie where they lay
 abbrev pub StaysWithin : Node → Node → Type 0
@@ -80,7 +70,9 @@ HasPutKey key old new = (q : ℕ) → state new q ≡ (if key == q then Some tru
 
 -- the tag with this key is Quiet now, if it was there, and the others are as they were
 abbrev pub HasSilencedKey : ℕ → Node → Node → Type 0
-HasSilencedKey key old new = (q : ℕ) → state new q ≡ (if key == q then option_map (λ _. false) (state old q) else state old q)
+HasSilencedKey key old new =
+    (q : ℕ) → state new q
+    ≡ (if key == q then option_map (λ _. false) (state old q) else state old q)
 
 -- tags that give an outcome
 abbrev pub members : Outcome → List ℕ

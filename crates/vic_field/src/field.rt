@@ -1,18 +1,18 @@
 //! The tags of a field, each Ready or Quiet.
 
-ghost use Rattle.std.specs.Prelude.{◌≡◌, ℕ, ◌==◌, [], true, false, MatchResult, OnOk, OnErr};
+ghost use Rattle.std.specs.Prelude.{◌≡◌, ℕ, ◌<◌, ◌^◌, ◌==◌, [], true, false, MatchResult, OnOk, OnErr};
 ghost use Rattle.std.specs.Option.{option_map};
-ghost use Rattle.vic_field.specs.declared.field.AddFault.TheVariants.{Memory as NoRoom};
 ghost use Rattle.vic_log.specs.Populations.{IsPopulation};
 ghost use Rattle.vic_field.specs.Tags.{uids, readiness, ready_in, quiets, heard, RefusesTag, HasAdded, HasSilenced};
+ghost use Rattle.vic_frame.specs.LowBitsFirst.{uid_of};
 ghost use Rattle.vic_frame.specs.Uids.{has};
 
-use crate::hear::hear;
+use crate::hear::hear_mask;
 use crate::put::put;
 use crate::tree::{self, Node};
 use std::alloc::{AllocError, Global};
 use std::marker::Model;
-use vic_frame::{Mask, Request, Uid, low_bits_first, without_top_byte};
+use vic_frame::{Mask, Request, Uid, low_bits_first};
 
 /// What a reader hears in a slot.
 #[derive(Clone, Copy, Debug, PartialEq, Eq)]
@@ -35,7 +35,9 @@ pub enum AddFault {
 }
 
 impl From<AllocError> for AddFault {
-    ghost from_gives = { λ _ e. e ≡ NoRoom };
+    ghost use Rattle.vic_field.specs.declared.field.AddFault.{AddFault};
+
+    ghost from_gives = { λ _ e. e ≡ AddFault.Memory };
 
     fn from(_e: AllocError) -> AddFault {
         AddFault::Memory
@@ -84,16 +86,17 @@ impl Field {
         if self.holds(uid) {
             return Err(AddFault::Already);
         }
-        self.put(uid)?;
+        self.put(low_bits_first::key(uid))?;
         Ok(())
     }
 
-    /// Puts a tag into the field. It is Ready then, also where it was there.
-    pub(crate) fn put(&mut self, uid: Uid) -> Result<(), AllocError>
-        ensures added { OnOk result (HasAdded (λ u. u == uid) self.old self.new) }
+    /// Puts the tag with this key into the field. It is Ready then, also where it was there.
+    pub(crate) fn put(&mut self, key: u64) -> Result<(), AllocError>
+        requires { key < 2 ^ 56 }
+        ensures added { OnOk result (HasAdded (λ u. u == uid_of key) self.old self.new) }
         ensures unchanged { OnErr result (self.new ≡ self.old) }
     {
-        put(&mut self.root, self.alloc, low_bits_first::key(uid))?;
+        put(&mut self.root, self.alloc, key)?;
         Ok(())
     }
 
@@ -139,11 +142,6 @@ impl Field {
         ensures heard { result ≡ heard (ready_in mask.now self.now) }
         ensures population { IsPopulation (uids self.now) }
     {
-        let root = &self.root;
-        let Some(mask) = without_top_byte(mask) else {
-            return Outcome::Silent;
-        };
-        let (first, last) = low_bits_first::key_range(&mask);
-        hear(root, first, last, Outcome::Silent)
+        hear_mask(&self.root, mask)
     }
 }

@@ -58,7 +58,7 @@ fn field_of(alloc: Global, keys: &[u64]) -> Result<Field, AllocError>
 {
     let mut field = Field::new(alloc);
     for key in keys {
-        field.put(low_bits_first::uid_at(*key))?;
+        field.put(*key)?;
     }
     Ok(field)
 }

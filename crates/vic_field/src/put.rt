@@ -1,9 +1,9 @@
 //! One tag more in a tree.
 
-ghost use Rattle.std.specs.Prelude.{◌≡◌, ◌<◌, ◌≤◌, ◌||◌, false, true, OnOk, OnErr};
-ghost use Rattle.vic_field.specs.Trees.{notes_ready, notes_quiet, IsWithin, IsTree, AreNotes, HasSides, HasSpan, StaysWithinBut, HasPutKey};
+ghost use Rattle.std.specs.Prelude.{◌≡◌, ◌<◌, ◌≤◌, false, true, OnOk, OnErr};
+ghost use Rattle.vic_field.specs.Trees.{notes_ready, notes_quiet, IsWithin, IsTree, StaysWithinBut, HasPutKey};
 
-use crate::tree::{Fork, Node, note, notes_quiet};
+use crate::tree::{Fork, Node, has_quiet, has_ready, notes_quiet};
 use std::alloc::{AllocError, Global};
 use std::mem;
 
@@ -13,8 +13,6 @@ pub(crate) fn put(node: &mut Node, alloc: Global, key: u64) -> Result<(), AllocE
     ensures tree { OnOk result (IsTree node.new) }
     ensures within { OnOk result (StaysWithinBut key node.old node.new) }
     ensures there { OnOk result (HasPutKey key node.old node.new) }
-    ensures ready { OnOk result (notes_ready node.new ≡ true) }
-    ensures calm { OnOk result (notes_quiet node.old ≡ false → notes_quiet node.new ≡ false) }
     ensures unchanged { OnErr result (node.new ≡ node.old) }
 {
     let (first, last) = match node {
@@ -29,7 +27,7 @@ pub(crate) fn put(node: &mut Node, alloc: Global, key: u64) -> Result<(), AllocE
             }
             (*here, *here)
         }
-        Node::Fork(fork) => {
+        Node::Fork { ready, quiet, fork } => {
             if fork.first <= key && key <= fork.last || agree(fork.middle, key) {
                 let low = fork.first.min(key);
                 let high = fork.last.max(key);
@@ -40,7 +38,8 @@ pub(crate) fn put(node: &mut Node, alloc: Global, key: u64) -> Result<(), AllocE
                 }
                 fork.first = low;
                 fork.last = high;
-                note_put(fork, key);
+                *ready = has_ready(fork);
+                *quiet = has_quiet(fork);
                 return Ok(());
             }
             (fork.first, fork.last)
@@ -50,24 +49,6 @@ pub(crate) fn put(node: &mut Node, alloc: Global, key: u64) -> Result<(), AllocE
         put_before(node, alloc, key, first, last)
     } else {
         put_behind(node, alloc, key, first, last)
-    }
-}
-
-/// Notes anew behind a Ready tag that was put in. A fork without Quiet tags has none then, and
-/// neither side is looked at.
-fn note_put(fork: &mut Fork, key: u64)
-    requires ready { (notes_ready fork.old.zero || notes_ready fork.old.one) ≡ true }
-    requires calm { fork.old.quiet ≡ false
-        → (notes_quiet fork.old.zero || notes_quiet fork.old.one) ≡ false }
-    ensures sides { HasSides fork.old fork.new }
-    ensures span { HasSpan fork.old fork.new }
-    ensures notes { AreNotes fork.new.ready fork.new.quiet fork.old.zero fork.old.one }
-    ensures calm { fork.old.quiet ≡ false → fork.new.quiet ≡ false }
-{
-    if fork.quiet {
-        note(fork, key);
-    } else {
-        fork.ready = true;
     }
 }
 
@@ -112,16 +93,13 @@ fn put_before(
     ensures tree { OnOk result (IsTree node.new) }
     ensures within { OnOk result (IsWithin key last node.new) }
     ensures there { OnOk result (HasPutKey key node.old node.new) }
-    ensures ready { OnOk result (notes_ready node.new ≡ true) }
-    ensures calm { OnOk result (notes_quiet node.old ≡ false → notes_quiet node.new ≡ false) }
     ensures unchanged { OnErr result (node.new ≡ node.old) }
 {
+    let quiet = notes_quiet(node);
     let mut fork = Box::new(
         alloc,
         Fork {
             middle: middle_between(key, first),
-            ready: true,
-            quiet: notes_quiet(node),
             zero: Node::Tag { key, ready: true },
             one: Node::Empty,
             first: key,
@@ -129,7 +107,11 @@ fn put_before(
         },
     )?;
     fork.one = mem::replace(node, Node::Empty);
-    *node = Node::Fork(fork);
+    *node = Node::Fork {
+        ready: true,
+        quiet,
+        fork,
+    };
     Ok(())
 }
 
@@ -149,16 +131,13 @@ fn put_behind(
     ensures tree { OnOk result (IsTree node.new) }
     ensures within { OnOk result (IsWithin first key node.new) }
     ensures there { OnOk result (HasPutKey key node.old node.new) }
-    ensures ready { OnOk result (notes_ready node.new ≡ true) }
-    ensures calm { OnOk result (notes_quiet node.old ≡ false → notes_quiet node.new ≡ false) }
     ensures unchanged { OnErr result (node.new ≡ node.old) }
 {
+    let quiet = notes_quiet(node);
     let mut fork = Box::new(
         alloc,
         Fork {
             middle: middle_between(last, key),
-            ready: true,
-            quiet: notes_quiet(node),
             zero: Node::Empty,
             one: Node::Tag { key, ready: true },
             first,
@@ -166,6 +145,10 @@ fn put_behind(
         },
     )?;
     fork.zero = mem::replace(node, Node::Empty);
-    *node = Node::Fork(fork);
+    *node = Node::Fork {
+        ready: true,
+        quiet,
+        fork,
+    };
     Ok(())
 }

@@ -1,8 +1,8 @@
 //! Tags in a tree by their keys, each Ready or Quiet.
 
-ghost use Rattle.std.specs.Prelude.{◌≡◌, true, map};
+ghost use Rattle.std.specs.Prelude.{◌≡◌, ◌||◌, true, map};
 ghost use Rattle.std.specs.Option.{is_some};
-ghost use Rattle.vic_field.specs.Trees.{entries, state, notes_ready, notes_quiet, IsTree, AreNotes, HasSides, HasSpan, StaysWithin, HasSilencedKey};
+ghost use Rattle.vic_field.specs.Trees.{entries, state, notes_ready, notes_quiet, IsTree, StaysWithin, HasSilencedKey};
 
 /// A set of tags by their keys, each Ready or Quiet.
 ///
@@ -19,8 +19,14 @@ pub(crate) enum Node {
         /// Whether it is Ready.
         ready: bool,
     },
-    /// Two or more tags.
-    Fork(Box<Fork>),
+    /// Two or more tags. What is noted of them stands here, so that a fork is passed over unseen.
+    Fork {
+        /// Whether a tag is Ready.
+        ready: bool,
+        /// Whether a tag is Quiet.
+        quiet: bool,
+        fork: Box<Fork>,
+    },
 }
 
 /// Two sides that hold tags.
@@ -29,10 +35,6 @@ pub(crate) enum Node {
 pub(crate) struct Fork {
     /// The keys below this one are on the side `zero`, the others on the side `one`.
     pub(crate) middle: u64,
-    /// Whether a tag is Ready.
-    pub(crate) ready: bool,
-    /// Whether a tag is Quiet.
-    pub(crate) quiet: bool,
     pub(crate) zero: Node,
     pub(crate) one: Node,
     /// A key up to the first one.
@@ -48,7 +50,7 @@ pub(crate) fn notes_ready(node: &Node) -> bool
     match node {
         Node::Empty => false,
         Node::Tag { ready, .. } => *ready,
-        Node::Fork(fork) => fork.ready,
+        Node::Fork { ready, .. } => *ready,
     }
 }
 
@@ -59,24 +61,22 @@ pub(crate) fn notes_quiet(node: &Node) -> bool
     match node {
         Node::Empty => false,
         Node::Tag { ready, .. } => !*ready,
-        Node::Fork(fork) => fork.quiet,
+        Node::Fork { quiet, .. } => *quiet,
     }
 }
 
-/// Notes anew whether tags of a fork are Ready and Quiet. The side that holds the key is looked at
-/// first, and mostly alone.
-pub(crate) fn note(fork: &mut Fork, key: u64)
-    ensures sides { HasSides fork.old fork.new }
-    ensures span { HasSpan fork.old fork.new }
-    ensures notes { AreNotes fork.new.ready fork.new.quiet fork.old.zero fork.old.one }
+/// Whether a tag of a fork is Ready.
+pub(crate) fn has_ready(fork: &Fork) -> bool
+    ensures { result ≡ (notes_ready fork.now.zero || notes_ready fork.now.one) }
 {
-    if key < fork.middle {
-        fork.ready = notes_ready(&fork.zero) || notes_ready(&fork.one);
-        fork.quiet = notes_quiet(&fork.zero) || notes_quiet(&fork.one);
-    } else {
-        fork.ready = notes_ready(&fork.one) || notes_ready(&fork.zero);
-        fork.quiet = notes_quiet(&fork.one) || notes_quiet(&fork.zero);
-    }
+    notes_ready(&fork.zero) || notes_ready(&fork.one)
+}
+
+/// Whether a tag of a fork is Quiet.
+pub(crate) fn has_quiet(fork: &Fork) -> bool
+    ensures { result ≡ (notes_quiet fork.now.zero || notes_quiet fork.now.one) }
+{
+    notes_quiet(&fork.zero) || notes_quiet(&fork.one)
 }
 
 /// Whether the tag with this key is there.
@@ -86,7 +86,7 @@ pub(crate) fn holds(node: &Node, key: u64) -> bool
     match node {
         Node::Empty => false,
         Node::Tag { key: here, .. } => *here == key,
-        Node::Fork(fork) => {
+        Node::Fork { fork, .. } => {
             if key < fork.middle {
                 holds(&fork.zero, key)
             } else {
@@ -110,13 +110,14 @@ pub(crate) fn silence(node: &mut Node, key: u64)
                 *ready = false;
             }
         }
-        Node::Fork(fork) => {
+        Node::Fork { ready, quiet, fork } => {
             if key < fork.middle {
                 silence(&mut fork.zero, key);
             } else {
                 silence(&mut fork.one, key);
             }
-            note(fork, key);
+            *ready = has_ready(fork);
+            *quiet = has_quiet(fork);
         }
     }
 }
@@ -131,12 +132,12 @@ pub(crate) fn wake(node: &mut Node)
     match node {
         Node::Empty => {}
         Node::Tag { ready, .. } => *ready = true,
-        Node::Fork(fork) => {
-            if fork.quiet {
+        Node::Fork { ready, quiet, fork } => {
+            if *quiet {
                 wake(&mut fork.zero);
                 wake(&mut fork.one);
-                let first = fork.first;
-                note(fork, first);
+                *ready = has_ready(fork);
+                *quiet = has_quiet(fork);
             }
         }
     }

@@ -63,11 +63,6 @@ none_both [] fs h k = k
 none_both ((e, false) ∷ es) fs h k = none_both es fs h k
 none_both ((e, true) ∷ es) fs h k = absurd cc
 
-pub some_append : (es fs : List (FrameFault × Bool)) (x : FrameFault) → first_fault es ≡ Some x → first_fault (es ++ fs) ≡ Some x
-some_append [] fs x h = absurd cc
-some_append ((e, false) ∷ es) fs x h = some_append es fs x h
-some_append ((e, true) ∷ es) fs x h = h
-
 pub none_first : (es fs : List (FrameFault × Bool)) → first_fault es ≡ None → first_fault (es ++ fs) ≡ first_fault fs
 none_first [] fs h = refl
 none_first ((e, false) ∷ es) fs h = none_first es fs h

@@ -1,9 +1,11 @@
--- The CRC of a frame (ISO/IEC 13239, 16-bit FCS), bit by bit in the order in which the bits are sent.
+-- The CRC of a frame (ISO/IEC 13239, 16-bit FCS), bit by bit in the order in which the bits are
+-- sent.
 use Rattle.std.specs.Prelude.{ℕ, ◌-◌, ◌/◌, ◌%◌, ◌==◌, ◌&&◌, Bool, List, [], ◌∷◌, ◌++◌, length, take, drop, nat_le, if◌then◌else◌}
 use Rattle.std.specs.Int.Bits.{bit_xor}
 use Rattle.vic_frame.specs.Bytes.{number_of, bytes_of, bits}
 
--- the register after one bit: it moves down, and 8408 is x^16 + x^12 + x^5 + 1 read from the other end
+-- the register after one bit: it moves down, and 8408 is x^16 + x^12 + x^5 + 1 read from the other
+-- end
 unfoldable pub step : ℕ → ℕ → ℕ
 step r b = if bit_xor b (r % 2) == 1 then bit_xor (r / 2) 0x8408 else r / 2
 
@@ -26,4 +28,5 @@ with_crc bytes = bytes ++ bytes_of 2 (crc bytes)
 
 -- whether the last two bytes are the CRC of those before them
 abbrev pub crc_right : List ℕ → Bool
-crc_right f = nat_le 2 (length f) && (number_of (drop (length f - 2) f) == crc (take (length f - 2) f))
+crc_right f =
+    nat_le 2 (length f) && (number_of (drop (length f - 2) f) == crc (take (length f - 2) f))

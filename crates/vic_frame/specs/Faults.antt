@@ -32,7 +32,8 @@ mask_bytes f = slice_range f 3 (length f - 2)
 abbrev pub uid_bytes : List ℕ → List ℕ
 uid_bytes f = slice_range f 2 10
 
--- the longest mask that the number of slots allows: bit 6 is Nb_slots_flag, 1 for one slot (profile)
+-- the longest mask that the number of slots allows: bit 6 is Nb_slots_flag, 1 for one slot
+-- (profile)
 abbrev pub longest_mask : List ℕ → ℕ
 longest_mask f = if bit 6 (flags f) then MAX_MASK_LEN else MAX_MASK_LEN_OF_SIXTEEN
 
@@ -68,7 +69,8 @@ stay_quiet_faults f =
 
 -- all faults of a request, in order
 abbrev pub request_faults : List ℕ → List (FrameFault × Bool)
-request_faults f = head_faults f ++ (if command f == 1 then inventory_faults f else stay_quiet_faults f)
+request_faults f =
+    head_faults f ++ (if command f == 1 then inventory_faults f else stay_quiet_faults f)
 
 -- all faults of a reply, in order
 abbrev pub reply_faults : List ℕ → List (FrameFault × Bool)

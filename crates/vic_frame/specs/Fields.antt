@@ -1,4 +1,5 @@
--- Frames by their fields: which byte stands where. A law says that a frame spells a value exactly where its fields do.
+-- Frames by their fields: which byte stands where. A law says that a frame spells a value exactly
+-- where its fields do.
 use Rattle.std.specs.Prelude.{◌≡◌, ℕ, ◌+◌, ◌-◌, Bool, true, List, length, slice_index, slice_range, if◌then◌else◌}
 use Rattle.vic_frame.specs.Masks.{BitMask}
 use Rattle.vic_frame.specs.Bytes.{number_of}
@@ -6,7 +7,8 @@ use Rattle.vic_frame.specs.Crc.{crc_right}
 use Rattle.vic_frame.specs.Requests.{byte_count}
 use Rattle.vic_frame.specs.Replies.{Reply}
 
--- flags 24 for one slot or 04 for sixteen, command 01, mask length, mask value, CRC (ISO/IEC 15693-3, Inventory request)
+-- flags 24 for one slot or 04 for sixteen, command 01, mask length, mask value, CRC (ISO/IEC
+-- 15693-3, Inventory request)
 pub record HasInventoryFields (f : List ℕ) (link : ℕ) (sixteen : Bool) (m : BitMask) : Type 0 where
   pub size : length f ≡ byte_count m.len + 5
   pub flags : slice_index f 0 ≡ (if sixteen then 0x04 else 0x24) + link

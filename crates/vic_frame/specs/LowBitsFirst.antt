@@ -1,4 +1,5 @@
--- UIDs by their low bits, the lowest first (profile). In that order the UIDs of a mask stand together.
+-- UIDs by their low bits, the lowest first (profile). In that order the UIDs of a mask stand
+-- together.
 use Rattle.std.specs.Prelude.{ℕ, zero, suc, ◌+◌, ◌*◌, ◌/◌, ◌^◌, ◌%◌}
 use Rattle.vic_frame.specs.Uids.{uid_from_low_bits}
 

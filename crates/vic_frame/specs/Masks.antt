@@ -3,7 +3,8 @@ use Rattle.std.specs.Prelude.{◌≡◌, ℕ, ◌+◌, ◌*◌, ◌^◌, ◌%◌
 use Rattle.vic_frame.specs.Uids.{uid_from_low_bits}
 use Rattle.vic_frame.specs.declared.mask.TheConstants.{MAX_MASK_LEN}
 
--- how many low bits are fixed, and their value (ISO/IEC 15693-3, Inventory request: mask length and mask value)
+-- how many low bits are fixed, and their value (ISO/IEC 15693-3, Inventory request: mask length and
+-- mask value)
 pub record BitMask : Type 0 where
   pub len : ℕ
   pub value : ℕ
@@ -12,7 +13,8 @@ pub record BitMask : Type 0 where
 abbrev pub IsMask : BitMask → Type 0
 IsMask m = (m.len ≤ MAX_MASK_LEN) × (m.value < 2 ^ m.len)
 
--- a UID lies in the mask where its low bits are the mask's value (ISO/IEC 15693-3, inventory sequence)
+-- a UID lies in the mask where its low bits are the mask's value (ISO/IEC 15693-3, inventory
+-- sequence)
 abbrev pub LiesIn : BitMask → ℕ → Type 0
 LiesIn m u = u % 2 ^ m.len ≡ m.value
 
@@ -20,7 +22,8 @@ LiesIn m u = u % 2 ^ m.len ≡ m.value
 abbrev pub lies_in : BitMask → ℕ → Bool
 lies_in m u = u % 2 ^ m.len == m.value
 
--- the mask of slot k of sixteen: the number of the slot stands above the value (ISO/IEC 15693-3, inventory sequence)
+-- the mask of slot k of sixteen: the number of the slot stands above the value (ISO/IEC 15693-3,
+-- inventory sequence)
 abbrev pub slot_of_sixteen : BitMask → ℕ → BitMask
 slot_of_sixteen m k = record { len = m.len + 4; value = m.value + k * 2 ^ m.len }
 

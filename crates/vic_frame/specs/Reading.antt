@@ -15,7 +15,9 @@ fault_or (Some e) x = Err e
 
 -- the fields of an Inventory request
 abbrev pub inventory_in : List ℕ → Request
-inventory_in f = Inventory (flags f % 4) (not (bit 6 (flags f))) (record { len = mask_len f; value = number_of (mask_bytes f) })
+inventory_in f =
+    Inventory (flags f % 4) (not (bit 6 (flags f)))
+    (record { len = mask_len f; value = number_of (mask_bytes f) })
 
 -- the fields of a Stay Quiet request
 abbrev pub stay_quiet_in : List ℕ → Request

@@ -1,4 +1,5 @@
--- A tag's reply to an Inventory request, and how it is spelled (ISO/IEC 15693-3, Inventory response).
+-- A tag's reply to an Inventory request, and how it is spelled (ISO/IEC 15693-3, Inventory
+-- response).
 use Rattle.std.specs.Prelude.{◌≡◌, ℕ, ◌%◌, ◌<◌, List, ◌∷◌}
 use Rattle.vic_frame.specs.Uids.{IsUid}
 use Rattle.vic_frame.specs.Bytes.{bytes_of}
@@ -10,7 +11,8 @@ pub record Reply : Type 0 where
   pub dsfid : ℕ
   pub uid : ℕ
 
--- two bytes and a UID; the lowest bit of the flags, Error_flag, is 0 (profile: replies with an error are left out)
+-- two bytes and a UID; the lowest bit of the flags, Error_flag, is 0 (profile: replies with an
+-- error are left out)
 pub record IsReply (r : Reply) : Type 0 where
   pub flags : r.flags < 256
   pub dsfid : r.dsfid < 256

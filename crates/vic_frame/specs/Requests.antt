@@ -22,9 +22,11 @@ IsInRange (StayQuiet link uid) = uid < 2 ^ 64
 abbrev pub byte_count : ℕ → ℕ
 byte_count bits = (bits + 7) / 8
 
--- flags, command, and the command's own fields: 24 or 04 and 01 for Inventory, 20 and 02 for Stay Quiet
+-- flags, command, and the command's own fields: 24 or 04 and 01 for Inventory, 20 and 02 for Stay
+-- Quiet
 abbrev pub request_body : Request → List ℕ
-request_body (Inventory link sixteen m) = ((if sixteen then 0x04 else 0x24) + link) ∷ 0x01 ∷ m.len ∷ bytes_of (byte_count m.len) m.value
+request_body (Inventory link sixteen m) =
+    ((if sixteen then 0x04 else 0x24) + link) ∷ 0x01 ∷ m.len ∷ bytes_of (byte_count m.len) m.value
 request_body (StayQuiet link uid) = (0x20 + link) ∷ 0x02 ∷ bytes_of 8 uid
 
 -- and the CRC behind them: the one spelling of the request

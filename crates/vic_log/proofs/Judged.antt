@@ -42,11 +42,6 @@ pub neither : (a b : Bool) → a ≡ false → b ≡ false → (a || b) ≡ fals
 neither true b p q = cc
 neither false b p q = q
 
-no_lf_push : (line : List ℕ) (b : ℕ) → has line lf ≡ false → nat_eq lf b ≡ false → has (line ++ b ∷ []) lf ≡ false
-no_lf_push [] b h k = neither (nat_eq lf b) false k refl
-no_lf_push (x ∷ line) b h k =
-    let p = or_parts (nat_eq lf x) (has line lf) h in neither (nat_eq lf x) (has (line ++ b ∷ []) lf) p.0 (no_lf_push line b p.1 k)
-
 -- ---- a line begun, however long
 
 -- the text is so many lines without a fault, which gave these log lines, and bytes without LF

@@ -1,15 +1,14 @@
 -- The open round, from one place to the next.
 use Rattle.std.proofs.Common.{◌≡◌, ℕ, suc, ◌<◌, ◌≤◌, ◌+◌, ◌-◌, List, true, false, Option, Some, None, refl, sym, ap, ◌∙◌, subst, arith, add-one}
 use Rattle.std.specs.Prelude.{IfSome, slice_get, if◌then◌else◌}
-use Rattle.vic_frame.specs.Masks.{BitMask}
-use Rattle.vic_frame.specs.Slots.{slot_count, slot_mask}
+use Rattle.vic_frame.specs.Slots.{slot_count}
 use Rattle.vic_frame.specs.declared.request.Request.{Request}
 use Rattle.vic_frame.specs.declared.request.Request.TheVariants.{Inventory, StayQuiet}
 use Rattle.vic_log.specs.declared.entry.Entry.{Entry}
 use Rattle.vic_log.specs.declared.entry.Entry.TheVariants.{Sent, Silent, Collision, Heard, Listed, Garbled, FieldCycle}
 use Rattle.vic_log.specs.declared.rounds.OpenRound.{OpenRound}
 use Rattle.vic_log.specs.declared.rounds.RoundCursor.{RoundCursor}
-use Rattle.vic_log.specs.Rounds.{opener, ends_round, IsInRound, mask_of_slot, mask_since, mask_at}
+use Rattle.vic_log.specs.Rounds.{opener, ends_round, IsInRound}
 use Rattle.vic_log.specs.Order.{IsInOrder}
 use Rattle.vic_log.specs.OpenRounds.{round_of, round_since, round_at, IsCursorAt}
 use Rattle.vic_log.proofs.Places.{opener_below}
@@ -25,23 +24,6 @@ after_round round (Sent q) = Some (record { request = q; next = 0 })
 after_round round (Listed u) = None
 after_round round FieldCycle = None
 after_round round e = next_slot round
-
--- the mask of the next slot
-abbrev pub round_mask : Option OpenRound → Option BitMask
-round_mask None = None
-round_mask (Some r) = slot_mask r.request r.next
-
-mask_of_round : (o : Option Entry) (k : ℕ) → mask_of_slot o k ≡ round_mask (round_of o k)
-mask_of_round None k = refl
-mask_of_round (Some (Sent q)) k = refl
-mask_of_round (Some e) k = refl
-
-mask_since_round : (es : List Entry) (i : ℕ) (o : Option ℕ) → mask_since es i o ≡ round_mask (round_since es i o)
-mask_since_round es i None = refl
-mask_since_round es i (Some j) = mask_of_round (slice_get es j) (i - suc j)
-
-pub mask_at-round : (es : List Entry) (i : ℕ) → mask_at es i ≡ round_mask (round_at es i)
-mask_at-round es i = mask_since_round es i (opener es i)
 
 next_of_round : (o : Option Entry) (k n : ℕ) → n ≡ k + 1 → round_of o n ≡ next_slot (round_of o k)
 next_of_round None k n e = refl

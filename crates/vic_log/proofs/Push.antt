@@ -18,6 +18,7 @@ use Rattle.vic_log.specs.Rounds.{opener, slots_opened, left_since, slots_left, i
 use Rattle.vic_log.specs.Order.{IsInOrder, entries, listed, IsRisingFrom, AreValid, is_outside_round, is_empty, is_after_list, is_duplicate, refusal}
 use Rattle.vic_log.specs.Log.{last_from, IsValidEntry, IsTyped, AreTyped, IsLog}
 use Rattle.vic_log.specs.Kept.{left_after, Keeps}
+use Rattle.vic_log.specs.Writing.{numbered}
 use Rattle.vic_log.proofs.Places.{AgreeBefore, opener_agrees, opener_below, agree_append, slice_get_last, agree_upto}
 use Rattle.vic_log.proofs.Order.{in_round-slots_left}
 
@@ -221,3 +222,8 @@ IsLog-long v ls g =
     let limit = g.limit in
     let same : length (entries ls) ≡ length ls = length-map ls (λ (x : LogLine). x.item) in
     omega arith
+
+-- entries on numbered lines
+pub entries-numbered : (n : ℕ) (es : List Entry) → entries (numbered n es) ≡ es
+entries-numbered n [] = refl
+entries-numbered n (e ∷ es) = ap (λ (fs : List Entry). e ∷ fs) (entries-numbered (suc n) es)

@@ -16,6 +16,7 @@ use Rattle.vic_log.specs.declared.entry.Version.TheVariants.{V1, V2}
 use Rattle.vic_log.specs.Writing.{entry_text, joined, numbered}
 use Rattle.vic_log.proofs.Passing.{HasRead, HasRead-start, HasRead-step, HasRead-end}
 use Rattle.vic_log.proofs.Follow.{order_fault-none}
+use Rattle.vic_log.proofs.Push.{entries-numbered}
 
 -- ---- lines that are joined are cut again
 
@@ -92,10 +93,6 @@ pub record IsSpelled (version : Version) (e : Entry) : Type 0 where
   pub reads : line_reading version (entry_text e) ≡ Ok (Some e)
   pub short : length (entry_text e) ≤ 128
   pub plain : IsPlain (entry_text e)
-
-entries-numbered : (n : ℕ) (es : List Entry) → entries (numbered n es) ≡ es
-entries-numbered n [] = refl
-entries-numbered n (e ∷ es) = ap (λ l. e ∷ l) (entries-numbered (suc n) es)
 
 numbered-push : (n : ℕ) (es : List Entry) (e : Entry) → numbered n (es ++ e ∷ []) ≡ numbered n es ++ record { number = n + length es; item = e } ∷ []
 numbered-push n [] e = let same : n ≡ n + 0 = omega arith in ap (λ k. record { number = k; item = e } ∷ []) same

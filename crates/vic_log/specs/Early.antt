@@ -9,10 +9,12 @@ use Rattle.vic_log.specs.Lines.{lf, cr, cut, ends_with, lines_of_text}
 use Rattle.vic_log.specs.Log.{LogValue}
 use Rattle.vic_log.specs.Text.{IsFirstFault, IsLogOf, GiveEntries}
 
--- bytes of one line that are too many whatever follows: more than a line and its CR, or a byte more than a line that
--- isn't CR
+-- bytes of one line that are too many whatever follows: more than a line and its CR, or a byte more
+-- than a line that isn't CR
 abbrev pub IsLong : List ℕ → Type 0
-IsLong part = (MAX_LINE_LEN + 2 ≤ length part) ⊎ ((MAX_LINE_LEN + 1 ≤ length part) × (ends_with cr part ≡ false))
+IsLong part =
+    (MAX_LINE_LEN + 2 ≤ length part)
+    ⊎ ((MAX_LINE_LEN + 1 ≤ length part) × (ends_with cr part ≡ false))
 
 -- a part with its LF, or one that is too long
 abbrev pub IsJudged : List ℕ → Type 0
@@ -34,13 +36,14 @@ IsEarly Memory text = (n : ℕ) × GiveEntries (lines_of_text text) n
 IsEarly Read text = ⊥
 IsEarly Spent text = ⊥
 
--- what these bytes give, handed out by a source that has these left: their log, or the first fault, at the end; an
--- early fault before it; want of memory for entries before a fault; and a failed read only where they have no early
--- fault
+-- what these bytes give, handed out by a source that has these left: their log, or the first fault,
+-- at the end; an early fault before it; want of memory for entries before a fault; and a failed
+-- read only where they have no early fault
 abbrev pub ReadsAs : Option (List ℕ) → List ℕ → Result LogValue LogFault → Type 0
 ReadsAs left text (Ok log) = IsAtEnd left × IsLogOf (lines_of_text text) log
 ReadsAs left text (Err Read) = (n : ℕ) (f : LineFault) → IsEarlyFault text n f → ⊥
-ReadsAs left text (Err (Line n f)) = IsEarlyFault text n f ⊎ (IsAtEnd left × IsFirstFault (lines_of_text text) n f)
+ReadsAs left text (Err (Line n f)) =
+    IsEarlyFault text n f ⊎ (IsAtEnd left × IsFirstFault (lines_of_text text) n f)
 ReadsAs left text (Err Memory) = (n : ℕ) × GiveEntries (lines_of_text text) n
 ReadsAs left text (Err Spent) = ⊥
 

@@ -40,12 +40,14 @@ FitsFirst e o = ⊤
 
 -- a tag with this UID answers in the slot at place i
 abbrev pub answers_first_at : List Entry → ℕ → ℕ → Bool
-answers_first_at es i u = lies_in_some (mask_since es i (first_opener es i)) u && not (is_first_quiet es i u)
+answers_first_at es i u =
+    lies_in_some (mask_since es i (first_opener es i)) u && not (is_first_quiet es i u)
 
 -- every slot line fits the outcome of its slot
 abbrev pub CouldHaveGivenFirst : List ℕ → List Entry → Type 0
 CouldHaveGivenFirst p es =
-    (i : ℕ) (e : Entry) → slice_get es i ≡ Some e → FitsFirst e (outcome_of (filter (answers_first_at es i) p))
+    (i : ℕ) (e : Entry) → slice_get es i ≡ Some e
+    → FitsFirst e (outcome_of (filter (answers_first_at es i) p))
 
 -- the entry tells of a slot
 abbrev pub is_first_slot : Entry → Bool
@@ -57,10 +59,14 @@ is_first_slot e = false
 -- place i is a slot of the request that its opener sent
 abbrev pub IsInFirstRound : List Entry → ℕ → Type 0
 IsInFirstRound es i =
-    (j : ℕ) × (q : Request) × (first_opener es i ≡ Some j) × (slice_get es j ≡ Some (Sent q)) × (i - suc j < slot_count q)
+    (j : ℕ) × (q : Request) × (first_opener es i ≡ Some j) × (slice_get es j ≡ Some (Sent q))
+    × (i - suc j < slot_count q)
 
 -- every slot line is in a round, no request comes after a listed UID, and no UID is listed twice
 pub record IsInFirstOrder (es : List Entry) : Type 0 where
-  pub rounds : (i : ℕ) (e : Entry) → slice_get es i ≡ Some e → is_first_slot e ≡ true → IsInFirstRound es i
-  pub requests_first : (i j : ℕ) (u : ℕ) (q : Request) → i < j → slice_get es i ≡ Some (Listed u) → slice_get es j ≢ Some (Sent q)
-  pub once : (i j : ℕ) (u w : ℕ) → i < j → slice_get es i ≡ Some (Listed u) → slice_get es j ≡ Some (Listed w) → u ≢ w
+  pub rounds : (i : ℕ) (e : Entry) → slice_get es i ≡ Some e → is_first_slot e ≡ true
+      → IsInFirstRound es i
+  pub requests_first : (i j : ℕ) (u : ℕ) (q : Request) → i < j → slice_get es i ≡ Some (Listed u)
+      → slice_get es j ≢ Some (Sent q)
+  pub once : (i j : ℕ) (u w : ℕ) → i < j → slice_get es i ≡ Some (Listed u)
+      → slice_get es j ≡ Some (Listed w) → u ≢ w

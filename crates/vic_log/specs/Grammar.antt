@@ -15,7 +15,8 @@ use Rattle.vic_log.specs.declared.entry.Version.TheVariants.{V2}
 abbrev pub IsDigitOf : ℕ → ℕ → Type 0
 IsDigitOf digit value =
     ((value ≤ 9) × (digit ≡ byte "0" + value))
-    ⊎ ((10 ≤ value) × (value ≤ 15) × ((digit ≡ byte "A" + (value - 10)) ⊎ (digit ≡ byte "a" + (value - 10))))
+    ⊎ ((10 ≤ value) × (value ≤ 15)
+    × ((digit ≡ byte "A" + (value - 10)) ⊎ (digit ≡ byte "a" + (value - 10))))
 
 -- two hex digits for each byte, the high one first
 abbrev pub AreDigitsOf : List ℕ → List ℕ → Type 0
@@ -26,18 +27,22 @@ AreDigitsOf digits bytes = ⊥
 
 -- a letter, a space, and these bytes in hex digits
 abbrev pub HasBytes : List ℕ → ℕ → List ℕ → Type 0
-HasBytes line letter bytes = (digits : List ℕ) × (line ≡ letter ∷ byte " " ∷ digits) × AreDigitsOf digits bytes
+HasBytes line letter bytes =
+    (digits : List ℕ) × (line ≡ letter ∷ byte " " ∷ digits) × AreDigitsOf digits bytes
 
 -- the content spells the entry in this version
 abbrev pub SpellsEntry : Version → List ℕ → Entry → Type 0
-SpellsEntry version line (Sent q) = (frame : List ℕ) × SpellsRequest frame q × HasBytes line (byte "T") frame
+SpellsEntry version line (Sent q) =
+    (frame : List ℕ) × SpellsRequest frame q × HasBytes line (byte "T") frame
 SpellsEntry version line Silent = line ≡ codes "S"
 SpellsEntry version line Collision = line ≡ codes "C"
-SpellsEntry version line (Heard r) = (frame : List ℕ) × SpellsReply frame r × HasBytes line (byte "R") frame
+SpellsEntry version line (Heard r) =
+    (frame : List ℕ) × SpellsReply frame r × HasBytes line (byte "R") frame
 SpellsEntry version line (Listed u) = IsUid u × HasBytes line (byte "U") (to_be_bytes w64 u)
 SpellsEntry version line Garbled = (version ≡ V2) × (line ≡ codes "D")
 SpellsEntry version line FieldCycle = (version ≡ V2) × (line ≡ codes "F")
 
 -- the content is passed over: it is empty, or begins with #
 abbrev pub IsPassedOver : List ℕ → Type 0
-IsPassedOver line = (length line ≤ MAX_LINE_LEN) × ((line ≡ []) ⊎ ((rest : List ℕ) × (line ≡ byte "#" ∷ rest)))
+IsPassedOver line =
+    (length line ≤ MAX_LINE_LEN) × ((line ≡ []) ⊎ ((rest : List ℕ) × (line ≡ byte "#" ∷ rest)))

@@ -22,7 +22,8 @@ pub record IsIndex (rising : List ℕ) (others : BTreeSet ℕ) : Type 0 where
 
 -- the second index has the UIDs of the first
 abbrev pub IndexesSame : List ℕ → BTreeSet ℕ → List ℕ → BTreeSet ℕ → Type 0
-IndexesSame rising others rising' others' = (u : ℕ) → is_indexed rising' others' u ≡ is_indexed rising others u
+IndexesSame rising others rising' others' =
+    (u : ℕ) → is_indexed rising' others' u ≡ is_indexed rising others u
 
 -- the second index has the UIDs of the first, and these
 abbrev pub IndexesAlso : List ℕ → BTreeSet ℕ → List ℕ → BTreeSet ℕ → List ℕ → Type 0

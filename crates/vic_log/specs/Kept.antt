@@ -21,7 +21,8 @@ left_after left (Heard r) = left - 1
 left_after left Garbled = left - 1
 
 -- which UIDs are listed, whether any is, and how many slots of the round are left
-pub record Keeps (version : Version) (lines : List LogLine) (index : ℕ → Bool) (listing : Bool) (left : ℕ) : Type 0 where
+pub record Keeps (version : Version) (lines : List LogLine) (index : ℕ → Bool)
+    (listing : Bool) (left : ℕ) : Type 0 where
   pub is_log : IsLog version lines
   pub index_is : (u : ℕ) → index u ≡ has (listed (entries lines)) u
   pub listing_is : listing ≡ not (is_empty (listed (entries lines)))

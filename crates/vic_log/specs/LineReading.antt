@@ -33,10 +33,12 @@ heard (Err f) = Err (Frame f)
 abbrev pub listed_uid : List ℕ → Result (Option Entry) LineFault
 listed_uid bytes =
     if length bytes == 8
-    then (if is_uid (from_be_bytes w64 bytes) then Ok (Some (Listed (from_be_bytes w64 bytes))) else Err NotVicinity)
+    then (if is_uid (from_be_bytes w64 bytes) then Ok (Some (Listed (from_be_bytes w64 bytes)))
+    else Err NotVicinity)
     else Err ListedLength
 
-abbrev pub with_bytes : (List ℕ → Result (Option Entry) LineFault) → Result (List ℕ) FromHexError → Result (Option Entry) LineFault
+abbrev pub with_bytes : (List ℕ → Result (Option Entry) LineFault) → Result (List ℕ) FromHexError
+    → Result (Option Entry) LineFault
 with_bytes f (Ok bytes) = f bytes
 with_bytes f (Err e) = Err Hex
 
@@ -59,12 +61,13 @@ one_letter version letter =
 abbrev pub with_digits : ℕ → List ℕ → Result (Option Entry) LineFault
 with_digits letter digits =
     if letter == byte "T" then with_bytes (λ bytes. sent (request_reading bytes)) (decode_of digits)
-    else if letter == byte "R" then with_bytes (λ bytes. heard (reply_reading bytes)) (decode_of digits)
+    else if letter == byte "R"
+    then with_bytes (λ bytes. heard (reply_reading bytes)) (decode_of digits)
     else if letter == byte "U" then with_bytes listed_uid (decode_of digits)
     else Err UnknownEntry
 
--- the entry that a line after the header spells in this version, None where it is passed over, or the first of the
--- faults that it has by itself
+-- the entry that a line after the header spells in this version, None where it is passed over, or
+-- the first of the faults that it has by itself
 abbrev pub line_reading : Version → List ℕ → Result (Option Entry) LineFault
 line_reading version line =
     if nat_lt MAX_LINE_LEN (length line) then Err LineTooLong

@@ -47,7 +47,8 @@ abbrev pub IsValidEntry : Entry → Type 0
 IsValidEntry (Sent q) = IsValid q
 IsValidEntry e = ⊤
 
--- the lines of a log: entries in order, on lines 2 to 1,000,000, in version 1 no others than it knows
+-- the lines of a log: entries in order, on lines 2 to 1,000,000, in version 1 no others than it
+-- knows
 pub record IsLog (version : Version) (lines : List LogLine) : Type 0 where
   pub order : IsInOrder (entries lines)
   pub rising : IsRisingFrom 1 lines

@@ -16,12 +16,16 @@ listed [] = []
 listed (Listed u ∷ es) = u ∷ listed es
 listed (e ∷ es) = listed es
 
--- every slot line is in a round, no request and no field cycle comes after a listed UID, and no UID is listed twice
+-- every slot line is in a round, no request and no field cycle comes after a listed UID, and no UID
+-- is listed twice
 pub record IsInOrder (es : List Entry) : Type 0 where
   pub rounds : (i : ℕ) (e : Entry) → slice_get es i ≡ Some e → is_slot e ≡ true → IsInRound es i
-  pub requests_first : (i j : ℕ) (u : ℕ) (q : Request) → i < j → slice_get es i ≡ Some (Listed u) → slice_get es j ≢ Some (Sent q)
-  pub cycles_first : (i j : ℕ) (u : ℕ) → i < j → slice_get es i ≡ Some (Listed u) → slice_get es j ≢ Some FieldCycle
-  pub once : (i j : ℕ) (u w : ℕ) → i < j → slice_get es i ≡ Some (Listed u) → slice_get es j ≡ Some (Listed w) → u ≢ w
+  pub requests_first : (i j : ℕ) (u : ℕ) (q : Request) → i < j → slice_get es i ≡ Some (Listed u)
+      → slice_get es j ≢ Some (Sent q)
+  pub cycles_first : (i j : ℕ) (u : ℕ) → i < j → slice_get es i ≡ Some (Listed u)
+      → slice_get es j ≢ Some FieldCycle
+  pub once : (i j : ℕ) (u w : ℕ) → i < j → slice_get es i ≡ Some (Listed u)
+      → slice_get es j ≡ Some (Listed w) → u ≢ w
 
 -- a slot line with no slot of a round left
 abbrev pub is_outside_round : List Entry → Entry → Bool

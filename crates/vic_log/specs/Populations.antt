@@ -1,4 +1,5 @@
--- Populations of tags, which of them answer, and which populations could have given a log's entries.
+-- Populations of tags, which of them answer, and which populations could have given a log's
+-- entries.
 use Rattle.std.specs.Prelude.{◌≡◌, ◌≢◌, ℕ, Bool, false, not, ◌&&◌, Some, List, [], ◌∷◌, ⊤, slice_get}
 use Rattle.std.specs.List.{filter}
 use Rattle.vic_frame.specs.Uids.{IsUid, has}
@@ -12,7 +13,8 @@ abbrev pub IsPopulation : List ℕ → Type 0
 IsPopulation [] = ⊤
 IsPopulation (u ∷ us) = IsUid u × (has us u ≡ false) × IsPopulation us
 
--- a tag with this UID answers in the slot at place i, where it is in the field: it is Ready, and lies in the slot's mask
+-- a tag with this UID answers in the slot at place i, where it is in the field: it is Ready, and
+-- lies in the slot's mask
 abbrev pub answers_at : List Entry → ℕ → ℕ → Bool
 answers_at es i u = lies_in_some (mask_at es i) u && not (is_quiet es i u)
 

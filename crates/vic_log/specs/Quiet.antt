@@ -16,12 +16,15 @@ wakes (Some FieldCycle) = true
 wakes (Some e) = false
 wakes None = false
 
--- a tag with this UID is Quiet at place i: a Stay Quiet with it stands before i, and no field cycle between
+-- a tag with this UID is Quiet at place i: a Stay Quiet with it stands before i, and no field cycle
+-- between
 abbrev pub is_quiet : List Entry → ℕ → ℕ → Bool
 is_quiet es zero u = false
-is_quiet es (suc j) u = silences (slice_get es j) u || (not (wakes (slice_get es j)) && is_quiet es j u)
+is_quiet es (suc j) u =
+    silences (slice_get es j) u || (not (wakes (slice_get es j)) && is_quiet es j u)
 
 -- the same, said of all places between
 abbrev pub IsSilenced : List Entry → ℕ → ℕ → Type 0
 IsSilenced es i u =
-    (j : ℕ) × (j < i) × (silences (slice_get es j) u ≡ true) × ((k : ℕ) → j < k → k < i → slice_get es k ≢ Some FieldCycle)
+    (j : ℕ) × (j < i) × (silences (slice_get es j) u ≡ true)
+    × ((k : ℕ) → j < k → k < i → slice_get es k ≢ Some FieldCycle)

@@ -1,4 +1,5 @@
--- Rounds, found by looking back from a place of a list of entries (ISO/IEC 15693-3, inventory sequence).
+-- Rounds, found by looking back from a place of a list of entries (ISO/IEC 15693-3, inventory
+-- sequence).
 use Rattle.std.specs.Prelude.{◌≡◌, ℕ, zero, suc, ◌-◌, ◌<◌, Bool, true, false, Option, Some, None, List, slice_get, if◌then◌else◌}
 use Rattle.vic_frame.specs.Masks.{BitMask, lies_in}
 use Rattle.vic_frame.specs.Slots.{slot_count, slot_mask}
@@ -32,7 +33,8 @@ opener es (suc j) = if ends_round (slice_get es j) then Some j else opener es j
 -- place i is a slot of the request that its opener sent
 abbrev pub IsInRound : List Entry → ℕ → Type 0
 IsInRound es i =
-    (j : ℕ) × (q : Request) × (opener es i ≡ Some j) × (slice_get es j ≡ Some (Sent q)) × (i - suc j < slot_count q)
+    (j : ℕ) × (q : Request) × (opener es i ≡ Some j) × (slice_get es j ≡ Some (Sent q))
+    × (i - suc j < slot_count q)
 
 -- how many slots an entry opens
 abbrev pub slots_opened : Option Entry → ℕ
@@ -44,7 +46,8 @@ abbrev pub left_since : List Entry → ℕ → Option ℕ → ℕ
 left_since es i (Some j) = slots_opened (slice_get es j) - (i - suc j)
 left_since es i None = 0
 
--- how many slots of the round are left at place i: those that its opener opens, without those between
+-- how many slots of the round are left at place i: those that its opener opens, without those
+-- between
 abbrev pub slots_left : List Entry → ℕ → ℕ
 slots_left es i = left_since es i (opener es i)
 
@@ -58,7 +61,8 @@ abbrev pub mask_since : List Entry → ℕ → Option ℕ → Option BitMask
 mask_since es i (Some j) = mask_of_slot (slice_get es j) (i - suc j)
 mask_since es i None = None
 
--- the mask of the slot that a slot line at place i tells of. Its slots are counted from the opener on
+-- the mask of the slot that a slot line at place i tells of. Its slots are counted from the opener
+-- on
 abbrev pub mask_at : List Entry → ℕ → Option BitMask
 mask_at es i = mask_since es i (opener es i)
 

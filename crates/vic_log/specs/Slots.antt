@@ -1,5 +1,5 @@
--- What a log says, slot by slot, without its requests and places: for each slot line, which tags would answer, and
--- what was read. And which UIDs that leaves open.
+-- What a log says, slot by slot, without its requests and places: for each slot line, which tags
+-- would answer, and what was read. And which UIDs that leaves open.
 use Rattle.std.specs.Prelude.{◌≡◌, ◌≢◌, ◌⊎◌, ℕ, zero, suc, ◌==◌, Bool, true, not, ◌&&◌, ◌||◌, Option, Some, None, List, [], ◌∷◌, ⊤, slice_get, length}
 use Rattle.std.specs.List.{list_all, AllByRecursion}
 use Rattle.vic_log.specs.declared.entry.Entry.{Entry}
@@ -78,10 +78,12 @@ SuppliesAll set slots = AllByRecursion (Supplies set) slots
 abbrev pub Forces : Reading → (ℕ → Bool) → ℕ → Type 0
 Forces NoReply t u = ⊥
 Forces (OneReply h) t u = h ≡ u
-Forces ManyReplies t u = (v : ℕ) × (v ≢ u) × (t u ≡ true) × (t v ≡ true) × ((w : ℕ) → t w ≡ true → (w ≡ u) ⊎ (w ≡ v))
+Forces ManyReplies t u =
+    (v : ℕ) × (v ≢ u) × (t u ≡ true) × (t v ≡ true) × ((w : ℕ) → t w ≡ true → (w ≡ u) ⊎ (w ≡ v))
 Forces SomeReply t u = (t u ≡ true) × ((w : ℕ) → t w ≡ true → w ≡ u)
 
 -- some slot tells that the UID is there, by the open UIDs
 abbrev pub IsForcedBy : (ℕ → Bool) → List Slot → ℕ → Type 0
 IsForcedBy set [] u = ⊥
-IsForcedBy set (s ∷ slots) u = Forces s.reading (λ w. set w && s.answers w) u ⊎ IsForcedBy set slots u
+IsForcedBy set (s ∷ slots) u =
+    Forces s.reading (λ w. set w && s.answers w) u ⊎ IsForcedBy set slots u

@@ -43,8 +43,8 @@ reading_fault es (Ok (Some e)) = order_fault es e
 reading_fault es (Ok None) = None
 reading_fault es (Err f) = Some f
 
--- the first fault of the line with this number in a text of this version, after the entries of the lines before. A text
--- without lines has no header
+-- the first fault of the line with this number in a text of this version, after the entries of the
+-- lines before. A text without lines has no header
 abbrev pub line_fault : Version → List Entry → ℕ → Option (List ℕ) → Option LineFault
 line_fault version es number None = if number == 1 then Some Header else None
 line_fault version es number (Some line) =
@@ -61,7 +61,8 @@ entry_line number (Err f) = []
 -- the log line of a line after the first, where it spells an entry
 abbrev pub logged : Version → ℕ → Option (List ℕ) → List LogLine
 logged version number None = []
-logged version number (Some line) = if number == 1 then [] else entry_line number (line_reading version line)
+logged version number (Some line) =
+    if number == 1 then [] else entry_line number (line_reading version line)
 
 -- the log lines of the lines 1 to n
 abbrev pub log_upto : List (List ℕ) → ℕ → List LogLine
@@ -71,14 +72,16 @@ log_upto lines (suc k) = log_upto lines k ++ logged (version_of lines) (suc k) (
 -- the first fault of line n, read with the entries of the lines before it. There is no line 0
 abbrev pub fault_on : List (List ℕ) → ℕ → Option LineFault
 fault_on lines zero = None
-fault_on lines (suc k) = line_fault (version_of lines) (entries (log_upto lines k)) (suc k) (slice_get lines k)
+fault_on lines (suc k) =
+    line_fault (version_of lines) (entries (log_upto lines k)) (suc k) (slice_get lines k)
 
 -- line n is the first that has a fault, and f is its first
 pub record IsFirstFault (lines : List (List ℕ)) (n : ℕ) (f : LineFault) : Type 0 where
   pub here : fault_on lines n ≡ Some f
   pub first : (m : ℕ) → m < n → fault_on lines m ≡ None
 
--- no line has a fault, and the log has the log lines of all lines, and the version that the first names
+-- no line has a fault, and the log has the log lines of all lines, and the version that the first
+-- names
 pub record IsLogOf (lines : List (List ℕ)) (log : LogValue) : Type 0 where
   pub no_fault : (n : ℕ) → fault_on lines n ≡ None
   pub all : log.lines ≡ log_upto lines (length lines)
@@ -88,8 +91,8 @@ pub record IsLogOf (lines : List (List ℕ)) (log : LogValue) : Type 0 where
 abbrev pub next_fault : LogValue → ℕ → List ℕ → Option LineFault
 next_fault log number line = line_fault log.version (entries log.lines) number (Some line)
 
--- a log with what the line with this number says: line 1 gives it its version, each other one its entry, where it
--- spells one
+-- a log with what the line with this number says: line 1 gives it its version, each other one its
+-- entry, where it spells one
 abbrev pub after_line : LogValue → ℕ → List ℕ → LogValue
 after_line log number line = record {
   lines = log.lines ++ logged log.version number (Some line);
@@ -108,7 +111,8 @@ Refuses text Memory = (n : ℕ) × GiveEntries (lines_of_text text) n
 Refuses text Read = ⊥
 Refuses text Spent = ⊥
 
--- why a line with this first fault isn't taken: for it, or where it has none and adds to the log, for want of memory
+-- why a line with this first fault isn't taken: for it, or where it has none and adds to the log,
+-- for want of memory
 abbrev pub RefusesLine : Option LineFault → List LogLine → ℕ → LogFault → Type 0
 RefusesLine fault added number (Line n f) = (n ≡ number) × (fault ≡ Some f)
 RefusesLine fault added number Memory = (fault ≡ None) × (added ≢ [])

@@ -2,7 +2,6 @@
 
 ghost use Rattle.std.specs.Prelude.{◌≡◌, ◌≢◌, ◌+◌, ◌-◌, ◌*◌, ◌<◌, ◌≤◌, ◌↔◌, ◌++◌, ◌∷◌, [], ℕ, List, Bool, true, false, Some, None, Err, length, MatchResult, IfOk, IfErr, OnOk, IsTrue, MatchOption};
 ghost use Rattle.vic_frame.specs.Uids.{has};
-ghost use Rattle.vic_log.specs.declared.fault.LogFault.TheVariants.{Read as NotRead, Spent as IsSpent};
 ghost use Rattle.vic_log.specs.Begun.{IsShort, IsSplit, HasTaken, spare_of};
 ghost use Rattle.vic_log.specs.Device.{HandsOut, TellsOn};
 ghost use Rattle.vic_log.specs.Early.{IsLong, IsEarly, ReadsAs};
@@ -14,7 +13,7 @@ use crate::entry::{MAX_LINE_LEN, MAX_LINES};
 use crate::fault::{LineFault, LogFault};
 use crate::log::Log;
 use crate::read::take_line;
-use crate::source::Source;
+use crate::source::{PIECE, Source};
 use arrayvec::ArrayVec;
 use memchr::memchr;
 use std::alloc::Global;
@@ -27,9 +26,6 @@ const _: () = prove!(LINE_ROOM == MAX_LINE_LEN + 2);
 
 /// How often a source is read at most: for each byte of the longest log, and at its end.
 pub const MAX_READS: u64 = 130_000_001;
-
-/// How many bytes are asked for at once.
-const PIECE: usize = 16384;
 
 /// What was read so far.
 #[derive(Drop)]
@@ -195,8 +191,8 @@ fn read_from<R: Source>(alloc: Global, source: &mut R) -> Result<Log, LogFault>
     requires { R.has_failed source.old ≡ false }
     ensures answer { (given : List ℕ) × HandsOut (R.left source.old) (R.left source.new) given
         × ReadsAs (R.left source.new) given result }
-    ensures tells { result ≢ Err NotRead → TellsOn (R.left source.old) (R.left source.new) }
-    ensures read { IfErr result (λ e. (e ≡ NotRead) ↔ (R.has_failed source.new ≡ true)) }
+    ensures tells { result ≢ Err LogFault.Read → TellsOn (R.left source.old) (R.left source.new) }
+    ensures read { IfErr result (λ e. (e ≡ LogFault.Read) ↔ (R.has_failed source.new ≡ true)) }
     ensures works { OnOk result (R.has_failed source.new ≡ false) }
     ensures reads { R.reads source.new ≤ R.reads source.old + MAX_READS }
 {
@@ -247,13 +243,15 @@ impl LogReader {
         ensures answer { self.old ≡ false →
             (given : List ℕ) × HandsOut (R.left source.old) (R.left source.new) given
             × ReadsAs (R.left source.new) given result }
-        ensures tells { result ≢ Err NotRead → TellsOn (R.left source.old) (R.left source.new) }
+        ensures tells { result ≢ Err LogFault.Read
+            → TellsOn (R.left source.old) (R.left source.new) }
         ensures read { self.old ≡ false
-            → IfErr result (λ e. (e ≡ NotRead) ↔ (R.has_failed source.new ≡ true)) }
+            → IfErr result (λ e. (e ≡ LogFault.Read) ↔ (R.has_failed source.new ≡ true)) }
         ensures works { OnOk result (R.has_failed source.new ≡ false) }
         ensures reads { R.reads source.new ≤ R.reads source.old + MAX_READS }
         ensures spent { self.new ≡ true }
-        ensures again { self.old ≡ true → (result ≡ Err IsSpent) × (source.new ≡ source.old) }
+        ensures again { self.old ≡ true
+            → (result ≡ Err LogFault.Spent) × (source.new ≡ source.old) }
         ensures untouched { R.has_failed source.old ≡ true → source.new ≡ source.old }
     {
         if self.spent {

@@ -129,7 +129,7 @@ impl From<AllocError> for ReadFault {
 }
 
 /// How many bytes are asked for at once.
-const PIECE: usize = 16384;
+pub(crate) const PIECE: usize = 16384;
 
 /// The bytes of a source, to its end, or the first `limit` of them. A source that has failed is not
 /// read.

@@ -1,48 +1,49 @@
-use Rattle.std.proofs.Common.{false, ◌≡◌, inl, inr, ◌∙◌, ◌<◌, ◌≤◌, ◌++◌, arith}
+use Rattle.std.proofs.Common.{Bool, true, false, ◌&&◌, ◌≡◌, ◌<◌, ◌≤◌, ◌∙◌, refl, sym, arith}
 use Rattle.vic_field.specs.Keys.{ready_between}
-use Rattle.vic_field.specs.Tags.{heard}
-use Rattle.vic_field.specs.Trees.{members, entries, notes_ready, IsWithin}
-use Rattle.vic_field.proofs.TreeLaws.{heard_nothing, heard_both, none_noted, none_outside, zero_passed, one_passed}
-use Rattle.vic_field.proofs.hear.+hear.Goals.{then-first-deref, else-first-deref, then-not-deref-via-then-not-deref, then-not-deref-via-else-not-deref+then-last-deref, then-not-deref-via-else-not-deref+else-last-deref+then-deref-first}
+use Rattle.vic_field.specs.Trees.{entries, notes_ready}
+use Rattle.vic_field.proofs.TreeLaws.{heard_nothing, heard_both, heard_several, none_noted, some_noted, widen, zero_passed, one_passed}
 use Rattle.vic_field.proofs.hear.+hear.Goals as goal
 
-pub returns-then-last-deref-2 : goal.returns-then-last-deref-2
-returns-then-last-deref-2 t c =
+pub returns-then-not-ready : goal.returns-then-not-ready
+returns-then-not-ready t c =
+    let none : notes_ready c.args.node.now ≡ false = rw c.in-Fork.is c.if-not-ready.true in
+    heard_nothing c.args.before _ (none_noted c.args.first c.args.last c.args.node.now c.requires.tree none)
+
+pub returns-then-last-deref : goal.returns-then-last-deref
+returns-then-last-deref t c =
     let fork = c.in-Fork.fork.value in
     let was = rw c.in-Fork.is at c.requires.tree in
-    let zero : c.if-first-deref.heard ≡ heard (members c.args.before ++ ready_between c.args.first c.args.last (entries fork.zero)) = (elim c.if-first-deref.branch [
-      | then-first-deref w ↦ w.heard-is ∙ rw w.deref-then-first-deref.ensures at w.hear-heard.ensures
-      | else-first-deref w ↦
-          let behind : fork.middle ≤ c.args.first = rw c.deref-in-Fork.ensures at w.if-first-deref.false in
-          w.heard-is ∙ heard_nothing c.args.before (ready_between c.args.first c.args.last (entries fork.zero)) (zero_passed c.args.first c.args.last fork.first fork.middle fork.last fork.zero fork.one was.0 was.2 behind)
-    ]) in
-    let before : c.args.last < fork.middle = rw c.deref-in-Fork-2.ensures at c.if-last-deref-2.true in
-    let one = heard_nothing c.if-first-deref.heard (ready_between c.args.first c.args.last (entries fork.one)) (one_passed c.args.first c.args.last fork.first fork.middle fork.last fork.zero fork.one was.0 was.3 before) in
-    rw c.in-Fork.is (heard_both c.args.before c.if-first-deref.heard c.if-first-deref.heard c.args.first c.args.last fork.zero fork.one zero one)
+    let before : c.args.last < fork.middle = rw c.deref.ensures at c.if-last-deref.true in
+    let one = heard_nothing c.hear.result (ready_between c.args.first c.args.last (entries fork.one)) (one_passed c.args.first c.args.last fork.first fork.middle fork.last fork.zero fork.one was.0 was.3 before) in
+    rw c.in-Fork.is (heard_both c.args.before c.hear.result c.hear.result c.args.first c.args.last fork.zero fork.one (rw c.deref-then-last-deref.ensures at c.hear.ensures) one)
 
-pub returns-else-last-deref-2 : goal.returns-else-last-deref-2
-returns-else-last-deref-2 t c =
+pub returns-then-deref-first : goal.returns-then-deref-first
+returns-then-deref-first t c =
     let fork = c.in-Fork.fork.value in
     let was = rw c.in-Fork.is at c.requires.tree in
-    let zero : c.if-first-deref.heard ≡ heard (members c.args.before ++ ready_between c.args.first c.args.last (entries fork.zero)) = (elim c.if-first-deref.branch [
-      | then-first-deref w ↦ w.heard-is ∙ rw w.deref-then-first-deref.ensures at w.hear-heard.ensures
-      | else-first-deref w ↦
-          let behind : fork.middle ≤ c.args.first = rw c.deref-in-Fork.ensures at w.if-first-deref.false in
-          w.heard-is ∙ heard_nothing c.args.before (ready_between c.args.first c.args.last (entries fork.zero)) (zero_passed c.args.first c.args.last fork.first fork.middle fork.last fork.zero fork.one was.0 was.2 behind)
-    ]) in
-    rw c.in-Fork.is (heard_both c.args.before c.if-first-deref.heard c.hear.result c.args.first c.args.last fork.zero fork.one zero (rw c.deref-in-Fork-3.ensures at c.hear.ensures))
+    let behind : fork.middle ≤ c.args.first = rw c.deref-in-Fork.ensures at c.if-deref-first.true in
+    let zero = heard_nothing c.args.before (ready_between c.args.first c.args.last (entries fork.zero)) (zero_passed c.args.first c.args.last fork.first fork.middle fork.last fork.zero fork.one was.0 was.2 behind) in
+    rw c.in-Fork.is (heard_both c.args.before c.args.before c.hear-then-deref-first.result c.args.first c.args.last fork.zero fork.one zero (rw c.deref-then-deref-first.ensures at c.hear-then-deref-first.ensures))
 
-pub returns-then-not-deref : goal.returns-then-not-deref
-returns-then-not-deref t c =
-    let within : IsWithin c.in-Fork.fork.value.first c.in-Fork.fork.value.last c.args.node.now = rw c.in-Fork.is (omega arith, omega arith) in
-    elim c.then-not-deref.branch [
-      | then-not-deref-via-then-not-deref w ↦
-          let none : notes_ready c.args.node.now ≡ false = rw c.in-Fork.is (rw c.deref.ensures at w.if-not-deref.true) in
-          heard_nothing c.args.before _ (none_noted c.args.first c.args.last c.args.node.now c.requires.tree none)
-      | then-not-deref-via-else-not-deref+then-last-deref w ↦
-          let before : c.args.last < c.in-Fork.fork.value.first = rw w.deref-else-not-deref.ensures at w.if-last-deref.true in
-          heard_nothing c.args.before _ (none_outside c.args.first c.args.last c.in-Fork.fork.value.first c.in-Fork.fork.value.last c.args.node.now c.requires.tree within (inl before))
-      | then-not-deref-via-else-not-deref+else-last-deref+then-deref-first w ↦
-          let behind : c.in-Fork.fork.value.last < c.args.first = rw w.deref-else-last-deref.ensures at w.if-deref-first.true in
-          heard_nothing c.args.before _ (none_outside c.args.first c.args.last c.in-Fork.fork.value.first c.in-Fork.fork.value.last c.args.node.now c.requires.tree within (inr behind))
-    ]
+both_true : (x y : Bool) → (x && y) ≡ true → (x ≡ true) × (y ≡ true)
+both_true true true e = (refl, refl)
+both_true true false e = absurd (cc)
+both_true false y e = absurd (cc)
+
+pub returns-then-are_both_ready : goal.returns-then-are_both_ready
+returns-then-are_both_ready t c =
+    let fork = c.in-Fork.fork.value in
+    let was = rw c.in-Fork.is at c.requires.tree in
+    let low : c.args.first ≤ fork.first = rw c.deref-in-Fork-2.ensures at c.if-first-deref.true in
+    let high : fork.last ≤ c.args.last = rw c.deref-then-first-deref.ensures at c.if-deref-last.true in
+    let ready = both_true (notes_ready fork.zero) (notes_ready fork.one) (sym (rw c.deref-then-deref-last.ensures at c.are_both_ready.ensures) ∙ c.if-are_both_ready.true) in
+    let less = was.0.low in
+    let most = was.0.high in
+    rw c.in-Fork.is (heard_several c.args.before c.args.first c.args.last fork.zero fork.one
+    (some_noted c.args.first c.args.last fork.first fork.last fork.zero was.2 (widen fork.first _ fork.first fork.last fork.zero (omega arith) (omega arith) was.0.below) low high ready.0)
+    (some_noted c.args.first c.args.last fork.first fork.last fork.one was.3 (widen fork.middle _ fork.first fork.last fork.one (omega arith) (omega arith) was.0.above) low high ready.1))
+
+pub returns-else-first-deref : goal.returns-else-first-deref
+returns-else-first-deref t c =
+    let fork = c.in-Fork.fork.value in
+    rw c.in-Fork.is (heard_both c.args.before c.hear-heard.result c.hear-in-Fork.result c.args.first c.args.last fork.zero fork.one (rw c.deref-in-Fork-3.ensures at c.hear-heard.ensures) (rw c.deref-in-Fork-4.ensures at c.hear-in-Fork.ensures))

@@ -26,7 +26,6 @@ loop-key-preserved c u h =
     let keys = c.args.keys.now in
     let i = c.loop-key.key-index in
     let k = get_or keys i 0 in
-    let added = rw c.uid_at.ensures.value at c.in_ok-put.ensures.added u h in
     rw (add-one, has_next keys i u c.loop-key-test.true, alone (u == uid_of k))
     (ready_next (has (uids_at (take i keys)) u) (u == uid_of k) (readiness c.loop-key.field u) (readiness c.put.new.self u)
-    (c.loop-key.invariant u h) added)
+    (c.loop-key.invariant u h) (c.in_ok-put.ensures.added u h))

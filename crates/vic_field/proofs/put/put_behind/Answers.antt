@@ -1,5 +1,21 @@
-use Rattle.vic_field.proofs.TreeLaws.{state_behind}
+use Rattle.std.proofs.Common.{◌-◌, ◌∙◌, arith}
+use Rattle.vic_field.specs.Trees.{notes_ready, notes_quiet}
+use Rattle.vic_field.proofs.TreeLaws.{widen, state_behind, with_ready, with_none}
 use Rattle.vic_field.proofs.put.put_behind.Goals as goal
+
+pub returns-clause-tree : goal.returns-clause-tree
+returns-clause-tree c =
+    let node = c.args.node.now in
+    let middle = c.middle_between.result in
+    let above = c.middle_between.ensures.above in
+    let up_to = c.middle_between.ensures.up_to in
+    let forward = c.requires.forward in
+    rw (c.replace.ensures.value, c.deref_mut.ensures.value, c.in_ok-fork.ensures.ok) (
+      record { low = omega arith; high = up_to; below = widen c.args.first c.args.last c.args.first (middle - 1) node (omega arith) (omega arith) c.requires.within; above = (up_to, omega arith) },
+      record { of_ready = with_ready (notes_ready node); of_quiet = c.notes_quiet-quiet.ensures ∙ with_none (notes_quiet node) },
+      c.requires.tree,
+      tt,
+    )
 
 pub returns-clause-there : goal.returns-clause-there
 returns-clause-there c q =

@@ -1,17 +1,19 @@
 use Rattle.std.proofs.Common.{◌-◌}
-use Rattle.vic_field.proofs.TreeLaws.{noted}
+use Rattle.vic_field.specs.Trees.{AreSides, AreNotes, IsTree}
 use Rattle.vic_field.proofs.tree.+silence.Goals.{then-key-deref, else-key-deref}
 use Rattle.vic_field.proofs.tree.+silence.Goals as goal
 
 pub returns-after-key-deref-clause-tree : goal.returns-after-key-deref-clause-tree
 returns-after-key-deref-clause-tree t c =
     let was = rw c.in-Fork.is at c.requires in
-    noted c.deref_mut-in-Fork.result.now c.note.new.fork c.note.ensures.sides c.note.ensures.span c.note.ensures.notes
-    (elim c.if-key-deref.branch [
+    let fork = c.if-key-deref.fork.value in
+    let notes : AreNotes c.has_ready.result c.has_quiet.result fork.zero fork.one = record { of_ready = rw c.deref-in-Fork.ensures at c.has_ready.ensures; of_quiet = rw c.deref-in-Fork-2.ensures at c.has_quiet.ensures } in
+    let sides : AreSides fork.first fork.middle fork.last fork.zero fork.one × IsTree fork.zero × IsTree fork.one = (elim c.if-key-deref.branch [
       | then-key-deref w ↦
           let inside = w.silence.ensures.within c.in-Fork.fork.value.first (c.in-Fork.fork.value.middle - 1) (rw w.deref_mut.ensures.value was.0.below) in
-          rw (c.deref_mut-in-Fork.ensures.value, w.fork-is, w.deref_mut.ensures.value) (record { low = was.0.low; high = was.0.high; below = inside; above = was.0.above }, w.silence.ensures.tree, was.3)
+          rw (w.fork-is, w.deref_mut.ensures.value) (record { low = was.0.low; high = was.0.high; below = inside; above = was.0.above }, w.silence.ensures.tree, was.3)
       | else-key-deref w ↦
           let inside = w.silence-else-key-deref.ensures.within c.in-Fork.fork.value.middle c.in-Fork.fork.value.last (rw w.deref_mut-else-key-deref.ensures.value was.0.above) in
-          rw (c.deref_mut-in-Fork.ensures.value, w.fork-is, w.deref_mut-else-key-deref.ensures.value) (record { low = was.0.low; high = was.0.high; below = was.0.below; above = inside }, was.2, w.silence-else-key-deref.ensures.tree)
-    ])
+          rw (w.fork-is, w.deref_mut-else-key-deref.ensures.value) (record { low = was.0.low; high = was.0.high; below = was.0.below; above = inside }, was.2, w.silence-else-key-deref.ensures.tree)
+    ]) in
+    (sides.0, notes, sides.1, sides.2)

@@ -1,17 +1,21 @@
 use Rattle.std.proofs.Common.{false, ◌≡◌, ◌∙◌, ◌-◌, ap, sym}
-use Rattle.vic_field.specs.Trees.{entries, notes_quiet}
-use Rattle.vic_field.proofs.TreeLaws.{noted, all_noted}
+use Rattle.vic_field.specs.Trees.{entries, notes_quiet, AreSides, AreNotes, IsTree}
+use Rattle.vic_field.proofs.TreeLaws.{all_noted}
 use Rattle.vic_field.proofs.tree.+wake.Goals as goal
 
-pub returns-else-deref-clause-ready : goal.returns-else-deref-clause-ready
-returns-else-deref-clause-ready t c =
-    let quiet : notes_quiet c.args.node.now ≡ false = rw c.in-Fork.is (rw c.deref.ensures at c.if-deref.false) in
+pub returns-else-quiet-clause-ready : goal.returns-else-quiet-clause-ready
+returns-else-quiet-clause-ready t c =
+    let quiet : notes_quiet c.args.node.now ≡ false = rw c.in-Fork.is c.if-quiet.false in
     ap entries (sym c.in-Fork.is) ∙ all_noted c.args.node.now c.requires quiet
 
-pub returns-then-deref-clause-tree : goal.returns-then-deref-clause-tree
-returns-then-deref-clause-tree t c =
+pub returns-then-quiet-clause-tree : goal.returns-then-quiet-clause-tree
+returns-then-quiet-clause-tree t c =
     let was = rw c.in-Fork.is at c.requires in
     let below = c.wake.ensures.within c.in-Fork.fork.value.first (c.in-Fork.fork.value.middle - 1) (rw c.deref_mut.ensures.value was.0.below) in
-    let above = c.wake-then-deref.ensures.within c.in-Fork.fork.value.middle c.in-Fork.fork.value.last (rw (c.deref_mut-then-deref.ensures.value, c.deref_mut.ensures.value) was.0.above) in
-    noted c.deref_mut-then-deref-2.result.now c.note.new.fork c.note.ensures.sides c.note.ensures.span c.note.ensures.notes
-    (rw (c.deref_mut-then-deref-2.ensures.value, c.deref_mut-then-deref.ensures.value, c.deref_mut.ensures.value) (record { low = was.0.low; high = was.0.high; below = below; above = above }, c.wake.ensures.tree, c.wake-then-deref.ensures.tree))
+    let above = c.wake-then-quiet.ensures.within c.in-Fork.fork.value.middle c.in-Fork.fork.value.last (rw (c.deref_mut-then-quiet.ensures.value, c.deref_mut.ensures.value) was.0.above) in
+    let fork = c.deref_mut-then-quiet.result.now in
+    let one = c.wake-then-quiet.new.node in
+    let notes : AreNotes c.has_ready.result c.has_quiet.result fork.zero one = record { of_ready = rw c.deref.ensures at c.has_ready.ensures; of_quiet = rw c.deref-then-quiet.ensures at c.has_quiet.ensures } in
+    let sides : AreSides fork.first fork.middle fork.last fork.zero one × IsTree fork.zero × IsTree one =
+    rw (c.deref_mut-then-quiet.ensures.value, c.deref_mut.ensures.value) (record { low = was.0.low; high = was.0.high; below = below; above = above }, c.wake.ensures.tree, c.wake-then-quiet.ensures.tree) in
+    (sides.0, notes, sides.1, sides.2)
