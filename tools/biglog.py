@@ -183,7 +183,7 @@ def nest_coll(random_, size):
 
 @shape
 def nest_quiet(random_, size):
-    """Version 2. SIZE Stay Quiet of the first UIDs of all nested masks of 36 to 0 zeros; in each a collision and a garbled slot."""
+    """Version 2. SIZE Stay Quiet of the first UIDs of the masks of 0 to 36 zeros, then a collision and a D in each."""
     yield from (silence(0xE0 << BITS | int(format(place, "020b")[::-1], 2) << 36) for place in range(size))
     for length in range(37):
         yield from (ask((length, 0)), "C", ask((length, 0)), "D")

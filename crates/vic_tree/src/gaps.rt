@@ -40,7 +40,7 @@ pub fn gather_besides(
 }
 
 /// Appends the UIDs at the keys from `first` to `last` that aren't in a list, of which those before
-/// index `start` are lower. How many are no greater than `last`.
+/// index `start` are lower. The index behind those of the list that were passed.
 fn gather_gaps(
     out: &mut ArrayVec<Uid, 3>,
     keys: &[u64],
@@ -91,7 +91,7 @@ pub fn widest_besides(ranges: &BTreeMap<u64, u64>, keys: &[u64]) -> Option<Mask>
 }
 
 /// The widest mask of one that was found before, if any was, and those in a range without the keys
-/// of a list, of which those before index `start` are lower. How many are no greater than `last`.
+/// of a list, of which those before index `start` are lower; and the index behind those passed.
 fn widest_in_gaps(
     found: Option<Mask>,
     keys: &[u64],
