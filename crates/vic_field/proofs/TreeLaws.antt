@@ -8,6 +8,7 @@ use Rattle.std.specs.List.Sorted.{IsStrictlySortedBy}
 use Rattle.std.specs.Map.{lookup, keys_of}
 use Rattle.std.specs.BTreeMap.{is_at}
 use Rattle.std.specs.Option.{is_some}
+use Rattle.std.proofs.lemmas.Bool.{or_parts}
 use Rattle.std.proofs.lemmas.Bool.Decides.{nat_tests}
 use Rattle.std.proofs.lemmas.List.{map-append}
 use Rattle.std.proofs.lemmas.List.Elements.{All-cons, filter-append}
@@ -194,10 +195,6 @@ there u key n h t e =
 
 -- ---- what forks note
 
-both_false : (x y z : Bool) → x ≡ (y || z) → x ≡ false → (y ≡ false) × (z ≡ false)
-both_false x true z e f = absurd (cc)
-both_false x false z e f = (refl, sym e ∙ f)
-
 -- a Ready tag behind others
 pub with_ready : (b : Bool) → true ≡ (b || true)
 with_ready true = refl
@@ -223,7 +220,7 @@ none_noted a b (Tag k r) t e = go r (nat_le a k && nat_le k b) e where
   go false true e = refl
   go false false e = refl
 none_noted a b (Fork' ready quiet ptr middle zero one first last) t e =
-    let h = both_false ready (notes_ready zero) (notes_ready one) t.1.of_ready e in
+    let h = or_parts (notes_ready zero) (notes_ready one) (sym t.1.of_ready ∙ e) in
     neither_ready a b (entries zero) (entries one) (none_noted a b zero t.2 h.0) (none_noted a b one t.3 h.1)
 
 pub none_outside : (a b f l : ℕ) (n : Node) → IsTree n → IsWithin f l n → (b < f) ⊎ (l < a) → ready_between a b (entries n) ≡ []
@@ -298,7 +295,7 @@ all_noted (Tag k r) t e = go r e where
   go true e = refl
   go false e = absurd (cc)
 all_noted (Fork' ready quiet ptr middle zero one first last) t e =
-    let h = both_false quiet (notes_quiet zero) (notes_quiet one) t.1.of_quiet e in
+    let h = or_parts (notes_quiet zero) (notes_quiet one) (sym t.1.of_quiet ∙ e) in
     all_both (entries zero) (entries one) (all_noted zero t.2 h.0) (all_noted one t.3 h.1)
 
 -- ---- what is heard

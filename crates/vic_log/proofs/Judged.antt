@@ -1,7 +1,7 @@
 -- A text that is read in pieces: one byte more, a fault, and the end.
 use Rattle.std.proofs.Common.{◌≡◌, ◌⊎◌, inl, inr, ℕ, zero, suc, ◌+◌, ◌<◌, ◌≤◌, Bool, true, false, Some, None, List, [], ◌∷◌, ◌++◌, length, length-append, append_assoc, append-nil, refl, sym, ap, subst, ◌∙◌, arith, ⊎_elim}
-use Rattle.std.specs.Prelude.{◌≢◌, slice_get, slice_index, nat_eq, if◌then◌else◌, ◌==◌, ◌||◌, ◌-◌, map, take, drop}
-use Rattle.std.proofs.lemmas.Bool.{cases_lt, lt-ltb, le-ltb}
+use Rattle.std.specs.Prelude.{◌≢◌, slice_get, slice_index, nat_eq, if◌then◌else◌, ◌==◌, ◌-◌, map, take, drop}
+use Rattle.std.proofs.lemmas.Bool.{and_from, or_parts, or_from, cases_lt, lt-ltb, le-ltb}
 use Rattle.std.proofs.lemmas.List.{map-append, length-map, drop_all}
 use Rattle.std.proofs.Math.Seq.{drop-append_seam}
 use Rattle.vic_frame.specs.Uids.{has}
@@ -17,7 +17,7 @@ use Rattle.vic_log.specs.Order.{entries}
 use Rattle.vic_log.specs.Text.{version_of, next_fault, after_line, log_upto, fault_on, IsFirstFault, IsLogOf, GiveEntries, Refuses, RefusesNext}
 use Rattle.vic_log.proofs.Early.{AgreeBelow, version_agrees, log_agrees, fault_agrees, still_long, too_many, too_long, front_at, last_at, open_part, content_open, Begins, begins, onto_begins}
 use Rattle.vic_log.proofs.Passing.{HasRead, HasRead-step, HasRead-entries, HasRead-fault, HasRead-empty, HasRead-end, HasRead-above, HasRead-none}
-use Rattle.vic_log.proofs.Written.{or_parts, cut-line, take_front, index_last, and_true, not_last}
+use Rattle.vic_log.proofs.Written.{cut-line, take_front, index_last, not_last}
 
 -- ---- lines
 
@@ -27,7 +27,7 @@ content-end line =
     let long : length (line ++ lf ∷ []) ≡ suc (length line) = length-append line (lf ∷ []) ∙ omega arith in
     let place : length (line ++ lf ∷ []) - 1 ≡ length line = omega arith in
     let last : slice_index (line ++ lf ∷ []) (length (line ++ lf ∷ []) - 1) ≡ lf = ap (slice_index (line ++ lf ∷ [])) place ∙ index_last line lf in
-    let ends : ends_with lf (line ++ lf ∷ []) ≡ true = and_true _ _ (lt-ltb 0 (length (line ++ lf ∷ [])) (omega arith)) (ap (λ v. v == lf) last) in
+    let ends : ends_with lf (line ++ lf ∷ []) ≡ true = and_from _ _ (lt-ltb 0 (length (line ++ lf ∷ [])) (omega arith)) (ap (λ v. v == lf) last) in
     let front : all_but_last (line ++ lf ∷ []) ≡ line = ap (λ n. take n (line ++ lf ∷ [])) place ∙ take_front line lf in
     ap (λ t. if t then without_last cr (all_but_last (line ++ lf ∷ [])) else line ++ lf ∷ []) ends ∙ ap (without_last cr) front
 
@@ -36,11 +36,7 @@ ends-end line =
     let long : length (line ++ lf ∷ []) ≡ suc (length line) = length-append line (lf ∷ []) ∙ omega arith in
     let place : length (line ++ lf ∷ []) - 1 ≡ length line = omega arith in
     let last : slice_index (line ++ lf ∷ []) (length (line ++ lf ∷ []) - 1) ≡ lf = ap (slice_index (line ++ lf ∷ [])) place ∙ index_last line lf in
-    and_true _ _ (lt-ltb 0 (length (line ++ lf ∷ [])) (omega arith)) (ap (λ v. v == lf) last)
-
-pub neither : (a b : Bool) → a ≡ false → b ≡ false → (a || b) ≡ false
-neither true b p q = cc
-neither false b p q = q
+    and_from _ _ (lt-ltb 0 (length (line ++ lf ∷ [])) (omega arith)) (ap (λ v. v == lf) last)
 
 -- ---- a line begun, however long
 
@@ -61,7 +57,7 @@ cut_of text line log n j = record { parts = j.parts; cuts = j.cuts; count = j.co
 no_lf_more : (line more : List ℕ) → has line lf ≡ false → has more lf ≡ false → has (line ++ more) lf ≡ false
 no_lf_more [] more h k = k
 no_lf_more (x ∷ line) more h k =
-    let p = or_parts (nat_eq lf x) (has line lf) h in neither (nat_eq lf x) (has (line ++ more) lf) p.0 (no_lf_more line more p.1 k)
+    let p = or_parts (nat_eq lf x) (has line lf) h in or_from (nat_eq lf x) (has (line ++ more) lf) p.0 (no_lf_more line more p.1 k)
 
 -- more bytes of the line begun
 pub HasCut-more : (text line bytes : List ℕ) (log : LogValue) (n : ℕ) → HasCut text log n line → has bytes lf ≡ false → HasCut (text ++ bytes) log n (line ++ bytes)

@@ -1,18 +1,17 @@
 -- The first LF of some bytes.
 use Rattle.std.proofs.Common.{◌≡◌, ℕ, zero, suc, ◌-◌, ◌<◌, ◌≤◌, true, false, List, [], ◌∷◌, ◌++◌, length, take, drop, Result, Ok, Err, ⊎_elim, refl, sym, ap, ◌∙◌, arith}
 use Rattle.std.specs.Prelude.{slice_index, nat_eq, ◌==◌, ◌↔◌, IsOk, is_ok, OnOk}
-use Rattle.std.proofs.lemmas.Bool.{ne_eqb, eq-eqb, cases_lt}
+use Rattle.std.proofs.lemmas.Bool.{or_from, ne_eqb, eq-eqb, cases_lt}
 use Rattle.vic_frame.specs.Uids.{has}
 use Rattle.vic_log.specs.Begun.{IsSplit}
 use Rattle.vic_log.specs.Lines.{lf}
-use Rattle.vic_log.proofs.Judged.{neither}
 
 pub lacks : (bytes : List ℕ) (k : ℕ) → k ≤ length bytes → ((i : ℕ) → 0 ≤ i → i < k → slice_index bytes i == lf ≡ true → ⊥) → has (take k bytes) lf ≡ false
 lacks bytes zero h none = refl
 lacks [] (suc k) h none = absurd (omega arith)
 lacks (b ∷ bytes) (suc k) h none =
     let first : nat_eq lf b ≡ false = ne_eqb lf b (λ e. none 0 (omega arith) (omega arith) (eq-eqb b lf (sym e))) in
-    neither (nat_eq lf b) (has (take k bytes) lf) first (lacks bytes k (omega arith) (λ i low below there. none (suc i) (omega arith) (omega arith) there))
+    or_from (nat_eq lf b) (has (take k bytes) lf) first (lacks bytes k (omega arith) (λ i low below there. none (suc i) (omega arith) (omega arith) there))
 
 pub parted : (bytes : List ℕ) (k : ℕ) → k < length bytes → slice_index bytes k ≡ lf → bytes ≡ take k bytes ++ lf ∷ drop (suc k) bytes
 parted [] k h e = absurd (omega arith)

@@ -1,7 +1,7 @@
 -- The text of a log reads back.
 use Rattle.std.proofs.Common.{◌≡◌, ℕ, zero, suc, ◌+◌, ◌-◌, ◌<◌, ◌≤◌, Bool, true, false, Option, Some, None, Ok, List, [], ◌∷◌, ◌++◌, length, take, refl, sym, ap, subst, ◌∙◌, arith, ⊎_elim, append_assoc, append-nil, length-append}
-use Rattle.std.specs.Prelude.{slice_get, slice_index, nat_eq, nat_lt, if◌then◌else◌, ◌==◌, ◌&&◌, ◌||◌, map}
-use Rattle.std.proofs.lemmas.Bool.{cases_eq, ne_eqb, le-ltb, lt-ltb}
+use Rattle.std.specs.Prelude.{slice_get, slice_index, nat_eq, nat_lt, if◌then◌else◌, ◌==◌, map}
+use Rattle.std.proofs.lemmas.Bool.{and_from, and_right, or_parts, cases_eq, ne_eqb, le-ltb, lt-ltb}
 use Rattle.vic_log.specs.declared.entry.Entry.{Entry}
 use Rattle.vic_log.specs.declared.fault.LineFault.{LineFault}
 use Rattle.vic_log.specs.declared.fault.LineFault.TheVariants.{TooManyLines, LineTooLong, Header}
@@ -19,10 +19,6 @@ use Rattle.vic_log.proofs.Follow.{order_fault-none}
 use Rattle.vic_log.proofs.Push.{entries-numbered}
 
 -- ---- lines that are joined are cut again
-
-pub or_parts : (a b : Bool) → (a || b) ≡ false → (a ≡ false) × (b ≡ false)
-or_parts true b h = cc
-or_parts false b h = (refl, h)
 
 pub flip_test : (a b : ℕ) → nat_eq a b ≡ false → b == a ≡ false
 flip_test a b h = ⊎_elim
@@ -51,24 +47,16 @@ not_there [] b k h lt = absurd (omega arith)
 not_there (x ∷ line) b zero h lt = flip_test b x (or_parts (nat_eq b x) (has line b) h).0
 not_there (x ∷ line) b (suc k) h lt = not_there line b k (or_parts (nat_eq b x) (has line b) h).1 (omega arith)
 
-and_false : (a b : Bool) → b ≡ false → (a && b) ≡ false
-and_false true b h = h
-and_false false b h = refl
-
-pub and_true : (a b : Bool) → a ≡ true → b ≡ true → (a && b) ≡ true
-and_true true b g h = h
-and_true false b g h = cc
-
 pub not_last : (line : List ℕ) (b : ℕ) → has line b ≡ false → ends_with b line ≡ false
 not_last [] b h = refl
-not_last (x ∷ line) b h = and_false _ _ (not_there (x ∷ line) b (length (x ∷ line) - 1) h (omega arith))
+not_last (x ∷ line) b h = and_right _ _ (not_there (x ∷ line) b (length (x ∷ line) - 1) h (omega arith))
 
 pub content-line : (line : List ℕ) → has line 13 ≡ false → content (line ++ 10 ∷ []) ≡ line
 content-line line h =
     let long : length (line ++ 10 ∷ []) ≡ suc (length line) = length-append line (10 ∷ []) ∙ omega arith in
     let place : length (line ++ 10 ∷ []) - 1 ≡ length line = omega arith in
     let last : slice_index (line ++ 10 ∷ []) (length (line ++ 10 ∷ []) - 1) ≡ 10 = ap (slice_index (line ++ 10 ∷ [])) place ∙ index_last line 10 in
-    let ends : ends_with 10 (line ++ 10 ∷ []) ≡ true = and_true _ _ (lt-ltb 0 (length (line ++ 10 ∷ [])) (omega arith)) (ap (λ v. v == 10) last) in
+    let ends : ends_with 10 (line ++ 10 ∷ []) ≡ true = and_from _ _ (lt-ltb 0 (length (line ++ 10 ∷ [])) (omega arith)) (ap (λ v. v == 10) last) in
     let front : all_but_last (line ++ 10 ∷ []) ≡ line = ap (λ n. take n (line ++ 10 ∷ [])) place ∙ take_front line 10 in
     ap (λ t. if t then without_last 13 (all_but_last (line ++ 10 ∷ [])) else line ++ 10 ∷ []) ends
     ∙ (ap (without_last 13) front ∙ ap (λ t. if t then all_but_last line else line) (not_last line 13 h))

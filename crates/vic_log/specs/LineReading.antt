@@ -29,13 +29,14 @@ abbrev pub heard : Result Reply FrameFault → Result (Option Entry) LineFault
 heard (Ok r) = Ok (Some (Heard r))
 heard (Err f) = Err (Frame f)
 
+-- the number that is claimed is a UID
+abbrev pub claimed : ℕ → Result (Option Entry) LineFault
+claimed number = if is_uid number then Ok (Some (Listed number)) else Err NotVicinity
+
 -- eight bytes, most significant first, that are a UID
 abbrev pub listed_uid : List ℕ → Result (Option Entry) LineFault
 listed_uid bytes =
-    if length bytes == 8
-    then (if is_uid (from_be_bytes w64 bytes) then Ok (Some (Listed (from_be_bytes w64 bytes)))
-    else Err NotVicinity)
-    else Err ListedLength
+    if length bytes == 8 then claimed (from_be_bytes w64 bytes) else Err ListedLength
 
 abbrev pub with_bytes : (List ℕ → Result (Option Entry) LineFault) → Result (List ℕ) FromHexError
     → Result (Option Entry) LineFault

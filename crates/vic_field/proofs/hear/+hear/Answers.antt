@@ -1,4 +1,5 @@
-use Rattle.std.proofs.Common.{Bool, true, false, ◌&&◌, ◌≡◌, ◌<◌, ◌≤◌, ◌∙◌, refl, sym, arith}
+use Rattle.std.proofs.Common.{false, ◌≡◌, ◌<◌, ◌≤◌, ◌∙◌, sym, arith}
+use Rattle.std.proofs.lemmas.Bool.{and_parts}
 use Rattle.vic_field.specs.Keys.{ready_between}
 use Rattle.vic_field.specs.Trees.{entries, notes_ready}
 use Rattle.vic_field.proofs.TreeLaws.{heard_nothing, heard_both, heard_several, none_noted, some_noted, widen, zero_passed, one_passed}
@@ -25,18 +26,13 @@ returns-then-deref-first t c =
     let zero = heard_nothing c.args.before (ready_between c.args.first c.args.last (entries fork.zero)) (zero_passed c.args.first c.args.last fork.first fork.middle fork.last fork.zero fork.one was.0 was.2 behind) in
     rw c.in-Fork.is (heard_both c.args.before c.args.before c.hear-then-deref-first.result c.args.first c.args.last fork.zero fork.one zero (rw c.deref-then-deref-first.ensures at c.hear-then-deref-first.ensures))
 
-both_true : (x y : Bool) → (x && y) ≡ true → (x ≡ true) × (y ≡ true)
-both_true true true e = (refl, refl)
-both_true true false e = absurd (cc)
-both_true false y e = absurd (cc)
-
 pub returns-then-are_both_ready : goal.returns-then-are_both_ready
 returns-then-are_both_ready t c =
     let fork = c.in-Fork.fork.value in
     let was = rw c.in-Fork.is at c.requires.tree in
     let low : c.args.first ≤ fork.first = rw c.deref-in-Fork-2.ensures at c.if-first-deref.true in
     let high : fork.last ≤ c.args.last = rw c.deref-then-first-deref.ensures at c.if-deref-last.true in
-    let ready = both_true (notes_ready fork.zero) (notes_ready fork.one) (sym (rw c.deref-then-deref-last.ensures at c.are_both_ready.ensures) ∙ c.if-are_both_ready.true) in
+    let ready = and_parts (notes_ready fork.zero) (notes_ready fork.one) (sym (rw c.deref-then-deref-last.ensures at c.are_both_ready.ensures) ∙ c.if-are_both_ready.true) in
     let less = was.0.low in
     let most = was.0.high in
     rw c.in-Fork.is (heard_several c.args.before c.args.first c.args.last fork.zero fork.one
