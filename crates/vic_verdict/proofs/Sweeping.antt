@@ -114,20 +114,6 @@ ruled_all p old new i h above =
 
 -- ---- a mask after another
 
--- a slot more of the same mask
-mask_more : (first last : ℕ) (l m : Level) (at : ℕ) (heard : Option ℕ) (k q : ℕ) → level_leaves m k q ≡ (level_leaves l k q && slot_leaves at heard k q) → mask_leaves first last m k q ≡ (mask_leaves first last l k q && (not (is_between first last k) || slot_leaves at heard k q))
-mask_more first last l m at heard k q e = go (is_between first last k) where
-  go : (b : Bool) → (not b || level_leaves m k q) ≡ ((not b || level_leaves l k q) && (not b || slot_leaves at heard k q))
-  go true = e
-  go false = refl
-
-pub run_more : (r : Run) (s : Spot) (m : Level) (ns : List Name) → r.first ≡ s.first → r.last ≡ s.last → ((k q : ℕ) → level_leaves m k q ≡ (level_leaves r.level k q && slot_leaves s.at s.heard k q)) → keep_all (run_leaves (Some (record { first = r.first; last = r.last; level = m }))) ns ≡ keep_all (λ k q. run_leaves (Some r) k q && spot_leaves s k q) ns
-run_more r s m ns f l h =
-    keep_alike _ _ (λ k q.
-    mask_more r.first r.last r.level m s.at s.heard k q (h k q)
-    ∙ (ap (λ a. mask_leaves r.first r.last r.level k q && (not (is_between a r.last k) || slot_leaves s.at s.heard k q)) f
-    ∙ ap (λ b. mask_leaves r.first r.last r.level k q && (not (is_between s.first b k) || slot_leaves s.at s.heard k q)) l)) ns
-
 mask_of_one : (first last : ℕ) (m : Level) (at : ℕ) (heard : Option ℕ) (k q : ℕ) → level_leaves m k q ≡ slot_leaves at heard k q → mask_leaves first last m k q ≡ (not (is_between first last k) || slot_leaves at heard k q)
 mask_of_one first last m at heard k q e = ap (λ b. not (is_between first last k) || b) e
 

@@ -21,7 +21,7 @@ mod rising;
 mod silenced;
 mod steps;
 mod stretches;
-pub mod sweep;
+mod sweep;
 #[cfg(test)]
 mod tests;
 mod unsettled;

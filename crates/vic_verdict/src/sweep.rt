@@ -35,8 +35,8 @@ pub struct Name {
 }
 
 /// A silent or an answered slot: the first and the last key of its mask, its place, and the key
-/// that was heard. In order, outer masks come before inner ones.
-#[derive(Clone, Copy, PartialEq, Eq, PartialOrd, Ord)]
+/// that was heard.
+#[derive(Clone, Copy)]
 pub struct Spot {
     pub first: u64,
     pub mask: Mask,
@@ -265,7 +265,8 @@ pub fn settle_stretch<S: OpenSet>(
     if let Some(at) = quiet_reply(names) {
         return Ok(Some(at));
     }
-    spots.sort_unstable();
+    // Those of one mask together, and outer masks before inner ones.
+    spots.sort_unstable_by_key(|spot| (spot.first, spot.mask.len()));
     rule_out_all(names, spots);
     let covers = covers_of(alloc, spots)?;
     settle_masks(alloc, set, names, &covers)?;
