@@ -10,6 +10,7 @@ mod first_line;
 mod guess;
 mod judging;
 pub mod laws;
+mod level;
 mod listed;
 mod met;
 mod parts;
