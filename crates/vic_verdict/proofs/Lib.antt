@@ -1,4 +1,3 @@
-pub mod Keys
 pub mod Possibility
 pub mod Search
 pub mod Populations

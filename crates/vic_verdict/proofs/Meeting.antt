@@ -28,9 +28,6 @@ use Rattle.vic_verdict.proofs.Supplied.{supplied_all, supplied_each}
 
 -- ---- who was heard
 
-pub heard_none : (es : List Entry) (us : List ℕ) → us ≡ [] → HasHeard es 0 us
-heard_none es us e u = ((λ h. absurd (false≢true (sym (ap (λ xs. has xs u) e) ∙ h))), (λ w. let below = w.2 in absurd (omega (arith, below))))
-
 has_pushed : (us : List ℕ) (v u : ℕ) → has (us ++ v ∷ []) u ≡ true → (has us u ≡ true) ⊎ (u ≡ v)
 has_pushed us v u h =
     ⊎_elim (λ a. inl a) (λ b. ⊎_elim (λ e. inr e) (λ n. absurd (false≢true n)) (has_cases u v [] b)) (or_cases _ _ (sym (list_any-append (nat_eq u) us (v ∷ [])) ∙ h))

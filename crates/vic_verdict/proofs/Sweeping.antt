@@ -11,15 +11,19 @@ use Rattle.vic_frame.specs.LowBitsFirst.{mirror, uid_of}
 use Rattle.vic_frame.proofs.MirrorLaws.{mirror_of_uid, uid_of_mirror, same_test}
 use Rattle.vic_verdict.specs.declared.sweep.Name.{Name}
 use Rattle.vic_verdict.specs.declared.sweep.Spot.{Spot}
-use Rattle.vic_verdict.specs.declared.sweep.Level.{Level}
+use Rattle.vic_verdict.specs.declared.level.Level.{Level}
 use Rattle.vic_verdict.specs.declared.sweep.Run.{Run}
-use Rattle.vic_verdict.specs.Sweep.{is_heard, slot_leaves, is_between, is_in, spot_leaves, all_leave, level_leaves, mask_leaves, run_leaves, keep, keep_all, has_where, has_left, all_cover, is_silenced, spot_allows, all_allow, is_named, is_named_if, hears_named, all_hear_named, are_left, HaveKeys, AreInOrder}
+use Rattle.vic_verdict.specs.Sweep.{is_heard, slot_leaves, is_between, is_in, spot_leaves, all_leave, level_leaves, mask_leaves, run_leaves, keep, keep_all, has_where, has_left, is_silenced, spot_allows, all_allow, is_named, is_named_if, hears_named, all_hear_named, are_left, HaveKeys, AreInOrder}
 use Rattle.std.specs.List.Sorted.{IsPermutation}
 use Rattle.std.proofs.lemmas.List.Sorted.{list_any-IsPermutation}
 use Rattle.std.proofs.Math.Seq.{take-append_seam}
 use Rattle.vic_verdict.proofs.Entries.{and_true}
 
 -- ---- names that are kept
+
+-- a UID with this key lies in no slot, or is left by name
+abbrev pub all_cover : List Name → List Spot → ℕ → Bool
+all_cover ns spots k = list_all (λ s. not (is_in s k) || has_left ns k) spots
 
 and_thrice : (a b c : Bool) → ((a && b) && c) ≡ (a && (b && c))
 and_thrice true b c = refl
@@ -113,20 +117,6 @@ ruled_all p old new i h above =
     (cases_lt k i))
 
 -- ---- a mask after another
-
--- a slot more of the same mask
-mask_more : (first last : ℕ) (l m : Level) (at : ℕ) (heard : Option ℕ) (k q : ℕ) → level_leaves m k q ≡ (level_leaves l k q && slot_leaves at heard k q) → mask_leaves first last m k q ≡ (mask_leaves first last l k q && (not (is_between first last k) || slot_leaves at heard k q))
-mask_more first last l m at heard k q e = go (is_between first last k) where
-  go : (b : Bool) → (not b || level_leaves m k q) ≡ ((not b || level_leaves l k q) && (not b || slot_leaves at heard k q))
-  go true = e
-  go false = refl
-
-pub run_more : (r : Run) (s : Spot) (m : Level) (ns : List Name) → r.first ≡ s.first → r.last ≡ s.last → ((k q : ℕ) → level_leaves m k q ≡ (level_leaves r.level k q && slot_leaves s.at s.heard k q)) → keep_all (run_leaves (Some (record { first = r.first; last = r.last; level = m }))) ns ≡ keep_all (λ k q. run_leaves (Some r) k q && spot_leaves s k q) ns
-run_more r s m ns f l h =
-    keep_alike _ _ (λ k q.
-    mask_more r.first r.last r.level m s.at s.heard k q (h k q)
-    ∙ (ap (λ a. mask_leaves r.first r.last r.level k q && (not (is_between a r.last k) || slot_leaves s.at s.heard k q)) f
-    ∙ ap (λ b. mask_leaves r.first r.last r.level k q && (not (is_between s.first b k) || slot_leaves s.at s.heard k q)) l)) ns
 
 mask_of_one : (first last : ℕ) (m : Level) (at : ℕ) (heard : Option ℕ) (k q : ℕ) → level_leaves m k q ≡ slot_leaves at heard k q → mask_leaves first last m k q ≡ (not (is_between first last k) || slot_leaves at heard k q)
 mask_of_one first last m at heard k q e = ap (λ b. not (is_between first last k) || b) e

@@ -13,16 +13,26 @@ use Rattle.vic_verdict.specs.declared.sweep.Name.{Name}
 use Rattle.vic_verdict.specs.declared.sweep.Spot.{Spot}
 use Rattle.vic_verdict.specs.Sweep.{HasMask, HaveKeys, are_left, is_named_if, all_hear_named, is_silenced, is_heard, all_allow}
 
--- the list has a slot more, of this mask, unless no UID lies in it
-pub record AddsSpot (mask : Option BitMask) (at : ℕ) (heard : Option ℕ) (old new : List Spot) : Type 0 where
-  pub masks : All HasMask old → All HasMask new
-  pub before : (i : ℕ) → at < i → All (λ (s : Spot). s.at < i) old → All (λ (s : Spot). s.at < i) new
-  pub named : (ns : List Name) → is_named_if ns heard ≡ true → all_hear_named ns old ≡ true → all_hear_named ns new ≡ true
-  pub allow : (ns : List Name) (u : ℕ) → IsUid u → all_allow ns new (mirror u) ≡ (all_allow ns old (mirror u) && (not (lies_in_some mask u) || (is_silenced ns (mirror u) at || is_heard heard (mirror u))))
+-- the UID may be there by a slot of this mask, at a place, that heard this key or nobody
+abbrev pub is_allowed : List Name → Option BitMask → ℕ → Option ℕ → ℕ → Bool
+is_allowed ns mask at heard u =
+    not (lies_in_some mask u) || (is_silenced ns (mirror u) at || is_heard heard (mirror u))
 
--- the names and the slots of the entries since the last field cycle before place i, of a log that ends at a place;
--- and with what a set leaves open they tell what is open there
-pub record IsStretch (es : List Entry) (i end : ℕ) (set : ℕ → Bool) (ns : List Name) (ss : List Spot) : Type 0 where
+-- the list has a slot more, of this mask, unless no UID lies in it
+pub record AddsSpot (mask : Option BitMask) (at : ℕ) (heard : Option ℕ) (old new : List Spot)
+    : Type 0 where
+  pub masks : All HasMask old → All HasMask new
+  pub before : (i : ℕ) → at < i
+      → All (λ (s : Spot). s.at < i) old → All (λ (s : Spot). s.at < i) new
+  pub named : (ns : List Name) → is_named_if ns heard ≡ true
+      → all_hear_named ns old ≡ true → all_hear_named ns new ≡ true
+  pub allow : (ns : List Name) (u : ℕ) → IsUid u
+      → all_allow ns new (mirror u) ≡ (all_allow ns old (mirror u) && is_allowed ns mask at heard u)
+
+-- the names and the slots of the entries since the last field cycle before place i, of a log that
+-- ends at a place; and with what a set leaves open they tell what is open there
+pub record IsStretch (es : List Entry) (i end : ℕ) (set : ℕ → Bool) (ns : List Name)
+    (ss : List Spot) : Type 0 where
   pub keys : HaveKeys ns
   pub left : are_left ns ≡ true
   pub masks : All HasMask ss

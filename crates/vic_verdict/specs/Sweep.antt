@@ -6,7 +6,7 @@ use Rattle.vic_frame.specs.Masks.{lies_in}
 use Rattle.vic_frame.specs.LowBitsFirst.{mirror}
 use Rattle.vic_verdict.specs.declared.sweep.Name.{Name}
 use Rattle.vic_verdict.specs.declared.sweep.Spot.{Spot}
-use Rattle.vic_verdict.specs.declared.sweep.Level.{Level}
+use Rattle.vic_verdict.specs.declared.level.Level.{Level}
 use Rattle.vic_verdict.specs.declared.sweep.Run.{Run}
 
 -- the key was heard
@@ -102,10 +102,6 @@ all_hear_named ns spots = list_all (hears_named ns) spots
 -- all names are left
 abbrev pub are_left : List Name → Bool
 are_left ns = list_all (λ n. n.left) ns
-
--- a UID with this key lies in no slot, or is left by name
-abbrev pub all_cover : List Name → List Spot → ℕ → Bool
-all_cover ns spots k = list_all (λ s. not (is_in s k) || has_left ns k) spots
 
 -- the names are in the order of their keys
 abbrev pub AreInOrder : List Name → Type 0

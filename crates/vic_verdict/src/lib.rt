@@ -10,6 +10,7 @@ mod first_line;
 mod guess;
 mod judging;
 pub mod laws;
+mod level;
 mod listed;
 mod met;
 mod parts;
@@ -21,7 +22,7 @@ mod rising;
 mod silenced;
 mod steps;
 mod stretches;
-pub mod sweep;
+mod sweep;
 #[cfg(test)]
 mod tests;
 mod unsettled;

@@ -44,7 +44,12 @@ fn count_one(entry: &Entry) -> u32
 {
     match *entry {
         Entry::Listed(_) => 1,
-        _ => 0,
+        Entry::Sent(_)
+        | Entry::Silent
+        | Entry::Collision
+        | Entry::Heard(_)
+        | Entry::Garbled
+        | Entry::FieldCycle => 0,
     }
 }
 

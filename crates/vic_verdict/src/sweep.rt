@@ -13,9 +13,10 @@ ghost use Rattle.vic_frame.specs.LowBitsFirst.{mirror};
 ghost use Rattle.vic_tree.specs.OpenSet.{SameUids};
 ghost use Rattle.vic_verdict.specs.Covers.{IsCover, all_leave_named};
 ghost use Rattle.vic_verdict.specs.Replies.{AreReady, IsQuietReply};
-ghost use Rattle.vic_verdict.specs.Sweep.{slot_leaves, spot_leaves, all_leave, level_leaves, mask_leaves, run_leaves, IsLevel, keep_all, has_left, all_cover, all_allow, are_left, all_hear_named, HasMask, AreInOrder, HaveKeys, is_between};
+ghost use Rattle.vic_verdict.specs.Sweep.{spot_leaves, all_leave, mask_leaves, run_leaves, IsLevel, keep_all, has_left, all_allow, are_left, all_hear_named, HasMask, AreInOrder, HaveKeys, is_between};
 
 use crate::covers::{Cover, covers_of};
+use crate::level::Level;
 use crate::replies::quiet_reply;
 use crate::rising::put_in_order;
 use std::alloc::{AllocError, Global};
@@ -35,83 +36,14 @@ pub struct Name {
 }
 
 /// A silent or an answered slot: the first and the last key of its mask, its place, and the key
-/// that was heard. In order, outer masks come before inner ones.
-#[derive(Clone, Copy, PartialEq, Eq, PartialOrd, Ord)]
+/// that was heard.
+#[derive(Clone, Copy)]
 pub struct Spot {
     pub first: u64,
     pub mask: Mask,
     pub last: u64,
     pub at: usize,
     pub heard: Option<u64>,
-}
-
-/// The slots of one mask: the place of the first one, whom it heard, and the place of the first one
-/// that heard another, or nobody in place of somebody.
-#[derive(Clone, Copy)]
-pub struct Level {
-    pub line: usize,
-    pub heard: Option<u64>,
-    pub other: Option<usize>,
-}
-
-impl Level {
-    /// One slot.
-    pub fn of(at: usize, heard: Option<u64>) -> Level
-        ensures level { IsLevel result }
-        ensures leaves { (k q : ℕ) → level_leaves result k q ≡ slot_leaves at heard k q }
-    {
-        Level {
-            line: at,
-            heard,
-            other: None,
-        }
-    }
-
-    /// With one slot more.
-    pub fn with(&self, at: usize, heard: Option<u64>) -> Level
-        requires { IsLevel self.now }
-        ensures level { IsLevel result }
-        ensures leaves { (k q : ℕ)
-            → level_leaves result k q ≡ (level_leaves self.now k q && slot_leaves at heard k q) }
-    {
-        if heard == self.heard {
-            Level {
-                line: self.line.min(at),
-                heard,
-                other: self.other,
-            }
-        } else if at < self.line {
-            Level {
-                line: at,
-                heard,
-                other: Some(self.line),
-            }
-        } else {
-            let other = match self.other {
-                Some(other) => other.min(at),
-                None => at,
-            };
-            Level {
-                line: self.line,
-                heard: self.heard,
-                other: Some(other),
-            }
-        }
-    }
-
-    /// Whether a key that is Quiet after a place is left.
-    pub fn leaves(&self, key: u64, quiet: usize) -> bool
-        ensures { result ≡ level_leaves self.now key quiet }
-    {
-        if self.heard == Some(key) {
-            match self.other {
-                Some(other) => quiet < other,
-                None => true,
-            }
-        } else {
-            quiet < self.line
-        }
-    }
 }
 
 /// Slots of one mask, one after another.
@@ -265,7 +197,8 @@ pub fn settle_stretch<S: OpenSet>(
     if let Some(at) = quiet_reply(names) {
         return Ok(Some(at));
     }
-    spots.sort_unstable();
+    // Those of one mask together, and outer masks before inner ones.
+    spots.sort_unstable_by_key(|spot| (spot.first, spot.mask.len()));
     rule_out_all(names, spots);
     let covers = covers_of(alloc, spots)?;
     settle_masks(alloc, set, names, &covers)?;

@@ -27,17 +27,17 @@ names_are n ns now new sorted kept ss spots a b d e f =
 pub settle_masks-requires-clause-order : goal.settle_masks-requires-clause-order
 settle_masks-requires-clause-order g c =
     let up = IsNonDecreasingBy-from_sort_by_key (λ (n : Name). n.key) c.sort_unstable_by_key.new.self.items c.sort_unstable_by_key.ensures.sorted (λ a r q k. search rules) in
-    subst AreInOrder (sym (names_are _ _ c.deref_mut.result.now c.rule_out_all.new.names c.sort_unstable_by_key.new.self.items c.deref-4.result.now c.deref-2.result.now c.sort_unstable.new.self.items c.deref_mut.ensures.value c.deref-2.ensures.value c.rule_out_all.ensures c.deref_mut.ensures.len c.deref-4.ensures.value))
-    (keep-order (all_leave c.sort_unstable.new.self.items) c.sort_unstable_by_key.new.self.items up)
+    subst AreInOrder (sym (names_are _ _ c.deref_mut.result.now c.rule_out_all.new.names c.sort_unstable_by_key.new.self.items c.deref-4.result.now c.deref-2.result.now c.sort_unstable_by_key-2.new.self.items c.deref_mut.ensures.value c.deref-2.ensures.value c.rule_out_all.ensures c.deref_mut.ensures.len c.deref-4.ensures.value))
+    (keep-order (all_leave c.sort_unstable_by_key-2.new.self.items) c.sort_unstable_by_key.new.self.items up)
 
 pub settle_masks-requires-clause-keys : goal.settle_masks-requires-clause-keys
 settle_masks-requires-clause-keys g c =
-    subst HaveKeys (sym (names_are _ _ c.deref_mut.result.now c.rule_out_all.new.names c.sort_unstable_by_key.new.self.items c.deref-4.result.now c.deref-2.result.now c.sort_unstable.new.self.items c.deref_mut.ensures.value c.deref-2.ensures.value c.rule_out_all.ensures c.deref_mut.ensures.len c.deref-4.ensures.value))
-    (keep-keys (all_leave c.sort_unstable.new.self.items) c.sort_unstable_by_key.new.self.items (All-permutation (λ (n : Name). n.key < 2 ^ 56) _ _ c.sort_unstable_by_key.ensures.permutation c.requires.keys))
+    subst HaveKeys (sym (names_are _ _ c.deref_mut.result.now c.rule_out_all.new.names c.sort_unstable_by_key.new.self.items c.deref-4.result.now c.deref-2.result.now c.sort_unstable_by_key-2.new.self.items c.deref_mut.ensures.value c.deref-2.ensures.value c.rule_out_all.ensures c.deref_mut.ensures.len c.deref-4.ensures.value))
+    (keep-keys (all_leave c.sort_unstable_by_key-2.new.self.items) c.sort_unstable_by_key.new.self.items (All-permutation (λ (n : Name). n.key < 2 ^ 56) _ _ c.sort_unstable_by_key.ensures.permutation c.requires.keys))
 
 pub covers_of-requires : goal.covers_of-requires
 covers_of-requires g c =
-    subst (All HasMask) (sym c.deref-3.ensures.value) (All-permutation HasMask _ _ c.sort_unstable.ensures.permutation c.requires.masks)
+    subst (All HasMask) (sym c.deref-3.ensures.value) (All-permutation HasMask _ _ c.sort_unstable_by_key-2.ensures.permutation c.requires.masks)
 
 pub returns-in-Some-clause-unfit : goal.returns-in-Some-clause-unfit
 returns-in-Some-clause-unfit g c =
@@ -55,12 +55,12 @@ settle_masks-requires-clause-masks g c = subst (All IsCover) (sym c.deref-5.ensu
 pub returns-clause-settled : goal.returns-clause-settled
 returns-clause-settled g c none u w =
     let names = c.sort_unstable_by_key.new.self.items in
-    let spots = c.sort_unstable.new.self.items in
+    let spots = c.sort_unstable_by_key-2.new.self.items in
     let kept = keep_all (all_leave spots) names in
     let old = g.S.OpenSet.is_open c.args.set.now in
     let are = names_are _ _ c.deref_mut.result.now c.rule_out_all.new.names names c.deref-4.result.now c.deref-2.result.now spots c.deref_mut.ensures.value c.deref-2.ensures.value c.rule_out_all.ensures c.deref_mut.ensures.len c.deref-4.ensures.value in
     let left = left_permuted c.args.names.now.items names c.sort_unstable_by_key.ensures.permutation c.requires.left in
-    let named = named_permuted c.args.names.now.items names c.args.spots.now.items spots c.sort_unstable_by_key.ensures.permutation c.sort_unstable.ensures.permutation c.requires.named in
+    let named = named_permuted c.args.names.now.items names c.args.spots.now.items spots c.sort_unstable_by_key.ensures.permutation c.sort_unstable_by_key-2.ensures.permutation c.requires.named in
     let same = c.in_ok-covers.ensures.keys (mirror u) ∙ ap (λ ss. is_in_some ss (mirror u)) c.deref-3.ensures.value in
     c.in_ok-settle_masks.ensures u w
     ∙ ap (λ b. old u && b) (
@@ -68,4 +68,4 @@ returns-clause-settled g c none u w =
     ∙ (ap (λ cs. all_leave_named kept cs (mirror u)) c.deref-5.ensures.value
     ∙ (covers_alike kept c.in_ok-covers.covers.items spots (mirror u) same
     ∙ (covered_allowed names spots (mirror u) left named
-    ∙ allow_permuted c.args.names.now.items names c.args.spots.now.items spots (mirror u) c.sort_unstable_by_key.ensures.permutation c.sort_unstable.ensures.permutation))))
+    ∙ allow_permuted c.args.names.now.items names c.args.spots.now.items spots (mirror u) c.sort_unstable_by_key.ensures.permutation c.sort_unstable_by_key-2.ensures.permutation))))
