@@ -29,7 +29,7 @@ abbrev pub heard : Result Reply FrameFault → Result (Option Entry) LineFault
 heard (Ok r) = Ok (Some (Heard r))
 heard (Err f) = Err (Frame f)
 
--- the number that is claimed is a UID
+-- what a line that claims a number says: that UID is listed, or the number is none
 abbrev pub claimed : ℕ → Result (Option Entry) LineFault
 claimed number = if is_uid number then Ok (Some (Listed number)) else Err NotVicinity
 
