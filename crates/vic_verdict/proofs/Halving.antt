@@ -7,7 +7,8 @@ use Rattle.vic_log.specs.declared.entry.Entry.TheVariants.{Sent}
 use Rattle.vic_log.specs.declared.entry.LogLine.{LogLine}
 use Rattle.vic_verdict.specs.Possible.{IsPossible, IsContradictedAt}
 use Rattle.vic_verdict.proofs.Possibility.{IsPossible-front}
-use Rattle.vic_log.specs.Order.{IsInOrder, entries, AreValid}
+use Rattle.vic_log.specs.Order.{IsInOrder, entries, AreValid, IsRisingFrom}
+use Rattle.vic_verdict.specs.FirstLines.{AreFirstLines}
 use Rattle.vic_log.proofs.Order.{IsInOrder-front, still_there}
 
 pub record Between (lines : List LogLine) (low high : ℕ) : Type 0 where
@@ -27,11 +28,24 @@ entries_append (x ∷ xs) ys = ap (λ es. x.item ∷ es) (entries_append xs ys)
 pub front_and_rest : (n : ℕ) (lines : List LogLine) → entries (take n lines) ++ entries (drop n lines) ≡ entries lines
 front_and_rest n lines = sym (entries_append (take n lines) (drop n lines)) ∙ ap entries (take-append-drop n lines)
 
-pub order_front : (n : ℕ) (lines : List LogLine) → IsInOrder (entries lines) → IsInOrder (entries (take n lines))
+order_front : (n : ℕ) (lines : List LogLine) → IsInOrder (entries lines) → IsInOrder (entries (take n lines))
 order_front n lines o = IsInOrder-front (entries (take n lines)) (entries (drop n lines)) (subst IsInOrder (sym (front_and_rest n lines)) o)
 
-pub valid_front : (n : ℕ) (lines : List LogLine) → AreValid (entries lines) → AreValid (entries (take n lines))
+valid_front : (n : ℕ) (lines : List LogLine) → AreValid (entries lines) → AreValid (entries (take n lines))
 valid_front n lines v i q k = v i q (subst (λ es. slice_get es i ≡ Some (Sent q)) (front_and_rest n lines) (still_there (entries (take n lines)) (entries (drop n lines)) i (Sent q) k))
+
+rising_front : (n below : ℕ) (lines : List LogLine) → IsRisingFrom below lines → IsRisingFrom below (take n lines)
+rising_front zero below lines r = tt
+rising_front (suc n) below [] r = tt
+rising_front (suc n) below (l ∷ lines) r = (r.0, rising_front n l.number lines r.1)
+
+-- the first of some first lines are first lines
+pub first_front : (n : ℕ) (lines : List LogLine) → AreFirstLines lines → AreFirstLines (take n lines)
+first_front n lines f = record {
+  order = order_front n lines f.order;
+  valid = valid_front n lines f.valid;
+  rising = rising_front n 0 lines f.rising;
+}
 
 -- the first of the first lines
 take_twice : (m n : ℕ) (lines : List LogLine) → m ≤ n → take m (take n lines) ≡ take m lines

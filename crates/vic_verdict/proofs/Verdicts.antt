@@ -7,6 +7,9 @@ use Rattle.std.proofs.lemmas.Bool.{not-true, and_parts, and_from, cases_Bool, ca
 use Rattle.vic_frame.specs.Masks.{BitMask}
 use Rattle.vic_log.specs.declared.entry.Entry.{Entry}
 use Rattle.vic_log.specs.declared.entry.LogLine.{LogLine}
+use Rattle.vic_log.specs.declared.entry.Version.{Version}
+use Rattle.vic_log.specs.Log.{IsLog}
+use Rattle.vic_verdict.specs.FirstLines.{AreFirstLines}
 use Rattle.vic_verdict.specs.declared.verdict.Verdict.{Verdict}
 use Rattle.vic_verdict.specs.declared.verdict.Verdict.TheVariants.{Impossible, Absent, Unlisted, Unsettled, Doubtful, Complete}
 use Rattle.vic_frame.specs.Masks.{lies_in}
@@ -78,6 +81,10 @@ possible_to lines r p n =
 pub rising_lower : (lines : List LogLine) → IsRisingFrom 1 lines → IsRisingFrom 0 lines
 rising_lower [] r = tt
 rising_lower (l ∷ lines) r = let a = r.0 in (omega arith, r.1)
+
+-- the lines of a log are first lines of it
+pub first_lines : (version : Version) (lines : List LogLine) → IsLog version lines → AreFirstLines lines
+first_lines version lines log = record { order = log.order; valid = log.valid; rising = rising_lower lines log.rising }
 
 -- ---- at most one verdict
 

@@ -1,3 +1,4 @@
+pub mod FirstLines
 pub mod Possible
 pub mod Verdict
 pub mod TwoVersions

@@ -3,7 +3,8 @@
 ghost use Rattle.std.specs.Prelude.{IfOk};
 ghost use Rattle.vic_tree.specs.OpenSet.{SameUids};
 ghost use Rattle.vic_log.specs.Slots.{slots_of, is_open};
-ghost use Rattle.vic_log.specs.Order.{IsInOrder, AreValid, IsRisingFrom, entries};
+ghost use Rattle.vic_log.specs.Order.{entries};
+ghost use Rattle.vic_verdict.specs.FirstLines.{AreFirstLines};
 ghost use Rattle.vic_verdict.specs.Demands.{IsMet};
 ghost use Rattle.vic_verdict.specs.Explained.{IsExplanation};
 ghost use Rattle.vic_verdict.specs.Possible.{IsPossible};
@@ -38,9 +39,7 @@ fn explain_possible<S: OpenSet>(
     met: Met,
     lines: &[LogLine],
 ) -> Result<Explanation, AllocError>
-    requires order { IsInOrder (entries lines.now) }
-    requires valid { AreValid (entries lines.now) }
-    requires rising { IsRisingFrom 0 lines.now }
+    requires lines { AreFirstLines lines.now }
     requires possible { IsPossible (entries lines.now) }
     requires open { SameUids (S.is_open set) (is_open (slots_of (entries lines.now))) }
     requires met { IsMet (entries lines.now) met }
@@ -61,9 +60,7 @@ fn explain_possible<S: OpenSet>(
 
 /// The verdict on the lines of a log with a population that shows it.
 fn explain_lines<S: OpenSet>(alloc: Global, lines: &[LogLine]) -> Result<Explanation, AllocError>
-    requires order { IsInOrder (entries lines.now) }
-    requires valid { AreValid (entries lines.now) }
-    requires rising { IsRisingFrom 0 lines.now }
+    requires { AreFirstLines lines.now }
     ensures { IfOk result (IsExplanation lines.now) }
 {
     match open_and_met::<S>(alloc, lines)? {

@@ -1,7 +1,8 @@
 //! The first line of a log that no population could have given.
 
 ghost use Rattle.std.specs.Prelude.{◌<◌, ◌≤◌, IfOk};
-ghost use Rattle.vic_log.specs.Order.{IsInOrder, entries, IsRisingFrom, AreValid};
+ghost use Rattle.vic_log.specs.Order.{entries};
+ghost use Rattle.vic_verdict.specs.FirstLines.{AreFirstLines};
 ghost use Rattle.vic_verdict.specs.Possible.{IsContradictedAt};
 ghost use Rattle.vic_verdict.specs.Verdict.{IsVerdict};
 ghost use Rattle.vic_verdict.specs.declared.verdict.Verdict.TheVariants.{Impossible};
@@ -45,9 +46,7 @@ pub fn first_impossible_line<S: OpenSet>(
     lines: &[LogLine],
     contradiction: Contradiction,
 ) -> Result<u32, AllocError>
-    requires order { IsInOrder (entries lines.now) }
-    requires valid { AreValid (entries lines.now) }
-    requires rising { IsRisingFrom 0 lines.now }
+    requires lines { AreFirstLines lines.now }
     requires impossible { IsContradictedAt (entries lines.now) contradiction.at }
     ensures { IfOk result (λ n. IsVerdict lines.now (Impossible n)) }
 {

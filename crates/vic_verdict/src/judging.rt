@@ -5,7 +5,8 @@ ghost use Rattle.vic_frame.specs.Uids.{has};
 ghost use Rattle.vic_tree.specs.OpenSet.{SameUids};
 ghost use Rattle.vic_log.specs.Slots.{slots_of, is_open};
 ghost use Rattle.vic_verdict.specs.Possible.{IsPossible};
-ghost use Rattle.vic_log.specs.Order.{IsInOrder, entries, listed, IsRisingFrom, AreValid};
+ghost use Rattle.vic_log.specs.Order.{entries, listed};
+ghost use Rattle.vic_verdict.specs.FirstLines.{AreFirstLines};
 ghost use Rattle.vic_verdict.specs.Verdict.{IsVerdict, IsWhole, IsReached};
 ghost use Rattle.vic_verdict.specs.TwoVersions.{IsWholeSecond};
 ghost use Rattle.vic_verdict.specs.Demands.{IsMet};
@@ -30,9 +31,7 @@ pub fn judge_possible<S: OpenSet>(
     met: &Met,
     lines: &[LogLine],
 ) -> Result<Verdict, AllocError>
-    requires order { IsInOrder (entries lines.now) }
-    requires valid { AreValid (entries lines.now) }
-    requires rising { IsRisingFrom 0 lines.now }
+    requires lines { AreFirstLines lines.now }
     requires possible { IsPossible (entries lines.now) }
     requires open { SameUids (S.is_open set) (is_open (slots_of (entries lines.now))) }
     requires met { IsMet (entries lines.now) met.now }
@@ -58,9 +57,7 @@ pub fn judge_possible<S: OpenSet>(
 
 /// The verdict on the lines of a log.
 fn judge_lines<S: OpenSet>(alloc: Global, lines: &[LogLine]) -> Result<Verdict, AllocError>
-    requires order { IsInOrder (entries lines.now) }
-    requires valid { AreValid (entries lines.now) }
-    requires rising { IsRisingFrom 0 lines.now }
+    requires { AreFirstLines lines.now }
     ensures { IfOk result (λ v. IsVerdict lines.now v) }
 {
     match open_and_met::<S>(alloc, lines)? {

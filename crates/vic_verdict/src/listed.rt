@@ -17,6 +17,7 @@ fn pass_listed(uids: &mut Vec<Uid>, entry: &Entry) -> Result<(), AllocError>
     ensures uids { OnOk result ((u : ℕ) → has (listed (entry.now ∷ [])) u ≡ true → IsUid u) }
 {
     if let Entry::Listed(uid) = *entry {
+        // gives the clause `uids` that its number is a UID's
         let _number = uid.number();
         uids.push(uid)?;
     }
@@ -60,6 +61,7 @@ pub fn count_listed(lines: &[LogLine]) -> u32
 {
     let mut count = 0;
     for line in lines {
+        // gives the count its bound: the numbers of lines rise, and are of 32 bits
         let _number = line.number;
         count += count_one(&line.item);
     }

@@ -5,7 +5,8 @@ ghost use Rattle.std.specs.List.Sorted.{IsStrictlyIncreasing};
 ghost use Rattle.std.specs.List.{list_all};
 ghost use Rattle.vic_frame.specs.Uids.{has};
 ghost use Rattle.vic_tree.specs.OpenSet.{SameUids};
-ghost use Rattle.vic_log.specs.Order.{IsInOrder, entries, AreValid};
+ghost use Rattle.vic_log.specs.Order.{entries};
+ghost use Rattle.vic_verdict.specs.FirstLines.{AreFirstLines};
 ghost use Rattle.vic_log.specs.Slots.{slots_of, is_open};
 ghost use Rattle.vic_verdict.specs.Possible.{IsPossible, IsContradictedAt};
 ghost use Rattle.vic_verdict.specs.Demands.{AreFound, IsMet, HasHeard};
@@ -52,8 +53,7 @@ fn find_all<S: OpenSet>(
     set: &S,
     lines: &[LogLine],
 ) -> Result<Option<Vec<Found>>, AllocError>
-    requires order { IsInOrder (entries lines.now) }
-    requires valid { AreValid (entries lines.now) }
+    requires lines { AreFirstLines lines.now }
     requires open { SameUids (S.is_open set.now) (is_open (slots_of (entries lines.now))) }
     ensures { IfOk result (λ r. MatchOption r (IsPossible (entries lines.now) → ⊥)
         (λ found. AreFound (entries lines.now) found.items)) }
@@ -87,8 +87,7 @@ pub fn open_and_met<S: OpenSet>(
     alloc: Global,
     lines: &[LogLine],
 ) -> Result<Result<(S, Met), Contradiction>, AllocError>
-    requires order { IsInOrder (entries lines.now) }
-    requires valid { AreValid (entries lines.now) }
+    requires { AreFirstLines lines.now }
     ensures { IfOk result (λ r. MatchResult r
         (λ p. IsPossible (entries lines.now)
         × SameUids (S.is_open p.0) (is_open (slots_of (entries lines.now)))

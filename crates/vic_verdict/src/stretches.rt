@@ -3,7 +3,8 @@
 ghost use Rattle.std.specs.Prelude.{ℕ, ◌≡◌, ◌≢◌, ◌+◌, ◌<◌, ◌^◌, ◌++◌, ◌∷◌, [], true, false, Bool, List, Some, IsTrue, IfOk, OnOk, MatchResult, slice_get};
 ghost use Rattle.vic_tree.specs.OpenSet.{SameUids};
 ghost use Rattle.vic_log.specs.Slots.{slots_of, is_open};
-ghost use Rattle.vic_log.specs.Order.{IsInOrder, entries, AreValid};
+ghost use Rattle.vic_log.specs.Order.{entries};
+ghost use Rattle.vic_verdict.specs.FirstLines.{AreFirstLines};
 ghost use Rattle.vic_frame.specs.Uids.{IsUid};
 ghost use Rattle.vic_frame.specs.LowBitsFirst.{mirror};
 ghost use Rattle.vic_log.specs.declared.entry.Entry.{Entry as EntryValue};
@@ -145,8 +146,7 @@ pub fn settle_all<S: OpenSet>(
     alloc: Global,
     lines: &[LogLine],
 ) -> Result<Result<S, Contradiction>, AllocError>
-    requires order { IsInOrder (entries lines.now) }
-    requires valid { AreValid (entries lines.now) }
+    requires { AreFirstLines lines.now }
     ensures { IfOk result (λ r. MatchResult r
         (λ s. RepliesAnswer (entries lines.now)
         × SameUids (S.is_open s) (is_open (slots_of (entries lines.now))))

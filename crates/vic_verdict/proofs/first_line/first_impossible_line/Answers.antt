@@ -7,18 +7,15 @@ use Rattle.vic_log.specs.Slots.{slots_of, is_open}
 use Rattle.vic_verdict.specs.Demands.{IsMet}
 use Rattle.vic_verdict.specs.Possible.{IsPossible, IsContradictedAt}
 use Rattle.vic_verdict.proofs.FirstLine.{first_impossible}
-use Rattle.vic_verdict.proofs.Halving.{Between, between_first, between_more, between_earlier, order_front, valid_front}
+use Rattle.vic_verdict.proofs.Halving.{Between, between_first, between_more, between_earlier, first_front}
 use Rattle.vic_verdict.proofs.first_line.first_impossible_line.Goals as goal
 use Rattle.vic_verdict.proofs.first_line.first_impossible_line.Goals.{in-Ok, in-Err}
 
 pub loop-low-init : goal.loop-low-init
 loop-low-init g c = between_first c.args.lines.now c.args.contradiction.at c.requires.impossible
 
-pub open_and_met-requires-clause-order : goal.open_and_met-requires-clause-order
-open_and_met-requires-clause-order g c = order_front c.between-count.result c.args.lines.now c.requires.order
-
-pub open_and_met-requires-clause-valid : goal.open_and_met-requires-clause-valid
-open_and_met-requires-clause-valid g c = valid_front c.between-count.result c.args.lines.now c.requires.valid
+pub open_and_met-requires : goal.open_and_met-requires
+open_and_met-requires g c = first_front c.between-count.result c.args.lines.now c.requires.lines
 
 pub loop-low-preserved : goal.loop-low-preserved
 loop-low-preserved g c =
@@ -46,4 +43,4 @@ returns g c =
     let within : last < length lines = let w = b.within in omega (arith, w) in
     let end : c.loop-low.low ≡ last = let o = b.ordered in omega (arith, o, close) in
     let l = get_or lines last c.index-lines-last.result in
-    first_impossible lines last l c.requires.rising (slice_get-get_or lines last c.index-lines-last.result within) (subst (λ n. IsPossible (entries (take n lines))) end b.possible) (subst (λ (n : ℕ). IsPossible (entries (take n lines)) → ⊥) (add-one last) b.impossible)
+    first_impossible lines last l c.requires.lines.rising (slice_get-get_or lines last c.index-lines-last.result within) (subst (λ n. IsPossible (entries (take n lines))) end b.possible) (subst (λ (n : ℕ). IsPossible (entries (take n lines)) → ⊥) (add-one last) b.impossible)

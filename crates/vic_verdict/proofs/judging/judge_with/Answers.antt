@@ -5,12 +5,12 @@ use Rattle.vic_log.specs.declared.entry.LogLine.{LogLine}
 use Rattle.vic_log.specs.Order.{entries, listed, IsRisingFrom}
 use Rattle.vic_verdict.specs.declared.verdict.Verdict.TheVariants.{Complete}
 use Rattle.vic_verdict.specs.Verdict.{IsVerdict}
-use Rattle.vic_verdict.proofs.Verdicts.{rising_lower, complete_count, reached_complete, one_verdict}
+use Rattle.vic_verdict.proofs.Verdicts.{rising_lower, first_lines, complete_count, reached_complete, one_verdict}
 use Rattle.vic_verdict.proofs.TwoVersions.{complete_second}
 use Rattle.vic_verdict.proofs.judging.judge_with.Goals as goal
 
-pub judge_lines-requires-clause-rising : goal.judge_lines-requires-clause-rising
-judge_lines-requires-clause-rising g c = rising_lower c.lines.result.now c.lines.ensures.log.rising
+pub judge_lines-requires : goal.judge_lines-requires
+judge_lines-requires g c = first_lines c.args.log.now.version c.lines.result.now c.lines.ensures.log
 
 pub returns-clause-whole : goal.returns-clause-whole
 returns-clause-whole g c =

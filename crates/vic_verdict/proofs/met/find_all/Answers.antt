@@ -32,7 +32,7 @@ loop-index-preserved g c =
     let asked = before.asked in
     let here = entry_at c.args.lines.now i l c.loop-index-test.true c.index-lines-index.is in
     record {
-      round = c.advance.ensures es i c.requires.order here before.round;
+      round = c.advance.ensures es i c.requires.lines.order here before.round;
       asked = elim c.match-entry.branch [
         | in-FieldCycle+in_ok-meet_stretch+else-not-branch w ↦
             subst (λ v. AreAsked es (i + 1) c.match-entry.names.items c.match-entry.demands.items v.items) (sym w.found-is)
@@ -43,7 +43,7 @@ loop-index-preserved g c =
             subst (λ v. AreAsked es (i + 1) v.items c.match-entry.demands.items c.match-entry.found.items) (sym w.names-is)
             (subst (λ v. AreAsked es (i + 1) w.note_asked.new.names.items v.items c.match-entry.found.items) (sym w.demands-is)
             (subst (λ v. AreAsked es (i + 1) w.note_asked.new.names.items w.note_asked.new.demands.items v.items) (sym w.found-is)
-            (w.in_ok-note_asked.ensures es c.loop-index.found.items here (w.mask-mask.ensures es i c.requires.valid before.round) w.in_default.not-FieldCycle asked)))
+            (w.in_ok-note_asked.ensures es c.loop-index.found.items here (w.mask-mask.ensures es i c.requires.lines.valid before.round) w.in_default.not-FieldCycle asked)))
       ];
     }
 
