@@ -5,10 +5,9 @@ use crate::rows::{COLLISION_PARTED, ONE_SILENCED, TWO_HEARD};
 use arrayvec::ArrayVec;
 use std::alloc::{AllocError, Global};
 use vic_frame::Uid;
-use vic_log::{Entry, FromRead, Log, LogFault, LogReader, PushFault, ToWrite, read_log, write_log};
-
-/// The most lines that a log has.
-const MAX_LINES: u32 = 1_000_000;
+use vic_log::{
+    Entry, FromRead, Log, LogFault, LogReader, MAX_LINES, PushFault, ToWrite, read_log, write_log,
+};
 
 /// Lists a UID on the next line, and again where memory was wanting and the log is as it was.
 fn list(log: &mut Log, uid: Uid) -> Found {

@@ -11,7 +11,7 @@ use Rattle.vic_verdict.specs.Verdict.{IsVerdict, IsWhole}
 use Rattle.vic_answer.specs.Digits.{uid_text, value_text}
 use Rattle.vic_answer.specs.Refusals.{refusal_line}
 use Rattle.vic_answer.specs.declared.status.Status.{Status}
-use Rattle.vic_answer.specs.declared.status.Status.TheVariants.{Whole, NotWhole, Impossible as NoPopulation, Refused}
+use Rattle.vic_answer.specs.declared.status.Status.TheVariants.{Whole, NotWhole, Refused}
 use Rattle.vic_answer.specs.declared.check.Answer.{Answer}
 use Rattle.vic_answer.specs.declared.check.Answer.TheVariants.{Judged, RefusedAt}
 
@@ -28,7 +28,7 @@ verdict_line (Impossible n) = codes "impossible at line " ++ decimal n ++ codes 
 -- and its status
 abbrev pub verdict_status : Verdict → Status
 verdict_status (Complete count) = Whole
-verdict_status (Impossible n) = NoPopulation
+verdict_status (Impossible n) = Status.Impossible
 verdict_status (Absent u) = NotWhole
 verdict_status (Unlisted u) = NotWhole
 verdict_status (Unsettled m) = NotWhole

@@ -1,7 +1,7 @@
 -- The numbers of faults, for programs that read an answer by numbers.
 use Rattle.std.specs.Prelude.{ℕ}
 use Rattle.vic_frame.specs.declared.fault.FrameFault.{FrameFault}
-use Rattle.vic_frame.specs.declared.fault.FrameFault.TheVariants.{Short, Crc, Extension, Reserved, OptionFlag, OtherCommand, InventoryFlag, Afi, Length, MaskTooLong, MaskPadding, SelectFlag, NotAddressed, ErrorFlag, NotVicinity as NoVicinityResponse}
+use Rattle.vic_frame.specs.declared.fault.FrameFault.TheVariants.{Short, Crc, Extension, Reserved, OptionFlag, OtherCommand, InventoryFlag, Afi, Length, MaskTooLong, MaskPadding, SelectFlag, NotAddressed, ErrorFlag}
 use Rattle.vic_log.specs.declared.fault.LineFault.{LineFault}
 use Rattle.vic_log.specs.declared.fault.LineFault.TheVariants.{TooManyLines, LineTooLong, Header, UnknownEntry, Hex, ListedLength, Frame, NotVicinity, SlotOutsideRound, EntryAfterList, DuplicateListed}
 
@@ -21,7 +21,7 @@ frame_fault_number MaskPadding = 111
 frame_fault_number SelectFlag = 112
 frame_fault_number NotAddressed = 113
 frame_fault_number ErrorFlag = 114
-frame_fault_number NoVicinityResponse = 115
+frame_fault_number FrameFault.NotVicinity = 115
 
 -- of a line's
 abbrev pub fault_number : LineFault → ℕ

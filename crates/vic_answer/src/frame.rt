@@ -14,7 +14,8 @@ use vic_frame::{read_request, read_response};
 use vic_log::{MAX_LINE_LEN, Sink};
 
 /// Writes the two readings of a word of hex digits, as a request and as a response, or why it is no
-/// frame, and flushes. A word is at most as long as a line of a log. `Write` where the sink has failed: a prefix may be out. It takes no memory.
+/// frame, and flushes. A word is at most as long as a line of a log. `Write` where the sink has
+/// failed: a prefix may be out. It takes no memory.
 pub fn run_frame<W: Sink>(word: &[u8], sink: &mut W) -> Result<Status, RunFault>
     ensures status { IfOk result (λ s. s ≡ frame_status word.now) }
     ensures written { Writes W.taken W.is_flushed W.has_failed

@@ -39,7 +39,7 @@ impl From<AllocError> for AddFault {
 
     ghost from_gives = { λ _ e. e ≡ AddFault.Memory };
 
-    fn from(_e: AllocError) -> AddFault {
+    fn from(_: AllocError) -> AddFault {
         AddFault::Memory
     }
 }

@@ -36,7 +36,7 @@ impl From<AllocError> for SimFault {
 
     ghost from_gives = { λ _ e. e ≡ SimFault.Memory };
 
-    fn from(_e: AllocError) -> SimFault {
+    fn from(_: AllocError) -> SimFault {
         SimFault::Memory
     }
 }

@@ -2,9 +2,7 @@
 use Rattle.std.proofs.Common.{false, ◌&&◌, ◌==◌, ◌≡◌, ℕ, ◌^◌, ◌<◌, sym, ap, ◌∙◌, arith}
 use Rattle.std.specs.Prelude.{nat_le, nat_eq}
 use Rattle.std.specs.declared.cmp.Ordering.TheVariants.{Less}
-use Rattle.std.specs.declared.ops.Bound.TheVariants.{Included}
 use Rattle.std.specs.Ordering.{nat_cmp, is_eq}
-use Rattle.std.specs.BTreeMap.Range.{range_contains}
 use Rattle.std.proofs.lemmas.Bool.Decides.{nat_tests}
 use Rattle.std.proofs.lemmas.Cmp.{ranked}
 use Rattle.vic_frame.specs.Uids.{IsUid}
@@ -22,9 +20,6 @@ pub key_test : (u k : ℕ) → IsUid u → k < 2 ^ 56 → is_eq (nat_cmp (mirror
 key_test u k h small = plain (mirror u) k ∙ same_test (mirror u) k u (uid_of k) (λ e. sym (uid_of_mirror u h) ∙ ap uid_of e) (λ e. ap mirror e ∙ mirror_of_uid k small) where
   plain : (a b : ℕ) → is_eq (nat_cmp a b) ≡ (a == b)
   plain a b = grind (arith, nat_tests)
-
-pub in_bounds : (a b q : ℕ) → range_contains nat_cmp (Included a) (Included b) q ≡ (nat_le a q && nat_le q b)
-in_bounds a b q = grind (arith, nat_tests)
 
 -- a key below another stands for another UID
 pub differ : (k j : ℕ) → k < 2 ^ 56 → j < 2 ^ 56 → nat_cmp k j ≡ Less → nat_eq (uid_of k) (uid_of j) ≡ false

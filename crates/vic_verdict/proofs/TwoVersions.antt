@@ -1,8 +1,8 @@
 -- The headline says the same in the words of each version.
-use Rattle.std.proofs.Common.{◌≡◌, ◌⊎◌, inl, inr, ℕ, zero, suc, Bool, true, false, not, ◌&&◌, ◌||◌, List, [], ◌∷◌, Option, Some, None, refl, sym, ap, subst, ◌∙◌, arith, ⊎_elim}
+use Rattle.std.proofs.Common.{◌≡◌, ◌⊎◌, inl, inr, ℕ, zero, suc, Bool, true, false, not, ◌&&◌, List, [], ◌∷◌, Option, Some, None, refl, sym, ap, subst, ◌∙◌, arith, ⊎_elim}
 use Rattle.std.specs.Prelude.{◌≢◌, ◌↔◌, slice_get}
 use Rattle.std.specs.List.{filter}
-use Rattle.std.proofs.lemmas.Bool.{cases_eq, and_parts, and_from, both_ways, false_from_ne_true, not-true}
+use Rattle.std.proofs.lemmas.Bool.{cases_eq, and_parts, and_from, or_parts, both_ways, false_from_ne_true, not-true}
 use Rattle.vic_frame.specs.Uids.{has, AreDifferent}
 use Rattle.vic_log.specs.declared.entry.Entry.{Entry}
 use Rattle.vic_log.specs.declared.entry.Entry.TheVariants.{Sent, Silent, Collision, Heard, Listed, Garbled, FieldCycle}
@@ -21,10 +21,6 @@ use Rattle.vic_verdict.specs.declared.verdict.Verdict.TheVariants.{Complete}
 use Rattle.vic_verdict.proofs.Verdicts.{complete_whole}
 
 -- ---- Ready tags
-
-or_parts : (a b : Bool) → (a || b) ≡ false → (a ≡ false) × (b ≡ false)
-or_parts true b h = cc
-or_parts false b h = (refl, h)
 
 cycle_at : (o : Option Entry) → wakes o ≡ true → o ≡ Some FieldCycle
 cycle_at None h = cc

@@ -45,7 +45,8 @@ IsHeard es u = (i : ℕ) × (r : Reply) × (slice_get es i ≡ Some (Heard r)) �
 
 -- the list has the UIDs that were heard before place i
 abbrev pub HasHeard : List Entry → ℕ → List ℕ → Type 0
-HasHeard es i us = (u : ℕ) → (has us u ≡ true) ↔ ((j : ℕ) × (r : Reply) × (j < i) × (slice_get es j ≡ Some (Heard r)) × (r.uid ≡ u))
+HasHeard es i us = (u : ℕ) → (has us u ≡ true)
+    ↔ ((j : ℕ) × (r : Reply) × (j < i) × (slice_get es j ≡ Some (Heard r)) × (r.uid ≡ u))
 
 -- the UIDs are open and answer at place i, and there are as many as it takes
 pub record IsFoundAt (es : List Entry) (i : ℕ) (f : Found) : Type 0 where
@@ -63,8 +64,8 @@ pub record Meets (es : List Entry) (f : Found) (i : ℕ) : Type 0 where
   pub need : needs_at es i ≡ f.need
   pub answer : (u : ℕ) → has f.uids.items u ≡ true → answering (is_open (slots_of es)) es i u ≡ true
 
--- what meets each slot line that asks for tags and names none, no more in all than the lines ask for. So such a line
--- makes a UID certain where it is one of exactly as many as it asks for
+-- what meets each slot line that asks for tags and names none, no more in all than the lines ask
+-- for. So such a line makes a UID certain where it is one of exactly as many as it asks for
 pub record AreFound (es : List Entry) (fs : List Found) : Type 0 where
   pub found : All (IsFound es) fs
   pub met : (i : ℕ) → 0 < needs_at es i → Any (λ (f : Found). Meets es f i) fs
@@ -96,20 +97,26 @@ pub record IsSaidBy (d next : Demand) : Type 0 where
   pub later : d.at ≤ next.at
 
 abbrev pub IsAskedAgain : List Demand → ℕ → Type 0
-IsAskedAgain ds k = (k + 1 < length ds) × ((d : Demand) → IsSaidBy (slice_index_or ds k d) (slice_index_or ds (k + 1) d))
+IsAskedAgain ds k = (k + 1 < length ds)
+    × ((d : Demand) → IsSaidBy (slice_index_or ds k d) (slice_index_or ds (k + 1) d))
 
 -- what is found for the slots of some demands, more than was found before
 pub record AreMet (es : List Entry) (ds : List Demand) (old new : List Found) : Type 0 where
   pub found : All (IsFound es) old → All (IsFound es) new
   pub kept : (i : ℕ) → Any (λ (f : Found). Meets es f i) old → Any (λ (f : Found). Meets es f i) new
   pub met : All (λ (d : Demand). Any (λ (f : Found). Meets es f d.at) new) ds
-  pub few : sum_by (λ (f : Found). f.need) new ≤ sum_by (λ (f : Found). f.need) old + sum_by (λ (d : Demand). d.need) ds
+  pub few : sum_by (λ (f : Found). f.need) new
+      ≤ sum_by (λ (f : Found). f.need) old + sum_by (λ (d : Demand). d.need) ds
 
--- the names and the demands of the entries since the last field cycle before place i, and what meets the slots before
-pub record AreAsked (es : List Entry) (i : ℕ) (ns : List Name) (ds : List Demand) (fs : List Found) : Type 0 where
+-- the names and the demands of the entries since the last field cycle before place i, and what meets
+-- the slots before
+pub record AreAsked (es : List Entry) (i : ℕ) (ns : List Name) (ds : List Demand)
+    (fs : List Found) : Type 0 where
   pub from : ℕ
   pub quiet : TellsQuiet es from i ns
   pub demands : All (IsDemand es from i) ds
   pub found : All (IsFound es) fs
-  pub met : (j : ℕ) → j < i → 0 < needs_at es j → Any (λ (f : Found). Meets es f j) fs ⊎ Any (λ (d : Demand). d.at ≡ j) ds
-  pub few : sum_by (λ (f : Found). f.need) fs + sum_by (λ (d : Demand). d.need) ds ≤ all_needs (take i es)
+  pub met : (j : ℕ) → j < i → 0 < needs_at es j
+      → Any (λ (f : Found). Meets es f j) fs ⊎ Any (λ (d : Demand). d.at ≡ j) ds
+  pub few : sum_by (λ (f : Found). f.need) fs + sum_by (λ (d : Demand). d.need) ds
+      ≤ all_needs (take i es)

@@ -1,5 +1,5 @@
--- What a log tells of the tags in the field: whether some population could have given it, which UIDs are in some such
--- population, and which are in every one.
+-- What a log tells of the tags in the field: whether some population could have given it, which
+-- UIDs are in some such population, and which are in every one.
 use Rattle.std.specs.Prelude.{◌≡◌, ℕ, ◌+◌, ◌<◌, true, List, length, take}
 use Rattle.vic_frame.specs.Uids.{has}
 use Rattle.vic_log.specs.declared.entry.Entry.{Entry}

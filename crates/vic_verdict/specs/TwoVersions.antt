@@ -1,5 +1,6 @@
--- The headline in the words of each version of the log. In version 2 tags are Ready at the start and after each field
--- cycle, a lone reply is heard or garbled, and two or more are a collision or garbled.
+-- The headline in the words of each version of the log. In version 2 tags are Ready at the start and
+-- after each field cycle, a lone reply is heard or garbled, and two or more are a collision or
+-- garbled.
 use Rattle.std.specs.Prelude.{◌≡◌, ◌≢◌, ◌↔◌, ◌⊎◌, ℕ, ◌<◌, true, Some, List, ⊤, slice_get}
 use Rattle.vic_frame.specs.Uids.{has}
 use Rattle.vic_log.specs.declared.entry.Entry.{Entry}

@@ -29,7 +29,8 @@ IsUnlisted es u = IsCertainUid es u × (has (listed es) u ≡ false)
 -- a mask of at most 56 bits all of whose UIDs are possible and not listed
 abbrev pub IsUnsettled : List Entry → BitMask → Type 0
 IsUnsettled es m =
-    (m.len ≤ 56) × (m.value < 2 ^ m.len) × ((u : ℕ) → IsUid u → lies_in m u ≡ true → IsPossibleUid es u × (has (listed es) u ≡ false))
+    (m.len ≤ 56) × (m.value < 2 ^ m.len)
+    × ((u : ℕ) → IsUid u → lies_in m u ≡ true → IsPossibleUid es u × (has (listed es) u ≡ false))
 
 -- a listed UID that isn't certain
 abbrev pub IsDoubtful : List Entry → ℕ → Type 0
@@ -59,10 +60,12 @@ IsVerdict lines (Unsettled m) =
     IsPossible es × NoSuch (IsAbsent es) × NoSuch (IsUnlisted es) × IsFirstMask (IsUnsettled es) m
 IsVerdict lines (Doubtful u) =
     let es = entries lines in
-    IsPossible es × NoSuch (IsAbsent es) × NoSuch (IsUnlisted es) × NoSuch (IsUnsettled es) × IsLeast (IsDoubtful es) u
+    IsPossible es × NoSuch (IsAbsent es) × NoSuch (IsUnlisted es) × NoSuch (IsUnsettled es)
+    × IsLeast (IsDoubtful es) u
 IsVerdict lines (Complete count) =
     let es = entries lines in
-    IsPossible es × NoSuch (IsAbsent es) × NoSuch (IsUnlisted es) × NoSuch (IsUnsettled es) × NoSuch (IsDoubtful es)
+    IsPossible es × NoSuch (IsAbsent es) × NoSuch (IsUnlisted es) × NoSuch (IsUnsettled es)
+    × NoSuch (IsDoubtful es)
     × (count ≡ length (listed es))
 
 -- the list is whole: some population could have given the entries, and each that could has exactly the listed UIDs
@@ -75,7 +78,8 @@ IsWhole es =
 abbrev pub WasHeard : List Entry → ℕ → Type 0
 WasHeard es u = (i : ℕ) × (r : Reply) × (slice_get es i ≡ Some (Heard r)) × (r.uid ≡ u)
 
--- the reader is done: its log is possible, it heard each UID that it lists, and no other is possible
+-- the reader is done: its log is possible, it heard each UID that it lists, and no other is
+-- possible
 abbrev pub IsReached : List Entry → Type 0
 IsReached es =
     IsPossible es
