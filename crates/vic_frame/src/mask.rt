@@ -22,7 +22,8 @@ const LAST_SLOT: u8 = 15;
 /// The low bits that a UID must have: how many, from 0 to 64, and their value.
 ///
 /// A mask of at most 56 bits holds `2^(56 - len)` UIDs, a longer one at most one, since it fixes
-/// bits of E0. `ISO/IEC 15693-3, Inventory request` (mask length and mask value).
+/// bits of E0. `ISO/IEC 15693-3, Inventory request` (mask length and mask value). Masks are ordered
+/// by length, then by value.
 #[derive(Clone, Copy, Debug, PartialEq, Eq, PartialOrd, Ord)]
 pub struct Mask {
     len: u8,

@@ -1,7 +1,7 @@
 -- What a judge that goes over the entries once needs: what each entry does to the open UIDs, and what the open UIDs that
 -- could have answered in a slot, up to three of them, tell.
 use Rattle.std.proofs.Common.{◌≡◌, ℕ, zero, suc, ◌<◌, ◌≤◌, List, [], ◌∷◌, length, Bool, true, false, ◌&&◌, Option, Some, None, refl, sym, ap, ◌∙◌, subst, arith, inl, inr, ⊎_elim}
-use Rattle.std.specs.Prelude.{◌⊎◌, ◌≢◌, ◌↔◌, slice_get}
+use Rattle.std.specs.Prelude.{⊤, ◌⊎◌, ◌≢◌, ◌↔◌, slice_get}
 use Rattle.std.specs.List.{list_all}
 use Rattle.std.proofs.lemmas.Bool.{both_ways, false≢true, cases_eq}
 use Rattle.vic_log.specs.declared.entry.Entry.{Entry}
@@ -10,8 +10,18 @@ use Rattle.vic_frame.specs.Uids.{has, is_uid}
 use Rattle.vic_log.specs.Populations.{answers_at}
 use Rattle.vic_log.specs.Slots.{Reading, NoReply, OneReply, ManyReplies, SomeReply, Slot, reading_of, with_reading, with_entry, slots_before, may_be, allows, is_open, Asks, SuppliesAll, Forces, IsForcedBy}
 use Rattle.vic_tree.specs.OpenSet.{UpToThree}
-use Rattle.vic_verdict.specs.Places.{answering, entry_asks, entry_forces}
+use Rattle.vic_verdict.specs.Places.{answering}
 use Rattle.vic_log.proofs.Sets.{has_here, has_at, has_there, has_cases}
+
+-- what a slot line asks of the UIDs that answer there; an entry that is no slot line asks nothing
+abbrev pub EntryAsks : Option Reading → (ℕ → Bool) → Type 0
+EntryAsks None t = ⊤
+EntryAsks (Some r) t = Asks r t
+
+-- what it tells of them: that a UID is there
+abbrev pub EntryForces : Option Reading → (ℕ → Bool) → ℕ → Type 0
+EntryForces None t u = ⊥
+EntryForces (Some r) t u = Forces r t u
 
 -- ---- the open UIDs, entry by entry
 
@@ -49,24 +59,24 @@ open_step es i e u k =
 
 -- the slots of the first n places get what they ask for
 abbrev pub SuppliesBefore : (ℕ → Bool) → List Entry → ℕ → Type 0
-SuppliesBefore set es n = (i : ℕ) (e : Entry) → i < n → slice_get es i ≡ Some e → entry_asks (reading_of e) (answering set es i)
+SuppliesBefore set es n = (i : ℕ) (e : Entry) → i < n → slice_get es i ≡ Some e → EntryAsks (reading_of e) (answering set es i)
 
-supplies_reading : (set answers : ℕ → Bool) (o : Option Reading) (slots : List Slot) → SuppliesAll set (with_reading answers o slots) ↔ (entry_asks o (λ u. set u && answers u) × SuppliesAll set slots)
+supplies_reading : (set answers : ℕ → Bool) (o : Option Reading) (slots : List Slot) → SuppliesAll set (with_reading answers o slots) ↔ (EntryAsks o (λ u. set u && answers u) × SuppliesAll set slots)
 supplies_reading set answers None slots = ((λ h. (tt, h)), (λ h. h.1))
 supplies_reading set answers (Some r) slots = ((λ h. h), (λ h. h))
 
-supplies_step : (set answers : ℕ → Bool) (o : Option Entry) (slots : List Slot) → SuppliesAll set (with_entry answers o slots) ↔ (((e : Entry) → o ≡ Some e → entry_asks (reading_of e) (λ u. set u && answers u)) × SuppliesAll set slots)
+supplies_step : (set answers : ℕ → Bool) (o : Option Entry) (slots : List Slot) → SuppliesAll set (with_entry answers o slots) ↔ (((e : Entry) → o ≡ Some e → EntryAsks (reading_of e) (λ u. set u && answers u)) × SuppliesAll set slots)
 supplies_step set answers None slots = ((λ h. ((λ e k. cc), h)), (λ h. h.1))
 supplies_step set answers (Some e) slots =
     let r = supplies_reading set answers (reading_of e) slots in (
-      (λ h. let w = r.0 h in ((λ f k. let same : e ≡ f = cc in subst (λ g. entry_asks (reading_of g) (λ u. set u && answers u)) same w.0), w.1)),
+      (λ h. let w = r.0 h in ((λ f k. let same : e ≡ f = cc in subst (λ g. EntryAsks (reading_of g) (λ u. set u && answers u)) same w.0), w.1)),
       (λ h. r.1 (h.0 e refl, h.1)),
     )
 
-pub supplies_more : (set : ℕ → Bool) (es : List Entry) (n : ℕ) → SuppliesBefore set es n → ((e : Entry) → slice_get es n ≡ Some e → entry_asks (reading_of e) (answering set es n)) → SuppliesBefore set es (suc n)
+pub supplies_more : (set : ℕ → Bool) (es : List Entry) (n : ℕ) → SuppliesBefore set es n → ((e : Entry) → slice_get es n ≡ Some e → EntryAsks (reading_of e) (answering set es n)) → SuppliesBefore set es (suc n)
 supplies_more set es n below here i e h k =
     ⊎_elim
-    (λ same. subst (λ j. slice_get es j ≡ Some e → entry_asks (reading_of e) (answering set es j)) (sym same) (here e) k)
+    (λ same. subst (λ j. slice_get es j ≡ Some e → EntryAsks (reading_of e) (answering set es j)) (sym same) (here e) k)
     (λ ne. below i e (omega arith) k)
     (cases_eq i n)
 
@@ -79,16 +89,16 @@ SuppliesAll-places set es (suc n) =
       (λ h. step.1 ((λ e k. h n e (omega arith) k), rest.1 (λ i e k g. h i e (omega arith) g))),
     )
 
-forced_reading : (set answers : ℕ → Bool) (o : Option Reading) (slots : List Slot) (u : ℕ) → IsForcedBy set (with_reading answers o slots) u ↔ (entry_forces o (λ w. set w && answers w) u ⊎ IsForcedBy set slots u)
+forced_reading : (set answers : ℕ → Bool) (o : Option Reading) (slots : List Slot) (u : ℕ) → IsForcedBy set (with_reading answers o slots) u ↔ (EntryForces o (λ w. set w && answers w) u ⊎ IsForcedBy set slots u)
 forced_reading set answers None slots u = ((λ h. inr h), (λ h. ⊎_elim (λ f. absurd f) (λ k. k) h))
 forced_reading set answers (Some r) slots u = ((λ h. h), (λ h. h))
 
-pub forced_step : (set answers : ℕ → Bool) (o : Option Entry) (slots : List Slot) (u : ℕ) → IsForcedBy set (with_entry answers o slots) u ↔ (((e : Entry) × (o ≡ Some e) × entry_forces (reading_of e) (λ w. set w && answers w) u) ⊎ IsForcedBy set slots u)
+pub forced_step : (set answers : ℕ → Bool) (o : Option Entry) (slots : List Slot) (u : ℕ) → IsForcedBy set (with_entry answers o slots) u ↔ (((e : Entry) × (o ≡ Some e) × EntryForces (reading_of e) (λ w. set w && answers w) u) ⊎ IsForcedBy set slots u)
 forced_step set answers None slots u = ((λ h. inr h), (λ h. ⊎_elim (λ f. let bad = f.1 in cc) (λ k. k) h))
 forced_step set answers (Some e) slots u =
     let r = forced_reading set answers (reading_of e) slots u in (
       (λ h. ⊎_elim (λ f. inl (e, refl, f)) (λ k. inr k) (r.0 h)),
-      (λ h. r.1 (⊎_elim (λ f. let bad = f.1 in let same : f.0 ≡ e = cc in inl (subst (λ g. entry_forces (reading_of g) (λ w. set w && answers w) u) same f.2)) (λ k. inr k) h)),
+      (λ h. r.1 (⊎_elim (λ f. let bad = f.1 in let same : f.0 ≡ e = cc in inl (subst (λ g. EntryForces (reading_of g) (λ w. set w && answers w) u) same f.2)) (λ k. inr k) h)),
     )
 
 -- ---- up to three of a set

@@ -22,12 +22,12 @@ use Rattle.vic_verdict.specs.declared.demands.Met.{Met}
 use Rattle.vic_verdict.specs.Demands.{needs_of, IsFoundAt, IsFound, IsMet, all_needs}
 use Rattle.vic_verdict.specs.Gathered.{is_other, chosen, all_chosen, gathered}
 use Rattle.vic_verdict.specs.Explained.{HasAllHeard}
-use Rattle.vic_verdict.specs.Places.{answering, entry_asks, entry_forces}
+use Rattle.vic_verdict.specs.Places.{answering}
 use Rattle.vic_verdict.specs.Possible.{IsPossible, IsCertainUid}
 use Rattle.vic_verdict.specs.Rising.{SameMembers}
 use Rattle.vic_verdict.proofs.Choosing.{filter_yes, filter_no}
 use Rattle.vic_verdict.proofs.Decide.{IsPossibleUid-iff}
-use Rattle.vic_verdict.proofs.Entries.{SuppliesBefore, SuppliesAll-places, forces_two_iff, forces_one_iff}
+use Rattle.vic_verdict.proofs.Entries.{EntryAsks, EntryForces, SuppliesBefore, SuppliesAll-places, forces_two_iff, forces_one_iff}
 use Rattle.vic_verdict.proofs.Failing.{place_of}
 use Rattle.vic_verdict.proofs.Populations.{forced, is_open-is_uid}
 use Rattle.vic_verdict.proofs.Possibility.{Heard-certain}
@@ -191,14 +191,14 @@ one_of (x ∷ xs) h = (x, has_here x [])
 -- ---- who is certain
 
 -- whom a slot line tells of is certain
-certain_there : (es : List Entry) (i : ℕ) (e : Entry) (u : ℕ) → slice_get es i ≡ Some e → entry_forces (reading_of e) (answering (is_open (slots_of es)) es i) u → IsCertainUid es u
+certain_there : (es : List Entry) (i : ℕ) (e : Entry) (u : ℕ) → slice_get es i ≡ Some e → EntryForces (reading_of e) (answering (is_open (slots_of es)) es i) u → IsCertainUid es u
 certain_there es i e u k f p population could =
     let w = (MeetsAll-iff p (slots_of es) population).0 ((CouldHaveGiven-slots p es).0 could) in
     let asks = (SuppliesAll-places (has p) es (length es)).0 w.1 i e (slice_get_within es i e k) k in
     let inner : IsWithin (answering (has p) es i) (answering (is_open (slots_of es)) es i) = λ v h. let x = and_parts (has p v) (answers_at es i v) h in and_from _ _ (w.0 v x.0) x.1 in
     (and_parts _ _ (forced_entry (reading_of e) _ _ u f inner asks)).0
   where
-    forced_entry : (o : Option Reading) (s t : ℕ → Bool) (u : ℕ) → entry_forces o t u → IsWithin s t → entry_asks o s → s u ≡ true
+    forced_entry : (o : Option Reading) (s t : ℕ → Bool) (u : ℕ) → EntryForces o t u → IsWithin s t → EntryAsks o s → s u ≡ true
     forced_entry None s t u f w a = absurd f
     forced_entry (Some r) s t u f w a = forced r s t u f w a
 
@@ -285,7 +285,7 @@ asked_there es m avoid i n e k is some none met =
           and_from _ _ (append_right m.heard.items (all_chosen avoid m.found.items) u member) (and_parts (is_open (slots_of es) u) _ (any.4.answer u (chosen_parts avoid f u c).0)).1,
     )
 
-gathered_asks : (es : List Entry) (m : Met) (avoid : Option ℕ) → IsPossible es → AvoidsNoneCertain es avoid → IsMet es m → (i : ℕ) (e : Entry) → slice_get es i ≡ Some e → entry_asks (reading_of e) (answering (has (gathered avoid m)) es i)
+gathered_asks : (es : List Entry) (m : Met) (avoid : Option ℕ) → IsPossible es → AvoidsNoneCertain es avoid → IsMet es m → (i : ℕ) (e : Entry) → slice_get es i ≡ Some e → EntryAsks (reading_of e) (answering (has (gathered avoid m)) es i)
 gathered_asks es m avoid possible none met i Silent k = tt
 gathered_asks es m avoid possible none met i (Sent q) k = tt
 gathered_asks es m avoid possible none met i (Listed u) k = tt
@@ -307,7 +307,7 @@ pub record IsGathered (es : List Entry) (us : List ℕ) : Type 0 where
   pub could : CouldHaveGiven us es
   pub few : (heard : List ℕ) → HasAllHeard es heard → length us ≤ length heard + all_needs es
 
-asks_entry : (o : Option Reading) (s t : ℕ → Bool) → IsWithin s t → entry_asks o s → entry_asks o t
+asks_entry : (o : Option Reading) (s t : ℕ → Bool) → IsWithin s t → EntryAsks o s → EntryAsks o t
 asks_entry None s t w a = tt
 asks_entry (Some r) s t w a = asks_within r s t w a
 

@@ -18,10 +18,10 @@ use Rattle.vic_log.proofs.Sets.{has_here, has_at, has_there, has_cases}
 use Rattle.vic_verdict.specs.declared.demands.Found.{Found}
 use Rattle.vic_verdict.specs.declared.demands.Met.{Met}
 use Rattle.vic_verdict.specs.Possible.{IsPossible}
-use Rattle.vic_verdict.specs.Places.{answering, entry_asks, entry_forces}
+use Rattle.vic_verdict.specs.Places.{answering}
 use Rattle.vic_verdict.specs.Replies.{RepliesAnswer}
 use Rattle.vic_verdict.specs.Demands.{needs_of, needs_at, HasHeard, IsFoundAt, IsFound, Meets, AreFound, IsMet}
-use Rattle.vic_verdict.proofs.Entries.{forced_step, forces_two_iff, forces_one_iff, three_in_two}
+use Rattle.vic_verdict.proofs.Entries.{EntryAsks, EntryForces, forced_step, forces_two_iff, forces_one_iff, three_in_two}
 use Rattle.vic_verdict.proofs.Demanding.{asked_two_or_one}
 use Rattle.vic_verdict.specs.Rising.{Adds}
 use Rattle.vic_verdict.proofs.Supplied.{supplied_all, supplied_each}
@@ -118,7 +118,7 @@ met_by es fs i n a e some =
 pub met_is_possible : (es : List Entry) (set : ℕ → Bool) (us : List ℕ) (fs : List Found) (n : ℕ) → RepliesAnswer es → SameUids set (is_open (slots_of es)) → HasHeard es n us → length es ≤ n → list_all set us ≡ true → AreFound es fs → IsPossible es
 met_is_possible es set us fs n replies same heard long all found = supplied_all es (λ i e below k. go i e k)
   where
-    go : (i : ℕ) (e : Entry) → slice_get es i ≡ Some e → entry_asks (reading_of e) (answering (is_open (slots_of es)) es i)
+    go : (i : ℕ) (e : Entry) → slice_get es i ≡ Some e → EntryAsks (reading_of e) (answering (is_open (slots_of es)) es i)
     go i (Sent q) k = tt
     go i (Listed u) k = tt
     go i FieldCycle k = tt
@@ -182,7 +182,7 @@ certain_more heard old new ys fs k f below is same adds h = record {
 
 -- an entry of the first n places forces the UID
 abbrev ForcedBefore : (ℕ → Bool) → List Entry → ℕ → ℕ → Type 0
-ForcedBefore set es n u = (i : ℕ) × (e : Entry) × (i < n) × (slice_get es i ≡ Some e) × entry_forces (reading_of e) (answering set es i) u
+ForcedBefore set es n u = (i : ℕ) × (e : Entry) × (i < n) × (slice_get es i ≡ Some e) × EntryForces (reading_of e) (answering set es i) u
 
 forced_before : (set : ℕ → Bool) (es : List Entry) (n u : ℕ) → IsForcedBy set (slots_before es n) u → ForcedBefore set es n u
 forced_before set es zero u h = absurd h
@@ -192,12 +192,12 @@ forced_before set es (suc n) u h =
     (λ k. let w = forced_before set es n u k in (w.0, w.1, omega (arith, w.2), w.3, w.4))
     ((forced_step set (answers_at es n) (slice_get es n) (slots_before es n) u).0 h)
 
-forced_at : (set : ℕ → Bool) (es : List Entry) (n i u : ℕ) (e : Entry) → i < n → slice_get es i ≡ Some e → entry_forces (reading_of e) (answering set es i) u → IsForcedBy set (slots_before es n) u
+forced_at : (set : ℕ → Bool) (es : List Entry) (n i u : ℕ) (e : Entry) → i < n → slice_get es i ≡ Some e → EntryForces (reading_of e) (answering set es i) u → IsForcedBy set (slots_before es n) u
 forced_at set es zero i u e below k f = absurd (omega (arith, below))
 forced_at set es (suc n) i u e below k f =
     let step = forced_step set (answers_at es n) (slice_get es n) (slots_before es n) u in
     ⊎_elim
-    (λ here. step.1 (inl (e, subst (λ j. slice_get es j ≡ Some e) here k, subst (λ j. entry_forces (reading_of e) (answering set es j) u) here f)))
+    (λ here. step.1 (inl (e, subst (λ j. slice_get es j ≡ Some e) here k, subst (λ j. EntryForces (reading_of e) (answering set es j) u) here f)))
     (λ ne. step.1 (inr (forced_at set es n i u e (omega (arith, below, ne)) k f)))
     (cases_eq i n)
 
@@ -255,7 +255,7 @@ certain_all es m us k long met h u = (
       let this : Exactly f.need f.uids.items u = (all.0 ∙ (sym e ∙ need), all.1) in
       h.found w.0 u f (omega (arith, below, long)) (subst (λ (y : Found). Exactly y.need y.uids.items u) (sym w.3) this)
 
-  back : (i : ℕ) (e : Entry) → slice_get es i ≡ Some e → entry_forces (reading_of e) (answering (is_open (slots_of es)) es i) u → has us u ≡ true
+  back : (i : ℕ) (e : Entry) → slice_get es i ≡ Some e → EntryForces (reading_of e) (answering (is_open (slots_of es)) es i) u → has us u ≡ true
   back i (Heard r) k f = h.kept u ((met.heard u).1 (i, r, k, f))
   back i Collision k f = exact i 2 (ap needs_of k) (omega arith) (λ xs d a n. two_exact _ xs u d a n f)
   back i Garbled k f = exact i 1 (ap needs_of k) (omega arith) (λ xs d a n. one_exact _ xs u d a n f)

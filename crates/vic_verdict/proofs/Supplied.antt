@@ -6,9 +6,9 @@ use Rattle.vic_tree.specs.OpenSet.{UpToThree}
 use Rattle.vic_log.specs.declared.entry.Entry.{Entry}
 use Rattle.vic_log.specs.Slots.{reading_of, slots_of, is_open}
 use Rattle.vic_verdict.specs.Possible.{IsPossible}
-use Rattle.vic_verdict.specs.Places.{answering, entry_asks}
+use Rattle.vic_verdict.specs.Places.{answering}
 use Rattle.vic_verdict.proofs.Decide.{IsPossible-iff}
-use Rattle.vic_verdict.proofs.Entries.{SuppliesBefore, SuppliesAll-places}
+use Rattle.vic_verdict.proofs.Entries.{EntryAsks, SuppliesBefore, SuppliesAll-places}
 
 -- the same set
 pub UpToThree-same : (s t : ℕ → Bool) (us : List ℕ) → ((u : ℕ) → s u ≡ t u) → UpToThree s us → UpToThree t us
@@ -21,6 +21,6 @@ UpToThree-same s t us e h = record {
 pub supplied_all : (es : List Entry) → SuppliesBefore (is_open (slots_of es)) es (length es) → IsPossible es
 supplied_all es h = (IsPossible-iff es).1 ((SuppliesAll-places (is_open (slots_of es)) es (length es)).1 h)
 
-pub supplied_each : (es : List Entry) (i : ℕ) (e : Entry) → slice_get es i ≡ Some e → IsPossible es → entry_asks (reading_of e) (answering (is_open (slots_of es)) es i)
+pub supplied_each : (es : List Entry) (i : ℕ) (e : Entry) → slice_get es i ≡ Some e → IsPossible es → EntryAsks (reading_of e) (answering (is_open (slots_of es)) es i)
 supplied_each es i e k possible =
     (SuppliesAll-places (is_open (slots_of es)) es (length es)).0 ((IsPossible-iff es).0 possible) i e (slice_get_within es i e k) k

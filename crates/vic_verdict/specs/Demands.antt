@@ -108,8 +108,8 @@ pub record AreMet (es : List Entry) (ds : List Demand) (old new : List Found) : 
   pub few : sum_by (λ (f : Found). f.need) new
       ≤ sum_by (λ (f : Found). f.need) old + sum_by (λ (d : Demand). d.need) ds
 
--- the names and the demands of the entries since the last field cycle before place i, and what meets
--- the slots before
+-- the names and the demands of the entries since the last field cycle before place i, and what
+-- meets the slots before
 pub record AreAsked (es : List Entry) (i : ℕ) (ns : List Name) (ds : List Demand)
     (fs : List Found) : Type 0 where
   pub from : ℕ

@@ -30,8 +30,8 @@ pub record IsSmallPopulation (es : List Entry) (us : List ℕ) : Type 0 where
   pub could : CouldHaveGiven us es
   pub few : AreFew es us
 
--- a population shows what the verdict says: it lacks the absent or doubtful UID, it has the unlisted
--- UID or one of the unsettled mask. None shows that a log is impossible or its list complete
+-- a population shows what the verdict says: it lacks the absent or doubtful UID, it has the
+-- unlisted UID or one of the unsettled mask. None shows that a log is impossible or its list complete
 abbrev pub Shows : Verdict → List ℕ → Type 0
 Shows (Impossible line) us = ⊥
 Shows (Absent u) us = has us u ≡ false

@@ -1,5 +1,5 @@
--- The headline in the words of each version of the log. In version 2 tags are Ready at the start and
--- after each field cycle, a lone reply is heard or garbled, and two or more are a collision or
+-- The headline in the words of each version of the log. In version 2 tags are Ready at the start
+-- and after each field cycle, a lone reply is heard or garbled, and two or more are a collision or
 -- garbled.
 use Rattle.std.specs.Prelude.{◌≡◌, ◌≢◌, ◌↔◌, ◌⊎◌, ℕ, ◌<◌, true, Some, List, ⊤, slice_get}
 use Rattle.vic_frame.specs.Uids.{has}
@@ -11,17 +11,20 @@ use Rattle.vic_log.specs.Populations.{IsPopulation}
 use Rattle.vic_log.specs.Quiet.{silences}
 use Rattle.vic_log.specs.Rounds.{mask_at, lies_in_some}
 
--- some population stands in the relation to the entries, and each that does has exactly the listed UIDs
+-- some population stands in the relation to the entries, and each that does has exactly the listed
+-- UIDs
 abbrev pub HasExactlyListed : (List ℕ → List Entry → Type 0) → List Entry → Type 0
 HasExactlyListed Gives es =
     ((p : List ℕ) × IsPopulation p × Gives p es)
-    × ((p : List ℕ) → IsPopulation p → Gives p es → (u : ℕ) → (has p u ≡ true) ↔ (has (listed es) u ≡ true))
+    × ((p : List ℕ) → IsPopulation p → Gives p es
+    → (u : ℕ) → (has p u ≡ true) ↔ (has (listed es) u ≡ true))
 
 -- the headline for version 1, whose logs know no garbled slots and no field cycles
 abbrev pub IsWholeFirst : List Entry → Type 0
 IsWholeFirst = HasExactlyListed CouldHaveGivenFirst
 
--- a tag with this UID is Ready at place i: behind each Stay Quiet with its UID the field was switched off and on
+-- a tag with this UID is Ready at place i: behind each Stay Quiet with its UID the field was
+-- switched off and on
 abbrev pub IsReady : List Entry → ℕ → ℕ → Type 0
 IsReady es i u =
     (j : ℕ) → j < i → silences (slice_get es j) u ≡ true

@@ -68,11 +68,13 @@ IsVerdict lines (Complete count) =
     × NoSuch (IsDoubtful es)
     × (count ≡ length (listed es))
 
--- the list is whole: some population could have given the entries, and each that could has exactly the listed UIDs
+-- the list is whole: some population could have given the entries, and each that could has exactly
+-- the listed UIDs
 abbrev pub IsWhole : List Entry → Type 0
 IsWhole es =
     IsPossible es
-    × ((p : List ℕ) → IsPopulation p → CouldHaveGiven p es → (u : ℕ) → (has p u ≡ true) ↔ (has (listed es) u ≡ true))
+    × ((p : List ℕ) → IsPopulation p → CouldHaveGiven p es
+    → (u : ℕ) → (has p u ≡ true) ↔ (has (listed es) u ≡ true))
 
 -- some slot line heard the UID
 abbrev pub WasHeard : List Entry → ℕ → Type 0

@@ -4,7 +4,7 @@ use vic_frame::{Mask, Uid};
 
 /// What a log proves of its list of tags (profile): the first answer that applies. It is said of
 /// the populations of tags that could have given the log.
-#[derive(Clone, Copy, PartialEq, Eq, Debug)]
+#[derive(Clone, Copy, Debug, PartialEq, Eq)]
 pub enum Verdict {
     /// No population could have given the lines up to this one, and it is the first such line.
     Impossible { line: u32 },
