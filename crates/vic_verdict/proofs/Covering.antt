@@ -10,6 +10,7 @@ use Rattle.vic_verdict.specs.declared.sweep.Spot.{Spot}
 use Rattle.vic_verdict.specs.Covers.{is_in_cover, IsCover, is_covered, is_in_some, all_leave_named}
 use Rattle.vic_verdict.specs.Sweep.{is_in, is_between, has_left}
 use Rattle.vic_verdict.proofs.Sweeping.{all_cover}
+use Rattle.vic_tree.proofs.Tests.{and_thrice}
 
 -- ---- slot by slot
 
@@ -56,10 +57,6 @@ kept_by_slots ns (s ∷ spots) k = ap (λ b. (not (is_in s k) || has_left ns k) 
 -- the joined masks settle what the slots' masks do
 pub covers_alike : (ns : List Name) (covers : List Cover) (spots : List Spot) (k : ℕ) → is_covered covers k ≡ is_in_some spots k → all_leave_named ns covers k ≡ all_cover ns spots k
 covers_alike ns covers spots k same = kept_by_all ns covers k ∙ (ap (λ b. not b || has_left ns k) same ∙ sym (kept_by_slots ns spots k))
-
-and_thrice : (a b c : Bool) → ((a && b) && c) ≡ (a && (b && c))
-and_thrice true b c = refl
-and_thrice false b c = refl
 
 -- a set after the first i masks
 abbrev pub IsSettledTo : (ℕ → Bool) → (ℕ → Bool) → List Name → List Cover → ℕ → Type 0

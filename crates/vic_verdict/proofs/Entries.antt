@@ -12,6 +12,7 @@ use Rattle.vic_log.specs.Slots.{Reading, NoReply, OneReply, ManyReplies, SomeRep
 use Rattle.vic_tree.specs.OpenSet.{UpToThree}
 use Rattle.vic_verdict.specs.Places.{answering}
 use Rattle.vic_log.proofs.Sets.{has_here, has_at, has_there, has_cases}
+use Rattle.vic_tree.proofs.Tests.{and_true}
 
 -- what a slot line asks of the UIDs that answer there; an entry that is no slot line asks nothing
 abbrev pub EntryAsks : Option Reading → (ℕ → Bool) → Type 0
@@ -29,10 +30,6 @@ EntryForces (Some r) t u = Forces r t u
 abbrev pub entry_allows : Option Reading → Bool → ℕ → Bool
 entry_allows None answers u = true
 entry_allows (Some r) answers u = may_be r answers u
-
-pub and_true : (b : Bool) → (b && true) ≡ b
-and_true true = refl
-and_true false = refl
 
 and_swap : (x y z : Bool) → (x && (y && z)) ≡ ((x && z) && y)
 and_swap true true true = refl

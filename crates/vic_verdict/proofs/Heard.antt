@@ -5,7 +5,7 @@ use Rattle.std.specs.List.{All, list_any}
 use Rattle.std.specs.List.Sorted.{IsPermutation}
 use Rattle.std.proofs.lemmas.List.Sorted.{list_any-IsPermutation}
 use Rattle.std.proofs.lemmas.List.{take-append-drop}
-use Rattle.std.proofs.lemmas.Bool.{cases_eq, and_parts, and_from, both_ways, eqb-true}
+use Rattle.std.proofs.lemmas.Bool.{cases_eq, and_parts, and_from, and_right, both_ways, eqb-true}
 use Rattle.std.proofs.lemmas.Bool.Decides.{nat_tests}
 use Rattle.std.proofs.lemmas.List.Elements.{All-push}
 use Rattle.std.proofs.lemmas.List.Quantifiers.{Any-push}
@@ -28,6 +28,7 @@ use Rattle.vic_verdict.proofs.Silencing.{silenced_permuted}
 use Rattle.vic_verdict.proofs.Stretching.{IsPlaced, placed_next, silenced_next, silenced_after, quiet_named, quiet_next, still_quiet}
 use Rattle.vic_verdict.proofs.Supplied.{supplied_each}
 use Rattle.vic_verdict.proofs.Demanding.{any_kept}
+use Rattle.vic_tree.proofs.Tests.{lt_from, lt_yes}
 
 -- ---- who could have answered
 
@@ -58,22 +59,12 @@ outside_reply es i r k out = up_to_it es i r k (λ answers. both_ways _ out (and
 
 -- ---- the place of a reply
 
-lt_from : (x y : ℕ) → nat_lt x y ≡ true → x < y
-lt_from x y e = grind (arith, nat_tests)
-
-lt_yes : (x y : ℕ) → x < y → nat_lt x y ≡ true
-lt_yes x y e = grind (arith, nat_tests)
-
 none_at_start : (ns : List Name) (k : ℕ) → is_silenced ns k 0 ≡ false
 none_at_start [] k = refl
-none_at_start (n ∷ ns) k = ap (λ b. b || is_silenced ns k 0) (and_no (n.key == k) _ (not_below n.quiet)) ∙ none_at_start ns k
+none_at_start (n ∷ ns) k = ap (λ b. b || is_silenced ns k 0) (and_right (n.key == k) _ (not_below n.quiet)) ∙ none_at_start ns k
   where
     not_below : (q : ℕ) → nat_lt q 0 ≡ false
     not_below q = grind (arith, nat_tests)
-
-    and_no : (a b : Bool) → b ≡ false → (a && b) ≡ false
-    and_no true b e = e
-    and_no false b e = refl
 
 place_of : (n : Name) → n.at < n.quiet → reply_place n ≡ n.at
 place_of n lt = go (nat_lt n.at n.quiet) (lt_yes n.at n.quiet lt)

@@ -10,6 +10,7 @@ use Rattle.vic_verdict.specs.declared.sweep.Name.{Name}
 use Rattle.vic_verdict.specs.Replies.{reply_place, is_quiet_reply, AreReady, IsQuietReply, told_by, told_with, IsEarlier}
 use Rattle.vic_verdict.specs.Sweep.{is_silenced, AreInOrder}
 use Rattle.vic_verdict.proofs.Sweeping.{nobody}
+use Rattle.vic_tree.proofs.Tests.{lt_from, lt_yes}
 
 -- what the first k names tell of the UID of the last one
 pub record AreTold (ns : List Name) (k : ℕ) (t : Told) : Type 0 where
@@ -23,12 +24,6 @@ pub record AreTold (ns : List Name) (k : ℕ) (t : Told) : Type 0 where
 -- of the first k names none heard a UID that another says is Quiet there
 abbrev pub AreReadyTo : List Name → ℕ → Type 0
 AreReadyTo ns k = (i j : ℕ) → i < k → j < k → (get_or ns i nobody).key ≡ (get_or ns j nobody).key → reply_place (get_or ns j nobody) ≤ (get_or ns i nobody).quiet
-
-lt_yes : (x y : ℕ) → x < y → nat_lt x y ≡ true
-lt_yes x y e = grind (arith, nat_tests)
-
-lt_from : (x y : ℕ) → nat_lt x y ≡ true → x < y
-lt_from x y e = grind (arith, nat_tests)
 
 silenced_by : (ns : List Name) (k key i : ℕ) → k < length ns → (get_or ns k nobody).key ≡ key → (get_or ns k nobody).quiet < i → is_silenced ns key i ≡ true
 silenced_by ns k key i below same lt = list_any_at (λ (n : Name). (n.key == key) && nat_lt n.quiet i) ns k nobody below (and_from _ _ (eq-eqb _ _ same) (lt_yes _ _ lt))

@@ -16,9 +16,10 @@ use Rattle.vic_log.specs.declared.entry.Entry.TheVariants.{FieldCycle}
 use Rattle.vic_log.specs.Quiet.{silences, wakes, is_quiet}
 use Rattle.vic_verdict.specs.declared.sweep.Name.{Name}
 use Rattle.vic_verdict.specs.Sweep.{AreInOrder, HaveKeys, is_between, is_silenced}
-use Rattle.vic_verdict.proofs.Sweeping.{between_parts, lt_yes, nobody, where_above}
+use Rattle.vic_verdict.proofs.Sweeping.{between_parts, nobody, where_above}
 use Rattle.vic_verdict.specs.Silenced.{TellsQuiet}
 use Rattle.vic_verdict.proofs.Stretching.{silenced_next, silenced_after, quiet_named, quiet_next, still_quiet}
+use Rattle.vic_tree.proofs.Tests.{lt_yes}
 
 placed_next : (i : ℕ) (ns : List Name) → All (λ (n : Name). n.quiet < i) ns → All (λ (n : Name). n.quiet < i + 1) ns
 placed_next i ns h k d below = let lt = h k d below in omega (arith, lt)

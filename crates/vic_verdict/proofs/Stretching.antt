@@ -2,7 +2,7 @@
 use Rattle.std.proofs.Common.{◌≡◌, ℕ, ◌+◌, ◌<◌, ◌≤◌, ◌==◌, ◌++◌, ◌^◌, List, [], ◌∷◌, Bool, true, false, not, ◌&&◌, ◌||◌, Option, Some, None, refl, sym, ap, ◌∙◌, subst, arith, add-one, inl, inr, ⊎_elim}
 use Rattle.std.specs.Prelude.{◌⊎◌, nat_lt, slice_get}
 use Rattle.std.specs.List.{All}
-use Rattle.std.proofs.lemmas.Bool.{eq-eqb, false≢true, and_parts, and_from}
+use Rattle.std.proofs.lemmas.Bool.{eq-eqb, false≢true, and_parts, and_from, and_right}
 use Rattle.std.proofs.lemmas.Bool.Decides.{nat_tests}
 use Rattle.std.proofs.lemmas.List.Folds.{list_all-append, list_any-append}
 use Rattle.std.proofs.lemmas.List.Elements.{All-push, All-head, All-tail}
@@ -21,16 +21,9 @@ use Rattle.vic_verdict.specs.declared.sweep.Name.{Name}
 use Rattle.vic_verdict.specs.declared.sweep.Spot.{Spot}
 use Rattle.vic_verdict.specs.Sweep.{is_heard, is_in, is_silenced, spot_allows, all_allow, is_named, is_named_if, all_hear_named, are_left}
 use Rattle.vic_verdict.specs.Stretches.{AddsSpot, IsStretch}
-use Rattle.vic_verdict.proofs.Entries.{and_true, entry_allows}
+use Rattle.vic_verdict.proofs.Entries.{entry_allows}
 use Rattle.vic_verdict.proofs.Stands.{open_next}
-
-or_false : (b : Bool) → (b || false) ≡ b
-or_false true = refl
-or_false false = refl
-
-and_no : (b c : Bool) → c ≡ false → (b && c) ≡ false
-and_no true c e = e
-and_no false c e = refl
+use Rattle.vic_tree.proofs.Tests.{and_true, or_false}
 
 pub lt_no : (x y : ℕ) → y ≤ x → nat_lt x y ≡ false
 lt_no x y e = grind (arith, nat_tests)
@@ -41,7 +34,7 @@ pub silenced_pushed : (ns : List Name) (n : Name) (k i : ℕ) → is_silenced (n
 silenced_pushed ns n k i = list_any-append (λ (m : Name). (m.key == k) && nat_lt m.quiet i) ns (n ∷ []) ∙ ap (λ b. is_silenced ns k i || b) (or_false ((n.key == k) && nat_lt n.quiet i))
 
 pub silenced_after : (ns : List Name) (n : Name) (k i : ℕ) → i ≤ n.quiet → is_silenced (ns ++ n ∷ []) k i ≡ is_silenced ns k i
-silenced_after ns n k i h = silenced_pushed ns n k i ∙ (ap (λ b. is_silenced ns k i || b) (and_no (n.key == k) (nat_lt n.quiet i) (lt_no n.quiet i h)) ∙ or_false (is_silenced ns k i))
+silenced_after ns n k i h = silenced_pushed ns n k i ∙ (ap (λ b. is_silenced ns k i || b) (and_right (n.key == k) (nat_lt n.quiet i) (lt_no n.quiet i h)) ∙ or_false (is_silenced ns k i))
 
 -- places of names before i, or at the end of the log
 abbrev pub IsPlaced : ℕ → ℕ → Name → Type 0

@@ -2,7 +2,7 @@
 use Rattle.std.proofs.Common.{◌≡◌, ℕ, zero, suc, ◌+◌, ◌-◌, ◌<◌, ◌≤◌, ◌==◌, List, [], ◌∷◌, length, take, get_or, set, Bool, true, false, not, ◌&&◌, ◌||◌, Option, Some, None, refl, sym, ap, ◌∙◌, subst, arith, add-one, ◌++◌, ◌^◌, ⊎_elim}
 use Rattle.std.specs.Prelude.{nat_le, nat_lt}
 use Rattle.std.specs.List.{list_all, list_any}
-use Rattle.std.proofs.lemmas.Bool.{ne_eqb, cases_eq, cases_lt, false≢true, and_parts, and_from, or_cases, or_left, or_right, eqb-true}
+use Rattle.std.proofs.lemmas.Bool.{ne_eqb, cases_eq, cases_lt, false≢true, and_parts, and_from, and_right, or_cases, or_left, or_right, eqb-true}
 use Rattle.std.proofs.lemmas.Bool.Decides.{nat_tests}
 use Rattle.std.proofs.lemmas.List.{ext_get_or, get_or-map, get_or-set_same, get_or-set_other, length-set, take_all}
 use Rattle.std.proofs.lemmas.List.Folds.{list_all_more, list_any_more, list_any-append}
@@ -17,17 +17,13 @@ use Rattle.vic_verdict.specs.Sweep.{is_heard, slot_leaves, is_between, is_in, sp
 use Rattle.std.specs.List.Sorted.{IsPermutation}
 use Rattle.std.proofs.lemmas.List.Sorted.{list_any-IsPermutation}
 use Rattle.std.proofs.Math.Seq.{take-append_seam}
-use Rattle.vic_verdict.proofs.Entries.{and_true}
+use Rattle.vic_tree.proofs.Tests.{and_thrice, and_true, lt_from, lt_yes, or_false, same_tests}
 
 -- ---- names that are kept
 
 -- a UID with this key lies in no slot, or is left by name
 abbrev pub all_cover : List Name → List Spot → ℕ → Bool
 all_cover ns spots k = list_all (λ s. not (is_in s k) || has_left ns k) spots
-
-and_thrice : (a b c : Bool) → ((a && b) && c) ≡ (a && (b && c))
-and_thrice true b c = refl
-and_thrice false b c = refl
 
 pub keep_twice : (p q : ℕ → ℕ → Bool) (ns : List Name) → keep_all p (keep_all q ns) ≡ keep_all (λ k t. q k t && p k t) ns
 keep_twice p q [] = refl
@@ -138,10 +134,6 @@ runs_more o r spots i s old ns new below is before step =
 
 -- ---- the names that pass a test
 
-or_false : (b : Bool) → (b || false) ≡ b
-or_false true = refl
-or_false false = refl
-
 where_skip : (p : Name → Bool) (ns : List Name) (k i : ℕ) → i < length ns → ((get_or ns i nobody).key ≡ k → ⊥) → has_where p (take (i + 1) ns) k ≡ has_where p (take i ns) k
 where_skip p ns k i below other =
     list_any_more (λ (n : Name). (n.key == k) && p n) ns i nobody below
@@ -171,10 +163,6 @@ and_yes : (a b : Bool) → b ≡ true → (a && b) ≡ a
 and_yes a true e = and_true a
 and_yes a false e = absurd (cc)
 
-and_no : (a b : Bool) → b ≡ false → (a && b) ≡ false
-and_no true b e = e
-and_no false b e = refl
-
 pub where_pushed : (p : Name → Bool) (first : ℕ) (ns : List Name) (us vs : List ℕ) (i v : ℕ) → HasWhere p first ns us i → i < length ns → p (get_or ns i nobody) ≡ true → (get_or ns i nobody).key < 2 ^ 56 → v ≡ uid_of (get_or ns i nobody).key → vs ≡ us ++ v ∷ [] → HasWhere p first ns vs (i + 1)
 where_pushed p first ns us vs i v h below left small is all u w from =
     ap (λ ws. has ws u) all
@@ -187,7 +175,7 @@ pub where_passed : (p : Name → Bool) (first : ℕ) (ns : List Name) (us : List
 where_passed p first ns us i h below left u w from =
     h u w from
     ∙ sym (list_any_more (λ (n : Name). (n.key == mirror u) && p n) ns i nobody below
-    ∙ (ap (λ b. has_where p (take i ns) (mirror u) || b) (and_no _ _ left) ∙ or_false (has_where p (take i ns) (mirror u))))
+    ∙ (ap (λ b. has_where p (take i ns) (mirror u) || b) (and_right _ _ left) ∙ or_false (has_where p (take i ns) (mirror u))))
 
 pub between_parts : (first last k : ℕ) → is_between first last k ≡ true → (first ≤ k) × (k ≤ last)
 between_parts first last k e = let p = and_parts (nat_le first k) (nat_le k last) e in let a = p.0 in let b = p.1 in (grind (arith, nat_tests, a), grind (arith, nat_tests, b))
@@ -199,12 +187,6 @@ where_found p first last ns us i h le above u w e =
     h u w parts.0 ∙ where_above p ns (mirror u) i (length ns - i) (omega (arith, le)) (λ j from lt. let over = above j from lt in omega (arith, over, to))
 
 -- ---- names and slots
-
-lt_test : (x y : ℕ) → nat_lt x y ≡ true → x < y
-lt_test x y e = grind (arith, nat_tests)
-
-pub lt_yes : (x y : ℕ) → x < y → nat_lt x y ≡ true
-lt_yes x y e = grind (arith, nat_tests)
 
 silenced_named : (ns : List Name) (k i : ℕ) → is_silenced ns k i ≡ true → is_named ns k ≡ true
 silenced_named [] k i e = e
@@ -229,7 +211,7 @@ least_here n ns k here h = record {
       or_left _ _ (and_from _ _ here (and_from _ _ l.0 (subst (λ x. p x n.quiet ≡ true) (sym same) e)));
   first = λ i e.
       ⊎_elim
-      (λ now. let lt = (and_parts (n.key == k) (nat_lt n.quiet i) now).1 in lt_test n.quiet i lt)
+      (λ now. let lt = (and_parts (n.key == k) (nat_lt n.quiet i) now).1 in lt_from n.quiet i lt)
       (λ later. h i later)
       (or_cases _ _ e);
 }
@@ -240,7 +222,7 @@ least_there n ns k t h = record {
   left = λ p e all. or_right _ _ (t.left p e (and_parts n.left (are_left ns) all).1);
   first = λ i e.
       ⊎_elim
-      (λ now. let a = and_parts (n.key == k) (nat_lt n.quiet i) now in let lt = lt_test n.quiet i a.1 in let le = h a.0 in omega (arith, lt, le))
+      (λ now. let a = and_parts (n.key == k) (nat_lt n.quiet i) now in let lt = lt_from n.quiet i a.1 in let le = h a.0 in omega (arith, lt, le))
       (λ later. t.first i later)
       (or_cases _ _ e);
 }
@@ -329,14 +311,9 @@ all_unnamed ns k none b (s ∷ ss) h e =
     let w = and_parts _ _ e in
     and_from _ _ (or_left _ _ (unnamed_outside ns s k none v.0 w.0)) (all_unnamed ns k none b ss v.1 w.1)
 
-same_test_of : (a b : Bool) → (a ≡ true → b ≡ true) → (b ≡ true → a ≡ true) → a ≡ b
-same_test_of true b f g = sym (f refl)
-same_test_of false true f g = g refl
-same_test_of false false f g = refl
-
 -- a key lies in no slot or is left by name exactly where all slots allow it
 pub covered_allowed : (ns : List Name) (ss : List Spot) (k : ℕ) → are_left ns ≡ true → all_hear_named ns ss ≡ true → all_cover (keep_all (all_leave ss) ns) ss k ≡ all_allow ns ss k
-covered_allowed ns ss k left named = same_test_of _ _ to from where
+covered_allowed ns ss k left named = same_tests _ _ to from where
   to : all_cover (keep_all (all_leave ss) ns) ss k ≡ true → all_allow ns ss k ≡ true
   to e = go (has_left (keep_all (all_leave ss) ns) k) refl e where
     go : (b : Bool) → has_left (keep_all (all_leave ss) ns) k ≡ b → all_outside ss k b ≡ true → all_allow ns ss k ≡ true
