@@ -11,7 +11,7 @@ use vic_frame::Uid;
 use vic_frame::low_bits_first::uid_at;
 
 /// The UIDs at some keys, from the least to the greatest.
-pub fn uids_at(alloc: Global, keys: &[u64]) -> Result<Vec<Uid>, AllocError>
+pub(crate) fn uids_at(alloc: Global, keys: &[u64]) -> Result<Vec<Uid>, AllocError>
     requires { AreKeys keys.now }
     ensures rising { IfOk result (λ uids. IsStrictlyIncreasing uids.items) }
     ensures members { IfOk result (λ uids. (u : ℕ) → IsUid u

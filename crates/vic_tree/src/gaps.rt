@@ -15,7 +15,7 @@ use std::collections::BTreeMap;
 use vic_frame::{Mask, Uid};
 
 /// Appends the UIDs at the keys from `first` to `last` that are in some ranges and not in a list.
-pub fn gather_besides(
+pub(crate) fn gather_besides(
     out: &mut ArrayVec<Uid, 3>,
     keys: &[u64],
     ranges: &BTreeMap<u64, u64>,
@@ -74,7 +74,7 @@ fn gather_gaps(
 }
 
 /// The widest mask in some ranges without the keys of a list.
-pub fn widest_besides(ranges: &BTreeMap<u64, u64>, keys: &[u64]) -> Option<Mask>
+pub(crate) fn widest_besides(ranges: &BTreeMap<u64, u64>, keys: &[u64]) -> Option<Mask>
     requires order { IsNonDecreasing keys.now }
     requires ranges { AreRanges ranges.now.entries }
     ensures found { IfSome result

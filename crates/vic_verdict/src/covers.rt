@@ -13,7 +13,7 @@ use vic_frame::{Mask, without_top_byte};
 
 /// A mask, and the first and the last key of it.
 #[derive(Clone, Copy)]
-pub struct Cover {
+pub(crate) struct Cover {
     pub first: u64,
     pub last: u64,
     pub mask: Mask,
@@ -82,7 +82,7 @@ fn is_within_last(covers: &[Cover], spot: &Spot) -> bool
 }
 
 /// The masks of some slots. Where the slots stand in order, none of them is inside another.
-pub fn covers_of(alloc: Global, spots: &[Spot]) -> Result<Vec<Cover>, AllocError>
+pub(crate) fn covers_of(alloc: Global, spots: &[Spot]) -> Result<Vec<Cover>, AllocError>
     requires { All HasMask spots.now }
     ensures masks { IfOk result (λ covers. All IsCover covers.items) }
     ensures keys { IfOk result (λ covers. (k : ℕ)

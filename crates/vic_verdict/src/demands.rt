@@ -29,7 +29,7 @@ use vic_tree::OpenSet;
 
 /// What the slots of a possible log ask for, met by its open UIDs.
 #[derive(Drop)]
-pub struct Met {
+pub(crate) struct Met {
     /// The UIDs that were heard, in rising order.
     pub heard: Vec<Uid>,
     /// What meets the slots in which tags answered and none was read: each of these slots is met by
@@ -40,7 +40,7 @@ pub struct Met {
 /// Open UIDs that answer in a slot in which several or some did: all of them where they are fewer
 /// than three, three otherwise.
 #[derive(Drop)]
-pub struct Found {
+pub(crate) struct Found {
     /// How many there have to be: 2 in a collision, 1 in a garbled slot.
     pub need: usize,
     pub uids: ArrayVec<Uid, 3>,
@@ -49,7 +49,7 @@ pub struct Found {
 /// A slot in which tags answered and none was read. In order, the slots of one mask stand together,
 /// the last one last.
 #[derive(Clone, Copy, PartialEq, Eq, PartialOrd, Ord)]
-pub struct Demand {
+pub(crate) struct Demand {
     /// The first key of its mask.
     pub first: u64,
     pub mask: Option<Mask>,
@@ -91,7 +91,7 @@ fn first_key(mask: &Mask) -> u64 {
 }
 
 /// Gathers what an entry tells that isn't a field cycle.
-pub fn note_asked(
+pub(crate) fn note_asked(
     names: &mut Vec<Name>,
     demands: &mut Vec<Demand>,
     mask: &Option<Mask>,
@@ -189,7 +189,7 @@ fn meet_each<S: OpenSet>(
 }
 
 /// Finds what meets the slots of a stretch, and whether all of them are met.
-pub fn meet_stretch<S: OpenSet>(
+pub(crate) fn meet_stretch<S: OpenSet>(
     alloc: Global,
     set: &S,
     names: &mut Vec<Name>,

@@ -13,7 +13,7 @@ const NEVER: u32 = u32::MAX;
 /// What becomes of each part of the UIDs. All UIDs of a part fare alike, and what falls silent is a
 /// part of its own.
 #[derive(Drop)]
-pub struct Fates {
+pub(crate) struct Fates {
     /// The number of the line that rules a part out.
     ends: Vec<u32>,
     /// The same, but 0 at parts that are Quiet.
@@ -24,7 +24,7 @@ pub struct Fates {
 
 impl Fates {
     /// So many parts that are Ready, and not ruled out.
-    pub fn new(alloc: Global, count: u32) -> Result<Fates, AllocError> {
+    pub(crate) fn new(alloc: Global, count: u32) -> Result<Fates, AllocError> {
         Ok(Fates {
             ends: vec![in alloc; NEVER; count as usize]?,
             loud_ends: Peaks::new(alloc, count, NEVER)?,
@@ -62,7 +62,7 @@ impl Fates {
     }
 
     /// Goes over all steps, and notes what each slot rules out. All are Ready then.
-    pub fn live_through(&mut self, steps: &[Step]) -> Result<(), AllocError> {
+    pub(crate) fn live_through(&mut self, steps: &[Step]) -> Result<(), AllocError> {
         for step in steps {
             match *step {
                 Step::Quiet(part) => self.silence(part)?,
@@ -109,7 +109,11 @@ impl Fates {
 
     /// The number of the first line at which some slot lacks what it was found to hold, if one
     /// does.
-    pub fn first_lack(&mut self, steps: &[Step], parts: &Parts) -> Result<Option<u32>, AllocError> {
+    pub(crate) fn first_lack(
+        &mut self,
+        steps: &[Step],
+        parts: &Parts,
+    ) -> Result<Option<u32>, AllocError> {
         let mut first = NEVER;
         for step in steps {
             match *step {

@@ -41,7 +41,7 @@ fn first_guess(contradiction: Contradiction, count: usize) -> Option<usize>
 
 /// The number of the first line up to which no population could have given the log, found by
 /// halving: what is impossible stays so when lines follow. Halving begins at a guess.
-pub fn first_impossible_line<S: OpenSet>(
+pub(crate) fn first_impossible_line<S: OpenSet>(
     alloc: Global,
     lines: &[LogLine],
     contradiction: Contradiction,

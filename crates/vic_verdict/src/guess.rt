@@ -14,7 +14,7 @@ const BEGINNINGS: [usize; 3] = [1_000, 10_000, 100_000];
 
 /// How many lines come before the first one up to which no population could have given a log; all
 /// where there is none.
-pub fn guess_impossible_line(alloc: Global, lines: &[LogLine]) -> Result<usize, AllocError>
+pub(crate) fn guess_impossible_line(alloc: Global, lines: &[LogLine]) -> Result<usize, AllocError>
     ensures { IfOk result (λ index. index ≤ length lines.now) }
 {
     for count in BEGINNINGS {

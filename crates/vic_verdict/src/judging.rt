@@ -25,7 +25,7 @@ use vic_log::{Log, LogLine};
 use vic_tree::{OpenSet, RangeSet};
 
 /// The verdict on a possible log, by the UIDs that it leaves open and what they meet.
-pub fn judge_possible<S: OpenSet>(
+pub(crate) fn judge_possible<S: OpenSet>(
     alloc: Global,
     set: S,
     met: &Met,

@@ -6,7 +6,7 @@ ghost use Rattle.vic_verdict.specs.Sweep.{slot_leaves, level_leaves, IsLevel};
 /// The slots of one mask: the place of the first one, whom it heard, and the place of the first one
 /// that heard another, or nobody in place of somebody.
 #[derive(Clone, Copy)]
-pub struct Level {
+pub(crate) struct Level {
     pub line: usize,
     pub heard: Option<u64>,
     pub other: Option<usize>,
@@ -14,7 +14,7 @@ pub struct Level {
 
 impl Level {
     /// One slot.
-    pub fn of(at: usize, heard: Option<u64>) -> Level
+    pub(crate) fn of(at: usize, heard: Option<u64>) -> Level
         ensures level { IsLevel result }
         ensures leaves { (k q : ℕ) → level_leaves result k q ≡ slot_leaves at heard k q }
     {
@@ -26,7 +26,7 @@ impl Level {
     }
 
     /// With one slot more.
-    pub fn with(&self, at: usize, heard: Option<u64>) -> Level
+    pub(crate) fn with(&self, at: usize, heard: Option<u64>) -> Level
         requires { IsLevel self.now }
         ensures level { IsLevel result }
         ensures leaves { (k q : ℕ)
@@ -58,7 +58,7 @@ impl Level {
     }
 
     /// Whether a key that is Quiet after a place is left.
-    pub fn leaves(&self, key: u64, quiet: usize) -> bool
+    pub(crate) fn leaves(&self, key: u64, quiet: usize) -> bool
         ensures { result ≡ level_leaves self.now key quiet }
     {
         if self.heard == Some(key) {

@@ -10,7 +10,7 @@ const MOST_INDEX_BITS: u32 = 24;
 
 /// The borders between the parts: part `i` has the keys from border `i` to the one before the next.
 #[derive(Drop)]
-pub struct Parts {
+pub(crate) struct Parts {
     /// In rising order.
     borders: Vec<u64>,
     /// How many borders are lower than the least key with given top bits, so that a border is
@@ -60,7 +60,7 @@ fn sum_up(counts: &mut [u32]) {
 
 impl Parts {
     /// The parts between some borders.
-    pub fn between(alloc: Global, mut borders: Vec<u64>) -> Result<Parts, AllocError> {
+    pub(crate) fn between(alloc: Global, mut borders: Vec<u64>) -> Result<Parts, AllocError> {
         borders.sort_unstable();
         borders.dedup();
         let bits = (borders.len() + 1).ilog2().min(MOST_INDEX_BITS);
@@ -75,12 +75,12 @@ impl Parts {
     }
 
     /// How many there are.
-    pub fn count(&self) -> u32 {
+    pub(crate) fn count(&self) -> u32 {
         number_of(self.borders.len())
     }
 
     /// The part that begins at a border.
-    pub fn part_at(&self, border: u64) -> u32 {
+    pub(crate) fn part_at(&self, border: u64) -> u32 {
         let top = (border >> self.shift) as usize;
         let (Some(from), Some(to)) = (self.lower.get(top), self.lower.get(top.saturating_add(1)))
         else {
@@ -93,7 +93,7 @@ impl Parts {
     }
 
     /// The parts from one border to another.
-    pub fn span(&self, from: u64, to: u64) -> Span {
+    pub(crate) fn span(&self, from: u64, to: u64) -> Span {
         Span {
             from: self.part_at(from),
             to: self.part_at(to),
@@ -101,7 +101,7 @@ impl Parts {
     }
 
     /// Whether a part has more UIDs than one.
-    pub fn has_several(&self, part: u32) -> bool {
+    pub(crate) fn has_several(&self, part: u32) -> bool {
         let part = part as usize;
         match (self.borders.get(part), self.borders.get(part + 1)) {
             (Some(from), Some(to)) => *from < to.saturating_sub(1),

@@ -6,7 +6,7 @@ use std::alloc::{AllocError, Global};
 
 /// A number of a row, and its index there.
 #[derive(Clone, Copy)]
-pub struct Peak {
+pub(crate) struct Peak {
     pub value: u32,
     pub index: u32,
 }
@@ -21,13 +21,13 @@ fn greater(a: Peak, b: Peak) -> Peak {
 /// Numbers in a row, as a tree in one list: the node `i` is the greater of the nodes `2 i` and
 /// `2 i + 1`, the numbers themselves are the second half, and no node is in use at 0.
 #[derive(Drop)]
-pub struct Peaks {
+pub(crate) struct Peaks {
     nodes: Vec<Peak>,
 }
 
 impl Peaks {
     /// So many numbers, all equal.
-    pub fn new(alloc: Global, count: u32, value: u32) -> Result<Peaks, AllocError> {
+    pub(crate) fn new(alloc: Global, count: u32, value: u32) -> Result<Peaks, AllocError> {
         let count = count as usize;
         let mut nodes = vec![in alloc; Peak { value, index: 0 }; 2 * count]?;
         for index in 0..count {
@@ -40,7 +40,7 @@ impl Peaks {
     }
 
     /// Puts a number at an index, if the row has it.
-    pub fn set(&mut self, index: u32, value: u32) {
+    pub(crate) fn set(&mut self, index: u32, value: u32) {
         let nodes = self.nodes.as_mut_slice();
         let count = nodes.len() / 2;
         if (index as usize) < count {
@@ -54,7 +54,7 @@ impl Peaks {
     }
 
     /// The greatest number from the index `from` to the one before `to`.
-    pub fn greatest(&self, from: u32, to: u32) -> Peak {
+    pub(crate) fn greatest(&self, from: u32, to: u32) -> Peak {
         let nodes = self.nodes.as_slice();
         let count = nodes.len() / 2;
         let mut best = NOTHING;

@@ -37,7 +37,7 @@ fn add_chosen(uids: &mut Vec<Uid>, found: &Found, avoid: &Option<Uid>) -> Result
 
 /// The UIDs that were heard, and of each collision two that answer and of each garbled slot one,
 /// other than the one to avoid: in rising order.
-pub fn gather(met: Met, avoid: &Option<Uid>) -> Result<Vec<Uid>, AllocError>
+pub(crate) fn gather(met: Met, avoid: &Option<Uid>) -> Result<Vec<Uid>, AllocError>
     ensures rising { IfOk result (λ v. IsStrictlyIncreasing v.items) }
     ensures members { IfOk result (λ v. SameMembers v.items (gathered avoid.now met)) }
 {
@@ -53,7 +53,7 @@ pub fn gather(met: Met, avoid: &Option<Uid>) -> Result<Vec<Uid>, AllocError>
 }
 
 /// UIDs and one UID more: in rising order.
-pub fn with_uid(mut tags: Vec<Uid>, uid: Uid) -> Result<Vec<Uid>, AllocError>
+pub(crate) fn with_uid(mut tags: Vec<Uid>, uid: Uid) -> Result<Vec<Uid>, AllocError>
     ensures rising { IfOk result (λ v. IsStrictlyIncreasing v.items) }
     ensures members { IfOk result (λ v. SameMembers v.items (tags.items ++ uid ∷ [])) }
 {

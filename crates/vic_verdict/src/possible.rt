@@ -8,13 +8,13 @@ use vic_log::LogLine;
 /// The place of a line of a log, counted from 0, up to which no population could have given it.
 /// Earlier ones may do as well.
 #[derive(Clone, Copy)]
-pub struct Contradiction {
+pub(crate) struct Contradiction {
     pub at: usize,
 }
 
 impl Contradiction {
     /// The last line.
-    pub fn at_end(lines: &[LogLine]) -> Contradiction
+    pub(crate) fn at_end(lines: &[LogLine]) -> Contradiction
         requires { IsPossible (entries lines.now) → ⊥ }
         ensures { IsContradictedAt (entries lines.now) result.at }
     {

@@ -9,7 +9,7 @@ use crate::sweep::Name;
 /// What lines tell of one UID: the place after which it is Quiet, and the last one at which it was
 /// heard, 0 where it wasn't.
 #[derive(Clone, Copy)]
-pub struct Told {
+pub(crate) struct Told {
     pub key: u64,
     pub quiet: usize,
     pub heard: usize,
@@ -61,7 +61,7 @@ fn earlier(first: Option<usize>, told: &Told) -> Option<usize>
 }
 
 /// The place of a reply by a UID that was Quiet there, if there is one.
-pub fn quiet_reply(names: &[Name]) -> Option<usize>
+pub(crate) fn quiet_reply(names: &[Name]) -> Option<usize>
     requires { AreInOrder names.now }
     ensures fit { result ≡ None → AreReady names.now }
     ensures unfit { IfSome result (IsQuietReply names.now) }

@@ -10,7 +10,7 @@ use vic_frame::Uid;
 pub use vic_tree::rising::{is_among, put_in_order};
 
 /// The least UID of a rising list that fails a test.
-pub fn least_failing<F: Fn(Uid) -> bool>(uids: &[Uid], test: F) -> Option<Uid>
+pub(crate) fn least_failing<F: Fn(Uid) -> bool>(uids: &[Uid], test: F) -> Option<Uid>
     requires rising { IsStrictlyIncreasing uids.now }
     requires callable { F.IsAlwaysCallable test }
     ensures { (passes : ℕ → Bool) → ((u : ℕ) (b : Bool) → F.post test u b → b ≡ passes u)

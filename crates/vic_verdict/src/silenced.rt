@@ -18,7 +18,7 @@ use vic_frame::low_bits_first::key;
 use vic_frame::{Request, Uid};
 
 /// Gathers whom a request silences.
-pub fn note_silenced(
+pub(crate) fn note_silenced(
     names: &mut Vec<Name>,
     request: &Request,
     index: usize,
@@ -38,7 +38,7 @@ pub fn note_silenced(
 }
 
 /// Whether a UID is Quiet at a place.
-pub fn is_silenced(names: &[Name], uid: Uid, at: usize) -> bool
+pub(crate) fn is_silenced(names: &[Name], uid: Uid, at: usize) -> bool
     requires { AreInOrder names.now }
     ensures { result ≡ is_silenced names.now (mirror uid) at }
 {
@@ -57,7 +57,7 @@ pub fn is_silenced(names: &[Name], uid: Uid, at: usize) -> bool
 }
 
 /// Whether one of some UIDs is Quiet at a place.
-pub fn is_any_silenced(names: &[Name], uids: &[Uid], at: usize) -> bool
+pub(crate) fn is_any_silenced(names: &[Name], uids: &[Uid], at: usize) -> bool
     requires { AreInOrder names.now }
     ensures { result ≡ list_any (λ u. is_silenced names.now (mirror u) at) uids.now }
 {
@@ -70,7 +70,7 @@ pub fn is_any_silenced(names: &[Name], uids: &[Uid], at: usize) -> bool
 }
 
 /// The keys from `first` to `last` of the UIDs that are Quiet at a place, in order.
-pub fn silenced_between(
+pub(crate) fn silenced_between(
     alloc: Global,
     names: &[Name],
     first: u64,

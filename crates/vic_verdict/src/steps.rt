@@ -8,14 +8,14 @@ use vic_log::{Entry, LogLine, RoundCursor};
 
 /// Parts that stand together: from the number `from` to the one before `to`.
 #[derive(Clone, Copy)]
-pub struct Span {
+pub(crate) struct Span {
     pub from: u32,
     pub to: u32,
 }
 
 impl Span {
     /// What of it comes before a part.
-    pub fn before(&self, part: u32) -> Span {
+    pub(crate) fn before(&self, part: u32) -> Span {
         Span {
             from: self.from,
             to: self.to.min(part),
@@ -23,7 +23,7 @@ impl Span {
     }
 
     /// What of it comes after a part.
-    pub fn after(&self, part: u32) -> Span {
+    pub(crate) fn after(&self, part: u32) -> Span {
         Span {
             from: self.from.max(part.saturating_add(1)),
             to: self.to,
@@ -33,7 +33,7 @@ impl Span {
 
 /// What a slot was found to hold.
 #[derive(Clone, Copy)]
-pub enum Found {
+pub(crate) enum Found {
     /// Nobody.
     Nobody,
     /// One UID, which was read.
@@ -46,7 +46,7 @@ pub enum Found {
 
 /// What a line does.
 #[derive(Clone, Copy)]
-pub enum Step {
+pub(crate) enum Step {
     /// A UID falls silent.
     Quiet(u32),
     /// All are Ready again.
@@ -97,7 +97,7 @@ fn push_borders(
 }
 
 /// The parts of the UIDs that fare alike in a log.
-pub fn parts_of(alloc: Global, lines: &[LogLine]) -> Result<Parts, AllocError> {
+pub(crate) fn parts_of(alloc: Global, lines: &[LogLine]) -> Result<Parts, AllocError> {
     let mut borders = Vec::new(alloc);
     let mut rounds = RoundCursor::first();
     for line in lines {
@@ -128,7 +128,11 @@ fn step_of(line: &LogLine, rounds: &RoundCursor, parts: &Parts) -> Option<Step> 
 }
 
 /// What the lines of a log do.
-pub fn steps_of(alloc: Global, lines: &[LogLine], parts: &Parts) -> Result<Vec<Step>, AllocError> {
+pub(crate) fn steps_of(
+    alloc: Global,
+    lines: &[LogLine],
+    parts: &Parts,
+) -> Result<Vec<Step>, AllocError> {
     let mut steps = Vec::new(alloc);
     let mut rounds = RoundCursor::first();
     for line in lines {

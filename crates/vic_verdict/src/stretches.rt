@@ -50,7 +50,12 @@ fn push_spot(
 }
 
 /// Adds a line that names a UID, with its place and the one after which the UID is Quiet by it.
-pub fn push_name(names: &mut Vec<Name>, uid: Uid, at: usize, quiet: usize) -> Result<(), AllocError>
+pub(crate) fn push_name(
+    names: &mut Vec<Name>,
+    uid: Uid,
+    at: usize,
+    quiet: usize,
+) -> Result<(), AllocError>
     ensures { OnOk result
         ((names.new.items ≡ names.old.items
         ++ record { key = mirror uid; at = at; quiet = quiet; left = true } ∷ [])
@@ -142,7 +147,7 @@ fn note_entry(
 
 /// The UIDs that the silent and answered slots of a log leave open, unless a UID was heard that
 /// couldn't have answered there.
-pub fn settle_all<S: OpenSet>(
+pub(crate) fn settle_all<S: OpenSet>(
     alloc: Global,
     lines: &[LogLine],
 ) -> Result<Result<S, Contradiction>, AllocError>

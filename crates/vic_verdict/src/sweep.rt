@@ -28,7 +28,7 @@ use vic_tree::OpenSet;
 /// which the UID is Quiet by it; the end of the log where it is heard. And whether the slots looked
 /// at so far leave it open.
 #[derive(Clone, Copy)]
-pub struct Name {
+pub(crate) struct Name {
     pub key: u64,
     pub at: usize,
     pub quiet: usize,
@@ -38,7 +38,7 @@ pub struct Name {
 /// A silent or an answered slot: the first and the last key of its mask, its place, and the key
 /// that was heard.
 #[derive(Clone, Copy)]
-pub struct Spot {
+pub(crate) struct Spot {
     pub first: u64,
     pub mask: Mask,
     pub last: u64,
@@ -48,7 +48,7 @@ pub struct Spot {
 
 /// Slots of one mask, one after another.
 #[derive(Clone, Copy)]
-pub struct Run {
+pub(crate) struct Run {
     pub first: u64,
     pub last: u64,
     pub level: Level,
@@ -178,7 +178,7 @@ fn settle_masks<S: OpenSet>(
 /// Settles what the silent and answered slots of some lines tell, by the UIDs that these lines
 /// name. The place of a reply by a UID that was Quiet there, if there is one: then nothing is
 /// settled.
-pub fn settle_stretch<S: OpenSet>(
+pub(crate) fn settle_stretch<S: OpenSet>(
     alloc: Global,
     set: &mut S,
     names: &mut Vec<Name>,

@@ -15,7 +15,7 @@ use vic_tree::OpenSet;
 
 /// The first unsettled mask of a possible log, by the UIDs that it leaves open and those that it
 /// lists: the widest one that is left when the listed UIDs are taken out.
-pub fn first_unsettled<S: OpenSet>(
+pub(crate) fn first_unsettled<S: OpenSet>(
     alloc: Global,
     set: S,
     listed: &[Uid],
