@@ -10,7 +10,7 @@ use Rattle.vic_verdict.specs.declared.sweep.Spot.{Spot}
 use Rattle.vic_verdict.specs.Covers.{is_in_cover, IsCover, is_covered, is_in_some, all_leave_named}
 use Rattle.vic_verdict.specs.Sweep.{is_in, is_between, has_left}
 use Rattle.vic_verdict.proofs.Sweeping.{all_cover}
-use Rattle.vic_tree.proofs.Tests.{and_thrice}
+use Rattle.vic_tree.proofs.BoolLaws.{and_thrice}
 
 -- ---- slot by slot
 

@@ -12,7 +12,7 @@ use Rattle.vic_log.specs.Slots.{Reading, NoReply, OneReply, ManyReplies, SomeRep
 use Rattle.vic_tree.specs.OpenSet.{UpToThree}
 use Rattle.vic_verdict.specs.Places.{answering}
 use Rattle.vic_log.proofs.Sets.{has_here, has_at, has_there, has_cases}
-use Rattle.vic_tree.proofs.Tests.{and_true}
+use Rattle.vic_tree.proofs.BoolLaws.{and_true}
 
 -- what a slot line asks of the UIDs that answer there; an entry that is no slot line asks nothing
 abbrev pub EntryAsks : Option Reading → (ℕ → Bool) → Type 0

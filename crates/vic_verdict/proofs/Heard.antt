@@ -28,7 +28,7 @@ use Rattle.vic_verdict.proofs.Silencing.{silenced_permuted}
 use Rattle.vic_verdict.proofs.Stretching.{IsPlaced, placed_next, silenced_next, silenced_after, quiet_named, quiet_next, still_quiet}
 use Rattle.vic_verdict.proofs.Supplied.{supplied_each}
 use Rattle.vic_verdict.proofs.Demanding.{any_kept}
-use Rattle.vic_tree.proofs.Tests.{lt_from, lt_yes}
+use Rattle.vic_tree.proofs.BoolLaws.{lt_from, lt_yes}
 
 -- ---- who could have answered
 

@@ -10,7 +10,7 @@ use Rattle.vic_verdict.specs.declared.sweep.Name.{Name}
 use Rattle.vic_verdict.specs.Replies.{reply_place, is_quiet_reply, AreReady, IsQuietReply, told_by, told_with, IsEarlier}
 use Rattle.vic_verdict.specs.Sweep.{is_silenced, AreInOrder}
 use Rattle.vic_verdict.proofs.Sweeping.{nobody}
-use Rattle.vic_tree.proofs.Tests.{lt_from, lt_yes}
+use Rattle.vic_tree.proofs.BoolLaws.{lt_from, lt_yes}
 
 -- what the first k names tell of the UID of the last one
 pub record AreTold (ns : List Name) (k : ℕ) (t : Told) : Type 0 where

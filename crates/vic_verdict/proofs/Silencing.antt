@@ -19,7 +19,7 @@ use Rattle.vic_verdict.specs.Sweep.{AreInOrder, HaveKeys, is_between, is_silence
 use Rattle.vic_verdict.proofs.Sweeping.{between_parts, nobody, where_above}
 use Rattle.vic_verdict.specs.Silenced.{TellsQuiet}
 use Rattle.vic_verdict.proofs.Stretching.{silenced_next, silenced_after, quiet_named, quiet_next, still_quiet}
-use Rattle.vic_tree.proofs.Tests.{lt_yes}
+use Rattle.vic_tree.proofs.BoolLaws.{lt_yes}
 
 placed_next : (i : ℕ) (ns : List Name) → All (λ (n : Name). n.quiet < i) ns → All (λ (n : Name). n.quiet < i + 1) ns
 placed_next i ns h k d below = let lt = h k d below in omega (arith, lt)

@@ -12,7 +12,7 @@ use Rattle.vic_log.specs.Slots.{reading_of, slots_before, is_open}
 use Rattle.vic_log.specs.Order.{entries}
 use Rattle.vic_log.proofs.Supply.{is_uid_from}
 use Rattle.vic_verdict.proofs.Entries.{entry_allows, open_step}
-use Rattle.vic_tree.proofs.Tests.{and_true}
+use Rattle.vic_tree.proofs.BoolLaws.{and_true}
 
 -- the entry of a line
 pub entry_at : (lines : List LogLine) (i : ℕ) (l : LogLine) → i < length lines → l ≡ get_or lines i l → slice_get (entries lines) i ≡ Some l.item

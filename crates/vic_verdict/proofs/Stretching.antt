@@ -23,7 +23,7 @@ use Rattle.vic_verdict.specs.Sweep.{is_heard, is_in, is_silenced, spot_allows, a
 use Rattle.vic_verdict.specs.Stretches.{AddsSpot, IsStretch}
 use Rattle.vic_verdict.proofs.Entries.{entry_allows}
 use Rattle.vic_verdict.proofs.Stands.{open_next}
-use Rattle.vic_tree.proofs.Tests.{and_true, or_false}
+use Rattle.vic_tree.proofs.BoolLaws.{and_true, or_false}
 
 pub lt_no : (x y : ℕ) → y ≤ x → nat_lt x y ≡ false
 lt_no x y e = grind (arith, nat_tests)

@@ -17,7 +17,7 @@ use Rattle.vic_verdict.specs.Sweep.{is_heard, slot_leaves, is_between, is_in, sp
 use Rattle.std.specs.List.Sorted.{IsPermutation}
 use Rattle.std.proofs.lemmas.List.Sorted.{list_any-IsPermutation}
 use Rattle.std.proofs.Math.Seq.{take-append_seam}
-use Rattle.vic_tree.proofs.Tests.{and_thrice, and_true, lt_from, lt_yes, or_false, same_tests}
+use Rattle.vic_tree.proofs.BoolLaws.{and_thrice, and_true, lt_from, lt_yes, or_false, same_tests}
 
 -- ---- names that are kept
 

@@ -7,7 +7,7 @@ use Rattle.vic_verdict.specs.declared.sweep.Name.{Name}
 use Rattle.vic_verdict.specs.Sweep.{is_silenced}
 use Rattle.vic_verdict.proofs.Sweeping.{nobody, where_below, where_above}
 use Rattle.vic_verdict.proofs.silenced.is_silenced.Goals as goal
-use Rattle.vic_tree.proofs.Tests.{lt_yes}
+use Rattle.vic_tree.proofs.BoolLaws.{lt_yes}
 
 pub loop-i-init : goal.loop-i-init
 loop-i-init c =

@@ -1,7 +1,7 @@
 use Rattle.std.proofs.Common.{sym, subst, List, ℕ}
 use Rattle.vic_tree.specs.OpenSet.{SameUids, settled}
 use Rattle.vic_verdict.specs.Covers.{IsCover}
-use Rattle.vic_tree.proofs.Tests.{and_true}
+use Rattle.vic_tree.proofs.BoolLaws.{and_true}
 use Rattle.vic_verdict.proofs.Covering.{settled_more}
 use Rattle.vic_verdict.proofs.sweep.settle_masks.Goals as goal
 
