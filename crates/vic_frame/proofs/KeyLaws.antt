@@ -1,28 +1,24 @@
 -- Keys of 56 bits, in the order of low bits first, and the UIDs that they stand for.
-use Rattle.std.proofs.Common.{false, ◌&&◌, ◌==◌, ◌≡◌, ℕ, ◌^◌, ◌<◌, sym, ap, ◌∙◌, arith}
-use Rattle.std.specs.Prelude.{nat_le, nat_eq}
+use Rattle.std.proofs.Common.{false, ◌==◌, ◌≡◌, ℕ, ◌^◌, ◌<◌, sym, ap, ◌∙◌, arith}
+use Rattle.std.specs.Prelude.{nat_eq}
 use Rattle.std.specs.declared.cmp.Ordering.TheVariants.{Less}
 use Rattle.std.specs.Ordering.{nat_cmp, is_eq}
 use Rattle.std.proofs.lemmas.Bool.Decides.{nat_tests}
 use Rattle.std.proofs.lemmas.Cmp.{ranked}
 use Rattle.vic_frame.specs.Uids.{IsUid}
-use Rattle.vic_frame.specs.LowBitsFirst.{mirror_bits, mirror, uid_of}
+use Rattle.vic_frame.specs.LowBitsFirst.{IsKey, mirror_bits, mirror, uid_of}
 use Rattle.vic_frame.proofs.MirrorLaws.{mirror_below, mirror_of_uid, uid_of_mirror, same_test}
-
--- a key of 56 bits
-abbrev pub IsKey : ℕ → Type 0
-IsKey k = k < 2 ^ 56
 
 pub is_uid : (k : ℕ) → IsUid (uid_of k)
 is_uid k = let h : mirror_bits 56 k < 2 ^ 56 = mirror_below 56 k in (omega arith, omega arith)
 
-pub key_test : (u k : ℕ) → IsUid u → k < 2 ^ 56 → is_eq (nat_cmp (mirror u) k) ≡ (u == uid_of k)
+pub key_test : (u k : ℕ) → IsUid u → IsKey k → is_eq (nat_cmp (mirror u) k) ≡ (u == uid_of k)
 key_test u k h small = plain (mirror u) k ∙ same_test (mirror u) k u (uid_of k) (λ e. sym (uid_of_mirror u h) ∙ ap uid_of e) (λ e. ap mirror e ∙ mirror_of_uid k small) where
   plain : (a b : ℕ) → is_eq (nat_cmp a b) ≡ (a == b)
   plain a b = grind (arith, nat_tests)
 
 -- a key below another stands for another UID
-pub differ : (k j : ℕ) → k < 2 ^ 56 → j < 2 ^ 56 → nat_cmp k j ≡ Less → nat_eq (uid_of k) (uid_of j) ≡ false
+pub differ : (k j : ℕ) → IsKey k → IsKey j → nat_cmp k j ≡ Less → nat_eq (uid_of k) (uid_of j) ≡ false
 differ k j small low less = apart (uid_of k) (uid_of j) (λ e.
     let below : k < j = ranked k j Less (sym less) in
     let same : k ≡ j = sym (mirror_of_uid k small) ∙ ap mirror e ∙ mirror_of_uid j low in

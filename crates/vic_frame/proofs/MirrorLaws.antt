@@ -8,7 +8,7 @@ use Rattle.std.proofs.lemmas.Bool.Decides.{nat_tests}
 use Rattle.std.proofs.Math.Nat.{add_assoc, add-mul, mul_assoc, mul_comm, pow-suc, div-one, mod-one, mod-eq_of_lt, div-eq_of_lt, mul-le-mul_right, suc-mul}
 use Rattle.vic_frame.proofs.MaskLaws.{mod_mod_pow}
 use Rattle.vic_frame.specs.Uids.{IsUid}
-use Rattle.vic_frame.specs.LowBitsFirst.{mirror_bits, mirror, uid_of}
+use Rattle.vic_frame.specs.LowBitsFirst.{IsKey, mirror_bits, mirror, uid_of}
 
 pow_more : (k : ℕ) → 2 ^ suc k ≡ 2 * 2 ^ k
 pow_more k = pow-suc 2 k ∙ mul_comm (2 ^ k) 2
@@ -102,7 +102,7 @@ mirror_is u =
 pub uid_of_mirror : (u : ℕ) → IsUid u → uid_of (mirror u) ≡ u
 uid_of_mirror u h = let e : mirror_bits 56 (mirror_bits 56 u) ≡ u % 2 ^ 56 = mirror_twice 56 u in omega arith
 
-pub mirror_of_uid : (k : ℕ) → k < 2 ^ 56 → mirror (uid_of k) ≡ k
+pub mirror_of_uid : (k : ℕ) → IsKey k → mirror (uid_of k) ≡ k
 mirror_of_uid k h =
     let e : mirror_bits 56 (mirror_bits 56 k) ≡ k % 2 ^ 56 = mirror_twice 56 k in
     let s : mirror_bits 56 k < 2 ^ 56 = mirror_below 56 k in

@@ -2,6 +2,7 @@
 use Rattle.std.specs.Prelude.{ℕ, ◌+◌, ◌-◌, ◌/◌, ◌^◌, ◌==◌, ◌&&◌, not, Bool, Option, Some, None, List, [], ◌∷◌, ◌++◌, length, slice_index, slice_range, nat_lt, if◌then◌else◌}
 use Rattle.vic_frame.specs.declared.fault.FrameFault.{FrameFault}
 use Rattle.vic_frame.specs.declared.fault.FrameFault.TheVariants.{Short, Crc, Extension, Reserved, OptionFlag, OtherCommand, InventoryFlag, Afi, Length, MaskTooLong, MaskPadding, SelectFlag, NotAddressed, ErrorFlag, NotVicinity}
+use Rattle.vic_frame.specs.declared.uid.TheConstants.{UID_BITS}
 use Rattle.vic_frame.specs.declared.mask.TheConstants.{MAX_MASK_LEN, MAX_MASK_LEN_OF_SIXTEEN}
 use Rattle.vic_frame.specs.Bytes.{number_of, bit}
 use Rattle.vic_frame.specs.Crc.{crc_right}
@@ -78,5 +79,5 @@ reply_faults f =
     (Length, not (length f == 12))
     ∷ (Crc, not (crc_right f))
     ∷ (ErrorFlag, bit 1 (flags f))
-    ∷ (NotVicinity, not (number_of (uid_bytes f) / 2 ^ 56 == 0xE0))
+    ∷ (NotVicinity, not (number_of (uid_bytes f) / 2 ^ UID_BITS == 0xE0))
     ∷ []

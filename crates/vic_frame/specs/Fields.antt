@@ -9,7 +9,8 @@ use Rattle.vic_frame.specs.Replies.{Reply}
 
 -- flags 24 for one slot or 04 for sixteen, command 01, mask length, mask value, CRC (ISO/IEC
 -- 15693-3, Inventory request)
-pub record HasInventoryFields (f : List ℕ) (link : ℕ) (sixteen : Bool) (m : BitMask) : Type 0 where
+pub record HasInventoryFields (f : List ℕ) (link : ℕ) (sixteen : Bool) (m : BitMask)
+    : Type 0 where
   pub size : length f ≡ byte_count m.len + 5
   pub flags : slice_index f 0 ≡ (if sixteen then 0x04 else 0x24) + link
   pub command : slice_index f 1 ≡ 0x01

@@ -5,7 +5,8 @@ use Rattle.vic_frame.specs.Masks.{BitMask, LiesIn}
 
 -- the first mask holds all that the second holds, or they hold nothing in common
 abbrev pub NestedOrApart : BitMask → BitMask → Type 0
-NestedOrApart m n = ((u : ℕ) → LiesIn n u → LiesIn m u) ⊎ ((u : ℕ) → LiesIn m u → LiesIn n u → ⊥)
+NestedOrApart m n =
+    ((u : ℕ) → LiesIn n u → LiesIn m u) ⊎ ((u : ℕ) → LiesIn m u → LiesIn n u → ⊥)
 
 -- the mask with one bit more, which is 0
 abbrev pub lower_half : BitMask → BitMask

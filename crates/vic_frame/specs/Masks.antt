@@ -1,6 +1,7 @@
 -- Masks on the low bits of UIDs.
 use Rattle.std.specs.Prelude.{◌≡◌, ℕ, ◌+◌, ◌*◌, ◌^◌, ◌%◌, ◌==◌, ◌<◌, ◌≤◌, Bool}
 use Rattle.vic_frame.specs.Uids.{uid_from_low_bits}
+use Rattle.vic_frame.specs.declared.uid.TheConstants.{UID_BITS}
 use Rattle.vic_frame.specs.declared.mask.TheConstants.{MAX_MASK_LEN}
 
 -- how many low bits are fixed, and their value (ISO/IEC 15693-3, Inventory request: mask length and
@@ -29,7 +30,7 @@ slot_of_sixteen m k = record { len = m.len + 4; value = m.value + k * 2 ^ m.len 
 
 -- the mask of a UID's 56 low bits, which holds no other UID: all of them share the top byte
 abbrev pub own_mask : ℕ → BitMask
-own_mask u = record { len = 56; value = u % 2 ^ 56 }
+own_mask u = record { len = UID_BITS; value = u % 2 ^ UID_BITS }
 
 -- the least UID in a mask of at most 56 bits: every bit that the mask leaves open is 0
 abbrev pub least_uid_in : BitMask → ℕ

@@ -26,7 +26,8 @@ byte_count bits = (bits + 7) / 8
 -- Quiet
 abbrev pub request_body : Request → List ℕ
 request_body (Inventory link sixteen m) =
-    ((if sixteen then 0x04 else 0x24) + link) ∷ 0x01 ∷ m.len ∷ bytes_of (byte_count m.len) m.value
+    ((if sixteen then 0x04 else 0x24) + link) ∷ 0x01 ∷ m.len
+    ∷ bytes_of (byte_count m.len) m.value
 request_body (StayQuiet link uid) = (0x20 + link) ∷ 0x02 ∷ bytes_of 8 uid
 
 -- and the CRC behind them: the one spelling of the request

@@ -18,7 +18,8 @@ ghost use Rattle.vic_frame.specs.Reading.{request_reading, reply_reading};
 pub fn spelled_by_fields()
     ensures inventory { (f : List ℕ) (link : ℕ) (sixteen : Bool) (m : BitMask) → AreBytes f
         → SpellsRequest f (Inventory link sixteen m)
-        ↔ (IsMask m × IsValid (Inventory link sixteen m) × HasInventoryFields f link sixteen m) }
+        ↔ (IsMask m × IsValid (Inventory link sixteen m)
+        × HasInventoryFields f link sixteen m) }
     ensures stay_quiet { (f : List ℕ) (link uid : ℕ) → AreBytes f
         → SpellsRequest f (StayQuiet link uid)
         ↔ ((uid < 2 ^ 64) × (link ≤ 3) × HasStayQuietFields f link uid) }
@@ -29,12 +30,17 @@ pub fn spelled_by_fields()
 /// A valid request has exactly one spelling, and so has a reply; bytes spell at most one request
 /// and at most one reply. Some spell one of each, so a caller says which it reads.
 pub fn one_spelling()
-    ensures some { (q : Request) → IsInRange q → IsValid q → (f : List ℕ) × SpellsRequest f q }
-    ensures one { (f g : List ℕ) (q : Request) → SpellsRequest f q → SpellsRequest g q → f ≡ g }
-    ensures only { (f : List ℕ) (q r : Request) → SpellsRequest f q → SpellsRequest f r → q ≡ r }
+    ensures some { (q : Request) → IsInRange q → IsValid q
+        → (f : List ℕ) × SpellsRequest f q }
+    ensures one { (f g : List ℕ) (q : Request)
+        → SpellsRequest f q → SpellsRequest g q → f ≡ g }
+    ensures only { (f : List ℕ) (q r : Request)
+        → SpellsRequest f q → SpellsRequest f r → q ≡ r }
     ensures some_reply { (r : Reply) → IsReply r → (f : List ℕ) × SpellsReply f r }
-    ensures one_reply { (f g : List ℕ) (r : Reply) → SpellsReply f r → SpellsReply g r → f ≡ g }
-    ensures reply { (f : List ℕ) (r s : Reply) → SpellsReply f r → SpellsReply f s → r ≡ s }
+    ensures one_reply { (f g : List ℕ) (r : Reply)
+        → SpellsReply f r → SpellsReply g r → f ≡ g }
+    ensures reply { (f : List ℕ) (r s : Reply)
+        → SpellsReply f r → SpellsReply f s → r ≡ s }
 {}
 
 /// Bytes read as a value exactly where they spell it.

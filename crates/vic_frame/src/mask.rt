@@ -111,7 +111,7 @@ impl Mask {
 
     /// The least UID in it. A mask of more than 56 bits may hold none.
     pub fn least_uid(&self) -> Uid
-        requires { self.now.len ≤ 56 }
+        requires { self.now.len ≤ UID_BITS }
         ensures value { result ≡ least_uid_in self.now }
         ensures inside { LiesIn self.now result }
         ensures least { (u : ℕ) → IsUid u → LiesIn self.now u → result ≤ u }
@@ -123,8 +123,9 @@ impl Mask {
 
 /// The mask of at most 56 bits that holds the same UIDs; `None` where the mask holds no UID.
 pub fn without_top_byte(mask: &Mask) -> Option<Mask>
-    ensures short { IfSome result (λ m. IsMask m × (m.len ≤ 56)) }
-    ensures same { IfSome result (λ m. (u : ℕ) → IsUid u → lies_in m u ≡ lies_in mask.now u) }
+    ensures short { IfSome result (λ m. IsMask m × (m.len ≤ UID_BITS)) }
+    ensures same { IfSome result (λ m. (u : ℕ) → IsUid u
+        → lies_in m u ≡ lies_in mask.now u) }
     ensures none { IfNone result ((u : ℕ) → IsUid u → lies_in mask.now u ≡ false) }
 {
     if mask.len <= UID_BITS {

@@ -5,6 +5,8 @@ ghost use Rattle.vic_frame.specs.Uids.{IsUid};
 ghost use Rattle.vic_frame.specs.Masks.{BitMask, IsMask, LiesIn};
 ghost use Rattle.vic_frame.specs.MaskLaws.{NestedOrApart, IsParted, HoldsAtMostOne};
 
+use crate::uid::UID_BITS;
+
 /// Of two masks the shorter one holds all that the longer one does, or they hold no UID in common.
 pub fn nested_or_apart()
     ensures { (m n : BitMask) → IsMask m → IsMask n → m.len ≤ n.len → NestedOrApart m n }
@@ -18,10 +20,10 @@ pub fn halves_part()
 
 /// A mask of more than 56 bits holds at most one UID: it fixes every bit in which UIDs differ.
 pub fn long_masks_hold_at_most_one()
-    ensures { (m : BitMask) → 56 < m.len → HoldsAtMostOne m }
+    ensures { (m : BitMask) → UID_BITS < m.len → HoldsAtMostOne m }
 {}
 
 /// A mask of at most 56 bits holds at least one UID.
 pub fn short_masks_hold_one()
-    ensures { (m : BitMask) → IsMask m → m.len ≤ 56 → (u : ℕ) × IsUid u × LiesIn m u }
+    ensures { (m : BitMask) → IsMask m → m.len ≤ UID_BITS → (u : ℕ) × IsUid u × LiesIn m u }
 {}

@@ -1,6 +1,6 @@
 //! The UIDs of tags.
 
-ghost use Rattle.std.specs.Prelude.{◌≡◌, ℕ, ◌*◌, ◌^◌, ◌<◌, SomeIff};
+ghost use Rattle.std.specs.Prelude.{◌≡◌, ℕ, ◌^◌, ◌<◌, SomeIff};
 ghost use Rattle.vic_frame.specs.Uids.{IsUid, uid_from_low_bits};
 
 use std::marker::Model;
@@ -32,7 +32,7 @@ impl Model for Uid {
 
 /// The least UID, E000000000000000: what an `ArrayVec` of UIDs fills its free places with.
 impl Default for Uid {
-    ghost is_default = { λ u. u ≡ 0xE0 * 2 ^ 56 };
+    ghost is_default = { λ u. u ≡ uid_from_low_bits 0 };
 
     fn default() -> Self {
         Uid::from_low_bits(0)
@@ -53,7 +53,7 @@ impl Uid {
 
     /// The UID with these bits, below `2^56`, under its top byte.
     pub fn from_low_bits(bits: u64) -> Uid
-        requires { bits < 2 ^ 56 }
+        requires { bits < 2 ^ UID_BITS }
         ensures value { result ≡ uid_from_low_bits bits }
         ensures range { IsUid result }
     {
