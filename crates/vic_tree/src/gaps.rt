@@ -4,6 +4,7 @@
 
 ghost use Rattle.std.specs.Prelude.{◌≡◌, ℕ, ◌+◌, ◌^◌, ◌<◌, ◌≤◌, Bool, false, IfSome, IfNone, length, get_or};
 ghost use Rattle.std.specs.List.Sorted.{IsNonDecreasing};
+ghost use Rattle.vic_frame.specs.LowBitsFirst.{IsKey};
 ghost use Rattle.vic_tree.specs.Gathering.{Gathers};
 ghost use Rattle.vic_tree.specs.OpenSet.{IsWidest, SameUids, has_key, without_keys};
 ghost use Rattle.vic_tree.specs.Ranges.{AreRanges, IsFoundBelow, IsFreeBetween, IsFreeInRanges, PassBesides, is_open_in};
@@ -25,7 +26,7 @@ pub(crate) fn gather_besides(
     requires order { IsNonDecreasing keys.now }
     requires ranges { AreRanges ranges.now.entries }
     requires forward { first ≤ last }
-    requires small { last < 2 ^ 56 }
+    requires small { IsKey last }
     ensures { Gathers (IsFreeInRanges ranges.now.entries first last (has_key keys.now))
         out.old.items out.new.items }
 {
@@ -51,7 +52,7 @@ fn gather_gaps(
     requires order { IsNonDecreasing keys.now }
     requires start { start ≤ length keys.now }
     requires lower { (i : ℕ) → i < start → get_or keys.now i 0 < first }
-    requires small { last < 2 ^ 56 }
+    requires small { IsKey last }
     ensures gathers { Gathers (IsFreeBetween first last (has_key keys.now))
         out.old.items out.new.items }
     ensures count { result ≤ length keys.now }
@@ -103,7 +104,7 @@ fn widest_in_gaps(
     requires start { start ≤ length keys.now }
     requires lower { (i : ℕ) → i < start → get_or keys.now i 0 < first }
     requires forward { first ≤ last }
-    requires small { last < 2 ^ 56 }
+    requires small { IsKey last }
     ensures widest { (p : ℕ → Bool) → PassBesides p first last keys.now
         → IsFoundBelow p first found → IsFoundBelow p (last + 1) result.0 }
     ensures count { result.1 ≤ length keys.now }

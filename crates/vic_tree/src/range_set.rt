@@ -17,7 +17,7 @@ use std::alloc::{AllocError, Global};
 use std::collections::BTreeMap;
 use std::marker::Model;
 use vic_frame::low_bits_first::{key, key_range};
-use vic_frame::{Mask, Uid, without_top_byte};
+use vic_frame::{Mask, UID_BITS, Uid, without_top_byte};
 
 /// A set of UIDs as the ranges of their keys in the order of low bits first, where the UIDs of a
 /// mask stand together. A lone UID takes one entry of a map. To settle a mask takes a few look-ups
@@ -45,7 +45,7 @@ impl OpenSet for RangeSet {
 
     fn everything(alloc: Global) -> Result<RangeSet, AllocError> {
         let mut ranges = BTreeMap::new(alloc);
-        ranges.insert(0, (1 << 56) - 1)?;
+        ranges.insert(0, (1 << UID_BITS) - 1)?;
         Ok(RangeSet { ranges, alloc })
     }
 
@@ -106,7 +106,7 @@ fn settle_ranges(
     except: &[Uid],
 ) -> Result<(), AllocError>
     requires ranges { AreRanges ranges.old.entries }
-    requires short { IsMask mask.now × (mask.now.len ≤ 56) }
+    requires short { IsMask mask.now × (mask.now.len ≤ UID_BITS) }
     ensures ranges { OnOk result (AreRanges ranges.new.entries) }
     ensures settled { OnOk result (SameUids (is_open_in ranges.new.entries)
         (settled (is_open_in ranges.old.entries) mask.now except.now)) }
