@@ -25,5 +25,6 @@ pub fn long_masks_hold_at_most_one()
 
 /// A mask of at most 56 bits holds at least one UID.
 pub fn short_masks_hold_one()
-    ensures { (m : BitMask) → IsMask m → m.len ≤ UID_BITS → (u : ℕ) × IsUid u × LiesIn m u }
+    ensures { (m : BitMask) → IsMask m → m.len ≤ UID_BITS
+        → (u : ℕ) × IsUid u × LiesIn m u }
 {}
