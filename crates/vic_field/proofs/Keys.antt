@@ -1,5 +1,5 @@
 -- UIDs and the keys that a field keeps them by.
-use Rattle.std.proofs.Common.{Bool, false, ◌||◌, ◌≡◌, ℕ, ◌^◌, ◌<◌, refl, ap, ◌∙◌, List, [], ◌∷◌}
+use Rattle.std.proofs.Common.{Bool, false, ◌||◌, ◌≡◌, ℕ, refl, ap, ◌∙◌, List, [], ◌∷◌}
 use Rattle.std.specs.declared.cmp.Ordering.TheVariants.{Less}
 use Rattle.std.specs.Ordering.{nat_cmp}
 use Rattle.std.specs.List.{All, AllByRecursion}
@@ -8,13 +8,13 @@ use Rattle.std.specs.Map.{keys_of}
 use Rattle.std.proofs.lemmas.List.Elements.{All-head, All-tail}
 use Rattle.std.proofs.lemmas.Map.Keys.{sorted_head, sorted_tail}
 use Rattle.vic_frame.specs.Uids.{has}
-use Rattle.vic_frame.specs.LowBitsFirst.{uid_of}
-use Rattle.vic_frame.proofs.KeyLaws.{IsKey, is_uid, differ}
+use Rattle.vic_frame.specs.LowBitsFirst.{IsKey, uid_of}
+use Rattle.vic_frame.proofs.KeyLaws.{is_uid, differ}
 use Rattle.vic_field.specs.Keys.{tags_of}
 use Rattle.vic_log.specs.Populations.{IsPopulation}
 use Rattle.vic_field.specs.Tags.{uids}
 
-not_there : (k : ℕ) (es : List (ℕ × Bool)) → k < 2 ^ 56 → All IsKey (keys_of es) → AllByRecursion (λ y. nat_cmp k y ≡ Less) (keys_of es) → has (uids (tags_of es)) (uid_of k) ≡ false
+not_there : (k : ℕ) (es : List (ℕ × Bool)) → IsKey k → All IsKey (keys_of es) → AllByRecursion (λ y. nat_cmp k y ≡ Less) (keys_of es) → has (uids (tags_of es)) (uid_of k) ≡ false
 not_there k [] small keys up = refl
 not_there k (e ∷ es) small keys up =
     ap (λ (b : Bool). b || has (uids (tags_of es)) (uid_of k)) (differ k e.0 small (All-head IsKey e.0 (keys_of es) keys) up.0)

@@ -11,11 +11,11 @@ use Rattle.std.proofs.lemmas.List.Elements.{All-head, All-tail}
 use Rattle.vic_frame.specs.Masks.{BitMask}
 use Rattle.vic_frame.specs.Uids.{IsUid, has}
 use Rattle.vic_frame.specs.Masks.{lies_in}
-use Rattle.vic_frame.specs.LowBitsFirst.{mirror, uid_of}
+use Rattle.vic_frame.specs.LowBitsFirst.{IsKey, mirror, uid_of}
 use Rattle.vic_field.specs.Keys.{tags_of, ready_between}
 use Rattle.vic_field.specs.Tags.{uids, readiness, ready_in}
 use Rattle.vic_frame.proofs.MirrorLaws.{mirror_below, uid_of_mirror, mirror_of_uid}
-use Rattle.vic_frame.proofs.KeyLaws.{IsKey, key_test, is_uid}
+use Rattle.vic_frame.proofs.KeyLaws.{key_test, is_uid}
 
 pub by_key : (u : ℕ) (es : List (ℕ × Bool)) → IsUid u → All IsKey (keys_of es) → lookup (is_at (nat_cmp (mirror u))) es ≡ readiness (tags_of es) u
 by_key u [] h small = refl

@@ -12,9 +12,8 @@ use Rattle.std.proofs.lemmas.Bool.{or_parts}
 use Rattle.std.proofs.lemmas.Bool.Decides.{nat_tests}
 use Rattle.std.proofs.lemmas.List.{map-append}
 use Rattle.std.proofs.lemmas.List.Elements.{All-cons, filter-append}
-use Rattle.vic_frame.specs.LowBitsFirst.{mirror, uid_of}
+use Rattle.vic_frame.specs.LowBitsFirst.{IsKey, mirror, uid_of}
 use Rattle.vic_frame.specs.Uids.{IsUid, has}
-use Rattle.vic_frame.proofs.KeyLaws.{IsKey}
 use Rattle.vic_field.specs.declared.field.Outcome.{Outcome}
 use Rattle.vic_field.specs.declared.field.Outcome.TheVariants.{Silent, Lone, Several}
 use Rattle.vic_field.specs.declared.tree.Node.{Node, Fork'}
@@ -22,7 +21,7 @@ use Rattle.vic_field.specs.declared.tree.Node.TheVariants.{Empty, Tag}
 use Rattle.vic_field.specs.Keys.{AreKeys, tags_of, ready_between}
 use Rattle.vic_field.proofs.TagLaws.{by_key, same_key, readiness_there}
 use Rattle.vic_field.specs.Tags.{uids, readiness, heard}
-use Rattle.vic_field.specs.Trees.{entries, state, notes_ready, notes_quiet, IsWithin, IsTree, AreSides, members}
+use Rattle.vic_field.specs.Trees.{entries, state, notes_ready, notes_quiet, IsWithin, IsTree, AreSides, members, HasKeys}
 
 -- ---- where keys lie
 
@@ -162,7 +161,7 @@ is_rising (Fork' ready quiet ptr middle zero one first last) t =
       join [] ys r s p q = s
       join (x ∷ xs) ys r s p q = (both x xs ys p.0 r.0 q, join xs ys r.1 s p.1 q)
 
-pub are_keys : (n : Node) → IsTree n → IsWithin 0 (2 ^ 56 - 1) n → AreKeys (keys_of (entries n))
+pub are_keys : (n : Node) → IsTree n → HasKeys n → AreKeys (keys_of (entries n))
 are_keys n t w = record { small = all (keys_of (entries n)) (bounded 0 (2 ^ 56 - 1) IsKey (λ k p q. omega arith) n t w); rising = is_rising n t } where
   all : (ks : List ℕ) → AllByRecursion IsKey ks → All IsKey ks
   all [] h = search rules
@@ -170,11 +169,11 @@ are_keys n t w = record { small = all (keys_of (entries n)) (bounded 0 (2 ^ 56 -
 
 -- ---- UIDs
 
-pub by_state : (u : ℕ) (n : Node) → IsUid u → IsTree n → IsWithin 0 (2 ^ 56 - 1) n → state n (mirror u) ≡ readiness (tags_of (entries n)) u
+pub by_state : (u : ℕ) (n : Node) → IsUid u → IsTree n → HasKeys n → state n (mirror u) ≡ readiness (tags_of (entries n)) u
 by_state u n h t w = sym (state_entry (mirror u) n t) ∙ by_key u (entries n) h (are_keys n t w).small
 
 -- what is done at v's key is done to the tag v
-pub changed : (u v key : ℕ) (g : Option Bool → Option Bool) (old new : Node) → IsUid u → IsUid v → IsTree old × IsWithin 0 (2 ^ 56 - 1) old → IsTree new × IsWithin 0 (2 ^ 56 - 1) new → key ≡ mirror v
+pub changed : (u v key : ℕ) (g : Option Bool → Option Bool) (old new : Node) → IsUid u → IsUid v → IsTree old × HasKeys old → IsTree new × HasKeys new → key ≡ mirror v
     → ((q : ℕ) → state new q ≡ cond (key == q) (g (state old q)) (state old q))
     → readiness (tags_of (entries new)) u ≡ cond (u == v) (g (readiness (tags_of (entries old)) u)) (readiness (tags_of (entries old)) u)
 changed u v key g old new h k before after e up =
@@ -187,7 +186,7 @@ changed u v key g old new h k before after e up =
       plain a b = grind (arith, nat_tests)
 
 -- a tag is there where its key is
-pub there : (u key : ℕ) (n : Node) → IsUid u → IsTree n × IsWithin 0 (2 ^ 56 - 1) n → key ≡ mirror u → is_some (state n key) ≡ has (uids (tags_of (entries n))) u
+pub there : (u key : ℕ) (n : Node) → IsUid u → IsTree n × HasKeys n → key ≡ mirror u → is_some (state n key) ≡ has (uids (tags_of (entries n))) u
 there u key n h t e =
     ap (λ (k : ℕ). is_some (state n k)) e
     ∙ ap is_some (by_state u n h t.0 t.1)

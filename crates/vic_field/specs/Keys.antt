@@ -1,13 +1,13 @@
 -- How a field keeps its tags: by the low bits of their UIDs, the lowest first.
-use Rattle.std.specs.Prelude.{◌≡◌, ℕ, Bool, List, ◌<◌, ◌^◌, ◌&&◌, nat_le, map}
+use Rattle.std.specs.Prelude.{◌≡◌, ℕ, Bool, List, ◌&&◌, nat_le, map}
 use Rattle.std.specs.Ordering.{nat_cmp}
 use Rattle.std.specs.List.{All, filter}
 use Rattle.std.specs.List.Sorted.{IsStrictlySortedBy}
-use Rattle.vic_frame.specs.LowBitsFirst.{uid_of}
+use Rattle.vic_frame.specs.LowBitsFirst.{IsKey, uid_of}
 
 -- keys of 56 bits that rise
 pub record AreKeys (ks : List ℕ) : Type 0 where
-  pub small : All (λ k. k < 2 ^ 56) ks
+  pub small : All IsKey ks
   pub rising : IsStrictlySortedBy nat_cmp ks
 
 -- entries by key as tags
@@ -26,4 +26,4 @@ uids_at ks = map uid_of ks
 -- keys of 56 bits that stand for these UIDs
 pub record AreKeysOf (us ks : List ℕ) : Type 0 where
   pub uids : uids_at ks ≡ us
-  pub small : All (λ k. k < 2 ^ 56) ks
+  pub small : All IsKey ks

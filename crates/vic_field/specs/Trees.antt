@@ -1,6 +1,7 @@
 -- Tags in a tree by their keys: each fork has a key that parts its two sides.
-use Rattle.std.specs.Prelude.{◌≡◌, ℕ, ◌-◌, ◌<◌, ◌≤◌, ◌==◌, Bool, true, false, not, ◌||◌, List, [], ◌∷◌, ◌++◌, Option, Some, None, nat_lt, if◌then◌else◌}
+use Rattle.std.specs.Prelude.{◌≡◌, ℕ, ◌-◌, ◌^◌, ◌<◌, ◌≤◌, ◌==◌, Bool, true, false, not, ◌||◌, List, [], ◌∷◌, ◌++◌, Option, Some, None, nat_lt, if◌then◌else◌}
 use Rattle.std.specs.Option.{option_map}
+use Rattle.vic_frame.specs.declared.uid.TheConstants.{UID_BITS}
 use Rattle.vic_field.specs.declared.field.Outcome.{Outcome}
 use Rattle.vic_field.specs.declared.field.Outcome.TheVariants.{Silent, Lone, Several}
 use Rattle.vic_field.specs.declared.tree.Node.{Node, Fork'}
@@ -37,6 +38,10 @@ IsWithin a b Empty = Unit {0}
 IsWithin a b (Tag k r) = (a ≤ k) × (k ≤ b)
 IsWithin a b (Fork' ready quiet p middle zero one first last) = (a ≤ first) × (last ≤ b)
 
+-- a node whose keys are those of UIDs
+abbrev pub HasKeys : Node → Type 0
+HasKeys node = IsWithin 0 (2 ^ UID_BITS - 1) node
+
 -- the sides of a fork: the keys of one are below the middle, those of the other aren't
 pub record AreSides (first middle last : ℕ) (zero one : Node) : Type 0 where
   pub low : first < middle
@@ -54,7 +59,8 @@ abbrev pub IsTree : Node → Type 0
 IsTree Empty = Unit {0}
 IsTree (Tag k r) = Unit {0}
 IsTree (Fork' ready quiet p middle zero one first last) =
-    AreSides first middle last zero one × AreNotes ready quiet zero one × IsTree zero × IsTree one
+    AreSides first middle last zero one × AreNotes ready quiet zero one
+    × IsTree zero × IsTree one
 
 -- the keys lie where they lay
 abbrev pub StaysWithin : Node → Node → Type 0
@@ -62,7 +68,8 @@ StaysWithin old new = (a b : ℕ) → IsWithin a b old → IsWithin a b new
 
 -- and so does one key more
 abbrev pub StaysWithinBut : ℕ → Node → Node → Type 0
-StaysWithinBut key old new = (a b : ℕ) → IsWithin a b old → a ≤ key → key ≤ b → IsWithin a b new
+StaysWithinBut key old new =
+    (a b : ℕ) → IsWithin a b old → a ≤ key → key ≤ b → IsWithin a b new
 
 -- the tag with this key is Ready now, and the others are as they were
 abbrev pub HasPutKey : ℕ → Node → Node → Type 0

@@ -1,10 +1,10 @@
 //! The tags of a field, each Ready or Quiet.
 
-ghost use Rattle.std.specs.Prelude.{◌≡◌, ℕ, ◌<◌, ◌^◌, ◌==◌, [], true, false, MatchResult, OnOk, OnErr};
+ghost use Rattle.std.specs.Prelude.{◌≡◌, ℕ, ◌==◌, [], true, false, MatchResult, OnOk, OnErr};
 ghost use Rattle.std.specs.Option.{option_map};
 ghost use Rattle.vic_log.specs.Populations.{IsPopulation};
 ghost use Rattle.vic_field.specs.Tags.{uids, readiness, ready_in, quiets, heard, RefusesTag, HasAdded, HasSilenced};
-ghost use Rattle.vic_frame.specs.LowBitsFirst.{uid_of};
+ghost use Rattle.vic_frame.specs.LowBitsFirst.{IsKey, uid_of};
 ghost use Rattle.vic_frame.specs.Uids.{has};
 
 use crate::hear::hear_mask;
@@ -53,15 +53,15 @@ pub struct Field {
 }
 
 impl Model for Field {
-    ghost use Rattle.std.specs.Prelude.{ℕ, ◌-◌, ◌^◌, List, Bool};
+    ghost use Rattle.std.specs.Prelude.{ℕ, List, Bool};
     ghost use Rattle.vic_field.specs.Keys.{tags_of};
-    ghost use Rattle.vic_field.specs.Trees.{entries, IsTree, IsWithin};
+    ghost use Rattle.vic_field.specs.Trees.{entries, HasKeys, IsTree};
 
     ghost Value = { List (ℕ × Bool) };
 
     ghost view = { λ a. tags_of (entries a.root) };
 
-    ghost invariant = { λ a. IsTree a.root × IsWithin 0 (2 ^ 56 - 1) a.root };
+    ghost invariant = { λ a. IsTree a.root × HasKeys a.root };
 }
 
 impl Field {
@@ -92,7 +92,7 @@ impl Field {
 
     /// Puts the tag with this key into the field. It is Ready then, also where it was there.
     pub(crate) fn put(&mut self, key: u64) -> Result<(), AllocError>
-        requires { key < 2 ^ 56 }
+        requires { IsKey key }
         ensures added { OnOk result (HasAdded (λ u. u == uid_of key) self.old self.new) }
         ensures unchanged { OnErr result (self.new ≡ self.old) }
     {

@@ -1,10 +1,10 @@
 //! What a reader hears of tags in a tree.
 
-ghost use Rattle.std.specs.Prelude.{◌≡◌, ◌<◌, ◌++◌, ◌∷◌, ◌&&◌, ◌^◌, ◌-◌, []};
+ghost use Rattle.std.specs.Prelude.{◌≡◌, ◌++◌, ◌∷◌, ◌&&◌, []};
 ghost use Rattle.vic_field.specs.Keys.{ready_between, tags_of};
 ghost use Rattle.vic_field.specs.Tags.{heard, ready_in};
-ghost use Rattle.vic_field.specs.Trees.{entries, IsTree, IsWithin, members, notes_ready};
-ghost use Rattle.vic_frame.specs.LowBitsFirst.{uid_of};
+ghost use Rattle.vic_field.specs.Trees.{entries, HasKeys, IsTree, members, notes_ready};
+ghost use Rattle.vic_frame.specs.LowBitsFirst.{IsKey, uid_of};
 
 use crate::field::Outcome;
 use crate::tree::{Fork, Node, notes_ready};
@@ -13,7 +13,7 @@ use vic_frame::{Mask, low_bits_first, without_top_byte};
 /// What a reader hears of the Ready tags in a mask.
 pub(crate) fn hear_mask(node: &Node, mask: &Mask) -> Outcome
     requires tree { IsTree node.now }
-    requires keys { IsWithin 0 (2 ^ 56 - 1) node.now }
+    requires keys { HasKeys node.now }
     ensures { result ≡ heard (ready_in mask.now (tags_of (entries node.now))) }
 {
     let Some(mask) = without_top_byte(mask) else {
@@ -29,7 +29,7 @@ pub(crate) fn hear_mask(node: &Node, mask: &Mask) -> Outcome
 /// It goes down to two Ready tags at most.
 fn hear(node: &Node, first: u64, last: u64, before: Outcome) -> Outcome
     requires tree { IsTree node.now }
-    requires keys { IsWithin 0 (2 ^ 56 - 1) node.now }
+    requires keys { HasKeys node.now }
     ensures { result ≡ heard (members before ++ ready_between first last (entries node.now)) }
 {
     if let Outcome::Several = before {
@@ -65,7 +65,7 @@ fn hear(node: &Node, first: u64, last: u64, before: Outcome) -> Outcome
 
 /// What is heard where one tag more answers, the one with this key.
 fn heard_too(before: Outcome, key: u64) -> Outcome
-    requires { key < 2 ^ 56 }
+    requires { IsKey key }
     ensures { result ≡ heard (members before ++ uid_of key ∷ []) }
 {
     match before {

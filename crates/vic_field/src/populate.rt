@@ -1,9 +1,10 @@
 //! A field of the tags that lines list.
 
-ghost use Rattle.std.specs.Prelude.{◌<◌, ◌^◌, ◌++◌, ◌∷◌, [], IfOk, OnOk, List, ℕ};
+ghost use Rattle.std.specs.Prelude.{◌++◌, ◌∷◌, [], IfOk, OnOk, List, ℕ};
 ghost use Rattle.std.specs.List.{All};
 ghost use Rattle.vic_field.specs.Keys.{AreKeysOf, uids_at};
 ghost use Rattle.vic_field.specs.Tags.{HasAdded};
+ghost use Rattle.vic_frame.specs.LowBitsFirst.{IsKey};
 ghost use Rattle.vic_frame.specs.Uids.{has};
 ghost use Rattle.vic_log.specs.Order.{entries, listed};
 
@@ -53,7 +54,7 @@ fn push_listed(keys: &mut Vec<u64>, item: &Entry) -> Result<(), AllocError>
 
 /// A field of the tags with these keys, all Ready.
 fn field_of(alloc: Global, keys: &[u64]) -> Result<Field, AllocError>
-    requires { All (λ k. k < 2 ^ 56) keys.now }
+    requires { All IsKey keys.now }
     ensures { IfOk result (HasAdded (has (uids_at keys.now)) []) }
 {
     let mut field = Field::new(alloc);

@@ -6,6 +6,10 @@ ghost use Rattle.vic_field.specs.Trees.{notes_ready, notes_quiet, IsWithin, IsTr
 use crate::tree::{Fork, Node, has_quiet, has_ready, notes_quiet};
 use std::alloc::{AllocError, Global};
 use std::mem;
+use vic_frame::UID_BITS;
+
+/// How many bits of a key are 1 at most.
+const MAX_ONES: u8 = UID_BITS;
 
 /// Puts the tag with this key in. It is Ready then, also where it was there. Takes one box at most.
 pub(crate) fn put(node: &mut Node, alloc: Global, key: u64) -> Result<(), AllocError>
@@ -67,7 +71,7 @@ fn middle_between(low: u64, high: u64) -> u64
     ensures up_to { result ≤ high }
 {
     let mut middle = high;
-    for _ in 0..64 {
+    for _ in 0..MAX_ONES {
         let shorter = middle & (middle - 1);
         if shorter <= low {
             return middle;

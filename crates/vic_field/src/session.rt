@@ -145,8 +145,8 @@ fn push_slots(filled: &mut Log, field: &Field, request: &Request) -> Result<(), 
         × (entries filled.old.lines ≡ es ++ Entry.Sent request.now ∷ []) }
     requires valid { IsValid request.now }
     requires room { last_from 1 filled.old.lines + slot_count request.now ≤ MAX_LINES }
-    ensures added { OnOk result (filled.new
-        ≡ with_entries filled.old (slot_lines_to field.now request.now (slot_count request.now))) }
+    ensures added { OnOk result (filled.new ≡ with_entries filled.old
+        (slot_lines_to field.now request.now (slot_count request.now))) }
     ensures population { OnOk result
         (0 < slot_count request.now → IsPopulation (uids field.now)) }
     ensures memory { IfErr result (λ e. e ≡ SimFault.Memory) }

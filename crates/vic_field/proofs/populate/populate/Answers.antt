@@ -1,9 +1,9 @@
-use Rattle.std.proofs.Common.{◌≡◌, ℕ, ◌<◌, ◌^◌, Bool, true, List, [], ◌∷◌, Some, None, sym, ap, ◌∙◌, ◌||◌, refl}
+use Rattle.std.proofs.Common.{◌≡◌, ℕ, Bool, true, List, [], ◌∷◌, Some, None, sym, ap, ◌∙◌, ◌||◌, refl}
 use Rattle.std.specs.Prelude.{nat_eq, if◌then◌else◌}
 use Rattle.std.specs.List.{list_any}
 use Rattle.std.proofs.lemmas.List.Sorted.{list_any-IsPermutation, All-permutation}
 use Rattle.std.proofs.lemmas.Result.{IfOk-weaker}
-use Rattle.vic_frame.specs.LowBitsFirst.{uid_of}
+use Rattle.vic_frame.specs.LowBitsFirst.{IsKey, uid_of}
 use Rattle.vic_frame.specs.Uids.{has}
 use Rattle.vic_field.specs.Keys.{uids_at}
 use Rattle.vic_field.proofs.populate.populate.Goals as goal
@@ -13,7 +13,7 @@ has_at [] u = refl
 has_at (k ∷ ks) u = ap (λ (b : Bool). nat_eq u (uid_of k) || b) (has_at ks u)
 
 pub field_of-requires : goal.field_of-requires
-field_of-requires c = rw c.deref.ensures.value (All-permutation (λ (k : ℕ). k < 2 ^ 56) c.in_ok-keys.keys.items c.sort_unstable.new.self.items c.sort_unstable.ensures.permutation c.in_ok-keys.ensures.small)
+field_of-requires c = rw c.deref.ensures.value (All-permutation IsKey c.in_ok-keys.keys.items c.sort_unstable.new.self.items c.sort_unstable.ensures.permutation c.in_ok-keys.ensures.small)
 
 pub returns : goal.returns
 returns c =
