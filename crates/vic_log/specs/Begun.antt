@@ -11,11 +11,13 @@ use Rattle.vic_log.specs.Text.{version_of, log_upto, fault_on}
 -- bytes without LF that may be a line yet, with the CR of its end
 abbrev pub IsShort : List ℕ → Type 0
 IsShort line =
-    (length line ≤ MAX_LINE_LEN) ⊎ ((length line ≡ MAX_LINE_LEN + 1) × (ends_with cr line ≡ true))
+    (length line ≤ MAX_LINE_LEN)
+    ⊎ ((length line ≡ MAX_LINE_LEN + 1) × (ends_with cr line ≡ true))
 
 -- the text is so many lines without a fault, which gave this log, and a line begun that isn't too
 -- long yet
-pub record HasJudged (text : List ℕ) (log : LogValue) (number : ℕ) (line : List ℕ) : Type 0 where
+pub record HasJudged (text : List ℕ) (log : LogValue) (number : ℕ) (line : List ℕ)
+    : Type 0 where
   pub parts : List (List ℕ)
   pub cuts : (more : List ℕ) → cut (text ++ more) ≡ parts ++ cut (line ++ more)
   pub count : length parts ≡ number

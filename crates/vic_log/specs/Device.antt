@@ -11,8 +11,8 @@ KeepsOrHides (Some xs) None = ⊤
 KeepsOrHides (Some xs) (Some ys) = ys ≡ xs
 
 -- a read put the next n bytes at the front at `Ok(n)`, none only at the end or with no room
-abbrev pub SourceStep : {E : Type 0} → Option (List ℕ) → Option (List ℕ) → Result ℕ E → List ℕ
-    → Type 0
+abbrev pub SourceStep : {E : Type 0} → Option (List ℕ) → Option (List ℕ) → Result ℕ E
+    → List ℕ → Type 0
 SourceStep old new r buf =
     MatchResult r
     (λ n. Consumes old new (take n buf) × (n ≡ 0 → 0 < length buf → IsAtEnd new))
@@ -35,8 +35,8 @@ abbrev pub Stops : Option (List ℕ) → List ℕ → ℕ → Type 0
 Stops new bs limit = IsAtEnd new ⊎ (length bs ≡ limit)
 
 -- a write took the first n bytes at `Ok(n)`
-abbrev pub SinkStep : {E : Type 0} → Option (List ℕ) → Option (List ℕ) → Result ℕ E → List ℕ
-    → Type 0
+abbrev pub SinkStep : {E : Type 0} → Option (List ℕ) → Option (List ℕ) → Result ℕ E
+    → List ℕ → Type 0
 SinkStep old new r bytes =
     MatchResult r (λ n. Appends old new (take n bytes)) (λ _. KeepsOrHides old new)
 
@@ -44,10 +44,12 @@ SinkStep old new r bytes =
 abbrev pub HasTakenPrefix : Option (List ℕ) → Option (List ℕ) → List ℕ → Type 0
 HasTakenPrefix None new bytes = ⊤
 HasTakenPrefix (Some xs) None bytes = ⊤
-HasTakenPrefix (Some xs) (Some ys) bytes = (k : ℕ) × (k ≤ length bytes) × (ys ≡ xs ++ take k bytes)
+HasTakenPrefix (Some xs) (Some ys) bytes =
+    (k : ℕ) × (k ≤ length bytes) × (ys ≡ xs ++ take k bytes)
 
 -- it has taken the text but for the rest
-abbrev pub HasTakenBut : Option (List ℕ) → Option (List ℕ) → List ℕ → List ℕ → Type 0
+abbrev pub HasTakenBut : Option (List ℕ) → Option (List ℕ) → List ℕ → List ℕ
+    → Type 0
 HasTakenBut old new rest text = (sent : List ℕ) × Appends old new sent × (sent ++ rest ≡ text)
 
 abbrev pub from_read_inner : {R : Type 0} → FromRead R → R

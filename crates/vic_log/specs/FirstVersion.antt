@@ -59,14 +59,15 @@ is_first_slot e = false
 -- place i is a slot of the request that its opener sent
 abbrev pub IsInFirstRound : List Entry → ℕ → Type 0
 IsInFirstRound es i =
-    (j : ℕ) × (q : Request) × (first_opener es i ≡ Some j) × (slice_get es j ≡ Some (Sent q))
+    (j : ℕ) × (q : Request)
+    × (first_opener es i ≡ Some j) × (slice_get es j ≡ Some (Sent q))
     × (i - suc j < slot_count q)
 
 -- every slot line is in a round, no request comes after a listed UID, and no UID is listed twice
 pub record IsInFirstOrder (es : List Entry) : Type 0 where
   pub rounds : (i : ℕ) (e : Entry) → slice_get es i ≡ Some e → is_first_slot e ≡ true
       → IsInFirstRound es i
-  pub requests_first : (i j : ℕ) (u : ℕ) (q : Request) → i < j → slice_get es i ≡ Some (Listed u)
-      → slice_get es j ≢ Some (Sent q)
+  pub requests_first : (i j : ℕ) (u : ℕ) (q : Request) → i < j
+      → slice_get es i ≡ Some (Listed u) → slice_get es j ≢ Some (Sent q)
   pub once : (i j : ℕ) (u w : ℕ) → i < j → slice_get es i ≡ Some (Listed u)
       → slice_get es j ≡ Some (Listed w) → u ≢ w

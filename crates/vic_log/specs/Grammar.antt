@@ -45,4 +45,5 @@ SpellsEntry version line FieldCycle = (version ≡ V2) × (line ≡ codes "F")
 -- the content is passed over: it is empty, or begins with #
 abbrev pub IsPassedOver : List ℕ → Type 0
 IsPassedOver line =
-    (length line ≤ MAX_LINE_LEN) × ((line ≡ []) ⊎ ((rest : List ℕ) × (line ≡ byte "#" ∷ rest)))
+    (length line ≤ MAX_LINE_LEN)
+    × ((line ≡ []) ⊎ ((rest : List ℕ) × (line ≡ byte "#" ∷ rest)))

@@ -26,6 +26,7 @@ IndexesSame rising others rising' others' =
     (u : ℕ) → is_indexed rising' others' u ≡ is_indexed rising others u
 
 -- the second index has the UIDs of the first, and these
-abbrev pub IndexesAlso : List ℕ → BTreeSet ℕ → List ℕ → BTreeSet ℕ → List ℕ → Type 0
+abbrev pub IndexesAlso : List ℕ → BTreeSet ℕ → List ℕ → BTreeSet ℕ → List ℕ
+    → Type 0
 IndexesAlso rising others rising' others' us =
     (u : ℕ) → is_indexed rising' others' u ≡ (is_indexed rising others u || has us u)

@@ -38,8 +38,8 @@ abbrev pub listed_uid : List ℕ → Result (Option Entry) LineFault
 listed_uid bytes =
     if length bytes == 8 then claimed (from_be_bytes w64 bytes) else Err ListedLength
 
-abbrev pub with_bytes : (List ℕ → Result (Option Entry) LineFault) → Result (List ℕ) FromHexError
-    → Result (Option Entry) LineFault
+abbrev pub with_bytes : (List ℕ → Result (Option Entry) LineFault)
+    → Result (List ℕ) FromHexError → Result (Option Entry) LineFault
 with_bytes f (Ok bytes) = f bytes
 with_bytes f (Err e) = Err Hex
 
@@ -61,7 +61,8 @@ one_letter version letter =
 -- T, R and U with hex digits behind a space
 abbrev pub with_digits : ℕ → List ℕ → Result (Option Entry) LineFault
 with_digits letter digits =
-    if letter == byte "T" then with_bytes (λ bytes. sent (request_reading bytes)) (decode_of digits)
+    if letter == byte "T"
+    then with_bytes (λ bytes. sent (request_reading bytes)) (decode_of digits)
     else if letter == byte "R"
     then with_bytes (λ bytes. heard (reply_reading bytes)) (decode_of digits)
     else if letter == byte "U" then with_bytes listed_uid (decode_of digits)

@@ -19,9 +19,10 @@ listed (e ∷ es) = listed es
 -- every slot line is in a round, no request and no field cycle comes after a listed UID, and no UID
 -- is listed twice
 pub record IsInOrder (es : List Entry) : Type 0 where
-  pub rounds : (i : ℕ) (e : Entry) → slice_get es i ≡ Some e → is_slot e ≡ true → IsInRound es i
-  pub requests_first : (i j : ℕ) (u : ℕ) (q : Request) → i < j → slice_get es i ≡ Some (Listed u)
-      → slice_get es j ≢ Some (Sent q)
+  pub rounds : (i : ℕ) (e : Entry) → slice_get es i ≡ Some e → is_slot e ≡ true
+      → IsInRound es i
+  pub requests_first : (i j : ℕ) (u : ℕ) (q : Request) → i < j
+      → slice_get es i ≡ Some (Listed u) → slice_get es j ≢ Some (Sent q)
   pub cycles_first : (i j : ℕ) (u : ℕ) → i < j → slice_get es i ≡ Some (Listed u)
       → slice_get es j ≢ Some FieldCycle
   pub once : (i j : ℕ) (u w : ℕ) → i < j → slice_get es i ≡ Some (Listed u)

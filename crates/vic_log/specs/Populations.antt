@@ -46,4 +46,5 @@ Fits FieldCycle o = ⊤
 
 -- every slot line fits the outcome of its slot
 abbrev pub CouldHaveGiven : List ℕ → List Entry → Type 0
-CouldHaveGiven p es = (i : ℕ) (e : Entry) → slice_get es i ≡ Some e → Fits e (outcome_at es i p)
+CouldHaveGiven p es =
+    (i : ℕ) (e : Entry) → slice_get es i ≡ Some e → Fits e (outcome_at es i p)

@@ -79,7 +79,8 @@ abbrev pub Forces : Reading → (ℕ → Bool) → ℕ → Type 0
 Forces NoReply t u = ⊥
 Forces (OneReply h) t u = h ≡ u
 Forces ManyReplies t u =
-    (v : ℕ) × (v ≢ u) × (t u ≡ true) × (t v ≡ true) × ((w : ℕ) → t w ≡ true → (w ≡ u) ⊎ (w ≡ v))
+    (v : ℕ) × (v ≢ u) × (t u ≡ true) × (t v ≡ true)
+    × ((w : ℕ) → t w ≡ true → (w ≡ u) ⊎ (w ≡ v))
 Forces SomeReply t u = (t u ≡ true) × ((w : ℕ) → t w ≡ true → w ≡ u)
 
 -- some slot tells that the UID is there, by the open UIDs

@@ -77,8 +77,10 @@ pub fn first_version_is_kept()
         → (i : ℕ) → opener es i ≡ first_opener es i }
     ensures quiet { (es : List Entry) → AreOfFirstVersion es
         → (i u : ℕ) → is_quiet es i u ≡ is_first_quiet es i u }
-    ensures fits { (e : Entry) → IsOfFirstVersion e → (o : Outcome) → Fits e o ↔ FitsFirst e o }
-    ensures order { (es : List Entry) → AreOfFirstVersion es → IsInOrder es ↔ IsInFirstOrder es }
+    ensures fits { (e : Entry) → IsOfFirstVersion e
+        → (o : Outcome) → Fits e o ↔ FitsFirst e o }
+    ensures order { (es : List Entry) → AreOfFirstVersion es
+        → IsInOrder es ↔ IsInFirstOrder es }
     ensures given { (es : List Entry) → AreOfFirstVersion es
         → (p : List ℕ) → CouldHaveGiven p es ↔ CouldHaveGivenFirst p es }
 {}

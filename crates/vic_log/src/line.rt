@@ -78,7 +78,8 @@ fn decode<'a>(digits: &[u8], room: &'a mut [u8; 63]) -> Result<&'a [u8], LineFau
 fn letter_entry(version: Version, letter: u8) -> Result<Option<Entry>, LineFault>
     ensures reading { result ≡ one_letter version letter }
     ensures valid { IfOk result (λ entry. IfSome entry IsValidEntry) }
-    ensures first_version { version ≡ V1 → IfOk result (λ entry. IfSome entry IsOfFirstVersion) }
+    ensures first_version { version ≡ V1
+        → IfOk result (λ entry. IfSome entry IsOfFirstVersion) }
 {
     match (version, letter) {
         (_, b'S') => Ok(Some(Entry::Silent)),
@@ -136,7 +137,8 @@ fn uid_entry(bytes: &[u8]) -> Result<Option<Entry>, LineFault>
 pub fn line_entry_of(version: Version, line: &[u8]) -> Result<Option<Entry>, LineFault>
     ensures reading { result ≡ line_reading version line.now }
     ensures valid { IfOk result (λ entry. IfSome entry IsValidEntry) }
-    ensures first_version { version ≡ V1 → IfOk result (λ entry. IfSome entry IsOfFirstVersion) }
+    ensures first_version { version ≡ V1
+        → IfOk result (λ entry. IfSome entry IsOfFirstVersion) }
 {
     if line.len() > MAX_LINE_LEN {
         return Err(LineFault::LineTooLong);

@@ -17,7 +17,8 @@ use std::alloc::Global;
 
 /// The version that the first line of a text names; None where it isn't a header.
 fn version_named(line: &[u8]) -> Option<Version>
-    ensures { result ≡ (if is_header line.now then Some (named_version (Some line.now)) else None) }
+    ensures { result
+        ≡ (if is_header line.now then Some (named_version (Some line.now)) else None) }
 {
     if line == b"vicinity-log 1".as_slice() {
         Some(Version::V1)

@@ -191,8 +191,10 @@ fn read_from<R: Source>(alloc: Global, source: &mut R) -> Result<Log, LogFault>
     requires { R.has_failed source.old ≡ false }
     ensures answer { (given : List ℕ) × HandsOut (R.left source.old) (R.left source.new) given
         × ReadsAs (R.left source.new) given result }
-    ensures tells { result ≢ Err LogFault.Read → TellsOn (R.left source.old) (R.left source.new) }
-    ensures read { IfErr result (λ e. (e ≡ LogFault.Read) ↔ (R.has_failed source.new ≡ true)) }
+    ensures tells { result ≢ Err LogFault.Read
+        → TellsOn (R.left source.old) (R.left source.new) }
+    ensures read { IfErr result (λ e.
+        (e ≡ LogFault.Read) ↔ (R.has_failed source.new ≡ true)) }
     ensures works { OnOk result (R.has_failed source.new ≡ false) }
     ensures reads { R.reads source.new ≤ R.reads source.old + MAX_READS }
 {

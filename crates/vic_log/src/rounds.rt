@@ -35,8 +35,9 @@ impl RoundCursor {
 
     /// Goes on past an entry.
     pub fn advance(&mut self, entry: &Entry)
-        ensures { (es : List EntryValue) (i : ℕ) → IsInOrder es → slice_get es i ≡ Some entry.now
-            → IsCursorAt es i self.old → IsCursorAt es (i + 1) self.new }
+        ensures { (es : List EntryValue) (i : ℕ) → IsInOrder es
+            → slice_get es i ≡ Some entry.now → IsCursorAt es i self.old
+            → IsCursorAt es (i + 1) self.new }
     {
         self.round = round_after(&self.round, entry);
     }

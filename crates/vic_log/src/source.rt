@@ -142,7 +142,8 @@ pub fn read_whole<R: Source>(
         Consumes (R.left source.old) (R.left source.new) text.items) }
     ensures end { IfOk result (λ text. Stops (R.left source.new) text.items limit) }
     ensures bound { IfOk result (λ text. vec_len text ≤ limit) }
-    ensures read { IfErr result (λ e. (e ≡ ReadFault.Read) ↔ (R.has_failed source.new ≡ true)) }
+    ensures read { IfErr result (λ e.
+        (e ≡ ReadFault.Read) ↔ (R.has_failed source.new ≡ true)) }
     ensures works { OnOk result (R.has_failed source.new ≡ false) }
     ensures reads { R.reads source.new ≤ R.reads source.old + limit }
     ensures untouched { R.has_failed source.old ≡ true → source.new ≡ source.old }
