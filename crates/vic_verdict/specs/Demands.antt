@@ -46,7 +46,8 @@ IsHeard es u = (i : ℕ) × (r : Reply) × (slice_get es i ≡ Some (Heard r)) �
 -- the list has the UIDs that were heard before place i
 abbrev pub HasHeard : List Entry → ℕ → List ℕ → Type 0
 HasHeard es i us = (u : ℕ) → (has us u ≡ true)
-    ↔ ((j : ℕ) × (r : Reply) × (j < i) × (slice_get es j ≡ Some (Heard r)) × (r.uid ≡ u))
+    ↔ ((j : ℕ) × (r : Reply) × (j < i)
+    × (slice_get es j ≡ Some (Heard r)) × (r.uid ≡ u))
 
 -- the UIDs are open and answer at place i, and there are as many as it takes
 pub record IsFoundAt (es : List Entry) (i : ℕ) (f : Found) : Type 0 where
@@ -62,7 +63,8 @@ IsFound es f = (i : ℕ) × IsFoundAt es i f
 -- they are what place i asks for: all of them are open and answer there too
 pub record Meets (es : List Entry) (f : Found) (i : ℕ) : Type 0 where
   pub need : needs_at es i ≡ f.need
-  pub answer : (u : ℕ) → has f.uids.items u ≡ true → answering (is_open (slots_of es)) es i u ≡ true
+  pub answer : (u : ℕ) → has f.uids.items u ≡ true
+      → answering (is_open (slots_of es)) es i u ≡ true
 
 -- what meets each slot line that asks for tags and names none, no more in all than the lines ask
 -- for. So such a line makes a UID certain where it is one of exactly as many as it asks for
@@ -103,7 +105,8 @@ IsAskedAgain ds k = (k + 1 < length ds)
 -- what is found for the slots of some demands, more than was found before
 pub record AreMet (es : List Entry) (ds : List Demand) (old new : List Found) : Type 0 where
   pub found : All (IsFound es) old → All (IsFound es) new
-  pub kept : (i : ℕ) → Any (λ (f : Found). Meets es f i) old → Any (λ (f : Found). Meets es f i) new
+  pub kept : (i : ℕ) → Any (λ (f : Found). Meets es f i) old
+      → Any (λ (f : Found). Meets es f i) new
   pub met : All (λ (d : Demand). Any (λ (f : Found). Meets es f d.at) new) ds
   pub few : sum_by (λ (f : Found). f.need) new
       ≤ sum_by (λ (f : Found). f.need) old + sum_by (λ (d : Demand). d.need) ds

@@ -21,7 +21,8 @@ HasAllHeard es heard = (u : ℕ) → IsHeard es u → has heard u ≡ true
 -- at most as many as the UIDs heard, two for each collision, one for each garbled slot, and one
 -- more
 abbrev pub AreFew : List Entry → List ℕ → Type 0
-AreFew es us = (heard : List ℕ) → HasAllHeard es heard → length us ≤ length heard + all_needs es + 1
+AreFew es us =
+    (heard : List ℕ) → HasAllHeard es heard → length us ≤ length heard + all_needs es + 1
 
 -- few UIDs, in rising order, that could have given the entries
 pub record IsSmallPopulation (es : List Entry) (us : List ℕ) : Type 0 where
@@ -31,7 +32,8 @@ pub record IsSmallPopulation (es : List Entry) (us : List ℕ) : Type 0 where
   pub few : AreFew es us
 
 -- a population shows what the verdict says: it lacks the absent or doubtful UID, it has the
--- unlisted UID or one of the unsettled mask. None shows that a log is impossible or its list complete
+-- unlisted UID or one of the unsettled mask. None shows that a log is impossible or its list
+-- complete
 abbrev pub Shows : Verdict → List ℕ → Type 0
 Shows (Impossible line) us = ⊥
 Shows (Absent u) us = has us u ≡ false

@@ -19,7 +19,8 @@ Answers es i u = IsUid u × (answers_at es i u ≡ true)
 
 -- whoever was heard answers there, if it is in the field
 abbrev pub RepliesAnswer : List Entry → Type 0
-RepliesAnswer es = (i : ℕ) (r : Reply) → slice_get es i ≡ Some (Heard r) → Answers es i r.uid
+RepliesAnswer es =
+    (i : ℕ) (r : Reply) → slice_get es i ≡ Some (Heard r) → Answers es i r.uid
 
 -- the place at which the line of a name hears its UID; 0 where it silences it
 abbrev pub reply_place : Name → ℕ

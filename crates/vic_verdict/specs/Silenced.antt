@@ -13,4 +13,5 @@ pub record TellsQuiet (es : List Entry) (from i : ℕ) (ns : List Name) : Type 0
   pub begun : from ≤ i
   pub keys : HaveKeys ns
   pub names : All (λ (n : Name). n.quiet < i) ns
-  pub quiet : (j u : ℕ) → from ≤ j → j ≤ i → IsUid u → is_silenced ns (mirror u) j ≡ is_quiet es j u
+  pub quiet : (j u : ℕ) → from ≤ j → j ≤ i → IsUid u
+      → is_silenced ns (mirror u) j ≡ is_quiet es j u

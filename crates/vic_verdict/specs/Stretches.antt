@@ -27,7 +27,8 @@ pub record AddsSpot (mask : Option BitMask) (at : ℕ) (heard : Option ℕ) (old
   pub named : (ns : List Name) → is_named_if ns heard ≡ true
       → all_hear_named ns old ≡ true → all_hear_named ns new ≡ true
   pub allow : (ns : List Name) (u : ℕ) → IsUid u
-      → all_allow ns new (mirror u) ≡ (all_allow ns old (mirror u) && is_allowed ns mask at heard u)
+      → all_allow ns new (mirror u)
+      ≡ (all_allow ns old (mirror u) && is_allowed ns mask at heard u)
 
 -- the names and the slots of the entries since the last field cycle before place i, of a log that
 -- ends at a place; and with what a set leaves open they tell what is open there

@@ -1,9 +1,9 @@
 -- What the slots between two field cycles leave, said of keys: UIDs in the order of their low bits.
-use Rattle.std.specs.Prelude.{◌≡◌, ℕ, ◌==◌, ◌≤◌, ◌<◌, ◌^◌, Bool, true, false, not, ◌&&◌, ◌||◌, Option, Some, None, List, nat_le, nat_lt, map, if◌then◌else◌, IfSome}
+use Rattle.std.specs.Prelude.{◌≡◌, ℕ, ◌==◌, ◌≤◌, Bool, true, false, not, ◌&&◌, ◌||◌, Option, Some, None, List, nat_le, nat_lt, map, if◌then◌else◌, IfSome}
 use Rattle.std.specs.List.Sorted.{IsNonDecreasingBy}
 use Rattle.std.specs.List.{list_all, list_any, All}
 use Rattle.vic_frame.specs.Masks.{lies_in}
-use Rattle.vic_frame.specs.LowBitsFirst.{mirror}
+use Rattle.vic_frame.specs.LowBitsFirst.{IsKey, mirror}
 use Rattle.vic_verdict.specs.declared.sweep.Name.{Name}
 use Rattle.vic_verdict.specs.declared.sweep.Spot.{Spot}
 use Rattle.vic_verdict.specs.declared.level.Level.{Level}
@@ -109,4 +109,4 @@ AreInOrder ns = IsNonDecreasingBy (λ (n : Name). n.key) ns
 
 -- keys of UIDs
 abbrev pub HaveKeys : List Name → Type 0
-HaveKeys ns = All (λ (n : Name). n.key < 2 ^ 56) ns
+HaveKeys ns = All (λ (n : Name). IsKey n.key) ns

@@ -54,7 +54,8 @@ IsToldOf p es i FieldCycle = ⊤
 
 -- every slot line is told of the population
 abbrev pub CouldHaveGivenSecond : List ℕ → List Entry → Type 0
-CouldHaveGivenSecond p es = (i : ℕ) (e : Entry) → slice_get es i ≡ Some e → IsToldOf p es i e
+CouldHaveGivenSecond p es =
+    (i : ℕ) (e : Entry) → slice_get es i ≡ Some e → IsToldOf p es i e
 
 -- the headline for version 2
 abbrev pub IsWholeSecond : List Entry → Type 0

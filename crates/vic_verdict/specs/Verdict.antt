@@ -1,6 +1,7 @@
 -- The verdict on a log (profile): the first of six cases that applies.
 use Rattle.std.specs.Prelude.{◌≡◌, ◌↔◌, ℕ, ◌^◌, ◌<◌, ◌≤◌, true, false, List, length, nat_le, Some, slice_get}
 use Rattle.std.specs.List.{filter}
+use Rattle.vic_frame.specs.declared.uid.TheConstants.{UID_BITS}
 use Rattle.vic_frame.specs.Uids.{IsUid, has}
 use Rattle.vic_frame.specs.Masks.{BitMask, lies_in}
 use Rattle.vic_frame.specs.Replies.{Reply}
@@ -29,8 +30,9 @@ IsUnlisted es u = IsCertainUid es u × (has (listed es) u ≡ false)
 -- a mask of at most 56 bits all of whose UIDs are possible and not listed
 abbrev pub IsUnsettled : List Entry → BitMask → Type 0
 IsUnsettled es m =
-    (m.len ≤ 56) × (m.value < 2 ^ m.len)
-    × ((u : ℕ) → IsUid u → lies_in m u ≡ true → IsPossibleUid es u × (has (listed es) u ≡ false))
+    (m.len ≤ UID_BITS) × (m.value < 2 ^ m.len)
+    × ((u : ℕ) → IsUid u → lies_in m u ≡ true
+    → IsPossibleUid es u × (has (listed es) u ≡ false))
 
 -- a listed UID that isn't certain
 abbrev pub IsDoubtful : List Entry → ℕ → Type 0
@@ -57,7 +59,8 @@ IsVerdict lines (Unlisted u) =
     let es = entries lines in IsPossible es × NoSuch (IsAbsent es) × IsLeast (IsUnlisted es) u
 IsVerdict lines (Unsettled m) =
     let es = entries lines in
-    IsPossible es × NoSuch (IsAbsent es) × NoSuch (IsUnlisted es) × IsFirstMask (IsUnsettled es) m
+    IsPossible es × NoSuch (IsAbsent es) × NoSuch (IsUnlisted es)
+    × IsFirstMask (IsUnsettled es) m
 IsVerdict lines (Doubtful u) =
     let es = entries lines in
     IsPossible es × NoSuch (IsAbsent es) × NoSuch (IsUnlisted es) × NoSuch (IsUnsettled es)

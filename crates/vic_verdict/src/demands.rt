@@ -99,7 +99,8 @@ pub(crate) fn note_asked(
     entry: &Entry,
 ) -> Result<(), AllocError>
     ensures { OnOk result ((es : List EntryValue) (found : List FoundValue)
-        → slice_get es index ≡ Some entry.now → mask.now ≡ mask_at es index → entry.now ≢ FieldCycle
+        → slice_get es index ≡ Some entry.now → mask.now ≡ mask_at es index
+        → entry.now ≢ FieldCycle
         → AreAsked es index names.old.items demands.old.items found
         → AreAsked es (index + 1) names.new.items demands.new.items found) }
 {
@@ -205,7 +206,8 @@ pub(crate) fn meet_stretch<S: OpenSet>(
     ensures unmet { IfOk result (λ yes. (es : List EntryValue) (from i : ℕ)
         → SameUids (S.is_open set.now) (is_open (slots_of es))
         → TellsQuiet es from i names.old.items
-        → All (IsDemand es from i) demands.old.items → yes ≡ false → IsPossible es → ⊥) }
+        → All (IsDemand es from i) demands.old.items
+        → yes ≡ false → IsPossible es → ⊥) }
 {
     if demands.is_empty() {
         return Ok(true);

@@ -74,7 +74,8 @@ fn judge_lines<S: OpenSet>(alloc: Global, lines: &[LogLine]) -> Result<Verdict, 
 pub fn judge_with<S: OpenSet>(alloc: Global, log: &Log) -> Result<Verdict, AllocError>
     ensures verdict { IfOk result (λ v. IsVerdict log.now.lines v) }
     ensures whole { IfOk result (λ v. (count : ℕ) → v ≡ Complete count
-        → IsWhole (entries log.now.lines) × (count ≡ length (listed (entries log.now.lines)))) }
+        → IsWhole (entries log.now.lines)
+        × (count ≡ length (listed (entries log.now.lines)))) }
     ensures second { IfOk result (λ v. (count : ℕ) → v ≡ Complete count
         → IsWholeSecond (entries log.now.lines)) }
     ensures reached { IfOk result (λ v. IsReached (entries log.now.lines)
@@ -92,7 +93,8 @@ pub fn judge_with<S: OpenSet>(alloc: Global, log: &Log) -> Result<Verdict, Alloc
 pub fn judge(alloc: Global, log: &Log) -> Result<Verdict, AllocError>
     ensures verdict { IfOk result (λ v. IsVerdict log.now.lines v) }
     ensures whole { IfOk result (λ v. (count : ℕ) → v ≡ Complete count
-        → IsWhole (entries log.now.lines) × (count ≡ length (listed (entries log.now.lines)))) }
+        → IsWhole (entries log.now.lines)
+        × (count ≡ length (listed (entries log.now.lines)))) }
     ensures second { IfOk result (λ v. (count : ℕ) → v ≡ Complete count
         → IsWholeSecond (entries log.now.lines)) }
     ensures reached { IfOk result (λ v. IsReached (entries log.now.lines)

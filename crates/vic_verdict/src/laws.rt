@@ -31,13 +31,15 @@ pub fn possible_and_certain_uids()
 
 /// What entries make impossible stays impossible when entries follow.
 pub fn impossible_stays()
-    ensures { (es more : List Entry) → (IsPossible es → ⊥) → IsPossible (es ++ more) → ⊥ }
+    ensures { (es more : List Entry) → (IsPossible es → ⊥)
+        → IsPossible (es ++ more) → ⊥ }
 {}
 
 /// A population that could have given the entries still could with one possible UID more.
 pub fn one_possible_uid_more()
     ensures { (es : List Entry) (p : List ℕ) (u : ℕ) → IsPopulation p → CouldHaveGiven p es
-        → IsPossibleUid es u → has p u ≡ false → IsPopulation (u ∷ p) × CouldHaveGiven (u ∷ p) es }
+        → IsPossibleUid es u → has p u ≡ false
+        → IsPopulation (u ∷ p) × CouldHaveGiven (u ∷ p) es }
 {}
 
 /// Each log has exactly one verdict.
@@ -49,8 +51,8 @@ pub fn exactly_one_verdict()
 
 /// A mask is unsettled exactly where an unlisted UID is possible.
 pub fn unsettled_where_unlisted_is_possible()
-    ensures { (es : List Entry) → ((m : BitMask) × IsUnsettled es m) ↔ ((u : ℕ) × IsPossibleUid es u
-        × (has (listed es) u ≡ false)) }
+    ensures { (es : List Entry) → ((m : BitMask) × IsUnsettled es m)
+        ↔ ((u : ℕ) × IsPossibleUid es u × (has (listed es) u ≡ false)) }
 {}
 
 /// Where the verdict is `Complete`, the list is whole, and where the list is whole, it is the
@@ -66,5 +68,6 @@ pub fn complete_is_whole()
 /// in those of version 1 on entries that it knows.
 pub fn one_headline()
     ensures second { (es : List Entry) → IsWhole es ↔ IsWholeSecond es }
-    ensures first { (es : List Entry) → AreOfFirstVersion es → IsWholeFirst es ↔ IsWholeSecond es }
+    ensures first { (es : List Entry) → AreOfFirstVersion es
+        → IsWholeFirst es ↔ IsWholeSecond es }
 {}

@@ -29,8 +29,8 @@ impl Level {
     pub(crate) fn with(&self, at: usize, heard: Option<u64>) -> Level
         requires { IsLevel self.now }
         ensures level { IsLevel result }
-        ensures leaves { (k q : ℕ)
-            → level_leaves result k q ≡ (level_leaves self.now k q && slot_leaves at heard k q) }
+        ensures leaves { (k q : ℕ) → level_leaves result k q
+            ≡ (level_leaves self.now k q && slot_leaves at heard k q) }
     {
         if heard == self.heard {
             Level {

@@ -14,7 +14,8 @@ use vic_log::{Entry, LogLine};
 /// Adds the UID that an entry lists.
 fn pass_listed(uids: &mut Vec<Uid>, entry: &Entry) -> Result<(), AllocError>
     ensures items { OnOk result (uids.new.items ≡ uids.old.items ++ listed (entry.now ∷ [])) }
-    ensures uids { OnOk result ((u : ℕ) → has (listed (entry.now ∷ [])) u ≡ true → IsUid u) }
+    ensures uids { OnOk result ((u : ℕ)
+        → has (listed (entry.now ∷ [])) u ≡ true → IsUid u) }
 {
     if let Entry::Listed(uid) = *entry {
         // gives the clause `uids` that its number is a UID's

@@ -1,9 +1,11 @@
 //! Parts of the UIDs that fare alike in a log, numbered in the order of their keys.
 
 ghost use Rattle.std.specs.Prelude.{◌≤◌};
+ghost use Rattle.vic_frame.specs.declared.uid.TheConstants.{UID_BITS};
 
 use crate::steps::Span;
 use std::alloc::{AllocError, Global};
+use vic_frame::UID_BITS;
 
 /// How many of a key's 56 bits the index over the borders goes by at most.
 const MOST_INDEX_BITS: u32 = 24;
@@ -18,7 +20,7 @@ pub(crate) struct Parts {
     lower: Vec<u32>,
     /// By how many bits a key is shifted to its top bits.
     shift: u32,
-    ghost in_key: { shift ≤ 56 },
+    ghost in_key: { shift ≤ UID_BITS },
 }
 
 /// A count as a number of 32 bits, which no log's counts exceed.
@@ -37,7 +39,7 @@ fn count_by_top(
     shift: u32,
 ) -> Result<Vec<u32>, AllocError>
     requires bits { bits ≤ MOST_INDEX_BITS }
-    requires shift { shift ≤ 56 }
+    requires shift { shift ≤ UID_BITS }
 {
     let mut counts = vec![in alloc; 0; (1usize << bits) + 2]?;
     for border in borders {
@@ -64,7 +66,7 @@ impl Parts {
         borders.sort_unstable();
         borders.dedup();
         let bits = (borders.len() + 1).ilog2().min(MOST_INDEX_BITS);
-        let shift = 56 - bits;
+        let shift = u32::from(UID_BITS) - bits;
         let mut lower = count_by_top(alloc, &borders, bits, shift)?;
         sum_up(&mut lower);
         Ok(Parts {

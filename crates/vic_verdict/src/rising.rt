@@ -13,7 +13,8 @@ pub use vic_tree::rising::{is_among, put_in_order};
 pub(crate) fn least_failing<F: Fn(Uid) -> bool>(uids: &[Uid], test: F) -> Option<Uid>
     requires rising { IsStrictlyIncreasing uids.now }
     requires callable { F.IsAlwaysCallable test }
-    ensures { (passes : ℕ → Bool) → ((u : ℕ) (b : Bool) → F.post test u b → b ≡ passes u)
+    ensures { (passes : ℕ → Bool)
+        → ((u : ℕ) (b : Bool) → F.post test u b → b ≡ passes u)
         → MatchOption result (NoSuch (IsFailing uids.now passes))
         (IsLeast (IsFailing uids.now passes)) }
 {

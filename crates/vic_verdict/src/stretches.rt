@@ -6,7 +6,7 @@ ghost use Rattle.vic_log.specs.Slots.{slots_of, is_open};
 ghost use Rattle.vic_log.specs.Order.{entries};
 ghost use Rattle.vic_verdict.specs.FirstLines.{AreFirstLines};
 ghost use Rattle.vic_frame.specs.Uids.{IsUid};
-ghost use Rattle.vic_frame.specs.LowBitsFirst.{mirror};
+ghost use Rattle.vic_frame.specs.LowBitsFirst.{IsKey, mirror};
 ghost use Rattle.vic_log.specs.declared.entry.Entry.{Entry as EntryValue};
 ghost use Rattle.vic_log.specs.declared.entry.Entry.TheVariants.{FieldCycle, Sent};
 ghost use Rattle.vic_verdict.specs.declared.sweep.Spot.{Spot as SpotValue};
@@ -59,7 +59,7 @@ pub(crate) fn push_name(
     ensures { OnOk result
         ((names.new.items ≡ names.old.items
         ++ record { key = mirror uid; at = at; quiet = quiet; left = true } ∷ [])
-        × (mirror uid < 2 ^ 56) × IsUid uid) }
+        × IsKey (mirror uid) × IsUid uid) }
 {
     names.push(Name {
         key: key(uid),
@@ -118,12 +118,14 @@ fn note_entry(
 ) -> Result<bool, AllocError>
     requires { index < end }
     ensures stretch { IfOk result (λ yes. (es : List EntryValue) (set : ℕ → Bool)
-        → slice_get es index ≡ Some entry.now → mask.now ≡ mask_at es index → entry.now ≢ FieldCycle
-        → IsTrue yes → IsStretch es index end set names.old.items spots.old.items
+        → slice_get es index ≡ Some entry.now → mask.now ≡ mask_at es index
+        → entry.now ≢ FieldCycle → IsTrue yes
+        → IsStretch es index end set names.old.items spots.old.items
         → IsStretch es (index + 1) end set names.new.items spots.new.items) }
     ensures heard { IfOk result (λ yes. (es : List EntryValue)
-        → slice_get es index ≡ Some entry.now → mask.now ≡ mask_at es index → entry.now ≢ FieldCycle
-        → IsTrue yes → AreHeard es index end names.old.items
+        → slice_get es index ≡ Some entry.now → mask.now ≡ mask_at es index
+        → entry.now ≢ FieldCycle → IsTrue yes
+        → AreHeard es index end names.old.items
         → AreHeard es (index + 1) end names.new.items) }
     ensures unfit { IfOk result (λ yes. (es : List EntryValue)
         → slice_get es index ≡ Some entry.now → mask.now ≡ mask_at es index

@@ -119,7 +119,8 @@ fn left_in_order(
 ) -> Result<Vec<Uid>, AllocError>
     requires order { AreInOrder names.now }
     requires keys { HaveKeys names.now }
-    ensures { IfOk result (λ uids. (u : ℕ) → IsUid u → is_between first last (mirror u) ≡ true
+    ensures { IfOk result (λ uids. (u : ℕ) → IsUid u
+        → is_between first last (mirror u) ≡ true
         → has uids.items u ≡ has_left names.now (mirror u)) }
 {
     let mut uids = Vec::new(alloc);
