@@ -49,8 +49,9 @@ pub record GivesNoEarlyFault (left left' : Option (List ℕ)) : Type 0 where
 
 -- what a run read and wrote, by its result: the answer is out, or a prefix of it where the sink
 -- failed; where the source failed there was none yet to give
-abbrev pub Runs : (List ℕ → List ℕ → Status → Type 0) → Option (List ℕ) → Option (List ℕ)
-    → Option (List ℕ) → Option (List ℕ) → Result Status RunFault → Type 0
+abbrev pub Runs : (List ℕ → List ℕ → Status → Type 0)
+    → Option (List ℕ) → Option (List ℕ) → Option (List ℕ) → Option (List ℕ)
+    → Result Status RunFault → Type 0
 Runs IsAnswerTo left left' taken taken' (Ok status) =
     Answers IsAnswerTo left left' taken taken' status
 Runs IsAnswerTo left left' taken taken' (Err Write) =
@@ -79,8 +80,9 @@ pub record LeavesSink {W : Type 0} (is_flushed has_failed : W → Bool)
 
 -- a sink took a text and handed it on, or failed and took a prefix of it; it is untouched where it
 -- had failed before
-pub record Writes {W A : Type 0} (taken : W → Option (List ℕ)) (is_flushed has_failed : W → Bool)
-    (old new : W) (text : List ℕ) (result : Result A RunFault) : Type 0 where
+pub record Writes {W A : Type 0} (taken : W → Option (List ℕ))
+    (is_flushed has_failed : W → Bool) (old new : W)
+    (text : List ℕ) (result : Result A RunFault) : Type 0 where
   pub all : OnOk result (Appends (taken old) (taken new) text)
   pub flushed : OnOk result (is_flushed new ≡ true)
   pub begun : HasTakenPrefix (taken old) (taken new) text

@@ -69,7 +69,8 @@ pub fn run_check<R: Source, W: Sink>(
 
 /// The answer to what was read.
 fn judge_reading(alloc: Global, reading: Reading) -> Result<Answer, AllocError>
-    ensures answer { IfOk result (λ a. (text : List ℕ) → IsReading text reading → IsAnswer text a) }
+    ensures answer { IfOk result (λ a. (text : List ℕ)
+        → IsReading text reading → IsAnswer text a) }
     ensures whole { IfOk result (λ a. (left : Option (List ℕ)) (text : List ℕ) (count : ℕ)
         → IsReading text reading → Stands left text reading
         → a ≡ Answer.Judged (Complete count) → IsAtEnd left × IsCompleteText text count) }

@@ -36,8 +36,8 @@ pub fn explain_text(alloc: Global, text: &[u8]) -> Result<Explained, AllocError>
     ensures explained { IfOk result (IsExplained text.now) }
     ensures answer { IfOk result (λ e. IsAnswer text.now (answer_of e)) }
     // where it is `complete`, the list of the log is whole and so long
-    ensures whole { IfOk result (λ e. (count : ℕ) → answer_of e ≡ Answer.Judged (Complete count)
-        → IsCompleteText text.now count) }
+    ensures whole { IfOk result (λ e. (count : ℕ)
+        → answer_of e ≡ Answer.Judged (Complete count) → IsCompleteText text.now count) }
 {
     // the laws by which a complete list is whole
     complete_is_whole();
@@ -86,7 +86,8 @@ pub fn run_explain<R: Source, W: Sink>(
 
 /// The answer to what was read.
 fn explain_reading(alloc: Global, reading: Reading) -> Result<Explained, AllocError>
-    ensures { IfOk result (λ e. (text : List ℕ) → IsReading text reading → IsExplained text e) }
+    ensures { IfOk result (λ e. (text : List ℕ)
+        → IsReading text reading → IsExplained text e) }
 {
     match reading {
         Reading::Given(log) => Ok(Explained::Judged(explain(alloc, &log)?)),

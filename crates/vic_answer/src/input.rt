@@ -22,7 +22,8 @@ pub(crate) enum Reading {
 pub(crate) fn read_source<R: Source>(alloc: Global, source: &mut R) -> Result<Reading, RunFault>
     ensures reading { Gives (R.left source.old) (R.left source.new) result }
     ensures works { OnOk result (R.has_failed source.new ≡ false) }
-    ensures read { IfErr result (λ e. (e ≡ RunFault.Read) ↔ (R.has_failed source.new ≡ true)) }
+    ensures read { IfErr result (λ e.
+        (e ≡ RunFault.Read) ↔ (R.has_failed source.new ≡ true)) }
     ensures untouched { R.has_failed source.old ≡ true → source.new ≡ source.old }
     ensures reads { R.reads source.new ≤ R.reads source.old + MAX_READS }
 {

@@ -52,7 +52,8 @@ pub fn run_simulate<R: Source, W: Sink>(
 
 /// The answer to what was read.
 fn simulate_reading(alloc: Global, reading: Reading) -> Result<Simulated, AllocError>
-    ensures { IfOk result (λ s. (text : List ℕ) → IsReading text reading → IsSimulated text s) }
+    ensures { IfOk result (λ s. (text : List ℕ)
+        → IsReading text reading → IsSimulated text s) }
 {
     let given = match reading {
         Reading::Given(log) => log,
