@@ -1,6 +1,8 @@
--- Numbers and their bytes.
-use Rattle.std.proofs.Common.{◌≡◌, ℕ, zero, suc, ◌+◌, ◌*◌, ◌/◌, ◌^◌, ◌%◌, ◌<◌, ◌≤◌, List, [], ◌∷◌, ◌++◌, length, take, drop, refl, sym, ap, ◌∙◌, arith, append_assoc, append-nil}
-use Rattle.std.proofs.lemmas.List.{get_or-drop, length-take}
+-- Numbers and their bytes, and tables by a byte.
+use Rattle.std.proofs.Common.{◌≡◌, ℕ, zero, suc, ◌+◌, ◌*◌, ◌/◌, ◌^◌, ◌%◌, ◌<◌, ◌≤◌, List, [], ◌∷◌, ◌++◌, length, get_or, map, take, drop, refl, sym, ap, ◌∙◌, arith, append_assoc, append-nil}
+use Rattle.std.proofs.lemmas.List.{get_or-drop, get_or-map, length-take}
+use Rattle.std.proofs.lemmas.List.FromFn.{get_or-range_with_len, length-range_with_len}
+use Rattle.std.specs.List.{range_with_len}
 use Rattle.std.proofs.Math.Seq.{take-append_seam}
 use Rattle.std.proofs.lemmas.Nat.{pow-add, mul-le}
 use Rattle.std.proofs.Math.Nat.{pow-le-pow_right}
@@ -94,3 +96,10 @@ number_below_8 xs h short =
 -- four bits above others
 pub sixteen_times : (k p : ℕ) → k ≤ 15 → k * p + p ≤ 16 * p
 sixteen_times k p h = let most = mul-le k p 15 p h (omega arith) in omega (arith, most)
+
+-- an entry of a table of a function's values
+pub table_to : (f : ℕ → ℕ) (n i : ℕ) → i < n → get_or (map f (range_with_len 0 n)) i 0 ≡ f i
+table_to f n i h =
+    let plain : 0 + i ≡ i = omega arith in
+    let len : i < length (range_with_len 0 n) = rw (length-range_with_len 0 n) h in
+    get_or-map f (range_with_len 0 n) i 0 0 len ∙ ap f (get_or-range_with_len 0 n i 0 h ∙ plain)

@@ -1,10 +1,8 @@
 -- Eight bits in one step.
-use Rattle.std.proofs.Common.{◌≡◌, ℕ, zero, suc, ◌+◌, ◌*◌, ◌/◌, ◌^◌, ◌%◌, ◌<◌, ◌≤◌, ◌==◌, List, [], ◌∷◌, ◌++◌, length, get_or, map, drop, add-one, drop-cons, refl, sym, ap, ◌∙◌, arith, bit_xor, if◌then◌else◌}
+use Rattle.std.proofs.Common.{◌≡◌, ℕ, zero, suc, ◌+◌, ◌*◌, ◌/◌, ◌^◌, ◌%◌, ◌<◌, ◌≤◌, ◌==◌, List, [], ◌∷◌, ◌++◌, length, get_or, drop, add-one, drop-cons, refl, sym, ap, ◌∙◌, arith, bit_xor, if◌then◌else◌}
 use lib.Bits.{xor_assoc, xor_zero_r}
 use Rattle.std.proofs.lemmas.Nat.{xor_comm, xor_shr, xor_mod, xor_block, pow_pos, shr_split, mod_below}
-use Rattle.std.proofs.lemmas.List.{get_or-map, drop_all}
-use Rattle.std.proofs.lemmas.List.FromFn.{get_or-range_with_len, length-range_with_len}
-use Rattle.std.specs.List.{range_with_len}
+use Rattle.std.proofs.lemmas.List.{drop_all}
 use Rattle.vic_frame.specs.Bytes.{bits_of, bits}
 use Rattle.vic_frame.specs.Crc.{step, after_bits}
 
@@ -147,9 +145,3 @@ after-next r xs i h = rw (add-one, drop-cons xs i 0) (after_bits-append r (bits_
 pub after-end : (r : ℕ) (xs : List ℕ) (i : ℕ) → length xs ≤ i → after_bits r (bits (drop i xs)) ≡ r
 unfolding after_bits
 after-end r xs i h = rw (drop_all i xs h) refl
-
-pub table_to : (n i : ℕ) → i < n → get_or (map (shifts 8) (range_with_len 0 n)) i 0 ≡ shifts 8 i
-table_to n i h =
-    let plain : 0 + i ≡ i = omega arith in
-    let len : i < length (range_with_len 0 n) = rw (length-range_with_len 0 n) h in
-    get_or-map (shifts 8) (range_with_len 0 n) i 0 0 len ∙ ap (shifts 8) (get_or-range_with_len 0 n i 0 h ∙ plain)

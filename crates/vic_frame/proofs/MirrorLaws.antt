@@ -1,11 +1,10 @@
 -- Laws of the mirrored bits.
 use Rattle.std.proofs.Common.{◌&&◌, ◌==◌, ◌≡◌, ℕ, ◌+◌, ◌-◌, ◌*◌, ◌/◌, ◌^◌, ◌%◌, ◌<◌, ◌≤◌, ◌⊎◌, inl, inr, refl, sym, ap, ◌∙◌, arith, zero, suc, add-one}
 use Rattle.std.specs.Prelude.{nat_le}
-use Rattle.std.specs.Int.{reverse_bits_onto, reverse_bits, w64}
 use Rattle.std.proofs.lemmas.Nat.{pow-add, mod-pow-add, field_of, shr_high, mod_low, shr-shr}
 use Rattle.std.proofs.lemmas.Bool.{cases_order}
 use Rattle.std.proofs.lemmas.Bool.Decides.{nat_tests}
-use Rattle.std.proofs.Math.Nat.{add_assoc, add-mul, mul_assoc, mul_comm, pow-suc, div-one, mod-one, mod-eq_of_lt, div-eq_of_lt, mul-le-mul_right, suc-mul}
+use Rattle.std.proofs.Math.Nat.{add_assoc, add-mul, mul_assoc, mul_comm, pow-suc, div-one, mod-one, mod-eq_of_lt, div-eq_of_lt, mul-le-mul_right, suc-mul, pow-le-pow_right}
 use Rattle.vic_frame.proofs.MaskLaws.{mod_mod_pow}
 use Rattle.vic_frame.specs.Uids.{IsUid}
 use Rattle.vic_frame.specs.LowBitsFirst.{IsKey, mirror_bits, mirror, uid_of}
@@ -49,17 +48,6 @@ mirror_split (suc k) j (suc m) n e =
     joined (n % 2) (2 ^ k) (2 ^ j) (2 ^ m) (mirror_bits k (n / 2)) (mirror_bits j (n / 2 ^ suc k)) (mirror_bits m (n / 2)) p
     (mirror_split k j m (n / 2) f ∙ ap (λ (x : ℕ). mirror_bits k (n / 2) * 2 ^ j + mirror_bits j x) h)
 
-onto_step : (a b t w m : ℕ) → w ≡ 2 * t → (a * 2 + b) * t + m ≡ a * w + (b * t + m)
-onto_step a b t w m e =
-    ap (λ (y : ℕ). y + m) (add-mul (a * 2) b t)
-    ∙ add_assoc (a * 2 * t) (b * t) m
-    ∙ ap (λ (y : ℕ). y + (b * t + m)) (mul_assoc a 2 t ∙ ap (λ (y : ℕ). a * y) (sym e))
-
-pub onto_mirror : (k n a : ℕ) → reverse_bits_onto k n a ≡ a * 2 ^ k + mirror_bits k n
-unfolding mirror_bits reverse_bits_onto
-onto_mirror zero n a = omega arith
-onto_mirror (suc k) n a = onto_mirror k (n / 2) (a * 2 + n % 2) ∙ onto_step a (n % 2) (2 ^ k) (2 ^ suc k) (mirror_bits k (n / 2)) (pow_more k)
-
 pub mirror_mod : (k n : ℕ) → mirror_bits k (n % 2 ^ k) ≡ mirror_bits k n
 unfolding mirror_bits
 mirror_mod zero n = refl
@@ -93,11 +81,22 @@ unfolding mirror_bits
 mirror_none zero = refl
 mirror_none (suc k) = sym (none_above (2 ^ k) (mirror_bits k 0)) ∙ mirror_none k
 
--- what `reverse_bits() >> 8` gives
-pub mirror_is : (u : ℕ) → reverse_bits w64 u / 2 ^ 8 ≡ mirror u
-mirror_is u =
-    ap (λ (x : ℕ). x / 2 ^ 8) (onto_mirror 64 u 0 ∙ sym (none_above (2 ^ 64) (mirror_bits 64 u)) ∙ mirror_split 56 8 64 u refl)
-    ∙ shr_high (mirror_bits 56 u) 8 (mirror_bits 8 (u / 2 ^ 56)) (mirror_below 8 (u / 2 ^ 56))
+-- the byte that stands above i bytes, turned round behind them
+pub turn-next : (i n : ℕ) → mirror_bits (8 * (i + 1)) n ≡ mirror_bits (8 * i) n * 256 + mirror_bits 8 (n / 2 ^ (8 * i) % 256)
+turn-next i n =
+    mirror_split (8 * i) 8 (8 * (i + 1)) n (omega arith)
+    ∙ ap (λ (x : ℕ). mirror_bits (8 * i) n * 256 + x) (sym (mirror_mod 8 (n / 2 ^ (8 * i))))
+
+pub rest-next : (i n : ℕ) → n / 2 ^ (8 * i) / 256 ≡ n / 2 ^ (8 * (i + 1))
+rest-next i n = let e : 8 * i + 8 ≡ 8 * (i + 1) = omega arith in shr-shr n (8 * i) 8 ∙ ap (λ (x : ℕ). n / 2 ^ x) e
+
+pub turned_below : (i n : ℕ) → i < 7 → mirror_bits (8 * i) n < 2 ^ 48
+turned_below i n h =
+    let low : 8 * i ≤ 48 = omega arith in
+    let two : zero < 2 = omega arith in
+    let more : 2 ^ (8 * i) ≤ 2 ^ 48 = pow-le-pow_right two low in
+    let below : mirror_bits (8 * i) n < 2 ^ (8 * i) = mirror_below (8 * i) n in
+    omega arith
 
 pub uid_of_mirror : (u : ℕ) → IsUid u → uid_of (mirror u) ≡ u
 uid_of_mirror u h = let e : mirror_bits 56 (mirror_bits 56 u) ≡ u % 2 ^ 56 = mirror_twice 56 u in omega arith

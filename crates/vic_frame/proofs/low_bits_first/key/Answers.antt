@@ -1,10 +1,10 @@
-use Rattle.std.proofs.Common.{ℕ, ◌/◌, ◌∙◌, ap}
+use Rattle.std.proofs.Common.{◌∙◌, ap}
 use Rattle.vic_frame.specs.LowBitsFirst.{mirror, uid_of}
-use Rattle.vic_frame.proofs.MirrorLaws.{mirror_is, uid_of_mirror}
+use Rattle.vic_frame.proofs.MirrorLaws.{uid_of_mirror}
 use Rattle.vic_frame.proofs.low_bits_first.key.Goals as goal
 
 pub returns-clause-value : goal.returns-clause-value
-returns-clause-value c = ap (λ (x : ℕ). x / 256) c.reverse_bits.ensures ∙ mirror_is c.number.result ∙ ap mirror c.number.ensures.value
+returns-clause-value c = c.turn_round.ensures.value ∙ ap mirror c.number.ensures.value
 
 pub returns-clause-back : goal.returns-clause-back
 returns-clause-back c = ap uid_of (returns-clause-value c) ∙ uid_of_mirror c.args.uid c.number.ensures.range

@@ -1,12 +1,11 @@
-use Rattle.std.proofs.Common.{ℕ, ◌+◌, ◌*◌, ◌^◌, ◌/◌, ◌≡◌, ◌∙◌, ap}
+use Rattle.std.proofs.Common.{ℕ, ◌+◌, ◌*◌, ◌^◌, ◌∙◌, ap}
 use Rattle.vic_frame.specs.LowBitsFirst.{mirror}
-use Rattle.vic_frame.proofs.MirrorLaws.{mirror_is, mirror_of_uid}
+use Rattle.vic_frame.proofs.MirrorLaws.{mirror_of_uid}
 use Rattle.vic_frame.proofs.low_bits_first.uid_at.Goals as goal
 
 pub returns-clause-value : goal.returns-clause-value
 returns-clause-value c =
-    let e : c.reverse_bits.result / 256 ≡ mirror c.args.key = ap (λ (x : ℕ). x / 256) c.reverse_bits.ensures ∙ mirror_is c.args.key in
-    c.from_low_bits.ensures.value ∙ ap (λ (x : ℕ). 0xE0 * 2 ^ 56 + x) e
+    c.from_low_bits.ensures.value ∙ ap (λ (x : ℕ). 0xE0 * 2 ^ 56 + x) c.turn_round.ensures.value
 
 pub returns-clause-back : goal.returns-clause-back
 returns-clause-back c = ap mirror (returns-clause-value c) ∙ mirror_of_uid c.args.key c.requires
