@@ -4,7 +4,7 @@ use crate::found::{Found, both, call_again};
 use crate::logs::log_of;
 use crate::rows::{COLLISION_UNMET, ONE_HEARD, ONE_MISSING, ONE_QUIET, QUIET_LISTED, TWO_COLLIDED};
 use std::alloc::{AllocError, Global};
-use vic_frame::{Mask, Uid};
+use vic_frame::{Mask, UID_BITS, Uid};
 use vic_tree::OpenSet;
 use vic_verdict::{Explanation, Verdict, explain, explain_with};
 
@@ -38,7 +38,7 @@ impl Row {
 fn rows() -> Option<[Row; 6]> {
     let uid = Uid::new(0xE004_0100_0000_00A1)?;
     let least = Uid::new(0xE000_0000_0000_0000)?;
-    let mask = Mask::new(56, 0x04_0100_0000_00A1)?;
+    let mask = Mask::new(UID_BITS, 0x04_0100_0000_00A1)?;
     let only: &'static [u64] = &[0xE004_0100_0000_00A1];
     let two: &'static [u64] = &[0xE000_0000_0000_0000, 0xE080_0000_0000_0000];
     let row = |text, verdict, population| Row {

@@ -2,7 +2,7 @@
 
 use crate::found::{Found, both, call_again};
 use std::alloc::{AllocError, Global};
-use vic_frame::{Mask, Uid};
+use vic_frame::{Mask, UID_BITS, Uid};
 use vic_tree::OpenSet;
 
 /// Settles one half of the UIDs, and then the other but for one UID.
@@ -21,7 +21,7 @@ fn settle_halves<S: OpenSet>(alloc: Global) -> Result<bool, AllocError> {
     set.settle(&even, &[])?;
     let half = set.widest() == Some(odd) && set.has(uid) && !set.has(other);
     set.settle(&odd, &[uid])?;
-    let one = set.widest() == Mask::new(56, 0x04_0100_0000_00A1);
+    let one = set.widest() == Mask::new(UID_BITS, 0x04_0100_0000_00A1);
     Ok(whole && half && one)
 }
 
