@@ -2,7 +2,7 @@
 //!
 //! Both the ranges and the keys come in order, and are gone over side by side, once.
 
-ghost use Rattle.std.specs.Prelude.{◌≡◌, ℕ, ◌+◌, ◌^◌, ◌<◌, ◌≤◌, Bool, false, IfSome, IfNone, length, get_or};
+ghost use Rattle.std.specs.Prelude.{◌≡◌, ℕ, ◌+◌, ◌<◌, ◌≤◌, Bool, false, IfSome, IfNone, length, get_or};
 ghost use Rattle.std.specs.List.Sorted.{IsNonDecreasing};
 ghost use Rattle.vic_frame.specs.LowBitsFirst.{IsKey};
 ghost use Rattle.vic_tree.specs.Gathering.{Gathers};
