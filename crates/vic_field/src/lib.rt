@@ -6,8 +6,6 @@ mod hear;
 mod populate;
 mod put;
 mod session;
-#[cfg(test)]
-mod tests;
 mod tree;
 
 pub use field::{AddFault, Field, Outcome};

@@ -16,8 +16,6 @@ mod request;
 mod request_frame;
 mod response;
 mod response_frame;
-#[cfg(test)]
-mod tests;
 mod uid;
 
 pub use checksum::{crc, crc_right};

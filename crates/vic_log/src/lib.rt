@@ -8,8 +8,6 @@
 //! `devices` are readers and writers for tests.
 #![tactic(auto)]
 
-#[cfg(test)]
-mod device_tests;
 pub mod devices;
 mod digits;
 mod entry;
@@ -22,8 +20,6 @@ mod reader;
 mod rounds;
 mod sink;
 mod source;
-#[cfg(test)]
-mod tests;
 mod write;
 
 pub use digits::push_hex;

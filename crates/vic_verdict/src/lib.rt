@@ -23,8 +23,6 @@ mod silenced;
 mod steps;
 mod stretches;
 mod sweep;
-#[cfg(test)]
-mod tests;
 mod unsettled;
 mod verdict;
 

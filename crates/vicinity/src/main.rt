@@ -1,9 +1,6 @@
 //! Whether a list of vicinity tags is complete, from the log of the session that found them.
 #![tactic(auto)]
 
-#[cfg(test)]
-mod tests;
-
 use std::io::ErrorKind;
 use std::process::ExitCode;
 use std::{env, fs};

@@ -1,15 +1,15 @@
 //! The commands over readers that fail or don't end, and over writers that fail.
 
-use super::logs::log_of;
-use super::runs::{Command, ends, is_written, run, written_of};
+use crate::logs::text_of;
+use crate::runs::{Command, ends, is_written, run, written_of};
 use std::alloc::{AllocError, Global};
 use std::io;
 use std::io::Read;
 use std::process::Abort;
 use std::test::Fail;
-use vic_answer::{RunFault, Status};
-use vic_log::devices::{Endless, OneByOne, Pieces};
-use vic_log::{FromRead, Log, ToWrite, WriteFault, read_log, write_log};
+use vic_answer::{RunFault, Status, run_frame};
+use vic_log::devices::{Endless, OneByOne, Pieces, Stuck};
+use vic_log::{FromRead, Log, Sink, ToWrite, WriteFault, read_log, write_log};
 
 const COMMANDS: [Command; 3] = [Command::Check, Command::Simulate, Command::Explain];
 
@@ -35,7 +35,7 @@ fn fails_at_each_read(rt: &impl Abort, alloc: Global, command: Command, text: &[
 #[test]
 fn readers_that_fail(rt: HostRuntime) -> Result<(), Fail> {
     let alloc = rt.alloc();
-    let text = log_of(alloc, "I16 S RA RB S13 UA UB")?;
+    let text = text_of(alloc, "I16 S RA RB S13 UA UB")?;
     for command in COMMANDS {
         fails_at_each_read(&rt, alloc, command, text.as_bytes());
     }
@@ -45,7 +45,7 @@ fn readers_that_fail(rt: HostRuntime) -> Result<(), Fail> {
 #[test]
 fn readers_in_pieces(rt: HostRuntime) -> Result<(), Fail> {
     let alloc = rt.alloc();
-    let text = log_of(alloc, "I16 S RA RB S13 UA UB")?;
+    let text = text_of(alloc, "I16 S RA RB S13 UA UB")?;
     for piece in [1, 7, 4096] {
         let mut source = Pieces::new(text.as_bytes(), piece, 0);
         let line = written_of(&rt, alloc, Command::Check, &mut source);
@@ -161,7 +161,7 @@ fn is_written_to(
     names: &str,
     output: &str,
 ) -> Result<(), Fail> {
-    let text = log_of(alloc, names)?;
+    let text = text_of(alloc, names)?;
     fails_at_each_write(rt, alloc, command, text.as_bytes(), output.as_bytes())?;
     takes_all(rt, alloc, command, text.as_bytes(), output.as_bytes());
     Ok(())
@@ -173,9 +173,9 @@ fn writers_that_fail(rt: HostRuntime) -> Result<(), Fail> {
     let explained = "unlisted E0040100000000A1\npopulation 1\nU E0040100000000A1\n";
     is_written_to(&rt, alloc, Command::Check, "I1 RA UA", "complete 1\n")?;
     is_written_to(&rt, alloc, Command::Explain, "I1 RA", explained)?;
-    let filled = log_of(alloc, "I1 C QA I1 RB UA UB")?;
+    let filled = text_of(alloc, "I1 C QA I1 RB UA UB")?;
     is_written_to(&rt, alloc, Command::Simulate, "I1 QA I1 UA UB", &filled)?;
-    let filled = log_of(alloc, "I16 S RA RB S13 UA UB")?;
+    let filled = text_of(alloc, "I16 S RA RB S13 UA UB")?;
     is_written_to(&rt, alloc, Command::Simulate, "I16 UA UB", &filled)?;
     Ok(())
 }
@@ -196,11 +196,46 @@ fn is_cut_behind(rt: &impl Abort, alloc: Global, log: &Log, out: &[u8]) -> Resul
 #[test]
 fn logs_to_writers_that_fail(rt: HostRuntime) -> Result<(), Fail> {
     let alloc = rt.alloc();
-    let text = log_of(alloc, "I16 S RA RB S13 UA UB")?;
+    let text = text_of(alloc, "I16 S RA RB S13 UA UB")?;
     let bytes = text.as_bytes();
     let log = read_log(alloc, bytes).ok().ok_or("refused")?;
     for taken in 0..bytes.len() {
         is_cut_behind(&rt, alloc, &log, &bytes[..taken])?;
     }
     Ok(())
+}
+
+/// Both lines of `frame`.
+const LINES: &[u8] = b"request inventory link 2 slots 1 mask 0 -\nresponse refused Length\n";
+
+/// Reads a frame for a writer.
+fn reads_frame<W: Sink>(rt: &impl Abort, sink: &mut W, expected: Result<Status, RunFault>) {
+    assert!(rt; run_frame(b"260100F60A", sink) == expected);
+}
+
+/// Reads a frame for a writer that takes one byte a call, and asks for what was taken.
+fn gives_frame(
+    rt: &impl Abort,
+    sink: &mut OneByOne,
+    expected: Result<Status, RunFault>,
+    out: &[u8],
+) {
+    reads_frame(rt, sink, expected);
+    is_written(rt, sink.taken(), out);
+}
+
+#[test]
+fn frames_to_writers_that_fail(rt: HostRuntime) {
+    let alloc = rt.alloc();
+    let mut slow = OneByOne::new(Vec::new(alloc), 0, false);
+    gives_frame(&rt, &mut slow, Ok(Status::Whole), LINES);
+    for taken in 0..LINES.len() {
+        let mut failing = OneByOne::new(Vec::new(alloc), taken as u64 + 1, false);
+        gives_frame(&rt, &mut failing, Err(RunFault::Write), &LINES[..taken]);
+    }
+    let mut unflushed = OneByOne::new(Vec::new(alloc), 0, true);
+    gives_frame(&rt, &mut unflushed, Err(RunFault::Write), LINES);
+    let mut stuck = ToWrite::new(Stuck::new(1));
+    reads_frame(&rt, &mut stuck, Err(RunFault::Write));
+    reads_frame(&rt, &mut stuck, Err(RunFault::Write));
 }

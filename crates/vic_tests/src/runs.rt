@@ -34,7 +34,7 @@ pub fn ends(rt: &impl Abort, answer: Result<Status, RunFault>, expected: Result<
 
 /// Asks for what was written.
 pub fn is_written(rt: &impl Abort, written: &[u8], expected: &[u8]) {
-    assert_eq!(rt; written, expected);
+    assert!(rt; written == expected);
 }
 
 /// What a command writes of a source.
@@ -47,19 +47,4 @@ pub fn written_of<R: Source>(
     let mut sink = ToWrite::new(Vec::new(alloc));
     assert!(rt; run(command, alloc, source, &mut sink).is_ok());
     sink.into_inner()
-}
-
-/// Asks for what a command writes of a text, and for the status.
-pub fn writes(
-    rt: &impl Abort,
-    alloc: Global,
-    command: Command,
-    text: &[u8],
-    status: Status,
-    expected: &[u8],
-) {
-    let mut sink = ToWrite::new(Vec::new(alloc));
-    let answer = run(command, alloc, &mut FromRead::new(text), &mut sink);
-    ends(rt, answer, Ok(status));
-    is_written(rt, &sink.into_inner(), expected);
 }

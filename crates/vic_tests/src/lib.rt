@@ -1,0 +1,24 @@
+//! The tests of the libraries, over their public calls: a crate with tests is proved twice, so they
+//! have one of their own.
+#![tactic(auto)]
+
+#[cfg(test)]
+mod commands;
+#[cfg(test)]
+mod devices;
+#[cfg(test)]
+mod field;
+#[cfg(test)]
+mod frame;
+#[cfg(test)]
+mod log;
+#[cfg(test)]
+mod logs;
+#[cfg(test)]
+mod runs;
+#[cfg(test)]
+mod tree;
+#[cfg(test)]
+mod values;
+#[cfg(test)]
+mod verdict;

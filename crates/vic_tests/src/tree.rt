@@ -1,0 +1,333 @@
+//! Each kind of open set, by the same calls.
+
+ghost use Rattle.std.specs.List.Sorted.{IsNonDecreasing, IsStrictlyIncreasing};
+ghost use Rattle.vic_tree.specs.OpenSet.{AreKeys};
+
+use crate::values::{A, B, Y, Z, mask, uid};
+use std::alloc::Global;
+use std::process::Abort;
+use std::test::Fail;
+use vic_frame::low_bits_first::key;
+use vic_frame::{Mask, Uid};
+use vic_tree::{CellList, MaskTree, OpenSet, RangeSet};
+
+/// The low 56 bits of A, the lowest first.
+const KEY_OF_A: u64 = 0x85_0000_0000_8020;
+
+/// Settles a mask, but for some UIDs.
+fn settle<S: OpenSet>(set: &mut S, len: u8, value: u64, except: &[Uid]) -> Result<(), Fail>
+    requires { IsStrictlyIncreasing except.now }
+{
+    set.settle(&mask(len, value)?, except)?;
+    Ok(())
+}
+
+/// The set that is left of everything when one mask is settled.
+fn without<S: OpenSet>(alloc: Global, len: u8, value: u64) -> Result<S, Fail> {
+    let mut set = S::everything(alloc)?;
+    settle(&mut set, len, value, &[])?;
+    Ok(set)
+}
+
+/// Asks a set whether a UID is open.
+fn has<S: OpenSet>(rt: &impl Abort, set: &S, number: u64, expected: bool) -> Result<(), Fail> {
+    assert!(rt; set.has(uid(number)?) == expected);
+    Ok(())
+}
+
+/// Asks a set for its widest open mask.
+fn widest<S: OpenSet>(rt: &impl Abort, set: &S, expected: Option<Mask>) {
+    assert!(rt; set.widest() == expected);
+}
+
+/// Asks a set for the open UIDs of a mask, but for some.
+fn finds<S: OpenSet>(rt: &impl Abort, set: &S, mask: &Mask, except: &[Uid], expected: &[Uid])
+    requires { IsStrictlyIncreasing except.now }
+{
+    assert!(rt; set.up_to_three(mask, except).as_slice() == expected);
+}
+
+/// Asks a set for the number of open UIDs that it finds in a mask.
+fn finds_so_many<S: OpenSet>(
+    rt: &impl Abort,
+    set: &S,
+    len: u8,
+    value: u64,
+    expected: usize,
+) -> Result<(), Fail> {
+    assert!(rt; set.up_to_three(&mask(len, value)?, &[]).len() == expected);
+    Ok(())
+}
+
+/// Asks a set for the open UIDs of a mask besides those at some keys.
+fn finds_besides<S: OpenSet>(
+    rt: &impl Abort,
+    set: &S,
+    alloc: Global,
+    mask: &Mask,
+    keys: &[u64],
+    expected: &[Uid],
+) -> Result<(), Fail>
+    requires order { IsNonDecreasing keys.now }
+    requires keys { AreKeys keys.now }
+{
+    let found = set.up_to_three_besides(alloc, mask, keys)?;
+    assert!(rt; found.as_slice() == expected);
+    Ok(())
+}
+
+/// Asks a set for the number of open UIDs that it finds in a mask besides those at some keys.
+fn finds_so_many_besides<S: OpenSet>(
+    rt: &impl Abort,
+    set: &S,
+    alloc: Global,
+    mask: &Mask,
+    keys: &[u64],
+    expected: usize,
+) -> Result<(), Fail>
+    requires order { IsNonDecreasing keys.now }
+    requires keys { AreKeys keys.now }
+{
+    let found = set.up_to_three_besides(alloc, mask, keys)?;
+    assert!(rt; found.len() == expected);
+    Ok(())
+}
+
+/// Asks a set for its widest open mask besides the UIDs at some keys.
+fn widest_besides<S: OpenSet>(
+    rt: &impl Abort,
+    set: S,
+    keys: &[u64],
+    expected: Option<Mask>,
+) -> Result<(), Fail>
+    requires order { IsNonDecreasing keys.now }
+    requires keys { AreKeys keys.now }
+{
+    assert!(rt; set.widest_besides(keys)? == expected);
+    Ok(())
+}
+
+fn one_after_another<S: OpenSet>(rt: &impl Abort, alloc: Global) -> Result<(), Fail> {
+    let a = uid(A)?;
+    let all = mask(0, 0)?;
+    let mut set = S::everything(alloc)?;
+    widest(rt, &set, Some(all));
+    settle(&mut set, 1, 0, &[])?;
+    has(rt, &set, A, true)?;
+    has(rt, &set, B, false)?;
+    widest(rt, &set, Mask::new(1, 1));
+    settle(&mut set, 1, 1, &[a])?;
+    finds(rt, &set, &all, &[], &[a]);
+    finds(rt, &set, &all, &[a], &[]);
+    widest(rt, &set, Mask::new(56, 0x04_0100_0000_00A1));
+    Ok(())
+}
+
+/// The set of the two UIDs whose keys are 0 and 1.
+fn first_two<S: OpenSet>(alloc: Global) -> Result<S, Fail> {
+    let mut set = S::everything(alloc)?;
+    settle(&mut set, 0, 0, &[uid(Z)?, uid(Y)?])?;
+    Ok(set)
+}
+
+fn two_halves<S: OpenSet>(rt: &impl Abort, alloc: Global) -> Result<(), Fail> {
+    let set = first_two::<S>(alloc)?;
+    widest(rt, &set, Mask::new(55, 0));
+    finds_so_many(rt, &set, 0, 0, 2)
+}
+
+fn one_mask<S: OpenSet>(rt: &impl Abort, alloc: Global) -> Result<(), Fail> {
+    let set = without::<S>(alloc, 4, 0xF)?;
+    widest(rt, &set, Mask::new(1, 0));
+    finds_so_many(rt, &set, 4, 0xF, 0)?;
+    widest(rt, &without::<S>(alloc, 64, 0)?, Mask::new(0, 0));
+    let set = without::<S>(alloc, 64, Z)?;
+    has(rt, &set, Z, false)?;
+    widest(rt, &set, Mask::new(1, 1));
+    widest(rt, &without::<S>(alloc, 0, 0)?, None);
+    Ok(())
+}
+
+fn long_masks<S: OpenSet>(rt: &impl Abort, alloc: Global) -> Result<(), Fail> {
+    let set = S::everything(alloc)?;
+    finds(rt, &set, &mask(57, 0)?, &[], &[uid(Z)?]);
+    finds_so_many(rt, &set, 57, 1 << 56, 0)?;
+    finds_so_many(rt, &set, 0, 0, 3)
+}
+
+fn besides_some_keys<S: OpenSet>(rt: &impl Abort, alloc: Global) -> Result<(), Fail> {
+    let pair = mask(55, 0)?;
+    let set = S::everything(alloc)?;
+    finds_besides(rt, &set, alloc, &pair, &[0], &[uid(Y)?])?;
+    finds_besides(rt, &set, alloc, &mask(57, 0)?, &[1], &[uid(Z)?])?;
+    finds_so_many_besides(rt, &set, alloc, &mask(0, 0)?, &[0, 2, 5], 3)?;
+    widest_besides(rt, set, &[0, 0, 1], Mask::new(1, 1))
+}
+
+fn besides_a_far_key<S: OpenSet>(rt: &impl Abort, alloc: Global) -> Result<(), Fail> {
+    let pair = mask(55, 0)?;
+    let set = S::everything(alloc)?;
+    finds_besides(rt, &set, alloc, &pair, &[0, 0, 1, KEY_OF_A], &[])?;
+    widest_besides(rt, set, &[0, KEY_OF_A], Mask::new(2, 2))
+}
+
+fn besides_all_keys<S: OpenSet>(rt: &impl Abort, alloc: Global) -> Result<(), Fail> {
+    let all = mask(0, 0)?;
+    let set = first_two::<S>(alloc)?;
+    finds_besides(rt, &set, alloc, &all, &[0], &[uid(Y)?])?;
+    finds_so_many_besides(rt, &set, alloc, &all, &[2], 2)?;
+    widest_besides(rt, set, &[2], Mask::new(55, 0))?;
+    widest_besides(rt, first_two::<S>(alloc)?, &[0], Mask::new(56, 1 << 55))?;
+    widest_besides(rt, first_two::<S>(alloc)?, &[1], Mask::new(56, 0))?;
+    widest_besides(rt, first_two::<S>(alloc)?, &[0, 1], None)
+}
+
+fn calls<S: OpenSet>(rt: &impl Abort, alloc: Global) -> Result<(), Fail> {
+    one_after_another::<S>(rt, alloc)?;
+    two_halves::<S>(rt, alloc)?;
+    one_mask::<S>(rt, alloc)?;
+    long_masks::<S>(rt, alloc)?;
+    besides_some_keys::<S>(rt, alloc)?;
+    besides_a_far_key::<S>(rt, alloc)?;
+    besides_all_keys::<S>(rt, alloc)
+}
+
+#[test]
+fn list_calls(rt: HostRuntime) -> Result<(), Fail> {
+    calls::<CellList>(&rt, rt.alloc())
+}
+
+#[test]
+fn tree_calls(rt: HostRuntime) -> Result<(), Fail> {
+    calls::<MaskTree>(&rt, rt.alloc())
+}
+
+#[test]
+fn ranges_calls(rt: HostRuntime) -> Result<(), Fail> {
+    calls::<RangeSet>(&rt, rt.alloc())
+}
+
+/// The next of a fixed row of numbers that look random.
+fn next(state: u64) -> u64 {
+    let left = state ^ (state << 13);
+    let right = left ^ (left >> 7);
+    right ^ (right << 17)
+}
+
+/// A UID with the low bits of a number.
+fn uid_of(number: u64) -> Result<Uid, Fail> {
+    uid(Z + number % (1 << 56))
+}
+
+/// A mask of 12 to 51 bits in which the UID lies.
+fn mask_round(uid: Uid, number: u64) -> Result<Mask, Fail> {
+    let len = 12 + u8::try_from(number % 40).unwrap_or(0);
+    mask(len, uid.number() % (1 << len))
+}
+
+/// Settles a mask in three sets, but for a UID, and compares what they say of it then.
+fn agree(
+    rt: &impl Abort,
+    alloc: Global,
+    sets: &mut (CellList, MaskTree, RangeSet),
+    settled: &Mask,
+    kept: Uid,
+) -> Result<(), Fail> {
+    sets.0.settle(settled, &[kept])?;
+    sets.1.settle(settled, &[kept])?;
+    sets.2.settle(settled, &[kept])?;
+    let widest = sets.0.widest();
+    assert!(rt; sets.1.widest() == widest && sets.2.widest() == widest);
+    find_the_same(rt, alloc, sets, settled, kept)?;
+    find_the_same(rt, alloc, sets, &Mask::of_uid(kept), kept)
+}
+
+/// Compares how many open UIDs three sets find in a mask besides one.
+fn find_the_same(
+    rt: &impl Abort,
+    alloc: Global,
+    sets: &(CellList, MaskTree, RangeSet),
+    mask: &Mask,
+    kept: Uid,
+) -> Result<(), Fail> {
+    let keys = [key(kept)];
+    let found = sets.0.up_to_three_besides(alloc, mask, &keys)?.len();
+    finds_so_many_besides(rt, &sets.1, alloc, mask, &keys, found)?;
+    finds_so_many_besides(rt, &sets.2, alloc, mask, &keys, found)
+}
+
+/// Compares whether a UID is open in three sets.
+fn have_the_same(
+    rt: &impl Abort,
+    sets: &(CellList, MaskTree, RangeSet),
+    number: u64,
+) -> Result<(), Fail> {
+    let uid = uid_of(number)?;
+    let open = sets.0.has(uid);
+    assert!(rt; sets.1.has(uid) == open && sets.2.has(uid) == open);
+    Ok(())
+}
+
+#[test]
+fn list_tree_and_ranges_agree(rt: HostRuntime) -> Result<(), Fail> {
+    let alloc = rt.alloc();
+    let mut sets = (
+        CellList::everything(alloc)?,
+        MaskTree::everything(alloc)?,
+        RangeSet::everything(alloc)?,
+    );
+    let mut state = 1;
+    for _ in 0..40 {
+        state = next(state);
+        let inside = uid_of(state)?;
+        state = next(state);
+        let settled = mask_round(inside, state)?;
+        state = next(state);
+        let kept = uid_of((inside.number() % (1 << 12)) + (state >> 12 << 12))?;
+        agree(&rt, alloc, &mut sets, &settled, kept)?;
+        for number in [inside.number(), kept.number(), state, next(state)] {
+            have_the_same(&rt, &sets, number)?;
+        }
+    }
+    let keys = [0, 1 << 20, 1 << 55, (1 << 56) - 1];
+    let (list, tree, ranges) = sets;
+    let expected = list.widest_besides(&keys)?;
+    widest_besides(&rt, tree, &keys, expected)?;
+    widest_besides(&rt, ranges, &keys, expected)
+}
+
+/// Settles a mask round a UID, which stays as it was.
+fn settle_round<S: OpenSet>(
+    rt: &impl Abort,
+    set: &mut S,
+    inside: Uid,
+    number: u64,
+) -> Result<(), Fail> {
+    let open = set.has(inside);
+    set.settle(&mask_round(inside, number)?, &[inside])?;
+    assert!(rt; set.has(inside) == open);
+    Ok(())
+}
+
+/// Settles a hundred thousand masks, and finds the UIDs that were excepted where they were.
+fn many_masks<S: OpenSet>(rt: &impl Abort, alloc: Global) -> Result<(), Fail> {
+    let mut set = S::everything(alloc)?;
+    let mut state = 1;
+    for _ in 0..100_000 {
+        state = next(state);
+        let inside = uid_of(state)?;
+        state = next(state);
+        settle_round(rt, &mut set, inside, state)?;
+    }
+    finds_so_many(rt, &set, 0, 0, 3)
+}
+
+#[test]
+fn tree_settles_many_masks(rt: HostRuntime) -> Result<(), Fail> {
+    many_masks::<MaskTree>(&rt, rt.alloc())
+}
+
+#[test]
+fn ranges_settle_many_masks(rt: HostRuntime) -> Result<(), Fail> {
+    many_masks::<RangeSet>(&rt, rt.alloc())
+}
