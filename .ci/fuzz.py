@@ -1,4 +1,4 @@
-"""The library against the program, on changed logs: fuzz.py PROGRAM NUMBER LOG.."""
+"""The library against the program, on changed logs, and on each beginning of the first: fuzz.py PROGRAM NUMBER LOG.."""
 import collections
 import ctypes
 import random
@@ -84,7 +84,7 @@ def explained(text):
 def main(program, number, logs):
     rng = random.Random(7)
     seeds = [open(log, "rb").read() for log in logs]
-    texts = seeds + [changed(rng, seeds) for _ in range(number)]
+    texts = seeds + [changed(rng, seeds) for _ in range(number)] + [seeds[0][:end] for end in range(len(seeds[0]))]
     seen = collections.Counter()
     for text in texts:
         answer = vicinity.check(text)
@@ -93,7 +93,7 @@ def main(program, number, logs):
             wanted = run(program, command, text)
             if given != wanted:
                 sys.exit(f"differ in {command}: {text!r}: {wanted}; {given}")
-    print(f"{number} changed logs, the same answers: {dict(seen)}")
+    print(f"{number} changed logs and {len(seeds[0])} beginnings, the same answers: {dict(seen)}")
 
 
 main(sys.argv[1], int(sys.argv[2]), sys.argv[3:])
