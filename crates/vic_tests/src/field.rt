@@ -7,6 +7,7 @@ use crate::values::{A, B, Z, mask, stay_quiet, uid};
 use std::process::Abort;
 use std::test::Fail;
 use vic_field::{AddFault, Field, Outcome};
+use vic_frame::UID_BITS;
 
 /// Adds a tag that is new, or one that is there.
 fn add(
@@ -67,16 +68,22 @@ fn number_of(i: u64) -> u64
 fn adds_and_silences(rt: &impl Abort, field: &mut Field, number: u64) -> Result<(), Fail> {
     add(rt, field, number, Ok(()))?;
     add(rt, field, number, Err(AddFault::Already))?;
-    gives(rt, field, 56, number % (1 << 56), number)?;
+    gives(rt, field, UID_BITS, number % (1 << UID_BITS), number)?;
     field.send(&stay_quiet(number));
     answers(rt, field, 0, 0, Outcome::Silent)
 }
 
 /// Silences a tag among others.
 fn silences(rt: &impl Abort, field: &mut Field, number: u64) -> Result<(), Fail> {
-    gives(rt, field, 56, number % (1 << 56), number)?;
+    gives(rt, field, UID_BITS, number % (1 << UID_BITS), number)?;
     field.send(&stay_quiet(number));
-    answers(rt, field, 56, number % (1 << 56), Outcome::Silent)
+    answers(
+        rt,
+        field,
+        UID_BITS,
+        number % (1 << UID_BITS),
+        Outcome::Silent,
+    )
 }
 
 #[test]

@@ -8,7 +8,7 @@ use std::alloc::Global;
 use std::process::Abort;
 use std::test::Fail;
 use vic_frame::low_bits_first::key;
-use vic_frame::{Mask, Uid};
+use vic_frame::{Mask, UID_BITS, Uid};
 use vic_tree::{CellList, MaskTree, OpenSet, RangeSet};
 
 /// The low 56 bits of A, the lowest first.
@@ -119,7 +119,7 @@ fn one_after_another<S: OpenSet>(rt: &impl Abort, alloc: Global) -> Result<(), F
     settle(&mut set, 1, 1, &[a])?;
     finds(rt, &set, &all, &[], &[a]);
     finds(rt, &set, &all, &[a], &[]);
-    widest(rt, &set, Mask::new(56, 0x04_0100_0000_00A1));
+    widest(rt, &set, Mask::new(UID_BITS, 0x04_0100_0000_00A1));
     Ok(())
 }
 
@@ -151,7 +151,7 @@ fn one_mask<S: OpenSet>(rt: &impl Abort, alloc: Global) -> Result<(), Fail> {
 fn long_masks<S: OpenSet>(rt: &impl Abort, alloc: Global) -> Result<(), Fail> {
     let set = S::everything(alloc)?;
     finds(rt, &set, &mask(57, 0)?, &[], &[uid(Z)?]);
-    finds_so_many(rt, &set, 57, 1 << 56, 0)?;
+    finds_so_many(rt, &set, 57, 1 << UID_BITS, 0)?;
     finds_so_many(rt, &set, 0, 0, 3)
 }
 
@@ -177,8 +177,13 @@ fn besides_all_keys<S: OpenSet>(rt: &impl Abort, alloc: Global) -> Result<(), Fa
     finds_besides(rt, &set, alloc, &all, &[0], &[uid(Y)?])?;
     finds_so_many_besides(rt, &set, alloc, &all, &[2], 2)?;
     widest_besides(rt, set, &[2], Mask::new(55, 0))?;
-    widest_besides(rt, first_two::<S>(alloc)?, &[0], Mask::new(56, 1 << 55))?;
-    widest_besides(rt, first_two::<S>(alloc)?, &[1], Mask::new(56, 0))?;
+    widest_besides(
+        rt,
+        first_two::<S>(alloc)?,
+        &[0],
+        Mask::new(UID_BITS, 1 << 55),
+    )?;
+    widest_besides(rt, first_two::<S>(alloc)?, &[1], Mask::new(UID_BITS, 0))?;
     widest_besides(rt, first_two::<S>(alloc)?, &[0, 1], None)
 }
 
@@ -216,7 +221,7 @@ fn next(state: u64) -> u64 {
 
 /// A UID with the low bits of a number.
 fn uid_of(number: u64) -> Result<Uid, Fail> {
-    uid(Z + number % (1 << 56))
+    uid(Z + number % (1 << UID_BITS))
 }
 
 /// A mask of 12 to 51 bits in which the UID lies.
@@ -289,7 +294,7 @@ fn list_tree_and_ranges_agree(rt: HostRuntime) -> Result<(), Fail> {
             have_the_same(&rt, &sets, number)?;
         }
     }
-    let keys = [0, 1 << 20, 1 << 55, (1 << 56) - 1];
+    let keys = [0, 1 << 20, 1 << 55, (1 << UID_BITS) - 1];
     let (list, tree, ranges) = sets;
     let expected = list.widest_besides(&keys)?;
     widest_besides(&rt, tree, &keys, expected)?;
