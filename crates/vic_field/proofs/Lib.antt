@@ -1,5 +1,6 @@
 pub mod Keys
 pub mod TagLaws
+pub mod Blocks
 pub mod TreeLaws
 pub mod Numbering
 pub mod Outcomes

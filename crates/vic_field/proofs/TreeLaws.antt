@@ -10,6 +10,7 @@ use Rattle.std.specs.BTreeMap.{is_at}
 use Rattle.std.specs.Option.{is_some}
 use Rattle.std.proofs.lemmas.Bool.{or_parts}
 use Rattle.std.proofs.lemmas.Bool.Decides.{nat_tests}
+use Rattle.std.proofs.lemmas.Nat.{and_le_l, le_or_l}
 use Rattle.std.proofs.lemmas.List.{map-append}
 use Rattle.std.proofs.lemmas.List.Elements.{All-cons, filter-append}
 use Rattle.vic_frame.specs.LowBitsFirst.{IsKey, mirror, uid_of}
@@ -21,21 +22,21 @@ use Rattle.vic_field.specs.declared.tree.Node.TheVariants.{Empty, Tag}
 use Rattle.vic_field.specs.Keys.{AreKeys, tags_of, ready_between}
 use Rattle.vic_field.proofs.TagLaws.{by_key, same_key, readiness_there}
 use Rattle.vic_field.specs.Tags.{uids, readiness, heard}
-use Rattle.vic_field.specs.Trees.{entries, state, notes_ready, notes_quiet, IsWithin, IsTree, AreSides, members, HasKeys}
+use Rattle.vic_field.specs.Trees.{entries, first_key, last_key, state, notes_ready, notes_quiet, IsWithin, IsTree, AreSides, members, HasKeys}
 
 -- ---- where keys lie
 
 pub widen : (a b x y : ℕ) (n : Node) → x ≤ a → b ≤ y → IsWithin a b n → IsWithin x y n
 widen a b x y Empty p q w = tt
 widen a b x y (Tag k r) p q w = (omega arith, omega arith)
-widen a b x y (Fork' ready quiet ptr middle zero one first last) p q w = (omega arith, omega arith)
+widen a b x y (Fork' ready quiet ptr middle zero one) p q w = (widen a b x y zero p q w.0, widen a b x y one p q w.1)
 
--- the sides of a fork lie where it does
-pub zero_within : (a b first middle last : ℕ) (zero one : Node) → AreSides first middle last zero one → a ≤ first → last ≤ b → IsWithin a b zero
-zero_within a b first middle last zero one s p q = let h = s.high in widen first (middle - 1) a b zero p (omega arith) s.below
-
-pub one_within : (a b first middle last : ℕ) (zero one : Node) → AreSides first middle last zero one → a ≤ first → last ≤ b → IsWithin a b one
-one_within a b first middle last zero one s p q = let h = s.low in widen middle last a b one (omega arith) q s.above
+-- the sides of a fork lie in its block
+pub sides_within : (a b middle : ℕ) (zero one : Node) → a ≡ first_key middle → b ≡ last_key middle → AreSides middle zero one → IsWithin a b zero × IsWithin a b one
+sides_within a b middle zero one e f s =
+    let less = and_le_l middle (middle - 1) in
+    let most = le_or_l middle (middle - 1) in
+    (widen (first_key middle) (middle - 1) a b zero (omega (arith, e)) (omega (arith, f)) s.below, widen middle (last_key middle) a b one (omega (arith, e)) (omega (arith, f)) s.above)
 
 keys_append : (xs ys : List (ℕ × Bool)) → keys_of (xs ++ ys) ≡ keys_of xs ++ keys_of ys
 keys_append [] ys = refl
@@ -44,11 +45,11 @@ keys_append (x ∷ xs) ys = ap (λ (ks : List ℕ). x.0 ∷ ks) (keys_append xs 
 pub bounded : (a b : ℕ) (P : ℕ → Type 0) → ((k : ℕ) → a ≤ k → k ≤ b → P k) → (n : Node) → IsTree n → IsWithin a b n → AllByRecursion P (keys_of (entries n))
 bounded a b P f Empty t w = tt
 bounded a b P f (Tag k r) t w = (f k w.0 w.1, tt)
-bounded a b P f (Fork' ready quiet ptr middle zero one first last) t w =
+bounded a b P f (Fork' ready quiet ptr middle zero one) t w =
     subst (λ (ks : List ℕ). AllByRecursion P ks) (sym (keys_append (entries zero) (entries one)))
     (join (keys_of (entries zero)) (keys_of (entries one))
-    (bounded a b P f zero t.2 (zero_within a b first middle last zero one t.0 w.0 w.1))
-    (bounded a b P f one t.3 (one_within a b first middle last zero one t.0 w.0 w.1))) where
+    (bounded a b P f zero t.2 w.0)
+    (bounded a b P f one t.3 w.1)) where
       join : (xs ys : List ℕ) → AllByRecursion P xs → AllByRecursion P ys → AllByRecursion P (xs ++ ys)
       join [] ys p q = q
       join (x ∷ xs) ys p q = (p.0, join xs ys p.1 q)
@@ -60,10 +61,10 @@ state_outside a b q Empty t w h = refl
 state_outside a b q (Tag k r) t w h = ap (λ (x : Bool). cond x (Some r) None) (other k q a b w.0 w.1 h) where
   other : (k q a b : ℕ) → a ≤ k → k ≤ b → (q < a) ⊎ (b < q) → (k == q) ≡ false
   other k q a b l m h = grind (arith, nat_tests)
-state_outside a b q (Fork' ready quiet ptr middle zero one first last) t w h =
+state_outside a b q (Fork' ready quiet ptr middle zero one) t w h =
     neither (nat_lt q middle) (state zero q) (state one q)
-    (state_outside a b q zero t.2 (zero_within a b first middle last zero one t.0 w.0 w.1) h)
-    (state_outside a b q one t.3 (one_within a b first middle last zero one t.0 w.0 w.1) h) where
+    (state_outside a b q zero t.2 w.0 h)
+    (state_outside a b q one t.3 w.1 h) where
       neither : (x : Bool) (y z : Option Bool) → y ≡ None → z ≡ None → cond x y z ≡ None
       neither true y z e f = e
       neither false y z e f = f
@@ -123,19 +124,19 @@ state_entry q Empty t = refl
 state_entry q (Tag k r) t = ap (λ (x : Bool). cond x (Some r) None) (plain q k) where
   plain : (q k : ℕ) → is_eq (nat_cmp q k) ≡ (k == q)
   plain q k = grind (arith, nat_tests)
-state_entry q (Fork' ready quiet ptr middle zero one first last) t = go (nat_lt q middle) (state_entry q zero t.2) (state_entry q one t.3) refl where
+state_entry q (Fork' ready quiet ptr middle zero one) t = go (nat_lt q middle) (state_entry q zero t.2) (state_entry q one t.3) refl where
   ahead : (a b : ℕ) → nat_lt a b ≡ true → a < b
   ahead a b e = grind (arith, nat_tests)
 
-  past : (a b c : ℕ) → nat_lt a b ≡ false → c < b → b - 1 < a
-  past a b c e h = grind (arith, nat_tests)
+  past : (a b : ℕ) → nat_lt a b ≡ false → 0 < b → b - 1 < a
+  past a b e h = grind (arith, nat_tests)
 
   go : (x : Bool) → lookup (is_at (nat_cmp q)) (entries zero) ≡ state zero q → lookup (is_at (nat_cmp q)) (entries one) ≡ state one q → nat_lt q middle ≡ x → lookup (is_at (nat_cmp q)) (entries zero ++ entries one) ≡ cond x (state zero q) (state one q)
   go true of_zero of_one e =
-      in_first (is_at (nat_cmp q)) (entries zero) (entries one) (of_one ∙ state_outside middle last q one t.3 t.0.above (inl (ahead q middle e)))
+      in_first (is_at (nat_cmp q)) (entries zero) (entries one) (of_one ∙ state_outside middle (last_key middle) q one t.3 t.0.above (inl (ahead q middle e)))
       ∙ of_zero
   go false of_zero of_one e =
-      in_second (is_at (nat_cmp q)) (entries zero) (entries one) (of_zero ∙ state_outside first (middle - 1) q zero t.2 t.0.below (inr (past q middle first e t.0.low)))
+      in_second (is_at (nat_cmp q)) (entries zero) (entries one) (of_zero ∙ state_outside (first_key middle) (middle - 1) q zero t.2 t.0.below (inr (past q middle e t.0.some)))
       ∙ of_one
 
 -- ---- the order of keys
@@ -144,11 +145,11 @@ pub is_rising : (n : Node) → IsTree n → IsStrictlySortedBy nat_cmp (keys_of 
 unfolding IsStrictlySortedBy
 is_rising Empty t = tt
 is_rising (Tag k r) t = (tt, tt)
-is_rising (Fork' ready quiet ptr middle zero one first last) t =
+is_rising (Fork' ready quiet ptr middle zero one) t =
     subst (λ (ks : List ℕ). IsStrictlySortedBy nat_cmp ks) (sym (keys_append (entries zero) (entries one)))
     (join (keys_of (entries zero)) (keys_of (entries one)) (is_rising zero t.2) (is_rising one t.3)
-    (bounded first (middle - 1) (λ k. k < middle) (λ k p q. let h = t.0.low in omega arith) zero t.2 t.0.below)
-    (bounded middle last (λ k. middle ≤ k) (λ k p q. p) one t.3 t.0.above)) where
+    (bounded (first_key middle) (middle - 1) (λ k. k < middle) (λ k p q. let h = t.0.some in omega arith) zero t.2 t.0.below)
+    (bounded middle (last_key middle) (λ k. middle ≤ k) (λ k p q. p) one t.3 t.0.above)) where
       less : (a b : ℕ) → a < b → nat_cmp a b ≡ Less
       less a b h = grind (arith, nat_tests)
 
@@ -218,7 +219,7 @@ none_noted a b (Tag k r) t e = go r (nat_le a k && nat_le k b) e where
   go true s e = absurd (cc)
   go false true e = refl
   go false false e = refl
-none_noted a b (Fork' ready quiet ptr middle zero one first last) t e =
+none_noted a b (Fork' ready quiet ptr middle zero one) t e =
     let h = or_parts (notes_ready zero) (notes_ready one) (sym t.1.of_ready ∙ e) in
     neither_ready a b (entries zero) (entries one) (none_noted a b zero t.2 h.0) (none_noted a b one t.3 h.1)
 
@@ -231,17 +232,17 @@ none_outside a b f l (Tag k r) t w h = go (nat_le a k && nat_le k b) (miss a b f
   go : (s : Bool) → s ≡ false → map (λ (e : ℕ × Bool). uid_of e.0) (cond (s && r) ((k, r) ∷ []) []) ≡ []
   go true e = absurd (cc)
   go false e = refl
-none_outside a b f l (Fork' ready quiet ptr middle zero one first last) t w h =
+none_outside a b f l (Fork' ready quiet ptr middle zero one) t w h =
     neither_ready a b (entries zero) (entries one)
-    (none_outside a b f l zero t.2 (zero_within f l first middle last zero one t.0 w.0 w.1) h)
-    (none_outside a b f l one t.3 (one_within f l first middle last zero one t.0 w.0 w.1) h)
+    (none_outside a b f l zero t.2 w.0 h)
+    (none_outside a b f l one t.3 w.1 h)
 
 -- keys from the middle on aren't those of the first side, nor keys below it those of the second
-pub zero_passed : (a b first middle last : ℕ) (zero one : Node) → AreSides first middle last zero one → IsTree zero → middle ≤ a → ready_between a b (entries zero) ≡ []
-zero_passed a b first middle last zero one s t h = let low = s.low in none_outside a b first (middle - 1) zero t s.below (inr (omega arith))
+pub zero_passed : (a b middle : ℕ) (zero one : Node) → AreSides middle zero one → IsTree zero → middle ≤ a → ready_between a b (entries zero) ≡ []
+zero_passed a b middle zero one s t h = let some = s.some in none_outside a b (first_key middle) (middle - 1) zero t s.below (inr (omega arith))
 
-pub one_passed : (a b first middle last : ℕ) (zero one : Node) → AreSides first middle last zero one → IsTree one → b < middle → ready_between a b (entries one) ≡ []
-one_passed a b first middle last zero one s t h = none_outside a b middle last one t s.above (inl h)
+pub one_passed : (a b middle : ℕ) (zero one : Node) → AreSides middle zero one → IsTree one → b < middle → ready_between a b (entries one) ≡ []
+one_passed a b middle zero one s t h = none_outside a b middle (last_key middle) one t s.above (inl h)
 
 -- ---- where a Ready tag is noted, there is one
 
@@ -267,11 +268,11 @@ some_noted a b f l (Tag k r) t w p q e = record { head = uid_of k; tail = []; so
   go true true e f = refl
   go true false e f = absurd (cc)
   go false s e f = absurd (cc)
-some_noted a b f l (Fork' ready quiet ptr middle zero one first last) t w p q e =
+some_noted a b f l (Fork' ready quiet ptr middle zero one) t w p q e =
     subst HasSome (sym (ready_append a b (entries zero) (entries one)))
     (go (notes_ready zero) (notes_ready one) (sym t.1.of_ready ∙ e)
-    (some_noted a b f l zero t.2 (zero_within f l first middle last zero one t.0 w.0 w.1) p q)
-    (some_noted a b f l one t.3 (one_within f l first middle last zero one t.0 w.0 w.1) p q)) where
+    (some_noted a b f l zero t.2 w.0 p q)
+    (some_noted a b f l one t.3 w.1 p q)) where
       go : (x y : Bool) → (x || y) ≡ true → (x ≡ true → HasSome (ready_between a b (entries zero))) → (y ≡ true → HasSome (ready_between a b (entries one)))
           → HasSome (ready_between a b (entries zero) ++ ready_between a b (entries one))
       go true y e g h = some_first (ready_between a b (entries zero)) (ready_between a b (entries one)) (g refl)
@@ -293,7 +294,7 @@ all_noted (Tag k r) t e = go r e where
   go : (r : Bool) → not r ≡ false → one r ≡ one true
   go true e = refl
   go false e = absurd (cc)
-all_noted (Fork' ready quiet ptr middle zero one first last) t e =
+all_noted (Fork' ready quiet ptr middle zero one) t e =
     let h = or_parts (notes_quiet zero) (notes_quiet one) (sym t.1.of_quiet ∙ e) in
     all_both (entries zero) (entries one) (all_noted zero t.2 h.0) (all_noted one t.3 h.1)
 

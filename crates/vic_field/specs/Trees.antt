@@ -1,5 +1,6 @@
 -- Tags in a tree by their keys: each fork has a key that parts its two sides.
-use Rattle.std.specs.Prelude.{◌≡◌, ℕ, ◌-◌, ◌^◌, ◌<◌, ◌≤◌, ◌==◌, Bool, true, false, not, ◌||◌, List, [], ◌∷◌, ◌++◌, Option, Some, None, nat_lt, if◌then◌else◌}
+use Rattle.std.specs.Prelude.{◌≡◌, ℕ, ◌+◌, ◌-◌, ◌*◌, ◌^◌, ◌<◌, ◌≤◌, ◌==◌, Bool, true, false, not, ◌||◌, List, [], ◌∷◌, ◌++◌, Option, Some, None, nat_lt, if◌then◌else◌}
+use Rattle.std.specs.Int.RustNames.{bit_and, bit_or}
 use Rattle.std.specs.Option.{option_map}
 use Rattle.vic_frame.specs.declared.uid.TheConstants.{UID_BITS}
 use Rattle.vic_field.specs.declared.field.Outcome.{Outcome}
@@ -11,43 +12,57 @@ use Rattle.vic_field.specs.declared.tree.Node.TheVariants.{Empty, Tag}
 abbrev pub entries : Node → List (ℕ × Bool)
 entries Empty = []
 entries (Tag k r) = (k, r) ∷ []
-entries (Fork' ready quiet p middle zero one first last) = entries zero ++ entries one
+entries (Fork' ready quiet p middle zero one) = entries zero ++ entries one
 
 -- whether the tag with the key q is Ready, if it is there
 abbrev pub state : Node → ℕ → Option Bool
 state Empty q = None
 state (Tag k r) q = if k == q then Some r else None
-state (Fork' ready quiet p middle zero one first last) q =
+state (Fork' ready quiet p middle zero one) q =
     if nat_lt q middle then state zero q else state one q
 
 -- what a node notes of Ready tags
 abbrev pub notes_ready : Node → Bool
 notes_ready Empty = false
 notes_ready (Tag k r) = r
-notes_ready (Fork' ready quiet p middle zero one first last) = ready
+notes_ready (Fork' ready quiet p middle zero one) = ready
 
 -- what a node notes of Quiet tags
 abbrev pub notes_quiet : Node → Bool
 notes_quiet Empty = false
 notes_quiet (Tag k r) = not r
-notes_quiet (Fork' ready quiet p middle zero one first last) = quiet
+notes_quiet (Fork' ready quiet p middle zero one) = quiet
 
 -- a node whose keys lie from a to b
 abbrev pub IsWithin : ℕ → ℕ → Node → Type 0
 IsWithin a b Empty = Unit {0}
 IsWithin a b (Tag k r) = (a ≤ k) × (k ≤ b)
-IsWithin a b (Fork' ready quiet p middle zero one first last) = (a ≤ first) × (last ≤ b)
+IsWithin a b (Fork' ready quiet p middle zero one) = IsWithin a b zero × IsWithin a b one
 
 -- a node whose keys are those of UIDs
 abbrev pub HasKeys : Node → Type 0
 HasKeys node = IsWithin 0 (2 ^ UID_BITS - 1) node
 
+-- the first key that a fork with this middle may hold, and the last: those that agree with it
+-- above its lowest 1
+abbrev pub first_key : ℕ → ℕ
+first_key middle = bit_and middle (middle - 1)
+
+abbrev pub last_key : ℕ → ℕ
+last_key middle = bit_or middle (middle - 1)
+
+-- the keys from first to last are those that agree above their `size` low bits
+pub record IsBlock (first last : ℕ) : Type 0 where
+  pub size : ℕ
+  pub number : ℕ
+  pub begins : first ≡ number * 2 ^ size
+  pub ends : last + 1 ≡ (number + 1) * 2 ^ size
+
 -- the sides of a fork: the keys of one are below the middle, those of the other aren't
-pub record AreSides (first middle last : ℕ) (zero one : Node) : Type 0 where
-  pub low : first < middle
-  pub high : middle ≤ last
-  pub below : IsWithin first (middle - 1) zero
-  pub above : IsWithin middle last one
+pub record AreSides (middle : ℕ) (zero one : Node) : Type 0 where
+  pub some : 0 < middle
+  pub below : IsWithin (first_key middle) (middle - 1) zero
+  pub above : IsWithin middle (last_key middle) one
 
 -- what a fork notes of its sides
 pub record AreNotes (ready quiet : Bool) (zero one : Node) : Type 0 where
@@ -58,8 +73,8 @@ pub record AreNotes (ready quiet : Bool) (zero one : Node) : Type 0 where
 abbrev pub IsTree : Node → Type 0
 IsTree Empty = Unit {0}
 IsTree (Tag k r) = Unit {0}
-IsTree (Fork' ready quiet p middle zero one first last) =
-    AreSides first middle last zero one × AreNotes ready quiet zero one
+IsTree (Fork' ready quiet p middle zero one) =
+    AreSides middle zero one × AreNotes ready quiet zero one
     × IsTree zero × IsTree one
 
 -- the keys lie where they lay

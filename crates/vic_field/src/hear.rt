@@ -7,7 +7,7 @@ ghost use Rattle.vic_field.specs.Trees.{entries, HasKeys, IsTree, members, notes
 ghost use Rattle.vic_frame.specs.LowBitsFirst.{IsKey, uid_of};
 
 use crate::field::Outcome;
-use crate::tree::{Fork, Node, notes_ready};
+use crate::tree::{Fork, Node, first_key, last_key, notes_ready};
 use vic_frame::{Mask, low_bits_first, without_top_byte};
 
 /// What a reader hears of the Ready tags in a mask.
@@ -54,7 +54,10 @@ fn hear(node: &Node, first: u64, last: u64, before: Outcome) -> Outcome
             if fork.middle <= first {
                 return hear(&fork.one, first, last, before);
             }
-            if first <= fork.first && fork.last <= last && are_both_ready(fork) {
+            if first <= first_key(fork.middle)
+                && last_key(fork.middle) <= last
+                && are_both_ready(fork)
+            {
                 return Outcome::Several;
             }
             let heard = hear(&fork.zero, first, last, before);

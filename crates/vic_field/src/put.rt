@@ -1,15 +1,11 @@
 //! One tag more in a tree.
 
 ghost use Rattle.std.specs.Prelude.{◌≡◌, ◌<◌, ◌≤◌, false, true, OnOk, OnErr};
-ghost use Rattle.vic_field.specs.Trees.{notes_ready, notes_quiet, IsWithin, IsTree, StaysWithinBut, HasPutKey};
+ghost use Rattle.vic_field.specs.Trees.{first_key, last_key, notes_ready, notes_quiet, IsBlock, IsWithin, IsTree, StaysWithinBut, HasPutKey};
 
-use crate::tree::{Fork, Node, has_quiet, has_ready, notes_quiet};
+use crate::tree::{Fork, Node, first_key, has_quiet, has_ready, last_key, notes_quiet};
 use std::alloc::{AllocError, Global};
 use std::mem;
-use vic_frame::UID_BITS;
-
-/// How many bits of a key are 1 at most.
-const MAX_ONES: u8 = UID_BITS;
 
 /// Puts the tag with this key in. It is Ready then, also where it was there. Takes one box at most.
 pub(crate) fn put(node: &mut Node, alloc: Global, key: u64) -> Result<(), AllocError>
@@ -19,48 +15,61 @@ pub(crate) fn put(node: &mut Node, alloc: Global, key: u64) -> Result<(), AllocE
     ensures there { OnOk result (HasPutKey key node.old node.new) }
     ensures unchanged { OnErr result (node.new ≡ node.old) }
 {
-    let (first, last) = match node {
+    match node {
         Node::Empty => {
             *node = Node::Tag { key, ready: true };
-            return Ok(());
+            Ok(())
         }
         Node::Tag { key: here, ready } => {
-            if *here == key {
+            let here = *here;
+            if here == key {
                 *ready = true;
                 return Ok(());
             }
-            (*here, *here)
+            put_beside(node, alloc, key, here, here)
         }
         Node::Fork { ready, quiet, fork } => {
-            if fork.first <= key && key <= fork.last || agree(fork.middle, key) {
-                let low = fork.first.min(key);
-                let high = fork.last.max(key);
-                if key < fork.middle {
-                    put(&mut fork.zero, alloc, key)?;
-                } else {
-                    put(&mut fork.one, alloc, key)?;
-                }
-                fork.first = low;
-                fork.last = high;
-                *ready = has_ready(fork);
-                *quiet = has_quiet(fork);
-                return Ok(());
+            let first = first_key(fork.middle);
+            let last = last_key(fork.middle);
+            let inside = first <= key && key <= last;
+            if !inside {
+                return put_beside(node, alloc, key, first, last);
             }
-            (fork.first, fork.last)
+            if key < fork.middle {
+                put(&mut fork.zero, alloc, key)?;
+            } else {
+                put(&mut fork.one, alloc, key)?;
+            }
+            *ready = has_ready(fork);
+            *quiet = has_quiet(fork);
+            Ok(())
         }
-    };
+    }
+}
+
+/// Puts a fork in place of a node: the node's tags, which lie in the block from `first` to `last`,
+/// and beside them the Ready tag with this key.
+fn put_beside(
+    node: &mut Node,
+    alloc: Global,
+    key: u64,
+    first: u64,
+    last: u64,
+) -> Result<(), AllocError>
+    requires tree { IsTree node.old }
+    requires within { IsWithin first last node.old }
+    requires block { IsBlock first last }
+    requires beside { first ≤ key → last < key }
+    ensures tree { OnOk result (IsTree node.new) }
+    ensures within { OnOk result (StaysWithinBut key node.old node.new) }
+    ensures there { OnOk result (HasPutKey key node.old node.new) }
+    ensures unchanged { OnErr result (node.new ≡ node.old) }
+{
     if key < first {
         put_before(node, alloc, key, first, last)
     } else {
         put_behind(node, alloc, key, first, last)
     }
-}
-
-/// Whether a key has the bits of a fork's middle above its lowest 1.
-fn agree(middle: u64, key: u64) -> bool
-    requires { 0 < middle }
-{
-    middle ^ key <= middle ^ (middle - 1)
 }
 
 /// The key with the fewest low bits that lies above `low` and up to `high`: their common high bits,
@@ -69,20 +78,18 @@ fn middle_between(low: u64, high: u64) -> u64
     requires { low < high }
     ensures above { low < result }
     ensures up_to { result ≤ high }
+    ensures first { first_key result ≤ low }
+    ensures last { high ≤ last_key result }
 {
     let mut middle = high;
-    for _ in 0..MAX_ONES {
-        let shorter = middle & (middle - 1);
-        if shorter <= low {
-            return middle;
-        }
-        middle = shorter;
+    while low < first_key(middle) {
+        middle = first_key(middle);
     }
     middle
 }
 
 /// Puts a fork in place of a node: the Ready tag with this key, and behind it the node's tags,
-/// which lie from `first` to `last`.
+/// which lie in the block from `first` to `last`.
 fn put_before(
     node: &mut Node,
     alloc: Global,
@@ -92,10 +99,10 @@ fn put_before(
 ) -> Result<(), AllocError>
     requires tree { IsTree node.old }
     requires within { IsWithin first last node.old }
-    requires forward { first ≤ last }
+    requires block { IsBlock first last }
     requires before { key < first }
     ensures tree { OnOk result (IsTree node.new) }
-    ensures within { OnOk result (IsWithin key last node.new) }
+    ensures within { OnOk result (StaysWithinBut key node.old node.new) }
     ensures there { OnOk result (HasPutKey key node.old node.new) }
     ensures unchanged { OnErr result (node.new ≡ node.old) }
 {
@@ -106,8 +113,6 @@ fn put_before(
             middle: middle_between(key, first),
             zero: Node::Tag { key, ready: true },
             one: Node::Empty,
-            first: key,
-            last,
         },
     )?;
     fork.one = mem::replace(node, Node::Empty);
@@ -119,8 +124,8 @@ fn put_before(
     Ok(())
 }
 
-/// Puts a fork in place of a node: the node's tags, which lie from `first` to `last`, and behind
-/// them the Ready tag with this key.
+/// Puts a fork in place of a node: the node's tags, which lie in the block from `first` to `last`,
+/// and behind them the Ready tag with this key.
 fn put_behind(
     node: &mut Node,
     alloc: Global,
@@ -130,10 +135,10 @@ fn put_behind(
 ) -> Result<(), AllocError>
     requires tree { IsTree node.old }
     requires within { IsWithin first last node.old }
-    requires forward { first ≤ last }
+    requires block { IsBlock first last }
     requires behind { last < key }
     ensures tree { OnOk result (IsTree node.new) }
-    ensures within { OnOk result (IsWithin first key node.new) }
+    ensures within { OnOk result (StaysWithinBut key node.old node.new) }
     ensures there { OnOk result (HasPutKey key node.old node.new) }
     ensures unchanged { OnErr result (node.new ≡ node.old) }
 {
@@ -144,8 +149,6 @@ fn put_behind(
             middle: middle_between(last, key),
             zero: Node::Empty,
             one: Node::Tag { key, ready: true },
-            first,
-            last: key,
         },
     )?;
     fork.zero = mem::replace(node, Node::Empty);

@@ -1,8 +1,8 @@
 //! Tags in a tree by their keys, each Ready or Quiet.
 
-ghost use Rattle.std.specs.Prelude.{◌≡◌, ◌||◌, true, map};
+ghost use Rattle.std.specs.Prelude.{◌≡◌, ◌<◌, ◌||◌, true, map};
 ghost use Rattle.std.specs.Option.{is_some};
-ghost use Rattle.vic_field.specs.Trees.{entries, state, notes_ready, notes_quiet, IsTree, StaysWithin, HasSilencedKey};
+ghost use Rattle.vic_field.specs.Trees.{entries, first_key, last_key, state, notes_ready, notes_quiet, IsTree, StaysWithin, HasSilencedKey};
 
 /// A set of tags by their keys, each Ready or Quiet.
 ///
@@ -29,7 +29,7 @@ pub(crate) enum Node {
     },
 }
 
-/// Two sides that hold tags.
+/// Two sides that hold tags, whose keys agree with the middle above its lowest 1.
 #[cycle(node)]
 #[derive(Drop)]
 pub(crate) struct Fork {
@@ -37,10 +37,22 @@ pub(crate) struct Fork {
     pub(crate) middle: u64,
     pub(crate) zero: Node,
     pub(crate) one: Node,
-    /// A key up to the first one.
-    pub(crate) first: u64,
-    /// A key from the last one on.
-    pub(crate) last: u64,
+}
+
+/// The first key that a fork with this middle may hold.
+pub(crate) fn first_key(middle: u64) -> u64
+    requires { 0 < middle }
+    ensures { result ≡ first_key middle }
+{
+    middle & (middle - 1)
+}
+
+/// The last key that a fork with this middle may hold.
+pub(crate) fn last_key(middle: u64) -> u64
+    requires { 0 < middle }
+    ensures { result ≡ last_key middle }
+{
+    middle | (middle - 1)
 }
 
 /// Whether a tag is Ready.

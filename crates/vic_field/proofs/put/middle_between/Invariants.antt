@@ -1,5 +1,9 @@
 use Rattle.std.proofs.Common.{◌<◌, ◌≤◌}
+use Rattle.vic_field.specs.Trees.{last_key}
 use Rattle.vic_field.proofs.put.middle_between.Given as goal
 
-abbrev pub invariant-loop : goal.invariant-loop
-invariant-loop l = (l.low < l.middle) × (l.middle ≤ l.high)
+abbrev pub invariant-loop-middle : goal.invariant-loop-middle
+invariant-loop-middle l = (l.low < l.middle) × (l.middle ≤ l.high) × (l.high ≤ last_key l.middle)
+
+abbrev pub decreases-loop-middle : goal.decreases-loop-middle
+decreases-loop-middle l = l.middle
