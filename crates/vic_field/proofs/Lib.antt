@@ -1,6 +1,7 @@
 pub mod Keys
 pub mod TagLaws
 pub mod Blocks
+pub mod Growing
 pub mod TreeLaws
 pub mod Numbering
 pub mod Outcomes

@@ -1,6 +1,6 @@
 -- The entries of lines, one by one, and the UIDs that they list.
-use Rattle.std.proofs.Common.{◌≡◌, ℕ, zero, suc, Bool, true, false, ◌||◌, List, [], ◌∷◌, ◌++◌, take, Option, Some, None, refl, sym, ap, ◌∙◌, subst, arith, ⊎_elim}
-use Rattle.std.specs.Prelude.{slice_get, if◌then◌else◌}
+use Rattle.std.proofs.Common.{◌≡◌, ℕ, zero, suc, false, List, [], ◌∷◌, ◌++◌, take, Some, refl, sym, ap, ◌∙◌, subst, arith, ⊎_elim}
+use Rattle.std.specs.Prelude.{slice_get}
 use Rattle.std.proofs.lemmas.Bool.{cases_eq}
 use Rattle.vic_log.specs.declared.entry.Entry.{Entry}
 use Rattle.vic_log.specs.declared.entry.Entry.TheVariants.{Sent, Silent, Collision, Heard, Listed, Garbled, FieldCycle}
@@ -19,13 +19,6 @@ pub entries_next : (lines : List LogLine) (i : ℕ) (l : LogLine) → slice_get 
 entries_next [] i l k = absurd (cc)
 entries_next (x ∷ lines) zero l k = let same : x ≡ l = cc in ap (λ (y : LogLine). y.item ∷ []) same
 entries_next (x ∷ lines) (suc i) l k = ap (λ (es : List Entry). x.item ∷ es) (entries_next lines i l k)
-
--- what is Ready with one listed UID more
-pub ready_next : (h k : Bool) (r s : Option Bool) → r ≡ (if h then Some true else None) → s ≡ (if k then Some true else r) → s ≡ (if (h || k) then Some true else None)
-ready_next true true r s e f = f
-ready_next true false r s e f = f ∙ e
-ready_next false true r s e f = f
-ready_next false false r s e f = f ∙ e
 
 -- one line more that tells of no slot
 pub no_slots_next : (n : ℕ) (lines : List LogLine) (l : LogLine) → HasNoSlotsBefore n lines → slice_get lines n ≡ Some l → is_slot l.item ≡ false → HasNoSlotsBefore (suc n) lines

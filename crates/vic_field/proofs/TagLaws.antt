@@ -12,7 +12,7 @@ use Rattle.vic_frame.specs.Masks.{BitMask}
 use Rattle.vic_frame.specs.Uids.{IsUid, has}
 use Rattle.vic_frame.specs.Masks.{lies_in}
 use Rattle.vic_frame.specs.LowBitsFirst.{IsKey, mirror, uid_of}
-use Rattle.vic_field.specs.Keys.{tags_of, ready_between}
+use Rattle.vic_field.specs.Keys.{tags_of, ready_between, uids_at}
 use Rattle.vic_field.specs.Tags.{uids, readiness, ready_in}
 use Rattle.vic_frame.proofs.MirrorLaws.{mirror_below, uid_of_mirror, mirror_of_uid}
 use Rattle.vic_frame.proofs.KeyLaws.{key_test, is_uid}
@@ -22,6 +22,15 @@ by_key u [] h small = refl
 by_key u (e ∷ es) h small =
     ap (λ (b : Bool). cond b (Some e.1) (lookup (is_at (nat_cmp (mirror u))) es)) (key_test u e.0 h (All-head IsKey e.0 (keys_of es) small))
     ∙ ap (λ (w : Option Bool). cond (u == uid_of e.0) (Some e.1) w) (by_key u es h (All-tail IsKey e.0 (keys_of es) small))
+
+-- a UID is among those of keys where its key is among these
+pub has_key : (u : ℕ) (ks : List ℕ) → IsUid u → All IsKey ks → has ks (mirror u) ≡ has (uids_at ks) u
+has_key u [] h small = refl
+has_key u (k ∷ ks) h small =
+    ap (λ (b : Bool). b || has ks (mirror u)) (plain (mirror u) k ∙ key_test u k h (All-head IsKey k ks small))
+    ∙ ap (λ (b : Bool). nat_eq u (uid_of k) || b) (has_key u ks h (All-tail IsKey k ks small)) where
+      plain : (a b : ℕ) → nat_eq a b ≡ is_eq (nat_cmp a b)
+      plain a b = grind (arith, nat_tests)
 
 pub same_key : (u v : ℕ) → IsUid u → IsUid v → is_eq (nat_cmp (mirror v) (mirror u)) ≡ (u == v)
 same_key u v h k = key_test v (mirror u) k (mirror_below 56 u) ∙ ap (λ (x : ℕ). v == x) (uid_of_mirror u h) ∙ turn v u where

@@ -1,8 +1,10 @@
 -- Tags in a tree by their keys: each fork has a key that parts its two sides.
 use Rattle.std.specs.Prelude.{◌≡◌, ℕ, ◌+◌, ◌-◌, ◌*◌, ◌^◌, ◌<◌, ◌≤◌, ◌==◌, Bool, true, false, not, ◌||◌, List, [], ◌∷◌, ◌++◌, Option, Some, None, nat_lt, if◌then◌else◌}
 use Rattle.std.specs.Int.RustNames.{bit_and, bit_or}
+use Rattle.std.specs.List.{All}
 use Rattle.std.specs.Option.{option_map}
 use Rattle.vic_frame.specs.declared.uid.TheConstants.{UID_BITS}
+use Rattle.vic_frame.specs.Uids.{has}
 use Rattle.vic_field.specs.declared.field.Outcome.{Outcome}
 use Rattle.vic_field.specs.declared.field.Outcome.TheVariants.{Silent, Lone, Several}
 use Rattle.vic_field.specs.declared.tree.Node.{Node, Fork'}
@@ -85,6 +87,20 @@ StaysWithin old new = (a b : ℕ) → IsWithin a b old → IsWithin a b new
 abbrev pub StaysWithinBut : ℕ → Node → Node → Type 0
 StaysWithinBut key old new =
     (a b : ℕ) → IsWithin a b old → a ≤ key → key ≤ b → IsWithin a b new
+
+-- keys about a middle: those below it, and behind them the others
+pub record ArePartedAt (middle : ℕ) (ks zero one : List ℕ) : Type 0 where
+  pub all : ks ≡ zero ++ one
+  pub below : All (λ k. k < middle) zero
+  pub above : All (λ k. middle ≤ k) one
+
+-- a node whose keys lie where these do
+abbrev pub LiesWith : List ℕ → Node → Type 0
+LiesWith ks node = (a b : ℕ) → All (λ k. (a ≤ k) × (k ≤ b)) ks → IsWithin a b node
+
+-- a node of the tags with these keys, all Ready
+abbrev pub HasReadyTags : List ℕ → Node → Type 0
+HasReadyTags ks node = (q : ℕ) → state node q ≡ (if has ks q then Some true else None)
 
 -- the tag with this key is Ready now, and the others are as they were
 abbrev pub HasPutKey : ℕ → Node → Node → Type 0

@@ -1,12 +1,16 @@
 //! The tags of a field, each Ready or Quiet.
 
-ghost use Rattle.std.specs.Prelude.{◌≡◌, ℕ, ◌==◌, [], true, false, MatchResult, OnOk, OnErr};
+ghost use Rattle.std.specs.Prelude.{◌≡◌, ℕ, ◌==◌, [], true, false, IfOk, MatchResult, OnOk, OnErr};
+ghost use Rattle.std.specs.List.{All};
+ghost use Rattle.std.specs.List.Sorted.{IsNonDecreasing};
 ghost use Rattle.std.specs.Option.{option_map};
 ghost use Rattle.vic_log.specs.Populations.{IsPopulation};
+ghost use Rattle.vic_field.specs.Keys.{uids_at};
 ghost use Rattle.vic_field.specs.Tags.{uids, readiness, ready_in, quiets, heard, RefusesTag, HasAdded, HasSilenced};
 ghost use Rattle.vic_frame.specs.LowBitsFirst.{IsKey, uid_of};
 ghost use Rattle.vic_frame.specs.Uids.{has};
 
+use crate::grow::grow;
 use crate::hear::hear_mask;
 use crate::put::put;
 use crate::tree::{self, Node};
@@ -75,6 +79,16 @@ impl Field {
         }
     }
 
+    /// A field of the tags with these keys, all Ready.
+    pub(crate) fn of_keys(alloc: Global, keys: &[u64]) -> Result<Field, AllocError>
+        requires order { IsNonDecreasing keys.now }
+        requires keys { All IsKey keys.now }
+        ensures { IfOk result (HasAdded (has (uids_at keys.now)) []) }
+    {
+        let root = grow(alloc, keys)?;
+        Ok(Field { root, alloc })
+    }
+
     /// Adds a tag to the field, which is Ready then. Refused where a tag with this UID is there.
     pub fn add(&mut self, uid: Uid) -> Result<(), AddFault>
         ensures answer { MatchResult result
@@ -91,7 +105,7 @@ impl Field {
     }
 
     /// Puts the tag with this key into the field. It is Ready then, also where it was there.
-    pub(crate) fn put(&mut self, key: u64) -> Result<(), AllocError>
+    fn put(&mut self, key: u64) -> Result<(), AllocError>
         requires { IsKey key }
         ensures added { OnOk result (HasAdded (λ u. u == uid_of key) self.old self.new) }
         ensures unchanged { OnErr result (self.new ≡ self.old) }

@@ -2,6 +2,7 @@
 #![tactic(auto)]
 
 mod field;
+mod grow;
 mod hear;
 mod populate;
 mod put;

@@ -14,14 +14,12 @@ use vic_frame::low_bits_first;
 use vic_log::{Entry, LogLine};
 
 /// A field of the tags that are listed, all Ready.
-///
-/// They are put in by the order of their keys, so that those of a mask stand together in memory.
 pub(crate) fn populate(alloc: Global, lines: &[LogLine]) -> Result<Field, AllocError>
     ensures { IfOk result (HasAdded (has (listed (entries lines.now))) []) }
 {
     let mut keys = listed_keys(alloc, lines)?;
     keys.sort_unstable();
-    field_of(alloc, &keys)
+    Field::of_keys(alloc, &keys)
 }
 
 /// The keys of the UIDs that are listed.
@@ -50,16 +48,4 @@ fn push_listed(keys: &mut Vec<u64>, item: &Entry) -> Result<(), AllocError>
         | Entry::FieldCycle => {}
     }
     Ok(())
-}
-
-/// A field of the tags with these keys, all Ready.
-fn field_of(alloc: Global, keys: &[u64]) -> Result<Field, AllocError>
-    requires { All IsKey keys.now }
-    ensures { IfOk result (HasAdded (has (uids_at keys.now)) []) }
-{
-    let mut field = Field::new(alloc);
-    for key in keys {
-        field.put(*key)?;
-    }
-    Ok(field)
 }

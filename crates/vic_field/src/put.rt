@@ -1,9 +1,11 @@
 //! One tag more in a tree.
 
 ghost use Rattle.std.specs.Prelude.{◌≡◌, ◌<◌, ◌≤◌, false, true, OnOk, OnErr};
-ghost use Rattle.vic_field.specs.Trees.{first_key, last_key, notes_ready, notes_quiet, IsBlock, IsWithin, IsTree, StaysWithinBut, HasPutKey};
+ghost use Rattle.vic_field.specs.Trees.{notes_ready, notes_quiet, IsBlock, IsWithin, IsTree, StaysWithinBut, HasPutKey};
 
-use crate::tree::{Fork, Node, first_key, has_quiet, has_ready, last_key, notes_quiet};
+use crate::tree::{
+    Fork, Node, first_key, has_quiet, has_ready, last_key, middle_between, notes_quiet,
+};
 use std::alloc::{AllocError, Global};
 use std::mem;
 
@@ -70,22 +72,6 @@ fn put_beside(
     } else {
         put_behind(node, alloc, key, first, last)
     }
-}
-
-/// The key with the fewest low bits that lies above `low` and up to `high`: their common high bits,
-/// and a 1 where they differ first.
-fn middle_between(low: u64, high: u64) -> u64
-    requires { low < high }
-    ensures above { low < result }
-    ensures up_to { result ≤ high }
-    ensures first { first_key result ≤ low }
-    ensures last { high ≤ last_key result }
-{
-    let mut middle = high;
-    while low < first_key(middle) {
-        middle = first_key(middle);
-    }
-    middle
 }
 
 /// Puts a fork in place of a node: the Ready tag with this key, and behind it the node's tags,

@@ -1,6 +1,6 @@
 //! Tags in a tree by their keys, each Ready or Quiet.
 
-ghost use Rattle.std.specs.Prelude.{◌≡◌, ◌<◌, ◌||◌, true, map};
+ghost use Rattle.std.specs.Prelude.{◌≡◌, ◌<◌, ◌≤◌, ◌||◌, true, map};
 ghost use Rattle.std.specs.Option.{is_some};
 ghost use Rattle.vic_field.specs.Trees.{entries, first_key, last_key, state, notes_ready, notes_quiet, IsTree, StaysWithin, HasSilencedKey};
 
@@ -53,6 +53,22 @@ pub(crate) fn last_key(middle: u64) -> u64
     ensures { result ≡ last_key middle }
 {
     middle | (middle - 1)
+}
+
+/// The key with the fewest low bits that lies above `low` and up to `high`: their common high bits,
+/// and a 1 where they differ first.
+pub(crate) fn middle_between(low: u64, high: u64) -> u64
+    requires { low < high }
+    ensures above { low < result }
+    ensures up_to { result ≤ high }
+    ensures first { first_key result ≤ low }
+    ensures last { high ≤ last_key result }
+{
+    let mut middle = high;
+    while low < first_key(middle) {
+        middle = first_key(middle);
+    }
+    middle
 }
 
 /// Whether a tag is Ready.

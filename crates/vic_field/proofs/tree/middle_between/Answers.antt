@@ -2,7 +2,7 @@ use Rattle.std.proofs.Common.{◌<◌, ◌≤◌, ◌-◌, arith}
 use Rattle.std.proofs.lemmas.Nat.{and_le_l, le_or_l}
 use Rattle.vic_field.specs.Trees.{first_key, last_key}
 use Rattle.vic_field.proofs.Blocks.{cleared}
-use Rattle.vic_field.proofs.put.middle_between.Goals as goal
+use Rattle.vic_field.proofs.tree.middle_between.Goals as goal
 
 pub loop-middle-init : goal.loop-middle-init
 loop-middle-init c = (c.requires, omega arith, le_or_l c.args.high (c.args.high - 1))
