@@ -9,7 +9,7 @@ use Rattle.std.proofs.lemmas.List.{get_or-append-add, get_or_default, length-app
 use Rattle.std.proofs.lemmas.List.Folds.{list_any-append, list_any_at, list_any_none}
 use Rattle.vic_frame.specs.Uids.{has}
 use Rattle.vic_field.specs.declared.tree.Node.{Node}
-use Rattle.vic_field.specs.Trees.{first_key, last_key, ArePartedAt, AreSides, LiesWith}
+use Rattle.vic_field.specs.Trees.{first_key, last_key, ArePartedAt, AreSides, IsSome, LiesWith}
 
 -- what holds of all keys holds of those on each side
 pub of_sides : (P : ℕ → Type 0) (ks zero one : List ℕ) → ks ≡ zero ++ one → All P ks → All P zero × All P one
@@ -44,11 +44,13 @@ one_key ks q up some same = go (get_or ks 0 0 == q) refl where
 
 -- the sides of a fork whose middle parts the keys
 pub sides_of : (middle first last : ℕ) (ks zero one : List ℕ) (z o : Node) → ArePartedAt middle ks zero one → All (λ k. (first ≤ k) × (k ≤ last)) ks → first_key middle ≤ first → last ≤ last_key middle → 0 < middle
-    → LiesWith zero z → LiesWith one o → AreSides middle z o
-sides_of middle first last ks zero one z o parted between low high some below above =
+    → IsSome z → IsSome o → LiesWith zero z → LiesWith one o → AreSides middle z o
+sides_of middle first last ks zero one z o parted between low high positive some_zero some_one below above =
     let each = of_sides (λ k. (first ≤ k) × (k ≤ last)) ks zero one parted.all between in
     record {
-      some = some;
+      positive = positive;
+      some_zero = some_zero;
+      some_one = some_one;
       below = below (first_key middle) (middle - 1) (λ k d lt. (let l = (each.0 k d lt).0 in omega arith, let l = parted.below k d lt in omega arith));
       above = above middle (last_key middle) (λ k d lt. (parted.above k d lt, let l = (each.1 k d lt).1 in omega arith));
     }

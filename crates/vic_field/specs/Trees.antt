@@ -1,5 +1,5 @@
 -- Tags in a tree by their keys: each fork has a key that parts its two sides.
-use Rattle.std.specs.Prelude.{◌≡◌, ℕ, ◌+◌, ◌-◌, ◌*◌, ◌^◌, ◌<◌, ◌≤◌, ◌==◌, Bool, true, false, not, ◌||◌, List, [], ◌∷◌, ◌++◌, Option, Some, None, nat_lt, if◌then◌else◌}
+use Rattle.std.specs.Prelude.{◌≡◌, ℕ, map, ◌+◌, ◌-◌, ◌*◌, ◌^◌, ◌<◌, ◌≤◌, ◌==◌, Bool, true, false, ◌||◌, List, [], ◌∷◌, ◌++◌, Option, Some, None, nat_lt, if◌then◌else◌}
 use Rattle.std.specs.Int.RustNames.{bit_and, bit_or}
 use Rattle.std.specs.List.{All}
 use Rattle.std.specs.Option.{option_map}
@@ -10,36 +10,56 @@ use Rattle.vic_field.specs.declared.field.Outcome.TheVariants.{Silent, Lone, Sev
 use Rattle.vic_field.specs.declared.tree.Node.{Node, Fork'}
 use Rattle.vic_field.specs.declared.tree.Node.TheVariants.{Empty, Tag}
 
+-- tags by their keys, all Ready where they were woken
+abbrev pub as_woken : Bool → List (ℕ × Bool) → List (ℕ × Bool)
+as_woken woken es = if woken then map (λ e. (e.0, true)) es else es
+
+-- whether a tag is Ready, if it is there, where it was woken or not
+abbrev pub state_woken : Bool → Option Bool → Option Bool
+state_woken woken o = if woken then option_map (λ _. true) o else o
+
 -- the keys of the tags, and whether each is Ready, in the order of keys
 abbrev pub entries : Node → List (ℕ × Bool)
 entries Empty = []
 entries (Tag k r) = (k, r) ∷ []
-entries (Fork' ready quiet p middle zero one) = entries zero ++ entries one
+entries (Fork' ready woken p middle zero one) = as_woken woken (entries zero ++ entries one)
 
 -- whether the tag with the key q is Ready, if it is there
 abbrev pub state : Node → ℕ → Option Bool
 state Empty q = None
 state (Tag k r) q = if k == q then Some r else None
-state (Fork' ready quiet p middle zero one) q =
-    if nat_lt q middle then state zero q else state one q
+state (Fork' ready woken p middle zero one) q =
+    state_woken woken (if nat_lt q middle then state zero q else state one q)
 
 -- what a node notes of Ready tags
 abbrev pub notes_ready : Node → Bool
 notes_ready Empty = false
 notes_ready (Tag k r) = r
-notes_ready (Fork' ready quiet p middle zero one) = ready
+notes_ready (Fork' ready woken p middle zero one) = ready
 
--- what a node notes of Quiet tags
-abbrev pub notes_quiet : Node → Bool
-notes_quiet Empty = false
-notes_quiet (Tag k r) = not r
-notes_quiet (Fork' ready quiet p middle zero one) = quiet
+-- how many forks stand in a node
+abbrev pub forks : Node → ℕ
+forks Empty = 0
+forks (Tag k r) = 0
+forks (Fork' ready woken p middle zero one) = 1 + (forks zero + forks one)
+
+-- a node that holds a tag
+abbrev pub IsSome : Node → Type 0
+IsSome Empty = ⊥
+IsSome (Tag k r) = Unit {0}
+IsSome (Fork' ready woken p middle zero one) = Unit {0}
+
+-- a node of which what stands below it is to be believed
+abbrev pub IsToldBelow : Node → Type 0
+IsToldBelow Empty = Unit {0}
+IsToldBelow (Tag k r) = Unit {0}
+IsToldBelow (Fork' ready woken p middle zero one) = woken ≡ false
 
 -- a node whose keys lie from a to b
 abbrev pub IsWithin : ℕ → ℕ → Node → Type 0
 IsWithin a b Empty = Unit {0}
 IsWithin a b (Tag k r) = (a ≤ k) × (k ≤ b)
-IsWithin a b (Fork' ready quiet p middle zero one) = IsWithin a b zero × IsWithin a b one
+IsWithin a b (Fork' ready woken p middle zero one) = IsWithin a b zero × IsWithin a b one
 
 -- a node whose keys are those of UIDs
 abbrev pub HasKeys : Node → Type 0
@@ -60,24 +80,29 @@ pub record IsBlock (first last : ℕ) : Type 0 where
   pub begins : first ≡ number * 2 ^ size
   pub ends : last + 1 ≡ (number + 1) * 2 ^ size
 
--- the sides of a fork: the keys of one are below the middle, those of the other aren't
+-- the sides of a fork hold tags: the keys of one are below the middle, those of the other aren't
 pub record AreSides (middle : ℕ) (zero one : Node) : Type 0 where
-  pub some : 0 < middle
+  pub positive : 0 < middle
+  pub some_zero : IsSome zero
+  pub some_one : IsSome one
   pub below : IsWithin (first_key middle) (middle - 1) zero
   pub above : IsWithin middle (last_key middle) one
-
--- what a fork notes of its sides
-pub record AreNotes (ready quiet : Bool) (zero one : Node) : Type 0 where
-  pub of_ready : ready ≡ (notes_ready zero || notes_ready one)
-  pub of_quiet : quiet ≡ (notes_quiet zero || notes_quiet one)
 
 -- a tree whose forks part the keys, and note rightly
 abbrev pub IsTree : Node → Type 0
 IsTree Empty = Unit {0}
 IsTree (Tag k r) = Unit {0}
-IsTree (Fork' ready quiet p middle zero one) =
-    AreSides middle zero one × AreNotes ready quiet zero one
+IsTree (Fork' ready woken p middle zero one) =
+    AreSides middle zero one × (ready ≡ (woken || (notes_ready zero || notes_ready one)))
     × IsTree zero × IsTree one
+
+-- there still is a tag
+abbrev pub StaysSome : Node → Node → Type 0
+StaysSome old new = IsSome old → IsSome new
+
+-- the tags are as they were
+abbrev pub HasSameTags : Node → Node → Type 0
+HasSameTags old new = (q : ℕ) → state new q ≡ state old q
 
 -- the keys lie where they lay
 abbrev pub StaysWithin : Node → Node → Type 0

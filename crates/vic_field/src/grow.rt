@@ -2,9 +2,9 @@
 
 ghost use Rattle.std.specs.Prelude.{◌-◌, ◌<◌, ◌≤◌, length, slice_index, IfOk};
 ghost use Rattle.std.specs.List.Sorted.{IsNonDecreasing};
-ghost use Rattle.vic_field.specs.Trees.{ArePartedAt, HasReadyTags, IsTree, LiesWith};
+ghost use Rattle.vic_field.specs.Trees.{ArePartedAt, HasReadyTags, IsSome, IsTree, LiesWith};
 
-use crate::tree::{Fork, Node, has_quiet, has_ready, middle_between};
+use crate::tree::{Fork, Node, has_ready, middle_between};
 use std::alloc::{AllocError, Global};
 
 /// A tree of the tags with these keys, all Ready.
@@ -14,6 +14,7 @@ use std::alloc::{AllocError, Global};
 pub(crate) fn grow(alloc: Global, keys: &[u64]) -> Result<Node, AllocError>
     requires { IsNonDecreasing keys.now }
     ensures tree { IfOk result IsTree }
+    ensures some { 0 < length keys.now → IfOk result IsSome }
     ensures within { IfOk result (LiesWith keys.now) }
     ensures ready { IfOk result (HasReadyTags keys.now) }
 {
@@ -41,8 +42,8 @@ pub(crate) fn grow(alloc: Global, keys: &[u64]) -> Result<Node, AllocError>
     fork.zero = grow(alloc, zero)?;
     fork.one = grow(alloc, one)?;
     Ok(Node::Fork {
-        ready: has_ready(&fork),
-        quiet: has_quiet(&fork),
+        ready: has_ready(&fork, false),
+        woken: false,
         fork,
     })
 }
@@ -56,6 +57,8 @@ fn part_at(keys: &[u64], middle: u64) -> (&[u64], &[u64])
     ensures parted { ArePartedAt middle keys.now result.0.now result.1.now }
     ensures order_below { IsNonDecreasing result.0.now }
     ensures order_above { IsNonDecreasing result.1.now }
+    ensures some_below { 0 < length result.0.now }
+    ensures some_above { 0 < length result.1.now }
     ensures fewer_below { length result.0.now < length keys.now }
     ensures fewer_above { length result.1.now < length keys.now }
 {

@@ -1,11 +1,9 @@
 //! One tag more in a tree.
 
 ghost use Rattle.std.specs.Prelude.{◌≡◌, ◌<◌, ◌≤◌, false, true, OnOk, OnErr};
-ghost use Rattle.vic_field.specs.Trees.{notes_ready, notes_quiet, IsBlock, IsWithin, IsTree, StaysWithinBut, HasPutKey};
+ghost use Rattle.vic_field.specs.Trees.{notes_ready, HasPutKey, IsBlock, IsSome, IsTree, IsWithin, StaysWithinBut};
 
-use crate::tree::{
-    Fork, Node, first_key, has_quiet, has_ready, last_key, middle_between, notes_quiet,
-};
+use crate::tree::{Fork, Node, first_key, has_ready, last_key, middle_between};
 use std::alloc::{AllocError, Global};
 use std::mem;
 
@@ -13,6 +11,7 @@ use std::mem;
 pub(crate) fn put(node: &mut Node, alloc: Global, key: u64) -> Result<(), AllocError>
     requires { IsTree node.old }
     ensures tree { OnOk result (IsTree node.new) }
+    ensures some { OnOk result (IsSome node.new) }
     ensures within { OnOk result (StaysWithinBut key node.old node.new) }
     ensures there { OnOk result (HasPutKey key node.old node.new) }
     ensures unchanged { OnErr result (node.new ≡ node.old) }
@@ -30,7 +29,7 @@ pub(crate) fn put(node: &mut Node, alloc: Global, key: u64) -> Result<(), AllocE
             }
             put_beside(node, alloc, key, here, here)
         }
-        Node::Fork { ready, quiet, fork } => {
+        Node::Fork { ready, woken, fork } => {
             let first = first_key(fork.middle);
             let last = last_key(fork.middle);
             let inside = first <= key && key <= last;
@@ -42,8 +41,7 @@ pub(crate) fn put(node: &mut Node, alloc: Global, key: u64) -> Result<(), AllocE
             } else {
                 put(&mut fork.one, alloc, key)?;
             }
-            *ready = has_ready(fork);
-            *quiet = has_quiet(fork);
+            *ready = has_ready(fork, *woken);
             Ok(())
         }
     }
@@ -60,9 +58,11 @@ fn put_beside(
 ) -> Result<(), AllocError>
     requires tree { IsTree node.old }
     requires within { IsWithin first last node.old }
+    requires some { IsSome node.old }
     requires block { IsBlock first last }
     requires beside { first ≤ key → last < key }
     ensures tree { OnOk result (IsTree node.new) }
+    ensures some { OnOk result (IsSome node.new) }
     ensures within { OnOk result (StaysWithinBut key node.old node.new) }
     ensures there { OnOk result (HasPutKey key node.old node.new) }
     ensures unchanged { OnErr result (node.new ≡ node.old) }
@@ -85,14 +85,15 @@ fn put_before(
 ) -> Result<(), AllocError>
     requires tree { IsTree node.old }
     requires within { IsWithin first last node.old }
+    requires some { IsSome node.old }
     requires block { IsBlock first last }
     requires before { key < first }
     ensures tree { OnOk result (IsTree node.new) }
+    ensures some { OnOk result (IsSome node.new) }
     ensures within { OnOk result (StaysWithinBut key node.old node.new) }
     ensures there { OnOk result (HasPutKey key node.old node.new) }
     ensures unchanged { OnErr result (node.new ≡ node.old) }
 {
-    let quiet = notes_quiet(node);
     let mut fork = Box::new(
         alloc,
         Fork {
@@ -104,7 +105,7 @@ fn put_before(
     fork.one = mem::replace(node, Node::Empty);
     *node = Node::Fork {
         ready: true,
-        quiet,
+        woken: false,
         fork,
     };
     Ok(())
@@ -121,14 +122,15 @@ fn put_behind(
 ) -> Result<(), AllocError>
     requires tree { IsTree node.old }
     requires within { IsWithin first last node.old }
+    requires some { IsSome node.old }
     requires block { IsBlock first last }
     requires behind { last < key }
     ensures tree { OnOk result (IsTree node.new) }
+    ensures some { OnOk result (IsSome node.new) }
     ensures within { OnOk result (StaysWithinBut key node.old node.new) }
     ensures there { OnOk result (HasPutKey key node.old node.new) }
     ensures unchanged { OnErr result (node.new ≡ node.old) }
 {
-    let quiet = notes_quiet(node);
     let mut fork = Box::new(
         alloc,
         Fork {
@@ -140,7 +142,7 @@ fn put_behind(
     fork.zero = mem::replace(node, Node::Empty);
     *node = Node::Fork {
         ready: true,
-        quiet,
+        woken: false,
         fork,
     };
     Ok(())

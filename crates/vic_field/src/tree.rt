@@ -1,8 +1,8 @@
 //! Tags in a tree by their keys, each Ready or Quiet.
 
-ghost use Rattle.std.specs.Prelude.{◌≡◌, ◌<◌, ◌≤◌, ◌||◌, true, map};
+ghost use Rattle.std.specs.Prelude.{◌≡◌, ◌<◌, ◌≤◌, ◌||◌, true};
 ghost use Rattle.std.specs.Option.{is_some};
-ghost use Rattle.vic_field.specs.Trees.{entries, first_key, last_key, state, notes_ready, notes_quiet, IsTree, StaysWithin, HasSilencedKey};
+ghost use Rattle.vic_field.specs.Trees.{as_woken, entries, first_key, forks, last_key, state, notes_ready, HasSameTags, HasSilencedKey, IsSome, IsToldBelow, IsTree, StaysSome, StaysWithin};
 
 /// A set of tags by their keys, each Ready or Quiet.
 ///
@@ -23,8 +23,8 @@ pub(crate) enum Node {
     Fork {
         /// Whether a tag is Ready.
         ready: bool,
-        /// Whether a tag is Quiet.
-        quiet: bool,
+        /// Whether all are Ready, whatever stands below.
+        woken: bool,
         fork: Box<Fork>,
     },
 }
@@ -82,29 +82,11 @@ pub(crate) fn notes_ready(node: &Node) -> bool
     }
 }
 
-/// Whether a tag is Quiet.
-pub(crate) fn notes_quiet(node: &Node) -> bool
-    ensures { result ≡ notes_quiet node.now }
+/// Whether a tag of a fork is Ready, of which all were woken or not.
+pub(crate) fn has_ready(fork: &Fork, woken: bool) -> bool
+    ensures { result ≡ (woken || (notes_ready fork.now.zero || notes_ready fork.now.one)) }
 {
-    match node {
-        Node::Empty => false,
-        Node::Tag { ready, .. } => !*ready,
-        Node::Fork { quiet, .. } => *quiet,
-    }
-}
-
-/// Whether a tag of a fork is Ready.
-pub(crate) fn has_ready(fork: &Fork) -> bool
-    ensures { result ≡ (notes_ready fork.now.zero || notes_ready fork.now.one) }
-{
-    notes_ready(&fork.zero) || notes_ready(&fork.one)
-}
-
-/// Whether a tag of a fork is Quiet.
-pub(crate) fn has_quiet(fork: &Fork) -> bool
-    ensures { result ≡ (notes_quiet fork.now.zero || notes_quiet fork.now.one) }
-{
-    notes_quiet(&fork.zero) || notes_quiet(&fork.one)
+    woken || notes_ready(&fork.zero) || notes_ready(&fork.one)
 }
 
 /// Whether the tag with this key is there.
@@ -128,9 +110,11 @@ pub(crate) fn holds(node: &Node, key: u64) -> bool
 pub(crate) fn silence(node: &mut Node, key: u64)
     requires { IsTree node.old }
     ensures tree { IsTree node.new }
+    ensures some { StaysSome node.old node.new }
     ensures within { StaysWithin node.old node.new }
     ensures quiet { HasSilencedKey key node.old node.new }
 {
+    hand_down(node);
     match node {
         Node::Empty => {}
         Node::Tag { key: here, ready } => {
@@ -138,35 +122,52 @@ pub(crate) fn silence(node: &mut Node, key: u64)
                 *ready = false;
             }
         }
-        Node::Fork { ready, quiet, fork } => {
+        Node::Fork { ready, woken, fork } => {
             if key < fork.middle {
                 silence(&mut fork.zero, key);
             } else {
                 silence(&mut fork.one, key);
             }
-            *ready = has_ready(fork);
-            *quiet = has_quiet(fork);
+            *ready = has_ready(fork, *woken);
         }
     }
 }
 
-/// Makes every tag Ready. Where all are, nothing below is looked at.
+/// Where all tags of a fork were woken, says so of each side instead.
+fn hand_down(node: &mut Node)
+    requires { IsTree node.old }
+    ensures tree { IsTree node.new }
+    ensures some { StaysSome node.old node.new }
+    ensures within { StaysWithin node.old node.new }
+    ensures size { forks node.new ≡ forks node.old }
+    ensures same { HasSameTags node.old node.new }
+    ensures plain { IsToldBelow node.new }
+{
+    if let Node::Fork { woken, fork, .. } = node {
+        if *woken {
+            wake(&mut fork.zero);
+            wake(&mut fork.one);
+            *woken = false;
+        }
+    }
+}
+
+/// Makes every tag Ready. Of a fork it is noted, and nothing below is looked at.
 pub(crate) fn wake(node: &mut Node)
     requires { IsTree node.old }
     ensures tree { IsTree node.new }
+    ensures some { StaysSome node.old node.new }
+    ensures noted { IsSome node.old → notes_ready node.new ≡ true }
     ensures within { StaysWithin node.old node.new }
-    ensures ready { entries node.new ≡ map (λ e. (e.0, true)) (entries node.old) }
+    ensures size { forks node.new ≡ forks node.old }
+    ensures ready { entries node.new ≡ as_woken true (entries node.old) }
 {
     match node {
         Node::Empty => {}
         Node::Tag { ready, .. } => *ready = true,
-        Node::Fork { ready, quiet, fork } => {
-            if *quiet {
-                wake(&mut fork.zero);
-                wake(&mut fork.one);
-                *ready = has_ready(fork);
-                *quiet = has_quiet(fork);
-            }
+        Node::Fork { ready, woken, .. } => {
+            *ready = true;
+            *woken = true;
         }
     }
 }

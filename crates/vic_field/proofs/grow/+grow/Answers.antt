@@ -1,7 +1,7 @@
 use Rattle.std.proofs.Common.{ℕ, Bool, true, false, ◌≡◌, ◌==◌, ◌||◌, ◌∙◌, ◌-◌, ◌<◌, ◌≤◌, length, get_or, Some, None, ap, sym, arith}
 use Rattle.std.specs.Prelude.{if◌then◌else◌}
 use Rattle.std.proofs.lemmas.Bool.Decides.{nat_tests}
-use Rattle.vic_field.specs.Trees.{notes_ready, notes_quiet}
+use Rattle.vic_field.specs.Trees.{notes_ready}
 use Rattle.vic_field.proofs.Growing.{one_key, of_sides, from_first_to_last, sides_of, state_of_sides}
 use Rattle.vic_field.proofs.grow.+grow.Goals as goal
 
@@ -21,10 +21,9 @@ returns-clause-tree t c =
     let first = get_or keys 0 0 in
     let last = get_or keys (length keys - 1) 0 in
     let ready : c.has_ready.result ≡ (notes_ready c.in_ok-fork-2.field-0 || notes_ready c.in_ok-fork-3.field-0) = rw (c.deref.ensures, c.deref_mut-2.ensures.value) at c.has_ready.ensures in
-    let quiet : c.has_quiet.result ≡ (notes_quiet c.in_ok-fork-2.field-0 || notes_quiet c.in_ok-fork-3.field-0) = rw (c.deref-2.ensures, c.deref_mut-2.ensures.value) at c.has_quiet.ensures in
     rw (c.deref_mut-2.ensures.value, c.deref_mut.ensures.value, c.in_ok-fork.ensures.ok) (
-      sides_of middle first last keys c.part_at.result.0.now c.part_at.result.1.now c.in_ok-fork-2.field-0 c.in_ok-fork-3.field-0 c.part_at.ensures.parted (from_first_to_last keys c.requires) about.first about.last (omega (arith, about.above)) c.in_ok-fork-2.ensures.within c.in_ok-fork-3.ensures.within,
-      record { of_ready = ready; of_quiet = quiet },
+      sides_of middle first last keys c.part_at.result.0.now c.part_at.result.1.now c.in_ok-fork-2.field-0 c.in_ok-fork-3.field-0 c.part_at.ensures.parted (from_first_to_last keys c.requires) about.first about.last (omega (arith, about.above)) (c.in_ok-fork-2.ensures.some c.part_at.ensures.some_below) (c.in_ok-fork-3.ensures.some c.part_at.ensures.some_above) c.in_ok-fork-2.ensures.within c.in_ok-fork-3.ensures.within,
+      ready,
       c.in_ok-fork-2.ensures.tree,
       c.in_ok-fork-3.ensures.tree,
     )

@@ -33,3 +33,9 @@ returns-clause-fewer_above c =
       | inl some ↦ omega (arith, some, c.split_at.ensures.back_len)
       | inr none ↦ absurd (let above = ltb-false _ _ ((point c).1 0 0 (omega (arith, none)) c.requires.some) in omega (arith, above, low))
     ]
+
+pub returns-clause-some_below : goal.returns-clause-some_below
+returns-clause-some_below c = let fewer = returns-clause-fewer_above c in let bound = c.partition_point.ensures.bound in omega (arith, fewer, c.split_at.ensures.front_len, c.split_at.ensures.back_len)
+
+pub returns-clause-some_above : goal.returns-clause-some_above
+returns-clause-some_above c = let fewer = returns-clause-fewer_below c in let bound = c.partition_point.ensures.bound in omega (arith, fewer, c.split_at.ensures.front_len, c.split_at.ensures.back_len)

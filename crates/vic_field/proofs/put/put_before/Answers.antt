@@ -13,8 +13,8 @@ returns-clause-tree c =
     let from = c.middle_between.ensures.first in
     let end : c.args.last ≤ last_key middle = nested (first_key middle) (last_key middle) c.args.first c.args.last (block_of middle (omega arith)) c.requires.block (omega arith) c.middle_between.ensures.last in
     rw (c.replace.ensures.value, c.deref_mut.ensures.value, c.in_ok-fork.ensures.ok) (
-      record { some = omega arith; below = (from, omega arith); above = widen c.args.first c.args.last middle (last_key middle) node up_to end c.requires.within },
-      record { of_ready = refl; of_quiet = c.notes_quiet-quiet.ensures },
+      record { positive = omega arith; some_zero = tt; some_one = c.requires.some; below = (from, omega arith); above = widen c.args.first c.args.last middle (last_key middle) node up_to end c.requires.within },
+      refl,
       tt,
       c.requires.tree,
     )

@@ -1,7 +1,7 @@
-use Rattle.std.proofs.Common.{◌-◌, ◌≤◌, ◌∙◌, arith}
-use Rattle.vic_field.specs.Trees.{first_key, notes_ready, notes_quiet}
+use Rattle.std.proofs.Common.{◌-◌, ◌≤◌, arith}
+use Rattle.vic_field.specs.Trees.{first_key, notes_ready}
 use Rattle.vic_field.proofs.Blocks.{begins_before}
-use Rattle.vic_field.proofs.TreeLaws.{widen, state_behind, with_ready, with_none}
+use Rattle.vic_field.proofs.TreeLaws.{widen, state_behind, with_ready}
 use Rattle.vic_field.proofs.put.put_behind.Goals as goal
 
 pub returns-clause-tree : goal.returns-clause-tree
@@ -12,8 +12,8 @@ returns-clause-tree c =
     let up_to = c.middle_between.ensures.up_to in
     let start : first_key middle ≤ c.args.first = begins_before middle c.args.first c.args.last c.requires.block above c.middle_between.ensures.first in
     rw (c.replace.ensures.value, c.deref_mut.ensures.value, c.in_ok-fork.ensures.ok) (
-      record { some = omega arith; below = widen c.args.first c.args.last (first_key middle) (middle - 1) node start (omega arith) c.requires.within; above = (up_to, c.middle_between.ensures.last) },
-      record { of_ready = with_ready (notes_ready node); of_quiet = c.notes_quiet-quiet.ensures ∙ with_none (notes_quiet node) },
+      record { positive = omega arith; some_zero = c.requires.some; some_one = tt; below = widen c.args.first c.args.last (first_key middle) (middle - 1) node start (omega arith) c.requires.within; above = (up_to, c.middle_between.ensures.last) },
+      with_ready (notes_ready node),
       c.requires.tree,
       tt,
     )
