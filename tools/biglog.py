@@ -304,6 +304,21 @@ def sim_pairs(random_, size):
     yield from map(claim, tags)
 
 
+@shape
+def sim_cycles(random_, size):
+    """Version 2. For simulate: SIZE random rounds and Stay Quiet, a few field cycles, SIZE tags."""
+    tags = new_tags(random_, size)
+    for _ in range(size):
+        turn, uid = random_.random(), random_.choice(tags)
+        if turn < 0.5:
+            yield silence(uid)
+        elif turn < 0.5003:
+            yield "F"
+        else:
+            yield ask(low(uid, random_.randrange(BITS + 1)))
+    yield from map(claim, tags)
+
+
 def main():
     words = [word for word in sys.argv[1:] if word != "--refused"]
     if len(words) not in (2, 3) or words[0] not in SHAPES:

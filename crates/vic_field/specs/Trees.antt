@@ -49,7 +49,7 @@ IsSome Empty = ⊥
 IsSome (Tag k r) = Unit {0}
 IsSome (Fork' ready woken p middle zero one) = Unit {0}
 
--- a node of which what stands below it is to be believed
+-- a node whose tags are Ready or Quiet as they are told below it
 abbrev pub IsToldBelow : Node → Type 0
 IsToldBelow Empty = Unit {0}
 IsToldBelow (Tag k r) = Unit {0}

@@ -24,7 +24,7 @@ pub(crate) fn hear_mask(node: &Node, mask: &Mask) -> Outcome
 }
 
 /// What a reader hears of the tags that were heard before and the Ready tags from the key `first`
-/// to the key `last`, all where they were woken.
+/// to the key `last`; where they were woken, all are Ready.
 ///
 /// It goes down to two Ready tags at most.
 fn hear(node: &Node, woken: bool, first: u64, last: u64, before: Outcome) -> Outcome
