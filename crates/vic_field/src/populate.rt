@@ -1,10 +1,8 @@
 //! A field of the tags that lines list.
 
 ghost use Rattle.std.specs.Prelude.{◌++◌, ◌∷◌, [], IfOk, OnOk, List, ℕ};
-ghost use Rattle.std.specs.List.{All};
-ghost use Rattle.vic_field.specs.Keys.{AreKeysOf, uids_at};
+ghost use Rattle.vic_field.specs.Keys.{AreKeysOf};
 ghost use Rattle.vic_field.specs.Tags.{HasAdded};
-ghost use Rattle.vic_frame.specs.LowBitsFirst.{IsKey};
 ghost use Rattle.vic_frame.specs.Uids.{has};
 ghost use Rattle.vic_log.specs.Order.{entries, listed};
 

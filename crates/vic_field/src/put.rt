@@ -1,7 +1,7 @@
 //! One tag more in a tree.
 
-ghost use Rattle.std.specs.Prelude.{◌≡◌, ◌<◌, ◌≤◌, false, true, OnOk, OnErr};
-ghost use Rattle.vic_field.specs.Trees.{notes_ready, HasPutKey, IsBlock, IsSome, IsTree, IsWithin, StaysWithinBut};
+ghost use Rattle.std.specs.Prelude.{◌≡◌, ◌<◌, ◌≤◌, OnOk, OnErr};
+ghost use Rattle.vic_field.specs.Trees.{HasPutKey, IsBlock, IsSome, IsTree, IsWithin, StaysWithinBut};
 
 use crate::tree::{Fork, Node, first_key, has_ready, last_key, middle_between};
 use std::alloc::{AllocError, Global};
