@@ -1,25 +1,28 @@
 /*
  * vicinity: is the list of tags that a reader claims whole?
  *
- * Written by the program vicinity_header; don't edit it by hand. vicinity_interface() tells whether
- * the library that is linked is the one that this header was written for.
+ * vicinity_interface() tells whether the library that is linked is the one that this header was
+ * written for.
  *
  * What a caller owes, since nothing checks it:
- * - `text` points to `text_len` bytes that may be read. It is not NULL, also where `text_len` is 0.
- *   `text_len` is at most PTRDIFF_MAX. No NUL is needed at the end; one inside is a byte like
- *   others.
- * - `answer` points to a struct that may be written. It is aligned to 8 bytes and is not NULL.
+ * - `text` points to `text_len` bytes that may be read, `bytes` to `len`. Neither is NULL, also if
+ *   there are 0 of them, and there are at most PTRDIFF_MAX. No NUL is needed at the end; one inside
+ *   is a byte like others.
+ * - `uids` points to `count` numbers that may be read. It is aligned and not NULL, also if `count`
+ *   is 0.
+ * - A pointer to a struct points to one that may be written. It is aligned and is not NULL.
  * - `population` points to `room` numbers that may be written, `needed` to one. They are aligned,
- *   and not NULL, also where `room` is 0.
- * - None of these overlaps another or the text.
- * - Nobody changes the text or touches what is written while the call runs.
+ *   and not NULL, also if `room` is 0.
+ * - What is written overlaps nothing else that is handed over.
+ * - Nobody changes what is read or touches what is written while the call runs.
  * - malloc, realloc and free are of one allocator, which aligns to 16 bytes.
  * - The call isn't made from a signal handler, nor in the forked child of a process with threads.
  * - The processor has x86-64-v2 (SSE4.2, POPCNT).
  * - The stack has 64 KiB left.
- * Calls share nothing: any number of threads may call at the same time. A call can't be stopped; it
- * takes seconds and hundreds of megabytes for a log of 1,000,000 lines, so bound the length of a
- * text from a stranger.
+ * Calls share nothing: any number of threads may call at the same time. The calls that judge a text
+ * take memory, and no other call does. They can't be stopped, and take about half a second and
+ * 100 MB for a session of 1,000,000 lines, more for some logs: bound the length of a text from a
+ * stranger.
  */
 #ifndef VICINITY_H
 #define VICINITY_H
@@ -33,6 +36,10 @@ extern "C" {
 
 #define VICINITY_INTERFACE 1u
 
+/* The version of this header, in words and as vicinity_version() gives that of the library. */
+#define VICINITY_VERSION "1.0.0"
+#define VICINITY_VERSION_NUMBER 10000u
+
 /*
  * What an answer is. Complete is 1 here and 0 as a status: compare the kind with VICINITY_COMPLETE,
  * and don't take the result of vicinity_check for true or false.
@@ -45,7 +52,7 @@ enum vicinity_kind {
     VICINITY_UNSETTLED = 4, /* UIDs whose `mask_len` low bits are `mask_value` may be there, unlisted; status 1 */
     VICINITY_DOUBTFUL = 5, /* the listed `uid` may be missing; status 1 */
     VICINITY_IMPOSSIBLE = 6, /* no tags could have given the log up to `line`; status 2 */
-    VICINITY_REFUSED = 7, /* the text is no log: `line` has `fault`; status 3 */
+    VICINITY_REFUSED = 7 /* the text is no log: `line` has `fault`; status 3 */
 };
 
 /* The first fault of a text that is no log, in the order in which the faults of a line count. */
@@ -76,7 +83,18 @@ enum vicinity_fault {
     VICINITY_FAULT_FRAME_SELECT_FLAG = 112,
     VICINITY_FAULT_FRAME_NOT_ADDRESSED = 113,
     VICINITY_FAULT_FRAME_ERROR_FLAG = 114,
-    VICINITY_FAULT_FRAME_NOT_VICINITY = 115,
+    VICINITY_FAULT_FRAME_NOT_VICINITY = 115
+};
+
+/* Why there is no frame, mask or line of what was given: the first that applies. */
+enum vicinity_refusal {
+    VICINITY_WRONG_LINK = 201, /* above 3 */
+    VICINITY_WRONG_SLOTS = 202, /* neither 1 nor 16 */
+    VICINITY_WRONG_MASK = 203, /* above 64 bits, or 60 with 16 slots, or a value with more bits */
+    VICINITY_WRONG_SLOT = 204, /* not below the number of slots */
+    VICINITY_WRONG_REPLY = 205, /* flags or DSFID above 255, Error_flag 1, or a UID without E0 */
+    VICINITY_TOO_LONG = 206, /* more bytes than there is room for */
+    VICINITY_WRONG_LETTER = 207 /* no line begins with it */
 };
 
 /* What the kind does not speak of is 0. A struct of zeros is VICINITY_NO_ANSWER, never complete. */
@@ -86,16 +104,63 @@ struct vicinity_answer {
     uint32_t count;      /* how many UIDs are listed */
     uint32_t line;       /* from 1 */
     uint32_t fault;      /* enum vicinity_fault */
-    uint32_t mask_len;   /* in bits, 0 to 64 */
+    uint32_t mask_len;   /* in bits, 0 to 56 */
     uint64_t mask_value; /* below two to the power of mask_len */
     uint64_t uid;        /* its top byte is E0 */
     char text[64]; /* the line that `vicinity check` writes, with its LF and zeros behind it */
 };
 
+/* A frame with zeros after it. If there is a fault all else is 0; so it is in the structs below. */
+struct vicinity_frame {
+    uint32_t fault; /* 0, or enum vicinity_refusal */
+    uint32_t len;
+    uint8_t bytes[16];
+};
+
+/* The fields of a request. Stay Quiet opens 0 slots and has a UID, Inventory a link and a mask. */
+struct vicinity_request {
+    uint32_t fault;      /* 0, or enum vicinity_fault */
+    uint32_t link;       /* 0 to 3 */
+    uint32_t slots;      /* 1 or 16; 0 of Stay Quiet */
+    uint32_t mask_len;
+    uint64_t mask_value;
+    uint64_t uid;        /* of Stay Quiet */
+};
+
+/* The fields of a reply. */
+struct vicinity_reply {
+    uint32_t fault; /* 0, or enum vicinity_fault */
+    uint16_t flags;
+    uint16_t dsfid;
+    uint64_t uid;
+};
+
+/* The low bits that a UID must have. */
+struct vicinity_mask {
+    uint32_t fault; /* 0, or enum vicinity_refusal */
+    uint32_t len;
+    uint64_t value;
+};
+
+/* A line of a log, LF included, with zeros after it. */
+struct vicinity_line {
+    uint32_t fault; /* 0, or enum vicinity_refusal */
+    uint32_t len;
+    char text[132];
+};
+
+/* The first line of a log. */
+#define VICINITY_HEADER_LINE "vicinity-log 2\n"
+
 #if defined(__STDC_VERSION__) && __STDC_VERSION__ >= 201112L
 _Static_assert(sizeof(struct vicinity_answer) == 104, "the size of struct vicinity_answer");
 _Static_assert(offsetof(struct vicinity_answer, mask_value) == 24, "where mask_value stands");
 _Static_assert(offsetof(struct vicinity_answer, text) == 40, "where text stands");
+_Static_assert(sizeof(struct vicinity_frame) == 24, "the size of struct vicinity_frame");
+_Static_assert(sizeof(struct vicinity_request) == 32, "the size of struct vicinity_request");
+_Static_assert(sizeof(struct vicinity_reply) == 16, "the size of struct vicinity_reply");
+_Static_assert(sizeof(struct vicinity_mask) == 16, "the size of struct vicinity_mask");
+_Static_assert(sizeof(struct vicinity_line) == 140, "the size of struct vicinity_line");
 #endif
 
 /*
@@ -103,6 +168,9 @@ _Static_assert(offsetof(struct vicinity_answer, text) == 40, "where text stands"
  * the meaning of a call does; not where a call is added.
  */
 uint32_t vicinity_interface(void);
+
+/* The library's version: its first number times 10,000, its second times 100, and its third. */
+uint32_t vicinity_version(void);
 
 /* Judges the log that a text spells, writes the answer, and returns its status. */
 uint32_t vicinity_check(const uint8_t *text, size_t text_len, struct vicinity_answer *answer);
@@ -116,6 +184,54 @@ uint32_t vicinity_check(const uint8_t *text, size_t text_len, struct vicinity_an
  */
 uint32_t vicinity_explain(const uint8_t *text, size_t text_len, struct vicinity_answer *answer,
                           uint64_t *population, size_t room, size_t *needed);
+
+/*
+ * Judges a text that lists nothing with a list beside it, as a reader's loop does. The answer is
+ * that of vicinity_check to the text with a line `U` for each UID after it, in the order given,
+ * which may be any. So the text ends with LF. A UID that comes twice has the fault
+ * VICINITY_FAULT_DUPLICATE_LISTED, one without E0 VICINITY_FAULT_NOT_VICINITY, at its line.
+ */
+uint32_t vicinity_check_listed(const uint8_t *text, size_t text_len, const uint64_t *uids,
+                               size_t count, struct vicinity_answer *answer);
+
+/* Judges and explains a text with a list beside it: vicinity_explain as vicinity_check_listed. */
+uint32_t vicinity_explain_listed(const uint8_t *text, size_t text_len, const uint64_t *uids,
+                                 size_t count, struct vicinity_answer *answer,
+                                 uint64_t *population, size_t room, size_t *needed);
+
+/* The calls below take no memory. Each fills its struct and returns the struct's fault. */
+
+/* Writes the frame of an Inventory request, CRC included. */
+uint32_t vicinity_write_inventory(uint32_t link, uint32_t slots, uint32_t mask_len,
+                                  uint64_t mask_value, struct vicinity_frame *frame);
+
+/* Writes the frame of a Stay Quiet request, CRC included. */
+uint32_t vicinity_write_stay_quiet(uint32_t link, uint64_t uid, struct vicinity_frame *frame);
+
+/* Writes the frame of a reply, CRC included, as a simulated field does. */
+uint32_t vicinity_write_response(uint32_t flags, uint32_t dsfid, uint64_t uid,
+                                 struct vicinity_frame *frame);
+
+/* Writes at most 14 bytes with their CRC after them: the frame of a chip that took the CRC off. */
+uint32_t vicinity_add_crc(const uint8_t *bytes, size_t len, struct vicinity_frame *frame);
+
+/* Reads a frame, CRC included, as a request: its fields, or its first fault. */
+uint32_t vicinity_read_request(const uint8_t *bytes, size_t len, struct vicinity_request *request);
+
+/* Reads a frame, CRC included, as a reply: its fields, or its first fault. */
+uint32_t vicinity_read_response(const uint8_t *bytes, size_t len, struct vicinity_reply *reply);
+
+/* Gives the mask of a slot, counted from 0, of an Inventory request: who answers in that slot. */
+uint32_t vicinity_slot_mask(uint32_t slots, uint32_t mask_len, uint64_t mask_value, uint32_t slot,
+                            struct vicinity_mask *mask);
+
+/*
+ * Writes a line of a log. `letter` says which: 'T' or 'R' with the frame's `bytes`, at most 63, which
+ * aren't judged; 'U' with `uid`; 'S', 'C', 'D' or 'F' alone. What the letter doesn't speak of isn't
+ * looked at.
+ */
+uint32_t vicinity_write_line(uint8_t letter, const uint8_t *bytes, size_t len, uint64_t uid,
+                             struct vicinity_line *line);
 
 #ifdef __cplusplus
 }

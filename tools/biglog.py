@@ -62,6 +62,11 @@ def low(uid, length):
     return length, uid & (1 << length) - 1
 
 
+def at_key(key):
+    """The UID at a key, in the order of low bits first."""
+    return 0xE0 << BITS | int(format(key, "056b")[::-1], 2)
+
+
 def new_tags(random_, size):
     """Different UIDs of one maker, in no order."""
     return [0xE004 << 48 | serial for serial in random_.sample(range(1 << 48), size)]
@@ -213,6 +218,116 @@ def heard_turns(random_, size):
         yield from (ask(EVERYONE), reply(0xE0 << BITS | 5))
 
 
+@shape
+def quiet_polls(random_, size):
+    """Ten tags are silenced, and the first by low bits answers each of SIZE open rounds: impossible at line 13."""
+    tags = [at_key(place << 40) for place in range(1, 11)]
+    yield from map(silence, tags)
+    for _ in range(size):
+        yield from (ask(EVERYONE), reply(tags[0]))
+    yield from map(claim, tags)
+
+
+@shape
+def quiet_answers(random_, size):
+    """A silenced tag answers SIZE open rounds, others are silenced before and in between: impossible early."""
+    yield from (silence(at_key(1 << 40)), *(silence(at_key(2 << 40 | place)) for place in range(size // 25)))
+    for number in range(size):
+        yield from (ask(EVERYONE), reply(at_key(1 << 40)))
+        if number % 25 == 24:
+            yield silence(at_key(3 << 40 | random_.getrandbits(40)))
+
+
+def apart(random_, size):
+    """The tags of SIZE keys, no two of them adjoining, in no order; and two whose keys adjoin after them."""
+    return [at_key(2 * place) for place in random_.sample(range(size), size)], at_key(2 * size), at_key(2 * size + 1)
+
+
+def in_nested_rounds(*outcomes):
+    """Rounds of the masks of 0 to 35 zeros, in each of them each of these lines."""
+    for length in range(36):
+        for outcome in outcomes:
+            yield from (ask((length, 0)), outcome)
+
+
+@shape
+def nest_singles_late(random_, size):
+    """Version 2. SIZE tags apart, left by silent nested rounds and Quiet again amid C and D: impossible at the end."""
+    tags, one, two = apart(random_, size)
+    yield from map(silence, [*tags, one, two])
+    yield from in_nested_rounds("S")
+    yield "F"
+    yield from map(silence, tags)
+    yield from in_nested_rounds("C", "D")
+    yield from (silence(two), silence(one), ask(low(two, BITS)), "D")
+
+
+@shape
+def nest_scattered_late(random_, size):
+    """Version 2. SIZE tags apart, Quiet in nested rounds that one answers, then in others with D: impossible at the end."""
+    tags, _, two = apart(random_, size)
+    yield from map(silence, tags)
+    yield from in_nested_rounds(reply(two))
+    yield from in_nested_rounds("D")
+    yield from (silence(two), ask(low(two, BITS)), "D")
+
+
+def half_heard(random_, size, length, mask_of):
+    """SIZE rounds of sixteen slots, in which one tag answers in each of the slots 0 to 7; then the round is left."""
+    for number in range(size):
+        value = mask_of(number)
+        yield ask((length, value), 16)
+        for slot in range(8):
+            yield reply(0xE0 << BITS | value | slot << length | random_.getrandbits(52 - length) << length + 4)
+
+
+@shape
+def eight_replies(random_, size):
+    """SIZE rounds of sixteen slots, far apart, a reply in the slots 0 to 7: unlisted, with the most open ranges."""
+    return half_heard(random_, size, 28, lambda number: at_key(number << 34) & (1 << 28) - 1)
+
+
+def ended_late(lines):
+    """These lines, and a collision where the last reply alone could be: impossible in the last line."""
+    for line in lines:
+        yield line
+    # the last line is a reply
+    uid = int.from_bytes(bytes.fromhex(line[6:22]), "little")
+    yield from (ask(low(uid, BITS)), "C")
+
+
+@shape
+def eight_replies_late(random_, size):
+    """The same, and a collision of one tag: impossible in the last line."""
+    return ended_late(eight_replies(random_, size))
+
+
+@shape
+def replies_listed(random_, size):
+    """The same without the collision, and the tags heard are listed in no order: unsettled 1 01."""
+    lines = list(eight_replies(random_, size))
+    yield from lines
+    found = [int.from_bytes(bytes.fromhex(line[6:22]), "little") for line in lines if line[0] == "R"]
+    yield from map(claim, random_.sample(found, len(found)))
+
+
+def half_heard_anywhere(random_, size):
+    return half_heard(random_, size, 40, lambda number: random_.getrandbits(40))
+
+
+@shape
+def sixteen_late(random_, size):
+    """SIZE rounds of random masks of 40 bits, a reply in the slots 0 to 7, a collision: impossible at the end."""
+    return ended_late(half_heard_anywhere(random_, size))
+
+
+@shape
+def listed_scattered(random_, size):
+    """SIZE such rounds without the collision, then as many other UIDs as lines, listed in no order: unlisted."""
+    yield from half_heard_anywhere(random_, size)
+    yield from map(claim, {0xE0 << BITS | random_.getrandbits(BITS) | 8 << 40 for _ in range(9 * size)})
+
+
 def truly(random_, tags, size, cycles):
     """Random rounds of one slot and Stay Quiet, answered as these tags would, and perhaps a few field cycles."""
     lengths = (8, 12, 14, 16, 18, 20, 24, 32, 40, BITS)
@@ -317,6 +432,12 @@ def sim_cycles(random_, size):
         else:
             yield ask(low(uid, random_.randrange(BITS + 1)))
     yield from map(claim, tags)
+
+
+@shape
+def sim_listed(random_, size):
+    """For simulate: SIZE tags in no order, and no request."""
+    return map(claim, new_tags(random_, size))
 
 
 def main():

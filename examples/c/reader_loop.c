@@ -1,159 +1,100 @@
 /* A reader's loop: rounds over a field of tags, each noted in a log, until the checker calls the list complete.
  *
- * A collision is asked again, four bits deeper. Where none is left the checker says what to ask: the mask of its answer
- * `unsettled`, whose UIDs may be there and aren't listed. The field is simulated here. A real reader sends the frames and
- * notes what comes back, in the same lines. */
+ * A collision is asked again by the mask of its slot; if none is left, the mask of the answer `unsettled` is. A tag that
+ * was silenced before it was heard wakes up in a field cycle. `send` and `slot_gave` stand for the reader's chip: here
+ * they ask a simulated field. */
 #include "vicinity.h"
 
-#include <inttypes.h>
-#include <stdarg.h>
 #include <stdio.h>
 #include <stdlib.h>
 #include <string.h>
 
-enum { MOST_TAGS = 1000, TEXT_ROOM = 1 << 24, SLOTS = 16, SLOT_BITS = 4 };
+enum { MOST_TAGS = 1000, MOST_ROUNDS = 2000, TEXT_ROOM = 1 << 22, SLOTS = 16 };
 
-/* The low bits of UIDs. */
-struct mask {
-    uint32_t len;
-    uint64_t value;
-};
+static uint64_t field[MOST_TAGS], silenced; /* what the reader doesn't know: its tags, and one that is Quiet */
+static size_t tags;
+static uint64_t heard[MOST_TAGS];
+static size_t count;
+static struct vicinity_mask collided[MOST_TAGS * SLOTS];
+static size_t collisions;
+static char text[TEXT_ROOM] = VICINITY_HEADER_LINE;
+static size_t len = sizeof VICINITY_HEADER_LINE - 1;
 
-/* UIDs, in rising order. */
-struct list {
-    uint64_t uids[MOST_TAGS];
-    size_t count;
-};
-
-struct reader {
-    struct list field; /* what the reader doesn't know */
-    struct list heard;
-    struct mask collided[MOST_TAGS]; /* apart from each other, with two tags each */
-    size_t collisions;
-    char text[TEXT_ROOM];
-    size_t len;
-    size_t rounds;
-};
-
-/* Puts a UID where it belongs, once. */
-static void put(struct list *list, uint64_t uid)
+/* Notes one line of the log. */
+static void note(char letter, const struct vicinity_frame *frame)
 {
-    size_t place = list->count;
-    while (place > 0 && list->uids[place - 1] >= uid)
-        place--;
-    if (place < list->count && list->uids[place] == uid)
-        return;
-    if (list->count == MOST_TAGS)
+    static const struct vicinity_frame none;
+    struct vicinity_line line;
+    frame = frame ? frame : &none;
+    if (vicinity_write_line((uint8_t)letter, frame->bytes, frame->len, 0, &line) || len + line.len > TEXT_ROOM)
         abort();
-    memmove(&list->uids[place + 1], &list->uids[place], (list->count - place) * sizeof uid);
-    list->uids[place] = uid;
-    list->count++;
+    memcpy(text + len, line.text, line.len);
+    len += line.len;
 }
 
-/* Notes something behind the log. */
-static void note(struct reader *reader, const char *format, ...)
+/* How many tags answer in a slot, and the reply if it is one: what a chip tells. */
+static size_t slot_gave(const struct vicinity_mask *slot, struct vicinity_frame *reply)
 {
-    va_list values;
-    va_start(values, format);
-    int len = vsnprintf(reader->text + reader->len, TEXT_ROOM - reader->len, format, values);
-    va_end(values);
-    if (len < 0 || (size_t)len >= TEXT_ROOM - reader->len)
-        abort();
-    reader->len += (size_t)len;
-}
-
-/* Notes a frame: its content and its CRC, ISO/IEC 13239, 16-bit FCS, low byte first. */
-static void note_frame(struct reader *reader, char letter, const uint8_t *content, size_t len)
-{
-    uint16_t crc = 0xFFFF;
-    note(reader, "%c ", letter);
-    for (size_t i = 0; i < len; i++) {
-        note(reader, "%02X", content[i]);
-        crc ^= content[i];
-        for (int bit = 0; bit < 8; bit++)
-            crc = (uint16_t)(crc >> 1 ^ (crc & 1 ? 0x8408 : 0));
+    size_t answering = 0;
+    for (size_t i = 0; i < tags; i++) {
+        if (field[i] != silenced && field[i] << (64 - slot->len) == slot->value << (64 - slot->len)) {
+            vicinity_write_response(0, 0, field[i], reply);
+            answering++;
+        }
     }
-    crc ^= 0xFFFF;
-    note(reader, "%02X%02X\n", crc & 0xFF, crc >> 8);
-}
-
-/* An Inventory request of sixteen slots: ISO/IEC 15693-3, Inventory request. */
-static void note_inventory(struct reader *reader, struct mask mask)
-{
-    uint8_t content[11] = {0x06, 0x01, (uint8_t)mask.len};
-    size_t bytes = (mask.len + 7) / 8;
-    for (size_t i = 0; i < bytes; i++)
-        content[3 + i] = (uint8_t)(mask.value >> 8 * i);
-    note_frame(reader, 'T', content, 3 + bytes);
-}
-
-/* A tag's response: no flag, DSFID 0, its UID with the low byte first. */
-static void note_response(struct reader *reader, uint64_t uid)
-{
-    uint8_t content[10] = {0x00, 0x00};
-    for (size_t i = 0; i < 8; i++)
-        content[2 + i] = (uint8_t)(uid >> 8 * i);
-    note_frame(reader, 'R', content, sizeof content);
+    return answering;
 }
 
 /* Asks the tags of a mask in sixteen slots, and notes the request and what each slot gave. */
-static void ask(struct reader *reader, struct mask mask)
+static void ask(uint32_t mask_len, uint64_t mask_value)
 {
-    note_inventory(reader, mask);
-    for (uint64_t slot = 0; slot < SLOTS; slot++) {
-        struct mask answering = {mask.len + SLOT_BITS, mask.value | slot << mask.len};
-        uint64_t bits = answering.len < 64 ? (UINT64_C(1) << answering.len) - 1 : UINT64_MAX;
-        size_t count = 0;
-        uint64_t uid = 0;
-        for (size_t i = 0; i < reader->field.count; i++) {
-            if ((reader->field.uids[i] & bits) == answering.value) {
-                uid = reader->field.uids[i];
-                count++;
-            }
-        }
-        if (count == 0) {
-            note(reader, "S\n");
-        } else if (count == 1) {
-            note_response(reader, uid);
-            put(&reader->heard, uid);
-        } else {
-            note(reader, "C\n");
-            reader->collided[reader->collisions++] = answering;
-        }
+    struct vicinity_frame frame;
+    struct vicinity_mask slot;
+    struct vicinity_reply reply;
+    if (vicinity_write_inventory(2, SLOTS, mask_len, mask_value, &frame))
+        abort();
+    note('T', &frame);
+    for (uint32_t k = 0; k < SLOTS; k++) {
+        vicinity_slot_mask(SLOTS, mask_len, mask_value, k, &slot);
+        size_t answering = slot_gave(&slot, &frame);
+        note(answering == 0 ? 'S' : answering == 1 ? 'R' : 'C', answering == 1 ? &frame : NULL);
+        if (answering > 1 && collisions < MOST_TAGS * SLOTS)
+            collided[collisions++] = slot;
+        if (answering == 1 && !vicinity_read_response(frame.bytes, frame.len, &reply) && count < MOST_TAGS)
+            heard[count++] = reply.uid;
     }
-    reader->rounds++;
-}
-
-/* Judges the log with what was heard so far as its list, which is taken off again. */
-static struct vicinity_answer judge(struct reader *reader)
-{
-    struct vicinity_answer answer;
-    size_t len = reader->len;
-    for (size_t i = 0; i < reader->heard.count; i++)
-        note(reader, "U %016" PRIX64 "\n", reader->heard.uids[i]);
-    vicinity_check((const uint8_t *)reader->text, reader->len, &answer);
-    reader->len = len;
-    return answer;
 }
 
 int main(int argc, char **argv)
 {
-    static struct reader reader;
-    size_t tags = argc > 1 ? strtoul(argv[1], NULL, 10) : 40;
+    struct vicinity_answer answer;
+    struct vicinity_frame frame;
+    size_t rounds = 0, cycles = 0;
+    tags = argc > 1 ? strtoul(argv[1], NULL, 10) : 40;
     if (vicinity_interface() != VICINITY_INTERFACE || tags > MOST_TAGS)
         return 4;
-    for (uint64_t state = 7; reader.field.count < tags;) {
-        state = state * UINT64_C(6364136223846793005) + UINT64_C(1442695040888963407);
-        put(&reader.field, UINT64_C(0xE0) << 56 | state >> 8);
+    for (size_t i = 0; i < tags; i++)
+        field[i] = UINT64_C(0xE0) << 56 | (i + 1) * UINT64_C(0x9E3779B97F4A7C15) >> 8;
+    if (tags > 0) { /* someone has silenced a tag before it was heard */
+        silenced = field[0];
+        vicinity_write_stay_quiet(2, silenced, &frame);
+        note('T', &frame);
     }
-    note(&reader, "vicinity-log 1\n");
-    struct vicinity_answer answer = judge(&reader);
-    while (answer.kind == VICINITY_UNSETTLED) {
-        struct mask unsettled = {answer.mask_len, answer.mask_value};
-        ask(&reader, reader.collisions > 0 ? reader.collided[--reader.collisions] : unsettled);
-        answer = judge(&reader);
+    vicinity_check_listed((const uint8_t *)text, len, heard, count, &answer);
+    for (; answer.kind == VICINITY_UNSETTLED && rounds < MOST_ROUNDS; rounds++) {
+        if (collisions > 0) {
+            collisions--;
+            ask(collided[collisions].len, collided[collisions].value);
+        } else {
+            if (answer.mask_len == 56) { /* one UID: it may be Quiet, so wake it up */
+                note('F', NULL);
+                silenced = 0;
+                cycles++;
+            }
+            ask(answer.mask_len, answer.mask_value);
+        }
+        vicinity_check_listed((const uint8_t *)text, len, heard, count, &answer);
     }
-    printf("%.*s after %zu rounds\n", (int)strcspn(answer.text, "\n"), answer.text, reader.rounds);
-    int found = reader.heard.count == tags && !memcmp(reader.heard.uids, reader.field.uids, tags * sizeof(uint64_t));
-    return answer.kind == VICINITY_COMPLETE && found ? 0 : 1;
+    printf("%.*s after %zu rounds and %zu field cycles\n", (int)strcspn(answer.text, "\n"), answer.text, rounds, cycles);
+    return answer.kind == VICINITY_COMPLETE && count == tags ? 0 : 1;
 }

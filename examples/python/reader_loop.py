@@ -1,11 +1,15 @@
 """A reader's loop: rounds over a field of tags, each noted in a log, until the checker calls the list complete.
 
-A collision is asked again, four bits deeper. Where none is left the checker says what to ask: the mask of its answer
-`unsettled`, whose UIDs may be there and aren't listed. The field is simulated here. A real reader sends the frames and notes what comes back, in the same lines."""
+A collision is asked again, four bits deeper. When none is left the checker says what to ask: the mask of its answer
+`unsettled`, whose UIDs may be there and aren't listed. If that is the mask that was just asked for, a tag was silenced
+before it was heard: the field is switched off and on. The field is simulated here. A real reader sends the frames and
+notes what comes back, in the same lines."""
 import random
 import sys
 
 import vicinity
+
+MOST_ROUNDS = 4000
 
 
 def frame(content):
@@ -21,6 +25,11 @@ def frame(content):
 def inventory(mask_len, mask):
     """An Inventory request of sixteen slots: ISO/IEC 15693-3, Inventory request."""
     return frame(bytes([0x06, 0x01, mask_len]) + mask.to_bytes((mask_len + 7) // 8, "little"))
+
+
+def stay_quiet(uid):
+    """A Stay Quiet request: ISO/IEC 15693-3, Stay Quiet."""
+    return frame(bytes([0x22, 0x02]) + uid.to_bytes(8, "little"))
 
 
 def response(uid):
@@ -46,24 +55,30 @@ def round_over(field, mask_len, mask, lines, heard):
     return collided
 
 
-def find_all(field):
-    """The tags of a field, the log that shows that they are all, and how many rounds it took."""
-    lines, heard, collided, rounds = ["vicinity-log 1"], set(), [], 0
-    while True:
+def find_all(field, silenced):
+    """The tags of a field, the log that shows that they are all, and how many rounds it took. One tag of the field is
+    silenced first, and not yet heard."""
+    lines, heard, collided, asked = ["vicinity-log 2", f"T {stay_quiet(silenced)}"], set(), [], None
+    answering = field - {silenced}
+    for rounds in range(MOST_ROUNDS + 1):
         listed = [f"U {uid:016X}" for uid in sorted(heard)]
         text = "\n".join(lines + listed) + "\n"
         answer = vicinity.check(text.encode())
-        if answer.kind != "unsettled":
+        if answer.kind is not vicinity.Kind.UNSETTLED:
             return answer, heard, text, rounds
-        mask_len, mask = collided.pop() if collided else (answer.mask_len, answer.mask_value)
-        collided += round_over(field, mask_len, mask, lines, heard)
-        rounds += 1
+        mask = collided.pop() if collided else (answer.mask_len, answer.mask_value)
+        if mask == asked:
+            lines.append("F")
+            answering = field
+        asked = mask
+        collided += round_over(answering, *mask, lines, heard)
+    return answer, heard, text, rounds
 
 
 def main(count, seed):
     rng = random.Random(seed)
     field = {0xE0 << 56 | rng.randrange(1 << 56) for _ in range(count)}
-    answer, heard, text, rounds = find_all(field)
+    answer, heard, text, rounds = find_all(field, min(field, default=0xE0 << 56))
     print(f"{answer} after {rounds} rounds and {text.count(chr(10))} lines")
     return 0 if answer.is_complete and heard == field else 1
 

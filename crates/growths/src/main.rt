@@ -1,12 +1,13 @@
 //! Makes each call that takes memory, and says how it answered: `right`, `memory` (want of memory,
 //! and the right answer when called again) or `wrong`.
 //!
-//! `.ci/growths` runs it with one growth refused, each in turn. With something on standard input it
-//! makes calls that are wrong on purpose.
+//! `tests/growths` runs it with one growth refused, each in turn. With `planted` on standard input
+//! it makes calls that are wrong on purpose, with a log it judges that, and the judgings are counted.
 #![tactic(auto)]
 
 mod explanations;
 mod found;
+mod judgings;
 mod logs;
 mod planted;
 mod rows;
@@ -17,10 +18,14 @@ mod verdicts;
 mod words;
 
 use found::Found;
+use judgings::judge_counted;
 use std::alloc::Global;
 use std::io;
-use std::io::Read;
+use vic_log::{FromRead, read_whole};
 use vic_tree::{CellList, MaskTree, RangeSet};
+
+/// How many bytes of standard input are read at most.
+const MAX_INPUT: usize = 100_000_000;
 
 /// Says how a call answered.
 fn say(rt: &HostRuntime, call: &str, found: Found) -> io::Result<()> {
@@ -35,11 +40,22 @@ fn say_planted(rt: &HostRuntime, alloc: Global) -> io::Result<()> {
     say(rt, "planted idleness", planted::takes_none())
 }
 
+/// What stands on standard input.
+fn read_input(rt: &HostRuntime, alloc: Global) -> io::Result<Vec<u8>> {
+    match read_whole(alloc, &mut FromRead::new(rt.stdin()), MAX_INPUT) {
+        Ok(input) => Ok(input),
+        Err(_) => Err(io::ErrorKind::Other.into()),
+    }
+}
+
 fn main(rt: HostRuntime) -> io::Result<()> {
     let alloc = rt.alloc();
-    let mut input = [0u8; 1];
-    if rt.reader().read(&mut input)? > 0 {
+    let input = read_input(&rt, alloc)?;
+    if input.as_slice() == b"planted".as_slice() {
         return say_planted(&rt, alloc);
+    }
+    if !input.is_empty() {
+        return judge_counted(&rt, alloc, &input);
     }
     say(&rt, "push", logs::push(alloc))?;
     say(&rt, "read_log", logs::read_rows(alloc))?;

@@ -2,3 +2,6 @@ mod Decoded
 mod CheckLines
 mod Standing
 mod Numbered
+mod SpelledWords
+mod SpellLaws
+mod SpellOnly

@@ -7,35 +7,41 @@ use Rattle.vic_answer.specs.declared.input.Reading.TheVariants.{Given, RefusedAt
 use Rattle.vic_answer.specs.declared.status.RunFault.{RunFault}
 use Rattle.vic_answer.specs.declared.status.RunFault.TheVariants.{Read, Write, Memory}
 use Rattle.vic_answer.specs.declared.status.Status.{Status}
-use Rattle.vic_answer.specs.Readings.{GivesReading, Stands}
-use Rattle.vic_answer.specs.Runs.{IsEnough, Runs}
+use Rattle.vic_answer.specs.Readings.{GivesReading, Stands, IsLog}
+use Rattle.vic_answer.specs.Runs.{IsEnough, RunsWhere}
 
 -- bytes whose reading stands can be answered
-pub enough : (left : Option (List ℕ)) (text : List ℕ) (reading : Reading) → Stands left text reading → IsEnough left text
-enough left text (Given log) h = inl h
-enough left text (RefusedAt n fault) (inl early) = inr record { line = n; fault = fault; early = early }
-enough left text (RefusedAt n fault) (inr ended) = inl ended
+enough : (IsOver : Type 0) (text : List ℕ) (reading : Reading) → Stands IsOver text reading → IsEnough IsOver text
+enough IsOver text (Given log) h = inl h
+enough IsOver text (RefusedAt n fault) (inl early) = inr record { line = n; fault = fault; early = early }
+enough IsOver text (RefusedAt n fault) (inr over) = inl over
 
--- a run that ends with the writing of its answer
-pub ends_written : (IsAnswerTo : List ℕ → List ℕ → Status → Type 0) (left left' taken taken' : Option (List ℕ)) (reading : Reading) (given : GivesReading left left' reading) (answer : List ℕ) (status : Status)
-    → IsAnswerTo given.text answer status → (r : Result Status RunFault) → IfOk r (λ s. s ≡ status) → OnOk r (Appends taken taken' answer) → HasTakenPrefix taken taken' answer → IfErr r (λ e. e ≡ Write)
-    → Runs IsAnswerTo left left' taken taken' r
-ends_written A left left' taken taken' reading given answer status right (Ok s) is written begun fault = record {
-  text = given.text;
-  given = given.given;
-  enough = enough left' given.text reading given.stands;
-  answer = answer;
-  right = subst (A given.text answer) (sym is) right;
-  written = written;
-}
-ends_written A left left' taken taken' reading given answer status right (Err Write) is written begun fault = record {
-  text = given.text;
-  given = given.given;
-  enough = enough left' given.text reading given.stands;
-  answer = answer;
-  status = status;
-  right = right;
-  begun = begun;
-}
-ends_written A left left' taken taken' reading given answer status right (Err Read) is written begun fault = cc
-ends_written A left left' taken taken' reading given answer status right (Err Memory) is written begun fault = cc
+-- a log stands only where no more bytes follow
+pub over : (IsOver : Type 0) (text : List ℕ) (reading : Reading) → Stands IsOver text reading → IsLog reading → IsOver
+over IsOver text (Given log) h given = h
+over IsOver text (RefusedAt n fault) h given = absurd given
+
+module _ (IsAnswerTo : List ℕ → List ℕ → Status → Type 0) (HasRead HadRead : List ℕ → Type 0) (IsOver : Type 0) (taken taken' : Option (List ℕ)) where
+  -- a run that ends with the writing of its answer
+  pub ends_written : (reading : Reading) (given : GivesReading HasRead IsOver reading) (answer : List ℕ) (status : Status)
+      → IsAnswerTo given.text answer status → (r : Result Status RunFault) → IfOk r (λ s. s ≡ status) → OnOk r (Appends taken taken' answer) → HasTakenPrefix taken taken' answer → IfErr r (λ e. e ≡ Write)
+      → RunsWhere IsAnswerTo HasRead HadRead IsOver taken taken' r
+  ends_written reading given answer status right (Ok s) is written begun fault = record {
+    text = given.text;
+    given = given.given;
+    enough = enough IsOver given.text reading given.stands;
+    answer = answer;
+    right = subst (IsAnswerTo given.text answer) (sym is) right;
+    written = written;
+  }
+  ends_written reading given answer status right (Err Write) is written begun fault = record {
+    text = given.text;
+    given = given.given;
+    enough = enough IsOver given.text reading given.stands;
+    answer = answer;
+    status = status;
+    right = right;
+    begun = begun;
+  }
+  ends_written reading given answer status right (Err Read) is written begun fault = cc
+  ends_written reading given answer status right (Err Memory) is written begun fault = cc

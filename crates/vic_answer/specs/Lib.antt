@@ -1,6 +1,7 @@
 pub mod Status
 pub mod Digits
 pub mod FrameText
+pub mod SpellText
 pub mod Refusals
 pub mod CheckText
 pub mod SimulateText

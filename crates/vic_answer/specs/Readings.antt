@@ -1,6 +1,7 @@
--- What the bytes give that a source hands out.
-use Rattle.std.specs.Prelude.{◌⊎◌, ℕ, ⊤, List, Option, Result, Ok, Err}
+-- What the bytes give that were read.
+use Rattle.std.specs.Prelude.{◌≡◌, ◌⊎◌, ℕ, Bool, true, ⊤, List, Option, Result, Ok, Err}
 use Rattle.std.specs.Io.KnownBytes.{Consumes, IsAtEnd}
+use Rattle.vic_log.specs.Device.{HandsOut, Grows}
 use Rattle.vic_log.specs.Early.{IsEarlyFault}
 use Rattle.vic_log.specs.Lines.{lines_of_text}
 use Rattle.vic_log.specs.Text.{IsLogOf, IsFirstFault}
@@ -15,21 +16,38 @@ abbrev pub IsReading : List ℕ → Reading → Type 0
 IsReading text (Given log) = IsLogOf (lines_of_text text) log
 IsReading text (RefusedAt n fault) = IsFirstFault (lines_of_text text) n fault
 
--- it stands, whatever follows: the source has no more, or no further byte can change the fault
-abbrev pub Stands : Option (List ℕ) → List ℕ → Reading → Type 0
-Stands left text (Given log) = IsAtEnd left
-Stands left text (RefusedAt n fault) = IsEarlyFault text n fault ⊎ IsAtEnd left
+-- it is a log, and no refusal
+abbrev pub IsLog : Reading → Type 0
+IsLog (Given log) = ⊤
+IsLog (RefusedAt n fault) = ⊥
 
--- a source handed out bytes, and this is what they give, whatever follows
-pub record GivesReading (left left' : Option (List ℕ)) (reading : Reading) : Type 0 where
+-- it stands, whatever follows: nothing does, or no further byte can change the fault
+abbrev pub Stands : Type 0 → List ℕ → Reading → Type 0
+Stands IsOver text (Given log) = IsOver
+Stands IsOver text (RefusedAt n fault) = IsEarlyFault text n fault ⊎ IsOver
+
+-- bytes were read, and this is what they give, whatever follows
+pub record GivesReading (HasRead : List ℕ → Type 0) (IsOver : Type 0) (reading : Reading)
+    : Type 0 where
   pub text : List ℕ
-  pub given : Consumes left left' text
+  pub given : HasRead text
   pub right : IsReading text reading
-  pub stands : Stands left' text reading
+  pub stands : Stands IsOver text reading
 
 -- the same by the result of reading
+abbrev pub GivesWhere : (List ℕ → Type 0) → (List ℕ → Type 0) → Type 0
+    → Result Reading RunFault → Type 0
+GivesWhere HasRead HadRead IsOver (Ok reading) = GivesReading HasRead IsOver reading
+GivesWhere HasRead HadRead IsOver (Err Read) = GivesNoEarlyFault HadRead
+GivesWhere HasRead HadRead IsOver (Err Memory) = ⊤
+GivesWhere HasRead HadRead IsOver (Err Write) = ⊥
+
+-- of the bytes that the source told before and after
 abbrev pub Gives : Option (List ℕ) → Option (List ℕ) → Result Reading RunFault → Type 0
-Gives left left' (Ok reading) = GivesReading left left' reading
-Gives left left' (Err Read) = GivesNoEarlyFault left left'
-Gives left left' (Err Memory) = ⊤
-Gives left left' (Err Write) = ⊥
+Gives left left' result =
+    GivesWhere (Consumes left left') (HandsOut left left') (IsAtEnd left') result
+
+-- of the bytes that the source's reads returned
+abbrev pub GivesOver : List ℕ → List ℕ → Bool → Result Reading RunFault → Type 0
+GivesOver returned returned' ended result =
+    GivesWhere (Grows returned returned') (Grows returned returned') (ended ≡ true) result

@@ -1,9 +1,9 @@
 -- What a run over a text reads and writes, and how it leaves its source and its sink.
-use Rattle.std.specs.Prelude.{◌≡◌, ◌≢◌, ◌↔◌, ◌⊎◌, ◌≤◌, ℕ, ◌+◌, Bool, true, false, ⊤, List, Option, Result, Ok, Err, OnOk, IfErr, is_err}
+use Rattle.std.specs.Prelude.{◌≡◌, ◌≢◌, ◌↔◌, ◌⊎◌, ◌≤◌, ℕ, ◌+◌, Bool, true, false, ⊤, List, ◌++◌, Option, Some, Result, Ok, Err, OnOk, IfErr, is_err}
 use Rattle.std.specs.Io.KnownBytes.{Consumes, Appends, IsAtEnd}
 use Rattle.vic_log.specs.declared.fault.LineFault.{LineFault}
 use Rattle.vic_log.specs.declared.reader.TheConstants.{MAX_READS}
-use Rattle.vic_log.specs.Device.{HandsOut, HasTakenPrefix}
+use Rattle.vic_log.specs.Device.{HandsOut, Grows, HasTakenPrefix, HasWrittenPrefix}
 use Rattle.vic_log.specs.Early.{IsEarlyFault}
 use Rattle.vic_answer.specs.declared.status.RunFault.{RunFault}
 use Rattle.vic_answer.specs.declared.status.RunFault.TheVariants.{Read, Write, Memory}
@@ -15,49 +15,69 @@ pub record HasEarlyFault (text : List ℕ) : Type 0 where
   pub fault : LineFault
   pub early : IsEarlyFault text line fault
 
--- bytes that can be answered: the source has no more, or no further byte can change their fault
-abbrev pub IsEnough : Option (List ℕ) → List ℕ → Type 0
-IsEnough left text = IsAtEnd left ⊎ HasEarlyFault text
+-- bytes that can be answered: no more follow, or no further byte can change their fault
+abbrev pub IsEnough : Type 0 → List ℕ → Type 0
+IsEnough IsOver text = IsOver ⊎ HasEarlyFault text
 
--- the source handed out bytes that can be answered, and the sink took their answer, with this
--- status, and nothing else
+-- bytes were read that can be answered, and the sink took their answer, with this status, and
+-- nothing else
 pub record Answers (IsAnswerTo : List ℕ → List ℕ → Status → Type 0)
-    (left left' taken taken' : Option (List ℕ)) (status : Status) : Type 0 where
+    (HasRead : List ℕ → Type 0) (IsOver : Type 0)
+    (taken taken' : Option (List ℕ)) (status : Status) : Type 0 where
   pub text : List ℕ
-  pub given : Consumes left left' text
-  pub enough : IsEnough left' text
+  pub given : HasRead text
+  pub enough : IsEnough IsOver text
   pub answer : List ℕ
   pub right : IsAnswerTo text answer status
   pub written : Appends taken taken' answer
 
 -- the same, but the sink took a prefix of their answer
 pub record AnswersInPart (IsAnswerTo : List ℕ → List ℕ → Status → Type 0)
-    (left left' taken taken' : Option (List ℕ)) : Type 0 where
+    (HasRead : List ℕ → Type 0) (IsOver : Type 0) (taken taken' : Option (List ℕ))
+    : Type 0 where
   pub text : List ℕ
-  pub given : Consumes left left' text
-  pub enough : IsEnough left' text
+  pub given : HasRead text
+  pub enough : IsEnough IsOver text
   pub answer : List ℕ
   pub status : Status
   pub right : IsAnswerTo text answer status
   pub begun : HasTakenPrefix taken taken' answer
 
--- the source handed out bytes that have no early fault
-pub record GivesNoEarlyFault (left left' : Option (List ℕ)) : Type 0 where
+-- bytes were read that have no early fault
+pub record GivesNoEarlyFault (HasRead : List ℕ → Type 0) : Type 0 where
   pub text : List ℕ
-  pub given : HandsOut left left' text
+  pub given : HasRead text
   pub none : HasEarlyFault text → ⊥
 
 -- what a run read and wrote, by its result: the answer is out, or a prefix of it where the sink
--- failed; where the source failed there was none yet to give
+-- failed; where the source failed there was none yet to give. What it means that bytes were read,
+-- also where the source has failed, and that no more follow, is said below in two ways
+abbrev pub RunsWhere : (List ℕ → List ℕ → Status → Type 0)
+    → (List ℕ → Type 0) → (List ℕ → Type 0) → Type 0
+    → Option (List ℕ) → Option (List ℕ) → Result Status RunFault → Type 0
+RunsWhere IsAnswerTo HasRead HadRead IsOver taken taken' (Ok status) =
+    Answers IsAnswerTo HasRead IsOver taken taken' status
+RunsWhere IsAnswerTo HasRead HadRead IsOver taken taken' (Err Write) =
+    AnswersInPart IsAnswerTo HasRead IsOver taken taken'
+RunsWhere IsAnswerTo HasRead HadRead IsOver taken taken' (Err Read) = GivesNoEarlyFault HadRead
+RunsWhere IsAnswerTo HasRead HadRead IsOver taken taken' (Err Memory) = ⊤
+
+-- over the bytes that the source told before and after, and the sink: nothing where they tell none
 abbrev pub Runs : (List ℕ → List ℕ → Status → Type 0)
     → Option (List ℕ) → Option (List ℕ) → Option (List ℕ) → Option (List ℕ)
     → Result Status RunFault → Type 0
-Runs IsAnswerTo left left' taken taken' (Ok status) =
-    Answers IsAnswerTo left left' taken taken' status
-Runs IsAnswerTo left left' taken taken' (Err Write) =
-    AnswersInPart IsAnswerTo left left' taken taken'
-Runs IsAnswerTo left left' taken taken' (Err Read) = GivesNoEarlyFault left left'
-Runs IsAnswerTo left left' taken taken' (Err Memory) = ⊤
+Runs IsAnswerTo left left' taken taken' result =
+    RunsWhere IsAnswerTo (Consumes left left') (HandsOut left left') (IsAtEnd left')
+    taken taken' result
+
+-- over the bytes that the source's reads returned, until one returned none, and that the sink's
+-- writes took: for every source and sink
+abbrev pub RunsOver : (List ℕ → List ℕ → Status → Type 0)
+    → List ℕ → List ℕ → Bool → List ℕ → List ℕ
+    → Result Status RunFault → Type 0
+RunsOver IsAnswerTo returned returned' ended written written' result =
+    RunsWhere IsAnswerTo (Grows returned returned') (Grows returned returned') (ended ≡ true)
+    (Some written) (Some written') result
 
 -- how a run leaves its source: failed exactly where the result is `Read`, and untouched where it
 -- had failed before
@@ -80,9 +100,11 @@ pub record LeavesSink {W : Type 0} (is_flushed has_failed : W → Bool)
 
 -- a sink took a text and handed it on, or failed and took a prefix of it; it is untouched where it
 -- had failed before
-pub record Writes {W A : Type 0} (taken : W → Option (List ℕ))
+pub record Writes {W A : Type 0} (written : W → List ℕ) (taken : W → Option (List ℕ))
     (is_flushed has_failed : W → Bool) (old new : W)
     (text : List ℕ) (result : Result A RunFault) : Type 0 where
+  pub wrote : OnOk result (written new ≡ written old ++ text)
+  pub part : HasWrittenPrefix (written old) (written new) text
   pub all : OnOk result (Appends (taken old) (taken new) text)
   pub flushed : OnOk result (is_flushed new ≡ true)
   pub begun : HasTakenPrefix (taken old) (taken new) text

@@ -4,7 +4,7 @@ use Rattle.std.specs.Prelude.{◌≡◌, ℕ, ◌+◌, ◌<◌, List, codes}
 use Rattle.vic_log.specs.declared.entry.TheConstants.{MAX_LINES}
 use Rattle.vic_log.specs.declared.fault.LineFault.TheVariants.{TooManyLines as ManyLines}
 use Rattle.vic_log.specs.Lines.{lines_of_text}
-use Rattle.vic_log.specs.Log.{LogValue}
+use Rattle.vic_log.specs.Log.{LogValue, IsLog}
 use Rattle.vic_log.specs.Text.{IsLogOf, IsFirstFault}
 use Rattle.vic_log.specs.Writing.{text_of}
 use Rattle.vic_field.specs.Simulation.{IsSimulation, HasNoSlots, IsFirstSlot, last_needed}
@@ -20,7 +20,7 @@ use Rattle.vic_answer.specs.declared.simulate.Simulated.TheVariants.{Filled, Ref
 abbrev pub IsSimulated : List ℕ → Simulated → Type 0
 IsSimulated text (Filled log) =
     (given : LogValue) × IsLogOf (lines_of_text text) given × IsSimulation given.lines log.lines
-    × (log.version ≡ given.version)
+    × (log.version ≡ given.version) × IsLog log.version log.lines
 IsSimulated text (RefusedAt n fault) = IsFirstFault (lines_of_text text) n fault
 IsSimulated text (OutcomeGiven n) =
     (given : LogValue) × IsLogOf (lines_of_text text) given × IsFirstSlot given.lines n

@@ -1,13 +1,12 @@
 //! The command `check`.
 
-ghost use Rattle.std.specs.Prelude.{◌≡◌, ◌<◌, ℕ, List, ◌++◌, Option, Some, IfOk, OnOk, codes};
-ghost use Rattle.std.specs.Io.KnownBytes.{IsAtEnd};
+ghost use Rattle.std.specs.Prelude.{◌≡◌, ◌<◌, ℕ, List, ◌++◌, Some, IfOk, OnOk, codes};
 ghost use Rattle.arrayvec.specs.ArrayVec.{array_vec_len};
 ghost use Rattle.vic_verdict.specs.declared.verdict.Verdict.TheVariants.{Complete};
 ghost use Rattle.vic_answer.specs.CheckText.{IsAnswer, IsCheckOf, IsCompleteText, answer_line, answer_status, verdict_status};
-ghost use Rattle.vic_answer.specs.CompleteRun.{GivesCompleteText};
-ghost use Rattle.vic_answer.specs.Readings.{IsReading, Stands};
-ghost use Rattle.vic_answer.specs.Runs.{Runs, LeavesSource, LeavesSink};
+ghost use Rattle.vic_answer.specs.CompleteRun.{GivesCompleteText, ReadsCompleteText};
+ghost use Rattle.vic_answer.specs.Readings.{IsReading, IsLog};
+ghost use Rattle.vic_answer.specs.Runs.{Runs, RunsOver, LeavesSource, LeavesSink, Writes};
 
 use crate::input::{Reading, read_source};
 use crate::lines::{LINE_ROOM, refusal_line, verdict_line};
@@ -53,32 +52,47 @@ pub fn run_check<R: Source, W: Sink>(
 ) -> Result<Status, RunFault>
     ensures answer { Runs IsCheckOf (R.left source.old) (R.left source.new)
         (W.taken sink.old) (W.taken sink.new) result }
+    // the same over the bytes that the reads returned and the writes took, whatever these tell
+    ensures bytes { RunsOver IsCheckOf (R.returned source.old) (R.returned source.new)
+        (R.ended source.new) (W.written sink.old) (W.written sink.new) result }
     // where it wrote `complete N`, the list of the log is whole and N long
     ensures whole { OnOk result ((before rest : List ℕ) → W.taken sink.old ≡ Some before
         → W.taken sink.new ≡ Some (before ++ (codes "complete " ++ rest))
         → GivesCompleteText (R.left source.old) (R.left source.new) rest) }
+    // and so where source and sink tell nothing
+    ensures complete { OnOk result ((rest : List ℕ)
+        → W.written sink.new ≡ W.written sink.old ++ (codes "complete " ++ rest)
+        → ReadsCompleteText (R.returned source.old) (R.returned source.new)
+        (R.ended source.new) rest) }
     ensures leaves_source { LeavesSource R.reads R.has_failed source.old source.new result }
     ensures leaves_sink { LeavesSink W.is_flushed W.has_failed sink.old sink.new result }
 {
     let reading = read_source(alloc, source)?;
     let answer = judge_reading(alloc, reading)?;
-    let line = answer_line(&answer);
-    write_and_flush(sink, line.as_slice())?;
-    Ok(answer_status(&answer))
+    write_answer(&answer, sink)
 }
 
 /// The answer to what was read.
 fn judge_reading(alloc: Global, reading: Reading) -> Result<Answer, AllocError>
     ensures answer { IfOk result (λ a. (text : List ℕ)
         → IsReading text reading → IsAnswer text a) }
-    ensures whole { IfOk result (λ a. (left : Option (List ℕ)) (text : List ℕ) (count : ℕ)
-        → IsReading text reading → Stands left text reading
-        → a ≡ Answer.Judged (Complete count) → IsAtEnd left × IsCompleteText text count) }
+    ensures whole { IfOk result (λ a. (text : List ℕ) (count : ℕ) → IsReading text reading
+        → a ≡ Answer.Judged (Complete count) → IsLog reading × IsCompleteText text count) }
 {
     match reading {
         Reading::Given(log) => Ok(Answer::Judged(judge(alloc, &log)?)),
         Reading::RefusedAt { line, fault } => Ok(Answer::RefusedAt { line, fault }),
     }
+}
+
+/// Writes the line of an answer.
+fn write_answer<W: Sink>(answer: &Answer, sink: &mut W) -> Result<Status, RunFault>
+    ensures status { IfOk result (λ s. s ≡ answer_status answer.now) }
+    ensures written { Writes W.written W.taken W.is_flushed W.has_failed
+        sink.old sink.new (answer_line answer.now) result }
+{
+    write_and_flush(sink, answer_line(answer).as_slice())?;
+    Ok(answer_status(answer))
 }
 
 /// The line of an answer, with its LF.

@@ -7,16 +7,16 @@ ghost use Rattle.vic_verdict.specs.declared.verdict.Verdict.TheVariants.{Complet
 ghost use Rattle.vic_answer.specs.CheckText.{IsAnswer, IsCompleteText, answer_status};
 ghost use Rattle.vic_answer.specs.ExplainText.{IsExplained, IsExplanationOf, answer_of, explained_text, population_line, uids_of};
 ghost use Rattle.vic_answer.specs.Readings.{IsReading};
-ghost use Rattle.vic_answer.specs.Runs.{Runs, LeavesSource, LeavesSink, Writes};
+ghost use Rattle.vic_answer.specs.Runs.{Runs, RunsOver, LeavesSource, LeavesSink, Writes};
 
 use crate::check::{Answer, answer_line, answer_status};
 use crate::input::{Reading, read_source};
 use crate::lines::LINE_ROOM;
-use crate::population::uids_of;
 use crate::status::{RunFault, Status};
 use crate::text::{Text, put};
 use itoa::Buffer;
 use std::alloc::{AllocError, Global};
+use vic_frame::Uid;
 use vic_log::{LineFault, LogFault, Sink, Source, read_log, write_listed};
 use vic_verdict::laws::{complete_is_whole, one_headline};
 use vic_verdict::{Explanation, explain};
@@ -63,6 +63,18 @@ pub fn answer_of(explained: &Explained) -> Answer
     }
 }
 
+/// The UIDs of an answer's population, none where it has none.
+pub(crate) fn uids_of(explained: &Explained) -> &[Uid]
+    ensures { result.now ≡ uids_of explained.now }
+{
+    if let Explained::Judged(explanation) = explained {
+        if let Some(uids) = &explanation.population {
+            return uids.as_slice();
+        }
+    }
+    &[]
+}
+
 /// Judges the log that a source hands out and writes the line of `check`; where a population can
 /// show the verdict, also `population N` and its N UIDs, each on a line as a log lists it, in
 /// rising order; and flushes. The status is that of `check`. It reads to the end, or to the first
@@ -76,6 +88,9 @@ pub fn run_explain<R: Source, W: Sink>(
 ) -> Result<Status, RunFault>
     ensures answer { Runs IsExplanationOf (R.left source.old) (R.left source.new)
         (W.taken sink.old) (W.taken sink.new) result }
+    // the same over the bytes that the reads returned and the writes took, whatever these tell
+    ensures bytes { RunsOver IsExplanationOf (R.returned source.old) (R.returned source.new)
+        (R.ended source.new) (W.written sink.old) (W.written sink.new) result }
     ensures leaves_source { LeavesSource R.reads R.has_failed source.old source.new result }
     ensures leaves_sink { LeavesSink W.is_flushed W.has_failed sink.old sink.new result }
 {
@@ -98,7 +113,7 @@ fn explain_reading(alloc: Global, reading: Reading) -> Result<Explained, AllocEr
 /// Writes the text of an answer.
 fn write_explained<W: Sink>(explained: &Explained, sink: &mut W) -> Result<Status, RunFault>
     ensures status { IfOk result (λ s. s ≡ answer_status (answer_of explained.now)) }
-    ensures written { Writes W.taken W.is_flushed W.has_failed
+    ensures written { Writes W.written W.taken W.is_flushed W.has_failed
         sink.old sink.new (explained_text explained.now) result }
 {
     match write_listed(opening(explained).as_slice(), uids_of(explained), sink) {

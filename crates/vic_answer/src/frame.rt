@@ -18,7 +18,7 @@ use vic_log::{MAX_LINE_LEN, Sink};
 /// failed: a prefix may be out. It takes no memory.
 pub fn run_frame<W: Sink>(word: &[u8], sink: &mut W) -> Result<Status, RunFault>
     ensures status { IfOk result (λ s. s ≡ frame_status word.now) }
-    ensures written { Writes W.taken W.is_flushed W.has_failed
+    ensures written { Writes W.written W.taken W.is_flushed W.has_failed
         sink.old sink.new (frame_text word.now) result }
 {
     let (text, status) = answer(word);

@@ -1,7 +1,7 @@
 //! How a log comes in.
 
 ghost use Rattle.std.specs.Prelude.{◌≡◌, ◌≢◌, ◌↔◌, ◌≤◌, ◌+◌, true, false, IfErr, OnOk};
-ghost use Rattle.vic_answer.specs.Readings.{Gives};
+ghost use Rattle.vic_answer.specs.Readings.{Gives, GivesOver};
 
 use crate::status::RunFault;
 use std::alloc::Global;
@@ -21,6 +21,8 @@ pub(crate) enum Reading {
 /// refused.
 pub(crate) fn read_source<R: Source>(alloc: Global, source: &mut R) -> Result<Reading, RunFault>
     ensures reading { Gives (R.left source.old) (R.left source.new) result }
+    ensures bytes { GivesOver (R.returned source.old) (R.returned source.new)
+        (R.ended source.new) result }
     ensures works { OnOk result (R.has_failed source.new ≡ false) }
     ensures read { IfErr result (λ e.
         (e ≡ RunFault.Read) ↔ (R.has_failed source.new ≡ true)) }

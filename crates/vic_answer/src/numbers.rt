@@ -54,7 +54,7 @@ pub struct VicinityAnswer {
 
 /// No answer, since memory was refused.
 pub const NO_ANSWER: VicinityAnswer = VicinityAnswer {
-    kind: 0,
+    kind: Kind::NoAnswer as u32,
     status: 4,
     count: 0,
     line: 0,

@@ -4,7 +4,7 @@ ghost use Rattle.std.specs.Prelude.{◌≡◌, ◌≤◌, ◌++◌, length, drop
 ghost use Rattle.vic_answer.specs.ExplainText.{uids_of};
 ghost use Rattle.vic_answer.specs.ExplainedNumbers.{IsPutInto};
 
-use crate::explain::Explained;
+use crate::explain::{Explained, uids_of};
 use vic_frame::Uid;
 
 /// Puts the UIDs of an answer's population at the front of a room, in rising order, where it has
@@ -18,18 +18,6 @@ pub fn put_population(explained: &Explained, room: &mut [u64]) -> usize
         put_uids(uids, room);
     }
     uids.len()
-}
-
-/// The UIDs of an answer's population, none where it has none.
-pub(crate) fn uids_of(explained: &Explained) -> &[Uid]
-    ensures { result.now ≡ uids_of explained.now }
-{
-    if let Explained::Judged(explanation) = explained {
-        if let Some(uids) = &explanation.population {
-            return uids.as_slice();
-        }
-    }
-    &[]
 }
 
 /// Puts UIDs at the front of a room.

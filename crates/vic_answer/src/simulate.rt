@@ -3,7 +3,7 @@
 ghost use Rattle.std.specs.Prelude.{◌≡◌, ℕ, List, IfOk};
 ghost use Rattle.vic_answer.specs.SimulateText.{IsSimulated, IsSimulationOf, simulated_text, simulated_status};
 ghost use Rattle.vic_answer.specs.Readings.{IsReading};
-ghost use Rattle.vic_answer.specs.Runs.{Runs, LeavesSource, LeavesSink, Writes};
+ghost use Rattle.vic_answer.specs.Runs.{Runs, RunsOver, LeavesSource, LeavesSink, Writes};
 
 use crate::input::{Reading, read_source};
 use crate::lines::{refusal_line, refused_at};
@@ -42,6 +42,9 @@ pub fn run_simulate<R: Source, W: Sink>(
 ) -> Result<Status, RunFault>
     ensures answer { Runs IsSimulationOf (R.left source.old) (R.left source.new)
         (W.taken sink.old) (W.taken sink.new) result }
+    // the same over the bytes that the reads returned and the writes took, whatever these tell
+    ensures bytes { RunsOver IsSimulationOf (R.returned source.old) (R.returned source.new)
+        (R.ended source.new) (W.written sink.old) (W.written sink.new) result }
     ensures leaves_source { LeavesSource R.reads R.has_failed source.old source.new result }
     ensures leaves_sink { LeavesSink W.is_flushed W.has_failed sink.old sink.new result }
 {
@@ -60,7 +63,11 @@ fn simulate_reading(alloc: Global, reading: Reading) -> Result<Simulated, AllocE
         Reading::RefusedAt { line, fault } => return Ok(Simulated::RefusedAt { line, fault }),
     };
     match simulate(alloc, &given) {
-        Ok(filled) => Ok(Simulated::Filled(filled)),
+        Ok(filled) => {
+            // gives that the filled lines are in order
+            let _lines = filled.lines();
+            Ok(Simulated::Filled(filled))
+        }
         Err(SimFault::OutcomeGiven(line)) => Ok(Simulated::OutcomeGiven { line }),
         Err(SimFault::TooManyLines) => Ok(Simulated::TooManyLines),
         Err(SimFault::Memory) => Err(AllocError),
@@ -70,7 +77,7 @@ fn simulate_reading(alloc: Global, reading: Reading) -> Result<Simulated, AllocE
 /// Writes the line of a refusal.
 fn refuse<W: Sink>(line: &Text, sink: &mut W) -> Result<Status, RunFault>
     ensures status { IfOk result (λ s. s ≡ Status.Refused) }
-    ensures written { Writes W.taken W.is_flushed W.has_failed
+    ensures written { Writes W.written W.taken W.is_flushed W.has_failed
         sink.old sink.new line.now.items result }
 {
     write_and_flush(sink, line.as_slice())?;
@@ -80,7 +87,7 @@ fn refuse<W: Sink>(line: &Text, sink: &mut W) -> Result<Status, RunFault>
 /// Writes the text of an answer.
 fn write_simulated<W: Sink>(simulated: Simulated, sink: &mut W) -> Result<Status, RunFault>
     ensures status { IfOk result (λ s. s ≡ simulated_status simulated) }
-    ensures written { Writes W.taken W.is_flushed W.has_failed
+    ensures written { Writes W.written W.taken W.is_flushed W.has_failed
         sink.old sink.new (simulated_text simulated) result }
 {
     match simulated {

@@ -11,8 +11,8 @@ use Rattle.vic_log.specs.Order.{refusal}
 use Rattle.vic_log.specs.Quiet.{silences, wakes, is_quiet}
 use Rattle.vic_log.specs.Rounds.{is_slot, ends_round, opener, slots_opened, left_since, slots_left, mask_of_slot, mask_since, mask_at}
 use Rattle.vic_log.proofs.Places.{opener_agrees, quiet_agrees, agree_append, slice_get_last}
-use Rattle.vic_field.specs.declared.field.Outcome.{Outcome as Told}
-use Rattle.vic_field.specs.declared.field.Outcome.TheVariants.{Silent as ToldSilent, Lone as ToldLone, Several as ToldSeveral}
+use Rattle.vic_field.specs.declared.outcome.Outcome.{Outcome as Told}
+use Rattle.vic_field.specs.declared.outcome.Outcome.TheVariants.{Silent as ToldSilent, Lone as ToldLone, Several as ToldSeveral}
 use Rattle.vic_field.specs.Simulation.{IsPlain}
 use Rattle.vic_field.specs.Steps.{slot_line, slot_lines_to, slot_lines}
 use Rattle.vic_field.specs.Tags.{heard, ready_in}

@@ -16,8 +16,8 @@ use Rattle.std.proofs.lemmas.List.{map-append}
 use Rattle.std.proofs.lemmas.List.Elements.{All-cons, filter-append}
 use Rattle.vic_frame.specs.LowBitsFirst.{IsKey, mirror, uid_of}
 use Rattle.vic_frame.specs.Uids.{IsUid, has}
-use Rattle.vic_field.specs.declared.field.Outcome.{Outcome}
-use Rattle.vic_field.specs.declared.field.Outcome.TheVariants.{Silent, Lone, Several}
+use Rattle.vic_field.specs.declared.outcome.Outcome.{Outcome}
+use Rattle.vic_field.specs.declared.outcome.Outcome.TheVariants.{Silent, Lone, Several}
 use Rattle.vic_field.specs.declared.tree.Node.{Node, Fork'}
 use Rattle.vic_field.specs.declared.tree.Node.TheVariants.{Empty, Tag}
 use Rattle.vic_field.specs.Keys.{AreKeys, tags_of, ready_between}

@@ -8,8 +8,8 @@ use Rattle.vic_log.specs.declared.entry.Entry.{Entry}
 use Rattle.vic_log.specs.declared.entry.Entry.TheVariants.{Sent, Silent as SilentLine, Collision, Heard}
 use Rattle.vic_log.specs.Log.{LogValue, last_from}
 use Rattle.vic_log.specs.Quiet.{silences, wakes}
-use Rattle.vic_field.specs.declared.field.Outcome.{Outcome}
-use Rattle.vic_field.specs.declared.field.Outcome.TheVariants.{Silent, Lone, Several}
+use Rattle.vic_field.specs.declared.outcome.Outcome.{Outcome}
+use Rattle.vic_field.specs.declared.outcome.Outcome.TheVariants.{Silent, Lone, Several}
 use Rattle.vic_log.specs.Writing.{numbered}
 use Rattle.vic_field.specs.Tags.{ready_in, readiness, heard}
 

@@ -10,8 +10,8 @@ use Rattle.vic_frame.specs.Masks.{BitMask, lies_in}
 use Rattle.vic_frame.specs.Uids.{IsUid, has}
 use Rattle.vic_field.specs.declared.field.AddFault.{AddFault}
 use Rattle.vic_field.specs.declared.field.AddFault.TheVariants.{Already, Memory}
-use Rattle.vic_field.specs.declared.field.Outcome.{Outcome as Told}
-use Rattle.vic_field.specs.declared.field.Outcome.TheVariants.{Silent as ToldSilent, Lone as ToldLone, Several as ToldSeveral}
+use Rattle.vic_field.specs.declared.outcome.Outcome.{Outcome as Told}
+use Rattle.vic_field.specs.declared.outcome.Outcome.TheVariants.{Silent as ToldSilent, Lone as ToldLone, Several as ToldSeveral}
 use Rattle.vic_log.specs.Populations.{Outcome, Nobody, Lone, Several, outcome_of}
 
 -- the UIDs of the tags

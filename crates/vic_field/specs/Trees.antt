@@ -5,8 +5,8 @@ use Rattle.std.specs.List.{All}
 use Rattle.std.specs.Option.{option_map}
 use Rattle.vic_frame.specs.declared.uid.TheConstants.{UID_BITS}
 use Rattle.vic_frame.specs.Uids.{has}
-use Rattle.vic_field.specs.declared.field.Outcome.{Outcome}
-use Rattle.vic_field.specs.declared.field.Outcome.TheVariants.{Silent, Lone, Several}
+use Rattle.vic_field.specs.declared.outcome.Outcome.{Outcome}
+use Rattle.vic_field.specs.declared.outcome.Outcome.TheVariants.{Silent, Lone, Several}
 use Rattle.vic_field.specs.declared.tree.Node.{Node, Fork'}
 use Rattle.vic_field.specs.declared.tree.Node.TheVariants.{Empty, Tag}
 

@@ -12,22 +12,12 @@ ghost use Rattle.vic_frame.specs.Uids.{has};
 
 use crate::grow::grow;
 use crate::hear::hear_mask;
+use crate::outcome::Outcome;
 use crate::put::put;
 use crate::tree::{self, Node};
 use std::alloc::{AllocError, Global};
 use std::marker::Model;
 use vic_frame::{Mask, Request, Uid, low_bits_first};
-
-/// What a reader hears in a slot.
-#[derive(Clone, Copy, Debug, PartialEq, Eq)]
-pub enum Outcome {
-    /// No tag answers.
-    Silent,
-    /// One tag answers, the one with this UID.
-    Lone(Uid),
-    /// Two or more tags answer.
-    Several,
-}
 
 /// Why a field takes no further tag.
 #[derive(Clone, Copy, Debug, PartialEq, Eq)]

@@ -6,7 +6,7 @@ ghost use Rattle.vic_field.specs.Tags.{heard, ready_in};
 ghost use Rattle.vic_field.specs.Trees.{as_woken, entries, HasKeys, IsTree, members, notes_ready};
 ghost use Rattle.vic_frame.specs.LowBitsFirst.{IsKey, uid_of};
 
-use crate::field::Outcome;
+use crate::outcome::Outcome;
 use crate::tree::{Node, first_key, last_key, notes_ready};
 use vic_frame::{Mask, low_bits_first, without_top_byte};
 

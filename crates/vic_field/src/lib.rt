@@ -4,10 +4,12 @@
 mod field;
 mod grow;
 mod hear;
+mod outcome;
 mod populate;
 mod put;
 mod session;
 mod tree;
 
-pub use field::{AddFault, Field, Outcome};
+pub use field::{AddFault, Field};
+pub use outcome::Outcome;
 pub use session::{SimFault, simulate};

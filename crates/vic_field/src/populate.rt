@@ -9,10 +9,10 @@ ghost use Rattle.vic_log.specs.Order.{entries, listed};
 use crate::field::Field;
 use std::alloc::{AllocError, Global};
 use vic_frame::low_bits_first;
-use vic_log::{Entry, LogLine};
+use vic_log::{Entry, PackedLine};
 
 /// A field of the tags that are listed, all Ready.
-pub(crate) fn populate(alloc: Global, lines: &[LogLine]) -> Result<Field, AllocError>
+pub(crate) fn populate(alloc: Global, lines: &[PackedLine]) -> Result<Field, AllocError>
     ensures { IfOk result (HasAdded (has (listed (entries lines.now))) []) }
 {
     let mut keys = listed_keys(alloc, lines)?;
@@ -21,12 +21,12 @@ pub(crate) fn populate(alloc: Global, lines: &[LogLine]) -> Result<Field, AllocE
 }
 
 /// The keys of the UIDs that are listed.
-fn listed_keys(alloc: Global, lines: &[LogLine]) -> Result<Vec<u64>, AllocError>
+fn listed_keys(alloc: Global, lines: &[PackedLine]) -> Result<Vec<u64>, AllocError>
     ensures { IfOk result (λ keys. AreKeysOf (listed (entries lines.now)) keys.items) }
 {
     let mut keys = Vec::new(alloc);
     for line in lines {
-        push_listed(&mut keys, &line.item)?;
+        push_listed(&mut keys, &line.item())?;
     }
     Ok(keys)
 }

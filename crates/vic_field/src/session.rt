@@ -14,11 +14,12 @@ ghost use Rattle.vic_log.specs.Order.{entries, refusal};
 ghost use Rattle.vic_log.specs.Populations.{IsPopulation};
 ghost use Rattle.vic_log.specs.Rounds.{slots_opened};
 
-use crate::field::{Field, Outcome};
+use crate::field::Field;
+use crate::outcome::Outcome;
 use crate::populate::populate;
 use std::alloc::{AllocError, Global};
 use vic_frame::{Request, Response};
-use vic_log::{Entry, Log, LogLine, MAX_LINES, PushFault};
+use vic_log::{Entry, Log, MAX_LINES, PackedLine, PushFault};
 
 /// Why a log isn't simulated.
 #[derive(Clone, Copy, Debug, PartialEq, Eq)]
@@ -64,30 +65,30 @@ pub fn simulate(alloc: Global, log: &Log) -> Result<Log, SimFault>
     let mut field = populate(alloc, lines)?;
     let mut filled = Log::with_version(alloc, log.version());
     for line in lines {
-        play_entry(&mut filled, &mut field, &line.item)?;
+        play_entry(&mut filled, &mut field, &line.item())?;
     }
     Ok(filled)
 }
 
 /// The number of the first line that tells of a slot.
-fn first_slot(lines: &[LogLine]) -> Option<u32>
+fn first_slot(lines: &[PackedLine]) -> Option<u32>
     ensures { MatchOption result (HasNoSlots lines.now) (IsFirstSlot lines.now) }
 {
     for line in lines {
-        if line.item.is_slot() {
-            return Some(line.number);
+        if line.item().is_slot() {
+            return Some(line.number());
         }
     }
     None
 }
 
 /// Whether the lines fit into a log with all their slots.
-fn fit_filled(lines: &[LogLine]) -> bool
+fn fit_filled(lines: &[PackedLine]) -> bool
     ensures { result ≡ nat_le (last_needed lines.now) MAX_LINES }
 {
     let mut last = 1;
     for line in lines {
-        last += 1 + slots_opened(&line.item);
+        last += 1 + slots_opened(&line.item());
         if last > MAX_LINES {
             return false;
         }

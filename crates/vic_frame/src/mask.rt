@@ -40,6 +40,16 @@ impl Model for Mask {
     ghost inverse = { λ m. record { len = m.len; value = m.value } };
 }
 
+/// The mask of no bits, in which every UID lies: what an `ArrayVec` of masks fills its free places
+/// with.
+impl Default for Mask {
+    ghost is_default = { λ m. m ≡ (record { len = 0; value = 0 }) };
+
+    fn default() -> Self {
+        Mask { len: 0, value: 0 }
+    }
+}
+
 impl Mask {
     /// The mask of `len` bits with this value; `None` where `len` is above 64, or `value` has a
     /// bit above the lowest `len`.
@@ -52,6 +62,14 @@ impl Mask {
         } else {
             None
         }
+    }
+
+    /// The mask of `len` bits with this value, which fits them.
+    pub fn of_bits(len: u8, value: u64) -> Mask
+        requires { IsMask (record { len = len; value = value }) }
+        ensures { result ≡ record { len = len; value = value } }
+    {
+        Mask { len, value }
     }
 
     /// The mask of 56 bits that holds this UID and no other.

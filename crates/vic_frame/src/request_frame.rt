@@ -33,6 +33,7 @@ const STAY_QUIET: u8 = 0x02;
 /// The request that the bytes spell, or the first fault of a request that applies.
 ///
 /// `ISO/IEC 15693-3, Inventory request` and `.. Stay Quiet`.
+#[inline(always)]
 pub fn read_request(bytes: &[u8]) -> Result<Request, FrameFault>
     ensures reading { result ≡ request_reading bytes.now }
     ensures found { IfOk result (λ q. SpellsRequest bytes.now q) }
@@ -43,6 +44,7 @@ pub fn read_request(bytes: &[u8]) -> Result<Request, FrameFault>
 }
 
 /// The fields of a request, or the first fault that applies.
+#[inline(always)]
 fn read_fields(bytes: &[u8]) -> Result<Request, FrameFault>
     ensures { result ≡ request_reading bytes.now }
 {
@@ -57,6 +59,7 @@ fn read_fields(bytes: &[u8]) -> Result<Request, FrameFault>
 }
 
 /// The first fault that applies of those that a request of any command can have.
+#[inline(always)]
 fn head_fault(bytes: &[u8]) -> Option<FrameFault>
     ensures { result ≡ first_fault (head_faults bytes.now) }
 {
@@ -87,6 +90,7 @@ fn head_fault(bytes: &[u8]) -> Option<FrameFault>
 }
 
 /// The fields of an Inventory request, or the first fault of its own that applies.
+#[inline(always)]
 fn read_inventory(bytes: &[u8]) -> Result<Request, FrameFault>
     requires { MIN_REQUEST_LEN ≤ length bytes.now }
     ensures { result
@@ -124,6 +128,7 @@ fn read_inventory(bytes: &[u8]) -> Result<Request, FrameFault>
 }
 
 /// The fields of a Stay Quiet request, or the first fault of its own that applies.
+#[inline(always)]
 fn read_stay_quiet(bytes: &[u8]) -> Result<Request, FrameFault>
     requires { MIN_REQUEST_LEN ≤ length bytes.now }
     ensures { result

@@ -40,6 +40,14 @@ impl Response {
         }
     }
 
+    /// The reply with these fields, where Error_flag is known to be 0.
+    pub fn of_fields(flags: u8, dsfid: u8, uid: Uid) -> Response
+        requires { flags % 2 ≡ 0 }
+        ensures { result ≡ record { flags = flags; dsfid = dsfid; uid = uid } }
+    {
+        Response { flags, dsfid, uid }
+    }
+
     /// The response flags; the lowest, Error_flag, is 0.
     pub fn flags(&self) -> u8
         ensures value { result ≡ self.now.flags }

@@ -18,6 +18,7 @@ pub const RESPONSE_LEN: usize = 12;
 /// The reply that the bytes spell, or the first fault of a reply that applies.
 ///
 /// `ISO/IEC 15693-3, Inventory response`.
+#[inline(always)]
 pub fn read_response(bytes: &[u8]) -> Result<Response, FrameFault>
     ensures reading { result ≡ reply_reading bytes.now }
     ensures found { IfOk result (λ r. SpellsReply bytes.now r) }
@@ -28,6 +29,7 @@ pub fn read_response(bytes: &[u8]) -> Result<Response, FrameFault>
 }
 
 /// The fields of a reply, or the first fault that applies.
+#[inline(always)]
 fn read_fields(bytes: &[u8]) -> Result<Response, FrameFault>
     ensures { result ≡ reply_reading bytes.now }
 {

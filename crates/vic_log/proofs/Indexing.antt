@@ -1,13 +1,15 @@
 -- UIDs that rise, and the others.
-use Rattle.std.proofs.Common.{◌≡◌, ℕ, zero, suc, ◌-◌, ◌<◌, ◌≤◌, Bool, true, false, cond, List, [], ◌∷◌, length, get_or, Result, Ok, Err, MatchResult, ⊎_elim, refl, sym, ap, ◌∙◌, arith}
+use Rattle.std.proofs.Common.{◌≡◌, ℕ, zero, suc, ◌-◌, ◌<◌, ◌≤◌, Bool, true, false, cond, List, [], ◌∷◌, ◌++◌, length, length-append, get_or, Result, Ok, Err, MatchResult, ⊎_elim, refl, sym, ap, ◌∙◌, arith}
 use Rattle.std.specs.Prelude.{nat_eq, ◌||◌, is_ok}
 use Rattle.std.proofs.lemmas.Bool.{cases_Bool, cases_lt, cases_eq, ne_eqb, eq-eqb, eqb-true, or_from, or_right}
 use Rattle.std.proofs.lemmas.Grind.{common_steps}
-use Rattle.std.proofs.lemmas.List.Sorted.{searched}
+use Rattle.std.proofs.lemmas.List.Sorted.{searched, IsNonDecreasingBy-push}
+use Rattle.std.proofs.lemmas.List.{get_or_default}
+use Rattle.std.proofs.Math.Seq.{get_or-append_seam}
 use Rattle.std.specs.BTreeMap.{is_at}
 use Rattle.std.specs.BTreeSet as sorted
 use Rattle.std.specs.BTreeSet.{BTreeSet}
-use Rattle.std.specs.List.Sorted.{IsBinarySearchResult}
+use Rattle.std.specs.List.Sorted.{IsBinarySearchResult, IsNonDecreasing}
 use Rattle.std.specs.Ordering.{nat_cmp}
 use Rattle.vic_frame.specs.Uids.{has}
 use Rattle.vic_log.specs.Index.{IsAbove, IsAtMost, IsIndex, is_indexed}
@@ -38,16 +40,8 @@ answered us u (Err i) h = sym (none_has us u (λ k lt e. ⊎_elim
     (λ (from : i ≤ k). let a = h.2 k from lt in omega arith)
     (cases_lt k i)))
 
-pub found : (us : List ℕ) (others : BTreeSet ℕ) (u : ℕ) (r : Result ℕ ℕ) → IsIndex us others → IsBinarySearchResult (λ y. nat_cmp y u) us r → is_ok r ≡ has us u
-found us others u r h p = answered us u r (searched us u r p (λ i j le lt. h.in_order i j 0 le lt))
-
-pub by_first : (a b r : Bool) → r ≡ a → r ≡ true → r ≡ (a || b)
-by_first true b r e h = e
-by_first false b r e h = cc
-
-pub by_second : (a b r s : Bool) → r ≡ a → r ≡ false → s ≡ b → s ≡ (a || b)
-by_second true b r s e h k = cc
-by_second false b r s e h k = k
+pub found : (us : List ℕ) (u : ℕ) (r : Result ℕ ℕ) → IsNonDecreasing us → IsBinarySearchResult (λ y. nat_cmp y u) us r → is_ok r ≡ has us u
+found us u r h p = answered us u r (searched us u r p (λ i j le lt. h i j 0 le lt))
 
 at_test : (k u : ℕ) → is_at (nat_cmp k) u ≡ nat_eq u k
 at_test k u = ⊎_elim
@@ -78,4 +72,14 @@ still_index us old new uid h most e = record {
       (λ same. let is : u ≡ uid = eqb-true u uid same in let m = most in (m.0, omega (arith, m.1)))
       (λ before. h.at_most u before)
       (ap (λ t. cond t true (sorted.contains nat_cmp old u)) (sym (at_test uid u)) ∙ (sym (e u) ∙ there));
+}
+
+-- a UID above all, put behind those that rise
+pub still_index-risen : (us : List ℕ) (others : BTreeSet ℕ) (uid : ℕ) → IsIndex us others → IsAbove uid us → IsIndex (us ++ uid ∷ []) others
+still_index-risen us others uid h above = record {
+  in_order = IsNonDecreasingBy-push (λ n. n) us uid h.in_order (λ d some. let a = above (length us - 1) (omega arith) in omega (arith, get_or_default us (length us - 1) d 0 (omega arith), a));
+  at_most = λ u there. let m = h.at_most u there in let a = above (length us - 1) (omega (arith, m.0)) in let long = length-append us (uid ∷ []) in
+      let last = get_or-append_seam us uid [] 0 in
+      let place : length (us ++ uid ∷ []) - 1 ≡ length us = omega arith in
+      (omega arith, rw (place, last) (omega (arith, m.1)));
 }

@@ -1,5 +1,5 @@
 -- A text read line by line.
-use Rattle.std.proofs.Common.{◌≡◌, ℕ, zero, suc, ◌+◌, ◌<◌, ◌≤◌, Bool, true, false, Option, Some, None, Result, Ok, Err, List, [], ◌∷◌, ◌++◌, length, drop, refl, sym, ap, subst, ◌∙◌, arith, ⊎_elim, append-nil}
+use Rattle.std.proofs.Common.{◌≡◌, ℕ, zero, suc, ◌+◌, ◌<◌, ◌≤◌, Bool, true, false, Option, Some, None, Result, Ok, Err, List, [], ◌∷◌, ◌++◌, length, drop, refl, sym, ap, ◌∙◌, arith, ⊎_elim, append-nil}
 use Rattle.std.specs.Prelude.{◌≢◌, slice_get, nat_lt, if◌then◌else◌, ◌==◌}
 use Rattle.std.proofs.lemmas.Bool.{cases_eq, cases_lt, ltb-false, ne_eqb}
 use Rattle.std.proofs.lemmas.Option.{slice_get_past}
@@ -7,14 +7,12 @@ use Rattle.vic_log.specs.declared.entry.Entry.{Entry}
 use Rattle.vic_log.specs.declared.entry.LogLine.{LogLine}
 use Rattle.vic_log.specs.declared.fault.LineFault.{LineFault}
 use Rattle.vic_log.specs.declared.fault.LineFault.TheVariants.{TooManyLines, Header}
-use Rattle.vic_log.specs.declared.fault.LogFault.{LogFault}
-use Rattle.vic_log.specs.declared.fault.LogFault.TheVariants.{Line, Read, Memory, Spent}
-use Rattle.vic_log.specs.Lines.{lines_of_text}
+use Rattle.vic_log.specs.declared.fault.LogFault.TheVariants.{Memory}
 use Rattle.vic_log.specs.Order.{entries}
 use Rattle.vic_log.specs.declared.entry.Version.{Version}
 use Rattle.vic_log.specs.Log.{LogValue, last_from}
 use Rattle.vic_log.specs.LineReading.{line_reading}
-use Rattle.vic_log.specs.Text.{named_version, version_of, line_fault, next_fault, after_line, entry_line, logged, log_upto, fault_on, IsFirstFault, IsLogOf, GiveEntries, Refuses, RefusesNext}
+use Rattle.vic_log.specs.Text.{named_version, version_of, line_fault, next_fault, after_line, entry_line, logged, log_upto, fault_on, IsFirstFault, IsLogOf, GiveEntries, RefusesNext}
 use Rattle.vic_log.proofs.Push.{last_from-push}
 
 -- the first n lines have no fault, their log is this, and the other lines are the rest
@@ -177,18 +175,3 @@ HasRead-above lines rest log (suc k) r some = let e = ap (last_from 1) r.log_is 
 -- before the first line nothing is logged
 pub HasRead-none : (lines rest : List (List ℕ)) (log : LogValue) (n : ℕ) → HasRead lines rest log n → n ≡ 0 → log.lines ≡ []
 HasRead-none lines rest log n r none = r.log_is ∙ ap (log_upto lines) none
-
--- ---- the same at a number that is one more
-
-pub HasRead-next : (lines : List (List ℕ)) (line : List ℕ) (rest : List (List ℕ)) (log : LogValue) (n m : ℕ) → HasRead lines (line ∷ rest) log n → m ≡ suc n → next_fault log m line ≡ None → HasRead lines rest (after_line log m line) m
-HasRead-next lines line rest log n m r e h =
-    subst (λ k. HasRead lines rest (after_line log k line) k) (sym e) (HasRead-step lines line rest log n r (ap (λ k. next_fault log k line) (sym e) ∙ h))
-
-pub HasRead-refuses : (text : List ℕ) (line : List ℕ) (rest : List (List ℕ)) (log : LogValue) (n m : ℕ) → HasRead (lines_of_text text) (line ∷ rest) log n → m ≡ suc n → (fault : LogFault) → RefusesNext log m line fault → Refuses text fault
-HasRead-refuses text line rest log n m r e (Line k f) h =
-    let lines = lines_of_text text in
-    let same : k ≡ suc n = h.0 ∙ e in
-    subst (λ (j : ℕ). IsFirstFault lines j f) (sym same) (HasRead-fault lines line rest log n f r (ap (λ j. next_fault log j line) (sym e) ∙ h.1))
-HasRead-refuses text line rest log n m r e Memory h = (suc n, HasRead-entries (lines_of_text text) line rest log n r (subst (λ j. RefusesNext log j line Memory) e h))
-HasRead-refuses text line rest log n m r e Read h = h
-HasRead-refuses text line rest log n m r e Spent h = h

@@ -98,6 +98,18 @@ none_of false false false x y z h = (refl, refl, refl)
 pub refusal_none : (es : List Entry) (e : Entry) → refusal es e ≡ None → (is_outside_round es e ≡ false) × (is_after_list es e ≡ false) × (is_duplicate es e ≡ false)
 refusal_none es e h = none_of (is_outside_round es e) (is_after_list es e) (is_duplicate es e) SlotOutsideRound EntryAfterList DuplicateListed h
 
+pub refusal_listed : (es : List Entry) (u : ℕ) → has (listed es) u ≡ false → refusal es (Listed u) ≡ None
+refusal_listed es u h = rw h refl
+
+pub lists_none : (e : Entry) → ((u : ℕ) → e ≡ Listed u → ⊥) → listed (e ∷ []) ≡ []
+lists_none (Listed u) other = absurd (other u refl)
+lists_none (Sent q) other = refl
+lists_none Silent other = refl
+lists_none Collision other = refl
+lists_none (Heard r) other = refl
+lists_none Garbled other = refl
+lists_none FieldCycle other = refl
+
 slot_has_left : (b : Bool) (left : ℕ) → b ≡ true → (if b then not (nat_lt 0 left) else false) ≡ false → 0 < left
 slot_has_left true left s h = ltb-true 0 left (not-false (nat_lt 0 left) h)
 slot_has_left false left s h = cc

@@ -1,9 +1,9 @@
 -- A text that is read in pieces: its lines so far were judged, and one more may have begun.
 use Rattle.std.specs.Prelude.{◌≡◌, ◌⊎◌, ℕ, ◌+◌, ◌*◌, ◌-◌, ◌<◌, ◌≤◌, true, false, None, List, [], ◌∷◌, ◌++◌, length, map}
 use Rattle.vic_frame.specs.Uids.{has}
-use Rattle.vic_log.specs.declared.reader.TheConstants.{LINE_ROOM}
+use Rattle.vic_log.specs.declared.feed.TheConstants.{LINE_ROOM, MAX_TEXT_LEN}
 use Rattle.vic_log.specs.declared.entry.TheConstants.{MAX_LINE_LEN, MAX_LINES}
-use Rattle.vic_log.specs.declared.reader.Begun.{Begun}
+use Rattle.vic_log.specs.declared.feed.Begun.{Begun}
 use Rattle.vic_log.specs.Lines.{lf, cr, cut, ends_with, content}
 use Rattle.vic_log.specs.Log.{LogValue}
 use Rattle.vic_log.specs.Text.{version_of, log_upto, fault_on}
@@ -39,6 +39,10 @@ HasTaken text b = HasJudged text b.log b.number b.line.items
 
 abbrev pub spare_of : Begun → ℕ
 spare_of b = spare b.number b.line.items
+
+-- a reader that was fed this text: it is within the limit, with what can still come
+abbrev pub IsFed : List ℕ → Begun → Type 0
+IsFed text b = HasTaken text b × (length text + spare_of b ≤ MAX_TEXT_LEN)
 
 -- a line without LF, and what stands behind its LF
 pub record IsSplit (bytes line rest : List ℕ) : Type 0 where

@@ -1,8 +1,22 @@
--- What a read or a write does to the bytes that a device tells.
-use Rattle.std.specs.Prelude.{◌≡◌, ◌≤◌, ◌<◌, ◌⊎◌, ℕ, List, ◌++◌, length, take, ⊤, None, Some, MatchResult, Option, Result}
+-- What a read or a write moves, and what it does to the bytes that a device tells.
+use Rattle.std.specs.Prelude.{◌≡◌, ◌≤◌, ◌<◌, ◌⊎◌, ◌==◌, ◌&&◌, ℕ, List, [], ◌++◌, length, take, nat_lt, Bool, false, ⊤, None, Some, MatchResult, Option, Result, Ok, Err}
 use Rattle.std.specs.Io.KnownBytes.{Consumes, Appends, IsAtEnd}
 use Rattle.vic_log.specs.declared.source.FromRead.{FromRead}
 use Rattle.vic_log.specs.declared.sink.ToWrite.{ToWrite}
+
+-- the bytes that a read put into a buffer, or a write took of some: the first n at `Ok(n)`
+abbrev pub moved : {E : Type 0} → Result ℕ E → List ℕ → List ℕ
+moved (Ok n) bytes = take n bytes
+moved (Err e) bytes = []
+
+-- bytes came behind those before
+abbrev pub Grows : List ℕ → List ℕ → List ℕ → Type 0
+Grows old new bytes = new ≡ old ++ bytes
+
+-- a read returned no byte, though there was room
+abbrev pub is_end : {E : Type 0} → Result ℕ E → List ℕ → Bool
+is_end (Ok n) buf = n == 0 && nat_lt 0 (length buf)
+is_end (Err e) buf = false
 
 -- told bytes stay as they were, or are told no more
 abbrev pub KeepsOrHides : Option (List ℕ) → Option (List ℕ) → Type 0
@@ -51,6 +65,13 @@ HasTakenPrefix (Some xs) (Some ys) bytes =
 abbrev pub HasTakenBut : Option (List ℕ) → Option (List ℕ) → List ℕ → List ℕ
     → Type 0
 HasTakenBut old new rest text = (sent : List ℕ) × Appends old new sent × (sent ++ rest ≡ text)
+
+-- the same of the bytes that a sink's writes took
+abbrev pub HasWrittenPrefix : List ℕ → List ℕ → List ℕ → Type 0
+HasWrittenPrefix old new bytes = HasTakenPrefix (Some old) (Some new) bytes
+
+abbrev pub HasWrittenBut : List ℕ → List ℕ → List ℕ → List ℕ → Type 0
+HasWrittenBut old new rest text = HasTakenBut (Some old) (Some new) rest text
 
 abbrev pub from_read_inner : {R : Type 0} → FromRead R → R
 from_read_inner r = r.inner

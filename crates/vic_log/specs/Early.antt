@@ -36,16 +36,24 @@ IsEarly Memory text = (n : ℕ) × GiveEntries (lines_of_text text) n
 IsEarly Read text = ⊥
 IsEarly Spent text = ⊥
 
--- what these bytes give, handed out by a source that has these left: their log, or the first fault,
--- at the end; an early fault before it; want of memory for entries before a fault; and a failed
--- read only where they have no early fault
+-- bytes without a fault that no further byte can change
+abbrev pub HasNoEarlyFault : List ℕ → Type 0
+HasNoEarlyFault text = (n : ℕ) (f : LineFault) → IsEarlyFault text n f → ⊥
+
+-- what these bytes give, where `IsOver` says that no more follow: their log, or the first fault, at
+-- the end; an early fault before it; want of memory for entries before a fault; and a failed read
+-- only where they have no early fault
+abbrev pub ReadsWhere : Type 0 → List ℕ → Result LogValue LogFault → Type 0
+ReadsWhere IsOver text (Ok log) = IsOver × IsLogOf (lines_of_text text) log
+ReadsWhere IsOver text (Err Read) = HasNoEarlyFault text
+ReadsWhere IsOver text (Err (Line n f)) =
+    IsEarlyFault text n f ⊎ (IsOver × IsFirstFault (lines_of_text text) n f)
+ReadsWhere IsOver text (Err Memory) = (n : ℕ) × GiveEntries (lines_of_text text) n
+ReadsWhere IsOver text (Err Spent) = ⊥
+
+-- the same of bytes that a source handed out that has these left
 abbrev pub ReadsAs : Option (List ℕ) → List ℕ → Result LogValue LogFault → Type 0
-ReadsAs left text (Ok log) = IsAtEnd left × IsLogOf (lines_of_text text) log
-ReadsAs left text (Err Read) = (n : ℕ) (f : LineFault) → IsEarlyFault text n f → ⊥
-ReadsAs left text (Err (Line n f)) =
-    IsEarlyFault text n f ⊎ (IsAtEnd left × IsFirstFault (lines_of_text text) n f)
-ReadsAs left text (Err Memory) = (n : ℕ) × GiveEntries (lines_of_text text) n
-ReadsAs left text (Err Spent) = ⊥
+ReadsAs left text result = ReadsWhere (IsAtEnd left) text result
 
 -- the log of a whole text, or its first fault, unless the text couldn't be read
 abbrev pub Judges : List ℕ → Result LogValue LogFault → Type 0

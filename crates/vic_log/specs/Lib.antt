@@ -17,3 +17,4 @@ pub mod Names
 pub mod Device
 pub mod Index
 pub mod OpenRounds
+pub mod Packed

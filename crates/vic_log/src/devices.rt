@@ -3,6 +3,7 @@
 
 ghost use Rattle.std.specs.Prelude.{◌≡◌, ◌-◌, ◌<◌, true, false, Some, None};
 
+use crate::history::History;
 use crate::sink::Sink;
 use crate::source::{DeviceFault, Source};
 use std::io;
@@ -15,6 +16,8 @@ pub struct Pieces<'a> {
     piece: usize,
     fail_at: u64,
     reads: u64,
+    returned: History,
+    ended: bool,
     failed: bool,
     ghost gives_some: { 0 < piece },
 }
@@ -32,6 +35,8 @@ impl<'a> Pieces<'a> {
             piece,
             fail_at,
             reads: 0,
+            returned: History::new(),
+            ended: false,
             failed: false,
         }
     }
@@ -47,6 +52,10 @@ impl<'a> Pieces<'a> {
 impl<'a> Source for Pieces<'a> {
     ghost reads = { λ s. s.reads };
 
+    ghost returned = { λ s. s.returned.bytes };
+
+    ghost ended = { λ s. s.ended };
+
     ghost left = { λ s. Some s.bytes.now };
 
     ghost has_failed = { λ s. s.failed };
@@ -54,6 +63,7 @@ impl<'a> Source for Pieces<'a> {
     fn read(&mut self, buf: &mut [u8]) -> Result<usize, DeviceFault> {
         self.reads = self.reads.saturating_add(1);
         if self.reads == self.fail_at {
+            self.ended = false;
             self.failed = true;
             return Err(DeviceFault);
         }
@@ -61,6 +71,8 @@ impl<'a> Source for Pieces<'a> {
         let (first, rest) = self.bytes.split_at(n);
         buf[..n].copy_from_slice(first);
         self.bytes = rest;
+        self.returned.note(&buf[..n]);
+        self.ended = n == 0 && !buf.is_empty();
         self.failed = false;
         Ok(n)
     }
@@ -75,6 +87,7 @@ impl<'a> Source for Pieces<'a> {
 pub struct Endless {
     byte: u8,
     reads: u64,
+    returned: History,
 }
 
 impl Endless {
@@ -82,12 +95,20 @@ impl Endless {
     pub fn new(byte: u8) -> Endless
         ensures { ⟦<Endless as Source>⟧.reads result ≡ 0 }
     {
-        Endless { byte, reads: 0 }
+        Endless {
+            byte,
+            reads: 0,
+            returned: History::new(),
+        }
     }
 }
 
 impl Source for Endless {
     ghost reads = { λ s. s.reads };
+
+    ghost returned = { λ s. s.returned.bytes };
+
+    ghost ended = { λ _. false };
 
     ghost left = { λ _. None };
 
@@ -98,6 +119,7 @@ impl Source for Endless {
         for b in buf.iter_mut() {
             *b = self.byte;
         }
+        self.returned.note(buf);
         Ok(buf.len())
     }
 
@@ -143,6 +165,8 @@ impl OneByOne {
 }
 
 impl Sink for OneByOne {
+    ghost written = { λ s. s.taken.items };
+
     ghost taken = { λ s. Some s.taken.items };
 
     ghost is_flushed = { λ s. s.flushed };

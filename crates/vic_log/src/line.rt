@@ -41,6 +41,7 @@ fn digit_value(byte: u8) -> u8
 }
 
 /// Puts in the bytes that hex digits spell, and says whether they spell any.
+#[inline(always)]
 fn decode_into(digits: &[u8], bytes: &mut [u8]) -> bool
     requires { length digits.now ≡ 2 * length bytes.old }
     ensures ok { result ≡ true → decode_pairs 0 digits.now ≡ Ok bytes.new }
@@ -58,6 +59,7 @@ fn decode_into(digits: &[u8], bytes: &mut [u8]) -> bool
 }
 
 /// The bytes that hex digits spell, in some room.
+#[inline(always)]
 fn decode<'a>(digits: &[u8], room: &'a mut [u8; 63]) -> Result<&'a [u8], LineFault>
     requires { length digits.now ≤ 126 }
     ensures ok { IfOk result (λ bytes. decode_of digits.now ≡ Ok bytes.now) }
@@ -75,6 +77,7 @@ fn decode<'a>(digits: &[u8], room: &'a mut [u8; 63]) -> Result<&'a [u8], LineFau
 }
 
 /// The entry of a letter alone. `D` and `F` are known in version 2.
+#[inline(always)]
 fn letter_entry(version: Version, letter: u8) -> Result<Option<Entry>, LineFault>
     ensures reading { result ≡ one_letter version letter }
     ensures valid { IfOk result (λ entry. IfSome entry IsValidEntry) }
@@ -91,6 +94,7 @@ fn letter_entry(version: Version, letter: u8) -> Result<Option<Entry>, LineFault
 }
 
 /// The entry of a sent frame.
+#[inline(always)]
 fn request_entry(bytes: &[u8]) -> Result<Option<Entry>, LineFault>
     ensures reading { result ≡ sent (request_reading bytes.now) }
     ensures valid { IfOk result (λ entry. IfSome entry IsValidEntry) }
@@ -103,6 +107,7 @@ fn request_entry(bytes: &[u8]) -> Result<Option<Entry>, LineFault>
 }
 
 /// The entry of a reply's frame.
+#[inline(always)]
 fn reply_entry(bytes: &[u8]) -> Result<Option<Entry>, LineFault>
     ensures reading { result ≡ heard (reply_reading bytes.now) }
     ensures valid { IfOk result (λ entry. IfSome entry IsValidEntry) }
@@ -115,6 +120,7 @@ fn reply_entry(bytes: &[u8]) -> Result<Option<Entry>, LineFault>
 }
 
 /// The entry of a listed UID's eight bytes, most significant first.
+#[inline(always)]
 fn uid_entry(bytes: &[u8]) -> Result<Option<Entry>, LineFault>
     ensures reading { result ≡ listed_uid bytes.now }
     ensures valid { IfOk result (λ entry. IfSome entry IsValidEntry) }
@@ -134,6 +140,7 @@ fn uid_entry(bytes: &[u8]) -> Result<Option<Entry>, LineFault>
 
 /// The entry on one line after the header of a log of this version, without its end; None where the
 /// line is passed over.
+#[inline(always)]
 pub fn line_entry_of(version: Version, line: &[u8]) -> Result<Option<Entry>, LineFault>
     ensures reading { result ≡ line_reading version line.now }
     ensures valid { IfOk result (λ entry. IfSome entry IsValidEntry) }

@@ -1,18 +1,21 @@
 //! A log as a value.
 
 ghost use Rattle.std.specs.Prelude.{◌≡◌, ◌<◌, ◌≤◌, [], ◌∷◌, not, ◌||◌, true, false};
-ghost use Rattle.std.specs.Prelude.{None, MatchResult, OnOk, OnErr, IfErr};
+ghost use Rattle.std.specs.Prelude.{Some, None, MatchResult, OnOk, OnErr, if◌then◌else◌};
 ghost use Rattle.vic_log.specs.declared.entry.Version.TheVariants.{V1};
+ghost use Rattle.vic_log.specs.declared.fault.PushFault.TheVariants.{DuplicateListed};
 ghost use Rattle.vic_log.specs.FirstVersion.{IsOfFirstVersion};
 ghost use Rattle.std.specs.List.Sorted.{IsNonDecreasing};
+ghost use Rattle.vic_frame.specs.Uids.{has};
 ghost use Rattle.vic_log.specs.Index.{IsAbove, IsAtMost, IsIndex, is_indexed};
 ghost use Rattle.vic_log.specs.Index.{IndexesAlso, IndexesSame};
 ghost use Rattle.vic_log.specs.Kept.{left_after, Keeps};
 ghost use Rattle.vic_log.specs.Log.{LogValue, IsLog, with_line, last_from, RefusesOr, IsValidEntry};
 ghost use Rattle.vic_log.specs.Order.{entries, listed, is_empty, refusal};
 
-use crate::entry::{Entry, LogLine, MAX_LINES, Version};
+use crate::entry::{Entry, MAX_LINES, Version};
 use crate::fault::PushFault;
+use crate::packed::PackedLine;
 use std::alloc::Global;
 use std::collections::BTreeSet;
 use std::marker::Model;
@@ -22,7 +25,7 @@ use vic_frame::Uid;
 #[derive(Drop)]
 pub struct Log {
     version: Version,
-    lines: Vec<LogLine>,
+    lines: Vec<PackedLine>,
     /// The UIDs listed that are above all those before, in that order.
     rising: Vec<Uid>,
     /// The other UIDs listed.
@@ -81,7 +84,7 @@ impl Log {
     }
 
     /// Its lines.
-    pub fn lines(&self) -> &[LogLine]
+    pub fn lines(&self) -> &[PackedLine]
         ensures value { result.now ≡ self.now.lines }
         ensures log { IsLog self.now.version result.now }
     {
@@ -94,12 +97,13 @@ impl Log {
         ensures limit { result ≤ MAX_LINES }
     {
         match self.lines.last() {
-            Some(line) => line.number,
+            Some(line) => line.number(),
             None => 1,
         }
     }
 
     /// Why an entry can't follow the lines, if it can't.
+    #[inline(always)]
     pub(crate) fn refusal(&self, item: &Entry) -> Option<PushFault>
         ensures { result ≡ refusal (entries self.now.lines) item.now }
     {
@@ -118,6 +122,7 @@ impl Log {
 
     /// Adds a line, unless its entry can't follow those before, or memory is wanting. Then the log
     /// stays as it was.
+    #[inline(always)]
     pub fn push(&mut self, number: u32, item: Entry) -> Result<(), PushFault>
         requires above { last_from 1 self.old.lines < number }
         requires limit { number ≤ MAX_LINES }
@@ -129,19 +134,23 @@ impl Log {
         ensures added { OnOk result (self.new ≡ with_line self.old number item) }
         ensures unchanged { OnErr result (self.new ≡ self.old) }
     {
-        if let Some(fault) = self.refusal(&item) {
+        if self.lines.reserve(1).is_err() {
+            return Err(self.refusal(&item).unwrap_or(PushFault::Memory));
+        }
+        if let Entry::Listed(uid) = item {
+            index_uid(&mut self.rising, &mut self.others, uid)?;
+        } else if let Some(fault) = self.refusal(&item) {
             return Err(fault);
         }
-        self.lines.reserve(1)?;
-        index_entry(&mut self.rising, &mut self.others, &item)?;
         self.listing = listing_after(self.listing, &item);
         self.slots_left = slots_after(self.slots_left, &item);
-        self.lines.push_reserved(LogLine { number, item });
+        self.lines.push_reserved(PackedLine::new(number, item));
         Ok(())
     }
 }
 
 /// How many slots are left after an entry.
+#[inline(always)]
 fn slots_after(left: u8, item: &Entry) -> u8
     ensures { result ≡ left_after left item.now }
 {
@@ -155,6 +164,7 @@ fn slots_after(left: u8, item: &Entry) -> u8
 }
 
 /// Whether a UID is listed after an entry.
+#[inline(always)]
 fn listing_after(listing: bool, item: &Entry) -> bool
     ensures { result ≡ (listing || not (is_empty (listed (item.now ∷ [])))) }
 {
@@ -177,6 +187,14 @@ fn is_above(rising: &[Uid], uid: Uid) -> bool
     }
 }
 
+/// Whether a UID is among some that rise.
+fn is_among(rising: &[Uid], uid: Uid) -> bool
+    requires { IsNonDecreasing rising.now }
+    ensures { result ≡ has rising.now uid }
+{
+    rising.binary_search(&uid).is_ok()
+}
+
 /// Whether a UID is in an index.
 fn is_indexed(rising: &[Uid], others: &BTreeSet<Uid>, uid: Uid) -> bool
     requires { IsIndex rising.now others.now }
@@ -185,29 +203,32 @@ fn is_indexed(rising: &[Uid], others: &BTreeSet<Uid>, uid: Uid) -> bool
     if is_above(rising, uid) {
         return false;
     }
-    rising.binary_search(&uid).is_ok() || others.contains(&uid)
+    is_among(rising, uid) || others.contains(&uid)
 }
 
-/// Puts the UID that an entry lists, if it lists one, into an index.
-fn index_entry(
-    rising: &mut Vec<Uid>,
-    others: &mut BTreeSet<Uid>,
-    item: &Entry,
-) -> Result<(), PushFault>
+/// Puts a UID into an index, unless it is there already. One search tells both.
+fn index_uid(rising: &mut Vec<Uid>, others: &mut BTreeSet<Uid>, uid: Uid) -> Result<(), PushFault>
     requires { IsIndex rising.old.items others.old }
+    ensures answer { MatchResult result
+        (λ _. is_indexed rising.old.items others.old uid ≡ false)
+        (RefusesOr (if is_indexed rising.old.items others.old uid
+        then Some DuplicateListed else None)) }
     ensures more { OnOk result (IndexesAlso rising.old.items others.old
-        rising.new.items others.new (listed (item.now ∷ []))) }
+        rising.new.items others.new (uid ∷ [])) }
     ensures same { OnErr result (IndexesSame rising.old.items others.old
         rising.new.items others.new) }
     ensures index { IsIndex rising.new.items others.new }
-    ensures fault { IfErr result (λ e. e ≡ PushFault.Memory) }
 {
-    if let Entry::Listed(uid) = *item {
-        if is_above(rising, uid) {
-            rising.push(uid)?;
-        } else {
-            others.insert(uid)?;
-        }
+    if is_above(rising, uid) {
+        rising.push(uid)?;
+        return Ok(());
     }
-    Ok(())
+    if is_among(rising, uid) {
+        return Err(PushFault::DuplicateListed);
+    }
+    if others.insert(uid)? {
+        Ok(())
+    } else {
+        Err(PushFault::DuplicateListed)
+    }
 }

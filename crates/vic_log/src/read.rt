@@ -1,19 +1,16 @@
-//! A whole text.
+//! One line behind those that a log was read from.
 
 ghost use Rattle.std.specs.Prelude.{◌≡◌, ◌<◌, ◌≤◌, [], ◌∷◌, Some, None, MatchResult, OnOk, if◌then◌else◌};
 ghost use Rattle.vic_log.specs.declared.entry.Version.TheVariants.{V1};
 ghost use Rattle.vic_log.specs.FirstVersion.{IsOfFirstVersion};
-ghost use Rattle.vic_log.specs.Lines.{lines_of_text};
 ghost use Rattle.vic_log.specs.Order.{entries};
 ghost use Rattle.vic_log.specs.Log.{last_from, with_line, IsValidEntry};
-ghost use Rattle.vic_log.specs.Text.{IsLogOf, Refuses, RefusesLine, RefusesNext, next_fault, after_line, order_fault, is_header, named_version};
+ghost use Rattle.vic_log.specs.Text.{RefusesLine, RefusesNext, next_fault, after_line, order_fault, is_header, named_version};
 
 use crate::entry::{Entry, MAX_LINE_LEN, MAX_LINES, Version};
 use crate::fault::{LineFault, LogFault, PushFault};
 use crate::line::line_entry_of;
 use crate::log::Log;
-use bstr::ByteSlice;
-use std::alloc::Global;
 
 /// The version that the first line of a text names; None where it isn't a header.
 fn version_named(line: &[u8]) -> Option<Version>
@@ -30,6 +27,7 @@ fn version_named(line: &[u8]) -> Option<Version>
 }
 
 /// Adds an entry behind a log.
+#[inline(always)]
 fn take_entry(log: &mut Log, number: u32, entry: Entry) -> Result<(), LogFault>
     requires above { last_from 1 log.old.lines < number }
     requires limit { number ≤ MAX_LINES }
@@ -55,6 +53,7 @@ fn take_entry(log: &mut Log, number: u32, entry: Entry) -> Result<(), LogFault>
 }
 
 /// Reads one line behind those that a log was read from.
+#[inline(always)]
 pub(crate) fn take_line(log: &mut Log, number: u32, line: &[u8]) -> Result<(), LogFault>
     requires first { 1 ≤ number }
     requires begin { number ≡ 1 → log.old.lines ≡ [] }
@@ -85,26 +84,4 @@ pub(crate) fn take_line(log: &mut Log, number: u32, line: &[u8]) -> Result<(), L
         line: number,
         fault,
     })
-}
-
-/// The log of a whole text, of the version that its first line names.
-pub fn read_log(alloc: Global, text: &[u8]) -> Result<Log, LogFault>
-    ensures { MatchResult result
-        (IsLogOf (lines_of_text text.now))
-        (Refuses text.now) }
-{
-    let mut log = Log::new(alloc);
-    let mut number = 0;
-    let mut lines = text.lines();
-    while let Some(line) = lines.next() {
-        number += 1;
-        take_line(&mut log, number, line)?;
-    }
-    if number == 0 {
-        return Err(LogFault::Line {
-            line: 1,
-            fault: LineFault::Header,
-        });
-    }
-    Ok(log)
 }

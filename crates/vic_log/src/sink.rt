@@ -1,15 +1,19 @@
 //! Writers that are written in pieces.
 
-ghost use Rattle.std.specs.Prelude.{◌≡◌, ◌<◌, ◌≤◌, ℕ, List, [], Bool, true, false, length};
+ghost use Rattle.std.specs.Prelude.{◌≡◌, ◌<◌, ◌≤◌, ◌++◌, ℕ, List, [], Bool, true, false, length};
 ghost use Rattle.std.specs.Prelude.{IfOk, OnErr, OnOk, is_err, Option};
 ghost use Rattle.std.specs.Io.KnownBytes.{Appends};
-ghost use Rattle.vic_log.specs.Device.{SinkStep, KeepsOrHides, HasTakenPrefix, to_write_inner};
+ghost use Rattle.vic_log.specs.Device.{SinkStep, KeepsOrHides, HasTakenPrefix, HasWrittenPrefix, moved, to_write_inner};
 
+use crate::history::History;
 use crate::source::DeviceFault;
 use std::io::Write;
 
 /// A writer of bytes that remembers whether its last write or flush failed.
 pub trait Sink {
+    // The bytes that its writes have taken so far.
+    ghost written: { Self → List ℕ };
+
     // The bytes that it has taken, where it tells them.
     ghost taken: { Self → Option (List ℕ) };
 
@@ -25,12 +29,14 @@ pub trait Sink {
         requires { has_failed self.old ≡ false }
         ensures bound { IfOk result (λ n. n ≤ length bytes.now) }
         ensures some { IfOk result (λ n. 0 < length bytes.now → 0 < n) }
+        ensures written { written self.new ≡ written self.old ++ moved result bytes.now }
         ensures bytes { SinkStep (taken self.old) (taken self.new) result bytes.now }
         ensures state { has_failed self.new ≡ is_err result };
 
     /// Hands on what it has taken. A sink that has failed is not flushed.
     fn flush(&mut self) -> Result<(), DeviceFault>
         requires { has_failed self.old ≡ false }
+        ensures unwritten { written self.new ≡ written self.old }
         ensures handed_on { OnOk result (is_flushed self.new ≡ true) }
         ensures kept { OnOk result (Appends (taken self.old) (taken self.new) []) }
         ensures err { OnErr result (KeepsOrHides (taken self.old) (taken self.new)) }
@@ -41,11 +47,12 @@ pub trait Sink {
         ensures { result ≡ has_failed self.now };
 }
 
-/// A sink over a writer of std. Each write or flush makes one call of that, which is not repeated.
-/// A write that takes nothing of some bytes has failed.
+/// A sink over a writer of std. Each write or flush makes one call of that, which is not repeated,
+/// and each write notes the bytes that it took. A write that takes nothing of some bytes has failed.
 #[derive(Drop)]
 pub struct ToWrite<W> {
     inner: W,
+    written: History,
     /// Whether the last call was a flush that succeeded.
     flushed: bool,
     failed: bool,
@@ -55,11 +62,13 @@ impl<W: Write> ToWrite<W> {
     /// A sink that has not failed.
     pub fn new(inner: W) -> ToWrite<W>
         ensures inner { to_write_inner result ≡ inner }
+        ensures written { ⟦<ToWrite<W> as Sink>⟧.written result ≡ [] }
         ensures taken { ⟦<ToWrite<W> as Sink>⟧.taken result ≡ W.contents inner }
         ensures works { ⟦<ToWrite<W> as Sink>⟧.has_failed result ≡ false }
     {
         ToWrite {
             inner,
+            written: History::new(),
             flushed: false,
             failed: false,
         }
@@ -71,6 +80,7 @@ impl<W: Write> ToWrite<W> {
     {
         let ToWrite {
             inner,
+            written: _,
             flushed: _,
             failed: _,
         } = self;
@@ -79,6 +89,8 @@ impl<W: Write> ToWrite<W> {
 }
 
 impl<W: Write> Sink for ToWrite<W> {
+    ghost written = { λ s. s.written.bytes };
+
     ghost taken = { λ s. W.contents s.inner };
 
     ghost is_flushed = { λ s. s.flushed };
@@ -89,6 +101,7 @@ impl<W: Write> Sink for ToWrite<W> {
         self.flushed = false;
         match self.inner.write(bytes) {
             Ok(n) if n > 0 || bytes.is_empty() => {
+                self.written.note(&bytes[..n]);
                 self.failed = false;
                 Ok(n)
             }
@@ -124,6 +137,8 @@ impl<W: Write> Sink for ToWrite<W> {
 pub fn write_whole<W: Sink>(sink: &mut W, bytes: &[u8]) -> Result<(), DeviceFault>
     ensures all { OnOk result (Appends (W.taken sink.old) (W.taken sink.new) bytes.now) }
     ensures prefix { HasTakenPrefix (W.taken sink.old) (W.taken sink.new) bytes.now }
+    ensures written { OnOk result (W.written sink.new ≡ W.written sink.old ++ bytes.now) }
+    ensures part { HasWrittenPrefix (W.written sink.old) (W.written sink.new) bytes.now }
     ensures state { W.has_failed sink.new ≡ is_err result }
     ensures untouched { W.has_failed sink.old ≡ true → sink.new ≡ sink.old }
 {

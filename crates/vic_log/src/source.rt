@@ -1,10 +1,11 @@
 //! Readers that are read in pieces.
 
-ghost use Rattle.std.specs.Prelude.{◌≡◌, ◌↔◌, ◌+◌, ◌-◌, ◌^◌, ◌<◌, ◌≤◌, ℕ, List, Bool, true, false};
+ghost use Rattle.std.specs.Prelude.{◌≡◌, ◌↔◌, ◌+◌, ◌-◌, ◌^◌, ◌<◌, ◌≤◌, ◌++◌, ℕ, List, [], Bool, true, false};
 ghost use Rattle.std.specs.Prelude.{min, length, vec_len, IfOk, IfErr, OnOk, is_err, Option};
 ghost use Rattle.std.specs.Io.KnownBytes.{Consumes};
-ghost use Rattle.vic_log.specs.Device.{SourceStep, Stops, from_read_inner};
+ghost use Rattle.vic_log.specs.Device.{SourceStep, Stops, moved, is_end, from_read_inner};
 
+use crate::history::History;
 use std::alloc::{AllocError, Global};
 use std::io::Read;
 
@@ -16,6 +17,12 @@ pub struct DeviceFault;
 pub trait Source {
     // How often it was read.
     ghost reads: { Self → ℕ };
+
+    // The bytes that its reads have returned so far.
+    ghost returned: { Self → List ℕ };
+
+    // Whether its last read returned none, though there was room.
+    ghost ended: { Self → Bool };
 
     // The bytes that it has left, where it tells them.
     ghost left: { Self → Option (List ℕ) };
@@ -29,6 +36,8 @@ pub trait Source {
         requires { has_failed self.old ≡ false }
         ensures counts { reads self.new ≡ min (reads self.old + 1) (2 ^ 64 - 1) }
         ensures bound { IfOk result (λ n. n ≤ length buf.new) }
+        ensures returned { returned self.new ≡ returned self.old ++ moved result buf.new }
+        ensures ended { ended self.new ≡ is_end result buf.new }
         ensures bytes { SourceStep (left self.old) (left self.new) result buf.new }
         ensures state { has_failed self.new ≡ is_err result };
 
@@ -37,11 +46,14 @@ pub trait Source {
         ensures { result ≡ has_failed self.now };
 }
 
-/// A source over a reader of std. Each read makes one read of that, which is not repeated.
+/// A source over a reader of std. Each read makes one read of that, which is not repeated, and notes
+/// the bytes that it returned.
 #[derive(Drop)]
 pub struct FromRead<R> {
     inner: R,
     reads: u64,
+    returned: History,
+    ended: bool,
     failed: bool,
 }
 
@@ -50,12 +62,15 @@ impl<R: Read> FromRead<R> {
     pub fn new(inner: R) -> FromRead<R>
         ensures inner { from_read_inner result ≡ inner }
         ensures reads { ⟦<FromRead<R> as Source>⟧.reads result ≡ 0 }
+        ensures returned { ⟦<FromRead<R> as Source>⟧.returned result ≡ [] }
         ensures left { ⟦<FromRead<R> as Source>⟧.left result ≡ R.remaining inner }
         ensures works { ⟦<FromRead<R> as Source>⟧.has_failed result ≡ false }
     {
         FromRead {
             inner,
             reads: 0,
+            returned: History::new(),
+            ended: false,
             failed: false,
         }
     }
@@ -67,6 +82,8 @@ impl<R: Read> FromRead<R> {
         let FromRead {
             inner,
             reads: _,
+            returned: _,
+            ended: _,
             failed: _,
         } = self;
         inner
@@ -76,6 +93,10 @@ impl<R: Read> FromRead<R> {
 impl<R: Read> Source for FromRead<R> {
     ghost reads = { λ s. s.reads };
 
+    ghost returned = { λ s. s.returned.bytes };
+
+    ghost ended = { λ s. s.ended };
+
     ghost left = { λ s. R.remaining s.inner };
 
     ghost has_failed = { λ s. s.failed };
@@ -84,10 +105,13 @@ impl<R: Read> Source for FromRead<R> {
         self.reads = self.reads.saturating_add(1);
         match self.inner.read(buf) {
             Ok(n) => {
+                self.returned.note(&buf[..n]);
+                self.ended = n == 0 && !buf.is_empty();
                 self.failed = false;
                 Ok(n)
             }
             Err(_) => {
+                self.ended = false;
                 self.failed = true;
                 Err(DeviceFault)
             }

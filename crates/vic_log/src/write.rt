@@ -6,7 +6,7 @@ ghost use Rattle.std.specs.Str.{byte};
 ghost use Rattle.std.specs.Io.KnownBytes.{Appends};
 ghost use Rattle.arrayvec.specs.ArrayVec.{array_vec_len};
 ghost use Rattle.hex.specs.Hex.{encode_upper};
-ghost use Rattle.vic_log.specs.Device.{HasTakenBut, HasTakenPrefix};
+ghost use Rattle.vic_log.specs.Device.{HasTakenBut, HasTakenPrefix, HasWrittenBut, HasWrittenPrefix};
 ghost use Rattle.vic_log.specs.Lines.{lf};
 ghost use Rattle.vic_log.specs.Log.{IsValidEntry};
 ghost use Rattle.vic_log.specs.Text.{header};
@@ -36,13 +36,16 @@ pub fn write_log<W: Sink>(log: &Log, sink: &mut W) -> Result<(), WriteFault>
     ensures all { OnOk result (Appends (W.taken sink.old) (W.taken sink.new) (text_of log.now)) }
     ensures flushed { OnOk result (W.is_flushed sink.new ≡ true) }
     ensures prefix { HasTakenPrefix (W.taken sink.old) (W.taken sink.new) (text_of log.now) }
+    ensures written { OnOk result
+        (W.written sink.new ≡ W.written sink.old ++ text_of log.now) }
+    ensures part { HasWrittenPrefix (W.written sink.old) (W.written sink.new) (text_of log.now) }
     ensures state { W.has_failed sink.new ≡ is_err result }
     ensures untouched { W.has_failed sink.old ≡ true → sink.new ≡ sink.old }
 {
     let lines = log.lines();
     let mut piece = with_header(log.version());
     for line in lines {
-        put_entry(&mut piece, &line.item, sink)?;
+        put_entry(&mut piece, &line.item(), sink)?;
     }
     write_last(&piece, sink)?;
     Ok(())
@@ -56,6 +59,10 @@ pub fn write_listed<W: Sink>(opening: &[u8], uids: &[Uid], sink: &mut W) -> Resu
         (opening.now ++ listed_text uids.now)) }
     ensures flushed { OnOk result (W.is_flushed sink.new ≡ true) }
     ensures prefix { HasTakenPrefix (W.taken sink.old) (W.taken sink.new)
+        (opening.now ++ listed_text uids.now) }
+    ensures written { OnOk result (W.written sink.new
+        ≡ W.written sink.old ++ (opening.now ++ listed_text uids.now)) }
+    ensures part { HasWrittenPrefix (W.written sink.old) (W.written sink.new)
         (opening.now ++ listed_text uids.now) }
     ensures state { W.has_failed sink.new ≡ is_err result }
     ensures untouched { W.has_failed sink.old ≡ true → sink.new ≡ sink.old }
@@ -98,6 +105,11 @@ fn put_entry<W: Sink>(piece: &mut Piece, item: &Entry, sink: &mut W) -> Result<(
         (piece.old.items ++ (entry_text item.now ++ lf ∷ []))) }
     ensures prefix { OnErr result
         (HasTakenPrefix (W.taken sink.old) (W.taken sink.new) piece.old.items) }
+    ensures written { OnOk result
+        (HasWrittenBut (W.written sink.old) (W.written sink.new) piece.new.items
+        (piece.old.items ++ (entry_text item.now ++ lf ∷ []))) }
+    ensures part { OnErr result
+        (HasWrittenPrefix (W.written sink.old) (W.written sink.new) piece.old.items) }
     ensures failed { OnErr result (W.has_failed sink.new ≡ true) }
     ensures untouched { W.has_failed sink.old ≡ true → sink.new ≡ sink.old }
 {
@@ -114,6 +126,9 @@ fn write_last<W: Sink>(piece: &Piece, sink: &mut W) -> Result<(), DeviceFault>
     ensures all { OnOk result (Appends (W.taken sink.old) (W.taken sink.new) piece.now.items) }
     ensures flushed { OnOk result (W.is_flushed sink.new ≡ true) }
     ensures prefix { HasTakenPrefix (W.taken sink.old) (W.taken sink.new) piece.now.items }
+    ensures written { OnOk result
+        (W.written sink.new ≡ W.written sink.old ++ piece.now.items) }
+    ensures part { HasWrittenPrefix (W.written sink.old) (W.written sink.new) piece.now.items }
     ensures state { W.has_failed sink.new ≡ is_err result }
     ensures untouched { W.has_failed sink.old ≡ true → sink.new ≡ sink.old }
 {

@@ -28,6 +28,46 @@ impl Write for Broken {
     }
 }
 
+/// A reader and writer of std that fails at one call, works at all others, and counts its calls.
+#[derive(Drop)]
+struct Counted {
+    calls: u64,
+    fails_at: u64,
+}
+
+impl Counted {
+    /// Its calls are numbered from 1; with a `fails_at` of 0 none fails.
+    fn new(fails_at: u64) -> Counted {
+        Counted { calls: 0, fails_at }
+    }
+
+    fn called(&mut self) -> io::Result<()> {
+        self.calls = self.calls.saturating_add(1);
+        if self.calls == self.fails_at {
+            return Err(io::ErrorKind::TimedOut.into());
+        }
+        Ok(())
+    }
+}
+
+impl Read for Counted {
+    fn read(&mut self, buf: &mut [u8]) -> io::Result<usize> {
+        self.called()?;
+        Ok(buf.len())
+    }
+}
+
+impl Write for Counted {
+    fn write(&mut self, buf: &[u8]) -> io::Result<usize> {
+        self.called()?;
+        Ok(buf.len())
+    }
+
+    fn flush(&mut self) -> io::Result<()> {
+        self.called()
+    }
+}
+
 const TEXT: &[u8] = b"one two three";
 
 /// Asks a source for all that it has, up to so many bytes.
@@ -89,6 +129,20 @@ fn a_broken_reader_of_std(rt: HostRuntime) {
     assert!(rt; source.failed());
 }
 
+/// Reads a source over a reader that is called once for it.
+fn reads_once(rt: &impl Abort, fails_at: u64, buf: &mut [u8], given: Result<usize, DeviceFault>) {
+    let mut source = FromRead::new(Counted::new(fails_at));
+    assert!(rt; source.read(buf) == given);
+    assert!(rt; source.into_inner().calls == 1);
+}
+
+#[test]
+fn one_read_of_std_for_each(rt: HostRuntime) {
+    reads_once(&rt, 0, &mut [0; 4], Ok(4));
+    reads_once(&rt, 0, &mut [], Ok(0));
+    reads_once(&rt, 1, &mut [0; 4], Err(DeviceFault));
+}
+
 /// Gives the text to a sink, and asks for what it has taken then.
 fn takes(rt: &impl Abort, sink: &mut OneByOne, given: Result<(), DeviceFault>, taken: &[u8]) {
     assert!(rt; write_whole(sink, TEXT) == given);
@@ -126,6 +180,28 @@ fn broken_writers_of_std(rt: HostRuntime) {
     let mut sink = ToWrite::new(Broken);
     assert!(rt; sink.flush() == Err(DeviceFault));
     assert!(rt; sink.failed());
+}
+
+/// Writes to a sink over a writer that is called once for it.
+fn writes_once(rt: &impl Abort, fails_at: u64, text: &[u8], given: Result<usize, DeviceFault>) {
+    let mut sink = ToWrite::new(Counted::new(fails_at));
+    assert!(rt; sink.write(text) == given);
+    assert!(rt; sink.into_inner().calls == 1);
+}
+
+/// Flushes a sink over a writer that is called once for it.
+fn flushes_once(rt: &impl Abort, fails_at: u64, given: Result<(), DeviceFault>) {
+    let mut sink = ToWrite::new(Counted::new(fails_at));
+    assert!(rt; sink.flush() == given);
+    assert!(rt; sink.into_inner().calls == 1);
+}
+
+#[test]
+fn one_write_of_std_for_each(rt: HostRuntime) {
+    writes_once(&rt, 0, TEXT, Ok(TEXT.len()));
+    writes_once(&rt, 1, TEXT, Err(DeviceFault));
+    flushes_once(&rt, 0, Ok(()));
+    flushes_once(&rt, 1, Err(DeviceFault));
 }
 
 #[test]

@@ -1,5 +1,5 @@
 //! The tags of a field, and each call on them. What `simulate` fills in is asked of the program, by
-//! `.ci/logs`.
+//! `tests/logs`.
 
 ghost use Rattle.std.specs.Prelude.{◌<◌};
 

@@ -15,6 +15,8 @@ mod log;
 #[cfg(test)]
 mod logs;
 #[cfg(test)]
+mod report;
+#[cfg(test)]
 mod runs;
 #[cfg(test)]
 mod tree;

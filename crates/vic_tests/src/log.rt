@@ -1,5 +1,5 @@
 //! Lines and logs, each call once, and logs read in pieces. What texts are refused for is asked of
-//! the program, by `.ci/logs`.
+//! the program, by `tests/logs`.
 
 ghost use Rattle.std.specs.Prelude.{◌<◌};
 
@@ -10,8 +10,8 @@ use std::test::Fail;
 use vic_frame::{Request, read_request};
 use vic_log::devices::{OneByOne, Pieces, Stuck};
 use vic_log::{
-    Entry, LineFault, Log, LogFault, LogReader, MAX_LINES, PushFault, Sink, Source, ToWrite,
-    Version, WriteFault, line_entry, line_entry_of, read_log, write_log,
+    Entry, LineFault, Log, LogFault, LogFeed, LogReader, MAX_LINES, PushFault, Sink, Source,
+    ToWrite, Version, WriteFault, line_entry, line_entry_of, read_log, write_log,
 };
 
 /// The log of a text that has one.
@@ -99,8 +99,8 @@ fn has_lines(rt: &impl Abort, log: &Log, first: u32, second: u32, entries: &[Ent
         assert!(rt; false, "two lines");
         return;
     };
-    assert!(rt; one.number == first && two.number == second);
-    assert!(rt; one.item == entries[0] && two.item == entries[1]);
+    assert!(rt; one.number() == first && two.number() == second);
+    assert!(rt; one.item() == entries[0] && two.item() == entries[1]);
 }
 
 #[test]
@@ -228,6 +228,38 @@ fn a_log_of_version_2_in_pieces(rt: HostRuntime) -> Result<(), Fail> {
     for piece in 1..20usize {
         is_read(&rt, rt.alloc(), SECOND, piece, &whole)?;
     }
+    Ok(())
+}
+
+/// Feeds a text in pieces of so many bytes as the log that it is.
+fn is_fed(rt: &impl Abort, alloc: Global, piece: usize, whole: &Log) -> Result<(), Fail>
+    requires { 0 < piece }
+{
+    let mut feed = LogFeed::new(alloc);
+    for part in SESSION.chunks(piece) {
+        feed.feed(part)?;
+    }
+    let log = feed.finish()?;
+    assert!(rt; log.lines() == whole.lines());
+    Ok(())
+}
+
+#[test]
+fn a_log_that_is_fed(rt: HostRuntime) -> Result<(), Fail> {
+    let whole = log_of(rt.alloc(), SESSION)?;
+    for piece in 1..20usize {
+        is_fed(&rt, rt.alloc(), piece, &whole)?;
+    }
+    Ok(())
+}
+
+#[test]
+fn a_log_that_is_fed_a_fault(rt: HostRuntime) -> Result<(), Fail> {
+    let mut feed = LogFeed::new(rt.alloc());
+    feed.feed(b"vicinity-lo")?;
+    assert!(rt; feed.feed(b"g 9\nS") == Err(HEADER));
+    assert!(rt; feed.feed(b"\n") == Err(LogFault::Spent));
+    assert!(rt; feed.finish().err() == Some(LogFault::Spent));
     Ok(())
 }
 

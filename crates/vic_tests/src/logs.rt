@@ -1,4 +1,4 @@
-//! Logs by short names of their lines, those of `tests/lines`.
+//! Logs by short names of their lines, those of `tests/rows/lines`.
 
 use std::alloc::Global;
 use std::test::Fail;
@@ -64,10 +64,20 @@ fn push_lines(text: &mut String, name: &str) -> Result<(), Fail> {
     Ok(())
 }
 
-/// The text of a log of version 1, its lines by their names.
+/// The text of a log, its lines by their names: of version 2 where the first one is `V2`.
 pub fn text_of(alloc: Global, names: &str) -> Result<String, Fail> {
-    let mut text = String::from_str(alloc, "vicinity-log 1\n")?;
-    for name in names.split(' ').filter(|name| !name.is_empty()) {
+    let mut text = String::new(alloc);
+    let lines = match names.strip_prefix("V2 ") {
+        Some(lines) => {
+            text.push_str("vicinity-log 2\n")?;
+            lines
+        }
+        None => {
+            text.push_str("vicinity-log 1\n")?;
+            names
+        }
+    };
+    for name in lines.split(' ').filter(|name| !name.is_empty()) {
         push_lines(&mut text, name)?;
     }
     Ok(text)

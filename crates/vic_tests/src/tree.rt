@@ -212,6 +212,73 @@ fn ranges_calls(rt: HostRuntime) -> Result<(), Fail> {
     calls::<RangeSet>(&rt, rt.alloc())
 }
 
+/// Asks ranges for their first open masks besides the UIDs at some keys.
+fn opens(
+    rt: &impl Abort,
+    set: &RangeSet,
+    keys: &[u64],
+    expected: &[(u8, u64)],
+    more: bool,
+) -> Result<(), Fail>
+    requires order { IsNonDecreasing keys.now }
+    requires keys { AreKeys keys.now }
+{
+    let open = set.open_masks_besides(keys);
+    assert!(rt; open.masks.len() == expected.len() && open.more == more);
+    for (found, (len, value)) in open.masks.iter().zip(expected) {
+        assert!(rt; *found == mask(*len, *value)?);
+    }
+    Ok(())
+}
+
+/// For each length from 1 to 16 bits the mask that parts with A at its last bit.
+const BESIDE_A: [(u8, u64); 16] = [
+    (1, 0),
+    (2, 0x3),
+    (3, 0x5),
+    (4, 0x9),
+    (5, 0x11),
+    (6, 0x01),
+    (7, 0x61),
+    (8, 0x21),
+    (9, 0x1A1),
+    (10, 0x2A1),
+    (11, 0x4A1),
+    (12, 0x8A1),
+    (13, 0x10A1),
+    (14, 0x20A1),
+    (15, 0x40A1),
+    (16, 0x80A1),
+];
+
+#[test]
+fn open_masks(rt: HostRuntime) -> Result<(), Fail> {
+    let alloc = rt.alloc();
+    let all = RangeSet::everything(alloc)?;
+    opens(&rt, &all, &[], &[(0, 0)], false)?;
+    opens(&rt, &all, &[KEY_OF_A], &BESIDE_A, true)?;
+    let none = without::<RangeSet>(alloc, 0, 0)?;
+    opens(&rt, &none, &[], &[], false)?;
+    let two = first_two::<RangeSet>(alloc)?;
+    opens(&rt, &two, &[], &[(55, 0)], false)?;
+    opens(&rt, &two, &[0, 0], &[(56, 1 << 55)], false)?;
+    opens(&rt, &two, &[0, 1], &[], false)
+}
+
+#[test]
+fn open_masks_round_one_that_is_settled(rt: HostRuntime) -> Result<(), Fail> {
+    let alloc = rt.alloc();
+    let quarter = without::<RangeSet>(alloc, 2, 1)?;
+    opens(&rt, &quarter, &[], &[(1, 0), (2, 3)], false)?;
+    let mut heard = RangeSet::everything(alloc)?;
+    settle(&mut heard, 8, 0xA1, &[uid(A)?])?;
+    opens(&rt, &heard, &[KEY_OF_A], &BESIDE_A[..8], false)?;
+    let sixteen = without::<RangeSet>(alloc, 16, 0xA1)?;
+    opens(&rt, &sixteen, &[], &BESIDE_A, false)?;
+    let seventeen = without::<RangeSet>(alloc, 17, 0xA1)?;
+    opens(&rt, &seventeen, &[], &BESIDE_A, true)
+}
+
 /// The next of a fixed row of numbers that look random.
 fn next(state: u64) -> u64 {
     let left = state ^ (state << 13);

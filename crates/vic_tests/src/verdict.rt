@@ -1,5 +1,5 @@
 //! Logs judged over a list of cells. What `judge` says of them, over ranges of keys, is asked of the
-//! program, by `.ci/logs`.
+//! program, by `tests/logs`.
 
 use crate::logs::text_of;
 use arrayvec::ArrayVec;
@@ -10,7 +10,7 @@ use vic_answer::{Answer, answer_line};
 use vic_frame::{Mask, Uid};
 use vic_log::{Log, read_log};
 use vic_tree::{CellList, MaskTree, OpenSet};
-use vic_verdict::judge_with;
+use vic_verdict::{explain_with, judge_with};
 
 fn log_of(alloc: Global, names: &str) -> Result<Log, Fail> {
     let text = text_of(alloc, names)?;
@@ -123,5 +123,6 @@ impl OpenSet for Refusing {
 fn a_set_that_wants_memory(rt: HostRuntime) -> Result<(), Fail> {
     let log = log_of(rt.alloc(), "I1 RA UA")?;
     assert!(&rt; judge_with::<Refusing>(rt.alloc(), &log).is_err());
+    assert!(&rt; explain_with::<Refusing>(rt.alloc(), &log).is_err());
     Ok(())
 }

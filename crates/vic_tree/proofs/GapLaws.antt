@@ -1,5 +1,5 @@
 -- Ranges of keys without some keys.
-use Rattle.std.proofs.Common.{◌≡◌, ℕ, ◌+◌, ◌-◌, ◌^◌, ◌<◌, ◌≤◌, ◌==◌, ◌&&◌, ◌||◌, ◌⊎◌, inl, inr, Bool, true, false, not, List, [], ◌∷◌, Option, Some, None, IfSome, IfNone, length, get_or, nat_eq, refl, sym, ap, subst, ◌∙◌, arith}
+use Rattle.std.proofs.Common.{◌≡◌, ℕ, ◌+◌, ◌-◌, ◌^◌, ◌<◌, ◌≤◌, ◌==◌, ◌&&◌, ◌||◌, ◌⊎◌, inl, inr, Bool, true, false, not, List, ◌∷◌, Option, Some, None, IfSome, IfNone, length, get_or, nat_eq, sym, ap, subst, ◌∙◌, arith}
 use Rattle.std.specs.List.Sorted.{IsNonDecreasing}
 use Rattle.std.proofs.lemmas.Bool.{cases_lt}
 use Rattle.std.proofs.lemmas.Nat.{pow_pos}
@@ -12,10 +12,10 @@ use Rattle.vic_frame.proofs.MirrorLaws.{mirror_of_uid}
 use Rattle.vic_frame.proofs.KeyLaws.{is_uid}
 use Rattle.vic_tree.specs.Gathering.{Gathers}
 use Rattle.vic_tree.specs.OpenSet.{AllOpen, IsAtMost, IsWidest, SameUids, has_key, without_keys}
-use Rattle.vic_tree.specs.Ranges.{AllKeysPass, AreRangesFrom, ComesFirstIn, HoldsMask, IsFoundBelow, IsFreeBetween, IsMaskIn, IsWidestBelow, PassBesides, in_ranges, is_between, is_open_in}
+use Rattle.vic_tree.specs.Ranges.{AllKeysPass, AreRangesFrom, ComesFirstIn, HoldsMask, IsFoundBelow, IsFreeBetween, IsMaskIn, IsWidestBelow, PassBesides, in_ranges, is_between, is_open_in, is_passed}
 use Rattle.vic_tree.proofs.BlockLaws.{key_in_mask, mask_ends}
 use Rattle.vic_tree.proofs.GatheringLaws.{gathers_both, gathers_like, not_among}
-use Rattle.vic_tree.proofs.RangeLaws.{inside_is, is_after, is_inside, none_below}
+use Rattle.vic_tree.proofs.RangeLaws.{inside_is, is_after, is_inside, neither, none_below}
 
 -- a key between those before an index and the one there isn't in the list
 pub between_two : (keys : List ℕ) (n from to k : ℕ) → IsNonDecreasing keys → ((i : ℕ) → i < n → get_or keys i 0 < from) → (n < length keys → to < get_or keys n 0) → from ≤ k → k ≤ to → has keys k ≡ false
@@ -26,52 +26,52 @@ between_two keys n from to k up low high p q =
     ])))
 
 -- the UIDs of a gap are gathered
-pub gap_gathered : (keys : List ℕ) (n first last from to : ℕ) (old out new : List ℕ) → IsNonDecreasing keys → ((i : ℕ) → i < n → get_or keys i 0 < from) → (n < length keys → to < get_or keys n 0) → first ≤ from → from ≤ to → to ≤ last
-    → Gathers (λ u. IsFreeBetween first last (has_key keys) u × (mirror u < from)) old out
-    → Gathers (IsFreeBetween from to (has [])) out new
-    → Gathers (λ u. IsFreeBetween first last (has_key keys) u × (mirror u < to + 1)) old new
-gap_gathered keys n first last from to old out new up low high a b d g h =
+pub gap_gathered : (except keys : List ℕ) (n first last from to : ℕ) (old out new : List ℕ) → IsNonDecreasing keys → ((i : ℕ) → i < n → get_or keys i 0 < from) → (n < length keys → to < get_or keys n 0) → first ≤ from → from ≤ to → to ≤ last
+    → Gathers (λ u. IsFreeBetween first last (is_passed except keys) u × (mirror u < from)) old out
+    → Gathers (IsFreeBetween from to (has except)) out new
+    → Gathers (λ u. IsFreeBetween first last (is_passed except keys) u × (mirror u < to + 1)) old new
+gap_gathered except keys n first last from to old out new up low high a b d g h =
     gathers_both
-    (λ u. IsFreeBetween first last (has_key keys) u × (mirror u < from))
-    (IsFreeBetween from to (has []))
-    (λ u. IsFreeBetween first last (has_key keys) u × (mirror u < to + 1))
+    (λ u. IsFreeBetween first last (is_passed except keys) u × (mirror u < from))
+    (IsFreeBetween from to (has except))
+    (λ u. IsFreeBetween first last (is_passed except keys) u × (mirror u < to + 1))
     old out new
     (λ u w. (w.0, omega (arith, w.1)))
     (λ u w. let i = inside_is from to (mirror u) w.inside in (
-      record { is_uid = w.is_uid; inside = is_inside first last (mirror u) (omega (arith, i.0)) (omega (arith, i.1)); free = between_two keys n from to (mirror u) up low high i.0 i.1 },
+      record { is_uid = w.is_uid; inside = is_inside first last (mirror u) (omega (arith, i.0)) (omega (arith, i.1)); free = rw (w.free, between_two keys n from to (mirror u) up low high i.0 i.1) },
       omega (arith, i.1),
     ))
     (λ u w. elim (cases_lt (mirror u) from) [
       | inl p ↦ inl (w.0, p)
-      | inr p ↦ inr (record { is_uid = w.0.is_uid; inside = is_inside from to (mirror u) p (omega (arith, w.1)); free = refl })
+      | inr p ↦ inr (record { is_uid = w.0.is_uid; inside = is_inside from to (mirror u) p (omega (arith, w.1)); free = (neither (has except u) (has_key keys u) w.0.free).0 })
     ])
     g
     h
 
 -- and the keys of the list after it are passed
-pub keys_passed : (keys : List ℕ) (first last b c : ℕ) (old new : List ℕ) → b ≤ c → ((k : ℕ) → b ≤ k → k < c → has keys k ≡ true)
-    → Gathers (λ u. IsFreeBetween first last (has_key keys) u × (mirror u < b)) old new
-    → Gathers (λ u. IsFreeBetween first last (has_key keys) u × (mirror u < c)) old new
-keys_passed keys first last b c old new h all g =
+pub keys_passed : (except keys : List ℕ) (first last b c : ℕ) (old new : List ℕ) → b ≤ c → ((k : ℕ) → b ≤ k → k < c → has keys k ≡ true)
+    → Gathers (λ u. IsFreeBetween first last (is_passed except keys) u × (mirror u < b)) old new
+    → Gathers (λ u. IsFreeBetween first last (is_passed except keys) u × (mirror u < c)) old new
+keys_passed except keys first last b c old new h all g =
     gathers_like
-    (λ u. IsFreeBetween first last (has_key keys) u × (mirror u < b))
-    (λ u. IsFreeBetween first last (has_key keys) u × (mirror u < c))
+    (λ u. IsFreeBetween first last (is_passed except keys) u × (mirror u < b))
+    (λ u. IsFreeBetween first last (is_passed except keys) u × (mirror u < c))
     old new
     (λ u w. (w.0, omega (arith, w.1)))
     (λ u w. elim (cases_lt (mirror u) b) [
       | inl p ↦ (w.0, p)
-      | inr p ↦ absurd (let t = all (mirror u) p w.1 in let f = w.0.free in cc (t, f))
+      | inr p ↦ absurd (let t = all (mirror u) p w.1 in let f = (neither (has except u) (has_key keys u) w.0.free).1 in cc (t, f))
     ])
     g
 
 -- all are gathered
-pub gaps_gathered : (keys : List ℕ) (first last b : ℕ) (old new : List ℕ) → last < b
-    → Gathers (λ u. IsFreeBetween first last (has_key keys) u × (mirror u < b)) old new
-    → Gathers (IsFreeBetween first last (has_key keys)) old new
-gaps_gathered keys first last b old new h g =
+pub gaps_gathered : (except keys : List ℕ) (first last b : ℕ) (old new : List ℕ) → last < b
+    → Gathers (λ u. IsFreeBetween first last (is_passed except keys) u × (mirror u < b)) old new
+    → Gathers (IsFreeBetween first last (is_passed except keys)) old new
+gaps_gathered except keys first last b old new h g =
     gathers_like
-    (λ u. IsFreeBetween first last (has_key keys) u × (mirror u < b))
-    (IsFreeBetween first last (has_key keys))
+    (λ u. IsFreeBetween first last (is_passed except keys) u × (mirror u < b))
+    (IsFreeBetween first last (is_passed except keys))
     old new
     (λ u w. w.0)
     (λ u w. (w, let i = inside_is first last (mirror u) w.inside in omega (arith, i.1)))
@@ -82,11 +82,11 @@ gaps_gathered keys first last b old new h g =
 at_most_then : (a b c : BitMask) → IsAtMost a b → IsAtMost b c → IsAtMost a c
 at_most_then a b c h k = (omega (arith, h.0, k.0), λ e. omega (arith, h.0, k.0, h.1, k.1))
 
-first_passes : (p : ℕ → Bool) (m : BitMask) → AllKeysPass p m → p (mirror m.value) ≡ true
+pub first_passes : (p : ℕ → Bool) (m : BitMask) → AllKeysPass p m → p (mirror m.value) ≡ true
 first_passes p m all = let pos = pow_pos (56 - m.len) in all (mirror m.value) (omega arith) (omega arith)
 
 -- a mask whose keys pass doesn't go beyond a key that fails
-in_gap : (p : ℕ → Bool) (from to : ℕ) (m : BitMask) → p (to + 1) ≡ false → AllKeysPass p m → from ≤ mirror m.value → mirror m.value < to + 1 → HoldsMask from to m
+pub in_gap : (p : ℕ → Bool) (from to : ℕ) (m : BitMask) → p (to + 1) ≡ false → AllKeysPass p m → from ≤ mirror m.value → mirror m.value < to + 1 → HoldsMask from to m
 in_gap p from to m end all low high = (
   low,
   elim (cases_lt (to + 1) (mirror m.value + 2 ^ (56 - m.len))) [
@@ -148,7 +148,7 @@ abbrev pub is_left : List (ℕ × ℕ) → List ℕ → ℕ → Bool
 is_left es keys k = in_ranges es k && not (has keys k)
 
 -- all masks are looked at
-left_keys : (p : ℕ → Bool) (m : BitMask) → IsMask m → m.len ≤ 56 → AllOpen (λ u. p (mirror u)) m → AllKeysPass p m
+pub left_keys : (p : ℕ → Bool) (m : BitMask) → IsMask m → m.len ≤ 56 → AllOpen (λ u. p (mirror u)) m → AllKeysPass p m
 left_keys p m h k all x lo hi =
     let pos = pow_pos (56 - m.len) in
     let small : x < 2 ^ 56 = omega (arith, mask_ends m h k, pos, hi) in
@@ -156,7 +156,7 @@ left_keys p m h k all x lo hi =
     let inside : lies_in m (uid_of x) ≡ true = key_in_mask m (uid_of x) h k ∙ is_inside (mirror m.value) (mirror m.value + (2 ^ (56 - m.len) - 1)) (mirror (uid_of x)) (omega arith) (omega arith) in
     sym (ap p back) ∙ all (uid_of x) (is_uid x) inside
 
-none_left : (es : List (ℕ × ℕ)) (keys : List ℕ) (k : ℕ) → in_ranges es k ≡ false → is_left es keys k ≡ false
+pub none_left : (es : List (ℕ × ℕ)) (keys : List ℕ) (k : ℕ) → in_ranges es k ≡ false → is_left es keys k ≡ false
 none_left es keys k h = ap (λ (z : Bool). z && not (has keys k)) h
 
 pub found_is_widest : (es : List (ℕ × ℕ)) (keys : List ℕ) (b : ℕ) (o : Option BitMask) → ((k : ℕ) → b ≤ k → in_ranges es k ≡ false) → IsFoundBelow (is_left es keys) b o → IfSome o (IsWidest (without_keys (is_open_in es) keys))

@@ -3,11 +3,11 @@
 //! Both the ranges and the keys come in order, and are gone over side by side, once.
 
 ghost use Rattle.std.specs.Prelude.{◌≡◌, ℕ, ◌+◌, ◌<◌, ◌≤◌, Bool, false, IfSome, IfNone, length, get_or};
-ghost use Rattle.std.specs.List.Sorted.{IsNonDecreasing};
+ghost use Rattle.std.specs.List.Sorted.{IsNonDecreasing, IsStrictlyIncreasing};
 ghost use Rattle.vic_frame.specs.LowBitsFirst.{IsKey};
 ghost use Rattle.vic_tree.specs.Gathering.{Gathers};
 ghost use Rattle.vic_tree.specs.OpenSet.{IsWidest, SameUids, has_key, without_keys};
-ghost use Rattle.vic_tree.specs.Ranges.{AreRanges, IsFoundBelow, IsFreeBetween, IsFreeInRanges, PassBesides, is_open_in};
+ghost use Rattle.vic_tree.specs.Ranges.{AreRanges, IsFoundBelow, IsFreeBetween, IsFreeInRanges, PassBesides, is_open_in, is_passed};
 
 use crate::blocks::widest_with;
 use crate::gather_keys::{first_meeting, gather_keys};
@@ -15,20 +15,23 @@ use arrayvec::ArrayVec;
 use std::collections::BTreeMap;
 use vic_frame::{Mask, Uid};
 
-/// Appends the UIDs at the keys from `first` to `last` that are in some ranges and not in a list.
+/// Appends the UIDs at the keys from `first` to `last` that are in some ranges, no exceptions and at
+/// none of some keys.
 pub(crate) fn gather_besides(
     out: &mut ArrayVec<Uid, 3>,
+    except: &[Uid],
     keys: &[u64],
     ranges: &BTreeMap<u64, u64>,
     first: u64,
     last: u64,
 )
+    requires rising { IsStrictlyIncreasing except.now }
     requires order { IsNonDecreasing keys.now }
     requires ranges { AreRanges ranges.now.entries }
     requires forward { first ≤ last }
     requires small { IsKey last }
-    ensures { Gathers (IsFreeInRanges ranges.now.entries first last (has_key keys.now))
-        out.old.items out.new.items }
+    ensures { Gathers (IsFreeInRanges ranges.now.entries first last
+        (is_passed except.now keys.now)) out.old.items out.new.items }
 {
     let start = first_meeting(ranges, first);
     let mut next = 0;
@@ -36,7 +39,7 @@ pub(crate) fn gather_besides(
         if out.is_full() {
             return;
         }
-        next = gather_gaps(out, keys, next, (*from).max(first), (*to).min(last));
+        next = gather_gaps(out, except, keys, next, (*from).max(first), (*to).min(last));
     }
 }
 
@@ -44,16 +47,18 @@ pub(crate) fn gather_besides(
 /// index `start` are lower. The index behind those of the list that were passed.
 fn gather_gaps(
     out: &mut ArrayVec<Uid, 3>,
+    except: &[Uid],
     keys: &[u64],
     start: usize,
     first: u64,
     last: u64,
 ) -> usize
+    requires rising { IsStrictlyIncreasing except.now }
     requires order { IsNonDecreasing keys.now }
     requires start { start ≤ length keys.now }
     requires lower { (i : ℕ) → i < start → get_or keys.now i 0 < first }
     requires small { IsKey last }
-    ensures gathers { Gathers (IsFreeBetween first last (has_key keys.now))
+    ensures gathers { Gathers (IsFreeBetween first last (is_passed except.now keys.now))
         out.old.items out.new.items }
     ensures count { result ≤ length keys.now }
     ensures passed { (i : ℕ) → start ≤ i → i < result → get_or keys.now i 0 ≤ last }
@@ -63,13 +68,13 @@ fn gather_gaps(
     while next < keys.len() && keys[next] <= last {
         let key = keys[next];
         if from < key {
-            gather_keys(out, &[], from, key - 1);
+            gather_keys(out, except, from, key - 1);
         }
         from = from.max(key + 1);
         next += 1;
     }
     if from <= last {
-        gather_keys(out, &[], from, last);
+        gather_keys(out, except, from, last);
     }
     next
 }

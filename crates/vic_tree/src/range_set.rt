@@ -1,15 +1,17 @@
 //! A set of open UIDs as ranges of their keys, in the order of low bits first.
 
-ghost use Rattle.std.specs.Prelude.{◌≡◌, ℕ, ◌≤◌, ◌&&◌, true, IfOk, OnOk};
+ghost use Rattle.std.specs.Prelude.{◌≡◌, ℕ, ◌≤◌, ◌&&◌, ◌↔◌, true, IfOk, OnOk};
+ghost use Rattle.std.specs.List.{Contains};
 ghost use Rattle.std.specs.List.Sorted.{IsNonDecreasing};
 ghost use Rattle.vic_frame.specs.Uids.{IsUid, has};
-ghost use Rattle.vic_frame.specs.Masks.{IsMask};
+ghost use Rattle.vic_frame.specs.Masks.{BitMask, IsMask};
 ghost use Rattle.vic_frame.specs.LowBitsFirst.{mirror};
-ghost use Rattle.vic_tree.specs.OpenSet.{SameUids, settled};
+ghost use Rattle.vic_tree.specs.OpenSet.{AreKeys, SameUids, settled, without_keys};
+ghost use Rattle.vic_tree.specs.OpenMasks.{AreFirst, IsOpenMask};
 ghost use Rattle.vic_tree.specs.Ranges.{AreRanges, is_between, is_open_in};
 
 use crate::gaps::{gather_besides, widest_besides};
-use crate::gather_keys::gather_ranges;
+use crate::open_masks::{MAX_OPEN_MASKS, OpenMasks, open_masks_besides};
 use crate::open_set::OpenSet;
 use crate::ranges::{is_in, take_out_others};
 use arrayvec::ArrayVec;
@@ -70,7 +72,7 @@ impl OpenSet for RangeSet {
         let mut found = ArrayVec::new();
         if let Some(mask) = without_top_byte(mask) {
             let (first, last) = key_range(&mask);
-            gather_ranges(&mut found, except, &self.ranges, first, last);
+            gather_besides(&mut found, except, &[], &self.ranges, first, last);
         }
         found
     }
@@ -88,13 +90,30 @@ impl OpenSet for RangeSet {
         let mut found = ArrayVec::new();
         if let Some(mask) = without_top_byte(mask) {
             let (first, last) = key_range(&mask);
-            gather_besides(&mut found, keys, &self.ranges, first, last);
+            gather_besides(&mut found, &[], keys, &self.ranges, first, last);
         }
         Ok(found)
     }
 
     fn widest_besides(self, keys: &[u64]) -> Result<Option<Mask>, AllocError> {
         Ok(widest_besides(&self.ranges, keys))
+    }
+}
+
+impl RangeSet {
+    /// The first open masks of the set without the UIDs at some keys, which come in order: the
+    /// masks of at most 56 bits that lie in it as a whole, and whose parent doesn't; by length,
+    /// then by value, sixteen at most. With them stands whether there are more.
+    pub fn open_masks_besides(&self, keys: &[u64]) -> OpenMasks
+        requires order { IsNonDecreasing keys.now }
+        requires keys { AreKeys keys.now }
+        ensures first { AreFirst MAX_OPEN_MASKS
+            (IsOpenMask (without_keys (is_open_in self.now) keys.now)) result.masks.items }
+        ensures more { result.more ≡ true ↔ (m : BitMask)
+            × IsOpenMask (without_keys (is_open_in self.now) keys.now) m
+            × (¬ (Contains result.masks.items m)) }
+    {
+        open_masks_besides(&self.ranges, keys)
     }
 }
 

@@ -5,8 +5,8 @@ use Rattle.vic_frame.specs.Uids.{IsUid, has}
 use Rattle.vic_frame.specs.LowBitsFirst.{mirror}
 use Rattle.vic_tree.specs.OpenSet.{SameUids, settled}
 use Rattle.vic_verdict.specs.declared.covers.Cover.{Cover}
-use Rattle.vic_verdict.specs.declared.sweep.Name.{Name}
-use Rattle.vic_verdict.specs.declared.sweep.Spot.{Spot}
+use Rattle.vic_verdict.specs.declared.names.Name.{Name}
+use Rattle.vic_verdict.specs.declared.covers.Spot.{Spot}
 use Rattle.vic_verdict.specs.Covers.{is_in_cover, IsCover, is_covered, is_in_some, all_leave_named}
 use Rattle.vic_verdict.specs.Sweep.{is_in, is_between, has_left}
 use Rattle.vic_verdict.proofs.Sweeping.{all_cover}

@@ -24,7 +24,7 @@ use Rattle.vic_log.specs.Slots.{allows, slots_of, is_open}
 use Rattle.vic_log.proofs.Supply.{IsUid-from}
 use Rattle.vic_verdict.specs.declared.demands.Demand.{Demand}
 use Rattle.vic_verdict.specs.declared.demands.Found.{Found}
-use Rattle.vic_verdict.specs.declared.sweep.Name.{Name}
+use Rattle.vic_verdict.specs.declared.names.Name.{Name}
 use Rattle.vic_verdict.specs.Possible.{IsPossible}
 use Rattle.vic_verdict.specs.Places.{answering}
 use Rattle.vic_verdict.specs.Sweep.{is_silenced}
@@ -96,9 +96,10 @@ found_answers es from i set ns d us same t h found = UpToThree-same (ready_of se
         ap (λ x. x && is_ready ns d u) o ∙ ap (λ x. list_all (allows u) (slots_of es) && x) (ready_answers es from i ns d u t h w)
     go u false e = refl
 
-pub found_at : (es : List Entry) (from i : ℕ) (set : ℕ → Bool) (ns : List Name) (d : Demand) (f : Found) → SameUids set (is_open (slots_of es)) → TellsQuiet es from i ns → IsDemand es from i d → UpToThree (ready_of set ns d) f.uids.items → f.need ≡ d.need → d.need ≤ length f.uids.items → IsFoundAt es d.at f
-found_at es from i set ns d f same t h found need enough =
+pub found_at : (es : List Entry) (from i : ℕ) (set : ℕ → Bool) (ns : List Name) (d : Demand) (f : Found) → SameUids set (is_open (slots_of es)) → TellsQuiet es from i ns → IsDemand es from i d → UpToThree (ready_of set ns d) f.uids.items → f.at ≡ d.at → f.need ≡ d.need → d.need ≤ length f.uids.items → IsFoundAt es d.at f
+found_at es from i set ns d f same t h found place need enough =
     let asked = h.asked in record {
+      place = place;
       asked = omega (arith, asked, need);
       need = h.need ∙ sym need;
       uids = found_answers es from i set ns d f.uids.items same t h found;

@@ -3,7 +3,7 @@ use Rattle.std.proofs.Common.{◌≡◌, ℕ, ◌+◌, ◌<◌, ◌++◌, ◌==�
 use Rattle.std.specs.Prelude.{◌⊎◌, slice_get, nat_lt, if◌then◌else◌}
 use Rattle.std.specs.List.{All, list_any}
 use Rattle.std.specs.List.Sorted.{IsPermutation}
-use Rattle.std.proofs.lemmas.List.Sorted.{list_any-IsPermutation}
+use Rattle.std.proofs.lemmas.List.Sorted.{list_any-IsPermutation, IsPermutation-sym}
 use Rattle.std.proofs.lemmas.List.{take-append-drop}
 use Rattle.std.proofs.lemmas.Bool.{cases_eq, and_parts, and_from, and_right, both_ways, eqb-true}
 use Rattle.std.proofs.lemmas.Bool.Decides.{nat_tests}
@@ -20,10 +20,11 @@ use Rattle.vic_log.specs.Rounds.{mask_at, lies_in_some}
 use Rattle.vic_log.specs.Quiet.{silences, wakes, is_quiet}
 use Rattle.vic_log.specs.Populations.{answers_at}
 use Rattle.vic_log.proofs.Places.{answers_agree, agree_upto}
-use Rattle.vic_verdict.specs.declared.sweep.Name.{Name}
+use Rattle.vic_verdict.specs.declared.names.Name.{Name}
 use Rattle.vic_verdict.specs.Possible.{IsPossible, IsContradictedAt}
 use Rattle.vic_verdict.specs.Replies.{Answers, reply_place, is_quiet_reply, AreReady, IsQuietReply, IsHeardAt, IsReplyAt, AreHeard}
 use Rattle.vic_verdict.specs.Sweep.{is_silenced}
+use Rattle.vic_verdict.specs.Verdict.{IsLeast}
 use Rattle.vic_verdict.proofs.Silencing.{silenced_permuted}
 use Rattle.vic_verdict.proofs.Stretching.{IsPlaced, placed_next, silenced_next, silenced_after, quiet_named, quiet_next, still_quiet}
 use Rattle.vic_verdict.proofs.Supplied.{supplied_each}
@@ -267,7 +268,10 @@ ready_permuted ns ms m e =
     list_any-IsPermutation (is_quiet_reply ns) ns ms m
     ∙ (any_alike (is_quiet_reply ns) (is_quiet_reply ms) (λ n. sym (silenced_permuted ns ms n.key (reply_place n) m)) ms ∙ e)
 
-pub quiet_permuted : (ns ms : List Name) (at : ℕ) → IsPermutation ns ms → IsQuietReply ms at → IsQuietReply ns at
+quiet_permuted : (ns ms : List Name) (at : ℕ) → IsPermutation ns ms → IsQuietReply ms at → IsQuietReply ns at
 quiet_permuted ns ms at m e =
     list_any-IsPermutation (λ n. (reply_place n == at) && is_silenced ns n.key at) ns ms m
     ∙ (any_alike _ _ (λ n. ap (λ b. (reply_place n == at) && b) (sym (silenced_permuted ns ms n.key at m))) ms ∙ e)
+
+pub first_permuted : (ns ms : List Name) (at : ℕ) → IsPermutation ns ms → IsLeast (IsQuietReply ms) at → IsLeast (IsQuietReply ns) at
+first_permuted ns ms at m e = (quiet_permuted ns ms at m e.0, λ place other. e.1 place (quiet_permuted ms ns place (IsPermutation-sym ns ms m) other))

@@ -22,6 +22,13 @@ pub mod Gathering
 pub mod Explaining
 pub mod Silencing
 pub mod Demanding
+pub mod NameOrder
+pub mod KeyOrder
 pub mod Replying
 pub mod Heard
 pub mod Meeting
+pub mod KeptLogs
+pub mod Conflicts
+pub mod RuledOut
+pub mod Telling
+pub mod AllFindings

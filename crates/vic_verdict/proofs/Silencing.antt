@@ -14,7 +14,7 @@ use Rattle.vic_tree.specs.OpenSet.{AreKeys}
 use Rattle.vic_log.specs.declared.entry.Entry.{Entry}
 use Rattle.vic_log.specs.declared.entry.Entry.TheVariants.{FieldCycle}
 use Rattle.vic_log.specs.Quiet.{silences, wakes, is_quiet}
-use Rattle.vic_verdict.specs.declared.sweep.Name.{Name}
+use Rattle.vic_verdict.specs.declared.names.Name.{Name}
 use Rattle.vic_verdict.specs.Sweep.{AreInOrder, HaveKeys, is_between, is_silenced}
 use Rattle.vic_verdict.proofs.Sweeping.{between_parts, nobody, where_above}
 use Rattle.vic_verdict.specs.Silenced.{TellsQuiet}

@@ -17,8 +17,8 @@ use Rattle.vic_log.specs.Rounds.{mask_at, lies_in_some}
 use Rattle.vic_log.specs.Quiet.{silences, wakes, is_quiet}
 use Rattle.vic_log.specs.Populations.{answers_at}
 use Rattle.vic_log.specs.Slots.{reading_of, slots_before, is_open}
-use Rattle.vic_verdict.specs.declared.sweep.Name.{Name}
-use Rattle.vic_verdict.specs.declared.sweep.Spot.{Spot}
+use Rattle.vic_verdict.specs.declared.names.Name.{Name}
+use Rattle.vic_verdict.specs.declared.covers.Spot.{Spot}
 use Rattle.vic_verdict.specs.Sweep.{is_heard, is_in, is_silenced, spot_allows, all_allow, is_named, is_named_if, all_hear_named, are_left}
 use Rattle.vic_verdict.specs.Stretches.{AddsSpot, IsStretch}
 use Rattle.vic_verdict.proofs.Entries.{entry_allows}

@@ -9,8 +9,8 @@ use Rattle.std.proofs.lemmas.List.Folds.{list_all_more, list_any_more, list_any-
 use Rattle.vic_frame.specs.Uids.{IsUid, has}
 use Rattle.vic_frame.specs.LowBitsFirst.{mirror, uid_of}
 use Rattle.vic_frame.proofs.MirrorLaws.{mirror_of_uid, uid_of_mirror, same_test}
-use Rattle.vic_verdict.specs.declared.sweep.Name.{Name}
-use Rattle.vic_verdict.specs.declared.sweep.Spot.{Spot}
+use Rattle.vic_verdict.specs.declared.names.Name.{Name}
+use Rattle.vic_verdict.specs.declared.covers.Spot.{Spot}
 use Rattle.vic_verdict.specs.declared.level.Level.{Level}
 use Rattle.vic_verdict.specs.declared.sweep.Run.{Run}
 use Rattle.vic_verdict.specs.Sweep.{is_heard, slot_leaves, is_between, is_in, spot_leaves, all_leave, level_leaves, mask_leaves, run_leaves, keep, keep_all, has_where, has_left, is_silenced, spot_allows, all_allow, is_named, is_named_if, hears_named, all_hear_named, are_left, HaveKeys, AreInOrder}

@@ -12,7 +12,7 @@ use Rattle.vic_log.specs.Slots.{slots_of, is_open}
 use Rattle.vic_verdict.specs.declared.demands.Found.{Found}
 use Rattle.vic_verdict.specs.declared.demands.Met.{Met}
 use Rattle.vic_verdict.specs.declared.demands.Demand.{Demand}
-use Rattle.vic_verdict.specs.declared.sweep.Name.{Name}
+use Rattle.vic_verdict.specs.declared.names.Name.{Name}
 use Rattle.vic_verdict.specs.Silenced.{TellsQuiet}
 use Rattle.vic_verdict.specs.Sweep.{is_silenced}
 use Rattle.vic_verdict.specs.Places.{answering}
@@ -51,6 +51,7 @@ HasHeard es i us = (u : ℕ) → (has us u ≡ true)
 
 -- the UIDs are open and answer at place i, and there are as many as it takes
 pub record IsFoundAt (es : List Entry) (i : ℕ) (f : Found) : Type 0 where
+  pub place : f.at ≡ i
   pub asked : 0 < f.need
   pub need : needs_at es i ≡ f.need
   pub uids : UpToThree (answering (is_open (slots_of es)) es i) f.uids.items
@@ -77,6 +78,15 @@ pub record AreFound (es : List Entry) (fs : List Found) : Type 0 where
 pub record IsMet (es : List Entry) (m : Met) : Type 0 where
   pub heard : (u : ℕ) → (has m.heard.items u ≡ true) ↔ IsHeard es u
   pub found : AreFound es m.found.items
+
+-- some slot was found to be met by as many as it takes, the UID among them
+abbrev pub IsExactFor : List Found → ℕ → Type 0
+IsExactFor fs u =
+    Any (λ (f : Found). (length f.uids.items ≡ f.need) × (has f.uids.items u ≡ true)) fs
+
+-- the UID was heard, or some slot was found to be met by as many as it takes, it among them
+abbrev pub IsMetFor : Met → ℕ → Type 0
+IsMetFor m u = (has m.heard.items u ≡ true) ⊎ IsExactFor m.found.items u
 
 -- ---- what is gathered of the slots since the last field cycle
 

@@ -13,3 +13,10 @@ pub mod Explained
 pub mod Gathered
 pub mod Silenced
 pub mod Replies
+pub mod Keys
+pub mod Conflicts
+pub mod KeptLogs
+pub mod Findings
+pub mod FieldCursors
+pub mod Told
+pub mod Reports

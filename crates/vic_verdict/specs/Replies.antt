@@ -1,5 +1,5 @@
 -- Whether the UIDs that were heard could have answered.
-use Rattle.std.specs.Prelude.{◌≡◌, ◌⊎◌, ℕ, ◌<◌, ◌≤◌, ◌==◌, ◌&&◌, Bool, true, false, Option, Some, None, List, slice_get, nat_lt, min, max, if◌then◌else◌}
+use Rattle.std.specs.Prelude.{◌≡◌, ◌⊎◌, ℕ, ◌<◌, ◌≤◌, ◌==◌, ◌&&◌, Bool, true, false, Option, Some, IfSome, List, slice_get, nat_lt, if◌then◌else◌}
 use Rattle.std.specs.List.{All, Any, list_any}
 use Rattle.vic_frame.specs.Uids.{IsUid}
 use Rattle.vic_frame.specs.LowBitsFirst.{mirror}
@@ -9,8 +9,7 @@ use Rattle.vic_log.specs.declared.entry.Entry.TheVariants.{Heard}
 use Rattle.vic_log.specs.Rounds.{mask_at, lies_in_some}
 use Rattle.vic_log.specs.Populations.{answers_at}
 use Rattle.vic_log.specs.Quiet.{is_quiet}
-use Rattle.vic_verdict.specs.declared.replies.Told.{Told}
-use Rattle.vic_verdict.specs.declared.sweep.Name.{Name}
+use Rattle.vic_verdict.specs.declared.names.Name.{Name}
 use Rattle.vic_verdict.specs.Sweep.{is_silenced}
 
 -- a tag with this UID answers in the slot at place i, where it is in the field
@@ -67,16 +66,9 @@ pub record AreHeard (es : List Entry) (i end : ℕ) (ns : List Name) : Type 0 wh
   pub answer : (j : ℕ) (r : Reply) → j < i → slice_get es j ≡ Some (Heard r)
       → Answers es j r.uid ⊎ Any (IsReplyAt j) ns
 
--- ---- what the names of one UID tell together
-
-abbrev pub told_by : Name → Told
-told_by n = record { key = n.key; quiet = n.quiet; heard = reply_place n }
-
-abbrev pub told_with : Told → Name → Told
-told_with t n =
-    record { key = t.key; quiet = min t.quiet n.quiet; heard = max t.heard (reply_place n) }
-
--- the later place is the first one, or that of the reply told of, where the UID was Quiet
-abbrev pub IsEarlier : Option ℕ → Told → Option ℕ → Type 0
-IsEarlier first t None = (first ≡ None) × (t.heard ≤ t.quiet)
-IsEarlier first t (Some at) = (first ≡ Some at) ⊎ ((t.heard ≡ at) × (t.quiet < t.heard))
+-- the place is that of a reply by a UID that is Quiet after another place, or the first one, and no
+-- later than these
+pub record IsEarlier (first : Option ℕ) (quiet reply at : ℕ) : Type 0 where
+  pub one : (first ≡ Some at) ⊎ ((reply ≡ at) × (quiet < reply))
+  pub before : IfSome first (λ f. at ≤ f)
+  pub least : quiet < reply → at ≤ reply

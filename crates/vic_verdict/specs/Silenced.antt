@@ -5,7 +5,7 @@ use Rattle.vic_frame.specs.Uids.{IsUid}
 use Rattle.vic_frame.specs.LowBitsFirst.{mirror}
 use Rattle.vic_log.specs.declared.entry.Entry.{Entry}
 use Rattle.vic_log.specs.Quiet.{is_quiet}
-use Rattle.vic_verdict.specs.declared.sweep.Name.{Name}
+use Rattle.vic_verdict.specs.declared.names.Name.{Name}
 use Rattle.vic_verdict.specs.Sweep.{HaveKeys, is_silenced}
 
 -- the names tell which UIDs are Quiet at each place from one on up to place i

@@ -9,8 +9,8 @@ use Rattle.vic_log.specs.declared.entry.Entry.{Entry}
 use Rattle.vic_log.specs.Rounds.{lies_in_some}
 use Rattle.vic_log.specs.Quiet.{is_quiet}
 use Rattle.vic_log.specs.Slots.{slots_before, is_open}
-use Rattle.vic_verdict.specs.declared.sweep.Name.{Name}
-use Rattle.vic_verdict.specs.declared.sweep.Spot.{Spot}
+use Rattle.vic_verdict.specs.declared.names.Name.{Name}
+use Rattle.vic_verdict.specs.declared.covers.Spot.{Spot}
 use Rattle.vic_verdict.specs.Sweep.{HasMask, HaveKeys, are_left, is_named_if, all_hear_named, is_silenced, is_heard, all_allow}
 
 -- the UID may be there by a slot of this mask, at a place, that heard this key or nobody

@@ -1,11 +1,11 @@
 -- What the slots between two field cycles leave, said of keys: UIDs in the order of their low bits.
-use Rattle.std.specs.Prelude.{◌≡◌, ℕ, ◌==◌, ◌≤◌, Bool, true, false, not, ◌&&◌, ◌||◌, Option, Some, None, List, nat_le, nat_lt, map, if◌then◌else◌, IfSome}
+use Rattle.std.specs.Prelude.{◌≡◌, ℕ, ◌==◌, ◌<◌, ◌≤◌, Bool, true, false, not, ◌&&◌, ◌||◌, Option, Some, None, List, length, slice_index_or, nat_le, nat_lt, map, if◌then◌else◌, IfSome}
 use Rattle.std.specs.List.Sorted.{IsNonDecreasingBy}
 use Rattle.std.specs.List.{list_all, list_any, All}
 use Rattle.vic_frame.specs.Masks.{lies_in}
 use Rattle.vic_frame.specs.LowBitsFirst.{IsKey, mirror}
-use Rattle.vic_verdict.specs.declared.sweep.Name.{Name}
-use Rattle.vic_verdict.specs.declared.sweep.Spot.{Spot}
+use Rattle.vic_verdict.specs.declared.names.Name.{Name}
+use Rattle.vic_verdict.specs.declared.covers.Spot.{Spot}
 use Rattle.vic_verdict.specs.declared.level.Level.{Level}
 use Rattle.vic_verdict.specs.declared.sweep.Run.{Run}
 
@@ -106,6 +106,12 @@ are_left ns = list_all (λ n. n.left) ns
 -- the names are in the order of their keys
 abbrev pub AreInOrder : List Name → Type 0
 AreInOrder ns = IsNonDecreasingBy (λ (n : Name). n.key) ns
+
+-- and those of one key in the order of the places after which it is Quiet by them
+abbrev pub AreInQuietOrder : List Name → Type 0
+AreInQuietOrder ns = (i j : ℕ) (d : Name) → i ≤ j → j < length ns
+    → (slice_index_or ns i d).key ≡ (slice_index_or ns j d).key
+    → (slice_index_or ns i d).quiet ≤ (slice_index_or ns j d).quiet
 
 -- keys of UIDs
 abbrev pub HaveKeys : List Name → Type 0

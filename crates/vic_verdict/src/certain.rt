@@ -5,7 +5,7 @@ ghost use Rattle.std.specs.List.Sorted.{IsStrictlyIncreasing};
 ghost use Rattle.vic_frame.specs.Uids.{has};
 ghost use Rattle.vic_log.specs.declared.entry.Entry.{Entry as EntryValue};
 ghost use Rattle.vic_log.specs.Slots.{slots_of, is_open, IsForcedBy};
-ghost use Rattle.vic_verdict.specs.Demands.{IsMet};
+ghost use Rattle.vic_verdict.specs.Demands.{IsMet, IsMetFor};
 ghost use Rattle.vic_verdict.specs.Rising.{Adds, IsListOf};
 
 use crate::demands::Met;
@@ -30,6 +30,7 @@ pub(crate) fn certain_uids(alloc: Global, met: &Met) -> Result<Vec<Uid>, AllocEr
     ensures rising { IfOk result (λ v. IsStrictlyIncreasing v.items) }
     ensures certain { IfOk result (λ v. (es : List EntryValue) → IsMet es met.now
         → IsListOf (IsForcedBy (is_open (slots_of es)) (slots_of es)) v.items) }
+    ensures met { IfOk result (λ v. (u : ℕ) → has v.items u ≡ true → IsMetFor met.now u) }
 {
     let mut certain = Vec::from_slice(alloc, &met.heard)?;
     for found in &met.found {

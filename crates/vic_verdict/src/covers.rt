@@ -6,10 +6,20 @@ ghost use Rattle.std.specs.List.{All};
 ghost use Rattle.vic_verdict.specs.Sweep.{is_in, is_between, HasMask};
 ghost use Rattle.vic_verdict.specs.Covers.{IsCover, IsJoined, is_in_cover, is_covered, is_in_some};
 
-use crate::sweep::Spot;
 use std::alloc::{AllocError, Global};
 use vic_frame::low_bits_first::key_range;
 use vic_frame::{Mask, without_top_byte};
+
+/// A silent or an answered slot: the first and the last key of its mask, its place, and the key
+/// that was heard.
+#[derive(Clone, Copy)]
+pub(crate) struct Spot {
+    pub first: u64,
+    pub mask: Mask,
+    pub last: u64,
+    pub at: usize,
+    pub heard: Option<u64>,
+}
 
 /// A mask, and the first and the last key of it.
 #[derive(Clone, Copy)]

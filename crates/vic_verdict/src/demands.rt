@@ -18,8 +18,8 @@ ghost use Rattle.vic_verdict.specs.Sweep.{AreInOrder, HaveKeys};
 ghost use Rattle.vic_verdict.specs.Silenced.{TellsQuiet};
 ghost use Rattle.vic_verdict.specs.Demands.{IsDemand, is_ready, IsAskedAgain, AreAsked, AreMet};
 
-use crate::silenced::{is_any_silenced, note_silenced, silenced_between};
-use crate::sweep::Name;
+use crate::names::{Name, is_any_silenced, silenced_between};
+use crate::stretches::note_sent;
 use arrayvec::ArrayVec;
 use std::alloc::{AllocError, Global};
 use vic_frame::low_bits_first::key_range;
@@ -41,6 +41,8 @@ pub(crate) struct Met {
 /// than three, three otherwise.
 #[derive(Drop)]
 pub(crate) struct Found {
+    /// The place of its line.
+    pub at: usize,
     /// How many there have to be: 2 in a collision, 1 in a garbled slot.
     pub need: usize,
     pub uids: ArrayVec<Uid, 3>,
@@ -105,7 +107,7 @@ pub(crate) fn note_asked(
         → AreAsked es (index + 1) names.new.items demands.new.items found) }
 {
     match *entry {
-        Entry::Sent(request) => note_silenced(names, &request, index),
+        Entry::Sent(request) => note_sent(names, &request, index),
         Entry::Collision => push_demand(demands, mask, 2, index),
         Entry::Garbled => push_demand(demands, mask, 1, index),
         Entry::Silent | Entry::Heard(_) | Entry::Listed(_) | Entry::FieldCycle => Ok(()),
@@ -181,6 +183,7 @@ fn meet_each<S: OpenSet>(
                 return Ok(false);
             }
             found.push(Found {
+                at: demand.at,
                 need: demand.need,
                 uids,
             })?;

@@ -17,7 +17,7 @@ use crate::population::{gather, with_uid};
 use crate::verdict::Verdict;
 use std::alloc::{AllocError, Global};
 use vic_frame::Uid;
-use vic_log::{Log, LogLine};
+use vic_log::{Log, PackedLine};
 use vic_tree::{OpenSet, RangeSet};
 
 /// The verdict on a log, and a population that shows it.
@@ -37,7 +37,7 @@ fn explain_possible<S: OpenSet>(
     alloc: Global,
     set: S,
     met: Met,
-    lines: &[LogLine],
+    lines: &[PackedLine],
 ) -> Result<Explanation, AllocError>
     requires lines { AreFirstLines lines.now }
     requires possible { IsPossible (entries lines.now) }
@@ -59,7 +59,7 @@ fn explain_possible<S: OpenSet>(
 }
 
 /// The verdict on the lines of a log with a population that shows it.
-fn explain_lines<S: OpenSet>(alloc: Global, lines: &[LogLine]) -> Result<Explanation, AllocError>
+fn explain_lines<S: OpenSet>(alloc: Global, lines: &[PackedLine]) -> Result<Explanation, AllocError>
     requires { AreFirstLines lines.now }
     ensures { IfOk result (IsExplanation lines.now) }
 {

@@ -79,6 +79,14 @@ impl Fates {
         Ok(())
     }
 
+    /// The number of the line that rules a part out first, `u32::MAX` where none does.
+    pub(crate) fn end(&self, part: u32) -> u32 {
+        match self.ends.get(part as usize) {
+            Some(end) => *end,
+            None => NEVER,
+        }
+    }
+
     /// Where the last but one of those is ruled out that answer in a span.
     fn second_end(&self, span: Span, parts: &Parts) -> u32 {
         let last = self.loud_ends.greatest(span.from, span.to);
@@ -129,5 +137,25 @@ impl Fates {
         } else {
             Ok(Some(first))
         }
+    }
+
+    /// The index of the first step whose slot lacks what it was found to hold, if one does.
+    pub(crate) fn first_unmet(
+        &mut self,
+        steps: &[Step],
+        parts: &Parts,
+    ) -> Result<Option<usize>, AllocError> {
+        for (index, step) in steps.iter().enumerate() {
+            match *step {
+                Step::Quiet(part) => self.silence(part)?,
+                Step::Wake => self.wake(),
+                Step::Slot(_, span, found) => {
+                    if self.lack(span, found, parts) < NEVER {
+                        return Ok(Some(index));
+                    }
+                }
+            }
+        }
+        Ok(None)
     }
 }

@@ -11,7 +11,7 @@ use crate::guess::guess_impossible_line;
 use crate::met::open_and_met;
 use crate::possible::Contradiction;
 use std::alloc::{AllocError, Global};
-use vic_log::LogLine;
+use vic_log::PackedLine;
 use vic_tree::OpenSet;
 
 /// A place above one and up to another: the guess where it is one, else the middle.
@@ -40,10 +40,12 @@ fn first_guess(contradiction: Contradiction, count: usize) -> Option<usize>
 }
 
 /// The number of the first line up to which no population could have given the log, found by
-/// halving: what is impossible stays so when lines follow. Halving begins at a guess.
+/// halving: what is impossible stays so when lines follow. Halving begins at a guess: before the
+/// contradiction, and if the lines before it are impossible too, where a pass over them says. As
+/// long as that pass is right, the lines are judged at most three times here.
 pub(crate) fn first_impossible_line<S: OpenSet>(
     alloc: Global,
-    lines: &[LogLine],
+    lines: &[PackedLine],
     contradiction: Contradiction,
 ) -> Result<u32, AllocError>
     requires lines { AreFirstLines lines.now }
@@ -66,9 +68,9 @@ pub(crate) fn first_impossible_line<S: OpenSet>(
             }
             Err(earlier) => {
                 last = earlier.at;
-                guess = first_guess(earlier, count);
+                guess = None;
             }
         }
     }
-    Ok(lines[last].number)
+    Ok(lines[last].number())
 }

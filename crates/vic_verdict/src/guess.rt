@@ -7,14 +7,17 @@ ghost use Rattle.std.specs.Prelude.{◌≤◌, IfOk, length};
 use crate::fates::Fates;
 use crate::steps::{parts_of, steps_of};
 use std::alloc::{AllocError, Global};
-use vic_log::LogLine;
+use vic_log::PackedLine;
 
 /// How many lines are looked at first, so that an early line costs little: more each time.
 const BEGINNINGS: [usize; 3] = [1_000, 10_000, 100_000];
 
 /// How many lines come before the first one up to which no population could have given a log; all
 /// where there is none.
-pub(crate) fn guess_impossible_line(alloc: Global, lines: &[LogLine]) -> Result<usize, AllocError>
+pub(crate) fn guess_impossible_line(
+    alloc: Global,
+    lines: &[PackedLine],
+) -> Result<usize, AllocError>
     ensures { IfOk result (λ index. index ≤ length lines.now) }
 {
     for count in BEGINNINGS {
@@ -29,7 +32,7 @@ pub(crate) fn guess_impossible_line(alloc: Global, lines: &[LogLine]) -> Result<
 }
 
 /// The same, by looking at all lines.
-fn first_lack(alloc: Global, lines: &[LogLine]) -> Result<usize, AllocError>
+fn first_lack(alloc: Global, lines: &[PackedLine]) -> Result<usize, AllocError>
     ensures { IfOk result (λ index. index ≤ length lines.now) }
 {
     let parts = parts_of(alloc, lines)?;
@@ -37,7 +40,7 @@ fn first_lack(alloc: Global, lines: &[LogLine]) -> Result<usize, AllocError>
     let mut fates = Fates::new(alloc, parts.count())?;
     fates.live_through(&steps)?;
     match fates.first_lack(&steps, &parts)? {
-        Some(number) => Ok(lines.partition_point(|line| line.number < number)),
+        Some(number) => Ok(lines.partition_point(|line| line.number() < number)),
         None => Ok(lines.len()),
     }
 }

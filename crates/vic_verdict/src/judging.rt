@@ -15,13 +15,14 @@ ghost use Rattle.vic_verdict.specs.declared.verdict.Verdict.TheVariants.{Complet
 use crate::certain::certain_uids;
 use crate::demands::Met;
 use crate::first_line::first_impossible_line;
+use crate::keys::{keys_in_order, least_outside};
 use crate::listed::{count_listed, listed_uids};
 use crate::met::open_and_met;
 use crate::rising::{is_among, least_failing};
 use crate::unsettled::first_unsettled;
 use crate::verdict::Verdict;
 use std::alloc::{AllocError, Global};
-use vic_log::{Log, LogLine};
+use vic_log::{Log, PackedLine};
 use vic_tree::{OpenSet, RangeSet};
 
 /// The verdict on a possible log, by the UIDs that it leaves open and what they meet.
@@ -29,7 +30,7 @@ pub(crate) fn judge_possible<S: OpenSet>(
     alloc: Global,
     set: S,
     met: &Met,
-    lines: &[LogLine],
+    lines: &[PackedLine],
 ) -> Result<Verdict, AllocError>
     requires lines { AreFirstLines lines.now }
     requires possible { IsPossible (entries lines.now) }
@@ -39,13 +40,14 @@ pub(crate) fn judge_possible<S: OpenSet>(
 {
     let certain = certain_uids(alloc, met)?;
     let listed = listed_uids(alloc, lines)?;
-    if let Some(uid) = least_failing(&listed, |u| set.has(u)) {
+    let keys = keys_in_order(alloc, &listed)?;
+    if let Some(uid) = least_outside(&set, &keys) {
         return Ok(Verdict::Absent(uid));
     }
     if let Some(uid) = least_failing(&certain, |u| is_among(&listed, u)) {
         return Ok(Verdict::Unlisted(uid));
     }
-    if let Some(mask) = first_unsettled(alloc, set, &listed)? {
+    if let Some(mask) = first_unsettled(set, &keys)? {
         return Ok(Verdict::Unsettled(mask));
     }
     if let Some(uid) = least_failing(&listed, |u| is_among(&certain, u)) {
@@ -56,7 +58,7 @@ pub(crate) fn judge_possible<S: OpenSet>(
 }
 
 /// The verdict on the lines of a log.
-fn judge_lines<S: OpenSet>(alloc: Global, lines: &[LogLine]) -> Result<Verdict, AllocError>
+fn judge_lines<S: OpenSet>(alloc: Global, lines: &[PackedLine]) -> Result<Verdict, AllocError>
     requires { AreFirstLines lines.now }
     ensures { IfOk result (λ v. IsVerdict lines.now v) }
 {

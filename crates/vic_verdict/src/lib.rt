@@ -2,30 +2,46 @@
 #![tactic(auto)]
 
 mod certain;
+mod conflict;
 mod covers;
 mod demands;
 mod explanation;
 mod fates;
+mod field_cursor;
+mod findings;
 mod first_line;
 mod guess;
 mod judging;
+mod kept_log;
+mod keys;
 pub mod laws;
 mod level;
 mod listed;
 mod met;
+mod names;
 mod parts;
 mod peaks;
 mod population;
 mod possible;
 mod replies;
+mod reporting;
 mod rising;
-mod silenced;
+mod ruled_out;
+mod rulings;
+mod shown;
+mod silencer;
 mod steps;
 mod stretches;
 mod sweep;
+mod told;
 mod unsettled;
 mod verdict;
+mod waiting;
 
+pub use conflict::Conflict;
 pub use explanation::{Explanation, explain, explain_with};
+pub use findings::{Findings, Unsettled};
 pub use judging::{judge, judge_with};
+pub use reporting::{LogReport, report};
+pub use shown::ShownUid;
 pub use verdict::Verdict;

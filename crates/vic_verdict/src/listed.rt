@@ -9,7 +9,7 @@ ghost use Rattle.vic_verdict.specs.Rising.{SameMembers};
 use crate::rising::put_in_order;
 use std::alloc::{AllocError, Global};
 use vic_frame::Uid;
-use vic_log::{Entry, LogLine};
+use vic_log::{Entry, PackedLine};
 
 /// Adds the UID that an entry lists.
 fn pass_listed(uids: &mut Vec<Uid>, entry: &Entry) -> Result<(), AllocError>
@@ -26,14 +26,14 @@ fn pass_listed(uids: &mut Vec<Uid>, entry: &Entry) -> Result<(), AllocError>
 }
 
 /// The UIDs that a log lists, in rising order.
-pub(crate) fn listed_uids(alloc: Global, lines: &[LogLine]) -> Result<Vec<Uid>, AllocError>
+pub(crate) fn listed_uids(alloc: Global, lines: &[PackedLine]) -> Result<Vec<Uid>, AllocError>
     ensures rising { IfOk result (λ v. IsStrictlyIncreasing v.items) }
     ensures members { IfOk result (λ v. SameMembers v.items (listed (entries lines.now))) }
     ensures uids { IfOk result (λ v. (u : ℕ) → has v.items u ≡ true → IsUid u) }
 {
     let mut uids = Vec::new(alloc);
     for line in lines {
-        pass_listed(&mut uids, &line.item)?;
+        pass_listed(&mut uids, &line.item())?;
     }
     put_in_order(&mut uids);
     Ok(uids)
@@ -56,15 +56,15 @@ fn count_one(entry: &Entry) -> u32
 }
 
 /// How many UIDs a log lists.
-pub(crate) fn count_listed(lines: &[LogLine]) -> u32
+pub(crate) fn count_listed(lines: &[PackedLine]) -> u32
     requires { IsRisingFrom 0 lines.now }
     ensures { result ≡ length (listed (entries lines.now)) }
 {
     let mut count = 0;
     for line in lines {
         // gives the count its bound: the numbers of lines rise, and are of 32 bits
-        let _number = line.number;
-        count += count_one(&line.item);
+        let _number = line.number();
+        count += count_one(&line.item());
     }
     count
 }

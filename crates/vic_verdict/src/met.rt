@@ -2,7 +2,6 @@
 
 ghost use Rattle.std.specs.Prelude.{◌≡◌, ◌+◌, true, List, length, IfOk, MatchOption, MatchResult};
 ghost use Rattle.std.specs.List.Sorted.{IsStrictlyIncreasing};
-ghost use Rattle.std.specs.List.{list_all};
 ghost use Rattle.vic_frame.specs.Uids.{has};
 ghost use Rattle.vic_tree.specs.OpenSet.{SameUids};
 ghost use Rattle.vic_log.specs.Order.{entries};
@@ -12,21 +11,22 @@ ghost use Rattle.vic_verdict.specs.Possible.{IsPossible, IsContradictedAt};
 ghost use Rattle.vic_verdict.specs.Demands.{AreFound, IsMet, HasHeard};
 
 use crate::demands::{Found, Met, meet_stretch, note_asked};
+use crate::keys::are_open;
 use crate::possible::Contradiction;
 use crate::rising::put_in_order;
 use crate::stretches::settle_all;
 use std::alloc::{AllocError, Global};
 use vic_frame::Uid;
-use vic_log::{Entry, LogLine, RoundCursor};
+use vic_log::{Entry, PackedLine, RoundCursor};
 use vic_tree::OpenSet;
 
 /// The UIDs that the slots of a log heard, in rising order.
-fn heard_uids(alloc: Global, lines: &[LogLine]) -> Result<Vec<Uid>, AllocError>
+fn heard_uids(alloc: Global, lines: &[PackedLine]) -> Result<Vec<Uid>, AllocError>
     ensures { IfOk result (λ v. HasHeard (entries lines.now) (length lines.now) v.items) }
 {
     let mut heard = Vec::new(alloc);
     for line in lines {
-        if let Entry::Heard(response) = line.item {
+        if let Entry::Heard(response) = line.item() {
             heard.push(response.uid())?;
         }
     }
@@ -34,24 +34,12 @@ fn heard_uids(alloc: Global, lines: &[LogLine]) -> Result<Vec<Uid>, AllocError>
     Ok(heard)
 }
 
-/// Whether all UIDs of a list are open.
-fn are_open<S: OpenSet>(set: &S, uids: &[Uid]) -> bool
-    ensures { result ≡ list_all (S.is_open set.now) uids.now }
-{
-    for uid in uids {
-        if !set.has(*uid) {
-            return false;
-        }
-    }
-    true
-}
-
 /// What meets the slots of a log in which tags answered and none was read, by the UIDs that it
 /// leaves open. None where a slot lacks what it asks for.
 fn find_all<S: OpenSet>(
     alloc: Global,
     set: &S,
-    lines: &[LogLine],
+    lines: &[PackedLine],
 ) -> Result<Option<Vec<Found>>, AllocError>
     requires lines { AreFirstLines lines.now }
     requires open { SameUids (S.is_open set.now) (is_open (slots_of (entries lines.now))) }
@@ -63,7 +51,7 @@ fn find_all<S: OpenSet>(
     let mut demands = Vec::new(alloc);
     let mut cursor = RoundCursor::first();
     for (index, line) in lines.iter().enumerate() {
-        let entry = line.item;
+        let entry = line.item();
         if let Entry::FieldCycle = entry {
             if !meet_stretch(alloc, set, &mut names, &mut demands, &mut found)? {
                 return Ok(None);
@@ -85,7 +73,7 @@ fn find_all<S: OpenSet>(
 /// The UIDs that a log leaves open, and what they meet, if some population could have given it.
 pub(crate) fn open_and_met<S: OpenSet>(
     alloc: Global,
-    lines: &[LogLine],
+    lines: &[PackedLine],
 ) -> Result<Result<(S, Met), Contradiction>, AllocError>
     requires { AreFirstLines lines.now }
     ensures { IfOk result (λ r. MatchResult r
@@ -99,7 +87,7 @@ pub(crate) fn open_and_met<S: OpenSet>(
         Err(contradiction) => return Ok(Err(contradiction)),
     };
     let heard = heard_uids(alloc, lines)?;
-    if !are_open(&set, &heard) {
+    if !are_open(alloc, &set, &heard)? {
         return Ok(Err(Contradiction::at_end(lines)));
     }
     let Some(found) = find_all(alloc, &set, lines)? else {

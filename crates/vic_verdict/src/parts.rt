@@ -3,7 +3,6 @@
 ghost use Rattle.std.specs.Prelude.{◌≤◌};
 ghost use Rattle.vic_frame.specs.declared.uid.TheConstants.{UID_BITS};
 
-use crate::steps::Span;
 use std::alloc::{AllocError, Global};
 use vic_frame::UID_BITS;
 
@@ -21,6 +20,31 @@ pub(crate) struct Parts {
     /// By how many bits a key is shifted to its top bits.
     shift: u32,
     ghost in_key: { shift ≤ UID_BITS },
+}
+
+/// Parts that stand together: from the number `from` to the one before `to`.
+#[derive(Clone, Copy)]
+pub(crate) struct Span {
+    pub from: u32,
+    pub to: u32,
+}
+
+impl Span {
+    /// What of it comes before a part.
+    pub(crate) fn before(&self, part: u32) -> Span {
+        Span {
+            from: self.from,
+            to: self.to.min(part),
+        }
+    }
+
+    /// What of it comes after a part.
+    pub(crate) fn after(&self, part: u32) -> Span {
+        Span {
+            from: self.from.max(part.saturating_add(1)),
+            to: self.to,
+        }
+    }
 }
 
 /// A count as a number of 32 bits, which no log's counts exceed.

@@ -1,35 +1,11 @@
 //! What the lines of a log do to the UIDs, part by part.
 
 use crate::parts::Parts;
+pub(crate) use crate::parts::Span;
 use std::alloc::{AllocError, Global};
 use vic_frame::low_bits_first::{key, key_range};
 use vic_frame::{Request, Uid, without_top_byte};
-use vic_log::{Entry, LogLine, RoundCursor};
-
-/// Parts that stand together: from the number `from` to the one before `to`.
-#[derive(Clone, Copy)]
-pub(crate) struct Span {
-    pub from: u32,
-    pub to: u32,
-}
-
-impl Span {
-    /// What of it comes before a part.
-    pub(crate) fn before(&self, part: u32) -> Span {
-        Span {
-            from: self.from,
-            to: self.to.min(part),
-        }
-    }
-
-    /// What of it comes after a part.
-    pub(crate) fn after(&self, part: u32) -> Span {
-        Span {
-            from: self.from.max(part.saturating_add(1)),
-            to: self.to,
-        }
-    }
-}
+use vic_log::{Entry, PackedLine, RoundCursor};
 
 /// What a slot was found to hold.
 #[derive(Clone, Copy)]
@@ -42,6 +18,26 @@ pub(crate) enum Found {
     Some,
     /// Two or more.
     Two,
+}
+
+impl Found {
+    /// How many tags answered in the slot, at least, that weren't read.
+    pub(crate) fn need(&self) -> u32 {
+        match *self {
+            Found::Nobody | Found::One(_) => 0,
+            Found::Some => 1,
+            Found::Two => 2,
+        }
+    }
+
+    /// Whether it rules out a part that would have answered there.
+    pub(crate) fn rules_out(&self, part: u32) -> bool {
+        match *self {
+            Found::Nobody => true,
+            Found::One(heard) => heard != part,
+            Found::Some | Found::Two => false,
+        }
+    }
 }
 
 /// What a line does.
@@ -97,19 +93,20 @@ fn push_borders(
 }
 
 /// The parts of the UIDs that fare alike in a log.
-pub(crate) fn parts_of(alloc: Global, lines: &[LogLine]) -> Result<Parts, AllocError> {
+pub(crate) fn parts_of(alloc: Global, lines: &[PackedLine]) -> Result<Parts, AllocError> {
     let mut borders = Vec::new(alloc);
     let mut rounds = RoundCursor::first();
     for line in lines {
-        push_borders(&mut borders, &rounds, &line.item)?;
-        rounds.advance(&line.item);
+        let entry = line.item();
+        push_borders(&mut borders, &rounds, &entry)?;
+        rounds.advance(&entry);
     }
     Parts::between(alloc, borders)
 }
 
 /// What a line does.
-fn step_of(line: &LogLine, rounds: &RoundCursor, parts: &Parts) -> Option<Step> {
-    let found = match line.item {
+fn step_of(number: u32, entry: &Entry, rounds: &RoundCursor, parts: &Parts) -> Option<Step> {
+    let found = match *entry {
         Entry::Silent => Found::Nobody,
         Entry::Heard(response) => Found::One(parts.part_at(key(response.uid()))),
         Entry::Garbled => Found::Some,
@@ -124,22 +121,23 @@ fn step_of(line: &LogLine, rounds: &RoundCursor, parts: &Parts) -> Option<Step> 
         Some((from, to)) => parts.span(from, to),
         None => Span { from: 0, to: 0 },
     };
-    Some(Step::Slot(line.number, span, found))
+    Some(Step::Slot(number, span, found))
 }
 
 /// What the lines of a log do.
 pub(crate) fn steps_of(
     alloc: Global,
-    lines: &[LogLine],
+    lines: &[PackedLine],
     parts: &Parts,
 ) -> Result<Vec<Step>, AllocError> {
     let mut steps = Vec::new(alloc);
     let mut rounds = RoundCursor::first();
     for line in lines {
-        if let Some(step) = step_of(line, &rounds, parts) {
+        let entry = line.item();
+        if let Some(step) = step_of(line.number(), &entry, &rounds, parts) {
             steps.push(step)?;
         }
-        rounds.advance(&line.item);
+        rounds.advance(&entry);
     }
     Ok(steps)
 }

@@ -9,18 +9,21 @@ ghost use Rattle.vic_frame.specs.Uids.{IsUid};
 ghost use Rattle.vic_frame.specs.LowBitsFirst.{IsKey, mirror};
 ghost use Rattle.vic_log.specs.declared.entry.Entry.{Entry as EntryValue};
 ghost use Rattle.vic_log.specs.declared.entry.Entry.TheVariants.{FieldCycle, Sent};
-ghost use Rattle.vic_verdict.specs.declared.sweep.Spot.{Spot as SpotValue};
+ghost use Rattle.vic_verdict.specs.declared.covers.Spot.{Spot as SpotValue};
 ghost use Rattle.vic_log.specs.Rounds.{mask_at, lies_in_some};
 ghost use Rattle.vic_verdict.specs.Possible.{IsContradictedAt};
 ghost use Rattle.vic_verdict.specs.Replies.{RepliesAnswer, AreHeard};
+ghost use Rattle.vic_verdict.specs.Silenced.{TellsQuiet};
 ghost use Rattle.vic_verdict.specs.Stretches.{AddsSpot, IsStretch};
 
+use crate::covers::Spot;
+use crate::names::{Name, push_name};
 use crate::possible::Contradiction;
-use crate::sweep::{Name, Spot, settle_stretch};
+use crate::sweep::settle_stretch;
 use std::alloc::{AllocError, Global};
 use vic_frame::low_bits_first::{key, key_range};
 use vic_frame::{Mask, Request, Uid, without_top_byte};
-use vic_log::{Entry, LogLine, RoundCursor};
+use vic_log::{Entry, PackedLine, RoundCursor};
 use vic_tree::OpenSet;
 
 /// Adds a slot, unless no UID lies in its mask.
@@ -49,43 +52,24 @@ fn push_spot(
     Ok(())
 }
 
-/// Adds a line that names a UID, with its place and the one after which the UID is Quiet by it.
-pub(crate) fn push_name(
-    names: &mut Vec<Name>,
-    uid: Uid,
-    at: usize,
-    quiet: usize,
-) -> Result<(), AllocError>
-    ensures { OnOk result
-        ((names.new.items ≡ names.old.items
-        ++ record { key = mirror uid; at = at; quiet = quiet; left = true } ∷ [])
-        × IsKey (mirror uid) × IsUid uid) }
-{
-    names.push(Name {
-        key: key(uid),
-        at,
-        quiet,
-        left: true,
-    })?;
-    Ok(())
-}
-
-/// Gathers what a request tells.
-fn note_sent(
+/// Gathers whom a request silences.
+pub(crate) fn note_sent(
     names: &mut Vec<Name>,
     request: &Request,
     index: usize,
-    end: usize,
 ) -> Result<(), AllocError>
-    requires { index < end }
-    ensures stretch { OnOk result ((es : List EntryValue) (set : ℕ → Bool) (ss : List SpotValue)
-        → slice_get es index ≡ Some (Sent request.now)
+    ensures stretch { OnOk result ((es : List EntryValue) (end : ℕ) (set : ℕ → Bool)
+        (ss : List SpotValue) → index < end → slice_get es index ≡ Some (Sent request.now)
         → IsStretch es index end set names.old.items ss
         → IsStretch es (index + 1) end set names.new.items ss) }
-    ensures heard { OnOk result ((es : List EntryValue)
-        → slice_get es index ≡ Some (Sent request.now)
+    ensures heard { OnOk result ((es : List EntryValue) (end : ℕ)
+        → index < end → slice_get es index ≡ Some (Sent request.now)
         → AreHeard es index end names.old.items
         → AreHeard es (index + 1) end names.new.items) }
+    ensures quiet { OnOk result ((es : List EntryValue) (from : ℕ)
+        → slice_get es index ≡ Some (Sent request.now)
+        → TellsQuiet es from index names.old.items
+        → TellsQuiet es from (index + 1) names.new.items) }
 {
     match *request {
         Request::StayQuiet { uid, .. } => match Uid::new(uid) {
@@ -132,7 +116,7 @@ fn note_entry(
         → yes ≡ false → IsContradictedAt es index) }
 {
     match *entry {
-        Entry::Sent(request) => note_sent(names, &request, index, end)?,
+        Entry::Sent(request) => note_sent(names, &request, index)?,
         Entry::Silent => push_spot(spots, mask, index, None)?,
         Entry::Heard(response) => {
             let uid = response.uid();
@@ -151,7 +135,7 @@ fn note_entry(
 /// couldn't have answered there.
 pub(crate) fn settle_all<S: OpenSet>(
     alloc: Global,
-    lines: &[LogLine],
+    lines: &[PackedLine],
 ) -> Result<Result<S, Contradiction>, AllocError>
     requires { AreFirstLines lines.now }
     ensures { IfOk result (λ r. MatchResult r
@@ -164,7 +148,7 @@ pub(crate) fn settle_all<S: OpenSet>(
     let mut spots = Vec::new(alloc);
     let mut cursor = RoundCursor::first();
     for (index, line) in lines.iter().enumerate() {
-        let entry = line.item;
+        let entry = line.item();
         if let Entry::FieldCycle = entry {
             if let Some(at) = settle_stretch(alloc, &mut set, &mut names, &mut spots)? {
                 return Ok(Err(Contradiction { at }));

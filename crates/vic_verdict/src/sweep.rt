@@ -13,38 +13,18 @@ ghost use Rattle.vic_frame.specs.LowBitsFirst.{mirror};
 ghost use Rattle.vic_tree.specs.OpenSet.{SameUids};
 ghost use Rattle.vic_verdict.specs.Covers.{IsCover, all_leave_named};
 ghost use Rattle.vic_verdict.specs.Replies.{AreReady, IsQuietReply};
+ghost use Rattle.vic_verdict.specs.Verdict.{IsLeast};
 ghost use Rattle.vic_verdict.specs.Sweep.{spot_leaves, all_leave, mask_leaves, run_leaves, IsLevel, keep_all, has_left, all_allow, are_left, all_hear_named, HasMask, AreInOrder, HaveKeys, is_between};
 
-use crate::covers::{Cover, covers_of};
+use crate::covers::{Cover, Spot, covers_of};
 use crate::level::Level;
-use crate::replies::quiet_reply;
+use crate::names::Name;
+use crate::replies::first_quiet_reply;
 use crate::rising::put_in_order;
 use std::alloc::{AllocError, Global};
+use vic_frame::Uid;
 use vic_frame::low_bits_first::uid_at;
-use vic_frame::{Mask, Uid};
 use vic_tree::OpenSet;
-
-/// A line that silences a UID or hears it: the UID's key, the line's place, and the place after
-/// which the UID is Quiet by it; the end of the log where it is heard. And whether the slots looked
-/// at so far leave it open.
-#[derive(Clone, Copy)]
-pub(crate) struct Name {
-    pub key: u64,
-    pub at: usize,
-    pub quiet: usize,
-    pub left: bool,
-}
-
-/// A silent or an answered slot: the first and the last key of its mask, its place, and the key
-/// that was heard.
-#[derive(Clone, Copy)]
-pub(crate) struct Spot {
-    pub first: u64,
-    pub mask: Mask,
-    pub last: u64,
-    pub at: usize,
-    pub heard: Option<u64>,
-}
 
 /// Slots of one mask, one after another.
 #[derive(Clone, Copy)]
@@ -53,6 +33,9 @@ pub(crate) struct Run {
     pub last: u64,
     pub level: Level,
 }
+
+/// The memory of more slots than these is given back before their masks are settled.
+const MANY_SLOTS: usize = 10_000;
 
 /// Rules out the names from key `first` to `last` that a level doesn't leave.
 fn rule_out(names: &mut [Name], first: u64, last: u64, level: &Level)
@@ -177,8 +160,8 @@ fn settle_masks<S: OpenSet>(
 }
 
 /// Settles what the silent and answered slots of some lines tell, by the UIDs that these lines
-/// name. The place of a reply by a UID that was Quiet there, if there is one: then nothing is
-/// settled.
+/// name. The first place at which a UID was heard while it was Quiet, if there is one: then nothing
+/// is settled.
 pub(crate) fn settle_stretch<S: OpenSet>(
     alloc: Global,
     set: &mut S,
@@ -192,16 +175,19 @@ pub(crate) fn settle_stretch<S: OpenSet>(
     ensures fit { IfOk result (λ r. r ≡ None → AreReady names.old.items) }
     ensures settled { IfOk result (λ r. r ≡ None → SameUids (S.is_open set.new)
         (λ u. S.is_open set.old u && all_allow names.old.items spots.old.items (mirror u))) }
-    ensures unfit { IfOk result (λ r. IfSome r (IsQuietReply names.old.items)) }
+    ensures unfit { IfOk result (λ r. IfSome r (IsLeast (IsQuietReply names.old.items))) }
 {
-    names.sort_unstable_by_key(|name| name.key);
-    if let Some(at) = quiet_reply(names) {
+    names.sort_unstable_by_key(|name| (name.key, name.quiet));
+    if let Some(at) = first_quiet_reply(names) {
         return Ok(Some(at));
     }
     // Those of one mask together, and outer masks before inner ones.
     spots.sort_unstable_by_key(|spot| (spot.first, spot.mask.len()));
     rule_out_all(names, spots);
     let covers = covers_of(alloc, spots)?;
+    if spots.len() > MANY_SLOTS {
+        *spots = Vec::new(alloc);
+    }
     settle_masks(alloc, set, names, &covers)?;
     Ok(None)
 }

@@ -17,6 +17,8 @@ pub enum Task {
     Explain(Option<String>),
     /// To read one frame, given in hex digits.
     Frame(String),
+    /// To spell a frame, given in the words of `frame`.
+    Spell(Vec<String>),
 }
 
 impl Task {
@@ -26,7 +28,7 @@ impl Task {
             Task::Check(file) | Task::Simulate(file) | Task::Explain(file) => {
                 file.as_ref().map(|name| name.as_str())
             }
-            Task::Frame(_) => None,
+            Task::Frame(_) | Task::Spell(_) => None,
         }
     }
 }
@@ -68,13 +70,25 @@ fn with_operand<'a>(
     Command::new(alloc, name).arg(operand)
 }
 
+/// A command with words as they come, one at least, `-` among them.
+fn with_words<'a>(alloc: Global, name: &'a str) -> Result<Command<'a>, AllocError> {
+    let words = Arg::new(alloc, "words")
+        .required(true)
+        .num_args(1..)
+        .trailing_var_arg(true)
+        .allow_hyphen_values(true)
+        .action(ArgAction::Append);
+    Command::new(alloc, name).arg(words)
+}
+
 /// The program's commands.
 fn commands<'a>(alloc: Global) -> Result<Command<'a>, AllocError> {
     Command::new(alloc, "vicinity")
         .subcommand(with_operand(alloc, "check", "file", false)?)?
         .subcommand(with_operand(alloc, "simulate", "file", false)?)?
         .subcommand(with_operand(alloc, "explain", "file", false)?)?
-        .subcommand(with_operand(alloc, "frame", "hex", true)?)
+        .subcommand(with_operand(alloc, "frame", "hex", true)?)?
+        .subcommand(with_words(alloc, "spell")?)
 }
 
 /// The text of an operand, if it was given.
@@ -83,6 +97,15 @@ fn operand(alloc: Global, given: &ArgMatches<'_>, id: &str) -> Result<Option<Str
         Some(text) => Ok(Some(String::from_str(alloc, text)?)),
         None => Ok(None),
     }
+}
+
+/// The words that a command was given.
+fn given_words(alloc: Global, given: &ArgMatches<'_>) -> Result<Vec<String>, AllocError> {
+    let mut words = Vec::new(alloc);
+    for word in given.get_strs("words").unwrap_or(&[]) {
+        words.push(String::from_str(alloc, word)?)?;
+    }
+    Ok(words)
 }
 
 /// What the program's words ask for, the first of them being its name.
@@ -96,6 +119,7 @@ pub fn read_words(alloc: Global, words: Vec<String>) -> Result<Task, WordsFault>
             Some(word) => Ok(Task::Frame(word)),
             None => Err(WordsFault::Usage),
         },
+        Some(("spell", given)) => Ok(Task::Spell(given_words(alloc, given)?)),
         _ => Err(WordsFault::Usage),
     }
 }

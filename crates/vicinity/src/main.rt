@@ -4,7 +4,9 @@
 use std::io::ErrorKind;
 use std::process::ExitCode;
 use std::{env, fs};
-use vic_answer::{RunFault, Status, fault_text, run_check, run_explain, run_frame, run_simulate};
+use vic_answer::{
+    RunFault, Status, fault_text, run_check, run_explain, run_frame, run_simulate, run_spell,
+};
 use vic_log::{FromRead, Source, ToWrite};
 use vic_words::{Task, WordsFault, read_words};
 
@@ -37,7 +39,7 @@ fn end(rt: &HostRuntime, answer: Result<Status, RunFault>) -> ExitCode {
     }
 }
 
-/// Does a task from a source, which a frame leaves alone, to standard output.
+/// Does a task from a source, which `frame` and `spell` leave alone, to standard output.
 fn run_task<R: Source>(rt: &HostRuntime, task: &Task, source: &mut R) -> ExitCode {
     let mut sink = ToWrite::new(rt.stdout());
     let answer = match task {
@@ -45,6 +47,7 @@ fn run_task<R: Source>(rt: &HostRuntime, task: &Task, source: &mut R) -> ExitCod
         Task::Simulate(_) => run_simulate(rt.alloc(), source, &mut sink),
         Task::Explain(_) => run_explain(rt.alloc(), source, &mut sink),
         Task::Frame(word) => run_frame(word.as_bytes(), &mut sink),
+        Task::Spell(words) => run_spell(words.as_slice(), &mut sink),
     };
     end(rt, answer)
 }

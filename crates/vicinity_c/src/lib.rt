@@ -1,11 +1,18 @@
 //! The checker for C, and for what calls C: the text of a log in, an answer in numbers out.
 #![tactic(auto)]
 
-ghost use Rattle.std.specs.Prelude.{◌≡◌, ◌≢◌};
+ghost use Rattle.std.specs.Prelude.{◌≡◌, ◌≢◌, ◌++◌};
+ghost use Rattle.vic_log.specs.Writing.{listed_text};
 ghost use Rattle.vic_answer.specs.CheckText.{IsCompleteText};
 ghost use Rattle.vic_answer.specs.ExplainedNumbers.{AreExplainedNumbersFor};
 ghost use Rattle.vic_answer.specs.Numbers.{AreNumbersFor, no_answer};
 
+mod frames;
+mod lines;
+
+use crate::lines::with_listed;
+pub use frames::{VicinityFrame, VicinityMask, VicinityReply, VicinityRequest};
+pub use lines::VicinityLine;
 use std::alloc::Global;
 use vic_answer::{
     NO_ANSWER, VicinityAnswer, answer_of, explain_text, judge_text, numbers_of, put_population,
@@ -18,6 +25,14 @@ pub extern "C" fn vicinity_interface() -> u32
     ensures { result ≡ 1 }
 {
     1
+}
+
+/// The version of this library: its first number times 10,000, its second times 100, and its third.
+#[unsafe(no_mangle)]
+pub extern "C" fn vicinity_version() -> u32
+    ensures { result ≡ 10000 }
+{
+    10_000
 }
 
 /// Judges the log that a text spells, and writes the answer in numbers. The result is its status,
@@ -70,4 +85,63 @@ pub extern "C" fn vicinity_explain(
     let numbers = numbers_of(&answer_of(&explained));
     *answer = numbers;
     numbers.status
+}
+
+/// Judges the log of a text with a list of UIDs after it, in any order: what `vicinity_check`
+/// answers to the text with a line `U` for each UID after it. So the text has no `U` line of its
+/// own, and its last line ends with LF.
+#[unsafe(no_mangle)]
+pub extern "C" fn vicinity_check_listed(
+    alloc: Global,
+    text: &[u8],
+    uids: &[u64],
+    answer: &mut VicinityAnswer,
+) -> u32
+    ensures answer { answer.new.kind ≢ 0
+        → AreNumbersFor (text.now ++ listed_text uids.now) answer.new }
+    ensures whole { answer.new.kind ≡ 1
+        → IsCompleteText (text.now ++ listed_text uids.now) answer.new.count }
+    ensures no_answer { answer.new.kind ≡ 0 → answer.new ≡ no_answer }
+    ensures status { result ≡ answer.new.status }
+{
+    match with_listed(alloc, text, uids) {
+        Ok(whole) => vicinity_check(alloc, whole.as_slice(), answer),
+        Err(_) => {
+            *answer = NO_ANSWER;
+            NO_ANSWER.status
+        }
+    }
+}
+
+/// Judges and explains the log of a text with a list of UIDs after it, as `vicinity_check_listed`
+/// and `vicinity_explain` do.
+#[unsafe(no_mangle)]
+pub extern "C" fn vicinity_explain_listed(
+    alloc: Global,
+    text: &[u8],
+    uids: &[u64],
+    answer: &mut VicinityAnswer,
+    population: &mut [u64],
+    needed: &mut usize,
+) -> u32
+    ensures answer { answer.new.kind ≢ 0
+        → AreNumbersFor (text.now ++ listed_text uids.now) answer.new }
+    ensures whole { answer.new.kind ≡ 1
+        → IsCompleteText (text.now ++ listed_text uids.now) answer.new.count }
+    ensures explained { answer.new.kind ≢ 0
+        → AreExplainedNumbersFor (text.now ++ listed_text uids.now) answer.new needed.new
+        population.old population.new }
+    ensures no_answer { answer.new.kind ≡ 0 → answer.new ≡ no_answer }
+    ensures no_population { answer.new.kind ≡ 0
+        → (needed.new ≡ 0) × (population.new ≡ population.old) }
+    ensures status { result ≡ answer.new.status }
+{
+    match with_listed(alloc, text, uids) {
+        Ok(whole) => vicinity_explain(alloc, whole.as_slice(), answer, population, needed),
+        Err(_) => {
+            *answer = NO_ANSWER;
+            *needed = 0;
+            NO_ANSWER.status
+        }
+    }
 }

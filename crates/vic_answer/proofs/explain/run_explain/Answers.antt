@@ -1,4 +1,4 @@
-use Rattle.std.proofs.Common.{refl}
+use Rattle.std.proofs.Common.{refl, Some}
 use Rattle.vic_answer.specs.CheckText.{answer_status}
 use Rattle.vic_answer.specs.ExplainText.{IsExplanationOf, answer_of, explained_text}
 use Rattle.vic_answer.proofs.Standing.{ends_written}
@@ -9,6 +9,15 @@ returns-clause-answer g c =
     let r = c.in_ok-reading.ensures.reading in
     let explained = c.in_ok-explained.explained in
     let w = c.write_explained.ensures in
-    ends_written IsExplanationOf _ _ _ _ c.in_ok-reading.reading r (explained_text explained) (answer_status (answer_of explained))
+    ends_written IsExplanationOf _ _ _ _ _ c.in_ok-reading.reading r (explained_text explained) (answer_status (answer_of explained))
     record { explained = explained; right = c.in_ok-explained.ensures r.text r.right; answer_is = refl; status_is = refl }
     c.write_explained.result w.status w.written.all w.written.begun w.written.fault
+
+pub returns-clause-bytes : goal.returns-clause-bytes
+returns-clause-bytes g c =
+    let r = c.in_ok-reading.ensures.bytes in
+    let explained = c.in_ok-explained.explained in
+    let w = c.write_explained.ensures in
+    ends_written IsExplanationOf _ _ _ (Some _) (Some _) c.in_ok-reading.reading r (explained_text explained) (answer_status (answer_of explained))
+    record { explained = explained; right = c.in_ok-explained.ensures r.text r.right; answer_is = refl; status_is = refl }
+    c.write_explained.result w.status w.written.wrote w.written.part w.written.fault

@@ -1,10 +1,43 @@
-use Rattle.std.proofs.Common.{subst, Err}
+use Rattle.std.proofs.Common.{◌≡◌, ℕ, List, Option, Some, None, Err, inl, inr, ⊎_elim, subst}
+use Rattle.std.specs.Io.KnownBytes.{Consumes}
+use Rattle.vic_log.specs.declared.fault.LineFault.{LineFault}
 use Rattle.vic_log.specs.declared.fault.LogFault.{LogFault}
-use Rattle.vic_log.specs.Early.{ReadsAs}
+use Rattle.vic_log.specs.declared.fault.LogFault.TheVariants.{Line, Read}
+use Rattle.vic_log.specs.Device.{HandsOut, TellsOn}
+use Rattle.vic_log.specs.Early.{HasNoEarlyFault, ReadsWhere}
+use Rattle.vic_log.specs.Lines.{lines_of_text}
+use Rattle.vic_log.specs.Text.{IsFirstFault}
+use Rattle.vic_answer.specs.Readings.{Stands}
+use Rattle.vic_answer.specs.declared.input.Reading.TheVariants.{RefusedAt}
 use Rattle.vic_answer.proofs.input.read_source.Goals as goal
+
+consumed : (a b : Option (List ℕ)) (xs : List ℕ) → HandsOut a b xs → TellsOn a b → Consumes a b xs
+consumed None b xs h t = tt
+consumed (Some us) None xs h t = absurd t
+consumed (Some us) (Some vs) xs h t = h
+
+refused : (IsOver : Type 0) (text : List ℕ) (e : LogFault) (n : ℕ) (f : LineFault) → e ≡ Line n f → ReadsWhere IsOver text (Err e)
+    → IsFirstFault (lines_of_text text) n f × Stands IsOver text (RefusedAt n f)
+refused IsOver text e n f is h =
+    ⊎_elim (λ early. (early.fault, inl early)) (λ late. (late.1, inr late.0)) (subst (λ (x : LogFault). ReadsWhere IsOver text (Err x)) is h)
+
+pub returns-in-Err-Line-clause-reading : goal.returns-in-Err-Line-clause-reading
+returns-in-Err-Line-clause-reading g c =
+    let a = c.in-Err-Line.ensures.answer c.new.ensures in
+    let r = refused _ a.0 c.in-Err-Line.field-0 c.in-Err-Line.line c.in-Err-Line.fault c.in-Err-Line.field-0-is a.2 in
+    record { text = a.0; given = consumed _ _ a.0 a.1 (c.in-Err-Line.ensures.tells (λ e. cc (e, c.in-Err-Line.field-0-is))); right = r.0; stands = r.1 }
+
+unread : (IsOver : Type 0) (text : List ℕ) (e : LogFault) → e ≡ Read → ReadsWhere IsOver text (Err e) → HasNoEarlyFault text
+unread IsOver text e is h = subst (λ (x : LogFault). ReadsWhere IsOver text (Err x)) is h
 
 pub returns-in-Err-Read-clause-reading : goal.returns-in-Err-Read-clause-reading
 returns-in-Err-Read-clause-reading g c =
     let a = c.in-Err-Read.ensures.answer c.new.ensures in
-    let none = subst (λ (e : LogFault). ReadsAs (g.R.Source.left c.read_all.new.source) a.0 (Err e)) c.in-Err-Read.field-0-is a.2 in
+    let none = unread _ a.0 c.in-Err-Read.field-0 c.in-Err-Read.field-0-is a.2 in
+    record { text = a.0; given = a.1; none = λ early. none early.line early.fault early.early }
+
+pub returns-in-Err-Read-clause-bytes : goal.returns-in-Err-Read-clause-bytes
+returns-in-Err-Read-clause-bytes g c =
+    let a = c.in-Err-Read.ensures.returned c.new.ensures in
+    let none = unread _ a.0 c.in-Err-Read.field-0 c.in-Err-Read.field-0-is a.2 in
     record { text = a.0; given = a.1; none = λ early. none early.line early.fault early.early }

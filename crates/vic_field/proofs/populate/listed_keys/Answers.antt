@@ -17,4 +17,4 @@ loop-line-preserved c =
     rw add-one
     (subst (λ (us : List ℕ). AreKeysOf us c.push_listed.new.keys.items)
     (sym (listed-append (entries (take i lines)) (l.item ∷ [])) ∙ ap (λ (es : List Entry). listed es) (sym (entries_next lines i l at)))
-    (c.in_ok-push_listed.ensures (listed (entries (take i lines))) c.loop-line.invariant))
+    (rw (sym c.item.ensures) (c.in_ok-push_listed.ensures (listed (entries (take i lines))) c.loop-line.invariant)))

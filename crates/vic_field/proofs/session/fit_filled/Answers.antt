@@ -26,7 +26,7 @@ returns-then-last-gt-MAX_LINES c =
     let l = c.line-item.result in
     let at : slice_get lines i ≡ Some l = slice_get_read lines (length lines) i l refl c.loop-line-test.true c.line-item.is in
     let next = counted lines i l at in
-    let slots = c.slots_opened.ensures.value in
+    let slots = c.slots_opened.ensures.value ∙ ap (λ e. slots_opened (Some e)) c.item.ensures in
     let last = c.loop-line.invariant.last in
     let many = c.if-last-gt-MAX_LINES.true in
     let front : line_count (entries (take (suc i) lines)) ≤ line_count (entries lines) = subst (λ es. line_count es ≤ line_count (entries lines)) (sym (entries_take lines (suc i))) (line_count-front (entries lines) (suc i)) in
@@ -40,7 +40,7 @@ loop-line-preserved c =
     let l = c.line-item.result in
     let at : slice_get lines i ≡ Some l = slice_get_read lines (length lines) i l refl c.loop-line-test.true c.line-item.is in
     let next = counted lines i l at in
-    let slots = c.slots_opened.ensures.value in
+    let slots = c.slots_opened.ensures.value ∙ ap (λ e. slots_opened (Some e)) c.item.ensures in
     let last = c.loop-line.invariant.last in
     let few = c.if-last-gt-MAX_LINES.false in
     rw add-one record { last = omega arith; room = omega arith }

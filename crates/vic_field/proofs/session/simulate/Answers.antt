@@ -29,9 +29,9 @@ play_entry-requires-clause-follows c =
     let i = c.loop-line.line-index in
     let l = c.line-item.result in
     let at : slice_get lines i ≡ Some l = slice_get_read lines (length lines) i l refl c.loop-line-test.true c.line-item.is in
-    follows (entries lines) (entries c.loop-line.filled.lines) i l.item c.lines-lines.ensures.log.order (entry_at lines i l at)
+    rw c.item.ensures (follows (entries lines) (entries c.loop-line.filled.lines) i l.item c.lines-lines.ensures.log.order (entry_at lines i l at)
     (c.in_default.ensures i l c.loop-line-test.true at)
-    (c.loop-line.invariant.played.kept ∙ entries_take lines i)
+    (c.loop-line.invariant.played.kept ∙ entries_take lines i))
 
 pub play_entry-requires-clause-valid : goal.play_entry-requires-clause-valid
 play_entry-requires-clause-valid c =
@@ -39,7 +39,7 @@ play_entry-requires-clause-valid c =
     let i = c.loop-line.line-index in
     let l = c.line-item.result in
     let at : slice_get lines i ≡ Some l = slice_get_read lines (length lines) i l refl c.loop-line-test.true c.line-item.is in
-    valid_entry l.item (λ q e. c.lines-lines.ensures.log.valid i q (entry_at lines i l at ∙ ap (λ (x : Entry). Some x) e))
+    rw c.item.ensures (valid_entry l.item (λ q e. c.lines-lines.ensures.log.valid i q (entry_at lines i l at ∙ ap (λ (x : Entry). Some x) e)))
 
 pub play_entry-requires-clause-first_version : goal.play_entry-requires-clause-first_version
 play_entry-requires-clause-first_version c v =
@@ -47,7 +47,7 @@ play_entry-requires-clause-first_version c v =
     let i = c.loop-line.line-index in
     let l = c.line-item.result in
     let at : slice_get lines i ≡ Some l = slice_get_read lines (length lines) i l refl c.loop-line-test.true c.line-item.is in
-    c.lines-lines.ensures.log.first_version (sym c.loop-line.invariant.version ∙ v) i l.item (entry_at lines i l at)
+    rw c.item.ensures (c.lines-lines.ensures.log.first_version (sym c.loop-line.invariant.version ∙ v) i l.item (entry_at lines i l at))
 
 pub loop-line-preserved : goal.loop-line-preserved
 loop-line-preserved c =
@@ -58,7 +58,7 @@ loop-line-preserved c =
     let more = l.item ∷ slot_lines c.play_entry.new.field l.item in
     let h = c.loop-line.invariant in
     let at : slice_get lines i ≡ Some l = slice_get_read lines (length lines) i l refl c.loop-line-test.true c.line-item.is in
-    let added : c.play_entry.new.filled ≡ with_entries log more = c.in_ok-play_entry.ensures.added in
+    let added : c.play_entry.new.filled ≡ with_entries log more = rw (sym c.item.ensures) c.in_ok-play_entry.ensures.added in
     let next : entries (take (suc i) lines) ≡ entries (take i lines) ++ l.item ∷ [] = entries_next lines i l at in
     let pop : IsPopulation (listed (entries lines)) = listed_population (entries lines) c.lines-lines.ensures.log.order c.lines-lines.ensures.log.typed in
     rw (add-one, added, next) record {
@@ -66,7 +66,7 @@ loop-line-preserved c =
       numbers = numbers_next log more h.numbers;
       played = subst (λ es. IsPlayed (listed (entries lines)) (entries (take i lines) ++ l.item ∷ []) es c.play_entry.new.field) (sym (entries-with log more))
           (IsPlayed-next (listed (entries lines)) (entries (take i lines)) (entries log.lines) c.loop-line.field c.play_entry.new.field l.item pop
-          (c.in_default.ensures i l c.loop-line-test.true at) c.in_ok-play_entry.ensures.population c.in_ok-play_entry.ensures.tags h.played);
+          (c.in_default.ensures i l c.loop-line-test.true at) (rw (sym c.item.ensures) c.in_ok-play_entry.ensures.population) (rw (sym c.item.ensures) c.in_ok-play_entry.ensures.tags) h.played);
     }
 
 fitting : (a b : ℕ) → nat_le a b ≡ true → a ≤ b
@@ -83,7 +83,7 @@ play_entry-requires-clause-room c =
     let counted = line_count-next (entries (take i lines)) l.item in
     let front : line_count (entries (take i lines) ++ l.item ∷ []) ≤ line_count (entries lines) = subst (λ es. line_count es ≤ line_count (entries lines)) (sym (entries_take lines (suc i)) ∙ entries_next lines i l at) (line_count-front (entries lines) (suc i)) in
     let room : last_needed lines ≤ MAX_LINES = fitting (last_needed lines) MAX_LINES (sym c.fit_filled.ensures ∙ c.if-not-fit_filled.false) in
-    omega arith
+    rw c.item.ensures (omega arith)
 
 pub returns-clause-simulated : goal.returns-clause-simulated
 returns-clause-simulated c =

@@ -1,16 +1,15 @@
-use Rattle.std.proofs.Common.{rules, ◌≡◌, ◌++◌, [], ℕ, List, Option, Some, None, Result, Ok, Err, MatchResult, IfErr, take, false, true, inl, inr, ap, sym, subst, ◌∙◌, append-nil, arith}
+use Rattle.std.proofs.Common.{rules, ◌≡◌, ◌++◌, ℕ, List, Option, Some, None, Result, Ok, Err, MatchResult, IfErr, take, length-append, false, true, inl, inr, ap, sym, subst, ◌∙◌, append-nil, append_assoc, arith}
 use Rattle.std.specs.Prelude.{◌↔◌}
 use Rattle.std.proofs.KnownBytes.{Consumes-trans}
 use Rattle.std.proofs.lemmas.Result.{err_from_is_err_and}
-use Rattle.std.specs.Io.KnownBytes.{Consumes, IsAtEnd}
+use Rattle.std.specs.Io.KnownBytes.{Consumes}
 use Rattle.vic_log.specs.declared.fault.LogFault.{LogFault}
 use Rattle.vic_log.specs.declared.fault.LogFault.TheVariants.{Line, Read, Memory, Spent}
 use Rattle.vic_log.specs.Device.{KeepsOrHides, HandsOut, TellsOn}
-use Rattle.vic_log.specs.Early.{IsEarly, ReadsAs}
+use Rattle.vic_log.specs.Early.{IsEarly, ReadsWhere}
 use Rattle.vic_log.specs.Lines.{lines_of_text}
 use Rattle.vic_log.specs.Log.{LogValue}
 use Rattle.vic_log.specs.Text.{IsLogOf, Refuses}
-use Rattle.vic_log.proofs.Judged.{HasJudged-start, no-early}
 use Rattle.vic_log.proofs.reader.read_from.Goals as goal
 
 handed : (a b : Option (List ℕ)) (xs : List ℕ) → Consumes a b xs → HandsOut a b xs
@@ -29,18 +28,18 @@ tells_on None b xs h = tt
 tells_on (Some as_) None xs h = absurd h
 tells_on (Some as_) (Some bs) xs h = tt
 
-reads_early : (left : Option (List ℕ)) (text : List ℕ) (e : LogFault) → IsEarly e text → ReadsAs left text (Err e)
-reads_early left text (Line n f) h = inl h
-reads_early left text Memory h = h
-reads_early left text Read h = absurd h
-reads_early left text Spent h = h
+reads_early : (IsOver : Type 0) (text : List ℕ) (e : LogFault) → IsEarly e text → ReadsWhere IsOver text (Err e)
+reads_early IsOver text (Line n f) h = inl h
+reads_early IsOver text Memory h = h
+reads_early IsOver text Read h = absurd h
+reads_early IsOver text Spent h = h
 
-reads_end : (left : Option (List ℕ)) (text : List ℕ) (r : Result LogValue LogFault) → IsAtEnd left → MatchResult r (IsLogOf (lines_of_text text)) (Refuses text) → ReadsAs left text r
-reads_end left text (Ok log) e h = (e, h)
-reads_end left text (Err (Line n f)) e h = inr (e, h)
-reads_end left text (Err Memory) e h = h
-reads_end left text (Err Read) e h = absurd h
-reads_end left text (Err Spent) e h = h
+reads_end : (IsOver : Type 0) (text : List ℕ) (r : Result LogValue LogFault) → IsOver → MatchResult r (IsLogOf (lines_of_text text)) (Refuses text) → ReadsWhere IsOver text r
+reads_end IsOver text (Ok log) e h = (e, h)
+reads_end IsOver text (Err (Line n f)) e h = inr (e, h)
+reads_end IsOver text (Err Memory) e h = h
+reads_end IsOver text (Err Read) e h = absurd h
+reads_end IsOver text (Err Spent) e h = h
 
 not_read : (text : List ℕ) (r : Result LogValue LogFault) → MatchResult r (IsLogOf (lines_of_text text)) (Refuses text) → IfErr r (λ e. (e ≡ Read) ↔ (false ≡ true))
 not_read text (Ok log) h = tt
@@ -49,45 +48,63 @@ not_read text (Err Memory) h = ((λ e. cc), (λ e. cc))
 not_read text (Err Read) h = absurd h
 not_read text (Err Spent) h = absurd h
 
-pub loop-count-init : goal.loop-count-init
-loop-count-init g c = record {
-  text = [];
-  judged = rw c.new-2.ensures (HasJudged-start c.new.result (ap (λ (v : LogValue). v.lines) c.new.ensures));
-  given = c.in_ok-count.ensures.bytes.0;
-  works = search rules;
-  bound = search rules;
-  end = search rules;
-  reads = search rules;
-}
-
-pub returns-in_err-take_piece-clause-answer : goal.returns-in_err-take_piece-clause-answer
-returns-in_err-take_piece-clause-answer g c =
+pub returns-in_err-feed-clause-answer : goal.returns-in_err-feed-clause-answer
+returns-in_err-feed-clause-answer g c =
     let i = c.loop-count.invariant in
     let given = i.text ++ take c.loop-count.count c.loop-count.piece in
-    let p = err_from_is_err_and c.from_residual-in_err-take_piece.result c.from_residual-in_err-take_piece.ensures.1 in
-    rw (p.1, p.2) (given, handed _ _ given i.given, reads_early _ given c.in_err-take_piece.field-0.0 (c.in_err-take_piece.ensures.err i.text i.judged))
+    let p = err_from_is_err_and c.from_residual-in_err-feed.result c.from_residual-in_err-feed.ensures.1 in
+    rw (p.1, p.2) (given, handed _ _ given i.given, reads_early _ given c.in_err-feed.field-0.0 (c.in_err-feed.ensures.early i.text i.fed))
+
+pub returns-in_err-feed-clause-returned : goal.returns-in_err-feed-clause-returned
+returns-in_err-feed-clause-returned g c =
+    let i = c.loop-count.invariant in
+    let given = i.text ++ take c.loop-count.count c.loop-count.piece in
+    let p = err_from_is_err_and c.from_residual-in_err-feed.result c.from_residual-in_err-feed.ensures.1 in
+    rw (p.1, p.2) (given, i.returned, reads_early _ given c.in_err-feed.field-0.0 (c.in_err-feed.ensures.early i.text i.fed))
 
 pub returns-in_err-count-2-clause-answer : goal.returns-in_err-count-2-clause-answer
 returns-in_err-count-2-clause-answer g c =
     let i = c.loop-count.invariant in
     let given = i.text ++ take c.loop-count.count c.loop-count.piece in
-    let begun = c.take_piece.new.begun in
-    let j = c.in_ok-take_piece.ensures.ok i.text i.judged in
+    let waits = c.in_ok-feed.ensures.waits given (c.in_ok-feed.ensures.fed i.text i.fed) in
     let p = err_from_is_err_and c.from_residual-in_err-count-2.result c.from_residual-in_err-count-2.ensures.1 in
-    rw (p.1, p.2) (given, handed_kept _ _ _ given i.given c.in_err-count-2.ensures.bytes, λ n f e. no-early given begun.line.items begun.log begun.number n f j e)
+    rw (p.1, p.2) (given, handed_kept _ _ _ given i.given c.in_err-count-2.ensures.bytes, waits.0)
+
+pub returns-in_err-count-2-clause-returned : goal.returns-in_err-count-2-clause-returned
+returns-in_err-count-2-clause-returned g c =
+    let i = c.loop-count.invariant in
+    let given = i.text ++ take c.loop-count.count c.loop-count.piece in
+    let waits = c.in_ok-feed.ensures.waits given (c.in_ok-feed.ensures.fed i.text i.fed) in
+    let p = err_from_is_err_and c.from_residual-in_err-count-2.result c.from_residual-in_err-count-2.ensures.1 in
+    rw (p.1, p.2) (given, c.in_err-count-2.ensures.returned ∙ (append-nil _ ∙ i.returned), waits.0)
+
+pub returns-in_err-count-2-clause-reads : goal.returns-in_err-count-2-clause-reads
+returns-in_err-count-2-clause-reads g c =
+    let i = c.loop-count.invariant in
+    let given = i.text ++ take c.loop-count.count c.loop-count.piece in
+    let waits = c.in_ok-feed.ensures.waits given (c.in_ok-feed.ensures.fed i.text i.fed) in
+    let within = waits.1 in
+    let size = length-append i.text (take c.loop-count.count c.loop-count.piece) in
+    search rules
 
 pub loop-count-preserved : goal.loop-count-preserved
 loop-count-preserved g c =
     let i = c.loop-count.invariant in
     let given = i.text ++ take c.loop-count.count c.loop-count.piece in
-    let less = c.in_ok-take_piece.ensures.less in
+    let fed = c.in_ok-feed.ensures.fed i.text i.fed in
+    let waits = c.in_ok-feed.ensures.waits given fed in
+    let size = length-append i.text (take c.loop-count.count c.loop-count.piece) in
     record {
       text = given;
-      judged = c.in_ok-take_piece.ensures.ok i.text i.judged;
+      fed = fed;
+      none_early = waits.0;
+      within = waits.1;
       given = Consumes-trans _ _ _ given _ i.given c.in_ok-count-2.ensures.bytes.0;
+      returned = c.in_ok-count-2.ensures.returned ∙ (ap (λ xs. xs ++ take c.in_ok-count-2.count c.read-in-loop-count.new.buf) i.returned ∙ append_assoc _ given _);
       works = search rules;
       bound = search rules;
       end = search rules;
+      ended = search rules;
       reads = search rules;
     }
 
@@ -96,14 +113,15 @@ returns-clause-answer g c =
     let i = c.loop-count.invariant in
     let none : c.loop-count.count ≡ 0 = omega arith in
     let all : i.text ++ take c.loop-count.count c.loop-count.piece ≡ i.text = ap (λ n. i.text ++ take n c.loop-count.piece) none ∙ append-nil i.text in
-    (i.text, handed _ _ i.text (subst (Consumes _ _) all i.given), reads_end _ i.text c.end_text.result (i.end none) (c.end_text.ensures i.text i.judged))
+    (i.text, handed _ _ i.text (subst (Consumes _ _) all i.given), reads_end _ i.text c.finish.result (i.end none) (c.finish.ensures.answer i.text i.fed))
+
+pub returns-clause-returned : goal.returns-clause-returned
+returns-clause-returned g c =
+    let i = c.loop-count.invariant in
+    let none : c.loop-count.count ≡ 0 = omega arith in
+    let all : i.text ++ take c.loop-count.count c.loop-count.piece ≡ i.text = ap (λ n. i.text ++ take n c.loop-count.piece) none ∙ append-nil i.text in
+    (i.text, i.returned ∙ ap (λ xs. g.R.Source.returned c.args.source.now ++ xs) all, reads_end _ i.text c.finish.result (i.ended none) (c.finish.ensures.answer i.text i.fed))
 
 pub returns-clause-read : goal.returns-clause-read
 returns-clause-read g c =
-    let i = c.loop-count.invariant in rw i.works (not_read i.text c.end_text.result (c.end_text.ensures i.text i.judged))
-
-pub returns-in_err-take_piece-clause-tells : goal.returns-in_err-take_piece-clause-tells
-returns-in_err-take_piece-clause-tells g c read = tells_on _ _ _ c.loop-count.invariant.given
-
-pub returns-clause-tells : goal.returns-clause-tells
-returns-clause-tells g c read = tells_on _ _ _ c.loop-count.invariant.given
+    let i = c.loop-count.invariant in rw i.works (not_read i.text c.finish.result (c.finish.ensures.answer i.text i.fed))

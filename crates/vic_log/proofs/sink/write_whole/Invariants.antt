@@ -1,4 +1,4 @@
-use Rattle.std.proofs.Common.{length, ◌-◌, ◌≡◌, ◌≤◌, false, take}
+use Rattle.std.proofs.Common.{length, ◌-◌, ◌≡◌, ◌≤◌, ◌++◌, false, take}
 use Rattle.std.specs.Io.KnownBytes.{Appends}
 use Rattle.vic_log.proofs.sink.write_whole.Given as goal
 
@@ -7,6 +7,7 @@ invariant-loop-at g l =
     (l.at ≤ length l.bytes)
     × (g.W.Sink.has_failed l.sink ≡ false)
     × Appends (g.W.Sink.taken l.initial.sink) (g.W.Sink.taken l.sink) (take l.at l.bytes)
+    × (g.W.Sink.written l.sink ≡ g.W.Sink.written l.initial.sink ++ take l.at l.bytes)
 
 abbrev pub decreases-loop-at : goal.decreases-loop-at
 decreases-loop-at g l = length l.bytes - l.at

@@ -1,4 +1,4 @@
-use Rattle.std.proofs.Common.{rules, ◌≡◌, ℕ, ◌+◌, ◌<◌, suc, List, [], ◌∷◌, ◌++◌, length, drop, drop-cons, slice_index_or, refl, ap, sym, ◌∙◌, append_assoc, arith}
+use Rattle.std.proofs.Common.{rules, Some, ◌≡◌, ℕ, ◌+◌, ◌<◌, suc, List, [], ◌∷◌, ◌++◌, length, drop, drop-cons, slice_index_or, refl, ap, sym, ◌∙◌, append_assoc, arith}
 use Rattle.std.proofs.lemmas.List.{drop_all}
 use Rattle.vic_log.specs.declared.entry.Entry.TheVariants.{Listed}
 use Rattle.vic_log.specs.Lines.{lf}
@@ -19,6 +19,7 @@ loop-uid-preserved g c =
     record {
       untouched = search rules;
       told = HasTakenBut-line _ _ _ c.loop-uid.piece.items _ (entry_text (Listed c.uid-item.result) ++ lf ∷ []) _ _ _ c.loop-uid.invariant.told c.in_ok-put_entry.ensures.told next;
+      written = HasTakenBut-line (Some _) (Some _) (Some _) c.loop-uid.piece.items _ (entry_text (Listed c.uid-item.result) ++ lf ∷ []) _ _ _ c.loop-uid.invariant.written c.in_ok-put_entry.ensures.written next;
     }
 
 pub returns-in_err-put_entry-clause-prefix : goal.returns-in_err-put_entry-clause-prefix
@@ -34,3 +35,17 @@ pub returns-clause-prefix : goal.returns-clause-prefix
 returns-clause-prefix g c =
     let none = drop_all c.loop-uid.uid-index c.args.uids.now (omega arith) in
     HasTakenBut-part _ _ _ c.loop-uid.piece.items [] _ _ c.loop-uid.invariant.told (ap (λ us. c.loop-uid.piece.items ++ listed_text us) (sym none)) c.in_ok-write_last.ensures.prefix
+
+pub returns-in_err-put_entry-clause-part : goal.returns-in_err-put_entry-clause-part
+returns-in_err-put_entry-clause-part g c =
+    HasTakenBut-part (Some _) (Some _) (Some _) c.loop-uid.piece.items (listed_text (drop c.loop-uid.uid-index c.args.uids.now)) _ _ c.loop-uid.invariant.written refl c.in_err-put_entry.ensures.part
+
+pub returns-in_err-write_last-clause-part : goal.returns-in_err-write_last-clause-part
+returns-in_err-write_last-clause-part g c =
+    let none = drop_all c.loop-uid.uid-index c.args.uids.now (omega arith) in
+    HasTakenBut-part (Some _) (Some _) (Some _) c.loop-uid.piece.items [] _ _ c.loop-uid.invariant.written (ap (λ us. c.loop-uid.piece.items ++ listed_text us) (sym none)) c.in_err-write_last.ensures.part
+
+pub returns-clause-part : goal.returns-clause-part
+returns-clause-part g c =
+    let none = drop_all c.loop-uid.uid-index c.args.uids.now (omega arith) in
+    HasTakenBut-part (Some _) (Some _) (Some _) c.loop-uid.piece.items [] _ _ c.loop-uid.invariant.written (ap (λ us. c.loop-uid.piece.items ++ listed_text us) (sym none)) c.in_ok-write_last.ensures.part

@@ -1,4 +1,4 @@
-use Rattle.std.proofs.Common.{rules, subst, ◌≡◌, ℕ, zero, ◌+◌, ◌<◌, suc, List, [], ◌∷◌, ◌++◌, length, drop, drop-cons, slice_index_or, refl, ap, sym, ◌∙◌, append_assoc, arith}
+use Rattle.std.proofs.Common.{rules, Some, ◌≡◌, ℕ, zero, ◌+◌, ◌<◌, suc, List, [], ◌∷◌, ◌++◌, length, drop, drop-cons, slice_index_or, refl, ap, sym, ◌∙◌, append_assoc, arith}
 use Rattle.std.proofs.lemmas.List.{drop_all}
 use Rattle.vic_log.specs.declared.entry.LogLine.{LogLine}
 use Rattle.vic_log.specs.Lines.{lf}
@@ -22,7 +22,7 @@ next_line lines i l h is =
 
 pub put_entry-requires : goal.put_entry-requires
 put_entry-requires g c =
-    subst (λ (l : LogLine). IsValidEntry l.item) (sym c.line-item.is) (valid_line c.lines-lines.result.now c.loop-line.line-index c.line-item.result c.lines-lines.ensures.log.valid c.loop-line-test.true)
+    rw (c.item.ensures, c.line-item.is) (valid_line c.lines-lines.result.now c.loop-line.line-index c.line-item.result c.lines-lines.ensures.log.valid c.loop-line-test.true)
 
 pub loop-line-preserved : goal.loop-line-preserved
 loop-line-preserved g c =
@@ -30,7 +30,8 @@ loop-line-preserved g c =
     let next = next_line lines c.loop-line.line-index c.line-item.result c.loop-line-test.true c.line-item.is in
     record {
       untouched = search rules;
-      told = HasTakenBut-line _ _ _ c.loop-line.piece.items _ (entry_text c.line-item.result.item ++ lf ∷ []) _ _ _ c.loop-line.invariant.told c.in_ok-put_entry.ensures.told next;
+      told = HasTakenBut-line _ _ _ c.loop-line.piece.items _ (entry_text c.line-item.result.item ++ lf ∷ []) _ _ _ c.loop-line.invariant.told (rw (sym c.item.ensures) c.in_ok-put_entry.ensures.told) next;
+      written = HasTakenBut-line (Some _) (Some _) (Some _) c.loop-line.piece.items _ (entry_text c.line-item.result.item ++ lf ∷ []) _ _ _ c.loop-line.invariant.written (rw (sym c.item.ensures) c.in_ok-put_entry.ensures.written) next;
     }
 
 pub returns-in_err-put_entry-clause-prefix : goal.returns-in_err-put_entry-clause-prefix
@@ -46,3 +47,17 @@ pub returns-clause-prefix : goal.returns-clause-prefix
 returns-clause-prefix g c =
     let none = drop_all c.loop-line.line-index c.lines-lines.result.now (omega arith) in
     HasTakenBut-part _ _ _ c.loop-line.piece.items [] _ _ c.loop-line.invariant.told (ap (λ ls. c.loop-line.piece.items ++ lines_text ls) (sym none)) c.in_ok-write_last.ensures.prefix
+
+pub returns-in_err-put_entry-clause-part : goal.returns-in_err-put_entry-clause-part
+returns-in_err-put_entry-clause-part g c =
+    HasTakenBut-part (Some _) (Some _) (Some _) c.loop-line.piece.items (lines_text (drop c.loop-line.line-index c.lines-lines.result.now)) _ _ c.loop-line.invariant.written refl c.in_err-put_entry.ensures.part
+
+pub returns-in_err-write_last-clause-part : goal.returns-in_err-write_last-clause-part
+returns-in_err-write_last-clause-part g c =
+    let none = drop_all c.loop-line.line-index c.lines-lines.result.now (omega arith) in
+    HasTakenBut-part (Some _) (Some _) (Some _) c.loop-line.piece.items [] _ _ c.loop-line.invariant.written (ap (λ ls. c.loop-line.piece.items ++ lines_text ls) (sym none)) c.in_err-write_last.ensures.part
+
+pub returns-clause-part : goal.returns-clause-part
+returns-clause-part g c =
+    let none = drop_all c.loop-line.line-index c.lines-lines.result.now (omega arith) in
+    HasTakenBut-part (Some _) (Some _) (Some _) c.loop-line.piece.items [] _ _ c.loop-line.invariant.written (ap (λ ls. c.loop-line.piece.items ++ lines_text ls) (sym none)) c.in_ok-write_last.ensures.part

@@ -1,5 +1,5 @@
 use Rattle.std.proofs.Common.{◌≡◌, ◌++◌, drop, true}
-use Rattle.vic_log.specs.Device.{HasTakenBut}
+use Rattle.vic_log.specs.Device.{HasTakenBut, HasWrittenBut}
 use Rattle.vic_log.specs.Writing.{lines_text, text_of}
 use Rattle.vic_log.proofs.write.write_log.Given as goal
 
@@ -7,4 +7,5 @@ abbrev pub invariant-loop-line : goal.invariant-loop-line
 invariant-loop-line g l = record {
   untouched : g.W.Sink.has_failed l.fn.sink ≡ true → l.sink ≡ l.fn.sink;
   told : HasTakenBut (g.W.Sink.taken l.fn.sink) (g.W.Sink.taken l.sink) (l.piece.items ++ lines_text (drop l.line-index l.lines)) (text_of l.log);
+  written : HasWrittenBut (g.W.Sink.written l.fn.sink) (g.W.Sink.written l.sink) (l.piece.items ++ lines_text (drop l.line-index l.lines)) (text_of l.log);
 }

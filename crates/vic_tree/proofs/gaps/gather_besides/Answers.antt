@@ -4,8 +4,7 @@ use Rattle.std.specs.Ordering.{nat_cmp}
 use Rattle.std.specs.BTreeMap.Range.{range_contains}
 use Rattle.std.proofs.lemmas.Bool.{cases_lt, eqb-true}
 use Rattle.vic_frame.specs.LowBitsFirst.{mirror}
-use Rattle.vic_tree.specs.OpenSet.{has_key}
-use Rattle.vic_tree.specs.Ranges.{is_between, in_ranges, AreRanges, AreRangesFrom, IsRange}
+use Rattle.vic_tree.specs.Ranges.{is_between, in_ranges, AreRanges, AreRangesFrom, IsRange, is_passed}
 use Rattle.vic_tree.proofs.GatheringLaws.{gathers_none, gathers_full, gathers_like}
 use Rattle.vic_tree.proofs.RangeLaws.{range_facts}
 use Rattle.vic_tree.proofs.RangeSets.{between_keys, filtered_ranges, in_view, gather_turn, gather_goes_on, ranges_go_on, free_in_all}
@@ -35,7 +34,7 @@ returns-then-is_full c =
     let items : all ≡ filter (λ e. is_between start c.args.last e.0) es = c.into_iter-from-iterator.ensures.into_iter_gives ∙ between ∙ between_keys start c.args.last es in
     let same : (k : ℕ) → c.args.first ≤ k → k ≤ c.args.last → in_ranges all k ≡ in_ranges es k = λ k p q. ap (λ (xs : List (ℕ × ℕ)). in_ranges xs k) items ∙ in_view es start c.args.first c.args.last k p q c.first_meeting-start.ensures.none in
     let full : length c.loop-from.out.items ≡ 3 = eqb-true _ 3 (sym c.if-is_full.ensures.value) in
-    gathers_full _ _ _ _ (λ u w. free_in_all all es c.args.first c.args.last (has_key c.args.keys.now) u same w.0) (omega (arith, full)) c.loop-from.invariant.gathers
+    gathers_full _ _ _ _ (λ u w. free_in_all all es c.args.first c.args.last (is_passed c.args.except.now c.args.keys.now) u same w.0) (omega (arith, full)) c.loop-from.invariant.gathers
 
 pub gather_gaps-next-requires-clause-start : goal.gather_gaps-next-requires-clause-start
 gather_gaps-next-requires-clause-start c = c.loop-from.invariant.count
@@ -58,7 +57,7 @@ loop-from-preserved c =
     let is : rest ≡ (a, b) ∷ left = c.in-Some.ensures.steps in
     let ranges : AreRangesFrom 0 ((a, b) ∷ left) = subst (AreRangesFrom 0) is inv.ranges in
     record {
-      gathers = gather_turn all rest left a b c.args.first c.args.last c.max.result c.min.result (has_key c.args.keys.now) _ _ _ is inv.ranges inv.among c.max.ensures c.min.ensures inv.gathers c.gather_gaps-next.ensures.gathers;
+      gathers = gather_turn all rest left a b c.args.first c.args.last c.max.result c.min.result (is_passed c.args.except.now c.args.keys.now) _ _ _ is inv.ranges inv.among c.max.ensures c.min.ensures inv.gathers c.gather_gaps-next.ensures.gathers;
       ranges = ranges_go_on rest left a b is inv.ranges;
       among = gather_goes_on all rest left a b is inv.among;
       count = c.gather_gaps-next.ensures.count;
@@ -80,6 +79,6 @@ returns c =
     let same : (k : ℕ) → c.args.first ≤ k → k ≤ c.args.last → in_ranges all k ≡ in_ranges es k = λ k p q. ap (λ (xs : List (ℕ × ℕ)). in_ranges xs k) items ∙ in_view es start c.args.first c.args.last k p q c.first_meeting-start.ensures.none in
     let none : c.loop-from.from-iterator ≡ [] = c.in-None.ensures.steps.0 in
     gathers_like _ _ _ _
-    (λ u w. free_in_all all es c.args.first c.args.last (has_key c.args.keys.now) u same w.0)
-    (λ u w. (free_in_all es all c.args.first c.args.last (has_key c.args.keys.now) u (λ k p q. sym (same k p q)) w, ap (λ (xs : List (ℕ × ℕ)). in_ranges xs (mirror u)) none))
+    (λ u w. free_in_all all es c.args.first c.args.last (is_passed c.args.except.now c.args.keys.now) u same w.0)
+    (λ u w. (free_in_all es all c.args.first c.args.last (is_passed c.args.except.now c.args.keys.now) u (λ k p q. sym (same k p q)) w, ap (λ (xs : List (ℕ × ℕ)). in_ranges xs (mirror u)) none))
     c.loop-from.invariant.gathers

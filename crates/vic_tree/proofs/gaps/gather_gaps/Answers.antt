@@ -21,12 +21,12 @@ loop-next-preserved c =
     record {
       gathers = elim c.if-from-key.branch [
         | then-from-key w ↦
-            rw w.out-is (keys_passed keys first last (key - 1 + 1) c.max-from.result old w.gather_keys.new.out.items
+            rw w.out-is (keys_passed c.args.except.now keys first last (key - 1 + 1) c.max-from.result old w.gather_keys.new.out.items
             (omega (arith, w.if-from-key.true, c.max-from.ensures))
             (λ k lo hi. let e : key ≡ k = omega (arith, lo, hi, c.max-from.ensures, w.if-from-key.true) in ap (has keys) (sym e) ∙ kept_key keys n lt)
-            (gap_gathered keys n first last from (key - 1) old c.loop-next.out.items w.gather_keys.new.out.items c.requires.order inv.lower (λ l. omega (arith, w.if-from-key.true)) inv.low (omega (arith, w.if-from-key.true)) (omega (arith, le)) inv.gathers w.gather_keys.ensures))
+            (gap_gathered c.args.except.now keys n first last from (key - 1) old c.loop-next.out.items w.gather_keys.new.out.items c.requires.order inv.lower (λ l. omega (arith, w.if-from-key.true)) inv.low (omega (arith, w.if-from-key.true)) (omega (arith, le)) inv.gathers w.gather_keys.ensures))
         | else-from-key w ↦
-            rw w.out-is (keys_passed keys first last from c.max-from.result old c.loop-next.out.items
+            rw w.out-is (keys_passed c.args.except.now keys first last from c.max-from.result old c.loop-next.out.items
             (omega (arith, c.max-from.ensures))
             (λ k lo hi. let e : key ≡ k = omega (arith, lo, hi, c.max-from.ensures, w.if-from-key.false) in ap (has keys) (sym e) ∙ kept_key keys n lt)
             inv.gathers)
@@ -46,5 +46,5 @@ returns-then-from-last-clause-gathers c =
       | then-loop-next-test+else-keys-next w ↦ (λ l. omega (arith, w.if-keys-next.false))
       | else-loop-next-test w ↦ (λ l. absurd (omega (arith, w.loop-next-test.false)))
     ] in
-    gaps_gathered keys c.args.first c.args.last (c.args.last + 1) c.args.out.now.items _ (omega arith)
-    (gap_gathered keys n c.args.first c.args.last c.loop-next.from c.args.last _ c.loop-next.out.items _ c.requires.order inv.lower over inv.low c.if-from-last.true (omega arith) inv.gathers c.gather_keys-then-from-last.ensures)
+    gaps_gathered c.args.except.now keys c.args.first c.args.last (c.args.last + 1) c.args.out.now.items _ (omega arith)
+    (gap_gathered c.args.except.now keys n c.args.first c.args.last c.loop-next.from c.args.last _ c.loop-next.out.items _ c.requires.order inv.lower over inv.low c.if-from-last.true (omega arith) inv.gathers c.gather_keys-then-from-last.ensures)

@@ -17,3 +17,6 @@ returns-clause-certain c es m = record {
       let all = certain_all es c.args.met.now c.loop-found.certain.items c.loop-found.found-index (subst (λ (fs : List Found). length fs ≤ c.loop-found.found-index) c.deref-found-items.ensures.value c.loop-found-test.false) m c.loop-found.invariant u in
       ((λ h. all.0 (sym same ∙ h)), (λ f. same ∙ all.1 f));
 }
+
+pub returns-clause-met : goal.returns-clause-met
+returns-clause-met c u h = c.loop-found.invariant.from u (sym (c.put_in_order.ensures.members u) ∙ h)

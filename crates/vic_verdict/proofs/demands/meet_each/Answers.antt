@@ -22,10 +22,10 @@ loop-index-preserved g c es from i same t h =
       | then-not-is_asked_again+in_ok-uids+else-len-demand+in_ok-push w ↦
           let d = w.index-demands-index.result in
           let asked = subst (IsDemand es from i) (sym w.index-demands-index.is) (h k d c.loop-index-test.true) in
-          let f : Found = record { need = d.need; uids = w.in_ok-uids.uids } in
+          let f : Found = record { at = d.at; need = d.need; uids = w.in_ok-uids.uids } in
           subst (λ v. AreMetTo es ds (k + 1) c.args.found.now.items v.items) (sym w.found-is)
           (met_found es ds k d f c.args.found.now.items c.loop-index.found.items w.push.new.self.items c.loop-index-test.true w.index-demands-index.is w.in_ok-push.ensures.items
-          (found_at es from i (g.S.OpenSet.is_open c.args.set.now) c.args.names.now d f same t asked w.in_ok-uids.ensures refl (let long = w.if-len-demand.false in let len = w.len.ensures.value in omega (arith, long, len))) refl before)
+          (found_at es from i (g.S.OpenSet.is_open c.args.set.now) c.args.names.now d f same t asked w.in_ok-uids.ensures refl refl (let long = w.if-len-demand.false in let len = w.len.ensures.value in omega (arith, long, len))) refl before)
       | else-not-is_asked_again w ↦
           subst (λ v. AreMetTo es ds (k + 1) c.args.found.now.items v.items) (sym w.found-is)
           (met_skipped es ds k c.args.found.now.items c.loop-index.found.items c.loop-index-test.true (c.is_asked_again.ensures w.if-not-is_asked_again.false) before)

@@ -8,8 +8,8 @@ use Rattle.vic_verdict.specs.Demands.{needs}
 use Rattle.vic_verdict.proofs.demands.note_asked.Goals as goal
 
 pub returns-in-Sent : goal.returns-in-Sent
-returns-in-Sent c = on_ok_weaker c.note_silenced.result (λ tells es fs k m other h.
-    asked_names es c.args.index c.args.names.now.items c.note_silenced.new.names.items c.args.demands.now.items fs c.args.entry.now k (ap needs c.in-Sent.is) (λ from t. tells es from (k ∙ ap (λ (e : Entry). Some e) c.in-Sent.is) t) h) c.note_silenced.ensures
+returns-in-Sent c = on_ok_weaker c.note_sent.result (λ tells es fs k m other h.
+    asked_names es c.args.index c.args.names.now.items c.note_sent.new.names.items c.args.demands.now.items fs c.args.entry.now k (ap needs c.in-Sent.is) (λ from t. tells es from (k ∙ ap (λ (e : Entry). Some e) c.in-Sent.is) t) h) c.note_sent.ensures.quiet
 
 pub returns-in-Collision : goal.returns-in-Collision
 returns-in-Collision c = on_ok_weaker c.push_demand.result (λ more es fs k m other h.

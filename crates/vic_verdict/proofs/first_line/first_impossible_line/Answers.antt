@@ -1,11 +1,14 @@
-use Rattle.std.proofs.Common.{◌≡◌, ℕ, ◌+◌, ◌<◌, length, take, get_or, sym, subst, arith, add-one}
+use Rattle.std.proofs.Common.{◌≡◌, ℕ, ◌+◌, ◌<◌, length, take, get_or, sym, ap, subst, ◌∙◌, arith, add-one}
 use Rattle.std.specs.Prelude.{MatchResult}
 use Rattle.std.proofs.lemmas.Option.{slice_get-get_or}
 use Rattle.vic_tree.specs.OpenSet.{SameUids}
+use Rattle.vic_log.specs.declared.entry.LogLine.{LogLine}
 use Rattle.vic_log.specs.Order.{entries}
 use Rattle.vic_log.specs.Slots.{slots_of, is_open}
 use Rattle.vic_verdict.specs.Demands.{IsMet}
 use Rattle.vic_verdict.specs.Possible.{IsPossible, IsContradictedAt}
+use Rattle.vic_verdict.specs.Verdict.{IsVerdict}
+use Rattle.vic_verdict.specs.declared.verdict.Verdict.TheVariants.{Impossible}
 use Rattle.vic_verdict.proofs.FirstLine.{first_impossible}
 use Rattle.vic_verdict.proofs.Halving.{Between, between_first, between_more, between_earlier, first_front}
 use Rattle.vic_verdict.proofs.first_line.first_impossible_line.Goals as goal
@@ -43,4 +46,5 @@ returns g c =
     let within : last < length lines = let w = b.within in omega (arith, w) in
     let end : c.loop-low.low ≡ last = let o = b.ordered in omega (arith, o, close) in
     let l = get_or lines last c.index-lines-last.result in
-    first_impossible lines last l c.requires.lines.rising (slice_get-get_or lines last c.index-lines-last.result within) (subst (λ n. IsPossible (entries (take n lines))) end b.possible) (subst (λ (n : ℕ). IsPossible (entries (take n lines)) → ⊥) (add-one last) b.impossible)
+    let number : c.number.result ≡ l.number = c.number.ensures ∙ ap (λ (x : LogLine). x.number) c.index-lines-last.is in
+    subst (λ n. IsVerdict lines (Impossible n)) (sym number) (first_impossible lines last l c.requires.lines.rising (slice_get-get_or lines last c.index-lines-last.result within) (subst (λ n. IsPossible (entries (take n lines))) end b.possible) (subst (λ (n : ℕ). IsPossible (entries (take n lines)) → ⊥) (add-one last) b.impossible))

@@ -26,7 +26,7 @@ loop-line-preserved c =
     let more = ap length (listed_more lines i l at) ∙ length-append (listed (entries (take i lines))) (listed (l.item ∷ [])) in
     let next = ap (λ n. length (listed (entries (take n lines)))) (add-one i) in
     let here = c.loop-line.invariant.value in
-    let one = c.count_one-count.ensures.value in
+    let one = c.count_one-count.ensures.value ∙ ap (λ e. length (listed (e ∷ []))) c.item.ensures in
     let small = c.loop-line.invariant.small in
     let few = c.count_one-count.ensures.small in
     record { value = omega arith; small = omega arith }

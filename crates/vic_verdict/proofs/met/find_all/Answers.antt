@@ -1,6 +1,7 @@
-use Rattle.std.proofs.Common.{◌+◌, ◌∙◌, ap, sym, subst, arith, []}
+use Rattle.std.proofs.Common.{◌+◌, ◌∙◌, ap, sym, subst, arith, [], Some}
 use Rattle.std.proofs.lemmas.List.{length-map}
 use Rattle.vic_log.specs.declared.entry.LogLine.{LogLine}
+use Rattle.vic_log.specs.declared.entry.Entry.{Entry}
 use Rattle.vic_log.specs.Order.{entries}
 use Rattle.vic_verdict.specs.Demands.{AreAsked}
 use Rattle.vic_verdict.proofs.Stands.{entry_at}
@@ -30,13 +31,13 @@ loop-index-preserved g c =
     let l = c.index-lines-index.result in
     let before = c.loop-index.invariant in
     let asked = before.asked in
-    let here = entry_at c.args.lines.now i l c.loop-index-test.true c.index-lines-index.is in
+    let here = entry_at c.args.lines.now i l c.loop-index-test.true c.index-lines-index.is ∙ ap (λ (e : Entry). Some e) (sym c.item-entry.ensures) in
     record {
       round = c.advance.ensures es i c.requires.lines.order here before.round;
       asked = elim c.match-entry.branch [
         | in-FieldCycle+in_ok-meet_stretch+else-not-branch w ↦
             subst (λ v. AreAsked es (i + 1) c.match-entry.names.items c.match-entry.demands.items v.items) (sym w.found-is)
-            (asked_anew es i c.loop-index.names.items c.match-entry.names.items c.loop-index.demands.items c.match-entry.demands.items c.loop-index.found.items w.meet_stretch.new.found.items l.item here w.in-FieldCycle.is
+            (asked_anew es i c.loop-index.names.items c.match-entry.names.items c.loop-index.demands.items c.match-entry.demands.items c.loop-index.found.items w.meet_stretch.new.found.items c.item-entry.result here w.in-FieldCycle.is
             (ap (λ v. v.items) w.names-is ∙ w.clear.ensures.items) (ap (λ v. v.items) w.demands-is ∙ w.clear-in-FieldCycle.ensures.items)
             (w.in_ok-meet_stretch.ensures.met es asked.from i c.requires.open asked.quiet asked.demands w.if-not-branch.false) asked)
         | in_default+in_ok-note_asked w ↦

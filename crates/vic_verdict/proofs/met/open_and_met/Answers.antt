@@ -19,7 +19,7 @@ at_end-requires g c possible =
     let set = g.S.OpenSet.is_open c.in-Ok.set in
     let settled = subst (λ r. MatchResult r (λ s. RepliesAnswer es × SameUids (g.S.OpenSet.is_open s) (is_open (slots_of es))) (λ x. IsContradictedAt es x.at)) c.in-Ok.is c.in_ok-set.ensures in
     let all = heard_open es (length c.args.lines.now) set c.in_ok-heard.heard.items settled.1 c.in_ok-heard.ensures possible in
-    both_ways _ (ap (λ (us : List ℕ). list_all set us) (sym c.deref.ensures.value) ∙ (sym c.are_open.ensures ∙ c.if-not-are_open.true)) all
+    both_ways _ (ap (λ (us : List ℕ). list_all set us) (sym c.deref.ensures.value) ∙ (sym c.in_ok-are_open.ensures ∙ c.if-not-branch.true)) all
 
 pub returns : goal.returns
 returns g c =
@@ -27,7 +27,7 @@ returns g c =
     let set = g.S.OpenSet.is_open c.in-Ok.set in
     let settled = subst (λ r. MatchResult r (λ s. RepliesAnswer es × SameUids (g.S.OpenSet.is_open s) (is_open (slots_of es))) (λ x. IsContradictedAt es x.at)) c.in-Ok.is c.in_ok-set.ensures in
     let long = length-map c.args.lines.now (λ (x : LogLine). x.item) in
-    let all = ap (λ (us : List ℕ). list_all set us) (sym c.deref.ensures.value) ∙ (sym c.are_open.ensures ∙ c.if-not-are_open.false) in
+    let all = ap (λ (us : List ℕ). list_all set us) (sym c.deref.ensures.value) ∙ (sym c.in_ok-are_open.ensures ∙ c.if-not-branch.false) in
     let found = subst (λ o. MatchOption o (IsPossible es → ⊥) (λ f. AreFound es f.items)) c.in-Some.is c.in_ok-found.ensures in (
       met_is_possible es set c.in_ok-heard.heard.items c.in-Some.found.items (length c.args.lines.now) settled.0 settled.1 c.in_ok-heard.ensures (omega (arith, long)) all found,
       settled.1,

@@ -4,7 +4,7 @@ use Rattle.vic_frame.specs.Uids.{IsUid}
 use Rattle.vic_log.specs.declared.entry.Entry.{Entry}
 use Rattle.vic_log.specs.declared.entry.Entry.TheVariants.{Silent, Heard}
 use Rattle.vic_log.specs.Rounds.{lies_in_some}
-use Rattle.vic_verdict.specs.declared.sweep.Name.{Name}
+use Rattle.vic_verdict.specs.declared.names.Name.{Name}
 use Rattle.vic_verdict.specs.Sweep.{is_named}
 use Rattle.vic_verdict.proofs.Heard.{outside_reply, heard_more, heard_silent, heard_other}
 use Rattle.vic_verdict.proofs.Stretching.{named_here, stretch_named, stretch_spotted, stretch_other, heard_key}
@@ -55,4 +55,7 @@ returns-in_ok-push_spot-in-Heard-clause-heard c es k m other fits h =
     (k ∙ ap (λ (e : Entry). Some e) c.in-Heard.is) c.requires (ap mirror c.uid-uid.ensures.value) (subst IsUid c.uid-uid.ensures.value told.2) refl refl inside told.0 h
 
 pub returns-in_ok-note_sent-in-Sent-clause-stretch : goal.returns-in_ok-note_sent-in-Sent-clause-stretch
-returns-in_ok-note_sent-in-Sent-clause-stretch c es set k m other fits h = c.in_ok-note_sent-in-Sent.ensures.stretch es set c.args.spots.now.items (k ∙ ap (λ e. Some e) c.in-Sent.is) h
+returns-in_ok-note_sent-in-Sent-clause-stretch c es set k m other fits h = c.in_ok-note_sent-in-Sent.ensures.stretch es c.args.end set c.args.spots.now.items c.requires (k ∙ ap (λ e. Some e) c.in-Sent.is) h
+
+pub returns-in_ok-note_sent-in-Sent-clause-heard : goal.returns-in_ok-note_sent-in-Sent-clause-heard
+returns-in_ok-note_sent-in-Sent-clause-heard c es k m other fits h = c.in_ok-note_sent-in-Sent.ensures.heard es c.args.end c.requires (k ∙ ap (λ e. Some e) c.in-Sent.is) h

@@ -1,13 +1,16 @@
-use Rattle.std.proofs.Common.{◌+◌, ◌∙◌, ap, sym, subst, length, [], arith, ◌≡◌}
+use Rattle.std.proofs.Common.{ℕ, List, Option, Some, ◌+◌, ◌∙◌, ap, sym, subst, length, [], arith, ◌≡◌}
 use Rattle.std.specs.Prelude.{IfSome}
 use Rattle.std.proofs.lemmas.List.{length-map}
 use Rattle.std.proofs.lemmas.Option.{slice_get_within}
 use Rattle.vic_log.specs.declared.entry.Entry.TheVariants.{Heard}
 use Rattle.vic_log.specs.declared.entry.LogLine.{LogLine}
+use Rattle.vic_log.specs.declared.entry.Entry.{Entry}
 use Rattle.vic_log.specs.Order.{entries}
 use Rattle.vic_log.specs.Slots.{slots_before, is_open}
 use Rattle.vic_verdict.specs.Replies.{AreHeard, IsQuietReply}
 use Rattle.vic_verdict.specs.Stretches.{IsStretch}
+use Rattle.vic_verdict.specs.Verdict.{IsLeast}
+use Rattle.vic_verdict.specs.declared.names.Name.{Name}
 use Rattle.vic_verdict.proofs.Stands.{entry_at, open_first}
 use Rattle.vic_verdict.proofs.Stretching.{stretch_first, stretch_anew}
 use Rattle.vic_verdict.proofs.Heard.{heard_first, heard_anew, quiet_contradicts, answers_before}
@@ -26,14 +29,17 @@ loop-index-init g c =
       heard = subst (λ ns. AreHeard es 0 n ns) (sym c.new-names.ensures.items) (heard_first es n);
     }
 
+unfit : (ns : List Name) (o : Option ℕ) (place : ℕ) → o ≡ Some place → IfSome o (IsLeast (IsQuietReply ns)) → IsQuietReply ns place
+unfit ns o place is e = let first : IsLeast (IsQuietReply ns) place = subst (λ p. IfSome p (IsLeast (IsQuietReply ns))) is e in first.0
+
 pub returns-in-Some : goal.returns-in-Some
 returns-in-Some g c =
-    quiet_contradicts (entries c.args.lines.now) c.loop-index.index (length c.args.lines.now) c.in-Some.at c.loop-index.names.items c.loop-index.invariant.heard (subst (λ o. IfSome o (IsQuietReply c.loop-index.names.items)) c.in-Some.is c.in_ok-at.ensures.unfit)
+    quiet_contradicts (entries c.args.lines.now) c.loop-index.index (length c.args.lines.now) c.in-Some.at c.loop-index.names.items c.loop-index.invariant.heard (unfit c.loop-index.names.items _ c.in-Some.at c.in-Some.is c.in_ok-at.ensures.unfit)
 
 pub returns-then-not-branch : goal.returns-then-not-branch
 returns-then-not-branch g c =
     let es = entries c.args.lines.now in
-    let here = entry_at c.args.lines.now c.loop-index.index c.index-lines-index.result c.loop-index-test.true c.index-lines-index.is in
+    let here = entry_at c.args.lines.now c.loop-index.index c.index-lines-index.result c.loop-index-test.true c.index-lines-index.is ∙ ap (λ (e : Entry). Some e) (sym c.item-entry.ensures) in
     c.in_ok-note_entry.ensures.unfit es here (c.mask-mask.ensures es c.loop-index.index c.requires.valid c.loop-index.invariant.round) c.if-not-branch.true
 
 pub loop-index-preserved : goal.loop-index-preserved
@@ -43,13 +49,13 @@ loop-index-preserved g c =
     let i = c.loop-index.index in
     let l = c.index-lines-index.result in
     let before = c.loop-index.invariant in
-    let here = entry_at c.args.lines.now i l c.loop-index-test.true c.index-lines-index.is in
+    let here = entry_at c.args.lines.now i l c.loop-index-test.true c.index-lines-index.is ∙ ap (λ (e : Entry). Some e) (sym c.item-entry.ensures) in
     record {
       round = c.advance.ensures es i c.requires.order here before.round;
       stretch = elim c.match-entry.branch [
         | in-FieldCycle+in_ok-at+in_default-2 w ↦
             subst (λ s. IsStretch es (i + 1) n (g.S.OpenSet.is_open s) c.match-entry.names.items c.match-entry.spots.items) (sym w.set-is)
-            (stretch_anew es i n (g.S.OpenSet.is_open c.loop-index.set) (g.S.OpenSet.is_open w.settle_stretch.new.set) c.loop-index.names.items c.match-entry.names.items c.loop-index.spots.items c.match-entry.spots.items l.item here w.in-FieldCycle.is
+            (stretch_anew es i n (g.S.OpenSet.is_open c.loop-index.set) (g.S.OpenSet.is_open w.settle_stretch.new.set) c.loop-index.names.items c.match-entry.names.items c.loop-index.spots.items c.match-entry.spots.items c.item-entry.result here w.in-FieldCycle.is
             (ap (λ v. v.items) w.names-is ∙ w.clear.ensures.items) (ap (λ v. v.items) w.spots-is ∙ w.clear-in-FieldCycle.ensures.items)
             (w.in_ok-at.ensures.settled w.in_default-2.is) before.stretch)
         | in_default+in_ok-note_entry+else-not-branch w ↦
@@ -60,7 +66,7 @@ loop-index-preserved g c =
       ];
       heard = elim c.match-entry.branch [
         | in-FieldCycle+in_ok-at+in_default-2 w ↦
-            heard_anew es i n c.loop-index.names.items c.match-entry.names.items l.item here w.in-FieldCycle.is
+            heard_anew es i n c.loop-index.names.items c.match-entry.names.items c.item-entry.result here w.in-FieldCycle.is
             (ap (λ v. v.items) w.names-is ∙ w.clear.ensures.items) (w.in_ok-at.ensures.fit w.in_default-2.is) before.heard
         | in_default+in_ok-note_entry+else-not-branch w ↦
             subst (λ v. AreHeard es (i + 1) n v.items) (sym w.names-is)
@@ -70,7 +76,7 @@ loop-index-preserved g c =
 
 pub returns-in-Some-2 : goal.returns-in-Some-2
 returns-in-Some-2 g c =
-    quiet_contradicts (entries c.args.lines.now) c.loop-index.index (length c.args.lines.now) c.in-Some-2.at c.loop-index.names.items c.loop-index.invariant.heard (subst (λ o. IfSome o (IsQuietReply c.loop-index.names.items)) c.in-Some-2.is c.in_ok-at-2.ensures.unfit)
+    quiet_contradicts (entries c.args.lines.now) c.loop-index.index (length c.args.lines.now) c.in-Some-2.at c.loop-index.names.items c.loop-index.invariant.heard (unfit c.loop-index.names.items _ c.in-Some-2.at c.in-Some-2.is c.in_ok-at-2.ensures.unfit)
 
 pub returns-in-None : goal.returns-in-None
 returns-in-None g c =

@@ -2,7 +2,7 @@ use Rattle.std.proofs.Common.{ℕ, ◌+◌, Bool, ◌∙◌, ap, sym, subst, ari
 use Rattle.std.proofs.lemmas.List.Sorted.{IsPartitionPoint-from_clause, IsPartitionedBy-ltb}
 use Rattle.vic_frame.specs.Uids.{has}
 use Rattle.vic_frame.specs.LowBitsFirst.{mirror}
-use Rattle.vic_verdict.specs.declared.sweep.Name.{Name}
+use Rattle.vic_verdict.specs.declared.names.Name.{Name}
 use Rattle.vic_verdict.proofs.Sweeping.{nobody, HasWhere, where_below, where_pushed, where_passed, where_found}
 use Rattle.vic_verdict.proofs.sweep.left_in_order.Goals as goal
 use Rattle.vic_verdict.proofs.sweep.left_in_order.Goals.{then-name+in_ok-push, else-name}

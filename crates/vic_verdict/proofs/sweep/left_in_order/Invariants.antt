@@ -1,4 +1,4 @@
-use Rattle.vic_verdict.specs.declared.sweep.Name.{Name}
+use Rattle.vic_verdict.specs.declared.names.Name.{Name}
 use Rattle.vic_verdict.proofs.Sweeping.{HasWhere}
 use Rattle.vic_verdict.proofs.sweep.left_in_order.Given as goal
 

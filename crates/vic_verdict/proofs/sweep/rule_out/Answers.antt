@@ -1,6 +1,6 @@
 use Rattle.std.proofs.Common.{◌≡◌, Bool, ◌&&◌, get_or, ltb, ltb-true, ltb-false, arith, rules, sym, ap, ◌∙◌}
 use Rattle.std.proofs.lemmas.List.Sorted.{IsPartitionPoint-from_clause, IsPartitionedBy-ltb}
-use Rattle.vic_verdict.specs.declared.sweep.Name.{Name}
+use Rattle.vic_verdict.specs.declared.names.Name.{Name}
 use Rattle.vic_verdict.specs.Sweep.{mask_leaves}
 use Rattle.vic_verdict.proofs.Sweeping.{nobody, ruled_first, ruled_more, ruled_all, outside_below, outside_above, inside}
 use Rattle.vic_verdict.proofs.sweep.rule_out.Goals as goal

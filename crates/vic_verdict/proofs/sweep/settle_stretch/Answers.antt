@@ -1,24 +1,31 @@
 use Rattle.std.proofs.Common.{◌≡◌, ℕ, ◌∙◌, ◌&&◌, ◌<◌, ◌^◌, ◌++◌, ap, sym, subst, rules, length, take, List}
 use Rattle.std.specs.List.{All}
-use Rattle.std.proofs.lemmas.List.Sorted.{IsNonDecreasingBy-from_sort_by_key, All-permutation}
+use Rattle.std.specs.Prelude.{MatchOption}
+use Rattle.std.proofs.lemmas.List.Sorted.{answers_always, All-permutation}
 use Rattle.vic_frame.specs.LowBitsFirst.{mirror}
-use Rattle.vic_verdict.specs.declared.sweep.Name.{Name}
-use Rattle.vic_verdict.specs.declared.sweep.Spot.{Spot}
-use Rattle.vic_verdict.specs.Sweep.{keep_all, all_leave, AreInOrder, HaveKeys, HasMask}
+use Rattle.vic_verdict.specs.declared.names.Name.{Name}
+use Rattle.vic_verdict.specs.declared.covers.Spot.{Spot}
+use Rattle.vic_verdict.specs.Sweep.{keep_all, all_leave, AreInOrder, AreInQuietOrder, HaveKeys, HasMask}
 use Rattle.vic_verdict.proofs.Sweeping.{keep-length, keep-order, keep-keys, written, covered_allowed, left_permuted, named_permuted, allow_permuted}
 use Rattle.vic_verdict.specs.Covers.{IsCover, is_in_some, all_leave_named}
 use Rattle.vic_verdict.specs.Replies.{AreReady, IsQuietReply}
 use Rattle.vic_verdict.proofs.Covering.{covers_alike}
-use Rattle.vic_verdict.proofs.Heard.{ready_permuted, quiet_permuted}
+use Rattle.vic_verdict.specs.Verdict.{IsLeast}
+use Rattle.vic_verdict.proofs.Heard.{ready_permuted, first_permuted}
+use Rattle.vic_verdict.proofs.NameOrder.{name_key, order_from_sort, quiet_from_sort}
 use Rattle.vic_verdict.proofs.sweep.settle_stretch.Goals as goal
 
-pub quiet_reply-requires : goal.quiet_reply-requires
-quiet_reply-requires g c =
-    subst AreInOrder (sym c.deref.ensures.value) (IsNonDecreasingBy-from_sort_by_key (λ (n : Name). n.key) _ c.sort_unstable_by_key.ensures.sorted (λ a r q k. search rules))
+pub first_quiet_reply-requires-clause-order : goal.first_quiet_reply-requires-clause-order
+first_quiet_reply-requires-clause-order g c =
+    subst AreInOrder (sym c.deref.ensures.value) (order_from_sort _ (c.sort_unstable_by_key.ensures.sorted name_key (answers_always _ _ _ (λ f a r g h. search rules))))
+
+pub first_quiet_reply-requires-clause-quiet : goal.first_quiet_reply-requires-clause-quiet
+first_quiet_reply-requires-clause-quiet g c =
+    subst AreInQuietOrder (sym c.deref.ensures.value) (quiet_from_sort _ (c.sort_unstable_by_key.ensures.sorted name_key (answers_always _ _ _ (λ f a r g h. search rules))))
 
 pub rule_out_all-requires : goal.rule_out_all-requires
 rule_out_all-requires g c =
-    subst AreInOrder (sym c.deref_mut.ensures.value) (IsNonDecreasingBy-from_sort_by_key (λ (n : Name). n.key) _ c.sort_unstable_by_key.ensures.sorted (λ a r q k. search rules))
+    subst AreInOrder (sym c.deref_mut.ensures.value) (order_from_sort _ (c.sort_unstable_by_key.ensures.sorted name_key (answers_always _ _ _ (λ f a r g h. search rules))))
 
 names_are : (n : ℕ) (ns now new sorted kept : List Name) (ss spots : List Spot) → now ≡ sorted → ss ≡ spots → new ≡ keep_all (all_leave ss) now → length now ≡ n → kept ≡ take n (new ++ ns) → kept ≡ keep_all (all_leave spots) sorted
 names_are n ns now new sorted kept ss spots a b d e f =
@@ -26,7 +33,7 @@ names_are n ns now new sorted kept ss spots a b d e f =
 
 pub settle_masks-requires-clause-order : goal.settle_masks-requires-clause-order
 settle_masks-requires-clause-order g c =
-    let up = IsNonDecreasingBy-from_sort_by_key (λ (n : Name). n.key) c.sort_unstable_by_key.new.self.items c.sort_unstable_by_key.ensures.sorted (λ a r q k. search rules) in
+    let up = order_from_sort _ (c.sort_unstable_by_key.ensures.sorted name_key (answers_always _ _ _ (λ f a r g h. search rules))) in
     subst AreInOrder (sym (names_are _ _ c.deref_mut.result.now c.rule_out_all.new.names c.sort_unstable_by_key.new.self.items c.deref-4.result.now c.deref-2.result.now c.sort_unstable_by_key-2.new.self.items c.deref_mut.ensures.value c.deref-2.ensures.value c.rule_out_all.ensures c.deref_mut.ensures.len c.deref-4.ensures.value))
     (keep-order (all_leave c.sort_unstable_by_key-2.new.self.items) c.sort_unstable_by_key.new.self.items up)
 
@@ -41,13 +48,13 @@ covers_of-requires g c =
 
 pub returns-in-Some-clause-unfit : goal.returns-in-Some-clause-unfit
 returns-in-Some-clause-unfit g c =
-    quiet_permuted c.args.names.now.items c.sort_unstable_by_key.new.self.items c.in-Some.at c.sort_unstable_by_key.ensures.permutation
-    (subst (λ ns. IsQuietReply ns c.in-Some.at) c.deref.ensures.value c.in-Some.ensures.unfit)
+    first_permuted c.args.names.now.items c.sort_unstable_by_key.new.self.items c.in-Some.at c.sort_unstable_by_key.ensures.permutation
+    (subst (λ ns. IsLeast (IsQuietReply ns) c.in-Some.at) c.deref.ensures.value c.in-Some.ensures)
 
 pub returns-clause-fit : goal.returns-clause-fit
 returns-clause-fit g c none =
     ready_permuted c.args.names.now.items c.sort_unstable_by_key.new.self.items c.sort_unstable_by_key.ensures.permutation
-    (subst AreReady c.deref.ensures.value (c.quiet_reply.ensures.fit c.in_default.is))
+    (subst AreReady c.deref.ensures.value (subst (λ r. MatchOption r (AreReady c.deref.result.now) (IsLeast (IsQuietReply c.deref.result.now))) c.in_default.is c.first_quiet_reply.ensures))
 
 pub settle_masks-requires-clause-masks : goal.settle_masks-requires-clause-masks
 settle_masks-requires-clause-masks g c = subst (All IsCover) (sym c.deref-5.ensures.value) c.in_ok-covers.ensures.masks

@@ -1,19 +1,49 @@
-use Rattle.std.proofs.Common.{rules, ◌≡◌, ap, sym, subst, ◌∙◌, ◌∷◌, [], ◌++◌, List, None, ◌<◌}
-use Rattle.vic_log.specs.Order.{entries, refusal}
+use Rattle.std.proofs.Common.{rules, ◌≡◌, ap, sym, subst, ◌∙◌, ◌∷◌, [], ◌++◌, ◌||◌, List, ℕ, None, ◌<◌, refl}
+use Rattle.std.specs.Prelude.{not}
+use Rattle.vic_frame.specs.Uids.{has}
+use Rattle.vic_log.specs.Index.{IsIndex, is_indexed}
+use Rattle.vic_log.specs.Order.{entries, listed, is_empty, refusal}
 use Rattle.vic_log.specs.Log.{LogValue, last_from, IsTyped}
 use Rattle.vic_log.specs.declared.entry.LogLine.{LogLine}
 use Rattle.vic_log.specs.declared.entry.Version.TheVariants.{V1}
 use Rattle.vic_log.specs.FirstVersion.{IsOfFirstVersion}
-use Rattle.vic_log.proofs.Push.{Keeps-push}
+use Rattle.vic_log.specs.Kept.{left_after}
+use Rattle.std.proofs.Math.Bool.{or-false}
+use Rattle.vic_log.proofs.Push.{Keeps-push, refusal_listed, lists_none}
 use Rattle.vic_log.proofs.log.Log.push.Goals as goal
+use Rattle.vic_log.proofs.log.Log.push.Goals.{in-Listed+in_ok-index_uid, in_default+in_default-refusal}
 
 pub invariant_of-self-2 : goal.invariant_of-self-2
 invariant_of-self-2 c =
     let l : LogLine = record { number = c.args.number; item = c.args.item } in
-    let items : List LogLine = c.self.inside.lines.items in
-    let items_is : c.push_reserved.new.self.items ≡ items ++ l ∷ [] = c.push_reserved.ensures.items ∙ ap (λ (xs : List LogLine). xs ++ l ∷ []) c.in_ok-reserve.ensures.items in
-    let free : refusal (entries items) l.item ≡ None = ap (λ (v : LogValue). refusal (entries v.lines) l.item) c.self.view_is ∙ (sym c.refusal.ensures ∙ c.in_default.is) in
+    let old = c.self.inside in
+    let new = c.match-item.self-inside in
+    let items : List LogLine = old.lines.items in
     let above : last_from 1 items < l.number = subst (λ (v : LogValue). last_from 1 v.lines < l.number) (sym c.self.view_is) c.requires.above in
     let typed : IsTyped l.item = search rules in
-    let first : c.self.inside.version ≡ V1 → IsOfFirstVersion l.item = λ h. c.requires.first_version (ap (λ (v : LogValue). v.version) (sym c.self.view_is) ∙ h) in
-    rw items_is (Keeps-push _ items l _ _ _ _ _ _ c.self.invariant.0 free above c.requires.limit c.requires.valid typed first c.in_ok-index_entry.ensures.more c.listing_after-self-inside.ensures c.slots_after-self-inside.ensures, c.index_entry.ensures.index)
+    let first : old.version ≡ V1 → IsOfFirstVersion l.item = λ h. c.requires.first_version (ap (λ (v : LogValue). v.version) (sym c.self.view_is) ∙ h) in
+    let free : refusal (entries items) l.item ≡ None = elim c.match-item.branch [
+      | in-Listed+in_ok-index_uid w ↦ rw w.in-Listed.is (refusal_listed (entries items) w.in-Listed.uid (sym (c.self.invariant.0.index_is w.in-Listed.uid) ∙ w.in_ok-index_uid.ensures.answer))
+      | in_default+in_default-refusal w ↦ ap (λ (xs : List LogLine). refusal (entries xs) l.item) (sym c.reserve.ensures.items) ∙ (sym w.refusal-in_default.ensures ∙ w.in_default-refusal.is)
+    ] in
+    let more : (u : ℕ) → is_indexed new.rising.items new.others u ≡ (is_indexed old.rising.items old.others u || has (listed (l.item ∷ [])) u) = elim c.match-item.branch [
+      | in-Listed+in_ok-index_uid w ↦ rw (w.self-inside-is, w.in-Listed.is) w.in_ok-index_uid.ensures.more
+      | in_default+in_default-refusal w ↦ rw (w.self-inside-is, lists_none l.item w.in_default.not-Listed) (λ u. sym (or-false (is_indexed old.rising.items old.others u)))
+    ] in
+    let index : IsIndex new.rising.items new.others = elim c.match-item.branch [
+      | in-Listed+in_ok-index_uid w ↦ rw w.self-inside-is w.index_uid.ensures.index
+      | in_default+in_default-refusal w ↦ rw w.self-inside-is c.self.invariant.1
+    ] in
+    let kept : (new.version ≡ old.version) × (new.lines.items ≡ items) × (new.listing ≡ old.listing) × (new.slots_left ≡ old.slots_left) = elim c.match-item.branch [
+      | in-Listed+in_ok-index_uid w ↦ rw w.self-inside-is (refl, c.reserve.ensures.items, refl, refl)
+      | in_default+in_default-refusal w ↦ rw w.self-inside-is (refl, c.reserve.ensures.items, refl, refl)
+    ] in
+    let same : c.match-item.item ≡ l.item = elim c.match-item.branch [
+      | in-Listed+in_ok-index_uid w ↦ w.item-is ∙ sym w.in-Listed.is
+      | in_default+in_default-refusal w ↦ w.item-is
+    ] in
+    let pushed : c.push_reserved.new.self.items ≡ new.lines.items ++ c.new.result ∷ [] = c.push_reserved.ensures.items in
+    let items_is : c.push_reserved.new.self.items ≡ items ++ l ∷ [] = pushed ∙ rw (kept.1, c.new.ensures, same) refl in
+    let listing : c.listing_after-self-inside.result ≡ (old.listing || not (is_empty (listed (l.item ∷ [])))) = c.listing_after-self-inside.ensures ∙ rw (kept.2, same) refl in
+    let left : c.slots_after-self-inside.result ≡ left_after old.slots_left l.item = c.slots_after-self-inside.ensures ∙ rw (kept.3, same) refl in
+    rw (items_is, kept.0) (Keeps-push old.version items l _ _ _ _ _ _ c.self.invariant.0 free above c.requires.limit c.requires.valid typed first more listing left, index)

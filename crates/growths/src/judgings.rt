@@ -1,0 +1,76 @@
+//! How often a log is judged: each judging begins with a set of every UID, and here a set takes a
+//! block of a size of its own when it is made, which `tests/refuse.c` counts.
+
+use crate::logs::log_of;
+use arrayvec::ArrayVec;
+use std::alloc::{AllocError, Global};
+use std::io;
+use std::io::{ErrorKind, Write};
+use vic_answer::{Answer, answer_line};
+use vic_frame::{Mask, Uid};
+use vic_tree::{OpenSet, RangeSet};
+use vic_verdict::judge_with;
+
+/// How many bytes that block has; nothing else asks for as many.
+const TELLING: usize = 7919;
+
+/// Ranges of keys, as the judge goes by, with such a block.
+#[derive(Drop)]
+struct Telling {
+    set: RangeSet,
+    block: Vec<u8>,
+}
+
+impl OpenSet for Telling {
+    ghost is_open = { λ s. ⟦<RangeSet as OpenSet>⟧.is_open s.set };
+
+    fn everything(alloc: Global) -> Result<Telling, AllocError> {
+        let block = Vec::with_capacity(alloc, TELLING)?;
+        let set = RangeSet::everything(alloc)?;
+        Ok(Telling { set, block })
+    }
+
+    fn settle(&mut self, mask: &Mask, except: &[Uid]) -> Result<(), AllocError> {
+        self.set.settle(mask, except)
+    }
+
+    fn has(&self, uid: Uid) -> bool {
+        self.set.has(uid)
+    }
+
+    fn up_to_three(&self, mask: &Mask, except: &[Uid]) -> ArrayVec<Uid, 3> {
+        self.set.up_to_three(mask, except)
+    }
+
+    fn widest(&self) -> Option<Mask> {
+        self.set.widest()
+    }
+
+    fn up_to_three_besides(
+        &self,
+        alloc: Global,
+        mask: &Mask,
+        keys: &[u64],
+    ) -> Result<ArrayVec<Uid, 3>, AllocError> {
+        self.set.up_to_three_besides(alloc, mask, keys)
+    }
+
+    fn widest_besides(self, keys: &[u64]) -> Result<Option<Mask>, AllocError> {
+        let Telling { set, block: _ } = self;
+        set.widest_besides(keys)
+    }
+}
+
+/// Writes the line of the verdict on the log of a text.
+pub fn judge_counted(rt: &HostRuntime, alloc: Global, text: &[u8]) -> io::Result<()> {
+    let Ok(Some(log)) = log_of(alloc, text) else {
+        return Err(ErrorKind::InvalidData.into());
+    };
+    match judge_with::<Telling>(alloc, &log) {
+        Ok(verdict) => {
+            let line = answer_line(&Answer::Judged(verdict));
+            rt.stdout().write_all(line.as_slice())
+        }
+        Err(AllocError) => Err(ErrorKind::OutOfMemory.into()),
+    }
+}

@@ -1,0 +1,125 @@
+-- Words that `frame` writes give back what it read.
+use Rattle.std.proofs.Common.{◌≡◌, ℕ, zero, suc, ◌+◌, ◌-◌, ◌*◌, ◌/◌, ◌%◌, ◌^◌, ◌<◌, ◌≤◌, ◌==◌, Bool, true, false, List, ◌∷◌, ◌++◌, length, drop, replicate, Ok, bytes_eq, decimal, arith, ap, refl, sym, ◌∙◌, lt-ltb, le-leb, eq-eqb, ne_eqb, if◌then◌else◌}
+use Rattle.std.specs.Int.{bytes_high_first, byte_at, from_be_bytes, to_be_bytes, w64}
+use Rattle.std.specs.Fmt.{digits}
+use Rattle.std.proofs.Math.Nat.{pow-le-pow_right}
+use Rattle.std.proofs.lemmas.Nat.{from_be_bytes-to_be_bytes_8}
+use Rattle.std.proofs.lemmas.Slice.Eq.{bytes_eq-Decides}
+use Rattle.hex.specs.Hex.{decode_sized, encode_upper, upper_digits, IsBytes}
+use Rattle.hex.proofs.HexLemmas.{decode_sized-twice, decode_of-encode_upper, length-encode_with}
+use Rattle.vic_frame.specs.declared.request.Request.{Request}
+use Rattle.vic_frame.specs.declared.request.Request.TheVariants.{Inventory, StayQuiet}
+use Rattle.vic_frame.specs.Masks.{BitMask, IsMask}
+use Rattle.vic_frame.specs.Uids.{IsUid, is_uid}
+use Rattle.vic_frame.specs.declared.uid.TheConstants.{UID_BITS}
+use Rattle.vic_frame.specs.Requests.{IsInRange, IsValid, byte_count}
+use Rattle.vic_frame.specs.Replies.{Reply, IsReply}
+use Rattle.vic_frame.proofs.BytesLaws.{holds_bits}
+use Rattle.vic_answer.specs.Digits.{hex_bytes, value_text}
+use Rattle.vic_answer.specs.declared.spell.Said.TheVariants.{Asked, Replied}
+use Rattle.vic_answer.specs.SpellText.{words_reading, request_words, reply_words, number_up_to, number_ending, hex_number_in, sixteen_in, longest_mask, value_in, mask_in}
+use Rattle.vic_answer.proofs.SpelledWords.{number_found}
+
+-- the last bytes of a number, and the zeros before them
+last_bytes : (pad count n : ℕ) → drop pad (bytes_high_first (pad + count) n) ≡ bytes_high_first count n
+last_bytes zero count n = let e : 0 + count ≡ count = omega arith in rw e refl
+last_bytes (suc pad) count n = let e : suc pad + count ≡ suc (pad + count) = omega arith in rw e (last_bytes pad count n)
+
+quotient_zero : (n d : ℕ) → n < d → n / d ≡ 0
+quotient_zero n d h = grind arith
+
+byte_zero : (k n : ℕ) → n < 256 ^ k → byte_at k n ≡ 0
+byte_zero zero n h = omega arith
+byte_zero (suc k) n h = rw (quotient_zero n (256 ^ suc k) h) refl
+
+zeros_before : (pad count n : ℕ) → n < 256 ^ count → replicate pad 0 ++ bytes_high_first count n ≡ bytes_high_first (pad + count) n
+zeros_before zero count n h = let e : 0 + count ≡ count = omega arith in rw e refl
+zeros_before (suc pad) count n h =
+    let e : suc pad + count ≡ suc (pad + count) = omega arith in
+    let most = pow-le-pow_right {n = 256} (omega arith) {i = count} {j = pad + count} (omega arith) in
+    let none : byte_at (pad + count) n ≡ 0 = byte_zero (pad + count) n (omega (arith, h, most)) in
+    rw (e, none) (ap (λ xs. 0 ∷ xs) (zeros_before pad count n h))
+
+length_high : (count n : ℕ) → length (bytes_high_first count n) ≡ count
+length_high zero n = refl
+length_high (suc count) n = ap suc (length_high count n)
+
+bytes_high : (count n : ℕ) → IsBytes (bytes_high_first count n)
+bytes_high zero n i = omega arith
+bytes_high (suc zero) n zero = omega arith
+bytes_high (suc (suc count)) n zero = omega arith
+bytes_high (suc count) n (suc i) = bytes_high count n i
+
+tail_of : (count n : ℕ) → count ≤ 8 → drop (8 - count) (to_be_bytes w64 n) ≡ bytes_high_first count n
+tail_of count n h =
+    let e : (8 - count) + count ≡ 8 = omega arith in
+    ap (λ k. drop (8 - count) (bytes_high_first k n)) (sym e) ∙ last_bytes (8 - count) count n
+
+ending : (count n : ℕ) → count ≤ 8 → n < 256 ^ count → number_ending (bytes_high_first count n) ≡ n
+ending count n h small =
+    let e : (8 - count) + count ≡ 8 = omega arith in
+    let most = pow-le-pow_right {n = 256} (omega arith) {i = count} {j = 8} h in
+    let all : replicate (8 - length (bytes_high_first count n)) 0 ++ bytes_high_first count n ≡ to_be_bytes w64 n =
+    ap (λ k. replicate (8 - k) 0 ++ bytes_high_first count n) (length_high count n)
+    ∙ zeros_before (8 - count) count n small ∙ ap (λ k. bytes_high_first k n) e in
+    ap (from_be_bytes w64) all ∙ from_be_bytes-to_be_bytes_8 n (omega (arith, small, most))
+
+same_text : (w : List ℕ) → bytes_eq w w ≡ true
+same_text w = (bytes_eq-Decides w w).1 refl
+
+-- so many bytes of a number give it back
+pub hex_back : (count n : ℕ) → count ≤ 8 → n < 256 ^ count → hex_number_in count (hex_bytes count n) ≡ Ok n
+hex_back count n h small =
+    let bs = bytes_high_first count n in
+    let word : hex_bytes count n ≡ encode_upper bs = ap encode_upper (tail_of count n h) in
+    let len : length (encode_upper bs) ≡ 2 * count = omega (arith, length-encode_with upper_digits bs, length_high count n) in
+    let decoded : decode_sized (hex_bytes count n) count ≡ Ok bs =
+    ap (λ w. decode_sized w count) word ∙ decode_sized-twice (encode_upper bs) count len ∙ decode_of-encode_upper bs (bytes_high count n) in
+    rw (decoded, ending count n h small, same_text (hex_bytes count n)) refl
+
+-- a number in decimal, up to a greatest one
+number_back : (most n : ℕ) → n ≤ most → n < 2 ^ 64 → number_up_to most (decimal n) ≡ Ok n
+number_back most n h small = rw (number_found (decimal n) n small refl, le-leb n most h) refl
+
+is_uid_back : (u : ℕ) → IsUid u → is_uid u ≡ true
+is_uid_back u h = rw (le-leb (0xE0 * 2 ^ UID_BITS) u h.0, lt-ltb u (0xE1 * 2 ^ UID_BITS) h.1) refl
+
+value_cases : (len value : ℕ) → len ≤ 64 → value < 2 ^ len → value_in len (value_text (record { len = len; value = value })) ≡ Ok value
+value_cases zero value h small = let none : value ≡ 0 = omega (arith, small) in rw none refl
+value_cases (suc len) value h small =
+    let some : (suc len == 0) ≡ false = ne_eqb (suc len) 0 (λ e. omega (arith, e)) in
+    rw some (hex_back (byte_count (suc len)) value (omega (arith, h)) (holds_bits (suc len) value small))
+
+-- the words of a mask
+value_back : (m : BitMask) → IsMask m → value_in m.len (value_text m) ≡ Ok m.value
+value_back m h = value_cases m.len m.value h.0 h.1
+
+mask_back : (m : BitMask) → IsMask m → mask_in m.len (value_text m) ≡ Ok m
+mask_back m h =
+    let fits = lt-ltb m.value (2 ^ m.len) h.1 in
+    rw (value_back m h, fits) refl
+
+link_back : (link : ℕ) → link ≤ 3 → number_up_to 3 (decimal link) ≡ Ok link
+link_back link h = number_back 3 link h (omega (arith, h))
+
+sixteen_back : (sixteen : Bool) → sixteen_in (decimal (if sixteen then 16 else 1)) ≡ Ok sixteen
+unfolding digits
+sixteen_back true = refl
+sixteen_back false = refl
+
+most_back : (link : ℕ) (sixteen : Bool) (m : BitMask) → IsMask m → IsValid (Inventory link sixteen m) → (link ≤ 3) × (m.len ≤ longest_mask sixteen)
+most_back link true m h v = v
+most_back link false m h v = (v, h.0)
+
+pub request_back : (q : Request) → IsInRange q → IsValid q → words_reading (request_words q) ≡ Ok (Asked q)
+request_back (Inventory link sixteen m) range valid =
+    let most = most_back link sixteen m range valid in
+    let len = number_back (longest_mask sixteen) m.len most.1 (omega (arith, range.0)) in
+    rw (link_back link most.0, sixteen_back sixteen, len, mask_back m range) refl
+request_back (StayQuiet link uid) range valid =
+    rw (link_back link valid, hex_back 8 uid (omega arith) (omega (arith, range))) refl
+
+pub reply_back : (r : Reply) → IsReply r → words_reading (reply_words r) ≡ Ok (Replied r)
+reply_back r h =
+    let even = eq-eqb (r.flags % 2) 0 h.even in
+    rw (hex_back 1 r.flags (omega arith) (omega (arith, h.flags)), hex_back 1 r.dsfid (omega arith) (omega (arith, h.dsfid)), hex_back 8 r.uid (omega arith) (omega (arith, h.uid)), even, is_uid_back r.uid h.uid) refl

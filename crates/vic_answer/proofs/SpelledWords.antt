@@ -1,0 +1,70 @@
+-- Which number a word writes.
+use Rattle.std.proofs.Common.{◌≡◌, ◌^◌, ◌<◌, ◌&&◌, ℕ, Bool, true, false, List, [], ◌∷◌, length, slice_index, Result, Ok, Err, bytes_eq, nat_lt, decimal, arith, ap, refl, sym, ◌∙◌, lt-ltb, ltb-true}
+use Rattle.std.specs.Prelude.{if◌then◌else◌}
+use Rattle.std.specs.Str.Parse.{ParsesUnsigned, digits_value}
+use Rattle.std.proofs.lemmas.Fmt.{decimal_is_IsNumeral, parse-decimal}
+use Rattle.std.proofs.lemmas.Slice.Eq.{bytes_eq-Decides}
+use Rattle.vic_answer.specs.declared.spell.SpellFault.{SpellFault}
+use Rattle.vic_answer.specs.declared.spell.SpellFault.TheVariants.{Words}
+use Rattle.hex.specs.Hex.{decode_sized}
+use Rattle.hex.specs.declared.error.FromHexError.{FromHexError}
+use Rattle.hex.proofs.HexLemmas.{decode_sized-ok, decode_sized-twice, decode_of-ok}
+use Rattle.vic_answer.specs.Digits.{hex_bytes}
+use Rattle.vic_answer.specs.SpellText.{number_in, hex_number_in, hex_decoded, number_ending}
+
+both : (b c : Bool) → b ≡ true → c ≡ true → (b && c) ≡ true
+both b c e f = rw (e, f) refl
+
+-- the number that a word was written from
+pub number_found : (w : List ℕ) (n : ℕ) → n < 2 ^ 64 → w ≡ decimal n → number_in w ≡ Ok n
+number_found w n small e =
+    let value : digits_value 10 w ≡ n = ap (digits_value 10) e ∙ (decimal_is_IsNumeral n small).1 in
+    let fits : nat_lt n (2 ^ 64) ≡ true = lt-ltb n (2 ^ 64) small in
+    let same : bytes_eq (decimal n) w ≡ true = (bytes_eq-Decides (decimal n) w).1 (sym e) in
+    rw (value, fits, same) refl
+
+by_test : (b : Bool) (n : ℕ) → (b ≡ true → ⊥) → (let r : Result ℕ SpellFault = if b then Ok n else Err Words in r) ≡ Err Words
+by_test true n unmet = absurd (unmet refl)
+by_test false n unmet = refl
+
+left : (b c : Bool) → (b && c) ≡ true → b ≡ true
+left true c h = refl
+left false c h = h
+
+right : (b c : Bool) → (b && c) ≡ true → c ≡ true
+right true c h = h
+right false c h = absurd (cc h)
+
+-- a word that no number was written as
+pub number_missing : (w : List ℕ) → ((n : ℕ) → n < 2 ^ 64 → w ≡ decimal n → ⊥) → number_in w ≡ Err Words
+number_missing w none =
+    let n = digits_value 10 w in
+    by_test (nat_lt n (2 ^ 64) && bytes_eq (decimal n) w) n (λ t.
+    none n (ltb-true n (2 ^ 64) (left (nat_lt n (2 ^ 64)) (bytes_eq (decimal n) w) t))
+    (sym ((bytes_eq-Decides (decimal n) w).0 (right (nat_lt n (2 ^ 64)) (bytes_eq (decimal n) w) t))))
+
+-- the fault where parsing gives none, or another one
+pub number_refused : {E : Type 0} (w : List ℕ) (r : Result ℕ E) → ParsesUnsigned 64 10 w r → ((n : ℕ) → r ≡ Ok n → decimal n ≡ w → ⊥) → number_in w ≡ Err Words
+number_refused w r parsed none = number_missing w (λ n small e. none n (parse-decimal 64 n w r small small e parsed) (sym e))
+
+-- what a word writes as one byte is one
+hex_taken : (b : Bool) (m n : ℕ) → (let r : Result ℕ SpellFault = if b then Ok m else Err Words in r) ≡ Ok n → m ≡ n
+hex_taken true m n h = cc h
+hex_taken false m n h = cc h
+
+one_byte : (bytes : List ℕ) → length bytes ≡ 1 → slice_index bytes 0 < 256 → number_ending bytes < 256
+one_byte [] len small = omega (arith, len)
+one_byte (b ∷ []) len small = omega (arith, small)
+one_byte (b ∷ c ∷ bytes) len small = omega (arith, len)
+
+by_decoded : (w : List ℕ) (n : ℕ) (r : Result (List ℕ) FromHexError) → decode_sized w 1 ≡ r → hex_decoded 1 w r ≡ Ok n → n < 256
+by_decoded w n (Ok bytes) e h =
+    let len = decode_sized-ok w 1 bytes e in
+    let ok = decode_of-ok w bytes (sym (decode_sized-twice w 1 len) ∙ e) in
+    let small = one_byte bytes (omega (arith, len, ok.2)) (ok.3 0) in
+    let is = hex_taken (bytes_eq (hex_bytes 1 (number_ending bytes)) w) (number_ending bytes) n h in
+    omega (arith, small, is)
+by_decoded w n (Err f) e h = cc h
+
+pub byte_below : (w : List ℕ) (n : ℕ) → hex_number_in 1 w ≡ Ok n → n < 256
+byte_below w n h = by_decoded w n (decode_sized w 1) refl h

@@ -1,0 +1,42 @@
+//! Laws on what is answered.
+
+ghost use Rattle.std.specs.Prelude.{◌≡◌, ℕ, ◌++◌, List, Ok, codes};
+ghost use Rattle.hex.specs.Hex.{encode_upper};
+ghost use Rattle.vic_frame.specs.declared.request.Request.{Request};
+ghost use Rattle.vic_frame.specs.Bytes.{AreBytes};
+ghost use Rattle.vic_frame.specs.Reading.{request_reading, reply_reading};
+ghost use Rattle.vic_frame.specs.Replies.{Reply};
+ghost use Rattle.vic_answer.specs.declared.spell.Said.{Said};
+ghost use Rattle.vic_answer.specs.FrameText.{request_line, response_line};
+ghost use Rattle.vic_answer.specs.SpellText.{line_of, words_of, words_reading, spell_text};
+ghost use Rattle.vic_answer.specs.SpellText.{request_words, reply_words};
+ghost use Rattle.vic_answer.specs.SimulateText.{IsSimulationOf};
+ghost use Rattle.vic_answer.specs.declared.status.Status.TheVariants.{Whole};
+ghost use Rattle.vic_log.specs.Lines.{lines_of_text};
+ghost use Rattle.vic_log.specs.Log.{LogValue};
+ghost use Rattle.vic_log.specs.Text.{IsLogOf};
+
+use vic_log::laws::text_reads_back;
+
+/// `spell` and `frame` are inverse: what `frame` reads in some bytes goes, by the words of its
+/// line, back to these bytes; and words that `spell` takes are the words of `frame`'s line for what
+/// it spells.
+pub fn spell_undoes_frame()
+    ensures request { (f : List ℕ) (q : Request) → AreBytes f → request_reading f ≡ Ok q
+        → spell_text (request_words q) ≡ encode_upper f ++ codes "\n" }
+    ensures reply { (f : List ℕ) (r : Reply) → AreBytes f → reply_reading f ≡ Ok r
+        → spell_text (reply_words r) ≡ encode_upper f ++ codes "\n" }
+    ensures request_line { (q : Request) → request_line (Ok q) ≡ line_of (request_words q) }
+    ensures reply_line { (r : Reply) → response_line (Ok r) ≡ line_of (reply_words r) }
+    ensures only { (words : List (List ℕ)) (what : Said)
+        → words_reading words ≡ Ok what → words ≡ words_of what }
+{}
+
+/// What `simulate` writes with status `Whole` is the text of a log. So the header alone is never
+/// answered by a slot line.
+pub fn simulation_is_a_log()
+    ensures { (text answer : List ℕ) → IsSimulationOf text answer Whole
+        → (log : LogValue) × IsLogOf (lines_of_text answer) log }
+{
+    text_reads_back();
+}

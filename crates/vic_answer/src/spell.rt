@@ -1,0 +1,308 @@
+//! The command `spell`: a frame by the words that `frame` says it with.
+
+ghost use Rattle.std.specs.Prelude.{◌≡◌, ◌<◌, ◌≤◌, ◌++◌, map, length, string_bytes, IfOk, IsTrue};
+ghost use Rattle.arrayvec.specs.ArrayVec.{array_vec_len};
+ghost use Rattle.hex.specs.Hex.{encode_upper};
+ghost use Rattle.vic_frame.specs.Requests.{IsValid};
+ghost use Rattle.vic_answer.specs.SpellText as spec;
+ghost use Rattle.vic_answer.specs.Runs.{Writes};
+
+use crate::output::write_and_flush;
+use crate::status::{RunFault, Status};
+use crate::text::{Text, put, put_bytes};
+use arrayvec::ArrayVec;
+use itoa::Buffer;
+use vic_frame::{
+    MAX_MASK_LEN, MAX_MASK_LEN_OF_SIXTEEN, Mask, Request, Response, Uid, write_request,
+    write_response,
+};
+use vic_log::{Sink, push_hex};
+
+/// The greatest link.
+const MAX_LINK: u64 = 3;
+
+/// Why words spell no frame.
+#[derive(Clone, Copy, Debug, Drop, PartialEq, Eq)]
+pub enum SpellFault {
+    /// They are no line of `frame`.
+    Words,
+    /// The link is above 3, or the mask is longer than its request allows, or its value is longer
+    /// than the mask.
+    Range,
+}
+
+impl SpellFault {
+    /// Its name.
+    fn name(&self) -> &'static str
+        ensures name { result.now ≡ spec.spell_fault_name self.now }
+        ensures short { length result.now ≤ 5 }
+    {
+        match self {
+            SpellFault::Words => "Words",
+            SpellFault::Range => "Range",
+        }
+    }
+}
+
+/// What words say.
+#[derive(Clone, Copy, Debug, PartialEq, Eq)]
+enum Said {
+    Asked(Request),
+    Replied(Response),
+}
+
+/// Writes the frame that `frame` says by these words, in hex digits, or why there is none, and
+/// flushes. `Write` where the sink has failed: a prefix may be out. It takes no memory.
+pub fn run_spell<W: Sink>(words: &[String], sink: &mut W) -> Result<Status, RunFault>
+    ensures status { IfOk result (λ s. s ≡ spec.spell_status (map string_bytes words.now)) }
+    ensures written { Writes W.written W.taken W.is_flushed W.has_failed
+        sink.old sink.new (spec.spell_text (map string_bytes words.now)) result }
+{
+    let (text, status) = answer(words);
+    write_and_flush(sink, text.as_slice())?;
+    Ok(status)
+}
+
+/// What is answered to words.
+fn answer(words: &[String]) -> (Text, Status)
+    ensures text { result.0.items ≡ spec.spell_text (map string_bytes words.now) }
+    ensures status { result.1 ≡ spec.spell_status (map string_bytes words.now) }
+{
+    let mut text = ArrayVec::new();
+    let status = match words_reading(words) {
+        Ok(what) => {
+            put_frame(&mut text, &what);
+            Status::Whole
+        }
+        Err(fault) => {
+            put(&mut text, "refused ");
+            put(&mut text, fault.name());
+            Status::Refused
+        }
+    };
+    put(&mut text, "\n");
+    (text, status)
+}
+
+/// Puts a frame at the end of a text.
+fn put_frame(text: &mut Text, what: &Said)
+    requires valid { spec.IsSendable what.now }
+    requires room { array_vec_len text.old ≡ 0 }
+    ensures items { text.new.items ≡ text.old.items ++ encode_upper (spec.frame_of what.now) }
+    ensures len { array_vec_len text.new ≤ 26 }
+{
+    match what {
+        Said::Asked(request) => push_hex(text, write_request(request).as_slice()),
+        Said::Replied(reply) => push_hex(text, &write_response(reply)),
+    }
+}
+
+/// What words say, or why they say nothing.
+fn words_reading(words: &[String]) -> Result<Said, SpellFault>
+    ensures said { result ≡ spec.words_reading (map string_bytes words.now) }
+    ensures valid { IfOk result spec.IsSendable }
+{
+    if says_inventory(words) {
+        let request = inventory(
+            word(words, 3),
+            word(words, 5),
+            word(words, 7),
+            word(words, 8),
+        )?;
+        Ok(Said::Asked(request))
+    } else if says_stay_quiet(words) {
+        let request = stay_quiet(word(words, 3), word(words, 5))?;
+        Ok(Said::Asked(request))
+    } else if says_reply(words) {
+        let reply = reply(word(words, 2), word(words, 4), word(words, 6))?;
+        Ok(Said::Replied(reply))
+    } else {
+        Err(SpellFault::Words)
+    }
+}
+
+/// The word at a place.
+fn word(words: &[String], place: usize) -> &str
+    requires { place < length words.now }
+    ensures { result.now ≡ spec.word (map string_bytes words.now) place }
+{
+    words[place].as_str()
+}
+
+/// Whether words say an Inventory request.
+fn says_inventory(words: &[String]) -> bool
+    ensures says { result ≡ spec.says_inventory (map string_bytes words.now) }
+    ensures len { IsTrue result → length words.now ≡ 9 }
+{
+    words.len() == 9
+        && word(words, 0) == "request"
+        && word(words, 1) == "inventory"
+        && word(words, 2) == "link"
+        && word(words, 4) == "slots"
+        && word(words, 6) == "mask"
+}
+
+/// Whether words say a Stay Quiet request.
+fn says_stay_quiet(words: &[String]) -> bool
+    ensures says { result ≡ spec.says_stay_quiet (map string_bytes words.now) }
+    ensures len { IsTrue result → length words.now ≡ 6 }
+{
+    words.len() == 6
+        && word(words, 0) == "request"
+        && word(words, 1) == "stay-quiet"
+        && word(words, 2) == "link"
+        && word(words, 4) == "uid"
+}
+
+/// Whether words say a reply.
+fn says_reply(words: &[String]) -> bool
+    ensures says { result ≡ spec.says_reply (map string_bytes words.now) }
+    ensures len { IsTrue result → length words.now ≡ 7 }
+{
+    words.len() == 7
+        && word(words, 0) == "response"
+        && word(words, 1) == "flags"
+        && word(words, 3) == "dsfid"
+        && word(words, 5) == "uid"
+}
+
+/// An Inventory request by its words.
+fn inventory(link: &str, slots: &str, len: &str, value: &str) -> Result<Request, SpellFault>
+    ensures said { result ≡ spec.inventory_in link.now slots.now len.now value.now }
+    ensures valid { IfOk result IsValid }
+{
+    let link = number_up_to(MAX_LINK, link)? as u8;
+    let sixteen = sixteen_in(slots)?;
+    let longest = if sixteen {
+        MAX_MASK_LEN_OF_SIXTEEN
+    } else {
+        MAX_MASK_LEN
+    };
+    let len = number_up_to(u64::from(longest), len)? as u8;
+    let mask = mask_in(len, value)?;
+    Ok(Request::Inventory {
+        link,
+        sixteen,
+        mask,
+    })
+}
+
+/// A Stay Quiet request by its words.
+fn stay_quiet(link: &str, uid: &str) -> Result<Request, SpellFault>
+    ensures said { result ≡ spec.stay_quiet_in link.now uid.now }
+    ensures valid { IfOk result IsValid }
+{
+    let link = number_up_to(MAX_LINK, link)? as u8;
+    let uid = hex_number_in(8, uid)?;
+    Ok(Request::StayQuiet { link, uid })
+}
+
+/// A reply by its words.
+fn reply(flags: &str, dsfid: &str, uid: &str) -> Result<Response, SpellFault>
+    ensures { result ≡ spec.reply_in flags.now dsfid.now uid.now }
+{
+    let flags = byte_in(flags)?;
+    let dsfid = byte_in(dsfid)?;
+    let number = hex_number_in(8, uid)?;
+    let Some(uid) = Uid::new(number) else {
+        return Err(SpellFault::Words);
+    };
+    match Response::new(flags, dsfid, uid) {
+        Some(reply) => Ok(reply),
+        None => Err(SpellFault::Words),
+    }
+}
+
+/// One slot or sixteen.
+fn sixteen_in(word: &str) -> Result<bool, SpellFault>
+    ensures { result ≡ spec.sixteen_in word.now }
+{
+    if word == "1" {
+        Ok(false)
+    } else if word == "16" {
+        Ok(true)
+    } else {
+        Err(SpellFault::Words)
+    }
+}
+
+/// A mask of so many bits, by the word of its value.
+fn mask_in(len: u8, word: &str) -> Result<Mask, SpellFault>
+    requires { len ≤ MAX_MASK_LEN }
+    ensures { result ≡ spec.mask_in len word.now }
+{
+    let value = value_in(len, word)?;
+    match Mask::new(len, value) {
+        Some(mask) => Ok(mask),
+        None => Err(SpellFault::Range),
+    }
+}
+
+/// The value of a mask of so many bits, `-` where it has none.
+fn value_in(len: u8, word: &str) -> Result<u64, SpellFault>
+    requires { len ≤ MAX_MASK_LEN }
+    ensures { result ≡ spec.value_in len word.now }
+{
+    if len > 0 {
+        hex_number_in(usize::from((len + 7) / 8), word)
+    } else if word == "-" {
+        Ok(0)
+    } else {
+        Err(SpellFault::Words)
+    }
+}
+
+/// The number that a word writes in decimal, up to a greatest one.
+fn number_up_to(most: u64, word: &str) -> Result<u64, SpellFault>
+    ensures said { result ≡ spec.number_up_to most word.now }
+    ensures most { IfOk result (λ n. n ≤ most) }
+{
+    let number = number_in(word)?;
+    if number <= most {
+        Ok(number)
+    } else {
+        Err(SpellFault::Range)
+    }
+}
+
+/// The number that a word writes in decimal, without a sign or a 0 before it.
+fn number_in(word: &str) -> Result<u64, SpellFault>
+    ensures { result ≡ spec.number_in word.now }
+{
+    let Ok(number) = word.parse::<u64>() else {
+        return Err(SpellFault::Words);
+    };
+    let mut buffer = Buffer::new();
+    if buffer.format(number) == word {
+        Ok(number)
+    } else {
+        Err(SpellFault::Words)
+    }
+}
+
+/// The byte that a word writes in hex digits, in upper case.
+fn byte_in(word: &str) -> Result<u8, SpellFault>
+    ensures { result ≡ spec.hex_number_in 1 word.now }
+{
+    let number = hex_number_in(1, word)?;
+    Ok(number as u8)
+}
+
+/// The number that a word writes as so many bytes in hex digits, in upper case.
+fn hex_number_in(count: usize, word: &str) -> Result<u64, SpellFault>
+    requires { count ≤ 8 }
+    ensures { result ≡ spec.hex_number_in count word.now }
+{
+    let mut bytes = [0; 8];
+    if hex::decode_to_slice(word, &mut bytes[8 - count..]).is_err() {
+        return Err(SpellFault::Words);
+    }
+    let number = u64::from_be_bytes(bytes);
+    let mut text = ArrayVec::new();
+    put_bytes(&mut text, count, number);
+    if text.as_slice() == word.as_bytes() {
+        Ok(number)
+    } else {
+        Err(SpellFault::Words)
+    }
+}

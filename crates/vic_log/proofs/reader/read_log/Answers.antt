@@ -1,0 +1,18 @@
+use Rattle.std.proofs.Common.{[], List, ℕ}
+use Rattle.std.proofs.lemmas.Result.{err_from_is_err_and}
+use Rattle.vic_log.specs.declared.fault.LogFault.{LogFault}
+use Rattle.vic_log.specs.declared.fault.LogFault.TheVariants.{Line, Read, Memory, Spent}
+use Rattle.vic_log.specs.Early.{IsEarly}
+use Rattle.vic_log.specs.Text.{Refuses}
+use Rattle.vic_log.proofs.reader.read_log.Goals as goal
+
+early_refuses : (e : LogFault) (text : List ℕ) → IsEarly e text → Refuses text e
+early_refuses (Line n f) text h = h.fault
+early_refuses Memory text h = h
+early_refuses Read text h = h
+early_refuses Spent text h = h
+
+pub returns-in_err-feed : goal.returns-in_err-feed
+returns-in_err-feed c =
+    let p = err_from_is_err_and c.from_residual.result c.from_residual.ensures.1 in
+    rw (p.1, p.2) (early_refuses c.in_err-feed.field-0.0 c.args.text.now (c.in_err-feed.ensures.early [] c.new-fed.ensures))

@@ -1,0 +1,31 @@
+//! What went through a device, kept in the proof alone.
+
+ghost use Rattle.std.specs.Prelude.{◌≡◌, ℕ, List, [], ◌++◌};
+ghost use Rattle.std.specs.Borrow.{ftrue};
+
+use std::marker::Model;
+
+/// Bytes in the order in which they were noted. It takes no memory, and its calls do nothing when
+/// the program runs.
+#[derive(Drop)]
+pub(crate) struct History {
+    pub(crate) ghost bytes: { List ℕ },
+}
+
+impl Model for History {
+    ghost also_owns = { λ _. ftrue };
+}
+
+impl History {
+    /// Before anything.
+    pub(crate) fn new() -> History
+        ensures { result.bytes ≡ [] }
+    {
+        History {}
+    }
+
+    /// Notes bytes behind those before.
+    pub(crate) fn note(&mut self, _bytes: &[u8])
+        ensures { self.new.bytes ≡ self.old.bytes ++ _bytes.now }
+    {}
+}

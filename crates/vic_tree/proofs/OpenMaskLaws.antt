@@ -1,0 +1,96 @@
+-- The open masks of a set are apart, and hold all of it.
+use Rattle.std.proofs.Common.{◌≡◌, ℕ, zero, suc, ◌+◌, ◌-◌, ◌*◌, ◌^◌, ◌%◌, ◌<◌, ◌≤◌, ◌||◌, ◌⊎◌, inl, inr, Bool, true, false, not, refl, sym, ap, subst, ◌∙◌, arith}
+use Rattle.std.proofs.lemmas.Bool.{cases_lt, eq-eqb, eqb-true}
+use Rattle.std.proofs.lemmas.Nat.{pow_pos}
+use Rattle.vic_frame.specs.Uids.{IsUid}
+use Rattle.vic_frame.specs.Masks.{BitMask, lies_in}
+use Rattle.vic_frame.proofs.MaskLaws.{mod_mod_pow}
+use Rattle.vic_tree.specs.OpenMasks.{IsOpenMask, parent}
+use Rattle.vic_tree.specs.OpenSet.{AllOpen}
+use Rattle.vic_tree.proofs.FirstMasks.{same_mask}
+
+inside : (m : BitMask) (u : ℕ) → lies_in m u ≡ true → u % 2 ^ m.len ≡ m.value
+inside m u h = eqb-true (u % 2 ^ m.len) m.value h
+
+-- a mask that holds the parent of another one leaves it no greatest one
+under_parent : (set : ℕ → Bool) (m n : BitMask) (u : ℕ) → IsOpenMask set m → IsOpenMask set n → lies_in m u ≡ true → lies_in n u ≡ true → m.len < n.len → ⊥
+under_parent set m n u g h i j lt = elim h.greatest [
+  | inl z ↦ omega arith
+  | inr out ↦ out (λ v is_uid there.
+      let l : ℕ = n.len - 1 in
+      let le : m.len ≤ l = omega arith in
+      let less : l ≤ n.len = omega arith in
+      let same : v % 2 ^ l ≡ u % 2 ^ l = inside (parent n) v there ∙ ap (λ x. x % 2 ^ l) (sym (inside n u j)) ∙ mod_mod_pow u l n.len less in
+      g.open_throughout v is_uid (eq-eqb (v % 2 ^ m.len) m.value (sym (mod_mod_pow v m.len l le) ∙ ap (λ x. x % 2 ^ m.len) same ∙ mod_mod_pow u m.len l le ∙ inside m u i)))
+]
+
+pub apart : (set : ℕ → Bool) (m n : BitMask) (u : ℕ) → IsOpenMask set m → IsOpenMask set n → lies_in m u ≡ true → lies_in n u ≡ true → m ≡ n
+apart set m n u g h i j = elim (cases_lt m.len n.len) [
+  | inl lt ↦ absurd (under_parent set m n u g h i j lt)
+  | inr le ↦ elim (cases_lt n.len m.len) [
+    | inl lt ↦ absurd (under_parent set n m u h g j i lt)
+    | inr ge ↦
+        let len : m.len ≡ n.len = omega arith in
+        same_mask m n len (sym (inside m u i) ∙ ap (λ (l : ℕ). u % 2 ^ l) len ∙ inside n u j)
+  ]
+]
+
+-- all numbers below a bound pass a test, or one fails
+all_or_one : (q : ℕ → Bool) (n : ℕ) → ((k : ℕ) → k < n → q k ≡ true) ⊎ ((k : ℕ) × (k < n) × (q k ≡ false))
+all_or_one q zero = inl (λ k lt. absurd (omega arith))
+all_or_one q (suc n) = go (q n) refl (all_or_one q n) where
+  go : (b : Bool) → q n ≡ b → ((k : ℕ) → k < n → q k ≡ true) ⊎ ((k : ℕ) × (k < n) × (q k ≡ false)) → ((k : ℕ) → k < suc n → q k ≡ true) ⊎ ((k : ℕ) × (k < suc n) × (q k ≡ false))
+  go b e (inr f) = inr (f.0, omega (arith, f.1), f.2)
+  go false e (inl all) = inr (n, omega arith, e)
+  go true e (inl all) = inl (λ k lt. elim (cases_lt k n) [
+    | inl below ↦ all k below
+    | inr at ↦ let same : n ≡ k = omega arith in ap q (sym same) ∙ e
+  ])
+
+passes : (x s : Bool) → (not x || s) ≡ true → x ≡ true → s ≡ true
+passes true s h e = h
+passes false s h e = absurd (cc)
+
+fails : (x s : Bool) → (not x || s) ≡ false → (x ≡ true) × (s ≡ false)
+fails true s h = (refl, h)
+fails false s h = absurd (cc)
+
+-- a mask lies in the set as a whole, or doesn't
+all_open_or_not : (set : ℕ → Bool) (m : BitMask) (n : ℕ) → n ≡ 2 ^ 56 → AllOpen set m ⊎ ¬ (AllOpen set m)
+all_open_or_not set m n size = elim (all_or_one (λ k. not (lies_in m (0xE0 * 2 ^ 56 + k)) || set (0xE0 * 2 ^ 56 + k)) n) [
+  | inl all ↦ inl (λ u is_uid i.
+      let back : 0xE0 * 2 ^ 56 + (u - 0xE0 * 2 ^ 56) ≡ u = omega (arith, is_uid.0) in
+      let t = all (u - 0xE0 * 2 ^ 56) (omega (arith, is_uid.0, is_uid.1)) in
+      ap set (sym back) ∙ passes (lies_in m (0xE0 * 2 ^ 56 + (u - 0xE0 * 2 ^ 56))) (set (0xE0 * 2 ^ 56 + (u - 0xE0 * 2 ^ 56))) t (ap (lies_in m) back ∙ i))
+  | inr f ↦ inr (λ all.
+      let w = fails (lies_in m (0xE0 * 2 ^ 56 + f.0)) (set (0xE0 * 2 ^ 56 + f.0)) f.2 in
+      let t = all (0xE0 * 2 ^ 56 + f.0) (omega arith, omega (arith, f.1)) w.0 in
+      let s = w.1 in
+      cc (t, s))
+]
+
+-- the mask of a UID's low bits
+abbrev low : ℕ → ℕ → BitMask
+low l u = record { len = l; value = u % 2 ^ l }
+
+open_above : (set : ℕ → Bool) (u l : ℕ) → l ≤ 56 → AllOpen set (low l u) → (m : BitMask) × IsOpenMask set m × (lies_in m u ≡ true)
+open_above set u zero h all = (low 0 u, record { is_mask = (omega arith, omega arith); short = omega arith; open_throughout = all; greatest = inl refl }, eq-eqb (u % 2 ^ 0) (u % 2 ^ 0) refl)
+open_above set u (suc l) h all =
+    let back : suc l - 1 ≡ l = omega arith in
+    let less : suc l - 1 ≤ suc l = omega arith in
+    let up : parent (low (suc l) u) ≡ low l u = same_mask (parent (low (suc l) u)) (low l u) back (mod_mod_pow u (suc l - 1) (suc l) less ∙ ap (λ (x : ℕ). u % 2 ^ x) back) in
+    let pos = pow_pos (suc l) in
+    elim (all_open_or_not set (low l u) (2 ^ 56) refl) [
+      | inl more ↦ open_above set u l (omega arith) more
+      | inr out ↦ (
+        low (suc l) u,
+        record { is_mask = (omega arith, omega arith); short = h; open_throughout = all; greatest = inr (λ a. out (subst (AllOpen set) up a)) },
+        eq-eqb (u % 2 ^ suc l) (u % 2 ^ suc l) refl,
+      )
+    ]
+
+pub held : (set : ℕ → Bool) (u : ℕ) → IsUid u → set u ≡ true → (m : BitMask) × IsOpenMask set m × (lies_in m u ≡ true)
+held set u is_uid h = open_above set u 56 (omega arith) (λ v is there.
+    let low_bits : v % 2 ^ 56 ≡ u % 2 ^ 56 = inside (low 56 u) v there in
+    let same : v ≡ u = omega (arith, low_bits, is.0, is.1, is_uid.0, is_uid.1) in
+    ap set same ∙ h)

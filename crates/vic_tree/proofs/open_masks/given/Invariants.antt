@@ -1,0 +1,8 @@
+use Rattle.std.proofs.Common.{◌≡◌, ◌≤◌, length, take}
+use Rattle.vic_tree.proofs.open_masks.given.Given as goal
+
+abbrev pub invariant-loop-mask : goal.invariant-loop-mask
+invariant-loop-mask l = record {
+  items : l.masks.items ≡ take l.mask-index l.mask-items;
+  short : length l.mask-items ≤ 16;
+}

@@ -1,0 +1,45 @@
+use Rattle.std.proofs.Common.{◌-◌, ◌^◌, ◌≤◌, ap, arith, Some}
+use Rattle.std.proofs.Math.Pow.{pow_mono}
+use Rattle.vic_tree.proofs.BlockLaws.{FirstBlock, first_block, block_small}
+use Rattle.vic_tree.proofs.OpenBlocks.{block_fits, mask_at, start_is_greatest, start_is_only}
+use Rattle.vic_tree.proofs.open_masks.greatest_at_start.Goals as goal
+use Rattle.vic_tree.proofs.open_masks.greatest_at_start.Goals.{then-number-eq0-via-then-number-eq0, then-number-eq0-via-else-number-eq0+then-to-number}
+
+pub overflow_mul-number : goal.overflow_mul-number
+overflow_mul-number c =
+    let s = c.size_of_block-size.result in
+    let f : FirstBlock c.args.from s c.div_ceil-number.result = first_block c.args.from s c.div_ceil-number.result c.size_of_block-size.ensures.some c.div_ceil-number.ensures in
+    let most : 2 ^ (56 - c.args.len) ≤ 2 ^ 56 = pow_mono {j = 56} (omega arith) in
+    omega (arith, f.near, most, c.size_of_block-size.ensures.value)
+
+pub returns-then-number-eq0-clause-only : goal.returns-then-number-eq0-clause-only
+returns-then-number-eq0-clause-only c m g =
+    let s = c.size_of_block-size.result in
+    let q = c.div_ceil-number.result in
+    let f : FirstBlock c.args.from s q = first_block c.args.from s q c.size_of_block-size.ensures.some c.div_ceil-number.ensures in
+    let is = start_is_only c.args.from c.args.to c.args.len q s m c.size_of_block-size.ensures.value f.from f.near g in
+    elim c.then-number-eq0.branch [
+      | then-number-eq0-via-then-number-eq0 w ↦ absurd (omega (arith, is, g.side, w.if-number-eq0.true))
+      | then-number-eq0-via-else-number-eq0+then-to-number w ↦ absurd (let fits = block_fits c.args.from c.args.to c.args.len q 1 s m c.size_of_block-size.ensures.value is g in omega (arith, fits.1, w.if-to-number.true))
+    ]
+
+pub mask_of_block-requires-clause-small : goal.mask_of_block-requires-clause-small
+mask_of_block-requires-clause-small c = block_small c.args.len c.div_ceil-number.result c.args.to c.requires.short c.requires.small (rw c.size_of_block-size.ensures.value at c.if-to-number.false)
+
+pub returns-clause-found : goal.returns-clause-found
+returns-clause-found c =
+    let s = c.size_of_block-size.result in
+    let q = c.div_ceil-number.result in
+    let f : FirstBlock c.args.from s q = first_block c.args.from s q c.size_of_block-size.ensures.some c.div_ceil-number.ensures in
+    start_is_greatest c.args.from c.args.to c.args.len q s c.mask_of_block.result c.requires.short c.size_of_block-size.ensures.value
+    (record { len_is = c.mask_of_block.ensures.len; is_mask = c.mask_of_block.ensures.is_mask; first_is = c.mask_of_block.ensures.first })
+    f.from f.near c.if-to-number.false (omega (arith, c.if-number-eq0.false))
+
+pub returns-clause-only : goal.returns-clause-only
+returns-clause-only c m g =
+    let s = c.size_of_block-size.result in
+    let q = c.div_ceil-number.result in
+    let f : FirstBlock c.args.from s q = first_block c.args.from s q c.size_of_block-size.ensures.some c.div_ceil-number.ensures in
+    let is = start_is_only c.args.from c.args.to c.args.len q s m c.size_of_block-size.ensures.value f.from f.near g in
+    ap Some (mask_at c.args.from c.args.to c.args.len q 1 m c.mask_of_block.result c.requires.short
+    (record { len_is = c.mask_of_block.ensures.len; is_mask = c.mask_of_block.ensures.is_mask; first_is = c.mask_of_block.ensures.first }) is g)

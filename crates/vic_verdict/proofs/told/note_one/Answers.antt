@@ -1,0 +1,17 @@
+use Rattle.std.proofs.Common.{◌≡◌, Some, length, refl, ap, ◌∙◌, sym, subst, ltb-true, arith}
+use Rattle.std.proofs.lemmas.Option.{slice_get_read}
+use Rattle.std.specs.Prelude.{slice_get}
+use Rattle.vic_frame.specs.Uids.{has}
+use Rattle.vic_verdict.specs.Findings.{ShowsCertain}
+use Rattle.vic_verdict.proofs.Telling.{told_more, found_shows}
+use Rattle.vic_verdict.proofs.told.note_one.Goals as goal
+
+pub returns-clause-told : goal.returns-clause-told
+returns-clause-told c before =
+    let lines = c.args.lines.now in
+    let one = c.args.one.now in
+    let exact : length one.uids.items ≡ one.need = omega (arith, c.len.ensures.value, c.if-len-one.false) in
+    let there : slice_get lines one.at ≡ Some c.in-Some.line.now = slice_get_read lines (length lines) one.at c.in-Some.line.now refl (ltb-true _ _ (sym c.in-Some.ensures.lookup.0)) c.in-Some.ensures.lookup.1 in
+    told_more lines c.args.told.now c.note_all.new.told c.deref.result.now c.number.result c.in_ok-note_all.ensures.only
+    (λ u h. subst (λ n. ShowsCertain lines n u) (sym c.number.ensures) (found_shows lines one c.in-Some.line.now u c.requires.possible c.requires.found there (exact, ap (λ us. has us u) (sym c.deref.ensures.0) ∙ h)))
+    before

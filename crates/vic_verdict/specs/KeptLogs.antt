@@ -1,0 +1,27 @@
+-- A log of some slot lines of another one.
+use Rattle.std.specs.Prelude.{◌≡◌, ℕ, ◌+◌, Bool, true, false, Option, Some, List, [], ◌∷◌, ◌++◌, length}
+use Rattle.vic_frame.specs.Masks.{BitMask}
+use Rattle.vic_frame.specs.declared.request.Request.TheVariants.{Inventory}
+use Rattle.vic_log.specs.declared.entry.Entry.{Entry}
+use Rattle.vic_log.specs.declared.entry.Entry.TheVariants.{Sent}
+use Rattle.vic_log.specs.Populations.{outcome_at, Fits, CouldHaveGiven}
+use Rattle.vic_log.specs.Quiet.{is_quiet}
+
+-- at the end of the one entries the same tags are Quiet as at place i of the others
+abbrev pub SameQuiet : List Entry → List Entry → ℕ → Type 0
+SameQuiet kept es i = (u : ℕ) → is_quiet kept (length kept) u ≡ is_quiet es i u
+
+-- two entries more: a request of one slot with this mask, and what its slot was found to hold
+abbrev pub HasSlotAdded : List Entry → Option BitMask → Entry → List Entry → Type 0
+HasSlotAdded old mask e new =
+    (m : BitMask) × (mask ≡ Some m)
+    × (new ≡ (old ++ Sent (Inventory 2 false m) ∷ []) ++ e ∷ [])
+
+-- the old and the new kept entries stand beside the others before and after place i, with its entry
+-- e, if it is kept
+pub record KeepsLine (es : List Entry) (i : ℕ) (is_kept : Bool) (e : Entry)
+    (old new : List Entry) : Type 0 where
+  pub quiet : SameQuiet old es i → SameQuiet new es (i + 1)
+  pub given : (p : List ℕ) → SameQuiet old es i
+      → (is_kept ≡ true → Fits e (outcome_at es i p))
+      → CouldHaveGiven p old → CouldHaveGiven p new

@@ -1,0 +1,107 @@
+//! The UIDs that lines silence or hear between two field cycles, in the order of their keys: which
+//! of them are Quiet at a place.
+
+ghost use Rattle.std.specs.Prelude.{◌≡◌, ℕ, true, ◌++◌, ◌∷◌, [], IfOk, OnOk};
+ghost use Rattle.std.specs.List.{list_any};
+ghost use Rattle.std.specs.List.Sorted.{IsNonDecreasing};
+ghost use Rattle.vic_frame.specs.Uids.{IsUid, has};
+ghost use Rattle.vic_frame.specs.LowBitsFirst.{IsKey, mirror};
+ghost use Rattle.vic_tree.specs.OpenSet.{AreKeys};
+ghost use Rattle.vic_verdict.specs.Sweep.{is_silenced, AreInOrder, HaveKeys, is_between};
+
+use std::alloc::{AllocError, Global};
+use vic_frame::Uid;
+use vic_frame::low_bits_first::key;
+
+/// A line that silences a UID or hears it: the UID's key, the line's place, and the place after
+/// which the UID is Quiet by it; the end of the log where it is heard. And whether the slots looked
+/// at so far leave it open.
+#[derive(Clone, Copy)]
+pub(crate) struct Name {
+    pub key: u64,
+    pub at: usize,
+    pub quiet: usize,
+    pub left: bool,
+}
+
+/// Adds a line that names a UID, with its place and the one after which the UID is Quiet by it.
+pub(crate) fn push_name(
+    names: &mut Vec<Name>,
+    uid: Uid,
+    at: usize,
+    quiet: usize,
+) -> Result<(), AllocError>
+    ensures { OnOk result
+        ((names.new.items ≡ names.old.items
+        ++ record { key = mirror uid; at = at; quiet = quiet; left = true } ∷ [])
+        × IsKey (mirror uid) × IsUid uid) }
+{
+    names.push(Name {
+        key: key(uid),
+        at,
+        quiet,
+        left: true,
+    })?;
+    Ok(())
+}
+
+/// Whether a UID is Quiet at a place.
+pub(crate) fn is_silenced(names: &[Name], uid: Uid, at: usize) -> bool
+    requires { AreInOrder names.now }
+    ensures { result ≡ is_silenced names.now (mirror uid) at }
+{
+    let key = key(uid);
+    let start = names.partition_point(|name| name.key < key);
+    for i in start..names.len() {
+        let name = names[i];
+        if key < name.key {
+            return false;
+        }
+        if name.quiet < at {
+            return true;
+        }
+    }
+    false
+}
+
+/// Whether one of some UIDs is Quiet at a place.
+pub(crate) fn is_any_silenced(names: &[Name], uids: &[Uid], at: usize) -> bool
+    requires { AreInOrder names.now }
+    ensures { result ≡ list_any (λ u. is_silenced names.now (mirror u) at) uids.now }
+{
+    for uid in uids {
+        if is_silenced(names, *uid, at) {
+            return true;
+        }
+    }
+    false
+}
+
+/// The keys from `first` to `last` of the UIDs that are Quiet at a place, in order.
+pub(crate) fn silenced_between(
+    alloc: Global,
+    names: &[Name],
+    first: u64,
+    last: u64,
+    at: usize,
+) -> Result<Vec<u64>, AllocError>
+    requires order { AreInOrder names.now }
+    requires keys { HaveKeys names.now }
+    ensures order { IfOk result (λ keys. IsNonDecreasing keys.items) }
+    ensures keys { IfOk result (λ keys. AreKeys keys.items) }
+    ensures members { IfOk result (λ keys. (k : ℕ) → is_between first last k ≡ true
+        → has keys.items k ≡ is_silenced names.now k at) }
+{
+    let mut keys = Vec::new(alloc);
+    let start = names.partition_point(|name| name.key < first);
+    for i in start..names.len() {
+        let name = names[i];
+        if last < name.key {
+            return Ok(keys);
+        }
+        if name.quiet < at {
+            keys.push(name.key)?;
+        }
+    }
+    Ok(keys)
+}

@@ -1,0 +1,11 @@
+//! A UID with a line.
+
+use vic_frame::Uid;
+
+/// A UID, and a line that shows what was found of it.
+#[derive(Clone, Copy, Debug, PartialEq, Eq)]
+pub struct ShownUid {
+    pub uid: Uid,
+    /// The number of the line.
+    pub line: u32,
+}

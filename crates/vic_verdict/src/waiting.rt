@@ -1,0 +1,167 @@
+//! The parts of the UIDs that wait for a line that rules them out.
+
+use crate::parts::Parts;
+use crate::peaks::Peaks;
+use crate::steps::{Found, Span, Step};
+use std::alloc::{AllocError, Global};
+
+/// Parts that wait, and of them those that are Ready.
+#[derive(Drop)]
+pub(crate) struct Waiting {
+    waits: Vec<bool>,
+    /// 1 at parts that wait and are Ready, else 0.
+    ready: Peaks,
+}
+
+impl Waiting {
+    /// The marked parts, all Ready.
+    pub(crate) fn new(alloc: Global, marks: &[bool]) -> Result<Waiting, AllocError> {
+        let mut waits = Vec::new(alloc);
+        let mut count: u32 = 0;
+        for mark in marks {
+            waits.push(*mark)?;
+            count = count.saturating_add(1);
+        }
+        let mut waiting = Waiting {
+            waits,
+            ready: Peaks::new(alloc, count, 0)?,
+        };
+        for part in 0..count {
+            waiting.show(part);
+        }
+        Ok(waiting)
+    }
+
+    /// Whether a part waits.
+    pub(crate) fn has(&self, part: u32) -> bool {
+        match self.waits.get(part as usize) {
+            Some(waits) => *waits,
+            None => false,
+        }
+    }
+
+    /// A part is Ready.
+    pub(crate) fn show(&mut self, part: u32) {
+        if self.has(part) {
+            self.ready.set(part, 1);
+        }
+    }
+
+    /// Some parts are.
+    pub(crate) fn show_all(&mut self, parts: &[u32]) {
+        for part in parts {
+            self.show(*part);
+        }
+    }
+
+    /// A part is Quiet.
+    pub(crate) fn hide(&mut self, part: u32) {
+        self.ready.set(part, 0);
+    }
+
+    /// The parts are Quiet that fell silent in the last of some steps, since all were Ready.
+    fn hide_last(&mut self, steps: &[Step]) {
+        for step in steps.iter().rev() {
+            match *step {
+                Step::Quiet(part) => self.hide(part),
+                Step::Wake => return,
+                Step::Slot(..) => {}
+            }
+        }
+    }
+
+    /// A part of a span that waits and is Ready, which then waits no more.
+    fn take(&mut self, span: Span) -> Option<u32> {
+        let peak = self.ready.greatest(span.from, span.to);
+        if peak.value == 0 {
+            return None;
+        }
+        if let Some(waits) = self.waits.get_mut(peak.index as usize) {
+            *waits = false;
+        }
+        self.hide(peak.index);
+        Some(peak.index)
+    }
+
+    /// All of them.
+    pub(crate) fn take_all(&mut self, span: Span) {
+        for _ in span.from..span.to {
+            if self.take(span).is_none() {
+                return;
+            }
+        }
+    }
+
+    /// Notes a line at all of them.
+    fn rule_out(&mut self, span: Span, line: u32, last: &mut [u32]) {
+        for _ in span.from..span.to {
+            let Some(part) = self.take(span) else {
+                return;
+            };
+            if let Some(number) = last.get_mut(part as usize) {
+                *number = line;
+            }
+        }
+    }
+}
+
+/// What a slot rules out.
+pub(crate) fn ruled_spans(span: Span, found: Found) -> [Span; 2] {
+    let nothing = Span { from: 0, to: 0 };
+    match found {
+        Found::Nobody => [span, nothing],
+        Found::One(part) => [span.before(part), span.after(part)],
+        Found::Some | Found::Two => [nothing, nothing],
+    }
+}
+
+/// The parts of a span that are Ready at a step.
+pub(crate) fn answering(
+    alloc: Global,
+    steps: &[Step],
+    parts: &Parts,
+    index: usize,
+    span: Span,
+) -> Result<Vec<bool>, AllocError> {
+    let mut answers = vec![in alloc; false; parts.count() as usize]?;
+    for part in span.from..span.to {
+        if let Some(answer) = answers.get_mut(part as usize) {
+            *answer = true;
+        }
+    }
+    for step in steps.iter().take(index).rev() {
+        match *step {
+            Step::Quiet(part) => {
+                if let Some(answer) = answers.get_mut(part as usize) {
+                    *answer = false;
+                }
+            }
+            Step::Wake => return Ok(answers),
+            Step::Slot(..) => {}
+        }
+    }
+    Ok(answers)
+}
+
+/// The line that is the last to rule out each part of those that answer; 0 where none does.
+pub(crate) fn last_rulings(
+    alloc: Global,
+    steps: &[Step],
+    answers: &[bool],
+) -> Result<Vec<u32>, AllocError> {
+    let mut last = vec![in alloc; 0; answers.len()]?;
+    let mut waiting = Waiting::new(alloc, answers)?;
+    waiting.hide_last(steps);
+    for index in (0..steps.len()).rev() {
+        match steps[index] {
+            Step::Quiet(part) => waiting.show(part),
+            Step::Wake => waiting.hide_last(&steps[..index]),
+            Step::Slot(line, span, found) => {
+                for part_of_span in ruled_spans(span, found) {
+                    waiting.rule_out(part_of_span, line, &mut last);
+                }
+            }
+        }
+    }
+    Ok(last)
+}

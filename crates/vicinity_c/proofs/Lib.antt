@@ -1,0 +1,2 @@
+mod CrcBytes
+mod ListedLines

@@ -1,0 +1,6 @@
+use Rattle.std.proofs.Common.{◌≡◌, ◌++◌, drop}
+use Rattle.vic_log.specs.Writing.{listed_text}
+use Rattle.vicinity_c.proofs.lines.with_listed.Given as goal
+
+abbrev pub invariant-loop-uid : goal.invariant-loop-uid
+invariant-loop-uid l = l.whole.items ++ listed_text (drop l.uid-index l.uids) ≡ l.fn.text ++ listed_text l.uids

@@ -1,0 +1,113 @@
+//! Lines of a log's text for C.
+
+ghost use Rattle.std.specs.Prelude.{◌≡◌, ◌≤◌, ◌+◌, ◌*◌, ◌++◌, ◌∷◌, [], codes, length, IfOk};
+ghost use Rattle.vic_log.specs.Writing.{listed_text};
+ghost use Rattle.vicinity_c.specs.Lines as spec;
+
+use crate::frames::TOO_LONG;
+use arrayvec::ArrayVec;
+use std::alloc::{AllocError, Global};
+use vic_log::{MAX_LINE_LEN, push_hex};
+
+/// The room for a line, its LF and a zero.
+pub const LINE_ROOM: usize = 132;
+
+/// The fault of a letter that no line begins with.
+pub const WRONG_LETTER: u32 = 207;
+
+/// A line, or why there is none; then `len` and `text` are 0.
+#[repr(C)]
+#[derive(Clone, Copy, Debug, PartialEq, Eq)]
+pub struct VicinityLine {
+    /// 0, or why there is no line.
+    pub fault: u32,
+    pub len: u32,
+    /// The line, LF included, with zeros after it.
+    pub text: [u8; LINE_ROOM],
+}
+
+/// Writes one line of a log's text, LF included: `letter` and `bytes` of a frame that was sent, T,
+/// or heard, R; U and `uid` of a UID that is listed; S, C, D or F alone of a slot that was silent,
+/// had a collision or was garbled, and of a field cycle. What the letter does not speak of isn't
+/// looked at, and the bytes aren't judged. The result is the fault, 0 where there is none: the
+/// letter is another one, or there are more than 63 bytes.
+#[unsafe(no_mangle)]
+pub extern "C" fn vicinity_write_line(
+    letter: u8,
+    bytes: &[u8],
+    uid: u64,
+    line: &mut VicinityLine,
+) -> u32
+    ensures line { line.new ≡ spec.line_of letter bytes.now uid }
+    ensures fault { result ≡ line.new.fault }
+{
+    *line = line_of(letter, bytes, uid);
+    line.fault
+}
+
+/// The line that begins with a letter, or no line.
+fn line_of(letter: u8, bytes: &[u8], uid: u64) -> VicinityLine
+    ensures { result ≡ spec.line_of letter bytes.now uid }
+{
+    match letter {
+        b'T' | b'R' => {
+            if bytes.len() <= (MAX_LINE_LEN - 2) / 2 {
+                lined(bytes_line(letter, bytes).as_slice())
+            } else {
+                no_line(TOO_LONG)
+            }
+        }
+        b'U' => lined(bytes_line(letter, &uid.to_be_bytes()).as_slice()),
+        b'S' | b'C' | b'D' | b'F' => lined(&[letter, b'\n']),
+        _ => no_line(WRONG_LETTER),
+    }
+}
+
+/// A letter, a space, bytes in hex digits and LF.
+fn bytes_line(letter: u8, bytes: &[u8]) -> ArrayVec<u8, LINE_ROOM>
+    requires { 2 + 2 * length bytes.now ≤ MAX_LINE_LEN }
+    ensures items { result.items ≡ spec.bytes_line letter bytes.now }
+{
+    let mut line = ArrayVec::new();
+    line.push(letter);
+    line.push(b' ');
+    push_hex(&mut line, bytes);
+    line.push(b'\n');
+    line
+}
+
+/// A line with zeros after it.
+fn lined(text: &[u8]) -> VicinityLine
+    requires { length text.now ≤ LINE_ROOM }
+    ensures { result ≡ spec.lined text.now }
+{
+    let mut room = [0; LINE_ROOM];
+    room[..text.len()].copy_from_slice(text);
+    VicinityLine {
+        fault: 0,
+        len: text.len() as u32,
+        text: room,
+    }
+}
+
+/// No line, and why.
+fn no_line(fault: u32) -> VicinityLine
+    ensures { result ≡ spec.no_line fault }
+{
+    VicinityLine {
+        fault,
+        len: 0,
+        text: [0; LINE_ROOM],
+    }
+}
+
+/// A text with a list of UIDs after it, each on a line.
+pub(crate) fn with_listed(alloc: Global, text: &[u8], uids: &[u64]) -> Result<Vec<u8>, AllocError>
+    ensures { IfOk result (λ whole. whole.items ≡ text.now ++ listed_text uids.now) }
+{
+    let mut whole = Vec::from_slice(alloc, text)?;
+    for uid in uids {
+        whole.extend_from_slice(bytes_line(b'U', &uid.to_be_bytes()).as_slice())?;
+    }
+    Ok(whole)
+}

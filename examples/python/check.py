@@ -1,0 +1,9 @@
+"""Checks a log, and says what the program says:  check.py FILE"""
+import sys
+
+import vicinity
+
+with open(sys.argv[1], "rb") as file:
+    answer = vicinity.check(file.read())
+print(answer)
+sys.exit(answer.status)

@@ -1,0 +1,273 @@
+"""The package over the library that LIBVICINITY names, or the installed one."""
+import ctypes
+import json
+import os
+import re
+import subprocess
+import sys
+import tempfile
+import threading
+import unittest
+
+import vicinity
+from vicinity import Fault, Kind
+
+TOP = os.path.dirname(os.path.dirname(os.path.dirname(os.path.abspath(__file__))))
+ALL = b"T 260100F60A\n"
+A, B = 0xE0040100000000A1, 0xE0040100000000B2
+HEARD_A = b"R 0000A1000000000104E06745\n"
+SILENCE_A = b"T 2202A1000000000104E0662A\n"
+LIST_A = b"U E0040100000000A1\n"
+
+# what is after the header, the answer, and the tags that show it
+ANSWERS = [
+    (ALL + b"S\n", dict(kind=Kind.COMPLETE, status=0, count=0), "complete 0", []),
+    (ALL + HEARD_A + LIST_A, dict(kind=Kind.COMPLETE, status=0, count=1), "complete 1", []),
+    (ALL + b"S\n" + LIST_A, dict(kind=Kind.ABSENT, status=1, uid=A), "absent E0040100000000A1", []),
+    (ALL + HEARD_A, dict(kind=Kind.UNLISTED, status=1, uid=A), "unlisted E0040100000000A1", [A]),
+    (SILENCE_A + ALL + b"S\n", dict(kind=Kind.UNSETTLED, status=1, mask_len=56, mask_value=0x040100000000A1),
+     "unsettled 56 040100000000A1", [A]),
+    (SILENCE_A + ALL + b"S\n" + LIST_A, dict(kind=Kind.DOUBTFUL, status=1, uid=A), "doubtful E0040100000000A1", []),
+    (ALL + b"S\n" + ALL + b"C\n", dict(kind=Kind.IMPOSSIBLE, status=2, line=5), "impossible at line 5", []),
+    (ALL + b"S\nS\n", dict(kind=Kind.REFUSED, status=3, line=4, fault=Fault.SLOT_OUTSIDE_ROUND),
+     "refused at line 4: SlotOutsideRound", []),
+    (b"T 260100F60B\n", dict(kind=Kind.REFUSED, status=3, line=2, fault=Fault.FRAME_CRC), "refused at line 2: Crc", []),
+]
+
+
+def log(lines):
+    return b"vicinity-log 1\n" + lines
+
+
+def frame(content):
+    """The digits of a frame, with its CRC: ISO/IEC 13239, 16-bit FCS."""
+    register = 0xFFFF
+    for byte in content:
+        register ^= byte
+        for _ in range(8):
+            register = register >> 1 ^ (0x8408 if register & 1 else 0)
+    return (content + (register ^ 0xFFFF).to_bytes(2, "little")).hex().upper().encode()
+
+
+def command(*words, given=b"", **env):
+    """What `python3 -m vicinity` writes, and its status."""
+    ran = subprocess.run([sys.executable, "-m", "vicinity", *words], input=given, capture_output=True,
+                         env={**os.environ, **env})
+    return ran.stdout, ran.stderr, ran.returncode
+
+
+class Frames(unittest.TestCase):
+    """What frames say, with the values of docs/FRAMES.md and of the table of masks in docs/AIR.md."""
+
+    def test_requests(self):
+        self.assertEqual(vicinity.read_request(bytes.fromhex("260100F60A")), (2, 1, (0, 0), 0))
+        self.assertEqual(vicinity.read_request(bytes.fromhex("060100CD09")), (2, 16, (0, 0), 0))
+        self.assertEqual(vicinity.read_request(bytes.fromhex("2202A1000000000104E0662A")), (2, 0, (0, 0), A))
+
+    def test_replies(self):
+        self.assertEqual(vicinity.read_response(bytes.fromhex("0000A1000000000104E06745")), (0, 0, A))
+
+    def test_faults_of_frames(self):
+        for call, frame in ((vicinity.read_request, "260100F60B"), (vicinity.read_response, "0000A1000000000104E06744")):
+            with self.assertRaises(vicinity.FrameFault) as raised:
+                call(bytes.fromhex(frame))
+            self.assertIs(raised.exception.fault, Fault.FRAME_CRC)
+
+    def test_masks_of_slots(self):
+        self.assertEqual(vicinity.slot_mask(16, vicinity.Mask(4, 1), 10), (8, 0xA1))
+        self.assertEqual(vicinity.slot_mask(1, vicinity.Mask(55, 0), 0), (55, 0))
+        with self.assertRaises(ValueError):
+            vicinity.slot_mask(1, vicinity.Mask(0, 0), 1)
+
+    def test_digits_of_masks(self):
+        for mask, digits in (((0, 0), ".."), ((8, 0xA1), "..A1"), ((7, 0x61), "..(110)1")):
+            self.assertEqual(str(vicinity.Mask(*mask)), digits)
+
+
+class Calls(unittest.TestCase):
+    def test_answers(self):
+        for lines, numbers, text, population in ANSWERS:
+            with self.subTest(text):
+                zeros = dict(count=0, line=0, fault=Fault.NONE, mask_len=0, mask_value=0, uid=0)
+                wanted = vicinity.Answer(**{**zeros, **numbers, "text": text})
+                self.assertEqual(vicinity.check(log(lines)), wanted)
+                self.assertEqual(vicinity.explain(log(lines)), (wanted, population))
+                self.assertEqual(str(wanted), text)
+                self.assertEqual(wanted.is_complete, wanted.status == 0)
+
+    def test_kinds_and_faults_are_enums(self):
+        answer = vicinity.check(b"")
+        self.assertIs(answer.kind, Kind.REFUSED)
+        self.assertIs(answer.fault, Fault.HEADER)
+
+    def test_a_population_larger_than_the_first_room(self):
+        # in each round two UIDs alone can have answered: those with these 55 low bits
+        rounds = b"".join(b"T %s\nC\n" % frame(b"\x26\x01\x37" + it.to_bytes(7, "little")) for it in range(80))
+        answer, population = vicinity.explain(log(rounds))
+        self.assertEqual(answer.kind, Kind.UNLISTED)
+        self.assertEqual(population, sorted(0xE0 << 56 | high << 55 | it for it in range(80) for high in (0, 1)))
+
+    def test_explain_into_leaves_a_room_that_is_too_small(self):
+        room = (ctypes.c_uint64 * 1)(7)
+        answer, needed = vicinity.explain_into(log(b"T 26013700000000000000641B\nC\n"), room)
+        self.assertEqual((answer.kind, needed, room[:]), (Kind.UNLISTED, 2, [7]))
+
+    def test_bytes_alone_are_taken(self):
+        text = log(ALL + b"S\n")
+        for same in (bytearray(text), memoryview(text), memoryview(b"".join(bytes([it, 0]) for it in text))[::2]):
+            self.assertTrue(vicinity.check(same).is_complete)
+            self.assertTrue(vicinity.explain(same).answer.is_complete)
+        for other in (5, None, "vicinity-log 1\n", [118, 105], object()):
+            for call in (vicinity.check, vicinity.explain):
+                with self.assertRaisesRegex(TypeError, type(other).__name__):
+                    call(other)
+
+    def test_a_nul_is_a_byte_like_others(self):
+        self.assertEqual(str(vicinity.check(log(b"\0"))), "refused at line 2: UnknownEntry")
+
+    def test_threads(self):
+        wrong = []
+
+        def judge():
+            for lines, _, text, _ in ANSWERS * 50:
+                if str(vicinity.check(log(lines))) != text:
+                    wrong.append(text)
+
+        threads = [threading.Thread(target=judge) for _ in range(8)]
+        for thread in threads:
+            thread.start()
+        for thread in threads:
+            thread.join()
+        self.assertEqual(wrong, [])
+
+    def test_numbers_are_those_of_the_header(self):
+        with open(os.path.join(TOP, "include/vicinity.h")) as file:
+            header = file.read()
+        kinds = {name: int(it) for name, it in re.findall(r"VICINITY_([A-Z_]+) = (\d),? /\*", header)}
+        faults = {name: int(it) for name, it in re.findall(r"VICINITY_FAULT_(\w+) = (\d+)", header)}
+        self.assertEqual(kinds, {"NO_ANSWER": 0, **{it.name: it.value for it in Kind}})
+        self.assertEqual(faults, {it.name: it.value for it in Fault})
+
+    def test_the_version_is_the_one_of_the_project(self):
+        with open(os.path.join(TOP, "VERSION")) as file:
+            version = file.read().strip()
+        with open(os.path.join(TOP, "python/pyproject.toml")) as file:
+            self.assertIn(f'version = "{version}"', file.read())
+        self.assertEqual(vicinity.__version__, version)
+
+
+class Library(unittest.TestCase):
+    def run_python(self, code, **env):
+        ran = subprocess.run([sys.executable, "-c", code], capture_output=True, text=True, env={**os.environ, **env})
+        return ran.stdout, ran.stderr
+
+    def test_it_is_not_loaded_at_import(self):
+        self.assertEqual(self.run_python("import vicinity; print('there')", LIBVICINITY="/nowhere.so"), ("there\n", ""))
+
+    def test_a_missing_library_is_told_at_the_first_call(self):
+        code = "import vicinity\ntry: vicinity.check(b'')\nexcept OSError as it: print(it)"
+        said, errors = self.run_python(code, LIBVICINITY="/nowhere.so")
+        self.assertIn("/nowhere.so", said)
+        self.assertIn("LIBVICINITY", said)
+        self.assertEqual(errors, "")
+
+    def test_another_library_is_no_vicinity(self):
+        said, _ = self.run_python("import vicinity\ntry: vicinity.check(b'')\nexcept (OSError, AttributeError) as it: "
+                                  "print(type(it).__name__)", LIBVICINITY="libc.so.6")
+        self.assertEqual(said, "OSError\n")
+
+    def test_refused_memory_is_a_memory_error(self):
+        code = ("import resource, vicinity\nvicinity.check(b'')\ntext = b'vicinity-log 1\\n' + b'T 2202A1000000000104E0662A\\n' "
+                "* 900000\nwith open('/proc/self/statm') as file: pages = int(file.read().split()[0])\n"
+                "resource.setrlimit(resource.RLIMIT_AS, (pages * 4096 + (4 << 20),) * 2)\n"
+                "try: vicinity.check(text)\nexcept MemoryError as it: print(it)")
+        self.assertEqual(self.run_python(code), ("vicinity: out of memory\n", ""))
+
+
+class Command(unittest.TestCase):
+    def setUp(self):
+        self.folder = tempfile.TemporaryDirectory()
+        self.addCleanup(self.folder.cleanup)
+        self.names = []
+        for number, (lines, *_) in enumerate(ANSWERS):
+            self.names.append(self.write(f"{number}.log", log(lines)))
+
+    def write(self, name, text):
+        name = os.path.join(self.folder.name, name)
+        with open(name, "wb") as file:
+            file.write(text)
+        return name
+
+    def test_a_line_for_each_file(self):
+        said, errors, status = command(*self.names)
+        wanted = "".join(f"{name}: {text}\n" for name, (_, _, text, _) in zip(self.names, ANSWERS))
+        self.assertEqual((said.decode(), errors, status), (wanted, b"", 3))
+
+    def test_the_worst_status(self):
+        for count, status in ((1, 0), (3, 1), (7, 2), (8, 3)):
+            self.assertEqual(command(*self.names[:count])[2], status)
+            self.assertEqual(command(*reversed(self.names[:count]))[2], status)
+        said, errors, status = command("/nowhere.log", self.names[0])
+        self.assertEqual((said.decode(), status), (f"{self.names[0]}: complete 0\n", 4))
+        self.assertEqual(errors, b"vicinity: cannot read /nowhere.log: No such file or directory\n")
+
+    def test_standard_input(self):
+        said, errors, status = command("-", given=log(ALL + b"S\n"))
+        self.assertEqual((said, errors, status), (b"-: complete 0\n", b"", 0))
+
+    def test_tabs(self):
+        name = self.write("a\tb\\\n.log", log(ALL + b"S\n"))
+        said, _, status = command("--tabs", name, self.names[6], "/nowhere.log")
+        shown = os.path.join(self.folder.name, "a\\tb\\\\\\n.log")
+        wanted = [[shown, "0", "complete 0"], [self.names[6], "2", "impossible at line 5"], ["/nowhere.log", "4", "no answer"]]
+        self.assertEqual([line.split("\t") for line in said.decode().splitlines()], wanted)
+        self.assertEqual(status, 4)
+
+    def test_json(self):
+        said, _, status = command("--json", *self.names, "/nowhere.log")
+        found = [json.loads(line) for line in said.decode().splitlines()]
+        self.assertEqual([it["file"] for it in found], [*self.names, "/nowhere.log"])
+        wanted = [
+            {"status": 0, "kind": "complete", "count": 0},
+            {"status": 0, "kind": "complete", "count": 1},
+            {"status": 1, "kind": "absent", "uid": "E0040100000000A1"},
+            {"status": 1, "kind": "unlisted", "uid": "E0040100000000A1"},
+            {"status": 1, "kind": "unsettled", "mask_len": 56, "mask_value": "040100000000A1".lstrip("0")},
+            {"status": 1, "kind": "doubtful", "uid": "E0040100000000A1"},
+            {"status": 2, "kind": "impossible", "line": 5},
+            {"status": 3, "kind": "refused", "line": 4, "fault": "SlotOutsideRound"},
+            {"status": 3, "kind": "refused", "line": 2, "fault": "Crc"},
+            {"status": 4, "kind": "no answer", "error": "cannot read /nowhere.log: No such file or directory"},
+        ]
+        self.assertEqual([{key: it[key] for key in it if key != "file"} for it in found], wanted)
+        self.assertEqual(status, 4)
+
+    def test_a_name_that_is_not_utf_8(self):
+        name = os.path.join(os.fsencode(self.folder.name), b"\xff.log")
+        with open(name, "wb") as file:
+            file.write(log(ALL + b"S\n"))
+        self.assertEqual(command(name)[0], name + b": complete 0\n")
+        self.assertEqual(os.fsencode(json.loads(command("--json", name)[0])["file"]), name)
+
+    def test_words(self):
+        self.assertEqual(command()[2], 4)
+        self.assertEqual(command("--tabs", "--json", self.names[0])[2], 4)
+        self.assertEqual(command("--other", self.names[0])[2], 4)
+        self.assertEqual(command("--version")[::2], (b"%s\n" % vicinity.__version__.encode(), 0))
+
+    def test_no_library(self):
+        said, errors, status = command(self.names[0], LIBVICINITY="/nowhere.so")
+        self.assertEqual((said, status), (b"", 4))
+        self.assertTrue(errors.startswith(b"vicinity: the library /nowhere.so can't be loaded"))
+
+    def test_a_full_device(self):
+        with open("/dev/full", "wb") as full:
+            ran = subprocess.run([sys.executable, "-m", "vicinity", *self.names], stdout=full, stderr=subprocess.PIPE)
+        self.assertEqual((ran.returncode, ran.stderr), (4, b"vicinity: write failed: No space left on device\n"))
+
+    def test_a_text_without_end_is_read_as_far_as_it_matters(self):
+        self.assertEqual(command("/dev/zero")[::2], (b"/dev/zero: refused at line 1: LineTooLong\n", 3))
+
+
+if __name__ == "__main__":
+    unittest.main()

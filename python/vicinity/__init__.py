@@ -1,0 +1,19 @@
+"""Is the list of tags that a reader claims whole?
+
+    >>> import vicinity
+    >>> answer = vicinity.check(b"vicinity-log 1\\nT 260100F60A\\nS\\n")
+    >>> answer.is_complete, answer.count
+    (True, 0)
+
+The log text and the answers are those of the program `vicinity`. The answers come from the shared library
+libvicinity.so.1: nothing is judged in Python. It is loaded at the first call; LIBVICINITY may name its file.
+
+`python3 -m vicinity FILE ..` answers for many files in one process.
+"""
+from ._answers import Answer, Explanation, Fault, Kind
+from ._calls import check, explain, explain_into
+from .frames import FrameFault, Mask, Reply, Request, read_request, read_response, slot_mask
+
+__all__ = ["Answer", "Explanation", "Fault", "FrameFault", "Kind", "Mask", "Reply", "Request", "check", "explain",
+           "explain_into", "read_request", "read_response", "slot_mask"]
+__version__ = "1.0.0"

@@ -1,0 +1,100 @@
+"""What an answer is, with the numbers of vicinity.h."""
+from __future__ import annotations
+
+import enum
+from dataclasses import dataclass
+from typing import NamedTuple
+
+
+class Kind(enum.IntEnum):
+    """Which answer it is."""
+
+    COMPLETE = 1
+    ABSENT = 2
+    UNLISTED = 3
+    UNSETTLED = 4
+    DOUBTFUL = 5
+    IMPOSSIBLE = 6
+    REFUSED = 7
+
+    @property
+    def word(self) -> str:
+        """The word with which the line of the answer begins."""
+        return self.name.lower()
+
+
+class Fault(enum.IntEnum):
+    """Why a text is no log. Those that begin with FRAME are of the frame of a T or an R line."""
+
+    NONE = 0
+    TOO_MANY_LINES = 1
+    LINE_TOO_LONG = 2
+    HEADER = 3
+    UNKNOWN_ENTRY = 4
+    HEX = 5
+    LISTED_LENGTH = 6
+    NOT_VICINITY = 7
+    SLOT_OUTSIDE_ROUND = 8
+    ENTRY_AFTER_LIST = 9
+    DUPLICATE_LISTED = 10
+    FRAME_SHORT = 101
+    FRAME_CRC = 102
+    FRAME_EXTENSION = 103
+    FRAME_RESERVED = 104
+    FRAME_OPTION_FLAG = 105
+    FRAME_OTHER_COMMAND = 106
+    FRAME_INVENTORY_FLAG = 107
+    FRAME_AFI = 108
+    FRAME_LENGTH = 109
+    FRAME_MASK_TOO_LONG = 110
+    FRAME_MASK_PADDING = 111
+    FRAME_SELECT_FLAG = 112
+    FRAME_NOT_ADDRESSED = 113
+    FRAME_ERROR_FLAG = 114
+    FRAME_NOT_VICINITY = 115
+
+    @property
+    def word(self) -> str:
+        """The name of the fault in the line of the answer, as SlotOutsideRound."""
+        words = self.name.split("_")
+        return "".join(word.capitalize() for word in words[self >= Fault.FRAME_SHORT:])
+
+
+@dataclass(frozen=True)
+class Answer:
+    """The answer to a text. A number of which the kind doesn't speak is 0."""
+
+    kind: Kind
+    status: int
+    """With which `vicinity check` would end, 0 to 3. Here 0 is complete."""
+    count: int
+    """How many UIDs are listed, if the kind is COMPLETE."""
+    line: int
+    """The line, from 1, if the kind is IMPOSSIBLE or REFUSED."""
+    fault: Fault
+    """What is wrong with that line, if the kind is REFUSED."""
+    mask_len: int
+    """How many low bits the mask has, 0 to 56, if the kind is UNSETTLED."""
+    mask_value: int
+    """The value of these bits, if the kind is UNSETTLED."""
+    uid: int
+    """The UID, if the kind is ABSENT, UNLISTED or DOUBTFUL. Its top byte is E0."""
+    text: str
+    """The line that `vicinity check` writes, without its LF."""
+
+    @property
+    def is_complete(self) -> bool:
+        """Whether the list is whole."""
+        return self.kind is Kind.COMPLETE
+
+    def __str__(self) -> str:
+        return self.text
+
+
+class Explanation(NamedTuple):
+    """The answer to a text, and tags that show it."""
+
+    answer: Answer
+    population: list[int]
+    """UIDs of tags that could have given the log and that are not the listed ones, in rising order. It is empty if
+    there are none to show (COMPLETE, IMPOSSIBLE, REFUSED), and if an empty field shows the answer."""

@@ -1,0 +1,10 @@
+#compdef vicinity
+# zsh completion for vicinity
+
+local -a with_file
+with_file=(@WITH_FILE@)
+if (( CURRENT == 2 )); then
+    compadd @COMMANDS@
+elif (( CURRENT == 3 && $with_file[(Ie)$words[2]] )); then
+    _files
+fi

@@ -1,0 +1,277 @@
+"""Asks the library's calls on frames, lines and lists, and compares them with the program:  calls.py PROGRAM COUNT LOG..
+
+Each fault is met by a row. COUNT random numbers are written and COUNT random frames read, and have to be what `spell` and
+`frame` make of them; COUNT lines and masks of slots have to be what is worked out here; and the logs, with their lists
+taken off and handed over beside them, in another order, too, are answered as the program answers the whole. Each struct
+holds other bytes before the call. The header and the library are of the version in VERSION. The last line is `N passed, M
+failed`. LIBVICINITY names the library.
+"""
+import ctypes
+import os
+import random
+import re
+import subprocess
+import sys
+
+U8, U16, U32, U64, SIZE = ctypes.c_uint8, ctypes.c_uint16, ctypes.c_uint32, ctypes.c_uint64, ctypes.c_size_t
+LINK, SLOTS, MASK, SLOT, REPLY, TOO_LONG, LETTER = range(201, 208)
+FAULTS = ["Short", "Crc", "Extension", "Reserved", "OptionFlag", "OtherCommand", "InventoryFlag", "Afi", "Length",
+          "MaskTooLong", "MaskPadding", "SelectFlag", "NotAddressed", "ErrorFlag", "NotVicinity"]
+UID_A, UID_B = 0xE0040100000000A1, 0xE0040100000000B2
+
+
+def struct(name, *fields):
+    return type(name, (ctypes.Structure,), {"_fields_": list(fields)})
+
+
+FRAME = struct("Frame", ("fault", U32), ("len", U32), ("bytes", U8 * 16))
+REQUEST = struct("Request", ("fault", U32), ("link", U32), ("slots", U32), ("mask_len", U32), ("mask_value", U64), ("uid", U64))
+REPLIED = struct("Reply", ("fault", U32), ("flags", U16), ("dsfid", U16), ("uid", U64))
+MASKED = struct("Mask", ("fault", U32), ("len", U32), ("value", U64))
+LINE = struct("Line", ("fault", U32), ("len", U32), ("text", U8 * 132))
+ANSWER = struct("Answer", *[(name, U32) for name in ("kind", "status", "count", "line", "fault", "mask_len")],
+                ("mask_value", U64), ("uid", U64), ("text", U8 * 64))
+
+TOP = os.path.dirname(os.path.dirname(os.path.abspath(__file__)))
+PROGRAM, COUNT, LOGS = sys.argv[1], int(sys.argv[2]), sys.argv[3:]
+LIBRARY = ctypes.CDLL(os.environ["LIBVICINITY"])
+passed = failed = 0
+
+
+def count(place, got, wanted):
+    global passed, failed
+    if got == wanted:
+        passed += 1
+    else:
+        failed += 1
+        print(f"{place}\n  wanted {wanted!r}\n  got    {got!r}")
+
+
+def run(*words, given=b""):
+    done = subprocess.run([PROGRAM, *words], input=given, capture_output=True)
+    return done.stdout, done.returncode
+
+
+def call(name, kind, *given):
+    """The fields of the struct that a call fills, which held other bytes before; its result is the fault."""
+    told = kind.from_buffer_copy(b"\x09" * ctypes.sizeof(kind))
+    result = getattr(LIBRARY, "vicinity_" + name)(*given, ctypes.byref(told))
+    count(f"{name}, its result", result, told.fault)
+    return tuple(bytes(value) if isinstance(value, ctypes.Array) else value
+                 for value in (getattr(told, field) for field, _ in kind._fields_))
+
+
+def in_room(data, room):
+    return len(data), data.ljust(room, b"\0")
+
+
+def framed(digits):
+    return (0, *in_room(bytes.fromhex(digits), 16))
+
+
+def no_frame(fault):
+    return fault, 0, bytes(16)
+
+
+def bytes_of(data):
+    return (U8 * len(data)).from_buffer_copy(data), SIZE(len(data))
+
+
+def with_crc(body):
+    register = 0xFFFF
+    for byte in body:
+        register ^= byte
+        for _ in range(8):
+            register = register >> 1 ^ (0x8408 if register & 1 else 0)
+    return bytes(body) + (register ^ 0xFFFF).to_bytes(2, "little")
+
+
+def inventory(link, slots, bits, value):
+    return call("write_inventory", FRAME, U32(link), U32(slots), U32(bits), U64(value))
+
+
+def stay_quiet(link, uid):
+    return call("write_stay_quiet", FRAME, U32(link), U64(uid))
+
+
+def response(flags, dsfid, uid):
+    return call("write_response", FRAME, U32(flags), U32(dsfid), U64(uid))
+
+
+def slot_mask(slots, bits, value, slot):
+    return call("slot_mask", MASKED, U32(slots), U32(bits), U64(value), U32(slot))
+
+
+def line(letter, data, uid=0):
+    return call("write_line", LINE, U8(ord(letter)), *bytes_of(data), U64(uid))
+
+
+def lined(text):
+    return (0, *in_room(text.encode(), 132))
+
+
+def rows():
+    """Worked out by hand: each fault, and what it stands beside."""
+    count("inventory", inventory(2, 1, 7, 0x61), framed("260107614C5D"))
+    count("sixteen slots", inventory(2, 16, 0, 0), framed("060100CD09"))
+    count("64 bits", inventory(2, 1, 64, 0), framed("26014000000000000000006DD2"))
+    count("60 bits", inventory(2, 16, 60, 0), framed("06013C0000000000000000069E"))
+    for name, numbers, fault in (("link 4", (4, 1, 0, 0), LINK), ("slots 2", (2, 2, 0, 0), SLOTS),
+                                 ("slots 0", (2, 0, 0, 0), SLOTS), ("65 bits", (2, 1, 65, 0), MASK),
+                                 ("61 bits", (2, 16, 61, 0), MASK), ("a bit too many", (2, 1, 4, 0x10), MASK),
+                                 ("the first counts", (4, 2, 65, 0), LINK), ("257 bits", (2, 1, 257, 0), MASK)):
+        count(name, inventory(*numbers), no_frame(fault))
+    count("stay quiet", stay_quiet(2, UID_A), framed("2202A1000000000104E0662A"))
+    count("its link", stay_quiet(4, UID_A), no_frame(LINK))
+    count("reply", response(0, 0, UID_A), framed("0000A1000000000104E06745"))
+    for name, numbers in (("Error_flag", (1, 0, UID_A)), ("flags", (256, 0, UID_A)), ("DSFID", (0, 256, UID_A)),
+                          ("no E0", (0, 0, 0xE1 << 56)), ("no E0", (0, 0, 0xDF << 56))):
+        count(name, response(*numbers), no_frame(REPLY))
+    count("CRC", call("add_crc", FRAME, *bytes_of(bytes.fromhex("260100"))), framed("260100F60A"))
+    count("14 bytes", call("add_crc", FRAME, *bytes_of(bytes(14))), framed(with_crc(bytes(14)).hex()))
+    count("15 bytes", call("add_crc", FRAME, *bytes_of(bytes(15))), no_frame(TOO_LONG))
+    count("the last slot", slot_mask(16, 4, 1, 15), (0, 8, 0xF1))
+    count("one slot", slot_mask(1, 64, 5, 0), (0, 64, 5))
+    for name, numbers, fault in (("slot 16", (16, 4, 1, 16), SLOT), ("slot 1 of 1", (1, 4, 1, 1), SLOT),
+                                 ("three slots", (3, 4, 1, 0), SLOTS), ("61 bits", (16, 61, 1, 0), MASK)):
+        count(name, slot_mask(*numbers), (fault, 0, 0))
+    count("T", line("T", bytes.fromhex("260100F60A")), lined("T 260100F60A\n"))
+    count("63 bytes", line("R", bytes(63)), lined("R " + "00" * 63 + "\n"))
+    count("64 bytes", line("R", bytes(64)), (TOO_LONG, 0, bytes(132)))
+    count("U", line("U", b"", UID_A), lined("U E0040100000000A1\n"))
+    for letter in "SCDF":
+        count(letter, line(letter, bytes(64)), lined(letter + "\n"))
+    for letter in "tX#\0":
+        count(letter, line(letter, b""), (LETTER, 0, bytes(132)))
+
+
+def faults():
+    """A frame for each fault of a frame, worked out by the tables of docs/FRAMES.md."""
+    uid = UID_A.to_bytes(8, "little")
+    for name, frame in (("Short", b"\x26\x01\xF6"), ("Crc", bytes.fromhex("260100F60B")), ("Extension", with_crc([0x2E, 1, 0])),
+                        ("Reserved", with_crc([0xA6, 1, 0])), ("OptionFlag", with_crc([0x66, 1, 0])),
+                        ("OtherCommand", with_crc([0x26, 0x2B])), ("InventoryFlag", with_crc([0x22, 1, 0])),
+                        ("Afi", with_crc([0x36, 1, 0, 0])), ("Length", with_crc([0x26, 1, 8])),
+                        ("MaskTooLong", with_crc([0x26, 1, 65])), ("MaskPadding", with_crc([0x26, 1, 4, 0x1F])),
+                        ("SelectFlag", with_crc([0x32, 2, *uid])), ("NotAddressed", with_crc([0x02, 2, *uid]))):
+        count(name, call("read_request", REQUEST, *bytes_of(frame)), (101 + FAULTS.index(name), 0, 0, 0, 0, 0))
+    for name, frame in (("Length", with_crc([0, 0])), ("Crc", bytes(12)), ("ErrorFlag", with_crc([1, 0, *uid])),
+                        ("NotVicinity", with_crc([0, 0, *uid[:7], 0xE1]))):
+        count(name, call("read_response", REPLIED, *bytes_of(frame)), (101 + FAULTS.index(name), 0, 0, 0))
+
+
+def written(chance):
+    """Random numbers, and what `spell` makes of their words."""
+    link, slots, bits = chance.randrange(5), chance.choice((1, 1, 16, 16, 2)), chance.randrange(67)
+    value = chance.getrandbits(min(bits, 64)) if chance.randrange(8) else chance.getrandbits(64)
+    size = (bits + 7) // 8
+    digits = f"{value:0{2 * size}X}" if size else "-" if value == 0 else "00"
+    said = run("spell", *f"request inventory link {link} slots {slots} mask {bits} {digits}".split())[0].decode().split()
+    got = inventory(link, slots, bits, value)
+    count(f"{link} {slots} {bits} {value:X}", bool(got[0]), said[0] == "refused")
+    if not got[0]:
+        count("its frame", got, framed(said[0]))
+    flags, dsfid, uid = chance.randrange(256), chance.randrange(256), (0xE0 << 56 | chance.getrandbits(56))
+    said = run("spell", *f"response flags {flags:02X} dsfid {dsfid:02X} uid {uid:016X}".split())[0].decode().split()
+    count(f"{flags} {dsfid} {uid:X}", response(flags, dsfid, uid), no_frame(REPLY) if said[0] == "refused" else framed(said[0]))
+    link, uid = chance.randrange(5), chance.getrandbits(64)
+    said = run("spell", *f"request stay-quiet link {link} uid {uid:016X}".split())[0].decode().split()
+    count(f"{link} {uid:X}", stay_quiet(link, uid), no_frame(LINK) if said[0] == "refused" else framed(said[0]))
+
+
+def read(chance):
+    """A random frame, and what `frame` says of it."""
+    body = [chance.choice((0x26, 0x06, 0x22, 0x00, chance.randrange(256))), chance.choice((1, 2, chance.randrange(256)))]
+    body += chance.randbytes(chance.choice((0, 1, 2, 5, 8, 8, 8, 9)))
+    if chance.randrange(2):
+        body[-1] = 0xE0
+    if body[1] == 1 and len(body) > 2:
+        body[2] = chance.choice((8 * (len(body) - 3), 61, chance.randrange(80)))
+    frame = with_crc(body)
+    if not chance.randrange(6):
+        frame = frame[:-1]
+    asked, replied = run("frame", frame.hex())[0].decode().splitlines()
+    asked, replied = asked.split()[1:], replied.split()[1:]
+    if asked[0] == "refused":
+        wanted = (101 + FAULTS.index(asked[1]), 0, 0, 0, 0, 0)
+    elif asked[0] == "inventory":
+        wanted = (0, int(asked[2]), int(asked[4]), int(asked[6]), int(asked[7].replace("-", "0"), 16), 0)
+    else:
+        wanted = (0, int(asked[2]), 0, 0, 0, int(asked[4], 16))
+    count(frame.hex(), call("read_request", REQUEST, *bytes_of(frame)), wanted)
+    if replied[0] == "refused":
+        wanted = (101 + FAULTS.index(replied[1]), 0, 0, 0)
+    else:
+        wanted = (0, int(replied[1], 16), int(replied[3], 16), int(replied[5], 16))
+    count(frame.hex(), call("read_response", REPLIED, *bytes_of(frame)), wanted)
+    count("CRC", call("add_crc", FRAME, *bytes_of(bytes(body))), framed(with_crc(body).hex()))
+
+
+def others(chance):
+    """Random lines and masks of slots."""
+    data = chance.randbytes(chance.randrange(64))
+    letter = chance.choice("TR")
+    count(letter, line(letter, data), lined(f"{letter} {data.hex().upper()}\n"))
+    uid = chance.getrandbits(64)
+    count("U", line("U", data, uid), lined(f"U {uid:016X}\n"))
+    bits, slot = chance.randrange(61), chance.randrange(16)
+    value = chance.getrandbits(bits)
+    count("slot", slot_mask(16, bits, value, slot), (0, bits + 4, value | slot << bits))
+
+
+def judged(text, uids):
+    """What the listed calls say of a text, and what the program says of the whole."""
+    whole = text + b"".join(b"U %016X\n" % uid for uid in uids)
+    listed = (U64 * len(uids))(*uids)
+    told = ANSWER.from_buffer_copy(b"\x09" * ctypes.sizeof(ANSWER))
+    status = LIBRARY.vicinity_check_listed(*bytes_of(text), listed, SIZE(len(uids)), ctypes.byref(told))
+    count("check_listed", (bytes(told.text).rstrip(b"\0"), status), run("check", given=whole))
+    first = bytes(told)
+    room, needed = (U64 * 64)(*[7] * 64), SIZE(9)
+    status = LIBRARY.vicinity_explain_listed(*bytes_of(text), listed, SIZE(len(uids)), ctypes.byref(told), room, SIZE(64),
+                                             ctypes.byref(needed))
+    shown = [b"U %016X\n" % uid for uid in room[:needed.value]]
+    explained = bytes(told.text).rstrip(b"\0")
+    if shown or b"population" in run("explain", given=whole)[0]:
+        explained += b"population %d\n" % needed.value + b"".join(shown)
+    count("explain_listed", (explained, status), run("explain", given=whole))
+    count("the same answer", bytes(told), first)
+    count("the room after it", room[needed.value:], [7] * (64 - needed.value))
+
+
+def versions():
+    """The header and the library are of the version in VERSION."""
+    with open(os.path.join(TOP, "VERSION")) as file:
+        version = file.read().strip()
+    first, second, third = map(int, version.split("."))
+    with open(os.path.join(TOP, "include/vicinity.h")) as file:
+        header = file.read()
+    number = 10_000 * first + 100 * second + third
+    count("VICINITY_VERSION", re.findall(r'#define VICINITY_VERSION "(.*)"', header), [version])
+    count("VICINITY_VERSION_NUMBER", re.findall(r"#define VICINITY_VERSION_NUMBER (\d+)u", header), [str(number)])
+    count("vicinity_version", LIBRARY.vicinity_version(), number)
+
+
+def main():
+    for name in ("check_listed", "explain_listed"):
+        getattr(LIBRARY, "vicinity_" + name).restype = U32
+    chance = random.Random(15693)
+    versions()
+    rows()
+    faults()
+    for _ in range(COUNT):
+        written(chance)
+        read(chance)
+        others(chance)
+    for log in LOGS:
+        with open(log, "rb") as file:
+            lines = file.read().splitlines(keepends=True)
+        text = b"".join(given for given in lines if not given.startswith(b"U"))
+        uids = [int(given[2:], 16) for given in lines if given.startswith(b"U")]
+        for some in (uids, uids[::-1], uids[1:], [*uids, UID_B], [*uids, *uids], [0, *uids], []):
+            judged(text, some)
+    print(f"{passed} passed, {failed} failed")
+    sys.exit(failed > 0 or passed == 0)
+
+
+main()

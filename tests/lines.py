@@ -1,0 +1,53 @@
+"""Logs by the short names of their lines, and the rows of the files in tests/rows/."""
+import os
+import re
+import sys
+
+TOP = os.path.dirname(os.path.dirname(os.path.abspath(__file__)))
+SHORT = re.compile(r"([SCDF#])(\d*)")
+PART = re.compile(r'"([^"]*)"(?: \* (\d+))?')
+
+
+def rows(name):
+    """The rows of a file in tests/rows/, each with its place."""
+    with open(os.path.join(TOP, "tests/rows", name)) as file:
+        for number, line in enumerate(file, 1):
+            if line.strip() and not line.startswith("#"):
+                yield f"tests/rows/{name}:{number}", line.rstrip("\n")
+
+
+NAMES = {name: f"{letter} {digits}" for _, line in rows("lines") for name, letter, digits in [line.split()[:3]]}
+
+
+def lines_of(name):
+    """The lines of a short name."""
+    if name == "empty":
+        return [""]
+    if name in NAMES:
+        return [NAMES[name]]
+    letter, count = SHORT.fullmatch(name).groups()
+    return [letter] * int(count or 1)
+
+
+def text_of(lines):
+    return "".join(f"{line}\n" for line in lines).encode()
+
+
+def spelled(parts):
+    """The text of parts in quotation marks."""
+    if PART.sub("", parts).strip(" +"):
+        sys.exit(f"no text: {parts}")
+    return b"".join(part.encode().decode("unicode_escape").encode() * int(count or 1)
+                    for part, count in PART.findall(parts))
+
+
+def log_lines(given):
+    """The lines of a log by its names, of which the first may be `V2`."""
+    names = given.split()
+    version = 2 if names[:1] == ["V2"] else 1
+    return [f"vicinity-log {version}"] + [line for name in names[version - 1:] for line in lines_of(name)]
+
+
+def log_of(given):
+    """The text of a log, by its names or in quotation marks."""
+    return spelled(given) if given.startswith('"') else text_of(log_lines(given))
