@@ -128,7 +128,7 @@ pub record Has (es : List Entry) (set : ℕ → Bool) (us certain : List ℕ) : 
   pub are_uids : (u : ℕ) → has us u ≡ true → IsUid u
   pub uids_certain : IsListOf (IsForcedBy (is_open (slots_of es)) (slots_of es)) certain
 
--- what `least_failing` ensures
+-- what a search for the least member that fails a test gives
 abbrev pub LeastFailing : List ℕ → (ℕ → Bool) → Option ℕ → Type 0
 LeastFailing xs test r = MatchOption r (NoSuch (IsFailing xs test)) (IsLeast (IsFailing xs test))
 
@@ -136,10 +136,10 @@ pub absent_at : (es : List Entry) (set : ℕ → Bool) (us certain xs : List ℕ
 absent_at es set us certain xs r j e h =
     least_as (IsFailing us set) (IsAbsent es) r (absent_iff es set us j.possible j.uids_open j.uids_listed j.are_uids) (subst (λ ys. LeastFailing ys set r) e h)
 
-pub unlisted_at : (es : List Entry) (set : ℕ → Bool) (us certain xs : List ℕ) (r : Option ℕ) → Has es set us certain → xs ≡ certain → LeastFailing xs (has us) r → MatchOption r (NoSuch (IsUnlisted es)) (IsLeast (IsUnlisted es))
-unlisted_at es set us certain xs r j e h =
-    least_as (IsFailing certain (has us)) (IsUnlisted es) r (unlisted_iff es certain us j.possible j.uids_certain j.uids_listed) (subst (λ ys. LeastFailing ys (has us) r) e h)
+pub unlisted_at : (es : List Entry) (set : ℕ → Bool) (us certain xs ys : List ℕ) (r : Option ℕ) → Has es set us certain → xs ≡ certain → ys ≡ us → LeastFailing xs (has ys) r → MatchOption r (NoSuch (IsUnlisted es)) (IsLeast (IsUnlisted es))
+unlisted_at es set us certain xs ys r j e f h =
+    least_as (IsFailing certain (has us)) (IsUnlisted es) r (unlisted_iff es certain us j.possible j.uids_certain j.uids_listed) (subst (λ vs. LeastFailing vs (has us) r) e (subst (λ vs. LeastFailing xs (has vs) r) f h))
 
-pub doubtful_at : (es : List Entry) (set : ℕ → Bool) (us certain xs : List ℕ) (r : Option ℕ) → Has es set us certain → xs ≡ us → LeastFailing xs (has certain) r → MatchOption r (NoSuch (IsDoubtful es)) (IsLeast (IsDoubtful es))
-doubtful_at es set us certain xs r j e h =
-    least_as (IsFailing us (has certain)) (IsDoubtful es) r (doubtful_iff es certain us j.possible j.uids_certain j.uids_listed) (subst (λ ys. LeastFailing ys (has certain) r) e h)
+pub doubtful_at : (es : List Entry) (set : ℕ → Bool) (us certain xs ys : List ℕ) (r : Option ℕ) → Has es set us certain → xs ≡ us → ys ≡ certain → LeastFailing xs (has ys) r → MatchOption r (NoSuch (IsDoubtful es)) (IsLeast (IsDoubtful es))
+doubtful_at es set us certain xs ys r j e f h =
+    least_as (IsFailing us (has certain)) (IsDoubtful es) r (doubtful_iff es certain us j.possible j.uids_certain j.uids_listed) (subst (λ vs. LeastFailing vs (has certain) r) e (subst (λ vs. LeastFailing xs (has vs) r) f h))

@@ -18,7 +18,7 @@ use crate::first_line::first_impossible_line;
 use crate::keys::{keys_in_order, least_outside};
 use crate::listed::{count_listed, listed_uids};
 use crate::met::open_and_met;
-use crate::rising::{is_among, least_failing};
+use crate::rising::least_missing;
 use crate::unsettled::first_unsettled;
 use crate::verdict::Verdict;
 use std::alloc::{AllocError, Global};
@@ -44,13 +44,13 @@ pub(crate) fn judge_possible<S: OpenSet>(
     if let Some(uid) = least_outside(&set, &keys) {
         return Ok(Verdict::Absent(uid));
     }
-    if let Some(uid) = least_failing(&certain, |u| is_among(&listed, u)) {
+    if let Some(uid) = least_missing(&certain, &listed) {
         return Ok(Verdict::Unlisted(uid));
     }
     if let Some(mask) = first_unsettled(set, &keys)? {
         return Ok(Verdict::Unsettled(mask));
     }
-    if let Some(uid) = least_failing(&listed, |u| is_among(&certain, u)) {
+    if let Some(uid) = least_missing(&listed, &certain) {
         return Ok(Verdict::Doubtful(uid));
     }
     let count = count_listed(lines);

@@ -1,6 +1,5 @@
-use Rattle.std.proofs.Common.{◌≡◌, ℕ, List, Some, None, refl, sym, subst, rules}
+use Rattle.std.proofs.Common.{◌≡◌, ℕ, List, Some, None, refl, sym, subst}
 use Rattle.std.specs.Prelude.{MatchOption}
-use Rattle.vic_frame.specs.Uids.{has}
 use Rattle.vic_log.specs.Order.{entries}
 use Rattle.std.specs.List.Sorted.{IsNonDecreasing}
 use Rattle.vic_tree.specs.OpenSet.{AreKeys}
@@ -21,15 +20,15 @@ returns-in-Some g c =
     let j : Has es set us certain = record { possible = c.requires.possible; uids_open = c.requires.open; uids_listed = c.in_ok-listed.ensures.members; are_uids = c.in_ok-listed.ensures.uids; uids_certain = c.in_ok-certain.ensures.certain es c.requires.met } in
     (c.requires.possible, absent_at es set us certain us (Some c.in-Some.uid) j refl (c.in-Some.ensures us (own_keys us c.in_ok-keys.keys.items _ _ c.deref-2.ensures.value c.deref.ensures.value c.in_ok-keys.ensures)))
 
-pub returns-in-Some-least_failing : goal.returns-in-Some-least_failing
-returns-in-Some-least_failing g c =
+pub returns-in-Some-least_missing : goal.returns-in-Some-least_missing
+returns-in-Some-least_missing g c =
     let es = entries c.args.lines.now in
     let set = g.S.OpenSet.is_open c.args.set in
     let us = c.in_ok-listed.listed.items in
     let certain = c.in_ok-certain.certain.items in
     let j : Has es set us certain = record { possible = c.requires.possible; uids_open = c.requires.open; uids_listed = c.in_ok-listed.ensures.members; are_uids = c.in_ok-listed.ensures.uids; uids_certain = c.in_ok-certain.ensures.certain es c.requires.met } in
     let none_absent = absent_at es set us certain us None j refl (c.in_default.ensures us (own_keys us c.in_ok-keys.keys.items _ _ c.deref-2.ensures.value c.deref.ensures.value c.in_ok-keys.ensures)) in
-    (c.requires.possible, none_absent, unlisted_at es set us certain c.deref-3.result.now (Some c.in-Some-least_failing.uid) j c.deref-3.ensures.value (c.in-Some-least_failing.ensures (has us) (λ u b p. search rules)))
+    (c.requires.possible, none_absent, unlisted_at es set us certain c.deref-3.result.now c.deref-4.result.now (Some c.in-Some-least_missing.uid) j c.deref-3.ensures.value c.deref-4.ensures.value (c.in-Some-least_missing.ensures))
 
 pub returns-in-Some-2 : goal.returns-in-Some-2
 returns-in-Some-2 g c =
@@ -40,11 +39,11 @@ returns-in-Some-2 g c =
     let given = given_at es set us us c.requires.possible c.requires.open c.in_ok-listed.ensures.members c.in_ok-listed.ensures.uids refl in
     let j : Has es set us certain = record { possible = c.requires.possible; uids_open = c.requires.open; uids_listed = c.in_ok-listed.ensures.members; are_uids = c.in_ok-listed.ensures.uids; uids_certain = c.in_ok-certain.ensures.certain es c.requires.met } in
     let none_absent = absent_at es set us certain us None j refl (c.in_default.ensures us (own_keys us c.in_ok-keys.keys.items _ _ c.deref-2.ensures.value c.deref.ensures.value c.in_ok-keys.ensures)) in
-    let none_unlisted = unlisted_at es set us certain c.deref-3.result.now None j c.deref-3.ensures.value (c.in_default-least_failing.ensures (has us) (λ u b p. search rules)) in
-    (c.requires.possible, none_absent, none_unlisted, subst (λ m. MatchOption m (NoSuch (IsUnsettled es)) (IsFirstMask (IsUnsettled es))) c.in-Some-2.is (c.in_ok-mask.ensures es us (own_keys us c.in_ok-keys.keys.items _ _ c.deref-4.ensures.value c.deref.ensures.value c.in_ok-keys.ensures) given))
+    let none_unlisted = unlisted_at es set us certain c.deref-3.result.now c.deref-4.result.now None j c.deref-3.ensures.value c.deref-4.ensures.value (c.in_default-least_missing.ensures) in
+    (c.requires.possible, none_absent, none_unlisted, subst (λ m. MatchOption m (NoSuch (IsUnsettled es)) (IsFirstMask (IsUnsettled es))) c.in-Some-2.is (c.in_ok-mask.ensures es us (own_keys us c.in_ok-keys.keys.items _ _ c.deref-5.ensures.value c.deref.ensures.value c.in_ok-keys.ensures) given))
 
-pub returns-in-Some-least_failing-2 : goal.returns-in-Some-least_failing-2
-returns-in-Some-least_failing-2 g c =
+pub returns-in-Some-least_missing-2 : goal.returns-in-Some-least_missing-2
+returns-in-Some-least_missing-2 g c =
     let es = entries c.args.lines.now in
     let set = g.S.OpenSet.is_open c.args.set in
     let us = c.in_ok-listed.listed.items in
@@ -52,9 +51,9 @@ returns-in-Some-least_failing-2 g c =
     let given = given_at es set us us c.requires.possible c.requires.open c.in_ok-listed.ensures.members c.in_ok-listed.ensures.uids refl in
     let j : Has es set us certain = record { possible = c.requires.possible; uids_open = c.requires.open; uids_listed = c.in_ok-listed.ensures.members; are_uids = c.in_ok-listed.ensures.uids; uids_certain = c.in_ok-certain.ensures.certain es c.requires.met } in
     let none_absent = absent_at es set us certain us None j refl (c.in_default.ensures us (own_keys us c.in_ok-keys.keys.items _ _ c.deref-2.ensures.value c.deref.ensures.value c.in_ok-keys.ensures)) in
-    let none_unlisted = unlisted_at es set us certain c.deref-3.result.now None j c.deref-3.ensures.value (c.in_default-least_failing.ensures (has us) (λ u b p. search rules)) in
-    let none_left : NoSuch (IsUnsettled es) = subst (λ m. MatchOption m (NoSuch (IsUnsettled es)) (IsFirstMask (IsUnsettled es))) c.in_default-2.is (c.in_ok-mask.ensures es us (own_keys us c.in_ok-keys.keys.items _ _ c.deref-4.ensures.value c.deref.ensures.value c.in_ok-keys.ensures) given) in
-    (c.requires.possible, none_absent, none_unlisted, none_left, doubtful_at es set us certain c.deref-5.result.now (Some c.in-Some-least_failing-2.uid) j c.deref-5.ensures.value (c.in-Some-least_failing-2.ensures (has certain) (λ u b p. search rules)))
+    let none_unlisted = unlisted_at es set us certain c.deref-3.result.now c.deref-4.result.now None j c.deref-3.ensures.value c.deref-4.ensures.value (c.in_default-least_missing.ensures) in
+    let none_left : NoSuch (IsUnsettled es) = subst (λ m. MatchOption m (NoSuch (IsUnsettled es)) (IsFirstMask (IsUnsettled es))) c.in_default-2.is (c.in_ok-mask.ensures es us (own_keys us c.in_ok-keys.keys.items _ _ c.deref-5.ensures.value c.deref.ensures.value c.in_ok-keys.ensures) given) in
+    (c.requires.possible, none_absent, none_unlisted, none_left, doubtful_at es set us certain c.deref-6.result.now c.deref-7.result.now (Some c.in-Some-least_missing-2.uid) j c.deref-6.ensures.value c.deref-7.ensures.value (c.in-Some-least_missing-2.ensures))
 
 pub returns : goal.returns
 returns g c =
@@ -65,16 +64,16 @@ returns g c =
     let given = given_at es set us us c.requires.possible c.requires.open c.in_ok-listed.ensures.members c.in_ok-listed.ensures.uids refl in
     let j : Has es set us certain = record { possible = c.requires.possible; uids_open = c.requires.open; uids_listed = c.in_ok-listed.ensures.members; are_uids = c.in_ok-listed.ensures.uids; uids_certain = c.in_ok-certain.ensures.certain es c.requires.met } in
     let none_absent = absent_at es set us certain us None j refl (c.in_default.ensures us (own_keys us c.in_ok-keys.keys.items _ _ c.deref-2.ensures.value c.deref.ensures.value c.in_ok-keys.ensures)) in
-    let none_unlisted = unlisted_at es set us certain c.deref-3.result.now None j c.deref-3.ensures.value (c.in_default-least_failing.ensures (has us) (λ u b p. search rules)) in
-    let none_left : NoSuch (IsUnsettled es) = subst (λ m. MatchOption m (NoSuch (IsUnsettled es)) (IsFirstMask (IsUnsettled es))) c.in_default-2.is (c.in_ok-mask.ensures es us (own_keys us c.in_ok-keys.keys.items _ _ c.deref-4.ensures.value c.deref.ensures.value c.in_ok-keys.ensures) given) in
-    let none_doubtful = doubtful_at es set us certain c.deref-5.result.now None j c.deref-5.ensures.value (c.in_default-least_failing-2.ensures (has certain) (λ u b p. search rules)) in
+    let none_unlisted = unlisted_at es set us certain c.deref-3.result.now c.deref-4.result.now None j c.deref-3.ensures.value c.deref-4.ensures.value (c.in_default-least_missing.ensures) in
+    let none_left : NoSuch (IsUnsettled es) = subst (λ m. MatchOption m (NoSuch (IsUnsettled es)) (IsFirstMask (IsUnsettled es))) c.in_default-2.is (c.in_ok-mask.ensures es us (own_keys us c.in_ok-keys.keys.items _ _ c.deref-5.ensures.value c.deref.ensures.value c.in_ok-keys.ensures) given) in
+    let none_doubtful = doubtful_at es set us certain c.deref-6.result.now c.deref-7.result.now None j c.deref-6.ensures.value c.deref-7.ensures.value (c.in_default-least_missing-2.ensures) in
     (c.requires.possible, none_absent, none_unlisted, none_left, none_doubtful, c.count_listed-count.ensures)
 
 pub least_outside-requires : goal.least_outside-requires
 least_outside-requires g c = subst AreKeys (sym c.deref-2.ensures.value) c.in_ok-keys.ensures.keys
 
 pub first_unsettled-requires-clause-order : goal.first_unsettled-requires-clause-order
-first_unsettled-requires-clause-order g c = subst IsNonDecreasing (sym c.deref-4.ensures.value) c.in_ok-keys.ensures.order
+first_unsettled-requires-clause-order g c = subst IsNonDecreasing (sym c.deref-5.ensures.value) c.in_ok-keys.ensures.order
 
 pub first_unsettled-requires-clause-keys : goal.first_unsettled-requires-clause-keys
-first_unsettled-requires-clause-keys g c = subst AreKeys (sym c.deref-4.ensures.value) c.in_ok-keys.ensures.keys
+first_unsettled-requires-clause-keys g c = subst AreKeys (sym c.deref-5.ensures.value) c.in_ok-keys.ensures.keys
