@@ -9,6 +9,7 @@ pub mod Runs
 pub mod Readings
 pub mod CompleteRun
 pub mod ExplainText
+pub mod ReportText
 pub mod FaultNumbers
 pub mod Numbers
 pub mod ExplainedNumbers

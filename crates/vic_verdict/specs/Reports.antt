@@ -68,10 +68,13 @@ first_finding [] [] (Some m) doubtful = verdict.Unsettled m
 first_finding [] [] None (u ∷ doubtful) = verdict.Doubtful u
 first_finding [] [] None [] = verdict.Complete 0
 
+abbrev pub first_of : Findings → Verdict
+first_of f =
+    first_finding (uids_of f.absent.items) (uids_of f.unlisted.items)
+    (option_map (λ x. x.mask) f.unsettled) f.doubtful.items
+
 -- the verdict that a report begins with
 abbrev pub verdict_of : LogReport → Verdict
 verdict_of (Impossible c) = verdict.Impossible c.line
-verdict_of (NotWhole f) =
-    first_finding (uids_of f.absent.items) (uids_of f.unlisted.items)
-    (option_map (λ x. x.mask) f.unsettled) f.doubtful.items
+verdict_of (NotWhole f) = first_of f
 verdict_of (Complete count) = verdict.Complete count

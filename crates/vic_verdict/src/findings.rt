@@ -11,7 +11,7 @@ ghost use Rattle.vic_verdict.specs.Demands.{IsMet};
 ghost use Rattle.vic_verdict.specs.Findings.{IsLeftOpen};
 ghost use Rattle.vic_verdict.specs.FirstLines.{AreFirstLines};
 ghost use Rattle.vic_verdict.specs.Possible.{IsPossible};
-ghost use Rattle.vic_verdict.specs.Reports.{AreFindings, AreNone, IsUnsettledWith};
+ghost use Rattle.vic_verdict.specs.Reports.{AreFindings, AreNone, IsUnsettledWith, first_of};
 ghost use Rattle.vic_verdict.specs.Rising.{IsListOf};
 ghost use Rattle.vic_verdict.specs.Unsettled.{AreOpenAndListed};
 ghost use Rattle.vic_verdict.specs.Verdict.{NoSuch};
@@ -24,6 +24,7 @@ use crate::rising::is_among;
 use crate::ruled_out::lines_of_absent;
 use crate::shown::ShownUid;
 use crate::told::lines_of_unlisted;
+use crate::verdict::Verdict;
 use std::alloc::{AllocError, Global};
 use vic_frame::{Mask, Uid};
 use vic_log::PackedLine;
@@ -62,6 +63,25 @@ impl Findings {
             && self.unlisted.is_empty()
             && self.unsettled.is_none()
             && self.doubtful.is_empty()
+    }
+
+    /// The first of them, as a verdict; a count of none where there is none.
+    pub(crate) fn first(&self) -> Verdict
+        ensures { result ≡ first_of self.now }
+    {
+        if let Some(shown) = self.absent.first() {
+            return Verdict::Absent(shown.uid);
+        }
+        if let Some(shown) = self.unlisted.first() {
+            return Verdict::Unlisted(shown.uid);
+        }
+        if let Some(unsettled) = &self.unsettled {
+            return Verdict::Unsettled(unsettled.mask);
+        }
+        match self.doubtful.first() {
+            Some(uid) => Verdict::Doubtful(*uid),
+            None => Verdict::Complete { count: 0 },
+        }
     }
 }
 

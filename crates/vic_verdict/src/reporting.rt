@@ -1,6 +1,6 @@
 //! All that a log tells against its list, and the lines that tell it.
 
-ghost use Rattle.std.specs.Prelude.{IfOk};
+ghost use Rattle.std.specs.Prelude.{◌≡◌, IfOk};
 ghost use Rattle.vic_tree.specs.OpenSet.{SameUids};
 ghost use Rattle.vic_tree.specs.Ranges.{is_open_in};
 ghost use Rattle.vic_log.specs.Order.{entries};
@@ -8,13 +8,14 @@ ghost use Rattle.vic_log.specs.Slots.{slots_of, is_open};
 ghost use Rattle.vic_verdict.specs.Demands.{IsMet};
 ghost use Rattle.vic_verdict.specs.FirstLines.{AreFirstLines};
 ghost use Rattle.vic_verdict.specs.Possible.{IsPossible};
-ghost use Rattle.vic_verdict.specs.Reports.{IsReport};
+ghost use Rattle.vic_verdict.specs.Reports.{IsReport, verdict_of};
 
 use crate::conflict::{Conflict, find_conflict};
 use crate::demands::Met;
 use crate::findings::{Findings, find_findings};
 use crate::listed::count_listed;
 use crate::met::open_and_met;
+use crate::verdict::Verdict;
 use std::alloc::{AllocError, Global};
 use vic_log::{Log, PackedLine};
 use vic_tree::RangeSet;
@@ -29,6 +30,21 @@ pub enum LogReport {
     NotWhole(Findings),
     /// The list is whole, and has so many UIDs.
     Complete { count: u32 },
+}
+
+impl LogReport {
+    /// The verdict that it begins with, which is the verdict of `judge` on the same log.
+    pub fn verdict(&self) -> Verdict
+        ensures { result ≡ verdict_of self.now }
+    {
+        match self {
+            LogReport::Impossible(conflict) => Verdict::Impossible {
+                line: conflict.line,
+            },
+            LogReport::NotWhole(findings) => findings.first(),
+            LogReport::Complete { count } => Verdict::Complete { count: *count },
+        }
+    }
 }
 
 /// The report on a log. It begins with the verdict of `judge`. It is want of memory alone that

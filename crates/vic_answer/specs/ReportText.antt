@@ -1,0 +1,102 @@
+-- What `report` answers to a text: all that its log tells against its list, and the lines that tell
+-- it, or the line of a refusal.
+use Rattle.std.specs.Prelude.{◌≡◌, ℕ, Bool, Option, Some, None, List, [], ◌++◌, codes, decimal, if◌then◌else◌}
+use Rattle.std.specs.List.{flat_map}
+use Rattle.vic_frame.specs.Masks.{BitMask}
+use Rattle.vic_log.specs.Lines.{lines_of_text}
+use Rattle.vic_log.specs.Log.{LogValue}
+use Rattle.vic_log.specs.Text.{IsLogOf, IsFirstFault}
+use Rattle.vic_verdict.specs.declared.conflict.Conflict.{Conflict}
+use Rattle.vic_verdict.specs.declared.findings.Findings.{Findings}
+use Rattle.vic_verdict.specs.declared.findings.Unsettled.{Unsettled as LeftToAsk}
+use Rattle.vic_verdict.specs.declared.reporting.LogReport.{LogReport}
+use Rattle.vic_verdict.specs.declared.reporting.LogReport.TheVariants as report
+use Rattle.vic_verdict.specs.declared.shown.ShownUid.{ShownUid}
+use Rattle.vic_verdict.specs.declared.verdict.Verdict.TheVariants.{Impossible, Absent, Unlisted, Unsettled, Doubtful, Complete}
+use Rattle.vic_verdict.specs.Reports.{IsReport, verdict_of}
+use Rattle.vic_answer.specs.CheckText.{answer_status, verdict_line}
+use Rattle.vic_answer.specs.Digits.{value_text}
+use Rattle.vic_answer.specs.Refusals.{refusal_line}
+use Rattle.vic_answer.specs.declared.check.Answer.{Answer}
+use Rattle.vic_answer.specs.declared.check.Answer.TheVariants as answer
+use Rattle.vic_answer.specs.declared.report.Reported.{Reported}
+use Rattle.vic_answer.specs.declared.report.Reported.TheVariants.{Judged, RefusedAt}
+use Rattle.vic_answer.specs.declared.status.Status.{Status}
+
+-- the answer to a text: the report on its log, or its first fault
+abbrev pub IsReported : List ℕ → Reported → Type 0
+IsReported text (Judged r) =
+    (log : LogValue) × IsLogOf (lines_of_text text) log × IsReport log.lines r
+IsReported text (RefusedAt n fault) = IsFirstFault (lines_of_text text) n fault
+
+-- the answer of `check` in it
+abbrev pub answer_of : Reported → Answer
+answer_of (Judged r) = answer.Judged (verdict_of r)
+answer_of (RefusedAt n fault) = answer.RefusedAt n fault
+
+-- ---- the lines
+
+-- a line of the log that shows a finding, or is one of a conflict
+abbrev pub by_line : ℕ → List ℕ
+by_line n = codes "by line " ++ decimal n ++ codes "\n"
+
+-- a listed UID that can't be there, and the line that rules it out
+abbrev pub absent_text : ShownUid → List ℕ
+absent_text s = verdict_line (Absent s.uid) ++ by_line s.line
+
+-- a UID that must be there and isn't listed, and the line that tells of it
+abbrev pub unlisted_text : ShownUid → List ℕ
+unlisted_text s = verdict_line (Unlisted s.uid) ++ by_line s.line
+
+-- an open mask
+abbrev pub open_line : BitMask → List ℕ
+open_line m = codes "open " ++ decimal m.len ++ codes " " ++ value_text m ++ codes "\n"
+
+-- there are more than are given
+abbrev pub more_line : Bool → List ℕ
+more_line more = if more then codes "more open\n" else []
+
+-- what is left to ask for
+abbrev pub unsettled_text : Option LeftToAsk → List ℕ
+unsettled_text None = []
+unsettled_text (Some x) =
+    verdict_line (Unsettled x.mask) ++ flat_map open_line x.open.masks.items
+    ++ more_line x.open.more
+
+-- a listed UID that may be missing
+abbrev pub doubtful_line : ℕ → List ℕ
+doubtful_line u = verdict_line (Doubtful u)
+
+-- the findings, in their order
+abbrev pub findings_text : Findings → List ℕ
+findings_text f =
+    flat_map absent_text f.absent.items ++ flat_map unlisted_text f.unlisted.items
+    ++ unsettled_text f.unsettled ++ flat_map doubtful_line f.doubtful.items
+
+-- what silenced the tag whose reply is the last line of a conflict
+abbrev pub silenced_line : Option ℕ → List ℕ
+silenced_line None = []
+silenced_line (Some n) = codes "silenced by line " ++ decimal n ++ codes "\n"
+
+abbrev pub conflict_text : Conflict → List ℕ
+conflict_text c =
+    verdict_line (Impossible c.line) ++ flat_map by_line c.lines.items
+    ++ silenced_line c.silenced_by
+
+-- ---- the whole text
+
+abbrev pub report_text : LogReport → List ℕ
+report_text (report.Impossible c) = conflict_text c
+report_text (report.NotWhole f) = findings_text f
+report_text (report.Complete count) = verdict_line (Complete count)
+
+abbrev pub reported_text : Reported → List ℕ
+reported_text (Judged r) = report_text r
+reported_text (RefusedAt n fault) = refusal_line n fault
+
+-- the text and the status of the answer to a text: the status is that of `check`
+pub record IsReportOf (text answer : List ℕ) (status : Status) : Type 0 where
+  pub reported : Reported
+  pub right : IsReported text reported
+  pub answer_is : answer ≡ reported_text reported
+  pub status_is : status ≡ answer_status (answer_of reported)
