@@ -124,6 +124,26 @@ low_step low = after_bits-shifts 8 low 0 (omega arith) ∙ ap (shifts 8) (xor_ze
 pub byte_by_low : (r b : ℕ) → b < 256 → bit_xor (r / 256) (after_bits (bit_xor r b % 256) (bits_of 8 0)) ≡ after_bits r (bits_of 8 b)
 byte_by_low r b h = ap (bit_xor (r / 256)) (low_step (bit_xor r b % 256)) ∙ sym (byte_step r b h)
 
+shifts-add : (j k a : ℕ) → shifts (j + k) a ≡ shifts k (shifts j a)
+unfolding shifts
+shifts-add zero k a = let none : 0 + k ≡ k = omega arith in ap (λ n. shifts n a) none
+shifts-add (suc j) k a = let more : suc j + k ≡ suc (j + k) = omega arith in ap (λ n. shifts n a) more ∙ shifts-add j k (shift a)
+
+pub low_two_steps : (low : ℕ) → after_bits low (bits_of 16 0) ≡ shifts 16 low
+low_two_steps low = after_bits-shifts 16 low 0 (omega arith) ∙ ap (shifts 16) (xor_zero_r low)
+
+-- two whole bytes
+pub two_bytes_by_low : (r a b : ℕ) → a < 256 → b < 256 → bit_xor (after_bits (bit_xor r a % 256) (bits_of 16 0)) (after_bits (bit_xor (r / 256) b) (bits_of 8 0)) ≡ after_bits (after_bits r (bits_of 8 a)) (bits_of 8 b)
+two_bytes_by_low r a b ha hb =
+    let low : ℕ = bit_xor r a % 256 in
+    let high : ℕ = r / 256 in
+    let first : after_bits r (bits_of 8 a) ≡ bit_xor high (shifts 8 low) = byte_step r a ha in
+    ap (λ x. bit_xor x (after_bits (bit_xor high b) (bits_of 8 0))) (low_two_steps low ∙ shifts-add 8 8 low)
+    ∙ ap (bit_xor (shifts 8 (shifts 8 low))) (low_step (bit_xor high b))
+    ∙ sym (shifts-xor 8 (shifts 8 low) (bit_xor high b))
+    ∙ ap (shifts 8) (sym (xor_assoc (shifts 8 low) high b) ∙ ap (λ x. bit_xor x b) (xor_comm (shifts 8 low) high ∙ sym first))
+    ∙ sym (after_bits-shifts 8 (after_bits r (bits_of 8 a)) b hb)
+
 after_bits-append : (r : ℕ) (xs ys : List ℕ) → after_bits r (xs ++ ys) ≡ after_bits (after_bits r xs) ys
 unfolding after_bits
 after_bits-append r [] ys = refl

@@ -1,14 +1,35 @@
-use Rattle.std.proofs.Common.{◌+◌, ◌-◌, ◌∙◌, ap, sym, drop, arith}
-use Rattle.vic_frame.specs.Bytes.{bits}
-use Rattle.vic_frame.specs.Crc.{after_bits}
+use Rattle.std.proofs.Common.{◌≡◌, ◌+◌, ◌-◌, ◌*◌, ◌∙◌, length, slice_index, ap, sym, drop, arith}
+use Rattle.vic_frame.specs.Bytes.{bits, bits_of}
+use Rattle.vic_frame.specs.Crc.{after_bits, register}
 use Rattle.vic_frame.proofs.CrcLaws.{after-next, after-end}
 use Rattle.vic_frame.proofs.checksum.crc.Goals as goal
+use Rattle.vic_frame.proofs.checksum.crc.Goals.{then-bytes-eq1, else-bytes-eq1}
 
-pub loop-byte-preserved : goal.loop-byte-preserved
-loop-byte-preserved c =
-    let i = c.loop-byte.byte-index in
+pub loop-i-preserved : goal.loop-i-preserved
+loop-i-preserved c =
     let xs = c.args.bytes.now in
-    ap (λ r. after_bits r (bits (drop (i + 1) xs))) c.after_byte-register.ensures ∙ sym (after-next c.loop-byte.register xs i (omega arith)) ∙ c.loop-byte.invariant
+    let r = c.loop-i.register in
+    let i = c.loop-i.i in
+    let one = after_bits r (bits_of 8 (slice_index xs (2 * i))) in
+    let two = after_bits one (bits_of 8 (slice_index xs (2 * i + 1))) in
+    let place : 2 * (i + 1) ≡ 2 * i + 1 + 1 = omega arith in
+    ap (λ s. after_bits s (bits (drop (2 * (i + 1)) xs))) c.after_two_bytes-register.ensures
+    ∙ ap (λ k. after_bits two (bits (drop k xs))) place
+    ∙ sym (after-next r xs (2 * i) (omega arith) ∙ after-next one xs (2 * i + 1) (omega arith))
+    ∙ c.loop-i.invariant
 
 pub returns : goal.returns
-returns c = ap (λ r. 0xFFFF - r) (sym (after-end c.loop-byte.register c.args.bytes.now c.loop-byte.byte-index (omega arith)) ∙ c.loop-byte.invariant)
+returns c =
+    let xs = c.args.bytes.now in
+    let r = c.loop-i.register in
+    let i = c.loop-i.i in
+    let end : c.if-bytes-eq1.register ≡ register xs = elim c.if-bytes-eq1.branch [
+      | then-bytes-eq1 w ↦
+          let last : length xs - 1 ≡ 2 * i = omega arith in
+          w.register-is ∙ w.after_byte-register.ensures
+          ∙ ap (λ k. after_bits r (bits_of 8 (slice_index xs k))) last
+          ∙ sym (after-next r xs (2 * i) (omega arith) ∙ after-end _ xs (2 * i + 1) (omega arith))
+          ∙ c.loop-i.invariant
+      | else-bytes-eq1 w ↦ w.register-is ∙ sym (after-end r xs (2 * i) (omega arith)) ∙ c.loop-i.invariant
+    ] in
+    ap (λ s. 0xFFFF - s) end

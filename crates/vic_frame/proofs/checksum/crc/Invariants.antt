@@ -1,7 +1,7 @@
-use Rattle.std.proofs.Common.{◌≡◌, drop}
+use Rattle.std.proofs.Common.{◌≡◌, ◌*◌, drop}
 use Rattle.vic_frame.specs.Bytes.{bits}
 use Rattle.vic_frame.specs.Crc as spec
 use Rattle.vic_frame.proofs.checksum.crc.Given as goal
 
-abbrev pub invariant-loop-byte : goal.invariant-loop-byte
-invariant-loop-byte l = spec.after_bits l.register (bits (drop l.byte-index l.bytes)) ≡ spec.register l.bytes
+abbrev pub invariant-loop-i : goal.invariant-loop-i
+invariant-loop-i l = spec.after_bits l.register (bits (drop (2 * l.i) l.bytes)) ≡ spec.register l.bytes
