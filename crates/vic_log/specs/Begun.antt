@@ -1,9 +1,10 @@
 -- A text that is read in pieces: its lines so far were judged, and one more may have begun.
 use Rattle.std.specs.Prelude.{◌≡◌, ◌⊎◌, ℕ, ◌+◌, ◌*◌, ◌-◌, ◌<◌, ◌≤◌, true, false, None, List, [], ◌∷◌, ◌++◌, length, map}
 use Rattle.vic_frame.specs.Uids.{has}
-use Rattle.vic_log.specs.declared.feed.TheConstants.{LINE_ROOM, MAX_TEXT_LEN}
+use Rattle.vic_log.specs.declared.begun.TheConstants.{LINE_ROOM}
+use Rattle.vic_log.specs.declared.feed.TheConstants.{MAX_TEXT_LEN}
 use Rattle.vic_log.specs.declared.entry.TheConstants.{MAX_LINE_LEN, MAX_LINES}
-use Rattle.vic_log.specs.declared.feed.Begun.{Begun}
+use Rattle.vic_log.specs.declared.begun.Begun.{Begun}
 use Rattle.vic_log.specs.Lines.{lf, cr, cut, ends_with, content}
 use Rattle.vic_log.specs.Log.{LogValue}
 use Rattle.vic_log.specs.Text.{version_of, log_upto, fault_on}

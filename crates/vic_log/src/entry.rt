@@ -1,5 +1,8 @@
 //! The entries of a log.
 
+ghost use Rattle.std.specs.Prelude.{◌≡◌, false, true};
+ghost use Rattle.vic_log.specs.Rounds.{is_slot};
+
 use vic_frame::{Request, Response, Uid};
 
 /// The number of the last line that a log may have (profile).
@@ -25,6 +28,18 @@ pub enum Entry {
     Garbled,
     /// `F`, in version 2 alone: the field was switched off and on.
     FieldCycle,
+}
+
+impl Entry {
+    /// Whether it tells of a slot.
+    pub fn is_slot(&self) -> bool
+        ensures { result ≡ is_slot self.now }
+    {
+        match *self {
+            Entry::Silent | Entry::Collision | Entry::Heard(_) | Entry::Garbled => true,
+            Entry::Sent(_) | Entry::Listed(_) | Entry::FieldCycle => false,
+        }
+    }
 }
 
 /// Which lines a log may hold.

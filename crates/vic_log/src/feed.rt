@@ -1,27 +1,19 @@
 //! A log whose text is fed in pieces.
 
-ghost use Rattle.std.specs.Prelude.{◌≡◌, ◌+◌, ◌-◌, ◌*◌, ◌<◌, ◌≤◌, ◌++◌, ◌∷◌, [], ℕ, List, true, false, Some, None, Option, length, MatchResult, IfErr, OnOk, OnErr, IsTrue, MatchOption, if◌then◌else◌};
-ghost use Rattle.vic_frame.specs.Uids.{has};
-ghost use Rattle.vic_log.specs.Begun.{IsShort, IsSplit, HasTaken, IsFed, spare_of};
-ghost use Rattle.vic_log.specs.Early.{IsLong, IsEarly, HasNoEarlyFault};
-ghost use Rattle.vic_log.specs.Lines.{lf, cr, without_last, lines_of_text};
-ghost use Rattle.vic_log.specs.Log.{last_from};
-ghost use Rattle.vic_log.specs.Text.{IsLogOf, Refuses, RefusesNext, next_fault, after_line};
+ghost use Rattle.std.specs.Prelude.{◌≡◌, ◌≤◌, ◌++◌, [], ℕ, List, Some, None, Option, false, length, MatchResult, IfErr, OnOk, OnErr, if◌then◌else◌};
+ghost use Rattle.vic_log.specs.Begun.{IsFed};
+ghost use Rattle.vic_log.specs.Early.{IsEarly, HasNoEarlyFault};
+ghost use Rattle.vic_log.specs.Lines.{lines_of_text};
+ghost use Rattle.vic_log.specs.Text.{IsLogOf, Refuses};
 
-use crate::entry::{MAX_LINE_LEN, MAX_LINES};
-use crate::fault::{LineFault, LogFault};
+use crate::begun::{Begun, LINE_ROOM, end_text, take_piece};
+use crate::entry::MAX_LINES;
+use crate::fault::LogFault;
 use crate::history::History;
 use crate::log::Log;
-use crate::read::take_line;
 use arrayvec::ArrayVec;
-use memchr::memchr;
 use std::alloc::Global;
 use std::marker::Model;
-
-/// The greatest length of a line with its end, CR and LF.
-const LINE_ROOM: usize = 130;
-
-const _: () = prove!(LINE_ROOM == MAX_LINE_LEN + 2);
 
 /// The greatest length of a text that has no early fault: so many lines, each with CR and LF.
 pub const MAX_TEXT_LEN: u64 = 130_000_000;
@@ -101,164 +93,4 @@ impl LogFeed {
         }
         end_text(begun)
     }
-}
-
-/// What was read so far.
-#[derive(Drop)]
-struct Begun {
-    /// The log of the lines judged.
-    log: Log,
-    /// How many lines were judged.
-    number: u32,
-    /// The bytes of the line begun.
-    line: ArrayVec<u8, LINE_ROOM>,
-}
-
-/// A line without one CR at its end.
-fn without_cr(line: &[u8]) -> &[u8]
-    ensures { result.now ≡ without_last cr line.now }
-{
-    match line.strip_suffix(b"\r") {
-        Some(content) => content,
-        None => line,
-    }
-}
-
-/// Whether a line without LF is too long, whatever follows.
-fn is_too_long(line: &[u8]) -> bool
-    requires { length line.now ≤ LINE_ROOM }
-    ensures long { IsTrue result → IsLong line.now }
-    ensures short { result ≡ false → IsShort line.now }
-{
-    line.len() == LINE_ROOM || (line.len() > MAX_LINE_LEN && line[MAX_LINE_LEN] != b'\r')
-}
-
-/// The first line of some bytes without its LF, and what stands behind that.
-fn split_line(bytes: &[u8]) -> Option<(&[u8], &[u8])>
-    ensures { MatchOption result
-        (has bytes.now lf ≡ false)
-        (λ p. IsSplit bytes.now p.0.now p.1.now) }
-{
-    match memchr(b'\n', bytes) {
-        Some(place) => Some((&bytes[..place], &bytes[place + 1..])),
-        None => None,
-    }
-}
-
-/// Judges a line whose LF has come.
-#[inline(always)]
-fn end_line(log: &mut Log, number: &mut u32, line: &[u8]) -> Result<(), LogFault>
-    requires begin { number.old ≡ 0 → log.old.lines ≡ [] }
-    requires above { 0 < number.old → last_from 1 log.old.lines ≤ number.old }
-    requires limit { number.old ≤ MAX_LINES }
-    ensures answer { MatchResult result
-        (λ _. next_fault log.old (number.old + 1) (without_last cr line.now) ≡ None)
-        (RefusesNext log.old (number.old + 1) (without_last cr line.now)) }
-    ensures log { OnOk result
-        (log.new ≡ after_line log.old (number.old + 1) (without_last cr line.now)) }
-    ensures number { OnOk result (number.new ≡ number.old + 1) }
-{
-    take_line(log, *number + 1, without_cr(line))?;
-    *number += 1;
-    Ok(())
-}
-
-/// Takes bytes of the line begun and its LF, which follows them.
-fn take_end(begun: &mut Begun, bytes: &[u8]) -> Result<(), LogFault>
-    requires judged { (text : List ℕ) × HasTaken text begun.old }
-    requires no_lf { has bytes.now lf ≡ false }
-    ensures ok { OnOk result ((text : List ℕ) → HasTaken text begun.old
-        → HasTaken (text ++ (bytes.now ++ lf ∷ [])) begun.new) }
-    ensures err { IfErr result (λ e. (text more : List ℕ) → HasTaken text begun.old
-        → IsEarly e (text ++ (bytes.now ++ lf ∷ more))) }
-    ensures less { OnOk result (spare_of begun.new + length bytes.now + 1 ≤ spare_of begun.old) }
-{
-    if begun.number == MAX_LINES {
-        return Err(LogFault::Line {
-            line: MAX_LINES + 1,
-            fault: LineFault::TooManyLines,
-        });
-    }
-    if begun.line.is_empty() {
-        return end_line(&mut begun.log, &mut begun.number, bytes);
-    }
-    if begun.line.try_extend_from_slice(bytes).is_err() {
-        return Err(LogFault::Line {
-            line: begun.number + 1,
-            fault: LineFault::LineTooLong,
-        });
-    }
-    end_line(&mut begun.log, &mut begun.number, begun.line.as_slice())?;
-    begun.line.clear();
-    Ok(())
-}
-
-/// Takes bytes of the line begun, whose LF has not come.
-fn take_begun(begun: &mut Begun, bytes: &[u8]) -> Result<(), LogFault>
-    requires judged { (text : List ℕ) × HasTaken text begun.old }
-    requires no_lf { has bytes.now lf ≡ false }
-    ensures ok { OnOk result ((text : List ℕ) → HasTaken text begun.old
-        → HasTaken (text ++ bytes.now) begun.new) }
-    ensures err { IfErr result (λ e. (text : List ℕ) → HasTaken text begun.old
-        → IsEarly e (text ++ bytes.now)) }
-    ensures less { OnOk result (spare_of begun.new + length bytes.now ≤ spare_of begun.old) }
-{
-    if bytes.is_empty() {
-        return Ok(());
-    }
-    if begun.number == MAX_LINES {
-        return Err(LogFault::Line {
-            line: MAX_LINES + 1,
-            fault: LineFault::TooManyLines,
-        });
-    }
-    let fits = begun.line.try_extend_from_slice(bytes).is_ok();
-    if !fits || is_too_long(begun.line.as_slice()) {
-        return Err(LogFault::Line {
-            line: begun.number + 1,
-            fault: LineFault::LineTooLong,
-        });
-    }
-    Ok(())
-}
-
-/// Takes some bytes more of the text. A line that lies whole among them is judged where it stands.
-fn take_piece(begun: &mut Begun, bytes: &[u8]) -> Result<(), LogFault>
-    requires judged { (text : List ℕ) × HasTaken text begun.old }
-    ensures ok { OnOk result ((text : List ℕ) → HasTaken text begun.old
-        → HasTaken (text ++ bytes.now) begun.new) }
-    ensures err { IfErr result (λ e. (text : List ℕ) → HasTaken text begun.old
-        → IsEarly e (text ++ bytes.now)) }
-    ensures less { OnOk result (spare_of begun.new + length bytes.now ≤ spare_of begun.old) }
-{
-    let mut rest = bytes;
-    while let Some((line, behind)) = split_line(rest) {
-        take_end(begun, line)?;
-        rest = behind;
-    }
-    take_begun(begun, rest)
-}
-
-/// Judges what is left at the end of the text.
-fn end_text(begun: Begun) -> Result<Log, LogFault>
-    requires judged { (text : List ℕ) × HasTaken text begun }
-    ensures { (text : List ℕ) → HasTaken text begun →
-        MatchResult result (IsLogOf (lines_of_text text)) (Refuses text) }
-{
-    let Begun {
-        mut log,
-        number,
-        line,
-    } = begun;
-    if !line.is_empty() {
-        take_line(&mut log, number + 1, line.as_slice())?;
-        return Ok(log);
-    }
-    if number == 0 {
-        return Err(LogFault::Line {
-            line: 1,
-            fault: LineFault::Header,
-        });
-    }
-    Ok(log)
 }

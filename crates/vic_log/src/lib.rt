@@ -8,6 +8,7 @@
 //! `devices` are readers and writers for tests.
 #![tactic(auto)]
 
+mod begun;
 pub mod devices;
 mod digits;
 mod entry;

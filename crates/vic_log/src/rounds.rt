@@ -1,10 +1,10 @@
 //! The inventory rounds of a log, followed from entry to entry.
 
-ghost use Rattle.std.specs.Prelude.{◌≡◌, ℕ, ◌+◌, ◌≤◌, IfSome, List, Some, slice_get, false, true};
+ghost use Rattle.std.specs.Prelude.{◌≡◌, ℕ, ◌+◌, ◌≤◌, IfSome, List, Some, slice_get};
 ghost use Rattle.vic_log.specs.declared.entry.Entry.{Entry as EntryValue};
 ghost use Rattle.vic_log.specs.OpenRounds.{IsCursorAt, round_at};
 ghost use Rattle.vic_log.specs.Order.{IsInOrder, AreValid};
-ghost use Rattle.vic_log.specs.Rounds.{is_slot, mask_at};
+ghost use Rattle.vic_log.specs.Rounds.{mask_at};
 
 use crate::entry::Entry;
 use vic_frame::{Mask, Request};
@@ -70,17 +70,5 @@ fn round_after(round: &Option<OpenRound>, entry: &Entry) -> Option<OpenRound>
             }),
             None => None,
         },
-    }
-}
-
-impl Entry {
-    /// Whether it tells of a slot.
-    pub fn is_slot(&self) -> bool
-        ensures { result ≡ is_slot self.now }
-    {
-        match *self {
-            Entry::Silent | Entry::Collision | Entry::Heard(_) | Entry::Garbled => true,
-            Entry::Sent(_) | Entry::Listed(_) | Entry::FieldCycle => false,
-        }
     }
 }

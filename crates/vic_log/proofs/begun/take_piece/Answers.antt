@@ -3,7 +3,7 @@ use Rattle.std.proofs.lemmas.Result.{err_from_is_err_and}
 use Rattle.vic_log.specs.Begun.{HasJudged}
 use Rattle.vic_log.specs.Early.{IsEarly}
 use Rattle.vic_log.specs.Lines.{lf}
-use Rattle.vic_log.proofs.feed.take_piece.Goals as goal
+use Rattle.vic_log.proofs.begun.take_piece.Goals as goal
 
 -- what was taken, the line, and what stands behind it
 regrouped : (text taken line behind bytes rest : List ℕ) → bytes ≡ taken ++ rest → rest ≡ line ++ lf ∷ behind → (text ++ taken) ++ (line ++ lf ∷ behind) ≡ text ++ bytes

@@ -3,7 +3,7 @@ use Rattle.std.proofs.lemmas.Bool.{eqb-true}
 use Rattle.std.specs.Prelude.{slice_index}
 use Rattle.vic_log.specs.Lines.{lf}
 use Rattle.vic_log.proofs.Place.{lacks_all, split_at}
-use Rattle.vic_log.proofs.feed.split_line.Goals as goal
+use Rattle.vic_log.proofs.begun.split_line.Goals as goal
 
 pub returns-in-Some : goal.returns-in-Some
 returns-in-Some c =

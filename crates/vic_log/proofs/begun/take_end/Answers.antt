@@ -11,7 +11,7 @@ use Rattle.vic_log.specs.Log.{LogValue}
 use Rattle.vic_log.specs.Text.{next_fault, after_line, RefusesNext}
 use Rattle.vic_log.proofs.Judged.{HasCut, cut_of, HasCut-more, HasJudged-above, HasJudged-none, HasJudged-next, early-refused, early-long, early-many, none_begun}
 use Rattle.vic_log.proofs.Place.{over}
-use Rattle.vic_log.proofs.feed.take_end.Goals as goal
+use Rattle.vic_log.proofs.begun.take_end.Goals as goal
 
 -- the line begun and the bytes behind it
 with_bytes : (text line bytes : List ℕ) (log : LogValue) (n : ℕ) → HasJudged text log n line → has bytes lf ≡ false → HasCut (text ++ bytes) log n (line ++ bytes)

@@ -3,8 +3,8 @@ use Rattle.vic_log.specs.Early.{IsLong, IsEarlyFault}
 use Rattle.vic_log.specs.declared.fault.LineFault.TheVariants.{LineTooLong}
 use Rattle.vic_log.proofs.Judged.{cut_of, HasCut-more, early-long, early-many}
 use Rattle.vic_log.proofs.Place.{over, on_ok}
-use Rattle.vic_log.proofs.feed.take_begun.Goals as goal
-use Rattle.vic_log.proofs.feed.take_begun.Goals.{then-not-fits-via-then-not-fits, then-not-fits-via-else-not-fits+then-is_too_long}
+use Rattle.vic_log.proofs.begun.take_begun.Goals as goal
+use Rattle.vic_log.proofs.begun.take_begun.Goals.{then-not-fits-via-then-not-fits, then-not-fits-via-else-not-fits+then-is_too_long}
 
 pub returns-then-begun-eq-MAX_LINES-clause-err : goal.returns-then-begun-eq-MAX_LINES-clause-err
 returns-then-begun-eq-MAX_LINES-clause-err c = λ text j.

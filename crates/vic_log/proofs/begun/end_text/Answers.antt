@@ -3,7 +3,7 @@ use Rattle.std.proofs.lemmas.Result.{err_from_is_err_and}
 use Rattle.vic_log.specs.Lines.{lines_of_text}
 use Rattle.vic_log.specs.Text.{IsLogOf, RefusesNext, next_fault, after_line}
 use Rattle.vic_log.proofs.Judged.{HasJudged-above, HasJudged-none, end-empty, end-lines, end-next, end-refused, none_begun}
-use Rattle.vic_log.proofs.feed.end_text.Goals as goal
+use Rattle.vic_log.proofs.begun.end_text.Goals as goal
 
 pub take_line-requires-clause-begin : goal.take_line-requires-clause-begin
 take_line-requires-clause-begin c = λ first.
