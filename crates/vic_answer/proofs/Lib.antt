@@ -1,6 +1,7 @@
 mod Decoded
 mod CheckLines
 mod Standing
+mod Waiting
 mod Numbered
 mod SpelledWords
 mod SpellLaws

@@ -6,6 +6,7 @@ pub mod Refusals
 pub mod CheckText
 pub mod SimulateText
 pub mod Runs
+pub mod Pieces
 pub mod Readings
 pub mod CompleteRun
 pub mod ExplainText

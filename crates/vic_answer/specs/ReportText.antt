@@ -76,7 +76,7 @@ findings_text f =
 -- what silenced the tag whose reply is the last line of a conflict
 abbrev pub silenced_line : Option ℕ → List ℕ
 silenced_line None = []
-silenced_line (Some n) = codes "silenced by line " ++ decimal n ++ codes "\n"
+silenced_line (Some n) = codes "silenced " ++ by_line n
 
 abbrev pub conflict_text : Conflict → List ℕ
 conflict_text c =

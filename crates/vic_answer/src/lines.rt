@@ -1,14 +1,15 @@
 //! The lines that are written.
 
-ghost use Rattle.std.specs.Prelude.{◌≡◌, ◌*◌, ◌<◌, ◌≤◌, length};
+ghost use Rattle.std.specs.Prelude.{◌≡◌, ◌*◌, ◌<◌, ◌≤◌, ◌++◌, length};
 ghost use Rattle.arrayvec.specs.ArrayVec.{array_vec_len};
 ghost use Rattle.vic_answer.specs.FrameText as spec;
 ghost use Rattle.vic_answer.specs.CheckText as check;
 ghost use Rattle.vic_answer.specs.Refusals as refusals;
+ghost use Rattle.vic_answer.specs.ReportText as report;
 
 use crate::text::{TEXT_ROOM, Text, put, put_bytes, put_decimal, put_value};
 use arrayvec::ArrayVec;
-use vic_frame::{FrameFault, Request, Response};
+use vic_frame::{FrameFault, Mask, Request, Response};
 use vic_log::LineFault;
 use vic_verdict::Verdict;
 
@@ -108,6 +109,61 @@ pub(crate) fn verdict_line(verdict: &Verdict) -> Text
         }
     }
     put(&mut text, "\n");
+    text
+}
+
+/// Puts the line at the end that names a line of the log.
+pub(crate) fn put_by_line(text: &mut Text, line: u32)
+    requires { array_vec_len text.old < LINE_ROOM }
+    ensures { text.new.items ≡ text.old.items ++ report.by_line line }
+{
+    put(text, "by line ");
+    put_decimal(text, line);
+    put(text, "\n");
+}
+
+/// The line that names a line of the log.
+pub(crate) fn by_line(line: u32) -> Text
+    ensures { result.items ≡ report.by_line line }
+{
+    let mut text = ArrayVec::new();
+    put_by_line(&mut text, line);
+    text
+}
+
+/// The line of what silenced a tag, if it is known.
+pub(crate) fn silenced_line(line: Option<u32>) -> Text
+    ensures { result.items ≡ report.silenced_line line }
+{
+    let mut text = ArrayVec::new();
+    if let Some(line) = line {
+        put(&mut text, "silenced ");
+        put_by_line(&mut text, line);
+    }
+    text
+}
+
+/// The line of an open mask.
+pub(crate) fn open_line(mask: &Mask) -> Text
+    ensures { result.items ≡ report.open_line mask.now }
+{
+    let mut text = ArrayVec::new();
+    put(&mut text, "open ");
+    put_decimal(&mut text, u32::from(mask.len()));
+    put(&mut text, " ");
+    put_value(&mut text, mask);
+    put(&mut text, "\n");
+    text
+}
+
+/// The line that says that there are more open masks, where there are.
+pub(crate) fn more_line(more: bool) -> Text
+    ensures { result.items ≡ report.more_line more }
+{
+    let mut text = ArrayVec::new();
+    if more {
+        put(&mut text, "more open\n");
+    }
     text
 }
 

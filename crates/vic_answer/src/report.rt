@@ -1,13 +1,23 @@
 //! The command `report`.
 
-ghost use Rattle.std.specs.Prelude.{◌≡◌, ℕ, IfOk};
+ghost use Rattle.std.specs.Prelude.{◌≡◌, ℕ, List, IfOk};
 ghost use Rattle.vic_verdict.specs.declared.verdict.Verdict.TheVariants.{Complete};
-ghost use Rattle.vic_answer.specs.CheckText.{IsAnswer, IsCompleteText};
-ghost use Rattle.vic_answer.specs.ReportText.{IsReported, answer_of};
+ghost use Rattle.vic_answer.specs.CheckText.{IsAnswer, IsCompleteText, answer_status};
+ghost use Rattle.vic_answer.specs.Pieces.{Puts};
+ghost use Rattle.vic_answer.specs.Readings.{IsReading};
+ghost use Rattle.vic_answer.specs.ReportText.{IsReportOf, IsReported, answer_of, reported_text};
+ghost use Rattle.vic_answer.specs.Runs.{LeavesSink, LeavesSource, Runs, RunsOver, Writes};
 
-use crate::check::Answer;
+use crate::check::{Answer, answer_status};
+use crate::input::{Reading, read_source};
+use crate::lines::refusal_line;
+use crate::output::write_and_flush;
+use crate::pieces::{Piece, put_text};
+use crate::report_lines::put_report;
+use crate::status::{RunFault, Status};
+use arrayvec::ArrayVec;
 use std::alloc::{AllocError, Global};
-use vic_log::{LineFault, LogFault, read_log};
+use vic_log::{LineFault, LogFault, Sink, Source, read_log};
 use vic_verdict::laws::{complete_is_whole, first_finding_is_the_verdict, one_headline};
 use vic_verdict::{LogReport, report};
 
@@ -52,5 +62,74 @@ pub fn reported_answer(reported: &Reported) -> Answer
             line: *line,
             fault: *fault,
         },
+    }
+}
+
+/// Judges the log that a source hands out, writes all that it tells against its list with the lines
+/// that tell it, and flushes. The first line and the status are those of `check`. It reads to the
+/// end, or to the first fault of a line that no further byte can change. `Read` where the source has
+/// failed, `Memory` where memory was refused: nothing is written then. `Write` where the sink has
+/// failed: a prefix of the text may be out.
+pub fn run_report<R: Source, W: Sink>(
+    alloc: Global,
+    source: &mut R,
+    sink: &mut W,
+) -> Result<Status, RunFault>
+    ensures answer { Runs IsReportOf (R.left source.old) (R.left source.new)
+        (W.taken sink.old) (W.taken sink.new) result }
+    // the same over the bytes that the reads returned and the writes took, whatever these tell
+    ensures bytes { RunsOver IsReportOf (R.returned source.old) (R.returned source.new)
+        (R.ended source.new) (W.written sink.old) (W.written sink.new) result }
+    ensures leaves_source { LeavesSource R.reads R.has_failed source.old source.new result }
+    ensures leaves_sink { LeavesSink W.is_flushed W.has_failed sink.old sink.new result }
+{
+    let reading = read_source(alloc, source)?;
+    let reported = report_reading(alloc, reading)?;
+    write_reported(&reported, sink)
+}
+
+/// The answer to what was read.
+fn report_reading(alloc: Global, reading: Reading) -> Result<Reported, AllocError>
+    ensures { IfOk result (λ r. (text : List ℕ)
+        → IsReading text reading → IsReported text r) }
+{
+    match reading {
+        Reading::Given(log) => Ok(Reported::Judged(report(alloc, &log)?)),
+        Reading::RefusedAt { line, fault } => Ok(Reported::RefusedAt { line, fault }),
+    }
+}
+
+/// Writes the text of an answer.
+fn write_reported<W: Sink>(reported: &Reported, sink: &mut W) -> Result<Status, RunFault>
+    ensures status { IfOk result (λ s. s ≡ answer_status (answer_of reported.now)) }
+    ensures written { Writes W.written W.taken W.is_flushed W.has_failed
+        sink.old sink.new (reported_text reported.now) result }
+{
+    write_lines(reported, sink)?;
+    Ok(answer_status(&reported_answer(reported)))
+}
+
+/// Writes the lines of an answer, and flushes.
+fn write_lines<W: Sink>(reported: &Reported, sink: &mut W) -> Result<(), RunFault>
+    ensures { Writes W.written W.taken W.is_flushed W.has_failed
+        sink.old sink.new (reported_text reported.now) result }
+{
+    let mut piece = ArrayVec::new();
+    put_reported(&mut piece, sink, reported)?;
+    write_and_flush(sink, piece.as_slice())
+}
+
+/// Puts the text of an answer behind what waits.
+fn put_reported<W: Sink>(
+    piece: &mut Piece,
+    sink: &mut W,
+    reported: &Reported,
+) -> Result<(), RunFault>
+    ensures { Puts W.written W.taken W.has_failed sink.old sink.new
+        piece.old.items piece.new.items (reported_text reported.now) result }
+{
+    match reported {
+        Reported::Judged(report) => put_report(piece, sink, report),
+        Reported::RefusedAt { line, fault } => put_text(piece, sink, &refusal_line(*line, fault)),
     }
 }

@@ -15,6 +15,8 @@ pub enum Task {
     Simulate(Option<String>),
     /// To judge a log and show a population behind the verdict.
     Explain(Option<String>),
+    /// To judge a log and show all that it tells against its list, with the lines that tell it.
+    Report(Option<String>),
     /// To read one frame, given in hex digits.
     Frame(String),
     /// To spell a frame, given in the words of `frame`.
@@ -25,9 +27,8 @@ impl Task {
     /// The file that it reads, where one is named.
     pub fn file(&self) -> Option<&str> {
         match self {
-            Task::Check(file) | Task::Simulate(file) | Task::Explain(file) => {
-                file.as_ref().map(|name| name.as_str())
-            }
+            Task::Check(file) | Task::Simulate(file) | Task::Explain(file) | Task::Report(file) =>
+                file.as_ref().map(|name| name.as_str()),
             Task::Frame(_) | Task::Spell(_) => None,
         }
     }
@@ -87,6 +88,7 @@ fn commands<'a>(alloc: Global) -> Result<Command<'a>, AllocError> {
         .subcommand(with_operand(alloc, "check", "file", false)?)?
         .subcommand(with_operand(alloc, "simulate", "file", false)?)?
         .subcommand(with_operand(alloc, "explain", "file", false)?)?
+        .subcommand(with_operand(alloc, "report", "file", false)?)?
         .subcommand(with_operand(alloc, "frame", "hex", true)?)?
         .subcommand(with_words(alloc, "spell")?)
 }
@@ -115,6 +117,7 @@ pub fn read_words(alloc: Global, words: Vec<String>) -> Result<Task, WordsFault>
         Some(("check", given)) => Ok(Task::Check(operand(alloc, given, "file")?)),
         Some(("simulate", given)) => Ok(Task::Simulate(operand(alloc, given, "file")?)),
         Some(("explain", given)) => Ok(Task::Explain(operand(alloc, given, "file")?)),
+        Some(("report", given)) => Ok(Task::Report(operand(alloc, given, "file")?)),
         Some(("frame", given)) => match operand(alloc, given, "hex")? {
             Some(word) => Ok(Task::Frame(word)),
             None => Err(WordsFault::Usage),

@@ -5,7 +5,8 @@ use std::io::ErrorKind;
 use std::process::ExitCode;
 use std::{env, fs};
 use vic_answer::{
-    RunFault, Status, fault_text, run_check, run_explain, run_frame, run_simulate, run_spell,
+    RunFault, Status, fault_text, run_check, run_explain, run_frame, run_report, run_simulate,
+    run_spell,
 };
 use vic_log::{FromRead, Source, ToWrite};
 use vic_words::{Task, WordsFault, read_words};
@@ -46,6 +47,7 @@ fn run_task<R: Source>(rt: &HostRuntime, task: &Task, source: &mut R) -> ExitCod
         Task::Check(_) => run_check(rt.alloc(), source, &mut sink),
         Task::Simulate(_) => run_simulate(rt.alloc(), source, &mut sink),
         Task::Explain(_) => run_explain(rt.alloc(), source, &mut sink),
+        Task::Report(_) => run_report(rt.alloc(), source, &mut sink),
         Task::Frame(word) => run_frame(word.as_bytes(), &mut sink),
         Task::Spell(words) => run_spell(words.as_slice(), &mut sink),
     };

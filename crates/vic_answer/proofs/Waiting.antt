@@ -1,0 +1,134 @@
+-- What was put behind bytes that wait, in turn.
+use Rattle.std.proofs.Common.{arith, OnOk, ◌≡◌, ◌+◌, ℕ, List, [], ◌++◌, length, length-append, take, None, Some, Option, Bool, Result, Ok, Err, refl, sym, ◌∙◌, ap, append_assoc, append-nil, subst}
+use Rattle.std.specs.Prelude.{⊤}
+use Rattle.std.specs.Result.{IsErr, IsErrAnd}
+use Rattle.std.proofs.KnownBytes.{Appends-trans, Appends-nil}
+use Rattle.std.proofs.lemmas.List.{take-append-le}
+use Rattle.std.proofs.Math.Seq.{take-append-add}
+use Rattle.std.specs.Io.KnownBytes.{Appends}
+use Rattle.vic_log.specs.Device.{HasTakenBut, HasTakenPrefix}
+use Rattle.vic_answer.specs.declared.status.RunFault.{RunFault}
+use Rattle.vic_answer.specs.Pieces.{PutsBehind, Puts}
+use Rattle.vic_answer.specs.Runs.{Writes}
+
+-- a text behind a text
+more_waits : (a b c : Option (List ℕ)) (w w' w'' xs ys : List ℕ) → HasTakenBut a b w' (w ++ xs) → HasTakenBut b c w'' (w' ++ ys) → HasTakenBut a c w'' (w ++ (xs ++ ys))
+more_waits a b c w w' w'' xs ys h k = (
+  h.0 ++ k.0,
+  Appends-trans a b c h.0 k.0 h.1 k.1,
+  append_assoc h.0 k.0 w'' ∙ (ap (λ zs. h.0 ++ zs) k.2 ∙ (sym (append_assoc h.0 w' ys) ∙ (ap (λ zs. zs ++ ys) h.2 ∙ append_assoc w xs ys))),
+)
+
+-- a prefix of a text is one of a longer text
+pub HasTakenPrefix-longer : (a b : Option (List ℕ)) (xs ys : List ℕ) → HasTakenPrefix a b xs → HasTakenPrefix a b (xs ++ ys)
+HasTakenPrefix-longer None b xs ys h = tt
+HasTakenPrefix-longer (Some us) None xs ys h = tt
+HasTakenPrefix-longer (Some us) (Some vs) xs ys h =
+    let long = length-append xs ys in
+    (h.0, omega arith, h.2 ∙ ap (λ zs. us ++ zs) (sym (take-append-le h.0 xs ys h.1)))
+
+-- of what waited and a text only a prefix was taken, behind what was taken before
+pub HasTakenPrefix-behind : (a b c : Option (List ℕ)) (w text more : List ℕ) → HasTakenBut a b w text → HasTakenPrefix b c (w ++ more) → HasTakenPrefix a c (text ++ more)
+HasTakenPrefix-behind None b c w text more h k = tt
+HasTakenPrefix-behind (Some us) None c w text more h k = absurd h.1
+HasTakenPrefix-behind (Some us) (Some vs) None w text more h k = tt
+HasTakenPrefix-behind (Some us) (Some vs) (Some ws) w text more h k =
+    let sent = h.0 in
+    let whole : text ++ more ≡ sent ++ (w ++ more) = ap (λ zs. zs ++ more) (sym h.2) ∙ append_assoc sent w more in
+    let long : length (text ++ more) ≡ length sent + length (w ++ more) = ap length whole ∙ length-append sent (w ++ more) in
+    let front : take (length sent + k.0) (text ++ more) ≡ sent ++ take k.0 (w ++ more) = ap (take (length sent + k.0)) whole ∙ take-append-add sent (w ++ more) k.0 in
+    (length sent + k.0, omega arith, k.2 ∙ (ap (λ zs. zs ++ take k.0 (w ++ more)) h.1 ∙ (append_assoc us sent (take k.0 (w ++ more)) ∙ ap (λ zs. us ++ zs) (sym front))))
+
+PutsBehind-then : (a b c : Option (List ℕ)) (w w' w'' xs ys : List ℕ) (r : Result ⊤ RunFault) → PutsBehind a b w w' xs (Ok tt) → PutsBehind b c w' w'' ys r → PutsBehind a c w w'' (xs ++ ys) r
+PutsBehind-then a b c w w' w'' xs ys (Ok y) h k = record { told = more_waits a b c w w' w'' xs ys h.told k.told; begun = tt }
+PutsBehind-then a b c w w' w'' xs ys (Err e) h k = record { told = tt; begun = subst (HasTakenPrefix a c) (append_assoc w xs ys) (HasTakenPrefix-behind a b c w' (w ++ xs) ys h.told k.begun) }
+
+PutsBehind-fails : (a b : Option (List ℕ)) (w w' w'' xs ys : List ℕ) (e : RunFault) → PutsBehind a b w w' xs (Err e) → PutsBehind a b w w'' (xs ++ ys) (Err e)
+PutsBehind-fails a b w w' w'' xs ys e h = record { told = tt; begun = subst (HasTakenPrefix a b) (append_assoc w xs ys) (HasTakenPrefix-longer a b (w ++ xs) ys h.begun) }
+
+PutsBehind-nil : (a : Option (List ℕ)) (w : List ℕ) → PutsBehind a a w w [] (Ok tt)
+PutsBehind-nil a w = record { told = ([], Appends-nil a, sym (append-nil w)); begun = tt }
+
+-- what waited was taken, behind what was taken before
+all_behind : (a b c : Option (List ℕ)) (w text : List ℕ) → HasTakenBut a b w text → Appends b c w → Appends a c text
+all_behind a b c w text h k = subst (Appends a c) h.2 (Appends-trans a b c h.0 w h.1 k)
+
+part_behind : (a b c : Option (List ℕ)) (w text : List ℕ) → HasTakenBut a b w text → HasTakenPrefix b c w → HasTakenPrefix a c text
+part_behind a b c w text h k = subst (HasTakenPrefix a c) (append-nil text) (HasTakenPrefix-behind a b c w text [] h (subst (HasTakenPrefix b c) (sym (append-nil w)) k))
+
+err_is : (r : Result ⊤ RunFault) (e : RunFault) → IsErr r × IsErrAnd r (λ d. d ≡ e) → Err e ≡ r
+err_is (Ok x) e h = let no = h.0 in cc
+err_is (Err d) e h = ap Err (sym h.1)
+
+module _ {W : Type 0} {written : W → List ℕ} {taken : W → Option (List ℕ)} {has_failed : W → Bool} where
+  -- one text behind another
+  pub Puts-then : {a b c : W} {w w' w'' xs ys : List ℕ} {r : Result ⊤ RunFault}
+      → Puts written taken has_failed a b w w' xs (Ok tt) → Puts written taken has_failed b c w' w'' ys r
+      → Puts written taken has_failed a c w w'' (xs ++ ys) r
+  Puts-then {w = w} {w' = w'} {w'' = w''} {xs = xs} {ys = ys} {r = r} h k = record {
+    took = PutsBehind-then _ _ _ w w' w'' xs ys r h.took k.took;
+    wrote = PutsBehind-then _ _ _ w w' w'' xs ys r h.wrote k.wrote;
+    fault = k.fault;
+    failed = k.failed;
+    untouched = λ e. let same = h.untouched e in k.untouched (ap has_failed same ∙ e) ∙ same;
+  }
+
+  -- a text that can't be put can't be put with another behind it
+  pub Puts-longer : (ys : List ℕ) {a b : W} {w w' xs : List ℕ} (r : Result ⊤ RunFault) → IsErr r
+      → Puts written taken has_failed a b w w' xs r → Puts written taken has_failed a b w w' (xs ++ ys) r
+  Puts-longer ys (Ok x) is h = cc
+  Puts-longer ys {w = w} {w' = w'} {xs = xs} (Err e) is h = record {
+    took = PutsBehind-fails _ _ w w' w' xs ys e h.took;
+    wrote = PutsBehind-fails _ _ w w' w' xs ys e h.wrote;
+    fault = h.fault;
+    failed = h.failed;
+    untouched = h.untouched;
+  }
+
+  -- an error that is handed on
+  pub Puts-handed : {a b : W} {w w' xs : List ℕ} {e : RunFault} (r : Result ⊤ RunFault) → IsErr r × IsErrAnd r (λ d. d ≡ e)
+      → Puts written taken has_failed a b w w' xs (Err e) → Puts written taken has_failed a b w w' xs r
+  Puts-handed {a} {b} {w} {w'} {xs} {e} r is h = subst (Puts written taken has_failed a b w w' xs) (err_is r e is) h
+
+  -- the same text
+  pub Puts-same : {a b : W} {w w' xs ys : List ℕ} {r : Result ⊤ RunFault}
+      → Puts written taken has_failed a b w w' xs r → xs ≡ ys → Puts written taken has_failed a b w w' ys r
+  Puts-same {a} {b} {w} {w'} {xs} {ys} {r} h same = subst (λ zs. Puts written taken has_failed a b w w' zs r) same h
+
+  -- no text
+  pub Puts-nil : (a : W) (w : List ℕ) → Puts written taken has_failed a a w w [] (Ok tt)
+  Puts-nil a w = record {
+    took = PutsBehind-nil (taken a) w;
+    wrote = PutsBehind-nil (Some (written a)) w;
+    fault = tt;
+    failed = tt;
+    untouched = λ e. refl;
+  }
+
+  wrote_behind : {is_flushed : W → Bool} (a b c : W) (w text : List ℕ) (r : Result ⊤ RunFault) → HasTakenBut (Some (written a)) (Some (written b)) w text
+      → Writes written taken is_flushed has_failed b c w r → OnOk r (written c ≡ written a ++ text)
+  wrote_behind a b c w text (Ok x) h k = all_behind (Some (written a)) (Some (written b)) (Some (written c)) w text h k.wrote
+  wrote_behind a b c w text (Err e) h k = tt
+
+  took_behind : {is_flushed : W → Bool} (a b c : W) (w text : List ℕ) (r : Result ⊤ RunFault) → HasTakenBut (taken a) (taken b) w text
+      → Writes written taken is_flushed has_failed b c w r → OnOk r (Appends (taken a) (taken c) text)
+  took_behind a b c w text (Ok x) h k = all_behind (taken a) (taken b) (taken c) w text h k.all
+  took_behind a b c w text (Err e) h k = tt
+
+  -- the last piece is written, where at first nothing waited
+  pub Writes-behind : {is_flushed : W → Bool} {a b c : W} {none w text : List ℕ} {r : Result ⊤ RunFault}
+      → none ≡ [] → Puts written taken has_failed a b none w text (Ok tt) → Writes written taken is_flushed has_failed b c w r
+      → Writes written taken is_flushed has_failed a c text r
+  Writes-behind {a = a} {b = b} {c = c} {w = w} {text = text} {r = r} start h k =
+      let wrote : HasTakenBut (Some (written a)) (Some (written b)) w text = subst (λ ws. HasTakenBut (Some (written a)) (Some (written b)) w (ws ++ text)) start h.wrote.told in
+      let took : HasTakenBut (taken a) (taken b) w text = subst (λ ws. HasTakenBut (taken a) (taken b) w (ws ++ text)) start h.took.told in
+      record {
+        wrote = wrote_behind a b c w text r wrote k;
+        part = part_behind (Some (written a)) (Some (written b)) (Some (written c)) w text wrote k.part;
+        all = took_behind a b c w text r took k;
+        flushed = k.flushed;
+        begun = part_behind (taken a) (taken b) (taken c) w text took k.begun;
+        fault = k.fault;
+        failed = k.failed;
+        untouched = λ e. let same = h.untouched e in k.untouched (ap has_failed same ∙ e) ∙ same;
+      }

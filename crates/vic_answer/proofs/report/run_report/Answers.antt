@@ -1,0 +1,23 @@
+use Rattle.std.proofs.Common.{refl, Some}
+use Rattle.vic_answer.specs.CheckText.{answer_status}
+use Rattle.vic_answer.specs.ReportText.{IsReportOf, answer_of, reported_text}
+use Rattle.vic_answer.proofs.Standing.{ends_written}
+use Rattle.vic_answer.proofs.report.run_report.Goals as goal
+
+pub returns-clause-answer : goal.returns-clause-answer
+returns-clause-answer g c =
+    let r = c.in_ok-reading.ensures.reading in
+    let reported = c.in_ok-reported.reported in
+    let w = c.write_reported.ensures in
+    ends_written IsReportOf _ _ _ _ _ c.in_ok-reading.reading r (reported_text reported) (answer_status (answer_of reported))
+    record { reported = reported; right = c.in_ok-reported.ensures r.text r.right; answer_is = refl; status_is = refl }
+    c.write_reported.result w.status w.written.all w.written.begun w.written.fault
+
+pub returns-clause-bytes : goal.returns-clause-bytes
+returns-clause-bytes g c =
+    let r = c.in_ok-reading.ensures.bytes in
+    let reported = c.in_ok-reported.reported in
+    let w = c.write_reported.ensures in
+    ends_written IsReportOf _ _ _ (Some _) (Some _) c.in_ok-reading.reading r (reported_text reported) (answer_status (answer_of reported))
+    record { reported = reported; right = c.in_ok-reported.ensures r.text r.right; answer_is = refl; status_is = refl }
+    c.write_reported.result w.status w.written.wrote w.written.part w.written.fault

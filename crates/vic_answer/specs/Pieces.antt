@@ -1,0 +1,23 @@
+-- Texts that are written in pieces: some bytes wait until there are enough of them for a write.
+use Rattle.std.specs.Prelude.{◌≡◌, ℕ, Bool, true, ⊤, List, ◌++◌, Option, Some, Result, OnOk, OnErr, IfErr}
+use Rattle.vic_log.specs.Device.{HasTakenBut, HasTakenPrefix}
+use Rattle.vic_answer.specs.declared.status.RunFault.{RunFault}
+use Rattle.vic_answer.specs.declared.status.RunFault.TheVariants.{Write}
+
+-- a text was put behind the bytes that waited: the sink took them all but those that wait now, or
+-- it failed and took a prefix of them
+pub record PutsBehind (taken taken' : Option (List ℕ)) (waiting waiting' text : List ℕ)
+    (result : Result ⊤ RunFault) : Type 0 where
+  pub told : OnOk result (HasTakenBut taken taken' waiting' (waiting ++ text))
+  pub begun : OnErr result (HasTakenPrefix taken taken' (waiting ++ text))
+
+-- the same of what the sink tells and of what its writes took, and how it leaves the sink, which is
+-- untouched where it had failed before
+pub record Puts {W : Type 0} (written : W → List ℕ) (taken : W → Option (List ℕ))
+    (has_failed : W → Bool) (old new : W)
+    (waiting waiting' text : List ℕ) (result : Result ⊤ RunFault) : Type 0 where
+  pub took : PutsBehind (taken old) (taken new) waiting waiting' text result
+  pub wrote : PutsBehind (Some (written old)) (Some (written new)) waiting waiting' text result
+  pub fault : IfErr result (λ e. e ≡ Write)
+  pub failed : OnErr result (has_failed new ≡ true)
+  pub untouched : has_failed old ≡ true → new ≡ old

@@ -1,0 +1,52 @@
+//! How a long text goes out: in pieces, which wait until there is enough for a write.
+
+ghost use Rattle.std.specs.Prelude.{◌≡◌, List, ℕ};
+ghost use Rattle.std.specs.List.{flat_map};
+ghost use Rattle.vic_answer.specs.Pieces.{Puts};
+
+use crate::status::RunFault;
+use crate::text::Text;
+use arrayvec::ArrayVec;
+use vic_log::{Sink, WRITTEN_AT_ONCE, write_whole};
+
+/// Bytes that wait for one write.
+pub(crate) type Piece = ArrayVec<u8, WRITTEN_AT_ONCE>;
+
+/// Puts a text behind what waits, which is written first where it leaves the text no room.
+pub(crate) fn put_text<W: Sink>(
+    piece: &mut Piece,
+    sink: &mut W,
+    text: &Text,
+) -> Result<(), RunFault>
+    ensures { Puts W.written W.taken W.has_failed sink.old sink.new
+        piece.old.items piece.new.items text.now.items result }
+{
+    if piece.len() + text.len() > WRITTEN_AT_ONCE {
+        if write_whole(sink, piece.as_slice()).is_err() {
+            return Err(RunFault::Write);
+        }
+        piece.clear();
+    }
+    let Ok(()) = piece.try_extend_from_slice(text.as_slice()) else {
+        unreachable!()
+    };
+    Ok(())
+}
+
+/// Puts the text of each item behind what waits.
+pub(crate) fn put_each<W: Sink, T: Copy, F: Fn(T) -> Text>(
+    piece: &mut Piece,
+    sink: &mut W,
+    items: &[T],
+    text_of: F,
+) -> Result<(), RunFault>
+    requires { F.IsAlwaysCallable text_of }
+    ensures { (told : T → List ℕ) → ((x : T) (t : _) → F.post text_of x t → t.items ≡ told x)
+        → Puts W.written W.taken W.has_failed sink.old sink.new
+        piece.old.items piece.new.items (flat_map told items.now) result }
+{
+    for item in items {
+        put_text(piece, sink, &text_of(*item))?;
+    }
+    Ok(())
+}
