@@ -1,83 +1,41 @@
 #!/usr/bin/env python3
-"""Judges random logs by brute force, and asks the library for the same:
+"""Judges random logs by brute force, and asks the library and the program for the same:
 
     oracle.py [--library PATH] [NUMBER [SEED]]
 
-It shares no code and no definition with what is proved: it was written from docs/AIR.md, VERDICTS.md, LOG_FORMAT.md and
-FRAMES.md alone. The first lines of each log leave eight UIDs that may be in the field, by silent slots and Stay Quiets.
-So there are 256 populations to try, and each is played against each line. The verdict is read off those that are left,
-and the population that the library shows has to be one of them and to show it.
+It shares no code and no definition with what is proved: it was written from docs/AIR.md, VERDICTS.md, COMMANDS.md,
+LOG_FORMAT.md and FRAMES.md alone. The first lines of most logs leave eight UIDs that may be in the field, by silent slots
+and Stay Quiets (random_logs.py). So there are 256 populations to try, and each is played against each line. The verdict is
+read off those that are left, and the population that the library shows has to be one of them and to show it. What the
+report has to be follows from them as well (reports.py). The other logs leave any UID, and one population of all that
+silence and replies leave is tried.
 
-The library is out/library/libvicinity.so, all logs go to it in one process. At the end wrong judges are put in its
-place, each wrong in one rule, and have to be found. The last line is `N passed, M failed`, of logs and wrong judges.
+The library is out/library/libvicinity.so, all logs go to it in one process. The reports are those of the program,
+crates/vicinity/out/vicinity. At the end wrong judges and wrong reports are put in their place, each wrong in one rule, and
+have to be found. The last line is `N passed, M failed`, of logs, wrong judges and wrong reports.
 """
 import collections
 import ctypes
+import functools
 import os
 import random
+import subprocess
 import sys
 
+import reports
+from random_logs import (COLLISION, FIELD_CYCLE, GARBLED, LEFT, SILENT, UID_BITS, Ask, Listed, Reply, StayQuiet, hex_of,
+                         lies_in, number_of, random_log, slot_mask, text_of)
+
 TOP = os.path.dirname(os.path.dirname(os.path.abspath(__file__)))
-NUMBER = 20000
+PROGRAM = os.path.join(TOP, "crates/vicinity/out/vicinity")
+NUMBER = 15000
 # How many logs a wrong judge is given to be found, and how many of a thousand must have each verdict.
-PLANTED = 4000
+PLANTED = 8000
 LEAST_SHARE = 20
-UID_BITS = 56
-TOP_BYTE = 0xE0 << UID_BITS
-LEFT = 8
 ALL = 2**LEFT - 1
-# UIDs that have so many low bits in common are left by some hundred silent slots; others by Stay Quiets.
-NEAR_BITS = 48
-
-
-# What a line says, and how it is spelled (docs/LOG_FORMAT.md, docs/FRAMES.md).
-
-Ask = collections.namedtuple("Ask", "sixteen length value")
-StayQuiet = collections.namedtuple("StayQuiet", "uid")
-Reply = collections.namedtuple("Reply", "uid")
-Listed = collections.namedtuple("Listed", "uid")
-SILENT, COLLISION, GARBLED, FIELD_CYCLE = "S", "C", "D", "F"
-PASSED_OVER = ("", "# a remark")
-
-
-def framed(body):
-    """The digits of a frame: its bytes, and the CRC over them, low byte first."""
-    register = 0xFFFF
-    for byte in body:
-        for place in range(8):
-            differ = (register ^ byte >> place) & 1
-            register = register >> 1 ^ 0x8408 * differ
-    return (body + (register ^ 0xFFFF).to_bytes(2, "little")).hex().upper()
-
-
-def spelled(line):
-    if isinstance(line, Ask):
-        flags = 0x06 if line.sixteen else 0x26
-        value = line.value.to_bytes((line.length + 7) // 8, "little")
-        return "T " + framed(bytes((flags, 1, line.length)) + value)
-    if isinstance(line, StayQuiet):
-        return "T " + framed(b"\x22\x02" + line.uid.to_bytes(8, "little"))
-    if isinstance(line, Reply):
-        return "R " + framed(b"\x00\x07" + line.uid.to_bytes(8, "little"))
-    if isinstance(line, Listed):
-        return "U %016X" % line.uid
-    return line
-
-
-def text_of(version, lines):
-    return "".join(f"{line}\n" for line in [f"vicinity-log {version}", *map(spelled, lines)]).encode()
 
 
 # The rules of the air (docs/AIR.md). A set of the eight UIDs is a number of eight bits.
-
-def lies_in(uid, length, value):
-    return uid % 2**length == value
-
-
-def slot_mask(ask, number):
-    """The mask of a slot of a request."""
-    return (ask.length + 4, ask.value + number * 2**ask.length) if ask.sixteen else (ask.length, ask.value)
-
 
 class Air:
     """Who would answer, slot by slot: the same for every population, which answers as far as it has them."""
@@ -136,15 +94,18 @@ class Judge:
         for number, line in enumerate(lines, 2):
             would = air.next(line)
             if would is not None:
-                fits = {them: air.fits(line, them) for them in {them & would for them in left}}
-                fitting = [them for them in left if fits[them & would]]
-                if not fitting:
+                fits = {them: air.fits(line, them) for them in ({them & would for them in left} if would else (0,))}
+                if not all(fits.values()):
+                    left = [them for them in left if fits[them & would]]
+                if not left:
                     return Answer(f"impossible at line {number}", [])
-                left = fitting
         listed = [line.uid for line in lines if isinstance(line, Listed)]
-        possible = {uid for place, uid in enumerate(self.uids) if any(them >> place & 1 for them in left)}
-        certain = {uid for place, uid in enumerate(self.uids) if all(them >> place & 1 for them in left)}
-        return Answer(self.verdict(listed, possible, certain), list(left))
+        return Answer(self.verdict(listed, *self.known(left)), list(left))
+
+    def known(self, populations):
+        """The UIDs that are possible, and those that are certain."""
+        return ({uid for place, uid in enumerate(self.uids) if any(them >> place & 1 for them in populations)},
+                {uid for place, uid in enumerate(self.uids) if all(them >> place & 1 for them in populations)})
 
     def verdict(self, listed, possible, certain):
         absent = [uid for uid in listed if uid not in possible]
@@ -202,14 +163,6 @@ class Judge:
         return []
 
 
-def hex_of(length, value):
-    return "%0*X" % ((length + 7) // 8 * 2, value) if length else "-"
-
-
-def number_of(digits):
-    return 0 if digits == "-" else int(digits, 16)
-
-
 # The library.
 
 class Told(ctypes.Structure):
@@ -239,6 +192,13 @@ class Library:
             return "two answers", []
         return self.line(told), self.room[:needed.value]
 
+    def report(self, version, lines):
+        """The lines of `vicinity report`, where it ends with the status of the first."""
+        done = subprocess.run([PROGRAM, "report"], input=text_of(version, lines), capture_output=True)
+        told = done.stdout.decode().splitlines()
+        kind = told[0].split()[0] if told else ""
+        return told if done.returncode == STATUSES.get(kind) and not done.stderr else [f"status {done.returncode}", *told]
+
     def line(self, told):
         """The line, where the numbers beside it say the same."""
         line = told.text.decode()
@@ -248,104 +208,6 @@ class Library:
         wanted = numbers.get(kind, f"{kind} {told.uid:016X}")
         same = line == wanted + "\n" and KINDS[told.kind] == kind and STATUSES[kind] == told.status
         return wanted if same else f"{line}, and numbers of another answer"
-
-
-# Random logs.
-
-def eight_uids(rng):
-    """Eight UIDs: all that have the same low bits, or some of those, or any."""
-    common = rng.choice((0, 4, 30, 48, 50, 51, 52, 53, 53, 53))
-    value = rng.getrandbits(common)
-    return [TOP_BYTE | high << common | value for high in rng.sample(range(1 << min(UID_BITS - common, 40)), LEFT)]
-
-
-def ruled_out(uids, length=0, value=0):
-    """The masks that hold all UIDs but these, and none of these."""
-    if not uids:
-        yield length, value
-    elif length < UID_BITS:
-        for bit in (0, 1):
-            longer = length + 1, value + bit * 2**length
-            yield from ruled_out([uid for uid in uids if lies_in(uid, *longer)], *longer)
-
-
-def opening(rng, version, uids):
-    """Lines that leave these UIDs and no other. Those that are silenced first aren't ruled out by silence."""
-    near = len({uid % 2**NEAR_BITS for uid in uids}) == 1
-    silenced = [uid for uid in uids if not near or rng.random() < rng.choice((0, 0, 0.3))]
-    lines = [StayQuiet(uid) for uid in silenced]
-    masks = list(ruled_out([uid for uid in uids if uid not in silenced]))
-    if sum(2**(UID_BITS - length) for length, _ in masks) + LEFT - len(silenced) != 2**UID_BITS:
-        sys.exit("oracle: the first lines leave others than the eight UIDs")
-    for length, value in masks:
-        sixteen = length <= 52 and rng.random() < 0.03
-        lines += [Ask(sixteen, length, value)] + [SILENT] * (16 if sixteen else 1)
-    return lines + [FIELD_CYCLE] * (version == 2 and bool(silenced) and rng.random() < 0.8)
-
-
-def request(rng, uids):
-    """An Inventory request whose masks part the UIDs."""
-    one, other = rng.sample(uids, 2)
-    parting = next(bit for bit in range(UID_BITS) if (one ^ other) >> bit & 1)
-    sixteen = rng.random() < 0.4
-    length = rng.choice((0, parting, parting, parting + 1, parting + 1, UID_BITS, rng.randint(0, 64)))
-    length = max(0, min(length - rng.randint(0, 4), 60)) if sixteen else length
-    return Ask(sixteen, length, one % 2**length if rng.random() < 0.97 else rng.getrandbits(length))
-
-
-def outcome(rng, version, uids, answering, noise):
-    """What a slot is logged as, mostly truly."""
-    if rng.random() < noise:
-        answering = rng.sample(uids, rng.randint(0, 2))
-    if answering and version == 2 and rng.random() < 0.15:
-        return GARBLED
-    return SILENT if not answering else Reply(answering[0]) if len(answering) == 1 else COLLISION
-
-
-def rounds(rng, version, uids, silenced):
-    """Random rounds and Stay Quiets over some of the UIDs, which are in the field."""
-    there = {uid for uid in uids if rng.random() < rng.choice((0.1, 0.3, 0.5))}
-    noise = rng.choice((0, 0, 0, 0.02, 0.1))
-    quiet = set(silenced)
-    for _ in range(rng.randint(0, 9)):
-        turn = rng.random()
-        if turn < 0.35:
-            uid = rng.choice(sorted(there) if there and rng.random() < 0.8 else uids)
-            quiet.add(uid)
-            yield StayQuiet(uid)
-        elif turn < 0.45 and version == 2:
-            quiet.clear()
-            yield FIELD_CYCLE
-        else:
-            ask = request(rng, uids)
-            yield ask
-            for number in range(rng.choice((16, 16, 16, rng.randint(0, 16))) if ask.sixteen else rng.random() < 0.97):
-                mask = slot_mask(ask, number)
-                answering = [uid for uid in there - quiet if lies_in(uid, *mask)]
-                yield outcome(rng, version, uids, answering, noise)
-        if rng.random() < 0.05:
-            yield rng.choice(PASSED_OVER)
-    forgotten, made_up = rng.choice(((0, 0), (0, 0), (0.4, 0), (0, 0.15), (0.1, 0.1)))
-    claimed = [uid for uid in uids if (rng.random() >= forgotten if uid in there else rng.random() < made_up)]
-    rng.shuffle(claimed)
-    yield from map(Listed, claimed)
-
-
-def ended(lines):
-    """The rounds of a log that ends as a whole search does: each UID heard is silenced, and all is silent."""
-    heard = dict.fromkeys(line.uid for line in lines if isinstance(line, Reply))
-    at = next((place for place, line in enumerate(lines) if isinstance(line, Listed)), len(lines))
-    return lines[:at] + [StayQuiet(uid) for uid in heard] + [Ask(False, 0, 0), SILENT] + lines[at:]
-
-
-def random_log(rng):
-    """A version, the UIDs that its first lines leave, and all its lines."""
-    version, uids = rng.randint(1, 2), eight_uids(rng)
-    first = opening(rng, version, uids)
-    cycled = first[-1:] == [FIELD_CYCLE]
-    silenced = [line.uid for line in first if isinstance(line, StayQuiet) and not cycled]
-    lines = list(rounds(rng, version, uids, silenced))
-    return version, uids, first + (ended(lines) if rng.random() < 0.4 else lines)
 
 
 # Wrong judges, each wrong in one rule.
@@ -450,37 +312,70 @@ WRONG = {
 
 # The comparison.
 
-def differs(library, log):
-    """The verdict of a log, and why what a library says of it is wrong, if so."""
-    version, uids, lines = log
-    judge = Judge(uids)
-    text, populations = judge.judge(lines)
-    given, shown = library(judge).answer(version, lines)
-    if given != text:
-        return text, f"{given}, and not {text}"
-    wrong = judge.shows(text, lines, populations, shown)
-    return text, wrong and f"{text}, shown by {[f'{uid:016X}' for uid in shown]}: {wrong}"
+class Case:
+    """A random log, and what has to be said of it."""
+
+    def __init__(self, version, uids, lines):
+        self.version, self.uids, self.lines = version, uids, lines
+        if uids:
+            self.judge = Judge(uids)
+            self.answer = self.judge.judge(lines)
+            known = self.known()
+        else:
+            known = reports.known_of(lines)
+        self.report = reports.Report(lines, known)
+        if not uids:
+            self.answer = Answer(self.report.given()[0], None)
+
+    def known(self):
+        kind, *rest = self.answer.text.split()
+        if kind == "impossible":
+            return reports.Known(int(rest[-1]), [], [])
+        possible, certain = self.judge.known(self.answer.populations)
+        return reports.Known(None, list(map(reports.as_mask, possible)), certain)
+
+    def wrong_answer(self, given, shown):
+        """Why an answer, and the population that is shown, are wrong, if so."""
+        text, populations = self.answer
+        if given != text:
+            return f"{given}, and not {text}"
+        wrong = self.uids and self.judge.shows(text, self.lines, populations, shown)
+        return wrong and f"{text}, shown by {[f'{uid:016X}' for uid in shown]}: {wrong}"
+
+    def wrong_report(self, given):
+        """Why a report is wrong, if so."""
+        if given[:1] != [self.answer.text]:
+            return f"{given}, and not {self.answer.text} first"
+        return self.report.wrong(given)
 
 
 def compare(library, number, seed):
-    """How many logs are answered right and wrong, and how many have each verdict."""
+    """How many logs are answered wrong, and how many have each verdict."""
     rng = random.Random(seed)
     seen, failed = collections.Counter(), 0
     for _ in range(number):
-        log = random_log(rng)
-        text, wrong = differs(library, log)
-        seen[text.split()[0]] += 1
+        case = Case(*random_log(rng))
+        seen[case.answer.text.split()[0]] += 1
+        wrong = case.wrong_answer(*library.answer(case.version, case.lines)) or case.wrong_report(
+            library.report(case.version, case.lines))
         if wrong:
             failed += 1
-            print(f"oracle: {wrong}\n{text_of(log[0], log[2]).decode()}")
+            print(f"oracle: {wrong}\n{text_of(case.version, case.lines).decode()}")
     return failed, seen
 
 
-def found(kind, seed):
-    """After how many logs a wrong judge is found, if so."""
+def found(seed, is_found):
+    """After how many logs something wrong is found, if so."""
     rng = random.Random(seed)
-    return next((number for number in range(1, PLANTED + 1)
-                 if differs(lambda judge: kind(judge.uids), random_log(rng))[1]), None)
+    return next((number for number in range(1, PLANTED + 1) if is_found(Case(*random_log(rng)))), None)
+
+
+def wrong_judge_found(kind, case):
+    return case.uids and case.wrong_answer(*kind(case.uids).answer(case.version, case.lines))
+
+
+def wrong_report_found(kind, case):
+    return case.wrong_report(kind.of(case.report).given())
 
 
 def main():
@@ -489,18 +384,18 @@ def main():
     if words[:1] == ["--library"]:
         path, words = words[1], words[2:]
     number, seed = [int(word) for word in words] + [NUMBER, random.randrange(10**9)][len(words):]
-    library = Library(path)
-    failed, seen = compare(lambda _: library, number, seed)
+    failed, seen = compare(Library(path), number, seed)
     print(f"oracle: {number} logs of seed {seed}: {dict(seen)}")
     passed = number - failed
     for kind in STATUSES:
         if seen[kind] * 1000 < LEAST_SHARE * number:
             print(f"oracle: too few logs with the verdict {kind}")
             failed += 1
-    for name, kind in WRONG.items():
-        after = found(kind, seed)
-        print(f"oracle: {name}: " + (f"found after {after} logs" if after else "not found"))
-        passed, failed = passed + bool(after), failed + (not after)
+    for rules, is_found in (WRONG, wrong_judge_found), (reports.WRONG, wrong_report_found):
+        for name, kind in rules.items():
+            after = found(seed, functools.partial(is_found, kind))
+            print(f"oracle: {name}: " + (f"found after {after} logs" if after else "not found"))
+            passed, failed = passed + bool(after), failed + (not after)
     print(f"{passed} passed, {failed} failed")
     return failed > 0 or passed == 0
 

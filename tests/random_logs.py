@@ -1,0 +1,176 @@
+"""Random logs of both versions, as text and as lines, written from docs/LOG_FORMAT.md and FRAMES.md alone.
+
+Most have first lines that leave eight UIDs that may be in the field, by silent slots and Stay Quiets.
+"""
+import collections
+import sys
+
+UID_BITS = 56
+TOP_BYTE = 0xE0 << UID_BITS
+LEFT = 8
+# UIDs that have so many low bits in common are left by some hundred silent slots; others by Stay Quiets.
+NEAR_BITS = 48
+# What share of the logs has no such first lines.
+OPEN_SHARE = 0.15
+
+
+# What a line says, and how it is spelled (docs/LOG_FORMAT.md, docs/FRAMES.md).
+
+Ask = collections.namedtuple("Ask", "sixteen length value")
+StayQuiet = collections.namedtuple("StayQuiet", "uid")
+Reply = collections.namedtuple("Reply", "uid")
+Listed = collections.namedtuple("Listed", "uid")
+SILENT, COLLISION, GARBLED, FIELD_CYCLE = "S", "C", "D", "F"
+PASSED_OVER = ("", "# a remark")
+
+
+def framed(body):
+    """The digits of a frame: its bytes, and the CRC over them, low byte first."""
+    register = 0xFFFF
+    for byte in body:
+        for place in range(8):
+            differ = (register ^ byte >> place) & 1
+            register = register >> 1 ^ 0x8408 * differ
+    return (body + (register ^ 0xFFFF).to_bytes(2, "little")).hex().upper()
+
+
+def spelled(line):
+    if isinstance(line, Ask):
+        flags = 0x06 if line.sixteen else 0x26
+        value = line.value.to_bytes((line.length + 7) // 8, "little")
+        return "T " + framed(bytes((flags, 1, line.length)) + value)
+    if isinstance(line, StayQuiet):
+        return "T " + framed(b"\x22\x02" + line.uid.to_bytes(8, "little"))
+    if isinstance(line, Reply):
+        return "R " + framed(b"\x00\x07" + line.uid.to_bytes(8, "little"))
+    if isinstance(line, Listed):
+        return "U %016X" % line.uid
+    return line
+
+
+def text_of(version, lines):
+    return "".join(f"{line}\n" for line in [f"vicinity-log {version}", *map(spelled, lines)]).encode()
+
+
+# Masks (docs/AIR.md).
+
+def lies_in(uid, length, value):
+    return uid % 2**length == value
+
+
+def slot_mask(ask, number):
+    """The mask of a slot of a request."""
+    return (ask.length + 4, ask.value + number * 2**ask.length) if ask.sixteen else (ask.length, ask.value)
+
+
+def hex_of(length, value):
+    return "%0*X" % ((length + 7) // 8 * 2, value) if length else "-"
+
+
+def number_of(digits):
+    return 0 if digits == "-" else int(digits, 16)
+
+
+# Random logs.
+
+def eight_uids(rng):
+    """Eight UIDs: all that have the same low bits, or some of those, or any."""
+    common = rng.choice((0, 4, 30, 48, 50, 51, 52, 53, 53, 53))
+    value = rng.getrandbits(common)
+    return [TOP_BYTE | high << common | value for high in rng.sample(range(1 << min(UID_BITS - common, 40)), LEFT)]
+
+
+def ruled_out(uids, length=0, value=0):
+    """The masks that hold all UIDs but these, and none of these."""
+    if not uids:
+        yield length, value
+    elif length < UID_BITS:
+        for bit in (0, 1):
+            longer = length + 1, value + bit * 2**length
+            yield from ruled_out([uid for uid in uids if lies_in(uid, *longer)], *longer)
+
+
+def opening(rng, version, uids):
+    """Lines that leave these UIDs and no other. Those that are silenced first aren't ruled out by silence."""
+    near = len({uid % 2**NEAR_BITS for uid in uids}) == 1
+    silenced = [uid for uid in uids if not near or rng.random() < rng.choice((0, 0, 0.3))]
+    lines = [StayQuiet(uid) for uid in silenced]
+    masks = list(ruled_out([uid for uid in uids if uid not in silenced]))
+    if sum(2**(UID_BITS - length) for length, _ in masks) + LEFT - len(silenced) != 2**UID_BITS:
+        sys.exit("oracle: the first lines leave others than the eight UIDs")
+    for length, value in masks:
+        sixteen = length <= 52 and rng.random() < 0.03
+        lines += [Ask(sixteen, length, value)] + [SILENT] * (16 if sixteen else 1)
+    return lines + [FIELD_CYCLE] * (version == 2 and bool(silenced) and rng.random() < 0.8)
+
+
+def request(rng, uids):
+    """An Inventory request whose masks part the UIDs."""
+    one, other = rng.sample(uids, 2)
+    parting = next(bit for bit in range(UID_BITS) if (one ^ other) >> bit & 1)
+    sixteen = rng.random() < 0.4
+    length = rng.choice((0, parting, parting, parting + 1, parting + 1, UID_BITS, rng.randint(0, 64)))
+    length = max(0, min(length - rng.randint(0, 4), 60)) if sixteen else length
+    return Ask(sixteen, length, one % 2**length if rng.random() < 0.97 else rng.getrandbits(length))
+
+
+def outcome(rng, version, uids, answering, noise):
+    """What a slot is logged as, mostly truly."""
+    if rng.random() < noise:
+        answering = rng.sample(uids, rng.randint(0, 2))
+    if answering and version == 2 and rng.random() < 0.15:
+        return GARBLED
+    return SILENT if not answering else Reply(answering[0]) if len(answering) == 1 else COLLISION
+
+
+def rounds(rng, version, uids, silenced):
+    """Random rounds and Stay Quiets over some of the UIDs, which are in the field."""
+    there = {uid for uid in uids if rng.random() < rng.choice((0.1, 0.3, 0.5))}
+    noise, deaf = rng.choice((0, 0, 0, 0.02, 0.1)), rng.choice((0, 0, 0, 0, 0.5))
+    quiet = set(silenced)
+    for _ in range(rng.randint(0, 9)):
+        turn = rng.random()
+        if turn < 0.35:
+            uid = rng.choice(sorted(there) if there and rng.random() < 0.8 else uids)
+            quiet.update([uid] * (rng.random() >= deaf))
+            yield StayQuiet(uid)
+        elif turn < 0.45 and version == 2:
+            quiet.clear()
+            yield FIELD_CYCLE
+        else:
+            ask = request(rng, uids)
+            yield ask
+            for number in range(rng.choice((16, 16, 16, rng.randint(0, 16))) if ask.sixteen else rng.random() < 0.97):
+                mask = slot_mask(ask, number)
+                answering = [uid for uid in there - quiet if lies_in(uid, *mask)]
+                yield outcome(rng, version, uids, answering, noise)
+        if rng.random() < 0.05:
+            yield rng.choice(PASSED_OVER)
+    forgotten, made_up = rng.choice(((0, 0), (0, 0), (0.4, 0), (0, 0.15), (0.1, 0.1)))
+    claimed = [uid for uid in uids if (rng.random() >= forgotten if uid in there else rng.random() < made_up)]
+    rng.shuffle(claimed)
+    yield from map(Listed, claimed)
+
+
+def ended(lines):
+    """The rounds of a log that ends as a whole search does: each UID heard is silenced, and all is silent."""
+    heard = dict.fromkeys(line.uid for line in lines if isinstance(line, Reply))
+    at = next((place for place, line in enumerate(lines) if isinstance(line, Listed)), len(lines))
+    return lines[:at] + [StayQuiet(uid) for uid in heard] + [Ask(False, 0, 0), SILENT] + lines[at:]
+
+
+def one_more(rng):
+    """A line that lists some UID."""
+    return [Listed(TOP_BYTE | rng.getrandbits(UID_BITS))] if rng.random() < 0.05 else []
+
+
+def random_log(rng):
+    """A version, the UIDs that its first lines leave, none if there are no first lines, and all its lines."""
+    version, uids = rng.randint(1, 2), eight_uids(rng)
+    if rng.random() < OPEN_SHARE:
+        return version, [], list(rounds(rng, version, uids, ()))
+    first = opening(rng, version, uids)
+    cycled = first[-1:] == [FIELD_CYCLE]
+    silenced = [line.uid for line in first if isinstance(line, StayQuiet) and not cycled]
+    lines = list(rounds(rng, version, uids, silenced))
+    return version, uids, first + (ended(lines) if rng.random() < 0.4 else lines) + one_more(rng)
