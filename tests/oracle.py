@@ -22,6 +22,7 @@ import random
 import subprocess
 import sys
 
+sys.dont_write_bytecode = True
 import reports
 from random_logs import (COLLISION, FIELD_CYCLE, GARBLED, LEFT, SILENT, UID_BITS, Ask, Listed, Reply, StayQuiet, hex_of,
                          lies_in, number_of, random_log, slot_mask, text_of)
