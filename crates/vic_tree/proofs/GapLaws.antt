@@ -1,5 +1,5 @@
 -- Ranges of keys without some keys.
-use Rattle.std.proofs.Common.{◌≡◌, ℕ, ◌+◌, ◌-◌, ◌^◌, ◌<◌, ◌≤◌, ◌==◌, ◌&&◌, ◌||◌, ◌⊎◌, inl, inr, Bool, true, false, not, List, ◌∷◌, Option, Some, None, IfSome, IfNone, length, get_or, nat_eq, sym, ap, subst, ◌∙◌, arith}
+use Rattle.std.proofs.Common.{◌≡◌, ℕ, ◌+◌, ◌-◌, ◌^◌, ◌<◌, ◌≤◌, ◌==◌, ◌&&◌, ◌||◌, ◌⊎◌, inl, inr, Bool, true, false, not, List, ◌∷◌, Option, Some, None, IfSome, length, get_or, nat_eq, sym, ap, subst, ◌∙◌, arith}
 use Rattle.std.specs.List.Sorted.{IsNonDecreasing}
 use Rattle.std.proofs.lemmas.Bool.{cases_lt}
 use Rattle.std.proofs.lemmas.Nat.{pow_pos}
@@ -11,7 +11,7 @@ use Rattle.vic_frame.specs.LowBitsFirst.{mirror, uid_of}
 use Rattle.vic_frame.proofs.MirrorLaws.{mirror_of_uid}
 use Rattle.vic_frame.proofs.KeyLaws.{is_uid}
 use Rattle.vic_tree.specs.Gathering.{Gathers}
-use Rattle.vic_tree.specs.OpenSet.{AllOpen, IsAtMost, IsWidest, SameUids, has_key, without_keys}
+use Rattle.vic_tree.specs.OpenSet.{AllOpen, IsAtMost, IsWidest, has_key, without_keys}
 use Rattle.vic_tree.specs.Ranges.{AllKeysPass, AreRangesFrom, ComesFirstIn, HoldsMask, IsFoundBelow, IsFreeBetween, IsMaskIn, IsWidestBelow, PassBesides, in_ranges, is_between, is_open_in, is_passed}
 use Rattle.vic_tree.proofs.BlockLaws.{key_in_mask, mask_ends}
 use Rattle.vic_tree.proofs.GatheringLaws.{gathers_both, gathers_like, not_among}
@@ -175,13 +175,6 @@ found_is_widest es keys b (Some m) none w = record {
         | inr h ↦ absurd (let t = first_passes (is_left es keys) n pass in let f = none_left es keys (mirror n.value) (none (mirror n.value) h) in cc (t, f))
       ];
 }
-
-pub none_is_found : (es : List (ℕ × ℕ)) (keys : List ℕ) (b : ℕ) (o : Option BitMask) → ((k : ℕ) → b ≤ k → in_ranges es k ≡ false) → IsFoundBelow (is_left es keys) b o → IfNone o (SameUids (without_keys (is_open_in es) keys) (λ _. false))
-none_is_found es keys b (Some m) none w = tt
-none_is_found es keys b None none w = λ u i. elim (cases_lt (mirror u) b) [
-  | inl h ↦ w (mirror u) h
-  | inr h ↦ none_left es keys (mirror u) (none (mirror u) h)
-]
 
 -- one range more
 pub range_passes : (all rest left : List (ℕ × ℕ)) (keys : List ℕ) (b x y : ℕ) → rest ≡ (x, y) ∷ left → AreRangesFrom b rest → ((k : ℕ) → b ≤ k → in_ranges all k ≡ in_ranges rest k) → PassBesides (is_left all keys) x y keys

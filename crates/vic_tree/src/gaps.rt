@@ -10,9 +10,10 @@ ghost use Rattle.vic_tree.specs.OpenSet.{IsWidest, SameUids, has_key, without_ke
 ghost use Rattle.vic_tree.specs.Ranges.{AreRanges, IsFoundBelow, IsFreeBetween, IsFreeInRanges, PassBesides, is_open_in, is_passed};
 
 use crate::blocks::widest_with;
-use crate::gather_keys::{first_meeting, gather_keys};
+use crate::gather_keys::gather_keys;
+use crate::key_range::KeyRange;
+use crate::ranges::from_key;
 use arrayvec::ArrayVec;
-use std::collections::BTreeMap;
 use vic_frame::{Mask, Uid};
 
 /// Appends the UIDs at the keys from `first` to `last` that are in some ranges, no exceptions and at
@@ -21,25 +22,25 @@ pub(crate) fn gather_besides(
     out: &mut ArrayVec<Uid, 3>,
     except: &[Uid],
     keys: &[u64],
-    ranges: &BTreeMap<u64, u64>,
+    ranges: &[KeyRange],
     first: u64,
     last: u64,
 )
     requires rising { IsStrictlyIncreasing except.now }
     requires order { IsNonDecreasing keys.now }
-    requires ranges { AreRanges ranges.now.entries }
+    requires ranges { AreRanges ranges.now }
     requires forward { first ≤ last }
     requires small { IsKey last }
-    ensures { Gathers (IsFreeInRanges ranges.now.entries first last
+    ensures { Gathers (IsFreeInRanges ranges.now first last
         (is_passed except.now keys.now)) out.old.items out.new.items }
 {
-    let start = first_meeting(ranges, first);
     let mut next = 0;
-    for (from, to) in ranges.range(start..=last) {
-        if out.is_full() {
+    for range in from_key(ranges, first) {
+        if last < range.first() || out.is_full() {
             return;
         }
-        next = gather_gaps(out, except, keys, next, (*from).max(first), (*to).min(last));
+        let (from, to) = (range.first().max(first), range.last().min(last));
+        next = gather_gaps(out, except, keys, next, from, to);
     }
 }
 
@@ -80,18 +81,18 @@ fn gather_gaps(
 }
 
 /// The widest mask in some ranges without the keys of a list.
-pub(crate) fn widest_besides(ranges: &BTreeMap<u64, u64>, keys: &[u64]) -> Option<Mask>
+pub(crate) fn widest_besides(ranges: &[KeyRange], keys: &[u64]) -> Option<Mask>
     requires order { IsNonDecreasing keys.now }
-    requires ranges { AreRanges ranges.now.entries }
+    requires ranges { AreRanges ranges.now }
     ensures found { IfSome result
-        (IsWidest (without_keys (is_open_in ranges.now.entries) keys.now)) }
+        (IsWidest (without_keys (is_open_in ranges.now) keys.now)) }
     ensures none { IfNone result
-        (SameUids (without_keys (is_open_in ranges.now.entries) keys.now) (λ _. false)) }
+        (SameUids (without_keys (is_open_in ranges.now) keys.now) (λ _. false)) }
 {
     let mut widest: Option<Mask> = None;
     let mut next = 0;
-    for (first, last) in ranges {
-        (widest, next) = widest_in_gaps(widest, keys, next, *first, *last);
+    for range in ranges {
+        (widest, next) = widest_in_gaps(widest, keys, next, range.first(), range.last());
     }
     widest
 }

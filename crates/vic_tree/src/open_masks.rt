@@ -14,8 +14,8 @@ ghost use Rattle.vic_tree.specs.KeptMasks.{IsCutOff, IsGreatestAt, IsGreatestIn,
 ghost use Rattle.vic_tree.specs.Ranges.{AreRanges, is_open_in};
 
 use crate::blocks::{least_len, mask_of_block, size_of_block};
+use crate::key_range::KeyRange;
 use arrayvec::ArrayVec;
-use std::collections::BTreeMap;
 use vic_frame::{Mask, UID_BITS};
 
 /// How many open masks are given at most.
@@ -35,19 +35,19 @@ pub struct OpenMasks {
 }
 
 /// The first open masks of some ranges without the keys of a list.
-pub(crate) fn open_masks_besides(ranges: &BTreeMap<u64, u64>, keys: &[u64]) -> OpenMasks
+pub(crate) fn open_masks_besides(ranges: &[KeyRange], keys: &[u64]) -> OpenMasks
     requires order { IsNonDecreasing keys.now }
-    requires ranges { AreRanges ranges.now.entries }
+    requires ranges { AreRanges ranges.now }
     ensures first { AreFirst MAX_OPEN_MASKS
-        (IsOpenMask (without_keys (is_open_in ranges.now.entries) keys.now)) result.masks.items }
+        (IsOpenMask (without_keys (is_open_in ranges.now) keys.now)) result.masks.items }
     ensures more { result.more ≡ true ↔ (m : BitMask)
-        × IsOpenMask (without_keys (is_open_in ranges.now.entries) keys.now) m
+        × IsOpenMask (without_keys (is_open_in ranges.now) keys.now) m
         × (¬ (Contains result.masks.items m)) }
 {
     let mut kept = ArrayVec::new();
     let mut next = 0;
-    for (first, last) in ranges {
-        next = keep_in_gaps(&mut kept, keys, next, *first, *last);
+    for range in ranges {
+        next = keep_in_gaps(&mut kept, keys, next, range.first(), range.last());
     }
     given(&kept)
 }

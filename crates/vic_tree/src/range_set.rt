@@ -1,6 +1,6 @@
 //! A set of open UIDs as ranges of their keys, in the order of low bits first.
 
-ghost use Rattle.std.specs.Prelude.{◌≡◌, ℕ, ◌≤◌, ◌&&◌, ◌↔◌, true, IfOk, OnOk};
+ghost use Rattle.std.specs.Prelude.{◌≡◌, ℕ, ◌≤◌, ◌&&◌, ◌↔◌, true, IfOk};
 ghost use Rattle.std.specs.List.{Contains};
 ghost use Rattle.std.specs.List.Sorted.{IsNonDecreasing};
 ghost use Rattle.vic_frame.specs.Uids.{IsUid, has};
@@ -11,23 +11,22 @@ ghost use Rattle.vic_tree.specs.OpenMasks.{AreFirst, IsOpenMask};
 ghost use Rattle.vic_tree.specs.Ranges.{AreRanges, is_between, is_open_in};
 
 use crate::gaps::{gather_besides, widest_besides};
+use crate::key_range::KeyRange;
 use crate::open_masks::{MAX_OPEN_MASKS, OpenMasks, open_masks_besides};
 use crate::open_set::OpenSet;
-use crate::ranges::{is_in, take_out_others};
+use crate::ranges::{between, is_in, outside, push_others};
 use arrayvec::ArrayVec;
 use std::alloc::{AllocError, Global};
-use std::collections::BTreeMap;
 use std::marker::Model;
 use vic_frame::low_bits_first::{key, key_range};
 use vic_frame::{Mask, UID_BITS, Uid, without_top_byte};
 
 /// A set of UIDs as the ranges of their keys in the order of low bits first, where the UIDs of a
-/// mask stand together. A lone UID takes one entry of a map. To settle a mask takes a few look-ups
-/// for it, for each range in it and for each exception in it, which stays where it is. Masks may
-/// come in any order; in the order of keys the look-ups are cheapest.
+/// mask stand together: a row of as few ranges as can be. It is made at once from the ranges that
+/// are closed, and found in by halving. To settle one mask more makes the row anew.
 #[derive(Drop)]
 pub struct RangeSet {
-    ranges: BTreeMap<u64, u64>,
+    ranges: Vec<KeyRange>,
     alloc: Global,
 }
 
@@ -37,31 +36,37 @@ impl Model for RangeSet {
 
     ghost Value = { List (ℕ × ℕ) };
 
-    ghost view = { λ a. a.ranges.entries };
+    ghost view = { λ a. a.ranges.items };
 
-    ghost invariant = { λ a. AreRanges a.ranges.entries };
+    ghost invariant = { λ a. AreRanges a.ranges.items };
 }
 
 impl OpenSet for RangeSet {
     ghost is_open = { is_open_in };
 
     fn everything(alloc: Global) -> Result<RangeSet, AllocError> {
-        let mut ranges = BTreeMap::new(alloc);
-        ranges.insert(0, (1 << UID_BITS) - 1)?;
-        Ok(RangeSet { ranges, alloc })
+        RangeSet::without(alloc, Vec::new(alloc))
     }
 
     fn settle(&mut self, mask: &Mask, except: &[Uid]) -> Result<(), AllocError> {
         let Some(mask) = without_top_byte(mask) else {
             return Ok(());
         };
-        match settle_ranges(&mut self.ranges, self.alloc, &mask, except) {
-            Ok(()) => Ok(()),
+        match settled(self.alloc, &self.ranges, &mask, except) {
+            Ok(left) => {
+                self.ranges = left;
+                Ok(())
+            }
             Err(error) => {
                 self.ranges.clear();
                 Err(error)
             }
         }
+    }
+
+    fn without(alloc: Global, closed: Vec<KeyRange>) -> Result<RangeSet, AllocError> {
+        let ranges = outside(alloc, closed)?;
+        Ok(RangeSet { ranges, alloc })
     }
 
     fn has(&self, uid: Uid) -> bool {
@@ -117,23 +122,24 @@ impl RangeSet {
     }
 }
 
-/// Takes a mask out, except those UIDs of a list that lie in it.
-fn settle_ranges(
-    ranges: &mut BTreeMap<u64, u64>,
+/// What is left of some ranges once a mask is taken out, except some UIDs.
+fn settled(
     alloc: Global,
+    ranges: &[KeyRange],
     mask: &Mask,
     except: &[Uid],
-) -> Result<(), AllocError>
-    requires ranges { AreRanges ranges.old.entries }
+) -> Result<Vec<KeyRange>, AllocError>
+    requires ranges { AreRanges ranges.now }
     requires short { IsMask mask.now × (mask.now.len ≤ UID_BITS) }
-    ensures ranges { OnOk result (AreRanges ranges.new.entries) }
-    ensures settled { OnOk result (SameUids (is_open_in ranges.new.entries)
-        (settled (is_open_in ranges.old.entries) mask.now except.now)) }
+    ensures ranges { IfOk result (λ left. AreRanges left.items) }
+    ensures left { IfOk result (λ left. SameUids (is_open_in left.items)
+        (settled (is_open_in ranges.now) mask.now except.now)) }
 {
     let (first, last) = key_range(mask);
     let kept = keys_between(alloc, except, first, last)?;
-    take_out_others(ranges, first, last, &kept)?;
-    Ok(())
+    let mut closed = between(alloc, ranges)?;
+    push_others(&mut closed, first, last, &kept)?;
+    outside(alloc, closed)
 }
 
 /// The keys from `first` to `last` of the UIDs of a list, in order.

@@ -1,0 +1,35 @@
+use Rattle.std.proofs.Common.{◌≡◌, ◌∙◌, ap, sym, not, ◌&&◌, ◌||◌, Bool, ◌-◌, arith}
+use Rattle.std.proofs.lemmas.Nat.{pow_pos}
+use Rattle.std.proofs.lemmas.Result.{IfOk-weaker}
+use Rattle.vic_frame.specs.Uids.{has}
+use Rattle.vic_frame.specs.LowBitsFirst.{mirror}
+use Rattle.vic_frame.proofs.MirrorLaws.{mirror_below}
+use Rattle.vic_tree.specs.Ranges.{in_ranges, is_between}
+use Rattle.vic_tree.proofs.BlockLaws.{mask_ends}
+use Rattle.vic_tree.proofs.KeptKeys.{settled_bits}
+use Rattle.vic_tree.proofs.RangeLaws.{firsts_rise}
+use Rattle.vic_tree.proofs.range_set.settled.Goals as goal
+
+pub between-requires : goal.between-requires
+between-requires c = firsts_rise 0 c.args.ranges.now c.requires.ranges
+
+pub push_others-requires-clause-small : goal.push_others-requires-clause-small
+push_others-requires-clause-small c =
+    let e = mask_ends c.args.mask.now c.requires.short.0 c.requires.short.1 in
+    let p = pow_pos (56 - c.args.mask.now.len) in
+    omega (arith, c.key_range-first.ensures.last)
+
+pub returns-clause-left : goal.returns-clause-left
+returns-clause-left c = IfOk-weaker c.outside.result _ _ (λ left keys u is_uid.
+    let k = mirror u in
+    let open' = in_ranges c.args.ranges.now k in
+    let except = has c.args.except.now u in
+    let b = is_between c.key_range-first.result.0 c.key_range-first.result.1 k in
+    let small = mirror_below 56 u in
+    let kept : has c.deref.result.now k ≡ (b && except) = ap (λ ks. has ks k) c.deref.ensures.value ∙ c.in_ok-kept.ensures.members u is_uid in
+    keys k small
+    ∙ ap not (c.in_ok-push_others.ensures k)
+    ∙ ap (λ (z : Bool). not (z || (b && not (has c.deref.result.now k)))) (c.in_ok-closed.ensures.keys k small)
+    ∙ ap (λ (z : Bool). not (not open' || (b && not z))) kept
+    ∙ settled_bits open' b except
+    ∙ ap (λ (z : Bool). open' && (not z || except)) (sym (c.key_range-first.ensures.inside u))) c.outside.ensures.keys

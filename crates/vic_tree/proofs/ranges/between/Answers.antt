@@ -1,0 +1,81 @@
+use Rattle.std.proofs.Common.{◌≡◌, ◌∙◌, ℕ, ◌+◌, ◌-◌, ◌<◌, ◌≤◌, ◌&&◌, ◌||◌, not, nat_lt, true, inl, inr, List, take, length, get_or, [], ◌∷◌, ◌++◌, ◌^◌, max, refl, sym, ap, subst, arith}
+use Rattle.std.specs.List.{All}
+use Rattle.std.proofs.lemmas.Bool.{cases_lt}
+use Rattle.std.proofs.lemmas.List.{get_or_default}
+use Rattle.std.proofs.lemmas.List.Elements.{All-push, All-weaker}
+use Rattle.std.proofs.lemmas.List.Folds.{list_any_more}
+use Rattle.vic_tree.specs.Ranges.{in_ranges, is_between, AreRanges}
+use Rattle.vic_tree.proofs.RangeLaws.{either, in_pushed, inside_is, ranges_pushed}
+use Rattle.vic_tree.proofs.OutsideRanges.{outside_more}
+use Rattle.vic_tree.proofs.ranges.between.Goals as goal
+use Rattle.vic_tree.proofs.ranges.between.Goals.{then-from-first+in_ok-push, else-from-first, then-from+in_ok-push-2, else-from}
+
+pub loop-range-preserved : goal.loop-range-preserved
+loop-range-preserved c =
+    let rs = c.args.ranges.now in
+    let n = c.loop-range.range-index in
+    let r = c.range-item.result in
+    let from = c.loop-range.from in
+    let to = c.max-from.result in
+    let old = c.loop-range.others.items in
+    let new = c.if-from-first.others.items in
+    let inv = c.loop-range.invariant in
+    let lt : n < length rs = c.loop-range-test.true in
+    let at : get_or rs n r ≡ r = sym c.range-item.is in
+    let first : c.first.result ≡ r.0 = c.first.ensures.value in
+    let reach : to ≡ max from (r.1 + 1) = c.max-from.ensures ∙ ap (λ (x : ℕ). max from (x + 1)) c.last.ensures.value in
+    let forward : r.0 ≤ r.1 = c.first.ensures.is_range.0 in
+    let small : r.1 < 2 ^ 56 = c.first.ensures.is_range.1 in
+    let before : (k : ℕ) → in_ranges old k ≡ true → k < r.0 = λ k e. let h = inv.ahead k e n r (omega arith) lt in rw (sym at) h in
+    let in_more : (k : ℕ) → in_ranges (take (n + 1) rs) k ≡ (in_ranges (take n rs) k || is_between r.0 r.1 k) = λ k.
+    list_any_more (λ (q : ℕ × ℕ). is_between q.0 q.1 k) rs n r lt ∙ ap (λ (q : ℕ × ℕ). in_ranges (take n rs) k || is_between q.0 q.1 k) at in
+    let longer : from < r.0 → new ≡ old ++ (from, r.0 - 1) ∷ [] = elim c.if-from-first.branch [
+      | then-from-first+in_ok-push w ↦ (λ l. rw w.others-is (w.in_ok-push.ensures.items ∙ ap (λ (q : ℕ × ℕ). old ++ q ∷ []) (w.new.ensures ∙ ap (λ (x : ℕ). (from, x - 1)) w.first-then-from-first.ensures.value)))
+      | else-from-first w ↦ (λ l. absurd (omega (arith, w.if-from-first.false, first)))
+    ] in
+    let same : r.0 ≤ from → new ≡ old = elim c.if-from-first.branch [
+      | then-from-first+in_ok-push w ↦ (λ l. absurd (omega (arith, w.if-from-first.true, first)))
+      | else-from-first w ↦ (λ l. rw w.others-is refl)
+    ] in
+    let pushed : from < r.0 → (k : ℕ) → in_ranges new k ≡ (in_ranges old k || is_between from (r.0 - 1) k) = λ l k.
+    ap (λ (xs : List (ℕ × ℕ)). in_ranges xs k) (longer l) ∙ in_pushed old from (r.0 - 1) k in
+    let kept : r.0 ≤ from → (k : ℕ) → in_ranges new k ≡ in_ranges old k = λ l k. ap (λ (xs : List (ℕ × ℕ)). in_ranges xs k) (same l) in
+    let ends : All (λ (q : ℕ × ℕ). q.1 + 2 ≤ to) old = All-weaker (λ (q : ℕ × ℕ). q.1 + 2 ≤ from) (λ (q : ℕ × ℕ). q.1 + 2 ≤ to) (λ q h. omega (arith, reach)) old inv.ends in
+    record {
+      ranges = elim (cases_lt from r.0) [
+        | inl l ↦ subst AreRanges (sym (longer l)) (ranges_pushed 0 old from (r.0 - 1) inv.ranges inv.ends (omega arith) (omega arith) (omega (arith, small, forward)))
+        | inr l ↦ subst AreRanges (sym (same l)) inv.ranges
+      ];
+      ends = elim (cases_lt from r.0) [
+        | inl l ↦ subst (All (λ (q : ℕ × ℕ). q.1 + 2 ≤ to)) (sym (longer l)) (All-push (λ (q : ℕ × ℕ). q.1 + 2 ≤ to) old (from, r.0 - 1) ends (omega (arith, reach, forward)))
+        | inr l ↦ subst (All (λ (q : ℕ × ℕ). q.1 + 2 ≤ to)) (sym (same l)) ends
+      ];
+      keys = λ k. outside_more (in_ranges old k) (in_ranges new k) (in_ranges (take n rs) k) from r.0 r.1 to k forward reach (inv.keys k) (inv.passed k) (before k) (λ l. pushed l k) (λ l. kept l k) ∙ ap (λ z. nat_lt k to && not z) (sym (in_more k));
+      passed = λ k e. elim (either (in_ranges (take n rs) k) (is_between r.0 r.1 k) (sym (in_more k) ∙ e)) [
+        | inl a ↦ let lt = inv.passed k a in omega (arith, reach)
+        | inr a ↦ let b = inside_is r.0 r.1 k a in omega (arith, reach, b.1)
+      ];
+      ahead = λ k e j d le short.
+          let up = c.requires n j d (omega arith) short in
+          let here = ap (λ (q : ℕ × ℕ). q.0) (get_or_default rs n d r lt ∙ at) in
+          elim (cases_lt from r.0) [
+            | inl l ↦ elim (either (in_ranges old k) (is_between from (r.0 - 1) k) (sym (pushed l k) ∙ e)) [
+              | inl a ↦ let b = before k a in omega (arith, b, up, here)
+              | inr a ↦ let b = inside_is from (r.0 - 1) k a in omega (arith, b.1, up, here, l)
+            ]
+            | inr l ↦ let b = before k (sym (kept l k) ∙ e) in omega (arith, b, up, here)
+          ];
+      small = omega (arith, reach, small, inv.small);
+    }
+
+pub returns-clause-ranges : goal.returns-clause-ranges
+returns-clause-ranges c =
+    let old = c.loop-range.others.items in
+    let from = c.loop-range.from in
+    let inv = c.loop-range.invariant in
+    elim c.if-from.branch [
+      | then-from+in_ok-push-2 w ↦
+          let items : c.if-from.others.items ≡ old ++ (from, 72057594037927935) ∷ [] = rw w.others-is (w.in_ok-push-2.ensures.items ∙ ap (λ (q : ℕ × ℕ). old ++ q ∷ []) w.new-then-from.ensures) in
+          subst AreRanges (sym items) (ranges_pushed 0 old from 72057594037927935 inv.ranges inv.ends (omega arith) (omega (arith, w.if-from.true)) (omega arith))
+      | else-from w ↦ rw w.others-is inv.ranges
+    ]
