@@ -1,4 +1,5 @@
-//! The open masks of ranges of keys without some keys: the greatest blocks of the keys that are left.
+//! The open masks of ranges of keys without some keys: the greatest blocks of the keys that are
+//! left.
 //!
 //! The keys that are left are runs. Of the blocks of one size in a run only the first and the last
 //! can be no half of a greater block in it.
@@ -143,7 +144,8 @@ fn keep_of_len(kept: &mut ArrayVec<Mask, KEPT>, from: u64, to: u64, len: u8)
     keep_found(kept, greatest_at_end(from, to, len));
 }
 
-/// The first mask of `len` bits in a run, if it is the upper half of one that begins before the run.
+/// The first mask of `len` bits in a run, if it is the upper half of one that begins before the
+/// run.
 fn greatest_at_start(from: u64, to: u64, len: u8) -> Option<Mask>
     requires short { len ≤ UID_BITS }
     requires forward { from ≤ to }
@@ -159,8 +161,8 @@ fn greatest_at_start(from: u64, to: u64, len: u8) -> Option<Mask>
     Some(mask_of_block(len, number))
 }
 
-/// The last mask of `len` bits in a run, if it is the lower half of one that ends behind the run, or
-/// holds all keys.
+/// The last mask of `len` bits in a run, if it is the lower half of one that ends behind the run,
+/// or holds all keys.
 fn greatest_at_end(from: u64, to: u64, len: u8) -> Option<Mask>
     requires short { len ≤ UID_BITS }
     requires forward { from ≤ to }
