@@ -1,0 +1,3 @@
+module vicinity-check
+
+go 1.19

@@ -1,0 +1,112 @@
+// Package vicinity is the library of vicinity.h, safe to call: is the list of tags that a reader claims whole?
+//
+// It links libvicinity.a. If header and archive aren't where the compiler looks, name their folder:
+//
+//	CGO_CFLAGS=-IFOLDER CGO_LDFLAGS=-LFOLDER go build
+package vicinity
+
+// #cgo LDFLAGS: -l:libvicinity.a
+// #include "vicinity.h"
+import "C"
+
+import (
+	"errors"
+	"strings"
+	"unsafe"
+)
+
+// ErrOutOfMemory says that there is no answer, since memory ran out.
+var ErrOutOfMemory = errors.New("vicinity: out of memory")
+
+// Kind is what an answer is.
+type Kind uint32
+
+const (
+	Complete   Kind = C.VICINITY_COMPLETE
+	Absent     Kind = C.VICINITY_ABSENT
+	Unlisted   Kind = C.VICINITY_UNLISTED
+	Unsettled  Kind = C.VICINITY_UNSETTLED
+	Doubtful   Kind = C.VICINITY_DOUBTFUL
+	Impossible Kind = C.VICINITY_IMPOSSIBLE
+	Refused    Kind = C.VICINITY_REFUSED
+)
+
+// Answer is what is answered to a text. A number of which the kind doesn't speak is 0.
+type Answer struct {
+	Kind      Kind
+	Status    int // with which the program ends: 0 is complete
+	Count     uint32
+	Line      uint32
+	Fault     uint32
+	MaskLen   uint32
+	MaskValue uint64
+	UID       uint64
+	Text      string // the line of the program, without its LF
+}
+
+// Fits tells whether the library that is linked has the interface of the header.
+func Fits() bool {
+	return C.vicinity_interface() == C.VICINITY_INTERFACE
+}
+
+// Check gives the answer to a text.
+func Check(text []byte) (Answer, error) {
+	var told C.struct_vicinity_answer
+	C.vicinity_check(bytes(text), C.size_t(len(text)), &told)
+	return answer(&told)
+}
+
+// CheckListed gives the answer to a text that lists nothing, with a list of UIDs beside it, in any order.
+func CheckListed(text []byte, uids []uint64) (Answer, error) {
+	var told C.struct_vicinity_answer
+	C.vicinity_check_listed(bytes(text), C.size_t(len(text)), numbers(uids), C.size_t(len(uids)), &told)
+	return answer(&told)
+}
+
+// Explain gives the answer to a text, and the UIDs of tags that show it, in rising order.
+func Explain(text []byte) (Answer, []uint64, error) {
+	var told C.struct_vicinity_answer
+	var needed C.size_t
+	room := make([]uint64, 64)
+	for {
+		C.vicinity_explain(bytes(text), C.size_t(len(text)), &told, numbers(room), C.size_t(len(room)), &needed)
+		if int(needed) <= len(room) {
+			found, err := answer(&told)
+			return found, room[:needed], err
+		}
+		room = make([]uint64, needed)
+	}
+}
+
+// bytes is where a text begins. An empty one has no first byte, and the calls take no NULL.
+func bytes(text []byte) *C.uint8_t {
+	if len(text) == 0 {
+		return new(C.uint8_t)
+	}
+	return (*C.uint8_t)(unsafe.Pointer(&text[0]))
+}
+
+// numbers is where UIDs begin.
+func numbers(uids []uint64) *C.uint64_t {
+	if len(uids) == 0 {
+		return new(C.uint64_t)
+	}
+	return (*C.uint64_t)(unsafe.Pointer(&uids[0]))
+}
+
+func answer(told *C.struct_vicinity_answer) (Answer, error) {
+	if told.kind == C.VICINITY_NO_ANSWER {
+		return Answer{}, ErrOutOfMemory
+	}
+	return Answer{
+		Kind:      Kind(told.kind),
+		Status:    int(told.status),
+		Count:     uint32(told.count),
+		Line:      uint32(told.line),
+		Fault:     uint32(told.fault),
+		MaskLen:   uint32(told.mask_len),
+		MaskValue: uint64(told.mask_value),
+		UID:       uint64(told.uid),
+		Text:      strings.TrimSuffix(C.GoString(&told.text[0]), "\n"),
+	}, nil
+}
