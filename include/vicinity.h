@@ -11,8 +11,8 @@
  * - `uids` points to `count` numbers that may be read. It is aligned and not NULL, also if `count`
  *   is 0.
  * - A pointer to a struct points to one that may be written. It is aligned and is not NULL.
- * - `population` points to `room` numbers that may be written, `needed` to one. They are aligned,
- *   and not NULL, also if `room` is 0.
+ * - `population` points to `room` numbers that may be written, `filled` to `room` bytes, `needed`
+ *   to one number. They are aligned, and not NULL, also if `room` is 0.
  * - What is written overlaps nothing else that is handed over.
  * - Nobody changes what is read or touches what is written while the call runs.
  * - malloc, realloc and free are of one allocator, which aligns to 16 bytes.
@@ -20,7 +20,7 @@
  * - The processor has x86-64-v2 (SSE4.2, POPCNT).
  * - The stack has 64 KiB left.
  * Calls share nothing: any number of threads may call at the same time. The calls that judge a text
- * take memory, and no other call does. They can't be stopped, and take about half a second and
+ * or fill in its slots take memory, and no other call does. They can't be stopped, and take about half a second and
  * 100 MB for a session of 1,000,000 lines, more for some logs: bound the length of a text from a
  * stranger.
  */
@@ -149,6 +149,12 @@ struct vicinity_line {
     char text[132];
 };
 
+/* A name, and zeros after it; `len` is 0 where a number has none. */
+struct vicinity_name {
+    uint32_t len;
+    char text[28];
+};
+
 /* The first line of a log. */
 #define VICINITY_HEADER_LINE "vicinity-log 2\n"
 
@@ -161,6 +167,7 @@ _Static_assert(sizeof(struct vicinity_request) == 32, "the size of struct vicini
 _Static_assert(sizeof(struct vicinity_reply) == 16, "the size of struct vicinity_reply");
 _Static_assert(sizeof(struct vicinity_mask) == 16, "the size of struct vicinity_mask");
 _Static_assert(sizeof(struct vicinity_line) == 140, "the size of struct vicinity_line");
+_Static_assert(sizeof(struct vicinity_name) == 32, "the size of struct vicinity_name");
 #endif
 
 /*
@@ -199,7 +206,26 @@ uint32_t vicinity_explain_listed(const uint8_t *text, size_t text_len, const uin
                                  size_t count, struct vicinity_answer *answer,
                                  uint64_t *population, size_t room, size_t *needed);
 
-/* The calls below take no memory. Each fills its struct and returns the struct's fault. */
+/*
+ * Fills in the slots of the log that a text spells, as the tags that it lists would answer, and hands
+ * over what `vicinity simulate` writes: the text of the filled log, or the one line of a refusal.
+ * `*needed` is how many bytes it has. Where `room` is at least that, they stand at the front of
+ * `filled`, with no NUL after them; else nothing is written there, and the call again with room for
+ * `*needed` gives them. Returns the status: 0 of a log, 3 of a refusal; or 4 where memory was
+ * refused, and `*needed` is 0.
+ */
+uint32_t vicinity_simulate(const uint8_t *text, size_t text_len, uint8_t *filled, size_t room,
+                           size_t *needed);
+
+/* The calls below take no memory. */
+
+/* The word that the line of an answer begins with, by its kind; returns its length, 0 if none. */
+uint32_t vicinity_kind_name(uint32_t kind, struct vicinity_name *name);
+
+/* The name of an enum vicinity_fault or vicinity_refusal; returns its length, 0 if it has none. */
+uint32_t vicinity_fault_name(uint32_t fault, struct vicinity_name *name);
+
+/* Each of the calls below fills its struct and returns the struct's fault. */
 
 /* Writes the frame of an Inventory request, CRC included. */
 uint32_t vicinity_write_inventory(uint32_t link, uint32_t slots, uint32_t mask_len,

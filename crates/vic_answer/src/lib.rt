@@ -28,6 +28,6 @@ pub use lines::LINE_ROOM;
 pub use numbers::{Kind, NO_ANSWER, VicinityAnswer, numbers_of};
 pub use population::put_population;
 pub use report::{Reported, report_text, reported_answer, run_report};
-pub use simulate::run_simulate;
+pub use simulate::{Simulation, run_simulate, simulate_text};
 pub use spell::{SpellFault, run_spell};
 pub use status::{RunFault, Status, fault_text};

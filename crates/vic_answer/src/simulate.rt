@@ -3,6 +3,8 @@
 ghost use Rattle.std.specs.Prelude.{◌≡◌, ℕ, List, IfOk};
 ghost use Rattle.vic_answer.specs.SimulateText.{IsSimulated, IsSimulationOf, simulated_text, simulated_status};
 ghost use Rattle.vic_answer.specs.Readings.{IsReading};
+ghost use Rattle.vic_log.specs.Lines.{lines_of_text};
+ghost use Rattle.vic_log.specs.Text.{IsLogOf};
 ghost use Rattle.vic_answer.specs.Runs.{Runs, RunsOver, LeavesSource, LeavesSink, Writes};
 
 use crate::input::{Reading, read_source};
@@ -12,7 +14,7 @@ use crate::status::{RunFault, Status};
 use crate::text::Text;
 use std::alloc::{AllocError, Global};
 use vic_field::{SimFault, simulate};
-use vic_log::{LineFault, Log, MAX_LINES, Sink, Source, write_log};
+use vic_log::{LineFault, Log, LogFault, MAX_LINES, Sink, Source, ToWrite, read_log, write_log};
 
 /// The line that no log has: the first behind its last.
 const LINE_TOO_MANY: u32 = MAX_LINES + 1;
@@ -28,6 +30,34 @@ pub(crate) enum Simulated {
     OutcomeGiven { line: u32 },
     /// Its log would have too many lines.
     TooManyLines,
+}
+
+/// The text that `simulate` writes for a text, and its status.
+#[derive(Drop)]
+pub struct Simulation {
+    pub text: Vec<u8>,
+    pub status: Status,
+}
+
+/// Fills in the slots of the log that a whole text spells, as the tags that it lists would answer:
+/// what `run_simulate` writes for it. It is refused for want of memory alone.
+pub fn simulate_text(alloc: Global, text: &[u8]) -> Result<Simulation, AllocError>
+    ensures { IfOk result (λ s. IsSimulationOf text.now s.text.items s.status) }
+{
+    let simulated = match read_log(alloc, text) {
+        Ok(log) => simulate_log(alloc, &log)?,
+        Err(LogFault::Line { line, fault }) => Simulated::RefusedAt { line, fault },
+        Err(LogFault::Memory) => return Err(AllocError),
+        Err(LogFault::Read) | Err(LogFault::Spent) => unreachable!(),
+    };
+    let mut sink = ToWrite::new(Vec::new(alloc));
+    match write_simulated(simulated, &mut sink) {
+        Ok(status) => Ok(Simulation {
+            text: sink.into_inner(),
+            status,
+        }),
+        Err(_) => Err(AllocError),
+    }
 }
 
 /// Fills in the slots of the log that a source hands out, as the tags that it lists would answer,
@@ -58,11 +88,18 @@ fn simulate_reading(alloc: Global, reading: Reading) -> Result<Simulated, AllocE
     ensures { IfOk result (λ s. (text : List ℕ)
         → IsReading text reading → IsSimulated text s) }
 {
-    let given = match reading {
-        Reading::Given(log) => log,
-        Reading::RefusedAt { line, fault } => return Ok(Simulated::RefusedAt { line, fault }),
-    };
-    match simulate(alloc, &given) {
+    match reading {
+        Reading::Given(log) => simulate_log(alloc, &log),
+        Reading::RefusedAt { line, fault } => Ok(Simulated::RefusedAt { line, fault }),
+    }
+}
+
+/// The answer to a log.
+fn simulate_log(alloc: Global, given: &Log) -> Result<Simulated, AllocError>
+    ensures { IfOk result (λ s. (text : List ℕ)
+        → IsLogOf (lines_of_text text) given.now → IsSimulated text s) }
+{
+    match simulate(alloc, given) {
         Ok(filled) => {
             // gives that the filled lines are in order
             let _lines = filled.lines();

@@ -1,2 +1,4 @@
 pub mod Frames
 pub mod Lines
+pub mod Names
+pub mod Simulated

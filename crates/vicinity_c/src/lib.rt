@@ -9,10 +9,13 @@ ghost use Rattle.vic_answer.specs.Numbers.{AreNumbersFor, no_answer};
 
 mod frames;
 mod lines;
+mod names;
+mod simulated;
 
 use crate::lines::with_listed;
 pub use frames::{VicinityFrame, VicinityMask, VicinityReply, VicinityRequest};
 pub use lines::VicinityLine;
+pub use names::{VicinityName, each_fault_has_its_name};
 use std::alloc::Global;
 use vic_answer::{
     NO_ANSWER, VicinityAnswer, answer_of, explain_text, judge_text, numbers_of, put_population,

@@ -1,0 +1,43 @@
+//! A log with its slots filled in, for C.
+
+ghost use Rattle.std.specs.Prelude.{◌≡◌, ◌≢◌, ◌≤◌, ◌++◌, length, drop};
+ghost use Rattle.vic_answer.specs.ExplainedNumbers.{IsPutInto};
+ghost use Rattle.vicinity_c.specs.Simulated.{IsSimulatedInto};
+
+use std::alloc::Global;
+use vic_answer::{NO_ANSWER, simulate_text};
+
+/// Fills in the slots of the log that a text spells, as the tags that it lists would answer, and
+/// hands over what `vicinity simulate` writes: the log's text, or the line of a refusal. `needed`
+/// is how many bytes it has. Where the room for it has so many places, they stand at its front;
+/// else it is as it was, and the same call with `needed` places gives them. The result is the
+/// program's status, 0 or 3; or 4 where memory was refused, with nothing handed over.
+#[unsafe(no_mangle)]
+pub extern "C" fn vicinity_simulate(
+    alloc: Global,
+    text: &[u8],
+    filled: &mut [u8],
+    needed: &mut usize,
+) -> u32
+    ensures filled { result ≢ 4
+        → IsSimulatedInto text.now result needed.new filled.old filled.new }
+    ensures nothing { result ≡ 4 → (needed.new ≡ 0) × (filled.new ≡ filled.old) }
+{
+    let Ok(simulation) = simulate_text(alloc, text) else {
+        *needed = 0;
+        return NO_ANSWER.status;
+    };
+    *needed = put_bytes(simulation.text.as_slice(), filled);
+    u32::from(simulation.status.code())
+}
+
+/// Puts bytes at the front of a room, where it has enough room, and gives how many they are.
+fn put_bytes(bytes: &[u8], room: &mut [u8]) -> usize
+    ensures count { result ≡ length bytes.now }
+    ensures put { IsPutInto bytes.now room.old room.new }
+{
+    if bytes.len() <= room.len() {
+        room[..bytes.len()].copy_from_slice(bytes);
+    }
+    bytes.len()
+}
