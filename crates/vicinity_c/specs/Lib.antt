@@ -1,4 +1,6 @@
+pub mod Fields
 pub mod Frames
+pub mod Inventory
 pub mod Lines
 pub mod Names
 pub mod Simulated

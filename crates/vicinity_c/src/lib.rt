@@ -7,13 +7,17 @@ ghost use Rattle.vic_answer.specs.CheckText.{IsCompleteText};
 ghost use Rattle.vic_answer.specs.ExplainedNumbers.{AreExplainedNumbersFor};
 ghost use Rattle.vic_answer.specs.Numbers.{AreNumbersFor, no_answer};
 
+mod fields;
 mod frames;
+mod inventory;
 mod lines;
 mod names;
 mod simulated;
 
 use crate::lines::with_listed;
-pub use frames::{VicinityFrame, VicinityMask, VicinityReply, VicinityRequest};
+pub use fields::{VicinityReply, VicinityRequest};
+pub use frames::VicinityFrame;
+pub use inventory::VicinityMask;
 pub use lines::VicinityLine;
 pub use names::{VicinityName, each_fault_has_its_name};
 use std::alloc::Global;
