@@ -2,6 +2,7 @@
 import collections
 import ctypes
 import random
+import re
 import subprocess
 import sys
 
@@ -15,6 +16,7 @@ LINES = [
 
 OUTCOMES = [b"S", b"C", b"D", b"R 0000A1000000000104E06745", b"R 0000B2000000000104E0CF94"]
 LISTED = [b"U E0040100000000A1", b"U E0040100000000B2"]
+LISTING = re.compile(rb"U [0-9A-F]{16}")
 
 # the answers that a population can show
 SHOWN = (vicinity.Kind.ABSENT, vicinity.Kind.UNLISTED, vicinity.Kind.UNSETTLED, vicinity.Kind.DOUBTFUL)
@@ -81,6 +83,26 @@ def explained(text):
     return written, answer.status
 
 
+def simulated(text):
+    """What the program would write of the text with its slots filled in, by rooms as above."""
+    status, written = vicinity.simulate(text)
+    for places in {0, len(written) - 1, len(written), len(written) + 3}:
+        room = (ctypes.c_uint8 * places)(*[7] * places)
+        wanted = written + b"\7" * (places - len(written)) if len(written) <= places else b"\7" * places
+        if vicinity.simulate_into(text, room) != (status, len(written)) or bytes(room) != wanted:
+            sys.exit(f"differ by room {places}: {text!r}: {written!r}; {bytes(room)!r}")
+    return written.decode(), status
+
+
+def list_taken_off(text):
+    """The text before the lines at its end that list UIDs, and these UIDs."""
+    rest, uids = text.removesuffix(b"\n"), []
+    while LISTING.fullmatch(rest[rest.rfind(b"\n") + 1:]) and b"\n" in rest:
+        rest, _, line = rest.rpartition(b"\n")
+        uids.insert(0, int(line[2:], 16))
+    return (rest + b"\n", uids) if uids else (text, [])
+
+
 def main(program, number, logs):
     rng = random.Random(7)
     seeds = [open(log, "rb").read() for log in logs]
@@ -89,7 +111,10 @@ def main(program, number, logs):
     for text in texts:
         answer = vicinity.check(text)
         seen[answer.kind.word] += 1
-        for command, given in (("check", (f"{answer}\n", answer.status)), ("explain", explained(text))):
+        if list_taken_off(text)[1] and vicinity.check_listed(*list_taken_off(text)) != answer:
+            sys.exit(f"differ with the list beside it: {text!r}: {answer}")
+        for command, given in (("check", (f"{answer}\n", answer.status)), ("explain", explained(text)),
+                               ("simulate", simulated(text))):
             wanted = run(program, command, text)
             if given != wanted:
                 sys.exit(f"differ in {command}: {text!r}: {wanted}; {given}")

@@ -14,10 +14,13 @@ from vicinity import Fault, Kind
 
 TOP = os.path.dirname(os.path.dirname(os.path.dirname(os.path.abspath(__file__))))
 ALL = b"T 260100F60A\n"
+SIXTEEN = b"T 060100CD09\n"
 A, B = 0xE0040100000000A1, 0xE0040100000000B2
 HEARD_A = b"R 0000A1000000000104E06745\n"
+HEARD_B = b"R 0000B2000000000104E0CF94\n"
 SILENCE_A = b"T 2202A1000000000104E0662A\n"
 LIST_A = b"U E0040100000000A1\n"
+LIST_B = b"U E0040100000000B2\n"
 
 # what is after the header, the answer, and the tags that show it
 ANSWERS = [
@@ -99,6 +102,46 @@ class Calls(unittest.TestCase):
         answer = vicinity.check(b"")
         self.assertIs(answer.kind, Kind.REFUSED)
         self.assertIs(answer.fault, Fault.HEADER)
+
+    def test_a_list_beside_the_text(self):
+        for lines, _, text, population in ANSWERS:
+            if lines.endswith(LIST_A):
+                given = log(lines.removesuffix(LIST_A)), [A]
+                self.assertEqual(str(vicinity.check_listed(*given)), text)
+                self.assertEqual(vicinity.explain_listed(*given), (vicinity.check_listed(*given), population))
+        heard = log(ALL + b"C\n")
+        self.assertEqual(str(vicinity.check_listed(heard, [])), "unsettled 0 -")
+        self.assertEqual(str(vicinity.check_listed(heard, (B, A))), "unsettled 2 00")
+        self.assertEqual(vicinity.explain_listed(heard, [B, A]).answer, vicinity.check_listed(heard, [A, B]))
+        self.assertEqual(str(vicinity.check_listed(heard, [B, A, B])), "refused at line 6: DuplicateListed")
+        self.assertEqual(str(vicinity.check_listed(heard, [A, 0])), "refused at line 5: NotVicinity")
+        for wrong in (-1, 1 << 64):
+            with self.assertRaises(OverflowError):
+                vicinity.check_listed(heard, [wrong])
+
+    def test_simulate(self):
+        for lines, status, text in (
+                (ALL + LIST_A, 0, log(ALL + HEARD_A + LIST_A)),
+                (ALL + SILENCE_A + ALL + LIST_A, 0, log(ALL + HEARD_A + SILENCE_A + ALL + b"S\n" + LIST_A)),
+                (ALL + LIST_A + LIST_B, 0, log(ALL + b"C\n" + LIST_A + LIST_B)),
+                (SIXTEEN * 20 + LIST_A + LIST_B, 0,
+                 log((SIXTEEN + b"S\n" + HEARD_A + HEARD_B + b"S\n" * 13) * 20 + LIST_A + LIST_B)),
+                (ALL + b"S\n", 3, b"refused at line 3: OutcomeGiven\n"), (b"X\n", 3, b"refused at line 2: UnknownEntry\n")):
+            self.assertEqual(vicinity.simulate(log(lines)), (status, text))
+
+    def test_simulate_into_leaves_a_room_that_is_too_small(self):
+        text = b"refused at line 1: Header\n"
+        for places in (0, len(text) - 1, len(text), len(text) + 1):
+            room = (ctypes.c_uint8 * places)(*[7] * places)
+            self.assertEqual(vicinity.simulate_into(b"", room), (3, len(text)))
+            self.assertEqual(bytes(room), (text if len(text) <= places else b"").ljust(places, b"\7"))
+
+    def test_words(self):
+        self.assertEqual([it.word for it in Kind],
+                         ["complete", "absent", "unlisted", "unsettled", "doubtful", "impossible", "refused"])
+        for fault in Fault:
+            parts = fault.name.removeprefix("FRAME_").split("_")
+            self.assertEqual(fault.word, "".join(part.capitalize() for part in parts) if fault else "")
 
     def test_a_population_larger_than_the_first_room(self):
         # in each round two UIDs alone can have answered: those with these 55 low bits

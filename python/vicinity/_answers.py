@@ -5,6 +5,8 @@ import enum
 from dataclasses import dataclass
 from typing import NamedTuple
 
+from ._native import name_of
+
 
 class Kind(enum.IntEnum):
     """Which answer it is."""
@@ -20,7 +22,7 @@ class Kind(enum.IntEnum):
     @property
     def word(self) -> str:
         """The word with which the line of the answer begins."""
-        return self.name.lower()
+        return name_of("kind", self)
 
 
 class Fault(enum.IntEnum):
@@ -56,8 +58,7 @@ class Fault(enum.IntEnum):
     @property
     def word(self) -> str:
         """The name of the fault in the line of the answer, as SlotOutsideRound."""
-        words = self.name.split("_")
-        return "".join(word.capitalize() for word in words[self >= Fault.FRAME_SHORT:])
+        return name_of("fault", self)
 
 
 @dataclass(frozen=True)
@@ -98,3 +99,11 @@ class Explanation(NamedTuple):
     population: list[int]
     """UIDs of tags that could have given the log and that are not the listed ones, in rising order. It is empty if
     there are none to show (COMPLETE, IMPOSSIBLE, REFUSED), and if an empty field shows the answer."""
+
+
+class Simulation(NamedTuple):
+    """What `vicinity simulate` writes for a text, and its status."""
+
+    status: int
+    """0 if `text` is a log, 3 if it is the one line of a refusal."""
+    text: bytes

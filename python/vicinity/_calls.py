@@ -2,9 +2,10 @@
 from __future__ import annotations
 
 import ctypes
-from typing import TYPE_CHECKING, Union
+from array import array
+from typing import TYPE_CHECKING, Any, Callable, Iterable, Union
 
-from ._answers import Answer, Explanation, Fault, Kind
+from ._answers import Answer, Explanation, Fault, Kind, Simulation
 from ._native import AnswerStruct, library
 
 if TYPE_CHECKING:
@@ -13,6 +14,7 @@ if TYPE_CHECKING:
     BytesLike = Union[bytes, bytearray, memoryview, mmap.mmap]
 
 FIRST_ROOM = 64
+NO_ANSWER = 4
 
 
 def _bytes(text: BytesLike) -> bytes:
@@ -23,6 +25,12 @@ def _bytes(text: BytesLike) -> bytes:
         return memoryview(text).tobytes()
     except TypeError:
         raise TypeError(f"the text of a log is bytes, not {type(text).__name__}") from None
+
+
+def _numbers(uids: Iterable[int]) -> ctypes.Array[ctypes.c_uint64]:
+    """UIDs as C has them. Raises OverflowError if a number is none of 64 bits."""
+    numbers = array("Q", uids)
+    return (ctypes.c_uint64 * len(numbers))(*numbers)
 
 
 def _answer(told: AnswerStruct) -> Answer:
@@ -52,13 +60,58 @@ def explain_into(text: BytesLike, room: ctypes.Array[ctypes.c_uint64]) -> tuple[
     return _answer(told), needed.value
 
 
+def _explained(call: Callable[..., int], *given: Any) -> Explanation:
+    """What a call that explains gives, with as much room as it needs."""
+    places = FIRST_ROOM
+    while True:
+        told, room, needed = AnswerStruct(), (ctypes.c_uint64 * places)(), ctypes.c_size_t()
+        call(*given, ctypes.byref(told), room, places, ctypes.byref(needed))
+        if needed.value <= places:
+            return Explanation(_answer(told), list(room[:needed.value]))
+        places = needed.value
+
+
 def explain(text: BytesLike) -> Explanation:
     """The answer to a text, and the UIDs of tags that show it. Raises what `check` raises."""
     text = _bytes(text)
-    places = FIRST_ROOM
+    return _explained(library().vicinity_explain, text, len(text))
+
+
+def check_listed(text: BytesLike, uids: Iterable[int]) -> Answer:
+    """The answer to a text that lists nothing and ends with LF, with a list of UIDs beside it, in any order.
+
+    Raises what `check` raises, and OverflowError if a UID is no number of 64 bits."""
+    text, listed = _bytes(text), _numbers(uids)
+    told = AnswerStruct()
+    library().vicinity_check_listed(text, len(text), listed, len(listed), ctypes.byref(told))
+    return _answer(told)
+
+
+def explain_listed(text: BytesLike, uids: Iterable[int]) -> Explanation:
+    """The answer of `check_listed`, and the UIDs of tags that show it. Raises what `check_listed` raises."""
+    text, listed = _bytes(text), _numbers(uids)
+    return _explained(library().vicinity_explain_listed, text, len(text), listed, len(listed))
+
+
+def simulate_into(text: BytesLike, room: ctypes.Array[ctypes.c_uint8]) -> tuple[int, int]:
+    """The status of `simulate` on a text, and how many bytes it writes. They are put at the front of the room, if it has
+    so many places; else it stays as it is. Raises what `check` raises."""
+    text = _bytes(text)
+    needed = ctypes.c_size_t()
+    status = library().vicinity_simulate(text, len(text), room, len(room), ctypes.byref(needed))
+    if status == NO_ANSWER:
+        raise MemoryError("vicinity: out of memory")
+    return status, needed.value
+
+
+def simulate(text: BytesLike) -> Simulation:
+    """The log that conforming tags would give: the text has the requests, and lists the tags. Raises what `check`
+    raises."""
+    text = _bytes(text)
+    places = FIRST_ROOM + 4 * len(text)
     while True:
-        room = (ctypes.c_uint64 * places)()
-        answer, needed = explain_into(text, room)
+        room = (ctypes.c_uint8 * places)()
+        status, needed = simulate_into(text, room)
         if needed <= places:
-            return Explanation(answer, list(room[:needed]))
+            return Simulation(status, bytes(memoryview(room)[:needed]))
         places = needed

@@ -55,6 +55,33 @@ class MaskStruct(ctypes.Structure):
     _fields_ = [("fault", ctypes.c_uint32), ("len", ctypes.c_uint32), ("value", ctypes.c_uint64)]
 
 
+class NameStruct(ctypes.Structure):
+    """struct vicinity_name of vicinity.h."""
+
+    _fields_ = [("len", ctypes.c_uint32), ("text", ctypes.c_char * 28)]
+
+
+SIZE = ctypes.c_size_t
+TEXT = [ctypes.c_char_p, SIZE]  # bytes, whose address C gets: never None, and read only
+UIDS = [ctypes.POINTER(ctypes.c_uint64), SIZE]
+ANSWER = [ctypes.POINTER(AnswerStruct)]
+POPULATION = [*UIDS, ctypes.POINTER(SIZE)]
+NUMBER, VALUE = ctypes.c_uint32, ctypes.c_uint64
+
+CALLS = {
+    "check": [*TEXT, *ANSWER],
+    "explain": [*TEXT, *ANSWER, *POPULATION],
+    "check_listed": [*TEXT, *UIDS, *ANSWER],
+    "explain_listed": [*TEXT, *UIDS, *ANSWER, *POPULATION],
+    "simulate": [*TEXT, ctypes.POINTER(ctypes.c_uint8), SIZE, ctypes.POINTER(SIZE)],
+    "kind_name": [NUMBER, ctypes.POINTER(NameStruct)],
+    "fault_name": [NUMBER, ctypes.POINTER(NameStruct)],
+    "read_request": [*TEXT, ctypes.POINTER(RequestStruct)],
+    "read_response": [*TEXT, ctypes.POINTER(ReplyStruct)],
+    "slot_mask": [NUMBER, NUMBER, VALUE, NUMBER, ctypes.POINTER(MaskStruct)],
+}
+
+
 @functools.lru_cache(maxsize=None)
 def library() -> ctypes.CDLL:
     """The library, loaded once: the file that LIBVICINITY names, or the installed one."""
@@ -72,16 +99,16 @@ def library() -> ctypes.CDLL:
         raise OSError(f"{name} isn't the library of vicinity") from None
     if interface != INTERFACE:
         raise OSError(f"the library {name} has the interface {interface}, and this package needs {INTERFACE}")
-    # c_char_p takes bytes and hands C their address: never None, and read only
-    lib.vicinity_check.restype = ctypes.c_uint32
-    lib.vicinity_check.argtypes = [ctypes.c_char_p, ctypes.c_size_t, ctypes.POINTER(AnswerStruct)]
-    for call, struct in ((lib.vicinity_read_request, RequestStruct), (lib.vicinity_read_response, ReplyStruct)):
+    for name, arguments in CALLS.items():
+        call = getattr(lib, f"vicinity_{name}")
         call.restype = ctypes.c_uint32
-        call.argtypes = [ctypes.c_char_p, ctypes.c_size_t, ctypes.POINTER(struct)]
-    lib.vicinity_slot_mask.restype = ctypes.c_uint32
-    lib.vicinity_slot_mask.argtypes = [ctypes.c_uint32, ctypes.c_uint32, ctypes.c_uint64, ctypes.c_uint32,
-                                       ctypes.POINTER(MaskStruct)]
-    lib.vicinity_explain.restype = ctypes.c_uint32
-    lib.vicinity_explain.argtypes = [*lib.vicinity_check.argtypes, ctypes.POINTER(ctypes.c_uint64), ctypes.c_size_t,
-                                     ctypes.POINTER(ctypes.c_size_t)]
+        call.argtypes = arguments
     return lib
+
+
+@functools.lru_cache(maxsize=None)
+def name_of(what: str, number: int) -> str:
+    """The name that the library has for a number of a kind or a fault."""
+    told = NameStruct()
+    getattr(library(), f"vicinity_{what}_name")(number, ctypes.byref(told))
+    return told.text.decode("ascii")
