@@ -15,7 +15,7 @@ pub mod Failing
 pub mod Listing
 pub mod Cases
 pub mod Sweeping
-pub mod Covering
+pub mod Closing
 pub mod Stretching
 pub mod Choosing
 pub mod Gathering

@@ -18,7 +18,7 @@ use Rattle.vic_log.specs.Quiet.{silences, wakes, is_quiet}
 use Rattle.vic_log.specs.Populations.{answers_at}
 use Rattle.vic_log.specs.Slots.{reading_of, slots_before, is_open}
 use Rattle.vic_verdict.specs.declared.names.Name.{Name}
-use Rattle.vic_verdict.specs.declared.covers.Spot.{Spot}
+use Rattle.vic_verdict.specs.declared.closed.Spot.{Spot}
 use Rattle.vic_verdict.specs.Sweep.{is_heard, is_in, is_silenced, spot_allows, all_allow, is_named, is_named_if, all_hear_named, are_left}
 use Rattle.vic_verdict.specs.Stretches.{AddsSpot, IsStretch}
 use Rattle.vic_verdict.proofs.Entries.{entry_allows}
@@ -94,7 +94,7 @@ pub stretch_named : (es : List Entry) (i end : ℕ) (set : ℕ → Bool) (ns ms 
 stretch_named es i end set ns ms ss n lt key left late is h = subst (λ xs. IsStretch es i end set xs ss) (sym is) (record {
   keys = All-push (λ (m : Name). m.key < 2 ^ 56) ns n h.keys key;
   left = left_more ns n left h.left;
-  masks = h.masks;
+  ranges = h.ranges;
   named = all_named_more ns n ss h.named;
   slots = h.slots;
   names = All-push (IsPlaced i end) ns n h.names (inr late);
@@ -117,7 +117,7 @@ pub stretch_passed : (es : List Entry) (i end : ℕ) (set : ℕ → Bool) (ns : 
 stretch_passed es i end set ns ss e k lt awake none all h = record {
   keys = h.keys;
   left = h.left;
-  masks = h.masks;
+  ranges = h.ranges;
   named = h.named;
   slots = slots_next i ss h.slots;
   names = placed_next i end ns h.names;
@@ -150,7 +150,7 @@ pub stretch_silenced : (es : List Entry) (i end : ℕ) (set : ℕ → Bool) (ns 
 stretch_silenced es i end set ns ms ss e n k lt awake one all key left at is h = subst (λ xs. IsStretch es (i + 1) end set xs ss) (sym is) (record {
   keys = All-push (λ (m : Name). m.key < 2 ^ 56) ns n h.keys key;
   left = left_more ns n left h.left;
-  masks = h.masks;
+  ranges = h.ranges;
   named = all_named_more ns n ss h.named;
   slots = slots_next i ss h.slots;
   names = All-push (IsPlaced (i + 1) end) ns n (placed_next i end ns h.names) (inl (omega (arith, at)));
@@ -165,7 +165,7 @@ pub stretch_spotted : (es : List Entry) (i end : ℕ) (set : ℕ → Bool) (ns :
 stretch_spotted es i end set ns ss ts e mask heard k lt m awake none reads named adds h = record {
   keys = h.keys;
   left = h.left;
-  masks = adds.masks h.masks;
+  ranges = adds.ranges h.ranges;
   named = adds.named ns named h.named;
   slots = adds.before (i + 1) (omega arith) (slots_next i ss h.slots);
   names = placed_next i end ns h.names;
@@ -221,7 +221,7 @@ pub stretch_first : (es : List Entry) (end : ℕ) (set : ℕ → Bool) → SameU
 stretch_first es end set h = record {
   keys = λ k d below. absurd (omega (arith, below));
   left = refl;
-  masks = λ k d below. absurd (omega (arith, below));
+  ranges = λ k d below. absurd (omega (arith, below));
   named = refl;
   slots = λ k d below. absurd (omega (arith, below));
   names = λ k d below. absurd (omega (arith, below));
@@ -234,7 +234,7 @@ pub stretch_anew : (es : List Entry) (i end : ℕ) (old set : ℕ → Bool) (ns 
 stretch_anew es i end old set ns ms ss ts e k is none empty done h = subst (λ xs. IsStretch es (i + 1) end set xs ts) (sym none) (subst (λ xs. IsStretch es (i + 1) end set [] xs) (sym empty) (record {
   keys = λ j d below. absurd (omega (arith, below));
   left = refl;
-  masks = λ j d below. absurd (omega (arith, below));
+  ranges = λ j d below. absurd (omega (arith, below));
   named = refl;
   slots = λ j d below. absurd (omega (arith, below));
   names = λ j d below. absurd (omega (arith, below));

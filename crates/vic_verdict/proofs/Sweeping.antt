@@ -1,19 +1,16 @@
 -- What the slots between two field cycles leave, name by name.
-use Rattle.std.proofs.Common.{◌≡◌, ℕ, zero, suc, ◌+◌, ◌-◌, ◌<◌, ◌≤◌, ◌==◌, List, [], ◌∷◌, length, take, get_or, set, Bool, true, false, not, ◌&&◌, ◌||◌, Option, Some, None, refl, sym, ap, ◌∙◌, subst, arith, add-one, ◌++◌, ◌^◌, ⊎_elim}
+use Rattle.std.proofs.Common.{◌≡◌, ℕ, zero, suc, ◌+◌, ◌<◌, ◌≤◌, ◌==◌, List, [], ◌∷◌, length, take, get_or, set, Bool, true, false, not, ◌&&◌, ◌||◌, Option, Some, None, refl, sym, ap, ◌∙◌, subst, arith, add-one, ◌++◌, ⊎_elim}
 use Rattle.std.specs.Prelude.{nat_le, nat_lt}
 use Rattle.std.specs.List.{list_all, list_any}
-use Rattle.std.proofs.lemmas.Bool.{ne_eqb, cases_eq, cases_lt, false≢true, and_parts, and_from, and_right, or_cases, or_left, or_right, eqb-true}
+use Rattle.std.proofs.lemmas.Bool.{ne_eqb, cases_eq, cases_lt, false≢true, and_parts, and_from, or_cases, or_left, or_right, eqb-true}
 use Rattle.std.proofs.lemmas.Bool.Decides.{nat_tests}
 use Rattle.std.proofs.lemmas.List.{ext_get_or, get_or-map, get_or-set_same, get_or-set_other, length-set, take_all}
-use Rattle.std.proofs.lemmas.List.Folds.{list_all_more, list_any_more, list_any-append}
-use Rattle.vic_frame.specs.Uids.{IsUid, has}
-use Rattle.vic_frame.specs.LowBitsFirst.{mirror, uid_of}
-use Rattle.vic_frame.proofs.MirrorLaws.{mirror_of_uid, uid_of_mirror, same_test}
+use Rattle.std.proofs.lemmas.List.Folds.{list_all_more, list_any_more}
 use Rattle.vic_verdict.specs.declared.names.Name.{Name}
-use Rattle.vic_verdict.specs.declared.covers.Spot.{Spot}
+use Rattle.vic_verdict.specs.declared.closed.Spot.{Spot}
 use Rattle.vic_verdict.specs.declared.level.Level.{Level}
 use Rattle.vic_verdict.specs.declared.sweep.Run.{Run}
-use Rattle.vic_verdict.specs.Sweep.{is_heard, slot_leaves, is_between, is_in, spot_leaves, all_leave, level_leaves, mask_leaves, run_leaves, keep, keep_all, has_where, has_left, is_silenced, spot_allows, all_allow, is_named, is_named_if, hears_named, all_hear_named, are_left, HaveKeys, AreInOrder}
+use Rattle.vic_verdict.specs.Sweep.{is_heard, slot_leaves, is_between, is_in, spot_leaves, all_leave, level_leaves, mask_leaves, run_leaves, keep, keep_all, has_where, has_left, is_silenced, spot_allows, all_allow, is_named, is_named_if, hears_named, all_hear_named, are_left, AreInOrder}
 use Rattle.std.specs.List.Sorted.{IsPermutation}
 use Rattle.std.proofs.lemmas.List.Sorted.{list_any-IsPermutation}
 use Rattle.std.proofs.Math.Seq.{take-append_seam}
@@ -81,6 +78,9 @@ inside first last l k q f g = go (nat_le first k) (nat_le k last) (grind (arith,
 -- what stands past the end of a list
 abbrev pub nobody : Name
 nobody = record { key = 0; at = 0; quiet = 0; left = false }
+
+abbrev pub nowhere : Spot
+nowhere = record { first = 0; last = 0; at = 0; heard = None }
 
 -- the first i names of a list were gone over
 pub record IsRuled (p : ℕ → ℕ → Bool) (old new : List Name) (i : ℕ) : Type 0 where
@@ -152,39 +152,8 @@ where_above p ns k i (suc more) e h =
     sym (where_skip p ns k i (omega (arith, e)) (λ same. let lt = h i (omega arith) (omega (arith, e)) in absurd (omega (arith, same, lt))))
     ∙ where_above p ns k (i + 1) more (omega (arith, e)) (λ j le lt. h j (omega (arith, le)) lt)
 
--- the list has the UIDs from a key on that pass a test by the first i names
-abbrev pub HasWhere : (Name → Bool) → ℕ → List Name → List ℕ → ℕ → Type 0
-HasWhere p first ns us i = (u : ℕ) → IsUid u → first ≤ mirror u → has us u ≡ has_where p (take i ns) (mirror u)
-
-key_of_uid : (k u : ℕ) → IsUid u → k < 2 ^ 56 → (k == mirror u) ≡ (u == uid_of k)
-key_of_uid k u w small = same_test k (mirror u) u (uid_of k) (λ e. sym (uid_of_mirror u w) ∙ ap uid_of (sym e)) (λ e. sym (mirror_of_uid k small) ∙ ap mirror (sym e))
-
-and_yes : (a b : Bool) → b ≡ true → (a && b) ≡ a
-and_yes a true e = and_true a
-and_yes a false e = absurd (cc)
-
-pub where_pushed : (p : Name → Bool) (first : ℕ) (ns : List Name) (us vs : List ℕ) (i v : ℕ) → HasWhere p first ns us i → i < length ns → p (get_or ns i nobody) ≡ true → (get_or ns i nobody).key < 2 ^ 56 → v ≡ uid_of (get_or ns i nobody).key → vs ≡ us ++ v ∷ [] → HasWhere p first ns vs (i + 1)
-where_pushed p first ns us vs i v h below left small is all u w from =
-    ap (λ ws. has ws u) all
-    ∙ (list_any-append (λ x. u == x) us (v ∷ [])
-    ∙ (ap (λ b. b || ((u == v) || false)) (h u w from)
-    ∙ (ap (λ b. has_where p (take i ns) (mirror u) || b) (or_false (u == v) ∙ (ap (λ x. u == x) is ∙ (sym (key_of_uid (get_or ns i nobody).key u w small) ∙ sym (and_yes _ _ left))))
-    ∙ sym (list_any_more (λ (n : Name). (n.key == mirror u) && p n) ns i nobody below))))
-
-pub where_passed : (p : Name → Bool) (first : ℕ) (ns : List Name) (us : List ℕ) (i : ℕ) → HasWhere p first ns us i → i < length ns → p (get_or ns i nobody) ≡ false → HasWhere p first ns us (i + 1)
-where_passed p first ns us i h below left u w from =
-    h u w from
-    ∙ sym (list_any_more (λ (n : Name). (n.key == mirror u) && p n) ns i nobody below
-    ∙ (ap (λ b. has_where p (take i ns) (mirror u) || b) (and_right _ _ left) ∙ or_false (has_where p (take i ns) (mirror u))))
-
 pub between_parts : (first last k : ℕ) → is_between first last k ≡ true → (first ≤ k) × (k ≤ last)
 between_parts first last k e = let p = and_parts (nat_le first k) (nat_le k last) e in let a = p.0 in let b = p.1 in (grind (arith, nat_tests, a), grind (arith, nat_tests, b))
-
-pub where_found : (p : Name → Bool) (first last : ℕ) (ns : List Name) (us : List ℕ) (i : ℕ) → HasWhere p first ns us i → i ≤ length ns → ((j : ℕ) → i ≤ j → j < length ns → last < (get_or ns j nobody).key) → (u : ℕ) → IsUid u → is_between first last (mirror u) ≡ true → has us u ≡ has_where p ns (mirror u)
-where_found p first last ns us i h le above u w e =
-    let parts = between_parts first last (mirror u) e in
-    let to = parts.1 in
-    h u w parts.0 ∙ where_above p ns (mirror u) i (length ns - i) (omega (arith, le)) (λ j from lt. let over = above j from lt in omega (arith, over, to))
 
 -- ---- names and slots
 
@@ -361,11 +330,6 @@ allow_permuted ns ms ss ts k m w =
     all_alike (λ s. spot_allows ms s k) (λ s. spot_allows ns s k)
     (λ (s : Spot). ap (λ b. not (is_in s k) || (b || is_heard s.heard k)) (sym (list_any-IsPermutation (λ (n : Name). (n.key == k) && nat_lt n.quiet s.at) ns ms m))) ts
     ∙ sym (all_permuted (λ s. spot_allows ns s k) ss ts w)
-
-pub keep-keys : (p : ℕ → ℕ → Bool) (ns : List Name) → HaveKeys ns → HaveKeys (keep_all p ns)
-keep-keys p ns h k d below =
-    let short : k < length ns = subst (λ m. k < m) (keep-length p ns) below in
-    subst (λ (n : Name). n.key < 2 ^ 56) (sym (get_or-map (keep p) ns k d d short)) (h k d short)
 
 -- a slice that was borrowed from a list and written
 pub written : (n : ℕ) (xs ys : List Name) → n ≡ length xs → take n (xs ++ ys) ≡ xs

@@ -6,7 +6,7 @@ pub mod Places
 pub mod Rising
 pub mod Unsettled
 pub mod Sweep
-pub mod Covers
+pub mod Closed
 pub mod Stretches
 pub mod Demands
 pub mod Explained

@@ -10,8 +10,8 @@ use Rattle.vic_log.specs.Rounds.{lies_in_some}
 use Rattle.vic_log.specs.Quiet.{is_quiet}
 use Rattle.vic_log.specs.Slots.{slots_before, is_open}
 use Rattle.vic_verdict.specs.declared.names.Name.{Name}
-use Rattle.vic_verdict.specs.declared.covers.Spot.{Spot}
-use Rattle.vic_verdict.specs.Sweep.{HasMask, HaveKeys, are_left, is_named_if, all_hear_named, is_silenced, is_heard, all_allow}
+use Rattle.vic_verdict.specs.declared.closed.Spot.{Spot}
+use Rattle.vic_verdict.specs.Sweep.{HasRange, HaveKeys, are_left, is_named_if, all_hear_named, is_silenced, is_heard, all_allow}
 
 -- the UID may be there by a slot of this mask, at a place, that heard this key or nobody
 abbrev pub is_allowed : List Name → Option BitMask → ℕ → Option ℕ → ℕ → Bool
@@ -21,7 +21,7 @@ is_allowed ns mask at heard u =
 -- the list has a slot more, of this mask, unless no UID lies in it
 pub record AddsSpot (mask : Option BitMask) (at : ℕ) (heard : Option ℕ) (old new : List Spot)
     : Type 0 where
-  pub masks : All HasMask old → All HasMask new
+  pub ranges : All HasRange old → All HasRange new
   pub before : (i : ℕ) → at < i
       → All (λ (s : Spot). s.at < i) old → All (λ (s : Spot). s.at < i) new
   pub named : (ns : List Name) → is_named_if ns heard ≡ true
@@ -36,7 +36,7 @@ pub record IsStretch (es : List Entry) (i end : ℕ) (set : ℕ → Bool) (ns : 
     (ss : List Spot) : Type 0 where
   pub keys : HaveKeys ns
   pub left : are_left ns ≡ true
-  pub masks : All HasMask ss
+  pub ranges : All HasRange ss
   pub named : all_hear_named ns ss ≡ true
   pub slots : All (λ (s : Spot). s.at < i) ss
   pub names : All (λ (n : Name). (n.quiet < i) ⊎ (end ≤ n.quiet)) ns

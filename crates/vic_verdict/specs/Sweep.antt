@@ -2,10 +2,10 @@
 use Rattle.std.specs.Prelude.{◌≡◌, ℕ, ◌==◌, ◌<◌, ◌≤◌, Bool, true, false, not, ◌&&◌, ◌||◌, Option, Some, None, List, length, slice_index_or, nat_le, nat_lt, map, if◌then◌else◌, IfSome}
 use Rattle.std.specs.List.Sorted.{IsNonDecreasingBy}
 use Rattle.std.specs.List.{list_all, list_any, All}
-use Rattle.vic_frame.specs.Masks.{lies_in}
-use Rattle.vic_frame.specs.LowBitsFirst.{IsKey, mirror}
+use Rattle.vic_frame.specs.LowBitsFirst.{IsKey}
+use Rattle.vic_tree.specs.Ranges.{IsKeyRange}
 use Rattle.vic_verdict.specs.declared.names.Name.{Name}
-use Rattle.vic_verdict.specs.declared.covers.Spot.{Spot}
+use Rattle.vic_verdict.specs.declared.closed.Spot.{Spot}
 use Rattle.vic_verdict.specs.declared.level.Level.{Level}
 use Rattle.vic_verdict.specs.declared.sweep.Run.{Run}
 
@@ -80,9 +80,9 @@ spot_allows ns s k = not (is_in s k) || (is_silenced ns k s.at || is_heard s.hea
 abbrev pub all_allow : List Name → List Spot → ℕ → Bool
 all_allow ns spots k = list_all (λ s. spot_allows ns s k) spots
 
--- the keys are those of the mask
-abbrev pub HasMask : Spot → Type 0
-HasMask s = (u : ℕ) → lies_in s.mask u ≡ is_in s (mirror u)
+-- the slot's first key comes no later than its last one, which is a key
+abbrev pub HasRange : Spot → Type 0
+HasRange s = IsKeyRange (s.first, s.last)
 
 -- the key is named
 abbrev pub is_named : List Name → ℕ → Bool

@@ -2,8 +2,8 @@
 #![tactic(auto)]
 
 mod certain;
+mod closed;
 mod conflict;
-mod covers;
 mod demands;
 mod explanation;
 mod fates;

@@ -1,13 +1,14 @@
 //! The UIDs that lines silence or hear between two field cycles, in the order of their keys: which
 //! of them are Quiet at a place.
 
-ghost use Rattle.std.specs.Prelude.{◌≡◌, ℕ, true, ◌++◌, ◌∷◌, [], IfOk, OnOk};
-ghost use Rattle.std.specs.List.{list_any};
+ghost use Rattle.std.specs.Prelude.{◌≡◌, ℕ, Bool, true, ◌++◌, ◌∷◌, [], IfOk, OnOk};
+ghost use Rattle.std.specs.List.{All, list_any};
 ghost use Rattle.std.specs.List.Sorted.{IsNonDecreasing};
 ghost use Rattle.vic_frame.specs.Uids.{IsUid, has};
 ghost use Rattle.vic_frame.specs.LowBitsFirst.{IsKey, mirror};
 ghost use Rattle.vic_tree.specs.OpenSet.{AreKeys};
-ghost use Rattle.vic_verdict.specs.Sweep.{is_silenced, AreInOrder, HaveKeys, is_between};
+ghost use Rattle.vic_verdict.specs.declared.names.Name.{Name as NameValue};
+ghost use Rattle.vic_verdict.specs.Sweep.{is_silenced, AreInOrder, HaveKeys, has_where, is_between};
 
 use std::alloc::{AllocError, Global};
 use vic_frame::Uid;
@@ -43,6 +44,22 @@ pub(crate) fn push_name(
         left: true,
     })?;
     Ok(())
+}
+
+/// The names from key `first` to `last`.
+pub(crate) fn names_between(names: &[Name], first: u64, last: u64) -> &[Name]
+    requires { AreInOrder names.now }
+    ensures order { AreInOrder result.now }
+    ensures inside { All (λ n. is_between first last n.key ≡ true) result.now }
+    ensures all { (test : NameValue → Bool) (k : ℕ) → is_between first last k ≡ true
+        → has_where test result.now k ≡ has_where test names.now k }
+{
+    let rest = &names[names.partition_point(|name| name.key < first)..];
+    let mut count = 0;
+    while count < rest.len() && rest[count].key <= last {
+        count += 1;
+    }
+    &rest[..count]
 }
 
 /// Whether a UID is Quiet at a place.

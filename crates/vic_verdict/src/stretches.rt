@@ -2,6 +2,7 @@
 
 ghost use Rattle.std.specs.Prelude.{ℕ, ◌≡◌, ◌≢◌, ◌+◌, ◌<◌, ◌++◌, ◌∷◌, [], true, false, Bool, List, Some, IsTrue, IfOk, OnOk, MatchResult, slice_get};
 ghost use Rattle.vic_tree.specs.OpenSet.{SameUids};
+ghost use Rattle.vic_tree.specs.Ranges.{is_outside};
 ghost use Rattle.vic_log.specs.Slots.{slots_of, is_open};
 ghost use Rattle.vic_log.specs.Order.{entries};
 ghost use Rattle.vic_verdict.specs.FirstLines.{AreFirstLines};
@@ -9,14 +10,14 @@ ghost use Rattle.vic_frame.specs.Uids.{IsUid};
 ghost use Rattle.vic_frame.specs.LowBitsFirst.{IsKey, mirror};
 ghost use Rattle.vic_log.specs.declared.entry.Entry.{Entry as EntryValue};
 ghost use Rattle.vic_log.specs.declared.entry.Entry.TheVariants.{FieldCycle, Sent};
-ghost use Rattle.vic_verdict.specs.declared.covers.Spot.{Spot as SpotValue};
+ghost use Rattle.vic_verdict.specs.declared.closed.Spot.{Spot as SpotValue};
 ghost use Rattle.vic_log.specs.Rounds.{mask_at, lies_in_some};
 ghost use Rattle.vic_verdict.specs.Possible.{IsContradictedAt};
 ghost use Rattle.vic_verdict.specs.Replies.{RepliesAnswer, AreHeard};
 ghost use Rattle.vic_verdict.specs.Silenced.{TellsQuiet};
 ghost use Rattle.vic_verdict.specs.Stretches.{AddsSpot, IsStretch};
 
-use crate::covers::Spot;
+use crate::closed::Spot;
 use crate::names::{Name, push_name};
 use crate::possible::Contradiction;
 use crate::sweep::settle_stretch;
@@ -24,7 +25,7 @@ use std::alloc::{AllocError, Global};
 use vic_frame::low_bits_first::{key, key_range};
 use vic_frame::{Mask, Request, Uid, without_top_byte};
 use vic_log::{Entry, PackedLine, RoundCursor};
-use vic_tree::OpenSet;
+use vic_tree::{KeyRange, OpenSet};
 
 /// Adds a slot, unless no UID lies in its mask.
 fn push_spot(
@@ -44,7 +45,6 @@ fn push_spot(
     let (first, last) = key_range(&mask);
     spots.push(Spot {
         first,
-        mask,
         last,
         at,
         heard,
@@ -131,26 +131,26 @@ fn note_entry(
     Ok(true)
 }
 
-/// The UIDs that the silent and answered slots of a log leave open, unless a UID was heard that
-/// couldn't have answered there.
-pub(crate) fn settle_all<S: OpenSet>(
+/// The keys that the silent and answered slots of a log close, unless a UID was heard that couldn't
+/// have answered there.
+fn closed_keys(
     alloc: Global,
     lines: &[PackedLine],
-) -> Result<Result<S, Contradiction>, AllocError>
+) -> Result<Result<Vec<KeyRange>, Contradiction>, AllocError>
     requires { AreFirstLines lines.now }
     ensures { IfOk result (λ r. MatchResult r
-        (λ s. RepliesAnswer (entries lines.now)
-        × SameUids (S.is_open s) (is_open (slots_of (entries lines.now))))
+        (λ closed. RepliesAnswer (entries lines.now)
+        × SameUids (is_outside closed.items) (is_open (slots_of (entries lines.now))))
         (λ c. IsContradictedAt (entries lines.now) c.at)) }
 {
-    let mut set = S::everything(alloc)?;
+    let mut closed = Vec::new(alloc);
     let mut names = Vec::new(alloc);
     let mut spots = Vec::new(alloc);
     let mut cursor = RoundCursor::first();
     for (index, line) in lines.iter().enumerate() {
         let entry = line.item();
         if let Entry::FieldCycle = entry {
-            if let Some(at) = settle_stretch(alloc, &mut set, &mut names, &mut spots)? {
+            if let Some(at) = settle_stretch(&mut closed, &mut names, &mut spots)? {
                 return Ok(Err(Contradiction { at }));
             }
             names.clear();
@@ -163,8 +163,26 @@ pub(crate) fn settle_all<S: OpenSet>(
         }
         cursor.advance(&entry);
     }
-    match settle_stretch(alloc, &mut set, &mut names, &mut spots)? {
+    match settle_stretch(&mut closed, &mut names, &mut spots)? {
         Some(at) => Ok(Err(Contradiction { at })),
-        None => Ok(Ok(set)),
+        None => Ok(Ok(closed)),
+    }
+}
+
+/// The UIDs that the silent and answered slots of a log leave open, unless a UID was heard that
+/// couldn't have answered there.
+pub(crate) fn settle_all<S: OpenSet>(
+    alloc: Global,
+    lines: &[PackedLine],
+) -> Result<Result<S, Contradiction>, AllocError>
+    requires { AreFirstLines lines.now }
+    ensures { IfOk result (λ r. MatchResult r
+        (λ s. RepliesAnswer (entries lines.now)
+        × SameUids (S.is_open s) (is_open (slots_of (entries lines.now))))
+        (λ c. IsContradictedAt (entries lines.now) c.at)) }
+{
+    match closed_keys(alloc, lines)? {
+        Ok(closed) => Ok(Ok(S::without(alloc, closed)?)),
+        Err(contradiction) => Ok(Err(contradiction)),
     }
 }

@@ -5,26 +5,21 @@
 //! it, and no other UID. A UID without a name is ruled out where it lies in any of the masks.
 
 ghost use Rattle.std.specs.Prelude.{◌≡◌, ℕ, ◌&&◌, true};
-ghost use Rattle.std.specs.Prelude.{Some, None, IfSome, IfOk, OnOk};
+ghost use Rattle.std.specs.Prelude.{Some, None, IfSome, IfOk};
 ghost use Rattle.std.specs.List.{All};
-ghost use Rattle.std.specs.List.Sorted.{IsStrictlyIncreasing};
-ghost use Rattle.vic_frame.specs.Uids.{IsUid, has};
 ghost use Rattle.vic_frame.specs.LowBitsFirst.{mirror};
 ghost use Rattle.vic_tree.specs.OpenSet.{SameUids};
-ghost use Rattle.vic_verdict.specs.Covers.{IsCover, all_leave_named};
+ghost use Rattle.vic_tree.specs.Ranges.{is_outside};
 ghost use Rattle.vic_verdict.specs.Replies.{AreReady, IsQuietReply};
 ghost use Rattle.vic_verdict.specs.Verdict.{IsLeast};
-ghost use Rattle.vic_verdict.specs.Sweep.{spot_leaves, all_leave, mask_leaves, run_leaves, IsLevel, keep_all, has_left, all_allow, are_left, all_hear_named, HasMask, AreInOrder, HaveKeys, is_between};
+ghost use Rattle.vic_verdict.specs.Sweep.{spot_leaves, all_leave, mask_leaves, run_leaves, IsLevel, keep_all, all_allow, are_left, all_hear_named, HasRange, AreInOrder};
 
-use crate::covers::{Cover, Spot, covers_of};
+use crate::closed::{Spot, close_spots};
 use crate::level::Level;
 use crate::names::Name;
 use crate::replies::first_quiet_reply;
-use crate::rising::put_in_order;
-use std::alloc::{AllocError, Global};
-use vic_frame::Uid;
-use vic_frame::low_bits_first::uid_at;
-use vic_tree::OpenSet;
+use std::alloc::AllocError;
+use vic_tree::KeyRange;
 
 /// Slots of one mask, one after another.
 #[derive(Clone, Copy)]
@@ -33,9 +28,6 @@ pub(crate) struct Run {
     pub last: u64,
     pub level: Level,
 }
-
-/// The memory of more slots than these is given back before their masks are settled.
-const MANY_SLOTS: usize = 10_000;
 
 /// Rules out the names from key `first` to `last` that a level doesn't leave.
 fn rule_out(names: &mut [Name], first: u64, last: u64, level: &Level)
@@ -93,88 +85,21 @@ fn rule_out_all(names: &mut [Name], spots: &[Spot])
     }
 }
 
-/// The UIDs that are left by name from key `first` to `last`.
-fn left_in_order(
-    alloc: Global,
-    names: &[Name],
-    first: u64,
-    last: u64,
-) -> Result<Vec<Uid>, AllocError>
-    requires order { AreInOrder names.now }
-    requires keys { HaveKeys names.now }
-    ensures { IfOk result (λ uids. (u : ℕ) → IsUid u
-        → is_between first last (mirror u) ≡ true
-        → has uids.items u ≡ has_left names.now (mirror u)) }
-{
-    let mut uids = Vec::new(alloc);
-    let start = names.partition_point(|name| name.key < first);
-    for i in start..names.len() {
-        let name = names[i];
-        if last < name.key {
-            return Ok(uids);
-        }
-        if name.left {
-            uids.push(uid_at(name.key))?;
-        }
-    }
-    Ok(uids)
-}
-
-/// The same, from the least to the greatest.
-fn left_between(
-    alloc: Global,
-    names: &[Name],
-    first: u64,
-    last: u64,
-) -> Result<Vec<Uid>, AllocError>
-    requires order { AreInOrder names.now }
-    requires keys { HaveKeys names.now }
-    ensures rising { IfOk result (λ uids. IsStrictlyIncreasing uids.items) }
-    ensures members { IfOk result (λ uids. (u : ℕ) → IsUid u
-        → is_between first last (mirror u) ≡ true
-        → has uids.items u ≡ has_left names.now (mirror u)) }
-{
-    let mut uids = left_in_order(alloc, names, first, last)?;
-    put_in_order(&mut uids);
-    Ok(uids)
-}
-
-/// Settles masks, except the names that are left in them.
-fn settle_masks<S: OpenSet>(
-    alloc: Global,
-    set: &mut S,
-    names: &[Name],
-    covers: &[Cover],
-) -> Result<(), AllocError>
-    requires order { AreInOrder names.now }
-    requires keys { HaveKeys names.now }
-    requires masks { All IsCover covers.now }
-    ensures { OnOk result (SameUids (S.is_open set.new)
-        (λ u. S.is_open set.old u && all_leave_named names.now covers.now (mirror u))) }
-{
-    for cover in covers {
-        let left = left_between(alloc, names, cover.first, cover.last)?;
-        set.settle(&cover.mask, &left)?;
-    }
-    Ok(())
-}
-
 /// Settles what the silent and answered slots of some lines tell, by the UIDs that these lines
-/// name. The first place at which a UID was heard while it was Quiet, if there is one: then nothing
-/// is settled.
-pub(crate) fn settle_stretch<S: OpenSet>(
-    alloc: Global,
-    set: &mut S,
+/// name: closes the keys that they rule out. The first place at which a UID was heard while it was
+/// Quiet, if there is one: then nothing is closed.
+pub(crate) fn settle_stretch(
+    closed: &mut Vec<KeyRange>,
     names: &mut Vec<Name>,
     spots: &mut Vec<Spot>,
 ) -> Result<Option<usize>, AllocError>
-    requires keys { HaveKeys names.old.items }
     requires left { are_left names.old.items ≡ true }
-    requires masks { All HasMask spots.old.items }
+    requires ranges { All HasRange spots.old.items }
     requires named { all_hear_named names.old.items spots.old.items ≡ true }
     ensures fit { IfOk result (λ r. r ≡ None → AreReady names.old.items) }
-    ensures settled { IfOk result (λ r. r ≡ None → SameUids (S.is_open set.new)
-        (λ u. S.is_open set.old u && all_allow names.old.items spots.old.items (mirror u))) }
+    ensures settled { IfOk result (λ r. r ≡ None → SameUids (is_outside closed.new.items)
+        (λ u. is_outside closed.old.items u
+        && all_allow names.old.items spots.old.items (mirror u))) }
     ensures unfit { IfOk result (λ r. IfSome r (IsLeast (IsQuietReply names.old.items))) }
 {
     names.sort_unstable_by_key(|name| (name.key, name.quiet));
@@ -182,12 +107,8 @@ pub(crate) fn settle_stretch<S: OpenSet>(
         return Ok(Some(at));
     }
     // Those of one mask together, and outer masks before inner ones.
-    spots.sort_unstable_by_key(|spot| (spot.first, spot.mask.len()));
+    spots.sort_unstable_by_key(|spot| (spot.first, u64::MAX - spot.last));
     rule_out_all(names, spots);
-    let covers = covers_of(alloc, spots)?;
-    if spots.len() > MANY_SLOTS {
-        *spots = Vec::new(alloc);
-    }
-    settle_masks(alloc, set, names, &covers)?;
+    close_spots(closed, names, spots)?;
     Ok(None)
 }

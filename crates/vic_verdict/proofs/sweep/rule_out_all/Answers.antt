@@ -1,15 +1,15 @@
-use Rattle.std.proofs.Common.{◌∙◌, ap, sym, Option}
-use Rattle.std.proofs.lemmas.List.{take_all}
+use Rattle.std.proofs.Common.{◌∙◌, ap, get_or, sym, Option}
+use Rattle.std.proofs.lemmas.List.{get_or_default, take_all}
 use Rattle.vic_verdict.specs.declared.sweep.Run.{Run}
 use Rattle.vic_verdict.specs.Sweep.{keep_all, run_leaves, all_leave}
-use Rattle.vic_verdict.proofs.Sweeping.{runs_more, keep_none}
+use Rattle.vic_verdict.proofs.Sweeping.{nowhere, runs_more, keep_none}
 use Rattle.vic_verdict.proofs.sweep.rule_out_all.Goals as goal
 
 pub loop-spot-preserved : goal.loop-spot-preserved
 loop-spot-preserved c = record {
   order = c.pass_spot.ensures.order;
   level = c.pass_spot.ensures.level;
-  done = runs_more c.loop-spot.run c.pass_spot.result c.args.spots.now c.loop-spot.spot-index c.spot-item.result c.args.names.now c.loop-spot.names c.pass_spot.new.names c.loop-spot-test.true c.spot-item.is c.loop-spot.invariant.done c.pass_spot.ensures.leaves;
+  done = runs_more c.loop-spot.run c.pass_spot.result c.args.spots.now c.loop-spot.spot-index (get_or c.args.spots.now c.loop-spot.spot-index nowhere) c.args.names.now c.loop-spot.names c.pass_spot.new.names c.loop-spot-test.true (get_or_default c.args.spots.now c.loop-spot.spot-index nowhere _ c.loop-spot-test.true) c.loop-spot.invariant.done c.pass_spot.ensures.leaves;
 }
 
 pub returns-in-Some : goal.returns-in-Some

@@ -1,13 +1,14 @@
 use Rattle.std.proofs.Common.{length}
+use Rattle.vic_tree.specs.Ranges.{is_outside}
 use Rattle.vic_log.specs.Order.{entries}
 use Rattle.vic_verdict.specs.Replies.{AreHeard}
 use Rattle.vic_verdict.specs.Stretches.{IsStretch}
 use Rattle.vic_log.specs.OpenRounds.{IsCursorAt}
-use Rattle.vic_verdict.proofs.stretches.settle_all.Given as goal
+use Rattle.vic_verdict.proofs.stretches.closed_keys.Given as goal
 
 abbrev pub invariant-loop-index : goal.invariant-loop-index
-invariant-loop-index g l = record {
+invariant-loop-index l = record {
   round : IsCursorAt (entries l.lines) l.index l.cursor;
-  stretch : IsStretch (entries l.lines) l.index (length l.lines) (g.S.OpenSet.is_open l.set) l.names.items l.spots.items;
+  stretch : IsStretch (entries l.lines) l.index (length l.lines) (is_outside l.closed.items) l.names.items l.spots.items;
   heard : AreHeard (entries l.lines) l.index (length l.lines) l.names.items;
 }

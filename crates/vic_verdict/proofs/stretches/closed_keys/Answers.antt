@@ -1,4 +1,4 @@
-use Rattle.std.proofs.Common.{ℕ, List, Option, Some, ◌+◌, ◌∙◌, ap, sym, subst, length, [], arith, ◌≡◌}
+use Rattle.std.proofs.Common.{ℕ, List, Option, Some, ◌+◌, ◌∙◌, ap, sym, subst, length, [], arith, ◌≡◌, refl}
 use Rattle.std.specs.Prelude.{IfSome}
 use Rattle.std.proofs.lemmas.List.{length-map}
 use Rattle.std.proofs.lemmas.Option.{slice_get_within}
@@ -7,6 +7,7 @@ use Rattle.vic_log.specs.declared.entry.LogLine.{LogLine}
 use Rattle.vic_log.specs.declared.entry.Entry.{Entry}
 use Rattle.vic_log.specs.Order.{entries}
 use Rattle.vic_log.specs.Slots.{slots_before, is_open}
+use Rattle.vic_tree.specs.Ranges.{is_outside}
 use Rattle.vic_verdict.specs.Replies.{AreHeard, IsQuietReply}
 use Rattle.vic_verdict.specs.Stretches.{IsStretch}
 use Rattle.vic_verdict.specs.Verdict.{IsLeast}
@@ -14,18 +15,18 @@ use Rattle.vic_verdict.specs.declared.names.Name.{Name}
 use Rattle.vic_verdict.proofs.Stands.{entry_at, open_first}
 use Rattle.vic_verdict.proofs.Stretching.{stretch_first, stretch_anew}
 use Rattle.vic_verdict.proofs.Heard.{heard_first, heard_anew, quiet_contradicts, answers_before}
-use Rattle.vic_verdict.proofs.stretches.settle_all.Goals as goal
-use Rattle.vic_verdict.proofs.stretches.settle_all.Goals.{in-FieldCycle+in_ok-at+in_default-2, in_default+in_ok-note_entry+else-not-branch}
+use Rattle.vic_verdict.proofs.stretches.closed_keys.Goals as goal
+use Rattle.vic_verdict.proofs.stretches.closed_keys.Goals.{in-FieldCycle+in_ok-at+in_default-2, in_default+in_ok-note_entry+else-not-branch}
 
 pub loop-index-init : goal.loop-index-init
-loop-index-init g c =
+loop-index-init c =
     let es = entries c.args.lines.now in
-    let set = g.S.OpenSet.is_open c.in_ok-set.set in
     let n = length c.args.lines.now in
     record {
       round = c.first-cursor.ensures es;
-      stretch = subst (λ ns. IsStretch es 0 n set ns c.new-spots.result.items) (sym c.new-names.ensures.items)
-          (subst (λ ss. IsStretch es 0 n set [] ss) (sym c.new-spots.ensures.items) (stretch_first es n set (open_first es set c.in_ok-set.ensures)));
+      stretch = subst (λ ns. IsStretch es 0 n (is_outside c.new-closed.result.items) ns c.new-spots.result.items) (sym c.new-names.ensures.items)
+          (subst (λ ss. IsStretch es 0 n (is_outside c.new-closed.result.items) [] ss) (sym c.new-spots.ensures.items)
+          (subst (λ rs. IsStretch es 0 n (is_outside rs) [] []) (sym c.new-closed.ensures.items) (stretch_first es n (is_outside []) (open_first es (is_outside []) (λ u w. refl)))));
       heard = subst (λ ns. AreHeard es 0 n ns) (sym c.new-names.ensures.items) (heard_first es n);
     }
 
@@ -33,17 +34,17 @@ unfit : (ns : List Name) (o : Option ℕ) (place : ℕ) → o ≡ Some place →
 unfit ns o place is e = let first : IsLeast (IsQuietReply ns) place = subst (λ p. IfSome p (IsLeast (IsQuietReply ns))) is e in first.0
 
 pub returns-in-Some : goal.returns-in-Some
-returns-in-Some g c =
+returns-in-Some c =
     quiet_contradicts (entries c.args.lines.now) c.loop-index.index (length c.args.lines.now) c.in-Some.at c.loop-index.names.items c.loop-index.invariant.heard (unfit c.loop-index.names.items _ c.in-Some.at c.in-Some.is c.in_ok-at.ensures.unfit)
 
 pub returns-then-not-branch : goal.returns-then-not-branch
-returns-then-not-branch g c =
+returns-then-not-branch c =
     let es = entries c.args.lines.now in
     let here = entry_at c.args.lines.now c.loop-index.index c.index-lines-index.result c.loop-index-test.true c.index-lines-index.is ∙ ap (λ (e : Entry). Some e) (sym c.item-entry.ensures) in
     c.in_ok-note_entry.ensures.unfit es here (c.mask-mask.ensures es c.loop-index.index c.requires.valid c.loop-index.invariant.round) c.if-not-branch.true
 
 pub loop-index-preserved : goal.loop-index-preserved
-loop-index-preserved g c =
+loop-index-preserved c =
     let es = entries c.args.lines.now in
     let n = length c.args.lines.now in
     let i = c.loop-index.index in
@@ -54,15 +55,15 @@ loop-index-preserved g c =
       round = c.advance.ensures es i c.requires.order here before.round;
       stretch = elim c.match-entry.branch [
         | in-FieldCycle+in_ok-at+in_default-2 w ↦
-            subst (λ s. IsStretch es (i + 1) n (g.S.OpenSet.is_open s) c.match-entry.names.items c.match-entry.spots.items) (sym w.set-is)
-            (stretch_anew es i n (g.S.OpenSet.is_open c.loop-index.set) (g.S.OpenSet.is_open w.settle_stretch.new.set) c.loop-index.names.items c.match-entry.names.items c.loop-index.spots.items c.match-entry.spots.items c.item-entry.result here w.in-FieldCycle.is
+            subst (λ s. IsStretch es (i + 1) n (is_outside s.items) c.match-entry.names.items c.match-entry.spots.items) (sym w.closed-is)
+            (stretch_anew es i n (is_outside c.loop-index.closed.items) (is_outside w.settle_stretch.new.closed.items) c.loop-index.names.items c.match-entry.names.items c.loop-index.spots.items c.match-entry.spots.items c.item-entry.result here w.in-FieldCycle.is
             (ap (λ v. v.items) w.names-is ∙ w.clear.ensures.items) (ap (λ v. v.items) w.spots-is ∙ w.clear-in-FieldCycle.ensures.items)
             (w.in_ok-at.ensures.settled w.in_default-2.is) before.stretch)
         | in_default+in_ok-note_entry+else-not-branch w ↦
-            subst (λ s. IsStretch es (i + 1) n (g.S.OpenSet.is_open s) c.match-entry.names.items c.match-entry.spots.items) (sym w.set-is)
-            (subst (λ v. IsStretch es (i + 1) n (g.S.OpenSet.is_open c.loop-index.set) v.items c.match-entry.spots.items) (sym w.names-is)
-            (subst (λ v. IsStretch es (i + 1) n (g.S.OpenSet.is_open c.loop-index.set) w.note_entry.new.names.items v.items) (sym w.spots-is)
-            (w.in_ok-note_entry.ensures.stretch es (g.S.OpenSet.is_open c.loop-index.set) here (w.mask-mask.ensures es i c.requires.valid before.round) w.in_default.not-FieldCycle w.if-not-branch.false before.stretch)))
+            subst (λ s. IsStretch es (i + 1) n (is_outside s.items) c.match-entry.names.items c.match-entry.spots.items) (sym w.closed-is)
+            (subst (λ v. IsStretch es (i + 1) n (is_outside c.loop-index.closed.items) v.items c.match-entry.spots.items) (sym w.names-is)
+            (subst (λ v. IsStretch es (i + 1) n (is_outside c.loop-index.closed.items) w.note_entry.new.names.items v.items) (sym w.spots-is)
+            (w.in_ok-note_entry.ensures.stretch es (is_outside c.loop-index.closed.items) here (w.mask-mask.ensures es i c.requires.valid before.round) w.in_default.not-FieldCycle w.if-not-branch.false before.stretch)))
       ];
       heard = elim c.match-entry.branch [
         | in-FieldCycle+in_ok-at+in_default-2 w ↦
@@ -75,11 +76,11 @@ loop-index-preserved g c =
     }
 
 pub returns-in-Some-2 : goal.returns-in-Some-2
-returns-in-Some-2 g c =
+returns-in-Some-2 c =
     quiet_contradicts (entries c.args.lines.now) c.loop-index.index (length c.args.lines.now) c.in-Some-2.at c.loop-index.names.items c.loop-index.invariant.heard (unfit c.loop-index.names.items _ c.in-Some-2.at c.in-Some-2.is c.in_ok-at-2.ensures.unfit)
 
 pub returns-in-None : goal.returns-in-None
-returns-in-None g c =
+returns-in-None c =
     let es = entries c.args.lines.now in
     let n = length c.args.lines.now in
     let i = c.loop-index.index in

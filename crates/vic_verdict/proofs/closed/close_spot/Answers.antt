@@ -1,0 +1,57 @@
+use Rattle.std.proofs.Common.{◌≡◌, ◌+◌, ◌-◌, ◌<◌, ◌≤◌, ◌++◌, ◌∷◌, [], get_or, sym, ap, ◌∙◌, subst, arith}
+use Rattle.vic_verdict.specs.declared.names.Name.{Name}
+use Rattle.vic_verdict.proofs.Sweeping.{nobody}
+use Rattle.vic_verdict.proofs.Closing.{IsClosedTo, closed_first, closed_passed, closed_left, closed_all, pushed_none, pushed_one}
+use Rattle.vic_verdict.proofs.closed.close_spot.Goals as goal
+use Rattle.vic_verdict.proofs.closed.close_spot.Goals.{then-name, then-from-name+in_ok-push, else-from-name, else-name}
+
+pub loop-name-init : goal.loop-name-init
+loop-name-init c =
+    let forward = c.requires.range.0 in
+    closed_first c.args.closed.now.items c.names_between-inside.result.now c.args.spot.now.first c.args.spot.now.last (omega (arith, forward)) c.names_between-inside.ensures.inside
+
+pub loop-name-preserved : goal.loop-name-preserved
+loop-name-preserved c =
+    let old = c.args.closed.now.items in
+    let new = c.loop-name.closed.items in
+    let ns = c.names_between-inside.result.now in
+    let first = c.args.spot.now.first in
+    let last = c.args.spot.now.last in
+    let from = c.loop-name.from in
+    let i = c.loop-name.name-index in
+    elim c.if-name.branch [
+      | then-name w ↦
+          subst (λ n. IsClosedTo old c.if-name.closed.items ns first last n (i + 1)) (sym w.from-is)
+          (subst (λ v. IsClosedTo old v.items ns first last ((get_or ns i nobody).key + 1) (i + 1)) (sym w.closed-is)
+          (elim w.if-from-name.branch [
+            | then-from-name+in_ok-push v ↦
+                subst (λ x. IsClosedTo old x.items ns first last ((get_or ns i nobody).key + 1) (i + 1)) (sym v.closed-is)
+                (closed_left old new v.push.new.self.items ns first last from i c.names_between-inside.ensures.order c.names_between-inside.ensures.inside c.loop-name-test.true w.if-name.true (pushed_one new v.push.new.self.items from (get_or ns i nobody).key v.if-from-name.true (v.in_ok-push.ensures.items ∙ ap (λ r. new ++ r ∷ []) v.new.ensures)) c.loop-name.invariant)
+            | else-from-name v ↦
+                subst (λ x. IsClosedTo old x.items ns first last ((get_or ns i nobody).key + 1) (i + 1)) (sym v.closed-is)
+                (closed_left old new new ns first last from i c.names_between-inside.ensures.order c.names_between-inside.ensures.inside c.loop-name-test.true w.if-name.true (pushed_none new from (get_or ns i nobody).key v.if-from-name.false) c.loop-name.invariant)
+          ]))
+      | else-name w ↦
+          subst (λ n. IsClosedTo old c.if-name.closed.items ns first last n (i + 1)) (sym w.from-is)
+          (subst (λ v. IsClosedTo old v.items ns first last from (i + 1)) (sym w.closed-is)
+          (closed_passed old new ns first last from i c.names_between-inside.ensures.order c.loop-name-test.true w.if-name.false c.loop-name.invariant))
+    ]
+
+pub returns-in_ok-push-2 : goal.returns-in_ok-push-2
+returns-in_ok-push-2 c =
+    let new = c.loop-name.closed.items in
+    let next = c.push-then-from-spot.new.self.items in
+    let from = c.loop-name.from in
+    let last = c.args.spot.now.last in
+    let to : last ≡ last + 1 - 1 = omega arith in
+    let is : next ≡ new ++ (from, last + 1 - 1) ∷ [] = c.in_ok-push-2.ensures.items ∙ ap (λ r. new ++ r ∷ []) (c.new-then-from-spot.ensures ∙ ap (λ n. (from, n)) to) in
+    let upto : from < last + 1 = let le = c.if-from-spot.true in omega (arith, le) in
+    closed_all c.args.closed.now.items new next c.names_between-inside.result.now c.args.names.now c.args.spot.now.first last from c.loop-name.name-index c.loop-name-test.false (c.names_between-inside.ensures.all (λ (n : Name). n.left)) (pushed_one new next from (last + 1) upto is) c.loop-name.invariant
+
+pub returns-else-from-spot : goal.returns-else-from-spot
+returns-else-from-spot c =
+    let new = c.loop-name.closed.items in
+    let from = c.loop-name.from in
+    let last = c.args.spot.now.last in
+    let past : last + 1 ≤ from = let lt = c.if-from-spot.false in omega (arith, lt) in
+    closed_all c.args.closed.now.items new new c.names_between-inside.result.now c.args.names.now c.args.spot.now.first last from c.loop-name.name-index c.loop-name-test.false (c.names_between-inside.ensures.all (λ (n : Name). n.left)) (pushed_none new from (last + 1) past) c.loop-name.invariant
