@@ -1,22 +1,26 @@
 -- The names between two keys, and which keys some slots close.
-use Rattle.std.proofs.Common.{◌≡◌, ℕ, ◌+◌, ◌-◌, ◌<◌, ◌≤◌, ◌==◌, ◌++◌, List, [], ◌∷◌, length, take, drop, get_or, Bool, true, false, not, ◌&&◌, ◌||◌, refl, sym, ap, ◌∙◌, subst, arith, ⊎_elim}
+use Rattle.std.proofs.Common.{◌≡◌, ℕ, ◌+◌, ◌-◌, ◌*◌, ◌^◌, ◌%◌, ◌<◌, ◌≤◌, ◌==◌, ◌++◌, List, [], ◌∷◌, length, take, drop, get_or, Bool, true, false, not, ◌&&◌, ◌||◌, refl, sym, ap, ◌∙◌, subst, arith, ⊎_elim}
 use Rattle.std.specs.Prelude.{nat_le, nat_lt}
 use Rattle.std.specs.List.{All}
 use Rattle.std.proofs.lemmas.Bool.{and_parts, and_from, cases_eq, cases_lt, eq-eqb, eqb-true, false_from_ne_true, false≢true}
 use Rattle.std.proofs.lemmas.Bool.Decides.{nat_tests}
 use Rattle.std.proofs.lemmas.List.{drop-take, get_or-drop, get_or-take, get_or_default, length-drop, length-take-le, take-append-drop, take-take}
 use Rattle.std.proofs.lemmas.List.Folds.{list_any-append, list_any_at, list_any_more, Any-from_list_any}
+use Rattle.std.proofs.lemmas.Nat.{mod-mul-add, pow_pos}
+use Rattle.vic_frame.specs.Masks.{BitMask, IsMask}
+use Rattle.vic_frame.specs.LowBitsFirst.{mirror, mirror_bits}
+use Rattle.vic_tree.proofs.BlockLaws.{number_of_mask}
 use Rattle.vic_verdict.specs.declared.names.Name.{Name}
 use Rattle.vic_tree.specs.Ranges.{in_ranges}
 use Rattle.vic_verdict.specs.Closed.{Closes, is_in_some}
 use Rattle.vic_verdict.specs.declared.closed.Spot.{Spot}
-use Rattle.vic_verdict.specs.Sweep.{AreInOrder, has_where, has_left, is_between, is_in}
+use Rattle.vic_verdict.specs.Sweep.{AreInOrder, first_of, has_where, has_left, is_between, is_in}
 use Rattle.vic_verdict.proofs.Sweeping.{all_cover, between_parts, nobody, where_above, where_below}
 use Rattle.vic_tree.proofs.BoolLaws.{lt_yes, or_false}
 
 -- ---- the names between two keys
 
-between_from : (first last k : ℕ) → first ≤ k → k ≤ last → is_between first last k ≡ true
+pub between_from : (first last k : ℕ) → first ≤ k → k ≤ last → is_between first last k ≡ true
 between_from first last k a b = go (nat_le first k) (nat_le k last) (grind (arith, nat_tests)) (grind (arith, nat_tests)) where
   go : (x y : Bool) → x ≡ true → y ≡ true → (x && y) ≡ true
   go true true e f = refl
@@ -247,3 +251,16 @@ outside_closed ns spots old new k closes =
         both true false false = refl
         both false true l = refl
         both false false l = refl
+
+-- the first key of a slot whose key is one of its mask
+pub first_of_spot : (m : BitMask) (s : Spot) → IsMask m → m.len ≤ 56 → s.len ≡ m.len → mirror m.value ≤ s.key → s.key ≤ mirror m.value + (2 ^ (56 - m.len) - 1) → first_of s ≡ mirror m.value
+first_of_spot m s is_mask short len from to =
+    let size : ℕ = 2 ^ (56 - m.len) in
+    let n : ℕ = mirror_bits m.len m.value in
+    let pos = pow_pos (56 - m.len) in
+    let first : mirror m.value ≡ n * size = number_of_mask m.len m.value short is_mask.1 in
+    let rest : ℕ = s.key - mirror m.value in
+    let whole : s.key ≡ n * size + rest = omega (arith, from, first) in
+    let less : rest < size = omega (arith, from, to, pos) in
+    let left : s.key % size ≡ rest = ap (λ k. k % size) whole ∙ mod-mul-add n size rest less in
+    ap (λ l. s.key - s.key % 2 ^ (56 - l)) len ∙ (ap (λ k. s.key - k) left ∙ omega (arith, from))

@@ -19,7 +19,7 @@ use Rattle.vic_log.specs.Populations.{answers_at}
 use Rattle.vic_log.specs.Slots.{reading_of, slots_before, is_open}
 use Rattle.vic_verdict.specs.declared.names.Name.{Name}
 use Rattle.vic_verdict.specs.declared.closed.Spot.{Spot}
-use Rattle.vic_verdict.specs.Sweep.{is_heard, is_in, is_silenced, spot_allows, all_allow, is_named, is_named_if, all_hear_named, are_left}
+use Rattle.vic_verdict.specs.Sweep.{heard_of, is_heard, is_in, is_silenced, spot_allows, all_allow, is_named, is_named_if, all_hear_named, are_left}
 use Rattle.vic_verdict.specs.Stretches.{AddsSpot, IsStretch}
 use Rattle.vic_verdict.proofs.Entries.{entry_allows}
 use Rattle.vic_verdict.proofs.Stands.{open_next}
@@ -60,7 +60,7 @@ allow_named : (ns : List Name) (n : Name) (k i : ℕ) (ss : List Spot) → i ≤
 allow_named ns n k i [] h before = refl
 allow_named ns n k i (s ∷ ss) h before =
     let lt = All-head (λ (t : Spot). t.at < i) s ss before in
-    ap (λ b. (not (is_in s k) || (b || is_heard s.heard k)) && all_allow (ns ++ n ∷ []) ss k) (silenced_after ns n k s.at (omega (arith, lt, h)))
+    ap (λ b. (not (is_in s k) || (b || is_heard (heard_of s) k)) && all_allow (ns ++ n ∷ []) ss k) (silenced_after ns n k s.at (omega (arith, lt, h)))
     ∙ ap (λ b. spot_allows ns s k && b) (allow_named ns n k i ss h (All-tail (λ (t : Spot). t.at < i) s ss before))
 
 or_more : (a b : Bool) → a ≡ true → (a || b) ≡ true
@@ -74,7 +74,7 @@ all_named_more : (ns : List Name) (n : Name) (ss : List Spot) → all_hear_named
 all_named_more ns n [] e = refl
 all_named_more ns n (s ∷ ss) e =
     let w = and_parts _ _ e in
-    and_from _ _ (go s.heard w.0) (all_named_more ns n ss w.1)
+    and_from _ _ (go (heard_of s) w.0) (all_named_more ns n ss w.1)
   where
     go : (o : Option ℕ) → is_named_if ns o ≡ true → is_named_if (ns ++ n ∷ []) o ≡ true
     go None f = refl

@@ -10,7 +10,7 @@ use Rattle.vic_verdict.specs.declared.names.Name.{Name}
 use Rattle.vic_verdict.specs.declared.closed.Spot.{Spot}
 use Rattle.vic_verdict.specs.declared.level.Level.{Level}
 use Rattle.vic_verdict.specs.declared.sweep.Run.{Run}
-use Rattle.vic_verdict.specs.Sweep.{is_heard, slot_leaves, is_between, is_in, spot_leaves, all_leave, level_leaves, mask_leaves, run_leaves, keep, keep_all, has_where, has_left, is_silenced, spot_allows, all_allow, is_named, is_named_if, hears_named, all_hear_named, are_left, AreInOrder}
+use Rattle.vic_verdict.specs.Sweep.{first_of, last_of, heard_of, is_heard, slot_leaves, is_between, is_in, spot_leaves, all_leave, level_leaves, mask_leaves, run_leaves, keep, keep_all, has_where, has_left, is_silenced, spot_allows, all_allow, is_named, is_named_if, hears_named, all_hear_named, are_left, AreInOrder}
 use Rattle.std.specs.List.Sorted.{IsPermutation}
 use Rattle.std.proofs.lemmas.List.Sorted.{list_any-IsPermutation}
 use Rattle.std.proofs.Math.Seq.{take-append_seam}
@@ -80,7 +80,7 @@ abbrev pub nobody : Name
 nobody = record { key = 0; at = 0; quiet = 0; left = false }
 
 abbrev pub nowhere : Spot
-nowhere = record { first = 0; last = 0; at = 0; heard = None }
+nowhere = record { key = 0; at = 0; len = 0; is_heard = false }
 
 -- the first i names of a list were gone over
 pub record IsRuled (p : ℕ → ℕ → Bool) (old new : List Name) (i : ℕ) : Type 0 where
@@ -117,10 +117,10 @@ ruled_all p old new i h above =
 mask_of_one : (first last : ℕ) (m : Level) (at : ℕ) (heard : Option ℕ) (k q : ℕ) → level_leaves m k q ≡ slot_leaves at heard k q → mask_leaves first last m k q ≡ (not (is_between first last k) || slot_leaves at heard k q)
 mask_of_one first last m at heard k q e = ap (λ b. not (is_between first last k) || b) e
 
-pub run_first : (s : Spot) (m : Level) (ns : List Name) → ((k q : ℕ) → level_leaves m k q ≡ slot_leaves s.at s.heard k q) → keep_all (run_leaves (Some (record { first = s.first; last = s.last; level = m }))) ns ≡ keep_all (spot_leaves s) ns
-run_first s m ns h = keep_alike _ _ (λ k q. mask_of_one s.first s.last m s.at s.heard k q (h k q)) ns
+pub run_first : (s : Spot) (m : Level) (ns : List Name) → ((k q : ℕ) → level_leaves m k q ≡ slot_leaves s.at (heard_of s) k q) → keep_all (run_leaves (Some (record { first = first_of s; last = last_of s; level = m }))) ns ≡ keep_all (spot_leaves s) ns
+run_first s m ns h = keep_alike _ _ (λ k q. mask_of_one (first_of s) (last_of s) m s.at (heard_of s) k q (h k q)) ns
 
-pub run_next : (r : Run) (s : Spot) (m : Level) (ns new : List Name) → new ≡ keep_all (mask_leaves r.first r.last r.level) ns → ((k q : ℕ) → level_leaves m k q ≡ slot_leaves s.at s.heard k q) → keep_all (run_leaves (Some (record { first = s.first; last = s.last; level = m }))) new ≡ keep_all (λ k q. run_leaves (Some r) k q && spot_leaves s k q) ns
+pub run_next : (r : Run) (s : Spot) (m : Level) (ns new : List Name) → new ≡ keep_all (mask_leaves r.first r.last r.level) ns → ((k q : ℕ) → level_leaves m k q ≡ slot_leaves s.at (heard_of s) k q) → keep_all (run_leaves (Some (record { first = first_of s; last = last_of s; level = m }))) new ≡ keep_all (λ k q. run_leaves (Some r) k q && spot_leaves s k q) ns
 run_next r s m ns new is h = run_first s m new h ∙ (ap (keep_all (spot_leaves s)) is ∙ keep_twice (spot_leaves s) (mask_leaves r.first r.last r.level) ns)
 
 -- one slot more of all
@@ -226,14 +226,14 @@ allow_from_leave : (ns : List Name) (s : Spot) (k q : ℕ) → (nat_lt q s.at �
 allow_from_leave ns s k q h e =
     ⊎_elim
     (λ out. or_left _ _ out)
-    (λ inner. ⊎_elim (λ lt. or_right _ _ (or_left _ _ (h lt))) (λ heard. or_right _ _ (or_right _ _ heard)) (or_cases (nat_lt q s.at) (is_heard s.heard k) inner))
+    (λ inner. ⊎_elim (λ lt. or_right _ _ (or_left _ _ (h lt))) (λ heard. or_right _ _ (or_right _ _ heard)) (or_cases (nat_lt q s.at) (is_heard (heard_of s) k) inner))
     (or_cases _ _ e)
 
 leave_from_allow : (ns : List Name) (s : Spot) (k q : ℕ) → (is_silenced ns k s.at ≡ true → nat_lt q s.at ≡ true) → spot_allows ns s k ≡ true → spot_leaves s k q ≡ true
 leave_from_allow ns s k q h e =
     ⊎_elim
     (λ out. or_left _ _ out)
-    (λ inner. ⊎_elim (λ quiet. or_right _ _ (or_left _ _ (h quiet))) (λ heard. or_right _ _ (or_right _ _ heard)) (or_cases (is_silenced ns k s.at) (is_heard s.heard k) inner))
+    (λ inner. ⊎_elim (λ quiet. or_right _ _ (or_left _ _ (h quiet))) (λ heard. or_right _ _ (or_right _ _ heard)) (or_cases (is_silenced ns k s.at) (is_heard (heard_of s) k) inner))
     (or_cases _ _ e)
 
 all_allow_from : (ns : List Name) (k q : ℕ) → ((i : ℕ) → nat_lt q i ≡ true → is_silenced ns k i ≡ true) → (ss : List Spot) → all_leave ss k q ≡ true → all_allow ns ss k ≡ true
@@ -265,8 +265,8 @@ unnamed_outside ns s k none h e =
     (λ out. out)
     (λ inner. ⊎_elim
     (λ quiet. absurd (false≢true (sym none ∙ silenced_named ns k s.at quiet)))
-    (λ heard. absurd (false≢true (sym none ∙ go s.heard heard h)))
-    (or_cases (is_silenced ns k s.at) (is_heard s.heard k) inner))
+    (λ heard. absurd (false≢true (sym none ∙ go (heard_of s) heard h)))
+    (or_cases (is_silenced ns k s.at) (is_heard (heard_of s) k) inner))
     (or_cases _ _ e)
   where
     go : (o : Option ℕ) → is_heard o k ≡ true → is_named_if ns o ≡ true → is_named ns k ≡ true
@@ -319,7 +319,7 @@ left_permuted ns ms m e = sym (all_permuted (λ (n : Name). n.left) ns ms m) ∙
 
 pub named_permuted : (ns ms : List Name) (ss ts : List Spot) → IsPermutation ns ms → IsPermutation ss ts → all_hear_named ns ss ≡ true → all_hear_named ms ts ≡ true
 named_permuted ns ms ss ts m w e =
-    all_alike (hears_named ms) (hears_named ns) (λ (s : Spot). go s.heard) ts ∙ (sym (all_permuted (hears_named ns) ss ts w) ∙ e)
+    all_alike (hears_named ms) (hears_named ns) (λ (s : Spot). go (heard_of s)) ts ∙ (sym (all_permuted (hears_named ns) ss ts w) ∙ e)
   where
     go : (o : Option ℕ) → is_named_if ms o ≡ is_named_if ns o
     go None = refl
@@ -328,7 +328,7 @@ named_permuted ns ms ss ts m w e =
 pub allow_permuted : (ns ms : List Name) (ss ts : List Spot) (k : ℕ) → IsPermutation ns ms → IsPermutation ss ts → all_allow ms ts k ≡ all_allow ns ss k
 allow_permuted ns ms ss ts k m w =
     all_alike (λ s. spot_allows ms s k) (λ s. spot_allows ns s k)
-    (λ (s : Spot). ap (λ b. not (is_in s k) || (b || is_heard s.heard k)) (sym (list_any-IsPermutation (λ (n : Name). (n.key == k) && nat_lt n.quiet s.at) ns ms m))) ts
+    (λ (s : Spot). ap (λ b. not (is_in s k) || (b || is_heard (heard_of s) k)) (sym (list_any-IsPermutation (λ (n : Name). (n.key == k) && nat_lt n.quiet s.at) ns ms m))) ts
     ∙ sym (all_permuted (λ s. spot_allows ns s k) ss ts w)
 
 -- a slice that was borrowed from a list and written

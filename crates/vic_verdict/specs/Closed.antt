@@ -4,16 +4,16 @@ use Rattle.std.specs.List.{list_any}
 use Rattle.vic_tree.specs.Ranges.{in_ranges}
 use Rattle.vic_verdict.specs.declared.closed.Spot.{Spot}
 use Rattle.vic_verdict.specs.declared.names.Name.{Name}
-use Rattle.vic_verdict.specs.Sweep.{is_in, has_left}
+use Rattle.vic_verdict.specs.Sweep.{is_between, is_in, has_left}
 
 -- the key is in the mask of one of the slots
 abbrev pub is_in_some : List Spot → ℕ → Bool
 is_in_some spots k = list_any (λ s. is_in s k) spots
 
--- the key is in the slot, if there is one
-abbrev pub is_in_if : Option Spot → ℕ → Bool
+-- the key is in the range, if there is one
+abbrev pub is_in_if : Option (ℕ × ℕ) → ℕ → Bool
 is_in_if None k = false
-is_in_if (Some s) k = is_in s k
+is_in_if (Some r) k = is_between r.0 r.1 k
 
 -- the new ranges have the keys of the old ones, and those that pass a test but for the names left
 abbrev pub Closes : List Name → (ℕ → Bool) → List (ℕ × ℕ) → List (ℕ × ℕ) → Type 0

@@ -1,5 +1,5 @@
 -- What a judge has gathered at a place of a log since the last field cycle.
-use Rattle.std.specs.Prelude.{◌≡◌, ℕ, ◌<◌, ◌≤◌, ◌⊎◌, Bool, true, not, ◌&&◌, ◌||◌, Option, List}
+use Rattle.std.specs.Prelude.{◌≡◌, ℕ, ◌<◌, ◌≤◌, ◌⊎◌, Bool, true, not, ◌&&◌, ◌||◌, Option, IfSome, List}
 use Rattle.std.specs.List.{All}
 use Rattle.vic_frame.specs.Uids.{IsUid}
 use Rattle.vic_frame.specs.Masks.{BitMask}
@@ -17,6 +17,11 @@ use Rattle.vic_verdict.specs.Sweep.{HasRange, HaveKeys, are_left, is_named_if, a
 abbrev pub is_allowed : List Name → Option BitMask → ℕ → Option ℕ → ℕ → Bool
 is_allowed ns mask at heard u =
     not (lies_in_some mask u) || (is_silenced ns (mirror u) at || is_heard heard (mirror u))
+
+-- whoever was heard lies in the mask
+abbrev pub IsHeardIn : Option BitMask → Option ℕ → Type 0
+IsHeardIn mask heard =
+    IfSome heard (λ k. (u : ℕ) × IsUid u × (mirror u ≡ k) × (lies_in_some mask u ≡ true))
 
 -- the list has a slot more, of this mask, unless no UID lies in it
 pub record AddsSpot (mask : Option BitMask) (at : ℕ) (heard : Option ℕ) (old new : List Spot)

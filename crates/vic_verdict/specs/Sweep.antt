@@ -1,7 +1,8 @@
 -- What the slots between two field cycles leave, said of keys: UIDs in the order of their low bits.
-use Rattle.std.specs.Prelude.{◌≡◌, ℕ, ◌==◌, ◌<◌, ◌≤◌, Bool, true, false, not, ◌&&◌, ◌||◌, Option, Some, None, List, length, slice_index_or, nat_le, nat_lt, map, if◌then◌else◌, IfSome}
+use Rattle.std.specs.Prelude.{◌≡◌, ℕ, ◌+◌, ◌-◌, ◌%◌, ◌^◌, ◌==◌, ◌<◌, ◌≤◌, Bool, true, false, not, ◌&&◌, ◌||◌, Option, Some, None, List, length, slice_index_or, nat_le, nat_lt, map, if◌then◌else◌, IfSome}
 use Rattle.std.specs.List.Sorted.{IsNonDecreasingBy}
 use Rattle.std.specs.List.{list_all, list_any, All}
+use Rattle.vic_frame.specs.declared.uid.TheConstants.{UID_BITS}
 use Rattle.vic_frame.specs.LowBitsFirst.{IsKey}
 use Rattle.vic_tree.specs.Ranges.{IsKeyRange}
 use Rattle.vic_verdict.specs.declared.names.Name.{Name}
@@ -27,12 +28,22 @@ is_before q (Some at) = nat_lt q at
 abbrev pub is_between : ℕ → ℕ → ℕ → Bool
 is_between first last k = nat_le first k && nat_le k last
 
+-- the first and the last key of a slot's mask, and the key that was heard
+abbrev pub first_of : Spot → ℕ
+first_of s = s.key - s.key % 2 ^ (UID_BITS - s.len)
+
+abbrev pub last_of : Spot → ℕ
+last_of s = first_of s + (2 ^ (UID_BITS - s.len) - 1)
+
+abbrev pub heard_of : Spot → Option ℕ
+heard_of s = if s.is_heard then Some s.key else None
+
 abbrev pub is_in : Spot → ℕ → Bool
-is_in s k = is_between s.first s.last k
+is_in s k = is_between (first_of s) (last_of s) k
 
 -- the slot leaves the key
 abbrev pub spot_leaves : Spot → ℕ → ℕ → Bool
-spot_leaves s k q = not (is_in s k) || slot_leaves s.at s.heard k q
+spot_leaves s k q = not (is_in s k) || slot_leaves s.at (heard_of s) k q
 
 -- all slots do
 abbrev pub all_leave : List Spot → ℕ → ℕ → Bool
@@ -75,14 +86,14 @@ is_silenced ns k i = has_where (λ n. nat_lt n.quiet i) ns k
 
 -- the slot allows the key, by the names
 abbrev pub spot_allows : List Name → Spot → ℕ → Bool
-spot_allows ns s k = not (is_in s k) || (is_silenced ns k s.at || is_heard s.heard k)
+spot_allows ns s k = not (is_in s k) || (is_silenced ns k s.at || is_heard (heard_of s) k)
 
 abbrev pub all_allow : List Name → List Spot → ℕ → Bool
 all_allow ns spots k = list_all (λ s. spot_allows ns s k) spots
 
--- the slot's first key comes no later than its last one, which is a key
+-- the keys of the slot's mask are a range of keys
 abbrev pub HasRange : Spot → Type 0
-HasRange s = IsKeyRange (s.first, s.last)
+HasRange s = (s.len ≤ UID_BITS) × IsKeyRange (first_of s, last_of s)
 
 -- the key is named
 abbrev pub is_named : List Name → ℕ → Bool
@@ -94,7 +105,7 @@ is_named_if ns None = true
 is_named_if ns (Some h) = is_named ns h
 
 abbrev pub hears_named : List Name → Spot → Bool
-hears_named ns s = is_named_if ns s.heard
+hears_named ns s = is_named_if ns (heard_of s)
 
 abbrev pub all_hear_named : List Name → List Spot → Bool
 all_hear_named ns spots = list_all (hears_named ns) spots

@@ -1,6 +1,6 @@
 //! Which UIDs the silent and answered slots of a log leave open, from field cycle to field cycle.
 
-ghost use Rattle.std.specs.Prelude.{ℕ, ◌≡◌, ◌≢◌, ◌+◌, ◌<◌, ◌++◌, ◌∷◌, [], true, false, Bool, List, Some, IsTrue, IfOk, OnOk, MatchResult, slice_get};
+ghost use Rattle.std.specs.Prelude.{ℕ, ◌≡◌, ◌≢◌, ◌+◌, ◌^◌, ◌<◌, ◌++◌, ◌∷◌, [], true, false, Bool, List, Some, IsTrue, IfOk, OnOk, MatchResult, slice_get};
 ghost use Rattle.vic_tree.specs.OpenSet.{SameUids};
 ghost use Rattle.vic_tree.specs.Ranges.{is_outside};
 ghost use Rattle.vic_log.specs.Slots.{slots_of, is_open};
@@ -15,7 +15,7 @@ ghost use Rattle.vic_log.specs.Rounds.{mask_at, lies_in_some};
 ghost use Rattle.vic_verdict.specs.Possible.{IsContradictedAt};
 ghost use Rattle.vic_verdict.specs.Replies.{RepliesAnswer, AreHeard};
 ghost use Rattle.vic_verdict.specs.Silenced.{TellsQuiet};
-ghost use Rattle.vic_verdict.specs.Stretches.{AddsSpot, IsStretch};
+ghost use Rattle.vic_verdict.specs.Stretches.{AddsSpot, IsHeardIn, IsStretch};
 
 use crate::closed::Spot;
 use crate::names::{Name, push_name};
@@ -31,9 +31,10 @@ use vic_tree::{KeyRange, OpenSet};
 fn push_spot(
     spots: &mut Vec<Spot>,
     mask: &Option<Mask>,
-    at: usize,
+    at: u32,
     heard: Option<u64>,
 ) -> Result<(), AllocError>
+    requires { IsHeardIn mask.now heard }
     ensures { OnOk result (AddsSpot mask.now at heard spots.old.items spots.new.items) }
 {
     let Some(long) = mask else {
@@ -42,12 +43,17 @@ fn push_spot(
     let Some(mask) = without_top_byte(long) else {
         return Ok(());
     };
-    let (first, last) = key_range(&mask);
+    let is_heard = heard.is_some();
+    let (first, _) = key_range(&mask);
+    let key = match heard {
+        Some(key) => key,
+        None => first,
+    };
     spots.push(Spot {
-        first,
-        last,
+        key,
         at,
-        heard,
+        len: mask.len(),
+        is_heard,
     })?;
     Ok(())
 }
@@ -100,7 +106,8 @@ fn note_entry(
     end: usize,
     entry: &Entry,
 ) -> Result<bool, AllocError>
-    requires { index < end }
+    requires before { index < end }
+    requires small { index < 2 ^ 32 }
     ensures stretch { IfOk result (λ yes. (es : List EntryValue) (set : ℕ → Bool)
         → slice_get es index ≡ Some entry.now → mask.now ≡ mask_at es index
         → entry.now ≢ FieldCycle → IsTrue yes
@@ -117,14 +124,14 @@ fn note_entry(
 {
     match *entry {
         Entry::Sent(request) => note_sent(names, &request, index)?,
-        Entry::Silent => push_spot(spots, mask, index, None)?,
+        Entry::Silent => push_spot(spots, mask, index as u32, None)?,
         Entry::Heard(response) => {
             let uid = response.uid();
             if !lies_in(mask, uid) {
                 return Ok(false);
             }
             push_name(names, uid, index, end)?;
-            push_spot(spots, mask, index, Some(key(uid)))?;
+            push_spot(spots, mask, index as u32, Some(key(uid)))?;
         }
         Entry::Collision | Entry::Garbled | Entry::Listed(_) | Entry::FieldCycle => {}
     }
@@ -157,6 +164,8 @@ fn closed_keys(
             spots.clear();
         } else {
             let mask = cursor.mask();
+            // gives the place its bound: the numbers of lines rise, and are of 32 bits
+            let _number = line.number();
             if !note_entry(&mut names, &mut spots, &mask, index, lines.len(), &entry)? {
                 return Ok(Err(Contradiction { at: index }));
             }

@@ -49,31 +49,34 @@ fn rule_out(names: &mut [Name], first: u64, last: u64, level: &Level)
 fn pass_spot(names: &mut [Name], run: Option<Run>, spot: &Spot) -> Run
     requires order { AreInOrder names.old }
     requires level { IfSome run (λ r. IsLevel r.level) }
+    requires range { HasRange spot.now }
     ensures order { AreInOrder names.new }
     ensures level { IsLevel result.level }
     ensures leaves { keep_all (run_leaves (Some result)) names.new
         ≡ keep_all (λ k q. run_leaves run k q && spot_leaves spot.now k q) names.old }
 {
+    let (first, last) = spot.keys();
     if let Some(r) = run {
-        if r.first == spot.first && r.last == spot.last {
+        if r.first == first && r.last == last {
             return Run {
                 first: r.first,
                 last: r.last,
-                level: r.level.with(spot.at, spot.heard),
+                level: r.level.with(spot.at as usize, spot.heard()),
             };
         }
         rule_out(names, r.first, r.last, &r.level);
     }
     Run {
-        first: spot.first,
-        last: spot.last,
-        level: Level::of(spot.at, spot.heard),
+        first,
+        last,
+        level: Level::of(spot.at as usize, spot.heard()),
     }
 }
 
 /// Rules out the names that some slot doesn't leave.
 fn rule_out_all(names: &mut [Name], spots: &[Spot])
-    requires { AreInOrder names.old }
+    requires order { AreInOrder names.old }
+    requires ranges { All HasRange spots.now }
     ensures { names.new ≡ keep_all (all_leave spots.now) names.old }
 {
     let mut run: Option<Run> = None;
@@ -107,7 +110,7 @@ pub(crate) fn settle_stretch(
         return Ok(Some(at));
     }
     // Those of one mask together, and outer masks before inner ones.
-    spots.sort_unstable_by_key(|spot| (spot.first, u64::MAX - spot.last));
+    spots.sort_unstable_by_key(|spot| (spot.first(), spot.len));
     rule_out_all(names, spots);
     close_spots(closed, names, spots)?;
     Ok(None)

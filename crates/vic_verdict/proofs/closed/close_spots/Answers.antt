@@ -1,15 +1,20 @@
-use Rattle.std.proofs.Common.{◌≡◌, ◌+◌, ◌∙◌, get_or, true, sym, subst, take}
+use Rattle.std.proofs.Common.{◌≡◌, ℕ, ◌+◌, ◌∙◌, get_or, true, sym, subst, take}
 use Rattle.std.proofs.lemmas.Bool.{or_right}
 use Rattle.std.proofs.lemmas.List.{get_or_default, take_all}
+use Rattle.vic_tree.specs.Ranges.{IsKeyRange}
 use Rattle.vic_verdict.specs.declared.closed.Spot.{Spot}
 use Rattle.vic_verdict.specs.Closed.{Closes, is_in_if, is_in_some}
+use Rattle.vic_verdict.specs.Sweep.{is_between}
 use Rattle.vic_verdict.proofs.Closing.{closes_none, closes_more, closes_alike, inner_more, some_more}
 use Rattle.vic_verdict.proofs.Sweeping.{nowhere}
 use Rattle.vic_verdict.proofs.closed.close_spots.Goals as goal
-use Rattle.vic_verdict.proofs.closed.close_spots.Goals.{then-not-is_inside+in_ok-close_spot, else-not-is_inside}
+use Rattle.vic_verdict.proofs.closed.close_spots.Goals.{then-not-is_inside+in_ok-close_between, else-not-is_inside}
 
-pub close_spot-requires-clause-range : goal.close_spot-requires-clause-range
-close_spot-requires-clause-range c = c.requires.ranges c.loop-spot.spot-index nowhere c.loop-spot-test.true
+pub keys-first-requires : goal.keys-first-requires
+keys-first-requires c = c.requires.ranges c.loop-spot.spot-index nowhere c.loop-spot-test.true
+
+pub close_between-requires-clause-range : goal.close_between-requires-clause-range
+close_between-requires-clause-range c = subst IsKeyRange (sym c.keys-first.ensures) (c.requires.ranges c.loop-spot.spot-index nowhere c.loop-spot-test.true).1
 
 pub loop-spot-init : goal.loop-spot-init
 loop-spot-init c = record { outer = λ k e. e; done = closes_none c.args.names.now c.args.closed.now.items }
@@ -24,15 +29,17 @@ loop-spot-preserved c =
     let new = c.loop-spot.closed.items in
     let below = c.loop-spot-test.true in
     let here : s ≡ get_or spots i s = get_or_default spots i nowhere s below in
+    let keys = c.keys-first.ensures in
     let before = c.loop-spot.invariant in
     elim c.if-not-is_inside.branch [
-      | then-not-is_inside+in_ok-close_spot w ↦ record {
-        outer = λ k e. some_more spots i s k below here ∙ or_right (is_in_some (take i spots) k) _ (subst (λ o. is_in_if o k ≡ true) w.outer-is e);
+      | then-not-is_inside+in_ok-close_between w ↦ record {
+        outer = λ k e. some_more spots i s k below here ∙ or_right (is_in_some (take i spots) k) _ (subst (λ r. is_between r.0 r.1 k ≡ true) keys (subst (λ o. is_in_if o k ≡ true) w.outer-is e));
         done = subst (λ v. Closes ns (is_in_some (take (i + 1) spots)) old v.items) (sym w.closed-is)
-            (closes_more ns spots i s old new w.close_spot.new.closed.items below here w.in_ok-close_spot.ensures before.done);
+            (closes_more ns spots i s old new w.close_between.new.closed.items below here (subst (λ r. Closes ns (is_between r.0 r.1) new w.close_between.new.closed.items) keys w.in_ok-close_between.ensures) before.done);
       }
       | else-not-is_inside w ↦
-          let same = inner_more spots i s below here (λ k e. before.outer k (c.is_inside.ensures w.if-not-is_inside.false k e)) in
+          let inside = subst (λ r. (k : ℕ) → is_between r.0 r.1 k ≡ true → is_in_if c.loop-spot.outer k ≡ true) keys (c.is_inside.ensures w.if-not-is_inside.false) in
+          let same = inner_more spots i s below here (λ k e. before.outer k (inside k e)) in
           record {
             outer = λ k e. sym (same k) ∙ before.outer k (subst (λ o. is_in_if o k ≡ true) w.outer-is e);
             done = subst (λ v. Closes ns (is_in_some (take (i + 1) spots)) old v.items) (sym w.closed-is) (closes_alike ns (is_in_some (take i spots)) (is_in_some (take (i + 1) spots)) old new same before.done);

@@ -1,7 +1,7 @@
 use Rattle.std.proofs.Common.{ℕ, List, Option, Some, ◌+◌, ◌∙◌, ap, sym, subst, length, [], arith, ◌≡◌, refl}
 use Rattle.std.specs.Prelude.{IfSome}
 use Rattle.std.proofs.lemmas.List.{length-map}
-use Rattle.std.proofs.lemmas.Option.{slice_get_within}
+use Rattle.std.proofs.lemmas.Option.{slice_get_read, slice_get_within}
 use Rattle.vic_log.specs.declared.entry.Entry.TheVariants.{Heard}
 use Rattle.vic_log.specs.declared.entry.LogLine.{LogLine}
 use Rattle.vic_log.specs.declared.entry.Entry.{Entry}
@@ -12,6 +12,7 @@ use Rattle.vic_verdict.specs.Replies.{AreHeard, IsQuietReply}
 use Rattle.vic_verdict.specs.Stretches.{IsStretch}
 use Rattle.vic_verdict.specs.Verdict.{IsLeast}
 use Rattle.vic_verdict.specs.declared.names.Name.{Name}
+use Rattle.vic_verdict.proofs.Listing.{number_above}
 use Rattle.vic_verdict.proofs.Stands.{entry_at, open_first}
 use Rattle.vic_verdict.proofs.Stretching.{stretch_first, stretch_anew}
 use Rattle.vic_verdict.proofs.Heard.{heard_first, heard_anew, quiet_contradicts, answers_before}
@@ -42,6 +43,15 @@ returns-then-not-branch c =
     let es = entries c.args.lines.now in
     let here = entry_at c.args.lines.now c.loop-index.index c.index-lines-index.result c.loop-index-test.true c.index-lines-index.is ∙ ap (λ (e : Entry). Some e) (sym c.item-entry.ensures) in
     c.in_ok-note_entry.ensures.unfit es here (c.mask-mask.ensures es c.loop-index.index c.requires.valid c.loop-index.invariant.round) c.if-not-branch.true
+
+pub note_entry-requires-clause-small : goal.note_entry-requires-clause-small
+note_entry-requires-clause-small c =
+    let l = c.index-lines-index.result in
+    let at = slice_get_read c.args.lines.now (length c.args.lines.now) c.loop-index.index l refl c.loop-index-test.true c.index-lines-index.is in
+    let above = number_above 0 c.args.lines.now c.loop-index.index l c.requires.rising at in
+    let small = c.number-number.type_inv in
+    let value = c.number-number.ensures in
+    omega (arith, above, small, value)
 
 pub loop-index-preserved : goal.loop-index-preserved
 loop-index-preserved c =

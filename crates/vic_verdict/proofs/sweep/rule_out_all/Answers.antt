@@ -5,6 +5,9 @@ use Rattle.vic_verdict.specs.Sweep.{keep_all, run_leaves, all_leave}
 use Rattle.vic_verdict.proofs.Sweeping.{nowhere, runs_more, keep_none}
 use Rattle.vic_verdict.proofs.sweep.rule_out_all.Goals as goal
 
+pub pass_spot-requires-clause-range : goal.pass_spot-requires-clause-range
+pass_spot-requires-clause-range c = c.requires.ranges c.loop-spot.spot-index nowhere c.loop-spot-test.true
+
 pub loop-spot-preserved : goal.loop-spot-preserved
 loop-spot-preserved c = record {
   order = c.pass_spot.ensures.order;

@@ -24,9 +24,13 @@ pub first_quiet_reply-requires-clause-quiet : goal.first_quiet_reply-requires-cl
 first_quiet_reply-requires-clause-quiet c =
     subst AreInQuietOrder (sym c.deref.ensures.value) (quiet_from_sort _ (c.sort_unstable_by_key.ensures.sorted name_key (answers_always _ _ _ (λ f a r g h. search rules))))
 
-pub rule_out_all-requires : goal.rule_out_all-requires
-rule_out_all-requires c =
+pub rule_out_all-requires-clause-order : goal.rule_out_all-requires-clause-order
+rule_out_all-requires-clause-order c =
     subst AreInOrder (sym c.deref_mut.ensures.value) (order_from_sort _ (c.sort_unstable_by_key.ensures.sorted name_key (answers_always _ _ _ (λ f a r g h. search rules))))
+
+pub rule_out_all-requires-clause-ranges : goal.rule_out_all-requires-clause-ranges
+rule_out_all-requires-clause-ranges c =
+    subst (All HasRange) (sym c.deref-2.ensures.value) (All-permutation HasRange _ _ c.sort_unstable_by_key-2.ensures.permutation c.requires.ranges)
 
 names_are : (n : ℕ) (ns now new sorted kept : List Name) (ss spots : List Spot) → now ≡ sorted → ss ≡ spots → new ≡ keep_all (all_leave ss) now → length now ≡ n → kept ≡ take n (new ++ ns) → kept ≡ keep_all (all_leave spots) sorted
 names_are n ns now new sorted kept ss spots a b d e f =

@@ -2,21 +2,21 @@ use Rattle.std.proofs.Common.{◌≡◌, ◌+◌, ◌-◌, ◌<◌, ◌≤◌, �
 use Rattle.vic_verdict.specs.declared.names.Name.{Name}
 use Rattle.vic_verdict.proofs.Sweeping.{nobody}
 use Rattle.vic_verdict.proofs.Closing.{IsClosedTo, closed_first, closed_passed, closed_left, closed_all, pushed_none, pushed_one}
-use Rattle.vic_verdict.proofs.closed.close_spot.Goals as goal
-use Rattle.vic_verdict.proofs.closed.close_spot.Goals.{then-name, then-from-name+in_ok-push, else-from-name, else-name}
+use Rattle.vic_verdict.proofs.closed.close_between.Goals as goal
+use Rattle.vic_verdict.proofs.closed.close_between.Goals.{then-name, then-from-name+in_ok-push, else-from-name, else-name}
 
 pub loop-name-init : goal.loop-name-init
 loop-name-init c =
     let forward = c.requires.range.0 in
-    closed_first c.args.closed.now.items c.names_between-inside.result.now c.args.spot.now.first c.args.spot.now.last (omega (arith, forward)) c.names_between-inside.ensures.inside
+    closed_first c.args.closed.now.items c.names_between-inside.result.now c.args.first c.args.last (omega (arith, forward)) c.names_between-inside.ensures.inside
 
 pub loop-name-preserved : goal.loop-name-preserved
 loop-name-preserved c =
     let old = c.args.closed.now.items in
     let new = c.loop-name.closed.items in
     let ns = c.names_between-inside.result.now in
-    let first = c.args.spot.now.first in
-    let last = c.args.spot.now.last in
+    let first = c.args.first in
+    let last = c.args.last in
     let from = c.loop-name.from in
     let i = c.loop-name.name-index in
     elim c.if-name.branch [
@@ -40,18 +40,18 @@ loop-name-preserved c =
 pub returns-in_ok-push-2 : goal.returns-in_ok-push-2
 returns-in_ok-push-2 c =
     let new = c.loop-name.closed.items in
-    let next = c.push-then-from-spot.new.self.items in
+    let next = c.push-then-from-last.new.self.items in
     let from = c.loop-name.from in
-    let last = c.args.spot.now.last in
+    let last = c.args.last in
     let to : last ≡ last + 1 - 1 = omega arith in
-    let is : next ≡ new ++ (from, last + 1 - 1) ∷ [] = c.in_ok-push-2.ensures.items ∙ ap (λ r. new ++ r ∷ []) (c.new-then-from-spot.ensures ∙ ap (λ n. (from, n)) to) in
-    let upto : from < last + 1 = let le = c.if-from-spot.true in omega (arith, le) in
-    closed_all c.args.closed.now.items new next c.names_between-inside.result.now c.args.names.now c.args.spot.now.first last from c.loop-name.name-index c.loop-name-test.false (c.names_between-inside.ensures.all (λ (n : Name). n.left)) (pushed_one new next from (last + 1) upto is) c.loop-name.invariant
+    let is : next ≡ new ++ (from, last + 1 - 1) ∷ [] = c.in_ok-push-2.ensures.items ∙ ap (λ r. new ++ r ∷ []) (c.new-then-from-last.ensures ∙ ap (λ n. (from, n)) to) in
+    let upto : from < last + 1 = let le = c.if-from-last.true in omega (arith, le) in
+    closed_all c.args.closed.now.items new next c.names_between-inside.result.now c.args.names.now c.args.first last from c.loop-name.name-index c.loop-name-test.false (c.names_between-inside.ensures.all (λ (n : Name). n.left)) (pushed_one new next from (last + 1) upto is) c.loop-name.invariant
 
-pub returns-else-from-spot : goal.returns-else-from-spot
-returns-else-from-spot c =
+pub returns-else-from-last : goal.returns-else-from-last
+returns-else-from-last c =
     let new = c.loop-name.closed.items in
     let from = c.loop-name.from in
-    let last = c.args.spot.now.last in
-    let past : last + 1 ≤ from = let lt = c.if-from-spot.false in omega (arith, lt) in
-    closed_all c.args.closed.now.items new new c.names_between-inside.result.now c.args.names.now c.args.spot.now.first last from c.loop-name.name-index c.loop-name-test.false (c.names_between-inside.ensures.all (λ (n : Name). n.left)) (pushed_none new from (last + 1) past) c.loop-name.invariant
+    let last = c.args.last in
+    let past : last + 1 ≤ from = let lt = c.if-from-last.false in omega (arith, lt) in
+    closed_all c.args.closed.now.items new new c.names_between-inside.result.now c.args.names.now c.args.first last from c.loop-name.name-index c.loop-name-test.false (c.names_between-inside.ensures.all (λ (n : Name). n.left)) (pushed_none new from (last + 1) past) c.loop-name.invariant

@@ -1,5 +1,0 @@
-use Rattle.vic_verdict.proofs.Closing.{IsClosedTo}
-use Rattle.vic_verdict.proofs.closed.close_spot.Given as goal
-
-abbrev pub invariant-loop-name : goal.invariant-loop-name
-invariant-loop-name l = IsClosedTo l.fn.closed.items l.closed.items l.inside l.spot.first l.spot.last l.from l.name-index
