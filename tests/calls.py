@@ -15,6 +15,10 @@ import sys
 
 U8, U16, U32, U64, SIZE = ctypes.c_uint8, ctypes.c_uint16, ctypes.c_uint32, ctypes.c_uint64, ctypes.c_size_t
 LINK, SLOTS, MASK, SLOT, REPLY, TOO_LONG, LETTER = range(201, 208)
+KINDS = ["complete", "absent", "unlisted", "unsettled", "doubtful", "impossible", "refused"]
+LINE_FAULTS = ["TooManyLines", "LineTooLong", "Header", "UnknownEntry", "Hex", "ListedLength", "NotVicinity",
+               "SlotOutsideRound", "EntryAfterList", "DuplicateListed"]
+REFUSALS = ["WrongLink", "WrongSlots", "WrongMask", "WrongSlot", "WrongReply", "TooLong", "WrongLetter"]
 FAULTS = ["Short", "Crc", "Extension", "Reserved", "OptionFlag", "OtherCommand", "InventoryFlag", "Afi", "Length",
           "MaskTooLong", "MaskPadding", "SelectFlag", "NotAddressed", "ErrorFlag", "NotVicinity"]
 UID_A, UID_B = 0xE0040100000000A1, 0xE0040100000000B2
@@ -29,6 +33,7 @@ REQUEST = struct("Request", ("fault", U32), ("link", U32), ("slots", U32), ("mas
 REPLIED = struct("Reply", ("fault", U32), ("flags", U16), ("dsfid", U16), ("uid", U64))
 MASKED = struct("Mask", ("fault", U32), ("len", U32), ("value", U64))
 LINE = struct("Line", ("fault", U32), ("len", U32), ("text", U8 * 132))
+NAME = struct("Name", ("len", U32), ("text", U8 * 28))
 ANSWER = struct("Answer", *[(name, U32) for name in ("kind", "status", "count", "line", "fault", "mask_len")],
                 ("mask_value", U64), ("uid", U64), ("text", U8 * 64))
 
@@ -53,10 +58,10 @@ def run(*words, given=b""):
 
 
 def call(name, kind, *given):
-    """The fields of the struct that a call fills, which held other bytes before; its result is the fault."""
+    """The fields of the struct that a call fills, which held other bytes before; its result is the first."""
     told = kind.from_buffer_copy(b"\x09" * ctypes.sizeof(kind))
     result = getattr(LIBRARY, "vicinity_" + name)(*given, ctypes.byref(told))
-    count(f"{name}, its result", result, told.fault)
+    count(f"{name}, its result", result, getattr(told, kind._fields_[0][0]))
     return tuple(bytes(value) if isinstance(value, ctypes.Array) else value
                  for value in (getattr(told, field) for field, _ in kind._fields_))
 
@@ -160,6 +165,15 @@ def faults():
         count(name, call("read_response", REPLIED, *bytes_of(frame)), (101 + FAULTS.index(name), 0, 0, 0))
 
 
+def names():
+    """The name of each number, and none of those beside them."""
+    for what, first, words in (("kind", 1, KINDS), ("fault", 1, LINE_FAULTS), ("fault", 101, FAULTS), ("fault", 201, REFUSALS)):
+        for number, word in enumerate(["", *words, ""], first - 1):
+            count(f"{what} {number}", call(what + "_name", NAME, U32(number)), in_room(word.encode(), 28))
+        for number in (50, 99, 300, 1000, 1 << 31, (1 << 32) - 1):
+            count(f"{what} {number}", call(what + "_name", NAME, U32(number)), in_room(b"", 28))
+
+
 def written(chance):
     """Random numbers, and what `spell` makes of their words."""
     link, slots, bits = chance.randrange(5), chance.choice((1, 1, 16, 16, 2)), chance.randrange(67)
@@ -259,6 +273,7 @@ def main():
     versions()
     rows()
     faults()
+    names()
     for _ in range(COUNT):
         written(chance)
         read(chance)
