@@ -1,12 +1,14 @@
-/* Refuses each growth of both calls in turn, on some logs: there is no answer then, nothing else is written and no
-   memory is kept; and the same call gives the right answer afterwards. Link with --wrap of malloc, realloc and free. */
+/* Refuses each growth of the calls that take memory in turn, on some logs: there is no answer then, nothing else is
+   written and no memory is kept; and the same call gives the right answer afterwards. Link with --wrap of malloc,
+   realloc and free. */
 #include "vicinity.h"
 
-#include <stdio.h>
+#include "read_log.h"
 #include <stdlib.h>
 #include <string.h>
 
-enum { ROOM = 1 << 16, PLACES = 64, UNWRITTEN = 7 };
+enum { PLACES = 64, UNWRITTEN = 7 };
+enum which { CHECK, EXPLAIN, CHECK_LISTED, EXPLAIN_LISTED, SIMULATE, CALLS };
 
 static size_t growths, refused, held;
 
@@ -43,59 +45,96 @@ struct given {
     uint64_t status;
     size_t needed;
     uint64_t room[PLACES];
+    uint8_t filled[ROOM];
 };
 
 /* Makes a call whose growth of this number is refused; none is where it is 0. */
-static struct given call(int explains, const uint8_t *text, size_t len, size_t number)
+static void call(enum which which, const uint8_t *text, size_t len, size_t number, struct given *given)
 {
-    struct given given;
-    memset(&given, UNWRITTEN, sizeof given);
-    given.needed = 0;
+    static const uint64_t uids[] = {UINT64_C(0xE0040100000000B2), UINT64_C(0xE0040100000000A1)};
+    memset(given, UNWRITTEN, sizeof *given);
+    given->needed = 0;
     growths = 0;
     refused = number;
-    if (explains)
-        given.status = vicinity_explain(text, len, &given.answer, given.room, PLACES, &given.needed);
-    else
-        given.status = vicinity_check(text, len, &given.answer);
-    return given;
+    switch (which) {
+    case EXPLAIN:
+        given->status = vicinity_explain(text, len, &given->answer, given->room, PLACES, &given->needed);
+        break;
+    case CHECK_LISTED:
+        given->status = vicinity_check_listed(text, len, uids, 2, &given->answer);
+        break;
+    case EXPLAIN_LISTED:
+        given->status =
+            vicinity_explain_listed(text, len, uids, 2, &given->answer, given->room, PLACES, &given->needed);
+        break;
+    case SIMULATE:
+        given->status = vicinity_simulate(text, len, given->filled, ROOM, &given->needed);
+        break;
+    default:
+        given->status = vicinity_check(text, len, &given->answer);
+    }
 }
 
-/* The answer of a call that was refused memory. */
-static struct given none(void)
+/* What a call gives that was refused memory: no answer, where it has one to give. */
+static void none(enum which which, struct given *given)
 {
-    struct given given;
-    memset(&given, UNWRITTEN, sizeof given);
-    memset(&given.answer, 0, sizeof given.answer);
-    given.answer.status = given.status = 4;
-    given.needed = 0;
-    return given;
+    memset(given, UNWRITTEN, sizeof *given);
+    if (which != SIMULATE) {
+        memset(&given->answer, 0, sizeof given->answer);
+        given->answer.status = 4;
+    }
+    given->status = 4;
+    given->needed = 0;
+}
+
+/* Takes the lines that begin with one of these letters out of a text. */
+static size_t without(const char *letters, uint8_t *text, size_t len)
+{
+    size_t kept = 0;
+    for (size_t start = 0, end; start < len; start = end) {
+        const uint8_t *lf = memchr(text + start, '\n', len - start);
+        end = lf ? (size_t)(lf - text) + 1 : len;
+        if (!memchr(letters, text[start], strlen(letters))) {
+            memmove(text + kept, text + start, end - start);
+            kept += end - start;
+        }
+    }
+    return kept;
+}
+
+/* Refuses each growth of a call in turn; gives how many, or 0 where something is wrong. */
+static size_t refuse_each(enum which which, const uint8_t *text, size_t len)
+{
+    static struct given right, given, memory;
+    size_t before = held;
+    none(which, &memory);
+    call(which, text, len, 0, &right);
+    size_t most = growths;
+    for (size_t number = 1; number <= most; number++) {
+        call(which, text, len, number, &given);
+        if (memcmp(&given, &memory, sizeof given) || held != before)
+            return 0;
+    }
+    call(which, text, len, 0, &given);
+    return right.status == 4 || memcmp(&given, &right, sizeof given) || held != before ? 0 : most;
 }
 
 int main(int argc, char **argv)
 {
-    static uint8_t text[ROOM];
+    static uint8_t text[ROOM], changed[ROOM];
     size_t calls = 0;
-    struct given memory = none();
     for (int i = 1; i < argc; i++) {
-        FILE *file = fopen(argv[i], "rb");
-        if (!file)
+        size_t len = read_log(argv[i], text);
+        if (len == NO_LOG)
             return 1;
-        size_t len = fread(text, 1, sizeof text, file);
-        fclose(file);
-        for (int explains = 0; explains < 2; explains++) {
-            size_t before = held;
-            struct given right = call(explains, text, len, 0);
-            size_t most = growths;
-            if (right.answer.kind == VICINITY_NO_ANSWER || most == 0)
+        for (int which = 0; which < CALLS; which++) {
+            memcpy(changed, text, len);
+            /* what is filled in tells of no slot, and what is judged with a list beside it lists nothing */
+            const char *letters = which == SIMULATE ? "SRCD" : which < CHECK_LISTED ? "" : "U";
+            size_t refusals = refuse_each((enum which)which, changed, without(letters, changed, len));
+            if (refusals == 0)
                 return 1;
-            for (size_t number = 1; number <= most; number++, calls++) {
-                struct given given = call(explains, text, len, number);
-                if (memcmp(&given, &memory, sizeof given) || held != before)
-                    return 1;
-            }
-            struct given again = call(explains, text, len, 0);
-            if (memcmp(&again, &right, sizeof again) || held != before)
-                return 1;
+            calls += refusals;
         }
     }
     printf("%zu growths refused, no answer each\n", calls);

@@ -1,13 +1,14 @@
-/* Judges and explains each first part of some logs, each ending where memory ends, with rooms for the population that
-   end there too: a byte read or written behind would fault. */
+/* Makes the calls that judge a text or fill it in on each first part of some logs, and those that read bytes on each
+   part of a frame. What is handed over ends where memory ends, and so does the room for what is given: a byte read or
+   written behind would fault. */
 #define _GNU_SOURCE
 #include "vicinity.h"
 
-#include <stdio.h>
+#include "read_log.h"
 #include <string.h>
 #include <sys/mman.h>
 
-enum { ROOM = 1 << 16, PAGE = 4096, PLACES = 4, UNWRITTEN = 7 };
+enum { PAGE = 4096, PLACES = 4, UNWRITTEN = 7 };
 
 /* Where memory ends behind ROOM bytes; NULL where there are none. */
 static uint8_t *end_of_memory(void)
@@ -16,6 +17,12 @@ static uint8_t *end_of_memory(void)
     if (pages == MAP_FAILED || mprotect(pages + ROOM, PAGE, PROT_NONE))
         return NULL;
     return pages + ROOM;
+}
+
+static int is_answer(const struct vicinity_answer *answer)
+{
+    return memchr(answer->text, 0, sizeof answer->text) && answer->kind >= VICINITY_COMPLETE &&
+           answer->kind <= VICINITY_REFUSED;
 }
 
 /* Whether an explanation gives this answer, and a room of so many places the population or nothing. */
@@ -37,29 +44,77 @@ static int explains(const uint8_t *text, size_t len, const struct vicinity_answe
     return 1;
 }
 
+/* Whether a list beside the text is answered, checked as explained. It is `count` UIDs before the end of memory. */
+static int judges_listed(const uint8_t *text, size_t len, uint64_t *end, size_t count)
+{
+    struct vicinity_answer answer, explained;
+    uint64_t population[1];
+    size_t needed;
+    for (size_t i = 1; i <= PLACES; i++)
+        *(end - i) = UINT64_C(0xE0040100000000A1) + i;
+    uint32_t status = vicinity_check_listed(text, len, end - count, count, &answer);
+    return vicinity_explain_listed(text, len, end - count, count, &explained, population, 0, &needed) == status &&
+           is_answer(&answer) && !memcmp(&explained, &answer, sizeof answer);
+}
+
+/* Whether the text that is filled in is written to a room that it fits, all of it, and to no other. */
+static int simulates(const uint8_t *text, size_t len, uint8_t *end)
+{
+    size_t needed, again;
+    uint32_t status = vicinity_simulate(text, len, end, 0, &needed);
+    if (status == 4 || needed == 0 || needed >= ROOM)
+        return 0;
+    for (size_t places = needed - 1; places <= needed; places++) {
+        memset(end - needed - 1, UNWRITTEN, needed + 1);
+        if (vicinity_simulate(text, len, end - places, places, &again) != status || again != needed)
+            return 0;
+        int written = !memchr(end - needed, UNWRITTEN, needed) && end[-1] == '\n';
+        if (end[-(ptrdiff_t)needed - 1] != UNWRITTEN || written != (places == needed))
+            return 0;
+    }
+    return 1;
+}
+
+/* Whether a frame is read, which is a request's and a reply's alike, no part of it is, and each is noted. */
+static int reads_frames(uint8_t *end)
+{
+    static const uint8_t frame[] = {0x22, 0x02, 0xA1, 0, 0, 0, 0, 1, 4, 0xE0, 0x66, 0x2A};
+    for (size_t part = 0; part <= sizeof frame; part++) {
+        struct vicinity_request request;
+        struct vicinity_reply reply;
+        struct vicinity_frame whole;
+        struct vicinity_line line;
+        uint8_t *bytes = memcpy(end - part, frame, part);
+        int is_whole = part == sizeof frame;
+        if ((vicinity_read_request(bytes, part, &request) == 0) != is_whole ||
+            (vicinity_read_response(bytes, part, &reply) == 0) != is_whole || vicinity_add_crc(bytes, part, &whole) ||
+            vicinity_write_line('T', bytes, part, 0, &line) || line.len != 2 * part + 3)
+            return 0;
+    }
+    return 1;
+}
+
 int main(int argc, char **argv)
 {
     static uint8_t text[ROOM];
     uint8_t *text_end = end_of_memory();
-    uint64_t *room_end = (uint64_t *)end_of_memory();
-    if (!text_end || !room_end)
+    uint8_t *room_end = end_of_memory();
+    if (!text_end || !room_end || !reads_frames(text_end))
         return 1;
     size_t calls = 0;
     for (int i = 1; i < argc; i++) {
-        FILE *file = fopen(argv[i], "rb");
-        if (!file)
+        size_t len = read_log(argv[i], text);
+        if (len == NO_LOG)
             return 1;
-        size_t len = fread(text, 1, sizeof text, file);
-        fclose(file);
         for (size_t part = 0; part <= len; part++, calls++) {
             struct vicinity_answer answer;
             memcpy(text_end - part, text, part);
             vicinity_check(text_end - part, part, &answer);
-            if (!memchr(answer.text, 0, sizeof answer.text) || answer.kind < VICINITY_COMPLETE ||
-                answer.kind > VICINITY_REFUSED)
+            if (!is_answer(&answer) || !simulates(text_end - part, part, room_end))
                 return 1;
             for (size_t places = 0; places <= PLACES; places++)
-                if (!explains(text_end - part, part, &answer, room_end, places))
+                if (!explains(text_end - part, part, &answer, (uint64_t *)room_end, places) ||
+                    !judges_listed(text_end - part, part, (uint64_t *)room_end, places))
                     return 1;
         }
     }
