@@ -15,8 +15,8 @@ use Rattle.vic_log.specs.declared.entry.Entry.{Entry}
 use Rattle.vic_log.specs.declared.entry.Entry.TheVariants.{FieldCycle}
 use Rattle.vic_log.specs.Quiet.{silences, wakes, is_quiet}
 use Rattle.vic_verdict.specs.declared.names.Name.{Name}
-use Rattle.vic_verdict.specs.Sweep.{AreInOrder, HaveKeys, is_between, is_silenced}
-use Rattle.vic_verdict.proofs.Sweeping.{between_parts, nobody, where_above}
+use Rattle.vic_verdict.specs.Sweep.{AreInOrder, HaveKeys, is_silenced}
+use Rattle.vic_verdict.proofs.Sweeping.{nobody}
 use Rattle.vic_verdict.specs.Silenced.{TellsQuiet}
 use Rattle.vic_verdict.proofs.Stretching.{silenced_next, silenced_after, quiet_named, quiet_next, still_quiet}
 use Rattle.vic_tree.proofs.BoolLaws.{lt_yes}
@@ -102,25 +102,25 @@ silenced_later (n ∷ ns) k i j le e =
 
 -- ---- the keys of the Quiet UIDs
 
--- the keys are in order, are keys of the first i names, and are those from a key on that are Quiet by them
-pub record AreQuietKeys (at first : ℕ) (ns : List Name) (i : ℕ) (ks : List ℕ) : Type 0 where
+-- the keys are in order, are keys of the first i names, and are those that are Quiet by them
+pub record AreQuietKeys (at : ℕ) (ns : List Name) (i : ℕ) (ks : List ℕ) : Type 0 where
   pub order : IsNonDecreasing ks
   pub keys : AreKeys ks
   pub lower : All (λ k. (j : ℕ) → i ≤ j → j < length ns → k ≤ (get_or ns j nobody).key) ks
-  pub members : (k : ℕ) → first ≤ k → has ks k ≡ is_silenced (take i ns) k at
+  pub members : (k : ℕ) → has ks k ≡ is_silenced (take i ns) k at
 
 turned : (a b : ℕ) → (a == b) ≡ (b == a)
 turned a b = grind (arith, nat_tests)
 
 -- one name more, that is Quiet
-pub quiet_key : (at first : ℕ) (ns : List Name) (i : ℕ) (ks vs : List ℕ) → AreInOrder ns → HaveKeys ns → AreQuietKeys at first ns i ks → i < length ns → (get_or ns i nobody).quiet < at → vs ≡ ks ++ (get_or ns i nobody).key ∷ [] → AreQuietKeys at first ns (i + 1) vs
-quiet_key at first ns i ks vs up small q below quiet is = subst (AreQuietKeys at first ns (i + 1)) (sym is) (record {
+pub quiet_key : (at : ℕ) (ns : List Name) (i : ℕ) (ks vs : List ℕ) → AreInOrder ns → HaveKeys ns → AreQuietKeys at ns i ks → i < length ns → (get_or ns i nobody).quiet < at → vs ≡ ks ++ (get_or ns i nobody).key ∷ [] → AreQuietKeys at ns (i + 1) vs
+quiet_key at ns i ks vs up small q below quiet is = subst (AreQuietKeys at ns (i + 1)) (sym is) (record {
   order = IsNonDecreasingBy-push (λ k. k) ks key q.order (λ d some. q.lower (length ks - 1) d (omega arith) i (omega arith) below);
   keys = All-push (λ k. k < 2 ^ 56) ks key q.keys (small i nobody below);
   lower = All-push (λ k. (j : ℕ) → i + 1 ≤ j → j < length ns → k ≤ (get_or ns j nobody).key) ks key (λ n d lt j le more. q.lower n d lt j (omega arith) more) (λ j le more. up i j nobody (omega arith) more);
-  members = λ k from.
+  members = λ k.
       list_any-append (nat_eq k) ks (key ∷ [])
-      ∙ ap (λ b. b || ((k == key) || false)) (q.members k from)
+      ∙ ap (λ b. b || ((k == key) || false)) (q.members k)
       ∙ ap (λ b. is_silenced (take i ns) k at || b) (one (k == key) (nat_lt (get_or ns i nobody).quiet at) (lt_yes _ _ quiet) ∙ ap (λ b. b && nat_lt (get_or ns i nobody).quiet at) (turned k key))
       ∙ sym (list_any_more (λ (n : Name). (n.key == k) && nat_lt n.quiet at) ns i nobody below);
 }) where
@@ -133,13 +133,13 @@ quiet_key at first ns i ks vs up small q below quiet is = subst (AreQuietKeys at
   one true false e = absurd (cc)
 
 -- or isn't
-pub other_key : (at first : ℕ) (ns : List Name) (i : ℕ) (ks : List ℕ) → AreQuietKeys at first ns i ks → i < length ns → nat_lt (get_or ns i nobody).quiet at ≡ false → AreQuietKeys at first ns (i + 1) ks
-other_key at first ns i ks q below late = record {
+pub other_key : (at : ℕ) (ns : List Name) (i : ℕ) (ks : List ℕ) → AreQuietKeys at ns i ks → i < length ns → nat_lt (get_or ns i nobody).quiet at ≡ false → AreQuietKeys at ns (i + 1) ks
+other_key at ns i ks q below late = record {
   order = q.order;
   keys = q.keys;
   lower = λ n d lt j le more. q.lower n d lt j (omega arith) more;
-  members = λ k from.
-      q.members k from
+  members = λ k.
+      q.members k
       ∙ none (is_silenced (take i ns) k at) ((get_or ns i nobody).key == k) (nat_lt (get_or ns i nobody).quiet at) late
       ∙ sym (list_any_more (λ (n : Name). (n.key == k) && nat_lt n.quiet at) ns i nobody below);
 } where
@@ -147,10 +147,3 @@ other_key at first ns i ks q below late = record {
   none true b c e = refl
   none false true c e = sym e
   none false false c e = refl
-
--- no name behind is up to the last key
-pub quiet_keys : (at first last : ℕ) (ns : List Name) (i : ℕ) (ks : List ℕ) → AreQuietKeys at first ns i ks → i ≤ length ns → ((j : ℕ) → i ≤ j → j < length ns → last < (get_or ns j nobody).key) → (k : ℕ) → is_between first last k ≡ true → has ks k ≡ is_silenced ns k at
-quiet_keys at first last ns i ks q le above k e =
-    let parts = between_parts first last k e in
-    let to = parts.1 in
-    q.members k parts.0 ∙ where_above (λ n. nat_lt n.quiet at) ns k i (length ns - i) (omega (arith, le)) (λ j from lt. let over = above j from lt in omega (arith, over, to))

@@ -50,6 +50,7 @@ pub(crate) fn push_name(
 pub(crate) fn names_between(names: &[Name], first: u64, last: u64) -> &[Name]
     requires { AreInOrder names.now }
     ensures order { AreInOrder result.now }
+    ensures keys { HaveKeys names.now → HaveKeys result.now }
     ensures inside { All (λ n. is_between first last n.key ≡ true) result.now }
     ensures all { (test : NameValue → Bool) (k : ℕ) → is_between first last k ≡ true
         → has_where test result.now k ≡ has_where test names.now k }
@@ -68,12 +69,8 @@ pub(crate) fn is_silenced(names: &[Name], uid: Uid, at: usize) -> bool
     ensures { result ≡ is_silenced names.now (mirror uid) at }
 {
     let key = key(uid);
-    let start = names.partition_point(|name| name.key < key);
-    for i in start..names.len() {
-        let name = names[i];
-        if key < name.key {
-            return false;
-        }
+    let own = names_between(names, key, key);
+    for name in own {
         if name.quiet < at {
             return true;
         }
@@ -109,13 +106,9 @@ pub(crate) fn silenced_between(
     ensures members { IfOk result (λ keys. (k : ℕ) → is_between first last k ≡ true
         → has keys.items k ≡ is_silenced names.now k at) }
 {
+    let inside = names_between(names, first, last);
     let mut keys = Vec::new(alloc);
-    let start = names.partition_point(|name| name.key < first);
-    for i in start..names.len() {
-        let name = names[i];
-        if last < name.key {
-            return Ok(keys);
-        }
+    for name in inside {
         if name.quiet < at {
             keys.push(name.key)?;
         }

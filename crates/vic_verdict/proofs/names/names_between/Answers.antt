@@ -1,9 +1,10 @@
-use Rattle.std.proofs.Common.{◌≡◌, ℕ, ◌+◌, ◌-◌, ◌<◌, ◌≤◌, true, List, length, take, drop, get_or, ltb, ltb-true, ltb-false, arith, rules, sym, ap, ◌∙◌, subst}
+use Rattle.std.proofs.Common.{◌≡◌, ℕ, ◌+◌, ◌-◌, ◌^◌, ◌<◌, ◌≤◌, true, List, length, take, drop, get_or, ltb, ltb-true, ltb-false, arith, rules, sym, ap, ◌∙◌, subst}
 use Rattle.std.specs.List.{All}
 use Rattle.std.proofs.lemmas.List.{length-drop, take_all, get_or-drop}
+use Rattle.std.proofs.lemmas.List.Elements.{All-drop, All-take}
 use Rattle.std.proofs.lemmas.List.Sorted.{IsPartitionPoint-from_clause, IsPartitionedBy-ltb}
 use Rattle.vic_verdict.specs.declared.names.Name.{Name}
-use Rattle.vic_verdict.specs.Sweep.{has_where, is_between}
+use Rattle.vic_verdict.specs.Sweep.{HaveKeys, has_where, is_between}
 use Rattle.vic_verdict.proofs.Sweeping.{nobody}
 use Rattle.vic_verdict.proofs.Closing.{part_between, part_where}
 use Rattle.vic_verdict.proofs.names.names_between.Goals as goal
@@ -25,6 +26,12 @@ returns-clause-inside c =
     let upto = subst (λ xs. (j : ℕ) → j < c.loop-count.count → (get_or xs j nobody).key ≤ c.args.last) (rest_is ns s) c.loop-count.invariant.upto in
     subst (λ xs. All (λ (n : Name). is_between c.args.first c.args.last n.key ≡ true) (take c.loop-count.count xs)) (sym (rest_is ns s))
     (part_between ns c.args.first c.args.last s c.loop-count.count (count_within ns s c.loop-count.count c.partition_point.ensures.bound c.loop-count.invariant.within) (λ j from lt. ltb-false _ _ (point.1 j nobody from lt)) upto)
+
+pub returns-clause-keys : goal.returns-clause-keys
+returns-clause-keys c have =
+    let ns = c.args.names.now in
+    let s = c.partition_point.result in
+    subst (λ xs. HaveKeys (take c.loop-count.count xs)) (sym (rest_is ns s)) (All-take (λ (n : Name). n.key < 2 ^ 56) c.loop-count.count (drop s ns) (All-drop (λ (n : Name). n.key < 2 ^ 56) s ns have))
 
 pub returns-clause-all : goal.returns-clause-all
 returns-clause-all c test k inside =
