@@ -17,7 +17,7 @@
  * - Nobody changes what is read or touches what is written while the call runs.
  * - malloc, realloc and free are of one allocator, which aligns to 16 bytes.
  * - The call isn't made from a signal handler, nor in the forked child of a process with threads.
- * - The processor has x86-64-v2 (SSE4.2, POPCNT).
+ * - A processor of x86-64 has x86-64-v2 (SSE4.2, POPCNT).
  * - The stack has 64 KiB left.
  * Calls share nothing: any number of threads may call at the same time. The calls that judge a text
  * or fill in its slots take memory, and no other call does. They can't be stopped, and take about half a second and
