@@ -77,6 +77,9 @@ fn main(rt: HostRuntime) -> io::Result<()> {
         "settle RangeSet",
         sets::settle_masks::<RangeSet>(alloc),
     )?;
+    say(&rt, "without CellList", sets::leave_keys::<CellList>(alloc))?;
+    say(&rt, "without MaskTree", sets::leave_keys::<MaskTree>(alloc))?;
+    say(&rt, "without RangeSet", sets::leave_keys::<RangeSet>(alloc))?;
     say(&rt, "judge", verdicts::judge_rows(alloc))?;
     say(
         &rt,

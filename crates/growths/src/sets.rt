@@ -1,9 +1,10 @@
-//! Sets of open UIDs: `everything` and `settle`.
+//! Sets of open UIDs: `everything`, `settle` and `without`.
 
 use crate::found::{Found, both, call_again};
 use std::alloc::{AllocError, Global};
+use vic_frame::low_bits_first::uid_at;
 use vic_frame::{Mask, UID_BITS, Uid};
-use vic_tree::OpenSet;
+use vic_tree::{KeyRange, OpenSet};
 
 /// Settles one half of the UIDs, and then the other but for one UID.
 fn settle_halves<S: OpenSet>(alloc: Global) -> Result<bool, AllocError> {
@@ -48,4 +49,20 @@ pub fn settle_masks<S: OpenSet>(alloc: Global) -> Found {
         call_again(|| settle_halves::<S>(alloc)),
         call_again(|| settle_mask::<S>(alloc)),
     )
+}
+
+/// The UIDs at the second and at the fourth key of all.
+fn leave_two<S: OpenSet>(alloc: Global) -> Result<bool, AllocError> {
+    let mut closed = Vec::new(alloc);
+    closed.push(KeyRange::new(4, (1 << UID_BITS) - 1))?;
+    closed.push(KeyRange::new(2, 2))?;
+    closed.push(KeyRange::new(0, 0))?;
+    let set: S = S::without(alloc, closed)?;
+    let second = set.widest() == Mask::new(UID_BITS, 1 << (UID_BITS - 1));
+    Ok(second && set.has(uid_at(3)) && !set.has(uid_at(4)))
+}
+
+/// Makes a set of one kind from the ranges of keys that are closed.
+pub fn leave_keys<S: OpenSet>(alloc: Global) -> Found {
+    call_again(|| leave_two::<S>(alloc))
 }

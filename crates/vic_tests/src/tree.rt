@@ -7,12 +7,18 @@ use crate::values::{A, B, Y, Z, mask, uid};
 use std::alloc::Global;
 use std::process::Abort;
 use std::test::Fail;
-use vic_frame::low_bits_first::key;
+use vic_frame::low_bits_first::{key, uid_at};
 use vic_frame::{Mask, UID_BITS, Uid};
-use vic_tree::{CellList, MaskTree, OpenSet, RangeSet};
+use vic_tree::{CellList, KeyRange, MaskTree, OpenSet, RangeSet};
 
 /// The low 56 bits of A, the lowest first.
 const KEY_OF_A: u64 = 0x85_0000_0000_8020;
+
+/// The first key of the upper half.
+const HALF: u64 = 1 << 55;
+
+/// The last key.
+const LAST: u64 = (1 << UID_BITS) - 1;
 
 /// Settles a mask, but for some UIDs.
 fn settle<S: OpenSet>(set: &mut S, len: u8, value: u64, except: &[Uid]) -> Result<(), Fail>
@@ -23,7 +29,7 @@ fn settle<S: OpenSet>(set: &mut S, len: u8, value: u64, except: &[Uid]) -> Resul
 }
 
 /// The set that is left of everything when one mask is settled.
-fn without<S: OpenSet>(alloc: Global, len: u8, value: u64) -> Result<S, Fail> {
+fn all_but<S: OpenSet>(alloc: Global, len: u8, value: u64) -> Result<S, Fail> {
     let mut set = S::everything(alloc)?;
     settle(&mut set, len, value, &[])?;
     Ok(set)
@@ -137,14 +143,14 @@ fn two_halves<S: OpenSet>(rt: &impl Abort, alloc: Global) -> Result<(), Fail> {
 }
 
 fn one_mask<S: OpenSet>(rt: &impl Abort, alloc: Global) -> Result<(), Fail> {
-    let set = without::<S>(alloc, 4, 0xF)?;
+    let set = all_but::<S>(alloc, 4, 0xF)?;
     widest(rt, &set, Mask::new(1, 0));
     finds_so_many(rt, &set, 4, 0xF, 0)?;
-    widest(rt, &without::<S>(alloc, 64, 0)?, Mask::new(0, 0));
-    let set = without::<S>(alloc, 64, Z)?;
+    widest(rt, &all_but::<S>(alloc, 64, 0)?, Mask::new(0, 0));
+    let set = all_but::<S>(alloc, 64, Z)?;
     has(rt, &set, Z, false)?;
     widest(rt, &set, Mask::new(1, 1));
-    widest(rt, &without::<S>(alloc, 0, 0)?, None);
+    widest(rt, &all_but::<S>(alloc, 0, 0)?, None);
     Ok(())
 }
 
@@ -187,6 +193,40 @@ fn besides_all_keys<S: OpenSet>(rt: &impl Abort, alloc: Global) -> Result<(), Fa
     widest_besides(rt, first_two::<S>(alloc)?, &[0, 1], None)
 }
 
+fn without_one_range<S: OpenSet>(rt: &impl Abort, alloc: Global) -> Result<(), Fail> {
+    widest(rt, &S::without(alloc, Vec::new(alloc))?, Mask::new(0, 0));
+    let whole = S::without(alloc, vec![in alloc; KeyRange::new(0, LAST)]?)?;
+    widest(rt, &whole, None);
+    let one = KeyRange::new(KEY_OF_A, KEY_OF_A);
+    let others = S::without(alloc, vec![in alloc; one]?)?;
+    has(rt, &others, A, false)?;
+    has(rt, &others, A - 1, true)?;
+    widest(rt, &others, Mask::new(1, 0));
+    let pair = S::without(alloc, vec![in alloc; KeyRange::new(2, LAST)]?)?;
+    widest(rt, &pair, Mask::new(55, 0));
+    finds_so_many(rt, &pair, 0, 0, 2)
+}
+
+/// Ranges that come in another order than their keys do. Some meet, and one is inside another.
+fn without_some_ranges<S: OpenSet>(rt: &impl Abort, alloc: Global) -> Result<(), Fail> {
+    let meeting = [
+        KeyRange::new(HALF, LAST),
+        KeyRange::new(4, HALF - 1),
+        KeyRange::new(2, 3),
+    ];
+    let pair = S::without(alloc, Vec::from_array(alloc, meeting)?)?;
+    widest(rt, &pair, Mask::new(55, 0));
+    finds_so_many(rt, &pair, 0, 0, 2)?;
+    let inside = [KeyRange::new(3, 7), KeyRange::new(0, HALF - 1)];
+    let upper = S::without(alloc, Vec::from_array(alloc, inside)?)?;
+    widest(rt, &upper, Mask::new(1, 1));
+    has(rt, &upper, Z + 2, false)?;
+    let apart = [KeyRange::new(0, HALF - 2), KeyRange::new(HALF, LAST)];
+    let lone = S::without(alloc, Vec::from_array(alloc, apart)?)?;
+    widest(rt, &lone, Mask::new(UID_BITS, (1 << UID_BITS) - 2));
+    finds_so_many(rt, &lone, 0, 0, 1)
+}
+
 fn calls<S: OpenSet>(rt: &impl Abort, alloc: Global) -> Result<(), Fail> {
     one_after_another::<S>(rt, alloc)?;
     two_halves::<S>(rt, alloc)?;
@@ -194,7 +234,9 @@ fn calls<S: OpenSet>(rt: &impl Abort, alloc: Global) -> Result<(), Fail> {
     long_masks::<S>(rt, alloc)?;
     besides_some_keys::<S>(rt, alloc)?;
     besides_a_far_key::<S>(rt, alloc)?;
-    besides_all_keys::<S>(rt, alloc)
+    besides_all_keys::<S>(rt, alloc)?;
+    without_one_range::<S>(rt, alloc)?;
+    without_some_ranges::<S>(rt, alloc)
 }
 
 #[test]
@@ -257,7 +299,7 @@ fn open_masks(rt: HostRuntime) -> Result<(), Fail> {
     let all = RangeSet::everything(alloc)?;
     opens(&rt, &all, &[], &[(0, 0)], false)?;
     opens(&rt, &all, &[KEY_OF_A], &BESIDE_A, true)?;
-    let none = without::<RangeSet>(alloc, 0, 0)?;
+    let none = all_but::<RangeSet>(alloc, 0, 0)?;
     opens(&rt, &none, &[], &[], false)?;
     let two = first_two::<RangeSet>(alloc)?;
     opens(&rt, &two, &[], &[(55, 0)], false)?;
@@ -268,14 +310,14 @@ fn open_masks(rt: HostRuntime) -> Result<(), Fail> {
 #[test]
 fn open_masks_round_one_that_is_settled(rt: HostRuntime) -> Result<(), Fail> {
     let alloc = rt.alloc();
-    let quarter = without::<RangeSet>(alloc, 2, 1)?;
+    let quarter = all_but::<RangeSet>(alloc, 2, 1)?;
     opens(&rt, &quarter, &[], &[(1, 0), (2, 3)], false)?;
     let mut heard = RangeSet::everything(alloc)?;
     settle(&mut heard, 8, 0xA1, &[uid(A)?])?;
     opens(&rt, &heard, &[KEY_OF_A], &BESIDE_A[..8], false)?;
-    let sixteen = without::<RangeSet>(alloc, 16, 0xA1)?;
+    let sixteen = all_but::<RangeSet>(alloc, 16, 0xA1)?;
     opens(&rt, &sixteen, &[], &BESIDE_A, false)?;
-    let seventeen = without::<RangeSet>(alloc, 17, 0xA1)?;
+    let seventeen = all_but::<RangeSet>(alloc, 17, 0xA1)?;
     opens(&rt, &seventeen, &[], &BESIDE_A, true)
 }
 
@@ -368,6 +410,43 @@ fn list_tree_and_ranges_agree(rt: HostRuntime) -> Result<(), Fail> {
     widest_besides(&rt, ranges, &keys, expected)
 }
 
+/// A range of at most `2^40` keys.
+fn range_from(first: u64, number: u64) -> KeyRange {
+    let first = first % (1 << UID_BITS);
+    KeyRange::new(first, (first + number % (1 << 40)).min(LAST))
+}
+
+/// Ranges of a fixed row that look random.
+fn some_ranges(alloc: Global, count: usize) -> Result<Vec<KeyRange>, Fail> {
+    let mut ranges = Vec::new(alloc);
+    let mut state = 1;
+    for _ in 0..count {
+        let first = next(state);
+        state = next(first);
+        ranges.push(range_from(first, state))?;
+    }
+    Ok(ranges)
+}
+
+#[test]
+fn list_tree_and_ranges_agree_without_ranges(rt: HostRuntime) -> Result<(), Fail> {
+    let alloc = rt.alloc();
+    let closed = some_ranges(alloc, 4)?;
+    let sets = (
+        CellList::without(alloc, closed.clone()?)?,
+        MaskTree::without(alloc, closed.clone()?)?,
+        RangeSet::without(alloc, closed.clone()?)?,
+    );
+    let widest = sets.0.widest();
+    assert!(&rt; sets.1.widest() == widest && sets.2.widest() == widest);
+    for range in &closed {
+        for key in [range.first(), range.last(), range.last() / 2] {
+            have_the_same(&rt, &sets, uid_at(key).number())?;
+        }
+    }
+    Ok(())
+}
+
 /// Settles a mask round a UID, which stays as it was.
 fn settle_round<S: OpenSet>(
     rt: &impl Abort,
@@ -400,6 +479,12 @@ fn tree_settles_many_masks(rt: HostRuntime) -> Result<(), Fail> {
 }
 
 #[test]
-fn ranges_settle_many_masks(rt: HostRuntime) -> Result<(), Fail> {
-    many_masks::<RangeSet>(&rt, rt.alloc())
+fn ranges_without_many_ranges(rt: HostRuntime) -> Result<(), Fail> {
+    let alloc = rt.alloc();
+    let closed = some_ranges(alloc, 100_000)?;
+    let set = RangeSet::without(alloc, closed.clone()?)?;
+    for range in &closed {
+        assert!(&rt; !set.has(uid_at(range.last())));
+    }
+    finds_so_many(&rt, &set, 0, 0, 3)
 }
