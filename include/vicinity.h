@@ -11,8 +11,8 @@
  * - `uids` points to `count` numbers that may be read. It is aligned and not NULL, also if `count`
  *   is 0.
  * - A pointer to a struct points to one that may be written. It is aligned and is not NULL.
- * - `population` points to `room` numbers that may be written, `filled` to `room` bytes, `needed`
- *   to one number. They are aligned, and not NULL, also if `room` is 0.
+ * - `population` points to `room` numbers that may be written, `findings` to `room` structs, `filled`
+ *   to `room` bytes, `needed` to one number. They are aligned, and not NULL, also if `room` is 0.
  * - What is written overlaps nothing else that is handed over.
  * - Nobody changes what is read or touches what is written while the call runs.
  * - malloc, realloc and free are of one allocator, which aligns to 16 bytes.
@@ -110,6 +110,28 @@ struct vicinity_answer {
     char text[64]; /* the line that `vicinity check` writes, with its LF and zeros behind it */
 };
 
+/* What a finding is. The first four have the numbers that they have as answers. */
+enum vicinity_finding_kind {
+    VICINITY_FINDING_ABSENT = 2, /* the listed `uid` can't be there: `line` rules it out */
+    VICINITY_FINDING_UNLISTED = 3, /* `uid` must be there and isn't listed: `line` tells of it */
+    VICINITY_FINDING_UNSETTLED = 4, /* UIDs of the mask may be there, unlisted */
+    VICINITY_FINDING_DOUBTFUL = 5, /* the listed `uid` may be missing */
+    VICINITY_FINDING_OPEN_MASK = 8, /* each UID of the mask may be there and may be missing: ask for it */
+    VICINITY_FINDING_MORE_OPEN_MASKS = 9, /* there are more open masks than the sixteen that are given */
+    VICINITY_FINDING_CONFLICT_LINE = 10, /* no tags fit all of these lines of an impossible log */
+    VICINITY_FINDING_SILENCED_BY = 11 /* `line` silenced the tag that replies in the conflict's last line */
+};
+
+/* A finding of a report. What the kind does not speak of is 0. */
+struct vicinity_finding {
+    uint32_t kind;       /* enum vicinity_finding_kind */
+    uint32_t line;       /* from 1 */
+    uint32_t mask_len;   /* in bits, 0 to 56 */
+    uint32_t zero;       /* 0 in each kind */
+    uint64_t mask_value; /* below two to the power of mask_len */
+    uint64_t uid;        /* its top byte is E0 */
+};
+
 /* A frame with zeros after it. If there is a fault all else is 0; so it is in the structs below. */
 struct vicinity_frame {
     uint32_t fault; /* 0, or enum vicinity_refusal */
@@ -162,6 +184,8 @@ struct vicinity_name {
 _Static_assert(sizeof(struct vicinity_answer) == 104, "the size of struct vicinity_answer");
 _Static_assert(offsetof(struct vicinity_answer, mask_value) == 24, "where mask_value stands");
 _Static_assert(offsetof(struct vicinity_answer, text) == 40, "where text stands");
+_Static_assert(sizeof(struct vicinity_finding) == 32, "the size of struct vicinity_finding");
+_Static_assert(offsetof(struct vicinity_finding, uid) == 24, "where the uid of a finding stands");
 _Static_assert(sizeof(struct vicinity_frame) == 24, "the size of struct vicinity_frame");
 _Static_assert(sizeof(struct vicinity_request) == 32, "the size of struct vicinity_request");
 _Static_assert(sizeof(struct vicinity_reply) == 16, "the size of struct vicinity_reply");
@@ -193,6 +217,18 @@ uint32_t vicinity_explain(const uint8_t *text, size_t text_len, struct vicinity_
                           uint64_t *population, size_t room, size_t *needed);
 
 /*
+ * The same, and hands over all that the log tells against its list: the lines of `vicinity report`,
+ * as findings in the same order. They are, of a possible log, the absent UIDs, the unlisted ones,
+ * the unsettled mask with the open masks after it, and the doubtful UIDs, UIDs in rising order; of
+ * an impossible one, the lines of a conflict, in rising order, and what silenced. `*needed` is how
+ * many they are. Where `room` is at least that, they stand at the front of `findings`; else nothing
+ * is written there, and the call again with room for `*needed` gives them. There is none, and
+ * `*needed` is 0, for VICINITY_COMPLETE, _REFUSED and _NO_ANSWER.
+ */
+uint32_t vicinity_report(const uint8_t *text, size_t text_len, struct vicinity_answer *answer,
+                         struct vicinity_finding *findings, size_t room, size_t *needed);
+
+/*
  * Judges a text that lists nothing with a list beside it, as a reader's loop does. The answer is
  * that of vicinity_check to the text with a line `U` for each UID after it, in the order given,
  * which may be any. So the text ends with LF. A UID that comes twice has the fault
@@ -205,6 +241,11 @@ uint32_t vicinity_check_listed(const uint8_t *text, size_t text_len, const uint6
 uint32_t vicinity_explain_listed(const uint8_t *text, size_t text_len, const uint64_t *uids,
                                  size_t count, struct vicinity_answer *answer,
                                  uint64_t *population, size_t room, size_t *needed);
+
+/* Judges and reports on a text with a list beside it: vicinity_report as vicinity_check_listed. */
+uint32_t vicinity_report_listed(const uint8_t *text, size_t text_len, const uint64_t *uids,
+                                size_t count, struct vicinity_answer *answer,
+                                struct vicinity_finding *findings, size_t room, size_t *needed);
 
 /*
  * Fills in the slots of the log that a text spells, as the tags that it lists would answer, and hands

@@ -6,7 +6,7 @@ use Rattle.vic_answer.specs.ExplainText.{IsExplained, answer_of, uids_of}
 use Rattle.vic_answer.specs.Numbers.{numbers_of}
 
 -- a list stands at the front of a room, which is as it was behind it; a room too small is as it was
-pub record IsPutInto (list room room' : List ℕ) : Type 0 where
+pub record IsPutInto {T : Type 0} (list room room' : List T) : Type 0 where
   pub fits : length list ≤ length room → room' ≡ list ++ drop (length list) room
   pub too_small : length room < length list → room' ≡ room
 

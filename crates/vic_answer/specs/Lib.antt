@@ -14,3 +14,4 @@ pub mod ReportText
 pub mod FaultNumbers
 pub mod Numbers
 pub mod ExplainedNumbers
+pub mod FindingNumbers

@@ -5,6 +5,7 @@
 mod check;
 mod explain;
 mod fault_numbers;
+mod finding_numbers;
 mod frame;
 mod input;
 pub mod laws;
@@ -23,6 +24,7 @@ mod text;
 pub use check::{Answer, answer_line, answer_status, judge_text, run_check};
 pub use explain::{Explained, answer_of, explain_text, run_explain};
 pub use fault_numbers::{fault_number, frame_fault_number};
+pub use finding_numbers::{FindingKind, VicinityFinding, findings_of, put_findings};
 pub use frame::run_frame;
 pub use lines::LINE_ROOM;
 pub use numbers::{Kind, NO_ANSWER, VicinityAnswer, numbers_of};

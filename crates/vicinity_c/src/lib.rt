@@ -12,6 +12,7 @@ mod frames;
 mod inventory;
 mod lines;
 mod names;
+mod report;
 mod simulated;
 
 use crate::lines::with_listed;

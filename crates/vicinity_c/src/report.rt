@@ -1,0 +1,89 @@
+//! All that the log of a text tells against its list, in numbers.
+
+ghost use Rattle.std.specs.Prelude.{◌≡◌, ◌≢◌, ◌++◌};
+ghost use Rattle.vic_log.specs.Writing.{listed_text};
+ghost use Rattle.vic_answer.specs.CheckText.{IsCompleteText};
+ghost use Rattle.vic_answer.specs.FindingNumbers.{AreReportedNumbersFor};
+ghost use Rattle.vic_answer.specs.Numbers.{AreNumbersFor, no_answer};
+
+use crate::lines::with_listed;
+use std::alloc::Global;
+use vic_answer::{
+    NO_ANSWER, VicinityAnswer, VicinityFinding, findings_of, numbers_of, put_findings, report_text,
+    reported_answer,
+};
+
+/// Judges the log that a text spells, as `vicinity_check`, and hands over all that the log tells
+/// against its list: the lines that `vicinity report` writes, as findings in the same order.
+/// `needed` is how many they are; there is none where the answer is complete or a refusal. Where
+/// the room for them has so many places, they stand at its front; else it is as it was, and the
+/// same call with `needed` places gives them.
+#[unsafe(no_mangle)]
+pub extern "C" fn vicinity_report(
+    alloc: Global,
+    text: &[u8],
+    answer: &mut VicinityAnswer,
+    findings: &mut [VicinityFinding],
+    needed: &mut usize,
+) -> u32
+    ensures answer { answer.new.kind ≢ 0 → AreNumbersFor text.now answer.new }
+    ensures whole { answer.new.kind ≡ 1 → IsCompleteText text.now answer.new.count }
+    ensures reported { answer.new.kind ≢ 0
+        → AreReportedNumbersFor text.now answer.new needed.new findings.old findings.new }
+    ensures no_answer { answer.new.kind ≡ 0 → answer.new ≡ no_answer }
+    ensures no_findings { answer.new.kind ≡ 0
+        → (needed.new ≡ 0) × (findings.new ≡ findings.old) }
+    ensures status { result ≡ answer.new.status }
+{
+    let Ok(reported) = report_text(alloc, text) else {
+        return refuse(answer, needed);
+    };
+    let Ok(list) = findings_of(alloc, &reported) else {
+        return refuse(answer, needed);
+    };
+    put_findings(list.as_slice(), findings);
+    *needed = list.len();
+    let numbers = numbers_of(&reported_answer(&reported));
+    *answer = numbers;
+    numbers.status
+}
+
+/// Judges and reports on the log of a text with a list of UIDs after it, as `vicinity_check_listed`
+/// and `vicinity_report` do.
+#[unsafe(no_mangle)]
+pub extern "C" fn vicinity_report_listed(
+    alloc: Global,
+    text: &[u8],
+    uids: &[u64],
+    answer: &mut VicinityAnswer,
+    findings: &mut [VicinityFinding],
+    needed: &mut usize,
+) -> u32
+    ensures answer { answer.new.kind ≢ 0
+        → AreNumbersFor (text.now ++ listed_text uids.now) answer.new }
+    ensures whole { answer.new.kind ≡ 1
+        → IsCompleteText (text.now ++ listed_text uids.now) answer.new.count }
+    ensures reported { answer.new.kind ≢ 0
+        → AreReportedNumbersFor (text.now ++ listed_text uids.now) answer.new needed.new
+        findings.old findings.new }
+    ensures no_answer { answer.new.kind ≡ 0 → answer.new ≡ no_answer }
+    ensures no_findings { answer.new.kind ≡ 0
+        → (needed.new ≡ 0) × (findings.new ≡ findings.old) }
+    ensures status { result ≡ answer.new.status }
+{
+    match with_listed(alloc, text, uids) {
+        Ok(whole) => vicinity_report(alloc, whole.as_slice(), answer, findings, needed),
+        Err(_) => refuse(answer, needed),
+    }
+}
+
+/// Gives no answer and no findings: memory was refused.
+fn refuse(answer: &mut VicinityAnswer, needed: &mut usize) -> u32
+    ensures answer { answer.new ≡ no_answer }
+    ensures needed { needed.new ≡ 0 }
+    ensures status { result ≡ no_answer.status }
+{
+    *answer = NO_ANSWER;
+    *needed = 0;
+    NO_ANSWER.status
+}
