@@ -27,10 +27,10 @@ SPELLED = [line.split() for line in (
     "request inventory link 2 slots 1 mask 8 A1", "request inventory link 2 slots 16 mask 4 01",
     "request inventory link 2 slots 1 mask 0 -", "request inventory link 2 slots 16 mask 60 0000000000000000",
     "request stay-quiet link 2 uid E0040100000000A1", "response flags 00 dsfid 00 uid E0040100000000A1")]
-PUT_IN = """request response inventory link slots mask uid 0 1 2 3 4 16 -1 +2 02 - 00 A1 a1 1F 61 64 65 256 4294967298 x
-    18446744073709551615 18446744073709551616 E0040100000000A1 D0040100000000A1 e0040100000000A1 0x01""".split() + ["", " 2", "2 "]
-NO_UTF8 = (b"\xff", b"a\x80", b"\xc0\xaf", b"\xc3", b"\xe0\x9f\xbf", b"\xed\xa0\x80", b"\xf0\x8f\xbf\xbf", b"\xf4\x90\x80\x80",
-           b"\xf8\x88\x80\x80\x80")
+PUT_IN = ["", " 2", "2 ", *"""request response inventory link slots mask uid 0 1 2 3 4 16 -1 +2 02 - 00 A1 a1 1F 61 64 65 x
+    256 4294967298 18446744073709551615 18446744073709551616 E0040100000000A1 D0040100000000A1 e0040100000000A1""".split()]
+NO_UTF8 = (b"\xff", b"a\x80", b"\xc0\xaf", b"\xc3", b"\xe0\x9f\xbf", b"\xed\xa0\x80", b"\xf0\x8f\xbf\xbf",
+           b"\xf4\x90\x80\x80", b"\xf8\x88\x80\x80\x80")
 UTF8 = b"\xc3\xa9", b"\xef\xbf\xbf", b"\xf0\x9f\x98\x80", b"\xf4\x8f\xbf\xbf"
 passed = failed = 0
 
@@ -69,9 +69,9 @@ class Pair:
                 count(case, *answers)
 
     def words(self):
-        operands = ([], [""], ["-"], ["-x"], ["--x"], ["--"], ["--", "-"], ["--", "-x"], ["--", "--"], ["x", "--"], ["x", "y"],
-                    ["--", "x", "--"], ["x", "-y"], ["--help"], ["-h"], ["x", "--help"], ["--", "--help"], ["26"], ["0" * 128],
-                    ["0" * 129])
+        operands = ([], [""], ["-"], ["-x"], ["--x"], ["--"], ["--", "-"], ["--", "-x"], ["--", "--"], ["x", "--"],
+                    ["x", "y"], ["--", "x", "--"], ["x", "-y"], ["--help"], ["-h"], ["x", "--help"], ["--", "--help"], ["26"],
+                    ["0" * 128], ["0" * 129])
         alone = [[], [""], ["--"], ["--", "check"], ["Check"], ["help"], ["--help"], ["-h"], ["--version"], ["-V"], ["-"]]
         commands = [*COMMANDS, "frame", "spell"]
         named = [[name] for name in (*NO_UTF8, *UTF8)]
@@ -108,8 +108,8 @@ class Pair:
 
     def longest(self):
         """Texts as long as a log can be, and longer."""
-        for text in (HEADER + LONG_LINE * 999_999, HEADER + LONG_LINE * 1_000_000, HEADER + LONG_LINE * 999_998 + b"#" + LONG_LINE,
-                     HEADER + b"#" * 140_000_000):
+        for text in (HEADER + LONG_LINE * 999_999, HEADER + LONG_LINE * 1_000_000,
+                     HEADER + LONG_LINE * 999_998 + b"#" + LONG_LINE, HEADER + b"#" * 140_000_000):
             self.ask("a long text", ["check"], text)
         self.ask("a long filled log", ["simulate"], HEADER + b"T 060100CD09\n" * 58_823 + b"U E0040100000000A1\n")
 
@@ -146,13 +146,15 @@ class Pair:
 def refused(other, refuse):
     """Refuses each growth of a run over each log in turn."""
     told = b"", b"vicinity: out of memory\n", 4
-    for words in [[command, log] for command in COMMANDS for log in LOGS] + [["frame", "260100F60A"], ["spell", *SPELLED[0]]]:
-        environment = {**os.environ, "LD_PRELOAD": refuse}
+    environment = {**os.environ, "LD_PRELOAD": refuse}
+    asked = [[command, log] for command in COMMANDS for log in LOGS]
+    for words in [*asked, ["frame", "260100F60A"], ["spell", *SPELLED[0]]]:
         said = run(other, words, env={**environment, "COUNTED": "1"})[1].split()
         growths = int(said[-2])
         count(("growths", words), growths > 0, True)
         for number in range(1, growths + 1):
-            count((f"growth {number} of {growths}", words), run(other, words, env={**environment, "REFUSED": str(number)}), told)
+            said = run(other, words, env={**environment, "REFUSED": str(number)})
+            count((f"growth {number} of {growths}", words), said, told)
 
 
 def main():
