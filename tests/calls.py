@@ -1,6 +1,7 @@
-"""Asks the library's calls on frames, lines and lists, and compares them with the program:  calls.py PROGRAM COUNT LOG..
+"""Asks the library's calls on frames, lines, lists and findings, and compares them with the program:
+calls.py PROGRAM COUNT LOG..
 
-Each fault is met by a row. COUNT random numbers are written and COUNT random frames read, and have to be what `spell` and
+Each fault, name and kind of finding is met by a row. COUNT random numbers are written and COUNT random frames read, and have to be what `spell` and
 `frame` make of them; COUNT lines and masks of slots have to be what is worked out here; and the logs, with their lists
 taken off and handed over beside them, in another order, too, are answered as the program answers the whole. Each struct
 holds other bytes before the call. The header and the library are of the version in VERSION. The last line is `N passed, M
@@ -33,6 +34,7 @@ REQUEST = struct("Request", ("fault", U32), ("link", U32), ("slots", U32), ("mas
 REPLIED = struct("Reply", ("fault", U32), ("flags", U16), ("dsfid", U16), ("uid", U64))
 MASKED = struct("Mask", ("fault", U32), ("len", U32), ("value", U64))
 LINE = struct("Line", ("fault", U32), ("len", U32), ("text", U8 * 132))
+FINDING = struct("Finding", *[(name, U32) for name in ("kind", "line", "mask_len", "zero")], ("mask_value", U64), ("uid", U64))
 NAME = struct("Name", ("len", U32), ("text", U8 * 28))
 ANSWER = struct("Answer", *[(name, U32) for name in ("kind", "status", "count", "line", "fault", "mask_len")],
                 ("mask_value", U64), ("uid", U64), ("text", U8 * 64))
@@ -174,6 +176,30 @@ def names():
             count(f"{what} {number}", call(what + "_name", NAME, U32(number)), in_room(b"", 28))
 
 
+def reports():
+    """Each kind of finding, in a room with one place more."""
+    asked, heard, silenced = b"vicinity-log 1\nT 260100F60A\n", b"R 0000A1000000000104E06745\n", b"T 2202A1000000000104E0662A\n"
+    two_uids = b"vicinity-log 1\nT 26013700000000000000641B\nS\n"
+    for text, uids, wanted in (
+            (asked + b"S\n", [], []),
+            (asked + b"S\n", [UID_B, UID_A], [(2, 3, 0, 0, 0, UID_A), (2, 3, 0, 0, 0, UID_B)]),
+            (asked + heard, [], [(3, 3, 0, 0, 0, UID_A)]),
+            (asked + b"C\n", [UID_A], [(4, 0, 1, 0, 0, 0), (8, 0, 0, 0, 0, 0), (5, 0, 0, 0, 0, UID_A)]),
+            (two_uids, [], [(4, 0, 1, 0, 1, 0), *[(8, 0, bits + 1, 0, 1 << bits, 0) for bits in range(16)], (9, 0, 0, 0, 0, 0)]),
+            (asked + heard + silenced + b"T 260100F60A\n" + heard, [], [(10, 6, 0, 0, 0, 0), (11, 4, 0, 0, 0, 0)]),
+            (asked + b"X\n", [], [])):
+        whole = text + b"".join(b"U %016X\n" % uid for uid in uids)
+        for call, given in ((LIBRARY.vicinity_report, bytes_of(whole)), (LIBRARY.vicinity_report_listed, (
+                *bytes_of(text), (U64 * len(uids))(*uids), SIZE(len(uids))))):
+            told, needed, places = ANSWER.from_buffer_copy(b"\x09" * ctypes.sizeof(ANSWER)), SIZE(9), len(wanted) + 1
+            room = (FINDING * places).from_buffer_copy(b"\x09" * places * ctypes.sizeof(FINDING))
+            status = call(*given, ctypes.byref(told), room, SIZE(places), ctypes.byref(needed))
+            found = [tuple(getattr(it, name) for name, _ in FINDING._fields_) for it in room[:-1]]
+            count(f"findings of {whole}", (found, needed.value), (wanted, len(wanted)))
+            count("the room after them", bytes(room[-1]), b"\x09" * ctypes.sizeof(FINDING))
+            count("its answer", (bytes(told.text).rstrip(b"\0"), status), run("check", given=whole))
+
+
 def written(chance):
     """Random numbers, and what `spell` makes of their words."""
     link, slots, bits = chance.randrange(5), chance.choice((1, 1, 16, 16, 2)), chance.randrange(67)
@@ -267,13 +293,14 @@ def versions():
 
 
 def main():
-    for name in ("check_listed", "explain_listed"):
+    for name in ("check_listed", "explain_listed", "report", "report_listed"):
         getattr(LIBRARY, "vicinity_" + name).restype = U32
     chance = random.Random(15693)
     versions()
     rows()
     faults()
     names()
+    reports()
     for _ in range(COUNT):
         written(chance)
         read(chance)

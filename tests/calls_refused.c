@@ -8,7 +8,7 @@
 #include <string.h>
 
 enum { PLACES = 64, UNWRITTEN = 7 };
-enum which { CHECK, EXPLAIN, CHECK_LISTED, EXPLAIN_LISTED, SIMULATE, CALLS };
+enum which { CHECK, EXPLAIN, REPORT, CHECK_LISTED, EXPLAIN_LISTED, REPORT_LISTED, SIMULATE, CALLS };
 
 static size_t growths, refused, held;
 
@@ -45,6 +45,7 @@ struct given {
     uint64_t status;
     size_t needed;
     uint64_t room[PLACES];
+    struct vicinity_finding findings[PLACES];
     uint8_t filled[ROOM];
 };
 
@@ -60,12 +61,19 @@ static void call(enum which which, const uint8_t *text, size_t len, size_t numbe
     case EXPLAIN:
         given->status = vicinity_explain(text, len, &given->answer, given->room, PLACES, &given->needed);
         break;
+    case REPORT:
+        given->status = vicinity_report(text, len, &given->answer, given->findings, PLACES, &given->needed);
+        break;
     case CHECK_LISTED:
         given->status = vicinity_check_listed(text, len, uids, 2, &given->answer);
         break;
     case EXPLAIN_LISTED:
         given->status =
             vicinity_explain_listed(text, len, uids, 2, &given->answer, given->room, PLACES, &given->needed);
+        break;
+    case REPORT_LISTED:
+        given->status =
+            vicinity_report_listed(text, len, uids, 2, &given->answer, given->findings, PLACES, &given->needed);
         break;
     case SIMULATE:
         given->status = vicinity_simulate(text, len, given->filled, ROOM, &given->needed);

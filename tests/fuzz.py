@@ -7,6 +7,7 @@ import subprocess
 import sys
 
 import vicinity
+from vicinity._native import AnswerStruct, FindingStruct, library
 
 LINES = [
     b"T 260100F60A", b"T 060100CD09", b"T 2202A1000000000104E0662A", b"R 0000A1000000000104E06745",
@@ -83,6 +84,22 @@ def explained(text):
     return written, answer.status
 
 
+def reported(text):
+    """What the program would write of the library's report, by rooms as above."""
+    found = vicinity.report(text)
+    size, count = ctypes.sizeof(FindingStruct), len(found.findings)
+    whole = None
+    for places in (count, 0, max(count - 1, 0), count + 3):
+        told, room, needed = AnswerStruct(), (FindingStruct * places)(), ctypes.c_size_t()
+        ctypes.memset(room, 7, places * size)
+        library().vicinity_report(text, len(text), ctypes.byref(told), room, places, ctypes.byref(needed))
+        whole = bytes(room) if whole is None else whole
+        wanted = (whole if count <= places else b"").ljust(places * size, b"\7")
+        if (needed.value, bytes(room)) != (count, wanted):
+            sys.exit(f"differ by room {places}: {text!r}: {found}; {bytes(room)}")
+    return f"{found}\n", found.answer.status
+
+
 def simulated(text):
     """What the program would write of the text with its slots filled in, by rooms as above."""
     status, written = vicinity.simulate(text)
@@ -111,10 +128,12 @@ def main(program, number, logs):
     for text in texts:
         answer = vicinity.check(text)
         seen[answer.kind.word] += 1
-        if list_taken_off(text)[1] and vicinity.check_listed(*list_taken_off(text)) != answer:
+        listed = list_taken_off(text)
+        if listed[1] and (vicinity.check_listed(*listed), vicinity.explain_listed(*listed), vicinity.report_listed(*listed)) \
+                != (answer, vicinity.explain(text), vicinity.report(text)):
             sys.exit(f"differ with the list beside it: {text!r}: {answer}")
         for command, given in (("check", (f"{answer}\n", answer.status)), ("explain", explained(text)),
-                               ("simulate", simulated(text))):
+                               ("report", reported(text)), ("simulate", simulated(text))):
             wanted = run(program, command, text)
             if given != wanted:
                 sys.exit(f"differ in {command}: {text!r}: {wanted}; {given}")

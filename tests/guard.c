@@ -44,6 +44,27 @@ static int explains(const uint8_t *text, size_t len, const struct vicinity_answe
     return 1;
 }
 
+/* Whether a report gives this answer, and a room that it fits its findings, and no other. */
+static int reports(const uint8_t *text, size_t len, const struct vicinity_answer *answer, uint8_t *end)
+{
+    struct vicinity_answer reported;
+    size_t needed, again;
+    vicinity_report(text, len, &reported, (struct vicinity_finding *)end, 0, &needed);
+    if (memcmp(&reported, answer, sizeof reported) || needed >= ROOM / sizeof(struct vicinity_finding))
+        return 0;
+    for (size_t places = needed ? needed - 1 : 0; places <= needed; places++) {
+        struct vicinity_finding *first = (struct vicinity_finding *)end - needed;
+        memset(first - 1, UNWRITTEN, (needed + 1) * sizeof *first);
+        vicinity_report(text, len, &reported, (struct vicinity_finding *)end - places, places, &again);
+        if (memcmp(&reported, answer, sizeof reported) || again != needed || first[-1].zero == 0)
+            return 0;
+        for (size_t i = 0; i < needed; i++)
+            if ((first[i].zero == 0) != (places == needed))
+                return 0;
+    }
+    return 1;
+}
+
 /* Whether a list beside the text is answered, checked as explained. It is `count` UIDs before the end of memory. */
 static int judges_listed(const uint8_t *text, size_t len, uint64_t *end, size_t count)
 {
@@ -110,7 +131,8 @@ int main(int argc, char **argv)
             struct vicinity_answer answer;
             memcpy(text_end - part, text, part);
             vicinity_check(text_end - part, part, &answer);
-            if (!is_answer(&answer) || !simulates(text_end - part, part, room_end))
+            if (!is_answer(&answer) || !simulates(text_end - part, part, room_end) ||
+                !reports(text_end - part, part, &answer, room_end))
                 return 1;
             for (size_t places = 0; places <= PLACES; places++)
                 if (!explains(text_end - part, part, &answer, (uint64_t *)room_end, places) ||

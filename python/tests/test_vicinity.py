@@ -119,6 +119,29 @@ class Calls(unittest.TestCase):
             with self.assertRaises(OverflowError):
                 vicinity.check_listed(heard, [wrong])
 
+    def test_report(self):
+        for lines, text in (
+                (ALL + b"S\n", "complete 0"), (b"X\n", "refused at line 2: UnknownEntry"), (b"", "unsettled 0 -\nopen 0 -"),
+                (ALL + b"S\n" + LIST_A + LIST_B, "absent E0040100000000A1\nby line 3\nabsent E0040100000000B2\nby line 3"),
+                (ALL + HEARD_A, "unlisted E0040100000000A1\nby line 3"),
+                (ALL + b"C\n" + LIST_A, "unsettled 1 00\nopen 0 -\ndoubtful E0040100000000A1"),
+                (ALL + HEARD_A + SILENCE_A + ALL + HEARD_A, "impossible at line 6\nby line 6\nsilenced by line 4")):
+            report = vicinity.report(log(lines))
+            self.assertEqual(str(report), text)
+            self.assertEqual(report.answer, vicinity.check(log(lines)))
+        found = vicinity.report_listed(log(ALL + b"C\n"), [A])
+        self.assertEqual(found, vicinity.report(log(ALL + b"C\n" + LIST_A)))
+        self.assertEqual(found.findings[2], (vicinity.FindingKind.DOUBTFUL, 0, 0, 0, A))
+
+    def test_a_report_larger_than_the_first_room(self):
+        uids = [0xE0 << 56 | it for it in range(100)]
+        report = vicinity.report_listed(log(ALL + b"S\n"), uids)
+        self.assertEqual(report.findings, [(vicinity.FindingKind.ABSENT, 3, 0, 0, uid) for uid in uids])
+
+    def test_more_open_masks(self):
+        report = vicinity.report(log(b"T 26013700000000000000641B\nS\n"))
+        self.assertEqual(str(report).split("\n")[-2:], ["open 16 8000", "more open"])
+
     def test_simulate(self):
         for lines, status, text in (
                 (ALL + LIST_A, 0, log(ALL + HEARD_A + LIST_A)),
@@ -186,10 +209,12 @@ class Calls(unittest.TestCase):
     def test_numbers_are_those_of_the_header(self):
         with open(os.path.join(TOP, "include/vicinity.h")) as file:
             header = file.read()
-        kinds = {name: int(it) for name, it in re.findall(r"VICINITY_([A-Z_]+) = (\d),? /\*", header)}
+        kinds = {name: int(it) for name, it in re.findall(r"VICINITY_(?!FINDING_)([A-Z_]+) = (\d),? /\*", header)}
         faults = {name: int(it) for name, it in re.findall(r"VICINITY_FAULT_(\w+) = (\d+)", header)}
         self.assertEqual(kinds, {"NO_ANSWER": 0, **{it.name: it.value for it in Kind}})
         self.assertEqual(faults, {it.name: it.value for it in Fault})
+        found = {name: int(it) for name, it in re.findall(r"VICINITY_FINDING_(\w+) = (\d+)", header)}
+        self.assertEqual(found, {it.name: it.value for it in vicinity.FindingKind})
 
     def test_the_version_is_the_one_of_the_project(self):
         with open(os.path.join(TOP, "VERSION")) as file:

@@ -10,11 +10,12 @@ libvicinity.so.1: nothing is judged in Python. It is loaded at the first call; L
 
 `python3 -m vicinity FILE ..` answers for many files in one process.
 """
-from ._answers import Answer, Explanation, Fault, Kind, Simulation
-from ._calls import check, check_listed, explain, explain_into, explain_listed, simulate, simulate_into
+from ._answers import Answer, Explanation, Fault, Finding, FindingKind, Kind, Report, Simulation
+from ._calls import (check, check_listed, explain, explain_into, explain_listed, report, report_listed, simulate,
+                     simulate_into)
 from .frames import FrameFault, Mask, Reply, Request, read_request, read_response, slot_mask
 
-__all__ = ["Answer", "Explanation", "Fault", "FrameFault", "Kind", "Mask", "Reply", "Request", "Simulation", "check",
-           "check_listed", "explain", "explain_into", "explain_listed", "read_request", "read_response", "simulate",
-           "simulate_into", "slot_mask"]
+__all__ = ["Answer", "Explanation", "Fault", "Finding", "FindingKind", "FrameFault", "Kind", "Mask", "Reply", "Report",
+           "Request", "Simulation", "check", "check_listed", "explain", "explain_into", "explain_listed", "read_request",
+           "read_response", "report", "report_listed", "simulate", "simulate_into", "slot_mask"]
 __version__ = "1.0.0"

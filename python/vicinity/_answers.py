@@ -101,6 +101,61 @@ class Explanation(NamedTuple):
     there are none to show (COMPLETE, IMPOSSIBLE, REFUSED), and if an empty field shows the answer."""
 
 
+class FindingKind(enum.IntEnum):
+    """What a finding is. The first four have the numbers that they have as answers."""
+
+    ABSENT = 2
+    UNLISTED = 3
+    UNSETTLED = 4
+    DOUBTFUL = 5
+    OPEN_MASK = 8
+    MORE_OPEN_MASKS = 9
+    CONFLICT_LINE = 10
+    SILENCED_BY = 11
+
+
+class Finding(NamedTuple):
+    """One of the things that a log tells against its list. A number of which the kind doesn't speak is 0."""
+
+    kind: FindingKind
+    line: int
+    """The line that shows it (ABSENT, UNLISTED), that is one of a conflict, or that silenced a tag."""
+    mask_len: int
+    """How many low bits the mask has, if the kind is UNSETTLED or OPEN_MASK."""
+    mask_value: int
+    """The value of these bits."""
+    uid: int
+    """The UID, if the kind is ABSENT, UNLISTED or DOUBTFUL."""
+
+    def __str__(self) -> str:
+        """The line that `vicinity report` writes, without its LF, and the one of the line that shows it."""
+        size = 2 * ((self.mask_len + 7) // 8)
+        mask = f"{self.mask_len} {self.mask_value:0{size}X}" if size else "0 -"
+        return {
+            FindingKind.ABSENT: f"absent {self.uid:016X}\nby line {self.line}",
+            FindingKind.UNLISTED: f"unlisted {self.uid:016X}\nby line {self.line}",
+            FindingKind.UNSETTLED: f"unsettled {mask}",
+            FindingKind.DOUBTFUL: f"doubtful {self.uid:016X}",
+            FindingKind.OPEN_MASK: f"open {mask}",
+            FindingKind.MORE_OPEN_MASKS: "more open",
+            FindingKind.CONFLICT_LINE: f"by line {self.line}",
+            FindingKind.SILENCED_BY: f"silenced by line {self.line}",
+        }[self.kind]
+
+
+class Report(NamedTuple):
+    """The answer to a text, and all that its log tells against its list."""
+
+    answer: Answer
+    findings: list[Finding]
+    """In the order of the lines of `vicinity report`; none of COMPLETE and REFUSED."""
+
+    def __str__(self) -> str:
+        """What `vicinity report` writes, without its last LF."""
+        first = [] if self.answer.status == 1 else [self.answer.text]
+        return "\n".join([*first, *map(str, self.findings)])
+
+
 class Simulation(NamedTuple):
     """What `vicinity simulate` writes for a text, and its status."""
 

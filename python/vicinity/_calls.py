@@ -5,8 +5,8 @@ import ctypes
 from array import array
 from typing import TYPE_CHECKING, Any, Callable, Iterable, Union
 
-from ._answers import Answer, Explanation, Fault, Kind, Simulation
-from ._native import AnswerStruct, library
+from ._answers import Answer, Explanation, Fault, Finding, FindingKind, Kind, Report, Simulation
+from ._native import AnswerStruct, FindingStruct, library
 
 if TYPE_CHECKING:
     import mmap
@@ -60,21 +60,31 @@ def explain_into(text: BytesLike, room: ctypes.Array[ctypes.c_uint64]) -> tuple[
     return _answer(told), needed.value
 
 
-def _explained(call: Callable[..., int], *given: Any) -> Explanation:
-    """What a call that explains gives, with as much room as it needs."""
+def _in_room(place: Any, call: Callable[..., int], *given: Any) -> tuple[Answer, list[Any]]:
+    """What a call gives that fills a room, with as much room as it needs."""
     places = FIRST_ROOM
     while True:
-        told, room, needed = AnswerStruct(), (ctypes.c_uint64 * places)(), ctypes.c_size_t()
+        told, room, needed = AnswerStruct(), (place * places)(), ctypes.c_size_t()
         call(*given, ctypes.byref(told), room, places, ctypes.byref(needed))
         if needed.value <= places:
-            return Explanation(_answer(told), list(room[:needed.value]))
+            return _answer(told), room[:needed.value]
         places = needed.value
+
+
+def _report(answer: Answer, found: list[FindingStruct]) -> Report:
+    return Report(answer, [Finding(FindingKind(it.kind), it.line, it.mask_len, it.mask_value, it.uid) for it in found])
 
 
 def explain(text: BytesLike) -> Explanation:
     """The answer to a text, and the UIDs of tags that show it. Raises what `check` raises."""
     text = _bytes(text)
-    return _explained(library().vicinity_explain, text, len(text))
+    return Explanation(*_in_room(ctypes.c_uint64, library().vicinity_explain, text, len(text)))
+
+
+def report(text: BytesLike) -> Report:
+    """The answer to a text, and all that its log tells against its list. Raises what `check` raises."""
+    text = _bytes(text)
+    return _report(*_in_room(FindingStruct, library().vicinity_report, text, len(text)))
 
 
 def check_listed(text: BytesLike, uids: Iterable[int]) -> Answer:
@@ -90,7 +100,13 @@ def check_listed(text: BytesLike, uids: Iterable[int]) -> Answer:
 def explain_listed(text: BytesLike, uids: Iterable[int]) -> Explanation:
     """The answer of `check_listed`, and the UIDs of tags that show it. Raises what `check_listed` raises."""
     text, listed = _bytes(text), _numbers(uids)
-    return _explained(library().vicinity_explain_listed, text, len(text), listed, len(listed))
+    return Explanation(*_in_room(ctypes.c_uint64, library().vicinity_explain_listed, text, len(text), listed, len(listed)))
+
+
+def report_listed(text: BytesLike, uids: Iterable[int]) -> Report:
+    """The answer of `check_listed`, and all that the log tells against the list. Raises what `check_listed` raises."""
+    text, listed = _bytes(text), _numbers(uids)
+    return _report(*_in_room(FindingStruct, library().vicinity_report_listed, text, len(text), listed, len(listed)))
 
 
 def simulate_into(text: BytesLike, room: ctypes.Array[ctypes.c_uint8]) -> tuple[int, int]:

@@ -25,6 +25,19 @@ class AnswerStruct(ctypes.Structure):
     ]
 
 
+class FindingStruct(ctypes.Structure):
+    """struct vicinity_finding of vicinity.h."""
+
+    _fields_ = [
+        ("kind", ctypes.c_uint32),
+        ("line", ctypes.c_uint32),
+        ("mask_len", ctypes.c_uint32),
+        ("zero", ctypes.c_uint32),
+        ("mask_value", ctypes.c_uint64),
+        ("uid", ctypes.c_uint64),
+    ]
+
+
 class RequestStruct(ctypes.Structure):
     """struct vicinity_request of vicinity.h."""
 
@@ -66,13 +79,16 @@ TEXT = [ctypes.c_char_p, SIZE]  # bytes, whose address C gets: never None, and r
 UIDS = [ctypes.POINTER(ctypes.c_uint64), SIZE]
 ANSWER = [ctypes.POINTER(AnswerStruct)]
 POPULATION = [*UIDS, ctypes.POINTER(SIZE)]
+FINDINGS = [ctypes.POINTER(FindingStruct), SIZE, ctypes.POINTER(SIZE)]
 NUMBER, VALUE = ctypes.c_uint32, ctypes.c_uint64
 
 CALLS = {
     "check": [*TEXT, *ANSWER],
     "explain": [*TEXT, *ANSWER, *POPULATION],
+    "report": [*TEXT, *ANSWER, *FINDINGS],
     "check_listed": [*TEXT, *UIDS, *ANSWER],
     "explain_listed": [*TEXT, *UIDS, *ANSWER, *POPULATION],
+    "report_listed": [*TEXT, *UIDS, *ANSWER, *FINDINGS],
     "simulate": [*TEXT, ctypes.POINTER(ctypes.c_uint8), SIZE, ctypes.POINTER(SIZE)],
     "kind_name": [NUMBER, ctypes.POINTER(NameStruct)],
     "fault_name": [NUMBER, ctypes.POINTER(NameStruct)],
