@@ -11,8 +11,9 @@
  * - `uids` points to `count` numbers that may be read. It is aligned and not NULL, also if `count`
  *   is 0.
  * - A pointer to a struct points to one that may be written. It is aligned and is not NULL.
- * - `population` points to `room` numbers that may be written, `findings` to `room` structs, `filled`
- *   to `room` bytes, `needed` to one number. They are aligned, and not NULL, also if `room` is 0.
+ * - `population` points to `room` numbers that may be written, `findings` to `room` structs,
+ *   `filled` to `room` bytes, `needed` to one number. They are aligned, and not NULL, also if
+ *   `room` is 0.
  * - What is written overlaps nothing else that is handed over.
  * - Nobody changes what is read or touches what is written while the call runs.
  * - malloc, realloc and free are of one allocator, which aligns to 16 bytes.
@@ -20,9 +21,9 @@
  * - A processor of x86-64 has x86-64-v2 (SSE4.2, POPCNT).
  * - The stack has 64 KiB left.
  * Calls share nothing: any number of threads may call at the same time. The calls that judge a text
- * or fill in its slots take memory, and no other call does. They can't be stopped, and take about half a second and
- * 100 MB for a session of 1,000,000 lines, more for some logs: bound the length of a text from a
- * stranger.
+ * or fill in its slots take memory, and no other call does. They can't be stopped, and take about
+ * half a second and 100 MB for a session of 1,000,000 lines, more for some logs: bound the length
+ * of a text from a stranger.
  */
 #ifndef VICINITY_H
 #define VICINITY_H
@@ -248,12 +249,12 @@ uint32_t vicinity_report_listed(const uint8_t *text, size_t text_len, const uint
                                 struct vicinity_finding *findings, size_t room, size_t *needed);
 
 /*
- * Fills in the slots of the log that a text spells, as the tags that it lists would answer, and hands
- * over what `vicinity simulate` writes: the text of the filled log, or the one line of a refusal.
- * `*needed` is how many bytes it has. Where `room` is at least that, they stand at the front of
- * `filled`, with no NUL after them; else nothing is written there, and the call again with room for
- * `*needed` gives them. Returns the status: 0 of a log, 3 of a refusal; or 4 where memory was
- * refused, and `*needed` is 0.
+ * Fills in the slots of the log that a text spells, as the tags that it lists would answer, and
+ * hands over what `vicinity simulate` writes: the text of the filled log, or the one line of a
+ * refusal. `*needed` is how many bytes it has. Where `room` is at least that, they stand at the
+ * front of `filled`, with no NUL after them; else nothing is written there, and the call again with
+ * room for `*needed` gives them. Returns the status: 0 of a log, 3 of a refusal; or 4 where memory
+ * was refused, and `*needed` is 0.
  */
 uint32_t vicinity_simulate(const uint8_t *text, size_t text_len, uint8_t *filled, size_t room,
                            size_t *needed);
