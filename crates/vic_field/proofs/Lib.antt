@@ -1,8 +1,7 @@
 pub mod Keys
 pub mod TagLaws
-pub mod Blocks
-pub mod Growing
-pub mod TreeLaws
+pub mod RowLaws
+pub mod FieldRows
 pub mod Numbering
 pub mod Outcomes
 pub mod Rounds

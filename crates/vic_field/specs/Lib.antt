@@ -1,5 +1,5 @@
 pub mod Tags
 pub mod Keys
-pub mod Trees
+pub mod Rows
 pub mod Simulation
 pub mod Steps

@@ -13,8 +13,7 @@ ghost use Rattle.vic_frame.specs.Uids.{has};
 use crate::grow::grow;
 use crate::hear::hear_mask;
 use crate::outcome::Outcome;
-use crate::put::put;
-use crate::tree::{self, Node};
+use crate::row::{self, Row};
 use std::alloc::{AllocError, Global};
 use std::marker::Model;
 use vic_frame::{Mask, Request, Uid, low_bits_first};
@@ -42,20 +41,19 @@ impl From<AllocError> for AddFault {
 #[derive(Drop)]
 pub struct Field {
     /// The tags, in the order of the low bits of UIDs.
-    root: Node,
-    alloc: Global,
+    row: Row,
 }
 
 impl Model for Field {
     ghost use Rattle.std.specs.Prelude.{ℕ, List, Bool};
     ghost use Rattle.vic_field.specs.Keys.{tags_of};
-    ghost use Rattle.vic_field.specs.Trees.{entries, HasKeys, IsTree};
+    ghost use Rattle.vic_field.specs.Rows.{entries, IsRow};
 
     ghost Value = { List (ℕ × Bool) };
 
-    ghost view = { λ a. tags_of (entries a.root) };
+    ghost view = { λ a. tags_of (entries a.row) };
 
-    ghost invariant = { λ a. IsTree a.root × HasKeys a.root };
+    ghost invariant = { λ a. IsRow a.row };
 }
 
 impl Field {
@@ -64,8 +62,12 @@ impl Field {
         ensures { result ≡ [] }
     {
         Field {
-            root: Node::Empty,
-            alloc,
+            row: Row {
+                tags: Vec::new(alloc),
+                blocks: Vec::new(alloc),
+                groups: Vec::new(alloc),
+                stretch: 1,
+            },
         }
     }
 
@@ -75,11 +77,13 @@ impl Field {
         requires keys { All IsKey keys.now }
         ensures { IfOk result (HasAdded (has (uids_at keys.now)) []) }
     {
-        let root = grow(alloc, keys)?;
-        Ok(Field { root, alloc })
+        Ok(Field {
+            row: grow(alloc, keys)?,
+        })
     }
 
-    /// Adds a tag to the field, which is Ready then. Refused where a tag with this UID is there.
+    /// Adds a tag to the field, which is Ready then. Refused where a tag with this UID is there. Takes
+    /// as long as there are tags.
     pub fn add(&mut self, uid: Uid) -> Result<(), AddFault>
         ensures answer { MatchResult result
             (λ _. has (uids self.old) uid ≡ false)
@@ -90,17 +94,7 @@ impl Field {
         if self.holds(uid) {
             return Err(AddFault::Already);
         }
-        self.put(low_bits_first::key(uid))?;
-        Ok(())
-    }
-
-    /// Puts the tag with this key into the field. It is Ready then, also where it was there.
-    fn put(&mut self, key: u64) -> Result<(), AllocError>
-        requires { IsKey key }
-        ensures added { OnOk result (HasAdded (λ u. u == uid_of key) self.old self.new) }
-        ensures unchanged { OnErr result (self.new ≡ self.old) }
-    {
-        put(&mut self.root, self.alloc, key)?;
+        row::put(&mut self.row, low_bits_first::key(uid))?;
         Ok(())
     }
 
@@ -108,7 +102,7 @@ impl Field {
     fn holds(&self, uid: Uid) -> bool
         ensures { result ≡ has (uids self.now) uid }
     {
-        tree::holds(&self.root, low_bits_first::key(uid))
+        row::holds(&self.row, low_bits_first::key(uid))
     }
 
     /// What the tags do when a request is sent: a Stay Quiet makes the tag with its UID Quiet,
@@ -127,7 +121,7 @@ impl Field {
     fn quiet(&mut self, uid: Uid)
         ensures { HasSilenced (λ u. u == uid) self.old self.new }
     {
-        tree::silence(&mut self.root, low_bits_first::key(uid));
+        row::silence(&mut self.row, low_bits_first::key(uid));
     }
 
     /// Makes every tag Ready, as a field that is switched off and on does. Takes no memory.
@@ -135,17 +129,16 @@ impl Field {
         ensures { (u : ℕ) → readiness self.new u
             ≡ option_map (λ _. true) (readiness self.old u) }
     {
-        tree::wake(&mut self.root);
+        row::wake(&mut self.row);
     }
 
     /// What a reader hears of the Ready tags in a mask. Takes no memory.
     ///
-    /// It goes down to two Ready tags at most, and passes over Quiet tags by what forks note of
-    /// them.
+    /// It looks for two Ready tags at most, and passes over Quiet tags by what is noted of them.
     pub fn answer(&self, mask: &Mask) -> Outcome
         ensures heard { result ≡ heard (ready_in mask.now self.now) }
         ensures population { IsPopulation (uids self.now) }
     {
-        hear_mask(&self.root, mask)
+        hear_mask(&self.row, mask)
     }
 }

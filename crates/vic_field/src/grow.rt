@@ -1,66 +1,57 @@
-//! A tree of tags, made of all their keys at once.
+//! A row of tags, made of all their keys at once.
 
-ghost use Rattle.std.specs.Prelude.{◌-◌, ◌<◌, ◌≤◌, length, slice_index, IfOk};
+ghost use Rattle.std.specs.Prelude.{◌≡◌, IfOk, true, false};
+ghost use Rattle.std.specs.List.{All};
 ghost use Rattle.std.specs.List.Sorted.{IsNonDecreasing};
-ghost use Rattle.vic_field.specs.Trees.{ArePartedAt, HasReadyTags, IsSome, IsTree, LiesWith};
+ghost use Rattle.vic_field.specs.Rows.{AreBelow, AreInOrder, AreNew, EndsFrom, HasKeys, IsRow};
+ghost use Rattle.vic_frame.specs.LowBitsFirst.{IsKey};
 
-use crate::tree::{Fork, Node, has_ready, middle_between};
+use crate::row::{BLOCK, GROUP, Row, Tag};
 use std::alloc::{AllocError, Global};
 
-/// A tree of the tags with these keys, all Ready.
-///
-/// A fork is made before what stands below it, the side `zero` before the side `one`, so that half
-/// of the steps down are to what stands next in memory.
-pub(crate) fn grow(alloc: Global, keys: &[u64]) -> Result<Node, AllocError>
-    requires { IsNonDecreasing keys.now }
-    ensures tree { IfOk result IsTree }
-    ensures some { 0 < length keys.now → IfOk result IsSome }
-    ensures within { IfOk result (LiesWith keys.now) }
-    ensures ready { IfOk result (HasReadyTags keys.now) }
+/// A row of the tags with these keys, all Ready.
+pub(crate) fn grow(alloc: Global, keys: &[u64]) -> Result<Row, AllocError>
+    requires order { IsNonDecreasing keys.now }
+    requires small { All IsKey keys.now }
+    ensures row { IfOk result IsRow }
+    ensures keys { IfOk result (λ row. HasKeys keys.now row.tags.items) }
+    ensures ready { IfOk result (λ row. AreNew row.tags.items) }
 {
-    if keys.is_empty() {
-        return Ok(Node::Empty);
-    }
-    let first = keys[0];
-    let last = keys[keys.len() - 1];
-    if first == last {
-        return Ok(Node::Tag {
-            key: first,
-            ready: true,
-        });
-    }
-    let middle = middle_between(first, last);
-    let (zero, one) = part_at(keys, middle);
-    let mut fork = Box::new(
-        alloc,
-        Fork {
-            middle,
-            zero: Node::Empty,
-            one: Node::Empty,
-        },
-    )?;
-    fork.zero = grow(alloc, zero)?;
-    fork.one = grow(alloc, one)?;
-    Ok(Node::Fork {
-        ready: has_ready(&fork, false),
-        woken: false,
-        fork,
+    let tags = new_tags(alloc, keys)?;
+    let blocks = vec![in alloc; 0; tags.len() / BLOCK + 1]?;
+    let groups = vec![in alloc; 0; tags.len() / GROUP + 1]?;
+    Ok(Row {
+        tags,
+        blocks,
+        groups,
+        stretch: 1,
     })
 }
 
-/// The keys below a middle, and the others: some on each side.
-fn part_at(keys: &[u64], middle: u64) -> (&[u64], &[u64])
-    requires order { IsNonDecreasing keys.now }
-    requires some { 0 < length keys.now }
-    requires low { slice_index keys.now 0 < middle }
-    requires high { middle ≤ slice_index keys.now (length keys.now - 1) }
-    ensures parted { ArePartedAt middle keys.now result.0.now result.1.now }
-    ensures order_below { IsNonDecreasing result.0.now }
-    ensures order_above { IsNonDecreasing result.1.now }
-    ensures some_below { 0 < length result.0.now }
-    ensures some_above { 0 < length result.1.now }
-    ensures fewer_below { length result.0.now < length keys.now }
-    ensures fewer_above { length result.1.now < length keys.now }
+/// The tags with these keys, none twice.
+fn new_tags(alloc: Global, keys: &[u64]) -> Result<Vec<Tag>, AllocError>
+    requires { IsNonDecreasing keys.now }
+    ensures order { IfOk result (λ tags. AreInOrder tags.items) }
+    ensures keys { IfOk result (λ tags. HasKeys keys.now tags.items) }
+    ensures ready { IfOk result (λ tags. AreNew tags.items) }
 {
-    keys.split_at(keys.partition_point(|key| *key < middle))
+    let mut tags: Vec<Tag> = Vec::with_capacity(alloc, keys.len())?;
+    for key in keys {
+        if is_above(&tags, *key) {
+            tags.push(Tag {
+                key: *key,
+                quiet: 0,
+            })?;
+        }
+    }
+    Ok(tags)
+}
+
+/// Whether a key is above those of all tags.
+fn is_above(tags: &[Tag], key: u64) -> bool
+    requires { AreInOrder tags.now }
+    ensures above { result ≡ true → AreBelow key tags.now }
+    ensures up_to { result ≡ false → EndsFrom key tags.now }
+{
+    tags.is_empty() || tags[tags.len() - 1].key < key
 }

@@ -6,9 +6,8 @@ mod grow;
 mod hear;
 mod outcome;
 mod populate;
-mod put;
+mod row;
 mod session;
-mod tree;
 
 pub use field::{AddFault, Field};
 pub use outcome::Outcome;

@@ -1,9 +1,9 @@
 use Rattle.std.proofs.Common.{ℕ, Bool, List, ◌∙◌, ap, subst}
 use Rattle.vic_log.specs.Populations.{IsPopulation}
 use Rattle.vic_field.specs.Tags.{uids, ready_in, heard}
-use Rattle.vic_field.specs.Trees.{entries}
+use Rattle.vic_field.specs.Rows.{entries}
 use Rattle.vic_field.proofs.Keys.{population_of}
-use Rattle.vic_field.proofs.TreeLaws.{are_keys}
+use Rattle.vic_field.proofs.RowLaws.{rising_entries, small_entries}
 use Rattle.vic_field.proofs.field.Field.answer.Goals as goal
 
 pub returns-clause-heard : goal.returns-clause-heard
@@ -11,5 +11,5 @@ returns-clause-heard c = c.hear_mask.ensures ∙ ap (λ (ts : List (ℕ × Bool)
 
 pub returns-clause-population : goal.returns-clause-population
 returns-clause-population c =
-    let keys = are_keys c.self.inside.root c.self.invariant.0 c.self.invariant.1 in
-    subst (λ (ts : List (ℕ × Bool)). IsPopulation (uids ts)) c.self.view_is (population_of (entries c.self.inside.root) keys.small keys.rising)
+    let row = c.self.inside.row in
+    subst (λ (ts : List (ℕ × Bool)). IsPopulation (uids ts)) c.self.view_is (population_of (entries row) (small_entries row c.self.invariant) (rising_entries row c.self.invariant))

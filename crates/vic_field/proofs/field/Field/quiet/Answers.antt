@@ -1,13 +1,15 @@
-use Rattle.std.proofs.Common.{ℕ, Bool, false, cond, List, Option, ◌∙◌, ◌-◌, ◌^◌, ◌==◌, ap}
+use Rattle.std.proofs.Common.{ℕ, Bool, false, cond, List, ◌∙◌, ◌==◌, ap}
 use Rattle.std.specs.Option.{option_map}
+use Rattle.vic_field.specs.Keys.{tags_of}
+use Rattle.vic_field.specs.Rows.{entries, without}
 use Rattle.vic_field.specs.Tags.{readiness}
-use Rattle.vic_field.proofs.TreeLaws.{changed}
+use Rattle.vic_field.proofs.FieldRows.{quiet_readiness}
+use Rattle.vic_field.proofs.RowLaws.{small_entries}
 use Rattle.vic_field.proofs.field.Field.quiet.Goals as goal
-
-pub invariant_of-self : goal.invariant_of-self
-invariant_of-self c = (c.silence.ensures.tree, c.silence.ensures.within 0 (2 ^ 56 - 1) c.self.invariant.1)
 
 pub returns : goal.returns
 returns c u h =
-    changed u c.args.uid c.key.result (λ (o : Option Bool). option_map (λ _. false) o) c.self.inside.root c.silence.new.node h c.key.ensures.is_uid c.self.invariant (invariant_of-self c) c.key.ensures.value c.silence.ensures.quiet
+    let es = entries c.self.inside.row in
+    ap (λ (xs : List (ℕ × Bool)). readiness (tags_of xs) u) (c.silence.ensures.quiet ∙ ap (λ k. without k es) c.key.ensures.value)
+    ∙ quiet_readiness u c.args.uid es c.key.ensures.is_uid (small_entries c.self.inside.row c.self.invariant)
     ∙ ap (λ (ts : List (ℕ × Bool)). cond (u == c.args.uid) (option_map (λ _. false) (readiness ts u)) (readiness ts u)) c.self.view_is
