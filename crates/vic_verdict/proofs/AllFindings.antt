@@ -247,6 +247,3 @@ shut_all es set us ys own is = all_from_has (λ u. is_open (slots_of es) u ≡ f
 
 pub kept_all : (P : ℕ → Type 0) (test : ℕ → Bool) (us ys : List ℕ) → ((u : ℕ) → has us u ≡ true → P u) → ys ≡ failing test us → (u : ℕ) → has ys u ≡ true → P u
 kept_all P test us ys all is u h = all u ((failing_has test us u).0 (ap (λ xs. has xs u) (sym is) ∙ h)).0
-
-pub rising_failing : (test : ℕ → Bool) (us ys : List ℕ) → IsStrictlyIncreasing us → ys ≡ failing test us → IsStrictlyIncreasing ys
-rising_failing test us ys rising is = subst IsStrictlyIncreasing (sym is) (IsStrictlyIncreasing-filter (λ u. not (test u)) us rising)

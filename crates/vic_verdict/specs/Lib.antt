@@ -18,5 +18,4 @@ pub mod Conflicts
 pub mod KeptLogs
 pub mod Findings
 pub mod FieldCursors
-pub mod Told
 pub mod Reports

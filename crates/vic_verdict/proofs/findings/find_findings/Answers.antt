@@ -9,7 +9,7 @@ use Rattle.vic_verdict.specs.Rising.{IsListOf}
 use Rattle.vic_verdict.specs.Unsettled.{AreOpenAndListed}
 use Rattle.vic_verdict.specs.Verdict.{IsAbsent, IsUnlisted}
 use Rattle.vic_verdict.proofs.Cases.{absent_iff, unlisted_iff, given_at}
-use Rattle.vic_verdict.proofs.AllFindings.{failing, failing_list, shut_all, kept_all, rising_failing, missing_iff}
+use Rattle.vic_verdict.proofs.AllFindings.{failing, failing_list, shut_all, kept_all, missing_iff}
 use Rattle.vic_verdict.proofs.findings.find_findings.Goals as goal
 
 pub lines_of_absent-requires-clause-shut : goal.lines_of_absent-requires-clause-shut
@@ -19,12 +19,6 @@ lines_of_absent-requires-clause-shut c =
     let us = c.in_ok-listed.listed.items in
     let own : AreOpenAndListed es set us = record { possible = c.requires.possible; uids_open = c.requires.open; uids_listed = c.in_ok-listed.ensures.members; are_uids = c.in_ok-listed.ensures.uids } in
     shut_all es set us c.deref-4.result.now own (c.deref-4.ensures.value ∙ (c.in_ok-absent.ensures set (λ u b p. search rules) ∙ ap (failing set) c.deref.ensures.value))
-
-pub lines_of_unlisted-requires-clause-rising : goal.lines_of_unlisted-requires-clause-rising
-lines_of_unlisted-requires-clause-rising c =
-    let us = c.in_ok-listed.listed.items in
-    rising_failing (has us) c.in_ok-certain.certain.items c.deref-5.result.now c.in_ok-certain.ensures.rising
-    (c.deref-5.ensures.value ∙ (c.in_ok-unlisted.ensures (has us) (λ u b p. search rules) ∙ ap (failing (has us)) c.deref-2.ensures.value))
 
 pub lines_of_unlisted-requires-clause-forced : goal.lines_of_unlisted-requires-clause-forced
 lines_of_unlisted-requires-clause-forced c =
