@@ -18,7 +18,7 @@ from concurrent.futures import ThreadPoolExecutor
 from fuzz import changed
 from lines import TOP
 
-COMMANDS = "check", "explain", "simulate"  # those over a text
+COMMANDS = "check", "explain", "report", "simulate"  # those over a text
 OUTCOMES = b"S", b"C", b"R", b"D"
 HEADER = b"vicinity-log 1\r\n"
 LONG_LINE = b"#" * 128 + b"\r\n"

@@ -1,12 +1,11 @@
 /* The commands of vicinity, in C over the calls of its library:
  *
- *     vicinity check|explain|simulate [FILE]
+ *     vicinity check|explain|report|simulate [FILE]
  *     vicinity frame HEX
  *     vicinity spell WORDS..
  *
  * A text is read to its end, one call judges it, and the answer is written. What logs and frames mean is known to the
- * library alone; here stand the words, the reading and the writing, in C99 over POSIX. The program's `report` isn't here,
- * since the library has no call for it yet. */
+ * library alone; here stand the words, the reading and the writing, in C99 over POSIX. */
 #define _POSIX_C_SOURCE 200112L
 #include "vicinity.h"
 
@@ -27,7 +26,7 @@ enum {
     PIECE = 1 << 16,
     MOST_BYTES = 1000000 * 130 + 1, /* in so many a line is too long, or one too many */
     LINE_ROOM = 256,
-    FIRST_ROOM = 1024, /* of a population */
+    FIRST_ROOM = 1024, /* of a population, of findings */
     MOST_DIGITS = 128, /* of a frame */
     MOST_LINK = 3,
     MOST_BITS = 64,
@@ -138,6 +137,71 @@ static uint32_t explain(const struct text *log, struct text *answered)
     return answer.status;
 }
 
+/* How many digits the value of a mask has. */
+static int mask_digits(uint64_t bits)
+{
+    return (int)(bits + 7) / 8 * 2;
+}
+
+static void put_mask(struct text *answered, const char *before, uint32_t bits, uint64_t value)
+{
+    if (bits)
+        put(answered, "%s %" PRIu32 " %0*" PRIX64 "\n", before, bits, mask_digits(bits), value);
+    else
+        put(answered, "%s 0 -\n", before);
+}
+
+static void put_finding(struct text *answered, const struct vicinity_finding *finding)
+{
+    switch (finding->kind) {
+    case VICINITY_FINDING_ABSENT:
+        put(answered, "absent %016" PRIX64 "\nby line %" PRIu32 "\n", finding->uid, finding->line);
+        break;
+    case VICINITY_FINDING_UNLISTED:
+        put(answered, "unlisted %016" PRIX64 "\nby line %" PRIu32 "\n", finding->uid, finding->line);
+        break;
+    case VICINITY_FINDING_UNSETTLED:
+        put_mask(answered, "unsettled", finding->mask_len, finding->mask_value);
+        break;
+    case VICINITY_FINDING_OPEN_MASK:
+        put_mask(answered, "open", finding->mask_len, finding->mask_value);
+        break;
+    case VICINITY_FINDING_MORE_OPEN_MASKS:
+        put(answered, "more open\n");
+        break;
+    case VICINITY_FINDING_DOUBTFUL:
+        put(answered, "doubtful %016" PRIX64 "\n", finding->uid);
+        break;
+    case VICINITY_FINDING_CONFLICT_LINE:
+        put(answered, "by line %" PRIu32 "\n", finding->line);
+        break;
+    case VICINITY_FINDING_SILENCED_BY:
+        put(answered, "silenced by line %" PRIu32 "\n", finding->line);
+        break;
+    }
+}
+
+static uint32_t report(const struct text *log, struct text *answered)
+{
+    struct vicinity_answer answer = {0};
+    struct vicinity_finding *findings = NULL;
+    size_t room = 0, needed = FIRST_ROOM;
+    while (room < needed) {
+        free(findings);
+        room = needed;
+        findings = malloc(room * sizeof *findings);
+        if (!findings)
+            return NO_ANSWER;
+        vicinity_report((const uint8_t *)log->bytes, log->len, &answer, findings, room, &needed);
+    }
+    if (answer.kind < VICINITY_ABSENT || answer.kind > VICINITY_DOUBTFUL) /* else the first finding says the same */
+        put(answered, "%s", answer.text);
+    for (size_t i = 0; i < needed; i++)
+        put_finding(answered, &findings[i]);
+    free(findings);
+    return answer.status;
+}
+
 static uint32_t simulate(const struct text *log, struct text *answered)
 {
     uint32_t status = WHOLE;
@@ -145,19 +209,14 @@ static uint32_t simulate(const struct text *log, struct text *answered)
     while (answered->room < needed) {
         if (!make_room(answered, needed))
             return NO_ANSWER;
-        status = vicinity_simulate((const uint8_t *)log->bytes, log->len, (uint8_t *)answered->bytes, answered->room, &needed);
+        status = vicinity_simulate((const uint8_t *)log->bytes, log->len, (uint8_t *)answered->bytes, answered->room,
+                                   &needed);
     }
     answered->len = needed;
     return status;
 }
 
 /* ---- frame */
-
-/* How many digits the value of a mask has. */
-static int mask_digits(uint64_t bits)
-{
-    return (int)(bits + 7) / 8 * 2;
-}
 
 static void put_request(struct text *answered, const struct vicinity_request *request)
 {
@@ -169,11 +228,7 @@ static void put_request(struct text *answered, const struct vicinity_request *re
         put(answered, "request stay-quiet link %" PRIu32 " uid %016" PRIX64 "\n", request->link, request->uid);
     } else {
         put(answered, "request inventory link %" PRIu32 " slots %" PRIu32, request->link, request->slots);
-        if (request->mask_len)
-            put(answered, " mask %" PRIu32 " %0*" PRIX64 "\n", request->mask_len, mask_digits(request->mask_len),
-                request->mask_value);
-        else
-            put(answered, " mask 0 -\n");
+        put_mask(answered, " mask", request->mask_len, request->mask_value);
     }
 }
 
@@ -386,6 +441,11 @@ static int run_spell(char **words, int count)
     return end(spell(words + ended, count - ended, &answered), &answered);
 }
 
+static const struct {
+    const char *name;
+    uint32_t (*judge)(const struct text *log, struct text *answered);
+} OVER_TEXTS[] = {{"check", check}, {"explain", explain}, {"report", report}, {"simulate", simulate}};
+
 static int run(const char *command, char **words, int count)
 {
     struct text answered = {0};
@@ -394,12 +454,9 @@ static int run(const char *command, char **words, int count)
         return run_spell(words, count);
     if (!find_operand(words, count, &operand))
         return no_answer("usage");
-    if (strcmp(command, "check") == 0)
-        return run_over(operand, check);
-    if (strcmp(command, "explain") == 0)
-        return run_over(operand, explain);
-    if (strcmp(command, "simulate") == 0)
-        return run_over(operand, simulate);
+    for (size_t i = 0; i < sizeof OVER_TEXTS / sizeof *OVER_TEXTS; i++)
+        if (strcmp(command, OVER_TEXTS[i].name) == 0)
+            return run_over(operand, OVER_TEXTS[i].judge);
     if (strcmp(command, "frame") == 0 && operand)
         return end(frame(operand, &answered), &answered);
     return no_answer("usage");
