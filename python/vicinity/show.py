@@ -1,9 +1,10 @@
 """A session drawn as text for a terminal: a row for each round, a place for each slot."""
 from __future__ import annotations
 
-from typing import Iterable, Iterator, Optional
+from typing import Iterator, Optional
 
 from .session import FieldCycle, Reading, Round, Row, Session, Slot, StayQuiet
+from .told import Told
 
 #: The signs of what was read, for terminals that write UTF-8, and for others.
 SIGNS = {
@@ -17,20 +18,27 @@ NAMED = "7"
 FIRST_ROWS = LAST_ROWS = 20
 ROWS_AROUND = 2
 MOST_ROWS = 120
+#: How many lines of a longer report are written.
+MOST_LINES = 60
 
 
-def show(session: Session, named: Iterable[int] = (), utf8: bool = True, colour: bool = False) -> Iterator[str]:
-    """The lines of a picture, 80 columns at most. The places whose lines are named have a `!` beside them."""
-    marked = frozenset(named)
+def show(session: Session, told: Told, utf8: bool = True, colour: bool = False) -> Iterator[str]:
+    """The lines of a picture, 80 columns at most, and of the report under it. The places whose lines are named have a `!`
+    beside them."""
+    marked, more = told.named, "⋮" if utf8 else ".."
     yield f"{'line':>7} {'asked':<20} " + "".join(f"{slot:X}".rjust(2) + " " for slot in range(16)).rstrip()
     drawn = 0
     for index in kept_rows(session.rows, marked):
         if index > drawn:
-            yield f"{'':>7} {'..' if not utf8 else '⋮'} {index - drawn} rows more"
+            yield f"{'':>7} {more} {index - drawn} rows more"
         drawn = index + 1
         yield _row(session.rows[index], marked, utf8, colour).rstrip()
     if session.listed:
         yield f"{session.listed[0][0]:>7} {len(session.listed)} listed"
+    lines = list(told.lines())
+    yield from lines[:MOST_LINES]
+    if len(lines) > MOST_LINES:
+        yield f"{more} {len(lines) - MOST_LINES} lines more"
 
 
 def kept_rows(rows: list[Row], marked: frozenset[int]) -> list[int]:

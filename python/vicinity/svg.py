@@ -4,7 +4,7 @@ from __future__ import annotations
 from html import escape
 from typing import Iterable, Iterator
 
-from .session import FieldCycle, Reading, Round, Row, Session, Slot, StayQuiet
+from .session import FieldCycle, Reading, Round, Row, Slot, StayQuiet
 from .show import digits_heard
 
 ROW = 24
@@ -12,6 +12,8 @@ CELL = 30
 LINE_END = 58
 MASK_START = 70
 CELLS_START = 232
+#: Where the words of a Stay Quiet end.
+QUIET_END = MASK_START + 216
 WIDTH = CELLS_START + 16 * CELL + 8
 #: Fill, ink and sign of what was read. The fills differ in lightness, so that they are told apart without hue.
 LOOKS = {
@@ -29,8 +31,9 @@ WORDS = {
 NAMED = "#c1121f"
 
 
-def draw(session: Session, rows: list[Row], named: Iterable[int] = (), title: str = "The rounds of the session") -> str:
-    """The picture of some rows of a session; the cells of named lines have a thick edge, and are joined by a line."""
+def draw(rows: list[Row], named: Iterable[int] = (), joined: Iterable[int] = (),
+         title: str = "The rounds of the session") -> str:
+    """The picture of some rows of a session. The cells of named lines have a thick edge; those of joined lines are joined."""
     marked = frozenset(named)
     height = ROW * (len(rows) + 1) + 8
     parts = [f'<svg xmlns="http://www.w3.org/2000/svg" viewBox="0 0 {WIDTH} {height}" role="img" '
@@ -39,7 +42,7 @@ def draw(session: Session, rows: list[Row], named: Iterable[int] = (), title: st
     parts += _heads()
     for index, row in enumerate(rows, 1):
         parts += _row(row, index * ROW, marked)
-    parts += _joined(rows, marked)
+    parts += _joined(rows, frozenset(joined))
     return "\n".join(parts + ["</svg>"]) + "\n"
 
 
@@ -85,15 +88,20 @@ def _cell(asked: Round, place: int, slot: Slot | None, x: int, y: int, named: bo
 
 
 def _joined(rows: list[Row], marked: frozenset[int]) -> Iterator[str]:
-    """A line through the named places, in the order of the log."""
-    points = []
+    """A line from each place to the next one, in the order of the log, that leaves the signs free."""
+    places: list[tuple[float, int]] = []
     for index, row in enumerate(rows, 1):
-        if isinstance(row, Round):
-            points += [(CELLS_START + (place + 0.5) * CELL, index * ROW + 12)
+        if isinstance(row, StayQuiet) and row.line in marked:
+            places.append((QUIET_END, index * ROW))
+        elif isinstance(row, Round):
+            places += [(CELLS_START + (place + 0.5) * CELL, index * ROW)
                        for place, slot in enumerate(row.slots) if slot.line in marked]
-    if len(points) > 1:
-        path = "L".join(f"{x:g} {y:g}" for x, y in points)
-        yield f'<path d="M{path}" fill="none" stroke="{NAMED}" stroke-width="1.5" stroke-dasharray="6 3"/>'
+    for (x, top), (next_x, next_top) in zip(places, places[1:]):
+        if top == next_top:
+            path = f"M{x + CELL / 2 - 1:g} {top + 12}H{next_x - CELL / 2 + 1:g}"
+        else:
+            path = f"M{x:g} {top + ROW - 2}L{next_x:g} {next_top + 2}"
+        yield f'<path d="{path}" fill="none" stroke="{NAMED}" stroke-width="2" stroke-dasharray="6 3"/>'
 
 
 def timeline(asked: Round, title: str = "One inventory round, in time") -> str:
