@@ -28,12 +28,12 @@ class Told:
     @cached_property
     def conflict(self) -> list[int]:
         """The lines that can't all be true."""
-        return [finding.line for finding in self.of(FindingKind.CONFLICT)]
+        return [finding.line for finding in self.of(FindingKind.CONFLICT_LINE)]
 
     @cached_property
     def silenced(self) -> Optional[int]:
         """The line that silenced the tag that answered all the same."""
-        return next((finding.line for finding in self.of(FindingKind.SILENCED)), None)
+        return next((finding.line for finding in self.of(FindingKind.SILENCED_BY)), None)
 
     @cached_property
     def named(self) -> frozenset[int]:
@@ -43,11 +43,11 @@ class Told:
     @cached_property
     def open_masks(self) -> list[Mask]:
         """What is left to ask for, at most sixteen masks."""
-        return [finding.mask for finding in self.of(FindingKind.OPEN)]
+        return [Mask(finding.mask_len, finding.mask_value) for finding in self.of(FindingKind.OPEN_MASK)]
 
     @property
     def has_more_open(self) -> bool:
-        return bool(self.of(FindingKind.MORE_OPEN))
+        return bool(self.of(FindingKind.MORE_OPEN_MASKS))
 
     @cached_property
     def states(self) -> dict[int, str]:
@@ -62,7 +62,7 @@ class Told:
         if self.silenced is not None:
             yield Entry(f"silenced by line {self.silenced}", [])
         for finding in self.findings:
-            if finding.kind not in (FindingKind.CONFLICT, FindingKind.SILENCED):
+            if finding.kind not in (FindingKind.CONFLICT_LINE, FindingKind.SILENCED_BY):
                 yield Entry(_text(finding), [finding.line] if finding.line else [])
 
     def lines(self) -> Iterator[str]:
@@ -74,10 +74,10 @@ class Told:
 
 def _text(finding: Finding) -> str:
     """A finding in the words of the program."""
-    if finding.kind in (FindingKind.UNSETTLED, FindingKind.OPEN):
-        length, value = finding.mask
-        digits = f"{value:0{(length + 7) // 8 * 2}X}" if length else "-"
-        return f"{finding.kind.name.lower()} {length} {digits}"
-    if finding.kind is FindingKind.MORE_OPEN:
+    if finding.kind is FindingKind.MORE_OPEN_MASKS:
         return "more open"
+    if finding.kind in (FindingKind.UNSETTLED, FindingKind.OPEN_MASK):
+        length = finding.mask_len
+        digits = f"{finding.mask_value:0{(length + 7) // 8 * 2}X}" if length else "-"
+        return f"{'open' if finding.kind is FindingKind.OPEN_MASK else 'unsettled'} {length} {digits}"
     return f"{finding.kind.name.lower()} {finding.uid:016X}"
