@@ -63,21 +63,10 @@ class Told:
             yield Entry(f"silenced by line {self.silenced}", [])
         for finding in self.findings:
             if finding.kind not in (FindingKind.CONFLICT_LINE, FindingKind.SILENCED_BY):
-                yield Entry(_text(finding), [finding.line] if finding.line else [])
+                yield Entry(str(finding).partition("\n")[0], [finding.line] if finding.line else [])
 
     def lines(self) -> Iterator[str]:
         """The lines that `vicinity report` writes."""
         for entry in self.entries():
             yield entry.text
             yield from (f"by line {number}" for number in entry.shown_by)
-
-
-def _text(finding: Finding) -> str:
-    """A finding in the words of the program."""
-    if finding.kind is FindingKind.MORE_OPEN_MASKS:
-        return "more open"
-    if finding.kind in (FindingKind.UNSETTLED, FindingKind.OPEN_MASK):
-        length = finding.mask_len
-        digits = f"{finding.mask_value:0{(length + 7) // 8 * 2}X}" if length else "-"
-        return f"{'open' if finding.kind is FindingKind.OPEN_MASK else 'unsettled'} {length} {digits}"
-    return f"{finding.kind.name.lower()} {finding.uid:016X}"
