@@ -116,5 +116,6 @@ fn main(rt: HostRuntime) -> io::Result<()> {
     say(&rt, "run_check", runs::check_rows(alloc))?;
     say(&rt, "run_simulate", runs::simulate_rows(alloc))?;
     say(&rt, "run_explain", runs::explain_rows(alloc))?;
+    say(&rt, "run_report", runs::report_rows(alloc))?;
     say(&rt, "read_words", words::read(alloc))
 }

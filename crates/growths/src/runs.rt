@@ -1,13 +1,14 @@
-//! Runs: `run_check`, `run_simulate` and `run_explain`.
+//! Runs: `run_check`, `run_simulate`, `run_explain` and `run_report`.
 
 use crate::found::{Found, both, call_again};
 use crate::rows::{
     COLLISION_PARTED, COLLISION_UNMET, ONE_HEARD, ONE_MISSING, ONE_QUIET, ONE_SILENCED,
-    QUIET_LISTED, SILENCED_BETWEEN, SILENCED_BETWEEN_FILLED, TWO_ASKED, TWO_COLLIDED, TWO_HEARD,
+    QUIET_HEARD, QUIET_LISTED, SILENCED_BETWEEN, SILENCED_BETWEEN_FILLED, TWO_ASKED, TWO_COLLIDED,
+    TWO_HEARD,
 };
 use arrayvec::ArrayVec;
 use std::alloc::{AllocError, Global};
-use vic_answer::{RunFault, Status, fault_text, run_check, run_explain, run_simulate};
+use vic_answer::{RunFault, Status, fault_text, run_check, run_explain, run_report, run_simulate};
 use vic_log::{FromRead, ToWrite};
 
 /// What a run writes on.
@@ -55,6 +56,18 @@ fn explain_row(
 ) -> Result<bool, AllocError> {
     let mut sink = ToWrite::new(Paper::new());
     let answer = run_explain(alloc, &mut FromRead::new(given), &mut sink);
+    has_ended(answer, sink.into_inner().as_slice(), status, text)
+}
+
+/// Reports on a log.
+fn report_row(
+    alloc: Global,
+    given: &[u8],
+    status: Status,
+    text: &[u8],
+) -> Result<bool, AllocError> {
+    let mut sink = ToWrite::new(Paper::new());
+    let answer = run_report(alloc, &mut FromRead::new(given), &mut sink);
     has_ended(answer, sink.into_inner().as_slice(), status, text)
 }
 
@@ -115,6 +128,70 @@ pub fn explain_rows(alloc: Global) -> Found {
             found,
             call_again(|| explain_row(alloc, given, status, text)),
         );
+    }
+    found
+}
+
+/// Why `COLLISION_UNMET` is impossible.
+const UNMET: &[u8] = b"impossible at line 35
+by line 4
+by line 20
+by line 21
+by line 22
+by line 23
+by line 24
+by line 25
+by line 26
+by line 27
+by line 28
+by line 29
+by line 30
+by line 31
+by line 32
+by line 33
+by line 34
+by line 35
+";
+
+/// Reports on logs: one for each kind of finding, one whose conflict has many lines, and one that a
+/// Quiet tag makes impossible.
+pub fn report_rows(alloc: Global) -> Found {
+    let rows: [(&[u8], Status, &[u8]); 7] = [
+        (
+            ONE_MISSING,
+            Status::NotWhole,
+            b"absent E0040100000000A1\nby line 3\n",
+        ),
+        (
+            ONE_HEARD,
+            Status::NotWhole,
+            b"unlisted E0040100000000A1\nby line 3\n",
+        ),
+        (
+            TWO_COLLIDED,
+            Status::NotWhole,
+            b"unlisted E000000000000000\nby line 3\nunlisted E080000000000000\nby line 3\n",
+        ),
+        (
+            ONE_QUIET,
+            Status::NotWhole,
+            b"unsettled 56 040100000000A1\nopen 56 040100000000A1\n",
+        ),
+        (
+            QUIET_LISTED,
+            Status::NotWhole,
+            b"doubtful E0040100000000A1\n",
+        ),
+        (COLLISION_UNMET, Status::Impossible, UNMET),
+        (
+            QUIET_HEARD,
+            Status::Impossible,
+            b"impossible at line 6\nby line 6\nsilenced by line 4\n",
+        ),
+    ];
+    let mut found = Found::Right;
+    for (given, status, text) in rows {
+        found = both(found, call_again(|| report_row(alloc, given, status, text)));
     }
     found
 }
