@@ -1,11 +1,11 @@
 """Asks the library's calls on frames, lines, lists and findings, and compares them with the program:
 calls.py PROGRAM COUNT LOG..
 
-Each fault, name and kind of finding is met by a row. COUNT random numbers are written and COUNT random frames read, and have to be what `spell` and
-`frame` make of them; COUNT lines and masks of slots have to be what is worked out here; and the logs, with their lists
-taken off and handed over beside them, in another order, too, are answered as the program answers the whole. Each struct
-holds other bytes before the call. The header and the library are of the version in VERSION. The last line is `N passed, M
-failed`. LIBVICINITY names the library.
+Each fault, name and kind of finding is met by a row. COUNT random numbers are written and COUNT random frames read, and
+have to be what `spell` and `frame` make of them; COUNT lines and masks of slots have to be what is worked out here; and
+the logs, with their lists taken off and handed over beside them, in another order, too, are answered as the program
+answers the whole. Each struct holds other bytes before the call. The header and the library are of the version in
+VERSION. The last line is `N passed, M failed`. LIBVICINITY names the library.
 """
 import ctypes
 import os
@@ -13,6 +13,8 @@ import random
 import re
 import subprocess
 import sys
+
+from lines import log_of
 
 U8, U16, U32, U64, SIZE = ctypes.c_uint8, ctypes.c_uint16, ctypes.c_uint32, ctypes.c_uint64, ctypes.c_size_t
 LINK, SLOTS, MASK, SLOT, REPLY, TOO_LONG, LETTER = range(201, 208)
@@ -22,7 +24,9 @@ LINE_FAULTS = ["TooManyLines", "LineTooLong", "Header", "UnknownEntry", "Hex", "
 REFUSALS = ["WrongLink", "WrongSlots", "WrongMask", "WrongSlot", "WrongReply", "TooLong", "WrongLetter"]
 FAULTS = ["Short", "Crc", "Extension", "Reserved", "OptionFlag", "OtherCommand", "InventoryFlag", "Afi", "Length",
           "MaskTooLong", "MaskPadding", "SelectFlag", "NotAddressed", "ErrorFlag", "NotVicinity"]
+ABSENT, UNLISTED, UNSETTLED, DOUBTFUL, OPEN, MORE, CONFLICT, SILENCED = 2, 3, 4, 5, 8, 9, 10, 11
 UID_A, UID_B = 0xE0040100000000A1, 0xE0040100000000B2
+UID_Z, UID_Y = 0xE000000000000000, 0xE080000000000000
 
 
 def struct(name, *fields):
@@ -176,28 +180,60 @@ def names():
             count(f"{what} {number}", call(what + "_name", NAME, U32(number)), in_room(b"", 28))
 
 
+def reported(call, places, *given):
+    """What a call that reports gives, with a room of so many places, whose bytes were 7 before: the status, how many
+    findings there are, and the room."""
+    told, needed = ANSWER.from_buffer_copy(b"\x09" * ctypes.sizeof(ANSWER)), SIZE(9)
+    room = (FINDING * places).from_buffer_copy(b"\x07" * ctypes.sizeof(FINDING) * places)
+    status = getattr(LIBRARY, "vicinity_" + call)(*given, ctypes.byref(told), room, SIZE(places), ctypes.byref(needed))
+    count(f"{call}, its result", status, told.status)
+    return status, needed.value, bytes(room)
+
+
+def finding(kind, line=0, mask=(0, 0), uid=0):
+    return bytes(FINDING(kind, line, mask[0], 0, mask[1], uid))
+
+
+def findings(short, status, *wanted):
+    """The findings of a log by the short names of its lines, in rooms of every kind, and with its list beside it."""
+    log = log_of(short)
+    text, listed, rest = log.partition(b"U ")
+    uids = [int(line, 16) for line in (rest if listed else b"").split() if line != b"U"]
+    beside = (*bytes_of(text), (U64 * len(uids))(*uids), SIZE(len(uids)))
+    for places in sorted({0, max(len(wanted) - 1, 0), len(wanted), len(wanted) + 3}):
+        held = (b"".join(wanted) if len(wanted) <= places else b"").ljust(places * ctypes.sizeof(FINDING), b"\x07")
+        for call, given in (("report", bytes_of(log)), ("report_listed", beside)):
+            count(f"{call} {short}, {places} places", reported(call, places, *given), (status, len(wanted), held))
+
+
 def reports():
-    """Each kind of finding, in a room with one place more."""
-    asked, heard, silenced = b"vicinity-log 1\nT 260100F60A\n", b"R 0000A1000000000104E06745\n", b"T 2202A1000000000104E0662A\n"
-    two_uids = b"vicinity-log 1\nT 26013700000000000000641B\nS\n"
-    for text, uids, wanted in (
-            (asked + b"S\n", [], []),
-            (asked + b"S\n", [UID_B, UID_A], [(2, 3, 0, 0, 0, UID_A), (2, 3, 0, 0, 0, UID_B)]),
-            (asked + heard, [], [(3, 3, 0, 0, 0, UID_A)]),
-            (asked + b"C\n", [UID_A], [(4, 0, 1, 0, 0, 0), (8, 0, 0, 0, 0, 0), (5, 0, 0, 0, 0, UID_A)]),
-            (two_uids, [], [(4, 0, 1, 0, 1, 0), *[(8, 0, bits + 1, 0, 1 << bits, 0) for bits in range(16)], (9, 0, 0, 0, 0, 0)]),
-            (asked + heard + silenced + b"T 260100F60A\n" + heard, [], [(10, 6, 0, 0, 0, 0), (11, 4, 0, 0, 0, 0)]),
-            (asked + b"X\n", [], [])):
-        whole = text + b"".join(b"U %016X\n" % uid for uid in uids)
-        for call, given in ((LIBRARY.vicinity_report, bytes_of(whole)), (LIBRARY.vicinity_report_listed, (
-                *bytes_of(text), (U64 * len(uids))(*uids), SIZE(len(uids))))):
-            told, needed, places = ANSWER.from_buffer_copy(b"\x09" * ctypes.sizeof(ANSWER)), SIZE(9), len(wanted) + 1
-            room = (FINDING * places).from_buffer_copy(b"\x09" * places * ctypes.sizeof(FINDING))
-            status = call(*given, ctypes.byref(told), room, SIZE(places), ctypes.byref(needed))
-            found = [tuple(getattr(it, name) for name, _ in FINDING._fields_) for it in room[:-1]]
-            count(f"findings of {whole}", (found, needed.value), (wanted, len(wanted)))
-            count("the room after them", bytes(room[-1]), b"\x09" * ctypes.sizeof(FINDING))
-            count("its answer", (bytes(told.text).rstrip(b"\0"), status), run("check", given=whole))
+    """Worked out by hand: each kind of finding, and logs without one."""
+    conflict = [finding(CONFLICT, line) for line in range(20)]
+    findings("I1 S I1 RA", 2, conflict[3], conflict[5])
+    findings("I1 RA I1 RA I1 S", 2, conflict[3], conflict[7])
+    findings("I1 RA QA I1 RA", 2, conflict[6], finding(SILENCED, 4))
+    findings("MB RA", 2, conflict[3])
+    findings("V2 QZ I1 S F MA S I1 S I1 D", 2, conflict[9], conflict[11])
+    findings("I1 S UA UB", 1, finding(ABSENT, 3, uid=UID_A), finding(ABSENT, 3, uid=UID_B))
+    findings("I1 RA", 1, finding(UNLISTED, 3, uid=UID_A))
+    findings("V2 QZ I1 S F I1 D", 1, finding(UNLISTED, 7, uid=UID_Z))
+    findings("", 1, finding(UNSETTLED), finding(OPEN))
+    findings("I1 C UA", 1, finding(UNSETTLED, mask=(1, 0)), finding(OPEN), finding(DOUBTFUL, uid=UID_A))
+    findings("QA I1 S UA", 1, finding(DOUBTFUL, uid=UID_A))
+    alone = 56, 0x040100000000A1
+    findings("V2 QZ QY QA I1 S F I1 C M55 C", 1, finding(UNLISTED, 11, uid=UID_Z), finding(UNLISTED, 11, uid=UID_Y),
+             finding(UNSETTLED, mask=alone), finding(OPEN, mask=alone))
+    besides_a = (1, 0), (2, 3), (3, 5), (4, 9), (5, 0x11), (6, 1), (7, 0x61), (8, 0x21)
+    findings("MA RA UA", 1, finding(UNSETTLED, mask=(1, 0)), *[finding(OPEN, mask=mask) for mask in besides_a])
+    besides_both = sorted({*besides_a[1:], (2, 0), (3, 6), (4, 0xA), (5, 2), (6, 0x12), (7, 0x72), (8, 0x32)})
+    findings("MA RA MB S UB", 1, finding(ABSENT, 5, uid=UID_B), finding(UNLISTED, 3, uid=UID_A),
+             finding(UNSETTLED, mask=(2, 0)), *[finding(OPEN, mask=mask) for mask in besides_both])
+    # 55 masks are open: 1, 10, 100 and so on, from the highest bit
+    first = [finding(OPEN, mask=(length, 1 << length - 1)) for length in range(1, 17)]
+    findings("M55 S", 1, finding(UNSETTLED, mask=(1, 1)), *first, finding(MORE))
+    findings("I1 S", 0)
+    findings("I1 RA UA", 0)
+    findings("UA UA", 3)
 
 
 def written(chance):
