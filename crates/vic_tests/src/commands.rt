@@ -7,11 +7,16 @@ use std::io;
 use std::io::Read;
 use std::process::Abort;
 use std::test::Fail;
-use vic_answer::{RunFault, Status, run_frame};
-use vic_log::devices::{Endless, OneByOne, Pieces, Stuck};
-use vic_log::{FromRead, Log, Sink, ToWrite, WriteFault, read_log, write_log};
+use vic_answer::RunFault;
+use vic_log::devices::{Endless, OneByOne, Pieces};
+use vic_log::{FromRead, Log, ToWrite, WriteFault, read_log, write_log};
 
-const COMMANDS: [Command; 3] = [Command::Check, Command::Simulate, Command::Explain];
+const COMMANDS: [Command; 4] = [
+    Command::Check,
+    Command::Simulate,
+    Command::Explain,
+    Command::Report,
+];
 
 /// Runs a command over a reader that has failed at a call, and once more: it isn't called again.
 fn fails_to_read(rt: &impl Abort, alloc: Global, command: Command, text: &[u8], call: u64) {
@@ -173,6 +178,10 @@ fn writers_that_fail(rt: HostRuntime) -> Result<(), Fail> {
     let explained = "unlisted E0040100000000A1\npopulation 1\nU E0040100000000A1\n";
     is_written_to(&rt, alloc, Command::Check, "I1 RA UA", "complete 1\n")?;
     is_written_to(&rt, alloc, Command::Explain, "I1 RA", explained)?;
+    let findings = "absent E0040100000000A1\nby line 3\n";
+    is_written_to(&rt, alloc, Command::Report, "I1 S UA", findings)?;
+    let conflict = "impossible at line 6\nby line 6\nsilenced by line 4\n";
+    is_written_to(&rt, alloc, Command::Report, "I1 RA QA I1 RA", conflict)?;
     let filled = text_of(alloc, "I1 C QA I1 RB UA UB")?;
     is_written_to(&rt, alloc, Command::Simulate, "I1 QA I1 UA UB", &filled)?;
     let filled = text_of(alloc, "I16 S RA RB S13 UA UB")?;
@@ -203,39 +212,4 @@ fn logs_to_writers_that_fail(rt: HostRuntime) -> Result<(), Fail> {
         is_cut_behind(&rt, alloc, &log, &bytes[..taken])?;
     }
     Ok(())
-}
-
-/// Both lines of `frame`.
-const LINES: &[u8] = b"request inventory link 2 slots 1 mask 0 -\nresponse refused Length\n";
-
-/// Reads a frame for a writer.
-fn reads_frame<W: Sink>(rt: &impl Abort, sink: &mut W, expected: Result<Status, RunFault>) {
-    assert!(rt; run_frame(b"260100F60A", sink) == expected);
-}
-
-/// Reads a frame for a writer that takes one byte a call, and asks for what was taken.
-fn gives_frame(
-    rt: &impl Abort,
-    sink: &mut OneByOne,
-    expected: Result<Status, RunFault>,
-    out: &[u8],
-) {
-    reads_frame(rt, sink, expected);
-    is_written(rt, sink.taken(), out);
-}
-
-#[test]
-fn frames_to_writers_that_fail(rt: HostRuntime) {
-    let alloc = rt.alloc();
-    let mut slow = OneByOne::new(Vec::new(alloc), 0, false);
-    gives_frame(&rt, &mut slow, Ok(Status::Whole), LINES);
-    for taken in 0..LINES.len() {
-        let mut failing = OneByOne::new(Vec::new(alloc), taken as u64 + 1, false);
-        gives_frame(&rt, &mut failing, Err(RunFault::Write), &LINES[..taken]);
-    }
-    let mut unflushed = OneByOne::new(Vec::new(alloc), 0, true);
-    gives_frame(&rt, &mut unflushed, Err(RunFault::Write), LINES);
-    let mut stuck = ToWrite::new(Stuck::new(1));
-    reads_frame(&rt, &mut stuck, Err(RunFault::Write));
-    reads_frame(&rt, &mut stuck, Err(RunFault::Write));
 }

@@ -15,8 +15,6 @@ mod log;
 #[cfg(test)]
 mod logs;
 #[cfg(test)]
-mod report;
-#[cfg(test)]
 mod runs;
 #[cfg(test)]
 mod tree;
@@ -24,3 +22,5 @@ mod tree;
 mod values;
 #[cfg(test)]
 mod verdict;
+#[cfg(test)]
+mod words;

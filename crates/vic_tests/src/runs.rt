@@ -2,7 +2,7 @@
 
 use std::alloc::Global;
 use std::process::Abort;
-use vic_answer::{RunFault, Status, run_check, run_explain, run_simulate};
+use vic_answer::{RunFault, Status, run_check, run_explain, run_report, run_simulate};
 use vic_log::{FromRead, Sink, Source, ToWrite};
 
 /// A command that reads a log.
@@ -11,6 +11,7 @@ pub enum Command {
     Check,
     Simulate,
     Explain,
+    Report,
 }
 
 /// Runs a command.
@@ -24,6 +25,7 @@ pub fn run<R: Source, W: Sink>(
         Command::Check => run_check(alloc, source, sink),
         Command::Simulate => run_simulate(alloc, source, sink),
         Command::Explain => run_explain(alloc, source, sink),
+        Command::Report => run_report(alloc, source, sink),
     }
 }
 
