@@ -82,6 +82,36 @@ class Frames(unittest.TestCase):
         with self.assertRaises(ValueError):
             vicinity.slot_mask(1, vicinity.Mask(0, 0), 1)
 
+    def test_written(self):
+        for written, wanted in (
+                (vicinity.write_inventory(2, 1), "260100F60A"),
+                (vicinity.write_inventory(2, 16, vicinity.Mask(0, 0)), "060100CD09"),
+                (vicinity.write_stay_quiet(2, A), "2202A1000000000104E0662A"),
+                (vicinity.write_response(0, 0, A), "0000A1000000000104E06745"),
+                (vicinity.add_crc(bytes.fromhex("260100")), "260100F60A")):
+            self.assertEqual(written.hex().upper(), wanted)
+        for line, wanted in ((vicinity.write_line("T", bytes.fromhex("260100F60A")), ALL), (vicinity.write_line("S"), b"S\n"),
+                             (vicinity.write_line("U", uid=A), LIST_A)):
+            self.assertEqual(line, wanted)
+
+    def test_what_is_not_written(self):
+        of = vicinity.Mask
+        for call, given, word in (
+                (vicinity.write_inventory, (4, 1), "WrongLink"), (vicinity.write_inventory, (0, 2), "WrongSlots"),
+                (vicinity.write_inventory, (0, 16, of(61, 0)), "WrongMask"),
+                (vicinity.write_stay_quiet, (4, A), "WrongLink"),
+                (vicinity.write_response, (1, 0, A), "WrongReply"), (vicinity.add_crc, (bytes(15),), "TooLong"),
+                (vicinity.write_line, ("T", bytes(64)), "TooLong"), (vicinity.write_line, ("X",), "WrongLetter"),
+                (vicinity.slot_mask, (1, of(0, 0), 1), "WrongSlot"),
+                (vicinity.write_inventory, (1 << 32, 1), f"{1 << 32} is no number of 32 bits"),
+                (vicinity.write_stay_quiet, (0, -1), "-1 is no number of 64 bits")):
+            with self.subTest(word), self.assertRaises(ValueError) as raised:
+                call(*given)
+            self.assertEqual(str(raised.exception), word)
+        for letter in ("", "TT", "\u00d4"):
+            with self.assertRaises(ValueError):
+                vicinity.write_line(letter)
+
     def test_digits_of_masks(self):
         for mask, digits in (((0, 0), ".."), ((8, 0xA1), "..A1"), ((7, 0x61), "..(110)1")):
             self.assertEqual(str(vicinity.Mask(*mask)), digits)

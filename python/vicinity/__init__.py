@@ -13,9 +13,11 @@ libvicinity.so.1: nothing is judged in Python. It is loaded at the first call; L
 from ._answers import Answer, Explanation, Fault, Finding, FindingKind, Kind, Report, Simulation
 from ._calls import (check, check_listed, explain, explain_into, explain_listed, report, report_listed, simulate,
                      simulate_into)
-from .frames import FrameFault, Mask, Reply, Request, read_request, read_response, slot_mask
+from .frames import (HEADER_LINE, FrameFault, Mask, Reply, Request, add_crc, read_request, read_response, slot_mask,
+                     write_inventory, write_line, write_response, write_stay_quiet)
 
-__all__ = ["Answer", "Explanation", "Fault", "Finding", "FindingKind", "FrameFault", "Kind", "Mask", "Reply", "Report",
-           "Request", "Simulation", "check", "check_listed", "explain", "explain_into", "explain_listed", "read_request",
-           "read_response", "report", "report_listed", "simulate", "simulate_into", "slot_mask"]
+__all__ = ["Answer", "Explanation", "Fault", "Finding", "FindingKind", "FrameFault", "HEADER_LINE", "Kind", "Mask", "Reply",
+           "Report", "Request", "Simulation", "add_crc", "check", "check_listed", "explain", "explain_into", "explain_listed",
+           "read_request", "read_response", "report", "report_listed", "simulate", "simulate_into", "slot_mask",
+           "write_inventory", "write_line", "write_response", "write_stay_quiet"]
 __version__ = "1.0.0"

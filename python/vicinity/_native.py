@@ -68,6 +68,18 @@ class MaskStruct(ctypes.Structure):
     _fields_ = [("fault", ctypes.c_uint32), ("len", ctypes.c_uint32), ("value", ctypes.c_uint64)]
 
 
+class FrameStruct(ctypes.Structure):
+    """struct vicinity_frame of vicinity.h."""
+
+    _fields_ = [("fault", ctypes.c_uint32), ("len", ctypes.c_uint32), ("bytes", ctypes.c_uint8 * 16)]
+
+
+class LineStruct(ctypes.Structure):
+    """struct vicinity_line of vicinity.h."""
+
+    _fields_ = [("fault", ctypes.c_uint32), ("len", ctypes.c_uint32), ("text", ctypes.c_char * 132)]
+
+
 class NameStruct(ctypes.Structure):
     """struct vicinity_name of vicinity.h."""
 
@@ -81,6 +93,7 @@ ANSWER = [ctypes.POINTER(AnswerStruct)]
 POPULATION = [*UIDS, ctypes.POINTER(SIZE)]
 FINDINGS = [ctypes.POINTER(FindingStruct), SIZE, ctypes.POINTER(SIZE)]
 NUMBER, VALUE = ctypes.c_uint32, ctypes.c_uint64
+FRAME = ctypes.POINTER(FrameStruct)
 
 CALLS = {
     "check": [*TEXT, *ANSWER],
@@ -92,6 +105,11 @@ CALLS = {
     "simulate": [*TEXT, ctypes.POINTER(ctypes.c_uint8), SIZE, ctypes.POINTER(SIZE)],
     "kind_name": [NUMBER, ctypes.POINTER(NameStruct)],
     "fault_name": [NUMBER, ctypes.POINTER(NameStruct)],
+    "write_inventory": [NUMBER, NUMBER, NUMBER, VALUE, FRAME],
+    "write_stay_quiet": [NUMBER, VALUE, FRAME],
+    "write_response": [NUMBER, NUMBER, VALUE, FRAME],
+    "add_crc": [*TEXT, FRAME],
+    "write_line": [ctypes.c_uint8, *TEXT, VALUE, ctypes.POINTER(LineStruct)],
     "read_request": [*TEXT, ctypes.POINTER(RequestStruct)],
     "read_response": [*TEXT, ctypes.POINTER(ReplyStruct)],
     "slot_mask": [NUMBER, NUMBER, VALUE, NUMBER, ctypes.POINTER(MaskStruct)],

@@ -1,11 +1,14 @@
-"""What frames say, and which tags answer in a slot: calls of the library that take no memory."""
+"""Frames read and written, lines of a log, and which tags answer in a slot: calls of the library that take no memory."""
 from __future__ import annotations
 
 import ctypes
-from typing import NamedTuple
+from typing import Callable, NamedTuple, Union
 
 from ._answers import Fault
-from ._native import MaskStruct, ReplyStruct, RequestStruct, library
+from ._native import FrameStruct, LineStruct, MaskStruct, ReplyStruct, RequestStruct, library, name_of
+
+HEADER_LINE = b"vicinity-log 2\n"
+"""The first line of a log."""
 
 
 class FrameFault(ValueError):
@@ -65,11 +68,63 @@ def read_response(frame: bytes) -> Reply:
     return Reply(told.flags, told.dsfid, told.uid)
 
 
+def write_inventory(link: int, slots: int, mask: Mask = Mask(0, 0)) -> bytes:
+    """The frame of an Inventory request, CRC included, with a link of 0 to 3 and 1 or 16 slots.
+
+    Raises ValueError, with the name of the refusal, if there is no such request."""
+    return _frame(library().vicinity_write_inventory, _number(link), _number(slots), _number(mask.length),
+                  _number(mask.value, 64))
+
+
+def write_stay_quiet(link: int, uid: int) -> bytes:
+    """The frame of a Stay Quiet request, CRC included. Raises ValueError as `write_inventory` does."""
+    return _frame(library().vicinity_write_stay_quiet, _number(link), _number(uid, 64))
+
+
+def write_response(flags: int, dsfid: int, uid: int) -> bytes:
+    """The frame of a reply, CRC included, as a simulated field gives it. Raises ValueError as `write_inventory` does."""
+    return _frame(library().vicinity_write_response, _number(flags), _number(dsfid), _number(uid, 64))
+
+
+def add_crc(content: bytes) -> bytes:
+    """At most 14 bytes with their CRC after them: the frame of a chip that took the CRC off. Raises ValueError if there are
+    more."""
+    return _frame(library().vicinity_add_crc, content, len(content))
+
+
+def write_line(letter: str, frame: bytes = b"", uid: int = 0) -> bytes:
+    """A line of a log, with its LF: "T" or "R" with a frame of at most 63 bytes, which isn't judged, "U" with a UID, or "S",
+    "C", "D" or "F" alone. Raises ValueError, with the name of the refusal, if there is no such line."""
+    told = LineStruct()
+    (code,) = letter.encode("ascii")
+    _refuse(library().vicinity_write_line(code, frame, len(frame), _number(uid, 64), ctypes.byref(told)))
+    return told.text
+
+
 def slot_mask(slots: int, mask: Mask, slot: int) -> Mask:
     """Who answers in a slot, counted from 0, of an Inventory request with 1 or 16 slots and a mask.
 
     Raises ValueError if there is no such request or slot."""
     told = MaskStruct()
-    if library().vicinity_slot_mask(slots, mask.length, mask.value, slot, ctypes.byref(told)):
-        raise ValueError(f"no slot {slot} of {slots} with the mask {mask}")
+    _refuse(library().vicinity_slot_mask(_number(slots), _number(mask.length), _number(mask.value, 64), _number(slot),
+                                         ctypes.byref(told)))
     return Mask(told.len, told.value)
+
+
+def _frame(call: Callable[..., int], *given: Union[int, bytes]) -> bytes:
+    """The frame that a call writes."""
+    told = FrameStruct()
+    _refuse(call(*given, ctypes.byref(told)))
+    return bytes(told.bytes)[:told.len]
+
+
+def _refuse(fault: int) -> None:
+    if fault:
+        raise ValueError(name_of("fault", fault))
+
+
+def _number(number: int, bits: int = 32) -> int:
+    """A number that C takes whole."""
+    if not 0 <= number < 1 << bits:
+        raise ValueError(f"{number} is no number of {bits} bits")
+    return number
