@@ -224,10 +224,21 @@ class Calls(unittest.TestCase):
     def test_threads(self):
         wrong = []
 
+        calls = {
+            "report": (lambda: str(vicinity.report_listed(log(ALL + b"S\n"), [A])), "absent E0040100000000A1\nby line 3"),
+            "explain": (lambda: vicinity.explain_listed(log(ALL + HEARD_A), []).population, [A]),
+            "simulate": (lambda: vicinity.simulate(log(ALL + LIST_A)).text, log(ALL + HEARD_A + LIST_A)),
+            "written": (lambda: vicinity.write_line("T", vicinity.write_inventory(2, 1)), ALL),
+            "read": (lambda: vicinity.read_request(bytes.fromhex("260100F60A")), (2, 1, (0, 0), 0)),
+            "mask": (lambda: vicinity.slot_mask(16, vicinity.Mask(4, 1), 10), (8, 0xA1)),
+            "name": (lambda: Fault.FRAME_CRC.word, "Crc"),
+        }
+
         def judge():
             for lines, _, text, _ in ANSWERS * 50:
                 if str(vicinity.check(log(lines))) != text:
                     wrong.append(text)
+                wrong.extend(name for name, (call, wanted) in calls.items() if call() != wanted)
 
         threads = [threading.Thread(target=judge) for _ in range(8)]
         for thread in threads:
