@@ -16,9 +16,9 @@ use crate::first_line::first_impossible_line;
 use crate::kept_log::log_of_kept;
 use crate::met::open_and_met;
 use crate::possible::Contradiction;
-use crate::rulings::guess_conflict;
 use crate::silencer::silencer_of;
 use std::alloc::{AllocError, Global};
+use vic_guess::guess_conflict;
 use vic_log::PackedLine;
 use vic_tree::OpenSet;
 

@@ -7,10 +7,10 @@ ghost use Rattle.vic_verdict.specs.Possible.{IsContradictedAt};
 ghost use Rattle.vic_verdict.specs.Verdict.{IsVerdict};
 ghost use Rattle.vic_verdict.specs.declared.verdict.Verdict.TheVariants.{Impossible};
 
-use crate::guess::guess_impossible_line;
 use crate::met::open_and_met;
 use crate::possible::Contradiction;
 use std::alloc::{AllocError, Global};
+use vic_guess::guess_impossible_line;
 use vic_log::PackedLine;
 use vic_tree::OpenSet;
 

@@ -14,13 +14,11 @@ ghost use Rattle.vic_verdict.specs.FieldCursors.{IsFieldAt};
 ghost use Rattle.vic_verdict.specs.Findings.{IsRuledOut, RulesOut, lacks_reply_of, uids_of};
 ghost use Rattle.vic_verdict.specs.FirstLines.{AreFirstLines};
 
-use crate::fates::Fates;
 use crate::field_cursor::FieldCursor;
 use crate::shown::ShownUid;
-use crate::steps::{parts_of, steps_of};
 use std::alloc::{AllocError, Global};
 use vic_frame::Uid;
-use vic_frame::low_bits_first::key;
+use vic_guess::guess_ruling_lines;
 use vic_log::{Entry, PackedLine};
 
 /// For each of some UIDs that aren't open a line that rules it out.
@@ -54,16 +52,12 @@ fn guess_lines(
 ) -> Result<Vec<ShownUid>, AllocError>
     ensures { IfOk result (λ v. uids_of v.items ≡ absent.now) }
 {
-    let parts = parts_of(alloc, lines)?;
-    let steps = steps_of(alloc, lines, &parts)?;
-    let mut fates = Fates::new(alloc, parts.count())?;
-    fates.live_through(&steps)?;
+    let numbers = guess_ruling_lines(alloc, lines, absent)?;
     let mut shown = Vec::new(alloc);
-    for uid in absent {
-        let after = parts.part_at(key(*uid) + 1);
+    for (index, uid) in absent.iter().enumerate() {
         shown.push(ShownUid {
             uid: *uid,
-            line: fates.end(after.saturating_sub(1)),
+            line: numbers[index],
         })?;
     }
     Ok(shown)

@@ -1,6 +1,4 @@
 //! A guess at the line where a log became one that no population could have given.
-//!
-//! Tests show it to be exact; no verdict rests on it.
 
 ghost use Rattle.std.specs.Prelude.{◌≤◌, IfOk, length};
 
@@ -12,12 +10,9 @@ use vic_log::PackedLine;
 /// How many lines are looked at first, so that an early line costs little: more each time.
 const BEGINNINGS: [usize; 3] = [1_000, 10_000, 100_000];
 
-/// How many lines come before the first one up to which no population could have given a log; all
-/// where there is none.
-pub(crate) fn guess_impossible_line(
-    alloc: Global,
-    lines: &[PackedLine],
-) -> Result<usize, AllocError>
+/// A guess at how many lines come before the first one up to which no population could have given a
+/// log; all where there seems to be none.
+pub fn guess_impossible_line(alloc: Global, lines: &[PackedLine]) -> Result<usize, AllocError>
     ensures { IfOk result (λ index. index ≤ length lines.now) }
 {
     for count in BEGINNINGS {

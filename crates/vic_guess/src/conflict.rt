@@ -1,6 +1,4 @@
 //! A guess at the lines of a conflict, of which none can be left out.
-//!
-//! Tests show it to be exact; no conflict rests on it.
 
 use crate::fates::Fates;
 use crate::parts::Parts;
@@ -9,9 +7,10 @@ use crate::waiting::{Waiting, answering, last_rulings, ruled_spans};
 use std::alloc::{AllocError, Global};
 use vic_log::PackedLine;
 
-/// The lines of a conflict at the line with this number, up to which no population could have given
-/// a log.
-pub(crate) fn guess_conflict(
+/// A guess at lines of a log that no population fits together: the one with this number, the first
+/// up to which none could have given the log, and of those before it as few as it takes. In no
+/// order.
+pub fn guess_conflict(
     alloc: Global,
     lines: &[PackedLine],
     last: u32,

@@ -1,0 +1,31 @@
+//! A guess at the lines that rule UIDs out.
+
+ghost use Rattle.std.specs.Prelude.{◌≡◌, IfOk, length};
+
+use crate::fates::Fates;
+use crate::steps::{parts_of, steps_of};
+use std::alloc::{AllocError, Global};
+use vic_frame::Uid;
+use vic_frame::low_bits_first::key;
+use vic_log::PackedLine;
+
+/// For each of some UIDs a guess at the number of the first line of a log that rules it out, at the
+/// same place. No line has the number if none seems to.
+pub fn guess_ruling_lines(
+    alloc: Global,
+    lines: &[PackedLine],
+    uids: &[Uid],
+) -> Result<Vec<u32>, AllocError>
+    ensures { IfOk result (λ numbers. length numbers.items ≡ length uids.now) }
+{
+    let parts = parts_of(alloc, lines)?;
+    let steps = steps_of(alloc, lines, &parts)?;
+    let mut fates = Fates::new(alloc, parts.count())?;
+    fates.live_through(&steps)?;
+    let mut numbers = Vec::new(alloc);
+    for uid in uids {
+        let after = parts.part_at(key(*uid) + 1);
+        numbers.push(fates.end(after.saturating_sub(1)))?;
+    }
+    Ok(numbers)
+}
