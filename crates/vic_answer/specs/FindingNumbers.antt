@@ -1,12 +1,12 @@
 -- What a log tells against its list, in numbers: the lines of `report`, one finding after another.
 use Rattle.std.specs.Prelude.{◌≡◌, ℕ, Bool, Option, Some, None, List, [], ◌∷◌, ◌++◌, map, length, if◌then◌else◌}
 use Rattle.vic_frame.specs.Masks.{BitMask}
-use Rattle.vic_verdict.specs.declared.conflict.Conflict.{Conflict}
-use Rattle.vic_verdict.specs.declared.findings.Findings.{Findings}
-use Rattle.vic_verdict.specs.declared.findings.Unsettled.{Unsettled}
-use Rattle.vic_verdict.specs.declared.reporting.LogReport.{LogReport}
-use Rattle.vic_verdict.specs.declared.reporting.LogReport.TheVariants as report
-use Rattle.vic_verdict.specs.declared.shown.ShownUid.{ShownUid}
+use Rattle.vic_report.specs.declared.conflict.Conflict.{Conflict}
+use Rattle.vic_report.specs.declared.findings.Findings.{Findings}
+use Rattle.vic_report.specs.declared.findings.Unsettled.{Unsettled}
+use Rattle.vic_report.specs.declared.reporting.LogReport.{LogReport}
+use Rattle.vic_report.specs.declared.reporting.LogReport.TheVariants as report
+use Rattle.vic_report.specs.declared.shown.ShownUid.{ShownUid}
 use Rattle.vic_answer.specs.declared.finding_numbers.VicinityFinding.{VicinityFinding}
 use Rattle.vic_answer.specs.declared.numbers.VicinityAnswer.{VicinityAnswer}
 use Rattle.vic_answer.specs.declared.report.Reported.{Reported}

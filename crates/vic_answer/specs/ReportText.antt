@@ -6,14 +6,14 @@ use Rattle.vic_frame.specs.Masks.{BitMask}
 use Rattle.vic_log.specs.Lines.{lines_of_text}
 use Rattle.vic_log.specs.Log.{LogValue}
 use Rattle.vic_log.specs.Text.{IsLogOf, IsFirstFault}
-use Rattle.vic_verdict.specs.declared.conflict.Conflict.{Conflict}
-use Rattle.vic_verdict.specs.declared.findings.Findings.{Findings}
-use Rattle.vic_verdict.specs.declared.findings.Unsettled.{Unsettled as LeftToAsk}
-use Rattle.vic_verdict.specs.declared.reporting.LogReport.{LogReport}
-use Rattle.vic_verdict.specs.declared.reporting.LogReport.TheVariants as report
-use Rattle.vic_verdict.specs.declared.shown.ShownUid.{ShownUid}
+use Rattle.vic_report.specs.declared.conflict.Conflict.{Conflict}
+use Rattle.vic_report.specs.declared.findings.Findings.{Findings}
+use Rattle.vic_report.specs.declared.findings.Unsettled.{Unsettled as LeftToAsk}
+use Rattle.vic_report.specs.declared.reporting.LogReport.{LogReport}
+use Rattle.vic_report.specs.declared.reporting.LogReport.TheVariants as report
+use Rattle.vic_report.specs.declared.shown.ShownUid.{ShownUid}
 use Rattle.vic_verdict.specs.declared.verdict.Verdict.TheVariants.{Impossible, Absent, Unlisted, Unsettled, Doubtful, Complete}
-use Rattle.vic_verdict.specs.Reports.{IsReport, verdict_of}
+use Rattle.vic_report.specs.Reports.{IsReport, verdict_of}
 use Rattle.vic_answer.specs.CheckText.{answer_status, verdict_line}
 use Rattle.vic_answer.specs.Digits.{value_text}
 use Rattle.vic_answer.specs.Refusals.{refusal_line}

@@ -7,7 +7,7 @@ ghost use Rattle.vic_answer.specs.FindingNumbers as spec;
 use crate::report::Reported;
 use std::alloc::{AllocError, Global};
 use vic_frame::{Mask, Uid};
-use vic_verdict::{Conflict, Findings, LogReport, ShownUid, Unsettled};
+use vic_report::{Conflict, Findings, LogReport, ShownUid, Unsettled};
 
 /// What a finding in numbers is. The first four are numbered as the kinds of the answers that say
 /// the same.

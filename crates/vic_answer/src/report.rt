@@ -18,8 +18,9 @@ use crate::status::{RunFault, Status};
 use arrayvec::ArrayVec;
 use std::alloc::{AllocError, Global};
 use vic_log::{LineFault, LogFault, Sink, Source, read_log};
-use vic_verdict::laws::{complete_is_whole, first_finding_is_the_verdict, one_headline};
-use vic_verdict::{LogReport, report};
+use vic_report::laws::first_finding_is_the_verdict;
+use vic_report::{LogReport, report};
+use vic_verdict::laws::{complete_is_whole, one_headline};
 
 /// What is answered to a text, with all that its log tells against its list and the lines that tell
 /// it.

@@ -10,7 +10,8 @@ use crate::status::RunFault;
 use crate::text::Text;
 use vic_frame::Uid;
 use vic_log::Sink;
-use vic_verdict::{Conflict, Findings, LogReport, ShownUid, Unsettled, Verdict};
+use vic_report::{Conflict, Findings, LogReport, ShownUid, Unsettled};
+use vic_verdict::Verdict;
 
 /// Puts the lines of a report behind what waits.
 pub(crate) fn put_report<W: Sink>(

@@ -27,8 +27,3 @@ pub mod KeyOrder
 pub mod Replying
 pub mod Heard
 pub mod Meeting
-pub mod KeptLogs
-pub mod Conflicts
-pub mod RuledOut
-pub mod Telling
-pub mod AllFindings

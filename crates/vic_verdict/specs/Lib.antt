@@ -14,8 +14,3 @@ pub mod Gathered
 pub mod Silenced
 pub mod Replies
 pub mod Keys
-pub mod Conflicts
-pub mod KeptLogs
-pub mod Findings
-pub mod FieldCursors
-pub mod Reports

@@ -26,7 +26,7 @@ fn add_if_exactly(certain: &mut Vec<Uid>, uids: &[Uid], count: usize) -> Result<
 
 /// The UIDs that the slots of a possible log force, in rising order: those that were heard, and
 /// those that meet a slot with no others.
-pub(crate) fn certain_uids(alloc: Global, met: &Met) -> Result<Vec<Uid>, AllocError>
+pub fn certain_uids(alloc: Global, met: &Met) -> Result<Vec<Uid>, AllocError>
     ensures rising { IfOk result (λ v. IsStrictlyIncreasing v.items) }
     ensures certain { IfOk result (λ v. (es : List EntryValue) → IsMet es met.now
         → IsListOf (IsForcedBy (is_open (slots_of es)) (slots_of es)) v.items) }

@@ -29,7 +29,7 @@ use vic_tree::OpenSet;
 
 /// What the slots of a possible log ask for, met by its open UIDs.
 #[derive(Drop)]
-pub(crate) struct Met {
+pub struct Met {
     /// The UIDs that were heard, in rising order.
     pub heard: Vec<Uid>,
     /// What meets the slots in which tags answered and none was read: each of these slots is met by
@@ -40,7 +40,7 @@ pub(crate) struct Met {
 /// Open UIDs that answer in a slot in which several or some did: all of them where they are fewer
 /// than three, three otherwise.
 #[derive(Drop)]
-pub(crate) struct Found {
+pub struct Found {
     /// The place of its line.
     pub at: usize,
     /// How many there have to be: 2 in a collision, 1 in a garbled slot.

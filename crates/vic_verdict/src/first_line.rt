@@ -43,7 +43,7 @@ fn first_guess(contradiction: Contradiction, count: usize) -> Option<usize>
 /// halving: what is impossible stays so when lines follow. Halving begins at a guess: before the
 /// contradiction, and if the lines before it are impossible too, where a pass over them says. As
 /// long as that pass is right, the lines are judged at most three times here.
-pub(crate) fn first_impossible_line<S: OpenSet>(
+pub fn first_impossible_line<S: OpenSet>(
     alloc: Global,
     lines: &[PackedLine],
     contradiction: Contradiction,

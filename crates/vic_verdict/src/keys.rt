@@ -14,7 +14,7 @@ use vic_frame::low_bits_first::{key, uid_at};
 use vic_tree::OpenSet;
 
 /// The keys of UIDs, in order.
-pub(crate) fn keys_in_order(alloc: Global, uids: &[Uid]) -> Result<Vec<u64>, AllocError>
+pub fn keys_in_order(alloc: Global, uids: &[Uid]) -> Result<Vec<u64>, AllocError>
     ensures { IfOk result (λ keys. AreKeysOf keys.items uids.now) }
 {
     let mut keys = Vec::new(alloc);

@@ -12,10 +12,6 @@ ghost use Rattle.vic_log.specs.FirstVersion.{AreOfFirstVersion};
 ghost use Rattle.vic_log.specs.declared.entry.Entry.{Entry};
 ghost use Rattle.vic_log.specs.declared.entry.LogLine.{LogLine};
 ghost use Rattle.vic_frame.specs.Masks.{BitMask};
-ghost use Rattle.vic_verdict.specs.Conflicts.{IsConflictAt};
-ghost use Rattle.vic_verdict.specs.Reports.{IsReport, verdict_of};
-ghost use Rattle.vic_verdict.specs.declared.reporting.LogReport.{LogReport};
-ghost use Rattle.vic_verdict.specs.declared.reporting.LogReport.TheVariants as reported;
 ghost use Rattle.vic_verdict.specs.declared.verdict.Verdict.{Verdict};
 ghost use Rattle.vic_verdict.specs.declared.verdict.Verdict.TheVariants.{Complete};
 
@@ -74,18 +70,4 @@ pub fn one_headline()
     ensures second { (es : List Entry) → IsWhole es ↔ IsWholeSecond es }
     ensures first { (es : List Entry) → AreOfFirstVersion es
         → IsWholeFirst es ↔ IsWholeSecond es }
-{}
-
-/// The first finding of a report is the verdict, and where that is `Complete` there is none.
-pub fn first_finding_is_the_verdict()
-    ensures first { (lines : List LogLine) (r : LogReport) → IsReport lines r
-        → IsVerdict lines (verdict_of r) }
-    ensures none { (lines : List LogLine) (r : LogReport) (count : ℕ) → IsReport lines r
-        → verdict_of r ≡ Complete count → r ≡ reported.Complete count }
-{}
-
-/// Lines that no population fits together stay so whatever follows.
-pub fn conflict_stays()
-    ensures { (lines more : List LogLine) (n : ℕ) (numbers : List ℕ)
-        → IsConflictAt lines n numbers → IsPossible (entries (lines ++ more)) → ⊥ }
 {}

@@ -1,16 +1,17 @@
 //! What the log of an inventory session proves of its list of tags.
+//!
+//! `judge` gives the verdict on a log, `explain` with it a small population that shows it. What they
+//! go by is public for `vic_report`, which tells more of a log than its verdict: which UIDs a
+//! possible one leaves open, and what meets its slots (`open_and_met`), where another one became
+//! impossible, and which UIDs a log forces and lists. `laws` are those of the definitions.
 #![tactic(auto)]
 
 mod certain;
 mod closed;
-mod conflict;
 mod demands;
 mod explanation;
-mod field_cursor;
-mod findings;
 mod first_line;
 mod judging;
-mod kept_log;
 mod keys;
 pub mod laws;
 mod level;
@@ -20,21 +21,19 @@ mod names;
 mod population;
 mod possible;
 mod replies;
-mod reporting;
 mod rising;
-mod ruled_out;
-mod shown;
-mod silencer;
 mod stretches;
 mod sweep;
-mod told;
 mod unsettled;
 mod verdict;
 
-pub use conflict::Conflict;
+pub use certain::certain_uids;
+pub use demands::{Found, Met};
 pub use explanation::{Explanation, explain, explain_with};
-pub use findings::{Findings, Unsettled};
+pub use first_line::first_impossible_line;
 pub use judging::{judge, judge_with};
-pub use reporting::{LogReport, report};
-pub use shown::ShownUid;
+pub use keys::keys_in_order;
+pub use listed::{count_listed, listed_uids};
+pub use met::open_and_met;
+pub use possible::Contradiction;
 pub use verdict::Verdict;

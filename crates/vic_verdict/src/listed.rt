@@ -26,7 +26,7 @@ fn pass_listed(uids: &mut Vec<Uid>, entry: &Entry) -> Result<(), AllocError>
 }
 
 /// The UIDs that a log lists, in rising order.
-pub(crate) fn listed_uids(alloc: Global, lines: &[PackedLine]) -> Result<Vec<Uid>, AllocError>
+pub fn listed_uids(alloc: Global, lines: &[PackedLine]) -> Result<Vec<Uid>, AllocError>
     ensures rising { IfOk result (λ v. IsStrictlyIncreasing v.items) }
     ensures members { IfOk result (λ v. SameMembers v.items (listed (entries lines.now))) }
     ensures uids { IfOk result (λ v. (u : ℕ) → has v.items u ≡ true → IsUid u) }
@@ -56,7 +56,7 @@ fn count_one(entry: &Entry) -> u32
 }
 
 /// How many UIDs a log lists.
-pub(crate) fn count_listed(lines: &[PackedLine]) -> u32
+pub fn count_listed(lines: &[PackedLine]) -> u32
     requires { IsRisingFrom 0 lines.now }
     ensures { result ≡ length (listed (entries lines.now)) }
 {

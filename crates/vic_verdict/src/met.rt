@@ -71,7 +71,7 @@ fn find_all<S: OpenSet>(
 }
 
 /// The UIDs that a log leaves open, and what they meet, if some population could have given it.
-pub(crate) fn open_and_met<S: OpenSet>(
+pub fn open_and_met<S: OpenSet>(
     alloc: Global,
     lines: &[PackedLine],
 ) -> Result<Result<(S, Met), Contradiction>, AllocError>

@@ -8,7 +8,7 @@ use vic_log::PackedLine;
 /// The place of a line of a log, counted from 0, up to which no population could have given it.
 /// Earlier ones may do as well.
 #[derive(Clone, Copy)]
-pub(crate) struct Contradiction {
+pub struct Contradiction {
     pub at: usize,
 }
 

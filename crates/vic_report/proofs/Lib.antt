@@ -1,0 +1,5 @@
+pub mod KeptLogs
+pub mod Conflicts
+pub mod RuledOut
+pub mod Telling
+pub mod AllFindings

@@ -1,0 +1,63 @@
+-- Lines that tell of UIDs.
+use Rattle.std.proofs.Common.{◌≡◌, ℕ, List, true, Some, refl, sym, ap, ◌∙◌, subst, ⊎_elim}
+use Rattle.std.specs.Prelude.{slice_get}
+use Rattle.std.proofs.lemmas.Bool.{and_parts, and_from}
+use Rattle.vic_log.specs.declared.entry.Entry.{Entry}
+use Rattle.vic_log.specs.declared.entry.Entry.TheVariants.{Collision, Garbled, Heard}
+use Rattle.vic_log.specs.declared.entry.LogLine.{LogLine}
+use Rattle.vic_log.specs.Order.{entries}
+use Rattle.vic_log.specs.Populations.{answers_at}
+use Rattle.vic_log.specs.Slots.{slots_of, is_open, Forces, ManyReplies, SomeReply}
+use Rattle.vic_frame.specs.Replies.{Reply}
+use Rattle.vic_verdict.specs.declared.demands.Found.{Found}
+use Rattle.vic_verdict.specs.Demands.{IsFound}
+use Rattle.vic_report.specs.Findings.{MayAnswer, TellsOf, ShowsCertain}
+use Rattle.vic_verdict.specs.Places.{answering}
+use Rattle.vic_verdict.specs.Possible.{IsPossible}
+use Rattle.vic_report.proofs.Conflicts.{line_of}
+use Rattle.vic_verdict.proofs.Decide.{IsPossibleUid-iff}
+use Rattle.vic_verdict.proofs.Demanding.{asked_two_or_one}
+use Rattle.vic_verdict.proofs.Entries.{forces_two_iff, forces_one_iff}
+use Rattle.vic_verdict.proofs.Meeting.{Exactly}
+
+-- ---- what a line tells
+
+pub reply_shows : (lines : List LogLine) (i : ℕ) (l : LogLine) (r : Reply) → slice_get lines i ≡ Some l → l.item ≡ Heard r → ShowsCertain lines l.number r.uid
+reply_shows lines i l r k is = record {
+  place = i;
+  line = l;
+  there = k;
+  number = refl;
+  tells = subst (TellsOf (entries lines) i r.uid) (sym is) refl;
+}
+
+may : (es : List Entry) (i u : ℕ) → IsPossible es → answering (is_open (slots_of es)) es i u ≡ true → MayAnswer es i u
+may es i u p h = let w = and_parts (is_open (slots_of es) u) (answers_at es i u) h in ((IsPossibleUid-iff es u p).1 w.0, w.1)
+
+answers_back : (es : List Entry) (i u : ℕ) → IsPossible es → MayAnswer es i u → answering (is_open (slots_of es)) es i u ≡ true
+answers_back es i u p m = and_from _ _ ((IsPossibleUid-iff es u p).0 m.0) m.1
+
+tells_two : (es : List Entry) (i u : ℕ) → IsPossible es → Forces ManyReplies (answering (is_open (slots_of es)) es i) u → answering (is_open (slots_of es)) es i u ≡ true → TellsOf es i u Collision
+tells_two es i u p f here = (may es i u p here, (f.0, f.1, may es i f.0 p f.3, λ w m. f.4 w (answers_back es i w p m)))
+
+tells_one : (es : List Entry) (i u : ℕ) → IsPossible es → Forces SomeReply (answering (is_open (slots_of es)) es i) u → TellsOf es i u Garbled
+tells_one es i u p f = (may es i u p f.0, λ w m. f.1 w (answers_back es i w p m))
+
+-- found where exactly as many are open, the slot tells of each
+pub found_shows : (lines : List LogLine) (f : Found) (l : LogLine) (u : ℕ) → IsPossible (entries lines) → IsFound (entries lines) f → slice_get lines f.at ≡ Some l → Exactly f.need f.uids.items u → ShowsCertain lines l.number u
+found_shows lines f l u p found k x =
+    let es = entries lines in
+    let i = found.0 in
+    let at = found.1 in
+    let there : slice_get lines i ≡ Some l = ap (slice_get lines) (sym at.place) ∙ k in
+    let here = at.uids.members u x.1 in
+    let shown : (e : Entry) → slice_get es i ≡ Some e → TellsOf es i u e → ShowsCertain lines l.number u = λ e g t.
+    let y = line_of lines i e g in
+    let both : Some l ≡ Some y.0 = sym there ∙ y.1 in
+    let same : y.0 ≡ l = cc in
+    let item : e ≡ l.item = sym y.2 ∙ ap (λ (z : LogLine). z.item) same in
+    record { place = i; line = l; there = there; number = refl; tells = subst (TellsOf es i u) item t } in
+    ⊎_elim
+    (λ w. let two = w.1 in shown Collision w.0 (tells_two es i u p ((forces_two_iff _ f.uids.items u at.uids).1 (x.0 ∙ two, x.1)) here))
+    (λ w. let one = w.1 in shown Garbled w.0 (tells_one es i u p ((forces_one_iff _ f.uids.items u at.uids).1 (x.0 ∙ one, x.1))))
+    (asked_two_or_one (slice_get es i) f.need at.need at.asked)

@@ -1,0 +1,13 @@
+use Rattle.std.proofs.Common.{◌≤◌, length, take}
+use Rattle.std.specs.List.{All}
+use Rattle.vic_log.specs.Order.{entries}
+use Rattle.vic_report.specs.FieldCursors.{IsFieldAt}
+use Rattle.vic_report.specs.Findings.{IsRuledOut}
+use Rattle.vic_report.proofs.ruled_out.are_ruled_out.Given as goal
+
+abbrev pub invariant-loop-line : goal.invariant-loop-line
+invariant-loop-line l = record {
+  field_at : IsFieldAt (entries l.lines) l.line-index l.cursor;
+  count : l.next ≤ length l.shown;
+  passed : All (IsRuledOut l.lines) (take l.next l.shown);
+}

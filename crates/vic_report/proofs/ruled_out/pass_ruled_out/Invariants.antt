@@ -1,0 +1,17 @@
+use Rattle.std.proofs.Common.{◌≡◌, ◌≤◌, ◌-◌, ℕ, List, Some, length, take}
+use Rattle.std.specs.Prelude.{slice_get}
+use Rattle.std.specs.List.{All}
+use Rattle.vic_log.specs.declared.entry.LogLine.{LogLine}
+use Rattle.vic_log.specs.Order.{AreValid, entries}
+use Rattle.vic_report.specs.FieldCursors.{IsFieldAt}
+use Rattle.vic_report.specs.Findings.{IsRuledOut}
+use Rattle.vic_report.proofs.ruled_out.pass_ruled_out.Given as goal
+
+abbrev pub invariant-loop-next : goal.invariant-loop-next
+invariant-loop-next l = record {
+  count : l.next ≤ length l.shown;
+  passed : (lines : List LogLine) (i : ℕ) → AreValid (entries lines) → slice_get lines i ≡ Some l.line → IsFieldAt (entries lines) i l.cursor → All (IsRuledOut lines) (take l.start l.shown) → All (IsRuledOut lines) (take l.next l.shown);
+}
+
+abbrev pub decreases-loop-next : goal.decreases-loop-next
+decreases-loop-next l = length l.shown - l.next

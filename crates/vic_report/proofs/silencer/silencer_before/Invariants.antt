@@ -1,0 +1,9 @@
+use Rattle.std.proofs.Common.{◌≡◌, false}
+use Rattle.std.specs.Prelude.{MatchOption}
+use Rattle.vic_log.specs.Order.{entries}
+use Rattle.vic_log.specs.Quiet.{is_quiet}
+use Rattle.vic_report.specs.Conflicts.{IsSilencedBefore}
+use Rattle.vic_report.proofs.silencer.silencer_before.Given as goal
+
+abbrev pub invariant-loop-index : goal.invariant-loop-index
+invariant-loop-index l = MatchOption l.silencer (is_quiet (entries l.lines) l.index l.uid ≡ false) (IsSilencedBefore l.lines l.index l.uid)

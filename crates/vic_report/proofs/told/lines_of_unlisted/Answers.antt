@@ -1,0 +1,28 @@
+use Rattle.std.proofs.Common.{[], ◌∷◌, ◌++◌, take, ap, ◌∙◌, sym, subst}
+use Rattle.std.specs.List.{All}
+use Rattle.std.proofs.lemmas.List.{map-append, take_more}
+use Rattle.std.proofs.lemmas.List.Elements.{All-push}
+use Rattle.vic_report.specs.declared.shown.ShownUid.{ShownUid}
+use Rattle.vic_report.specs.Findings.{IsToldOf, uids_of}
+use Rattle.vic_report.proofs.told.lines_of_unlisted.Goals as goal
+
+pub line_of-line-requires-clause-found : goal.line_of-line-requires-clause-found
+line_of-line-requires-clause-found c =
+    let P = All (IsToldOf c.args.lines.now) in
+    c.line_among-guess.ensures c.args.lines.now
+    (subst P (sym c.deref-in-loop-uid-3.ensures.value) c.in_ok-replies.ensures)
+    (subst P (sym c.deref-in-loop-uid-4.ensures.value) c.in_ok-others.ensures)
+
+pub loop-uid-preserved : goal.loop-uid-preserved
+loop-uid-preserved c =
+    let us = c.args.unlisted.now in
+    let i = c.loop-uid.uid-index in
+    let u = c.uid-item.result in
+    let before = c.loop-uid.invariant in
+    record {
+      uids =
+          ap uids_of c.in_ok-push.ensures.items
+          ∙ (map-append (λ (s : ShownUid). s.uid) c.loop-uid.shown.items _
+          ∙ (ap (λ vs. vs ++ u ∷ []) before.uids ∙ (ap (λ v. take i us ++ v ∷ []) c.uid-item.is ∙ sym (take_more us i u c.loop-uid-test.true))));
+      shown = rw c.in_ok-push.ensures.items (All-push (IsToldOf c.args.lines.now) c.loop-uid.shown.items _ before.shown c.line_of-line.ensures);
+    }

@@ -1,0 +1,7 @@
+use Rattle.std.proofs.Common.{ℕ, ◌<◌, get_or}
+use Rattle.vic_verdict.specs.declared.demands.Found.{Found}
+use Rattle.vic_verdict.proofs.Meeting.{Exactly}
+use Rattle.vic_report.proofs.told.other_of.Given as goal
+
+abbrev pub invariant-loop-one : goal.invariant-loop-one
+invariant-loop-one l = (k : ℕ) (d : Found) → k < l.one-index → Exactly (get_or l.found k d).need (get_or l.found k d).uids.items l.uid → ⊥

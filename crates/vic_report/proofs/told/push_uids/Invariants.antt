@@ -1,0 +1,10 @@
+use Rattle.std.proofs.Common.{◌≡◌, ℕ, List, true}
+use Rattle.std.specs.List.{All}
+use Rattle.vic_frame.specs.Uids.{has}
+use Rattle.vic_log.specs.declared.entry.LogLine.{LogLine}
+use Rattle.vic_report.specs.Findings.{IsToldOf, ShowsCertain}
+use Rattle.vic_report.proofs.told.push_uids.Given as goal
+
+abbrev pub invariant-loop-uid : goal.invariant-loop-uid
+invariant-loop-uid l =
+    (lines : List LogLine) → ((u : ℕ) → has l.uids u ≡ true → ShowsCertain lines l.line u) → All (IsToldOf lines) l.initial.told.items → All (IsToldOf lines) l.told.items

@@ -1,0 +1,6 @@
+use Rattle.std.specs.List.{All}
+use Rattle.vic_report.specs.Findings.{IsToldOf}
+use Rattle.vic_report.proofs.told.told_by_replies.Given as goal
+
+abbrev pub invariant-loop-line : goal.invariant-loop-line
+invariant-loop-line l = All (IsToldOf l.lines) l.told.items

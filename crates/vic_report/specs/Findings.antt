@@ -1,0 +1,89 @@
+-- What a possible log tells against its list (profile), and the lines that tell it.
+use Rattle.std.specs.Prelude.{◌≡◌, ◌≢◌, ◌⊎◌, ℕ, ◌==◌, ◌^◌, ◌<◌, ◌≤◌, Bool, true, false, not, Some, List, slice_get, map}
+use Rattle.vic_frame.specs.declared.uid.TheConstants.{UID_BITS}
+use Rattle.vic_frame.specs.Uids.{IsUid, has}
+use Rattle.vic_frame.specs.Masks.{BitMask, lies_in}
+use Rattle.vic_log.specs.declared.entry.Entry.{Entry}
+use Rattle.vic_log.specs.declared.entry.Entry.TheVariants.{Sent, Silent, Collision, Heard, Listed, Garbled, FieldCycle}
+use Rattle.vic_log.specs.declared.entry.LogLine.{LogLine}
+use Rattle.vic_log.specs.Order.{entries, listed}
+use Rattle.vic_log.specs.Populations.{answers_at}
+use Rattle.vic_report.specs.declared.shown.ShownUid.{ShownUid}
+use Rattle.vic_verdict.specs.Possible.{IsPossibleUid, IsCertainUid}
+
+-- ---- the findings, besides absent and unlisted UIDs
+
+-- a UID that may be there and may be missing
+abbrev pub IsOpenUid : List Entry → ℕ → Type 0
+IsOpenUid es u = IsPossibleUid es u × (IsCertainUid es u → ⊥)
+
+-- a mask of at most 56 bits all of whose UIDs may be there, may be missing, and aren't listed
+abbrev pub IsLeftOpen : List Entry → BitMask → Type 0
+IsLeftOpen es m =
+    (m.len ≤ UID_BITS) × (m.value < 2 ^ m.len)
+    × ((u : ℕ) → IsUid u → lies_in m u ≡ true
+    → IsOpenUid es u × (has (listed es) u ≡ false))
+
+-- a listed UID that may be there and may be missing
+abbrev pub MayBeMissing : List Entry → ℕ → Type 0
+MayBeMissing es u = (has (listed es) u ≡ true) × IsOpenUid es u
+
+-- ---- the lines that show them
+
+-- a slot that was found so is silent, or holds the reply of another UID
+abbrev pub lacks_reply_of : Entry → ℕ → Bool
+lacks_reply_of Silent u = true
+lacks_reply_of (Heard r) u = not (r.uid == u)
+lacks_reply_of Collision u = false
+lacks_reply_of Garbled u = false
+lacks_reply_of (Sent q) u = false
+lacks_reply_of (Listed v) u = false
+lacks_reply_of FieldCycle u = false
+
+-- the line with this number rules the UID out: a tag with it would answer in its slot, and the
+-- slot was found without its reply
+pub record RulesOut (lines : List LogLine) (n u : ℕ) : Type 0 where
+  pub place : ℕ
+  pub line : LogLine
+  pub there : slice_get lines place ≡ Some line
+  pub number : line.number ≡ n
+  pub answers : answers_at (entries lines) place u ≡ true
+  pub lacks : lacks_reply_of line.item u ≡ true
+
+-- the UID is possible, and answers in the slot at place i where it is in the field
+abbrev pub MayAnswer : List Entry → ℕ → ℕ → Type 0
+MayAnswer es i u = IsPossibleUid es u × (answers_at es i u ≡ true)
+
+-- the slot at place i, found so, tells that the UID is there: by its reply; or where several
+-- answered, as one of the only two that may have; or where some did, as the only one
+abbrev pub TellsOf : List Entry → ℕ → ℕ → Entry → Type 0
+TellsOf es i u (Heard r) = r.uid ≡ u
+TellsOf es i u Collision =
+    MayAnswer es i u
+    × ((v : ℕ) × (v ≢ u) × MayAnswer es i v
+    × ((w : ℕ) → MayAnswer es i w → (w ≡ u) ⊎ (w ≡ v)))
+TellsOf es i u Garbled = MayAnswer es i u × ((w : ℕ) → MayAnswer es i w → w ≡ u)
+TellsOf es i u Silent = ⊥
+TellsOf es i u (Sent q) = ⊥
+TellsOf es i u (Listed v) = ⊥
+TellsOf es i u FieldCycle = ⊥
+
+-- the line with this number tells that the UID is there
+pub record ShowsCertain (lines : List LogLine) (n u : ℕ) : Type 0 where
+  pub place : ℕ
+  pub line : LogLine
+  pub there : slice_get lines place ≡ Some line
+  pub number : line.number ≡ n
+  pub tells : TellsOf (entries lines) place u line.item
+
+-- the line beside a UID rules it out
+abbrev pub IsRuledOut : List LogLine → ShownUid → Type 0
+IsRuledOut lines s = RulesOut lines s.line s.uid
+
+-- the line beside a UID tells that it is there
+abbrev pub IsToldOf : List LogLine → ShownUid → Type 0
+IsToldOf lines s = ShowsCertain lines s.line s.uid
+
+-- the UIDs of a list, without their lines
+abbrev pub uids_of : List ShownUid → List ℕ
+uids_of shown = map (λ s. s.uid) shown

@@ -1,0 +1,5 @@
+pub mod Conflicts
+pub mod KeptLogs
+pub mod Findings
+pub mod FieldCursors
+pub mod Reports

@@ -1,0 +1,136 @@
+//! Why a log became one that no population could have given: slot lines that no population fits
+//! together.
+
+ghost use Rattle.std.specs.Prelude.{◌≡◌, ◌⊎◌, ℕ, ◌≤◌, IfOk, OnOk, true};
+ghost use Rattle.std.specs.List.Sorted.{IsStrictlyIncreasing};
+ghost use Rattle.vic_frame.specs.Uids.{has};
+ghost use Rattle.vic_log.specs.Order.{entries};
+ghost use Rattle.vic_log.specs.Rounds.{is_slot};
+ghost use Rattle.vic_report.specs.Conflicts.{IsConflict, IsConflictAt};
+ghost use Rattle.vic_verdict.specs.FirstLines.{AreFirstLines};
+ghost use Rattle.vic_verdict.specs.Possible.{IsContradictedAt};
+ghost use Rattle.vic_verdict.specs.Verdict.{IsVerdict};
+ghost use Rattle.vic_verdict.specs.declared.verdict.Verdict.TheVariants.{Impossible};
+
+use crate::kept_log::log_of_kept;
+use crate::silencer::silencer_of;
+use std::alloc::{AllocError, Global};
+use vic_guess::guess_conflict;
+use vic_log::PackedLine;
+use vic_tree::OpenSet;
+use vic_verdict::{Contradiction, first_impossible_line, open_and_met};
+
+/// The first line up to which no population could have given a log, and lines up to it that no
+/// population fits together.
+#[derive(Drop)]
+pub struct Conflict {
+    /// The number of the line.
+    pub line: u32,
+    /// The numbers of the lines, in rising order, `line` the last.
+    pub lines: Vec<u32>,
+    /// If there is one, `line` is a reply of a tag that is Quiet there, and this is the number of a
+    /// line that made it so.
+    pub silenced_by: Option<u32>,
+}
+
+/// The conflict of a log with a contradiction.
+pub(crate) fn find_conflict<S: OpenSet>(
+    alloc: Global,
+    lines: &[PackedLine],
+    contradiction: Contradiction,
+) -> Result<Conflict, AllocError>
+    requires lines { AreFirstLines lines.now }
+    requires impossible { IsContradictedAt (entries lines.now) contradiction.at }
+    ensures { IfOk result (IsConflict lines.now) }
+{
+    let line = first_impossible_line::<S>(alloc, lines, contradiction)?;
+    Ok(Conflict {
+        line,
+        lines: lines_of_conflict::<S>(alloc, lines, line)?,
+        silenced_by: silencer_of(lines, line),
+    })
+}
+
+/// Lines of a conflict: a guess if it is one, else all slot lines up to the last.
+fn lines_of_conflict<S: OpenSet>(
+    alloc: Global,
+    lines: &[PackedLine],
+    last: u32,
+) -> Result<Vec<u32>, AllocError>
+    requires lines { AreFirstLines lines.now }
+    requires impossible { IsVerdict lines.now (Impossible last) }
+    ensures { IfOk result (λ numbers. IsConflictAt lines.now last numbers.items) }
+{
+    let mut guess = guess_conflict(alloc, lines, last)?;
+    put_numbers_in_order(&mut guess);
+    if is_conflict::<S>(alloc, lines, &guess, last)? {
+        return Ok(guess);
+    }
+    slot_lines_to(alloc, lines, last)
+}
+
+/// Puts numbers in rising order, each once.
+fn put_numbers_in_order(numbers: &mut Vec<u32>)
+    ensures rising { IsStrictlyIncreasing numbers.new.items }
+    ensures members { (n : ℕ) → has numbers.new.items n ≡ has numbers.old.items n }
+{
+    numbers.sort_unstable();
+    numbers.dedup();
+}
+
+/// Whether rising numbers end with one, and a log of their lines alone is one that no population
+/// could have given.
+fn is_conflict<S: OpenSet>(
+    alloc: Global,
+    lines: &[PackedLine],
+    numbers: &[u32],
+    last: u32,
+) -> Result<bool, AllocError>
+    requires lines { AreFirstLines lines.now }
+    requires rising { IsStrictlyIncreasing numbers.now }
+    ensures { IfOk result (λ b. b ≡ true → IsConflictAt lines.now last numbers.now) }
+{
+    let Some(end) = numbers.last() else {
+        return Ok(false);
+    };
+    if *end != last {
+        return Ok(false);
+    }
+    let Some(log) = log_of_kept(alloc, lines, numbers)? else {
+        return Ok(false);
+    };
+    match open_and_met::<S>(alloc, log.lines())? {
+        Ok(_) => Ok(false),
+        Err(_) => Ok(true),
+    }
+}
+
+/// The slot lines up to one that no population could have given.
+fn slot_lines_to(alloc: Global, lines: &[PackedLine], last: u32) -> Result<Vec<u32>, AllocError>
+    requires lines { AreFirstLines lines.now }
+    requires impossible { IsVerdict lines.now (Impossible last) }
+    ensures { IfOk result (λ numbers. IsConflictAt lines.now last numbers.items) }
+{
+    let mut numbers = Vec::new(alloc);
+    for line in lines {
+        push_slot_line(&mut numbers, line, last)?;
+    }
+    numbers.push(last)?;
+    put_numbers_in_order(&mut numbers);
+    Ok(numbers)
+}
+
+/// Adds the number of a line, if it is a slot line up to one.
+fn push_slot_line(numbers: &mut Vec<u32>, line: &PackedLine, last: u32) -> Result<(), AllocError>
+    ensures upto { OnOk result ((m : ℕ) → has numbers.new.items m ≡ true
+        → (has numbers.old.items m ≡ true) ⊎ (m ≤ last)) }
+    ensures kept { OnOk result ((m : ℕ) → has numbers.old.items m ≡ true
+        → has numbers.new.items m ≡ true) }
+    ensures added { OnOk result (line.now.number ≤ last → is_slot line.now.item ≡ true
+        → has numbers.new.items line.now.number ≡ true) }
+{
+    if line.number() <= last && line.item().is_slot() {
+        numbers.push(line.number())?;
+    }
+    Ok(())
+}

@@ -1,0 +1,26 @@
+//! Laws of the definitions. The functions do nothing: each stands for what its clauses say.
+
+ghost use Rattle.std.specs.Prelude.{◌≡◌, ℕ, List, ◌++◌};
+ghost use Rattle.vic_log.specs.Order.{entries};
+ghost use Rattle.vic_log.specs.declared.entry.LogLine.{LogLine};
+ghost use Rattle.vic_verdict.specs.Possible.{IsPossible};
+ghost use Rattle.vic_verdict.specs.Verdict.{IsVerdict};
+ghost use Rattle.vic_verdict.specs.declared.verdict.Verdict.TheVariants.{Complete};
+ghost use Rattle.vic_report.specs.Conflicts.{IsConflictAt};
+ghost use Rattle.vic_report.specs.Reports.{IsReport, verdict_of};
+ghost use Rattle.vic_report.specs.declared.reporting.LogReport.{LogReport};
+ghost use Rattle.vic_report.specs.declared.reporting.LogReport.TheVariants as reported;
+
+/// The first finding of a report is the verdict, and where that is `Complete` there is none.
+pub fn first_finding_is_the_verdict()
+    ensures first { (lines : List LogLine) (r : LogReport) → IsReport lines r
+        → IsVerdict lines (verdict_of r) }
+    ensures none { (lines : List LogLine) (r : LogReport) (count : ℕ) → IsReport lines r
+        → verdict_of r ≡ Complete count → r ≡ reported.Complete count }
+{}
+
+/// Lines that no population fits together stay so whatever follows.
+pub fn conflict_stays()
+    ensures { (lines more : List LogLine) (n : ℕ) (numbers : List ℕ)
+        → IsConflictAt lines n numbers → IsPossible (entries (lines ++ more)) → ⊥ }
+{}

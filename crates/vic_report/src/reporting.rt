@@ -1,0 +1,89 @@
+//! All that a log tells against its list, and the lines that tell it.
+
+ghost use Rattle.std.specs.Prelude.{◌≡◌, IfOk};
+ghost use Rattle.vic_tree.specs.OpenSet.{SameUids};
+ghost use Rattle.vic_tree.specs.Ranges.{is_open_in};
+ghost use Rattle.vic_log.specs.Order.{entries};
+ghost use Rattle.vic_log.specs.Slots.{slots_of, is_open};
+ghost use Rattle.vic_verdict.specs.Demands.{IsMet};
+ghost use Rattle.vic_verdict.specs.FirstLines.{AreFirstLines};
+ghost use Rattle.vic_verdict.specs.Possible.{IsPossible};
+ghost use Rattle.vic_report.specs.Reports.{IsReport, verdict_of};
+
+use crate::conflict::{Conflict, find_conflict};
+use crate::findings::{Findings, find_findings};
+use std::alloc::{AllocError, Global};
+use vic_log::{Log, PackedLine};
+use vic_tree::RangeSet;
+use vic_verdict::{Met, Verdict, count_listed, open_and_met};
+
+/// All that a log tells against its list, and the lines that tell it (profile).
+#[derive(Drop)]
+pub enum LogReport {
+    /// No population could have given the log: the first line up to which none could, and lines
+    /// that no population fits together.
+    Impossible(Conflict),
+    /// The log is possible, and its list isn't whole: one finding at least.
+    NotWhole(Findings),
+    /// The list is whole, and has so many UIDs.
+    Complete { count: u32 },
+}
+
+impl LogReport {
+    /// The verdict that it begins with, which is the verdict of `judge` on the same log.
+    pub fn verdict(&self) -> Verdict
+        ensures { result ≡ verdict_of self.now }
+    {
+        match self {
+            LogReport::Impossible(conflict) => Verdict::Impossible {
+                line: conflict.line,
+            },
+            LogReport::NotWhole(findings) => findings.first(),
+            LogReport::Complete { count } => Verdict::Complete { count: *count },
+        }
+    }
+}
+
+/// The report on a log. It begins with the verdict of `judge`. It is want of memory alone that
+/// keeps it from an answer.
+pub fn report(alloc: Global, log: &Log) -> Result<LogReport, AllocError>
+    ensures { IfOk result (IsReport log.now.lines) }
+{
+    report_lines(alloc, log.lines())
+}
+
+/// The report on the lines of a log.
+fn report_lines(alloc: Global, lines: &[PackedLine]) -> Result<LogReport, AllocError>
+    requires { AreFirstLines lines.now }
+    ensures { IfOk result (IsReport lines.now) }
+{
+    match open_and_met::<RangeSet>(alloc, lines)? {
+        Ok((set, met)) => report_possible(alloc, set, &met, lines),
+        Err(contradiction) => Ok(LogReport::Impossible(find_conflict::<RangeSet>(
+            alloc,
+            lines,
+            contradiction,
+        )?)),
+    }
+}
+
+/// The report on a possible log, by the UIDs that it leaves open and what they meet.
+fn report_possible(
+    alloc: Global,
+    set: RangeSet,
+    met: &Met,
+    lines: &[PackedLine],
+) -> Result<LogReport, AllocError>
+    requires lines { AreFirstLines lines.now }
+    requires possible { IsPossible (entries lines.now) }
+    requires open { SameUids (is_open_in set) (is_open (slots_of (entries lines.now))) }
+    requires met { IsMet (entries lines.now) met.now }
+    ensures { IfOk result (IsReport lines.now) }
+{
+    let findings = find_findings(alloc, set, met, lines)?;
+    if !findings.is_empty() {
+        return Ok(LogReport::NotWhole(findings));
+    }
+    let count = count_listed(lines);
+    Ok(LogReport::Complete { count })
+}

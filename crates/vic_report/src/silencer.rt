@@ -1,0 +1,70 @@
+//! By which line a tag is Quiet whose reply can't be true.
+
+ghost use Rattle.std.specs.Prelude.{◌≡◌, ℕ, ◌+◌, ◌<◌, ◌≤◌, IfSome, MatchOption, Some, List, length, slice_get, true, false};
+ghost use Rattle.vic_log.specs.Order.{entries};
+ghost use Rattle.vic_log.specs.Quiet.{is_quiet};
+ghost use Rattle.vic_log.specs.declared.entry.LogLine.{LogLine as LogLineValue};
+ghost use Rattle.vic_report.specs.Conflicts.{IsSilencedBefore, IsSilencedBy};
+
+use vic_frame::{Request, Uid};
+use vic_log::{Entry, PackedLine};
+
+/// If the line with a number is a reply of a UID that is Quiet there, the number of the last Stay
+/// Quiet line with it.
+pub(crate) fn silencer_of(lines: &[PackedLine], number: u32) -> Option<u32>
+    ensures { IfSome result (IsSilencedBy lines.now number) }
+{
+    let place = lines.partition_point(|line| line.number() < number);
+    let line = lines.get(place)?;
+    if line.number() != number {
+        return None;
+    }
+    match line.item() {
+        Entry::Heard(response) => silencer_before(lines, place, response.uid()),
+        Entry::Sent(_)
+        | Entry::Silent
+        | Entry::Collision
+        | Entry::Garbled
+        | Entry::FieldCycle
+        | Entry::Listed(_) => None,
+    }
+}
+
+/// The number of the last Stay Quiet line with a UID before a place, if it is Quiet there.
+fn silencer_before(lines: &[PackedLine], place: usize, uid: Uid) -> Option<u32>
+    requires { place < length lines.now }
+    ensures { MatchOption result (is_quiet (entries lines.now) place uid ≡ false)
+        (IsSilencedBefore lines.now place uid) }
+{
+    let mut silencer = None;
+    for index in 0..place {
+        silencer = silencer_after(silencer, &lines[index], uid);
+    }
+    silencer
+}
+
+/// The same after one line more.
+fn silencer_after(before: Option<u32>, line: &PackedLine, uid: Uid) -> Option<u32>
+    ensures { (lines : List LogLineValue) (i : ℕ) → slice_get lines i ≡ Some line.now
+        → MatchOption before (is_quiet (entries lines) i uid ≡ false)
+        (IsSilencedBefore lines i uid)
+        → MatchOption result (is_quiet (entries lines) (i + 1) uid ≡ false)
+        (IsSilencedBefore lines (i + 1) uid) }
+{
+    match line.item() {
+        Entry::Sent(Request::StayQuiet { uid: number, .. }) => {
+            if number == uid.number() {
+                Some(line.number())
+            } else {
+                before
+            }
+        }
+        Entry::FieldCycle => None,
+        Entry::Sent(Request::Inventory { .. })
+        | Entry::Silent
+        | Entry::Collision
+        | Entry::Heard(_)
+        | Entry::Garbled
+        | Entry::Listed(_) => before,
+    }
+}

@@ -1,0 +1,254 @@
+//! Lines that tell that UIDs are there.
+//!
+//! What the slots tell is put in the order of the UIDs, and gone over beside the UIDs that are
+//! wanted. One that isn't met so, which no test has seen, is looked for by itself. That a reply is
+//! the first one, tests show.
+
+ghost use Rattle.std.specs.Prelude.{◌≡◌, ℕ, IfNone, IfOk, IfSome, OnOk, Some, List, length, slice_get, true, false};
+ghost use Rattle.std.specs.List.{All};
+ghost use Rattle.vic_frame.specs.Uids.{has};
+ghost use Rattle.vic_frame.specs.Replies.{Reply as ReplyValue};
+ghost use Rattle.vic_log.specs.declared.entry.Entry.TheVariants.{Heard as HeardValue};
+ghost use Rattle.vic_log.specs.declared.entry.LogLine.{LogLine as LogLineValue};
+ghost use Rattle.vic_log.specs.Order.{entries};
+ghost use Rattle.vic_verdict.specs.Demands.{IsExactFor, IsFound, IsHeard, IsMet, IsMetFor};
+ghost use Rattle.vic_report.specs.Findings.{IsToldOf, ShowsCertain, uids_of};
+ghost use Rattle.vic_verdict.specs.Possible.{IsPossible};
+
+use crate::shown::ShownUid;
+use std::alloc::{AllocError, Global};
+use vic_frame::Uid;
+use vic_log::{Entry, PackedLine};
+use vic_verdict::{Found, Met};
+
+/// For each of some UIDs that slots of a possible log force a line that tells that it is there.
+pub(crate) fn lines_of_unlisted(
+    alloc: Global,
+    lines: &[PackedLine],
+    met: &Met,
+    unlisted: &[Uid],
+) -> Result<Vec<ShownUid>, AllocError>
+    requires possible { IsPossible (entries lines.now) }
+    requires met { IsMet (entries lines.now) met.now }
+    requires forced { (u : ℕ) → has unlisted.now u ≡ true → IsMetFor met.now u }
+    ensures uids { IfOk result (λ v. uids_of v.items ≡ unlisted.now) }
+    ensures shown { IfOk result (λ v. All (IsToldOf lines.now) v.items) }
+{
+    let mut shown = Vec::new(alloc);
+    if unlisted.is_empty() {
+        return Ok(shown);
+    }
+    let replies = told_by_replies(alloc, lines)?;
+    let others = told_by_others(alloc, lines, &met.found)?;
+    let mut reply = 0;
+    let mut other = 0;
+    for uid in unlisted {
+        reply = first_from(&replies, reply, *uid);
+        other = first_from(&others, other, *uid);
+        let guess = line_among(&replies, reply, &others, other, *uid);
+        let line = line_of(lines, met, *uid, guess);
+        shown.push(ShownUid { uid: *uid, line })?;
+    }
+    Ok(shown)
+}
+
+/// The UIDs that replies tell of, with their lines: by UID, those of one UID by line.
+fn told_by_replies(alloc: Global, lines: &[PackedLine]) -> Result<Vec<ShownUid>, AllocError>
+    ensures { IfOk result (λ v. All (IsToldOf lines.now) v.items) }
+{
+    let mut told = Vec::new(alloc);
+    for line in lines {
+        push_reply(&mut told, line)?;
+    }
+    told.sort_unstable_by_key(|one| (one.uid, one.line));
+    Ok(told)
+}
+
+/// Adds what a line tells, if it is a reply.
+fn push_reply(told: &mut Vec<ShownUid>, line: &PackedLine) -> Result<(), AllocError>
+    ensures { OnOk result ((lines : List LogLineValue) (i : ℕ)
+        → slice_get lines i ≡ Some line.now
+        → All (IsToldOf lines) told.old.items → All (IsToldOf lines) told.new.items) }
+{
+    if let Entry::Heard(response) = line.item() {
+        told.push(ShownUid {
+            uid: response.uid(),
+            line: line.number(),
+        })?;
+    }
+    Ok(())
+}
+
+/// The UIDs that slots tell of which nobody else could have met, with their lines: by UID.
+fn told_by_others(
+    alloc: Global,
+    lines: &[PackedLine],
+    found: &[Found],
+) -> Result<Vec<ShownUid>, AllocError>
+    requires possible { IsPossible (entries lines.now) }
+    requires found { All (IsFound (entries lines.now)) found.now }
+    ensures { IfOk result (λ v. All (IsToldOf lines.now) v.items) }
+{
+    let mut told = Vec::new(alloc);
+    for one in found {
+        push_exact(&mut told, lines, one)?;
+    }
+    told.sort_unstable_by_key(|one| (one.uid, one.line));
+    Ok(told)
+}
+
+/// Adds whom a slot tells of, if nobody but those found could have met it.
+fn push_exact(told: &mut Vec<ShownUid>, lines: &[PackedLine], one: &Found) -> Result<(), AllocError>
+    requires possible { IsPossible (entries lines.now) }
+    requires found { IsFound (entries lines.now) one.now }
+    ensures { OnOk result (All (IsToldOf lines.now) told.old.items
+        → All (IsToldOf lines.now) told.new.items) }
+{
+    let Some(line) = exact_line(lines, one) else {
+        return Ok(());
+    };
+    push_uids(told, &one.uids, line)
+}
+
+/// The line of a slot, if nobody but those found could have met it: it tells of each of them.
+fn exact_line(lines: &[PackedLine], one: &Found) -> Option<u32>
+    requires possible { IsPossible (entries lines.now) }
+    requires found { IsFound (entries lines.now) one.now }
+    ensures shows { IfSome result (λ n. (u : ℕ) → has one.now.uids.items u ≡ true
+        → ShowsCertain lines.now n u) }
+    ensures exact { IfNone result (length one.now.uids.items ≡ one.now.need → ⊥) }
+{
+    if one.uids.len() != one.need {
+        return None;
+    }
+    let Some(line) = lines.get(one.at) else {
+        unreachable!()
+    };
+    Some(line.number())
+}
+
+/// Adds UIDs that a line tells of.
+fn push_uids(told: &mut Vec<ShownUid>, uids: &[Uid], line: u32) -> Result<(), AllocError>
+    ensures { OnOk result ((lines : List LogLineValue)
+        → ((u : ℕ) → has uids.now u ≡ true → ShowsCertain lines line u)
+        → All (IsToldOf lines) told.old.items → All (IsToldOf lines) told.new.items) }
+{
+    for uid in uids {
+        told.push(ShownUid { uid: *uid, line })?;
+    }
+    Ok(())
+}
+
+/// The first index from one on whose UID isn't below another.
+fn first_from(told: &[ShownUid], start: usize, uid: Uid) -> usize {
+    let mut index = start;
+    while index < told.len() && told[index].uid < uid {
+        index += 1;
+    }
+    index
+}
+
+/// The line of a UID at an index among replies, or else at one among other slots, if it is there.
+fn line_among(
+    replies: &[ShownUid],
+    reply: usize,
+    others: &[ShownUid],
+    other: usize,
+    uid: Uid,
+) -> Option<u32>
+    ensures { (lines : List LogLineValue) → All (IsToldOf lines) replies.now
+        → All (IsToldOf lines) others.now → IfSome result (λ n. ShowsCertain lines n uid) }
+{
+    match line_at(replies, reply, uid) {
+        Some(line) => Some(line),
+        None => line_at(others, other, uid),
+    }
+}
+
+/// The line at an index, if it is that of a UID.
+fn line_at(told: &[ShownUid], index: usize, uid: Uid) -> Option<u32>
+    ensures { (lines : List LogLineValue) → All (IsToldOf lines) told.now
+        → IfSome result (λ n. ShowsCertain lines n uid) }
+{
+    let one = told.get(index)?;
+    if one.uid == uid { Some(one.line) } else { None }
+}
+
+/// A line that tells of a UID that the slots of a possible log force: the one that was found, or
+/// one that is looked for.
+fn line_of(lines: &[PackedLine], met: &Met, uid: Uid, found: Option<u32>) -> u32
+    requires possible { IsPossible (entries lines.now) }
+    requires met { IsMet (entries lines.now) met.now }
+    requires forced { IsMetFor met.now uid }
+    requires found { IfSome found (λ n. ShowsCertain lines.now n uid) }
+    ensures { ShowsCertain lines.now result uid }
+{
+    match found {
+        Some(line) => line,
+        None => search_line(lines, met, uid),
+    }
+}
+
+/// A line that tells of a UID that the slots of a possible log force.
+fn search_line(lines: &[PackedLine], met: &Met, uid: Uid) -> u32
+    requires possible { IsPossible (entries lines.now) }
+    requires met { IsMet (entries lines.now) met.now }
+    requires forced { IsMetFor met.now uid }
+    ensures { ShowsCertain lines.now result uid }
+{
+    if let Some(line) = reply_of(lines, uid) {
+        return line;
+    }
+    let Some(line) = other_of(lines, &met.found, uid) else {
+        unreachable!()
+    };
+    line
+}
+
+/// The first line that is a reply of a UID.
+fn reply_of(lines: &[PackedLine], uid: Uid) -> Option<u32>
+    ensures shows { IfSome result (λ n. ShowsCertain lines.now n uid) }
+    ensures heard { IfNone result (IsHeard (entries lines.now) uid → ⊥) }
+{
+    for line in lines {
+        if is_reply_of(line, uid) {
+            return Some(line.number());
+        }
+    }
+    None
+}
+
+/// Whether a line is a reply of a UID.
+fn is_reply_of(line: &PackedLine, uid: Uid) -> bool
+    ensures yes { result ≡ true
+        → (r : ReplyValue) × (line.now.item ≡ HeardValue r) × (r.uid ≡ uid) }
+    ensures no { result ≡ false
+        → (r : ReplyValue) → line.now.item ≡ HeardValue r → r.uid ≡ uid → ⊥ }
+{
+    match line.item() {
+        Entry::Heard(response) => response.uid() == uid,
+        Entry::Sent(_)
+        | Entry::Silent
+        | Entry::Collision
+        | Entry::Garbled
+        | Entry::FieldCycle
+        | Entry::Listed(_) => false,
+    }
+}
+
+/// The line of a slot that a UID met and that nobody else could have met.
+fn other_of(lines: &[PackedLine], found: &[Found], uid: Uid) -> Option<u32>
+    requires possible { IsPossible (entries lines.now) }
+    requires found { All (IsFound (entries lines.now)) found.now }
+    ensures shows { IfSome result (λ n. ShowsCertain lines.now n uid) }
+    ensures exact { IfNone result (IsExactFor found.now uid → ⊥) }
+{
+    for one in found {
+        if one.uids.contains(&uid) {
+            if let Some(line) = exact_line(lines, one) {
+                return Some(line);
+            }
+        }
+    }
+    None
+}

@@ -1,5 +1,0 @@
-use Rattle.vic_verdict.proofs.Conflicts.{stays_unfit}
-use Rattle.vic_verdict.proofs.laws.conflict_stays.Goals as goal
-
-pub returns : goal.returns
-returns c = stays_unfit

@@ -1,6 +1,0 @@
-use Rattle.std.specs.List.{All}
-use Rattle.vic_verdict.specs.Findings.{IsToldOf}
-use Rattle.vic_verdict.proofs.told.told_by_others.Given as goal
-
-abbrev pub invariant-loop-one : goal.invariant-loop-one
-invariant-loop-one l = All (IsToldOf l.lines) l.told.items

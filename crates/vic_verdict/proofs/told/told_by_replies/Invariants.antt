@@ -1,6 +1,0 @@
-use Rattle.std.specs.List.{All}
-use Rattle.vic_verdict.specs.Findings.{IsToldOf}
-use Rattle.vic_verdict.proofs.told.told_by_replies.Given as goal
-
-abbrev pub invariant-loop-line : goal.invariant-loop-line
-invariant-loop-line l = All (IsToldOf l.lines) l.told.items
