@@ -4,8 +4,8 @@ use Rattle.vic_log.specs.Lines.{lines_of_text}
 use Rattle.vic_log.specs.Log.{LogValue}
 use Rattle.vic_log.specs.Order.{entries, listed}
 use Rattle.vic_log.specs.Text.{IsLogOf, IsFirstFault}
-use Rattle.vic_verdict.specs.declared.verdict.Verdict.{Verdict}
-use Rattle.vic_verdict.specs.declared.verdict.Verdict.TheVariants.{Impossible, Absent, Unlisted, Unsettled, Doubtful, Complete}
+use Rattle.vic_verdict.specs.declared.judging.Verdict.{Verdict}
+use Rattle.vic_verdict.specs.declared.judging.Verdict.TheVariants.{Impossible, Absent, Unlisted, Unsettled, Doubtful, Complete}
 use Rattle.vic_verdict.specs.TwoVersions.{IsWholeSecond}
 use Rattle.vic_verdict.specs.Verdict.{IsVerdict, IsWhole}
 use Rattle.vic_answer.specs.Digits.{uid_text, value_text}

@@ -12,7 +12,7 @@ use Rattle.vic_report.specs.declared.findings.Unsettled.{Unsettled as LeftToAsk}
 use Rattle.vic_report.specs.declared.reporting.LogReport.{LogReport}
 use Rattle.vic_report.specs.declared.reporting.LogReport.TheVariants as report
 use Rattle.vic_report.specs.declared.shown.ShownUid.{ShownUid}
-use Rattle.vic_verdict.specs.declared.verdict.Verdict.TheVariants.{Impossible, Absent, Unlisted, Unsettled, Doubtful, Complete}
+use Rattle.vic_verdict.specs.declared.judging.Verdict.TheVariants.{Impossible, Absent, Unlisted, Unsettled, Doubtful, Complete}
 use Rattle.vic_report.specs.Reports.{IsReport, verdict_of}
 use Rattle.vic_answer.specs.CheckText.{answer_status, verdict_line}
 use Rattle.vic_answer.specs.Digits.{value_text}

@@ -2,7 +2,7 @@
 
 ghost use Rattle.std.specs.Prelude.{◌≡◌, ◌<◌, ℕ, List, ◌++◌, Some, IfOk, OnOk, codes};
 ghost use Rattle.arrayvec.specs.ArrayVec.{array_vec_len};
-ghost use Rattle.vic_verdict.specs.declared.verdict.Verdict.TheVariants.{Complete};
+ghost use Rattle.vic_verdict.specs.declared.judging.Verdict.TheVariants.{Complete};
 ghost use Rattle.vic_answer.specs.CheckText.{IsAnswer, IsCheckOf, IsCompleteText, answer_line, answer_status, verdict_status};
 ghost use Rattle.vic_answer.specs.CompleteRun.{GivesCompleteText, ReadsCompleteText};
 ghost use Rattle.vic_answer.specs.Readings.{IsReading, IsLog};

@@ -3,7 +3,7 @@
 ghost use Rattle.std.specs.Prelude.{◌≡◌, ◌<◌, ℕ, List, ◌++◌, IfOk};
 ghost use Rattle.arrayvec.specs.ArrayVec.{array_vec_len};
 ghost use Rattle.vic_log.specs.Writing.{listed_text};
-ghost use Rattle.vic_verdict.specs.declared.verdict.Verdict.TheVariants.{Complete};
+ghost use Rattle.vic_verdict.specs.declared.judging.Verdict.TheVariants.{Complete};
 ghost use Rattle.vic_answer.specs.CheckText.{IsAnswer, IsCompleteText, answer_status};
 ghost use Rattle.vic_answer.specs.ExplainText.{IsExplained, IsExplanationOf, answer_of, explained_text, population_line, uids_of};
 ghost use Rattle.vic_answer.specs.Readings.{IsReading};

@@ -1,7 +1,7 @@
 //! The command `report`.
 
 ghost use Rattle.std.specs.Prelude.{◌≡◌, ℕ, List, IfOk};
-ghost use Rattle.vic_verdict.specs.declared.verdict.Verdict.TheVariants.{Complete};
+ghost use Rattle.vic_verdict.specs.declared.judging.Verdict.TheVariants.{Complete};
 ghost use Rattle.vic_answer.specs.CheckText.{IsAnswer, IsCompleteText, answer_status};
 ghost use Rattle.vic_answer.specs.Pieces.{Puts};
 ghost use Rattle.vic_answer.specs.Readings.{IsReading};

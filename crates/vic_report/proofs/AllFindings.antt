@@ -26,7 +26,7 @@ use Rattle.vic_report.specs.Reports.{AreFindings, IsReport, IsUnsettledWith, fir
 use Rattle.vic_verdict.specs.Rising.{IsListOf, IsFailing}
 use Rattle.vic_verdict.specs.Unsettled.{AreOpenAndListed}
 use Rattle.vic_verdict.specs.Verdict.{IsAbsent, IsUnlisted, IsUnsettled, IsDoubtful, IsLeast, IsFirstMask, NoSuch, IsVerdict}
-use Rattle.vic_verdict.specs.declared.verdict.Verdict.TheVariants.{Complete}
+use Rattle.vic_verdict.specs.declared.judging.Verdict.TheVariants.{Complete}
 use Rattle.vic_verdict.proofs.Decide.{IsPossibleUid-iff, IsPossibleUid-either, IsCertainUid-iff}
 use Rattle.vic_verdict.proofs.Failing.{member_at, place_of}
 use Rattle.vic_verdict.proofs.Inserted.{rising_order}

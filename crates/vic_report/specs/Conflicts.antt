@@ -10,7 +10,7 @@ use Rattle.vic_log.specs.Order.{entries}
 use Rattle.vic_log.specs.Populations.{IsPopulation, outcome_at, Fits}
 use Rattle.vic_log.specs.Quiet.{is_quiet, silences}
 use Rattle.vic_report.specs.declared.conflict.Conflict.{Conflict}
-use Rattle.vic_verdict.specs.declared.verdict.Verdict.TheVariants.{Impossible}
+use Rattle.vic_verdict.specs.declared.judging.Verdict.TheVariants.{Impossible}
 use Rattle.vic_verdict.specs.Verdict.{IsVerdict}
 
 -- the population fits the lines with these numbers: each that tells of a slot is its outcome there

@@ -15,8 +15,8 @@ use Rattle.vic_report.specs.declared.findings.Findings.{Findings}
 use Rattle.vic_report.specs.declared.findings.Unsettled.{Unsettled}
 use Rattle.vic_report.specs.declared.reporting.LogReport.{LogReport}
 use Rattle.vic_report.specs.declared.reporting.LogReport.TheVariants.{Impossible, NotWhole, Complete}
-use Rattle.vic_verdict.specs.declared.verdict.Verdict.{Verdict}
-use Rattle.vic_verdict.specs.declared.verdict.Verdict.TheVariants as verdict
+use Rattle.vic_verdict.specs.declared.judging.Verdict.{Verdict}
+use Rattle.vic_verdict.specs.declared.judging.Verdict.TheVariants as verdict
 use Rattle.vic_report.specs.Conflicts.{IsConflict}
 use Rattle.vic_report.specs.Findings.{IsOpenUid, IsLeftOpen, IsRuledOut, IsToldOf, MayBeMissing, uids_of}
 use Rattle.vic_verdict.specs.Possible.{IsPossible}

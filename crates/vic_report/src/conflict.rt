@@ -10,7 +10,7 @@ ghost use Rattle.vic_report.specs.Conflicts.{IsConflict, IsConflictAt};
 ghost use Rattle.vic_verdict.specs.FirstLines.{AreFirstLines};
 ghost use Rattle.vic_verdict.specs.Possible.{IsContradictedAt};
 ghost use Rattle.vic_verdict.specs.Verdict.{IsVerdict};
-ghost use Rattle.vic_verdict.specs.declared.verdict.Verdict.TheVariants.{Impossible};
+ghost use Rattle.vic_verdict.specs.declared.judging.Verdict.TheVariants.{Impossible};
 
 use crate::kept_log::log_of_kept;
 use crate::silencer::silencer_of;

@@ -5,7 +5,7 @@ ghost use Rattle.vic_log.specs.Order.{entries};
 ghost use Rattle.vic_log.specs.declared.entry.LogLine.{LogLine};
 ghost use Rattle.vic_verdict.specs.Possible.{IsPossible};
 ghost use Rattle.vic_verdict.specs.Verdict.{IsVerdict};
-ghost use Rattle.vic_verdict.specs.declared.verdict.Verdict.TheVariants.{Complete};
+ghost use Rattle.vic_verdict.specs.declared.judging.Verdict.TheVariants.{Complete};
 ghost use Rattle.vic_report.specs.Conflicts.{IsConflictAt};
 ghost use Rattle.vic_report.specs.Reports.{IsReport, verdict_of};
 ghost use Rattle.vic_report.specs.declared.reporting.LogReport.{LogReport};

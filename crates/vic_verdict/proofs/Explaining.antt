@@ -13,7 +13,7 @@ use Rattle.vic_log.proofs.Sets.{IsWithin, AreDifferent-population, IsUid-member,
 use Rattle.vic_log.proofs.Supply.{MeetsAll-iff, SuppliesAll-within}
 use Rattle.vic_log.proofs.Places.{CouldHaveGiven-slots}
 use Rattle.vic_verdict.specs.declared.demands.Met.{Met}
-use Rattle.vic_verdict.specs.declared.verdict.Verdict.TheVariants.{Absent, Unlisted, Unsettled, Doubtful}
+use Rattle.vic_verdict.specs.declared.judging.Verdict.TheVariants.{Absent, Unlisted, Unsettled, Doubtful}
 use Rattle.vic_verdict.specs.Demands.{IsMet}
 use Rattle.vic_verdict.specs.Explained.{IsSmallPopulation, IsPopulationBehind}
 use Rattle.vic_verdict.specs.Gathered.{gathered}

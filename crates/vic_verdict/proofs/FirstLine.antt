@@ -6,7 +6,7 @@ use Rattle.vic_log.specs.declared.entry.Entry.{Entry}
 use Rattle.vic_log.specs.declared.entry.LogLine.{LogLine}
 use Rattle.vic_verdict.specs.Possible.{IsPossible}
 use Rattle.vic_verdict.proofs.Possibility.{IsPossible-front}
-use Rattle.vic_verdict.specs.declared.verdict.Verdict.TheVariants.{Impossible}
+use Rattle.vic_verdict.specs.declared.judging.Verdict.TheVariants.{Impossible}
 use Rattle.vic_log.specs.Order.{entries, IsRisingFrom}
 use Rattle.vic_verdict.specs.Verdict.{entries_to, IsVerdict}
 use Rattle.vic_verdict.proofs.Verdicts.{none_to, line_kept}

@@ -17,7 +17,7 @@ use Rattle.vic_log.proofs.Quiet.{quiet-silenced}
 use Rattle.vic_log.proofs.Sets.{has_here, has_there, has_cases, has_filter, filter_has, AreDifferent-population, AreDifferent-filter}
 use Rattle.vic_verdict.specs.TwoVersions.{HasExactlyListed, IsWholeFirst, IsReady, Answers, AnswersAlone, SeveralAnswer, IsToldOf, CouldHaveGivenSecond, IsWholeSecond}
 use Rattle.vic_verdict.specs.Verdict.{IsVerdict, IsWhole}
-use Rattle.vic_verdict.specs.declared.verdict.Verdict.TheVariants.{Complete}
+use Rattle.vic_verdict.specs.declared.judging.Verdict.TheVariants.{Complete}
 use Rattle.vic_verdict.proofs.Verdicts.{complete_whole}
 
 -- ---- Ready tags

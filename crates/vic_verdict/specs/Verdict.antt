@@ -11,8 +11,8 @@ use Rattle.vic_log.specs.declared.entry.LogLine.{LogLine}
 use Rattle.vic_log.specs.Populations.{IsPopulation, CouldHaveGiven}
 use Rattle.vic_log.specs.Order.{entries, listed}
 use Rattle.vic_tree.specs.OpenSet.{IsAtMost}
-use Rattle.vic_verdict.specs.declared.verdict.Verdict.{Verdict}
-use Rattle.vic_verdict.specs.declared.verdict.Verdict.TheVariants.{Impossible, Absent, Unlisted, Unsettled, Doubtful, Complete}
+use Rattle.vic_verdict.specs.declared.judging.Verdict.{Verdict}
+use Rattle.vic_verdict.specs.declared.judging.Verdict.TheVariants.{Impossible, Absent, Unlisted, Unsettled, Doubtful, Complete}
 use Rattle.vic_verdict.specs.Possible.{IsPossible, IsPossibleUid, IsCertainUid}
 
 -- the entries of the lines 1 to n

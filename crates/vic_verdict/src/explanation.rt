@@ -1,23 +1,25 @@
 //! A verdict with a small population that shows it.
 
-ghost use Rattle.std.specs.Prelude.{IfOk};
+ghost use Rattle.std.specs.Prelude.{◌≡◌, ◌++◌, ◌∷◌, [], IfOk, OnOk};
+ghost use Rattle.std.specs.List.Sorted.{IsStrictlyIncreasing};
 ghost use Rattle.vic_tree.specs.OpenSet.{SameUids};
 ghost use Rattle.vic_log.specs.Slots.{slots_of, is_open};
 ghost use Rattle.vic_log.specs.Order.{entries};
 ghost use Rattle.vic_verdict.specs.FirstLines.{AreFirstLines};
 ghost use Rattle.vic_verdict.specs.Demands.{IsMet};
 ghost use Rattle.vic_verdict.specs.Explained.{IsExplanation};
+ghost use Rattle.vic_verdict.specs.Gathered.{is_other, chosen, gathered};
 ghost use Rattle.vic_verdict.specs.Possible.{IsPossible};
+ghost use Rattle.vic_verdict.specs.Rising.{SameMembers};
 
-use crate::demands::Met;
+use crate::demands::{Found, Met};
 use crate::first_line::first_impossible_line;
-use crate::judging::judge_possible;
+use crate::judging::{Verdict, judge_possible};
 use crate::met::open_and_met;
-use crate::population::{gather, with_uid};
-use crate::verdict::Verdict;
 use std::alloc::{AllocError, Global};
 use vic_frame::Uid;
 use vic_log::{Log, PackedLine};
+use vic_tree::rising::put_in_order;
 use vic_tree::{OpenSet, RangeSet};
 
 /// The verdict on a log, and a population that shows it.
@@ -29,6 +31,38 @@ pub struct Explanation {
     /// the UIDs heard, two for each collision, one for each garbled slot, and one more. `None`
     /// where the log is impossible or its list complete.
     pub population: Option<Vec<Uid>>,
+}
+
+/// The verdict on a log, that of `judge`, with a small population that shows it.
+pub fn explain(alloc: Global, log: &Log) -> Result<Explanation, AllocError>
+    ensures { IfOk result (IsExplanation log.now.lines) }
+{
+    explain_with::<RangeSet>(alloc, log)
+}
+
+/// The verdict on a log with a small population that shows it, over any set of open UIDs. It is
+/// want of memory alone that keeps it from an answer.
+pub fn explain_with<S: OpenSet>(alloc: Global, log: &Log) -> Result<Explanation, AllocError>
+    ensures { IfOk result (IsExplanation log.now.lines) }
+{
+    explain_lines::<S>(alloc, log.lines())
+}
+
+/// The verdict on the lines of a log with a population that shows it.
+fn explain_lines<S: OpenSet>(alloc: Global, lines: &[PackedLine]) -> Result<Explanation, AllocError>
+    requires { AreFirstLines lines.now }
+    ensures { IfOk result (IsExplanation lines.now) }
+{
+    match open_and_met::<S>(alloc, lines)? {
+        Ok((set, met)) => explain_possible(alloc, set, met, lines),
+        Err(contradiction) => {
+            let line = first_impossible_line::<S>(alloc, lines, contradiction)?;
+            Ok(Explanation {
+                verdict: Verdict::Impossible { line },
+                population: None,
+            })
+        }
+    }
 }
 
 /// The verdict on a possible log with a population that shows it, by the UIDs that it leaves open
@@ -58,34 +92,54 @@ fn explain_possible<S: OpenSet>(
     })
 }
 
-/// The verdict on the lines of a log with a population that shows it.
-fn explain_lines<S: OpenSet>(alloc: Global, lines: &[PackedLine]) -> Result<Explanation, AllocError>
-    requires { AreFirstLines lines.now }
-    ensures { IfOk result (IsExplanation lines.now) }
+/// The UIDs that were heard, and of each collision two that answer and of each garbled slot one,
+/// other than the one to avoid: in rising order.
+fn gather(met: Met, avoid: &Option<Uid>) -> Result<Vec<Uid>, AllocError>
+    ensures rising { IfOk result (λ v. IsStrictlyIncreasing v.items) }
+    ensures members { IfOk result (λ v. SameMembers v.items (gathered avoid.now met)) }
 {
-    match open_and_met::<S>(alloc, lines)? {
-        Ok((set, met)) => explain_possible(alloc, set, met, lines),
-        Err(contradiction) => {
-            let line = first_impossible_line::<S>(alloc, lines, contradiction)?;
-            Ok(Explanation {
-                verdict: Verdict::Impossible { line },
-                population: None,
-            })
+    let Met {
+        heard: mut uids,
+        found,
+    } = met;
+    for one in &found {
+        add_chosen(&mut uids, one, avoid)?;
+    }
+    put_in_order(&mut uids);
+    Ok(uids)
+}
+
+/// Adds as many UIDs as a slot needs, other than the one to avoid.
+fn add_chosen(uids: &mut Vec<Uid>, found: &Found, avoid: &Option<Uid>) -> Result<(), AllocError>
+    ensures { OnOk result (uids.new.items ≡ uids.old.items ++ chosen avoid.now found.now) }
+{
+    let mut left = found.need;
+    let candidates: &[Uid] = &found.uids;
+    for uid in candidates {
+        if left > 0 && is_other(avoid, *uid) {
+            uids.push(*uid)?;
+            left -= 1;
         }
+    }
+    Ok(())
+}
+
+/// Whether a UID isn't the one to avoid.
+fn is_other(avoid: &Option<Uid>, uid: Uid) -> bool
+    ensures { result ≡ is_other avoid.now uid }
+{
+    match *avoid {
+        Some(avoided) => uid != avoided,
+        None => true,
     }
 }
 
-/// The verdict on a log with a small population that shows it, over any set of open UIDs. It is
-/// want of memory alone that keeps it from an answer.
-pub fn explain_with<S: OpenSet>(alloc: Global, log: &Log) -> Result<Explanation, AllocError>
-    ensures { IfOk result (IsExplanation log.now.lines) }
+/// UIDs and one UID more: in rising order.
+fn with_uid(mut tags: Vec<Uid>, uid: Uid) -> Result<Vec<Uid>, AllocError>
+    ensures rising { IfOk result (λ v. IsStrictlyIncreasing v.items) }
+    ensures members { IfOk result (λ v. SameMembers v.items (tags.items ++ uid ∷ [])) }
 {
-    explain_lines::<S>(alloc, log.lines())
-}
-
-/// The verdict on a log, that of `judge`, with a small population that shows it.
-pub fn explain(alloc: Global, log: &Log) -> Result<Explanation, AllocError>
-    ensures { IfOk result (IsExplanation log.now.lines) }
-{
-    explain_with::<RangeSet>(alloc, log)
+    tags.push(uid)?;
+    put_in_order(&mut tags);
+    Ok(tags)
 }

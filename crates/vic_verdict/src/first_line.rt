@@ -5,7 +5,7 @@ ghost use Rattle.vic_log.specs.Order.{entries};
 ghost use Rattle.vic_verdict.specs.FirstLines.{AreFirstLines};
 ghost use Rattle.vic_verdict.specs.Possible.{IsContradictedAt};
 ghost use Rattle.vic_verdict.specs.Verdict.{IsVerdict};
-ghost use Rattle.vic_verdict.specs.declared.verdict.Verdict.TheVariants.{Impossible};
+ghost use Rattle.vic_verdict.specs.declared.judging.Verdict.TheVariants.{Impossible};
 
 use crate::met::open_and_met;
 use crate::possible::Contradiction;

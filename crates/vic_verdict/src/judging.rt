@@ -1,29 +1,97 @@
-//! The verdict on a log.
+//! What a log proves of its list of tags: the verdict on it.
 
-ghost use Rattle.std.specs.Prelude.{◌≡◌, ℕ, IfOk, length};
+ghost use Rattle.std.specs.Prelude.{◌≡◌, ℕ, List, IfOk, MatchOption, length};
+ghost use Rattle.std.specs.List.Sorted.{IsNonDecreasing};
 ghost use Rattle.vic_frame.specs.Uids.{has};
-ghost use Rattle.vic_tree.specs.OpenSet.{SameUids};
+ghost use Rattle.vic_tree.specs.OpenSet.{AreKeys, SameUids};
+ghost use Rattle.vic_log.specs.declared.entry.Entry.{Entry as EntryValue};
 ghost use Rattle.vic_log.specs.Slots.{slots_of, is_open};
 ghost use Rattle.vic_verdict.specs.Possible.{IsPossible};
 ghost use Rattle.vic_log.specs.Order.{entries, listed};
 ghost use Rattle.vic_verdict.specs.FirstLines.{AreFirstLines};
-ghost use Rattle.vic_verdict.specs.Verdict.{IsVerdict, IsWhole, IsReached};
+ghost use Rattle.vic_verdict.specs.Keys.{AreKeysOf};
+ghost use Rattle.vic_verdict.specs.Unsettled.{AreOpenAndListed};
+ghost use Rattle.vic_verdict.specs.Verdict.{IsVerdict, IsWhole, IsReached, IsUnsettled, IsFirstMask, NoSuch};
 ghost use Rattle.vic_verdict.specs.TwoVersions.{IsWholeSecond};
 ghost use Rattle.vic_verdict.specs.Demands.{IsMet};
-ghost use Rattle.vic_verdict.specs.declared.verdict.Verdict.TheVariants.{Complete};
+ghost use Rattle.vic_verdict.specs.declared.judging.Verdict.TheVariants.{Complete};
 
-use crate::certain::certain_uids;
 use crate::demands::Met;
 use crate::first_line::first_impossible_line;
-use crate::keys::{keys_in_order, least_outside};
-use crate::listed::{count_listed, listed_uids};
 use crate::met::open_and_met;
-use crate::rising::least_missing;
-use crate::unsettled::first_unsettled;
-use crate::verdict::Verdict;
+use crate::missing::{keys_in_order, least_missing, least_outside};
+use crate::uids::{certain_uids, count_listed, listed_uids};
 use std::alloc::{AllocError, Global};
+use vic_frame::{Mask, Uid};
 use vic_log::{Log, PackedLine};
 use vic_tree::{OpenSet, RangeSet};
+
+/// What a log proves of its list of tags (profile): the first answer that applies. It is said of
+/// the populations of tags that could have given the log.
+#[derive(Clone, Copy, Debug, PartialEq, Eq)]
+pub enum Verdict {
+    /// No population could have given the lines up to this one, and it is the first such line.
+    Impossible { line: u32 },
+    /// The least listed UID that is in no such population.
+    Absent(Uid),
+    /// The least UID that is in each of them and isn't listed.
+    Unlisted(Uid),
+    /// A mask each of whose UIDs is in some of them and isn't listed: the first by length, and then
+    /// by value, of those of at most 56 bits.
+    Unsettled(Mask),
+    /// The least listed UID that isn't in each of them.
+    Doubtful(Uid),
+    /// The list is whole: each of them has exactly the listed UIDs, so many.
+    Complete { count: u32 },
+}
+
+/// The verdict on a log.
+///
+/// Where it is `Complete`, some population could have given the log, and every population that
+/// could has exactly the listed UIDs (clause `whole`; clause `second` says the same in the words of
+/// version 2, whose logs have field cycles and garbled slots). A log that leaves nothing open but
+/// what it heard and lists is `Complete` (clause `reached`).
+pub fn judge(alloc: Global, log: &Log) -> Result<Verdict, AllocError>
+    ensures verdict { IfOk result (λ v. IsVerdict log.now.lines v) }
+    ensures whole { IfOk result (λ v. (count : ℕ) → v ≡ Complete count
+        → IsWhole (entries log.now.lines)
+        × (count ≡ length (listed (entries log.now.lines)))) }
+    ensures second { IfOk result (λ v. (count : ℕ) → v ≡ Complete count
+        → IsWholeSecond (entries log.now.lines)) }
+    ensures reached { IfOk result (λ v. IsReached (entries log.now.lines)
+        → v ≡ Complete (length (listed (entries log.now.lines)))) }
+{
+    judge_with::<RangeSet>(alloc, log)
+}
+
+/// The verdict on a log, over any set of open UIDs: the same over each. It is want of memory alone
+/// that keeps it from an answer.
+pub fn judge_with<S: OpenSet>(alloc: Global, log: &Log) -> Result<Verdict, AllocError>
+    ensures verdict { IfOk result (λ v. IsVerdict log.now.lines v) }
+    ensures whole { IfOk result (λ v. (count : ℕ) → v ≡ Complete count
+        → IsWhole (entries log.now.lines)
+        × (count ≡ length (listed (entries log.now.lines)))) }
+    ensures second { IfOk result (λ v. (count : ℕ) → v ≡ Complete count
+        → IsWholeSecond (entries log.now.lines)) }
+    ensures reached { IfOk result (λ v. IsReached (entries log.now.lines)
+        → v ≡ Complete (length (listed (entries log.now.lines)))) }
+{
+    judge_lines::<S>(alloc, log.lines())
+}
+
+/// The verdict on the lines of a log.
+fn judge_lines<S: OpenSet>(alloc: Global, lines: &[PackedLine]) -> Result<Verdict, AllocError>
+    requires { AreFirstLines lines.now }
+    ensures { IfOk result (λ v. IsVerdict lines.now v) }
+{
+    match open_and_met::<S>(alloc, lines)? {
+        Ok((set, met)) => judge_possible(alloc, set, &met, lines),
+        Err(contradiction) => {
+            let line = first_impossible_line::<S>(alloc, lines, contradiction)?;
+            Ok(Verdict::Impossible { line })
+        }
+    }
+}
 
 /// The verdict on a possible log, by the UIDs that it leaves open and what they meet.
 pub(crate) fn judge_possible<S: OpenSet>(
@@ -57,50 +125,14 @@ pub(crate) fn judge_possible<S: OpenSet>(
     Ok(Verdict::Complete { count })
 }
 
-/// The verdict on the lines of a log.
-fn judge_lines<S: OpenSet>(alloc: Global, lines: &[PackedLine]) -> Result<Verdict, AllocError>
-    requires { AreFirstLines lines.now }
-    ensures { IfOk result (λ v. IsVerdict lines.now v) }
+/// The first unsettled mask of a possible log, by the UIDs that it leaves open and the keys of
+/// those that it lists: the widest one that is left when the listed UIDs are taken out.
+fn first_unsettled<S: OpenSet>(set: S, keys: &[u64]) -> Result<Option<Mask>, AllocError>
+    requires order { IsNonDecreasing keys.now }
+    requires keys { AreKeys keys.now }
+    ensures { IfOk result (λ m. (es : List EntryValue) (listed : List ℕ)
+        → AreKeysOf keys.now listed → AreOpenAndListed es (S.is_open set) listed
+        → MatchOption m (NoSuch (IsUnsettled es)) (IsFirstMask (IsUnsettled es))) }
 {
-    match open_and_met::<S>(alloc, lines)? {
-        Ok((set, met)) => judge_possible(alloc, set, &met, lines),
-        Err(contradiction) => {
-            let line = first_impossible_line::<S>(alloc, lines, contradiction)?;
-            Ok(Verdict::Impossible { line })
-        }
-    }
-}
-
-/// The verdict on a log, over any set of open UIDs: the same over each. It is want of memory alone
-/// that keeps it from an answer.
-pub fn judge_with<S: OpenSet>(alloc: Global, log: &Log) -> Result<Verdict, AllocError>
-    ensures verdict { IfOk result (λ v. IsVerdict log.now.lines v) }
-    ensures whole { IfOk result (λ v. (count : ℕ) → v ≡ Complete count
-        → IsWhole (entries log.now.lines)
-        × (count ≡ length (listed (entries log.now.lines)))) }
-    ensures second { IfOk result (λ v. (count : ℕ) → v ≡ Complete count
-        → IsWholeSecond (entries log.now.lines)) }
-    ensures reached { IfOk result (λ v. IsReached (entries log.now.lines)
-        → v ≡ Complete (length (listed (entries log.now.lines)))) }
-{
-    judge_lines::<S>(alloc, log.lines())
-}
-
-/// The verdict on a log.
-///
-/// Where it is `Complete`, some population could have given the log, and every population that
-/// could has exactly the listed UIDs (clause `whole`; clause `second` says the same in the words of
-/// version 2, whose logs have field cycles and garbled slots). A log that leaves nothing open but
-/// what it heard and lists is `Complete` (clause `reached`).
-pub fn judge(alloc: Global, log: &Log) -> Result<Verdict, AllocError>
-    ensures verdict { IfOk result (λ v. IsVerdict log.now.lines v) }
-    ensures whole { IfOk result (λ v. (count : ℕ) → v ≡ Complete count
-        → IsWhole (entries log.now.lines)
-        × (count ≡ length (listed (entries log.now.lines)))) }
-    ensures second { IfOk result (λ v. (count : ℕ) → v ≡ Complete count
-        → IsWholeSecond (entries log.now.lines)) }
-    ensures reached { IfOk result (λ v. IsReached (entries log.now.lines)
-        → v ≡ Complete (length (listed (entries log.now.lines)))) }
-{
-    judge_with::<RangeSet>(alloc, log)
+    set.widest_besides(keys)
 }

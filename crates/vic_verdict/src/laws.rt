@@ -12,8 +12,8 @@ ghost use Rattle.vic_log.specs.FirstVersion.{AreOfFirstVersion};
 ghost use Rattle.vic_log.specs.declared.entry.Entry.{Entry};
 ghost use Rattle.vic_log.specs.declared.entry.LogLine.{LogLine};
 ghost use Rattle.vic_frame.specs.Masks.{BitMask};
-ghost use Rattle.vic_verdict.specs.declared.verdict.Verdict.{Verdict};
-ghost use Rattle.vic_verdict.specs.declared.verdict.Verdict.TheVariants.{Complete};
+ghost use Rattle.vic_verdict.specs.declared.judging.Verdict.{Verdict};
+ghost use Rattle.vic_verdict.specs.declared.judging.Verdict.TheVariants.{Complete};
 
 /// Entries are possible where their open UIDs supply what each slot asks for.
 pub fn possible_entries()

@@ -6,34 +6,27 @@
 //! impossible, and which UIDs a log forces and lists. `laws` are those of the definitions.
 #![tactic(auto)]
 
-mod certain;
 mod closed;
 mod demands;
 mod explanation;
 mod first_line;
 mod judging;
-mod keys;
 pub mod laws;
 mod level;
-mod listed;
 mod met;
+mod missing;
 mod names;
-mod population;
 mod possible;
 mod replies;
-mod rising;
 mod stretches;
 mod sweep;
-mod unsettled;
-mod verdict;
+mod uids;
 
-pub use certain::certain_uids;
 pub use demands::{Found, Met};
 pub use explanation::{Explanation, explain, explain_with};
 pub use first_line::first_impossible_line;
-pub use judging::{judge, judge_with};
-pub use keys::keys_in_order;
-pub use listed::{count_listed, listed_uids};
+pub use judging::{Verdict, judge, judge_with};
 pub use met::open_and_met;
+pub use missing::keys_in_order;
 pub use possible::Contradiction;
-pub use verdict::Verdict;
+pub use uids::{certain_uids, count_listed, listed_uids};

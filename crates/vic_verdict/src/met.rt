@@ -11,14 +11,14 @@ ghost use Rattle.vic_verdict.specs.Possible.{IsPossible, IsContradictedAt};
 ghost use Rattle.vic_verdict.specs.Demands.{AreFound, IsMet, HasHeard};
 
 use crate::demands::{Found, Met, meet_stretch, note_asked};
-use crate::keys::are_open;
+use crate::missing::are_open;
 use crate::possible::Contradiction;
-use crate::rising::put_in_order;
 use crate::stretches::settle_all;
 use std::alloc::{AllocError, Global};
 use vic_frame::Uid;
 use vic_log::{Entry, PackedLine, RoundCursor};
 use vic_tree::OpenSet;
+use vic_tree::rising::put_in_order;
 
 /// The UIDs that the slots of a log heard, in rising order.
 fn heard_uids(alloc: Global, lines: &[PackedLine]) -> Result<Vec<Uid>, AllocError>

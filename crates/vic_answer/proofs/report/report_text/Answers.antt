@@ -1,5 +1,5 @@
 use Rattle.std.proofs.Common.{◌≡◌, subst}
-use Rattle.vic_verdict.specs.declared.verdict.Verdict.TheVariants.{Complete}
+use Rattle.vic_verdict.specs.declared.judging.Verdict.TheVariants.{Complete}
 use Rattle.vic_report.specs.Reports.{verdict_of}
 use Rattle.vic_verdict.specs.Verdict.{IsVerdict}
 use Rattle.vic_answer.proofs.report.report_text.Goals as goal

@@ -8,7 +8,7 @@ use Rattle.vic_log.specs.Slots.{slots_of, is_open}
 use Rattle.vic_verdict.specs.Demands.{IsMet}
 use Rattle.vic_verdict.specs.Possible.{IsPossible, IsContradictedAt}
 use Rattle.vic_verdict.specs.Verdict.{IsVerdict}
-use Rattle.vic_verdict.specs.declared.verdict.Verdict.TheVariants.{Impossible}
+use Rattle.vic_verdict.specs.declared.judging.Verdict.TheVariants.{Impossible}
 use Rattle.vic_verdict.proofs.FirstLine.{first_impossible}
 use Rattle.vic_verdict.proofs.Halving.{Between, between_first, between_more, between_earlier, first_front}
 use Rattle.vic_verdict.proofs.first_line.first_impossible_line.Goals as goal

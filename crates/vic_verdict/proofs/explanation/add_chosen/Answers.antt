@@ -1,0 +1,24 @@
+use Rattle.std.proofs.Common.{◌++◌, ◌+◌, drop, sym, ◌∙◌, arith}
+use Rattle.std.specs.List.{filter}
+use Rattle.vic_verdict.specs.Gathered.{is_other, chosen}
+use Rattle.vic_verdict.proofs.Choosing.{is_taken, is_avoided, is_enough}
+use Rattle.vic_verdict.proofs.explanation.add_chosen.Goals as goal
+use Rattle.vic_verdict.proofs.explanation.add_chosen.Goals.{then-left-gt0+then-is_other+in_ok-push, else-left-gt0, else-left-gt0-via-then-left-gt0+else-is_other, else-left-gt0-via-else-left-gt0}
+
+pub loop-uid-preserved : goal.loop-uid-preserved
+loop-uid-preserved c =
+    let p = is_other c.args.avoid.now in
+    let xs = c.deref-candidates.result.now in
+    let i = c.loop-uid.uid-index in
+    let x = c.uid-item.result in
+    let all = c.args.uids.now.items ++ chosen c.args.avoid.now c.args.found.now in
+    let before = c.loop-uid.invariant in
+    let within = c.loop-uid-test.true in
+    let here = c.uid-item.is in
+    elim c.if-left-gt0.branch [
+      | then-left-gt0+then-is_other+in_ok-push w ↦ rw (w.uids-is, w.left-is, w.in_ok-push.ensures.items) (is_taken p xs c.loop-uid.uids.items all i x c.loop-uid.left within here w.if-left-gt0.true (sym w.is_other.ensures ∙ w.if-is_other.true) before)
+      | else-left-gt0 w ↦ elim w.else-left-gt0.branch [
+        | else-left-gt0-via-then-left-gt0+else-is_other w' ↦ rw (w.uids-is, w.left-is) (is_avoided p xs c.loop-uid.uids.items all i x c.loop-uid.left within here (sym w'.is_other.ensures ∙ w'.if-is_other.false) before)
+        | else-left-gt0-via-else-left-gt0 w' ↦ rw (w.uids-is, w.left-is) (is_enough (filter p (drop i xs)) (filter p (drop (i + 1) xs)) c.loop-uid.uids.items all c.loop-uid.left (let none = w'.if-left-gt0.false in omega arith) before)
+      ]
+    ]

@@ -1,0 +1,30 @@
+use Rattle.std.proofs.Common.{◌<◌, ◌^◌, ◌∙◌, ap, sym, arith, nat_eq}
+use Rattle.std.proofs.lemmas.List.{take_all}
+use Rattle.std.proofs.lemmas.List.Elements.{All-push}
+use Rattle.std.proofs.lemmas.List.Sorted.{All-permutation, IsNonDecreasingBy-from_sort, list_any-IsPermutation}
+use Rattle.vic_frame.specs.Uids.{has}
+use Rattle.vic_frame.specs.LowBitsFirst.{mirror}
+use Rattle.vic_tree.specs.OpenSet.{has_key}
+use Rattle.vic_verdict.proofs.Cases.{key_pushed}
+use Rattle.vic_verdict.proofs.KeyOrder.{uid_more}
+use Rattle.vic_verdict.proofs.missing.keys_in_order.Goals as goal
+
+pub loop-uid-preserved : goal.loop-uid-preserved
+loop-uid-preserved c = record {
+  keys = rw c.in_ok-push.ensures.items (All-push (λ k. k < 2 ^ 56) c.loop-uid.keys.items c.key.result c.loop-uid.invariant.keys c.key.ensures.small);
+  members = λ u i.
+      ap (λ ks. has_key ks u) c.in_ok-push.ensures.items
+      ∙ key_pushed c.loop-uid.keys.items c.args.uids.now c.loop-uid.uid-index c.key.result c.uid-item.result u c.loop-uid-test.true c.uid-item.is c.key.ensures.back c.key.ensures.small i (c.loop-uid.invariant.members u i);
+  are_uids = λ u some. uid_more c.args.uids.now c.loop-uid.uid-index c.uid-item.result u c.loop-uid-test.true c.uid-item.is c.key.ensures.is_uid c.loop-uid.invariant.are_uids some;
+}
+
+pub returns : goal.returns
+returns c = record {
+  order = IsNonDecreasingBy-from_sort (λ x. x) c.sort_unstable.new.self.items c.sort_unstable.ensures.sorted;
+  keys = All-permutation (λ k. k < 2 ^ 56) _ _ c.sort_unstable.ensures.permutation c.loop-uid.invariant.keys;
+  members = λ u i.
+      sym (list_any-IsPermutation (nat_eq (mirror u)) _ _ c.sort_unstable.ensures.permutation)
+      ∙ c.loop-uid.invariant.members u i
+      ∙ ap (λ us. has us u) (take_all c.loop-uid.uid-index c.args.uids.now (omega arith));
+  are_uids = λ u some. c.loop-uid.invariant.are_uids u (ap (λ us. has us u) (take_all c.loop-uid.uid-index c.args.uids.now (omega arith)) ∙ some);
+}

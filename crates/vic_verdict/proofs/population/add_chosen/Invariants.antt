@@ -1,8 +1,0 @@
-use Rattle.std.proofs.Common.{◌≡◌, ◌++◌, take, drop}
-use Rattle.std.specs.List.{filter}
-use Rattle.vic_verdict.specs.Gathered.{is_other, chosen}
-use Rattle.vic_verdict.proofs.population.add_chosen.Given as goal
-
-abbrev pub invariant-loop-uid : goal.invariant-loop-uid
-invariant-loop-uid l =
-    l.uids.items ++ take l.left (filter (is_other l.avoid) (drop l.uid-index l.candidates)) ≡ l.fn.uids.items ++ chosen l.avoid l.found

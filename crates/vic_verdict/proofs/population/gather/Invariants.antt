@@ -1,7 +1,0 @@
-use Rattle.std.proofs.Common.{◌≡◌, ◌++◌, drop}
-use Rattle.vic_verdict.specs.Gathered.{all_chosen, gathered}
-use Rattle.vic_verdict.proofs.population.gather.Given as goal
-
-abbrev pub invariant-loop-one : goal.invariant-loop-one
-invariant-loop-one l =
-    l.uids.items ++ all_chosen l.avoid (drop l.one-index l.one-items) ≡ gathered l.avoid l.fn.met
