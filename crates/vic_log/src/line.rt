@@ -7,7 +7,7 @@ ghost use Rattle.hex.specs.Hex.{decode_of, decode_pairs, hex_digit_value};
 ghost use Rattle.vic_frame.specs.Reading.{request_reading, reply_reading};
 ghost use Rattle.vic_log.specs.declared.fault.LineFault.TheVariants.{Hex};
 ghost use Rattle.vic_log.specs.declared.entry.Version.TheVariants.{V1};
-ghost use Rattle.vic_log.specs.LineReading.{line_reading, one_letter, sent, heard, listed_uid};
+ghost use Rattle.vic_log.specs.LineReading.{line_reading, with_digits, one_letter, sent, heard, listed_uid};
 
 use crate::entry::{Entry, MAX_LINE_LEN, Version};
 use crate::fault::LineFault;
@@ -138,6 +138,23 @@ fn uid_entry(bytes: &[u8]) -> Result<Option<Entry>, LineFault>
     }
 }
 
+/// The entry of a letter with hex digits after it.
+#[inline(always)]
+fn digits_entry(letter: u8, digits: &[u8]) -> Result<Option<Entry>, LineFault>
+    requires { length digits.now ≤ 126 }
+    ensures reading { result ≡ with_digits letter digits.now }
+    ensures valid { IfOk result (λ entry. IfSome entry IsValidEntry) }
+    ensures first_version { IfOk result (λ entry. IfSome entry IsOfFirstVersion) }
+{
+    let mut room = [0; 63];
+    match letter {
+        b'T' => request_entry(decode(digits, &mut room)?),
+        b'R' => reply_entry(decode(digits, &mut room)?),
+        b'U' => uid_entry(decode(digits, &mut room)?),
+        _ => Err(LineFault::UnknownEntry),
+    }
+}
+
 /// The entry on one line after the header of a log of this version, without its end; None where the
 /// line is passed over.
 #[inline(always)]
@@ -159,14 +176,7 @@ pub fn line_entry_of(version: Version, line: &[u8]) -> Result<Option<Entry>, Lin
     if line[1] != b' ' {
         return Err(LineFault::UnknownEntry);
     }
-    let digits = &line[2..];
-    let mut room = [0; 63];
-    match line[0] {
-        b'T' => request_entry(decode(digits, &mut room)?),
-        b'R' => reply_entry(decode(digits, &mut room)?),
-        b'U' => uid_entry(decode(digits, &mut room)?),
-        _ => Err(LineFault::UnknownEntry),
-    }
+    digits_entry(line[0], &line[2..])
 }
 
 /// The entry on one line after the header of a log of version 1, without its end; None where the

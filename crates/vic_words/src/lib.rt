@@ -82,15 +82,30 @@ fn with_words<'a>(alloc: Global, name: &'a str) -> Result<Command<'a>, AllocErro
     Command::new(alloc, name).arg(words)
 }
 
+/// The commands with one operand: their names, what it is, and whether it is required.
+const WITH_OPERAND: [(&str, &str, bool); 5] = [
+    ("check", "file", false),
+    ("simulate", "file", false),
+    ("explain", "file", false),
+    ("report", "file", false),
+    ("frame", "hex", true),
+];
+
+/// A command with one command more below it.
+fn with_command<'a>(
+    above: Command<'a>,
+    command: Result<Command<'a>, AllocError>,
+) -> Result<Command<'a>, AllocError> {
+    above.subcommand(command?)
+}
+
 /// The program's commands.
 fn commands<'a>(alloc: Global) -> Result<Command<'a>, AllocError> {
-    Command::new(alloc, "vicinity")
-        .subcommand(with_operand(alloc, "check", "file", false)?)?
-        .subcommand(with_operand(alloc, "simulate", "file", false)?)?
-        .subcommand(with_operand(alloc, "explain", "file", false)?)?
-        .subcommand(with_operand(alloc, "report", "file", false)?)?
-        .subcommand(with_operand(alloc, "frame", "hex", true)?)?
-        .subcommand(with_words(alloc, "spell")?)
+    let mut program = Command::new(alloc, "vicinity");
+    for (name, operand, required) in WITH_OPERAND {
+        program = with_command(program, with_operand(alloc, name, operand, required))?;
+    }
+    with_command(program, with_words(alloc, "spell"))
 }
 
 /// The text of an operand, if it was given.
@@ -110,19 +125,34 @@ fn given_words(alloc: Global, given: &ArgMatches<'_>) -> Result<Vec<String>, All
     Ok(words)
 }
 
+/// What a command with a file asks for, by its name.
+fn asked_of_file(name: &str, file: Option<String>) -> Result<Task, WordsFault> {
+    match name {
+        "check" => Ok(Task::Check(file)),
+        "simulate" => Ok(Task::Simulate(file)),
+        "explain" => Ok(Task::Explain(file)),
+        "report" => Ok(Task::Report(file)),
+        _ => Err(WordsFault::Usage),
+    }
+}
+
+/// What a command asks for, by its name and what it was given.
+fn asked(alloc: Global, name: &str, given: &ArgMatches<'_>) -> Result<Task, WordsFault> {
+    match name {
+        "frame" => match operand(alloc, given, "hex")? {
+            Some(word) => Ok(Task::Frame(word)),
+            None => Err(WordsFault::Usage),
+        },
+        "spell" => Ok(Task::Spell(given_words(alloc, given)?)),
+        _ => asked_of_file(name, operand(alloc, given, "file")?),
+    }
+}
+
 /// What the program's words ask for, the first of them being its name.
 pub fn read_words(alloc: Global, words: Vec<String>) -> Result<Task, WordsFault> {
     let matches = commands(alloc)?.try_get_matches_from(words.as_slice())?;
     match matches.subcommand() {
-        Some(("check", given)) => Ok(Task::Check(operand(alloc, given, "file")?)),
-        Some(("simulate", given)) => Ok(Task::Simulate(operand(alloc, given, "file")?)),
-        Some(("explain", given)) => Ok(Task::Explain(operand(alloc, given, "file")?)),
-        Some(("report", given)) => Ok(Task::Report(operand(alloc, given, "file")?)),
-        Some(("frame", given)) => match operand(alloc, given, "hex")? {
-            Some(word) => Ok(Task::Frame(word)),
-            None => Err(WordsFault::Usage),
-        },
-        Some(("spell", given)) => Ok(Task::Spell(given_words(alloc, given)?)),
-        _ => Err(WordsFault::Usage),
+        Some((name, given)) => asked(alloc, name, given),
+        None => Err(WordsFault::Usage),
     }
 }
