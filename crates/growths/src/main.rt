@@ -22,7 +22,8 @@ use judgings::judge_counted;
 use std::alloc::Global;
 use std::io;
 use vic_log::{FromRead, read_whole};
-use vic_tree::{CellList, MaskTree, RangeSet};
+use vic_sets::{CellList, MaskTree};
+use vic_tree::RangeSet;
 
 /// How many bytes of standard input are read at most.
 const MAX_INPUT: usize = 100_000_000;

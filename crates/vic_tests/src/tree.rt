@@ -9,7 +9,8 @@ use std::process::Abort;
 use std::test::Fail;
 use vic_frame::low_bits_first::{key, uid_at};
 use vic_frame::{Mask, UID_BITS, Uid};
-use vic_tree::{CellList, KeyRange, MaskTree, OpenSet, RangeSet};
+use vic_sets::{CellList, MaskTree};
+use vic_tree::{KeyRange, OpenSet, RangeSet};
 
 /// The low 56 bits of A, the lowest first.
 const KEY_OF_A: u64 = 0x85_0000_0000_8020;

@@ -9,7 +9,8 @@ use std::test::Fail;
 use vic_answer::{Answer, answer_line};
 use vic_frame::{Mask, Uid};
 use vic_log::{Log, read_log};
-use vic_tree::{CellList, MaskTree, OpenSet};
+use vic_sets::{CellList, MaskTree};
+use vic_tree::OpenSet;
 use vic_verdict::{explain_with, judge_with};
 
 fn log_of(alloc: Global, names: &str) -> Result<Log, Fail> {

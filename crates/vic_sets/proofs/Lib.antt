@@ -1,0 +1,9 @@
+pub mod Bits
+pub mod NodeLaws
+pub mod Settled
+pub mod WidestLaws
+pub mod Places
+pub mod LowBits
+pub mod CutLaws
+pub mod CellLaws
+pub mod Covered

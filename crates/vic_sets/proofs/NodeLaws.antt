@@ -1,0 +1,13 @@
+-- What is known of a node that is a fork.
+use Rattle.std.proofs.Common.{◌≡◌, refl, Box}
+use Rattle.std.specs.declared.alloc.Global.{Global}
+use Rattle.vic_sets.specs.declared.node.Node.{Node, Fork'}
+use Rattle.vic_sets.specs.declared.node.Node.TheVariants.{Clear, Shut, Fork}
+use Rattle.vic_sets.specs.declared.node.Halves.{Halves}
+use Rattle.vic_sets.specs.Nodes.{IsFork}
+
+-- what is no fork isn't one
+pub no_fork : (n : Node) → IsFork n → ((x : Box Halves Global) → n ≡ Fork x → ⊥) → ⊥
+no_fork Clear f h = f
+no_fork Shut f h = f
+no_fork (Fork' p zero one) f h = h (record { ptr = p.ptr; alloc = p.alloc; value = record { zero = zero; one = one } }) refl

@@ -1,0 +1,38 @@
+use Rattle.std.proofs.Common.{◌≡◌, ◌∙◌, ℕ, ◌+◌, ◌||◌, ◌==◌, sym, ap, take, nat_eq}
+use Rattle.std.proofs.lemmas.Bool.{eqb-true}
+use Rattle.std.proofs.lemmas.List.Folds.{list_any_more}
+use Rattle.vic_frame.specs.Uids.{has}
+use Rattle.vic_sets.specs.Cells.{in_cells}
+use Rattle.vic_sets.proofs.CellLaws.{next_added, next_there, next_elsewhere}
+use Rattle.vic_sets.proofs.cells.add_back.Goals as goal
+use Rattle.vic_sets.proofs.cells.add_back.Goals.{then-is_in+then-not-is_in+in_ok-add, else-is_in, else-is_in-via-then-is_in+else-not-is_in, else-is_in-via-else-is_in}
+
+pub add-requires-clause-apart : goal.add-requires-clause-apart
+add-requires-clause-apart c u i h =
+    let same : u ≡ c.uid-item.result = eqb-true u c.uid-item.result (sym (c.of_uid.ensures.alone u i) ∙ h) in
+    ap (in_cells c.loop-uid.left.items) same ∙ rw c.deref.ensures.value at (sym c.is_in-then-is_in.ensures ∙ c.if-not-is_in.true)
+
+pub loop-uid-preserved : goal.loop-uid-preserved
+loop-uid-preserved c =
+    let uids = c.args.uids.now in
+    let n = c.loop-uid.uid-index in
+    let x = c.uid-item.result in
+    let before = in_cells c.args.left.now.items in
+    let cells = in_cells c.args.cells.now in
+    let more : (u : ℕ) → has (take (n + 1) uids) u ≡ (has (take n uids) u || (u == x)) = λ u. list_any_more (nat_eq u) uids n x c.loop-uid-test.true ∙ ap (λ y. has (take n uids) u || (u == y)) (sym c.uid-item.is) in
+    elim c.if-is_in.branch [
+      | then-is_in+then-not-is_in+in_ok-add w ↦ rw w.left-is (record {
+        cells = w.in_ok-add.ensures.cells;
+        added = λ u i. w.in_ok-add.ensures.added u i ∙ rw (c.loop-uid.invariant.added u i, w.of_uid.ensures.alone u i, more u) (next_added (before u) (cells u) (has (take n uids) u) (u == x) (λ e. ap cells (eqb-true u x e) ∙ sym c.is_in.ensures ∙ w.if-is_in.true));
+      })
+      | else-is_in w ↦ rw w.left-is (elim w.else-is_in.branch [
+        | else-is_in-via-then-is_in+else-not-is_in w' ↦ record {
+          cells = c.loop-uid.invariant.cells;
+          added = λ u i. c.loop-uid.invariant.added u i ∙ rw (more u) (next_there (before u) (cells u) (has (take n uids) u) (u == x) (λ e. sym (c.loop-uid.invariant.added u i) ∙ ap (in_cells c.loop-uid.left.items) (eqb-true u x e) ∙ rw w'.deref.ensures.value at (sym w'.is_in-then-is_in.ensures ∙ w'.if-not-is_in.false)));
+        }
+        | else-is_in-via-else-is_in w' ↦ record {
+          cells = c.loop-uid.invariant.cells;
+          added = λ u i. c.loop-uid.invariant.added u i ∙ rw (more u) (next_elsewhere (before u) (cells u) (has (take n uids) u) (u == x) (λ e. ap cells (eqb-true u x e) ∙ sym c.is_in.ensures ∙ w'.if-is_in.false));
+        }
+      ])
+    ]

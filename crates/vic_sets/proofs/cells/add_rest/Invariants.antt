@@ -1,0 +1,11 @@
+use Rattle.std.proofs.Common.{◌&&◌, ◌||◌, not}
+use Rattle.vic_frame.specs.Masks.{lies_in}
+use Rattle.vic_tree.specs.OpenSet.{SameUids}
+use Rattle.vic_sets.specs.Cells.{in_cells, AreCells, cut_at}
+use Rattle.vic_sets.proofs.cells.add_rest.Given as goal
+
+abbrev pub invariant-loop-len : goal.invariant-loop-len
+invariant-loop-len l = record {
+  cells : AreCells l.cells.items;
+  added : SameUids (in_cells l.cells.items) (λ u. in_cells l.initial.cells.items u || (lies_in l.cell u && not (lies_in (cut_at l.len l.inner) u)));
+}

@@ -1,0 +1,7 @@
+use Rattle.std.proofs.Common.{◌/◌, ◌^◌, ◌%◌, ◌<◌}
+use Rattle.vic_tree.specs.Gathering.{Gathers}
+use Rattle.vic_sets.specs.Free.{IsFree}
+use Rattle.vic_sets.proofs.gather.gather_all.Given as goal
+
+abbrev pub invariant-loop-high : goal.invariant-loop-high
+invariant-loop-high l = Gathers (λ u. IsFree l.depth l.low l.except u × (u % 2 ^ 56 / 2 ^ l.depth < l.high)) l.initial.out.items l.out.items

@@ -1,0 +1,7 @@
+use Rattle.std.proofs.Common.{◌≡◌, ◌&&◌, filter, take}
+use Rattle.vic_frame.specs.Masks.{lies_in}
+use Rattle.vic_sets.specs.Nodes.{open_at}
+use Rattle.vic_sets.proofs.mask_tree.open_in_mask.Given as goal
+
+abbrev pub invariant-loop-uid : goal.invariant-loop-uid
+invariant-loop-uid l = l.kept.items ≡ filter (λ u. lies_in l.mask u && open_at l.root u) (take l.uid-index l.uids)

@@ -1,0 +1,11 @@
+use Rattle.std.proofs.Common.{◌≡◌, ℕ, ◌≤◌, ◌||◌, take}
+use Rattle.vic_frame.specs.Uids.{IsUid, has}
+use Rattle.vic_sets.specs.Nodes.{open_at, height, IsReduced}
+use Rattle.vic_sets.proofs.mask_tree.reopen.Given as goal
+
+abbrev pub invariant-loop-uid : goal.invariant-loop-uid
+invariant-loop-uid l = record {
+  reduced : IsReduced l.root;
+  low : height l.root ≤ 56;
+  opened : (u : ℕ) → IsUid u → open_at l.root u ≡ (has (take l.uid-index l.uids) u || open_at l.initial.root u);
+}

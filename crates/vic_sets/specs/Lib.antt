@@ -1,0 +1,4 @@
+pub mod Nodes
+pub mod Widest
+pub mod Cells
+pub mod Free

@@ -1,0 +1,73 @@
+//! A set of open UIDs as a list of masks.
+
+ghost use Rattle.vic_sets.specs.Cells.{in_cells};
+
+use crate::cells::{gather_cells, is_in, least, settled};
+use crate::cut::whole;
+use vic_tree::OpenSet;
+use arrayvec::ArrayVec;
+use std::alloc::{AllocError, Global};
+use std::marker::Model;
+use vic_frame::{Mask, Uid, without_top_byte};
+
+/// A set of UIDs as a list of masks, the plain and slow way to keep one: the masks have at most 56
+/// bits, no UID lies in two of them, and no two are the halves of one mask.
+#[derive(Drop)]
+pub struct CellList {
+    cells: Vec<Mask>,
+    alloc: Global,
+}
+
+impl Model for CellList {
+    ghost use Rattle.std.specs.Prelude.{List};
+    ghost use Rattle.vic_frame.specs.Masks.{BitMask};
+    ghost use Rattle.vic_sets.specs.Cells.{AreCells};
+
+    ghost Value = { List BitMask };
+
+    ghost view = { λ a. a.cells.items };
+
+    ghost invariant = { λ a. AreCells a.cells.items };
+}
+
+impl OpenSet for CellList {
+    ghost is_open = { in_cells };
+
+    fn everything(alloc: Global) -> Result<CellList, AllocError> {
+        let mut cells = Vec::new(alloc);
+        cells.push(whole())?;
+        Ok(CellList { cells, alloc })
+    }
+
+    fn settle(&mut self, mask: &Mask, except: &[Uid]) -> Result<(), AllocError> {
+        let Some(mask) = without_top_byte(mask) else {
+            return Ok(());
+        };
+        match settled(self.alloc, &self.cells, &mask, except) {
+            Ok(left) => {
+                self.cells = left;
+                Ok(())
+            }
+            Err(error) => {
+                self.cells.clear();
+                Err(error)
+            }
+        }
+    }
+
+    fn has(&self, uid: Uid) -> bool {
+        is_in(&self.cells, uid)
+    }
+
+    fn up_to_three(&self, mask: &Mask, except: &[Uid]) -> ArrayVec<Uid, 3> {
+        let mut out = ArrayVec::new();
+        if let Some(mask) = without_top_byte(mask) {
+            gather_cells(&mut out, except, &self.cells, &mask);
+        }
+        out
+    }
+
+    fn widest(&self) -> Option<Mask> {
+        least(&self.cells)
+    }
+}

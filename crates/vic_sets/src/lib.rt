@@ -1,0 +1,14 @@
+//! The open UIDs kept in two plainer ways than the one that the judge goes by: as a list of masks,
+//! and as a tree of bits. The judge is proved over each.
+#![tactic(auto)]
+
+mod cell_list;
+mod cells;
+mod cut;
+mod gather;
+mod mask_tree;
+mod node;
+mod node_queries;
+
+pub use cell_list::CellList;
+pub use mask_tree::MaskTree;

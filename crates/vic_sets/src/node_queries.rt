@@ -1,0 +1,73 @@
+//! What is asked of a tree of bits: which UIDs are open below a node, three at most, and the widest
+//! mask.
+
+ghost use Rattle.std.specs.Prelude.{◌≡◌, ℕ, ◌+◌, ◌^◌, ◌<◌, ◌≤◌, false, IfSome, IfNone};
+ghost use Rattle.std.specs.List.Sorted.{IsStrictlyIncreasing};
+ghost use Rattle.vic_sets.specs.Nodes.{open_at, height, IsReduced};
+ghost use Rattle.vic_tree.specs.Gathering.{Gathers};
+ghost use Rattle.vic_sets.specs.Free.{IsFreeUnder};
+ghost use Rattle.vic_sets.specs.Widest.{IsWidestOf, with_low_bit};
+
+use crate::cut::whole;
+use crate::gather::gather_all;
+use crate::node::Node;
+use arrayvec::ArrayVec;
+use vic_frame::{Mask, UID_BITS, Uid};
+
+/// Appends the UIDs that are open below a node and no exceptions.
+pub(crate) fn gather_open(
+    out: &mut ArrayVec<Uid, 3>,
+    except: &[Uid],
+    node: &Node,
+    depth: u8,
+    low: u64,
+)
+    requires rising { IsStrictlyIncreasing except.now }
+    requires depth_fits { depth + height node.now ≤ UID_BITS }
+    requires low_fits { low < 2 ^ depth }
+    ensures { Gathers (IsFreeUnder node.now depth low except.now) out.old.items out.new.items }
+{
+    match node {
+        Node::Clear => gather_all(out, except, depth, low),
+        Node::Shut => {}
+        Node::Fork(halves) => {
+            gather_open(out, except, &halves.zero, depth + 1, low);
+            if !out.is_full() {
+                gather_open(out, except, &halves.one, depth + 1, low + (1 << depth));
+            }
+        }
+    }
+}
+
+/// The mask that fixes one bit more, below the others.
+fn lengthened(mask: &Mask, bit: u64) -> Mask
+    requires short { mask.now.len < UID_BITS }
+    requires bit { bit ≤ 1 }
+    ensures { result ≡ with_low_bit bit mask.now }
+{
+    let Some(lengthened) = Mask::new(mask.len() + 1, 2 * mask.value() + bit) else {
+        unreachable!()
+    };
+    lengthened
+}
+
+/// The mask of least length, then of least value, all of whose numbers are open below a node; none
+/// where no number is.
+pub(crate) fn widest_below(node: &Node) -> Option<Mask>
+    requires reduced { IsReduced node.now }
+    requires low { height node.now ≤ UID_BITS }
+    ensures found { IfSome result (IsWidestOf (open_at node.now)) }
+    ensures short { IfSome result (λ m. m.len ≤ height node.now) }
+    ensures none { IfNone result ((u : ℕ) → open_at node.now u ≡ false) }
+{
+    match node {
+        Node::Clear => Some(whole()),
+        Node::Shut => None,
+        Node::Fork(halves) => match (widest_below(&halves.zero), widest_below(&halves.one)) {
+            (None, None) => None,
+            (Some(zero), None) => Some(lengthened(&zero, 0)),
+            (None, Some(one)) => Some(lengthened(&one, 1)),
+            (Some(zero), Some(one)) => Some(lengthened(&zero, 0).min(lengthened(&one, 1))),
+        },
+    }
+}
