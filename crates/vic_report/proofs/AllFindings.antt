@@ -1,14 +1,16 @@
 -- All findings of a possible log, and that the first of them is its verdict.
-use Rattle.std.proofs.Common.{◌≡◌, ℕ, ◌≤◌, List, [], ◌∷◌, ◌++◌, length, get_or, Bool, true, false, not, ◌&&◌, ◌||◌, Option, Some, None, refl, sym, ap, ◌∙◌, subst, arith, ⊎_elim}
+use Rattle.std.proofs.Common.{◌≡◌, ℕ, ◌≤◌, List, [], ◌∷◌, ◌++◌, length, map, get_or, Bool, true, false, not, ◌<◌, ◌&&◌, ◌||◌, Option, Some, None, refl, sym, ap, ◌∙◌, subst, arith, ⊎_elim}
 use Rattle.std.specs.Prelude.{◌↔◌, nat_eq, MatchOption}
 use Rattle.std.specs.Option.{option_map}
 use Rattle.std.specs.List.{All, filter}
 use Rattle.std.specs.List.Sorted.{IsStrictlyIncreasing}
-use Rattle.std.proofs.lemmas.Bool.{and_parts, and_from, both_ways, not-true, not_from_false, false_from_ne_true, false≢true}
+use Rattle.std.proofs.lemmas.Bool.{and_parts, and_from, both_ways, cases_Bool, not-true, not_from_false, false_from_ne_true, false≢true}
+use Rattle.std.proofs.lemmas.List.{get_or-map, length-map}
 use Rattle.std.proofs.lemmas.List.Folds.{list_any-append}
 use Rattle.std.proofs.lemmas.List.Kept.{IsStrictlyIncreasing-filter}
 use Rattle.vic_frame.specs.Uids.{IsUid, has}
 use Rattle.vic_frame.specs.Masks.{BitMask}
+use Rattle.vic_frame.specs.LowBitsFirst.{uid_of}
 use Rattle.vic_tree.specs.OpenSet as tree
 use Rattle.vic_tree.specs.OpenSet.{SameUids, has_key, without_keys}
 use Rattle.vic_log.specs.declared.entry.Entry.{Entry}
@@ -17,18 +19,21 @@ use Rattle.vic_log.specs.Order.{entries, listed}
 use Rattle.vic_log.specs.Slots.{slots_of, is_open, IsForcedBy}
 use Rattle.vic_log.proofs.Sets.{has_filter, filter_has, has_here}
 use Rattle.vic_report.specs.Findings.{IsOpenUid, IsLeftOpen, MayBeMissing, uids_of}
-use Rattle.vic_verdict.specs.Possible.{IsPossible, IsPossibleUid}
+use Rattle.vic_verdict.specs.Possible.{IsPossible, IsPossibleUid, IsCertainUid}
 use Rattle.vic_report.specs.declared.findings.Unsettled.{Unsettled}
 use Rattle.vic_report.specs.declared.reporting.LogReport.{LogReport}
 use Rattle.vic_report.specs.declared.reporting.LogReport.TheVariants as report
 use Rattle.vic_report.specs.declared.shown.ShownUid.{ShownUid}
 use Rattle.vic_report.specs.Reports.{AreFindings, IsReport, IsUnsettledWith, first_finding, verdict_of}
+use Rattle.vic_verdict.specs.Keys.{AreKeysOf}
 use Rattle.vic_verdict.specs.Rising.{IsListOf, IsFailing}
 use Rattle.vic_verdict.specs.Unsettled.{AreOpenAndListed}
 use Rattle.vic_verdict.specs.Verdict.{IsAbsent, IsUnlisted, IsUnsettled, IsDoubtful, IsLeast, IsFirstMask, NoSuch, IsVerdict}
 use Rattle.vic_verdict.specs.declared.judging.Verdict.TheVariants.{Complete}
+use Rattle.vic_verdict.proofs.Cases.{absent_iff}
 use Rattle.vic_verdict.proofs.Decide.{IsPossibleUid-iff, IsPossibleUid-either, IsCertainUid-iff}
-use Rattle.vic_verdict.proofs.Failing.{member_at, place_of}
+use Rattle.vic_verdict.proofs.Failing.{member_at, place_of as index_of}
+use Rattle.vic_verdict.proofs.KeyOrder.{at_place, place_of as key_of}
 use Rattle.vic_verdict.proofs.Inserted.{rising_order}
 use Rattle.vic_verdict.proofs.Masks.{uid_in, IsUid-in, lies_in-uid_in}
 
@@ -42,11 +47,41 @@ failing_has test us u = (
   (λ h. filter_has (λ v. not (test v)) us u (and_from (has us u) (not (test u)) h.0 (not_from_false _ h.1))),
 )
 
-pub failing_list : (P : ℕ → Type 0) (test : ℕ → Bool) (us ys : List ℕ) → IsStrictlyIncreasing us → ys ≡ failing test us → ((u : ℕ) → IsFailing us test u ↔ P u) → IsListOf P ys
-failing_list P test us ys rising is same = subst (IsListOf P) (sym is) (record {
+-- those of a rising list
+pub failing_list : (test : ℕ → Bool) (us ys : List ℕ) → IsStrictlyIncreasing us → ys ≡ failing test us → IsListOf (IsFailing us test) ys
+failing_list test us ys rising is = subst (IsListOf (IsFailing us test)) (sym is) (record {
   rising = IsStrictlyIncreasing-filter (λ u. not (test u)) us rising;
-  members = λ u. let f = failing_has test us u in let g = same u in ((λ h. g.0 (f.0 h)), (λ p. f.1 (g.1 p)));
+  members = failing_has test us;
 })
+
+-- the same property has the same list
+pub list_as : (P Q : ℕ → Type 0) (ys : List ℕ) → ((u : ℕ) → P u ↔ Q u) → IsListOf P ys → IsListOf Q ys
+list_as P Q ys same l = record {
+  rising = l.rising;
+  members = λ u. ((λ h. (same u).0 ((l.members u).0 h)), (λ q. (l.members u).1 ((same u).1 q)));
+}
+
+-- the UIDs at keys that fail a test, put in order
+pub outside_list : (test : ℕ → Bool) (keys us found ys : List ℕ) → AreKeysOf keys us → found ≡ failing test (map uid_of keys) → IsStrictlyIncreasing ys → ((u : ℕ) → has ys u ≡ has found u) → IsListOf (IsFailing us test) ys
+outside_list test keys us found ys own is rising same = record {
+  rising = rising;
+  members = λ u. let f = failing_has test (map uid_of keys) u in (
+    (λ h.
+        let w = f.0 (ap (λ xs. has xs u) (sym is) ∙ (sym (same u) ∙ h)) in
+        (at_keys u w.0, w.1)),
+    (λ h. same u ∙ (ap (λ xs. has xs u) is ∙ f.1 (to_keys u h.0, h.1))),
+  );
+} where
+  at_keys : (u : ℕ) → has (map uid_of keys) u ≡ true → has us u ≡ true
+  at_keys u h =
+      let p = index_of (map uid_of keys) u 0 h in
+      let short : p.0 < length keys = subst (λ n. p.0 < n) (length-map keys uid_of) p.1 in
+      subst (λ v. has us v ≡ true) (sym (get_or-map uid_of keys p.0 0 0 short) ∙ p.2) (at_place keys us p.0 own short)
+
+  to_keys : (u : ℕ) → has us u ≡ true → has (map uid_of keys) u ≡ true
+  to_keys u h =
+      let p = key_of keys us u own h in
+      member_at (map uid_of keys) p.index u 0 (subst (λ n. p.index < n) (sym (length-map keys uid_of)) p.within) (get_or-map uid_of keys p.index 0 0 p.within ∙ p.here)
 
 pub all_from_has : (P : ℕ → Type 0) (us : List ℕ) → ((u : ℕ) → has us u ≡ true → P u) → All P us
 all_from_has P us h k d below = h (get_or us k d) (member_at us k (get_or us k d) d below refl)
@@ -65,26 +100,31 @@ open_uid es set us certain own forced u i =
       (λ h. (own.uids_open u i ∙ may.0 h.0, false_from_ne_true _ (λ e. h.1 (must.1 (all.0 e))))),
     )
 
--- a listed UID that is certain, or isn't open, is none of them
-pub missing_iff : (es : List Entry) (set : ℕ → Bool) (us certain : List ℕ) → AreOpenAndListed es set us → AreForced es certain → (u : ℕ) → IsFailing us (λ v. has certain v || not (set v)) u ↔ MayBeMissing es u
-missing_iff es set us certain own forced u = (
+-- ---- listed UIDs that aren't certain: those that aren't open are absent, the others may be missing
+
+pub absent_iff_uncertain : (es : List Entry) (set : ℕ → Bool) (us certain left : List ℕ) → AreOpenAndListed es set us → AreForced es certain → IsListOf (IsFailing us (has certain)) left → (u : ℕ) → IsFailing left set u ↔ IsAbsent es u
+absent_iff_uncertain es set us certain left own forced uncertain u =
+    let out = absent_iff es set us own.possible own.uids_open own.uids_listed own.are_uids u in
+    let must = IsCertainUid-iff es u own.possible in
+    let some = own.possible in (
+      (λ h. out.0 (((uncertain.members u).0 h.0).0, h.1)),
+      (λ a.
+          let w = out.1 a in
+          let may : IsCertainUid es u → IsPossibleUid es u = λ all. (some.0, some.1, some.2, all some.0 some.1 some.2) in
+          ((uncertain.members u).1 (w.0, false_from_ne_true _ (λ e. a.1 (may (must.1 ((forced.members u).0 e))))), w.1)),
+    )
+
+pub missing_iff : (es : List Entry) (set : ℕ → Bool) (us certain left absent : List ℕ) → AreOpenAndListed es set us → AreForced es certain → IsListOf (IsFailing us (has certain)) left → IsListOf (IsFailing left set) absent → (u : ℕ) → IsFailing left (has absent) u ↔ MayBeMissing es u
+missing_iff es set us certain left absent own forced uncertain shut u = (
   (λ h.
-      let n = neither (has certain u) (set u) h.1 in
-      (sym (own.uids_listed u) ∙ h.0, (open_uid es set us certain own forced u (own.are_uids u h.0)).0 (n.1, n.0))),
+      let w = (uncertain.members u).0 h.0 in
+      let open_ : set u ≡ true = ⊎_elim (λ e. e) (λ e. absurd (both_ways (has absent u) h.1 ((shut.members u).1 (h.0, e)))) (cases_Bool (set u)) in
+      (sym (own.uids_listed u) ∙ w.0, (open_uid es set us certain own forced u (own.are_uids u w.0)).0 (open_, w.1))),
   (λ h.
       let member = own.uids_listed u ∙ h.0 in
       let w = (open_uid es set us certain own forced u (own.are_uids u member)).1 h.1 in
-      (member, both_not (has certain u) (set u) w.1 w.0)),
-) where
-  neither : (a b : Bool) → (a || not b) ≡ false → (a ≡ false) × (b ≡ true)
-  neither true b h = cc
-  neither false true h = (refl, refl)
-  neither false false h = cc
-
-  both_not : (a b : Bool) → a ≡ false → b ≡ true → (a || not b) ≡ false
-  both_not true b h k = cc
-  both_not false true h k = refl
-  both_not false false h k = cc
+      ((uncertain.members u).1 (member, w.1), false_from_ne_true _ (λ e. both_ways (set u) ((shut.members u).0 e).1 w.0))),
+)
 
 -- ---- masks of them that aren't listed
 
@@ -159,7 +199,7 @@ head_least : (P : ℕ → Type 0) (u : ℕ) (us : List ℕ) → IsListOf P (u �
 head_least P u us l = (
   (l.members u).0 (has_here u us),
   λ m h.
-      let p = place_of (u ∷ us) m 0 ((l.members m).1 h) in
+      let p = index_of (u ∷ us) m 0 ((l.members m).1 h) in
       let o : u ≤ get_or (u ∷ us) p.0 0 = rising_order (u ∷ us) l.rising 0 p.0 (omega arith) p.1 in
       let here = p.2 in
       omega arith,
@@ -240,10 +280,7 @@ none_where_complete lines (report.NotWhole f) count h is =
 
 -- ---- what the lines of findings are asked of
 
-pub shut_all : (es : List Entry) (set : ℕ → Bool) (us ys : List ℕ) → AreOpenAndListed es set us → ys ≡ failing set us → All (λ u. is_open (slots_of es) u ≡ false) ys
-shut_all es set us ys own is = all_from_has (λ u. is_open (slots_of es) u ≡ false) ys (λ u h.
-    let f = (failing_has set us u).0 (ap (λ xs. has xs u) (sym is) ∙ h) in
-    sym (own.uids_open u (own.are_uids u f.0)) ∙ f.1)
-
-pub kept_all : (P : ℕ → Type 0) (test : ℕ → Bool) (us ys : List ℕ) → ((u : ℕ) → has us u ≡ true → P u) → ys ≡ failing test us → (u : ℕ) → has ys u ≡ true → P u
-kept_all P test us ys all is u h = all u ((failing_has test us u).0 (ap (λ xs. has xs u) (sym is) ∙ h)).0
+pub shut_all : (es : List Entry) (set : ℕ → Bool) (us certain left ys : List ℕ) → AreOpenAndListed es set us → IsListOf (IsFailing us (has certain)) left → IsListOf (IsFailing left set) ys → All (λ u. is_open (slots_of es) u ≡ false) ys
+shut_all es set us certain left ys own uncertain shut = all_from_has (λ u. is_open (slots_of es) u ≡ false) ys (λ u h.
+    let f = (shut.members u).0 h in
+    sym (own.uids_open u (own.are_uids u ((uncertain.members u).0 f.0).0)) ∙ f.1)

@@ -2,4 +2,5 @@ pub mod KeptLogs
 pub mod Conflicts
 pub mod RuledOut
 pub mod Telling
+pub mod Merging
 pub mod AllFindings

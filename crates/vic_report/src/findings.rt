@@ -1,18 +1,21 @@
 //! What a possible log tells against its list.
 
-ghost use Rattle.std.specs.Prelude.{◌≡◌, ◌↔◌, ℕ, Bool, not, IfOk, OnOk, IsTrue, List, [], ◌∷◌, ◌++◌, if◌then◌else◌, MatchOption};
-ghost use Rattle.std.specs.List.{filter};
-ghost use Rattle.vic_tree.specs.OpenSet.{SameUids};
+ghost use Rattle.std.specs.Prelude.{◌≡◌, ◌↔◌, ℕ, ◌≤◌, List, IfOk, OnOk, IsTrue, [], ◌∷◌, ◌++◌, if◌then◌else◌, MatchOption, length};
+ghost use Rattle.std.specs.List.Sorted.{IsStrictlyIncreasing};
+ghost use Rattle.vic_frame.specs.Uids.{has};
+ghost use Rattle.vic_tree.specs.OpenSet.{AreKeys, SameUids};
 ghost use Rattle.vic_tree.specs.Ranges.{is_open_in};
 ghost use Rattle.vic_log.specs.declared.entry.Entry.{Entry as EntryValue};
 ghost use Rattle.vic_log.specs.Order.{entries};
 ghost use Rattle.vic_log.specs.Slots.{slots_of, is_open, IsForcedBy};
 ghost use Rattle.vic_verdict.specs.Demands.{IsMet};
 ghost use Rattle.vic_report.specs.Findings.{IsLeftOpen};
+ghost use Rattle.vic_report.specs.Merging.{AreBelow, IsPlaceOf};
 ghost use Rattle.vic_verdict.specs.FirstLines.{AreFirstLines};
+ghost use Rattle.vic_verdict.specs.Keys.{AreKeysOf};
 ghost use Rattle.vic_verdict.specs.Possible.{IsPossible};
 ghost use Rattle.vic_report.specs.Reports.{AreFindings, AreNone, IsUnsettledWith, first_of};
-ghost use Rattle.vic_verdict.specs.Rising.{IsListOf};
+ghost use Rattle.vic_verdict.specs.Rising.{IsFailing, IsListOf};
 ghost use Rattle.vic_verdict.specs.Unsettled.{AreOpenAndListed};
 ghost use Rattle.vic_verdict.specs.Verdict.{NoSuch};
 
@@ -20,9 +23,10 @@ use crate::ruled_out::lines_of_absent;
 use crate::shown::ShownUid;
 use crate::told::lines_of_unlisted;
 use std::alloc::{AllocError, Global};
+use vic_frame::low_bits_first::uid_at;
 use vic_frame::{Mask, Uid};
 use vic_log::PackedLine;
-use vic_tree::rising::is_among;
+use vic_tree::rising::put_in_order;
 use vic_tree::{OpenMasks, OpenSet, RangeSet};
 use vic_verdict::{Met, Verdict, certain_uids, keys_in_order, listed_uids};
 
@@ -96,9 +100,11 @@ pub(crate) fn find_findings(
 {
     let certain = certain_uids(alloc, met)?;
     let listed = listed_uids(alloc, lines)?;
-    let absent = failing(alloc, &listed, |u| set.has(u))?;
-    let unlisted = failing(alloc, &certain, |u| is_among(&listed, u))?;
-    let doubtful = failing(alloc, &listed, |u| is_among(&certain, u) || !set.has(u))?;
+    let unlisted = missing(alloc, &certain, &listed)?;
+    let uncertain = missing(alloc, &listed, &certain)?;
+    let keys = keys_in_order(alloc, &uncertain)?;
+    let absent = outside(alloc, &set, &keys)?;
+    let doubtful = missing(alloc, &uncertain, &absent)?;
     Ok(Findings {
         absent: lines_of_absent(alloc, lines, &absent)?,
         unlisted: lines_of_unlisted(alloc, lines, met, &unlisted)?,
@@ -107,18 +113,59 @@ pub(crate) fn find_findings(
     })
 }
 
-/// The UIDs of a list that fail a test.
-fn failing<F: Fn(Uid) -> bool>(alloc: Global, uids: &[Uid], test: F) -> Result<Vec<Uid>, AllocError>
-    requires callable { F.IsAlwaysCallable test }
-    ensures { IfOk result (λ v. (passes : ℕ → Bool)
-        → ((u : ℕ) (b : Bool) → F.post test u b → b ≡ passes u)
-        → v.items ≡ filter (λ u. not (passes u)) uids.now) }
+/// Those of a rising list that aren't in another, in rising order.
+fn missing(alloc: Global, uids: &[Uid], others: &[Uid]) -> Result<Vec<Uid>, AllocError>
+    requires rising { IsStrictlyIncreasing uids.now }
+    requires others { IsStrictlyIncreasing others.now }
+    ensures { IfOk result (λ v. IsListOf (IsFailing uids.now (has others.now)) v.items) }
 {
-    let mut failing = Vec::new(alloc);
+    let mut missing = Vec::new(alloc);
+    let mut next = 0;
     for uid in uids {
-        push_if(&mut failing, *uid, !test(*uid))?;
+        next = place_from(others, next, *uid);
+        push_if(&mut missing, *uid, !is_at(others, next, *uid))?;
     }
-    Ok(failing)
+    Ok(missing)
+}
+
+/// The place of a UID in a rising list, from one that it doesn't come before.
+fn place_from(uids: &[Uid], start: usize, uid: Uid) -> usize
+    requires start { start ≤ length uids.now }
+    requires below { AreBelow uids.now start uid }
+    ensures { IsPlaceOf uids.now result uid }
+{
+    let mut place = start;
+    while place < uids.len() && uids[place] < uid {
+        place += 1;
+    }
+    place
+}
+
+/// Whether a rising list has a UID, by its place there.
+fn is_at(uids: &[Uid], place: usize, uid: Uid) -> bool
+    requires rising { IsStrictlyIncreasing uids.now }
+    requires place { IsPlaceOf uids.now place uid }
+    ensures { result ≡ has uids.now uid }
+{
+    if place < uids.len() {
+        return uids[place] == uid;
+    }
+    false
+}
+
+/// The UIDs at some keys that aren't in a set, in rising order.
+fn outside(alloc: Global, set: &RangeSet, keys: &[u64]) -> Result<Vec<Uid>, AllocError>
+    requires { AreKeys keys.now }
+    ensures { IfOk result (λ v. (us : List ℕ) → AreKeysOf keys.now us
+        → IsListOf (IsFailing us (is_open_in set.now)) v.items) }
+{
+    let mut outside = Vec::new(alloc);
+    for key in keys {
+        let uid = uid_at(*key);
+        push_if(&mut outside, uid, !set.has(uid))?;
+    }
+    put_in_order(&mut outside);
+    Ok(outside)
 }
 
 /// Adds a UID, or doesn't.

@@ -73,12 +73,12 @@ found_failed test keys i m o out one le over h =
         (cases_eq j i)
 
 -- where a UID of the list has its key
-record Place (keys : List ℕ) (u : ℕ) : Type 0 where
-  index : ℕ
-  within : index < length keys
-  here : uid_here keys index ≡ u
+pub record Place (keys : List ℕ) (u : ℕ) : Type 0 where
+  pub index : ℕ
+  pub within : index < length keys
+  pub here : uid_here keys index ≡ u
 
-place_of : (keys us : List ℕ) (u : ℕ) → AreKeysOf keys us → has us u ≡ true → Place keys u
+pub place_of : (keys us : List ℕ) (u : ℕ) → AreKeysOf keys us → has us u ≡ true → Place keys u
 place_of keys us u k e =
     let w = k.are_uids u e in
     let some = Any-from_list_any (nat_eq (mirror u)) keys (k.members u w ∙ e) in
@@ -89,7 +89,7 @@ place_of keys us u k e =
     }
 
 -- the UID at a key of the list is in it
-at_place : (keys us : List ℕ) (j : ℕ) → AreKeysOf keys us → j < length keys → has us (uid_here keys j) ≡ true
+pub at_place : (keys us : List ℕ) (j : ℕ) → AreKeysOf keys us → j < length keys → has us (uid_here keys j) ≡ true
 at_place keys us j k lt =
     let key = get_or keys j 0 in
     sym (k.members (uid_of key) (is_uid key)) ∙ list_any_at (nat_eq (mirror (uid_of key))) keys j 0 lt (eq-eqb _ _ (mirror_of_uid key (k.keys j 0 lt)))

@@ -1,0 +1,12 @@
+use Rattle.std.proofs.Common.{◌≡◌, ◌<◌, ◌≤◌, length, get_or, not, take}
+use Rattle.std.specs.List.{filter}
+use Rattle.vic_frame.specs.Uids.{has}
+use Rattle.vic_report.specs.Merging.{AreBelow}
+use Rattle.vic_report.proofs.findings.missing.Given as goal
+
+abbrev pub invariant-loop-uid : goal.invariant-loop-uid
+invariant-loop-uid l = record {
+  within : l.next ≤ length l.others;
+  below : l.uid-index < length l.uids → AreBelow l.others l.next (get_or l.uids l.uid-index 0);
+  items : l.missing.items ≡ filter (λ u. not (has l.others u)) (take l.uid-index l.uids);
+}
