@@ -1,6 +1,5 @@
 //! Verdicts with a population that shows them: `explain` and `explain_with`.
 
-use crate::found::{Found, both, call_again};
 use crate::logs::log_of;
 use crate::rows::{COLLISION_UNMET, ONE_HEARD, ONE_MISSING, ONE_QUIET, QUIET_LISTED, TWO_COLLIDED};
 use std::alloc::{AllocError, Global};
@@ -72,36 +71,26 @@ fn explain_row_with<S: OpenSet>(alloc: Global, row: &Row) -> Result<bool, AllocE
     }
 }
 
-/// Explains a log, and again where memory was wanting.
-fn explain_again(alloc: Global, row: &Row) -> Found {
-    call_again(|| explain_row(alloc, row))
-}
-
-/// The same by a set of one kind.
-fn explain_again_with<S: OpenSet>(alloc: Global, row: &Row) -> Found {
-    call_again(|| explain_row_with::<S>(alloc, row))
-}
-
 /// Explains logs.
-pub fn explain_rows(alloc: Global) -> Found {
+pub fn explain_rows(alloc: Global) -> Result<bool, AllocError> {
     let Some(rows) = rows() else {
-        return Found::Wrong;
+        return Ok(false);
     };
-    let mut found = Found::Right;
+    let mut right = true;
     for row in rows.iter() {
-        found = both(found, explain_again(alloc, row));
+        right = explain_row(alloc, row)? && right;
     }
-    found
+    Ok(right)
 }
 
 /// Explains logs by a set of one kind.
-pub fn explain_rows_with<S: OpenSet>(alloc: Global) -> Found {
+pub fn explain_rows_with<S: OpenSet>(alloc: Global) -> Result<bool, AllocError> {
     let Some(rows) = rows() else {
-        return Found::Wrong;
+        return Ok(false);
     };
-    let mut found = Found::Right;
+    let mut right = true;
     for row in rows.iter() {
-        found = both(found, explain_again_with::<S>(alloc, row));
+        right = explain_row_with::<S>(alloc, row)? && right;
     }
-    found
+    Ok(right)
 }

@@ -1,6 +1,6 @@
 //! What a call gave where one growth may be refused.
 
-use std::alloc::AllocError;
+use std::alloc::{AllocError, Global};
 
 /// What a call gave.
 #[derive(Clone, Copy, Debug, PartialEq, Eq)]
@@ -25,13 +25,13 @@ impl Found {
 }
 
 /// Makes a call that says whether its answer is right, and makes it again where memory was wanting.
-pub fn call_again<F: Fn() -> Result<bool, AllocError>>(call: F) -> Found
+pub fn call_again<F: Fn(Global) -> Result<bool, AllocError>>(alloc: Global, call: F) -> Found
     requires { F.IsAlwaysCallable call }
 {
-    match call() {
+    match call(alloc) {
         Ok(true) => Found::Right,
         Ok(false) => Found::Wrong,
-        Err(AllocError) => match call() {
+        Err(AllocError) => match call(alloc) {
             Ok(true) => Found::Memory,
             Ok(false) | Err(AllocError) => Found::Wrong,
         },

@@ -1,6 +1,6 @@
 //! Logs: `push`, `read_log` and `read_all`.
 
-use crate::found::{Found, both, call_again};
+use crate::found::{Found, both};
 use crate::rows::{COLLISION_PARTED, ONE_SILENCED, TWO_HEARD};
 use arrayvec::ArrayVec;
 use std::alloc::{AllocError, Global};
@@ -80,21 +80,17 @@ fn read_row_in_pieces(alloc: Global, text: &[u8]) -> Result<bool, AllocError> {
 }
 
 /// Reads logs whole.
-pub fn read_rows(alloc: Global) -> Found {
-    let first = call_again(|| read_row(alloc, TWO_HEARD));
-    let second = call_again(|| read_row(alloc, ONE_SILENCED));
-    both(
-        both(first, second),
-        call_again(|| read_row(alloc, COLLISION_PARTED)),
-    )
+pub fn read_rows(alloc: Global) -> Result<bool, AllocError> {
+    let heard = read_row(alloc, TWO_HEARD)?;
+    let silenced = read_row(alloc, ONE_SILENCED)?;
+    let parted = read_row(alloc, COLLISION_PARTED)?;
+    Ok(heard && silenced && parted)
 }
 
 /// Reads logs in pieces.
-pub fn read_rows_in_pieces(alloc: Global) -> Found {
-    let first = call_again(|| read_row_in_pieces(alloc, TWO_HEARD));
-    let second = call_again(|| read_row_in_pieces(alloc, ONE_SILENCED));
-    both(
-        both(first, second),
-        call_again(|| read_row_in_pieces(alloc, COLLISION_PARTED)),
-    )
+pub fn read_rows_in_pieces(alloc: Global) -> Result<bool, AllocError> {
+    let heard = read_row_in_pieces(alloc, TWO_HEARD)?;
+    let silenced = read_row_in_pieces(alloc, ONE_SILENCED)?;
+    let parted = read_row_in_pieces(alloc, COLLISION_PARTED)?;
+    Ok(heard && silenced && parted)
 }

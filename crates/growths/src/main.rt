@@ -17,9 +17,9 @@ mod tags;
 mod verdicts;
 mod words;
 
-use found::Found;
+use found::{Found, call_again};
 use judgings::judge_counted;
-use std::alloc::Global;
+use std::alloc::{AllocError, Global};
 use std::io;
 use vic_log::{FromRead, read_whole};
 use vic_sets::{CellList, MaskTree};
@@ -38,7 +38,7 @@ fn say(rt: &HostRuntime, call: &str, found: Found) -> io::Result<()> {
 fn say_planted(rt: &HostRuntime, alloc: Global) -> io::Result<()> {
     say(rt, "planted answer", planted::answers(alloc))?;
     say(rt, "planted writing", planted::writes_early(alloc))?;
-    say(rt, "planted idleness", planted::takes_none())
+    say(rt, "planted idleness", planted::takes_none(alloc))
 }
 
 /// What stands on standard input.
@@ -49,74 +49,103 @@ fn read_input(rt: &HostRuntime, alloc: Global) -> io::Result<Vec<u8>> {
     }
 }
 
+/// Makes a call, and again where memory was wanting, and says how it answered.
+fn say_again<F: Fn(Global) -> Result<bool, AllocError>>(
+    rt: &HostRuntime,
+    name: &str,
+    call: F,
+) -> io::Result<()>
+    requires { F.IsAlwaysCallable call }
+{
+    say(rt, name, call_again(rt.alloc(), call))
+}
+
+/// Makes the calls on logs and on tags.
+fn say_logs(rt: &HostRuntime) -> io::Result<()> {
+    say(rt, "push", logs::push(rt.alloc()))?;
+    say_again(rt, "read_log", logs::read_rows)?;
+    say_again(rt, "read_all", logs::read_rows_in_pieces)?;
+    say(rt, "add", tags::add(rt.alloc()))?;
+    say_again(rt, "simulate", tags::simulate_rows)
+}
+
+/// Makes the calls on sets of open UIDs.
+fn say_sets(rt: &HostRuntime) -> io::Result<()> {
+    say_again(rt, "settle CellList", sets::settle_masks::<CellList>)?;
+    say_again(rt, "settle MaskTree", sets::settle_masks::<MaskTree>)?;
+    say_again(rt, "settle RangeSet", sets::settle_masks::<RangeSet>)?;
+    say_again(rt, "without CellList", sets::leave_keys::<CellList>)?;
+    say_again(rt, "without MaskTree", sets::leave_keys::<MaskTree>)?;
+    say_again(rt, "without RangeSet", sets::leave_keys::<RangeSet>)
+}
+
+/// Makes the calls that judge a log.
+fn say_verdicts(rt: &HostRuntime) -> io::Result<()> {
+    say_again(rt, "judge", verdicts::judge_rows)?;
+    say_again(
+        rt,
+        "judge_with CellList",
+        verdicts::judge_rows_with::<CellList>,
+    )?;
+    say_again(
+        rt,
+        "judge_with MaskTree",
+        verdicts::judge_one_with::<MaskTree>,
+    )?;
+    say_again(
+        rt,
+        "judge_with RangeSet",
+        verdicts::judge_one_with::<RangeSet>,
+    )
+}
+
+/// Makes the calls that explain a log.
+fn say_explanations(rt: &HostRuntime) -> io::Result<()> {
+    say_again(rt, "explain", explanations::explain_rows)?;
+    say_again(
+        rt,
+        "explain_with CellList",
+        explanations::explain_rows_with::<CellList>,
+    )?;
+    say_again(
+        rt,
+        "explain_with MaskTree",
+        explanations::explain_rows_with::<MaskTree>,
+    )?;
+    say_again(
+        rt,
+        "explain_with RangeSet",
+        explanations::explain_rows_with::<RangeSet>,
+    )
+}
+
+/// Makes the calls that answer to a text or to words.
+fn say_answers(rt: &HostRuntime) -> io::Result<()> {
+    say_again(rt, "judge_text", verdicts::judge_texts)?;
+    say_again(rt, "run_check", runs::check_rows)?;
+    say_again(rt, "run_simulate", runs::simulate_rows)?;
+    say_again(rt, "run_explain", runs::explain_rows)?;
+    say_again(rt, "run_report", runs::report_rows)?;
+    say_again(rt, "read_words", words::read)
+}
+
+/// Makes each call.
+fn say_all(rt: &HostRuntime) -> io::Result<()> {
+    say_logs(rt)?;
+    say_sets(rt)?;
+    say_verdicts(rt)?;
+    say_explanations(rt)?;
+    say_answers(rt)
+}
+
 fn main(rt: HostRuntime) -> io::Result<()> {
     let alloc = rt.alloc();
     let input = read_input(&rt, alloc)?;
     if input.as_slice() == b"planted".as_slice() {
-        return say_planted(&rt, alloc);
+        say_planted(&rt, alloc)
+    } else if input.is_empty() {
+        say_all(&rt)
+    } else {
+        judge_counted(&rt, alloc, &input)
     }
-    if !input.is_empty() {
-        return judge_counted(&rt, alloc, &input);
-    }
-    say(&rt, "push", logs::push(alloc))?;
-    say(&rt, "read_log", logs::read_rows(alloc))?;
-    say(&rt, "read_all", logs::read_rows_in_pieces(alloc))?;
-    say(&rt, "add", tags::add(alloc))?;
-    say(&rt, "simulate", tags::simulate_rows(alloc))?;
-    say(
-        &rt,
-        "settle CellList",
-        sets::settle_masks::<CellList>(alloc),
-    )?;
-    say(
-        &rt,
-        "settle MaskTree",
-        sets::settle_masks::<MaskTree>(alloc),
-    )?;
-    say(
-        &rt,
-        "settle RangeSet",
-        sets::settle_masks::<RangeSet>(alloc),
-    )?;
-    say(&rt, "without CellList", sets::leave_keys::<CellList>(alloc))?;
-    say(&rt, "without MaskTree", sets::leave_keys::<MaskTree>(alloc))?;
-    say(&rt, "without RangeSet", sets::leave_keys::<RangeSet>(alloc))?;
-    say(&rt, "judge", verdicts::judge_rows(alloc))?;
-    say(
-        &rt,
-        "judge_with CellList",
-        verdicts::judge_rows_with::<CellList>(alloc),
-    )?;
-    say(
-        &rt,
-        "judge_with MaskTree",
-        verdicts::judge_one_with::<MaskTree>(alloc),
-    )?;
-    say(
-        &rt,
-        "judge_with RangeSet",
-        verdicts::judge_one_with::<RangeSet>(alloc),
-    )?;
-    say(&rt, "explain", explanations::explain_rows(alloc))?;
-    say(
-        &rt,
-        "explain_with CellList",
-        explanations::explain_rows_with::<CellList>(alloc),
-    )?;
-    say(
-        &rt,
-        "explain_with MaskTree",
-        explanations::explain_rows_with::<MaskTree>(alloc),
-    )?;
-    say(
-        &rt,
-        "explain_with RangeSet",
-        explanations::explain_rows_with::<RangeSet>(alloc),
-    )?;
-    say(&rt, "judge_text", verdicts::judge_texts(alloc))?;
-    say(&rt, "run_check", runs::check_rows(alloc))?;
-    say(&rt, "run_simulate", runs::simulate_rows(alloc))?;
-    say(&rt, "run_explain", runs::explain_rows(alloc))?;
-    say(&rt, "run_report", runs::report_rows(alloc))?;
-    say(&rt, "read_words", words::read(alloc))
 }

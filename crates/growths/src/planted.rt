@@ -33,15 +33,20 @@ fn explain_too_early(alloc: Global) -> Result<bool, AllocError> {
 
 /// A call that answers though no memory was there.
 pub fn answers(alloc: Global) -> Found {
-    call_again(|| answer_in_any_case(alloc))
+    call_again(alloc, answer_in_any_case)
 }
 
 /// A run that writes before its last growth.
 pub fn writes_early(alloc: Global) -> Found {
-    call_again(|| explain_too_early(alloc))
+    call_again(alloc, explain_too_early)
+}
+
+/// Does nothing.
+fn do_nothing(_: Global) -> Result<bool, AllocError> {
+    Ok(true)
 }
 
 /// A call that takes no memory.
-pub fn takes_none() -> Found {
-    call_again(|| Ok(true))
+pub fn takes_none(alloc: Global) -> Found {
+    call_again(alloc, do_nothing)
 }

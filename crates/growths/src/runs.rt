@@ -1,6 +1,5 @@
 //! Runs: `run_check`, `run_simulate`, `run_explain` and `run_report`.
 
-use crate::found::{Found, both, call_again};
 use crate::rows::{
     COLLISION_PARTED, COLLISION_UNMET, ONE_HEARD, ONE_MISSING, ONE_QUIET, ONE_SILENCED,
     QUIET_HEARD, QUIET_LISTED, SILENCED_BETWEEN, SILENCED_BETWEEN_FILLED, TWO_ASKED, TWO_COLLIDED,
@@ -72,24 +71,23 @@ fn report_row(
 }
 
 /// Checks logs.
-pub fn check_rows(alloc: Global) -> Found {
+pub fn check_rows(alloc: Global) -> Result<bool, AllocError> {
     let line = b"complete 2\n";
-    let heard = call_again(|| check_row(alloc, TWO_HEARD, line));
-    let silenced = call_again(|| check_row(alloc, ONE_SILENCED, line));
-    let parted = call_again(|| check_row(alloc, COLLISION_PARTED, line));
-    both(both(heard, silenced), parted)
+    let heard = check_row(alloc, TWO_HEARD, line)?;
+    let silenced = check_row(alloc, ONE_SILENCED, line)?;
+    let parted = check_row(alloc, COLLISION_PARTED, line)?;
+    Ok(heard && silenced && parted)
 }
 
 /// Fills in the slots of logs.
-pub fn simulate_rows(alloc: Global) -> Found {
-    both(
-        call_again(|| simulate_row(alloc, TWO_ASKED, TWO_HEARD)),
-        call_again(|| simulate_row(alloc, SILENCED_BETWEEN, SILENCED_BETWEEN_FILLED)),
-    )
+pub fn simulate_rows(alloc: Global) -> Result<bool, AllocError> {
+    let asked = simulate_row(alloc, TWO_ASKED, TWO_HEARD)?;
+    let silenced = simulate_row(alloc, SILENCED_BETWEEN, SILENCED_BETWEEN_FILLED)?;
+    Ok(asked && silenced)
 }
 
 /// Explains logs: one for each kind of verdict that a population shows, and one that is impossible.
-pub fn explain_rows(alloc: Global) -> Found {
+pub fn explain_rows(alloc: Global) -> Result<bool, AllocError> {
     let rows: [(&[u8], Status, &[u8]); 6] = [
         (
             ONE_HEARD,
@@ -122,14 +120,11 @@ pub fn explain_rows(alloc: Global) -> Found {
             b"impossible at line 35\n",
         ),
     ];
-    let mut found = Found::Right;
+    let mut right = true;
     for (given, status, text) in rows {
-        found = both(
-            found,
-            call_again(|| explain_row(alloc, given, status, text)),
-        );
+        right = explain_row(alloc, given, status, text)? && right;
     }
-    found
+    Ok(right)
 }
 
 /// Why `COLLISION_UNMET` is impossible.
@@ -155,7 +150,7 @@ by line 35
 
 /// Reports on logs: one for each kind of finding, one whose conflict has many lines, and one that a
 /// Quiet tag makes impossible.
-pub fn report_rows(alloc: Global) -> Found {
+pub fn report_rows(alloc: Global) -> Result<bool, AllocError> {
     let rows: [(&[u8], Status, &[u8]); 7] = [
         (
             ONE_MISSING,
@@ -189,9 +184,9 @@ pub fn report_rows(alloc: Global) -> Found {
             b"impossible at line 6\nby line 6\nsilenced by line 4\n",
         ),
     ];
-    let mut found = Found::Right;
+    let mut right = true;
     for (given, status, text) in rows {
-        found = both(found, call_again(|| report_row(alloc, given, status, text)));
+        right = report_row(alloc, given, status, text)? && right;
     }
-    found
+    Ok(right)
 }

@@ -1,6 +1,5 @@
 //! Sets of open UIDs: `everything`, `settle` and `without`.
 
-use crate::found::{Found, both, call_again};
 use std::alloc::{AllocError, Global};
 use vic_frame::low_bits_first::uid_at;
 use vic_frame::{Mask, UID_BITS, Uid};
@@ -44,15 +43,15 @@ fn settle_mask<S: OpenSet>(alloc: Global) -> Result<bool, AllocError> {
 }
 
 /// Settles masks in a set of one kind.
-pub fn settle_masks<S: OpenSet>(alloc: Global) -> Found {
-    both(
-        call_again(|| settle_halves::<S>(alloc)),
-        call_again(|| settle_mask::<S>(alloc)),
-    )
+pub fn settle_masks<S: OpenSet>(alloc: Global) -> Result<bool, AllocError> {
+    let halves = settle_halves::<S>(alloc)?;
+    let mask = settle_mask::<S>(alloc)?;
+    Ok(halves && mask)
 }
 
-/// The UIDs at the second and at the fourth key of all.
-fn leave_two<S: OpenSet>(alloc: Global) -> Result<bool, AllocError> {
+/// Makes a set of one kind from the ranges of keys that are closed: the UIDs at the second and at the
+/// fourth key of all are left.
+pub fn leave_keys<S: OpenSet>(alloc: Global) -> Result<bool, AllocError> {
     let mut closed = Vec::new(alloc);
     closed.push(KeyRange::new(4, (1 << UID_BITS) - 1))?;
     closed.push(KeyRange::new(2, 2))?;
@@ -60,9 +59,4 @@ fn leave_two<S: OpenSet>(alloc: Global) -> Result<bool, AllocError> {
     let set: S = S::without(alloc, closed)?;
     let second = set.widest() == Mask::new(UID_BITS, 1 << (UID_BITS - 1));
     Ok(second && set.has(uid_at(3)) && !set.has(uid_at(4)))
-}
-
-/// Makes a set of one kind from the ranges of keys that are closed.
-pub fn leave_keys<S: OpenSet>(alloc: Global) -> Found {
-    call_again(|| leave_two::<S>(alloc))
 }

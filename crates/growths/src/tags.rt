@@ -1,6 +1,6 @@
 //! Tags: `Field::add` and `simulate`.
 
-use crate::found::{Found, both, call_again};
+use crate::found::{Found, both};
 use crate::logs::{is_text, log_of};
 use crate::rows::{SILENCED_BETWEEN, SILENCED_BETWEEN_FILLED, TWO_ASKED, TWO_HEARD};
 use std::alloc::{AllocError, Global};
@@ -57,9 +57,8 @@ fn fill(alloc: Global, given: &[u8], filled: &[u8]) -> Result<bool, AllocError> 
 }
 
 /// Fills in the slots of logs.
-pub fn simulate_rows(alloc: Global) -> Found {
-    both(
-        call_again(|| fill(alloc, TWO_ASKED, TWO_HEARD)),
-        call_again(|| fill(alloc, SILENCED_BETWEEN, SILENCED_BETWEEN_FILLED)),
-    )
+pub fn simulate_rows(alloc: Global) -> Result<bool, AllocError> {
+    let asked = fill(alloc, TWO_ASKED, TWO_HEARD)?;
+    let silenced = fill(alloc, SILENCED_BETWEEN, SILENCED_BETWEEN_FILLED)?;
+    Ok(asked && silenced)
 }

@@ -1,6 +1,5 @@
 //! Verdicts: `judge` and `judge_with`, `judge_text`.
 
-use crate::found::{Found, both, call_again};
 use crate::logs::log_of;
 use crate::rows::{COLLISION_PARTED, COLLISION_UNMET, ONE_SILENCED, TWO_HEARD};
 use std::alloc::{AllocError, Global};
@@ -29,30 +28,27 @@ fn judge_row_with<S: OpenSet>(
 }
 
 /// Judges logs.
-pub fn judge_rows(alloc: Global) -> Found {
+pub fn judge_rows(alloc: Global) -> Result<bool, AllocError> {
     let complete = Verdict::Complete { count: 2 };
-    let heard = call_again(|| judge_row(alloc, TWO_HEARD, complete));
-    let silenced = call_again(|| judge_row(alloc, ONE_SILENCED, complete));
-    let parted = call_again(|| judge_row(alloc, COLLISION_PARTED, complete));
-    let unmet = call_again(|| {
-        judge_row(alloc, COLLISION_UNMET, Verdict::Impossible { line: 35 })
-    });
-    both(both(heard, silenced), both(parted, unmet))
+    let heard = judge_row(alloc, TWO_HEARD, complete)?;
+    let silenced = judge_row(alloc, ONE_SILENCED, complete)?;
+    let parted = judge_row(alloc, COLLISION_PARTED, complete)?;
+    let unmet = judge_row(alloc, COLLISION_UNMET, Verdict::Impossible { line: 35 })?;
+    Ok(heard && silenced && parted && unmet)
 }
 
 /// Judges one log by a set of one kind.
-pub fn judge_one_with<S: OpenSet>(alloc: Global) -> Found {
-    let complete = Verdict::Complete { count: 2 };
-    call_again(|| judge_row_with::<S>(alloc, TWO_HEARD, complete))
+pub fn judge_one_with<S: OpenSet>(alloc: Global) -> Result<bool, AllocError> {
+    judge_row_with::<S>(alloc, TWO_HEARD, Verdict::Complete { count: 2 })
 }
 
 /// Judges logs by a set of one kind.
-pub fn judge_rows_with<S: OpenSet>(alloc: Global) -> Found {
+pub fn judge_rows_with<S: OpenSet>(alloc: Global) -> Result<bool, AllocError> {
     let complete = Verdict::Complete { count: 2 };
-    let heard = call_again(|| judge_row_with::<S>(alloc, TWO_HEARD, complete));
-    let silenced = call_again(|| judge_row_with::<S>(alloc, ONE_SILENCED, complete));
-    let parted = call_again(|| judge_row_with::<S>(alloc, COLLISION_PARTED, complete));
-    both(both(heard, silenced), parted)
+    let heard = judge_row_with::<S>(alloc, TWO_HEARD, complete)?;
+    let silenced = judge_row_with::<S>(alloc, ONE_SILENCED, complete)?;
+    let parted = judge_row_with::<S>(alloc, COLLISION_PARTED, complete)?;
+    Ok(heard && silenced && parted)
 }
 
 /// Judges a text.
@@ -61,12 +57,10 @@ fn judge_text_row(alloc: Global, text: &[u8], verdict: Verdict) -> Result<bool, 
 }
 
 /// Judges texts.
-pub fn judge_texts(alloc: Global) -> Found {
+pub fn judge_texts(alloc: Global) -> Result<bool, AllocError> {
     let complete = Verdict::Complete { count: 2 };
-    let heard = call_again(|| judge_text_row(alloc, TWO_HEARD, complete));
-    let silenced = call_again(|| judge_text_row(alloc, ONE_SILENCED, complete));
-    let unmet = call_again(|| {
-        judge_text_row(alloc, COLLISION_UNMET, Verdict::Impossible { line: 35 })
-    });
-    both(both(heard, silenced), unmet)
+    let heard = judge_text_row(alloc, TWO_HEARD, complete)?;
+    let silenced = judge_text_row(alloc, ONE_SILENCED, complete)?;
+    let unmet = judge_text_row(alloc, COLLISION_UNMET, Verdict::Impossible { line: 35 })?;
+    Ok(heard && silenced && unmet)
 }

@@ -1,6 +1,5 @@
 //! The program's words: `read_words`.
 
-use crate::found::{Found, both, call_again};
 use std::alloc::{AllocError, Global};
 use vic_words::{Task, WordsFault, read_words};
 
@@ -41,9 +40,8 @@ fn read_line(alloc: Global, line: &str) -> Result<bool, AllocError> {
 }
 
 /// Reads the words of a command with a file, and of one with words.
-pub fn read(alloc: Global) -> Found {
-    both(
-        call_again(|| read_line(alloc, "vicinity check a.txt")),
-        call_again(|| read_line(alloc, "vicinity spell request inventory")),
-    )
+pub fn read(alloc: Global) -> Result<bool, AllocError> {
+    let file = read_line(alloc, "vicinity check a.txt")?;
+    let words = read_line(alloc, "vicinity spell request inventory")?;
+    Ok(file && words)
 }
