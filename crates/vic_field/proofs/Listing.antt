@@ -14,12 +14,6 @@ use Rattle.vic_log.specs.Order.{entries}
 use Rattle.vic_field.specs.Simulation.{HasNoSlotsBefore}
 use Rattle.vic_log.specs.Rounds.{is_slot}
 
--- one line more
-pub entries_next : (lines : List LogLine) (i : ℕ) (l : LogLine) → slice_get lines i ≡ Some l → entries (take (suc i) lines) ≡ entries (take i lines) ++ l.item ∷ []
-entries_next [] i l k = absurd (cc)
-entries_next (x ∷ lines) zero l k = let same : x ≡ l = cc in ap (λ (y : LogLine). y.item ∷ []) same
-entries_next (x ∷ lines) (suc i) l k = ap (λ (es : List Entry). x.item ∷ es) (entries_next lines i l k)
-
 -- one line more that tells of no slot
 pub no_slots_next : (n : ℕ) (lines : List LogLine) (l : LogLine) → HasNoSlotsBefore n lines → slice_get lines n ≡ Some l → is_slot l.item ≡ false → HasNoSlotsBefore (suc n) lines
 no_slots_next n lines l h k s i m below there =

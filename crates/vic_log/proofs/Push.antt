@@ -1,9 +1,8 @@
 -- One entry more: what entries in order keep, and what a log keeps.
-use Rattle.std.proofs.Common.{◌≡◌, ℕ, zero, suc, ◌+◌, ◌-◌, ◌<◌, ◌≤◌, Bool, true, false, Option, Some, None, List, [], ◌∷◌, ◌++◌, length, length-append, refl, sym, ap, subst, ◌∙◌, arith, ⊎_elim}
+use Rattle.std.proofs.Common.{◌≡◌, ℕ, zero, suc, ◌+◌, ◌-◌, ◌<◌, ◌≤◌, Bool, true, false, Option, Some, None, List, [], ◌∷◌, ◌++◌, length, take, length-append, refl, sym, ap, subst, ◌∙◌, arith, ⊎_elim}
 use Rattle.std.specs.Prelude.{slice_get, nat_eq, nat_lt, if◌then◌else◌, not, ◌||◌}
 use Rattle.std.proofs.lemmas.Bool.{cases_lt, not-false, ltb-true, eq-eqb, or_right}
 use Rattle.std.proofs.lemmas.List.{map-append, length-map}
-use Rattle.std.proofs.lemmas.List.Folds.{list_any-append}
 use Rattle.std.proofs.lemmas.Option.{slice_get_within}
 use Rattle.vic_log.specs.declared.entry.Entry.{Entry}
 use Rattle.vic_log.specs.declared.entry.Entry.TheVariants.{Sent, Silent, Collision, Heard, Listed, Garbled, FieldCycle}
@@ -186,6 +185,12 @@ first_version-push es e v h i f k = last_or es e f i k (λ below here. v i f her
 pub entries-push : (ls : List LogLine) (l : LogLine) → entries (ls ++ l ∷ []) ≡ entries ls ++ l.item ∷ []
 entries-push ls l = map-append (λ (x : LogLine). x.item) ls (l ∷ [])
 
+-- the entries of the lines to the next one
+pub entries_next : (lines : List LogLine) (i : ℕ) (l : LogLine) → slice_get lines i ≡ Some l → entries (take (suc i) lines) ≡ entries (take i lines) ++ l.item ∷ []
+entries_next [] i l k = absurd (cc)
+entries_next (x ∷ lines) zero l k = let same : x ≡ l = cc in ap (λ (y : LogLine). y.item ∷ []) same
+entries_next (x ∷ lines) (suc i) l k = ap (λ (es : List Entry). x.item ∷ es) (entries_next lines i l k)
+
 pub last_from-last : (n : ℕ) (ls : List LogLine) (l : LogLine) → slice_get ls (length ls - 1) ≡ Some l → last_from n ls ≡ l.number
 last_from-last n [] l k = cc
 last_from-last n (x ∷ []) l k = let same : x ≡ l = cc in ap (λ (m : LogLine). m.number) same
@@ -205,11 +210,11 @@ IsLog-push v ls l g h above limit valid typed first = record {
   first_version = λ is. subst AreOfFirstVersion (sym (entries-push ls l)) (first_version-push (entries ls) l.item (g.first_version is) (first is));
 }
 
-pub Keeps-push : (v : Version) (ls : List LogLine) (l : LogLine) (index more : ℕ → Bool) (listing further : Bool) (left rest : ℕ) → Keeps v ls index listing left
+pub Keeps-push : (v : Version) (ls : List LogLine) (l : LogLine) (listing further : Bool) (left rest : ℕ) → Keeps v ls listing left
     → refusal (entries ls) l.item ≡ None → last_from 1 ls < l.number → l.number ≤ 1000000 → IsValidEntry l.item → IsTyped l.item → (v ≡ V1 → IsOfFirstVersion l.item)
-    → ((u : ℕ) → more u ≡ (index u || has (listed (l.item ∷ [])) u)) → further ≡ (listing || not (is_empty (listed (l.item ∷ [])))) → rest ≡ left_after left l.item
-    → Keeps v (ls ++ l ∷ []) more further rest
-Keeps-push v ls l index more listing further left rest k h above limit valid typed first m f r =
+    → further ≡ (listing || not (is_empty (listed (l.item ∷ [])))) → rest ≡ left_after left l.item
+    → Keeps v (ls ++ l ∷ []) further rest
+Keeps-push v ls l listing further left rest k h above limit valid typed first f r =
     let es = entries ls in
     let es_is : entries (ls ++ l ∷ []) ≡ es ++ l.item ∷ [] = entries-push ls l in
     let listed_is : listed (entries (ls ++ l ∷ [])) ≡ listed es ++ listed (l.item ∷ []) = ap listed es_is ∙ listed-append es (l.item ∷ []) in
@@ -217,7 +222,6 @@ Keeps-push v ls l index more listing further left rest k h above limit valid typ
     let long : length (ls ++ l ∷ []) ≡ suc (length es) = length-append ls (l ∷ []) ∙ omega arith in
     record {
       is_log = IsLog-push v ls l k.is_log h above limit valid typed first;
-      index_is = λ u. m u ∙ (ap (λ b. b || has (listed (l.item ∷ [])) u) (k.index_is u) ∙ (sym (list_any-append (nat_eq u) (listed es) (listed (l.item ∷ []))) ∙ ap (λ us. has us u) (sym listed_is)));
       listing_is = f ∙ (ap (λ b. b || not (is_empty (listed (l.item ∷ [])))) k.listing_is ∙ (sym (empty-append (listed es) (listed (l.item ∷ []))) ∙ ap (λ us. not (is_empty us)) (sym listed_is)));
       left_is = r ∙ (ap (λ n. left_after n l.item) (k.left_is ∙ ap (slots_left es) (sym es_long)) ∙ (sym (slots_left-push es l.item) ∙ (ap (λ x. slots_left x (suc (length es))) (sym es_is) ∙ ap (slots_left (entries (ls ++ l ∷ []))) (sym long))));
     }

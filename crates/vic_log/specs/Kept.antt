@@ -1,7 +1,6 @@
 -- What a log keeps beside its lines, to tell at once what may follow.
 use Rattle.std.specs.Prelude.{◌≡◌, ℕ, ◌-◌, Bool, not, List, length}
 use Rattle.vic_frame.specs.Slots.{slot_count}
-use Rattle.vic_frame.specs.Uids.{has}
 use Rattle.vic_log.specs.declared.entry.Entry.{Entry}
 use Rattle.vic_log.specs.declared.entry.Entry.TheVariants.{Sent, Silent, Collision, Heard, Listed, Garbled, FieldCycle}
 use Rattle.vic_log.specs.declared.entry.LogLine.{LogLine}
@@ -20,10 +19,9 @@ left_after left Collision = left - 1
 left_after left (Heard r) = left - 1
 left_after left Garbled = left - 1
 
--- which UIDs are listed, whether any is, and how many slots of the round are left
-pub record Keeps (version : Version) (lines : List LogLine) (index : ℕ → Bool)
-    (listing : Bool) (left : ℕ) : Type 0 where
+-- whether a UID is listed, and how many slots of the round are left
+pub record Keeps (version : Version) (lines : List LogLine) (listing : Bool) (left : ℕ)
+    : Type 0 where
   pub is_log : IsLog version lines
-  pub index_is : (u : ℕ) → index u ≡ has (listed (entries lines)) u
   pub listing_is : listing ≡ not (is_empty (listed (entries lines)))
   pub left_is : left ≡ slots_left (entries lines) (length lines)

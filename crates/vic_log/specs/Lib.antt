@@ -15,6 +15,6 @@ pub mod Begun
 pub mod Writing
 pub mod Names
 pub mod Device
-pub mod Index
+pub mod UidSets
 pub mod OpenRounds
 pub mod Packed

@@ -24,6 +24,7 @@ mod reader;
 mod rounds;
 mod sink;
 mod source;
+mod uid_set;
 mod write;
 
 pub use digits::push_hex;

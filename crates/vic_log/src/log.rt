@@ -1,14 +1,12 @@
 //! A log as a value.
 
-ghost use Rattle.std.specs.Prelude.{◌≡◌, ◌<◌, ◌≤◌, [], ◌∷◌, not, ◌||◌, true, false};
+ghost use Rattle.std.specs.Prelude.{◌≡◌, ◌<◌, ◌≤◌, [], ◌∷◌, ◌++◌, not, ◌||◌, true, false};
 ghost use Rattle.std.specs.Prelude.{Some, None, MatchResult, OnOk, OnErr, if◌then◌else◌};
 ghost use Rattle.vic_log.specs.declared.entry.Version.TheVariants.{V1};
 ghost use Rattle.vic_log.specs.declared.fault.PushFault.TheVariants.{DuplicateListed};
 ghost use Rattle.vic_log.specs.FirstVersion.{IsOfFirstVersion};
-ghost use Rattle.std.specs.List.Sorted.{IsNonDecreasing};
 ghost use Rattle.vic_frame.specs.Uids.{has};
-ghost use Rattle.vic_log.specs.Index.{IsAbove, IsAtMost, IsIndex, is_indexed};
-ghost use Rattle.vic_log.specs.Index.{IndexesAlso, IndexesSame};
+ghost use Rattle.vic_log.specs.UidSets.{IsIndex};
 ghost use Rattle.vic_log.specs.Kept.{left_after, Keeps};
 ghost use Rattle.vic_log.specs.Log.{LogValue, IsLog, with_line, last_from, RefusesOr, IsValidEntry};
 ghost use Rattle.vic_log.specs.Order.{entries, listed, is_empty, refusal};
@@ -16,8 +14,8 @@ ghost use Rattle.vic_log.specs.Order.{entries, listed, is_empty, refusal};
 use crate::entry::{Entry, MAX_LINES, Version};
 use crate::fault::PushFault;
 use crate::packed::PackedLine;
+use crate::uid_set::{UidSet, is_listed};
 use std::alloc::Global;
-use std::collections::BTreeSet;
 use std::marker::Model;
 use vic_frame::Uid;
 
@@ -26,10 +24,10 @@ use vic_frame::Uid;
 pub struct Log {
     version: Version,
     lines: Vec<PackedLine>,
-    /// The UIDs listed that are above all those before, in that order.
-    rising: Vec<Uid>,
-    /// The other UIDs listed.
-    others: BTreeSet<Uid>,
+    /// The greatest UID listed, or the least one, while each is above those before.
+    greatest: Uid,
+    /// The UIDs listed, since one wasn't above those before; without rows till then.
+    uids: UidSet,
     /// Whether a UID is listed.
     listing: bool,
     /// How many slots of the round are left.
@@ -41,9 +39,8 @@ impl Model for Log {
 
     ghost view = { λ l. record { lines = l.lines.items; version = l.version } };
 
-    ghost invariant = { λ l. Keeps l.version l.lines.items
-        (is_indexed l.rising.items l.others) l.listing l.slots_left
-        × IsIndex l.rising.items l.others };
+    ghost invariant = { λ l. Keeps l.version l.lines.items l.listing l.slots_left
+        × IsIndex (listed (entries l.lines.items)) l.greatest l.uids };
 }
 
 impl Log {
@@ -61,8 +58,8 @@ impl Log {
         Log {
             version,
             lines: Vec::new(alloc),
-            rising: Vec::new(alloc),
-            others: BTreeSet::new(alloc),
+            greatest: Uid::from_low_bits(0),
+            uids: UidSet::without_rows(alloc),
             listing: false,
             slots_left: 0,
         }
@@ -114,9 +111,7 @@ impl Log {
             Entry::Sent(_) | Entry::FieldCycle => {
                 self.listing.then_some(PushFault::EntryAfterList)
             }
-            Entry::Listed(uid) => {
-                is_indexed(&self.rising, &self.others, uid).then_some(PushFault::DuplicateListed)
-            }
+            Entry::Listed(uid) => refusal_listed(&self.lines, uid),
         }
     }
 
@@ -138,7 +133,7 @@ impl Log {
             return Err(self.refusal(&item).unwrap_or(PushFault::Memory));
         }
         if let Entry::Listed(uid) = item {
-            index_uid(&mut self.rising, &mut self.others, uid)?;
+            index_uid(&self.lines, &mut self.greatest, &mut self.uids, uid)?;
         } else if let Some(fault) = self.refusal(&item) {
             return Err(fault);
         }
@@ -175,58 +170,40 @@ fn listing_after(listing: bool, item: &Entry) -> bool
     }
 }
 
-/// Whether a UID is above all of some that rise.
-fn is_above(rising: &[Uid], uid: Uid) -> bool
-    requires { IsNonDecreasing rising.now }
-    ensures above { result ≡ true → IsAbove uid rising.now }
-    ensures at_most { result ≡ false → IsAtMost uid rising.now }
+/// Why a UID can't be listed after lines, if it can't. It looks at all of them.
+fn refusal_listed(lines: &[PackedLine], uid: Uid) -> Option<PushFault>
+    ensures { result ≡ (if has (listed (entries lines.now)) uid
+        then Some DuplicateListed else None) }
 {
-    match rising.last() {
-        Some(last) => *last < uid,
-        None => true,
-    }
+    is_listed(lines, uid).then_some(PushFault::DuplicateListed)
 }
 
-/// Whether a UID is among some that rise.
-fn is_among(rising: &[Uid], uid: Uid) -> bool
-    requires { IsNonDecreasing rising.now }
-    ensures { result ≡ has rising.now uid }
-{
-    rising.binary_search(&uid).is_ok()
-}
-
-/// Whether a UID is in an index.
-fn is_indexed(rising: &[Uid], others: &BTreeSet<Uid>, uid: Uid) -> bool
-    requires { IsIndex rising.now others.now }
-    ensures { result ≡ is_indexed rising.now others.now uid }
-{
-    if is_above(rising, uid) {
-        return false;
-    }
-    is_among(rising, uid) || others.contains(&uid)
-}
-
-/// Puts a UID into an index, unless it is there already. One search tells both.
-fn index_uid(rising: &mut Vec<Uid>, others: &mut BTreeSet<Uid>, uid: Uid) -> Result<(), PushFault>
-    requires { IsIndex rising.old.items others.old }
+/// Puts a UID into an index of those that lines list, unless they list it.
+#[inline(always)]
+fn index_uid(
+    lines: &[PackedLine],
+    greatest: &mut Uid,
+    uids: &mut UidSet,
+    uid: Uid,
+) -> Result<(), PushFault>
+    requires { IsIndex (listed (entries lines.now)) greatest.old uids.old }
     ensures answer { MatchResult result
-        (λ _. is_indexed rising.old.items others.old uid ≡ false)
-        (RefusesOr (if is_indexed rising.old.items others.old uid
+        (λ _. has (listed (entries lines.now)) uid ≡ false)
+        (RefusesOr (if has (listed (entries lines.now)) uid
         then Some DuplicateListed else None)) }
-    ensures more { OnOk result (IndexesAlso rising.old.items others.old
-        rising.new.items others.new (uid ∷ [])) }
-    ensures same { OnErr result (IndexesSame rising.old.items others.old
-        rising.new.items others.new) }
-    ensures index { IsIndex rising.new.items others.new }
+    ensures more { OnOk result
+        (IsIndex (listed (entries lines.now) ++ uid ∷ []) greatest.new uids.new) }
+    ensures same { OnErr result
+        (IsIndex (listed (entries lines.now)) greatest.new uids.new) }
 {
-    if is_above(rising, uid) {
-        rising.push(uid)?;
+    if uids.has_no_rows() && *greatest < uid {
+        *greatest = uid;
         return Ok(());
     }
-    if is_among(rising, uid) {
-        return Err(PushFault::DuplicateListed);
-    }
-    if others.insert(uid)? {
+    let Ok(()) = uids.make_room(lines) else {
+        return Err(refusal_listed(lines, uid).unwrap_or(PushFault::Memory));
+    };
+    if uids.put(uid)? {
         Ok(())
     } else {
         Err(PushFault::DuplicateListed)

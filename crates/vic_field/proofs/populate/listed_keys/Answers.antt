@@ -5,7 +5,7 @@ use Rattle.vic_log.specs.declared.entry.Entry.{Entry}
 use Rattle.vic_log.specs.Order.{entries, listed}
 use Rattle.vic_log.proofs.Push.{listed-append}
 use Rattle.vic_field.specs.Keys.{AreKeysOf}
-use Rattle.vic_field.proofs.Listing.{entries_next}
+use Rattle.vic_log.proofs.Push.{entries_next}
 use Rattle.vic_field.proofs.populate.listed_keys.Goals as goal
 
 pub loop-line-preserved : goal.loop-line-preserved

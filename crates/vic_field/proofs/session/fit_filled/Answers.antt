@@ -8,7 +8,8 @@ use Rattle.vic_log.specs.Order.{entries}
 use Rattle.vic_log.specs.Rounds.{slots_opened}
 use Rattle.vic_field.specs.Simulation.{line_count, last_needed}
 use Rattle.vic_field.proofs.Follows.{line_count-front}
-use Rattle.vic_field.proofs.Listing.{entries_next, entries_take}
+use Rattle.vic_field.proofs.Listing.{entries_take}
+use Rattle.vic_log.proofs.Push.{entries_next}
 use Rattle.vic_field.proofs.Played.{line_count-next}
 use Rattle.vic_field.proofs.session.fit_filled.Goals as goal
 

@@ -10,7 +10,8 @@ use Rattle.vic_log.specs.Populations.{IsPopulation}
 use Rattle.vic_field.specs.Simulation.{line_count, last_needed, IsSimulation}
 use Rattle.vic_field.specs.Steps.{slot_lines, with_entries}
 use Rattle.vic_field.proofs.Follows.{follows, listed_population, line_count-front}
-use Rattle.vic_field.proofs.Listing.{entries_next, entries_take, entry_at, valid_entry}
+use Rattle.vic_field.proofs.Listing.{entries_take, entry_at, valid_entry}
+use Rattle.vic_log.proofs.Push.{entries_next}
 use Rattle.vic_field.proofs.Numbering.{entries-with, last_is, numbers_next}
 use Rattle.vic_field.proofs.Played.{IsPlayed, IsPlayed-start, IsPlayed-next, line_count-next}
 use Rattle.vic_field.proofs.session.simulate.Goals as goal

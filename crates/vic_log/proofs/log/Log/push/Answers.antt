@@ -1,15 +1,14 @@
-use Rattle.std.proofs.Common.{rules, ◌≡◌, ap, sym, subst, ◌∙◌, ◌∷◌, [], ◌++◌, ◌||◌, List, ℕ, None, ◌<◌, refl}
+use Rattle.std.proofs.Common.{rules, ◌≡◌, ap, sym, subst, ◌∙◌, ◌∷◌, [], ◌++◌, ◌||◌, List, ℕ, None, ◌<◌, refl, append-nil}
 use Rattle.std.specs.Prelude.{not}
 use Rattle.vic_frame.specs.Uids.{has}
-use Rattle.vic_log.specs.Index.{IsIndex, is_indexed}
+use Rattle.vic_log.specs.UidSets.{IsIndex}
 use Rattle.vic_log.specs.Order.{entries, listed, is_empty, refusal}
 use Rattle.vic_log.specs.Log.{LogValue, last_from, IsTyped}
 use Rattle.vic_log.specs.declared.entry.LogLine.{LogLine}
 use Rattle.vic_log.specs.declared.entry.Version.TheVariants.{V1}
 use Rattle.vic_log.specs.FirstVersion.{IsOfFirstVersion}
 use Rattle.vic_log.specs.Kept.{left_after}
-use Rattle.std.proofs.Math.Bool.{or-false}
-use Rattle.vic_log.proofs.Push.{Keeps-push, refusal_listed, lists_none}
+use Rattle.vic_log.proofs.Push.{Keeps-push, refusal_listed, lists_none, listed-append, entries-push}
 use Rattle.vic_log.proofs.log.Log.push.Goals as goal
 use Rattle.vic_log.proofs.log.Log.push.Goals.{in-Listed+in_ok-index_uid, in_default+in_default-refusal}
 
@@ -23,16 +22,12 @@ invariant_of-self-2 c =
     let typed : IsTyped l.item = search rules in
     let first : old.version ≡ V1 → IsOfFirstVersion l.item = λ h. c.requires.first_version (ap (λ (v : LogValue). v.version) (sym c.self.view_is) ∙ h) in
     let free : refusal (entries items) l.item ≡ None = elim c.match-item.branch [
-      | in-Listed+in_ok-index_uid w ↦ rw w.in-Listed.is (refusal_listed (entries items) w.in-Listed.uid (sym (c.self.invariant.0.index_is w.in-Listed.uid) ∙ w.in_ok-index_uid.ensures.answer))
+      | in-Listed+in_ok-index_uid w ↦ rw w.in-Listed.is (refusal_listed (entries items) w.in-Listed.uid (ap (λ (xs : List LogLine). has (listed (entries xs)) w.in-Listed.uid) (sym (w.deref.ensures.value ∙ c.reserve.ensures.items)) ∙ w.in_ok-index_uid.ensures.answer))
       | in_default+in_default-refusal w ↦ ap (λ (xs : List LogLine). refusal (entries xs) l.item) (sym c.reserve.ensures.items) ∙ (sym w.refusal-in_default.ensures ∙ w.in_default-refusal.is)
     ] in
-    let more : (u : ℕ) → is_indexed new.rising.items new.others u ≡ (is_indexed old.rising.items old.others u || has (listed (l.item ∷ [])) u) = elim c.match-item.branch [
-      | in-Listed+in_ok-index_uid w ↦ rw (w.self-inside-is, w.in-Listed.is) w.in_ok-index_uid.ensures.more
-      | in_default+in_default-refusal w ↦ rw (w.self-inside-is, lists_none l.item w.in_default.not-Listed) (λ u. sym (or-false (is_indexed old.rising.items old.others u)))
-    ] in
-    let index : IsIndex new.rising.items new.others = elim c.match-item.branch [
-      | in-Listed+in_ok-index_uid w ↦ rw w.self-inside-is w.index_uid.ensures.index
-      | in_default+in_default-refusal w ↦ rw w.self-inside-is c.self.invariant.1
+    let index : IsIndex (listed (entries items) ++ listed (l.item ∷ [])) new.greatest new.uids = elim c.match-item.branch [
+      | in-Listed+in_ok-index_uid w ↦ rw (w.self-inside-is, w.in-Listed.is) (subst (λ (xs : List LogLine). IsIndex (listed (entries xs) ++ w.in-Listed.uid ∷ []) w.index_uid.new.greatest w.index_uid.new.uids) (w.deref.ensures.value ∙ c.reserve.ensures.items) w.in_ok-index_uid.ensures.more)
+      | in_default+in_default-refusal w ↦ rw (w.self-inside-is, lists_none l.item w.in_default.not-Listed) (subst (λ (us : List ℕ). IsIndex us old.greatest old.uids) (sym (append-nil (listed (entries items)))) c.self.invariant.1)
     ] in
     let kept : (new.version ≡ old.version) × (new.lines.items ≡ items) × (new.listing ≡ old.listing) × (new.slots_left ≡ old.slots_left) = elim c.match-item.branch [
       | in-Listed+in_ok-index_uid w ↦ rw w.self-inside-is (refl, c.reserve.ensures.items, refl, refl)
@@ -46,4 +41,5 @@ invariant_of-self-2 c =
     let items_is : c.push_reserved.new.self.items ≡ items ++ l ∷ [] = pushed ∙ rw (kept.1, c.new.ensures, same) refl in
     let listing : c.listing_after-self-inside.result ≡ (old.listing || not (is_empty (listed (l.item ∷ [])))) = c.listing_after-self-inside.ensures ∙ rw (kept.2, same) refl in
     let left : c.slots_after-self-inside.result ≡ left_after old.slots_left l.item = c.slots_after-self-inside.ensures ∙ rw (kept.3, same) refl in
-    rw (items_is, kept.0) (Keeps-push old.version items l _ _ _ _ _ _ c.self.invariant.0 free above c.requires.limit c.requires.valid typed first more listing left, index)
+    let uids : listed (entries (items ++ l ∷ [])) ≡ listed (entries items) ++ listed (l.item ∷ []) = ap listed (entries-push items l) ∙ listed-append (entries items) (l.item ∷ []) in
+    rw (items_is, kept.0) (Keeps-push old.version items l _ _ _ _ c.self.invariant.0 free above c.requires.limit c.requires.valid typed first listing left, rw uids index)

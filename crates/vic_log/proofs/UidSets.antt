@@ -1,0 +1,208 @@
+-- A set of UIDs, spread over rows.
+use Rattle.std.proofs.lemmas.Grind.{common_steps}
+use Rattle.std.proofs.Common.{◌≡◌, ℕ, zero, suc, subst, ◌<◌, Bool, true, false, Some, List, [], ◌∷◌, ◌++◌, length, take, get_or, ⊎_elim, refl, sym, ap, ◌∙◌, arith}
+use Rattle.std.specs.Prelude.{nat_eq, ◌||◌, not, slice_get, set, cond}
+use Rattle.std.proofs.lemmas.Bool.{cases_Bool, cases_eq, ne_eqb, eq-eqb, eqb-true, or_from, or_right}
+use Rattle.std.proofs.lemmas.List.{get_or_default, length-set, get_or-set_same, get_or-set_other}
+use Rattle.std.proofs.lemmas.List.Folds.{list_any-append}
+use Rattle.std.proofs.Math.Bool.{or_comm, or_assoc, or-false}
+use Rattle.std.specs.List.{list_any}
+use Rattle.std.specs.BTreeMap.{is_at}
+use Rattle.std.specs.Vec.{with_item, vec_len}
+use Rattle.std.specs.BTreeSet as sorted
+use Rattle.std.specs.Ordering.{nat_cmp}
+use Rattle.vic_frame.specs.Uids.{has, IsUid}
+use Rattle.vic_log.specs.declared.uid_set.UidSet.{UidSet}
+use Rattle.vic_log.specs.UidSets.{place_of, row_of, is_held, IsUidSet, IsSetOf, IsIndex}
+use Rattle.vic_log.specs.declared.entry.LogLine.{LogLine}
+use Rattle.vic_log.specs.Order.{entries, listed}
+use Rattle.vic_log.proofs.Push.{listed-append, entries_next}
+
+pub none_has : (us : List ℕ) (u : ℕ) → ((k : ℕ) → k < length us → get_or us k 0 ≡ u → ⊥) → has us u ≡ false
+none_has [] u none = refl
+none_has (x ∷ us) u none = or_from (nat_eq u x) (has us u) (ne_eqb u x (λ e. none 0 (omega arith) (sym e))) (none_has us u (λ k lt e. none (suc k) (omega arith) e))
+
+pub has_got : (us : List ℕ) (k u : ℕ) → slice_get us k ≡ Some u → has us u ≡ true
+has_got [] k u h = cc
+has_got (x ∷ us) zero u h = let is : u ≡ x = cc in ap (λ b. b || has us u) (eq-eqb u x is)
+has_got (x ∷ us) (suc k) u h = or_right (nat_eq u x) (has us u) (has_got us k u h)
+
+-- a number put where 0 was
+has-set : (row : List ℕ) (k n u : ℕ) → slice_get row k ≡ Some 0 → 0 < u → has (set row k n) u ≡ (has row u || nat_eq u n)
+has-set [] k n u h pos = cc
+has-set (x ∷ row) zero n u h pos =
+    let free : x ≡ 0 = cc in
+    let other : nat_eq u x ≡ false = ne_eqb u x (λ e. omega (arith, pos, e, free)) in
+    rw other (or_comm (nat_eq u n) (has row u))
+has-set (x ∷ row) (suc k) n u h pos = ap (λ b. nat_eq u x || b) (has-set row k n u h pos) ∙ sym (or_assoc (nat_eq u x) (has row u) (nat_eq u n))
+
+row-set_same : (rows : List (List ℕ)) (p u : ℕ) (row : List ℕ) → place_of u (length rows) ≡ p → p < length rows → row_of (set rows p row) u ≡ row
+row-set_same rows p u row is there = rw (length-set rows p row) (rw is (get_or-set_same rows p row [] there))
+
+row-set_other : (rows : List (List ℕ)) (p u : ℕ) (row : List ℕ) → (place_of u (length rows) ≡ p → ⊥) → row_of (set rows p row) u ≡ row_of rows u
+row-set_other rows p u row other = rw (length-set rows p row) (get_or-set_other rows p (place_of u (length rows)) row [] other)
+
+last_two : (a b d : Bool) → ((a || b) || d) ≡ ((a || d) || b)
+last_two true b d = refl
+last_two false b d = or_comm b d
+
+-- a UID put into its row
+pub record IsPut (old new : UidSet) (uid k : ℕ) : Type 0 where
+  pub there : place_of uid (length old.rows.items) < length old.rows.items
+  pub free : slice_get (row_of old.rows.items uid) k ≡ Some 0
+  pub rows : new.rows.items ≡ set old.rows.items (place_of uid (length old.rows.items)) (set (row_of old.rows.items uid) k uid)
+  pub others : new.others ≡ old.others
+
+pub held-put : (old new : UidSet) (uid k : ℕ) → IsPut old new uid k → (u : ℕ) → 0 < u → is_held new u ≡ (is_held old u || nat_eq u uid)
+held-put old new uid k h u pos =
+    let rows = old.rows.items in
+    let n = length rows in
+    let row = row_of rows uid in
+    let besides = sorted.contains nat_cmp old.others u in
+    rw (h.rows, h.others) (⊎_elim
+    (λ (same : place_of u n ≡ place_of uid n).
+    let mine : row_of rows u ≡ row = ap (λ p. get_or rows p []) same in
+    rw (row-set_same rows (place_of uid n) u (set row k uid) same h.there, mine)
+    (ap (λ b. b || besides) (has-set row k uid u h.free pos) ∙ last_two (has row u) (nat_eq u uid) besides))
+    (λ other.
+    let differ : nat_eq u uid ≡ false = ne_eqb u uid (λ e. other (ap (λ x. place_of x n) e)) in
+    rw (row-set_other rows (place_of uid n) u (set row k uid) other, differ) (sym (or-false (has (row_of rows u) u || besides))))
+    (cases_eq (place_of u n) (place_of uid n)))
+
+-- a set of which a row has a free place has none of its UIDs beside the rows
+pub absent_besides : (s : UidSet) (uid k : ℕ) → IsUidSet s → slice_get (row_of s.rows.items uid) k ≡ Some 0 → sorted.contains nat_cmp s.others uid ≡ false
+absent_besides s uid k h free = ⊎_elim
+    (λ (there : sorted.contains nat_cmp s.others uid ≡ true). let full = h.full uid there in let some = has_got (row_of s.rows.items uid) k 0 free in cc)
+    (λ (no_ : sorted.contains nat_cmp s.others uid ≡ false). no_)
+    (cases_Bool (sorted.contains nat_cmp s.others uid))
+
+pub IsUidSet-put : (old new : UidSet) (uid k : ℕ) → IsUidSet old → IsPut old new uid k → IsUidSet new
+IsUidSet-put old new uid k set_ h =
+    let rows = old.rows.items in
+    let n = length rows in
+    let row = row_of rows uid in
+    record {
+      some = rw (h.rows, length-set rows (place_of uid n) (set row k uid)) set_.some;
+      full = λ u there.
+          let before : sorted.contains nat_cmp old.others u ≡ true = ap (λ o. sorted.contains nat_cmp o u) (sym h.others) ∙ there in
+          let full = set_.full u before in
+          ⊎_elim
+          (λ (same : place_of u n ≡ place_of uid n).
+          let mine : row_of rows u ≡ row = ap (λ p. get_or rows p []) same in
+          let some = has_got row k 0 h.free in cc)
+          (λ other. rw (h.rows, row-set_other rows (place_of uid n) u (set row k uid) other) full)
+          (cases_eq (place_of u n) (place_of uid n));
+    }
+
+-- the row that was read is that of the UID
+pub row_is : (s : UidSet) (uid rows place : ℕ) (row : List ℕ) → rows ≡ vec_len s.rows → place ≡ place_of uid rows → place < rows → row ≡ get_or s.rows.items place row → row ≡ row_of s.rows.items uid
+row_is s uid rows place row long is there at =
+    at ∙ (get_or_default s.rows.items place row [] (subst (λ n. place < n) (long ∙ s.rows.ok.0) there) ∙ ap (λ p. get_or s.rows.items p []) (is ∙ ap (place_of uid) (long ∙ s.rows.ok.0)))
+
+pub is_put : (old : UidSet) (uid rows place k number : ℕ) (row seen : List ℕ) → rows ≡ vec_len old.rows → place ≡ place_of uid rows → place < rows → row ≡ get_or old.rows.items place row → seen ≡ get_or old.rows.items place seen → slice_get seen k ≡ Some 0 → number ≡ uid
+    → IsPut old (record { rows = with_item old.rows place (set row k number); others = old.others }) uid k
+is_put old uid rows place k number row seen long is there at seen_at free same =
+    let held = old.rows.items in
+    let place_is : place ≡ place_of uid (length held) = is ∙ ap (place_of uid) (long ∙ old.rows.ok.0) in
+    record {
+      there = subst (λ p. p < length held) place_is (subst (λ n. place < n) (long ∙ old.rows.ok.0) there);
+      free = ap (λ r. slice_get r k) (sym (row_is old uid rows place seen long is there seen_at)) ∙ free;
+      rows = ap (λ p. set held p (set row k number)) place_is ∙ (ap (λ r. set held (place_of uid (length held)) (set r k number)) (row_is old uid rows place row long is there at) ∙ ap (λ m. set held (place_of uid (length held)) (set (row_of held uid) k m)) same);
+      others = refl;
+    }
+
+eq_swapped : (a b : ℕ) → nat_eq a b ≡ nat_eq b a
+eq_swapped a b = ⊎_elim (λ e. rw e refl) (λ n. ne_eqb a b n ∙ sym (ne_eqb b a (λ e. n (sym e)))) (cases_eq a b)
+
+-- a search of a row for a number
+pub has_searched : (row : List ℕ) (u : ℕ) → list_any (λ x. nat_eq x u) row ≡ has row u
+has_searched [] u = refl
+has_searched (x ∷ row) u = rw (eq_swapped x u) (ap (λ b. nat_eq u x || b) (has_searched row u))
+
+-- a UID put beside the rows
+at_test : (k u : ℕ) → is_at (nat_cmp k) u ≡ nat_eq u k
+at_test k u = ⊎_elim
+    (λ e. grind (arith, common_steps, e))
+    (λ n. grind (arith, common_steps, n))
+    (cases_eq k u)
+
+swapped : (a b t : Bool) → (a || cond t true b) ≡ ((a || b) || t)
+swapped true b t = refl
+swapped false true true = refl
+swapped false true false = refl
+swapped false false true = refl
+swapped false false false = refl
+
+of_two : (t b : Bool) (P : Type 0) → (t ≡ true → P) → (b ≡ true → P) → cond t true b ≡ true → P
+of_two true b P f g h = f refl
+of_two false b P f g h = g h
+
+pub held-beside : (old new : UidSet) (uid u : ℕ) → new.rows ≡ old.rows → sorted.contains nat_cmp new.others u ≡ cond (is_at (nat_cmp uid) u) true (sorted.contains nat_cmp old.others u) → is_held new u ≡ (is_held old u || nat_eq u uid)
+held-beside old new uid u rows h =
+    rw (rows, h, at_test uid u) (swapped (has (row_of old.rows.items u) u) (sorted.contains nat_cmp old.others u) (nat_eq u uid))
+
+pub IsUidSet-beside : (old new : UidSet) (uid : ℕ) → IsUidSet old → new.rows ≡ old.rows → has (row_of old.rows.items uid) 0 ≡ false → ((u : ℕ) → sorted.contains nat_cmp new.others u ≡ cond (is_at (nat_cmp uid) u) true (sorted.contains nat_cmp old.others u)) → IsUidSet new
+IsUidSet-beside old new uid h rows full e = record {
+  some = rw rows h.some;
+  full = λ u there. rw rows (of_two (nat_eq u uid) (sorted.contains nat_cmp old.others u) (has (row_of old.rows.items u) 0 ≡ false)
+      (λ same. let is : u ≡ uid = eqb-true u uid same in rw is full)
+      (λ before. h.full u before)
+      (ap (λ t. cond t true (sorted.contains nat_cmp old.others u)) (sym (at_test uid u)) ∙ (sym (e u) ∙ there)));
+}
+
+-- ---- the UIDs of lines
+
+pub has_at_line : (lines : List LogLine) (i u : ℕ) (l : LogLine) → slice_get lines i ≡ Some l → has (listed (l.item ∷ [])) u ≡ true → has (listed (entries lines)) u ≡ true
+has_at_line [] i u l k h = cc
+has_at_line (x ∷ lines) zero u l k h =
+    let same : x ≡ l = cc in
+    ap (λ us. has us u) (listed-append (x.item ∷ []) (entries lines)) ∙ (list_any-append (nat_eq u) (listed (x.item ∷ [])) (listed (entries lines)) ∙ rw (same, h) refl)
+has_at_line (x ∷ lines) (suc i) u l k h =
+    ap (λ us. has us u) (listed-append (x.item ∷ []) (entries lines)) ∙ (list_any-append (nat_eq u) (listed (x.item ∷ [])) (listed (entries lines)) ∙ or_right (has (listed (x.item ∷ [])) u) (has (listed (entries lines)) u) (has_at_line lines i u l k h))
+
+-- one line more
+pub listed_next : (lines : List LogLine) (i : ℕ) (l : LogLine) → slice_get lines i ≡ Some l → listed (entries (take (suc i) lines)) ≡ listed (entries (take i lines)) ++ listed (l.item ∷ [])
+listed_next lines i l k = ap listed (entries_next lines i l k) ∙ listed-append (entries (take i lines)) (l.item ∷ [])
+
+-- ---- the index of a log
+
+pub IsIndex-risen : (us : List ℕ) (greatest uid : ℕ) (s : UidSet) → IsIndex us greatest s → length s.rows.items ≡ 0 → greatest < uid → IsIndex (us ++ uid ∷ []) uid s
+IsIndex-risen us greatest uid s h none above = record {
+  rising = λ _ u there. ⊎_elim
+      (λ (before : has us u ≡ true). let most = h.rising none u before in omega arith)
+      (λ (new : has us u ≡ false).
+      let same : nat_eq u uid ≡ true = sym (or-false (nat_eq u uid)) ∙ (sym (rw new refl) ∙ (sym (list_any-append (nat_eq u) us (uid ∷ [])) ∙ there)) in
+      let is : u ≡ uid = eqb-true u uid same in omega arith)
+      (cases_Bool (has us u));
+  set = h.set;
+  uids = λ some. absurd (omega (arith, none, some));
+}
+
+held_more : (us : List ℕ) (uid u : ℕ) → has (us ++ uid ∷ []) u ≡ (has us u || nat_eq u uid)
+held_more us uid u = list_any-append (nat_eq u) us (uid ∷ []) ∙ ap (λ b. has us u || b) (or-false (nat_eq u uid))
+
+-- a UID put into the set
+pub IsSetOf-push : (us : List ℕ) (uid : ℕ) (old new : UidSet) → IsSetOf us old → ((u : ℕ) → 0 < u → is_held new u ≡ (is_held old u || nat_eq u uid)) → IsSetOf (us ++ uid ∷ []) new
+IsSetOf-push us uid old new h more u pos = more u pos ∙ (ap (λ b. b || nat_eq u uid) (h u pos) ∙ sym (held_more us uid u))
+
+-- a UID put into the set once more
+pub IsSetOf-same : (us : List ℕ) (uid : ℕ) (old new : UidSet) → IsSetOf us old → has us uid ≡ true → ((u : ℕ) → 0 < u → is_held new u ≡ (is_held old u || nat_eq u uid)) → IsSetOf us new
+IsSetOf-same us uid old new h there more u pos = more u pos ∙ (ap (λ b. b || nat_eq u uid) (h u pos) ∙ ⊎_elim
+    (λ (same : u ≡ uid). rw (same, there) refl)
+    (λ other. rw (ne_eqb u uid other) (or-false (has us u)))
+    (cases_eq u uid))
+
+pub IsIndex-held : (us : List ℕ) (greatest : ℕ) (s : UidSet) → IsUidSet s → IsSetOf us s → IsIndex us greatest s
+IsIndex-held us greatest s set_ uids_ = record {
+  rising = λ none u there. let some = set_.some in absurd (omega (arith, none, some));
+  set = λ _. set_;
+  uids = λ _. uids_;
+}
+
+unless : (a b : Bool) → a ≡ not b → not a ≡ b
+unless a true e = rw e refl
+unless a false e = rw e refl
+
+-- what the set answers at a UID of a tag
+pub has_unless : (us : List ℕ) (uid : ℕ) (s : UidSet) (is_new : Bool) → IsSetOf us s → IsUid uid → is_new ≡ not (is_held s uid) → has us uid ≡ not is_new
+has_unless us uid s is_new h typed e = let low = typed.0 in sym (h uid (omega (arith, low))) ∙ sym (unless is_new (is_held s uid) e)

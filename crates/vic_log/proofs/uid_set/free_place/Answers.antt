@@ -1,0 +1,6 @@
+use Rattle.std.proofs.Common.{arith}
+use Rattle.vic_log.proofs.UidSets.{none_has}
+use Rattle.vic_log.proofs.uid_set.free_place.Goals as goal
+
+pub returns-clause-full : goal.returns-clause-full
+returns-clause-full c = none_has c.args.row.now 0 (λ j lt. c.loop-k.invariant j (omega arith))

@@ -1,0 +1,202 @@
+//! A set of UIDs that tells at once whether one more is new.
+
+ghost use Rattle.std.specs.Prelude.{◌≡◌, ℕ, ◌<◌, ◌||◌, not, false, length, nat_eq, ◌==◌, IfOk, OnOk, OnErr, IfSome, IfNone, List, slice_get, Some, ◌++◌, ◌∷◌, []};
+ghost use Rattle.vic_frame.specs.Uids.{has};
+ghost use Rattle.vic_log.specs.Order.{entries, listed};
+ghost use Rattle.vic_log.specs.UidSets.{place_of, is_held, IsUidSet, IsSetOf};
+
+use crate::entry::{Entry, MAX_LINES};
+use crate::packed::PackedLine;
+use std::alloc::{AllocError, Global};
+use std::collections::BTreeSet;
+use vic_frame::Uid;
+
+/// How many UIDs a row has places for.
+const ROW: usize = 8;
+
+/// How many UIDs there are for each row at most, unless the rows are as many as a log needs.
+const MEAN: usize = 5;
+
+/// How many times more UIDs than there are a new set has rows for.
+const GROWTH: usize = 4;
+
+/// What a UID is multiplied by, so that UIDs of any order are spread over the rows: 2^64 divided
+/// by the golden ratio.
+const SPREAD: u64 = 0x9E37_79B9_7F4A_7C15;
+
+/// A set of UIDs. Each stands in the row that it is spread to, or, where that is full, in a set in
+/// order: so the UIDs that a hostile log spreads to one row cost a search of that.
+#[derive(Drop)]
+pub(crate) struct UidSet {
+    /// The numbers of UIDs; 0 is a free place.
+    pub(crate) rows: Vec<[u64; ROW]>,
+    /// The UIDs that have found their row full.
+    pub(crate) others: BTreeSet<Uid>,
+}
+
+/// Which of so many rows a UID is spread to.
+fn place_of(uid: Uid, rows: usize) -> usize
+    requires { 0 < rows }
+    ensures value { result ≡ place_of uid rows }
+    ensures there { result < rows }
+{
+    (uid.number().wrapping_mul(SPREAD) >> 32) as usize % rows
+}
+
+/// The first free place of a row.
+fn free_place(row: &[u64; ROW]) -> Option<usize>
+    ensures full { IfNone result (has row.now 0 ≡ false) }
+    ensures free { IfSome result (λ k. slice_get row.now k ≡ Some 0) }
+{
+    for k in 0..ROW {
+        if row[k] == 0 {
+            return Some(k);
+        }
+    }
+    None
+}
+
+impl UidSet {
+    /// A set that no UID can be put in yet. Takes no memory.
+    pub(crate) fn without_rows(alloc: Global) -> UidSet
+        ensures { result.rows.items ≡ [] }
+    {
+        UidSet {
+            rows: Vec::new(alloc),
+            others: BTreeSet::new(alloc),
+        }
+    }
+
+    /// A set of so many rows, without UIDs.
+    fn with_rows(alloc: Global, rows: usize) -> Result<UidSet, AllocError>
+        requires { 0 < rows }
+        ensures set { IfOk result IsUidSet }
+        ensures empty { IfOk result (IsSetOf []) }
+    {
+        Ok(UidSet {
+            rows: vec![in alloc; [0; ROW]; rows]?,
+            others: BTreeSet::new(alloc),
+        })
+    }
+
+    /// Whether it has no row.
+    pub(crate) fn has_no_rows(&self) -> bool
+        ensures { result ≡ (length self.now.rows.items == 0) }
+    {
+        self.rows.is_empty()
+    }
+
+    /// Whether it has too few rows for so many UIDs.
+    pub(crate) fn is_crowded(&self, uids: usize) -> bool
+        ensures { result ≡ false → 0 < length self.now.rows.items }
+    {
+        self.rows.len() <= uids / MEAN
+    }
+
+    /// Makes it anew of the UIDs that lines list, which are those in it, if it has too few rows for
+    /// so many lines.
+    #[inline(always)]
+    pub(crate) fn make_room(&mut self, lines: &[PackedLine]) -> Result<(), AllocError>
+        requires set { 0 < length self.old.rows.items → IsUidSet self.old }
+        requires uids { 0 < length self.old.rows.items
+            → IsSetOf (listed (entries lines.now)) self.old }
+        ensures set { OnOk result (IsUidSet self.new) }
+        ensures uids { OnOk result (IsSetOf (listed (entries lines.now)) self.new) }
+        ensures same { OnErr result (self.new ≡ self.old) }
+    {
+        if self.is_crowded(lines.len()) {
+            *self = listed_uids(*self.rows.allocator(), lines)?;
+        }
+        Ok(())
+    }
+
+    /// Puts a UID in, and tells whether it is new.
+    pub(crate) fn put(&mut self, uid: Uid) -> Result<bool, AllocError>
+        requires { IsUidSet self.old }
+        ensures set { IsUidSet self.new }
+        ensures answer { IfOk result (λ is_new. is_new ≡ not (is_held self.old uid)) }
+        ensures fresh { OnErr result (is_held self.old uid ≡ false) }
+        ensures more { OnOk result ((u : ℕ) → 0 < u
+            → is_held self.new u ≡ (is_held self.old u || nat_eq u uid)) }
+        ensures same { OnErr result ((u : ℕ) → is_held self.new u ≡ is_held self.old u) }
+    {
+        let place = place_of(uid, self.rows.len());
+        if self.rows[place].contains(&uid.number()) {
+            return Ok(false);
+        }
+        match free_place(&self.rows[place]) {
+            Some(free) => {
+                self.rows[place][free] = uid.number();
+                Ok(true)
+            }
+            None => Ok(self.others.insert(uid)?),
+        }
+    }
+}
+
+/// Whether an entry lists a UID.
+fn lists(item: &Entry, uid: Uid) -> bool
+    ensures { result ≡ has (listed (item.now ∷ [])) uid }
+{
+    match *item {
+        Entry::Listed(other) => uid == other,
+        Entry::Sent(_)
+        | Entry::Silent
+        | Entry::Collision
+        | Entry::Heard(_)
+        | Entry::Garbled
+        | Entry::FieldCycle => false,
+    }
+}
+
+/// Whether lines list a UID. It looks at all of them.
+pub(crate) fn is_listed(lines: &[PackedLine], uid: Uid) -> bool
+    ensures { result ≡ has (listed (entries lines.now)) uid }
+{
+    for line in lines {
+        if lists(&line.item(), uid) {
+            return true;
+        }
+    }
+    false
+}
+
+/// The UIDs that lines list.
+pub(crate) fn listed_uids(alloc: Global, lines: &[PackedLine]) -> Result<UidSet, AllocError>
+    ensures set { IfOk result IsUidSet }
+    ensures uids { IfOk result (IsSetOf (listed (entries lines.now))) }
+{
+    let mut set = UidSet::with_rows(alloc, rows_for(lines.len()))?;
+    for line in lines {
+        put_listed(&mut set, &line.item())?;
+    }
+    Ok(set)
+}
+
+/// How many rows a new set has, where there are so many lines.
+fn rows_for(lines: usize) -> usize
+    ensures { 0 < result }
+{
+    lines.min(MAX_LINES as usize / GROWTH) * GROWTH / MEAN + 1
+}
+
+/// Puts in the UID that an entry lists, if it lists one.
+fn put_listed(set: &mut UidSet, item: &Entry) -> Result<(), AllocError>
+    requires { IsUidSet set.old }
+    ensures set { IsUidSet set.new }
+    ensures more { OnOk result ((us : List ℕ) → IsSetOf us set.old
+        → IsSetOf (us ++ listed (item.now ∷ [])) set.new) }
+{
+    match *item {
+        Entry::Listed(uid) => {
+            set.put(uid)?;
+        }
+        Entry::Sent(_)
+        | Entry::Silent
+        | Entry::Collision
+        | Entry::Heard(_)
+        | Entry::Garbled
+        | Entry::FieldCycle => {}
+    }
+    Ok(())
+}
