@@ -46,6 +46,10 @@ impl OpenSet for Telling {
         self.set.widest()
     }
 
+    fn uids_outside(&self, alloc: Global, keys: &[u64]) -> Result<Vec<Uid>, AllocError> {
+        self.set.uids_outside(alloc, keys)
+    }
+
     fn up_to_three_besides(
         &self,
         alloc: Global,

@@ -1,16 +1,14 @@
 -- All findings of a possible log, and that the first of them is its verdict.
-use Rattle.std.proofs.Common.{◌≡◌, ℕ, ◌≤◌, List, [], ◌∷◌, ◌++◌, length, map, get_or, Bool, true, false, not, ◌<◌, ◌&&◌, ◌||◌, Option, Some, None, refl, sym, ap, ◌∙◌, subst, arith, ⊎_elim}
+use Rattle.std.proofs.Common.{◌≡◌, ℕ, ◌≤◌, List, [], ◌∷◌, ◌++◌, length, get_or, Bool, true, false, not, ◌&&◌, ◌||◌, Option, Some, None, refl, sym, ap, ◌∙◌, subst, arith, ⊎_elim}
 use Rattle.std.specs.Prelude.{◌↔◌, nat_eq, MatchOption}
 use Rattle.std.specs.Option.{option_map}
 use Rattle.std.specs.List.{All, filter}
 use Rattle.std.specs.List.Sorted.{IsStrictlyIncreasing}
 use Rattle.std.proofs.lemmas.Bool.{and_parts, and_from, both_ways, cases_Bool, not-true, not_from_false, false_from_ne_true, false≢true}
-use Rattle.std.proofs.lemmas.List.{get_or-map, length-map}
 use Rattle.std.proofs.lemmas.List.Folds.{list_any-append}
 use Rattle.std.proofs.lemmas.List.Kept.{IsStrictlyIncreasing-filter}
 use Rattle.vic_frame.specs.Uids.{IsUid, has}
 use Rattle.vic_frame.specs.Masks.{BitMask}
-use Rattle.vic_frame.specs.LowBitsFirst.{uid_of}
 use Rattle.vic_tree.specs.OpenSet as tree
 use Rattle.vic_tree.specs.OpenSet.{SameUids, has_key, without_keys}
 use Rattle.vic_log.specs.declared.entry.Entry.{Entry}
@@ -25,7 +23,6 @@ use Rattle.vic_report.specs.declared.reporting.LogReport.{LogReport}
 use Rattle.vic_report.specs.declared.reporting.LogReport.TheVariants as report
 use Rattle.vic_report.specs.declared.shown.ShownUid.{ShownUid}
 use Rattle.vic_report.specs.Reports.{AreFindings, IsReport, IsUnsettledWith, first_finding, verdict_of}
-use Rattle.vic_verdict.specs.Keys.{AreKeysOf}
 use Rattle.vic_verdict.specs.Rising.{IsListOf, IsFailing}
 use Rattle.vic_verdict.specs.Unsettled.{AreOpenAndListed}
 use Rattle.vic_verdict.specs.Verdict.{IsAbsent, IsUnlisted, IsUnsettled, IsDoubtful, IsLeast, IsFirstMask, NoSuch, IsVerdict}
@@ -33,7 +30,6 @@ use Rattle.vic_verdict.specs.declared.judging.Verdict.TheVariants.{Complete}
 use Rattle.vic_verdict.proofs.Cases.{absent_iff}
 use Rattle.vic_verdict.proofs.Decide.{IsPossibleUid-iff, IsPossibleUid-either, IsCertainUid-iff}
 use Rattle.vic_verdict.proofs.Failing.{member_at, place_of as index_of}
-use Rattle.vic_verdict.proofs.KeyOrder.{at_place, place_of as key_of}
 use Rattle.vic_verdict.proofs.Inserted.{rising_order}
 use Rattle.vic_verdict.proofs.Masks.{uid_in, IsUid-in, lies_in-uid_in}
 
@@ -60,28 +56,6 @@ list_as P Q ys same l = record {
   rising = l.rising;
   members = λ u. ((λ h. (same u).0 ((l.members u).0 h)), (λ q. (l.members u).1 ((same u).1 q)));
 }
-
--- the UIDs at keys that fail a test, put in order
-pub outside_list : (test : ℕ → Bool) (keys us found ys : List ℕ) → AreKeysOf keys us → found ≡ failing test (map uid_of keys) → IsStrictlyIncreasing ys → ((u : ℕ) → has ys u ≡ has found u) → IsListOf (IsFailing us test) ys
-outside_list test keys us found ys own is rising same = record {
-  rising = rising;
-  members = λ u. let f = failing_has test (map uid_of keys) u in (
-    (λ h.
-        let w = f.0 (ap (λ xs. has xs u) (sym is) ∙ (sym (same u) ∙ h)) in
-        (at_keys u w.0, w.1)),
-    (λ h. same u ∙ (ap (λ xs. has xs u) is ∙ f.1 (to_keys u h.0, h.1))),
-  );
-} where
-  at_keys : (u : ℕ) → has (map uid_of keys) u ≡ true → has us u ≡ true
-  at_keys u h =
-      let p = index_of (map uid_of keys) u 0 h in
-      let short : p.0 < length keys = subst (λ n. p.0 < n) (length-map keys uid_of) p.1 in
-      subst (λ v. has us v ≡ true) (sym (get_or-map uid_of keys p.0 0 0 short) ∙ p.2) (at_place keys us p.0 own short)
-
-  to_keys : (u : ℕ) → has us u ≡ true → has (map uid_of keys) u ≡ true
-  to_keys u h =
-      let p = key_of keys us u own h in
-      member_at (map uid_of keys) p.index u 0 (subst (λ n. p.index < n) (sym (length-map keys uid_of)) p.within) (get_or-map uid_of keys p.index 0 0 p.within ∙ p.here)
 
 pub all_from_has : (P : ℕ → Type 0) (us : List ℕ) → ((u : ℕ) → has us u ≡ true → P u) → All P us
 all_from_has P us h k d below = h (get_or us k d) (member_at us k (get_or us k d) d below refl)

@@ -3,7 +3,7 @@
 ghost use Rattle.std.specs.Prelude.{◌≡◌, ◌↔◌, ℕ, ◌≤◌, List, IfOk, OnOk, IsTrue, [], ◌∷◌, ◌++◌, if◌then◌else◌, MatchOption, length};
 ghost use Rattle.std.specs.List.Sorted.{IsStrictlyIncreasing};
 ghost use Rattle.vic_frame.specs.Uids.{has};
-ghost use Rattle.vic_tree.specs.OpenSet.{AreKeys, SameUids};
+ghost use Rattle.vic_tree.specs.OpenSet.{SameUids};
 ghost use Rattle.vic_tree.specs.Ranges.{is_open_in};
 ghost use Rattle.vic_log.specs.declared.entry.Entry.{Entry as EntryValue};
 ghost use Rattle.vic_log.specs.Order.{entries};
@@ -12,7 +12,6 @@ ghost use Rattle.vic_verdict.specs.Demands.{IsMet};
 ghost use Rattle.vic_report.specs.Findings.{IsLeftOpen};
 ghost use Rattle.vic_report.specs.Merging.{AreBelow, IsPlaceOf};
 ghost use Rattle.vic_verdict.specs.FirstLines.{AreFirstLines};
-ghost use Rattle.vic_verdict.specs.Keys.{AreKeysOf};
 ghost use Rattle.vic_verdict.specs.Possible.{IsPossible};
 ghost use Rattle.vic_report.specs.Reports.{AreFindings, AreNone, IsUnsettledWith, first_of};
 ghost use Rattle.vic_verdict.specs.Rising.{IsFailing, IsListOf};
@@ -23,10 +22,8 @@ use crate::ruled_out::lines_of_absent;
 use crate::shown::ShownUid;
 use crate::told::lines_of_unlisted;
 use std::alloc::{AllocError, Global};
-use vic_frame::low_bits_first::uid_at;
 use vic_frame::{Mask, Uid};
 use vic_log::PackedLine;
-use vic_tree::rising::put_in_order;
 use vic_tree::{OpenMasks, OpenSet, RangeSet};
 use vic_verdict::{Met, Verdict, certain_uids, keys_in_order, listed_uids};
 
@@ -103,7 +100,7 @@ pub(crate) fn find_findings(
     let unlisted = missing(alloc, &certain, &listed)?;
     let uncertain = missing(alloc, &listed, &certain)?;
     let keys = keys_in_order(alloc, &uncertain)?;
-    let absent = outside(alloc, &set, &keys)?;
+    let absent = set.uids_outside(alloc, &keys)?;
     let doubtful = missing(alloc, &uncertain, &absent)?;
     Ok(Findings {
         absent: lines_of_absent(alloc, lines, &absent)?,
@@ -151,21 +148,6 @@ fn is_at(uids: &[Uid], place: usize, uid: Uid) -> bool
         return uids[place] == uid;
     }
     false
-}
-
-/// The UIDs at some keys that aren't in a set, in rising order.
-fn outside(alloc: Global, set: &RangeSet, keys: &[u64]) -> Result<Vec<Uid>, AllocError>
-    requires { AreKeys keys.now }
-    ensures { IfOk result (λ v. (us : List ℕ) → AreKeysOf keys.now us
-        → IsListOf (IsFailing us (is_open_in set.now)) v.items) }
-{
-    let mut outside = Vec::new(alloc);
-    for key in keys {
-        let uid = uid_at(*key);
-        push_if(&mut outside, uid, !set.has(uid))?;
-    }
-    put_in_order(&mut outside);
-    Ok(outside)
 }
 
 /// Adds a UID, or doesn't.

@@ -109,7 +109,7 @@ pub(crate) fn judge_possible<S: OpenSet>(
     let certain = certain_uids(alloc, met)?;
     let listed = listed_uids(alloc, lines)?;
     let keys = keys_in_order(alloc, &listed)?;
-    if let Some(uid) = least_outside(&set, &keys) {
+    if let Some(uid) = least_outside(alloc, &set, &keys)? {
         return Ok(Verdict::Absent(uid));
     }
     if let Some(uid) = least_missing(&certain, &listed) {

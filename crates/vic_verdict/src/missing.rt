@@ -1,11 +1,10 @@
 //! Which UIDs of a list a set or another list lacks.
 //!
-//! They are looked for in order: in a set that stands in the order of keys each is found after the
-//! one before in few steps.
+//! They are looked for in order: a set that stands in the order of keys is gone over once.
 
-ghost use Rattle.std.specs.Prelude.{◌≡◌, ◌≤◌, ◌⊎◌, ℕ, List, Some, IfOk, IfSome, MatchOption};
+ghost use Rattle.std.specs.Prelude.{◌≡◌, ℕ, List, IfOk, MatchOption};
 ghost use Rattle.std.specs.List.{list_all};
-ghost use Rattle.std.specs.List.Sorted.{IsStrictlyIncreasing};
+ghost use Rattle.std.specs.List.Sorted.{IsNonDecreasing, IsStrictlyIncreasing};
 ghost use Rattle.vic_frame.specs.Uids.{has};
 ghost use Rattle.vic_tree.specs.OpenSet.{AreKeys};
 ghost use Rattle.vic_verdict.specs.Keys.{AreKeysOf};
@@ -14,7 +13,7 @@ ghost use Rattle.vic_verdict.specs.Verdict.{IsLeast, NoSuch};
 
 use std::alloc::{AllocError, Global};
 use vic_frame::Uid;
-use vic_frame::low_bits_first::{key, uid_at};
+use vic_frame::low_bits_first::key;
 use vic_tree::OpenSet;
 
 /// The keys of UIDs, in order.
@@ -29,33 +28,20 @@ pub fn keys_in_order(alloc: Global, uids: &[Uid]) -> Result<Vec<u64>, AllocError
     Ok(keys)
 }
 
-/// The lesser of a UID and another, if there is one.
-fn lesser(other: Option<Uid>, uid: Uid) -> Uid
-    ensures one { (result ≡ uid) ⊎ (other ≡ Some result) }
-    ensures least { result ≤ uid }
-    ensures before { IfSome other (λ u. result ≤ u) }
+/// The least of the UIDs at some keys, which come in order, that isn't in a set.
+pub(crate) fn least_outside<S: OpenSet>(
+    alloc: Global,
+    set: &S,
+    keys: &[u64],
+) -> Result<Option<Uid>, AllocError>
+    requires order { IsNonDecreasing keys.now }
+    requires keys { AreKeys keys.now }
+    ensures { IfOk result (λ least. (us : List ℕ) → AreKeysOf keys.now us
+        → MatchOption least (NoSuch (IsFailing us (S.is_open set.now)))
+        (IsLeast (IsFailing us (S.is_open set.now)))) }
 {
-    match other {
-        Some(before) if before.number() < uid.number() => before,
-        _ => uid,
-    }
-}
-
-/// The least of the UIDs at some keys that isn't in a set.
-pub(crate) fn least_outside<S: OpenSet>(set: &S, keys: &[u64]) -> Option<Uid>
-    requires { AreKeys keys.now }
-    ensures { (us : List ℕ) → AreKeysOf keys.now us
-        → MatchOption result (NoSuch (IsFailing us (S.is_open set.now)))
-        (IsLeast (IsFailing us (S.is_open set.now))) }
-{
-    let mut least = None;
-    for key in keys {
-        let uid = uid_at(*key);
-        if !set.has(uid) {
-            least = Some(lesser(least, uid));
-        }
-    }
-    least
+    let uids = set.uids_outside(alloc, keys)?;
+    Ok(uids.first().copied())
 }
 
 /// Whether all UIDs of a list are in a set.
@@ -63,7 +49,8 @@ pub(crate) fn are_open<S: OpenSet>(alloc: Global, set: &S, uids: &[Uid]) -> Resu
     ensures { IfOk result (λ yes. yes ≡ list_all (S.is_open set.now) uids.now) }
 {
     let keys = keys_in_order(alloc, uids)?;
-    Ok(least_outside(set, &keys).is_none())
+    let least = least_outside(alloc, set, &keys)?;
+    Ok(least.is_none())
 }
 
 /// The least UID of a rising list that isn't in another one.

@@ -1,4 +1,4 @@
-use Rattle.std.proofs.Common.{◌≡◌, ℕ, Bool, List, ◌∙◌, sym, subst}
+use Rattle.std.proofs.Common.{◌≡◌, ℕ, List, ◌∙◌, sym, subst}
 use Rattle.vic_frame.specs.Uids.{has}
 use Rattle.vic_tree.specs.Ranges.{is_open_in}
 use Rattle.vic_log.specs.Order.{entries}
@@ -9,6 +9,7 @@ use Rattle.vic_verdict.specs.Rising.{IsFailing, IsListOf}
 use Rattle.vic_verdict.specs.Unsettled.{AreOpenAndListed}
 use Rattle.vic_verdict.specs.Verdict.{IsAbsent, IsUnlisted}
 use Rattle.vic_verdict.proofs.Cases.{unlisted_iff, given_at}
+use Rattle.vic_verdict.proofs.KeyOrder.{outside_are}
 use Rattle.vic_report.proofs.AllFindings.{list_as, shut_all, absent_iff_uncertain, missing_iff}
 use Rattle.vic_report.proofs.findings.find_findings.Goals as goal
 
@@ -23,7 +24,7 @@ pub missing-requires-3-clause-others : goal.missing-requires-3-clause-others
 missing-requires-3-clause-others c =
     let left = c.in_ok-uncertain.uncertain.items in
     let keys = keyed c.in_ok-keys.keys.items c.deref-6.result.now c.deref-5.result.now left c.deref-6.ensures.value c.deref-5.ensures.value c.in_ok-keys.ensures in
-    let shut : IsListOf (IsFailing left (is_open_in c.args.set)) c.in_ok-absent.absent.items = c.in_ok-absent.ensures left keys in
+    let shut : IsListOf (IsFailing left (is_open_in c.args.set)) c.in_ok-absent.absent.items = outside_are (is_open_in c.args.set) c.deref-6.result.now left c.in_ok-absent.absent.items keys c.in_ok-absent.ensures in
     rw c.deref-8.ensures.value shut.rising
 
 pub lines_of_absent-requires-clause-shut : goal.lines_of_absent-requires-clause-shut
@@ -36,7 +37,7 @@ lines_of_absent-requires-clause-shut c =
     let own : AreOpenAndListed es set us = record { possible = c.requires.possible; uids_open = c.requires.open; uids_listed = c.in_ok-listed.ensures.members; are_uids = c.in_ok-listed.ensures.uids } in
     let uncertain = renamed c.deref-3.result.now us c.deref-4.result.now certain left c.deref-3.ensures.value c.deref-4.ensures.value c.in_ok-uncertain.ensures in
     let keys = keyed c.in_ok-keys.keys.items c.deref-6.result.now c.deref-5.result.now left c.deref-6.ensures.value c.deref-5.ensures.value c.in_ok-keys.ensures in
-    rw c.deref-9.ensures.value (shut_all es set us certain left c.in_ok-absent.absent.items own uncertain (c.in_ok-absent.ensures left keys))
+    rw c.deref-9.ensures.value (shut_all es set us certain left c.in_ok-absent.absent.items own uncertain (outside_are set c.deref-6.result.now left c.in_ok-absent.absent.items keys c.in_ok-absent.ensures))
 
 pub returns : goal.returns
 returns c =
@@ -52,7 +53,7 @@ returns c =
     let unlisted = renamed c.deref.result.now certain c.deref-2.result.now us c.in_ok-unlisted.unlisted.items c.deref.ensures.value c.deref-2.ensures.value c.in_ok-unlisted.ensures in
     let uncertain = renamed c.deref-3.result.now us c.deref-4.result.now certain left c.deref-3.ensures.value c.deref-4.ensures.value c.in_ok-uncertain.ensures in
     let keys = keyed c.in_ok-keys.keys.items c.deref-6.result.now c.deref-5.result.now left c.deref-6.ensures.value c.deref-5.ensures.value c.in_ok-keys.ensures in
-    let shut : IsListOf (IsFailing left set) out = c.in_ok-absent.ensures left keys in
+    let shut : IsListOf (IsFailing left set) out = outside_are set c.deref-6.result.now left out keys c.in_ok-absent.ensures in
     let doubtful = renamed c.deref-7.result.now left c.deref-8.result.now out c.in_ok-doubtful.doubtful.items c.deref-7.ensures.value c.deref-8.ensures.value c.in_ok-doubtful.ensures in
     record {
       absent = subst (IsListOf (IsAbsent es)) (sym (c.in_ok-lines_of_absent.ensures.uids ∙ c.deref-9.ensures.value))

@@ -1,5 +1,4 @@
-use Rattle.std.proofs.Common.{◌≡◌, sym, ◌∙◌, arith}
-use Rattle.std.proofs.lemmas.Bool.{cases_eq}
+use Rattle.std.proofs.Common.{sym, ◌∙◌}
 use Rattle.vic_report.proofs.Merging.{is_here, is_past}
 use Rattle.vic_report.proofs.findings.is_at.Goals as goal
 

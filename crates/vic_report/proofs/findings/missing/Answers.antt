@@ -1,4 +1,4 @@
-use Rattle.std.proofs.Common.{◌≡◌, ℕ, Bool, not, cond, length, get_or, take, ap, sym, ◌∙◌, [], ◌∷◌, ◌++◌, arith, subst}
+use Rattle.std.proofs.Common.{ℕ, Bool, not, cond, take, ap, sym, ◌∙◌, [], ◌∷◌, ◌++◌, arith, subst}
 use Rattle.std.specs.List.{filter}
 use Rattle.std.proofs.lemmas.List.{take_all}
 use Rattle.std.proofs.lemmas.List.Elements.{filter_more}

@@ -18,4 +18,4 @@ pub returns : goal.returns
 returns g c =
     let us = c.args.uids.now in
     let own = subst (λ (ks : List ℕ). AreKeysOf ks us) (sym c.deref.ensures.value) c.in_ok-keys.ensures in
-    is_all (g.S.OpenSet.is_open c.args.set.now) us c.least_outside.result c.is_none.result c.is_none.ensures (c.least_outside.ensures us own)
+    is_all (g.S.OpenSet.is_open c.args.set.now) us c.in_ok-least.least c.is_none.result c.is_none.ensures (c.in_ok-least.ensures us own)
