@@ -251,16 +251,3 @@ outside_closed ns spots old new k closes =
         both true false false = refl
         both false true l = refl
         both false false l = refl
-
--- the first key of a slot whose key is one of its mask
-pub first_of_spot : (m : BitMask) (s : Spot) → IsMask m → m.len ≤ 56 → s.len ≡ m.len → mirror m.value ≤ s.key → s.key ≤ mirror m.value + (2 ^ (56 - m.len) - 1) → first_of s ≡ mirror m.value
-first_of_spot m s is_mask short len from to =
-    let size : ℕ = 2 ^ (56 - m.len) in
-    let n : ℕ = mirror_bits m.len m.value in
-    let pos = pow_pos (56 - m.len) in
-    let first : mirror m.value ≡ n * size = number_of_mask m.len m.value short is_mask.1 in
-    let rest : ℕ = s.key - mirror m.value in
-    let whole : s.key ≡ n * size + rest = omega (arith, from, first) in
-    let less : rest < size = omega (arith, from, to, pos) in
-    let left : s.key % size ≡ rest = ap (λ k. k % size) whole ∙ mod-mul-add n size rest less in
-    ap (λ l. s.key - s.key % 2 ^ (56 - l)) len ∙ (ap (λ k. s.key - k) left ∙ omega (arith, from))

@@ -1,16 +1,16 @@
 -- What the slots between two field cycles leave, name by name.
-use Rattle.std.proofs.Common.{◌≡◌, ℕ, zero, suc, ◌+◌, ◌<◌, ◌≤◌, ◌==◌, List, [], ◌∷◌, length, take, get_or, set, Bool, true, false, not, ◌&&◌, ◌||◌, Option, Some, None, refl, sym, ap, ◌∙◌, subst, arith, add-one, ◌++◌, ⊎_elim}
+use Rattle.std.proofs.Common.{◌≡◌, ℕ, zero, suc, ◌+◌, ◌-◌, ◌<◌, ◌≤◌, ◌==◌, List, [], ◌∷◌, length, take, get_or, set, Bool, true, false, not, ◌&&◌, ◌||◌, Option, Some, None, refl, sym, ap, ◌∙◌, subst, arith, add-one, ◌++◌, ⊎_elim}
 use Rattle.std.specs.Prelude.{nat_le, nat_lt}
 use Rattle.std.specs.List.{list_all, list_any}
 use Rattle.std.proofs.lemmas.Bool.{ne_eqb, cases_eq, cases_lt, false≢true, and_parts, and_from, or_cases, or_left, or_right, eqb-true}
 use Rattle.std.proofs.lemmas.Bool.Decides.{nat_tests}
-use Rattle.std.proofs.lemmas.List.{ext_get_or, get_or-map, get_or-set_same, get_or-set_other, length-set, take_all}
+use Rattle.std.proofs.lemmas.List.{ext_get_or, get_or-map, get_or_default, get_or-set_same, get_or-set_other, length-set, take_all}
 use Rattle.std.proofs.lemmas.List.Folds.{list_all_more, list_any_more}
 use Rattle.vic_verdict.specs.declared.names.Name.{Name}
 use Rattle.vic_verdict.specs.declared.closed.Spot.{Spot}
 use Rattle.vic_verdict.specs.declared.level.Level.{Level}
 use Rattle.vic_verdict.specs.declared.sweep.Run.{Run}
-use Rattle.vic_verdict.specs.Sweep.{first_of, last_of, heard_of, is_heard, slot_leaves, is_between, is_in, spot_leaves, all_leave, level_leaves, mask_leaves, run_leaves, keep, keep_all, has_where, has_left, is_silenced, spot_allows, all_allow, is_named, is_named_if, hears_named, all_hear_named, are_left, AreInOrder}
+use Rattle.vic_verdict.specs.Sweep.{first_of, last_of, heard_of, is_heard, slot_leaves, is_between, is_in, spot_leaves, all_leave, level_leaves, mask_leaves, run_leaves, keep, keep_all, has_where, has_left, is_silenced, spot_allows, all_allow, is_named, is_named_if, hears_named, all_hear_named, are_left, AreInOrder, IsStart}
 use Rattle.std.specs.List.Sorted.{IsPermutation}
 use Rattle.std.proofs.lemmas.List.Sorted.{list_any-IsPermutation}
 use Rattle.std.proofs.Math.Seq.{take-append_seam}
@@ -80,7 +80,22 @@ abbrev pub nobody : Name
 nobody = record { key = 0; at = 0; quiet = 0; left = false }
 
 abbrev pub nowhere : Spot
-nowhere = record { key = 0; at = 0; len = 0; is_heard = false }
+nowhere = record { mask = 0; key = 0; at = 0; is_heard = false }
+
+-- a name that is the first from a key on
+pub start_here : (ns : List Name) (first at : ℕ) → AreInOrder ns → at < length ns → first ≤ (get_or ns at nobody).key → (0 < at → (get_or ns (at - 1) nobody).key < first) → IsStart ns first at
+start_here ns first at up lt from before = record {
+  within = omega (arith, lt);
+  below = λ k d less.
+      let last = before (omega (arith, less)) in
+      let here = ap (λ (n : Name). n.key) (get_or_default ns (at - 1) d nobody (omega (arith, less, lt))) in
+      let le = up k (at - 1) d (omega (arith, less)) (omega (arith, less, lt)) in
+      omega (arith, last, here, le);
+  rest = λ k d ge short.
+      let here = ap (λ (n : Name). n.key) (get_or_default ns at d nobody lt) in
+      let le = up at k d ge short in
+      omega (arith, from, here, le);
+}
 
 -- the first i names of a list were gone over
 pub record IsRuled (p : ℕ → ℕ → Bool) (old new : List Name) (i : ℕ) : Type 0 where
@@ -117,11 +132,11 @@ ruled_all p old new i h above =
 mask_of_one : (first last : ℕ) (m : Level) (at : ℕ) (heard : Option ℕ) (k q : ℕ) → level_leaves m k q ≡ slot_leaves at heard k q → mask_leaves first last m k q ≡ (not (is_between first last k) || slot_leaves at heard k q)
 mask_of_one first last m at heard k q e = ap (λ b. not (is_between first last k) || b) e
 
-pub run_first : (s : Spot) (m : Level) (ns : List Name) → ((k q : ℕ) → level_leaves m k q ≡ slot_leaves s.at (heard_of s) k q) → keep_all (run_leaves (Some (record { first = first_of s; last = last_of s; level = m }))) ns ≡ keep_all (spot_leaves s) ns
-run_first s m ns h = keep_alike _ _ (λ k q. mask_of_one (first_of s) (last_of s) m s.at (heard_of s) k q (h k q)) ns
+pub run_first : (s : Spot) (m : Level) (near : ℕ) (ns : List Name) → ((k q : ℕ) → level_leaves m k q ≡ slot_leaves s.at (heard_of s) k q) → keep_all (run_leaves (Some (record { first = first_of s; last = last_of s; level = m; near = near }))) ns ≡ keep_all (spot_leaves s) ns
+run_first s m near ns h = keep_alike _ _ (λ k q. mask_of_one (first_of s) (last_of s) m s.at (heard_of s) k q (h k q)) ns
 
-pub run_next : (r : Run) (s : Spot) (m : Level) (ns new : List Name) → new ≡ keep_all (mask_leaves r.first r.last r.level) ns → ((k q : ℕ) → level_leaves m k q ≡ slot_leaves s.at (heard_of s) k q) → keep_all (run_leaves (Some (record { first = first_of s; last = last_of s; level = m }))) new ≡ keep_all (λ k q. run_leaves (Some r) k q && spot_leaves s k q) ns
-run_next r s m ns new is h = run_first s m new h ∙ (ap (keep_all (spot_leaves s)) is ∙ keep_twice (spot_leaves s) (mask_leaves r.first r.last r.level) ns)
+pub run_next : (r : Run) (s : Spot) (m : Level) (near : ℕ) (ns new : List Name) → new ≡ keep_all (mask_leaves r.first r.last r.level) ns → ((k q : ℕ) → level_leaves m k q ≡ slot_leaves s.at (heard_of s) k q) → keep_all (run_leaves (Some (record { first = first_of s; last = last_of s; level = m; near = near }))) new ≡ keep_all (λ k q. run_leaves (Some r) k q && spot_leaves s k q) ns
+run_next r s m near ns new is h = run_first s m near new h ∙ (ap (keep_all (spot_leaves s)) is ∙ keep_twice (spot_leaves s) (mask_leaves r.first r.last r.level) ns)
 
 -- one slot more of all
 pub runs_more : (o : Option Run) (r : Run) (spots : List Spot) (i : ℕ) (s : Spot) (old ns new : List Name) → i < length spots → s ≡ get_or spots i s → keep_all (run_leaves o) ns ≡ keep_all (all_leave (take i spots)) old → keep_all (run_leaves (Some r)) new ≡ keep_all (λ k q. run_leaves o k q && spot_leaves s k q) ns → keep_all (run_leaves (Some r)) new ≡ keep_all (all_leave (take (i + 1) spots)) old

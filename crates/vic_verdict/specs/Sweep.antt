@@ -1,8 +1,9 @@
 -- What the slots between two field cycles leave, said of keys: UIDs in the order of their low bits.
-use Rattle.std.specs.Prelude.{◌≡◌, ℕ, ◌+◌, ◌-◌, ◌%◌, ◌^◌, ◌==◌, ◌<◌, ◌≤◌, Bool, true, false, not, ◌&&◌, ◌||◌, Option, Some, None, List, length, slice_index_or, nat_le, nat_lt, map, if◌then◌else◌, IfSome}
+use Rattle.std.specs.Prelude.{◌≡◌, ℕ, ◌+◌, ◌-◌, ◌/◌, ◌%◌, ◌^◌, ◌==◌, ◌<◌, ◌≤◌, Bool, true, false, not, ◌&&◌, ◌||◌, Option, Some, None, List, length, slice_index_or, nat_le, nat_lt, map, if◌then◌else◌, IfSome}
 use Rattle.std.specs.List.Sorted.{IsNonDecreasingBy}
 use Rattle.std.specs.List.{list_all, list_any, All}
 use Rattle.vic_frame.specs.declared.uid.TheConstants.{UID_BITS}
+use Rattle.vic_verdict.specs.declared.closed.TheConstants.{LENGTHS}
 use Rattle.vic_frame.specs.LowBitsFirst.{IsKey}
 use Rattle.vic_tree.specs.Ranges.{IsKeyRange}
 use Rattle.vic_verdict.specs.declared.names.Name.{Name}
@@ -30,10 +31,14 @@ is_between first last k = nat_le first k && nat_le k last
 
 -- the first and the last key of a slot's mask, and the key that was heard
 abbrev pub first_of : Spot → ℕ
-first_of s = s.key - s.key % 2 ^ (UID_BITS - s.len)
+first_of s = s.mask / LENGTHS
+
+-- how many bits it has
+abbrev pub len_of : Spot → ℕ
+len_of s = s.mask % LENGTHS
 
 abbrev pub last_of : Spot → ℕ
-last_of s = first_of s + (2 ^ (UID_BITS - s.len) - 1)
+last_of s = first_of s + (2 ^ (UID_BITS - len_of s) - 1)
 
 abbrev pub heard_of : Spot → Option ℕ
 heard_of s = if s.is_heard then Some s.key else None
@@ -93,7 +98,7 @@ all_allow ns spots k = list_all (λ s. spot_allows ns s k) spots
 
 -- the keys of the slot's mask are a range of keys
 abbrev pub HasRange : Spot → Type 0
-HasRange s = (s.len ≤ UID_BITS) × IsKeyRange (first_of s, last_of s)
+HasRange s = (len_of s ≤ UID_BITS) × IsKeyRange (first_of s, last_of s)
 
 -- the key is named
 abbrev pub is_named : List Name → ℕ → Bool
@@ -117,6 +122,12 @@ are_left ns = list_all (λ n. n.left) ns
 -- the names are in the order of their keys
 abbrev pub AreInOrder : List Name → Type 0
 AreInOrder ns = IsNonDecreasingBy (λ (n : Name). n.key) ns
+
+-- the names before the place have keys below one, and no others do
+pub record IsStart (ns : List Name) (first at : ℕ) : Type 0 where
+  pub within : at ≤ length ns
+  pub below : (k : ℕ) (d : Name) → k < at → (slice_index_or ns k d).key < first
+  pub rest : (k : ℕ) (d : Name) → at ≤ k → k < length ns → first ≤ (slice_index_or ns k d).key
 
 -- and those of one key in the order of the places after which it is Quiet by them
 abbrev pub AreInQuietOrder : List Name → Type 0

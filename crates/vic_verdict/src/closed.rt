@@ -5,22 +5,27 @@ ghost use Rattle.std.specs.Prelude.{◌≡◌, ℕ, ◌&&◌, true, OnOk};
 ghost use Rattle.std.specs.List.{All};
 ghost use Rattle.vic_tree.specs.Ranges.{IsKeyRange};
 ghost use Rattle.vic_verdict.specs.Closed.{Closes, is_in_if, is_in_some};
-ghost use Rattle.vic_verdict.specs.Sweep.{AreInOrder, HasRange, first_of, heard_of, is_between, last_of};
+ghost use Rattle.vic_verdict.specs.Sweep.{AreInOrder, HasRange, IsStart, first_of, heard_of, is_between, last_of, len_of};
 
-use crate::names::{Name, names_between};
+use crate::names::{Name, names_between, start_near};
 use std::alloc::AllocError;
 use vic_frame::UID_BITS;
 use vic_tree::KeyRange;
 
-/// A silent or an answered slot, small: a log may have a million of them.
+/// More than the bits of any mask.
+pub(crate) const LENGTHS: u64 = 256;
+
+/// A silent or an answered slot. A log may have a million of them, which are sorted: so its mask is
+/// one number.
 #[derive(Clone, Copy)]
 pub(crate) struct Spot {
+    /// Its mask: the first key, times `LENGTHS`, and how many bits it has. In the order of these
+    /// numbers those of one mask stand together, and outer masks before inner ones.
+    pub mask: u64,
     /// The key that was heard; the first key of its mask where nobody was.
     pub key: u64,
     /// The place of its line.
     pub at: u32,
-    /// How many bits its mask has.
-    pub len: u8,
     pub is_heard: bool,
 }
 
@@ -29,7 +34,14 @@ impl Spot {
     pub(crate) fn first(&self) -> u64
         ensures { result ≡ first_of self.now }
     {
-        self.key - self.key % (1 << UID_BITS.saturating_sub(self.len))
+        self.mask / LENGTHS
+    }
+
+    /// How many bits its mask has.
+    fn len(&self) -> u8
+        ensures { result ≡ len_of self.now }
+    {
+        (self.mask % LENGTHS) as u8
     }
 
     /// The first and the last key of its mask.
@@ -38,7 +50,7 @@ impl Spot {
         ensures { result ≡ (first_of self.now, last_of self.now) }
     {
         let first = self.first();
-        (first, first + ((1 << (UID_BITS - self.len)) - 1))
+        (first, first + ((1 << (UID_BITS - self.len())) - 1))
     }
 
     /// The key that was heard.
@@ -49,19 +61,21 @@ impl Spot {
     }
 }
 
-/// Closes the keys from `first` to `last`, except the names that are left.
+/// Closes the keys from `first` to `last`, except the names that are left: those from a place on.
 fn close_between(
     closed: &mut Vec<KeyRange>,
     names: &[Name],
+    start: usize,
     first: u64,
     last: u64,
 ) -> Result<(), AllocError>
     requires order { AreInOrder names.now }
+    requires start { IsStart names.now first start }
     requires range { IsKeyRange (first, last) }
     ensures { OnOk result (Closes names.now (is_between first last)
         closed.old.items closed.new.items) }
 {
-    let inside = names_between(names, first, last);
+    let inside = names_between(names, start, first, last);
     let mut from = first;
     for name in inside {
         if name.left {
@@ -101,10 +115,12 @@ pub(crate) fn close_spots(
         closed.old.items closed.new.items) }
 {
     let mut outer: Option<(u64, u64)> = None;
+    let mut start = 0;
     for spot in spots {
         let (first, last) = spot.keys();
         if !is_inside(first, last, outer) {
-            close_between(closed, names, first, last)?;
+            start = start_near(names, start, first);
+            close_between(closed, names, start, first, last)?;
             outer = Some((first, last));
         }
     }

@@ -1,14 +1,14 @@
 //! The UIDs that lines silence or hear between two field cycles, in the order of their keys: which
 //! of them are Quiet at a place.
 
-ghost use Rattle.std.specs.Prelude.{◌≡◌, ℕ, Bool, true, ◌++◌, ◌∷◌, [], IfOk, OnOk};
+ghost use Rattle.std.specs.Prelude.{◌≡◌, ◌<◌, ℕ, Bool, true, length, ◌++◌, ◌∷◌, [], IfOk, OnOk};
 ghost use Rattle.std.specs.List.{All, list_any};
 ghost use Rattle.std.specs.List.Sorted.{IsNonDecreasing};
 ghost use Rattle.vic_frame.specs.Uids.{IsUid, has};
 ghost use Rattle.vic_frame.specs.LowBitsFirst.{IsKey, mirror};
 ghost use Rattle.vic_tree.specs.OpenSet.{AreKeys};
 ghost use Rattle.vic_verdict.specs.declared.names.Name.{Name as NameValue};
-ghost use Rattle.vic_verdict.specs.Sweep.{is_silenced, AreInOrder, HaveKeys, has_where, is_between};
+ghost use Rattle.vic_verdict.specs.Sweep.{is_silenced, AreInOrder, HaveKeys, IsStart, has_where, is_between};
 
 use std::alloc::{AllocError, Global};
 use vic_frame::Uid;
@@ -46,16 +46,51 @@ pub(crate) fn push_name(
     Ok(())
 }
 
-/// The names from key `first` to `last`.
-pub(crate) fn names_between(names: &[Name], first: u64, last: u64) -> &[Name]
+/// The place of the first name whose key is at least `first`; the end where none is.
+fn start_of(names: &[Name], first: u64) -> usize
     requires { AreInOrder names.now }
+    ensures { IsStart names.now first result }
+{
+    names.partition_point(|name| name.key < first)
+}
+
+/// Whether a name is the first whose key is at least `first`.
+fn is_start(names: &[Name], at: usize, first: u64) -> bool
+    requires order { AreInOrder names.now }
+    requires within { at < length names.now }
+    ensures { result ≡ true → IsStart names.now first at }
+{
+    first <= names[at].key && (at == 0 || names[at - 1].key < first)
+}
+
+/// How many names are looked at one by one.
+const NEAR: usize = 8;
+
+/// The place of the first name whose key is at least `first`, looked for first from another place
+/// on: one near where masks come in the order of their keys.
+pub(crate) fn start_near(names: &[Name], near: usize, first: u64) -> usize
+    requires { AreInOrder names.now }
+    ensures { IsStart names.now first result }
+{
+    for at in near..names.len().min(near.saturating_add(NEAR)) {
+        if is_start(names, at, first) {
+            return at;
+        }
+    }
+    start_of(names, first)
+}
+
+/// The names from key `first` to `last`, of which the first one stands at a place.
+pub(crate) fn names_between(names: &[Name], start: usize, first: u64, last: u64) -> &[Name]
+    requires order { AreInOrder names.now }
+    requires start { IsStart names.now first start }
     ensures order { AreInOrder result.now }
     ensures keys { HaveKeys names.now → HaveKeys result.now }
     ensures inside { All (λ n. is_between first last n.key ≡ true) result.now }
     ensures all { (test : NameValue → Bool) (k : ℕ) → is_between first last k ≡ true
         → has_where test result.now k ≡ has_where test names.now k }
 {
-    let rest = &names[names.partition_point(|name| name.key < first)..];
+    let rest = &names[start..];
     let mut count = 0;
     while count < rest.len() && rest[count].key <= last {
         count += 1;
@@ -69,7 +104,7 @@ pub(crate) fn is_silenced(names: &[Name], uid: Uid, at: usize) -> bool
     ensures { result ≡ is_silenced names.now (mirror uid) at }
 {
     let key = key(uid);
-    let own = names_between(names, key, key);
+    let own = names_between(names, start_of(names, key), key, key);
     for name in own {
         if name.quiet < at {
             return true;
@@ -106,7 +141,7 @@ pub(crate) fn silenced_between(
     ensures members { IfOk result (λ keys. (k : ℕ) → is_between first last k ≡ true
         → has keys.items k ≡ is_silenced names.now k at) }
 {
-    let inside = names_between(names, first, last);
+    let inside = names_between(names, start_of(names, first), first, last);
     let mut keys = Vec::new(alloc);
     for name in inside {
         if name.quiet < at {

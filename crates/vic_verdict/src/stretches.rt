@@ -17,7 +17,7 @@ ghost use Rattle.vic_verdict.specs.Replies.{RepliesAnswer, AreHeard};
 ghost use Rattle.vic_verdict.specs.Silenced.{TellsQuiet};
 ghost use Rattle.vic_verdict.specs.Stretches.{AddsSpot, IsHeardIn, IsStretch};
 
-use crate::closed::Spot;
+use crate::closed::{LENGTHS, Spot};
 use crate::names::{Name, push_name};
 use crate::possible::Contradiction;
 use crate::sweep::settle_stretch;
@@ -50,9 +50,9 @@ fn push_spot(
         None => first,
     };
     spots.push(Spot {
+        mask: first * LENGTHS + mask.len() as u64,
         key,
         at,
-        len: mask.len(),
         is_heard,
     })?;
     Ok(())

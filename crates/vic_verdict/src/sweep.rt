@@ -16,7 +16,7 @@ ghost use Rattle.vic_verdict.specs.Sweep.{spot_leaves, all_leave, mask_leaves, r
 
 use crate::closed::{Spot, close_spots};
 use crate::level::Level;
-use crate::names::Name;
+use crate::names::{Name, start_near};
 use crate::replies::first_quiet_reply;
 use std::alloc::AllocError;
 use vic_tree::KeyRange;
@@ -27,21 +27,25 @@ pub(crate) struct Run {
     pub first: u64,
     pub last: u64,
     pub level: Level,
+    /// A place near that of its first name.
+    pub near: usize,
 }
 
-/// Rules out the names from key `first` to `last` that a level doesn't leave.
-fn rule_out(names: &mut [Name], first: u64, last: u64, level: &Level)
+/// Rules out the names from key `first` to `last` that a level doesn't leave: the first of them
+/// stands at the place that it gives.
+fn rule_out(names: &mut [Name], near: usize, first: u64, last: u64, level: &Level) -> usize
     requires { AreInOrder names.old }
     ensures { names.new ≡ keep_all (mask_leaves first last level.now) names.old }
 {
-    let start = names.partition_point(|name| name.key < first);
+    let start = start_near(names, near, first);
     for i in start..names.len() {
         let name = names[i];
         if last < name.key {
-            return;
+            return start;
         }
         names[i].left = name.left && level.leaves(name.key, name.quiet);
     }
+    start
 }
 
 /// Goes on to a slot: with the slots of its mask before it, or from the mask before it, once that
@@ -56,20 +60,23 @@ fn pass_spot(names: &mut [Name], run: Option<Run>, spot: &Spot) -> Run
         ≡ keep_all (λ k q. run_leaves run k q && spot_leaves spot.now k q) names.old }
 {
     let (first, last) = spot.keys();
+    let mut near = 0;
     if let Some(r) = run {
         if r.first == first && r.last == last {
             return Run {
                 first: r.first,
                 last: r.last,
                 level: r.level.with(spot.at as usize, spot.heard()),
+                near: r.near,
             };
         }
-        rule_out(names, r.first, r.last, &r.level);
+        near = rule_out(names, r.near, r.first, r.last, &r.level);
     }
     Run {
         first,
         last,
         level: Level::of(spot.at as usize, spot.heard()),
+        near,
     }
 }
 
@@ -84,7 +91,7 @@ fn rule_out_all(names: &mut [Name], spots: &[Spot])
         run = Some(pass_spot(names, run, spot));
     }
     if let Some(r) = run {
-        rule_out(names, r.first, r.last, &r.level);
+        rule_out(names, r.near, r.first, r.last, &r.level);
     }
 }
 
@@ -110,7 +117,7 @@ pub(crate) fn settle_stretch(
         return Ok(Some(at));
     }
     // Those of one mask together, and outer masks before inner ones.
-    spots.sort_unstable_by_key(|spot| (spot.first(), spot.len));
+    spots.sort_unstable_by_key(|spot| spot.mask);
     rule_out_all(names, spots);
     close_spots(closed, names, spots)?;
     Ok(None)

@@ -1,20 +1,17 @@
-use Rattle.std.proofs.Common.{◌≡◌, ℕ, ◌+◌, ◌-◌, ◌^◌, ◌<◌, ◌∷◌, [], true, not, ◌&&◌, ◌||◌, ◌∙◌, Option, Some, None, ap, sym, subst, refl, arith}
+use Rattle.std.proofs.Common.{◌≡◌, ℕ, ◌+◌, ◌-◌, ◌*◌, ◌^◌, ◌<◌, ◌∷◌, [], not, ◌&&◌, ◌||◌, ◌∙◌, Option, Some, None, ap, sym, subst, refl, arith}
 use Rattle.std.specs.Option.{is_some}
 use Rattle.std.specs.Prelude.{if◌then◌else◌}
 use Rattle.std.specs.List.{All}
 use Rattle.std.proofs.lemmas.Bool.{and_from}
 use Rattle.std.proofs.lemmas.List.Elements.{All-push}
 use Rattle.std.proofs.lemmas.List.Folds.{list_all-append}
-use Rattle.std.proofs.lemmas.Nat.{pow_pos}
+use Rattle.std.proofs.lemmas.Nat.{div-mul-add, mod-mul-add, pow_pos}
 use Rattle.vic_frame.specs.LowBitsFirst.{mirror}
 use Rattle.vic_log.specs.Rounds.{lies_in_some}
 use Rattle.vic_tree.proofs.BlockLaws.{mask_ends}
 use Rattle.vic_tree.proofs.BoolLaws.{and_true}
 use Rattle.vic_verdict.specs.declared.closed.Spot.{Spot}
-use Rattle.vic_verdict.specs.Stretches.{IsHeardIn}
-use Rattle.vic_verdict.specs.Sweep.{HasRange, all_allow, all_hear_named, first_of, heard_of, hears_named, is_between, is_heard, is_named_if, is_silenced, last_of, spot_allows}
-use Rattle.vic_verdict.proofs.Closing.{between_from, first_of_spot}
-use Rattle.vic_verdict.proofs.Sweeping.{between_parts}
+use Rattle.vic_verdict.specs.Sweep.{HasRange, all_allow, all_hear_named, first_of, len_of, heard_of, hears_named, is_between, is_heard, is_named_if, is_silenced, last_of, spot_allows}
 use Rattle.vic_verdict.proofs.stretches.push_spot.Goals as goal
 use Rattle.vic_verdict.proofs.stretches.push_spot.Goals.{in-Some-heard, in-None}
 
@@ -28,6 +25,28 @@ one o a b e f = cc
 none : (o : Option ℕ) (a b : ℕ) → o ≡ None → o ≡ Some b → a ≡ b
 none o a b e f = absurd (cc)
 
+pub overflow_mul-first : goal.overflow_mul-first
+overflow_mul-first c =
+    let m = c.in-Some-without_top_byte.mask in
+    let told = c.in-Some-without_top_byte.ensures in
+    let range = c.key_range-first.ensures in
+    let at_first = range.first in
+    let e = mask_ends m told.short.0 told.short.1 in
+    let p = pow_pos (56 - m.len) in
+    omega (arith, at_first, e, p)
+
+pub overflow_add-first : goal.overflow_add-first
+overflow_add-first c =
+    let m = c.in-Some-without_top_byte.mask in
+    let told = c.in-Some-without_top_byte.ensures in
+    let range = c.key_range-first.ensures in
+    let at_first = range.first in
+    let e = mask_ends m told.short.0 told.short.1 in
+    let p = pow_pos (56 - m.len) in
+    let bits = c.len.ensures.value in
+    let short = told.short.1 in
+    omega (arith, at_first, e, p, bits, short)
+
 pub returns : goal.returns
 returns c =
     let old = c.args.spots.now.items in
@@ -36,28 +55,21 @@ returns c =
     let range = c.key_range-first.ensures in
     let first = c.key_range-first.result.0 in
     let last = c.key_range-first.result.1 in
-    let s : Spot = record { key = c.match-heard.key; at = c.args.at; len = c.len.result; is_heard = c.is_some-is_heard.result } in
+    let s : Spot = record { mask = first * 256 + c.len.result; key = c.match-heard.key; at = c.args.at; is_heard = c.is_some-is_heard.result } in
     let items = c.in_ok-push.ensures.items in
-    let inside : is_between first last s.key ≡ true = elim c.match-heard.branch [
-      | in-Some-heard w ↦
-          let known : IsHeardIn c.args.mask.now (Some w.in-Some-heard.key) = subst (IsHeardIn c.args.mask.now) w.in-Some-heard.is c.requires in
-          ap (is_between first last) (w.key-is ∙ sym known.2) ∙ sym (range.inside known.0) ∙ told.same known.0 known.1 ∙ ap (λ o. lies_in_some o known.0) (sym c.in-Some.is) ∙ known.3
-      | in-None w ↦ let forward = range.forward in between_from first last s.key (omega (arith, w.key-is)) (omega (arith, w.key-is, forward))
-    ] in
     let heard : heard_of s ≡ c.args.heard = same_heard c.args.heard c.match-heard.key c.is_some-is_heard.result c.is_some-is_heard.ensures (λ k is. elim c.match-heard.branch [
       | in-Some-heard w ↦ w.key-is ∙ one c.args.heard w.in-Some-heard.key k w.in-Some-heard.is is
       | in-None w ↦ none c.args.heard c.match-heard.key k w.in-None.is is
     ]) in
-    let parts = between_parts first last s.key inside in
-    let from = parts.0 in
-    let to = parts.1 in
     let at_first = range.first in
     let at_last = range.last in
-    let starts : first_of s ≡ first = first_of_spot m s told.short.0 told.short.1 c.len.ensures.value (omega (arith, from, at_first)) (omega (arith, to, at_last)) ∙ sym at_first in
-    let ends : last_of s ≡ last = ap (λ n. n + (2 ^ (56 - c.len.result) - 1)) starts ∙ ap (λ l. first + (2 ^ (56 - l) - 1)) c.len.ensures.value ∙ ap (λ n. n + (2 ^ (56 - m.len) - 1)) at_first ∙ sym at_last in
+    let few : c.len.result < 256 = let bits = c.len.ensures.value in let short = told.short.1 in omega (arith, bits, short) in
+    let starts : first_of s ≡ first = div-mul-add first 256 c.len.result few in
+    let length_is : len_of s ≡ c.len.result = mod-mul-add first 256 c.len.result few in
+    let ends : last_of s ≡ last = ap (λ n. n + (2 ^ (56 - len_of s) - 1)) starts ∙ ap (λ l. first + (2 ^ (56 - l) - 1)) (length_is ∙ c.len.ensures.value) ∙ ap (λ n. n + (2 ^ (56 - m.len) - 1)) at_first ∙ sym at_last in
     let e = mask_ends m told.short.0 told.short.1 in
     let p = pow_pos (56 - m.len) in
-    let bits = c.len.ensures.value in
+    let bits : len_of s ≡ m.len = length_is ∙ c.len.ensures.value in
     let short = told.short.1 in
     let forward = range.forward in
     record {

@@ -7,20 +7,20 @@ use Rattle.vic_verdict.proofs.sweep.pass_spot.Goals.{in-Some+else-r-first, in_de
 
 pub returns-clause-order : goal.returns-clause-order
 returns-clause-order c = elim c.match-run.branch [
-  | in-Some+else-r-first w ↦ subst AreInOrder (sym (w.names-is ∙ w.rule_out.ensures)) (keep-order (mask_leaves w.in-Some.r.first w.in-Some.r.last w.in-Some.r.level) c.args.names.now c.requires.order)
+  | in-Some+else-r-first w ↦ subst AreInOrder (sym (w.names-is ∙ w.rule_out-near.ensures)) (keep-order (mask_leaves w.in-Some.r.first w.in-Some.r.last w.in-Some.r.level) c.args.names.now c.requires.order)
   | in_default w ↦ subst AreInOrder (sym w.names-is) c.requires.order
 ]
 
 pub returns-clause-leaves : goal.returns-clause-leaves
 returns-clause-leaves c =
     let leaves = subst (λ h. (k q : ℕ) → level_leaves c.of.result k q ≡ slot_leaves c.args.spot.now.at h k q) c.heard-2.ensures c.of.ensures.leaves in
-    subst (λ (r : ℕ × ℕ). keep_all (run_leaves (Some (record { first = r.0; last = r.1; level = c.of.result }))) c.match-run.names ≡ keep_all (λ k q. run_leaves c.args.run k q && spot_leaves c.args.spot.now k q) c.args.names.now) (sym c.keys-first.ensures)
+    subst (λ (r : ℕ × ℕ). keep_all (run_leaves (Some (record { first = r.0; last = r.1; level = c.of.result; near = c.match-run.near }))) c.match-run.names ≡ keep_all (λ k q. run_leaves c.args.run k q && spot_leaves c.args.spot.now k q) c.args.names.now) (sym c.keys-first.ensures)
     (elim c.match-run.branch [
       | in-Some+else-r-first w ↦
-          run_next w.in-Some.r c.args.spot.now c.of.result c.args.names.now c.match-run.names (w.names-is ∙ w.rule_out.ensures) leaves
+          run_next w.in-Some.r c.args.spot.now c.of.result c.match-run.near c.args.names.now c.match-run.names (w.names-is ∙ w.rule_out-near.ensures) leaves
           ∙ ap (λ (o : Option Run). keep_all (λ k q. run_leaves o k q && spot_leaves c.args.spot.now k q) c.args.names.now) (sym w.in-Some.is)
       | in_default w ↦
-          ap (keep_all (run_leaves (Some (record { first = first_of c.args.spot.now; last = last_of c.args.spot.now; level = c.of.result })))) w.names-is
-          ∙ (run_first c.args.spot.now c.of.result c.args.names.now leaves
+          ap (keep_all (run_leaves (Some (record { first = first_of c.args.spot.now; last = last_of c.args.spot.now; level = c.of.result; near = c.match-run.near })))) w.names-is
+          ∙ (run_first c.args.spot.now c.of.result c.match-run.near c.args.names.now leaves
           ∙ ap (λ (o : Option Run). keep_all (λ k q. run_leaves o k q && spot_leaves c.args.spot.now k q) c.args.names.now) (sym w.in_default.is))
     ])

@@ -1,5 +1,4 @@
-use Rattle.std.proofs.Common.{◌≡◌, Bool, ◌&&◌, get_or, ltb, ltb-true, ltb-false, arith, rules, sym, ap, ◌∙◌}
-use Rattle.std.proofs.lemmas.List.Sorted.{IsPartitionPoint-from_clause, IsPartitionedBy-ltb}
+use Rattle.std.proofs.Common.{◌≡◌, Bool, ◌&&◌, get_or, arith, sym, ap, ◌∙◌}
 use Rattle.vic_verdict.specs.declared.names.Name.{Name}
 use Rattle.vic_verdict.specs.Sweep.{mask_leaves}
 use Rattle.vic_verdict.proofs.Sweeping.{nobody, ruled_first, ruled_more, ruled_all, outside_below, outside_above, inside}
@@ -9,19 +8,15 @@ use Rattle.vic_verdict.proofs.sweep.rule_out.Goals.{then-name, else-name}
 pub loop-i-init : goal.loop-i-init
 loop-i-init c =
     let ns = c.args.names.now in
-    let parted = IsPartitionedBy-ltb (λ (n : Name). n.key) ns c.args.first c.requires in
-    let point = IsPartitionPoint-from_clause (λ (n : Name). ltb n.key c.args.first) _ _ c.partition_point-start.ensures.partitioned parted (λ a r q k. search rules) in
-    ruled_first (mask_leaves c.args.first c.args.last c.args.level.now) ns c.partition_point-start.result (λ k below.
-    outside_below c.args.first c.args.last c.args.level.now (get_or ns k nobody).key (get_or ns k nobody).quiet (ltb-true _ _ (point.0 k nobody (omega arith) below)))
+    ruled_first (mask_leaves c.args.first c.args.last c.args.level.now) ns c.start_near-start.result (λ k below.
+    outside_below c.args.first c.args.last c.args.level.now (get_or ns k nobody).key (get_or ns k nobody).quiet (c.start_near-start.ensures.below k nobody below))
 
 pub loop-i-preserved : goal.loop-i-preserved
 loop-i-preserved c =
     let n = get_or c.loop-i.names c.loop-i.i nobody in
     let p = mask_leaves c.args.first c.args.last c.args.level.now in
     let same : n ≡ get_or c.args.names.now c.loop-i.i nobody = c.loop-i.invariant.rest c.loop-i.i (omega arith) in
-    let parted = IsPartitionedBy-ltb (λ (n : Name). n.key) c.args.names.now c.args.first c.requires in
-    let point = IsPartitionPoint-from_clause (λ (n : Name). ltb n.key c.args.first) _ _ c.partition_point-start.ensures.partitioned parted (λ a r q k. search rules) in
-    let from = ltb-false _ _ (point.1 c.loop-i.i nobody c.loop-i.auto.i c.loop-i-test.true) in
+    let from = c.start_near-start.ensures.rest c.loop-i.i nobody c.loop-i.auto.i c.loop-i-test.true in
     let key = ap (λ (m : Name). m.key) same in
     let in_mask = inside c.args.first c.args.last c.args.level.now n.key n.quiet (omega (arith, from, key)) c.if-last-name.false in
     let left : c.if-name.names ≡ (n.left && p n.key n.quiet) = elim c.if-name.branch [
