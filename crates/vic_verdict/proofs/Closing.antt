@@ -1,20 +1,16 @@
 -- The names between two keys, and which keys some slots close.
-use Rattle.std.proofs.Common.{◌≡◌, ℕ, ◌+◌, ◌-◌, ◌*◌, ◌^◌, ◌%◌, ◌<◌, ◌≤◌, ◌==◌, ◌++◌, List, [], ◌∷◌, length, take, drop, get_or, Bool, true, false, not, ◌&&◌, ◌||◌, refl, sym, ap, ◌∙◌, subst, arith, ⊎_elim}
+use Rattle.std.proofs.Common.{◌≡◌, ℕ, ◌+◌, ◌-◌, ◌<◌, ◌≤◌, ◌==◌, ◌++◌, List, [], ◌∷◌, length, take, drop, get_or, Bool, true, false, not, ◌&&◌, ◌||◌, refl, sym, ap, ◌∙◌, subst, arith, ⊎_elim}
 use Rattle.std.specs.Prelude.{nat_le, nat_lt}
 use Rattle.std.specs.List.{All}
 use Rattle.std.proofs.lemmas.Bool.{and_parts, and_from, cases_eq, cases_lt, eq-eqb, eqb-true, false_from_ne_true, false≢true}
 use Rattle.std.proofs.lemmas.Bool.Decides.{nat_tests}
 use Rattle.std.proofs.lemmas.List.{drop-take, get_or-drop, get_or-take, get_or_default, length-drop, length-take-le, take-append-drop, take-take}
 use Rattle.std.proofs.lemmas.List.Folds.{list_any-append, list_any_at, list_any_more, Any-from_list_any}
-use Rattle.std.proofs.lemmas.Nat.{mod-mul-add, pow_pos}
-use Rattle.vic_frame.specs.Masks.{BitMask, IsMask}
-use Rattle.vic_frame.specs.LowBitsFirst.{mirror, mirror_bits}
-use Rattle.vic_tree.proofs.BlockLaws.{number_of_mask}
 use Rattle.vic_verdict.specs.declared.names.Name.{Name}
 use Rattle.vic_tree.specs.Ranges.{in_ranges}
 use Rattle.vic_verdict.specs.Closed.{Closes, is_in_some}
 use Rattle.vic_verdict.specs.declared.closed.Spot.{Spot}
-use Rattle.vic_verdict.specs.Sweep.{AreInOrder, first_of, has_where, has_left, is_between, is_in}
+use Rattle.vic_verdict.specs.Sweep.{AreInOrder, has_where, has_left, is_between, is_in}
 use Rattle.vic_verdict.proofs.Sweeping.{all_cover, between_parts, nobody, where_above, where_below}
 use Rattle.vic_tree.proofs.BoolLaws.{lt_yes, or_false}
 
