@@ -50,7 +50,7 @@ enum vicinity_kind {
     VICINITY_COMPLETE = 1, /* the list is whole, and `count` long; status 0 */
     VICINITY_ABSENT = 2, /* the listed `uid` can't be there; status 1 */
     VICINITY_UNLISTED = 3, /* `uid` must be there and isn't listed; status 1 */
-    VICINITY_UNSETTLED = 4, /* UIDs whose `mask_len` low bits are `mask_value` may be there, unlisted; status 1 */
+    VICINITY_UNSETTLED = 4, /* UIDs of the mask may be there, unlisted; status 1 */
     VICINITY_DOUBTFUL = 5, /* the listed `uid` may be missing; status 1 */
     VICINITY_IMPOSSIBLE = 6, /* no tags could have given the log up to `line`; status 2 */
     VICINITY_REFUSED = 7 /* the text is no log: `line` has `fault`; status 3 */
@@ -117,10 +117,10 @@ enum vicinity_finding_kind {
     VICINITY_FINDING_UNLISTED = 3, /* `uid` must be there and isn't listed: `line` tells of it */
     VICINITY_FINDING_UNSETTLED = 4, /* UIDs of the mask may be there, unlisted */
     VICINITY_FINDING_DOUBTFUL = 5, /* the listed `uid` may be missing */
-    VICINITY_FINDING_OPEN_MASK = 8, /* each UID of the mask may be there and may be missing: ask for it */
-    VICINITY_FINDING_MORE_OPEN_MASKS = 9, /* there are more open masks than the sixteen that are given */
+    VICINITY_FINDING_OPEN_MASK = 8, /* each UID of the mask may be there or missing */
+    VICINITY_FINDING_MORE_OPEN_MASKS = 9, /* of the open masks sixteen are given */
     VICINITY_FINDING_CONFLICT_LINE = 10, /* no tags fit all of these lines of an impossible log */
-    VICINITY_FINDING_SILENCED_BY = 11 /* `line` silenced the tag that replies in the conflict's last line */
+    VICINITY_FINDING_SILENCED_BY = 11 /* `line` silenced the tag that replies last */
 };
 
 /* A finding of a report. What the kind does not speak of is 0. */
@@ -294,9 +294,9 @@ uint32_t vicinity_slot_mask(uint32_t slots, uint32_t mask_len, uint64_t mask_val
                             struct vicinity_mask *mask);
 
 /*
- * Writes a line of a log. `letter` says which: 'T' or 'R' with the frame's `bytes`, at most 63, which
- * aren't judged; 'U' with `uid`; 'S', 'C', 'D' or 'F' alone. What the letter doesn't speak of isn't
- * looked at.
+ * Writes a line of a log. `letter` says which: 'T' or 'R' with the frame's `bytes`, at most 63,
+ * which aren't judged; 'U' with `uid`; 'S', 'C', 'D' or 'F' alone. What the letter doesn't speak of
+ * isn't looked at.
  */
 uint32_t vicinity_write_line(uint8_t letter, const uint8_t *bytes, size_t len, uint64_t uid,
                              struct vicinity_line *line);
