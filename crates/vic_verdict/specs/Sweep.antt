@@ -8,7 +8,7 @@ use Rattle.vic_frame.specs.LowBitsFirst.{IsKey}
 use Rattle.vic_tree.specs.Ranges.{IsKeyRange}
 use Rattle.vic_verdict.specs.declared.names.Name.{Name}
 use Rattle.vic_verdict.specs.declared.closed.Spot.{Spot}
-use Rattle.vic_verdict.specs.declared.level.Level.{Level}
+use Rattle.vic_verdict.specs.declared.sweep.Level.{Level}
 use Rattle.vic_verdict.specs.declared.sweep.Run.{Run}
 
 -- the key was heard

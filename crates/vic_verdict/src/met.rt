@@ -12,8 +12,7 @@ ghost use Rattle.vic_verdict.specs.Demands.{AreFound, IsMet, HasHeard};
 
 use crate::demands::{Found, Met, meet_stretch, note_asked};
 use crate::missing::are_open;
-use crate::possible::Contradiction;
-use crate::stretches::settle_all;
+use crate::stretches::{Contradiction, settle_all};
 use std::alloc::{AllocError, Global};
 use vic_frame::Uid;
 use vic_log::{Entry, PackedLine, RoundCursor};

@@ -12,20 +12,38 @@ ghost use Rattle.vic_log.specs.declared.entry.Entry.{Entry as EntryValue};
 ghost use Rattle.vic_log.specs.declared.entry.Entry.TheVariants.{FieldCycle, Sent};
 ghost use Rattle.vic_verdict.specs.declared.closed.Spot.{Spot as SpotValue};
 ghost use Rattle.vic_log.specs.Rounds.{mask_at, lies_in_some};
-ghost use Rattle.vic_verdict.specs.Possible.{IsContradictedAt};
+ghost use Rattle.vic_verdict.specs.Possible.{IsPossible, IsContradictedAt};
 ghost use Rattle.vic_verdict.specs.Replies.{RepliesAnswer, AreHeard};
 ghost use Rattle.vic_verdict.specs.Silenced.{TellsQuiet};
 ghost use Rattle.vic_verdict.specs.Stretches.{AddsSpot, IsHeardIn, IsStretch};
 
 use crate::closed::{LENGTHS, Spot};
 use crate::names::{Name, push_name};
-use crate::possible::Contradiction;
 use crate::sweep::settle_stretch;
 use std::alloc::{AllocError, Global};
 use vic_frame::low_bits_first::{key, key_range};
 use vic_frame::{Mask, Request, Uid, without_top_byte};
 use vic_log::{Entry, PackedLine, RoundCursor};
 use vic_tree::{KeyRange, OpenSet};
+
+/// The place of a line of a log, counted from 0, up to which no population could have given it.
+/// Earlier ones may do as well.
+#[derive(Clone, Copy)]
+pub struct Contradiction {
+    pub at: usize,
+}
+
+impl Contradiction {
+    /// The last line.
+    pub(crate) fn at_end(lines: &[PackedLine]) -> Contradiction
+        requires { IsPossible (entries lines.now) → ⊥ }
+        ensures { IsContradictedAt (entries lines.now) result.at }
+    {
+        Contradiction {
+            at: lines.len() - 1,
+        }
+    }
+}
 
 /// Adds a slot, unless no UID lies in its mask.
 fn push_spot(

@@ -12,14 +12,81 @@ ghost use Rattle.vic_tree.specs.OpenSet.{SameUids};
 ghost use Rattle.vic_tree.specs.Ranges.{is_outside};
 ghost use Rattle.vic_verdict.specs.Replies.{AreReady, IsQuietReply};
 ghost use Rattle.vic_verdict.specs.Verdict.{IsLeast};
-ghost use Rattle.vic_verdict.specs.Sweep.{spot_leaves, all_leave, mask_leaves, run_leaves, IsLevel, keep_all, all_allow, are_left, all_hear_named, HasRange, AreInOrder};
+ghost use Rattle.vic_verdict.specs.Sweep.{slot_leaves, level_leaves, spot_leaves, all_leave, mask_leaves, run_leaves, IsLevel, keep_all, all_allow, are_left, all_hear_named, HasRange, AreInOrder};
 
 use crate::closed::{Spot, close_spots};
-use crate::level::Level;
-use crate::names::{Name, start_near};
-use crate::replies::first_quiet_reply;
+use crate::names::{Name, first_quiet_reply, start_near};
 use std::alloc::AllocError;
 use vic_tree::KeyRange;
+
+/// The slots of one mask: the place of the first one, whom it heard, and the place of the first one
+/// that heard another, or nobody in place of somebody.
+#[derive(Clone, Copy)]
+pub(crate) struct Level {
+    pub line: usize,
+    pub heard: Option<u64>,
+    pub other: Option<usize>,
+}
+
+impl Level {
+    /// One slot.
+    pub(crate) fn of(at: usize, heard: Option<u64>) -> Level
+        ensures level { IsLevel result }
+        ensures leaves { (k q : ℕ) → level_leaves result k q ≡ slot_leaves at heard k q }
+    {
+        Level {
+            line: at,
+            heard,
+            other: None,
+        }
+    }
+
+    /// With one slot more.
+    pub(crate) fn with(&self, at: usize, heard: Option<u64>) -> Level
+        requires { IsLevel self.now }
+        ensures level { IsLevel result }
+        ensures leaves { (k q : ℕ) → level_leaves result k q
+            ≡ (level_leaves self.now k q && slot_leaves at heard k q) }
+    {
+        if heard == self.heard {
+            Level {
+                line: self.line.min(at),
+                heard,
+                other: self.other,
+            }
+        } else if at < self.line {
+            Level {
+                line: at,
+                heard,
+                other: Some(self.line),
+            }
+        } else {
+            let other = match self.other {
+                Some(other) => other.min(at),
+                None => at,
+            };
+            Level {
+                line: self.line,
+                heard: self.heard,
+                other: Some(other),
+            }
+        }
+    }
+
+    /// Whether a key that is Quiet after a place is left.
+    pub(crate) fn leaves(&self, key: u64, quiet: usize) -> bool
+        ensures { result ≡ level_leaves self.now key quiet }
+    {
+        if self.heard == Some(key) {
+            match self.other {
+                Some(other) => quiet < other,
+                None => true,
+            }
+        } else {
+            quiet < self.line
+        }
+    }
+}
 
 /// Slots of one mask, one after another.
 #[derive(Clone, Copy)]

@@ -1,6 +1,6 @@
 use Rattle.std.proofs.Common.{arith}
 use Rattle.vic_verdict.proofs.Halving.{some_line, contradicted_end}
-use Rattle.vic_verdict.proofs.possible.Contradiction.at_end.Goals as goal
+use Rattle.vic_verdict.proofs.stretches.Contradiction.at_end.Goals as goal
 
 pub returns : goal.returns
 returns c =

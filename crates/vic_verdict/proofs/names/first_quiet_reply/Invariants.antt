@@ -1,5 +1,5 @@
 use Rattle.vic_verdict.proofs.Replying.{IsHead, IsFoundTo}
-use Rattle.vic_verdict.proofs.replies.first_quiet_reply.Given as goal
+use Rattle.vic_verdict.proofs.names.first_quiet_reply.Given as goal
 
 abbrev pub invariant-loop-i : goal.invariant-loop-i
 invariant-loop-i l = record {

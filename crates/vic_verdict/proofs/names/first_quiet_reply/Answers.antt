@@ -2,8 +2,8 @@ use Rattle.std.proofs.Common.{◌+◌, None, sym, subst, arith, ◌≡◌, ◌�
 use Rattle.std.specs.Prelude.{MatchOption}
 use Rattle.vic_verdict.specs.Replies.{IsEarlier}
 use Rattle.vic_verdict.proofs.Replying.{at, IsHead, head_anew, head_still, found_more, found_all}
-use Rattle.vic_verdict.proofs.replies.first_quiet_reply.Goals as goal
-use Rattle.vic_verdict.proofs.replies.first_quiet_reply.Goals.{then-names-head, else-names-head}
+use Rattle.vic_verdict.proofs.names.first_quiet_reply.Goals as goal
+use Rattle.vic_verdict.proofs.names.first_quiet_reply.Goals.{then-names-head, else-names-head}
 
 pub loop-i-preserved : goal.loop-i-preserved
 loop-i-preserved c =
