@@ -114,6 +114,22 @@ fn widest_besides<S: OpenSet>(
     Ok(())
 }
 
+/// Asks a set which of the UIDs at some keys aren't in it.
+fn misses<S: OpenSet>(
+    rt: &impl Abort,
+    set: &S,
+    alloc: Global,
+    keys: &[u64],
+    expected: &[Uid],
+) -> Result<(), Fail>
+    requires order { IsNonDecreasing keys.now }
+    requires keys { AreKeys keys.now }
+{
+    let outside = set.uids_outside(alloc, keys)?;
+    assert!(rt; outside.as_slice() == expected);
+    Ok(())
+}
+
 fn one_after_another<S: OpenSet>(rt: &impl Abort, alloc: Global) -> Result<(), Fail> {
     let a = uid(A)?;
     let all = mask(0, 0)?;
@@ -194,6 +210,23 @@ fn besides_all_keys<S: OpenSet>(rt: &impl Abort, alloc: Global) -> Result<(), Fa
     widest_besides(rt, first_two::<S>(alloc)?, &[0, 1], None)
 }
 
+fn outside_at_some_keys<S: OpenSet>(rt: &impl Abort, alloc: Global) -> Result<(), Fail> {
+    let (a, third) = (uid(A)?, uid(Z + (1 << 54))?);
+    let pair = first_two::<S>(alloc)?;
+    misses(rt, &pair, alloc, &[], &[])?;
+    misses(rt, &pair, alloc, &[0, 1, 1], &[])?;
+    misses(rt, &pair, alloc, &[0, 2, 2, KEY_OF_A], &[a, third])?;
+    let upper = all_but::<S>(alloc, 1, 0)?;
+    misses(
+        rt,
+        &upper,
+        alloc,
+        &[HALF - 1, HALF, KEY_OF_A, LAST],
+        &[uid(Z + (LAST - 1))?],
+    )?;
+    misses(rt, &all_but::<S>(alloc, 0, 0)?, alloc, &[1], &[uid(Y)?])
+}
+
 fn without_one_range<S: OpenSet>(rt: &impl Abort, alloc: Global) -> Result<(), Fail> {
     widest(rt, &S::without(alloc, Vec::new(alloc))?, Mask::new(0, 0));
     let whole = S::without(alloc, vec![in alloc; KeyRange::new(0, LAST)]?)?;
@@ -234,6 +267,7 @@ fn calls<S: OpenSet>(rt: &impl Abort, alloc: Global) -> Result<(), Fail> {
     one_mask::<S>(rt, alloc)?;
     long_masks::<S>(rt, alloc)?;
     besides_some_keys::<S>(rt, alloc)?;
+    outside_at_some_keys::<S>(rt, alloc)?;
     besides_a_far_key::<S>(rt, alloc)?;
     besides_all_keys::<S>(rt, alloc)?;
     without_one_range::<S>(rt, alloc)?;
@@ -406,6 +440,9 @@ fn list_tree_and_ranges_agree(rt: HostRuntime) -> Result<(), Fail> {
     }
     let keys = [0, 1 << 20, 1 << 55, (1 << UID_BITS) - 1];
     let (list, tree, ranges) = sets;
+    let outside = list.uids_outside(alloc, &keys)?;
+    misses(&rt, &tree, alloc, &keys, &outside)?;
+    misses(&rt, &ranges, alloc, &keys, &outside)?;
     let expected = list.widest_besides(&keys)?;
     widest_besides(&rt, tree, &keys, expected)?;
     widest_besides(&rt, ranges, &keys, expected)
