@@ -44,10 +44,16 @@ pub(crate) fn find_conflict<S: OpenSet>(
     ensures { IfOk result (IsConflict lines.now) }
 {
     let line = first_impossible_line::<S>(alloc, lines, contradiction)?;
+    let silenced_by = silencer_of(lines, line);
+    let guess = match silenced_by {
+        // a reply of a tag that is Quiet needs no other line
+        Some(_) => vec![in alloc; line]?,
+        None => guess_conflict(alloc, lines, line)?,
+    };
     Ok(Conflict {
         line,
-        lines: lines_of_conflict::<S>(alloc, lines, line)?,
-        silenced_by: silencer_of(lines, line),
+        lines: lines_of_conflict::<S>(alloc, lines, guess, line)?,
+        silenced_by,
     })
 }
 
@@ -55,13 +61,13 @@ pub(crate) fn find_conflict<S: OpenSet>(
 fn lines_of_conflict<S: OpenSet>(
     alloc: Global,
     lines: &[PackedLine],
+    mut guess: Vec<u32>,
     last: u32,
 ) -> Result<Vec<u32>, AllocError>
     requires lines { AreFirstLines lines.now }
     requires impossible { IsVerdict lines.now (Impossible last) }
     ensures { IfOk result (λ numbers. IsConflictAt lines.now last numbers.items) }
 {
-    let mut guess = guess_conflict(alloc, lines, last)?;
     put_numbers_in_order(&mut guess);
     if is_conflict::<S>(alloc, lines, &guess, last)? {
         return Ok(guess);
