@@ -4,11 +4,11 @@ ghost use Rattle.vic_sets.specs.Cells.{in_cells};
 
 use crate::cells::{gather_cells, is_in, least, settled};
 use crate::cut::whole;
-use vic_tree::OpenSet;
 use arrayvec::ArrayVec;
 use std::alloc::{AllocError, Global};
 use std::marker::Model;
 use vic_frame::{Mask, Uid, without_top_byte};
+use vic_tree::OpenSet;
 
 /// A set of UIDs as a list of masks, the plain and slow way to keep one: the masks have at most 56
 /// bits, no UID lies in two of them, and no two are the halves of one mask.

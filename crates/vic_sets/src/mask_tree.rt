@@ -8,11 +8,11 @@ ghost use Rattle.vic_sets.specs.Nodes.{open_at, height, IsReduced};
 
 use crate::node::{Node, below, fill, is_open_at};
 use crate::node_queries::{gather_open, widest_below};
-use vic_tree::OpenSet;
 use arrayvec::ArrayVec;
 use std::alloc::{AllocError, Global};
 use std::marker::Model;
 use vic_frame::{Mask, UID_BITS, Uid, without_top_byte};
+use vic_tree::OpenSet;
 
 /// A set of UIDs as a tree that asks for their low 56 bits, the lowest first. No fork of it has two
 /// equal leaves, and it is at most 56 forks deep. To settle a mask takes a step for each of its
