@@ -1,6 +1,6 @@
 -- What meets the demands of a stretch.
 use Rattle.std.proofs.Common.{◌≡◌, ℕ, zero, suc, ◌+◌, ◌<◌, ◌≤◌, ◌++◌, List, [], ◌∷◌, length, take, get_or, length-append, Bool, true, false, not, ◌&&◌, Option, Some, None, refl, sym, ap, ◌∙◌, subst, arith, inl, inr, ⊎_elim}
-use Rattle.std.specs.Prelude.{◌⊎◌, slice_get}
+use Rattle.std.specs.Prelude.{◌⊎◌, IfSome, slice_get}
 use Rattle.std.specs.List.{All, Any, list_all, list_any, sum_by}
 use Rattle.std.specs.List.Sorted.{IsPermutation}
 use Rattle.std.proofs.lemmas.Bool.{cases_eq, and_parts, and_from, or_cases, or_left, or_right, both_ways, false≢true, eqb-true}
@@ -20,19 +20,19 @@ use Rattle.vic_log.specs.declared.entry.Entry.TheVariants.{Sent, Silent, Collisi
 use Rattle.vic_log.specs.Rounds.{mask_at, lies_in_some}
 use Rattle.vic_log.specs.Quiet.{silences, wakes}
 use Rattle.vic_log.specs.Populations.{answers_at}
-use Rattle.vic_log.specs.Slots.{allows, slots_of, is_open}
+use Rattle.vic_log.specs.Slots.{ManyReplies, SomeReply, allows, slots_of, is_open}
 use Rattle.vic_log.proofs.Supply.{IsUid-from}
 use Rattle.vic_verdict.specs.declared.demands.Demand.{Demand}
 use Rattle.vic_verdict.specs.declared.demands.Found.{Found}
 use Rattle.vic_verdict.specs.declared.names.Name.{Name}
-use Rattle.vic_verdict.specs.Possible.{IsPossible}
+use Rattle.vic_verdict.specs.Possible.{Lacks}
 use Rattle.vic_verdict.specs.Places.{answering}
 use Rattle.vic_verdict.specs.Sweep.{is_silenced}
 use Rattle.vic_verdict.specs.Silenced.{TellsQuiet}
-use Rattle.vic_verdict.specs.Demands.{needs, needs_of, needs_at, all_needs, IsFoundAt, IsFound, Meets, IsDemand, is_ready, IsSaidBy, IsAskedAgain, AreMet, AreAsked, AreFound}
+use Rattle.vic_verdict.specs.Demands.{needs, needs_of, needs_at, all_needs, IsFoundAt, IsFound, Meets, IsDemand, is_ready, IsUnmet, IsUnmetAt, IsSaidBy, IsAskedAgain, AreMet, AreAsked, AreFound}
 use Rattle.vic_verdict.proofs.Silencing.{silenced_later, tells_first, tells_anew, tells_passed}
 use Rattle.vic_verdict.proofs.Entries.{asks_two_iff, asks_one_iff}
-use Rattle.vic_verdict.proofs.Supplied.{UpToThree-same, supplied_each}
+use Rattle.vic_verdict.proofs.Supplied.{UpToThree-same}
 
 -- ---- who answers, by the names
 
@@ -139,13 +139,31 @@ asked_two_or_one (Some (Sent q)) n e lt = absurd (omega (arith, e, lt))
 asked_two_or_one (Some (Listed u)) n e lt = absurd (omega (arith, e, lt))
 asked_two_or_one (Some FieldCycle) n e lt = absurd (omega (arith, e, lt))
 
-pub unmet : (es : List Entry) (from i : ℕ) (set : ℕ → Bool) (ns : List Name) (d : Demand) (us : List ℕ) → SameUids set (is_open (slots_of es)) → TellsQuiet es from i ns → IsDemand es from i d → UpToThree (ready_of set ns d) us → length us < d.need → IsPossible es → ⊥
-unmet es from i set ns d us same t h found few possible =
+lacks_by : (es : List Entry) (from i : ℕ) (set : ℕ → Bool) (ns : List Name) (d : Demand) (us : List ℕ) → SameUids set (is_open (slots_of es)) → TellsQuiet es from i ns → IsDemand es from i d → UpToThree (ready_of set ns d) us → length us < d.need → Lacks es d.at
+lacks_by es from i set ns d us same t h found few =
     let all = found_answers es from i set ns d us same t h found in
     ⊎_elim
-    (λ w. let n = (asks_two_iff _ us all).0 (supplied_each es d.at Collision w.0 possible) in let two = w.1 in omega (arith, n, two, few))
-    (λ w. let n = (asks_one_iff _ us all).0 (supplied_each es d.at Garbled w.0 possible) in let one = w.1 in omega (arith, n, one, few))
+    (λ w. (Collision, ManyReplies, w.0, refl, λ a. let n = (asks_two_iff _ us all).0 a in let two = w.1 in omega (arith, n, two, few)))
+    (λ w. (Garbled, SomeReply, w.0, refl, λ a. let n = (asks_one_iff _ us all).0 a in let one = w.1 in omega (arith, n, one, few)))
     (asked_two_or_one (slice_get es d.at) d.need h.need h.asked)
+
+pub some_weaker : (o : Option ℕ) (P Q : ℕ → Type 0) → ((x : ℕ) → P x → Q x) → IfSome o P → IfSome o Q
+some_weaker None P Q f h = h
+some_weaker (Some x) P Q f h = f x h
+
+-- what an option is said to hold is so of what it holds
+pub some_is : (o : Option ℕ) (P : ℕ → Type 0) (x : ℕ) → o ≡ Some x → IfSome o P → P x
+some_is o P x e h = subst (λ (r : Option ℕ). IfSome r P) e h
+
+pub none_is : (o : Option ℕ) → ((x : ℕ) → o ≡ Some x → ⊥) → o ≡ None
+none_is None h = refl
+none_is (Some x) h = absurd (h x refl)
+
+pub unmet_lacks : (es : List Entry) (from i : ℕ) (set : ℕ → Bool) (ns : List Name) (ds : List Demand) (at : ℕ) → SameUids set (is_open (slots_of es)) → TellsQuiet es from i ns → All (IsDemand es from i) ds → IsUnmetAt set ns ds at → Lacks es at
+unmet_lacks es from i set ns ds at same t h w =
+    let d : Demand = w.1 in
+    let unmet : IsUnmet set ns d = w.4.1 in
+    subst (Lacks es) w.4.0 (lacks_by es from i set ns d unmet.0 same t (subst (IsDemand es from i) w.3 (h w.0 d w.2)) unmet.2 unmet.1)
 
 -- ---- one demand after another
 

@@ -38,7 +38,7 @@ and_swap true false true = refl
 and_swap true false false = refl
 and_swap false y z = refl
 
-open_reading : (answers : ℕ → Bool) (e : Entry) (slots : List Slot) (u : ℕ) → is_open (with_entry answers (Some e) slots) u ≡ (is_open slots u && entry_allows (reading_of e) (answers u) u)
+pub open_reading : (answers : ℕ → Bool) (e : Entry) (slots : List Slot) (u : ℕ) → is_open (with_entry answers (Some e) slots) u ≡ (is_open slots u && entry_allows (reading_of e) (answers u) u)
 open_reading answers (Sent q) slots u = sym (and_true (is_open slots u))
 open_reading answers Silent slots u = and_swap (is_uid u) (may_be NoReply (answers u) u) (list_all (allows u) slots)
 open_reading answers Collision slots u = sym (and_true (is_open slots u))

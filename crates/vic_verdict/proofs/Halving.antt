@@ -2,7 +2,7 @@
 use Rattle.std.proofs.Common.{◌≡◌, ℕ, zero, suc, ◌+◌, ◌<◌, ◌≤◌, List, [], ◌∷◌, ◌++◌, Some, length, take, drop, refl, sym, ap, ◌∙◌, subst, arith, ⊎_elim}
 use Rattle.std.specs.Prelude.{slice_get}
 use Rattle.std.proofs.lemmas.Bool.{cases_lt}
-use Rattle.std.proofs.lemmas.List.{take-append-drop, take-map, take_all, length-map, length-take}
+use Rattle.std.proofs.lemmas.List.{take-append-drop, take-map, length-map, length-take}
 use Rattle.vic_log.specs.declared.entry.Entry.TheVariants.{Sent}
 use Rattle.vic_log.specs.declared.entry.LogLine.{LogLine}
 use Rattle.vic_verdict.specs.Possible.{IsPossible, IsContradictedAt}
@@ -90,18 +90,4 @@ between_earlier lines low high count i lt h b =
       within = let within = b.within in omega (arith, below, lt, within);
       possible = b.possible;
       impossible = impossible;
-    }
-
--- ---- a contradiction of all lines
-
-pub some_line : (lines : List LogLine) → (IsPossible (entries lines) → ⊥) → 0 < length lines
-some_line [] h = absurd (h nothing_possible)
-some_line (l ∷ lines) h = omega arith
-
-pub contradicted_end : (lines : List LogLine) (i : ℕ) → i + 1 ≡ length lines → (IsPossible (entries lines) → ⊥) → IsContradictedAt (entries lines) i
-contradicted_end lines i last h =
-    let long = length-map lines (λ (l : LogLine). l.item) in
-    record {
-      within = omega (arith, long, last);
-      impossible = λ p. h (subst IsPossible (take_all (i + 1) (entries lines) (omega (arith, long, last))) p);
     }

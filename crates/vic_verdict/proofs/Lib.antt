@@ -9,6 +9,7 @@ pub mod Entries
 pub mod Stands
 pub mod FirstLine
 pub mod Supplied
+pub mod Lacking
 pub mod Halving
 pub mod Inserted
 pub mod Failing

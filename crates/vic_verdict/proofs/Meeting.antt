@@ -1,8 +1,8 @@
 -- What is met makes a log possible, and UIDs certain.
-use Rattle.std.proofs.Common.{◌≡◌, ℕ, zero, suc, ◌+◌, ◌<◌, ◌≤◌, ◌++◌, List, [], ◌∷◌, length, get_or, Bool, true, Some, refl, sym, ap, ◌∙◌, subst, arith, inl, inr, ⊎_elim}
+use Rattle.std.proofs.Common.{◌≡◌, ℕ, zero, suc, ◌+◌, ◌<◌, ◌≤◌, ◌++◌, List, [], ◌∷◌, length, get_or, Bool, true, false, ◌&&◌, Some, refl, sym, ap, ◌∙◌, subst, arith, inl, inr, ⊎_elim}
 use Rattle.std.specs.Prelude.{◌⊎◌, ◌↔◌, nat_eq, slice_get}
 use Rattle.std.specs.List.{Any, list_all}
-use Rattle.std.proofs.lemmas.Bool.{cases_eq, and_parts, and_from, both_ways, false≢true, or_cases, or_left, or_right}
+use Rattle.std.proofs.lemmas.Bool.{cases_Bool, cases_eq, cases_lt, and_parts, and_from, both_ways, false≢true, or_cases, or_left, or_right}
 use Rattle.std.proofs.lemmas.Option.{slice_get_within}
 use Rattle.std.proofs.lemmas.List.{get_or_default}
 use Rattle.std.proofs.lemmas.List.Folds.{list_any-append}
@@ -12,19 +12,19 @@ use Rattle.vic_tree.specs.OpenSet.{SameUids}
 use Rattle.vic_log.specs.declared.entry.Entry.{Entry}
 use Rattle.vic_log.specs.declared.entry.Entry.TheVariants.{Sent, Silent, Collision, Heard, Listed, Garbled, FieldCycle}
 use Rattle.vic_log.specs.Populations.{answers_at}
-use Rattle.vic_log.specs.Slots.{ManyReplies, SomeReply, reading_of, slots_before, slots_of, is_open, Asks, Forces, IsForcedBy}
+use Rattle.vic_log.specs.Slots.{OneReply, ManyReplies, SomeReply, reading_of, slots_before, slots_of, is_open, Asks, Forces, IsForcedBy}
 use Rattle.vic_log.proofs.Supply.{IsUid-from}
 use Rattle.vic_log.proofs.Sets.{has_here, has_at, has_there, has_cases}
 use Rattle.vic_verdict.specs.declared.demands.Found.{Found}
 use Rattle.vic_verdict.specs.declared.demands.Met.{Met}
-use Rattle.vic_verdict.specs.Possible.{IsPossible}
+use Rattle.vic_verdict.specs.Possible.{IsPossible, Lacks, IsSettledAt}
 use Rattle.vic_verdict.specs.Places.{answering}
 use Rattle.vic_verdict.specs.Replies.{RepliesAnswer}
 use Rattle.vic_verdict.specs.Demands.{needs_of, needs_at, HasHeard, IsFoundAt, IsFound, Meets, AreFound, IsMet}
 use Rattle.vic_verdict.proofs.Entries.{EntryAsks, EntryForces, forced_step, forces_two_iff, forces_one_iff, three_in_two}
 use Rattle.vic_verdict.proofs.Demanding.{asked_two_or_one}
 use Rattle.vic_verdict.specs.Rising.{Adds}
-use Rattle.vic_verdict.proofs.Supplied.{supplied_all, supplied_each}
+use Rattle.vic_verdict.proofs.Supplied.{supplied_all}
 
 -- ---- who was heard
 
@@ -69,23 +69,41 @@ heard_pushed es i us vs r v k is all h = subst (HasHeard es (i + 1)) (sym all) (
 
 -- ---- whether they are open
 
-all_from : (p : ℕ → Bool) (us : List ℕ) → ((u : ℕ) → has us u ≡ true → p u ≡ true) → list_all p us ≡ true
-all_from p [] h = refl
-all_from p (x ∷ us) h = and_from _ _ (h x (has_here x us)) (all_from p us (λ u k. h u (has_there u x us k)))
-
 all_has : (p : ℕ → Bool) (us : List ℕ) (u : ℕ) → list_all p us ≡ true → has us u ≡ true → p u ≡ true
 all_has p [] u h k = absurd (false≢true k)
 all_has p (x ∷ us) u h k =
     let w = and_parts _ _ h in
     ⊎_elim (λ e. subst (λ y. p y ≡ true) (sym e) w.0) (λ m. all_has p us u w.1 m) (has_cases u x us k)
 
--- of a possible log all that were heard are open
-pub heard_open : (es : List Entry) (n : ℕ) (set : ℕ → Bool) (us : List ℕ) → SameUids set (is_open (slots_of es)) → HasHeard es n us → IsPossible es → list_all set us ≡ true
-heard_open es n set us same h possible = all_from set us (λ u k.
-    let w = (h u).0 k in
-    let asks : answering (is_open (slots_of es)) es w.0 w.1.uid ≡ true = supplied_each es w.0 (Heard w.1) w.3 possible in
-    let open_uid : is_open (slots_of es) u ≡ true = subst (λ v. is_open (slots_of es) v ≡ true) w.4 (and_parts (is_open (slots_of es) w.1.uid) _ asks).0 in
-    same u (IsUid-from u (and_parts (is_uid u) _ open_uid).0) ∙ open_uid)
+not_all : (p : ℕ → Bool) (us : List ℕ) → list_all p us ≡ false → (u : ℕ) × (has us u ≡ true) × (p u ≡ false)
+not_all p [] h = absurd (both_ways _ h refl)
+not_all p (x ∷ us) h = ⊎_elim
+    (λ yes. let w = not_all p us (sym (ap (λ b. b && list_all p us) yes) ∙ h) in (w.0, has_there w.0 x us w.1, w.2))
+    (λ out. (x, has_here x us, out))
+    (cases_Bool (p x))
+
+-- some slot heard a UID that isn't open
+abbrev pub LacksHeard : List Entry → Type 0
+LacksHeard es = (i : ℕ) × Lacks es i × ((c : ℕ) → IsSettledAt es c → i ≤ c)
+
+-- where not all that were heard are open
+pub heard_lacks : (es : List Entry) (n : ℕ) (set : ℕ → Bool) (us : List ℕ) → SameUids set (is_open (slots_of es)) → HasHeard es n us → list_all set us ≡ false → LacksHeard es
+heard_lacks es n set us same h some =
+    let w = not_all set us some in
+    let at = (h w.0).0 w.1 in
+    let r : Reply = at.1 in (
+      at.0,
+      (
+        Heard r,
+        OneReply r.uid,
+        at.3,
+        refl,
+        λ asks.
+            let open_uid : is_open (slots_of es) w.0 ≡ true = subst (λ v. is_open (slots_of es) v ≡ true) at.4 (and_parts (is_open (slots_of es) r.uid) _ asks).0 in
+            both_ways _ w.2 (same w.0 (IsUid-from w.0 (and_parts (is_uid w.0) _ open_uid).0) ∙ open_uid),
+      ),
+      λ c settled. ⊎_elim (λ below. absurd (both_ways _ (settled at.0 (Heard r) below at.3) refl)) (λ upto. upto) (cases_lt c at.0),
+    )
 
 -- ---- what makes a log possible
 

@@ -1,7 +1,7 @@
 -- What the slot lines of a log ask for, and which open UIDs meet it.
 use Rattle.std.specs.Prelude.{◌≡◌, ◌↔◌, ◌⊎◌, ℕ, ◌+◌, ◌<◌, ◌≤◌, Bool, true, not, ◌&&◌, Option, Some, None, List, length, take, slice_get, slice_index_or}
 use Rattle.std.specs.List.{All, Any, sum_by}
-use Rattle.vic_frame.specs.Uids.{has}
+use Rattle.vic_frame.specs.Uids.{is_uid, has}
 use Rattle.vic_frame.specs.Replies.{Reply}
 use Rattle.vic_tree.specs.OpenSet.{UpToThree}
 use Rattle.vic_log.specs.declared.entry.Entry.{Entry}
@@ -101,6 +101,15 @@ pub record IsDemand (es : List Entry) (from i : ℕ) (d : Demand) : Type 0 where
 -- the UID answers in the slot, by the names
 abbrev pub is_ready : List Name → Demand → ℕ → Bool
 is_ready ns d u = lies_in_some d.mask u && not (is_silenced ns (mirror u) d.at)
+
+-- fewer UIDs of a set answer in the slot than it asks for, by the names
+abbrev pub IsUnmet : (ℕ → Bool) → List Name → Demand → Type 0
+IsUnmet set ns d = (us : List ℕ) × (length us < d.need)
+    × UpToThree (λ u. (is_uid u && set u) && is_ready ns d u) us
+
+-- some demand at this place is unmet
+abbrev pub IsUnmetAt : (ℕ → Bool) → List Name → List Demand → ℕ → Type 0
+IsUnmetAt set ns ds at = Any (λ (d : Demand). (d.at ≡ at) × IsUnmet set ns d) ds
 
 -- the next demand asks for as much of the same mask, no earlier
 pub record IsSaidBy (d next : Demand) : Type 0 where

@@ -1,8 +1,11 @@
 -- What a log tells of the tags in the field: whether some population could have given it, which
 -- UIDs are in some such population, and which are in every one.
-use Rattle.std.specs.Prelude.{◌≡◌, ℕ, ◌+◌, ◌<◌, true, List, length, take}
+use Rattle.std.specs.Prelude.{◌≡◌, ℕ, ◌+◌, ◌<◌, Bool, true, false, Some, List, length, take, slice_get}
 use Rattle.vic_frame.specs.Uids.{has}
 use Rattle.vic_log.specs.declared.entry.Entry.{Entry}
+use Rattle.vic_log.specs.declared.entry.Entry.TheVariants.{Sent, Silent, Collision, Heard, Listed, Garbled, FieldCycle}
+use Rattle.vic_log.specs.Slots.{Reading, reading_of, slots_of, is_open, Asks}
+use Rattle.vic_verdict.specs.Places.{answering}
 use Rattle.vic_log.specs.Populations.{IsPopulation, CouldHaveGiven}
 
 -- some population could have given the entries
@@ -21,3 +24,22 @@ IsCertainUid es u = (p : List ℕ) → IsPopulation p → CouldHaveGiven p es �
 pub record IsContradictedAt (es : List Entry) (i : ℕ) : Type 0 where
   pub within : i < length es
   pub impossible : IsPossible (take (i + 1) es) → ⊥
+
+-- fewer open UIDs could have answered at place i than its line asks for
+abbrev pub Lacks : List Entry → ℕ → Type 0
+Lacks es i = (e : Entry) × (r : Reading) × (slice_get es i ≡ Some e) × (reading_of e ≡ Some r)
+    × (Asks r (answering (is_open (slots_of es)) es i) → ⊥)
+
+-- the entry may rule UIDs out: a slot that was silent or answered by one
+abbrev pub rules_out : Entry → Bool
+rules_out Silent = true
+rules_out (Heard r) = true
+rules_out Collision = false
+rules_out Garbled = false
+rules_out (Sent q) = false
+rules_out (Listed u) = false
+rules_out FieldCycle = false
+
+-- after place i no entry may rule UIDs out
+abbrev pub IsSettledAt : List Entry → ℕ → Type 0
+IsSettledAt es i = (j : ℕ) (e : Entry) → i < j → slice_get es j ≡ Some e → rules_out e ≡ false

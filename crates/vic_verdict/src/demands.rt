@@ -4,7 +4,7 @@
 //! Between two field cycles tags only fall silent. So whoever answers in the last of some slots of
 //! one mask answered in the earlier ones too, and that one alone has to be looked at.
 
-ghost use Rattle.std.specs.Prelude.{◌≡◌, ◌≢◌, ℕ, ◌+◌, ◌<◌, ◌&&◌, ◌++◌, ◌∷◌, [], true, false, IsTrue, Some, List, IfOk, OnOk, slice_get, length};
+ghost use Rattle.std.specs.Prelude.{◌≡◌, ◌≢◌, ◌≤◌, ℕ, ◌+◌, ◌<◌, ◌&&◌, ◌++◌, ◌∷◌, [], true, Some, None, IfSome, List, IfOk, OnOk, slice_get, length};
 ghost use Rattle.std.specs.List.{All};
 ghost use Rattle.vic_frame.specs.Uids.{is_uid};
 ghost use Rattle.vic_tree.specs.OpenSet.{SameUids, UpToThree};
@@ -13,10 +13,10 @@ ghost use Rattle.vic_log.specs.declared.entry.Entry.TheVariants.{FieldCycle};
 ghost use Rattle.vic_log.specs.Rounds.{mask_at};
 ghost use Rattle.vic_log.specs.Slots.{slots_of, is_open};
 ghost use Rattle.vic_verdict.specs.declared.demands.Found.{Found as FoundValue};
-ghost use Rattle.vic_verdict.specs.Possible.{IsPossible};
+ghost use Rattle.vic_verdict.specs.Possible.{Lacks};
 ghost use Rattle.vic_verdict.specs.Sweep.{AreInOrder, HaveKeys};
 ghost use Rattle.vic_verdict.specs.Silenced.{TellsQuiet};
-ghost use Rattle.vic_verdict.specs.Demands.{IsDemand, is_ready, IsAskedAgain, AreAsked, AreMet};
+ghost use Rattle.vic_verdict.specs.Demands.{IsDemand, is_ready, IsUnmet, IsUnmetAt, IsAskedAgain, AreAsked, AreMet};
 
 use crate::names::{Name, is_any_silenced, silenced_between};
 use crate::stretches::note_sent;
@@ -157,63 +157,142 @@ fn is_asked_again(demands: &[Demand], index: usize) -> bool
     }
 }
 
-/// Finds what meets slots, and whether all of them are met.
+/// Whether fewer open UIDs answer in a slot than it asks for.
+fn is_unmet<S: OpenSet>(
+    alloc: Global,
+    set: &S,
+    names: &[Name],
+    demand: &Demand,
+) -> Result<bool, AllocError>
+    requires order { AreInOrder names.now }
+    requires keys { HaveKeys names.now }
+    ensures { IfOk result (λ yes. yes ≡ true → IsUnmet (S.is_open set.now) names.now demand.now) }
+{
+    let uids = respondents(alloc, set, names, demand)?;
+    Ok(uids.len() < demand.need)
+}
+
+/// The place of the first of some slots of one mask, from one to another, that is unmet: found by
+/// halving, since tags only fall silent.
+fn unmet_between<S: OpenSet>(
+    alloc: Global,
+    set: &S,
+    names: &[Name],
+    demands: &[Demand],
+    from: usize,
+    to: usize,
+) -> Result<Option<usize>, AllocError>
+    requires order { AreInOrder names.now }
+    requires keys { HaveKeys names.now }
+    requires within { to ≤ length demands.now }
+    ensures { IfOk result (λ at. IfSome at
+        (IsUnmetAt (S.is_open set.now) names.now demands.now)) }
+{
+    let mut first = None;
+    let mut low = from;
+    let mut high = to;
+    while low < high {
+        let middle = low + (high - low) / 2;
+        let demand = demands[middle];
+        if is_unmet(alloc, set, names, &demand)? {
+            first = Some(demand.at);
+            high = middle;
+        } else {
+            low = middle + 1;
+        }
+    }
+    Ok(first)
+}
+
+/// The place of the first unmet slot among those from one on, of which one at a place is known.
+fn first_unmet<S: OpenSet>(
+    alloc: Global,
+    set: &S,
+    names: &[Name],
+    demands: &[Demand],
+    from: usize,
+    known: usize,
+) -> Result<usize, AllocError>
+    requires order { AreInOrder names.now }
+    requires keys { HaveKeys names.now }
+    requires known { IsUnmetAt (S.is_open set.now) names.now demands.now known }
+    ensures { IfOk result (IsUnmetAt (S.is_open set.now) names.now demands.now) }
+{
+    let mut first = known;
+    let mut start = from;
+    for index in from..demands.len() {
+        if !is_asked_again(demands, index) {
+            let unmet = unmet_between(alloc, set, names, demands, start, index + 1)?;
+            if let Some(at) = unmet {
+                if at < first {
+                    first = at;
+                }
+            }
+            start = index + 1;
+        }
+    }
+    Ok(first)
+}
+
+/// Finds what meets slots, unless one is unmet: the place of the first one that is.
 fn meet_each<S: OpenSet>(
     alloc: Global,
     set: &S,
     names: &[Name],
     demands: &[Demand],
     found: &mut Vec<Found>,
-) -> Result<bool, AllocError>
+) -> Result<Option<usize>, AllocError>
     requires order { AreInOrder names.now }
     requires keys { HaveKeys names.now }
-    ensures met { IfOk result (λ yes. (es : List EntryValue) (from i : ℕ)
+    ensures met { IfOk result (λ r. (es : List EntryValue) (from i : ℕ)
         → SameUids (S.is_open set.now) (is_open (slots_of es)) → TellsQuiet es from i names.now
-        → All (IsDemand es from i) demands.now → IsTrue yes
+        → All (IsDemand es from i) demands.now → r ≡ None
         → AreMet es demands.now found.old.items found.new.items) }
-    ensures unmet { IfOk result (λ yes. (es : List EntryValue) (from i : ℕ)
-        → SameUids (S.is_open set.now) (is_open (slots_of es)) → TellsQuiet es from i names.now
-        → All (IsDemand es from i) demands.now → yes ≡ false → IsPossible es → ⊥) }
+    ensures unmet { IfOk result (λ r. IfSome r
+        (IsUnmetAt (S.is_open set.now) names.now demands.now)) }
 {
+    let mut start = 0;
     for index in 0..demands.len() {
         if !is_asked_again(demands, index) {
             let demand = demands[index];
             let uids = respondents(alloc, set, names, &demand)?;
             if uids.len() < demand.need {
-                return Ok(false);
+                let at = first_unmet(alloc, set, names, demands, start, demand.at)?;
+                return Ok(Some(at));
             }
             found.push(Found {
                 at: demand.at,
                 need: demand.need,
                 uids,
             })?;
+            start = index + 1;
         }
     }
-    Ok(true)
+    Ok(None)
 }
 
-/// Finds what meets the slots of a stretch, and whether all of them are met.
+/// Finds what meets the slots of a stretch, unless one is unmet: the place of the first one that
+/// is.
 pub(crate) fn meet_stretch<S: OpenSet>(
     alloc: Global,
     set: &S,
     names: &mut Vec<Name>,
     demands: &mut Vec<Demand>,
     found: &mut Vec<Found>,
-) -> Result<bool, AllocError>
+) -> Result<Option<usize>, AllocError>
     requires { HaveKeys names.old.items }
-    ensures met { IfOk result (λ yes. (es : List EntryValue) (from i : ℕ)
+    ensures met { IfOk result (λ r. (es : List EntryValue) (from i : ℕ)
         → SameUids (S.is_open set.now) (is_open (slots_of es))
         → TellsQuiet es from i names.old.items
-        → All (IsDemand es from i) demands.old.items → IsTrue yes
+        → All (IsDemand es from i) demands.old.items → r ≡ None
         → AreMet es demands.old.items found.old.items found.new.items) }
-    ensures unmet { IfOk result (λ yes. (es : List EntryValue) (from i : ℕ)
+    ensures unmet { IfOk result (λ r. IfSome r (λ at. (es : List EntryValue) (from i : ℕ)
         → SameUids (S.is_open set.now) (is_open (slots_of es))
         → TellsQuiet es from i names.old.items
-        → All (IsDemand es from i) demands.old.items
-        → yes ≡ false → IsPossible es → ⊥) }
+        → All (IsDemand es from i) demands.old.items → Lacks es at)) }
 {
     if demands.is_empty() {
-        return Ok(true);
+        return Ok(None);
     }
     names.sort_unstable_by_key(|name| name.key);
     demands.sort_unstable();

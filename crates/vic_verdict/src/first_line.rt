@@ -27,12 +27,9 @@ fn between(low: usize, last: usize, guess: usize) -> usize
     }
 }
 
-/// Where to look first, below a contradiction among so many lines: before it, if it stands before
-/// their end, where only the whole of them told of it.
-fn first_guess(contradiction: Contradiction, count: usize) -> Option<usize>
-    requires { contradiction.at < count }
-{
-    if contradiction.at + 1 < count {
+/// Where to look first, below a contradiction: before it, where that seems possible.
+fn first_guess(contradiction: Contradiction) -> Option<usize> {
+    if contradiction.seems_first {
         Some(contradiction.at)
     } else {
         None
@@ -41,8 +38,8 @@ fn first_guess(contradiction: Contradiction, count: usize) -> Option<usize>
 
 /// The number of the first line up to which no population could have given the log, found by
 /// halving: what is impossible stays so when lines follow. Halving begins at a guess: before the
-/// contradiction, and if the lines before it are impossible too, where a pass over them says. As
-/// long as that pass is right, the lines are judged at most three times here.
+/// contradiction where it seems to be the first, else where a pass over the lines before it says.
+/// As long as that pass is right, the lines are judged at most four times here, mostly once.
 pub fn first_impossible_line<S: OpenSet>(
     alloc: Global,
     lines: &[PackedLine],
@@ -54,7 +51,7 @@ pub fn first_impossible_line<S: OpenSet>(
 {
     let mut low = 0;
     let mut last = contradiction.at;
-    let mut guess = first_guess(contradiction, lines.len());
+    let mut guess = first_guess(contradiction);
     while low < last {
         let place = match guess {
             Some(place) => place,
@@ -68,7 +65,7 @@ pub fn first_impossible_line<S: OpenSet>(
             }
             Err(earlier) => {
                 last = earlier.at;
-                guess = None;
+                guess = first_guess(earlier);
             }
         }
     }

@@ -1,13 +1,13 @@
 //! Whether some population could have given a log, and what its open UIDs meet.
 
-ghost use Rattle.std.specs.Prelude.{◌≡◌, ◌+◌, true, List, length, IfOk, MatchOption, MatchResult};
+ghost use Rattle.std.specs.Prelude.{◌≡◌, ◌≤◌, ◌<◌, ◌+◌, true, List, length, IfOk, MatchResult};
 ghost use Rattle.std.specs.List.Sorted.{IsStrictlyIncreasing};
 ghost use Rattle.vic_frame.specs.Uids.{has};
 ghost use Rattle.vic_tree.specs.OpenSet.{SameUids};
 ghost use Rattle.vic_log.specs.Order.{entries};
 ghost use Rattle.vic_verdict.specs.FirstLines.{AreFirstLines};
 ghost use Rattle.vic_log.specs.Slots.{slots_of, is_open};
-ghost use Rattle.vic_verdict.specs.Possible.{IsPossible, IsContradictedAt};
+ghost use Rattle.vic_verdict.specs.Possible.{IsPossible, IsContradictedAt, Lacks, rules_out, IsSettledAt};
 ghost use Rattle.vic_verdict.specs.Demands.{AreFound, IsMet, HasHeard};
 
 use crate::demands::{Found, Met, meet_stretch, note_asked};
@@ -34,16 +34,17 @@ fn heard_uids(alloc: Global, lines: &[PackedLine]) -> Result<Vec<Uid>, AllocErro
 }
 
 /// What meets the slots of a log in which tags answered and none was read, by the UIDs that it
-/// leaves open. None where a slot lacks what it asks for.
+/// leaves open; the place of the first of these slots that lacks what it asks for, if one does.
 fn find_all<S: OpenSet>(
     alloc: Global,
     set: &S,
     lines: &[PackedLine],
-) -> Result<Option<Vec<Found>>, AllocError>
+) -> Result<Result<Vec<Found>, usize>, AllocError>
     requires lines { AreFirstLines lines.now }
     requires open { SameUids (S.is_open set.now) (is_open (slots_of (entries lines.now))) }
-    ensures { IfOk result (λ r. MatchOption r (IsPossible (entries lines.now) → ⊥)
-        (λ found. AreFound (entries lines.now) found.items)) }
+    ensures { IfOk result (λ r. MatchResult r
+        (λ found. AreFound (entries lines.now) found.items)
+        (Lacks (entries lines.now))) }
 {
     let mut found = Vec::new(alloc);
     let mut names = Vec::new(alloc);
@@ -52,8 +53,8 @@ fn find_all<S: OpenSet>(
     for (index, line) in lines.iter().enumerate() {
         let entry = line.item();
         if let Entry::FieldCycle = entry {
-            if !meet_stretch(alloc, set, &mut names, &mut demands, &mut found)? {
-                return Ok(None);
+            if let Some(at) = meet_stretch(alloc, set, &mut names, &mut demands, &mut found)? {
+                return Ok(Err(at));
             }
             names.clear();
             demands.clear();
@@ -63,10 +64,33 @@ fn find_all<S: OpenSet>(
         }
         cursor.advance(&entry);
     }
-    if !meet_stretch(alloc, set, &mut names, &mut demands, &mut found)? {
-        return Ok(None);
+    match meet_stretch(alloc, set, &mut names, &mut demands, &mut found)? {
+        Some(at) => Ok(Err(at)),
+        None => Ok(Ok(found)),
     }
-    Ok(Some(found))
+}
+
+/// Whether an entry may rule UIDs out.
+fn rules_out(entry: &Entry) -> bool
+    ensures { result ≡ rules_out entry.now }
+{
+    matches!(entry, Entry::Silent | Entry::Heard(_))
+}
+
+/// The place of the last line that may rule UIDs out, where it comes after a place; else that one.
+fn last_ruling(lines: &[PackedLine], from: usize) -> usize
+    requires { from < length lines.now }
+    ensures from { from ≤ result }
+    ensures within { result < length lines.now }
+    ensures after { IsSettledAt (entries lines.now) result }
+{
+    let mut last = from;
+    for index in from + 1..lines.len() {
+        if rules_out(&lines[index].item()) {
+            last = index;
+        }
+    }
+    last
 }
 
 /// The UIDs that a log leaves open, and what they meet, if some population could have given it.
@@ -87,10 +111,20 @@ pub fn open_and_met<S: OpenSet>(
     };
     let heard = heard_uids(alloc, lines)?;
     if !are_open(alloc, &set, &heard)? {
-        return Ok(Err(Contradiction::at_end(lines)));
+        return Ok(Err(Contradiction {
+            at: last_ruling(lines, 0),
+            seems_first: false,
+        }));
     }
-    let Some(found) = find_all(alloc, &set, lines)? else {
-        return Ok(Err(Contradiction::at_end(lines)));
-    };
-    Ok(Ok((set, Met { heard, found })))
+    match find_all(alloc, &set, lines)? {
+        Ok(found) => Ok(Ok((set, Met { heard, found }))),
+        Err(unmet) => {
+            // From there on the same UIDs are open.
+            let at = last_ruling(lines, unmet);
+            Ok(Err(Contradiction {
+                at,
+                seems_first: at == unmet,
+            }))
+        }
+    }
 }

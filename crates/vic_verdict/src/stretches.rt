@@ -31,18 +31,8 @@ use vic_tree::{KeyRange, OpenSet};
 #[derive(Clone, Copy)]
 pub struct Contradiction {
     pub at: usize,
-}
-
-impl Contradiction {
-    /// The last line.
-    pub(crate) fn at_end(lines: &[PackedLine]) -> Contradiction
-        requires { IsPossible (entries lines.now) → ⊥ }
-        ensures { IsContradictedAt (entries lines.now) result.at }
-    {
-        Contradiction {
-            at: lines.len() - 1,
-        }
-    }
+    /// Whether the lines before it seem to be possible.
+    pub seems_first: bool,
 }
 
 /// Adds a slot, unless no UID lies in its mask.
@@ -176,7 +166,10 @@ fn closed_keys(
         let entry = line.item();
         if let Entry::FieldCycle = entry {
             if let Some(at) = settle_stretch(&mut closed, &mut names, &mut spots)? {
-                return Ok(Err(Contradiction { at }));
+                return Ok(Err(Contradiction {
+                    at,
+                    seems_first: true,
+                }));
             }
             names.clear();
             spots.clear();
@@ -185,13 +178,19 @@ fn closed_keys(
             // gives the place its bound: the numbers of lines rise, and are of 32 bits
             let _number = line.number();
             if !note_entry(&mut names, &mut spots, &mask, index, lines.len(), &entry)? {
-                return Ok(Err(Contradiction { at: index }));
+                return Ok(Err(Contradiction {
+                    at: index,
+                    seems_first: true,
+                }));
             }
         }
         cursor.advance(&entry);
     }
     match settle_stretch(&mut closed, &mut names, &mut spots)? {
-        Some(at) => Ok(Err(Contradiction { at })),
+        Some(at) => Ok(Err(Contradiction {
+            at,
+            seems_first: true,
+        })),
         None => Ok(Ok(closed)),
     }
 }

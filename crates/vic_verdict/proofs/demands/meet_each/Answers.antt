@@ -1,17 +1,9 @@
 use Rattle.std.proofs.Common.{◌+◌, sym, subst, refl, arith}
 use Rattle.vic_verdict.specs.declared.demands.Found.{Found}
 use Rattle.vic_verdict.specs.Demands.{IsDemand}
-use Rattle.vic_verdict.proofs.Demanding.{AreMetTo, met_skipped, met_found, met_all, found_at, unmet}
+use Rattle.vic_verdict.proofs.Demanding.{AreMetTo, met_skipped, met_found, met_all, found_at}
 use Rattle.vic_verdict.proofs.demands.meet_each.Goals as goal
 use Rattle.vic_verdict.proofs.demands.meet_each.Goals.{then-not-is_asked_again+in_ok-uids+else-len-demand+in_ok-push, else-not-is_asked_again}
-
-pub returns-then-len-demand-clause-unmet : goal.returns-then-len-demand-clause-unmet
-returns-then-len-demand-clause-unmet g c es from i same t h failed =
-    let ds = c.args.demands.now in
-    let k = c.loop-index.index in
-    let d = c.index-demands-index.result in
-    let asked = subst (IsDemand es from i) (sym c.index-demands-index.is) (h k d c.loop-index-test.true) in
-    unmet es from i (g.S.OpenSet.is_open c.args.set.now) c.args.names.now d c.in_ok-uids.uids.items same t asked c.in_ok-uids.ensures (let short = c.if-len-demand.true in let len = c.len.ensures.value in omega (arith, short, len))
 
 pub loop-index-preserved : goal.loop-index-preserved
 loop-index-preserved g c es from i same t h =

@@ -7,7 +7,7 @@ use Rattle.vic_verdict.specs.Sweep.{AreInOrder, HaveKeys}
 use Rattle.vic_verdict.specs.Silenced.{TellsQuiet}
 use Rattle.vic_verdict.specs.Demands.{IsDemand, AreMet}
 use Rattle.vic_verdict.proofs.Silencing.{tells_permuted}
-use Rattle.vic_verdict.proofs.Demanding.{met_permuted}
+use Rattle.vic_verdict.proofs.Demanding.{met_permuted, unmet_lacks, some_weaker}
 use Rattle.vic_verdict.proofs.demands.meet_stretch.Goals as goal
 
 pub meet_each-requires-clause-order : goal.meet_each-requires-clause-order
@@ -33,9 +33,10 @@ returns-clause-met g c =
 pub returns-clause-unmet : goal.returns-clause-unmet
 returns-clause-unmet g c =
     IfOk-weaker c.meet_each.result _ _
-    (λ yes m es from i same t h no.
-    m es from i same
+    (λ r m. some_weaker r _ _
+    (λ at w es from i same t h.
+    unmet_lacks es from i (g.S.OpenSet.is_open c.args.set.now) _ _ at same
     (subst (TellsQuiet es from i) (sym c.deref.ensures.value) (tells_permuted es from i _ _ c.sort_unstable_by_key.ensures.permutation t))
     (subst (All (IsDemand es from i)) (sym c.deref-2.ensures.value) (All-permutation (IsDemand es from i) _ _ c.sort_unstable.ensures.permutation h))
-    no)
+    w) m)
     c.meet_each.ensures.unmet

@@ -5,9 +5,9 @@ use Rattle.vic_log.specs.declared.entry.Entry.{Entry}
 use Rattle.vic_log.specs.Order.{entries}
 use Rattle.vic_verdict.specs.Demands.{AreAsked}
 use Rattle.vic_verdict.proofs.Stands.{entry_at}
-use Rattle.vic_verdict.proofs.Demanding.{asked_first, asked_anew, found_all}
+use Rattle.vic_verdict.proofs.Demanding.{asked_first, asked_anew, found_all, some_is, none_is}
 use Rattle.vic_verdict.proofs.met.find_all.Goals as goal
-use Rattle.vic_verdict.proofs.met.find_all.Goals.{in-FieldCycle+in_ok-meet_stretch+else-not-branch, in_default+in_ok-note_asked}
+use Rattle.vic_verdict.proofs.met.find_all.Goals.{in-FieldCycle+in_ok-at+in_default-2, in_default+in_ok-note_asked}
 
 pub loop-index-init : goal.loop-index-init
 loop-index-init g c =
@@ -19,10 +19,12 @@ loop-index-init g c =
           (subst (λ fs. AreAsked es 0 [] [] fs) (sym c.new-found.ensures.items) (asked_first es)));
     }
 
-pub returns-then-not-branch : goal.returns-then-not-branch
-returns-then-not-branch g c =
+pub returns-in-Some : goal.returns-in-Some
+returns-in-Some g c =
+    let es = entries c.args.lines.now in
     let before = c.loop-index.invariant.asked in
-    c.in_ok-meet_stretch.ensures.unmet (entries c.args.lines.now) before.from c.loop-index.index c.requires.open before.quiet before.demands c.if-not-branch.true
+    let unmet = some_is _ _ c.in-Some.at c.in-Some.is c.in_ok-at.ensures.unmet in
+    unmet es before.from c.loop-index.index c.requires.open before.quiet before.demands
 
 pub loop-index-preserved : goal.loop-index-preserved
 loop-index-preserved g c =
@@ -35,11 +37,11 @@ loop-index-preserved g c =
     record {
       round = c.advance.ensures es i c.requires.lines.order here before.round;
       asked = elim c.match-entry.branch [
-        | in-FieldCycle+in_ok-meet_stretch+else-not-branch w ↦
+        | in-FieldCycle+in_ok-at+in_default-2 w ↦
             subst (λ v. AreAsked es (i + 1) c.match-entry.names.items c.match-entry.demands.items v.items) (sym w.found-is)
             (asked_anew es i c.loop-index.names.items c.match-entry.names.items c.loop-index.demands.items c.match-entry.demands.items c.loop-index.found.items w.meet_stretch.new.found.items c.item-entry.result here w.in-FieldCycle.is
             (ap (λ v. v.items) w.names-is ∙ w.clear.ensures.items) (ap (λ v. v.items) w.demands-is ∙ w.clear-in-FieldCycle.ensures.items)
-            (w.in_ok-meet_stretch.ensures.met es asked.from i c.requires.open asked.quiet asked.demands w.if-not-branch.false) asked)
+            (w.in_ok-at.ensures.met es asked.from i c.requires.open asked.quiet asked.demands (none_is _ w.in_default-2.not-Some)) asked)
         | in_default+in_ok-note_asked w ↦
             subst (λ v. AreAsked es (i + 1) v.items c.match-entry.demands.items c.match-entry.found.items) (sym w.names-is)
             (subst (λ v. AreAsked es (i + 1) w.note_asked.new.names.items v.items c.match-entry.found.items) (sym w.demands-is)
@@ -48,15 +50,17 @@ loop-index-preserved g c =
       ];
     }
 
-pub returns-then-not-branch-2 : goal.returns-then-not-branch-2
-returns-then-not-branch-2 g c =
+pub returns-in-Some-2 : goal.returns-in-Some-2
+returns-in-Some-2 g c =
+    let es = entries c.args.lines.now in
     let before = c.loop-index.invariant.asked in
-    c.in_ok-meet_stretch-2.ensures.unmet (entries c.args.lines.now) before.from c.loop-index.index c.requires.open before.quiet before.demands c.if-not-branch-2.true
+    let unmet = some_is _ _ c.in-Some-2.at c.in-Some-2.is c.in_ok-at-2.ensures.unmet in
+    unmet es before.from c.loop-index.index c.requires.open before.quiet before.demands
 
-pub returns : goal.returns
-returns g c =
+pub returns-in-None : goal.returns-in-None
+returns-in-None g c =
     let es = entries c.args.lines.now in
     let asked = c.loop-index.invariant.asked in
     found_all es c.loop-index.index c.loop-index.names.items c.loop-index.demands.items c.loop-index.found.items c.meet_stretch-2.new.found.items
     (let long = length-map c.args.lines.now (λ (x : LogLine). x.item) in let last = c.loop-index-test.false in let within = c.loop-index.auto.index-end in omega (arith, long, last, within))
-    (c.in_ok-meet_stretch-2.ensures.met es asked.from c.loop-index.index c.requires.open asked.quiet asked.demands c.if-not-branch-2.false) asked
+    (c.in_ok-at-2.ensures.met es asked.from c.loop-index.index c.requires.open asked.quiet asked.demands c.in-None.is) asked

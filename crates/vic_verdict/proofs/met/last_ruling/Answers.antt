@@ -1,0 +1,50 @@
+use Rattle.std.proofs.Common.{◌≡◌, ◌∙◌, Some, ap, sym, arith, ⊎_elim}
+use Rattle.std.specs.Prelude.{slice_get}
+use Rattle.std.proofs.lemmas.Bool.{cases_eq}
+use Rattle.std.proofs.lemmas.Option.{slice_get_within}
+use Rattle.std.proofs.lemmas.List.{length-map}
+use Rattle.vic_log.specs.declared.entry.LogLine.{LogLine}
+use Rattle.vic_log.specs.declared.entry.Entry.{Entry}
+use Rattle.vic_log.specs.Order.{entries}
+use Rattle.vic_verdict.specs.Possible.{rules_out}
+use Rattle.vic_verdict.proofs.Stands.{entry_at}
+use Rattle.vic_verdict.proofs.met.last_ruling.Goals as goal
+use Rattle.vic_verdict.proofs.met.last_ruling.Goals.{then-rules_out, else-rules_out}
+
+pub loop-index-preserved : goal.loop-index-preserved
+loop-index-preserved c =
+    let lines = c.args.lines.now in
+    let i = c.loop-index.index in
+    let l = c.index-lines-index.result in
+    let before = c.loop-index.invariant in
+    let less = before.before in
+    let from = before.from in
+    let here = entry_at lines i l c.loop-index-test.true c.index-lines-index.is ∙ ap (λ (e : Entry). Some e) (sym c.item.ensures) in
+    elim c.if-rules_out.branch [
+      | then-rules_out w ↦ let last = w.last-is in record {
+        from = omega (arith, from, less, last);
+        before = omega (arith, last);
+        within = let test = c.loop-index-test.true in omega (arith, last, test);
+        after = λ j e above below k. absurd (omega (arith, above, below, last));
+      }
+      | else-rules_out w ↦ let last = w.last-is in record {
+        from = omega (arith, from, last);
+        before = omega (arith, less, last);
+        within = let within = before.within in omega (arith, within, last);
+        after = λ j e above below k. ⊎_elim
+            (λ same.
+            let both : Some e ≡ Some c.item.result = sym k ∙ (ap (slice_get (entries lines)) same ∙ here) in
+            let it : e ≡ c.item.result = cc in
+            ap rules_out it ∙ (sym c.rules_out.ensures ∙ w.if-rules_out.false))
+            (λ other. before.after j e (omega (arith, above, last)) (omega (arith, below, other)) k)
+            (cases_eq j i);
+      }
+    ]
+
+pub returns-clause-after : goal.returns-clause-after
+returns-clause-after c j e above k =
+    let lines = c.args.lines.now in
+    let within = slice_get_within (entries lines) j e k in
+    let long = length-map lines (λ (l : LogLine). l.item) in
+    let end = c.loop-index-test.false in
+    c.loop-index.invariant.after j e above (omega (arith, within, long, end)) k
