@@ -1,5 +1,5 @@
 -- Tags in a row by their keys.
-use Rattle.std.proofs.Common.{◌≡◌, ℕ, zero, suc, ◌+◌, ◌-◌, ◌<◌, ◌≤◌, Bool, true, false, List, [], ◌∷◌, ◌++◌, ◌||◌, length, length-append, replicate, get_or, set, map, refl, sym, ap, subst, ◌∙◌, ◌&&◌, ◌≢◌, not, arith, ⊎_elim}
+use Rattle.std.proofs.Common.{◌≡◌, ℕ, zero, suc, ◌+◌, ◌-◌, ◌<◌, ◌≤◌, Bool, true, false, List, [], ◌∷◌, ◌++◌, ◌||◌, length, length-append, replicate, take, drop, get_or, set, map, refl, sym, ap, subst, ◌∙◌, ◌&&◌, ◌≢◌, not, arith, ⊎_elim}
 use Rattle.std.specs.Prelude.{nat_eq, nat_le, slice_get, Some}
 use Rattle.std.specs.List.Sorted.{IsNonDecreasingBy}
 use Rattle.std.specs.Ordering.{nat_cmp}
@@ -9,7 +9,7 @@ use Rattle.std.specs.List.Sorted.{IsStrictlySortedBy}
 use Rattle.std.proofs.Math.Bool.{and-true, and-false, or-false, or_assoc}
 use Rattle.std.proofs.lemmas.Bool.{cases_lt, cases_eq, cases_Bool, ne_eqb, eq-eqb, le-leb, lt-leb}
 use Rattle.std.proofs.lemmas.Grind.{get_or-set_at}
-use Rattle.std.proofs.lemmas.List.{get_or-map, length-map, length-set, length-replicate, get_or-set_other, get_or-replicate}
+use Rattle.std.proofs.lemmas.List.{get_or-map, get_or-take, get_or-drop, get_or_default, length-map, length-set, length-replicate, get_or-set_other, get_or-replicate}
 use Rattle.std.proofs.lemmas.List.Elements.{All-head, All-tail}
 use Rattle.std.proofs.Math.Seq.{map-set_same}
 use Rattle.std.proofs.lemmas.List.Edits.{get_or-insert_at, get_or-insert_below, get_or-insert_above, length-insert}
@@ -23,7 +23,7 @@ use Rattle.vic_field.specs.declared.outcome.Outcome.TheVariants.{Several}
 use Rattle.vic_field.specs.Keys.{ready_between}
 use Rattle.vic_field.specs.Tags.{heard}
 use Rattle.vic_field.specs.declared.row.Row.{Row}
-use Rattle.vic_field.specs.Rows.{AreBelow, AreInOrder, AreNew, AreNoNotes, AreQuietIn, AreUpTo, HasKeys, IsKeyPlace, IsRow, as_ready, entries, keys_in, without}
+use Rattle.vic_field.specs.Rows.{AreBelow, AreInOrder, AreNew, AreNoNotes, AreQuietIn, AreUpTo, HasKeyPlaceBetween, HasKeys, IsKeyPlace, IsRow, as_ready, entries, keys_in, without}
 
 pub key_at : (ts : List Tag) (k : ℕ) (d : Tag) (e : ℕ) → k < length ts → get_or (keys_in ts) k e ≡ (get_or ts k d).key
 key_at ts k d e h = get_or-map (λ (t : Tag). t.key) ts k d e h
@@ -38,6 +38,56 @@ non_decreasing ts o i j d le lt =
     let a = key_at ts i d 0 (omega arith) in
     let b = key_at ts j d 0 lt in
     omega (arith, up, a, b)
+
+-- between two places where the tag before the one and that at the other are so
+pub between : (ts : List Tag) (key from to : ℕ) (d : Tag) → AreInOrder ts → from ≤ to → to ≤ length ts → (0 < from → (get_or ts (from - 1) d).key < key)
+    → (to < length ts → key ≤ (get_or ts to d).key) → HasKeyPlaceBetween key ts from to
+between ts key from to d order le within low high = record {
+  order = le;
+  within = within;
+  below = λ k other lt.
+      let up = non_decreasing ts order k (from - 1) other (omega (arith, lt)) (omega (arith, lt, le, within)) in
+      let same = ap (λ (t : Tag). t.key) (get_or_default ts (from - 1) d other (omega (arith, lt, le, within))) in
+      let last = low (omega (arith, lt)) in
+      omega (arith, up, same, last);
+  above = λ k other past lt.
+      let up = non_decreasing ts order to k other past lt in
+      let same = ap (λ (t : Tag). t.key) (get_or_default ts to d other (omega (arith, past, lt))) in
+      let first = high (omega (arith, past, lt)) in
+      omega (arith, up, same, first);
+}
+
+-- what stands between two places, counted from the first
+inside : (ts : List Tag) (from to k : ℕ) (d : Tag) → from ≤ k → k < to → (get_or (take (to - from) (drop from ts)) (k - from) d).key ≡ (get_or ts k d).key
+inside ts from to k d le lt =
+    let back : from + (k - from) ≡ k = omega (arith, le) in
+    ap (λ (t : Tag). t.key) (get_or-take (to - from) (drop from ts) (k - from) d (omega (arith, le, lt)) ∙ get_or-drop from ts (k - from) d)
+    ∙ ap (λ n. (get_or ts n d).key) back
+
+-- the place that was looked for between two others
+pub found : (ts : List Tag) (key from to i : ℕ) → HasKeyPlaceBetween key ts from to → i ≤ to - from
+    → ((k : ℕ) (d : Tag) → k < i → (get_or (take (to - from) (drop from ts)) k d).key < key)
+    → ((k : ℕ) (d : Tag) → i ≤ k → k < to - from → key ≤ (get_or (take (to - from) (drop from ts)) k d).key) → IsKeyPlace key ts (from + i)
+found ts key from to i h most below above =
+    let order = h.order in
+    let within = h.within in
+    record {
+      within = omega (arith, order, within, most);
+      below = λ k d lt. ⊎_elim
+          (λ (before : k < from). h.below k d before)
+          (λ (le : from ≤ k).
+          let here = inside ts from to k d le (omega (arith, lt, most, le)) in
+          let less = below (k - from) d (omega (arith, lt, le)) in
+          omega (arith, here, less))
+          (cases_lt k from);
+      from = λ k d le lt. ⊎_elim
+          (λ (before : k < to).
+          let here = inside ts from to k d (omega (arith, le)) before in
+          let more = above (k - from) d (omega (arith, le)) (omega (arith, le, before)) in
+          omega (arith, here, more))
+          (λ (past : to ≤ k). h.above k d past lt)
+          (cases_lt k to);
+    }
 
 pub key_there : (ts : List Tag) (q k : ℕ) (d : Tag) → k < length ts → (get_or ts k d).key ≡ q → has (keys_in ts) q ≡ true
 key_there ts q k d h e =

@@ -85,6 +85,13 @@ pub record IsKeyPlace (key : ℕ) (ts : List Tag) (place : ℕ) : Type 0 where
   pub below : (k : ℕ) (d : Tag) → k < place → (slice_index_or ts k d).key < key
   pub from : (k : ℕ) (d : Tag) → place ≤ k → k < length ts → key ≤ (slice_index_or ts k d).key
 
+-- the place at which keys begin to be at least this one is between two others, both counted
+pub record HasKeyPlaceBetween (key : ℕ) (ts : List Tag) (from to : ℕ) : Type 0 where
+  pub order : from ≤ to
+  pub within : to ≤ length ts
+  pub below : (k : ℕ) (d : Tag) → k < from → (slice_index_or ts k d).key < key
+  pub above : (k : ℕ) (d : Tag) → to ≤ k → k < length ts → key ≤ (slice_index_or ts k d).key
+
 -- no note is of a later stretch
 abbrev pub AreUpTo : ℕ → List ℕ → Type 0
 AreUpTo s notes = (w n : ℕ) → slice_get notes w ≡ Some n → n ≤ s

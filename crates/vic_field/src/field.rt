@@ -12,6 +12,7 @@ ghost use Rattle.vic_frame.specs.Uids.{has};
 
 use crate::grow::grow;
 use crate::hear::hear_mask;
+use crate::index::Index;
 use crate::outcome::Outcome;
 use crate::row::{self, Row};
 use std::alloc::{AllocError, Global};
@@ -67,6 +68,7 @@ impl Field {
                 blocks: Vec::new(alloc),
                 groups: Vec::new(alloc),
                 stretch: 1,
+                index: Index::new(alloc),
             },
         }
     }

@@ -6,6 +6,7 @@ ghost use Rattle.std.specs.List.Sorted.{IsNonDecreasing};
 ghost use Rattle.vic_field.specs.Rows.{AreBelow, AreInOrder, AreNew, EndsFrom, HasKeys, IsRow};
 ghost use Rattle.vic_frame.specs.LowBitsFirst.{IsKey};
 
+use crate::index::Index;
 use crate::row::{BLOCK, GROUP, Row, Tag};
 use std::alloc::{AllocError, Global};
 
@@ -20,11 +21,13 @@ pub(crate) fn grow(alloc: Global, keys: &[u64]) -> Result<Row, AllocError>
     let tags = new_tags(alloc, keys)?;
     let blocks = vec![in alloc; 0; tags.len() / BLOCK + 1]?;
     let groups = vec![in alloc; 0; tags.len() / GROUP + 1]?;
+    let index = Index::over(alloc, &tags)?;
     Ok(Row {
         tags,
         blocks,
         groups,
         stretch: 1,
+        index,
     })
 }
 

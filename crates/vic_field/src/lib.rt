@@ -4,6 +4,7 @@
 mod field;
 mod grow;
 mod hear;
+mod index;
 mod outcome;
 mod populate;
 mod row;

@@ -1,10 +1,11 @@
 //! Tags in a row by their keys, each Ready or Quiet.
 
 ghost use Rattle.std.specs.Prelude.{◌≡◌, ◌<◌, ◌≤◌, ◌+◌, ◌*◌, true, false, OnOk, OnErr, length, ℕ, slice_get, Some, None, IfSome};
-ghost use Rattle.vic_field.specs.Rows.{AreInOrder, AreNew, AreNoNotes, AreQuiet, HasMore, HasNoneReady, HasNotesIn, IsKeyPlace, IsNextReady, IsNoteAt, IsReadyAt, IsRow, as_ready, entries, keys_in, without};
+ghost use Rattle.vic_field.specs.Rows.{AreInOrder, AreNew, AreNoNotes, AreQuiet, HasKeyPlaceBetween, HasMore, HasNoneReady, HasNotesIn, IsKeyPlace, IsNextReady, IsNoteAt, IsReadyAt, IsRow, as_ready, entries, keys_in, without};
 ghost use Rattle.vic_frame.specs.LowBitsFirst.{IsKey};
 ghost use Rattle.vic_frame.specs.Uids.{has};
 
+use crate::index::Index;
 use std::alloc::AllocError;
 
 /// How many tags a block has.
@@ -34,6 +35,8 @@ pub(crate) struct Row {
     /// The stretch between two field cycles, from 1: a tag is Quiet where it was made so in this
     /// one.
     pub(crate) stretch: u32,
+    /// A hint of where a key stands, which `put` leaves as it is.
+    pub(crate) index: Index,
 }
 
 /// Whether a note says that all is Quiet in a stretch.
@@ -106,12 +109,38 @@ pub(crate) fn next_ready(row: &Row, from: usize, last: u64) -> Option<usize>
     None
 }
 
+/// Whether the tags begin between two places whose keys are at least this one.
+fn is_between(tags: &[Tag], key: u64, from: usize, to: usize) -> bool
+    requires { AreInOrder tags.now }
+    ensures { result ≡ true → HasKeyPlaceBetween key tags.now from to }
+{
+    if to < from || tags.len() < to {
+        return false;
+    }
+    (from == 0 || tags[from - 1].key < key) && (to == tags.len() || key <= tags[to].key)
+}
+
+/// Places between which the tags begin whose keys are at least this one: those that the index
+/// names, or the first one and the end where its hint is wrong.
+fn bounds(row: &Row, key: u64) -> (usize, usize)
+    requires { AreInOrder row.now.tags.items }
+    ensures { HasKeyPlaceBetween key row.now.tags.items result.0 result.1 }
+{
+    let (from, to) = row.index.hint(key);
+    if is_between(&row.tags, key, from, to) {
+        (from, to)
+    } else {
+        (0, row.tags.len())
+    }
+}
+
 /// Where the tags begin whose keys are at least this one.
 pub(crate) fn place_of(row: &Row, key: u64) -> usize
     requires { AreInOrder row.now.tags.items }
     ensures { IsKeyPlace key row.now.tags.items result }
 {
-    row.tags.partition_point(|tag| tag.key < key)
+    let (from, to) = bounds(row, key);
+    from + row.tags[from..to].partition_point(|tag| tag.key < key)
 }
 
 /// Makes the tag with this key Quiet, if it is there.

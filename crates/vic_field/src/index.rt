@@ -1,0 +1,73 @@
+//! An index over tags in the order of their keys, by the keys' top bits. What it says is a hint.
+
+ghost use Rattle.std.specs.Prelude.{◌≤◌};
+ghost use Rattle.vic_frame.specs.declared.uid.TheConstants.{UID_BITS};
+
+use crate::row::Tag;
+use std::alloc::{AllocError, Global};
+use vic_frame::UID_BITS;
+
+/// How many of a key's 56 bits an index goes by at most.
+const MOST_BITS: u32 = 24;
+
+/// A hint of where a key stands among tags.
+#[derive(Drop)]
+pub(crate) struct Index {
+    /// How many tags have keys below the least one with given top bits.
+    lower: Vec<u32>,
+    /// By how many bits a key is shifted to its top bits.
+    shift: u32,
+    ghost in_key: { shift ≤ UID_BITS },
+}
+
+impl Index {
+    /// An index over no tags.
+    pub(crate) fn new(alloc: Global) -> Index {
+        Index {
+            lower: Vec::new(alloc),
+            shift: 0,
+        }
+    }
+
+    /// An index over tags, which has about as many numbers as there are tags.
+    pub(crate) fn over(alloc: Global, tags: &[Tag]) -> Result<Index, AllocError> {
+        let bits = (tags.len() + 1).ilog2().min(MOST_BITS);
+        let shift = u32::from(UID_BITS) - bits;
+        let mut lower = count_by_top(alloc, tags, bits, shift)?;
+        sum_up(&mut lower);
+        Ok(Index { lower, shift })
+    }
+
+    /// The places from which and up to which the tags with a key's top bits stand.
+    pub(crate) fn hint(&self, key: u64) -> (usize, usize) {
+        let top = (key >> self.shift) as usize;
+        match (self.lower.get(top), self.lower.get(top.saturating_add(1))) {
+            (Some(from), Some(to)) => (*from as usize, *to as usize),
+            _ => (0, 0),
+        }
+    }
+}
+
+/// How many tags have each value of their keys' top bits, one further on; 0 at first.
+fn count_by_top(alloc: Global, tags: &[Tag], bits: u32, shift: u32) -> Result<Vec<u32>, AllocError>
+    requires bits { bits ≤ MOST_BITS }
+    requires shift { shift ≤ UID_BITS }
+{
+    let mut counts = vec![in alloc; 0; (1usize << bits) + 2]?;
+    for tag in tags {
+        let top = (tag.key >> shift) as usize;
+        if let Some(count) = counts.get_mut(top.saturating_add(1)) {
+            *count = u32::saturating_add(*count, 1);
+        }
+    }
+    Ok(counts)
+}
+
+/// Puts the sum of all numbers up to each into its place.
+fn sum_up(counts: &mut [u32]) {
+    let mut sum: u32 = 0;
+    for count in counts.iter_mut() {
+        sum = sum.saturating_add(*count);
+        *count = sum;
+    }
+}
