@@ -7,8 +7,9 @@ use crate::row::Tag;
 use std::alloc::{AllocError, Global};
 use vic_frame::UID_BITS;
 
-/// How many of a key's 56 bits an index goes by at most.
-const MOST_BITS: u32 = 24;
+/// How many of a key's 56 bits an index goes by at most, so that it stays small enough for a
+/// processor's cache.
+const MOST_BITS: u32 = 16;
 
 /// A hint of where a key stands among tags.
 #[derive(Drop)]
@@ -29,7 +30,7 @@ impl Index {
         }
     }
 
-    /// An index over tags, which has about as many numbers as there are tags.
+    /// An index over tags: about a number for each, where they are few.
     pub(crate) fn over(alloc: Global, tags: &[Tag]) -> Result<Index, AllocError> {
         let bits = (tags.len() + 1).ilog2().min(MOST_BITS);
         let shift = u32::from(UID_BITS) - bits;
