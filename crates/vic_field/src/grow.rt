@@ -21,7 +21,7 @@ pub(crate) fn grow(alloc: Global, keys: &[u64]) -> Result<Row, AllocError>
     let tags = new_tags(alloc, keys)?;
     let blocks = vec![in alloc; 0; tags.len() / BLOCK + 1]?;
     let groups = vec![in alloc; 0; tags.len() / GROUP + 1]?;
-    let index = Index::over(alloc, &tags)?;
+    let index = Index::over(alloc, keys)?;
     Ok(Row {
         tags,
         blocks,

@@ -3,7 +3,6 @@
 ghost use Rattle.std.specs.Prelude.{◌≤◌};
 ghost use Rattle.vic_frame.specs.declared.uid.TheConstants.{UID_BITS};
 
-use crate::row::Tag;
 use std::alloc::{AllocError, Global};
 use vic_frame::UID_BITS;
 
@@ -30,11 +29,11 @@ impl Index {
         }
     }
 
-    /// An index over tags: about a number for each, where they are few.
-    pub(crate) fn over(alloc: Global, tags: &[Tag]) -> Result<Index, AllocError> {
-        let bits = (tags.len() + 1).ilog2().min(MOST_BITS);
+    /// An index over tags with these keys: about a number for each, where they are few.
+    pub(crate) fn over(alloc: Global, keys: &[u64]) -> Result<Index, AllocError> {
+        let bits = (keys.len() + 1).ilog2().min(MOST_BITS);
         let shift = u32::from(UID_BITS) - bits;
-        let mut lower = count_by_top(alloc, tags, bits, shift)?;
+        let mut lower = count_by_top(alloc, keys, bits, shift)?;
         sum_up(&mut lower);
         Ok(Index { lower, shift })
     }
@@ -49,14 +48,14 @@ impl Index {
     }
 }
 
-/// How many tags have each value of their keys' top bits, one further on; 0 at first.
-fn count_by_top(alloc: Global, tags: &[Tag], bits: u32, shift: u32) -> Result<Vec<u32>, AllocError>
+/// How many keys have each value of their top bits, one further on; 0 at first.
+fn count_by_top(alloc: Global, keys: &[u64], bits: u32, shift: u32) -> Result<Vec<u32>, AllocError>
     requires bits { bits ≤ MOST_BITS }
     requires shift { shift ≤ UID_BITS }
 {
     let mut counts = vec![in alloc; 0; (1usize << bits) + 2]?;
-    for tag in tags {
-        let top = (tag.key >> shift) as usize;
+    for key in keys {
+        let top = (*key >> shift) as usize;
         if let Some(count) = counts.get_mut(top.saturating_add(1)) {
             *count = u32::saturating_add(*count, 1);
         }
