@@ -52,8 +52,9 @@ pub struct Found {
 /// the last one last.
 #[derive(Clone, Copy, PartialEq, Eq, PartialOrd, Ord)]
 pub(crate) struct Demand {
-    /// The first key of its mask.
+    /// The first key of its mask, so that masks stand in the order of their keys.
     pub first: u64,
+    /// There is none only outside a round, where no slot is.
     pub mask: Option<Mask>,
     /// How many tags have to be there.
     pub need: usize,
@@ -92,7 +93,7 @@ fn first_key(mask: &Mask) -> u64 {
     }
 }
 
-/// Gathers what an entry tells that isn't a field cycle.
+/// Gathers whom an entry silences, or what its slot asks for. It isn't a field cycle.
 pub(crate) fn note_asked(
     names: &mut Vec<Name>,
     demands: &mut Vec<Demand>,
@@ -143,7 +144,8 @@ fn respondents<S: OpenSet>(
     set.up_to_three_besides(alloc, &mask, &quiet)
 }
 
-/// Whether the next slot of some asks for as much of the same mask, no earlier.
+/// Whether the next slot of some asks for as much of the same mask, no earlier: if it is met, so is
+/// this one.
 fn is_asked_again(demands: &[Demand], index: usize) -> bool
     requires { index < length demands.now }
     ensures { result ≡ true → IsAskedAgain demands.now index }
@@ -172,8 +174,8 @@ fn is_unmet<S: OpenSet>(
     Ok(uids.len() < demand.need)
 }
 
-/// The place of the first of some slots of one mask, from one to another, that is unmet: found by
-/// halving, since tags only fall silent.
+/// The place of the first unmet one of some slots of one mask, from index `from` to the one before
+/// `to`: found by halving, since tags only fall silent.
 fn unmet_between<S: OpenSet>(
     alloc: Global,
     set: &S,
@@ -204,7 +206,8 @@ fn unmet_between<S: OpenSet>(
     Ok(first)
 }
 
-/// The place of the first unmet slot among those from one on, of which one at a place is known.
+/// The place of the first unmet slot from index `from` on; one is known. The slots stand by mask,
+/// not by place, so those behind that one are looked at too.
 fn first_unmet<S: OpenSet>(
     alloc: Global,
     set: &S,
@@ -234,7 +237,7 @@ fn first_unmet<S: OpenSet>(
     Ok(first)
 }
 
-/// Finds what meets slots, unless one is unmet: the place of the first one that is.
+/// Finds what meets slots. Returns the place of the first one that is unmet, if one is.
 fn meet_each<S: OpenSet>(
     alloc: Global,
     set: &S,
@@ -271,8 +274,8 @@ fn meet_each<S: OpenSet>(
     Ok(None)
 }
 
-/// Finds what meets the slots of a stretch, unless one is unmet: the place of the first one that
-/// is.
+/// Finds what meets the slots of a stretch. Returns the place of the first one that is unmet, if
+/// one is.
 pub(crate) fn meet_stretch<S: OpenSet>(
     alloc: Global,
     set: &S,

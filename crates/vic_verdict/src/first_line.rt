@@ -27,7 +27,7 @@ fn between(low: usize, last: usize, guess: usize) -> usize
     }
 }
 
-/// Where to look first, below a contradiction: before it, where that seems possible.
+/// How many lines to judge next: those before a contradiction, if they seem to be possible.
 fn first_guess(contradiction: Contradiction) -> Option<usize> {
     if contradiction.seems_first {
         Some(contradiction.at)

@@ -49,8 +49,8 @@ pub enum Verdict {
 ///
 /// Where it is `Complete`, some population could have given the log, and every population that
 /// could has exactly the listed UIDs (clause `whole`; clause `second` says the same in the words of
-/// version 2, whose logs have field cycles and garbled slots). A log that leaves nothing open but
-/// what it heard and lists is `Complete` (clause `reached`).
+/// version 2, whose logs have field cycles and garbled slots). A possible log that leaves nothing
+/// open but what it heard and lists is `Complete` (clause `reached`).
 pub fn judge(alloc: Global, log: &Log) -> Result<Verdict, AllocError>
     ensures verdict { IfOk result (λ v. IsVerdict log.now.lines v) }
     ensures whole { IfOk result (λ v. (count : ℕ) → v ≡ Complete count

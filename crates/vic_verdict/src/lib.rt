@@ -2,8 +2,9 @@
 //!
 //! `judge` gives the verdict on a log, `explain` with it a small population that shows it. What they
 //! go by is public for `vic_report`, which tells more of a log than its verdict: which UIDs a
-//! possible one leaves open, and what meets its slots (`open_and_met`), where another one became
-//! impossible, and which UIDs a log forces and lists. `laws` are those of the definitions.
+//! possible one leaves open, and what meets its slots (`open_and_met`), where an impossible one
+//! became so, and which UIDs a log forces and lists. `laws` states what follows from the
+//! definitions.
 #![tactic(auto)]
 
 mod closed;

@@ -1,8 +1,6 @@
 //! Whether some population could have given a log, and what its open UIDs meet.
 
-ghost use Rattle.std.specs.Prelude.{◌≡◌, ◌≤◌, ◌<◌, ◌+◌, true, List, length, IfOk, MatchResult};
-ghost use Rattle.std.specs.List.Sorted.{IsStrictlyIncreasing};
-ghost use Rattle.vic_frame.specs.Uids.{has};
+ghost use Rattle.std.specs.Prelude.{◌≡◌, ◌≤◌, ◌<◌, length, IfOk, MatchResult};
 ghost use Rattle.vic_tree.specs.OpenSet.{SameUids};
 ghost use Rattle.vic_log.specs.Order.{entries};
 ghost use Rattle.vic_verdict.specs.FirstLines.{AreFirstLines};
@@ -19,7 +17,7 @@ use vic_log::{Entry, PackedLine, RoundCursor};
 use vic_tree::OpenSet;
 use vic_tree::rising::put_in_order;
 
-/// The UIDs that the slots of a log heard, in rising order.
+/// The UIDs that the slots of a log heard, each once; they are sorted, but no answer rests on it.
 fn heard_uids(alloc: Global, lines: &[PackedLine]) -> Result<Vec<Uid>, AllocError>
     ensures { IfOk result (λ v. HasHeard (entries lines.now) (length lines.now) v.items) }
 {
@@ -34,7 +32,8 @@ fn heard_uids(alloc: Global, lines: &[PackedLine]) -> Result<Vec<Uid>, AllocErro
 }
 
 /// What meets the slots of a log in which tags answered and none was read, by the UIDs that it
-/// leaves open; the place of the first of these slots that lacks what it asks for, if one does.
+/// leaves open; or the place of a slot that lacks what it asks for. It is the first one that does,
+/// which saves judgings: no answer rests on it.
 fn find_all<S: OpenSet>(
     alloc: Global,
     set: &S,
@@ -77,7 +76,8 @@ fn rules_out(entry: &Entry) -> bool
     matches!(entry, Entry::Silent | Entry::Heard(_))
 }
 
-/// The place of the last line that may rule UIDs out, where it comes after a place; else that one.
+/// A place, from a given one on, behind which no line rules UIDs out: the open UIDs are the same
+/// from there. It is the first such place; no answer rests on that.
 fn last_ruling(lines: &[PackedLine], from: usize) -> usize
     requires { from < length lines.now }
     ensures from { from ≤ result }
@@ -119,7 +119,6 @@ pub fn open_and_met<S: OpenSet>(
     match find_all(alloc, &set, lines)? {
         Ok(found) => Ok(Ok((set, Met { heard, found }))),
         Err(unmet) => {
-            // From there on the same UIDs are open.
             let at = last_ruling(lines, unmet);
             Ok(Err(Contradiction {
                 at,

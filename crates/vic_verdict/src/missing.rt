@@ -28,7 +28,7 @@ pub fn keys_in_order(alloc: Global, uids: &[Uid]) -> Result<Vec<u64>, AllocError
     Ok(keys)
 }
 
-/// The least of the UIDs at some keys, which come in order, that isn't in a set.
+/// The least UID, of those with these keys, that isn't in a set. The keys come in order.
 pub(crate) fn least_outside<S: OpenSet>(
     alloc: Global,
     set: &S,

@@ -68,8 +68,8 @@ fn is_start(names: &[Name], at: usize, first: u64) -> bool
 /// How many names are looked at one by one.
 const NEAR: usize = 8;
 
-/// The place of the first name whose key is at least `first`, looked for first from another place
-/// on: one near where masks come in the order of their keys.
+/// The place of the first name whose key is at least `first`: tried first at `NEAR` places from
+/// `near` on, which is near where masks come in the order of their keys, and then by halving.
 pub(crate) fn start_near(names: &[Name], near: usize, first: u64) -> usize
     requires { AreInOrder names.now }
     ensures { IsStart names.now first result }
@@ -160,7 +160,7 @@ fn reply_place(name: &Name) -> usize
     if name.at < name.quiet { name.at } else { 0 }
 }
 
-/// The earlier of a place and that of a reply, if its UID is Quiet there.
+/// `first`, or the place of a reply where that is earlier and its UID is Quiet there.
 fn earlier(first: Option<usize>, quiet: usize, reply: usize) -> Option<usize>
     ensures { MatchOption result ((first ≡ None) × (reply ≤ quiet))
         (IsEarlier first quiet reply) }

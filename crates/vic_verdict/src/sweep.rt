@@ -41,7 +41,7 @@ impl Level {
         }
     }
 
-    /// With one slot more.
+    /// With one slot more. Those of a mask come in any order.
     pub(crate) fn with(&self, at: usize, heard: Option<u64>) -> Level
         requires { IsLevel self.now }
         ensures level { IsLevel result }
@@ -98,8 +98,8 @@ pub(crate) struct Run {
     pub near: usize,
 }
 
-/// Rules out the names from key `first` to `last` that a level doesn't leave: the first of them
-/// stands at the place that it gives.
+/// Rules out the names from key `first` to `last` that a level doesn't leave. Returns the place of
+/// the first of them, near which the next mask's may stand.
 fn rule_out(names: &mut [Name], near: usize, first: u64, last: u64, level: &Level) -> usize
     requires { AreInOrder names.old }
     ensures { names.new ≡ keep_all (mask_leaves first last level.now) names.old }
@@ -115,8 +115,7 @@ fn rule_out(names: &mut [Name], near: usize, first: u64, last: u64, level: &Leve
     start
 }
 
-/// Goes on to a slot: with the slots of its mask before it, or from the mask before it, once that
-/// has ruled out its names.
+/// Adds a slot to a run of the same mask; else that run rules out its names, and a new one begins.
 fn pass_spot(names: &mut [Name], run: Option<Run>, spot: &Spot) -> Run
     requires order { AreInOrder names.old }
     requires level { IfSome run (λ r. IsLevel r.level) }
