@@ -7,8 +7,7 @@ ghost use Rattle.vic_verdict.specs.Possible.{IsContradictedAt};
 ghost use Rattle.vic_verdict.specs.Verdict.{IsVerdict};
 ghost use Rattle.vic_verdict.specs.declared.judging.Verdict.TheVariants.{Impossible};
 
-use crate::met::open_and_met;
-use crate::stretches::Contradiction;
+use crate::met::{Contradiction, open_and_met};
 use std::alloc::{AllocError, Global};
 use vic_guess::guess_impossible_line;
 use vic_log::PackedLine;

@@ -10,12 +10,21 @@ ghost use Rattle.vic_verdict.specs.Demands.{AreFound, IsMet, HasHeard};
 
 use crate::demands::{Found, Met, meet_stretch, note_asked};
 use crate::missing::are_open;
-use crate::stretches::{Contradiction, settle_all};
+use crate::stretches::settle_all;
 use std::alloc::{AllocError, Global};
 use vic_frame::Uid;
 use vic_log::{Entry, PackedLine, RoundCursor};
 use vic_tree::OpenSet;
 use vic_tree::rising::put_in_order;
+
+/// The place of a line of a log, counted from 0, up to which no population could have given it.
+/// Earlier ones may do as well.
+#[derive(Clone, Copy)]
+pub struct Contradiction {
+    pub at: usize,
+    /// Whether the lines before it seem to be possible.
+    pub seems_first: bool,
+}
 
 /// The UIDs that the slots of a log heard, each once; they are sorted, but no answer rests on it.
 fn heard_uids(alloc: Global, lines: &[PackedLine]) -> Result<Vec<Uid>, AllocError>
@@ -107,7 +116,12 @@ pub fn open_and_met<S: OpenSet>(
 {
     let set = match settle_all::<S>(alloc, lines)? {
         Ok(set) => set,
-        Err(contradiction) => return Ok(Err(contradiction)),
+        Err(at) => {
+            return Ok(Err(Contradiction {
+                at,
+                seems_first: true,
+            }));
+        }
     };
     let heard = heard_uids(alloc, lines)?;
     if !are_open(alloc, &set, &heard)? {

@@ -24,15 +24,6 @@ use vic_frame::{Mask, Request, Uid, without_top_byte};
 use vic_log::{Entry, PackedLine, RoundCursor};
 use vic_tree::{KeyRange, OpenSet};
 
-/// The place of a line of a log, counted from 0, up to which no population could have given it.
-/// Earlier ones may do as well.
-#[derive(Clone, Copy)]
-pub struct Contradiction {
-    pub at: usize,
-    /// Whether the lines before it seem to be possible.
-    pub seems_first: bool,
-}
-
 /// Adds a slot, unless no UID lies in its mask.
 fn push_spot(
     spots: &mut Vec<Spot>,
@@ -144,17 +135,17 @@ fn note_entry(
     Ok(true)
 }
 
-/// The keys that the silent and answered slots of a log close, unless a UID was heard that couldn't
-/// have answered there.
+/// The keys that the silent and answered slots of a log close; or the place of a line that heard a
+/// UID which couldn't have answered there.
 fn closed_keys(
     alloc: Global,
     lines: &[PackedLine],
-) -> Result<Result<Vec<KeyRange>, Contradiction>, AllocError>
+) -> Result<Result<Vec<KeyRange>, usize>, AllocError>
     requires { AreFirstLines lines.now }
     ensures { IfOk result (λ r. MatchResult r
         (λ closed. RepliesAnswer (entries lines.now)
         × SameUids (is_outside closed.items) (is_open (slots_of (entries lines.now))))
-        (λ c. IsContradictedAt (entries lines.now) c.at)) }
+        (IsContradictedAt (entries lines.now))) }
 {
     let mut closed = Vec::new(alloc);
     let mut names = Vec::new(alloc);
@@ -164,10 +155,7 @@ fn closed_keys(
         let entry = line.item();
         if let Entry::FieldCycle = entry {
             if let Some(at) = settle_stretch(&mut closed, &mut names, &mut spots)? {
-                return Ok(Err(Contradiction {
-                    at,
-                    seems_first: true,
-                }));
+                return Ok(Err(at));
             }
             names.clear();
             spots.clear();
@@ -176,37 +164,31 @@ fn closed_keys(
             // gives the place its bound: the numbers of lines rise, and are of 32 bits
             let _number = line.number();
             if !note_entry(&mut names, &mut spots, &mask, index, lines.len(), &entry)? {
-                return Ok(Err(Contradiction {
-                    at: index,
-                    seems_first: true,
-                }));
+                return Ok(Err(index));
             }
         }
         cursor.advance(&entry);
     }
     match settle_stretch(&mut closed, &mut names, &mut spots)? {
-        Some(at) => Ok(Err(Contradiction {
-            at,
-            seems_first: true,
-        })),
+        Some(at) => Ok(Err(at)),
         None => Ok(Ok(closed)),
     }
 }
 
-/// The UIDs that the silent and answered slots of a log leave open, unless a UID was heard that
-/// couldn't have answered there.
+/// The UIDs that the silent and answered slots of a log leave open; or the place of a line that
+/// heard a UID which couldn't have answered there.
 pub(crate) fn settle_all<S: OpenSet>(
     alloc: Global,
     lines: &[PackedLine],
-) -> Result<Result<S, Contradiction>, AllocError>
+) -> Result<Result<S, usize>, AllocError>
     requires { AreFirstLines lines.now }
     ensures { IfOk result (λ r. MatchResult r
         (λ s. RepliesAnswer (entries lines.now)
         × SameUids (S.is_open s) (is_open (slots_of (entries lines.now))))
-        (λ c. IsContradictedAt (entries lines.now) c.at)) }
+        (IsContradictedAt (entries lines.now))) }
 {
     match closed_keys(alloc, lines)? {
         Ok(closed) => Ok(Ok(S::without(alloc, closed)?)),
-        Err(contradiction) => Ok(Err(contradiction)),
+        Err(at) => Ok(Err(at)),
     }
 }
