@@ -90,7 +90,8 @@ pub record HasKeyPlaceBetween (key : ℕ) (ts : List Tag) (from to : ℕ) : Type
   pub order : from ≤ to
   pub within : to ≤ length ts
   pub below : (k : ℕ) (d : Tag) → k < from → (slice_index_or ts k d).key < key
-  pub above : (k : ℕ) (d : Tag) → to ≤ k → k < length ts → key ≤ (slice_index_or ts k d).key
+  pub above : (k : ℕ) (d : Tag)
+      → to ≤ k → k < length ts → key ≤ (slice_index_or ts k d).key
 
 -- no note is of a later stretch
 abbrev pub AreUpTo : ℕ → List ℕ → Type 0

@@ -9,7 +9,7 @@ use Rattle.vic_log.specs.declared.entry.Entry.TheVariants.{Sent, Silent, Collisi
 use Rattle.vic_log.specs.Populations.{answers_at}
 use Rattle.vic_log.specs.Slots.{Reading, NoReply, OneReply, ManyReplies, SomeReply, Slot, reading_of, with_entry, slots_before, slots_of, is_open, Asks}
 use Rattle.vic_log.proofs.Places.{AgreeBefore, answers_agree}
-use Rattle.vic_verdict.specs.Possible.{IsContradictedAt, Lacks, rules_out, IsSettledAt}
+use Rattle.vic_verdict.specs.Possible.{IsContradictedAt, Lacks, rules_out, NoneRulesOutAfter}
 use Rattle.vic_verdict.specs.Places.{answering}
 use Rattle.vic_verdict.proofs.Entries.{EntryAsks, entry_allows, open_reading}
 use Rattle.vic_verdict.proofs.Supplied.{supplied_each}
@@ -52,7 +52,7 @@ allows_all (Some Silent) b u h = let bad = h Silent refl in cc
 allows_all (Some (Heard r)) b u h = let bad = h (Heard r) refl in cc
 
 -- after a place behind which none is ruled out the same UIDs are open
-open_settled : (es : List Entry) (c n : ℕ) (u : ℕ) → IsSettledAt es c → c < n → is_open (slots_before es n) u ≡ is_open (slots_before es (suc c)) u
+open_settled : (es : List Entry) (c n : ℕ) (u : ℕ) → NoneRulesOutAfter es c → c < n → is_open (slots_before es n) u ≡ is_open (slots_before es (suc c)) u
 open_settled es c zero u h below = absurd (omega (arith, below))
 open_settled es c (suc n) u h below =
     ⊎_elim
@@ -74,7 +74,7 @@ asks_same SomeReply s t e h = (h.0, sym (e h.0) ∙ h.1)
 asked : (e : Entry) (r : Reading) (t : ℕ → Bool) → reading_of e ≡ Some r → EntryAsks (reading_of e) t → Asks r t
 asked e r t k h = subst (λ o. EntryAsks o t) k h
 
-pub contradicted : (es : List Entry) (i c : ℕ) → Lacks es i → i ≤ c → c < length es → IsSettledAt es c → IsContradictedAt es c
+pub contradicted : (es : List Entry) (i c : ℕ) → Lacks es i → i ≤ c → c < length es → NoneRulesOutAfter es c → IsContradictedAt es c
 contradicted es i c lacks upto within settled = record {
   within = within;
   impossible = λ possible.

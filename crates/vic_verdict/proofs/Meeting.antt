@@ -17,7 +17,7 @@ use Rattle.vic_log.proofs.Supply.{IsUid-from}
 use Rattle.vic_log.proofs.Sets.{has_here, has_at, has_there, has_cases}
 use Rattle.vic_verdict.specs.declared.demands.Found.{Found}
 use Rattle.vic_verdict.specs.declared.demands.Met.{Met}
-use Rattle.vic_verdict.specs.Possible.{IsPossible, Lacks, IsSettledAt}
+use Rattle.vic_verdict.specs.Possible.{IsPossible, Lacks, NoneRulesOutAfter}
 use Rattle.vic_verdict.specs.Places.{answering}
 use Rattle.vic_verdict.specs.Replies.{RepliesAnswer}
 use Rattle.vic_verdict.specs.Demands.{needs_of, needs_at, HasHeard, IsFoundAt, IsFound, Meets, AreFound, IsMet}
@@ -84,7 +84,7 @@ not_all p (x ∷ us) h = ⊎_elim
 
 -- some slot heard a UID that isn't open
 abbrev pub LacksHeard : List Entry → Type 0
-LacksHeard es = (i : ℕ) × Lacks es i × ((c : ℕ) → IsSettledAt es c → i ≤ c)
+LacksHeard es = (i : ℕ) × Lacks es i × ((c : ℕ) → NoneRulesOutAfter es c → i ≤ c)
 
 -- where not all that were heard are open
 pub heard_lacks : (es : List Entry) (n : ℕ) (set : ℕ → Bool) (us : List ℕ) → SameUids set (is_open (slots_of es)) → HasHeard es n us → list_all set us ≡ false → LacksHeard es

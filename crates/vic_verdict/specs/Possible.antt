@@ -27,7 +27,8 @@ pub record IsContradictedAt (es : List Entry) (i : ℕ) : Type 0 where
 
 -- fewer open UIDs could have answered at place i than its line asks for
 abbrev pub Lacks : List Entry → ℕ → Type 0
-Lacks es i = (e : Entry) × (r : Reading) × (slice_get es i ≡ Some e) × (reading_of e ≡ Some r)
+Lacks es i = (e : Entry) × (r : Reading)
+    × (slice_get es i ≡ Some e) × (reading_of e ≡ Some r)
     × (Asks r (answering (is_open (slots_of es)) es i) → ⊥)
 
 -- the entry may rule UIDs out: a slot that was silent or answered by one
@@ -41,5 +42,6 @@ rules_out (Listed u) = false
 rules_out FieldCycle = false
 
 -- after place i no entry may rule UIDs out
-abbrev pub IsSettledAt : List Entry → ℕ → Type 0
-IsSettledAt es i = (j : ℕ) (e : Entry) → i < j → slice_get es j ≡ Some e → rules_out e ≡ false
+abbrev pub NoneRulesOutAfter : List Entry → ℕ → Type 0
+NoneRulesOutAfter es i =
+    (j : ℕ) (e : Entry) → i < j → slice_get es j ≡ Some e → rules_out e ≡ false

@@ -168,7 +168,8 @@ fn is_unmet<S: OpenSet>(
 ) -> Result<bool, AllocError>
     requires order { AreInOrder names.now }
     requires keys { HaveKeys names.now }
-    ensures { IfOk result (λ yes. yes ≡ true → IsUnmet (S.is_open set.now) names.now demand.now) }
+    ensures { IfOk result (λ yes. yes ≡ true
+        → IsUnmet (S.is_open set.now) names.now demand.now) }
 {
     let uids = respondents(alloc, set, names, demand)?;
     Ok(uids.len() < demand.need)

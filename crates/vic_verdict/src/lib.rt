@@ -1,7 +1,7 @@
 //! What the log of an inventory session proves of its list of tags.
 //!
-//! `judge` gives the verdict on a log, `explain` with it a small population that shows it. What they
-//! go by is public for `vic_report`, which tells more of a log than its verdict: which UIDs a
+//! `judge` gives the verdict on a log, `explain` with it a small population that shows it. What
+//! they go by is public for `vic_report`, which tells more of a log than its verdict: which UIDs a
 //! possible one leaves open, and what meets its slots (`open_and_met`), where an impossible one
 //! became so, and which UIDs a log forces and lists. `laws` states what follows from the
 //! definitions.

@@ -5,7 +5,7 @@ ghost use Rattle.vic_tree.specs.OpenSet.{SameUids};
 ghost use Rattle.vic_log.specs.Order.{entries};
 ghost use Rattle.vic_verdict.specs.FirstLines.{AreFirstLines};
 ghost use Rattle.vic_log.specs.Slots.{slots_of, is_open};
-ghost use Rattle.vic_verdict.specs.Possible.{IsPossible, IsContradictedAt, Lacks, rules_out, IsSettledAt};
+ghost use Rattle.vic_verdict.specs.Possible.{IsPossible, IsContradictedAt, Lacks, rules_out, NoneRulesOutAfter};
 ghost use Rattle.vic_verdict.specs.Demands.{AreFound, IsMet, HasHeard};
 
 use crate::demands::{Found, Met, meet_stretch, note_asked};
@@ -91,7 +91,7 @@ fn last_ruling(lines: &[PackedLine], from: usize) -> usize
     requires { from < length lines.now }
     ensures from { from ≤ result }
     ensures within { result < length lines.now }
-    ensures after { IsSettledAt (entries lines.now) result }
+    ensures after { NoneRulesOutAfter (entries lines.now) result }
 {
     let mut last = from;
     for index in from + 1..lines.len() {
