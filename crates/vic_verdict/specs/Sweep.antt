@@ -16,7 +16,8 @@ abbrev pub is_heard : Option ℕ → ℕ → Bool
 is_heard None k = false
 is_heard (Some h) k = h == k
 
--- a slot at a place that heard this key or nobody leaves the key k, that is Quiet after place q
+-- a slot at a place that heard this key or nobody leaves the key k, whose UID is Quiet after place
+-- q: it is Quiet before the slot, or was heard
 abbrev pub slot_leaves : ℕ → Option ℕ → ℕ → ℕ → Bool
 slot_leaves at heard k q = nat_lt q at || is_heard heard k
 
@@ -29,20 +30,22 @@ is_before q (Some at) = nat_lt q at
 abbrev pub is_between : ℕ → ℕ → ℕ → Bool
 is_between first last k = nat_le first k && nat_le k last
 
--- the first and the last key of a slot's mask, and the key that was heard
-abbrev pub first_of : Spot → ℕ
-first_of s = s.mask / LENGTHS
-
--- how many bits it has
+-- how many bits a slot's mask has
 abbrev pub len_of : Spot → ℕ
 len_of s = s.mask % LENGTHS
+
+-- the first and the last key of its mask
+abbrev pub first_of : Spot → ℕ
+first_of s = s.mask / LENGTHS
 
 abbrev pub last_of : Spot → ℕ
 last_of s = first_of s + (2 ^ (UID_BITS - len_of s) - 1)
 
+-- the key that was heard in it
 abbrev pub heard_of : Spot → Option ℕ
 heard_of s = if s.is_heard then Some s.key else None
 
+-- the key lies in its mask
 abbrev pub is_in : Spot → ℕ → Bool
 is_in s k = is_between (first_of s) (last_of s) k
 
@@ -123,17 +126,17 @@ are_left ns = list_all (λ n. n.left) ns
 abbrev pub AreInOrder : List Name → Type 0
 AreInOrder ns = IsNonDecreasingBy (λ (n : Name). n.key) ns
 
--- the names before the place have keys below one, and no others do
-pub record IsStart (ns : List Name) (first at : ℕ) : Type 0 where
-  pub within : at ≤ length ns
-  pub below : (k : ℕ) (d : Name) → k < at → (slice_index_or ns k d).key < first
-  pub rest : (k : ℕ) (d : Name) → at ≤ k → k < length ns → first ≤ (slice_index_or ns k d).key
-
--- and those of one key in the order of the places after which it is Quiet by them
+-- and those of one key in the order of the places after which its UID is Quiet by them
 abbrev pub AreInQuietOrder : List Name → Type 0
 AreInQuietOrder ns = (i j : ℕ) (d : Name) → i ≤ j → j < length ns
     → (slice_index_or ns i d).key ≡ (slice_index_or ns j d).key
     → (slice_index_or ns i d).quiet ≤ (slice_index_or ns j d).quiet
+
+-- the names before the index have keys below the first one, and no others do
+pub record IsStart (ns : List Name) (first at : ℕ) : Type 0 where
+  pub within : at ≤ length ns
+  pub below : (k : ℕ) (d : Name) → k < at → (slice_index_or ns k d).key < first
+  pub rest : (k : ℕ) (d : Name) → at ≤ k → k < length ns → first ≤ (slice_index_or ns k d).key
 
 -- keys of UIDs
 abbrev pub HaveKeys : List Name → Type 0

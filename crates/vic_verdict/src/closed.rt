@@ -61,7 +61,8 @@ impl Spot {
     }
 }
 
-/// Closes the keys from `first` to `last`, except the names that are left: those from a place on.
+/// Closes the keys from `first` to `last`, except the names that are left: those from index `start`
+/// on.
 fn close_between(
     closed: &mut Vec<KeyRange>,
     names: &[Name],

@@ -48,7 +48,7 @@ pub(crate) fn push_name(
     Ok(())
 }
 
-/// The place of the first name whose key is at least `first`; the end where none is.
+/// The index of the first name whose key is at least `first`; the end where none is.
 fn start_of(names: &[Name], first: u64) -> usize
     requires { AreInOrder names.now }
     ensures { IsStart names.now first result }
@@ -68,7 +68,7 @@ fn is_start(names: &[Name], at: usize, first: u64) -> bool
 /// How many names are looked at one by one.
 const NEAR: usize = 8;
 
-/// The place of the first name whose key is at least `first`: tried first at `NEAR` places from
+/// The index of the first name whose key is at least `first`: tried first at `NEAR` names from
 /// `near` on, which is near where masks come in the order of their keys, and then by halving.
 pub(crate) fn start_near(names: &[Name], near: usize, first: u64) -> usize
     requires { AreInOrder names.now }
@@ -82,7 +82,8 @@ pub(crate) fn start_near(names: &[Name], near: usize, first: u64) -> usize
     start_of(names, first)
 }
 
-/// The names from key `first` to `last`, of which the first one stands at a place.
+/// The names from key `first` to `last`, whose first has the index `start`. Whatever the test, a key
+/// between has a name here that passes it, if it has one at all.
 pub(crate) fn names_between(names: &[Name], start: usize, first: u64, last: u64) -> &[Name]
     requires order { AreInOrder names.now }
     requires start { IsStart names.now first start }

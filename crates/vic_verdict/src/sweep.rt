@@ -94,11 +94,11 @@ pub(crate) struct Run {
     pub first: u64,
     pub last: u64,
     pub level: Level,
-    /// A place near that of its first name.
+    /// An index near that of its first name.
     pub near: usize,
 }
 
-/// Rules out the names from key `first` to `last` that a level doesn't leave. Returns the place of
+/// Rules out the names from key `first` to `last` that a level doesn't leave. Returns the index of
 /// the first of them, near which the next mask's may stand.
 fn rule_out(names: &mut [Name], near: usize, first: u64, last: u64, level: &Level) -> usize
     requires { AreInOrder names.old }
