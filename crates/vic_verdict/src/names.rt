@@ -1,7 +1,7 @@
 //! The UIDs that lines silence or hear between two field cycles, in the order of their keys: which
 //! of them are Quiet at a place, and whether those that were heard were Ready there.
 
-ghost use Rattle.std.specs.Prelude.{◌≡◌, ◌<◌, ◌≤◌, ℕ, Bool, true, length, ◌++◌, ◌∷◌, [], None, IfOk, OnOk, MatchOption};
+ghost use Rattle.std.specs.Prelude.{◌≡◌, ◌<◌, ◌≤◌, ◌+◌, ℕ, Bool, true, length, ◌++◌, ◌∷◌, [], None, IfOk, OnOk, MatchOption};
 ghost use Rattle.std.specs.List.{All, list_any};
 ghost use Rattle.std.specs.List.Sorted.{IsNonDecreasing};
 ghost use Rattle.vic_frame.specs.Uids.{IsUid, has};
@@ -82,6 +82,19 @@ pub(crate) fn start_near(names: &[Name], near: usize, first: u64) -> usize
     start_of(names, first)
 }
 
+/// How many names have keys up to `last`: counted one by one up to `NEAR`, and then by halving.
+fn count_to(names: &[Name], last: u64) -> usize
+    requires { AreInOrder names.now }
+    ensures { IsStart names.now (last + 1) result }
+{
+    for count in 0..names.len().min(NEAR) {
+        if last < names[count].key {
+            return count;
+        }
+    }
+    names.partition_point(|name| name.key <= last)
+}
+
 /// The names from key `first` to `last`, whose first has the index `start`. Whatever the test, a key
 /// between has a name here that passes it, if it has one at all.
 pub(crate) fn names_between(names: &[Name], start: usize, first: u64, last: u64) -> &[Name]
@@ -94,11 +107,7 @@ pub(crate) fn names_between(names: &[Name], start: usize, first: u64, last: u64)
         → has_where test result.now k ≡ has_where test names.now k }
 {
     let rest = &names[start..];
-    let mut count = 0;
-    while count < rest.len() && rest[count].key <= last {
-        count += 1;
-    }
-    &rest[..count]
+    &rest[..count_to(rest, last)]
 }
 
 /// Whether a UID is Quiet at a place.
