@@ -1,5 +1,5 @@
 -- Whether the UIDs that were heard could have answered, from place to place.
-use Rattle.std.proofs.Common.{◌≡◌, ℕ, ◌+◌, ◌<◌, ◌++◌, ◌==◌, List, [], ◌∷◌, length, get_or, take, drop, zero, suc, ◌≤◌, Bool, true, false, not, ◌&&◌, ◌||◌, Some, refl, sym, ap, ◌∙◌, subst, arith, inl, inr, ⊎_elim}
+use Rattle.std.proofs.Common.{◌≡◌, ℕ, ◌+◌, ◌<◌, ◌^◌, ◌++◌, ◌==◌, List, [], ◌∷◌, length, get_or, take, drop, zero, suc, ◌≤◌, Bool, true, false, not, ◌&&◌, ◌||◌, Some, refl, sym, ap, ◌∙◌, subst, arith, inl, inr, ⊎_elim}
 use Rattle.std.specs.Prelude.{◌⊎◌, slice_get, nat_lt, if◌then◌else◌}
 use Rattle.std.specs.List.{All, list_any}
 use Rattle.std.specs.List.Sorted.{IsPermutation}
@@ -23,13 +23,12 @@ use Rattle.vic_log.proofs.Places.{answers_agree, agree_upto}
 use Rattle.vic_verdict.specs.declared.names.Name.{Name}
 use Rattle.vic_verdict.specs.Possible.{IsPossible, IsContradictedAt}
 use Rattle.vic_verdict.specs.Replies.{Answers, reply_place, is_quiet_reply, AreReady, IsQuietReply, IsHeardAt, IsReplyAt, AreHeard}
-use Rattle.vic_verdict.specs.Sweep.{is_silenced}
+use Rattle.vic_verdict.specs.Sweep.{quiet_of, is_silenced}
 use Rattle.vic_verdict.specs.Verdict.{IsLeast}
 use Rattle.vic_verdict.proofs.Silencing.{silenced_permuted}
-use Rattle.vic_verdict.proofs.Stretching.{IsPlaced, placed_next, silenced_next, silenced_after, quiet_named, quiet_next, still_quiet}
+use Rattle.vic_verdict.proofs.Stretching.{IsPlaced, quiet_silent, quiet_heard, beside_all, placed_next, silenced_next, silenced_after, quiet_named, quiet_next, still_quiet}
 use Rattle.vic_verdict.proofs.Supplied.{supplied_each}
 use Rattle.vic_verdict.proofs.Demanding.{any_kept}
-use Rattle.vic_tree.proofs.BoolLaws.{lt_from, lt_yes}
 
 -- ---- who could have answered
 
@@ -62,30 +61,26 @@ outside_reply es i r k out = up_to_it es i r k (λ answers. both_ways _ out (and
 
 none_at_start : (ns : List Name) (k : ℕ) → is_silenced ns k 0 ≡ false
 none_at_start [] k = refl
-none_at_start (n ∷ ns) k = ap (λ b. b || is_silenced ns k 0) (and_right (n.key == k) _ (not_below n.quiet)) ∙ none_at_start ns k
+none_at_start (n ∷ ns) k = ap (λ b. b || is_silenced ns k 0) (and_right (n.key == k) _ (not_below (quiet_of n))) ∙ none_at_start ns k
   where
     not_below : (q : ℕ) → nat_lt q 0 ≡ false
     not_below q = grind (arith, nat_tests)
 
-place_of : (n : Name) → n.at < n.quiet → reply_place n ≡ n.at
-place_of n lt = go (nat_lt n.at n.quiet) (lt_yes n.at n.quiet lt)
-  where
-    go : (b : Bool) → b ≡ true → (if b then n.at else 0) ≡ n.at
-    go true e = refl
-    go false e = absurd (both_ways false refl e)
+place_of : (n : Name) → n.is_heard ≡ true → reply_place n ≡ n.at
+place_of n e = ap (λ b. if b then n.at else 0) e
 
 -- whoever is Quiet at its reply was heard there
-quiet_place : (ns : List Name) (n : Name) → is_silenced ns n.key (reply_place n) ≡ true → n.at < n.quiet
-quiet_place ns n e = go (nat_lt n.at n.quiet) refl e
+quiet_place : (ns : List Name) (n : Name) → is_silenced ns n.key (reply_place n) ≡ true → n.is_heard ≡ true
+quiet_place ns n e = go n.is_heard refl
   where
-    go : (b : Bool) → nat_lt n.at n.quiet ≡ b → is_silenced ns n.key (if b then n.at else 0) ≡ true → n.at < n.quiet
-    go true f h = lt_from n.at n.quiet f
-    go false f h = absurd (both_ways _ (none_at_start ns n.key) h)
+    go : (b : Bool) → n.is_heard ≡ b → n.is_heard ≡ true
+    go true f = f
+    go false f = absurd (both_ways _ (none_at_start ns n.key) (subst (λ b. is_silenced ns n.key (if b then n.at else 0) ≡ true) f e))
 
 -- ---- from place to place
 
 abbrev HeardIn : List Entry → ℕ → ℕ → Name → Type 0
-HeardIn es from i n = n.at < n.quiet → IsHeardAt es from i n
+HeardIn es from i n = n.is_heard ≡ true → IsHeardAt es from i n
 
 replies_next : (es : List Entry) (from i : ℕ) (ns : List Name) → All (HeardIn es from i) ns → All (HeardIn es from (i + 1)) ns
 replies_next es from i ns h k d below lt =
@@ -94,25 +89,25 @@ replies_next es from i ns h k d below lt =
     record { reply = it.reply; heard = it.heard; key = it.key; is_uid = it.is_uid; inside = it.inside; since = it.since; before = omega (arith, before) }
 
 -- at the next place
-quiet_range : (es : List Entry) (from i end : ℕ) (ns ms : List Name) → ((j u : ℕ) → j ≤ i → is_silenced ms (mirror u) j ≡ is_silenced ns (mirror u) j) → ((u : ℕ) → IsUid u → is_silenced ms (mirror u) (i + 1) ≡ is_quiet es (i + 1) u) → ((j u : ℕ) → from ≤ j → j ≤ i → IsUid u → is_silenced ns (mirror u) j ≡ is_quiet es j u) → (j u : ℕ) → from ≤ j → j ≤ i + 1 → IsUid u → is_silenced ms (mirror u) j ≡ is_quiet es j u
-quiet_range es from i end ns ms same next quiet j u since upto w =
+quiet_range : (es : List Entry) (from i : ℕ) (ns ms : List Name) → ((j u : ℕ) → j ≤ i → is_silenced ms (mirror u) j ≡ is_silenced ns (mirror u) j) → ((u : ℕ) → IsUid u → is_silenced ms (mirror u) (i + 1) ≡ is_quiet es (i + 1) u) → ((j u : ℕ) → from ≤ j → j ≤ i → IsUid u → is_silenced ns (mirror u) j ≡ is_quiet es j u) → (j u : ℕ) → from ≤ j → j ≤ i + 1 → IsUid u → is_silenced ms (mirror u) j ≡ is_quiet es j u
+quiet_range es from i ns ms same next quiet j u since upto w =
     ⊎_elim
     (λ e. subst (λ n. is_silenced ms (mirror u) n ≡ is_quiet es n u) (sym e) (next u w))
     (λ ne. same j u (omega (arith, upto, ne)) ∙ quiet j u since (omega (arith, upto, ne)) w)
     (cases_eq j (i + 1))
 
 -- what the names tell at the place after an entry that silences and wakes nobody
-quiet_still : (es : List Entry) (i end u : ℕ) (ns : List Name) (e : Entry) → slice_get es i ≡ Some e → i < end → wakes (Some e) ≡ false → silences (Some e) u ≡ false → IsUid u → AreHeard es i end ns → is_silenced ns (mirror u) (i + 1) ≡ is_quiet es (i + 1) u
-quiet_still es i end u ns e k lt awake none w h =
-    silenced_next ns (mirror u) i end lt h.names ∙ (h.quiet i u h.begun (omega arith) w ∙ (still_quiet _ _ (is_quiet es i u) none awake ∙ sym (quiet_next es i u e k)))
+quiet_still : (es : List Entry) (i u : ℕ) (ns : List Name) (e : Entry) → slice_get es i ≡ Some e → i < 2 ^ 32 → wakes (Some e) ≡ false → silences (Some e) u ≡ false → IsUid u → AreHeard es i ns → is_silenced ns (mirror u) (i + 1) ≡ is_quiet es (i + 1) u
+quiet_still es i u ns e k lt awake none w h =
+    silenced_next ns (mirror u) i (beside_all i ns lt h.names) ∙ (h.quiet i u h.begun (omega arith) w ∙ (still_quiet _ _ (is_quiet es i u) none awake ∙ sym (quiet_next es i u e k)))
 
 -- an entry that hears, silences and wakes nobody
-pub heard_passed : (es : List Entry) (i end : ℕ) (ns : List Name) (e : Entry) → slice_get es i ≡ Some e → i < end → ((r : Reply) → e ≡ Heard r → ⊥) → wakes (Some e) ≡ false → ((u : ℕ) → IsUid u → silences (Some e) u ≡ false) → AreHeard es i end ns → AreHeard es (i + 1) end ns
-heard_passed es i end ns e k lt deaf awake none h = record {
+pub heard_passed : (es : List Entry) (i : ℕ) (ns : List Name) (e : Entry) → slice_get es i ≡ Some e → i < 2 ^ 32 → ((r : Reply) → e ≡ Heard r → ⊥) → wakes (Some e) ≡ false → ((u : ℕ) → IsUid u → silences (Some e) u ≡ false) → AreHeard es i ns → AreHeard es (i + 1) ns
+heard_passed es i ns e k lt deaf awake none h = record {
   from = h.from;
   begun = let b = h.begun in omega (arith, b);
-  names = placed_next i end ns h.names;
-  quiet = quiet_range es h.from i end ns ns (λ j u le. refl) (λ u w. quiet_still es i end u ns e k lt awake (none u w) w h) h.quiet;
+  names = placed_next i ns h.names;
+  quiet = quiet_range es h.from i ns ns (λ j u le. refl) (λ u w. quiet_still es i u ns e k lt awake (none u w) w h) h.quiet;
   replies = replies_next es h.from i ns h.replies;
   answer = λ j r below f.
       ⊎_elim
@@ -122,14 +117,14 @@ heard_passed es i end ns e k lt deaf awake none h = record {
 }
 
 -- a Stay Quiet
-pub heard_silenced : (es : List Entry) (i end : ℕ) (ns ms : List Name) (e : Entry) (n : Name) → slice_get es i ≡ Some e → i < end → ((r : Reply) → e ≡ Heard r → ⊥) → wakes (Some e) ≡ false → ((u : ℕ) → IsUid u → silences (Some e) u ≡ (n.key == mirror u)) → n.at ≡ i → n.quiet ≡ i → ms ≡ ns ++ n ∷ [] → AreHeard es i end ns → AreHeard es (i + 1) end ms
-heard_silenced es i end ns ms e n k lt deaf awake one at quiet is h = subst (AreHeard es (i + 1) end) (sym is) (record {
+pub heard_silenced : (es : List Entry) (i : ℕ) (ns ms : List Name) (e : Entry) (n : Name) → slice_get es i ≡ Some e → i < 2 ^ 32 → ((r : Reply) → e ≡ Heard r → ⊥) → wakes (Some e) ≡ false → ((u : ℕ) → IsUid u → silences (Some e) u ≡ (n.key == mirror u)) → n.at ≡ i → n.is_heard ≡ false → ms ≡ ns ++ n ∷ [] → AreHeard es i ns → AreHeard es (i + 1) ms
+heard_silenced es i ns ms e n k lt deaf awake one at silent is h = subst (AreHeard es (i + 1)) (sym is) (record {
   from = h.from;
   begun = let b = h.begun in omega (arith, b);
-  names = All-push (IsPlaced (i + 1) end) ns n (placed_next i end ns h.names) (inl (omega (arith, quiet)));
-  quiet = quiet_range es h.from i end ns (ns ++ n ∷ []) (λ j u le. silenced_after ns n (mirror u) j (omega (arith, le, quiet)))
-      (λ u w. quiet_named es i u e ns n k awake (one u w) quiet (silenced_next ns (mirror u) i end lt h.names ∙ h.quiet i u h.begun (omega arith) w)) h.quiet;
-  replies = All-push (HeardIn es h.from (i + 1)) ns n (replies_next es h.from i ns h.replies) (λ late. absurd (omega (arith, late, at, quiet)));
+  names = All-push (IsPlaced (i + 1)) ns n (placed_next i ns h.names) (λ _. omega (arith, at));
+  quiet = quiet_range es h.from i ns (ns ++ n ∷ []) (λ j u le. silenced_after ns n (mirror u) j (let q = quiet_silent n silent in omega (arith, le, q, at)))
+      (λ u w. quiet_named es i u e ns n k awake (one u w) (quiet_silent n silent ∙ at) (silenced_next ns (mirror u) i (beside_all i ns lt h.names) ∙ h.quiet i u h.begun (omega arith) w)) h.quiet;
+  replies = All-push (HeardIn es h.from (i + 1)) ns n (replies_next es h.from i ns h.replies) (λ late. absurd (both_ways _ silent late));
   answer = λ j r below f.
       ⊎_elim
       (λ here. absurd (deaf r (let both : Some e ≡ Some (Heard r) = sym k ∙ subst (λ n. slice_get es n ≡ Some (Heard r)) here f in cc)))
@@ -138,13 +133,13 @@ heard_silenced es i end ns ms e n k lt deaf awake one at quiet is h = subst (Are
 })
 
 -- an entry that hears a UID of its mask
-pub heard_more : (es : List Entry) (i end : ℕ) (ns ms : List Name) (r : Reply) (n : Name) → slice_get es i ≡ Some (Heard r) → i < end → n.key ≡ mirror r.uid → IsUid r.uid → n.at ≡ i → n.quiet ≡ end → lies_in_some (mask_at es i) r.uid ≡ true → ms ≡ ns ++ n ∷ [] → AreHeard es i end ns → AreHeard es (i + 1) end ms
-heard_more es i end ns ms r n k lt key is_uid at quiet inside is h = subst (AreHeard es (i + 1) end) (sym is) (record {
+pub heard_more : (es : List Entry) (i : ℕ) (ns ms : List Name) (r : Reply) (n : Name) → slice_get es i ≡ Some (Heard r) → i < 2 ^ 32 → n.key ≡ mirror r.uid → IsUid r.uid → n.at ≡ i → n.is_heard ≡ true → lies_in_some (mask_at es i) r.uid ≡ true → ms ≡ ns ++ n ∷ [] → AreHeard es i ns → AreHeard es (i + 1) ms
+heard_more es i ns ms r n k lt key is_uid at heard inside is h = subst (AreHeard es (i + 1)) (sym is) (record {
   from = h.from;
   begun = let b = h.begun in omega (arith, b);
-  names = All-push (IsPlaced (i + 1) end) ns n (placed_next i end ns h.names) (inr (omega (arith, quiet)));
-  quiet = quiet_range es h.from i end ns (ns ++ n ∷ []) (λ j u le. silenced_after ns n (mirror u) j (omega (arith, le, lt, quiet)))
-      (λ u w. silenced_after ns n (mirror u) (i + 1) (omega (arith, lt, quiet)) ∙ quiet_still es i end u ns (Heard r) k lt refl refl w h) h.quiet;
+  names = All-push (IsPlaced (i + 1)) ns n (placed_next i ns h.names) (λ silent. absurd (both_ways _ silent heard));
+  quiet = quiet_range es h.from i ns (ns ++ n ∷ []) (λ j u le. silenced_after ns n (mirror u) j (let q = quiet_heard n heard in omega (arith, le, lt, q)))
+      (λ u w. silenced_after ns n (mirror u) (i + 1) (let q = quiet_heard n heard in omega (arith, lt, q)) ∙ quiet_still es i u ns (Heard r) k lt refl refl w h) h.quiet;
   replies = All-push (HeardIn es h.from (i + 1)) ns n (replies_next es h.from i ns h.replies) (λ late. record {
     reply = r;
     heard = subst (λ j. slice_get es j ≡ Some (Heard r)) (sym at) k;
@@ -156,14 +151,14 @@ heard_more es i end ns ms r n k lt key is_uid at quiet inside is h = subst (AreH
   });
   answer = λ j q below f.
       ⊎_elim
-      (λ here. inr (Any-push (IsReplyAt j) ns n (at ∙ sym here, omega (arith, at, quiet, lt))))
+      (λ here. inr (Any-push (IsReplyAt j) ns n (at ∙ sym here, heard)))
       (λ ne. ⊎_elim (λ y. inl y) (λ w. inr (any_kept (IsReplyAt j) ns n w)) (h.answer j q (omega (arith, below, ne)) f))
       (cases_eq j i);
 })
 
 -- a silent slot, a collision, a garbled slot or a listed UID
-pub heard_other : (es : List Entry) (i end : ℕ) (ns : List Name) (e : Entry) → slice_get es i ≡ Some e → i < end → (e ≡ Collision) ⊎ ((e ≡ Garbled) ⊎ (((u : ℕ) × (e ≡ Listed u)) ⊎ (e ≡ FieldCycle))) → (e ≡ FieldCycle → ⊥) → AreHeard es i end ns → AreHeard es (i + 1) end ns
-heard_other es i end ns e k lt is other h =
+pub heard_other : (es : List Entry) (i : ℕ) (ns : List Name) (e : Entry) → slice_get es i ≡ Some e → i < 2 ^ 32 → (e ≡ Collision) ⊎ ((e ≡ Garbled) ⊎ (((u : ℕ) × (e ≡ Listed u)) ⊎ (e ≡ FieldCycle))) → (e ≡ FieldCycle → ⊥) → AreHeard es i ns → AreHeard es (i + 1) ns
+heard_other es i ns e k lt is other h =
     ⊎_elim
     (λ s. pass Collision (k ∙ ap (λ (x : Entry). Some x) s) (λ r c. cc) refl (λ u. refl))
     (λ v. ⊎_elim
@@ -175,11 +170,11 @@ heard_other es i end ns e k lt is other h =
     v)
     is
   where
-    pass : (f : Entry) → slice_get es i ≡ Some f → ((r : Reply) → f ≡ Heard r → ⊥) → wakes (Some f) ≡ false → ((u : ℕ) → silences (Some f) u ≡ false) → AreHeard es (i + 1) end ns
-    pass f g deaf awake loud = heard_passed es i end ns f g lt deaf awake (λ u w. loud u) h
+    pass : (f : Entry) → slice_get es i ≡ Some f → ((r : Reply) → f ≡ Heard r → ⊥) → wakes (Some f) ≡ false → ((u : ℕ) → silences (Some f) u ≡ false) → AreHeard es (i + 1) ns
+    pass f g deaf awake loud = heard_passed es i ns f g lt deaf awake (λ u w. loud u) h
 
-pub heard_silent : (es : List Entry) (i end : ℕ) (ns : List Name) → slice_get es i ≡ Some Silent → i < end → AreHeard es i end ns → AreHeard es (i + 1) end ns
-heard_silent es i end ns k lt h = heard_passed es i end ns Silent k lt (λ r c. cc) refl (λ u w. refl) h
+pub heard_silent : (es : List Entry) (i : ℕ) (ns : List Name) → slice_get es i ≡ Some Silent → i < 2 ^ 32 → AreHeard es i ns → AreHeard es (i + 1) ns
+heard_silent es i ns k lt h = heard_passed es i ns Silent k lt (λ r c. cc) refl (λ u w. refl) h
 
 -- ---- what the names tell
 
@@ -188,8 +183,8 @@ not_quiet true e = sym e
 not_quiet false e = refl
 
 -- a reply by a UID that is Quiet there
-pub quiet_contradicts : (es : List Entry) (i end at : ℕ) (ns : List Name) → AreHeard es i end ns → IsQuietReply ns at → IsContradictedAt es at
-quiet_contradicts es i end at ns a some =
+pub quiet_contradicts : (es : List Entry) (i at : ℕ) (ns : List Name) → AreHeard es i ns → IsQuietReply ns at → IsContradictedAt es at
+quiet_contradicts es i at ns a some =
     let w = Any-from_list_any (λ (n : Name). (reply_place n == at) && is_silenced ns n.key at) ns some in
     let n : Name = w.1 in
     let parts = and_parts (reply_place n == at) (is_silenced ns n.key at) w.4 in
@@ -210,8 +205,8 @@ any_false p ns k d below none = go (p (get_or ns k d)) refl
     go false e = e
 
 -- where there is none, those before place i answer
-pub answers_before : (es : List Entry) (i end : ℕ) (ns : List Name) → AreHeard es i end ns → AreReady ns → (j : ℕ) (r : Reply) → j < i → slice_get es j ≡ Some (Heard r) → Answers es j r.uid
-answers_before es i end ns a none j r below k =
+pub answers_before : (es : List Entry) (i : ℕ) (ns : List Name) → AreHeard es i ns → AreReady ns → (j : ℕ) (r : Reply) → j < i → slice_get es j ≡ Some (Heard r) → Answers es j r.uid
+answers_before es i ns a none j r below k =
     ⊎_elim
     (λ y. y)
     (λ w.
@@ -229,8 +224,8 @@ answers_before es i end ns a none j r below k =
 
 -- ---- where a stretch begins
 
-pub heard_first : (es : List Entry) (end : ℕ) → AreHeard es 0 end []
-heard_first es end = record {
+pub heard_first : (es : List Entry) → AreHeard es 0 []
+heard_first es = record {
   from = 0;
   begun = omega arith;
   names = λ k d below. absurd (omega (arith, below));
@@ -240,8 +235,8 @@ heard_first es end = record {
 }
 
 -- a field cycle
-pub heard_anew : (es : List Entry) (i end : ℕ) (ns ms : List Name) (e : Entry) → slice_get es i ≡ Some e → e ≡ FieldCycle → ms ≡ [] → AreReady ns → AreHeard es i end ns → AreHeard es (i + 1) end ms
-heard_anew es i end ns ms e k is none ready a = subst (AreHeard es (i + 1) end) (sym none) (record {
+pub heard_anew : (es : List Entry) (i : ℕ) (ns ms : List Name) (e : Entry) → slice_get es i ≡ Some e → e ≡ FieldCycle → ms ≡ [] → AreReady ns → AreHeard es i ns → AreHeard es (i + 1) ms
+heard_anew es i ns ms e k is none ready a = subst (AreHeard es (i + 1)) (sym none) (record {
   from = i + 1;
   begun = omega arith;
   names = λ j d below. absurd (omega (arith, below));
@@ -250,7 +245,7 @@ heard_anew es i end ns ms e k is none ready a = subst (AreHeard es (i + 1) end) 
   answer = λ j r lt f.
       ⊎_elim
       (λ here. absurd (let both : Some FieldCycle ≡ Some (Heard r) = ap (λ (x : Entry). Some x) (sym is) ∙ (sym k ∙ subst (λ n. slice_get es n ≡ Some (Heard r)) here f) in cycle_heard r both))
-      (λ ne. inl (answers_before es i end ns a ready j r (omega (arith, lt, ne)) f))
+      (λ ne. inl (answers_before es i ns a ready j r (omega (arith, lt, ne)) f))
       (cases_eq j i);
 })
   where

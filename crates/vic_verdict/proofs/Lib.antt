@@ -23,7 +23,6 @@ pub mod Gathering
 pub mod Explaining
 pub mod Silencing
 pub mod Demanding
-pub mod NameOrder
 pub mod KeyOrder
 pub mod Replying
 pub mod Heard

@@ -1,5 +1,6 @@
 -- The UIDs that a log lists, line by line.
-use Rattle.std.proofs.Common.{◌≡◌, ℕ, zero, suc, ◌<◌, ◌+◌, List, [], ◌∷◌, ◌++◌, Some, take, refl, sym, ap, ◌∙◌, arith, append_assoc}
+use Rattle.std.proofs.Common.{◌≡◌, ℕ, zero, suc, ◌<◌, ◌+◌, List, [], ◌∷◌, ◌++◌, Some, take, refl, sym, ap, ◌∙◌, arith, append_assoc, length, get_or, ◌^◌}
+use Rattle.std.proofs.lemmas.Option.{slice_get_read}
 use Rattle.std.specs.Prelude.{slice_get}
 use Rattle.vic_log.specs.declared.entry.Entry.{Entry}
 use Rattle.vic_log.specs.declared.entry.Entry.TheVariants.{Sent, Silent, Collision, Heard, Listed, Garbled, FieldCycle}
@@ -30,3 +31,10 @@ pub number_above : (n : ℕ) (lines : List LogLine) (i : ℕ) (l : LogLine) → 
 number_above n [] i l r k = cc
 number_above n (x ∷ lines) zero l r k = let same : x ≡ l = cc in let e = ap (λ y. y.number) same in let h = r.0 in omega arith
 number_above n (x ∷ lines) (suc i) l r k = let h = number_above x.number lines i l r.1 k in let b = r.0 in omega arith
+
+-- so a place has 32 bits as well
+pub place_bound : (lines : List LogLine) (i number : ℕ) (l : LogLine) → IsRisingFrom 0 lines → i < length lines → l ≡ get_or lines i l → number ≡ l.number → number < 2 ^ 32 → i < 2 ^ 32
+place_bound lines i number l up within here value small =
+    let at = slice_get_read lines (length lines) i l refl within here in
+    let above = number_above 0 lines i l up at in
+    omega (arith, above, small, value)

@@ -1,74 +1,48 @@
 -- Whether somebody was heard while Quiet, by names in the order of their keys.
-use Rattle.std.proofs.Common.{◌≡◌, ℕ, ◌+◌, ◌<◌, ◌≤◌, ◌==◌, List, length, get_or, true, false, ◌&&◌, Option, Some, None, refl, sym, ap, ◌∙◌, subst, arith, ⊎_elim}
+use Rattle.std.proofs.Common.{◌≡◌, ℕ, ◌+◌, ◌-◌, ◌<◌, ◌≤◌, ◌==◌, List, length, get_or, [], ◌∷◌, Bool, true, false, ◌&&◌, ◌||◌, Option, Some, None, refl, sym, ap, ◌∙◌, subst, arith, ⊎_elim}
 use Rattle.std.specs.Prelude.{MatchOption, IfSome, nat_lt}
-use Rattle.std.proofs.lemmas.Bool.{cases_eq, cases_lt, and_parts, and_from, eq-eqb, eqb-true, false_from_ne_true, false≢true}
+use Rattle.std.proofs.lemmas.Bool.{cases_eq, and_parts, and_from, eq-eqb, eqb-true, false_from_ne_true, false≢true}
 use Rattle.std.proofs.lemmas.Bool.Decides.{nat_tests}
+use Rattle.std.specs.List.{All, list_any}
 use Rattle.std.proofs.lemmas.List.{get_or_default}
+use Rattle.std.proofs.lemmas.List.Elements.{All-head, All-tail}
 use Rattle.std.proofs.lemmas.List.Folds.{list_any_at, Any-from_list_any}
 use Rattle.vic_verdict.specs.declared.names.Name.{Name}
+use Rattle.vic_verdict.specs.declared.names.TheConstants.{NEVER}
 use Rattle.vic_verdict.specs.Replies.{reply_place, is_quiet_reply, AreReady, IsQuietReply, IsEarlier}
-use Rattle.vic_verdict.specs.Sweep.{is_silenced, AreInOrder, AreInQuietOrder}
+use Rattle.vic_verdict.specs.Sweep.{quiet_of, is_silenced, is_between, has_where, AreInOrder}
 use Rattle.vic_verdict.specs.Verdict.{IsLeast}
-use Rattle.vic_verdict.proofs.Sweeping.{nobody}
-use Rattle.vic_tree.proofs.BoolLaws.{lt_from, lt_yes, same_tests}
+use Rattle.vic_verdict.proofs.Closing.{between_from}
+use Rattle.vic_verdict.proofs.Sweeping.{nobody, between_parts}
+use Rattle.vic_tree.proofs.BoolLaws.{lt_from, lt_yes}
 
 -- the name at a place of a list
 abbrev pub at : List Name → ℕ → Name
 at ns i = get_or ns i nobody
 
--- a name is the first one of the key of those before place k, from it on
-pub record IsHead (ns : List Name) (head k : ℕ) : Type 0 where
-  pub upto : head ≤ k
-  pub lower : (j : ℕ) → j < head → (at ns j).key < (at ns head).key
-  pub same : (j : ℕ) → head ≤ j → j < k → (at ns j).key ≡ (at ns head).key
+-- the places at which the UID of a name is Quiet are those after this one
+abbrev pub TellsFrom : List Name → ℕ → ℕ → Type 0
+TellsFrom ns k quiet = (i : ℕ) → i ≤ NEVER → is_silenced ns (at ns k).key i ≡ nat_lt quiet i
 
-pub head_first : (ns : List Name) → IsHead ns 0 0
-head_first ns = record { upto = omega arith; lower = λ j lt. absurd (omega (arith, lt)); same = λ j ge lt. absurd (omega (arith, lt)) }
+-- where a UID falls silent first by the names of its key
+pub quiet_own : (own : List Name) (key i : ℕ) → All (λ (n : Name). is_between key key n.key ≡ true) own → is_silenced own key i ≡ list_any (λ (n : Name). nat_lt (quiet_of n) i) own
+quiet_own [] key i inside = refl
+quiet_own (n ∷ own) key i inside =
+    let parts = between_parts key key n.key (All-head (λ (m : Name). is_between key key m.key ≡ true) n own inside) in
+    let from = parts.0 in
+    let to = parts.1 in
+    ap (λ b. (b && nat_lt (quiet_of n) i) || is_silenced own key i) (eq-eqb n.key key (omega (arith, from, to)))
+    ∙ ap (λ b. nat_lt (quiet_of n) i || b) (quiet_own own key i (All-tail (λ (m : Name). is_between key key m.key ≡ true) n own inside))
 
--- a name of another key
-pub head_anew : (ns : List Name) (head k : ℕ) → (at ns head).key < (at ns k).key → IsHead ns head k → IsHead ns k (k + 1)
-head_anew ns head k above h = record {
-  upto = omega arith;
-  lower = λ j lt.
-      ⊎_elim
-      (λ before. let low = h.lower j before in omega (arith, low, above))
-      (λ since. let one = h.same j since lt in omega (arith, one, above))
-      (cases_lt j head);
-  same = λ j ge lt. ap (λ i. (at ns i).key) (let e : j ≡ k = omega (arith, ge, lt) in e);
-}
+pub tells_own : (ns own : List Name) (key quiet i : ℕ) → All (λ (n : Name). is_between key key n.key ≡ true) own → ((test : Name → Bool) (k : ℕ) → is_between key key k ≡ true → has_where test own k ≡ has_where test ns k) → nat_lt quiet i ≡ list_any (λ (n : Name). nat_lt (quiet_of n) i) own → is_silenced ns key i ≡ nat_lt quiet i
+tells_own ns own key quiet i inside all first =
+    sym (all (λ (n : Name). nat_lt (quiet_of n) i) key (between_from key key key (omega arith) (omega arith))) ∙ (quiet_own own key i inside ∙ sym first)
 
--- a name more of the same key
-pub head_still : (ns : List Name) (head k : ℕ) → AreInOrder ns → k < length ns → (at ns k).key ≤ (at ns head).key → IsHead ns head k → IsHead ns head (k + 1)
-head_still ns head k up below upper h = record {
-  upto = let le = h.upto in omega (arith, le);
-  lower = h.lower;
-  same = λ j ge lt.
-      ⊎_elim
-      (λ e. subst (λ i. (at ns i).key ≡ (at ns head).key) (sym e) (let over = up head k nobody h.upto below in omega (arith, over, upper)))
-      (λ ne. h.same j ge (omega (arith, lt, ne)))
-      (cases_eq j k);
-}
-
--- the first name of a key tells from where on it is Quiet
-silenced_by_head : (ns : List Name) (head k i : ℕ) → AreInQuietOrder ns → k < length ns → IsHead ns head (k + 1) → head ≤ k → is_silenced ns (at ns k).key i ≡ nat_lt (at ns head).quiet i
-silenced_by_head ns head k i quiet below h le = same_tests _ _ to from where
-  to : is_silenced ns (at ns k).key i ≡ true → nat_lt (at ns head).quiet i ≡ true
-  to e =
-      let some = Any-from_list_any (λ (n : Name). (n.key == (at ns k).key) && nat_lt n.quiet i) ns e in
-      let n : Name = some.1 in
-      let within = some.2 in
-      let here : at ns some.0 ≡ n = sym (get_or_default ns some.0 n nobody within) ∙ some.3 in
-      let parts = and_parts (n.key == (at ns k).key) (nat_lt n.quiet i) some.4 in
-      let key : (at ns some.0).key ≡ (at ns head).key = ap (λ (m : Name). m.key) here ∙ (eqb-true n.key (at ns k).key parts.0 ∙ h.same k le (omega arith)) in
-      let soon = lt_from _ _ parts.1 in
-      let quiet_here = ap (λ (m : Name). m.quiet) here in
-      ⊎_elim
-      (λ lt. let low = h.lower some.0 lt in absurd (omega (arith, low, key)))
-      (λ ge. lt_yes _ _ (let q = quiet head some.0 nobody ge within (sym key) in omega (arith, q, soon, quiet_here)))
-      (cases_lt some.0 head)
-
-  from : nat_lt (at ns head).quiet i ≡ true → is_silenced ns (at ns k).key i ≡ true
-  from e = list_any_at (λ (n : Name). (n.key == (at ns k).key) && nat_lt n.quiet i) ns head nobody (omega (arith, le, below)) (and_from _ _ (eq-eqb _ _ (sym (h.same k le (omega arith)))) e)
+-- and so for the next name, of the same key
+pub tells_still : (ns : List Name) (k quiet : ℕ) → AreInOrder ns → 0 < k → k < length ns → (at ns k).key ≤ (at ns (k - 1)).key → TellsFrom ns (k - 1) quiet → TellsFrom ns k quiet
+tells_still ns k quiet up some below le tells i upto =
+    let over = up (k - 1) k nobody (omega arith) below in
+    ap (λ key. is_silenced ns key i) (omega (arith, over, le)) ∙ tells i upto
 
 -- what is found of the first k names
 abbrev pub IsFoundTo : List Name → ℕ → Option ℕ → Type 0
@@ -80,9 +54,9 @@ IsFoundTo ns k first = MatchOption first
 quiet_here : (ns : List Name) (k : ℕ) → k < length ns → is_quiet_reply ns (at ns k) ≡ true → IsQuietReply ns (reply_place (at ns k))
 quiet_here ns k below e = list_any_at (λ (n : Name). (reply_place n == reply_place (at ns k)) && is_silenced ns n.key (reply_place (at ns k))) ns k nobody below (and_from _ _ (eq-eqb _ _ refl) e)
 
-pub found_more : (ns : List Name) (head k : ℕ) (first next : Option ℕ) → AreInQuietOrder ns → k < length ns → IsHead ns head (k + 1) → head ≤ k → MatchOption next ((first ≡ None) × (reply_place (at ns k) ≤ (at ns head).quiet)) (IsEarlier first (at ns head).quiet (reply_place (at ns k))) → IsFoundTo ns k first → IsFoundTo ns (k + 1) next
-found_more ns head k first None quiet below h le e found =
-    let told = silenced_by_head ns head k (reply_place (at ns k)) quiet below h le in
+pub found_more : (ns : List Name) (quiet k : ℕ) (first next : Option ℕ) → k < length ns → reply_place (at ns k) ≤ NEVER → TellsFrom ns k quiet → MatchOption next ((first ≡ None) × (reply_place (at ns k) ≤ quiet)) (IsEarlier first quiet (reply_place (at ns k))) → IsFoundTo ns k first → IsFoundTo ns (k + 1) next
+found_more ns quiet k first None below small tells e found =
+    let told = tells (reply_place (at ns k)) small in
     λ j lt.
     ⊎_elim
     (λ same. subst (λ i. is_quiet_reply ns (at ns i) ≡ false) (sym same) (told ∙ late (e.1)))
@@ -91,9 +65,9 @@ found_more ns head k first None quiet below h le e found =
   where
     late : {q r : ℕ} → r ≤ q → nat_lt q r ≡ false
     late {q} {r} le = grind (arith, nat_tests)
-found_more ns head k first (Some place) quiet below h le e found = (is, least) where
-  told : is_quiet_reply ns (at ns k) ≡ nat_lt (at ns head).quiet (reply_place (at ns k))
-  told = silenced_by_head ns head k (reply_place (at ns k)) quiet below h le
+found_more ns quiet k first (Some place) below small tells e found = (is, least) where
+  told : is_quiet_reply ns (at ns k) ≡ nat_lt quiet (reply_place (at ns k))
+  told = tells (reply_place (at ns k)) small
 
   is : IsQuietReply ns place
   is = ⊎_elim

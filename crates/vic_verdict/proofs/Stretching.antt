@@ -1,6 +1,6 @@
 -- What a judge gathers from field cycle to field cycle.
-use Rattle.std.proofs.Common.{◌≡◌, ℕ, ◌+◌, ◌<◌, ◌≤◌, ◌==◌, ◌++◌, ◌^◌, List, [], ◌∷◌, Bool, true, false, not, ◌&&◌, ◌||◌, Option, Some, None, refl, sym, ap, ◌∙◌, subst, arith, add-one, inl, inr, ⊎_elim}
-use Rattle.std.specs.Prelude.{◌⊎◌, nat_lt, slice_get}
+use Rattle.std.proofs.Common.{◌≡◌, ℕ, ◌+◌, ◌<◌, ◌≤◌, ◌==◌, ◌++◌, ◌^◌, List, [], ◌∷◌, get_or, Bool, true, false, not, ◌&&◌, ◌||◌, Option, Some, None, refl, sym, ap, ◌∙◌, subst, arith, add-one, inl, inr, ⊎_elim}
+use Rattle.std.specs.Prelude.{◌⊎◌, nat_lt, slice_get, if◌then◌else◌}
 use Rattle.std.specs.List.{All}
 use Rattle.std.proofs.lemmas.Bool.{eq-eqb, false≢true, and_parts, and_from, and_right}
 use Rattle.std.proofs.lemmas.Bool.Decides.{nat_tests}
@@ -18,8 +18,9 @@ use Rattle.vic_log.specs.Quiet.{silences, wakes, is_quiet}
 use Rattle.vic_log.specs.Populations.{answers_at}
 use Rattle.vic_log.specs.Slots.{reading_of, slots_before, is_open}
 use Rattle.vic_verdict.specs.declared.names.Name.{Name}
+use Rattle.vic_verdict.specs.declared.names.TheConstants.{NEVER}
 use Rattle.vic_verdict.specs.declared.closed.Spot.{Spot}
-use Rattle.vic_verdict.specs.Sweep.{heard_of, is_heard, is_in, is_silenced, spot_allows, all_allow, is_named, is_named_if, all_hear_named, are_left}
+use Rattle.vic_verdict.specs.Sweep.{quiet_of, heard_of, is_heard, is_in, is_silenced, spot_allows, all_allow, is_named, is_named_if, all_hear_named, are_left}
 use Rattle.vic_verdict.specs.Stretches.{AddsSpot, IsStretch}
 use Rattle.vic_verdict.proofs.Entries.{entry_allows}
 use Rattle.vic_verdict.proofs.Stands.{open_next}
@@ -30,21 +31,42 @@ lt_no x y e = grind (arith, nat_tests)
 
 -- ---- a name more
 
-pub silenced_pushed : (ns : List Name) (n : Name) (k i : ℕ) → is_silenced (ns ++ n ∷ []) k i ≡ (is_silenced ns k i || ((n.key == k) && nat_lt n.quiet i))
-silenced_pushed ns n k i = list_any-append (λ (m : Name). (m.key == k) && nat_lt m.quiet i) ns (n ∷ []) ∙ ap (λ b. is_silenced ns k i || b) (or_false ((n.key == k) && nat_lt n.quiet i))
+pub silenced_pushed : (ns : List Name) (n : Name) (k i : ℕ) → is_silenced (ns ++ n ∷ []) k i ≡ (is_silenced ns k i || ((n.key == k) && nat_lt (quiet_of n) i))
+silenced_pushed ns n k i = list_any-append (λ (m : Name). (m.key == k) && nat_lt (quiet_of m) i) ns (n ∷ []) ∙ ap (λ b. is_silenced ns k i || b) (or_false ((n.key == k) && nat_lt (quiet_of n) i))
 
-pub silenced_after : (ns : List Name) (n : Name) (k i : ℕ) → i ≤ n.quiet → is_silenced (ns ++ n ∷ []) k i ≡ is_silenced ns k i
-silenced_after ns n k i h = silenced_pushed ns n k i ∙ (ap (λ b. is_silenced ns k i || b) (and_right (n.key == k) (nat_lt n.quiet i) (lt_no n.quiet i h)) ∙ or_false (is_silenced ns k i))
+pub silenced_after : (ns : List Name) (n : Name) (k i : ℕ) → i ≤ quiet_of n → is_silenced (ns ++ n ∷ []) k i ≡ is_silenced ns k i
+silenced_after ns n k i h = silenced_pushed ns n k i ∙ (ap (λ b. is_silenced ns k i || b) (and_right (n.key == k) (nat_lt (quiet_of n) i) (lt_no (quiet_of n) i h)) ∙ or_false (is_silenced ns k i))
 
--- places of names before i, or at the end of the log
-abbrev pub IsPlaced : ℕ → ℕ → Name → Type 0
-IsPlaced i end n = (n.quiet < i) ⊎ (end ≤ n.quiet)
+-- the place after which a UID is Quiet by a name
+pub quiet_silent : (n : Name) → n.is_heard ≡ false → quiet_of n ≡ n.at
+quiet_silent n e = ap (λ b. if b then NEVER else n.at) e
 
-pub silenced_next : (ns : List Name) (k i end : ℕ) → i < end → All (IsPlaced i end) ns → is_silenced ns k (i + 1) ≡ is_silenced ns k i
-silenced_next [] k i end lt h = refl
-silenced_next (n ∷ ns) k i end lt h =
-    ap (λ b. ((n.key == k) && b) || is_silenced ns k (i + 1)) (go (All-head (IsPlaced i end) n ns h))
-    ∙ ap (λ b. ((n.key == k) && nat_lt n.quiet i) || b) (silenced_next ns k i end lt (All-tail (IsPlaced i end) n ns h))
+pub quiet_heard : (n : Name) → n.is_heard ≡ true → quiet_of n ≡ NEVER
+quiet_heard n e = ap (λ b. if b then NEVER else n.at) e
+
+-- a line that silences a UID is before place i
+abbrev pub IsPlaced : ℕ → Name → Type 0
+IsPlaced i n = n.is_heard ≡ false → n.at < i
+
+-- by a name no UID falls silent at place i
+abbrev pub IsBeside : ℕ → Name → Type 0
+IsBeside i n = (quiet_of n < i) ⊎ (i < quiet_of n)
+
+pub beside_all : (i : ℕ) (ns : List Name) → i < 2 ^ 32 → All (IsPlaced i) ns → All (IsBeside i) ns
+beside_all i ns small h k d below = go (get_or ns k d) (h k d below)
+  where
+    go : (n : Name) → IsPlaced i n → IsBeside i n
+    go n placed = at n.is_heard refl
+      where
+        at : (b : Bool) → n.is_heard ≡ b → IsBeside i n
+        at true e = inr (let q = quiet_heard n e in omega (arith, q, small))
+        at false e = inl (let q = quiet_silent n e in let lt = placed e in omega (arith, q, lt))
+
+pub silenced_next : (ns : List Name) (k i : ℕ) → All (IsBeside i) ns → is_silenced ns k (i + 1) ≡ is_silenced ns k i
+silenced_next [] k i h = refl
+silenced_next (n ∷ ns) k i h =
+    ap (λ b. ((n.key == k) && b) || is_silenced ns k (i + 1)) (go (All-head (IsBeside i) n ns h))
+    ∙ ap (λ b. ((n.key == k) && nat_lt (quiet_of n) i) || b) (silenced_next ns k i (All-tail (IsBeside i) n ns h))
   where
     yes : (x y : ℕ) → x < y → nat_lt x (y + 1) ≡ nat_lt x y
     yes x y e = grind (arith, nat_tests)
@@ -52,11 +74,11 @@ silenced_next (n ∷ ns) k i end lt h =
     no : (x y : ℕ) → y < x → nat_lt x (y + 1) ≡ nat_lt x y
     no x y e = grind (arith, nat_tests)
 
-    go : (n.quiet < i) ⊎ (end ≤ n.quiet) → nat_lt n.quiet (i + 1) ≡ nat_lt n.quiet i
-    go (inl f) = yes n.quiet i f
-    go (inr f) = no n.quiet i (omega (arith, f, lt))
+    go : IsBeside i n → nat_lt (quiet_of n) (i + 1) ≡ nat_lt (quiet_of n) i
+    go (inl f) = yes (quiet_of n) i f
+    go (inr f) = no (quiet_of n) i f
 
-allow_named : (ns : List Name) (n : Name) (k i : ℕ) (ss : List Spot) → i ≤ n.quiet → All (λ (s : Spot). s.at < i) ss → all_allow (ns ++ n ∷ []) ss k ≡ all_allow ns ss k
+allow_named : (ns : List Name) (n : Name) (k i : ℕ) (ss : List Spot) → i ≤ quiet_of n → All (λ (s : Spot). s.at < i) ss → all_allow (ns ++ n ∷ []) ss k ≡ all_allow ns ss k
 allow_named ns n k i [] h before = refl
 allow_named ns n k i (s ∷ ss) h before =
     let lt = All-head (λ (t : Spot). t.at < i) s ss before in
@@ -83,23 +105,23 @@ all_named_more ns n (s ∷ ss) e =
 left_more : (ns : List Name) (n : Name) → n.left ≡ true → are_left ns ≡ true → are_left (ns ++ n ∷ []) ≡ true
 left_more ns n l e = list_all-append (λ (m : Name). m.left) ns (n ∷ []) ∙ and_from _ _ e (and_from _ _ l refl)
 
-pub placed_next : (i end : ℕ) (ns : List Name) → All (IsPlaced i end) ns → All (IsPlaced (i + 1) end) ns
-placed_next i end ns h k d below = ⊎_elim (λ f. inl (omega (arith, f))) (λ f. inr f) (h k d below)
+pub placed_next : (i : ℕ) (ns : List Name) → All (IsPlaced i) ns → All (IsPlaced (i + 1)) ns
+placed_next i ns h k d below silent = let lt = h k d below silent in omega (arith, lt)
 
 slots_next : (i : ℕ) (ss : List Spot) → All (λ (s : Spot). s.at < i) ss → All (λ (s : Spot). s.at < i + 1) ss
 slots_next i ss h k d below = let lt = h k d below in omega (arith, lt)
 
--- a UID that is heard is named, from the end of the log on
-pub stretch_named : (es : List Entry) (i end : ℕ) (set : ℕ → Bool) (ns ms : List Name) (ss : List Spot) (n : Name) → i < end → n.key < 2 ^ 56 → n.left ≡ true → end ≤ n.quiet → ms ≡ ns ++ n ∷ [] → IsStretch es i end set ns ss → IsStretch es i end set ms ss
-stretch_named es i end set ns ms ss n lt key left late is h = subst (λ xs. IsStretch es i end set xs ss) (sym is) (record {
+-- a UID that is heard is named
+pub stretch_named : (es : List Entry) (i : ℕ) (set : ℕ → Bool) (ns ms : List Name) (ss : List Spot) (n : Name) → i < 2 ^ 32 → n.key < 2 ^ 56 → n.left ≡ true → n.is_heard ≡ true → ms ≡ ns ++ n ∷ [] → IsStretch es i set ns ss → IsStretch es i set ms ss
+stretch_named es i set ns ms ss n lt key left heard is h = subst (λ xs. IsStretch es i set xs ss) (sym is) (record {
   keys = All-push (λ (m : Name). m.key < 2 ^ 56) ns n h.keys key;
   left = left_more ns n left h.left;
   ranges = h.ranges;
   named = all_named_more ns n ss h.named;
   slots = h.slots;
-  names = All-push (IsPlaced i end) ns n h.names (inr late);
-  quiet = λ u w. silenced_after ns n (mirror u) i (omega (arith, lt, late)) ∙ h.quiet u w;
-  uids = λ u w. ap (λ b. set u && b) (allow_named ns n (mirror u) i ss (omega (arith, lt, late)) h.slots) ∙ h.uids u w;
+  names = All-push (IsPlaced i) ns n h.names (λ silent. absurd (false≢true (sym silent ∙ heard)));
+  quiet = λ u w. silenced_after ns n (mirror u) i (let q = quiet_heard n heard in omega (arith, lt, q)) ∙ h.quiet u w;
+  uids = λ u w. ap (λ b. set u && b) (allow_named ns n (mirror u) i ss (let q = quiet_heard n heard in omega (arith, lt, q)) h.slots) ∙ h.uids u w;
 })
 
 -- ---- an entry more
@@ -113,24 +135,24 @@ still_quiet true b q e f = absurd (cc)
 still_quiet false true q e f = absurd (cc)
 
 -- an entry that silences and wakes nobody, and rules nobody out
-pub stretch_passed : (es : List Entry) (i end : ℕ) (set : ℕ → Bool) (ns : List Name) (ss : List Spot) (e : Entry) → slice_get es i ≡ Some e → i < end → wakes (Some e) ≡ false → ((u : ℕ) → IsUid u → silences (Some e) u ≡ false) → ((b : Bool) (u : ℕ) → entry_allows (reading_of e) b u ≡ true) → IsStretch es i end set ns ss → IsStretch es (i + 1) end set ns ss
-stretch_passed es i end set ns ss e k lt awake none all h = record {
+pub stretch_passed : (es : List Entry) (i : ℕ) (set : ℕ → Bool) (ns : List Name) (ss : List Spot) (e : Entry) → slice_get es i ≡ Some e → i < 2 ^ 32 → wakes (Some e) ≡ false → ((u : ℕ) → IsUid u → silences (Some e) u ≡ false) → ((b : Bool) (u : ℕ) → entry_allows (reading_of e) b u ≡ true) → IsStretch es i set ns ss → IsStretch es (i + 1) set ns ss
+stretch_passed es i set ns ss e k lt awake none all h = record {
   keys = h.keys;
   left = h.left;
   ranges = h.ranges;
   named = h.named;
   slots = slots_next i ss h.slots;
-  names = placed_next i end ns h.names;
-  quiet = λ u w. silenced_next ns (mirror u) i end lt h.names ∙ (h.quiet u w ∙ (still_quiet _ _ (is_quiet es i u) (none u w) awake ∙ sym (quiet_next es i u e k)));
+  names = placed_next i ns h.names;
+  quiet = λ u w. silenced_next ns (mirror u) i (beside_all i ns lt h.names) ∙ (h.quiet u w ∙ (still_quiet _ _ (is_quiet es i u) (none u w) awake ∙ sym (quiet_next es i u e k)));
   uids = open_next es i e (λ u. set u && all_allow ns ss (mirror u)) (λ u. set u && all_allow ns ss (mirror u)) k (λ u w. sym (ap (λ b. (set u && all_allow ns ss (mirror u)) && b) (all (answers_at es i u) u) ∙ and_true (set u && all_allow ns ss (mirror u)))) h.uids;
 }
 
 -- whoever a Stay Quiet names is Quiet after it, by the name
-pub quiet_named : (es : List Entry) (i u : ℕ) (e : Entry) (ns : List Name) (n : Name) → slice_get es i ≡ Some e → wakes (Some e) ≡ false → silences (Some e) u ≡ (n.key == mirror u) → n.quiet ≡ i → is_silenced ns (mirror u) (i + 1) ≡ is_quiet es i u → is_silenced (ns ++ n ∷ []) (mirror u) (i + 1) ≡ is_quiet es (i + 1) u
+pub quiet_named : (es : List Entry) (i u : ℕ) (e : Entry) (ns : List Name) (n : Name) → slice_get es i ≡ Some e → wakes (Some e) ≡ false → silences (Some e) u ≡ (n.key == mirror u) → quiet_of n ≡ i → is_silenced ns (mirror u) (i + 1) ≡ is_quiet es i u → is_silenced (ns ++ n ∷ []) (mirror u) (i + 1) ≡ is_quiet es (i + 1) u
 quiet_named es i u e ns n k awake one at before =
     silenced_pushed ns n (mirror u) (i + 1)
-    ∙ (ap (λ b. b || ((n.key == mirror u) && nat_lt n.quiet (i + 1))) before
-    ∙ (go (is_quiet es i u) (n.key == mirror u) (nat_lt n.quiet (i + 1)) (silences (Some e) u) (wakes (Some e)) (now n.quiet i at) one awake ∙ sym (quiet_next es i u e k)))
+    ∙ (ap (λ b. b || ((n.key == mirror u) && nat_lt (quiet_of n) (i + 1))) before
+    ∙ (go (is_quiet es i u) (n.key == mirror u) (nat_lt (quiet_of n) (i + 1)) (silences (Some e) u) (wakes (Some e)) (now (quiet_of n) i at) one awake ∙ sym (quiet_next es i u e k)))
   where
     now : (x y : ℕ) → x ≡ y → nat_lt x (y + 1) ≡ true
     now x y e = grind (arith, nat_tests)
@@ -146,30 +168,30 @@ quiet_named es i u e ns n k awake one at before =
     go q false true true false x y z = absurd (cc)
 
 -- a Stay Quiet
-pub stretch_silenced : (es : List Entry) (i end : ℕ) (set : ℕ → Bool) (ns ms : List Name) (ss : List Spot) (e : Entry) (n : Name) → slice_get es i ≡ Some e → i < end → wakes (Some e) ≡ false → ((u : ℕ) → IsUid u → silences (Some e) u ≡ (n.key == mirror u)) → ((b : Bool) (u : ℕ) → entry_allows (reading_of e) b u ≡ true) → n.key < 2 ^ 56 → n.left ≡ true → n.quiet ≡ i → ms ≡ ns ++ n ∷ [] → IsStretch es i end set ns ss → IsStretch es (i + 1) end set ms ss
-stretch_silenced es i end set ns ms ss e n k lt awake one all key left at is h = subst (λ xs. IsStretch es (i + 1) end set xs ss) (sym is) (record {
+pub stretch_silenced : (es : List Entry) (i : ℕ) (set : ℕ → Bool) (ns ms : List Name) (ss : List Spot) (e : Entry) (n : Name) → slice_get es i ≡ Some e → i < 2 ^ 32 → wakes (Some e) ≡ false → ((u : ℕ) → IsUid u → silences (Some e) u ≡ (n.key == mirror u)) → ((b : Bool) (u : ℕ) → entry_allows (reading_of e) b u ≡ true) → n.key < 2 ^ 56 → n.left ≡ true → n.at ≡ i → n.is_heard ≡ false → ms ≡ ns ++ n ∷ [] → IsStretch es i set ns ss → IsStretch es (i + 1) set ms ss
+stretch_silenced es i set ns ms ss e n k lt awake one all key left at silent is h = subst (λ xs. IsStretch es (i + 1) set xs ss) (sym is) (record {
   keys = All-push (λ (m : Name). m.key < 2 ^ 56) ns n h.keys key;
   left = left_more ns n left h.left;
   ranges = h.ranges;
   named = all_named_more ns n ss h.named;
   slots = slots_next i ss h.slots;
-  names = All-push (IsPlaced (i + 1) end) ns n (placed_next i end ns h.names) (inl (omega (arith, at)));
-  quiet = λ u w. quiet_named es i u e ns n k awake (one u w) at (silenced_next ns (mirror u) i end lt h.names ∙ h.quiet u w);
+  names = All-push (IsPlaced (i + 1)) ns n (placed_next i ns h.names) (λ _. omega (arith, at));
+  quiet = λ u w. quiet_named es i u e ns n k awake (one u w) (quiet_silent n silent ∙ at) (silenced_next ns (mirror u) i (beside_all i ns lt h.names) ∙ h.quiet u w);
   uids = open_next es i e (λ u. set u && all_allow ns ss (mirror u)) (λ u. set u && all_allow (ns ++ n ∷ []) ss (mirror u)) k (λ u w.
-      ap (λ b. set u && b) (allow_named ns n (mirror u) i ss (omega (arith, at)) h.slots)
+      ap (λ b. set u && b) (allow_named ns n (mirror u) i ss (let q = quiet_silent n silent in omega (arith, at, q)) h.slots)
       ∙ sym (ap (λ b. (set u && all_allow ns ss (mirror u)) && b) (all (answers_at es i u) u) ∙ and_true (set u && all_allow ns ss (mirror u)))) h.uids;
 })
 
 -- a silent or an answered slot
-pub stretch_spotted : (es : List Entry) (i end : ℕ) (set : ℕ → Bool) (ns : List Name) (ss ts : List Spot) (e : Entry) (mask : Option BitMask) (heard : Option ℕ) → slice_get es i ≡ Some e → i < end → mask ≡ mask_at es i → wakes (Some e) ≡ false → ((u : ℕ) → IsUid u → silences (Some e) u ≡ false) → ((b : Bool) (u : ℕ) → IsUid u → entry_allows (reading_of e) b u ≡ (not b || is_heard heard (mirror u))) → is_named_if ns heard ≡ true → AddsSpot mask i heard ss ts → IsStretch es i end set ns ss → IsStretch es (i + 1) end set ns ts
-stretch_spotted es i end set ns ss ts e mask heard k lt m awake none reads named adds h = record {
+pub stretch_spotted : (es : List Entry) (i : ℕ) (set : ℕ → Bool) (ns : List Name) (ss ts : List Spot) (e : Entry) (mask : Option BitMask) (heard : Option ℕ) → slice_get es i ≡ Some e → i < 2 ^ 32 → mask ≡ mask_at es i → wakes (Some e) ≡ false → ((u : ℕ) → IsUid u → silences (Some e) u ≡ false) → ((b : Bool) (u : ℕ) → IsUid u → entry_allows (reading_of e) b u ≡ (not b || is_heard heard (mirror u))) → is_named_if ns heard ≡ true → AddsSpot mask i heard ss ts → IsStretch es i set ns ss → IsStretch es (i + 1) set ns ts
+stretch_spotted es i set ns ss ts e mask heard k lt m awake none reads named adds h = record {
   keys = h.keys;
   left = h.left;
   ranges = adds.ranges h.ranges;
   named = adds.named ns named h.named;
   slots = adds.before (i + 1) (omega arith) (slots_next i ss h.slots);
-  names = placed_next i end ns h.names;
-  quiet = λ u w. silenced_next ns (mirror u) i end lt h.names ∙ (h.quiet u w ∙ (still_quiet _ _ (is_quiet es i u) (none u w) awake ∙ sym (quiet_next es i u e k)));
+  names = placed_next i ns h.names;
+  quiet = λ u w. silenced_next ns (mirror u) i (beside_all i ns lt h.names) ∙ (h.quiet u w ∙ (still_quiet _ _ (is_quiet es i u) (none u w) awake ∙ sym (quiet_next es i u e k)));
   uids = open_next es i e (λ u. set u && all_allow ns ss (mirror u)) (λ u. set u && all_allow ns ts (mirror u)) k (λ u w.
       ap (λ b. set u && b) (adds.allow ns u w)
       ∙ (assoc (set u) (all_allow ns ss (mirror u)) _
@@ -195,14 +217,14 @@ pub silenced_key : (h u : ℕ) → IsUid h → IsUid u → (h == u) ≡ (mirror 
 silenced_key h u v w = same_test h u (mirror h) (mirror u) (λ e. ap mirror e) (λ e. sym (uid_of_mirror h v) ∙ (ap uid_of e ∙ uid_of_mirror u w))
 
 -- a collision, a garbled slot or a listed UID
-pub stretch_other : (es : List Entry) (i end : ℕ) (set : ℕ → Bool) (ns : List Name) (ss : List Spot) (e : Entry) → slice_get es i ≡ Some e → i < end → (e ≡ Collision) ⊎ ((e ≡ Garbled) ⊎ (((v : ℕ) × (e ≡ Listed v)) ⊎ (e ≡ FieldCycle))) → (e ≡ FieldCycle → ⊥) → IsStretch es i end set ns ss → IsStretch es (i + 1) end set ns ss
-stretch_other es i end set ns ss e k lt is other h =
+pub stretch_other : (es : List Entry) (i : ℕ) (set : ℕ → Bool) (ns : List Name) (ss : List Spot) (e : Entry) → slice_get es i ≡ Some e → i < 2 ^ 32 → (e ≡ Collision) ⊎ ((e ≡ Garbled) ⊎ (((v : ℕ) × (e ≡ Listed v)) ⊎ (e ≡ FieldCycle))) → (e ≡ FieldCycle → ⊥) → IsStretch es i set ns ss → IsStretch es (i + 1) set ns ss
+stretch_other es i set ns ss e k lt is other h =
     ⊎_elim
-    (λ s. stretch_passed es i end set ns ss Collision (k ∙ ap (λ (x : Entry). Some x) s) lt refl (λ u w. refl) (λ x u. refl) h)
+    (λ s. stretch_passed es i set ns ss Collision (k ∙ ap (λ (x : Entry). Some x) s) lt refl (λ u w. refl) (λ x u. refl) h)
     (λ w. ⊎_elim
-    (λ s. stretch_passed es i end set ns ss Garbled (k ∙ ap (λ (x : Entry). Some x) s) lt refl (λ u v. refl) (λ x u. refl) h)
+    (λ s. stretch_passed es i set ns ss Garbled (k ∙ ap (λ (x : Entry). Some x) s) lt refl (λ u v. refl) (λ x u. refl) h)
     (λ y. ⊎_elim
-    (λ s. stretch_passed es i end set ns ss (Listed s.0) (k ∙ ap (λ (x : Entry). Some x) s.1) lt refl (λ u v. refl) (λ x u. refl) h)
+    (λ s. stretch_passed es i set ns ss (Listed s.0) (k ∙ ap (λ (x : Entry). Some x) s.1) lt refl (λ u v. refl) (λ x u. refl) h)
     (λ s. absurd (other s))
     y)
     w)
@@ -217,8 +239,8 @@ named_here ns n = list_any-append (λ (m : Name). m.key == n.key) ns (n ∷ []) 
 
 -- ---- where a stretch begins and ends
 
-pub stretch_first : (es : List Entry) (end : ℕ) (set : ℕ → Bool) → SameUids set (is_open (slots_before es 0)) → IsStretch es 0 end set [] []
-stretch_first es end set h = record {
+pub stretch_first : (es : List Entry) (set : ℕ → Bool) → SameUids set (is_open (slots_before es 0)) → IsStretch es 0 set [] []
+stretch_first es set h = record {
   keys = λ k d below. absurd (omega (arith, below));
   left = refl;
   ranges = λ k d below. absurd (omega (arith, below));
@@ -230,8 +252,8 @@ stretch_first es end set h = record {
 }
 
 -- a field cycle, once what was gathered is settled
-pub stretch_anew : (es : List Entry) (i end : ℕ) (old set : ℕ → Bool) (ns ms : List Name) (ss ts : List Spot) (e : Entry) → slice_get es i ≡ Some e → e ≡ FieldCycle → ms ≡ [] → ts ≡ [] → SameUids set (λ u. old u && all_allow ns ss (mirror u)) → IsStretch es i end old ns ss → IsStretch es (i + 1) end set ms ts
-stretch_anew es i end old set ns ms ss ts e k is none empty done h = subst (λ xs. IsStretch es (i + 1) end set xs ts) (sym none) (subst (λ xs. IsStretch es (i + 1) end set [] xs) (sym empty) (record {
+pub stretch_anew : (es : List Entry) (i : ℕ) (old set : ℕ → Bool) (ns ms : List Name) (ss ts : List Spot) (e : Entry) → slice_get es i ≡ Some e → e ≡ FieldCycle → ms ≡ [] → ts ≡ [] → SameUids set (λ u. old u && all_allow ns ss (mirror u)) → IsStretch es i old ns ss → IsStretch es (i + 1) set ms ts
+stretch_anew es i old set ns ms ss ts e k is none empty done h = subst (λ xs. IsStretch es (i + 1) set xs ts) (sym none) (subst (λ xs. IsStretch es (i + 1) set [] xs) (sym empty) (record {
   keys = λ j d below. absurd (omega (arith, below));
   left = refl;
   ranges = λ j d below. absurd (omega (arith, below));

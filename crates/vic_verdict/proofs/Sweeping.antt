@@ -10,7 +10,7 @@ use Rattle.vic_verdict.specs.declared.names.Name.{Name}
 use Rattle.vic_verdict.specs.declared.closed.Spot.{Spot}
 use Rattle.vic_verdict.specs.declared.sweep.Level.{Level}
 use Rattle.vic_verdict.specs.declared.sweep.Run.{Run}
-use Rattle.vic_verdict.specs.Sweep.{first_of, last_of, heard_of, is_heard, slot_leaves, is_between, is_in, spot_leaves, all_leave, level_leaves, mask_leaves, run_leaves, keep, keep_all, has_where, has_left, is_silenced, spot_allows, all_allow, is_named, is_named_if, hears_named, all_hear_named, are_left, AreInOrder, IsStart}
+use Rattle.vic_verdict.specs.Sweep.{quiet_of, first_of, last_of, heard_of, is_heard, slot_leaves, is_between, is_in, spot_leaves, all_leave, level_leaves, mask_leaves, run_leaves, keep, keep_all, has_where, has_left, is_silenced, spot_allows, all_allow, is_named, is_named_if, hears_named, all_hear_named, are_left, AreInOrder, IsStart}
 use Rattle.std.specs.List.Sorted.{IsPermutation}
 use Rattle.std.proofs.lemmas.List.Sorted.{list_any-IsPermutation}
 use Rattle.std.proofs.Math.Seq.{take-append_seam}
@@ -25,17 +25,17 @@ all_cover ns spots k = list_all (λ s. not (is_in s k) || has_left ns k) spots
 pub keep_twice : (p q : ℕ → ℕ → Bool) (ns : List Name) → keep_all p (keep_all q ns) ≡ keep_all (λ k t. q k t && p k t) ns
 keep_twice p q [] = refl
 keep_twice p q (n ∷ ns) =
-    ap (λ (b : Bool). record { key = n.key; at = n.at; quiet = n.quiet; left = b } ∷ keep_all p (keep_all q ns)) (and_thrice n.left (q n.key n.quiet) (p n.key n.quiet))
+    ap (λ (b : Bool). record { key = n.key; at = n.at; is_heard = n.is_heard; left = b } ∷ keep_all p (keep_all q ns)) (and_thrice n.left (q n.key (quiet_of n)) (p n.key (quiet_of n)))
     ∙ ap (λ (ms : List Name). keep (λ k t. q k t && p k t) n ∷ ms) (keep_twice p q ns)
 
 pub keep_alike : (p q : ℕ → ℕ → Bool) → ((k t : ℕ) → p k t ≡ q k t) → (ns : List Name) → keep_all p ns ≡ keep_all q ns
 keep_alike p q same [] = refl
 keep_alike p q same (n ∷ ns) =
-    ap (λ (b : Bool). record { key = n.key; at = n.at; quiet = n.quiet; left = n.left && b } ∷ keep_all p ns) (same n.key n.quiet)
+    ap (λ (b : Bool). record { key = n.key; at = n.at; is_heard = n.is_heard; left = n.left && b } ∷ keep_all p ns) (same n.key (quiet_of n))
     ∙ ap (λ (ms : List Name). keep q n ∷ ms) (keep_alike p q same ns)
 
-pub kept_whole : (p : ℕ → ℕ → Bool) (n : Name) → p n.key n.quiet ≡ true → keep p n ≡ n
-kept_whole p n e = ap (λ (b : Bool). record { key = n.key; at = n.at; quiet = n.quiet; left = n.left && b }) e ∙ ap (λ (b : Bool). record { key = n.key; at = n.at; quiet = n.quiet; left = b }) (and_true n.left)
+pub kept_whole : (p : ℕ → ℕ → Bool) (n : Name) → p n.key (quiet_of n) ≡ true → keep p n ≡ n
+kept_whole p n e = ap (λ (b : Bool). record { key = n.key; at = n.at; is_heard = n.is_heard; left = n.left && b }) e ∙ ap (λ (b : Bool). record { key = n.key; at = n.at; is_heard = n.is_heard; left = b }) (and_true n.left)
 
 pub keep_none : (ns : List Name) → keep_all (λ k t. true) ns ≡ ns
 keep_none [] = refl
@@ -77,7 +77,7 @@ inside first last l k q f g = go (nat_le first k) (nat_le k last) (grind (arith,
 
 -- what stands past the end of a list
 abbrev pub nobody : Name
-nobody = record { key = 0; at = 0; quiet = 0; left = false }
+nobody = record { key = 0; at = 0; is_heard = false; left = false }
 
 abbrev pub nowhere : Spot
 nowhere = record { mask = 0; key = 0; at = 0; is_heard = false }
@@ -103,7 +103,7 @@ pub record IsRuled (p : ℕ → ℕ → Bool) (old new : List Name) (i : ℕ) : 
   pub done : (k : ℕ) → k < i → k < length old → get_or new k nobody ≡ keep p (get_or old k nobody)
   pub rest : (k : ℕ) → i ≤ k → get_or new k nobody ≡ get_or old k nobody
 
-pub ruled_first : (p : ℕ → ℕ → Bool) (ns : List Name) (i : ℕ) → ((k : ℕ) → k < i → p (get_or ns k nobody).key (get_or ns k nobody).quiet ≡ true) → IsRuled p ns ns i
+pub ruled_first : (p : ℕ → ℕ → Bool) (ns : List Name) (i : ℕ) → ((k : ℕ) → k < i → p (get_or ns k nobody).key (quiet_of (get_or ns k nobody)) ≡ true) → IsRuled p ns ns i
 ruled_first p ns i h = record { same = refl; done = λ k below short. sym (kept_whole p (get_or ns k nobody) (h k below)); rest = λ k ge. refl }
 
 pub ruled_more : (p : ℕ → ℕ → Bool) (old new : List Name) (i : ℕ) (m : Name) → IsRuled p old new i → i < length old → m ≡ keep p (get_or new i nobody) → IsRuled p old (set new i m) (i + 1)
@@ -117,7 +117,7 @@ ruled_more p old new i m h short is = record {
   rest = λ k ge. get_or-set_other new i k m nobody (λ e. absurd (omega (arith, e, ge))) ∙ h.rest k (omega (arith, ge));
 }
 
-pub ruled_all : (p : ℕ → ℕ → Bool) (old new : List Name) (i : ℕ) → IsRuled p old new i → ((k : ℕ) → i ≤ k → k < length old → p (get_or old k nobody).key (get_or old k nobody).quiet ≡ true) → new ≡ keep_all p old
+pub ruled_all : (p : ℕ → ℕ → Bool) (old new : List Name) (i : ℕ) → IsRuled p old new i → ((k : ℕ) → i ≤ k → k < length old → p (get_or old k nobody).key (quiet_of (get_or old k nobody)) ≡ true) → new ≡ keep_all p old
 ruled_all p old new i h above =
     ext_get_or nobody new (keep_all p old) (h.same ∙ sym (keep-length p old)) (λ k below.
     let short : k < length old = subst (λ m. k < m) h.same below in
@@ -176,7 +176,7 @@ silenced_named : (ns : List Name) (k i : ℕ) → is_silenced ns k i ≡ true �
 silenced_named [] k i e = e
 silenced_named (n ∷ ns) k i e =
     ⊎_elim
-    (λ here. or_left _ _ (and_parts (n.key == k) (nat_lt n.quiet i) here).0)
+    (λ here. or_left _ _ (and_parts (n.key == k) (nat_lt (quiet_of n) i) here).0)
     (λ there. or_right (n.key == k) _ (silenced_named ns k i there))
     (or_cases _ _ e)
 
@@ -186,27 +186,27 @@ record Least (ns : List Name) (k : ℕ) : Type 0 where
   left : (p : ℕ → ℕ → Bool) → p k quiet ≡ true → are_left ns ≡ true → has_left (keep_all p ns) k ≡ true
   first : (i : ℕ) → is_silenced ns k i ≡ true → quiet < i
 
-least_here : (n : Name) (ns : List Name) (k : ℕ) → (n.key == k) ≡ true → ((i : ℕ) → is_silenced ns k i ≡ true → n.quiet < i) → Least (n ∷ ns) k
+least_here : (n : Name) (ns : List Name) (k : ℕ) → (n.key == k) ≡ true → ((i : ℕ) → is_silenced ns k i ≡ true → quiet_of n < i) → Least (n ∷ ns) k
 least_here n ns k here h = record {
-  quiet = n.quiet;
+  quiet = quiet_of n;
   left = λ p e all.
       let same = eqb-true n.key k here in
       let l = and_parts n.left (are_left ns) all in
-      or_left _ _ (and_from _ _ here (and_from _ _ l.0 (subst (λ x. p x n.quiet ≡ true) (sym same) e)));
+      or_left _ _ (and_from _ _ here (and_from _ _ l.0 (subst (λ x. p x (quiet_of n) ≡ true) (sym same) e)));
   first = λ i e.
       ⊎_elim
-      (λ now. let lt = (and_parts (n.key == k) (nat_lt n.quiet i) now).1 in lt_from n.quiet i lt)
+      (λ now. let lt = (and_parts (n.key == k) (nat_lt (quiet_of n) i) now).1 in lt_from (quiet_of n) i lt)
       (λ later. h i later)
       (or_cases _ _ e);
 }
 
-least_there : (n : Name) (ns : List Name) (k : ℕ) → (t : Least ns k) → ((n.key == k) ≡ true → t.quiet ≤ n.quiet) → Least (n ∷ ns) k
+least_there : (n : Name) (ns : List Name) (k : ℕ) → (t : Least ns k) → ((n.key == k) ≡ true → t.quiet ≤ quiet_of n) → Least (n ∷ ns) k
 least_there n ns k t h = record {
   quiet = t.quiet;
   left = λ p e all. or_right _ _ (t.left p e (and_parts n.left (are_left ns) all).1);
   first = λ i e.
       ⊎_elim
-      (λ now. let a = and_parts (n.key == k) (nat_lt n.quiet i) now in let lt = lt_from n.quiet i a.1 in let le = h a.0 in omega (arith, lt, le))
+      (λ now. let a = and_parts (n.key == k) (nat_lt (quiet_of n) i) now in let lt = lt_from (quiet_of n) i a.1 in let le = h a.0 in omega (arith, lt, le))
       (λ later. t.first i later)
       (or_cases _ _ e);
 }
@@ -221,7 +221,7 @@ least (n ∷ ns) k e = go (n.key == k) refl (is_named ns k) refl (least ns k) e 
       ⊎_elim
       (λ lt. least_here n ns k here (λ i s. let f = t.first i s in omega (arith, lt, f)))
       (λ ge. least_there n ns k t (λ _. ge))
-      (cases_lt n.quiet t.quiet)
+      (cases_lt (quiet_of n) t.quiet)
   go false other true more ih _ = least_there n ns k (ih more) (λ same. absurd (false≢true (sym other ∙ same)))
   go false other false none ih h = absurd (false≢true h)
 
@@ -231,9 +231,9 @@ left_one p [] k e = absurd (false≢true e)
 left_one p (n ∷ ns) k e =
     ⊎_elim
     (λ here.
-    let a = and_parts (n.key == k) (n.left && p n.key n.quiet) here in
-    let b = and_parts n.left (p n.key n.quiet) a.1 in
-    (n.quiet, subst (λ x. p x n.quiet ≡ true) (eqb-true n.key k a.0) b.1, λ i lt. or_left _ _ (and_from _ _ a.0 lt)))
+    let a = and_parts (n.key == k) (n.left && p n.key (quiet_of n)) here in
+    let b = and_parts n.left (p n.key (quiet_of n)) a.1 in
+    (quiet_of n, subst (λ x. p x (quiet_of n) ≡ true) (eqb-true n.key k a.0) b.1, λ i lt. or_left _ _ (and_from _ _ a.0 lt)))
     (λ there. let r = left_one p ns k there in (r.0, r.1, λ i lt. or_right _ _ (r.2 i lt)))
     (or_cases _ _ e)
 
@@ -343,7 +343,7 @@ named_permuted ns ms ss ts m w e =
 pub allow_permuted : (ns ms : List Name) (ss ts : List Spot) (k : ℕ) → IsPermutation ns ms → IsPermutation ss ts → all_allow ms ts k ≡ all_allow ns ss k
 allow_permuted ns ms ss ts k m w =
     all_alike (λ s. spot_allows ms s k) (λ s. spot_allows ns s k)
-    (λ (s : Spot). ap (λ b. not (is_in s k) || (b || is_heard (heard_of s) k)) (sym (list_any-IsPermutation (λ (n : Name). (n.key == k) && nat_lt n.quiet s.at) ns ms m))) ts
+    (λ (s : Spot). ap (λ b. not (is_in s k) || (b || is_heard (heard_of s) k)) (sym (list_any-IsPermutation (λ (n : Name). (n.key == k) && nat_lt (quiet_of n) s.at) ns ms m))) ts
     ∙ sym (all_permuted (λ s. spot_allows ns s k) ss ts w)
 
 -- a slice that was borrowed from a list and written

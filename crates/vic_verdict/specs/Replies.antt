@@ -1,5 +1,5 @@
 -- Whether the UIDs that were heard could have answered.
-use Rattle.std.specs.Prelude.{◌≡◌, ◌⊎◌, ℕ, ◌<◌, ◌≤◌, ◌==◌, ◌&&◌, Bool, true, false, Option, Some, IfSome, List, slice_get, nat_lt, if◌then◌else◌}
+use Rattle.std.specs.Prelude.{◌≡◌, ◌⊎◌, ℕ, ◌<◌, ◌≤◌, ◌==◌, ◌&&◌, Bool, true, false, Option, Some, IfSome, List, slice_get, if◌then◌else◌}
 use Rattle.std.specs.List.{All, Any, list_any}
 use Rattle.vic_frame.specs.Uids.{IsUid}
 use Rattle.vic_frame.specs.LowBitsFirst.{mirror}
@@ -23,7 +23,7 @@ RepliesAnswer es =
 
 -- the place at which the line of a name hears its UID; 0 where it silences it
 abbrev pub reply_place : Name → ℕ
-reply_place n = if nat_lt n.at n.quiet then n.at else 0
+reply_place n = if n.is_heard then n.at else 0
 
 -- the UID is Quiet there, by the names
 abbrev pub is_quiet_reply : List Name → Name → Bool
@@ -51,18 +51,17 @@ pub record IsHeardAt (es : List Entry) (from i : ℕ) (n : Name) : Type 0 where
 
 -- the name tells of a reply at place j
 abbrev pub IsReplyAt : ℕ → Name → Type 0
-IsReplyAt j n = (n.at ≡ j) × (n.at < n.quiet)
+IsReplyAt j n = (n.at ≡ j) × (n.is_heard ≡ true)
 
--- the names of the entries since the last field cycle before place i, of a log that ends at a
--- place. They tell which UIDs are Quiet at each place since, and who was heard at which; the
--- replies before that cycle answer
-pub record AreHeard (es : List Entry) (i end : ℕ) (ns : List Name) : Type 0 where
+-- the names of the entries since the last field cycle before place i. They tell which UIDs are
+-- Quiet at each place since, and who was heard at which; the replies before that cycle answer
+pub record AreHeard (es : List Entry) (i : ℕ) (ns : List Name) : Type 0 where
   pub from : ℕ
   pub begun : from ≤ i
-  pub names : All (λ (n : Name). (n.quiet < i) ⊎ (end ≤ n.quiet)) ns
+  pub names : All (λ (n : Name). n.is_heard ≡ false → n.at < i) ns
   pub quiet : (j u : ℕ) → from ≤ j → j ≤ i → IsUid u
       → is_silenced ns (mirror u) j ≡ is_quiet es j u
-  pub replies : All (λ (n : Name). n.at < n.quiet → IsHeardAt es from i n) ns
+  pub replies : All (λ (n : Name). n.is_heard ≡ true → IsHeardAt es from i n) ns
   pub answer : (j : ℕ) (r : Reply) → j < i → slice_get es j ≡ Some (Heard r)
       → Answers es j r.uid ⊎ Any (IsReplyAt j) ns
 

@@ -1,5 +1,5 @@
 -- What a judge has gathered at a place of a log since the last field cycle.
-use Rattle.std.specs.Prelude.{◌≡◌, ℕ, ◌<◌, ◌≤◌, ◌⊎◌, Bool, true, not, ◌&&◌, ◌||◌, Option, IfSome, List}
+use Rattle.std.specs.Prelude.{◌≡◌, ℕ, ◌<◌, Bool, true, false, not, ◌&&◌, ◌||◌, Option, IfSome, List}
 use Rattle.std.specs.List.{All}
 use Rattle.vic_frame.specs.Uids.{IsUid}
 use Rattle.vic_frame.specs.Masks.{BitMask}
@@ -35,15 +35,15 @@ pub record AddsSpot (mask : Option BitMask) (at : ℕ) (heard : Option ℕ) (old
       → all_allow ns new (mirror u)
       ≡ (all_allow ns old (mirror u) && is_allowed ns mask at heard u)
 
--- the names and the slots of the entries since the last field cycle before place i, of a log that
--- ends at a place; and with what a set leaves open they tell what is open there
-pub record IsStretch (es : List Entry) (i end : ℕ) (set : ℕ → Bool) (ns : List Name)
+-- the names and the slots of the entries since the last field cycle before place i; with what a set
+-- leaves open they tell what is open there
+pub record IsStretch (es : List Entry) (i : ℕ) (set : ℕ → Bool) (ns : List Name)
     (ss : List Spot) : Type 0 where
   pub keys : HaveKeys ns
   pub left : are_left ns ≡ true
   pub ranges : All HasRange ss
   pub named : all_hear_named ns ss ≡ true
   pub slots : All (λ (s : Spot). s.at < i) ss
-  pub names : All (λ (n : Name). (n.quiet < i) ⊎ (end ≤ n.quiet)) ns
+  pub names : All (λ (n : Name). n.is_heard ≡ false → n.at < i) ns
   pub quiet : (u : ℕ) → IsUid u → is_silenced ns (mirror u) i ≡ is_quiet es i u
   pub uids : SameUids (λ u. set u && all_allow ns ss (mirror u)) (is_open (slots_before es i))

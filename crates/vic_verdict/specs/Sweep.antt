@@ -1,15 +1,20 @@
 -- What the slots between two field cycles leave, said of keys: UIDs in the order of their low bits.
-use Rattle.std.specs.Prelude.{◌≡◌, ℕ, ◌+◌, ◌-◌, ◌/◌, ◌%◌, ◌^◌, ◌==◌, ◌<◌, ◌≤◌, Bool, true, false, not, ◌&&◌, ◌||◌, Option, Some, None, List, length, slice_index_or, nat_le, nat_lt, map, if◌then◌else◌, IfSome}
+use Rattle.std.specs.Prelude.{ℕ, ◌+◌, ◌-◌, ◌/◌, ◌%◌, ◌^◌, ◌==◌, ◌<◌, ◌≤◌, Bool, true, false, not, ◌&&◌, ◌||◌, Option, Some, None, List, length, slice_index_or, nat_le, nat_lt, map, if◌then◌else◌, IfSome}
 use Rattle.std.specs.List.Sorted.{IsNonDecreasingBy}
 use Rattle.std.specs.List.{list_all, list_any, All}
 use Rattle.vic_frame.specs.declared.uid.TheConstants.{UID_BITS}
 use Rattle.vic_verdict.specs.declared.closed.TheConstants.{LENGTHS}
+use Rattle.vic_verdict.specs.declared.names.TheConstants.{NEVER}
 use Rattle.vic_frame.specs.LowBitsFirst.{IsKey}
 use Rattle.vic_tree.specs.Ranges.{IsKeyRange}
 use Rattle.vic_verdict.specs.declared.names.Name.{Name}
 use Rattle.vic_verdict.specs.declared.closed.Spot.{Spot}
 use Rattle.vic_verdict.specs.declared.sweep.Level.{Level}
 use Rattle.vic_verdict.specs.declared.sweep.Run.{Run}
+
+-- the place after which the UID of a name is Quiet by its line
+abbrev pub quiet_of : Name → ℕ
+quiet_of n = if n.is_heard then NEVER else n.at
 
 -- the key was heard
 abbrev pub is_heard : Option ℕ → ℕ → Bool
@@ -75,7 +80,8 @@ run_leaves (Some r) k q = mask_leaves r.first r.last r.level k q
 
 -- names stay left where a test holds of key and place
 abbrev pub keep : (ℕ → ℕ → Bool) → Name → Name
-keep p n = record { key = n.key; at = n.at; quiet = n.quiet; left = n.left && p n.key n.quiet }
+keep p n = record
+    { key = n.key; at = n.at; is_heard = n.is_heard; left = n.left && p n.key (quiet_of n) }
 
 abbrev pub keep_all : (ℕ → ℕ → Bool) → List Name → List Name
 keep_all p ns = map (keep p) ns
@@ -90,7 +96,7 @@ has_left ns k = has_where (λ n. n.left) ns k
 
 -- a UID with this key is Quiet at place i, by the names
 abbrev pub is_silenced : List Name → ℕ → ℕ → Bool
-is_silenced ns k i = has_where (λ n. nat_lt n.quiet i) ns k
+is_silenced ns k i = has_where (λ n. nat_lt (quiet_of n) i) ns k
 
 -- the slot allows the key, by the names
 abbrev pub spot_allows : List Name → Spot → ℕ → Bool
@@ -125,12 +131,6 @@ are_left ns = list_all (λ n. n.left) ns
 -- the names are in the order of their keys
 abbrev pub AreInOrder : List Name → Type 0
 AreInOrder ns = IsNonDecreasingBy (λ (n : Name). n.key) ns
-
--- and those of one key in the order of the places after which its UID is Quiet by them
-abbrev pub AreInQuietOrder : List Name → Type 0
-AreInQuietOrder ns = (i j : ℕ) (d : Name) → i ≤ j → j < length ns
-    → (slice_index_or ns i d).key ≡ (slice_index_or ns j d).key
-    → (slice_index_or ns i d).quiet ≤ (slice_index_or ns j d).quiet
 
 -- the names before the index have keys below the first one, and no others do
 pub record IsStart (ns : List Name) (first at : ℕ) : Type 0 where

@@ -4,7 +4,7 @@
 //! Between two field cycles tags only fall silent. So whoever answers in the last of some slots of
 //! one mask answered in the earlier ones too, and that one alone has to be looked at.
 
-ghost use Rattle.std.specs.Prelude.{◌≡◌, ◌≢◌, ◌≤◌, ℕ, ◌+◌, ◌<◌, ◌&&◌, ◌++◌, ◌∷◌, [], true, Some, None, IfSome, List, IfOk, OnOk, slice_get, length};
+ghost use Rattle.std.specs.Prelude.{◌≡◌, ◌≢◌, ◌≤◌, ℕ, ◌+◌, ◌^◌, ◌<◌, ◌&&◌, ◌++◌, ◌∷◌, [], true, Some, None, IfSome, List, IfOk, OnOk, slice_get, length};
 ghost use Rattle.std.specs.List.{All};
 ghost use Rattle.vic_frame.specs.Uids.{is_uid};
 ghost use Rattle.vic_tree.specs.OpenSet.{SameUids, UpToThree};
@@ -101,6 +101,7 @@ pub(crate) fn note_asked(
     index: usize,
     entry: &Entry,
 ) -> Result<(), AllocError>
+    requires { index < 2 ^ 32 }
     ensures { OnOk result ((es : List EntryValue) (found : List FoundValue)
         → slice_get es index ≡ Some entry.now → mask.now ≡ mask_at es index
         → entry.now ≢ FieldCycle

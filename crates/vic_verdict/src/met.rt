@@ -68,6 +68,8 @@ fn find_all<S: OpenSet>(
             demands.clear();
         } else {
             let mask = cursor.mask();
+            // gives the place its bound: the numbers of lines rise, and are of 32 bits
+            let _number = line.number();
             note_asked(&mut names, &mut demands, &mask, index, &entry)?;
         }
         cursor.advance(&entry);

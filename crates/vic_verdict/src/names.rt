@@ -1,14 +1,15 @@
 //! The UIDs that lines silence or hear between two field cycles, in the order of their keys: which
 //! of them are Quiet at a place, and whether those that were heard were Ready there.
 
-ghost use Rattle.std.specs.Prelude.{◌≡◌, ◌<◌, ◌≤◌, ◌+◌, ℕ, Bool, true, length, ◌++◌, ◌∷◌, [], None, IfOk, OnOk, MatchOption};
+ghost use Rattle.std.specs.Prelude.{◌≡◌, ◌<◌, ◌≤◌, ◌+◌, ℕ, Bool, true, length, nat_lt, ◌++◌, ◌∷◌, [], None, IfOk, OnOk, MatchOption};
 ghost use Rattle.std.specs.List.{All, list_any};
 ghost use Rattle.std.specs.List.Sorted.{IsNonDecreasing};
 ghost use Rattle.vic_frame.specs.Uids.{IsUid, has};
 ghost use Rattle.vic_frame.specs.LowBitsFirst.{IsKey, mirror};
 ghost use Rattle.vic_tree.specs.OpenSet.{AreKeys};
 ghost use Rattle.vic_verdict.specs.declared.names.Name.{Name as NameValue};
-ghost use Rattle.vic_verdict.specs.Sweep.{is_silenced, AreInOrder, AreInQuietOrder, HaveKeys, IsStart, has_where, is_between};
+ghost use Rattle.vic_verdict.specs.declared.names.TheConstants.{NEVER};
+ghost use Rattle.vic_verdict.specs.Sweep.{quiet_of, is_silenced, AreInOrder, HaveKeys, IsStart, has_where, is_between};
 ghost use Rattle.vic_verdict.specs.Replies.{reply_place, AreReady, IsQuietReply, IsEarlier};
 ghost use Rattle.vic_verdict.specs.Verdict.{IsLeast};
 
@@ -16,33 +17,55 @@ use std::alloc::{AllocError, Global};
 use vic_frame::Uid;
 use vic_frame::low_bits_first::key;
 
-/// A line that silences a UID or hears it: the UID's key, the line's place, and the place after
-/// which the UID is Quiet by it; the end of the log where it is heard. And whether the slots looked
-/// at so far leave it open.
+/// The place after which a UID is Quiet by a line that hears it: after all places.
+pub(crate) const NEVER: usize = usize::MAX;
+
+/// A line that silences a UID or hears it: the UID's key and the line's place. And whether the slots
+/// looked at so far leave the UID open. A log may have a million of them, which are sorted.
 #[derive(Clone, Copy)]
 pub(crate) struct Name {
     pub key: u64,
-    pub at: usize,
-    pub quiet: usize,
+    pub at: u32,
+    pub is_heard: bool,
     pub left: bool,
 }
 
-/// Adds a line that names a UID, with its place and the one after which the UID is Quiet by it.
+impl Name {
+    /// The place after which the UID is Quiet by the line.
+    pub(crate) fn quiet(&self) -> usize
+        ensures { result ≡ quiet_of self.now }
+    {
+        if self.is_heard {
+            NEVER
+        } else {
+            self.at as usize
+        }
+    }
+
+    /// The place at which the line hears the UID; 0 where it silences it.
+    fn reply_place(&self) -> usize
+        ensures { result ≡ reply_place self.now }
+    {
+        if self.is_heard { self.at as usize } else { 0 }
+    }
+}
+
+/// Adds a line that names a UID.
 pub(crate) fn push_name(
     names: &mut Vec<Name>,
     uid: Uid,
-    at: usize,
-    quiet: usize,
+    at: u32,
+    is_heard: bool,
 ) -> Result<(), AllocError>
     ensures { OnOk result
         ((names.new.items ≡ names.old.items
-        ++ record { key = mirror uid; at = at; quiet = quiet; left = true } ∷ [])
+        ++ record { key = mirror uid; at = at; is_heard = is_heard; left = true } ∷ [])
         × IsKey (mirror uid) × IsUid uid) }
 {
     names.push(Name {
         key: key(uid),
         at,
-        quiet,
+        is_heard,
         left: true,
     })?;
     Ok(())
@@ -116,13 +139,7 @@ pub(crate) fn is_silenced(names: &[Name], uid: Uid, at: usize) -> bool
     ensures { result ≡ is_silenced names.now (mirror uid) at }
 {
     let key = key(uid);
-    let own = names_between(names, start_of(names, key), key, key);
-    for name in own {
-        if name.quiet < at {
-            return true;
-        }
-    }
-    false
+    first_quiet(names_between(names, start_of(names, key), key, key)) < at
 }
 
 /// Whether one of some UIDs is Quiet at a place.
@@ -156,18 +173,11 @@ pub(crate) fn silenced_between(
     let inside = names_between(names, start_of(names, first), first, last);
     let mut keys = Vec::new(alloc);
     for name in inside {
-        if name.quiet < at {
+        if name.quiet() < at {
             keys.push(name.key)?;
         }
     }
     Ok(keys)
-}
-
-/// The place at which a line hears the UID; 0 where it silences it.
-fn reply_place(name: &Name) -> usize
-    ensures { result ≡ reply_place name.now }
-{
-    if name.at < name.quiet { name.at } else { 0 }
 }
 
 /// `first`, or the place of a reply where that is earlier and its UID is Quiet there.
@@ -184,20 +194,32 @@ fn earlier(first: Option<usize>, quiet: usize, reply: usize) -> Option<usize>
     }
 }
 
-/// The first place at which a UID was heard while it was Quiet, if there is one. Of the lines of
-/// one UID, which stand together, the first one makes it Quiet first.
+/// The place after which a UID is Quiet, by the names of its lines.
+fn first_quiet(own: &[Name]) -> usize
+    ensures { (i : ℕ) → i ≤ NEVER
+        → nat_lt result i ≡ list_any (λ n. nat_lt (quiet_of n) i) own.now }
+{
+    let mut first = NEVER;
+    for name in own {
+        first = first.min(name.quiet());
+    }
+    first
+}
+
+/// The first place at which a UID was heard while it was Quiet, if there is one. The names of one
+/// UID stand together.
 pub(crate) fn first_quiet_reply(names: &[Name]) -> Option<usize>
-    requires order { AreInOrder names.now }
-    requires quiet { AreInQuietOrder names.now }
+    requires { AreInOrder names.now }
     ensures { MatchOption result (AreReady names.now) (IsLeast (IsQuietReply names.now)) }
 {
-    let mut head = 0;
+    let mut quiet = NEVER;
     let mut first = None;
     for i in 0..names.len() {
-        if names[head].key < names[i].key {
-            head = i;
+        let key = names[i].key;
+        if i == 0 || names[i - 1].key < key {
+            quiet = first_quiet(names_between(names, i, key, key));
         }
-        first = earlier(first, names[head].quiet, reply_place(&names[i]));
+        first = earlier(first, quiet, names[i].reply_place());
     }
     first
 }

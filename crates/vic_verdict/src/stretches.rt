@@ -61,14 +61,15 @@ pub(crate) fn note_sent(
     request: &Request,
     index: usize,
 ) -> Result<(), AllocError>
-    ensures stretch { OnOk result ((es : List EntryValue) (end : ℕ) (set : ℕ → Bool)
-        (ss : List SpotValue) → index < end → slice_get es index ≡ Some (Sent request.now)
-        → IsStretch es index end set names.old.items ss
-        → IsStretch es (index + 1) end set names.new.items ss) }
-    ensures heard { OnOk result ((es : List EntryValue) (end : ℕ)
-        → index < end → slice_get es index ≡ Some (Sent request.now)
-        → AreHeard es index end names.old.items
-        → AreHeard es (index + 1) end names.new.items) }
+    requires { index < 2 ^ 32 }
+    ensures stretch { OnOk result ((es : List EntryValue) (set : ℕ → Bool) (ss : List SpotValue)
+        → slice_get es index ≡ Some (Sent request.now)
+        → IsStretch es index set names.old.items ss
+        → IsStretch es (index + 1) set names.new.items ss) }
+    ensures heard { OnOk result ((es : List EntryValue)
+        → slice_get es index ≡ Some (Sent request.now)
+        → AreHeard es index names.old.items
+        → AreHeard es (index + 1) names.new.items) }
     ensures quiet { OnOk result ((es : List EntryValue) (from : ℕ)
         → slice_get es index ≡ Some (Sent request.now)
         → TellsQuiet es from index names.old.items
@@ -76,7 +77,7 @@ pub(crate) fn note_sent(
 {
     match *request {
         Request::StayQuiet { uid, .. } => match Uid::new(uid) {
-            Some(tag) => push_name(names, tag, index, index),
+            Some(tag) => push_name(names, tag, index as u32, false),
             None => Ok(()),
         },
         Request::Inventory { .. } => Ok(()),
@@ -100,21 +101,19 @@ fn note_entry(
     spots: &mut Vec<Spot>,
     mask: &Option<Mask>,
     index: usize,
-    end: usize,
     entry: &Entry,
 ) -> Result<bool, AllocError>
-    requires before { index < end }
-    requires small { index < 2 ^ 32 }
+    requires { index < 2 ^ 32 }
     ensures stretch { IfOk result (λ yes. (es : List EntryValue) (set : ℕ → Bool)
         → slice_get es index ≡ Some entry.now → mask.now ≡ mask_at es index
         → entry.now ≢ FieldCycle → IsTrue yes
-        → IsStretch es index end set names.old.items spots.old.items
-        → IsStretch es (index + 1) end set names.new.items spots.new.items) }
+        → IsStretch es index set names.old.items spots.old.items
+        → IsStretch es (index + 1) set names.new.items spots.new.items) }
     ensures heard { IfOk result (λ yes. (es : List EntryValue)
         → slice_get es index ≡ Some entry.now → mask.now ≡ mask_at es index
         → entry.now ≢ FieldCycle → IsTrue yes
-        → AreHeard es index end names.old.items
-        → AreHeard es (index + 1) end names.new.items) }
+        → AreHeard es index names.old.items
+        → AreHeard es (index + 1) names.new.items) }
     ensures unfit { IfOk result (λ yes. (es : List EntryValue)
         → slice_get es index ≡ Some entry.now → mask.now ≡ mask_at es index
         → yes ≡ false → IsContradictedAt es index) }
@@ -127,7 +126,7 @@ fn note_entry(
             if !lies_in(mask, uid) {
                 return Ok(false);
             }
-            push_name(names, uid, index, end)?;
+            push_name(names, uid, index as u32, true)?;
             push_spot(spots, mask, index as u32, Some(key(uid)))?;
         }
         Entry::Collision | Entry::Garbled | Entry::Listed(_) | Entry::FieldCycle => {}
@@ -163,7 +162,7 @@ fn closed_keys(
             let mask = cursor.mask();
             // gives the place its bound: the numbers of lines rise, and are of 32 bits
             let _number = line.number();
-            if !note_entry(&mut names, &mut spots, &mask, index, lines.len(), &entry)? {
+            if !note_entry(&mut names, &mut spots, &mask, index, &entry)? {
                 return Ok(Err(index));
             }
         }

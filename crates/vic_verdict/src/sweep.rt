@@ -110,7 +110,7 @@ fn rule_out(names: &mut [Name], near: usize, first: u64, last: u64, level: &Leve
         if last < name.key {
             return start;
         }
-        names[i].left = name.left && level.leaves(name.key, name.quiet);
+        names[i].left = name.left && level.leaves(name.key, name.quiet());
     }
     start
 }
@@ -178,7 +178,7 @@ pub(crate) fn settle_stretch(
         && all_allow names.old.items spots.old.items (mirror u))) }
     ensures unfit { IfOk result (λ r. IfSome r (IsLeast (IsQuietReply names.old.items))) }
 {
-    names.sort_unstable_by_key(|name| (name.key, name.quiet));
+    names.sort_unstable_by_key(|name| name.key);
     if let Some(at) = first_quiet_reply(names) {
         return Ok(Some(at));
     }

@@ -5,6 +5,7 @@ use Rattle.vic_log.specs.declared.entry.Entry.{Entry}
 use Rattle.vic_log.specs.Order.{entries}
 use Rattle.vic_verdict.specs.Demands.{AreAsked}
 use Rattle.vic_verdict.proofs.Stands.{entry_at}
+use Rattle.vic_verdict.proofs.Listing.{place_bound}
 use Rattle.vic_verdict.proofs.Demanding.{asked_first, asked_anew, found_all, some_is, none_is}
 use Rattle.vic_verdict.proofs.met.find_all.Goals as goal
 use Rattle.vic_verdict.proofs.met.find_all.Goals.{in-FieldCycle+in_ok-at+in_default-2, in_default+in_ok-note_asked}
@@ -25,6 +26,9 @@ returns-in-Some g c =
     let before = c.loop-index.invariant.asked in
     let unmet = some_is _ _ c.in-Some.at c.in-Some.is c.in_ok-at.ensures.unmet in
     unmet es before.from c.loop-index.index c.requires.open before.quiet before.demands
+
+pub note_asked-requires : goal.note_asked-requires
+note_asked-requires g c = place_bound c.args.lines.now c.loop-index.index c.number-number.result c.index-lines-index.result c.requires.lines.rising c.loop-index-test.true c.index-lines-index.is c.number-number.ensures c.number-number.type_inv
 
 pub loop-index-preserved : goal.loop-index-preserved
 loop-index-preserved g c =

@@ -1,25 +1,34 @@
-use Rattle.std.proofs.Common.{◌+◌, None, sym, subst, arith, ◌≡◌, ◌≤◌}
+use Rattle.std.proofs.Common.{◌≡◌, ◌+◌, ◌-◌, ◌≤◌, None, sym, subst, arith}
 use Rattle.std.specs.Prelude.{MatchOption}
 use Rattle.vic_verdict.specs.Replies.{IsEarlier}
-use Rattle.vic_verdict.proofs.Replying.{at, IsHead, head_anew, head_still, found_more, found_all}
+use Rattle.vic_verdict.proofs.Sweeping.{start_here}
+use Rattle.vic_verdict.proofs.Replying.{at, TellsFrom, tells_still, tells_own, found_more, found_all}
 use Rattle.vic_verdict.proofs.names.first_quiet_reply.Goals as goal
-use Rattle.vic_verdict.proofs.names.first_quiet_reply.Goals.{then-names-head, else-names-head}
+use Rattle.vic_verdict.proofs.names.first_quiet_reply.Goals.{then-i-eq0, then-i-eq0-via-then-i-eq0, then-i-eq0-via-else-i-eq0+then-names-i, else-i-eq0+else-names-i}
+
+pub names_between-requires-clause-start : goal.names_between-requires-clause-start
+names_between-requires-clause-start c =
+    start_here c.args.names.now (at c.args.names.now c.loop-i.i).key c.loop-i.i c.requires c.loop-i-test.true (omega arith) (λ some. elim c.then-i-eq0.branch [
+      | then-i-eq0-via-then-i-eq0 w ↦ absurd (let none = w.if-i-eq0.true in omega (arith, some, none))
+      | then-i-eq0-via-else-i-eq0+then-names-i w ↦ w.if-names-i.true
+    ])
 
 pub loop-i-preserved : goal.loop-i-preserved
 loop-i-preserved c =
     let ns = c.args.names.now in
     let k = c.loop-i.i in
-    let head : IsHead ns c.if-names-head.head (k + 1) = elim c.if-names-head.branch [
-      | then-names-head w ↦ subst (λ h. IsHead ns h (k + 1)) (sym w.head-is) (head_anew ns c.loop-i.head k w.if-names-head.true c.loop-i.invariant.head)
-      | else-names-head w ↦ subst (λ h. IsHead ns h (k + 1)) (sym w.head-is) (head_still ns c.loop-i.head k c.requires.order c.loop-i-test.true w.if-names-head.false c.loop-i.invariant.head)
+    let quiet = c.if-i-eq0.quiet in
+    let tells : TellsFrom ns k quiet = elim c.if-i-eq0.branch [
+      | then-i-eq0 w ↦ λ i upto. subst (λ q. TellsFrom ns k q) (sym w.quiet-is)
+          (λ j small. tells_own ns w.names_between.result.now (at ns k).key w.first_quiet-quiet.result j w.names_between.ensures.inside w.names_between.ensures.all (w.first_quiet-quiet.ensures j small)) i upto
+      | else-i-eq0+else-names-i w ↦ λ i upto. subst (λ q. TellsFrom ns k q) (sym w.quiet-is)
+          (let some = w.if-i-eq0.false in tells_still ns k c.loop-i.quiet c.requires (omega (arith, some)) c.loop-i-test.true w.if-names-i.false (c.loop-i.invariant.quiet (omega (arith, some)))) i upto
     ] in
-    let upto : c.if-names-head.head ≤ k = elim c.if-names-head.branch [
-      | then-names-head w ↦ let is = w.head-is in omega (arith, is)
-      | else-names-head w ↦ let is = w.head-is in let le = c.loop-i.invariant.head.upto in omega (arith, is, le)
-    ] in
+    let place = c.reply_place.ensures in
+    let small = c.reply_place.type_inv in
     record {
-      head = head;
-      found = found_more ns c.if-names-head.head k c.loop-i.first c.earlier-first.result c.requires.quiet c.loop-i-test.true head upto (subst (λ r. MatchOption c.earlier-first.result ((c.loop-i.first ≡ None) × (r ≤ (at ns c.if-names-head.head).quiet)) (IsEarlier c.loop-i.first (at ns c.if-names-head.head).quiet r)) c.reply_place.ensures c.earlier-first.ensures) c.loop-i.invariant.found;
+      quiet = λ some. subst (λ i. TellsFrom ns i quiet) (let e : k ≡ k + 1 - 1 = omega arith in e) tells;
+      found = found_more ns quiet k c.loop-i.first c.earlier-first.result c.loop-i-test.true (omega (arith, place, small)) tells (subst (λ r. MatchOption c.earlier-first.result ((c.loop-i.first ≡ None) × (r ≤ quiet)) (IsEarlier c.loop-i.first quiet r)) place c.earlier-first.ensures) c.loop-i.invariant.found;
     }
 
 pub returns : goal.returns

@@ -1,8 +1,9 @@
-use Rattle.vic_verdict.proofs.Replying.{IsHead, IsFoundTo}
+use Rattle.std.proofs.Common.{◌-◌, ◌<◌}
+use Rattle.vic_verdict.proofs.Replying.{TellsFrom, IsFoundTo}
 use Rattle.vic_verdict.proofs.names.first_quiet_reply.Given as goal
 
 abbrev pub invariant-loop-i : goal.invariant-loop-i
 invariant-loop-i l = record {
-  head : IsHead l.names l.head l.i;
+  quiet : 0 < l.i → TellsFrom l.names (l.i - 1) l.quiet;
   found : IsFoundTo l.names l.i l.first;
 }

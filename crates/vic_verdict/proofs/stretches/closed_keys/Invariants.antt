@@ -1,4 +1,3 @@
-use Rattle.std.proofs.Common.{length}
 use Rattle.vic_tree.specs.Ranges.{is_outside}
 use Rattle.vic_log.specs.Order.{entries}
 use Rattle.vic_verdict.specs.Replies.{AreHeard}
@@ -9,6 +8,6 @@ use Rattle.vic_verdict.proofs.stretches.closed_keys.Given as goal
 abbrev pub invariant-loop-index : goal.invariant-loop-index
 invariant-loop-index l = record {
   round : IsCursorAt (entries l.lines) l.index l.cursor;
-  stretch : IsStretch (entries l.lines) l.index (length l.lines) (is_outside l.closed.items) l.names.items l.spots.items;
-  heard : AreHeard (entries l.lines) l.index (length l.lines) l.names.items;
+  stretch : IsStretch (entries l.lines) l.index (is_outside l.closed.items) l.names.items l.spots.items;
+  heard : AreHeard (entries l.lines) l.index l.names.items;
 }

@@ -1,6 +1,6 @@
 use Rattle.std.proofs.Common.{◌≡◌, Bool, ◌&&◌, get_or, arith, sym, ap, ◌∙◌}
 use Rattle.vic_verdict.specs.declared.names.Name.{Name}
-use Rattle.vic_verdict.specs.Sweep.{mask_leaves}
+use Rattle.vic_verdict.specs.Sweep.{level_leaves, mask_leaves, quiet_of}
 use Rattle.vic_verdict.proofs.Sweeping.{nobody, ruled_first, ruled_more, ruled_all, outside_below, outside_above, inside}
 use Rattle.vic_verdict.proofs.sweep.rule_out.Goals as goal
 use Rattle.vic_verdict.proofs.sweep.rule_out.Goals.{then-name, else-name}
@@ -9,7 +9,7 @@ pub loop-i-init : goal.loop-i-init
 loop-i-init c =
     let ns = c.args.names.now in
     ruled_first (mask_leaves c.args.first c.args.last c.args.level.now) ns c.start_near-start.result (λ k below.
-    outside_below c.args.first c.args.last c.args.level.now (get_or ns k nobody).key (get_or ns k nobody).quiet (c.start_near-start.ensures.below k nobody below))
+    outside_below c.args.first c.args.last c.args.level.now (get_or ns k nobody).key (quiet_of (get_or ns k nobody)) (c.start_near-start.ensures.below k nobody below))
 
 pub loop-i-preserved : goal.loop-i-preserved
 loop-i-preserved c =
@@ -18,12 +18,12 @@ loop-i-preserved c =
     let same : n ≡ get_or c.args.names.now c.loop-i.i nobody = c.loop-i.invariant.rest c.loop-i.i (omega arith) in
     let from = c.start_near-start.ensures.rest c.loop-i.i nobody c.loop-i.auto.i c.loop-i-test.true in
     let key = ap (λ (m : Name). m.key) same in
-    let in_mask = inside c.args.first c.args.last c.args.level.now n.key n.quiet (omega (arith, from, key)) c.if-last-name.false in
-    let left : c.if-name.names ≡ (n.left && p n.key n.quiet) = elim c.if-name.branch [
-      | then-name w ↦ w.names-is ∙ (w.leaves.ensures ∙ sym (ap (λ b. b && p n.key n.quiet) w.if-name.true ∙ in_mask))
-      | else-name w ↦ w.names-is ∙ (w.if-name.false ∙ sym (ap (λ b. b && p n.key n.quiet) w.if-name.false))
+    let in_mask = inside c.args.first c.args.last c.args.level.now n.key (quiet_of n) (omega (arith, from, key)) c.if-last-name.false in
+    let left : c.if-name.names ≡ (n.left && p n.key (quiet_of n)) = elim c.if-name.branch [
+      | then-name w ↦ w.names-is ∙ (w.leaves.ensures ∙ ap (level_leaves c.args.level.now n.key) w.quiet.ensures ∙ sym (ap (λ b. b && p n.key (quiet_of n)) w.if-name.true ∙ in_mask))
+      | else-name w ↦ w.names-is ∙ (w.if-name.false ∙ sym (ap (λ b. b && p n.key (quiet_of n)) w.if-name.false))
     ] in
-    ruled_more p c.args.names.now c.loop-i.names c.loop-i.i _ c.loop-i.invariant c.loop-i-test.true (ap (λ (b : Bool). record { key = n.key; at = n.at; quiet = n.quiet; left = b }) left)
+    ruled_more p c.args.names.now c.loop-i.names c.loop-i.i _ c.loop-i.invariant c.loop-i-test.true (ap (λ (b : Bool). record { key = n.key; at = n.at; is_heard = n.is_heard; left = b }) left)
 
 pub returns-then-last-name : goal.returns-then-last-name
 returns-then-last-name c =

@@ -1,11 +1,11 @@
 use Rattle.std.proofs.Common.{◌≡◌, ℕ, ◌∙◌, ◌&&◌, ◌++◌, not, ap, sym, subst, rules, length, take, List}
 use Rattle.std.specs.List.{All}
 use Rattle.std.specs.Prelude.{MatchOption}
-use Rattle.std.proofs.lemmas.List.Sorted.{answers_always, All-permutation}
+use Rattle.std.proofs.lemmas.List.Sorted.{IsNonDecreasingBy-from_sort_by_key, All-permutation}
 use Rattle.vic_frame.specs.LowBitsFirst.{mirror}
 use Rattle.vic_verdict.specs.declared.names.Name.{Name}
 use Rattle.vic_verdict.specs.declared.closed.Spot.{Spot}
-use Rattle.vic_verdict.specs.Sweep.{keep_all, all_leave, AreInOrder, AreInQuietOrder, HasRange}
+use Rattle.vic_verdict.specs.Sweep.{keep_all, all_leave, AreInOrder, HasRange}
 use Rattle.vic_verdict.proofs.Sweeping.{keep-length, keep-order, written, covered_allowed, left_permuted, named_permuted, allow_permuted}
 use Rattle.vic_tree.specs.Ranges.{in_ranges}
 use Rattle.vic_verdict.specs.Closed.{Closes, is_in_some}
@@ -13,20 +13,15 @@ use Rattle.vic_verdict.specs.Replies.{AreReady, IsQuietReply}
 use Rattle.vic_verdict.proofs.Closing.{outside_closed}
 use Rattle.vic_verdict.specs.Verdict.{IsLeast}
 use Rattle.vic_verdict.proofs.Heard.{ready_permuted, first_permuted}
-use Rattle.vic_verdict.proofs.NameOrder.{name_key, order_from_sort, quiet_from_sort}
 use Rattle.vic_verdict.proofs.sweep.settle_stretch.Goals as goal
 
-pub first_quiet_reply-requires-clause-order : goal.first_quiet_reply-requires-clause-order
-first_quiet_reply-requires-clause-order c =
-    subst AreInOrder (sym c.deref.ensures.value) (order_from_sort _ (c.sort_unstable_by_key.ensures.sorted name_key (answers_always _ _ _ (λ f a r g h. search rules))))
-
-pub first_quiet_reply-requires-clause-quiet : goal.first_quiet_reply-requires-clause-quiet
-first_quiet_reply-requires-clause-quiet c =
-    subst AreInQuietOrder (sym c.deref.ensures.value) (quiet_from_sort _ (c.sort_unstable_by_key.ensures.sorted name_key (answers_always _ _ _ (λ f a r g h. search rules))))
+pub first_quiet_reply-requires : goal.first_quiet_reply-requires
+first_quiet_reply-requires c =
+    subst AreInOrder (sym c.deref.ensures.value) (IsNonDecreasingBy-from_sort_by_key (λ (n : Name). n.key) _ c.sort_unstable_by_key.ensures.sorted (λ a r q k. search rules))
 
 pub rule_out_all-requires-clause-order : goal.rule_out_all-requires-clause-order
 rule_out_all-requires-clause-order c =
-    subst AreInOrder (sym c.deref_mut.ensures.value) (order_from_sort _ (c.sort_unstable_by_key.ensures.sorted name_key (answers_always _ _ _ (λ f a r g h. search rules))))
+    subst AreInOrder (sym c.deref_mut.ensures.value) (IsNonDecreasingBy-from_sort_by_key (λ (n : Name). n.key) _ c.sort_unstable_by_key.ensures.sorted (λ a r q k. search rules))
 
 pub rule_out_all-requires-clause-ranges : goal.rule_out_all-requires-clause-ranges
 rule_out_all-requires-clause-ranges c =
@@ -38,7 +33,7 @@ names_are n ns now new sorted kept ss spots a b d e f =
 
 pub close_spots-requires-clause-order : goal.close_spots-requires-clause-order
 close_spots-requires-clause-order c =
-    subst AreInOrder (sym (names_are _ _ c.deref_mut.result.now c.rule_out_all.new.names c.sort_unstable_by_key.new.self.items c.deref-3.result.now c.deref-2.result.now c.sort_unstable_by_key-2.new.self.items c.deref_mut.ensures.value c.deref-2.ensures.value c.rule_out_all.ensures c.deref_mut.ensures.len c.deref-3.ensures.value)) (keep-order (all_leave c.sort_unstable_by_key-2.new.self.items) c.sort_unstable_by_key.new.self.items (order_from_sort _ (c.sort_unstable_by_key.ensures.sorted name_key (answers_always _ _ _ (λ f a r g h. search rules)))))
+    subst AreInOrder (sym (names_are _ _ c.deref_mut.result.now c.rule_out_all.new.names c.sort_unstable_by_key.new.self.items c.deref-3.result.now c.deref-2.result.now c.sort_unstable_by_key-2.new.self.items c.deref_mut.ensures.value c.deref-2.ensures.value c.rule_out_all.ensures c.deref_mut.ensures.len c.deref-3.ensures.value)) (keep-order (all_leave c.sort_unstable_by_key-2.new.self.items) c.sort_unstable_by_key.new.self.items (IsNonDecreasingBy-from_sort_by_key (λ (n : Name). n.key) _ c.sort_unstable_by_key.ensures.sorted (λ a r q k. search rules)))
 
 pub close_spots-requires-clause-ranges : goal.close_spots-requires-clause-ranges
 close_spots-requires-clause-ranges c =
