@@ -8,7 +8,7 @@ ghost use Rattle.vic_log.specs.Order.{entries};
 ghost use Rattle.vic_log.specs.Rounds.{is_slot};
 ghost use Rattle.vic_report.specs.Conflicts.{IsConflict, IsConflictAt};
 ghost use Rattle.vic_verdict.specs.FirstLines.{AreFirstLines};
-ghost use Rattle.vic_verdict.specs.Possible.{IsContradictedAt};
+ghost use Rattle.vic_verdict.specs.Possible.{IsContradiction};
 ghost use Rattle.vic_verdict.specs.Verdict.{IsVerdict};
 ghost use Rattle.vic_verdict.specs.declared.judging.Verdict.TheVariants.{Impossible};
 
@@ -40,7 +40,7 @@ pub(crate) fn find_conflict<S: OpenSet>(
     contradiction: Contradiction,
 ) -> Result<Conflict, AllocError>
     requires lines { AreFirstLines lines.now }
-    requires impossible { IsContradictedAt (entries lines.now) contradiction.at }
+    requires impossible { IsContradiction (entries lines.now) contradiction }
     ensures { IfOk result (IsConflict lines.now) }
 {
     let line = first_impossible_line::<S>(alloc, lines, contradiction)?;

@@ -80,7 +80,7 @@ none_left ns from i k below le above = false_from_ne_true _ (λ e.
 le_no : (x y : ℕ) → y < x → nat_le x y ≡ false
 le_no x y e = grind (arith, nat_tests)
 
-le_yes : (x y : ℕ) → x ≤ y → nat_le x y ≡ true
+pub le_yes : (x y : ℕ) → x ≤ y → nat_le x y ≡ true
 le_yes x y e = grind (arith, nat_tests)
 
 lt_no : (x y : ℕ) → y ≤ x → nat_lt x y ≡ false

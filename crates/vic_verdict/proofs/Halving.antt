@@ -1,11 +1,12 @@
 -- Halving over the lines of a log.
 use Rattle.std.proofs.Common.{◌≡◌, ℕ, zero, suc, ◌+◌, ◌<◌, ◌≤◌, List, [], ◌∷◌, ◌++◌, Some, length, take, drop, refl, sym, ap, ◌∙◌, subst, arith, ⊎_elim}
-use Rattle.std.specs.Prelude.{slice_get}
+use Rattle.std.specs.Prelude.{◌⊎◌, slice_get}
 use Rattle.std.proofs.lemmas.Bool.{cases_lt}
 use Rattle.std.proofs.lemmas.List.{take-append-drop, take-map, length-map, length-take}
 use Rattle.vic_log.specs.declared.entry.Entry.TheVariants.{Sent}
 use Rattle.vic_log.specs.declared.entry.LogLine.{LogLine}
-use Rattle.vic_verdict.specs.Possible.{IsPossible, IsContradictedAt}
+use Rattle.vic_verdict.specs.declared.met.Contradiction.{Contradiction}
+use Rattle.vic_verdict.specs.Possible.{IsPossible, IsContradictedAt, IsContradiction}
 use Rattle.vic_verdict.proofs.Possibility.{IsPossible-front}
 use Rattle.vic_log.specs.Order.{IsInOrder, entries, AreValid, IsRisingFrom}
 use Rattle.vic_verdict.specs.FirstLines.{AreFirstLines}
@@ -67,11 +68,36 @@ contradicted_lines lines i h = (
   (λ p. h.impossible (subst IsPossible (sym (take-map (λ (l : LogLine). l.item) (i + 1) lines)) p)),
 )
 
-pub between_first : (lines : List LogLine) (i : ℕ) → IsContradictedAt (entries lines) i → Between lines 0 (i + 1)
-between_first lines i h =
+-- the entries of the first lines
+pub first_entries : (n : ℕ) (lines : List LogLine) → entries (take n lines) ≡ take n (entries lines)
+first_entries n lines = sym (take-map (λ (l : LogLine). l.item) n lines)
+
+-- a contradiction of the first lines is one of all, and what is known of the lines before it holds
+pub front_contradiction : (lines : List LogLine) (n : ℕ) (c : Contradiction) → IsContradiction (entries (take n lines)) c → IsContradiction (entries lines) c
+front_contradiction lines n c h = record {
+  impossible = record {
+    within = let long = length-map lines (λ (l : LogLine). l.item) in omega (arith, below, long);
+    impossible = λ possible. h.impossible.impossible (subst IsPossible (sym (same (c.at + 1) (omega (arith, short)))) possible);
+  };
+  before = λ e. subst IsPossible (same c.at (omega (arith, short))) (h.before e);
+} where
+  small : length (entries (take n lines)) ≡ length (take n lines)
+  small = length-map (take n lines) (λ (l : LogLine). l.item)
+
+  short : c.at < n
+  short = let within = h.impossible.within in let size = length-take n lines in grind (arith, within, small, size)
+
+  below : c.at < length lines
+  below = let within = h.impossible.within in let size = length-take n lines in grind (arith, within, small, size)
+
+  same : (m : ℕ) → m ≤ n → take m (entries (take n lines)) ≡ take m (entries lines)
+  same m le = sym (first_entries m (take n lines)) ∙ ap entries (take_twice m n lines le) ∙ first_entries m lines
+
+pub between_first : (lines : List LogLine) (low i : ℕ) → low ≤ i → IsPossible (entries (take low lines)) → IsContradictedAt (entries lines) i → Between lines low (i + 1)
+between_first lines low i le possible h =
     let c = contradicted_lines lines i h in
     let within = c.0 in
-    record { ordered = omega arith; within = omega (arith, within); possible = nothing_possible; impossible = c.1 }
+    record { ordered = omega (arith, le); within = omega (arith, within); possible = possible; impossible = c.1 }
 
 -- more lines that are possible
 pub between_more : (lines : List LogLine) (low high count : ℕ) → count < high → IsPossible (entries (take count lines)) → Between lines low high → Between lines count high
@@ -91,3 +117,11 @@ between_earlier lines low high count i lt h b =
       possible = b.possible;
       impossible = impossible;
     }
+
+-- and the lines before it, as far as they are possible
+pub between_raised : (lines : List LogLine) (low high more next : ℕ) → more < high → (next ≡ low) ⊎ (next ≡ more) → IsPossible (entries (take more lines)) → Between lines low high → Between lines next high
+between_raised lines low high more next lt is possible b =
+    ⊎_elim
+    (λ old. subst (λ n. Between lines n high) (sym old) b)
+    (λ new. subst (λ n. Between lines n high) (sym new) (between_more lines low high more lt possible b))
+    is

@@ -1,11 +1,11 @@
 -- Whether the UIDs that were heard could have answered, from place to place.
-use Rattle.std.proofs.Common.{◌≡◌, ℕ, ◌+◌, ◌<◌, ◌^◌, ◌++◌, ◌==◌, List, [], ◌∷◌, length, get_or, take, drop, zero, suc, ◌≤◌, Bool, true, false, not, ◌&&◌, ◌||◌, Some, refl, sym, ap, ◌∙◌, subst, arith, inl, inr, ⊎_elim}
+use Rattle.std.proofs.Common.{◌≡◌, ℕ, ◌+◌, ◌<◌, ◌^◌, ◌++◌, ◌==◌, List, [], ◌∷◌, take, drop, zero, suc, ◌≤◌, Bool, true, false, not, ◌&&◌, ◌||◌, Some, refl, sym, ap, ◌∙◌, subst, arith, inl, inr, ⊎_elim}
 use Rattle.std.specs.Prelude.{◌⊎◌, slice_get, nat_lt, if◌then◌else◌}
 use Rattle.std.specs.List.{All, list_any}
 use Rattle.std.specs.List.Sorted.{IsPermutation}
 use Rattle.std.proofs.lemmas.List.Sorted.{list_any-IsPermutation, IsPermutation-sym}
 use Rattle.std.proofs.lemmas.List.{take-append-drop}
-use Rattle.std.proofs.lemmas.Bool.{cases_eq, and_parts, and_from, and_right, both_ways, eqb-true}
+use Rattle.std.proofs.lemmas.Bool.{cases_eq, cases_lt, and_parts, and_from, and_right, both_ways, eq-eqb, eqb-true, false_from_ne_true}
 use Rattle.std.proofs.lemmas.Bool.Decides.{nat_tests}
 use Rattle.std.proofs.lemmas.List.Elements.{All-push}
 use Rattle.std.proofs.lemmas.List.Quantifiers.{Any-push}
@@ -22,9 +22,8 @@ use Rattle.vic_log.specs.Populations.{answers_at}
 use Rattle.vic_log.proofs.Places.{answers_agree, agree_upto}
 use Rattle.vic_verdict.specs.declared.names.Name.{Name}
 use Rattle.vic_verdict.specs.Possible.{IsPossible, IsContradictedAt}
-use Rattle.vic_verdict.specs.Replies.{Answers, reply_place, is_quiet_reply, AreReady, IsQuietReply, IsHeardAt, IsReplyAt, AreHeard}
+use Rattle.vic_verdict.specs.Replies.{Answers, reply_place, is_quiet_reply, IsQuietReply, IsFirstQuietReply, IsHeardAt, IsReplyAt, AreHeard}
 use Rattle.vic_verdict.specs.Sweep.{quiet_of, is_silenced}
-use Rattle.vic_verdict.specs.Verdict.{IsLeast}
 use Rattle.vic_verdict.proofs.Silencing.{silenced_permuted}
 use Rattle.vic_verdict.proofs.Stretching.{IsPlaced, quiet_silent, quiet_heard, beside_all, placed_next, silenced_next, silenced_after, quiet_named, quiet_next, still_quiet}
 use Rattle.vic_verdict.proofs.Supplied.{supplied_each}
@@ -97,18 +96,17 @@ quiet_range es from i ns ms same next quiet j u since upto w =
     (cases_eq j (i + 1))
 
 -- what the names tell at the place after an entry that silences and wakes nobody
-quiet_still : (es : List Entry) (i u : ℕ) (ns : List Name) (e : Entry) → slice_get es i ≡ Some e → i < 2 ^ 32 → wakes (Some e) ≡ false → silences (Some e) u ≡ false → IsUid u → AreHeard es i ns → is_silenced ns (mirror u) (i + 1) ≡ is_quiet es (i + 1) u
-quiet_still es i u ns e k lt awake none w h =
+quiet_still : (es : List Entry) (from i u : ℕ) (ns : List Name) (e : Entry) → slice_get es i ≡ Some e → i < 2 ^ 32 → wakes (Some e) ≡ false → silences (Some e) u ≡ false → IsUid u → AreHeard es from i ns → is_silenced ns (mirror u) (i + 1) ≡ is_quiet es (i + 1) u
+quiet_still es from i u ns e k lt awake none w h =
     silenced_next ns (mirror u) i (beside_all i ns lt h.names) ∙ (h.quiet i u h.begun (omega arith) w ∙ (still_quiet _ _ (is_quiet es i u) none awake ∙ sym (quiet_next es i u e k)))
 
 -- an entry that hears, silences and wakes nobody
-pub heard_passed : (es : List Entry) (i : ℕ) (ns : List Name) (e : Entry) → slice_get es i ≡ Some e → i < 2 ^ 32 → ((r : Reply) → e ≡ Heard r → ⊥) → wakes (Some e) ≡ false → ((u : ℕ) → IsUid u → silences (Some e) u ≡ false) → AreHeard es i ns → AreHeard es (i + 1) ns
-heard_passed es i ns e k lt deaf awake none h = record {
-  from = h.from;
+pub heard_passed : (es : List Entry) (from i : ℕ) (ns : List Name) (e : Entry) → slice_get es i ≡ Some e → i < 2 ^ 32 → ((r : Reply) → e ≡ Heard r → ⊥) → wakes (Some e) ≡ false → ((u : ℕ) → IsUid u → silences (Some e) u ≡ false) → AreHeard es from i ns → AreHeard es from (i + 1) ns
+heard_passed es from i ns e k lt deaf awake none h = record {
   begun = let b = h.begun in omega (arith, b);
   names = placed_next i ns h.names;
-  quiet = quiet_range es h.from i ns ns (λ j u le. refl) (λ u w. quiet_still es i u ns e k lt awake (none u w) w h) h.quiet;
-  replies = replies_next es h.from i ns h.replies;
+  quiet = quiet_range es from i ns ns (λ j u le. refl) (λ u w. quiet_still es from i u ns e k lt awake (none u w) w h) h.quiet;
+  replies = replies_next es from i ns h.replies;
   answer = λ j r below f.
       ⊎_elim
       (λ here. absurd (deaf r (let both : Some e ≡ Some (Heard r) = sym k ∙ subst (λ n. slice_get es n ≡ Some (Heard r)) here f in cc)))
@@ -117,14 +115,13 @@ heard_passed es i ns e k lt deaf awake none h = record {
 }
 
 -- a Stay Quiet
-pub heard_silenced : (es : List Entry) (i : ℕ) (ns ms : List Name) (e : Entry) (n : Name) → slice_get es i ≡ Some e → i < 2 ^ 32 → ((r : Reply) → e ≡ Heard r → ⊥) → wakes (Some e) ≡ false → ((u : ℕ) → IsUid u → silences (Some e) u ≡ (n.key == mirror u)) → n.at ≡ i → n.is_heard ≡ false → ms ≡ ns ++ n ∷ [] → AreHeard es i ns → AreHeard es (i + 1) ms
-heard_silenced es i ns ms e n k lt deaf awake one at silent is h = subst (AreHeard es (i + 1)) (sym is) (record {
-  from = h.from;
+pub heard_silenced : (es : List Entry) (from i : ℕ) (ns ms : List Name) (e : Entry) (n : Name) → slice_get es i ≡ Some e → i < 2 ^ 32 → ((r : Reply) → e ≡ Heard r → ⊥) → wakes (Some e) ≡ false → ((u : ℕ) → IsUid u → silences (Some e) u ≡ (n.key == mirror u)) → n.at ≡ i → n.is_heard ≡ false → ms ≡ ns ++ n ∷ [] → AreHeard es from i ns → AreHeard es from (i + 1) ms
+heard_silenced es from i ns ms e n k lt deaf awake one at silent is h = subst (AreHeard es from (i + 1)) (sym is) (record {
   begun = let b = h.begun in omega (arith, b);
   names = All-push (IsPlaced (i + 1)) ns n (placed_next i ns h.names) (λ _. omega (arith, at));
-  quiet = quiet_range es h.from i ns (ns ++ n ∷ []) (λ j u le. silenced_after ns n (mirror u) j (let q = quiet_silent n silent in omega (arith, le, q, at)))
+  quiet = quiet_range es from i ns (ns ++ n ∷ []) (λ j u le. silenced_after ns n (mirror u) j (let q = quiet_silent n silent in omega (arith, le, q, at)))
       (λ u w. quiet_named es i u e ns n k awake (one u w) (quiet_silent n silent ∙ at) (silenced_next ns (mirror u) i (beside_all i ns lt h.names) ∙ h.quiet i u h.begun (omega arith) w)) h.quiet;
-  replies = All-push (HeardIn es h.from (i + 1)) ns n (replies_next es h.from i ns h.replies) (λ late. absurd (both_ways _ silent late));
+  replies = All-push (HeardIn es from (i + 1)) ns n (replies_next es from i ns h.replies) (λ late. absurd (both_ways _ silent late));
   answer = λ j r below f.
       ⊎_elim
       (λ here. absurd (deaf r (let both : Some e ≡ Some (Heard r) = sym k ∙ subst (λ n. slice_get es n ≡ Some (Heard r)) here f in cc)))
@@ -133,14 +130,13 @@ heard_silenced es i ns ms e n k lt deaf awake one at silent is h = subst (AreHea
 })
 
 -- an entry that hears a UID of its mask
-pub heard_more : (es : List Entry) (i : ℕ) (ns ms : List Name) (r : Reply) (n : Name) → slice_get es i ≡ Some (Heard r) → i < 2 ^ 32 → n.key ≡ mirror r.uid → IsUid r.uid → n.at ≡ i → n.is_heard ≡ true → lies_in_some (mask_at es i) r.uid ≡ true → ms ≡ ns ++ n ∷ [] → AreHeard es i ns → AreHeard es (i + 1) ms
-heard_more es i ns ms r n k lt key is_uid at heard inside is h = subst (AreHeard es (i + 1)) (sym is) (record {
-  from = h.from;
+pub heard_more : (es : List Entry) (from i : ℕ) (ns ms : List Name) (r : Reply) (n : Name) → slice_get es i ≡ Some (Heard r) → i < 2 ^ 32 → n.key ≡ mirror r.uid → IsUid r.uid → n.at ≡ i → n.is_heard ≡ true → lies_in_some (mask_at es i) r.uid ≡ true → ms ≡ ns ++ n ∷ [] → AreHeard es from i ns → AreHeard es from (i + 1) ms
+heard_more es from i ns ms r n k lt key is_uid at heard inside is h = subst (AreHeard es from (i + 1)) (sym is) (record {
   begun = let b = h.begun in omega (arith, b);
   names = All-push (IsPlaced (i + 1)) ns n (placed_next i ns h.names) (λ silent. absurd (both_ways _ silent heard));
-  quiet = quiet_range es h.from i ns (ns ++ n ∷ []) (λ j u le. silenced_after ns n (mirror u) j (let q = quiet_heard n heard in omega (arith, le, lt, q)))
-      (λ u w. silenced_after ns n (mirror u) (i + 1) (let q = quiet_heard n heard in omega (arith, lt, q)) ∙ quiet_still es i u ns (Heard r) k lt refl refl w h) h.quiet;
-  replies = All-push (HeardIn es h.from (i + 1)) ns n (replies_next es h.from i ns h.replies) (λ late. record {
+  quiet = quiet_range es from i ns (ns ++ n ∷ []) (λ j u le. silenced_after ns n (mirror u) j (let q = quiet_heard n heard in omega (arith, le, lt, q)))
+      (λ u w. silenced_after ns n (mirror u) (i + 1) (let q = quiet_heard n heard in omega (arith, lt, q)) ∙ quiet_still es from i u ns (Heard r) k lt refl refl w h) h.quiet;
+  replies = All-push (HeardIn es from (i + 1)) ns n (replies_next es from i ns h.replies) (λ late. record {
     reply = r;
     heard = subst (λ j. slice_get es j ≡ Some (Heard r)) (sym at) k;
     key = key;
@@ -157,8 +153,8 @@ heard_more es i ns ms r n k lt key is_uid at heard inside is h = subst (AreHeard
 })
 
 -- a silent slot, a collision, a garbled slot or a listed UID
-pub heard_other : (es : List Entry) (i : ℕ) (ns : List Name) (e : Entry) → slice_get es i ≡ Some e → i < 2 ^ 32 → (e ≡ Collision) ⊎ ((e ≡ Garbled) ⊎ (((u : ℕ) × (e ≡ Listed u)) ⊎ (e ≡ FieldCycle))) → (e ≡ FieldCycle → ⊥) → AreHeard es i ns → AreHeard es (i + 1) ns
-heard_other es i ns e k lt is other h =
+pub heard_other : (es : List Entry) (from i : ℕ) (ns : List Name) (e : Entry) → slice_get es i ≡ Some e → i < 2 ^ 32 → (e ≡ Collision) ⊎ ((e ≡ Garbled) ⊎ (((u : ℕ) × (e ≡ Listed u)) ⊎ (e ≡ FieldCycle))) → (e ≡ FieldCycle → ⊥) → AreHeard es from i ns → AreHeard es from (i + 1) ns
+heard_other es from i ns e k lt is other h =
     ⊎_elim
     (λ s. pass Collision (k ∙ ap (λ (x : Entry). Some x) s) (λ r c. cc) refl (λ u. refl))
     (λ v. ⊎_elim
@@ -170,11 +166,11 @@ heard_other es i ns e k lt is other h =
     v)
     is
   where
-    pass : (f : Entry) → slice_get es i ≡ Some f → ((r : Reply) → f ≡ Heard r → ⊥) → wakes (Some f) ≡ false → ((u : ℕ) → silences (Some f) u ≡ false) → AreHeard es (i + 1) ns
-    pass f g deaf awake loud = heard_passed es i ns f g lt deaf awake (λ u w. loud u) h
+    pass : (f : Entry) → slice_get es i ≡ Some f → ((r : Reply) → f ≡ Heard r → ⊥) → wakes (Some f) ≡ false → ((u : ℕ) → silences (Some f) u ≡ false) → AreHeard es from (i + 1) ns
+    pass f g deaf awake loud = heard_passed es from i ns f g lt deaf awake (λ u w. loud u) h
 
-pub heard_silent : (es : List Entry) (i : ℕ) (ns : List Name) → slice_get es i ≡ Some Silent → i < 2 ^ 32 → AreHeard es i ns → AreHeard es (i + 1) ns
-heard_silent es i ns k lt h = heard_passed es i ns Silent k lt (λ r c. cc) refl (λ u w. refl) h
+pub heard_silent : (es : List Entry) (from i : ℕ) (ns : List Name) → slice_get es i ≡ Some Silent → i < 2 ^ 32 → AreHeard es from i ns → AreHeard es from (i + 1) ns
+heard_silent es from i ns k lt h = heard_passed es from i ns Silent k lt (λ r c. cc) refl (λ u w. refl) h
 
 -- ---- what the names tell
 
@@ -183,39 +179,54 @@ not_quiet true e = sym e
 not_quiet false e = refl
 
 -- a reply by a UID that is Quiet there
-pub quiet_contradicts : (es : List Entry) (i at : ℕ) (ns : List Name) → AreHeard es i ns → IsQuietReply ns at → IsContradictedAt es at
-quiet_contradicts es i at ns a some =
+pub quiet_contradicts : (es : List Entry) (from i at : ℕ) (ns : List Name) → AreHeard es from i ns → IsQuietReply ns at → IsContradictedAt es at
+quiet_contradicts es from i at ns a some =
     let w = Any-from_list_any (λ (n : Name). (reply_place n == at) && is_silenced ns n.key at) ns some in
     let n : Name = w.1 in
     let parts = and_parts (reply_place n == at) (is_silenced ns n.key at) w.4 in
     let place = eqb-true (reply_place n) at parts.0 in
     let late = quiet_place ns n (subst (λ p. is_silenced ns n.key p ≡ true) (sym place) parts.1) in
     let here : n.at ≡ at = sym (place_of n late) ∙ place in
-    let it = subst (HeardIn es a.from i) w.3 (a.replies w.0 n w.2) late in
+    let it = subst (HeardIn es from i) w.3 (a.replies w.0 n w.2) late in
     let before = it.before in
     let quiet = sym (a.quiet n.at it.reply.uid it.since (omega (arith, before)) it.is_uid) ∙ (ap (λ key. is_silenced ns key n.at) (sym it.key) ∙ (ap (is_silenced ns n.key) here ∙ parts.1)) in
     subst (λ p. IsContradictedAt es p) here (up_to_it es n.at it.reply it.heard (λ answers.
     both_ways _ (ap not quiet) (and_parts (lies_in_some (mask_at es n.at) it.reply.uid) (not (is_quiet es n.at it.reply.uid)) answers).1))
 
-any_false : (p : Name → Bool) (ns : List Name) (k : ℕ) (d : Name) → k < length ns → list_any p ns ≡ false → p (get_or ns k d) ≡ false
-any_false p ns k d below none = go (p (get_or ns k d)) refl
-  where
-    go : (b : Bool) → p (get_or ns k d) ≡ b → p (get_or ns k d) ≡ false
-    go true e = absurd (both_ways _ none (list_any_at p ns k d below e))
-    go false e = e
+-- the first one is since the last field cycle
+pub quiet_since : (es : List Entry) (from i cut : ℕ) (ns : List Name) → AreHeard es from i ns → IsFirstQuietReply ns i cut → from ≤ cut
+quiet_since es from i cut ns a first =
+    ⊎_elim
+    (λ lt.
+    let w = Any-from_list_any (λ (n : Name). (reply_place n == cut) && is_silenced ns n.key cut) ns (first.quiet lt) in
+    let n : Name = w.1 in
+    let parts = and_parts (reply_place n == cut) (is_silenced ns n.key cut) w.4 in
+    let place = eqb-true (reply_place n) cut parts.0 in
+    let late = quiet_place ns n (subst (λ p. is_silenced ns n.key p ≡ true) (sym place) parts.1) in
+    let at = place_of n late in
+    let it = subst (HeardIn es from i) w.3 (a.replies w.0 n w.2) late in
+    let since = it.since in
+    omega (arith, place, at, since))
+    (λ ge. let begun = a.begun in let upto = first.within in omega (arith, begun, ge))
+    (cases_lt cut i)
 
--- where there is none, those before place i answer
-pub answers_before : (es : List Entry) (i : ℕ) (ns : List Name) → AreHeard es i ns → AreReady ns → (j : ℕ) (r : Reply) → j < i → slice_get es j ≡ Some (Heard r) → Answers es j r.uid
-answers_before es i ns a none j r below k =
+-- those before the first one answer
+pub answers_before : (es : List Entry) (from i cut : ℕ) (ns : List Name) → AreHeard es from i ns → ((place : ℕ) → IsQuietReply ns place → cut ≤ place) → (j : ℕ) (r : Reply) → j < i → j < cut → slice_get es j ≡ Some (Heard r) → Answers es j r.uid
+answers_before es from i cut ns a first j r below early k =
     ⊎_elim
     (λ y. y)
     (λ w.
     let n : Name = w.1 in
     let late = w.4.1 in
-    let it = subst (HeardIn es a.from i) w.3 (a.replies w.0 n w.2) late in
+    let place = place_of n late in
+    let it = subst (HeardIn es from i) w.3 (a.replies w.0 n w.2) late in
     let before = it.before in
-    let silent = ap (is_quiet_reply ns) (sym w.3) ∙ any_false (is_quiet_reply ns) ns w.0 n w.2 none in
-    let awake = sym (a.quiet n.at it.reply.uid it.since (omega (arith, before)) it.is_uid) ∙ (ap (λ key. is_silenced ns key n.at) (sym it.key) ∙ (ap (is_silenced ns n.key) (sym (place_of n late)) ∙ silent)) in
+    let silent : is_quiet_reply ns n ≡ false = false_from_ne_true _ (λ quiet.
+    let here : IsQuietReply ns (reply_place n) = list_any_at (λ (m : Name). (reply_place m == reply_place n) && is_silenced ns m.key (reply_place n)) ns w.0 n w.2 (subst (λ (m : Name). ((reply_place m == reply_place n) && is_silenced ns m.key (reply_place n)) ≡ true) (sym w.3) (and_from _ _ (eq-eqb _ _ refl) quiet)) in
+    let le = first (reply_place n) here in
+    let at = w.4.0 in
+    absurd (omega (arith, le, place, at, early))) in
+    let awake = sym (a.quiet n.at it.reply.uid it.since (omega (arith, before)) it.is_uid) ∙ (ap (λ key. is_silenced ns key n.at) (sym it.key) ∙ (ap (is_silenced ns n.key) (sym place) ∙ silent)) in
     let here = and_from _ _ it.inside (not_quiet (is_quiet es n.at it.reply.uid) awake) in
     let both : Some (Heard it.reply) ≡ Some (Heard r) = sym it.heard ∙ subst (λ m. slice_get es m ≡ Some (Heard r)) (sym w.4.0) k in
     let same : it.reply ≡ r = cc in
@@ -224,9 +235,8 @@ answers_before es i ns a none j r below k =
 
 -- ---- where a stretch begins
 
-pub heard_first : (es : List Entry) → AreHeard es 0 []
+pub heard_first : (es : List Entry) → AreHeard es 0 0 []
 heard_first es = record {
-  from = 0;
   begun = omega arith;
   names = λ k d below. absurd (omega (arith, below));
   quiet = λ j u since upto w. subst (λ n. false ≡ is_quiet es n u) (let e : 0 ≡ j = omega (arith, upto) in e) refl;
@@ -235,9 +245,8 @@ heard_first es = record {
 }
 
 -- a field cycle
-pub heard_anew : (es : List Entry) (i : ℕ) (ns ms : List Name) (e : Entry) → slice_get es i ≡ Some e → e ≡ FieldCycle → ms ≡ [] → AreReady ns → AreHeard es i ns → AreHeard es (i + 1) ms
-heard_anew es i ns ms e k is none ready a = subst (AreHeard es (i + 1)) (sym none) (record {
-  from = i + 1;
+pub heard_anew : (es : List Entry) (from i : ℕ) (ns ms : List Name) (e : Entry) → slice_get es i ≡ Some e → e ≡ FieldCycle → ms ≡ [] → ((place : ℕ) → IsQuietReply ns place → i ≤ place) → AreHeard es from i ns → AreHeard es (i + 1) (i + 1) ms
+heard_anew es from i ns ms e k is none ready a = subst (AreHeard es (i + 1) (i + 1)) (sym none) (record {
   begun = omega arith;
   names = λ j d below. absurd (omega (arith, below));
   quiet = λ j u since upto w. subst (λ n. false ≡ is_quiet es n u) (let e : i + 1 ≡ j = omega (arith, since, upto) in e) (sym (quiet_next es i u FieldCycle (k ∙ ap (λ x. Some x) is)));
@@ -245,7 +254,7 @@ heard_anew es i ns ms e k is none ready a = subst (AreHeard es (i + 1)) (sym non
   answer = λ j r lt f.
       ⊎_elim
       (λ here. absurd (let both : Some FieldCycle ≡ Some (Heard r) = ap (λ (x : Entry). Some x) (sym is) ∙ (sym k ∙ subst (λ n. slice_get es n ≡ Some (Heard r)) here f) in cycle_heard r both))
-      (λ ne. inl (answers_before es i ns a ready j r (omega (arith, lt, ne)) f))
+      (λ ne. inl (answers_before es from i i ns a ready j r (omega (arith, lt, ne)) (omega (arith, lt, ne)) f))
       (cases_eq j i);
 })
   where
@@ -258,15 +267,14 @@ any_alike : (p q : Name → Bool) → ((n : Name) → p n ≡ q n) → (ns : Lis
 any_alike p q h [] = refl
 any_alike p q h (n ∷ ns) = ap (λ b. b || list_any p ns) (h n) ∙ ap (λ b. q n || b) (any_alike p q h ns)
 
-pub ready_permuted : (ns ms : List Name) → IsPermutation ns ms → AreReady ms → AreReady ns
-ready_permuted ns ms m e =
-    list_any-IsPermutation (is_quiet_reply ns) ns ms m
-    ∙ (any_alike (is_quiet_reply ns) (is_quiet_reply ms) (λ n. sym (silenced_permuted ns ms n.key (reply_place n) m)) ms ∙ e)
-
 quiet_permuted : (ns ms : List Name) (at : ℕ) → IsPermutation ns ms → IsQuietReply ms at → IsQuietReply ns at
 quiet_permuted ns ms at m e =
     list_any-IsPermutation (λ n. (reply_place n == at) && is_silenced ns n.key at) ns ms m
     ∙ (any_alike _ _ (λ n. ap (λ b. (reply_place n == at) && b) (sym (silenced_permuted ns ms n.key at m))) ms ∙ e)
 
-pub first_permuted : (ns ms : List Name) (at : ℕ) → IsPermutation ns ms → IsLeast (IsQuietReply ms) at → IsLeast (IsQuietReply ns) at
-first_permuted ns ms at m e = (quiet_permuted ns ms at m e.0, λ place other. e.1 place (quiet_permuted ms ns place (IsPermutation-sym ns ms m) other))
+pub first_permuted : (ns ms : List Name) (end at : ℕ) → IsPermutation ns ms → IsFirstQuietReply ms end at → IsFirstQuietReply ns end at
+first_permuted ns ms end at m f = record {
+  within = f.within;
+  quiet = λ lt. quiet_permuted ns ms at m (f.quiet lt);
+  first = λ place other. f.first place (quiet_permuted ms ns place (IsPermutation-sym ns ms m) other);
+}

@@ -15,7 +15,7 @@ use Rattle.vic_verdict.proofs.Entries.{EntryAsks, entry_allows, open_reading}
 use Rattle.vic_verdict.proofs.Supplied.{supplied_each}
 use Rattle.vic_tree.proofs.BoolLaws.{and_true}
 
-taken : (n : ℕ) (es : List Entry) (j : ℕ) → j < n → slice_get (take n es) j ≡ slice_get es j
+pub taken : (n : ℕ) (es : List Entry) (j : ℕ) → j < n → slice_get (take n es) j ≡ slice_get es j
 taken zero es j h = absurd (omega (arith, h))
 taken (suc n) [] j h = refl
 taken (suc n) (e ∷ es) zero h = refl
@@ -31,7 +31,7 @@ open_place answers None slots u = sym (and_true (is_open slots u))
 open_place answers (Some e) slots u = open_reading answers e slots u
 
 -- the same entries leave the same UIDs open
-open_agrees : (n : ℕ) (es fs : List Entry) (u : ℕ) → AgreeBefore n es fs → is_open (slots_before es n) u ≡ is_open (slots_before fs n) u
+pub open_agrees : (n : ℕ) (es fs : List Entry) (u : ℕ) → AgreeBefore n es fs → is_open (slots_before es n) u ≡ is_open (slots_before fs n) u
 open_agrees zero es fs u a = refl
 open_agrees (suc n) es fs u a =
     let here : slice_get es n ≡ slice_get fs n = a n (omega arith) in

@@ -27,3 +27,4 @@ pub mod KeyOrder
 pub mod Replying
 pub mod Heard
 pub mod Meeting
+pub mod Settling

@@ -1,17 +1,15 @@
 -- Whether somebody was heard while Quiet, by names in the order of their keys.
-use Rattle.std.proofs.Common.{◌≡◌, ℕ, ◌+◌, ◌-◌, ◌<◌, ◌≤◌, ◌==◌, List, length, get_or, [], ◌∷◌, Bool, true, false, ◌&&◌, ◌||◌, Option, Some, None, refl, sym, ap, ◌∙◌, subst, arith, ⊎_elim}
-use Rattle.std.specs.Prelude.{MatchOption, IfSome, nat_lt}
-use Rattle.std.proofs.lemmas.Bool.{cases_eq, and_parts, and_from, eq-eqb, eqb-true, false_from_ne_true, false≢true}
-use Rattle.std.proofs.lemmas.Bool.Decides.{nat_tests}
+use Rattle.std.proofs.Common.{◌≡◌, ℕ, ◌+◌, ◌-◌, ◌<◌, ◌≤◌, ◌==◌, List, length, get_or, [], ◌∷◌, Bool, true, ◌&&◌, ◌||◌, refl, sym, ap, ◌∙◌, subst, arith, ⊎_elim}
+use Rattle.std.specs.Prelude.{◌⊎◌, nat_lt}
+use Rattle.std.proofs.lemmas.Bool.{cases_eq, and_parts, and_from, eq-eqb, eqb-true}
 use Rattle.std.specs.List.{All, list_any}
 use Rattle.std.proofs.lemmas.List.{get_or_default}
 use Rattle.std.proofs.lemmas.List.Elements.{All-head, All-tail}
 use Rattle.std.proofs.lemmas.List.Folds.{list_any_at, Any-from_list_any}
 use Rattle.vic_verdict.specs.declared.names.Name.{Name}
 use Rattle.vic_verdict.specs.declared.names.TheConstants.{NEVER}
-use Rattle.vic_verdict.specs.Replies.{reply_place, is_quiet_reply, AreReady, IsQuietReply, IsEarlier}
+use Rattle.vic_verdict.specs.Replies.{reply_place, is_quiet_reply, IsQuietReply, IsFirstQuietReply}
 use Rattle.vic_verdict.specs.Sweep.{quiet_of, is_silenced, is_between, has_where, AreInOrder}
-use Rattle.vic_verdict.specs.Verdict.{IsLeast}
 use Rattle.vic_verdict.proofs.Closing.{between_from}
 use Rattle.vic_verdict.proofs.Sweeping.{nobody, between_parts}
 use Rattle.vic_tree.proofs.BoolLaws.{lt_from, lt_yes}
@@ -45,58 +43,47 @@ tells_still ns k quiet up some below le tells i upto =
     ap (λ key. is_silenced ns key i) (omega (arith, over, le)) ∙ tells i upto
 
 -- what is found of the first k names
-abbrev pub IsFoundTo : List Name → ℕ → Option ℕ → Type 0
-IsFoundTo ns k first = MatchOption first
-    ((j : ℕ) → j < k → is_quiet_reply ns (at ns j) ≡ false)
-    (λ place. IsQuietReply ns place × ((j : ℕ) → j < k → is_quiet_reply ns (at ns j) ≡ true → place ≤ reply_place (at ns j)))
+pub record IsFoundTo (ns : List Name) (end k first : ℕ) : Type 0 where
+  pub within : first ≤ end
+  pub quiet : first < end → IsQuietReply ns first
+  pub least : (j : ℕ) → j < k → is_quiet_reply ns (at ns j) ≡ true → first ≤ reply_place (at ns j)
+
+pub found_first : (ns : List Name) (end : ℕ) → IsFoundTo ns end 0 end
+found_first ns end = record { within = omega arith; quiet = λ lt. absurd (omega (arith, lt)); least = λ j lt. absurd (omega (arith, lt)) }
 
 -- a reply of a Quiet UID
 quiet_here : (ns : List Name) (k : ℕ) → k < length ns → is_quiet_reply ns (at ns k) ≡ true → IsQuietReply ns (reply_place (at ns k))
 quiet_here ns k below e = list_any_at (λ (n : Name). (reply_place n == reply_place (at ns k)) && is_silenced ns n.key (reply_place (at ns k))) ns k nobody below (and_from _ _ (eq-eqb _ _ refl) e)
 
-pub found_more : (ns : List Name) (quiet k : ℕ) (first next : Option ℕ) → k < length ns → reply_place (at ns k) ≤ NEVER → TellsFrom ns k quiet → MatchOption next ((first ≡ None) × (reply_place (at ns k) ≤ quiet)) (IsEarlier first quiet (reply_place (at ns k))) → IsFoundTo ns k first → IsFoundTo ns (k + 1) next
-found_more ns quiet k first None below small tells e found =
-    let told = tells (reply_place (at ns k)) small in
-    λ j lt.
-    ⊎_elim
-    (λ same. subst (λ i. is_quiet_reply ns (at ns i) ≡ false) (sym same) (told ∙ late (e.1)))
-    (λ ne. subst (IsFoundTo ns k) e.0 found j (omega (arith, lt, ne)))
-    (cases_eq j k)
-  where
-    late : {q r : ℕ} → r ≤ q → nat_lt q r ≡ false
-    late {q} {r} le = grind (arith, nat_tests)
-found_more ns quiet k first (Some place) below small tells e found = (is, least) where
-  told : is_quiet_reply ns (at ns k) ≡ nat_lt quiet (reply_place (at ns k))
-  told = tells (reply_place (at ns k)) small
-
-  is : IsQuietReply ns place
-  is = ⊎_elim
-      (λ old. let all : IsFoundTo ns k (Some place) = subst (IsFoundTo ns k) old found in all.0)
-      (λ new. subst (IsQuietReply ns) new.0 (quiet_here ns k below (told ∙ lt_yes _ _ new.1)))
-      e.one
-
-  before : (f : Option ℕ) → IfSome f (λ x. place ≤ x) → IsFoundTo ns k f → (j : ℕ) → j < k → is_quiet_reply ns (at ns j) ≡ true → place ≤ reply_place (at ns j)
-  before None _ none j lt it = absurd (false≢true (sym (none j lt) ∙ it))
-  before (Some x) over some j lt it = let far = some.1 j lt it in omega (arith, over, far)
-
-  least : (j : ℕ) → j < k + 1 → is_quiet_reply ns (at ns j) ≡ true → place ≤ reply_place (at ns j)
-  least j lt it =
+-- the next name is one
+pub found_more : (ns : List Name) (end quiet k first next : ℕ) → k < length ns → reply_place (at ns k) ≤ NEVER → TellsFrom ns k quiet → quiet < reply_place (at ns k) → next ≤ first → next ≤ reply_place (at ns k) → (next ≡ first) ⊎ (next ≡ reply_place (at ns k)) → IsFoundTo ns end k first → IsFoundTo ns end (k + 1) next
+found_more ns end quiet k first next below small tells late le here is f = record {
+  within = let w = f.within in omega (arith, w, le);
+  quiet = λ lt. ⊎_elim (λ old. subst (IsQuietReply ns) (sym old) (f.quiet (omega (arith, lt, old)))) (λ new. subst (IsQuietReply ns) (sym new) (quiet_here ns k below (tells _ small ∙ lt_yes _ _ late))) is;
+  least = λ j lt it.
       ⊎_elim
-      (λ same. subst (λ i. place ≤ reply_place (at ns i)) (sym same) (e.least (lt_from _ _ (sym told ∙ subst (λ i. is_quiet_reply ns (at ns i) ≡ true) same it))))
-      (λ ne. before first e.before found j (omega (arith, lt, ne)) it)
-      (cases_eq j k)
+      (λ same. subst (λ i. next ≤ reply_place (at ns i)) (sym same) here)
+      (λ ne. let old = f.least j (omega (arith, lt, ne)) it in omega (arith, old, le))
+      (cases_eq j k);
+}
 
-pub found_all : (ns : List Name) (k : ℕ) (first : Option ℕ) → length ns ≤ k → IsFoundTo ns k first → MatchOption first (AreReady ns) (IsLeast (IsQuietReply ns))
-found_all ns k None end found =
-    false_from_ne_true _ (λ e.
-    let some = Any-from_list_any (is_quiet_reply ns) ns e in
-    let n : Name = some.1 in
-    let within = some.2 in
-    let here : at ns some.0 ≡ n = sym (get_or_default ns some.0 n nobody within) ∙ some.3 in
-    false≢true (sym (found some.0 (omega (arith, within, end))) ∙ (ap (is_quiet_reply ns) here ∙ some.4)))
-found_all ns k (Some place) end found = (
-  found.0,
-  λ m e.
+-- or isn't
+pub found_still : (ns : List Name) (end quiet k first : ℕ) → reply_place (at ns k) ≤ NEVER → TellsFrom ns k quiet → reply_place (at ns k) ≤ quiet → IsFoundTo ns end k first → IsFoundTo ns end (k + 1) first
+found_still ns end quiet k first small tells early f = record {
+  within = f.within;
+  quiet = f.quiet;
+  least = λ j lt it.
+      ⊎_elim
+      (λ same. absurd (let late = lt_from _ _ (sym (tells _ small) ∙ subst (λ i. is_quiet_reply ns (at ns i) ≡ true) same it) in omega (arith, late, early)))
+      (λ ne. f.least j (omega (arith, lt, ne)) it)
+      (cases_eq j k);
+}
+
+pub found_all : (ns : List Name) (end k first : ℕ) → length ns ≤ k → IsFoundTo ns end k first → IsFirstQuietReply ns end first
+found_all ns end k first past f = record {
+  within = f.within;
+  quiet = f.quiet;
+  first = λ m e.
       let some = Any-from_list_any (λ (n : Name). (reply_place n == m) && is_silenced ns n.key m) ns e in
       let n : Name = some.1 in
       let within = some.2 in
@@ -104,7 +91,7 @@ found_all ns k (Some place) end found = (
       let parts = and_parts (reply_place n == m) (is_silenced ns n.key m) some.4 in
       let placed = eqb-true (reply_place n) m parts.0 in
       let it : is_quiet_reply ns n ≡ true = subst (λ i. is_silenced ns n.key i ≡ true) (sym placed) parts.1 in
-      let far = found.1 some.0 (omega (arith, within, end)) (ap (is_quiet_reply ns) here ∙ it) in
+      let far = f.least some.0 (omega (arith, within, past)) (ap (is_quiet_reply ns) here ∙ it) in
       let same = ap reply_place here in
-      omega (arith, far, same, placed),
-)
+      omega (arith, far, same, placed);
+}

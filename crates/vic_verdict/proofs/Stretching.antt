@@ -1,8 +1,8 @@
 -- What a judge gathers from field cycle to field cycle.
 use Rattle.std.proofs.Common.{◌≡◌, ℕ, ◌+◌, ◌<◌, ◌≤◌, ◌==◌, ◌++◌, ◌^◌, List, [], ◌∷◌, get_or, Bool, true, false, not, ◌&&◌, ◌||◌, Option, Some, None, refl, sym, ap, ◌∙◌, subst, arith, add-one, inl, inr, ⊎_elim}
-use Rattle.std.specs.Prelude.{◌⊎◌, nat_lt, slice_get, if◌then◌else◌}
+use Rattle.std.specs.Prelude.{◌⊎◌, nat_lt, nat_le, slice_get, if◌then◌else◌}
 use Rattle.std.specs.List.{All}
-use Rattle.std.proofs.lemmas.Bool.{eq-eqb, false≢true, and_parts, and_from, and_right}
+use Rattle.std.proofs.lemmas.Bool.{cases_eq, eq-eqb, false≢true, and_parts, and_from, and_right}
 use Rattle.std.proofs.lemmas.Bool.Decides.{nat_tests}
 use Rattle.std.proofs.lemmas.List.Folds.{list_all-append, list_any-append}
 use Rattle.std.proofs.lemmas.List.Elements.{All-push, All-head, All-tail}
@@ -20,7 +20,7 @@ use Rattle.vic_log.specs.Slots.{reading_of, slots_before, is_open}
 use Rattle.vic_verdict.specs.declared.names.Name.{Name}
 use Rattle.vic_verdict.specs.declared.names.TheConstants.{NEVER}
 use Rattle.vic_verdict.specs.declared.closed.Spot.{Spot}
-use Rattle.vic_verdict.specs.Sweep.{quiet_of, heard_of, is_heard, is_in, is_silenced, spot_allows, all_allow, is_named, is_named_if, all_hear_named, are_left}
+use Rattle.vic_verdict.specs.Sweep.{quiet_of, heard_of, is_heard, is_in, is_silenced, spot_allows, all_allow, all_allow_to, is_named, is_named_if, all_hear_named, are_left}
 use Rattle.vic_verdict.specs.Stretches.{AddsSpot, IsStretch}
 use Rattle.vic_verdict.proofs.Entries.{entry_allows}
 use Rattle.vic_verdict.proofs.Stands.{open_next}
@@ -85,6 +85,37 @@ allow_named ns n k i (s ∷ ss) h before =
     ap (λ b. (not (is_in s k) || (b || is_heard (heard_of s) k)) && all_allow (ns ++ n ∷ []) ss k) (silenced_after ns n k s.at (omega (arith, lt, h)))
     ∙ ap (λ b. spot_allows ns s k && b) (allow_named ns n k i ss h (All-tail (λ (t : Spot). t.at < i) s ss before))
 
+-- and so of the slots before a place
+allow_named_to : (ns : List Name) (n : Name) (k i j : ℕ) (ss : List Spot) → i ≤ quiet_of n → All (λ (s : Spot). s.at < i) ss → all_allow_to (ns ++ n ∷ []) ss j k ≡ all_allow_to ns ss j k
+allow_named_to ns n k i j [] h before = refl
+allow_named_to ns n k i j (s ∷ ss) h before =
+    let lt = All-head (λ (t : Spot). t.at < i) s ss before in
+    ap (λ b. (nat_le j s.at || (not (is_in s k) || (b || is_heard (heard_of s) k))) && all_allow_to (ns ++ n ∷ []) ss j k) (silenced_after ns n k s.at (omega (arith, lt, h)))
+    ∙ ap (λ b. (nat_le j s.at || spot_allows ns s k) && b) (allow_named_to ns n k i j ss h (All-tail (λ (t : Spot). t.at < i) s ss before))
+
+-- before the end of a stretch are all of its slots
+pub allow_all : (ns : List Name) (k i : ℕ) (ss : List Spot) → All (λ (s : Spot). s.at < i) ss → all_allow_to ns ss i k ≡ all_allow ns ss k
+allow_all ns k i [] before = refl
+allow_all ns k i (s ∷ ss) before =
+    ap (λ b. (b || spot_allows ns s k) && all_allow_to ns ss i k) (under i s.at (All-head (λ (t : Spot). t.at < i) s ss before))
+    ∙ ap (λ b. spot_allows ns s k && b) (allow_all ns k i ss (All-tail (λ (t : Spot). t.at < i) s ss before))
+  where
+    under : (x y : ℕ) → y < x → nat_le x y ≡ false
+    under x y e = grind (arith, nat_tests)
+
+-- what a stretch tells of a place up to its end
+pub stretch_to : (es : List Entry) (from i : ℕ) (set : ℕ → Bool) (ns : List Name) (ss : List Spot) → IsStretch es from i set ns ss → (j : ℕ) → from ≤ j → j ≤ i → SameUids (λ u. set u && all_allow_to ns ss j (mirror u)) (is_open (slots_before es j))
+stretch_to es from i set ns ss h j since upto u w =
+    ⊎_elim
+    (λ e. subst (λ m. (set u && all_allow_to ns ss m (mirror u)) ≡ is_open (slots_before es m) u) (sym e) (ap (λ b. set u && b) (allow_all ns (mirror u) i ss h.slots) ∙ h.uids u w))
+    (λ ne. h.before j since (omega (arith, upto, ne)) u w)
+    (cases_eq j i)
+
+-- and of one before its end once it has an entry more
+before_next : (es : List Entry) (from i : ℕ) (set : ℕ → Bool) (ns ms : List Name) (ss ts : List Spot) → ((j u : ℕ) → j ≤ i → all_allow_to ms ts j (mirror u) ≡ all_allow_to ns ss j (mirror u)) → IsStretch es from i set ns ss → (j : ℕ) → from ≤ j → j < i + 1 → SameUids (λ u. set u && all_allow_to ms ts j (mirror u)) (is_open (slots_before es j))
+before_next es from i set ns ms ss ts same h j since under u w =
+    ap (λ b. set u && b) (same j u (omega (arith, under))) ∙ stretch_to es from i set ns ss h j since (omega (arith, under)) u w
+
 or_more : (a b : Bool) → a ≡ true → (a || b) ≡ true
 or_more true b e = refl
 or_more false b e = absurd (false≢true e)
@@ -112,8 +143,8 @@ slots_next : (i : ℕ) (ss : List Spot) → All (λ (s : Spot). s.at < i) ss →
 slots_next i ss h k d below = let lt = h k d below in omega (arith, lt)
 
 -- a UID that is heard is named
-pub stretch_named : (es : List Entry) (i : ℕ) (set : ℕ → Bool) (ns ms : List Name) (ss : List Spot) (n : Name) → i < 2 ^ 32 → n.key < 2 ^ 56 → n.left ≡ true → n.is_heard ≡ true → ms ≡ ns ++ n ∷ [] → IsStretch es i set ns ss → IsStretch es i set ms ss
-stretch_named es i set ns ms ss n lt key left heard is h = subst (λ xs. IsStretch es i set xs ss) (sym is) (record {
+pub stretch_named : (es : List Entry) (from i : ℕ) (set : ℕ → Bool) (ns ms : List Name) (ss : List Spot) (n : Name) → i < 2 ^ 32 → n.key < 2 ^ 56 → n.left ≡ true → n.is_heard ≡ true → ms ≡ ns ++ n ∷ [] → IsStretch es from i set ns ss → IsStretch es from i set ms ss
+stretch_named es from i set ns ms ss n lt key left heard is h = subst (λ xs. IsStretch es from i set xs ss) (sym is) (record {
   keys = All-push (λ (m : Name). m.key < 2 ^ 56) ns n h.keys key;
   left = left_more ns n left h.left;
   ranges = h.ranges;
@@ -122,6 +153,7 @@ stretch_named es i set ns ms ss n lt key left heard is h = subst (λ xs. IsStret
   names = All-push (IsPlaced i) ns n h.names (λ silent. absurd (false≢true (sym silent ∙ heard)));
   quiet = λ u w. silenced_after ns n (mirror u) i (let q = quiet_heard n heard in omega (arith, lt, q)) ∙ h.quiet u w;
   uids = λ u w. ap (λ b. set u && b) (allow_named ns n (mirror u) i ss (let q = quiet_heard n heard in omega (arith, lt, q)) h.slots) ∙ h.uids u w;
+  before = λ j since under u w. ap (λ b. set u && b) (allow_named_to ns n (mirror u) i j ss (let q = quiet_heard n heard in omega (arith, lt, q)) h.slots) ∙ h.before j since under u w;
 })
 
 -- ---- an entry more
@@ -135,8 +167,8 @@ still_quiet true b q e f = absurd (cc)
 still_quiet false true q e f = absurd (cc)
 
 -- an entry that silences and wakes nobody, and rules nobody out
-pub stretch_passed : (es : List Entry) (i : ℕ) (set : ℕ → Bool) (ns : List Name) (ss : List Spot) (e : Entry) → slice_get es i ≡ Some e → i < 2 ^ 32 → wakes (Some e) ≡ false → ((u : ℕ) → IsUid u → silences (Some e) u ≡ false) → ((b : Bool) (u : ℕ) → entry_allows (reading_of e) b u ≡ true) → IsStretch es i set ns ss → IsStretch es (i + 1) set ns ss
-stretch_passed es i set ns ss e k lt awake none all h = record {
+pub stretch_passed : (es : List Entry) (from i : ℕ) (set : ℕ → Bool) (ns : List Name) (ss : List Spot) (e : Entry) → slice_get es i ≡ Some e → i < 2 ^ 32 → wakes (Some e) ≡ false → ((u : ℕ) → IsUid u → silences (Some e) u ≡ false) → ((b : Bool) (u : ℕ) → entry_allows (reading_of e) b u ≡ true) → IsStretch es from i set ns ss → IsStretch es from (i + 1) set ns ss
+stretch_passed es from i set ns ss e k lt awake none all h = record {
   keys = h.keys;
   left = h.left;
   ranges = h.ranges;
@@ -145,6 +177,7 @@ stretch_passed es i set ns ss e k lt awake none all h = record {
   names = placed_next i ns h.names;
   quiet = λ u w. silenced_next ns (mirror u) i (beside_all i ns lt h.names) ∙ (h.quiet u w ∙ (still_quiet _ _ (is_quiet es i u) (none u w) awake ∙ sym (quiet_next es i u e k)));
   uids = open_next es i e (λ u. set u && all_allow ns ss (mirror u)) (λ u. set u && all_allow ns ss (mirror u)) k (λ u w. sym (ap (λ b. (set u && all_allow ns ss (mirror u)) && b) (all (answers_at es i u) u) ∙ and_true (set u && all_allow ns ss (mirror u)))) h.uids;
+  before = before_next es from i set ns ns ss ss (λ j u le. refl) h;
 }
 
 -- whoever a Stay Quiet names is Quiet after it, by the name
@@ -168,8 +201,8 @@ quiet_named es i u e ns n k awake one at before =
     go q false true true false x y z = absurd (cc)
 
 -- a Stay Quiet
-pub stretch_silenced : (es : List Entry) (i : ℕ) (set : ℕ → Bool) (ns ms : List Name) (ss : List Spot) (e : Entry) (n : Name) → slice_get es i ≡ Some e → i < 2 ^ 32 → wakes (Some e) ≡ false → ((u : ℕ) → IsUid u → silences (Some e) u ≡ (n.key == mirror u)) → ((b : Bool) (u : ℕ) → entry_allows (reading_of e) b u ≡ true) → n.key < 2 ^ 56 → n.left ≡ true → n.at ≡ i → n.is_heard ≡ false → ms ≡ ns ++ n ∷ [] → IsStretch es i set ns ss → IsStretch es (i + 1) set ms ss
-stretch_silenced es i set ns ms ss e n k lt awake one all key left at silent is h = subst (λ xs. IsStretch es (i + 1) set xs ss) (sym is) (record {
+pub stretch_silenced : (es : List Entry) (from i : ℕ) (set : ℕ → Bool) (ns ms : List Name) (ss : List Spot) (e : Entry) (n : Name) → slice_get es i ≡ Some e → i < 2 ^ 32 → wakes (Some e) ≡ false → ((u : ℕ) → IsUid u → silences (Some e) u ≡ (n.key == mirror u)) → ((b : Bool) (u : ℕ) → entry_allows (reading_of e) b u ≡ true) → n.key < 2 ^ 56 → n.left ≡ true → n.at ≡ i → n.is_heard ≡ false → ms ≡ ns ++ n ∷ [] → IsStretch es from i set ns ss → IsStretch es from (i + 1) set ms ss
+stretch_silenced es from i set ns ms ss e n k lt awake one all key left at silent is h = subst (λ xs. IsStretch es from (i + 1) set xs ss) (sym is) (record {
   keys = All-push (λ (m : Name). m.key < 2 ^ 56) ns n h.keys key;
   left = left_more ns n left h.left;
   ranges = h.ranges;
@@ -180,11 +213,12 @@ stretch_silenced es i set ns ms ss e n k lt awake one all key left at silent is 
   uids = open_next es i e (λ u. set u && all_allow ns ss (mirror u)) (λ u. set u && all_allow (ns ++ n ∷ []) ss (mirror u)) k (λ u w.
       ap (λ b. set u && b) (allow_named ns n (mirror u) i ss (let q = quiet_silent n silent in omega (arith, at, q)) h.slots)
       ∙ sym (ap (λ b. (set u && all_allow ns ss (mirror u)) && b) (all (answers_at es i u) u) ∙ and_true (set u && all_allow ns ss (mirror u)))) h.uids;
+  before = before_next es from i set ns (ns ++ n ∷ []) ss ss (λ j u le. allow_named_to ns n (mirror u) i j ss (let q = quiet_silent n silent in omega (arith, at, q)) h.slots) h;
 })
 
 -- a silent or an answered slot
-pub stretch_spotted : (es : List Entry) (i : ℕ) (set : ℕ → Bool) (ns : List Name) (ss ts : List Spot) (e : Entry) (mask : Option BitMask) (heard : Option ℕ) → slice_get es i ≡ Some e → i < 2 ^ 32 → mask ≡ mask_at es i → wakes (Some e) ≡ false → ((u : ℕ) → IsUid u → silences (Some e) u ≡ false) → ((b : Bool) (u : ℕ) → IsUid u → entry_allows (reading_of e) b u ≡ (not b || is_heard heard (mirror u))) → is_named_if ns heard ≡ true → AddsSpot mask i heard ss ts → IsStretch es i set ns ss → IsStretch es (i + 1) set ns ts
-stretch_spotted es i set ns ss ts e mask heard k lt m awake none reads named adds h = record {
+pub stretch_spotted : (es : List Entry) (from i : ℕ) (set : ℕ → Bool) (ns : List Name) (ss ts : List Spot) (e : Entry) (mask : Option BitMask) (heard : Option ℕ) → slice_get es i ≡ Some e → i < 2 ^ 32 → mask ≡ mask_at es i → wakes (Some e) ≡ false → ((u : ℕ) → IsUid u → silences (Some e) u ≡ false) → ((b : Bool) (u : ℕ) → IsUid u → entry_allows (reading_of e) b u ≡ (not b || is_heard heard (mirror u))) → is_named_if ns heard ≡ true → AddsSpot mask i heard ss ts → IsStretch es from i set ns ss → IsStretch es from (i + 1) set ns ts
+stretch_spotted es from i set ns ss ts e mask heard k lt m awake none reads named adds h = record {
   keys = h.keys;
   left = h.left;
   ranges = adds.ranges h.ranges;
@@ -200,6 +234,7 @@ stretch_spotted es i set ns ss ts e mask heard k lt m awake none reads named add
       ∙ (test (lies_in_some mask u) (is_quiet es i u) (is_heard heard (mirror u))
       ∙ (ap (λ o. not (lies_in_some o u && not (is_quiet es i u)) || is_heard heard (mirror u)) m
       ∙ sym (reads (answers_at es i u) u w)))))) h.uids;
+  before = before_next es from i set ns ns ss ts (λ j u le. adds.kept ns j (mirror u) le) h;
 } where
   assoc : (a b c : Bool) → (a && (b && c)) ≡ ((a && b) && c)
   assoc true b c = refl
@@ -217,14 +252,14 @@ pub silenced_key : (h u : ℕ) → IsUid h → IsUid u → (h == u) ≡ (mirror 
 silenced_key h u v w = same_test h u (mirror h) (mirror u) (λ e. ap mirror e) (λ e. sym (uid_of_mirror h v) ∙ (ap uid_of e ∙ uid_of_mirror u w))
 
 -- a collision, a garbled slot or a listed UID
-pub stretch_other : (es : List Entry) (i : ℕ) (set : ℕ → Bool) (ns : List Name) (ss : List Spot) (e : Entry) → slice_get es i ≡ Some e → i < 2 ^ 32 → (e ≡ Collision) ⊎ ((e ≡ Garbled) ⊎ (((v : ℕ) × (e ≡ Listed v)) ⊎ (e ≡ FieldCycle))) → (e ≡ FieldCycle → ⊥) → IsStretch es i set ns ss → IsStretch es (i + 1) set ns ss
-stretch_other es i set ns ss e k lt is other h =
+pub stretch_other : (es : List Entry) (from i : ℕ) (set : ℕ → Bool) (ns : List Name) (ss : List Spot) (e : Entry) → slice_get es i ≡ Some e → i < 2 ^ 32 → (e ≡ Collision) ⊎ ((e ≡ Garbled) ⊎ (((v : ℕ) × (e ≡ Listed v)) ⊎ (e ≡ FieldCycle))) → (e ≡ FieldCycle → ⊥) → IsStretch es from i set ns ss → IsStretch es from (i + 1) set ns ss
+stretch_other es from i set ns ss e k lt is other h =
     ⊎_elim
-    (λ s. stretch_passed es i set ns ss Collision (k ∙ ap (λ (x : Entry). Some x) s) lt refl (λ u w. refl) (λ x u. refl) h)
+    (λ s. stretch_passed es from i set ns ss Collision (k ∙ ap (λ (x : Entry). Some x) s) lt refl (λ u w. refl) (λ x u. refl) h)
     (λ w. ⊎_elim
-    (λ s. stretch_passed es i set ns ss Garbled (k ∙ ap (λ (x : Entry). Some x) s) lt refl (λ u v. refl) (λ x u. refl) h)
+    (λ s. stretch_passed es from i set ns ss Garbled (k ∙ ap (λ (x : Entry). Some x) s) lt refl (λ u v. refl) (λ x u. refl) h)
     (λ y. ⊎_elim
-    (λ s. stretch_passed es i set ns ss (Listed s.0) (k ∙ ap (λ (x : Entry). Some x) s.1) lt refl (λ u v. refl) (λ x u. refl) h)
+    (λ s. stretch_passed es from i set ns ss (Listed s.0) (k ∙ ap (λ (x : Entry). Some x) s.1) lt refl (λ u v. refl) (λ x u. refl) h)
     (λ s. absurd (other s))
     y)
     w)
@@ -239,7 +274,7 @@ named_here ns n = list_any-append (λ (m : Name). m.key == n.key) ns (n ∷ []) 
 
 -- ---- where a stretch begins and ends
 
-pub stretch_first : (es : List Entry) (set : ℕ → Bool) → SameUids set (is_open (slots_before es 0)) → IsStretch es 0 set [] []
+pub stretch_first : (es : List Entry) (set : ℕ → Bool) → SameUids set (is_open (slots_before es 0)) → IsStretch es 0 0 set [] []
 stretch_first es set h = record {
   keys = λ k d below. absurd (omega (arith, below));
   left = refl;
@@ -249,11 +284,12 @@ stretch_first es set h = record {
   names = λ k d below. absurd (omega (arith, below));
   quiet = λ u w. refl;
   uids = λ u w. and_true (set u) ∙ h u w;
+  before = λ j since under. absurd (omega (arith, under));
 }
 
 -- a field cycle, once what was gathered is settled
-pub stretch_anew : (es : List Entry) (i : ℕ) (old set : ℕ → Bool) (ns ms : List Name) (ss ts : List Spot) (e : Entry) → slice_get es i ≡ Some e → e ≡ FieldCycle → ms ≡ [] → ts ≡ [] → SameUids set (λ u. old u && all_allow ns ss (mirror u)) → IsStretch es i old ns ss → IsStretch es (i + 1) set ms ts
-stretch_anew es i old set ns ms ss ts e k is none empty done h = subst (λ xs. IsStretch es (i + 1) set xs ts) (sym none) (subst (λ xs. IsStretch es (i + 1) set [] xs) (sym empty) (record {
+pub stretch_anew : (es : List Entry) (from i : ℕ) (old set : ℕ → Bool) (ns ms : List Name) (ss ts : List Spot) (e : Entry) → slice_get es i ≡ Some e → e ≡ FieldCycle → ms ≡ [] → ts ≡ [] → SameUids set (λ u. old u && all_allow ns ss (mirror u)) → IsStretch es from i old ns ss → IsStretch es (i + 1) (i + 1) set ms ts
+stretch_anew es from i old set ns ms ss ts e k is none empty done h = subst (λ xs. IsStretch es (i + 1) (i + 1) set xs ts) (sym none) (subst (λ xs. IsStretch es (i + 1) (i + 1) set [] xs) (sym empty) (record {
   keys = λ j d below. absurd (omega (arith, below));
   left = refl;
   ranges = λ j d below. absurd (omega (arith, below));
@@ -262,4 +298,5 @@ stretch_anew es i old set ns ms ss ts e k is none empty done h = subst (λ xs. I
   names = λ j d below. absurd (omega (arith, below));
   quiet = λ u w. sym (quiet_next es i u FieldCycle (k ∙ ap (λ x. Some x) is));
   uids = λ u w. and_true (set u) ∙ open_next es i FieldCycle set set (k ∙ ap (λ x. Some x) is) (λ v z. sym (and_true (set v))) (λ v z. done v z ∙ h.uids v z) u w;
+  before = λ j since under. absurd (omega (arith, since, under));
 }))

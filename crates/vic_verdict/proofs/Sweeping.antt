@@ -1,5 +1,5 @@
 -- What the slots between two field cycles leave, name by name.
-use Rattle.std.proofs.Common.{◌≡◌, ℕ, zero, suc, ◌+◌, ◌-◌, ◌<◌, ◌≤◌, ◌==◌, List, [], ◌∷◌, length, take, get_or, set, Bool, true, false, not, ◌&&◌, ◌||◌, Option, Some, None, refl, sym, ap, ◌∙◌, subst, arith, add-one, ◌++◌, ⊎_elim}
+use Rattle.std.proofs.Common.{◌≡◌, ℕ, zero, suc, ◌+◌, ◌-◌, ◌<◌, ◌≤◌, ◌==◌, List, [], ◌∷◌, length, take, filter, cond, get_or, set, Bool, true, false, not, ◌&&◌, ◌||◌, Option, Some, None, refl, sym, ap, ◌∙◌, subst, arith, add-one, ◌++◌, ⊎_elim}
 use Rattle.std.specs.Prelude.{nat_le, nat_lt}
 use Rattle.std.specs.List.{list_all, list_any}
 use Rattle.std.proofs.lemmas.Bool.{ne_eqb, cases_eq, cases_lt, false≢true, and_parts, and_from, or_cases, or_left, or_right, eqb-true}
@@ -10,7 +10,7 @@ use Rattle.vic_verdict.specs.declared.names.Name.{Name}
 use Rattle.vic_verdict.specs.declared.closed.Spot.{Spot}
 use Rattle.vic_verdict.specs.declared.sweep.Level.{Level}
 use Rattle.vic_verdict.specs.declared.sweep.Run.{Run}
-use Rattle.vic_verdict.specs.Sweep.{quiet_of, first_of, last_of, heard_of, is_heard, slot_leaves, is_between, is_in, spot_leaves, all_leave, level_leaves, mask_leaves, run_leaves, keep, keep_all, has_where, has_left, is_silenced, spot_allows, all_allow, is_named, is_named_if, hears_named, all_hear_named, are_left, AreInOrder, IsStart}
+use Rattle.vic_verdict.specs.Sweep.{quiet_of, first_of, last_of, heard_of, is_heard, slot_leaves, is_between, is_in, spot_leaves, all_leave, level_leaves, mask_leaves, run_leaves, keep, keep_all, has_where, has_left, is_silenced, spot_allows, all_allow, all_allow_to, is_named, is_named_if, hears_named, all_hear_named, are_left, AreInOrder, IsStart}
 use Rattle.std.specs.List.Sorted.{IsPermutation}
 use Rattle.std.proofs.lemmas.List.Sorted.{list_any-IsPermutation}
 use Rattle.std.proofs.Math.Seq.{take-append_seam}
@@ -345,6 +345,32 @@ allow_permuted ns ms ss ts k m w =
     all_alike (λ s. spot_allows ms s k) (λ s. spot_allows ns s k)
     (λ (s : Spot). ap (λ b. not (is_in s k) || (b || is_heard (heard_of s) k)) (sym (list_any-IsPermutation (λ (n : Name). (n.key == k) && nat_lt (quiet_of n) s.at) ns ms m))) ts
     ∙ sym (all_permuted (λ s. spot_allows ns s k) ss ts w)
+
+-- ---- the slots before a place
+
+abbrev pub is_before_place : ℕ → Spot → Bool
+is_before_place i s = nat_lt s.at i
+
+pub allow_filtered : (ns : List Name) (i k : ℕ) (ss : List Spot) → all_allow ns (filter (is_before_place i) ss) k ≡ all_allow_to ns ss i k
+allow_filtered ns i k [] = refl
+allow_filtered ns i k (s ∷ ss) = go (nat_lt s.at i) (nat_le i s.at) refl (turned s.at i) (allow_filtered ns i k ss)
+  where
+    turned : (x y : ℕ) → nat_le y x ≡ not (nat_lt x y)
+    turned x y = grind (arith, nat_tests)
+
+    go : (b c : Bool) → nat_lt s.at i ≡ b → c ≡ not (nat_lt s.at i) → all_allow ns (filter (is_before_place i) ss) k ≡ all_allow_to ns ss i k → all_allow ns (cond b (s ∷ filter (is_before_place i) ss) (filter (is_before_place i) ss)) k ≡ ((c || spot_allows ns s k) && all_allow_to ns ss i k)
+    go true true e f rest = absurd (cc)
+    go true false e f rest = ap (λ x. spot_allows ns s k && x) rest
+    go false true e f rest = rest
+    go false false e f rest = absurd (cc)
+
+pub named_filtered : (ns : List Name) (p : Spot → Bool) (ss : List Spot) → all_hear_named ns ss ≡ true → all_hear_named ns (filter p ss) ≡ true
+named_filtered ns p [] e = refl
+named_filtered ns p (s ∷ ss) e = go (p s) (and_parts _ _ e).0 (named_filtered ns p ss (and_parts _ _ e).1)
+  where
+    go : (b : Bool) → hears_named ns s ≡ true → all_hear_named ns (filter p ss) ≡ true → all_hear_named ns (cond b (s ∷ filter p ss) (filter p ss)) ≡ true
+    go true one rest = and_from _ _ one rest
+    go false one rest = rest
 
 -- a slice that was borrowed from a list and written
 pub written : (n : ℕ) (xs ys : List Name) → n ≡ length xs → take n (xs ++ ys) ≡ xs

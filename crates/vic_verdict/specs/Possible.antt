@@ -5,6 +5,8 @@ use Rattle.vic_frame.specs.Uids.{has}
 use Rattle.vic_log.specs.declared.entry.Entry.{Entry}
 use Rattle.vic_log.specs.declared.entry.Entry.TheVariants.{Sent, Silent, Collision, Heard, Listed, Garbled, FieldCycle}
 use Rattle.vic_log.specs.Slots.{Reading, reading_of, slots_of, is_open, Asks}
+use Rattle.vic_verdict.specs.declared.met.Contradiction.{Contradiction}
+use Rattle.vic_verdict.specs.declared.met.Before.TheVariants.{ArePossible}
 use Rattle.vic_verdict.specs.Places.{answering}
 use Rattle.vic_log.specs.Populations.{IsPopulation, CouldHaveGiven}
 
@@ -24,6 +26,11 @@ IsCertainUid es u = (p : List ℕ) → IsPopulation p → CouldHaveGiven p es �
 pub record IsContradictedAt (es : List Entry) (i : ℕ) : Type 0 where
   pub within : i < length es
   pub impossible : IsPossible (take (i + 1) es) → ⊥
+
+-- a contradiction is one of the entries, and what is known of the entries before holds
+pub record IsContradiction (es : List Entry) (c : Contradiction) : Type 0 where
+  pub impossible : IsContradictedAt es c.at
+  pub before : c.before ≡ ArePossible → IsPossible (take c.at es)
 
 -- fewer open UIDs could have answered at place i than its line asks for
 abbrev pub Lacks : List Entry → ℕ → Type 0

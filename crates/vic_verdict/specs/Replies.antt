@@ -1,5 +1,5 @@
 -- Whether the UIDs that were heard could have answered.
-use Rattle.std.specs.Prelude.{◌≡◌, ◌⊎◌, ℕ, ◌<◌, ◌≤◌, ◌==◌, ◌&&◌, Bool, true, false, Option, Some, IfSome, List, slice_get, if◌then◌else◌}
+use Rattle.std.specs.Prelude.{◌≡◌, ◌⊎◌, ℕ, ◌<◌, ◌≤◌, ◌==◌, ◌&&◌, Bool, true, false, Some, List, slice_get, if◌then◌else◌}
 use Rattle.std.specs.List.{All, Any, list_any}
 use Rattle.vic_frame.specs.Uids.{IsUid}
 use Rattle.vic_frame.specs.LowBitsFirst.{mirror}
@@ -29,14 +29,16 @@ reply_place n = if n.is_heard then n.at else 0
 abbrev pub is_quiet_reply : List Name → Name → Bool
 is_quiet_reply ns n = is_silenced ns n.key (reply_place n)
 
--- no UID was heard while it was Quiet
-abbrev pub AreReady : List Name → Type 0
-AreReady ns = list_any (is_quiet_reply ns) ns ≡ false
-
--- a UID was, at this place
+-- a UID was heard while it was Quiet, at this place
 abbrev pub IsQuietReply : List Name → ℕ → Type 0
 IsQuietReply ns at =
     list_any (λ n. (reply_place n == at) && is_silenced ns n.key at) ns ≡ true
+
+-- the first such place before an end; the end where there is none
+pub record IsFirstQuietReply (ns : List Name) (end at : ℕ) : Type 0 where
+  pub within : at ≤ end
+  pub quiet : at < end → IsQuietReply ns at
+  pub first : (i : ℕ) → IsQuietReply ns i → at ≤ i
 
 -- the name tells of a UID that was heard before place i, from a place on, in a slot of a mask that
 -- it lies in
@@ -53,10 +55,9 @@ pub record IsHeardAt (es : List Entry) (from i : ℕ) (n : Name) : Type 0 where
 abbrev pub IsReplyAt : ℕ → Name → Type 0
 IsReplyAt j n = (n.at ≡ j) × (n.is_heard ≡ true)
 
--- the names of the entries since the last field cycle before place i. They tell which UIDs are
--- Quiet at each place since, and who was heard at which; the replies before that cycle answer
-pub record AreHeard (es : List Entry) (i : ℕ) (ns : List Name) : Type 0 where
-  pub from : ℕ
+-- the names of the entries from a place on, behind the last field cycle, up to place i. They tell
+-- which UIDs are Quiet at each place since, and who was heard at which; the replies before answer
+pub record AreHeard (es : List Entry) (from i : ℕ) (ns : List Name) : Type 0 where
   pub begun : from ≤ i
   pub names : All (λ (n : Name). n.is_heard ≡ false → n.at < i) ns
   pub quiet : (j u : ℕ) → from ≤ j → j ≤ i → IsUid u
@@ -64,10 +65,3 @@ pub record AreHeard (es : List Entry) (i : ℕ) (ns : List Name) : Type 0 where
   pub replies : All (λ (n : Name). n.is_heard ≡ true → IsHeardAt es from i n) ns
   pub answer : (j : ℕ) (r : Reply) → j < i → slice_get es j ≡ Some (Heard r)
       → Answers es j r.uid ⊎ Any (IsReplyAt j) ns
-
--- the place is that of a reply by a UID that is Quiet after another place, or the first one, and no
--- later than these
-pub record IsEarlier (first : Option ℕ) (quiet reply at : ℕ) : Type 0 where
-  pub one : (first ≡ Some at) ⊎ ((reply ≡ at) × (quiet < reply))
-  pub before : IfSome first (λ f. at ≤ f)
-  pub least : quiet < reply → at ≤ reply

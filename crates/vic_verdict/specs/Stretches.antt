@@ -1,5 +1,5 @@
 -- What a judge has gathered at a place of a log since the last field cycle.
-use Rattle.std.specs.Prelude.{◌≡◌, ℕ, ◌<◌, Bool, true, false, not, ◌&&◌, ◌||◌, Option, IfSome, List}
+use Rattle.std.specs.Prelude.{◌≡◌, ℕ, ◌<◌, ◌≤◌, Bool, true, false, not, ◌&&◌, ◌||◌, Option, IfSome, List, length, take}
 use Rattle.std.specs.List.{All}
 use Rattle.vic_frame.specs.Uids.{IsUid}
 use Rattle.vic_frame.specs.Masks.{BitMask}
@@ -8,10 +8,14 @@ use Rattle.vic_tree.specs.OpenSet.{SameUids}
 use Rattle.vic_log.specs.declared.entry.Entry.{Entry}
 use Rattle.vic_log.specs.Rounds.{lies_in_some}
 use Rattle.vic_log.specs.Quiet.{is_quiet}
-use Rattle.vic_log.specs.Slots.{slots_before, is_open}
+use Rattle.vic_log.specs.declared.entry.LogLine.{LogLine}
+use Rattle.vic_log.specs.Order.{entries}
+use Rattle.vic_log.specs.Slots.{slots_before, slots_of, is_open}
+use Rattle.vic_verdict.specs.Possible.{IsContradictedAt}
+use Rattle.vic_verdict.specs.Replies.{RepliesAnswer}
 use Rattle.vic_verdict.specs.declared.names.Name.{Name}
 use Rattle.vic_verdict.specs.declared.closed.Spot.{Spot}
-use Rattle.vic_verdict.specs.Sweep.{HasRange, HaveKeys, are_left, is_named_if, all_hear_named, is_silenced, is_heard, all_allow}
+use Rattle.vic_verdict.specs.Sweep.{HasRange, HaveKeys, are_left, is_named_if, all_hear_named, is_silenced, is_heard, all_allow, all_allow_to}
 
 -- the UID may be there by a slot of this mask, at a place, that heard this key or nobody
 abbrev pub is_allowed : List Name → Option BitMask → ℕ → Option ℕ → ℕ → Bool
@@ -34,10 +38,12 @@ pub record AddsSpot (mask : Option BitMask) (at : ℕ) (heard : Option ℕ) (old
   pub allow : (ns : List Name) (u : ℕ) → IsUid u
       → all_allow ns new (mirror u)
       ≡ (all_allow ns old (mirror u) && is_allowed ns mask at heard u)
+  pub kept : (ns : List Name) (i k : ℕ) → i ≤ at
+      → all_allow_to ns new i k ≡ all_allow_to ns old i k
 
--- the names and the slots of the entries since the last field cycle before place i; with what a set
--- leaves open they tell what is open there
-pub record IsStretch (es : List Entry) (i : ℕ) (set : ℕ → Bool) (ns : List Name)
+-- the names and the slots of the entries from a place on, behind the last field cycle, up to place i;
+-- with what a set leaves open they tell what is open there, and at the places between
+pub record IsStretch (es : List Entry) (from i : ℕ) (set : ℕ → Bool) (ns : List Name)
     (ss : List Spot) : Type 0 where
   pub keys : HaveKeys ns
   pub left : are_left ns ≡ true
@@ -47,3 +53,13 @@ pub record IsStretch (es : List Entry) (i : ℕ) (set : ℕ → Bool) (ns : List
   pub names : All (λ (n : Name). n.is_heard ≡ false → n.at < i) ns
   pub quiet : (u : ℕ) → IsUid u → is_silenced ns (mirror u) i ≡ is_quiet es i u
   pub uids : SameUids (λ u. set u && all_allow ns ss (mirror u)) (is_open (slots_before es i))
+  pub before : (j : ℕ) → from ≤ j → j < i
+      → SameUids (λ u. set u && all_allow_to ns ss j (mirror u)) (is_open (slots_before es j))
+
+-- a set is what the first lines of a log leave open, and their replies answer. The line after them,
+-- if there is one, makes the log impossible
+pub record IsOpenTo (lines : List LogLine) (set : ℕ → Bool) (cut : ℕ) : Type 0 where
+  pub within : cut ≤ length lines
+  pub answer : RepliesAnswer (entries (take cut lines))
+  pub uids : SameUids set (is_open (slots_of (entries (take cut lines))))
+  pub beyond : cut < length lines → IsContradictedAt (entries lines) cut

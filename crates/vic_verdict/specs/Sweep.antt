@@ -105,6 +105,10 @@ spot_allows ns s k = not (is_in s k) || (is_silenced ns k s.at || is_heard (hear
 abbrev pub all_allow : List Name → List Spot → ℕ → Bool
 all_allow ns spots k = list_all (λ s. spot_allows ns s k) spots
 
+-- all slots before place i do
+abbrev pub all_allow_to : List Name → List Spot → ℕ → ℕ → Bool
+all_allow_to ns spots i k = list_all (λ s. nat_le i s.at || spot_allows ns s k) spots
+
 -- the keys of the slot's mask are a range of keys
 abbrev pub HasRange : Spot → Type 0
 HasRange s = (len_of s ≤ UID_BITS) × IsKeyRange (first_of s, last_of s)

@@ -1,13 +1,14 @@
 //! The first line of a log that no population could have given.
 
-ghost use Rattle.std.specs.Prelude.{◌<◌, ◌≤◌, IfOk};
+ghost use Rattle.std.specs.Prelude.{◌<◌, ◌≤◌, List, take, IfOk};
+ghost use Rattle.vic_log.specs.declared.entry.LogLine.{LogLine as LogLineValue};
 ghost use Rattle.vic_log.specs.Order.{entries};
 ghost use Rattle.vic_verdict.specs.FirstLines.{AreFirstLines};
-ghost use Rattle.vic_verdict.specs.Possible.{IsContradictedAt};
+ghost use Rattle.vic_verdict.specs.Possible.{IsContradiction, IsPossible};
 ghost use Rattle.vic_verdict.specs.Verdict.{IsVerdict};
 ghost use Rattle.vic_verdict.specs.declared.judging.Verdict.TheVariants.{Impossible};
 
-use crate::met::{Contradiction, open_and_met};
+use crate::met::{Before, Contradiction, open_and_met};
 use std::alloc::{AllocError, Global};
 use vic_guess::guess_impossible_line;
 use vic_log::PackedLine;
@@ -26,29 +27,42 @@ fn between(low: usize, last: usize, guess: usize) -> usize
     }
 }
 
+/// How many of the first lines of a log some population could have given, as far as is known of a
+/// contradiction.
+fn possible_before(contradiction: Contradiction) -> usize
+    ensures possible { (lines : List LogLineValue) → IsContradiction (entries lines) contradiction
+        → IsPossible (entries (take result lines)) }
+    ensures upto { result ≤ contradiction.at }
+{
+    match contradiction.before {
+        Before::ArePossible => contradiction.at,
+        Before::SeemPossible | Before::AreUnknown => 0,
+    }
+}
+
 /// How many lines to judge next: those before a contradiction, if they seem to be possible.
 fn first_guess(contradiction: Contradiction) -> Option<usize> {
-    if contradiction.seems_first {
-        Some(contradiction.at)
-    } else {
-        None
+    match contradiction.before {
+        Before::ArePossible | Before::SeemPossible => Some(contradiction.at),
+        Before::AreUnknown => None,
     }
 }
 
 /// The number of the first line up to which no population could have given the log, found by
 /// halving: what is impossible stays so when lines follow. Halving begins at a guess: before the
 /// contradiction where it seems to be the first, else where a pass over the lines before it says.
-/// As long as that pass is right, the lines are judged at most four times here, mostly once.
+/// As long as that pass is right, the lines are judged at most four times here, mostly once or not
+/// at all.
 pub fn first_impossible_line<S: OpenSet>(
     alloc: Global,
     lines: &[PackedLine],
     contradiction: Contradiction,
 ) -> Result<u32, AllocError>
     requires lines { AreFirstLines lines.now }
-    requires impossible { IsContradictedAt (entries lines.now) contradiction.at }
+    requires impossible { IsContradiction (entries lines.now) contradiction }
     ensures { IfOk result (λ n. IsVerdict lines.now (Impossible n)) }
 {
-    let mut low = 0;
+    let mut low = possible_before(contradiction);
     let mut last = contradiction.at;
     let mut guess = first_guess(contradiction);
     while low < last {
@@ -63,6 +77,7 @@ pub fn first_impossible_line<S: OpenSet>(
                 guess = Some(place.saturating_add(1));
             }
             Err(earlier) => {
+                low = low.max(possible_before(earlier));
                 last = earlier.at;
                 guess = first_guess(earlier);
             }

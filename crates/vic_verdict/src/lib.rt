@@ -24,6 +24,6 @@ pub use demands::{Found, Met};
 pub use explanation::{Explanation, explain, explain_with};
 pub use first_line::first_impossible_line;
 pub use judging::{Verdict, judge, judge_with};
-pub use met::{Contradiction, open_and_met};
+pub use met::{Before, Contradiction, open_and_met};
 pub use missing::keys_in_order;
 pub use uids::{certain_uids, count_listed, listed_uids};

@@ -5,7 +5,8 @@ ghost use Rattle.vic_tree.specs.OpenSet.{SameUids};
 ghost use Rattle.vic_log.specs.Order.{entries};
 ghost use Rattle.vic_verdict.specs.FirstLines.{AreFirstLines};
 ghost use Rattle.vic_log.specs.Slots.{slots_of, is_open};
-ghost use Rattle.vic_verdict.specs.Possible.{IsPossible, IsContradictedAt, Lacks, rules_out, NoneRulesOutAfter};
+ghost use Rattle.vic_verdict.specs.Possible.{IsPossible, IsContradiction, Lacks, rules_out, NoneRulesOutAfter};
+ghost use Rattle.vic_verdict.specs.Replies.{RepliesAnswer};
 ghost use Rattle.vic_verdict.specs.Demands.{AreFound, IsMet, HasHeard};
 
 use crate::demands::{Found, Met, meet_stretch, note_asked};
@@ -22,8 +23,18 @@ use vic_tree::rising::put_in_order;
 #[derive(Clone, Copy)]
 pub struct Contradiction {
     pub at: usize,
-    /// Whether the lines before it seem to be possible.
-    pub seems_first: bool,
+    pub before: Before,
+}
+
+/// The lines before a contradiction.
+#[derive(Clone, Copy)]
+pub enum Before {
+    /// Some population could have given them: it is the first contradiction.
+    ArePossible,
+    /// The same, but it wasn't looked at closely.
+    SeemPossible,
+    /// Nothing is known of them.
+    AreUnknown,
 }
 
 /// The UIDs that the slots of a log heard, each once; they are sorted, but no answer rests on it.
@@ -104,6 +115,41 @@ fn last_ruling(lines: &[PackedLine], from: usize) -> usize
     last
 }
 
+/// What the UIDs that a log leaves open meet, if some population could have given it. Whoever it
+/// heard could have answered there.
+fn meet_all<S: OpenSet>(
+    alloc: Global,
+    set: &S,
+    lines: &[PackedLine],
+) -> Result<Result<Met, Contradiction>, AllocError>
+    requires lines { AreFirstLines lines.now }
+    requires answer { RepliesAnswer (entries lines.now) }
+    requires open { SameUids (S.is_open set.now) (is_open (slots_of (entries lines.now))) }
+    ensures { IfOk result (λ r. MatchResult r
+        (λ met. IsPossible (entries lines.now) × IsMet (entries lines.now) met)
+        (IsContradiction (entries lines.now))) }
+{
+    let heard = heard_uids(alloc, lines)?;
+    if !are_open(alloc, set, &heard)? {
+        return Ok(Err(Contradiction {
+            at: last_ruling(lines, 0),
+            before: Before::AreUnknown,
+        }));
+    }
+    match find_all(alloc, set, lines)? {
+        Ok(found) => Ok(Ok(Met { heard, found })),
+        Err(unmet) => {
+            let at = last_ruling(lines, unmet);
+            let before = if at == unmet {
+                Before::SeemPossible
+            } else {
+                Before::AreUnknown
+            };
+            Ok(Err(Contradiction { at, before }))
+        }
+    }
+}
+
 /// The UIDs that a log leaves open, and what they meet, if some population could have given it.
 pub fn open_and_met<S: OpenSet>(
     alloc: Global,
@@ -114,32 +160,19 @@ pub fn open_and_met<S: OpenSet>(
         (λ p. IsPossible (entries lines.now)
         × SameUids (S.is_open p.0) (is_open (slots_of (entries lines.now)))
         × IsMet (entries lines.now) p.1)
-        (λ c. IsContradictedAt (entries lines.now) c.at)) }
+        (IsContradiction (entries lines.now))) }
 {
-    let set = match settle_all::<S>(alloc, lines)? {
-        Ok(set) => set,
-        Err(at) => {
-            return Ok(Err(Contradiction {
-                at,
-                seems_first: true,
-            }));
+    let (set, cut) = settle_all::<S>(alloc, lines)?;
+    match meet_all(alloc, &set, &lines[..cut])? {
+        Ok(met) => {
+            if cut < lines.len() {
+                return Ok(Err(Contradiction {
+                    at: cut,
+                    before: Before::ArePossible,
+                }));
+            }
+            Ok(Ok((set, met)))
         }
-    };
-    let heard = heard_uids(alloc, lines)?;
-    if !are_open(alloc, &set, &heard)? {
-        return Ok(Err(Contradiction {
-            at: last_ruling(lines, 0),
-            seems_first: false,
-        }));
-    }
-    match find_all(alloc, &set, lines)? {
-        Ok(found) => Ok(Ok((set, Met { heard, found }))),
-        Err(unmet) => {
-            let at = last_ruling(lines, unmet);
-            Ok(Err(Contradiction {
-                at,
-                seems_first: at == unmet,
-            }))
-        }
+        Err(contradiction) => Ok(Err(contradiction)),
     }
 }

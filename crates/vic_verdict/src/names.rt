@@ -1,7 +1,7 @@
 //! The UIDs that lines silence or hear between two field cycles, in the order of their keys: which
 //! of them are Quiet at a place, and whether those that were heard were Ready there.
 
-ghost use Rattle.std.specs.Prelude.{◌≡◌, ◌<◌, ◌≤◌, ◌+◌, ℕ, Bool, true, length, nat_lt, ◌++◌, ◌∷◌, [], None, IfOk, OnOk, MatchOption};
+ghost use Rattle.std.specs.Prelude.{◌≡◌, ◌<◌, ◌≤◌, ◌+◌, ℕ, Bool, true, length, nat_lt, ◌++◌, ◌∷◌, [], None, IfOk, OnOk};
 ghost use Rattle.std.specs.List.{All, list_any};
 ghost use Rattle.std.specs.List.Sorted.{IsNonDecreasing};
 ghost use Rattle.vic_frame.specs.Uids.{IsUid, has};
@@ -10,8 +10,7 @@ ghost use Rattle.vic_tree.specs.OpenSet.{AreKeys};
 ghost use Rattle.vic_verdict.specs.declared.names.Name.{Name as NameValue};
 ghost use Rattle.vic_verdict.specs.declared.names.TheConstants.{NEVER};
 ghost use Rattle.vic_verdict.specs.Sweep.{quiet_of, is_silenced, AreInOrder, HaveKeys, IsStart, has_where, is_between};
-ghost use Rattle.vic_verdict.specs.Replies.{reply_place, AreReady, IsQuietReply, IsEarlier};
-ghost use Rattle.vic_verdict.specs.Verdict.{IsLeast};
+ghost use Rattle.vic_verdict.specs.Replies.{reply_place, IsFirstQuietReply};
 
 use std::alloc::{AllocError, Global};
 use vic_frame::Uid;
@@ -180,20 +179,6 @@ pub(crate) fn silenced_between(
     Ok(keys)
 }
 
-/// `first`, or the place of a reply where that is earlier and its UID is Quiet there.
-fn earlier(first: Option<usize>, quiet: usize, reply: usize) -> Option<usize>
-    ensures { MatchOption result ((first ≡ None) × (reply ≤ quiet))
-        (IsEarlier first quiet reply) }
-{
-    if reply <= quiet {
-        return first;
-    }
-    match first {
-        Some(at) => Some(at.min(reply)),
-        None => Some(reply),
-    }
-}
-
 /// The place after which a UID is Quiet, by the names of its lines.
 fn first_quiet(own: &[Name]) -> usize
     ensures { (i : ℕ) → i ≤ NEVER
@@ -206,20 +191,23 @@ fn first_quiet(own: &[Name]) -> usize
     first
 }
 
-/// The first place at which a UID was heard while it was Quiet, if there is one. The names of one
-/// UID stand together.
-pub(crate) fn first_quiet_reply(names: &[Name]) -> Option<usize>
+/// The first place before `end` at which a UID was heard while it was Quiet; `end` where there is
+/// none. The names of one UID stand together.
+pub(crate) fn first_quiet_reply(names: &[Name], end: usize) -> usize
     requires { AreInOrder names.now }
-    ensures { MatchOption result (AreReady names.now) (IsLeast (IsQuietReply names.now)) }
+    ensures { IsFirstQuietReply names.now end result }
 {
     let mut quiet = NEVER;
-    let mut first = None;
+    let mut first = end;
     for i in 0..names.len() {
         let key = names[i].key;
         if i == 0 || names[i - 1].key < key {
             quiet = first_quiet(names_between(names, i, key, key));
         }
-        first = earlier(first, quiet, names[i].reply_place());
+        let reply = names[i].reply_place();
+        if quiet < reply {
+            first = first.min(reply);
+        }
     }
     first
 }

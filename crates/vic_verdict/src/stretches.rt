@@ -11,9 +11,9 @@ ghost use Rattle.vic_log.specs.declared.entry.Entry.TheVariants.{FieldCycle, Sen
 ghost use Rattle.vic_verdict.specs.declared.closed.Spot.{Spot as SpotValue};
 ghost use Rattle.vic_log.specs.Rounds.{mask_at, lies_in_some};
 ghost use Rattle.vic_verdict.specs.Possible.{IsContradictedAt};
-ghost use Rattle.vic_verdict.specs.Replies.{RepliesAnswer, AreHeard};
+ghost use Rattle.vic_verdict.specs.Replies.{AreHeard};
 ghost use Rattle.vic_verdict.specs.Silenced.{TellsQuiet};
-ghost use Rattle.vic_verdict.specs.Stretches.{AddsSpot, IsHeardIn, IsStretch};
+ghost use Rattle.vic_verdict.specs.Stretches.{AddsSpot, IsHeardIn, IsOpenTo, IsStretch};
 
 use crate::closed::{LENGTHS, Spot};
 use crate::names::{Name, push_name};
@@ -62,14 +62,14 @@ pub(crate) fn note_sent(
     index: usize,
 ) -> Result<(), AllocError>
     requires { index < 2 ^ 32 }
-    ensures stretch { OnOk result ((es : List EntryValue) (set : ℕ → Bool) (ss : List SpotValue)
+    ensures stretch { OnOk result ((es : List EntryValue) (from : ℕ) (set : ℕ → Bool)
+        (ss : List SpotValue) → slice_get es index ≡ Some (Sent request.now)
+        → IsStretch es from index set names.old.items ss
+        → IsStretch es from (index + 1) set names.new.items ss) }
+    ensures heard { OnOk result ((es : List EntryValue) (from : ℕ)
         → slice_get es index ≡ Some (Sent request.now)
-        → IsStretch es index set names.old.items ss
-        → IsStretch es (index + 1) set names.new.items ss) }
-    ensures heard { OnOk result ((es : List EntryValue)
-        → slice_get es index ≡ Some (Sent request.now)
-        → AreHeard es index names.old.items
-        → AreHeard es (index + 1) names.new.items) }
+        → AreHeard es from index names.old.items
+        → AreHeard es from (index + 1) names.new.items) }
     ensures quiet { OnOk result ((es : List EntryValue) (from : ℕ)
         → slice_get es index ≡ Some (Sent request.now)
         → TellsQuiet es from index names.old.items
@@ -104,19 +104,21 @@ fn note_entry(
     entry: &Entry,
 ) -> Result<bool, AllocError>
     requires { index < 2 ^ 32 }
-    ensures stretch { IfOk result (λ yes. (es : List EntryValue) (set : ℕ → Bool)
+    ensures stretch { IfOk result (λ yes. (es : List EntryValue) (from : ℕ) (set : ℕ → Bool)
         → slice_get es index ≡ Some entry.now → mask.now ≡ mask_at es index
         → entry.now ≢ FieldCycle → IsTrue yes
-        → IsStretch es index set names.old.items spots.old.items
-        → IsStretch es (index + 1) set names.new.items spots.new.items) }
-    ensures heard { IfOk result (λ yes. (es : List EntryValue)
+        → IsStretch es from index set names.old.items spots.old.items
+        → IsStretch es from (index + 1) set names.new.items spots.new.items) }
+    ensures heard { IfOk result (λ yes. (es : List EntryValue) (from : ℕ)
         → slice_get es index ≡ Some entry.now → mask.now ≡ mask_at es index
         → entry.now ≢ FieldCycle → IsTrue yes
-        → AreHeard es index names.old.items
-        → AreHeard es (index + 1) names.new.items) }
+        → AreHeard es from index names.old.items
+        → AreHeard es from (index + 1) names.new.items) }
     ensures unfit { IfOk result (λ yes. (es : List EntryValue)
         → slice_get es index ≡ Some entry.now → mask.now ≡ mask_at es index
         → yes ≡ false → IsContradictedAt es index) }
+    ensures none { IfOk result (λ yes. yes ≡ false
+        → (names.new.items ≡ names.old.items) × (spots.new.items ≡ spots.old.items)) }
 {
     match *entry {
         Entry::Sent(request) => note_sent(names, &request, index)?,
@@ -134,17 +136,11 @@ fn note_entry(
     Ok(true)
 }
 
-/// The keys that the silent and answered slots of a log close; or the place of a line that heard a
-/// UID which couldn't have answered there.
-fn closed_keys(
-    alloc: Global,
-    lines: &[PackedLine],
-) -> Result<Result<Vec<KeyRange>, usize>, AllocError>
+/// The keys that the silent and answered slots of a log close, up to the place that is returned: the
+/// end of the log, or the place of a line that heard a UID which couldn't have answered there.
+fn closed_keys(alloc: Global, lines: &[PackedLine]) -> Result<(Vec<KeyRange>, usize), AllocError>
     requires { AreFirstLines lines.now }
-    ensures { IfOk result (λ r. MatchResult r
-        (λ closed. RepliesAnswer (entries lines.now)
-        × SameUids (is_outside closed.items) (is_open (slots_of (entries lines.now))))
-        (IsContradictedAt (entries lines.now))) }
+    ensures { IfOk result (λ r. IsOpenTo lines.now (is_outside r.0.items) r.1) }
 {
     let mut closed = Vec::new(alloc);
     let mut names = Vec::new(alloc);
@@ -153,8 +149,9 @@ fn closed_keys(
     for (index, line) in lines.iter().enumerate() {
         let entry = line.item();
         if let Entry::FieldCycle = entry {
-            if let Some(at) = settle_stretch(&mut closed, &mut names, &mut spots)? {
-                return Ok(Err(at));
+            let cut = settle_stretch(&mut closed, &mut names, &mut spots, index)?;
+            if cut < index {
+                return Ok((closed, cut));
             }
             names.clear();
             spots.clear();
@@ -163,31 +160,26 @@ fn closed_keys(
             // gives the place its bound: the numbers of lines rise, and are of 32 bits
             let _number = line.number();
             if !note_entry(&mut names, &mut spots, &mask, index, &entry)? {
-                return Ok(Err(index));
+                let cut = settle_stretch(&mut closed, &mut names, &mut spots, index)?;
+                return Ok((closed, cut));
             }
         }
         cursor.advance(&entry);
     }
-    match settle_stretch(&mut closed, &mut names, &mut spots)? {
-        Some(at) => Ok(Err(at)),
-        None => Ok(Ok(closed)),
-    }
+    let cut = settle_stretch(&mut closed, &mut names, &mut spots, lines.len())?;
+    Ok((closed, cut))
 }
 
-/// The UIDs that the silent and answered slots of a log leave open; or the place of a line that
-/// heard a UID which couldn't have answered there.
+/// The UIDs that the silent and answered slots of a log leave open, up to the place that is
+/// returned: the end of the log, or the place of a line that heard a UID which couldn't have
+/// answered there.
 pub(crate) fn settle_all<S: OpenSet>(
     alloc: Global,
     lines: &[PackedLine],
-) -> Result<Result<S, usize>, AllocError>
+) -> Result<(S, usize), AllocError>
     requires { AreFirstLines lines.now }
-    ensures { IfOk result (λ r. MatchResult r
-        (λ s. RepliesAnswer (entries lines.now)
-        × SameUids (S.is_open s) (is_open (slots_of (entries lines.now))))
-        (IsContradictedAt (entries lines.now))) }
+    ensures { IfOk result (λ r. IsOpenTo lines.now (S.is_open r.0) r.1) }
 {
-    match closed_keys(alloc, lines)? {
-        Ok(closed) => Ok(Ok(S::without(alloc, closed)?)),
-        Err(at) => Ok(Err(at)),
-    }
+    let (closed, cut) = closed_keys(alloc, lines)?;
+    Ok((S::without(alloc, closed)?, cut))
 }

@@ -10,9 +10,8 @@ ghost use Rattle.std.specs.List.{All};
 ghost use Rattle.vic_frame.specs.LowBitsFirst.{mirror};
 ghost use Rattle.vic_tree.specs.OpenSet.{SameUids};
 ghost use Rattle.vic_tree.specs.Ranges.{is_outside};
-ghost use Rattle.vic_verdict.specs.Replies.{AreReady, IsQuietReply};
-ghost use Rattle.vic_verdict.specs.Verdict.{IsLeast};
-ghost use Rattle.vic_verdict.specs.Sweep.{slot_leaves, level_leaves, spot_leaves, all_leave, mask_leaves, run_leaves, IsLevel, keep_all, all_allow, are_left, all_hear_named, HasRange, AreInOrder};
+ghost use Rattle.vic_verdict.specs.Replies.{IsFirstQuietReply};
+ghost use Rattle.vic_verdict.specs.Sweep.{slot_leaves, level_leaves, spot_leaves, all_leave, mask_leaves, run_leaves, IsLevel, keep_all, all_allow_to, are_left, all_hear_named, HasRange, AreInOrder};
 
 use crate::closed::{Spot, close_spots};
 use crate::names::{Name, first_quiet_reply, start_near};
@@ -162,29 +161,28 @@ fn rule_out_all(names: &mut [Name], spots: &[Spot])
 }
 
 /// Settles what the silent and answered slots of some lines tell, by the UIDs that these lines
-/// name: closes the keys that they rule out. The first place at which a UID was heard while it was
-/// Quiet, if there is one: then nothing is closed.
+/// name: closes the keys that they rule out. They do so up to the first place before `end` at which
+/// a UID was heard while it was Quiet, which is returned; up to `end` where there is none.
 pub(crate) fn settle_stretch(
     closed: &mut Vec<KeyRange>,
     names: &mut Vec<Name>,
     spots: &mut Vec<Spot>,
-) -> Result<Option<usize>, AllocError>
+    end: usize,
+) -> Result<usize, AllocError>
     requires left { are_left names.old.items ≡ true }
     requires ranges { All HasRange spots.old.items }
     requires named { all_hear_named names.old.items spots.old.items ≡ true }
-    ensures fit { IfOk result (λ r. r ≡ None → AreReady names.old.items) }
-    ensures settled { IfOk result (λ r. r ≡ None → SameUids (is_outside closed.new.items)
+    ensures cut { IfOk result (IsFirstQuietReply names.old.items end) }
+    ensures settled { IfOk result (λ cut. SameUids (is_outside closed.new.items)
         (λ u. is_outside closed.old.items u
-        && all_allow names.old.items spots.old.items (mirror u))) }
-    ensures unfit { IfOk result (λ r. IfSome r (IsLeast (IsQuietReply names.old.items))) }
+        && all_allow_to names.old.items spots.old.items cut (mirror u))) }
 {
     names.sort_unstable_by_key(|name| name.key);
-    if let Some(at) = first_quiet_reply(names) {
-        return Ok(Some(at));
-    }
+    let cut = first_quiet_reply(names, end);
+    spots.retain(|spot| (spot.at as usize) < cut);
     // Those of one mask together, and outer masks before inner ones.
     spots.sort_unstable_by_key(|spot| spot.mask);
     rule_out_all(names, spots);
     close_spots(closed, names, spots)?;
-    Ok(None)
+    Ok(cut)
 }

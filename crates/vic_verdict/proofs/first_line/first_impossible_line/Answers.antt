@@ -1,4 +1,5 @@
-use Rattle.std.proofs.Common.{◌≡◌, ℕ, ◌+◌, ◌<◌, length, take, get_or, sym, ap, subst, ◌∙◌, arith, add-one}
+use Rattle.std.proofs.Common.{◌≡◌, ℕ, ◌+◌, ◌<◌, length, take, get_or, sym, ap, subst, ◌∙◌, arith, add-one, inl, inr, ⊎_elim}
+use Rattle.std.proofs.lemmas.Bool.{cases_lt}
 use Rattle.std.specs.Prelude.{MatchResult}
 use Rattle.std.proofs.lemmas.Option.{slice_get-get_or}
 use Rattle.vic_tree.specs.OpenSet.{SameUids}
@@ -6,16 +7,18 @@ use Rattle.vic_log.specs.declared.entry.LogLine.{LogLine}
 use Rattle.vic_log.specs.Order.{entries}
 use Rattle.vic_log.specs.Slots.{slots_of, is_open}
 use Rattle.vic_verdict.specs.Demands.{IsMet}
-use Rattle.vic_verdict.specs.Possible.{IsPossible, IsContradictedAt}
+use Rattle.vic_verdict.specs.Possible.{IsPossible, IsContradiction}
 use Rattle.vic_verdict.specs.Verdict.{IsVerdict}
 use Rattle.vic_verdict.specs.declared.judging.Verdict.TheVariants.{Impossible}
 use Rattle.vic_verdict.proofs.FirstLine.{first_impossible}
-use Rattle.vic_verdict.proofs.Halving.{Between, between_first, between_more, between_earlier, first_front}
+use Rattle.vic_verdict.proofs.Halving.{Between, between_first, between_more, between_earlier, between_raised, first_front, front_contradiction}
 use Rattle.vic_verdict.proofs.first_line.first_impossible_line.Goals as goal
 use Rattle.vic_verdict.proofs.first_line.first_impossible_line.Goals.{in-Ok, in-Err}
 
 pub loop-low-init : goal.loop-low-init
-loop-low-init g c = between_first c.args.lines.now c.args.contradiction.at c.requires.impossible
+loop-low-init g c =
+    let h = c.requires.impossible in
+    between_first c.args.lines.now c.possible_before-low.result c.args.contradiction.at c.possible_before-low.ensures.upto (c.possible_before-low.ensures.possible c.args.lines.now h) h.impossible
 
 pub open_and_met-requires : goal.open_and_met-requires
 open_and_met-requires g c = first_front c.between-count.result c.args.lines.now c.requires.lines
@@ -26,15 +29,25 @@ loop-low-preserved g c =
     let count = c.between-count.result in
     let es = entries (take count lines) in
     let inside = c.between-count.ensures.within in
+    let told : (r : _) → c.in_ok-earlier.field-0 ≡ r → MatchResult r (λ p. IsPossible es × SameUids (g.S.OpenSet.is_open p.0) (is_open (slots_of es)) × IsMet es p.1) (IsContradiction es) = λ r is. subst (λ x. MatchResult x (λ p. IsPossible es × SameUids (g.S.OpenSet.is_open p.0) (is_open (slots_of es)) × IsMet es p.1) (IsContradiction es)) is c.in_ok-earlier.ensures in
     elim c.match-branch-3.branch [
       | in-Ok w ↦
           subst (λ n. Between lines n (c.match-branch-3.last + 1)) (sym w.low-is)
           (subst (λ n. Between lines count (n + 1)) (sym w.last-is)
-          (between_more lines c.loop-low.low (c.loop-low.last + 1) count (omega (arith, inside)) (subst (λ r. MatchResult r (λ p. IsPossible es × SameUids (g.S.OpenSet.is_open p.0) (is_open (slots_of es)) × IsMet es p.1) (λ x. IsContradictedAt es x.at)) w.in-Ok.is c.in_ok-earlier.ensures).0 c.loop-low.invariant))
+          (between_more lines c.loop-low.low (c.loop-low.last + 1) count (omega (arith, inside)) (told _ w.in-Ok.is).0 c.loop-low.invariant))
       | in-Err w ↦
+          let at = w.in-Err.earlier.at in
+          let low = c.loop-low.low in
+          let more = w.possible_before.result in
+          let e = told _ w.in-Err.is in
+          let upto = w.possible_before.ensures.upto in
+          let most = w.max-low.ensures in
           subst (λ n. Between lines n (c.match-branch-3.last + 1)) (sym w.low-is)
-          (subst (λ n. Between lines c.loop-low.low (n + 1)) (sym w.last-is)
-          (between_earlier lines c.loop-low.low (c.loop-low.last + 1) count _ (omega (arith, inside)) (subst (λ r. MatchResult r (λ p. IsPossible es × SameUids (g.S.OpenSet.is_open p.0) (is_open (slots_of es)) × IsMet es p.1) (λ x. IsContradictedAt es x.at)) w.in-Err.is c.in_ok-earlier.ensures) c.loop-low.invariant))
+          (subst (λ n. Between lines w.max-low.result (n + 1)) (sym w.last-is)
+          (between_raised lines low (at + 1) more w.max-low.result (omega (arith, upto))
+          (⊎_elim (λ lt. inr (omega (arith, lt, most))) (λ ge. inl (omega (arith, ge, most))) (cases_lt low more))
+          (w.possible_before.ensures.possible lines (front_contradiction lines count w.in-Err.earlier e))
+          (between_earlier lines low (c.loop-low.last + 1) count at (omega (arith, inside)) e.impossible c.loop-low.invariant)))
     ]
 
 pub returns : goal.returns

@@ -1,69 +1,26 @@
-use Rattle.std.proofs.Common.{◌∙◌, ap, sym, subst, List, ℕ, length, arith}
+use Rattle.std.proofs.Common.{take, subst}
 use Rattle.std.specs.Prelude.{MatchResult}
-use Rattle.std.specs.List.{list_all}
-use Rattle.std.proofs.lemmas.List.{length-map}
-use Rattle.vic_tree.specs.OpenSet.{SameUids}
-use Rattle.vic_log.specs.declared.entry.LogLine.{LogLine}
 use Rattle.vic_log.specs.Order.{entries}
-use Rattle.vic_log.specs.Slots.{slots_of, is_open}
-use Rattle.vic_verdict.specs.Replies.{RepliesAnswer}
-use Rattle.vic_verdict.specs.Possible.{IsContradictedAt, Lacks}
-use Rattle.vic_verdict.specs.Demands.{AreFound}
-use Rattle.vic_verdict.proofs.Lacking.{lacking_within, contradicted}
-use Rattle.vic_verdict.proofs.Meeting.{LacksHeard, heard_lacks, met_is_possible, is_met}
+use Rattle.vic_verdict.specs.Demands.{IsMet}
+use Rattle.vic_verdict.specs.Possible.{IsPossible, IsContradiction}
+use Rattle.vic_verdict.proofs.Halving.{first_front, first_entries, front_contradiction}
 use Rattle.vic_verdict.proofs.met.open_and_met.Goals as goal
 
-pub last_ruling-requires : goal.last_ruling-requires
-last_ruling-requires g c =
-    let lines = c.args.lines.now in
-    let es = entries lines in
-    let set = g.S.OpenSet.is_open c.in-Ok.set in
-    let settled = subst (λ r. MatchResult r (λ s. RepliesAnswer es × SameUids (g.S.OpenSet.is_open s) (is_open (slots_of es))) (IsContradictedAt es)) c.in-Ok.is c.in_ok-set.ensures in
-    let some = ap (λ (us : List ℕ). list_all set us) (sym c.deref.ensures.value) ∙ (sym c.in_ok-are_open.ensures ∙ c.if-not-branch.true) in
-    let lacks : LacksHeard es = heard_lacks es (length lines) set c.in_ok-heard.heard.items settled.1 c.in_ok-heard.ensures some in
-    let within = lacking_within es lacks.0 lacks.1 in
-    let long = length-map lines (λ (x : LogLine). x.item) in
-    omega (arith, within, long)
+pub meet_all-requires-clause-lines : goal.meet_all-requires-clause-lines
+meet_all-requires-clause-lines g c = first_front c.in_ok-set.cut c.args.lines.now c.requires
 
-pub returns-then-not-branch : goal.returns-then-not-branch
-returns-then-not-branch g c =
+pub returns-then-cut-lines : goal.returns-then-cut-lines
+returns-then-cut-lines g c =
     let lines = c.args.lines.now in
-    let es = entries lines in
-    let set = g.S.OpenSet.is_open c.in-Ok.set in
-    let settled = subst (λ r. MatchResult r (λ s. RepliesAnswer es × SameUids (g.S.OpenSet.is_open s) (is_open (slots_of es))) (IsContradictedAt es)) c.in-Ok.is c.in_ok-set.ensures in
-    let some = ap (λ (us : List ℕ). list_all set us) (sym c.deref.ensures.value) ∙ (sym c.in_ok-are_open.ensures ∙ c.if-not-branch.true) in
-    let lacks : LacksHeard es = heard_lacks es (length lines) set c.in_ok-heard.heard.items settled.1 c.in_ok-heard.ensures some in
-    let last = c.last_ruling.ensures in
-    let long = length-map lines (λ (x : LogLine). x.item) in
-    contradicted es lacks.0 c.last_ruling.result lacks.1 (lacks.2 c.last_ruling.result last.after) (let within = last.within in omega (arith, within, long)) last.after
+    let front = entries (take c.in_ok-set.cut lines) in
+    let met = subst (λ r. MatchResult r (λ m. IsPossible front × IsMet front m) (IsContradiction front)) c.in-Ok.is c.in_ok-met.ensures in
+    record {
+      impossible = c.in_ok-set.ensures.beyond c.if-cut-lines.true;
+      before = λ _. subst IsPossible (first_entries c.in_ok-set.cut lines) met.0;
+    }
 
-pub last_ruling-at-requires : goal.last_ruling-at-requires
-last_ruling-at-requires g c =
+pub returns-in-Err : goal.returns-in-Err
+returns-in-Err g c =
     let lines = c.args.lines.now in
-    let es = entries lines in
-    let lacks = subst (λ r. MatchResult r (λ found. AreFound es found.items) (Lacks es)) c.in-Err-2.is c.in_ok-found.ensures in
-    let within = lacking_within es c.in-Err-2.unmet lacks in
-    let long = length-map lines (λ (x : LogLine). x.item) in
-    omega (arith, within, long)
-
-pub returns-in-Ok-2 : goal.returns-in-Ok-2
-returns-in-Ok-2 g c =
-    let es = entries c.args.lines.now in
-    let set = g.S.OpenSet.is_open c.in-Ok.set in
-    let settled = subst (λ r. MatchResult r (λ s. RepliesAnswer es × SameUids (g.S.OpenSet.is_open s) (is_open (slots_of es))) (IsContradictedAt es)) c.in-Ok.is c.in_ok-set.ensures in
-    let long = length-map c.args.lines.now (λ (x : LogLine). x.item) in
-    let all = ap (λ (us : List ℕ). list_all set us) (sym c.deref.ensures.value) ∙ (sym c.in_ok-are_open.ensures ∙ c.if-not-branch.false) in
-    let found = subst (λ r. MatchResult r (λ f. AreFound es f.items) (Lacks es)) c.in-Ok-2.is c.in_ok-found.ensures in (
-      met_is_possible es set c.in_ok-heard.heard.items c.in-Ok-2.found.items (length c.args.lines.now) settled.0 settled.1 c.in_ok-heard.ensures (omega (arith, long)) all found,
-      settled.1,
-      is_met es (record { heard = c.in_ok-heard.heard; found = c.in-Ok-2.found }) (length c.args.lines.now) c.in_ok-heard.ensures (omega (arith, long)) found,
-    )
-
-pub returns-in-Err-2 : goal.returns-in-Err-2
-returns-in-Err-2 g c =
-    let lines = c.args.lines.now in
-    let es = entries lines in
-    let lacks = subst (λ r. MatchResult r (λ found. AreFound es found.items) (Lacks es)) c.in-Err-2.is c.in_ok-found.ensures in
-    let last = c.last_ruling-at.ensures in
-    let long = length-map lines (λ (x : LogLine). x.item) in
-    contradicted es c.in-Err-2.unmet c.last_ruling-at.result lacks last.from (let within = last.within in omega (arith, within, long)) last.after
+    let front = entries (take c.in_ok-set.cut lines) in
+    front_contradiction lines c.in_ok-set.cut c.in-Err.contradiction (subst (λ r. MatchResult r (λ m. IsPossible front × IsMet front m) (IsContradiction front)) c.in-Err.is c.in_ok-met.ensures)

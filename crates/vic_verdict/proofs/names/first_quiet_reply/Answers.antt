@@ -1,10 +1,11 @@
-use Rattle.std.proofs.Common.{◌≡◌, ◌+◌, ◌-◌, ◌≤◌, None, sym, subst, arith}
-use Rattle.std.specs.Prelude.{MatchOption}
-use Rattle.vic_verdict.specs.Replies.{IsEarlier}
+use Rattle.std.proofs.Common.{◌≡◌, ◌+◌, ◌-◌, ◌≤◌, sym, subst, arith, inl, inr, ⊎_elim}
+use Rattle.std.proofs.lemmas.Bool.{cases_lt}
+use Rattle.vic_verdict.specs.declared.names.TheConstants.{NEVER}
+use Rattle.vic_verdict.specs.Replies.{reply_place}
 use Rattle.vic_verdict.proofs.Sweeping.{start_here}
-use Rattle.vic_verdict.proofs.Replying.{at, TellsFrom, tells_still, tells_own, found_more, found_all}
+use Rattle.vic_verdict.proofs.Replying.{at, TellsFrom, tells_still, tells_own, IsFoundTo, found_more, found_still, found_all}
 use Rattle.vic_verdict.proofs.names.first_quiet_reply.Goals as goal
-use Rattle.vic_verdict.proofs.names.first_quiet_reply.Goals.{then-i-eq0, then-i-eq0-via-then-i-eq0, then-i-eq0-via-else-i-eq0+then-names-i, else-i-eq0+else-names-i}
+use Rattle.vic_verdict.proofs.names.first_quiet_reply.Goals.{then-i-eq0, then-i-eq0-via-then-i-eq0, then-i-eq0-via-else-i-eq0+then-names-i, else-i-eq0+else-names-i, then-quiet-reply, else-quiet-reply}
 
 pub names_between-requires-clause-start : goal.names_between-requires-clause-start
 names_between-requires-clause-start c =
@@ -24,12 +25,24 @@ loop-i-preserved c =
       | else-i-eq0+else-names-i w ↦ λ i upto. subst (λ q. TellsFrom ns k q) (sym w.quiet-is)
           (let some = w.if-i-eq0.false in tells_still ns k c.loop-i.quiet c.requires (omega (arith, some)) c.loop-i-test.true w.if-names-i.false (c.loop-i.invariant.quiet (omega (arith, some)))) i upto
     ] in
-    let place = c.reply_place.ensures in
-    let small = c.reply_place.type_inv in
+    let place = c.reply_place-reply.ensures in
+    let bound = c.reply_place-reply.type_inv in
+    let small : reply_place (at ns k) ≤ NEVER = omega (arith, place, bound) in
     record {
       quiet = λ some. subst (λ i. TellsFrom ns i quiet) (let e : k ≡ k + 1 - 1 = omega arith in e) tells;
-      found = found_more ns quiet k c.loop-i.first c.earlier-first.result c.loop-i-test.true (omega (arith, place, small)) tells (subst (λ r. MatchOption c.earlier-first.result ((c.loop-i.first ≡ None) × (r ≤ quiet)) (IsEarlier c.loop-i.first quiet r)) place c.earlier-first.ensures) c.loop-i.invariant.found;
+      found = elim c.if-quiet-reply.branch [
+        | then-quiet-reply w ↦
+            let late = w.if-quiet-reply.true in
+            let least = w.min-first.ensures in
+            subst (IsFoundTo ns c.args.end (k + 1)) (sym w.first-is)
+            (found_more ns c.args.end quiet k c.loop-i.first w.min-first.result c.loop-i-test.true small tells (omega (arith, late, place)) (omega (arith, least)) (omega (arith, least, place))
+            (⊎_elim (λ lt. inl (omega (arith, lt, least))) (λ ge. inr (omega (arith, ge, least, place))) (cases_lt c.loop-i.first c.reply_place-reply.result))
+            c.loop-i.invariant.found)
+        | else-quiet-reply w ↦
+            let early = w.if-quiet-reply.false in
+            subst (IsFoundTo ns c.args.end (k + 1)) (sym w.first-is) (found_still ns c.args.end quiet k c.loop-i.first small tells (omega (arith, early, place)) c.loop-i.invariant.found)
+      ];
     }
 
 pub returns : goal.returns
-returns c = found_all c.args.names.now c.loop-i.i c.loop-i.first c.loop-i-test.false c.loop-i.invariant.found
+returns c = found_all c.args.names.now c.args.end c.loop-i.i c.loop-i.first c.loop-i-test.false c.loop-i.invariant.found

@@ -1,13 +1,11 @@
 use Rattle.vic_tree.specs.Ranges.{is_outside}
 use Rattle.vic_log.specs.Order.{entries}
-use Rattle.vic_verdict.specs.Replies.{AreHeard}
-use Rattle.vic_verdict.specs.Stretches.{IsStretch}
 use Rattle.vic_log.specs.OpenRounds.{IsCursorAt}
+use Rattle.vic_verdict.proofs.Settling.{HasGathered}
 use Rattle.vic_verdict.proofs.stretches.closed_keys.Given as goal
 
 abbrev pub invariant-loop-index : goal.invariant-loop-index
 invariant-loop-index l = record {
   round : IsCursorAt (entries l.lines) l.index l.cursor;
-  stretch : IsStretch (entries l.lines) l.index (is_outside l.closed.items) l.names.items l.spots.items;
-  heard : AreHeard (entries l.lines) l.index l.names.items;
+  gathered : HasGathered (entries l.lines) l.index (is_outside l.closed.items) l.names.items l.spots.items;
 }

@@ -1,6 +1,6 @@
-use Rattle.std.proofs.Common.{◌≡◌, ℕ, ◌+◌, ◌-◌, ◌*◌, ◌^◌, ◌<◌, ◌∷◌, [], not, ◌&&◌, ◌||◌, ◌∙◌, Option, Some, None, ap, sym, subst, refl, arith}
+use Rattle.std.proofs.Common.{true, ◌≡◌, ℕ, ◌+◌, ◌-◌, ◌*◌, ◌^◌, ◌<◌, ◌∷◌, [], not, ◌&&◌, ◌||◌, ◌∙◌, Option, Some, None, ap, sym, subst, refl, arith}
 use Rattle.std.specs.Option.{is_some}
-use Rattle.std.specs.Prelude.{if◌then◌else◌}
+use Rattle.std.specs.Prelude.{nat_le, if◌then◌else◌}
 use Rattle.std.specs.List.{All}
 use Rattle.std.proofs.lemmas.Bool.{and_from}
 use Rattle.std.proofs.lemmas.List.Elements.{All-push}
@@ -10,8 +10,9 @@ use Rattle.vic_frame.specs.LowBitsFirst.{mirror}
 use Rattle.vic_log.specs.Rounds.{lies_in_some}
 use Rattle.vic_tree.proofs.BlockLaws.{mask_ends}
 use Rattle.vic_tree.proofs.BoolLaws.{and_true}
+use Rattle.vic_verdict.proofs.Closing.{le_yes}
 use Rattle.vic_verdict.specs.declared.closed.Spot.{Spot}
-use Rattle.vic_verdict.specs.Sweep.{HasRange, all_allow, all_hear_named, first_of, len_of, heard_of, hears_named, is_between, is_heard, is_named_if, is_silenced, last_of, spot_allows}
+use Rattle.vic_verdict.specs.Sweep.{HasRange, all_allow, all_allow_to, all_hear_named, first_of, len_of, heard_of, hears_named, is_between, is_heard, is_named_if, is_silenced, last_of, spot_allows}
 use Rattle.vic_verdict.proofs.stretches.push_spot.Goals as goal
 use Rattle.vic_verdict.proofs.stretches.push_spot.Goals.{in-Some-heard, in-None}
 
@@ -76,6 +77,11 @@ returns c =
       ranges = λ h. subst (All HasRange) (sym items) (All-push HasRange old s h (omega (arith, bits, short), (omega (arith, starts, ends, forward), omega (arith, ends, at_last, e, p))));
       before = λ i lt h. subst (All (λ (t : Spot). t.at < i)) (sym items) (All-push (λ (t : Spot). t.at < i) old s h lt);
       named = λ ns named h. ap (all_hear_named ns) items ∙ list_all-append (hears_named ns) old (s ∷ []) ∙ and_from _ _ h (and_from _ _ (ap (is_named_if ns) heard ∙ named) refl);
+      kept = λ ns i k le.
+          ap (λ ss. all_allow_to ns ss i k) items
+          ∙ list_all-append (λ t. nat_le i t.at || spot_allows ns t k) old (s ∷ [])
+          ∙ ap (λ b. all_allow_to ns old i k && ((b || spot_allows ns s k) && true)) (le_yes i c.args.at le)
+          ∙ and_true (all_allow_to ns old i k);
       allow = λ ns u w.
           ap (λ ss. all_allow ns ss (mirror u)) items
           ∙ list_all-append (λ t. spot_allows ns t (mirror u)) old (s ∷ [])
