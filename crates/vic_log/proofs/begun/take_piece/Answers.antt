@@ -1,4 +1,4 @@
-use Rattle.std.proofs.Common.{◌≡◌, ◌++◌, ◌∷◌, [], ℕ, List, Result, Ok, Err, OnOk, IfErr, refl, ap, sym, subst, ◌∙◌, append_assoc, append-nil, length-append, arith}
+use Rattle.std.proofs.Common.{◌≡◌, ◌++◌, ◌∷◌, [], ℕ, List, Result, Ok, Err, OnOk, IfErr, refl, ap, sym, subst, ◌∙◌, append_assoc, append-nil, length, length-append, arith}
 use Rattle.std.proofs.lemmas.Result.{err_from_is_err_and}
 use Rattle.vic_log.specs.Begun.{HasJudged}
 use Rattle.vic_log.specs.Early.{IsEarly}
@@ -78,3 +78,22 @@ returns-clause-err c =
     err_more c.take_begun.result _ _
     (λ e early text j. subst (IsEarly e) (more_taken text i.taken c.loop-line.rest.now c.args.bytes.now i.whole) (early (text ++ i.taken) (i.judged text j)))
     c.take_begun.ensures.err
+
+pub take_end-requires-clause-no_lf : goal.take_end-requires-clause-no_lf
+take_end-requires-clause-no_lf c = c.in-Some.ensures.no_lf
+
+pub loop-line-smaller : goal.loop-line-smaller
+loop-line-smaller c =
+    let whole = ap length c.in-Some.ensures.whole in
+    let size = length-append c.in-Some.line.now (lf ∷ c.in-Some.behind.now) in
+    omega arith
+
+pub take_begun-requires-clause-judged : goal.take_begun-requires-clause-judged
+take_begun-requires-clause-judged c = (c.requires.judged.0 ++ c.loop-line.invariant.taken, c.loop-line.invariant.judged c.requires.judged.0 c.requires.judged.1)
+
+pub returns-clause-less : goal.returns-clause-less
+returns-clause-less c =
+    let i = c.loop-line.invariant in
+    let before = i.less in
+    let whole = ap length i.whole ∙ length-append i.taken c.loop-line.rest.now in
+    ok_more c.take_begun.result _ _ (λ less. omega arith) c.take_begun.ensures.less
