@@ -41,8 +41,8 @@ pub record AddsSpot (mask : Option BitMask) (at : ℕ) (heard : Option ℕ) (old
   pub kept : (ns : List Name) (i k : ℕ) → i ≤ at
       → all_allow_to ns new i k ≡ all_allow_to ns old i k
 
--- the names and the slots of the entries from a place on, behind the last field cycle, up to place i;
--- with what a set leaves open they tell what is open there, and at the places between
+-- the names and the slots of the entries from a place on, behind the last field cycle, up to place
+-- i. With what a set leaves open they tell what is open there, and at the places between
 pub record IsStretch (es : List Entry) (from i : ℕ) (set : ℕ → Bool) (ns : List Name)
     (ss : List Spot) : Type 0 where
   pub keys : HaveKeys ns

@@ -140,7 +140,8 @@ AreInOrder ns = IsNonDecreasingBy (λ (n : Name). n.key) ns
 pub record IsStart (ns : List Name) (first at : ℕ) : Type 0 where
   pub within : at ≤ length ns
   pub below : (k : ℕ) (d : Name) → k < at → (slice_index_or ns k d).key < first
-  pub rest : (k : ℕ) (d : Name) → at ≤ k → k < length ns → first ≤ (slice_index_or ns k d).key
+  pub rest : (k : ℕ) (d : Name) → at ≤ k → k < length ns
+      → first ≤ (slice_index_or ns k d).key
 
 -- keys of UIDs
 abbrev pub HaveKeys : List Name → Type 0
