@@ -31,7 +31,7 @@ pub struct Contradiction {
 pub enum Before {
     /// Some population could have given them: it is the first contradiction.
     ArePossible,
-    /// The same, but it wasn't looked at closely.
+    /// They seem to be: no answer rests on it.
     SeemPossible,
     /// Nothing is known of them.
     AreUnknown,
