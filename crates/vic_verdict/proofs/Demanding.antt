@@ -1,36 +1,40 @@
 -- What meets the demands of a stretch.
-use Rattle.std.proofs.Common.{◌≡◌, ℕ, zero, suc, ◌+◌, ◌<◌, ◌≤◌, ◌++◌, List, [], ◌∷◌, length, take, get_or, length-append, Bool, true, false, not, ◌&&◌, Option, Some, None, refl, sym, ap, ◌∙◌, subst, arith, inl, inr, ⊎_elim}
-use Rattle.std.specs.Prelude.{◌⊎◌, IfSome, slice_get}
+use Rattle.std.proofs.Common.{◌≡◌, ℕ, zero, suc, ◌+◌, ◌<◌, ◌≤◌, ◌++◌, List, [], ◌∷◌, length, take, get_or, length-append, Bool, true, false, not, ◌&&◌, ◌||◌, cond, Option, Some, None, refl, sym, ap, ◌∙◌, subst, arith, inl, inr, ⊎_elim}
+use Rattle.std.specs.Prelude.{◌⊎◌, ◌==◌, IfSome, nat_lt, slice_get}
 use Rattle.std.specs.List.{All, Any, list_all, list_any, sum_by}
 use Rattle.std.specs.List.Sorted.{IsPermutation}
-use Rattle.std.proofs.lemmas.Bool.{cases_eq, and_parts, and_from, or_cases, or_left, or_right, both_ways, false≢true, eqb-true}
+use Rattle.std.proofs.lemmas.Bool.{cases_eq, cases_lt, and_parts, and_from, or_cases, or_left, or_right, both_ways, false≢true, eq-eqb, eqb-true}
+use Rattle.std.proofs.lemmas.Bool.Decides.{nat_tests}
 use Rattle.std.proofs.lemmas.Option.{slice_get_within, get_or_from_slice_get}
 use Rattle.std.proofs.lemmas.List.{get_or_append_left, get_or_default}
-use Rattle.std.proofs.lemmas.List.Elements.{All-push}
+use Rattle.std.proofs.lemmas.List.Elements.{All-push, All-filter, filter_passes}
+use Rattle.std.proofs.lemmas.List.Folds.{list_any-append, Any-from_list_any}
 use Rattle.std.proofs.lemmas.List.Quantifiers.{Any-push}
-use Rattle.std.proofs.lemmas.List.Sums.{sum_by_more, sum_by_push, sum_by-take-le}
-use Rattle.std.proofs.lemmas.List.Sorted.{All-permutation, IsPermutation-sym, sum_by-IsPermutation}
+use Rattle.std.proofs.lemmas.List.Sums.{sum_by-cons, sum_by_more, sum_by_push, sum_by-take-le}
+use Rattle.std.proofs.lemmas.List.Sorted.{All-permutation, list_any-IsPermutation, sum_by-IsPermutation}
 use Rattle.vic_frame.specs.Uids.{IsUid, is_uid, has}
 use Rattle.vic_frame.specs.Masks.{BitMask, lies_in}
 use Rattle.vic_frame.specs.LowBitsFirst.{mirror}
-use Rattle.vic_frame.specs.Replies.{Reply}
 use Rattle.vic_tree.specs.OpenSet.{SameUids, UpToThree, in_mask}
 use Rattle.vic_log.specs.declared.entry.Entry.{Entry}
 use Rattle.vic_log.specs.declared.entry.Entry.TheVariants.{Sent, Silent, Collision, Heard, Listed, Garbled, FieldCycle}
 use Rattle.vic_log.specs.Rounds.{mask_at, lies_in_some}
-use Rattle.vic_log.specs.Quiet.{silences, wakes}
+use Rattle.vic_log.specs.Quiet.{is_quiet}
 use Rattle.vic_log.specs.Populations.{answers_at}
 use Rattle.vic_log.specs.Slots.{ManyReplies, SomeReply, allows, slots_of, is_open}
+use Rattle.vic_log.proofs.Places.{AgreeBefore, answers_agree}
 use Rattle.vic_log.proofs.Supply.{IsUid-from}
+use Rattle.vic_tree.proofs.BoolLaws.{lt_yes, lt_from}
 use Rattle.vic_verdict.specs.declared.demands.Demand.{Demand}
 use Rattle.vic_verdict.specs.declared.demands.Found.{Found}
+use Rattle.vic_verdict.specs.declared.demands.Stretch.{Stretch}
 use Rattle.vic_verdict.specs.declared.names.Name.{Name}
 use Rattle.vic_verdict.specs.Possible.{Lacks}
 use Rattle.vic_verdict.specs.Places.{answering}
-use Rattle.vic_verdict.specs.Sweep.{is_silenced}
-use Rattle.vic_verdict.specs.Silenced.{TellsQuiet}
-use Rattle.vic_verdict.specs.Demands.{needs, needs_of, needs_at, all_needs, IsFoundAt, IsFound, Meets, IsDemand, is_ready, IsUnmet, IsUnmetAt, IsSaidBy, IsAskedAgain, AreMet, AreAsked, AreFound}
-use Rattle.vic_verdict.proofs.Silencing.{silenced_later, tells_first, tells_anew, tells_passed}
+use Rattle.vic_verdict.specs.Sweep.{AreInOrder, HaveKeys, is_silenced}
+use Rattle.vic_verdict.specs.Silenced.{ArePutInOrder}
+use Rattle.vic_verdict.specs.Demands.{needs, needs_of, needs_at, all_needs, IsFoundAt, IsFound, Meets, IsDemand, IsDemandBy, is_ready, IsUnmet, IsUnmetAt, IsSaidBy, IsAskedAgain, IsInOrder, IsKept, Keeps, AreMet, AreAsked, AreFound, AreKept, asked_by, demands_to, is_asked}
+use Rattle.vic_verdict.proofs.Silencing.{silenced_later}
 use Rattle.vic_verdict.proofs.Entries.{asks_two_iff, asks_one_iff}
 use Rattle.vic_verdict.proofs.Supplied.{UpToThree-same}
 
@@ -77,32 +81,25 @@ first_ready set ns d m us same h none = record {
     go true f = f refl
     go false f = refl
 
--- whoever answers by the names answers
-ready_answers : (es : List Entry) (from i : ℕ) (ns : List Name) (d : Demand) (u : ℕ) → TellsQuiet es from i ns → IsDemand es from i d → IsUid u → is_ready ns d u ≡ answers_at es d.at u
-ready_answers es from i ns d u t h w =
-    let before = h.before in
-    ap (λ o. lies_in_some o u && not (is_silenced ns (mirror u) d.at)) h.mask
-    ∙ ap (λ b. lies_in_some (mask_at es d.at) u && not b) (t.quiet d.at u h.since (omega (arith, before)) w)
-
 -- ---- a demand that is met
 
-found_answers : (es : List Entry) (from i : ℕ) (set : ℕ → Bool) (ns : List Name) (d : Demand) (us : List ℕ) → SameUids set (is_open (slots_of es)) → TellsQuiet es from i ns → IsDemand es from i d → UpToThree (ready_of set ns d) us → UpToThree (answering (is_open (slots_of es)) es d.at) us
-found_answers es from i set ns d us same t h found = UpToThree-same (ready_of set ns d) (answering (is_open (slots_of es)) es d.at) us (λ u. go u (is_uid u) refl) found
+found_answers : (es : List Entry) (set : ℕ → Bool) (ns : List Name) (d : Demand) (us : List ℕ) → SameUids set (is_open (slots_of es)) → IsDemandBy es ns d → UpToThree (ready_of set ns d) us → UpToThree (answering (is_open (slots_of es)) es d.at) us
+found_answers es set ns d us same h found = UpToThree-same (ready_of set ns d) (answering (is_open (slots_of es)) es d.at) us (λ u. go u (is_uid u) refl) found
   where
     go : (u : ℕ) (b : Bool) → is_uid u ≡ b → ((b && set u) && is_ready ns d u) ≡ ((b && list_all (allows u) (slots_of es)) && answers_at es d.at u)
     go u true e =
         let w = IsUid-from u e in
         let o : set u ≡ list_all (allows u) (slots_of es) = same u w ∙ ap (λ b. b && list_all (allows u) (slots_of es)) e in
-        ap (λ x. x && is_ready ns d u) o ∙ ap (λ x. list_all (allows u) (slots_of es) && x) (ready_answers es from i ns d u t h w)
+        ap (λ x. x && is_ready ns d u) o ∙ ap (λ x. list_all (allows u) (slots_of es) && x) (h.answers u w)
     go u false e = refl
 
-pub found_at : (es : List Entry) (from i : ℕ) (set : ℕ → Bool) (ns : List Name) (d : Demand) (f : Found) → SameUids set (is_open (slots_of es)) → TellsQuiet es from i ns → IsDemand es from i d → UpToThree (ready_of set ns d) f.uids.items → f.at ≡ d.at → f.need ≡ d.need → d.need ≤ length f.uids.items → IsFoundAt es d.at f
-found_at es from i set ns d f same t h found place need enough =
+pub found_at : (es : List Entry) (set : ℕ → Bool) (ns : List Name) (d : Demand) (f : Found) → SameUids set (is_open (slots_of es)) → IsDemandBy es ns d → UpToThree (ready_of set ns d) f.uids.items → f.at ≡ d.at → f.need ≡ d.need → d.need ≤ length f.uids.items → IsFoundAt es d.at f
+found_at es set ns d f same h found place need enough =
     let asked = h.asked in record {
       place = place;
       asked = omega (arith, asked, need);
       need = h.need ∙ sym need;
-      uids = found_answers es from i set ns d f.uids.items same t h found;
+      uids = found_answers es set ns d f.uids.items same h found;
       enough = omega (arith, enough, need);
     }
 
@@ -115,16 +112,16 @@ not_later true true f e = e
 not_later false true f e = f refl
 not_later b false f e = refl
 
-pub meets_again : (es : List Entry) (from i : ℕ) (ns : List Name) (d next : Demand) (f : Found) → TellsQuiet es from i ns → IsDemand es from i d → IsDemand es from i next → IsSaidBy d next → Meets es f next.at → Meets es f d.at
-meets_again es from i ns d next f t h g said m = record {
+pub meets_again : (es : List Entry) (ns : List Name) (d next : Demand) (f : Found) → IsDemandBy es ns d → IsDemandBy es ns next → IsSaidBy d next → Meets es f next.at → Meets es f d.at
+meets_again es ns d next f h g said m = record {
   need = h.need ∙ (said.need ∙ (sym g.need ∙ m.need));
   answer = λ u k.
       let w = and_parts _ _ (m.answer u k) in
       let uid = IsUid-from u (and_parts (is_uid u) _ w.0).0 in
-      let ready = and_parts _ _ (ready_answers es from i ns next u t g uid ∙ w.1) in
+      let ready = and_parts _ _ (g.answers u uid ∙ w.1) in
       let inside = ap (λ o. lies_in_some o u) said.mask ∙ ready.0 in
       let awake = not_later _ _ (silenced_later ns (mirror u) d.at next.at said.later) ready.1 in
-      and_from _ _ w.0 (sym (ready_answers es from i ns d u t h uid) ∙ and_from _ _ inside awake);
+      and_from _ _ w.0 (sym (h.answers u uid) ∙ and_from _ _ inside awake);
 }
 
 -- ---- a demand that is not
@@ -139,9 +136,9 @@ asked_two_or_one (Some (Sent q)) n e lt = absurd (omega (arith, e, lt))
 asked_two_or_one (Some (Listed u)) n e lt = absurd (omega (arith, e, lt))
 asked_two_or_one (Some FieldCycle) n e lt = absurd (omega (arith, e, lt))
 
-lacks_by : (es : List Entry) (from i : ℕ) (set : ℕ → Bool) (ns : List Name) (d : Demand) (us : List ℕ) → SameUids set (is_open (slots_of es)) → TellsQuiet es from i ns → IsDemand es from i d → UpToThree (ready_of set ns d) us → length us < d.need → Lacks es d.at
-lacks_by es from i set ns d us same t h found few =
-    let all = found_answers es from i set ns d us same t h found in
+lacks_by : (es : List Entry) (set : ℕ → Bool) (ns : List Name) (d : Demand) (us : List ℕ) → SameUids set (is_open (slots_of es)) → IsDemandBy es ns d → UpToThree (ready_of set ns d) us → length us < d.need → Lacks es d.at
+lacks_by es set ns d us same h found few =
+    let all = found_answers es set ns d us same h found in
     ⊎_elim
     (λ w. (Collision, ManyReplies, w.0, refl, λ a. let n = (asks_two_iff _ us all).0 a in let two = w.1 in omega (arith, n, two, few)))
     (λ w. (Garbled, SomeReply, w.0, refl, λ a. let n = (asks_one_iff _ us all).0 a in let one = w.1 in omega (arith, n, one, few)))
@@ -159,11 +156,11 @@ pub none_is : (o : Option ℕ) → ((x : ℕ) → o ≡ Some x → ⊥) → o �
 none_is None h = refl
 none_is (Some x) h = absurd (h x refl)
 
-pub unmet_lacks : (es : List Entry) (from i : ℕ) (set : ℕ → Bool) (ns : List Name) (ds : List Demand) (at : ℕ) → SameUids set (is_open (slots_of es)) → TellsQuiet es from i ns → All (IsDemand es from i) ds → IsUnmetAt set ns ds at → Lacks es at
-unmet_lacks es from i set ns ds at same t h w =
+pub unmet_lacks : (es : List Entry) (set : ℕ → Bool) (ns : List Name) (ds : List Demand) (at : ℕ) → SameUids set (is_open (slots_of es)) → All (IsDemandBy es ns) ds → IsUnmetAt set ns ds at → Lacks es at
+unmet_lacks es set ns ds at same h w =
     let d : Demand = w.1 in
     let unmet : IsUnmet set ns d = w.4.1 in
-    subst (Lacks es) w.4.0 (lacks_by es from i set ns d unmet.0 same t (subst (IsDemand es from i) w.3 (h w.0 d w.2)) unmet.2 unmet.1)
+    subst (Lacks es) w.4.0 (lacks_by es set ns d unmet.0 same (subst (IsDemandBy es ns) w.3 (h w.0 d w.2)) unmet.2 unmet.1)
 
 -- ---- one demand after another
 
@@ -210,34 +207,25 @@ met_found es ds k d f old now new below is all at need h = subst (AreMetTo es ds
 })
 
 -- from the last demand back
-met_from : (es : List Entry) (from i : ℕ) (ns : List Name) (ds : List Demand) (old new : List Found) → TellsQuiet es from i ns → All (IsDemand es from i) ds → AreMetTo es ds (length ds) old new → (left j : ℕ) (d : Demand) → length ds ≤ j + left → j < length ds → Any (λ (f : Found). Meets es f (get_or ds j d).at) new
-met_from es from i ns ds old new t h m zero j d far below = absurd (omega (arith, far, below))
-met_from es from i ns ds old new t h m (suc left) j d far below =
+met_from : (es : List Entry) (ns : List Name) (ds : List Demand) (old new : List Found) → All (IsDemandBy es ns) ds → AreMetTo es ds (length ds) old new → (left j : ℕ) (d : Demand) → length ds ≤ j + left → j < length ds → Any (λ (f : Found). Meets es f (get_or ds j d).at) new
+met_from es ns ds old new h m zero j d far below = absurd (omega (arith, far, below))
+met_from es ns ds old new h m (suc left) j d far below =
     ⊎_elim
     (λ here. here)
     (λ again.
-    let next = met_from es from i ns ds old new t h m left (j + 1) d (omega (arith, far)) again.0 in
-    (next.0, next.1, next.2, next.3, meets_again es from i ns (get_or ds j d) (get_or ds (j + 1) d) next.1 t (h j d below) (h (j + 1) d again.0) (again.1 d) next.4))
+    let next = met_from es ns ds old new h m left (j + 1) d (omega (arith, far)) again.0 in
+    (next.0, next.1, next.2, next.3, meets_again es ns (get_or ds j d) (get_or ds (j + 1) d) next.1 (h j d below) (h (j + 1) d again.0) (again.1 d) next.4))
     (m.met j d below)
 
-pub met_all : (es : List Entry) (from i : ℕ) (ns : List Name) (ds : List Demand) (k : ℕ) (old new : List Found) → TellsQuiet es from i ns → All (IsDemand es from i) ds → k ≡ length ds → AreMetTo es ds k old new → AreMet es ds old new
-met_all es from i ns ds k old new t h end m =
+pub met_all : (es : List Entry) (ns : List Name) (ds : List Demand) (k : ℕ) (old new : List Found) → All (IsDemandBy es ns) ds → k ≡ length ds → AreMetTo es ds k old new → AreMet es ds old new
+met_all es ns ds k old new h end m =
     let all = subst (λ n. AreMetTo es ds n old new) end m in
     record {
       found = m.found;
       kept = m.kept;
-      met = λ j d below. met_from es from i ns ds old new t h all (length ds) j d (omega arith) below;
+      met = λ j d below. met_from es ns ds old new h all (length ds) j d (omega arith) below;
       few = let few = m.few in let part = sum_by-take-le (λ (d : Demand). d.need) ds k in omega (arith, few, part);
     }
-
--- in another order
-pub met_permuted : (es : List Entry) (ds fs : List Demand) (old new : List Found) → IsPermutation ds fs → AreMet es fs old new → AreMet es ds old new
-met_permuted es ds fs old new p m = record {
-  found = m.found;
-  kept = m.kept;
-  met = All-permutation (λ (d : Demand). Any (λ (f : Found). Meets es f d.at) new) fs ds (IsPermutation-sym ds fs p) m.met;
-  few = let few = m.few in let same = sum_by-IsPermutation (λ (d : Demand). d.need) ds fs p in omega (arith, few, same);
-}
 
 -- ---- an entry more
 
@@ -252,97 +240,268 @@ needs_more : (es : List Entry) (i : ℕ) (e : Entry) → slice_get es i ≡ Some
 needs_more es i e k =
     sum_by_more needs es i e (slice_get_within es i e k) ∙ ap (λ x. all_needs (take i es) + needs x) (get_or_from_slice_get es i e e k)
 
+lt_no : (x i : ℕ) → i ≤ x → nat_lt x i ≡ false
+lt_no x i le = grind (arith, nat_tests)
+
+-- a demand of a later place doesn't count
+to_before : (j : ℕ) (ds : List Demand) (d : Demand) → j ≤ d.at → demands_to j (ds ++ d ∷ []) ≡ demands_to j ds
+to_before j [] d late = ap (λ b. cond b (d ∷ []) []) (lt_no d.at j late)
+to_before j (x ∷ ds) d late = ap (λ xs. cond (nat_lt x.at j) (x ∷ xs) xs) (to_before j ds d late)
+
+-- up to place i they are all
+to_all : (i : ℕ) (ds : List Demand) → All (λ (d : Demand). d.at < i) ds → demands_to i ds ≡ ds
+to_all i [] h = refl
+to_all i (x ∷ ds) h =
+    ap (λ b. cond b (x ∷ demands_to i ds) (demands_to i ds)) (lt_yes x.at i (h 0 x (omega arith)))
+    ∙ ap (λ xs. x ∷ xs) (to_all i ds (λ k d below. h (suc k) d (omega (arith, below))))
+
+are_before : (es : List Entry) (from i : ℕ) (ds : List Demand) → All (IsDemand es from i) ds → All (λ (d : Demand). d.at < i) ds
+are_before es from i ds h k d below = (h k d below).before
+
 -- an entry that asks for nothing
-pub asked_names : (es : List Entry) (i : ℕ) (ns ms : List Name) (ds : List Demand) (fs : List Found) (e : Entry) → slice_get es i ≡ Some e → needs e ≡ 0 → ((from : ℕ) → TellsQuiet es from i ns → TellsQuiet es from (i + 1) ms) → AreAsked es i ns ds fs → AreAsked es (i + 1) ms ds fs
-asked_names es i ns ms ds fs e k none tells h = record {
-  from = h.from;
-  quiet = tells h.from h.quiet;
-  demands = demands_next es h.from i ds h.demands;
-  found = h.found;
-  met = λ j lt some.
+pub asked_nothing : (es : List Entry) (from i : ℕ) (ds : List Demand) (e : Entry) → from ≤ i → slice_get es i ≡ Some e → needs e ≡ 0 → AreAsked es from i ds → AreAsked es from (i + 1) ds
+asked_nothing es from i ds e begun k none h = record {
+  demands = demands_next es from i ds h.demands;
+  asked = λ j since lt some.
       ⊎_elim
       (λ here. absurd (let zero = ap needs_of k ∙ none in let at = ap (needs_at es) here in omega (arith, some, at, zero)))
-      (λ ne. h.met j (omega (arith, lt, ne)) some)
+      (λ ne. h.asked j since (omega (arith, lt, ne)) some)
+      (cases_eq j i);
+  few = λ j since upto.
+      ⊎_elim
+      (λ end.
+      let whole : demands_to j ds ≡ demands_to i ds = ap (λ n. demands_to n ds) end ∙ (to_all (i + 1) ds (are_before es from (i + 1) ds (demands_next es from i ds h.demands)) ∙ sym (to_all i ds (are_before es from i ds h.demands))) in
+      let same = ap asked_by whole in
+      let few = h.few i begun (omega arith) in
+      let more = ap (λ n. all_needs (take n es)) end ∙ needs_more es i e k in
+      omega (arith, same, few, more))
+      (λ ne. h.few j since (omega (arith, upto, ne)))
+      (cases_eq j (i + 1));
+}
+
+-- an entry that asks for some
+pub asked_more : (es : List Entry) (from i : ℕ) (ds new : List Demand) (e : Entry) (d : Demand) → from ≤ i → slice_get es i ≡ Some e → needs e ≡ d.need → 0 < d.need → d.mask ≡ mask_at es i → d.at ≡ i → new ≡ ds ++ d ∷ [] → AreAsked es from i ds → AreAsked es from (i + 1) new
+asked_more es from i ds new e d begun k need some mask at is h = subst (AreAsked es from (i + 1)) (sym is) (record {
+  demands = all;
+  asked = λ j since lt asks.
+      list_any-append (λ (x : Demand). x.at == j) ds (d ∷ [])
+      ∙ ⊎_elim
+      (λ here. or_right _ _ (or_left _ _ (eq-eqb _ _ (at ∙ sym here))))
+      (λ ne. or_left _ _ (h.asked j since (omega (arith, lt, ne)) asks))
+      (cases_eq j i);
+  few = λ j since upto.
+      ⊎_elim
+      (λ end.
+      let whole : demands_to j (ds ++ d ∷ []) ≡ ds ++ d ∷ [] = ap (λ n. demands_to n (ds ++ d ∷ [])) end ∙ to_all (i + 1) (ds ++ d ∷ []) (are_before es from (i + 1) (ds ++ d ∷ []) all) in
+      let same = ap asked_by whole in
+      let sum = sum_by_push (λ (x : Demand). x.need) ds d in
+      let before = ap asked_by (to_all i ds (are_before es from i ds h.demands)) in
+      let few = h.few i begun (omega arith) in
+      let more = ap (λ n. all_needs (take n es)) end ∙ needs_more es i e k in
+      omega (arith, same, sum, before, few, more, need))
+      (λ ne.
+      let few = h.few j since (omega (arith, upto, ne)) in
+      let same = ap asked_by (to_before j ds d (omega (arith, at, upto, ne))) in
+      omega (arith, few, same))
+      (cases_eq j (i + 1));
+})
+  where
+    all : All (IsDemand es from (i + 1)) (ds ++ d ∷ [])
+    all = All-push (IsDemand es from (i + 1)) ds d (demands_next es from i ds h.demands) (record {
+      asked = some;
+      need = ap (needs_at es) at ∙ (ap needs_of k ∙ need);
+      mask = mask ∙ ap (mask_at es) (sym at);
+      since = omega (arith, begun, at);
+      before = omega (arith, at);
+    })
+
+-- where a stretch begins
+pub asked_anew : (es : List Entry) (i : ℕ) → AreAsked es i i []
+asked_anew es i = record {
+  demands = λ k d below. absurd (omega (arith, below));
+  asked = λ j since below some. absurd (omega (arith, since, below));
+  few = λ j since upto. let e = ap (λ n. all_needs (take n es)) (let same : i ≡ j = omega (arith, since, upto) in same) in omega (arith, e);
+}
+
+-- ---- the stretches that are kept
+
+pub kept_first : (es : List Entry) → AreKept es 0 []
+kept_first es = record {
+  kept = λ k s below. absurd (omega (arith, below));
+  asked = λ j below some. absurd (omega (arith, below));
+  few = omega arith;
+}
+
+-- a field cycle asks for nothing
+pub kept_cycle : (es : List Entry) (i : ℕ) (ss : List Stretch) (e : Entry) → slice_get es i ≡ Some e → needs e ≡ 0 → AreKept es i ss → AreKept es (i + 1) ss
+kept_cycle es i ss e k none h = record {
+  kept = λ n s below. let it = h.kept n s below in record {
+    order = it.order;
+    keys = it.keys;
+    places = λ m d inside. let lt = it.places m d inside in omega (arith, lt);
+    demands = it.demands;
+  };
+  asked = λ j lt some.
+      ⊎_elim
+      (λ here. absurd (let zero = ap needs_of k ∙ none in let at = ap (needs_at es) here in omega (arith, some, at, zero)))
+      (λ ne. h.asked j (omega (arith, lt, ne)) some)
       (cases_eq j i);
   few = let few = h.few in let more = needs_more es i e k in omega (arith, few, more, none);
 }
 
--- an entry that asks for nothing, and silences and wakes nobody
-pub asked_passed : (es : List Entry) (i : ℕ) (ns : List Name) (ds : List Demand) (fs : List Found) (e : Entry) → slice_get es i ≡ Some e → (e ≡ Silent) ⊎ (((r : Reply) × (e ≡ Heard r)) ⊎ (((u : ℕ) × (e ≡ Listed u)) ⊎ (e ≡ FieldCycle))) → (e ≡ FieldCycle → ⊥) → AreAsked es i ns ds fs → AreAsked es (i + 1) ns ds fs
-asked_passed es i ns ds fs e k is other h =
-    ⊎_elim
-    (λ s. pass Silent (k ∙ ap (λ (x : Entry). Some x) s) refl refl (λ u. refl))
-    (λ w. ⊎_elim
-    (λ s. pass (Heard s.0) (k ∙ ap (λ (x : Entry). Some x) s.1) refl refl (λ u. refl))
-    (λ x. ⊎_elim
-    (λ s. pass (Listed s.0) (k ∙ ap (λ (x : Entry). Some x) s.1) refl refl (λ u. refl))
-    (λ s. absurd (other s))
-    x)
-    w)
-    is
+-- what an entry more asks for, if there is one
+needs_next : (es : List Entry) (n : ℕ) → all_needs (take (suc n) es) ≡ all_needs (take n es) + needs_at es n
+needs_next [] zero = refl
+needs_next [] (suc n) = refl
+needs_next (e ∷ es) zero = refl
+needs_next (e ∷ es) (suc n) =
+    let more = sum_by-cons needs e (take (suc n) es) in
+    let less = sum_by-cons needs e (take n es) in
+    let rest = needs_next es n in
+    omega (arith, more, less, rest)
+
+-- entries that are the same ask for the same
+needs_agree : (n : ℕ) (es fs : List Entry) → AgreeBefore n es fs → all_needs (take n es) ≡ all_needs (take n fs)
+needs_agree zero es fs agree = refl
+needs_agree (suc n) es fs agree =
+    let one = needs_next es n in
+    let other = needs_next fs n in
+    let here = ap needs_of (agree n (omega arith)) in
+    let before = needs_agree n es fs (λ j below. agree j (omega (arith, below))) in
+    omega (arith, one, other, here, before)
+
+-- whoever answers by the names answers
+demand_by : (es : List Entry) (i : ℕ) (ns : List Name) (d : Demand) → ((u : ℕ) → IsUid u → is_silenced ns (mirror u) d.at ≡ is_quiet es d.at u) → (from : ℕ) → IsDemand es from i d → IsDemandBy es ns d
+demand_by es i ns d quiet from h = record {
+  asked = h.asked;
+  need = h.need;
+  answers = λ u w.
+      ap (λ o. lies_in_some o u && not (is_silenced ns (mirror u) d.at)) h.mask
+      ∙ ap (λ b. lies_in_some (mask_at es d.at) u && not b) (quiet u w);
+}
+
+demand_agrees : (es fs : List Entry) (cut : ℕ) (ns : List Name) (d : Demand) → AgreeBefore cut fs es → d.at < cut → IsDemandBy es ns d → IsDemandBy fs ns d
+demand_agrees es fs cut ns d agree below h = record {
+  asked = h.asked;
+  need = ap needs_of (agree d.at below) ∙ h.need;
+  answers = λ u w. h.answers u w ∙ sym (answers_agree d.at fs es (λ j lt. agree j (omega (arith, lt, below))) u);
+}
+
+kept_agree : (es fs : List Entry) (i cut : ℕ) (s : Stretch) → AgreeBefore cut fs es → i ≤ cut → IsKept es i s → IsKept fs cut s
+kept_agree es fs i cut s agree le h = record {
+  order = h.order;
+  keys = h.keys;
+  places = λ k d below. let lt = h.places k d below in omega (arith, lt, le);
+  demands = λ k d below.
+      let lt = h.places k d below in
+      demand_agrees es fs cut s.names.items (get_or s.demands.items k d) agree (omega (arith, lt, le)) (h.demands k d below);
+}
+
+-- a demand of a place before the cut is one of those up to it
+asked_to : (cut j : ℕ) (ds : List Demand) → j < cut → is_asked (demands_to cut ds) j ≡ is_asked ds j
+asked_to cut j [] below = refl
+asked_to cut j (d ∷ ds) below = go (nat_lt d.at cut) (d.at == j) refl refl (asked_to cut j ds below)
   where
-    pass : (f : Entry) → slice_get es i ≡ Some f → needs f ≡ 0 → wakes (Some f) ≡ false → ((u : ℕ) → silences (Some f) u ≡ false) → AreAsked es (i + 1) ns ds fs
-    pass f g none awake loud = asked_names es i ns ns ds fs f g none (λ from t. tells_passed es from i ns f g awake (λ u w. loud u) t) h
+    go : (b c : Bool) → nat_lt d.at cut ≡ b → (d.at == j) ≡ c → is_asked (demands_to cut ds) j ≡ is_asked ds j → is_asked (cond b (d ∷ demands_to cut ds) (demands_to cut ds)) j ≡ (c || is_asked ds j)
+    go true c e f rest = ap (λ x. x || is_asked (demands_to cut ds) j) f ∙ ap (λ x. c || x) rest
+    go false true e f rest = absurd (let at = eqb-true d.at j f in let late = lt_yes d.at cut (omega (arith, at, below)) in both_ways _ e late)
+    go false false e f rest = rest
 
--- an entry that asks for some
-pub asked_more : (es : List Entry) (i : ℕ) (ns : List Name) (ds new : List Demand) (fs : List Found) (e : Entry) (d : Demand) → slice_get es i ≡ Some e → needs e ≡ d.need → 0 < d.need → d.mask ≡ mask_at es i → d.at ≡ i → new ≡ ds ++ d ∷ [] → ((from : ℕ) → TellsQuiet es from i ns → TellsQuiet es from (i + 1) ns) → AreAsked es i ns ds fs → AreAsked es (i + 1) ns new fs
-asked_more es i ns ds new fs e d k need some mask at all tells h = subst (λ xs. AreAsked es (i + 1) ns xs fs) (sym all) (record {
-  from = h.from;
-  quiet = tells h.from h.quiet;
-  demands = All-push (IsDemand es h.from (i + 1)) ds d (demands_next es h.from i ds h.demands) (record {
-    asked = some;
-    need = ap (needs_at es) at ∙ (ap needs_of k ∙ need);
-    mask = mask ∙ ap (mask_at es) (sym at);
-    since = let begun = h.quiet.begun in omega (arith, begun, at);
-    before = omega (arith, at);
-  });
-  found = h.found;
-  met = λ j lt asks.
-      ⊎_elim
-      (λ here. inr (Any-push (λ (x : Demand). x.at ≡ j) ds d (at ∙ sym here)))
-      (λ ne. ⊎_elim (λ f. inl f) (λ w. inr (any_kept (λ (x : Demand). x.at ≡ j) ds d w)) (h.met j (omega (arith, lt, ne)) asks))
-      (cases_eq j i);
-  few =
-      let few = h.few in
-      let more = needs_more es i e k in
-      let sum = sum_by_push (λ (x : Demand). x.need) ds d in
-      omega (arith, few, more, sum, need);
-})
+-- the demands of a stretch up to a cut are kept
+pub kept_to : (es fs : List Entry) (from i cut : ℕ) (ns ms : List Name) (ds : List Demand) (old new : List Stretch) → AgreeBefore cut fs es → from ≤ cut → cut ≤ i → HaveKeys ns → ((j u : ℕ) → from ≤ j → j ≤ i → IsUid u → is_silenced ns (mirror u) j ≡ is_quiet es j u) → ArePutInOrder ns ms → Keeps ms ds cut old new → AreAsked es from i ds → AreKept es from old → AreKept fs cut new
+kept_to es fs from i cut ns ms ds old new agree since upto keys quiet order keeps h before = ⊎_elim none some keeps
+  where
+    old_kept : All (IsKept fs cut) old
+    old_kept k s below = kept_agree es fs from cut (get_or old k s) agree since (before.kept k s below)
 
--- ---- where a stretch begins and ends
+    asked_before : (j : ℕ) → j < cut → 0 < needs_at fs j → (list_any (λ (s : Stretch). is_asked s.demands.items j) old ≡ true) ⊎ (is_asked (demands_to cut ds) j ≡ true)
+    asked_before j lt asks =
+        let same = ap needs_of (agree j lt) in
+        ⊎_elim
+        (λ early. inl (before.asked j early (omega (arith, asks, same))))
+        (λ late. inr (asked_to cut j ds lt ∙ h.asked j late (omega (arith, lt, upto)) (omega (arith, asks, same))))
+        (cases_lt j from)
 
-pub asked_first : (es : List Entry) → AreAsked es 0 [] [] []
-asked_first es = record {
-  from = 0;
-  quiet = tells_first es;
-  demands = λ k d below. absurd (omega (arith, below));
-  found = λ k d below. absurd (omega (arith, below));
-  met = λ j below some. absurd (omega (arith, below));
+    few_before : sum_by (λ (s : Stretch). asked_by s.demands.items) old + asked_by (demands_to cut ds) ≤ all_needs (take cut fs)
+    few_before =
+        let few = before.few in
+        let more = h.few cut since upto in
+        let same = needs_agree cut fs es agree in
+        omega (arith, few, more, same)
+
+    early : All (λ (d : Demand). d.at < cut) (demands_to cut ds)
+    early k d below = lt_from _ _ (filter_passes (λ (x : Demand). nat_lt x.at cut) ds k d below)
+
+    told : All (IsDemandBy fs ms) (demands_to cut ds)
+    told k d below =
+        let x = get_or (demands_to cut ds) k d in
+        let it = All-filter (λ (y : Demand). nat_lt y.at cut) (IsDemand es from i) ds h.demands k d below in
+        let before = it.before in
+        demand_agrees es fs cut ms x agree (early k d below)
+        (demand_by es i ms x (λ u w. order.quiet (mirror u) x.at ∙ quiet x.at u it.since (omega (arith, before)) w) from it)
+
+    none : (new ≡ old) × (demands_to cut ds ≡ []) → AreKept fs cut new
+    none w = subst (AreKept fs cut) (sym w.0) (record {
+      kept = old_kept;
+      asked = λ j lt asks. ⊎_elim (λ a. a) (λ b. absurd (false≢true (ap (λ xs. is_asked xs j) (sym w.1) ∙ b))) (asked_before j lt asks);
+      few = let few = few_before in omega (arith, few);
+    })
+
+    some : (s : Stretch) × (new ≡ old ++ s ∷ []) × (s.names.items ≡ ms) × IsPermutation (demands_to cut ds) s.demands.items → AreKept fs cut new
+    some w = subst (AreKept fs cut) (sym w.1) (record {
+      kept = All-push (IsKept fs cut) old w.0 old_kept (record {
+        order = subst AreInOrder (sym w.2) order.order;
+        keys = subst HaveKeys (sym w.2) (order.keys keys);
+        places = All-permutation (λ (d : Demand). d.at < cut) (demands_to cut ds) w.0.demands.items w.3 early;
+        demands = subst (λ xs. All (IsDemandBy fs xs) w.0.demands.items) (sym w.2) (All-permutation (IsDemandBy fs ms) (demands_to cut ds) w.0.demands.items w.3 told);
+      });
+      asked = λ j lt asks.
+          list_any-append (λ (s : Stretch). is_asked s.demands.items j) old (w.0 ∷ [])
+          ∙ ⊎_elim
+          (λ a. or_left _ _ a)
+          (λ b. or_right _ _ (or_left _ _ (sym (list_any-IsPermutation (λ (d : Demand). d.at == j) (demands_to cut ds) w.0.demands.items w.3) ∙ b)))
+          (asked_before j lt asks);
+      few =
+          let few = few_before in
+          let sum = sum_by_push (λ (s : Stretch). asked_by s.demands.items) old w.0 in
+          let same = sum_by-IsPermutation (λ (d : Demand). d.need) (demands_to cut ds) w.0.demands.items w.3 in
+          omega (arith, few, sum, same);
+    })
+
+pub kept_in_order : (es : List Entry) (i : ℕ) (ss : List Stretch) → AreKept es i ss → All IsInOrder ss
+kept_in_order es i ss h k s below = let it = h.kept k s below in record { order = it.order; keys = it.keys }
+
+-- ---- what meets them
+
+-- what is found for the demands of the first k stretches
+pub record AreFoundTo (es : List Entry) (ss : List Stretch) (k : ℕ) (fs : List Found) : Type 0 where
+  pub found : All (IsFound es) fs
+  pub met : (j : ℕ) (s : Stretch) → j < k → All (λ (d : Demand). Any (λ (f : Found). Meets es f d.at) fs) (get_or ss j s).demands.items
+  pub few : sum_by (λ (f : Found). f.need) fs ≤ sum_by (λ (s : Stretch). asked_by s.demands.items) (take k ss)
+
+pub found_first : (es : List Entry) (ss : List Stretch) → AreFoundTo es ss 0 []
+found_first es ss = record {
+  found = λ k f below. absurd (omega (arith, below));
+  met = λ j s below. absurd (omega (arith, below));
   few = omega arith;
 }
 
--- the slots before are met
-met_before : (es : List Entry) (i : ℕ) (ns : List Name) (ds : List Demand) (old new : List Found) → AreAsked es i ns ds old → AreMet es ds old new → (j : ℕ) → j < i → 0 < needs_at es j → Any (λ (f : Found). Meets es f j) new
-met_before es i ns ds old new h m j below some =
-    ⊎_elim
-    (λ f. m.kept j f)
-    (λ w. subst (λ n. Any (λ (f : Found). Meets es f n) new) (ap (λ (d : Demand). d.at) w.3 ∙ w.4) (m.met w.0 w.1 w.2))
-    (h.met j below some)
-
--- a field cycle, once what was gathered is met
-pub asked_anew : (es : List Entry) (i : ℕ) (ns ms : List Name) (ds cs : List Demand) (old new : List Found) (e : Entry) → slice_get es i ≡ Some e → e ≡ FieldCycle → ms ≡ [] → cs ≡ [] → AreMet es ds old new → AreAsked es i ns ds old → AreAsked es (i + 1) ms cs new
-asked_anew es i ns ms ds cs old new e k is none empty m h = subst (λ xs. AreAsked es (i + 1) ms xs new) (sym empty) (record {
-  from = i + 1;
-  quiet = tells_anew es i ms e k is none;
-  demands = λ j d below. absurd (omega (arith, below));
+pub found_more : (es : List Entry) (ss : List Stretch) (k : ℕ) (s : Stretch) (ds : List Demand) (old new : List Found) → k < length ss → s ≡ get_or ss k s → ds ≡ s.demands.items → AreMet es ds old new → AreFoundTo es ss k old → AreFoundTo es ss (k + 1) new
+found_more es ss k s ds old new below is all m h = record {
   found = m.found h.found;
-  met = λ j lt some.
+  met = λ j t lt.
       ⊎_elim
-      (λ here. absurd (let zero = ap needs_of k ∙ ap needs is in let at = ap (needs_at es) here in omega (arith, some, at, zero)))
-      (λ ne. inl (met_before es i ns ds old new h m j (omega (arith, lt, ne)) some))
-      (cases_eq j i);
-  few = let few = h.few in let more = m.few in let part = needs_more es i e k in omega (arith, few, more, part);
-})
+      (λ here. subst (λ xs. All (λ (d : Demand). Any (λ (f : Found). Meets es f d.at) new) xs) (all ∙ (ap (λ (x : Stretch). x.demands.items) (is ∙ get_or_default ss k s t below) ∙ ap (λ n. (get_or ss n t).demands.items) (sym here))) m.met)
+      (λ ne n d inside. m.kept (get_or (get_or ss j t).demands.items n d).at (h.met j t (omega (arith, lt, ne)) n d inside))
+      (cases_eq j k);
+  few =
+      let before = h.few in
+      let few = m.few in
+      let more = sum_by_more (λ (x : Stretch). asked_by x.demands.items) ss k s below in
+      let here = ap (λ (x : Stretch). asked_by x.demands.items) is in
+      let same = ap asked_by all in
+      omega (arith, before, few, more, here, same);
+}
 
 needs_within : (es : List Entry) (j : ℕ) → 0 < needs_at es j → j < length es
 needs_within es j some = go (slice_get es j) refl
@@ -351,10 +510,22 @@ needs_within es j some = go (slice_get es j) refl
     go (Some e) k = slice_get_within es j e k
     go None k = absurd (let none = ap needs_of k in omega (arith, some, none))
 
--- the last line, once what was gathered is met
-pub found_all : (es : List Entry) (i : ℕ) (ns : List Name) (ds : List Demand) (old new : List Found) → i ≡ length es → AreMet es ds old new → AreAsked es i ns ds old → AreFound es new
-found_all es i ns ds old new end m h = record {
-  found = m.found h.found;
-  met = λ j some. met_before es i ns ds old new h m j (let within = needs_within es j some in omega (arith, end, within)) some;
-  few = let few = h.few in let more = m.few in let part = sum_by-take-le needs es i in omega (arith, few, more, part);
+-- all of them
+pub found_all : (es : List Entry) (ss : List Stretch) (k : ℕ) (fs : List Found) → k ≡ length ss → AreKept es (length es) ss → AreFoundTo es ss k fs → AreFound es fs
+found_all es ss k fs end kept h = record {
+  found = h.found;
+  met = λ j some.
+      let w = Any-from_list_any (λ (s : Stretch). is_asked s.demands.items j) ss (kept.asked j (needs_within es j some) some) in
+      let v = Any-from_list_any (λ (d : Demand). d.at == j) w.1.demands.items w.4 in
+      let below = w.2 in
+      let place : v.1.at ≡ j = eqb-true v.1.at j v.4 in
+      let inside = subst (λ (s : Stretch). v.0 < length s.demands.items) (sym w.3) v.2 in
+      let met = h.met w.0 w.1 (omega (arith, end, below)) v.0 v.1 inside in
+      subst (λ n. Any (λ (f : Found). Meets es f n) fs) place (subst (λ (d : Demand). Any (λ (f : Found). Meets es f d.at) fs) (ap (λ (s : Stretch). get_or s.demands.items v.0 v.1) w.3 ∙ v.3) met);
+  few =
+      let few = h.few in
+      let part = sum_by-take-le (λ (s : Stretch). asked_by s.demands.items) ss k in
+      let all = kept.few in
+      let whole = sum_by-take-le needs es (length es) in
+      omega (arith, few, part, all, whole);
 }

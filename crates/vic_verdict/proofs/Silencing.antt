@@ -1,92 +1,31 @@
 -- What the Stay Quiets since the last field cycle tell, from place to place.
-use Rattle.std.proofs.Common.{◌≡◌, ℕ, ◌+◌, ◌-◌, ◌<◌, ◌≤◌, ◌==◌, ◌++◌, ◌^◌, List, [], ◌∷◌, length, take, get_or, nat_eq, Bool, true, false, ◌&&◌, ◌||◌, Some, refl, sym, ap, ◌∙◌, subst, arith, inl, ⊎_elim}
-use Rattle.std.specs.Prelude.{nat_lt, slice_get}
+use Rattle.std.proofs.Common.{◌≡◌, ℕ, ◌+◌, ◌-◌, ◌<◌, ◌≤◌, ◌==◌, ◌++◌, ◌^◌, List, [], ◌∷◌, length, take, get_or, nat_eq, Bool, true, false, ◌&&◌, ◌||◌, refl, sym, ap, ◌∙◌, subst, arith, ⊎_elim}
+use Rattle.std.specs.Prelude.{nat_lt}
 use Rattle.std.specs.List.{All}
 use Rattle.std.specs.List.Sorted.{IsNonDecreasing, IsPermutation}
-use Rattle.std.proofs.lemmas.Bool.{cases_eq, and_parts, and_from, or_cases, or_left, or_right, false≢true}
+use Rattle.std.proofs.lemmas.Bool.{and_parts, and_from, or_cases, or_left, or_right, false≢true}
 use Rattle.std.proofs.lemmas.Bool.Decides.{nat_tests}
 use Rattle.std.proofs.lemmas.List.Elements.{All-push}
 use Rattle.std.proofs.lemmas.List.Sorted.{All-permutation, IsNonDecreasingBy-push, list_any-IsPermutation}
 use Rattle.std.proofs.lemmas.List.Folds.{list_any-append, list_any_more}
-use Rattle.vic_frame.specs.Uids.{IsUid, has}
-use Rattle.vic_frame.specs.LowBitsFirst.{mirror}
+use Rattle.vic_frame.specs.Uids.{has}
 use Rattle.vic_tree.specs.OpenSet.{AreKeys}
-use Rattle.vic_log.specs.declared.entry.Entry.{Entry}
-use Rattle.vic_log.specs.declared.entry.Entry.TheVariants.{FieldCycle}
-use Rattle.vic_log.specs.Quiet.{silences, wakes, is_quiet}
 use Rattle.vic_verdict.specs.declared.names.Name.{Name}
-use Rattle.vic_verdict.specs.Sweep.{AreInOrder, HaveKeys, quiet_of, is_silenced}
-use Rattle.vic_verdict.proofs.Sweeping.{nobody}
-use Rattle.vic_verdict.specs.Silenced.{TellsQuiet}
-use Rattle.vic_verdict.proofs.Stretching.{silenced_next, silenced_after, quiet_named, quiet_next, still_quiet}
+use Rattle.vic_verdict.specs.Sweep.{AreInOrder, HaveKeys, keep_all, quiet_of, is_silenced}
+use Rattle.vic_verdict.proofs.Sweeping.{nobody, keep-order, keep-keys, keep-quiet}
+use Rattle.vic_verdict.specs.Silenced.{ArePutInOrder}
 use Rattle.vic_tree.proofs.BoolLaws.{lt_yes}
-
-placed_next : (i : ℕ) (ns : List Name) → All (λ (n : Name). quiet_of n < i) ns → All (λ (n : Name). quiet_of n < i + 1) ns
-placed_next i ns h k d below = let lt = h k d below in omega (arith, lt)
-
--- at the place after i the names tell what they tell at i, if nothing is added
-tells_next : (es : List Entry) (from i u : ℕ) (ns : List Name) → TellsQuiet es from i ns → IsUid u → is_silenced ns (mirror u) (i + 1) ≡ is_quiet es i u
-tells_next es from i u ns t w =
-    silenced_next ns (mirror u) i (λ k d below. inl (t.names k d below)) ∙ t.quiet i u t.begun (omega arith) w
-
--- up to place i as before, and at the next place
-tells_with : (es : List Entry) (from i : ℕ) (ns ms : List Name) → HaveKeys ms → All (λ (n : Name). quiet_of n < i + 1) ms → ((j u : ℕ) → j ≤ i → is_silenced ms (mirror u) j ≡ is_silenced ns (mirror u) j) → ((u : ℕ) → IsUid u → is_silenced ms (mirror u) (i + 1) ≡ is_quiet es (i + 1) u) → TellsQuiet es from i ns → TellsQuiet es from (i + 1) ms
-tells_with es from i ns ms keys names same next t = record {
-  begun = let b = t.begun in omega (arith, b);
-  keys = keys;
-  names = names;
-  quiet = λ j u since upto w.
-      ⊎_elim
-      (λ e. subst (λ n. is_silenced ms (mirror u) n ≡ is_quiet es n u) (sym e) (next u w))
-      (λ ne. same j u (omega (arith, upto, ne)) ∙ t.quiet j u since (omega (arith, upto, ne)) w)
-      (cases_eq j (i + 1));
-}
-
--- an entry that silences and wakes nobody
-pub tells_passed : (es : List Entry) (from i : ℕ) (ns : List Name) (e : Entry) → slice_get es i ≡ Some e → wakes (Some e) ≡ false → ((u : ℕ) → IsUid u → silences (Some e) u ≡ false) → TellsQuiet es from i ns → TellsQuiet es from (i + 1) ns
-tells_passed es from i ns e k awake none t =
-    tells_with es from i ns ns t.keys (placed_next i ns t.names) (λ j u le. refl)
-    (λ u w. tells_next es from i u ns t w ∙ (still_quiet _ _ (is_quiet es i u) (none u w) awake ∙ sym (quiet_next es i u e k))) t
-
--- a Stay Quiet
-pub tells_silenced : (es : List Entry) (from i : ℕ) (ns ms : List Name) (e : Entry) (n : Name) → slice_get es i ≡ Some e → wakes (Some e) ≡ false → ((u : ℕ) → IsUid u → silences (Some e) u ≡ (n.key == mirror u)) → n.key < 2 ^ 56 → quiet_of n ≡ i → ms ≡ ns ++ n ∷ [] → TellsQuiet es from i ns → TellsQuiet es from (i + 1) ms
-tells_silenced es from i ns ms e n k awake one key at is t =
-    subst (TellsQuiet es from (i + 1)) (sym is)
-    (tells_with es from i ns (ns ++ n ∷ [])
-    (All-push (λ (m : Name). m.key < 2 ^ 56) ns n t.keys key)
-    (All-push (λ (m : Name). quiet_of m < i + 1) ns n (placed_next i ns t.names) (omega (arith, at)))
-    (λ j u le. silenced_after ns n (mirror u) j (omega (arith, le, at)))
-    (λ u w. quiet_named es i u e ns n k awake (one u w) at (tells_next es from i u ns t w)) t)
-
--- before the first entry
-pub tells_first : (es : List Entry) → TellsQuiet es 0 0 []
-tells_first es = record {
-  begun = omega arith;
-  keys = λ k d below. absurd (omega (arith, below));
-  names = λ k d below. absurd (omega (arith, below));
-  quiet = λ j u since upto w. subst (λ n. false ≡ is_quiet es n u) (let e : 0 ≡ j = omega (arith, upto) in e) refl;
-}
-
--- after a field cycle
-pub tells_anew : (es : List Entry) (i : ℕ) (ms : List Name) (e : Entry) → slice_get es i ≡ Some e → e ≡ FieldCycle → ms ≡ [] → TellsQuiet es (i + 1) (i + 1) ms
-tells_anew es i ms e k is none = subst (TellsQuiet es (i + 1) (i + 1)) (sym none) (record {
-  begun = omega arith;
-  keys = λ j d below. absurd (omega (arith, below));
-  names = λ j d below. absurd (omega (arith, below));
-  quiet = λ j u since upto w. subst (λ n. false ≡ is_quiet es n u) (let e : i + 1 ≡ j = omega (arith, since, upto) in e) (sym (quiet_next es i u FieldCycle (k ∙ ap (λ x. Some x) is)));
-})
 
 pub silenced_permuted : (ns ms : List Name) (k i : ℕ) → IsPermutation ns ms → is_silenced ms k i ≡ is_silenced ns k i
 silenced_permuted ns ms k i m = sym (list_any-IsPermutation (λ (n : Name). (n.key == k) && nat_lt (quiet_of n) i) ns ms m)
 
--- in another order
-pub tells_permuted : (es : List Entry) (from i : ℕ) (ns ms : List Name) → IsPermutation ns ms → TellsQuiet es from i ns → TellsQuiet es from i ms
-tells_permuted es from i ns ms m t = record {
-  begun = t.begun;
-  keys = All-permutation (λ (n : Name). n.key < 2 ^ 56) ns ms m t.keys;
-  names = All-permutation (λ (n : Name). quiet_of n < i) ns ms m t.names;
-  quiet = λ j u since upto w. silenced_permuted ns ms (mirror u) j m ∙ t.quiet j u since upto w;
-}
+-- sorted, and some of them ruled out
+pub put_in_order : (p : ℕ → ℕ → Bool) (ns sorted new : List Name) → IsPermutation ns sorted → AreInOrder sorted → new ≡ keep_all p sorted → ArePutInOrder ns new
+put_in_order p ns sorted new m order is = subst (ArePutInOrder ns) (sym is) (record {
+  order = keep-order p sorted order;
+  keys = λ h. keep-keys p sorted (All-permutation (λ (n : Name). n.key < 2 ^ 56) ns sorted m h);
+  quiet = λ k i. keep-quiet p sorted k i ∙ silenced_permuted ns sorted k i m;
+})
 
 lt_more : (q i j : ℕ) → i ≤ j → nat_lt q i ≡ true → nat_lt q j ≡ true
 lt_more q i j le e = grind (arith, nat_tests)

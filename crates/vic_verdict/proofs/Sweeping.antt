@@ -1,5 +1,5 @@
 -- What the slots between two field cycles leave, name by name.
-use Rattle.std.proofs.Common.{◌≡◌, ℕ, zero, suc, ◌+◌, ◌-◌, ◌<◌, ◌≤◌, ◌==◌, List, [], ◌∷◌, length, take, filter, cond, get_or, set, Bool, true, false, not, ◌&&◌, ◌||◌, Option, Some, None, refl, sym, ap, ◌∙◌, subst, arith, add-one, ◌++◌, ⊎_elim}
+use Rattle.std.proofs.Common.{◌≡◌, ℕ, zero, suc, ◌+◌, ◌-◌, ◌<◌, ◌≤◌, ◌==◌, List, [], ◌∷◌, length, take, filter, cond, get_or, set, Bool, true, false, not, ◌&&◌, ◌||◌, Option, Some, None, refl, sym, ap, ◌∙◌, subst, arith, add-one, ◌++◌, ⊎_elim, ◌^◌}
 use Rattle.std.specs.Prelude.{nat_le, nat_lt}
 use Rattle.std.specs.List.{list_all, list_any}
 use Rattle.std.proofs.lemmas.Bool.{ne_eqb, cases_eq, cases_lt, false≢true, and_parts, and_from, or_cases, or_left, or_right, eqb-true}
@@ -10,7 +10,7 @@ use Rattle.vic_verdict.specs.declared.names.Name.{Name}
 use Rattle.vic_verdict.specs.declared.closed.Spot.{Spot}
 use Rattle.vic_verdict.specs.declared.sweep.Level.{Level}
 use Rattle.vic_verdict.specs.declared.sweep.Run.{Run}
-use Rattle.vic_verdict.specs.Sweep.{quiet_of, first_of, last_of, heard_of, is_heard, slot_leaves, is_between, is_in, spot_leaves, all_leave, level_leaves, mask_leaves, run_leaves, keep, keep_all, has_where, has_left, is_silenced, spot_allows, all_allow, all_allow_to, is_named, is_named_if, hears_named, all_hear_named, are_left, AreInOrder, IsStart}
+use Rattle.vic_verdict.specs.Sweep.{quiet_of, first_of, last_of, heard_of, is_heard, slot_leaves, is_between, is_in, spot_leaves, all_leave, level_leaves, mask_leaves, run_leaves, keep, keep_all, has_where, has_left, is_silenced, spot_allows, all_allow, all_allow_to, is_named, is_named_if, hears_named, all_hear_named, are_left, AreInOrder, IsStart, HaveKeys}
 use Rattle.std.specs.List.Sorted.{IsPermutation}
 use Rattle.std.proofs.lemmas.List.Sorted.{list_any-IsPermutation}
 use Rattle.std.proofs.Math.Seq.{take-append_seam}
@@ -52,6 +52,15 @@ keep-order p ns up i j d le below =
     let b = ap (λ (n : Name). n.key) (get_or-map (keep p) ns j d d short) in
     let h = up i j d le short in
     omega (arith, a, b, h)
+
+pub keep-keys : (p : ℕ → ℕ → Bool) (ns : List Name) → HaveKeys ns → HaveKeys (keep_all p ns)
+keep-keys p ns h k d below =
+    let short : k < length ns = subst (λ m. k < m) (keep-length p ns) below in
+    subst (λ (n : Name). n.key < 2 ^ 56) (sym (get_or-map (keep p) ns k d d short)) (h k d short)
+
+pub keep-quiet : (p : ℕ → ℕ → Bool) (ns : List Name) (k i : ℕ) → is_silenced (keep_all p ns) k i ≡ is_silenced ns k i
+keep-quiet p [] k i = refl
+keep-quiet p (n ∷ ns) k i = ap (λ b. ((n.key == k) && nat_lt (quiet_of n) i) || b) (keep-quiet p ns k i)
 
 -- ---- a mask rules names out
 

@@ -1,20 +1,22 @@
 -- What the slot lines of a log ask for, and which open UIDs meet it.
-use Rattle.std.specs.Prelude.{◌≡◌, ◌↔◌, ◌⊎◌, ℕ, ◌+◌, ◌<◌, ◌≤◌, Bool, true, not, ◌&&◌, Option, Some, None, List, length, take, slice_get, slice_index_or}
-use Rattle.std.specs.List.{All, Any, sum_by}
-use Rattle.vic_frame.specs.Uids.{is_uid, has}
+use Rattle.std.specs.Prelude.{◌≡◌, ◌==◌, ◌↔◌, ◌⊎◌, ℕ, ◌+◌, ◌<◌, ◌≤◌, Bool, true, not, ◌&&◌, Option, Some, None, List, [], ◌∷◌, ◌++◌, length, take, nat_lt, slice_get, slice_index_or}
+use Rattle.std.specs.List.{filter, All, Any, list_any, sum_by}
+use Rattle.std.specs.List.Sorted.{IsPermutation}
+use Rattle.vic_frame.specs.Uids.{IsUid, is_uid, has}
 use Rattle.vic_frame.specs.Replies.{Reply}
 use Rattle.vic_tree.specs.OpenSet.{UpToThree}
 use Rattle.vic_log.specs.declared.entry.Entry.{Entry}
 use Rattle.vic_log.specs.declared.entry.Entry.TheVariants.{Sent, Silent, Collision, Heard, Listed, Garbled, FieldCycle}
 use Rattle.vic_frame.specs.LowBitsFirst.{mirror}
 use Rattle.vic_log.specs.Rounds.{mask_at, lies_in_some}
+use Rattle.vic_log.specs.Populations.{answers_at}
 use Rattle.vic_log.specs.Slots.{slots_of, is_open}
 use Rattle.vic_verdict.specs.declared.demands.Found.{Found}
 use Rattle.vic_verdict.specs.declared.demands.Met.{Met}
 use Rattle.vic_verdict.specs.declared.demands.Demand.{Demand}
+use Rattle.vic_verdict.specs.declared.demands.Stretch.{Stretch}
 use Rattle.vic_verdict.specs.declared.names.Name.{Name}
-use Rattle.vic_verdict.specs.Silenced.{TellsQuiet}
-use Rattle.vic_verdict.specs.Sweep.{is_silenced}
+use Rattle.vic_verdict.specs.Sweep.{AreInOrder, HaveKeys, is_silenced}
 use Rattle.vic_verdict.specs.Places.{answering}
 
 -- how many tags answered in a slot, at least, that its line doesn't name
@@ -102,6 +104,12 @@ pub record IsDemand (es : List Entry) (from i : ℕ) (d : Demand) : Type 0 where
 abbrev pub is_ready : List Name → Demand → ℕ → Bool
 is_ready ns d u = lies_in_some d.mask u && not (is_silenced ns (mirror u) d.at)
 
+-- the demand is that of a slot line, and the names tell who answers there
+pub record IsDemandBy (es : List Entry) (ns : List Name) (d : Demand) : Type 0 where
+  pub asked : 0 < d.need
+  pub need : needs_at es d.at ≡ d.need
+  pub answers : (u : ℕ) → IsUid u → is_ready ns d u ≡ answers_at es d.at u
+
 -- fewer UIDs of a set answer in the slot than it asks for, by the names
 abbrev pub IsUnmet : (ℕ → Bool) → List Name → Demand → Type 0
 IsUnmet set ns d = (us : List ℕ) × (length us < d.need)
@@ -130,15 +138,49 @@ pub record AreMet (es : List Entry) (ds : List Demand) (old new : List Found) : 
   pub few : sum_by (λ (f : Found). f.need) new
       ≤ sum_by (λ (f : Found). f.need) old + sum_by (λ (d : Demand). d.need) ds
 
--- the names and the demands of the entries since the last field cycle before place i, and what
--- meets the slots before
-pub record AreAsked (es : List Entry) (i : ℕ) (ns : List Name) (ds : List Demand)
-    (fs : List Found) : Type 0 where
-  pub from : ℕ
-  pub quiet : TellsQuiet es from i ns
+-- the demands before place i
+abbrev pub demands_to : ℕ → List Demand → List Demand
+demands_to i ds = filter (λ (d : Demand). nat_lt d.at i) ds
+
+-- some demand is that of place i
+abbrev pub is_asked : List Demand → ℕ → Bool
+is_asked ds i = list_any (λ (d : Demand). d.at == i) ds
+
+-- how many tags demands ask for
+abbrev pub asked_by : List Demand → ℕ
+asked_by ds = sum_by (λ (d : Demand). d.need) ds
+
+-- the demands of the entries from a place on, behind the last field cycle, up to place i
+pub record AreAsked (es : List Entry) (from i : ℕ) (ds : List Demand) : Type 0 where
   pub demands : All (IsDemand es from i) ds
-  pub found : All (IsFound es) fs
-  pub met : (j : ℕ) → j < i → 0 < needs_at es j
-      → Any (λ (f : Found). Meets es f j) fs ⊎ Any (λ (d : Demand). d.at ≡ j) ds
-  pub few : sum_by (λ (f : Found). f.need) fs + sum_by (λ (d : Demand). d.need) ds
-      ≤ all_needs (take i es)
+  pub asked : (j : ℕ) → from ≤ j → j < i → 0 < needs_at es j → is_asked ds j ≡ true
+  pub few : (j : ℕ) → from ≤ j → j ≤ i
+      → all_needs (take from es) + asked_by (demands_to j ds) ≤ all_needs (take j es)
+
+-- the names of a stretch stand in order, and tell who answers in the slots of its demands, all before
+-- place i
+pub record IsKept (es : List Entry) (i : ℕ) (s : Stretch) : Type 0 where
+  pub order : AreInOrder s.names.items
+  pub keys : HaveKeys s.names.items
+  pub places : All (λ (d : Demand). d.at < i) s.demands.items
+  pub demands : All (IsDemandBy es s.names.items) s.demands.items
+
+-- the stretches have the demands of the entries up to place i
+pub record AreKept (es : List Entry) (i : ℕ) (ss : List Stretch) : Type 0 where
+  pub kept : All (IsKept es i) ss
+  pub asked : (j : ℕ) → j < i → 0 < needs_at es j
+      → list_any (λ (s : Stretch). is_asked s.demands.items j) ss ≡ true
+  pub few : sum_by (λ (s : Stretch). asked_by s.demands.items) ss ≤ all_needs (take i es)
+
+-- the names of a stretch are keys in order
+pub record IsInOrder (s : Stretch) : Type 0 where
+  pub order : AreInOrder s.names.items
+  pub keys : HaveKeys s.names.items
+
+-- the list has a stretch more, of these names and of the demands before place i, unless there are
+-- no such demands
+abbrev pub Keeps : List Name → List Demand → ℕ → List Stretch → List Stretch → Type 0
+Keeps ns ds i old new =
+    ((new ≡ old) × (demands_to i ds ≡ []))
+    ⊎ ((s : Stretch) × (new ≡ old ++ s ∷ []) × (s.names.items ≡ ns)
+    × IsPermutation (demands_to i ds) s.demands.items)

@@ -5,6 +5,7 @@ use Rattle.vic_frame.specs.Uids.{IsUid}
 use Rattle.vic_frame.specs.Masks.{BitMask}
 use Rattle.vic_frame.specs.LowBitsFirst.{mirror}
 use Rattle.vic_tree.specs.OpenSet.{SameUids}
+use Rattle.vic_tree.specs.Ranges.{is_outside}
 use Rattle.vic_log.specs.declared.entry.Entry.{Entry}
 use Rattle.vic_log.specs.Rounds.{lies_in_some}
 use Rattle.vic_log.specs.Quiet.{is_quiet}
@@ -12,9 +13,12 @@ use Rattle.vic_log.specs.declared.entry.LogLine.{LogLine}
 use Rattle.vic_log.specs.Order.{entries}
 use Rattle.vic_log.specs.Slots.{slots_before, slots_of, is_open}
 use Rattle.vic_verdict.specs.Possible.{IsContradictedAt}
-use Rattle.vic_verdict.specs.Replies.{RepliesAnswer}
+use Rattle.vic_verdict.specs.Replies.{AreHeard, RepliesAnswer}
 use Rattle.vic_verdict.specs.declared.names.Name.{Name}
 use Rattle.vic_verdict.specs.declared.closed.Spot.{Spot}
+use Rattle.vic_verdict.specs.declared.stretches.Settled.{Settled}
+use Rattle.vic_verdict.specs.declared.demands.Demand.{Demand}
+use Rattle.vic_verdict.specs.Demands.{AreAsked, AreKept}
 use Rattle.vic_verdict.specs.Sweep.{HasRange, HaveKeys, are_left, is_named_if, all_hear_named, is_silenced, is_heard, all_allow, all_allow_to}
 
 -- the UID may be there by a slot of this mask, at a place, that heard this key or nobody
@@ -56,6 +60,13 @@ pub record IsStretch (es : List Entry) (from i : ℕ) (set : ℕ → Bool) (ns :
   pub before : (j : ℕ) → from ≤ j → j < i
       → SameUids (λ u. set u && all_allow_to ns ss j (mirror u)) (is_open (slots_before es j))
 
+-- all that is gathered of them: what they tell is open, who was heard, and what they ask for
+pub record HasGathered (es : List Entry) (from i : ℕ) (set : ℕ → Bool) (ns : List Name)
+    (ss : List Spot) (ds : List Demand) : Type 0 where
+  pub stretch : IsStretch es from i set ns ss
+  pub heard : AreHeard es from i ns
+  pub asked : AreAsked es from i ds
+
 -- a set is what the first lines of a log leave open, and their replies answer. The line after them,
 -- if there is one, makes the log impossible
 pub record IsOpenTo (lines : List LogLine) (set : ℕ → Bool) (cut : ℕ) : Type 0 where
@@ -63,3 +74,8 @@ pub record IsOpenTo (lines : List LogLine) (set : ℕ → Bool) (cut : ℕ) : Ty
   pub answer : RepliesAnswer (entries (take cut lines))
   pub uids : SameUids set (is_open (slots_of (entries (take cut lines))))
   pub beyond : cut < length lines → IsContradictedAt (entries lines) cut
+
+-- what is settled is open up to the cut, and the stretches ask for what is asked for there
+pub record IsSettled (lines : List LogLine) (s : Settled) : Type 0 where
+  pub uids : IsOpenTo lines (is_outside s.closed.items) s.cut
+  pub kept : AreKept (entries (take s.cut lines)) s.cut s.stretches.items

@@ -4,27 +4,23 @@
 //! Between two field cycles tags only fall silent. So whoever answers in the last of some slots of
 //! one mask answered in the earlier ones too, and that one alone has to be looked at.
 
-ghost use Rattle.std.specs.Prelude.{◌≡◌, ◌≢◌, ◌≤◌, ℕ, ◌+◌, ◌^◌, ◌<◌, ◌&&◌, ◌++◌, ◌∷◌, [], true, Some, None, IfSome, List, IfOk, OnOk, slice_get, length};
+ghost use Rattle.std.specs.Prelude.{◌≡◌, ◌≢◌, ◌≤◌, ℕ, ◌+◌, ◌^◌, ◌<◌, ◌&&◌, ◌++◌, ◌∷◌, [], true, Some, None, IfSome, List, IfOk, OnOk, MatchResult, length};
 ghost use Rattle.std.specs.List.{All};
 ghost use Rattle.vic_frame.specs.Uids.{is_uid};
 ghost use Rattle.vic_tree.specs.OpenSet.{SameUids, UpToThree};
 ghost use Rattle.vic_log.specs.declared.entry.Entry.{Entry as EntryValue};
-ghost use Rattle.vic_log.specs.declared.entry.Entry.TheVariants.{FieldCycle};
-ghost use Rattle.vic_log.specs.Rounds.{mask_at};
 ghost use Rattle.vic_log.specs.Slots.{slots_of, is_open};
 ghost use Rattle.vic_verdict.specs.declared.demands.Found.{Found as FoundValue};
 ghost use Rattle.vic_verdict.specs.Possible.{Lacks};
 ghost use Rattle.vic_verdict.specs.Sweep.{AreInOrder, HaveKeys};
-ghost use Rattle.vic_verdict.specs.Silenced.{TellsQuiet};
-ghost use Rattle.vic_verdict.specs.Demands.{IsDemand, is_ready, IsUnmet, IsUnmetAt, IsAskedAgain, AreAsked, AreMet};
+ghost use Rattle.vic_verdict.specs.Demands.{IsDemandBy, is_ready, IsUnmet, IsUnmetAt, IsAskedAgain, AreFound, AreKept, AreMet, IsInOrder, Keeps};
 
 use crate::names::{Name, is_any_silenced, silenced_between};
-use crate::stretches::note_sent;
 use arrayvec::ArrayVec;
 use std::alloc::{AllocError, Global};
+use std::mem::replace;
 use vic_frame::low_bits_first::key_range;
 use vic_frame::{Mask, Uid, without_top_byte};
-use vic_log::Entry;
 use vic_tree::OpenSet;
 
 /// What the slots of a possible log ask for, met by its open UIDs.
@@ -63,7 +59,7 @@ pub(crate) struct Demand {
 }
 
 /// Adds a slot.
-fn push_demand(
+pub(crate) fn push_demand(
     demands: &mut Vec<Demand>,
     mask: &Option<Mask>,
     need: usize,
@@ -93,27 +89,35 @@ fn first_key(mask: &Mask) -> u64 {
     }
 }
 
-/// Gathers whom an entry silences, or what its slot asks for. It isn't a field cycle.
-pub(crate) fn note_asked(
+/// What the slots of a stretch ask for, the lines between two field cycles, until the UIDs are known
+/// that the log leaves open.
+#[derive(Drop)]
+pub(crate) struct Stretch {
+    /// Whom its lines name, in the order of keys.
+    pub names: Vec<Name>,
+    pub demands: Vec<Demand>,
+}
+
+/// Keeps what the slots of a stretch ask for before a place, if they ask for anything.
+pub(crate) fn keep_stretch(
+    alloc: Global,
+    stretches: &mut Vec<Stretch>,
     names: &mut Vec<Name>,
     demands: &mut Vec<Demand>,
-    mask: &Option<Mask>,
-    index: usize,
-    entry: &Entry,
+    cut: usize,
 ) -> Result<(), AllocError>
-    requires { index < 2 ^ 32 }
-    ensures { OnOk result ((es : List EntryValue) (found : List FoundValue)
-        → slice_get es index ≡ Some entry.now → mask.now ≡ mask_at es index
-        → entry.now ≢ FieldCycle
-        → AreAsked es index names.old.items demands.old.items found
-        → AreAsked es (index + 1) names.new.items demands.new.items found) }
+    ensures { OnOk result (Keeps names.old.items demands.old.items cut
+        stretches.old.items stretches.new.items) }
 {
-    match *entry {
-        Entry::Sent(request) => note_sent(names, &request, index),
-        Entry::Collision => push_demand(demands, mask, 2, index),
-        Entry::Garbled => push_demand(demands, mask, 1, index),
-        Entry::Silent | Entry::Heard(_) | Entry::Listed(_) | Entry::FieldCycle => Ok(()),
+    demands.retain(|demand| demand.at < cut);
+    if !demands.is_empty() {
+        demands.sort_unstable();
+        stretches.push(Stretch {
+            names: replace(names, Vec::new(alloc)),
+            demands: replace(demands, Vec::new(alloc)),
+        })?;
     }
+    Ok(())
 }
 
 /// Open UIDs that answer in a slot: all where they are fewer than three, three otherwise. Mostly
@@ -249,9 +253,9 @@ fn meet_each<S: OpenSet>(
 ) -> Result<Option<usize>, AllocError>
     requires order { AreInOrder names.now }
     requires keys { HaveKeys names.now }
-    ensures met { IfOk result (λ r. (es : List EntryValue) (from i : ℕ)
-        → SameUids (S.is_open set.now) (is_open (slots_of es)) → TellsQuiet es from i names.now
-        → All (IsDemand es from i) demands.now → r ≡ None
+    ensures met { IfOk result (λ r. (es : List EntryValue)
+        → SameUids (S.is_open set.now) (is_open (slots_of es))
+        → All (IsDemandBy es names.now) demands.now → r ≡ None
         → AreMet es demands.now found.old.items found.new.items) }
     ensures unmet { IfOk result (λ r. IfSome r
         (IsUnmetAt (S.is_open set.now) names.now demands.now)) }
@@ -276,30 +280,26 @@ fn meet_each<S: OpenSet>(
     Ok(None)
 }
 
-/// Finds what meets the slots of a stretch. Returns the place of the first one that is unmet, if
-/// one is.
-pub(crate) fn meet_stretch<S: OpenSet>(
+/// What meets the slots of a log in which tags answered and none was read, by the UIDs that it
+/// leaves open; or the place of a slot that lacks what it asks for. It is the first one that does,
+/// which saves judgings: no answer rests on it.
+pub(crate) fn meet_stretches<S: OpenSet>(
     alloc: Global,
     set: &S,
-    names: &mut Vec<Name>,
-    demands: &mut Vec<Demand>,
-    found: &mut Vec<Found>,
-) -> Result<Option<usize>, AllocError>
-    requires { HaveKeys names.old.items }
-    ensures met { IfOk result (λ r. (es : List EntryValue) (from i : ℕ)
+    stretches: &[Stretch],
+) -> Result<Result<Vec<Found>, usize>, AllocError>
+    requires { All IsInOrder stretches.now }
+    ensures { IfOk result (λ r. (es : List EntryValue)
         → SameUids (S.is_open set.now) (is_open (slots_of es))
-        → TellsQuiet es from i names.old.items
-        → All (IsDemand es from i) demands.old.items → r ≡ None
-        → AreMet es demands.old.items found.old.items found.new.items) }
-    ensures unmet { IfOk result (λ r. IfSome r (λ at. (es : List EntryValue) (from i : ℕ)
-        → SameUids (S.is_open set.now) (is_open (slots_of es))
-        → TellsQuiet es from i names.old.items
-        → All (IsDemand es from i) demands.old.items → Lacks es at)) }
+        → AreKept es (length es) stretches.now
+        → MatchResult r (λ found. AreFound es found.items) (Lacks es)) }
 {
-    if demands.is_empty() {
-        return Ok(None);
+    let mut found = Vec::new(alloc);
+    for stretch in stretches {
+        let unmet = meet_each(alloc, set, &stretch.names, &stretch.demands, &mut found)?;
+        if let Some(at) = unmet {
+            return Ok(Err(at));
+        }
     }
-    names.sort_unstable_by_key(|name| name.key);
-    demands.sort_unstable();
-    meet_each(alloc, set, names, demands, found)
+    Ok(Ok(found))
 }

@@ -5,16 +5,16 @@ ghost use Rattle.vic_tree.specs.OpenSet.{SameUids};
 ghost use Rattle.vic_log.specs.Order.{entries};
 ghost use Rattle.vic_verdict.specs.FirstLines.{AreFirstLines};
 ghost use Rattle.vic_log.specs.Slots.{slots_of, is_open};
-ghost use Rattle.vic_verdict.specs.Possible.{IsPossible, IsContradiction, Lacks, rules_out, NoneRulesOutAfter};
+ghost use Rattle.vic_verdict.specs.Possible.{IsPossible, IsContradiction, rules_out, NoneRulesOutAfter};
 ghost use Rattle.vic_verdict.specs.Replies.{RepliesAnswer};
-ghost use Rattle.vic_verdict.specs.Demands.{AreFound, IsMet, HasHeard};
+ghost use Rattle.vic_verdict.specs.Demands.{AreKept, IsMet, HasHeard};
 
-use crate::demands::{Found, Met, meet_stretch, note_asked};
+use crate::demands::{Met, Stretch, meet_stretches};
 use crate::missing::are_open;
-use crate::stretches::settle_all;
+use crate::stretches::{Settled, settle};
 use std::alloc::{AllocError, Global};
 use vic_frame::Uid;
-use vic_log::{Entry, PackedLine, RoundCursor};
+use vic_log::{Entry, PackedLine};
 use vic_tree::OpenSet;
 use vic_tree::rising::put_in_order;
 
@@ -51,46 +51,6 @@ fn heard_uids(alloc: Global, lines: &[PackedLine]) -> Result<Vec<Uid>, AllocErro
     Ok(heard)
 }
 
-/// What meets the slots of a log in which tags answered and none was read, by the UIDs that it
-/// leaves open; or the place of a slot that lacks what it asks for. It is the first one that does,
-/// which saves judgings: no answer rests on it.
-fn find_all<S: OpenSet>(
-    alloc: Global,
-    set: &S,
-    lines: &[PackedLine],
-) -> Result<Result<Vec<Found>, usize>, AllocError>
-    requires lines { AreFirstLines lines.now }
-    requires open { SameUids (S.is_open set.now) (is_open (slots_of (entries lines.now))) }
-    ensures { IfOk result (λ r. MatchResult r
-        (λ found. AreFound (entries lines.now) found.items)
-        (Lacks (entries lines.now))) }
-{
-    let mut found = Vec::new(alloc);
-    let mut names = Vec::new(alloc);
-    let mut demands = Vec::new(alloc);
-    let mut cursor = RoundCursor::first();
-    for (index, line) in lines.iter().enumerate() {
-        let entry = line.item();
-        if let Entry::FieldCycle = entry {
-            if let Some(at) = meet_stretch(alloc, set, &mut names, &mut demands, &mut found)? {
-                return Ok(Err(at));
-            }
-            names.clear();
-            demands.clear();
-        } else {
-            let mask = cursor.mask();
-            // gives the place its bound: the numbers of lines rise, and are of 32 bits
-            let _number = line.number();
-            note_asked(&mut names, &mut demands, &mask, index, &entry)?;
-        }
-        cursor.advance(&entry);
-    }
-    match meet_stretch(alloc, set, &mut names, &mut demands, &mut found)? {
-        Some(at) => Ok(Err(at)),
-        None => Ok(Ok(found)),
-    }
-}
-
 /// Whether an entry may rule UIDs out.
 fn rules_out(entry: &Entry) -> bool
     ensures { result ≡ rules_out entry.now }
@@ -115,14 +75,16 @@ fn last_ruling(lines: &[PackedLine], from: usize) -> usize
     last
 }
 
-/// What the UIDs that a log leaves open meet, if some population could have given it. Whoever it
-/// heard could have answered there.
+/// What the UIDs that a log leaves open meet of what its stretches ask for, if some population could
+/// have given it. Whoever it heard could have answered there.
 fn meet_all<S: OpenSet>(
     alloc: Global,
     set: &S,
     lines: &[PackedLine],
+    stretches: &[Stretch],
 ) -> Result<Result<Met, Contradiction>, AllocError>
     requires lines { AreFirstLines lines.now }
+    requires kept { AreKept (entries lines.now) (length (entries lines.now)) stretches.now }
     requires answer { RepliesAnswer (entries lines.now) }
     requires open { SameUids (S.is_open set.now) (is_open (slots_of (entries lines.now))) }
     ensures { IfOk result (λ r. MatchResult r
@@ -136,7 +98,7 @@ fn meet_all<S: OpenSet>(
             before: Before::AreUnknown,
         }));
     }
-    match find_all(alloc, set, lines)? {
+    match meet_stretches(alloc, set, stretches)? {
         Ok(found) => Ok(Ok(Met { heard, found })),
         Err(unmet) => {
             let at = last_ruling(lines, unmet);
@@ -162,8 +124,13 @@ pub fn open_and_met<S: OpenSet>(
         × IsMet (entries lines.now) p.1)
         (IsContradiction (entries lines.now))) }
 {
-    let (set, cut) = settle_all::<S>(alloc, lines)?;
-    match meet_all(alloc, &set, &lines[..cut])? {
+    let Settled {
+        closed,
+        stretches,
+        cut,
+    } = settle(alloc, lines)?;
+    let set = S::without(alloc, closed)?;
+    match meet_all(alloc, &set, &lines[..cut], &stretches)? {
         Ok(met) => {
             if cut < lines.len() {
                 return Ok(Err(Contradiction {

@@ -1,28 +1,24 @@
 //! Which UIDs the silent and answered slots of a log leave open, from field cycle to field cycle.
 
 ghost use Rattle.std.specs.Prelude.{ℕ, ◌≡◌, ◌≢◌, ◌+◌, ◌^◌, ◌<◌, true, false, Bool, List, Some, IsTrue, IfOk, OnOk, MatchResult, slice_get};
-ghost use Rattle.vic_tree.specs.OpenSet.{SameUids};
-ghost use Rattle.vic_tree.specs.Ranges.{is_outside};
-ghost use Rattle.vic_log.specs.Slots.{slots_of, is_open};
-ghost use Rattle.vic_log.specs.Order.{entries};
 ghost use Rattle.vic_verdict.specs.FirstLines.{AreFirstLines};
 ghost use Rattle.vic_log.specs.declared.entry.Entry.{Entry as EntryValue};
 ghost use Rattle.vic_log.specs.declared.entry.Entry.TheVariants.{FieldCycle, Sent};
 ghost use Rattle.vic_verdict.specs.declared.closed.Spot.{Spot as SpotValue};
+ghost use Rattle.vic_verdict.specs.declared.demands.Demand.{Demand as DemandValue};
 ghost use Rattle.vic_log.specs.Rounds.{mask_at, lies_in_some};
 ghost use Rattle.vic_verdict.specs.Possible.{IsContradictedAt};
-ghost use Rattle.vic_verdict.specs.Replies.{AreHeard};
-ghost use Rattle.vic_verdict.specs.Silenced.{TellsQuiet};
-ghost use Rattle.vic_verdict.specs.Stretches.{AddsSpot, IsHeardIn, IsOpenTo, IsStretch};
+ghost use Rattle.vic_verdict.specs.Stretches.{AddsSpot, HasGathered, IsHeardIn, IsSettled};
 
 use crate::closed::{LENGTHS, Spot};
+use crate::demands::{Demand, Stretch, keep_stretch, push_demand};
 use crate::names::{Name, push_name};
 use crate::sweep::settle_stretch;
 use std::alloc::{AllocError, Global};
 use vic_frame::low_bits_first::{key, key_range};
 use vic_frame::{Mask, Request, Uid, without_top_byte};
 use vic_log::{Entry, PackedLine, RoundCursor};
-use vic_tree::{KeyRange, OpenSet};
+use vic_tree::KeyRange;
 
 /// Adds a slot, unless no UID lies in its mask.
 fn push_spot(
@@ -56,24 +52,16 @@ fn push_spot(
 }
 
 /// Gathers whom a request silences.
-pub(crate) fn note_sent(
+fn note_sent(
     names: &mut Vec<Name>,
     request: &Request,
     index: usize,
 ) -> Result<(), AllocError>
     requires { index < 2 ^ 32 }
-    ensures stretch { OnOk result ((es : List EntryValue) (from : ℕ) (set : ℕ → Bool)
-        (ss : List SpotValue) → slice_get es index ≡ Some (Sent request.now)
-        → IsStretch es from index set names.old.items ss
-        → IsStretch es from (index + 1) set names.new.items ss) }
-    ensures heard { OnOk result ((es : List EntryValue) (from : ℕ)
-        → slice_get es index ≡ Some (Sent request.now)
-        → AreHeard es from index names.old.items
-        → AreHeard es from (index + 1) names.new.items) }
-    ensures quiet { OnOk result ((es : List EntryValue) (from : ℕ)
-        → slice_get es index ≡ Some (Sent request.now)
-        → TellsQuiet es from index names.old.items
-        → TellsQuiet es from (index + 1) names.new.items) }
+    ensures { OnOk result ((es : List EntryValue) (from : ℕ) (set : ℕ → Bool)
+        (ss : List SpotValue) (ds : List DemandValue) → slice_get es index ≡ Some (Sent request.now)
+        → HasGathered es from index set names.old.items ss ds
+        → HasGathered es from (index + 1) set names.new.items ss ds) }
 {
     match *request {
         Request::StayQuiet { uid, .. } => match Uid::new(uid) {
@@ -99,26 +87,24 @@ fn lies_in(mask: &Option<Mask>, uid: Uid) -> bool
 fn note_entry(
     names: &mut Vec<Name>,
     spots: &mut Vec<Spot>,
+    demands: &mut Vec<Demand>,
     mask: &Option<Mask>,
     index: usize,
     entry: &Entry,
 ) -> Result<bool, AllocError>
     requires { index < 2 ^ 32 }
-    ensures stretch { IfOk result (λ yes. (es : List EntryValue) (from : ℕ) (set : ℕ → Bool)
+    ensures gathered { IfOk result (λ yes. (es : List EntryValue) (from : ℕ) (set : ℕ → Bool)
         → slice_get es index ≡ Some entry.now → mask.now ≡ mask_at es index
         → entry.now ≢ FieldCycle → IsTrue yes
-        → IsStretch es from index set names.old.items spots.old.items
-        → IsStretch es from (index + 1) set names.new.items spots.new.items) }
-    ensures heard { IfOk result (λ yes. (es : List EntryValue) (from : ℕ)
-        → slice_get es index ≡ Some entry.now → mask.now ≡ mask_at es index
-        → entry.now ≢ FieldCycle → IsTrue yes
-        → AreHeard es from index names.old.items
-        → AreHeard es from (index + 1) names.new.items) }
+        → HasGathered es from index set names.old.items spots.old.items demands.old.items
+        → HasGathered es from (index + 1) set
+        names.new.items spots.new.items demands.new.items) }
     ensures unfit { IfOk result (λ yes. (es : List EntryValue)
         → slice_get es index ≡ Some entry.now → mask.now ≡ mask_at es index
         → yes ≡ false → IsContradictedAt es index) }
     ensures none { IfOk result (λ yes. yes ≡ false
-        → (names.new.items ≡ names.old.items) × (spots.new.items ≡ spots.old.items)) }
+        → (names.new.items ≡ names.old.items) × (spots.new.items ≡ spots.old.items)
+        × (demands.new.items ≡ demands.old.items)) }
 {
     match *entry {
         Entry::Sent(request) => note_sent(names, &request, index)?,
@@ -131,55 +117,71 @@ fn note_entry(
             push_name(names, uid, index as u32, true)?;
             push_spot(spots, mask, index as u32, Some(key(uid)))?;
         }
-        Entry::Collision | Entry::Garbled | Entry::Listed(_) | Entry::FieldCycle => {}
+        Entry::Collision => push_demand(demands, mask, 2, index)?,
+        Entry::Garbled => push_demand(demands, mask, 1, index)?,
+        Entry::Listed(_) | Entry::FieldCycle => {}
     }
     Ok(true)
 }
 
-/// The keys that the silent and answered slots of a log close, up to the place that is returned: the
-/// end of the log, or the place of a line that heard a UID which couldn't have answered there.
-fn closed_keys(alloc: Global, lines: &[PackedLine]) -> Result<(Vec<KeyRange>, usize), AllocError>
+/// What the lines of a log tell of the UIDs that it leaves open, up to a place.
+#[derive(Drop)]
+pub(crate) struct Settled {
+    /// The keys that its silent and answered slots close.
+    pub closed: Vec<KeyRange>,
+    /// The stretches whose other slots ask for tags.
+    pub stretches: Vec<Stretch>,
+    /// The end of the log, or the place of a line that heard a UID which couldn't have answered there.
+    pub cut: usize,
+}
+
+/// What the lines of a log tell of the UIDs that it leaves open: one walk, stretch by stretch.
+pub(crate) fn settle(alloc: Global, lines: &[PackedLine]) -> Result<Settled, AllocError>
     requires { AreFirstLines lines.now }
-    ensures { IfOk result (λ r. IsOpenTo lines.now (is_outside r.0.items) r.1) }
+    ensures { IfOk result (IsSettled lines.now) }
 {
     let mut closed = Vec::new(alloc);
+    let mut stretches = Vec::new(alloc);
     let mut names = Vec::new(alloc);
     let mut spots = Vec::new(alloc);
+    let mut demands = Vec::new(alloc);
     let mut cursor = RoundCursor::first();
     for (index, line) in lines.iter().enumerate() {
         let entry = line.item();
         if let Entry::FieldCycle = entry {
             let cut = settle_stretch(&mut closed, &mut names, &mut spots, index)?;
+            keep_stretch(alloc, &mut stretches, &mut names, &mut demands, cut)?;
             if cut < index {
-                return Ok((closed, cut));
+                return Ok(Settled {
+                    closed,
+                    stretches,
+                    cut,
+                });
             }
             names.clear();
             spots.clear();
+            demands.clear();
         } else {
             let mask = cursor.mask();
             // gives the place its bound: the numbers of lines rise, and are of 32 bits
             let _number = line.number();
-            if !note_entry(&mut names, &mut spots, &mask, index, &entry)? {
+            if !note_entry(&mut names, &mut spots, &mut demands, &mask, index, &entry)? {
                 let cut = settle_stretch(&mut closed, &mut names, &mut spots, index)?;
-                return Ok((closed, cut));
+                keep_stretch(alloc, &mut stretches, &mut names, &mut demands, cut)?;
+                return Ok(Settled {
+                    closed,
+                    stretches,
+                    cut,
+                });
             }
         }
         cursor.advance(&entry);
     }
     let cut = settle_stretch(&mut closed, &mut names, &mut spots, lines.len())?;
-    Ok((closed, cut))
-}
-
-/// The UIDs that the silent and answered slots of a log leave open, up to the place that is
-/// returned: the end of the log, or the place of a line that heard a UID which couldn't have
-/// answered there.
-pub(crate) fn settle_all<S: OpenSet>(
-    alloc: Global,
-    lines: &[PackedLine],
-) -> Result<(S, usize), AllocError>
-    requires { AreFirstLines lines.now }
-    ensures { IfOk result (λ r. IsOpenTo lines.now (S.is_open r.0) r.1) }
-{
-    let (closed, cut) = closed_keys(alloc, lines)?;
-    Ok((S::without(alloc, closed)?, cut))
+    keep_stretch(alloc, &mut stretches, &mut names, &mut demands, cut)?;
+    Ok(Settled {
+        closed,
+        stretches,
+        cut,
+    })
 }

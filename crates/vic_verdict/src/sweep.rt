@@ -5,12 +5,13 @@
 //! it, and no other UID. A UID without a name is ruled out where it lies in any of the masks.
 
 ghost use Rattle.std.specs.Prelude.{◌≡◌, ℕ, ◌&&◌, true};
-ghost use Rattle.std.specs.Prelude.{Some, None, IfSome, IfOk};
+ghost use Rattle.std.specs.Prelude.{Some, None, IfSome, IfOk, OnOk};
 ghost use Rattle.std.specs.List.{All};
 ghost use Rattle.vic_frame.specs.LowBitsFirst.{mirror};
 ghost use Rattle.vic_tree.specs.OpenSet.{SameUids};
 ghost use Rattle.vic_tree.specs.Ranges.{is_outside};
 ghost use Rattle.vic_verdict.specs.Replies.{IsFirstQuietReply};
+ghost use Rattle.vic_verdict.specs.Silenced.{ArePutInOrder};
 ghost use Rattle.vic_verdict.specs.Sweep.{slot_leaves, level_leaves, spot_leaves, all_leave, mask_leaves, run_leaves, IsLevel, keep_all, all_allow_to, are_left, all_hear_named, HasRange, AreInOrder};
 
 use crate::closed::{Spot, close_spots};
@@ -173,6 +174,7 @@ pub(crate) fn settle_stretch(
     requires ranges { All HasRange spots.old.items }
     requires named { all_hear_named names.old.items spots.old.items ≡ true }
     ensures cut { IfOk result (IsFirstQuietReply names.old.items end) }
+    ensures names { OnOk result (ArePutInOrder names.old.items names.new.items) }
     ensures settled { IfOk result (λ cut. SameUids (is_outside closed.new.items)
         (λ u. is_outside closed.old.items u
         && all_allow_to names.old.items spots.old.items cut (mirror u))) }

@@ -1,13 +1,12 @@
-use Rattle.std.proofs.Common.{ℕ, List}
+use Rattle.std.proofs.Common.{List}
 use Rattle.std.specs.List.{All}
 use Rattle.vic_tree.specs.OpenSet.{SameUids}
 use Rattle.vic_log.specs.declared.entry.Entry.{Entry}
 use Rattle.vic_log.specs.Slots.{slots_of, is_open}
-use Rattle.vic_verdict.specs.Silenced.{TellsQuiet}
-use Rattle.vic_verdict.specs.Demands.{IsDemand}
+use Rattle.vic_verdict.specs.Demands.{IsDemandBy}
 use Rattle.vic_verdict.proofs.Demanding.{AreMetTo}
 use Rattle.vic_verdict.proofs.demands.meet_each.Given as goal
 
 abbrev pub invariant-loop-index : goal.invariant-loop-index
 invariant-loop-index g l =
-    (es : List Entry) (from i : ℕ) → SameUids (g.S.OpenSet.is_open l.set) (is_open (slots_of es)) → TellsQuiet es from i l.names → All (IsDemand es from i) l.demands → AreMetTo es l.demands l.index l.fn.found.items l.found.items
+    (es : List Entry) → SameUids (g.S.OpenSet.is_open l.set) (is_open (slots_of es)) → All (IsDemandBy es l.names) l.demands → AreMetTo es l.demands l.index l.fn.found.items l.found.items

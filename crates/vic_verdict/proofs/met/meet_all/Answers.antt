@@ -6,6 +6,7 @@ use Rattle.vic_log.specs.declared.entry.LogLine.{LogLine}
 use Rattle.vic_log.specs.Order.{entries}
 use Rattle.vic_verdict.specs.Possible.{Lacks}
 use Rattle.vic_verdict.specs.Demands.{AreFound}
+use Rattle.vic_verdict.proofs.Demanding.{kept_in_order}
 use Rattle.vic_verdict.proofs.Lacking.{lacking_within, contradicted}
 use Rattle.vic_verdict.proofs.Meeting.{LacksHeard, heard_lacks, met_is_possible, is_met}
 use Rattle.vic_verdict.proofs.met.meet_all.Goals as goal
@@ -36,11 +37,14 @@ returns-then-not-branch g c =
       before = λ e. absurd (cc);
     }
 
+pub meet_stretches-requires : goal.meet_stretches-requires
+meet_stretches-requires g c = kept_in_order (entries c.args.lines.now) _ c.args.stretches.now c.requires.kept
+
 pub last_ruling-at-requires : goal.last_ruling-at-requires
 last_ruling-at-requires g c =
     let lines = c.args.lines.now in
     let es = entries lines in
-    let lacks = subst (λ r. MatchResult r (λ found. AreFound es found.items) (Lacks es)) c.in-Err.is c.in_ok-found.ensures in
+    let lacks = subst (λ r. MatchResult r (λ found. AreFound es found.items) (Lacks es)) c.in-Err.is (c.in_ok-found.ensures es c.requires.open c.requires.kept) in
     let within = lacking_within es c.in-Err.unmet lacks in
     let long = length-map lines (λ (x : LogLine). x.item) in
     omega (arith, within, long)
@@ -52,7 +56,7 @@ returns-in-Ok g c =
     let set = g.S.OpenSet.is_open c.args.set.now in
     let long = length-map lines (λ (x : LogLine). x.item) in
     let all = ap (λ (us : List ℕ). list_all set us) (sym c.deref.ensures.value) ∙ (sym c.in_ok-are_open.ensures ∙ c.if-not-branch.false) in
-    let found = subst (λ r. MatchResult r (λ f. AreFound es f.items) (Lacks es)) c.in-Ok.is c.in_ok-found.ensures in (
+    let found = subst (λ r. MatchResult r (λ f. AreFound es f.items) (Lacks es)) c.in-Ok.is (c.in_ok-found.ensures es c.requires.open c.requires.kept) in (
       met_is_possible es set c.in_ok-heard.heard.items c.in-Ok.found.items (length lines) c.requires.answer c.requires.open c.in_ok-heard.ensures (omega (arith, long)) all found,
       is_met es (record { heard = c.in_ok-heard.heard; found = c.in-Ok.found }) (length lines) c.in_ok-heard.ensures (omega (arith, long)) found,
     )
@@ -61,7 +65,7 @@ pub returns-after-at-unmet : goal.returns-after-at-unmet
 returns-after-at-unmet g c =
     let lines = c.args.lines.now in
     let es = entries lines in
-    let lacks = subst (λ r. MatchResult r (λ found. AreFound es found.items) (Lacks es)) c.in-Err.is c.in_ok-found.ensures in
+    let lacks = subst (λ r. MatchResult r (λ found. AreFound es found.items) (Lacks es)) c.in-Err.is (c.in_ok-found.ensures es c.requires.open c.requires.kept) in
     let last = c.last_ruling-at.ensures in
     let long = length-map lines (λ (x : LogLine). x.item) in
     record {

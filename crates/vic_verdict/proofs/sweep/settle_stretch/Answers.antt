@@ -1,4 +1,4 @@
-use Rattle.std.proofs.Common.{◌≡◌, ℕ, ◌∙◌, ◌&&◌, ◌++◌, not, ap, sym, subst, rules, length, take, filter, List}
+use Rattle.std.proofs.Common.{◌≡◌, ℕ, ◌∙◌, ◌&&◌, ◌++◌, not, refl, ap, sym, subst, rules, length, take, filter, List}
 use Rattle.std.proofs.lemmas.Fn.{filter_same}
 use Rattle.std.proofs.lemmas.List.Elements.{All-filter}
 use Rattle.std.specs.List.{All}
@@ -13,6 +13,7 @@ use Rattle.vic_verdict.specs.Closed.{Closes, is_in_some}
 use Rattle.vic_verdict.specs.Replies.{IsFirstQuietReply}
 use Rattle.vic_verdict.proofs.Closing.{outside_closed}
 use Rattle.vic_verdict.proofs.Heard.{first_permuted}
+use Rattle.vic_verdict.proofs.Silencing.{put_in_order}
 use Rattle.vic_verdict.proofs.sweep.settle_stretch.Goals as goal
 
 pub first_quiet_reply-cut-requires : goal.first_quiet_reply-cut-requires
@@ -64,3 +65,11 @@ returns-clause-settled c u w =
     ∙ allow_permuted c.args.names.now.items names early spots (mirror u) c.sort_unstable_by_key.ensures.permutation c.sort_unstable_by_key-2.ensures.permutation
     ∙ ap (λ ss. all_allow c.args.names.now.items ss (mirror u)) only
     ∙ allow_filtered c.args.names.now.items cut (mirror u) all)
+
+pub returns-clause-names : goal.returns-clause-names
+returns-clause-names c =
+    let sorted = c.sort_unstable_by_key.new.self.items in
+    let spots = c.sort_unstable_by_key-2.new.self.items in
+    put_in_order (all_leave spots) c.args.names.now.items sorted _ c.sort_unstable_by_key.ensures.permutation
+    (IsNonDecreasingBy-from_sort_by_key (λ (n : Name). n.key) _ c.sort_unstable_by_key.ensures.sorted (λ a r q k. search rules))
+    (names_are _ _ c.deref_mut.result.now c.rule_out_all.new.names sorted _ c.deref-2.result.now spots c.deref_mut.ensures.value c.deref-2.ensures.value c.rule_out_all.ensures c.deref_mut.ensures.len refl)

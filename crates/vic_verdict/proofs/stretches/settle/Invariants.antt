@@ -1,11 +1,11 @@
 use Rattle.vic_tree.specs.Ranges.{is_outside}
 use Rattle.vic_log.specs.Order.{entries}
 use Rattle.vic_log.specs.OpenRounds.{IsCursorAt}
-use Rattle.vic_verdict.proofs.Settling.{HasGathered}
-use Rattle.vic_verdict.proofs.stretches.closed_keys.Given as goal
+use Rattle.vic_verdict.proofs.Settling.{IsWalked}
+use Rattle.vic_verdict.proofs.stretches.settle.Given as goal
 
 abbrev pub invariant-loop-index : goal.invariant-loop-index
 invariant-loop-index l = record {
   round : IsCursorAt (entries l.lines) l.index l.cursor;
-  gathered : HasGathered (entries l.lines) l.index (is_outside l.closed.items) l.names.items l.spots.items;
+  walked : IsWalked (entries l.lines) l.index (is_outside l.closed.items) l.stretches.items l.names.items l.spots.items l.demands.items;
 }

@@ -1,0 +1,48 @@
+use Rattle.std.proofs.Common.{◌≡◌, List, length, sym, subst, arith}
+use Rattle.std.specs.List.{All}
+use Rattle.vic_log.specs.declared.entry.Entry.{Entry}
+use Rattle.vic_verdict.specs.declared.demands.Demand.{Demand}
+use Rattle.vic_verdict.specs.declared.demands.Stretch.{Stretch}
+use Rattle.vic_verdict.specs.declared.names.Name.{Name}
+use Rattle.vic_verdict.specs.Demands.{IsInOrder, IsDemandBy, IsKept}
+use Rattle.vic_verdict.specs.Sweep.{AreInOrder, HaveKeys}
+use Rattle.vic_verdict.proofs.Demanding.{AreFoundTo, found_first, found_more, found_all, some_is, unmet_lacks}
+use Rattle.vic_verdict.proofs.demands.meet_stretches.Goals as goal
+
+pub loop-stretch-init : goal.loop-stretch-init
+loop-stretch-init g c es same kept = subst (AreFoundTo es c.args.stretches.now 0) (sym c.new-found.ensures.items) (found_first es c.args.stretches.now)
+
+pub meet_each-requires-clause-order : goal.meet_each-requires-clause-order
+meet_each-requires-clause-order g c =
+    let s = subst IsInOrder (sym c.stretch-item.is) (c.requires c.loop-stretch.stretch-index c.stretch-item.result c.loop-stretch-test.true) in
+    subst AreInOrder (sym c.deref.ensures.value) s.order
+
+pub meet_each-requires-clause-keys : goal.meet_each-requires-clause-keys
+meet_each-requires-clause-keys g c =
+    let s = subst IsInOrder (sym c.stretch-item.is) (c.requires c.loop-stretch.stretch-index c.stretch-item.result c.loop-stretch-test.true) in
+    subst HaveKeys (sym c.deref.ensures.value) s.keys
+
+-- the demands of a stretch, as they are lent
+lent : (es : List Entry) (s : Stretch) (ns : List Name) (ds : List Demand) → ns ≡ s.names.items → ds ≡ s.demands.items → IsKept es (length es) s → All (IsDemandBy es ns) ds
+lent es s ns ds a b h = subst (λ xs. All (IsDemandBy es xs) ds) (sym a) (subst (All (IsDemandBy es s.names.items)) (sym b) h.demands)
+
+pub returns-in-Some : goal.returns-in-Some
+returns-in-Some g c es same kept =
+    let s = subst (IsKept es (length es)) (sym c.stretch-item.is) (kept.kept c.loop-stretch.stretch-index c.stretch-item.result c.loop-stretch-test.true) in
+    unmet_lacks es (g.S.OpenSet.is_open c.args.set.now) _ _ c.in-Some.at same
+    (lent es c.stretch-item.result _ _ c.deref.ensures.value c.deref-in-loop-stretch.ensures.value s)
+    (some_is _ _ c.in-Some.at c.in-Some.is c.in_ok-unmet.ensures.unmet)
+
+pub loop-stretch-preserved : goal.loop-stretch-preserved
+loop-stretch-preserved g c es same kept =
+    let k = c.loop-stretch.stretch-index in
+    let s = subst (IsKept es (length es)) (sym c.stretch-item.is) (kept.kept k c.stretch-item.result c.loop-stretch-test.true) in
+    found_more es c.args.stretches.now k c.stretch-item.result c.deref-in-loop-stretch.result.now c.loop-stretch.found.items _ c.loop-stretch-test.true c.stretch-item.is c.deref-in-loop-stretch.ensures.value
+    (c.in_ok-unmet.ensures.met es same (lent es c.stretch-item.result _ _ c.deref.ensures.value c.deref-in-loop-stretch.ensures.value s) c.in_default.is)
+    (c.loop-stretch.invariant es same kept)
+
+pub returns : goal.returns
+returns g c es same kept =
+    found_all es c.args.stretches.now c.loop-stretch.stretch-index c.loop-stretch.found.items
+    (let last = c.loop-stretch-test.false in let within = c.loop-stretch.auto.stretch-index-end in omega (arith, last, within))
+    kept (c.loop-stretch.invariant es same kept)

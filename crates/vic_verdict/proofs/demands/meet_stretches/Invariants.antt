@@ -1,0 +1,11 @@
+use Rattle.std.proofs.Common.{List, length}
+use Rattle.vic_tree.specs.OpenSet.{SameUids}
+use Rattle.vic_log.specs.declared.entry.Entry.{Entry}
+use Rattle.vic_log.specs.Slots.{slots_of, is_open}
+use Rattle.vic_verdict.specs.Demands.{AreKept}
+use Rattle.vic_verdict.proofs.Demanding.{AreFoundTo}
+use Rattle.vic_verdict.proofs.demands.meet_stretches.Given as goal
+
+abbrev pub invariant-loop-stretch : goal.invariant-loop-stretch
+invariant-loop-stretch g l =
+    (es : List Entry) → SameUids (g.S.OpenSet.is_open l.set) (is_open (slots_of es)) → AreKept es (length es) l.stretches → AreFoundTo es l.stretches l.stretch-index l.found.items
