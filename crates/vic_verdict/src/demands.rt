@@ -98,7 +98,8 @@ pub(crate) struct Stretch {
     pub demands: Vec<Demand>,
 }
 
-/// Keeps what the slots of a stretch ask for before a place, if they ask for anything.
+/// Keeps what the slots of a stretch ask for before a place, if they ask for anything, and whom its
+/// lines name. What was gathered is empty then.
 pub(crate) fn keep_stretch(
     alloc: Global,
     stretches: &mut Vec<Stretch>,
@@ -106,17 +107,21 @@ pub(crate) fn keep_stretch(
     demands: &mut Vec<Demand>,
     cut: usize,
 ) -> Result<(), AllocError>
-    ensures { OnOk result (Keeps names.old.items demands.old.items cut
+    ensures kept { OnOk result (Keeps names.old.items demands.old.items cut
         stretches.old.items stretches.new.items) }
+    ensures names { OnOk result (names.new.items ≡ []) }
+    ensures demands { OnOk result (demands.new.items ≡ []) }
 {
     demands.retain(|demand| demand.at < cut);
-    if !demands.is_empty() {
-        demands.sort_unstable();
-        stretches.push(Stretch {
-            names: replace(names, Vec::new(alloc)),
-            demands: replace(demands, Vec::new(alloc)),
-        })?;
+    if demands.is_empty() {
+        names.clear();
+        return Ok(());
     }
+    demands.sort_unstable();
+    stretches.push(Stretch {
+        names: replace(names, Vec::new(alloc)),
+        demands: replace(demands, Vec::new(alloc)),
+    })?;
     Ok(())
 }
 

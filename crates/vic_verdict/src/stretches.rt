@@ -158,9 +158,7 @@ pub(crate) fn settle(alloc: Global, lines: &[PackedLine]) -> Result<Settled, All
                     cut,
                 });
             }
-            names.clear();
             spots.clear();
-            demands.clear();
         } else {
             let mask = cursor.mask();
             // gives the place its bound: the numbers of lines rise, and are of 32 bits

@@ -32,8 +32,8 @@ loop-index-preserved c =
         | in-FieldCycle+in_ok-cut+in_ok-keep_stretch+else-cut-index w ↦
             let told = w.in_ok-cut.ensures in
             walked_as es (i + 1) w.settle_stretch.new.closed.items c.match-entry.closed.items w.keep_stretch.new.stretches.items c.match-entry.stretches.items [] c.match-entry.names.items [] c.match-entry.spots.items [] c.match-entry.demands.items
-            (ap (λ v. v.items) w.closed-is) (ap (λ v. v.items) w.stretches-is) (ap (λ v. v.items) w.names-is ∙ w.clear.ensures.items) (ap (λ v. v.items) w.spots-is ∙ w.clear-in-FieldCycle.ensures.items) (ap (λ v. v.items) w.demands-is ∙ w.clear-in-FieldCycle-2.ensures.items)
-            (walked_anew es i w.in_ok-cut.cut (is_outside l.closed.items) _ l.stretches.items _ l.names.items w.settle_stretch.new.names.items l.spots.items l.demands.items c.item-entry.result here w.in-FieldCycle.is w.if-cut-index.false told.cut told.names w.in_ok-keep_stretch.ensures told.settled before.walked)
+            (ap (λ v. v.items) w.closed-is) (ap (λ v. v.items) w.stretches-is) (ap (λ v. v.items) w.names-is ∙ w.in_ok-keep_stretch.ensures.names) (ap (λ v. v.items) w.spots-is ∙ w.clear.ensures.items) (ap (λ v. v.items) w.demands-is ∙ w.in_ok-keep_stretch.ensures.demands)
+            (walked_anew es i w.in_ok-cut.cut (is_outside l.closed.items) _ l.stretches.items _ l.names.items w.settle_stretch.new.names.items l.spots.items l.demands.items c.item-entry.result here w.in-FieldCycle.is w.if-cut-index.false told.cut told.names w.in_ok-keep_stretch.ensures.kept told.settled before.walked)
         | in_default+in_ok-note_entry+else-not-branch w ↦
             let mask = w.mask-mask.ensures es i c.requires.valid before.round in
             walked_as es (i + 1) l.closed.items c.match-entry.closed.items l.stretches.items c.match-entry.stretches.items w.note_entry.new.names.items c.match-entry.names.items w.note_entry.new.spots.items c.match-entry.spots.items w.note_entry.new.demands.items c.match-entry.demands.items
@@ -50,7 +50,7 @@ pub returns-then-cut-index : goal.returns-then-cut-index
 returns-then-cut-index c =
     let short = c.if-cut-index.true in
     let told = c.in_ok-cut.ensures in
-    settled_to c.args.lines.now (record { closed = c.settle_stretch.new.closed; stretches = c.keep_stretch.new.stretches; cut = c.in_ok-cut.cut }) c.loop-index.index _ _ _ _ _ _ c.loop-index.auto.index-end c.loop-index.invariant.walked told.cut told.names c.in_ok-keep_stretch.ensures told.settled (λ end. absurd (omega (arith, end, short)))
+    settled_to c.args.lines.now (record { closed = c.settle_stretch.new.closed; stretches = c.keep_stretch.new.stretches; cut = c.in_ok-cut.cut }) c.loop-index.index _ _ _ _ _ _ c.loop-index.auto.index-end c.loop-index.invariant.walked told.cut told.names c.in_ok-keep_stretch.ensures.kept told.settled (λ end. absurd (omega (arith, end, short)))
 
 pub returns-then-not-branch : goal.returns-then-not-branch
 returns-then-not-branch c =
@@ -63,7 +63,7 @@ returns-then-not-branch c =
     let new = c.note_entry.new in
     let walked = walked_as es i l.closed.items l.closed.items l.stretches.items l.stretches.items l.names.items new.names.items l.spots.items new.spots.items l.demands.items new.demands.items refl refl none.0 none.1 none.2 l.invariant.walked in
     let told = c.in_ok-cut-2.ensures in
-    settled_to c.args.lines.now (record { closed = c.settle_stretch-then-not-branch.new.closed; stretches = c.keep_stretch-then-not-branch.new.stretches; cut = c.in_ok-cut-2.cut }) i _ _ _ _ _ _ l.auto.index-end walked told.cut told.names c.in_ok-keep_stretch-2.ensures told.settled
+    settled_to c.args.lines.now (record { closed = c.settle_stretch-then-not-branch.new.closed; stretches = c.keep_stretch-then-not-branch.new.stretches; cut = c.in_ok-cut-2.cut }) i _ _ _ _ _ _ l.auto.index-end walked told.cut told.names c.in_ok-keep_stretch-2.ensures.kept told.settled
     (λ end more. c.in_ok-note_entry.ensures.unfit es here mask c.if-not-branch.true)
 
 pub returns : goal.returns
@@ -75,5 +75,5 @@ returns c =
     let end : l.index ≡ n = omega (arith, past, upto) in
     let walked = subst (λ m. IsWalked (entries c.args.lines.now) m (is_outside l.closed.items) l.stretches.items l.names.items l.spots.items l.demands.items) end l.invariant.walked in
     let told = c.in_ok-cut-3.ensures in
-    settled_to c.args.lines.now (record { closed = c.settle_stretch-2.new.closed; stretches = c.keep_stretch-2.new.stretches; cut = c.in_ok-cut-3.cut }) n _ _ _ _ _ _ (omega arith) walked told.cut told.names c.in_ok-keep_stretch-3.ensures told.settled
+    settled_to c.args.lines.now (record { closed = c.settle_stretch-2.new.closed; stretches = c.keep_stretch-2.new.stretches; cut = c.in_ok-cut-3.cut }) n _ _ _ _ _ _ (omega arith) walked told.cut told.names c.in_ok-keep_stretch-3.ensures.kept told.settled
     (λ _ more. absurd (omega (arith, more)))
