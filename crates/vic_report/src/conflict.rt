@@ -7,7 +7,7 @@ ghost use Rattle.vic_frame.specs.Uids.{has};
 ghost use Rattle.vic_log.specs.Order.{entries};
 ghost use Rattle.vic_log.specs.Rounds.{is_slot};
 ghost use Rattle.vic_report.specs.Conflicts.{IsConflict, IsConflictAt};
-ghost use Rattle.vic_verdict.specs.FirstLines.{AreFirstLines};
+ghost use Rattle.vic_verdict.specs.LogLines.{AreLogLines};
 ghost use Rattle.vic_verdict.specs.Possible.{IsContradiction};
 ghost use Rattle.vic_verdict.specs.Verdict.{IsVerdict};
 ghost use Rattle.vic_verdict.specs.declared.judging.Verdict.TheVariants.{Impossible};
@@ -39,7 +39,7 @@ pub(crate) fn find_conflict<S: OpenSet>(
     lines: &[PackedLine],
     contradiction: Contradiction,
 ) -> Result<Conflict, AllocError>
-    requires lines { AreFirstLines lines.now }
+    requires lines { AreLogLines lines.now }
     requires impossible { IsContradiction (entries lines.now) contradiction }
     ensures { IfOk result (IsConflict lines.now) }
 {
@@ -64,7 +64,7 @@ fn lines_of_conflict<S: OpenSet>(
     mut guess: Vec<u32>,
     last: u32,
 ) -> Result<Vec<u32>, AllocError>
-    requires lines { AreFirstLines lines.now }
+    requires lines { AreLogLines lines.now }
     requires impossible { IsVerdict lines.now (Impossible last) }
     ensures { IfOk result (λ numbers. IsConflictAt lines.now last numbers.items) }
 {
@@ -92,7 +92,7 @@ fn is_conflict<S: OpenSet>(
     numbers: &[u32],
     last: u32,
 ) -> Result<bool, AllocError>
-    requires lines { AreFirstLines lines.now }
+    requires lines { AreLogLines lines.now }
     requires rising { IsStrictlyIncreasing numbers.now }
     ensures { IfOk result (λ b. b ≡ true → IsConflictAt lines.now last numbers.now) }
 {
@@ -113,7 +113,7 @@ fn is_conflict<S: OpenSet>(
 
 /// The slot lines up to one that no population could have given.
 fn slot_lines_to(alloc: Global, lines: &[PackedLine], last: u32) -> Result<Vec<u32>, AllocError>
-    requires lines { AreFirstLines lines.now }
+    requires lines { AreLogLines lines.now }
     requires impossible { IsVerdict lines.now (Impossible last) }
     ensures { IfOk result (λ numbers. IsConflictAt lines.now last numbers.items) }
 {

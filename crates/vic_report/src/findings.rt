@@ -11,7 +11,7 @@ ghost use Rattle.vic_log.specs.Slots.{slots_of, is_open, IsForcedBy};
 ghost use Rattle.vic_verdict.specs.Demands.{IsMet};
 ghost use Rattle.vic_report.specs.Findings.{IsLeftOpen};
 ghost use Rattle.vic_report.specs.Merging.{AreBelow, IsPlaceOf};
-ghost use Rattle.vic_verdict.specs.FirstLines.{AreFirstLines};
+ghost use Rattle.vic_verdict.specs.LogLines.{AreLogLines};
 ghost use Rattle.vic_verdict.specs.Possible.{IsPossible};
 ghost use Rattle.vic_report.specs.Reports.{AreFindings, AreNone, IsUnsettledWith, first_of};
 ghost use Rattle.vic_verdict.specs.Rising.{IsFailing, IsListOf};
@@ -89,7 +89,7 @@ pub(crate) fn find_findings(
     met: &Met,
     lines: &[PackedLine],
 ) -> Result<Findings, AllocError>
-    requires lines { AreFirstLines lines.now }
+    requires lines { AreLogLines lines.now }
     requires possible { IsPossible (entries lines.now) }
     requires open { SameUids (is_open_in set) (is_open (slots_of (entries lines.now))) }
     requires met { IsMet (entries lines.now) met.now }

@@ -11,7 +11,7 @@ ghost use Rattle.vic_log.specs.Order.{entries};
 ghost use Rattle.vic_log.specs.Populations.{CouldHaveGiven};
 ghost use Rattle.vic_log.specs.Rounds.{mask_at};
 ghost use Rattle.vic_report.specs.Conflicts.{FitsLines};
-ghost use Rattle.vic_verdict.specs.FirstLines.{AreFirstLines};
+ghost use Rattle.vic_verdict.specs.LogLines.{AreLogLines};
 ghost use Rattle.vic_report.specs.KeptLogs.{HasSlotAdded, KeepsLine};
 
 use std::alloc::{AllocError, Global};
@@ -25,7 +25,7 @@ pub(crate) fn log_of_kept(
     lines: &[PackedLine],
     numbers: &[u32],
 ) -> Result<Option<Log>, AllocError>
-    requires lines { AreFirstLines lines.now }
+    requires lines { AreLogLines lines.now }
     requires rising { IsStrictlyIncreasing numbers.now }
     ensures { IfOk result (λ r. IfSome r (λ log. (p : List ℕ)
         → FitsLines lines.now numbers.now p → CouldHaveGiven p (entries log.lines))) }

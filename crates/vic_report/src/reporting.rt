@@ -6,7 +6,7 @@ ghost use Rattle.vic_tree.specs.Ranges.{is_open_in};
 ghost use Rattle.vic_log.specs.Order.{entries};
 ghost use Rattle.vic_log.specs.Slots.{slots_of, is_open};
 ghost use Rattle.vic_verdict.specs.Demands.{IsMet};
-ghost use Rattle.vic_verdict.specs.FirstLines.{AreFirstLines};
+ghost use Rattle.vic_verdict.specs.LogLines.{AreLogLines};
 ghost use Rattle.vic_verdict.specs.Possible.{IsPossible};
 ghost use Rattle.vic_report.specs.Reports.{IsReport, verdict_of};
 
@@ -54,7 +54,7 @@ pub fn report(alloc: Global, log: &Log) -> Result<LogReport, AllocError>
 
 /// The report on the lines of a log.
 fn report_lines(alloc: Global, lines: &[PackedLine]) -> Result<LogReport, AllocError>
-    requires { AreFirstLines lines.now }
+    requires { AreLogLines lines.now }
     ensures { IfOk result (IsReport lines.now) }
 {
     match open_and_met::<RangeSet>(alloc, lines)? {
@@ -74,7 +74,7 @@ fn report_possible(
     met: &Met,
     lines: &[PackedLine],
 ) -> Result<LogReport, AllocError>
-    requires lines { AreFirstLines lines.now }
+    requires lines { AreLogLines lines.now }
     requires possible { IsPossible (entries lines.now) }
     requires open { SameUids (is_open_in set) (is_open (slots_of (entries lines.now))) }
     requires met { IsMet (entries lines.now) met.now }

@@ -12,7 +12,7 @@ ghost use Rattle.vic_log.specs.Populations.{answers_at};
 ghost use Rattle.vic_log.specs.Slots.{slots_of, is_open};
 ghost use Rattle.vic_report.specs.FieldCursors.{IsFieldAt};
 ghost use Rattle.vic_report.specs.Findings.{IsRuledOut, RulesOut, lacks_reply_of, uids_of};
-ghost use Rattle.vic_verdict.specs.FirstLines.{AreFirstLines};
+ghost use Rattle.vic_verdict.specs.LogLines.{AreLogLines};
 
 use crate::field_cursor::FieldCursor;
 use crate::shown::ShownUid;
@@ -27,7 +27,7 @@ pub(crate) fn lines_of_absent(
     lines: &[PackedLine],
     absent: &[Uid],
 ) -> Result<Vec<ShownUid>, AllocError>
-    requires lines { AreFirstLines lines.now }
+    requires lines { AreLogLines lines.now }
     requires shut { All (λ u. is_open (slots_of (entries lines.now)) u ≡ false) absent.now }
     ensures uids { IfOk result (λ v. uids_of v.items ≡ absent.now) }
     ensures shown { IfOk result (λ v. All (IsRuledOut lines.now) v.items) }
@@ -69,7 +69,7 @@ fn are_ruled_out(
     lines: &[PackedLine],
     shown: &[ShownUid],
 ) -> Result<bool, AllocError>
-    requires { AreFirstLines lines.now }
+    requires { AreLogLines lines.now }
     ensures { IfOk result (λ b. b ≡ true → All (IsRuledOut lines.now) shown.now) }
 {
     let mut cursor = FieldCursor::first(alloc);
@@ -127,7 +127,7 @@ fn search_lines(
     lines: &[PackedLine],
     absent: &[Uid],
 ) -> Result<Vec<ShownUid>, AllocError>
-    requires lines { AreFirstLines lines.now }
+    requires lines { AreLogLines lines.now }
     requires shut { All (λ u. is_open (slots_of (entries lines.now)) u ≡ false) absent.now }
     ensures uids { IfOk result (λ v. uids_of v.items ≡ absent.now) }
     ensures shown { IfOk result (λ v. All (IsRuledOut lines.now) v.items) }
@@ -144,7 +144,7 @@ fn search_lines(
 
 /// A line that rules out a UID, if one does.
 fn first_ruling(alloc: Global, lines: &[PackedLine], uid: Uid) -> Result<Option<u32>, AllocError>
-    requires { AreFirstLines lines.now }
+    requires { AreLogLines lines.now }
     ensures { IfOk result (λ r. MatchOption r
         (is_open (slots_of (entries lines.now)) uid ≡ true) (λ n. RulesOut lines.now n uid)) }
 {

@@ -11,7 +11,8 @@ ghost use Rattle.vic_frame.specs.Replies.{Reply as ReplyValue};
 ghost use Rattle.vic_log.specs.declared.entry.Entry.TheVariants.{Heard as HeardValue};
 ghost use Rattle.vic_log.specs.declared.entry.LogLine.{LogLine as LogLineValue};
 ghost use Rattle.vic_log.specs.Order.{entries};
-ghost use Rattle.vic_verdict.specs.Demands.{IsExactFor, IsFound, IsHeard, IsMet, IsMetFor};
+ghost use Rattle.vic_verdict.specs.Verdict.{IsHeard};
+ghost use Rattle.vic_verdict.specs.Demands.{IsExactFor, IsFound, IsMet, IsMetFor};
 ghost use Rattle.vic_report.specs.Findings.{IsToldOf, ShowsCertain, uids_of};
 ghost use Rattle.vic_verdict.specs.Possible.{IsPossible};
 

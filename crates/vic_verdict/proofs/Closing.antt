@@ -7,10 +7,10 @@ use Rattle.std.proofs.lemmas.Bool.Decides.{nat_tests}
 use Rattle.std.proofs.lemmas.List.{drop-take, get_or-drop, get_or-take, get_or_default, length-drop, length-take-le, take-append-drop, take-take}
 use Rattle.std.proofs.lemmas.List.Folds.{list_any-append, list_any_at, list_any_more, Any-from_list_any}
 use Rattle.vic_verdict.specs.declared.names.Name.{Name}
-use Rattle.vic_tree.specs.Ranges.{in_ranges}
+use Rattle.vic_tree.specs.Ranges.{in_ranges, is_between}
 use Rattle.vic_verdict.specs.Closed.{Closes, is_in_some}
 use Rattle.vic_verdict.specs.declared.closed.Spot.{Spot}
-use Rattle.vic_verdict.specs.Sweep.{AreInOrder, has_where, has_left, is_between, is_in}
+use Rattle.vic_verdict.specs.Sweep.{AreInOrder, has_where, has_left, is_in}
 use Rattle.vic_verdict.proofs.Sweeping.{all_cover, between_parts, nobody, where_above, where_below}
 use Rattle.vic_tree.proofs.BoolLaws.{lt_yes, or_false}
 

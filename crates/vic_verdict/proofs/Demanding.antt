@@ -31,9 +31,9 @@ use Rattle.vic_verdict.specs.declared.demands.Stretch.{Stretch}
 use Rattle.vic_verdict.specs.declared.names.Name.{Name}
 use Rattle.vic_verdict.specs.Possible.{Lacks}
 use Rattle.vic_verdict.specs.Places.{answering}
-use Rattle.vic_verdict.specs.Sweep.{AreInOrder, HaveKeys, is_silenced}
+use Rattle.vic_verdict.specs.Sweep.{AreInOrder, HaveKeys, is_quiet_by}
 use Rattle.vic_verdict.specs.Silenced.{ArePutInOrder}
-use Rattle.vic_verdict.specs.Demands.{needs, needs_of, needs_at, all_needs, IsFoundAt, IsFound, Meets, IsDemand, IsDemandBy, is_ready, IsUnmet, IsUnmetAt, IsSaidBy, IsAskedAgain, IsInOrder, IsKept, Keeps, AreMet, AreAsked, AreFound, AreKept, asked_by, demands_to, is_asked}
+use Rattle.vic_verdict.specs.Demands.{needs, needs_of, needs_at, all_needs, IsFoundAt, IsFound, Meets, IsDemand, IsDemandBy, answers_by, IsUnmet, IsUnmetAt, IsImpliedBy, IsAskedAgain, IsInOrder, IsKept, Keeps, AreMet, AreAsked, AreFound, AreKept, asked_by, demands_to, is_asked}
 use Rattle.vic_verdict.proofs.Silencing.{silenced_later}
 use Rattle.vic_verdict.proofs.Entries.{asks_two_iff, asks_one_iff}
 use Rattle.vic_verdict.proofs.Supplied.{UpToThree-same}
@@ -42,7 +42,7 @@ use Rattle.vic_verdict.proofs.Supplied.{UpToThree-same}
 
 -- the answers of a slot, told of the UIDs of a set
 abbrev pub ready_of : (ℕ → Bool) → List Name → Demand → ℕ → Bool
-ready_of set ns d u = (is_uid u && set u) && is_ready ns d u
+ready_of set ns d u = (is_uid u && set u) && answers_by ns d u
 
 pub none_ready : (set : ℕ → Bool) (ns : List Name) (d : Demand) → ((u : ℕ) → IsUid u → lies_in_some d.mask u ≡ false) → UpToThree (ready_of set ns d) []
 none_ready set ns d none = record {
@@ -64,13 +64,13 @@ any_has p (x ∷ us) u h e =
     (or_cases _ _ h)
 
 -- the first UIDs found, where none of them is Quiet
-pub first_ready : (set : ℕ → Bool) (ns : List Name) (d : Demand) (m : BitMask) (us : List ℕ) → ((u : ℕ) → IsUid u → lies_in_some d.mask u ≡ lies_in m u) → UpToThree (in_mask set m []) us → list_any (λ u. is_silenced ns (mirror u) d.at) us ≡ false → UpToThree (ready_of set ns d) us
+pub first_ready : (set : ℕ → Bool) (ns : List Name) (d : Demand) (m : BitMask) (us : List ℕ) → ((u : ℕ) → IsUid u → lies_in_some d.mask u ≡ lies_in m u) → UpToThree (in_mask set m []) us → list_any (λ u. is_quiet_by ns (mirror u) d.at) us ≡ false → UpToThree (ready_of set ns d) us
 first_ready set ns d m us same h none = record {
   different = h.different;
   members = λ u k.
       let w = and_parts _ _ (h.members u k) in
       let uid = IsUid-from u (and_parts (is_uid u) (set u) w.0).0 in
-      and_from _ _ w.0 (and_from _ _ (same u uid ∙ (and_parts _ _ w.1).0) (go (is_silenced ns (mirror u) d.at) (λ e. absurd (both_ways _ none (any_has (λ v. is_silenced ns (mirror v) d.at) us u k e)))));
+      and_from _ _ w.0 (and_from _ _ (same u uid ∙ (and_parts _ _ w.1).0) (go (is_quiet_by ns (mirror u) d.at) (λ e. absurd (both_ways _ none (any_has (λ v. is_quiet_by ns (mirror v) d.at) us u k e)))));
   all = λ few u k.
       let w = and_parts _ _ k in
       let uid = IsUid-from u (and_parts (is_uid u) (set u) w.0).0 in
@@ -86,11 +86,11 @@ first_ready set ns d m us same h none = record {
 found_answers : (es : List Entry) (set : ℕ → Bool) (ns : List Name) (d : Demand) (us : List ℕ) → SameUids set (is_open (slots_of es)) → IsDemandBy es ns d → UpToThree (ready_of set ns d) us → UpToThree (answering (is_open (slots_of es)) es d.at) us
 found_answers es set ns d us same h found = UpToThree-same (ready_of set ns d) (answering (is_open (slots_of es)) es d.at) us (λ u. go u (is_uid u) refl) found
   where
-    go : (u : ℕ) (b : Bool) → is_uid u ≡ b → ((b && set u) && is_ready ns d u) ≡ ((b && list_all (allows u) (slots_of es)) && answers_at es d.at u)
+    go : (u : ℕ) (b : Bool) → is_uid u ≡ b → ((b && set u) && answers_by ns d u) ≡ ((b && list_all (allows u) (slots_of es)) && answers_at es d.at u)
     go u true e =
         let w = IsUid-from u e in
         let o : set u ≡ list_all (allows u) (slots_of es) = same u w ∙ ap (λ b. b && list_all (allows u) (slots_of es)) e in
-        ap (λ x. x && is_ready ns d u) o ∙ ap (λ x. list_all (allows u) (slots_of es) && x) (h.answers u w)
+        ap (λ x. x && answers_by ns d u) o ∙ ap (λ x. list_all (allows u) (slots_of es) && x) (h.answers u w)
     go u false e = refl
 
 pub found_at : (es : List Entry) (set : ℕ → Bool) (ns : List Name) (d : Demand) (f : Found) → SameUids set (is_open (slots_of es)) → IsDemandBy es ns d → UpToThree (ready_of set ns d) f.uids.items → f.at ≡ d.at → f.need ≡ d.need → d.need ≤ length f.uids.items → IsFoundAt es d.at f
@@ -112,7 +112,7 @@ not_later true true f e = e
 not_later false true f e = f refl
 not_later b false f e = refl
 
-pub meets_again : (es : List Entry) (ns : List Name) (d next : Demand) (f : Found) → IsDemandBy es ns d → IsDemandBy es ns next → IsSaidBy d next → Meets es f next.at → Meets es f d.at
+pub meets_again : (es : List Entry) (ns : List Name) (d next : Demand) (f : Found) → IsDemandBy es ns d → IsDemandBy es ns next → IsImpliedBy d next → Meets es f next.at → Meets es f d.at
 meets_again es ns d next f h g said m = record {
   need = h.need ∙ (said.need ∙ (sym g.need ∙ m.need));
   answer = λ u k.
@@ -371,12 +371,12 @@ needs_agree (suc n) es fs agree =
     omega (arith, one, other, here, before)
 
 -- whoever answers by the names answers
-demand_by : (es : List Entry) (i : ℕ) (ns : List Name) (d : Demand) → ((u : ℕ) → IsUid u → is_silenced ns (mirror u) d.at ≡ is_quiet es d.at u) → (from : ℕ) → IsDemand es from i d → IsDemandBy es ns d
+demand_by : (es : List Entry) (i : ℕ) (ns : List Name) (d : Demand) → ((u : ℕ) → IsUid u → is_quiet_by ns (mirror u) d.at ≡ is_quiet es d.at u) → (from : ℕ) → IsDemand es from i d → IsDemandBy es ns d
 demand_by es i ns d quiet from h = record {
   asked = h.asked;
   need = h.need;
   answers = λ u w.
-      ap (λ o. lies_in_some o u && not (is_silenced ns (mirror u) d.at)) h.mask
+      ap (λ o. lies_in_some o u && not (is_quiet_by ns (mirror u) d.at)) h.mask
       ∙ ap (λ b. lies_in_some (mask_at es d.at) u && not b) (quiet u w);
 }
 
@@ -408,7 +408,7 @@ asked_to cut j (d ∷ ds) below = go (nat_lt d.at cut) (d.at == j) refl refl (as
     go false false e f rest = rest
 
 -- the demands of a stretch up to a cut are kept
-pub kept_to : (es fs : List Entry) (from i cut : ℕ) (ns ms : List Name) (ds : List Demand) (old new : List Stretch) → AgreeBefore cut fs es → from ≤ cut → cut ≤ i → HaveKeys ns → ((j u : ℕ) → from ≤ j → j ≤ i → IsUid u → is_silenced ns (mirror u) j ≡ is_quiet es j u) → ArePutInOrder ns ms → Keeps ms ds cut old new → AreAsked es from i ds → AreKept es from old → AreKept fs cut new
+pub kept_to : (es fs : List Entry) (from i cut : ℕ) (ns ms : List Name) (ds : List Demand) (old new : List Stretch) → AgreeBefore cut fs es → from ≤ cut → cut ≤ i → HaveKeys ns → ((j u : ℕ) → from ≤ j → j ≤ i → IsUid u → is_quiet_by ns (mirror u) j ≡ is_quiet es j u) → ArePutInOrder ns ms → Keeps ms ds cut old new → AreAsked es from i ds → AreKept es from old → AreKept fs cut new
 kept_to es fs from i cut ns ms ds old new agree since upto keys quiet order keeps h before = ⊎_elim none some keeps
   where
     old_kept : All (IsKept fs cut) old

@@ -5,11 +5,11 @@ use Rattle.std.proofs.lemmas.Bool.{cases_lt}
 use Rattle.std.proofs.lemmas.List.{take-append-drop, take-map, length-map, length-take}
 use Rattle.vic_log.specs.declared.entry.Entry.TheVariants.{Sent}
 use Rattle.vic_log.specs.declared.entry.LogLine.{LogLine}
-use Rattle.vic_verdict.specs.declared.met.Contradiction.{Contradiction}
+use Rattle.vic_verdict.specs.declared.possible.Contradiction.{Contradiction}
 use Rattle.vic_verdict.specs.Possible.{IsPossible, IsContradictedAt, IsContradiction}
 use Rattle.vic_verdict.proofs.Possibility.{IsPossible-front}
 use Rattle.vic_log.specs.Order.{IsInOrder, entries, AreValid, IsRisingFrom}
-use Rattle.vic_verdict.specs.FirstLines.{AreFirstLines}
+use Rattle.vic_verdict.specs.LogLines.{AreLogLines}
 use Rattle.vic_log.proofs.Order.{IsInOrder-front, still_there}
 
 pub record Between (lines : List LogLine) (low high : ℕ) : Type 0 where
@@ -41,7 +41,7 @@ rising_front (suc n) below [] r = tt
 rising_front (suc n) below (l ∷ lines) r = (r.0, rising_front n l.number lines r.1)
 
 -- the first of some first lines are first lines
-pub first_front : (n : ℕ) (lines : List LogLine) → AreFirstLines lines → AreFirstLines (take n lines)
+pub first_front : (n : ℕ) (lines : List LogLine) → AreLogLines lines → AreLogLines (take n lines)
 first_front n lines f = record {
   order = order_front n lines f.order;
   valid = valid_front n lines f.valid;

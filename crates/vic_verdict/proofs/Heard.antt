@@ -23,7 +23,7 @@ use Rattle.vic_log.proofs.Places.{answers_agree, agree_upto}
 use Rattle.vic_verdict.specs.declared.names.Name.{Name}
 use Rattle.vic_verdict.specs.Possible.{IsPossible, IsContradictedAt}
 use Rattle.vic_verdict.specs.Replies.{Answers, reply_place, is_quiet_reply, IsQuietReply, IsFirstQuietReply, IsHeardAt, IsReplyAt, AreHeard}
-use Rattle.vic_verdict.specs.Sweep.{quiet_of, is_silenced}
+use Rattle.vic_verdict.specs.Sweep.{quiet_of, is_quiet_by}
 use Rattle.vic_verdict.proofs.Silencing.{silenced_permuted}
 use Rattle.vic_verdict.proofs.Stretching.{IsPlaced, quiet_silent, quiet_heard, beside_all, placed_next, silenced_next, silenced_after, quiet_named, quiet_next, still_quiet}
 use Rattle.vic_verdict.proofs.Supplied.{supplied_each}
@@ -58,9 +58,9 @@ outside_reply es i r k out = up_to_it es i r k (λ answers. both_ways _ out (and
 
 -- ---- the place of a reply
 
-none_at_start : (ns : List Name) (k : ℕ) → is_silenced ns k 0 ≡ false
+none_at_start : (ns : List Name) (k : ℕ) → is_quiet_by ns k 0 ≡ false
 none_at_start [] k = refl
-none_at_start (n ∷ ns) k = ap (λ b. b || is_silenced ns k 0) (and_right (n.key == k) _ (not_below (quiet_of n))) ∙ none_at_start ns k
+none_at_start (n ∷ ns) k = ap (λ b. b || is_quiet_by ns k 0) (and_right (n.key == k) _ (not_below (quiet_of n))) ∙ none_at_start ns k
   where
     not_below : (q : ℕ) → nat_lt q 0 ≡ false
     not_below q = grind (arith, nat_tests)
@@ -69,12 +69,12 @@ place_of : (n : Name) → n.is_heard ≡ true → reply_place n ≡ n.at
 place_of n e = ap (λ b. if b then n.at else 0) e
 
 -- whoever is Quiet at its reply was heard there
-quiet_place : (ns : List Name) (n : Name) → is_silenced ns n.key (reply_place n) ≡ true → n.is_heard ≡ true
+quiet_place : (ns : List Name) (n : Name) → is_quiet_by ns n.key (reply_place n) ≡ true → n.is_heard ≡ true
 quiet_place ns n e = go n.is_heard refl
   where
     go : (b : Bool) → n.is_heard ≡ b → n.is_heard ≡ true
     go true f = f
-    go false f = absurd (both_ways _ (none_at_start ns n.key) (subst (λ b. is_silenced ns n.key (if b then n.at else 0) ≡ true) f e))
+    go false f = absurd (both_ways _ (none_at_start ns n.key) (subst (λ b. is_quiet_by ns n.key (if b then n.at else 0) ≡ true) f e))
 
 -- ---- from place to place
 
@@ -88,15 +88,15 @@ replies_next es from i ns h k d below lt =
     record { reply = it.reply; heard = it.heard; key = it.key; is_uid = it.is_uid; inside = it.inside; since = it.since; before = omega (arith, before) }
 
 -- at the next place
-quiet_range : (es : List Entry) (from i : ℕ) (ns ms : List Name) → ((j u : ℕ) → j ≤ i → is_silenced ms (mirror u) j ≡ is_silenced ns (mirror u) j) → ((u : ℕ) → IsUid u → is_silenced ms (mirror u) (i + 1) ≡ is_quiet es (i + 1) u) → ((j u : ℕ) → from ≤ j → j ≤ i → IsUid u → is_silenced ns (mirror u) j ≡ is_quiet es j u) → (j u : ℕ) → from ≤ j → j ≤ i + 1 → IsUid u → is_silenced ms (mirror u) j ≡ is_quiet es j u
+quiet_range : (es : List Entry) (from i : ℕ) (ns ms : List Name) → ((j u : ℕ) → j ≤ i → is_quiet_by ms (mirror u) j ≡ is_quiet_by ns (mirror u) j) → ((u : ℕ) → IsUid u → is_quiet_by ms (mirror u) (i + 1) ≡ is_quiet es (i + 1) u) → ((j u : ℕ) → from ≤ j → j ≤ i → IsUid u → is_quiet_by ns (mirror u) j ≡ is_quiet es j u) → (j u : ℕ) → from ≤ j → j ≤ i + 1 → IsUid u → is_quiet_by ms (mirror u) j ≡ is_quiet es j u
 quiet_range es from i ns ms same next quiet j u since upto w =
     ⊎_elim
-    (λ e. subst (λ n. is_silenced ms (mirror u) n ≡ is_quiet es n u) (sym e) (next u w))
+    (λ e. subst (λ n. is_quiet_by ms (mirror u) n ≡ is_quiet es n u) (sym e) (next u w))
     (λ ne. same j u (omega (arith, upto, ne)) ∙ quiet j u since (omega (arith, upto, ne)) w)
     (cases_eq j (i + 1))
 
 -- what the names tell at the place after an entry that silences and wakes nobody
-quiet_still : (es : List Entry) (from i u : ℕ) (ns : List Name) (e : Entry) → slice_get es i ≡ Some e → i < 2 ^ 32 → wakes (Some e) ≡ false → silences (Some e) u ≡ false → IsUid u → AreHeard es from i ns → is_silenced ns (mirror u) (i + 1) ≡ is_quiet es (i + 1) u
+quiet_still : (es : List Entry) (from i u : ℕ) (ns : List Name) (e : Entry) → slice_get es i ≡ Some e → i < 2 ^ 32 → wakes (Some e) ≡ false → silences (Some e) u ≡ false → IsUid u → AreHeard es from i ns → is_quiet_by ns (mirror u) (i + 1) ≡ is_quiet es (i + 1) u
 quiet_still es from i u ns e k lt awake none w h =
     silenced_next ns (mirror u) i (beside_all i ns lt h.names) ∙ (h.quiet i u h.begun (omega arith) w ∙ (still_quiet _ _ (is_quiet es i u) none awake ∙ sym (quiet_next es i u e k)))
 
@@ -181,15 +181,15 @@ not_quiet false e = refl
 -- a reply by a UID that is Quiet there
 pub quiet_contradicts : (es : List Entry) (from i at : ℕ) (ns : List Name) → AreHeard es from i ns → IsQuietReply ns at → IsContradictedAt es at
 quiet_contradicts es from i at ns a some =
-    let w = Any-from_list_any (λ (n : Name). (reply_place n == at) && is_silenced ns n.key at) ns some in
+    let w = Any-from_list_any (λ (n : Name). (reply_place n == at) && is_quiet_by ns n.key at) ns some in
     let n : Name = w.1 in
-    let parts = and_parts (reply_place n == at) (is_silenced ns n.key at) w.4 in
+    let parts = and_parts (reply_place n == at) (is_quiet_by ns n.key at) w.4 in
     let place = eqb-true (reply_place n) at parts.0 in
-    let late = quiet_place ns n (subst (λ p. is_silenced ns n.key p ≡ true) (sym place) parts.1) in
+    let late = quiet_place ns n (subst (λ p. is_quiet_by ns n.key p ≡ true) (sym place) parts.1) in
     let here : n.at ≡ at = sym (place_of n late) ∙ place in
     let it = subst (HeardIn es from i) w.3 (a.replies w.0 n w.2) late in
     let before = it.before in
-    let quiet = sym (a.quiet n.at it.reply.uid it.since (omega (arith, before)) it.is_uid) ∙ (ap (λ key. is_silenced ns key n.at) (sym it.key) ∙ (ap (is_silenced ns n.key) here ∙ parts.1)) in
+    let quiet = sym (a.quiet n.at it.reply.uid it.since (omega (arith, before)) it.is_uid) ∙ (ap (λ key. is_quiet_by ns key n.at) (sym it.key) ∙ (ap (is_quiet_by ns n.key) here ∙ parts.1)) in
     subst (λ p. IsContradictedAt es p) here (up_to_it es n.at it.reply it.heard (λ answers.
     both_ways _ (ap not quiet) (and_parts (lies_in_some (mask_at es n.at) it.reply.uid) (not (is_quiet es n.at it.reply.uid)) answers).1))
 
@@ -198,11 +198,11 @@ pub quiet_since : (es : List Entry) (from i cut : ℕ) (ns : List Name) → AreH
 quiet_since es from i cut ns a first =
     ⊎_elim
     (λ lt.
-    let w = Any-from_list_any (λ (n : Name). (reply_place n == cut) && is_silenced ns n.key cut) ns (first.quiet lt) in
+    let w = Any-from_list_any (λ (n : Name). (reply_place n == cut) && is_quiet_by ns n.key cut) ns (first.quiet lt) in
     let n : Name = w.1 in
-    let parts = and_parts (reply_place n == cut) (is_silenced ns n.key cut) w.4 in
+    let parts = and_parts (reply_place n == cut) (is_quiet_by ns n.key cut) w.4 in
     let place = eqb-true (reply_place n) cut parts.0 in
-    let late = quiet_place ns n (subst (λ p. is_silenced ns n.key p ≡ true) (sym place) parts.1) in
+    let late = quiet_place ns n (subst (λ p. is_quiet_by ns n.key p ≡ true) (sym place) parts.1) in
     let at = place_of n late in
     let it = subst (HeardIn es from i) w.3 (a.replies w.0 n w.2) late in
     let since = it.since in
@@ -222,11 +222,11 @@ answers_before es from i cut ns a first j r below early k =
     let it = subst (HeardIn es from i) w.3 (a.replies w.0 n w.2) late in
     let before = it.before in
     let silent : is_quiet_reply ns n ≡ false = false_from_ne_true _ (λ quiet.
-    let here : IsQuietReply ns (reply_place n) = list_any_at (λ (m : Name). (reply_place m == reply_place n) && is_silenced ns m.key (reply_place n)) ns w.0 n w.2 (subst (λ (m : Name). ((reply_place m == reply_place n) && is_silenced ns m.key (reply_place n)) ≡ true) (sym w.3) (and_from _ _ (eq-eqb _ _ refl) quiet)) in
+    let here : IsQuietReply ns (reply_place n) = list_any_at (λ (m : Name). (reply_place m == reply_place n) && is_quiet_by ns m.key (reply_place n)) ns w.0 n w.2 (subst (λ (m : Name). ((reply_place m == reply_place n) && is_quiet_by ns m.key (reply_place n)) ≡ true) (sym w.3) (and_from _ _ (eq-eqb _ _ refl) quiet)) in
     let le = first (reply_place n) here in
     let at = w.4.0 in
     absurd (omega (arith, le, place, at, early))) in
-    let awake = sym (a.quiet n.at it.reply.uid it.since (omega (arith, before)) it.is_uid) ∙ (ap (λ key. is_silenced ns key n.at) (sym it.key) ∙ (ap (is_silenced ns n.key) (sym place) ∙ silent)) in
+    let awake = sym (a.quiet n.at it.reply.uid it.since (omega (arith, before)) it.is_uid) ∙ (ap (λ key. is_quiet_by ns key n.at) (sym it.key) ∙ (ap (is_quiet_by ns n.key) (sym place) ∙ silent)) in
     let here = and_from _ _ it.inside (not_quiet (is_quiet es n.at it.reply.uid) awake) in
     let both : Some (Heard it.reply) ≡ Some (Heard r) = sym it.heard ∙ subst (λ m. slice_get es m ≡ Some (Heard r)) (sym w.4.0) k in
     let same : it.reply ≡ r = cc in
@@ -269,7 +269,7 @@ any_alike p q h (n ∷ ns) = ap (λ b. b || list_any p ns) (h n) ∙ ap (λ b. q
 
 quiet_permuted : (ns ms : List Name) (at : ℕ) → IsPermutation ns ms → IsQuietReply ms at → IsQuietReply ns at
 quiet_permuted ns ms at m e =
-    list_any-IsPermutation (λ n. (reply_place n == at) && is_silenced ns n.key at) ns ms m
+    list_any-IsPermutation (λ n. (reply_place n == at) && is_quiet_by ns n.key at) ns ms m
     ∙ (any_alike _ _ (λ n. ap (λ b. (reply_place n == at) && b) (sym (silenced_permuted ns ms n.key at m))) ms ∙ e)
 
 pub first_permuted : (ns ms : List Name) (end at : ℕ) → IsPermutation ns ms → IsFirstQuietReply ms end at → IsFirstQuietReply ns end at

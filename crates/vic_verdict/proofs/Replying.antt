@@ -9,7 +9,8 @@ use Rattle.std.proofs.lemmas.List.Folds.{list_any_at, Any-from_list_any}
 use Rattle.vic_verdict.specs.declared.names.Name.{Name}
 use Rattle.vic_verdict.specs.declared.names.TheConstants.{NEVER}
 use Rattle.vic_verdict.specs.Replies.{reply_place, is_quiet_reply, IsQuietReply, IsFirstQuietReply}
-use Rattle.vic_verdict.specs.Sweep.{quiet_of, is_silenced, is_between, has_where, AreInOrder}
+use Rattle.vic_tree.specs.Ranges.{is_between}
+use Rattle.vic_verdict.specs.Sweep.{quiet_of, is_quiet_by, has_where, AreInOrder}
 use Rattle.vic_verdict.proofs.Closing.{between_from}
 use Rattle.vic_verdict.proofs.Sweeping.{nobody, between_parts}
 use Rattle.vic_tree.proofs.BoolLaws.{lt_from, lt_yes}
@@ -20,19 +21,19 @@ at ns i = get_or ns i nobody
 
 -- the places at which the UID of a name is Quiet are those after this one
 abbrev pub TellsFrom : List Name → ℕ → ℕ → Type 0
-TellsFrom ns k quiet = (i : ℕ) → i ≤ NEVER → is_silenced ns (at ns k).key i ≡ nat_lt quiet i
+TellsFrom ns k quiet = (i : ℕ) → i ≤ NEVER → is_quiet_by ns (at ns k).key i ≡ nat_lt quiet i
 
 -- where a UID falls silent first by the names of its key
-pub quiet_own : (own : List Name) (key i : ℕ) → All (λ (n : Name). is_between key key n.key ≡ true) own → is_silenced own key i ≡ list_any (λ (n : Name). nat_lt (quiet_of n) i) own
+pub quiet_own : (own : List Name) (key i : ℕ) → All (λ (n : Name). is_between key key n.key ≡ true) own → is_quiet_by own key i ≡ list_any (λ (n : Name). nat_lt (quiet_of n) i) own
 quiet_own [] key i inside = refl
 quiet_own (n ∷ own) key i inside =
     let parts = between_parts key key n.key (All-head (λ (m : Name). is_between key key m.key ≡ true) n own inside) in
     let from = parts.0 in
     let to = parts.1 in
-    ap (λ b. (b && nat_lt (quiet_of n) i) || is_silenced own key i) (eq-eqb n.key key (omega (arith, from, to)))
+    ap (λ b. (b && nat_lt (quiet_of n) i) || is_quiet_by own key i) (eq-eqb n.key key (omega (arith, from, to)))
     ∙ ap (λ b. nat_lt (quiet_of n) i || b) (quiet_own own key i (All-tail (λ (m : Name). is_between key key m.key ≡ true) n own inside))
 
-pub tells_own : (ns own : List Name) (key quiet i : ℕ) → All (λ (n : Name). is_between key key n.key ≡ true) own → ((test : Name → Bool) (k : ℕ) → is_between key key k ≡ true → has_where test own k ≡ has_where test ns k) → nat_lt quiet i ≡ list_any (λ (n : Name). nat_lt (quiet_of n) i) own → is_silenced ns key i ≡ nat_lt quiet i
+pub tells_own : (ns own : List Name) (key quiet i : ℕ) → All (λ (n : Name). is_between key key n.key ≡ true) own → ((test : Name → Bool) (k : ℕ) → is_between key key k ≡ true → has_where test own k ≡ has_where test ns k) → nat_lt quiet i ≡ list_any (λ (n : Name). nat_lt (quiet_of n) i) own → is_quiet_by ns key i ≡ nat_lt quiet i
 tells_own ns own key quiet i inside all first =
     sym (all (λ (n : Name). nat_lt (quiet_of n) i) key (between_from key key key (omega arith) (omega arith))) ∙ (quiet_own own key i inside ∙ sym first)
 
@@ -40,7 +41,7 @@ tells_own ns own key quiet i inside all first =
 pub tells_still : (ns : List Name) (k quiet : ℕ) → AreInOrder ns → 0 < k → k < length ns → (at ns k).key ≤ (at ns (k - 1)).key → TellsFrom ns (k - 1) quiet → TellsFrom ns k quiet
 tells_still ns k quiet up some below le tells i upto =
     let over = up (k - 1) k nobody (omega arith) below in
-    ap (λ key. is_silenced ns key i) (omega (arith, over, le)) ∙ tells i upto
+    ap (λ key. is_quiet_by ns key i) (omega (arith, over, le)) ∙ tells i upto
 
 -- what is found of the first k names
 pub record IsFoundTo (ns : List Name) (end k first : ℕ) : Type 0 where
@@ -53,7 +54,7 @@ found_first ns end = record { within = omega arith; quiet = λ lt. absurd (omega
 
 -- a reply of a Quiet UID
 quiet_here : (ns : List Name) (k : ℕ) → k < length ns → is_quiet_reply ns (at ns k) ≡ true → IsQuietReply ns (reply_place (at ns k))
-quiet_here ns k below e = list_any_at (λ (n : Name). (reply_place n == reply_place (at ns k)) && is_silenced ns n.key (reply_place (at ns k))) ns k nobody below (and_from _ _ (eq-eqb _ _ refl) e)
+quiet_here ns k below e = list_any_at (λ (n : Name). (reply_place n == reply_place (at ns k)) && is_quiet_by ns n.key (reply_place (at ns k))) ns k nobody below (and_from _ _ (eq-eqb _ _ refl) e)
 
 -- the next name is one
 pub found_more : (ns : List Name) (end quiet k first next : ℕ) → k < length ns → reply_place (at ns k) ≤ NEVER → TellsFrom ns k quiet → quiet < reply_place (at ns k) → next ≤ first → next ≤ reply_place (at ns k) → (next ≡ first) ⊎ (next ≡ reply_place (at ns k)) → IsFoundTo ns end k first → IsFoundTo ns end (k + 1) next
@@ -84,13 +85,13 @@ found_all ns end k first past f = record {
   within = f.within;
   quiet = f.quiet;
   first = λ m e.
-      let some = Any-from_list_any (λ (n : Name). (reply_place n == m) && is_silenced ns n.key m) ns e in
+      let some = Any-from_list_any (λ (n : Name). (reply_place n == m) && is_quiet_by ns n.key m) ns e in
       let n : Name = some.1 in
       let within = some.2 in
       let here : at ns some.0 ≡ n = sym (get_or_default ns some.0 n nobody within) ∙ some.3 in
-      let parts = and_parts (reply_place n == m) (is_silenced ns n.key m) some.4 in
+      let parts = and_parts (reply_place n == m) (is_quiet_by ns n.key m) some.4 in
       let placed = eqb-true (reply_place n) m parts.0 in
-      let it : is_quiet_reply ns n ≡ true = subst (λ i. is_silenced ns n.key i ≡ true) (sym placed) parts.1 in
+      let it : is_quiet_reply ns n ≡ true = subst (λ i. is_quiet_by ns n.key i ≡ true) (sym placed) parts.1 in
       let far = f.least some.0 (omega (arith, within, past)) (ap (is_quiet_reply ns) here ∙ it) in
       let same = ap reply_place here in
       omega (arith, far, same, placed);

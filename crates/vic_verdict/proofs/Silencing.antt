@@ -11,12 +11,12 @@ use Rattle.std.proofs.lemmas.List.Folds.{list_any-append, list_any_more}
 use Rattle.vic_frame.specs.Uids.{has}
 use Rattle.vic_tree.specs.OpenSet.{AreKeys}
 use Rattle.vic_verdict.specs.declared.names.Name.{Name}
-use Rattle.vic_verdict.specs.Sweep.{AreInOrder, HaveKeys, keep_all, quiet_of, is_silenced}
+use Rattle.vic_verdict.specs.Sweep.{AreInOrder, HaveKeys, keep_all, quiet_of, is_quiet_by}
 use Rattle.vic_verdict.proofs.Sweeping.{nobody, keep-order, keep-keys, keep-quiet}
 use Rattle.vic_verdict.specs.Silenced.{ArePutInOrder}
 use Rattle.vic_tree.proofs.BoolLaws.{lt_yes}
 
-pub silenced_permuted : (ns ms : List Name) (k i : ℕ) → IsPermutation ns ms → is_silenced ms k i ≡ is_silenced ns k i
+pub silenced_permuted : (ns ms : List Name) (k i : ℕ) → IsPermutation ns ms → is_quiet_by ms k i ≡ is_quiet_by ns k i
 silenced_permuted ns ms k i m = sym (list_any-IsPermutation (λ (n : Name). (n.key == k) && nat_lt (quiet_of n) i) ns ms m)
 
 -- sorted, and some of them ruled out
@@ -31,7 +31,7 @@ lt_more : (q i j : ℕ) → i ≤ j → nat_lt q i ≡ true → nat_lt q j ≡ t
 lt_more q i j le e = grind (arith, nat_tests)
 
 -- whoever is Quiet stays so
-pub silenced_later : (ns : List Name) (k i j : ℕ) → i ≤ j → is_silenced ns k i ≡ true → is_silenced ns k j ≡ true
+pub silenced_later : (ns : List Name) (k i j : ℕ) → i ≤ j → is_quiet_by ns k i ≡ true → is_quiet_by ns k j ≡ true
 silenced_later [] k i j le e = absurd (false≢true e)
 silenced_later (n ∷ ns) k i j le e =
     ⊎_elim
@@ -46,7 +46,7 @@ pub record AreQuietKeys (at : ℕ) (ns : List Name) (i : ℕ) (ks : List ℕ) : 
   pub order : IsNonDecreasing ks
   pub keys : AreKeys ks
   pub lower : All (λ k. (j : ℕ) → i ≤ j → j < length ns → k ≤ (get_or ns j nobody).key) ks
-  pub members : (k : ℕ) → has ks k ≡ is_silenced (take i ns) k at
+  pub members : (k : ℕ) → has ks k ≡ is_quiet_by (take i ns) k at
 
 turned : (a b : ℕ) → (a == b) ≡ (b == a)
 turned a b = grind (arith, nat_tests)
@@ -60,7 +60,7 @@ quiet_key at ns i ks vs up small q below quiet is = subst (AreQuietKeys at ns (i
   members = λ k.
       list_any-append (nat_eq k) ks (key ∷ [])
       ∙ ap (λ b. b || ((k == key) || false)) (q.members k)
-      ∙ ap (λ b. is_silenced (take i ns) k at || b) (one (k == key) (nat_lt (quiet_of (get_or ns i nobody)) at) (lt_yes _ _ quiet) ∙ ap (λ b. b && nat_lt (quiet_of (get_or ns i nobody)) at) (turned k key))
+      ∙ ap (λ b. is_quiet_by (take i ns) k at || b) (one (k == key) (nat_lt (quiet_of (get_or ns i nobody)) at) (lt_yes _ _ quiet) ∙ ap (λ b. b && nat_lt (quiet_of (get_or ns i nobody)) at) (turned k key))
       ∙ sym (list_any_more (λ (n : Name). (n.key == k) && nat_lt (quiet_of n) at) ns i nobody below);
 }) where
   key : ℕ
@@ -79,7 +79,7 @@ other_key at ns i ks q below late = record {
   lower = λ n d lt j le more. q.lower n d lt j (omega arith) more;
   members = λ k.
       q.members k
-      ∙ none (is_silenced (take i ns) k at) ((get_or ns i nobody).key == k) (nat_lt (quiet_of (get_or ns i nobody)) at) late
+      ∙ none (is_quiet_by (take i ns) k at) ((get_or ns i nobody).key == k) (nat_lt (quiet_of (get_or ns i nobody)) at) late
       ∙ sym (list_any_more (λ (n : Name). (n.key == k) && nat_lt (quiet_of n) at) ns i nobody below);
 } where
   none : (a b c : Bool) → c ≡ false → a ≡ (a || (b && c))

@@ -20,7 +20,7 @@ use Rattle.vic_log.specs.Slots.{reading_of, slots_before, is_open}
 use Rattle.vic_verdict.specs.declared.names.Name.{Name}
 use Rattle.vic_verdict.specs.declared.names.TheConstants.{NEVER}
 use Rattle.vic_verdict.specs.declared.closed.Spot.{Spot}
-use Rattle.vic_verdict.specs.Sweep.{quiet_of, heard_of, is_heard, is_in, is_silenced, spot_allows, all_allow, all_allow_to, is_named, is_named_if, all_hear_named, are_left}
+use Rattle.vic_verdict.specs.Sweep.{quiet_of, heard_of, is_heard, is_in, is_quiet_by, spot_allows, all_allow, all_allow_to, is_named, is_named_if, all_hear_named, are_left}
 use Rattle.vic_verdict.specs.Stretches.{AddsSpot, IsStretch}
 use Rattle.vic_verdict.proofs.Entries.{entry_allows}
 use Rattle.vic_verdict.proofs.Stands.{open_next}
@@ -31,11 +31,11 @@ lt_no x y e = grind (arith, nat_tests)
 
 -- ---- a name more
 
-pub silenced_pushed : (ns : List Name) (n : Name) (k i : ℕ) → is_silenced (ns ++ n ∷ []) k i ≡ (is_silenced ns k i || ((n.key == k) && nat_lt (quiet_of n) i))
-silenced_pushed ns n k i = list_any-append (λ (m : Name). (m.key == k) && nat_lt (quiet_of m) i) ns (n ∷ []) ∙ ap (λ b. is_silenced ns k i || b) (or_false ((n.key == k) && nat_lt (quiet_of n) i))
+pub silenced_pushed : (ns : List Name) (n : Name) (k i : ℕ) → is_quiet_by (ns ++ n ∷ []) k i ≡ (is_quiet_by ns k i || ((n.key == k) && nat_lt (quiet_of n) i))
+silenced_pushed ns n k i = list_any-append (λ (m : Name). (m.key == k) && nat_lt (quiet_of m) i) ns (n ∷ []) ∙ ap (λ b. is_quiet_by ns k i || b) (or_false ((n.key == k) && nat_lt (quiet_of n) i))
 
-pub silenced_after : (ns : List Name) (n : Name) (k i : ℕ) → i ≤ quiet_of n → is_silenced (ns ++ n ∷ []) k i ≡ is_silenced ns k i
-silenced_after ns n k i h = silenced_pushed ns n k i ∙ (ap (λ b. is_silenced ns k i || b) (and_right (n.key == k) (nat_lt (quiet_of n) i) (lt_no (quiet_of n) i h)) ∙ or_false (is_silenced ns k i))
+pub silenced_after : (ns : List Name) (n : Name) (k i : ℕ) → i ≤ quiet_of n → is_quiet_by (ns ++ n ∷ []) k i ≡ is_quiet_by ns k i
+silenced_after ns n k i h = silenced_pushed ns n k i ∙ (ap (λ b. is_quiet_by ns k i || b) (and_right (n.key == k) (nat_lt (quiet_of n) i) (lt_no (quiet_of n) i h)) ∙ or_false (is_quiet_by ns k i))
 
 -- the place after which a UID is Quiet by a name
 pub quiet_silent : (n : Name) → n.is_heard ≡ false → quiet_of n ≡ n.at
@@ -62,10 +62,10 @@ beside_all i ns small h k d below = go (get_or ns k d) (h k d below)
         at true e = inr (let q = quiet_heard n e in omega (arith, q, small))
         at false e = inl (let q = quiet_silent n e in let lt = placed e in omega (arith, q, lt))
 
-pub silenced_next : (ns : List Name) (k i : ℕ) → All (IsBeside i) ns → is_silenced ns k (i + 1) ≡ is_silenced ns k i
+pub silenced_next : (ns : List Name) (k i : ℕ) → All (IsBeside i) ns → is_quiet_by ns k (i + 1) ≡ is_quiet_by ns k i
 silenced_next [] k i h = refl
 silenced_next (n ∷ ns) k i h =
-    ap (λ b. ((n.key == k) && b) || is_silenced ns k (i + 1)) (go (All-head (IsBeside i) n ns h))
+    ap (λ b. ((n.key == k) && b) || is_quiet_by ns k (i + 1)) (go (All-head (IsBeside i) n ns h))
     ∙ ap (λ b. ((n.key == k) && nat_lt (quiet_of n) i) || b) (silenced_next ns k i (All-tail (IsBeside i) n ns h))
   where
     yes : (x y : ℕ) → x < y → nat_lt x (y + 1) ≡ nat_lt x y
@@ -181,7 +181,7 @@ stretch_passed es from i set ns ss e k lt awake none all h = record {
 }
 
 -- whoever a Stay Quiet names is Quiet after it, by the name
-pub quiet_named : (es : List Entry) (i u : ℕ) (e : Entry) (ns : List Name) (n : Name) → slice_get es i ≡ Some e → wakes (Some e) ≡ false → silences (Some e) u ≡ (n.key == mirror u) → quiet_of n ≡ i → is_silenced ns (mirror u) (i + 1) ≡ is_quiet es i u → is_silenced (ns ++ n ∷ []) (mirror u) (i + 1) ≡ is_quiet es (i + 1) u
+pub quiet_named : (es : List Entry) (i u : ℕ) (e : Entry) (ns : List Name) (n : Name) → slice_get es i ≡ Some e → wakes (Some e) ≡ false → silences (Some e) u ≡ (n.key == mirror u) → quiet_of n ≡ i → is_quiet_by ns (mirror u) (i + 1) ≡ is_quiet es i u → is_quiet_by (ns ++ n ∷ []) (mirror u) (i + 1) ≡ is_quiet es (i + 1) u
 quiet_named es i u e ns n k awake one at before =
     silenced_pushed ns n (mirror u) (i + 1)
     ∙ (ap (λ b. b || ((n.key == mirror u) && nat_lt (quiet_of n) (i + 1))) before

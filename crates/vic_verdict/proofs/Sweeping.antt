@@ -10,7 +10,8 @@ use Rattle.vic_verdict.specs.declared.names.Name.{Name}
 use Rattle.vic_verdict.specs.declared.closed.Spot.{Spot}
 use Rattle.vic_verdict.specs.declared.sweep.Level.{Level}
 use Rattle.vic_verdict.specs.declared.sweep.Run.{Run}
-use Rattle.vic_verdict.specs.Sweep.{quiet_of, first_of, last_of, heard_of, is_heard, slot_leaves, is_between, is_in, spot_leaves, all_leave, level_leaves, mask_leaves, run_leaves, keep, keep_all, has_where, has_left, is_silenced, spot_allows, all_allow, all_allow_to, is_named, is_named_if, hears_named, all_hear_named, are_left, AreInOrder, IsStart, HaveKeys}
+use Rattle.vic_tree.specs.Ranges.{is_between}
+use Rattle.vic_verdict.specs.Sweep.{quiet_of, first_of, last_of, heard_of, is_heard, slot_leaves, is_in, spot_leaves, all_leave, level_leaves, mask_leaves, run_leaves, keep, keep_all, has_where, has_left, is_quiet_by, spot_allows, all_allow, all_allow_to, is_named, is_named_if, hears_named, all_hear_named, are_left, AreInOrder, IsStart, HaveKeys}
 use Rattle.std.specs.List.Sorted.{IsPermutation}
 use Rattle.std.proofs.lemmas.List.Sorted.{list_any-IsPermutation}
 use Rattle.std.proofs.Math.Seq.{take-append_seam}
@@ -58,7 +59,7 @@ keep-keys p ns h k d below =
     let short : k < length ns = subst (λ m. k < m) (keep-length p ns) below in
     subst (λ (n : Name). n.key < 2 ^ 56) (sym (get_or-map (keep p) ns k d d short)) (h k d short)
 
-pub keep-quiet : (p : ℕ → ℕ → Bool) (ns : List Name) (k i : ℕ) → is_silenced (keep_all p ns) k i ≡ is_silenced ns k i
+pub keep-quiet : (p : ℕ → ℕ → Bool) (ns : List Name) (k i : ℕ) → is_quiet_by (keep_all p ns) k i ≡ is_quiet_by ns k i
 keep-quiet p [] k i = refl
 keep-quiet p (n ∷ ns) k i = ap (λ b. ((n.key == k) && nat_lt (quiet_of n) i) || b) (keep-quiet p ns k i)
 
@@ -181,7 +182,7 @@ between_parts first last k e = let p = and_parts (nat_le first k) (nat_le k last
 
 -- ---- names and slots
 
-silenced_named : (ns : List Name) (k i : ℕ) → is_silenced ns k i ≡ true → is_named ns k ≡ true
+silenced_named : (ns : List Name) (k i : ℕ) → is_quiet_by ns k i ≡ true → is_named ns k ≡ true
 silenced_named [] k i e = e
 silenced_named (n ∷ ns) k i e =
     ⊎_elim
@@ -193,9 +194,9 @@ silenced_named (n ∷ ns) k i e =
 record Least (ns : List Name) (k : ℕ) : Type 0 where
   quiet : ℕ
   left : (p : ℕ → ℕ → Bool) → p k quiet ≡ true → are_left ns ≡ true → has_left (keep_all p ns) k ≡ true
-  first : (i : ℕ) → is_silenced ns k i ≡ true → quiet < i
+  first : (i : ℕ) → is_quiet_by ns k i ≡ true → quiet < i
 
-least_here : (n : Name) (ns : List Name) (k : ℕ) → (n.key == k) ≡ true → ((i : ℕ) → is_silenced ns k i ≡ true → quiet_of n < i) → Least (n ∷ ns) k
+least_here : (n : Name) (ns : List Name) (k : ℕ) → (n.key == k) ≡ true → ((i : ℕ) → is_quiet_by ns k i ≡ true → quiet_of n < i) → Least (n ∷ ns) k
 least_here n ns k here h = record {
   quiet = quiet_of n;
   left = λ p e all.
@@ -235,7 +236,7 @@ least (n ∷ ns) k e = go (n.key == k) refl (is_named ns k) refl (least ns k) e 
   go false other false none ih h = absurd (false≢true h)
 
 -- a name that is left leaves the test true, and is silent where it fell silent before
-left_one : (p : ℕ → ℕ → Bool) (ns : List Name) (k : ℕ) → has_left (keep_all p ns) k ≡ true → (q : ℕ) × (p k q ≡ true) × ((i : ℕ) → nat_lt q i ≡ true → is_silenced ns k i ≡ true)
+left_one : (p : ℕ → ℕ → Bool) (ns : List Name) (k : ℕ) → has_left (keep_all p ns) k ≡ true → (q : ℕ) × (p k q ≡ true) × ((i : ℕ) → nat_lt q i ≡ true → is_quiet_by ns k i ≡ true)
 left_one p [] k e = absurd (false≢true e)
 left_one p (n ∷ ns) k e =
     ⊎_elim
@@ -246,25 +247,25 @@ left_one p (n ∷ ns) k e =
     (λ there. let r = left_one p ns k there in (r.0, r.1, λ i lt. or_right _ _ (r.2 i lt)))
     (or_cases _ _ e)
 
-allow_from_leave : (ns : List Name) (s : Spot) (k q : ℕ) → (nat_lt q s.at ≡ true → is_silenced ns k s.at ≡ true) → spot_leaves s k q ≡ true → spot_allows ns s k ≡ true
+allow_from_leave : (ns : List Name) (s : Spot) (k q : ℕ) → (nat_lt q s.at ≡ true → is_quiet_by ns k s.at ≡ true) → spot_leaves s k q ≡ true → spot_allows ns s k ≡ true
 allow_from_leave ns s k q h e =
     ⊎_elim
     (λ out. or_left _ _ out)
     (λ inner. ⊎_elim (λ lt. or_right _ _ (or_left _ _ (h lt))) (λ heard. or_right _ _ (or_right _ _ heard)) (or_cases (nat_lt q s.at) (is_heard (heard_of s) k) inner))
     (or_cases _ _ e)
 
-leave_from_allow : (ns : List Name) (s : Spot) (k q : ℕ) → (is_silenced ns k s.at ≡ true → nat_lt q s.at ≡ true) → spot_allows ns s k ≡ true → spot_leaves s k q ≡ true
+leave_from_allow : (ns : List Name) (s : Spot) (k q : ℕ) → (is_quiet_by ns k s.at ≡ true → nat_lt q s.at ≡ true) → spot_allows ns s k ≡ true → spot_leaves s k q ≡ true
 leave_from_allow ns s k q h e =
     ⊎_elim
     (λ out. or_left _ _ out)
-    (λ inner. ⊎_elim (λ quiet. or_right _ _ (or_left _ _ (h quiet))) (λ heard. or_right _ _ (or_right _ _ heard)) (or_cases (is_silenced ns k s.at) (is_heard (heard_of s) k) inner))
+    (λ inner. ⊎_elim (λ quiet. or_right _ _ (or_left _ _ (h quiet))) (λ heard. or_right _ _ (or_right _ _ heard)) (or_cases (is_quiet_by ns k s.at) (is_heard (heard_of s) k) inner))
     (or_cases _ _ e)
 
-all_allow_from : (ns : List Name) (k q : ℕ) → ((i : ℕ) → nat_lt q i ≡ true → is_silenced ns k i ≡ true) → (ss : List Spot) → all_leave ss k q ≡ true → all_allow ns ss k ≡ true
+all_allow_from : (ns : List Name) (k q : ℕ) → ((i : ℕ) → nat_lt q i ≡ true → is_quiet_by ns k i ≡ true) → (ss : List Spot) → all_leave ss k q ≡ true → all_allow ns ss k ≡ true
 all_allow_from ns k q h [] e = refl
 all_allow_from ns k q h (s ∷ ss) e = let w = and_parts _ _ e in and_from _ _ (allow_from_leave ns s k q (h s.at) w.0) (all_allow_from ns k q h ss w.1)
 
-all_leave_from : (ns : List Name) (k q : ℕ) → ((i : ℕ) → is_silenced ns k i ≡ true → q < i) → (ss : List Spot) → all_allow ns ss k ≡ true → all_leave ss k q ≡ true
+all_leave_from : (ns : List Name) (k q : ℕ) → ((i : ℕ) → is_quiet_by ns k i ≡ true → q < i) → (ss : List Spot) → all_allow ns ss k ≡ true → all_leave ss k q ≡ true
 all_leave_from ns k q h [] e = refl
 all_leave_from ns k q h (s ∷ ss) e = let w = and_parts _ _ e in and_from _ _ (leave_from_allow ns s k q (λ f. lt_yes q s.at (h s.at f)) w.0) (all_leave_from ns k q h ss w.1)
 
@@ -290,7 +291,7 @@ unnamed_outside ns s k none h e =
     (λ inner. ⊎_elim
     (λ quiet. absurd (false≢true (sym none ∙ silenced_named ns k s.at quiet)))
     (λ heard. absurd (false≢true (sym none ∙ go (heard_of s) heard h)))
-    (or_cases (is_silenced ns k s.at) (is_heard (heard_of s) k) inner))
+    (or_cases (is_quiet_by ns k s.at) (is_heard (heard_of s) k) inner))
     (or_cases _ _ e)
   where
     go : (o : Option ℕ) → is_heard o k ≡ true → is_named_if ns o ≡ true → is_named ns k ≡ true

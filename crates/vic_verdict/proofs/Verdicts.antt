@@ -9,7 +9,7 @@ use Rattle.vic_log.specs.declared.entry.Entry.{Entry}
 use Rattle.vic_log.specs.declared.entry.LogLine.{LogLine}
 use Rattle.vic_log.specs.declared.entry.Version.{Version}
 use Rattle.vic_log.specs.Log.{IsLog}
-use Rattle.vic_verdict.specs.FirstLines.{AreFirstLines}
+use Rattle.vic_verdict.specs.LogLines.{AreLogLines}
 use Rattle.vic_verdict.specs.declared.judging.Verdict.{Verdict}
 use Rattle.vic_verdict.specs.declared.judging.Verdict.TheVariants.{Impossible, Absent, Unlisted, Unsettled, Doubtful, Complete}
 use Rattle.vic_frame.specs.Masks.{lies_in}
@@ -83,7 +83,7 @@ rising_lower [] r = tt
 rising_lower (l ∷ lines) r = let a = r.0 in (omega arith, r.1)
 
 -- the lines of a log are first lines of it
-pub first_lines : (version : Version) (lines : List LogLine) → IsLog version lines → AreFirstLines lines
+pub first_lines : (version : Version) (lines : List LogLine) → IsLog version lines → AreLogLines lines
 first_lines version lines log = record { order = log.order; valid = log.valid; rising = rising_lower lines log.rising }
 
 -- ---- at most one verdict

@@ -16,8 +16,9 @@ use Rattle.vic_verdict.specs.declared.demands.Met.{Met}
 use Rattle.vic_verdict.specs.declared.demands.Demand.{Demand}
 use Rattle.vic_verdict.specs.declared.demands.Stretch.{Stretch}
 use Rattle.vic_verdict.specs.declared.names.Name.{Name}
-use Rattle.vic_verdict.specs.Sweep.{AreInOrder, HaveKeys, is_silenced}
+use Rattle.vic_verdict.specs.Sweep.{AreInOrder, HaveKeys, is_quiet_by}
 use Rattle.vic_verdict.specs.Places.{answering}
+use Rattle.vic_verdict.specs.Verdict.{IsHeard}
 
 -- how many tags answered in a slot, at least, that its line doesn't name
 abbrev pub needs : Entry → ℕ
@@ -40,10 +41,6 @@ needs_at es i = needs_of (slice_get es i)
 -- how many all lines ask for, one by one
 abbrev pub all_needs : List Entry → ℕ
 all_needs es = sum_by needs es
-
--- some slot line heard the UID
-abbrev pub IsHeard : List Entry → ℕ → Type 0
-IsHeard es u = (i : ℕ) × (r : Reply) × (slice_get es i ≡ Some (Heard r)) × (r.uid ≡ u)
 
 -- the list has the UIDs that were heard before place i
 abbrev pub HasHeard : List Entry → ℕ → List ℕ → Type 0
@@ -101,33 +98,33 @@ pub record IsDemand (es : List Entry) (from i : ℕ) (d : Demand) : Type 0 where
   pub before : d.at < i
 
 -- the UID answers in the slot, by the names
-abbrev pub is_ready : List Name → Demand → ℕ → Bool
-is_ready ns d u = lies_in_some d.mask u && not (is_silenced ns (mirror u) d.at)
+abbrev pub answers_by : List Name → Demand → ℕ → Bool
+answers_by ns d u = lies_in_some d.mask u && not (is_quiet_by ns (mirror u) d.at)
 
 -- the demand is that of a slot line, and the names tell who answers there
 pub record IsDemandBy (es : List Entry) (ns : List Name) (d : Demand) : Type 0 where
   pub asked : 0 < d.need
   pub need : needs_at es d.at ≡ d.need
-  pub answers : (u : ℕ) → IsUid u → is_ready ns d u ≡ answers_at es d.at u
+  pub answers : (u : ℕ) → IsUid u → answers_by ns d u ≡ answers_at es d.at u
 
 -- fewer UIDs of a set answer in the slot than it asks for, by the names
 abbrev pub IsUnmet : (ℕ → Bool) → List Name → Demand → Type 0
 IsUnmet set ns d = (us : List ℕ) × (length us < d.need)
-    × UpToThree (λ u. (is_uid u && set u) && is_ready ns d u) us
+    × UpToThree (λ u. (is_uid u && set u) && answers_by ns d u) us
 
 -- some demand at this place is unmet
 abbrev pub IsUnmetAt : (ℕ → Bool) → List Name → List Demand → ℕ → Type 0
 IsUnmetAt set ns ds at = Any (λ (d : Demand). (d.at ≡ at) × IsUnmet set ns d) ds
 
 -- the next demand asks for as much of the same mask, no earlier
-pub record IsSaidBy (d next : Demand) : Type 0 where
+pub record IsImpliedBy (d next : Demand) : Type 0 where
   pub mask : d.mask ≡ next.mask
   pub need : d.need ≡ next.need
   pub later : d.at ≤ next.at
 
 abbrev pub IsAskedAgain : List Demand → ℕ → Type 0
 IsAskedAgain ds k = (k + 1 < length ds)
-    × ((d : Demand) → IsSaidBy (slice_index_or ds k d) (slice_index_or ds (k + 1) d))
+    × ((d : Demand) → IsImpliedBy (slice_index_or ds k d) (slice_index_or ds (k + 1) d))
 
 -- what is found for the slots of some demands, more than was found before
 pub record AreMet (es : List Entry) (ds : List Demand) (old new : List Found) : Type 0 where

@@ -1,4 +1,4 @@
-pub mod FirstLines
+pub mod LogLines
 pub mod Possible
 pub mod Verdict
 pub mod TwoVersions

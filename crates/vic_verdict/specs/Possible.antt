@@ -5,8 +5,8 @@ use Rattle.vic_frame.specs.Uids.{has}
 use Rattle.vic_log.specs.declared.entry.Entry.{Entry}
 use Rattle.vic_log.specs.declared.entry.Entry.TheVariants.{Sent, Silent, Collision, Heard, Listed, Garbled, FieldCycle}
 use Rattle.vic_log.specs.Slots.{Reading, reading_of, slots_of, is_open, Asks}
-use Rattle.vic_verdict.specs.declared.met.Contradiction.{Contradiction}
-use Rattle.vic_verdict.specs.declared.met.Before.TheVariants.{ArePossible}
+use Rattle.vic_verdict.specs.declared.possible.Contradiction.{Contradiction}
+use Rattle.vic_verdict.specs.declared.possible.Before.TheVariants.{ArePossible}
 use Rattle.vic_verdict.specs.Places.{answering}
 use Rattle.vic_log.specs.Populations.{IsPopulation, CouldHaveGiven}
 

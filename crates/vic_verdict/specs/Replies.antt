@@ -10,7 +10,7 @@ use Rattle.vic_log.specs.Rounds.{mask_at, lies_in_some}
 use Rattle.vic_log.specs.Populations.{answers_at}
 use Rattle.vic_log.specs.Quiet.{is_quiet}
 use Rattle.vic_verdict.specs.declared.names.Name.{Name}
-use Rattle.vic_verdict.specs.Sweep.{is_silenced}
+use Rattle.vic_verdict.specs.Sweep.{is_quiet_by}
 
 -- a tag with this UID answers in the slot at place i, where it is in the field
 abbrev pub Answers : List Entry → ℕ → ℕ → Type 0
@@ -27,12 +27,12 @@ reply_place n = if n.is_heard then n.at else 0
 
 -- the UID is Quiet there, by the names
 abbrev pub is_quiet_reply : List Name → Name → Bool
-is_quiet_reply ns n = is_silenced ns n.key (reply_place n)
+is_quiet_reply ns n = is_quiet_by ns n.key (reply_place n)
 
 -- a UID was heard while it was Quiet, at this place
 abbrev pub IsQuietReply : List Name → ℕ → Type 0
 IsQuietReply ns at =
-    list_any (λ n. (reply_place n == at) && is_silenced ns n.key at) ns ≡ true
+    list_any (λ n. (reply_place n == at) && is_quiet_by ns n.key at) ns ≡ true
 
 -- the first such place before an end; the end where there is none
 pub record IsFirstQuietReply (ns : List Name) (end at : ℕ) : Type 0 where
@@ -61,7 +61,7 @@ pub record AreHeard (es : List Entry) (from i : ℕ) (ns : List Name) : Type 0 w
   pub begun : from ≤ i
   pub names : All (λ (n : Name). n.is_heard ≡ false → n.at < i) ns
   pub quiet : (j u : ℕ) → from ≤ j → j ≤ i → IsUid u
-      → is_silenced ns (mirror u) j ≡ is_quiet es j u
+      → is_quiet_by ns (mirror u) j ≡ is_quiet es j u
   pub replies : All (λ (n : Name). n.is_heard ≡ true → IsHeardAt es from i n) ns
   pub answer : (j : ℕ) (r : Reply) → j < i → slice_get es j ≡ Some (Heard r)
       → Answers es j r.uid ⊎ Any (IsReplyAt j) ns

@@ -19,12 +19,12 @@ use Rattle.vic_verdict.specs.declared.closed.Spot.{Spot}
 use Rattle.vic_verdict.specs.declared.stretches.Settled.{Settled}
 use Rattle.vic_verdict.specs.declared.demands.Demand.{Demand}
 use Rattle.vic_verdict.specs.Demands.{AreAsked, AreKept}
-use Rattle.vic_verdict.specs.Sweep.{HasRange, HaveKeys, are_left, is_named_if, all_hear_named, is_silenced, is_heard, all_allow, all_allow_to}
+use Rattle.vic_verdict.specs.Sweep.{HasRange, HaveKeys, are_left, is_named_if, all_hear_named, is_quiet_by, is_heard, all_allow, all_allow_to}
 
 -- the UID may be there by a slot of this mask, at a place, that heard this key or nobody
 abbrev pub is_allowed : List Name → Option BitMask → ℕ → Option ℕ → ℕ → Bool
 is_allowed ns mask at heard u =
-    not (lies_in_some mask u) || (is_silenced ns (mirror u) at || is_heard heard (mirror u))
+    not (lies_in_some mask u) || (is_quiet_by ns (mirror u) at || is_heard heard (mirror u))
 
 -- whoever was heard lies in the mask
 abbrev pub IsHeardIn : Option BitMask → Option ℕ → Type 0
@@ -55,7 +55,7 @@ pub record IsStretch (es : List Entry) (from i : ℕ) (set : ℕ → Bool) (ns :
   pub named : all_hear_named ns ss ≡ true
   pub slots : All (λ (s : Spot). s.at < i) ss
   pub names : All (λ (n : Name). n.is_heard ≡ false → n.at < i) ns
-  pub quiet : (u : ℕ) → IsUid u → is_silenced ns (mirror u) i ≡ is_quiet es i u
+  pub quiet : (u : ℕ) → IsUid u → is_quiet_by ns (mirror u) i ≡ is_quiet es i u
   pub uids : SameUids (λ u. set u && all_allow ns ss (mirror u)) (is_open (slots_before es i))
   pub before : (j : ℕ) → from ≤ j → j < i
       → SameUids (λ u. set u && all_allow_to ns ss j (mirror u)) (is_open (slots_before es j))

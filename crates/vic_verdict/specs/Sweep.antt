@@ -6,7 +6,7 @@ use Rattle.vic_frame.specs.declared.uid.TheConstants.{UID_BITS}
 use Rattle.vic_verdict.specs.declared.closed.TheConstants.{LENGTHS}
 use Rattle.vic_verdict.specs.declared.names.TheConstants.{NEVER}
 use Rattle.vic_frame.specs.LowBitsFirst.{IsKey}
-use Rattle.vic_tree.specs.Ranges.{IsKeyRange}
+use Rattle.vic_tree.specs.Ranges.{IsKeyRange, is_between}
 use Rattle.vic_verdict.specs.declared.names.Name.{Name}
 use Rattle.vic_verdict.specs.declared.closed.Spot.{Spot}
 use Rattle.vic_verdict.specs.declared.sweep.Level.{Level}
@@ -30,10 +30,6 @@ slot_leaves at heard k q = nat_lt q at || is_heard heard k
 abbrev pub is_before : ℕ → Option ℕ → Bool
 is_before q None = true
 is_before q (Some at) = nat_lt q at
-
--- the key lies between two
-abbrev pub is_between : ℕ → ℕ → ℕ → Bool
-is_between first last k = nat_le first k && nat_le k last
 
 -- how many bits a slot's mask has
 abbrev pub len_of : Spot → ℕ
@@ -64,11 +60,11 @@ all_leave spots k q = list_all (λ s. spot_leaves s k q) spots
 
 -- what a level leaves of the keys in its mask
 abbrev pub level_leaves : Level → ℕ → ℕ → Bool
-level_leaves l k q = if is_heard l.heard k then is_before q l.other else nat_lt q l.line
+level_leaves l k q = if is_heard l.heard k then is_before q l.other else nat_lt q l.at
 
 -- the first slot of a level is before all that heard another
 abbrev pub IsLevel : Level → Type 0
-IsLevel l = IfSome l.other (λ o. l.line ≤ o)
+IsLevel l = IfSome l.other (λ o. l.at ≤ o)
 
 -- what a mask leaves of all keys
 abbrev pub mask_leaves : ℕ → ℕ → Level → ℕ → ℕ → Bool
@@ -95,12 +91,12 @@ abbrev pub has_left : List Name → ℕ → Bool
 has_left ns k = has_where (λ n. n.left) ns k
 
 -- a UID with this key is Quiet at place i, by the names
-abbrev pub is_silenced : List Name → ℕ → ℕ → Bool
-is_silenced ns k i = has_where (λ n. nat_lt (quiet_of n) i) ns k
+abbrev pub is_quiet_by : List Name → ℕ → ℕ → Bool
+is_quiet_by ns k i = has_where (λ n. nat_lt (quiet_of n) i) ns k
 
 -- the slot allows the key, by the names
 abbrev pub spot_allows : List Name → Spot → ℕ → Bool
-spot_allows ns s k = not (is_in s k) || (is_silenced ns k s.at || is_heard (heard_of s) k)
+spot_allows ns s k = not (is_in s k) || (is_quiet_by ns k s.at || is_heard (heard_of s) k)
 
 abbrev pub all_allow : List Name → List Spot → ℕ → Bool
 all_allow ns spots k = list_all (λ s. spot_allows ns s k) spots

@@ -80,13 +80,13 @@ IsWhole es =
     → (u : ℕ) → (has p u ≡ true) ↔ (has (listed es) u ≡ true))
 
 -- some slot line heard the UID
-abbrev pub WasHeard : List Entry → ℕ → Type 0
-WasHeard es u = (i : ℕ) × (r : Reply) × (slice_get es i ≡ Some (Heard r)) × (r.uid ≡ u)
+abbrev pub IsHeard : List Entry → ℕ → Type 0
+IsHeard es u = (i : ℕ) × (r : Reply) × (slice_get es i ≡ Some (Heard r)) × (r.uid ≡ u)
 
 -- the reader is done: its log is possible, it heard each UID that it lists, and no other is
 -- possible
 abbrev pub IsReached : List Entry → Type 0
 IsReached es =
     IsPossible es
-    × ((u : ℕ) → has (listed es) u ≡ true → WasHeard es u)
+    × ((u : ℕ) → has (listed es) u ≡ true → IsHeard es u)
     × ((u : ℕ) → IsPossibleUid es u → has (listed es) u ≡ true)

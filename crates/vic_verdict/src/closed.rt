@@ -3,9 +3,9 @@
 
 ghost use Rattle.std.specs.Prelude.{◌≡◌, ℕ, ◌&&◌, true, OnOk};
 ghost use Rattle.std.specs.List.{All};
-ghost use Rattle.vic_tree.specs.Ranges.{IsKeyRange};
+ghost use Rattle.vic_tree.specs.Ranges.{IsKeyRange, is_between};
 ghost use Rattle.vic_verdict.specs.Closed.{Closes, is_in_if, is_in_some};
-ghost use Rattle.vic_verdict.specs.Sweep.{AreInOrder, HasRange, IsStart, first_of, heard_of, is_between, last_of, len_of};
+ghost use Rattle.vic_verdict.specs.Sweep.{AreInOrder, HasRange, IsStart, first_of, heard_of, last_of, len_of};
 
 use crate::names::{Name, names_between, start_near};
 use std::alloc::AllocError;

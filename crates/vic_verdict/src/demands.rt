@@ -13,9 +13,9 @@ ghost use Rattle.vic_log.specs.Slots.{slots_of, is_open};
 ghost use Rattle.vic_verdict.specs.declared.demands.Found.{Found as FoundValue};
 ghost use Rattle.vic_verdict.specs.Possible.{Lacks};
 ghost use Rattle.vic_verdict.specs.Sweep.{AreInOrder, HaveKeys};
-ghost use Rattle.vic_verdict.specs.Demands.{IsDemandBy, is_ready, IsUnmet, IsUnmetAt, IsAskedAgain, AreFound, AreKept, AreMet, IsInOrder, Keeps};
+ghost use Rattle.vic_verdict.specs.Demands.{IsDemandBy, answers_by, IsUnmet, IsUnmetAt, IsAskedAgain, AreFound, AreKept, AreMet, IsInOrder, Keeps};
 
-use crate::names::{Name, is_any_silenced, silenced_between};
+use crate::names::{Name, is_any_quiet, quiet_between};
 use arrayvec::ArrayVec;
 use std::alloc::{AllocError, Global};
 use std::mem::replace;
@@ -136,7 +136,7 @@ fn respondents<S: OpenSet>(
     requires order { AreInOrder names.now }
     requires keys { HaveKeys names.now }
     ensures { IfOk result (λ uids.
-        UpToThree (λ u. (is_uid u && S.is_open set.now u) && is_ready names.now demand.now u)
+        UpToThree (λ u. (is_uid u && S.is_open set.now u) && answers_by names.now demand.now u)
         uids.items) }
 {
     let Some(long) = demand.mask else {
@@ -146,11 +146,11 @@ fn respondents<S: OpenSet>(
         return Ok(ArrayVec::new());
     };
     let uids = set.up_to_three(&mask, &[]);
-    if !is_any_silenced(names, &uids, demand.at) {
+    if !is_any_quiet(names, &uids, demand.at) {
         return Ok(uids);
     }
     let (first, last) = key_range(&mask);
-    let quiet = silenced_between(alloc, names, first, last, demand.at)?;
+    let quiet = quiet_between(alloc, names, first, last, demand.at)?;
     set.up_to_three_besides(alloc, &mask, &quiet)
 }
 

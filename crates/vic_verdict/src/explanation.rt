@@ -5,7 +5,7 @@ ghost use Rattle.std.specs.List.Sorted.{IsStrictlyIncreasing};
 ghost use Rattle.vic_tree.specs.OpenSet.{SameUids};
 ghost use Rattle.vic_log.specs.Slots.{slots_of, is_open};
 ghost use Rattle.vic_log.specs.Order.{entries};
-ghost use Rattle.vic_verdict.specs.FirstLines.{AreFirstLines};
+ghost use Rattle.vic_verdict.specs.LogLines.{AreLogLines};
 ghost use Rattle.vic_verdict.specs.Demands.{IsMet};
 ghost use Rattle.vic_verdict.specs.Explained.{IsExplanation};
 ghost use Rattle.vic_verdict.specs.Gathered.{is_other, chosen, gathered};
@@ -15,7 +15,7 @@ ghost use Rattle.vic_verdict.specs.Rising.{SameMembers};
 use crate::demands::{Found, Met};
 use crate::first_line::first_impossible_line;
 use crate::judging::{Verdict, judge_possible};
-use crate::met::open_and_met;
+use crate::possible::open_and_met;
 use std::alloc::{AllocError, Global};
 use vic_frame::Uid;
 use vic_log::{Log, PackedLine};
@@ -50,7 +50,7 @@ pub fn explain_with<S: OpenSet>(alloc: Global, log: &Log) -> Result<Explanation,
 
 /// The verdict on the lines of a log with a population that shows it.
 fn explain_lines<S: OpenSet>(alloc: Global, lines: &[PackedLine]) -> Result<Explanation, AllocError>
-    requires { AreFirstLines lines.now }
+    requires { AreLogLines lines.now }
     ensures { IfOk result (IsExplanation lines.now) }
 {
     match open_and_met::<S>(alloc, lines)? {
@@ -73,7 +73,7 @@ fn explain_possible<S: OpenSet>(
     met: Met,
     lines: &[PackedLine],
 ) -> Result<Explanation, AllocError>
-    requires lines { AreFirstLines lines.now }
+    requires lines { AreLogLines lines.now }
     requires possible { IsPossible (entries lines.now) }
     requires open { SameUids (S.is_open set) (is_open (slots_of (entries lines.now))) }
     requires met { IsMet (entries lines.now) met }

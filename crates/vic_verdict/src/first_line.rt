@@ -3,12 +3,12 @@
 ghost use Rattle.std.specs.Prelude.{◌<◌, ◌≤◌, List, take, IfOk};
 ghost use Rattle.vic_log.specs.declared.entry.LogLine.{LogLine as LogLineValue};
 ghost use Rattle.vic_log.specs.Order.{entries};
-ghost use Rattle.vic_verdict.specs.FirstLines.{AreFirstLines};
+ghost use Rattle.vic_verdict.specs.LogLines.{AreLogLines};
 ghost use Rattle.vic_verdict.specs.Possible.{IsContradiction, IsPossible};
 ghost use Rattle.vic_verdict.specs.Verdict.{IsVerdict};
 ghost use Rattle.vic_verdict.specs.declared.judging.Verdict.TheVariants.{Impossible};
 
-use crate::met::{Before, Contradiction, open_and_met};
+use crate::possible::{Before, Contradiction, open_and_met};
 use std::alloc::{AllocError, Global};
 use vic_guess::guess_impossible_line;
 use vic_log::PackedLine;
@@ -58,7 +58,7 @@ pub fn first_impossible_line<S: OpenSet>(
     lines: &[PackedLine],
     contradiction: Contradiction,
 ) -> Result<u32, AllocError>
-    requires lines { AreFirstLines lines.now }
+    requires lines { AreLogLines lines.now }
     requires impossible { IsContradiction (entries lines.now) contradiction }
     ensures { IfOk result (λ n. IsVerdict lines.now (Impossible n)) }
 {

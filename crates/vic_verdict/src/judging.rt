@@ -8,7 +8,7 @@ ghost use Rattle.vic_log.specs.declared.entry.Entry.{Entry as EntryValue};
 ghost use Rattle.vic_log.specs.Slots.{slots_of, is_open};
 ghost use Rattle.vic_verdict.specs.Possible.{IsPossible};
 ghost use Rattle.vic_log.specs.Order.{entries, listed};
-ghost use Rattle.vic_verdict.specs.FirstLines.{AreFirstLines};
+ghost use Rattle.vic_verdict.specs.LogLines.{AreLogLines};
 ghost use Rattle.vic_verdict.specs.Keys.{AreKeysOf};
 ghost use Rattle.vic_verdict.specs.Unsettled.{AreOpenAndListed};
 ghost use Rattle.vic_verdict.specs.Verdict.{IsVerdict, IsWhole, IsReached, IsUnsettled, IsFirstMask, NoSuch};
@@ -18,8 +18,8 @@ ghost use Rattle.vic_verdict.specs.declared.judging.Verdict.TheVariants.{Complet
 
 use crate::demands::Met;
 use crate::first_line::first_impossible_line;
-use crate::met::open_and_met;
 use crate::missing::{keys_in_order, least_missing, least_outside};
+use crate::possible::open_and_met;
 use crate::uids::{certain_uids, count_listed, listed_uids};
 use std::alloc::{AllocError, Global};
 use vic_frame::{Mask, Uid};
@@ -81,7 +81,7 @@ pub fn judge_with<S: OpenSet>(alloc: Global, log: &Log) -> Result<Verdict, Alloc
 
 /// The verdict on the lines of a log.
 fn judge_lines<S: OpenSet>(alloc: Global, lines: &[PackedLine]) -> Result<Verdict, AllocError>
-    requires { AreFirstLines lines.now }
+    requires { AreLogLines lines.now }
     ensures { IfOk result (λ v. IsVerdict lines.now v) }
 {
     match open_and_met::<S>(alloc, lines)? {
@@ -100,7 +100,7 @@ pub(crate) fn judge_possible<S: OpenSet>(
     met: &Met,
     lines: &[PackedLine],
 ) -> Result<Verdict, AllocError>
-    requires lines { AreFirstLines lines.now }
+    requires lines { AreLogLines lines.now }
     requires possible { IsPossible (entries lines.now) }
     requires open { SameUids (S.is_open set) (is_open (slots_of (entries lines.now))) }
     requires met { IsMet (entries lines.now) met.now }

@@ -9,7 +9,8 @@ ghost use Rattle.vic_frame.specs.LowBitsFirst.{IsKey, mirror};
 ghost use Rattle.vic_tree.specs.OpenSet.{AreKeys};
 ghost use Rattle.vic_verdict.specs.declared.names.Name.{Name as NameValue};
 ghost use Rattle.vic_verdict.specs.declared.names.TheConstants.{NEVER};
-ghost use Rattle.vic_verdict.specs.Sweep.{quiet_of, is_silenced, AreInOrder, HaveKeys, IsStart, has_where, is_between};
+ghost use Rattle.vic_tree.specs.Ranges.{is_between};
+ghost use Rattle.vic_verdict.specs.Sweep.{quiet_of, is_quiet_by, AreInOrder, HaveKeys, IsStart, has_where};
 ghost use Rattle.vic_verdict.specs.Replies.{reply_place, IsFirstQuietReply};
 
 use std::alloc::{AllocError, Global};
@@ -133,21 +134,21 @@ pub(crate) fn names_between(names: &[Name], start: usize, first: u64, last: u64)
 }
 
 /// Whether a UID is Quiet at a place.
-pub(crate) fn is_silenced(names: &[Name], uid: Uid, at: usize) -> bool
+pub(crate) fn is_quiet_by(names: &[Name], uid: Uid, at: usize) -> bool
     requires { AreInOrder names.now }
-    ensures { result ≡ is_silenced names.now (mirror uid) at }
+    ensures { result ≡ is_quiet_by names.now (mirror uid) at }
 {
     let key = key(uid);
     first_quiet(names_between(names, start_of(names, key), key, key)) < at
 }
 
 /// Whether one of some UIDs is Quiet at a place.
-pub(crate) fn is_any_silenced(names: &[Name], uids: &[Uid], at: usize) -> bool
+pub(crate) fn is_any_quiet(names: &[Name], uids: &[Uid], at: usize) -> bool
     requires { AreInOrder names.now }
-    ensures { result ≡ list_any (λ u. is_silenced names.now (mirror u) at) uids.now }
+    ensures { result ≡ list_any (λ u. is_quiet_by names.now (mirror u) at) uids.now }
 {
     for uid in uids {
-        if is_silenced(names, *uid, at) {
+        if is_quiet_by(names, *uid, at) {
             return true;
         }
     }
@@ -155,7 +156,7 @@ pub(crate) fn is_any_silenced(names: &[Name], uids: &[Uid], at: usize) -> bool
 }
 
 /// The keys from `first` to `last` of the UIDs that are Quiet at a place, in order.
-pub(crate) fn silenced_between(
+pub(crate) fn quiet_between(
     alloc: Global,
     names: &[Name],
     first: u64,
@@ -167,7 +168,7 @@ pub(crate) fn silenced_between(
     ensures order { IfOk result (λ keys. IsNonDecreasing keys.items) }
     ensures keys { IfOk result (λ keys. AreKeys keys.items) }
     ensures members { IfOk result (λ keys. (k : ℕ) → is_between first last k ≡ true
-        → has keys.items k ≡ is_silenced names.now k at) }
+        → has keys.items k ≡ is_quiet_by names.now k at) }
 {
     let inside = names_between(names, start_of(names, first), first, last);
     let mut keys = Vec::new(alloc);

@@ -1,7 +1,7 @@
 //! Which UIDs the silent and answered slots of a log leave open, from field cycle to field cycle.
 
 ghost use Rattle.std.specs.Prelude.{ℕ, ◌≡◌, ◌≢◌, ◌+◌, ◌^◌, ◌<◌, true, false, Bool, List, Some, IsTrue, IfOk, OnOk, MatchResult, slice_get};
-ghost use Rattle.vic_verdict.specs.FirstLines.{AreFirstLines};
+ghost use Rattle.vic_verdict.specs.LogLines.{AreLogLines};
 ghost use Rattle.vic_log.specs.declared.entry.Entry.{Entry as EntryValue};
 ghost use Rattle.vic_log.specs.declared.entry.Entry.TheVariants.{FieldCycle, Sent};
 ghost use Rattle.vic_verdict.specs.declared.closed.Spot.{Spot as SpotValue};
@@ -52,11 +52,7 @@ fn push_spot(
 }
 
 /// Gathers whom a request silences.
-fn note_sent(
-    names: &mut Vec<Name>,
-    request: &Request,
-    index: usize,
-) -> Result<(), AllocError>
+fn note_sent(names: &mut Vec<Name>, request: &Request, index: usize) -> Result<(), AllocError>
     requires { index < 2 ^ 32 }
     ensures { OnOk result ((es : List EntryValue) (from : ℕ) (set : ℕ → Bool)
         (ss : List SpotValue) (ds : List DemandValue) → slice_get es index ≡ Some (Sent request.now)
@@ -137,7 +133,7 @@ pub(crate) struct Settled {
 
 /// What the lines of a log tell of the UIDs that it leaves open: one walk, stretch by stretch.
 pub(crate) fn settle(alloc: Global, lines: &[PackedLine]) -> Result<Settled, AllocError>
-    requires { AreFirstLines lines.now }
+    requires { AreLogLines lines.now }
     ensures { IfOk result (IsSettled lines.now) }
 {
     let mut closed = Vec::new(alloc);

@@ -23,7 +23,7 @@ use vic_tree::KeyRange;
 /// that heard another, or nobody in place of somebody.
 #[derive(Clone, Copy)]
 pub(crate) struct Level {
-    pub line: usize,
+    pub at: usize,
     pub heard: Option<u64>,
     pub other: Option<usize>,
 }
@@ -35,7 +35,7 @@ impl Level {
         ensures leaves { (k q : ℕ) → level_leaves result k q ≡ slot_leaves at heard k q }
     {
         Level {
-            line: at,
+            at,
             heard,
             other: None,
         }
@@ -50,15 +50,15 @@ impl Level {
     {
         if heard == self.heard {
             Level {
-                line: self.line.min(at),
+                at: self.at.min(at),
                 heard,
                 other: self.other,
             }
-        } else if at < self.line {
+        } else if at < self.at {
             Level {
-                line: at,
+                at,
                 heard,
-                other: Some(self.line),
+                other: Some(self.at),
             }
         } else {
             let other = match self.other {
@@ -66,7 +66,7 @@ impl Level {
                 None => at,
             };
             Level {
-                line: self.line,
+                at: self.at,
                 heard: self.heard,
                 other: Some(other),
             }
@@ -83,7 +83,7 @@ impl Level {
                 None => true,
             }
         } else {
-            quiet < self.line
+            quiet < self.at
         }
     }
 }

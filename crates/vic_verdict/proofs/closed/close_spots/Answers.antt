@@ -1,10 +1,9 @@
 use Rattle.std.proofs.Common.{◌≡◌, ℕ, ◌+◌, ◌∙◌, get_or, true, sym, subst, take}
 use Rattle.std.proofs.lemmas.Bool.{or_right}
 use Rattle.std.proofs.lemmas.List.{get_or_default, take_all}
-use Rattle.vic_tree.specs.Ranges.{IsKeyRange}
+use Rattle.vic_tree.specs.Ranges.{IsKeyRange, is_between}
 use Rattle.vic_verdict.specs.declared.closed.Spot.{Spot}
 use Rattle.vic_verdict.specs.Closed.{Closes, is_in_if, is_in_some}
-use Rattle.vic_verdict.specs.Sweep.{is_between}
 use Rattle.vic_verdict.proofs.Closing.{closes_none, closes_more, closes_alike, inner_more, some_more}
 use Rattle.vic_verdict.proofs.Sweeping.{nowhere}
 use Rattle.vic_verdict.proofs.closed.close_spots.Goals as goal

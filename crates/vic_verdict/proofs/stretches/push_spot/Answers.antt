@@ -12,7 +12,8 @@ use Rattle.vic_tree.proofs.BlockLaws.{mask_ends}
 use Rattle.vic_tree.proofs.BoolLaws.{and_true}
 use Rattle.vic_verdict.proofs.Closing.{le_yes}
 use Rattle.vic_verdict.specs.declared.closed.Spot.{Spot}
-use Rattle.vic_verdict.specs.Sweep.{HasRange, all_allow, all_allow_to, all_hear_named, first_of, len_of, heard_of, hears_named, is_between, is_heard, is_named_if, is_silenced, last_of, spot_allows}
+use Rattle.vic_tree.specs.Ranges.{is_between}
+use Rattle.vic_verdict.specs.Sweep.{HasRange, all_allow, all_allow_to, all_hear_named, first_of, len_of, heard_of, hears_named, is_heard, is_named_if, is_quiet_by, last_of, spot_allows}
 use Rattle.vic_verdict.proofs.stretches.push_spot.Goals as goal
 use Rattle.vic_verdict.proofs.stretches.push_spot.Goals.{in-Some-heard, in-None}
 
@@ -86,6 +87,6 @@ returns c =
           ap (λ ss. all_allow ns ss (mirror u)) items
           ∙ list_all-append (λ t. spot_allows ns t (mirror u)) old (s ∷ [])
           ∙ ap (λ b. all_allow ns old (mirror u) && b) (and_true _
-          ∙ ap (λ h. not (is_between (first_of s) (last_of s) (mirror u)) || (is_silenced ns (mirror u) c.args.at || is_heard h (mirror u))) heard
-          ∙ ap (λ b. not b || (is_silenced ns (mirror u) c.args.at || is_heard c.args.heard (mirror u))) (ap (λ k. is_between k (last_of s) (mirror u)) starts ∙ ap (λ k. is_between first k (mirror u)) ends ∙ sym (range.inside u) ∙ told.same u w ∙ ap (λ o. lies_in_some o u) (sym c.in-Some.is)));
+          ∙ ap (λ h. not (is_between (first_of s) (last_of s) (mirror u)) || (is_quiet_by ns (mirror u) c.args.at || is_heard h (mirror u))) heard
+          ∙ ap (λ b. not b || (is_quiet_by ns (mirror u) c.args.at || is_heard c.args.heard (mirror u))) (ap (λ k. is_between k (last_of s) (mirror u)) starts ∙ ap (λ k. is_between first k (mirror u)) ends ∙ sym (range.inside u) ∙ told.same u w ∙ ap (λ o. lies_in_some o u) (sym c.in-Some.is)));
     }

@@ -2,11 +2,11 @@ use Rattle.std.proofs.Common.{◌+◌, ◌<◌, ◌≡◌, false, ◌∙◌, sym
 use Rattle.std.proofs.lemmas.List.{take_all}
 use Rattle.vic_verdict.specs.declared.names.Name.{Name}
 use Rattle.std.specs.Prelude.{nat_lt}
-use Rattle.vic_verdict.specs.Sweep.{quiet_of, is_silenced}
+use Rattle.vic_verdict.specs.Sweep.{quiet_of, is_quiet_by}
 use Rattle.vic_verdict.proofs.Stretching.{lt_no}
 use Rattle.vic_verdict.proofs.Silencing.{AreQuietKeys, quiet_key, other_key}
-use Rattle.vic_verdict.proofs.names.silenced_between.Goals as goal
-use Rattle.vic_verdict.proofs.names.silenced_between.Goals.{then-quiet-at+in_ok-push, else-quiet-at}
+use Rattle.vic_verdict.proofs.names.quiet_between.Goals as goal
+use Rattle.vic_verdict.proofs.names.quiet_between.Goals.{then-quiet-at+in_ok-push, else-quiet-at}
 
 pub loop-name-init : goal.loop-name-init
 loop-name-init c = subst (AreQuietKeys c.args.at c.names_between-inside.result.now 0) (sym c.new-keys.ensures.items) (record {
@@ -34,5 +34,5 @@ pub returns-clause-members : goal.returns-clause-members
 returns-clause-members c k between =
     let ns = c.names_between-inside.result.now in
     c.loop-name.invariant.members k
-    ∙ ap (λ ms. is_silenced ms k c.args.at) (take_all c.loop-name.name-index ns c.loop-name-test.false)
+    ∙ ap (λ ms. is_quiet_by ms k c.args.at) (take_all c.loop-name.name-index ns c.loop-name-test.false)
     ∙ c.names_between-inside.ensures.all (λ (n : Name). nat_lt (quiet_of n) c.args.at) k between

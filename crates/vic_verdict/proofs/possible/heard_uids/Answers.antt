@@ -4,8 +4,8 @@ use Rattle.vic_log.specs.Order.{entries}
 use Rattle.vic_verdict.specs.Demands.{HasHeard}
 use Rattle.vic_verdict.proofs.Stands.{entry_at}
 use Rattle.vic_verdict.proofs.Meeting.{heard_kept, heard_pushed}
-use Rattle.vic_verdict.proofs.met.heard_uids.Goals as goal
-use Rattle.vic_verdict.proofs.met.heard_uids.Goals.{in-Heard+in_ok-push, in_default}
+use Rattle.vic_verdict.proofs.possible.heard_uids.Goals as goal
+use Rattle.vic_verdict.proofs.possible.heard_uids.Goals.{in-Heard+in_ok-push, in_default}
 
 pub loop-line-preserved : goal.loop-line-preserved
 loop-line-preserved c =

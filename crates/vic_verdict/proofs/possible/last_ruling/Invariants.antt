@@ -3,7 +3,7 @@ use Rattle.std.specs.Prelude.{slice_get}
 use Rattle.vic_log.specs.declared.entry.Entry.{Entry}
 use Rattle.vic_log.specs.Order.{entries}
 use Rattle.vic_verdict.specs.Possible.{rules_out}
-use Rattle.vic_verdict.proofs.met.last_ruling.Given as goal
+use Rattle.vic_verdict.proofs.possible.last_ruling.Given as goal
 
 abbrev pub invariant-loop-index : goal.invariant-loop-index
 invariant-loop-index l = record {

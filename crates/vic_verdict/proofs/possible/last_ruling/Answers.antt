@@ -8,8 +8,8 @@ use Rattle.vic_log.specs.declared.entry.Entry.{Entry}
 use Rattle.vic_log.specs.Order.{entries}
 use Rattle.vic_verdict.specs.Possible.{rules_out}
 use Rattle.vic_verdict.proofs.Stands.{entry_at}
-use Rattle.vic_verdict.proofs.met.last_ruling.Goals as goal
-use Rattle.vic_verdict.proofs.met.last_ruling.Goals.{then-rules_out, else-rules_out}
+use Rattle.vic_verdict.proofs.possible.last_ruling.Goals as goal
+use Rattle.vic_verdict.proofs.possible.last_ruling.Goals.{then-rules_out, else-rules_out}
 
 pub loop-index-preserved : goal.loop-index-preserved
 loop-index-preserved c =

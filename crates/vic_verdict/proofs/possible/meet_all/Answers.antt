@@ -9,8 +9,8 @@ use Rattle.vic_verdict.specs.Demands.{AreFound}
 use Rattle.vic_verdict.proofs.Demanding.{kept_in_order}
 use Rattle.vic_verdict.proofs.Lacking.{lacking_within, contradicted}
 use Rattle.vic_verdict.proofs.Meeting.{LacksHeard, heard_lacks, met_is_possible, is_met}
-use Rattle.vic_verdict.proofs.met.meet_all.Goals as goal
-use Rattle.vic_verdict.proofs.met.meet_all.Goals.{then-at-unmet, else-at-unmet}
+use Rattle.vic_verdict.proofs.possible.meet_all.Goals as goal
+use Rattle.vic_verdict.proofs.possible.meet_all.Goals.{then-at-unmet, else-at-unmet}
 
 pub last_ruling-requires : goal.last_ruling-requires
 last_ruling-requires g c =

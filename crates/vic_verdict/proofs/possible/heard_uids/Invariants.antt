@@ -1,6 +1,6 @@
 use Rattle.vic_log.specs.Order.{entries}
 use Rattle.vic_verdict.specs.Demands.{HasHeard}
-use Rattle.vic_verdict.proofs.met.heard_uids.Given as goal
+use Rattle.vic_verdict.proofs.possible.heard_uids.Given as goal
 
 abbrev pub invariant-loop-line : goal.invariant-loop-line
 invariant-loop-line l = HasHeard (entries l.lines) l.line-index l.heard.items

@@ -3,7 +3,7 @@
 ghost use Rattle.std.specs.Prelude.{◌≡◌, ◌≤◌, ◌<◌, length, IfOk, MatchResult};
 ghost use Rattle.vic_tree.specs.OpenSet.{SameUids};
 ghost use Rattle.vic_log.specs.Order.{entries};
-ghost use Rattle.vic_verdict.specs.FirstLines.{AreFirstLines};
+ghost use Rattle.vic_verdict.specs.LogLines.{AreLogLines};
 ghost use Rattle.vic_log.specs.Slots.{slots_of, is_open};
 ghost use Rattle.vic_verdict.specs.Possible.{IsPossible, IsContradiction, rules_out, NoneRulesOutAfter};
 ghost use Rattle.vic_verdict.specs.Replies.{RepliesAnswer};
@@ -83,7 +83,7 @@ fn meet_all<S: OpenSet>(
     lines: &[PackedLine],
     stretches: &[Stretch],
 ) -> Result<Result<Met, Contradiction>, AllocError>
-    requires lines { AreFirstLines lines.now }
+    requires lines { AreLogLines lines.now }
     requires kept { AreKept (entries lines.now) (length (entries lines.now)) stretches.now }
     requires answer { RepliesAnswer (entries lines.now) }
     requires open { SameUids (S.is_open set.now) (is_open (slots_of (entries lines.now))) }
@@ -117,7 +117,7 @@ pub fn open_and_met<S: OpenSet>(
     alloc: Global,
     lines: &[PackedLine],
 ) -> Result<Result<(S, Met), Contradiction>, AllocError>
-    requires { AreFirstLines lines.now }
+    requires { AreLogLines lines.now }
     ensures { IfOk result (λ r. MatchResult r
         (λ p. IsPossible (entries lines.now)
         × SameUids (S.is_open p.0) (is_open (slots_of (entries lines.now)))

@@ -6,7 +6,7 @@ use Rattle.vic_log.specs.Order.{entries}
 use Rattle.vic_verdict.specs.Demands.{IsMet, AreKept}
 use Rattle.vic_verdict.specs.Possible.{IsPossible, IsContradiction}
 use Rattle.vic_verdict.proofs.Halving.{first_front, first_entries, front_contradiction}
-use Rattle.vic_verdict.proofs.met.open_and_met.Goals as goal
+use Rattle.vic_verdict.proofs.possible.open_and_met.Goals as goal
 
 pub meet_all-requires-clause-lines : goal.meet_all-requires-clause-lines
 meet_all-requires-clause-lines g c = first_front c.in_ok-closed.field-0.cut c.args.lines.now c.requires

@@ -1,8 +1,0 @@
-use Rattle.std.proofs.Common.{◌≡◌, false, take}
-use Rattle.std.specs.List.{list_any}
-use Rattle.vic_frame.specs.LowBitsFirst.{mirror}
-use Rattle.vic_verdict.specs.Sweep.{is_silenced}
-use Rattle.vic_verdict.proofs.names.is_any_silenced.Given as goal
-
-abbrev pub invariant-loop-uid : goal.invariant-loop-uid
-invariant-loop-uid l = list_any (λ u. is_silenced l.names (mirror u) l.at) (take l.uid-index l.uids) ≡ false
