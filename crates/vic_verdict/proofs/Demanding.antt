@@ -64,13 +64,14 @@ any_has p (x ∷ us) u h e =
     (or_cases _ _ h)
 
 -- the first UIDs found, where none of them is Quiet
-pub first_ready : (set : ℕ → Bool) (ns : List Name) (d : Demand) (m : BitMask) (us : List ℕ) → ((u : ℕ) → IsUid u → lies_in_some d.mask u ≡ lies_in m u) → UpToThree (in_mask set m []) us → list_any (λ u. is_quiet_by ns (mirror u) d.at) us ≡ false → UpToThree (ready_of set ns d) us
-first_ready set ns d m us same h none = record {
+pub first_ready : (set : ℕ → Bool) (ns inside : List Name) (d : Demand) (m : BitMask) (us : List ℕ) → ((u : ℕ) → IsUid u → lies_in_some d.mask u ≡ lies_in m u) → ((u : ℕ) → IsUid u → lies_in m u ≡ true → is_quiet_by inside (mirror u) d.at ≡ is_quiet_by ns (mirror u) d.at) → UpToThree (in_mask set m []) us → list_any (λ u. is_quiet_by inside (mirror u) d.at) us ≡ false → UpToThree (ready_of set ns d) us
+first_ready set ns inside d m us same alike h none = record {
   different = h.different;
   members = λ u k.
       let w = and_parts _ _ (h.members u k) in
       let uid = IsUid-from u (and_parts (is_uid u) (set u) w.0).0 in
-      and_from _ _ w.0 (and_from _ _ (same u uid ∙ (and_parts _ _ w.1).0) (go (is_quiet_by ns (mirror u) d.at) (λ e. absurd (both_ways _ none (any_has (λ v. is_quiet_by ns (mirror v) d.at) us u k e)))));
+      let lies = (and_parts _ _ w.1).0 in
+      and_from _ _ w.0 (and_from _ _ (same u uid ∙ lies) (go (is_quiet_by ns (mirror u) d.at) (λ e. absurd (both_ways _ none (any_has (λ v. is_quiet_by inside (mirror v) d.at) us u k (alike u uid lies ∙ e))))));
   all = λ few u k.
       let w = and_parts _ _ k in
       let uid = IsUid-from u (and_parts (is_uid u) (set u) w.0).0 in

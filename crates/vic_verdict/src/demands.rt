@@ -15,7 +15,7 @@ ghost use Rattle.vic_verdict.specs.Possible.{Lacks};
 ghost use Rattle.vic_verdict.specs.Sweep.{AreInOrder, HaveKeys};
 ghost use Rattle.vic_verdict.specs.Demands.{IsDemandBy, answers_by, IsUnmet, IsUnmetAt, IsAskedAgain, AreFound, AreKept, AreMet, IsInOrder, Keeps};
 
-use crate::names::{Name, is_any_quiet, quiet_between};
+use crate::names::{Name, is_any_quiet, names_between, quiet_between, start_near};
 use arrayvec::ArrayVec;
 use std::alloc::{AllocError, Global};
 use std::mem::replace;
@@ -26,7 +26,7 @@ use vic_tree::OpenSet;
 /// What the slots of a possible log ask for, met by its open UIDs.
 #[derive(Drop)]
 pub struct Met {
-    /// The UIDs that were heard, in rising order.
+    /// The UIDs that were heard, in any order.
     pub heard: Vec<Uid>,
     /// What meets the slots in which tags answered and none was read: each of these slots is met by
     /// one of them, and one may meet many.
@@ -126,11 +126,13 @@ pub(crate) fn keep_stretch(
 }
 
 /// Open UIDs that answer in a slot: all where they are fewer than three, three otherwise. Mostly
-/// those that are found first are not Quiet, and no list of the Quiet ones is needed.
+/// those that are found first are not Quiet, and no list of the Quiet ones is needed. The first name
+/// of its mask is looked for from index `near` on.
 fn respondents<S: OpenSet>(
     alloc: Global,
     set: &S,
     names: &[Name],
+    near: usize,
     demand: &Demand,
 ) -> Result<ArrayVec<Uid, 3>, AllocError>
     requires order { AreInOrder names.now }
@@ -146,10 +148,11 @@ fn respondents<S: OpenSet>(
         return Ok(ArrayVec::new());
     };
     let uids = set.up_to_three(&mask, &[]);
-    if !is_any_quiet(names, &uids, demand.at) {
+    let (first, last) = key_range(&mask);
+    let start = start_near(names, near, first);
+    if !is_any_quiet(names_between(names, start, first, last), &uids, demand.at) {
         return Ok(uids);
     }
-    let (first, last) = key_range(&mask);
     let quiet = quiet_between(alloc, names, first, last, demand.at)?;
     set.up_to_three_besides(alloc, &mask, &quiet)
 }
@@ -181,7 +184,7 @@ fn is_unmet<S: OpenSet>(
     ensures { IfOk result (λ yes. yes ≡ true
         → IsUnmet (S.is_open set.now) names.now demand.now) }
 {
-    let uids = respondents(alloc, set, names, demand)?;
+    let uids = respondents(alloc, set, names, 0, demand)?;
     Ok(uids.len() < demand.need)
 }
 
@@ -266,10 +269,12 @@ fn meet_each<S: OpenSet>(
         (IsUnmetAt (S.is_open set.now) names.now demands.now)) }
 {
     let mut start = 0;
+    let mut near = 0;
     for index in 0..demands.len() {
         if !is_asked_again(demands, index) {
             let demand = demands[index];
-            let uids = respondents(alloc, set, names, &demand)?;
+            near = start_near(names, near, demand.first);
+            let uids = respondents(alloc, set, names, near, &demand)?;
             if uids.len() < demand.need {
                 let at = first_unmet(alloc, set, names, demands, start, demand.at)?;
                 return Ok(Some(at));

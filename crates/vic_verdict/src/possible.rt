@@ -16,7 +16,6 @@ use std::alloc::{AllocError, Global};
 use vic_frame::Uid;
 use vic_log::{Entry, PackedLine};
 use vic_tree::OpenSet;
-use vic_tree::rising::put_in_order;
 
 /// The place of a line of a log, counted from 0, up to which no population could have given it.
 /// Earlier ones may do as well.
@@ -37,7 +36,7 @@ pub enum Before {
     AreUnknown,
 }
 
-/// The UIDs that the slots of a log heard, each once; they are sorted, but no answer rests on it.
+/// The UIDs that the slots of a log heard.
 fn heard_uids(alloc: Global, lines: &[PackedLine]) -> Result<Vec<Uid>, AllocError>
     ensures { IfOk result (λ v. HasHeard (entries lines.now) (length lines.now) v.items) }
 {
@@ -47,7 +46,6 @@ fn heard_uids(alloc: Global, lines: &[PackedLine]) -> Result<Vec<Uid>, AllocErro
             heard.push(response.uid())?;
         }
     }
-    put_in_order(&mut heard);
     Ok(heard)
 }
 
