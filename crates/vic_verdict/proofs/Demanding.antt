@@ -145,17 +145,9 @@ lacks_by es set ns d us same h found few =
     (λ w. (Garbled, SomeReply, w.0, refl, λ a. let n = (asks_one_iff _ us all).0 a in let one = w.1 in omega (arith, n, one, few)))
     (asked_two_or_one (slice_get es d.at) d.need h.need h.asked)
 
-pub some_weaker : (o : Option ℕ) (P Q : ℕ → Type 0) → ((x : ℕ) → P x → Q x) → IfSome o P → IfSome o Q
-some_weaker None P Q f h = h
-some_weaker (Some x) P Q f h = f x h
-
 -- what an option is said to hold is so of what it holds
 pub some_is : (o : Option ℕ) (P : ℕ → Type 0) (x : ℕ) → o ≡ Some x → IfSome o P → P x
 some_is o P x e h = subst (λ (r : Option ℕ). IfSome r P) e h
-
-pub none_is : (o : Option ℕ) → ((x : ℕ) → o ≡ Some x → ⊥) → o ≡ None
-none_is None h = refl
-none_is (Some x) h = absurd (h x refl)
 
 pub unmet_lacks : (es : List Entry) (set : ℕ → Bool) (ns : List Name) (ds : List Demand) (at : ℕ) → SameUids set (is_open (slots_of es)) → All (IsDemandBy es ns) ds → IsUnmetAt set ns ds at → Lacks es at
 unmet_lacks es set ns ds at same h w =

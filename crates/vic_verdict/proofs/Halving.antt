@@ -18,9 +18,6 @@ pub record Between (lines : List LogLine) (low high : ℕ) : Type 0 where
   pub possible : IsPossible (entries (take low lines))
   pub impossible : IsPossible (entries (take high lines)) → ⊥
 
-pub nothing_possible : IsPossible []
-nothing_possible = ([], tt, λ i e k. cc)
-
 entries_append : (xs ys : List LogLine) → entries (xs ++ ys) ≡ entries xs ++ entries ys
 entries_append [] ys = refl
 entries_append (x ∷ xs) ys = ap (λ es. x.item ∷ es) (entries_append xs ys)

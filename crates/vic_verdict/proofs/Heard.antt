@@ -1,6 +1,6 @@
 -- Whether the UIDs that were heard could have answered, from place to place.
 use Rattle.std.proofs.Common.{◌≡◌, ℕ, ◌+◌, ◌<◌, ◌^◌, ◌++◌, ◌==◌, List, [], ◌∷◌, take, drop, zero, suc, ◌≤◌, Bool, true, false, not, ◌&&◌, ◌||◌, Some, refl, sym, ap, ◌∙◌, subst, arith, inl, inr, ⊎_elim}
-use Rattle.std.specs.Prelude.{◌⊎◌, slice_get, nat_lt, if◌then◌else◌}
+use Rattle.std.specs.Prelude.{slice_get, nat_lt, if◌then◌else◌}
 use Rattle.std.specs.List.{All, list_any}
 use Rattle.std.specs.List.Sorted.{IsPermutation}
 use Rattle.std.proofs.lemmas.List.Sorted.{list_any-IsPermutation, IsPermutation-sym}
@@ -15,7 +15,7 @@ use Rattle.vic_frame.specs.Uids.{IsUid}
 use Rattle.vic_frame.specs.LowBitsFirst.{mirror}
 use Rattle.vic_frame.specs.Replies.{Reply}
 use Rattle.vic_log.specs.declared.entry.Entry.{Entry}
-use Rattle.vic_log.specs.declared.entry.Entry.TheVariants.{Silent, Collision, Heard, Listed, Garbled, FieldCycle}
+use Rattle.vic_log.specs.declared.entry.Entry.TheVariants.{Heard, FieldCycle}
 use Rattle.vic_log.specs.Rounds.{mask_at, lies_in_some}
 use Rattle.vic_log.specs.Quiet.{silences, wakes, is_quiet}
 use Rattle.vic_log.specs.Populations.{answers_at}
@@ -151,26 +151,6 @@ heard_more es from i ns ms r n k lt key is_uid at heard inside is h = subst (Are
       (λ ne. ⊎_elim (λ y. inl y) (λ w. inr (any_kept (IsReplyAt j) ns n w)) (h.answer j q (omega (arith, below, ne)) f))
       (cases_eq j i);
 })
-
--- a silent slot, a collision, a garbled slot or a listed UID
-pub heard_other : (es : List Entry) (from i : ℕ) (ns : List Name) (e : Entry) → slice_get es i ≡ Some e → i < 2 ^ 32 → (e ≡ Collision) ⊎ ((e ≡ Garbled) ⊎ (((u : ℕ) × (e ≡ Listed u)) ⊎ (e ≡ FieldCycle))) → (e ≡ FieldCycle → ⊥) → AreHeard es from i ns → AreHeard es from (i + 1) ns
-heard_other es from i ns e k lt is other h =
-    ⊎_elim
-    (λ s. pass Collision (k ∙ ap (λ (x : Entry). Some x) s) (λ r c. cc) refl (λ u. refl))
-    (λ v. ⊎_elim
-    (λ s. pass Garbled (k ∙ ap (λ (x : Entry). Some x) s) (λ r c. cc) refl (λ u. refl))
-    (λ x. ⊎_elim
-    (λ s. pass (Listed s.0) (k ∙ ap (λ (y : Entry). Some y) s.1) (λ r c. cc) refl (λ u. refl))
-    (λ s. absurd (other s))
-    x)
-    v)
-    is
-  where
-    pass : (f : Entry) → slice_get es i ≡ Some f → ((r : Reply) → f ≡ Heard r → ⊥) → wakes (Some f) ≡ false → ((u : ℕ) → silences (Some f) u ≡ false) → AreHeard es from (i + 1) ns
-    pass f g deaf awake loud = heard_passed es from i ns f g lt deaf awake (λ u w. loud u) h
-
-pub heard_silent : (es : List Entry) (from i : ℕ) (ns : List Name) → slice_get es i ≡ Some Silent → i < 2 ^ 32 → AreHeard es from i ns → AreHeard es from (i + 1) ns
-heard_silent es from i ns k lt h = heard_passed es from i ns Silent k lt (λ r c. cc) refl (λ u w. refl) h
 
 -- ---- what the names tell
 

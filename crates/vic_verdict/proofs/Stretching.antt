@@ -12,7 +12,7 @@ use Rattle.vic_frame.specs.LowBitsFirst.{mirror, uid_of}
 use Rattle.vic_frame.proofs.MirrorLaws.{uid_of_mirror, same_test}
 use Rattle.vic_tree.specs.OpenSet.{SameUids}
 use Rattle.vic_log.specs.declared.entry.Entry.{Entry}
-use Rattle.vic_log.specs.declared.entry.Entry.TheVariants.{Collision, Listed, Garbled, FieldCycle}
+use Rattle.vic_log.specs.declared.entry.Entry.TheVariants.{FieldCycle}
 use Rattle.vic_log.specs.Rounds.{mask_at, lies_in_some}
 use Rattle.vic_log.specs.Quiet.{silences, wakes, is_quiet}
 use Rattle.vic_log.specs.Populations.{answers_at}
@@ -250,20 +250,6 @@ heard_key h u v w = same_test u h (mirror h) (mirror u) (λ e. ap mirror (sym e)
 
 pub silenced_key : (h u : ℕ) → IsUid h → IsUid u → (h == u) ≡ (mirror h == mirror u)
 silenced_key h u v w = same_test h u (mirror h) (mirror u) (λ e. ap mirror e) (λ e. sym (uid_of_mirror h v) ∙ (ap uid_of e ∙ uid_of_mirror u w))
-
--- a collision, a garbled slot or a listed UID
-pub stretch_other : (es : List Entry) (from i : ℕ) (set : ℕ → Bool) (ns : List Name) (ss : List Spot) (e : Entry) → slice_get es i ≡ Some e → i < 2 ^ 32 → (e ≡ Collision) ⊎ ((e ≡ Garbled) ⊎ (((v : ℕ) × (e ≡ Listed v)) ⊎ (e ≡ FieldCycle))) → (e ≡ FieldCycle → ⊥) → IsStretch es from i set ns ss → IsStretch es from (i + 1) set ns ss
-stretch_other es from i set ns ss e k lt is other h =
-    ⊎_elim
-    (λ s. stretch_passed es from i set ns ss Collision (k ∙ ap (λ (x : Entry). Some x) s) lt refl (λ u w. refl) (λ x u. refl) h)
-    (λ w. ⊎_elim
-    (λ s. stretch_passed es from i set ns ss Garbled (k ∙ ap (λ (x : Entry). Some x) s) lt refl (λ u v. refl) (λ x u. refl) h)
-    (λ y. ⊎_elim
-    (λ s. stretch_passed es from i set ns ss (Listed s.0) (k ∙ ap (λ (x : Entry). Some x) s.1) lt refl (λ u v. refl) (λ x u. refl) h)
-    (λ s. absurd (other s))
-    y)
-    w)
-    is
 
 pub named_here : (ns : List Name) (n : Name) → is_named (ns ++ n ∷ []) n.key ≡ true
 named_here ns n = list_any-append (λ (m : Name). m.key == n.key) ns (n ∷ []) ∙ or_last (is_named ns n.key) (n.key == n.key) (eq-eqb n.key n.key refl)
