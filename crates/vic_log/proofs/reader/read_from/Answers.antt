@@ -1,4 +1,4 @@
-use Rattle.std.proofs.Common.{rules, ◌≡◌, ◌++◌, ℕ, List, Option, Some, None, Result, Ok, Err, MatchResult, IfErr, take, length-append, false, true, inl, inr, ap, sym, subst, ◌∙◌, append-nil, append_assoc, arith}
+use Rattle.std.proofs.Common.{rules, ◌≡◌, ◌≤◌, ◌<◌, ◌-◌, ◌++◌, ℕ, List, Option, Some, None, Result, Ok, Err, MatchResult, IfErr, take, length, length-append, length-take-le, false, true, inl, inr, ap, sym, subst, ◌∙◌, append-nil, append_assoc, arith}
 use Rattle.std.specs.Prelude.{◌↔◌}
 use Rattle.std.proofs.KnownBytes.{Consumes-trans}
 use Rattle.std.proofs.lemmas.Result.{err_from_is_err_and}
@@ -48,6 +48,9 @@ not_read text (Err Memory) h = ((λ e. cc), (λ e. cc))
 not_read text (Err Read) h = absurd h
 not_read text (Err Spent) h = absurd h
 
+less_left : (text piece : List ℕ) (count : ℕ) → 0 < count → count ≤ length piece → length text ≤ 130000000 → 130000001 - length (text ++ take count piece) < 130000001 - length text
+less_left text piece count some bound within = omega (arith, length-append text (take count piece), length-take-le {A = ℕ})
+
 pub returns-in_err-feed-clause-answer : goal.returns-in_err-feed-clause-answer
 returns-in_err-feed-clause-answer g c =
     let i = c.loop-count.invariant in
@@ -61,6 +64,9 @@ returns-in_err-feed-clause-returned g c =
     let given = i.text ++ take c.loop-count.count c.loop-count.piece in
     let p = err_from_is_err_and c.from_residual-in_err-feed.result c.from_residual-in_err-feed.ensures.1 in
     rw (p.1, p.2) (given, i.returned, reads_early _ given c.in_err-feed.field-0.0 (c.in_err-feed.ensures.early i.text i.fed))
+
+pub returns-in_err-feed-clause-tells : goal.returns-in_err-feed-clause-tells
+returns-in_err-feed-clause-tells g c = λ _. tells_on _ _ _ c.loop-count.invariant.given
 
 pub returns-in_err-count-2-clause-answer : goal.returns-in_err-count-2-clause-answer
 returns-in_err-count-2-clause-answer g c =
@@ -101,12 +107,17 @@ loop-count-preserved g c =
       within = waits.1;
       given = Consumes-trans _ _ _ given _ i.given c.in_ok-count-2.ensures.bytes.0;
       returned = c.in_ok-count-2.ensures.returned ∙ (ap (λ xs. xs ++ take c.in_ok-count-2.count c.read-in-loop-count.new.buf) i.returned ∙ append_assoc _ given _);
-      works = search rules;
-      bound = search rules;
+      works = c.in_ok-count-2.ensures.state;
+      bound = c.in_ok-count-2.ensures.bound;
       end = search rules;
       ended = search rules;
       reads = search rules;
     }
+
+pub loop-count-smaller : goal.loop-count-smaller
+loop-count-smaller g c =
+    let i = c.loop-count.invariant in
+    rw (i.fed, c.in_ok-feed.ensures.fed i.text i.fed) (less_left i.text c.loop-count.piece c.loop-count.count c.loop-count-test.true i.bound i.within)
 
 pub returns-clause-answer : goal.returns-clause-answer
 returns-clause-answer g c =
