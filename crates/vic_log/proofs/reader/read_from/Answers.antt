@@ -117,7 +117,7 @@ loop-count-preserved g c =
 pub loop-count-smaller : goal.loop-count-smaller
 loop-count-smaller g c =
     let i = c.loop-count.invariant in
-    rw (i.fed, c.in_ok-feed.ensures.fed i.text i.fed) (less_left i.text c.loop-count.piece c.loop-count.count c.loop-count-test.true i.bound i.within)
+    rw (i.fed, c.in_ok-feed.ensures.fed i.text i.fed) (less_left i.text c.loop-count.piece c.loop-count.count (omega arith) i.bound i.within)
 
 pub returns-clause-answer : goal.returns-clause-answer
 returns-clause-answer g c =
