@@ -1,5 +1,5 @@
 -- Bytes that are taken in turn.
-use Rattle.std.proofs.Common.{arith, ◌≡◌, ◌≤◌, ◌+◌, ◌-◌, ℕ, zero, suc, List, [], ◌∷◌, ◌++◌, length, length-append, take, drop, None, Some, Option, refl, sym, ◌∙◌, ap, append_assoc}
+use Rattle.std.proofs.Common.{arith, ◌≡◌, ◌≤◌, ◌+◌, ◌-◌, ℕ, zero, suc, List, [], ◌∷◌, ◌++◌, length, length-append, take, drop, None, Some, Option, refl, sym, ◌∙◌, ap, subst, append-nil, append_assoc}
 use Rattle.std.proofs.KnownBytes.{Appends-trans}
 use Rattle.std.proofs.lemmas.Grind.{common_steps}
 use Rattle.std.proofs.Math.Seq.{take-add}
@@ -18,6 +18,12 @@ appended-more (Some us) (Some vs) (Some ws) n m xs h k = grind (arith, common_st
 HasTakenBut-step : (a b c : Option (List ℕ)) (piece rest more text : List ℕ) → HasTakenBut a b more text → piece ++ rest ≡ more → Appends b c piece → HasTakenBut a c rest text
 HasTakenBut-step a b c piece rest more text h e k =
     (h.0 ++ piece, Appends-trans a b c h.0 piece h.1 k, append_assoc h.0 piece rest ∙ (ap (λ xs. h.0 ++ xs) e ∙ h.2))
+
+-- the last piece was taken whole
+pub HasTakenBut-all : (a b c : Option (List ℕ)) (piece more text : List ℕ) → HasTakenBut a b more text → piece ++ [] ≡ more → Appends b c piece → Appends a c text
+HasTakenBut-all a b c piece more text h e k =
+    let last = HasTakenBut-step a b c piece [] more text h e k in
+    subst (Appends a c) (sym (append-nil last.0) ∙ last.2) last.1
 
 -- a line was put behind what waited, of which some may have been taken
 pub HasTakenBut-line : (a b c : Option (List ℕ)) (piece piece' line rest more text : List ℕ) → HasTakenBut a b (piece ++ more) text → HasTakenBut b c piece' (piece ++ line) → line ++ rest ≡ more → HasTakenBut a c (piece' ++ rest) text

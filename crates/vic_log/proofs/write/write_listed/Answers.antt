@@ -3,7 +3,7 @@ use Rattle.std.proofs.lemmas.List.{drop_all}
 use Rattle.vic_log.specs.declared.entry.Entry.TheVariants.{Listed}
 use Rattle.vic_log.specs.Lines.{lf}
 use Rattle.vic_log.specs.Writing.{entry_text, listed_text}
-use Rattle.vic_log.proofs.Told.{HasTakenBut-line, HasTakenBut-part}
+use Rattle.vic_log.proofs.Told.{HasTakenBut-all, HasTakenBut-line, HasTakenBut-part}
 use Rattle.vic_log.proofs.write.write_listed.Goals as goal
 
 next_uid : (us : List ℕ) (i u : ℕ) → i < length us → u ≡ slice_index_or us i u → (entry_text (Listed u) ++ lf ∷ []) ++ listed_text (drop (i + 1) us) ≡ listed_text (drop i us)
@@ -49,3 +49,13 @@ pub returns-clause-part : goal.returns-clause-part
 returns-clause-part g c =
     let none = drop_all c.loop-uid.uid-index c.args.uids.now (omega arith) in
     HasTakenBut-part (Some _) (Some _) (Some _) c.loop-uid.piece.items [] _ _ c.loop-uid.invariant.written (ap (λ us. c.loop-uid.piece.items ++ listed_text us) (sym none)) c.in_ok-write_last.ensures.part
+
+pub returns-clause-all : goal.returns-clause-all
+returns-clause-all g c =
+    let none = drop_all c.loop-uid.uid-index c.args.uids.now (omega arith) in
+    HasTakenBut-all _ _ _ c.loop-uid.piece.items _ _ c.loop-uid.invariant.told (ap (λ us. c.loop-uid.piece.items ++ listed_text us) (sym none)) c.in_ok-write_last.ensures.all
+
+pub returns-clause-written : goal.returns-clause-written
+returns-clause-written g c =
+    let none = drop_all c.loop-uid.uid-index c.args.uids.now (omega arith) in
+    HasTakenBut-all (Some _) (Some _) (Some _) c.loop-uid.piece.items _ _ c.loop-uid.invariant.written (ap (λ us. c.loop-uid.piece.items ++ listed_text us) (sym none)) c.in_ok-write_last.ensures.written

@@ -6,7 +6,7 @@ use Rattle.vic_log.specs.Log.{IsValidEntry}
 use Rattle.vic_log.specs.Order.{AreValid, entries}
 use Rattle.vic_log.specs.Writing.{entry_text, lines_text}
 use Rattle.vic_log.proofs.Spelled.{valid_at}
-use Rattle.vic_log.proofs.Told.{HasTakenBut-line, HasTakenBut-part}
+use Rattle.vic_log.proofs.Told.{HasTakenBut-all, HasTakenBut-line, HasTakenBut-part}
 use Rattle.vic_log.proofs.write.write_log.Goals as goal
 
 valid_line : (lines : List LogLine) (i : ℕ) (other : LogLine) → AreValid (entries lines) → i < length lines → IsValidEntry (slice_index_or lines i other).item
@@ -61,3 +61,13 @@ pub returns-clause-part : goal.returns-clause-part
 returns-clause-part g c =
     let none = drop_all c.loop-line.line-index c.lines-lines.result.now (omega arith) in
     HasTakenBut-part (Some _) (Some _) (Some _) c.loop-line.piece.items [] _ _ c.loop-line.invariant.written (ap (λ ls. c.loop-line.piece.items ++ lines_text ls) (sym none)) c.in_ok-write_last.ensures.part
+
+pub returns-clause-all : goal.returns-clause-all
+returns-clause-all g c =
+    let none = drop_all c.loop-line.line-index c.lines-lines.result.now (omega arith) in
+    HasTakenBut-all _ _ _ c.loop-line.piece.items _ _ c.loop-line.invariant.told (ap (λ ls. c.loop-line.piece.items ++ lines_text ls) (sym none)) c.in_ok-write_last.ensures.all
+
+pub returns-clause-written : goal.returns-clause-written
+returns-clause-written g c =
+    let none = drop_all c.loop-line.line-index c.lines-lines.result.now (omega arith) in
+    HasTakenBut-all (Some _) (Some _) (Some _) c.loop-line.piece.items _ _ c.loop-line.invariant.written (ap (λ ls. c.loop-line.piece.items ++ lines_text ls) (sym none)) c.in_ok-write_last.ensures.written
