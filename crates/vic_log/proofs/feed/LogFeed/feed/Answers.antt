@@ -15,3 +15,12 @@ returns-clause-waits c text is =
     let size = length-append old c.args.piece.now in
     let same = ap length all in
     (λ n f early. no-early text begun.line.items begun.log begun.number n f now early, omega arith)
+
+pub invariant_of-self-2 : goal.invariant_of-self-2
+invariant_of-self-2 c =
+    let old = c.self.inside.fed.bytes in
+    let before = c.self.invariant c.if-self.false in
+    let less = c.in_ok-take_piece.ensures.less in
+    let within = before.1 in
+    let size = length-append old c.args.piece.now in
+    λ _. rw c.note.ensures (c.in_ok-take_piece.ensures.ok old before.0, omega arith)
