@@ -1,6 +1,6 @@
-use Rattle.std.proofs.Common.{rules, ◌≡◌, ◌≤◌, ◌<◌, ◌-◌, ◌++◌, ℕ, List, Option, Some, None, Result, Ok, Err, MatchResult, IfErr, take, length, length-append, length-take-le, false, true, inl, inr, ap, sym, subst, ◌∙◌, append-nil, append_assoc, arith}
+use Rattle.std.proofs.Common.{rules, ◌≡◌, ◌≤◌, ◌<◌, ◌-◌, ◌++◌, ℕ, List, Option, Some, None, [], Result, Ok, Err, MatchResult, IfErr, take, length, length-append, length-take-le, false, true, inl, inr, ap, sym, subst, ◌∙◌, append-nil, append_assoc, arith}
 use Rattle.std.specs.Prelude.{◌↔◌}
-use Rattle.std.proofs.KnownBytes.{Consumes-trans}
+use Rattle.std.proofs.KnownBytes.{Consumes-nil, Consumes-trans}
 use Rattle.std.proofs.lemmas.Result.{err_from_is_err_and}
 use Rattle.std.specs.Io.KnownBytes.{Consumes}
 use Rattle.vic_log.specs.declared.fault.LogFault.{LogFault}
@@ -50,6 +50,11 @@ not_read text (Err Spent) h = absurd h
 
 less_left : (text piece : List ℕ) (count : ℕ) → 0 < count → count ≤ length piece → length text ≤ 130000000 → 130000001 - length (text ++ take count piece) < 130000001 - length text
 less_left text piece count some bound within = omega (arith, length-append text (take count piece), length-take-le {A = ℕ})
+
+pub returns-in_err-count-clause-answer : goal.returns-in_err-count-clause-answer
+returns-in_err-count-clause-answer g c =
+    let p = err_from_is_err_and c.from_residual.result c.from_residual.ensures.1 in
+    rw (p.1, p.2) ([], handed_kept _ _ _ [] (Consumes-nil _) c.in_err-count.ensures.bytes, search rules)
 
 pub returns-in_err-feed-clause-answer : goal.returns-in_err-feed-clause-answer
 returns-in_err-feed-clause-answer g c =
@@ -109,9 +114,9 @@ loop-count-preserved g c =
       returned = c.in_ok-count-2.ensures.returned ∙ (ap (λ xs. xs ++ take c.in_ok-count-2.count c.read-in-loop-count.new.buf) i.returned ∙ append_assoc _ given _);
       works = c.in_ok-count-2.ensures.state;
       bound = c.in_ok-count-2.ensures.bound;
-      end = search rules;
+      end = λ none. c.in_ok-count-2.ensures.bytes.1 none (omega arith);
       ended = search rules;
-      reads = search rules;
+      reads = omega (arith, c.in_ok-count-2.ensures.counts, length-take-le {A = ℕ});
     }
 
 pub loop-count-smaller : goal.loop-count-smaller
