@@ -122,7 +122,8 @@ loop-count-preserved g c =
 pub loop-count-smaller : goal.loop-count-smaller
 loop-count-smaller g c =
     let i = c.loop-count.invariant in
-    rw (i.fed, c.in_ok-feed.ensures.fed i.text i.fed) (less_left i.text c.loop-count.piece c.loop-count.count (omega arith) i.bound i.within)
+    let less = less_left i.text c.loop-count.piece c.loop-count.count (omega arith) i.bound i.within in
+    rw (i.fed, c.in_ok-feed.ensures.fed i.text i.fed) (omega arith)
 
 pub returns-clause-answer : goal.returns-clause-answer
 returns-clause-answer g c =
