@@ -62,14 +62,14 @@ impl Spot {
 }
 
 /// Closes the keys from `first` to `last`, except the names that are left: those from index `start`
-/// on.
+/// on. Returns the index behind them, near which the next mask's may stand.
 fn close_between(
     closed: &mut Vec<KeyRange>,
     names: &[Name],
     start: usize,
     first: u64,
     last: u64,
-) -> Result<(), AllocError>
+) -> Result<usize, AllocError>
     requires order { AreInOrder names.now }
     requires start { IsStart names.now first start }
     requires range { IsKeyRange (first, last) }
@@ -89,7 +89,7 @@ fn close_between(
     if from <= last {
         closed.push(KeyRange::new(from, last))?;
     }
-    Ok(())
+    Ok(start.saturating_add(inside.len()))
 }
 
 /// Whether the keys from `first` to `last` are among those from one to another.
@@ -116,12 +116,12 @@ pub(crate) fn close_spots(
         closed.old.items closed.new.items) }
 {
     let mut outer: Option<(u64, u64)> = None;
-    let mut start = 0;
+    let mut near = 0;
     for spot in spots {
         let (first, last) = spot.keys();
         if !is_inside(first, last, outer) {
-            start = start_near(names, start, first);
-            close_between(closed, names, start, first, last)?;
+            let start = start_near(names, near, first);
+            near = close_between(closed, names, start, first, last)?;
             outer = Some((first, last));
         }
     }

@@ -1,9 +1,11 @@
 use Rattle.std.proofs.Common.{◌≡◌, ◌+◌, ◌-◌, ◌<◌, ◌≤◌, ◌++◌, ◌∷◌, [], get_or, sym, ap, ◌∙◌, subst, arith}
+use Rattle.vic_tree.specs.Ranges.{is_between}
 use Rattle.vic_verdict.specs.declared.names.Name.{Name}
+use Rattle.vic_verdict.specs.Closed.{Closes}
 use Rattle.vic_verdict.proofs.Sweeping.{nobody}
 use Rattle.vic_verdict.proofs.Closing.{IsClosedTo, closed_first, closed_passed, closed_left, closed_all, pushed_none, pushed_one}
 use Rattle.vic_verdict.proofs.closed.close_between.Goals as goal
-use Rattle.vic_verdict.proofs.closed.close_between.Goals.{then-name, then-from-name+in_ok-push, else-from-name, else-name}
+use Rattle.vic_verdict.proofs.closed.close_between.Goals.{then-name, then-from-name+in_ok-push, then-from-last+in_ok-push-2, else-from-last, else-from-name, else-name}
 
 pub loop-name-init : goal.loop-name-init
 loop-name-init c =
@@ -37,21 +39,25 @@ loop-name-preserved c =
           (closed_passed old new ns first last from i c.names_between-inside.ensures.order c.loop-name-test.true w.if-name.false c.loop-name.invariant))
     ]
 
-pub returns-in_ok-push-2 : goal.returns-in_ok-push-2
-returns-in_ok-push-2 c =
+pub returns : goal.returns
+returns c =
+    let old = c.args.closed.now.items in
     let new = c.loop-name.closed.items in
-    let next = c.push-then-from-last.new.self.items in
+    let ns = c.args.names.now in
+    let inside = c.names_between-inside.result.now in
     let from = c.loop-name.from in
     let last = c.args.last in
-    let to : last ≡ last + 1 - 1 = omega arith in
-    let is : next ≡ new ++ (from, last + 1 - 1) ∷ [] = c.in_ok-push-2.ensures.items ∙ ap (λ r. new ++ r ∷ []) (c.new-then-from-last.ensures ∙ ap (λ n. (from, n)) to) in
-    let upto : from < last + 1 = let le = c.if-from-last.true in omega (arith, le) in
-    closed_all c.args.closed.now.items new next c.names_between-inside.result.now c.args.names.now c.args.first last from c.loop-name.name-index c.loop-name-test.false (c.names_between-inside.ensures.all (λ (n : Name). n.left)) (pushed_one new next from (last + 1) upto is) c.loop-name.invariant
-
-pub returns-else-from-last : goal.returns-else-from-last
-returns-else-from-last c =
-    let new = c.loop-name.closed.items in
-    let from = c.loop-name.from in
-    let last = c.args.last in
-    let past : last + 1 ≤ from = let lt = c.if-from-last.false in omega (arith, lt) in
-    closed_all c.args.closed.now.items new new c.names_between-inside.result.now c.args.names.now c.args.first last from c.loop-name.name-index c.loop-name-test.false (c.names_between-inside.ensures.all (λ (n : Name). n.left)) (pushed_none new from (last + 1) past) c.loop-name.invariant
+    let left = c.names_between-inside.ensures.all (λ (n : Name). n.left) in
+    elim c.if-from-last.branch [
+      | then-from-last+in_ok-push-2 w ↦
+          let next = w.push-then-from-last.new.self.items in
+          let to : last ≡ last + 1 - 1 = omega arith in
+          let is : next ≡ new ++ (from, last + 1 - 1) ∷ [] = w.in_ok-push-2.ensures.items ∙ ap (λ r. new ++ r ∷ []) (w.new-then-from-last.ensures ∙ ap (λ n. (from, n)) to) in
+          let upto : from < last + 1 = let le = w.if-from-last.true in omega (arith, le) in
+          subst (λ v. Closes ns (is_between c.args.first last) old v.items) (sym w.closed-is)
+          (closed_all old new next inside ns c.args.first last from c.loop-name.name-index c.loop-name-test.false left (pushed_one new next from (last + 1) upto is) c.loop-name.invariant)
+      | else-from-last w ↦
+          let past : last + 1 ≤ from = let lt = w.if-from-last.false in omega (arith, lt) in
+          subst (λ v. Closes ns (is_between c.args.first last) old v.items) (sym w.closed-is)
+          (closed_all old new new inside ns c.args.first last from c.loop-name.name-index c.loop-name-test.false left (pushed_none new from (last + 1) past) c.loop-name.invariant)
+    ]

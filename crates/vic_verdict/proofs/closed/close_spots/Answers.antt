@@ -7,7 +7,7 @@ use Rattle.vic_verdict.specs.Closed.{Closes, is_in_if, is_in_some}
 use Rattle.vic_verdict.proofs.Closing.{closes_none, closes_more, closes_alike, inner_more, some_more}
 use Rattle.vic_verdict.proofs.Sweeping.{nowhere}
 use Rattle.vic_verdict.proofs.closed.close_spots.Goals as goal
-use Rattle.vic_verdict.proofs.closed.close_spots.Goals.{then-not-is_inside+in_ok-close_between, else-not-is_inside}
+use Rattle.vic_verdict.proofs.closed.close_spots.Goals.{then-not-is_inside+in_ok-near, else-not-is_inside}
 
 pub keys-first-requires : goal.keys-first-requires
 keys-first-requires c = c.requires.ranges c.loop-spot.spot-index nowhere c.loop-spot-test.true
@@ -31,10 +31,10 @@ loop-spot-preserved c =
     let keys = c.keys-first.ensures in
     let before = c.loop-spot.invariant in
     elim c.if-not-is_inside.branch [
-      | then-not-is_inside+in_ok-close_between w ↦ record {
+      | then-not-is_inside+in_ok-near w ↦ record {
         outer = λ k e. some_more spots i s k below here ∙ or_right (is_in_some (take i spots) k) _ (subst (λ r. is_between r.0 r.1 k ≡ true) keys (subst (λ o. is_in_if o k ≡ true) w.outer-is e));
         done = subst (λ v. Closes ns (is_in_some (take (i + 1) spots)) old v.items) (sym w.closed-is)
-            (closes_more ns spots i s old new w.close_between.new.closed.items below here (subst (λ r. Closes ns (is_between r.0 r.1) new w.close_between.new.closed.items) keys w.in_ok-close_between.ensures) before.done);
+            (closes_more ns spots i s old new w.close_between.new.closed.items below here (subst (λ r. Closes ns (is_between r.0 r.1) new w.close_between.new.closed.items) keys w.in_ok-near.ensures) before.done);
       }
       | else-not-is_inside w ↦
           let inside = subst (λ r. (k : ℕ) → is_between r.0 r.1 k ≡ true → is_in_if c.loop-spot.outer k ≡ true) keys (c.is_inside.ensures w.if-not-is_inside.false) in
