@@ -31,9 +31,8 @@ use Rattle.vic_verdict.specs.declared.demands.Stretch.{Stretch}
 use Rattle.vic_verdict.specs.declared.names.Name.{Name}
 use Rattle.vic_verdict.specs.Possible.{Lacks}
 use Rattle.vic_verdict.specs.Places.{answering}
-use Rattle.vic_verdict.specs.Sweep.{AreInOrder, HaveKeys, is_quiet_by}
-use Rattle.vic_verdict.specs.Silenced.{ArePutInOrder}
-use Rattle.vic_verdict.specs.Demands.{needs, needs_of, needs_at, all_needs, IsFoundAt, IsFound, Meets, IsDemand, IsDemandBy, answers_by, IsUnmet, IsUnmetAt, IsImpliedBy, IsAskedAgain, IsInOrder, IsKept, Keeps, AreMet, AreAsked, AreFound, AreKept, asked_by, demands_to, is_asked}
+use Rattle.vic_verdict.specs.Sweep.{AreInOrder, HaveKeys, is_quiet_by, ArePutInOrder}
+use Rattle.vic_verdict.specs.Demands.{needs, needs_of, needs_at, all_needs, IsFoundAt, IsFound, Meets, IsDemand, IsDemandBy, answers_by, IsUnmet, IsUnmetAt, IsImpliedBy, IsAskedAgain, HasNamesInOrder, IsKept, Keeps, AreMet, AreAsked, AreFound, AreKept, asked_by, demands_to, is_asked}
 use Rattle.vic_verdict.proofs.Silencing.{silenced_later}
 use Rattle.vic_verdict.proofs.Entries.{asks_two_iff, asks_one_iff}
 use Rattle.vic_verdict.proofs.Supplied.{UpToThree-same}
@@ -329,8 +328,7 @@ kept_first es = record {
 pub kept_cycle : (es : List Entry) (i : ℕ) (ss : List Stretch) (e : Entry) → slice_get es i ≡ Some e → needs e ≡ 0 → AreKept es i ss → AreKept es (i + 1) ss
 kept_cycle es i ss e k none h = record {
   kept = λ n s below. let it = h.kept n s below in record {
-    order = it.order;
-    keys = it.keys;
+    names = it.names;
     places = λ m d inside. let lt = it.places m d inside in omega (arith, lt);
     demands = it.demands;
   };
@@ -382,8 +380,7 @@ demand_agrees es fs cut ns d agree below h = record {
 
 kept_agree : (es fs : List Entry) (i cut : ℕ) (s : Stretch) → AgreeBefore cut fs es → i ≤ cut → IsKept es i s → IsKept fs cut s
 kept_agree es fs i cut s agree le h = record {
-  order = h.order;
-  keys = h.keys;
+  names = h.names;
   places = λ k d below. let lt = h.places k d below in omega (arith, lt, le);
   demands = λ k d below.
       let lt = h.places k d below in
@@ -443,8 +440,7 @@ kept_to es fs from i cut ns ms ds old new agree since upto keys quiet order keep
     some : (s : Stretch) × (new ≡ old ++ s ∷ []) × (s.names.items ≡ ms) × IsPermutation (demands_to cut ds) s.demands.items → AreKept fs cut new
     some w = subst (AreKept fs cut) (sym w.1) (record {
       kept = All-push (IsKept fs cut) old w.0 old_kept (record {
-        order = subst AreInOrder (sym w.2) order.order;
-        keys = subst HaveKeys (sym w.2) (order.keys keys);
+        names = record { order = subst AreInOrder (sym w.2) order.order; keys = subst HaveKeys (sym w.2) (order.keys keys) };
         places = All-permutation (λ (d : Demand). d.at < cut) (demands_to cut ds) w.0.demands.items w.3 early;
         demands = subst (λ xs. All (IsDemandBy fs xs) w.0.demands.items) (sym w.2) (All-permutation (IsDemandBy fs ms) (demands_to cut ds) w.0.demands.items w.3 told);
       });
@@ -461,8 +457,8 @@ kept_to es fs from i cut ns ms ds old new agree since upto keys quiet order keep
           omega (arith, few, sum, same);
     })
 
-pub kept_in_order : (es : List Entry) (i : ℕ) (ss : List Stretch) → AreKept es i ss → All IsInOrder ss
-kept_in_order es i ss h k s below = let it = h.kept k s below in record { order = it.order; keys = it.keys }
+pub kept_in_order : (es : List Entry) (i : ℕ) (ss : List Stretch) → AreKept es i ss → All HasNamesInOrder ss
+kept_in_order es i ss h k s below = (h.kept k s below).names
 
 -- ---- what meets them
 

@@ -20,11 +20,10 @@ use Rattle.vic_verdict.specs.declared.demands.Demand.{Demand}
 use Rattle.vic_verdict.specs.declared.demands.Stretch.{Stretch}
 use Rattle.vic_verdict.specs.declared.stretches.Settled.{Settled}
 use Rattle.vic_verdict.specs.Demands.{AreKept, Keeps, needs}
-use Rattle.vic_verdict.specs.Silenced.{ArePutInOrder}
 use Rattle.vic_verdict.specs.Possible.{IsContradictedAt}
 use Rattle.vic_verdict.specs.Replies.{Answers, IsFirstQuietReply}
 use Rattle.vic_verdict.specs.Stretches.{HasGathered, IsOpenTo, IsSettled}
-use Rattle.vic_verdict.specs.Sweep.{all_allow_to}
+use Rattle.vic_verdict.specs.Sweep.{all_allow_to, ArePutInOrder}
 use Rattle.vic_verdict.proofs.Demanding.{asked_anew, kept_first, kept_cycle, kept_to}
 use Rattle.vic_verdict.proofs.Heard.{answers_before, quiet_contradicts, quiet_since, heard_first, heard_anew}
 use Rattle.vic_verdict.proofs.Lacking.{taken, open_agrees}

@@ -11,9 +11,8 @@ use Rattle.std.proofs.lemmas.List.Folds.{list_any-append, list_any_more}
 use Rattle.vic_frame.specs.Uids.{has}
 use Rattle.vic_tree.specs.OpenSet.{AreKeys}
 use Rattle.vic_verdict.specs.declared.names.Name.{Name}
-use Rattle.vic_verdict.specs.Sweep.{AreInOrder, HaveKeys, keep_all, quiet_of, is_quiet_by}
+use Rattle.vic_verdict.specs.Sweep.{AreInOrder, HaveKeys, keep_all, quiet_of, is_quiet_by, ArePutInOrder}
 use Rattle.vic_verdict.proofs.Sweeping.{nobody, keep-order, keep-keys, keep-quiet}
-use Rattle.vic_verdict.specs.Silenced.{ArePutInOrder}
 use Rattle.vic_tree.proofs.BoolLaws.{lt_yes}
 
 pub silenced_permuted : (ns ms : List Name) (k i : ℕ) → IsPermutation ns ms → is_quiet_by ms k i ≡ is_quiet_by ns k i

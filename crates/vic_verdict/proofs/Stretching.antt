@@ -21,7 +21,7 @@ use Rattle.vic_verdict.specs.declared.names.Name.{Name}
 use Rattle.vic_verdict.specs.declared.names.TheConstants.{NEVER}
 use Rattle.vic_verdict.specs.declared.closed.Spot.{Spot}
 use Rattle.vic_verdict.specs.Sweep.{quiet_of, heard_of, is_heard, is_in, is_quiet_by, spot_allows, all_allow, all_allow_to, is_named, is_named_if, all_hear_named, are_left}
-use Rattle.vic_verdict.specs.Stretches.{AddsSpot, IsStretch}
+use Rattle.vic_verdict.specs.Stretches.{AddsSpot, TellsOpen}
 use Rattle.vic_verdict.proofs.Entries.{entry_allows}
 use Rattle.vic_verdict.proofs.Stands.{open_next}
 use Rattle.vic_tree.proofs.BoolLaws.{and_true, or_false}
@@ -104,7 +104,7 @@ allow_all ns k i (s ∷ ss) before =
     under x y e = grind (arith, nat_tests)
 
 -- what a stretch tells of a place up to its end
-pub stretch_to : (es : List Entry) (from i : ℕ) (set : ℕ → Bool) (ns : List Name) (ss : List Spot) → IsStretch es from i set ns ss → (j : ℕ) → from ≤ j → j ≤ i → SameUids (λ u. set u && all_allow_to ns ss j (mirror u)) (is_open (slots_before es j))
+pub stretch_to : (es : List Entry) (from i : ℕ) (set : ℕ → Bool) (ns : List Name) (ss : List Spot) → TellsOpen es from i set ns ss → (j : ℕ) → from ≤ j → j ≤ i → SameUids (λ u. set u && all_allow_to ns ss j (mirror u)) (is_open (slots_before es j))
 stretch_to es from i set ns ss h j since upto u w =
     ⊎_elim
     (λ e. subst (λ m. (set u && all_allow_to ns ss m (mirror u)) ≡ is_open (slots_before es m) u) (sym e) (ap (λ b. set u && b) (allow_all ns (mirror u) i ss h.slots) ∙ h.uids u w))
@@ -112,7 +112,7 @@ stretch_to es from i set ns ss h j since upto u w =
     (cases_eq j i)
 
 -- and of one before its end once it has an entry more
-before_next : (es : List Entry) (from i : ℕ) (set : ℕ → Bool) (ns ms : List Name) (ss ts : List Spot) → ((j u : ℕ) → j ≤ i → all_allow_to ms ts j (mirror u) ≡ all_allow_to ns ss j (mirror u)) → IsStretch es from i set ns ss → (j : ℕ) → from ≤ j → j < i + 1 → SameUids (λ u. set u && all_allow_to ms ts j (mirror u)) (is_open (slots_before es j))
+before_next : (es : List Entry) (from i : ℕ) (set : ℕ → Bool) (ns ms : List Name) (ss ts : List Spot) → ((j u : ℕ) → j ≤ i → all_allow_to ms ts j (mirror u) ≡ all_allow_to ns ss j (mirror u)) → TellsOpen es from i set ns ss → (j : ℕ) → from ≤ j → j < i + 1 → SameUids (λ u. set u && all_allow_to ms ts j (mirror u)) (is_open (slots_before es j))
 before_next es from i set ns ms ss ts same h j since under u w =
     ap (λ b. set u && b) (same j u (omega (arith, under))) ∙ stretch_to es from i set ns ss h j since (omega (arith, under)) u w
 
@@ -143,8 +143,8 @@ slots_next : (i : ℕ) (ss : List Spot) → All (λ (s : Spot). s.at < i) ss →
 slots_next i ss h k d below = let lt = h k d below in omega (arith, lt)
 
 -- a UID that is heard is named
-pub stretch_named : (es : List Entry) (from i : ℕ) (set : ℕ → Bool) (ns ms : List Name) (ss : List Spot) (n : Name) → i < 2 ^ 32 → n.key < 2 ^ 56 → n.left ≡ true → n.is_heard ≡ true → ms ≡ ns ++ n ∷ [] → IsStretch es from i set ns ss → IsStretch es from i set ms ss
-stretch_named es from i set ns ms ss n lt key left heard is h = subst (λ xs. IsStretch es from i set xs ss) (sym is) (record {
+pub stretch_named : (es : List Entry) (from i : ℕ) (set : ℕ → Bool) (ns ms : List Name) (ss : List Spot) (n : Name) → i < 2 ^ 32 → n.key < 2 ^ 56 → n.left ≡ true → n.is_heard ≡ true → ms ≡ ns ++ n ∷ [] → TellsOpen es from i set ns ss → TellsOpen es from i set ms ss
+stretch_named es from i set ns ms ss n lt key left heard is h = subst (λ xs. TellsOpen es from i set xs ss) (sym is) (record {
   keys = All-push (λ (m : Name). m.key < 2 ^ 56) ns n h.keys key;
   left = left_more ns n left h.left;
   ranges = h.ranges;
@@ -167,7 +167,7 @@ still_quiet true b q e f = absurd (cc)
 still_quiet false true q e f = absurd (cc)
 
 -- an entry that silences and wakes nobody, and rules nobody out
-pub stretch_passed : (es : List Entry) (from i : ℕ) (set : ℕ → Bool) (ns : List Name) (ss : List Spot) (e : Entry) → slice_get es i ≡ Some e → i < 2 ^ 32 → wakes (Some e) ≡ false → ((u : ℕ) → IsUid u → silences (Some e) u ≡ false) → ((b : Bool) (u : ℕ) → entry_allows (reading_of e) b u ≡ true) → IsStretch es from i set ns ss → IsStretch es from (i + 1) set ns ss
+pub stretch_passed : (es : List Entry) (from i : ℕ) (set : ℕ → Bool) (ns : List Name) (ss : List Spot) (e : Entry) → slice_get es i ≡ Some e → i < 2 ^ 32 → wakes (Some e) ≡ false → ((u : ℕ) → IsUid u → silences (Some e) u ≡ false) → ((b : Bool) (u : ℕ) → entry_allows (reading_of e) b u ≡ true) → TellsOpen es from i set ns ss → TellsOpen es from (i + 1) set ns ss
 stretch_passed es from i set ns ss e k lt awake none all h = record {
   keys = h.keys;
   left = h.left;
@@ -201,8 +201,8 @@ quiet_named es i u e ns n k awake one at before =
     go q false true true false x y z = absurd (cc)
 
 -- a Stay Quiet
-pub stretch_silenced : (es : List Entry) (from i : ℕ) (set : ℕ → Bool) (ns ms : List Name) (ss : List Spot) (e : Entry) (n : Name) → slice_get es i ≡ Some e → i < 2 ^ 32 → wakes (Some e) ≡ false → ((u : ℕ) → IsUid u → silences (Some e) u ≡ (n.key == mirror u)) → ((b : Bool) (u : ℕ) → entry_allows (reading_of e) b u ≡ true) → n.key < 2 ^ 56 → n.left ≡ true → n.at ≡ i → n.is_heard ≡ false → ms ≡ ns ++ n ∷ [] → IsStretch es from i set ns ss → IsStretch es from (i + 1) set ms ss
-stretch_silenced es from i set ns ms ss e n k lt awake one all key left at silent is h = subst (λ xs. IsStretch es from (i + 1) set xs ss) (sym is) (record {
+pub stretch_silenced : (es : List Entry) (from i : ℕ) (set : ℕ → Bool) (ns ms : List Name) (ss : List Spot) (e : Entry) (n : Name) → slice_get es i ≡ Some e → i < 2 ^ 32 → wakes (Some e) ≡ false → ((u : ℕ) → IsUid u → silences (Some e) u ≡ (n.key == mirror u)) → ((b : Bool) (u : ℕ) → entry_allows (reading_of e) b u ≡ true) → n.key < 2 ^ 56 → n.left ≡ true → n.at ≡ i → n.is_heard ≡ false → ms ≡ ns ++ n ∷ [] → TellsOpen es from i set ns ss → TellsOpen es from (i + 1) set ms ss
+stretch_silenced es from i set ns ms ss e n k lt awake one all key left at silent is h = subst (λ xs. TellsOpen es from (i + 1) set xs ss) (sym is) (record {
   keys = All-push (λ (m : Name). m.key < 2 ^ 56) ns n h.keys key;
   left = left_more ns n left h.left;
   ranges = h.ranges;
@@ -217,7 +217,7 @@ stretch_silenced es from i set ns ms ss e n k lt awake one all key left at silen
 })
 
 -- a silent or an answered slot
-pub stretch_spotted : (es : List Entry) (from i : ℕ) (set : ℕ → Bool) (ns : List Name) (ss ts : List Spot) (e : Entry) (mask : Option BitMask) (heard : Option ℕ) → slice_get es i ≡ Some e → i < 2 ^ 32 → mask ≡ mask_at es i → wakes (Some e) ≡ false → ((u : ℕ) → IsUid u → silences (Some e) u ≡ false) → ((b : Bool) (u : ℕ) → IsUid u → entry_allows (reading_of e) b u ≡ (not b || is_heard heard (mirror u))) → is_named_if ns heard ≡ true → AddsSpot mask i heard ss ts → IsStretch es from i set ns ss → IsStretch es from (i + 1) set ns ts
+pub stretch_spotted : (es : List Entry) (from i : ℕ) (set : ℕ → Bool) (ns : List Name) (ss ts : List Spot) (e : Entry) (mask : Option BitMask) (heard : Option ℕ) → slice_get es i ≡ Some e → i < 2 ^ 32 → mask ≡ mask_at es i → wakes (Some e) ≡ false → ((u : ℕ) → IsUid u → silences (Some e) u ≡ false) → ((b : Bool) (u : ℕ) → IsUid u → entry_allows (reading_of e) b u ≡ (not b || is_heard heard (mirror u))) → is_named_if ns heard ≡ true → AddsSpot mask i heard ss ts → TellsOpen es from i set ns ss → TellsOpen es from (i + 1) set ns ts
 stretch_spotted es from i set ns ss ts e mask heard k lt m awake none reads named adds h = record {
   keys = h.keys;
   left = h.left;
@@ -260,7 +260,7 @@ named_here ns n = list_any-append (λ (m : Name). m.key == n.key) ns (n ∷ []) 
 
 -- ---- where a stretch begins and ends
 
-pub stretch_first : (es : List Entry) (set : ℕ → Bool) → SameUids set (is_open (slots_before es 0)) → IsStretch es 0 0 set [] []
+pub stretch_first : (es : List Entry) (set : ℕ → Bool) → SameUids set (is_open (slots_before es 0)) → TellsOpen es 0 0 set [] []
 stretch_first es set h = record {
   keys = λ k d below. absurd (omega (arith, below));
   left = refl;
@@ -274,8 +274,8 @@ stretch_first es set h = record {
 }
 
 -- a field cycle, once what was gathered is settled
-pub stretch_anew : (es : List Entry) (from i : ℕ) (old set : ℕ → Bool) (ns ms : List Name) (ss ts : List Spot) (e : Entry) → slice_get es i ≡ Some e → e ≡ FieldCycle → ms ≡ [] → ts ≡ [] → SameUids set (λ u. old u && all_allow ns ss (mirror u)) → IsStretch es from i old ns ss → IsStretch es (i + 1) (i + 1) set ms ts
-stretch_anew es from i old set ns ms ss ts e k is none empty done h = subst (λ xs. IsStretch es (i + 1) (i + 1) set xs ts) (sym none) (subst (λ xs. IsStretch es (i + 1) (i + 1) set [] xs) (sym empty) (record {
+pub stretch_anew : (es : List Entry) (from i : ℕ) (old set : ℕ → Bool) (ns ms : List Name) (ss ts : List Spot) (e : Entry) → slice_get es i ≡ Some e → e ≡ FieldCycle → ms ≡ [] → ts ≡ [] → SameUids set (λ u. old u && all_allow ns ss (mirror u)) → TellsOpen es from i old ns ss → TellsOpen es (i + 1) (i + 1) set ms ts
+stretch_anew es from i old set ns ms ss ts e k is none empty done h = subst (λ xs. TellsOpen es (i + 1) (i + 1) set xs ts) (sym none) (subst (λ xs. TellsOpen es (i + 1) (i + 1) set [] xs) (sym empty) (record {
   keys = λ j d below. absurd (omega (arith, below));
   left = refl;
   ranges = λ j d below. absurd (omega (arith, below));

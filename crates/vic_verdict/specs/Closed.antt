@@ -16,6 +16,7 @@ is_in_if None k = false
 is_in_if (Some r) k = is_between r.0 r.1 k
 
 -- the new ranges have the keys of the old ones, and those that pass a test but for the names left
-abbrev pub Closes : List Name → (ℕ → Bool) → List (ℕ × ℕ) → List (ℕ × ℕ) → Type 0
+abbrev pub Closes : List Name → (ℕ → Bool)
+    → List (ℕ × ℕ) → List (ℕ × ℕ) → Type 0
 Closes ns test old new =
     (k : ℕ) → in_ranges new k ≡ (in_ranges old k || (test k && not (has_left ns k)))

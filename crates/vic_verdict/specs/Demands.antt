@@ -154,11 +154,15 @@ pub record AreAsked (es : List Entry) (from i : ℕ) (ds : List Demand) : Type 0
   pub few : (j : ℕ) → from ≤ j → j ≤ i
       → all_needs (take from es) + asked_by (demands_to j ds) ≤ all_needs (take j es)
 
--- the names of a stretch stand in order, and tell who answers in the slots of its demands, all before
--- place i
-pub record IsKept (es : List Entry) (i : ℕ) (s : Stretch) : Type 0 where
+-- the names of a stretch stand in order, by keys
+pub record HasNamesInOrder (s : Stretch) : Type 0 where
   pub order : AreInOrder s.names.items
   pub keys : HaveKeys s.names.items
+
+-- the names of a stretch stand in order, and tell who answers in the slots of its demands, which
+-- are all before place i
+pub record IsKept (es : List Entry) (i : ℕ) (s : Stretch) : Type 0 where
+  pub names : HasNamesInOrder s
   pub places : All (λ (d : Demand). d.at < i) s.demands.items
   pub demands : All (IsDemandBy es s.names.items) s.demands.items
 
@@ -168,11 +172,6 @@ pub record AreKept (es : List Entry) (i : ℕ) (ss : List Stretch) : Type 0 wher
   pub asked : (j : ℕ) → j < i → 0 < needs_at es j
       → list_any (λ (s : Stretch). is_asked s.demands.items j) ss ≡ true
   pub few : sum_by (λ (s : Stretch). asked_by s.demands.items) ss ≤ all_needs (take i es)
-
--- the names of a stretch are keys in order
-pub record IsInOrder (s : Stretch) : Type 0 where
-  pub order : AreInOrder s.names.items
-  pub keys : HaveKeys s.names.items
 
 -- the list has a stretch more, of these names and of the demands before place i, unless there are
 -- no such demands

@@ -11,6 +11,5 @@ pub mod Stretches
 pub mod Demands
 pub mod Explained
 pub mod Gathered
-pub mod Silenced
 pub mod Replies
 pub mod Keys

@@ -47,7 +47,7 @@ pub record AddsSpot (mask : Option BitMask) (at : ℕ) (heard : Option ℕ) (old
 
 -- the names and the slots of the entries from a place on, behind the last field cycle, up to place
 -- i. With what a set leaves open they tell what is open there, and at the places between
-pub record IsStretch (es : List Entry) (from i : ℕ) (set : ℕ → Bool) (ns : List Name)
+pub record TellsOpen (es : List Entry) (from i : ℕ) (set : ℕ → Bool) (ns : List Name)
     (ss : List Spot) : Type 0 where
   pub keys : HaveKeys ns
   pub left : are_left ns ≡ true
@@ -63,7 +63,7 @@ pub record IsStretch (es : List Entry) (from i : ℕ) (set : ℕ → Bool) (ns :
 -- all that is gathered of them: what they tell is open, who was heard, and what they ask for
 pub record HasGathered (es : List Entry) (from i : ℕ) (set : ℕ → Bool) (ns : List Name)
     (ss : List Spot) (ds : List Demand) : Type 0 where
-  pub stretch : IsStretch es from i set ns ss
+  pub stretch : TellsOpen es from i set ns ss
   pub heard : AreHeard es from i ns
   pub asked : AreAsked es from i ds
 

@@ -1,5 +1,5 @@
 -- What the slots between two field cycles leave, said of keys: UIDs in the order of their low bits.
-use Rattle.std.specs.Prelude.{ℕ, ◌+◌, ◌-◌, ◌/◌, ◌%◌, ◌^◌, ◌==◌, ◌<◌, ◌≤◌, Bool, true, false, not, ◌&&◌, ◌||◌, Option, Some, None, List, length, slice_index_or, nat_le, nat_lt, map, if◌then◌else◌, IfSome}
+use Rattle.std.specs.Prelude.{◌≡◌, ℕ, ◌+◌, ◌-◌, ◌/◌, ◌%◌, ◌^◌, ◌==◌, ◌<◌, ◌≤◌, Bool, true, false, not, ◌&&◌, ◌||◌, Option, Some, None, List, length, slice_index_or, nat_le, nat_lt, map, if◌then◌else◌, IfSome}
 use Rattle.std.specs.List.Sorted.{IsNonDecreasingBy}
 use Rattle.std.specs.List.{list_all, list_any, All}
 use Rattle.vic_frame.specs.declared.uid.TheConstants.{UID_BITS}
@@ -62,7 +62,7 @@ all_leave spots k q = list_all (λ s. spot_leaves s k q) spots
 abbrev pub level_leaves : Level → ℕ → ℕ → Bool
 level_leaves l k q = if is_heard l.heard k then is_before q l.other else nat_lt q l.at
 
--- the first slot of a level is before all that heard another
+-- the first slot of a level is no later than the first that heard another
 abbrev pub IsLevel : Level → Type 0
 IsLevel l = IfSome l.other (λ o. l.at ≤ o)
 
@@ -142,3 +142,9 @@ pub record IsStart (ns : List Name) (first at : ℕ) : Type 0 where
 -- keys of UIDs
 abbrev pub HaveKeys : List Name → Type 0
 HaveKeys ns = All (λ (n : Name). IsKey n.key) ns
+
+-- the names stand in order, and tell who is Quiet as before
+pub record ArePutInOrder (old new : List Name) : Type 0 where
+  pub order : AreInOrder new
+  pub keys : HaveKeys old → HaveKeys new
+  pub quiet : (k i : ℕ) → is_quiet_by new k i ≡ is_quiet_by old k i

@@ -1,7 +1,7 @@
 //! Which keys the silent and answered slots between two field cycles close: those of their masks,
 //! except the names that are left.
 
-ghost use Rattle.std.specs.Prelude.{◌≡◌, ℕ, ◌&&◌, true, OnOk};
+ghost use Rattle.std.specs.Prelude.{◌≡◌, ℕ, true, OnOk};
 ghost use Rattle.std.specs.List.{All};
 ghost use Rattle.vic_tree.specs.Ranges.{IsKeyRange, is_between};
 ghost use Rattle.vic_verdict.specs.Closed.{Closes, is_in_if, is_in_some};
@@ -19,7 +19,7 @@ pub(crate) const LENGTHS: u64 = 256;
 /// one number.
 #[derive(Clone, Copy)]
 pub(crate) struct Spot {
-    /// Its mask: the first key, times `LENGTHS`, and how many bits it has. In the order of these
+    /// Its mask: the first key, times `LENGTHS`, plus how many bits it has. In the order of these
     /// numbers those of one mask stand together, and outer masks before inner ones.
     pub mask: u64,
     /// The key that was heard; the first key of its mask where nobody was.
@@ -61,8 +61,9 @@ impl Spot {
     }
 }
 
-/// Closes the keys from `first` to `last`, except the names that are left: those from index `start`
-/// on. Returns the index behind them, near which the next mask's may stand.
+/// Closes the keys from `first` to `last`, except those of names that are left. The first name with
+/// a key of at least `first` has the index `start`. Returns the index behind the names of these
+/// keys, near which those of the next mask may stand.
 fn close_between(
     closed: &mut Vec<KeyRange>,
     names: &[Name],

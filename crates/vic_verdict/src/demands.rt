@@ -2,18 +2,18 @@
 //! meet it.
 //!
 //! Between two field cycles tags only fall silent. So whoever answers in the last of some slots of
-//! one mask answered in the earlier ones too, and that one alone has to be looked at.
+//! one mask answered in the earlier ones too. Of those that ask for as much, the last one alone has
+//! to be looked at.
 
-ghost use Rattle.std.specs.Prelude.{◌≡◌, ◌≢◌, ◌≤◌, ℕ, ◌+◌, ◌^◌, ◌<◌, ◌&&◌, ◌++◌, ◌∷◌, [], true, Some, None, IfSome, List, IfOk, OnOk, MatchResult, length};
+ghost use Rattle.std.specs.Prelude.{◌≡◌, ◌≤◌, ℕ, ◌+◌, ◌<◌, ◌&&◌, ◌++◌, ◌∷◌, [], true, None, IfSome, List, IfOk, OnOk, MatchResult, length};
 ghost use Rattle.std.specs.List.{All};
 ghost use Rattle.vic_frame.specs.Uids.{is_uid};
 ghost use Rattle.vic_tree.specs.OpenSet.{SameUids, UpToThree};
 ghost use Rattle.vic_log.specs.declared.entry.Entry.{Entry as EntryValue};
 ghost use Rattle.vic_log.specs.Slots.{slots_of, is_open};
-ghost use Rattle.vic_verdict.specs.declared.demands.Found.{Found as FoundValue};
 ghost use Rattle.vic_verdict.specs.Possible.{Lacks};
 ghost use Rattle.vic_verdict.specs.Sweep.{AreInOrder, HaveKeys};
-ghost use Rattle.vic_verdict.specs.Demands.{IsDemandBy, answers_by, IsUnmet, IsUnmetAt, IsAskedAgain, AreFound, AreKept, AreMet, IsInOrder, Keeps};
+ghost use Rattle.vic_verdict.specs.Demands.{IsDemandBy, answers_by, IsUnmet, IsUnmetAt, IsAskedAgain, AreFound, AreKept, AreMet, HasNamesInOrder, Keeps};
 
 use crate::names::{Name, is_any_quiet, names_between, quiet_between, start_near};
 use arrayvec::ArrayVec;
@@ -33,8 +33,8 @@ pub struct Met {
     pub found: Vec<Found>,
 }
 
-/// Open UIDs that answer in a slot in which several or some did: all of them where they are fewer
-/// than three, three otherwise.
+/// Open UIDs that answer in a slot in which tags answered and none was read: all of them where they
+/// are fewer than three, three otherwise.
 #[derive(Drop)]
 pub struct Found {
     /// The place of its line.
@@ -44,8 +44,8 @@ pub struct Found {
     pub uids: ArrayVec<Uid, 3>,
 }
 
-/// A slot in which tags answered and none was read. In order, the slots of one mask stand together,
-/// the last one last.
+/// A slot in which tags answered and none was read. In order, the slots of one mask that ask for as
+/// much stand together, the last one last.
 #[derive(Clone, Copy, PartialEq, Eq, PartialOrd, Ord)]
 pub(crate) struct Demand {
     /// The first key of its mask, so that masks stand in the order of their keys.
@@ -58,7 +58,7 @@ pub(crate) struct Demand {
     pub at: usize,
 }
 
-/// Adds a slot.
+/// Adds the demand of a slot.
 pub(crate) fn push_demand(
     demands: &mut Vec<Demand>,
     mask: &Option<Mask>,
@@ -89,8 +89,8 @@ fn first_key(mask: &Mask) -> u64 {
     }
 }
 
-/// What the slots of a stretch ask for, the lines between two field cycles, until the UIDs are known
-/// that the log leaves open.
+/// What a stretch asks for, the lines between two field cycles: kept until it is known which UIDs
+/// the log leaves open.
 #[derive(Drop)]
 pub(crate) struct Stretch {
     /// Whom its lines name, in the order of keys.
@@ -99,7 +99,7 @@ pub(crate) struct Stretch {
 }
 
 /// Keeps what the slots of a stretch ask for before a place, if they ask for anything, and whom its
-/// lines name. What was gathered is empty then.
+/// lines name. `names` and `demands` are empty then.
 pub(crate) fn keep_stretch(
     alloc: Global,
     stretches: &mut Vec<Stretch>,
@@ -126,8 +126,8 @@ pub(crate) fn keep_stretch(
 }
 
 /// Open UIDs that answer in a slot: all where they are fewer than three, three otherwise. Mostly
-/// those that are found first are not Quiet, and no list of the Quiet ones is needed. The first name
-/// of its mask is looked for from index `near` on.
+/// those that are found first are not Quiet, and no list of the Quiet ones is needed. The first
+/// name of the slot's mask is looked for from index `near` on.
 fn respondents<S: OpenSet>(
     alloc: Global,
     set: &S,
@@ -188,8 +188,8 @@ fn is_unmet<S: OpenSet>(
     Ok(uids.len() < demand.need)
 }
 
-/// The place of the first unmet one of some slots of one mask, from index `from` to the one before
-/// `to`: found by halving, since tags only fall silent.
+/// The place of the first unmet one of the slots from index `from` to the one before `to`, all of
+/// one mask and asking for as much: found by halving, since tags only fall silent.
 fn unmet_between<S: OpenSet>(
     alloc: Global,
     set: &S,
@@ -298,7 +298,7 @@ pub(crate) fn meet_stretches<S: OpenSet>(
     set: &S,
     stretches: &[Stretch],
 ) -> Result<Result<Vec<Found>, usize>, AllocError>
-    requires { All IsInOrder stretches.now }
+    requires { All HasNamesInOrder stretches.now }
     ensures { IfOk result (λ r. (es : List EntryValue)
         → SameUids (S.is_open set.now) (is_open (slots_of es))
         → AreKept es (length es) stretches.now

@@ -49,7 +49,7 @@ pub fn exactly_one_verdict()
         → IsVerdict lines v → IsVerdict lines w → v ≡ w }
 {}
 
-/// A mask is unsettled exactly where an unlisted UID is possible.
+/// Some mask is unsettled exactly where some unlisted UID is possible.
 pub fn unsettled_where_unlisted_is_possible()
     ensures { (es : List Entry) → ((m : BitMask) × IsUnsettled es m)
         ↔ ((u : ℕ) × IsPossibleUid es u × (has (listed es) u ≡ false)) }

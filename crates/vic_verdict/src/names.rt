@@ -1,7 +1,7 @@
 //! The UIDs that lines silence or hear between two field cycles, in the order of their keys: which
 //! of them are Quiet at a place, and whether those that were heard were Ready there.
 
-ghost use Rattle.std.specs.Prelude.{◌≡◌, ◌<◌, ◌≤◌, ◌+◌, ℕ, Bool, true, length, nat_lt, ◌++◌, ◌∷◌, [], None, IfOk, OnOk};
+ghost use Rattle.std.specs.Prelude.{◌≡◌, ◌<◌, ◌≤◌, ◌+◌, ℕ, Bool, true, length, nat_lt, ◌++◌, ◌∷◌, [], IfOk, OnOk};
 ghost use Rattle.std.specs.List.{All, list_any};
 ghost use Rattle.std.specs.List.Sorted.{IsNonDecreasing};
 ghost use Rattle.vic_frame.specs.Uids.{IsUid, has};
@@ -20,8 +20,9 @@ use vic_frame::low_bits_first::key;
 /// The place after which a UID is Quiet by a line that hears it: after all places.
 pub(crate) const NEVER: usize = usize::MAX;
 
-/// A line that silences a UID or hears it: the UID's key and the line's place. And whether the slots
-/// looked at so far leave the UID open. A log may have a million of them, which are sorted.
+/// A line that silences a UID or hears it: the UID's key and the line's place. And whether the
+/// slots looked at so far leave the UID open, as far as this line tells: a UID is left where one of
+/// its names is. A log may have a million of them, which are sorted.
 #[derive(Clone, Copy)]
 pub(crate) struct Name {
     pub key: u64,
@@ -118,8 +119,8 @@ fn count_to(names: &[Name], last: u64) -> usize
     names.partition_point(|name| name.key <= last)
 }
 
-/// The names from key `first` to `last`, whose first has the index `start`. Whatever the test, a key
-/// between has a name here that passes it, if it has one at all.
+/// The names from key `first` to `last`, the first of which has the index `start`. Whatever is
+/// asked of a name: if some name of a key between passes, one of these does.
 pub(crate) fn names_between(names: &[Name], start: usize, first: u64, last: u64) -> &[Name]
     requires order { AreInOrder names.now }
     requires start { IsStart names.now first start }
@@ -180,7 +181,7 @@ pub(crate) fn quiet_between(
     Ok(keys)
 }
 
-/// The place after which a UID is Quiet, by the names of its lines.
+/// The place after which a UID is Quiet, by all names of it.
 fn first_quiet(own: &[Name]) -> usize
     ensures { (i : ℕ) → i ≤ NEVER
         → nat_lt result i ≡ list_any (λ n. nat_lt (quiet_of n) i) own.now }

@@ -73,8 +73,9 @@ fn last_ruling(lines: &[PackedLine], from: usize) -> usize
     last
 }
 
-/// What the UIDs that a log leaves open meet of what its stretches ask for, if some population could
-/// have given it. Whoever it heard could have answered there.
+/// What the UIDs that a log leaves open meet of what its stretches ask for, if some population
+/// could have given it. Each UID that it heard is known to be Ready there, and in the mask of its
+/// slot.
 fn meet_all<S: OpenSet>(
     alloc: Global,
     set: &S,

@@ -1,6 +1,7 @@
-//! Which UIDs the silent and answered slots of a log leave open, from field cycle to field cycle.
+//! One walk over a log, from field cycle to field cycle: which keys its silent and answered slots
+//! close, and what its other slots ask for.
 
-ghost use Rattle.std.specs.Prelude.{ℕ, ◌≡◌, ◌≢◌, ◌+◌, ◌^◌, ◌<◌, true, false, Bool, List, Some, IsTrue, IfOk, OnOk, MatchResult, slice_get};
+ghost use Rattle.std.specs.Prelude.{ℕ, ◌≡◌, ◌≢◌, ◌+◌, ◌^◌, ◌<◌, false, Bool, List, Some, IsTrue, IfOk, OnOk, slice_get};
 ghost use Rattle.vic_verdict.specs.LogLines.{AreLogLines};
 ghost use Rattle.vic_log.specs.declared.entry.Entry.{Entry as EntryValue};
 ghost use Rattle.vic_log.specs.declared.entry.Entry.TheVariants.{FieldCycle, Sent};
@@ -55,7 +56,8 @@ fn push_spot(
 fn note_sent(names: &mut Vec<Name>, request: &Request, index: usize) -> Result<(), AllocError>
     requires { index < 2 ^ 32 }
     ensures { OnOk result ((es : List EntryValue) (from : ℕ) (set : ℕ → Bool)
-        (ss : List SpotValue) (ds : List DemandValue) → slice_get es index ≡ Some (Sent request.now)
+        (ss : List SpotValue) (ds : List DemandValue)
+        → slice_get es index ≡ Some (Sent request.now)
         → HasGathered es from index set names.old.items ss ds
         → HasGathered es from (index + 1) set names.new.items ss ds) }
 {
@@ -78,8 +80,8 @@ fn lies_in(mask: &Option<Mask>, uid: Uid) -> bool
     }
 }
 
-/// Gathers what an entry tells that isn't a field cycle, and says whether the UID that it heard
-/// lies in the mask of its slot.
+/// Gathers what an entry other than a field cycle tells. Returns false, and gathers nothing, where
+/// it heard a UID that doesn't lie in the mask of its slot.
 fn note_entry(
     names: &mut Vec<Name>,
     spots: &mut Vec<Spot>,
@@ -127,7 +129,7 @@ pub(crate) struct Settled {
     pub closed: Vec<KeyRange>,
     /// The stretches whose other slots ask for tags.
     pub stretches: Vec<Stretch>,
-    /// The end of the log, or the place of a line that heard a UID which couldn't have answered there.
+    /// The end of the log, or the place of a line that heard a UID which couldn't have answered.
     pub cut: usize,
 }
 

@@ -5,22 +5,21 @@
 //! it, and no other UID. A UID without a name is ruled out where it lies in any of the masks.
 
 ghost use Rattle.std.specs.Prelude.{◌≡◌, ℕ, ◌&&◌, true};
-ghost use Rattle.std.specs.Prelude.{Some, None, IfSome, IfOk, OnOk};
+ghost use Rattle.std.specs.Prelude.{Some, IfSome, IfOk, OnOk};
 ghost use Rattle.std.specs.List.{All};
 ghost use Rattle.vic_frame.specs.LowBitsFirst.{mirror};
 ghost use Rattle.vic_tree.specs.OpenSet.{SameUids};
 ghost use Rattle.vic_tree.specs.Ranges.{is_outside};
 ghost use Rattle.vic_verdict.specs.Replies.{IsFirstQuietReply};
-ghost use Rattle.vic_verdict.specs.Silenced.{ArePutInOrder};
-ghost use Rattle.vic_verdict.specs.Sweep.{slot_leaves, level_leaves, spot_leaves, all_leave, mask_leaves, run_leaves, IsLevel, keep_all, all_allow_to, are_left, all_hear_named, HasRange, AreInOrder};
+ghost use Rattle.vic_verdict.specs.Sweep.{slot_leaves, level_leaves, spot_leaves, all_leave, mask_leaves, run_leaves, IsLevel, keep_all, all_allow_to, are_left, all_hear_named, HasRange, AreInOrder, ArePutInOrder};
 
 use crate::closed::{Spot, close_spots};
 use crate::names::{Name, first_quiet_reply, start_near};
 use std::alloc::AllocError;
 use vic_tree::KeyRange;
 
-/// The slots of one mask: the place of the first one, whom it heard, and the place of the first one
-/// that heard another, or nobody in place of somebody.
+/// The slots of one mask: the place of the first one, whom it heard, if anybody, and the place of
+/// the first one that is otherwise: it heard another, or one of the two heard nobody.
 #[derive(Clone, Copy)]
 pub(crate) struct Level {
     pub at: usize,
@@ -162,8 +161,9 @@ fn rule_out_all(names: &mut [Name], spots: &[Spot])
 }
 
 /// Settles what the silent and answered slots of some lines tell, by the UIDs that these lines
-/// name: closes the keys that they rule out. They do so up to the first place before `end` at which
-/// a UID was heard while it was Quiet, which is returned; up to `end` where there is none.
+/// name: closes the keys that the slots rule out which come before the first reply of a Quiet UID.
+/// Returns the place of that reply; `end`, behind all these lines, where there is none. The names
+/// are in order then, and the later slots are dropped.
 pub(crate) fn settle_stretch(
     closed: &mut Vec<KeyRange>,
     names: &mut Vec<Name>,

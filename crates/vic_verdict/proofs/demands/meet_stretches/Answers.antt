@@ -4,7 +4,7 @@ use Rattle.vic_log.specs.declared.entry.Entry.{Entry}
 use Rattle.vic_verdict.specs.declared.demands.Demand.{Demand}
 use Rattle.vic_verdict.specs.declared.demands.Stretch.{Stretch}
 use Rattle.vic_verdict.specs.declared.names.Name.{Name}
-use Rattle.vic_verdict.specs.Demands.{IsInOrder, IsDemandBy, IsKept}
+use Rattle.vic_verdict.specs.Demands.{HasNamesInOrder, IsDemandBy, IsKept}
 use Rattle.vic_verdict.specs.Sweep.{AreInOrder, HaveKeys}
 use Rattle.vic_verdict.proofs.Demanding.{AreFoundTo, found_first, found_more, found_all, some_is, unmet_lacks}
 use Rattle.vic_verdict.proofs.demands.meet_stretches.Goals as goal
@@ -14,12 +14,12 @@ loop-stretch-init g c es same kept = subst (AreFoundTo es c.args.stretches.now 0
 
 pub meet_each-requires-clause-order : goal.meet_each-requires-clause-order
 meet_each-requires-clause-order g c =
-    let s = subst IsInOrder (sym c.stretch-item.is) (c.requires c.loop-stretch.stretch-index c.stretch-item.result c.loop-stretch-test.true) in
+    let s = subst HasNamesInOrder (sym c.stretch-item.is) (c.requires c.loop-stretch.stretch-index c.stretch-item.result c.loop-stretch-test.true) in
     subst AreInOrder (sym c.deref.ensures.value) s.order
 
 pub meet_each-requires-clause-keys : goal.meet_each-requires-clause-keys
 meet_each-requires-clause-keys g c =
-    let s = subst IsInOrder (sym c.stretch-item.is) (c.requires c.loop-stretch.stretch-index c.stretch-item.result c.loop-stretch-test.true) in
+    let s = subst HasNamesInOrder (sym c.stretch-item.is) (c.requires c.loop-stretch.stretch-index c.stretch-item.result c.loop-stretch-test.true) in
     subst HaveKeys (sym c.deref.ensures.value) s.keys
 
 -- the demands of a stretch, as they are lent
