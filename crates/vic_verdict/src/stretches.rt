@@ -133,6 +133,19 @@ pub(crate) struct Settled {
     pub cut: usize,
 }
 
+impl Settled {
+    /// What was told up to `cut`.
+    fn new(closed: Vec<KeyRange>, stretches: Vec<Stretch>, cut: usize) -> Settled
+        ensures { result ≡ record { closed = closed; stretches = stretches; cut = cut } }
+    {
+        Settled {
+            closed,
+            stretches,
+            cut,
+        }
+    }
+}
+
 /// What the lines of a log tell of the UIDs that it leaves open: one walk, stretch by stretch.
 pub(crate) fn settle(alloc: Global, lines: &[PackedLine]) -> Result<Settled, AllocError>
     requires { AreLogLines lines.now }
@@ -150,11 +163,7 @@ pub(crate) fn settle(alloc: Global, lines: &[PackedLine]) -> Result<Settled, All
             let cut = settle_stretch(&mut closed, &mut names, &mut spots, index)?;
             keep_stretch(alloc, &mut stretches, &mut names, &mut demands, cut)?;
             if cut < index {
-                return Ok(Settled {
-                    closed,
-                    stretches,
-                    cut,
-                });
+                return Ok(Settled::new(closed, stretches, cut));
             }
             spots.clear();
         } else {
@@ -164,20 +173,12 @@ pub(crate) fn settle(alloc: Global, lines: &[PackedLine]) -> Result<Settled, All
             if !note_entry(&mut names, &mut spots, &mut demands, &mask, index, &entry)? {
                 let cut = settle_stretch(&mut closed, &mut names, &mut spots, index)?;
                 keep_stretch(alloc, &mut stretches, &mut names, &mut demands, cut)?;
-                return Ok(Settled {
-                    closed,
-                    stretches,
-                    cut,
-                });
+                return Ok(Settled::new(closed, stretches, cut));
             }
         }
         cursor.advance(&entry);
     }
     let cut = settle_stretch(&mut closed, &mut names, &mut spots, lines.len())?;
     keep_stretch(alloc, &mut stretches, &mut names, &mut demands, cut)?;
-    Ok(Settled {
-        closed,
-        stretches,
-        cut,
-    })
+    Ok(Settled::new(closed, stretches, cut))
 }

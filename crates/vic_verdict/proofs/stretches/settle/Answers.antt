@@ -2,6 +2,7 @@ use Rattle.std.proofs.Common.{Some, refl, ◌+◌, ◌∙◌, ap, sym, subst, le
 use Rattle.vic_log.specs.declared.entry.Entry.{Entry}
 use Rattle.vic_log.specs.Order.{entries}
 use Rattle.vic_tree.specs.Ranges.{is_outside}
+use Rattle.vic_verdict.specs.Stretches.{IsSettled}
 use Rattle.vic_verdict.proofs.Listing.{place_bound}
 use Rattle.vic_verdict.proofs.Settling.{IsWalked, walked_first, walked_as, walked_anew, settled_to}
 use Rattle.vic_verdict.proofs.Stands.{entry_at}
@@ -50,7 +51,7 @@ pub returns-then-cut-index : goal.returns-then-cut-index
 returns-then-cut-index c =
     let short = c.if-cut-index.true in
     let told = c.in_ok-cut.ensures in
-    settled_to c.args.lines.now (record { closed = c.settle_stretch.new.closed; stretches = c.keep_stretch.new.stretches; cut = c.in_ok-cut.cut }) c.loop-index.index _ _ _ _ _ _ c.loop-index.auto.index-end c.loop-index.invariant.walked told.cut told.names c.in_ok-keep_stretch.ensures.kept told.settled (λ end. absurd (omega (arith, end, short)))
+    subst (IsSettled c.args.lines.now) (sym c.new.ensures) (settled_to c.args.lines.now (record { closed = c.settle_stretch.new.closed; stretches = c.keep_stretch.new.stretches; cut = c.in_ok-cut.cut }) c.loop-index.index _ _ _ _ _ _ c.loop-index.auto.index-end c.loop-index.invariant.walked told.cut told.names c.in_ok-keep_stretch.ensures.kept told.settled (λ end. absurd (omega (arith, end, short))))
 
 pub returns-then-not-branch : goal.returns-then-not-branch
 returns-then-not-branch c =
@@ -63,8 +64,8 @@ returns-then-not-branch c =
     let new = c.note_entry.new in
     let walked = walked_as es i l.closed.items l.closed.items l.stretches.items l.stretches.items l.names.items new.names.items l.spots.items new.spots.items l.demands.items new.demands.items refl refl none.0 none.1 none.2 l.invariant.walked in
     let told = c.in_ok-cut-2.ensures in
-    settled_to c.args.lines.now (record { closed = c.settle_stretch-then-not-branch.new.closed; stretches = c.keep_stretch-then-not-branch.new.stretches; cut = c.in_ok-cut-2.cut }) i _ _ _ _ _ _ l.auto.index-end walked told.cut told.names c.in_ok-keep_stretch-2.ensures.kept told.settled
-    (λ end more. c.in_ok-note_entry.ensures.unfit es here mask c.if-not-branch.true)
+    subst (IsSettled c.args.lines.now) (sym c.new-then-not-branch.ensures) (settled_to c.args.lines.now (record { closed = c.settle_stretch-then-not-branch.new.closed; stretches = c.keep_stretch-then-not-branch.new.stretches; cut = c.in_ok-cut-2.cut }) i _ _ _ _ _ _ l.auto.index-end walked told.cut told.names c.in_ok-keep_stretch-2.ensures.kept told.settled
+    (λ end more. c.in_ok-note_entry.ensures.unfit es here mask c.if-not-branch.true))
 
 pub returns : goal.returns
 returns c =
@@ -75,5 +76,5 @@ returns c =
     let end : l.index ≡ n = omega (arith, past, upto) in
     let walked = subst (λ m. IsWalked (entries c.args.lines.now) m (is_outside l.closed.items) l.stretches.items l.names.items l.spots.items l.demands.items) end l.invariant.walked in
     let told = c.in_ok-cut-3.ensures in
-    settled_to c.args.lines.now (record { closed = c.settle_stretch-2.new.closed; stretches = c.keep_stretch-2.new.stretches; cut = c.in_ok-cut-3.cut }) n _ _ _ _ _ _ (omega arith) walked told.cut told.names c.in_ok-keep_stretch-3.ensures.kept told.settled
-    (λ _ more. absurd (omega (arith, more)))
+    subst (IsSettled c.args.lines.now) (sym c.new-2.ensures) (settled_to c.args.lines.now (record { closed = c.settle_stretch-2.new.closed; stretches = c.keep_stretch-2.new.stretches; cut = c.in_ok-cut-3.cut }) n _ _ _ _ _ _ (omega arith) walked told.cut told.names c.in_ok-keep_stretch-3.ensures.kept told.settled
+    (λ _ more. absurd (omega (arith, more))))
