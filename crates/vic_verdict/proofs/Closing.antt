@@ -193,18 +193,11 @@ closed_all old new next ns all first last from i end same pushed h k =
 
 -- ---- the keys of some slots
 
-pub some_more : (spots : List Spot) (i : ℕ) (s : Spot) (k : ℕ) → i < length spots → s ≡ get_or spots i s → is_in_some (take (i + 1) spots) k ≡ (is_in_some (take i spots) k || is_in s k)
-some_more spots i s k below is = list_any_more (λ t. is_in t k) spots i s below ∙ ap (λ t. is_in_some (take i spots) k || is_in t k) (sym is)
-
-pub closes_none : (ns : List Name) (old : List (ℕ × ℕ)) → Closes ns (is_in_some []) old old
-closes_none ns old k = sym (or_false (in_ranges old k))
-
 -- a slot more
-pub closes_more : (ns : List Name) (spots : List Spot) (i : ℕ) (s : Spot) (old new next : List (ℕ × ℕ)) → i < length spots → s ≡ get_or spots i s → Closes ns (is_in s) new next → Closes ns (is_in_some (take i spots)) old new → Closes ns (is_in_some (take (i + 1) spots)) old next
-closes_more ns spots i s old new next below is more before k =
-    more k ∙ ap (λ b. b || (is_in s k && not (has_left ns k))) (before k)
-    ∙ go (in_ranges old k) (is_in_some (take i spots) k) (is_in s k) (not (has_left ns k))
-    ∙ ap (λ b. in_ranges old k || (b && not (has_left ns k))) (sym (some_more spots i s k below is))
+pub closes_more : (ns : List Name) (spots : List Spot) (i : ℕ) (s : Spot) (old : List (ℕ × ℕ)) (k : ℕ) → i < length spots → s ≡ get_or spots i s → ((in_ranges old k || (is_in_some (take i spots) k && not (has_left ns k))) || (is_in s k && not (has_left ns k))) ≡ (in_ranges old k || (is_in_some (take (i + 1) spots) k && not (has_left ns k)))
+closes_more ns spots i s old k below is =
+    go (in_ranges old k) (is_in_some (take i spots) k) (is_in s k) (not (has_left ns k))
+    ∙ ap (λ b. in_ranges old k || (b && not (has_left ns k))) (sym (list_any_more (λ t. is_in t k) spots i s below ∙ ap (λ t. is_in_some (take i spots) k || is_in t k) (sym is)))
   where
     go : (o a b l : Bool) → ((o || (a && l)) || (b && l)) ≡ (o || ((a || b) && l))
     go true a b l = refl
@@ -213,17 +206,6 @@ closes_more ns spots i s old new next below is more before k =
     go false true true false = refl
     go false true false false = refl
     go false false b l = refl
-
-pub closes_alike : (ns : List Name) (test more : ℕ → Bool) (old new : List (ℕ × ℕ)) → ((k : ℕ) → test k ≡ more k) → Closes ns test old new → Closes ns more old new
-closes_alike ns test more old new same h k = h k ∙ ap (λ b. in_ranges old k || (b && not (has_left ns k))) (same k)
-
--- a slot inside another one
-pub inner_more : (spots : List Spot) (i : ℕ) (s : Spot) → i < length spots → s ≡ get_or spots i s → ((k : ℕ) → is_in s k ≡ true → is_in_some (take i spots) k ≡ true) → (k : ℕ) → is_in_some (take i spots) k ≡ is_in_some (take (i + 1) spots) k
-inner_more spots i s below is inner k = go (is_in_some (take i spots) k) (is_in s k) (inner k) ∙ sym (some_more spots i s k below is) where
-  go : (a b : Bool) → (b ≡ true → a ≡ true) → a ≡ (a || b)
-  go true b f = refl
-  go false true f = f refl
-  go false false f = refl
 
 -- what the ranges leave open is what they left before and all slots leave by name
 pub outside_closed : (ns : List Name) (spots : List Spot) (old new : List (ℕ × ℕ)) (k : ℕ) → Closes ns (is_in_some spots) old new → not (in_ranges new k) ≡ (not (in_ranges old k) && all_cover ns spots k)

@@ -1,10 +1,11 @@
 -- What the slots between two field cycles leave, name by name.
 use Rattle.std.proofs.Common.{◌≡◌, ℕ, zero, suc, ◌+◌, ◌-◌, ◌<◌, ◌≤◌, ◌==◌, List, [], ◌∷◌, length, take, filter, cond, get_or, set, Bool, true, false, not, ◌&&◌, ◌||◌, Option, Some, None, refl, sym, ap, ◌∙◌, subst, arith, add-one, ◌++◌, ⊎_elim, ◌^◌}
 use Rattle.std.specs.Prelude.{nat_le, nat_lt}
-use Rattle.std.specs.List.{list_all, list_any}
+use Rattle.std.specs.List.{All, list_all, list_any}
 use Rattle.std.proofs.lemmas.Bool.{ne_eqb, cases_eq, cases_lt, false≢true, and_parts, and_from, or_cases, or_left, or_right, eqb-true}
 use Rattle.std.proofs.lemmas.Bool.Decides.{nat_tests}
 use Rattle.std.proofs.lemmas.List.{ext_get_or, get_or-map, get_or_default, get_or-set_same, get_or-set_other, length-set, take_all}
+use Rattle.std.proofs.lemmas.List.Elements.{All-head, All-tail}
 use Rattle.std.proofs.lemmas.List.Folds.{list_all_more, list_any_more}
 use Rattle.vic_verdict.specs.declared.names.Name.{Name}
 use Rattle.vic_verdict.specs.declared.closed.Spot.{Spot}
@@ -360,6 +361,14 @@ allow_permuted ns ms ss ts k m w =
 
 abbrev pub is_before_place : ℕ → Spot → Bool
 is_before_place i s = nat_lt s.at i
+
+-- all of them, where the place is behind them
+pub before_end : (i j : ℕ) (ss : List Spot) → j ≤ i → All (λ (s : Spot). s.at < j) ss → filter (is_before_place i) ss ≡ ss
+before_end i j [] le h = refl
+before_end i j (s ∷ ss) le h =
+    let lt = All-head (λ (t : Spot). t.at < j) s ss h in
+    ap (λ b. cond b (s ∷ filter (is_before_place i) ss) (filter (is_before_place i) ss)) (lt_yes s.at i (omega (arith, lt, le)))
+    ∙ ap (λ xs. s ∷ xs) (before_end i j ss le (All-tail (λ (t : Spot). t.at < j) s ss h))
 
 pub allow_filtered : (ns : List Name) (i k : ℕ) (ss : List Spot) → all_allow ns (filter (is_before_place i) ss) k ≡ all_allow_to ns ss i k
 allow_filtered ns i k [] = refl

@@ -20,3 +20,7 @@ abbrev pub Closes : List Name → (ℕ → Bool)
     → List (ℕ × ℕ) → List (ℕ × ℕ) → Type 0
 Closes ns test old new =
     (k : ℕ) → in_ranges new k ≡ (in_ranges old k || (test k && not (has_left ns k)))
+
+-- the key is in one of the ranges, or will be once the keys of one more are closed
+abbrev pub closes_with : List Name → List (ℕ × ℕ) → Option (ℕ × ℕ) → ℕ → Bool
+closes_with ns closed range k = in_ranges closed k || (is_in_if range k && not (has_left ns k))

@@ -1,11 +1,11 @@
 //! Which keys the silent and answered slots between two field cycles close: those of their masks,
 //! except the names that are left.
 
-ghost use Rattle.std.specs.Prelude.{◌≡◌, ℕ, true, OnOk};
+ghost use Rattle.std.specs.Prelude.{◌≡◌, ℕ, ◌||◌, ◌&&◌, not, Some, IfSome, IfOk, OnOk};
 ghost use Rattle.std.specs.List.{All};
-ghost use Rattle.vic_tree.specs.Ranges.{IsKeyRange, is_between};
-ghost use Rattle.vic_verdict.specs.Closed.{Closes, is_in_if, is_in_some};
-ghost use Rattle.vic_verdict.specs.Sweep.{AreInOrder, HasRange, IsStart, first_of, heard_of, last_of, len_of};
+ghost use Rattle.vic_tree.specs.Ranges.{is_between};
+ghost use Rattle.vic_verdict.specs.Closed.{Closes, closes_with, is_in_some};
+ghost use Rattle.vic_verdict.specs.Sweep.{AreInOrder, HasRange, first_of, has_left, heard_of, last_of, len_of};
 
 use crate::names::{Name, names_between, start_near};
 use std::alloc::AllocError;
@@ -61,22 +61,22 @@ impl Spot {
     }
 }
 
-/// Closes the keys from `first` to `last`, except those of names that are left. The first name with
-/// a key of at least `first` has the index `start`. Returns the index behind the names of these
-/// keys, near which those of the next mask may stand.
+/// Closes the keys of a range, except those of names that are left. Its first name is looked for
+/// from index `near` on. Returns the index behind its names, near which those of the next range may
+/// stand.
 fn close_between(
     closed: &mut Vec<KeyRange>,
     names: &[Name],
-    start: usize,
-    first: u64,
-    last: u64,
+    near: usize,
+    range: KeyRange,
 ) -> Result<usize, AllocError>
-    requires order { AreInOrder names.now }
-    requires start { IsStart names.now first start }
-    requires range { IsKeyRange (first, last) }
-    ensures { OnOk result (Closes names.now (is_between first last)
+    requires { AreInOrder names.now }
+    ensures { OnOk result (Closes names.now (is_between range.0 range.1)
         closed.old.items closed.new.items) }
 {
+    let first = range.first();
+    let last = range.last();
+    let start = start_near(names, near, first);
     let inside = names_between(names, start, first, last);
     let mut from = first;
     for name in inside {
@@ -93,19 +93,44 @@ fn close_between(
     Ok(start.saturating_add(inside.len()))
 }
 
-/// Whether the keys from `first` to `last` are among those from one to another.
-fn is_inside(first: u64, last: u64, outer: Option<(u64, u64)>) -> bool
-    ensures { result ≡ true
-        → (k : ℕ) → is_between first last k ≡ true → is_in_if outer k ≡ true }
+/// The keys of two ranges as one, where no key is between them and the first one begins no later.
+fn joined(range: KeyRange, next: KeyRange) -> Option<KeyRange>
+    ensures { IfSome result (λ r. (k : ℕ) → is_between r.0 r.1 k
+        ≡ (is_between range.0 range.1 k || is_between next.0 next.1 k)) }
 {
-    match outer {
-        Some((from, to)) => from <= first && last <= to,
-        None => false,
+    if range.first() <= next.first() && next.first() <= range.last() + 1 {
+        Some(KeyRange::new(range.first(), range.last().max(next.last())))
+    } else {
+        None
     }
 }
 
+/// Adds keys to a range that they adjoin; else that range is closed, and they are the next one.
+/// `near` is an index near that of the range's first name.
+fn pass_keys(
+    closed: &mut Vec<KeyRange>,
+    names: &[Name],
+    near: &mut usize,
+    range: Option<KeyRange>,
+    keys: KeyRange,
+) -> Result<KeyRange, AllocError>
+    requires { AreInOrder names.now }
+    ensures { IfOk result (λ r. (k : ℕ) → closes_with names.now closed.new.items (Some r) k
+        ≡ (closes_with names.now closed.old.items range k
+        || (is_between keys.0 keys.1 k && not (has_left names.now k)))) }
+{
+    let Some(range) = range else {
+        return Ok(keys);
+    };
+    if let Some(wider) = joined(range, keys) {
+        return Ok(wider);
+    }
+    *near = close_between(closed, names, *near, range)?;
+    Ok(keys)
+}
+
 /// Closes the keys of some slots, except the names that are left. Where the slots stand in order,
-/// those of a mask inside another one are passed over.
+/// those that adjoin or lie in one another are closed as one range.
 pub(crate) fn close_spots(
     closed: &mut Vec<KeyRange>,
     names: &[Name],
@@ -116,15 +141,15 @@ pub(crate) fn close_spots(
     ensures { OnOk result (Closes names.now (is_in_some spots.now)
         closed.old.items closed.new.items) }
 {
-    let mut outer: Option<(u64, u64)> = None;
+    let mut range: Option<KeyRange> = None;
     let mut near = 0;
     for spot in spots {
         let (first, last) = spot.keys();
-        if !is_inside(first, last, outer) {
-            let start = start_near(names, near, first);
-            near = close_between(closed, names, start, first, last)?;
-            outer = Some((first, last));
-        }
+        let keys = KeyRange::new(first, last);
+        range = Some(pass_keys(closed, names, &mut near, range, keys)?);
+    }
+    if let Some(range) = range {
+        close_between(closed, names, near, range)?;
     }
     Ok(())
 }

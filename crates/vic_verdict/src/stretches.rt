@@ -7,7 +7,9 @@ ghost use Rattle.vic_log.specs.declared.entry.Entry.{Entry as EntryValue};
 ghost use Rattle.vic_log.specs.declared.entry.Entry.TheVariants.{FieldCycle, Sent};
 ghost use Rattle.vic_verdict.specs.declared.closed.Spot.{Spot as SpotValue};
 ghost use Rattle.vic_verdict.specs.declared.demands.Demand.{Demand as DemandValue};
-ghost use Rattle.vic_log.specs.Rounds.{mask_at, lies_in_some};
+ghost use Rattle.vic_log.specs.OpenRounds.{IsCursorAt};
+ghost use Rattle.vic_log.specs.Order.{AreValid};
+ghost use Rattle.vic_log.specs.Rounds.{lies_in_some};
 ghost use Rattle.vic_verdict.specs.Possible.{IsContradictedAt};
 ghost use Rattle.vic_verdict.specs.Stretches.{AddsSpot, HasGathered, IsHeardIn, IsSettled};
 
@@ -22,6 +24,7 @@ use vic_log::{Entry, PackedLine, RoundCursor};
 use vic_tree::KeyRange;
 
 /// Adds a slot, unless no UID lies in its mask.
+#[inline(always)]
 fn push_spot(
     spots: &mut Vec<Spot>,
     mask: &Option<Mask>,
@@ -82,23 +85,24 @@ fn lies_in(mask: &Option<Mask>, uid: Uid) -> bool
 
 /// Gathers what an entry other than a field cycle tells. Returns false, and gathers nothing, where
 /// it heard a UID that doesn't lie in the mask of its slot.
+#[inline(always)]
 fn note_entry(
     names: &mut Vec<Name>,
     spots: &mut Vec<Spot>,
     demands: &mut Vec<Demand>,
-    mask: &Option<Mask>,
+    cursor: &RoundCursor,
     index: usize,
     entry: &Entry,
 ) -> Result<bool, AllocError>
     requires { index < 2 ^ 32 }
     ensures gathered { IfOk result (λ yes. (es : List EntryValue) (from : ℕ) (set : ℕ → Bool)
-        → slice_get es index ≡ Some entry.now → mask.now ≡ mask_at es index
+        → slice_get es index ≡ Some entry.now → AreValid es → IsCursorAt es index cursor.now
         → entry.now ≢ FieldCycle → IsTrue yes
         → HasGathered es from index set names.old.items spots.old.items demands.old.items
         → HasGathered es from (index + 1) set
         names.new.items spots.new.items demands.new.items) }
     ensures unfit { IfOk result (λ yes. (es : List EntryValue)
-        → slice_get es index ≡ Some entry.now → mask.now ≡ mask_at es index
+        → slice_get es index ≡ Some entry.now → AreValid es → IsCursorAt es index cursor.now
         → yes ≡ false → IsContradictedAt es index) }
     ensures none { IfOk result (λ yes. yes ≡ false
         → (names.new.items ≡ names.old.items) × (spots.new.items ≡ spots.old.items)
@@ -106,17 +110,18 @@ fn note_entry(
 {
     match *entry {
         Entry::Sent(request) => note_sent(names, &request, index)?,
-        Entry::Silent => push_spot(spots, mask, index as u32, None)?,
+        Entry::Silent => push_spot(spots, &cursor.mask(), index as u32, None)?,
         Entry::Heard(response) => {
+            let mask = cursor.mask();
             let uid = response.uid();
-            if !lies_in(mask, uid) {
+            if !lies_in(&mask, uid) {
                 return Ok(false);
             }
             push_name(names, uid, index as u32, true)?;
-            push_spot(spots, mask, index as u32, Some(key(uid)))?;
+            push_spot(spots, &mask, index as u32, Some(key(uid)))?;
         }
-        Entry::Collision => push_demand(demands, mask, 2, index)?,
-        Entry::Garbled => push_demand(demands, mask, 1, index)?,
+        Entry::Collision => push_demand(demands, &cursor.mask(), 2, index)?,
+        Entry::Garbled => push_demand(demands, &cursor.mask(), 1, index)?,
         Entry::Listed(_) | Entry::FieldCycle => {}
     }
     Ok(true)
@@ -167,10 +172,9 @@ pub(crate) fn settle(alloc: Global, lines: &[PackedLine]) -> Result<Settled, All
             }
             spots.clear();
         } else {
-            let mask = cursor.mask();
             // gives the place its bound: the numbers of lines rise, and are of 32 bits
             let _number = line.number();
-            if !note_entry(&mut names, &mut spots, &mut demands, &mask, index, &entry)? {
+            if !note_entry(&mut names, &mut spots, &mut demands, &cursor, index, &entry)? {
                 let cut = settle_stretch(&mut closed, &mut names, &mut spots, index)?;
                 keep_stretch(alloc, &mut stretches, &mut names, &mut demands, cut)?;
                 return Ok(Settled::new(closed, stretches, cut));

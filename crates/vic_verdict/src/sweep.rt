@@ -4,11 +4,12 @@
 //! stand together. Each mask is looked at once, whatever number of slots it had: for each name in
 //! it, and no other UID. A UID without a name is ruled out where it lies in any of the masks.
 
-ghost use Rattle.std.specs.Prelude.{◌≡◌, ℕ, ◌&&◌, true};
+ghost use Rattle.std.specs.Prelude.{◌≡◌, ◌<◌, ℕ, nat_lt, ◌&&◌, true};
 ghost use Rattle.std.specs.Prelude.{Some, IfSome, IfOk, OnOk};
-ghost use Rattle.std.specs.List.{All};
+ghost use Rattle.std.specs.List.{All, filter};
 ghost use Rattle.vic_frame.specs.LowBitsFirst.{mirror};
 ghost use Rattle.vic_tree.specs.OpenSet.{SameUids};
+ghost use Rattle.vic_verdict.specs.declared.closed.Spot.{Spot as SpotValue};
 ghost use Rattle.vic_tree.specs.Ranges.{is_outside};
 ghost use Rattle.vic_verdict.specs.Replies.{IsFirstQuietReply};
 ghost use Rattle.vic_verdict.specs.Sweep.{slot_leaves, level_leaves, spot_leaves, all_leave, mask_leaves, run_leaves, IsLevel, keep_all, all_allow_to, are_left, all_hear_named, HasRange, AreInOrder, ArePutInOrder};
@@ -160,6 +161,16 @@ fn rule_out_all(names: &mut [Name], spots: &[Spot])
     }
 }
 
+/// Drops the slots that don't come before a cut. All come before `end`.
+fn cut_spots(spots: &mut Vec<Spot>, cut: usize, end: usize)
+    requires { All (λ (s : SpotValue). s.at < end) spots.old.items }
+    ensures { spots.new.items ≡ filter (λ (s : SpotValue). nat_lt s.at cut) spots.old.items }
+{
+    if cut < end {
+        spots.retain(|spot| (spot.at as usize) < cut);
+    }
+}
+
 /// Settles what the silent and answered slots of some lines tell, by the UIDs that these lines
 /// name: closes the keys that the slots rule out which come before the first reply of a Quiet UID.
 /// Returns the place of that reply; `end`, behind all these lines, where there is none. The names
@@ -171,6 +182,7 @@ pub(crate) fn settle_stretch(
     end: usize,
 ) -> Result<usize, AllocError>
     requires left { are_left names.old.items ≡ true }
+    requires before { All (λ (s : SpotValue). s.at < end) spots.old.items }
     requires ranges { All HasRange spots.old.items }
     requires named { all_hear_named names.old.items spots.old.items ≡ true }
     ensures cut { IfOk result (IsFirstQuietReply names.old.items end) }
@@ -181,7 +193,7 @@ pub(crate) fn settle_stretch(
 {
     names.sort_unstable_by_key(|name| name.key);
     let cut = first_quiet_reply(names, end);
-    spots.retain(|spot| (spot.at as usize) < cut);
+    cut_spots(spots, cut, end);
     // Those of one mask together, and outer masks before inner ones.
     spots.sort_unstable_by_key(|spot| spot.mask);
     rule_out_all(names, spots);

@@ -9,16 +9,18 @@ use Rattle.vic_verdict.proofs.closed.close_between.Goals.{then-name, then-from-n
 
 pub loop-name-init : goal.loop-name-init
 loop-name-init c =
-    let forward = c.requires.range.0 in
-    closed_first c.args.closed.now.items c.names_between-inside.result.now c.args.first c.args.last (omega (arith, forward)) c.names_between-inside.ensures.inside
+    let forward = c.last-last.ensures.is_range.0 in
+    let from = c.first-first.ensures.value in
+    let to = c.last-last.ensures.value in
+    closed_first c.args.closed.now.items c.names_between-inside.result.now c.first-first.result c.last-last.result (omega (arith, forward, from, to)) c.names_between-inside.ensures.inside
 
 pub loop-name-preserved : goal.loop-name-preserved
 loop-name-preserved c =
     let old = c.args.closed.now.items in
     let new = c.loop-name.closed.items in
     let ns = c.names_between-inside.result.now in
-    let first = c.args.first in
-    let last = c.args.last in
+    let first = c.first-first.result in
+    let last = c.last-last.result in
     let from = c.loop-name.from in
     let i = c.loop-name.name-index in
     elim c.if-name.branch [
@@ -46,18 +48,20 @@ returns c =
     let ns = c.args.names.now in
     let inside = c.names_between-inside.result.now in
     let from = c.loop-name.from in
-    let last = c.args.last in
+    let last = c.last-last.result in
     let left = c.names_between-inside.ensures.all (λ (n : Name). n.left) in
-    elim c.if-from-last.branch [
+    subst (λ a. Closes ns (is_between a c.args.range.1) old c.if-from-last.closed.items) c.first-first.ensures.value
+    (subst (λ z. Closes ns (is_between c.first-first.result z) old c.if-from-last.closed.items) c.last-last.ensures.value
+    (elim c.if-from-last.branch [
       | then-from-last+in_ok-push-2 w ↦
           let next = w.push-then-from-last.new.self.items in
           let to : last ≡ last + 1 - 1 = omega arith in
           let is : next ≡ new ++ (from, last + 1 - 1) ∷ [] = w.in_ok-push-2.ensures.items ∙ ap (λ r. new ++ r ∷ []) (w.new-then-from-last.ensures ∙ ap (λ n. (from, n)) to) in
           let upto : from < last + 1 = let le = w.if-from-last.true in omega (arith, le) in
-          subst (λ v. Closes ns (is_between c.args.first last) old v.items) (sym w.closed-is)
-          (closed_all old new next inside ns c.args.first last from c.loop-name.name-index c.loop-name-test.false left (pushed_one new next from (last + 1) upto is) c.loop-name.invariant)
+          subst (λ v. Closes ns (is_between c.first-first.result last) old v.items) (sym w.closed-is)
+          (closed_all old new next inside ns c.first-first.result last from c.loop-name.name-index c.loop-name-test.false left (pushed_one new next from (last + 1) upto is) c.loop-name.invariant)
       | else-from-last w ↦
           let past : last + 1 ≤ from = let lt = w.if-from-last.false in omega (arith, lt) in
-          subst (λ v. Closes ns (is_between c.args.first last) old v.items) (sym w.closed-is)
-          (closed_all old new new inside ns c.args.first last from c.loop-name.name-index c.loop-name-test.false left (pushed_none new from (last + 1) past) c.loop-name.invariant)
-    ]
+          subst (λ v. Closes ns (is_between c.first-first.result last) old v.items) (sym w.closed-is)
+          (closed_all old new new inside ns c.first-first.result last from c.loop-name.name-index c.loop-name-test.false left (pushed_none new from (last + 1) past) c.loop-name.invariant)
+    ]))

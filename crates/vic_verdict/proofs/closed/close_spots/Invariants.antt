@@ -1,9 +1,10 @@
-use Rattle.std.proofs.Common.{◌≡◌, ℕ, true, take}
-use Rattle.vic_verdict.specs.Closed.{Closes, is_in_if, is_in_some}
+use Rattle.std.proofs.Common.{◌≡◌, ℕ, ◌||◌, ◌&&◌, not, take}
+use Rattle.vic_tree.specs.Ranges.{in_ranges}
+use Rattle.vic_verdict.specs.Closed.{closes_with, is_in_some}
+use Rattle.vic_verdict.specs.Sweep.{has_left}
 use Rattle.vic_verdict.proofs.closed.close_spots.Given as goal
 
 abbrev pub invariant-loop-spot : goal.invariant-loop-spot
-invariant-loop-spot l = record {
-  outer : (k : ℕ) → is_in_if l.outer k ≡ true → is_in_some (take l.spot-index l.spots) k ≡ true;
-  done : Closes l.names (is_in_some (take l.spot-index l.spots)) l.fn.closed.items l.closed.items;
-}
+invariant-loop-spot l =
+    (k : ℕ) → closes_with l.names l.closed.items l.range k
+    ≡ (in_ranges l.fn.closed.items k || (is_in_some (take l.spot-index l.spots) k && not (has_left l.names k)))

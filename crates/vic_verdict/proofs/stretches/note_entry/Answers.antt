@@ -14,22 +14,22 @@ use Rattle.vic_verdict.proofs.Stretching.{named_here, stretch_named, stretch_pas
 use Rattle.vic_verdict.proofs.stretches.note_entry.Goals as goal
 
 pub returns-then-not-lies_in-clause-unfit : goal.returns-then-not-lies_in-clause-unfit
-returns-then-not-lies_in-clause-unfit c es k m failed =
+returns-then-not-lies_in-clause-unfit c es k valid at failed =
     let r = c.in-Heard.response in
     outside_reply es c.args.index r (k ∙ ap (λ (e : Entry). Some e) c.in-Heard.is)
-    (ap (λ o. lies_in_some o r.uid) (sym m) ∙ (ap (λ u. lies_in_some c.args.mask.now u) (sym c.uid-uid.ensures.value) ∙ (sym c.lies_in.ensures ∙ c.if-not-lies_in.true)))
+    (ap (λ o. lies_in_some o r.uid) (sym (c.mask-mask.ensures es c.args.index valid at)) ∙ (ap (λ u. lies_in_some c.mask-mask.result u) (sym c.uid-uid.ensures.value) ∙ (sym c.lies_in.ensures ∙ c.if-not-lies_in.true)))
 
 pub returns-in_ok-note_sent-in-Sent-clause-gathered : goal.returns-in_ok-note_sent-in-Sent-clause-gathered
-returns-in_ok-note_sent-in-Sent-clause-gathered c es from set k m other fits h =
+returns-in_ok-note_sent-in-Sent-clause-gathered c es from set k valid at other fits h =
     c.in_ok-note_sent-in-Sent.ensures es from set c.args.spots.now.items c.args.demands.now.items (k ∙ ap (λ e. Some e) c.in-Sent.is) h
 
 pub returns-in_ok-push_spot-in-Silent-clause-gathered : goal.returns-in_ok-push_spot-in-Silent-clause-gathered
-returns-in_ok-push_spot-in-Silent-clause-gathered c es from set k m other fits h =
+returns-in_ok-push_spot-in-Silent-clause-gathered c es from set k valid at other fits h =
     let here = k ∙ ap (λ e. Some e) c.in-Silent.is in
     let i = c.args.index in
     let names = c.args.names.now.items in
     record {
-      stretch = stretch_spotted es from i set names c.args.spots.now.items c.push_spot.new.spots.items Silent c.args.mask.now None here c.requires m refl (λ u w. refl) (λ b u w. no b) refl c.in_ok-push_spot-in-Silent.ensures h.stretch;
+      stretch = stretch_spotted es from i set names c.args.spots.now.items c.push_spot.new.spots.items Silent c.mask.result None here c.requires (c.mask.ensures es c.args.index valid at) refl (λ u w. refl) (λ b u w. no b) refl c.in_ok-push_spot-in-Silent.ensures h.stretch;
       heard = heard_passed es from i names Silent here c.requires (λ r e. cc) refl (λ u w. refl) h.heard;
       asked = asked_nothing es from i c.args.demands.now.items Silent h.heard.begun here refl h.asked;
     }
@@ -39,7 +39,7 @@ returns-in_ok-push_spot-in-Silent-clause-gathered c es from set k m other fits h
     no false = refl
 
 pub returns-in_ok-push_spot-in-Heard-clause-gathered : goal.returns-in_ok-push_spot-in-Heard-clause-gathered
-returns-in_ok-push_spot-in-Heard-clause-gathered c es from set k m other fits h =
+returns-in_ok-push_spot-in-Heard-clause-gathered c es from set k valid at other fits h =
     let r = c.in-Heard.response in
     let here = k ∙ ap (λ e. Some e) c.in-Heard.is in
     let uid = c.uid-uid.result in
@@ -49,9 +49,9 @@ returns-in_ok-push_spot-in-Heard-clause-gathered c es from set k m other fits h 
     let n : Name = record { key = mirror uid; at = i; is_heard = true; left = true } in
     let told = c.in_ok-push_name-in-Heard.ensures in
     let named = stretch_named es from i set names new c.args.spots.now.items n c.requires told.1 refl refl told.0 h.stretch in
-    let inside = ap (λ o. lies_in_some o r.uid) (sym m) ∙ (ap (λ u. lies_in_some c.args.mask.now u) (sym c.uid-uid.ensures.value) ∙ (sym c.lies_in.ensures ∙ c.if-not-lies_in.false)) in
+    let inside = ap (λ o. lies_in_some o r.uid) (sym (c.mask-mask.ensures es c.args.index valid at)) ∙ (ap (λ u. lies_in_some c.mask-mask.result u) (sym c.uid-uid.ensures.value) ∙ (sym c.lies_in.ensures ∙ c.if-not-lies_in.false)) in
     record {
-      stretch = stretch_spotted es from i set new c.args.spots.now.items c.push_spot-in-Heard.new.spots.items (Heard r) c.args.mask.now (Some c.key.result) here c.requires m refl (λ u w. refl)
+      stretch = stretch_spotted es from i set new c.args.spots.now.items c.push_spot-in-Heard.new.spots.items (Heard r) c.mask-mask.result (Some c.key.result) here c.requires (c.mask-mask.ensures es c.args.index valid at) refl (λ u w. refl)
           (λ b u w. ap (λ x. not b || x) (ap (λ v. u == v) (sym c.uid-uid.ensures.value) ∙ (heard_key uid u told.2 w ∙ ap (λ v. v == mirror u) (sym c.key.ensures.value))))
           (ap (λ ms. is_named ms c.key.result) told.0 ∙ (ap (λ v. is_named (names ++ n ∷ []) v) c.key.ensures.value ∙ named_here names n))
           c.in_ok-push_spot-in-Heard.ensures named;
@@ -60,7 +60,7 @@ returns-in_ok-push_spot-in-Heard-clause-gathered c es from set k m other fits h 
     }
 
 pub returns-in_ok-push_demand-in-Collision-clause-gathered : goal.returns-in_ok-push_demand-in-Collision-clause-gathered
-returns-in_ok-push_demand-in-Collision-clause-gathered c es from set k m other fits h =
+returns-in_ok-push_demand-in-Collision-clause-gathered c es from set k valid at other fits h =
     let here = k ∙ ap (λ e. Some e) c.in-Collision.is in
     let more = c.in_ok-push_demand-in-Collision.ensures in
     let i = c.args.index in
@@ -68,11 +68,11 @@ returns-in_ok-push_demand-in-Collision-clause-gathered c es from set k m other f
     record {
       stretch = stretch_passed es from i set names c.args.spots.now.items Collision here c.requires refl (λ u w. refl) (λ b u. refl) h.stretch;
       heard = heard_passed es from i names Collision here c.requires (λ r e. cc) refl (λ u w. refl) h.heard;
-      asked = asked_more es from i c.args.demands.now.items c.push_demand.new.demands.items Collision (record { first = more.0; mask = c.args.mask.now; need = 2; at = i }) h.heard.begun here refl (omega arith) m refl more.1 h.asked;
+      asked = asked_more es from i c.args.demands.now.items c.push_demand.new.demands.items Collision (record { first = more.0; mask = c.mask-in-Collision.result; need = 2; at = i }) h.heard.begun here refl (omega arith) (c.mask-in-Collision.ensures es c.args.index valid at) refl more.1 h.asked;
     }
 
 pub returns-in_ok-push_demand-in-Garbled-clause-gathered : goal.returns-in_ok-push_demand-in-Garbled-clause-gathered
-returns-in_ok-push_demand-in-Garbled-clause-gathered c es from set k m other fits h =
+returns-in_ok-push_demand-in-Garbled-clause-gathered c es from set k valid at other fits h =
     let here = k ∙ ap (λ e. Some e) c.in-Garbled.is in
     let more = c.in_ok-push_demand-in-Garbled.ensures in
     let i = c.args.index in
@@ -80,11 +80,11 @@ returns-in_ok-push_demand-in-Garbled-clause-gathered c es from set k m other fit
     record {
       stretch = stretch_passed es from i set names c.args.spots.now.items Garbled here c.requires refl (λ u w. refl) (λ b u. refl) h.stretch;
       heard = heard_passed es from i names Garbled here c.requires (λ r e. cc) refl (λ u w. refl) h.heard;
-      asked = asked_more es from i c.args.demands.now.items c.push_demand-in-Garbled.new.demands.items Garbled (record { first = more.0; mask = c.args.mask.now; need = 1; at = i }) h.heard.begun here refl (omega arith) m refl more.1 h.asked;
+      asked = asked_more es from i c.args.demands.now.items c.push_demand-in-Garbled.new.demands.items Garbled (record { first = more.0; mask = c.mask-in-Garbled.result; need = 1; at = i }) h.heard.begun here refl (omega arith) (c.mask-in-Garbled.ensures es c.args.index valid at) refl more.1 h.asked;
     }
 
 pub returns-in-Listed-clause-gathered : goal.returns-in-Listed-clause-gathered
-returns-in-Listed-clause-gathered c es from set k m other fits h =
+returns-in-Listed-clause-gathered c es from set k valid at other fits h =
     ⊎_elim (λ w. listed w.0 (k ∙ ap (λ e. Some e) w.1)) (λ f. absurd (other f)) c.in-Listed.is
   where
     i : ℕ

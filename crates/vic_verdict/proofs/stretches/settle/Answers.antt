@@ -36,12 +36,11 @@ loop-index-preserved c =
             (ap (λ v. v.items) w.closed-is) (ap (λ v. v.items) w.stretches-is) (ap (λ v. v.items) w.names-is ∙ w.in_ok-keep_stretch.ensures.names) (ap (λ v. v.items) w.spots-is ∙ w.clear.ensures.items) (ap (λ v. v.items) w.demands-is ∙ w.in_ok-keep_stretch.ensures.demands)
             (walked_anew es i w.in_ok-cut.cut (is_outside l.closed.items) _ l.stretches.items _ l.names.items w.settle_stretch.new.names.items l.spots.items l.demands.items c.item-entry.result here w.in-FieldCycle.is w.if-cut-index.false told.cut told.names w.in_ok-keep_stretch.ensures.kept told.settled before.walked)
         | in_default+in_ok-note_entry+else-not-branch w ↦
-            let mask = w.mask-mask.ensures es i c.requires.valid before.round in
             walked_as es (i + 1) l.closed.items c.match-entry.closed.items l.stretches.items c.match-entry.stretches.items w.note_entry.new.names.items c.match-entry.names.items w.note_entry.new.spots.items c.match-entry.spots.items w.note_entry.new.demands.items c.match-entry.demands.items
             (ap (λ v. v.items) w.closed-is) (ap (λ v. v.items) w.stretches-is) (ap (λ v. v.items) w.names-is) (ap (λ v. v.items) w.spots-is) (ap (λ v. v.items) w.demands-is)
             (record {
               from = before.walked.from;
-              gathered = w.in_ok-note_entry.ensures.gathered es before.walked.from (is_outside l.closed.items) here mask w.in_default.not-FieldCycle w.if-not-branch.false before.walked.gathered;
+              gathered = w.in_ok-note_entry.ensures.gathered es before.walked.from (is_outside l.closed.items) here c.requires.valid before.round w.in_default.not-FieldCycle w.if-not-branch.false before.walked.gathered;
               kept = before.walked.kept;
             })
       ];
@@ -59,13 +58,12 @@ returns-then-not-branch c =
     let i = c.loop-index.index in
     let l = c.loop-index in
     let here = entry_at c.args.lines.now i c.index-lines-index.result c.loop-index-test.true c.index-lines-index.is ∙ ap (λ (e : Entry). Some e) (sym c.item-entry.ensures) in
-    let mask = c.mask-mask.ensures es i c.requires.valid l.invariant.round in
     let none = c.in_ok-note_entry.ensures.none c.if-not-branch.true in
     let new = c.note_entry.new in
     let walked = walked_as es i l.closed.items l.closed.items l.stretches.items l.stretches.items l.names.items new.names.items l.spots.items new.spots.items l.demands.items new.demands.items refl refl none.0 none.1 none.2 l.invariant.walked in
     let told = c.in_ok-cut-2.ensures in
     subst (IsSettled c.args.lines.now) (sym c.new-then-not-branch.ensures) (settled_to c.args.lines.now (record { closed = c.settle_stretch-then-not-branch.new.closed; stretches = c.keep_stretch-then-not-branch.new.stretches; cut = c.in_ok-cut-2.cut }) i _ _ _ _ _ _ l.auto.index-end walked told.cut told.names c.in_ok-keep_stretch-2.ensures.kept told.settled
-    (λ end more. c.in_ok-note_entry.ensures.unfit es here mask c.if-not-branch.true))
+    (λ end more. c.in_ok-note_entry.ensures.unfit es here c.requires.valid l.invariant.round c.if-not-branch.true))
 
 pub returns : goal.returns
 returns c =

@@ -1,5 +1,4 @@
 use Rattle.std.proofs.Common.{◌≡◌, ℕ, ◌∙◌, ◌&&◌, ◌++◌, not, refl, ap, sym, subst, rules, length, take, filter, List}
-use Rattle.std.proofs.lemmas.Fn.{filter_same}
 use Rattle.std.proofs.lemmas.List.Elements.{All-filter}
 use Rattle.std.specs.List.{All}
 use Rattle.std.proofs.lemmas.List.Sorted.{IsNonDecreasingBy-from_sort_by_key, All-permutation}
@@ -26,7 +25,7 @@ rule_out_all-requires-clause-order c =
 
 pub rule_out_all-requires-clause-ranges : goal.rule_out_all-requires-clause-ranges
 rule_out_all-requires-clause-ranges c =
-    subst (All HasRange) (sym c.deref-2.ensures.value) (All-permutation HasRange _ _ c.sort_unstable_by_key-2.ensures.permutation (subst (All HasRange) (sym (filter_same _ (is_before_place c.first_quiet_reply-cut.result) _ (λ x b f' k. search rules) _ _ c.retain.ensures.filtered)) (All-filter (is_before_place c.first_quiet_reply-cut.result) HasRange c.args.spots.now.items c.requires.ranges)))
+    subst (All HasRange) (sym c.deref-2.ensures.value) (All-permutation HasRange _ _ c.sort_unstable_by_key-2.ensures.permutation (subst (All HasRange) (sym c.cut_spots.ensures) (All-filter (is_before_place c.first_quiet_reply-cut.result) HasRange c.args.spots.now.items c.requires.ranges)))
 
 names_are : (n : ℕ) (ns now new sorted kept : List Name) (ss spots : List Spot) → now ≡ sorted → ss ≡ spots → new ≡ keep_all (all_leave ss) now → length now ≡ n → kept ≡ take n (new ++ ns) → kept ≡ keep_all (all_leave spots) sorted
 names_are n ns now new sorted kept ss spots a b d e f =
@@ -38,7 +37,7 @@ close_spots-requires-clause-order c =
 
 pub close_spots-requires-clause-ranges : goal.close_spots-requires-clause-ranges
 close_spots-requires-clause-ranges c =
-    subst (All HasRange) (sym c.deref-4.ensures.value) (All-permutation HasRange _ _ c.sort_unstable_by_key-2.ensures.permutation (subst (All HasRange) (sym (filter_same _ (is_before_place c.first_quiet_reply-cut.result) _ (λ x b f' k. search rules) _ _ c.retain.ensures.filtered)) (All-filter (is_before_place c.first_quiet_reply-cut.result) HasRange c.args.spots.now.items c.requires.ranges)))
+    subst (All HasRange) (sym c.deref-4.ensures.value) (All-permutation HasRange _ _ c.sort_unstable_by_key-2.ensures.permutation (subst (All HasRange) (sym c.cut_spots.ensures) (All-filter (is_before_place c.first_quiet_reply-cut.result) HasRange c.args.spots.now.items c.requires.ranges)))
 
 pub returns-clause-cut : goal.returns-clause-cut
 returns-clause-cut c =
@@ -49,8 +48,8 @@ pub returns-clause-settled : goal.returns-clause-settled
 returns-clause-settled c u w =
     let cut = c.first_quiet_reply-cut.result in
     let all = c.args.spots.now.items in
-    let early = c.retain.new.self.items in
-    let only : early ≡ filter (is_before_place cut) all = filter_same _ (is_before_place cut) _ (λ x b f' k. search rules) _ _ c.retain.ensures.filtered in
+    let early = c.cut_spots.new.spots.items in
+    let only : early ≡ filter (is_before_place cut) all = c.cut_spots.ensures in
     let names = c.sort_unstable_by_key.new.self.items in
     let spots = c.sort_unstable_by_key-2.new.self.items in
     let kept = keep_all (all_leave spots) names in
