@@ -5,11 +5,11 @@ ghost use Rattle.std.specs.Borrow.{ftrue};
 
 use std::marker::Model;
 
-/// Bytes in the order in which they were noted. It takes no memory, and its calls do nothing when
-/// the program runs.
+/// Bytes in the order in which they were noted: what a `Source` has returned, for its contract. It
+/// takes no memory, and its calls do nothing when the program runs.
 #[derive(Drop)]
-pub(crate) struct History {
-    pub(crate) ghost bytes: { List ℕ },
+pub struct History {
+    pub ghost bytes: { List ℕ },
 }
 
 impl Model for History {
@@ -18,14 +18,14 @@ impl Model for History {
 
 impl History {
     /// Before anything.
-    pub(crate) fn new() -> History
+    pub fn new() -> History
         ensures { result.bytes ≡ [] }
     {
         History {}
     }
 
     /// Notes bytes behind those before.
-    pub(crate) fn note(&mut self, _bytes: &[u8])
+    pub fn note(&mut self, _bytes: &[u8])
         ensures { self.new.bytes ≡ self.old.bytes ++ _bytes.now }
     {}
 }

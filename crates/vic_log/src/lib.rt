@@ -5,11 +5,9 @@
 //! is read from its text, whole or in pieces, or refused by its first fault; built entry by entry;
 //! and written back. Bytes come from a `Source` and go to a `Sink`, which remember a failure.
 //! `specs/` has what the crates above stand on: rounds, Quiet tags, populations, and a log's slots.
-//! `devices` are readers and writers for tests.
 #![tactic(auto)]
 
 mod begun;
-pub mod devices;
 mod digits;
 mod entry;
 mod fault;
@@ -31,6 +29,7 @@ pub use digits::push_hex;
 pub use entry::{Entry, LogLine, MAX_LINE_LEN, MAX_LINES, Version};
 pub use fault::{LineFault, LogFault, PushFault, WriteFault};
 pub use feed::{LogFeed, MAX_TEXT_LEN};
+pub use history::History;
 pub use line::{line_entry, line_entry_of};
 pub use log::Log;
 pub use packed::PackedLine;

@@ -1,5 +1,6 @@
 //! The commands over readers that fail or don't end, and over writers that fail.
 
+use crate::devices::{Endless, OneByOne, Pieces};
 use crate::logs::text_of;
 use crate::runs::{Command, ends, is_written, run, written_of};
 use std::alloc::{AllocError, Global};
@@ -8,7 +9,6 @@ use std::io::Read;
 use std::process::Abort;
 use std::test::Fail;
 use vic_answer::RunFault;
-use vic_log::devices::{Endless, OneByOne, Pieces};
 use vic_log::{FromRead, Log, ToWrite, WriteFault, read_log, write_log};
 
 const COMMANDS: [Command; 4] = [

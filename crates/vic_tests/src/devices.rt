@@ -1,233 +1,235 @@
-//! Readers and writers that work, and that fail.
+//! Readers and writers for tests: in pieces, failing at a call, or without end.
 
-use std::alloc::Global;
+ghost use Rattle.std.specs.Prelude.{◌≡◌, ◌-◌, ◌<◌, true, false, Some, None};
+
 use std::io;
-use std::io::{BufWriter, Read, Write};
-use std::process::Abort;
-use std::test::Fail;
-use vic_log::devices::{Endless, OneByOne, Pieces, Stuck};
-use vic_log::{DeviceFault, FromRead, ReadFault, Sink, Source, ToWrite, read_whole, write_whole};
+use std::io::Write;
+use vic_log::{DeviceFault, History, Sink, Source};
 
-/// A reader and writer of std that fails at each call.
+/// A source that gives at most so many bytes a call, and fails at one call.
 #[derive(Drop)]
-struct Broken;
+pub struct Pieces<'a> {
+    bytes: &'a [u8],
+    piece: usize,
+    fail_at: u64,
+    reads: u64,
+    returned: History,
+    ended: bool,
+    failed: bool,
+    ghost gives_some: { 0 < piece },
+}
 
-impl Read for Broken {
-    fn read(&mut self, _: &mut [u8]) -> io::Result<usize> {
-        Err(io::ErrorKind::TimedOut.into())
+impl<'a> Pieces<'a> {
+    /// A source of these bytes. Its calls are numbered from 1; with a `fail_at` of 0 none fails.
+    pub fn new(bytes: &'a [u8], piece: usize, fail_at: u64) -> Pieces<'a>
+        requires { 0 < piece }
+        ensures reads { ⟦<Pieces<'a> as Source>⟧.reads result ≡ 0 }
+        ensures left { ⟦<Pieces<'a> as Source>⟧.left result ≡ Some bytes.entry.now }
+        ensures works { ⟦<Pieces<'a> as Source>⟧.has_failed result ≡ false }
+    {
+        Pieces {
+            bytes,
+            piece,
+            fail_at,
+            reads: 0,
+            returned: History::new(),
+            ended: false,
+            failed: false,
+        }
+    }
+
+    /// How often it was read.
+    pub fn reads(&self) -> u64
+        ensures { result ≡ ⟦<Pieces<'a> as Source>⟧.reads self.now }
+    {
+        self.reads
     }
 }
 
-impl Write for Broken {
-    fn write(&mut self, _: &[u8]) -> io::Result<usize> {
-        Err(io::ErrorKind::TimedOut.into())
+impl<'a> Source for Pieces<'a> {
+    ghost reads = { λ s. s.reads };
+
+    ghost returned = { λ s. s.returned.bytes };
+
+    ghost ended = { λ s. s.ended };
+
+    ghost left = { λ s. Some s.bytes.now };
+
+    ghost has_failed = { λ s. s.failed };
+
+    fn read(&mut self, buf: &mut [u8]) -> Result<usize, DeviceFault> {
+        self.reads = self.reads.saturating_add(1);
+        if self.reads == self.fail_at {
+            self.ended = false;
+            self.failed = true;
+            return Err(DeviceFault);
+        }
+        let n = self.bytes.len().min(buf.len()).min(self.piece);
+        let (first, rest) = self.bytes.split_at(n);
+        buf[..n].copy_from_slice(first);
+        self.bytes = rest;
+        self.returned.note(&buf[..n]);
+        self.ended = n == 0 && !buf.is_empty();
+        self.failed = false;
+        Ok(n)
     }
 
-    fn flush(&mut self) -> io::Result<()> {
-        Err(io::ErrorKind::TimedOut.into())
+    fn failed(&self) -> bool {
+        self.failed
     }
 }
 
-/// A reader and writer of std that fails at one call, works at all others, and counts its calls.
+/// A source that gives one byte again and again, without end.
 #[derive(Drop)]
-struct Counted {
-    calls: u64,
-    fails_at: u64,
+pub struct Endless {
+    byte: u8,
+    reads: u64,
+    returned: History,
 }
 
-impl Counted {
-    /// Its calls are numbered from 1; with a `fails_at` of 0 none fails.
-    fn new(fails_at: u64) -> Counted {
-        Counted { calls: 0, fails_at }
+impl Endless {
+    /// A source of this byte.
+    pub fn new(byte: u8) -> Endless
+        ensures { ⟦<Endless as Source>⟧.reads result ≡ 0 }
+    {
+        Endless {
+            byte,
+            reads: 0,
+            returned: History::new(),
+        }
+    }
+}
+
+impl Source for Endless {
+    ghost reads = { λ s. s.reads };
+
+    ghost returned = { λ s. s.returned.bytes };
+
+    ghost ended = { λ _. false };
+
+    ghost left = { λ _. None };
+
+    ghost has_failed = { λ _. false };
+
+    fn read(&mut self, buf: &mut [u8]) -> Result<usize, DeviceFault> {
+        self.reads = self.reads.saturating_add(1);
+        for b in buf.iter_mut() {
+            *b = self.byte;
+        }
+        self.returned.note(buf);
+        Ok(buf.len())
     }
 
-    fn called(&mut self) -> io::Result<()> {
-        self.calls = self.calls.saturating_add(1);
-        if self.calls == self.fails_at {
-            return Err(io::ErrorKind::TimedOut.into());
+    fn failed(&self) -> bool {
+        false
+    }
+}
+
+/// A sink that takes one byte a call, and fails at one call, or in `flush`.
+#[derive(Drop)]
+pub struct OneByOne {
+    taken: Vec<u8>,
+    fail_at: u64,
+    fails_flush: bool,
+    writes: u64,
+    flushed: bool,
+    failed: bool,
+}
+
+impl OneByOne {
+    /// A sink that has taken these bytes. Its writes are numbered from 1; with a `fail_at` of 0
+    /// none fails.
+    pub fn new(taken: Vec<u8>, fail_at: u64, fails_flush: bool) -> OneByOne
+        ensures taken { ⟦<OneByOne as Sink>⟧.taken result ≡ Some taken.items }
+        ensures works { ⟦<OneByOne as Sink>⟧.has_failed result ≡ false }
+    {
+        OneByOne {
+            taken,
+            fail_at,
+            fails_flush,
+            writes: 0,
+            flushed: false,
+            failed: false,
+        }
+    }
+
+    /// The bytes that it has taken.
+    pub fn taken(&self) -> &[u8]
+        ensures { Some result.now ≡ ⟦<OneByOne as Sink>⟧.taken self.now }
+    {
+        self.taken.as_slice()
+    }
+}
+
+impl Sink for OneByOne {
+    ghost written = { λ s. s.taken.items };
+
+    ghost taken = { λ s. Some s.taken.items };
+
+    ghost is_flushed = { λ s. s.flushed };
+
+    ghost has_failed = { λ s. s.failed };
+
+    fn write(&mut self, bytes: &[u8]) -> Result<usize, DeviceFault> {
+        self.writes = self.writes.saturating_add(1);
+        self.flushed = false;
+        if self.writes == self.fail_at {
+            self.failed = true;
+            return Err(DeviceFault);
+        }
+        if bytes.is_empty() {
+            self.failed = false;
+            return Ok(0);
+        }
+        if self.taken.push(bytes[0]).is_err() {
+            self.failed = true;
+            return Err(DeviceFault);
+        }
+        self.failed = false;
+        Ok(1)
+    }
+
+    fn flush(&mut self) -> Result<(), DeviceFault> {
+        self.failed = self.fails_flush;
+        self.flushed = !self.fails_flush;
+        if self.fails_flush {
+            return Err(DeviceFault);
         }
         Ok(())
     }
-}
 
-impl Read for Counted {
-    fn read(&mut self, buf: &mut [u8]) -> io::Result<usize> {
-        self.called()?;
-        Ok(buf.len())
+    fn failed(&self) -> bool {
+        self.failed
     }
 }
 
-impl Write for Counted {
+/// A writer of std that takes all it is given, but nothing at one call.
+#[derive(Drop)]
+pub struct Stuck {
+    stuck_at: u64,
+    writes: u64,
+}
+
+impl Stuck {
+    /// Its writes are numbered from 1; with a `stuck_at` of 0 none takes nothing.
+    pub fn new(stuck_at: u64) -> Stuck {
+        Stuck {
+            stuck_at,
+            writes: 0,
+        }
+    }
+}
+
+impl Write for Stuck {
     fn write(&mut self, buf: &[u8]) -> io::Result<usize> {
-        self.called()?;
+        self.writes = self.writes.saturating_add(1);
+        if self.writes == self.stuck_at {
+            return Ok(0);
+        }
         Ok(buf.len())
     }
 
     fn flush(&mut self) -> io::Result<()> {
-        self.called()
+        Ok(())
     }
-}
-
-const TEXT: &[u8] = b"one two three";
-
-/// Asks a source for all that it has, up to so many bytes.
-fn hands_out<S: Source>(
-    rt: &impl Abort,
-    alloc: Global,
-    source: &mut S,
-    limit: usize,
-    expected: &[u8],
-) -> Result<(), Fail> {
-    let text = read_whole(alloc, source, limit)?;
-    assert!(rt; text.as_slice() == expected);
-    Ok(())
-}
-
-#[test]
-fn sources_in_pieces(rt: HostRuntime) -> Result<(), Fail> {
-    for piece in 1..20usize {
-        let mut source = Pieces::new(TEXT, piece, 0);
-        hands_out(&rt, rt.alloc(), &mut source, 100, TEXT)?;
-    }
-    Ok(())
-}
-
-/// Reads a source that fails at a call, twice: it isn't called again.
-fn fails_at(rt: &impl Abort, alloc: Global, call: u64) {
-    let mut source = Pieces::new(TEXT, 5, call);
-    assert!(rt; read_whole(alloc, &mut source, 100).err() == Some(ReadFault::Read));
-    assert!(rt; read_whole(alloc, &mut source, 100).err() == Some(ReadFault::Read));
-    assert!(rt; source.reads() == call);
-}
-
-#[test]
-fn sources_that_fail(rt: HostRuntime) {
-    for call in 1..5 {
-        fails_at(&rt, rt.alloc(), call);
-    }
-}
-
-#[test]
-fn a_source_without_end(rt: HostRuntime) -> Result<(), Fail> {
-    let text = read_whole(rt.alloc(), &mut Endless::new(9), 100_000)?;
-    assert!(rt; text.len() == 100_000);
-    Ok(())
-}
-
-#[test]
-fn readers_of_std(rt: HostRuntime) -> Result<(), Fail> {
-    let mut source = FromRead::new(TEXT);
-    hands_out(&rt, rt.alloc(), &mut source, 7, b"one two")?;
-    assert!(rt; source.into_inner() == b" three".as_slice());
-    Ok(())
-}
-
-#[test]
-fn a_broken_reader_of_std(rt: HostRuntime) {
-    let mut source = FromRead::new(Broken);
-    assert!(rt; source.read(&mut [0; 4]) == Err(DeviceFault));
-    assert!(rt; source.failed());
-}
-
-/// Reads a source over a reader that is called once for it.
-fn reads_once(rt: &impl Abort, fails_at: u64, buf: &mut [u8], given: Result<usize, DeviceFault>) {
-    let mut source = FromRead::new(Counted::new(fails_at));
-    assert!(rt; source.read(buf) == given);
-    assert!(rt; source.into_inner().calls == 1);
-}
-
-#[test]
-fn one_read_of_std_for_each(rt: HostRuntime) {
-    reads_once(&rt, 0, &mut [0; 4], Ok(4));
-    reads_once(&rt, 0, &mut [], Ok(0));
-    reads_once(&rt, 1, &mut [0; 4], Err(DeviceFault));
-}
-
-/// Gives the text to a sink, and asks for what it has taken then.
-fn takes(rt: &impl Abort, sink: &mut OneByOne, given: Result<(), DeviceFault>, taken: &[u8]) {
-    assert!(rt; write_whole(sink, TEXT) == given);
-    assert!(rt; sink.taken() == taken);
-}
-
-#[test]
-fn sinks(rt: HostRuntime) {
-    let mut sink = OneByOne::new(Vec::new(rt.alloc()), 0, false);
-    takes(&rt, &mut sink, Ok(()), TEXT);
-    let mut sink = OneByOne::new(Vec::new(rt.alloc()), 3, false);
-    takes(&rt, &mut sink, Err(DeviceFault), b"on");
-    takes(&rt, &mut sink, Err(DeviceFault), b"on");
-}
-
-#[test]
-fn writers_of_std(rt: HostRuntime) {
-    let mut sink = ToWrite::new(Vec::new(rt.alloc()));
-    assert!(rt; write_whole(&mut sink, TEXT) == Ok(()));
-    assert!(rt; sink.flush() == Ok(()));
-    assert!(rt; sink.into_inner().as_slice() == TEXT);
-}
-
-#[test]
-fn a_stuck_writer_of_std(rt: HostRuntime) {
-    let mut sink = ToWrite::new(Stuck::new(1));
-    assert!(rt; write_whole(&mut sink, TEXT) == Err(DeviceFault));
-    assert!(rt; sink.failed());
-}
-
-#[test]
-fn broken_writers_of_std(rt: HostRuntime) {
-    let mut sink = ToWrite::new(Broken);
-    assert!(rt; sink.write(TEXT) == Err(DeviceFault));
-    let mut sink = ToWrite::new(Broken);
-    assert!(rt; sink.flush() == Err(DeviceFault));
-    assert!(rt; sink.failed());
-}
-
-/// Writes to a sink over a writer that is called once for it.
-fn writes_once(rt: &impl Abort, fails_at: u64, text: &[u8], given: Result<usize, DeviceFault>) {
-    let mut sink = ToWrite::new(Counted::new(fails_at));
-    assert!(rt; sink.write(text) == given);
-    assert!(rt; sink.into_inner().calls == 1);
-}
-
-/// Flushes a sink over a writer that is called once for it.
-fn flushes_once(rt: &impl Abort, fails_at: u64, given: Result<(), DeviceFault>) {
-    let mut sink = ToWrite::new(Counted::new(fails_at));
-    assert!(rt; sink.flush() == given);
-    assert!(rt; sink.into_inner().calls == 1);
-}
-
-#[test]
-fn one_write_of_std_for_each(rt: HostRuntime) {
-    writes_once(&rt, 0, TEXT, Ok(TEXT.len()));
-    writes_once(&rt, 1, TEXT, Err(DeviceFault));
-    flushes_once(&rt, 0, Ok(()));
-    flushes_once(&rt, 1, Err(DeviceFault));
-}
-
-#[test]
-fn nothing_written(rt: HostRuntime) {
-    let mut sink = ToWrite::new(Vec::new(rt.alloc()));
-    assert!(rt; sink.write(b"") == Ok(0));
-    assert!(rt; !sink.failed());
-    assert!(rt; write_whole(&mut sink, b"") == Ok(()));
-    assert!(rt; sink.into_inner().is_empty());
-}
-
-#[test]
-fn nothing_read(rt: HostRuntime) -> Result<(), Fail> {
-    let mut source = FromRead::new(TEXT);
-    assert!(rt; source.read(&mut []) == Ok(0));
-    assert!(rt; !source.failed());
-    hands_out(&rt, rt.alloc(), &mut source, 100, TEXT)
-}
-
-#[test]
-fn what_waits_is_flushed(rt: HostRuntime) -> Result<(), Fail> {
-    let mut sink = ToWrite::new(BufWriter::new(rt.alloc(), Vec::new(rt.alloc()))?);
-    assert!(rt; write_whole(&mut sink, TEXT) == Ok(()));
-    assert!(rt; sink.flush() == Ok(()));
-    let writer = sink.into_inner();
-    assert!(rt; writer.get_ref().as_slice() == TEXT);
-    assert!(rt; writer.buffer().is_empty());
-    Ok(())
 }

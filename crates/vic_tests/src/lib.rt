@@ -17,6 +17,8 @@ mod logs;
 #[cfg(test)]
 mod runs;
 #[cfg(test)]
+mod sources;
+#[cfg(test)]
 mod tree;
 #[cfg(test)]
 mod values;

@@ -3,12 +3,12 @@
 
 ghost use Rattle.std.specs.Prelude.{◌<◌};
 
+use crate::devices::{OneByOne, Pieces, Stuck};
 use std::alloc::Global;
 use std::io::BufWriter;
 use std::process::Abort;
 use std::test::Fail;
 use vic_frame::{Request, read_request};
-use vic_log::devices::{OneByOne, Pieces, Stuck};
 use vic_log::{
     Entry, LineFault, Log, LogFault, LogFeed, LogReader, MAX_LINES, PushFault, Sink, Source,
     ToWrite, Version, WriteFault, line_entry, line_entry_of, read_log, write_log,

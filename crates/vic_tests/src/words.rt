@@ -1,11 +1,11 @@
 //! The commands over words, `frame` and `spell`, over writers that fail.
 
+use crate::devices::{OneByOne, Stuck};
 use crate::runs::{ends, is_written};
 use std::alloc::{AllocError, Global};
 use std::process::Abort;
 use std::test::Fail;
 use vic_answer::{RunFault, Status, run_frame, run_spell};
-use vic_log::devices::{OneByOne, Stuck};
 use vic_log::{Sink, ToWrite};
 
 /// Both lines of `frame`, and the frame that `spell` makes of the first.
