@@ -1,12 +1,13 @@
-//! What went through a device, kept in the proof alone.
+//! What went through a device, or was fed, kept in the proof alone.
 
 ghost use Rattle.std.specs.Prelude.{◌≡◌, ℕ, List, [], ◌++◌};
 ghost use Rattle.std.specs.Borrow.{ftrue};
 
 use std::marker::Model;
 
-/// Bytes in the order in which they were noted: what a `Source` has returned, for its contract. It
-/// takes no memory, and its calls do nothing when the program runs.
+/// Bytes in the order in which they were noted, for contracts: what a source has returned, a sink
+/// has taken, or a `LogFeed` was fed. It takes no memory, and its calls do nothing when the program
+/// runs.
 #[derive(Drop)]
 pub struct History {
     pub ghost bytes: { List ℕ },

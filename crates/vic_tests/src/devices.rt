@@ -211,7 +211,7 @@ pub struct Stuck {
 }
 
 impl Stuck {
-    /// Its writes are numbered from 1; with a `stuck_at` of 0 none takes nothing.
+    /// Its writes are numbered from 1; with a `stuck_at` of 0 each takes all.
     pub fn new(stuck_at: u64) -> Stuck {
         Stuck {
             stuck_at,

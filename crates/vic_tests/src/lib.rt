@@ -17,7 +17,7 @@ mod logs;
 #[cfg(test)]
 mod runs;
 #[cfg(test)]
-mod sources;
+mod sources_and_sinks;
 #[cfg(test)]
 mod tree;
 #[cfg(test)]

@@ -1,5 +1,5 @@
 //! Which keys the silent and answered slots between two field cycles close: those of their masks,
-//! except the names that are left.
+//! except those of names that are left.
 
 ghost use Rattle.std.specs.Prelude.{◌≡◌, ℕ, ◌||◌, ◌&&◌, not, Some, IfSome, IfOk, OnOk};
 ghost use Rattle.std.specs.List.{All};
@@ -12,15 +12,15 @@ use std::alloc::AllocError;
 use vic_frame::UID_BITS;
 use vic_tree::KeyRange;
 
-/// More than the bits of any mask.
+/// More than the number of bits that any mask has.
 pub(crate) const LENGTHS: u64 = 256;
 
 /// A silent or an answered slot. A log may have a million of them, which are sorted: so its mask is
 /// one number.
 #[derive(Clone, Copy)]
 pub(crate) struct Spot {
-    /// Its mask: the first key, times `LENGTHS`, plus how many bits it has. In the order of these
-    /// numbers those of one mask stand together, and outer masks before inner ones.
+    /// Its mask: the mask's first key, times `LENGTHS`, plus how many bits the mask has. In the
+    /// order of these numbers the slots of one mask stand together, outer masks before inner ones.
     pub mask: u64,
     /// The key that was heard; the first key of its mask where nobody was.
     pub key: u64,
@@ -53,7 +53,7 @@ impl Spot {
         (first, first + ((1 << (UID_BITS - self.len())) - 1))
     }
 
-    /// The key that was heard.
+    /// The key that was heard, if one was.
     pub(crate) fn heard(&self) -> Option<u64>
         ensures { result ≡ heard_of self.now }
     {
@@ -62,8 +62,8 @@ impl Spot {
 }
 
 /// Closes the keys of a range, except those of names that are left. Its first name is looked for
-/// from index `near` on. Returns the index behind its names, near which those of the next range may
-/// stand.
+/// near index `near` first. Returns the index behind its names, near which those of the next range
+/// may stand.
 fn close_between(
     closed: &mut Vec<KeyRange>,
     names: &[Name],
@@ -93,7 +93,7 @@ fn close_between(
     Ok(start.saturating_add(inside.len()))
 }
 
-/// The keys of two ranges as one, where no key is between them and the first one begins no later.
+/// Two ranges as one, where the first begins no later than the next and no key is between them.
 fn joined(range: KeyRange, next: KeyRange) -> Option<KeyRange>
     ensures { IfSome result (λ r. (k : ℕ) → is_between r.0 r.1 k
         ≡ (is_between range.0 range.1 k || is_between next.0 next.1 k)) }
@@ -105,8 +105,9 @@ fn joined(range: KeyRange, next: KeyRange) -> Option<KeyRange>
     }
 }
 
-/// Adds keys to a range that they adjoin; else that range is closed, and they are the next one.
-/// `near` is an index near that of the range's first name.
+/// Adds keys to the range before them where they adjoin it or lie in it; else that range is closed,
+/// if there is one. Returns the range that is to be closed next. `near` is an index near that of
+/// its first name.
 fn pass_keys(
     closed: &mut Vec<KeyRange>,
     names: &[Name],
@@ -129,8 +130,8 @@ fn pass_keys(
     Ok(keys)
 }
 
-/// Closes the keys of some slots, except the names that are left. Where the slots stand in order,
-/// those that adjoin or lie in one another are closed as one range.
+/// Closes the keys of the masks of some slots, except those of names that are left. Where the slots
+/// stand in order, masks that adjoin or lie in one another are closed as one range.
 pub(crate) fn close_spots(
     closed: &mut Vec<KeyRange>,
     names: &[Name],

@@ -1,5 +1,5 @@
-//! What the slots of a log ask for in which tags answered and none was read, and the open UIDs that
-//! meet it.
+//! The slots of a log in which tags answered and none was read: what they ask for, and the open
+//! UIDs that meet it.
 //!
 //! Between two field cycles tags only fall silent. So whoever answers in the last of some slots of
 //! one mask answered in the earlier ones too. Of those that ask for as much, the last one alone has
@@ -48,7 +48,8 @@ pub struct Found {
 /// much stand together, the last one last.
 #[derive(Clone, Copy, PartialEq, Eq, PartialOrd, Ord)]
 pub(crate) struct Demand {
-    /// The first key of its mask, so that masks stand in the order of their keys.
+    /// The first key of its mask, so that masks stand in the order of their keys; 0 where no UID
+    /// lies in it.
     pub first: u64,
     /// There is none only outside a round, where no slot is.
     pub mask: Option<Mask>,
@@ -89,7 +90,7 @@ fn first_key(mask: &Mask) -> u64 {
     }
 }
 
-/// What a stretch asks for, the lines between two field cycles: kept until it is known which UIDs
+/// What a stretch (the lines between two field cycles) asks for: kept until it is known which UIDs
 /// the log leaves open.
 #[derive(Drop)]
 pub(crate) struct Stretch {
@@ -127,7 +128,7 @@ pub(crate) fn keep_stretch(
 
 /// Open UIDs that answer in a slot: all where they are fewer than three, three otherwise. Mostly
 /// those that are found first are not Quiet, and no list of the Quiet ones is needed. The first
-/// name of the slot's mask is looked for from index `near` on.
+/// name of the slot's mask is looked for near index `near` first.
 fn respondents<S: OpenSet>(
     alloc: Global,
     set: &S,
@@ -157,8 +158,8 @@ fn respondents<S: OpenSet>(
     set.up_to_three_besides(alloc, &mask, &quiet)
 }
 
-/// Whether the next slot of some asks for as much of the same mask, no earlier: if it is met, so is
-/// this one.
+/// Whether the next slot of some asks for as much of the same mask, and is no earlier: if it is
+/// met, so is this one.
 fn is_asked_again(demands: &[Demand], index: usize) -> bool
     requires { index < length demands.now }
     ensures { result ≡ true → IsAskedAgain demands.now index }

@@ -51,7 +51,7 @@ fn first_guess(contradiction: Contradiction) -> Option<usize> {
 /// The number of the first line up to which no population could have given the log, found by
 /// halving: what is impossible stays so when lines follow. Halving begins at a guess: before the
 /// contradiction where it seems to be the first, else where a pass over the lines before it says.
-/// As long as that pass is right, the lines are judged at most four times here, mostly once or not
+/// As long as that pass is right, the lines are judged at most three times here, mostly once or not
 /// at all.
 pub fn first_impossible_line<S: OpenSet>(
     alloc: Global,

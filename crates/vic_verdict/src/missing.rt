@@ -1,4 +1,4 @@
-//! Which UIDs of a list a set or another list lacks.
+//! Which UIDs of a list aren't in a set, or in another list.
 //!
 //! They are looked for in order: a set that stands in the order of keys is gone over once.
 

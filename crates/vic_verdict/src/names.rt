@@ -89,7 +89,7 @@ fn is_start(names: &[Name], at: usize, first: u64) -> bool
     first <= names[at].key && (at == 0 || names[at - 1].key < first)
 }
 
-/// How many names are looked at one by one.
+/// How many names are looked at one by one before halving.
 const NEAR: usize = 8;
 
 /// The index of the first name whose key is at least `first`: tried first at `NEAR` names from

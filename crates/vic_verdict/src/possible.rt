@@ -18,7 +18,7 @@ use vic_log::{Entry, PackedLine};
 use vic_tree::OpenSet;
 
 /// The place of a line of a log, counted from 0, up to which no population could have given it.
-/// Earlier ones may do as well.
+/// Earlier places may be such, too.
 #[derive(Clone, Copy)]
 pub struct Contradiction {
     pub at: usize,
@@ -30,7 +30,7 @@ pub struct Contradiction {
 pub enum Before {
     /// Some population could have given them: it is the first contradiction.
     ArePossible,
-    /// They seem to be: no answer rests on it.
+    /// Some population seems to fit them: no answer rests on it.
     SeemPossible,
     /// Nothing is known of them.
     AreUnknown,

@@ -23,7 +23,7 @@ use vic_frame::{Mask, Request, Uid, without_top_byte};
 use vic_log::{Entry, PackedLine, RoundCursor};
 use vic_tree::KeyRange;
 
-/// Adds a slot, unless no UID lies in its mask.
+/// Adds a silent or an answered slot, unless no UID lies in its mask.
 #[inline(always)]
 fn push_spot(
     spots: &mut Vec<Spot>,

@@ -1,8 +1,8 @@
 //! What the slots between two field cycles leave open, mask by mask.
 //!
-//! The UIDs that these lines name are kept in the order of their low bits, where those of a mask
-//! stand together. Each mask is looked at once, whatever number of slots it had: for each name in
-//! it, and no other UID. A UID without a name is ruled out where it lies in any of the masks.
+//! The UIDs that the lines there name are kept in the order of their low bits, where those of a
+//! mask stand together. Each mask is looked at once, whatever number of slots it had: for each name
+//! in it, and no other UID. A UID without a name is ruled out where it lies in any of the masks.
 
 ghost use Rattle.std.specs.Prelude.{◌≡◌, ◌<◌, ℕ, nat_lt, ◌&&◌, true};
 ghost use Rattle.std.specs.Prelude.{Some, IfSome, IfOk, OnOk};
@@ -73,7 +73,7 @@ impl Level {
         }
     }
 
-    /// Whether a key that is Quiet after a place is left.
+    /// Whether a key is left whose UID is Quiet after a place.
     pub(crate) fn leaves(&self, key: u64, quiet: usize) -> bool
         ensures { result ≡ level_leaves self.now key quiet }
     {
@@ -98,8 +98,8 @@ pub(crate) struct Run {
     pub near: usize,
 }
 
-/// Rules out the names from key `first` to `last` that a level doesn't leave. Returns the index of
-/// the first of them, near which the next mask's may stand.
+/// Rules out those names from key `first` to `last` that a level doesn't leave. Returns the index
+/// of the first name from key `first` on, near which that of the next mask may stand.
 fn rule_out(names: &mut [Name], near: usize, first: u64, last: u64, level: &Level) -> usize
     requires { AreInOrder names.old }
     ensures { names.new ≡ keep_all (mask_leaves first last level.now) names.old }
@@ -115,7 +115,8 @@ fn rule_out(names: &mut [Name], near: usize, first: u64, last: u64, level: &Leve
     start
 }
 
-/// Adds a slot to a run of the same mask; else that run rules out its names, and a new one begins.
+/// Adds a slot to a run of the same mask; else the names that the run doesn't leave are ruled out,
+/// and a new one begins.
 fn pass_spot(names: &mut [Name], run: Option<Run>, spot: &Spot) -> Run
     requires order { AreInOrder names.old }
     requires level { IfSome run (λ r. IsLevel r.level) }
@@ -161,7 +162,8 @@ fn rule_out_all(names: &mut [Name], spots: &[Spot])
     }
 }
 
-/// Drops the slots that don't come before a cut. All come before `end`.
+/// Drops the slots that don't come before a cut. All come before `end`: where that is the cut, all
+/// stay.
 fn cut_spots(spots: &mut Vec<Spot>, cut: usize, end: usize)
     requires { All (λ (s : SpotValue). s.at < end) spots.old.items }
     ensures { spots.new.items ≡ filter (λ (s : SpotValue). nat_lt s.at cut) spots.old.items }
@@ -172,9 +174,9 @@ fn cut_spots(spots: &mut Vec<Spot>, cut: usize, end: usize)
 }
 
 /// Settles what the silent and answered slots of some lines tell, by the UIDs that these lines
-/// name: closes the keys that the slots rule out which come before the first reply of a Quiet UID.
+/// name: closes the keys that are ruled out by the slots before the first reply of a Quiet UID.
 /// Returns the place of that reply; `end`, behind all these lines, where there is none. The names
-/// are in order then, and the later slots are dropped.
+/// are in order then, and the slots from that place on are dropped.
 pub(crate) fn settle_stretch(
     closed: &mut Vec<KeyRange>,
     names: &mut Vec<Name>,

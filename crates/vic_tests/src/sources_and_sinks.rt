@@ -1,4 +1,5 @@
-//! Readers and writers that work, and that fail.
+//! Sources and sinks: those for tests, and those over readers and writers of std, which work or
+//! fail.
 
 use crate::devices::{Endless, OneByOne, Pieces, Stuck};
 use std::alloc::Global;
