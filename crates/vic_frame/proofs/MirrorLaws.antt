@@ -1,13 +1,15 @@
 -- Laws of the mirrored bits.
 use Rattle.std.proofs.Common.{◌&&◌, ◌==◌, ◌≡◌, ℕ, ◌+◌, ◌-◌, ◌*◌, ◌/◌, ◌^◌, ◌%◌, ◌<◌, ◌≤◌, ◌⊎◌, inl, inr, refl, sym, ap, ◌∙◌, arith, zero, suc, add-one}
 use Rattle.std.specs.Prelude.{nat_le}
-use Rattle.std.proofs.lemmas.Nat.{pow-add, mod-pow-add, field_of, shr_high, mod_low, shr-shr}
+use Rattle.std.proofs.lemmas.Nat.{pow-add, mod-pow-add, field_of, shr_high, mod_low, shr-shr, pow_pos}
 use Rattle.std.proofs.lemmas.Bool.{cases_order}
 use Rattle.std.proofs.lemmas.Bool.Decides.{nat_tests}
-use Rattle.std.proofs.Math.Nat.{add_assoc, add-mul, mul_assoc, mul_comm, pow-suc, div-one, mod-one, mod-eq_of_lt, div-eq_of_lt, mul-le-mul_right, suc-mul, pow-le-pow_right}
+use Rattle.std.proofs.Math.Nat.{add_assoc, add-mul, mul_assoc, mul_comm, pow-suc, div-one, mod-one, mod-eq_of_lt, div-eq_of_lt, mul-le-mul_right, suc-mul, pow-le-pow_right, mul-add-mod_self_right}
+use Rattle.vic_frame.proofs.BytesLaws.{sixteen_times}
 use Rattle.vic_frame.proofs.MaskLaws.{mod_mod_pow}
 use Rattle.vic_frame.specs.Uids.{IsUid}
-use Rattle.vic_frame.specs.LowBitsFirst.{IsKey, mirror_bits, mirror, uid_of}
+use Rattle.vic_frame.specs.Masks.{BitMask, IsMask, slot_of_sixteen}
+use Rattle.vic_frame.specs.LowBitsFirst.{IsBlock, IsKey, mirror_bits, mirror, uid_of}
 
 pow_more : (k : ℕ) → 2 ^ suc k ≡ 2 * 2 ^ k
 pow_more k = pow-suc 2 k ∙ mul_comm (2 ^ k) 2
@@ -150,3 +152,77 @@ in_span l h v u e below =
     let back = λ (s : mirror_bits l u ≡ mirror_bits l v). sym (mirror_twice l u) ∙ ap (mirror_bits l) s ∙ mirror_twice l v ∙ mod-eq_of_lt below in
     same_test (u % 2 ^ l) v (mirror_bits l u) (mirror_bits l v) there back
     ∙ span_test (mirror_bits l u) (mirror_bits l v) (2 ^ h) (mirror_bits h (u / 2 ^ l)) (mirror u) (mirror v) (mirror_below h (u / 2 ^ l)) (mirror_split l h 56 u e) first
+
+-- ---- blocks of keys
+
+-- the first key of a block, turned round, is the value of its mask
+pub block_value : (l h k : ℕ) → 56 ≡ l + h → k % 2 ^ h ≡ 0 → mirror k < 2 ^ l
+block_value l h k e even =
+    let low : mirror_bits h k ≡ 0 = sym (mirror_mod h k) ∙ ap (mirror_bits h) even ∙ mirror_none h in
+    let is : mirror k ≡ 0 * 2 ^ l + mirror_bits l (k / 2 ^ h) = mirror_split h l 56 k (omega arith) ∙ ap (λ (x : ℕ). x * 2 ^ l + mirror_bits l (k / 2 ^ h)) low in
+    let below = mirror_below l (k / 2 ^ h) in
+    omega arith
+
+multiple : (a t : ℕ) → 0 < t → a * t % t ≡ 0
+multiple a t pos =
+    let e : (a * t + 0) % t ≡ 0 % t = mul-add-mod_self_right a t 0 in
+    let f : a * t + 0 ≡ a * t = omega arith in
+    sym (ap (λ (x : ℕ). x % t) f) ∙ e ∙ mod-eq_of_lt pos
+
+-- the keys of a mask are a block
+pub first_is_block : (m : BitMask) → IsMask m → m.len ≤ 56 → IsBlock (mirror m.value) m.len
+first_is_block m is_mask short =
+    let h : ℕ = 56 - m.len in
+    let n : ℕ = mirror_bits m.len m.value in
+    let whole : 56 ≡ m.len + h = omega arith in
+    let first : mirror m.value ≡ n * 2 ^ h =
+    mirror_split m.len h 56 m.value whole ∙ ap (λ (x : ℕ). n * 2 ^ h + x) (ap (mirror_bits h) (div-eq_of_lt is_mask.1) ∙ mirror_none h) ∙ more_none (n * 2 ^ h) in
+    let below : n < 2 ^ m.len = mirror_below m.len m.value in
+    let ends : suc n * 2 ^ h ≤ 2 ^ m.len * 2 ^ h = mul-le-mul_right (2 ^ h) below in
+    let next : suc n * 2 ^ h ≡ n * 2 ^ h + 2 ^ h = suc-mul n (2 ^ h) in
+    let all : 2 ^ 56 ≡ 2 ^ m.len * 2 ^ h = ap (λ (x : ℕ). 2 ^ x) whole ∙ pow-add 2 m.len h in
+    let pos : 0 < 2 ^ h = pow_pos h in
+    record {
+      short = short;
+      keys = omega (arith, first, ends, next, all, pos);
+      even = ap (λ (x : ℕ). x % 2 ^ h) first ∙ multiple n (2 ^ h) pos;
+    }
+
+-- ---- the keys of slots
+
+-- what stands above l bits is turned round behind them
+mirror_above : (l h v k : ℕ) → 56 ≡ l + h → v < 2 ^ l → mirror (v + k * 2 ^ l) ≡ mirror v + mirror_bits h k
+mirror_above l h v k e below =
+    let n : ℕ = k * 2 ^ l + v in
+    let swap : v + k * 2 ^ l ≡ n = omega arith in
+    let low : mirror_bits l n ≡ mirror_bits l v = sym (mirror_mod l n) ∙ ap (mirror_bits l) (mod_low k l v below) in
+    let first : mirror_bits 56 v ≡ mirror_bits l v * 2 ^ h =
+    mirror_split l h 56 v e ∙ ap (λ (x : ℕ). mirror_bits l v * 2 ^ h + x) (ap (mirror_bits h) (div-eq_of_lt below) ∙ mirror_none h) ∙ more_none (mirror_bits l v * 2 ^ h) in
+    ap mirror swap
+    ∙ mirror_split l h 56 n e
+    ∙ ap (λ (x : ℕ). x * 2 ^ h + mirror_bits h (n / 2 ^ l)) low
+    ∙ ap (λ (x : ℕ). mirror_bits l v * 2 ^ h + mirror_bits h x) (shr_high k l v below)
+    ∙ ap (λ (x : ℕ). x + mirror_bits h k) (sym first)
+
+-- the four bits of a slot's number
+pub four_bits : (h k : ℕ) → 4 ≤ h → k ≤ 15 → mirror_bits h k ≡ mirror_bits 4 k * 2 ^ (h - 4)
+four_bits h k e few =
+    let none : k / 2 ^ 4 ≡ 0 = omega arith in
+    mirror_split 4 (h - 4) h k (omega arith)
+    ∙ ap (λ (x : ℕ). mirror_bits 4 k * 2 ^ (h - 4) + mirror_bits (h - 4) x) none
+    ∙ ap (λ (x : ℕ). mirror_bits 4 k * 2 ^ (h - 4) + x) (mirror_none (h - 4))
+    ∙ more_none (mirror_bits 4 k * 2 ^ (h - 4))
+
+pub mirror_of_slot : (l v k : ℕ) → l + 4 ≤ 56 → v < 2 ^ l → k ≤ 15 → mirror (v + k * 2 ^ l) ≡ mirror v + mirror_bits 4 k * 2 ^ (56 - (l + 4))
+mirror_of_slot l v k short below few =
+    let e : 56 - l - 4 ≡ 56 - (l + 4) = omega arith in
+    mirror_above l (56 - l) v k (omega arith) below
+    ∙ ap (λ (x : ℕ). mirror v + x) (four_bits (56 - l) k (omega arith) few)
+    ∙ ap (λ (x : ℕ). mirror v + mirror_bits 4 k * 2 ^ x) e
+
+pub slot_is_mask : (m : BitMask) (k : ℕ) → IsMask m → m.len + 4 ≤ 56 → k ≤ 15 → IsMask (slot_of_sixteen m k)
+slot_is_mask m k is_mask short few =
+    let below = is_mask.1 in
+    let most = sixteen_times k (2 ^ m.len) few in
+    let more : 2 ^ (m.len + 4) ≡ 2 ^ m.len * 2 ^ 4 = pow-add 2 m.len 4 in
+    (omega (arith, short), omega (arith, below, most, more))

@@ -1,7 +1,10 @@
 -- UIDs by their low bits, the lowest first (profile). In that order the UIDs of a mask stand
 -- together.
-use Rattle.std.specs.Prelude.{ℕ, zero, suc, ◌+◌, ◌*◌, ◌/◌, ◌^◌, ◌%◌, ◌<◌}
+use Rattle.std.specs.Prelude.{◌≡◌, ℕ, zero, suc, ◌+◌, ◌-◌, ◌*◌, ◌/◌, ◌^◌, ◌%◌, ◌<◌, ◌≤◌, Bool, false, ◌&&◌, Option, Some, None, nat_le}
 use Rattle.vic_frame.specs.declared.uid.TheConstants.{UID_BITS}
+use Rattle.vic_frame.specs.declared.low_bits_first.KeyBlock.{KeyBlock}
+use Rattle.vic_frame.specs.declared.request.Request.{Request}
+use Rattle.vic_frame.specs.declared.request.Request.TheVariants.{Inventory, StayQuiet}
 use Rattle.vic_frame.specs.Uids.{uid_from_low_bits}
 
 -- the low k bits of n turned round: the lowest becomes the highest
@@ -17,6 +20,26 @@ IsKey k = k < 2 ^ UID_BITS
 abbrev pub mirror : ℕ → ℕ
 mirror u = mirror_bits UID_BITS u
 
+-- the first key of a request's mask of at most 56 bits; Stay Quiet has no mask
+abbrev pub first_key_of : Request → ℕ
+first_key_of (Inventory link sixteen m) = mirror m.value
+first_key_of (StayQuiet link uid) = 0
+
 -- the UID at a place
 abbrev pub uid_of : ℕ → ℕ
 uid_of k = uid_from_low_bits (mirror k)
+
+-- the key is one of the block from `first` on that a mask of so many bits has
+abbrev pub is_in_block : ℕ → ℕ → ℕ → Bool
+is_in_block first len k = nat_le first k && nat_le k (first + (2 ^ (UID_BITS - len) - 1))
+
+-- the key is one of a block, if there is one
+abbrev pub is_in_some_block : Option KeyBlock → ℕ → Bool
+is_in_some_block (Some b) k = is_in_block b.first b.len k
+is_in_some_block None k = false
+
+-- the keys from `first` on are the block of some mask of so many bits
+pub record IsBlock (first len : ℕ) : Type 0 where
+  pub short : len ≤ UID_BITS
+  pub keys : IsKey (first + (2 ^ (UID_BITS - len) - 1))
+  pub even : first % 2 ^ (UID_BITS - len) ≡ 0

@@ -3,13 +3,40 @@
 //! In this order the UIDs of a mask stand together, so that a sorted set finds them by one range.
 //! A UID's place is its 56 low bits turned round, a number below `2^56`.
 
-ghost use Rattle.std.specs.Prelude.{◌≡◌, ℕ, ◌+◌, ◌-◌, ◌^◌, ◌≤◌, ◌&&◌, nat_le};
+ghost use Rattle.std.specs.Prelude.{◌≡◌, ℕ, ◌+◌, ◌-◌, ◌^◌, ◌≤◌, ◌&&◌, IfSome, nat_le};
 ghost use Rattle.vic_frame.specs.Uids.{IsUid};
-ghost use Rattle.vic_frame.specs.Masks.{lies_in};
-ghost use Rattle.vic_frame.specs.LowBitsFirst.{IsKey, mirror, mirror_bits, uid_of};
+ghost use Rattle.vic_frame.specs.Masks.{lies_in, slot_of_sixteen};
+ghost use Rattle.vic_frame.specs.LowBitsFirst.{IsBlock, IsKey, is_in_block, is_in_some_block, mirror, mirror_bits, uid_of};
 
-use crate::mask::Mask;
+use crate::mask::{Mask, without_top_byte};
 use crate::uid::{UID_BITS, Uid};
+
+/// The places of the UIDs in a mask of at most 56 bits, which stand together.
+#[derive(Clone, Copy)]
+pub struct KeyBlock {
+    /// The first one.
+    pub first: u64,
+    /// How many bits the mask fixes: there are `2^(56 - len)` places.
+    pub len: u8,
+}
+
+impl KeyBlock {
+    /// The last one.
+    pub fn last(&self) -> u64
+        requires { IsBlock self.now.first self.now.len }
+        ensures { result ≡ self.now.first + (2 ^ (UID_BITS - self.now.len) - 1) }
+    {
+        self.first + ((1 << (UID_BITS - self.len)) - 1)
+    }
+
+    /// Whether a place is one of them.
+    pub fn holds(&self, key: u64) -> bool
+        requires { IsBlock self.now.first self.now.len }
+        ensures { result ≡ is_in_block self.now.first self.now.len key }
+    {
+        self.first <= key && key <= self.last()
+    }
+}
 
 /// The place of a UID in the order. Different UIDs have different places.
 pub fn key(uid: Uid) -> u64
@@ -44,6 +71,58 @@ pub fn key_range(mask: &Mask) -> (u64, u64)
     let first = turn_round(mask.value());
     let more = (1 << (UID_BITS - mask.len())) - 1;
     (first, first + more)
+}
+
+/// The mask of `len` bits, at most 56, whose first UID's place is `first`: a multiple of
+/// `2^(56 - len)` below `2^56`.
+pub fn mask_of_keys(first: u64, len: u8) -> Mask
+    requires { IsBlock first len }
+    ensures len { result.len ≡ len }
+    ensures first { mirror result.value ≡ first }
+    ensures inside { (u : ℕ) → lies_in result u ≡ is_in_block first len (mirror u) }
+{
+    Mask::of_bits(len, turn_round(first))
+}
+
+/// The place of the first UID in a mask of at most 56 bits.
+pub fn first_key(mask: &Mask) -> u64
+    ensures { result ≡ mirror mask.now.value }
+{
+    turn_round(mask.value())
+}
+
+/// The places of the UIDs in a mask; `None` if the mask holds no UID.
+pub fn keys_of(mask: &Mask) -> Option<KeyBlock>
+    ensures block { IfSome result (λ b. IsBlock b.first b.len) }
+    ensures inside { (u : ℕ) → IsUid u
+        → lies_in mask.now u ≡ is_in_some_block result (mirror u) }
+{
+    match without_top_byte(mask) {
+        Some(low) => Some(KeyBlock {
+            first: first_key(&low),
+            len: low.len(),
+        }),
+        None => None,
+    }
+}
+
+/// The places of the UIDs in slot `k` of sixteen of a mask of at most 52 bits, whose first place is
+/// known. The first one in the slot differs from it by the slot's four bits.
+#[inline(always)]
+pub fn keys_of_slot(mask: &Mask, first: u64, k: u8) -> KeyBlock
+    requires short { mask.now.len + 4 ≤ UID_BITS }
+    requires slot { k ≤ 15 }
+    requires first { first ≡ mirror mask.now.value }
+    ensures block { IsBlock result.first result.len }
+    ensures inside { (u : ℕ) → lies_in (slot_of_sixteen mask.now k) u
+        ≡ is_in_block result.first result.len (mirror u) }
+{
+    let len = mask.len() + 4;
+    let four_bits = turn_byte(k) / 16;
+    KeyBlock {
+        first: first + (u64::from(four_bits) << (UID_BITS - len)),
+        len,
+    }
 }
 
 /// The 56 low bits of a number turned round, so that the lowest becomes the highest.

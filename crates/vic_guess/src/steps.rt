@@ -3,8 +3,8 @@
 use crate::parts::Parts;
 pub(crate) use crate::parts::Span;
 use std::alloc::{AllocError, Global};
-use vic_frame::low_bits_first::{key, key_range};
-use vic_frame::{Request, Uid, without_top_byte};
+use vic_frame::low_bits_first::key;
+use vic_frame::{Request, Uid};
 use vic_log::{Entry, PackedLine, RoundCursor};
 
 /// What a slot was found to hold.
@@ -54,9 +54,8 @@ pub(crate) enum Step {
 /// The first key of the slot that comes next, and the one after its last; none where no UID lies in
 /// its mask.
 fn slot_keys(rounds: &RoundCursor) -> Option<(u64, u64)> {
-    let mask = without_top_byte(&rounds.mask()?)?;
-    let (first, last) = key_range(&mask);
-    Some((first, last.saturating_add(1)))
+    let block = rounds.keys()?;
+    Some((block.first, block.last().saturating_add(1)))
 }
 
 /// The UID that an entry silences or heard.

@@ -34,7 +34,7 @@ pub use line::{line_entry, line_entry_of};
 pub use log::Log;
 pub use packed::PackedLine;
 pub use reader::{LogReader, MAX_READS, read_log};
-pub use rounds::{OpenRound, RoundCursor};
+pub use rounds::{KeyedRound, OpenRound, RoundCursor};
 pub use sink::{Sink, ToWrite, write_whole};
 pub use source::{DeviceFault, FromRead, ReadFault, Source, read_whole};
 pub use write::{WRITTEN_AT_ONCE, write_listed, write_log};

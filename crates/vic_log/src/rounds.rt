@@ -1,13 +1,20 @@
 //! The inventory rounds of a log, followed from entry to entry.
 
 ghost use Rattle.std.specs.Prelude.{◌≡◌, ℕ, ◌+◌, ◌≤◌, IfSome, List, Some, slice_get};
+ghost use Rattle.vic_frame.specs.LowBitsFirst.{IsBlock, is_in_some_block, mirror};
+ghost use Rattle.vic_frame.specs.Masks.{lies_in, slot_of_sixteen};
+ghost use Rattle.vic_frame.specs.Requests.{IsValid};
+ghost use Rattle.vic_frame.specs.Slots.{slot_mask};
+ghost use Rattle.vic_frame.specs.Uids.{IsUid};
 ghost use Rattle.vic_log.specs.declared.entry.Entry.{Entry as EntryValue};
 ghost use Rattle.vic_log.specs.OpenRounds.{IsCursorAt, round_at};
 ghost use Rattle.vic_log.specs.Order.{IsInOrder, AreValid};
-ghost use Rattle.vic_log.specs.Rounds.{mask_at};
+ghost use Rattle.vic_log.specs.Rounds.{lies_in_some, mask_at};
 
 use crate::entry::Entry;
-use vic_frame::{Mask, Request};
+use std::marker::Model;
+use vic_frame::low_bits_first::{KeyBlock, first_key, keys_of, keys_of_slot};
+use vic_frame::{Mask, Request, UID_BITS};
 
 /// A round that is open (ISO/IEC 15693-3, inventory sequence).
 #[derive(Clone, Copy)]
@@ -18,11 +25,131 @@ pub struct OpenRound {
     pub next: u8,
 }
 
+/// An open round with the first key of its request's mask, from which those of all its slots are
+/// found.
+#[derive(Clone, Copy)]
+pub struct KeyedRound {
+    request: Request,
+    next: u8,
+    first: u64,
+}
+
+impl Model for KeyedRound {
+    ghost use Rattle.std.specs.Prelude.{◌≡◌};
+    ghost use Rattle.vic_log.specs.declared.rounds.OpenRound.{OpenRound as OpenRoundValue};
+    ghost use Rattle.vic_frame.specs.LowBitsFirst.{first_key_of};
+
+    ghost Value = { OpenRoundValue };
+
+    ghost view = { λ r. record { request = r.request; next = r.next } };
+
+    ghost invariant = { λ r. r.first ≡ first_key_of r.request };
+
+    ghost inverse = { λ r. record
+        { request = r.request; next = r.next; first = first_key_of r.request } };
+}
+
+impl KeyedRound {
+    /// The round that a request opens.
+    fn opened(request: Request) -> KeyedRound
+        ensures { result ≡ record { request = request; next = 0 } }
+    {
+        let first = match request {
+            Request::Inventory { mask, .. } => first_key(&mask),
+            Request::StayQuiet { .. } => 0,
+        };
+        KeyedRound {
+            request,
+            next: 0,
+            first,
+        }
+    }
+
+    /// Goes on past a slot.
+    #[inline(always)]
+    fn pass_slot(&mut self)
+        ensures { self.old.next ≤ 16
+            → self.new ≡ record { request = self.old.request; next = self.old.next + 1 } }
+    {
+        self.next = self.next.saturating_add(1);
+    }
+
+    /// The mask of its next slot; `None` if it has no more, or its request isn't valid.
+    fn mask(&self) -> Option<Mask>
+        ensures { IsValid self.now.request
+            → result ≡ slot_mask self.now.request self.now.next }
+    {
+        self.request.slot_mask(self.next)
+    }
+
+    /// The keys of the UIDs in its next slot; `None` if it has no more slots, or no UID lies in it.
+    #[inline(always)]
+    fn keys(&self) -> Option<KeyBlock>
+        ensures block { IfSome result (λ b. IsBlock b.first b.len) }
+        ensures inside { (u : ℕ) → IsValid self.now.request → IsUid u
+            → is_in_some_block result (mirror u)
+            ≡ lies_in_some (slot_mask self.now.request self.now.next) u }
+    {
+        match self.request {
+            Request::Inventory { sixteen, mask, .. } => {
+                if sixteen {
+                    keys_in_slot(&mask, self.first, self.next)
+                } else if self.next == 0 {
+                    keys_in(&mask, self.first)
+                } else {
+                    None
+                }
+            }
+            Request::StayQuiet { .. } => None,
+        }
+    }
+}
+
+/// The keys of the UIDs in a mask whose first key is known, if any lies in it.
+#[inline(always)]
+fn keys_in(mask: &Mask, first: u64) -> Option<KeyBlock>
+    requires { first ≡ mirror mask.now.value }
+    ensures block { IfSome result (λ b. IsBlock b.first b.len) }
+    ensures inside { (u : ℕ) → IsUid u
+        → is_in_some_block result (mirror u) ≡ lies_in mask.now u }
+{
+    if mask.len() <= UID_BITS {
+        Some(KeyBlock {
+            first,
+            len: mask.len(),
+        })
+    } else {
+        keys_of(mask)
+    }
+}
+
+/// The keys of the UIDs in slot `k` of sixteen of a mask whose first key is known; `None` if there
+/// is no such slot, or no UID lies in it.
+#[inline(always)]
+fn keys_in_slot(mask: &Mask, first: u64, k: u8) -> Option<KeyBlock>
+    requires { first ≡ mirror mask.now.value }
+    ensures block { IfSome result (λ b. IsBlock b.first b.len) }
+    ensures none { 16 ≤ k → result ≡ None }
+    ensures inside { (u : ℕ) → mask.now.len ≤ 60 → k ≤ 15 → IsUid u
+        → is_in_some_block result (mirror u) ≡ lies_in (slot_of_sixteen mask.now k) u }
+{
+    if k > 15 {
+        return None;
+    }
+    if mask.len() + 4 <= UID_BITS {
+        return Some(keys_of_slot(mask, first, k));
+    }
+    match mask.slot(k) {
+        Some(slot) => keys_of(&slot),
+        None => None,
+    }
+}
+
 /// Where one stands that goes over the entries of a log from the first on: the round that is open
 /// there, if one is.
 #[derive(Clone, Copy)]
 pub struct RoundCursor {
-    pub round: Option<OpenRound>,
+    pub round: Option<KeyedRound>,
 }
 
 impl RoundCursor {
@@ -34,12 +161,13 @@ impl RoundCursor {
     }
 
     /// Goes on past an entry.
+    #[inline(always)]
     pub fn advance(&mut self, entry: &Entry)
         ensures { (es : List EntryValue) (i : ℕ) → IsInOrder es
             → slice_get es i ≡ Some entry.now → IsCursorAt es i self.old
             → IsCursorAt es (i + 1) self.new }
     {
-        self.round = round_after(&self.round, entry);
+        pass_entry(&mut self.round, entry);
     }
 
     /// The mask of the slot that an entry here tells of, if it tells of one.
@@ -47,28 +175,42 @@ impl RoundCursor {
         ensures { (es : List EntryValue) (i : ℕ) → AreValid es → IsCursorAt es i self.now
             → result ≡ mask_at es i }
     {
-        match self.round {
-            Some(round) => round.request.slot_mask(round.next),
+        match &self.round {
+            Some(round) => round.mask(),
+            None => None,
+        }
+    }
+
+    /// The keys of the UIDs that lie in that mask; `None` if there is no such slot, or no UID lies
+    /// in it.
+    #[inline(always)]
+    pub fn keys(&self) -> Option<KeyBlock>
+        ensures block { IfSome result (λ b. IsBlock b.first b.len) }
+        ensures inside { (es : List EntryValue) (i u : ℕ) → AreValid es
+            → IsCursorAt es i self.now → IsUid u
+            → is_in_some_block result (mirror u) ≡ lies_in_some (mask_at es i) u }
+    {
+        match &self.round {
+            Some(round) => round.keys(),
             None => None,
         }
     }
 }
 
-/// The open round after an entry.
-fn round_after(round: &Option<OpenRound>, entry: &Entry) -> Option<OpenRound>
-    ensures { (es : List EntryValue) (i : ℕ) → IfSome round.now (λ r. r.next ≤ 16)
-        → slice_get es i ≡ Some entry.now → round.now ≡ round_at es i
-        → result ≡ round_at es (i + 1) }
+/// Goes on past an entry, with the round that is open.
+#[inline(always)]
+fn pass_entry(round: &mut Option<KeyedRound>, entry: &Entry)
+    ensures { (es : List EntryValue) (i : ℕ) → IfSome round.old (λ r. r.next ≤ 16)
+        → slice_get es i ≡ Some entry.now → round.old ≡ round_at es i
+        → round.new ≡ round_at es (i + 1) }
 {
     match *entry {
-        Entry::Sent(request) => Some(OpenRound { request, next: 0 }),
-        Entry::Listed(_) | Entry::FieldCycle => None,
-        Entry::Silent | Entry::Collision | Entry::Heard(_) | Entry::Garbled => match *round {
-            Some(round) => Some(OpenRound {
-                request: round.request,
-                next: round.next.saturating_add(1),
-            }),
-            None => None,
-        },
+        Entry::Sent(request) => *round = Some(KeyedRound::opened(request)),
+        Entry::Listed(_) | Entry::FieldCycle => *round = None,
+        Entry::Silent | Entry::Collision | Entry::Heard(_) | Entry::Garbled => {
+            if let Some(round) = round {
+                round.pass_slot();
+            }
+        }
     }
 }

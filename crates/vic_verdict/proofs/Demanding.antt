@@ -14,8 +14,8 @@ use Rattle.std.proofs.lemmas.List.Sums.{sum_by-cons, sum_by_more, sum_by_push, s
 use Rattle.std.proofs.lemmas.List.Sorted.{All-permutation, list_any-IsPermutation, sum_by-IsPermutation}
 use Rattle.vic_frame.specs.Uids.{IsUid, is_uid, has}
 use Rattle.vic_frame.specs.Masks.{BitMask, lies_in}
-use Rattle.vic_frame.specs.LowBitsFirst.{mirror}
-use Rattle.vic_tree.specs.OpenSet.{SameUids, UpToThree, in_mask}
+use Rattle.vic_frame.specs.LowBitsFirst.{is_in_block, mirror}
+use Rattle.vic_tree.specs.OpenSet.{SameUids, UpToThree, in_mask, without_keys}
 use Rattle.vic_log.specs.declared.entry.Entry.{Entry}
 use Rattle.vic_log.specs.declared.entry.Entry.TheVariants.{Sent, Silent, Collision, Heard, Listed, Garbled, FieldCycle}
 use Rattle.vic_log.specs.Rounds.{mask_at, lies_in_some}
@@ -24,7 +24,7 @@ use Rattle.vic_log.specs.Populations.{answers_at}
 use Rattle.vic_log.specs.Slots.{ManyReplies, SomeReply, allows, slots_of, is_open}
 use Rattle.vic_log.proofs.Places.{AgreeBefore, answers_agree}
 use Rattle.vic_log.proofs.Supply.{IsUid-from}
-use Rattle.vic_tree.proofs.BoolLaws.{lt_yes, lt_from}
+use Rattle.vic_tree.proofs.BoolLaws.{and_true, lt_yes, lt_from}
 use Rattle.vic_verdict.specs.declared.demands.Demand.{Demand}
 use Rattle.vic_verdict.specs.declared.demands.Found.{Found}
 use Rattle.vic_verdict.specs.declared.demands.Stretch.{Stretch}
@@ -32,7 +32,7 @@ use Rattle.vic_verdict.specs.declared.names.Name.{Name}
 use Rattle.vic_verdict.specs.Possible.{Lacks}
 use Rattle.vic_verdict.specs.Places.{answering}
 use Rattle.vic_verdict.specs.Sweep.{AreInOrder, HaveKeys, is_quiet_by, ArePutInOrder}
-use Rattle.vic_verdict.specs.Demands.{needs, needs_of, needs_at, all_needs, IsFoundAt, IsFound, Meets, IsDemand, IsDemandBy, answers_by, IsUnmet, IsUnmetAt, IsImpliedBy, IsAskedAgain, HasNamesInOrder, IsKept, Keeps, AreMet, AreAsked, AreFound, AreKept, asked_by, demands_to, is_asked}
+use Rattle.vic_verdict.specs.Demands.{needs, needs_of, needs_at, all_needs, IsFoundAt, IsFound, Meets, IsDemand, IsDemandBy, answers_by, IsUnmet, IsUnmetAt, IsImpliedBy, IsAskedAgain, HasBlock, HasBlocks, HasKeysAt, HasNamesInOrder, IsKept, Keeps, AreMet, AreAsked, AreFound, AreKept, asked_by, demands_to, is_asked}
 use Rattle.vic_verdict.proofs.Silencing.{silenced_later}
 use Rattle.vic_verdict.proofs.Entries.{asks_two_iff, asks_one_iff}
 use Rattle.vic_verdict.proofs.Supplied.{UpToThree-same}
@@ -43,17 +43,6 @@ use Rattle.vic_verdict.proofs.Supplied.{UpToThree-same}
 abbrev pub ready_of : (ℕ → Bool) → List Name → Demand → ℕ → Bool
 ready_of set ns d u = (is_uid u && set u) && answers_by ns d u
 
-pub none_ready : (set : ℕ → Bool) (ns : List Name) (d : Demand) → ((u : ℕ) → IsUid u → lies_in_some d.mask u ≡ false) → UpToThree (ready_of set ns d) []
-none_ready set ns d none = record {
-  different = tt;
-  members = λ u m. absurd (false≢true m);
-  all = λ few u k.
-      let w = and_parts _ _ k in
-      let uid = (and_parts (is_uid u) (set u) w.0).0 in
-      let inside = (and_parts _ _ w.1).0 in
-      absurd (both_ways _ (none u (IsUid-from u uid)) inside);
-}
-
 any_has : (p : ℕ → Bool) (us : List ℕ) (u : ℕ) → has us u ≡ true → p u ≡ true → list_any p us ≡ true
 any_has p [] u h e = absurd (false≢true h)
 any_has p (x ∷ us) u h e =
@@ -63,23 +52,46 @@ any_has p (x ∷ us) u h e =
     (or_cases _ _ h)
 
 -- the first UIDs found, where none of them is Quiet
-pub first_ready : (set : ℕ → Bool) (ns inside : List Name) (d : Demand) (m : BitMask) (us : List ℕ) → ((u : ℕ) → IsUid u → lies_in_some d.mask u ≡ lies_in m u) → ((u : ℕ) → IsUid u → lies_in m u ≡ true → is_quiet_by inside (mirror u) d.at ≡ is_quiet_by ns (mirror u) d.at) → UpToThree (in_mask set m []) us → list_any (λ u. is_quiet_by inside (mirror u) d.at) us ≡ false → UpToThree (ready_of set ns d) us
+pub first_ready : (set : ℕ → Bool) (ns inside : List Name) (d : Demand) (m : BitMask) (us : List ℕ) → ((u : ℕ) → lies_in m u ≡ is_in_block d.first d.len (mirror u)) → ((u : ℕ) → IsUid u → lies_in m u ≡ true → is_quiet_by inside (mirror u) d.at ≡ is_quiet_by ns (mirror u) d.at) → UpToThree (in_mask set m []) us → list_any (λ u. is_quiet_by inside (mirror u) d.at) us ≡ false → UpToThree (ready_of set ns d) us
 first_ready set ns inside d m us same alike h none = record {
   different = h.different;
   members = λ u k.
       let w = and_parts _ _ (h.members u k) in
       let uid = IsUid-from u (and_parts (is_uid u) (set u) w.0).0 in
       let lies = (and_parts _ _ w.1).0 in
-      and_from _ _ w.0 (and_from _ _ (same u uid ∙ lies) (go (is_quiet_by ns (mirror u) d.at) (λ e. absurd (both_ways _ none (any_has (λ v. is_quiet_by inside (mirror v) d.at) us u k (alike u uid lies ∙ e))))));
+      and_from _ _ w.0 (and_from _ _ (sym (same u) ∙ lies) (go (is_quiet_by ns (mirror u) d.at) (λ e. absurd (both_ways _ none (any_has (λ v. is_quiet_by inside (mirror v) d.at) us u k (alike u uid lies ∙ e))))));
   all = λ few u k.
       let w = and_parts _ _ k in
-      let uid = IsUid-from u (and_parts (is_uid u) (set u) w.0).0 in
-      h.all few u (and_from _ _ w.0 (and_from _ _ (sym (same u uid) ∙ (and_parts _ _ w.1).0) refl));
+      h.all few u (and_from _ _ w.0 (and_from _ _ (same u ∙ (and_parts _ _ w.1).0) refl));
 }
   where
     go : (b : Bool) → (b ≡ true → not b ≡ true) → not b ≡ true
     go true f = f refl
     go false f = refl
+
+shuffled : (a b c : Bool) → ((a && (b && c)) && true) ≡ ((a && b) && c)
+shuffled false b c = refl
+shuffled true false c = refl
+shuffled true true c = and_true c
+
+neither : (a b : Bool) → (a && false) ≡ (b && false)
+neither false false = refl
+neither false true = refl
+neither true false = refl
+neither true true = refl
+
+-- those found beside the Quiet ones
+pub others_ready : (set : ℕ → Bool) (ns : List Name) (d : Demand) (m : BitMask) (keys us : List ℕ) → ((u : ℕ) → lies_in m u ≡ is_in_block d.first d.len (mirror u)) → ((k : ℕ) → is_in_block d.first d.len k ≡ true → has keys k ≡ is_quiet_by ns k d.at) → UpToThree (in_mask (without_keys set keys) m []) us → UpToThree (ready_of set ns d) us
+others_ready set ns d m keys us same quiet h = UpToThree-same (in_mask (without_keys set keys) m []) (ready_of set ns d) us (λ u. go u (is_in_block d.first d.len (mirror u)) refl) h
+  where
+    go : (u : ℕ) (b : Bool) → is_in_block d.first d.len (mirror u) ≡ b → in_mask (without_keys set keys) m [] u ≡ ready_of set ns d u
+    go u true e =
+        ap (λ x. (is_uid u && (set u && not (has keys (mirror u)))) && (x && true)) (same u ∙ e)
+        ∙ (ap (λ x. (is_uid u && (set u && not x)) && true) (quiet (mirror u) e)
+        ∙ (shuffled (is_uid u) (set u) _ ∙ ap (λ x. (is_uid u && set u) && (x && not (is_quiet_by ns (mirror u) d.at))) (sym e)))
+    go u false e =
+        ap (λ x. (is_uid u && (set u && not (has keys (mirror u)))) && (x && true)) (same u ∙ e)
+        ∙ (neither _ _ ∙ ap (λ x. (is_uid u && set u) && (x && not (is_quiet_by ns (mirror u) d.at))) (sym e))
 
 -- ---- a demand that is met
 
@@ -119,7 +131,7 @@ meets_again es ns d next f h g said m = record {
       let w = and_parts _ _ (m.answer u k) in
       let uid = IsUid-from u (and_parts (is_uid u) _ w.0).0 in
       let ready = and_parts _ _ (g.answers u uid ∙ w.1) in
-      let inside = ap (λ o. lies_in_some o u) said.mask ∙ ready.0 in
+      let inside = ap (λ n. is_in_block n d.len (mirror u)) said.first ∙ (ap (λ n. is_in_block next.first n (mirror u)) said.len ∙ ready.0) in
       let awake = not_later _ _ (silenced_later ns (mirror u) d.at next.at said.later) ready.1 in
       and_from _ _ w.0 (sym (h.answers u uid) ∙ and_from _ _ inside awake);
 }
@@ -157,7 +169,7 @@ unmet_lacks es set ns ds at same h w =
 -- ---- one demand after another
 
 no_demand : Demand
-no_demand = record { first = 0; mask = None; need = 0; at = 0 }
+no_demand = record { first = 0; len = 0; need = 0; at = 0 }
 
 -- an element of a list with one more is one of it, or the one more
 pub any_kept : {X : Type 0} (P : X → Type 0) (xs : List X) (y : X) → Any P xs → Any P (xs ++ y ∷ [])
@@ -225,7 +237,7 @@ demands_next : (es : List Entry) (from i : ℕ) (ds : List Demand) → All (IsDe
 demands_next es from i ds h k d below =
     let it = h k d below in
     let lt = it.before in
-    record { asked = it.asked; need = it.need; mask = it.mask; since = it.since; before = omega (arith, lt) }
+    record { asked = it.asked; need = it.need; block = it.block; inside = it.inside; since = it.since; before = omega (arith, lt) }
 
 -- one entry more asks for what it asks for
 needs_more : (es : List Entry) (i : ℕ) (e : Entry) → slice_get es i ≡ Some e → all_needs (take (i + 1) es) ≡ all_needs (take i es) + needs e
@@ -272,8 +284,8 @@ asked_nothing es from i ds e begun k none h = record {
 }
 
 -- an entry that asks for some
-pub asked_more : (es : List Entry) (from i : ℕ) (ds new : List Demand) (e : Entry) (d : Demand) → from ≤ i → slice_get es i ≡ Some e → needs e ≡ d.need → 0 < d.need → d.mask ≡ mask_at es i → d.at ≡ i → new ≡ ds ++ d ∷ [] → AreAsked es from i ds → AreAsked es from (i + 1) new
-asked_more es from i ds new e d begun k need some mask at is h = subst (AreAsked es from (i + 1)) (sym is) (record {
+pub asked_more : (es : List Entry) (from i : ℕ) (ds new : List Demand) (e : Entry) (d : Demand) → from ≤ i → slice_get es i ≡ Some e → needs e ≡ d.need → 0 < d.need → HasBlock d → HasKeysAt es i d → d.at ≡ i → new ≡ ds ++ d ∷ [] → AreAsked es from i ds → AreAsked es from (i + 1) new
+asked_more es from i ds new e d begun k need some block inside at is h = subst (AreAsked es from (i + 1)) (sym is) (record {
   demands = all;
   asked = λ j since lt asks.
       list_any-append (λ (x : Demand). x.at == j) ds (d ∷ [])
@@ -302,7 +314,8 @@ asked_more es from i ds new e d begun k need some mask at is h = subst (AreAsked
     all = All-push (IsDemand es from (i + 1)) ds d (demands_next es from i ds h.demands) (record {
       asked = some;
       need = ap (needs_at es) at ∙ (ap needs_of k ∙ need);
-      mask = mask ∙ ap (mask_at es) (sym at);
+      block = block;
+      inside = subst (λ n. HasKeysAt es n d) (sym at) inside;
       since = omega (arith, begun, at);
       before = omega (arith, at);
     })
@@ -329,6 +342,7 @@ pub kept_cycle : (es : List Entry) (i : ℕ) (ss : List Stretch) (e : Entry) →
 kept_cycle es i ss e k none h = record {
   kept = λ n s below. let it = h.kept n s below in record {
     names = it.names;
+    blocks = it.blocks;
     places = λ m d inside. let lt = it.places m d inside in omega (arith, lt);
     demands = it.demands;
   };
@@ -367,7 +381,7 @@ demand_by es i ns d quiet from h = record {
   asked = h.asked;
   need = h.need;
   answers = λ u w.
-      ap (λ o. lies_in_some o u && not (is_quiet_by ns (mirror u) d.at)) h.mask
+      ap (λ b. b && not (is_quiet_by ns (mirror u) d.at)) (h.inside u w)
       ∙ ap (λ b. lies_in_some (mask_at es d.at) u && not b) (quiet u w);
 }
 
@@ -381,6 +395,7 @@ demand_agrees es fs cut ns d agree below h = record {
 kept_agree : (es fs : List Entry) (i cut : ℕ) (s : Stretch) → AgreeBefore cut fs es → i ≤ cut → IsKept es i s → IsKept fs cut s
 kept_agree es fs i cut s agree le h = record {
   names = h.names;
+  blocks = h.blocks;
   places = λ k d below. let lt = h.places k d below in omega (arith, lt, le);
   demands = λ k d below.
       let lt = h.places k d below in
@@ -422,6 +437,9 @@ kept_to es fs from i cut ns ms ds old new agree since upto keys quiet order keep
     early : All (λ (d : Demand). d.at < cut) (demands_to cut ds)
     early k d below = lt_from _ _ (filter_passes (λ (x : Demand). nat_lt x.at cut) ds k d below)
 
+    are_blocks : All HasBlock (demands_to cut ds)
+    are_blocks = All-filter (λ (d : Demand). nat_lt d.at cut) HasBlock ds (λ k d below. (h.demands k d below).block)
+
     told : All (IsDemandBy fs ms) (demands_to cut ds)
     told k d below =
         let x = get_or (demands_to cut ds) k d in
@@ -441,6 +459,7 @@ kept_to es fs from i cut ns ms ds old new agree since upto keys quiet order keep
     some w = subst (AreKept fs cut) (sym w.1) (record {
       kept = All-push (IsKept fs cut) old w.0 old_kept (record {
         names = record { order = subst AreInOrder (sym w.2) order.order; keys = subst HaveKeys (sym w.2) (order.keys keys) };
+        blocks = All-permutation HasBlock (demands_to cut ds) w.0.demands.items w.3 are_blocks;
         places = All-permutation (λ (d : Demand). d.at < cut) (demands_to cut ds) w.0.demands.items w.3 early;
         demands = subst (λ xs. All (IsDemandBy fs xs) w.0.demands.items) (sym w.2) (All-permutation (IsDemandBy fs ms) (demands_to cut ds) w.0.demands.items w.3 told);
       });
@@ -459,6 +478,9 @@ kept_to es fs from i cut ns ms ds old new agree since upto keys quiet order keep
 
 pub kept_in_order : (es : List Entry) (i : ℕ) (ss : List Stretch) → AreKept es i ss → All HasNamesInOrder ss
 kept_in_order es i ss h k s below = (h.kept k s below).names
+
+pub kept_blocks : (es : List Entry) (i : ℕ) (ss : List Stretch) → AreKept es i ss → All HasBlocks ss
+kept_blocks es i ss h k s below = (h.kept k s below).blocks
 
 -- ---- what meets them
 

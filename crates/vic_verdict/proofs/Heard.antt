@@ -11,17 +11,22 @@ use Rattle.std.proofs.lemmas.List.Elements.{All-push}
 use Rattle.std.proofs.lemmas.List.Quantifiers.{Any-push}
 use Rattle.std.proofs.lemmas.List.Folds.{list_any_at, Any-from_list_any}
 use Rattle.std.proofs.lemmas.Option.{slice_get_within}
-use Rattle.vic_frame.specs.Uids.{IsUid}
+use Rattle.vic_frame.specs.Uids.{IsUid, is_uid}
 use Rattle.vic_frame.specs.LowBitsFirst.{mirror}
 use Rattle.vic_frame.specs.Replies.{Reply}
 use Rattle.vic_log.specs.declared.entry.Entry.{Entry}
-use Rattle.vic_log.specs.declared.entry.Entry.TheVariants.{Heard, FieldCycle}
+use Rattle.vic_log.specs.declared.entry.Entry.TheVariants.{Sent, Silent, Collision, Heard, Listed, Garbled, FieldCycle}
 use Rattle.vic_log.specs.Rounds.{mask_at, lies_in_some}
 use Rattle.vic_log.specs.Quiet.{silences, wakes, is_quiet}
 use Rattle.vic_log.specs.Populations.{answers_at}
+use Rattle.vic_log.specs.Slots.{reading_of, slots_of, is_open}
 use Rattle.vic_log.proofs.Places.{answers_agree, agree_upto}
+use Rattle.vic_log.proofs.Supply.{IsUid-from}
 use Rattle.vic_verdict.specs.declared.names.Name.{Name}
 use Rattle.vic_verdict.specs.Possible.{IsPossible, IsContradictedAt}
+use Rattle.vic_verdict.specs.Places.{answering}
+use Rattle.vic_verdict.specs.Demands.{needs}
+use Rattle.vic_verdict.proofs.Entries.{EntryAsks}
 use Rattle.vic_verdict.specs.Replies.{Answers, reply_place, is_quiet_reply, IsQuietReply, IsFirstQuietReply, IsHeardAt, IsReplyAt, AreHeard}
 use Rattle.vic_verdict.specs.Sweep.{quiet_of, is_quiet_by}
 use Rattle.vic_verdict.proofs.Silencing.{silenced_permuted}
@@ -37,14 +42,21 @@ front_get (suc n) i [] lt = refl
 front_get (suc n) zero (x ∷ xs) lt = refl
 front_get (suc n) (suc i) (x ∷ xs) lt = front_get n i xs (omega (arith, lt))
 
--- who is heard answers, where a population could have given the entries up to there
-heard_answers : (es : List Entry) (i : ℕ) (r : Reply) → slice_get es i ≡ Some (Heard r) → IsPossible (take (i + 1) es) → answers_at es i r.uid ≡ true
-heard_answers es i r k possible =
+-- who answers in a slot of some entries answers there in those up to it
+front_answers : (es : List Entry) (i : ℕ) (e : Entry) (u : ℕ) → slice_get es i ≡ Some e → answers_at es i u ≡ answers_at (take (i + 1) es) i u
+front_answers es i e u k =
     let front = take (i + 1) es in
-    let here = front_get (i + 1) i es (omega arith) ∙ k in
-    let within = slice_get_within front i (Heard r) here in
-    let same = answers_agree i front (front ++ drop (i + 1) es) (agree_upto front (drop (i + 1) es) i (omega (arith, within))) r.uid in
-    ap (λ xs. answers_at xs i r.uid) (sym (take-append-drop (i + 1) es)) ∙ (sym same ∙ (and_parts _ _ (supplied_each front i (Heard r) here possible)).1)
+    let within = slice_get_within front i e (front_get (i + 1) i es (omega arith) ∙ k) in
+    let same = answers_agree i front (front ++ drop (i + 1) es) (agree_upto front (drop (i + 1) es) i (omega (arith, within))) u in
+    ap (λ xs. answers_at xs i u) (sym (take-append-drop (i + 1) es)) ∙ sym same
+
+-- a slot has what it asks for, where a population could have given the entries up to there
+front_asks : (es : List Entry) (i : ℕ) (e : Entry) → slice_get es i ≡ Some e → IsPossible (take (i + 1) es) → EntryAsks (reading_of e) (answering (is_open (slots_of (take (i + 1) es))) (take (i + 1) es) i)
+front_asks es i e k possible = supplied_each (take (i + 1) es) i e (front_get (i + 1) i es (omega arith) ∙ k) possible
+
+-- who is heard answers there
+heard_answers : (es : List Entry) (i : ℕ) (r : Reply) → slice_get es i ≡ Some (Heard r) → IsPossible (take (i + 1) es) → answers_at es i r.uid ≡ true
+heard_answers es i r k possible = front_answers es i (Heard r) r.uid k ∙ (and_parts _ _ (front_asks es i (Heard r) k possible)).1
 
 up_to_it : (es : List Entry) (i : ℕ) (r : Reply) → slice_get es i ≡ Some (Heard r) → (answers_at es i r.uid ≡ true → ⊥) → IsContradictedAt es i
 up_to_it es i r k none = record {
@@ -55,6 +67,28 @@ up_to_it es i r k none = record {
 -- a reply by a UID outside of the mask
 pub outside_reply : (es : List Entry) (i : ℕ) (r : Reply) → slice_get es i ≡ Some (Heard r) → lies_in_some (mask_at es i) r.uid ≡ false → IsContradictedAt es i
 outside_reply es i r k out = up_to_it es i r k (λ answers. both_ways _ out (and_parts (lies_in_some (mask_at es i) r.uid) (not (is_quiet es i r.uid)) answers).0)
+
+-- tags that answered in a mask in which no UID lies
+pub nobody_there : (es : List Entry) (i : ℕ) (e : Entry) → slice_get es i ≡ Some e → 0 < needs e → ((u : ℕ) → IsUid u → lies_in_some (mask_at es i) u ≡ false) → IsContradictedAt es i
+nobody_there es i e k asks none = record {
+  within = slice_get_within es i e k;
+  impossible = λ possible. go e asks (front_asks es i e k possible);
+}
+  where
+    nobody : (u : ℕ) → answering (is_open (slots_of (take (i + 1) es))) (take (i + 1) es) i u ≡ true → ⊥
+    nobody u a =
+        let w = and_parts (is_open (slots_of (take (i + 1) es)) u) _ a in
+        let uid = IsUid-from u (and_parts (is_uid u) _ w.0).0 in
+        both_ways _ (none u uid) (and_parts (lies_in_some (mask_at es i) u) _ (front_answers es i e u k ∙ w.1)).0
+
+    go : (f : Entry) → 0 < needs f → EntryAsks (reading_of f) (answering (is_open (slots_of (take (i + 1) es))) (take (i + 1) es) i) → ⊥
+    go Collision lt a = nobody a.0 a.3
+    go Garbled lt a = nobody a.0 a.1
+    go Silent lt a = omega (arith, lt)
+    go (Heard r) lt a = omega (arith, lt)
+    go (Sent q) lt a = omega (arith, lt)
+    go (Listed u) lt a = omega (arith, lt)
+    go FieldCycle lt a = omega (arith, lt)
 
 -- ---- the place of a reply
 

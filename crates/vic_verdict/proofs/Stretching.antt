@@ -7,8 +7,8 @@ use Rattle.std.proofs.lemmas.Bool.Decides.{nat_tests}
 use Rattle.std.proofs.lemmas.List.Folds.{list_all-append, list_any-append}
 use Rattle.std.proofs.lemmas.List.Elements.{All-push, All-head, All-tail}
 use Rattle.vic_frame.specs.Uids.{IsUid}
-use Rattle.vic_frame.specs.Masks.{BitMask}
-use Rattle.vic_frame.specs.LowBitsFirst.{mirror, uid_of}
+use Rattle.vic_frame.specs.declared.low_bits_first.KeyBlock.{KeyBlock}
+use Rattle.vic_frame.specs.LowBitsFirst.{is_in_some_block, mirror, uid_of}
 use Rattle.vic_frame.proofs.MirrorLaws.{uid_of_mirror, same_test}
 use Rattle.vic_tree.specs.OpenSet.{SameUids}
 use Rattle.vic_log.specs.declared.entry.Entry.{Entry}
@@ -217,8 +217,8 @@ stretch_silenced es from i set ns ms ss e n k lt awake one all key left at silen
 })
 
 -- a silent or an answered slot
-pub stretch_spotted : (es : List Entry) (from i : ℕ) (set : ℕ → Bool) (ns : List Name) (ss ts : List Spot) (e : Entry) (mask : Option BitMask) (heard : Option ℕ) → slice_get es i ≡ Some e → i < 2 ^ 32 → mask ≡ mask_at es i → wakes (Some e) ≡ false → ((u : ℕ) → IsUid u → silences (Some e) u ≡ false) → ((b : Bool) (u : ℕ) → IsUid u → entry_allows (reading_of e) b u ≡ (not b || is_heard heard (mirror u))) → is_named_if ns heard ≡ true → AddsSpot mask i heard ss ts → TellsOpen es from i set ns ss → TellsOpen es from (i + 1) set ns ts
-stretch_spotted es from i set ns ss ts e mask heard k lt m awake none reads named adds h = record {
+pub stretch_spotted : (es : List Entry) (from i : ℕ) (set : ℕ → Bool) (ns : List Name) (ss ts : List Spot) (e : Entry) (keys : Option KeyBlock) (heard : Option ℕ) → slice_get es i ≡ Some e → i < 2 ^ 32 → ((u : ℕ) → IsUid u → is_in_some_block keys (mirror u) ≡ lies_in_some (mask_at es i) u) → wakes (Some e) ≡ false → ((u : ℕ) → IsUid u → silences (Some e) u ≡ false) → ((b : Bool) (u : ℕ) → IsUid u → entry_allows (reading_of e) b u ≡ (not b || is_heard heard (mirror u))) → is_named_if ns heard ≡ true → AddsSpot keys i heard ss ts → TellsOpen es from i set ns ss → TellsOpen es from (i + 1) set ns ts
+stretch_spotted es from i set ns ss ts e keys heard k lt m awake none reads named adds h = record {
   keys = h.keys;
   left = h.left;
   ranges = adds.ranges h.ranges;
@@ -230,9 +230,9 @@ stretch_spotted es from i set ns ss ts e mask heard k lt m awake none reads name
       ap (λ b. set u && b) (adds.allow ns u w)
       ∙ (assoc (set u) (all_allow ns ss (mirror u)) _
       ∙ ap (λ b. (set u && all_allow ns ss (mirror u)) && b) (
-      ap (λ b. not (lies_in_some mask u) || (b || is_heard heard (mirror u))) (h.quiet u w)
-      ∙ (test (lies_in_some mask u) (is_quiet es i u) (is_heard heard (mirror u))
-      ∙ (ap (λ o. not (lies_in_some o u && not (is_quiet es i u)) || is_heard heard (mirror u)) m
+      ap (λ b. not (is_in_some_block keys (mirror u)) || (b || is_heard heard (mirror u))) (h.quiet u w)
+      ∙ (test (is_in_some_block keys (mirror u)) (is_quiet es i u) (is_heard heard (mirror u))
+      ∙ (ap (λ l. not (l && not (is_quiet es i u)) || is_heard heard (mirror u)) (m u w)
       ∙ sym (reads (answers_at es i u) u w)))))) h.uids;
   before = before_next es from i set ns ns ss ts (λ j u le. adds.kept ns j (mirror u) le) h;
 } where

@@ -7,7 +7,7 @@ use Rattle.vic_frame.specs.Replies.{Reply}
 use Rattle.vic_tree.specs.OpenSet.{UpToThree}
 use Rattle.vic_log.specs.declared.entry.Entry.{Entry}
 use Rattle.vic_log.specs.declared.entry.Entry.TheVariants.{Sent, Silent, Collision, Heard, Listed, Garbled, FieldCycle}
-use Rattle.vic_frame.specs.LowBitsFirst.{mirror}
+use Rattle.vic_frame.specs.LowBitsFirst.{IsBlock, is_in_block, mirror}
 use Rattle.vic_log.specs.Rounds.{mask_at, lies_in_some}
 use Rattle.vic_log.specs.Populations.{answers_at}
 use Rattle.vic_log.specs.Slots.{slots_of, is_open}
@@ -89,17 +89,28 @@ IsMetFor m u = (has m.heard.items u ≡ true) ⊎ IsExactFor m.found.items u
 
 -- ---- what is gathered of the slots since the last field cycle
 
+-- the keys of the demand's mask are a block
+abbrev pub HasBlock : Demand → Type 0
+HasBlock d = IsBlock d.first d.len
+
+-- the block has the keys of the UIDs that lie in the mask of place i, if it has one, and no others
+abbrev pub HasKeysAt : List Entry → ℕ → Demand → Type 0
+HasKeysAt es i d = (u : ℕ) → IsUid u
+    → is_in_block d.first d.len (mirror u) ≡ lies_in_some (mask_at es i) u
+
 -- the demand is that of a slot line before place i, from a place on
 pub record IsDemand (es : List Entry) (from i : ℕ) (d : Demand) : Type 0 where
   pub asked : 0 < d.need
   pub need : needs_at es d.at ≡ d.need
-  pub mask : d.mask ≡ mask_at es d.at
+  pub block : HasBlock d
+  pub inside : HasKeysAt es d.at d
   pub since : from ≤ d.at
   pub before : d.at < i
 
 -- the UID answers in the slot, by the names
 abbrev pub answers_by : List Name → Demand → ℕ → Bool
-answers_by ns d u = lies_in_some d.mask u && not (is_quiet_by ns (mirror u) d.at)
+answers_by ns d u =
+    is_in_block d.first d.len (mirror u) && not (is_quiet_by ns (mirror u) d.at)
 
 -- the demand is that of a slot line, and the names tell who answers there
 pub record IsDemandBy (es : List Entry) (ns : List Name) (d : Demand) : Type 0 where
@@ -118,7 +129,8 @@ IsUnmetAt set ns ds at = Any (λ (d : Demand). (d.at ≡ at) × IsUnmet set ns d
 
 -- the next demand asks for as much of the same mask, no earlier
 pub record IsImpliedBy (d next : Demand) : Type 0 where
-  pub mask : d.mask ≡ next.mask
+  pub first : d.first ≡ next.first
+  pub len : d.len ≡ next.len
   pub need : d.need ≡ next.need
   pub later : d.at ≤ next.at
 
@@ -159,10 +171,15 @@ pub record HasNamesInOrder (s : Stretch) : Type 0 where
   pub order : AreInOrder s.names.items
   pub keys : HaveKeys s.names.items
 
+-- the keys of the masks of a stretch's demands are blocks
+abbrev pub HasBlocks : Stretch → Type 0
+HasBlocks s = All HasBlock s.demands.items
+
 -- the names of a stretch stand in order, and tell who answers in the slots of its demands, which
 -- are all before place i
 pub record IsKept (es : List Entry) (i : ℕ) (s : Stretch) : Type 0 where
   pub names : HasNamesInOrder s
+  pub blocks : HasBlocks s
   pub places : All (λ (d : Demand). d.at < i) s.demands.items
   pub demands : All (IsDemandBy es s.names.items) s.demands.items
 

@@ -1,13 +1,12 @@
 -- What a judge has gathered at a place of a log since the last field cycle.
-use Rattle.std.specs.Prelude.{◌≡◌, ℕ, ◌<◌, ◌≤◌, Bool, true, false, not, ◌&&◌, ◌||◌, Option, IfSome, List, length, take}
+use Rattle.std.specs.Prelude.{◌≡◌, ℕ, ◌<◌, ◌≤◌, Bool, true, false, not, ◌&&◌, ◌||◌, Option, List, length, take}
 use Rattle.std.specs.List.{All}
 use Rattle.vic_frame.specs.Uids.{IsUid}
-use Rattle.vic_frame.specs.Masks.{BitMask}
-use Rattle.vic_frame.specs.LowBitsFirst.{mirror}
+use Rattle.vic_frame.specs.declared.low_bits_first.KeyBlock.{KeyBlock}
+use Rattle.vic_frame.specs.LowBitsFirst.{is_in_some_block, mirror}
 use Rattle.vic_tree.specs.OpenSet.{SameUids}
 use Rattle.vic_tree.specs.Ranges.{is_outside}
 use Rattle.vic_log.specs.declared.entry.Entry.{Entry}
-use Rattle.vic_log.specs.Rounds.{lies_in_some}
 use Rattle.vic_log.specs.Quiet.{is_quiet}
 use Rattle.vic_log.specs.declared.entry.LogLine.{LogLine}
 use Rattle.vic_log.specs.Order.{entries}
@@ -21,18 +20,15 @@ use Rattle.vic_verdict.specs.declared.demands.Demand.{Demand}
 use Rattle.vic_verdict.specs.Demands.{AreAsked, AreKept}
 use Rattle.vic_verdict.specs.Sweep.{HasRange, HaveKeys, are_left, is_named_if, all_hear_named, is_quiet_by, is_heard, all_allow, all_allow_to}
 
--- the UID may be there by a slot of this mask, at a place, that heard this key or nobody
-abbrev pub is_allowed : List Name → Option BitMask → ℕ → Option ℕ → ℕ → Bool
-is_allowed ns mask at heard u =
-    not (lies_in_some mask u) || (is_quiet_by ns (mirror u) at || is_heard heard (mirror u))
+-- the UID may be there by a slot whose mask has these keys, at a place, that heard this key or
+-- nobody
+abbrev pub is_allowed : List Name → Option KeyBlock → ℕ → Option ℕ → ℕ → Bool
+is_allowed ns keys at heard u =
+    not (is_in_some_block keys (mirror u))
+    || (is_quiet_by ns (mirror u) at || is_heard heard (mirror u))
 
--- whoever was heard lies in the mask
-abbrev pub IsHeardIn : Option BitMask → Option ℕ → Type 0
-IsHeardIn mask heard =
-    IfSome heard (λ k. (u : ℕ) × IsUid u × (mirror u ≡ k) × (lies_in_some mask u ≡ true))
-
--- the list has a slot more, of this mask, unless no UID lies in it
-pub record AddsSpot (mask : Option BitMask) (at : ℕ) (heard : Option ℕ) (old new : List Spot)
+-- the list has a slot more, whose mask has these keys, unless no UID lies in it
+pub record AddsSpot (keys : Option KeyBlock) (at : ℕ) (heard : Option ℕ) (old new : List Spot)
     : Type 0 where
   pub ranges : All HasRange old → All HasRange new
   pub before : (i : ℕ) → at < i
@@ -41,7 +37,7 @@ pub record AddsSpot (mask : Option BitMask) (at : ℕ) (heard : Option ℕ) (old
       → all_hear_named ns old ≡ true → all_hear_named ns new ≡ true
   pub allow : (ns : List Name) (u : ℕ) → IsUid u
       → all_allow ns new (mirror u)
-      ≡ (all_allow ns old (mirror u) && is_allowed ns mask at heard u)
+      ≡ (all_allow ns old (mirror u) && is_allowed ns keys at heard u)
   pub kept : (ns : List Name) (i k : ℕ) → i ≤ at
       → all_allow_to ns new i k ≡ all_allow_to ns old i k
 

@@ -5,22 +5,23 @@
 //! one mask answered in the earlier ones too. Of those that ask for as much, the last one alone has
 //! to be looked at.
 
-ghost use Rattle.std.specs.Prelude.{◌≡◌, ◌≤◌, ℕ, ◌+◌, ◌<◌, ◌&&◌, ◌++◌, ◌∷◌, [], true, None, IfSome, List, IfOk, OnOk, MatchResult, length};
+ghost use Rattle.std.specs.Prelude.{◌≡◌, ◌≤◌, ℕ, ◌+◌, ◌<◌, ◌&&◌, ◌++◌, ◌∷◌, [], true, false, None, Some, IfSome, List, IfOk, OnOk, MatchResult, length};
 ghost use Rattle.std.specs.List.{All};
+ghost use Rattle.vic_frame.specs.declared.low_bits_first.KeyBlock.{KeyBlock as KeyBlockValue};
 ghost use Rattle.vic_frame.specs.Uids.{is_uid};
 ghost use Rattle.vic_tree.specs.OpenSet.{SameUids, UpToThree};
 ghost use Rattle.vic_log.specs.declared.entry.Entry.{Entry as EntryValue};
 ghost use Rattle.vic_log.specs.Slots.{slots_of, is_open};
 ghost use Rattle.vic_verdict.specs.Possible.{Lacks};
 ghost use Rattle.vic_verdict.specs.Sweep.{AreInOrder, HaveKeys};
-ghost use Rattle.vic_verdict.specs.Demands.{IsDemandBy, answers_by, IsUnmet, IsUnmetAt, IsAskedAgain, AreFound, AreKept, AreMet, HasNamesInOrder, Keeps};
+ghost use Rattle.vic_verdict.specs.Demands.{IsDemandBy, answers_by, IsUnmet, IsUnmetAt, IsAskedAgain, AreFound, AreKept, AreMet, HasBlock, HasBlocks, HasNamesInOrder, Keeps};
 
 use crate::names::{Name, is_any_quiet, names_between, quiet_between, start_near};
 use arrayvec::ArrayVec;
 use std::alloc::{AllocError, Global};
 use std::mem::replace;
-use vic_frame::low_bits_first::key_range;
-use vic_frame::{Mask, Uid, without_top_byte};
+use vic_frame::Uid;
+use vic_frame::low_bits_first::{KeyBlock, mask_of_keys};
 use vic_tree::OpenSet;
 
 /// What the slots of a possible log ask for, met by its open UIDs.
@@ -44,50 +45,62 @@ pub struct Found {
     pub uids: ArrayVec<Uid, 3>,
 }
 
-/// A slot in which tags answered and none was read. In order, the slots of one mask that ask for as
-/// much stand together, the last one last.
-#[derive(Clone, Copy, PartialEq, Eq, PartialOrd, Ord)]
+/// A slot in which tags answered and none was read. A log may have a million of them, which are
+/// sorted.
+#[derive(Clone, Copy)]
 pub(crate) struct Demand {
-    /// The first key of its mask, so that masks stand in the order of their keys; 0 where no UID
-    /// lies in it.
+    /// The first key of its mask.
     pub first: u64,
-    /// There is none only outside a round, where no slot is.
-    pub mask: Option<Mask>,
-    /// How many tags have to be there.
-    pub need: usize,
+    /// How many bits its mask has, at most 56.
+    pub len: u8,
+    /// How many tags have to be there: 2 in a collision, 1 in a garbled slot.
+    pub need: u8,
     /// The place of its line.
-    pub at: usize,
+    pub at: u32,
 }
 
-/// Adds the demand of a slot.
+impl Demand {
+    /// Its place in the order in which masks stand by their keys, and the slots of one mask that
+    /// ask for as much stand together, the last one last. One number is compared faster than four.
+    fn order(&self) -> u128 {
+        u128::from(self.first) << 64
+            | u128::from(self.len) << 40
+            | u128::from(self.need) << 32
+            | u128::from(self.at)
+    }
+
+    /// The place of its line.
+    fn place(&self) -> usize
+        ensures { result ≡ self.now.at }
+    {
+        self.at as usize
+    }
+}
+
+/// Adds the demand of a slot, given the keys of its mask. Returns false, and adds nothing, if no UID
+/// lies in it.
 pub(crate) fn push_demand(
     demands: &mut Vec<Demand>,
-    mask: &Option<Mask>,
-    need: usize,
-    at: usize,
-) -> Result<(), AllocError>
-    ensures { OnOk result ((first : ℕ) × (demands.new.items ≡ demands.old.items
-        ++ record { first = first; mask = mask.now; need = need; at = at } ∷ [])) }
+    keys: Option<KeyBlock>,
+    need: u8,
+    at: u32,
+) -> Result<bool, AllocError>
+    ensures some { IfOk result (λ yes. yes ≡ true → (b : KeyBlockValue) × (keys ≡ Some b)
+        × (demands.new.items ≡ demands.old.items
+        ++ record { first = b.first; len = b.len; need = need; at = at } ∷ [])) }
+    ensures none { IfOk result (λ yes. yes ≡ false
+        → (keys ≡ None) × (demands.new.items ≡ demands.old.items)) }
 {
-    let first = match mask {
-        Some(mask) => first_key(mask),
-        None => 0,
+    let Some(KeyBlock { first, len }) = keys else {
+        return Ok(false);
     };
     demands.push(Demand {
         first,
-        mask: *mask,
+        len,
         need,
         at,
     })?;
-    Ok(())
-}
-
-/// The first key of a mask, 0 where no UID lies in it.
-fn first_key(mask: &Mask) -> u64 {
-    match without_top_byte(mask) {
-        Some(low) => key_range(&low).0,
-        None => 0,
-    }
+    Ok(true)
 }
 
 /// What a stretch (the lines between two field cycles) asks for: kept until it is known which UIDs
@@ -113,12 +126,12 @@ pub(crate) fn keep_stretch(
     ensures names { OnOk result (names.new.items ≡ []) }
     ensures demands { OnOk result (demands.new.items ≡ []) }
 {
-    demands.retain(|demand| demand.at < cut);
+    demands.retain(|demand| demand.place() < cut);
     if demands.is_empty() {
         names.clear();
         return Ok(());
     }
-    demands.sort_unstable();
+    demands.sort_unstable_by_key(|demand| demand.order());
     stretches.push(Stretch {
         names: replace(names, Vec::new(alloc)),
         demands: replace(demands, Vec::new(alloc)),
@@ -138,23 +151,21 @@ fn respondents<S: OpenSet>(
 ) -> Result<ArrayVec<Uid, 3>, AllocError>
     requires order { AreInOrder names.now }
     requires keys { HaveKeys names.now }
+    requires block { HasBlock demand.now }
     ensures { IfOk result (λ uids.
         UpToThree (λ u. (is_uid u && S.is_open set.now u) && answers_by names.now demand.now u)
         uids.items) }
 {
-    let Some(long) = demand.mask else {
-        return Ok(ArrayVec::new());
-    };
-    let Some(mask) = without_top_byte(&long) else {
-        return Ok(ArrayVec::new());
-    };
+    let Demand { first, len, .. } = *demand;
+    let mask = mask_of_keys(first, len);
     let uids = set.up_to_three(&mask, &[]);
-    let (first, last) = key_range(&mask);
+    let last = KeyBlock { first, len }.last();
     let start = start_near(names, near, first);
-    if !is_any_quiet(names_between(names, start, first, last), &uids, demand.at) {
+    let at = demand.place();
+    if !is_any_quiet(names_between(names, start, first, last), &uids, at) {
         return Ok(uids);
     }
-    let quiet = quiet_between(alloc, names, first, last, demand.at)?;
+    let quiet = quiet_between(alloc, names, first, last, at)?;
     set.up_to_three_besides(alloc, &mask, &quiet)
 }
 
@@ -167,7 +178,8 @@ fn is_asked_again(demands: &[Demand], index: usize) -> bool
     let demand = demands[index];
     match demands.get(index + 1) {
         Some(next) => {
-            next.mask == demand.mask && next.need == demand.need && demand.at <= next.at
+            let is_same = next.first == demand.first && next.len == demand.len;
+            is_same && next.need == demand.need && demand.at <= next.at
         }
         None => false,
     }
@@ -182,11 +194,12 @@ fn is_unmet<S: OpenSet>(
 ) -> Result<bool, AllocError>
     requires order { AreInOrder names.now }
     requires keys { HaveKeys names.now }
+    requires block { HasBlock demand.now }
     ensures { IfOk result (λ yes. yes ≡ true
         → IsUnmet (S.is_open set.now) names.now demand.now) }
 {
     let uids = respondents(alloc, set, names, 0, demand)?;
-    Ok(uids.len() < demand.need)
+    Ok(uids.len() < usize::from(demand.need))
 }
 
 /// The place of the first unmet one of the slots from index `from` to the one before `to`, all of
@@ -201,6 +214,7 @@ fn unmet_between<S: OpenSet>(
 ) -> Result<Option<usize>, AllocError>
     requires order { AreInOrder names.now }
     requires keys { HaveKeys names.now }
+    requires blocks { All HasBlock demands.now }
     requires within { to ≤ length demands.now }
     ensures { IfOk result (λ at. IfSome at
         (IsUnmetAt (S.is_open set.now) names.now demands.now)) }
@@ -212,7 +226,7 @@ fn unmet_between<S: OpenSet>(
         let middle = low + (high - low) / 2;
         let demand = demands[middle];
         if is_unmet(alloc, set, names, &demand)? {
-            first = Some(demand.at);
+            first = Some(demand.place());
             high = middle;
         } else {
             low = middle + 1;
@@ -233,6 +247,7 @@ fn first_unmet<S: OpenSet>(
 ) -> Result<usize, AllocError>
     requires order { AreInOrder names.now }
     requires keys { HaveKeys names.now }
+    requires blocks { All HasBlock demands.now }
     requires known { IsUnmetAt (S.is_open set.now) names.now demands.now known }
     ensures { IfOk result (IsUnmetAt (S.is_open set.now) names.now demands.now) }
 {
@@ -262,6 +277,7 @@ fn meet_each<S: OpenSet>(
 ) -> Result<Option<usize>, AllocError>
     requires order { AreInOrder names.now }
     requires keys { HaveKeys names.now }
+    requires blocks { All HasBlock demands.now }
     ensures met { IfOk result (λ r. (es : List EntryValue)
         → SameUids (S.is_open set.now) (is_open (slots_of es))
         → All (IsDemandBy es names.now) demands.now → r ≡ None
@@ -276,15 +292,13 @@ fn meet_each<S: OpenSet>(
             let demand = demands[index];
             near = start_near(names, near, demand.first);
             let uids = respondents(alloc, set, names, near, &demand)?;
-            if uids.len() < demand.need {
-                let at = first_unmet(alloc, set, names, demands, start, demand.at)?;
+            let at = demand.place();
+            let need = usize::from(demand.need);
+            if uids.len() < need {
+                let at = first_unmet(alloc, set, names, demands, start, at)?;
                 return Ok(Some(at));
             }
-            found.push(Found {
-                at: demand.at,
-                need: demand.need,
-                uids,
-            })?;
+            found.push(Found { at, need, uids })?;
             start = index + 1;
         }
     }
@@ -299,7 +313,8 @@ pub(crate) fn meet_stretches<S: OpenSet>(
     set: &S,
     stretches: &[Stretch],
 ) -> Result<Result<Vec<Found>, usize>, AllocError>
-    requires { All HasNamesInOrder stretches.now }
+    requires names { All HasNamesInOrder stretches.now }
+    requires blocks { All HasBlocks stretches.now }
     ensures { IfOk result (λ r. (es : List EntryValue)
         → SameUids (S.is_open set.now) (is_open (slots_of es))
         → AreKept es (length es) stretches.now

@@ -4,8 +4,8 @@
 ghost use Rattle.std.specs.Prelude.{◌≡◌, ◌<◌, ◌≤◌, ◌+◌, ℕ, Bool, true, length, nat_lt, ◌++◌, ◌∷◌, [], IfOk, OnOk};
 ghost use Rattle.std.specs.List.{All, list_any};
 ghost use Rattle.std.specs.List.Sorted.{IsNonDecreasing};
-ghost use Rattle.vic_frame.specs.Uids.{IsUid, has};
-ghost use Rattle.vic_frame.specs.LowBitsFirst.{IsKey, mirror};
+ghost use Rattle.vic_frame.specs.Uids.{has};
+ghost use Rattle.vic_frame.specs.LowBitsFirst.{mirror};
 ghost use Rattle.vic_tree.specs.OpenSet.{AreKeys};
 ghost use Rattle.vic_verdict.specs.declared.names.Name.{Name as NameValue};
 ghost use Rattle.vic_verdict.specs.declared.names.TheConstants.{NEVER};
@@ -51,20 +51,18 @@ impl Name {
     }
 }
 
-/// Adds a line that names a UID.
+/// Adds a line that names the UID with a key.
 pub(crate) fn push_name(
     names: &mut Vec<Name>,
-    uid: Uid,
+    key: u64,
     at: u32,
     is_heard: bool,
 ) -> Result<(), AllocError>
-    ensures { OnOk result
-        ((names.new.items ≡ names.old.items
-        ++ record { key = mirror uid; at = at; is_heard = is_heard; left = true } ∷ [])
-        × IsKey (mirror uid) × IsUid uid) }
+    ensures { OnOk result (names.new.items ≡ names.old.items
+        ++ record { key = key; at = at; is_heard = is_heard; left = true } ∷ []) }
 {
     names.push(Name {
-        key: key(uid),
+        key,
         at,
         is_heard,
         left: true,

@@ -1,7 +1,8 @@
 //! One walk over a log, from field cycle to field cycle: which keys its silent and answered slots
 //! close, and what its other slots ask for.
 
-ghost use Rattle.std.specs.Prelude.{ℕ, ◌≡◌, ◌≢◌, ◌+◌, ◌^◌, ◌<◌, false, Bool, List, Some, IsTrue, IfOk, OnOk, slice_get};
+ghost use Rattle.std.specs.Prelude.{ℕ, ◌≡◌, ◌≢◌, ◌+◌, ◌^◌, ◌<◌, false, Bool, List, Some, IsTrue, IfSome, IfOk, OnOk, slice_get};
+ghost use Rattle.vic_frame.specs.LowBitsFirst.{IsBlock, is_in_some_block};
 ghost use Rattle.vic_verdict.specs.LogLines.{AreLogLines};
 ghost use Rattle.vic_log.specs.declared.entry.Entry.{Entry as EntryValue};
 ghost use Rattle.vic_log.specs.declared.entry.Entry.TheVariants.{FieldCycle, Sent};
@@ -9,45 +10,40 @@ ghost use Rattle.vic_verdict.specs.declared.closed.Spot.{Spot as SpotValue};
 ghost use Rattle.vic_verdict.specs.declared.demands.Demand.{Demand as DemandValue};
 ghost use Rattle.vic_log.specs.OpenRounds.{IsCursorAt};
 ghost use Rattle.vic_log.specs.Order.{AreValid};
-ghost use Rattle.vic_log.specs.Rounds.{lies_in_some};
 ghost use Rattle.vic_verdict.specs.Possible.{IsContradictedAt};
-ghost use Rattle.vic_verdict.specs.Stretches.{AddsSpot, HasGathered, IsHeardIn, IsSettled};
+ghost use Rattle.vic_verdict.specs.Stretches.{AddsSpot, HasGathered, IsSettled};
 
 use crate::closed::{LENGTHS, Spot};
 use crate::demands::{Demand, Stretch, keep_stretch, push_demand};
 use crate::names::{Name, push_name};
 use crate::sweep::settle_stretch;
 use std::alloc::{AllocError, Global};
-use vic_frame::low_bits_first::{key, key_range};
-use vic_frame::{Mask, Request, Uid, without_top_byte};
+use vic_frame::low_bits_first::{KeyBlock, key};
+use vic_frame::{Request, Uid};
 use vic_log::{Entry, PackedLine, RoundCursor};
 use vic_tree::KeyRange;
 
-/// Adds a silent or an answered slot, unless no UID lies in its mask.
+/// Adds a silent or an answered slot with the keys of its mask, unless no UID lies in it.
 #[inline(always)]
 fn push_spot(
     spots: &mut Vec<Spot>,
-    mask: &Option<Mask>,
+    keys: Option<KeyBlock>,
     at: u32,
     heard: Option<u64>,
 ) -> Result<(), AllocError>
-    requires { IsHeardIn mask.now heard }
-    ensures { OnOk result (AddsSpot mask.now at heard spots.old.items spots.new.items) }
+    requires { IfSome keys (λ b. IsBlock b.first b.len) }
+    ensures { OnOk result (AddsSpot keys at heard spots.old.items spots.new.items) }
 {
-    let Some(long) = mask else {
-        return Ok(());
-    };
-    let Some(mask) = without_top_byte(long) else {
+    let Some(block) = keys else {
         return Ok(());
     };
     let is_heard = heard.is_some();
-    let (first, _) = key_range(&mask);
     let key = match heard {
         Some(key) => key,
-        None => first,
+        None => block.first,
     };
     spots.push(Spot {
-        mask: first * LENGTHS + mask.len() as u64,
+        mask: block.first * LENGTHS + block.len as u64,
         key,
         at,
         is_heard,
@@ -66,25 +62,26 @@ fn note_sent(names: &mut Vec<Name>, request: &Request, index: usize) -> Result<(
 {
     match *request {
         Request::StayQuiet { uid, .. } => match Uid::new(uid) {
-            Some(tag) => push_name(names, tag, index as u32, false),
+            Some(tag) => push_name(names, key(tag), index as u32, false),
             None => Ok(()),
         },
         Request::Inventory { .. } => Ok(()),
     }
 }
 
-/// Whether a UID lies in a mask, where there is one.
-fn lies_in(mask: &Option<Mask>, uid: Uid) -> bool
-    ensures { result ≡ lies_in_some mask.now uid }
+/// Whether a key is one of those of a mask, if any UID lies in it.
+fn lies_in(keys: Option<KeyBlock>, key: u64) -> bool
+    requires { IfSome keys (λ b. IsBlock b.first b.len) }
+    ensures { result ≡ is_in_some_block keys key }
 {
-    match mask {
-        Some(mask) => mask.matches(uid),
+    match keys {
+        Some(block) => block.holds(key),
         None => false,
     }
 }
 
 /// Gathers what an entry other than a field cycle tells. Returns false, and gathers nothing, where
-/// it heard a UID that doesn't lie in the mask of its slot.
+/// it heard a UID that doesn't lie in the mask of its slot, or tags answered though none could have.
 #[inline(always)]
 fn note_entry(
     names: &mut Vec<Name>,
@@ -110,18 +107,18 @@ fn note_entry(
 {
     match *entry {
         Entry::Sent(request) => note_sent(names, &request, index)?,
-        Entry::Silent => push_spot(spots, &cursor.mask(), index as u32, None)?,
+        Entry::Silent => push_spot(spots, cursor.keys(), index as u32, None)?,
         Entry::Heard(response) => {
-            let mask = cursor.mask();
-            let uid = response.uid();
-            if !lies_in(&mask, uid) {
+            let keys = cursor.keys();
+            let heard = key(response.uid());
+            if !lies_in(keys, heard) {
                 return Ok(false);
             }
-            push_name(names, uid, index as u32, true)?;
-            push_spot(spots, &mask, index as u32, Some(key(uid)))?;
+            push_name(names, heard, index as u32, true)?;
+            push_spot(spots, keys, index as u32, Some(heard))?;
         }
-        Entry::Collision => push_demand(demands, &cursor.mask(), 2, index)?,
-        Entry::Garbled => push_demand(demands, &cursor.mask(), 1, index)?,
+        Entry::Collision => return push_demand(demands, cursor.keys(), 2, index as u32),
+        Entry::Garbled => return push_demand(demands, cursor.keys(), 1, index as u32),
         Entry::Listed(_) | Entry::FieldCycle => {}
     }
     Ok(true)
@@ -134,7 +131,8 @@ pub(crate) struct Settled {
     pub closed: Vec<KeyRange>,
     /// The stretches whose other slots ask for tags.
     pub stretches: Vec<Stretch>,
-    /// The end of the log, or the place of a line that heard a UID which couldn't have answered.
+    /// The end of the log, or the place of a line that couldn't be: a reply of a UID that couldn't
+    /// have answered, or tags in a mask that holds no UID.
     pub cut: usize,
 }
 

@@ -26,5 +26,5 @@ returns-clause-kept c =
       record { names = c.replace.result; demands = c.replace-2.result },
       c.in_ok-push.ensures.items,
       ap (λ v. v.items) c.replace.ensures.value,
-      subst (λ xs. IsPermutation xs c.replace-2.result.items) only (subst (IsPermutation c.retain.new.self.items) (sym sorted) c.sort_unstable.ensures.permutation),
+      subst (λ xs. IsPermutation xs c.replace-2.result.items) only (subst (IsPermutation c.retain.new.self.items) (sym sorted) c.sort_unstable_by_key.ensures.permutation),
     )

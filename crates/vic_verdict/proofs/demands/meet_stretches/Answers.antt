@@ -4,7 +4,7 @@ use Rattle.vic_log.specs.declared.entry.Entry.{Entry}
 use Rattle.vic_verdict.specs.declared.demands.Demand.{Demand}
 use Rattle.vic_verdict.specs.declared.demands.Stretch.{Stretch}
 use Rattle.vic_verdict.specs.declared.names.Name.{Name}
-use Rattle.vic_verdict.specs.Demands.{HasNamesInOrder, IsDemandBy, IsKept}
+use Rattle.vic_verdict.specs.Demands.{HasBlock, HasBlocks, HasNamesInOrder, IsDemandBy, IsKept}
 use Rattle.vic_verdict.specs.Sweep.{AreInOrder, HaveKeys}
 use Rattle.vic_verdict.proofs.Demanding.{AreFoundTo, found_first, found_more, found_all, some_is, unmet_lacks}
 use Rattle.vic_verdict.proofs.demands.meet_stretches.Goals as goal
@@ -14,13 +14,18 @@ loop-stretch-init g c es same kept = subst (AreFoundTo es c.args.stretches.now 0
 
 pub meet_each-requires-clause-order : goal.meet_each-requires-clause-order
 meet_each-requires-clause-order g c =
-    let s = subst HasNamesInOrder (sym c.stretch-item.is) (c.requires c.loop-stretch.stretch-index c.stretch-item.result c.loop-stretch-test.true) in
+    let s = subst HasNamesInOrder (sym c.stretch-item.is) (c.requires.names c.loop-stretch.stretch-index c.stretch-item.result c.loop-stretch-test.true) in
     subst AreInOrder (sym c.deref.ensures.value) s.order
 
 pub meet_each-requires-clause-keys : goal.meet_each-requires-clause-keys
 meet_each-requires-clause-keys g c =
-    let s = subst HasNamesInOrder (sym c.stretch-item.is) (c.requires c.loop-stretch.stretch-index c.stretch-item.result c.loop-stretch-test.true) in
+    let s = subst HasNamesInOrder (sym c.stretch-item.is) (c.requires.names c.loop-stretch.stretch-index c.stretch-item.result c.loop-stretch-test.true) in
     subst HaveKeys (sym c.deref.ensures.value) s.keys
+
+pub meet_each-requires-clause-blocks : goal.meet_each-requires-clause-blocks
+meet_each-requires-clause-blocks g c =
+    let s = subst HasBlocks (sym c.stretch-item.is) (c.requires.blocks c.loop-stretch.stretch-index c.stretch-item.result c.loop-stretch-test.true) in
+    subst (All HasBlock) (sym c.deref-in-loop-stretch.ensures.value) s
 
 -- the demands of a stretch, as they are lent
 lent : (es : List Entry) (s : Stretch) (ns : List Name) (ds : List Demand) → ns ≡ s.names.items → ds ≡ s.demands.items → IsKept es (length es) s → All (IsDemandBy es ns) ds

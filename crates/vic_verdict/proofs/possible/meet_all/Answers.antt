@@ -6,7 +6,7 @@ use Rattle.vic_log.specs.declared.entry.LogLine.{LogLine}
 use Rattle.vic_log.specs.Order.{entries}
 use Rattle.vic_verdict.specs.Possible.{Lacks}
 use Rattle.vic_verdict.specs.Demands.{AreFound}
-use Rattle.vic_verdict.proofs.Demanding.{kept_in_order}
+use Rattle.vic_verdict.proofs.Demanding.{kept_blocks, kept_in_order}
 use Rattle.vic_verdict.proofs.Lacking.{lacking_within, contradicted}
 use Rattle.vic_verdict.proofs.Meeting.{LacksHeard, heard_lacks, met_is_possible, is_met}
 use Rattle.vic_verdict.proofs.possible.meet_all.Goals as goal
@@ -37,8 +37,11 @@ returns-then-not-branch g c =
       before = λ e. absurd (cc);
     }
 
-pub meet_stretches-requires : goal.meet_stretches-requires
-meet_stretches-requires g c = kept_in_order (entries c.args.lines.now) _ c.args.stretches.now c.requires.kept
+pub meet_stretches-requires-clause-names : goal.meet_stretches-requires-clause-names
+meet_stretches-requires-clause-names g c = kept_in_order (entries c.args.lines.now) _ c.args.stretches.now c.requires.kept
+
+pub meet_stretches-requires-clause-blocks : goal.meet_stretches-requires-clause-blocks
+meet_stretches-requires-clause-blocks g c = kept_blocks (entries c.args.lines.now) _ c.args.stretches.now c.requires.kept
 
 pub last_ruling-at-requires : goal.last_ruling-at-requires
 last_ruling-at-requires g c =

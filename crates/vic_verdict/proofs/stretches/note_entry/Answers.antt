@@ -1,15 +1,17 @@
-use Rattle.std.proofs.Common.{◌≡◌, ◌+◌, ℕ, List, Bool, ⊎_elim, ◌==◌, ◌∙◌, ◌||◌, not, false, true, refl, ap, sym, Some, None, subst, ◌++◌, [], ◌∷◌, arith}
-use Rattle.std.specs.Prelude.{slice_get}
-use Rattle.vic_frame.specs.LowBitsFirst.{mirror}
+use Rattle.std.proofs.Common.{◌≡◌, ◌+◌, ℕ, List, Bool, ⊎_elim, ◌==◌, ◌∙◌, ◌||◌, not, false, true, refl, ap, sym, Option, Some, None, subst, arith}
+use Rattle.std.specs.Prelude.{IfSome, slice_get}
+use Rattle.std.proofs.lemmas.Result.{IfOk-weaker}
+use Rattle.vic_frame.specs.declared.low_bits_first.KeyBlock.{KeyBlock}
+use Rattle.vic_frame.specs.LowBitsFirst.{IsBlock, is_in_some_block, mirror}
 use Rattle.vic_frame.specs.Uids.{IsUid}
 use Rattle.vic_log.specs.declared.entry.Entry.{Entry}
 use Rattle.vic_log.specs.declared.entry.Entry.TheVariants.{Silent, Collision, Garbled, Listed, Heard}
-use Rattle.vic_log.specs.Rounds.{lies_in_some}
+use Rattle.vic_log.specs.Rounds.{lies_in_some, mask_at}
 use Rattle.vic_verdict.specs.declared.names.Name.{Name}
 use Rattle.vic_verdict.specs.Stretches.{HasGathered}
 use Rattle.vic_verdict.specs.Sweep.{is_named}
 use Rattle.vic_verdict.proofs.Demanding.{asked_nothing, asked_more}
-use Rattle.vic_verdict.proofs.Heard.{outside_reply, heard_more, heard_passed}
+use Rattle.vic_verdict.proofs.Heard.{outside_reply, nobody_there, heard_more, heard_passed}
 use Rattle.vic_verdict.proofs.Stretching.{named_here, stretch_named, stretch_passed, stretch_spotted, heard_key}
 use Rattle.vic_verdict.proofs.stretches.note_entry.Goals as goal
 
@@ -17,7 +19,9 @@ pub returns-then-not-lies_in-clause-unfit : goal.returns-then-not-lies_in-clause
 returns-then-not-lies_in-clause-unfit c es k valid at failed =
     let r = c.in-Heard.response in
     outside_reply es c.args.index r (k ∙ ap (λ (e : Entry). Some e) c.in-Heard.is)
-    (ap (λ o. lies_in_some o r.uid) (sym (c.mask-mask.ensures es c.args.index valid at)) ∙ (ap (λ u. lies_in_some c.mask-mask.result u) (sym c.uid-uid.ensures.value) ∙ (sym c.lies_in.ensures ∙ c.if-not-lies_in.true)))
+    (ap (λ u. lies_in_some (mask_at es c.args.index) u) (sym c.uid.ensures.value)
+    ∙ (sym (c.keys-keys.ensures.inside es c.args.index c.uid.result valid at c.key-heard.ensures.is_uid)
+    ∙ (ap (is_in_some_block c.keys-keys.result) (sym c.key-heard.ensures.value) ∙ (sym c.lies_in.ensures ∙ c.if-not-lies_in.true))))
 
 pub returns-in_ok-note_sent-in-Sent-clause-gathered : goal.returns-in_ok-note_sent-in-Sent-clause-gathered
 returns-in_ok-note_sent-in-Sent-clause-gathered c es from set k valid at other fits h =
@@ -29,7 +33,7 @@ returns-in_ok-push_spot-in-Silent-clause-gathered c es from set k valid at other
     let i = c.args.index in
     let names = c.args.names.now.items in
     record {
-      stretch = stretch_spotted es from i set names c.args.spots.now.items c.push_spot.new.spots.items Silent c.mask.result None here c.requires (c.mask.ensures es c.args.index valid at) refl (λ u w. refl) (λ b u w. no b) refl c.in_ok-push_spot-in-Silent.ensures h.stretch;
+      stretch = stretch_spotted es from i set names c.args.spots.now.items c.push_spot.new.spots.items Silent c.keys.result None here c.requires (λ u w. c.keys.ensures.inside es i u valid at w) refl (λ u w. refl) (λ b u w. no b) refl c.in_ok-push_spot-in-Silent.ensures h.stretch;
       heard = heard_passed es from i names Silent here c.requires (λ r e. cc) refl (λ u w. refl) h.heard;
       asked = asked_nothing es from i c.args.demands.now.items Silent h.heard.begun here refl h.asked;
     }
@@ -42,46 +46,68 @@ pub returns-in_ok-push_spot-in-Heard-clause-gathered : goal.returns-in_ok-push_s
 returns-in_ok-push_spot-in-Heard-clause-gathered c es from set k valid at other fits h =
     let r = c.in-Heard.response in
     let here = k ∙ ap (λ e. Some e) c.in-Heard.is in
-    let uid = c.uid-uid.result in
+    let uid = c.uid.result in
     let i = c.args.index in
     let names = c.args.names.now.items in
     let new = c.push_name.new.names.items in
-    let n : Name = record { key = mirror uid; at = i; is_heard = true; left = true } in
-    let told = c.in_ok-push_name-in-Heard.ensures in
-    let named = stretch_named es from i set names new c.args.spots.now.items n c.requires told.1 refl refl told.0 h.stretch in
-    let inside = ap (λ o. lies_in_some o r.uid) (sym (c.mask-mask.ensures es c.args.index valid at)) ∙ (ap (λ u. lies_in_some c.mask-mask.result u) (sym c.uid-uid.ensures.value) ∙ (sym c.lies_in.ensures ∙ c.if-not-lies_in.false)) in
+    let n : Name = record { key = c.key-heard.result; at = i; is_heard = true; left = true } in
+    let told = c.key-heard.ensures in
+    let pushed = c.in_ok-push_name-in-Heard.ensures in
+    let named = stretch_named es from i set names new c.args.spots.now.items n c.requires told.small refl refl pushed h.stretch in
+    let inside = ap (λ u. lies_in_some (mask_at es i) u) (sym c.uid.ensures.value) ∙ (sym (c.keys-keys.ensures.inside es i uid valid at told.is_uid) ∙ (ap (is_in_some_block c.keys-keys.result) (sym told.value) ∙ (sym c.lies_in.ensures ∙ c.if-not-lies_in.false))) in
     record {
-      stretch = stretch_spotted es from i set new c.args.spots.now.items c.push_spot-in-Heard.new.spots.items (Heard r) c.mask-mask.result (Some c.key.result) here c.requires (c.mask-mask.ensures es c.args.index valid at) refl (λ u w. refl)
-          (λ b u w. ap (λ x. not b || x) (ap (λ v. u == v) (sym c.uid-uid.ensures.value) ∙ (heard_key uid u told.2 w ∙ ap (λ v. v == mirror u) (sym c.key.ensures.value))))
-          (ap (λ ms. is_named ms c.key.result) told.0 ∙ (ap (λ v. is_named (names ++ n ∷ []) v) c.key.ensures.value ∙ named_here names n))
+      stretch = stretch_spotted es from i set new c.args.spots.now.items c.push_spot-in-Heard.new.spots.items (Heard r) c.keys-keys.result (Some c.key-heard.result) here c.requires (λ u w. c.keys-keys.ensures.inside es i u valid at w) refl (λ u w. refl)
+          (λ b u w. ap (λ x. not b || x) (ap (λ v. u == v) (sym c.uid.ensures.value) ∙ (heard_key uid u told.is_uid w ∙ ap (λ v. v == mirror u) (sym told.value))))
+          (ap (λ ms. is_named ms c.key-heard.result) pushed ∙ named_here names n)
           c.in_ok-push_spot-in-Heard.ensures named;
-      heard = heard_more es from i names new r n here c.requires (ap mirror c.uid-uid.ensures.value) (subst IsUid c.uid-uid.ensures.value told.2) refl refl inside told.0 h.heard;
+      heard = heard_more es from i names new r n here c.requires (told.value ∙ ap mirror c.uid.ensures.value) (subst IsUid c.uid.ensures.value told.is_uid) refl refl inside pushed h.heard;
       asked = asked_nothing es from i c.args.demands.now.items (Heard r) h.heard.begun here refl h.asked;
     }
 
-pub returns-in_ok-push_demand-in-Collision-clause-gathered : goal.returns-in_ok-push_demand-in-Collision-clause-gathered
-returns-in_ok-push_demand-in-Collision-clause-gathered c es from set k valid at other fits h =
+has_block : (o : Option KeyBlock) (b : KeyBlock) → o ≡ Some b → IfSome o (λ r. IsBlock r.first r.len) → IsBlock b.first b.len
+has_block o b e h = subst (λ r. IfSome r (λ s. IsBlock s.first s.len)) e h
+
+pub returns-in-Collision-clause-gathered : goal.returns-in-Collision-clause-gathered
+returns-in-Collision-clause-gathered c = IfOk-weaker c.push_demand.result _ _ (λ yes told es from set k valid at other fits h.
     let here = k ∙ ap (λ e. Some e) c.in-Collision.is in
-    let more = c.in_ok-push_demand-in-Collision.ensures in
+    let more = told fits in
     let i = c.args.index in
     let names = c.args.names.now.items in
+    let keys = c.keys-in-Collision.ensures in
     record {
       stretch = stretch_passed es from i set names c.args.spots.now.items Collision here c.requires refl (λ u w. refl) (λ b u. refl) h.stretch;
       heard = heard_passed es from i names Collision here c.requires (λ r e. cc) refl (λ u w. refl) h.heard;
-      asked = asked_more es from i c.args.demands.now.items c.push_demand.new.demands.items Collision (record { first = more.0; mask = c.mask-in-Collision.result; need = 2; at = i }) h.heard.begun here refl (omega arith) (c.mask-in-Collision.ensures es c.args.index valid at) refl more.1 h.asked;
-    }
+      asked = asked_more es from i c.args.demands.now.items c.push_demand.new.demands.items Collision (record { first = more.0.first; len = more.0.len; need = 2; at = i }) h.heard.begun here refl (omega arith)
+          (has_block c.keys-in-Collision.result more.0 more.1 keys.block)
+          (λ u w. ap (λ o. is_in_some_block o (mirror u)) (sym more.1) ∙ keys.inside es i u valid at w)
+          refl more.2 h.asked;
+    }) c.push_demand.ensures.some
 
-pub returns-in_ok-push_demand-in-Garbled-clause-gathered : goal.returns-in_ok-push_demand-in-Garbled-clause-gathered
-returns-in_ok-push_demand-in-Garbled-clause-gathered c es from set k valid at other fits h =
+pub returns-in-Collision-clause-unfit : goal.returns-in-Collision-clause-unfit
+returns-in-Collision-clause-unfit c = IfOk-weaker c.push_demand.result _ _ (λ yes told es k valid at failed.
+    nobody_there es c.args.index Collision (k ∙ ap (λ e. Some e) c.in-Collision.is) (omega arith)
+    (λ u w. sym (c.keys-in-Collision.ensures.inside es c.args.index u valid at w) ∙ ap (λ o. is_in_some_block o (mirror u)) (told failed).0)) c.push_demand.ensures.none
+
+pub returns-in-Garbled-clause-gathered : goal.returns-in-Garbled-clause-gathered
+returns-in-Garbled-clause-gathered c = IfOk-weaker c.push_demand-in-Garbled.result _ _ (λ yes told es from set k valid at other fits h.
     let here = k ∙ ap (λ e. Some e) c.in-Garbled.is in
-    let more = c.in_ok-push_demand-in-Garbled.ensures in
+    let more = told fits in
     let i = c.args.index in
     let names = c.args.names.now.items in
+    let keys = c.keys-in-Garbled.ensures in
     record {
       stretch = stretch_passed es from i set names c.args.spots.now.items Garbled here c.requires refl (λ u w. refl) (λ b u. refl) h.stretch;
       heard = heard_passed es from i names Garbled here c.requires (λ r e. cc) refl (λ u w. refl) h.heard;
-      asked = asked_more es from i c.args.demands.now.items c.push_demand-in-Garbled.new.demands.items Garbled (record { first = more.0; mask = c.mask-in-Garbled.result; need = 1; at = i }) h.heard.begun here refl (omega arith) (c.mask-in-Garbled.ensures es c.args.index valid at) refl more.1 h.asked;
-    }
+      asked = asked_more es from i c.args.demands.now.items c.push_demand-in-Garbled.new.demands.items Garbled (record { first = more.0.first; len = more.0.len; need = 1; at = i }) h.heard.begun here refl (omega arith)
+          (has_block c.keys-in-Garbled.result more.0 more.1 keys.block)
+          (λ u w. ap (λ o. is_in_some_block o (mirror u)) (sym more.1) ∙ keys.inside es i u valid at w)
+          refl more.2 h.asked;
+    }) c.push_demand-in-Garbled.ensures.some
+
+pub returns-in-Garbled-clause-unfit : goal.returns-in-Garbled-clause-unfit
+returns-in-Garbled-clause-unfit c = IfOk-weaker c.push_demand-in-Garbled.result _ _ (λ yes told es k valid at failed.
+    nobody_there es c.args.index Garbled (k ∙ ap (λ e. Some e) c.in-Garbled.is) (omega arith)
+    (λ u w. sym (c.keys-in-Garbled.ensures.inside es c.args.index u valid at w) ∙ ap (λ o. is_in_some_block o (mirror u)) (told failed).0)) c.push_demand-in-Garbled.ensures.none
 
 pub returns-in-Listed-clause-gathered : goal.returns-in-Listed-clause-gathered
 returns-in-Listed-clause-gathered c es from set k valid at other fits h =

@@ -26,10 +26,11 @@ returns-in-Some c = on_ok_weaker c.push_name.result (λ done es from set ss ds k
     let i = c.args.index in
     let old = c.args.names.now.items in
     let new = c.push_name.new.names.items in
-    let n : Name = record { key = mirror c.in-Some.tag; at = i; is_heard = false; left = true } in
+    let n : Name = record { key = c.key.result; at = i; is_heard = false; left = true } in
+    let told = c.key.ensures in
     record {
-      stretch = stretch_silenced es from i set old new ss e n here c.requires refl (λ u w. ap (λ v. v == u) (sym same) ∙ silenced_key c.in-Some.tag u done.2 w) (λ b u. refl) done.1 refl refl refl done.0 h.stretch;
-      heard = heard_silenced es from i old new e n here c.requires (sent_hears_nobody q) refl (λ u w. ap (λ v. v == u) (sym same) ∙ silenced_key c.in-Some.tag u done.2 w) refl refl done.0 h.heard;
+      stretch = stretch_silenced es from i set old new ss e n here c.requires refl (λ u w. ap (λ v. v == u) (sym same) ∙ silenced_key c.in-Some.tag u told.is_uid w ∙ ap (λ v. v == mirror u) (sym told.value)) (λ b u. refl) told.small refl refl refl done h.stretch;
+      heard = heard_silenced es from i old new e n here c.requires (sent_hears_nobody q) refl (λ u w. ap (λ v. v == u) (sym same) ∙ silenced_key c.in-Some.tag u told.is_uid w ∙ ap (λ v. v == mirror u) (sym told.value)) refl refl done h.heard;
       asked = asked_nothing es from i ds e h.heard.begun here refl h.asked;
     }) c.push_name.ensures
 
