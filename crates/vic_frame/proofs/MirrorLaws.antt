@@ -157,8 +157,8 @@ in_span l h v u e below =
 
 -- the first key of a block, turned round, is the value of its mask
 pub block_value : (l h k : ℕ) → 56 ≡ l + h → k % 2 ^ h ≡ 0 → mirror k < 2 ^ l
-block_value l h k e even =
-    let low : mirror_bits h k ≡ 0 = sym (mirror_mod h k) ∙ ap (mirror_bits h) even ∙ mirror_none h in
+block_value l h k e aligned =
+    let low : mirror_bits h k ≡ 0 = sym (mirror_mod h k) ∙ ap (mirror_bits h) aligned ∙ mirror_none h in
     let is : mirror k ≡ 0 * 2 ^ l + mirror_bits l (k / 2 ^ h) = mirror_split h l 56 k (omega arith) ∙ ap (λ (x : ℕ). x * 2 ^ l + mirror_bits l (k / 2 ^ h)) low in
     let below = mirror_below l (k / 2 ^ h) in
     omega arith
@@ -185,7 +185,7 @@ first_is_block m is_mask short =
     record {
       short = short;
       keys = omega (arith, first, ends, next, all, pos);
-      even = ap (λ (x : ℕ). x % 2 ^ h) first ∙ multiple n (2 ^ h) pos;
+      aligned = ap (λ (x : ℕ). x % 2 ^ h) first ∙ multiple n (2 ^ h) pos;
     }
 
 -- ---- the keys of slots

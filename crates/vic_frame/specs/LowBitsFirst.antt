@@ -20,12 +20,12 @@ IsKey k = k < 2 ^ UID_BITS
 abbrev pub mirror : ℕ → ℕ
 mirror u = mirror_bits UID_BITS u
 
--- the first key of a request's mask of at most 56 bits; Stay Quiet has no mask
+-- the key of the first UID in a request's mask that holds one; Stay Quiet has no mask
 abbrev pub first_key_of : Request → ℕ
 first_key_of (Inventory link sixteen m) = mirror m.value
 first_key_of (StayQuiet link uid) = 0
 
--- the UID at a place
+-- the UID with a key
 abbrev pub uid_of : ℕ → ℕ
 uid_of k = uid_from_low_bits (mirror k)
 
@@ -42,4 +42,4 @@ is_in_some_block None k = false
 pub record IsBlock (first len : ℕ) : Type 0 where
   pub short : len ≤ UID_BITS
   pub keys : IsKey (first + (2 ^ (UID_BITS - len) - 1))
-  pub even : first % 2 ^ (UID_BITS - len) ≡ 0
+  pub aligned : first % 2 ^ (UID_BITS - len) ≡ 0

@@ -1,7 +1,7 @@
 //! UIDs in the order of their bits read from the lowest up.
 //!
 //! In this order the UIDs of a mask stand together, so that a sorted set finds them by one range.
-//! A UID's place is its 56 low bits turned round, a number below `2^56`.
+//! A UID's key is its place in the order: its 56 low bits turned round, a number below `2^56`.
 
 ghost use Rattle.std.specs.Prelude.{◌≡◌, ℕ, ◌+◌, ◌-◌, ◌^◌, ◌≤◌, ◌&&◌, IfSome, nat_le};
 ghost use Rattle.vic_frame.specs.Uids.{IsUid};
@@ -11,12 +11,12 @@ ghost use Rattle.vic_frame.specs.LowBitsFirst.{IsBlock, IsKey, is_in_block, is_i
 use crate::mask::{Mask, without_top_byte};
 use crate::uid::{UID_BITS, Uid};
 
-/// The places of the UIDs in a mask of at most 56 bits, which stand together.
+/// The keys of the UIDs in a mask of at most 56 bits, which stand together.
 #[derive(Clone, Copy)]
 pub struct KeyBlock {
     /// The first one.
     pub first: u64,
-    /// How many bits the mask fixes: there are `2^(56 - len)` places.
+    /// How many bits the mask has: there are `2^(56 - len)` keys.
     pub len: u8,
 }
 
@@ -29,7 +29,7 @@ impl KeyBlock {
         self.first + ((1 << (UID_BITS - self.len)) - 1)
     }
 
-    /// Whether a place is one of them.
+    /// Whether a key is one of them.
     pub fn holds(&self, key: u64) -> bool
         requires { IsBlock self.now.first self.now.len }
         ensures { result ≡ is_in_block self.now.first self.now.len key }
@@ -38,7 +38,7 @@ impl KeyBlock {
     }
 }
 
-/// The place of a UID in the order. Different UIDs have different places.
+/// The key of a UID. Different UIDs have different keys.
 pub fn key(uid: Uid) -> u64
     ensures value { result ≡ mirror uid }
     ensures small { IsKey result }
@@ -48,7 +48,7 @@ pub fn key(uid: Uid) -> u64
     turn_round(uid.number())
 }
 
-/// The UID at a place below `2^56`.
+/// The UID with a key below `2^56`.
 pub fn uid_at(key: u64) -> Uid
     requires { IsKey key }
     ensures value { result ≡ uid_of key }
@@ -58,8 +58,8 @@ pub fn uid_at(key: u64) -> Uid
     Uid::from_low_bits(turn_round(key))
 }
 
-/// The first and the last place of a mask's UIDs: a UID lies in the mask exactly where its place
-/// is between them, both counted. For a longer mask take `without_top_byte` first.
+/// The first and the last key of a mask's UIDs: a UID lies in the mask exactly where its key is
+/// between them, both counted. For a longer mask take `without_top_byte` first.
 pub fn key_range(mask: &Mask) -> (u64, u64)
     requires { mask.now.len ≤ UID_BITS }
     ensures first { result.0 ≡ mirror mask.now.value }
@@ -73,7 +73,7 @@ pub fn key_range(mask: &Mask) -> (u64, u64)
     (first, first + more)
 }
 
-/// The mask of `len` bits, at most 56, whose first UID's place is `first`: a multiple of
+/// The mask of `len` bits, at most 56, whose first UID has the key `first`: a multiple of
 /// `2^(56 - len)` below `2^56`.
 pub fn mask_of_keys(first: u64, len: u8) -> Mask
     requires { IsBlock first len }
@@ -84,14 +84,14 @@ pub fn mask_of_keys(first: u64, len: u8) -> Mask
     Mask::of_bits(len, turn_round(first))
 }
 
-/// The place of the first UID in a mask of at most 56 bits.
+/// The key of the first UID in a mask that holds one.
 pub fn first_key(mask: &Mask) -> u64
     ensures { result ≡ mirror mask.now.value }
 {
     turn_round(mask.value())
 }
 
-/// The places of the UIDs in a mask; `None` if the mask holds no UID.
+/// The keys of the UIDs in a mask; `None` if the mask holds no UID.
 pub fn keys_of(mask: &Mask) -> Option<KeyBlock>
     ensures block { IfSome result (λ b. IsBlock b.first b.len) }
     ensures inside { (u : ℕ) → IsUid u
@@ -106,7 +106,7 @@ pub fn keys_of(mask: &Mask) -> Option<KeyBlock>
     }
 }
 
-/// The places of the UIDs in slot `k` of sixteen of a mask of at most 52 bits, whose first place is
+/// The keys of the UIDs in slot `k` of sixteen of a mask of at most 52 bits, whose first key is
 /// known. The first one in the slot differs from it by the slot's four bits.
 #[inline(always)]
 pub fn keys_of_slot(mask: &Mask, first: u64, k: u8) -> KeyBlock

@@ -16,7 +16,8 @@ use std::marker::Model;
 use vic_frame::low_bits_first::{KeyBlock, first_key, keys_of, keys_of_slot};
 use vic_frame::{Mask, Request, UID_BITS};
 
-/// A round that is open (ISO/IEC 15693-3, inventory sequence).
+/// A round that is open (ISO/IEC 15693-3, inventory sequence). Contracts alone speak of it: it is
+/// the value of a `KeyedRound`.
 #[derive(Clone, Copy)]
 pub struct OpenRound {
     /// The request that opened it.

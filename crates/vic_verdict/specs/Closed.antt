@@ -11,9 +11,9 @@ abbrev pub is_in_some : List Spot → ℕ → Bool
 is_in_some spots k = list_any (λ s. is_in s k) spots
 
 -- the key is in the range, if there is one
-abbrev pub is_in_if : Option (ℕ × ℕ) → ℕ → Bool
-is_in_if None k = false
-is_in_if (Some r) k = is_between r.0 r.1 k
+abbrev pub is_in_some_range : Option (ℕ × ℕ) → ℕ → Bool
+is_in_some_range None k = false
+is_in_some_range (Some r) k = is_between r.0 r.1 k
 
 -- the new ranges have the keys of the old ones, and those that pass a test but for the keys of
 -- names left
@@ -25,4 +25,4 @@ Closes ns test old new =
 -- the key is in one of the ranges, or will be once one more, if there is one, is closed but for
 -- the keys of names left
 abbrev pub closes_with : List Name → List (ℕ × ℕ) → Option (ℕ × ℕ) → ℕ → Bool
-closes_with ns closed range k = in_ranges closed k || (is_in_if range k && not (has_left ns k))
+closes_with ns closed range k = in_ranges closed k || (is_in_some_range range k && not (has_left ns k))

@@ -67,7 +67,7 @@ pub record Meets (es : List Entry) (f : Found) (i : ℕ) : Type 0 where
       → answering (is_open (slots_of es)) es i u ≡ true
 
 -- what meets each slot line that asks for tags and names none, no more in all than the lines ask
--- for. So such a line makes a UID certain where it is one of exactly as many as it asks for
+-- for
 pub record AreFound (es : List Entry) (fs : List Found) : Type 0 where
   pub found : All (IsFound es) fs
   pub met : (i : ℕ) → 0 < needs_at es i → Any (λ (f : Found). Meets es f i) fs
@@ -78,7 +78,7 @@ pub record IsMet (es : List Entry) (m : Met) : Type 0 where
   pub heard : (u : ℕ) → (has m.heard.items u ≡ true) ↔ IsHeard es u
   pub found : AreFound es m.found.items
 
--- some slot was found to be met by as many as it takes, the UID among them
+-- some slot was found to be met by as many as it takes, the UID among them. So the UID is certain
 abbrev pub IsExactFor : List Found → ℕ → Type 0
 IsExactFor fs u =
     Any (λ (f : Found). (length f.uids.items ≡ f.need) × (has f.uids.items u ≡ true)) fs
@@ -134,11 +134,13 @@ pub record IsImpliedBy (d next : Demand) : Type 0 where
   pub need : d.need ≡ next.need
   pub later : d.at ≤ next.at
 
+-- behind the demand at index k stands one by which it is implied
 abbrev pub IsAskedAgain : List Demand → ℕ → Type 0
 IsAskedAgain ds k = (k + 1 < length ds)
     × ((d : Demand) → IsImpliedBy (slice_index_or ds k d) (slice_index_or ds (k + 1) d))
 
--- what is found for the slots of some demands, more than was found before
+-- what is found for the slots of some demands, more than was found before, but no more than they ask
+-- for
 pub record AreMet (es : List Entry) (ds : List Demand) (old new : List Found) : Type 0 where
   pub found : All (IsFound es) old → All (IsFound es) new
   pub kept : (i : ℕ) → Any (λ (f : Found). Meets es f i) old
@@ -159,7 +161,8 @@ is_asked ds i = list_any (λ (d : Demand). d.at == i) ds
 abbrev pub asked_by : List Demand → ℕ
 asked_by ds = sum_by (λ (d : Demand). d.need) ds
 
--- the demands of the entries from a place on, behind the last field cycle, up to place i
+-- the demands of the entries from a place on, behind the last field cycle, up to place i: no more
+-- than these entries ask for
 pub record AreAsked (es : List Entry) (from i : ℕ) (ds : List Demand) : Type 0 where
   pub demands : All (IsDemand es from i) ds
   pub asked : (j : ℕ) → from ≤ j → j < i → 0 < needs_at es j → is_asked ds j ≡ true
@@ -183,7 +186,7 @@ pub record IsKept (es : List Entry) (i : ℕ) (s : Stretch) : Type 0 where
   pub places : All (λ (d : Demand). d.at < i) s.demands.items
   pub demands : All (IsDemandBy es s.names.items) s.demands.items
 
--- the stretches have the demands of the entries up to place i
+-- the stretches have the demands of the entries up to place i, no more than these ask for
 pub record AreKept (es : List Entry) (i : ℕ) (ss : List Stretch) : Type 0 where
   pub kept : All (IsKept es i) ss
   pub asked : (j : ℕ) → j < i → 0 < needs_at es j

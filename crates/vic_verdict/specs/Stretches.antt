@@ -20,8 +20,8 @@ use Rattle.vic_verdict.specs.declared.demands.Demand.{Demand}
 use Rattle.vic_verdict.specs.Demands.{AreAsked, AreKept}
 use Rattle.vic_verdict.specs.Sweep.{HasRange, HaveKeys, are_left, is_named_if, all_hear_named, is_quiet_by, is_heard, all_allow, all_allow_to}
 
--- the UID may be there by a slot whose mask has these keys, at a place, that heard this key or
--- nobody
+-- a slot whose mask has these keys, at a place, allows the UID: it doesn't lie in the mask, is Quiet
+-- there, or is the one that the slot heard, if it heard one
 abbrev pub is_allowed : List Name → Option KeyBlock → ℕ → Option ℕ → ℕ → Bool
 is_allowed ns keys at heard u =
     not (is_in_some_block keys (mirror u))
@@ -56,7 +56,8 @@ pub record TellsOpen (es : List Entry) (from i : ℕ) (set : ℕ → Bool) (ns :
   pub before : (j : ℕ) → from ≤ j → j < i
       → SameUids (λ u. set u && all_allow_to ns ss j (mirror u)) (is_open (slots_before es j))
 
--- all that is gathered of them: what they tell is open, who was heard, and what they ask for
+-- all that is gathered of those entries: what they tell is open, who was heard, and what they ask
+-- for
 pub record HasGathered (es : List Entry) (from i : ℕ) (set : ℕ → Bool) (ns : List Name)
     (ss : List Spot) (ds : List Demand) : Type 0 where
   pub stretch : TellsOpen es from i set ns ss

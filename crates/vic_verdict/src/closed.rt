@@ -12,7 +12,8 @@ use std::alloc::AllocError;
 use vic_frame::UID_BITS;
 use vic_tree::KeyRange;
 
-/// More than the number of bits that any mask has.
+/// More than the number of bits that any mask has: by it a mask's first key and its number of bits
+/// are one number.
 pub(crate) const LENGTHS: u64 = 256;
 
 /// A silent or an answered slot. A log may have a million of them, which are sorted: so its mask is

@@ -5,7 +5,7 @@
 //! one mask answered in the earlier ones too. Of those that ask for as much, the last one alone has
 //! to be looked at.
 
-ghost use Rattle.std.specs.Prelude.{◌≡◌, ◌≤◌, ℕ, ◌+◌, ◌<◌, ◌&&◌, ◌++◌, ◌∷◌, [], true, false, None, Some, IfSome, List, IfOk, OnOk, MatchResult, length};
+ghost use Rattle.std.specs.Prelude.{◌≡◌, ◌≤◌, ◌<◌, ◌&&◌, ◌++◌, ◌∷◌, [], true, false, None, Some, IfSome, List, IfOk, OnOk, MatchResult, length};
 ghost use Rattle.std.specs.List.{All};
 ghost use Rattle.vic_frame.specs.declared.low_bits_first.KeyBlock.{KeyBlock as KeyBlockValue};
 ghost use Rattle.vic_frame.specs.Uids.{is_uid};
@@ -60,8 +60,9 @@ pub(crate) struct Demand {
 }
 
 impl Demand {
-    /// Its place in the order in which masks stand by their keys, and the slots of one mask that
-    /// ask for as much stand together, the last one last. One number is compared faster than four.
+    /// The number by which demands are sorted: by mask, by how much is asked for, and by place, so
+    /// that those stand together of which the last alone has to be looked at (`is_asked_again`
+    /// looks). No answer rests on this order.
     fn order(&self) -> u128 {
         u128::from(self.first) << 64
             | u128::from(self.len) << 40
@@ -77,8 +78,8 @@ impl Demand {
     }
 }
 
-/// Adds the demand of a slot, given the keys of its mask. Returns false, and adds nothing, if no UID
-/// lies in it.
+/// Adds the demand of a slot, given the keys of its mask. Returns false, and adds nothing, if no
+/// UID lies in it.
 pub(crate) fn push_demand(
     demands: &mut Vec<Demand>,
     keys: Option<KeyBlock>,
@@ -142,7 +143,7 @@ pub(crate) fn keep_stretch(
 /// Open UIDs that answer in a slot: all where they are fewer than three, three otherwise. Mostly
 /// those that are found first are not Quiet, and no list of the Quiet ones is needed. The first
 /// name of the slot's mask is looked for near index `near` first.
-fn respondents<S: OpenSet>(
+fn up_to_three_answering<S: OpenSet>(
     alloc: Global,
     set: &S,
     names: &[Name],
@@ -198,7 +199,7 @@ fn is_unmet<S: OpenSet>(
     ensures { IfOk result (λ yes. yes ≡ true
         → IsUnmet (S.is_open set.now) names.now demand.now) }
 {
-    let uids = respondents(alloc, set, names, 0, demand)?;
+    let uids = up_to_three_answering(alloc, set, names, 0, demand)?;
     Ok(uids.len() < usize::from(demand.need))
 }
 
@@ -291,7 +292,7 @@ fn meet_each<S: OpenSet>(
         if !is_asked_again(demands, index) {
             let demand = demands[index];
             near = start_near(names, near, demand.first);
-            let uids = respondents(alloc, set, names, near, &demand)?;
+            let uids = up_to_three_answering(alloc, set, names, near, &demand)?;
             let at = demand.place();
             let need = usize::from(demand.need);
             if uids.len() < need {

@@ -70,7 +70,7 @@ fn note_sent(names: &mut Vec<Name>, request: &Request, index: usize) -> Result<(
 }
 
 /// Whether a key is one of those of a mask, if any UID lies in it.
-fn lies_in(keys: Option<KeyBlock>, key: u64) -> bool
+fn is_in_some_block(keys: Option<KeyBlock>, key: u64) -> bool
     requires { IfSome keys (λ b. IsBlock b.first b.len) }
     ensures { result ≡ is_in_some_block keys key }
 {
@@ -81,7 +81,7 @@ fn lies_in(keys: Option<KeyBlock>, key: u64) -> bool
 }
 
 /// Gathers what an entry other than a field cycle tells. Returns false, and gathers nothing, where
-/// it heard a UID that doesn't lie in the mask of its slot, or tags answered though none could have.
+/// it heard a UID that doesn't lie in the mask of its slot, or tags in a mask that holds no UID.
 #[inline(always)]
 fn note_entry(
     names: &mut Vec<Name>,
@@ -111,7 +111,7 @@ fn note_entry(
         Entry::Heard(response) => {
             let keys = cursor.keys();
             let heard = key(response.uid());
-            if !lies_in(keys, heard) {
+            if !is_in_some_block(keys, heard) {
                 return Ok(false);
             }
             push_name(names, heard, index as u32, true)?;

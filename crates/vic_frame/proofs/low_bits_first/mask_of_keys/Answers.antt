@@ -9,7 +9,7 @@ use Rattle.vic_frame.proofs.low_bits_first.mask_of_keys.Goals as goal
 fits : (first len value : ℕ) → IsBlock first len → value ≡ mirror first → value < 2 ^ len
 fits first len value block is =
     let short = block.short in
-    subst (λ (x : ℕ). x < 2 ^ len) (sym is) (block_value len (56 - len) first (omega (arith, short)) block.even)
+    subst (λ (x : ℕ). x < 2 ^ len) (sym is) (block_value len (56 - len) first (omega (arith, short)) block.aligned)
 
 pub of_bits-requires : goal.of_bits-requires
 of_bits-requires c =

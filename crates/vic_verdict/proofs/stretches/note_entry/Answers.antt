@@ -15,13 +15,13 @@ use Rattle.vic_verdict.proofs.Heard.{outside_reply, nobody_there, heard_more, he
 use Rattle.vic_verdict.proofs.Stretching.{named_here, stretch_named, stretch_passed, stretch_spotted, heard_key}
 use Rattle.vic_verdict.proofs.stretches.note_entry.Goals as goal
 
-pub returns-then-not-lies_in-clause-unfit : goal.returns-then-not-lies_in-clause-unfit
-returns-then-not-lies_in-clause-unfit c es k valid at failed =
+pub returns-then-not-is_in_some_block-clause-unfit : goal.returns-then-not-is_in_some_block-clause-unfit
+returns-then-not-is_in_some_block-clause-unfit c es k valid at failed =
     let r = c.in-Heard.response in
     outside_reply es c.args.index r (k ∙ ap (λ (e : Entry). Some e) c.in-Heard.is)
     (ap (λ u. lies_in_some (mask_at es c.args.index) u) (sym c.uid.ensures.value)
     ∙ (sym (c.keys-keys.ensures.inside es c.args.index c.uid.result valid at c.key-heard.ensures.is_uid)
-    ∙ (ap (is_in_some_block c.keys-keys.result) (sym c.key-heard.ensures.value) ∙ (sym c.lies_in.ensures ∙ c.if-not-lies_in.true))))
+    ∙ (ap (is_in_some_block c.keys-keys.result) (sym c.key-heard.ensures.value) ∙ (sym c.is_in_some_block.ensures ∙ c.if-not-is_in_some_block.true))))
 
 pub returns-in_ok-note_sent-in-Sent-clause-gathered : goal.returns-in_ok-note_sent-in-Sent-clause-gathered
 returns-in_ok-note_sent-in-Sent-clause-gathered c es from set k valid at other fits h =
@@ -54,7 +54,7 @@ returns-in_ok-push_spot-in-Heard-clause-gathered c es from set k valid at other 
     let told = c.key-heard.ensures in
     let pushed = c.in_ok-push_name-in-Heard.ensures in
     let named = stretch_named es from i set names new c.args.spots.now.items n c.requires told.small refl refl pushed h.stretch in
-    let inside = ap (λ u. lies_in_some (mask_at es i) u) (sym c.uid.ensures.value) ∙ (sym (c.keys-keys.ensures.inside es i uid valid at told.is_uid) ∙ (ap (is_in_some_block c.keys-keys.result) (sym told.value) ∙ (sym c.lies_in.ensures ∙ c.if-not-lies_in.false))) in
+    let inside = ap (λ u. lies_in_some (mask_at es i) u) (sym c.uid.ensures.value) ∙ (sym (c.keys-keys.ensures.inside es i uid valid at told.is_uid) ∙ (ap (is_in_some_block c.keys-keys.result) (sym told.value) ∙ (sym c.is_in_some_block.ensures ∙ c.if-not-is_in_some_block.false))) in
     record {
       stretch = stretch_spotted es from i set new c.args.spots.now.items c.push_spot-in-Heard.new.spots.items (Heard r) c.keys-keys.result (Some c.key-heard.result) here c.requires (λ u w. c.keys-keys.ensures.inside es i u valid at w) refl (λ u w. refl)
           (λ b u w. ap (λ x. not b || x) (ap (λ v. u == v) (sym c.uid.ensures.value) ∙ (heard_key uid u told.is_uid w ∙ ap (λ v. v == mirror u) (sym told.value))))

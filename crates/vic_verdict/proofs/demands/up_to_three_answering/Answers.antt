@@ -6,7 +6,7 @@ use Rattle.vic_frame.specs.Uids.{has}
 use Rattle.vic_frame.specs.LowBitsFirst.{mirror}
 use Rattle.vic_verdict.specs.Sweep.{quiet_of, is_quiet_by}
 use Rattle.vic_verdict.proofs.Demanding.{first_ready, others_ready}
-use Rattle.vic_verdict.proofs.demands.respondents.Goals as goal
+use Rattle.vic_verdict.proofs.demands.up_to_three_answering.Goals as goal
 
 pub returns-then-not-is_any_quiet : goal.returns-then-not-is_any_quiet
 returns-then-not-is_any_quiet g c =
