@@ -154,8 +154,8 @@ quiet_set s ts place a b t h e q k d low high lt =
 
 -- a row with one tag made Quiet
 pub silenced : (r new : Row) (place : ℕ) (t : Tag) → IsRow r → place < length r.tags.items → t.key ≡ (get_or r.tags.items place t).key → t.quiet ≡ r.stretch → new.tags.items ≡ set r.tags.items place t
-    → new.blocks.items ≡ r.blocks.items → new.groups.items ≡ r.groups.items → new.stretch ≡ r.stretch → IsRow new
-silenced r new place t i h e q tags blocks groups stretch =
+    → new.blocks.items ≡ r.blocks.items → new.groups.items ≡ r.groups.items → new.clusters.items ≡ r.clusters.items → new.stretch ≡ r.stretch → IsRow new
+silenced r new place t i h e q tags blocks groups clusters stretch =
     let ts = r.tags.items in
     let keys : keys_in new.tags.items ≡ keys_in ts = ap keys_in tags ∙ map-set_same (λ (x : Tag). x.key) ts place t t e in
     record {
@@ -165,6 +165,7 @@ silenced r new place t i h e q tags blocks groups stretch =
       notes = record {
         blocks = rw (tags, blocks, stretch) (λ w is. quiet_set r.stretch ts place _ _ t h q (i.notes.blocks w is));
         groups = rw (tags, groups, stretch) (λ w is. quiet_set r.stretch ts place _ _ t h q (i.notes.groups w is));
+        clusters = rw (tags, clusters, stretch) (λ w is. quiet_set r.stretch ts place _ _ t h q (i.notes.clusters w is));
       };
       tags_up_to = rw (tags, stretch) (λ k d lt. let size = length-set ts place t in ⊎_elim
           (λ (here : k ≡ place). let is = ap (λ (x : Tag). x.quiet) (get_or-set_at ts place k t d here h) in omega (arith, is, q))
@@ -172,6 +173,7 @@ silenced r new place t i h e q tags blocks groups stretch =
           (cases_eq k place));
       blocks_up_to = rw (blocks, stretch) i.blocks_up_to;
       groups_up_to = rw (groups, stretch) i.groups_up_to;
+      clusters_up_to = rw (clusters, stretch) i.clusters_up_to;
     }
 
 -- ---- all tags Ready
@@ -264,8 +266,8 @@ up_to_none s notes none w n is =
 
 -- a row with one tag more, and no notes
 pub inserted : (r new : Row) (place : ℕ) (t : Tag) → IsRow r → IsKeyPlace t.key r.tags.items place → has (keys_in r.tags.items) t.key ≡ false → IsKey t.key → t.quiet ≡ 0
-    → new.tags.items ≡ insert r.tags.items place t → AreNoNotes new.blocks.items → AreNoNotes new.groups.items → new.stretch ≡ r.stretch → IsRow new
-inserted r new place t i p fresh small never tags blocks groups stretch =
+    → new.tags.items ≡ insert r.tags.items place t → AreNoNotes new.blocks.items → AreNoNotes new.groups.items → AreNoNotes new.clusters.items → new.stretch ≡ r.stretch → IsRow new
+inserted r new place t i p fresh small never tags blocks groups clusters stretch =
     let ts = r.tags.items in
     let all = insert ts place t in
     let size : length all ≡ length ts + 1 = length-insert ts place t p.within in
@@ -281,10 +283,12 @@ inserted r new place t i p fresh small never tags blocks groups stretch =
       notes = record {
         blocks = λ w is. absurd (nothing_noted new.stretch w new.blocks.items begun blocks is);
         groups = λ w is. absurd (nothing_noted new.stretch w new.groups.items begun groups is);
+        clusters = λ w is. absurd (nothing_noted new.stretch w new.clusters.items begun clusters is);
       };
       tags_up_to = rw (tags, stretch) (λ k d lt. insert_each (λ (x : Tag). x.quiet ≤ r.stretch) ts place t p.within (omega arith) (λ j e h. i.tags_up_to j e h) k d (omega (arith, size, lt)));
       blocks_up_to = up_to_none new.stretch new.blocks.items blocks;
       groups_up_to = up_to_none new.stretch new.groups.items groups;
+      clusters_up_to = up_to_none new.stretch new.clusters.items clusters;
     }
 
 -- ---- a tag at the end
@@ -319,8 +323,8 @@ key_again ts key q there = ⊎_elim
     (cases_eq q key)
 
 -- a row of new tags
-pub new_row : (r : Row) → AreInOrder r.tags.items → All IsKey (keys_in r.tags.items) → AreNew r.tags.items → AreNoNotes r.blocks.items → AreNoNotes r.groups.items → r.stretch ≡ 1 → IsRow r
-new_row r order small new blocks groups begun =
+pub new_row : (r : Row) → AreInOrder r.tags.items → All IsKey (keys_in r.tags.items) → AreNew r.tags.items → AreNoNotes r.blocks.items → AreNoNotes r.groups.items → AreNoNotes r.clusters.items → r.stretch ≡ 1 → IsRow r
+new_row r order small new blocks groups clusters begun =
     let first : 0 < r.stretch = omega arith in
     record {
       order = order;
@@ -329,10 +333,12 @@ new_row r order small new blocks groups begun =
       notes = record {
         blocks = λ w is. absurd (nothing_noted r.stretch w r.blocks.items first blocks is);
         groups = λ w is. absurd (nothing_noted r.stretch w r.groups.items first groups is);
+        clusters = λ w is. absurd (nothing_noted r.stretch w r.clusters.items first clusters is);
       };
       tags_up_to = λ k d lt. let is = new k d lt in omega (arith, is);
       blocks_up_to = up_to_none r.stretch r.blocks.items blocks;
       groups_up_to = up_to_none r.stretch r.groups.items groups;
+      clusters_up_to = up_to_none r.stretch r.clusters.items clusters;
     }
 
 pub none_in : (n : ℕ) → AreNoNotes (replicate n 0)

@@ -7,7 +7,7 @@ use Rattle.vic_frame.specs.LowBitsFirst.{IsKey}
 use Rattle.vic_frame.specs.Uids.{has}
 use Rattle.vic_field.specs.declared.row.Row.{Row}
 use Rattle.vic_field.specs.declared.row.Tag.{Tag}
-use Rattle.vic_field.specs.declared.row.TheConstants.{BLOCK, GROUP}
+use Rattle.vic_field.specs.declared.row.TheConstants.{BLOCK, CLUSTER, GROUP}
 
 -- the keys of tags
 abbrev pub keys_in : List Tag → List ℕ
@@ -42,10 +42,11 @@ abbrev pub NotesQuiet : ℕ → ℕ → List ℕ → List Tag → Type 0
 NotesQuiet size s notes ts =
     (w : ℕ) → slice_get notes w ≡ Some s → AreQuietIn s ts (w * size) (w * size + size)
 
--- a row's notes of blocks and of groups are so
+-- a row's notes of blocks, groups and clusters are so
 pub record HasNotesIn (r : Row) : Type 0 where
   pub blocks : NotesQuiet BLOCK r.stretch r.blocks.items r.tags.items
   pub groups : NotesQuiet GROUP r.stretch r.groups.items r.tags.items
+  pub clusters : NotesQuiet CLUSTER r.stretch r.clusters.items r.tags.items
 
 -- from a place on no tag is Ready whose key is at most this one
 abbrev pub HasNoneReady : Row → ℕ → ℕ → Type 0
@@ -106,6 +107,7 @@ pub record IsRow (r : Row) : Type 0 where
   pub tags_up_to : All (λ t. t.quiet ≤ r.stretch) r.tags.items
   pub blocks_up_to : AreUpTo r.stretch r.blocks.items
   pub groups_up_to : AreUpTo r.stretch r.groups.items
+  pub clusters_up_to : AreUpTo r.stretch r.clusters.items
 
 -- a note is this now, if there is one at the place, and the others are as they were
 abbrev pub IsNoteAt : ℕ → ℕ → List ℕ → List ℕ → Type 0

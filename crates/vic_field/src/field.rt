@@ -67,6 +67,7 @@ impl Field {
                 tags: Vec::new(alloc),
                 blocks: Vec::new(alloc),
                 groups: Vec::new(alloc),
+                clusters: Vec::new(alloc),
                 stretch: 1,
                 index: Index::new(alloc),
             },

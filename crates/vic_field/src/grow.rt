@@ -7,7 +7,7 @@ ghost use Rattle.vic_field.specs.Rows.{AreBelow, AreInOrder, AreNew, EndsFrom, H
 ghost use Rattle.vic_frame.specs.LowBitsFirst.{IsKey};
 
 use crate::index::Index;
-use crate::row::{BLOCK, GROUP, Row, Tag};
+use crate::row::{BLOCK, CLUSTER, GROUP, Row, Tag};
 use std::alloc::{AllocError, Global};
 
 /// A row of the tags with these keys, all Ready.
@@ -21,11 +21,13 @@ pub(crate) fn grow(alloc: Global, keys: &[u64]) -> Result<Row, AllocError>
     let tags = new_tags(alloc, keys)?;
     let blocks = vec![in alloc; 0; tags.len() / BLOCK + 1]?;
     let groups = vec![in alloc; 0; tags.len() / GROUP + 1]?;
+    let clusters = vec![in alloc; 0; tags.len() / CLUSTER + 1]?;
     let index = Index::over(alloc, keys)?;
     Ok(Row {
         tags,
         blocks,
         groups,
+        clusters,
         stretch: 1,
         index,
     })

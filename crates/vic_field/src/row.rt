@@ -12,7 +12,10 @@ use std::alloc::AllocError;
 pub(crate) const BLOCK: usize = 64;
 
 /// How many tags a group of blocks has.
-pub(crate) const GROUP: usize = 4096;
+pub(crate) const GROUP: usize = 64 * BLOCK;
+
+/// How many tags a cluster of groups has.
+pub(crate) const CLUSTER: usize = 64 * GROUP;
 
 /// A tag.
 #[derive(Clone, Copy)]
@@ -32,6 +35,8 @@ pub(crate) struct Row {
     pub(crate) blocks: Vec<u32>,
     /// The same of each group of blocks.
     pub(crate) groups: Vec<u32>,
+    /// The same of each cluster of groups.
+    pub(crate) clusters: Vec<u32>,
     /// The stretch between two field cycles, from 1: a tag is Quiet where it was made so in this
     /// one.
     pub(crate) stretch: u32,
@@ -55,8 +60,11 @@ fn quiet_from(row: &Row, place: usize) -> usize
     requires there { place < length row.now.tags.items }
     ensures quiet { AreQuiet row.now place (place + result) }
     ensures ready { result ≡ 0 → IsReadyAt row.now place }
-    ensures most { result ≤ GROUP }
+    ensures most { result ≤ CLUSTER }
 {
+    if place % CLUSTER == 0 && is_noted(&row.clusters, place / CLUSTER, row.stretch) {
+        return CLUSTER;
+    }
     if place % GROUP == 0 && is_noted(&row.groups, place / GROUP, row.stretch) {
         return GROUP;
     }
@@ -156,26 +164,40 @@ pub(crate) fn silence(row: &mut Row, key: u64)
     }
 }
 
-/// Notes of the block and the group of a tag whether all is Quiet there.
+/// Whether the tag behind this one is in its block and Ready. Where a block has Ready tags, this one
+/// mostly is, and it is near.
+fn is_before_ready(row: &Row, place: usize) -> bool
+    requires { place < length row.now.tags.items }
+{
+    let next = place + 1;
+    next % BLOCK != 0 && next < row.tags.len() && row.tags[next].quiet != row.stretch
+}
+
+/// Notes of the block, the group and the cluster of a tag whether all is Quiet there.
 fn note(row: &mut Row, place: usize)
     requires row { IsRow row.old }
     requires there { place < length row.old.tags.items }
     ensures row { IsRow row.new }
     ensures same { entries row.new ≡ entries row.old }
 {
-    if are_quiet(row, place / BLOCK, BLOCK) {
-        put_note(&mut row.blocks, place / BLOCK, row.stretch);
+    if is_before_ready(row, place) || !are_quiet(row, place / BLOCK, BLOCK) {
+        return;
     }
-    if are_quiet(row, place / GROUP, GROUP) {
-        put_note(&mut row.groups, place / GROUP, row.stretch);
+    put_note(&mut row.blocks, place / BLOCK, row.stretch);
+    if !are_quiet(row, place / GROUP, GROUP) {
+        return;
+    }
+    put_note(&mut row.groups, place / GROUP, row.stretch);
+    if are_quiet(row, place / CLUSTER, CLUSTER) {
+        put_note(&mut row.clusters, place / CLUSTER, row.stretch);
     }
 }
 
-/// Whether all tags of a block or group of this size are Quiet.
+/// Whether all tags of a block, group or cluster of this size are Quiet.
 fn are_quiet(row: &Row, number: usize, size: usize) -> bool
     requires notes { HasNotesIn row.now }
     requires there { number * size ≤ length row.now.tags.items }
-    requires small { size ≤ GROUP }
+    requires small { size ≤ CLUSTER }
     ensures { result ≡ true → AreQuiet row.now (number * size) (number * size + size) }
 {
     let from = number * size;
@@ -210,11 +232,13 @@ fn forget(row: &mut Row)
     ensures stretch { row.new.stretch ≡ 0 }
     ensures blocks { AreNoNotes row.new.blocks.items }
     ensures groups { AreNoNotes row.new.groups.items }
+    ensures clusters { AreNoNotes row.new.clusters.items }
     ensures tags { AreNew row.new.tags.items }
     ensures keys { keys_in row.new.tags.items ≡ keys_in row.old.tags.items }
 {
     forget_notes(&mut row.blocks);
     forget_notes(&mut row.groups);
+    forget_notes(&mut row.clusters);
     for place in 0..row.tags.len() {
         row.tags[place].quiet = 0;
     }
@@ -253,5 +277,6 @@ pub(crate) fn put(row: &mut Row, key: u64) -> Result<(), AllocError>
     row.tags.insert(place, Tag { key, quiet: 0 })?;
     forget_notes(&mut row.blocks);
     forget_notes(&mut row.groups);
+    forget_notes(&mut row.clusters);
     Ok(())
 }

@@ -8,4 +8,5 @@ returns-clause-row c =
     let tags = c.in_ok-tags.ensures in
     new_row _ tags.order (small_keys c.args.keys.now c.in_ok-tags.tags.items c.requires.small tags.keys) tags.ready
     (subst AreNoNotes (sym (c.in_ok-blocks.ensures.items_if_clones_equal (λ y e. e))) (none_in _))
-    (subst AreNoNotes (sym (c.in_ok-groups.ensures.items_if_clones_equal (λ y e. e))) (none_in _)) refl
+    (subst AreNoNotes (sym (c.in_ok-groups.ensures.items_if_clones_equal (λ y e. e))) (none_in _))
+    (subst AreNoNotes (sym (c.in_ok-clusters.ensures.items_if_clones_equal (λ y e. e))) (none_in _)) refl

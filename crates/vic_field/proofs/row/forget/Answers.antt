@@ -22,4 +22,5 @@ loop-place-preserved c =
       size = length-set ts place tag ∙ i.size;
       blocks = i.blocks;
       groups = i.groups;
+      clusters = i.clusters;
     }

@@ -10,4 +10,5 @@ invariant-loop-place l = record {
   size : length l.row.tags.items ≡ length l.initial.row.tags.items;
   blocks : AreNoNotes l.row.blocks.items;
   groups : AreNoNotes l.row.groups.items;
+  clusters : AreNoNotes l.row.clusters.items;
 }

@@ -9,7 +9,7 @@ use Rattle.vic_field.proofs.row.put.Goals as goal
 pub returns-clause-row : goal.returns-clause-row
 returns-clause-row c =
     let tag : Tag = record { key = c.args.key; quiet = 0 } in
-    inserted c.args.row.now _ c.place_of-place.result tag c.requires.row c.place_of-place.ensures c.requires.fresh c.requires.small refl c.in_ok-insert.ensures.items c.forget_notes.ensures c.forget_notes-2.ensures refl
+    inserted c.args.row.now _ c.place_of-place.result tag c.requires.row c.place_of-place.ensures c.requires.fresh c.requires.small refl c.in_ok-insert.ensures.items c.forget_notes.ensures c.forget_notes-2.ensures c.forget_notes-3.ensures refl
 
 pub returns-clause-more : goal.returns-clause-more
 returns-clause-more c =

@@ -12,7 +12,7 @@ note-requires-clause-row c =
     let place = c.place_of-place.result in
     let lt : place < length ts = omega (arith, row.tags.ok.0) in
     let tag : Tag = record { key = c.index_mut.result.now.key; quiet = row.stretch } in
-    silenced row _ place tag c.requires lt (ap (λ (t : Tag). t.key) (c.index_mut.ensures.value ∙ get_or_default ts place _ tag lt)) refl refl refl refl refl
+    silenced row _ place tag c.requires lt (ap (λ (t : Tag). t.key) (c.index_mut.ensures.value ∙ get_or_default ts place _ tag lt)) refl refl refl refl refl refl
 
 pub returns-then-index-key-clause-quiet : goal.returns-then-index-key-clause-quiet
 returns-then-index-key-clause-quiet c =

@@ -21,4 +21,5 @@ invariant_of-result c = new_row _
     (subst (λ (ts : List Tag). All IsKey (keys_in ts)) (sym c.new.ensures.items) none_small)
     (subst AreNew (sym c.new.ensures.items) none_new)
     (subst AreNoNotes (sym c.new-2.ensures.items) none_noted)
-    (subst AreNoNotes (sym c.new-3.ensures.items) none_noted) refl
+    (subst AreNoNotes (sym c.new-3.ensures.items) none_noted)
+    (subst AreNoNotes (sym c.new-4.ensures.items) none_noted) refl
