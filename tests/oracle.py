@@ -10,6 +10,8 @@ read off those that are left, and the population that the library shows has to b
 report has to be follows from them as well (reports.py). The other logs leave any UID, and one population of all that
 silence and replies leave is tried.
 
+Without a NUMBER the logs are the same each time; with one they are of a new seed, which is printed, or of SEED.
+
 The library is out/library/libvicinity.so, all logs go to it in one process. The reports are those of the program,
 crates/vicinity/out/vicinity. At the end wrong judges and wrong reports are put in their place, each wrong in one rule, and
 have to be found. The last line is `N passed, M failed`, of logs, wrong judges and wrong reports.
@@ -29,7 +31,7 @@ from random_logs import (COLLISION, FIELD_CYCLE, GARBLED, LEFT, SILENT, UID_BITS
 
 TOP = os.path.dirname(os.path.dirname(os.path.abspath(__file__)))
 PROGRAM = os.path.join(TOP, "crates/vicinity/out/vicinity")
-NUMBER = 15000
+NUMBER, SEED = 15000, 15693
 # How many logs a wrong judge is given to be found, and how many of a thousand must have each verdict.
 PLANTED = 8000
 LEAST_SHARE = 20
@@ -361,7 +363,7 @@ def compare(library, number, seed):
             library.report(case.version, case.lines))
         if wrong:
             failed += 1
-            print(f"oracle: {wrong}\n{text_of(case.version, case.lines).decode()}")
+            print(f"oracle: seed {seed}: {wrong}\n{text_of(case.version, case.lines).decode()}")
     return failed, seen
 
 
@@ -384,7 +386,7 @@ def main():
     path = os.path.join(TOP, "out/library/libvicinity.so")
     if words[:1] == ["--library"]:
         path, words = words[1], words[2:]
-    number, seed = [int(word) for word in words] + [NUMBER, random.randrange(10**9)][len(words):]
+    number, seed = [int(word) for word in words] + [NUMBER, random.randrange(10**9) if words else SEED][len(words):]
     failed, seen = compare(Library(path), number, seed)
     print(f"oracle: {number} logs of seed {seed}: {dict(seen)}")
     passed = number - failed
