@@ -28,7 +28,8 @@ without key es = map (λ e. (e.0, e.1 && not (nat_eq key e.0))) es
 -- the tags from a to the one before b are Quiet in this stretch
 abbrev pub AreQuietIn : ℕ → List Tag → ℕ → ℕ → Type 0
 AreQuietIn s ts a b =
-    (k : ℕ) (d : Tag) → a ≤ k → k < b → k < length ts → (slice_index_or ts k d).quiet ≡ s
+    (k : ℕ) (d : Tag) → a ≤ k → k < b → k < length ts
+    → (slice_index_or ts k d).quiet ≡ s
 
 abbrev pub AreQuiet : Row → ℕ → ℕ → Type 0
 AreQuiet r a b = AreQuietIn r.stretch r.tags.items a b
@@ -84,7 +85,8 @@ EndsFrom key ts =
 pub record IsKeyPlace (key : ℕ) (ts : List Tag) (place : ℕ) : Type 0 where
   pub within : place ≤ length ts
   pub below : (k : ℕ) (d : Tag) → k < place → (slice_index_or ts k d).key < key
-  pub from : (k : ℕ) (d : Tag) → place ≤ k → k < length ts → key ≤ (slice_index_or ts k d).key
+  pub from : (k : ℕ) (d : Tag)
+      → place ≤ k → k < length ts → key ≤ (slice_index_or ts k d).key
 
 -- the place at which keys begin to be at least this one is between two others, both counted
 pub record HasKeyPlaceBetween (key : ℕ) (ts : List Tag) (from to : ℕ) : Type 0 where

@@ -85,8 +85,8 @@ impl Field {
         })
     }
 
-    /// Adds a tag to the field, which is Ready then. Refused where a tag with this UID is there. Takes
-    /// as long as there are tags.
+    /// Adds a tag to the field, which is Ready then. Refused where a tag with this UID is there.
+    /// Takes as long as there are tags.
     pub fn add(&mut self, uid: Uid) -> Result<(), AddFault>
         ensures answer { MatchResult result
             (λ _. has (uids self.old) uid ≡ false)

@@ -164,8 +164,8 @@ pub(crate) fn silence(row: &mut Row, key: u64)
     }
 }
 
-/// Whether the tag behind this one is in its block and Ready. Where a block has Ready tags, this one
-/// mostly is, and it is near.
+/// Whether the next tag is in the same block and Ready. While a block has Ready tags, the next one
+/// mostly is, and it is near in memory.
 fn is_before_ready(row: &Row, place: usize) -> bool
     requires { place < length row.now.tags.items }
 {

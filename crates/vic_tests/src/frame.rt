@@ -3,7 +3,9 @@
 use crate::values::{A, B, B1, Y, Z, inventory, mask, stay_quiet, uid};
 use std::process::Abort;
 use std::test::Fail;
-use vic_frame::low_bits_first::{key, key_range, uid_at};
+use vic_frame::low_bits_first::{
+    first_key, key, key_range, keys_of, keys_of_slot, mask_of_keys, uid_at,
+};
 use vic_frame::{Mask, Request, UID_BITS, Uid, crc, crc_right, without_top_byte};
 
 /// The length and the value of a mask, where there is one.
@@ -228,6 +230,56 @@ fn places_of_uids(rt: HostRuntime) -> Result<(), Fail> {
     }
     for (len, value, first, last) in RANGES {
         has_range(&rt, len, value, first, last)?;
+    }
+    Ok(())
+}
+
+const BLOCKS: [(u8, u64, Option<(u64, u64)>); 3] = [
+    (8, 0xA1, Some((0x85_0000_0000_0000, 0x85_FFFF_FFFF_FFFF))),
+    (64, A, Some((0x85_0000_0000_8020, 0x85_0000_0000_8020))),
+    (64, 0, None),
+];
+
+fn has_block(rt: &impl Abort, len: u8, value: u64, want: Option<(u64, u64)>) -> Result<(), Fail> {
+    let Some(block) = keys_of(&mask(len, value)?) else {
+        assert!(rt; want.is_none(), "({len}, {value})");
+        return Ok(());
+    };
+    let first = block.first;
+    let last = block.last();
+    assert!(rt; want == Some((first, last)), "({len}, {value})");
+    assert!(rt; block.holds(first) && block.holds(last), "({len}, {value})");
+    assert!(rt; !block.holds(last.saturating_add(1)), "({len}, {value})");
+    assert!(rt;
+        first_key(&mask_of_keys(first, block.len)) == first,
+        "({len}, {value})"
+    );
+    Ok(())
+}
+
+const SLOT_BLOCKS: [(u8, u64, u64); 3] = [
+    (0, 0x85_0000_0000_0000, 0x0A1),
+    (1, 0x85_8000_0000_0000, 0x1A1),
+    (8, 0x85_1000_0000_0000, 0x8A1),
+];
+
+fn has_slot_block(rt: &impl Abort, k: u8, first: u64, value: u64) -> Result<(), Fail> {
+    let mask = mask(8, 0xA1)?;
+    assert!(rt; mask.len() <= UID_BITS - 4 && k <= 15, "{k}");
+    let block = keys_of_slot(&mask, first_key(&mask), k);
+    assert!(rt; block.first == first && block.len == 12, "{k}");
+    let slot = mask_of_keys(block.first, block.len);
+    assert!(rt; parts(Some(slot)) == Some((12, value)), "{k}");
+    Ok(())
+}
+
+#[test]
+fn keys_of_masks(rt: HostRuntime) -> Result<(), Fail> {
+    for (len, value, want) in BLOCKS {
+        has_block(&rt, len, value, want)?;
+    }
+    for (k, first, value) in SLOT_BLOCKS {
+        has_slot_block(&rt, k, first, value)?;
     }
     Ok(())
 }

@@ -25,4 +25,5 @@ Closes ns test old new =
 -- the key is in one of the ranges, or will be once one more, if there is one, is closed but for
 -- the keys of names left
 abbrev pub closes_with : List Name → List (ℕ × ℕ) → Option (ℕ × ℕ) → ℕ → Bool
-closes_with ns closed range k = in_ranges closed k || (is_in_some_range range k && not (has_left ns k))
+closes_with ns closed range k =
+    in_ranges closed k || (is_in_some_range range k && not (has_left ns k))

@@ -66,8 +66,8 @@ pub record Meets (es : List Entry) (f : Found) (i : ℕ) : Type 0 where
   pub answer : (u : ℕ) → has f.uids.items u ≡ true
       → answering (is_open (slots_of es)) es i u ≡ true
 
--- what meets each slot line that asks for tags and names none, no more in all than the lines ask
--- for
+-- what meets each slot line that asks for tags and names none. It needs no more in all than the
+-- lines ask for
 pub record AreFound (es : List Entry) (fs : List Found) : Type 0 where
   pub found : All (IsFound es) fs
   pub met : (i : ℕ) → 0 < needs_at es i → Any (λ (f : Found). Meets es f i) fs
@@ -134,13 +134,13 @@ pub record IsImpliedBy (d next : Demand) : Type 0 where
   pub need : d.need ≡ next.need
   pub later : d.at ≤ next.at
 
--- behind the demand at index k stands one by which it is implied
+-- the demand at index k is implied by the next one
 abbrev pub IsAskedAgain : List Demand → ℕ → Type 0
 IsAskedAgain ds k = (k + 1 < length ds)
     × ((d : Demand) → IsImpliedBy (slice_index_or ds k d) (slice_index_or ds (k + 1) d))
 
--- what is found for the slots of some demands, more than was found before, but no more than they ask
--- for
+-- what was found before, and what is found for the slots of some demands, which needs no more than
+-- these ask for
 pub record AreMet (es : List Entry) (ds : List Demand) (old new : List Found) : Type 0 where
   pub found : All (IsFound es) old → All (IsFound es) new
   pub kept : (i : ℕ) → Any (λ (f : Found). Meets es f i) old

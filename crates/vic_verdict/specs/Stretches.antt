@@ -20,8 +20,8 @@ use Rattle.vic_verdict.specs.declared.demands.Demand.{Demand}
 use Rattle.vic_verdict.specs.Demands.{AreAsked, AreKept}
 use Rattle.vic_verdict.specs.Sweep.{HasRange, HaveKeys, are_left, is_named_if, all_hear_named, is_quiet_by, is_heard, all_allow, all_allow_to}
 
--- a slot whose mask has these keys, at a place, allows the UID: it doesn't lie in the mask, is Quiet
--- there, or is the one that the slot heard, if it heard one
+-- a slot whose mask has these keys, at a place, allows the UID: it doesn't lie in the mask, is
+-- Quiet there, or is the one that the slot heard, if it heard one
 abbrev pub is_allowed : List Name → Option KeyBlock → ℕ → Option ℕ → ℕ → Bool
 is_allowed ns keys at heard u =
     not (is_in_some_block keys (mirror u))

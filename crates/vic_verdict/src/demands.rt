@@ -51,7 +51,7 @@ pub struct Found {
 pub(crate) struct Demand {
     /// The first key of its mask.
     pub first: u64,
-    /// How many bits its mask has, at most 56.
+    /// How many bits its mask has, at most 56: of a longer one that holds a UID the low 56 tell it.
     pub len: u8,
     /// How many tags have to be there: 2 in a collision, 1 in a garbled slot.
     pub need: u8,
@@ -62,7 +62,7 @@ pub(crate) struct Demand {
 impl Demand {
     /// The number by which demands are sorted: by mask, by how much is asked for, and by place, so
     /// that those stand together of which the last alone has to be looked at (`is_asked_again`
-    /// looks). No answer rests on this order.
+    /// looks). No answer rests on this order. One number is compared faster than four.
     fn order(&self) -> u128 {
         u128::from(self.first) << 64
             | u128::from(self.len) << 40

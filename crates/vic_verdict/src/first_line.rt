@@ -74,7 +74,7 @@ pub fn first_impossible_line<S: OpenSet>(
         match open_and_met::<S>(alloc, &lines[..count])? {
             Ok(_) => {
                 low = count;
-                // as far as is guessed, the line behind these is the one
+                // if the guess was right, the line after it is the first impossible one
                 guess = Some(place.saturating_add(1));
             }
             Err(earlier) => {

@@ -69,7 +69,7 @@ fn note_sent(names: &mut Vec<Name>, request: &Request, index: usize) -> Result<(
     }
 }
 
-/// Whether a key is one of those of a mask, if any UID lies in it.
+/// Whether a key is one of a mask's: none is if the mask holds no UID.
 fn is_in_some_block(keys: Option<KeyBlock>, key: u64) -> bool
     requires { IfSome keys (λ b. IsBlock b.first b.len) }
     ensures { result ≡ is_in_some_block keys key }
@@ -80,8 +80,9 @@ fn is_in_some_block(keys: Option<KeyBlock>, key: u64) -> bool
     }
 }
 
-/// Gathers what an entry other than a field cycle tells. Returns false, and gathers nothing, where
-/// it heard a UID that doesn't lie in the mask of its slot, or tags in a mask that holds no UID.
+/// Gathers what an entry other than a field cycle tells. Returns false, and gathers nothing, if the
+/// UID that it heard doesn't lie in the mask of its slot, or if tags answered in a mask that holds
+/// no UID.
 #[inline(always)]
 fn note_entry(
     names: &mut Vec<Name>,
