@@ -1,5 +1,5 @@
 -- The tags that a row's entries stand for.
-use Rattle.std.proofs.Common.{◌≡◌, ◌≢◌, ℕ, zero, suc, ◌<◌, Bool, true, false, cond, ◌||◌, ◌==◌, List, [], ◌∷◌, map, Some, None, refl, sym, ap, ◌∙◌, arith, ⊎_elim}
+use Rattle.std.proofs.Common.{◌≡◌, ◌≢◌, ℕ, zero, suc, Bool, true, false, cond, ◌||◌, ◌==◌, List, [], ◌∷◌, map, Some, None, refl, sym, ap, ◌∙◌, ⊎_elim}
 use Rattle.std.specs.Prelude.{nat_eq}
 use Rattle.std.specs.List.{All, insert}
 use Rattle.std.specs.Map.{keys_of}
@@ -10,11 +10,11 @@ use Rattle.std.proofs.lemmas.List.Elements.{All-head, All-tail}
 use Rattle.vic_frame.specs.LowBitsFirst.{IsKey, mirror, uid_of}
 use Rattle.vic_frame.specs.Uids.{IsUid, has}
 use Rattle.vic_frame.proofs.MirrorLaws.{mirror_of_uid, uid_of_mirror}
-use Rattle.vic_field.specs.declared.row.Tag.{Tag}
+use Rattle.vic_field.specs.declared.row.Row.{Row}
 use Rattle.vic_field.specs.Keys.{tags_of, uids_at}
-use Rattle.vic_field.specs.Rows.{AreNew, keys_in, without}
+use Rattle.vic_field.specs.Rows.{entries, without}
 use Rattle.vic_field.specs.Tags.{readiness, uids}
-use Rattle.vic_field.proofs.RowLaws.{entry}
+use Rattle.vic_field.proofs.RowLaws.{keys_of_entries}
 
 either_none : (b : Bool) → None ≡ cond b (option_map (λ (r : Bool). false) None) None
 either_none true = refl
@@ -58,17 +58,17 @@ more_readiness u v key (x ∷ es) (suc i) e fresh = ⊎_elim
     (λ (past : u ≢ uid_of x.0). rw (ne_eqb u (uid_of x.0) past) (more_readiness u v key es i e (right_false (nat_eq v (uid_of x.0)) (has (uids (tags_of es)) v) fresh)))
     (cases_eq u (uid_of x.0))
 
-pub uids_of_entries : (s : ℕ) (ts : List Tag) → uids (tags_of (map (entry s) ts)) ≡ uids_at (keys_in ts)
-uids_of_entries s [] = refl
-uids_of_entries s (t ∷ ts) = ap (λ us. uid_of t.key ∷ us) (uids_of_entries s ts)
+pub uids_of_keys : (es : List (ℕ × Bool)) → uids (tags_of es) ≡ uids_at (keys_of es)
+uids_of_keys [] = refl
+uids_of_keys (e ∷ es) = ap (λ us. uid_of e.0 ∷ us) (uids_of_keys es)
+
+pub uids_of_entries : (r : Row) → uids (tags_of (entries r)) ≡ uids_at r.keys.items
+uids_of_entries r = uids_of_keys (entries r) ∙ ap uids_at (keys_of_entries r)
 
 -- new tags are Ready
-pub new_readiness : (s u : ℕ) (ts : List Tag) → 0 < s → AreNew ts → readiness (tags_of (map (entry s) ts)) u ≡ cond (has (uids_at (keys_in ts)) u) (Some true) None
-new_readiness s u [] begun new = refl
-new_readiness s u (t ∷ ts) begun new =
-    let ready : nat_eq t.quiet s ≡ false = ne_eqb t.quiet s (λ e. let is = new 0 t (omega arith) in omega (arith, begun, e, is)) in
-    let rest = new_readiness s u ts begun (λ k d h. new (suc k) d (omega arith)) in
-    ⊎_elim
-    (λ (here : u ≡ uid_of t.key). rw (eq-eqb u (uid_of t.key) here, ready) refl)
-    (λ (past : u ≢ uid_of t.key). rw (ne_eqb u (uid_of t.key) past) rest)
-    (cases_eq u (uid_of t.key))
+pub new_readiness : (u : ℕ) (ks : List ℕ) → readiness (tags_of (map (λ k. (k, true)) ks)) u ≡ cond (has (uids_at ks) u) (Some true) None
+new_readiness u [] = refl
+new_readiness u (k ∷ ks) = ⊎_elim
+    (λ (here : u ≡ uid_of k). rw (eq-eqb u (uid_of k) here) refl)
+    (λ (past : u ≢ uid_of k). rw (ne_eqb u (uid_of k) past) (new_readiness u ks))
+    (cases_eq u (uid_of k))

@@ -1,5 +1,6 @@
 pub mod Keys
 pub mod TagLaws
+pub mod PlaceLaws
 pub mod RowLaws
 pub mod FieldRows
 pub mod Numbering

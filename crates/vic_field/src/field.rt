@@ -1,19 +1,17 @@
 //! The tags of a field, each Ready or Quiet.
 
 ghost use Rattle.std.specs.Prelude.{◌≡◌, ℕ, ◌==◌, [], true, false, IfOk, MatchResult, OnOk, OnErr};
-ghost use Rattle.std.specs.List.{All};
-ghost use Rattle.std.specs.List.Sorted.{IsNonDecreasing};
 ghost use Rattle.std.specs.Option.{option_map};
 ghost use Rattle.vic_log.specs.Populations.{IsPopulation};
-ghost use Rattle.vic_field.specs.Keys.{uids_at};
+ghost use Rattle.vic_field.specs.Keys.{AreKeys, uids_at};
 ghost use Rattle.vic_field.specs.Tags.{uids, readiness, ready_in, quiets, heard, RefusesTag, HasAdded, HasSilenced};
-ghost use Rattle.vic_frame.specs.LowBitsFirst.{IsKey, uid_of};
+ghost use Rattle.vic_frame.specs.LowBitsFirst.{uid_of};
 ghost use Rattle.vic_frame.specs.Uids.{has};
 
-use crate::grow::grow;
 use crate::hear::hear_mask;
 use crate::index::Index;
 use crate::outcome::Outcome;
+use crate::quiet::QuietPlaces;
 use crate::row::{self, Row};
 use std::alloc::{AllocError, Global};
 use std::marker::Model;
@@ -64,24 +62,20 @@ impl Field {
     {
         Field {
             row: Row {
-                tags: Vec::new(alloc),
-                blocks: Vec::new(alloc),
-                groups: Vec::new(alloc),
-                clusters: Vec::new(alloc),
-                stretch: 1,
+                keys: Vec::new(alloc),
+                quiet: QuietPlaces::new(alloc),
                 index: Index::new(alloc),
             },
         }
     }
 
     /// A field of the tags with these keys, all Ready.
-    pub(crate) fn of_keys(alloc: Global, keys: &[u64]) -> Result<Field, AllocError>
-        requires order { IsNonDecreasing keys.now }
-        requires keys { All IsKey keys.now }
-        ensures { IfOk result (HasAdded (has (uids_at keys.now)) []) }
+    pub(crate) fn of_keys(alloc: Global, keys: Vec<u64>) -> Result<Field, AllocError>
+        requires { AreKeys keys.items }
+        ensures { IfOk result (HasAdded (has (uids_at keys.items)) []) }
     {
         Ok(Field {
-            row: grow(alloc, keys)?,
+            row: row::of_keys(alloc, keys)?,
         })
     }
 

@@ -31,6 +31,6 @@ fn hear(row: &Row, first: u64, last: u64) -> Outcome
     };
     match next_ready(row, one + 1, last) {
         Some(_) => Outcome::Several,
-        None => Outcome::Lone(low_bits_first::uid_at(row.tags[one].key)),
+        None => Outcome::Lone(low_bits_first::uid_at(row.keys[one])),
     }
 }

@@ -2,11 +2,11 @@
 #![tactic(auto)]
 
 mod field;
-mod grow;
 mod hear;
 mod index;
 mod outcome;
 mod populate;
+mod quiet;
 mod row;
 mod session;
 

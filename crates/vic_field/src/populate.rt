@@ -17,7 +17,8 @@ pub(crate) fn populate(alloc: Global, lines: &[PackedLine]) -> Result<Field, All
 {
     let mut keys = listed_keys(alloc, lines)?;
     keys.sort_unstable();
-    Field::of_keys(alloc, &keys)
+    keys.dedup();
+    Field::of_keys(alloc, keys)
 }
 
 /// The keys of the UIDs that are listed.

@@ -1,7 +1,14 @@
-use Rattle.std.proofs.Common.{◌≡◌, ℕ, Bool, true, List, [], ◌∷◌, Some, None, sym, ap, ◌∙◌, ◌||◌, refl}
+use Rattle.std.proofs.Common.{◌≡◌, ℕ, Bool, true, false, List, [], ◌∷◌, Some, None, sym, ap, subst, ◌∙◌, ◌||◌, refl, ⊎_elim}
 use Rattle.std.specs.Prelude.{nat_eq, if◌then◌else◌}
-use Rattle.std.specs.List.{list_any}
-use Rattle.std.proofs.lemmas.List.Sorted.{list_any-IsPermutation, All-permutation, IsNonDecreasingBy-from_sort}
+use Rattle.std.specs.List.{All, Contains, dedup, list_any}
+use Rattle.std.specs.List.Sorted.{IsStrictlySortedBy}
+use Rattle.std.specs.Ordering.{nat_cmp}
+use Rattle.std.proofs.lemmas.Bool.{both_ways, cases_Bool}
+use Rattle.std.proofs.lemmas.List.Filters.{All-dedup, dedup_is}
+use Rattle.std.proofs.lemmas.List.Folds.{Any-from_list_any, list_any_at}
+use Rattle.std.proofs.lemmas.List.Kept.{Contains-dedup_nat, Contains-from_dedup}
+use Rattle.std.proofs.lemmas.List.Sorted.{list_any-IsPermutation, All-permutation}
+use Rattle.std.proofs.lemmas.Map.Keys.{IsStrictlyIncreasing-dedup, sorted_from_strictly_increasing}
 use Rattle.std.proofs.lemmas.Result.{IfOk-weaker}
 use Rattle.vic_frame.specs.LowBitsFirst.{IsKey, uid_of}
 use Rattle.vic_frame.specs.Uids.{has}
@@ -12,21 +19,41 @@ has_at : (ks : List ℕ) (u : ℕ) → has (uids_at ks) u ≡ list_any (λ k. na
 has_at [] u = refl
 has_at (k ∷ ks) u = ap (λ (b : Bool). nat_eq u (uid_of k) || b) (has_at ks u)
 
-pub of_keys-requires-clause-order : goal.of_keys-requires-clause-order
-of_keys-requires-clause-order c = rw c.deref.ensures.value (IsNonDecreasingBy-from_sort (λ x. x) c.sort_unstable.new.self.items c.sort_unstable.ensures.sorted)
+-- what one list holds the other holds, so a test finds it there
+goes_over : (p : ℕ → Bool) (xs ys : List ℕ) → ((x : ℕ) → Contains xs x → Contains ys x) → list_any p xs ≡ true → list_any p ys ≡ true
+goes_over p xs ys holds any =
+    let one = Any-from_list_any p xs any in
+    let there = holds one.1 (one.0, one.2, one.3) in
+    list_any_at p ys there.0 one.1 there.1 (ap p there.2 ∙ one.4)
 
-pub of_keys-requires-clause-keys : goal.of_keys-requires-clause-keys
-of_keys-requires-clause-keys c = rw c.deref.ensures.value (All-permutation IsKey c.in_ok-keys.keys.items c.sort_unstable.new.self.items c.sort_unstable.ensures.permutation c.in_ok-keys.ensures.small)
+any_dedup : (p : ℕ → Bool) (xs : List ℕ) → list_any p (dedup nat_eq xs) ≡ list_any p xs
+any_dedup p xs = ⊎_elim
+    (λ (yes : list_any p xs ≡ true). goes_over p xs (dedup nat_eq xs) (Contains-dedup_nat xs) yes ∙ sym yes)
+    (λ (no_ : list_any p xs ≡ false). ⊎_elim
+    (λ (yes : list_any p (dedup nat_eq xs) ≡ true). absurd (both_ways _ no_ (goes_over p (dedup nat_eq xs) xs (Contains-from_dedup nat_eq xs) yes)))
+    (λ (none : list_any p (dedup nat_eq xs) ≡ false). none ∙ sym no_)
+    (cases_Bool (list_any p (dedup nat_eq xs))))
+    (cases_Bool (list_any p xs))
+
+pub of_keys-requires : goal.of_keys-requires
+of_keys-requires c =
+    let sorted = c.sort_unstable.new.self.items in
+    let items = dedup_is nat_eq sorted c.dedup.new.self.items c.dedup.ensures.filtered in
+    record {
+      small = subst (All IsKey) (sym items) (All-dedup nat_eq IsKey sorted (All-permutation IsKey c.in_ok-keys.keys.items sorted c.sort_unstable.ensures.permutation c.in_ok-keys.ensures.small));
+      rising = subst (IsStrictlySortedBy nat_cmp) (sym items) (sorted_from_strictly_increasing (dedup nat_eq sorted) (IsStrictlyIncreasing-dedup sorted c.sort_unstable.ensures.sorted));
+    }
 
 pub returns : goal.returns
 returns c =
-    let old = c.in_ok-keys.keys.items in
-    let new = c.sort_unstable.new.self.items in
+    let listed = c.in_ok-keys.keys.items in
+    let sorted = c.sort_unstable.new.self.items in
     let same = λ (u : ℕ).
-    ap (λ (ks : List ℕ). has (uids_at ks) u) c.deref.ensures.value
-    ∙ has_at new u
-    ∙ sym (list_any-IsPermutation (λ k. nat_eq u (uid_of k)) old new c.sort_unstable.ensures.permutation)
-    ∙ sym (has_at old u)
+    has_at c.dedup.new.self.items u
+    ∙ ap (λ (ks : List ℕ). list_any (λ k. nat_eq u (uid_of k)) ks) (dedup_is nat_eq sorted c.dedup.new.self.items c.dedup.ensures.filtered)
+    ∙ any_dedup (λ k. nat_eq u (uid_of k)) sorted
+    ∙ sym (list_any-IsPermutation (λ k. nat_eq u (uid_of k)) listed sorted c.sort_unstable.ensures.permutation)
+    ∙ sym (has_at listed u)
     ∙ ap (λ (us : List ℕ). has us u) c.in_ok-keys.ensures.uids in
     IfOk-weaker c.of_keys.result _ _
     (λ field k u h. k u h ∙ ap (λ (b : Bool). if b then Some true else None) (same u))

@@ -1,29 +1,30 @@
-use Rattle.std.proofs.Common.{◌≡◌, ◌+◌, ◌-◌, true, false, ltb, ltb-true, ltb-false, List, length, take, drop, subst, sym, arith, rules}
-use Rattle.std.specs.List.Sorted.{IsPartitionPoint}
+use Rattle.std.proofs.Common.{◌≡◌, ◌+◌, ◌-◌, true, false, ltb, ltb-true, ltb-false, List, ℕ, length, take, drop, subst, sym, arith, rules}
+use Rattle.std.specs.List.Sorted.{IsPartitionPoint, IsStrictlySortedBy}
+use Rattle.std.specs.Ordering.{nat_cmp}
 use Rattle.std.proofs.lemmas.List.{length-drop, length-take-le}
 use Rattle.std.proofs.lemmas.List.Sorted.{IsNonDecreasingBy-drop, IsNonDecreasingBy-take, IsPartitionPoint-from_clause, IsPartitionedBy-ltb}
-use Rattle.vic_field.specs.declared.row.Tag.{Tag}
-use Rattle.vic_field.specs.Rows.{AreInOrder, HasKeyPlaceBetween, IsKeyPlace}
-use Rattle.vic_field.proofs.RowLaws.{found, non_decreasing}
+use Rattle.std.proofs.lemmas.Map.Keys.{non_decreasing_from_sorted}
+use Rattle.vic_field.specs.Rows.{HasKeyPlaceBetween, IsKeyPlace}
+use Rattle.vic_field.proofs.RowLaws.{found}
 use Rattle.vic_field.proofs.row.place_of.Goals as goal
 
 pub returns : goal.returns
 returns c =
     let key = c.args.key in
-    let ts = c.deref.result.now in
+    let ks = c.deref.result.now in
     let from = c.bounds-from.result.0 in
     let to = c.bounds-from.result.1 in
     let place = c.partition_point.result in
-    let order : AreInOrder ts = subst AreInOrder (sym c.deref.ensures.value) c.requires in
-    let near : HasKeyPlaceBetween key ts from to = subst (λ xs. HasKeyPlaceBetween key xs from to) (sym c.deref.ensures.value) c.bounds-from.ensures in
-    let part = take (to - from) (drop from ts) in
-    let up = IsNonDecreasingBy-take (λ (y : Tag). y.key) (to - from) (drop from ts) (IsNonDecreasingBy-drop (λ (y : Tag). y.key) from ts (non_decreasing ts order)) in
+    let order : IsStrictlySortedBy nat_cmp ks = subst (IsStrictlySortedBy nat_cmp) (sym c.deref.ensures.value) c.requires in
+    let near : HasKeyPlaceBetween key ks from to = subst (λ xs. HasKeyPlaceBetween key xs from to) (sym c.deref.ensures.value) c.bounds-from.ensures in
+    let part = take (to - from) (drop from ks) in
+    let up = IsNonDecreasingBy-take (λ (y : ℕ). y) (to - from) (drop from ks) (IsNonDecreasingBy-drop (λ (y : ℕ). y) from ks (non_decreasing_from_sorted ks order)) in
     let within = near.within in
-    let rest = length-drop from ts in
-    let long : length part ≡ to - from = length-take-le (to - from) (drop from ts) (omega (arith, within, rest)) in
+    let rest = length-drop from ks in
+    let long : length part ≡ to - from = length-take-le (to - from) (drop from ks) (omega (arith, within, rest)) in
     let most = c.partition_point.ensures.bound in
-    let point : IsPartitionPoint (λ (y : Tag). ltb y.key key ≡ true) (λ (y : Tag). ltb y.key key ≡ false) part place =
-    IsPartitionPoint-from_clause (λ (y : Tag). ltb y.key key) _ _ c.partition_point.ensures.partitioned (IsPartitionedBy-ltb (λ (y : Tag). y.key) part key up) (λ a r q k. search rules) in
-    subst (λ (xs : List Tag). IsKeyPlace key xs (from + place)) c.deref.ensures.value (found ts key from to place near (omega (arith, most, long))
-    (λ k d lt. ltb-true _ _ (point.0 k d (omega arith) lt))
-    (λ k d le lt. let no_ = ltb-false _ _ (point.1 k d le (omega (arith, lt, long))) in omega (arith, no_)))
+    let point : IsPartitionPoint (λ (y : ℕ). ltb y key ≡ true) (λ (y : ℕ). ltb y key ≡ false) part place =
+    IsPartitionPoint-from_clause (λ (y : ℕ). ltb y key) _ _ c.partition_point.ensures.partitioned (IsPartitionedBy-ltb (λ (y : ℕ). y) part key up) (λ a r q k. search rules) in
+    subst (λ (xs : List ℕ). IsKeyPlace key xs (from + place)) c.deref.ensures.value (found ks key from to place near (omega (arith, most, long))
+    (λ k lt. ltb-true _ _ (point.0 k 0 (omega arith) lt))
+    (λ k le lt. let no_ = ltb-false _ _ (point.1 k 0 le (omega (arith, lt, long))) in omega (arith, no_)))

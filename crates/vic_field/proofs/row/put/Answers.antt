@@ -1,22 +1,31 @@
-use Rattle.std.proofs.Common.{◌≡◌, true, false, map, ◌∙◌, ap, arith, refl}
-use Rattle.std.specs.Prelude.{nat_eq}
-use Rattle.std.specs.List.{insert}
-use Rattle.std.proofs.lemmas.Bool.{ne_eqb}
-use Rattle.vic_field.specs.declared.row.Tag.{Tag}
-use Rattle.vic_field.proofs.RowLaws.{entry, inserted, map_insert}
+use Rattle.std.proofs.Common.{length, ap, subst, sym, ◌∙◌, arith}
+use Rattle.std.proofs.lemmas.List.Edits.{length-insert}
+use Rattle.vic_field.specs.Keys.{AreKeys}
+use Rattle.vic_field.proofs.RowLaws.{inserted, inserted_keys}
 use Rattle.vic_field.proofs.row.put.Goals as goal
 
 pub returns-clause-row : goal.returns-clause-row
 returns-clause-row c =
-    let tag : Tag = record { key = c.args.key; quiet = 0 } in
-    inserted c.args.row.now _ c.place_of-place.result tag c.requires.row c.place_of-place.ensures c.requires.fresh c.requires.small refl c.in_ok-insert.ensures.items c.forget_notes.ensures c.forget_notes-2.ensures c.forget_notes-3.ensures refl
+    let ks = c.args.row.now.keys.items in
+    let place = c.place_of-place.result in
+    let p = c.place_of-place.ensures in
+    let items = c.in_ok-insert.ensures.items in
+    let size = ap length items ∙ length-insert ks place c.args.key p.within in
+    record {
+      keys = subst AreKeys (sym items) (inserted_keys ks place c.args.key c.requires.row.keys p c.requires.fresh c.requires.small);
+      quiet = c.in_ok-quiet.ensures.sound;
+      room = let room = c.in_ok-quiet.ensures.room in omega (arith, size, room, c.len.ensures);
+    }
 
 pub returns-clause-more : goal.returns-clause-more
 returns-clause-more c =
     let row = c.args.row.now in
-    let s = row.stretch in
     let place = c.place_of-place.result in
-    let tag : Tag = record { key = c.args.key; quiet = 0 } in
-    let ready : nat_eq 0 s ≡ false = ne_eqb 0 s (λ e. let begun = c.requires.row.begun in omega arith) in
-    let here : entry s tag ≡ (c.args.key, true) = rw ready refl in
-    (place, ap (map (entry s)) c.in_ok-insert.ensures.items ∙ map_insert s row.tags.items place tag ∙ ap (insert (map (entry s) row.tags.items) place) here)
+    let moved = c.in_ok-quiet.ensures.moved in
+    let size = c.len.ensures in (
+      place,
+      inserted row (record { keys = c.insert.new.self; quiet = c.in_ok-quiet.quiet; index = row.index }) c.args.key place c.place_of-place.ensures.within c.in_ok-insert.ensures.items
+          (λ k low lt. moved.before k low (omega (arith, lt, size)))
+          moved.put
+          (λ k from lt. moved.behind k from (omega (arith, lt, size))),
+    )

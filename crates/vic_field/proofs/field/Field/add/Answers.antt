@@ -1,7 +1,7 @@
 use Rattle.std.proofs.Common.{ℕ, Bool, true, false, cond, List, Some, ◌≡◌, ◌∙◌, ◌==◌, ap, sym}
 use Rattle.vic_frame.specs.Uids.{has}
 use Rattle.vic_field.specs.Keys.{tags_of}
-use Rattle.vic_field.specs.Rows.{entries, keys_in}
+use Rattle.vic_field.specs.Rows.{entries}
 use Rattle.vic_field.specs.Tags.{readiness, uids}
 use Rattle.vic_field.proofs.FieldRows.{more_readiness, uids_of_entries}
 use Rattle.vic_field.proofs.TagLaws.{has_key}
@@ -13,10 +13,10 @@ fresh c = ap (λ (ts : List (ℕ × Bool)). has (uids ts) c.args.uid) c.self.vie
 pub put-requires-clause-fresh : goal.put-requires-clause-fresh
 put-requires-clause-fresh c =
     let row = c.self.inside.row in
-    let ks = keys_in row.tags.items in
+    let ks = row.keys.items in
     ap (has ks) c.key.ensures.value
-    ∙ has_key c.args.uid ks c.key.ensures.is_uid c.self.invariant.small
-    ∙ ap (λ us. has us c.args.uid) (sym (uids_of_entries row.stretch row.tags.items))
+    ∙ has_key c.args.uid ks c.key.ensures.is_uid c.self.invariant.keys.small
+    ∙ ap (λ us. has us c.args.uid) (sym (uids_of_entries row))
     ∙ fresh c
 
 pub returns-clause-added : goal.returns-clause-added

@@ -1,6 +1,5 @@
 use Rattle.std.proofs.Common.{ℕ, Bool, List, ◌∙◌, ap, sym}
 use Rattle.vic_frame.specs.Uids.{has}
-use Rattle.vic_field.specs.Rows.{keys_in}
 use Rattle.vic_field.specs.Tags.{uids}
 use Rattle.vic_field.proofs.FieldRows.{uids_of_entries}
 use Rattle.vic_field.proofs.TagLaws.{has_key}
@@ -9,9 +8,9 @@ use Rattle.vic_field.proofs.field.Field.holds.Goals as goal
 pub returns : goal.returns
 returns c =
     let row = c.self.inside.row in
-    let ks = keys_in row.tags.items in
+    let ks = row.keys.items in
     c.holds.ensures
     ∙ ap (has ks) c.key.ensures.value
-    ∙ has_key c.args.uid ks c.key.ensures.is_uid c.self.invariant.small
-    ∙ ap (λ us. has us c.args.uid) (sym (uids_of_entries row.stretch row.tags.items))
+    ∙ has_key c.args.uid ks c.key.ensures.is_uid c.self.invariant.keys.small
+    ∙ ap (λ us. has us c.args.uid) (sym (uids_of_entries row))
     ∙ ap (λ (ts : List (ℕ × Bool)). has (uids ts) c.args.uid) c.self.view_is

@@ -1,0 +1,158 @@
+-- Bits of words, and what they say of places.
+use Rattle.std.proofs.Common.{◌≡◌, ◌≢◌, ℕ, ◌+◌, ◌-◌, ◌*◌, ◌/◌, ◌%◌, ◌^◌, ◌<◌, ◌≤◌, Bool, true, false, List, length, get_or, set, replicate, refl, sym, ap, subst, ◌∙◌, ◌&&◌, ◌||◌, ◌⊎◌, arith, ⊎_elim, bit_or, w64}
+use Rattle.std.specs.Prelude.{nat_eq, nat_lt}
+use Rattle.std.specs.Int.{bit_at, trailing_ones}
+use Rattle.std.proofs.lemmas.Bool.{cases_lt, cases_eq, eq-eqb, ne_eqb, and_left, lt-ltb, le-ltb}
+use Rattle.std.proofs.lemmas.List.{get_or_past, get_or-set_same, get_or-set_other, get_or-replicate, length-replicate}
+use Rattle.std.proofs.lemmas.Nat.{shr-shr, shr_le}
+use Rattle.std.proofs.lemmas.Nat.Bits.{bit_at_above, bit_at_ones, bit_at-trailing_ones, bit_at_set_same, bit_at_set_other}
+use Rattle.vic_field.specs.declared.quiet.QuietPlaces.{QuietPlaces}
+use Rattle.vic_field.specs.declared.quiet.Word.{Word}
+use Rattle.vic_field.specs.Places.{AreUpTo, HasBits, StandsFor, blank, is_quiet, is_set}
+
+-- no bit is set in a stretch after those of all words
+pub none_later : (t s k : ℕ) (ws : List Word) → AreUpTo t ws → t < s → is_set s ws k ≡ false
+none_later t s k ws up later = and_left _ _ (ne_eqb _ s (λ e. ⊎_elim
+    (λ (within : k / 64 < length ws). let low = up (k / 64) blank within in omega (arith, low, later, e))
+    (λ (past : length ws ≤ k / 64). let none : (get_or ws (k / 64) blank).stretch ≡ 0 = ap (λ (w : Word). w.stretch) (get_or_past ws (k / 64) blank past) in omega (arith, none, later, e))
+    (cases_lt (k / 64) (length ws))))
+
+pub all_blank : (n : ℕ) (ws : List Word) → ws ≡ replicate n blank → AreUpTo 0 ws
+all_blank n ws e = subst (AreUpTo 0) (sym e) (λ k d lt. let is : (get_or (replicate n blank) k d).stretch ≡ 0 = ap (λ (w : Word). w.stretch) (get_or-replicate n k blank d (let size = length-replicate n blank in omega (arith, size, lt))) in omega (arith, is))
+
+-- ---- ones of a number from a bit on
+
+shifted : (b r i : ℕ) → bit_at (b / 2 ^ r) i ≡ bit_at b (r + i)
+shifted b r i = ap (λ n. n % 2) (shr-shr b r i)
+
+pub ones : (b r : ℕ) → b < 2 ^ 64 → (i : ℕ) → i < trailing_ones w64 (b / 2 ^ r) → bit_at b (r + i) ≡ 1
+unfolding lib.Count.count_trailing_zeros
+ones b r small i h = sym (shifted b r i) ∙ ⊎_elim
+    (λ (below : b / 2 ^ r + 1 < 2 ^ 64). (bit_at-trailing_ones w64 (b / 2 ^ r) below).2 i h)
+    (λ (top : 2 ^ 64 ≤ b / 2 ^ r + 1).
+    let low = shr_le b r in
+    let all : b / 2 ^ r ≡ 2 ^ 64 - 1 = omega (arith, top, low, small) in
+    let far : i < 64 = subst (λ n. i < trailing_ones w64 n) all h in
+    ap (λ n. bit_at n i) all ∙ bit_at_ones 64 i far)
+    (cases_lt (b / 2 ^ r + 1) (2 ^ 64))
+
+pub ones_end : (b r : ℕ) → b < 2 ^ 64 → trailing_ones w64 (b / 2 ^ r) ≡ 0 → bit_at b r ≡ 0
+unfolding lib.Count.count_trailing_zeros
+ones_end b r small e = let same : r + 0 ≡ r = omega arith in subst (λ n. bit_at b n ≡ 0) same (sym (shifted b r 0) ∙ ⊎_elim
+    (λ (below : b / 2 ^ r + 1 < 2 ^ 64). ap (bit_at (b / 2 ^ r)) (sym e) ∙ (bit_at-trailing_ones w64 (b / 2 ^ r) below).1)
+    (λ (top : 2 ^ 64 ≤ b / 2 ^ r + 1).
+    let low = shr_le b r in
+    let all : b / 2 ^ r ≡ 2 ^ 64 - 1 = omega (arith, top, low, small) in
+    let none : 64 ≡ 0 = subst (λ n. trailing_ones w64 n ≡ 0) all e in
+    absurd (omega (arith, none)))
+    (cases_lt (b / 2 ^ r + 1) (2 ^ 64)))
+
+pub ones_within : (b r : ℕ) → b < 2 ^ 64 → r < 64 → r + trailing_ones w64 (b / 2 ^ r) ≤ 64
+ones_within b r small lt = ⊎_elim
+    (λ (far : 64 < r + trailing_ones w64 (b / 2 ^ r)).
+    let one = ones b r small (64 - r) (omega (arith, far, lt)) in
+    let zero_ = bit_at_above b 64 (r + (64 - r)) small (omega arith) in
+    omega (arith, one, zero_))
+    (λ (near : r + trailing_ones w64 (b / 2 ^ r) ≤ 64). near)
+    (cases_lt 64 (r + trailing_ones w64 (b / 2 ^ r)))
+
+-- ---- bits of words
+
+-- a word with one bit more
+abbrev pub with_bit : ℕ → ℕ → ℕ → Word
+with_bit s place b = record { bits = bit_or b (1 * 2 ^ (place % 64) % 2 ^ 64); stretch = s }
+
+set_here : (s place b k : ℕ) (ws : List Word) → place / 64 < length ws → k / 64 ≡ place / 64 → is_set s (set ws (place / 64) (with_bit s place b)) k ≡ nat_eq (bit_at (with_bit s place b).bits (k % 64)) 1
+set_here s place b k ws h e =
+    let here : get_or (set ws (place / 64) (with_bit s place b)) (k / 64) blank ≡ with_bit s place b = ap (λ n. get_or (set ws (place / 64) (with_bit s place b)) n blank) e ∙ get_or-set_same ws (place / 64) (with_bit s place b) blank h in
+    rw (here, eq-eqb s s refl) refl
+
+pub set_bit : (s place b : ℕ) (ws : List Word) → place / 64 < length ws → HasBits s ws (place / 64) b → (k : ℕ) → is_set s (set ws (place / 64) (with_bit s place b)) k ≡ (nat_eq k place || is_set s ws k)
+set_bit s place b ws h bits k = ⊎_elim
+    (λ (same : k / 64 ≡ place / 64). set_here s place b k ws h same ∙ ⊎_elim
+    (λ (here : k ≡ place).
+    let bit : bit_at (with_bit s place b).bits (k % 64) ≡ 1 = ap (λ n. bit_at (with_bit s place b).bits (n % 64)) here ∙ bit_at_set_same w64 b (place % 64) (omega arith) in
+    rw (eq-eqb k place here) (eq-eqb _ 1 bit))
+    (λ (other : k ≢ place).
+    let bit : bit_at (with_bit s place b).bits (k % 64) ≡ bit_at b (k % 64) = bit_at_set_other w64 b (place % 64) (omega arith) (k % 64) (λ e. other (omega (arith, e, same))) in
+    rw (ne_eqb k place other) (ap (λ n. nat_eq n 1) bit ∙ sym (bits k same)))
+    (cases_eq k place))
+    (λ (apart : k / 64 ≢ place / 64).
+    let there : get_or (set ws (place / 64) (with_bit s place b)) (k / 64) blank ≡ get_or ws (k / 64) blank = get_or-set_other ws (place / 64) (k / 64) (with_bit s place b) blank apart in
+    rw (there, ne_eqb k place (λ e. apart (ap (λ n. n / 64) e))) refl)
+    (cases_eq (k / 64) (place / 64))
+
+pub set_full : (s place b k : ℕ) (ws : List Word) → place / 64 < length ws → (with_bit s place b).bits ≡ 2 ^ 64 - 1 → k / 64 ≡ place / 64 → is_set s (set ws (place / 64) (with_bit s place b)) k ≡ true
+set_full s place b k ws h all e = set_here s place b k ws h e ∙ eq-eqb _ 1 (ap (λ n. bit_at n (k % 64)) all ∙ bit_at_ones 64 (k % 64) (omega arith))
+
+-- ---- what bits stand for
+
+pub stands_more : (size : ℕ) (q r : QuietPlaces) (ws : List Word) → q.stretch ≡ r.stretch → ((k : ℕ) → is_quiet q k ≡ true → is_quiet r k ≡ true) → StandsFor size q ws → StandsFor size r ws
+stands_more size q r ws e more stands n k is at = more k (stands n k (subst (λ s. is_set s ws n ≡ true) (sym e) is) at)
+
+pub stands_set : (size at : ℕ) (q : QuietPlaces) (ws new : List Word) → ((n : ℕ) → is_set q.stretch new n ≡ true → (n ≡ at) ⊎ (is_set q.stretch ws n ≡ true)) → ((k : ℕ) → k / size ≡ at → is_quiet q k ≡ true)
+    → StandsFor size q ws → StandsFor size q new
+stands_set size at q ws new others full stands n k is here = ⊎_elim
+    (λ (same : n ≡ at). full k (here ∙ same))
+    (λ (old : is_set q.stretch ws n ≡ true). stands n k old here)
+    (others n is)
+
+-- ---- a place more
+
+-- of the first places, up to the one before `next`, those from `gap` on are one further
+pub record IsGapped (gap next : ℕ) (old new : ℕ → Bool) : Type 0 where
+  pub before : (k : ℕ) → k < gap → new k ≡ (nat_lt (k + 1) next && old k)
+  pub put : new gap ≡ false
+  pub behind : (k : ℕ) → gap ≤ k → new (k + 1) ≡ (nat_lt (k + 1) next && old k)
+
+lt_more : (k n : ℕ) → k ≢ n → nat_lt k (n + 1) ≡ nat_lt k n
+lt_more k n other = ⊎_elim
+    (λ (under : k < n). lt-ltb k (n + 1) (omega arith) ∙ sym (lt-ltb k n under))
+    (λ (from : n ≤ k). le-ltb k (n + 1) (omega (arith, from, other)) ∙ sym (le-ltb k n from))
+    (cases_lt k n)
+
+passed : (next k : ℕ) (b : Bool) → k + 1 ≢ next → (nat_lt (k + 1) (next + 1) && b) ≡ (nat_lt (k + 1) next && b)
+passed next k b other = ap (λ (t : Bool). t && b) (lt_more (k + 1) next other)
+
+reached : (next k : ℕ) (b : Bool) → k + 1 ≡ next → (nat_lt (k + 1) (next + 1) && b) ≡ b
+reached next k b same = ap (λ (t : Bool). t && b) (lt-ltb (k + 1) (next + 1) (omega (arith, same)))
+
+pub none_gapped : (gap : ℕ) (old new : ℕ → Bool) → ((k : ℕ) → new k ≡ false) → IsGapped gap 1 old new
+none_gapped gap old new none = record {
+  before = λ k lt. none k ∙ sym (ap (λ (t : Bool). t && old k) (le-ltb (k + 1) 1 (omega arith)));
+  put = none gap;
+  behind = λ k le. none (k + 1) ∙ sym (ap (λ (t : Bool). t && old k) (le-ltb (k + 1) 1 (omega arith)));
+}
+
+-- one place further, which isn't Quiet
+pub gapped_ready : (gap next : ℕ) (old new : ℕ → Bool) → ((k : ℕ) → k + 1 ≡ next → old k ≡ false) → IsGapped gap next old new → IsGapped gap (next + 1) old new
+gapped_ready gap next old new ready i = record {
+  before = λ k lt. i.before k lt ∙ same k;
+  put = i.put;
+  behind = λ k le. i.behind k le ∙ same k;
+} where
+  same : (k : ℕ) → (nat_lt (k + 1) next && old k) ≡ (nat_lt (k + 1) (next + 1) && old k)
+  same k = ⊎_elim
+      (λ (here : k + 1 ≡ next). ap (λ (t : Bool). t && old k) (le-ltb (k + 1) next (omega (arith, here))) ∙ sym (ready k here) ∙ sym (reached next k (old k) here))
+      (λ (other : k + 1 ≢ next). sym (passed next k (old k) other))
+      (cases_eq (k + 1) next)
+
+-- one place further, which is Quiet, and stands at `to` now
+pub gapped_quiet : (gap next to : ℕ) (old was new : ℕ → Bool) → ((k : ℕ) → k + 1 ≡ next → old k ≡ true) → ((to + 1 ≡ next) × (to < gap)) ⊎ ((to ≡ next) × (gap < next))
+    → ((k : ℕ) → new k ≡ (nat_eq k to || was k)) → IsGapped gap next old was → IsGapped gap (next + 1) old new
+gapped_quiet gap next to old was new quiet place added i = record {
+  before = λ k lt. ⊎_elim
+      (λ (here : k + 1 ≡ next). at k k here (⊎_elim (λ p. omega (arith, here, p.0)) (λ p. absurd (omega (arith, here, lt, p.1))) place))
+      (λ (other : k + 1 ≢ next). off k (⊎_elim (λ p e. other (omega (arith, p.0, e))) (λ p e. omega (arith, lt, p.0, p.1, e)) place) ∙ i.before k lt ∙ sym (passed next k (old k) other))
+      (cases_eq (k + 1) next);
+  put = off gap (⊎_elim (λ p e. omega (arith, p.1, e)) (λ p e. omega (arith, p.0, p.1, e)) place) ∙ i.put;
+  behind = λ k le. ⊎_elim
+      (λ (here : k + 1 ≡ next). at (k + 1) k here (⊎_elim (λ p. absurd (omega (arith, here, le, p.0, p.1))) (λ p. omega (arith, here, p.0)) place))
+      (λ (other : k + 1 ≢ next). off (k + 1) (⊎_elim (λ p e. omega (arith, le, p.1, e)) (λ p e. other (omega (arith, p.0, e))) place) ∙ i.behind k le ∙ sym (passed next k (old k) other))
+      (cases_eq (k + 1) next);
+} where
+  at : (n k : ℕ) → k + 1 ≡ next → n ≡ to → new n ≡ (nat_lt (k + 1) (next + 1) && old k)
+  at n k here same = added n ∙ ap (λ (b : Bool). b || was n) (eq-eqb n to same) ∙ sym (quiet k here) ∙ sym (reached next k (old k) here)
+
+  off : (n : ℕ) → n ≢ to → new n ≡ was n
+  off n other = added n ∙ ap (λ (b : Bool). b || was n) (ne_eqb n to other)

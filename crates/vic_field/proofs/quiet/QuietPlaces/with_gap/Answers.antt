@@ -1,0 +1,52 @@
+use Rattle.std.proofs.Common.{◌≡◌, ◌<◌, ◌+◌, ◌-◌, ◌&&◌, Bool, false, ap, subst, ◌∙◌, arith, ◌⊎◌, inl, inr}
+use Rattle.std.proofs.lemmas.Bool.{lt-ltb}
+use Rattle.vic_field.specs.Places.{is_quiet}
+use Rattle.vic_field.proofs.PlaceLaws.{gapped_quiet, gapped_ready, none_gapped}
+use Rattle.vic_field.proofs.quiet.QuietPlaces.with_gap.Goals as goal
+use Rattle.vic_field.proofs.quiet.QuietPlaces.with_gap.Goals.{then-run-gt0, then-place-gap, else-place-gap, else-run-gt0}
+
+pub loop-next-init : goal.loop-next-init
+loop-next-init c = record {
+  sound = c.in_ok-moved.ensures.sound;
+  room = c.in_ok-moved.ensures.room;
+  gapped = none_gapped c.args.gap (is_quiet c.args.self.now) (is_quiet c.in_ok-moved.moved) c.in_ok-moved.ensures.none;
+}
+
+pub loop-next-preserved : goal.loop-next-preserved
+loop-next-preserved c =
+    let i = c.loop-next.invariant in
+    let old = c.args.self.now in
+    elim c.if-run-gt0.branch [
+      | then-run-gt0 w ↦
+          let some = w.if-run-gt0.true in
+          let room = w.add.ensures.room in
+          let next = c.loop-next.next in
+          let to = w.if-place-gap.add in
+          let place : ((to + 1 ≡ next) × (to < c.args.gap)) ⊎ ((to ≡ next) × (c.args.gap < next)) = elim w.if-place-gap.branch [
+            | then-place-gap w' ↦ let lt = w'.if-place-gap.true in inl (omega (arith, w'.add-is, c.loop-next.auto.next), omega (arith, w'.add-is, lt))
+            | else-place-gap w' ↦ let from = w'.if-place-gap.false in inr (w'.add-is, omega (arith, from, c.loop-next.auto.next))
+          ] in
+          rw w.moved-is (record {
+            sound = w.add.ensures.sound;
+            room = rw room i.room;
+            gapped = gapped_quiet c.args.gap next to (is_quiet old) (is_quiet c.loop-next.moved) (is_quiet w.add.new.self) (λ k here. c.run.ensures.quiet k (omega (arith, here)) (omega (arith, here, some))) place w.add.ensures.added i.gapped;
+          })
+      | else-run-gt0 w ↦
+          let none = w.if-run-gt0.false in
+          rw w.moved-is (record {
+            sound = i.sound;
+            room = i.room;
+            gapped = gapped_ready c.args.gap c.loop-next.next (is_quiet old) (is_quiet c.loop-next.moved) (λ k here. let same : c.loop-next.next - 1 ≡ k = omega (arith, here) in subst (λ n. is_quiet old n ≡ false) same (c.run.ensures.ready (omega (arith, none)))) i.gapped;
+          })
+    ]
+
+pub returns-clause-moved : goal.returns-clause-moved
+returns-clause-moved c =
+    let i = c.loop-next.invariant.gapped in
+    let end = c.loop-next-test.false in
+    let old = is_quiet c.args.self.now in
+    record {
+      before = λ k lt h. i.before k lt ∙ ap (λ (b : Bool). b && old k) (lt-ltb (k + 1) c.loop-next.next (omega (arith, h, end)));
+      put = i.put;
+      behind = λ k le h. i.behind k le ∙ ap (λ (b : Bool). b && old k) (lt-ltb (k + 1) c.loop-next.next (omega (arith, h, end)));
+    }
