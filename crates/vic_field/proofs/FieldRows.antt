@@ -12,7 +12,7 @@ use Rattle.vic_frame.specs.Uids.{IsUid, has}
 use Rattle.vic_frame.proofs.MirrorLaws.{mirror_of_uid, uid_of_mirror}
 use Rattle.vic_field.specs.declared.row.Row.{Row}
 use Rattle.vic_field.specs.Keys.{tags_of, uids_at}
-use Rattle.vic_field.specs.Rows.{entries, without}
+use Rattle.vic_field.specs.Rows.{entries, with_quiet}
 use Rattle.vic_field.specs.Tags.{readiness, uids}
 use Rattle.vic_field.proofs.RowLaws.{keys_of_entries}
 
@@ -21,7 +21,7 @@ either_none true = refl
 either_none false = refl
 
 pub quiet_readiness : (u v : ℕ) (es : List (ℕ × Bool)) → IsUid v → All IsKey (keys_of es)
-    → readiness (tags_of (without (mirror v) es)) u ≡ cond (u == v) (option_map (λ _. false) (readiness (tags_of es) u)) (readiness (tags_of es) u)
+    → readiness (tags_of (with_quiet (mirror v) es)) u ≡ cond (u == v) (option_map (λ _. false) (readiness (tags_of es) u)) (readiness (tags_of es) u)
 quiet_readiness u v [] hv small = either_none (u == v)
 quiet_readiness u v (e ∷ es) hv small = ⊎_elim
     (λ (here : u ≡ uid_of e.0). ⊎_elim

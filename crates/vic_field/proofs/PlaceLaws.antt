@@ -2,13 +2,13 @@
 use Rattle.std.proofs.Common.{◌≡◌, ◌≢◌, ℕ, ◌+◌, ◌-◌, ◌*◌, ◌/◌, ◌%◌, ◌^◌, ◌<◌, ◌≤◌, Bool, true, false, List, length, get_or, set, replicate, refl, sym, ap, subst, ◌∙◌, ◌&&◌, ◌||◌, ◌⊎◌, arith, ⊎_elim, bit_or, w64}
 use Rattle.std.specs.Prelude.{nat_eq, nat_lt}
 use Rattle.std.specs.Int.{bit_at, trailing_ones}
-use Rattle.std.proofs.lemmas.Bool.{cases_lt, cases_eq, eq-eqb, ne_eqb, and_left, lt-ltb, le-ltb}
+use Rattle.std.proofs.lemmas.Bool.{both_ways, cases_lt, cases_eq, eq-eqb, eqb-true, ne_eqb, and_left, lt-ltb, le-ltb, or_cases, or_right}
 use Rattle.std.proofs.lemmas.List.{get_or_past, get_or-set_same, get_or-set_other, get_or-replicate, length-replicate}
-use Rattle.std.proofs.lemmas.Nat.{shr-shr, shr_le}
-use Rattle.std.proofs.lemmas.Nat.Bits.{bit_at_above, bit_at_ones, bit_at-trailing_ones, bit_at_set_same, bit_at_set_other}
+use Rattle.std.proofs.lemmas.Nat.{or_lt, shr-shr, shr_le}
+use Rattle.std.proofs.lemmas.Nat.Bits.{bit_at_above, bit_at_ones, bit_at-trailing_ones, bit_at_set_same, bit_at_set_other, same_from_bits_below}
 use Rattle.vic_field.specs.declared.quiet.QuietPlaces.{QuietPlaces}
 use Rattle.vic_field.specs.declared.quiet.Word.{Word}
-use Rattle.vic_field.specs.Places.{AreUpTo, HasBits, StandsFor, blank, is_quiet, is_set}
+use Rattle.vic_field.specs.Places.{AreUpTo, HasBitMore, HasBits, IsFull, IsSound, NotesFull, blank, is_set}
 
 -- no bit is set in a stretch after those of all words
 pub none_later : (t s k : ℕ) (ws : List Word) → AreUpTo t ws → t < s → is_set s ws k ≡ false
@@ -60,42 +60,87 @@ ones_within b r small lt = ⊎_elim
 
 -- a word with one bit more
 abbrev pub with_bit : ℕ → ℕ → ℕ → Word
-with_bit s place b = record { bits = bit_or b (1 * 2 ^ (place % 64) % 2 ^ 64); stretch = s }
+with_bit s bit b = record { bits = bit_or b (1 * 2 ^ (bit % 64) % 2 ^ 64); stretch = s }
 
-set_here : (s place b k : ℕ) (ws : List Word) → place / 64 < length ws → k / 64 ≡ place / 64 → is_set s (set ws (place / 64) (with_bit s place b)) k ≡ nat_eq (bit_at (with_bit s place b).bits (k % 64)) 1
-set_here s place b k ws h e =
-    let here : get_or (set ws (place / 64) (with_bit s place b)) (k / 64) blank ≡ with_bit s place b = ap (λ n. get_or (set ws (place / 64) (with_bit s place b)) n blank) e ∙ get_or-set_same ws (place / 64) (with_bit s place b) blank h in
+set_here : (s bit b k : ℕ) (ws : List Word) → bit / 64 < length ws → k / 64 ≡ bit / 64 → is_set s (set ws (bit / 64) (with_bit s bit b)) k ≡ nat_eq (bit_at (with_bit s bit b).bits (k % 64)) 1
+set_here s bit b k ws h e =
+    let here : get_or (set ws (bit / 64) (with_bit s bit b)) (k / 64) blank ≡ with_bit s bit b = ap (λ n. get_or (set ws (bit / 64) (with_bit s bit b)) n blank) e ∙ get_or-set_same ws (bit / 64) (with_bit s bit b) blank h in
     rw (here, eq-eqb s s refl) refl
 
-pub set_bit : (s place b : ℕ) (ws : List Word) → place / 64 < length ws → HasBits s ws (place / 64) b → (k : ℕ) → is_set s (set ws (place / 64) (with_bit s place b)) k ≡ (nat_eq k place || is_set s ws k)
-set_bit s place b ws h bits k = ⊎_elim
-    (λ (same : k / 64 ≡ place / 64). set_here s place b k ws h same ∙ ⊎_elim
-    (λ (here : k ≡ place).
-    let bit : bit_at (with_bit s place b).bits (k % 64) ≡ 1 = ap (λ n. bit_at (with_bit s place b).bits (n % 64)) here ∙ bit_at_set_same w64 b (place % 64) (omega arith) in
-    rw (eq-eqb k place here) (eq-eqb _ 1 bit))
-    (λ (other : k ≢ place).
-    let bit : bit_at (with_bit s place b).bits (k % 64) ≡ bit_at b (k % 64) = bit_at_set_other w64 b (place % 64) (omega arith) (k % 64) (λ e. other (omega (arith, e, same))) in
-    rw (ne_eqb k place other) (ap (λ n. nat_eq n 1) bit ∙ sym (bits k same)))
-    (cases_eq k place))
-    (λ (apart : k / 64 ≢ place / 64).
-    let there : get_or (set ws (place / 64) (with_bit s place b)) (k / 64) blank ≡ get_or ws (k / 64) blank = get_or-set_other ws (place / 64) (k / 64) (with_bit s place b) blank apart in
-    rw (there, ne_eqb k place (λ e. apart (ap (λ n. n / 64) e))) refl)
-    (cases_eq (k / 64) (place / 64))
+pub set_bit : (s bit b : ℕ) (ws : List Word) → bit / 64 < length ws → HasBits s ws (bit / 64) b → HasBitMore s bit ws (set ws (bit / 64) (with_bit s bit b))
+set_bit s bit b ws h bits k = ⊎_elim
+    (λ (same : k / 64 ≡ bit / 64). set_here s bit b k ws h same ∙ ⊎_elim
+    (λ (here : k ≡ bit).
+    let one : bit_at (with_bit s bit b).bits (k % 64) ≡ 1 = ap (λ n. bit_at (with_bit s bit b).bits (n % 64)) here ∙ bit_at_set_same w64 b (bit % 64) (omega arith) in
+    rw (eq-eqb k bit here) (eq-eqb _ 1 one))
+    (λ (other : k ≢ bit).
+    let same_bit : bit_at (with_bit s bit b).bits (k % 64) ≡ bit_at b (k % 64) = bit_at_set_other w64 b (bit % 64) (omega arith) (k % 64) (λ e. other (omega (arith, e, same))) in
+    rw (ne_eqb k bit other) (ap (λ n. nat_eq n 1) same_bit ∙ sym (bits k same)))
+    (cases_eq k bit))
+    (λ (apart : k / 64 ≢ bit / 64).
+    let there : get_or (set ws (bit / 64) (with_bit s bit b)) (k / 64) blank ≡ get_or ws (k / 64) blank = get_or-set_other ws (bit / 64) (k / 64) (with_bit s bit b) blank apart in
+    rw (there, ne_eqb k bit (λ e. apart (ap (λ n. n / 64) e))) refl)
+    (cases_eq (k / 64) (bit / 64))
 
-pub set_full : (s place b k : ℕ) (ws : List Word) → place / 64 < length ws → (with_bit s place b).bits ≡ 2 ^ 64 - 1 → k / 64 ≡ place / 64 → is_set s (set ws (place / 64) (with_bit s place b)) k ≡ true
-set_full s place b k ws h all e = set_here s place b k ws h e ∙ eq-eqb _ 1 (ap (λ n. bit_at n (k % 64)) all ∙ bit_at_ones 64 (k % 64) (omega arith))
+pub set_full : (s bit b k : ℕ) (ws : List Word) → bit / 64 < length ws → (with_bit s bit b).bits ≡ 2 ^ 64 - 1 → k / 64 ≡ bit / 64 → is_set s (set ws (bit / 64) (with_bit s bit b)) k ≡ true
+set_full s bit b k ws h all e = set_here s bit b k ws h e ∙ eq-eqb _ 1 (ap (λ n. bit_at n (k % 64)) all ∙ bit_at_ones 64 (k % 64) (omega arith))
 
--- ---- what bits stand for
+-- all bits of a word are set only where the number is all ones
+pub full_bits : (s bit b : ℕ) (ws : List Word) → bit / 64 < length ws → b < 2 ^ 64 → IsFull s (set ws (bit / 64) (with_bit s bit b)) (bit / 64) → (with_bit s bit b).bits ≡ 2 ^ 64 - 1
+full_bits s bit b ws h small full = same_from_bits_below 64 _ (2 ^ 64 - 1) (or_lt 64 b (1 * 2 ^ (bit % 64) % 2 ^ 64) small (omega arith)) (omega arith) (λ i lt.
+    let number : (bit / 64 * 64 + i) / 64 ≡ bit / 64 = omega (arith, lt) in
+    let within : (bit / 64 * 64 + i) % 64 ≡ i = omega (arith, lt) in
+    subst (λ n. bit_at (with_bit s bit b).bits n ≡ 1) within (eqb-true _ 1 (sym (set_here s bit b _ ws h number) ∙ full _ number)) ∙ sym (bit_at_ones 64 i lt))
 
-pub stands_more : (size : ℕ) (q r : QuietPlaces) (ws : List Word) → q.stretch ≡ r.stretch → ((k : ℕ) → is_quiet q k ≡ true → is_quiet r k ≡ true) → StandsFor size q ws → StandsFor size r ws
-stands_more size q r ws e more stands n k is at = more k (stands n k (subst (λ s. is_set s ws n ≡ true) (sym e) is) at)
+-- ---- full words, and what is noted of them
 
-pub stands_set : (size at : ℕ) (q : QuietPlaces) (ws new : List Word) → ((n : ℕ) → is_set q.stretch new n ≡ true → (n ≡ at) ⊎ (is_set q.stretch ws n ≡ true)) → ((k : ℕ) → k / size ≡ at → is_quiet q k ≡ true)
-    → StandsFor size q ws → StandsFor size q new
-stands_set size at q ws new others full stands n k is here = ⊎_elim
-    (λ (same : n ≡ at). full k (here ∙ same))
-    (λ (old : is_set q.stretch ws n ≡ true). stands n k old here)
-    (others n is)
+-- no word is full in a stretch after those of all words
+none_noted : (t s : ℕ) (ws notes : List Word) → AreUpTo t ws → AreUpTo t notes → t < s → length ws ≤ length notes * 64 → NotesFull s ws notes
+none_noted t s ws notes up notes_up later room = record {
+  room = room;
+  noted = λ n lt full. absurd (both_ways _ (none_later t s (n * 64) ws up later) (full (n * 64) (omega arith)));
+  full = λ n is k at. absurd (both_ways _ (none_later t s n notes notes_up later) is);
+}
+
+-- in a stretch after those of all words no place is Quiet
+pub sound_later : (t : ℕ) (q : QuietPlaces) → t < q.stretch → AreUpTo t q.places.items → AreUpTo t q.full_words.items → AreUpTo t q.full_groups.items
+    → length q.places.items ≤ length q.full_words.items * 64 → length q.full_words.items ≤ length q.full_groups.items * 64 → IsSound q
+sound_later t q later places words groups room word_room = record {
+  begun = omega (arith, later);
+  full_words = none_noted t q.stretch _ _ places words later room;
+  full_groups = none_noted t q.stretch _ _ words groups later word_room;
+  places_up_to = λ k d lt. let low = places k d lt in omega (arith, low, later);
+  words_up_to = λ k d lt. let low = words k d lt in omega (arith, low, later);
+  groups_up_to = λ k d lt. let low = groups k d lt in omega (arith, low, later);
+}
+
+others : (s bit n : ℕ) (ws new : List Word) → HasBitMore s bit ws new → n ≢ bit / 64 → IsFull s new n → IsFull s ws n
+others s bit n ws new more other full k at = sym (more k ∙ ap (λ (b : Bool). b || is_set s ws k) (ne_eqb k bit (λ e. other (sym at ∙ ap (λ m. m / 64) e)))) ∙ full k at
+
+-- a bit more in a word that isn't full
+pub noted_as_before : (s bit : ℕ) (full : Bool) (ws new notes : List Word) → HasBitMore s bit ws new → length new ≡ length ws → full ≡ false → (IsFull s new (bit / 64) → full ≡ true) → NotesFull s ws notes → NotesFull s new notes
+noted_as_before s bit full ws new notes more size none has i = record {
+  room = subst (λ n. n ≤ length notes * 64) (sym size) i.room;
+  noted = λ n lt is. ⊎_elim
+      (λ (same : n ≡ bit / 64). absurd (both_ways full none (has (λ k at. is k (at ∙ sym same)))))
+      (λ (other : n ≢ bit / 64). i.noted n (subst (λ m. n < m) size lt) (others s bit n ws new more other is))
+      (cases_eq n (bit / 64));
+  full = λ n is k at. more k ∙ or_right _ _ (i.full n is k at);
+}
+
+-- a bit more with which its word is full, and noted
+pub noted_more : (s bit : ℕ) (ws new notes after : List Word) → HasBitMore s bit ws new → HasBitMore s (bit / 64) notes after → length new ≡ length ws → length after ≡ length notes → IsFull s new (bit / 64) → NotesFull s ws notes → NotesFull s new after
+noted_more s bit ws new notes after more note size long full i = record {
+  room = rw (size, long) i.room;
+  noted = λ n lt is. note n ∙ ⊎_elim
+      (λ (same : n ≡ bit / 64). ap (λ (b : Bool). b || is_set s notes n) (eq-eqb n (bit / 64) same))
+      (λ (other : n ≢ bit / 64). or_right _ _ (i.noted n (subst (λ m. n < m) size lt) (others s bit n ws new more other is)))
+      (cases_eq n (bit / 64));
+  full = λ n is k at. ⊎_elim
+      (λ (same : nat_eq n (bit / 64) ≡ true). full k (at ∙ eqb-true n (bit / 64) same))
+      (λ (old : is_set s notes n ≡ true). more k ∙ or_right _ _ (i.full n old k at))
+      (or_cases _ _ (sym (note n) ∙ is));
+}
 
 -- ---- a place more
 
@@ -103,7 +148,7 @@ stands_set size at q ws new others full stands n k is here = ⊎_elim
 pub record IsGapped (gap next : ℕ) (old new : ℕ → Bool) : Type 0 where
   pub before : (k : ℕ) → k < gap → new k ≡ (nat_lt (k + 1) next && old k)
   pub put : new gap ≡ false
-  pub behind : (k : ℕ) → gap ≤ k → new (k + 1) ≡ (nat_lt (k + 1) next && old k)
+  pub after : (k : ℕ) → gap ≤ k → new (k + 1) ≡ (nat_lt (k + 1) next && old k)
 
 lt_more : (k n : ℕ) → k ≢ n → nat_lt k (n + 1) ≡ nat_lt k n
 lt_more k n other = ⊎_elim
@@ -121,7 +166,7 @@ pub none_gapped : (gap : ℕ) (old new : ℕ → Bool) → ((k : ℕ) → new k 
 none_gapped gap old new none = record {
   before = λ k lt. none k ∙ sym (ap (λ (t : Bool). t && old k) (le-ltb (k + 1) 1 (omega arith)));
   put = none gap;
-  behind = λ k le. none (k + 1) ∙ sym (ap (λ (t : Bool). t && old k) (le-ltb (k + 1) 1 (omega arith)));
+  after = λ k le. none (k + 1) ∙ sym (ap (λ (t : Bool). t && old k) (le-ltb (k + 1) 1 (omega arith)));
 }
 
 -- one place further, which isn't Quiet
@@ -129,7 +174,7 @@ pub gapped_ready : (gap next : ℕ) (old new : ℕ → Bool) → ((k : ℕ) → 
 gapped_ready gap next old new ready i = record {
   before = λ k lt. i.before k lt ∙ same k;
   put = i.put;
-  behind = λ k le. i.behind k le ∙ same k;
+  after = λ k le. i.after k le ∙ same k;
 } where
   same : (k : ℕ) → (nat_lt (k + 1) next && old k) ≡ (nat_lt (k + 1) (next + 1) && old k)
   same k = ⊎_elim
@@ -146,9 +191,9 @@ gapped_quiet gap next to old was new quiet place added i = record {
       (λ (other : k + 1 ≢ next). off k (⊎_elim (λ p e. other (omega (arith, p.0, e))) (λ p e. omega (arith, lt, p.0, p.1, e)) place) ∙ i.before k lt ∙ sym (passed next k (old k) other))
       (cases_eq (k + 1) next);
   put = off gap (⊎_elim (λ p e. omega (arith, p.1, e)) (λ p e. omega (arith, p.0, p.1, e)) place) ∙ i.put;
-  behind = λ k le. ⊎_elim
+  after = λ k le. ⊎_elim
       (λ (here : k + 1 ≡ next). at (k + 1) k here (⊎_elim (λ p. absurd (omega (arith, here, le, p.0, p.1))) (λ p. omega (arith, here, p.0)) place))
-      (λ (other : k + 1 ≢ next). off (k + 1) (⊎_elim (λ p e. omega (arith, le, p.1, e)) (λ p e. other (omega (arith, p.0, e))) place) ∙ i.behind k le ∙ sym (passed next k (old k) other))
+      (λ (other : k + 1 ≢ next). off (k + 1) (⊎_elim (λ p e. omega (arith, le, p.1, e)) (λ p e. other (omega (arith, p.0, e))) place) ∙ i.after k le ∙ sym (passed next k (old k) other))
       (cases_eq (k + 1) next);
 } where
   at : (n k : ℕ) → k + 1 ≡ next → n ≡ to → new n ≡ (nat_lt (k + 1) (next + 1) && old k)

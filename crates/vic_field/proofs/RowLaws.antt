@@ -19,8 +19,8 @@ use Rattle.vic_frame.specs.Uids.{has}
 use Rattle.vic_field.specs.declared.outcome.Outcome.TheVariants.{Several}
 use Rattle.vic_field.specs.declared.row.Row.{Row}
 use Rattle.vic_field.specs.Keys.{AreKeys, ready_between}
-use Rattle.vic_field.specs.Places.{is_quiet}
-use Rattle.vic_field.specs.Rows.{HasKeyPlaceBetween, IsKeyPlace, IsRow, as_ready, entries, entry_at, without}
+use Rattle.vic_field.specs.Places.{is_quiet_place}
+use Rattle.vic_field.specs.Rows.{HasKeyPlaceBetween, IsKeyPlace, IsRow, as_ready, entries, entry_at, with_quiet}
 use Rattle.vic_field.specs.Tags.{heard}
 
 -- ---- where keys stand
@@ -55,6 +55,7 @@ found ks key from to i h most below above =
     let order = h.order in
     let within = h.within in
     record {
+      order = omega arith;
       within = omega (arith, order, within, most);
       below = λ k lt. ⊎_elim
           (λ (before : k < from). h.below k before)
@@ -63,7 +64,7 @@ found ks key from to i h most below above =
           let less = below (k - from) (omega (arith, lt, le)) in
           omega (arith, here, less))
           (cases_lt k from);
-      from = λ k le lt. ⊎_elim
+      above = λ k le lt. ⊎_elim
           (λ (before : k < to).
           let here = inside ks from to k (omega (arith, le)) before in
           let more = above (k - from) (omega (arith, le)) (omega (arith, le, before)) in
@@ -84,7 +85,7 @@ pub lacks : (ks : List ℕ) (q place : ℕ) → IsStrictlySortedBy nat_cmp ks �
 lacks ks q place o p other k h e = ⊎_elim
     (λ (before : k < place). let a = p.below k before in omega (arith, a, e))
     (λ (from : place ≤ k).
-    let low = p.from place (omega arith) (omega arith) in
+    let low = p.above place (omega arith) (omega arith) in
     let up = non_decreasing_from_sorted ks o place k 0 from h in
     other (omega arith) (omega (arith, low, up, e)))
     (cases_lt k place)
@@ -137,7 +138,7 @@ not_or false false = refl
 
 -- the tag at a place made Quiet
 pub silenced : (r new : Row) (key place : ℕ) → IsRow r → place < length r.keys.items → get_or r.keys.items place 0 ≡ key → new.keys.items ≡ r.keys.items
-    → ((k : ℕ) → is_quiet new.quiet k ≡ (nat_eq k place || is_quiet r.quiet k)) → entries new ≡ without key (entries r)
+    → ((k : ℕ) → is_quiet_place new.quiet k ≡ (nat_eq k place || is_quiet_place r.quiet k)) → entries new ≡ with_quiet key (entries r)
 silenced r new key place i h e keys added =
     let ks = r.keys.items in
     each (λ t. (t.0, t.1 && not (nat_eq key t.0))) r new (ap length keys) (λ k lt.
@@ -148,19 +149,19 @@ silenced r new key place i h e keys added =
     (λ (from : place ≤ k). let up : place < k = omega (arith, from, other) in let more = below_from_sorted ks place k 0 i.keys.rising up lt in omega (arith, more, e, is))
     (cases_lt k place)))))
     (cases_eq k place) in
-    rw (keys, added k, same, not_or (nat_eq key (get_or ks k 0)) (is_quiet r.quiet k)) refl)
+    rw (keys, added k, same, not_or (nat_eq key (get_or ks k 0)) (is_quiet_place r.quiet k)) refl)
 
-pub without_none : (r : Row) (q : ℕ) → ((k : ℕ) → k < length r.keys.items → get_or r.keys.items k 0 ≢ q) → entries r ≡ without q (entries r)
-without_none r q none = each (λ t. (t.0, t.1 && not (nat_eq q t.0))) r r refl (λ k lt.
-    rw (ne_eqb q (get_or r.keys.items k 0) (λ e. none k lt (sym e))) (ap (λ (b : Bool). (get_or r.keys.items k 0, b)) (sym (and_yes (not (is_quiet r.quiet k)))))) where
+pub with_quiet_none : (r : Row) (q : ℕ) → ((k : ℕ) → k < length r.keys.items → get_or r.keys.items k 0 ≢ q) → entries r ≡ with_quiet q (entries r)
+with_quiet_none r q none = each (λ t. (t.0, t.1 && not (nat_eq q t.0))) r r refl (λ k lt.
+    rw (ne_eqb q (get_or r.keys.items k 0) (λ e. none k lt (sym e))) (ap (λ (b : Bool). (get_or r.keys.items k 0, b)) (sym (and_yes (not (is_quiet_place r.quiet k)))))) where
       and_yes : (b : Bool) → (b && true) ≡ b
       and_yes true = refl
       and_yes false = refl
 
-pub all_ready : (r new : Row) → new.keys.items ≡ r.keys.items → ((k : ℕ) → is_quiet new.quiet k ≡ false) → entries new ≡ as_ready (entries r)
+pub all_ready : (r new : Row) → new.keys.items ≡ r.keys.items → ((k : ℕ) → is_quiet_place new.quiet k ≡ false) → entries new ≡ as_ready (entries r)
 all_ready r new keys none = each (λ e. (e.0, true)) r new (ap length keys) (λ k lt. rw (keys, none k) refl)
 
-pub new_entries : (r : Row) → ((k : ℕ) → is_quiet r.quiet k ≡ false) → entries r ≡ map (λ k. (k, true)) r.keys.items
+pub new_entries : (r : Row) → ((k : ℕ) → is_quiet_place r.quiet k ≡ false) → entries r ≡ map (λ k. (k, true)) r.keys.items
 new_entries r none =
     let size = length_entries r in
     same_lists _ _ (size ∙ sym (length-map r.keys.items (λ (k : ℕ). (k, true)))) (λ k d h.
@@ -186,7 +187,7 @@ inserted_keys ks place key i p fresh small = record {
   rising =
       let up = IsNonDecreasingBy-insert (λ x. x) ks place key (non_decreasing_from_sorted ks i.rising) p.within
       (λ k d lt. let low = p.below k lt in let within = p.within in let same = get_or_default ks k d 0 (omega (arith, lt, within)) in omega (arith, low, same))
-      (λ k d le lt. let high = p.from k le lt in let same = get_or_default ks k d 0 lt in omega (arith, high, same)) in
+      (λ k d le lt. let high = p.above k le lt in let same = get_or_default ks k d 0 lt in omega (arith, high, same)) in
       let apart : IsDistinct nat_eq ks = IsDistinct-from_apart nat_eq ks (λ j k d lt h. ne_eqb (get_or ks j d) (get_or ks k d) (λ e. let more = below_from_sorted ks j k d i.rising lt h in omega (arith, more, e))) in
       let distinct = IsDistinct-IsPermutation nat_eq flips (key ∷ ks) (insert ks place key) (IsPermutation-insert ks place key) (IsDistinct-cons nat_eq key ks (no_key key ks fresh) apart) in
       sorted_from_strictly_increasing (insert ks place key) (IsStrictlyIncreasing-from_distinct (insert ks place key) up distinct);
@@ -194,9 +195,9 @@ inserted_keys ks place key i p fresh small = record {
 
 -- a row with one tag more, Ready
 pub inserted : (r new : Row) (key place : ℕ) → place ≤ length r.keys.items → new.keys.items ≡ insert r.keys.items place key
-    → ((k : ℕ) → k < place → k < length r.keys.items → is_quiet new.quiet k ≡ is_quiet r.quiet k) → is_quiet new.quiet place ≡ false
-    → ((k : ℕ) → place ≤ k → k < length r.keys.items → is_quiet new.quiet (k + 1) ≡ is_quiet r.quiet k) → entries new ≡ insert (entries r) place (key, true)
-inserted r new key place within keys before put behind =
+    → ((k : ℕ) → k < place → k < length r.keys.items → is_quiet_place new.quiet k ≡ is_quiet_place r.quiet k) → is_quiet_place new.quiet place ≡ false
+    → ((k : ℕ) → place ≤ k → k < length r.keys.items → is_quiet_place new.quiet (k + 1) ≡ is_quiet_place r.quiet k) → entries new ≡ insert (entries r) place (key, true)
+inserted r new key place within keys before put after =
     let ks = r.keys.items in
     let es = entries r in
     let size = length_entries r in
@@ -218,7 +219,7 @@ inserted r new key place within keys before put behind =
     let next : k ≡ j + 1 = omega (arith, from, other) in
     let above : place ≤ j = omega (arith, from, other) in
     let lt_old : j < length ks = omega (arith, lt, same, more, from, other) in
-    rw (next, keys, behind j above lt_old, get_or-insert_above ks place key 0 j above within) (sym (get_or-insert_above es place (key, true) d j above there ∙ entry r j d lt_old)))
+    rw (next, keys, after j above lt_old, get_or-insert_above ks place key 0 j above within) (sym (get_or-insert_above es place (key, true) d j above there ∙ entry r j d lt_old)))
     (cases_eq k place))
     (cases_lt k place))
 
@@ -263,7 +264,7 @@ several (u ∷ []) h = absurd (omega arith)
 several (u ∷ v ∷ us) h = refl
 
 -- a tag that isn't Ready, or whose key lies outside, doesn't answer
-pub outside : (r : Row) (a b from : ℕ) → IsKeyPlace a r.keys.items from → (k : ℕ) → (from ≤ k → get_or r.keys.items k 0 ≤ b → is_quiet r.quiet k ≡ true) → answers a b (entry_at r k) ≡ false
+pub outside : (r : Row) (a b from : ℕ) → IsKeyPlace a r.keys.items from → (k : ℕ) → (from ≤ k → get_or r.keys.items k 0 ≤ b → is_quiet_place r.quiet k ≡ true) → answers a b (entry_at r k) ≡ false
 outside r a b from p k quiet = ⊎_elim
     (λ (before : k < from). rw (lt-leb a key (p.below k before)) refl)
     (λ (low : from ≤ k). ⊎_elim
@@ -274,7 +275,7 @@ outside r a b from p k quiet = ⊎_elim
       key : ℕ
       key = get_or r.keys.items k 0
 
-pub inside_ready : (r : Row) (a b k : ℕ) → a ≤ get_or r.keys.items k 0 → get_or r.keys.items k 0 ≤ b → is_quiet r.quiet k ≡ false → answers a b (entry_at r k) ≡ true
+pub inside_ready : (r : Row) (a b k : ℕ) → a ≤ get_or r.keys.items k 0 → get_or r.keys.items k 0 ≤ b → is_quiet_place r.quiet k ≡ false → answers a b (entry_at r k) ≡ true
 inside_ready r a b k low high ready = rw (le-leb a (get_or r.keys.items k 0) low, le-leb (get_or r.keys.items k 0) b high, ready) refl
 
 pub hears_nobody : (r : Row) (a b : ℕ) → ((k : ℕ) → k < length r.keys.items → answers a b (entry_at r k) ≡ false) → ready_between a b (entries r) ≡ []

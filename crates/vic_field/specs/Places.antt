@@ -1,10 +1,10 @@
 -- Which places of a row are Quiet, by bits of words.
-use Rattle.std.specs.Prelude.{◌≡◌, ℕ, ◌+◌, ◌*◌, ◌/◌, ◌%◌, ◌<◌, ◌≤◌, Bool, true, false, ◌&&◌, List, length, slice_index_or, nat_eq}
+use Rattle.std.specs.Prelude.{◌≡◌, ℕ, ◌+◌, ◌*◌, ◌/◌, ◌%◌, ◌<◌, ◌≤◌, Bool, true, false, ◌&&◌, ◌||◌, List, length, slice_index_or, nat_eq}
 use Rattle.std.specs.Int.{bit_at}
 use Rattle.std.specs.List.{All}
 use Rattle.vic_field.specs.declared.quiet.QuietPlaces.{QuietPlaces}
 use Rattle.vic_field.specs.declared.quiet.Word.{Word}
-use Rattle.vic_field.specs.declared.quiet.TheConstants.{GROUP, WORD}
+use Rattle.vic_field.specs.declared.quiet.TheConstants.{WORD}
 
 -- a word that says nothing
 abbrev pub blank : Word
@@ -21,14 +21,19 @@ abbrev pub HasBits : ℕ → List Word → ℕ → ℕ → Type 0
 HasBits s ws n bits =
     (k : ℕ) → k / WORD ≡ n → is_set s ws k ≡ nat_eq (bit_at bits (k % WORD)) 1
 
--- the place k is Quiet
-abbrev pub is_quiet : QuietPlaces → ℕ → Bool
-is_quiet q k = is_set q.stretch q.places.items k
+-- one bit more is set
+abbrev pub HasBitMore : ℕ → ℕ → List Word → List Word → Type 0
+HasBitMore s bit old new = (k : ℕ) → is_set s new k ≡ (nat_eq k bit || is_set s old k)
 
--- a bit stands for so many places, all Quiet where it is set
-abbrev pub StandsFor : ℕ → QuietPlaces → List Word → Type 0
-StandsFor size q ws =
-    (n k : ℕ) → is_set q.stretch ws n ≡ true → k / size ≡ n → is_quiet q k ≡ true
+-- all bits of word n are set
+abbrev pub IsFull : ℕ → List Word → ℕ → Type 0
+IsFull s ws n = (k : ℕ) → k / WORD ≡ n → is_set s ws k ≡ true
+
+-- a bit of `notes` for each word, set exactly where the word is full
+pub record NotesFull (s : ℕ) (ws notes : List Word) : Type 0 where
+  pub room : length ws ≤ length notes * WORD
+  pub noted : (n : ℕ) → n < length ws → IsFull s ws n → is_set s notes n ≡ true
+  pub full : (n : ℕ) → is_set s notes n ≡ true → IsFull s ws n
 
 -- no word is of a later stretch than this one
 abbrev pub AreUpTo : ℕ → List Word → Type 0
@@ -38,23 +43,27 @@ AreUpTo s ws = All (λ w. w.stretch ≤ s) ws
 abbrev pub AreBlank : List Word → Type 0
 AreBlank ws = AreUpTo 0 ws
 
--- the bits of words and groups are set only where all their places are Quiet, and nothing is
--- said of a later stretch
+-- the place k is Quiet
+abbrev pub is_quiet_place : QuietPlaces → ℕ → Bool
+is_quiet_place q k = is_set q.stretch q.places.items k
+
+-- full words and full groups are noted, and nothing is said of a later stretch
 pub record IsSound (q : QuietPlaces) : Type 0 where
   pub begun : 0 < q.stretch
-  pub words : StandsFor WORD q q.words.items
-  pub groups : StandsFor GROUP q q.groups.items
+  pub full_words : NotesFull q.stretch q.places.items q.full_words.items
+  pub full_groups : NotesFull q.stretch q.full_words.items q.full_groups.items
   pub places_up_to : AreUpTo q.stretch q.places.items
-  pub words_up_to : AreUpTo q.stretch q.words.items
-  pub groups_up_to : AreUpTo q.stretch q.groups.items
+  pub words_up_to : AreUpTo q.stretch q.full_words.items
+  pub groups_up_to : AreUpTo q.stretch q.full_groups.items
 
 -- there is a bit for each of so many places
 abbrev pub HasRoomFor : ℕ → QuietPlaces → Type 0
 HasRoomFor count q = count ≤ length q.places.items * WORD
 
--- so many places, of which those before `gap` are as they were, that one isn't Quiet, and those
--- behind it stood one before
+-- of so many places those before `gap` are as they were, `gap` is Ready, and those after it stood
+-- one place before
 pub record IsMoved (gap count : ℕ) (old new : QuietPlaces) : Type 0 where
-  pub before : (k : ℕ) → k < gap → k + 1 < count → is_quiet new k ≡ is_quiet old k
-  pub put : is_quiet new gap ≡ false
-  pub behind : (k : ℕ) → gap ≤ k → k + 1 < count → is_quiet new (k + 1) ≡ is_quiet old k
+  pub before : (k : ℕ) → k < gap → is_quiet_place new k ≡ is_quiet_place old k
+  pub put : is_quiet_place new gap ≡ false
+  pub after : (k : ℕ) → gap ≤ k → k + 1 < count
+      → is_quiet_place new (k + 1) ≡ is_quiet_place old k

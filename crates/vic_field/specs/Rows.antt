@@ -3,11 +3,11 @@ use Rattle.std.specs.Prelude.{◌≡◌, ℕ, ◌<◌, ◌≤◌, Bool, true, fa
 use Rattle.std.specs.List.{insert, range_with_len}
 use Rattle.vic_field.specs.declared.row.Row.{Row}
 use Rattle.vic_field.specs.Keys.{AreKeys}
-use Rattle.vic_field.specs.Places.{HasRoomFor, IsSound, is_quiet}
+use Rattle.vic_field.specs.Places.{HasRoomFor, IsSound, is_quiet_place}
 
 -- the tag at a place by its key, and whether it is Ready
 abbrev pub entry_at : Row → ℕ → ℕ × Bool
-entry_at r k = (slice_index_or r.keys.items k 0, not (is_quiet r.quiet k))
+entry_at r k = (slice_index_or r.keys.items k 0, not (is_quiet_place r.quiet k))
 
 -- a row's tags
 abbrev pub entries : Row → List (ℕ × Bool)
@@ -18,8 +18,8 @@ abbrev pub as_ready : List (ℕ × Bool) → List (ℕ × Bool)
 as_ready es = map (λ e. (e.0, true)) es
 
 -- the one with this key Quiet
-abbrev pub without : ℕ → List (ℕ × Bool) → List (ℕ × Bool)
-without key es = map (λ e. (e.0, e.1 && not (nat_eq key e.0))) es
+abbrev pub with_quiet : ℕ → List (ℕ × Bool) → List (ℕ × Bool)
+with_quiet key es = map (λ e. (e.0, e.1 && not (nat_eq key e.0))) es
 
 -- keys of 56 bits that rise, and sound notes of the Quiet ones with room for each
 pub record IsRow (r : Row) : Type 0 where
@@ -27,32 +27,31 @@ pub record IsRow (r : Row) : Type 0 where
   pub quiet : IsSound r.quiet
   pub room : HasRoomFor (length r.keys.items) r.quiet
 
--- the keys before a place are below this one, the others aren't
-pub record IsKeyPlace (key : ℕ) (ks : List ℕ) (place : ℕ) : Type 0 where
-  pub within : place ≤ length ks
-  pub below : (k : ℕ) → k < place → slice_index_or ks k 0 < key
-  pub from : (k : ℕ) → place ≤ k → k < length ks → key ≤ slice_index_or ks k 0
-
--- the place at which keys begin to be at least this one is between two others, both counted
+-- the place before which keys are below this one, and from which on they aren't, is between two
+-- others, both counted
 pub record HasKeyPlaceBetween (key : ℕ) (ks : List ℕ) (from to : ℕ) : Type 0 where
   pub order : from ≤ to
   pub within : to ≤ length ks
   pub below : (k : ℕ) → k < from → slice_index_or ks k 0 < key
   pub above : (k : ℕ) → to ≤ k → k < length ks → key ≤ slice_index_or ks k 0
 
+-- it is this place
+abbrev pub IsKeyPlace : ℕ → List ℕ → ℕ → Type 0
+IsKeyPlace key ks place = HasKeyPlaceBetween key ks place place
+
 -- from a place on no tag is Ready whose key is at most this one
 abbrev pub HasNoneReady : Row → ℕ → ℕ → Type 0
 HasNoneReady r from last =
     (k : ℕ) → from ≤ k → k < length r.keys.items → slice_index_or r.keys.items k 0 ≤ last
-    → is_quiet r.quiet k ≡ true
+    → is_quiet_place r.quiet k ≡ true
 
 -- the first one that is
 pub record IsNextReady (r : Row) (from last place : ℕ) : Type 0 where
   pub low : from ≤ place
   pub there : place < length r.keys.items
   pub key : slice_index_or r.keys.items place 0 ≤ last
-  pub quiet : (k : ℕ) → from ≤ k → k < place → is_quiet r.quiet k ≡ true
-  pub ready : is_quiet r.quiet place ≡ false
+  pub quiet : (k : ℕ) → from ≤ k → k < place → is_quiet_place r.quiet k ≡ true
+  pub ready : is_quiet_place r.quiet place ≡ false
 
 -- one tag more at some place, Ready
 abbrev pub HasMore : ℕ → List (ℕ × Bool) → List (ℕ × Bool) → Type 0

@@ -1,18 +1,18 @@
 //! Which places of a row have Quiet tags: words of bits, which a field cycle takes back at once.
 
-ghost use Rattle.std.specs.Prelude.{◌≡◌, ℕ, ◌<◌, ◌≤◌, ◌+◌, ◌*◌, ◌/◌, true, false, length, IfOk, ◌||◌, ◌⊎◌, nat_eq};
+ghost use Rattle.std.specs.Prelude.{◌≡◌, ℕ, ◌<◌, ◌≤◌, ◌+◌, ◌*◌, ◌/◌, ◌%◌, true, false, length, IfOk, ◌||◌, nat_eq};
 ghost use Rattle.std.specs.Int.{bit_at};
-ghost use Rattle.vic_field.specs.Places.{AreBlank, AreUpTo, HasBits, HasRoomFor, IsMoved, IsSound, is_quiet, is_set};
+ghost use Rattle.vic_field.specs.Places.{AreBlank, AreUpTo, HasBitMore, HasBits, HasRoomFor, IsFull, IsMoved, IsSound, is_quiet_place, is_set};
 
 use std::alloc::{AllocError, Global};
 
 /// How many bits a word has.
 pub(crate) const WORD: usize = 64;
 
-/// How many places a word of `words` stands for.
+/// How many places a group has: those of 64 words, one word of `full_words`.
 pub(crate) const GROUP: usize = WORD * WORD;
 
-/// How many places a word of `groups` stands for.
+/// How many places a cluster has: those of 64 groups, one word of `full_groups`.
 pub(crate) const CLUSTER: usize = WORD * GROUP;
 
 /// Bits that count in one stretch between two field cycles. In any other none of them is set.
@@ -33,10 +33,10 @@ const BLANK: Word = Word {
 pub(crate) struct QuietPlaces {
     /// A bit for each place, set where it is Quiet.
     pub(crate) places: Vec<Word>,
-    /// A bit for each word of `places`, set where all its bits are.
-    pub(crate) words: Vec<Word>,
-    /// The same for each word of `words`.
-    pub(crate) groups: Vec<Word>,
+    /// A bit for each word of `places`, set where all bits of that word are.
+    pub(crate) full_words: Vec<Word>,
+    /// A bit for each word of `full_words`, set where all bits of that word are.
+    pub(crate) full_groups: Vec<Word>,
     /// The stretch between two field cycles, from 1.
     pub(crate) stretch: u32,
 }
@@ -48,8 +48,8 @@ impl QuietPlaces {
     {
         QuietPlaces {
             places: Vec::new(alloc),
-            words: Vec::new(alloc),
-            groups: Vec::new(alloc),
+            full_words: Vec::new(alloc),
+            full_groups: Vec::new(alloc),
             stretch: 1,
         }
     }
@@ -58,31 +58,38 @@ impl QuietPlaces {
     pub(crate) fn over(alloc: Global, count: usize) -> Result<QuietPlaces, AllocError>
         ensures sound { IfOk result IsSound }
         ensures room { IfOk result (HasRoomFor count) }
-        ensures none { IfOk result (λ q. (k : ℕ) → is_quiet q k ≡ false) }
+        ensures none { IfOk result (λ q. (k : ℕ) → is_quiet_place q k ≡ false) }
     {
         Ok(QuietPlaces {
             places: vec![in alloc; BLANK; count / WORD + 1]?,
-            words: vec![in alloc; BLANK; count / GROUP + 1]?,
-            groups: vec![in alloc; BLANK; count / CLUSTER + 1]?,
+            full_words: vec![in alloc; BLANK; count / GROUP + 1]?,
+            full_groups: vec![in alloc; BLANK; count / CLUSTER + 1]?,
             stretch: 1,
         })
     }
 
-    /// How many places from one on are known to be Quiet by one look; 0 where that one isn't.
-    pub(crate) fn run(&self, place: usize) -> usize
+    /// So many places from this one on are Quiet, as one to three words of bits tell: none if this
+    /// one isn't, all of a word if a full one begins here, all of a group if its words are full.
+    pub(crate) fn run_from(&self, place: usize) -> usize
         requires { IsSound self.now }
-        ensures quiet { (k : ℕ) → place ≤ k → k < place + result → is_quiet self.now k ≡ true }
-        ensures ready { result ≡ 0 → is_quiet self.now place ≡ false }
+        ensures quiet { (k : ℕ) → place ≤ k → k < place + result
+            → is_quiet_place self.now k ≡ true }
+        ensures ready { result ≡ 0 → is_quiet_place self.now place ≡ false }
+        ensures word { place % WORD ≡ 0 → place / WORD < length self.now.places.items
+            → IsFull self.now.stretch self.now.places.items (place / WORD) → WORD ≤ result }
+        ensures group { place % GROUP ≡ 0 → place / GROUP < length self.now.full_words.items
+            → IsFull self.now.stretch self.now.full_words.items (place / GROUP)
+            → GROUP ≤ result }
         ensures most { result ≤ CLUSTER }
     {
         if place % GROUP == 0 {
-            let groups = run_in(&self.groups, self.stretch, place / GROUP);
+            let groups = run_in(&self.full_groups, self.stretch, place / GROUP);
             if groups > 0 {
                 return groups * GROUP;
             }
         }
         if place % WORD == 0 {
-            let words = run_in(&self.words, self.stretch, place / WORD);
+            let words = run_in(&self.full_words, self.stretch, place / WORD);
             if words > 0 {
                 return words * WORD;
             }
@@ -96,22 +103,23 @@ impl QuietPlaces {
         requires room { place < length self.old.places.items * WORD }
         ensures sound { IsSound self.new }
         ensures room { length self.new.places.items ≡ length self.old.places.items }
-        ensures added { (k : ℕ) → is_quiet self.new k ≡ (nat_eq k place || is_quiet self.old k) }
+        ensures added { (k : ℕ) → is_quiet_place self.new k
+            ≡ (nat_eq k place || is_quiet_place self.old k) }
     {
         if !set(&mut self.places, self.stretch, place) {
             return;
         }
-        if set(&mut self.words, self.stretch, place / WORD) {
-            set(&mut self.groups, self.stretch, place / GROUP);
+        if set(&mut self.full_words, self.stretch, place / WORD) {
+            set(&mut self.full_groups, self.stretch, place / GROUP);
         }
     }
 
-    /// Makes no place Quiet.
+    /// Makes every place Ready.
     pub(crate) fn wake(&mut self)
         requires sound { IsSound self.old }
         ensures sound { IsSound self.new }
         ensures room { length self.new.places.items ≡ length self.old.places.items }
-        ensures none { (k : ℕ) → is_quiet self.new k ≡ false }
+        ensures none { (k : ℕ) → is_quiet_place self.new k ≡ false }
     {
         if self.stretch == u32::MAX {
             self.forget();
@@ -122,20 +130,26 @@ impl QuietPlaces {
     /// Begins the count of stretches anew.
     fn forget(&mut self)
         ensures places { AreBlank self.new.places.items }
-        ensures words { AreBlank self.new.words.items }
-        ensures groups { AreBlank self.new.groups.items }
-        ensures room { length self.new.places.items ≡ length self.old.places.items }
+        ensures full_words { AreBlank self.new.full_words.items }
+        ensures full_groups { AreBlank self.new.full_groups.items }
+        ensures place_room { length self.new.places.items ≡ length self.old.places.items }
+        ensures word_room { length self.new.full_words.items
+            ≡ length self.old.full_words.items }
+        ensures group_room { length self.new.full_groups.items
+            ≡ length self.old.full_groups.items }
         ensures stretch { self.new.stretch ≡ 0 }
     {
         self.places.fill(BLANK);
-        self.words.fill(BLANK);
-        self.groups.fill(BLANK);
+        self.full_words.fill(BLANK);
+        self.full_groups.fill(BLANK);
         self.stretch = 0;
     }
 
-    /// The same with one place more: those from `gap` on are one further, and `gap` isn't Quiet.
+    /// The same with one place more, so that there are `count`: `gap` is new and Ready, and what
+    /// stood at `gap` or after it stands one place further.
     pub(crate) fn with_gap(&self, gap: usize, count: usize) -> Result<QuietPlaces, AllocError>
-        requires { IsSound self.now }
+        requires sound { IsSound self.now }
+        requires within { gap < count }
         ensures sound { IfOk result IsSound }
         ensures room { IfOk result (HasRoomFor count) }
         ensures moved { IfOk result (IsMoved gap count self.now) }
@@ -143,7 +157,7 @@ impl QuietPlaces {
         let mut moved = QuietPlaces::over(*self.places.allocator(), count)?;
         for next in 1..count {
             let place = next - 1;
-            if self.run(place) > 0 {
+            if self.run_from(place) > 0 {
                 moved.add(if place < gap { place } else { next });
             }
         }
@@ -168,43 +182,38 @@ fn bits_in(words: &[Word], stretch: u32, number: usize) -> u64
     }
 }
 
-/// How many bits of a word from one on are set in a stretch, without a gap.
-fn run_in(words: &[Word], stretch: u32, place: usize) -> usize
+/// So many bits from this one to the end of its word are set in a stretch, without a gap.
+fn run_in(words: &[Word], stretch: u32, bit: usize) -> usize
     requires { 0 < stretch }
-    ensures set { (k : ℕ) → place ≤ k → k < place + result → is_set stretch words.now k ≡ true }
-    ensures end { result ≡ 0 → is_set stretch words.now place ≡ false }
+    ensures set { (k : ℕ) → bit ≤ k → k < bit + result → is_set stretch words.now k ≡ true }
+    ensures end { result ≡ 0 → is_set stretch words.now bit ≡ false }
     ensures most { result ≤ WORD }
 {
-    ones_from(bits_in(words, stretch, place / WORD), place % WORD)
+    ones_from(bits_in(words, stretch, bit / WORD), bit % WORD)
 }
 
-/// How many bits from one on are ones, without a gap.
-fn ones_from(bits: u64, place: usize) -> usize
-    requires { place < WORD }
-    ensures ones { (i : ℕ) → i < result → bit_at bits (place + i) ≡ 1 }
-    ensures end { result ≡ 0 → bit_at bits place ≡ 0 }
-    ensures within { place + result ≤ WORD }
+/// So many bits from this one on are ones, without a gap.
+fn ones_from(bits: u64, bit: usize) -> usize
+    requires { bit < WORD }
+    ensures ones { (i : ℕ) → i < result → bit_at bits (bit + i) ≡ 1 }
+    ensures end { result ≡ 0 → bit_at bits bit ≡ 0 }
+    ensures within { bit + result ≤ WORD }
 {
-    (bits >> place).trailing_ones() as usize
+    (bits >> bit).trailing_ones() as usize
 }
 
-/// Sets a bit, if there is a word for it. Whether all bits of the word are set.
-fn set(words: &mut Vec<Word>, stretch: u32, place: usize) -> bool
-    requires { 0 < stretch }
+/// Sets a bit. Whether all bits of its word are set then.
+fn set(words: &mut Vec<Word>, stretch: u32, bit: usize) -> bool
+    requires begun { 0 < stretch }
+    requires room { bit < length words.old.items * WORD }
     ensures size { length words.new.items ≡ length words.old.items }
-    ensures set { place < length words.old.items * WORD → (k : ℕ)
-        → is_set stretch words.new.items k ≡ (nat_eq k place || is_set stretch words.old.items k) }
-    ensures others { (k : ℕ) → is_set stretch words.new.items k ≡ true
-        → (k ≡ place) ⊎ (is_set stretch words.old.items k ≡ true) }
+    ensures set { HasBitMore stretch bit words.old.items words.new.items }
     ensures up_to { AreUpTo stretch words.old.items → AreUpTo stretch words.new.items }
-    ensures full { result ≡ true → (k : ℕ) → k / WORD ≡ place / WORD
-        → is_set stretch words.new.items k ≡ true }
+    ensures full { result ≡ true → IsFull stretch words.new.items (bit / WORD) }
+    ensures noted { IsFull stretch words.new.items (bit / WORD) → result ≡ true }
 {
-    let number = place / WORD;
-    if number >= words.len() {
-        return false;
-    }
-    let bits = bits_in(words, stretch, number) | 1 << (place % WORD);
+    let number = bit / WORD;
+    let bits = bits_in(words, stretch, number) | 1 << (bit % WORD);
     words[number] = Word { bits, stretch };
     bits == u64::MAX
 }

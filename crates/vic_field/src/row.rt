@@ -4,7 +4,7 @@ ghost use Rattle.std.specs.Prelude.{◌≡◌, true, false, None, IfOk, IfSome, 
 ghost use Rattle.std.specs.List.Sorted.{IsStrictlySortedBy};
 ghost use Rattle.std.specs.Ordering.{nat_cmp};
 ghost use Rattle.vic_field.specs.Keys.{AreKeys};
-ghost use Rattle.vic_field.specs.Rows.{HasKeyPlaceBetween, HasMore, HasNoneReady, IsKeyPlace, IsNextReady, IsRow, as_ready, entries, without};
+ghost use Rattle.vic_field.specs.Rows.{HasKeyPlaceBetween, HasMore, HasNoneReady, IsKeyPlace, IsNextReady, IsRow, as_ready, entries, with_quiet};
 ghost use Rattle.vic_frame.specs.LowBitsFirst.{IsKey};
 ghost use Rattle.vic_frame.specs.Uids.{has};
 
@@ -34,7 +34,7 @@ pub(crate) fn of_keys(alloc: Global, keys: Vec<u64>) -> Result<Row, AllocError>
     Ok(Row { keys, quiet, index })
 }
 
-/// The first Ready tag from a place on whose key is at most `last`.
+/// The place of the first Ready tag from a place on, if its key is at most `last`.
 pub(crate) fn next_ready(row: &Row, from: usize, last: u64) -> Option<usize>
     requires { IsRow row.now }
     ensures none { result ≡ None → HasNoneReady row.now from last }
@@ -42,7 +42,7 @@ pub(crate) fn next_ready(row: &Row, from: usize, last: u64) -> Option<usize>
 {
     let mut place = from;
     while place < row.keys.len() && row.keys[place] <= last {
-        let quiet = row.quiet.run(place);
+        let quiet = row.quiet.run_from(place);
         if quiet == 0 {
             return Some(place);
         }
@@ -51,7 +51,7 @@ pub(crate) fn next_ready(row: &Row, from: usize, last: u64) -> Option<usize>
     None
 }
 
-/// Whether the keys begin between two places that are at least this one.
+/// Whether the keys are seen to begin to be at least this one between two places, both counted.
 fn is_between(keys: &[u64], key: u64, from: usize, to: usize) -> bool
     requires { IsStrictlySortedBy nat_cmp keys.now }
     ensures { result ≡ true → HasKeyPlaceBetween key keys.now from to }
@@ -62,8 +62,8 @@ fn is_between(keys: &[u64], key: u64, from: usize, to: usize) -> bool
     (from == 0 || keys[from - 1] < key) && (to == keys.len() || key <= keys[to])
 }
 
-/// Places between which the keys begin that are at least this one: those that the index names, or
-/// the first one and the end where its hint is wrong.
+/// Two places between which the keys begin to be at least this one: those that the index names, or
+/// the first one and the end if its hint is wrong.
 fn bounds(row: &Row, key: u64) -> (usize, usize)
     requires { IsStrictlySortedBy nat_cmp row.now.keys.items }
     ensures { HasKeyPlaceBetween key row.now.keys.items result.0 result.1 }
@@ -76,7 +76,7 @@ fn bounds(row: &Row, key: u64) -> (usize, usize)
     }
 }
 
-/// Where the keys begin that are at least this one.
+/// The place from which on the keys are at least this one: the end if none is.
 pub(crate) fn place_of(row: &Row, key: u64) -> usize
     requires { IsStrictlySortedBy nat_cmp row.now.keys.items }
     ensures { IsKeyPlace key row.now.keys.items result }
@@ -89,7 +89,7 @@ pub(crate) fn place_of(row: &Row, key: u64) -> usize
 pub(crate) fn silence(row: &mut Row, key: u64)
     requires { IsRow row.old }
     ensures row { IsRow row.new }
-    ensures quiet { entries row.new ≡ without key (entries row.old) }
+    ensures quiet { entries row.new ≡ with_quiet key (entries row.old) }
 {
     let place = place_of(row, key);
     if place < row.keys.len() && row.keys[place] == key {

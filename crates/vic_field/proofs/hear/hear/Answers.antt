@@ -34,8 +34,8 @@ returns-in-Some-next_ready c =
     let q = c.in-Some-next_ready.ensures.some in
     let low = p.low in
     let more = q.low in
-    let above = c.place_of.ensures.from one low p.there in
-    let beyond = c.place_of.ensures.from other (omega (arith, low, more)) q.there in
+    let above = c.place_of.ensures.above one low p.there in
+    let beyond = c.place_of.ensures.above other (omega (arith, low, more)) q.there in
     sym (hears_several row a b one other (omega (arith, more)) q.there (inside_ready row a b one above p.key p.ready) (inside_ready row a b other beyond q.key q.ready))
 
 pub returns-in-None : goal.returns-in-None
@@ -49,7 +49,7 @@ returns-in-None c =
     let none = c.next_ready-2.ensures.none c.in-None.is in
     let here : uid_of (get_or ks one 0) ≡ c.uid_at.result = ap uid_of (get_or_default ks one 0 _ p.there ∙ sym c.index.ensures) ∙ sym c.uid_at.ensures.value in
     sym (ap heard (hears_one row a b one p.there
-    (inside_ready row a b one (c.place_of.ensures.from one p.low p.there) p.key p.ready)
+    (inside_ready row a b one (c.place_of.ensures.above one p.low p.there) p.key p.ready)
     (λ k h other. outside row a b c.place_of.result c.place_of.ensures k (λ low high. ⊎_elim
     (λ (before : k < one). p.quiet k low before)
     (λ (after : one ≤ k). none k (omega (arith, after, other)) h high)

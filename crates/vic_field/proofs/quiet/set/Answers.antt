@@ -1,20 +1,17 @@
-use Rattle.std.proofs.Common.{◌/◌, sym, subst, ◌∙◌, arith, inl, inr, ⊎_elim}
-use Rattle.std.proofs.lemmas.Bool.{eqb-true, or_cases}
+use Rattle.std.proofs.Common.{◌<◌, ◌/◌, length, subst, arith}
+use Rattle.std.proofs.lemmas.Bool.{eq-eqb, eqb-true}
 use Rattle.vic_field.specs.Places.{HasBits}
-use Rattle.vic_field.proofs.PlaceLaws.{set_bit, set_full}
+use Rattle.vic_field.proofs.PlaceLaws.{full_bits, set_bit, set_full}
 use Rattle.vic_field.proofs.quiet.set.Goals as goal
 
-here : (c : goal.After-words-1) → HasBits c.args.stretch c.args.words.now.items (c.args.place / 64) c.bits_in.result
-here c = subst (λ ws. HasBits c.args.stretch ws (c.args.place / 64) c.bits_in.result) c.deref.ensures.value c.bits_in.ensures
+there : (c : goal.After-words-1) → c.args.bit / 64 < length c.args.words.now.items
+there c = let room = c.requires.room in omega (arith, room)
 
 pub returns-clause-set : goal.returns-clause-set
-returns-clause-set c _ = set_bit c.args.stretch c.args.place c.bits_in.result c.args.words.now.items (omega (arith, c.if-number-len.false, c.len.ensures)) (here c)
-
-pub returns-clause-others : goal.returns-clause-others
-returns-clause-others c k is = ⊎_elim
-    (λ same. inl (eqb-true _ _ same))
-    (λ old. inr old)
-    (or_cases _ _ (sym (set_bit c.args.stretch c.args.place c.bits_in.result c.args.words.now.items (omega (arith, c.if-number-len.false, c.len.ensures)) (here c) k) ∙ is))
+returns-clause-set c = set_bit c.args.stretch c.args.bit c.bits_in.result c.args.words.now.items (there c) (subst (λ ws. HasBits c.args.stretch ws (c.args.bit / 64) c.bits_in.result) c.deref.ensures.value c.bits_in.ensures)
 
 pub returns-clause-full : goal.returns-clause-full
-returns-clause-full c all k e = set_full c.args.stretch c.args.place c.bits_in.result k c.args.words.now.items (omega (arith, c.if-number-len.false, c.len.ensures)) (eqb-true _ _ all) e
+returns-clause-full c all k e = set_full c.args.stretch c.args.bit c.bits_in.result k c.args.words.now.items (there c) (eqb-true _ _ all) e
+
+pub returns-clause-noted : goal.returns-clause-noted
+returns-clause-noted c full = eq-eqb _ _ (full_bits c.args.stretch c.args.bit c.bits_in.result c.args.words.now.items (there c) c.bits_in.type_inv full)

@@ -4,6 +4,18 @@ use Rattle.std.proofs.lemmas.List.{get_or_default}
 use Rattle.std.proofs.lemmas.Map.Keys.{non_decreasing_from_sorted}
 use Rattle.vic_field.proofs.row.next_ready.Goals as goal
 
+pub loop-place-preserved : goal.loop-place-preserved
+loop-place-preserved c =
+    let i = c.loop-place.invariant in
+    let low = i.low in
+    record {
+      low = omega (arith, low);
+      quiet = λ k from lt. ⊎_elim
+          (λ (before : k < c.loop-place.place). i.quiet k from before)
+          (λ (after : c.loop-place.place ≤ k). c.run_from-quiet.ensures.quiet k after lt)
+          (cases_lt k c.loop-place.place);
+    }
+
 pub returns-else-index-last-clause-none : goal.returns-else-index-last-clause-none
 returns-else-index-last-clause-none c none k low lt high =
     let ks = c.args.row.now.keys.items in

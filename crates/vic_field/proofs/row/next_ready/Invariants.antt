@@ -1,11 +1,11 @@
 use Rattle.std.proofs.Common.{◌≡◌, ◌-◌, ◌≤◌, ◌<◌, ℕ, true, length}
-use Rattle.vic_field.specs.Places.{is_quiet}
+use Rattle.vic_field.specs.Places.{is_quiet_place}
 use Rattle.vic_field.proofs.row.next_ready.Given as goal
 
 abbrev pub invariant-loop-place : goal.invariant-loop-place
 invariant-loop-place l = record {
   low : l.from ≤ l.place;
-  quiet : (k : ℕ) → l.from ≤ k → k < l.place → is_quiet l.row.quiet k ≡ true;
+  quiet : (k : ℕ) → l.from ≤ k → k < l.place → is_quiet_place l.row.quiet k ≡ true;
 }
 
 abbrev pub decreases-loop-place : goal.decreases-loop-place

@@ -1,6 +1,6 @@
 use Rattle.std.proofs.Common.{◌≡◌, ◌<◌, length, get_or, sym, ◌∙◌, arith, refl}
 use Rattle.std.proofs.lemmas.List.{get_or_default}
-use Rattle.vic_field.proofs.RowLaws.{lacks, silenced, without_none}
+use Rattle.vic_field.proofs.RowLaws.{lacks, silenced, with_quiet_none}
 use Rattle.vic_field.proofs.row.silence.Goals as goal
 use Rattle.vic_field.proofs.row.silence.Goals.{else-place-len-via-then-place-len+else-index-key, else-place-len-via-else-place-len}
 
@@ -18,7 +18,7 @@ returns-else-place-len-clause-quiet c =
     let row = c.args.row.now in
     let ks = row.keys.items in
     let place = c.place_of-place.result in
-    without_none row c.args.key (lacks ks c.args.key place c.requires.keys.rising c.place_of-place.ensures (λ h e. elim c.else-place-len.branch [
+    with_quiet_none row c.args.key (lacks ks c.args.key place c.requires.keys.rising c.place_of-place.ensures (λ h e. elim c.else-place-len.branch [
       | else-place-len-via-then-place-len+else-index-key w ↦ w.if-index-key.false (w.index.ensures ∙ get_or_default ks place _ 0 h ∙ e)
       | else-place-len-via-else-place-len w ↦ absurd (omega (arith, h, w.if-place-len.false, row.keys.ok.0))
     ]))

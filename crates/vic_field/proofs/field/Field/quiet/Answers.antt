@@ -1,7 +1,7 @@
 use Rattle.std.proofs.Common.{ℕ, Bool, false, cond, List, ◌∙◌, ◌==◌, ap}
 use Rattle.std.specs.Option.{option_map}
 use Rattle.vic_field.specs.Keys.{tags_of}
-use Rattle.vic_field.specs.Rows.{entries, without}
+use Rattle.vic_field.specs.Rows.{entries, with_quiet}
 use Rattle.vic_field.specs.Tags.{readiness}
 use Rattle.vic_field.proofs.FieldRows.{quiet_readiness}
 use Rattle.vic_field.proofs.RowLaws.{small_entries}
@@ -10,6 +10,6 @@ use Rattle.vic_field.proofs.field.Field.quiet.Goals as goal
 pub returns : goal.returns
 returns c u h =
     let es = entries c.self.inside.row in
-    ap (λ (xs : List (ℕ × Bool)). readiness (tags_of xs) u) (c.silence.ensures.quiet ∙ ap (λ k. without k es) c.key.ensures.value)
+    ap (λ (xs : List (ℕ × Bool)). readiness (tags_of xs) u) (c.silence.ensures.quiet ∙ ap (λ k. with_quiet k es) c.key.ensures.value)
     ∙ quiet_readiness u c.args.uid es c.key.ensures.is_uid (small_entries c.self.inside.row c.self.invariant)
     ∙ ap (λ (ts : List (ℕ × Bool)). cond (u == c.args.uid) (option_map (λ _. false) (readiness ts u)) (readiness ts u)) c.self.view_is

@@ -1,24 +1,24 @@
 use Rattle.std.proofs.Common.{◌≡◌, ◌<◌, ◌+◌, ◌-◌, ◌&&◌, Bool, false, ap, subst, ◌∙◌, arith, ◌⊎◌, inl, inr}
 use Rattle.std.proofs.lemmas.Bool.{lt-ltb}
-use Rattle.vic_field.specs.Places.{is_quiet}
+use Rattle.vic_field.specs.Places.{is_quiet_place}
 use Rattle.vic_field.proofs.PlaceLaws.{gapped_quiet, gapped_ready, none_gapped}
 use Rattle.vic_field.proofs.quiet.QuietPlaces.with_gap.Goals as goal
-use Rattle.vic_field.proofs.quiet.QuietPlaces.with_gap.Goals.{then-run-gt0, then-place-gap, else-place-gap, else-run-gt0}
+use Rattle.vic_field.proofs.quiet.QuietPlaces.with_gap.Goals.{then-run_from-gt0, then-place-gap, else-place-gap, else-run_from-gt0}
 
 pub loop-next-init : goal.loop-next-init
 loop-next-init c = record {
   sound = c.in_ok-moved.ensures.sound;
   room = c.in_ok-moved.ensures.room;
-  gapped = none_gapped c.args.gap (is_quiet c.args.self.now) (is_quiet c.in_ok-moved.moved) c.in_ok-moved.ensures.none;
+  gapped = none_gapped c.args.gap (is_quiet_place c.args.self.now) (is_quiet_place c.in_ok-moved.moved) c.in_ok-moved.ensures.none;
 }
 
 pub loop-next-preserved : goal.loop-next-preserved
 loop-next-preserved c =
     let i = c.loop-next.invariant in
     let old = c.args.self.now in
-    elim c.if-run-gt0.branch [
-      | then-run-gt0 w ↦
-          let some = w.if-run-gt0.true in
+    elim c.if-run_from-gt0.branch [
+      | then-run_from-gt0 w ↦
+          let some = w.if-run_from-gt0.true in
           let room = w.add.ensures.room in
           let next = c.loop-next.next in
           let to = w.if-place-gap.add in
@@ -29,14 +29,14 @@ loop-next-preserved c =
           rw w.moved-is (record {
             sound = w.add.ensures.sound;
             room = rw room i.room;
-            gapped = gapped_quiet c.args.gap next to (is_quiet old) (is_quiet c.loop-next.moved) (is_quiet w.add.new.self) (λ k here. c.run.ensures.quiet k (omega (arith, here)) (omega (arith, here, some))) place w.add.ensures.added i.gapped;
+            gapped = gapped_quiet c.args.gap next to (is_quiet_place old) (is_quiet_place c.loop-next.moved) (is_quiet_place w.add.new.self) (λ k here. c.run_from.ensures.quiet k (omega (arith, here)) (omega (arith, here, some))) place w.add.ensures.added i.gapped;
           })
-      | else-run-gt0 w ↦
-          let none = w.if-run-gt0.false in
+      | else-run_from-gt0 w ↦
+          let none = w.if-run_from-gt0.false in
           rw w.moved-is (record {
             sound = i.sound;
             room = i.room;
-            gapped = gapped_ready c.args.gap c.loop-next.next (is_quiet old) (is_quiet c.loop-next.moved) (λ k here. let same : c.loop-next.next - 1 ≡ k = omega (arith, here) in subst (λ n. is_quiet old n ≡ false) same (c.run.ensures.ready (omega (arith, none)))) i.gapped;
+            gapped = gapped_ready c.args.gap c.loop-next.next (is_quiet_place old) (is_quiet_place c.loop-next.moved) (λ k here. let same : c.loop-next.next - 1 ≡ k = omega (arith, here) in subst (λ n. is_quiet_place old n ≡ false) same (c.run_from.ensures.ready (omega (arith, none)))) i.gapped;
           })
     ]
 
@@ -44,9 +44,9 @@ pub returns-clause-moved : goal.returns-clause-moved
 returns-clause-moved c =
     let i = c.loop-next.invariant.gapped in
     let end = c.loop-next-test.false in
-    let old = is_quiet c.args.self.now in
+    let old = is_quiet_place c.args.self.now in
     record {
-      before = λ k lt h. i.before k lt ∙ ap (λ (b : Bool). b && old k) (lt-ltb (k + 1) c.loop-next.next (omega (arith, h, end)));
+      before = λ k lt. let within = c.requires.within in i.before k lt ∙ ap (λ (b : Bool). b && old k) (lt-ltb (k + 1) c.loop-next.next (omega (arith, lt, within, end)));
       put = i.put;
-      behind = λ k le h. i.behind k le ∙ ap (λ (b : Bool). b && old k) (lt-ltb (k + 1) c.loop-next.next (omega (arith, h, end)));
+      after = λ k le h. i.after k le ∙ ap (λ (b : Bool). b && old k) (lt-ltb (k + 1) c.loop-next.next (omega (arith, h, end)));
     }

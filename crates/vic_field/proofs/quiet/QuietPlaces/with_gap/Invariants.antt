@@ -1,4 +1,4 @@
-use Rattle.vic_field.specs.Places.{HasRoomFor, IsSound, is_quiet}
+use Rattle.vic_field.specs.Places.{HasRoomFor, IsSound, is_quiet_place}
 use Rattle.vic_field.proofs.PlaceLaws.{IsGapped}
 use Rattle.vic_field.proofs.quiet.QuietPlaces.with_gap.Given as goal
 
@@ -6,5 +6,5 @@ abbrev pub invariant-loop-next : goal.invariant-loop-next
 invariant-loop-next l = record {
   sound : IsSound l.moved;
   room : HasRoomFor l.count l.moved;
-  gapped : IsGapped l.gap l.next (is_quiet l.self) (is_quiet l.moved);
+  gapped : IsGapped l.gap l.next (is_quiet_place l.self) (is_quiet_place l.moved);
 }
