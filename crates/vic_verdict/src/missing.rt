@@ -20,7 +20,7 @@ use vic_tree::OpenSet;
 pub fn keys_in_order(alloc: Global, uids: &[Uid]) -> Result<Vec<u64>, AllocError>
     ensures { IfOk result (λ keys. AreKeysOf keys.items uids.now) }
 {
-    let mut keys = Vec::new(alloc);
+    let mut keys = Vec::with_capacity(alloc, uids.len())?;
     for uid in uids {
         keys.push(key(*uid))?;
     }

@@ -157,8 +157,9 @@ pub(crate) fn settle(alloc: Global, lines: &[PackedLine]) -> Result<Settled, All
 {
     let mut closed = Vec::new(alloc);
     let mut stretches = Vec::new(alloc);
-    let mut names = Vec::new(alloc);
-    let mut spots = Vec::new(alloc);
+    // room at once for as many as there can be: what grows step by step is copied
+    let mut names = Vec::with_capacity(alloc, lines.len())?;
+    let mut spots = Vec::with_capacity(alloc, lines.len())?;
     let mut demands = Vec::new(alloc);
     let mut cursor = RoundCursor::first();
     for (index, line) in lines.iter().enumerate() {

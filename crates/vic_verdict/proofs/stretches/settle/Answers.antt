@@ -14,7 +14,7 @@ loop-index-init c =
     let es = entries c.args.lines.now in
     record {
       round = c.first-cursor.ensures es;
-      walked = walked_as es 0 [] _ [] _ [] _ [] _ [] _ c.new-closed.ensures.items c.new-stretches.ensures.items c.new-names.ensures.items c.new-spots.ensures.items c.new-demands.ensures.items (walked_first es);
+      walked = walked_as es 0 [] _ [] _ [] _ [] _ [] _ c.new-closed.ensures.items c.new-stretches.ensures.items c.in_ok-names.ensures.items c.in_ok-spots.ensures.items c.new-demands.ensures.items (walked_first es);
     }
 
 pub note_entry-requires : goal.note_entry-requires
