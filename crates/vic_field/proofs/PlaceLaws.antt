@@ -94,7 +94,7 @@ full_bits s bit b ws h small full = same_from_bits_below 64 _ (2 ^ 64 - 1) (or_l
 
 -- ---- full words, and what is noted of them
 
--- no word is full in a stretch after those of all words
+-- in a stretch after those of all words none is full, and none is noted
 none_noted : (t s : ℕ) (ws notes : List Word) → AreUpTo t ws → AreUpTo t notes → t < s → length ws ≤ length notes * 64 → NotesFull s ws notes
 none_noted t s ws notes up notes_up later room = record {
   room = room;
@@ -102,7 +102,7 @@ none_noted t s ws notes up notes_up later room = record {
   full = λ n is k at. absurd (both_ways _ (none_later t s n notes notes_up later) is);
 }
 
--- in a stretch after those of all words no place is Quiet
+-- words of earlier stretches alone are sound, and say nothing
 pub sound_later : (t : ℕ) (q : QuietPlaces) → t < q.stretch → AreUpTo t q.places.items → AreUpTo t q.full_words.items → AreUpTo t q.full_groups.items
     → length q.places.items ≤ length q.full_words.items * 64 → length q.full_words.items ≤ length q.full_groups.items * 64 → IsSound q
 sound_later t q later places words groups room word_room = record {
@@ -118,11 +118,11 @@ others : (s bit n : ℕ) (ws new : List Word) → HasBitMore s bit ws new → n 
 others s bit n ws new more other full k at = sym (more k ∙ ap (λ (b : Bool). b || is_set s ws k) (ne_eqb k bit (λ e. other (sym at ∙ ap (λ m. m / 64) e)))) ∙ full k at
 
 -- a bit more in a word that isn't full
-pub noted_as_before : (s bit : ℕ) (full : Bool) (ws new notes : List Word) → HasBitMore s bit ws new → length new ≡ length ws → full ≡ false → (IsFull s new (bit / 64) → full ≡ true) → NotesFull s ws notes → NotesFull s new notes
-noted_as_before s bit full ws new notes more size none has i = record {
+pub noted_as_before : (s bit : ℕ) (ws new notes : List Word) → HasBitMore s bit ws new → length new ≡ length ws → (IsFull s new (bit / 64) → false ≡ true) → NotesFull s ws notes → NotesFull s new notes
+noted_as_before s bit ws new notes more size not_full i = record {
   room = subst (λ n. n ≤ length notes * 64) (sym size) i.room;
   noted = λ n lt is. ⊎_elim
-      (λ (same : n ≡ bit / 64). absurd (both_ways full none (has (λ k at. is k (at ∙ sym same)))))
+      (λ (same : n ≡ bit / 64). absurd (both_ways false refl (not_full (λ k at. is k (at ∙ sym same)))))
       (λ (other : n ≢ bit / 64). i.noted n (subst (λ m. n < m) size lt) (others s bit n ws new more other is))
       (cases_eq n (bit / 64));
   full = λ n is k at. more k ∙ or_right _ _ (i.full n is k at);

@@ -195,7 +195,7 @@ inserted_keys ks place key i p fresh small = record {
 
 -- a row with one tag more, Ready
 pub inserted : (r new : Row) (key place : ℕ) → place ≤ length r.keys.items → new.keys.items ≡ insert r.keys.items place key
-    → ((k : ℕ) → k < place → k < length r.keys.items → is_quiet_place new.quiet k ≡ is_quiet_place r.quiet k) → is_quiet_place new.quiet place ≡ false
+    → ((k : ℕ) → k < place → is_quiet_place new.quiet k ≡ is_quiet_place r.quiet k) → is_quiet_place new.quiet place ≡ false
     → ((k : ℕ) → place ≤ k → k < length r.keys.items → is_quiet_place new.quiet (k + 1) ≡ is_quiet_place r.quiet k) → entries new ≡ insert (entries r) place (key, true)
 inserted r new key place within keys before put after =
     let ks = r.keys.items in
@@ -211,7 +211,7 @@ inserted r new key place within keys before put after =
     entry new k d lt ∙ ⊎_elim
     (λ (low : k < place).
     let lt_old : k < length ks = omega (arith, low, within) in
-    rw (keys, before k low lt_old, get_or-insert_below ks place key 0 k low within) (sym (get_or-insert_below es place (key, true) d k low there ∙ entry r k d lt_old)))
+    rw (keys, before k low, get_or-insert_below ks place key 0 k low within) (sym (get_or-insert_below es place (key, true) d k low there ∙ entry r k d lt_old)))
     (λ (from : place ≤ k). ⊎_elim
     (λ (here : k ≡ place). rw (here, keys, put, get_or-insert_at ks place key 0 within) (sym (get_or-insert_at es place (key, true) d there)))
     (λ (other : k ≢ place).

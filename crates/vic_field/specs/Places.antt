@@ -21,7 +21,7 @@ abbrev pub HasBits : ℕ → List Word → ℕ → ℕ → Type 0
 HasBits s ws n bits =
     (k : ℕ) → k / WORD ≡ n → is_set s ws k ≡ nat_eq (bit_at bits (k % WORD)) 1
 
--- one bit more is set
+-- this bit is set now, and the others are as they were
 abbrev pub HasBitMore : ℕ → ℕ → List Word → List Word → Type 0
 HasBitMore s bit old new = (k : ℕ) → is_set s new k ≡ (nat_eq k bit || is_set s old k)
 

@@ -27,15 +27,14 @@ pub record IsRow (r : Row) : Type 0 where
   pub quiet : IsSound r.quiet
   pub room : HasRoomFor (length r.keys.items) r.quiet
 
--- the place before which keys are below this one, and from which on they aren't, is between two
--- others, both counted
+-- the first `from` keys are below this one, and those from the place `to` on aren't
 pub record HasKeyPlaceBetween (key : ℕ) (ks : List ℕ) (from to : ℕ) : Type 0 where
   pub order : from ≤ to
   pub within : to ≤ length ks
   pub below : (k : ℕ) → k < from → slice_index_or ks k 0 < key
   pub above : (k : ℕ) → to ≤ k → k < length ks → key ≤ slice_index_or ks k 0
 
--- it is this place
+-- so many keys are below this one, and those after them aren't
 abbrev pub IsKeyPlace : ℕ → List ℕ → ℕ → Type 0
 IsKeyPlace key ks place = HasKeyPlaceBetween key ks place place
 

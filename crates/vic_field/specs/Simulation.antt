@@ -48,7 +48,7 @@ abbrev pub line_count : List Entry → ℕ
 line_count [] = 0
 line_count (e ∷ es) = suc (slots_opened (Some e)) + line_count es
 
--- the number of the last of them, behind the header
+-- the number of the last of them, after the header
 abbrev pub last_needed : List LogLine → ℕ
 last_needed lines = suc (line_count (entries lines))
 

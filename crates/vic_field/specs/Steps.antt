@@ -30,7 +30,7 @@ abbrev pub slot_lines : List (ℕ × Bool) → Entry → List Entry
 slot_lines tags (Sent q) = slot_lines_to tags q (slot_count q)
 slot_lines tags e = []
 
--- the number of the line behind a log's last one
+-- the number of the line after a log's last one
 abbrev pub next_line : LogValue → ℕ
 next_line log = suc (last_from 1 log.lines)
 

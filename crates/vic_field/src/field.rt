@@ -80,7 +80,8 @@ impl Field {
     }
 
     /// Adds a tag to the field, which is Ready then. Refused where a tag with this UID is there.
-    /// Takes time, and memory for a bit for each, in proportion to the tags.
+    /// Its time is in proportion to the tags, and so is its memory: two bits for each, and what the
+    /// keys grow by.
     pub fn add(&mut self, uid: Uid) -> Result<(), AddFault>
         ensures answer { MatchResult result
             (λ _. has (uids self.old) uid ≡ false)
@@ -131,7 +132,8 @@ impl Field {
 
     /// What a reader hears of the Ready tags in a mask. Takes no memory.
     ///
-    /// It looks for two Ready tags at most, and passes over Quiet ones by full words of bits.
+    /// It looks for two Ready tags at most, and passes over Quiet ones by words of 64 bits, not one
+    /// by one.
     pub fn answer(&self, mask: &Mask) -> Outcome
         ensures heard { result ≡ heard (ready_in mask.now self.now) }
         ensures population { IsPopulation (uids self.now) }

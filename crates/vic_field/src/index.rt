@@ -7,8 +7,8 @@ use std::alloc::{AllocError, Global};
 use vic_frame::UID_BITS;
 
 /// How many of a key's 56 bits an index goes by at most, so that it stays small enough for a
-/// processor's cache: 256 KiB.
-const MOST_BITS: u32 = 16;
+/// processor's cache: 128 KiB.
+const MOST_BITS: u32 = 15;
 
 /// A hint of where a key stands among tags.
 #[derive(Drop)]

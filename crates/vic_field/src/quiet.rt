@@ -68,8 +68,8 @@ impl QuietPlaces {
         })
     }
 
-    /// So many places from this one on are Quiet, as one to three words of bits tell: none if this
-    /// one isn't, all of a word if a full one begins here, all of a group if its words are full.
+    /// So many places from this one on are Quiet, and more may be: none if this one is Ready, at
+    /// least a word if a full one begins here, at least a group if a full one does.
     pub(crate) fn run_from(&self, place: usize) -> usize
         requires { IsSound self.now }
         ensures quiet { (k : ℕ) → place ≤ k → k < place + result
@@ -127,7 +127,7 @@ impl QuietPlaces {
         self.stretch += 1;
     }
 
-    /// Begins the count of stretches anew.
+    /// Makes all words blank, and begins the count of stretches anew, before the first.
     fn forget(&mut self)
         ensures places { AreBlank self.new.places.items }
         ensures full_words { AreBlank self.new.full_words.items }
@@ -182,7 +182,7 @@ fn bits_in(words: &[Word], stretch: u32, number: usize) -> u64
     }
 }
 
-/// So many bits from this one to the end of its word are set in a stretch, without a gap.
+/// So many bits from this one on, all in its word, are set in a stretch, without a gap.
 fn run_in(words: &[Word], stretch: u32, bit: usize) -> usize
     requires { 0 < stretch }
     ensures set { (k : ℕ) → bit ≤ k → k < bit + result → is_set stretch words.now k ≡ true }

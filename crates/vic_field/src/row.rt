@@ -51,7 +51,7 @@ pub(crate) fn next_ready(row: &Row, from: usize, last: u64) -> Option<usize>
     None
 }
 
-/// Whether the keys are seen to begin to be at least this one between two places, both counted.
+/// Whether it is seen that at least `from` and at most `to` of the keys are below this one.
 fn is_between(keys: &[u64], key: u64, from: usize, to: usize) -> bool
     requires { IsStrictlySortedBy nat_cmp keys.now }
     ensures { result ≡ true → HasKeyPlaceBetween key keys.now from to }
@@ -62,8 +62,8 @@ fn is_between(keys: &[u64], key: u64, from: usize, to: usize) -> bool
     (from == 0 || keys[from - 1] < key) && (to == keys.len() || key <= keys[to])
 }
 
-/// Two places between which the keys begin to be at least this one: those that the index names, or
-/// the first one and the end if its hint is wrong.
+/// The least and the most keys that may be below this one: what the index says, or none and all if
+/// its hint is wrong.
 fn bounds(row: &Row, key: u64) -> (usize, usize)
     requires { IsStrictlySortedBy nat_cmp row.now.keys.items }
     ensures { HasKeyPlaceBetween key row.now.keys.items result.0 result.1 }
@@ -76,7 +76,7 @@ fn bounds(row: &Row, key: u64) -> (usize, usize)
     }
 }
 
-/// The place from which on the keys are at least this one: the end if none is.
+/// How many of the keys are below this one: its place, if it is there.
 pub(crate) fn place_of(row: &Row, key: u64) -> usize
     requires { IsStrictlySortedBy nat_cmp row.now.keys.items }
     ensures { IsKeyPlace key row.now.keys.items result }

@@ -157,7 +157,8 @@ pub(crate) fn settle(alloc: Global, lines: &[PackedLine]) -> Result<Settled, All
 {
     let mut closed = Vec::new(alloc);
     let mut stretches = Vec::new(alloc);
-    // room at once for as many as there can be: what grows step by step is copied
+    // room at once for a name and a slot of each line: what grows step by step is copied. The first
+    // stretch that is kept takes the names with their room; those of later ones grow
     let mut names = Vec::with_capacity(alloc, lines.len())?;
     let mut spots = Vec::with_capacity(alloc, lines.len())?;
     let mut demands = Vec::new(alloc);

@@ -199,7 +199,7 @@ pub(crate) fn settle_stretch(
     // Those of one mask together, and outer masks before inner ones.
     spots.sort_unstable_by_key(|spot| spot.mask);
     rule_out_all(names, spots);
-    // a slot closes one range, and each name that is left in it makes two of one
+    // at most one range for each slot, and one more for each name: a name divides a range in two
     closed.reserve(spots.len().saturating_add(names.len()))?;
     close_spots(closed, names, spots)?;
     Ok(cut)

@@ -25,7 +25,7 @@ returns-clause-more c =
     let size = c.len.ensures in (
       place,
       inserted row (record { keys = c.insert.new.self; quiet = c.in_ok-quiet.quiet; index = row.index }) c.args.key place c.place_of-place.ensures.within c.in_ok-insert.ensures.items
-          (λ k low lt. moved.before k low)
+          moved.before
           moved.put
           (λ k from lt. moved.after k from (omega (arith, lt, size))),
     )

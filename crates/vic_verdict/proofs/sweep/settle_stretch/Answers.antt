@@ -58,7 +58,9 @@ returns-clause-settled c u w =
     let are = names_are _ _ c.deref_mut.result.now c.rule_out_all.new.names names c.deref-3.result.now c.deref-2.result.now spots c.deref_mut.ensures.value c.deref-2.ensures.value c.rule_out_all.ensures c.deref_mut.ensures.len c.deref-3.ensures.value in
     let left = left_permuted c.args.names.now.items names c.sort_unstable_by_key.ensures.permutation c.requires.left in
     let named = named_permuted c.args.names.now.items names early spots c.sort_unstable_by_key.ensures.permutation c.sort_unstable_by_key-2.ensures.permutation (ap (all_hear_named c.args.names.now.items) only ∙ named_filtered c.args.names.now.items (is_before_place cut) all c.requires.named) in
-    let closes : Closes kept (is_in_some spots) old new = subst (λ ns. Closes ns (is_in_some spots) old new) are (subst (λ xs. Closes c.deref-3.result.now (is_in_some spots) xs new) c.reserve.ensures.items (subst (λ ss. Closes c.deref-3.result.now (is_in_some ss) c.reserve.new.self.items new) c.deref-4.ensures.value c.in_ok-close_spots.ensures)) in
+    let closed_more : Closes c.deref-3.result.now (is_in_some spots) c.reserve.new.self.items new = subst (λ ss. Closes c.deref-3.result.now (is_in_some ss) c.reserve.new.self.items new) c.deref-4.ensures.value c.in_ok-close_spots.ensures in
+    let from_old : Closes c.deref-3.result.now (is_in_some spots) old new = subst (λ xs. Closes c.deref-3.result.now (is_in_some spots) xs new) c.reserve.ensures.items closed_more in
+    let closes : Closes kept (is_in_some spots) old new = subst (λ ns. Closes ns (is_in_some spots) old new) are from_old in
     outside_closed kept spots old new (mirror u) closes
     ∙ ap (λ b. not (in_ranges old (mirror u)) && b) (covered_allowed names spots (mirror u) left named
     ∙ allow_permuted c.args.names.now.items names early spots (mirror u) c.sort_unstable_by_key.ensures.permutation c.sort_unstable_by_key-2.ensures.permutation

@@ -1,4 +1,4 @@
-use Rattle.std.proofs.Common.{◌≡◌, ◌/◌, false, refl, subst, arith}
+use Rattle.std.proofs.Common.{◌≡◌, ◌/◌, refl, subst, arith}
 use Rattle.vic_field.specs.Places.{HasBitMore}
 use Rattle.vic_field.proofs.PlaceLaws.{noted_as_before, noted_more}
 use Rattle.vic_field.proofs.quiet.QuietPlaces.add.Goals as goal
@@ -8,7 +8,7 @@ returns-then-not-set-clause-sound c =
     let i = c.requires.sound in
     record {
       begun = i.begun;
-      full_words = noted_as_before _ c.args.place false _ _ _ c.set.ensures.set c.set.ensures.size refl c.if-not-set.ensures.noted i.full_words;
+      full_words = noted_as_before _ c.args.place _ _ _ c.set.ensures.set c.set.ensures.size c.if-not-set.ensures.noted i.full_words;
       full_groups = i.full_groups;
       places_up_to = c.set.ensures.up_to i.places_up_to;
       words_up_to = i.words_up_to;
@@ -34,7 +34,7 @@ returns-else-set-clause-sound c =
     record {
       begun = i.begun;
       full_words = noted_more _ c.args.place _ _ _ _ c.set.ensures.set c.set-2.ensures.set c.set.ensures.size c.set-2.ensures.size (c.if-not-set.ensures.full refl) i.full_words;
-      full_groups = noted_as_before _ (c.args.place / 64) false _ _ _ c.set-2.ensures.set c.set-2.ensures.size refl c.if-set.ensures.noted i.full_groups;
+      full_groups = noted_as_before _ (c.args.place / 64) _ _ _ c.set-2.ensures.set c.set-2.ensures.size c.if-set.ensures.noted i.full_groups;
       places_up_to = c.set.ensures.up_to i.places_up_to;
       words_up_to = c.set-2.ensures.up_to i.words_up_to;
       groups_up_to = i.groups_up_to;
