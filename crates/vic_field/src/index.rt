@@ -7,8 +7,8 @@ use std::alloc::{AllocError, Global};
 use vic_frame::UID_BITS;
 
 /// How many of a key's 56 bits an index goes by at most, so that it stays small enough for a
-/// processor's cache: 128 KiB.
-const MOST_BITS: u32 = 15;
+/// processor's cache: 256 KiB.
+const MOST_BITS: u32 = 16;
 
 /// A hint of where a key stands among tags.
 #[derive(Drop)]
@@ -29,9 +29,9 @@ impl Index {
         }
     }
 
-    /// An index over tags with these keys: about a number for each, where they are few.
+    /// An index over tags with these keys: about a number for each two, where they are few.
     pub(crate) fn over(alloc: Global, keys: &[u64]) -> Result<Index, AllocError> {
-        let bits = (keys.len() + 1).ilog2().min(MOST_BITS);
+        let bits = (keys.len() / 2 + 1).ilog2().min(MOST_BITS);
         let shift = u32::from(UID_BITS) - bits;
         let mut lower = count_by_top(alloc, keys, bits, shift)?;
         sum_up(&mut lower);
