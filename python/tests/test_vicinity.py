@@ -1,11 +1,9 @@
 """The package over the library that LIBVICINITY names, or the installed one."""
 import ctypes
-import json
 import os
 import re
 import subprocess
 import sys
-import tempfile
 import threading
 import unittest
 
@@ -50,13 +48,6 @@ def frame(content):
         for _ in range(8):
             register = register >> 1 ^ (0x8408 if register & 1 else 0)
     return (content + (register ^ 0xFFFF).to_bytes(2, "little")).hex().upper().encode()
-
-
-def command(*words, given=b"", **env):
-    """What `python3 -m vicinity` writes, and its status."""
-    ran = subprocess.run([sys.executable, "-m", "vicinity", *words], input=given, capture_output=True,
-                         env={**os.environ, **env})
-    return ran.stdout, ran.stderr, ran.returncode
 
 
 class Frames(unittest.TestCase):
@@ -162,6 +153,16 @@ class Calls(unittest.TestCase):
         found = vicinity.report_listed(log(ALL + b"C\n"), [A])
         self.assertEqual(found, vicinity.report(log(ALL + b"C\n" + LIST_A)))
         self.assertEqual(found.findings[2], (vicinity.FindingKind.DOUBTFUL, 0, 0, 0, A))
+
+    def test_a_list_beside_a_text_without_a_last_end_of_line(self):
+        for lines in (ALL + b"C", ALL + b"C\n", b"X", b""):
+            text, whole = log(lines), log(lines.rstrip(b"\n") + b"\n" if lines else b"")
+            for uids in ([], [A]):
+                self.assertEqual(vicinity.check_listed(text, uids), vicinity.check_listed(whole, uids))
+                self.assertEqual(vicinity.explain_listed(text, uids), vicinity.explain_listed(whole, uids))
+                self.assertEqual(vicinity.report_listed(text, uids), vicinity.report_listed(whole, uids))
+        self.assertEqual(str(vicinity.check_listed(log(ALL + HEARD_A.rstrip()), [A])), "complete 1")
+        self.assertEqual(str(vicinity.check_listed(b"", [A])), "refused at line 1: Header")
 
     def test_a_report_larger_than_the_first_room(self):
         uids = [0xE0 << 56 | it for it in range(100)]
@@ -285,97 +286,17 @@ class Library(unittest.TestCase):
                                   "print(type(it).__name__)", LIBVICINITY="libc.so.6")
         self.assertEqual(said, "OSError\n")
 
+    def test_an_older_library_is_told(self):
+        code = ("import vicinity; from vicinity._native import CALLS; CALLS['later'] = []\n"
+                "try: vicinity.check(b'')\nexcept OSError as it: print(it)")
+        self.assertIn("has no vicinity_later", self.run_python(code)[0])
+
     def test_refused_memory_is_a_memory_error(self):
         code = ("import resource, vicinity\nvicinity.check(b'')\ntext = b'vicinity-log 1\\n' + b'T 2202A1000000000104E0662A\\n' "
                 "* 900000\nwith open('/proc/self/statm') as file: pages = int(file.read().split()[0])\n"
                 "resource.setrlimit(resource.RLIMIT_AS, (pages * 4096 + (4 << 20),) * 2)\n"
                 "try: vicinity.check(text)\nexcept MemoryError as it: print(it)")
         self.assertEqual(self.run_python(code), ("vicinity: out of memory\n", ""))
-
-
-class Command(unittest.TestCase):
-    def setUp(self):
-        self.folder = tempfile.TemporaryDirectory()
-        self.addCleanup(self.folder.cleanup)
-        self.names = []
-        for number, (lines, *_) in enumerate(ANSWERS):
-            self.names.append(self.write(f"{number}.log", log(lines)))
-
-    def write(self, name, text):
-        name = os.path.join(self.folder.name, name)
-        with open(name, "wb") as file:
-            file.write(text)
-        return name
-
-    def test_a_line_for_each_file(self):
-        said, errors, status = command(*self.names)
-        wanted = "".join(f"{name}: {text}\n" for name, (_, _, text, _) in zip(self.names, ANSWERS))
-        self.assertEqual((said.decode(), errors, status), (wanted, b"", 3))
-
-    def test_the_worst_status(self):
-        for count, status in ((1, 0), (3, 1), (7, 2), (8, 3)):
-            self.assertEqual(command(*self.names[:count])[2], status)
-            self.assertEqual(command(*reversed(self.names[:count]))[2], status)
-        said, errors, status = command("/nowhere.log", self.names[0])
-        self.assertEqual((said.decode(), status), (f"{self.names[0]}: complete 0\n", 4))
-        self.assertEqual(errors, b"vicinity: cannot read /nowhere.log: No such file or directory\n")
-
-    def test_standard_input(self):
-        said, errors, status = command("-", given=log(ALL + b"S\n"))
-        self.assertEqual((said, errors, status), (b"-: complete 0\n", b"", 0))
-
-    def test_tabs(self):
-        name = self.write("a\tb\\\n.log", log(ALL + b"S\n"))
-        said, _, status = command("--tabs", name, self.names[6], "/nowhere.log")
-        shown = os.path.join(self.folder.name, "a\\tb\\\\\\n.log")
-        wanted = [[shown, "0", "complete 0"], [self.names[6], "2", "impossible at line 5"], ["/nowhere.log", "4", "no answer"]]
-        self.assertEqual([line.split("\t") for line in said.decode().splitlines()], wanted)
-        self.assertEqual(status, 4)
-
-    def test_json(self):
-        said, _, status = command("--json", *self.names, "/nowhere.log")
-        found = [json.loads(line) for line in said.decode().splitlines()]
-        self.assertEqual([it["file"] for it in found], [*self.names, "/nowhere.log"])
-        wanted = [
-            {"status": 0, "kind": "complete", "count": 0},
-            {"status": 0, "kind": "complete", "count": 1},
-            {"status": 1, "kind": "absent", "uid": "E0040100000000A1"},
-            {"status": 1, "kind": "unlisted", "uid": "E0040100000000A1"},
-            {"status": 1, "kind": "unsettled", "mask_len": 56, "mask_value": "040100000000A1".lstrip("0")},
-            {"status": 1, "kind": "doubtful", "uid": "E0040100000000A1"},
-            {"status": 2, "kind": "impossible", "line": 5},
-            {"status": 3, "kind": "refused", "line": 4, "fault": "SlotOutsideRound"},
-            {"status": 3, "kind": "refused", "line": 2, "fault": "Crc"},
-            {"status": 4, "kind": "no answer", "error": "cannot read /nowhere.log: No such file or directory"},
-        ]
-        self.assertEqual([{key: it[key] for key in it if key != "file"} for it in found], wanted)
-        self.assertEqual(status, 4)
-
-    def test_a_name_that_is_not_utf_8(self):
-        name = os.path.join(os.fsencode(self.folder.name), b"\xff.log")
-        with open(name, "wb") as file:
-            file.write(log(ALL + b"S\n"))
-        self.assertEqual(command(name)[0], name + b": complete 0\n")
-        self.assertEqual(os.fsencode(json.loads(command("--json", name)[0])["file"]), name)
-
-    def test_words(self):
-        self.assertEqual(command()[2], 4)
-        self.assertEqual(command("--tabs", "--json", self.names[0])[2], 4)
-        self.assertEqual(command("--other", self.names[0])[2], 4)
-        self.assertEqual(command("--version")[::2], (b"%s\n" % vicinity.__version__.encode(), 0))
-
-    def test_no_library(self):
-        said, errors, status = command(self.names[0], LIBVICINITY="/nowhere.so")
-        self.assertEqual((said, status), (b"", 4))
-        self.assertTrue(errors.startswith(b"vicinity: the library /nowhere.so can't be loaded"))
-
-    def test_a_full_device(self):
-        with open("/dev/full", "wb") as full:
-            ran = subprocess.run([sys.executable, "-m", "vicinity", *self.names], stdout=full, stderr=subprocess.PIPE)
-        self.assertEqual((ran.returncode, ran.stderr), (4, b"vicinity: write failed: No space left on device\n"))
-
-    def test_a_text_without_end_is_read_as_far_as_it_matters(self):
-        self.assertEqual(command("/dev/zero")[::2], (b"/dev/zero: refused at line 1: LineTooLong\n", 3))
 
 
 if __name__ == "__main__":

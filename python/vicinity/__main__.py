@@ -1,35 +1,44 @@
-"""Answers for many logs in one process:  python3 -m vicinity [--tabs | --json] FILE ..
+"""The commands of the package:  python3 -m vicinity --help  tells them.
 
-Each file gets a line `FILE: answer`; - is standard input. The status is the worst of all: 0 complete, 1 a 'no', 2
-impossible, 3 refused, 4 no answer. What has no answer is told on standard error, and the files after it are judged.
-
-    python3 -m vicinity show LOG    draws the rounds of a log for a terminal
-    python3 -m vicinity page LOG    the same as one HTML file, on standard output
-
-A file that is named show or page is ./show or ./page.
+    python3 -m vicinity [--tabs | --json] FILE ..     an answer for each of many logs, in one process
+    python3 -m vicinity show [--ascii] LOG            the rounds of a log, drawn for a terminal
+    python3 -m vicinity page LOG                      the same as one HTML file, on standard output
 """
 from __future__ import annotations
 
+import argparse
 import json
-import os
 import sys
-from typing import Union
+from typing import Callable, Union
 
-from . import Answer, Kind, __version__, check, draw
-from ._command import NO_ANSWER, Words, complain, read
+from . import Answer, Kind, __version__, check
+from ._command import NO_ANSWER, NoAnswer, Words, complain, read, run, shown, write
 from ._native import library
+
+PICTURES = ("show", "page")
+USAGE = """python3 -m vicinity [--tabs | --json] FILE ..
+       python3 -m vicinity show [--ascii] LOG
+       python3 -m vicinity page LOG"""
+COMMANDS = """\
+FILE ..     says of each log whether its list is complete, a line for each
+show LOG    draws the rounds of a log for a terminal, and says all that it tells
+page LOG    writes the same as one HTML file
+
+- is standard input. A log that is named show or page is ./show or ./page."""
+STATUSES = """\
+The status is the worst of all: 0 complete, 1 a 'no', 2 impossible, 3 refused,
+4 no answer. What has no answer is told on standard error, and the files after
+it are judged."""
 
 
 def judge(name: str) -> Union[Answer, str]:
     """The answer to a file, or why there is none."""
     try:
-        text = read(name)
-    except OSError as error:
-        return f"cannot read {name}: {error.strerror}"
-    try:
-        return check(text)
+        return check(read(name))
+    except NoAnswer as why:
+        return str(why)
     except MemoryError:
-        return f"out of memory: {name}"
+        return f"out of memory: {shown(name)}"
 
 
 def fields(answer: Answer) -> dict[str, object]:
@@ -49,14 +58,13 @@ def fields(answer: Answer) -> dict[str, object]:
 
 
 def as_line(name: str, answer: Union[Answer, str]) -> str:
-    return "" if isinstance(answer, str) else f"{name}: {answer}\n"
+    return "" if isinstance(answer, str) else f"{shown(name)}: {answer}\n"
 
 
 def as_tabs(name: str, answer: Union[Answer, str]) -> str:
-    name = name.replace("\\", "\\\\").replace("\t", "\\t").replace("\n", "\\n")
     if isinstance(answer, str):
-        return f"{name}\t{NO_ANSWER}\tno answer\n"
-    return f"{name}\t{answer.status}\t{answer}\n"
+        return f"{shown(name)}\t{NO_ANSWER}\tno answer\n"
+    return f"{shown(name)}\t{answer.status}\t{answer}\n"
 
 
 def as_json(name: str, answer: Union[Answer, str]) -> str:
@@ -64,33 +72,43 @@ def as_json(name: str, answer: Union[Answer, str]) -> str:
     return json.dumps({"file": name, **told}) + "\n"
 
 
-def main() -> int:
-    parser = Words(prog="python3 -m vicinity", description="Says of each log whether its list is whole.",
-                   epilog="The status is the worst of all: 0 complete, 1 a 'no', 2 impossible, 3 refused, 4 no answer.")
+def words() -> Words:
+    parser = Words(prog="python3 -m vicinity", usage=USAGE, description=COMMANDS, epilog=STATUSES,
+                   formatter_class=argparse.RawDescriptionHelpFormatter)
     form = parser.add_mutually_exclusive_group()
-    form.add_argument("--tabs", dest="form", action="store_const", const=as_tabs, default=as_line,
-                      help="lines of file, status and answer, with tabs between; \\t, \\n and \\\\ in names")
+    form.add_argument("--tabs", dest="form", action="store_const", const=as_tabs,
+                      help="with FILE ..: lines of file, status and answer, with tabs between")
     form.add_argument("--json", dest="form", action="store_const", const=as_json,
-                      help="an object a line: file, status, kind, and what the kind speaks of")
+                      help="with FILE ..: an object a line: file, status, kind, and what the kind speaks of")
+    form.add_argument("--ascii", action="store_true", help="with show: no sign outside ASCII")
     parser.add_argument("--version", action="version", version=__version__)
-    parser.add_argument("files", metavar="FILE", nargs="+", help="a log; - is standard input")
-    asked = parser.parse_args()
-    try:
-        library()
-    except OSError as error:
-        return complain(str(error))
+    parser.add_argument("names", metavar="FILE", nargs="+", help=argparse.SUPPRESS)
+    return parser
+
+
+def judge_all(names: list[str], form: Callable[[str, Union[Answer, str]], str]) -> int:
+    """Writes a line for each file, and gives the worst status."""
+    library()
     worst = 0
-    try:
-        for name in asked.files:
-            answer = judge(name)
-            worst = max(worst, complain(answer) if isinstance(answer, str) else answer.status)
-            sys.stdout.buffer.write(os.fsencode(asked.form(name, answer)))
-        sys.stdout.buffer.flush()
-    except OSError as error:
-        os.write(2, os.fsencode(f"vicinity: write failed: {error.strerror}\n"))
-        os._exit(NO_ANSWER)  # what is left in the buffer isn't tried again
+    for name in names:
+        answer = judge(name)
+        worst = max(worst, complain(answer) if isinstance(answer, str) else answer.status)
+        write([form(name, answer)])
     return worst
 
 
+def main() -> int:
+    parser = words()
+    asked = parser.parse(sys.argv[1:])
+    task, *logs = asked.names
+    if task not in PICTURES and not asked.ascii:
+        return judge_all(asked.names, asked.form or as_line)
+    if len(logs) != 1 or asked.form or asked.ascii and task != "show":
+        parser.error("a picture is of one log, by show [--ascii] LOG or page LOG")
+    from .draw import draw  # the code of pictures is loaded for them alone
+
+    return draw(task, logs[0], asked.ascii)
+
+
 if __name__ == "__main__":
-    sys.exit(draw.main() if sys.argv[1:2] in (["show"], ["page"]) else main())
+    sys.exit(run(main))

@@ -27,6 +27,12 @@ def _bytes(text: BytesLike) -> bytes:
         raise TypeError(f"the text of a log is bytes, not {type(text).__name__}") from None
 
 
+def _without_list(text: BytesLike) -> bytes:
+    """The bytes of a text beside which a list stands, with an LF after its last line."""
+    text = _bytes(text)
+    return text if text.endswith(b"\n") else text + b"\n"
+
+
 def _numbers(uids: Iterable[int]) -> ctypes.Array[ctypes.c_uint64]:
     """UIDs as C has them. Raises OverflowError if a number is none of 64 bits."""
     numbers = array("Q", uids)
@@ -88,10 +94,11 @@ def report(text: BytesLike) -> Report:
 
 
 def check_listed(text: BytesLike, uids: Iterable[int]) -> Answer:
-    """The answer to a text that lists nothing and ends with LF, with a list of UIDs beside it, in any order.
+    """The answer to a text that lists nothing, with a list of UIDs beside it, in any order. The last line of the text
+    may lack its LF.
 
     Raises what `check` raises, and OverflowError if a UID is no number of 64 bits."""
-    text, listed = _bytes(text), _numbers(uids)
+    text, listed = _without_list(text), _numbers(uids)
     told = AnswerStruct()
     library().vicinity_check_listed(text, len(text), listed, len(listed), ctypes.byref(told))
     return _answer(told)
@@ -99,13 +106,13 @@ def check_listed(text: BytesLike, uids: Iterable[int]) -> Answer:
 
 def explain_listed(text: BytesLike, uids: Iterable[int]) -> Explanation:
     """The answer of `check_listed`, and the UIDs of tags that show it. Raises what `check_listed` raises."""
-    text, listed = _bytes(text), _numbers(uids)
+    text, listed = _without_list(text), _numbers(uids)
     return Explanation(*_in_room(ctypes.c_uint64, library().vicinity_explain_listed, text, len(text), listed, len(listed)))
 
 
 def report_listed(text: BytesLike, uids: Iterable[int]) -> Report:
     """The answer of `check_listed`, and all that the log tells against the list. Raises what `check_listed` raises."""
-    text, listed = _bytes(text), _numbers(uids)
+    text, listed = _without_list(text), _numbers(uids)
     return _report(*_in_room(FindingStruct, library().vicinity_report_listed, text, len(text), listed, len(listed)))
 
 

@@ -1,10 +1,17 @@
-"""What the commands of the package share: words, files, and what is said if there is no answer."""
+"""The frame in which every command runs: its words, what it reads and writes, and how it ends.
+
+A command is a function that gives its status, and `run` runs it. It takes its words by `Words`, reads by `read`, writes by
+`write`, and shows the name of a file by `shown`. Where it has no answer it raises NoAnswer, MemoryError or OSError: then a
+line stands on standard error, and the status is 4. Nothing goes by way of sys.stdout or sys.stderr, so a stream that is
+closed or full is seen at once, and no traceback is written.
+"""
 from __future__ import annotations
 
 import argparse
 import os
+import signal
 import sys
-from typing import NoReturn
+from typing import IO, Callable, Iterable, NoReturn, Optional, Sequence
 
 # A longer text has a line that is too long, or too many lines, within these bytes: 1,000,000 lines of 130 bytes, one more.
 MOST_BYTES = 1_000_000 * 130 + 1
@@ -12,29 +19,105 @@ PIECE = 1 << 16
 NO_ANSWER = 4
 
 
-class Words(argparse.ArgumentParser):
-    def error(self, message: str) -> NoReturn:
-        self.exit(NO_ANSWER, f"vicinity: {message}\n{self.format_usage()}")
+class NoAnswer(Exception):
+    """Why there is no answer."""
+
+
+def run(command: Callable[[], int]) -> int:
+    """The status of a command, which is 4 if it has no answer."""
+    signal.signal(signal.SIGINT, signal.SIG_DFL)  # also while the library judges
+    sys.unraisablehook = lambda _: None  # what fails as memory runs out, while something is given up
+    try:
+        return command()
+    except NoAnswer as why:
+        return complain(str(why))
+    except MemoryError:
+        return complain("out of memory")
+    except OSError as error:
+        return complain(shown(str(error)))
+    except Exception as error:  # a defect: by itself Python would end with 1, which is a 'no'
+        return complain(shown(f"{type(error).__name__}: {error}"))
 
 
 def complain(why: str) -> int:
-    """Says on standard error why there is no answer, after all that was said before, and gives the status."""
-    sys.stdout.flush()
-    os.write(2, os.fsencode(f"vicinity: {why}\n"))
+    """Says on standard error why there is no answer, if that takes it, and gives the status."""
+    try:
+        os.write(2, _encoded(f"vicinity: {why}\n"))
+    except (OSError, MemoryError):
+        pass
     return NO_ANSWER
 
 
 def read(name: str) -> bytes:
-    """What a file holds, as far as it can matter."""
-    file = os.dup(0) if name == "-" else os.open(name, os.O_RDONLY | os.O_CLOEXEC)
+    """What a file holds, as far as it can matter; - is standard input."""
     try:
-        pieces, left = [], MOST_BYTES
-        while left > 0:
-            piece = os.read(file, min(PIECE, left))
-            if not piece:
-                break
-            pieces.append(piece)
-            left -= len(piece)
-        return b"".join(pieces)
-    finally:
-        os.close(file)
+        file = os.dup(0) if name == "-" else os.open(name, os.O_RDONLY | os.O_CLOEXEC)
+        try:
+            pieces, left = [], MOST_BYTES
+            while left > 0:
+                piece = os.read(file, min(PIECE, left))
+                if not piece:
+                    break
+                pieces.append(piece)
+                left -= len(piece)
+            return b"".join(pieces)
+        finally:
+            os.close(file)
+    except OSError as error:
+        raise NoAnswer(f"cannot read {shown(name)}: {error.strerror}") from None
+
+
+def write(pieces: Iterable[str]) -> None:
+    """Writes text on standard output as UTF-8, as it comes."""
+    waiting = bytearray()
+    for piece in pieces:
+        waiting += _encoded(piece)
+        if len(waiting) >= PIECE:
+            _write_out(waiting)
+    _write_out(waiting)
+
+
+def _write_out(waiting: bytearray) -> None:
+    try:
+        while waiting:
+            del waiting[:os.write(1, waiting)]
+    except OSError as error:
+        raise NoAnswer(f"write failed: {error.strerror}") from None
+
+
+def _encoded(text: str) -> bytes:
+    return text.encode("utf-8", "backslashreplace")
+
+
+def shown(name: str) -> str:
+    """A name in one line, with nothing in it that a terminal obeys: a backslash is `\\\\`, a tab `\\t`, an end of a line `\\n`,
+    and each byte of another character that can't be printed, or that isn't UTF-8, `\\x` and two hex digits."""
+    text = os.fsencode(name).replace(b"\\", b"\\\\").decode("utf-8", "backslashreplace")
+    return "".join(it if it.isprintable() else _escaped(it) for it in text)
+
+
+def _escaped(character: str) -> str:
+    short = {"\t": "\\t", "\n": "\\n"}.get(character)
+    return short or "".join(f"\\x{byte:02x}" for byte in character.encode())
+
+
+def has_colours() -> bool:
+    """Whether standard output is a terminal, and colours are wanted: NO_COLOR isn't set, or is empty."""
+    return os.isatty(1) and not os.environ.get("NO_COLOR")
+
+
+class Words(argparse.ArgumentParser):
+    """The words of a command. Options have no values, and stand anywhere before `--`."""
+
+    def parse(self, words: Sequence[str]) -> argparse.Namespace:
+        end = words.index("--") if "--" in words else len(words)
+        options = [word for word in words[:end] if word.startswith("-") and word != "-"]
+        names = [word for word in words[:end] if word == "-" or not word.startswith("-")]
+        return self.parse_args([*options, "--", *names, *words[end + 1:]])
+
+    def error(self, message: str) -> NoReturn:
+        raise NoAnswer(f"{shown(message)}\n{self.format_usage().rstrip()}")
+
+    def _print_message(self, message: str, file: Optional[IO[str]] = None) -> None:
+        """Help and version, which argparse would write by sys.stdout."""
+        write([message])

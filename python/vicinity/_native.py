@@ -133,8 +133,10 @@ def library() -> ctypes.CDLL:
         raise OSError(f"{name} isn't the library of vicinity") from None
     if interface != INTERFACE:
         raise OSError(f"the library {name} has the interface {interface}, and this package needs {INTERFACE}")
-    for name, arguments in CALLS.items():
-        call = getattr(lib, f"vicinity_{name}")
+    for call_name, arguments in CALLS.items():
+        call = getattr(lib, f"vicinity_{call_name}", None)
+        if call is None:
+            raise OSError(f"the library {name} is older than this package: it has no vicinity_{call_name}")
         call.restype = ctypes.c_uint32
         call.argtypes = arguments
     return lib
@@ -145,4 +147,4 @@ def name_of(what: str, number: int) -> str:
     """The name that the library has for a number of a kind or a fault."""
     told = NameStruct()
     getattr(library(), f"vicinity_{what}_name")(number, ctypes.byref(told))
-    return told.text.decode("ascii")
+    return bytes(told.text).decode("ascii")

@@ -98,7 +98,7 @@ def write_line(letter: str, frame: bytes = b"", uid: int = 0) -> bytes:
     told = LineStruct()
     (code,) = letter.encode("ascii")
     _refuse(library().vicinity_write_line(code, frame, len(frame), _number(uid, 64), ctypes.byref(told)))
-    return told.text
+    return bytes(told.text)
 
 
 def slot_mask(slots: int, mask: Mask, slot: int) -> Mask:

@@ -54,7 +54,7 @@ def page(session: Session, told: Told, name: str = "") -> str:
     """The page of a session with what `report` says of it."""
     rows = [session.rows[index] for index in kept_rows(session.rows, told.named)]
     left = len(session.rows) - len(rows)
-    joined = [told.silenced] * (told.silenced is not None) + told.conflict
+    joined = ([] if told.silenced is None else [told.silenced]) + told.conflict
     parts = ["<!DOCTYPE html>", '<html lang="en">', "<head>", '<meta charset="utf-8">',
              '<meta name="viewport" content="width=device-width">', f"<title>{escape(told.answer.text)}</title>",
              f"<style>{STYLE}</style>", "</head>", "<body>", "<main>", f"<p>{escape(name)}</p>",

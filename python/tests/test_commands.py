@@ -1,0 +1,261 @@
+"""What `python3 -m vicinity` writes, and its status, also where memory, streams and names are hostile."""
+import contextlib
+import json
+import os
+import pty
+import signal
+import subprocess
+import sys
+import tempfile
+import unittest
+
+import vicinity
+from test_vicinity import ALL, ANSWERS, log
+
+COMPLETE = log(ALL + b"S\n")
+FORMS = ([], ["--tabs"], ["--json"], ["show"], ["page"])
+FULL = "No space left on device"
+
+
+def command(*words, given=b"", redirected="", limit="unlimited", **env):
+    """What `python3 -m vicinity` writes, and its status; with its streams redirected as a shell does it, and with at most
+    so many KiB of address space."""
+    script = f'ulimit -v {limit}; exec "$@" {redirected}'
+    ran = subprocess.run(["sh", "-c", script, "sh", sys.executable, "-m", "vicinity", *words], input=given,
+                         capture_output=True, env={**os.environ, **env})
+    return ran.stdout, ran.stderr, ran.returncode
+
+
+def on_a_terminal(*words, **env):
+    """What a terminal gets."""
+    ours, theirs = pty.openpty()
+    subprocess.run([sys.executable, "-m", "vicinity", *words], stdin=theirs, stdout=theirs, env={**os.environ, **env})
+    os.close(theirs)
+    told = b""
+    with open(ours, "rb", buffering=0) as file, contextlib.suppress(OSError):
+        while piece := file.read(4096):
+            told += piece
+    return told
+
+
+class Command(unittest.TestCase):
+    def setUp(self):
+        folder = tempfile.TemporaryDirectory()
+        self.addCleanup(folder.cleanup)
+        self.folder = folder.name
+        self.names = [self.write(f"{number}.log", log(lines)) for number, (lines, *_) in enumerate(ANSWERS)]
+
+    def write(self, name, text):
+        name = os.path.join(self.folder, name)
+        with open(name, "wb") as file:
+            file.write(text)
+        return name
+
+
+class Answers(Command):
+    def test_a_line_for_each_file(self):
+        said, errors, status = command(*self.names)
+        wanted = "".join(f"{name}: {text}\n" for name, (_, _, text, _) in zip(self.names, ANSWERS))
+        self.assertEqual((said.decode(), errors, status), (wanted, b"", 3))
+
+    def test_the_worst_status(self):
+        for count, status in ((1, 0), (3, 1), (7, 2), (8, 3)):
+            self.assertEqual(command(*self.names[:count])[2], status)
+            self.assertEqual(command(*reversed(self.names[:count]))[2], status)
+        said, errors, status = command("/nowhere.log", self.names[0])
+        self.assertEqual((said.decode(), status), (f"{self.names[0]}: complete 0\n", 4))
+        self.assertEqual(errors, b"vicinity: cannot read /nowhere.log: No such file or directory\n")
+
+    def test_standard_input(self):
+        for words in (["-"], ["--", "-"]):
+            self.assertEqual(command(*words, given=COMPLETE), (b"-: complete 0\n", b"", 0))
+
+    def test_tabs(self):
+        said, _, status = command("--tabs", self.names[0], self.names[6], "/nowhere.log")
+        wanted = [[self.names[0], "0", "complete 0"], [self.names[6], "2", "impossible at line 5"],
+                  ["/nowhere.log", "4", "no answer"]]
+        self.assertEqual([line.split("\t") for line in said.decode().splitlines()], wanted)
+        self.assertEqual(status, 4)
+
+    def test_json(self):
+        said, _, status = command("--json", *self.names, "/nowhere.log")
+        found = [json.loads(line) for line in said.decode().splitlines()]
+        self.assertEqual([it["file"] for it in found], [*self.names, "/nowhere.log"])
+        wanted = [
+            {"status": 0, "kind": "complete", "count": 0},
+            {"status": 0, "kind": "complete", "count": 1},
+            {"status": 1, "kind": "absent", "uid": "E0040100000000A1"},
+            {"status": 1, "kind": "unlisted", "uid": "E0040100000000A1"},
+            {"status": 1, "kind": "unsettled", "mask_len": 56, "mask_value": "040100000000A1".lstrip("0")},
+            {"status": 1, "kind": "doubtful", "uid": "E0040100000000A1"},
+            {"status": 2, "kind": "impossible", "line": 5},
+            {"status": 3, "kind": "refused", "line": 4, "fault": "SlotOutsideRound"},
+            {"status": 3, "kind": "refused", "line": 2, "fault": "Crc"},
+            {"status": 4, "kind": "no answer", "error": "cannot read /nowhere.log: No such file or directory"},
+        ]
+        self.assertEqual([{key: it[key] for key in it if key != "file"} for it in found], wanted)
+        self.assertEqual(status, 4)
+
+    def test_no_library(self):
+        said, errors, status = command(self.names[0], LIBVICINITY="/nowhere.so")
+        self.assertEqual((said, status), (b"", 4))
+        self.assertTrue(errors.startswith(b"vicinity: the library /nowhere.so can't be loaded"))
+
+    def test_a_text_without_end_is_read_as_far_as_it_matters(self):
+        self.assertEqual(command("/dev/zero")[::2], (b"/dev/zero: refused at line 1: LineTooLong\n", 3))
+
+
+class Words(Command):
+    def test_words_that_are_no_command(self):
+        name = self.names[0]
+        for words in ([], ["--tabs", "--json", name], ["--other", name], ["show"], ["page", name, name], ["--ascii", name],
+                      ["page", "--ascii", name], ["show", "--json", name]):
+            said, errors, status = command(*words)
+            self.assertEqual((said, errors.startswith(b"vicinity: "), b"\nusage: " in errors, status), (b"", True, True, 4))
+
+    def test_options_stand_anywhere(self):
+        shown = command("show", "--ascii", self.names[0])
+        self.assertEqual(shown[1:], (b"", 0))
+        self.assertTrue(shown[0].isascii())
+        for words in (["--ascii", "show", self.names[0]], ["show", self.names[0], "--ascii"]):
+            self.assertEqual(command(*words), shown)
+        self.assertEqual(command(self.names[0], "--tabs"), command("--tabs", self.names[0]))
+
+    def test_a_name_that_begins_with_a_dash(self):
+        self.write("--tabs", COMPLETE)
+        ran = subprocess.run([sys.executable, "-m", "vicinity", "--", "--tabs"], cwd=self.folder, capture_output=True)
+        self.assertEqual((ran.stdout, ran.returncode), (b"--tabs: complete 0\n", 0))
+
+    def test_help_and_version(self):
+        said, errors, status = command("--help")
+        self.assertEqual((errors, status), (b"", 0))
+        for words in ("show LOG", "page LOG", "--tabs", "--json", "--ascii"):
+            self.assertIn(words, said.decode())
+        self.assertEqual(command("--version"), (f"{vicinity.__version__}\n".encode(), b"", 0))
+
+    def test_colours(self):
+        for colours, env in ((True, {}), (True, {"NO_COLOR": ""}), (False, {"NO_COLOR": "1"})):
+            self.assertEqual(b"\33[" in on_a_terminal("show", self.names[1], **env), colours, env)
+        self.assertNotIn(b"\33", command("show", self.names[1])[0])
+
+
+class Memory(Command):
+    def setUp(self):
+        super().setUp()
+        code = ("import vicinity.__main__, vicinity.draw; vicinity.check(b'')\n"
+                "with open('/proc/self/status') as file: print(*(it.split()[1] for it in file if it.startswith('VmPeak')))")
+        self.least = int(subprocess.run([sys.executable, "-c", code], capture_output=True).stdout)
+
+    def test_it_is_refused_while_a_file_is_read(self):
+        large = self.write("large.log", b"")
+        os.truncate(large, 200_000_000)
+        first, last = self.names[:2]
+        said, errors, status = command(first, large, last, limit=self.least + 100_000)
+        self.assertEqual(said.decode(), f"{first}: complete 0\n{last}: complete 1\n")
+        self.assertEqual((errors.decode(), status), (f"vicinity: out of memory: {large}\n", 4))
+        for form in ("show", "page"):
+            self.assertEqual(command(form, large, limit=self.least + 100_000), (b"", b"vicinity: out of memory\n", 4))
+
+    def test_it_is_refused_while_a_file_is_judged_or_drawn(self):
+        for form, rounds in (([], 150_000), (["show"], 30_000), (["page"], 30_000)):
+            large = self.write("large.log", log((ALL + b"S\n") * rounds))
+            statuses = []
+            for more in range(2_000, 42_000, 4_000):
+                said, errors, status = command(*form, large, *([] if form else self.names[:1]), limit=self.least + more)
+                self.assertRegex(errors, rb"\A(vicinity: out of memory.*\n)?\Z")
+                self.assertEqual(status, 4 if errors else 0)
+                if not form:
+                    self.assertTrue(said.endswith(f"{self.names[0]}: complete 0\n".encode()))
+                statuses.append(status)
+            self.assertEqual({statuses[0], statuses[-1]}, {4, 0}, form)
+
+
+class Streams(Command):
+    def test_standard_output_that_takes_nothing(self):
+        words = [[*form, self.names[0]] for form in FORMS] + [["--help"], ["--version"]]
+        for redirected, why in ((">&-", "Bad file descriptor"), (">/dev/full", FULL)):
+            for these in words:
+                ended = command(*these, redirected=redirected)
+                self.assertEqual(ended, (b"", f"vicinity: write failed: {why}\n".encode(), 4), these)
+
+    def test_a_pipe_that_nobody_reads(self):
+        for form in FORMS:
+            read, write = os.pipe()
+            os.close(read)
+            with open(write, "wb") as pipe:
+                ran = subprocess.run([sys.executable, "-m", "vicinity", *form, self.names[0]], stdout=pipe,
+                                     stderr=subprocess.PIPE)
+            self.assertEqual((ran.stderr, ran.returncode), (b"vicinity: write failed: Broken pipe\n", 4))
+
+    def test_standard_error_that_takes_nothing(self):
+        first, last = self.names[0], self.names[2]
+        wanted = f"{first}: complete 0\n{last}: absent E0040100000000A1\n".encode()
+        for redirected in ("2>&-", "2>/dev/full"):
+            self.assertEqual(command(first, "/nowhere.log", last, redirected=redirected), (wanted, b"", 4))
+            for form in FORMS:
+                self.assertEqual(command(*form, last, redirected=redirected)[1:], (b"", 1))
+                self.assertEqual(command(*form, "/nowhere.log", redirected=redirected)[1:], (b"", 4))
+                self.assertEqual(command(*form, last, redirected=f">&- {redirected}"), (b"", b"", 4))
+            self.assertEqual(command("--other", redirected=redirected), (b"", b"", 4))
+
+    def test_standard_input_that_is_closed(self):
+        for form in FORMS:
+            said, errors, status = command(*form, "-", redirected="<&-")
+            self.assertEqual((errors, status), (b"vicinity: cannot read -: Bad file descriptor\n", 4))
+
+    def test_an_interrupt_is_no_traceback(self):
+        ran = subprocess.Popen([sys.executable, "-m", "vicinity", self.names[0], "-"], stdin=subprocess.PIPE,
+                               stdout=subprocess.PIPE, stderr=subprocess.PIPE)
+        self.assertEqual(ran.stdout.readline(), f"{self.names[0]}: complete 0\n".encode())
+        ran.send_signal(signal.SIGINT)
+        self.assertEqual((*ran.communicate(), ran.returncode), (b"", b"", -signal.SIGINT))
+
+    def test_a_defect_is_no_answer(self):
+        code = "import sys; from vicinity._command import run; sys.exit(run(lambda: 1 // 0))"
+        ran = subprocess.run([sys.executable, "-c", code], capture_output=True)
+        self.assertEqual((ran.stdout, ran.stderr, ran.returncode),
+                         (b"", b"vicinity: ZeroDivisionError: integer division or modulo by zero\n", 4))
+
+
+class Names(Command):
+    NAMES = {
+        b"a: complete 4.log": "a: complete 4.log",
+        b"a\nb.log: complete 1\n.log": r"a\nb.log: complete 1\n.log",
+        b"a\tb\\c.log": r"a\tb\\c.log",
+        b"\33]0;owned\7\33[2J\r.log": r"\x1b]0;owned\x07\x1b[2J\x0d.log",
+        b"\xff.log": r"\xff.log",
+        "\u00e9\u6f22\u202e\u0085\u2028.log".encode(): "\u00e9\u6f22" r"\xe2\x80\xae\xc2\x85\xe2\x80\xa8.log",
+    }
+
+    def test_they_stay_in_their_line(self):
+        for name, shown in self.NAMES.items():
+            path, where = os.path.join(os.fsencode(self.folder), name), os.path.join(self.folder, shown)
+            missing = f"cannot read {where}: No such file or directory"
+            self.assertEqual(command(path), (b"", f"vicinity: {missing}\n".encode(), 4))
+            self.assertEqual(json.loads(command("--json", path)[0])["error"], missing)
+            with open(path, "wb") as file:
+                file.write(COMPLETE)
+            self.assertEqual(command(path), (f"{where}: complete 0\n".encode(), b"", 0))
+            self.assertEqual(command("--tabs", path), (f"{where}\t0\tcomplete 0\n".encode(), b"", 0))
+            self.assertEqual(os.fsencode(json.loads(command("--json", path)[0])["file"]), path)
+            for form in ("show", "page"):
+                said, errors, status = command(form, path)
+                self.assertEqual((errors, status), (b"", 0))
+                self.assertTrue(all(it == "\n" or it.isprintable() for it in said.decode()))
+                self.assertNotRegex(said.decode(), "&#[0-9]{5};")
+
+    def test_printf_gives_them_back(self):
+        for name in self.NAMES:
+            path = os.path.join(os.fsencode(self.folder), name)
+            shown = command("--tabs", path)[0].split(b"\t")[0]
+            given = subprocess.run(["bash", "-c", 'printf %b "$1"', "bash", shown], capture_output=True).stdout
+            self.assertEqual(given, path)
+
+    def test_words_that_are_refused(self):
+        errors = command("--\33[2J\n", self.names[0])[1]
+        self.assertIn(rb"--\x1b[2J\n", errors)
+        self.assertNotIn(b"\33", errors)
+
+
+if __name__ == "__main__":
+    unittest.main()
