@@ -1,7 +1,7 @@
 //! Writers that are written in pieces.
 
 ghost use Rattle.std.specs.Prelude.{◌≡◌, ◌<◌, ◌≤◌, ◌++◌, ℕ, List, [], Bool, true, false, length};
-ghost use Rattle.std.specs.Prelude.{IfOk, OnErr, OnOk, is_err, Option};
+ghost use Rattle.std.specs.Prelude.{IfOk, OnErr, OnOk, is_err, is_ok, Option};
 ghost use Rattle.std.specs.Io.KnownBytes.{Appends};
 ghost use Rattle.vic_log.specs.Device.{SinkStep, KeepsOrHides, HasTakenPrefix, HasWrittenPrefix, moved, to_write_inner};
 
@@ -17,7 +17,8 @@ pub trait Sink {
     // The bytes that it has taken, where it tells them.
     ghost taken: { Self → Option (List ℕ) };
 
-    // Whether it has handed on all that it has taken.
+    // Whether its last write or flush was a flush that succeeded: it has handed on all that it has
+    // taken.
     ghost is_flushed: { Self → Bool };
 
     ghost has_failed: { Self → Bool };
@@ -31,13 +32,14 @@ pub trait Sink {
         ensures some { IfOk result (λ n. 0 < length bytes.now → 0 < n) }
         ensures written { written self.new ≡ written self.old ++ moved result bytes.now }
         ensures bytes { SinkStep (taken self.old) (taken self.new) result bytes.now }
+        ensures waiting { is_flushed self.new ≡ false }
         ensures state { has_failed self.new ≡ is_err result };
 
     /// Hands on what it has taken. A sink that has failed is not flushed.
     fn flush(&mut self) -> Result<(), DeviceFault>
         requires { has_failed self.old ≡ false }
         ensures unwritten { written self.new ≡ written self.old }
-        ensures handed_on { OnOk result (is_flushed self.new ≡ true) }
+        ensures handed_on { is_flushed self.new ≡ is_ok result }
         ensures kept { OnOk result (Appends (taken self.old) (taken self.new) []) }
         ensures err { OnErr result (KeepsOrHides (taken self.old) (taken self.new)) }
         ensures state { has_failed self.new ≡ is_err result };
@@ -113,18 +115,10 @@ impl<W: Write> Sink for ToWrite<W> {
     }
 
     fn flush(&mut self) -> Result<(), DeviceFault> {
-        match self.inner.flush() {
-            Ok(()) => {
-                self.flushed = true;
-                self.failed = false;
-                Ok(())
-            }
-            Err(_) => {
-                self.flushed = false;
-                self.failed = true;
-                Err(DeviceFault)
-            }
-        }
+        let flushed = self.inner.flush().is_ok();
+        self.flushed = flushed;
+        self.failed = !flushed;
+        if flushed { Ok(()) } else { Err(DeviceFault) }
     }
 
     fn failed(&self) -> bool {
