@@ -1,15 +1,17 @@
 /* A reader's loop: rounds over a field of tags, each noted in a log, until the checker calls the list complete.
  *
- * A collision is asked again by the mask of its slot; if none is left, the mask of the answer `unsettled` is. A tag that
- * was silenced before it was heard wakes up in a field cycle. `send` and `slot_gave` stand for the reader's chip: here
- * they ask a simulated field. */
+ *     reader_loop [TAGS]
+ *
+ * A collision is asked again by the mask of its slot. Only when none is left is the checker called, since each call reads
+ * the log from its beginning; the mask of its answer `unsettled` is asked then. A tag that was silenced before it was heard
+ * wakes up in a field cycle. `slot_gave` stands for the reader's chip: here it asks a simulated field. */
 #include "vicinity.h"
 
 #include <stdio.h>
 #include <stdlib.h>
 #include <string.h>
 
-enum { MOST_TAGS = 1000, MOST_ROUNDS = 2000, TEXT_ROOM = 1 << 22, SLOTS = 16 };
+enum { MOST_TAGS = 20000, MOST_ROUNDS = 20000, TEXT_ROOM = 1 << 24, SLOTS = 16 };
 
 static uint64_t field[MOST_TAGS], silenced; /* what the reader doesn't know: its tags, and one that is Quiet */
 static size_t tags;
@@ -65,14 +67,22 @@ static void ask(uint32_t mask_len, uint64_t mask_value)
     }
 }
 
+/* How many tags a word says; more than MOST_TAGS if it says no number. */
+static size_t count_in(const char *word)
+{
+    return *word && word[strspn(word, "0123456789")] == '\0' ? strtoul(word, NULL, 10) : MOST_TAGS + 1;
+}
+
 int main(int argc, char **argv)
 {
     struct vicinity_answer answer;
     struct vicinity_frame frame;
-    size_t rounds = 0, cycles = 0;
-    tags = argc > 1 ? strtoul(argv[1], NULL, 10) : 40;
-    if (vicinity_interface() != VICINITY_INTERFACE || tags > MOST_TAGS)
+    size_t rounds = 0, cycles = 0, calls = 1;
+    tags = argc == 2 ? count_in(argv[1]) : argc < 2 ? 40 : MOST_TAGS + 1;
+    if (vicinity_interface() != VICINITY_INTERFACE || tags > MOST_TAGS) {
+        fprintf(stderr, "reader_loop [TAGS], at most %d, over an interface %d\n", MOST_TAGS, VICINITY_INTERFACE);
         return 4;
+    }
     for (size_t i = 0; i < tags; i++)
         field[i] = UINT64_C(0xE0) << 56 | (i + 1) * UINT64_C(0x9E3779B97F4A7C15) >> 8;
     if (tags > 0) { /* someone has silenced a tag before it was heard */
@@ -81,20 +91,21 @@ int main(int argc, char **argv)
         note('T', &frame);
     }
     vicinity_check_listed((const uint8_t *)text, len, heard, count, &answer);
-    for (; answer.kind == VICINITY_UNSETTLED && rounds < MOST_ROUNDS; rounds++) {
-        if (collisions > 0) {
+    while (answer.kind == VICINITY_UNSETTLED && rounds < MOST_ROUNDS) {
+        if (answer.mask_len == 56) { /* one UID: it may be Quiet, so wake it up */
+            note('F', NULL);
+            silenced = 0;
+            cycles++;
+        }
+        ask(answer.mask_len, answer.mask_value);
+        for (rounds++; collisions > 0 && rounds < MOST_ROUNDS; rounds++) {
             collisions--;
             ask(collided[collisions].len, collided[collisions].value);
-        } else {
-            if (answer.mask_len == 56) { /* one UID: it may be Quiet, so wake it up */
-                note('F', NULL);
-                silenced = 0;
-                cycles++;
-            }
-            ask(answer.mask_len, answer.mask_value);
         }
         vicinity_check_listed((const uint8_t *)text, len, heard, count, &answer);
+        calls++;
     }
-    printf("%.*s after %zu rounds and %zu field cycles\n", (int)strcspn(answer.text, "\n"), answer.text, rounds, cycles);
+    printf("%.*s after %zu rounds, %zu field cycles and %zu calls of the checker\n",
+           (int)strcspn(answer.text, "\n"), answer.text, rounds, cycles, calls);
     return answer.kind == VICINITY_COMPLETE && count == tags ? 0 : 1;
 }
