@@ -3,8 +3,9 @@
  *     reader_loop [TAGS]
  *
  * A collision is asked again by the mask of its slot. Only when none is left is the checker called, since each call reads
- * the log from its beginning; the mask of its answer `unsettled` is asked then. A tag that was silenced before it was heard
- * wakes up in a field cycle. `slot_gave` stands for the reader's chip: here it asks a simulated field. */
+ * the log from its beginning; the mask of its answer `unsettled` is asked then. If that is the mask that it named before, a
+ * tag was silenced before it was heard, which wakes up in a field cycle. `slot_gave` stands for the reader's chip: here it
+ * asks a simulated field. */
 #include "vicinity.h"
 
 #include <stdio.h>
@@ -77,6 +78,7 @@ int main(int argc, char **argv)
 {
     struct vicinity_answer answer;
     struct vicinity_frame frame;
+    struct vicinity_mask named = {0, 65, 0}; /* by the last answer: at first none */
     size_t rounds = 0, cycles = 0, calls = 1;
     tags = argc == 2 ? count_in(argv[1]) : argc < 2 ? 40 : MOST_TAGS + 1;
     if (vicinity_interface() != VICINITY_INTERFACE || tags > MOST_TAGS) {
@@ -92,11 +94,13 @@ int main(int argc, char **argv)
     }
     vicinity_check_listed((const uint8_t *)text, len, heard, count, &answer);
     while (answer.kind == VICINITY_UNSETTLED && rounds < MOST_ROUNDS) {
-        if (answer.mask_len == 56) { /* one UID: it may be Quiet, so wake it up */
+        if (answer.mask_len == named.len && answer.mask_value == named.value) {
             note('F', NULL);
             silenced = 0;
             cycles++;
         }
+        named.len = answer.mask_len;
+        named.value = answer.mask_value;
         ask(answer.mask_len, answer.mask_value);
         for (rounds++; collisions > 0 && rounds < MOST_ROUNDS; rounds++) {
             collisions--;
