@@ -157,10 +157,10 @@ class Memory(Command):
             self.assertEqual(command(form, large, limit=self.least + 100_000), (b"", b"vicinity: out of memory\n", 4))
 
     def test_it_is_refused_while_a_file_is_judged_or_drawn(self):
-        for form, rounds in (([], 150_000), (["show"], 30_000), (["page"], 30_000)):
+        for form, rounds in (([], 90_000), (["show"], 15_000), (["page"], 15_000)):
             large = self.write("large.log", log((ALL + b"S\n") * rounds))
             statuses = []
-            for more in range(2_000, 42_000, 4_000):
+            for more in (2_000, 4_000, 6_000, 8_000, 10_000, 30_000):
                 said, errors, status = command(*form, large, *([] if form else self.names[:1]), limit=self.least + more)
                 self.assertRegex(errors, rb"\A(vicinity: out of memory.*\n)?\Z")
                 self.assertEqual(status, 4 if errors else 0)
@@ -241,8 +241,7 @@ class Names(Command):
             for form in ("show", "page"):
                 said, errors, status = command(form, path)
                 self.assertEqual((errors, status), (b"", 0))
-                self.assertTrue(all(it == "\n" or it.isprintable() for it in said.decode()))
-                self.assertNotRegex(said.decode(), "&#[0-9]{5};")
+                self.assertNotRegex(said.decode(), "[\0-\x08\x0b-\x1f\x7f-\x9f\u2028\u202e]|&#5[5-7][0-9]{3};")
 
     def test_printf_gives_them_back(self):
         for name in self.NAMES:

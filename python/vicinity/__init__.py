@@ -1,4 +1,4 @@
-"""Is the list of tags that a reader claims whole?
+"""Is the list of tags that a reader claims complete?
 
     >>> import vicinity
     >>> answer = vicinity.check(b"vicinity-log 1\\nT 260100F60A\\nS\\n")
@@ -8,7 +8,7 @@
 The log text and the answers are those of the program `vicinity`. The answers come from the shared library
 libvicinity.so.1: nothing is judged in Python. It is loaded at the first call; LIBVICINITY may name its file.
 
-`python3 -m vicinity FILE ..` answers for many files in one process.
+`python3 -m vicinity FILE ..` answers for many files in one process; `python3 -m vicinity show LOG` and `page LOG` draw one.
 """
 from ._answers import Answer, Explanation, Fault, Finding, FindingKind, Kind, Report, Simulation
 from ._calls import (check, check_listed, explain, explain_into, explain_listed, report, report_listed, simulate,

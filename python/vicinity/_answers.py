@@ -85,7 +85,7 @@ class Answer:
 
     @property
     def is_complete(self) -> bool:
-        """Whether the list is whole."""
+        """Whether the list is complete."""
         return self.kind is Kind.COMPLETE
 
     def __str__(self) -> str:
