@@ -19,7 +19,7 @@ def round_over(field, mask, lines, heard):
     """Asks the tags of a mask in sixteen slots, notes the request and what each slot gave, and gives the masks of the
     slots in which tags collided."""
     collided = []
-    lines.append(vicinity.write_line("T", vicinity.write_inventory(0, 16, mask)))
+    lines.append(vicinity.write_line("T", vicinity.write_inventory(2, 16, mask)))
     asked = [uid for uid in field if uid % (1 << mask.length) == mask.value]
     for slot in range(16):
         in_slot = vicinity.slot_mask(16, mask, slot)
@@ -38,7 +38,7 @@ def round_over(field, mask, lines, heard):
 def find_all(field, silenced):
     """The tags of a field, the lines of the log that shows that they are all, and how many rounds and calls of the checker
     it took. One tag of the field is silenced first, and not yet heard."""
-    lines = [vicinity.HEADER_LINE, vicinity.write_line("T", vicinity.write_stay_quiet(0, silenced))]
+    lines = [vicinity.HEADER_LINE, vicinity.write_line("T", vicinity.write_stay_quiet(2, silenced))]
     heard, to_ask, named, calls = set(), [], None, 0
     awake = field - {silenced}
     for rounds in range(MOST_ROUNDS + 1):
