@@ -2,8 +2,7 @@
 
 ghost use Rattle.std.specs.Prelude.{◌≡◌, IfOk, length};
 
-use crate::fates::Fates;
-use crate::steps::{parts_of, steps_of};
+use crate::course::course_of;
 use std::alloc::{AllocError, Global};
 use vic_frame::Uid;
 use vic_frame::low_bits_first::key;
@@ -18,14 +17,11 @@ pub fn guess_ruling_lines(
 ) -> Result<Vec<u32>, AllocError>
     ensures { IfOk result (λ numbers. length numbers.items ≡ length uids.now) }
 {
-    let parts = parts_of(alloc, lines)?;
-    let steps = steps_of(alloc, lines, &parts)?;
-    let mut fates = Fates::new(alloc, parts.count())?;
-    fates.live_through(&steps)?;
+    let course = course_of(alloc, lines)?;
     let mut numbers = Vec::new(alloc);
     for uid in uids {
-        let after = parts.part_at(key(*uid) + 1);
-        numbers.push(fates.end(after.saturating_sub(1)))?;
+        let after = course.parts.part_at(key(*uid) + 1);
+        numbers.push(course.fates.end(after.saturating_sub(1)))?;
     }
     Ok(numbers)
 }

@@ -1,9 +1,9 @@
 //! A guess at the lines of a conflict, of which none can be left out.
 
-use crate::fates::Fates;
+use crate::course::{Course, course_of};
 use crate::parts::Parts;
-use crate::steps::{Found, Span, Step, parts_of, steps_of};
-use crate::waiting::{Waiting, answering, last_rulings, ruled_spans};
+use crate::steps::{Found, Step};
+use crate::waiting::{Waiting, last_rulings, ruled_spans};
 use std::alloc::{AllocError, Global};
 use vic_log::PackedLine;
 
@@ -16,101 +16,54 @@ pub fn guess_conflict(
     last: u32,
 ) -> Result<Vec<u32>, AllocError> {
     let count = lines.partition_point(|line| line.number() <= last);
-    let Some(lines) = lines.get(..count) else {
-        return Ok(Vec::new(alloc));
-    };
-    let parts = parts_of(alloc, lines)?;
-    let steps = without_repeats(alloc, &steps_of(alloc, lines, &parts)?, &parts)?;
-    let mut fates = Fates::new(alloc, parts.count())?;
-    fates.live_through(&steps)?;
-    let mut numbers = match other_line(alloc, &steps, &parts, &fates)? {
+    let mut course = course_of(alloc, &lines[..count])?;
+    let mut numbers = match other_line(&course) {
         Some(other) => vec![in alloc; other]?,
-        None => lines_of_lack(alloc, &steps, &parts, fates)?,
+        None => lines_of_lack(alloc, &mut course)?,
     };
     numbers.push(last)?;
     Ok(numbers)
 }
 
-/// The steps without those at which a UID falls silent that is Quiet already.
-fn without_repeats(alloc: Global, steps: &[Step], parts: &Parts) -> Result<Vec<Step>, AllocError> {
-    let mut since = vec![in alloc; 0; parts.count() as usize]?;
-    let mut firsts = Vec::new(alloc);
-    let mut stretch: usize = 1;
-    for step in steps {
-        let mut is_first = true;
-        match *step {
-            Step::Quiet(part) => {
-                if let Some(silent) = since.get_mut(part as usize) {
-                    is_first = *silent < stretch;
-                    *silent = stretch;
-                }
-            }
-            Step::Wake => stretch = stretch.saturating_add(1),
-            Step::Slot(..) => {}
-        }
-        if is_first {
-            firsts.push(*step)?;
-        }
-    }
-    Ok(firsts)
-}
-
 /// The line that the last one contradicts by itself, if there is one: the last one itself, if its
 /// reply doesn't fit its own slot; else the first that rules out whom it heard; else the first
 /// reply of one whom it rules out.
-fn other_line(
-    alloc: Global,
-    steps: &[Step],
-    parts: &Parts,
-    fates: &Fates,
-) -> Result<Option<u32>, AllocError> {
-    let Some(Step::Slot(last, span, found)) = steps.last() else {
-        return Ok(None);
+fn other_line(course: &Course) -> Option<u32> {
+    let Some(Step::Slot(last, span, found)) = course.steps.last() else {
+        return None;
     };
-    let answers = answering(alloc, steps, parts, steps.len(), *span)?;
+    let fates = &course.fates;
     if let Found::One(part) = *found {
-        if !is_set(&answers, part) {
-            return Ok(Some(*last));
+        if !fates.answers(*span, part) {
+            return Some(*last);
         }
         if fates.end(part) < *last {
-            return Ok(Some(fates.end(part)));
+            return Some(fates.end(part));
         }
     }
-    for step in steps {
+    for step in &course.steps {
         if let Step::Slot(line, _, Found::One(heard)) = *step {
-            if is_set(&answers, heard) && found.rules_out(heard) {
-                return Ok(Some(line));
+            if fates.answers(*span, heard) && found.rules_out(heard) {
+                return Some(line);
             }
         }
     }
-    Ok(None)
-}
-
-/// Whether a part has a mark.
-fn is_set(marks: &[bool], part: u32) -> bool {
-    match marks.get(part as usize) {
-        Some(mark) => *mark,
-        None => false,
-    }
+    None
 }
 
 /// The line of the first slot that lacks what it was found to hold, and those that rule out who
 /// could have answered there.
-fn lines_of_lack(
-    alloc: Global,
-    steps: &[Step],
-    parts: &Parts,
-    mut fates: Fates,
-) -> Result<Vec<u32>, AllocError> {
-    let mut numbers = Vec::new(alloc);
-    let Some(index) = fates.first_unmet(steps, parts)? else {
-        return Ok(numbers);
+fn lines_of_lack(alloc: Global, course: &mut Course) -> Result<Vec<u32>, AllocError> {
+    let steps = course.steps.as_slice();
+    let Some(index) = course.fates.first_unmet(steps, &course.parts)? else {
+        return Ok(Vec::new(alloc));
     };
-    if let Some(Step::Slot(line, span, found)) = steps.get(index) {
-        let answers = answering(alloc, steps, parts, index, *span)?;
-        numbers = rulings(alloc, steps, parts, &answers, found.need())?;
-        numbers.push(*line)?;
-    }
+    let Some(Step::Slot(line, span, found)) = steps.get(index) else {
+        return Ok(Vec::new(alloc));
+    };
+    let answers = course.fates.answering(alloc, *span, course.parts.count())?;
+    let mut numbers = rulings(alloc, steps, &course.parts, &answers, found.need())?;
+    numbers.push(*line)?;
     Ok(numbers)
 }
 

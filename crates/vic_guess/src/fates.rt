@@ -61,7 +61,7 @@ impl Fates {
         }
     }
 
-    /// Goes over all steps, and notes what each slot rules out. All are Ready then.
+    /// Goes over all steps, and notes what each slot rules out.
     pub(crate) fn live_through(&mut self, steps: &[Step]) -> Result<(), AllocError> {
         for step in steps {
             match *step {
@@ -75,8 +75,26 @@ impl Fates {
                 Step::Slot(_, _, Found::Some | Found::Two) => {}
             }
         }
-        self.wake();
         Ok(())
+    }
+
+    /// Whether a part of a span is Ready.
+    pub(crate) fn answers(&self, span: Span, part: u32) -> bool {
+        span.from <= part && part < span.to && self.loud_ends.greatest(part, part + 1).value > 0
+    }
+
+    /// Which parts of a span are Ready, of so many in order.
+    pub(crate) fn answering(
+        &self,
+        alloc: Global,
+        span: Span,
+        count: u32,
+    ) -> Result<Vec<bool>, AllocError> {
+        let mut answers = Vec::new(alloc);
+        for part in 0..count {
+            answers.push(self.answers(span, part))?;
+        }
+        Ok(answers)
     }
 
     /// The number of the line that rules a part out first, `u32::MAX` where none does.
@@ -122,6 +140,7 @@ impl Fates {
         steps: &[Step],
         parts: &Parts,
     ) -> Result<Option<u32>, AllocError> {
+        self.wake();
         let mut first = NEVER;
         for step in steps {
             match *step {
@@ -139,12 +158,14 @@ impl Fates {
         }
     }
 
-    /// The index of the first step whose slot lacks what it was found to hold, if one does.
+    /// The index of the first step whose slot lacks what it was found to hold, if one does. Those
+    /// are Quiet then that are so at this slot.
     pub(crate) fn first_unmet(
         &mut self,
         steps: &[Step],
         parts: &Parts,
     ) -> Result<Option<usize>, AllocError> {
+        self.wake();
         for (index, step) in steps.iter().enumerate() {
             match *step {
                 Step::Quiet(part) => self.silence(part)?,

@@ -2,8 +2,7 @@
 
 ghost use Rattle.std.specs.Prelude.{◌≤◌, IfOk, length};
 
-use crate::fates::Fates;
-use crate::steps::{parts_of, steps_of};
+use crate::course::course_of;
 use std::alloc::{AllocError, Global};
 use vic_log::PackedLine;
 
@@ -30,11 +29,8 @@ pub fn guess_impossible_line(alloc: Global, lines: &[PackedLine]) -> Result<usiz
 fn first_lack(alloc: Global, lines: &[PackedLine]) -> Result<usize, AllocError>
     ensures { IfOk result (λ index. index ≤ length lines.now) }
 {
-    let parts = parts_of(alloc, lines)?;
-    let steps = steps_of(alloc, lines, &parts)?;
-    let mut fates = Fates::new(alloc, parts.count())?;
-    fates.live_through(&steps)?;
-    match fates.first_lack(&steps, &parts)? {
+    let mut course = course_of(alloc, lines)?;
+    match course.fates.first_lack(&course.steps, &course.parts)? {
         Some(number) => Ok(lines.partition_point(|line| line.number() < number)),
         None => Ok(lines.len()),
     }

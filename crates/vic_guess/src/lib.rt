@@ -9,6 +9,7 @@
 
 mod absent;
 mod conflict;
+mod course;
 mod fates;
 mod impossible;
 mod parts;

@@ -123,18 +123,39 @@ fn step_of(number: u32, entry: &Entry, rounds: &RoundCursor, parts: &Parts) -> O
     Some(Step::Slot(number, span, found))
 }
 
-/// What the lines of a log do.
+/// Whether a part that falls silent was Ready, since all were so at the step `woken`. It is noted
+/// where it fell silent.
+fn was_ready(fallen: &mut [usize], part: u32, woken: usize, at: usize) -> bool {
+    match fallen.get_mut(part as usize) {
+        Some(place) if *place <= woken => {
+            *place = at.saturating_add(1);
+            true
+        }
+        _ => false,
+    }
+}
+
+/// What the lines of a log do. What is Quiet doesn't fall silent once more.
 pub(crate) fn steps_of(
     alloc: Global,
     lines: &[PackedLine],
     parts: &Parts,
 ) -> Result<Vec<Step>, AllocError> {
+    let mut fallen = vec![in alloc; 0; parts.count() as usize]?;
+    let mut woken = 0;
     let mut steps = Vec::new(alloc);
     let mut rounds = RoundCursor::first();
     for line in lines {
         let entry = line.item();
-        if let Some(step) = step_of(line.number(), &entry, &rounds, parts) {
-            steps.push(step)?;
+        match step_of(line.number(), &entry, &rounds, parts) {
+            None => {}
+            Some(Step::Quiet(part)) if !was_ready(&mut fallen, part, woken, steps.len()) => {}
+            Some(step) => {
+                steps.push(step)?;
+                if let Step::Wake = step {
+                    woken = steps.len();
+                }
+            }
         }
         rounds.advance(&entry);
     }

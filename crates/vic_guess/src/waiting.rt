@@ -1,6 +1,5 @@
 //! The parts of the UIDs that wait for a line that rules them out.
 
-use crate::parts::Parts;
 use crate::peaks::Peaks;
 use crate::steps::{Found, Span, Step};
 use std::alloc::{AllocError, Global};
@@ -113,34 +112,6 @@ pub(crate) fn ruled_spans(span: Span, found: Found) -> [Span; 2] {
         Found::One(part) => [span.before(part), span.after(part)],
         Found::Some | Found::Two => [nothing, nothing],
     }
-}
-
-/// The parts of a span that are Ready at a step.
-pub(crate) fn answering(
-    alloc: Global,
-    steps: &[Step],
-    parts: &Parts,
-    index: usize,
-    span: Span,
-) -> Result<Vec<bool>, AllocError> {
-    let mut answers = vec![in alloc; false; parts.count() as usize]?;
-    for part in span.from..span.to {
-        if let Some(answer) = answers.get_mut(part as usize) {
-            *answer = true;
-        }
-    }
-    for step in steps.iter().take(index).rev() {
-        match *step {
-            Step::Quiet(part) => {
-                if let Some(answer) = answers.get_mut(part as usize) {
-                    *answer = false;
-                }
-            }
-            Step::Wake => return Ok(answers),
-            Step::Slot(..) => {}
-        }
-    }
-    Ok(answers)
 }
 
 /// The line that is the last to rule out each part of those that answer; 0 where none does.
