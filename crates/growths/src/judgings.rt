@@ -5,11 +5,10 @@ use crate::logs::log_of;
 use arrayvec::ArrayVec;
 use std::alloc::{AllocError, Global};
 use std::io;
-use std::io::{ErrorKind, Write};
-use vic_answer::{Answer, answer_line};
+use std::io::ErrorKind;
 use vic_frame::{Mask, Uid};
 use vic_tree::{OpenSet, RangeSet};
-use vic_verdict::judge_with;
+use vic_verdict::{Verdict, judge_with};
 
 /// How many bytes that block has; nothing else asks for as many.
 const TELLING: usize = 7919;
@@ -65,16 +64,14 @@ impl OpenSet for Telling {
     }
 }
 
-/// Writes the line of the verdict on the log of a text.
+/// Says whether the log of a text is impossible, and from which line on.
 pub fn judge_counted(rt: &HostRuntime, alloc: Global, text: &[u8]) -> io::Result<()> {
     let Ok(Some(log)) = log_of(alloc, text) else {
         return Err(ErrorKind::InvalidData.into());
     };
     match judge_with::<Telling>(alloc, &log) {
-        Ok(verdict) => {
-            let line = answer_line(&Answer::Judged(verdict));
-            rt.stdout().write_all(line.as_slice())
-        }
+        Ok(Verdict::Impossible { line }) => println!(rt; "impossible at line {line}"),
+        Ok(_) => println!(rt; "possible"),
         Err(AllocError) => Err(ErrorKind::OutOfMemory.into()),
     }
 }

@@ -1,13 +1,33 @@
-//! Logs: `push`, `read_log` and `read_all`.
+//! Logs: `push` and `read_log`.
 
 use crate::found::{Found, both};
-use crate::rows::{COLLISION_PARTED, ONE_SILENCED, TWO_HEARD};
 use arrayvec::ArrayVec;
 use std::alloc::{AllocError, Global};
 use vic_frame::Uid;
-use vic_log::{
-    Entry, FromRead, Log, LogFault, LogReader, MAX_LINES, PushFault, ToWrite, read_log, write_log,
-};
+use vic_log::{Entry, Log, LogFault, MAX_LINES, PushFault, ToWrite, read_log, write_log};
+
+/// Sixteen slots, two UIDs heard, and both listed.
+pub const TWO_HEARD: &[u8] = b"vicinity-log 1
+T 060100CD09
+S
+R 0000A1000000000104E06745
+R 0000B2000000000104E0CF94
+S
+S
+S
+S
+S
+S
+S
+S
+S
+S
+S
+S
+S
+U E0040100000000A1
+U E0040100000000B2
+";
 
 /// Lists a UID on the next line, and again where memory was wanting and the log is as it was.
 fn list(log: &mut Log, uid: Uid) -> Found {
@@ -59,38 +79,9 @@ pub fn log_of(alloc: Global, text: &[u8]) -> Result<Option<Log>, AllocError> {
 }
 
 /// Reads a log whole.
-fn read_row(alloc: Global, text: &[u8]) -> Result<bool, AllocError> {
-    match log_of(alloc, text)? {
-        Some(log) => Ok(is_text(&log, text)),
+pub fn read_row(alloc: Global) -> Result<bool, AllocError> {
+    match log_of(alloc, TWO_HEARD)? {
+        Some(log) => Ok(is_text(&log, TWO_HEARD)),
         None => Ok(false),
     }
-}
-
-/// Reads a log in pieces. Whatever the answer, the reader is spent then.
-fn read_row_in_pieces(alloc: Global, text: &[u8]) -> Result<bool, AllocError> {
-    let mut source = FromRead::new(text);
-    let mut reader = LogReader::new(alloc);
-    let answer = reader.read_all(&mut source);
-    let spent = matches!(&reader.read_all(&mut source), Err(LogFault::Spent));
-    match answer {
-        Ok(log) => Ok(spent && is_text(&log, text)),
-        Err(LogFault::Memory) if spent => Err(AllocError),
-        Err(_) => Ok(false),
-    }
-}
-
-/// Reads logs whole.
-pub fn read_rows(alloc: Global) -> Result<bool, AllocError> {
-    let heard = read_row(alloc, TWO_HEARD)?;
-    let silenced = read_row(alloc, ONE_SILENCED)?;
-    let parted = read_row(alloc, COLLISION_PARTED)?;
-    Ok(heard && silenced && parted)
-}
-
-/// Reads logs in pieces.
-pub fn read_rows_in_pieces(alloc: Global) -> Result<bool, AllocError> {
-    let heard = read_row_in_pieces(alloc, TWO_HEARD)?;
-    let silenced = read_row_in_pieces(alloc, ONE_SILENCED)?;
-    let parted = read_row_in_pieces(alloc, COLLISION_PARTED)?;
-    Ok(heard && silenced && parted)
 }

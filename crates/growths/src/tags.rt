@@ -1,10 +1,8 @@
-//! Tags: `Field::add` and `simulate`.
+//! Tags: `Field::add`.
 
 use crate::found::{Found, both};
-use crate::logs::{is_text, log_of};
-use crate::rows::{SILENCED_BETWEEN, SILENCED_BETWEEN_FILLED, TWO_ASKED, TWO_HEARD};
-use std::alloc::{AllocError, Global};
-use vic_field::{AddFault, Field, Outcome, SimFault, simulate};
+use std::alloc::Global;
+use vic_field::{AddFault, Field, Outcome};
 use vic_frame::{Mask, Uid};
 
 /// Adds a tag, and again where memory was wanting and the tags answer as they did.
@@ -42,23 +40,4 @@ pub fn add(alloc: Global) -> Found {
         return Found::Wrong;
     }
     both(both(first, second), third)
-}
-
-/// Fills in the slots of a log.
-fn fill(alloc: Global, given: &[u8], filled: &[u8]) -> Result<bool, AllocError> {
-    let Some(log) = log_of(alloc, given)? else {
-        return Ok(false);
-    };
-    match simulate(alloc, &log) {
-        Ok(log) => Ok(is_text(&log, filled)),
-        Err(SimFault::Memory) => Err(AllocError),
-        Err(SimFault::OutcomeGiven(_)) | Err(SimFault::TooManyLines) => Ok(false),
-    }
-}
-
-/// Fills in the slots of logs.
-pub fn simulate_rows(alloc: Global) -> Result<bool, AllocError> {
-    let asked = fill(alloc, TWO_ASKED, TWO_HEARD)?;
-    let silenced = fill(alloc, SILENCED_BETWEEN, SILENCED_BETWEEN_FILLED)?;
-    Ok(asked && silenced)
 }
