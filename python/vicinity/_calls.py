@@ -66,15 +66,21 @@ def explain_into(text: BytesLike, room: ctypes.Array[ctypes.c_uint64]) -> tuple[
     return _answer(told), needed.value
 
 
-def _in_room(place: Any, call: Callable[..., int], *given: Any) -> tuple[Answer, list[Any]]:
-    """What a call gives that fills a room, with as much room as it needs."""
+def _filled(place: Any, call: Callable[..., int], *given: Any) -> tuple[Answer, Any, int]:
+    """What a call gives that fills a room: the answer, a room that is large enough, and how many of its places are filled."""
     places = FIRST_ROOM
     while True:
         told, room, needed = AnswerStruct(), (place * places)(), ctypes.c_size_t()
         call(*given, ctypes.byref(told), room, places, ctypes.byref(needed))
         if needed.value <= places:
-            return _answer(told), room[:needed.value]
+            return _answer(told), room, needed.value
         places = needed.value
+
+
+def _in_room(place: Any, call: Callable[..., int], *given: Any) -> tuple[Answer, list[Any]]:
+    """The answer of such a call, and what it fills in."""
+    answer, room, count = _filled(place, call, *given)
+    return answer, room[:count]
 
 
 def _report(answer: Answer, found: list[FindingStruct]) -> Report:
@@ -91,6 +97,12 @@ def report(text: BytesLike) -> Report:
     """The answer to a text, and all that its log tells against its list. Raises what `check` raises."""
     text = _bytes(text)
     return _report(*_in_room(FindingStruct, library().vicinity_report, text, len(text)))
+
+
+def report_records(text: bytes) -> tuple[Answer, memoryview]:
+    """What `report` gives, with the findings as the bytes of structs vicinity_finding, of which there may be a million."""
+    answer, room, count = _filled(FindingStruct, library().vicinity_report, text, len(text))
+    return answer, memoryview(room).cast("B")[:count * ctypes.sizeof(FindingStruct)]
 
 
 def check_listed(text: BytesLike, uids: Iterable[int]) -> Answer:

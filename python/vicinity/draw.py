@@ -1,22 +1,25 @@
 """Draws a session, for a terminal or as one HTML file, with what `vicinity report` says of it."""
 from __future__ import annotations
 
-from ._answers import Kind
-from ._calls import report
+import os
+import shutil
+
 from ._command import has_colours, read, shown, write
 from .page import page
+from .pieces import MOST
 from .session import read_session
-from .show import show
-from .told import Told
+from .show import MOST_LINES, Look, show
+from .told import tell
 
 
 def draw(form: str, name: str, ascii_only: bool = False) -> int:
     """Writes the picture of a log, and gives the status of its report."""
     text = read(name)
-    told = Told(*report(text))
-    session = read_session(text, told.answer.line if told.answer.kind is Kind.REFUSED else None)
+    told = tell(text)
+    session = read_session(text, told, told.lines(MOST if form == "page" else MOST_LINES))
     if form == "page":
-        write([page(session, told, shown(name))])
+        write(page(session, told, shown(os.path.basename(name))))
     else:
-        write(f"{line}\n" for line in show(session, told, not ascii_only, has_colours()))
+        look = Look(not ascii_only, has_colours(), shutil.get_terminal_size().columns)
+        write(f"{line}\n" for line in show(session, told, look))
     return told.answer.status

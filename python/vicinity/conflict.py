@@ -1,0 +1,123 @@
+"""What a contradiction says, by the form of its lines: a sentence, what to look for, and what to do."""
+from __future__ import annotations
+
+from typing import NamedTuple, Optional, Sequence
+
+from .frames import Mask, write_inventory, write_line
+from .session import Reading, Session, Slot
+from .told import Told
+from .words import UID_BITS, lines, short, uid
+
+CAME = "A tag came into the field."
+LEFT = "A tag left the field."
+NOISE = "Noise was logged as a collision. If something surely answered and couldn't be read, write D, in a log of version 2."
+SECOND_READER = ("A second reader was at work: its field keeps tags powered, so ours going off and on doesn't wake them, and its "
+                 "Stay Quiet silences tags that we count. Switch it off.")
+
+
+class Contradiction(NamedTuple):
+    """A sentence, the causes that fit, the likeliest first, and a request by which they are told apart, if there is one."""
+
+    sentence: str
+    causes: Sequence[str]
+    test: str = ""
+    asks: Sequence[str] = ()
+
+
+def contradiction(session: Session, told: Told) -> Contradiction:
+    """What the conflict of an impossible log says."""
+    slots = [session.slots[number] for number in told.conflict if number in session.slots]
+    demand = next((slot for slot in slots if slot.reading in (Reading.COLLISION, Reading.GARBLED)), None)
+    heard = [slot for slot in slots if slot.reading is Reading.HEARD]
+    if told.silenced:
+        return _woke(told, heard[-1])
+    if len(told.conflict) == 1:
+        return _alone(session, slots[0])
+    if demand:
+        return _unmet(session, told, demand, [slot for slot in slots if slot is not demand])
+    if len(heard) == 1:
+        return _lost(session, heard[0], next(slot for slot in slots if slot is not heard[0]))
+    return _hidden(heard[0], heard[-1])
+
+
+def _woke(told: Told, slot: Slot) -> Contradiction:
+    assert slot.uid is not None
+    return Contradiction(
+        f"tag {short(slot.uid)} was silenced in line {told.silenced} and answered in line {slot.line}.",
+        ("The tag lost power for a moment, at the field's edge or behind another, and woke.",
+         f"The tag didn't receive the Stay Quiet of line {told.silenced}.",
+         "The field was switched off and on in between: then the log needs a line F there, under the header 'vicinity-log 2'.",
+         "A second reader woke it, by Reset to Ready or Select. Switch that reader off."),
+        "Bring the tag well into the field, or lower the reader's pace: a tag that wakes does so again.")
+
+
+def _alone(session: Session, slot: Slot) -> Contradiction:
+    row = session.rows[session.places[slot.line]]
+    if slot.uid is not None:
+        said = f"line {slot.line} is a reply of {short(slot.uid)}, a tag that line {row.line} didn't ask."
+    else:
+        wanted = "two tags or more answered" if slot.reading is Reading.COLLISION else "a tag answered"
+        said = f"{wanted} in line {slot.line}, and the mask asked there has fewer UIDs."
+    causes = [f"Line {slot.line} was logged under the wrong request: a late reply, or lines in the wrong order.",
+              "The reader sent a request that the log doesn't have."]
+    return Contradiction(said, causes if slot.reading is Reading.HEARD else [NOISE, *causes])
+
+
+def _lost(session: Session, heard: Slot, silent: Slot) -> Contradiction:
+    assert heard.uid is not None
+    name, is_before = short(heard.uid), silent.line < heard.line
+    first, last = sorted((heard.line, silent.line))
+    cycled = any(first < line < last for line in session.cycle_lines)
+    causes = [f"Its reply in line {silent.line} was lost: the tag is at the field's edge, or something disturbed it.",
+              CAME[:-1] + f" after line {silent.line}." if is_before else LEFT[:-1] + f" after line {heard.line}."]
+    causes.insert(0 if cycled and not is_before else 2, SECOND_READER)
+    return Contradiction(
+        f"tag {name} answered in line {heard.line} and didn't in line {silent.line}, where it was asked too.", causes,
+        f"Ask for {name} alone, a few times. If it answers now and then, replies are lost; if always, it came or was kept "
+        "Quiet; if never, it has left.", [ask(session.link, 1, Mask(UID_BITS, heard.uid & (1 << UID_BITS) - 1))])
+
+
+def _hidden(first: Slot, last: Slot) -> Contradiction:
+    assert first.uid is not None and last.uid is not None
+    one, other = short(first.uid, [last.uid]), short(last.uid, [first.uid])
+    return Contradiction(
+        f"tags {one} (line {first.line}) and {other} (line {last.line}) were each read alone, where both would have answered.",
+        (f"A strong reply hid a weaker one: the stronger of {one} and {other} was read over the other.",
+         CAME[:-1] + f" between lines {first.line} and {last.line}, or left it.", SECOND_READER),
+        "Move the two apart or lower the gain, and ask in sixteen slots, where fewer tags answer at once.")
+
+
+def _unmet(session: Session, told: Told, demand: Slot, others: Sequence[Slot]) -> Contradiction:
+    rest = [number for number in told.conflict if number != demand.line]
+    is_collision = demand.reading is Reading.COLLISION
+    said = (f"in line {demand.line} {'two tags or more' if is_collision else 'a tag'} answered, and {lines(rest)} "
+            f"leave{'s' * (len(rest) == 1)} {'at most one' if is_collision else 'none'}.")
+    lost = _unheard(session, demand, others)
+    lose = "The reply of a tag of that slot was lost later, so its slot was logged silent."
+    moved = (CAME[:-1] + f" before line {demand.line}.") if demand.line > rest[-1] else LEFT[:-1] + (
+        f" after line {demand.line}.")
+    noise = NOISE if is_collision else "Noise was logged as D. If it isn't known that a tag answered, end the round's lines there."
+    causes = [lost or lose, noise, moved, SECOND_READER] if lost or demand.line < rest[-1] else [noise, moved, SECOND_READER]
+    if len(others) == 1 and is_collision:
+        causes.insert(1, "A strong reply hid a weaker one.") if others[0].uid is not None else None
+    return Contradiction(said, causes, f"Ask for the tags of line {demand.line} again, in sixteen slots.",
+                         [ask(session.link, 16 if demand.mask.length <= UID_BITS else 1, demand.mask)])
+
+
+def _unheard(session: Session, demand: Slot, others: Sequence[Slot]) -> Optional[str]:
+    """A tag of a collision that was silenced and never heard, and the silent slot in which it would have answered."""
+    for line, number in session.unheard:
+        slot = next((it for it in others if it.reading is Reading.SILENT and has(it.mask, number)), None)
+        if slot and has(demand.mask, number):
+            return (f"The reply of {uid(number)} in line {slot.line} was lost: line {line} silences it, and it was never heard.")
+    return None
+
+
+def has(mask: Mask, number: int) -> bool:
+    """Whether a UID is in a mask."""
+    return (mask.value ^ number) & (1 << mask.length) - 1 == 0
+
+
+def ask(link: int, slots: int, mask: Mask) -> str:
+    """The line of the request that asks a mask."""
+    return write_line("T", write_inventory(link, slots, mask)).decode().rstrip()

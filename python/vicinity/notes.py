@@ -1,0 +1,39 @@
+"""Notes beside the answer: what is worth a look and no part of it."""
+from __future__ import annotations
+
+from typing import Iterator, NamedTuple
+
+from .session import Session
+from .told import Told
+from .words import count, span, uid
+
+#: How many notes of one kind are written one by one.
+MOST = 5
+
+
+class Note(NamedTuple):
+    """A line of the log, and what is worth a look there."""
+
+    line: int
+    text: str
+
+
+def notes(session: Session, told: Told) -> Iterator[Note]:
+    """The notes on a log, in few lines. There are none on a text that is refused."""
+    if told.refused_line is not None:
+        return
+    for line, number in session.unheard[:MOST]:
+        ruled_out = told.absent.line_of(number)
+        lost = f": its reply may have been lost in line {ruled_out}" if ruled_out else ""
+        yield Note(line, f"{uid(number)} was silenced here and was never heard{lost}")
+    if session.unheard_count > MOST:
+        yield Note(session.unheard[MOST][0], f"{count(session.unheard_count - MOST, 'more UID')} silenced and never heard")
+    for row in session.short[:MOST]:
+        told_slots = f"after {count(len(row.outcomes), 'slot')} of {row.places}"
+        yield Note(row.line, f"the round of lines {span(row.line, row.outcomes[-1][0])} was cut short {told_slots}"
+                   if row.outcomes else "none of this round's slots is logged")
+    if session.short_count > MOST:
+        yield Note(session.short[MOST].line, f"{count(session.short_count - MOST, 'more round')} cut short")
+    last = session.last_round
+    if last and (last.mask.length or len(last.outcomes) < last.places):
+        yield Note(last.line, "the last round isn't one over all tags: a tag that no earlier round asked wouldn't show")

@@ -1,0 +1,43 @@
+"""Which rows of a session are drawn."""
+from __future__ import annotations
+
+from typing import NamedTuple, Union
+
+from .session import Row, Session, lines_of
+
+#: A session of so many rows is drawn as a whole. Of a longer one so many are drawn at its ends, more if nothing is named,
+#: on each side of a row that is named, and in all, before the one that is over it.
+WHOLE, ENDS, ENDS_ALONE, AROUND, MOST = 40, 2, 8, 1, 80
+#: Of more rows than these none beside them is drawn.
+MOST_WITH_NEIGHBOURS = 8
+
+
+class Gap(NamedTuple):
+    """How many rows aren't drawn here."""
+
+    rows: int
+
+
+Drawn = Union[Row, Gap]
+
+
+def chosen(session: Session, named: set[int]) -> list[Drawn]:
+    """The rows that are drawn, and the gaps between them."""
+    total = session.row_count
+    if total <= WHOLE:
+        return list(session.rows.values())
+    matter = [index for index, row in session.rows.items() if not named.isdisjoint(lines_of(row))]
+    if len(matter) > MOST:
+        matter = matter[:MOST // 2] + matter[-MOST // 2:]
+    ends = ENDS if matter else ENDS_ALONE
+    kept = {*range(ends), *range(total - ends, total)}
+    around = AROUND if len(matter) <= MOST_WITH_NEIGHBOURS else 0
+    kept.update(near for index in matter for near in range(index - around, index + around + 1))
+    drawn: list[Drawn] = []
+    after = 0
+    for index in sorted(kept & session.rows.keys()):
+        if index > after:
+            drawn.append(Gap(index - after))
+        drawn.append(session.rows[index])
+        after = index + 1
+    return drawn

@@ -1,0 +1,51 @@
+"""The answer as a person would say it, in one sentence."""
+from __future__ import annotations
+
+from ._answers import Kind
+from .conflict import contradiction
+from .faults import ADVICE
+from .session import Session
+from .told import Told
+from .words import count, listing
+
+
+def sentence(session: Session, told: Told) -> str:
+    """What is known of the list."""
+    kind = told.answer.kind
+    if kind is Kind.REFUSED:
+        return f"This text is no log. Line {told.answer.line}: {ADVICE[told.answer.fault].wrong}."
+    if kind is Kind.IMPOSSIBLE:
+        return f"The log contradicts itself: {contradiction(session, told).sentence}"
+    if kind is Kind.COMPLETE:
+        return _complete(told.answer.count)
+    return f"Not complete: {listing(_missing(told))}."
+
+
+def _complete(number: int) -> str:
+    if not number:
+        return "Complete: the field is empty, and nothing is listed."
+    return f"Complete: {'the one tag' if number == 1 else f'all {number:,} tags'} in the field " + (
+        "is listed, and no other." if number == 1 else "are listed, and no others.")
+
+
+def _missing(told: Told) -> list[str]:
+    """What keeps a list from being complete."""
+    said = []
+    if told.absent.uids:
+        said.append(count(len(told.absent.uids), "listed tag isn't there", "listed tags aren't there"))
+    if told.unlisted.uids:
+        said.append(count(len(told.unlisted.uids), "tag isn't listed", "tags aren't listed"))
+    if told.open_masks:
+        said.append(masks_left(told))
+    if told.doubtful:
+        said.append(count(len(told.doubtful), "listed tag may be missing", "listed tags may be missing"))
+    return said
+
+
+def masks_left(told: Told) -> str:
+    """How much is left to ask for."""
+    if told.open_masks[0].length == 0:
+        return "any tag may be there that nobody has asked for"
+    some = "or more " if told.has_more_open else ""
+    left = len(told.open_masks)
+    return f"{left} {some}mask{'s are' if left > 1 else ' is'} left to ask for"
