@@ -83,7 +83,7 @@ def words() -> Words:
                       help="with FILE ..: lines of file, status and answer, with tabs between")
     form.add_argument("--json", dest="form", action="store_const", const=as_json,
                       help="an object a line: file, status, kind, and what the kind speaks of; with report also what is found")
-    form.add_argument("--lines", action="store_true", help="with report: lines FILE:LINE: text, as compilers write (the default)")
+    form.add_argument("--lines", action="store_true", help="with report: FILE:LINE: text, as compilers write (the default)")
     form.add_argument("--ascii", action="store_true", help="with show: no sign outside ASCII")
     parser.add_argument("--version", action="version", version=__version__)
     parser.add_argument("names", metavar="FILE", nargs="+", help=argparse.SUPPRESS)

@@ -8,11 +8,11 @@ from .session import Reading, Session, Slot
 from .told import Told
 from .words import UID_BITS, lines, short, uid
 
-CAME = "A tag came into the field."
-LEFT = "A tag left the field."
 NOISE = "Noise was logged as a collision. If something surely answered and couldn't be read, write D, in a log of version 2."
-SECOND_READER = ("A second reader was at work: its field keeps tags powered, so ours going off and on doesn't wake them, and its "
-                 "Stay Quiet silences tags that we count. Switch it off.")
+NOISE_UNREAD = "Noise was logged as D. If it isn't known that a tag answered, end the round's lines there."
+WOKE = "A tag that was silenced lost power for a moment and woke."
+SECOND_READER = ("A second reader was at work: it keeps tags powered and Quiet while our field is off, and may silence tags "
+                 "that we count. Switch it off.")
 
 
 class Contradiction(NamedTuple):
@@ -29,15 +29,14 @@ def contradiction(session: Session, told: Told) -> Contradiction:
     slots = [session.slots[number] for number in told.conflict if number in session.slots]
     demand = next((slot for slot in slots if slot.reading in (Reading.COLLISION, Reading.GARBLED)), None)
     heard = [slot for slot in slots if slot.reading is Reading.HEARD]
+    others = [slot for slot in slots if slot is not (demand or heard[0])]
     if told.silenced:
         return _woke(told, heard[-1])
-    if len(told.conflict) == 1:
+    if not others:
         return _alone(session, slots[0])
     if demand:
-        return _unmet(session, told, demand, [slot for slot in slots if slot is not demand])
-    if len(heard) == 1:
-        return _lost(session, heard[0], next(slot for slot in slots if slot is not heard[0]))
-    return _hidden(heard[0], heard[-1])
+        return _unmet(session, told, demand, others)
+    return _hidden(heard[0], heard[-1]) if len(heard) > 1 else _lost(session, heard[0], others[0])
 
 
 def _woke(told: Told, slot: Slot) -> Contradiction:
@@ -69,7 +68,8 @@ def _lost(session: Session, heard: Slot, silent: Slot) -> Contradiction:
     first, last = sorted((heard.line, silent.line))
     cycled = any(first < line < last for line in session.cycle_lines)
     causes = [f"Its reply in line {silent.line} was lost: the tag is at the field's edge, or something disturbed it.",
-              CAME[:-1] + f" after line {silent.line}." if is_before else LEFT[:-1] + f" after line {heard.line}."]
+              f"The tag came into the field after line {silent.line}." if is_before
+              else f"The tag left the field after line {heard.line}."]
     causes.insert(0 if cycled and not is_before else 2, SECOND_READER)
     return Contradiction(
         f"tag {name} answered in line {heard.line} and didn't in line {silent.line}, where it was asked too.", causes,
@@ -83,7 +83,7 @@ def _hidden(first: Slot, last: Slot) -> Contradiction:
     return Contradiction(
         f"tags {one} (line {first.line}) and {other} (line {last.line}) were each read alone, where both would have answered.",
         (f"A strong reply hid a weaker one: the stronger of {one} and {other} was read over the other.",
-         CAME[:-1] + f" between lines {first.line} and {last.line}, or left it.", SECOND_READER),
+         f"A tag came into the field between lines {first.line} and {last.line}, or left it.", SECOND_READER),
         "Move the two apart or lower the gain, and ask in sixteen slots, where fewer tags answer at once.")
 
 
@@ -92,24 +92,25 @@ def _unmet(session: Session, told: Told, demand: Slot, others: Sequence[Slot]) -
     is_collision = demand.reading is Reading.COLLISION
     said = (f"in line {demand.line} {'two tags or more' if is_collision else 'a tag'} answered, and {lines(rest)} "
             f"leave{'s' * (len(rest) == 1)} {'at most one' if is_collision else 'none'}.")
-    lost = _unheard(session, demand, others)
-    lose = "The reply of a tag of that slot was lost later, so its slot was logged silent."
-    moved = (CAME[:-1] + f" before line {demand.line}.") if demand.line > rest[-1] else LEFT[:-1] + (
-        f" after line {demand.line}.")
-    noise = NOISE if is_collision else "Noise was logged as D. If it isn't known that a tag answered, end the round's lines there."
-    causes = [lost or lose, noise, moved, SECOND_READER] if lost or demand.line < rest[-1] else [noise, moved, SECOND_READER]
-    if len(others) == 1 and is_collision:
-        causes.insert(1, "A strong reply hid a weaker one.") if others[0].uid is not None else None
+    noise = NOISE if is_collision else NOISE_UNREAD
+    if demand.line > rest[-1]:
+        causes = [noise, f"A tag came into the field before line {demand.line}.", *[WOKE] * bool(session.counts.quiets)]
+    else:
+        lost = "The reply of a tag of that slot was lost later, so its slot was logged silent."
+        causes = [_unheard(session, demand, others) or lost, noise, f"A tag left the field after line {demand.line}."]
+    if len(others) == 1 and others[0].uid is not None and is_collision:
+        causes.insert(1, f"A strong reply in line {others[0].line} hid a weaker one.")
+    causes.append(SECOND_READER)
     return Contradiction(said, causes, f"Ask for the tags of line {demand.line} again, in sixteen slots.",
                          [ask(session.link, 16 if demand.mask.length <= UID_BITS else 1, demand.mask)])
 
 
 def _unheard(session: Session, demand: Slot, others: Sequence[Slot]) -> Optional[str]:
-    """A tag of a collision that was silenced and never heard, and the silent slot in which it would have answered."""
+    """A tag of a collision that was silenced later and never heard, and the silent slot in which it would have answered."""
     for line, number in session.unheard:
-        slot = next((it for it in others if it.reading is Reading.SILENT and has(it.mask, number)), None)
+        slot = next((it for it in others if it.line < line and it.reading is Reading.SILENT and has(it.mask, number)), None)
         if slot and has(demand.mask, number):
-            return (f"The reply of {uid(number)} in line {slot.line} was lost: line {line} silences it, and it was never heard.")
+            return f"The reply of {uid(number)} in line {slot.line} was lost: line {line} silences it, and it was never heard."
     return None
 
 

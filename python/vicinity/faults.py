@@ -43,8 +43,8 @@ ADVICE = {
     Fault.FRAME_RESERVED: Advice("the request has the reserved flag, bit 8", COUNT_AGAIN),
     Fault.FRAME_OPTION_FLAG: Advice("the request has the Option_flag", COUNT_AGAIN),
     Fault.FRAME_OTHER_COMMAND: Advice("the request is neither Inventory nor Stay Quiet",
-                                      "A command that changes no tag's state, as reading memory, has no line: remove it. After "
-                                      "any other command, count again with Inventory and Stay Quiet alone."),
+                                      "A command that changes no tag's state, as reading memory, has no line: remove it. "
+                                      "After any other, count again with Inventory and Stay Quiet alone."),
     Fault.FRAME_INVENTORY_FLAG: Advice("the Inventory_flag doesn't fit the command",
                                        "It is 1 in an Inventory request, 0 in a Stay Quiet: compare with what was sent."),
     Fault.FRAME_AFI: Advice("the request asks one family of tags (AFI)",

@@ -107,7 +107,8 @@ def notes_group(found: Sequence[Note]) -> Iterator[str]:
     """The notes, marked as such."""
     if found:
         rows = [row(str(note.line), escape(note.text)) for note in found]
-        yield from group("notes", "Notes, no part of the answer", len(found), table(("Line", "Note"), rows, len(rows), "notes"))
+        body = table(("Line", "Note"), rows, len(rows), "notes")
+        yield from group("notes", "Notes, no part of the answer", len(found), body)
 
 
 def list_group(session: Session, told: Told) -> Iterator[str]:

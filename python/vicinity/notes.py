@@ -24,7 +24,7 @@ def notes(session: Session, told: Told) -> Iterator[Note]:
         return
     for line, number in session.unheard[:MOST]:
         ruled_out = told.absent.line_of(number)
-        lost = f": its reply may have been lost in line {ruled_out}" if ruled_out else ""
+        lost = f": its reply may have been lost in line {ruled_out}" if 0 < ruled_out < line else ""
         yield Note(line, f"{uid(number)} was silenced here and was never heard{lost}")
     if session.unheard_count > MOST:
         yield Note(session.unheard[MOST][0], f"{count(session.unheard_count - MOST, 'more UID')} silenced and never heard")

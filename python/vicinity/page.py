@@ -16,7 +16,6 @@ from .session import Session, lines_of
 from .styles import STYLE
 from .todo import Step, steps
 from .told import Told
-from .words import count
 
 #: The class and the sign of each status.
 STATUS = (("yes", "✓"), ("no", "!"), ("broken", "≠"), ("refused", "✕"))
@@ -55,35 +54,34 @@ def _banner(told: Told, said: str, name: str) -> Iterator[str]:
 def _chips(session: Session, told: Told, noted: Sequence[Note]) -> Iterator[str]:
     """The counts, each with the group that it opens."""
     counts, kind = session.counts, told.answer.kind
-    if kind is Kind.IMPOSSIBLE:
-        found = [("conflict", told.conflict_size, "line in conflict" if told.conflict_size == 1 else "lines in conflict")]
-    elif kind is Kind.REFUSED:
-        found = []
-    else:
-        found = [("absent", len(told.absent.uids), "absent"), ("unlisted", len(told.unlisted.uids), "unlisted"),
-                 ("open", len(told.open_masks), "open masks" if not told.has_more_open else "or more open masks"),
-                 ("doubtful", len(told.doubtful), "doubtful")]
     yield '<ul class="chips">'
-    for group, number, words in found:
-        yield f'<li><a class="found" href="#{group}"><b>{number:,}</b> {words}</a></li>' if number else (
-            f"<li><span>0 {words}</span></li>")
-    if noted:
-        yield f'<li><a href="#notes"><b>{len(noted)}</b> note{"s" * (len(noted) > 1)}</a></li>'
-    if kind is not Kind.REFUSED and counts.listed:
-        yield f'<li><a href="#listed"><b>{counts.listed:,}</b> listed</a></li>'
-    for number, one in ((counts.heard, "tag heard"), (counts.rounds, "round"), (counts.slots, "slot"),
-                        (counts.cycles, "field cycle")):
-        words = count(number, one, one.replace("tag", "tags") if "tag" in one else "")
-        if number:
-            yield f'<li><a href="#rounds"><b>{number:,}</b>{words[len(f"{number:,}"):]}</a></li>'
+    if kind is Kind.IMPOSSIBLE:
+        yield _chip("conflict", told.conflict_size, "line in conflict", "lines in conflict", "found")
+    elif kind is not Kind.REFUSED:
+        yield _chip("absent", len(told.absent.uids), "absent", "absent", "found")
+        yield _chip("unlisted", len(told.unlisted.uids), "unlisted", "unlisted", "found")
+        masks = "or more open masks" if told.has_more_open else "open masks"
+        yield _chip("open", len(told.open_masks), "open mask", masks, "found")
+        yield _chip("doubtful", len(told.doubtful), "doubtful", "doubtful", "found")
+    more = [("notes", len(noted), "note", "notes")]
+    more += [("listed", counts.listed, "listed", "listed")] * (kind is not Kind.REFUSED)
+    more += [("rounds", counts.heard, "tag heard", "tags heard"), ("rounds", counts.rounds, "round", "rounds"),
+             ("rounds", counts.slots, "slot", "slots"), ("rounds", counts.cycles, "field cycle", "field cycles")]
+    yield from (_chip(*it) for it in more if it[1])
     yield "</ul>"
+
+
+def _chip(group: str, number: int, one: str, many: str, look: str = "") -> str:
+    """A count that leads to its group, if there is any."""
+    words = f"<b>{number:,}</b> {one if number == 1 else many}"
+    return f'<li><a class="{look}" href="#{group}">{words}</a></li>' if number else f"<li><span>{words}</span></li>"
 
 
 def _todo(found: Iterator[Step]) -> Iterator[str]:
     """What to do, numbered."""
     yield '<section><h2>What to do</h2><ol class="todo">'
     for step in found:
-        more = f' (<a href="#{step.group}">which</a>)' if step.group in ("absent", "unlisted", "open", "doubtful", "notes") else ""
+        more = f' (<a href="#{step.group}">which</a>)' if step.group else ""
         causes = "".join(f"<li>{escape(cause)}</li>" for cause in step.causes)
         yield f"<li>{escape(step.text)}{more}" + (f"<ul>{causes}</ul>" if causes else "")
         yield (copy(step.lines) if step.lines else "") + "</li>"

@@ -36,7 +36,7 @@ class Reading(Enum):
 
 
 class Slot(NamedTuple):
-    """A slot that was listened to: its line and place, which tags answer in it, what was read, and the UID if one was heard."""
+    """A slot that was listened to: its line and place, which tags answer in it, what was read, and the UID that was heard."""
 
     line: int
     place: int

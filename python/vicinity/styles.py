@@ -57,30 +57,39 @@ caption { position: absolute; width: 1px; height: 1px; overflow: hidden; clip-pa
 .rounds { font-size: .8125em; } .rounds td, .rounds th { padding: 0; height: 1.75em; vertical-align: middle; border: 0; }
 .rounds thead th { text-align: center; font-weight: normal; color: var(--faint); min-width: 2.3em; }
 .rounds thead th:nth-child(1) { text-align: right; padding-right: .6em; } .rounds thead th:nth-child(2) { text-align: left; }
-.rounds th[scope=row] { padding: 0 .6em 0 1em; text-align: right; } .rounds .mask { padding-right: .8em; white-space: nowrap; }
+.rounds th[scope=row] { padding: 0 .6em 0 1em; text-align: right; } .rounds .mask { padding-right: .8em; white-space: nowrap;
+  }
 .s, .h, .x, .g, .n, .cell { text-align: center; min-width: 2.3em; }
 .rounds .s, .rounds .h, .rounds .x, .rounds .g, .rounds .n { border: 1px solid var(--ground); width: 2.3em; }
 .s { background: var(--s); color: var(--s-ink); } .h { background: var(--h); color: var(--h-ink); }
 .x { background: var(--x); color: var(--x-ink); } .g { background: var(--g); color: var(--x-ink); }
 .rounds .n, .cell.n { border: 1px dashed var(--edge); } .q { text-decoration: underline; text-underline-offset: .2em; }
-.named { outline: 3px solid var(--named); outline-offset: -3px; font-weight: bold; } .named a { color: inherit; display: block; text-decoration: none; }
+.named { outline: 3px solid var(--named); outline-offset: -3px; font-weight: bold; } .named a { color: inherit; display:
+  block; text-decoration: none; }
 .many .named { outline: none; box-shadow: inset 0 -3px var(--named); font-weight: normal; }
 .rounds .say { text-align: left; padding: 0 .6em; color: var(--faint); } .rounds .say.named { color: var(--ink); }
 .joined::before { content: ""; position: absolute; left: .2em; top: 0; bottom: 0; border-left: 2px solid var(--named); }
 .from::before { top: 50%; } .till::before { bottom: 50%; }
 .tick::after { content: ""; position: absolute; left: .2em; top: 50%; width: .5em; border-top: 2px solid var(--named); }
-.digits td, .digits th { padding: 0; width: 2em; min-width: 1.2em; height: 1.6em; text-align: center; border: 1px solid var(--edge); }
-.mc { background: var(--named); color: var(--ground); font-weight: bold; } .mA { background: var(--A); color: var(--map-ink); }
+.digits td, .digits th { padding: 0; width: 2em; min-width: 1.2em; height: 1.6em; text-align: center; border: 1px solid
+  var(--edge); }
+.mc { background: var(--named); color: var(--ground); font-weight: bold; } .mA { background: var(--A); color: var(--map-ink);
+  }
 .mO { background: var(--O); color: var(--map-ink); } .mU { background: var(--U); color: var(--map-ink); }
 .legend { font-size: .875em; list-style: none; padding: 0; margin: .4em 0; display: flex; flex-wrap: wrap; gap: .3em 1em; }
 .cell { display: inline-block; padding: 0 .4em; line-height: 1.6; }
 footer { margin-top: 2em; border-top: 1px solid var(--edge); padding-top: .5em; font-size: .875em; color: var(--faint); }
 @media (max-width: 40em) { body { padding: .6em; } .banner { padding: .7em; gap: .5em; } h1 { font-size: 1.15em; }
-  td, th { padding: .2em .4em; } .rounds { font-size: .75em; } .rounds .s, .rounds .h, .rounds .x, .rounds .g, .rounds .n,
+  td, th { padding: .2em .4em; } .group td { min-width: 5em; } .group td:has(a) { min-width: 0; } .group td code {
+  white-space: normal;
+  overflow-wrap: anywhere; } .group td:has(code) { min-width: 8em; } .group td:last-child { min-width: 9em; } .rounds {
+  font-size: .75em; } .rounds .s, .rounds .h, .rounds .x, .rounds .g, .rounds .n,
   .rounds thead th { min-width: 1.9em; } }
 @media print { @page { margin: 12mm; } body { font-size: 9pt; max-width: none; padding: 0; } .wide { overflow: visible; }
   .copy { max-height: none; columns: 3; } td, th { padding: .1em .6em; } h2 { margin-top: 1em; } p { margin: .5em 0; }
-  .rounds td, .rounds th { height: 1.5em; } .digits td, .digits th { height: 1.3em; } .map { break-inside: avoid; } .uids { columns: 9em auto; } h2, h3, summary, thead { break-after: avoid; }
-  tr, li, .banner { break-inside: avoid; } .group { padding: .3em 0; } th[scope=row] { position: static; } .rounds th[scope=row] { position: relative; }
+  .rounds td, .rounds th { height: 1.5em; } .digits td, .digits th { height: 1.3em; } .map { break-inside: avoid; } .uids {
+  columns: 9em auto; } h2, h3, summary, thead { break-after: avoid; }
+  tr, li, .banner { break-inside: avoid; } .group { padding: .3em 0; } th[scope=row] { position: static; } .rounds
+  th[scope=row] { position: relative; }
   .s, .h, .x, .g, .cell, .mc, .mA, .mO, .mU { print-color-adjust: exact; -webkit-print-color-adjust: exact; } }
 """
