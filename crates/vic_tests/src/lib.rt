@@ -3,8 +3,6 @@
 #![tactic(auto)]
 
 #[cfg(test)]
-mod commands;
-#[cfg(test)]
 mod devices;
 #[cfg(test)]
 mod field;
@@ -15,8 +13,6 @@ mod log;
 #[cfg(test)]
 mod logs;
 #[cfg(test)]
-mod runs;
-#[cfg(test)]
 mod sources_and_sinks;
 #[cfg(test)]
 mod tree;
@@ -24,5 +20,3 @@ mod tree;
 mod values;
 #[cfg(test)]
 mod verdict;
-#[cfg(test)]
-mod words;

@@ -7,7 +7,7 @@ use crate::values::{A, B, Y, Z, mask, uid};
 use std::alloc::Global;
 use std::process::Abort;
 use std::test::Fail;
-use vic_frame::low_bits_first::{key, uid_at};
+use vic_frame::low_bits_first::uid_at;
 use vic_frame::{Mask, UID_BITS, Uid};
 use vic_sets::{CellList, MaskTree};
 use vic_tree::{KeyRange, OpenSet, RangeSet};
@@ -374,80 +374,6 @@ fn mask_round(uid: Uid, number: u64) -> Result<Mask, Fail> {
     mask(len, uid.number() % (1 << len))
 }
 
-/// Settles a mask in three sets, but for a UID, and compares what they say of it then.
-fn agree(
-    rt: &impl Abort,
-    alloc: Global,
-    sets: &mut (CellList, MaskTree, RangeSet),
-    settled: &Mask,
-    kept: Uid,
-) -> Result<(), Fail> {
-    sets.0.settle(settled, &[kept])?;
-    sets.1.settle(settled, &[kept])?;
-    sets.2.settle(settled, &[kept])?;
-    let widest = sets.0.widest();
-    assert!(rt; sets.1.widest() == widest && sets.2.widest() == widest);
-    find_the_same(rt, alloc, sets, settled, kept)?;
-    find_the_same(rt, alloc, sets, &Mask::of_uid(kept), kept)
-}
-
-/// Compares how many open UIDs three sets find in a mask besides one.
-fn find_the_same(
-    rt: &impl Abort,
-    alloc: Global,
-    sets: &(CellList, MaskTree, RangeSet),
-    mask: &Mask,
-    kept: Uid,
-) -> Result<(), Fail> {
-    let keys = [key(kept)];
-    let found = sets.0.up_to_three_besides(alloc, mask, &keys)?.len();
-    finds_so_many_besides(rt, &sets.1, alloc, mask, &keys, found)?;
-    finds_so_many_besides(rt, &sets.2, alloc, mask, &keys, found)
-}
-
-/// Compares whether a UID is open in three sets.
-fn have_the_same(
-    rt: &impl Abort,
-    sets: &(CellList, MaskTree, RangeSet),
-    number: u64,
-) -> Result<(), Fail> {
-    let uid = uid_of(number)?;
-    let open = sets.0.has(uid);
-    assert!(rt; sets.1.has(uid) == open && sets.2.has(uid) == open);
-    Ok(())
-}
-
-#[test]
-fn list_tree_and_ranges_agree(rt: HostRuntime) -> Result<(), Fail> {
-    let alloc = rt.alloc();
-    let mut sets = (
-        CellList::everything(alloc)?,
-        MaskTree::everything(alloc)?,
-        RangeSet::everything(alloc)?,
-    );
-    let mut state = 1;
-    for _ in 0..40 {
-        state = next(state);
-        let inside = uid_of(state)?;
-        state = next(state);
-        let settled = mask_round(inside, state)?;
-        state = next(state);
-        let kept = uid_of((inside.number() % (1 << 12)) + (state >> 12 << 12))?;
-        agree(&rt, alloc, &mut sets, &settled, kept)?;
-        for number in [inside.number(), kept.number(), state, next(state)] {
-            have_the_same(&rt, &sets, number)?;
-        }
-    }
-    let keys = [0, 1 << 20, 1 << 55, (1 << UID_BITS) - 1];
-    let (list, tree, ranges) = sets;
-    let outside = list.uids_outside(alloc, &keys)?;
-    misses(&rt, &tree, alloc, &keys, &outside)?;
-    misses(&rt, &ranges, alloc, &keys, &outside)?;
-    let expected = list.widest_besides(&keys)?;
-    widest_besides(&rt, tree, &keys, expected)?;
-    widest_besides(&rt, ranges, &keys, expected)
-}
-
 /// A range of at most `2^40` keys.
 fn range_from(first: u64, number: u64) -> KeyRange {
     let first = first % (1 << UID_BITS);
@@ -464,25 +390,6 @@ fn some_ranges(alloc: Global, count: usize) -> Result<Vec<KeyRange>, Fail> {
         ranges.push(range_from(first, state))?;
     }
     Ok(ranges)
-}
-
-#[test]
-fn list_tree_and_ranges_agree_without_ranges(rt: HostRuntime) -> Result<(), Fail> {
-    let alloc = rt.alloc();
-    let closed = some_ranges(alloc, 4)?;
-    let sets = (
-        CellList::without(alloc, closed.clone()?)?,
-        MaskTree::without(alloc, closed.clone()?)?,
-        RangeSet::without(alloc, closed.clone()?)?,
-    );
-    let widest = sets.0.widest();
-    assert!(&rt; sets.1.widest() == widest && sets.2.widest() == widest);
-    for range in &closed {
-        for key in [range.first(), range.last(), range.last() / 2] {
-            have_the_same(&rt, &sets, uid_at(key).number())?;
-        }
-    }
-    Ok(())
 }
 
 /// Settles a mask round a UID, which stays as it was.

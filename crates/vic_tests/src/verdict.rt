@@ -1,4 +1,4 @@
-//! Logs judged over a list of cells. What `judge` says of them, over ranges of keys, is asked of the
+//! Logs judged over a list of cells, and explained over a tree. What `judge` says of them, over ranges of keys, is asked of the
 //! program, by `tests/logs`.
 
 use crate::logs::text_of;
@@ -18,10 +18,12 @@ fn log_of(alloc: Global, names: &str) -> Result<Log, Fail> {
     Ok(read_log(alloc, text.as_bytes())?)
 }
 
-/// Asks a log for the line of its verdict.
+/// Asks a log for the line of its verdict, by a list of cells and by a tree.
 fn is_judged(rt: &impl Abort, alloc: Global, names: &str, line: &str) -> Result<(), Fail> {
     let log = log_of(alloc, names)?;
     let verdict = judge_with::<CellList>(alloc, &log)?;
+    let explained = explain_with::<MaskTree>(alloc, &log)?;
+    assert!(rt; explained.verdict == verdict, "{names}");
     let written = answer_line(&Answer::Judged(verdict));
     assert!(rt;
         written.strip_suffix(b"\n") == Some(line.as_bytes()),
