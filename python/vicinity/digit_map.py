@@ -12,18 +12,20 @@ from .told import Told
 
 #: How many bits two digits have.
 BITS = 8
+#: How many places a map marks at least.
+LEAST = 3
 #: The signs by their weight, the heaviest first: what a cell shows if there are several.
 SIGNS = {"!": "contradicted", "A": "absent", "O": "open", "U": "unlisted"}
 LOOKS = {"!": "mc", "A": "mA", "O": "mO", "U": "mU"}
 
 
 def digit_map(session: Session, told: Told) -> Iterator[str]:
-    """A map of 16 by 16. It isn't there if it would say nothing, or the same of all places."""
+    """A map of 16 by 16. It isn't there if it would mark hardly any place, or all alike."""
     found = {"!": _last_digits(_contradicted(session)) if told.conflict else Counter(),
              "A": Counter(uid & 0xFF for uid in told.absent.uids), "O": _last_digits(told.open_masks),
              "U": Counter(uid & 0xFF for uid in told.unlisted.uids)}
     signs = [next((sign for sign in SIGNS if found[sign][last]), "") for last in range(1 << BITS)]
-    if len(set(signs)) == 1:
+    if len(set(signs)) == 1 or len([sign for sign in signs if sign]) < LEAST:
         return
     yield '<section class="map"><h2>By the last two digits</h2><ul class="legend">' + "".join(
         sign_of(LOOKS[sign], sign, words) for sign, words in SIGNS.items() if sign in signs) + "</ul>"

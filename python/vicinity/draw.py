@@ -18,7 +18,7 @@ def draw(form: str, name: str, ascii_only: bool = False) -> int:
     told = tell(text)
     session = read_session(text, told, told.lines(MOST if form == "page" else MOST_LINES))
     if form == "page":
-        write(page(session, told, shown(os.path.basename(name))))
+        write(page(session, told, "standard input" if name == "-" else shown(os.path.basename(name))))
     else:
         look = Look(not ascii_only, has_colours(), shutil.get_terminal_size().columns)
         write(f"{line}\n" for line in show(session, told, look))

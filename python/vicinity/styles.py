@@ -54,7 +54,7 @@ th { font-weight: 600; } th[scope=row] { font-weight: normal; font-variant-numer
 tr:target > *, td:target { background: var(--soft); }
 .uids { columns: 11em auto; margin: 0; padding: 0; list-style: none; white-space: nowrap; min-width: 11em; }
 caption { position: absolute; width: 1px; height: 1px; overflow: hidden; clip-path: inset(50%); }
-.rounds { font-size: .8125em; } .rounds td, .rounds th { padding: 0; height: 1.75em; vertical-align: middle; border: 0; }
+.rounds { font-size: .8125em; line-height: 1.3; } .rounds td, .rounds th { padding: 0; height: 1.75em; vertical-align: middle; border: 0; }
 .rounds thead th { text-align: center; font-weight: normal; color: var(--faint); min-width: 2.3em; }
 .rounds thead th:nth-child(1) { text-align: right; padding-right: .6em; } .rounds thead th:nth-child(2) { text-align: left; }
 .rounds th[scope=row] { padding: 0 .6em 0 1em; text-align: right; } .rounds .mask { padding-right: .8em; white-space: nowrap;
