@@ -1,24 +1,21 @@
 /*
- * vicinity: is the list of tags that a reader claims whole?
+ * vicinity: is the list of tags that a reader claims complete?
  *
- * vicinity_interface() tells whether the library that is linked is the one that this header was
- * written for.
+ * Compare vicinity_interface() with VICINITY_INTERFACE: it tells whether the library that is linked
+ * fits this header.
  *
  * What a caller owes, since nothing checks it:
- * - `text` points to `text_len` bytes that may be read, `bytes` to `len`. Neither is NULL, also if
- *   there are 0 of them, and there are at most PTRDIFF_MAX. No NUL is needed at the end; one inside
- *   is a byte like others.
- * - `uids` points to `count` numbers that may be read. It is aligned and not NULL, also if `count`
- *   is 0.
- * - A pointer to a struct points to one that may be written. It is aligned and is not NULL.
- * - `population` points to `room` numbers that may be written, `findings` to `room` structs,
- *   `filled` to `room` bytes, `needed` to one number. They are aligned, and not NULL, also if
- *   `room` is 0.
- * - What is written overlaps nothing else that is handed over.
- * - Nobody changes what is read or touches what is written while the call runs.
- * - malloc, realloc and free are of one allocator, which aligns to 16 bytes.
+ * - `text` points to `text_len` readable bytes, `bytes` to `len`, at most PTRDIFF_MAX. No NUL is
+ *   needed at the end, and one inside is an ordinary byte.
+ * - `uids` points to `count` readable numbers.
+ * - A buffer has `room` writable elements: `population` numbers, `findings` structs and `filled`
+ *   bytes. `needed` points to one number, and a pointer to a struct to one struct.
+ * - All pointers are aligned, and none is NULL, even where the length is 0.
+ * - What is written overlaps nothing else that is passed.
+ * - While the call runs, no other thread writes what it reads, or reads or writes what it writes.
+ * - malloc, realloc and free belong to one allocator, which aligns to 16 bytes.
  * - The call isn't made from a signal handler, nor in the forked child of a process with threads.
- * - A processor of x86-64 has x86-64-v2 (SSE4.2, POPCNT).
+ * - An x86-64 processor has x86-64-v2 (SSE4.2, POPCNT).
  * - The stack has 64 KiB left.
  * Calls share nothing: any number of threads may call at the same time. The calls that judge a text
  * or fill in its slots take memory, and no other call does. They can't be stopped, and take about
@@ -42,21 +39,21 @@ extern "C" {
 #define VICINITY_VERSION_NUMBER 10000u
 
 /*
- * What an answer is. Complete is 1 here and 0 as a status: compare the kind with VICINITY_COMPLETE,
- * and don't take the result of vicinity_check for true or false.
+ * The kinds of answers. Compare the kind with VICINITY_COMPLETE: complete is 1 as a kind and 0 as a
+ * status, so the return value of vicinity_check is not true or false.
  */
 enum vicinity_kind {
     VICINITY_NO_ANSWER = 0, /* memory was refused; status 4 */
-    VICINITY_COMPLETE = 1, /* the list is whole, and `count` long; status 0 */
+    VICINITY_COMPLETE = 1, /* the list is complete, with `count` UIDs; status 0 */
     VICINITY_ABSENT = 2, /* the listed `uid` can't be there; status 1 */
     VICINITY_UNLISTED = 3, /* `uid` must be there and isn't listed; status 1 */
-    VICINITY_UNSETTLED = 4, /* UIDs of the mask may be there, unlisted; status 1 */
+    VICINITY_UNSETTLED = 4, /* all UIDs of the mask may be there, none is listed; status 1 */
     VICINITY_DOUBTFUL = 5, /* the listed `uid` may be missing; status 1 */
-    VICINITY_IMPOSSIBLE = 6, /* no tags could have given the log up to `line`; status 2 */
-    VICINITY_REFUSED = 7 /* the text is no log: `line` has `fault`; status 3 */
+    VICINITY_IMPOSSIBLE = 6, /* the lines up to `line` contradict each other; status 2 */
+    VICINITY_REFUSED = 7 /* the text is not a log: `line` has `fault`; status 3 */
 };
 
-/* The first fault of a text that is no log, in the order in which the faults of a line count. */
+/* The first fault of a text that is not a log, in the order in which a line's faults are tested. */
 enum vicinity_fault {
     VICINITY_FAULT_NONE = 0,
     VICINITY_FAULT_TOO_MANY_LINES = 1,
@@ -69,7 +66,7 @@ enum vicinity_fault {
     VICINITY_FAULT_SLOT_OUTSIDE_ROUND = 8,
     VICINITY_FAULT_ENTRY_AFTER_LIST = 9,
     VICINITY_FAULT_DUPLICATE_LISTED = 10,
-    /* of the frame of a T or an R line */
+    /* of the frame on a T or R line */
     VICINITY_FAULT_FRAME_SHORT = 101,
     VICINITY_FAULT_FRAME_CRC = 102,
     VICINITY_FAULT_FRAME_EXTENSION = 103,
@@ -87,64 +84,64 @@ enum vicinity_fault {
     VICINITY_FAULT_FRAME_NOT_VICINITY = 115
 };
 
-/* Why there is no frame, mask or line of what was given: the first that applies. */
+/* Why a frame, mask or line can't be made: the first that applies. */
 enum vicinity_refusal {
     VICINITY_WRONG_LINK = 201, /* above 3 */
     VICINITY_WRONG_SLOTS = 202, /* neither 1 nor 16 */
     VICINITY_WRONG_MASK = 203, /* above 64 bits, or 60 with 16 slots, or a value with more bits */
     VICINITY_WRONG_SLOT = 204, /* not below the number of slots */
     VICINITY_WRONG_REPLY = 205, /* flags or DSFID above 255, Error_flag 1, or a UID without E0 */
-    VICINITY_TOO_LONG = 206, /* more bytes than there is room for */
+    VICINITY_TOO_LONG = 206, /* more bytes than fit */
     VICINITY_WRONG_LETTER = 207 /* no line begins with it */
 };
 
-/* What the kind does not speak of is 0. A struct of zeros is VICINITY_NO_ANSWER, never complete. */
+/* Fields that a kind does not use are 0. A struct of zeros is VICINITY_NO_ANSWER, not complete. */
 struct vicinity_answer {
     uint32_t kind;       /* enum vicinity_kind */
-    uint32_t status;     /* with which `vicinity check` ends: 0 to 3, or 4 with no answer */
+    uint32_t status;     /* the exit status of `vicinity check`: 0 to 3, or 4 for no answer */
     uint32_t count;      /* how many UIDs are listed */
     uint32_t line;       /* from 1 */
     uint32_t fault;      /* enum vicinity_fault */
     uint32_t mask_len;   /* in bits, 0 to 56 */
     uint64_t mask_value; /* below two to the power of mask_len */
     uint64_t uid;        /* its top byte is E0 */
-    char text[64]; /* the line that `vicinity check` writes, with its LF and zeros behind it */
+    char text[64]; /* the line that `vicinity check` prints, LF included, then zeros */
 };
 
-/* What a finding is. The first four have the numbers that they have as answers. */
+/* The kinds of findings. The first four have the numbers that they have as answers. */
 enum vicinity_finding_kind {
     VICINITY_FINDING_ABSENT = 2, /* the listed `uid` can't be there: `line` rules it out */
-    VICINITY_FINDING_UNLISTED = 3, /* `uid` must be there and isn't listed: `line` tells of it */
-    VICINITY_FINDING_UNSETTLED = 4, /* UIDs of the mask may be there, unlisted */
+    VICINITY_FINDING_UNLISTED = 3, /* `uid` must be there and isn't listed: `line` shows it */
+    VICINITY_FINDING_UNSETTLED = 4, /* all UIDs of the mask may be there, none is listed */
     VICINITY_FINDING_DOUBTFUL = 5, /* the listed `uid` may be missing */
-    VICINITY_FINDING_OPEN_MASK = 8, /* each UID of the mask may be there or missing */
-    VICINITY_FINDING_MORE_OPEN_MASKS = 9, /* of the open masks sixteen are given */
-    VICINITY_FINDING_CONFLICT_LINE = 10, /* no tags fit all of these lines of an impossible log */
-    VICINITY_FINDING_SILENCED_BY = 11 /* `line` silenced the tag that replies last */
+    VICINITY_FINDING_OPEN_MASK = 8, /* all UIDs of the mask may be there or not */
+    VICINITY_FINDING_MORE_OPEN_MASKS = 9, /* there are more than sixteen open masks */
+    VICINITY_FINDING_CONFLICT_LINE = 10, /* one of the lines that contradict each other */
+    VICINITY_FINDING_SILENCED_BY = 11 /* `line` had silenced the tag whose reply is the conflict */
 };
 
-/* A finding of a report. What the kind does not speak of is 0. */
+/* A finding of a report. Fields that a kind does not use are 0. */
 struct vicinity_finding {
     uint32_t kind;       /* enum vicinity_finding_kind */
     uint32_t line;       /* from 1 */
     uint32_t mask_len;   /* in bits, 0 to 56 */
-    uint32_t zero;       /* 0 in each kind */
+    uint32_t zero;       /* 0 for every kind */
     uint64_t mask_value; /* below two to the power of mask_len */
     uint64_t uid;        /* its top byte is E0 */
 };
 
-/* A frame with zeros after it. If there is a fault all else is 0; so it is in the structs below. */
+/* A frame, then zeros. After a fault every other field is 0, here and in the structs below. */
 struct vicinity_frame {
     uint32_t fault; /* 0, or enum vicinity_refusal */
     uint32_t len;
     uint8_t bytes[16];
 };
 
-/* The fields of a request. Stay Quiet opens 0 slots and has a UID, Inventory a link and a mask. */
+/* The fields of a request: an Inventory has slots and a mask, a Stay Quiet has a UID. */
 struct vicinity_request {
     uint32_t fault;      /* 0, or enum vicinity_fault */
     uint32_t link;       /* 0 to 3 */
-    uint32_t slots;      /* 1 or 16; 0 of Stay Quiet */
+    uint32_t slots;      /* 1 or 16; 0 for Stay Quiet */
     uint32_t mask_len;
     uint64_t mask_value;
     uint64_t uid;        /* of Stay Quiet */
@@ -158,21 +155,21 @@ struct vicinity_reply {
     uint64_t uid;
 };
 
-/* The low bits that a UID must have. */
+/* A mask: the UIDs whose `len` low bits are `value`. */
 struct vicinity_mask {
     uint32_t fault; /* 0, or enum vicinity_refusal */
     uint32_t len;
     uint64_t value;
 };
 
-/* A line of a log, LF included, with zeros after it. */
+/* A line of a log, LF included, then zeros. */
 struct vicinity_line {
     uint32_t fault; /* 0, or enum vicinity_refusal */
     uint32_t len;
     char text[132];
 };
 
-/* A name, and zeros after it; `len` is 0 where a number has none. */
+/* A name, then zeros. `len` is 0 for a number that has no name. */
 struct vicinity_name {
     uint32_t len;
     char text[28];
@@ -196,75 +193,75 @@ _Static_assert(sizeof(struct vicinity_name) == 32, "the size of struct vicinity_
 #endif
 
 /*
- * VICINITY_INTERFACE of the header that the library fits. It changes where the struct, a number or
- * the meaning of a call does; not where a call is added.
+ * Returns VICINITY_INTERFACE of the header that the library fits. It changes if a struct, a number
+ * or the meaning of a call changes, and not if a call is added.
  */
 uint32_t vicinity_interface(void);
 
-/* The library's version: its first number times 10,000, its second times 100, and its third. */
+/* Returns the library's version: 10,000 times its first number, 100 times its second, its third. */
 uint32_t vicinity_version(void);
 
-/* Judges the log that a text spells, writes the answer, and returns its status. */
+/* Judges a log, writes the answer, and returns its status. */
 uint32_t vicinity_check(const uint8_t *text, size_t text_len, struct vicinity_answer *answer);
 
 /*
- * The same, and hands over the population that `vicinity explain` writes: UIDs of tags that could
- * have given the log and show the answer. `*needed` is how many they are. Where `room` is at least
- * that, they stand at the front of `population`, in rising order; else nothing is written there,
- * and the call again with room for `*needed` gives them. A population may be empty; none, and
- * `*needed` 0, is there for VICINITY_COMPLETE, _IMPOSSIBLE, _REFUSED and _NO_ANSWER.
+ * Judges a log and explains the answer by a counterexample, as `vicinity explain` does. These are
+ * the UIDs, in rising order, of tags that could have produced the log and differ from its list.
+ * `*needed` is how many they are. If `room` is at least that, they stand at the front of `population`; otherwise
+ * nothing is written there: call again with a larger buffer. They may be none, which is the empty
+ * population. There is no counterexample, and `*needed` is 0, for VICINITY_COMPLETE, _IMPOSSIBLE,
+ * _REFUSED and _NO_ANSWER.
  */
 uint32_t vicinity_explain(const uint8_t *text, size_t text_len, struct vicinity_answer *answer,
                           uint64_t *population, size_t room, size_t *needed);
 
 /*
- * The same, and hands over all that the log tells against its list: the lines of `vicinity report`,
- * as findings in the same order. They are, of a possible log, the absent UIDs, the unlisted ones,
- * the unsettled mask with the open masks after it, and the doubtful UIDs, UIDs in rising order; of
- * an impossible one, the lines of a conflict, in rising order, and what silenced. `*needed` is how
- * many they are. Where `room` is at least that, they stand at the front of `findings`; else nothing
- * is written there, and the call again with room for `*needed` gives them. There is none, and
- * `*needed` is 0, for VICINITY_COMPLETE, _REFUSED and _NO_ANSWER.
+ * Judges a log and lists every finding, in the order of the lines of `vicinity report`. Of a
+ * possible log: the absent UIDs, the unlisted ones, the unsettled mask followed by the open masks,
+ * and the doubtful UIDs; UIDs in rising order. Of an impossible one: the lines of a conflict, in
+ * rising order, and the line that silenced. `*needed` is how many findings there are. If `room` is
+ * at least that, they stand at the front of `findings`; otherwise nothing is written there: call
+ * again with a larger buffer. There is none, and `*needed` is 0, for VICINITY_COMPLETE, _REFUSED
+ * and _NO_ANSWER.
  */
 uint32_t vicinity_report(const uint8_t *text, size_t text_len, struct vicinity_answer *answer,
                          struct vicinity_finding *findings, size_t room, size_t *needed);
 
 /*
- * Judges a text that lists nothing with a list beside it, as a reader's loop does. The answer is
- * that of vicinity_check to the text with a line `U` for each UID after it, in the order given,
- * which may be any. So the text ends with LF. A UID that comes twice has the fault
- * VICINITY_FAULT_DUPLICATE_LISTED, one without E0 VICINITY_FAULT_NOT_VICINITY, at its line.
+ * Judges a text without `U` lines and a list of UIDs in any order, as a reader's loop does. The
+ * answer is that of vicinity_check to the text followed by a line `U` for each UID. So the text has
+ * to end with LF. A UID that comes twice has the fault VICINITY_FAULT_DUPLICATE_LISTED, and one
+ * that doesn't begin E0 VICINITY_FAULT_NOT_VICINITY, at its line.
  */
 uint32_t vicinity_check_listed(const uint8_t *text, size_t text_len, const uint64_t *uids,
                                size_t count, struct vicinity_answer *answer);
 
-/* Judges and explains a text with a list beside it: vicinity_explain as vicinity_check_listed. */
+/* As vicinity_explain, for a text and a list of UIDs as vicinity_check_listed takes them. */
 uint32_t vicinity_explain_listed(const uint8_t *text, size_t text_len, const uint64_t *uids,
                                  size_t count, struct vicinity_answer *answer,
                                  uint64_t *population, size_t room, size_t *needed);
 
-/* Judges and reports on a text with a list beside it: vicinity_report as vicinity_check_listed. */
+/* As vicinity_report, for a text and a list of UIDs as vicinity_check_listed takes them. */
 uint32_t vicinity_report_listed(const uint8_t *text, size_t text_len, const uint64_t *uids,
                                 size_t count, struct vicinity_answer *answer,
                                 struct vicinity_finding *findings, size_t room, size_t *needed);
 
 /*
- * Fills in the slots of the log that a text spells, as the tags that it lists would answer, and
- * hands over what `vicinity simulate` writes: the text of the filled log, or the one line of a
- * refusal. `*needed` is how many bytes it has. Where `room` is at least that, they stand at the
- * front of `filled`, with no NUL after them; else nothing is written there, and the call again with
- * room for `*needed` gives them. Returns the status: 0 of a log, 3 of a refusal; or 4 where memory
- * was refused, and `*needed` is 0.
+ * Fills in the slots of a log, as the tags that it lists would answer. What `vicinity simulate`
+ * prints is written: the text of the filled log, or the one line of a refusal. `*needed` is how
+ * many bytes it has. If `room` is at least that, they stand at the front of `filled`, with no NUL
+ * after them; otherwise nothing is written there: call again with a larger buffer. Returns the
+ * status: 0 for a log, 3 for a refusal; 4 if memory was refused, and then `*needed` is 0.
  */
 uint32_t vicinity_simulate(const uint8_t *text, size_t text_len, uint8_t *filled, size_t room,
                            size_t *needed);
 
 /* The calls below take no memory. */
 
-/* The word that the line of an answer begins with, by its kind; returns its length, 0 if none. */
+/* Writes the word of a kind of answer, such as `unsettled`; returns its length, 0 if none. */
 uint32_t vicinity_kind_name(uint32_t kind, struct vicinity_name *name);
 
-/* The name of an enum vicinity_fault or vicinity_refusal; returns its length, 0 if it has none. */
+/* Writes the name of an enum vicinity_fault or vicinity_refusal; returns its length, 0 if none. */
 uint32_t vicinity_fault_name(uint32_t fault, struct vicinity_name *name);
 
 /* Each of the calls below fills its struct and returns the struct's fault. */
@@ -276,11 +273,11 @@ uint32_t vicinity_write_inventory(uint32_t link, uint32_t slots, uint32_t mask_l
 /* Writes the frame of a Stay Quiet request, CRC included. */
 uint32_t vicinity_write_stay_quiet(uint32_t link, uint64_t uid, struct vicinity_frame *frame);
 
-/* Writes the frame of a reply, CRC included, as a simulated field does. */
+/* Writes the frame of a reply, CRC included. */
 uint32_t vicinity_write_response(uint32_t flags, uint32_t dsfid, uint64_t uid,
                                  struct vicinity_frame *frame);
 
-/* Writes at most 14 bytes with their CRC after them: the frame of a chip that took the CRC off. */
+/* Writes at most 14 bytes followed by their CRC, for a chip that strips the CRC. */
 uint32_t vicinity_add_crc(const uint8_t *bytes, size_t len, struct vicinity_frame *frame);
 
 /* Reads a frame, CRC included, as a request: its fields, or its first fault. */
@@ -289,14 +286,14 @@ uint32_t vicinity_read_request(const uint8_t *bytes, size_t len, struct vicinity
 /* Reads a frame, CRC included, as a reply: its fields, or its first fault. */
 uint32_t vicinity_read_response(const uint8_t *bytes, size_t len, struct vicinity_reply *reply);
 
-/* Gives the mask of a slot, counted from 0, of an Inventory request: who answers in that slot. */
+/* Writes the mask of a slot of an Inventory request, counted from 0: which UIDs answer in it. */
 uint32_t vicinity_slot_mask(uint32_t slots, uint32_t mask_len, uint64_t mask_value, uint32_t slot,
                             struct vicinity_mask *mask);
 
 /*
- * Writes a line of a log. `letter` says which: 'T' or 'R' with the frame's `bytes`, at most 63,
- * which aren't judged; 'U' with `uid`; 'S', 'C', 'D' or 'F' alone. What the letter doesn't speak of
- * isn't looked at.
+ * Writes a line of a log. `letter` says which: 'T' or 'R' with a frame of at most 63 `bytes`, which
+ * isn't judged; 'U' with `uid`; 'S', 'C', 'D' or 'F' alone. Arguments that a letter does not use
+ * are ignored.
  */
 uint32_t vicinity_write_line(uint8_t letter, const uint8_t *bytes, size_t len, uint64_t uid,
                              struct vicinity_line *line);
