@@ -207,10 +207,10 @@ uint32_t vicinity_check(const uint8_t *text, size_t text_len, struct vicinity_an
 /*
  * Judges a log and explains the answer by a counterexample, as `vicinity explain` does. These are
  * the UIDs, in rising order, of tags that could have produced the log and differ from its list.
- * `*needed` is how many they are. If `room` is at least that, they stand at the front of `population`; otherwise
- * nothing is written there: call again with a larger buffer. They may be none, which is the empty
- * population. There is no counterexample, and `*needed` is 0, for VICINITY_COMPLETE, _IMPOSSIBLE,
- * _REFUSED and _NO_ANSWER.
+ * `*needed` is how many they are. If `room` is at least that, they stand at the front of
+ * `population`; otherwise nothing is written there: call again with a larger buffer. They may be
+ * none, which is the empty population. There is no counterexample, and `*needed` is 0, for
+ * VICINITY_COMPLETE, _IMPOSSIBLE, _REFUSED and _NO_ANSWER.
  */
 uint32_t vicinity_explain(const uint8_t *text, size_t text_len, struct vicinity_answer *answer,
                           uint64_t *population, size_t room, size_t *needed);
