@@ -7,7 +7,7 @@ import shutil
 from ._command import has_colours, read, shown, write
 from .page import page
 from .pieces import MOST
-from .session import read_session
+from .reading import read_session
 from .show import MOST_LINES, Look, show
 from .told import tell
 

@@ -12,7 +12,8 @@ from .notes import notes
 from .quotes import quotes
 from .sentence import sentence
 from .pieces import MOST
-from .session import Session, read_session
+from .reading import read_session
+from .session import Session
 from .todo import of_uid
 from .told import Shown, Told, tell
 from .words import ending, uid

@@ -1,29 +1,13 @@
-"""A session as rounds and slots, read from the text of a log in one pass, of which the rows that matter are kept.
-
-Nothing is judged here: a text that is refused is read up to the line that is refused, and frames and the masks of slots
-come from the library's calls.
-"""
+"""A session as rows of rounds and slots, as far as it is kept. Frames and the masks of slots come from the library's calls."""
 from __future__ import annotations
 
-import io
 from array import array
-from collections import deque
 from dataclasses import dataclass, field
 from enum import Enum
 from functools import cached_property
-from heapq import merge
-from itertools import islice
 from typing import Iterator, NamedTuple, Optional, Union
 
 from .frames import Mask, Request, read_request, read_response, slot_mask
-from .told import Told
-
-#: How many rows are kept at the beginning, at the end, and on each side of one that has a named line.
-ENDS, AROUND = 20, 1
-#: How many of the lines of a list, and of what the notes speak of, are kept.
-MOST_LISTED = MOST_NOTED = 2000
-#: How much of a line that is refused is kept.
-MOST_QUOTED = 160
 
 
 class Reading(Enum):
@@ -162,140 +146,6 @@ class Session:
         rounds = {index: row for index, row in self.rows.items() if isinstance(row, Round)}
         named = {index for line, index in self.places.items() if index in rounds}
         return {slot.line: slot for index in named for slot in rounds[index].slots if slot.line in self.texts}
-
-
-class _Pass:
-    """The one pass over a text."""
-
-    def __init__(self, told: Told, quoted: set[int]):
-        self.session = Session()
-        self.quoted = quoted
-        self.ahead: Iterator[int] = iter(merge(told.conflict, sorted(quoted)))
-        self.next = next(self.ahead, 0)
-        self.row: Optional[Row] = None
-        self.is_named = False
-        self.before: deque[tuple[int, Row]] = deque(maxlen=AROUND)
-        self.last: deque[tuple[int, Row]] = deque(maxlen=ENDS)
-        self.after = 0
-        self.heard: set[int] = set()
-        self.silenced_lines: array[int] = array("I")
-        self.silenced: array[int] = array("Q")
-
-    def read(self, text: bytes, refused: Optional[int]) -> Session:
-        stream = io.BytesIO(text)
-        lines = stream if refused is None else islice(stream, refused - 1)
-        for number, line in enumerate(lines, 1):
-            letter = line[:1]
-            if number == 1 or letter in b"#\r\n":  # also an empty line without LF
-                continue
-            if letter == b"T":
-                self._sent(number, line[2:].rstrip())
-            elif letter == b"U":
-                self._listed(number, line)
-            elif letter == b"F":
-                self._start(FieldCycle(number))
-                self.session.cycle_lines.append(number)
-                self.session.counts.cycles += 1
-            else:
-                self._outcome(number, letter, line)
-            if number == self.next:
-                self._named(number, line.rstrip())
-        self._close()
-        if refused is not None:
-            self.session.refused = stream.read(MOST_QUOTED + 1).split(b"\n")[0]
-        return self._finished()
-
-    def _sent(self, number: int, frame: bytes) -> None:
-        self.session.asked_until = number
-        if frame[2:4] == b"01":
-            row = Round(number, frame)
-            self._start(row)
-            self.session.counts.rounds += 1
-            self.session.first_round = self.session.first_round or row
-            self.session.last_round = row
-            return
-        self.session.counts.quiets += 1
-        digits = frame[4:20].upper()
-        uid = int.from_bytes(bytes.fromhex(digits.decode()), "big")
-        self.silenced.append(uid)
-        self.silenced_lines.append(number)
-        if isinstance(self.row, Round) and number != self.next and self.row.has_heard(digits):
-            self.row.quiets[_turned(uid)] = number
-            self.row.end = number
-        else:
-            self._start(StayQuiet(number, _turned(uid)))
-
-    def _outcome(self, number: int, letter: bytes, line: bytes) -> None:
-        assert isinstance(self.row, Round)
-        self.row.outcomes.append((number, line.rstrip()))
-        self.row.end = self.session.asked_until = number
-        self.session.counts.readings[letter.decode()] += 1
-        if letter == b"R":
-            self.heard.add(int(line[6:22], 16))
-
-    def _listed(self, number: int, line: bytes) -> None:
-        session = self.session
-        session.counts.listed += 1
-        session.list_lines = (session.list_lines[0] or number, number)
-        if len(session.listed) < MOST_LISTED:
-            session.listed.append((number, int(line[2:18], 16)))
-
-    def _named(self, number: int, text: bytes) -> None:
-        """A line that the report names. Of a long conflict those that take a tag are kept, and the first."""
-        while self.next == number:
-            self.next = next(self.ahead, 0)
-        if number in self.quoted or text[:1] in b"CD":
-            self.is_named = True
-            self.session.texts[number] = text
-            self.session.places[number] = self.session.row_count
-
-    def _start(self, row: Row) -> None:
-        self._close()
-        self.row = row
-
-    def _close(self) -> None:
-        """Keeps the row that has ended, if it matters."""
-        row, session, index = self.row, self.session, self.session.row_count
-        if row is None:
-            return
-        if isinstance(row, Round) and len(row.outcomes) < row.places:
-            session.short_count += 1
-            if session.short_count <= MOST_NOTED:
-                session.short.append(row)
-        if self.is_named:
-            session.rows.update(self.before)
-            self.after = AROUND + 1
-        if self.after or index < ENDS:
-            session.rows[index] = row
-            self.after = max(0, self.after - 1)
-        self.before.append((index, row))
-        self.last.append((index, row))
-        session.row_count += 1
-        self.row, self.is_named = None, False
-
-    def _finished(self) -> Session:
-        session = self.session
-        session.rows.update(self.last)
-        session.rows = dict(sorted(session.rows.items()))
-        session.counts.heard = len(self.heard)
-        unheard: set[int] = set()
-        for line, uid in zip(self.silenced_lines, self.silenced):
-            if uid not in self.heard and uid not in unheard:
-                unheard.add(uid)
-                if len(unheard) <= MOST_NOTED:
-                    session.unheard.append((line, _turned(uid)))
-        session.unheard_count = len(unheard)
-        return session
-
-
-def _turned(uid: int) -> int:
-    """A UID as a number, from its bytes in the order of a frame."""
-    return int.from_bytes(uid.to_bytes(8, "big"), "little")
-
-
-def read_session(text: bytes, told: Told, quoted: set[int]) -> Session:
-    """The session of a text, up to the line that is refused, if one is. The lines in `quoted` are kept as text."""
-    return _Pass(told, quoted).read(text, told.refused_line)
 
 
 def lines_of(row: Row) -> Iterator[int]:
