@@ -18,9 +18,9 @@
  * - An x86-64 processor has x86-64-v2 (SSE4.2, POPCNT).
  * - The stack has 64 KiB left.
  * Calls share nothing: any number of threads may call at the same time. The calls that judge a text
- * or fill in its slots take memory, and no other call does. They can't be stopped, and take about
- * half a second and 100 MB for a session of 1,000,000 lines, more for some logs: bound the length
- * of a text from a stranger.
+ * or fill in its slots take memory, and no other call does. They can't be stopped, and take about a
+ * quarter of a second and 40 MB for a session of 1,000,000 lines, and ten times that for the worst
+ * logs: bound the length of a text from a stranger.
  */
 #ifndef VICINITY_H
 #define VICINITY_H
@@ -35,8 +35,8 @@ extern "C" {
 #define VICINITY_INTERFACE 1u
 
 /* The version of this header, in words and as vicinity_version() gives that of the library. */
-#define VICINITY_VERSION "1.0.0"
-#define VICINITY_VERSION_NUMBER 10000u
+#define VICINITY_VERSION "1.0.1"
+#define VICINITY_VERSION_NUMBER 10001u
 
 /*
  * The kinds of answers. Compare the kind with VICINITY_COMPLETE: complete is 1 as a kind and 0 as a

@@ -20,4 +20,4 @@ __all__ = ["Answer", "Explanation", "Fault", "Finding", "FindingKind", "FrameFau
            "Report", "Request", "Simulation", "add_crc", "check", "check_listed", "explain", "explain_into", "explain_listed",
            "read_request", "read_response", "report", "report_listed", "simulate", "simulate_into", "slot_mask",
            "write_inventory", "write_line", "write_response", "write_stay_quiet"]
-__version__ = "1.0.0"
+__version__ = "1.0.1"

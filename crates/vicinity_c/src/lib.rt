@@ -38,9 +38,9 @@ pub extern "C" fn vicinity_interface() -> u32
 /// The version of this library: its first number times 10,000, its second times 100, and its third.
 #[unsafe(no_mangle)]
 pub extern "C" fn vicinity_version() -> u32
-    ensures { result ≡ 10000 }
+    ensures { result ≡ 10001 }
 {
-    10_000
+    10_001
 }
 
 /// Judges the log that a text spells, and writes the answer in numbers. The result is its status,
