@@ -169,11 +169,11 @@ pub last_from-push : (n : ℕ) (ls : List LogLine) (l : LogLine) → last_from n
 last_from-push n [] l = refl
 last_from-push n (x ∷ ls) l = last_from-push x.number ls l
 
-rising-push : (n : ℕ) (ls : List LogLine) (l : LogLine) → IsRisingFrom n ls → last_from n ls < l.number → IsRisingFrom n (ls ++ l ∷ [])
+pub rising-push : (n : ℕ) (ls : List LogLine) (l : LogLine) → IsRisingFrom n ls → last_from n ls < l.number → IsRisingFrom n (ls ++ l ∷ [])
 rising-push n [] l r h = (h, tt)
 rising-push n (x ∷ ls) l r h = (r.0, rising-push x.number ls l r.1 h)
 
-valid-push : (es : List Entry) (e : Entry) → AreValid es → IsValidEntry e → AreValid (es ++ e ∷ [])
+pub valid-push : (es : List Entry) (e : Entry) → AreValid es → IsValidEntry e → AreValid (es ++ e ∷ [])
 valid-push es e v h i q k = last_or es e (Sent q) i k (λ below here. v i q here) (λ same it. subst IsValidEntry it h)
 
 typed-push : (es : List Entry) (e : Entry) → AreTyped es → IsTyped e → AreTyped (es ++ e ∷ [])

@@ -1,26 +1,27 @@
 -- Slot lines that no population fits together: all up to the first impossible line do.
-use Rattle.std.proofs.Common.{◌≡◌, ℕ, zero, suc, ◌<◌, ◌≤◌, ◌+◌, ◌-◌, List, [], ◌∷◌, ◌++◌, length, get_or, take, drop, ◌==◌, ◌||◌, Bool, true, false, cond, Option, Some, refl, sym, ap, ◌∙◌, subst, arith, ⊎_elim}
-use Rattle.std.specs.Prelude.{slice_get, nat_le, leb, nat_eq, IfSome}
+use Rattle.std.proofs.Common.{◌≡◌, ℕ, zero, suc, ◌<◌, ◌≤◌, ◌+◌, ◌-◌, List, [], ◌∷◌, ◌++◌, length, get_or, take, drop, Bool, true, false, cond, Some, refl, sym, ap, ◌∙◌, subst, arith, ⊎_elim}
+use Rattle.std.specs.Prelude.{slice_get, nat_le, leb, None, Option, Result, Ok, Err, MatchOption, MatchResult, is_err}
 use Rattle.std.specs.Option.{option_map}
 use Rattle.std.specs.List.{filter}
 use Rattle.std.specs.List.Sorted.{IsStrictlyIncreasing}
-use Rattle.std.proofs.lemmas.Bool.{cases_Bool, leb-true, leb-false, lt-leb, or_cases, or_left, or_right, eq-eqb, eqb-true, false≢true}
-use Rattle.std.proofs.lemmas.List.{map-append, take-append-drop}
-use Rattle.std.proofs.lemmas.List.Folds.{list_any-append}
+use Rattle.std.proofs.lemmas.Bool.{cases_Bool, cases_lt, le-leb, leb-true, leb-false, lt-leb, false≢true}
+use Rattle.std.proofs.lemmas.List.{length-map, map-append, take-append-drop}
 use Rattle.std.proofs.lemmas.List.Elements.{All-get_or, filter_passes}
 use Rattle.std.proofs.lemmas.Option.{slice_get-map, slice_get_within, get_or_from_slice_get}
+use Rattle.vic_frame.specs.Replies.{Reply}
 use Rattle.vic_frame.specs.Uids.{has}
 use Rattle.vic_log.specs.declared.entry.Entry.{Entry}
 use Rattle.vic_log.specs.declared.entry.Entry.TheVariants.{Sent, Silent, Collision, Heard, Listed, Garbled, FieldCycle}
 use Rattle.vic_log.specs.declared.entry.LogLine.{LogLine}
-use Rattle.vic_log.specs.Log.{LogValue}
 use Rattle.vic_log.specs.Order.{entries, IsRisingFrom}
 use Rattle.vic_log.specs.Populations.{Outcome, outcome_at, Fits, CouldHaveGiven}
+use Rattle.vic_log.specs.Quiet.{is_quiet}
 use Rattle.vic_log.specs.Rounds.{is_slot}
 use Rattle.vic_log.proofs.Places.{agree_upto, outcome_agrees, CouldHaveGiven-front}
-use Rattle.vic_report.specs.Conflicts.{FitsLines, IsConflictAt}
+use Rattle.vic_report.specs.Conflicts.{FitsLines, IsConflictAt, IsNoQuietReply, IsSilencedBefore, IsSilencedBy, IsSlotLine}
 use Rattle.vic_verdict.specs.Possible.{IsPossible, IsContradictedAt}
-use Rattle.vic_verdict.specs.Verdict.{entries_to}
+use Rattle.vic_verdict.specs.Verdict.{entries_to, IsVerdict}
+use Rattle.vic_verdict.specs.declared.judging.Verdict.TheVariants.{Impossible}
 use Rattle.vic_verdict.proofs.Failing.{place_of, member_at}
 use Rattle.vic_verdict.proofs.Possibility.{IsPossible-front}
 use Rattle.vic_verdict.proofs.Inserted.{rising_order}
@@ -39,6 +40,11 @@ none_before n k (l ∷ lines) h r =
     let above = r.0 in
     let out : leb l.number n ≡ false = lt-leb l.number n (omega arith) in
     ap (lines_kept n l lines) out ∙ none_before n l.number lines (omega arith) r.1
+
+number_above : (i k : ℕ) (lines : List LogLine) (l : LogLine) → IsRisingFrom k lines → slice_get lines i ≡ Some l → k < l.number
+number_above i k [] l r g = cc
+number_above zero k (x ∷ lines) l r g = let same : x ≡ l = cc in subst (λ (y : LogLine). k < y.number) same r.0
+number_above (suc i) k (x ∷ lines) l r g = let above = number_above i x.number lines l r.1 g in let first = r.0 in omega arith
 
 -- they stand before all others
 lines_front : (n k : ℕ) (lines : List LogLine) → IsRisingFrom k lines → (rest : List LogLine) × (lines_to n lines ++ rest ≡ lines)
@@ -63,6 +69,18 @@ pub line_of : (lines : List LogLine) (i : ℕ) (e : Entry) → slice_get (entrie
 line_of [] i e k = cc
 line_of (x ∷ lines) zero e k = (x, refl, cc)
 line_of (x ∷ lines) (suc i) e k = line_of lines i e k
+
+-- a line up to n stands among them, at its place
+front_there : (n k : ℕ) (lines : List LogLine) (i : ℕ) (l : LogLine) → IsRisingFrom k lines → slice_get lines i ≡ Some l → l.number ≤ n → slice_get (lines_to n lines) i ≡ Some l
+front_there n k [] i l r g small = cc
+front_there n k (x ∷ lines) zero l r g small =
+    let same : x ≡ l = cc in
+    let within : leb x.number n ≡ true = le-leb x.number n (subst (λ (y : LogLine). y.number ≤ n) (sym same) small) in
+    ap (λ b. slice_get (lines_kept n x lines b) zero) within ∙ g
+front_there n k (x ∷ lines) (suc i) l r g small =
+    let above = number_above i x.number lines l r.1 g in
+    let within : leb x.number n ≡ true = le-leb x.number n (omega arith) in
+    ap (λ b. slice_get (lines_kept n x lines b) (suc i)) within ∙ front_there n x.number lines i l r.1 g small
 
 number_within : (n : ℕ) (lines : List LogLine) (i : ℕ) (x : LogLine) → slice_get (lines_to n lines) i ≡ Some x → x.number ≤ n
 number_within n lines i x k =
@@ -100,26 +118,54 @@ given_to lines n numbers p r all fits i e k =
     subst (Fits e) (sym same) (subst (λ f. Fits f (outcome_at (entries lines) i p)) x.2
     (fits i x.0 there (all i x.0 there (number_within n lines i x.0 x.1) (subst (λ f. is_slot f ≡ true) (sym x.2) slot)))))
 
+below_last : (m n : ℕ) (xs : List ℕ) → m ≤ suc n → has xs m ≡ true → has xs (suc n) ≡ false → m ≤ n
+below_last m n xs small here none =
+    ⊎_elim (λ lt. omega arith) (λ ge.
+    let same : m ≡ suc n = omega arith in
+    absurd (false≢true (sym none ∙ (ap (has xs) (sym same) ∙ here)))) (cases_lt m (suc n))
+
+-- a population that could have given the lines up to n fits each of them
+pub fits_given : (lines : List LogLine) (n : ℕ) (p : List ℕ) (i : ℕ) (l : LogLine) → IsRisingFrom 0 lines → CouldHaveGiven p (entries_to n lines) → slice_get lines i ≡ Some l → l.number ≤ n → Fits l.item (outcome_at (entries lines) i p)
+fits_given lines n p i l r given k small =
+    let front = lines_to n lines in
+    let rest = lines_front n 0 lines r in
+    let there = front_there n 0 lines i l r k small in
+    let within = slice_get_within front i l there in
+    let long : length (entries front) ≡ length front = length-map front (λ (x : LogLine). x.item) in
+    let whole : entries front ++ entries rest.0 ≡ entries lines = sym (map-append (λ (x : LogLine). x.item) front rest.0) ∙ ap entries rest.1 in
+    let same : outcome_at (entries front) i p ≡ outcome_at (entries lines) i p =
+    outcome_agrees i (entries front) (entries front ++ entries rest.0) p (agree_upto (entries front) (entries rest.0) i (omega arith))
+    ∙ ap (λ es. outcome_at es i p) whole in
+    subst (Fits l.item) same (given i l.item (slice_get-map (λ (x : LogLine). x.item) front i ∙ ap (option_map (λ (x : LogLine). x.item)) there))
+
+-- the first impossible line is among the slot lines up to it
+pub last_is_slot : (lines : List LogLine) (n : ℕ) (xs : List ℕ) → IsRisingFrom 0 lines → IsVerdict lines (Impossible n) → ((m : ℕ) → has xs m ≡ true → m ≤ n) → HaveSlotsTo lines n xs → has xs n ≡ true
+last_is_slot lines zero xs r least upto all =
+    absurd (least.0 (subst IsPossible (sym (ap entries (none_before 0 0 lines (omega arith) r))) ([], tt, λ i e k. cc)))
+last_is_slot lines (suc n) xs r least upto all =
+    ⊎_elim
+    (λ here. here)
+    (λ none.
+    let possible_stays : IsPossible (entries_to n lines) → IsPossible (entries_to (suc n) lines) = λ q. (
+      q.0,
+      q.1,
+      given_to lines (suc n) xs q.0 r all (λ i l k h.
+          let small = upto l.number h in
+          fits_given lines n q.0 i l r q.2 k (below_last l.number n xs small h none)),
+    ) in
+    let too_small = least.1 n (λ q. least.0 (possible_stays q)) in
+    absurd (omega arith))
+    (cases_Bool (has xs (suc n)))
+
 -- all slot lines up to the first impossible one are a conflict
-pub slots_conflict : (lines : List LogLine) (n : ℕ) (numbers : List ℕ) → IsRisingFrom 0 lines → (IsPossible (entries_to n lines) → ⊥) → IsStrictlyIncreasing numbers → has numbers n ≡ true → ((m : ℕ) → has numbers m ≡ true → m ≤ n) → HaveSlotsTo lines n numbers → IsConflictAt lines n numbers
-slots_conflict lines n numbers r impossible rising ends upto all = record {
+pub slots_conflict : (lines : List LogLine) (n : ℕ) (xs zs : List ℕ) → IsRisingFrom 0 lines → IsVerdict lines (Impossible n) → ((m : ℕ) → has xs m ≡ true → (m ≤ n) × IsSlotLine lines m) → HaveSlotsTo lines n xs → IsStrictlyIncreasing zs → ((m : ℕ) → has zs m ≡ has xs m) → IsConflictAt lines n zs
+slots_conflict lines n xs zs r least among all rising same = record {
   rising = rising;
-  ends = ends;
-  upto = upto;
-  unfit = λ p population fits. impossible (p, population, given_to lines n numbers p r all fits);
+  ends = same n ∙ last_is_slot lines n xs r least (λ m h. (among m h).0) all;
+  upto = λ m h. (among m (sym (same m) ∙ h)).0;
+  slots = λ m h. (among m (sym (same m) ∙ h)).1;
+  unfit = λ p population fits. least.0 (p, population, given_to lines n zs p r (λ k x g small slot. same x.number ∙ all k x g small slot) fits);
 }
-
-has_pushed : (xs : List ℕ) (n m : ℕ) → has (xs ++ n ∷ []) m ≡ (has xs m || ((m == n) || false))
-has_pushed xs n m = list_any-append (nat_eq m) xs (n ∷ [])
-
--- the same of these numbers and n, put in order
-pub slots_put_in_order : (lines : List LogLine) (n : ℕ) (xs ys zs : List ℕ) → IsRisingFrom 0 lines → (IsPossible (entries_to n lines) → ⊥) → ((m : ℕ) → has xs m ≡ true → m ≤ n) → HaveSlotsTo lines n xs → ys ≡ xs ++ n ∷ [] → IsStrictlyIncreasing zs → ((m : ℕ) → has zs m ≡ has ys m) → IsConflictAt lines n zs
-slots_put_in_order lines n xs ys zs r impossible upto all pushed rising same =
-    let is : (m : ℕ) → has zs m ≡ (has xs m || ((m == n) || false)) = λ m. same m ∙ (ap (λ us. has us m) pushed ∙ has_pushed xs n m) in
-    slots_conflict lines n zs r impossible rising
-    (is n ∙ or_right (has xs n) _ (or_left (n == n) false (eq-eqb n n refl)))
-    (λ m h. ⊎_elim (λ old. upto m old) (λ new. ⊎_elim (λ e. let f = eqb-true m n e in omega arith) (λ f. absurd (false≢true f)) (or_cases (m == n) false new)) (or_cases (has xs m) ((m == n) || false) (sym (is m) ∙ h)))
-    (λ k x g small slot. is x.number ∙ or_left (has xs x.number) _ (all k x g small slot))
 
 -- ---- rising numbers that end with one, whose lines no population fits
 
@@ -134,17 +180,60 @@ upto_last numbers n rising last m h =
 contradicted : (es : List Entry) (i : ℕ) → IsContradictedAt es i → IsPossible es → ⊥
 contradicted es i c p = c.impossible (IsPossible-front (take (i + 1) es) (drop (i + 1) es) (subst IsPossible (sym (take-append-drop (i + 1) es)) p))
 
--- what a log of the kept lines tells
-pub kept_conflict : (lines : List LogLine) (n : ℕ) (numbers : List ℕ) (r : Option LogValue) (log : LogValue) (small : List LogLine) (i : ℕ) → IsStrictlyIncreasing numbers → 0 < length numbers → get_or numbers (length numbers - 1) 0 ≡ n
-    → IfSome r (λ l. (p : List ℕ) → FitsLines lines numbers p → CouldHaveGiven p (entries l.lines)) → r ≡ Some log → small ≡ log.lines → IsContradictedAt (entries small) i → IsConflictAt lines n numbers
-kept_conflict lines n numbers r log small i rising some last given is lines_are at =
-    let given' = subst (λ o. IfSome o (λ l. (p : List ℕ) → FitsLines lines numbers p → CouldHaveGiven p (entries l.lines))) is given in
-    record {
-      rising = rising;
-      ends = member_at numbers (length numbers - 1) n 0 (omega arith) last;
-      upto = upto_last numbers n rising last;
-      unfit = λ p population fits. contradicted (entries log.lines) i (subst (λ ls. IsContradictedAt (entries ls) i) lines_are at) (p, population, given' p fits);
-    }
+-- what the kept lines tell
+pub kept_conflict : (lines : List LogLine) (n : ℕ) (numbers : List ℕ) (kept : List LogLine) (i : ℕ) → IsStrictlyIncreasing numbers → 0 < length numbers → get_or numbers (length numbers - 1) 0 ≡ n → ((m : ℕ) → has numbers m ≡ true → IsSlotLine lines m)
+    → ((p : List ℕ) → FitsLines lines numbers p → CouldHaveGiven p (entries kept)) → IsContradictedAt (entries kept) i → IsConflictAt lines n numbers
+kept_conflict lines n numbers kept i rising some last slots given at = record {
+  rising = rising;
+  ends = member_at numbers (length numbers - 1) n 0 (omega arith) last;
+  upto = upto_last numbers n rising last;
+  slots = slots;
+  unfit = λ p population fits. contradicted (entries kept) i at (p, population, given p fits);
+}
+
+-- what an error brings with it
+pub err_of : {T E : Type 0} (P : T → Type 0) (Q : E → Type 0) (r : Result T E) → is_err r ≡ true → MatchResult r P Q → (e : E) × Q e
+err_of P Q (Ok x) err m = cc
+err_of P Q (Err e) err m = (e, m)
+
+-- ---- the line with a number
+
+-- is at one place
+same_place : (k : ℕ) (lines : List LogLine) (i j : ℕ) (l x : LogLine) → IsRisingFrom k lines → slice_get lines i ≡ Some l → slice_get lines j ≡ Some x → l.number ≡ x.number → i ≡ j
+same_place k [] i j l x r g h e = cc
+same_place k (y ∷ lines) zero zero l x r g h e = refl
+same_place k (y ∷ lines) zero (suc j) l x r g h e =
+    let above = number_above j y.number lines x r.1 h in
+    let same : y ≡ l = cc in
+    let n = ap (λ (z : LogLine). z.number) same in
+    omega arith
+same_place k (y ∷ lines) (suc i) zero l x r g h e =
+    let above = number_above i y.number lines l r.1 g in
+    let same : y ≡ x = cc in
+    let n = ap (λ (z : LogLine). z.number) same in
+    omega arith
+same_place k (y ∷ lines) (suc i) (suc j) l x r g h e = ap suc (same_place y.number lines i j l x r.1 g h e)
+
+line_with : (lines : List LogLine) (n i : ℕ) (l : LogLine) (r : Reply) → slice_get lines i ≡ Some l → l.number ≡ n → slice_get (entries lines) i ≡ Some (Heard r) → l ≡ record { number = n; item = Heard r }
+line_with lines n i l r k here heard =
+    let item : Some l.item ≡ Some (Heard r) = sym (slice_get-map (λ (x : LogLine). x.item) lines i ∙ ap (option_map (λ (x : LogLine). x.item)) k) ∙ heard in
+    let item' : l.item ≡ Heard r = cc in
+    rw (here, item') refl
+
+-- so what is known of that place is known of the number
+pub silenced_there : (lines : List LogLine) (n i : ℕ) (l : LogLine) (o : Option ℕ) → IsRisingFrom 0 lines → slice_get lines i ≡ Some l → l.number ≡ n
+    → MatchOption o ((r : Reply) → slice_get (entries lines) i ≡ Some (Heard r) → is_quiet (entries lines) i r.uid ≡ false) (λ m. (r : Reply) × (slice_get (entries lines) i ≡ Some (Heard r)) × IsSilencedBefore lines i r.uid m)
+    → MatchOption o (IsNoQuietReply lines n) (IsSilencedBy lines n)
+silenced_there lines n i l None rising k here none = λ j r g.
+    let same : j ≡ i = same_place 0 lines j i _ l rising g k (sym here) in
+    let there = slice_get-map (λ (x : LogLine). x.item) lines j ∙ ap (option_map (λ (x : LogLine). x.item)) g in
+    subst (λ p. is_quiet (entries lines) p r.uid ≡ false) (sym same) (none r (subst (λ p. slice_get (entries lines) p ≡ Some (Heard r)) same there))
+silenced_there lines n i l (Some m) rising k here some = record {
+  place = i;
+  reply = some.0;
+  there = k ∙ ap (λ (x : LogLine). Some x) (line_with lines n i l some.0 k here some.1);
+  by = some.2;
+}
 
 -- ---- more lines
 

@@ -1,19 +1,21 @@
 -- Entries of which some slots are kept, each behind a request of its own: the same tags are Quiet, and a population that fits the kept slots could have given them.
-use Rattle.std.proofs.Common.{◌≡◌, ℕ, suc, ◌+◌, ◌-◌, List, [], ◌∷◌, ◌++◌, length, Bool, true, false, not, ◌&&◌, ◌||◌, Option, Some, sym, ap, ◌∙◌, subst, arith, length-append, add-one}
-use Rattle.std.specs.Prelude.{slice_get, if◌then◌else◌, Result, Ok, Err, IfOk}
-use Rattle.std.specs.declared.alloc.AllocError.{AllocError}
+use Rattle.std.proofs.Common.{◌≡◌, ℕ, suc, ◌+◌, ◌-◌, List, [], ◌∷◌, ◌++◌, length, Bool, true, false, not, ◌&&◌, ◌||◌, Option, Some, sym, ap, ◌∙◌, subst, arith, length-append, add-one, refl}
+use Rattle.std.specs.Prelude.{slice_get, if◌then◌else◌, None, Result, Ok, Err, OnOk}
 use Rattle.std.proofs.lemmas.List.Elements.{filter_agree}
 use Rattle.vic_frame.specs.Masks.{BitMask}
 use Rattle.vic_frame.specs.declared.request.Request.TheVariants.{Inventory}
+use Rattle.vic_frame.specs.declared.request.Request.{Request}
 use Rattle.vic_log.specs.declared.entry.Entry.{Entry}
 use Rattle.vic_log.specs.declared.entry.Entry.TheVariants.{Sent, Silent, Collision, Heard, Listed, Garbled, FieldCycle}
-use Rattle.vic_log.specs.Rounds.{mask_at, mask_of_slot, mask_since, ends_round, opener}
+use Rattle.vic_log.specs.declared.entry.LogLine.{LogLine}
+use Rattle.vic_log.specs.Rounds.{is_slot, mask_at, mask_of_slot, mask_since, ends_round, opener, slots_left}
 use Rattle.vic_log.specs.Quiet.{is_quiet, silences, wakes}
 use Rattle.vic_log.specs.Populations.{Outcome, answers_at, outcome_of, outcome_at, Fits, CouldHaveGiven}
-use Rattle.vic_log.specs.Order.{AreValid}
+use Rattle.vic_log.specs.Order.{AreValid, entries, listed, refusal}
 use Rattle.vic_log.specs.Log.{IsValidEntry}
 use Rattle.vic_log.proofs.Places.{quiet_agrees, agree_upto, slice_get_last, CouldHaveGiven-push}
-use Rattle.vic_report.specs.KeptLogs.{SameQuiet, HasSlotAdded, KeepsLine}
+use Rattle.vic_log.proofs.Push.{IsInOrder-push, entries-push, last_from-push, listed-append, rising-push, slots_left-push, valid-push}
+use Rattle.vic_report.specs.KeptLogs.{AreNumbered, SameQuiet, HasSlotAdded, KeepsLine}
 
 -- who is Quiet after an entry
 abbrev pub quiet_after : Option Entry → Bool → ℕ → Bool
@@ -48,48 +50,82 @@ mask_opened es m =
 same_quiet_opened : (kept es : List Entry) (i : ℕ) (m : BitMask) → SameQuiet kept es i → SameQuiet (kept ++ Sent (Inventory 2 false m) ∷ []) es i
 same_quiet_opened kept es i m same u = quiet_pushed kept (Sent (Inventory 2 false m)) u ∙ same u
 
-pub same_quiet_slot : (old new es : List Entry) (i : ℕ) (mask : Option BitMask) (e : Entry) → slice_get es i ≡ Some e → HasSlotAdded old mask e new → SameQuiet old es i → SameQuiet new es (i + 1)
-same_quiet_slot old new es i mask e k added same =
-    subst (λ fs. SameQuiet fs es (i + 1)) (sym added.2)
-    (same_quiet_pushed (old ++ Sent (Inventory 2 false added.0) ∷ []) es i e k (same_quiet_opened old es i added.0 same))
+pub same_quiet_slot : (old new es : List Entry) (i : ℕ) (m : BitMask) (e : Entry) → slice_get es i ≡ Some e → HasSlotAdded old m e new → SameQuiet old es i → SameQuiet new es (i + 1)
+same_quiet_slot old new es i m e k added same =
+    subst (λ fs. SameQuiet fs es (i + 1)) (sym added)
+    (same_quiet_pushed (old ++ Sent (Inventory 2 false m) ∷ []) es i e k (same_quiet_opened old es i m same))
 
 same_outcome : (fs es : List Entry) (n i : ℕ) (p : List ℕ) → mask_at es i ≡ mask_at fs n → ((u : ℕ) → is_quiet fs n u ≡ is_quiet es i u) → outcome_at es i p ≡ outcome_at fs n p
 same_outcome fs es n i p mask quiet =
     ap outcome_of (filter_agree (answers_at es i) (answers_at fs n) (λ u. let q = quiet u in rw (mask, q)) p)
 
 -- and the entry behind it fits where it fits among the others
-pub given_with_slot : (old new es : List Entry) (i : ℕ) (mask : Option BitMask) (e : Entry) (p : List ℕ) → mask ≡ mask_at es i → HasSlotAdded old mask e new → SameQuiet old es i → Fits e (outcome_at es i p) → CouldHaveGiven p old → CouldHaveGiven p new
-given_with_slot old new es i mask e p here added same fits given =
-    let m = added.0 in
+pub given_with_slot : (old new es : List Entry) (i : ℕ) (m : BitMask) (e : Entry) (p : List ℕ) → Some m ≡ mask_at es i → HasSlotAdded old m e new → SameQuiet old es i → Fits e (outcome_at es i p) → CouldHaveGiven p old → CouldHaveGiven p new
+given_with_slot old new es i m e p here added same fits given =
     let fs = old ++ Sent (Inventory 2 false m) ∷ [] in
-    let masks = sym here ∙ (added.1 ∙ sym (mask_opened old m)) in
-    subst (CouldHaveGiven p) (sym added.2)
+    let masks = sym here ∙ sym (mask_opened old m) in
+    subst (CouldHaveGiven p) (sym added)
     (CouldHaveGiven-push p fs e (CouldHaveGiven-push p old (Sent (Inventory 2 false m)) given tt)
     (subst (Fits e) (same_outcome fs es (length fs) i p masks (same_quiet_opened old es i m same)) fits))
 
 -- ---- what `pass_line` ensures
 
-abbrev pub PassesLine : Result Bool AllocError → ℕ → Option BitMask → Bool → Entry → List Entry → List Entry → Type 0
-PassesLine r i mask is_kept e old new =
-    IfOk r (λ yes. (es : List Entry) → yes ≡ true → slice_get es i ≡ Some e → mask ≡ mask_at es i → KeepsLine es i is_kept e old new)
-
-pub slot_passed : (r : Result Bool AllocError) (i : ℕ) (mask : Option BitMask) (is_kept : Bool) (e : Entry) (old new : List Entry) → is_kept ≡ true → IfOk r (λ yes. yes ≡ true → HasSlotAdded old mask e new) → PassesLine r i mask is_kept e old new
-slot_passed (Ok done) i mask is_kept e old new kept added = λ es y k here. record {
-  quiet = λ same. same_quiet_slot old new es i mask e k (added y) same;
-  given = λ p same fits g. given_with_slot old new es i mask e p here (added y) same (fits kept) g;
-}
-slot_passed (Err x) i mask is_kept e old new kept added = tt
+-- a slot line that is kept, behind its request
+pub slot_passed : {T E : Type 0} (r : Result T E) (m : BitMask) (is_kept : Bool) (e : Entry) (old mid new : List Entry) → is_kept ≡ true → mid ≡ old ++ Sent (Inventory 2 false m) ∷ [] → OnOk r (new ≡ mid ++ e ∷ []) → OnOk r ((es : List Entry) (i : ℕ) → slice_get es i ≡ Some e → Some m ≡ mask_at es i → KeepsLine es i is_kept e old new)
+slot_passed (Ok x) m is_kept e old mid new kept opened added =
+    let both : HasSlotAdded old m e new = added ∙ ap (λ fs. fs ++ e ∷ []) opened in
+    λ es i k here. record {
+      quiet = λ same. same_quiet_slot old new es i m e k both same;
+      given = λ p same fits g. given_with_slot old new es i m e p here both same (fits kept) g;
+    }
+slot_passed (Err x) m is_kept e old mid new kept opened added = tt
 
 -- an entry that fits any outcome
 abbrev pub FitsAny : Entry → Type 0
 FitsAny e = (o : Outcome) → Fits e o
 
-pub entry_passed : (r : Result Bool AllocError) (i : ℕ) (mask : Option BitMask) (is_kept : Bool) (e : Entry) (old new : List Entry) → FitsAny e → IfOk r (λ yes. yes ≡ true → new ≡ old ++ e ∷ []) → PassesLine r i mask is_kept e old new
-entry_passed (Ok done) i mask is_kept e old new any added = λ es y k here. record {
-  quiet = λ same. subst (λ fs. SameQuiet fs es (i + 1)) (sym (added y)) (same_quiet_pushed old es i e k same);
-  given = λ p same fits g. subst (CouldHaveGiven p) (sym (added y)) (CouldHaveGiven-push p old e g (any (outcome_at old (length old) p)));
+pub entry_passed : {T E : Type 0} (r : Result T E) (i : ℕ) (mask : Option BitMask) (is_kept : Bool) (e : Entry) (old new : List Entry) → FitsAny e → OnOk r (new ≡ old ++ e ∷ []) → OnOk r ((es : List Entry) → slice_get es i ≡ Some e → mask ≡ mask_at es i → KeepsLine es i is_kept e old new)
+entry_passed (Ok x) i mask is_kept e old new any added = λ es k here. record {
+  quiet = λ same. subst (λ fs. SameQuiet fs es (i + 1)) (sym added) (same_quiet_pushed old es i e k same);
+  given = λ p same fits g. subst (CouldHaveGiven p) (sym added) (CouldHaveGiven-push p old e g (any (outcome_at old (length old) p)));
 }
 entry_passed (Err x) i mask is_kept e old new any added = tt
+
+-- ---- entries that may follow others that list nothing
+
+pub request_follows : (es : List Entry) (q : Request) → listed es ≡ [] → refusal es (Sent q) ≡ None
+request_follows es q none = rw none refl
+
+pub cycle_follows : (es : List Entry) → listed es ≡ [] → refusal es FieldCycle ≡ None
+cycle_follows es none = rw none refl
+
+slot_left : (es : List Entry) (m : BitMask) → slots_left (es ++ Sent (Inventory 2 false m) ∷ []) (length (es ++ Sent (Inventory 2 false m) ∷ [])) ≡ 1
+slot_left es m =
+    let q = Sent (Inventory 2 false m) in
+    ap (slots_left (es ++ q ∷ [])) (length-append es (q ∷ []) ∙ add-one (length es)) ∙ slots_left-push es q
+
+pub slot_follows : (es : List Entry) (m : BitMask) (e : Entry) → is_slot e ≡ true → refusal (es ++ Sent (Inventory 2 false m) ∷ []) e ≡ None
+slot_follows es m (Sent q) slot = cc
+slot_follows es m (Listed u) slot = cc
+slot_follows es m FieldCycle slot = cc
+slot_follows es m Silent slot = rw (slot_left es m) refl
+slot_follows es m Collision slot = rw (slot_left es m) refl
+slot_follows es m (Heard r) slot = rw (slot_left es m) refl
+slot_follows es m Garbled slot = rw (slot_left es m) refl
+
+pub numbered_more : (lines : List LogLine) (l : LogLine) → AreNumbered lines → l.number ≡ length lines + 1 → IsValidEntry l.item → listed (l.item ∷ []) ≡ [] → refusal (entries lines) l.item ≡ None → AreNumbered (lines ++ l ∷ [])
+numbered_more lines l a number valid lists follows =
+    let es = entries-push lines l in
+    let last = a.last in
+    record {
+      log = record {
+        order = rw es (IsInOrder-push (entries lines) l.item a.log.order follows);
+        valid = rw es (valid-push (entries lines) l.item a.log.valid valid);
+        rising = rising-push 0 lines l a.log.rising (omega arith);
+      };
+      unlisted = ap listed es ∙ (listed-append (entries lines) (l.item ∷ []) ∙ (ap (λ us. us ++ listed (l.item ∷ [])) a.unlisted ∙ lists));
+      last = last_from-push 0 lines l ∙ (number ∙ sym (length-append lines (l ∷ [])));
+    }
 
 pub valid_entry : (es : List Entry) (i : ℕ) (e : Entry) → AreValid es → slice_get es i ≡ Some e → IsValidEntry e
 valid_entry es i (Sent q) valid k = valid i q k
@@ -99,3 +135,14 @@ valid_entry es i Silent valid k = tt
 valid_entry es i Collision valid k = tt
 valid_entry es i (Heard r) valid k = tt
 valid_entry es i Garbled valid k = tt
+
+pub none_numbered : AreNumbered []
+none_numbered = record {
+  log = record {
+    order = record { rounds = λ i e k s. cc; requests_first = λ i j u q below k. cc; cycles_first = λ i j u below k. cc; once = λ i j u w below k. cc };
+    valid = λ i q k. cc;
+    rising = tt;
+  };
+  unlisted = refl;
+  last = refl;
+}

@@ -1,14 +1,15 @@
 -- Why a log became one that no population could have given (profile): some of its slot lines, which
 -- no population fits together.
-use Rattle.std.specs.Prelude.{◌≡◌, ℕ, ◌<◌, ◌≤◌, true, Some, List, slice_get, IfSome}
+use Rattle.std.specs.Prelude.{◌≡◌, ◌≢◌, ℕ, ◌<◌, ◌≤◌, true, false, Some, List, slice_get, MatchOption}
 use Rattle.std.specs.List.Sorted.{IsStrictlyIncreasing}
 use Rattle.vic_frame.specs.Uids.{has}
 use Rattle.vic_frame.specs.Replies.{Reply}
-use Rattle.vic_log.specs.declared.entry.Entry.TheVariants.{Heard}
+use Rattle.vic_log.specs.declared.entry.Entry.TheVariants.{Heard, FieldCycle}
 use Rattle.vic_log.specs.declared.entry.LogLine.{LogLine}
 use Rattle.vic_log.specs.Order.{entries}
 use Rattle.vic_log.specs.Populations.{IsPopulation, outcome_at, Fits}
 use Rattle.vic_log.specs.Quiet.{is_quiet, silences}
+use Rattle.vic_log.specs.Rounds.{is_slot}
 use Rattle.vic_report.specs.declared.conflict.Conflict.{Conflict}
 use Rattle.vic_verdict.specs.declared.judging.Verdict.TheVariants.{Impossible}
 use Rattle.vic_verdict.specs.Verdict.{IsVerdict}
@@ -19,23 +20,33 @@ FitsLines lines numbers p =
     (i : ℕ) (l : LogLine) → slice_get lines i ≡ Some l → has numbers l.number ≡ true
     → Fits l.item (outcome_at (entries lines) i p)
 
--- numbers of lines, in rising order, the last one n, which no population fits together
+-- the line with this number tells of a slot
+pub record IsSlotLine (lines : List LogLine) (n : ℕ) : Type 0 where
+  pub place : ℕ
+  pub line : LogLine
+  pub there : slice_get lines place ≡ Some line
+  pub number : line.number ≡ n
+  pub slot : is_slot line.item ≡ true
+
+-- numbers of slot lines, in rising order, the last one n, which no population fits together
 pub record IsConflictAt (lines : List LogLine) (n : ℕ) (numbers : List ℕ) : Type 0 where
   pub rising : IsStrictlyIncreasing numbers
   pub ends : has numbers n ≡ true
   pub upto : (m : ℕ) → has numbers m ≡ true → m ≤ n
+  pub slots : (m : ℕ) → has numbers m ≡ true → IsSlotLine lines m
   pub unfit : (p : List ℕ) → IsPopulation p → FitsLines lines numbers p → ⊥
 
--- a line with this number, before place i, is a Stay Quiet with the UID, which is Quiet at place i
--- by it: no field cycle stands between
+-- the line with this number is the last Stay Quiet with the UID before place i, and no field cycle
+-- stands between
 pub record IsSilencedBefore (lines : List LogLine) (i u n : ℕ) : Type 0 where
   pub place : ℕ
   pub before : place < i
   pub line : LogLine
   pub there : slice_get lines place ≡ Some line
   pub number : line.number ≡ n
-  pub silences : silences (Some line.item) u ≡ true
-  pub quiet : is_quiet (entries lines) i u ≡ true
+  pub stay_quiet : silences (Some line.item) u ≡ true
+  pub last : (k : ℕ) → place < k → k < i → silences (slice_get (entries lines) k) u ≡ false
+  pub powered : (k : ℕ) → place < k → k < i → slice_get (entries lines) k ≢ Some FieldCycle
 
 -- the line with this number is a reply of a UID that is Quiet there by the line with another
 pub record IsSilencedBy (lines : List LogLine) (n silencer : ℕ) : Type 0 where
@@ -44,9 +55,16 @@ pub record IsSilencedBy (lines : List LogLine) (n silencer : ℕ) : Type 0 where
   pub there : slice_get lines place ≡ Some (record { number = n; item = Heard reply })
   pub by : IsSilencedBefore lines place reply.uid silencer
 
--- the first impossible line, lines that no population fits together, and what silenced the tag
--- whose reply it is, where it was Quiet there
+-- no line with this number is a reply of a UID that is Quiet there
+abbrev pub IsNoQuietReply : List LogLine → ℕ → Type 0
+IsNoQuietReply lines n =
+    (i : ℕ) (r : Reply) → slice_get lines i ≡ Some (record { number = n; item = Heard r })
+    → is_quiet (entries lines) i r.uid ≡ false
+
+-- the first impossible line, lines that no population fits together, and, exactly if that line is
+-- a reply of a tag that was Quiet there, what silenced the tag
 pub record IsConflict (lines : List LogLine) (c : Conflict) : Type 0 where
   pub line : IsVerdict lines (Impossible c.line)
   pub lines_unfit : IsConflictAt lines c.line c.lines.items
-  pub silenced : IfSome c.silenced_by (IsSilencedBy lines c.line)
+  pub silenced : MatchOption c.silenced_by (IsNoQuietReply lines c.line)
+      (IsSilencedBy lines c.line)

@@ -1,21 +1,29 @@
--- A log of some slot lines of another one.
-use Rattle.std.specs.Prelude.{◌≡◌, ℕ, ◌+◌, Bool, true, false, Option, Some, List, [], ◌∷◌, ◌++◌, length}
+-- Lines of some slots of a log.
+use Rattle.std.specs.Prelude.{◌≡◌, ℕ, ◌+◌, Bool, true, false, List, [], ◌∷◌, ◌++◌, length}
 use Rattle.vic_frame.specs.Masks.{BitMask}
 use Rattle.vic_frame.specs.declared.request.Request.TheVariants.{Inventory}
 use Rattle.vic_log.specs.declared.entry.Entry.{Entry}
 use Rattle.vic_log.specs.declared.entry.Entry.TheVariants.{Sent}
+use Rattle.vic_log.specs.declared.entry.LogLine.{LogLine}
+use Rattle.vic_log.specs.Log.{last_from}
+use Rattle.vic_log.specs.Order.{entries, listed}
 use Rattle.vic_log.specs.Populations.{outcome_at, Fits, CouldHaveGiven}
 use Rattle.vic_log.specs.Quiet.{is_quiet}
+use Rattle.vic_verdict.specs.LogLines.{AreLogLines}
 
 -- at the end of the one entries the same tags are Quiet as at place i of the others
 abbrev pub SameQuiet : List Entry → List Entry → ℕ → Type 0
 SameQuiet kept es i = (u : ℕ) → is_quiet kept (length kept) u ≡ is_quiet es i u
 
 -- two entries more: a request of one slot with this mask, and what its slot was found to hold
-abbrev pub HasSlotAdded : List Entry → Option BitMask → Entry → List Entry → Type 0
-HasSlotAdded old mask e new =
-    (m : BitMask) × (mask ≡ Some m)
-    × (new ≡ (old ++ Sent (Inventory 2 false m) ∷ []) ++ e ∷ [])
+abbrev pub HasSlotAdded : List Entry → BitMask → Entry → List Entry → Type 0
+HasSlotAdded old m e new = new ≡ (old ++ Sent (Inventory 2 false m) ∷ []) ++ e ∷ []
+
+-- the lines of a log that lists nothing, numbered from 1
+pub record AreNumbered (lines : List LogLine) : Type 0 where
+  pub log : AreLogLines lines
+  pub unlisted : listed (entries lines) ≡ []
+  pub last : last_from 0 lines ≡ length lines
 
 -- the old and the new kept entries stand beside the others before and after place i, with its entry
 -- e, if it is kept

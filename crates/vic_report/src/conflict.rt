@@ -1,22 +1,22 @@
 //! Why a log became one that no population could have given: slot lines that no population fits
 //! together.
 
-ghost use Rattle.std.specs.Prelude.{◌≡◌, ◌⊎◌, ℕ, ◌≤◌, IfOk, OnOk, true};
+ghost use Rattle.std.specs.Prelude.{◌≡◌, ◌⊎◌, ℕ, ◌≤◌, IfOk, OnOk, length, true};
 ghost use Rattle.std.specs.List.Sorted.{IsStrictlyIncreasing};
 ghost use Rattle.vic_frame.specs.Uids.{has};
 ghost use Rattle.vic_log.specs.Order.{entries};
 ghost use Rattle.vic_log.specs.Rounds.{is_slot};
-ghost use Rattle.vic_report.specs.Conflicts.{IsConflict, IsConflictAt};
+ghost use Rattle.vic_report.specs.Conflicts.{IsConflict, IsConflictAt, IsSlotLine};
 ghost use Rattle.vic_verdict.specs.LogLines.{AreLogLines};
 ghost use Rattle.vic_verdict.specs.Possible.{IsContradiction};
 ghost use Rattle.vic_verdict.specs.Verdict.{IsVerdict};
 ghost use Rattle.vic_verdict.specs.declared.judging.Verdict.TheVariants.{Impossible};
 
-use crate::kept_log::log_of_kept;
+use crate::kept_log::kept_lines;
 use crate::silencer::silencer_of;
 use std::alloc::{AllocError, Global};
 use vic_guess::guess_conflict;
-use vic_log::PackedLine;
+use vic_log::{MAX_LINES, PackedLine};
 use vic_tree::OpenSet;
 use vic_verdict::{Contradiction, first_impossible_line, open_and_met};
 
@@ -28,8 +28,8 @@ pub struct Conflict {
     pub line: u32,
     /// The numbers of the lines, in rising order, `line` the last.
     pub lines: Vec<u32>,
-    /// If there is one, `line` is a reply of a tag that is Quiet there, and this is the number of a
-    /// line that made it so.
+    /// If `line` is a reply of a tag that is Quiet there, the number of the last Stay Quiet that made
+    /// it so.
     pub silenced_by: Option<u32>,
 }
 
@@ -40,6 +40,7 @@ pub(crate) fn find_conflict<S: OpenSet>(
     contradiction: Contradiction,
 ) -> Result<Conflict, AllocError>
     requires lines { AreLogLines lines.now }
+    requires limit { length lines.now ≤ MAX_LINES }
     requires impossible { IsContradiction (entries lines.now) contradiction }
     ensures { IfOk result (IsConflict lines.now) }
 {
@@ -65,6 +66,7 @@ fn lines_of_conflict<S: OpenSet>(
     last: u32,
 ) -> Result<Vec<u32>, AllocError>
     requires lines { AreLogLines lines.now }
+    requires limit { length lines.now ≤ MAX_LINES }
     requires impossible { IsVerdict lines.now (Impossible last) }
     ensures { IfOk result (λ numbers. IsConflictAt lines.now last numbers.items) }
 {
@@ -84,8 +86,8 @@ fn put_numbers_in_order(numbers: &mut Vec<u32>)
     numbers.dedup();
 }
 
-/// Whether rising numbers end with one, and a log of their lines alone is one that no population
-/// could have given.
+/// Whether rising numbers are those of slot lines, the last one of a given line, and a log of these
+/// lines alone is one that no population could have given.
 fn is_conflict<S: OpenSet>(
     alloc: Global,
     lines: &[PackedLine],
@@ -93,25 +95,44 @@ fn is_conflict<S: OpenSet>(
     last: u32,
 ) -> Result<bool, AllocError>
     requires lines { AreLogLines lines.now }
+    requires limit { length lines.now ≤ MAX_LINES }
     requires rising { IsStrictlyIncreasing numbers.now }
     ensures { IfOk result (λ b. b ≡ true → IsConflictAt lines.now last numbers.now) }
 {
     let Some(end) = numbers.last() else {
         return Ok(false);
     };
-    if *end != last {
+    if *end != last || !are_slot_lines(lines, numbers) {
         return Ok(false);
     }
-    let Some(log) = log_of_kept(alloc, lines, numbers)? else {
-        return Ok(false);
-    };
-    match open_and_met::<S>(alloc, log.lines())? {
-        Ok(_) => Ok(false),
-        Err(_) => Ok(true),
+    let kept = kept_lines(alloc, lines, numbers)?;
+    Ok(open_and_met::<S>(alloc, &kept)?.is_err())
+}
+
+/// Whether each of some numbers is that of a slot line.
+fn are_slot_lines(lines: &[PackedLine], numbers: &[u32]) -> bool
+    ensures { result ≡ true → (m : ℕ) → has numbers.now m ≡ true → IsSlotLine lines.now m }
+{
+    for number in numbers {
+        if !is_slot_line(lines, *number) {
+            return false;
+        }
+    }
+    true
+}
+
+/// Whether a number is that of a slot line. Those of the lines rise.
+fn is_slot_line(lines: &[PackedLine], number: u32) -> bool
+    ensures { result ≡ true → IsSlotLine lines.now number }
+{
+    let place = lines.partition_point(|line| line.number() < number);
+    match lines.get(place) {
+        Some(line) => line.number() == number && line.item().is_slot(),
+        None => false,
     }
 }
 
-/// The slot lines up to one that no population could have given.
+/// The slot lines up to one that no population could have given, which is one of them.
 fn slot_lines_to(alloc: Global, lines: &[PackedLine], last: u32) -> Result<Vec<u32>, AllocError>
     requires lines { AreLogLines lines.now }
     requires impossible { IsVerdict lines.now (Impossible last) }
@@ -121,7 +142,6 @@ fn slot_lines_to(alloc: Global, lines: &[PackedLine], last: u32) -> Result<Vec<u
     for line in lines {
         push_slot_line(&mut numbers, line, last)?;
     }
-    numbers.push(last)?;
     put_numbers_in_order(&mut numbers);
     Ok(numbers)
 }
@@ -129,7 +149,8 @@ fn slot_lines_to(alloc: Global, lines: &[PackedLine], last: u32) -> Result<Vec<u
 /// Adds the number of a line, if it is a slot line up to one.
 fn push_slot_line(numbers: &mut Vec<u32>, line: &PackedLine, last: u32) -> Result<(), AllocError>
     ensures upto { OnOk result ((m : ℕ) → has numbers.new.items m ≡ true
-        → (has numbers.old.items m ≡ true) ⊎ (m ≤ last)) }
+        → (has numbers.old.items m ≡ true)
+        ⊎ ((line.now.number ≡ m) × (m ≤ last) × (is_slot line.now.item ≡ true))) }
     ensures kept { OnOk result ((m : ℕ) → has numbers.old.items m ≡ true
         → has numbers.new.items m ≡ true) }
     ensures added { OnOk result (line.now.number ≤ last → is_slot line.now.item ≡ true

@@ -1,47 +1,46 @@
-//! A log of some slot lines of another one, each with the mask that it has there, and with the same
-//! tags Quiet.
+//! The lines of some slots of a log, each with the mask that it has there, and with the same tags
+//! Quiet.
 
-ghost use Rattle.std.specs.Prelude.{◌≡◌, ℕ, ◌+◌, ◌++◌, ◌∷◌, [], List, Some, IfOk, IfSome, true, slice_get};
+ghost use Rattle.std.specs.Prelude.{◌≡◌, ℕ, ◌+◌, ◌*◌, ◌<◌, ◌≤◌, ◌++◌, ◌∷◌, [], List, None, Some, IfOk, OnOk, true, false, length, slice_get};
 ghost use Rattle.std.specs.List.Sorted.{IsStrictlyIncreasing};
 ghost use Rattle.vic_frame.specs.Uids.{has};
 ghost use Rattle.vic_log.specs.declared.entry.Entry.{Entry as EntryValue};
-ghost use Rattle.vic_log.specs.declared.entry.Version.TheVariants.{V2};
 ghost use Rattle.vic_log.specs.Log.{IsValidEntry};
-ghost use Rattle.vic_log.specs.Order.{entries};
+ghost use Rattle.vic_log.specs.Order.{entries, listed, refusal};
 ghost use Rattle.vic_log.specs.Populations.{CouldHaveGiven};
-ghost use Rattle.vic_log.specs.Rounds.{mask_at};
+ghost use Rattle.vic_log.specs.Rounds.{is_slot, mask_at};
 ghost use Rattle.vic_report.specs.Conflicts.{FitsLines};
 ghost use Rattle.vic_verdict.specs.LogLines.{AreLogLines};
-ghost use Rattle.vic_report.specs.KeptLogs.{HasSlotAdded, KeepsLine};
+ghost use Rattle.vic_report.specs.KeptLogs.{AreNumbered, HasSlotAdded, KeepsLine};
 
 use std::alloc::{AllocError, Global};
 use vic_frame::{Mask, Request};
-use vic_log::{Entry, Log, MAX_LINES, PackedLine, PushFault, RoundCursor, Version};
+use vic_log::{Entry, MAX_LINES, PackedLine, RoundCursor};
 
-/// A log of the slot lines with some numbers. Each has a request of its own that asks for its mask.
-/// None where it would be too long, or a slot has no mask.
-pub(crate) fn log_of_kept(
+/// The slot lines with some numbers. Each has a request of its own that asks for its mask, so there
+/// may be more lines than a text can have.
+pub(crate) fn kept_lines(
     alloc: Global,
     lines: &[PackedLine],
     numbers: &[u32],
-) -> Result<Option<Log>, AllocError>
+) -> Result<Vec<PackedLine>, AllocError>
     requires lines { AreLogLines lines.now }
+    requires limit { length lines.now ≤ MAX_LINES }
     requires rising { IsStrictlyIncreasing numbers.now }
-    ensures { IfOk result (λ r. IfSome r (λ log. (p : List ℕ)
-        → FitsLines lines.now numbers.now p → CouldHaveGiven p (entries log.lines))) }
+    ensures log { IfOk result (λ kept. AreLogLines kept.items) }
+    ensures given { IfOk result (λ kept. (p : List ℕ)
+        → FitsLines lines.now numbers.now p → CouldHaveGiven p (entries kept.items)) }
 {
-    let mut log = Log::with_version(alloc, Version::V2);
+    let mut kept = Vec::new(alloc);
     let mut cursor = RoundCursor::first();
     for (index, line) in lines.iter().enumerate() {
         let entry = line.item();
         let mask = cursor.mask();
         let is_kept = has_number(numbers, line.number());
-        if !pass_line(&mut log, &mask, index, &entry, is_kept)? {
-            return Ok(None);
-        }
+        pass_line(&mut kept, &mask, index, &entry, is_kept)?;
         cursor.advance(&entry);
     }
-    Ok(Some(log))
+    Ok(kept)
 }
 
 /// Whether some rising numbers have one.
@@ -52,72 +51,74 @@ fn has_number(numbers: &[u32], number: u32) -> bool
     numbers.binary_search(&number).is_ok()
 }
 
-/// Goes past a line, and adds its entry if it is kept or makes tags Quiet or Ready. Whether there
-/// was room.
+/// Goes past a line, and adds its entry if it is kept or makes tags Quiet or Ready.
 fn pass_line(
-    log: &mut Log,
+    kept: &mut Vec<PackedLine>,
     mask: &Option<Mask>,
     index: usize,
     entry: &Entry,
     is_kept: bool,
-) -> Result<bool, AllocError>
+) -> Result<(), AllocError>
+    requires numbered { AreNumbered kept.old.items }
+    requires limit { length kept.old.items < 2 * MAX_LINES }
     requires valid { IsValidEntry entry.now }
-    requires version { log.old.version ≡ V2 }
-    ensures version { log.new.version ≡ V2 }
-    ensures kept { IfOk result (λ yes. (es : List EntryValue) → yes ≡ true
-        → slice_get es index ≡ Some entry.now → mask.now ≡ mask_at es index
-        → KeepsLine es index is_kept entry.now (entries log.old.lines) (entries log.new.lines)) }
+    ensures numbered { OnOk result (AreNumbered kept.new.items) }
+    ensures limit { OnOk result (length kept.new.items ≤ length kept.old.items + 2) }
+    ensures kept { OnOk result ((es : List EntryValue) → slice_get es index ≡ Some entry.now
+        → mask.now ≡ mask_at es index
+        → KeepsLine es index is_kept entry.now (entries kept.old.items) (entries kept.new.items)) }
 {
     match *entry {
-        Entry::Sent(Request::StayQuiet { .. }) | Entry::FieldCycle => push_next(log, *entry),
-        Entry::Sent(Request::Inventory { .. }) | Entry::Listed(_) => Ok(true),
-        Entry::Silent | Entry::Collision | Entry::Heard(_) | Entry::Garbled => {
-            if is_kept {
-                push_slot(log, mask, entry)
-            } else {
-                Ok(true)
-            }
-        }
+        Entry::Sent(Request::StayQuiet { .. }) | Entry::FieldCycle => push_next(kept, *entry),
+        Entry::Sent(Request::Inventory { .. }) | Entry::Listed(_) => Ok(()),
+        Entry::Silent | Entry::Collision | Entry::Heard(_) | Entry::Garbled => match mask {
+            Some(mask) => push_if_kept(kept, mask, entry, is_kept),
+            None => Ok(()),
+        },
     }
 }
 
-/// Adds a request of one slot, with a mask, and what its slot was found to hold.
-fn push_slot(log: &mut Log, mask: &Option<Mask>, entry: &Entry) -> Result<bool, AllocError>
-    requires valid { IsValidEntry entry.now }
-    requires version { log.old.version ≡ V2 }
-    ensures version { log.new.version ≡ V2 }
-    ensures pushed { IfOk result (λ yes. yes ≡ true
-        → HasSlotAdded (entries log.old.lines) mask.now entry.now (entries log.new.lines)) }
+/// Adds what a slot was found to hold, if it is kept, behind a request of one slot with its mask.
+fn push_if_kept(
+    kept: &mut Vec<PackedLine>,
+    mask: &Mask,
+    entry: &Entry,
+    is_kept: bool,
+) -> Result<(), AllocError>
+    requires numbered { AreNumbered kept.old.items }
+    requires limit { length kept.old.items < 2 * MAX_LINES }
+    requires slot { is_slot entry.now ≡ true }
+    ensures numbered { OnOk result (AreNumbered kept.new.items) }
+    ensures limit { OnOk result (length kept.new.items ≤ length kept.old.items + 2) }
+    ensures kept { OnOk result ((es : List EntryValue) (i : ℕ) → slice_get es i ≡ Some entry.now
+        → Some mask.now ≡ mask_at es i
+        → KeepsLine es i is_kept entry.now (entries kept.old.items) (entries kept.new.items)) }
 {
-    let Some(mask) = *mask else {
-        return Ok(false);
-    };
+    if !is_kept {
+        return Ok(());
+    }
     let request = Request::Inventory {
         link: 2,
         sixteen: false,
-        mask,
+        mask: *mask,
     };
-    if !push_next(log, Entry::Sent(request))? {
-        return Ok(false);
-    }
-    push_next(log, *entry)
+    push_next(kept, Entry::Sent(request))?;
+    push_next(kept, *entry)
 }
 
-/// Adds an entry on the next line, if there is one and the entry can stand there.
-fn push_next(log: &mut Log, entry: Entry) -> Result<bool, AllocError>
+/// Adds an entry, which may follow the others, with the next number.
+fn push_next(kept: &mut Vec<PackedLine>, entry: Entry) -> Result<(), AllocError>
+    requires numbered { AreNumbered kept.old.items }
+    requires limit { length kept.old.items ≤ 2 * MAX_LINES }
     requires valid { IsValidEntry entry }
-    requires version { log.old.version ≡ V2 }
-    ensures version { log.new.version ≡ V2 }
-    ensures pushed { IfOk result (λ yes. yes ≡ true
-        → entries log.new.lines ≡ entries log.old.lines ++ entry ∷ []) }
+    requires unlisted { listed (entry ∷ []) ≡ [] }
+    requires follows { refusal (entries kept.old.items) entry ≡ None }
+    ensures numbered { OnOk result (AreNumbered kept.new.items) }
+    ensures limit { OnOk result (length kept.new.items ≡ length kept.old.items + 1) }
+    ensures added { OnOk result
+        (entries kept.new.items ≡ entries kept.old.items ++ entry ∷ []) }
 {
-    let last = log.last_line();
-    if last == MAX_LINES {
-        return Ok(false);
-    }
-    match log.push(last + 1, entry) {
-        Ok(()) => Ok(true),
-        Err(PushFault::Memory) => Err(AllocError),
-        Err(_) => Ok(false),
-    }
+    let number = kept.len() as u32 + 1;
+    kept.push(PackedLine::new(number, entry))?;
+    Ok(())
 }

@@ -1,6 +1,6 @@
 //! All that a log tells against its list, and the lines that tell it.
 
-ghost use Rattle.std.specs.Prelude.{◌≡◌, IfOk};
+ghost use Rattle.std.specs.Prelude.{◌≡◌, ◌≤◌, IfOk, length};
 ghost use Rattle.vic_tree.specs.OpenSet.{SameUids};
 ghost use Rattle.vic_tree.specs.Ranges.{is_open_in};
 ghost use Rattle.vic_log.specs.Order.{entries};
@@ -13,7 +13,7 @@ ghost use Rattle.vic_report.specs.Reports.{IsReport, verdict_of};
 use crate::conflict::{Conflict, find_conflict};
 use crate::findings::{Findings, find_findings};
 use std::alloc::{AllocError, Global};
-use vic_log::{Log, PackedLine};
+use vic_log::{Log, MAX_LINES, PackedLine};
 use vic_tree::RangeSet;
 use vic_verdict::{Met, Verdict, count_listed, open_and_met};
 
@@ -54,7 +54,8 @@ pub fn report(alloc: Global, log: &Log) -> Result<LogReport, AllocError>
 
 /// The report on the lines of a log.
 fn report_lines(alloc: Global, lines: &[PackedLine]) -> Result<LogReport, AllocError>
-    requires { AreLogLines lines.now }
+    requires lines { AreLogLines lines.now }
+    requires limit { length lines.now ≤ MAX_LINES }
     ensures { IfOk result (IsReport lines.now) }
 {
     match open_and_met::<RangeSet>(alloc, lines)? {

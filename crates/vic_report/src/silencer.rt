@@ -1,10 +1,13 @@
 //! By which line a tag is Quiet whose reply can't be true.
 
-ghost use Rattle.std.specs.Prelude.{◌≡◌, ℕ, ◌+◌, ◌<◌, ◌≤◌, IfSome, MatchOption, Some, List, length, slice_get, true, false};
+ghost use Rattle.std.specs.Prelude.{◌≡◌, ℕ, ◌+◌, ◌<◌, ◌≤◌, MatchOption, Some, List, length, slice_get, true, false};
+ghost use Rattle.vic_frame.specs.Replies.{Reply};
+ghost use Rattle.vic_log.specs.declared.entry.Entry.TheVariants.{Heard};
 ghost use Rattle.vic_log.specs.Order.{entries};
 ghost use Rattle.vic_log.specs.Quiet.{is_quiet};
 ghost use Rattle.vic_log.specs.declared.entry.LogLine.{LogLine as LogLineValue};
-ghost use Rattle.vic_report.specs.Conflicts.{IsSilencedBefore, IsSilencedBy};
+ghost use Rattle.vic_report.specs.Conflicts.{IsNoQuietReply, IsSilencedBefore, IsSilencedBy};
+ghost use Rattle.vic_verdict.specs.LogLines.{AreLogLines};
 
 use vic_frame::{Request, Uid};
 use vic_log::{Entry, PackedLine};
@@ -12,14 +15,28 @@ use vic_log::{Entry, PackedLine};
 /// If the line with a number is a reply of a UID that is Quiet there, the number of the last Stay
 /// Quiet line with it.
 pub(crate) fn silencer_of(lines: &[PackedLine], number: u32) -> Option<u32>
-    ensures { IfSome result (IsSilencedBy lines.now number) }
+    requires { AreLogLines lines.now }
+    ensures { MatchOption result (IsNoQuietReply lines.now number)
+        (IsSilencedBy lines.now number) }
 {
-    let place = lines.partition_point(|line| line.number() < number);
-    let line = lines.get(place)?;
-    if line.number() != number {
-        return None;
+    for index in 0..lines.len() {
+        if lines[index].number() == number {
+            return silencer_at(lines, index);
+        }
     }
-    match line.item() {
+    None
+}
+
+/// The same of the line at a place.
+fn silencer_at(lines: &[PackedLine], place: usize) -> Option<u32>
+    requires { place < length lines.now }
+    ensures { MatchOption result
+        ((r : Reply) → slice_get (entries lines.now) place ≡ Some (Heard r)
+        → is_quiet (entries lines.now) place r.uid ≡ false)
+        (λ n. (r : Reply) × (slice_get (entries lines.now) place ≡ Some (Heard r))
+        × IsSilencedBefore lines.now place r.uid n) }
+{
+    match lines[place].item() {
         Entry::Heard(response) => silencer_before(lines, place, response.uid()),
         Entry::Sent(_)
         | Entry::Silent

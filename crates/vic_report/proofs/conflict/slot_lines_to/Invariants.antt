@@ -3,10 +3,11 @@ use Rattle.std.specs.Prelude.{slice_get}
 use Rattle.vic_frame.specs.Uids.{has}
 use Rattle.vic_log.specs.declared.entry.LogLine.{LogLine}
 use Rattle.vic_log.specs.Rounds.{is_slot}
+use Rattle.vic_report.specs.Conflicts.{IsSlotLine}
 use Rattle.vic_report.proofs.conflict.slot_lines_to.Given as goal
 
 abbrev pub invariant-loop-line : goal.invariant-loop-line
 invariant-loop-line l = record {
-  upto : (m : ℕ) → has l.numbers.items m ≡ true → m ≤ l.last;
+  among : (m : ℕ) → has l.numbers.items m ≡ true → (m ≤ l.last) × IsSlotLine l.lines m;
   slots : (k : ℕ) (x : LogLine) → k < l.line-index → slice_get l.lines k ≡ Some x → x.number ≤ l.last → is_slot x.item ≡ true → has l.numbers.items x.number ≡ true;
 }

@@ -1,5 +1,11 @@
+use Rattle.std.proofs.Common.{arith}
+use Rattle.vic_log.proofs.Push.{rising_long}
 use Rattle.vic_verdict.proofs.Verdicts.{first_lines}
 use Rattle.vic_report.proofs.reporting.report.Goals as goal
 
 pub report_lines-requires : goal.report_lines-requires
-report_lines-requires c = first_lines _ _ c.lines.ensures.log
+report_lines-requires c =
+    let log = c.lines.ensures.log in
+    let long = rising_long 1 c.lines.result.now log.rising in
+    let limit = log.limit in
+    record { lines = first_lines _ _ log; limit = omega arith }

@@ -1,0 +1,7 @@
+use Rattle.std.proofs.Common.{◌≡◌, ℕ, true, take}
+use Rattle.vic_frame.specs.Uids.{has}
+use Rattle.vic_report.specs.Conflicts.{IsSlotLine}
+use Rattle.vic_report.proofs.conflict.are_slot_lines.Given as goal
+
+abbrev pub invariant-loop-number : goal.invariant-loop-number
+invariant-loop-number l = (m : ℕ) → has (take l.number-index l.numbers) m ≡ true → IsSlotLine l.lines m

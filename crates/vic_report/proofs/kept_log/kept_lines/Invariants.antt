@@ -1,0 +1,16 @@
+use Rattle.std.proofs.Common.{ℕ, ◌*◌, ◌≤◌, List, length}
+use Rattle.vic_log.specs.OpenRounds.{IsCursorAt}
+use Rattle.vic_log.specs.Order.{entries}
+use Rattle.vic_log.specs.Populations.{CouldHaveGiven}
+use Rattle.vic_report.specs.Conflicts.{FitsLines}
+use Rattle.vic_report.specs.KeptLogs.{AreNumbered, SameQuiet}
+use Rattle.vic_report.proofs.kept_log.kept_lines.Given as goal
+
+abbrev pub invariant-loop-index : goal.invariant-loop-index
+invariant-loop-index l = record {
+  round : IsCursorAt (entries l.lines) l.index l.cursor;
+  numbered : AreNumbered l.kept.items;
+  limit : length l.kept.items ≤ 2 * l.index;
+  quiet : SameQuiet (entries l.kept.items) (entries l.lines) l.index;
+  given : (p : List ℕ) → FitsLines l.lines l.numbers p → CouldHaveGiven p (entries l.kept.items);
+}
