@@ -14,10 +14,13 @@ const MOST_INDEX_BITS: u32 = 24;
 pub(crate) struct Parts {
     /// In rising order.
     borders: Vec<u64>,
+    /// The first border: keys are counted from it, so that an index serves keys that share their
+    /// top bits.
+    base: u64,
     /// How many borders are lower than the least key with given top bits, so that a border is
     /// looked for among few.
     lower: Vec<u32>,
-    /// By how many bits a key is shifted to its top bits.
+    /// By how many bits a key, counted from the base, is shifted to its top bits.
     shift: u32,
     ghost in_key: { shift ≤ UID_BITS },
 }
@@ -55,10 +58,26 @@ fn number_of(count: usize) -> u32 {
     }
 }
 
+/// The first of some borders in order, and by how many bits the others, counted from it, are shifted
+/// to so many top bits.
+fn base_and_shift(borders: &[u64], bits: u32) -> (u64, u32)
+    ensures { result.1 ≤ UID_BITS }
+{
+    let (Some(base), Some(last)) = (borders.first(), borders.last()) else {
+        return (0, 0);
+    };
+    let most = match last.saturating_sub(*base).checked_ilog2() {
+        Some(log) => log.saturating_add(1),
+        None => 0,
+    };
+    (*base, most.saturating_sub(bits).min(u32::from(UID_BITS)))
+}
+
 /// How many borders have each value of their top bits, one further on; 0 at first.
 fn count_by_top(
     alloc: Global,
     borders: &[u64],
+    base: u64,
     bits: u32,
     shift: u32,
 ) -> Result<Vec<u32>, AllocError>
@@ -67,7 +86,7 @@ fn count_by_top(
 {
     let mut counts = vec![in alloc; 0; (1usize << bits) + 2]?;
     for border in borders {
-        let top = (*border >> shift) as usize;
+        let top = (border.saturating_sub(base) >> shift) as usize;
         if let Some(count) = counts.get_mut(top.saturating_add(1)) {
             *count = u32::saturating_add(*count, 1);
         }
@@ -90,11 +109,12 @@ impl Parts {
         borders.sort_unstable();
         borders.dedup();
         let bits = (borders.len() + 1).ilog2().min(MOST_INDEX_BITS);
-        let shift = u32::from(UID_BITS) - bits;
-        let mut lower = count_by_top(alloc, &borders, bits, shift)?;
+        let (base, shift) = base_and_shift(&borders, bits);
+        let mut lower = count_by_top(alloc, &borders, base, bits, shift)?;
         sum_up(&mut lower);
         Ok(Parts {
             borders,
+            base,
             lower,
             shift,
         })
@@ -107,7 +127,7 @@ impl Parts {
 
     /// The part that begins at a border.
     pub(crate) fn part_at(&self, border: u64) -> u32 {
-        let top = (border >> self.shift) as usize;
+        let top = (border.saturating_sub(self.base) >> self.shift) as usize;
         let (Some(from), Some(to)) = (self.lower.get(top), self.lower.get(top.saturating_add(1)))
         else {
             return self.count();

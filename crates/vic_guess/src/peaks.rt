@@ -5,7 +5,7 @@ ghost use Rattle.std.specs.Prelude.{◌<◌, ◌^◌};
 use std::alloc::{AllocError, Global};
 
 /// A number of a row, and its index there.
-#[derive(Clone, Copy)]
+#[derive(Clone, Copy, PartialEq, Eq)]
 pub(crate) struct Peak {
     pub value: u32,
     pub index: u32,
@@ -48,7 +48,12 @@ impl Peaks {
             nodes[node] = Peak { value, index };
             while node > 1 {
                 node /= 2;
-                nodes[node] = greater(nodes[2 * node], nodes[2 * node + 1]);
+                let peak = greater(nodes[2 * node], nodes[2 * node + 1]);
+                // what stays the same here stays so above
+                if peak == nodes[node] {
+                    return;
+                }
+                nodes[node] = peak;
             }
         }
     }
