@@ -3,7 +3,7 @@ use Rattle.std.proofs.Common.{◌≡◌, ℕ, zero, suc, ◌+◌, ◌<◌, ◌�
 use Rattle.std.specs.Prelude.{◌⊎◌, ◌==◌, IfSome, nat_lt, slice_get}
 use Rattle.std.specs.List.{All, Any, list_all, list_any, sum_by}
 use Rattle.std.specs.List.Sorted.{IsPermutation}
-use Rattle.std.proofs.lemmas.Bool.{cases_eq, cases_lt, and_parts, and_from, or_cases, or_left, or_right, both_ways, false≢true, eq-eqb, eqb-true}
+use Rattle.std.proofs.lemmas.Bool.{cases_eq, cases_lt, and_parts, and_from, or_left, or_right, both_ways, false≢true, eq-eqb, eqb-true}
 use Rattle.std.proofs.lemmas.Bool.Decides.{nat_tests}
 use Rattle.std.proofs.lemmas.Option.{slice_get_within, get_or_from_slice_get}
 use Rattle.std.proofs.lemmas.List.{get_or_append_left, get_or_default}
@@ -12,10 +12,9 @@ use Rattle.std.proofs.lemmas.List.Folds.{list_any-append, Any-from_list_any}
 use Rattle.std.proofs.lemmas.List.Quantifiers.{Any-push}
 use Rattle.std.proofs.lemmas.List.Sums.{sum_by-cons, sum_by_more, sum_by_push, sum_by-take-le}
 use Rattle.std.proofs.lemmas.List.Sorted.{All-permutation, list_any-IsPermutation, sum_by-IsPermutation}
-use Rattle.vic_frame.specs.Uids.{IsUid, is_uid, has}
-use Rattle.vic_frame.specs.Masks.{BitMask, lies_in}
+use Rattle.vic_frame.specs.Uids.{IsUid, is_uid}
 use Rattle.vic_frame.specs.LowBitsFirst.{is_in_block, mirror}
-use Rattle.vic_tree.specs.OpenSet.{SameUids, UpToThree, in_mask, without_keys}
+use Rattle.vic_tree.specs.OpenSet.{SameUids, UpToThree}
 use Rattle.vic_log.specs.declared.entry.Entry.{Entry}
 use Rattle.vic_log.specs.declared.entry.Entry.TheVariants.{Sent, Silent, Collision, Heard, Listed, Garbled, FieldCycle}
 use Rattle.vic_log.specs.Rounds.{mask_at, lies_in_some}
@@ -24,7 +23,7 @@ use Rattle.vic_log.specs.Populations.{answers_at}
 use Rattle.vic_log.specs.Slots.{ManyReplies, SomeReply, allows, slots_of, is_open}
 use Rattle.vic_log.proofs.Places.{AgreeBefore, answers_agree}
 use Rattle.vic_log.proofs.Supply.{IsUid-from}
-use Rattle.vic_tree.proofs.BoolLaws.{and_true, lt_yes, lt_from}
+use Rattle.vic_tree.proofs.BoolLaws.{lt_yes, lt_from}
 use Rattle.vic_verdict.specs.declared.demands.Demand.{Demand}
 use Rattle.vic_verdict.specs.declared.demands.Found.{Found}
 use Rattle.vic_verdict.specs.declared.demands.Stretch.{Stretch}
@@ -42,56 +41,6 @@ use Rattle.vic_verdict.proofs.Supplied.{UpToThree-same}
 -- the answers of a slot, told of the UIDs of a set
 abbrev pub ready_of : (ℕ → Bool) → List Name → Demand → ℕ → Bool
 ready_of set ns d u = (is_uid u && set u) && answers_by ns d u
-
-any_has : (p : ℕ → Bool) (us : List ℕ) (u : ℕ) → has us u ≡ true → p u ≡ true → list_any p us ≡ true
-any_has p [] u h e = absurd (false≢true h)
-any_has p (x ∷ us) u h e =
-    ⊎_elim
-    (λ here. or_left _ _ (subst (λ y. p y ≡ true) (eqb-true u x here) e))
-    (λ there. or_right _ _ (any_has p us u there e))
-    (or_cases _ _ h)
-
--- the first UIDs found, where none of them is Quiet
-pub first_ready : (set : ℕ → Bool) (ns inside : List Name) (d : Demand) (m : BitMask) (us : List ℕ) → ((u : ℕ) → lies_in m u ≡ is_in_block d.first d.len (mirror u)) → ((u : ℕ) → IsUid u → lies_in m u ≡ true → is_quiet_by inside (mirror u) d.at ≡ is_quiet_by ns (mirror u) d.at) → UpToThree (in_mask set m []) us → list_any (λ u. is_quiet_by inside (mirror u) d.at) us ≡ false → UpToThree (ready_of set ns d) us
-first_ready set ns inside d m us same alike h none = record {
-  different = h.different;
-  members = λ u k.
-      let w = and_parts _ _ (h.members u k) in
-      let uid = IsUid-from u (and_parts (is_uid u) (set u) w.0).0 in
-      let lies = (and_parts _ _ w.1).0 in
-      and_from _ _ w.0 (and_from _ _ (sym (same u) ∙ lies) (go (is_quiet_by ns (mirror u) d.at) (λ e. absurd (both_ways _ none (any_has (λ v. is_quiet_by inside (mirror v) d.at) us u k (alike u uid lies ∙ e))))));
-  all = λ few u k.
-      let w = and_parts _ _ k in
-      h.all few u (and_from _ _ w.0 (and_from _ _ (same u ∙ (and_parts _ _ w.1).0) refl));
-}
-  where
-    go : (b : Bool) → (b ≡ true → not b ≡ true) → not b ≡ true
-    go true f = f refl
-    go false f = refl
-
-shuffled : (a b c : Bool) → ((a && (b && c)) && true) ≡ ((a && b) && c)
-shuffled false b c = refl
-shuffled true false c = refl
-shuffled true true c = and_true c
-
-neither : (a b : Bool) → (a && false) ≡ (b && false)
-neither false false = refl
-neither false true = refl
-neither true false = refl
-neither true true = refl
-
--- those found beside the Quiet ones
-pub others_ready : (set : ℕ → Bool) (ns : List Name) (d : Demand) (m : BitMask) (keys us : List ℕ) → ((u : ℕ) → lies_in m u ≡ is_in_block d.first d.len (mirror u)) → ((k : ℕ) → is_in_block d.first d.len k ≡ true → has keys k ≡ is_quiet_by ns k d.at) → UpToThree (in_mask (without_keys set keys) m []) us → UpToThree (ready_of set ns d) us
-others_ready set ns d m keys us same quiet h = UpToThree-same (in_mask (without_keys set keys) m []) (ready_of set ns d) us (λ u. go u (is_in_block d.first d.len (mirror u)) refl) h
-  where
-    go : (u : ℕ) (b : Bool) → is_in_block d.first d.len (mirror u) ≡ b → in_mask (without_keys set keys) m [] u ≡ ready_of set ns d u
-    go u true e =
-        ap (λ x. (is_uid u && (set u && not (has keys (mirror u)))) && (x && true)) (same u ∙ e)
-        ∙ (ap (λ x. (is_uid u && (set u && not x)) && true) (quiet (mirror u) e)
-        ∙ (shuffled (is_uid u) (set u) _ ∙ ap (λ x. (is_uid u && set u) && (x && not (is_quiet_by ns (mirror u) d.at))) (sym e)))
-    go u false e =
-        ap (λ x. (is_uid u && (set u && not (has keys (mirror u)))) && (x && true)) (same u ∙ e)
-        ∙ (neither _ _ ∙ ap (λ x. (is_uid u && set u) && (x && not (is_quiet_by ns (mirror u) d.at))) (sym e))
 
 -- ---- a demand that is met
 

@@ -22,6 +22,7 @@ pub mod Choosing
 pub mod Gathering
 pub mod Explaining
 pub mod Silencing
+pub mod Ready
 pub mod Demanding
 pub mod KeyOrder
 pub mod Replying

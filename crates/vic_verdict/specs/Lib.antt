@@ -8,6 +8,7 @@ pub mod Unsettled
 pub mod Sweep
 pub mod Closed
 pub mod Stretches
+pub mod Answering
 pub mod Demands
 pub mod Explained
 pub mod Gathered

@@ -13,15 +13,17 @@ ghost use Rattle.vic_tree.specs.OpenSet.{SameUids, UpToThree};
 ghost use Rattle.vic_log.specs.declared.entry.Entry.{Entry as EntryValue};
 ghost use Rattle.vic_log.specs.Slots.{slots_of, is_open};
 ghost use Rattle.vic_verdict.specs.Possible.{Lacks};
+ghost use Rattle.vic_verdict.specs.Answering.{IsKnown};
 ghost use Rattle.vic_verdict.specs.Sweep.{AreInOrder, HaveKeys};
 ghost use Rattle.vic_verdict.specs.Demands.{IsDemandBy, answers_by, IsUnmet, IsUnmetAt, IsAskedAgain, AreFound, AreKept, AreMet, HasBlock, HasBlocks, HasNamesInOrder, Keeps};
 
-use crate::names::{Name, is_any_quiet, names_between, quiet_between, start_near};
+use crate::answering::{Known, up_to_three_answering};
+use crate::names::{Name, names_between, start_near};
 use arrayvec::ArrayVec;
 use std::alloc::{AllocError, Global};
 use std::mem::replace;
 use vic_frame::Uid;
-use vic_frame::low_bits_first::{KeyBlock, mask_of_keys};
+use vic_frame::low_bits_first::KeyBlock;
 use vic_tree::OpenSet;
 
 /// What the slots of a possible log ask for, met by its open UIDs.
@@ -140,34 +142,30 @@ pub(crate) fn keep_stretch(
     Ok(())
 }
 
-/// Open UIDs that answer in a slot: all where they are fewer than three, three otherwise. Mostly
-/// those that are found first are not Quiet, and no list of the Quiet ones is needed. The first
+/// Open UIDs that answer in a slot: all where they are fewer than three, three otherwise. The first
 /// name of the slot's mask is looked for near index `near` first.
-fn up_to_three_answering<S: OpenSet>(
+fn answering<S: OpenSet>(
     alloc: Global,
     set: &S,
     names: &[Name],
+    known: &mut Option<Known>,
     near: usize,
     demand: &Demand,
 ) -> Result<ArrayVec<Uid, 3>, AllocError>
     requires order { AreInOrder names.now }
     requires keys { HaveKeys names.now }
     requires block { HasBlock demand.now }
-    ensures { IfOk result (λ uids.
+    requires known { IfSome known.old (IsKnown (S.is_open set.now) names.now) }
+    ensures known { OnOk result (IfSome known.new (IsKnown (S.is_open set.now) names.now)) }
+    ensures uids { IfOk result (λ uids.
         UpToThree (λ u. (is_uid u && S.is_open set.now u) && answers_by names.now demand.now u)
         uids.items) }
 {
-    let Demand { first, len, .. } = *demand;
-    let mask = mask_of_keys(first, len);
-    let uids = set.up_to_three(&mask, &[]);
-    let last = KeyBlock { first, len }.last();
-    let start = start_near(names, near, first);
-    let at = demand.place();
-    if !is_any_quiet(names_between(names, start, first, last), &uids, at) {
-        return Ok(uids);
-    }
-    let quiet = quiet_between(alloc, names, first, last, at)?;
-    set.up_to_three_besides(alloc, &mask, &quiet)
+    let block = KeyBlock {
+        first: demand.first,
+        len: demand.len,
+    };
+    up_to_three_answering(alloc, set, names, known, near, &block, demand.at)
 }
 
 /// Whether the next slot of some asks for as much of the same mask, and is no earlier: if it is
@@ -186,86 +184,108 @@ fn is_asked_again(demands: &[Demand], index: usize) -> bool
     }
 }
 
-/// Whether fewer open UIDs answer in a slot than it asks for.
-fn is_unmet<S: OpenSet>(
-    alloc: Global,
-    set: &S,
-    names: &[Name],
-    demand: &Demand,
-) -> Result<bool, AllocError>
-    requires order { AreInOrder names.now }
-    requires keys { HaveKeys names.now }
-    requires block { HasBlock demand.now }
-    ensures { IfOk result (λ yes. yes ≡ true
-        → IsUnmet (S.is_open set.now) names.now demand.now) }
-{
-    let uids = up_to_three_answering(alloc, set, names, 0, demand)?;
-    Ok(uids.len() < usize::from(demand.need))
-}
-
-/// The place of the first unmet one of the slots from index `from` to the one before `to`, all of
-/// one mask and asking for as much: found by halving, since tags only fall silent.
-fn unmet_between<S: OpenSet>(
-    alloc: Global,
-    set: &S,
-    names: &[Name],
-    demands: &[Demand],
-    from: usize,
-    to: usize,
-) -> Result<Option<usize>, AllocError>
-    requires order { AreInOrder names.now }
-    requires keys { HaveKeys names.now }
-    requires blocks { All HasBlock demands.now }
-    requires within { to ≤ length demands.now }
-    ensures { IfOk result (λ at. IfSome at
-        (IsUnmetAt (S.is_open set.now) names.now demands.now)) }
-{
-    let mut first = None;
-    let mut low = from;
-    let mut high = to;
-    while low < high {
-        let middle = low + (high - low) / 2;
-        let demand = demands[middle];
-        if is_unmet(alloc, set, names, &demand)? {
-            first = Some(demand.place());
-            high = middle;
-        } else {
-            low = middle + 1;
+/// The place up to which enough UIDs answer in the slots of some mask, where `lacking` more are
+/// wanted than answer at the place `at`: where as many of them fall Quiet the latest before it. One
+/// further on; 0 if there are too few of them.
+fn end_of_enough(names: &[Name], at: usize, lacking: usize) -> usize {
+    let mut last = 0;
+    let mut last_but_one = 0;
+    for name in names {
+        let end = name.quiet().saturating_add(1);
+        if end <= at && last_but_one < end {
+            last_but_one = end.min(last);
+            last = end.max(last);
         }
     }
-    Ok(first)
+    if lacking == 1 { last } else { last_but_one }
 }
 
-/// The place of the first unmet slot from index `from` on; one is known. The slots stand by mask,
-/// not by place, so those behind that one are looked at too.
-fn first_unmet<S: OpenSet>(
+/// Whom the lines name that the log leaves open, of the mask of a slot; nobody if that isn't known.
+fn known_names<'a>(known: &'a Option<Known>, demand: &Demand) -> &'a [Name]
+    requires order { IfSome known.now (λ k. AreInOrder k.named.items) }
+    requires block { HasBlock demand.now }
+{
+    let Demand { first, len, .. } = *demand;
+    match known {
+        Some(known) => {
+            let start = start_near(&known.named, 0, first);
+            names_between(&known.named, start, first, KeyBlock { first, len }.last())
+        }
+        None => &[],
+    }
+}
+
+/// The index of the slot that seems to be the first unmet one, from index `from` on. Those of one
+/// mask that ask for as much stand in order: the last one tells how many are wanting there, and the
+/// others lack their tags as soon as one of so many more is Quiet.
+fn guess_unmet<S: OpenSet>(
     alloc: Global,
     set: &S,
     names: &[Name],
+    known: &mut Option<Known>,
     demands: &[Demand],
     from: usize,
-    known: usize,
 ) -> Result<usize, AllocError>
     requires order { AreInOrder names.now }
     requires keys { HaveKeys names.now }
     requires blocks { All HasBlock demands.now }
-    requires known { IsUnmetAt (S.is_open set.now) names.now demands.now known }
-    ensures { IfOk result (IsUnmetAt (S.is_open set.now) names.now demands.now) }
+    requires known { IfSome known.old (IsKnown (S.is_open set.now) names.now) }
+    ensures known { OnOk result (IfSome known.new (IsKnown (S.is_open set.now) names.now)) }
 {
-    let mut first = known;
+    let mut guess = from;
+    let mut least = usize::MAX;
     let mut start = from;
+    let mut near = 0;
     for index in from..demands.len() {
         if !is_asked_again(demands, index) {
-            let unmet = unmet_between(alloc, set, names, demands, start, index + 1)?;
-            if let Some(at) = unmet {
-                if at < first {
-                    first = at;
+            let demand = demands[index];
+            near = start_near(names, near, demand.first);
+            let uids = answering(alloc, set, names, known, near, &demand)?;
+            let need = usize::from(demand.need);
+            if uids.len() < need {
+                let inside = known_names(known, &demand);
+                let end = end_of_enough(inside, demand.place(), need - uids.len());
+                let group = &demands[start..index];
+                let first = start + group.partition_point(|earlier| earlier.place() < end);
+                if demands[first].place() < least {
+                    guess = first;
+                    least = demands[first].place();
                 }
             }
             start = index + 1;
         }
     }
-    Ok(first)
+    Ok(guess)
+}
+
+/// The place of the first unmet slot from index `from` on, where the guess is right; else the place
+/// of one that is known. The slots stand by mask, not by place, so those behind that one are looked
+/// at too.
+fn first_unmet<S: OpenSet>(
+    alloc: Global,
+    set: &S,
+    names: &[Name],
+    known: &mut Option<Known>,
+    demands: &[Demand],
+    from: usize,
+    unmet: usize,
+) -> Result<usize, AllocError>
+    requires order { AreInOrder names.now }
+    requires keys { HaveKeys names.now }
+    requires blocks { All HasBlock demands.now }
+    requires known { IfSome known.old (IsKnown (S.is_open set.now) names.now) }
+    requires unmet { IsUnmetAt (S.is_open set.now) names.now demands.now unmet }
+    ensures { IfOk result (IsUnmetAt (S.is_open set.now) names.now demands.now) }
+{
+    let guess = guess_unmet(alloc, set, names, known, demands, from)?;
+    if guess < demands.len() {
+        let demand = demands[guess];
+        let uids = answering(alloc, set, names, known, 0, &demand)?;
+        if uids.len() < usize::from(demand.need) {
+            return Ok(demand.place());
+        }
+    }
+    Ok(unmet)
 }
 
 /// Finds what meets slots. Returns the place of the first one that is unmet, if one is.
@@ -286,17 +306,18 @@ fn meet_each<S: OpenSet>(
     ensures unmet { IfOk result (λ r. IfSome r
         (IsUnmetAt (S.is_open set.now) names.now demands.now)) }
 {
+    let mut known = None;
     let mut start = 0;
     let mut near = 0;
     for index in 0..demands.len() {
         if !is_asked_again(demands, index) {
             let demand = demands[index];
             near = start_near(names, near, demand.first);
-            let uids = up_to_three_answering(alloc, set, names, near, &demand)?;
+            let uids = answering(alloc, set, names, &mut known, near, &demand)?;
             let at = demand.place();
             let need = usize::from(demand.need);
             if uids.len() < need {
-                let at = first_unmet(alloc, set, names, demands, start, at)?;
+                let at = first_unmet(alloc, set, names, &mut known, demands, start, at)?;
                 return Ok(Some(at));
             }
             found.push(Found { at, need, uids })?;

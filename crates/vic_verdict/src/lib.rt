@@ -7,6 +7,7 @@
 //! definitions.
 #![tactic(auto)]
 
+mod answering;
 mod closed;
 mod demands;
 mod explanation;

@@ -1,7 +1,7 @@
 //! The UIDs that lines silence or hear between two field cycles, in the order of their keys: which
 //! of them are Quiet at a place, and whether those that were heard were Ready there.
 
-ghost use Rattle.std.specs.Prelude.{◌≡◌, ◌<◌, ◌≤◌, ◌+◌, ℕ, Bool, true, length, nat_lt, ◌++◌, ◌∷◌, [], IfOk, OnOk};
+ghost use Rattle.std.specs.Prelude.{◌≡◌, ◌<◌, ◌≤◌, ◌+◌, ℕ, Bool, true, length, nat_lt, ◌++◌, ◌∷◌, [], IfOk, OnOk, take, drop};
 ghost use Rattle.std.specs.List.{All, list_any};
 ghost use Rattle.std.specs.List.Sorted.{IsNonDecreasing};
 ghost use Rattle.vic_frame.specs.Uids.{has};
@@ -125,6 +125,8 @@ pub(crate) fn names_between(names: &[Name], start: usize, first: u64, last: u64)
     ensures order { AreInOrder result.now }
     ensures keys { HaveKeys names.now → HaveKeys result.now }
     ensures inside { All (λ n. is_between first last n.key ≡ true) result.now }
+    ensures within { start + length result.now ≤ length names.now }
+    ensures place { result.now ≡ take (length result.now) (drop start names.now) }
     ensures all { (test : NameValue → Bool) (k : ℕ) → is_between first last k ≡ true
         → has_where test result.now k ≡ has_where test names.now k }
 {
@@ -154,33 +156,8 @@ pub(crate) fn is_any_quiet(names: &[Name], uids: &[Uid], at: usize) -> bool
     false
 }
 
-/// The keys from `first` to `last` of the UIDs that are Quiet at a place, in order.
-pub(crate) fn quiet_between(
-    alloc: Global,
-    names: &[Name],
-    first: u64,
-    last: u64,
-    at: usize,
-) -> Result<Vec<u64>, AllocError>
-    requires order { AreInOrder names.now }
-    requires keys { HaveKeys names.now }
-    ensures order { IfOk result (λ keys. IsNonDecreasing keys.items) }
-    ensures keys { IfOk result (λ keys. AreKeys keys.items) }
-    ensures members { IfOk result (λ keys. (k : ℕ) → is_between first last k ≡ true
-        → has keys.items k ≡ is_quiet_by names.now k at) }
-{
-    let inside = names_between(names, start_of(names, first), first, last);
-    let mut keys = Vec::new(alloc);
-    for name in inside {
-        if name.quiet() < at {
-            keys.push(name.key)?;
-        }
-    }
-    Ok(keys)
-}
-
 /// The place after which a UID is Quiet, by all names of it.
-fn first_quiet(own: &[Name]) -> usize
+pub(crate) fn first_quiet(own: &[Name]) -> usize
     ensures { (i : ℕ) → i ≤ NEVER
         → nat_lt result i ≡ list_any (λ n. nat_lt (quiet_of n) i) own.now }
 {

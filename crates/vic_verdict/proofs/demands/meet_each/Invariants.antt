@@ -1,5 +1,7 @@
 use Rattle.std.proofs.Common.{List}
 use Rattle.std.specs.List.{All}
+use Rattle.std.specs.Prelude.{IfSome}
+use Rattle.vic_verdict.specs.Answering.{IsKnown}
 use Rattle.vic_tree.specs.OpenSet.{SameUids}
 use Rattle.vic_log.specs.declared.entry.Entry.{Entry}
 use Rattle.vic_log.specs.Slots.{slots_of, is_open}
@@ -8,5 +10,7 @@ use Rattle.vic_verdict.proofs.Demanding.{AreMetTo}
 use Rattle.vic_verdict.proofs.demands.meet_each.Given as goal
 
 abbrev pub invariant-loop-index : goal.invariant-loop-index
-invariant-loop-index g l =
-    (es : List Entry) → SameUids (g.S.OpenSet.is_open l.set) (is_open (slots_of es)) → All (IsDemandBy es l.names) l.demands → AreMetTo es l.demands l.index l.fn.found.items l.found.items
+invariant-loop-index g l = record {
+  known : IfSome l.known (IsKnown (g.S.OpenSet.is_open l.set) l.names);
+  met : (es : List Entry) → SameUids (g.S.OpenSet.is_open l.set) (is_open (slots_of es)) → All (IsDemandBy es l.names) l.demands → AreMetTo es l.demands l.index l.fn.found.items l.found.items;
+}

@@ -1,0 +1,44 @@
+use Rattle.std.proofs.Common.{◌≡◌, ◌+◌, ◌^◌, ◌<◌, ℕ, true, sym, ap, ◌∙◌, subst, arith}
+use Rattle.std.specs.Prelude.{nat_lt}
+use Rattle.vic_frame.specs.LowBitsFirst.{uid_of}
+use Rattle.vic_verdict.specs.declared.names.Name.{Name}
+use Rattle.vic_verdict.specs.Sweep.{is_quiet_by, quiet_of}
+use Rattle.vic_verdict.proofs.Ready.{AreOpenTo, open_first, open_same, open_other, open_more, open_all}
+use Rattle.vic_verdict.proofs.Replying.{at, tells_own}
+use Rattle.vic_verdict.proofs.Sweeping.{start_here}
+use Rattle.vic_verdict.proofs.answering.open_names.Goals as goal
+use Rattle.vic_verdict.proofs.answering.open_names.Goals.{then-i-eq0+then-has+in_ok-push, then-i-eq0-via-then-i-eq0, then-i-eq0-via-else-i-eq0+then-names-i, then-i-eq0+else-has, else-i-eq0+else-names-i}
+
+pub loop-i-init : goal.loop-i-init
+loop-i-init g c = subst (AreOpenTo (g.S.OpenSet.is_open c.args.set.now) c.args.names.now 0) (sym c.new-named.ensures.items) (open_first (g.S.OpenSet.is_open c.args.set.now) c.args.names.now)
+
+pub names_between-requires-clause-start : goal.names_between-requires-clause-start
+names_between-requires-clause-start g c =
+    start_here c.args.names.now (at c.args.names.now c.loop-i.i).key c.loop-i.i c.requires.order c.loop-i-test.true (omega arith) (λ some. elim c.then-i-eq0.branch [
+      | then-i-eq0-via-then-i-eq0 w ↦ absurd (let none = w.if-i-eq0.true in omega (arith, some, none))
+      | then-i-eq0-via-else-i-eq0+then-names-i w ↦ w.if-names-i.true
+    ])
+
+pub loop-i-preserved : goal.loop-i-preserved
+loop-i-preserved g c =
+    let ns = c.args.names.now in
+    let i = c.loop-i.i in
+    let set = g.S.OpenSet.is_open c.args.set.now in
+    let P = AreOpenTo set ns (i + 1) in
+    elim c.if-i-eq0.branch [
+      | then-i-eq0+then-has+in_ok-push w ↦
+          let o : Name = w.name_quiet_after.result in
+          let key : o.key ≡ (at ns i).key = w.name_quiet_after.ensures.key in
+          let own = w.names_between.ensures in
+          let quiet : (j : ℕ) → j < 2 ^ 32 → nat_lt (quiet_of o) j ≡ is_quiet_by ns o.key j = λ j small.
+          w.name_quiet_after.ensures.quiet j small
+          ∙ (sym (tells_own ns w.names_between.result.now (at ns i).key w.first_quiet-quiet.result j own.inside own.all (w.first_quiet-quiet.ensures j (omega (arith, small))))
+          ∙ ap (λ k. is_quiet_by ns k j) (sym key)) in
+          let is_in : set (uid_of o.key) ≡ true = ap (λ k. set (uid_of k)) key ∙ (ap set (sym w.uid_at.ensures.value) ∙ (sym w.has.ensures ∙ w.if-has.true)) in
+          subst (λ v. P v.items) (sym w.named-is) (open_more set ns i c.loop-i.named.items w.push.new.self.items o c.requires.order c.requires.keys c.loop-i-test.true key is_in quiet w.in_ok-push.ensures.items c.loop-i.invariant)
+      | then-i-eq0+else-has w ↦ subst (λ v. P v.items) (sym w.named-is) (open_other set ns i c.loop-i.named.items c.loop-i-test.true (ap set (sym w.uid_at.ensures.value) ∙ (sym w.has.ensures ∙ w.if-has.false)) c.loop-i.invariant)
+      | else-i-eq0+else-names-i w ↦ let some = w.if-i-eq0.false in subst (λ v. P v.items) (sym w.named-is) (open_same set ns i c.loop-i.named.items c.requires.order (omega (arith, some)) c.loop-i-test.true w.if-names-i.false c.loop-i.invariant)
+    ]
+
+pub returns : goal.returns
+returns g c = open_all (g.S.OpenSet.is_open c.args.set.now) c.args.names.now c.loop-i.i c.loop-i.named.items c.loop-i-test.false c.loop-i.invariant

@@ -1,0 +1,32 @@
+use Rattle.std.proofs.Common.{ℕ, List, ◌-◌, length, sym, ◌∙◌, subst, arith}
+use Rattle.std.specs.List.{All}
+use Rattle.std.proofs.lemmas.List.Elements.{All-push, All-take}
+use Rattle.vic_tree.specs.OpenSet.{UpToThree}
+use Rattle.vic_verdict.specs.declared.answering.Unnamed.{Unnamed}
+use Rattle.vic_verdict.specs.Answering.{IsUnnamed, is_unnamed, is_unnamed_in}
+use Rattle.vic_verdict.specs.Sweep.{is_named}
+use Rattle.vic_verdict.proofs.Ready.{found_besides}
+use Rattle.vic_verdict.proofs.answering.unnamed_in.Goals as goal
+
+pub returns-in-Some-between-clause-uids : goal.returns-in-Some-between-clause-uids
+returns-in-Some-between-clause-uids g c ns names masks =
+    let set = g.S.OpenSet.is_open c.args.set.now in
+    let kept = subst (All (IsUnnamed set ns)) (sym (c.deref-2.ensures.value ∙ c.truncate.ensures.items)) (All-take (IsUnnamed set ns) _ c.args.masks.now.items masks) in
+    let x : Unnamed = c.in-Some.around.now in
+    let some = c.in-Some.ensures.item.3.0 in
+    let around = subst (IsUnnamed set ns) (sym (c.in-Some.ensures.item.3.1 x)) (kept (length c.deref-2.result.now - 1) x (omega (arith, some))) in
+    subst (λ l. UpToThree (is_unnamed set ns c.args.block.now.first l) c.in-Some-between.uids.items) c.last-last.ensures (c.in-Some-between.ensures set ns around)
+
+pub returns-clause-masks : goal.returns-clause-masks
+returns-clause-masks g c ns names masks =
+    let set = g.S.OpenSet.is_open c.args.set.now in
+    let b = c.args.block.now in
+    let found = found_besides set (is_named ns) b c.mask_of_keys.result _ _ c.mask_of_keys.ensures.inside names c.in_ok-uids.ensures in
+    let kept = subst (All (IsUnnamed set ns)) (sym c.truncate.ensures.items) (All-take (IsUnnamed set ns) _ c.args.masks.now.items masks) in
+    subst (All (IsUnnamed set ns)) (sym c.in_ok-push.ensures.items)
+    (All-push (IsUnnamed set ns) c.truncate.new.self.items _ kept
+    (subst (λ (us : List ℕ). UpToThree (is_unnamed set ns b.first c.last-last.result) us) (sym c.in_ok-from_slice.ensures.items)
+    (subst (λ l. UpToThree (is_unnamed set ns b.first l) c.deref-3.result.now) (sym c.last-last.ensures) (subst (λ (us : List ℕ). UpToThree (is_unnamed_in set ns b) us) (sym c.deref-3.ensures.0) found))))
+
+pub returns-clause-uids : goal.returns-clause-uids
+returns-clause-uids g c ns names masks = found_besides (g.S.OpenSet.is_open c.args.set.now) (is_named ns) c.args.block.now c.mask_of_keys.result _ _ c.mask_of_keys.ensures.inside names c.in_ok-uids.ensures

@@ -1,0 +1,10 @@
+use Rattle.std.proofs.Common.{◌≤◌}
+use Rattle.std.specs.Prelude.{IfSome}
+use Rattle.vic_verdict.specs.Answering.{IsKnown}
+use Rattle.vic_verdict.proofs.demands.guess_unmet.Given as goal
+
+abbrev pub invariant-loop-index : goal.invariant-loop-index
+invariant-loop-index g l = record {
+  known : IfSome l.known (IsKnown (g.S.OpenSet.is_open l.set) l.names);
+  start : l.start ≤ l.index;
+}
