@@ -1,4 +1,6 @@
 //! Parts of the UIDs that fare alike in a log, numbered in the order of their keys.
+//!
+//! Masks begin and end parts; a UID that a line names is a part of its own.
 
 ghost use Rattle.std.specs.Prelude.{◌≤◌};
 ghost use Rattle.vic_frame.specs.declared.uid.TheConstants.{UID_BITS};
@@ -9,11 +11,20 @@ use vic_frame::UID_BITS;
 /// How many of a key's 56 bits the index over the borders goes by at most.
 const MOST_INDEX_BITS: u32 = 24;
 
+/// A UID that a line silences or hears: its key, and the index of the line.
+#[derive(Clone, Copy)]
+pub(crate) struct NamedUid {
+    pub key: u64,
+    pub line: u32,
+}
+
 /// The borders between the parts: part `i` has the keys from border `i` to the one before the next.
 #[derive(Drop)]
 pub(crate) struct Parts {
     /// In rising order.
     borders: Vec<u64>,
+    /// At the index of each line the part of the UID that it names.
+    named: Vec<u32>,
     /// The first border: keys are counted from it, so that an index serves keys that share their
     /// top bits.
     base: u64,
@@ -56,6 +67,62 @@ fn number_of(count: usize) -> u32 {
         Ok(number) => number,
         Err(_) => u32::MAX,
     }
+}
+
+/// Adds a border where it isn't the last one already.
+fn push_border(borders: &mut Vec<u64>, border: u64) -> Result<(), AllocError> {
+    if borders.last() != Some(&border) {
+        borders.push(border)?;
+    }
+    Ok(())
+}
+
+/// Adds those of some borders up to a key, from index `next` on; the index behind them.
+fn push_up_to(
+    borders: &mut Vec<u64>,
+    masks: &[u64],
+    next: usize,
+    key: u64,
+) -> Result<usize, AllocError> {
+    for index in next..masks.len() {
+        if key < masks[index] {
+            return Ok(index);
+        }
+        push_border(borders, masks[index])?;
+    }
+    Ok(masks.len())
+}
+
+/// The borders of masks and those around UIDs that lines name, in order; into `named` goes the part
+/// of each line's UID.
+fn all_borders(
+    alloc: Global,
+    mut masks: Vec<u64>,
+    mut names: Vec<NamedUid>,
+    named: &mut [u32],
+) -> Result<Vec<u64>, AllocError> {
+    masks.sort_unstable();
+    masks.dedup();
+    names.sort_unstable_by_key(|name| name.key);
+    let mut borders = Vec::new(alloc);
+    borders.reserve(masks.len().saturating_add(names.len()))?;
+    let mut next = 0;
+    let mut part = 0;
+    let mut end = 0;
+    for name in &names {
+        if end <= name.key {
+            next = push_up_to(&mut borders, &masks, next, name.key)?;
+            push_border(&mut borders, name.key)?;
+            part = number_of(borders.len()).saturating_sub(1);
+            end = name.key.saturating_add(1);
+            push_border(&mut borders, end)?;
+        }
+        if let Some(own) = named.get_mut(name.line as usize) {
+            *own = part;
+        }
+    }
+    push_up_to(&mut borders, &masks, next, u64::MAX)?;
+    Ok(borders)
 }
 
 /// The first of some borders in order, and by how many bits the others, counted from it, are shifted
@@ -104,20 +171,34 @@ fn sum_up(counts: &mut [u32]) {
 }
 
 impl Parts {
-    /// The parts between some borders.
-    pub(crate) fn between(alloc: Global, mut borders: Vec<u64>) -> Result<Parts, AllocError> {
-        borders.sort_unstable();
-        borders.dedup();
+    /// The parts between some borders and around the UIDs that some of `count` lines name.
+    pub(crate) fn between(
+        alloc: Global,
+        masks: Vec<u64>,
+        names: Vec<NamedUid>,
+        count: usize,
+    ) -> Result<Parts, AllocError> {
+        let mut named = vec![in alloc; 0; count]?;
+        let borders = all_borders(alloc, masks, names, &mut named)?;
         let bits = (borders.len() + 1).ilog2().min(MOST_INDEX_BITS);
         let (base, shift) = base_and_shift(&borders, bits);
         let mut lower = count_by_top(alloc, &borders, base, bits, shift)?;
         sum_up(&mut lower);
         Ok(Parts {
             borders,
+            named,
             base,
             lower,
             shift,
         })
+    }
+
+    /// The part of the UID that the line with an index names.
+    pub(crate) fn named(&self, line: usize) -> u32 {
+        match self.named.get(line) {
+            Some(part) => *part,
+            None => self.count(),
+        }
     }
 
     /// How many there are.

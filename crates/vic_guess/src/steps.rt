@@ -1,6 +1,6 @@
 //! What the lines of a log do to the UIDs, part by part.
 
-use crate::parts::Parts;
+use crate::parts::{NamedUid, Parts};
 pub(crate) use crate::parts::Span;
 use std::alloc::{AllocError, Global};
 use vic_frame::low_bits_first::key;
@@ -72,7 +72,7 @@ fn named_uid(entry: &Entry) -> Option<Uid> {
     }
 }
 
-/// Adds the borders of an entry's slot, and of the UID that it names.
+/// Adds the borders of an entry's slot.
 fn push_borders(
     borders: &mut Vec<u64>,
     rounds: &RoundCursor,
@@ -84,35 +84,45 @@ fn push_borders(
             borders.push(to)?;
         }
     }
-    if let Some(uid) = named_uid(entry) {
-        borders.push(key(uid))?;
-        borders.push(key(uid) + 1)?;
-    }
     Ok(())
 }
 
 /// The parts of the UIDs that fare alike in a log.
 pub(crate) fn parts_of(alloc: Global, lines: &[PackedLine]) -> Result<Parts, AllocError> {
     let mut borders = Vec::new(alloc);
+    let mut names = Vec::new(alloc);
     let mut rounds = RoundCursor::first();
+    let mut index: u32 = 0;
     for line in lines {
         let entry = line.item();
         push_borders(&mut borders, &rounds, &entry)?;
+        if let Some(uid) = named_uid(&entry) {
+            let key = key(uid);
+            names.push(NamedUid { key, line: index })?;
+        }
         rounds.advance(&entry);
+        index = index.saturating_add(1);
     }
-    Parts::between(alloc, borders)
+    Parts::between(alloc, borders, names, lines.len())
 }
 
 /// What a line does.
-fn step_of(number: u32, entry: &Entry, rounds: &RoundCursor, parts: &Parts) -> Option<Step> {
+fn step_of(
+    number: u32,
+    index: usize,
+    entry: &Entry,
+    rounds: &RoundCursor,
+    parts: &Parts,
+) -> Option<Step> {
     let found = match *entry {
         Entry::Silent => Found::Nobody,
-        Entry::Heard(response) => Found::One(parts.part_at(key(response.uid()))),
+        Entry::Heard(_) => Found::One(parts.named(index)),
         Entry::Garbled => Found::Some,
         Entry::Collision => Found::Two,
         Entry::FieldCycle => return Some(Step::Wake),
         Entry::Sent(Request::StayQuiet { uid, .. }) => {
-            return Some(Step::Quiet(parts.part_at(key(Uid::new(uid)?))));
+            Uid::new(uid)?;
+            return Some(Step::Quiet(parts.named(index)));
         }
         Entry::Sent(Request::Inventory { .. }) | Entry::Listed(_) => return None,
     };
@@ -145,9 +155,9 @@ pub(crate) fn steps_of(
     let mut woken = 0;
     let mut steps = Vec::new(alloc);
     let mut rounds = RoundCursor::first();
-    for line in lines {
+    for (index, line) in lines.iter().enumerate() {
         let entry = line.item();
-        match step_of(line.number(), &entry, &rounds, parts) {
+        match step_of(line.number(), index, &entry, &rounds, parts) {
             None => {}
             Some(Step::Quiet(part)) if !was_ready(&mut fallen, part, woken, steps.len()) => {}
             Some(step) => {
