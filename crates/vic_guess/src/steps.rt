@@ -1,7 +1,7 @@
 //! What the lines of a log do to the UIDs, part by part.
 
-use crate::parts::{NamedUid, Parts};
 pub(crate) use crate::parts::Span;
+use crate::parts::{NamedUid, Parts};
 use std::alloc::{AllocError, Global};
 use vic_frame::low_bits_first::key;
 use vic_frame::{Request, Uid};
