@@ -1,5 +1,5 @@
 -- Ranges of keys without some keys.
-use Rattle.std.proofs.Common.{◌≡◌, ℕ, ◌+◌, ◌-◌, ◌^◌, ◌<◌, ◌≤◌, ◌==◌, ◌&&◌, ◌||◌, ◌⊎◌, inl, inr, Bool, true, false, not, List, ◌∷◌, Option, Some, None, IfSome, length, get_or, nat_eq, sym, ap, subst, ◌∙◌, arith}
+use Rattle.std.proofs.Common.{◌≡◌, ℕ, ◌+◌, ◌-◌, ◌^◌, ◌<◌, ◌≤◌, ◌==◌, ◌&&◌, ◌||◌, ◌⊎◌, inl, inr, Bool, true, false, not, List, ◌∷◌, Option, Some, None, IfNone, IfSome, length, get_or, min, nat_eq, refl, sym, ap, subst, ◌∙◌, arith}
 use Rattle.std.specs.List.Sorted.{IsNonDecreasing}
 use Rattle.std.proofs.lemmas.Bool.{cases_lt}
 use Rattle.std.proofs.lemmas.Nat.{pow_pos}
@@ -11,8 +11,8 @@ use Rattle.vic_frame.specs.LowBitsFirst.{mirror, uid_of}
 use Rattle.vic_frame.proofs.MirrorLaws.{mirror_of_uid}
 use Rattle.vic_frame.proofs.KeyLaws.{is_uid}
 use Rattle.vic_tree.specs.Gathering.{Gathers}
-use Rattle.vic_tree.specs.OpenSet.{AllOpen, IsAtMost, IsWidest, has_key, without_keys}
-use Rattle.vic_tree.specs.Ranges.{AllKeysPass, AreRangesFrom, ComesFirstIn, HoldsMask, IsFoundBelow, IsFreeBetween, IsMaskIn, IsWidestBelow, PassBesides, in_ranges, is_between, is_open_in, is_passed}
+use Rattle.vic_tree.specs.OpenSet.{AllOpen, IsAtMost, IsWidest, SameUids, has_key, without_keys}
+use Rattle.vic_tree.specs.Ranges.{AllKeysPass, AreRangesFrom, ComesFirstIn, HoldsMask, IsFoundBelow, IsFirstRun, IsFreeBetween, IsFreeInRanges, IsMaskIn, IsWidestBelow, PassBesides, in_ranges, is_between, is_left, is_open_in, is_passed}
 use Rattle.vic_tree.proofs.BlockLaws.{key_in_mask, mask_ends}
 use Rattle.vic_tree.proofs.GatheringLaws.{gathers_both, gathers_like, not_among}
 use Rattle.vic_tree.proofs.RangeLaws.{inside_is, is_after, is_inside, neither, none_below}
@@ -25,56 +25,72 @@ between_two keys n from to k up low high p q =
       | inr a ↦ let b = high (omega arith) in let c = up n i 0 a lt in (λ e. omega arith)
     ])))
 
--- the UIDs of a gap are gathered
-pub gap_gathered : (except keys : List ℕ) (n first last from to : ℕ) (old out new : List ℕ) → IsNonDecreasing keys → ((i : ℕ) → i < n → get_or keys i 0 < from) → (n < length keys → to < get_or keys n 0) → first ≤ from → from ≤ to → to ≤ last
-    → Gathers (λ u. IsFreeBetween first last (is_passed except keys) u × (mirror u < from)) old out
-    → Gathers (IsFreeBetween from to (has except)) out new
-    → Gathers (λ u. IsFreeBetween first last (is_passed except keys) u × (mirror u < to + 1)) old new
-gap_gathered except keys n first last from to old out new up low high a b d g h =
+-- a key that passes lies before a place, or in the first run from there on
+pub in_run : (p : ℕ → Bool) (from x y k : ℕ) → IsFirstRun p from x y → p k ≡ true → k < y + 2 → (k < from) ⊎ ((x ≤ k) × (k ≤ y))
+in_run p from x y k run t lt = elim (cases_lt k from) [
+  | inl below ↦ inl below
+  | inr le ↦ inr (
+    elim (cases_lt k x) [ inl low ↦ absurd (let f = run.before k le low in cc (t, f)) | inr at ↦ at ],
+    elim (cases_lt y k) [ inl over ↦ absurd (let e : k ≡ y + 1 = omega arith in let f = run.ends in let s = ap p e in cc (t, f, s)) | inr at ↦ at ],
+  )
+]
+
+-- a UID is left if it's free, and is in a range and not in the list if it's left
+free_is_left : (rs : List (ℕ × ℕ)) (except keys : List ℕ) (first last u : ℕ) → IsFreeInRanges rs first last (is_passed except keys) u → is_left rs keys (mirror u) ≡ true
+free_is_left rs except keys first last u w = rw (w.is_open, (neither (has except u) (has_key keys u) w.free).1) refl
+
+left_is : (x y : Bool) → (x && not y) ≡ true → (x ≡ true) × (y ≡ false)
+left_is true false e = (refl, refl)
+left_is true true e = absurd (cc)
+left_is false y e = absurd (cc)
+
+-- the UIDs of a run are gathered
+pub run_gathered : (rs : List (ℕ × ℕ)) (except keys : List ℕ) (first last from x y to : ℕ) (old out new : List ℕ) → IsFirstRun (is_left rs keys) from x y → x ≤ y → to ≡ min y last → first ≤ from
+    → Gathers (λ u. IsFreeInRanges rs first last (is_passed except keys) u × (mirror u < from)) old out
+    → Gathers (IsFreeBetween x to (has except)) out new
+    → Gathers (λ u. IsFreeInRanges rs first last (is_passed except keys) u × (mirror u < y + 2)) old new
+run_gathered rs except keys first last from x y to old out new run forward is low g h =
     gathers_both
-    (λ u. IsFreeBetween first last (is_passed except keys) u × (mirror u < from))
-    (IsFreeBetween from to (has except))
-    (λ u. IsFreeBetween first last (is_passed except keys) u × (mirror u < to + 1))
+    (λ u. IsFreeInRanges rs first last (is_passed except keys) u × (mirror u < from))
+    (IsFreeBetween x to (has except))
+    (λ u. IsFreeInRanges rs first last (is_passed except keys) u × (mirror u < y + 2))
     old out new
-    (λ u w. (w.0, omega (arith, w.1)))
-    (λ u w. let i = inside_is from to (mirror u) w.inside in (
-      record { is_uid = w.is_uid; inside = is_inside first last (mirror u) (omega (arith, i.0)) (omega (arith, i.1)); free = rw (w.free, between_two keys n from to (mirror u) up low high i.0 i.1) },
+    (λ u w. (w.0, let a = run.begins in omega (arith, w.1)))
+    (λ u w.
+    let a = run.begins in
+    let i = inside_is x to (mirror u) w.inside in
+    let left = left_is (in_ranges rs (mirror u)) (has keys (mirror u)) (run.passes (mirror u) i.0 (omega (arith, i.1))) in (
+      record { is_uid = w.is_uid; is_open = left.0; inside = is_inside first last (mirror u) (omega (arith, i.0)) (omega (arith, i.1)); free = rw (w.free, left.1) refl },
       omega (arith, i.1),
     ))
-    (λ u w. elim (cases_lt (mirror u) from) [
-      | inl p ↦ inl (w.0, p)
-      | inr p ↦ inr (record { is_uid = w.0.is_uid; inside = is_inside from to (mirror u) p (omega (arith, w.1)); free = (neither (has except u) (has_key keys u) w.0.free).0 })
+    (λ u w.
+    let i = inside_is first last (mirror u) w.0.inside in
+    let t = free_is_left rs except keys first last u w.0 in
+    let free = (neither (has except u) (has_key keys u) w.0.free).0 in
+    elim (in_run (is_left rs keys) from x y (mirror u) run t w.1) [
+      | inl lt ↦ inl (w.0, lt)
+      | inr at ↦ inr (record { is_uid = w.0.is_uid; inside = is_inside x to (mirror u) at.0 (omega (arith, at.1, i.1)); free = free })
     ])
-    g
-    h
-
--- and the keys of the list after it are passed
-pub keys_passed : (except keys : List ℕ) (first last b c : ℕ) (old new : List ℕ) → b ≤ c → ((k : ℕ) → b ≤ k → k < c → has keys k ≡ true)
-    → Gathers (λ u. IsFreeBetween first last (is_passed except keys) u × (mirror u < b)) old new
-    → Gathers (λ u. IsFreeBetween first last (is_passed except keys) u × (mirror u < c)) old new
-keys_passed except keys first last b c old new h all g =
-    gathers_like
-    (λ u. IsFreeBetween first last (is_passed except keys) u × (mirror u < b))
-    (λ u. IsFreeBetween first last (is_passed except keys) u × (mirror u < c))
-    old new
-    (λ u w. (w.0, omega (arith, w.1)))
-    (λ u w. elim (cases_lt (mirror u) b) [
-      | inl p ↦ (w.0, p)
-      | inr p ↦ absurd (let t = all (mirror u) p w.1 in let f = (neither (has except u) (has_key keys u) w.0.free).1 in cc (t, f))
-    ])
-    g
+    g h
 
 -- all are gathered
-pub gaps_gathered : (except keys : List ℕ) (first last b : ℕ) (old new : List ℕ) → last < b
-    → Gathers (λ u. IsFreeBetween first last (is_passed except keys) u × (mirror u < b)) old new
-    → Gathers (IsFreeBetween first last (is_passed except keys)) old new
-gaps_gathered except keys first last b old new h g =
+pub all_gathered : (rs : List (ℕ × ℕ)) (except keys : List ℕ) (first last from : ℕ) (old new : List ℕ) → ((k : ℕ) → from ≤ k → k ≤ last → is_left rs keys k ≡ false)
+    → Gathers (λ u. IsFreeInRanges rs first last (is_passed except keys) u × (mirror u < from)) old new
+    → Gathers (IsFreeInRanges rs first last (is_passed except keys)) old new
+all_gathered rs except keys first last from old new none g =
     gathers_like
-    (λ u. IsFreeBetween first last (is_passed except keys) u × (mirror u < b))
-    (IsFreeBetween first last (is_passed except keys))
+    (λ u. IsFreeInRanges rs first last (is_passed except keys) u × (mirror u < from))
+    (IsFreeInRanges rs first last (is_passed except keys))
     old new
     (λ u w. w.0)
-    (λ u w. (w, let i = inside_is first last (mirror u) w.inside in omega (arith, i.1)))
+    (λ u w. (
+      w,
+      elim (cases_lt (mirror u) from) [
+        | inl lt ↦ lt
+        | inr le ↦ absurd (
+            let i = inside_is first last (mirror u) w.inside in let t = free_is_left rs except keys first last u w in let f = none (mirror u) le i.1 in cc (t, f))
+      ],
+    ))
     g
 
 -- ---- the widest mask
@@ -95,57 +111,28 @@ in_gap p from to m end all low high = (
   ],
 )
 
--- keys that fail are passed
-pub found_passed : (p : ℕ → Bool) (o : Option BitMask) (b c : ℕ) → ((k : ℕ) → b ≤ k → k < c → p k ≡ false) → IsFoundBelow p b o → IsFoundBelow p c o
-found_passed p None b c out w = λ k lt. elim (cases_lt k b) [ inl h ↦ w k h | inr h ↦ out k h lt ]
-found_passed p (Some m) b c out w = record {
-  is_mask = w.is_mask;
-  short = w.short;
-  passes = w.passes;
-  least = λ n is short all lt. elim (cases_lt (mirror n.value) b) [
-    | inl h ↦ w.least n is short all h
-    | inr h ↦ absurd (let t = first_passes p n all in let f = out (mirror n.value) h lt in cc (t, f))
-  ];
-}
+-- the widest mask of a run, and one that was found before
+found_passes : (p : ℕ → Bool) (o : Option BitMask) (m : BitMask) (b x y : ℕ) → ((k : ℕ) → x ≤ k → k ≤ y → p k ≡ true) → IsMaskIn x y m ⊎ (o ≡ Some m) → IsFoundBelow p b o → IsMask m × (m.len ≤ 56) × AllKeysPass p m
+found_passes p o m b x y all (inl h) w = (h.0, h.1, λ k lo hi. all k (omega (arith, h.2.0, lo)) (omega (arith, h.2.1, hi)))
+found_passes p o m b x y all (inr e) w = let v : IsWidestBelow p b m = subst (IsFoundBelow p b) e w in (v.is_mask, v.short, v.passes)
 
--- the masks of a gap are looked at
-pub gap_found : (p : ℕ → Bool) (o : Option BitMask) (m : BitMask) (from to : ℕ) → ((k : ℕ) → from ≤ k → k ≤ to → p k ≡ true) → p (to + 1) ≡ false
-    → IsMaskIn from to m ⊎ (o ≡ Some m) → ComesFirstIn from to m → IfSome o (IsAtMost m) → IsFoundBelow p from o → IsFoundBelow p (to + 1) (Some m)
-gap_found p None m from to all end (inr e) first at w = absurd (cc)
-gap_found p None m from to all end (inl h) first at w = record {
-  is_mask = h.0;
-  short = h.1;
-  passes = λ k lo hi. all k (omega (arith, h.2.0, lo)) (omega (arith, h.2.1, hi));
-  least = λ n is short pass lt. elim (cases_lt (mirror n.value) from) [
-    | inl below ↦ absurd (let t = first_passes p n pass in let f = w (mirror n.value) below in cc (t, f))
-    | inr above ↦ first n is short (in_gap p from to n end pass above lt)
-  ];
-}
-gap_found p (Some y) m from to all end (inl h) first at w = record {
-  is_mask = h.0;
-  short = h.1;
-  passes = λ k lo hi. all k (omega (arith, h.2.0, lo)) (omega (arith, h.2.1, hi));
-  least = λ n is short pass lt. elim (cases_lt (mirror n.value) from) [
-    | inl below ↦ at_most_then m y n at (w.least n is short pass below)
-    | inr above ↦ first n is short (in_gap p from to n end pass above lt)
-  ];
-}
-gap_found p (Some y) m from to all end (inr e) first at w =
-    let same : y ≡ m = cc in
-    let v : IsWidestBelow p from m = subst (IsWidestBelow p from) same w in
+least_found : (p : ℕ → Bool) (o : Option BitMask) (m n : BitMask) (b : ℕ) → IfSome o (IsAtMost m) → IsFoundBelow p b o → IsMask n → n.len ≤ 56 → AllKeysPass p n → mirror n.value < b → IsAtMost m n
+least_found p None m n b at w is short all lt = absurd (let t = first_passes p n all in let f = w (mirror n.value) lt in cc (t, f))
+least_found p (Some y) m n b at w is short all lt = at_most_then m y n at (w.least n is short all lt)
+
+pub run_found : (p : ℕ → Bool) (o : Option BitMask) (m : BitMask) (from x y : ℕ) → IsFirstRun p from x y
+    → IsMaskIn x y m ⊎ (o ≡ Some m) → ComesFirstIn x y m → IfSome o (IsAtMost m) → IsFoundBelow p from o → IsFoundBelow p (y + 2) (Some m)
+run_found p o m from x y run one first at w =
+    let got = found_passes p o m from x y run.passes one w in
     record {
-      is_mask = v.is_mask;
-      short = v.short;
-      passes = v.passes;
-      least = λ n is short pass lt. elim (cases_lt (mirror n.value) from) [
-        | inl below ↦ v.least n is short pass below
-        | inr above ↦ first n is short (in_gap p from to n end pass above lt)
+      is_mask = got.0;
+      short = got.1;
+      passes = got.2;
+      least = λ n is short all lt. elim (in_run p from x y (mirror n.value) run (first_passes p n all) lt) [
+        | inl below ↦ least_found p o m n from at w is short all below
+        | inr i ↦ first n is short (in_gap p x y n run.ends all i.0 (omega (arith, i.1)))
       ];
     }
-
--- the keys of ranges that aren't in a list
-abbrev pub is_left : List (ℕ × ℕ) → List ℕ → ℕ → Bool
-is_left es keys k = in_ranges es k && not (has keys k)
 
 -- all masks are looked at
 pub left_keys : (p : ℕ → Bool) (m : BitMask) → IsMask m → m.len ≤ 56 → AllOpen (λ u. p (mirror u)) m → AllKeysPass p m
@@ -159,7 +146,7 @@ left_keys p m h k all x lo hi =
 pub none_left : (es : List (ℕ × ℕ)) (keys : List ℕ) (k : ℕ) → in_ranges es k ≡ false → is_left es keys k ≡ false
 none_left es keys k h = ap (λ (z : Bool). z && not (has keys k)) h
 
-pub found_is_widest : (es : List (ℕ × ℕ)) (keys : List ℕ) (b : ℕ) (o : Option BitMask) → ((k : ℕ) → b ≤ k → in_ranges es k ≡ false) → IsFoundBelow (is_left es keys) b o → IfSome o (IsWidest (without_keys (is_open_in es) keys))
+pub found_is_widest : (es : List (ℕ × ℕ)) (keys : List ℕ) (b : ℕ) (o : Option BitMask) → ((k : ℕ) → b ≤ k → is_left es keys k ≡ false) → IsFoundBelow (is_left es keys) b o → IfSome o (IsWidest (without_keys (is_open_in es) keys))
 found_is_widest es keys b None none w = tt
 found_is_widest es keys b (Some m) none w = record {
   is_mask = w.is_mask;
@@ -172,9 +159,13 @@ found_is_widest es keys b (Some m) none w = record {
       let pass = left_keys (is_left es keys) n is short all in
       elim (cases_lt (mirror n.value) b) [
         | inl h ↦ w.least n is short pass h
-        | inr h ↦ absurd (let t = first_passes (is_left es keys) n pass in let f = none_left es keys (mirror n.value) (none (mirror n.value) h) in cc (t, f))
+        | inr h ↦ absurd (let t = first_passes (is_left es keys) n pass in let f = none (mirror n.value) h in cc (t, f))
       ];
 }
+
+pub none_found : (es : List (ℕ × ℕ)) (keys : List ℕ) (b : ℕ) (o : Option BitMask) → ((k : ℕ) → b ≤ k → is_left es keys k ≡ false) → IsFoundBelow (is_left es keys) b o → IfNone o (SameUids (without_keys (is_open_in es) keys) (λ u. false))
+none_found es keys b (Some m) none w = tt
+none_found es keys b None none w = λ u i. elim (cases_lt (mirror u) b) [ inl lt ↦ w (mirror u) lt | inr le ↦ none (mirror u) le ]
 
 -- one range more
 pub range_passes : (all rest left : List (ℕ × ℕ)) (keys : List ℕ) (b x y : ℕ) → rest ≡ (x, y) ∷ left → AreRangesFrom b rest → ((k : ℕ) → b ≤ k → in_ranges all k ≡ in_ranges rest k) → PassBesides (is_left all keys) x y keys

@@ -10,10 +10,10 @@ use Rattle.vic_tree.specs.OpenMasks.{AreFirst, ComesBefore, IsOpenMask, parent}
 use Rattle.vic_tree.specs.OpenSet.{AllOpen, without_keys}
 use Rattle.std.specs.List.{AllPairs}
 use Rattle.vic_tree.specs.KeptMasks.{IsGreatestAt, IsGreatestIn, IsOpenBlock, IsOpenFrom, Keeps}
-use Rattle.vic_tree.specs.Ranges.{AllKeysPass, HoldsMask, in_ranges, is_open_in}
+use Rattle.vic_tree.specs.Ranges.{AllKeysPass, HoldsMask, in_ranges, is_left, is_open_in}
 use Rattle.vic_tree.proofs.BlockLaws.{IsBlockMask, block_of_mask, key_in_mask, not_before, number_of_mask, same_mask_value, twice}
 use Rattle.vic_tree.proofs.FirstMasks.{first_kept, first_like, kept_both, kept_like, same_mask}
-use Rattle.vic_tree.proofs.GapLaws.{first_passes, in_gap, is_left, left_keys, none_left}
+use Rattle.vic_tree.proofs.GapLaws.{first_passes, in_gap, left_keys, none_left}
 use Rattle.vic_tree.proofs.RangeLaws.{inside_is}
 
 -- where a mask stands in its parent, by the number of its block

@@ -6,9 +6,9 @@ use Rattle.vic_frame.specs.LowBitsFirst.{mirror}
 use Rattle.vic_tree.specs.KeptMasks.{IsCutOff, IsOpenFrom}
 use Rattle.vic_tree.specs.OpenMasks.{AreFirst}
 use Rattle.vic_tree.specs.OpenSet.{without_keys}
-use Rattle.vic_tree.specs.Ranges.{AreRangesFrom, in_ranges, is_open_in}
+use Rattle.vic_tree.specs.Ranges.{AreRangesFrom, in_ranges, is_left, is_open_in}
 use Rattle.vic_tree.proofs.RangeLaws.{drop_at}
-use Rattle.vic_tree.proofs.GapLaws.{before_range, behind_range, is_left, range_passes}
+use Rattle.vic_tree.proofs.GapLaws.{before_range, behind_range, range_passes}
 use Rattle.vic_tree.proofs.OpenBlocks.{all_kept, range_kept}
 use Rattle.vic_tree.proofs.open_masks.open_masks_besides.Goals as goal
 

@@ -1,8 +1,7 @@
 use Rattle.std.proofs.Common.{◌≡◌, drop, ℕ, ◌+◌, ◌<◌, ◌≤◌, false, length, get_or}
 use Rattle.vic_tree.specs.KeptMasks.{IsOpenFrom}
 use Rattle.vic_tree.specs.OpenMasks.{AreFirst}
-use Rattle.vic_tree.specs.Ranges.{AreRangesFrom, in_ranges}
-use Rattle.vic_tree.proofs.GapLaws.{is_left}
+use Rattle.vic_tree.specs.Ranges.{AreRangesFrom, in_ranges, is_left}
 use Rattle.vic_tree.proofs.open_masks.open_masks_besides.Given as goal
 
 abbrev pub invariant-loop-range : goal.invariant-loop-range

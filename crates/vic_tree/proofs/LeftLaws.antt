@@ -1,0 +1,60 @@
+-- What is left of ranges of keys without some keys, run by run.
+use Rattle.std.proofs.Common.{◌≡◌, ℕ, ◌+◌, ◌<◌, ◌≤◌, ◌==◌, ◌&&◌, inl, inr, Bool, true, false, not, List, [], ◌∷◌, length, get_or, nat_eq, max, ◌∙◌, refl, arith}
+use Rattle.std.specs.List.Sorted.{IsNonDecreasing}
+use Rattle.std.proofs.lemmas.Bool.{cases_lt}
+use Rattle.std.proofs.lemmas.Bool.Decides.{nat_tests}
+use Rattle.std.proofs.lemmas.List.Elements.{All-from_get_or}
+use Rattle.std.proofs.lemmas.List.Folds.{list_any_none}
+use Rattle.vic_frame.specs.Uids.{has}
+use Rattle.vic_tree.specs.Ranges.{AreRanges, IsFirstRun, PassFrom, in_ranges}
+use Rattle.vic_tree.proofs.BoolLaws.{and_false}
+use Rattle.vic_tree.proofs.GatheringLaws.{not_among}
+use Rattle.vic_tree.proofs.RangeLaws.{is_after, is_inside, none_below}
+
+-- a key in a list that rises, and one behind its first
+pub is_first : (key k : ℕ) (others : List ℕ) → k ≡ key → has (key ∷ others) k ≡ true
+is_first key k others e = grind (arith, nat_tests)
+
+pub is_behind : (key k : ℕ) (others : List ℕ) → key < k → has (key ∷ others) k ≡ has others k
+is_behind key k others lt = grind (arith, nat_tests)
+
+pub is_before_all : (keys : List ℕ) (k : ℕ) → IsNonDecreasing keys → (0 < length keys → k < get_or keys 0 0) → has keys k ≡ false
+is_before_all keys k up low =
+    list_any_none (nat_eq k) keys (All-from_get_or (λ y. (k == y) ≡ false) keys 0 (λ i lt. not_among (get_or keys i 0) k (let a = up 0 i 0 (omega arith) lt in let b = low (omega arith) in λ e. omega arith)))
+
+-- nothing is left of no ranges
+pub none_left : (rs : List (ℕ × ℕ)) (keys : List ℕ) (k : ℕ) → length rs ≡ 0 → (in_ranges rs k && not (has keys k)) ≡ false
+none_left [] keys k e = refl
+none_left (r ∷ rs) keys k e = absurd (omega arith)
+
+-- the keys before the first that is free don't pass
+pub none_passed : (p : ℕ → Bool) (from free : ℕ) (r : ℕ × ℕ) (others : List (ℕ × ℕ)) (keys : List ℕ) → AreRanges (r ∷ others) → PassFrom p (from, r ∷ others, keys) → ((k : ℕ) → max from r.0 ≤ k → k < free → has keys k ≡ true) → (k : ℕ) → from ≤ k → k < free → p k ≡ false
+none_passed p from free r others keys ranges pass taken k low lt = pass k low ∙ elim (cases_lt k r.0) [
+  | inl below ↦ rw (none_below r.0 (r ∷ others) k (omega arith, ranges.1, ranges.2, ranges.3) below) refl
+  | inr over ↦ rw (taken k (omega arith) lt) (and_false (in_ranges (r ∷ others) k))
+]
+
+-- a range that ends before it is passed
+pub pass_others : (p : ℕ → Bool) (from free : ℕ) (r : ℕ × ℕ) (others : List (ℕ × ℕ)) (keys rest : List ℕ) → from ≤ free → r.1 < free → PassFrom p (from, r ∷ others, keys) → ((k : ℕ) → free ≤ k → has rest k ≡ has keys k) → PassFrom p (free, others, rest)
+pass_others p from free r others keys rest low over pass same k le = pass k (omega arith) ∙ rw (is_after r.0 r.1 k (omega arith), same k le) refl
+
+-- and one that doesn't has a run
+pub is_first_run : (p : ℕ → Bool) (begin from first last : ℕ) (r : ℕ × ℕ) (others : List (ℕ × ℕ)) (keys rest : List ℕ) → AreRanges (r ∷ others) → PassFrom p (from, r ∷ others, keys)
+    → ((k : ℕ) → begin ≤ k → k < from → p k ≡ false) → begin ≤ from → max from r.0 ≤ first → first ≤ last → last ≤ r.1
+    → ((k : ℕ) → max from r.0 ≤ k → k < first → has keys k ≡ true)
+    → ((k : ℕ) → first ≤ k → has rest k ≡ has keys k)
+    → ((k : ℕ) → k ≤ last → has rest k ≡ false)
+    → (last < r.1 → has rest (last + 1) ≡ true)
+    → IsFirstRun p begin first last
+is_first_run p begin from first last r others keys rest ranges pass none a b d e taken same free end = record {
+  begins = omega arith;
+  before = λ k low lt. elim (cases_lt k from) [
+    | inl below ↦ none k low below
+    | inr le ↦ none_passed p from first r others keys ranges pass taken k le lt
+  ];
+  passes = λ k low high. pass k (omega arith) ∙ rw (is_inside r.0 r.1 k (omega arith) (omega arith), ← same k low, free k high) refl;
+  ends = pass (last + 1) (omega arith) ∙ elim (cases_lt last r.1) [
+    | inl lt ↦ rw (← same (last + 1) (omega arith), end lt) (and_false (in_ranges (r ∷ others) (last + 1)))
+    | inr le ↦ rw (is_after r.0 r.1 (last + 1) (omega arith), none_below (r.1 + 2) others (last + 1) ranges.3 (omega arith)) refl
+  ];
+}

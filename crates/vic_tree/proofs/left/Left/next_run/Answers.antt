@@ -1,0 +1,54 @@
+use Rattle.std.proofs.Common.{◌∙◌, inl, inr, arith}
+use Rattle.std.proofs.lemmas.Bool.{cases_lt}
+use Rattle.vic_tree.proofs.LeftLaws.{is_first_run, none_left, none_passed, pass_others}
+use Rattle.vic_tree.proofs.RangeLaws.{from_lower}
+use Rattle.vic_tree.proofs.left.Left.next_run.Goals as goal
+
+pub returns-then-from-last-clause-run : goal.returns-then-from-last-clause-run
+returns-then-from-last-clause-run c p h =
+    let inv = c.loop-range.invariant in
+    let free = c.first_free.ensures in
+    let run = c.run_from-run.ensures in
+    let is = c.in-Some.ensures.cases.0 in
+    let h = rw (← c.self.view_is) at h in
+    rw (← c.self.view_is) (is_first_run p _ c.loop-range.from _ _ c.in-Some.range.now c.in-Some.others.now c.loop-range.keys.now c.first_free.result.1.now
+    (rw is at inv.ranges) (rw is at (inv.same p h)) (inv.none p h) inv.from (omega arith) (omega arith) (omega arith)
+    (λ k low lt. free.taken k (omega arith) (omega arith)) (λ k le. free.same k (omega arith)) run.free (λ lt. run.end (omega arith)))
+
+pub returns-then-from-last-clause-rest : goal.returns-then-from-last-clause-rest
+returns-then-from-last-clause-rest c p h k le =
+    let h = rw (← c.self.view_is) at h in
+    rw (c.first_free.ensures.same k (omega arith)) (c.loop-range.invariant.same p h k (omega arith))
+
+pub loop-range-preserved : goal.loop-range-preserved
+loop-range-preserved c =
+    let inv = c.loop-range.invariant in
+    let free = c.first_free.ensures in
+    let is = c.in-Some.ensures.cases.0 in
+    let ranges = rw is at inv.ranges in
+    let same = rw is at inv.same in
+    let r = c.in-Some.range.now in
+    let others = c.in-Some.others.now in
+    let keys = c.loop-range.keys.now in
+    record {
+      from = omega arith;
+      none = λ p h k low lt. elim (cases_lt k c.loop-range.from) [
+        | inl below ↦ inv.none p h k low below
+        | inr le ↦ none_passed p _ _ r others keys ranges (same p h) (λ k low lt. free.taken k (omega arith) lt) k le lt
+      ];
+      same = λ p h. pass_others p _ _ r others keys _ (omega arith) (omega arith) (same p h) free.same;
+      ranges = from_lower _ 0 others (omega arith) ranges.3;
+      keys = free.keys;
+      order = free.order;
+      inside = inv.inside;
+    }
+
+pub returns-clause-none : goal.returns-clause-none
+returns-clause-none c p h k le =
+    let inv = c.loop-range.invariant in
+    let h = rw (← c.self.view_is) at h in
+    let le = rw (← c.self.view_is) at le in
+    elim (cases_lt k c.loop-range.from) [
+      | inl below ↦ inv.none p h k (omega arith) below
+      | inr from ↦ inv.same p h k from ∙ none_left c.loop-range.ranges.now c.loop-range.keys.now k c.in_default.ensures.cases
+    ]

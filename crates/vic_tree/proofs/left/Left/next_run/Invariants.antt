@@ -1,0 +1,19 @@
+use Rattle.std.proofs.Common.{◌≡◌, ℕ, ◌<◌, ◌≤◌, Bool, false, length}
+use Rattle.std.specs.List.Sorted.{IsNonDecreasing}
+use Rattle.vic_tree.specs.OpenSet.{AreKeys}
+use Rattle.vic_tree.specs.Ranges.{AreRanges, PassFrom}
+use Rattle.vic_tree.proofs.left.Left.next_run.Given as goal
+
+abbrev pub invariant-loop-range : goal.invariant-loop-range
+invariant-loop-range l = record {
+  from : l.initial.from ≤ l.from;
+  none : (p : ℕ → Bool) → PassFrom p (l.initial.from, l.initial.ranges, l.initial.keys) → (k : ℕ) → l.initial.from ≤ k → k < l.from → p k ≡ false;
+  same : (p : ℕ → Bool) → PassFrom p (l.initial.from, l.initial.ranges, l.initial.keys) → PassFrom p (l.from, l.ranges, l.keys);
+  ranges : AreRanges l.ranges;
+  keys : AreKeys l.keys;
+  order : IsNonDecreasing l.keys;
+  inside : AreRanges l.self-inside.ranges.now × AreKeys l.self-inside.keys.now × IsNonDecreasing l.self-inside.keys.now;
+}
+
+abbrev pub decreases-loop-range : goal.decreases-loop-range
+decreases-loop-range l = length l.ranges

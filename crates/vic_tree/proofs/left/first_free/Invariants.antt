@@ -1,0 +1,17 @@
+use Rattle.std.proofs.Common.{◌≡◌, ℕ, ◌<◌, ◌≤◌, true, length}
+use Rattle.std.specs.List.Sorted.{IsNonDecreasing}
+use Rattle.vic_frame.specs.Uids.{has}
+use Rattle.vic_tree.specs.OpenSet.{AreKeys}
+use Rattle.vic_tree.proofs.left.first_free.Given as goal
+
+abbrev pub invariant-loop-key : goal.invariant-loop-key
+invariant-loop-key l = record {
+  from : l.from ≤ l.free;
+  taken : (k : ℕ) → l.from ≤ k → k < l.free → has l.keys k ≡ true;
+  same : (k : ℕ) → l.free ≤ k → has l.rest k ≡ has l.keys k;
+  keys : AreKeys l.rest;
+  order : IsNonDecreasing l.rest;
+}
+
+abbrev pub decreases-loop-key : goal.decreases-loop-key
+decreases-loop-key l = length l.rest
