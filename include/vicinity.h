@@ -17,10 +17,10 @@
  * - The call isn't made from a signal handler, nor in the forked child of a process with threads.
  * - An x86-64 processor has x86-64-v2 (SSE4.2, POPCNT).
  * - The stack has 64 KiB left.
- * Calls share nothing: any number of threads may call at the same time. The calls that judge a text
- * or fill in its slots take memory, and no other call does. They can't be stopped, and take about a
- * quarter of a second and 40 MB for a session of 1,000,000 lines, and ten times that for the worst
- * logs: bound the length of a text from a stranger.
+ * Calls share nothing: any number of threads may call at the same time. Only the calls that judge a
+ * text or fill in its slots take memory. They can't be stopped. They take about a quarter of a
+ * second and 40 MB for a session of 1,000,000 lines, and ten times that for the worst logs: bound
+ * the length of untrusted input.
  */
 #ifndef VICINITY_H
 #define VICINITY_H
@@ -34,7 +34,7 @@ extern "C" {
 
 #define VICINITY_INTERFACE 1u
 
-/* The version of this header, in words and as vicinity_version() gives that of the library. */
+/* The version of this header, as text and as a number like that of vicinity_version(). */
 #define VICINITY_VERSION "1.0.1"
 #define VICINITY_VERSION_NUMBER 10001u
 
