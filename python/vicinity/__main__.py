@@ -110,9 +110,10 @@ def report_all(names: list[str], is_json: bool) -> int:
     for name in names:
         try:
             session, told = reported(read(name))
-        except NoAnswer as why:
-            worst = complain(str(why))
-            write([as_json(name, str(why))] if is_json else [])
+        except (NoAnswer, MemoryError) as error:
+            why = str(error) if isinstance(error, NoAnswer) else f"out of memory: {shown(name)}"
+            worst = complain(why)
+            write([as_json(name, why)] if is_json else [])
             continue
         worst = max(worst, told.answer.status)
         write(as_object(name, session, told, fields(told.answer)) if is_json else as_lines(shown(name), session, told))
