@@ -27,14 +27,14 @@ ADVICE = {
     Fault.UNKNOWN_ENTRY: Advice("it is no entry of a log",
                                 "Write T, R or U, one space and digits, or S or C alone (D and F as well under the header "
                                 "'vicinity-log 2'). Comments stand on lines of their own and begin with #."),
-    Fault.HEX: Advice("what follows the letter isn't whole bytes in hex",
+    Fault.HEX: Advice("what follows the letter isn't bytes in hex",
                       "Write two digits for each byte, without spaces between or after them."),
     Fault.LISTED_LENGTH: Advice("a UID has sixteen digits", "Write all eight bytes of the UID, E0 first."),
     Fault.NOT_VICINITY: Advice("a UID begins with E0",
                                "Write the most significant byte first: U E0.., the opposite of a frame's order."),
     Fault.SLOT_OUTSIDE_ROUND: Advice("no slot of a round is left for this line",
                                      "A round has one slot or sixteen, after its T line. Write the T line that opened this "
-                                     "slot, or remove the line if nobody listened."),
+                                     "slot, or remove the line if the reader didn't listen."),
     Fault.ENTRY_AFTER_LIST: Advice("after a U line nothing is asked any more", "Move the U lines to the end of the log."),
     Fault.DUPLICATE_LISTED: Advice("an earlier U line has this UID", "List each UID once."),
     Fault.FRAME_SHORT: Advice("the frame is too short for a request", CRC),

@@ -55,7 +55,7 @@ class Findings:
         lines = ([told.silenced] if told.silenced else []) + list(told.conflict[:MOST])
         rows = [self._quote(quote) for quote in quotes(self.session, lines)]
         if told.conflict_size > 1:
-            yield "<p>No tags could have given all of these lines; without any one of them some could.</p>"
+            yield "<p>No tags could have produced all of these lines. If any one of them is left out, some could.</p>"
         yield from table(LINE_HEADS, rows, len(rows) + max(0, len(told.conflict) - MOST), "lines")
 
     def _quote(self, quote: Quote) -> str:

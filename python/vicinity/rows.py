@@ -5,9 +5,9 @@ from typing import NamedTuple, Union
 
 from .session import Row, Session, lines_of
 
-#: A session of so many rows is drawn as a whole. Of a longer one so many are drawn at its ends, more if nothing is named,
+#: Of a session of so many rows each is drawn. Of a longer one so many are drawn at its ends, more if nothing is named,
 #: on each side of a row that is named, and in all, before the one that is over it.
-WHOLE, ENDS, ENDS_ALONE, AROUND, MOST = 40, 2, 8, 1, 80
+ALL, ENDS, ENDS_ALONE, AROUND, MOST = 40, 2, 8, 1, 80
 #: Of more rows than these none beside them is drawn.
 MOST_WITH_NEIGHBOURS = 8
 
@@ -24,7 +24,7 @@ Drawn = Union[Row, Gap]
 def chosen(session: Session, named: set[int]) -> list[Drawn]:
     """The rows that are drawn, and the gaps between them."""
     total = session.row_count
-    if total <= WHOLE:
+    if total <= ALL:
         return list(session.rows.values())
     matter = [index for index, row in session.rows.items() if not named.isdisjoint(lines_of(row))]
     if len(matter) > MOST:

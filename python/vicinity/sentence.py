@@ -45,7 +45,7 @@ def _missing(told: Told) -> list[str]:
 def masks_left(told: Told) -> str:
     """How much is left to ask for."""
     if told.open_masks[0].length == 0:
-        return "any tag may be there that nobody has asked for"
+        return "all UIDs are left to ask for"
     some = "or more " if told.has_more_open else ""
     left = len(told.open_masks)
     return f"{left} {some}mask{'s are' if left > 1 else ' is'} left to ask for"

@@ -18,7 +18,7 @@ AGAIN = "Switch the field off and on, and count again, as a new log."
 CHECK = "Check the log again."
 NO_HARM = "Check the log again. Nothing is wrong with the shelf."
 CAUSES = "Look for the cause. These fit, the likeliest first:"
-LOST = ("Before anybody looks for them: the reader silenced some absent UIDs, so it knew them, and replies of theirs may have "
+LOST = ("Before you look for them: the reader silenced some absent UIDs, so it knew them, and replies of theirs may have "
         "been lost. Switch the field off and on, and ask for each alone, or count again.")
 ABSENT = ("Look for {}. What was expected is missing from this field, or its tag is covered or broken: keep it on the list of "
           "what is expected. What the reader says it found has left, or was found in another session: count again.")

@@ -7,10 +7,10 @@ from .frames import Mask
 from .session import Reading
 
 READ = {
-    Reading.SILENT: "nobody answered",
+    Reading.SILENT: "no tag answered",
     Reading.HEARD: "one tag answered",
     Reading.COLLISION: "two tags or more answered",
-    Reading.GARBLED: "something answered that couldn't be read",
+    Reading.GARBLED: "one tag or more answered, unreadable",
 }
 #: The bits of a UID that a mask of the profile can tell; the others are those of E0.
 UID_BITS = 56
