@@ -1,57 +1,43 @@
 -- Lists of masks in order, of which the last are left out.
-use Rattle.std.proofs.Common.{◌≡◌, ◌==◌, ◌↔◌, Bool, true, false, min, ℕ, suc, zero, ◌+◌, ◌-◌, ◌<◌, ◌≤◌, ◌⊎◌, inl, inr, List, [], ◌∷◌, ◌++◌, length, get_or, take, drop, refl, sym, ap, subst, ◌∙◌, arith}
-use Rattle.std.specs.List.{All, AllPairs, Contains, insert}
+use Rattle.std.proofs.Common.{◌≡◌, ◌==◌, ◌↔◌, Bool, true, min, ℕ, suc, zero, ◌+◌, ◌-◌, ◌<◌, ◌≤◌, ◌⊎◌, inl, inr, List, [], ◌∷◌, length, get_or, take, Some, Err, Ordering, Less, Equal, Greater, refl, sym, ap, subst, ◌∙◌, arith}
+use Rattle.std.specs.List.{AllPairs, Contains, insert}
+use Rattle.std.specs.List.Sorted.{IsBinarySearchResult, IsNonDecreasingBy}
+use Rattle.std.specs.Ordering.{MatchOrdering, nat_cmp, ordering_index, ordering_then}
 use Rattle.std.proofs.lemmas.Bool.{cases_lt, cases_eq, eqb-true}
 use Rattle.std.proofs.lemmas.Bool.Decides.{nat_tests}
-use Rattle.std.proofs.lemmas.List.{get_or_append_left, get_or_default, get_or-drop, get_or-take, length-drop, length-take-le, length_push, get_or_push, take-append-drop, take_all, take_more}
-use Rattle.std.proofs.lemmas.Nat.{pow_pos}
+use Rattle.std.proofs.lemmas.Cmp.{ranked}
+use Rattle.std.proofs.lemmas.List.{get_or_default, get_or-take, length-take, length-take-le, take_all}
 use Rattle.std.proofs.lemmas.List.Edits.{length-insert}
-use Rattle.std.proofs.lemmas.List.Elements.{All-append, All-cons, All-contains, All-drop, All-nil, All-take, All-weaker, Contains-append_cases, Contains-append_left, Contains-append_right, Contains-get_or, Contains-push, Contains-push_cases}
+use Rattle.std.proofs.lemmas.List.Elements.{All-cons, All-contains, All-nil, All-take, All-weaker, Contains-append_cases, Contains-append_right, Contains-get_or, Contains-push_cases}
 use Rattle.std.proofs.lemmas.List.Kept.{AllPairs-cons}
+use Rattle.std.proofs.lemmas.List.Sorted.{All-permutation, Contains-permutation, IsPermutation-insert, IsPermutation-sym}
+use Rattle.std.proofs.lemmas.Nat.{pow_pos}
 use Rattle.vic_frame.specs.Masks.{BitMask}
 use Rattle.vic_tree.specs.OpenSet.{IsAtMost, IsWidest}
 use Rattle.vic_tree.specs.OpenMasks.{AreFirst, ComesBefore, IsOpenMask, IsPast, parent}
-use Rattle.vic_tree.specs.KeptMasks.{Keeps}
+use Rattle.vic_tree.specs.KeptMasks.{AreKept, Keeps}
 
--- one mask more in a list
+-- one element more in a list
 module _ {X : Type 0} where
-  pub All-insert : (P : X → Type 0) (xs : List X) (i : ℕ) (x : X) → All P xs → P x → All P (insert xs i x)
-  All-insert P xs i x all new = All-append P (take i xs) (x ∷ drop i xs) (All-take P i xs all) (All-cons P x (drop i xs) new (All-drop P i xs all))
+  Contains-insert : (xs : List X) (i : ℕ) (x y : X) → Contains xs y ⊎ (x ≡ y) → Contains (insert xs i x) y
+  Contains-insert xs i x y h = Contains-permutation (x ∷ xs) (insert xs i x) y (IsPermutation-insert xs i x) (elim h [
+    | inl old ↦ Contains-append_right (x ∷ []) xs y old
+    | inr e ↦ (zero, omega arith, e)
+  ])
 
-  pub Contains-insert : (xs : List X) (i : ℕ) (x y : X) → Contains xs y → Contains (insert xs i x) y
-  Contains-insert xs i x y h = elim (Contains-append_cases (take i xs) (drop i xs) y (subst (λ l. Contains l y) (sym (take-append-drop i xs)) h)) [
-    | inl a ↦ Contains-append_left (take i xs) (x ∷ drop i xs) y a
-    | inr b ↦ Contains-append_right (take i xs) (x ∷ drop i xs) y (Contains-append_right (x ∷ []) (drop i xs) y b)
+  Contains-insert_cases : (xs : List X) (i : ℕ) (x y : X) → Contains (insert xs i x) y → Contains xs y ⊎ (x ≡ y)
+  Contains-insert_cases xs i x y h = elim (Contains-append_cases (x ∷ []) xs y (Contains-permutation (insert xs i x) (x ∷ xs) y (IsPermutation-sym (x ∷ xs) (insert xs i x) (IsPermutation-insert xs i x)) h)) [
+    | inl new ↦ elim (Contains-push_cases [] x y new) [ inl n ↦ absurd (let lt = n.1 in omega arith) | inr e ↦ inr e ]
+    | inr old ↦ inl old
   ]
 
-  pub Contains-inserted : (xs : List X) (i : ℕ) (x : X) → Contains (insert xs i x) x
-  Contains-inserted xs i x = Contains-append_right (take i xs) (x ∷ drop i xs) x (zero, omega arith, refl)
-
-  pub Contains-insert_cases : (xs : List X) (i : ℕ) (x y : X) → Contains (insert xs i x) y → Contains xs y ⊎ (y ≡ x)
-  Contains-insert_cases xs i x y h =
-      let old : Contains (take i xs ++ drop i xs) y → Contains xs y = λ k. subst (λ l. Contains l y) (take-append-drop i xs) k in
-      elim (Contains-append_cases (take i xs) (x ∷ drop i xs) y h) [
-        | inl a ↦ inl (old (Contains-append_left (take i xs) (drop i xs) y a))
-        | inr b ↦ elim (Contains-append_cases (x ∷ []) (drop i xs) y b) [
-          | inl a ↦ elim (Contains-push_cases [] x y a) [ inl n ↦ absurd (let lt = n.1 in omega arith) | inr e ↦ inr (sym e) ]
-          | inr c ↦ inl (old (Contains-append_right (take i xs) (drop i xs) y c))
-        ]
-      ]
-
-  pub AllPairs-insert : (R : X → X → Type 0) (xs : List X) (i : ℕ) (x : X) → AllPairs R xs → All (λ y. R y x) (take i xs) → All (R x) (drop i xs) → AllPairs R (insert xs i x)
-  AllPairs-insert R xs zero x h lower upper = AllPairs-cons R x xs upper h
+  AllPairs-insert : (R : X → X → Type 0) (xs : List X) (i : ℕ) (x : X) → AllPairs R xs → ((k : ℕ) (d : X) → 0 ≤ k → k < i → R (get_or xs k d) x) → ((k : ℕ) (d : X) → i ≤ k → k < length xs → R x (get_or xs k d)) → AllPairs R (insert xs i x)
+  AllPairs-insert R xs zero x h lower upper = AllPairs-cons R x xs (λ k d lt. upper k d (omega arith) lt) h
   AllPairs-insert R [] (suc i) x h lower upper = AllPairs-cons R x [] (All-nil (R x)) h
   AllPairs-insert R (y ∷ ys) (suc i) x h lower upper =
       AllPairs-cons R y (insert ys i x)
-      (All-insert (R y) ys i x (λ k d lt. h zero (suc k) d (omega arith) (omega arith)) (lower zero x (omega arith)))
-      (AllPairs-insert R ys i x (λ k j d lt within. h (suc k) (suc j) d (omega arith) (omega arith)) (λ k d lt. lower (suc k) d (omega arith)) upper)
-
-  pub AllPairs-front : (R : X → X → Type 0) (xs : List X) (x : X) → AllPairs R (xs ++ x ∷ []) → AllPairs R xs × All (λ y. R y x) xs
-  AllPairs-front R xs x h =
-      let long = length_push xs x in (
-        λ i j d lt within. rw (sym (get_or_append_left xs (x ∷ []) d i (omega arith)), sym (get_or_append_left xs (x ∷ []) d j within)) (h i j d lt (omega arith)),
-        λ k d lt. subst (R (get_or xs k d)) (get_or_push xs x d (length xs) refl) (rw (sym (get_or_append_left xs (x ∷ []) d k lt)) (h k (length xs) d lt (omega arith))),
-      )
+      (All-permutation (R y) (x ∷ ys) (insert ys i x) (IsPermutation-insert ys i x) (All-cons (R y) x ys (lower zero x (omega arith) (omega arith)) (λ k d lt. h zero (suc k) d (omega arith) (omega arith))))
+      (AllPairs-insert R ys i x (λ k j d lt within. h (suc k) (suc j) d (omega arith) (omega arith)) (λ k d from lt. lower (suc k) d (omega arith) (omega arith)) (λ k d from lt. upper (suc k) d (omega arith) (omega arith)))
 
 -- the order of masks
 pub same_mask : (a b : BitMask) → a.len ≡ b.len → a.value ≡ b.value → a ≡ b
@@ -63,62 +49,111 @@ before_then a b c h k = (omega (arith, h.0, k.0), λ e. omega (arith, h.0, k.0, 
 pub before_itself : (a : BitMask) → ComesBefore a a → ⊥
 before_itself a h = let lt = h.1 refl in omega arith
 
--- a mask that isn't in the list comes before all from the first on that doesn't come before it
-pub differs : (a b : BitMask) → IsAtMost a b → ¬ (b ≡ a) → ComesBefore a b
-differs a b h other = (
-  h.0,
-  λ e. elim (cases_lt a.value b.value) [
-    | inl lt ↦ lt
-    | inr le ↦ absurd (other (same_mask b a (sym e) (omega (arith, h.1 e))))
-  ],
-)
+abbrev pub mask_cmp : BitMask → BitMask → Ordering
+mask_cmp a b = ordering_then (nat_cmp a.len b.len) (nat_cmp a.value b.value)
 
-pub behind_place : (ms : List BitMask) (m x : BitMask) (i : ℕ) → AllPairs ComesBefore ms → ¬ (Contains ms m) → i < length ms → x ≡ get_or ms i x → IsAtMost m x → All (ComesBefore m) (drop i ms)
-behind_place ms m x i up new lt is le k d within =
-    let long = length-drop i ms in
-    let at : (e : BitMask) → x ≡ get_or ms i e = λ e. is ∙ get_or_default ms i x e lt in
-    let first : ComesBefore m x = differs m x le (λ e. new (subst (Contains ms) e (i, lt, sym is))) in
-    rw (get_or-drop i ms k d) (elim (cases_eq k 0) [
-      | inl z ↦ subst (ComesBefore m) (at d ∙ ap (λ n. get_or ms n d) (let same : i ≡ i + k = omega (arith, z) in same)) first
-      | inr nz ↦ before_then m x (get_or ms (i + k) d) first (rw (at d) (up i (i + k) d (omega arith) (omega arith)))
-    ])
+compared : (a b : BitMask) → MatchOrdering (mask_cmp a b) (ComesBefore a b) (a ≡ b) (ComesBefore b a)
+compared a b = go (nat_cmp a.len b.len) (nat_cmp a.value b.value) (ranked a.len b.len _ refl) (ranked a.value b.value _ refl) where
+  go : (r s : Ordering) → MatchOrdering r (a.len < b.len) (a.len ≡ b.len) (b.len < a.len) → MatchOrdering s (a.value < b.value) (a.value ≡ b.value) (b.value < a.value) → MatchOrdering (ordering_then r s) (ComesBefore a b) (a ≡ b) (ComesBefore b a)
+  go Less s h k = (omega arith, λ e. absurd (omega arith))
+  go Equal Less h k = (omega arith, λ e. k)
+  go Equal Equal h k = same_mask a b h k
+  go Equal Greater h k = (omega arith, λ e. k)
+  go Greater s h k = (omega arith, λ e. absurd (omega arith))
 
--- a mask more is kept: where there is room, in place of the last one, or not at all
-pub kept_with_room : (ms : List BitMask) (m : BitMask) (i : ℕ) → length ms < 17 → Keeps (λ n. n ≡ m) ms (insert ms i m)
-kept_with_room ms m i room = record {
-  only = λ n h. Contains-insert_cases ms i m n h;
-  all = λ n h. elim h [
-    | inl old ↦ inl (Contains-insert ms i m n old)
-    | inr e ↦ inl (subst (Contains (insert ms i m)) (sym e) (Contains-inserted ms i m))
-  ];
-  past = λ n h. absurd (let full = h.0 in omega arith);
-}
+-- the place that a search of masks in order finds
+rises : (ms : List BitMask) (m : BitMask) → AllPairs ComesBefore ms → IsNonDecreasingBy (λ x. ordering_index (mask_cmp x m)) ms
+rises ms m up i j d le lt = elim (cases_lt i j) [
+  | inl before ↦ go (get_or ms i d) (get_or ms j d) (up i j d before lt) _ _ (compared (get_or ms i d) m) (compared (get_or ms j d) m)
+  | inr from ↦ let same : i ≡ j = omega arith in rw same (omega arith)
+] where
+  go : (a b : BitMask) → ComesBefore a b → (r s : Ordering) → MatchOrdering r (ComesBefore a m) (a ≡ m) (ComesBefore m a) → MatchOrdering s (ComesBefore b m) (b ≡ m) (ComesBefore m b) → ordering_index r ≤ ordering_index s
+  go a b h Less s x y = omega arith
+  go a b h Equal Less x y = absurd (before_itself a (rw (← x) at (before_then a b m h y)))
+  go a b h Equal Equal x y = omega arith
+  go a b h Equal Greater x y = omega arith
+  go a b h Greater Less x y = absurd (before_itself a (before_then a b a h (before_then b m a y x)))
+  go a b h Greater Equal x y = absurd (before_itself a (before_then a b a h (rw (← y) at x)))
+  go a b h Greater Greater x y = omega arith
 
-pub kept_without_last : (front : List BitMask) (last m : BitMask) (i : ℕ) → AllPairs ComesBefore (front ++ last ∷ []) → length (front ++ last ∷ []) ≡ 17 → ComesBefore m last → i ≤ length front → Keeps (λ n. n ≡ m) (front ++ last ∷ []) (insert front i m)
-kept_without_last front last m i up full before le =
-    let long = length_push front last in
-    let longer = length-insert front i m le in
-    let sorted = AllPairs-front ComesBefore front last up in
-    let past : (n : BitMask) → ComesBefore m n → All (λ x. ComesBefore x n) front → IsPast 17 (insert front i m) n = λ n b all. (omega arith, All-insert (λ x. ComesBefore x n) front i m all b) in
-    record {
-      only = λ n h. elim (Contains-insert_cases front i m n h) [ inl old ↦ inl (Contains-append_left front (last ∷ []) n old) | inr e ↦ inr e ];
-      all = λ n h. elim h [
-        | inl old ↦ elim (Contains-push_cases front last n old) [
-          | inl here ↦ inl (Contains-insert front i m n here)
-          | inr e ↦ inr (subst (IsPast 17 (insert front i m)) e (past last before sorted.1))
+in_order : (ms : List BitMask) (m : BitMask) (i : ℕ) → AllPairs ComesBefore ms → IsBinarySearchResult (λ x. mask_cmp x m) ms (Err i) → AllPairs ComesBefore (insert ms i m)
+in_order ms m i up found =
+    let place = found (rises ms m up) in
+    AllPairs-insert ComesBefore ms i m up
+    (λ k d from lt. less (get_or ms k d) m _ (place.0 k d from lt) (compared (get_or ms k d) m))
+    (λ k d from lt. greater (get_or ms k d) m _ (place.1 k d from lt) (compared (get_or ms k d) m))
+  where
+    less : (a b : BitMask) (r : Ordering) → r ≡ Less → MatchOrdering r (ComesBefore a b) (a ≡ b) (ComesBefore b a) → ComesBefore a b
+    less a b r e h = rw e at h
+
+    greater : (a b : BitMask) (r : Ordering) → r ≡ Greater → MatchOrdering r (ComesBefore a b) (a ≡ b) (ComesBefore b a) → ComesBefore b a
+    greater a b r e h = rw e at h
+
+-- a mask more is kept at its place, and the last one of too many left out
+take_pairs : (R : BitMask → BitMask → Type 0) (n : ℕ) (ms : List BitMask) → AllPairs R ms → AllPairs R (take n ms)
+take_pairs R n ms h i j d lt within = let long = length-take n ms in rw (get_or-take n ms i d (omega arith), get_or-take n ms j d (omega arith)) (h i j d lt (omega arith))
+
+pub one_kept : (ms : List BitMask) (m : BitMask) (i : ℕ) → AreKept ms → i ≤ length ms → IsBinarySearchResult (λ x. mask_cmp x m) ms (Err i) → Keeps (λ n. Some m ≡ Some n) ms (take 17 (insert ms i m)) × AreKept (take 17 (insert ms i m))
+one_kept ms m i kept le found = (
+  record {
+    first = record {
+      rising = rising;
+      wanted = All-take (λ n. Contains ms n ⊎ (Some m ≡ Some n)) 17 more (λ k d lt. has_old (get_or more k d) (Contains-insert_cases ms i m (get_or more k d) (Contains-get_or more k d lt)));
+      others = λ n h. in_front n (Contains-insert ms i m n (elim h [ inl old ↦ inl old | inr e ↦ inr (cc) ]));
+    };
+    past = λ n h. (omega (arith, h.0, front, long), λ k d lt. let below : k < 17 = omega (arith, front) in rw (get_or-take 17 more k d below) (passed n h k d below));
+  },
+  (rising, omega (arith, front)),
+) where
+  more : List BitMask
+  more = insert ms i m
+
+  long : length more ≡ length ms + 1
+  long = length-insert ms i m le
+
+  front : length (take 17 more) ≡ min 17 (length more)
+  front = length-take 17 more
+
+  up : AllPairs ComesBefore more
+  up = in_order ms m i kept.0 found
+
+  rising : AllPairs ComesBefore (take 17 more)
+  rising = take_pairs ComesBefore 17 more up
+
+  has_old : (n : BitMask) → Contains ms n ⊎ (m ≡ n) → Contains ms n ⊎ (Some m ≡ Some n)
+  has_old n (inl old) = inl old
+  has_old n (inr e) = inr (ap Some e)
+
+  in_front : (n : BitMask) → Contains more n → Contains (take 17 more) n ⊎ IsPast 17 (take 17 more) n
+  in_front n h = elim (cases_lt h.0 17) [
+    | inl lt ↦ inl (h.0, omega (arith, h.1, front), get_or-take 17 more h.0 n lt ∙ h.2)
+    | inr from ↦ inr (
+      omega (arith, h.1, front),
+      λ k d lt. rw (get_or-take 17 more k d (omega (arith, front))) (subst (ComesBefore (get_or more k d)) (get_or_default more h.0 d n h.1 ∙ h.2) (up k h.0 d (omega (arith, front)) h.1)),
+    )
+  ]
+
+  passed : (n : BitMask) → IsPast 17 ms n → (k : ℕ) (d : BitMask) → k < 17 → ComesBefore (get_or more k d) n
+  passed n h k d lt =
+      let full = h.0 in
+      let old : (x : BitMask) → Contains ms x → ComesBefore x n = λ x c. All-contains (λ x. ComesBefore x n) ms x h.1 c in
+      let next : ComesBefore (get_or more k d) (get_or more 17 d) = up k 17 d lt (omega (arith, long)) in
+      elim (Contains-insert_cases ms i m (get_or more k d) (Contains-get_or more k d (omega (arith, long)))) [
+        | inl c ↦ old (get_or more k d) c
+        | inr e ↦ elim (Contains-insert_cases ms i m (get_or more 17 d) (Contains-get_or more 17 d (omega (arith, long)))) [
+          | inl c ↦ before_then (get_or more k d) (get_or more 17 d) n next (old (get_or more 17 d) c)
+          | inr f ↦ absurd (before_itself m (rw (← e, ← f) at next))
         ]
-        | inr e ↦ inl (subst (Contains (insert front i m)) (sym e) (Contains-inserted front i m))
-      ];
-      past = λ n h.
-          let there : ComesBefore last n = All-contains (λ x. ComesBefore x n) (front ++ last ∷ []) last h.1 (Contains-push front last) in
-          past n (before_then m last n before there) (λ k d lt. rw (sym (get_or_append_left front (last ∷ []) d k lt)) (h.1 k d (omega arith)));
-    }
+      ]
 
-pub not_kept : (P : BitMask → Type 0) (ms : List BitMask) → ((m : BitMask) → P m → Contains ms m ⊎ IsPast 17 ms m) → Keeps P ms ms
-not_kept P ms out = record {
-  only = λ n h. inl h;
-  all = λ n h. elim h [ inl old ↦ inl old | inr more ↦ out n more ];
-  past = λ n h. h;
+pub none_kept : (P : BitMask → Type 0) (ms : List BitMask) → AreKept ms → ((m : BitMask) → P m → Contains ms m ⊎ IsPast 17 ms m) → Keeps P ms ms
+none_kept P ms kept out = record {
+  first = record {
+    rising = kept.0;
+    wanted = λ k d lt. inl (Contains-get_or ms k d lt);
+    others = λ m h. elim h [ inl old ↦ inl old | inr more ↦ out m more ];
+  };
+  past = λ m h. h;
 }
 
 -- what comes after the last one comes after all
@@ -131,53 +166,14 @@ past_last ms x m up full is before = (
   ],
 )
 
-pub with_last : (ms front : List BitMask) (x : BitMask) → length ms ≡ 17 → x ≡ get_or ms 16 x → front ≡ take (length ms - 1) ms → ms ≡ front ++ x ∷ []
-with_last ms front x full is rest =
-    sym (take_all 17 ms (omega arith)) ∙ take_more ms 16 x (omega arith) ∙ ap (λ (y : BitMask). take 16 ms ++ y ∷ []) (sym is)
-    ∙ ap (λ (n : ℕ). take n ms ++ x ∷ []) (let e : 16 ≡ length ms - 1 = omega arith in e) ∙ ap (λ (xs : List BitMask). xs ++ x ∷ []) (sym rest)
-
-pub has_room : (n : ℕ) → n ≤ 17 → false ≡ (n == 17) → n < 17
-has_room n h e = grind (arith, nat_tests)
-
--- one after another
-pub kept_both : (P Q R : BitMask → Type 0) (xs ys zs : List BitMask) → ((m : BitMask) → P m → R m) → ((m : BitMask) → Q m → R m) → ((m : BitMask) → R m → P m ⊎ Q m) → Keeps P xs ys → Keeps Q ys zs → Keeps R xs zs
-kept_both P Q R xs ys zs p q split g h =
-    let on : (m : BitMask) → Contains ys m ⊎ IsPast 17 ys m → Contains zs m ⊎ IsPast 17 zs m = λ m w. elim w [ inl a ↦ h.all m (inl a) | inr b ↦ inr (h.past m b) ] in
-    record {
-      only = λ m a. elim (h.only m a) [
-        | inl b ↦ elim (g.only m b) [ inl d ↦ inl d | inr d ↦ inr (p m d) ]
-        | inr b ↦ inr (q m b)
-      ];
-      all = λ m w. elim w [
-        | inl a ↦ on m (g.all m (inl a))
-        | inr r ↦ elim (split m r) [ inl a ↦ on m (g.all m (inr a)) | inr b ↦ h.all m (inr b) ]
-      ];
-      past = λ m a. h.past m (g.past m a);
-    }
-
--- the same masks, told otherwise
-pub kept_like : (P Q : BitMask → Type 0) (xs ys : List BitMask) → ((m : BitMask) → P m → Q m) → ((m : BitMask) → Q m → P m) → Keeps P xs ys → Keeps Q xs ys
-kept_like P Q xs ys p q g = record {
-  only = λ m a. elim (g.only m a) [ inl d ↦ inl d | inr d ↦ inr (p m d) ];
-  all = λ m w. elim w [ inl a ↦ g.all m (inl a) | inr b ↦ g.all m (inr (q m b)) ];
-  past = g.past;
-}
-
--- what is true of all that are kept
-pub kept_all : (P Q : BitMask → Type 0) (xs ys : List BitMask) → Keeps P xs ys → All Q xs → ((m : BitMask) → P m → Q m) → All Q ys
-kept_all P Q xs ys g all new k d lt = elim (g.only (get_or ys k d) (Contains-get_or ys k d lt)) [
-  | inl old ↦ All-contains Q xs (get_or ys k d) all old
-  | inr more ↦ new (get_or ys k d) more
-]
-
 -- the first masks of more
-pub first_kept : (P Q R : BitMask → Type 0) (xs ys : List BitMask) → ((m : BitMask) → P m → R m) → ((m : BitMask) → Q m → R m) → ((m : BitMask) → R m → P m ⊎ Q m) → AreFirst 17 P xs → Keeps Q xs ys → AllPairs ComesBefore ys → AreFirst 17 R ys
-first_kept P Q R xs ys p q split f g up = record {
-  rising = up;
-  wanted = kept_all Q R xs ys g (All-weaker P R p xs f.wanted) q;
-  others = λ m r. elim (split m r) [
-    | inl a ↦ elim (f.others m a) [ inl old ↦ g.all m (inl old) | inr past ↦ inr (g.past m past) ]
-    | inr b ↦ g.all m (inr b)
+pub first_kept : (P Q : BitMask → Type 0) (xs ys : List BitMask) → AreFirst 17 P xs → Keeps Q xs ys → AreFirst 17 (λ m. P m ⊎ Q m) ys
+first_kept P Q xs ys f g = record {
+  rising = g.first.rising;
+  wanted = All-weaker (λ m. Contains xs m ⊎ Q m) (λ m. P m ⊎ Q m) (λ m h. elim h [ inl old ↦ inl (All-contains P xs m f.wanted old) | inr more ↦ inr more ]) ys g.first.wanted;
+  others = λ m h. elim h [
+    | inl p ↦ elim (f.others m p) [ inl old ↦ g.first.others m (inl old) | inr past ↦ inr (g.past m past) ]
+    | inr q ↦ g.first.others m (inr q)
   ];
 }
 
@@ -187,6 +183,25 @@ first_like n P Q xs p q f = record {
   wanted = All-weaker P Q p xs f.wanted;
   others = λ m r. f.others m (q m r);
 }
+
+pub kept_like : (P Q : BitMask → Type 0) (xs ys : List BitMask) → ((m : BitMask) → P m → Q m) → ((m : BitMask) → Q m → P m) → Keeps P xs ys → Keeps Q xs ys
+kept_like P Q xs ys p q g = record {
+  first = first_like 17 (λ m. Contains xs m ⊎ P m) (λ m. Contains xs m ⊎ Q m) ys
+      (λ m w. elim w [ inl old ↦ inl old | inr x ↦ inr (p m x) ])
+      (λ m w. elim w [ inl old ↦ inl old | inr y ↦ inr (q m y) ])
+      g.first;
+  past = g.past;
+}
+
+-- one after another, said as one
+pub kept_both : (P Q R : BitMask → Type 0) (xs ys zs : List BitMask) → ((m : BitMask) → P m ⊎ Q m → R m) → ((m : BitMask) → R m → P m ⊎ Q m) → Keeps P xs ys → Keeps Q ys zs → Keeps R xs zs
+kept_both P Q R xs ys zs p q g h = kept_like (λ m. P m ⊎ Q m) R xs zs p q (record {
+  first = first_like 17 (λ m. (Contains xs m ⊎ P m) ⊎ Q m) (λ m. Contains xs m ⊎ (P m ⊎ Q m)) zs
+      (λ m w. elim w [ inl a ↦ elim a [ inl old ↦ inl old | inr x ↦ inr (inl x) ] | inr y ↦ inr (inr y) ])
+      (λ m w. elim w [ inl old ↦ inl (inl old) | inr r ↦ elim r [ inl x ↦ inl (inr x) | inr y ↦ inr y ] ])
+      (first_kept (λ m. Contains xs m ⊎ P m) Q ys zs g.first h);
+  past = λ m a. h.past m (g.past m a);
+})
 
 -- what is given of those that are kept
 pub given_first : (P : BitMask → Type 0) (ms masks : List BitMask) → masks ≡ take (min (length ms) 16) ms → AreFirst 17 P ms → AreFirst 16 P masks

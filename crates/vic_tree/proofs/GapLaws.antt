@@ -1,10 +1,7 @@
 -- Ranges of keys without some keys.
-use Rattle.std.proofs.Common.{◌≡◌, ℕ, ◌+◌, ◌-◌, ◌^◌, ◌<◌, ◌≤◌, ◌==◌, ◌&&◌, ◌||◌, ◌⊎◌, inl, inr, Bool, true, false, not, List, ◌∷◌, Option, Some, None, IfNone, IfSome, length, get_or, min, nat_eq, refl, sym, ap, subst, ◌∙◌, arith}
-use Rattle.std.specs.List.Sorted.{IsNonDecreasing}
+use Rattle.std.proofs.Common.{◌≡◌, ℕ, ◌+◌, ◌-◌, ◌^◌, ◌<◌, ◌≤◌, ◌&&◌, ◌⊎◌, inl, inr, Bool, true, false, not, List, Option, Some, None, IfNone, IfSome, min, refl, sym, ap, subst, ◌∙◌, arith}
 use Rattle.std.proofs.lemmas.Bool.{cases_lt}
 use Rattle.std.proofs.lemmas.Nat.{pow_pos}
-use Rattle.std.proofs.lemmas.List.Elements.{All-from_get_or}
-use Rattle.std.proofs.lemmas.List.Folds.{list_any_none}
 use Rattle.vic_frame.specs.Uids.{has}
 use Rattle.vic_frame.specs.Masks.{BitMask, IsMask, lies_in}
 use Rattle.vic_frame.specs.LowBitsFirst.{mirror, uid_of}
@@ -12,18 +9,10 @@ use Rattle.vic_frame.proofs.MirrorLaws.{mirror_of_uid}
 use Rattle.vic_frame.proofs.KeyLaws.{is_uid}
 use Rattle.vic_tree.specs.Gathering.{Gathers}
 use Rattle.vic_tree.specs.OpenSet.{AllOpen, IsAtMost, IsWidest, SameUids, has_key, without_keys}
-use Rattle.vic_tree.specs.Ranges.{AllKeysPass, AreRangesFrom, ComesFirstIn, HoldsMask, IsFoundBelow, IsFirstRun, IsFreeBetween, IsFreeInRanges, IsMaskIn, IsWidestBelow, PassBesides, in_ranges, is_between, is_left, is_open_in, is_passed}
+use Rattle.vic_tree.specs.Ranges.{AllKeysPass, ComesFirstIn, HoldsMask, IsFoundBelow, IsFirstRun, IsFreeBetween, IsFreeInRanges, IsMaskIn, IsWidestBelow, in_ranges, is_left, is_open_in, is_passed}
 use Rattle.vic_tree.proofs.BlockLaws.{key_in_mask, mask_ends}
-use Rattle.vic_tree.proofs.GatheringLaws.{gathers_both, gathers_like, not_among}
-use Rattle.vic_tree.proofs.RangeLaws.{inside_is, is_after, is_inside, neither, none_below}
-
--- a key between those before an index and the one there isn't in the list
-pub between_two : (keys : List ℕ) (n from to k : ℕ) → IsNonDecreasing keys → ((i : ℕ) → i < n → get_or keys i 0 < from) → (n < length keys → to < get_or keys n 0) → from ≤ k → k ≤ to → has keys k ≡ false
-between_two keys n from to k up low high p q =
-    list_any_none (nat_eq k) keys (All-from_get_or (λ y. (k == y) ≡ false) keys 0 (λ i lt. not_among (get_or keys i 0) k (elim (cases_lt i n) [
-      | inl a ↦ let b = low i a in (λ e. omega arith)
-      | inr a ↦ let b = high (omega arith) in let c = up n i 0 a lt in (λ e. omega arith)
-    ])))
+use Rattle.vic_tree.proofs.GatheringLaws.{gathers_both, gathers_like}
+use Rattle.vic_tree.proofs.RangeLaws.{inside_is, is_inside, neither}
 
 -- a key that passes lies before a place, or in the first run from there on
 pub in_run : (p : ℕ → Bool) (from x y k : ℕ) → IsFirstRun p from x y → p k ≡ true → k < y + 2 → (k < from) ⊎ ((x ≤ k) × (k ≤ y))
@@ -143,9 +132,6 @@ left_keys p m h k all x lo hi =
     let inside : lies_in m (uid_of x) ≡ true = key_in_mask m (uid_of x) h k ∙ is_inside (mirror m.value) (mirror m.value + (2 ^ (56 - m.len) - 1)) (mirror (uid_of x)) (omega arith) (omega arith) in
     sym (ap p back) ∙ all (uid_of x) (is_uid x) inside
 
-pub none_left : (es : List (ℕ × ℕ)) (keys : List ℕ) (k : ℕ) → in_ranges es k ≡ false → is_left es keys k ≡ false
-none_left es keys k h = ap (λ (z : Bool). z && not (has keys k)) h
-
 pub found_is_widest : (es : List (ℕ × ℕ)) (keys : List ℕ) (b : ℕ) (o : Option BitMask) → ((k : ℕ) → b ≤ k → is_left es keys k ≡ false) → IsFoundBelow (is_left es keys) b o → IfSome o (IsWidest (without_keys (is_open_in es) keys))
 found_is_widest es keys b None none w = tt
 found_is_widest es keys b (Some m) none w = record {
@@ -166,25 +152,3 @@ found_is_widest es keys b (Some m) none w = record {
 pub none_found : (es : List (ℕ × ℕ)) (keys : List ℕ) (b : ℕ) (o : Option BitMask) → ((k : ℕ) → b ≤ k → is_left es keys k ≡ false) → IsFoundBelow (is_left es keys) b o → IfNone o (SameUids (without_keys (is_open_in es) keys) (λ u. false))
 none_found es keys b (Some m) none w = tt
 none_found es keys b None none w = λ u i. elim (cases_lt (mirror u) b) [ inl lt ↦ w (mirror u) lt | inr le ↦ none (mirror u) le ]
-
--- one range more
-pub range_passes : (all rest left : List (ℕ × ℕ)) (keys : List ℕ) (b x y : ℕ) → rest ≡ (x, y) ∷ left → AreRangesFrom b rest → ((k : ℕ) → b ≤ k → in_ranges all k ≡ in_ranges rest k) → PassBesides (is_left all keys) x y keys
-range_passes all rest left keys b x y is r same =
-    let ranges : AreRangesFrom b ((x, y) ∷ left) = subst (AreRangesFrom b) is r in
-    let at : (k : ℕ) → b ≤ k → in_ranges all k ≡ (is_between x y k || in_ranges left k) = λ k h. same k h ∙ ap (λ (es : List (ℕ × ℕ)). in_ranges es k) is in (
-      λ k lo hi. ap (λ (z : Bool). z && not (has keys k)) (at k (omega (arith, ranges.0)) ∙ ap (λ (z : Bool). z || in_ranges left k) (is_inside x y k lo hi)),
-      none_left all keys (y + 1) (
-          at (y + 1) (omega (arith, ranges.0, ranges.1)) ∙ ap (λ (z : Bool). z || in_ranges left (y + 1)) (is_after x y (y + 1) (omega arith)) ∙ none_below (y + 2) left (y + 1) ranges.3 (omega arith)),
-    )
-
--- no key before it is left
-pub before_range : (all rest left : List (ℕ × ℕ)) (keys : List ℕ) (b x y : ℕ) → rest ≡ (x, y) ∷ left → AreRangesFrom b rest → ((k : ℕ) → b ≤ k → in_ranges all k ≡ in_ranges rest k) → (k : ℕ) → b ≤ k → k < x → is_left all keys k ≡ false
-before_range all rest left keys b x y is r same k lo hi =
-    let ranges : AreRangesFrom b ((x, y) ∷ left) = subst (AreRangesFrom b) is r in
-    none_left all keys k (same k lo ∙ ap (λ (es : List (ℕ × ℕ)). in_ranges es k) is ∙ none_below x ((x, y) ∷ left) k (omega arith, ranges.1, ranges.2, ranges.3) hi)
-
--- and what is behind it is as before
-pub behind_range : (all rest left : List (ℕ × ℕ)) (b x y : ℕ) → rest ≡ (x, y) ∷ left → AreRangesFrom b rest → ((k : ℕ) → b ≤ k → in_ranges all k ≡ in_ranges rest k) → (k : ℕ) → y + 2 ≤ k → in_ranges all k ≡ in_ranges left k
-behind_range all rest left b x y is r same k h =
-    let ranges : AreRangesFrom b ((x, y) ∷ left) = subst (AreRangesFrom b) is r in
-    same k (omega (arith, ranges.0, ranges.1)) ∙ ap (λ (es : List (ℕ × ℕ)). in_ranges es k) is ∙ ap (λ (z : Bool). z || in_ranges left k) (is_after x y k (omega arith))

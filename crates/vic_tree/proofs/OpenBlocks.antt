@@ -1,19 +1,19 @@
 -- The greatest blocks of a run of keys.
-use Rattle.std.proofs.Common.{◌≡◌, ℕ, ◌+◌, ◌-◌, ◌*◌, ◌/◌, ◌^◌, ◌%◌, ◌<◌, ◌≤◌, inl, inr, Bool, true, false, List, sym, ap, subst, ◌∙◌, arith}
+use Rattle.std.proofs.Common.{◌≡◌, ℕ, ◌+◌, ◌-◌, ◌*◌, ◌/◌, ◌^◌, ◌%◌, ◌<◌, ◌≤◌, ◌⊎◌, inl, inr, Bool, false, List, [], Option, Some, IfSome, sym, ap, subst, ◌∙◌, arith}
 use Rattle.std.proofs.lemmas.Bool.{cases_lt, cases_eq}
 use Rattle.std.proofs.lemmas.Nat.{pow_pos}
 use Rattle.std.proofs.Math.Nat.{mul-le-mul_right, lt_of_mul-lt-mul_right}
 use Rattle.vic_frame.specs.Masks.{BitMask, IsMask}
 use Rattle.vic_frame.specs.LowBitsFirst.{mirror, mirror_bits}
 use Rattle.vic_frame.proofs.MirrorLaws.{mirror_below, mirror_split, mirror_mod}
-use Rattle.vic_tree.specs.OpenMasks.{AreFirst, ComesBefore, IsOpenMask, parent}
+use Rattle.vic_tree.specs.OpenMasks.{AreFirst, IsOpenMask, parent}
 use Rattle.vic_tree.specs.OpenSet.{AllOpen, without_keys}
-use Rattle.std.specs.List.{AllPairs}
-use Rattle.vic_tree.specs.KeptMasks.{IsGreatestAt, IsGreatestIn, IsOpenBlock, IsOpenFrom, Keeps}
-use Rattle.vic_tree.specs.Ranges.{AllKeysPass, HoldsMask, in_ranges, is_left, is_open_in}
+use Rattle.std.proofs.lemmas.List.Elements.{All-nil}
+use Rattle.vic_tree.specs.KeptMasks.{IsGreatestAt, IsGreatestIn, IsOpenBlock, IsOpenBelow}
+use Rattle.vic_tree.specs.Ranges.{AllKeysPass, HoldsMask, IsFirstRun, is_left, is_open_in}
 use Rattle.vic_tree.proofs.BlockLaws.{IsBlockMask, block_of_mask, key_in_mask, not_before, number_of_mask, same_mask_value, twice}
-use Rattle.vic_tree.proofs.FirstMasks.{first_kept, first_like, kept_both, kept_like, same_mask}
-use Rattle.vic_tree.proofs.GapLaws.{first_passes, in_gap, left_keys, none_left}
+use Rattle.vic_tree.proofs.FirstMasks.{first_like, same_mask}
+use Rattle.vic_tree.proofs.GapLaws.{first_passes, in_gap, in_run, left_keys}
 use Rattle.vic_tree.proofs.RangeLaws.{inside_is}
 
 -- where a mask stands in its parent, by the number of its block
@@ -164,14 +164,9 @@ block_fits from to len q odd s m size e g =
 pub last_block : (x s : ℕ) → 0 < s → (x / s * s ≤ x) × (x < (x / s + 1) * s)
 last_block x s pos = let e : s * (x / s) + x % s ≡ x = omega arith in let lt : x % s < s = omega arith in (omega arith, omega arith)
 
--- a run of keys that pass a test
-pub record IsRun (p : ℕ → Bool) (from to : ℕ) : Type 0 where
-  pub passes : (k : ℕ) → from ≤ k → k ≤ to → p k ≡ true
-  pub behind : p (to + 1) ≡ false
-  pub before : (k : ℕ) → k + 1 ≡ from → p k ≡ false
-
-parent_held : (p : ℕ → Bool) (from to : ℕ) (m : BitMask) → IsMask m → m.len ≤ 56 → (m.len ≡ 0 → ⊥) → IsRun p from to → HoldsMask from to m → AllKeysPass p (parent m) → HoldsMask from to (parent m)
-parent_held p from to m is short some run held all =
+-- the greatest blocks of a run are open, and no others that begin in it: a key before it and one behind it fail
+parent_held : (p : ℕ → Bool) (from to : ℕ) (m : BitMask) → IsMask m → m.len ≤ 56 → (m.len ≡ 0 → ⊥) → ((k : ℕ) → k + 1 ≡ from → p k ≡ false) → p (to + 1) ≡ false → HoldsMask from to m → AllKeysPass p (parent m) → HoldsMask from to (parent m)
+parent_held p from to m is short some before behind held all =
     let i = in_parent m is short some in
     let n : ℕ = mirror_bits m.len m.value in
     let pos = pow_pos (56 - m.len) in
@@ -181,56 +176,54 @@ parent_held p from to m is short some run held all =
     ] in
     let low : from ≤ mirror (parent m).value = elim (cases_lt (mirror (parent m).value) from) [
       | inr le ↦ le
-      | inl lt ↦ absurd (let t = all (from - 1) (omega arith) (omega (arith, near.1, held.0)) in let f = run.before (from - 1) (omega arith) in cc (t, f))
+      | inl lt ↦ absurd (let t = all (from - 1) (omega arith) (omega (arith, near.1, held.0)) in let f = before (from - 1) (omega arith) in cc (t, f))
     ] in
-    in_gap p from to (parent m) run.behind all low (omega (arith, near.0, held.1))
+    in_gap p from to (parent m) behind all low (omega (arith, near.0, held.1))
 
--- the greatest blocks of a run pass, and no others that begin in it
-pub run_open : (p : ℕ → Bool) (from to : ℕ) (m : BitMask) → IsRun p from to → IsGreatestIn from to m → IsOpenBlock p m
-run_open p from to m run g = record {
-  is_mask = g.inside.0;
-  short = g.inside.1;
-  passes = λ k lo hi. run.passes k (omega (arith, g.inside.2.0, lo)) (omega (arith, g.inside.2.1, hi));
-  greatest = elim (cases_eq m.len 0) [
-    | inl z ↦ inl z
-    | inr some ↦ elim g.greatest [
-      | inl z ↦ inl z
-      | inr out ↦ inr (λ all. out (parent_held p from to m g.inside.0 g.inside.1 some run g.inside.2 all))
+-- no mask is open before the first key
+pub none_yet : (p : ℕ → Bool) → AreFirst 17 (IsOpenBelow p 0) []
+none_yet p = record {
+  rising = λ i j d lt within. absurd (omega arith);
+  wanted = All-nil (IsOpenBelow p 0);
+  others = λ m w. absurd (omega (arith, w.1));
+}
+
+-- those of one run more
+pub run_opened : (p : ℕ → Bool) (from first last : ℕ) (ms : List BitMask) → ((k : ℕ) → k + 1 ≡ from → p k ≡ false) → first ≤ last → IsFirstRun p from first last → AreFirst 17 (λ m. IsOpenBelow p from m ⊎ IsGreatestIn first last m) ms → AreFirst 17 (IsOpenBelow p (last + 2)) ms
+run_opened p from first last ms cut forward run f =
+    first_like 17 (λ m. IsOpenBelow p from m ⊎ IsGreatestIn first last m) (IsOpenBelow p (last + 2)) ms
+    (λ m w. elim w [
+      | inl old ↦ (old.0, let a = run.begins in omega (arith, old.1))
+      | inr g ↦ let pos = pow_pos (56 - m.len) in (opened m g, omega (arith, g.inside.2.1))
+    ])
+    (λ m w. elim (in_run p from first last (mirror m.value) run (first_passes p m w.0.passes) w.1) [
+      | inl lt ↦ inl (w.0, lt)
+      | inr at ↦ inr (record {
+        inside = (w.0.is_mask, w.0.short, in_gap p first last m run.ends w.0.passes at.0 (omega (arith, at.1)));
+        greatest = elim w.0.greatest [ inl z ↦ inl z | inr out ↦ inr (λ held. out (λ k lo hi. run.passes k (omega (arith, held.0, lo)) (omega (arith, held.1, hi)))) ];
+      })
+    ])
+    f
+  where
+    before : (k : ℕ) → k + 1 ≡ first → p k ≡ false
+    before k e = elim (cases_lt k from) [
+      | inl lt ↦ cut k (let a = run.begins in omega arith)
+      | inr le ↦ run.before k le (omega arith)
     ]
-  ];
-}
 
-pub open_in_run : (p : ℕ → Bool) (from to : ℕ) (m : BitMask) → IsRun p from to → IsOpenBlock p m → from ≤ mirror m.value → mirror m.value < to + 1 → IsGreatestIn from to m
-open_in_run p from to m run o low high = record {
-  inside = (o.is_mask, o.short, in_gap p from to m run.behind o.passes low high);
-  greatest = elim o.greatest [
-    | inl z ↦ inl z
-    | inr out ↦ inr (λ w. out (λ k lo hi. run.passes k (omega (arith, w.0, lo)) (omega (arith, w.1, hi))))
-  ];
-}
-
--- a run more
-pub run_kept : (p : ℕ → Bool) (first from to : ℕ) (xs ys zs : List BitMask) → first ≤ from → from ≤ to → IsRun p from to → Keeps (IsOpenFrom p first from) xs ys → Keeps (IsGreatestIn from to) ys zs → Keeps (IsOpenFrom p first (to + 1)) xs zs
-run_kept p first from to xs ys zs low forward run g h =
-    kept_both (IsOpenFrom p first from) (IsGreatestIn from to) (IsOpenFrom p first (to + 1)) xs ys zs
-    (λ m w. (w.0, w.1, omega (arith, w.2)))
-    (λ m w. let pos = pow_pos (56 - m.len) in (run_open p from to m run w, omega (arith, w.inside.2.0), omega (arith, w.inside.2.1)))
-    (λ m w. elim (cases_lt (mirror m.value) from) [
-      | inl lt ↦ inl (w.0, w.1, lt)
-      | inr le ↦ inr (open_in_run p from to m run w.0 le w.2)
-    ])
-    g h
-
--- keys that fail are passed
-pub kept_passed : (p : ℕ → Bool) (first b c : ℕ) (xs ys : List BitMask) → b ≤ c → ((k : ℕ) → b ≤ k → k < c → p k ≡ false) → Keeps (IsOpenFrom p first b) xs ys → Keeps (IsOpenFrom p first c) xs ys
-kept_passed p first b c xs ys le out g =
-    kept_like (IsOpenFrom p first b) (IsOpenFrom p first c) xs ys
-    (λ m w. (w.0, w.1, omega (arith, w.2)))
-    (λ m w. elim (cases_lt (mirror m.value) b) [
-      | inl lt ↦ (w.0, w.1, lt)
-      | inr over ↦ absurd (let t = first_passes p m w.0.passes in let f = out (mirror m.value) over w.2 in cc (t, f))
-    ])
-    g
+    opened : (m : BitMask) → IsGreatestIn first last m → IsOpenBlock p m
+    opened m g = record {
+      is_mask = g.inside.0;
+      short = g.inside.1;
+      passes = λ k lo hi. run.passes k (omega (arith, g.inside.2.0, lo)) (omega (arith, g.inside.2.1, hi));
+      greatest = elim (cases_eq m.len 0) [
+        | inl z ↦ inl z
+        | inr some ↦ elim g.greatest [
+          | inl z ↦ inl z
+          | inr out ↦ inr (λ all. out (parent_held p first last m g.inside.0 g.inside.1 some before run.ends g.inside.2 all))
+        ]
+      ];
+    }
 
 -- masks of the set and blocks of its keys
 parent_is_mask : (m : BitMask) → IsMask m → m.len ≤ 56 → IsMask (parent m) × ((parent m).len ≤ 56)
@@ -262,39 +255,38 @@ open_block es keys m o =
       greatest = elim o.greatest [ inl z ↦ inl z | inr out ↦ inr (λ pass. out (open_keys (is_left es keys) (parent m) up.0 up.1 pass)) ];
     }
 
--- one range more, and then all of them
-pub range_kept : (all : List (ℕ × ℕ)) (keys : List ℕ) (b x y : ℕ) (xs ys : List BitMask) → b ≤ x → x ≤ y → ((k : ℕ) → b ≤ k → k < x → is_left all keys k ≡ false) → is_left all keys (y + 1) ≡ false
-    → AreFirst 17 (IsOpenFrom (is_left all keys) 0 b) xs → Keeps (IsOpenFrom (is_left all keys) x (y + 1)) xs ys → AllPairs ComesBefore ys → AreFirst 17 (IsOpenFrom (is_left all keys) 0 (y + 2)) ys
-range_kept all keys b x y xs ys low forward before behind f g up =
-    first_kept (IsOpenFrom (is_left all keys) 0 b) (IsOpenFrom (is_left all keys) x (y + 1)) (IsOpenFrom (is_left all keys) 0 (y + 2)) xs ys
-    (λ m w. (w.0, w.1, omega (arith, w.2)))
-    (λ m w. (w.0, omega arith, omega (arith, w.2)))
-    (λ m w.
-    let t = first_passes (is_left all keys) m w.0.passes in
-    elim (cases_lt (mirror m.value) b) [
-      | inl lt ↦ inl (w.0, w.1, lt)
-      | inr from ↦ elim (cases_lt (mirror m.value) x) [
-        | inl lt ↦ absurd (let e = before (mirror m.value) from lt in cc (t, e))
-        | inr in' ↦ elim (cases_lt (mirror m.value) (y + 1)) [
-          | inl lt ↦ inr (w.0, in', lt)
-          | inr end ↦ absurd (let e : y + 1 ≡ mirror m.value = omega (arith, end, w.2) in let s = ap (is_left all keys) e in cc (t, s, behind))
-        ]
-      ]
-    ])
-    f g up
-
-pub all_kept : (es : List (ℕ × ℕ)) (keys : List ℕ) (b : ℕ) (xs : List BitMask) → ((k : ℕ) → b ≤ k → in_ranges es k ≡ false) → AreFirst 17 (IsOpenFrom (is_left es keys) 0 b) xs → AreFirst 17 (IsOpenMask (without_keys (is_open_in es) keys)) xs
-all_kept es keys b xs none f =
-    first_like 17 (IsOpenFrom (is_left es keys) 0 b) (IsOpenMask (without_keys (is_open_in es) keys)) xs
+-- once no key is left, they are all
+pub all_opened : (es : List (ℕ × ℕ)) (keys : List ℕ) (b : ℕ) (ms : List BitMask) → ((k : ℕ) → b ≤ k → is_left es keys k ≡ false) → AreFirst 17 (IsOpenBelow (is_left es keys) b) ms → AreFirst 17 (IsOpenMask (without_keys (is_open_in es) keys)) ms
+all_opened es keys b ms none f =
+    first_like 17 (IsOpenBelow (is_left es keys) b) (IsOpenMask (without_keys (is_open_in es) keys)) ms
     (λ m w. open_mask es keys m w.0)
     (λ m o.
     let block = open_block es keys m o in
     let t = first_passes (is_left es keys) m block.passes in (
       block,
-      omega arith,
       elim (cases_lt (mirror m.value) b) [
         | inl lt ↦ lt
-        | inr from ↦ absurd (let e = none_left es keys (mirror m.value) (none (mirror m.value) from) in cc (t, e))
+        | inr from ↦ absurd (let e = none (mirror m.value) from in cc (t, e))
       ],
     ))
     f
+
+-- the greatest masks of one length more
+pub greatest_of_len : (from to len : ℕ) (a b : Option BitMask) → IfSome a (IsGreatestAt from to len 1) → ((m : BitMask) → IsGreatestAt from to len 1 m → a ≡ Some m) → IfSome b (IsGreatestAt from to len 0) → ((m : BitMask) → IsGreatestAt from to len 0 m → b ≡ Some m) → (m : BitMask)
+    → ((((IsGreatestIn from to m × (m.len < len)) ⊎ (a ≡ Some m)) ⊎ (b ≡ Some m)) → IsGreatestIn from to m × (m.len < len + 1))
+    × (IsGreatestIn from to m × (m.len < len + 1) → ((IsGreatestIn from to m × (m.len < len)) ⊎ (a ≡ Some m)) ⊎ (b ≡ Some m))
+greatest_of_len from to len a b odd only_odd even only_even m = (
+  λ w. elim w [
+    | inl v ↦ elim v [ inl old ↦ (old.0, omega (arith, old.1)) | inr e ↦ told 1 a odd e ]
+    | inr e ↦ told 0 b even e
+  ],
+  λ g. elim (cases_lt m.len len) [
+    | inl lt ↦ inl (inl (g.0, lt))
+    | inr le ↦ elim (cases_eq (mirror_bits len m.value % 2) 0) [
+      | inl z ↦ inr (only_even m (record { greatest = g.0; len_is = omega (arith, g.1); side = z }))
+      | inr one ↦ inl (inr (only_odd m (record { greatest = g.0; len_is = omega (arith, g.1); side = omega arith })))
+    ]
+  ],
+) where
+  told : (side : ℕ) (o : Option BitMask) → IfSome o (IsGreatestAt from to len side) → o ≡ Some m → IsGreatestIn from to m × (m.len < len + 1)
+  told side o some e = let g : IsGreatestAt from to len side m = subst (λ (x : Option BitMask). IfSome x (IsGreatestAt from to len side)) e some in (g.greatest, omega (arith, g.len_is))

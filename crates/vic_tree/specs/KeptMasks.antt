@@ -1,12 +1,12 @@
 -- How the first open masks of ranges of keys are found: run by run, a few blocks of each.
-use Rattle.std.specs.Prelude.{◌≡◌, ℕ, ◌+◌, ◌%◌, ◌<◌, ◌≤◌, ◌⊎◌, Bool, false, List}
-use Rattle.std.specs.List.{Contains}
+use Rattle.std.specs.Prelude.{◌≡◌, ℕ, ◌%◌, ◌<◌, ◌≤◌, ◌⊎◌, Bool, List, length}
+use Rattle.std.specs.List.{AllPairs, Contains}
 use Rattle.vic_frame.specs.declared.uid.TheConstants.{UID_BITS}
 use Rattle.vic_frame.specs.Masks.{BitMask, IsMask}
 use Rattle.vic_frame.specs.LowBitsFirst.{mirror, mirror_bits}
 use Rattle.vic_tree.specs.declared.open_masks.TheConstants.{KEPT}
-use Rattle.vic_tree.specs.OpenMasks.{IsPast, parent}
-use Rattle.vic_tree.specs.Ranges.{AllKeysPass, HoldsMask, IsMaskIn, PassBesides}
+use Rattle.vic_tree.specs.OpenMasks.{AreFirst, ComesBefore, IsPast, parent}
+use Rattle.vic_tree.specs.Ranges.{AllKeysPass, HoldsMask, IsMaskIn}
 
 -- the keys of the mask lie in the range, and those of its parent don't
 pub record IsGreatestIn (first last : ℕ) (m : BitMask) : Type 0 where
@@ -26,18 +26,15 @@ pub record IsOpenBlock (p : ℕ → Bool) (m : BitMask) : Type 0 where
   pub passes : AllKeysPass p m
   pub greatest : (m.len ≡ 0) ⊎ ¬ (AllKeysPass p (parent m))
 
--- such a mask that begins at a key or after it, and before another one
-abbrev pub IsOpenFrom : (ℕ → Bool) → ℕ → ℕ → BitMask → Type 0
-IsOpenFrom p first end m =
-    IsOpenBlock p m × (first ≤ mirror m.value) × (mirror m.value < end)
+-- such a mask that begins below a key
+abbrev pub IsOpenBelow : (ℕ → Bool) → ℕ → BitMask → Type 0
+IsOpenBelow p bound m = IsOpenBlock p m × (mirror m.value < bound)
 
--- of the keys of a range those pass that aren't in a list, and those next to it don't
-abbrev pub IsCutOff : (ℕ → Bool) → ℕ → ℕ → List ℕ → Type 0
-IsCutOff p first last keys =
-    PassBesides p first last keys × ((k : ℕ) → k + 1 ≡ first → p k ≡ false)
+-- masks in order, and no more than are kept
+abbrev pub AreKept : List BitMask → Type 0
+AreKept ms = AllPairs ComesBefore ms × (length ms ≤ KEPT)
 
--- the new list is the old one with more masks, the last of them left out where there are too many
+-- the first masks of a list and of those that are more, and nothing that came after the list is lost
 pub record Keeps (IsMore : BitMask → Type 0) (old new : List BitMask) : Type 0 where
-  pub only : (m : BitMask) → Contains new m → Contains old m ⊎ IsMore m
-  pub all : (m : BitMask) → Contains old m ⊎ IsMore m → Contains new m ⊎ IsPast KEPT new m
+  pub first : AreFirst KEPT (λ m. Contains old m ⊎ IsMore m) new
   pub past : (m : BitMask) → IsPast KEPT old m → IsPast KEPT new m

@@ -1,4 +1,4 @@
-use Rattle.std.proofs.Common.{◌≡◌, ◌∙◌, ℕ, List, length, take, min, ap}
+use Rattle.std.proofs.Common.{◌≡◌, ◌==◌, ◌∙◌, ℕ, List, length, take, min, ap}
 use Rattle.std.proofs.lemmas.List.{take_all}
 use Rattle.vic_frame.specs.Masks.{BitMask}
 use Rattle.vic_tree.specs.OpenMasks.{IsOpenMask}
@@ -23,4 +23,4 @@ returns-clause-more c set f =
     let is : c.loop-mask.masks.items ≡ take (min (length ms) 16) ms =
     c.loop-mask.invariant.items ∙ take_all c.loop-mask.mask-index (take c.min.result c.deref.result.now) c.loop-mask-test.false
     ∙ ap (λ (n : ℕ). take n c.deref.result.now) count ∙ ap (λ (xs : List BitMask). take (min (length ms) 16) xs) all in
-    given_more (IsOpenMask set) ms c.loop-mask.masks.items c.is_full.result c.is_full.ensures.fits c.is_full.ensures.value is f
+    given_more (IsOpenMask set) ms c.loop-mask.masks.items _ c.requires (ap (λ (n : ℕ). n == 17) c.len-2.ensures.value) is f

@@ -1,12 +1,10 @@
 use Rattle.std.proofs.Common.{◌<◌, ◌≤◌}
-use Rattle.std.specs.List.{AllPairs}
-use Rattle.vic_tree.specs.KeptMasks.{IsGreatestIn, Keeps}
-use Rattle.vic_tree.specs.OpenMasks.{ComesBefore}
+use Rattle.vic_tree.specs.KeptMasks.{AreKept, IsGreatestIn, Keeps}
 use Rattle.vic_tree.proofs.open_masks.keep_in_run.Given as goal
 
 abbrev pub invariant-loop-len : goal.invariant-loop-len
 invariant-loop-len l = record {
   keeps : Keeps (λ m. IsGreatestIn l.from l.to m × (m.len < l.len)) l.initial.kept.items l.kept.items;
-  rising : AllPairs ComesBefore l.kept.items;
+  kept : AreKept l.kept.items;
   most : l.len ≤ 57;
 }

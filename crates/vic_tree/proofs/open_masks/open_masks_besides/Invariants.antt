@@ -1,16 +1,16 @@
-use Rattle.std.proofs.Common.{◌≡◌, drop, ℕ, ◌+◌, ◌<◌, ◌≤◌, false, length, get_or}
-use Rattle.vic_tree.specs.KeptMasks.{IsOpenFrom}
+use Rattle.std.proofs.Common.{◌≡◌, ℕ, ◌+◌, ◌-◌, ◌^◌, false}
+use Rattle.vic_tree.specs.KeptMasks.{AreKept, IsOpenBelow}
 use Rattle.vic_tree.specs.OpenMasks.{AreFirst}
-use Rattle.vic_tree.specs.Ranges.{AreRangesFrom, in_ranges, is_left}
+use Rattle.vic_tree.specs.Ranges.{PassFrom, is_left}
 use Rattle.vic_tree.proofs.open_masks.open_masks_besides.Given as goal
 
-abbrev pub invariant-loop-range : goal.invariant-loop-range
-invariant-loop-range l = record {
-  bound : ℕ;
-  ranges : AreRangesFrom bound (drop l.range-index l.ranges);
-  same : (k : ℕ) → bound ≤ k → in_ranges l.ranges k ≡ in_ranges (drop l.range-index l.ranges) k;
-  gap : (k : ℕ) → k + 1 ≡ bound → is_left l.ranges l.keys k ≡ false;
-  first : AreFirst 17 (IsOpenFrom (is_left l.ranges l.keys) 0 bound) l.kept.items;
-  count : l.next ≤ length l.keys;
-  lower : (i : ℕ) → i < l.next → get_or l.keys i 0 < bound;
+abbrev pub invariant-loop-run : goal.invariant-loop-run
+invariant-loop-run l = record {
+  pass : PassFrom (is_left l.ranges l.keys) l.left;
+  cut : (k : ℕ) → k + 1 ≡ l.left.0 → is_left l.ranges l.keys k ≡ false;
+  kept : AreKept l.kept.items;
+  first : AreFirst 17 (IsOpenBelow (is_left l.ranges l.keys) l.left.0) l.kept.items;
 }
+
+abbrev pub decreases-loop-run : goal.decreases-loop-run
+decreases-loop-run l = 2 ^ 56 + 1 - l.left.0
