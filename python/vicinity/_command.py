@@ -53,9 +53,10 @@ def read(name: str) -> bytes:
     try:
         file = os.dup(0) if name == "-" else os.open(name, os.O_RDONLY | os.O_CLOEXEC)
         try:
-            pieces, left = [], MOST_BYTES
+            pieces, left, wanted = [], MOST_BYTES, max(PIECE, os.fstat(file).st_size)
             while left > 0:
-                piece = os.read(file, min(PIECE, left))
+                piece = os.read(file, min(wanted, left))  # a file in one piece: put together, pieces take as much again
+                wanted = PIECE
                 if not piece:
                     break
                 pieces.append(piece)
