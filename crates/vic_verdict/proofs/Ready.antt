@@ -265,6 +265,10 @@ keys_named (n ∷ ns) k = ap (λ b. b || has (map (λ (m : Name). m.key) ns) k) 
 
 -- ---- gathering
 
+-- nothing is gathered where nothing is wanted that isn't there
+pub gathers_none : (P : ℕ → Type 0) (xs : List ℕ) → ((u : ℕ) → length xs < 3 → P u → has xs u ≡ true) → Gathers P xs xs
+gathers_none P xs none = record { keeps = λ u h. h; only = λ u h. inl h; different = λ h. h; all = λ l u h. none u l h; longer = omega arith }
+
 -- a UID more, that lies inside
 pub inside_more : (us old new : List ℕ) (i x first last : ℕ) → i < length us → x ≡ get_or us i x → is_between first last (mirror x) ≡ true → Gathers (HasInside (take i us) first last) [] old → Gathers (λ u. (u ≡ x) × (has [] u ≡ false)) old new → Gathers (HasInside (take (i + 1) us) first last) [] new
 inside_more us old new i x first last below is inside g h =

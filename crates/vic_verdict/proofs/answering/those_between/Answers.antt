@@ -3,10 +3,10 @@ use Rattle.std.proofs.lemmas.Bool.{eqb-true}
 use Rattle.std.proofs.lemmas.List.{take_all}
 use Rattle.vic_frame.specs.LowBitsFirst.{mirror}
 use Rattle.vic_tree.specs.Gathering.{Gathers}
-use Rattle.vic_tree.proofs.GatheringLaws.{gathers_none, gathers_full}
+use Rattle.vic_tree.proofs.GatheringLaws.{gathers_full}
 use Rattle.vic_verdict.specs.Answering.{HasInside}
 use Rattle.vic_verdict.proofs.Closing.{between_from}
-use Rattle.vic_verdict.proofs.Ready.{inside_more, inside_other, inside_so_far}
+use Rattle.vic_verdict.proofs.Ready.{gathers_none, inside_more, inside_other, inside_so_far}
 use Rattle.vic_verdict.proofs.Sweeping.{between_parts}
 use Rattle.vic_verdict.proofs.answering.those_between.Goals as goal
 use Rattle.vic_verdict.proofs.answering.those_between.Goals.{then-first-key+then-key-last, else-first-key, else-first-key-via-then-first-key+else-key-last, else-first-key-via-else-first-key}
