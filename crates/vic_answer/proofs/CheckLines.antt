@@ -1,35 +1,196 @@
--- Which lines begin with `complete `.
-use Rattle.std.proofs.Common.{◌≡◌, ℕ, List, ◌∷◌, ◌++◌, ap, arith, slice_index, refl, codes, decimal, Option, Some, None}
-use Rattle.std.proofs.lemmas.List.{append_cancel_left}
-use Rattle.std.specs.Io.KnownBytes.{Appends}
+-- Answers that begin with the line of `check`, and which of them with `complete `.
+use Rattle.std.proofs.Common.{◌≡◌, ℕ, List, [], ◌∷◌, ◌++◌, ap, append_assoc, append-nil, arith, slice_index, refl, subst, sym, ◌∙◌, codes, decimal, Option, Some, None, MatchOption}
+use Rattle.std.specs.List.{flat_map}
+use Rattle.std.specs.Option.{option_map}
+use Rattle.vic_frame.specs.Masks.{BitMask}
+use Rattle.vic_log.specs.Log.{LogValue}
+use Rattle.vic_log.specs.Lines.{lines_of_text}
+use Rattle.vic_log.specs.Text.{IsLogOf}
+use Rattle.vic_log.specs.declared.entry.Entry.{Entry}
+use Rattle.vic_log.specs.declared.entry.LogLine.{LogLine}
+use Rattle.vic_report.specs.Reports.{IsReport, AreNone, first_finding, verdict_of}
+use Rattle.vic_report.specs.Findings.{uids_of}
+use Rattle.vic_report.specs.declared.findings.Unsettled.{Unsettled as LeftToAsk}
+use Rattle.vic_report.specs.declared.reporting.LogReport.{LogReport}
+use Rattle.vic_report.specs.declared.reporting.LogReport.TheVariants as report
+use Rattle.vic_report.specs.declared.shown.ShownUid.{ShownUid}
+use Rattle.vic_report.proofs.AllFindings.{report_begins, none_where_complete}
+use Rattle.vic_verdict.specs.Explained.{IsPopulationBehind, IsShownByNone, Shows}
+use Rattle.vic_verdict.specs.Verdict.{IsVerdict}
+use Rattle.vic_verdict.specs.declared.judging.Verdict.{Verdict}
 use Rattle.vic_verdict.specs.declared.judging.Verdict.TheVariants.{Impossible, Absent, Unlisted, Unsettled, Doubtful, Complete}
+use Rattle.vic_verdict.proofs.Verdicts.{complete_whole}
+use Rattle.vic_verdict.proofs.TwoVersions.{complete_second}
+use Rattle.vic_answer.specs.CheckText.{BeginsAsCheck, IsAnswer, IsCheckOf, IsCompleteText, answer_line, verdict_line}
+use Rattle.vic_answer.specs.ExplainText as explain
+use Rattle.vic_answer.specs.ReportText as reporting
 use Rattle.vic_answer.specs.declared.check.Answer.{Answer}
 use Rattle.vic_answer.specs.declared.check.Answer.TheVariants.{Judged, RefusedAt}
-use Rattle.vic_answer.specs.CheckText.{answer_line}
+use Rattle.vic_answer.specs.declared.explain.Explained.{Explained}
+use Rattle.vic_answer.specs.declared.explain.Explained.TheVariants as explained
+use Rattle.vic_answer.specs.declared.report.Reported.{Reported}
+use Rattle.vic_answer.specs.declared.report.Reported.TheVariants as reported
+use Rattle.vic_answer.specs.declared.status.Status.{Status}
 
--- the answer is `complete`, and the rest of its line tells the count
-pub record IsCompleteLine (answer : Answer) (rest : List ℕ) : Type 0 where
+-- ---- a complete text
+
+is_complete : (text : List ℕ) (count : ℕ) (log : LogValue) → IsLogOf (lines_of_text text) log → IsVerdict log.lines (Complete count) → IsCompleteText text count
+is_complete text count log is_log verdict = record {
+  log = log;
+  is_log = is_log;
+  whole = complete_whole log.lines count verdict;
+  second = complete_second log.lines count verdict;
+  counted = verdict.5;
+}
+
+pub complete_text : (text : List ℕ) (answer : Answer) (count : ℕ) → answer ≡ Judged (Complete count) → IsAnswer text answer → IsCompleteText text count
+complete_text text answer count is right = let h = subst (IsAnswer text) is right in is_complete text count h.0 h.1 h.2
+
+-- ---- lines that begin with `complete `
+
+-- the answer is `complete`, and what is behind that tells the count
+record IsCompleteLine (answer : Answer) (rest more : List ℕ) : Type 0 where
   pub count : ℕ
   pub answer_is : answer ≡ Judged (Complete count)
-  pub told : rest ≡ decimal count ++ codes "\n"
+  pub told : rest ≡ (decimal count ++ codes "\n") ++ more
 
 -- lines that begin with different letters differ
 differ : (b d : ℕ) (xs ys : List ℕ) → b ∷ xs ≡ d ∷ ys → b ≡ d
 differ b d xs ys h = ap (λ (zs : List ℕ). slice_index zs 0) h
 
-pub complete_line : (answer : Answer) (rest : List ℕ) → codes "complete " ++ rest ≡ answer_line answer → IsCompleteLine answer rest
-complete_line (Judged (Complete count)) rest h = record { count = count; answer_is = refl; told = cc h }
-complete_line (Judged (Impossible n)) rest h = absurd (omega (arith, differ 99 105 _ _ h))
-complete_line (Judged (Absent u)) rest h = absurd (omega (arith, differ 99 97 _ _ h))
-complete_line (Judged (Unlisted u)) rest h = absurd (omega (arith, differ 99 117 _ _ h))
-complete_line (Judged (Unsettled m)) rest h = absurd (omega (arith, differ 99 117 _ _ h))
-complete_line (Judged (Doubtful u)) rest h = absurd (omega (arith, differ 99 100 _ _ h))
-complete_line (RefusedAt n fault) rest h = absurd (omega (arith, differ 99 114 _ _ h))
+complete_line : (answer : Answer) (rest more : List ℕ) → codes "complete " ++ rest ≡ answer_line answer ++ more → IsCompleteLine answer rest more
+complete_line (Judged (Complete count)) rest more h = record { count = count; answer_is = refl; told = cc h }
+complete_line (Judged (Impossible n)) rest more h = absurd (omega (arith, differ 99 105 _ _ h))
+complete_line (Judged (Absent u)) rest more h = absurd (omega (arith, differ 99 97 _ _ h))
+complete_line (Judged (Unlisted u)) rest more h = absurd (omega (arith, differ 99 117 _ _ h))
+complete_line (Judged (Unsettled m)) rest more h = absurd (omega (arith, differ 99 117 _ _ h))
+complete_line (Judged (Doubtful u)) rest more h = absurd (omega (arith, differ 99 100 _ _ h))
+complete_line (RefusedAt n fault) rest more h = absurd (omega (arith, differ 99 114 _ _ h))
 
--- what a sink took behind the bytes before is the line
-pub line_taken : (old new : Option (List ℕ)) (before after line : List ℕ) → old ≡ Some before → new ≡ Some (before ++ after) → Appends old new line → after ≡ line
-line_taken None new before after line was now h = cc was
-line_taken (Some xs) None before after line was now h = absurd h
-line_taken (Some xs) (Some ys) before after line was now h =
-    let e : before ++ after ≡ before ++ line = cc (h, was, now) in
-    append_cancel_left before after line e
+-- the text is complete, and the rest of its answer tells the count
+pub record IsCompleteAnswer (text rest : List ℕ) : Type 0 where
+  pub count : ℕ
+  pub complete : IsCompleteText text count
+  pub told : rest ≡ decimal count ++ codes "\n"
+
+-- answers that begin with `complete ` tell so
+abbrev pub TellComplete : (List ℕ → List ℕ → Status → Type 0) → Type 0
+TellComplete IsAnswerTo = (text rest : List ℕ) (status : Status) → IsAnswerTo text (codes "complete " ++ rest) status → IsCompleteAnswer text rest
+
+-- where nothing is behind the line
+alone : (text rest more : List ℕ) (answer : Answer) → IsAnswer text answer → codes "complete " ++ rest ≡ answer_line answer ++ more
+    → ((count : ℕ) → answer ≡ Judged (Complete count) → more ≡ []) → IsCompleteAnswer text rest
+alone text rest more answer right is nothing =
+    let l = complete_line answer rest more is in
+    record {
+      count = l.count;
+      complete = complete_text text answer l.count l.answer_is right;
+      told = l.told ∙ (ap (λ ms. (decimal l.count ++ codes "\n") ++ ms) (nothing l.count l.answer_is) ∙ append-nil _);
+    }
+
+pub check_tells : TellComplete IsCheckOf
+check_tells text rest status h = alone text rest [] h.answer h.right (h.line_is ∙ sym (append-nil _)) (λ count is. refl)
+
+-- ---- explain
+
+explained_answer : (text : List ℕ) (e : Explained) → explain.IsExplained text e → IsAnswer text (explain.answer_of e)
+explained_answer text (explained.Judged x) h = (h.0, h.1, h.2.verdict)
+explained_answer text (explained.RefusedAt n fault) h = h
+
+pub explanation_begins : (text answer : List ℕ) (status : Status) → explain.IsExplanationOf text answer status → BeginsAsCheck text answer status
+explanation_begins text answer status h = record {
+  line = answer_line (explain.answer_of h.explained);
+  more = explain.population_text (explain.population_of h.explained);
+  right = record { answer = explain.answer_of h.explained; right = explained_answer text h.explained h.right; line_is = refl; status_is = h.status_is };
+  answer_is = h.answer_is;
+}
+
+-- no population shows that a list is complete
+none_shown : {A : Type 0} (es : List Entry) (items : A → List ℕ) (p : Option A) (v : Verdict) (count : ℕ) → v ≡ Complete count
+    → MatchOption p (IsShownByNone v) (λ us. IsPopulationBehind es v (items us)) → explain.population_text (option_map items p) ≡ []
+none_shown es items None v count is h = refl
+none_shown es items (Some us) v count is h = absurd (subst (λ w. Shows w (items us)) is h.1)
+
+none_behind : (text : List ℕ) (e : Explained) (count : ℕ) → explain.IsExplained text e → explain.answer_of e ≡ Judged (Complete count) → explain.population_text (explain.population_of e) ≡ []
+none_behind text (explained.Judged x) count h is =
+    let verdict_is : x.verdict ≡ Complete count = cc is in
+    none_shown _ (λ v. v.items) x.population x.verdict count verdict_is h.2.population
+none_behind text (explained.RefusedAt n fault) count h is = cc
+
+pub explanation_tells : TellComplete explain.IsExplanationOf
+explanation_tells text rest status h = alone text rest _ (explain.answer_of h.explained) (explained_answer text h.explained h.right) h.answer_is (λ count is. none_behind text h.explained count h.right is)
+
+-- ---- report
+
+-- a text that begins with a line
+abbrev Begins : List ℕ → List ℕ → Type 0
+Begins line text = (more : List ℕ) × (text ≡ line ++ more)
+
+longer : (line xs ys : List ℕ) → Begins line xs → Begins line (xs ++ ys)
+longer line xs ys h = (h.0 ++ ys, ap (λ zs. zs ++ ys) h.1 ∙ append_assoc line h.0 ys)
+
+-- of findings that aren't all empty the first line is that of the first
+findings_begin : (absent unlisted : List ShownUid) (x : Option LeftToAsk) (doubtful : List ℕ) → (absent ≡ [] → unlisted ≡ [] → x ≡ None → doubtful ≡ [] → ⊥)
+    → Begins (verdict_line (first_finding (uids_of absent) (uids_of unlisted) (option_map (λ y. y.mask) x) doubtful))
+    (flat_map reporting.absent_text absent ++ flat_map reporting.unlisted_text unlisted ++ reporting.unsettled_text x ++ flat_map reporting.doubtful_line doubtful)
+findings_begin (s ∷ absent) unlisted x doubtful some =
+    let line = verdict_line (Absent s.uid) in
+    let a = flat_map reporting.absent_text (s ∷ absent) in
+    let b = flat_map reporting.unlisted_text unlisted in
+    let c = reporting.unsettled_text x in
+    longer line (a ++ b ++ c) (flat_map reporting.doubtful_line doubtful) (longer line (a ++ b) c (longer line a b
+    (longer line (reporting.absent_text s) (flat_map reporting.absent_text absent) (reporting.by_line s.line, refl))))
+findings_begin [] (s ∷ unlisted) x doubtful some =
+    let line = verdict_line (Unlisted s.uid) in
+    let b = flat_map reporting.unlisted_text (s ∷ unlisted) in
+    let c = reporting.unsettled_text x in
+    longer line (b ++ c) (flat_map reporting.doubtful_line doubtful) (longer line b c
+    (longer line (reporting.unlisted_text s) (flat_map reporting.unlisted_text unlisted) (reporting.by_line s.line, refl)))
+findings_begin [] [] (Some x) doubtful some =
+    let line = verdict_line (Unsettled x.mask) in
+    let masks = flat_map reporting.open_line x.open.masks.items in
+    longer line (reporting.unsettled_text (Some x)) (flat_map reporting.doubtful_line doubtful)
+    (longer line (line ++ masks) (reporting.more_line x.open.more) (masks, refl))
+findings_begin [] [] None (u ∷ doubtful) some = (flat_map reporting.doubtful_line doubtful, refl)
+findings_begin [] [] None [] some = absurd (some refl refl refl refl)
+
+report_begins_so : (lines : List LogLine) (r : LogReport) → IsReport lines r → Begins (verdict_line (verdict_of r)) (reporting.report_text r)
+report_begins_so lines (report.Impossible c) h =
+    let line = verdict_line (Impossible c.line) in
+    let shown = flat_map reporting.by_line c.lines.items in
+    longer line (line ++ shown) (reporting.silenced_line c.silenced_by) (shown, refl)
+report_begins_so lines (report.NotWhole f) h = findings_begin f.absent.items f.unlisted.items f.unsettled f.doubtful.items (λ a u x d. h.2 (record { absent = a; unlisted = u; unsettled = x; doubtful = d }))
+report_begins_so lines (report.Complete count) h = ([], sym (append-nil _))
+
+reported_begins : (text : List ℕ) (r : Reported) → reporting.IsReported text r → Begins (answer_line (reporting.answer_of r)) (reporting.reported_text r)
+reported_begins text (reported.Judged r) h = report_begins_so h.0.lines r h.2
+reported_begins text (reported.RefusedAt n fault) h = ([], sym (append-nil _))
+
+reported_answer : (text : List ℕ) (r : Reported) → reporting.IsReported text r → IsAnswer text (reporting.answer_of r)
+reported_answer text (reported.Judged r) h = (h.0, h.1, report_begins h.0.lines r h.2)
+reported_answer text (reported.RefusedAt n fault) h = h
+
+pub report_begins_as_check : (text answer : List ℕ) (status : Status) → reporting.IsReportOf text answer status → BeginsAsCheck text answer status
+report_begins_as_check text answer status h =
+    let b = reported_begins text h.reported h.right in
+    record {
+      line = answer_line (reporting.answer_of h.reported);
+      more = b.0;
+      right = record { answer = reporting.answer_of h.reported; right = reported_answer text h.reported h.right; line_is = refl; status_is = h.status_is };
+      answer_is = h.answer_is ∙ b.1;
+    }
+
+-- the report on a complete text is the line alone
+complete_alone : (text : List ℕ) (r : Reported) (count : ℕ) → reporting.IsReported text r → reporting.answer_of r ≡ Judged (Complete count) → reporting.reported_text r ≡ verdict_line (Complete count)
+complete_alone text (reported.Judged r) count h is =
+    let verdict_is : verdict_of r ≡ Complete count = cc is in
+    ap reporting.report_text (none_where_complete h.0.lines r count h.2 verdict_is)
+complete_alone text (reported.RefusedAt n fault) count h is = cc
+
+pub report_tells : TellComplete reporting.IsReportOf
+report_tells text rest status h =
+    let b = reported_begins text h.reported h.right in
+    let right = reported_answer text h.reported h.right in
+    let l = complete_line (reporting.answer_of h.reported) rest b.0 (h.answer_is ∙ b.1) in
+    let line : codes "complete " ++ rest ≡ verdict_line (Complete l.count) = h.answer_is ∙ complete_alone text h.reported l.count h.right l.answer_is in
+    record { count = l.count; complete = complete_text text _ l.count l.answer_is right; told = cc line }

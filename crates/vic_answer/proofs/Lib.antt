@@ -1,5 +1,6 @@
 mod Decoded
 mod CheckLines
+mod CompleteRuns
 mod Standing
 mod Waiting
 mod Numbered

@@ -7,7 +7,7 @@ use Rattle.vic_answer.specs.declared.input.Reading.TheVariants.{Given, RefusedAt
 use Rattle.vic_answer.specs.declared.status.RunFault.{RunFault}
 use Rattle.vic_answer.specs.declared.status.RunFault.TheVariants.{Read, Write, Memory}
 use Rattle.vic_answer.specs.declared.status.Status.{Status}
-use Rattle.vic_answer.specs.Readings.{GivesReading, Stands, IsLog}
+use Rattle.vic_answer.specs.Readings.{GivesReading, Stands}
 use Rattle.vic_answer.specs.Runs.{IsEnough, RunsWhere}
 
 -- bytes whose reading stands can be answered
@@ -15,11 +15,6 @@ enough : (IsOver : Type 0) (text : List ℕ) (reading : Reading) → Stands IsOv
 enough IsOver text (Given log) h = inl h
 enough IsOver text (RefusedAt n fault) (inl early) = inr record { line = n; fault = fault; early = early }
 enough IsOver text (RefusedAt n fault) (inr over) = inl over
-
--- a log stands only where no more bytes follow
-pub over : (IsOver : Type 0) (text : List ℕ) (reading : Reading) → Stands IsOver text reading → IsLog reading → IsOver
-over IsOver text (Given log) h given = h
-over IsOver text (RefusedAt n fault) h given = absurd given
 
 module _ (IsAnswerTo : List ℕ → List ℕ → Status → Type 0) (HasRead HadRead : List ℕ → Type 0) (IsOver : Type 0) (taken taken' : Option (List ℕ)) where
   -- a run that ends with the writing of its answer

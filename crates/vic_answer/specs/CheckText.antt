@@ -55,6 +55,13 @@ pub record IsCheckOf (text line : List ℕ) (status : Status) : Type 0 where
   pub line_is : line ≡ answer_line answer
   pub status_is : status ≡ answer_status answer
 
+-- an answer that begins with the line of `check` for the text, and has its status
+pub record BeginsAsCheck (text answer : List ℕ) (status : Status) : Type 0 where
+  pub line : List ℕ
+  pub more : List ℕ
+  pub right : IsCheckOf text line status
+  pub answer_is : answer ≡ line ++ more
+
 -- the text has a log whose list is whole, of so many UIDs: some population could have given the
 -- log, and each that could has exactly the UIDs that it lists; and the same in the words of
 -- version 2

@@ -1,5 +1,5 @@
--- What a run of `check` has read that writes `complete`.
-use Rattle.std.specs.Prelude.{◌≡◌, ℕ, Bool, true, List, ◌++◌, Option, codes, decimal}
+-- What a run of `check`, `explain` or `report` has read that writes `complete`.
+use Rattle.std.specs.Prelude.{◌≡◌, ℕ, Bool, true, List, ◌++◌, Option, Some, Result, OnOk, codes, decimal}
 use Rattle.std.specs.Io.KnownBytes.{Consumes, IsAtEnd}
 use Rattle.vic_answer.specs.CheckText.{IsCompleteText}
 
@@ -23,3 +23,17 @@ pub record ReadsCompleteText (returned returned' : List ℕ) (ended : Bool) (res
   pub count : ℕ
   pub complete : IsCompleteText text count
   pub told : rest ≡ decimal count ++ codes "\n"
+
+-- where a run wrote `complete` and a space, and then these bytes, its source handed out such a text
+abbrev pub IsCompleteWhereSaid : {A E : Type 0} → Option (List ℕ) → Option (List ℕ)
+    → Option (List ℕ) → Option (List ℕ) → Result A E → Type 0
+IsCompleteWhereSaid left left' taken taken' result =
+    OnOk result ((before rest : List ℕ) → taken ≡ Some before
+    → taken' ≡ Some (before ++ (codes "complete " ++ rest)) → GivesCompleteText left left' rest)
+
+-- where a run wrote `complete` and a space, and then these bytes, it has read such a text
+abbrev pub IsCompleteWhereWritten : {A E : Type 0} → List ℕ → List ℕ → Bool
+    → List ℕ → List ℕ → Result A E → Type 0
+IsCompleteWhereWritten returned returned' ended written written' result =
+    OnOk result ((rest : List ℕ) → written' ≡ written ++ (codes "complete " ++ rest)
+    → ReadsCompleteText returned returned' ended rest)

@@ -16,11 +16,6 @@ abbrev pub IsReading : List ℕ → Reading → Type 0
 IsReading text (Given log) = IsLogOf (lines_of_text text) log
 IsReading text (RefusedAt n fault) = IsFirstFault (lines_of_text text) n fault
 
--- it is a log, and no refusal
-abbrev pub IsLog : Reading → Type 0
-IsLog (Given log) = ⊤
-IsLog (RefusedAt n fault) = ⊥
-
 -- it stands, whatever follows: nothing does, or no further byte can change the fault
 abbrev pub Stands : Type 0 → List ℕ → Reading → Type 0
 Stands IsOver text (Given log) = IsOver

@@ -1,11 +1,11 @@
 //! The command `check`.
 
-ghost use Rattle.std.specs.Prelude.{◌≡◌, ◌<◌, ℕ, List, ◌++◌, Some, IfOk, OnOk, codes};
+ghost use Rattle.std.specs.Prelude.{◌≡◌, ◌<◌, ℕ, List, IfOk};
 ghost use Rattle.arrayvec.specs.ArrayVec.{array_vec_len};
 ghost use Rattle.vic_verdict.specs.declared.judging.Verdict.TheVariants.{Complete};
 ghost use Rattle.vic_answer.specs.CheckText.{IsAnswer, IsCheckOf, IsCompleteText, answer_line, answer_status, verdict_status};
-ghost use Rattle.vic_answer.specs.CompleteRun.{GivesCompleteText, ReadsCompleteText};
-ghost use Rattle.vic_answer.specs.Readings.{IsReading, IsLog};
+ghost use Rattle.vic_answer.specs.CompleteRun.{IsCompleteWhereSaid, IsCompleteWhereWritten};
+ghost use Rattle.vic_answer.specs.Readings.{IsReading};
 ghost use Rattle.vic_answer.specs.Runs.{Runs, RunsOver, LeavesSource, LeavesSink, Writes};
 
 use crate::input::{Reading, read_source};
@@ -56,14 +56,11 @@ pub fn run_check<R: Source, W: Sink>(
     ensures bytes { RunsOver IsCheckOf (R.returned source.old) (R.returned source.new)
         (R.ended source.new) (W.written sink.old) (W.written sink.new) result }
     // where it wrote `complete N`, the list of the log is whole and N long
-    ensures whole { OnOk result ((before rest : List ℕ) → W.taken sink.old ≡ Some before
-        → W.taken sink.new ≡ Some (before ++ (codes "complete " ++ rest))
-        → GivesCompleteText (R.left source.old) (R.left source.new) rest) }
+    ensures whole { IsCompleteWhereSaid (R.left source.old) (R.left source.new)
+        (W.taken sink.old) (W.taken sink.new) result }
     // and so where source and sink tell nothing
-    ensures complete { OnOk result ((rest : List ℕ)
-        → W.written sink.new ≡ W.written sink.old ++ (codes "complete " ++ rest)
-        → ReadsCompleteText (R.returned source.old) (R.returned source.new)
-        (R.ended source.new) rest) }
+    ensures complete { IsCompleteWhereWritten (R.returned source.old) (R.returned source.new)
+        (R.ended source.new) (W.written sink.old) (W.written sink.new) result }
     ensures leaves_source { LeavesSource R.reads R.has_failed source.old source.new result }
     ensures leaves_sink { LeavesSink W.is_flushed W.has_failed sink.old sink.new result }
 {
@@ -74,10 +71,8 @@ pub fn run_check<R: Source, W: Sink>(
 
 /// The answer to what was read.
 fn judge_reading(alloc: Global, reading: Reading) -> Result<Answer, AllocError>
-    ensures answer { IfOk result (λ a. (text : List ℕ)
+    ensures { IfOk result (λ a. (text : List ℕ)
         → IsReading text reading → IsAnswer text a) }
-    ensures whole { IfOk result (λ a. (text : List ℕ) (count : ℕ) → IsReading text reading
-        → a ≡ Answer.Judged (Complete count) → IsLog reading × IsCompleteText text count) }
 {
     match reading {
         Reading::Given(log) => Ok(Answer::Judged(judge(alloc, &log)?)),

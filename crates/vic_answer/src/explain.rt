@@ -6,6 +6,7 @@ ghost use Rattle.vic_log.specs.Writing.{listed_text};
 ghost use Rattle.vic_verdict.specs.declared.judging.Verdict.TheVariants.{Complete};
 ghost use Rattle.vic_answer.specs.CheckText.{IsAnswer, IsCompleteText, answer_status};
 ghost use Rattle.vic_answer.specs.ExplainText.{IsExplained, IsExplanationOf, answer_of, explained_text, population_line, uids_of};
+ghost use Rattle.vic_answer.specs.CompleteRun.{IsCompleteWhereSaid, IsCompleteWhereWritten};
 ghost use Rattle.vic_answer.specs.Readings.{IsReading};
 ghost use Rattle.vic_answer.specs.Runs.{Runs, RunsOver, LeavesSource, LeavesSink, Writes};
 
@@ -18,7 +19,6 @@ use itoa::Buffer;
 use std::alloc::{AllocError, Global};
 use vic_frame::Uid;
 use vic_log::{LineFault, LogFault, Sink, Source, read_log, write_listed};
-use vic_verdict::laws::{complete_is_whole, one_headline};
 use vic_verdict::{Explanation, explain};
 
 /// What is answered to a text, with a population that shows it, where one can.
@@ -39,9 +39,6 @@ pub fn explain_text(alloc: Global, text: &[u8]) -> Result<Explained, AllocError>
     ensures whole { IfOk result (λ e. (count : ℕ)
         → answer_of e ≡ Answer.Judged (Complete count) → IsCompleteText text.now count) }
 {
-    // the laws by which a complete list is whole
-    complete_is_whole();
-    one_headline();
     match read_log(alloc, text) {
         Ok(log) => Ok(Explained::Judged(explain(alloc, &log)?)),
         Err(LogFault::Line { line, fault }) => Ok(Explained::RefusedAt { line, fault }),
@@ -90,6 +87,12 @@ pub fn run_explain<R: Source, W: Sink>(
         (W.taken sink.old) (W.taken sink.new) result }
     // the same over the bytes that the reads returned and the writes took, whatever these tell
     ensures bytes { RunsOver IsExplanationOf (R.returned source.old) (R.returned source.new)
+        (R.ended source.new) (W.written sink.old) (W.written sink.new) result }
+    // where it wrote `complete N`, the list of the log is whole and N long
+    ensures whole { IsCompleteWhereSaid (R.left source.old) (R.left source.new)
+        (W.taken sink.old) (W.taken sink.new) result }
+    // and so where source and sink tell nothing
+    ensures complete { IsCompleteWhereWritten (R.returned source.old) (R.returned source.new)
         (R.ended source.new) (W.written sink.old) (W.written sink.new) result }
     ensures leaves_source { LeavesSource R.reads R.has_failed source.old source.new result }
     ensures leaves_sink { LeavesSink W.is_flushed W.has_failed sink.old sink.new result }

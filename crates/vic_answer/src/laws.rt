@@ -7,6 +7,10 @@ ghost use Rattle.vic_frame.specs.Bytes.{AreBytes};
 ghost use Rattle.vic_frame.specs.Reading.{request_reading, reply_reading};
 ghost use Rattle.vic_frame.specs.Replies.{Reply};
 ghost use Rattle.vic_answer.specs.declared.spell.Said.{Said};
+ghost use Rattle.vic_answer.specs.CheckText.{BeginsAsCheck};
+ghost use Rattle.vic_answer.specs.ExplainText.{IsExplanationOf};
+ghost use Rattle.vic_answer.specs.ReportText.{IsReportOf};
+ghost use Rattle.vic_answer.specs.declared.status.Status.{Status};
 ghost use Rattle.vic_answer.specs.FrameText.{request_line, response_line};
 ghost use Rattle.vic_answer.specs.SpellText.{line_of, words_of, words_reading, spell_text};
 ghost use Rattle.vic_answer.specs.SpellText.{request_words, reply_words};
@@ -30,6 +34,15 @@ pub fn spell_undoes_frame()
     ensures reply_line { (r : Reply) → response_line (Ok r) ≡ line_of (reply_words r) }
     ensures only { (words : List (List ℕ)) (what : Said)
         → words_reading words ≡ Ok what → words ≡ words_of what }
+{}
+
+/// The first line and the status of what `explain` and `report` answer to a text are those of
+/// `check`.
+pub fn answers_begin_as_check()
+    ensures explain { (text answer : List ℕ) (status : Status)
+        → IsExplanationOf text answer status → BeginsAsCheck text answer status }
+    ensures report { (text answer : List ℕ) (status : Status)
+        → IsReportOf text answer status → BeginsAsCheck text answer status }
 {}
 
 /// What `simulate` writes with status `Whole` is the text of a log. So the header alone is never

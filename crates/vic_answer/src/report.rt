@@ -4,6 +4,7 @@ ghost use Rattle.std.specs.Prelude.{◌≡◌, ℕ, List, IfOk};
 ghost use Rattle.vic_verdict.specs.declared.judging.Verdict.TheVariants.{Complete};
 ghost use Rattle.vic_answer.specs.CheckText.{IsAnswer, IsCompleteText, answer_status};
 ghost use Rattle.vic_answer.specs.Pieces.{Puts};
+ghost use Rattle.vic_answer.specs.CompleteRun.{IsCompleteWhereSaid, IsCompleteWhereWritten};
 ghost use Rattle.vic_answer.specs.Readings.{IsReading};
 ghost use Rattle.vic_answer.specs.ReportText.{IsReportOf, IsReported, answer_of, reported_text};
 ghost use Rattle.vic_answer.specs.Runs.{LeavesSink, LeavesSource, Runs, RunsOver, Writes};
@@ -18,9 +19,7 @@ use crate::status::{RunFault, Status};
 use arrayvec::ArrayVec;
 use std::alloc::{AllocError, Global};
 use vic_log::{LineFault, LogFault, Sink, Source, read_log};
-use vic_report::laws::first_finding_is_the_verdict;
 use vic_report::{LogReport, report};
-use vic_verdict::laws::{complete_is_whole, one_headline};
 
 /// What is answered to a text, with all that its log tells against its list and the lines that tell
 /// it.
@@ -41,10 +40,6 @@ pub fn report_text(alloc: Global, text: &[u8]) -> Result<Reported, AllocError>
     ensures whole { IfOk result (λ r. (count : ℕ)
         → answer_of r ≡ Answer.Judged (Complete count) → IsCompleteText text.now count) }
 {
-    // the laws by which a report begins with the verdict, and a complete list is whole
-    first_finding_is_the_verdict();
-    complete_is_whole();
-    one_headline();
     match read_log(alloc, text) {
         Ok(log) => Ok(Reported::Judged(report(alloc, &log)?)),
         Err(LogFault::Line { line, fault }) => Ok(Reported::RefusedAt { line, fault }),
@@ -80,6 +75,12 @@ pub fn run_report<R: Source, W: Sink>(
         (W.taken sink.old) (W.taken sink.new) result }
     // the same over the bytes that the reads returned and the writes took, whatever these tell
     ensures bytes { RunsOver IsReportOf (R.returned source.old) (R.returned source.new)
+        (R.ended source.new) (W.written sink.old) (W.written sink.new) result }
+    // where it wrote `complete N`, the list of the log is whole and N long
+    ensures whole { IsCompleteWhereSaid (R.left source.old) (R.left source.new)
+        (W.taken sink.old) (W.taken sink.new) result }
+    // and so where source and sink tell nothing
+    ensures complete { IsCompleteWhereWritten (R.returned source.old) (R.returned source.new)
         (R.ended source.new) (W.written sink.old) (W.written sink.new) result }
     ensures leaves_source { LeavesSource R.reads R.has_failed source.old source.new result }
     ensures leaves_sink { LeavesSink W.is_flushed W.has_failed sink.old sink.new result }

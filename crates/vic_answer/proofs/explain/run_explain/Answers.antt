@@ -1,6 +1,8 @@
 use Rattle.std.proofs.Common.{refl, Some}
 use Rattle.vic_answer.specs.CheckText.{answer_status}
 use Rattle.vic_answer.specs.ExplainText.{IsExplanationOf, answer_of, explained_text}
+use Rattle.vic_answer.proofs.CheckLines.{explanation_tells}
+use Rattle.vic_answer.proofs.CompleteRuns.{complete_where_said, complete_where_written}
 use Rattle.vic_answer.proofs.Standing.{ends_written}
 use Rattle.vic_answer.proofs.explain.run_explain.Goals as goal
 
@@ -21,3 +23,9 @@ returns-clause-bytes g c =
     ends_written IsExplanationOf _ _ _ (Some _) (Some _) c.in_ok-reading.reading r (explained_text explained) (answer_status (answer_of explained))
     record { explained = explained; right = c.in_ok-explained.ensures r.text r.right; answer_is = refl; status_is = refl }
     c.write_explained.result w.status w.written.wrote w.written.part w.written.fault
+
+pub returns-clause-whole : goal.returns-clause-whole
+returns-clause-whole g c = complete_where_said IsExplanationOf explanation_tells _ _ _ _ c.write_explained.result (returns-clause-answer g c)
+
+pub returns-clause-complete : goal.returns-clause-complete
+returns-clause-complete g c = complete_where_written IsExplanationOf explanation_tells _ _ _ _ _ c.write_explained.result (returns-clause-bytes g c)
