@@ -1,14 +1,14 @@
 //! Whether a list of vicinity tags is complete, from the log of the session that found them.
 #![tactic(auto)]
 
+mod task;
+
+use crate::task::do_task;
 use std::io::ErrorKind;
 use std::process::ExitCode;
 use std::{env, fs};
-use vic_answer::{
-    RunFault, Status, fault_text, run_check, run_explain, run_frame, run_report, run_simulate,
-    run_spell,
-};
-use vic_log::{FromRead, Source, ToWrite};
+use vic_answer::{RunFault, Status, fault_text};
+use vic_log::{FromRead, ToWrite};
 use vic_words::{Task, WordsFault, read_words};
 
 /// The exit status of a run that has no answer.
@@ -40,27 +40,22 @@ fn end(rt: &HostRuntime, answer: Result<Status, RunFault>) -> ExitCode {
     }
 }
 
-/// Does a task from a source, which `frame` and `spell` leave alone, to standard output.
-fn run_task<R: Source>(rt: &HostRuntime, task: &Task, source: &mut R) -> ExitCode {
-    let mut sink = ToWrite::new(rt.stdout());
-    let answer = match task {
-        Task::Check(_) => run_check(rt.alloc(), source, &mut sink),
-        Task::Simulate(_) => run_simulate(rt.alloc(), source, &mut sink),
-        Task::Explain(_) => run_explain(rt.alloc(), source, &mut sink),
-        Task::Report(_) => run_report(rt.alloc(), source, &mut sink),
-        Task::Frame(word) => run_frame(word.as_bytes(), &mut sink),
-        Task::Spell(words) => run_spell(words.as_slice(), &mut sink),
-    };
-    end(rt, answer)
-}
-
 /// Does a task over the file that it names, or over standard input where it names none.
 fn run(rt: &HostRuntime, task: &Task) -> ExitCode {
+    let mut sink = ToWrite::new(rt.stdout());
     let Some(file) = task.file() else {
-        return run_task(rt, task, &mut FromRead::new(rt.stdin()));
+        return end(
+            rt,
+            do_task(rt.alloc(), task, &mut FromRead::new(rt.stdin()), &mut sink),
+        );
     };
     match fs::open(rt, file) {
-        Ok(opened) => run_task(rt, task, &mut FromRead::new(opened)),
+        Ok(opened) => {
+            end(
+                rt,
+                do_task(rt.alloc(), task, &mut FromRead::new(opened), &mut sink),
+            )
+        }
         Err(_) => {
             let _ = eprintln!(rt; "vicinity: cannot open {file}");
             ExitCode::from(NO_ANSWER)
