@@ -2,8 +2,8 @@
 
 ghost use Rattle.std.specs.Prelude.{◌≤◌, IfOk};
 
+use crate::marks::Marks;
 use crate::parts::Parts;
-use crate::peaks::Peaks;
 use crate::steps::{Found, Span, Step};
 use std::alloc::{AllocError, Global};
 
@@ -16,8 +16,13 @@ const NEVER: u32 = u32::MAX;
 pub(crate) struct Fates {
     /// The number of the line that rules a part out.
     ends: Vec<u32>,
-    /// The same, but 0 at parts that are Quiet.
-    loud_ends: Peaks,
+    /// The parts that are ruled out, in the order of these lines.
+    ruled_out: Vec<u32>,
+    /// The parts that are Ready.
+    ready: Marks,
+    /// Those of them that no line before `end` rules out.
+    lasting: Marks,
+    end: u32,
     /// The parts that are Quiet.
     quiet: Vec<u32>,
 }
@@ -27,38 +32,46 @@ impl Fates {
     pub(crate) fn new(alloc: Global, count: u32) -> Result<Fates, AllocError> {
         Ok(Fates {
             ends: vec![in alloc; NEVER; count as usize]?,
-            loud_ends: Peaks::new(alloc, count, NEVER)?,
+            ruled_out: Vec::new(alloc),
+            ready: Marks::all(alloc, count)?,
+            lasting: Marks::all(alloc, count)?,
+            end: NEVER,
             quiet: Vec::new(alloc),
         })
     }
 
     fn silence(&mut self, part: u32) -> Result<(), AllocError> {
-        self.loud_ends.set(part, 0);
+        self.ready.take(part);
+        self.lasting.take(part);
         self.quiet.push(part)?;
         Ok(())
     }
 
     fn wake(&mut self) {
         for part in &self.quiet {
+            self.ready.put(*part);
             if let Some(end) = self.ends.get(*part as usize) {
-                self.loud_ends.set(*part, *end);
+                if self.end <= *end {
+                    self.lasting.put(*part);
+                }
             }
         }
         self.quiet.clear();
     }
 
     /// Rules out, by a line, the parts of a span that are neither Quiet nor ruled out before.
-    fn rule_out(&mut self, span: Span, line: u32) {
+    fn rule_out(&mut self, span: Span, line: u32) -> Result<(), AllocError> {
         for _ in span.from..span.to {
-            let peak = self.loud_ends.greatest(span.from, span.to);
-            if peak.value < NEVER {
-                return;
-            }
-            if let Some(end) = self.ends.get_mut(peak.index as usize) {
+            let Some(part) = self.lasting.first(span.from, span.to) else {
+                return Ok(());
+            };
+            if let Some(end) = self.ends.get_mut(part as usize) {
                 *end = line;
             }
-            self.loud_ends.set(peak.index, line);
+            self.lasting.take(part);
+            self.ruled_out.push(part)?;
         }
+        Ok(())
     }
 
     /// Goes over all steps, and notes what each slot rules out.
@@ -67,10 +80,10 @@ impl Fates {
             match *step {
                 Step::Quiet(part) => self.silence(part)?,
                 Step::Wake => self.wake(),
-                Step::Slot(line, span, Found::Nobody) => self.rule_out(span, line),
+                Step::Slot(line, span, Found::Nobody) => self.rule_out(span, line)?,
                 Step::Slot(line, span, Found::One(part)) => {
-                    self.rule_out(span.before(part), line);
-                    self.rule_out(span.after(part), line);
+                    self.rule_out(span.before(part), line)?;
+                    self.rule_out(span.after(part), line)?;
                 }
                 Step::Slot(_, _, Found::Some | Found::Two) => {}
             }
@@ -80,7 +93,7 @@ impl Fates {
 
     /// Whether a part of a span is Ready.
     pub(crate) fn answers(&self, span: Span, part: u32) -> bool {
-        span.from <= part && part < span.to && self.loud_ends.greatest(part, part + 1).value > 0
+        span.from <= part && part < span.to && self.ready.has(part)
     }
 
     /// Which parts of a span are Ready, of so many in order.
@@ -105,57 +118,75 @@ impl Fates {
         }
     }
 
-    /// Where the last but one of those is ruled out that answer in a span.
-    fn second_end(&self, span: Span, parts: &Parts) -> u32 {
-        let last = self.loud_ends.greatest(span.from, span.to);
-        if last.value == 0 || parts.has_several(last.index) {
-            return last.value;
-        }
-        self.end_of(span.before(last.index))
-            .max(self.end_of(span.after(last.index)))
+    /// The first of those that answer in a span and last.
+    fn lasting_in(&self, span: Span) -> Option<u32> {
+        self.lasting.first(span.from, span.to)
     }
 
-    /// Where the last of those is ruled out that answer in a span; 0 where nobody does.
-    fn end_of(&self, span: Span) -> u32 {
-        self.loud_ends.greatest(span.from, span.to).value
-    }
-
-    /// Where a slot lacks what it was found to hold, if nothing but later lines can tell.
-    fn lack(&self, span: Span, found: Found, parts: &Parts) -> u32 {
+    /// Whether a slot lacks what it was found to hold, of those that last.
+    fn lacks(&self, span: Span, found: Found, parts: &Parts) -> bool {
         match found {
-            Found::Nobody => NEVER,
-            Found::One(part) if span.from <= part && part < span.to => {
-                self.loud_ends.greatest(part, part + 1).value
-            }
-            Found::One(_) => 0,
-            Found::Some => self.end_of(span),
-            Found::Two => self.second_end(span, parts),
+            Found::Nobody => false,
+            Found::One(part) => self.lasting_in(span.only(part)).is_none(),
+            Found::Some => self.lasting_in(span).is_none(),
+            Found::Two => match self.lasting_in(span) {
+                Some(part) => {
+                    !parts.has_several(part) && self.lasting_in(span.after(part)).is_none()
+                }
+                None => true,
+            },
         }
     }
 
-    /// The number of the first line at which some slot lacks what it was found to hold, if one
-    /// does.
-    pub(crate) fn first_lack(
-        &mut self,
-        steps: &[Step],
-        parts: &Parts,
-    ) -> Result<Option<u32>, AllocError> {
+    /// One more part lasts: the last one that was ruled out, unless that was before a line. Tells
+    /// whether one does.
+    fn go_back(&mut self, line: u32) -> bool {
+        let Some(part) = self.ruled_out.last().copied() else {
+            return false;
+        };
+        let end = self.end(part);
+        if end < line {
+            return false;
+        }
+        self.ruled_out.pop();
+        self.end = end;
+        if self.ready.has(part) {
+            self.lasting.put(part);
+        }
+        true
+    }
+
+    /// Goes back to where a slot doesn't lack what it was found to hold, or to its own line.
+    fn go_back_to(&mut self, line: u32, span: Span, found: Found, parts: &Parts) {
+        for _ in 0..self.ruled_out.len() + 1 {
+            if !self.lacks(span, found, parts) {
+                return;
+            }
+            if !self.go_back(line) {
+                self.end = line;
+                return;
+            }
+        }
+    }
+
+    /// The number of the first line at which some slot lacks what it was found to hold, `u32::MAX`
+    /// where none does. Each slot is looked at once, by those that last up to the line found before:
+    /// where they are too few, that line comes earlier, and more of them last.
+    pub(crate) fn first_lack(&mut self, steps: &[Step], parts: &Parts) -> Result<u32, AllocError> {
         self.wake();
-        let mut first = NEVER;
         for step in steps {
             match *step {
                 Step::Quiet(part) => self.silence(part)?,
                 Step::Wake => self.wake(),
                 Step::Slot(line, span, found) => {
-                    first = first.min(line.max(self.lack(span, found, parts)));
+                    if self.end <= line {
+                        return Ok(self.end);
+                    }
+                    self.go_back_to(line, span, found, parts);
                 }
             }
         }
-        if first == NEVER {
-            Ok(None)
-        } else {
-            Ok(Some(first))
-        }
+        Ok(self.end)
     }
 
     /// The index of the first step whose slot lacks what it was found to hold, if one does. Those
@@ -171,7 +202,7 @@ impl Fates {
                 Step::Quiet(part) => self.silence(part)?,
                 Step::Wake => self.wake(),
                 Step::Slot(_, span, found) => {
-                    if self.lack(span, found, parts) < NEVER {
+                    if self.lacks(span, found, parts) {
                         return Ok(Some(index));
                     }
                 }

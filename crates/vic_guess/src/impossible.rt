@@ -30,8 +30,6 @@ fn first_lack(alloc: Global, lines: &[PackedLine]) -> Result<usize, AllocError>
     ensures { IfOk result (λ index. index ≤ length lines.now) }
 {
     let mut course = course_of(alloc, lines)?;
-    match course.fates.first_lack(&course.steps, &course.parts)? {
-        Some(number) => Ok(lines.partition_point(|line| line.number() < number)),
-        None => Ok(lines.len()),
-    }
+    let number = course.fates.first_lack(&course.steps, &course.parts)?;
+    Ok(lines.partition_point(|line| line.number() < number))
 }

@@ -12,8 +12,8 @@ mod conflict;
 mod course;
 mod fates;
 mod impossible;
+mod marks;
 mod parts;
-mod peaks;
 mod steps;
 mod waiting;
 

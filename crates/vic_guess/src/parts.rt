@@ -52,6 +52,14 @@ impl Span {
         }
     }
 
+    /// A part of it; nothing where it doesn't have that.
+    pub(crate) fn only(&self, part: u32) -> Span {
+        Span {
+            from: self.from.max(part),
+            to: self.to.min(part.saturating_add(1)),
+        }
+    }
+
     /// What of it comes after a part.
     pub(crate) fn after(&self, part: u32) -> Span {
         Span {
@@ -62,7 +70,7 @@ impl Span {
 }
 
 /// A count as a number of 32 bits, which no log's counts exceed.
-fn number_of(count: usize) -> u32 {
+pub(crate) fn number_of(count: usize) -> u32 {
     match u32::try_from(count) {
         Ok(number) => number,
         Err(_) => u32::MAX,

@@ -1,48 +1,41 @@
 //! The parts of the UIDs that wait for a line that rules them out.
 
-use crate::peaks::Peaks;
+use crate::marks::Marks;
+use crate::parts::number_of;
 use crate::steps::{Found, Span, Step};
 use std::alloc::{AllocError, Global};
 
 /// Parts that wait, and of them those that are Ready.
 #[derive(Drop)]
 pub(crate) struct Waiting {
-    waits: Vec<bool>,
-    /// 1 at parts that wait and are Ready, else 0.
-    ready: Peaks,
+    waits: Marks,
+    ready: Marks,
 }
 
 impl Waiting {
-    /// The marked parts, all Ready.
-    pub(crate) fn new(alloc: Global, marks: &[bool]) -> Result<Waiting, AllocError> {
-        let mut waits = Vec::new(alloc);
-        let mut count: u32 = 0;
-        for mark in marks {
-            waits.push(*mark)?;
-            count = count.saturating_add(1);
+    /// The parts that answer, all Ready.
+    pub(crate) fn new(alloc: Global, answers: &[bool]) -> Result<Waiting, AllocError> {
+        let count = number_of(answers.len());
+        let mut waits = Marks::new(alloc, count)?;
+        let mut ready = Marks::new(alloc, count)?;
+        for (index, answer) in answers.iter().enumerate() {
+            if *answer {
+                waits.put(number_of(index));
+                ready.put(number_of(index));
+            }
         }
-        let mut waiting = Waiting {
-            waits,
-            ready: Peaks::new(alloc, count, 0)?,
-        };
-        for part in 0..count {
-            waiting.show(part);
-        }
-        Ok(waiting)
+        Ok(Waiting { waits, ready })
     }
 
     /// Whether a part waits.
     pub(crate) fn has(&self, part: u32) -> bool {
-        match self.waits.get(part as usize) {
-            Some(waits) => *waits,
-            None => false,
-        }
+        self.waits.has(part)
     }
 
     /// A part is Ready.
     pub(crate) fn show(&mut self, part: u32) {
         if self.has(part) {
-            self.ready.set(part, 1);
+            self.ready.put(part);
         }
     }
 
@@ -55,7 +48,7 @@ impl Waiting {
 
     /// A part is Quiet.
     pub(crate) fn hide(&mut self, part: u32) {
-        self.ready.set(part, 0);
+        self.ready.take(part);
     }
 
     /// The parts are Quiet that fell silent in the last of some steps, since all were Ready.
@@ -71,15 +64,10 @@ impl Waiting {
 
     /// A part of a span that waits and is Ready, which then waits no more.
     fn take(&mut self, span: Span) -> Option<u32> {
-        let peak = self.ready.greatest(span.from, span.to);
-        if peak.value == 0 {
-            return None;
-        }
-        if let Some(waits) = self.waits.get_mut(peak.index as usize) {
-            *waits = false;
-        }
-        self.hide(peak.index);
-        Some(peak.index)
+        let part = self.ready.first(span.from, span.to)?;
+        self.waits.take(part);
+        self.ready.take(part);
+        Some(part)
     }
 
     /// All of them.
