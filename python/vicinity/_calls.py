@@ -2,6 +2,7 @@
 from __future__ import annotations
 
 import ctypes
+import mmap
 from array import array
 from typing import TYPE_CHECKING, Any, Callable, Iterable, Union
 
@@ -66,11 +67,21 @@ def explain_into(text: BytesLike, room: ctypes.Array[ctypes.c_uint64]) -> tuple[
     return _answer(told), needed.value
 
 
-def _filled(place: Any, call: Callable[..., int], *given: Any) -> tuple[Answer, Any, int]:
-    """What a call gives that fills a room: the answer, a room that is large enough, and how many of its places are filled."""
-    places = FIRST_ROOM
+def _room(place: Any, places: int) -> Any:
+    """So many places, which take memory as they are filled."""
+    if places <= FIRST_ROOM:
+        return (place * places)()
+    try:
+        return (place * places).from_buffer(mmap.mmap(-1, places * ctypes.sizeof(place)))
+    except OSError as error:
+        raise MemoryError("vicinity: out of memory") from error
+
+
+def _filled(place: Any, places: int, call: Callable[..., int], *given: Any) -> tuple[Answer, Any, int]:
+    """What a call gives that fills a room, of so many places first: the answer, a room that is large enough, and how many
+    of its places are filled."""
     while True:
-        told, room, needed = AnswerStruct(), (place * places)(), ctypes.c_size_t()
+        told, room, needed = AnswerStruct(), _room(place, places), ctypes.c_size_t()
         call(*given, ctypes.byref(told), room, places, ctypes.byref(needed))
         if needed.value <= places:
             return _answer(told), room, needed.value
@@ -79,7 +90,7 @@ def _filled(place: Any, call: Callable[..., int], *given: Any) -> tuple[Answer, 
 
 def _in_room(place: Any, call: Callable[..., int], *given: Any) -> tuple[Answer, list[Any]]:
     """The answer of such a call, and what it fills in."""
-    answer, room, count = _filled(place, call, *given)
+    answer, room, count = _filled(place, FIRST_ROOM, call, *given)
     return answer, room[:count]
 
 
@@ -100,8 +111,10 @@ def report(text: BytesLike) -> Report:
 
 
 def report_records(text: bytes) -> tuple[Answer, memoryview]:
-    """What `report` gives, with the findings as the bytes of structs vicinity_finding, of which there may be a million."""
-    answer, room, count = _filled(FindingStruct, library().vicinity_report, text, len(text))
+    """What `report` gives, with the findings as the bytes of structs vicinity_finding, of which there may be two millions:
+    a line tells of two UIDs at most."""
+    places = FIRST_ROOM + 2 * text.count(b"\n")
+    answer, room, count = _filled(FindingStruct, places, library().vicinity_report, text, len(text))
     return answer, memoryview(room).cast("B")[:count * ctypes.sizeof(FindingStruct)]
 
 

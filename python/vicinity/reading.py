@@ -7,7 +7,6 @@ from __future__ import annotations
 import io
 from array import array
 from collections import deque
-from heapq import merge
 from itertools import islice
 from typing import Iterator, Optional
 
@@ -33,8 +32,8 @@ class _Pass:
     def __init__(self, told: Told, quoted: set[int]):
         self.session = Session()
         self.quoted = quoted
-        self.ahead: Iterator[int] = iter(merge(told.conflict, sorted(quoted)))
-        self.next = next(self.ahead, 0)
+        self.conflict: Iterator[int] = iter(told.conflict)
+        self.next = next(self.conflict, 0)
         self.row: Optional[Row] = None
         self.is_named = False
         self.before: deque[tuple[int, Row]] = deque(maxlen=AROUND)
@@ -45,7 +44,7 @@ class _Pass:
         self.silenced: array[int] = array("Q")
 
     def read(self, text: bytes, refused: Optional[int]) -> Session:
-        stream = io.BytesIO(text)
+        stream, quoted = io.BytesIO(text), self.quoted
         lines = stream if refused is None else islice(stream, refused - 1)
         for number, line in enumerate(lines, 1):
             letter = line[:1]
@@ -59,7 +58,11 @@ class _Pass:
                 self._cycled(number)
             else:
                 self._outcome(number, letter, line)
-            if number == self.next:
+            is_next = number == self.next
+            if is_next:
+                self.next = next(self.conflict, 0)
+            # of a long conflict those are kept that take a tag, and the first
+            if is_next and letter in b"CD" or number in quoted:
                 self._named(number, line.rstrip())
         self._close()
         if refused is not None:
@@ -86,7 +89,7 @@ class _Pass:
         uid = int.from_bytes(bytes.fromhex(digits.decode()), "big")
         self.silenced.append(uid)
         self.silenced_lines.append(number)
-        if isinstance(self.row, Round) and number != self.next and self.row.has_heard(digits):
+        if isinstance(self.row, Round) and number not in self.quoted and self.row.has_heard(digits):
             self.row.quiets[_turned(uid)] = number
             self.row.end = number
         else:
@@ -108,13 +111,10 @@ class _Pass:
             session.listed.append((number, int(line[2:18], 16)))
 
     def _named(self, number: int, text: bytes) -> None:
-        """A line that the report names. Of a long conflict those that take a tag are kept, and the first."""
-        while self.next == number:
-            self.next = next(self.ahead, 0)
-        if number in self.quoted or text[:1] in b"CD":
-            self.is_named = True
-            self.session.texts[number] = text
-            self.session.places[number] = self.session.row_count
+        """A line that is kept as text."""
+        self.is_named = True
+        self.session.texts[number] = text
+        self.session.places[number] = self.session.row_count
 
     def _start(self, row: Row) -> None:
         self._close()

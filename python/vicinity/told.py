@@ -1,17 +1,23 @@
 """A report as columns of numbers: as small in memory as the library gives it, since a log may have a million findings."""
 from __future__ import annotations
 
-import struct
 from array import array
 from bisect import bisect_left
+from itertools import groupby
 from typing import NamedTuple, Optional
 
 from ._answers import Answer, FindingKind, Kind
 from ._calls import report_records
 from .frames import Mask
 
-#: struct vicinity_finding of vicinity.h: kind, line, mask_len, zero, mask_value, uid.
-RECORD = struct.Struct("=4I2Q")
+
+class _Records:
+    """Structs vicinity_finding of vicinity.h, whose fields are kind, line, mask_len, zero, mask_value, uid, as columns."""
+
+    def __init__(self, records: memoryview):
+        short, long = records.cast("I"), records.cast("Q")
+        self.kinds, self.lines, self.lengths = short[::8], short[1::8], short[2::8]
+        self.values, self.uids = long[2::4], long[3::4]
 
 
 class Shown(NamedTuple):
@@ -43,26 +49,33 @@ class Told:
         self.conflict: array[int] = array("I")
         #: The line that silenced the tag that answered all the same, or 0.
         self.silenced = 0
-        for kind, line, length, _, value, uid in RECORD.iter_unpack(records):
-            self._add(kind, line, Mask(length, value), uid)
+        columns = _Records(records)
+        start = 0
+        for kind, run in groupby(columns.kinds):
+            behind = start + sum(1 for _ in run)
+            self._add(kind, columns, slice(start, behind))
+            start = behind
 
-    def _add(self, kind: int, line: int, mask: Mask, uid: int) -> None:
+    def _add(self, kind: int, columns: _Records, places: slice) -> None:
+        """Adds findings of one kind, which stand together."""
         if kind == FindingKind.ABSENT or kind == FindingKind.UNLISTED:
             shown = self.absent if kind == FindingKind.ABSENT else self.unlisted
-            shown.uids.append(uid)
-            shown.lines.append(line)
+            shown.uids.extend(columns.uids[places])
+            shown.lines.extend(columns.lines[places])
         elif kind == FindingKind.DOUBTFUL:
-            self.doubtful.append(uid)
+            self.doubtful.extend(columns.uids[places])
         elif kind == FindingKind.CONFLICT_LINE:
-            self.conflict.append(line)
-        elif kind == FindingKind.UNSETTLED:
-            self.unsettled = mask
-        elif kind == FindingKind.OPEN_MASK:
-            self.open_masks.append(mask)
+            self.conflict.extend(columns.lines[places])
         elif kind == FindingKind.MORE_OPEN_MASKS:
             self.has_more_open = True
+        elif kind == FindingKind.SILENCED_BY:
+            self.silenced = columns.lines[places.start]
         else:
-            self.silenced = line
+            masks = [Mask(*of) for of in zip(columns.lengths[places], columns.values[places])]
+            if kind == FindingKind.UNSETTLED:
+                self.unsettled = masks[0]
+            else:
+                self.open_masks += masks
 
     @property
     def refused_line(self) -> Optional[int]:
