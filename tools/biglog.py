@@ -272,12 +272,26 @@ def nest_scattered_late(random_, size):
     yield from (silence(two), ask(low(two, BITS)), "D")
 
 
-def half_heard(random_, size, length, mask_of):
-    """SIZE rounds of sixteen slots, in which one tag answers in each of the slots 0 to 7; then the round is left."""
+@shape
+def nest_unmet_late(random_, size):
+    """Version 2. SIZE tags apart, Quiet amid nested C, replies and D; F, then S leaves each C one tag: impossible there."""
+    tags, one, two = apart(random_, size)
+    yield from map(silence, tags)
+    yield from in_nested_rounds("C")
+    yield silence(one)
+    yield from in_nested_rounds(reply(two))
+    yield from in_nested_rounds("D")
+    yield "F"
+    for uid in (one, at_key(1 << 55)):
+        yield from (ask(low(uid, BITS)), "S")
+
+
+def half_heard(random_, size, length, mask_of, slots=8):
+    """SIZE rounds of sixteen slots, in which one tag answers in each of so many; then the round is left."""
     for number in range(size):
         value = mask_of(number)
         yield ask((length, value), 16)
-        for slot in range(8):
+        for slot in range(slots):
             yield reply(0xE0 << BITS | value | slot << length | random_.getrandbits(52 - length) << length + 4)
 
 
@@ -309,6 +323,23 @@ def replies_listed(random_, size):
     yield from lines
     found = [int.from_bytes(bytes.fromhex(line[6:22]), "little") for line in lines if line[0] == "R"]
     yield from map(claim, random_.sample(found, len(found)))
+
+
+@shape
+def all_heard_hidden(random_, size):
+    """Version 2. SIZE rounds of random masks, a reply in each slot, then D and S in one mask: impossible at that S."""
+    yield from half_heard(random_, size, 40, lambda number: random_.getrandbits(40), slots=16)
+    for mask, outcome in ((BITS, 1), "D"), ((BITS, 1), "S"), ((BITS, 2), "S"):
+        yield from (ask(mask), outcome)
+
+
+@shape
+def all_silent(random_, size):
+    """An open collision, then SIZE rounds of silent slots, a power of 2, over all UIDs: a conflict of all slots."""
+    yield from (ask(EVERYONE), "C")
+    length = size.bit_length() - 1
+    for value in random_.sample(range(size), size):
+        yield from (ask((length, value), 16), *["S"] * 16)
 
 
 def half_heard_anywhere(random_, size):
