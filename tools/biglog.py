@@ -335,11 +335,14 @@ def all_heard_hidden(random_, size):
 
 @shape
 def all_silent(random_, size):
-    """An open collision, then SIZE rounds of silent slots, a power of 2, over all UIDs: a conflict of all slots."""
+    """An open collision, then SIZE rounds of silent slots over all UIDs, in no order: a conflict of all slots."""
     yield from (ask(EVERYONE), "C")
     length = size.bit_length() - 1
-    for value in random_.sample(range(size), size):
-        yield from (ask((length, value), 16), *["S"] * 16)
+    halved = size - (1 << length)
+    masks = [(length + 1, value | bit << length) for value in range(halved) for bit in (0, 1)]
+    masks += [(length, value) for value in range(halved, 1 << length)]
+    for mask in random_.sample(masks, size):
+        yield from (ask(mask, 16), *["S"] * 16)
 
 
 def half_heard_anywhere(random_, size):
