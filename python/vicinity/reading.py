@@ -36,7 +36,6 @@ class _Pass:
         self.next = next(self.conflict, 0)
         self.row: Optional[Row] = None
         self.is_named = False
-        self.before: deque[tuple[int, Row]] = deque(maxlen=AROUND)
         self.last: deque[tuple[int, Row]] = deque(maxlen=ENDS)
         self.after = 0
         self.heard: set[int] = set()
@@ -85,15 +84,15 @@ class _Pass:
             self.session.last_round = row
             return
         self.session.counts.quiets += 1
-        digits = frame[4:20].upper()
-        uid = int.from_bytes(bytes.fromhex(digits.decode()), "big")
+        digits = frame[4:20]
+        uid = int(digits, 16)
         self.silenced.append(uid)
         self.silenced_lines.append(number)
-        if isinstance(self.row, Round) and number not in self.quoted and self.row.has_heard(digits):
+        if isinstance(self.row, Round) and number not in self.quoted and self.row.has_heard(digits.upper()):
             self.row.quiets[_turned(uid)] = number
             self.row.end = number
         else:
-            self._start(StayQuiet(number, _turned(uid)))
+            self._start(StayQuiet(number, digits))
 
     def _outcome(self, number: int, letter: bytes, line: bytes) -> None:
         assert isinstance(self.row, Round)
@@ -130,12 +129,11 @@ class _Pass:
             if session.short_count <= MOST_NOTED:
                 session.short.append(row)
         if self.is_named:
-            session.rows.update(self.before)
+            session.rows.update(list(self.last)[-AROUND:])
             self.after = AROUND + 1
         if self.after or index < ENDS:
             session.rows[index] = row
             self.after = max(0, self.after - 1)
-        self.before.append((index, row))
         self.last.append((index, row))
         session.row_count += 1
         self.row, self.is_named = None, False

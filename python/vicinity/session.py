@@ -68,14 +68,18 @@ class Round:
 
 @dataclass
 class StayQuiet:
-    """A Stay Quiet request that isn't told with a round."""
+    """A Stay Quiet request that isn't told with a round: its line, and the digits of its UID, as they were sent."""
 
     line: int
-    uid: int
+    digits: bytes
 
     @property
     def end(self) -> int:
         return self.line
+
+    @property
+    def uid(self) -> int:
+        return int.from_bytes(bytes.fromhex(self.digits.decode()), "little")
 
 
 @dataclass
