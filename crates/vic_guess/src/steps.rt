@@ -133,12 +133,12 @@ fn step_of(
     Some(Step::Slot(number, span, found))
 }
 
-/// Whether a part that falls silent was Ready, since all were so at the step `woken`. It is noted
-/// where it fell silent.
-fn was_ready(fallen: &mut [usize], part: u32, woken: usize, at: usize) -> bool {
+/// Whether a part that falls silent was Ready. It is noted in which stretch it fell silent, counted
+/// from 1.
+fn was_ready(fallen: &mut [u32], part: u32, stretch: u32) -> bool {
     match fallen.get_mut(part as usize) {
-        Some(place) if *place <= woken => {
-            *place = at.saturating_add(1);
+        Some(last) if *last < stretch => {
+            *last = stretch;
             true
         }
         _ => false,
@@ -152,18 +152,18 @@ pub(crate) fn steps_of(
     parts: &Parts,
 ) -> Result<Vec<Step>, AllocError> {
     let mut fallen = vec![in alloc; 0; parts.count() as usize]?;
-    let mut woken = 0;
+    let mut stretch: u32 = 1;
     let mut steps = Vec::new(alloc);
     let mut rounds = RoundCursor::first();
     for (index, line) in lines.iter().enumerate() {
         let entry = line.item();
         match step_of(line.number(), index, &entry, &rounds, parts) {
             None => {}
-            Some(Step::Quiet(part)) if !was_ready(&mut fallen, part, woken, steps.len()) => {}
+            Some(Step::Quiet(part)) if !was_ready(&mut fallen, part, stretch) => {}
             Some(step) => {
                 steps.push(step)?;
                 if let Step::Wake = step {
-                    woken = steps.len();
+                    stretch = stretch.saturating_add(1);
                 }
             }
         }
