@@ -13,7 +13,7 @@ use Rattle.vic_frame.specs.Uids.{IsUid, is_uid, has}
 use Rattle.vic_frame.specs.Masks.{BitMask, lies_in}
 use Rattle.vic_frame.specs.LowBitsFirst.{IsKey, is_in_block, mirror, uid_of}
 use Rattle.vic_frame.specs.declared.low_bits_first.KeyBlock.{KeyBlock}
-use Rattle.vic_frame.proofs.MirrorLaws.{mirror_below, uid_of_mirror}
+use Rattle.vic_frame.proofs.MirrorLaws.{mirror_below, mirror_of_uid, uid_of_mirror}
 use Rattle.vic_log.proofs.Supply.{IsUid-from, is_uid_from}
 use Rattle.vic_tree.specs.Gathering.{Gathers}
 use Rattle.vic_tree.specs.OpenSet.{UpToThree, in_mask, without_keys}
@@ -22,9 +22,11 @@ use Rattle.vic_tree.proofs.BoolLaws.{and_true, or_false, lt_yes}
 use Rattle.vic_tree.proofs.GatheringLaws.{gathers_both, gathers_like}
 use Rattle.vic_verdict.specs.declared.answering.Unnamed.{Unnamed}
 use Rattle.vic_verdict.specs.declared.names.Name.{Name}
-use Rattle.vic_verdict.specs.Answering.{AreOpenNames, HasInside, HasNamedIn, IsReadyIn, IsUnnamed, is_answering, is_awake, is_unnamed, is_unnamed_in}
+use Rattle.vic_verdict.specs.Answering.{AreOpenNames, HasInside, HasNamedIn, IsReadyIn, IsUnnamed, is_answering, is_awake, is_ready_at, is_unnamed, is_unnamed_in}
 use Rattle.vic_verdict.specs.Sweep.{AreInOrder, HaveKeys, has_where, is_named, is_quiet_by, quiet_of}
 use Rattle.vic_verdict.proofs.Closing.{between_from}
+use Rattle.vic_verdict.proofs.Replying.{tells_own}
+use Rattle.vic_verdict.proofs.Silencing.{silenced_later}
 use Rattle.vic_verdict.proofs.Supplied.{UpToThree-same}
 use Rattle.vic_verdict.proofs.Sweeping.{between_parts, nobody}
 
@@ -101,7 +103,7 @@ unnamed_between set ns m first last us from to g known h = record {
 
 -- ---- UIDs with a name
 
-not_before : (x i : ℕ) → i ≤ x → nat_lt x i ≡ false
+pub not_before : (x i : ℕ) → i ≤ x → nat_lt x i ≡ false
 not_before x i le = grind (arith, nat_tests)
 
 -- whoever is Quiet has a name
@@ -122,9 +124,19 @@ where_between p (n ∷ ns) first last k inside e =
     (λ there. where_between p ns first last k (All-tail (λ (m : Name). is_between first last m.key ≡ true) n ns inside) there)
     (or_cases _ _ e)
 
+-- who is Quiet at a place is so later
+ready_before : (set : ℕ → Bool) (ns : List Name) (from i u : ℕ) (n : Bool) → from ≤ i → (is_ready_at set ns from u && (n && not (is_quiet_by ns (mirror u) i))) ≡ (set u && (n && not (is_quiet_by ns (mirror u) i)))
+ready_before set ns from i u n le = go (set u) n (is_quiet_by ns (mirror u) from) (is_quiet_by ns (mirror u) i) (silenced_later ns (mirror u) from i le)
+  where
+    go : (a n p q : Bool) → (p ≡ true → q ≡ true) → ((a && not p) && (n && not q)) ≡ (a && (n && not q))
+    go false n p q f = refl
+    go true n false q f = refl
+    go true false true q f = refl
+    go true true true q f = ap not (sym (f refl))
+
 -- those without a name, and then those with one
-pub both_answering : (set : ℕ → Bool) (ns os inside : List Name) (b : KeyBlock) (i last : ℕ) (us vs : List ℕ) → i < 2 ^ 32 → ((k : ℕ) → is_between b.first last k ≡ is_in_block b.first b.len k) → AreOpenNames set ns os → ((k : ℕ) → is_between b.first last k ≡ true → has_where (is_awake i) inside k ≡ has_where (is_awake i) os k) → All (λ (n : Name). is_between b.first last n.key ≡ true) inside → UpToThree (is_unnamed_in set ns b) us → Gathers (IsReadyIn inside i) us vs → UpToThree (is_answering set ns b i) vs
-both_answering set ns os inside b i last us vs small block o alike within h g = record {
+pub both_answering : (set : ℕ → Bool) (ns os inside : List Name) (b : KeyBlock) (from i last : ℕ) (us vs : List ℕ) → from ≤ i → i < 2 ^ 32 → ((k : ℕ) → is_between b.first last k ≡ is_in_block b.first b.len k) → AreOpenNames (is_ready_at set ns from) ns os → ((k : ℕ) → is_between b.first last k ≡ true → has_where (is_awake i) inside k ≡ has_where (is_awake i) os k) → All (λ (n : Name). is_between b.first last n.key ≡ true) inside → UpToThree (is_unnamed_in set ns b) us → Gathers (IsReadyIn inside i) us vs → UpToThree (is_answering set ns b i) vs
+both_answering set ns os inside b from i last us vs asked small block o alike within h g = record {
   different = g.different h.different;
   members = λ u k. ⊎_elim (unnamed u) (ready u) (g.only u k);
   all = λ few u k.
@@ -135,7 +147,7 @@ both_answering set ns os inside b i last us vs small block o alike within h g = 
 }
   where
     key_of : (u : ℕ) → IsUid u → has_where (is_awake i) os (mirror u) ≡ (set u && (is_named ns (mirror u) && not (is_quiet_by ns (mirror u) i)))
-    key_of u uid = o.members (mirror u) i (mirror_below 56 u) small ∙ ap (λ x. set x && (is_named ns (mirror u) && not (is_quiet_by ns (mirror u) i))) (uid_of_mirror u uid)
+    key_of u uid = o.members (mirror u) i (mirror_below 56 u) small ∙ (ap (λ x. is_ready_at set ns from x && (is_named ns (mirror u) && not (is_quiet_by ns (mirror u) i))) (uid_of_mirror u uid) ∙ ready_before set ns from i u _ asked)
 
     unnamed : (u : ℕ) → has us u ≡ true → is_answering set ns b i u ≡ true
     unnamed u old =
@@ -246,6 +258,10 @@ open_more set ns i os new o up small below key there quiet is h = subst (AreOpen
         two true false = refl
         two false true = refl
         two false false = refl
+
+-- whether a UID with a key is one of a set and isn't Quiet at a place, by its own names
+pub ready_key : (set : ℕ → Bool) (ns own : List Name) (from key quiet : ℕ) → IsKey key → All (λ (n : Name). is_between key key n.key ≡ true) own → ((test : Name → Bool) (k : ℕ) → is_between key key k ≡ true → has_where test own k ≡ has_where test ns k) → nat_lt quiet from ≡ list_any (λ (n : Name). nat_lt (quiet_of n) from) own → is_ready_at set ns from (uid_of key) ≡ (set (uid_of key) && not (nat_lt quiet from))
+ready_key set ns own from key quiet small inside all first = ap (λ k. set (uid_of key) && not (is_quiet_by ns k from)) (mirror_of_uid key small) ∙ ap (λ b. set (uid_of key) && not b) (tells_own ns own key quiet from inside all first)
 
 pub open_all : (set : ℕ → Bool) (ns : List Name) (i : ℕ) (os : List Name) → length ns ≤ i → AreOpenTo set ns i os → AreOpenNames set ns os
 open_all set ns i os end h = record {

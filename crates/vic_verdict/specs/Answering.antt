@@ -54,8 +54,12 @@ pub record AreOpenNames (set : ℕ → Bool) (ns os : List Name) : Type 0 where
   pub members : (k i : ℕ) → IsKey k → i < 2 ^ 32 → has_where (is_awake i) os k
       ≡ (set (uid_of k) && (is_named ns k && not (is_quiet_by ns k i)))
 
+-- a UID of a set isn't Quiet at place i by the names
+abbrev pub is_ready_at : (ℕ → Bool) → List Name → ℕ → ℕ → Bool
+is_ready_at set ns i u = set u && not (is_quiet_by ns (mirror u) i)
+
 -- what is known of the names of a stretch
 pub record IsKnown (set : ℕ → Bool) (ns : List Name) (known : Known) : Type 0 where
   pub keys : known.keys.items ≡ map (λ (n : Name). n.key) ns
-  pub named : AreOpenNames set ns known.named.items
+  pub named : AreOpenNames (is_ready_at set ns known.from) ns known.named.items
   pub masks : All (IsUnnamed set ns) known.masks.items

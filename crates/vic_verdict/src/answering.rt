@@ -4,7 +4,7 @@
 //! with one are looked for apart: the former are never Quiet, and those of a mask tell those of the
 //! masks in it; of the latter it is known where each falls Quiet.
 
-ghost use Rattle.std.specs.Prelude.{◌≡◌, ◌^◌, ◌<◌, ℕ, Bool, List, [], map, nat_lt, IfOk, OnOk, IfSome};
+ghost use Rattle.std.specs.Prelude.{◌≡◌, ◌^◌, ◌<◌, ◌≤◌, ℕ, Bool, List, [], map, nat_lt, IfOk, OnOk, IfSome};
 ghost use Rattle.std.specs.List.{All};
 ghost use Rattle.std.specs.List.Sorted.{IsNonDecreasing};
 ghost use Rattle.arrayvec.specs.ArrayVec.{array_vec_len};
@@ -15,7 +15,7 @@ ghost use Rattle.vic_tree.specs.OpenSet.{AreKeys, UpToThree};
 ghost use Rattle.vic_verdict.specs.declared.names.Name.{Name as NameValue};
 ghost use Rattle.vic_verdict.specs.declared.answering.Unnamed.{Unnamed as UnnamedValue};
 ghost use Rattle.vic_verdict.specs.Sweep.{AreInOrder, HaveKeys, is_named, quiet_of};
-ghost use Rattle.vic_verdict.specs.Answering.{AreOpenNames, IsKnown, IsReadyIn, IsUnnamed, HasInside, HasNamedIn, is_answering, is_unnamed, is_unnamed_in};
+ghost use Rattle.vic_verdict.specs.Answering.{AreOpenNames, IsKnown, IsReadyIn, IsUnnamed, HasInside, HasNamedIn, is_answering, is_ready_at, is_unnamed, is_unnamed_in};
 
 use crate::names::{Name, first_quiet, is_any_quiet, names_between, start_near};
 use arrayvec::ArrayVec;
@@ -37,10 +37,12 @@ pub(crate) struct Unnamed {
 /// What is known of the names of a stretch, and of the UIDs without one.
 #[derive(Drop)]
 pub(crate) struct Known {
+    /// The place from which on it is known who answers.
+    pub from: usize,
     /// The keys of the names.
     pub keys: Vec<u64>,
-    /// A name for each open UID that has one, Quiet where the UID is by all its names; in the order
-    /// of keys.
+    /// A name for each open UID that has one and isn't Quiet at that place, Quiet where the UID is
+    /// by all its names; in the order of keys.
     pub named: Vec<Name>,
     /// The masks that were looked through for UIDs without a name, each within the one before it.
     pub masks: Vec<Unnamed>,
@@ -74,18 +76,25 @@ fn name_quiet_after(key: u64, quiet: usize) -> Name
     }
 }
 
-/// A name for each UID of a set that has names, Quiet where the UID is by all of them.
-fn open_names<S: OpenSet>(alloc: Global, set: &S, names: &[Name]) -> Result<Vec<Name>, AllocError>
+/// A name for each UID of a set that has names and isn't Quiet at a place, Quiet where the UID is by
+/// all of them.
+fn open_names<S: OpenSet>(
+    alloc: Global,
+    set: &S,
+    names: &[Name],
+    from: usize,
+) -> Result<Vec<Name>, AllocError>
     requires order { AreInOrder names.now }
     requires keys { HaveKeys names.now }
-    ensures { IfOk result (λ named. AreOpenNames (S.is_open set.now) names.now named.items) }
+    ensures { IfOk result (λ named.
+        AreOpenNames (is_ready_at (S.is_open set.now) names.now from) names.now named.items) }
 {
     let mut named = Vec::new(alloc);
     for i in 0..names.len() {
         let key = names[i].key;
         if i == 0 || names[i - 1].key < key {
-            if set.has(uid_at(key)) {
-                let quiet = first_quiet(names_between(names, i, key, key));
+            let quiet = first_quiet(names_between(names, i, key, key));
+            if from <= quiet && set.has(uid_at(key)) {
                 named.push(name_quiet_after(key, quiet))?;
             }
         }
@@ -94,16 +103,27 @@ fn open_names<S: OpenSet>(alloc: Global, set: &S, names: &[Name]) -> Result<Vec<
 }
 
 impl Known {
-    /// What is known before any mask was looked through.
-    fn of<S: OpenSet>(alloc: Global, set: &S, names: &[Name]) -> Result<Known, AllocError>
+    /// What is known of the slots from a place on, before any mask was looked through.
+    fn of<S: OpenSet>(
+        alloc: Global,
+        set: &S,
+        names: &[Name],
+        from: usize,
+    ) -> Result<Known, AllocError>
         requires order { AreInOrder names.now }
         requires keys { HaveKeys names.now }
-        ensures { IfOk result (IsKnown (S.is_open set.now) names.now) }
+        ensures known { IfOk result (IsKnown (S.is_open set.now) names.now) }
+        ensures from { IfOk result (λ known. known.from ≡ from) }
     {
         let keys = keys_of(alloc, names)?;
-        let named = open_names(alloc, set, names)?;
+        let named = open_names(alloc, set, names, from)?;
         let masks = Vec::new(alloc);
-        Ok(Known { keys, named, masks })
+        Ok(Known {
+            from,
+            keys,
+            named,
+            masks,
+        })
     }
 
     /// Open UIDs that answer in a slot, as `up_to_three_answering` gives them.
@@ -120,6 +140,7 @@ impl Known {
         requires keys { HaveKeys names.now }
         requires block { IsBlock block.now.first block.now.len }
         requires place { at < 2 ^ 32 }
+        requires from { self.old.from ≤ at }
         requires known { IsKnown (S.is_open set.now) names.now self.old }
         ensures known { OnOk result (IsKnown (S.is_open set.now) names.now self.new) }
         ensures uids { IfOk result (λ uids. UpToThree
@@ -140,9 +161,33 @@ impl Known {
     }
 }
 
+/// What is known at a place: what was found out already, or what is known from the place `from` on.
+fn known_at<S: OpenSet>(
+    alloc: Global,
+    set: &S,
+    names: &[Name],
+    known: Option<Known>,
+    from: usize,
+    at: usize,
+) -> Result<Known, AllocError>
+    requires order { AreInOrder names.now }
+    requires keys { HaveKeys names.now }
+    requires known { IfSome known (IsKnown (S.is_open set.now) names.now) }
+    ensures known { IfOk result (IsKnown (S.is_open set.now) names.now) }
+    ensures from { IfOk result (λ known. known.from ≤ at) }
+{
+    if let Some(known) = known {
+        if known.from <= at {
+            return Ok(known);
+        }
+    }
+    Known::of(alloc, set, names, from.min(at))
+}
+
 /// Open UIDs that answer in a slot with a block of keys: all where they are fewer than three, three
 /// otherwise. Mostly those that are found first are not Quiet, and nothing more has to be known.
-/// The first name of the block is looked for near index `near` first.
+/// The first name of the block is looked for near index `near` first. No slot before the place
+/// `from` will be asked for.
 pub(crate) fn up_to_three_answering<S: OpenSet>(
     alloc: Global,
     set: &S,
@@ -150,6 +195,7 @@ pub(crate) fn up_to_three_answering<S: OpenSet>(
     known: &mut Option<Known>,
     near: usize,
     block: &KeyBlock,
+    from: usize,
     at: u32,
 ) -> Result<ArrayVec<Uid, 3>, AllocError>
     requires order { AreInOrder names.now }
@@ -167,10 +213,7 @@ pub(crate) fn up_to_three_answering<S: OpenSet>(
     if !is_any_quiet(inside, &uids, at) {
         return Ok(uids);
     }
-    let mut own = match known.take() {
-        Some(known) => known,
-        None => Known::of(alloc, set, names)?,
-    };
+    let mut own = known_at(alloc, set, names, known.take(), from, at)?;
     let uids = own.answering(alloc, set, names, near, block, at)?;
     *known = Some(own);
     Ok(uids)

@@ -143,13 +143,15 @@ pub(crate) fn keep_stretch(
 }
 
 /// Open UIDs that answer in a slot: all where they are fewer than three, three otherwise. The first
-/// name of the slot's mask is looked for near index `near` first.
+/// name of the slot's mask is looked for near index `near` first. No slot before the place `from`
+/// will be asked for.
 fn answering<S: OpenSet>(
     alloc: Global,
     set: &S,
     names: &[Name],
     known: &mut Option<Known>,
     near: usize,
+    from: usize,
     demand: &Demand,
 ) -> Result<ArrayVec<Uid, 3>, AllocError>
     requires order { AreInOrder names.now }
@@ -165,7 +167,16 @@ fn answering<S: OpenSet>(
         first: demand.first,
         len: demand.len,
     };
-    up_to_three_answering(alloc, set, names, known, near, &block, demand.at)
+    up_to_three_answering(alloc, set, names, known, near, &block, from, demand.at)
+}
+
+/// The place of the first of some slots.
+fn first_place(demands: &[Demand]) -> usize {
+    let mut first = usize::MAX;
+    for demand in demands {
+        first = first.min(demand.place());
+    }
+    first
 }
 
 /// Whether the next slot of some asks for as much of the same mask, and is no earlier: if it is
@@ -232,6 +243,7 @@ fn guess_unmet<S: OpenSet>(
     requires known { IfSome known.old (IsKnown (S.is_open set.now) names.now) }
     ensures known { OnOk result (IfSome known.new (IsKnown (S.is_open set.now) names.now)) }
 {
+    let first_asked = first_place(demands);
     let mut guess = from;
     let mut least = usize::MAX;
     let mut start = from;
@@ -240,7 +252,7 @@ fn guess_unmet<S: OpenSet>(
         if !is_asked_again(demands, index) {
             let demand = demands[index];
             near = start_near(names, near, demand.first);
-            let uids = answering(alloc, set, names, known, near, &demand)?;
+            let uids = answering(alloc, set, names, known, near, first_asked, &demand)?;
             let need = usize::from(demand.need);
             if uids.len() < need {
                 let inside = known_names(known, &demand);
@@ -280,7 +292,7 @@ fn first_unmet<S: OpenSet>(
     let guess = guess_unmet(alloc, set, names, known, demands, from)?;
     if guess < demands.len() {
         let demand = demands[guess];
-        let uids = answering(alloc, set, names, known, 0, &demand)?;
+        let uids = answering(alloc, set, names, known, 0, demand.place(), &demand)?;
         if uids.len() < usize::from(demand.need) {
             return Ok(demand.place());
         }
@@ -306,6 +318,7 @@ fn meet_each<S: OpenSet>(
     ensures unmet { IfOk result (λ r. IfSome r
         (IsUnmetAt (S.is_open set.now) names.now demands.now)) }
 {
+    let first_asked = first_place(demands);
     let mut known = None;
     let mut start = 0;
     let mut near = 0;
@@ -313,7 +326,7 @@ fn meet_each<S: OpenSet>(
         if !is_asked_again(demands, index) {
             let demand = demands[index];
             near = start_near(names, near, demand.first);
-            let uids = answering(alloc, set, names, &mut known, near, &demand)?;
+            let uids = answering(alloc, set, names, &mut known, near, first_asked, &demand)?;
             let at = demand.place();
             let need = usize::from(demand.need);
             if uids.len() < need {

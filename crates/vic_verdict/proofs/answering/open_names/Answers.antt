@@ -1,16 +1,22 @@
-use Rattle.std.proofs.Common.{◌≡◌, ◌+◌, ◌^◌, ◌<◌, ℕ, true, sym, ap, ◌∙◌, subst, arith}
+use Rattle.std.proofs.Common.{◌≡◌, ◌+◌, ◌^◌, ◌<◌, ◌≤◌, ℕ, true, false, not, ◌&&◌, sym, ap, ◌∙◌, subst, arith}
 use Rattle.std.specs.Prelude.{nat_lt}
+use Rattle.std.proofs.lemmas.Bool.{and_from, and_right}
 use Rattle.vic_frame.specs.LowBitsFirst.{uid_of}
+use Rattle.vic_tree.proofs.BoolLaws.{lt_yes}
 use Rattle.vic_verdict.specs.declared.names.Name.{Name}
+use Rattle.vic_verdict.specs.declared.names.TheConstants.{NEVER}
+use Rattle.vic_verdict.specs.Answering.{is_ready_at}
 use Rattle.vic_verdict.specs.Sweep.{is_quiet_by, quiet_of}
-use Rattle.vic_verdict.proofs.Ready.{AreOpenTo, open_first, open_same, open_other, open_more, open_all}
+use Rattle.vic_verdict.proofs.Ready.{AreOpenTo, not_before, open_first, open_same, open_other, open_more, open_all, ready_key}
 use Rattle.vic_verdict.proofs.Replying.{at, tells_own}
-use Rattle.vic_verdict.proofs.Sweeping.{start_here}
+use Rattle.vic_verdict.proofs.Sweeping.{nobody, start_here}
 use Rattle.vic_verdict.proofs.answering.open_names.Goals as goal
-use Rattle.vic_verdict.proofs.answering.open_names.Goals.{then-i-eq0+then-has+in_ok-push, then-i-eq0-via-then-i-eq0, then-i-eq0-via-else-i-eq0+then-names-i, then-i-eq0+else-has, else-i-eq0+else-names-i}
+use Rattle.vic_verdict.proofs.answering.open_names.Goals.{then-i-eq0+then-from-quiet+then-has+in_ok-push, then-i-eq0-via-then-i-eq0, then-i-eq0-via-else-i-eq0+then-names-i, then-i-eq0+else-from-quiet, else-from-quiet-via-then-from-quiet+else-has, else-from-quiet-via-else-from-quiet, else-i-eq0+else-names-i}
 
 pub loop-i-init : goal.loop-i-init
-loop-i-init g c = subst (AreOpenTo (g.S.OpenSet.is_open c.args.set.now) c.args.names.now 0) (sym c.new-named.ensures.items) (open_first (g.S.OpenSet.is_open c.args.set.now) c.args.names.now)
+loop-i-init g c =
+    let set = is_ready_at (g.S.OpenSet.is_open c.args.set.now) c.args.names.now c.args.from in
+    subst (AreOpenTo set c.args.names.now 0) (sym c.new-named.ensures.items) (open_first set c.args.names.now)
 
 pub names_between-requires-clause-start : goal.names_between-requires-clause-start
 names_between-requires-clause-start g c =
@@ -23,10 +29,14 @@ pub loop-i-preserved : goal.loop-i-preserved
 loop-i-preserved g c =
     let ns = c.args.names.now in
     let i = c.loop-i.i in
-    let set = g.S.OpenSet.is_open c.args.set.now in
+    let from = c.args.from in
+    let upto : from ≤ NEVER = omega (arith, c.ranges.from.fits) in
+    let is_left = g.S.OpenSet.is_open c.args.set.now in
+    let set = is_ready_at is_left ns from in
+    let small = c.requires.keys i nobody c.loop-i-test.true in
     let P = AreOpenTo set ns (i + 1) in
     elim c.if-i-eq0.branch [
-      | then-i-eq0+then-has+in_ok-push w ↦
+      | then-i-eq0+then-from-quiet+then-has+in_ok-push w ↦
           let o : Name = w.name_quiet_after.result in
           let key : o.key ≡ (at ns i).key = w.name_quiet_after.ensures.key in
           let own = w.names_between.ensures in
@@ -34,11 +44,20 @@ loop-i-preserved g c =
           w.name_quiet_after.ensures.quiet j small
           ∙ (sym (tells_own ns w.names_between.result.now (at ns i).key w.first_quiet-quiet.result j own.inside own.all (w.first_quiet-quiet.ensures j (omega (arith, small))))
           ∙ ap (λ k. is_quiet_by ns k j) (sym key)) in
-          let is_in : set (uid_of o.key) ≡ true = ap (λ k. set (uid_of k)) key ∙ (ap set (sym w.uid_at.ensures.value) ∙ (sym w.has.ensures ∙ w.if-has.true)) in
+          let is_open = ap is_left (sym w.uid_at.ensures.value) ∙ (sym w.has.ensures ∙ w.if-has.true) in
+          let is_in : set (uid_of o.key) ≡ true = ap (λ k. set (uid_of k)) key ∙ (ready_key is_left ns _ from _ _ small own.inside own.all (w.first_quiet-quiet.ensures from upto) ∙ and_from _ _ is_open (ap not (not_before _ from w.if-from-quiet.true))) in
           subst (λ v. P v.items) (sym w.named-is) (open_more set ns i c.loop-i.named.items w.push.new.self.items o c.requires.order c.requires.keys c.loop-i-test.true key is_in quiet w.in_ok-push.ensures.items c.loop-i.invariant)
-      | then-i-eq0+else-has w ↦ subst (λ v. P v.items) (sym w.named-is) (open_other set ns i c.loop-i.named.items c.loop-i-test.true (ap set (sym w.uid_at.ensures.value) ∙ (sym w.has.ensures ∙ w.if-has.false)) c.loop-i.invariant)
+      | then-i-eq0+else-from-quiet w ↦
+          let own = w.names_between.ensures in
+          let key = (at ns i).key in
+          let quiet = w.first_quiet-quiet.result in
+          let out : (is_left (uid_of key) && not (nat_lt quiet from)) ≡ false = elim w.else-from-quiet.branch [
+            | else-from-quiet-via-then-from-quiet+else-has w' ↦ ap (λ b. b && not (nat_lt quiet from)) (ap is_left (sym w'.uid_at.ensures.value) ∙ (sym w'.has.ensures ∙ w'.if-has.false))
+            | else-from-quiet-via-else-from-quiet w' ↦ and_right (is_left (uid_of key)) _ (ap not (lt_yes quiet from w'.if-from-quiet.false))
+          ] in
+          subst (λ v. P v.items) (sym w.named-is) (open_other set ns i c.loop-i.named.items c.loop-i-test.true (ready_key is_left ns _ from key quiet small own.inside own.all (w.first_quiet-quiet.ensures from upto) ∙ out) c.loop-i.invariant)
       | else-i-eq0+else-names-i w ↦ let some = w.if-i-eq0.false in subst (λ v. P v.items) (sym w.named-is) (open_same set ns i c.loop-i.named.items c.requires.order (omega (arith, some)) c.loop-i-test.true w.if-names-i.false c.loop-i.invariant)
     ]
 
 pub returns : goal.returns
-returns g c = open_all (g.S.OpenSet.is_open c.args.set.now) c.args.names.now c.loop-i.i c.loop-i.named.items c.loop-i-test.false c.loop-i.invariant
+returns g c = open_all (is_ready_at (g.S.OpenSet.is_open c.args.set.now) c.args.names.now c.args.from) c.args.names.now c.loop-i.i c.loop-i.named.items c.loop-i-test.false c.loop-i.invariant

@@ -42,7 +42,7 @@ returns-clause-uids g c =
     let last = c.last-last.result in
     let block : (k : ℕ) → is_between b.first last k ≡ is_in_block b.first b.len k = λ k. ap (λ l. is_between b.first l k) c.last-last.ensures in
     let part = keys_part ns inside c.deref.result.now _ c.start_near-start.result _ (c.deref.ensures.value ∙ c.requires.known.keys) c.names_between.ensures.place refl refl in
-    both_answering (g.S.OpenSet.is_open c.args.set.now) ns os c.names_between-2.result.now b c.args.at last c.in_ok-uids.uids.items c.gather_ready.new.uids.items c.requires.place block c.requires.known.named
+    both_answering (g.S.OpenSet.is_open c.args.set.now) ns os c.names_between-2.result.now b c.args.self.now.from c.args.at last c.in_ok-uids.uids.items c.gather_ready.new.uids.items c.requires.from c.requires.place block c.requires.known.named
     (λ k lies. c.names_between-2.ensures.all (is_awake c.args.at) k lies ∙ ap (λ xs. has_where (is_awake c.args.at) xs k) c.deref-3.ensures.value)
     c.names_between-2.ensures.inside
     (c.in_ok-uids.ensures.uids ns (named_in ns inside b last _ block c.names_between.ensures.all part) c.requires.known.masks)
