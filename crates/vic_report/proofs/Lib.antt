@@ -2,5 +2,4 @@ pub mod KeptLogs
 pub mod Conflicts
 pub mod RuledOut
 pub mod Telling
-pub mod Merging
 pub mod AllFindings

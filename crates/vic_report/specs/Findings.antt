@@ -1,4 +1,4 @@
--- What a possible log tells against its list (profile), and the lines that tell it.
+-- The lines that show what a possible log tells against its list (profile).
 use Rattle.std.specs.Prelude.{◌≡◌, ◌≢◌, ◌⊎◌, ℕ, ◌==◌, ◌^◌, ◌<◌, ◌≤◌, Bool, true, false, not, Some, List, slice_get, map}
 use Rattle.vic_frame.specs.declared.uid.TheConstants.{UID_BITS}
 use Rattle.vic_frame.specs.Uids.{IsUid, has}
@@ -10,25 +10,6 @@ use Rattle.vic_log.specs.Order.{entries, listed}
 use Rattle.vic_log.specs.Populations.{answers_at}
 use Rattle.vic_report.specs.declared.shown.ShownUid.{ShownUid}
 use Rattle.vic_verdict.specs.Possible.{IsPossibleUid, IsCertainUid}
-
--- ---- the findings, besides absent and unlisted UIDs
-
--- a UID that may be there and may be missing
-abbrev pub IsOpenUid : List Entry → ℕ → Type 0
-IsOpenUid es u = IsPossibleUid es u × (IsCertainUid es u → ⊥)
-
--- a mask of at most 56 bits all of whose UIDs may be there, may be missing, and aren't listed
-abbrev pub IsLeftOpen : List Entry → BitMask → Type 0
-IsLeftOpen es m =
-    (m.len ≤ UID_BITS) × (m.value < 2 ^ m.len)
-    × ((u : ℕ) → IsUid u → lies_in m u ≡ true
-    → IsOpenUid es u × (has (listed es) u ≡ false))
-
--- a listed UID that may be there and may be missing
-abbrev pub MayBeMissing : List Entry → ℕ → Type 0
-MayBeMissing es u = (has (listed es) u ≡ true) × IsOpenUid es u
-
--- ---- the lines that show them
 
 -- a slot that was found so is silent, or holds the reply of another UID
 abbrev pub lacks_reply_of : Entry → ℕ → Bool

@@ -3,4 +3,3 @@ pub mod KeptLogs
 pub mod Findings
 pub mod FieldCursors
 pub mod Reports
-pub mod Merging

@@ -18,8 +18,9 @@ use Rattle.vic_report.specs.declared.reporting.LogReport.TheVariants.{Impossible
 use Rattle.vic_verdict.specs.declared.judging.Verdict.{Verdict}
 use Rattle.vic_verdict.specs.declared.judging.Verdict.TheVariants as verdict
 use Rattle.vic_report.specs.Conflicts.{IsConflict}
-use Rattle.vic_report.specs.Findings.{IsOpenUid, IsLeftOpen, IsRuledOut, IsToldOf, MayBeMissing, uids_of}
+use Rattle.vic_report.specs.Findings.{IsRuledOut, IsToldOf, uids_of}
 use Rattle.vic_verdict.specs.Possible.{IsPossible}
+use Rattle.vic_verdict.specs.Differences.{IsOpenUid, IsLeftOpen, MayBeMissing, first_finding}
 use Rattle.vic_verdict.specs.Rising.{IsListOf}
 use Rattle.vic_verdict.specs.Verdict.{IsAbsent, IsUnlisted, IsFirstMask, IsVerdict, NoSuch}
 
@@ -30,6 +31,10 @@ pub record AreOpenMasks (es : List Entry) (o : OpenMasks) : Type 0 where
   pub first : AreFirst MAX_OPEN_MASKS (IsOpenMask set) o.masks.items
   pub more : (o.more ≡ true)
       ↔ ((m : BitMask) × IsOpenMask set m × (Contains o.masks.items m → ⊥))
+
+-- a mask with the open masks
+abbrev pub left_with : BitMask → OpenMasks → Unsettled
+left_with m o = record { mask = m; «open» = o }
 
 -- what is left to ask for
 pub record IsUnsettledWith (es : List Entry) (x : Unsettled) : Type 0 where
@@ -60,18 +65,11 @@ IsReport lines (NotWhole f) =
     IsPossible (entries lines) × AreFindings lines f × (AreNone f → ⊥)
 IsReport lines (Complete count) = IsVerdict lines (verdict.Complete count)
 
--- the first of some findings, the one that is the verdict; a count where there is none
-abbrev pub first_finding : List ℕ → List ℕ → Option BitMask → List ℕ → Verdict
-first_finding (u ∷ absent) unlisted unsettled doubtful = verdict.Absent u
-first_finding [] (u ∷ unlisted) unsettled doubtful = verdict.Unlisted u
-first_finding [] [] (Some m) doubtful = verdict.Unsettled m
-first_finding [] [] None (u ∷ doubtful) = verdict.Doubtful u
-first_finding [] [] None [] = verdict.Complete 0
-
+-- the first of them as a verdict; a count of none where there is none
 abbrev pub first_of : Findings → Verdict
 first_of f =
     first_finding (uids_of f.absent.items) (uids_of f.unlisted.items)
-    (option_map (λ x. x.mask) f.unsettled) f.doubtful.items
+    (option_map (λ x. x.mask) f.unsettled) f.doubtful.items 0
 
 -- the verdict that a report begins with
 abbrev pub verdict_of : LogReport → Verdict

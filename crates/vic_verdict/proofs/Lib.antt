@@ -14,7 +14,8 @@ pub mod Halving
 pub mod Inserted
 pub mod Failing
 pub mod Listing
-pub mod Cases
+pub mod Differing
+pub mod Merging
 pub mod Sweeping
 pub mod Closing
 pub mod Stretching

@@ -4,7 +4,8 @@ pub mod Verdict
 pub mod TwoVersions
 pub mod Places
 pub mod Rising
-pub mod Unsettled
+pub mod Differences
+pub mod Merging
 pub mod Sweep
 pub mod Closed
 pub mod Stretches

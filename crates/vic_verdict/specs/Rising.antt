@@ -1,5 +1,5 @@
 -- Rising lists of UIDs.
-use Rattle.std.specs.Prelude.{◌≡◌, ◌↔◌, ◌⊎◌, ℕ, Bool, true, false, not, ◌&&◌, List}
+use Rattle.std.specs.Prelude.{◌≡◌, ◌↔◌, ◌⊎◌, ℕ, Bool, true, false, List}
 use Rattle.std.specs.List.Sorted.{IsStrictlyIncreasing}
 use Rattle.vic_frame.specs.Uids.{has}
 
@@ -20,6 +20,3 @@ Adds P old new = (u : ℕ) → (has new u ≡ true) ↔ (P u ⊎ (has old u ≡ 
 abbrev pub IsFailing : List ℕ → (ℕ → Bool) → ℕ → Type 0
 IsFailing us test u = (has us u ≡ true) × (test u ≡ false)
 
--- a set without the members of a list
-abbrev pub without_all : (ℕ → Bool) → List ℕ → ℕ → Bool
-without_all set us u = set u && not (has us u)

@@ -1,23 +1,20 @@
 //! What a log proves of its list of tags: the verdict on it.
 
-ghost use Rattle.std.specs.Prelude.{◌≡◌, ℕ, List, IfOk, MatchOption, length};
-ghost use Rattle.std.specs.List.Sorted.{IsNonDecreasing};
-ghost use Rattle.vic_tree.specs.OpenSet.{AreKeys, SameUids};
-ghost use Rattle.vic_log.specs.declared.entry.Entry.{Entry as EntryValue};
+ghost use Rattle.std.specs.Prelude.{◌≡◌, ℕ, IfOk, length};
+ghost use Rattle.vic_tree.specs.OpenSet.{SameUids};
 ghost use Rattle.vic_log.specs.Slots.{slots_of, is_open};
 ghost use Rattle.vic_verdict.specs.Possible.{IsPossible};
 ghost use Rattle.vic_log.specs.Order.{entries, listed};
 ghost use Rattle.vic_verdict.specs.LogLines.{AreLogLines};
-ghost use Rattle.vic_verdict.specs.Keys.{AreKeysOf};
-ghost use Rattle.vic_verdict.specs.Unsettled.{AreOpenAndListed};
-ghost use Rattle.vic_verdict.specs.Verdict.{IsVerdict, IsWhole, IsReached, IsUnsettled, IsFirstMask, NoSuch};
+ghost use Rattle.vic_verdict.specs.Differences.{first_finding};
+ghost use Rattle.vic_verdict.specs.Verdict.{IsVerdict, IsWhole, IsReached};
 ghost use Rattle.vic_verdict.specs.TwoVersions.{IsWholeSecond};
 ghost use Rattle.vic_verdict.specs.Demands.{IsMet};
 ghost use Rattle.vic_verdict.specs.declared.judging.Verdict.TheVariants.{Complete};
 
 use crate::demands::Met;
+use crate::differences::{Differences, compare};
 use crate::first_line::first_impossible_line;
-use crate::missing::{keys_in_order, least_missing, least_outside};
 use crate::possible::open_and_met;
 use crate::uids::{certain_uids, count_listed, listed_uids};
 use std::alloc::{AllocError, Global};
@@ -107,31 +104,27 @@ pub(crate) fn judge_possible<S: OpenSet>(
 {
     let certain = certain_uids(alloc, met)?;
     let listed = listed_uids(alloc, lines)?;
-    let keys = keys_in_order(alloc, &listed)?;
-    if let Some(uid) = least_outside(alloc, &set, &keys)? {
-        return Ok(Verdict::Absent(uid));
-    }
-    if let Some(uid) = least_missing(&certain, &listed) {
-        return Ok(Verdict::Unlisted(uid));
-    }
-    if let Some(mask) = first_unsettled(set, &keys)? {
-        return Ok(Verdict::Unsettled(mask));
-    }
-    if let Some(uid) = least_missing(&listed, &certain) {
-        return Ok(Verdict::Doubtful(uid));
-    }
-    let count = count_listed(lines);
-    Ok(Verdict::Complete { count })
+    let found = compare(alloc, set, &certain, listed)?;
+    Ok(first_finding(&found, count_listed(lines)))
 }
 
-/// The first unsettled mask of a possible log, by the UIDs that it leaves open and the keys of
-/// those that it lists: the widest one that is left when the listed UIDs are taken out.
-fn first_unsettled<S: OpenSet>(set: S, keys: &[u64]) -> Result<Option<Mask>, AllocError>
-    requires order { IsNonDecreasing keys.now }
-    requires keys { AreKeys keys.now }
-    ensures { IfOk result (λ m. (es : List EntryValue) (listed : List ℕ)
-        → AreKeysOf keys.now listed → AreOpenAndListed es (S.is_open set) listed
-        → MatchOption m (NoSuch (IsUnsettled es)) (IsFirstMask (IsUnsettled es))) }
+/// The first of some findings, as a verdict; where there is none, that the list is complete, and
+/// has so many UIDs.
+fn first_finding(found: &Differences, count: u32) -> Verdict
+    ensures { result ≡ first_finding found.now.absent.items found.now.unlisted.items
+        found.now.unsettled found.now.doubtful.items count }
 {
-    set.widest_besides(keys)
+    if let Some(uid) = found.absent.first() {
+        return Verdict::Absent(*uid);
+    }
+    if let Some(uid) = found.unlisted.first() {
+        return Verdict::Unlisted(*uid);
+    }
+    if let Some(mask) = found.unsettled {
+        return Verdict::Unsettled(mask);
+    }
+    match found.doubtful.first() {
+        Some(uid) => Verdict::Doubtful(*uid),
+        None => Verdict::Complete { count },
+    }
 }

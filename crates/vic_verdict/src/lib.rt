@@ -10,6 +10,7 @@
 mod answering;
 mod closed;
 mod demands;
+mod differences;
 mod explanation;
 mod first_line;
 mod judging;
@@ -22,6 +23,7 @@ mod sweep;
 mod uids;
 
 pub use demands::{Found, Met};
+pub use differences::{Differences, compare};
 pub use explanation::{Explanation, explain, explain_with};
 pub use first_line::first_impossible_line;
 pub use judging::{Verdict, judge, judge_with};

@@ -2,14 +2,13 @@
 //!
 //! They are looked for in order: a set that stands in the order of keys is gone over once.
 
-ghost use Rattle.std.specs.Prelude.{◌≡◌, ℕ, List, IfOk, MatchOption};
+ghost use Rattle.std.specs.Prelude.{◌≡◌, ◌≤◌, [], ◌∷◌, ◌++◌, if◌then◌else◌, IfOk, OnOk, length};
 ghost use Rattle.std.specs.List.{list_all};
-ghost use Rattle.std.specs.List.Sorted.{IsNonDecreasing, IsStrictlyIncreasing};
+ghost use Rattle.std.specs.List.Sorted.{IsStrictlyIncreasing};
 ghost use Rattle.vic_frame.specs.Uids.{has};
-ghost use Rattle.vic_tree.specs.OpenSet.{AreKeys};
 ghost use Rattle.vic_verdict.specs.Keys.{AreKeysOf};
-ghost use Rattle.vic_verdict.specs.Rising.{IsFailing};
-ghost use Rattle.vic_verdict.specs.Verdict.{IsLeast, NoSuch};
+ghost use Rattle.vic_verdict.specs.Merging.{AreBelow, IsPlaceOf};
+ghost use Rattle.vic_verdict.specs.Rising.{IsFailing, IsListOf};
 
 use std::alloc::{AllocError, Global};
 use vic_frame::Uid;
@@ -28,49 +27,61 @@ pub fn keys_in_order(alloc: Global, uids: &[Uid]) -> Result<Vec<u64>, AllocError
     Ok(keys)
 }
 
-/// The least UID, of those with these keys, that isn't in a set. The keys come in order.
-pub(crate) fn least_outside<S: OpenSet>(
-    alloc: Global,
-    set: &S,
-    keys: &[u64],
-) -> Result<Option<Uid>, AllocError>
-    requires order { IsNonDecreasing keys.now }
-    requires keys { AreKeys keys.now }
-    ensures { IfOk result (λ least. (us : List ℕ) → AreKeysOf keys.now us
-        → MatchOption least (NoSuch (IsFailing us (S.is_open set.now)))
-        (IsLeast (IsFailing us (S.is_open set.now)))) }
-{
-    let uids = set.uids_outside(alloc, keys)?;
-    Ok(uids.first().copied())
-}
-
 /// Whether all UIDs of a list are in a set.
 pub(crate) fn are_open<S: OpenSet>(alloc: Global, set: &S, uids: &[Uid]) -> Result<bool, AllocError>
     ensures { IfOk result (λ yes. yes ≡ list_all (S.is_open set.now) uids.now) }
 {
     let keys = keys_in_order(alloc, uids)?;
-    let least = least_outside(alloc, set, &keys)?;
-    Ok(least.is_none())
+    let outside = set.uids_outside(alloc, &keys)?;
+    Ok(outside.is_empty())
 }
 
-/// The least UID of a rising list that isn't in another one.
-pub(crate) fn least_missing(uids: &[Uid], others: &[Uid]) -> Option<Uid>
+/// Those of a rising list that aren't in another, in rising order.
+pub(crate) fn missing(alloc: Global, uids: &[Uid], others: &[Uid]) -> Result<Vec<Uid>, AllocError>
     requires rising { IsStrictlyIncreasing uids.now }
     requires others { IsStrictlyIncreasing others.now }
-    ensures { MatchOption result (NoSuch (IsFailing uids.now (has others.now)))
-        (IsLeast (IsFailing uids.now (has others.now))) }
+    ensures { IfOk result (λ v. IsListOf (IsFailing uids.now (has others.now)) v.items) }
 {
+    let mut missing = Vec::new(alloc);
     let mut next = 0;
-    for other in others {
-        if next < uids.len() {
-            let uid = uids[next];
-            if uid.number() < other.number() {
-                return Some(uid);
-            }
-            if uid == *other {
-                next += 1;
-            }
-        }
+    for uid in uids {
+        next = place_from(others, next, *uid);
+        push_if(&mut missing, *uid, !is_at(others, next, *uid))?;
     }
-    uids.get(next).copied()
+    Ok(missing)
+}
+
+/// The place of a UID in a rising list, from one that it doesn't come before.
+fn place_from(uids: &[Uid], start: usize, uid: Uid) -> usize
+    requires start { start ≤ length uids.now }
+    requires below { AreBelow uids.now start uid }
+    ensures { IsPlaceOf uids.now result uid }
+{
+    let mut place = start;
+    while place < uids.len() && uids[place] < uid {
+        place += 1;
+    }
+    place
+}
+
+/// Whether a rising list has a UID, by its place there.
+fn is_at(uids: &[Uid], place: usize, uid: Uid) -> bool
+    requires rising { IsStrictlyIncreasing uids.now }
+    requires place { IsPlaceOf uids.now place uid }
+    ensures { result ≡ has uids.now uid }
+{
+    if place < uids.len() {
+        return uids[place] == uid;
+    }
+    false
+}
+
+/// Adds a UID, or doesn't.
+fn push_if(uids: &mut Vec<Uid>, uid: Uid, yes: bool) -> Result<(), AllocError>
+    ensures { OnOk result (uids.new.items ≡ uids.old.items ++ (if yes then uid ∷ [] else [])) }
+{
+    if yes {
+        uids.push(uid)?;
+    }
+    Ok(())
 }

@@ -5,8 +5,7 @@ use Rattle.std.proofs.lemmas.List.Sorted.{All-permutation, IsNonDecreasingBy-fro
 use Rattle.vic_frame.specs.Uids.{has}
 use Rattle.vic_frame.specs.LowBitsFirst.{mirror}
 use Rattle.vic_tree.specs.OpenSet.{has_key}
-use Rattle.vic_verdict.proofs.Cases.{key_pushed}
-use Rattle.vic_verdict.proofs.KeyOrder.{uid_more}
+use Rattle.vic_verdict.proofs.KeyOrder.{key_pushed, uid_more}
 use Rattle.vic_verdict.proofs.missing.keys_in_order.Goals as goal
 
 pub loop-uid-preserved : goal.loop-uid-preserved

@@ -3,11 +3,11 @@ use Rattle.std.specs.List.{filter}
 use Rattle.std.proofs.lemmas.List.{take_all}
 use Rattle.std.proofs.lemmas.List.Elements.{filter_more}
 use Rattle.vic_frame.specs.Uids.{has}
-use Rattle.vic_report.specs.Merging.{AreBelow}
+use Rattle.vic_verdict.specs.Merging.{AreBelow}
 use Rattle.vic_verdict.proofs.Failing.{any_default}
-use Rattle.vic_report.proofs.AllFindings.{failing_list}
-use Rattle.vic_report.proofs.Merging.{below_next}
-use Rattle.vic_report.proofs.findings.missing.Goals as goal
+use Rattle.vic_verdict.proofs.Failing.{failing_list}
+use Rattle.vic_verdict.proofs.Merging.{below_next}
+use Rattle.vic_verdict.proofs.missing.missing.Goals as goal
 
 pub place_from-next-requires-clause-below : goal.place_from-next-requires-clause-below
 place_from-next-requires-clause-below c =

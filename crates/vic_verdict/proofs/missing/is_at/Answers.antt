@@ -1,6 +1,6 @@
 use Rattle.std.proofs.Common.{sym, ◌∙◌}
-use Rattle.vic_report.proofs.Merging.{is_here, is_past}
-use Rattle.vic_report.proofs.findings.is_at.Goals as goal
+use Rattle.vic_verdict.proofs.Merging.{is_here, is_past}
+use Rattle.vic_verdict.proofs.missing.is_at.Goals as goal
 
 pub returns-then-place-uids : goal.returns-then-place-uids
 returns-then-place-uids c =

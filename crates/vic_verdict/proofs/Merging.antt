@@ -5,7 +5,7 @@ use Rattle.std.proofs.lemmas.Bool.{false_from_ne_true, cases_eq, cases_lt, eq-eq
 use Rattle.vic_frame.specs.Uids.{has}
 use Rattle.vic_verdict.proofs.Failing.{any_default, member_at, place_of}
 use Rattle.vic_verdict.proofs.Inserted.{rising_order}
-use Rattle.vic_report.specs.Merging.{AreBelow, IsPlaceOf}
+use Rattle.vic_verdict.specs.Merging.{AreBelow, IsPlaceOf}
 
 -- a rising list has a number exactly where that stands at its place
 lacks : (us : List ℕ) (n u : ℕ) → IsStrictlyIncreasing us → IsPlaceOf us n u → (n < length us → get_or us n 0 ≡ u → ⊥) → has us u ≡ false

@@ -1,8 +1,8 @@
 use Rattle.std.proofs.Common.{◌≡◌, ◌<◌, ◌≤◌, length, get_or, not, take}
 use Rattle.std.specs.List.{filter}
 use Rattle.vic_frame.specs.Uids.{has}
-use Rattle.vic_report.specs.Merging.{AreBelow}
-use Rattle.vic_report.proofs.findings.missing.Given as goal
+use Rattle.vic_verdict.specs.Merging.{AreBelow}
+use Rattle.vic_verdict.proofs.missing.missing.Given as goal
 
 abbrev pub invariant-loop-uid : goal.invariant-loop-uid
 invariant-loop-uid l = record {

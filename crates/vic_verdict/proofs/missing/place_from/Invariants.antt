@@ -1,6 +1,6 @@
 use Rattle.std.proofs.Common.{◌-◌, ◌≤◌, length}
-use Rattle.vic_report.specs.Merging.{AreBelow}
-use Rattle.vic_report.proofs.findings.place_from.Given as goal
+use Rattle.vic_verdict.specs.Merging.{AreBelow}
+use Rattle.vic_verdict.proofs.missing.place_from.Given as goal
 
 abbrev pub invariant-loop-place : goal.invariant-loop-place
 invariant-loop-place l = record {

@@ -1,0 +1,236 @@
+-- How a list differs from what logs tell, and that the first difference is the verdict.
+use Rattle.std.proofs.Common.{◌≡◌, ℕ, ◌≤◌, ◌<◌, ◌^◌, List, [], ◌∷◌, ◌++◌, length, Bool, true, false, not, ◌&&◌, ◌||◌, Option, Some, None, refl, sym, ap, ◌∙◌, subst, arith, inl, inr, ⊎_elim}
+use Rattle.std.specs.Prelude.{◌↔◌, ◌⊎◌, nat_eq, IfSome, IfNone, MatchOption}
+use Rattle.std.proofs.lemmas.Bool.{and_parts, and_from, both_ways, cases_Bool, not-true, not_from_false, false_from_ne_true, or_cases, or_left, or_right}
+use Rattle.std.proofs.lemmas.List.Folds.{list_any-append}
+use Rattle.vic_frame.specs.Uids.{IsUid, has}
+use Rattle.vic_frame.specs.Masks.{BitMask, lies_in}
+use Rattle.vic_frame.specs.declared.uid.TheConstants.{UID_BITS}
+use Rattle.vic_tree.specs.OpenSet.{IsWidest, SameUids, without_keys}
+use Rattle.vic_tree.proofs.BoolLaws.{same_tests}
+use Rattle.vic_tree.proofs.SetLaws.{widest_same}
+use Rattle.vic_log.specs.declared.entry.Entry.{Entry}
+use Rattle.vic_log.specs.declared.entry.LogLine.{LogLine}
+use Rattle.vic_log.specs.Order.{entries, listed}
+use Rattle.vic_log.specs.Slots.{slots_of, is_open, IsForcedBy}
+use Rattle.vic_verdict.specs.declared.differences.Differences.{Differences}
+use Rattle.vic_verdict.specs.Differences.{AreDifferences, IsOpenUid, IsLeftOpen, MayBeMissing, first_finding, left_by}
+use Rattle.vic_verdict.specs.Keys.{AreKeysOf}
+use Rattle.vic_verdict.specs.Possible.{IsPossible, IsPossibleUid, IsCertainUid}
+use Rattle.vic_verdict.specs.Rising.{IsFailing, IsListOf, SameMembers}
+use Rattle.vic_verdict.specs.Verdict.{IsAbsent, IsUnlisted, IsUnsettled, IsDoubtful, IsLeast, IsFirstMask, NoSuch, IsVerdict}
+use Rattle.vic_verdict.proofs.Decide.{IsPossibleUid-iff, IsPossibleUid-either, IsCertainUid-iff}
+use Rattle.vic_verdict.proofs.Failing.{head_least, list_as, none_of}
+use Rattle.vic_verdict.proofs.Masks.{uid_in, IsUid-in, lies_in-uid_in}
+
+-- ---- the differences, by the steps of `compare`
+
+-- the listed UIDs and the unlisted ones are the listed and the certain ones
+pub known_has : (us certain unlisted known : List ℕ) (u : ℕ) → known ≡ us ++ unlisted → IsListOf (IsFailing certain (has us)) unlisted → has known u ≡ (has certain u || has us u)
+known_has us certain unlisted known u is new =
+    ap (λ xs. has xs u) is
+    ∙ list_any-append (nat_eq u) us unlisted
+    ∙ same_tests (has us u || has unlisted u) (has certain u || has us u)
+    (λ h. ⊎_elim (λ e. or_right _ _ e) (λ e. or_left _ _ ((new.members u).0 e).0) (or_cases _ _ h))
+    (λ h. ⊎_elim
+    (λ c. ⊎_elim (λ e. or_left _ _ e) (λ e. or_right _ _ ((new.members u).1 (c, e))) (cases_Bool (has us u)))
+    (λ e. or_left _ _ e)
+    (or_cases _ _ h))
+
+pub absent_by : (set : ℕ → Bool) (us certain known outside absent : List ℕ) → ((u : ℕ) → has known u ≡ (has certain u || has us u)) → IsListOf (IsFailing known set) outside → IsListOf (IsFailing outside (has certain)) absent
+    → IsListOf (λ u. IsFailing us set u × (has certain u ≡ false)) absent
+absent_by set us certain known outside absent all out l =
+    list_as (IsFailing outside (has certain)) (λ u. IsFailing us set u × (has certain u ≡ false)) absent
+    (λ u. (
+      (λ h.
+          let w = (out.members u).0 h.0 in
+          ((⊎_elim (λ c. absurd (both_ways (has certain u) h.1 c)) (λ e. e) (or_cases _ _ (sym (all u) ∙ w.0)), w.1), h.1)),
+      (λ h. ((out.members u).1 (all u ∙ or_right _ _ h.0.0, h.0.1), h.1)),
+    ))
+    l
+
+pub doubtful_by : (set : ℕ → Bool) (us certain uncertain absent doubtful : List ℕ) → IsListOf (IsFailing us (has certain)) uncertain → IsListOf (λ u. IsFailing us set u × (has certain u ≡ false)) absent → IsListOf (IsFailing uncertain (has absent)) doubtful
+    → IsListOf (λ u. IsFailing us (has certain) u × (set u ≡ true)) doubtful
+doubtful_by set us certain uncertain absent doubtful some out l =
+    list_as (IsFailing uncertain (has absent)) (λ u. IsFailing us (has certain) u × (set u ≡ true)) doubtful
+    (λ u. (
+      (λ h.
+          let w = (some.members u).0 h.0 in
+          (w, ⊎_elim (λ e. e) (λ e. absurd (both_ways (has absent u) h.1 ((out.members u).1 ((w.0, e), w.1)))) (cases_Bool (set u)))),
+      (λ h. ((some.members u).1 h.0, false_from_ne_true _ (λ e. both_ways (set u) ((out.members u).0 e).0.1 h.1))),
+    ))
+    l
+
+pub unsettled_by : (set : ℕ → Bool) (us certain known keys : List ℕ) (m : Option BitMask) → ((u : ℕ) → has known u ≡ (has certain u || has us u)) → AreKeysOf keys known
+    → IfSome m (IsWidest (without_keys set keys)) → IfNone m (SameUids (without_keys set keys) (λ _. false))
+    → MatchOption m (SameUids (left_by set certain us) (λ _. false)) (IsWidest (left_by set certain us))
+unsettled_by set us certain known keys m all own found empty = at m found empty
+  where
+    same : SameUids (without_keys set keys) (left_by set certain us)
+    same u i = ap (λ b. set u && not b) (own.members u i ∙ all u)
+    at : (m : Option BitMask) → IfSome m (IsWidest (without_keys set keys)) → IfNone m (SameUids (without_keys set keys) (λ _. false))
+        → MatchOption m (SameUids (left_by set certain us) (λ _. false)) (IsWidest (left_by set certain us))
+    at None found empty = λ u i. sym (same u i) ∙ empty u i
+    at (Some m) found empty = widest_same (without_keys set keys) (left_by set certain us) m same found
+
+-- ---- the same by the UIDs that may be there and those that must
+
+-- the set and the list tell them
+pub record AreFacts (P C : ℕ → Type 0) (set : ℕ → Bool) (certain : List ℕ) : Type 0 where
+  pub may : (u : ℕ) → IsUid u → ((set u ≡ true) ⊎ (has certain u ≡ true)) ↔ P u
+  pub must : IsListOf C certain
+  pub sure : (u : ℕ) → C u → P u
+
+-- the list has the members of another
+pub record AreListed (us all : List ℕ) : Type 0 where
+  pub members : SameMembers us all
+  pub are_uids : (u : ℕ) → has us u ≡ true → IsUid u
+
+uncertain_iff : (P C : ℕ → Type 0) (set : ℕ → Bool) (certain : List ℕ) (u : ℕ) → AreFacts P C set certain → (has certain u ≡ false) ↔ (C u → ⊥)
+uncertain_iff P C set certain u f = (
+  (λ h c. both_ways (has certain u) h ((f.must.members u).1 c)),
+  (λ h. false_from_ne_true _ (λ e. h ((f.must.members u).0 e))),
+)
+
+pub open_iff : (P C : ℕ → Type 0) (set : ℕ → Bool) (certain : List ℕ) (u : ℕ) → AreFacts P C set certain → IsUid u → ((set u ≡ true) × (has certain u ≡ false)) ↔ (P u × (C u → ⊥))
+open_iff P C set certain u f i =
+    let un = uncertain_iff P C set certain u f in
+    let may = f.may u i in (
+      (λ h. (may.0 (inl h.0), un.0 h.1)),
+      (λ h. let e = un.1 h.1 in (⊎_elim (λ s. s) (λ c. absurd (both_ways (has certain u) e c)) (may.1 h.0), e)),
+    )
+
+absent_iff : (P C : ℕ → Type 0) (set : ℕ → Bool) (certain us all : List ℕ) → AreFacts P C set certain → AreListed us all → (u : ℕ) → (IsFailing us set u × (has certain u ≡ false)) ↔ ((has all u ≡ true) × (P u → ⊥))
+absent_iff P C set certain us all f l u = (
+  (λ h.
+      (sym (l.members u) ∙ h.0.0,
+      λ p. ⊎_elim (λ s. both_ways (set u) h.0.1 s) (λ c. both_ways (has certain u) h.1 c) ((f.may u (l.are_uids u h.0.0)).1 p))),
+  (λ h.
+      let member = l.members u ∙ h.0 in
+      let may = f.may u (l.are_uids u member) in
+      ((member, false_from_ne_true _ (λ e. h.1 (may.0 (inl e)))), false_from_ne_true _ (λ e. h.1 (may.0 (inr e))))),
+)
+
+unlisted_iff : (P C : ℕ → Type 0) (set : ℕ → Bool) (certain us all : List ℕ) → AreFacts P C set certain → AreListed us all → (u : ℕ) → IsFailing certain (has us) u ↔ (C u × (has all u ≡ false))
+unlisted_iff P C set certain us all f l u = (
+  (λ h. ((f.must.members u).0 h.0, sym (l.members u) ∙ h.1)),
+  (λ h. ((f.must.members u).1 h.0, l.members u ∙ h.1)),
+)
+
+doubtful_iff : (P C : ℕ → Type 0) (set : ℕ → Bool) (certain us all : List ℕ) → AreFacts P C set certain → AreListed us all → (u : ℕ) → (IsFailing us (has certain) u × (set u ≡ true)) ↔ ((has all u ≡ true) × (P u × (C u → ⊥)))
+doubtful_iff P C set certain us all f l u = (
+  (λ h. (sym (l.members u) ∙ h.0.0, (open_iff P C set certain u f (l.are_uids u h.0.0)).0 (h.1, h.0.1))),
+  (λ h.
+      let member = l.members u ∙ h.0 in
+      let w = (open_iff P C set certain u f (l.are_uids u member)).1 h.1 in
+      ((member, w.1), w.0)),
+)
+
+left_iff : (P C : ℕ → Type 0) (set : ℕ → Bool) (certain us all : List ℕ) → AreFacts P C set certain → AreListed us all → (u : ℕ) → IsUid u → (left_by set certain us u ≡ true) ↔ ((P u × (C u → ⊥)) × (has all u ≡ false))
+left_iff P C set certain us all f l u i =
+    let here = open_iff P C set certain u f i in (
+      (λ h.
+          let w = and_parts (set u) (not (has certain u || has us u)) h in
+          let none = not-true _ w.1 in
+          (here.0 (w.0, false_from_ne_true _ (λ e. both_ways _ none (or_left _ _ e))), sym (l.members u) ∙ false_from_ne_true _ (λ e. both_ways _ none (or_right _ _ e)))),
+      (λ h.
+          let w = here.1 h.0 in
+          and_from _ _ w.0 (not_from_false _ (false_from_ne_true _ (λ e. ⊎_elim (λ c. both_ways _ w.1 c) (λ k. both_ways _ (l.members u ∙ h.1) k) (or_cases _ _ e))))),
+    )
+
+-- a mask of at most 56 bits all of whose UIDs may be there, may be missing, and aren't listed
+abbrev pub IsLeft : (P C : ℕ → Type 0) → List ℕ → BitMask → Type 0
+IsLeft P C all m = (m.len ≤ UID_BITS) × (m.value < 2 ^ m.len) × ((u : ℕ) → IsUid u → lies_in m u ≡ true → (P u × (C u → ⊥)) × (has all u ≡ false))
+
+first_left : (P C : ℕ → Type 0) (set : ℕ → Bool) (certain us all : List ℕ) (m : Option BitMask) → AreFacts P C set certain → AreListed us all
+    → MatchOption m (SameUids (left_by set certain us) (λ _. false)) (IsWidest (left_by set certain us)) → MatchOption m (NoSuch (IsLeft P C all)) (IsFirstMask (IsLeft P C all))
+first_left P C set certain us all None f l none = λ m h.
+    let u = uid_in m in
+    let i = IsUid-in m h.0 h.1 in
+    both_ways (left_by set certain us u) (none u i) ((left_iff P C set certain us all f l u i).1 (h.2 u i (lies_in-uid_in m h.0 h.1)))
+first_left P C set certain us all (Some m) f l w = (
+  (w.short, w.is_mask.1, λ u i k. (left_iff P C set certain us all f l u i).0 (w.open_throughout u i k)),
+  λ k h. let short = h.0 in let fits = h.1 in w.least k (omega arith, fits) short (λ u i n. (left_iff P C set certain us all f l u i).1 (h.2 u i n)),
+)
+
+-- the differences are the findings
+pub record AreAllFindings (P C : ℕ → Type 0) (all : List ℕ) (d : Differences) : Type 0 where
+  pub absent : IsListOf (λ u. (has all u ≡ true) × (P u → ⊥)) d.absent.items
+  pub unlisted : IsListOf (λ u. C u × (has all u ≡ false)) d.unlisted.items
+  pub unsettled : MatchOption d.unsettled (NoSuch (IsLeft P C all)) (IsFirstMask (IsLeft P C all))
+  pub doubtful : IsListOf (λ u. (has all u ≡ true) × (P u × (C u → ⊥))) d.doubtful.items
+
+pub all_findings : (P C : ℕ → Type 0) (set : ℕ → Bool) (certain us all : List ℕ) (d : Differences) → AreFacts P C set certain → AreListed us all → AreDifferences set certain us d → AreAllFindings P C all d
+all_findings P C set certain us all d f l h = record {
+  absent = list_as _ _ d.absent.items (absent_iff P C set certain us all f l) h.absent;
+  unlisted = list_as _ _ d.unlisted.items (unlisted_iff P C set certain us all f l) h.unlisted;
+  unsettled = first_left P C set certain us all d.unsettled f l h.unsettled;
+  doubtful = list_as _ _ d.doubtful.items (doubtful_iff P C set certain us all f l) h.doubtful;
+}
+
+-- ---- what one log tells
+
+pub log_facts : (es : List Entry) (set : ℕ → Bool) (certain : List ℕ) → IsPossible es → SameUids set (is_open (slots_of es)) → IsListOf (IsForcedBy (is_open (slots_of es)) (slots_of es)) certain → AreFacts (IsPossibleUid es) (IsCertainUid es) set certain
+log_facts es set certain p s forced = record {
+  may = λ u i. (
+    ⊎_elim (λ h. (IsPossibleUid-iff es u p).1 (sym (s u i) ∙ h)) (λ h. sure u ((must.members u).0 h)),
+    (λ q. inl (s u i ∙ (IsPossibleUid-iff es u p).0 q)),
+  );
+  must = must;
+  sure = sure;
+}
+  where
+    must : IsListOf (IsCertainUid es) certain
+    must = list_as _ (IsCertainUid es) certain (λ u. let w = IsCertainUid-iff es u p in (w.1, w.0)) forced
+    sure : (u : ℕ) → IsCertainUid es u → IsPossibleUid es u
+    sure u c = (p.0, p.1, p.2, c p.0 p.1 p.2)
+
+-- ---- the first difference is the verdict
+
+-- where none is unlisted, the masks are the unsettled ones
+mask_iff : (es : List Entry) → NoSuch (IsUnlisted es) → (m : BitMask) → IsLeftOpen es m ↔ IsUnsettled es m
+mask_iff es none m = (
+  (λ h. (h.0, h.1, λ u i k. let w = h.2 u i k in (w.0.0, w.1))),
+  (λ h. (h.0, h.1, λ u i k. let w = h.2 u i k in ((w.0, λ c. none u (c, w.1)), w.1))),
+)
+
+first_mask : (es : List Entry) (m : BitMask) → NoSuch (IsUnlisted es) → IsFirstMask (IsLeftOpen es) m → IsFirstMask (IsUnsettled es) m
+first_mask es m none h = ((mask_iff es none m).0 h.0, λ k g. h.1 k ((mask_iff es none k).1 g))
+
+no_mask : (es : List Entry) → NoSuch (IsUnlisted es) → NoSuch (IsLeftOpen es) → NoSuch (IsUnsettled es)
+no_mask es none left m h = left m ((mask_iff es none m).1 h)
+
+-- where none is absent, a listed UID that isn't certain may be missing
+missing_or_absent : (es : List Entry) (u : ℕ) → NoSuch (IsAbsent es) → (MayBeMissing es u → ⊥) → IsDoubtful es u → ⊥
+missing_or_absent es u present none d = present u (d.0, λ possible. none (d.0, (possible, d.1)))
+
+missing_least : (es : List Entry) (u : ℕ) → IsPossible es → NoSuch (IsAbsent es) → IsLeast (MayBeMissing es) u → IsLeast (IsDoubtful es) u
+missing_least es u possible present h = (
+  (h.0.0, h.0.1.1),
+  λ m d.
+      ⊎_elim
+      (λ (may : IsPossibleUid es m). h.1 m (d.0, (may, d.1)))
+      (λ (not_ : IsPossibleUid es m → ⊥). absurd (present m (d.0, not_)))
+      (IsPossibleUid-either es m possible),
+)
+
+pub first_is_verdict : (lines : List LogLine) (absent unlisted doubtful : List ℕ) (m : Option BitMask) (count : ℕ) → IsPossible (entries lines) → IsListOf (IsAbsent (entries lines)) absent → IsListOf (IsUnlisted (entries lines)) unlisted
+    → MatchOption m (NoSuch (IsLeftOpen (entries lines))) (IsFirstMask (IsLeftOpen (entries lines))) → IsListOf (MayBeMissing (entries lines)) doubtful
+    → (absent ≡ [] → unlisted ≡ [] → m ≡ None → doubtful ≡ [] → count ≡ length (listed (entries lines))) → IsVerdict lines (first_finding absent unlisted m doubtful count)
+first_is_verdict lines (u ∷ absent) unlisted doubtful m count p a l f d counted = (p, head_least (IsAbsent (entries lines)) u absent a)
+first_is_verdict lines [] (u ∷ unlisted) doubtful m count p a l f d counted = (p, none_of (IsAbsent (entries lines)) a, head_least (IsUnlisted (entries lines)) u unlisted l)
+first_is_verdict lines [] [] doubtful (Some m) count p a l f d counted =
+    let es = entries lines in
+    let none = none_of (IsUnlisted es) l in
+    (p, none_of (IsAbsent es) a, none, first_mask es m none f)
+first_is_verdict lines [] [] (u ∷ doubtful) None count p a l f d counted =
+    let es = entries lines in
+    let present = none_of (IsAbsent es) a in
+    let none = none_of (IsUnlisted es) l in
+    (p, present, none, no_mask es none f, missing_least es u p present (head_least (MayBeMissing es) u doubtful d))
+first_is_verdict lines [] [] [] None count p a l f d counted =
+    let es = entries lines in
+    let present = none_of (IsAbsent es) a in
+    let none = none_of (IsUnlisted es) l in
+    let settled = none_of (MayBeMissing es) d in
+    (p, present, none, no_mask es none f, λ u x. missing_or_absent es u present (settled u) x, counted refl refl refl refl)

@@ -1,0 +1,51 @@
+-- How a list differs from what a log tells (profile): the findings, of which the verdict is the
+-- first.
+use Rattle.std.specs.Prelude.{◌≡◌, ℕ, ◌^◌, ◌<◌, ◌≤◌, Bool, true, false, not, ◌&&◌, ◌||◌, [], ◌∷◌, None, Some, Option, List, MatchOption}
+use Rattle.vic_frame.specs.declared.uid.TheConstants.{UID_BITS}
+use Rattle.vic_frame.specs.Uids.{IsUid, has}
+use Rattle.vic_frame.specs.Masks.{BitMask, lies_in}
+use Rattle.vic_tree.specs.OpenSet.{IsWidest, SameUids}
+use Rattle.vic_log.specs.declared.entry.Entry.{Entry}
+use Rattle.vic_log.specs.Order.{listed}
+use Rattle.vic_verdict.specs.Possible.{IsPossibleUid, IsCertainUid}
+use Rattle.vic_verdict.specs.Rising.{IsFailing, IsListOf}
+use Rattle.vic_verdict.specs.declared.differences.Differences.{Differences}
+use Rattle.vic_verdict.specs.declared.judging.Verdict.{Verdict}
+use Rattle.vic_verdict.specs.declared.judging.Verdict.TheVariants as verdict
+
+-- a UID that may be there and may be missing
+abbrev pub IsOpenUid : List Entry → ℕ → Type 0
+IsOpenUid es u = IsPossibleUid es u × (IsCertainUid es u → ⊥)
+
+-- a mask of at most 56 bits all of whose UIDs may be there, may be missing, and aren't listed
+abbrev pub IsLeftOpen : List Entry → BitMask → Type 0
+IsLeftOpen es m =
+    (m.len ≤ UID_BITS) × (m.value < 2 ^ m.len)
+    × ((u : ℕ) → IsUid u → lies_in m u ≡ true
+    → IsOpenUid es u × (has (listed es) u ≡ false))
+
+-- a listed UID that may be there and may be missing
+abbrev pub MayBeMissing : List Entry → ℕ → Type 0
+MayBeMissing es u = (has (listed es) u ≡ true) × IsOpenUid es u
+
+-- the first of some findings, the one that is the verdict; a count where there is none
+abbrev pub first_finding : List ℕ → List ℕ → Option BitMask → List ℕ → ℕ → Verdict
+first_finding (u ∷ absent) unlisted unsettled doubtful count = verdict.Absent u
+first_finding [] (u ∷ unlisted) unsettled doubtful count = verdict.Unlisted u
+first_finding [] [] (Some m) doubtful count = verdict.Unsettled m
+first_finding [] [] None (u ∷ doubtful) count = verdict.Doubtful u
+first_finding [] [] None [] count = verdict.Complete count
+
+-- ---- the same by a set of open UIDs and the list of the certain ones
+
+-- the set without the members of two lists
+abbrev pub left_by : (ℕ → Bool) → List ℕ → List ℕ → ℕ → Bool
+left_by set certain us u = set u && not (has certain u || has us u)
+
+-- how the list `us` differs from the UIDs that are open or certain, and from the certain ones
+pub record AreDifferences (set : ℕ → Bool) (certain us : List ℕ) (d : Differences) : Type 0 where
+  pub absent : IsListOf (λ u. IsFailing us set u × (has certain u ≡ false)) d.absent.items
+  pub unlisted : IsListOf (IsFailing certain (has us)) d.unlisted.items
+  pub unsettled : MatchOption d.unsettled (SameUids (left_by set certain us) (λ _. false))
+      (IsWidest (left_by set certain us))
+  pub doubtful : IsListOf (λ u. IsFailing us (has certain) u × (set u ≡ true)) d.doubtful.items
