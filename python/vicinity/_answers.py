@@ -97,7 +97,7 @@ class Explanation(NamedTuple):
 
     answer: Answer
     population: list[int]
-    """UIDs of tags that could have given the log and that are not the listed ones, in rising order. It is empty if
+    """UIDs of tags that could have produced the log and that are not the listed ones, in rising order. It is empty if
     there are none to show (COMPLETE, IMPOSSIBLE, REFUSED), and if an empty field shows the answer."""
 
 
