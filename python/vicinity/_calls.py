@@ -111,7 +111,7 @@ def report(text: BytesLike) -> Report:
 
 
 def report_records(text: bytes) -> tuple[Answer, memoryview]:
-    """What `report` gives, with the findings as the bytes of structs vicinity_finding, of which there may be two millions:
+    """What `report` gives, with the findings as the bytes of structs vicinity_finding, of which there may be two million:
     a line tells of two UIDs at most."""
     places = FIRST_ROOM + 2 * text.count(b"\n")
     answer, room, count = _filled(FindingStruct, places, library().vicinity_report, text, len(text))
