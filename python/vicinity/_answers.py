@@ -115,7 +115,7 @@ class FindingKind(enum.IntEnum):
 
 
 class Finding(NamedTuple):
-    """One of the things that a log tells against its list. A number of which the kind doesn't speak is 0."""
+    """One point in which a log contradicts its list or leaves it undecided. Numbers that a kind does not use are 0."""
 
     kind: FindingKind
     line: int
@@ -144,7 +144,7 @@ class Finding(NamedTuple):
 
 
 class Report(NamedTuple):
-    """The answer to a text, and all that its log tells against its list."""
+    """The answer to a text, and every finding."""
 
     answer: Answer
     findings: list[Finding]

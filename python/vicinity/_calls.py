@@ -105,7 +105,7 @@ def explain(text: BytesLike) -> Explanation:
 
 
 def report(text: BytesLike) -> Report:
-    """The answer to a text, and all that its log tells against its list. Raises what `check` raises."""
+    """The answer to a text, and every finding. Raises what `check` raises."""
     text = _bytes(text)
     return _report(*_in_room(FindingStruct, library().vicinity_report, text, len(text)))
 
@@ -136,7 +136,7 @@ def explain_listed(text: BytesLike, uids: Iterable[int]) -> Explanation:
 
 
 def report_listed(text: BytesLike, uids: Iterable[int]) -> Report:
-    """The answer of `check_listed`, and all that the log tells against the list. Raises what `check_listed` raises."""
+    """The answer of `check_listed`, and every finding. Raises what `check_listed` raises."""
     text, listed = _without_list(text), _numbers(uids)
     return _report(*_in_room(FindingStruct, library().vicinity_report_listed, text, len(text), listed, len(listed)))
 

@@ -26,7 +26,7 @@ class Mask(NamedTuple):
     value: int
 
     def __str__(self) -> str:
-        """The last digits of these UIDs; bits in brackets if they make no whole digit."""
+        """The last digits of these UIDs; bits in brackets if they do not fill a digit."""
         digits, bits = divmod(self.length, 4)
         low = f"{self.value & (1 << 4 * digits) - 1:0{digits}X}" if digits else ""
         part = f"({self.value >> 4 * digits:0{bits}b})" if bits else ""
@@ -124,7 +124,7 @@ def _refuse(fault: int) -> None:
 
 
 def _number(number: int, bits: int = 32) -> int:
-    """A number that C takes whole."""
+    """A number that fits what C takes."""
     if not 0 <= number < 1 << bits:
         raise ValueError(f"{number} is no number of {bits} bits")
     return number

@@ -1,4 +1,4 @@
-// Package vicinity is the library of vicinity.h, safe to call: is the list of tags that a reader claims whole?
+// Package vicinity is the library of vicinity.h, safe to call: is the list of tags that a reader claims complete?
 //
 // It links libvicinity.a. If header and archive aren't where the compiler looks, name their folder:
 //
