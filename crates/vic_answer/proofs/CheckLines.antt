@@ -8,8 +8,7 @@ use Rattle.vic_log.specs.Lines.{lines_of_text}
 use Rattle.vic_log.specs.Text.{IsLogOf}
 use Rattle.vic_log.specs.declared.entry.Entry.{Entry}
 use Rattle.vic_log.specs.declared.entry.LogLine.{LogLine}
-use Rattle.vic_report.specs.Reports.{IsReport, AreNone, verdict_of}
-use Rattle.vic_verdict.specs.Differences.{first_finding}
+use Rattle.vic_report.specs.Reports.{IsReport, AreNone, first_finding, verdict_of}
 use Rattle.vic_report.specs.Findings.{uids_of}
 use Rattle.vic_report.specs.declared.findings.Unsettled.{Unsettled as LeftToAsk}
 use Rattle.vic_report.specs.declared.reporting.LogReport.{LogReport}
@@ -132,7 +131,7 @@ longer line xs ys h = (h.0 ++ ys, ap (λ zs. zs ++ ys) h.1 ∙ append_assoc line
 
 -- of findings that aren't all empty the first line is that of the first
 findings_begin : (absent unlisted : List ShownUid) (x : Option LeftToAsk) (doubtful : List ℕ) → (absent ≡ [] → unlisted ≡ [] → x ≡ None → doubtful ≡ [] → ⊥)
-    → Begins (verdict_line (first_finding (uids_of absent) (uids_of unlisted) (option_map (λ y. y.mask) x) doubtful 0))
+    → Begins (verdict_line (first_finding (uids_of absent) (uids_of unlisted) (option_map (λ y. y.mask) x) doubtful))
     (flat_map reporting.absent_text absent ++ flat_map reporting.unlisted_text unlisted ++ reporting.unsettled_text x ++ flat_map reporting.doubtful_line doubtful)
 findings_begin (s ∷ absent) unlisted x doubtful some =
     let line = verdict_line (Absent s.uid) in

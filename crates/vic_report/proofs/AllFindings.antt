@@ -1,38 +1,32 @@
 -- All findings of a possible log, and that the first of them is its verdict.
-use Rattle.std.proofs.Common.{◌≡◌, ℕ, ◌≤◌, List, [], ◌∷◌, ◌++◌, length, get_or, Bool, true, false, not, ◌&&◌, ◌||◌, Option, Some, None, refl, sym, ap, ◌∙◌, subst, arith, ⊎_elim}
-use Rattle.std.specs.Prelude.{◌↔◌, nat_eq, MatchOption}
+use Rattle.std.proofs.Common.{◌≡◌, ℕ, List, [], ◌∷◌, length, get_or, Bool, true, false, not, ◌&&◌, Option, Some, None, refl, sym, ap, ◌∙◌}
+use Rattle.std.specs.Prelude.{◌↔◌, MatchOption}
 use Rattle.std.specs.Option.{option_map}
-use Rattle.std.specs.List.{All, filter}
-use Rattle.std.specs.List.Sorted.{IsStrictlyIncreasing}
-use Rattle.std.proofs.lemmas.Bool.{and_parts, and_from, both_ways, cases_Bool, not-true, not_from_false, false_from_ne_true, false≢true}
-use Rattle.std.proofs.lemmas.List.Folds.{list_any-append}
-use Rattle.std.proofs.lemmas.List.Kept.{IsStrictlyIncreasing-filter}
+use Rattle.std.specs.List.{All}
+use Rattle.std.proofs.lemmas.Bool.{and_parts, and_from, not-true, not_from_false}
 use Rattle.vic_frame.specs.Uids.{IsUid, has}
 use Rattle.vic_frame.specs.Masks.{BitMask}
-use Rattle.vic_tree.specs.OpenSet as tree
 use Rattle.vic_tree.specs.OpenSet.{SameUids, has_key, without_keys}
 use Rattle.vic_log.specs.declared.entry.Entry.{Entry}
 use Rattle.vic_log.specs.declared.entry.LogLine.{LogLine}
 use Rattle.vic_log.specs.Order.{entries, listed}
-use Rattle.vic_log.specs.Slots.{slots_of, is_open, IsForcedBy}
-use Rattle.vic_log.proofs.Sets.{has_filter, filter_has, has_here}
+use Rattle.vic_log.specs.Slots.{slots_of, is_open}
 use Rattle.vic_report.specs.Findings.{uids_of}
-use Rattle.vic_verdict.specs.Differences.{IsOpenUid, IsLeftOpen, MayBeMissing, first_finding}
+use Rattle.vic_verdict.specs.Differences.{IsOpenUid, IsLeftOpen, MayBeMissing}
 use Rattle.vic_tree.specs.declared.open_masks.OpenMasks.{OpenMasks}
 use Rattle.vic_verdict.specs.Possible.{IsPossible, IsPossibleUid, IsCertainUid}
 use Rattle.vic_report.specs.declared.findings.Unsettled.{Unsettled}
 use Rattle.vic_report.specs.declared.reporting.LogReport.{LogReport}
 use Rattle.vic_report.specs.declared.reporting.LogReport.TheVariants as report
 use Rattle.vic_report.specs.declared.shown.ShownUid.{ShownUid}
-use Rattle.vic_report.specs.Reports.{AreFindings, AreOpenMasks, IsReport, IsUnsettledWith, left_with, verdict_of}
+use Rattle.vic_report.specs.Reports.{AreFindings, AreOpenMasks, IsReport, IsUnsettledWith, first_finding, left_with, verdict_of}
 use Rattle.vic_verdict.specs.Rising.{IsListOf, IsFailing}
-use Rattle.vic_verdict.specs.Verdict.{IsAbsent, IsUnlisted, IsUnsettled, IsDoubtful, IsLeast, IsFirstMask, NoSuch, IsVerdict}
-use Rattle.vic_verdict.specs.declared.judging.Verdict.TheVariants.{Complete}
-use Rattle.vic_verdict.proofs.Differing.{AreFacts, first_is_verdict, open_iff}
-use Rattle.vic_verdict.proofs.Decide.{IsPossibleUid-iff, IsPossibleUid-either, IsCertainUid-iff}
-use Rattle.vic_verdict.proofs.Failing.{member_at, place_of as index_of}
-use Rattle.vic_verdict.proofs.Inserted.{rising_order}
-use Rattle.vic_verdict.proofs.Masks.{uid_in, IsUid-in, lies_in-uid_in}
+use Rattle.vic_verdict.specs.Verdict.{IsAbsent, IsUnlisted, IsFirstMask, NoSuch, IsVerdict}
+use Rattle.vic_verdict.specs.declared.judging.Verdict.TheVariants.{Absent, Unlisted, Complete}
+use Rattle.vic_verdict.specs.declared.judging.Verdict.TheVariants as verdict
+use Rattle.vic_verdict.proofs.Differing.{AreFacts, difference_is_verdict, missing_least, missing_or_absent, no_differences, open_iff}
+use Rattle.vic_verdict.proofs.Failing.{head_least, none_of}
+use Rattle.vic_verdict.proofs.Failing.{member_at}
 
 pub all_from_has : (P : ℕ → Type 0) (us : List ℕ) → ((u : ℕ) → has us u ≡ true → P u) → All P us
 all_from_has P us h k d below = h (get_or us k d) (member_at us k (get_or us k d) d below refl)
@@ -53,6 +47,24 @@ left_to_ask es (Some m) o first masks = record { mask = first; open_masks = mask
 
 -- ---- the verdict by the findings
 
+pub first_is_verdict : (lines : List LogLine) (absent unlisted doubtful : List ℕ) (m : Option BitMask) → IsPossible (entries lines) → IsListOf (IsAbsent (entries lines)) absent → IsListOf (IsUnlisted (entries lines)) unlisted
+    → MatchOption m (NoSuch (IsLeftOpen (entries lines))) (IsFirstMask (IsLeftOpen (entries lines))) → IsListOf (MayBeMissing (entries lines)) doubtful
+    → (absent ≡ [] → unlisted ≡ [] → m ≡ None → doubtful ≡ [] → ⊥) → IsVerdict lines (first_finding absent unlisted m doubtful)
+first_is_verdict lines (u ∷ absent) unlisted doubtful m p a l f d some = difference_is_verdict lines (u ∷ absent) unlisted m (Absent u) p a l f refl
+first_is_verdict lines [] (u ∷ unlisted) doubtful m p a l f d some = difference_is_verdict lines [] (u ∷ unlisted) m (Unlisted u) p a l f refl
+first_is_verdict lines [] [] doubtful (Some m) p a l f d some = difference_is_verdict lines [] [] (Some m) (verdict.Unsettled m) p a l f refl
+first_is_verdict lines [] [] (u ∷ doubtful) None p a l f d some =
+    let es = entries lines in
+    let n = no_differences es [] [] None a l f refl in
+    (p, n.absent, n.unlisted, n.unsettled, missing_least es u p n.absent (head_least (MayBeMissing es) u doubtful d))
+first_is_verdict lines [] [] [] None p a l f d some = absurd (some refl refl refl refl)
+
+pub none_is_complete : (lines : List LogLine) (count : ℕ) → IsPossible (entries lines) → IsListOf (IsAbsent (entries lines)) [] → IsListOf (IsUnlisted (entries lines)) [] → NoSuch (IsLeftOpen (entries lines)) → IsListOf (MayBeMissing (entries lines)) [] → count ≡ length (listed (entries lines)) → IsVerdict lines (Complete count)
+none_is_complete lines count p a l f d counted =
+    let es = entries lines in
+    let n = no_differences es [] [] None a l f refl in
+    (p, n.absent, n.unlisted, n.unsettled, λ u x. missing_or_absent es u n.absent (none_of (MayBeMissing es) d u) x, counted)
+
 -- the mask of what is left to ask for
 masks_of : (es : List Entry) (x : Option Unsettled) → MatchOption x (NoSuch (IsLeftOpen es)) (IsUnsettledWith es) → MatchOption (option_map (λ (y : Unsettled). y.mask) x) (NoSuch (IsLeftOpen es)) (IsFirstMask (IsLeftOpen es))
 masks_of es None h = h
@@ -71,11 +83,11 @@ report_begins lines (report.Impossible c) h = h.line
 report_begins lines (report.Complete count) h = h
 report_begins lines (report.NotWhole f) h =
     let all : AreFindings lines f = h.1 in
-    first_is_verdict lines (uids_of f.absent.items) (uids_of f.unlisted.items) f.doubtful.items (option_map (λ (y : Unsettled). y.mask) f.unsettled) 0 h.0 all.absent all.unlisted (masks_of (entries lines) f.unsettled all.unsettled) all.doubtful
-    (λ a u m d. absurd (h.2 (record { absent = no_uids f.absent.items a; unlisted = no_uids f.unlisted.items u; unsettled = no_mask f.unsettled m; doubtful = d })))
+    first_is_verdict lines (uids_of f.absent.items) (uids_of f.unlisted.items) f.doubtful.items (option_map (λ (y : Unsettled). y.mask) f.unsettled) h.0 all.absent all.unlisted (masks_of (entries lines) f.unsettled all.unsettled) all.doubtful
+    (λ a u m d. h.2 (record { absent = no_uids f.absent.items a; unlisted = no_uids f.unlisted.items u; unsettled = no_mask f.unsettled m; doubtful = d }))
 
 -- findings of which none is there begin with a count
-count_of_none : (absent unlisted doubtful : List ℕ) (m : Option BitMask) (count : ℕ) → first_finding absent unlisted m doubtful 0 ≡ Complete count → (absent ≡ []) × (unlisted ≡ []) × (m ≡ None) × (doubtful ≡ [])
+count_of_none : (absent unlisted doubtful : List ℕ) (m : Option BitMask) (count : ℕ) → first_finding absent unlisted m doubtful ≡ Complete count → (absent ≡ []) × (unlisted ≡ []) × (m ≡ None) × (doubtful ≡ [])
 count_of_none (u ∷ absent) unlisted doubtful m count h = cc
 count_of_none [] (u ∷ unlisted) doubtful m count h = cc
 count_of_none [] [] doubtful (Some m) count h = cc

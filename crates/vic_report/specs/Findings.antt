@@ -1,15 +1,12 @@
 -- The lines that show what a possible log tells against its list (profile).
-use Rattle.std.specs.Prelude.{◌≡◌, ◌≢◌, ◌⊎◌, ℕ, ◌==◌, ◌^◌, ◌<◌, ◌≤◌, Bool, true, false, not, Some, List, slice_get, map}
-use Rattle.vic_frame.specs.declared.uid.TheConstants.{UID_BITS}
-use Rattle.vic_frame.specs.Uids.{IsUid, has}
-use Rattle.vic_frame.specs.Masks.{BitMask, lies_in}
+use Rattle.std.specs.Prelude.{◌≡◌, ◌≢◌, ◌⊎◌, ℕ, ◌==◌, Bool, true, false, not, Some, List, slice_get, map}
 use Rattle.vic_log.specs.declared.entry.Entry.{Entry}
 use Rattle.vic_log.specs.declared.entry.Entry.TheVariants.{Sent, Silent, Collision, Heard, Listed, Garbled, FieldCycle}
 use Rattle.vic_log.specs.declared.entry.LogLine.{LogLine}
-use Rattle.vic_log.specs.Order.{entries, listed}
+use Rattle.vic_log.specs.Order.{entries}
 use Rattle.vic_log.specs.Populations.{answers_at}
 use Rattle.vic_report.specs.declared.shown.ShownUid.{ShownUid}
-use Rattle.vic_verdict.specs.Possible.{IsPossibleUid, IsCertainUid}
+use Rattle.vic_verdict.specs.Possible.{IsPossibleUid}
 
 -- a slot that was found so is silent, or holds the reply of another UID
 abbrev pub lacks_reply_of : Entry → ℕ → Bool

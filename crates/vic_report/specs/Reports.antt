@@ -20,7 +20,7 @@ use Rattle.vic_verdict.specs.declared.judging.Verdict.TheVariants as verdict
 use Rattle.vic_report.specs.Conflicts.{IsConflict}
 use Rattle.vic_report.specs.Findings.{IsRuledOut, IsToldOf, uids_of}
 use Rattle.vic_verdict.specs.Possible.{IsPossible}
-use Rattle.vic_verdict.specs.Differences.{IsOpenUid, IsLeftOpen, MayBeMissing, first_finding}
+use Rattle.vic_verdict.specs.Differences.{IsOpenUid, IsLeftOpen, MayBeMissing}
 use Rattle.vic_verdict.specs.Rising.{IsListOf}
 use Rattle.vic_verdict.specs.Verdict.{IsAbsent, IsUnlisted, IsFirstMask, IsVerdict, NoSuch}
 
@@ -65,11 +65,18 @@ IsReport lines (NotWhole f) =
     IsPossible (entries lines) × AreFindings lines f × (AreNone f → ⊥)
 IsReport lines (Complete count) = IsVerdict lines (verdict.Complete count)
 
--- the first of them as a verdict; a count of none where there is none
+-- the first of some findings, the one that is the verdict; a count where there is none
+abbrev pub first_finding : List ℕ → List ℕ → Option BitMask → List ℕ → Verdict
+first_finding (u ∷ absent) unlisted unsettled doubtful = verdict.Absent u
+first_finding [] (u ∷ unlisted) unsettled doubtful = verdict.Unlisted u
+first_finding [] [] (Some m) doubtful = verdict.Unsettled m
+first_finding [] [] None (u ∷ doubtful) = verdict.Doubtful u
+first_finding [] [] None [] = verdict.Complete 0
+
 abbrev pub first_of : Findings → Verdict
 first_of f =
     first_finding (uids_of f.absent.items) (uids_of f.unlisted.items)
-    (option_map (λ x. x.mask) f.unsettled) f.doubtful.items 0
+    (option_map (λ x. x.mask) f.unsettled) f.doubtful.items
 
 -- the verdict that a report begins with
 abbrev pub verdict_of : LogReport → Verdict

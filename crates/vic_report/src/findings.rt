@@ -18,7 +18,7 @@ use std::alloc::{AllocError, Global};
 use vic_frame::{Mask, Uid};
 use vic_log::PackedLine;
 use vic_tree::{OpenMasks, RangeSet};
-use vic_verdict::{Met, Verdict, certain_uids, compare, keys_in_order, listed_uids};
+use vic_verdict::{Met, Verdict, certain_uids, compare, keys_in_order, listed_uids, missing_from};
 
 /// What a possible log tells against its list.
 #[derive(Drop)]
@@ -92,12 +92,14 @@ pub(crate) fn find_findings(
     let listed = listed_uids(alloc, lines)?;
     let keys = keys_in_order(alloc, &certain)?;
     let open = set.open_masks_besides(&keys);
-    let found = compare(alloc, set, &certain, listed)?;
+    let found = compare(alloc, set, &certain, &listed)?;
+    let uncertain = missing_from(alloc, &listed, &certain)?;
+    let doubtful = missing_from(alloc, &uncertain, &found.absent)?;
     Ok(Findings {
         absent: lines_of_absent(alloc, lines, &found.absent)?,
         unlisted: lines_of_unlisted(alloc, lines, met, &found.unlisted)?,
         unsettled: left_to_ask(found.unsettled, open),
-        doubtful: found.doubtful,
+        doubtful,
     })
 }
 

@@ -1,5 +1,5 @@
 -- How a list differs from what logs tell, and that the first difference is the verdict.
-use Rattle.std.proofs.Common.{◌≡◌, ℕ, ◌≤◌, ◌<◌, ◌^◌, List, [], ◌∷◌, ◌++◌, length, Bool, true, false, not, ◌&&◌, ◌||◌, Option, Some, None, refl, sym, ap, ◌∙◌, subst, arith, inl, inr, ⊎_elim}
+use Rattle.std.proofs.Common.{◌≡◌, ℕ, ◌≤◌, ◌<◌, ◌^◌, List, [], ◌∷◌, ◌++◌, Bool, true, false, not, ◌&&◌, ◌||◌, Option, Some, None, sym, ap, ◌∙◌, subst, arith, inl, inr, ⊎_elim}
 use Rattle.std.specs.Prelude.{◌↔◌, ◌⊎◌, nat_eq, IfSome, IfNone, MatchOption}
 use Rattle.std.proofs.lemmas.Bool.{and_parts, and_from, both_ways, cases_Bool, not-true, not_from_false, false_from_ne_true, or_cases, or_left, or_right}
 use Rattle.std.proofs.lemmas.List.Folds.{list_any-append}
@@ -11,10 +11,11 @@ use Rattle.vic_tree.proofs.BoolLaws.{same_tests}
 use Rattle.vic_tree.proofs.SetLaws.{widest_same}
 use Rattle.vic_log.specs.declared.entry.Entry.{Entry}
 use Rattle.vic_log.specs.declared.entry.LogLine.{LogLine}
-use Rattle.vic_log.specs.Order.{entries, listed}
+use Rattle.vic_log.specs.Order.{entries}
 use Rattle.vic_log.specs.Slots.{slots_of, is_open, IsForcedBy}
 use Rattle.vic_verdict.specs.declared.differences.Differences.{Differences}
-use Rattle.vic_verdict.specs.Differences.{AreDifferences, IsOpenUid, IsLeftOpen, MayBeMissing, first_finding, left_by}
+use Rattle.vic_verdict.specs.declared.judging.Verdict.{Verdict}
+use Rattle.vic_verdict.specs.Differences.{AreDifferences, IsLeftOpen, MayBeMissing, first_difference, left_by}
 use Rattle.vic_verdict.specs.Keys.{AreKeysOf}
 use Rattle.vic_verdict.specs.Possible.{IsPossible, IsPossibleUid, IsCertainUid}
 use Rattle.vic_verdict.specs.Rising.{IsFailing, IsListOf, SameMembers}
@@ -49,18 +50,6 @@ absent_by set us certain known outside absent all out l =
     ))
     l
 
-pub doubtful_by : (set : ℕ → Bool) (us certain uncertain absent doubtful : List ℕ) → IsListOf (IsFailing us (has certain)) uncertain → IsListOf (λ u. IsFailing us set u × (has certain u ≡ false)) absent → IsListOf (IsFailing uncertain (has absent)) doubtful
-    → IsListOf (λ u. IsFailing us (has certain) u × (set u ≡ true)) doubtful
-doubtful_by set us certain uncertain absent doubtful some out l =
-    list_as (IsFailing uncertain (has absent)) (λ u. IsFailing us (has certain) u × (set u ≡ true)) doubtful
-    (λ u. (
-      (λ h.
-          let w = (some.members u).0 h.0 in
-          (w, ⊎_elim (λ e. e) (λ e. absurd (both_ways (has absent u) h.1 ((out.members u).1 ((w.0, e), w.1)))) (cases_Bool (set u)))),
-      (λ h. ((some.members u).1 h.0, false_from_ne_true _ (λ e. both_ways (set u) ((out.members u).0 e).0.1 h.1))),
-    ))
-    l
-
 pub unsettled_by : (set : ℕ → Bool) (us certain known keys : List ℕ) (m : Option BitMask) → ((u : ℕ) → has known u ≡ (has certain u || has us u)) → AreKeysOf keys known
     → IfSome m (IsWidest (without_keys set keys)) → IfNone m (SameUids (without_keys set keys) (λ _. false))
     → MatchOption m (SameUids (left_by set certain us) (λ _. false)) (IsWidest (left_by set certain us))
@@ -68,6 +57,7 @@ unsettled_by set us certain known keys m all own found empty = at m found empty
   where
     same : SameUids (without_keys set keys) (left_by set certain us)
     same u i = ap (λ b. set u && not b) (own.members u i ∙ all u)
+
     at : (m : Option BitMask) → IfSome m (IsWidest (without_keys set keys)) → IfNone m (SameUids (without_keys set keys) (λ _. false))
         → MatchOption m (SameUids (left_by set certain us) (λ _. false)) (IsWidest (left_by set certain us))
     at None found empty = λ u i. sym (same u i) ∙ empty u i
@@ -102,9 +92,10 @@ open_iff P C set certain u f i =
 
 absent_iff : (P C : ℕ → Type 0) (set : ℕ → Bool) (certain us all : List ℕ) → AreFacts P C set certain → AreListed us all → (u : ℕ) → (IsFailing us set u × (has certain u ≡ false)) ↔ ((has all u ≡ true) × (P u → ⊥))
 absent_iff P C set certain us all f l u = (
-  (λ h.
-      (sym (l.members u) ∙ h.0.0,
-      λ p. ⊎_elim (λ s. both_ways (set u) h.0.1 s) (λ c. both_ways (has certain u) h.1 c) ((f.may u (l.are_uids u h.0.0)).1 p))),
+  (λ h. (
+    sym (l.members u) ∙ h.0.0,
+    λ p. ⊎_elim (λ s. both_ways (set u) h.0.1 s) (λ c. both_ways (has certain u) h.1 c) ((f.may u (l.are_uids u h.0.0)).1 p),
+  )),
   (λ h.
       let member = l.members u ∙ h.0 in
       let may = f.may u (l.are_uids u member) in
@@ -117,14 +108,22 @@ unlisted_iff P C set certain us all f l u = (
   (λ h. ((f.must.members u).1 h.0, l.members u ∙ h.1)),
 )
 
-doubtful_iff : (P C : ℕ → Type 0) (set : ℕ → Bool) (certain us all : List ℕ) → AreFacts P C set certain → AreListed us all → (u : ℕ) → (IsFailing us (has certain) u × (set u ≡ true)) ↔ ((has all u ≡ true) × (P u × (C u → ⊥)))
-doubtful_iff P C set certain us all f l u = (
-  (λ h. (sym (l.members u) ∙ h.0.0, (open_iff P C set certain u f (l.are_uids u h.0.0)).0 (h.1, h.0.1))),
+-- a listed UID that is neither certain nor absent may be there and may be missing
+doubtful_iff : (P C : ℕ → Type 0) (set : ℕ → Bool) (certain us all some absent : List ℕ) → AreFacts P C set certain → AreListed us all → IsListOf (IsFailing us (has certain)) some → IsListOf (λ u. IsFailing us set u × (has certain u ≡ false)) absent → (u : ℕ) → IsFailing some (has absent) u ↔ ((has all u ≡ true) × (P u × (C u → ⊥)))
+doubtful_iff P C set certain us all some absent f l un out u = (
+  (λ h.
+      let w = (un.members u).0 h.0 in
+      let open_ : set u ≡ true = ⊎_elim (λ e. e) (λ e. absurd (both_ways (has absent u) h.1 ((out.members u).1 ((w.0, e), w.1)))) (cases_Bool (set u)) in
+      (sym (l.members u) ∙ w.0, (open_iff P C set certain u f (l.are_uids u w.0)).0 (open_, w.1))),
   (λ h.
       let member = l.members u ∙ h.0 in
       let w = (open_iff P C set certain u f (l.are_uids u member)).1 h.1 in
-      ((member, w.1), w.0)),
+      ((un.members u).1 (member, w.1), false_from_ne_true _ (λ e. both_ways (set u) ((out.members u).0 e).0.1 w.0))),
 )
+
+pub doubtful_list : (P C : ℕ → Type 0) (set : ℕ → Bool) (certain us all some absent doubtful : List ℕ) → AreFacts P C set certain → AreListed us all → IsListOf (IsFailing us (has certain)) some → IsListOf (λ u. IsFailing us set u × (has certain u ≡ false)) absent → IsListOf (IsFailing some (has absent)) doubtful → IsListOf (λ u. (has all u ≡ true) × (P u × (C u → ⊥))) doubtful
+doubtful_list P C set certain us all some absent doubtful f l un out h =
+    list_as _ _ doubtful (doubtful_iff P C set certain us all some absent f l un out) h
 
 left_iff : (P C : ℕ → Type 0) (set : ℕ → Bool) (certain us all : List ℕ) → AreFacts P C set certain → AreListed us all → (u : ℕ) → IsUid u → (left_by set certain us u ≡ true) ↔ ((P u × (C u → ⊥)) × (has all u ≡ false))
 left_iff P C set certain us all f l u i =
@@ -158,14 +157,12 @@ pub record AreAllFindings (P C : ℕ → Type 0) (all : List ℕ) (d : Differenc
   pub absent : IsListOf (λ u. (has all u ≡ true) × (P u → ⊥)) d.absent.items
   pub unlisted : IsListOf (λ u. C u × (has all u ≡ false)) d.unlisted.items
   pub unsettled : MatchOption d.unsettled (NoSuch (IsLeft P C all)) (IsFirstMask (IsLeft P C all))
-  pub doubtful : IsListOf (λ u. (has all u ≡ true) × (P u × (C u → ⊥))) d.doubtful.items
 
 pub all_findings : (P C : ℕ → Type 0) (set : ℕ → Bool) (certain us all : List ℕ) (d : Differences) → AreFacts P C set certain → AreListed us all → AreDifferences set certain us d → AreAllFindings P C all d
 all_findings P C set certain us all d f l h = record {
   absent = list_as _ _ d.absent.items (absent_iff P C set certain us all f l) h.absent;
   unlisted = list_as _ _ d.unlisted.items (unlisted_iff P C set certain us all f l) h.unlisted;
   unsettled = first_left P C set certain us all d.unsettled f l h.unsettled;
-  doubtful = list_as _ _ d.doubtful.items (doubtful_iff P C set certain us all f l) h.doubtful;
 }
 
 -- ---- what one log tells
@@ -182,6 +179,7 @@ log_facts es set certain p s forced = record {
   where
     must : IsListOf (IsCertainUid es) certain
     must = list_as _ (IsCertainUid es) certain (λ u. let w = IsCertainUid-iff es u p in (w.1, w.0)) forced
+
     sure : (u : ℕ) → IsCertainUid es u → IsPossibleUid es u
     sure u c = (p.0, p.1, p.2, c p.0 p.1 p.2)
 
@@ -201,10 +199,10 @@ no_mask : (es : List Entry) → NoSuch (IsUnlisted es) → NoSuch (IsLeftOpen es
 no_mask es none left m h = left m ((mask_iff es none m).1 h)
 
 -- where none is absent, a listed UID that isn't certain may be missing
-missing_or_absent : (es : List Entry) (u : ℕ) → NoSuch (IsAbsent es) → (MayBeMissing es u → ⊥) → IsDoubtful es u → ⊥
+pub missing_or_absent : (es : List Entry) (u : ℕ) → NoSuch (IsAbsent es) → (MayBeMissing es u → ⊥) → IsDoubtful es u → ⊥
 missing_or_absent es u present none d = present u (d.0, λ possible. none (d.0, (possible, d.1)))
 
-missing_least : (es : List Entry) (u : ℕ) → IsPossible es → NoSuch (IsAbsent es) → IsLeast (MayBeMissing es) u → IsLeast (IsDoubtful es) u
+pub missing_least : (es : List Entry) (u : ℕ) → IsPossible es → NoSuch (IsAbsent es) → IsLeast (MayBeMissing es) u → IsLeast (IsDoubtful es) u
 missing_least es u possible present h = (
   (h.0.0, h.0.1.1),
   λ m d.
@@ -214,23 +212,39 @@ missing_least es u possible present h = (
       (IsPossibleUid-either es m possible),
 )
 
-pub first_is_verdict : (lines : List LogLine) (absent unlisted doubtful : List ℕ) (m : Option BitMask) (count : ℕ) → IsPossible (entries lines) → IsListOf (IsAbsent (entries lines)) absent → IsListOf (IsUnlisted (entries lines)) unlisted
-    → MatchOption m (NoSuch (IsLeftOpen (entries lines))) (IsFirstMask (IsLeftOpen (entries lines))) → IsListOf (MayBeMissing (entries lines)) doubtful
-    → (absent ≡ [] → unlisted ≡ [] → m ≡ None → doubtful ≡ [] → count ≡ length (listed (entries lines))) → IsVerdict lines (first_finding absent unlisted m doubtful count)
-first_is_verdict lines (u ∷ absent) unlisted doubtful m count p a l f d counted = (p, head_least (IsAbsent (entries lines)) u absent a)
-first_is_verdict lines [] (u ∷ unlisted) doubtful m count p a l f d counted = (p, none_of (IsAbsent (entries lines)) a, head_least (IsUnlisted (entries lines)) u unlisted l)
-first_is_verdict lines [] [] doubtful (Some m) count p a l f d counted =
+some_is : {v w : Verdict} → Some v ≡ Some w → v ≡ w
+some_is h = cc
+
+-- the first of the differences
+pub difference_is_verdict : (lines : List LogLine) (absent unlisted : List ℕ) (m : Option BitMask) (v : Verdict) → IsPossible (entries lines) → IsListOf (IsAbsent (entries lines)) absent → IsListOf (IsUnlisted (entries lines)) unlisted
+    → MatchOption m (NoSuch (IsLeftOpen (entries lines))) (IsFirstMask (IsLeftOpen (entries lines))) → first_difference absent unlisted m ≡ Some v → IsVerdict lines v
+difference_is_verdict lines (u ∷ absent) unlisted m v p a l f is = subst (IsVerdict lines) (some_is is) (p, head_least (IsAbsent (entries lines)) u absent a)
+difference_is_verdict lines [] (u ∷ unlisted) m v p a l f is = subst (IsVerdict lines) (some_is is) (p, none_of (IsAbsent (entries lines)) a, head_least (IsUnlisted (entries lines)) u unlisted l)
+difference_is_verdict lines [] [] (Some m) v p a l f is =
     let es = entries lines in
     let none = none_of (IsUnlisted es) l in
-    (p, none_of (IsAbsent es) a, none, first_mask es m none f)
-first_is_verdict lines [] [] (u ∷ doubtful) None count p a l f d counted =
-    let es = entries lines in
-    let present = none_of (IsAbsent es) a in
+    subst (IsVerdict lines) (some_is is) (p, none_of (IsAbsent es) a, none, first_mask es m none f)
+difference_is_verdict lines [] [] None v p a l f is = cc
+
+-- there is none
+pub record AreNoDifferences (es : List Entry) : Type 0 where
+  pub absent : NoSuch (IsAbsent es)
+  pub unlisted : NoSuch (IsUnlisted es)
+  pub unsettled : NoSuch (IsUnsettled es)
+
+pub no_differences : (es : List Entry) (absent unlisted : List ℕ) (m : Option BitMask) → IsListOf (IsAbsent es) absent → IsListOf (IsUnlisted es) unlisted
+    → MatchOption m (NoSuch (IsLeftOpen es)) (IsFirstMask (IsLeftOpen es)) → first_difference absent unlisted m ≡ None → AreNoDifferences es
+no_differences es (u ∷ absent) unlisted m a l f is = cc
+no_differences es [] (u ∷ unlisted) m a l f is = cc
+no_differences es [] [] (Some m) a l f is = cc
+no_differences es [] [] None a l f is =
     let none = none_of (IsUnlisted es) l in
-    (p, present, none, no_mask es none f, missing_least es u p present (head_least (MayBeMissing es) u doubtful d))
-first_is_verdict lines [] [] [] None count p a l f d counted =
-    let es = entries lines in
-    let present = none_of (IsAbsent es) a in
-    let none = none_of (IsUnlisted es) l in
-    let settled = none_of (MayBeMissing es) d in
-    (p, present, none, no_mask es none f, λ u x. missing_or_absent es u present (settled u) x, counted refl refl refl refl)
+    record { absent = none_of (IsAbsent es) a; unlisted = none; unsettled = no_mask es none f }
+
+-- then a listed UID that isn't certain is doubtful
+pub doubtful_as : (P C : ℕ → Type 0) (set : ℕ → Bool) (certain us all : List ℕ) → AreFacts P C set certain → AreListed us all → (u : ℕ) → IsFailing us (has certain) u ↔ ((has all u ≡ true) × (C u → ⊥))
+doubtful_as P C set certain us all f l u =
+    let un = uncertain_iff P C set certain u f in (
+      (λ h. (sym (l.members u) ∙ h.0, un.0 h.1)),
+      (λ h. (l.members u ∙ h.0, un.1 h.1)),
+    )

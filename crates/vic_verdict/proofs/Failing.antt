@@ -1,6 +1,6 @@
 -- The members of a list that fail a test.
-use Rattle.std.proofs.Common.{◌≡◌, ℕ, zero, suc, ◌+◌, ◌<◌, ◌≤◌, List, [], ◌∷◌, length, get_or, Bool, true, false, not, refl, sym, subst, arith, ⊎_elim}
-use Rattle.std.specs.Prelude.{◌↔◌}
+use Rattle.std.proofs.Common.{◌≡◌, ℕ, zero, suc, ◌<◌, ◌≤◌, List, [], ◌∷◌, length, get_or, Bool, true, not, refl, sym, subst, arith, ⊎_elim}
+use Rattle.std.specs.Prelude.{◌↔◌, MatchOption, slice_get}
 use Rattle.std.specs.List.{filter}
 use Rattle.std.specs.List.Sorted.{IsStrictlyIncreasing}
 use Rattle.std.proofs.lemmas.Bool.{and_parts, and_from, not-true, not_from_false, false≢true}
@@ -69,3 +69,7 @@ head_least P u us l = (
 
 pub none_of : (P : ℕ → Type 0) → IsListOf P [] → NoSuch P
 none_of P l u h = false≢true ((l.members u).1 h)
+
+pub first_is_least : (P : ℕ → Type 0) (us : List ℕ) → IsListOf P us → MatchOption (slice_get us 0) (NoSuch P) (IsLeast P)
+first_is_least P [] l = none_of P l
+first_is_least P (u ∷ us) l = head_least P u us l

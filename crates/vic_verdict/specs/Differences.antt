@@ -28,13 +28,12 @@ IsLeftOpen es m =
 abbrev pub MayBeMissing : List Entry → ℕ → Type 0
 MayBeMissing es u = (has (listed es) u ≡ true) × IsOpenUid es u
 
--- the first of some findings, the one that is the verdict; a count where there is none
-abbrev pub first_finding : List ℕ → List ℕ → Option BitMask → List ℕ → ℕ → Verdict
-first_finding (u ∷ absent) unlisted unsettled doubtful count = verdict.Absent u
-first_finding [] (u ∷ unlisted) unsettled doubtful count = verdict.Unlisted u
-first_finding [] [] (Some m) doubtful count = verdict.Unsettled m
-first_finding [] [] None (u ∷ doubtful) count = verdict.Doubtful u
-first_finding [] [] None [] count = verdict.Complete count
+-- the first of some differences as a verdict
+abbrev pub first_difference : List ℕ → List ℕ → Option BitMask → Option Verdict
+first_difference (u ∷ absent) unlisted unsettled = Some (verdict.Absent u)
+first_difference [] (u ∷ unlisted) unsettled = Some (verdict.Unlisted u)
+first_difference [] [] (Some m) = Some (verdict.Unsettled m)
+first_difference [] [] None = None
 
 -- ---- the same by a set of open UIDs and the list of the certain ones
 
@@ -48,4 +47,3 @@ pub record AreDifferences (set : ℕ → Bool) (certain us : List ℕ) (d : Diff
   pub unlisted : IsListOf (IsFailing certain (has us)) d.unlisted.items
   pub unsettled : MatchOption d.unsettled (SameUids (left_by set certain us) (λ _. false))
       (IsWidest (left_by set certain us))
-  pub doubtful : IsListOf (λ u. IsFailing us (has certain) u × (set u ≡ true)) d.doubtful.items

@@ -19,4 +19,3 @@ Adds P old new = (u : ℕ) → (has new u ≡ true) ↔ (P u ⊎ (has old u ≡ 
 -- a member that fails a test
 abbrev pub IsFailing : List ℕ → (ℕ → Bool) → ℕ → Type 0
 IsFailing us test u = (has us u ≡ true) × (test u ≡ false)
-

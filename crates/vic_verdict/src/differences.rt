@@ -1,15 +1,17 @@
 //! How a list differs from what a log tells.
 
-ghost use Rattle.std.specs.Prelude.{IfOk};
+ghost use Rattle.std.specs.Prelude.{◌++◌, IfOk};
 ghost use Rattle.std.specs.List.Sorted.{IsStrictlyIncreasing};
 ghost use Rattle.vic_verdict.specs.Differences.{AreDifferences};
+ghost use Rattle.vic_verdict.specs.Keys.{AreKeysOf};
 
-use crate::missing::{keys_in_order, missing};
+use crate::missing::{keys_in_order, missing_from};
 use std::alloc::{AllocError, Global};
 use vic_frame::{Mask, Uid};
 use vic_tree::OpenSet;
 
-/// How a list of UIDs differs from what a log tells: all findings.
+/// How a list of UIDs differs from what a log tells. The other findings, the listed UIDs that may be
+/// there or not, follow from these: they are neither certain nor absent.
 #[derive(Drop)]
 pub struct Differences {
     /// The listed UIDs that can't be there, in rising order.
@@ -19,8 +21,6 @@ pub struct Differences {
     /// The first mask by length, then by value, of at most 56 bits, all of whose UIDs may be there
     /// or not and aren't listed.
     pub unsettled: Option<Mask>,
-    /// The listed UIDs that may be there or not, in rising order.
-    pub doubtful: Vec<Uid>,
 }
 
 /// How a list differs from the UIDs that may be there, which are open or certain, and from those
@@ -29,25 +29,32 @@ pub fn compare<S: OpenSet>(
     alloc: Global,
     set: S,
     certain: &[Uid],
-    listed: Vec<Uid>,
+    listed: &[Uid],
 ) -> Result<Differences, AllocError>
     requires certain { IsStrictlyIncreasing certain.now }
-    requires listed { IsStrictlyIncreasing listed.items }
-    ensures { IfOk result (AreDifferences (S.is_open set) certain.now listed.items) }
+    requires listed { IsStrictlyIncreasing listed.now }
+    ensures { IfOk result (AreDifferences (S.is_open set) certain.now listed.now) }
 {
-    let unlisted = missing(alloc, certain, &listed)?;
-    let uncertain = missing(alloc, &listed, certain)?;
-    let mut known = listed;
-    known.extend_from_slice(&unlisted)?;
-    let keys = keys_in_order(alloc, &known)?;
+    let unlisted = missing_from(alloc, certain, listed)?;
+    let keys = keys_of_both(alloc, listed, &unlisted)?;
     let outside = set.uids_outside(alloc, &keys)?;
-    let absent = missing(alloc, &outside, certain)?;
-    let doubtful = missing(alloc, &uncertain, &absent)?;
+    let absent = missing_from(alloc, &outside, certain)?;
     let unsettled = set.widest_besides(&keys)?;
     Ok(Differences {
         absent,
         unlisted,
         unsettled,
-        doubtful,
     })
+}
+
+/// The keys of the UIDs of two lists, in order.
+fn keys_of_both(alloc: Global, uids: &[Uid], others: &[Uid]) -> Result<Vec<u64>, AllocError>
+    ensures { IfOk result (λ keys. AreKeysOf keys.items (uids.now ++ others.now)) }
+{
+    if others.is_empty() {
+        return keys_in_order(alloc, uids);
+    }
+    let mut both = Vec::from_slice(alloc, uids)?;
+    both.extend_from_slice(others)?;
+    keys_in_order(alloc, &both)
 }

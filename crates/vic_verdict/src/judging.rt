@@ -6,7 +6,7 @@ ghost use Rattle.vic_log.specs.Slots.{slots_of, is_open};
 ghost use Rattle.vic_verdict.specs.Possible.{IsPossible};
 ghost use Rattle.vic_log.specs.Order.{entries, listed};
 ghost use Rattle.vic_verdict.specs.LogLines.{AreLogLines};
-ghost use Rattle.vic_verdict.specs.Differences.{first_finding};
+ghost use Rattle.vic_verdict.specs.Differences.{first_difference};
 ghost use Rattle.vic_verdict.specs.Verdict.{IsVerdict, IsWhole, IsReached};
 ghost use Rattle.vic_verdict.specs.TwoVersions.{IsWholeSecond};
 ghost use Rattle.vic_verdict.specs.Demands.{IsMet};
@@ -15,6 +15,7 @@ ghost use Rattle.vic_verdict.specs.declared.judging.Verdict.TheVariants.{Complet
 use crate::demands::Met;
 use crate::differences::{Differences, compare};
 use crate::first_line::first_impossible_line;
+use crate::missing::missing_from;
 use crate::possible::open_and_met;
 use crate::uids::{certain_uids, count_listed, listed_uids};
 use std::alloc::{AllocError, Global};
@@ -104,27 +105,29 @@ pub(crate) fn judge_possible<S: OpenSet>(
 {
     let certain = certain_uids(alloc, met)?;
     let listed = listed_uids(alloc, lines)?;
-    let found = compare(alloc, set, &certain, listed)?;
-    Ok(first_finding(&found, count_listed(lines)))
+    let found = compare(alloc, set, &certain, &listed)?;
+    if let Some(verdict) = first_difference(&found) {
+        return Ok(verdict);
+    }
+    let doubtful = missing_from(alloc, &listed, &certain)?;
+    if let Some(uid) = doubtful.first().copied() {
+        return Ok(Verdict::Doubtful(uid));
+    }
+    let count = count_listed(lines);
+    Ok(Verdict::Complete { count })
 }
 
-/// The first of some findings, as a verdict; where there is none, that the list is complete, and
-/// has so many UIDs.
-fn first_finding(found: &Differences, count: u32) -> Verdict
-    ensures { result ≡ first_finding found.now.absent.items found.now.unlisted.items
-        found.now.unsettled found.now.doubtful.items count }
+/// The first of some differences, as a verdict.
+fn first_difference(found: &Differences) -> Option<Verdict>
+    ensures { result ≡ first_difference found.now.absent.items found.now.unlisted.items
+        found.now.unsettled }
 {
     if let Some(uid) = found.absent.first() {
-        return Verdict::Absent(*uid);
+        return Some(Verdict::Absent(*uid));
     }
     if let Some(uid) = found.unlisted.first() {
-        return Verdict::Unlisted(*uid);
+        return Some(Verdict::Unlisted(*uid));
     }
-    if let Some(mask) = found.unsettled {
-        return Verdict::Unsettled(mask);
-    }
-    match found.doubtful.first() {
-        Some(uid) => Verdict::Doubtful(*uid),
-        None => Verdict::Complete { count },
-    }
+    let mask = found.unsettled?;
+    Some(Verdict::Unsettled(mask))
 }

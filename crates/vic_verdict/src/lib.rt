@@ -27,6 +27,6 @@ pub use differences::{Differences, compare};
 pub use explanation::{Explanation, explain, explain_with};
 pub use first_line::first_impossible_line;
 pub use judging::{Verdict, judge, judge_with};
-pub use missing::keys_in_order;
+pub use missing::{keys_in_order, missing_from};
 pub use possible::{Before, Contradiction, open_and_met};
 pub use uids::{certain_uids, count_listed, listed_uids};

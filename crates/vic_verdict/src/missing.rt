@@ -37,7 +37,7 @@ pub(crate) fn are_open<S: OpenSet>(alloc: Global, set: &S, uids: &[Uid]) -> Resu
 }
 
 /// Those of a rising list that aren't in another, in rising order.
-pub(crate) fn missing(alloc: Global, uids: &[Uid], others: &[Uid]) -> Result<Vec<Uid>, AllocError>
+pub fn missing_from(alloc: Global, uids: &[Uid], others: &[Uid]) -> Result<Vec<Uid>, AllocError>
     requires rising { IsStrictlyIncreasing uids.now }
     requires others { IsStrictlyIncreasing others.now }
     ensures { IfOk result (λ v. IsListOf (IsFailing uids.now (has others.now)) v.items) }

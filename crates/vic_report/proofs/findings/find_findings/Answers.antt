@@ -1,23 +1,39 @@
-use Rattle.std.proofs.Common.{ℕ, List, ◌∙◌, sym, ap, subst}
+use Rattle.std.proofs.Common.{◌≡◌, ℕ, Bool, true, List, ◌∙◌, sym, ap, subst}
+use Rattle.std.specs.Prelude.{MatchOption}
+use Rattle.vic_frame.specs.Uids.{has}
 use Rattle.vic_tree.specs.OpenSet.{has_key, without_keys}
 use Rattle.vic_tree.specs.Ranges.{is_open_in}
 use Rattle.vic_log.specs.Order.{entries, listed}
-use Rattle.std.specs.Prelude.{MatchOption}
-use Rattle.vic_frame.specs.Uids.{has}
+use Rattle.vic_verdict.specs.declared.differences.Differences.{Differences}
 use Rattle.vic_verdict.specs.Differences.{AreDifferences, IsLeftOpen}
 use Rattle.vic_verdict.specs.Possible.{IsPossibleUid, IsCertainUid}
-use Rattle.vic_verdict.specs.Rising.{IsListOf}
+use Rattle.vic_verdict.specs.Rising.{IsFailing, IsListOf}
 use Rattle.vic_verdict.specs.Verdict.{IsAbsent, IsUnlisted, NoSuch}
 use Rattle.vic_report.specs.Reports.{AreOpenMasks, IsUnsettledWith}
-use Rattle.vic_verdict.proofs.Differing.{AreListed, log_facts, all_findings}
+use Rattle.vic_verdict.proofs.Differing.{AreListed, log_facts, all_findings, doubtful_list}
 use Rattle.vic_report.proofs.AllFindings.{left_to_ask, open_set, shut_all}
 use Rattle.vic_report.proofs.findings.find_findings.Goals as goal
+
+-- the members of one list that aren't in another, by other names of the two
+renamed : (us us' vs vs' ys : List ℕ) → us ≡ us' → vs ≡ vs' → IsListOf (IsFailing us (has vs)) ys → IsListOf (IsFailing us' (has vs')) ys
+renamed us us' vs vs' ys e f l = subst (λ ws. IsListOf (IsFailing ws (has vs')) ys) e (subst (λ ws. IsListOf (IsFailing us (has ws)) ys) f l)
+
+compared : (set : ℕ → Bool) (certain certain' us us' : List ℕ) (d : Differences) → certain ≡ certain' → us ≡ us' → AreDifferences set certain us d → AreDifferences set certain' us' d
+compared set certain certain' us us' d e f h = subst (λ ws. AreDifferences set certain' ws d) f (subst (λ ws. AreDifferences set ws us d) e h)
 
 pub lines_of_absent-requires-clause-shut : goal.lines_of_absent-requires-clause-shut
 lines_of_absent-requires-clause-shut c =
     let es = entries c.args.lines.now in
     let us = c.in_ok-listed.listed.items in
-    rw c.deref-4.ensures.value (shut_all es (is_open_in c.args.set) us c.deref-3.result.now c.in_ok-found.found.absent.items c.requires.open c.in_ok-listed.ensures.uids c.in_ok-found.ensures.absent)
+    let certain = c.in_ok-certain.certain.items in
+    let d = c.in_ok-found.found in
+    let here = compared (is_open_in c.args.set) c.deref-3.result.now certain c.deref-4.result.now us d c.deref-3.ensures.value c.deref-4.ensures.value c.in_ok-found.ensures in
+    rw c.deref-9.ensures.value (shut_all es (is_open_in c.args.set) us certain d.absent.items c.requires.open c.in_ok-listed.ensures.uids here.absent)
+
+pub lines_of_unlisted-requires-clause-forced : goal.lines_of_unlisted-requires-clause-forced
+lines_of_unlisted-requires-clause-forced c u h =
+    let w = (c.in_ok-found.ensures.unlisted.members u).0 (subst (λ xs. has xs u ≡ true) c.deref-10.ensures.value h) in
+    c.in_ok-certain.ensures.met u (subst (λ xs. has xs u ≡ true) c.deref-3.ensures.value w.0)
 
 pub returns : goal.returns
 returns c =
@@ -26,11 +42,12 @@ returns c =
     let us = c.in_ok-listed.listed.items in
     let certain = c.in_ok-certain.certain.items in
     let keys = c.deref-2.result.now in
+    let some = c.in_ok-uncertain.uncertain.items in
     let d = c.in_ok-found.found in
     let facts = log_facts es set certain c.requires.possible c.requires.open (c.in_ok-certain.ensures.certain es c.requires.met) in
     let own : AreListed us (listed es) = record { members = c.in_ok-listed.ensures.members; are_uids = c.in_ok-listed.ensures.uids } in
-    let all = all_findings (IsPossibleUid es) (IsCertainUid es) set certain us (listed es) d facts own
-        (subst (λ (xs : List ℕ). AreDifferences set xs us d) c.deref-3.ensures.value c.in_ok-found.ensures) in
+    let here = compared set c.deref-3.result.now certain c.deref-4.result.now us d c.deref-3.ensures.value c.deref-4.ensures.value c.in_ok-found.ensures in
+    let all = all_findings (IsPossibleUid es) (IsCertainUid es) set certain us (listed es) d facts own here in
     let masks : AreOpenMasks es c.open_masks_besides-open.result = record {
       set = without_keys set keys;
       uids = open_set es set certain keys facts (λ u i. ap (λ ks. has_key ks u) c.deref-2.ensures.value ∙ (c.in_ok-keys.ensures.members u i ∙ ap (λ xs. has xs u) c.deref.ensures.value));
@@ -38,10 +55,13 @@ returns c =
       more = c.open_masks_besides-open.ensures.more;
     } in
     record {
-      absent = subst (IsListOf (IsAbsent es)) (sym (c.in_ok-lines_of_absent.ensures.uids ∙ c.deref-4.ensures.value)) all.absent;
+      absent = subst (IsListOf (IsAbsent es)) (sym (c.in_ok-lines_of_absent.ensures.uids ∙ c.deref-9.ensures.value)) all.absent;
       absent_shown = c.in_ok-lines_of_absent.ensures.shown;
-      unlisted = subst (IsListOf (IsUnlisted es)) (sym (c.in_ok-lines_of_unlisted.ensures.uids ∙ c.deref-5.ensures.value)) all.unlisted;
+      unlisted = subst (IsListOf (IsUnlisted es)) (sym (c.in_ok-lines_of_unlisted.ensures.uids ∙ c.deref-10.ensures.value)) all.unlisted;
       unlisted_shown = c.in_ok-lines_of_unlisted.ensures.shown;
       unsettled = subst (λ o. MatchOption o (NoSuch (IsLeftOpen es)) (IsUnsettledWith es)) (sym c.left_to_ask.ensures) (left_to_ask es d.unsettled c.open_masks_besides-open.result all.unsettled masks);
-      doubtful = all.doubtful;
+      doubtful = doubtful_list (IsPossibleUid es) (IsCertainUid es) set certain us (listed es) some d.absent.items c.in_ok-doubtful.doubtful.items facts own
+          (renamed c.deref-5.result.now us c.deref-6.result.now certain some c.deref-5.ensures.value c.deref-6.ensures.value c.in_ok-uncertain.ensures)
+          here.absent
+          (renamed c.deref-7.result.now some c.deref-8.result.now d.absent.items c.in_ok-doubtful.doubtful.items c.deref-7.ensures.value c.deref-8.ensures.value c.in_ok-doubtful.ensures);
     }

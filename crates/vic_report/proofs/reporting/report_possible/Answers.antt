@@ -1,4 +1,4 @@
-use Rattle.std.proofs.Common.{[], None, ap, subst}
+use Rattle.std.proofs.Common.{ap, subst}
 use Rattle.std.specs.Prelude.{MatchOption}
 use Rattle.vic_log.specs.Order.{entries}
 use Rattle.vic_report.specs.Findings.{uids_of}
@@ -6,7 +6,7 @@ use Rattle.vic_verdict.specs.Differences.{IsLeftOpen, MayBeMissing}
 use Rattle.vic_report.specs.Reports.{IsUnsettledWith}
 use Rattle.vic_verdict.specs.Rising.{IsListOf}
 use Rattle.vic_verdict.specs.Verdict.{IsAbsent, IsUnlisted, NoSuch}
-use Rattle.vic_verdict.proofs.Differing.{first_is_verdict}
+use Rattle.vic_report.proofs.AllFindings.{none_is_complete}
 use Rattle.vic_report.proofs.reporting.report_possible.Goals as goal
 
 pub returns : goal.returns
@@ -14,9 +14,9 @@ returns c =
     let es = entries c.args.lines.now in
     let all = c.in_ok-findings.ensures in
     let none = c.is_empty.ensures.0 c.if-not-is_empty.false in
-    first_is_verdict c.args.lines.now [] [] [] None c.count_listed-count.result c.requires.possible
+    none_is_complete c.args.lines.now c.count_listed-count.result c.requires.possible
     (subst (IsListOf (IsAbsent es)) (ap uids_of none.absent) all.absent)
     (subst (IsListOf (IsUnlisted es)) (ap uids_of none.unlisted) all.unlisted)
     (subst (λ o. MatchOption o (NoSuch (IsLeftOpen es)) (IsUnsettledWith es)) none.unsettled all.unsettled)
     (subst (IsListOf (MayBeMissing es)) none.doubtful all.doubtful)
-    (λ _ _ _ _. c.count_listed-count.ensures)
+    c.count_listed-count.ensures

@@ -2,7 +2,7 @@ use Rattle.std.proofs.Common.{◌≡◌, ◌<◌, ◌≤◌, length, get_or, not
 use Rattle.std.specs.List.{filter}
 use Rattle.vic_frame.specs.Uids.{has}
 use Rattle.vic_verdict.specs.Merging.{AreBelow}
-use Rattle.vic_verdict.proofs.missing.missing.Given as goal
+use Rattle.vic_verdict.proofs.missing.missing_from.Given as goal
 
 abbrev pub invariant-loop-uid : goal.invariant-loop-uid
 invariant-loop-uid l = record {

@@ -7,7 +7,7 @@ use Rattle.vic_verdict.specs.Merging.{AreBelow}
 use Rattle.vic_verdict.proofs.Failing.{any_default}
 use Rattle.vic_verdict.proofs.Failing.{failing_list}
 use Rattle.vic_verdict.proofs.Merging.{below_next}
-use Rattle.vic_verdict.proofs.missing.missing.Goals as goal
+use Rattle.vic_verdict.proofs.missing.missing_from.Goals as goal
 
 pub place_from-next-requires-clause-below : goal.place_from-next-requires-clause-below
 place_from-next-requires-clause-below c =
