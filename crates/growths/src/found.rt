@@ -1,13 +1,13 @@
-//! What a call gave where one growth may be refused.
+//! The result of a call of which one allocation may be refused.
 
 use std::alloc::{AllocError, Global};
 
-/// What a call gave.
+/// The result of a call.
 #[derive(Clone, Copy, Debug, PartialEq, Eq)]
 pub enum Found {
-    /// The right answer; no growth was refused.
+    /// The right answer; no allocation was refused.
     Right,
-    /// Want of memory, and the right answer when it was called again.
+    /// Refused memory, and the right answer when it was called again.
     Memory,
     /// Anything else.
     Wrong,
@@ -24,7 +24,7 @@ impl Found {
     }
 }
 
-/// Makes a call that says whether its answer is right, and makes it again where memory was wanting.
+/// Makes a call that says whether its answer is right, and repeats it if memory was refused.
 pub fn call_again<F: Fn(Global) -> Result<bool, AllocError>>(alloc: Global, call: F) -> Found
     requires { F.IsAlwaysCallable call }
 {
@@ -38,7 +38,7 @@ pub fn call_again<F: Fn(Global) -> Result<bool, AllocError>>(alloc: Global, call
     }
 }
 
-/// What two calls gave, one after the other.
+/// The result of two calls, one after the other.
 pub fn both(first: Found, second: Found) -> Found {
     match (first, second) {
         (Found::Right, found) | (found, Found::Right) => found,

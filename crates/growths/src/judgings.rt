@@ -1,5 +1,5 @@
-//! How often a log is judged: each judging begins with a set of every UID, and here a set takes a
-//! block of a size of its own when it is made, which `tests/refuse.c` counts.
+//! How many times a log is judged: each time, judging begins with a set of every UID. Here, a set
+//! allocates a block of a particular size when it is made, and `tests/refuse.c` counts these.
 
 use crate::logs::log_of;
 use arrayvec::ArrayVec;
@@ -10,10 +10,10 @@ use vic_frame::{Mask, Uid};
 use vic_tree::{OpenSet, RangeSet};
 use vic_verdict::{Verdict, judge_with};
 
-/// How many bytes that block has; nothing else asks for as many.
+/// The size of that block in bytes; nothing else allocates exactly as many.
 const TELLING: usize = 7919;
 
-/// Ranges of keys, as the judge goes by, with such a block.
+/// Ranges of keys, as the judge uses, with such a block.
 #[derive(Drop)]
 struct Telling {
     set: RangeSet,
@@ -64,7 +64,7 @@ impl OpenSet for Telling {
     }
 }
 
-/// Says whether the log of a text is impossible, and from which line on.
+/// Prints whether the log of a text is impossible, and from which line on.
 pub fn judge_counted(rt: &HostRuntime, alloc: Global, text: &[u8]) -> io::Result<()> {
     let Ok(Some(log)) = log_of(alloc, text) else {
         return Err(ErrorKind::InvalidData.into());

@@ -29,7 +29,7 @@ U E0040100000000A1
 U E0040100000000B2
 ";
 
-/// Lists a UID on the next line, and again where memory was wanting and the log is as it was.
+/// Lists a UID on the next line, and again if memory was refused and the log is unchanged.
 fn list(log: &mut Log, uid: Uid) -> Found {
     let count = log.lines().len();
     let number = log.last_line() + 1;
@@ -69,7 +69,7 @@ pub fn is_text(log: &Log, text: &[u8]) -> bool {
     write_log(log, &mut sink).is_ok() && sink.into_inner().as_slice() == text
 }
 
-/// The log of a text; none where it has a fault.
+/// The log of a text; none if it has a fault.
 pub fn log_of(alloc: Global, text: &[u8]) -> Result<Option<Log>, AllocError> {
     match read_log(alloc, text) {
         Ok(log) => Ok(Some(log)),
@@ -78,7 +78,7 @@ pub fn log_of(alloc: Global, text: &[u8]) -> Result<Option<Log>, AllocError> {
     }
 }
 
-/// Reads a log whole.
+/// Reads a complete log.
 pub fn read_row(alloc: Global) -> Result<bool, AllocError> {
     match log_of(alloc, TWO_HEARD)? {
         Some(log) => Ok(is_text(&log, TWO_HEARD)),

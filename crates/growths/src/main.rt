@@ -1,8 +1,9 @@
-//! Makes each call that takes memory and that no command makes, and says how it answered: `right`,
-//! `memory` (want of memory, and the right answer when called again) or `wrong`.
+//! Makes each call that takes memory and that no command makes, and prints how it answered:
+//! `right`, `memory` (refused memory, and the right answer when called again) or `wrong`.
 //!
-//! `tests/growths` runs it with one growth refused, each in turn. With `planted` on standard input
-//! it makes calls that are wrong on purpose, with a log it judges that, and the judgings are counted.
+//! `tests/growths` runs it with one allocation refused, each in turn. With `planted` on standard
+//! input it makes calls that are deliberately wrong; with a log it judges that log, and the test
+//! counts how many times.
 #![tactic(auto)]
 
 mod found;
@@ -23,19 +24,19 @@ use vic_tree::RangeSet;
 /// How many bytes of standard input are read at most.
 const MAX_INPUT: usize = 100_000_000;
 
-/// Says how a call answered.
+/// Prints how a call answered.
 fn say(rt: &HostRuntime, call: &str, found: Found) -> io::Result<()> {
     let word = found.word();
     println!(rt; "{call} {word}")
 }
 
-/// Makes the calls that are wrong on purpose.
+/// Makes the calls that are deliberately wrong.
 fn say_planted(rt: &HostRuntime, alloc: Global) -> io::Result<()> {
     say(rt, "planted answer", planted::answers(alloc))?;
     say(rt, "planted idleness", planted::takes_none(alloc))
 }
 
-/// What stands on standard input.
+/// The contents of standard input.
 fn read_input(rt: &HostRuntime, alloc: Global) -> io::Result<Vec<u8>> {
     match read_whole(alloc, &mut FromRead::new(rt.stdin()), MAX_INPUT) {
         Ok(input) => Ok(input),
@@ -43,7 +44,7 @@ fn read_input(rt: &HostRuntime, alloc: Global) -> io::Result<Vec<u8>> {
     }
 }
 
-/// Makes a call, and again where memory was wanting, and says how it answered.
+/// Makes a call, repeats it if memory was refused, and prints how it answered.
 fn say_again<F: Fn(Global) -> Result<bool, AllocError>>(
     rt: &HostRuntime,
     name: &str,

@@ -1,10 +1,10 @@
-//! Calls that are wrong on purpose, so that the sweep is seen to find it.
+//! Calls that are deliberately wrong, to show that the test finds them.
 
 use crate::found::{Found, call_again};
 use crate::logs::{TWO_HEARD, is_text, log_of};
 use std::alloc::{AllocError, Global};
 
-/// Answers where memory was wanting.
+/// Answers although memory was refused.
 fn answer_in_any_case(alloc: Global) -> Result<bool, AllocError> {
     match log_of(alloc, TWO_HEARD) {
         Ok(Some(log)) => Ok(is_text(&log, TWO_HEARD)),
@@ -12,7 +12,7 @@ fn answer_in_any_case(alloc: Global) -> Result<bool, AllocError> {
     }
 }
 
-/// A call that answers though no memory was there.
+/// A call that answers although memory was refused.
 pub fn answers(alloc: Global) -> Found {
     call_again(alloc, answer_in_any_case)
 }

@@ -5,7 +5,7 @@ use vic_frame::low_bits_first::uid_at;
 use vic_frame::{Mask, UID_BITS, Uid};
 use vic_tree::{KeyRange, OpenSet};
 
-/// Settles one half of the UIDs, and then the other but for one UID.
+/// Settles one half of the UIDs, and then the other except one UID.
 fn settle_halves<S: OpenSet>(alloc: Global) -> Result<bool, AllocError> {
     let (Some(uid), Some(other), Some(even), Some(odd), Some(all)) = (
         Uid::new(0xE004_0100_0000_00A1),
@@ -25,7 +25,7 @@ fn settle_halves<S: OpenSet>(alloc: Global) -> Result<bool, AllocError> {
     Ok(whole && half && one)
 }
 
-/// Settles a mask but for one UID. Where memory is wanting, no UID is left.
+/// Settles a mask except one UID. If memory is refused, no UID is left.
 fn settle_mask<S: OpenSet>(alloc: Global) -> Result<bool, AllocError> {
     let (Some(uid), Some(other), Some(mask)) = (
         Uid::new(0xE004_0100_0000_00A1),
@@ -49,8 +49,8 @@ pub fn settle_masks<S: OpenSet>(alloc: Global) -> Result<bool, AllocError> {
     Ok(halves && mask)
 }
 
-/// Makes a set of one kind from the ranges of keys that are closed: the UIDs at the second and at the
-/// fourth key of all are left.
+/// Makes a set of one kind from the closed ranges of keys: the UIDs with the second and the fourth
+/// key of all are left.
 pub fn leave_keys<S: OpenSet>(alloc: Global) -> Result<bool, AllocError> {
     let mut closed = Vec::new(alloc);
     closed.push(KeyRange::new(4, (1 << UID_BITS) - 1))?;

@@ -5,7 +5,7 @@ use std::alloc::Global;
 use vic_field::{AddFault, Field, Outcome};
 use vic_frame::{Mask, Uid};
 
-/// Adds a tag, and again where memory was wanting and the tags answer as they did.
+/// Adds a tag, and again if memory was refused and the tags answer as they did.
 fn add_tag(field: &mut Field, all: &Mask, uid: Uid) -> Found {
     let heard = field.answer(all);
     match field.add(uid) {

@@ -62,8 +62,8 @@ pub record BeginsAsCheck (text answer : List ℕ) (status : Status) : Type 0 whe
   pub right : IsCheckOf text line status
   pub answer_is : answer ≡ line ++ more
 
--- the text has a log whose list is whole, of so many UIDs: some population could have given the
--- log, and each that could has exactly the UIDs that it lists; and the same in the words of
+-- the text has a log whose list is complete, with `count` UIDs: some population could have produced
+-- the log, and each that could has exactly the UIDs that it lists; and the same in the words of
 -- version 2
 pub record IsCompleteText (text : List ℕ) (count : ℕ) : Type 0 where
   pub log : LogValue

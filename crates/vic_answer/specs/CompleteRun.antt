@@ -1,10 +1,10 @@
--- What a run of `check`, `explain` or `report` has read that writes `complete`.
+-- What a run of `check`, `explain` or `report` has read if it writes `complete`.
 use Rattle.std.specs.Prelude.{◌≡◌, ℕ, Bool, true, List, ◌++◌, Option, Some, Result, OnOk, codes, decimal}
 use Rattle.std.specs.Io.KnownBytes.{Consumes, IsAtEnd}
 use Rattle.vic_answer.specs.CheckText.{IsCompleteText}
 
--- the source handed out a complete text and has no more, and these are the digits of how many UIDs
--- it lists, and LF
+-- the source returned a complete text and has no more, and `rest` is the number of UIDs that it
+-- lists in digits, and LF
 pub record GivesCompleteText (left left' : Option (List ℕ)) (rest : List ℕ) : Type 0 where
   pub text : List ℕ
   pub given : Consumes left left' text
@@ -13,8 +13,8 @@ pub record GivesCompleteText (left left' : Option (List ℕ)) (rest : List ℕ) 
   pub complete : IsCompleteText text count
   pub told : rest ≡ decimal count ++ codes "\n"
 
--- the source's reads returned a complete text, until one returned none, and these are the digits of
--- how many UIDs it lists, and LF
+-- the source's reads returned a complete text, until one returned none, and `rest` is the number of
+-- UIDs that it lists in digits, and LF
 pub record ReadsCompleteText (returned returned' : List ℕ) (ended : Bool) (rest : List ℕ)
     : Type 0 where
   pub text : List ℕ
@@ -24,14 +24,14 @@ pub record ReadsCompleteText (returned returned' : List ℕ) (ended : Bool) (res
   pub complete : IsCompleteText text count
   pub told : rest ≡ decimal count ++ codes "\n"
 
--- where a run wrote `complete` and a space, and then these bytes, its source handed out such a text
+-- if a run wrote `complete` and a space, and then these bytes, its source returned such a text
 abbrev pub IsCompleteWhereSaid : {A E : Type 0} → Option (List ℕ) → Option (List ℕ)
     → Option (List ℕ) → Option (List ℕ) → Result A E → Type 0
 IsCompleteWhereSaid left left' taken taken' result =
     OnOk result ((before rest : List ℕ) → taken ≡ Some before
     → taken' ≡ Some (before ++ (codes "complete " ++ rest)) → GivesCompleteText left left' rest)
 
--- where a run wrote `complete` and a space, and then these bytes, it has read such a text
+-- if a run wrote `complete` and a space, and then these bytes, it has read such a text
 abbrev pub IsCompleteWhereWritten : {A E : Type 0} → List ℕ → List ℕ → Bool
     → List ℕ → List ℕ → Result A E → Type 0
 IsCompleteWhereWritten returned returned' ended written written' result =

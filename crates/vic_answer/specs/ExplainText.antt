@@ -30,7 +30,7 @@ abbrev pub population_of : Explained → Option (List ℕ)
 population_of (Judged x) = option_map (λ v. v.items) x.population
 population_of (RefusedAt n fault) = None
 
--- the UIDs of its population, none where it has none
+-- the UIDs of its population, none if it has no population
 abbrev pub uids_of : Explained → List ℕ
 uids_of explained = unwrap_or (population_of explained) []
 
@@ -38,7 +38,7 @@ uids_of explained = unwrap_or (population_of explained) []
 abbrev pub population_line : ℕ → List ℕ
 population_line count = codes "population " ++ decimal count ++ codes "\n"
 
--- and which: each on a line, as a log lists it
+-- and which ones: each on a line, as a log lists it
 abbrev pub population_text : Option (List ℕ) → List ℕ
 population_text None = []
 population_text (Some us) = population_line (length us) ++ listed_text us

@@ -1,4 +1,4 @@
--- What a log tells against its list, in numbers: the lines of `report`, one finding after another.
+-- The findings of a log, in numbers: the lines of `report`, one finding after another.
 use Rattle.std.specs.Prelude.{◌≡◌, ℕ, Bool, Option, Some, None, List, [], ◌∷◌, ◌++◌, map, length, if◌then◌else◌}
 use Rattle.vic_frame.specs.Masks.{BitMask}
 use Rattle.vic_report.specs.declared.conflict.Conflict.{Conflict}
@@ -15,7 +15,7 @@ use Rattle.vic_answer.specs.ExplainedNumbers.{IsPutInto}
 use Rattle.vic_answer.specs.Numbers.{numbers_of}
 use Rattle.vic_answer.specs.ReportText.{IsReported, answer_of}
 
--- a finding of a kind, without all that goes with some kinds
+-- a finding of a kind, without what goes with some kinds
 abbrev pub finding : ℕ → VicinityFinding
 finding kind = record {
   kind = kind;
@@ -30,11 +30,11 @@ finding kind = record {
 abbrev pub absent_finding : ShownUid → VicinityFinding
 absent_finding s = record (finding 2) { line = s.line; uid = s.uid }
 
--- a UID that must be there and isn't listed, and the line that tells of it
+-- a UID that must be there and isn't listed, and the line that shows it
 abbrev pub unlisted_finding : ShownUid → VicinityFinding
 unlisted_finding s = record (finding 3) { line = s.line; uid = s.uid }
 
--- the first mask of UIDs that may be there, unlisted
+-- the first mask of UIDs that may be there and aren't listed
 abbrev pub unsettled_finding : BitMask → VicinityFinding
 unsettled_finding m = record (finding 4) { mask_len = m.len; mask_value = m.value }
 
@@ -46,7 +46,7 @@ doubtful_finding u = record (finding 5) { uid = u }
 abbrev pub open_finding : BitMask → VicinityFinding
 open_finding m = record (finding 8) { mask_len = m.len; mask_value = m.value }
 
--- there are more open masks than are given
+-- there are more open masks than are listed
 abbrev pub more_findings : Bool → List VicinityFinding
 more_findings more = if more then finding 9 ∷ [] else []
 
@@ -54,7 +54,7 @@ more_findings more = if more then finding 9 ∷ [] else []
 abbrev pub conflict_finding : ℕ → VicinityFinding
 conflict_finding n = record (finding 10) { line = n }
 
--- what silenced the tag whose reply is the last line of a conflict
+-- the line that silenced the tag whose reply is the last line of a conflict
 abbrev pub silenced_findings : Option ℕ → List VicinityFinding
 silenced_findings None = []
 silenced_findings (Some n) = record (finding 11) { line = n } ∷ []
@@ -71,7 +71,7 @@ possible_findings f =
     map absent_finding f.absent.items ++ map unlisted_finding f.unlisted.items
     ++ unsettled_findings f.unsettled ++ map doubtful_finding f.doubtful.items
 
--- the lines of a conflict, in rising order, and what silenced
+-- the lines of a conflict, in rising order, and the line that silenced its tag
 abbrev pub conflict_findings : Conflict → List VicinityFinding
 conflict_findings c = map conflict_finding c.lines.items ++ silenced_findings c.silenced_by
 
@@ -81,13 +81,13 @@ report_findings (report.Impossible c) = conflict_findings c
 report_findings (report.NotWhole f) = possible_findings f
 report_findings (report.Complete count) = []
 
--- the findings of the answer to a text, none where it is refused
+-- the findings of the answer to a text, none if it is refused
 abbrev pub reported_findings : Reported → List VicinityFinding
 reported_findings (Judged r) = report_findings r
 reported_findings (RefusedAt n fault) = []
 
--- these are the numbers of the answer to a text, so many findings has the report on it, and this is
--- what becomes of the room for them
+-- these are the numbers of the answer to a text, the report on it has `count` findings, and this is
+-- what becomes of the buffer for them
 pub record AreReportedNumbersFor (text : List ℕ) (numbers : VicinityAnswer) (count : ℕ)
     (room room' : List VicinityFinding) : Type 0 where
   pub reported : Reported

@@ -1,4 +1,4 @@
--- What `frame` answers to a word: the word's two readings, or why it is no frame.
+-- What `frame` answers to a word: the word's two readings, or why it isn't a frame.
 use Rattle.std.specs.Prelude.{ℕ, ◌||◌, List, ◌++◌, length, nat_lt, is_ok, codes, decimal, Result, Ok, Err, if◌then◌else◌}
 use Rattle.hex.specs.Hex.{decode_of}
 use Rattle.hex.specs.declared.error.FromHexError.{FromHexError}
@@ -24,7 +24,7 @@ request_line (Ok (StayQuiet link uid)) =
     codes "request stay-quiet link " ++ decimal link ++ codes " uid " ++ uid_text uid ++ codes "\n"
 request_line (Err fault) = codes "request refused " ++ fault_name fault ++ codes "\n"
 
--- the line of a reading as a response
+-- the line of a reading as a reply
 abbrev pub response_line : Result Reply FrameFault → List ℕ
 response_line (Ok r) =
     codes "response flags " ++ hex_bytes 1 r.flags ++ codes " dsfid " ++ hex_bytes 1 r.dsfid
@@ -43,7 +43,7 @@ frame_text word =
     if nat_lt MAX_LINE_LEN (length word) then codes "refused LineTooLong\n"
     else readings_text (decode_of word)
 
--- a word is refused where its bytes have no reading
+-- a word is refused if its bytes have no reading
 abbrev pub readings_status : Result (List ℕ) FromHexError → Status
 readings_status (Ok bytes) =
     if is_ok (request_reading bytes) || is_ok (reply_reading bytes) then Whole else Refused

@@ -9,7 +9,7 @@ use Rattle.vic_answer.specs.CheckText.{IsAnswer, answer_line, answer_status}
 use Rattle.vic_answer.specs.FaultNumbers.{fault_number}
 use Rattle.vic_answer.specs.Status.{status_code}
 
--- none: memory was refused
+-- no answer: memory was refused
 abbrev pub no_answer : VicinityAnswer
 no_answer = record {
   kind = 0;
@@ -34,7 +34,7 @@ kind_of (Judged (Doubtful u)) = record no_answer { kind = 5; uid = u }
 kind_of (Judged (Impossible n)) = record no_answer { kind = 6; line = n }
 kind_of (RefusedAt n f) = record no_answer { kind = 7; line = n; fault = fault_number f }
 
--- a text with zeros behind it, as many bytes in all as the line of an answer has room for
+-- a text with zeros after it: in all, as many bytes as the buffer for an answer's line has
 abbrev pub padded : List ℕ → List ℕ
 padded text = text ++ replicate (LINE_ROOM - length text) 0
 

@@ -4,15 +4,15 @@ use Rattle.vic_log.specs.Device.{HasTakenBut, HasTakenPrefix}
 use Rattle.vic_answer.specs.declared.status.RunFault.{RunFault}
 use Rattle.vic_answer.specs.declared.status.RunFault.TheVariants.{Write}
 
--- a text was put behind the bytes that waited: the sink took them all but those that wait now, or
--- it failed and took a prefix of them
+-- a text was added to the bytes that waited: the sink accepted all of them except those that wait
+-- now, or it failed and accepted a prefix of them
 pub record PutsBehind (taken taken' : Option (List ℕ)) (waiting waiting' text : List ℕ)
     (result : Result ⊤ RunFault) : Type 0 where
   pub told : OnOk result (HasTakenBut taken taken' waiting' (waiting ++ text))
   pub begun : OnErr result (HasTakenPrefix taken taken' (waiting ++ text))
 
--- the same of what the sink tells and of what its writes took, and how it leaves the sink, which is
--- untouched where it had failed before
+-- the same about what the sink reveals and about what its writes accepted, and how it leaves the
+-- sink, which is untouched if it had failed before
 pub record Puts {W : Type 0} (written : W → List ℕ) (taken : W → Option (List ℕ))
     (has_failed : W → Bool) (old new : W)
     (waiting waiting' text : List ℕ) (result : Result ⊤ RunFault) : Type 0 where

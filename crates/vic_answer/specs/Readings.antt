@@ -1,4 +1,4 @@
--- What the bytes give that were read.
+-- What the bytes that were read say.
 use Rattle.std.specs.Prelude.{◌≡◌, ◌⊎◌, ℕ, Bool, true, ⊤, List, Option, Result, Ok, Err}
 use Rattle.std.specs.Io.KnownBytes.{Consumes, IsAtEnd}
 use Rattle.vic_log.specs.Device.{HandsOut, Grows}
@@ -16,12 +16,12 @@ abbrev pub IsReading : List ℕ → Reading → Type 0
 IsReading text (Given log) = IsLogOf (lines_of_text text) log
 IsReading text (RefusedAt n fault) = IsFirstFault (lines_of_text text) n fault
 
--- it stands, whatever follows: nothing does, or no further byte can change the fault
+-- it stands, whatever follows: nothing follows, or no further byte can change the fault
 abbrev pub Stands : Type 0 → List ℕ → Reading → Type 0
 Stands IsOver text (Given log) = IsOver
 Stands IsOver text (RefusedAt n fault) = IsEarlyFault text n fault ⊎ IsOver
 
--- bytes were read, and this is what they give, whatever follows
+-- bytes were read, and this is their reading, whatever follows
 pub record GivesReading (HasRead : List ℕ → Type 0) (IsOver : Type 0) (reading : Reading)
     : Type 0 where
   pub text : List ℕ
@@ -29,7 +29,7 @@ pub record GivesReading (HasRead : List ℕ → Type 0) (IsOver : Type 0) (readi
   pub right : IsReading text reading
   pub stands : Stands IsOver text reading
 
--- the same by the result of reading
+-- the same, by the result of reading
 abbrev pub GivesWhere : (List ℕ → Type 0) → (List ℕ → Type 0) → Type 0
     → Result Reading RunFault → Type 0
 GivesWhere HasRead HadRead IsOver (Ok reading) = GivesReading HasRead IsOver reading
@@ -37,12 +37,12 @@ GivesWhere HasRead HadRead IsOver (Err Read) = GivesNoEarlyFault HadRead
 GivesWhere HasRead HadRead IsOver (Err Memory) = ⊤
 GivesWhere HasRead HadRead IsOver (Err Write) = ⊥
 
--- of the bytes that the source told before and after
+-- about the bytes that the source revealed before and after
 abbrev pub Gives : Option (List ℕ) → Option (List ℕ) → Result Reading RunFault → Type 0
 Gives left left' result =
     GivesWhere (Consumes left left') (HandsOut left left') (IsAtEnd left') result
 
--- of the bytes that the source's reads returned
+-- about the bytes that the source's reads returned
 abbrev pub GivesOver : List ℕ → List ℕ → Bool → Result Reading RunFault → Type 0
 GivesOver returned returned' ended result =
     GivesWhere (Grows returned returned') (Grows returned returned') (ended ≡ true) result

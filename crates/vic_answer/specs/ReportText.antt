@@ -1,5 +1,5 @@
--- What `report` answers to a text: all that its log tells against its list, and the lines that tell
--- it, or the line of a refusal.
+-- What `report` answers to a text: every finding of its log, with its lines, or the line of a
+-- refusal.
 use Rattle.std.specs.Prelude.{◌≡◌, ℕ, Bool, Option, Some, None, List, [], ◌++◌, codes, decimal, if◌then◌else◌}
 use Rattle.std.specs.List.{flat_map}
 use Rattle.vic_frame.specs.Masks.{BitMask}
@@ -44,7 +44,7 @@ by_line n = codes "by line " ++ decimal n ++ codes "\n"
 abbrev pub absent_text : ShownUid → List ℕ
 absent_text s = verdict_line (Absent s.uid) ++ by_line s.line
 
--- a UID that must be there and isn't listed, and the line that tells of it
+-- a UID that must be there and isn't listed, and the line that shows it
 abbrev pub unlisted_text : ShownUid → List ℕ
 unlisted_text s = verdict_line (Unlisted s.uid) ++ by_line s.line
 
@@ -52,7 +52,7 @@ unlisted_text s = verdict_line (Unlisted s.uid) ++ by_line s.line
 abbrev pub open_line : BitMask → List ℕ
 open_line m = codes "open " ++ decimal m.len ++ codes " " ++ value_text m ++ codes "\n"
 
--- there are more than are given
+-- there are more than are listed
 abbrev pub more_line : Bool → List ℕ
 more_line more = if more then codes "more open\n" else []
 
@@ -73,7 +73,7 @@ findings_text f =
     flat_map absent_text f.absent.items ++ flat_map unlisted_text f.unlisted.items
     ++ unsettled_text f.unsettled ++ flat_map doubtful_line f.doubtful.items
 
--- what silenced the tag whose reply is the last line of a conflict
+-- the line that silenced the tag whose reply is the last line of a conflict
 abbrev pub silenced_line : Option ℕ → List ℕ
 silenced_line None = []
 silenced_line (Some n) = codes "silenced " ++ by_line n
@@ -83,7 +83,7 @@ conflict_text c =
     verdict_line (Impossible c.line) ++ flat_map by_line c.lines.items
     ++ silenced_line c.silenced_by
 
--- ---- the whole text
+-- ---- the complete text
 
 abbrev pub report_text : LogReport → List ℕ
 report_text (report.Impossible c) = conflict_text c

@@ -15,12 +15,12 @@ pub record HasEarlyFault (text : List ℕ) : Type 0 where
   pub fault : LineFault
   pub early : IsEarlyFault text line fault
 
--- bytes that can be answered: no more follow, or no further byte can change their fault
+-- bytes that determine the answer: no more follow, or no further byte can change their fault
 abbrev pub IsEnough : Type 0 → List ℕ → Type 0
 IsEnough IsOver text = IsOver ⊎ HasEarlyFault text
 
--- bytes were read that can be answered, and the sink took their answer, with this status, and
--- nothing else
+-- bytes that determine the answer were read, and the sink accepted that answer, with this status,
+-- and nothing else
 pub record Answers (IsAnswerTo : List ℕ → List ℕ → Status → Type 0)
     (HasRead : List ℕ → Type 0) (IsOver : Type 0)
     (taken taken' : Option (List ℕ)) (status : Status) : Type 0 where
@@ -31,7 +31,7 @@ pub record Answers (IsAnswerTo : List ℕ → List ℕ → Status → Type 0)
   pub right : IsAnswerTo text answer status
   pub written : Appends taken taken' answer
 
--- the same, but the sink took a prefix of their answer
+-- the same, but the sink accepted a prefix of the answer
 pub record AnswersInPart (IsAnswerTo : List ℕ → List ℕ → Status → Type 0)
     (HasRead : List ℕ → Type 0) (IsOver : Type 0) (taken taken' : Option (List ℕ))
     : Type 0 where
@@ -43,15 +43,15 @@ pub record AnswersInPart (IsAnswerTo : List ℕ → List ℕ → Status → Type
   pub right : IsAnswerTo text answer status
   pub begun : HasTakenPrefix taken taken' answer
 
--- bytes were read that have no early fault
+-- bytes without an early fault were read
 pub record GivesNoEarlyFault (HasRead : List ℕ → Type 0) : Type 0 where
   pub text : List ℕ
   pub given : HasRead text
   pub none : HasEarlyFault text → ⊥
 
--- what a run read and wrote, by its result: the answer is out, or a prefix of it where the sink
--- failed; where the source failed there was none yet to give. What it means that bytes were read,
--- also where the source has failed, and that no more follow, is said below in two ways
+-- what a run read and wrote, by its result: the answer was written, or a prefix of it if the sink
+-- failed; if the source failed, there was no answer yet. What it means that bytes were read, even
+-- if the source has failed, and that no more follow, is said below in two ways
 abbrev pub RunsWhere : (List ℕ → List ℕ → Status → Type 0)
     → (List ℕ → Type 0) → (List ℕ → Type 0) → Type 0
     → Option (List ℕ) → Option (List ℕ) → Result Status RunFault → Type 0
@@ -62,7 +62,8 @@ RunsWhere IsAnswerTo HasRead HadRead IsOver taken taken' (Err Write) =
 RunsWhere IsAnswerTo HasRead HadRead IsOver taken taken' (Err Read) = GivesNoEarlyFault HadRead
 RunsWhere IsAnswerTo HasRead HadRead IsOver taken taken' (Err Memory) = ⊤
 
--- over the bytes that the source told before and after, and the sink: nothing where they tell none
+-- over the bytes that the source and the sink revealed before and after; this says nothing if they
+-- reveal none
 abbrev pub Runs : (List ℕ → List ℕ → Status → Type 0)
     → Option (List ℕ) → Option (List ℕ) → Option (List ℕ) → Option (List ℕ)
     → Result Status RunFault → Type 0
@@ -71,7 +72,7 @@ Runs IsAnswerTo left left' taken taken' result =
     taken taken' result
 
 -- over the bytes that the source's reads returned, until one returned none, and that the sink's
--- writes took: for every source and sink
+-- writes accepted: for every source and sink
 abbrev pub RunsOver : (List ℕ → List ℕ → Status → Type 0)
     → List ℕ → List ℕ → Bool → List ℕ → List ℕ
     → Result Status RunFault → Type 0
@@ -79,8 +80,8 @@ RunsOver IsAnswerTo returned returned' ended written written' result =
     RunsWhere IsAnswerTo (Grows returned returned') (Grows returned returned') (ended ≡ true)
     (Some written) (Some written') result
 
--- how a run leaves its source: failed exactly where the result is `Read`, and untouched where it
--- had failed before
+-- how a run leaves its source: failed if and only if the result is `Read`, and untouched if it had
+-- failed before
 pub record LeavesSource {R : Type 0} (reads : R → ℕ) (has_failed : R → Bool)
     (old new : R) (result : Result Status RunFault) : Type 0 where
   pub works : OnOk result (has_failed new ≡ false)
@@ -88,8 +89,8 @@ pub record LeavesSource {R : Type 0} (reads : R → ℕ) (has_failed : R → Boo
   pub untouched : has_failed old ≡ true → new ≡ old
   pub at_most : reads new ≤ reads old + MAX_READS
 
--- how a run leaves its sink: all handed on where it ended with a status, failed where the result is
--- `Write`, untouched at any other fault and where it had failed before
+-- how a run leaves its sink: flushed if the run ended with a status, failed if the result is
+-- `Write`, untouched at any other fault and if it had failed before
 pub record LeavesSink {W : Type 0} (is_flushed has_failed : W → Bool)
     (old new : W) (result : Result Status RunFault) : Type 0 where
   pub flushed : OnOk result (is_flushed new ≡ true)
@@ -98,8 +99,8 @@ pub record LeavesSink {W : Type 0} (is_flushed has_failed : W → Bool)
   pub unwritten : IfErr result (λ e. e ≢ Write → new ≡ old)
   pub untouched : has_failed old ≡ true → new ≡ old
 
--- a sink took a text and handed it on, or failed and took a prefix of it; it is untouched where it
--- had failed before
+-- a sink accepted a text and flushed it, or failed and accepted a prefix of it; it is untouched if
+-- it had failed before
 pub record Writes {W A : Type 0} (written : W → List ℕ) (taken : W → Option (List ℕ))
     (is_flushed has_failed : W → Bool) (old new : W)
     (text : List ℕ) (result : Result A RunFault) : Type 0 where

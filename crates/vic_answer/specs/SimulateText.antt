@@ -15,8 +15,8 @@ use Rattle.vic_answer.specs.declared.simulate.Simulated.{Simulated}
 use Rattle.vic_answer.specs.declared.simulate.Simulated.TheVariants.{Filled, RefusedAt, OutcomeGiven, TooManyLines}
 
 -- what becomes of a text: its log with the slots filled in, of the same version; or its first
--- fault; or why its log can't be filled in: it tells of a slot already, or no slot line is there
--- and a line above the last that a log has would be needed
+-- fault; or why its log can't be filled in: it has a slot line already, or it has none and would
+-- need more lines than a log may have
 abbrev pub IsSimulated : List ℕ → Simulated → Type 0
 IsSimulated text (Filled log) =
     (given : LogValue) × IsLogOf (lines_of_text text) given × IsSimulation given.lines log.lines

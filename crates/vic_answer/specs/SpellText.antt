@@ -1,5 +1,5 @@
--- What `spell` answers to words: the frame that `frame` says by these words, or why there is none.
--- The first word that doesn't fit says why.
+-- What `spell` answers to words: the frame that `frame` describes by these words, or why there is
+-- none. The first word that doesn't fit decides.
 use Rattle.std.specs.Prelude.{ℕ, ◌-◌, ◌^◌, ◌%◌, ◌==◌, ◌&&◌, Bool, true, false, List, [], ◌∷◌, ◌++◌, length, replicate, slice_index_or, bytes_eq, nat_le, nat_lt, codes, decimal, Result, Ok, Err, if◌then◌else◌, ⊤}
 use Rattle.std.specs.Int.{from_be_bytes, w64}
 use Rattle.std.specs.Str.Parse.{digits_value}
@@ -37,23 +37,23 @@ reply_words r =
     codes "response" ∷ codes "flags" ∷ hex_bytes 1 r.flags ∷ codes "dsfid" ∷ hex_bytes 1 r.dsfid
     ∷ codes "uid" ∷ uid_text r.uid ∷ []
 
--- words on a line, with a space between each two
+-- words on a line, separated by spaces
 abbrev pub line_of : List (List ℕ) → List ℕ
 line_of [] = codes "\n"
 line_of (w ∷ []) = w ++ codes "\n"
 line_of (w ∷ v ∷ words) = w ++ codes " " ++ line_of (v ∷ words)
 
--- the second reading where the first is no fault
+-- the second reading, unless the first is a fault
 abbrev pub and_then : {A B : Type 0}
     → Result A SpellFault → (A → Result B SpellFault) → Result B SpellFault
 and_then (Ok x) f = f x
 and_then (Err e) f = Err e
 
--- the word at a place, counted from 0; there is none past the last
+-- the word at an index, counted from 0; there is none after the last
 abbrev pub word : List (List ℕ) → ℕ → List ℕ
 word words i = slice_index_or words i []
 
--- a number below 2^64 where the word writes it in decimal
+-- a number below 2^64, if the word writes it in decimal
 abbrev pub decimal_of : ℕ → List ℕ → Result ℕ SpellFault
 decimal_of n w = if nat_lt n (2 ^ 64) && bytes_eq (decimal n) w then Ok n else Err Words
 
@@ -61,16 +61,16 @@ decimal_of n w = if nat_lt n (2 ^ 64) && bytes_eq (decimal n) w then Ok n else E
 abbrev pub number_in : List ℕ → Result ℕ SpellFault
 number_in w = decimal_of (digits_value 10 w) w
 
--- the same, up to a greatest one
+-- the same, up to a maximum
 abbrev pub number_up_to : ℕ → List ℕ → Result ℕ SpellFault
 number_up_to most w =
     and_then (number_in w) (λ n. if nat_le n most then Ok n else Err Range)
 
--- a number where the word writes its last so many bytes in hex digits, in upper case
+-- a number, if the word writes its last `count` bytes in upper-case hex digits
 abbrev pub hex_of : ℕ → ℕ → List ℕ → Result ℕ SpellFault
 hex_of count n w = if bytes_eq (hex_bytes count n) w then Ok n else Err Words
 
--- the number with these last bytes, at most eight, the most significant first
+-- the number with these last bytes, at most eight, most significant first
 abbrev pub number_ending : List ℕ → ℕ
 number_ending bytes = from_be_bytes w64 (replicate (8 - length bytes) 0 ++ bytes)
 
@@ -78,7 +78,7 @@ abbrev pub hex_decoded : ℕ → List ℕ → Result (List ℕ) FromHexError →
 hex_decoded count w (Ok bytes) = hex_of count (number_ending bytes) w
 hex_decoded count w (Err e) = Err Words
 
--- the number that a word writes as so many bytes
+-- the number that a word writes as `count` bytes
 abbrev pub hex_number_in : ℕ → List ℕ → Result ℕ SpellFault
 hex_number_in count w = hex_decoded count w (decode_sized w count)
 
@@ -92,7 +92,7 @@ sixteen_in w =
 abbrev pub longest_mask : Bool → ℕ
 longest_mask sixteen = if sixteen then MAX_MASK_LEN_OF_SIXTEEN else MAX_MASK_LEN
 
--- the value of a mask of so many bits, `-` where it has none
+-- the value of a mask of `len` bits, `-` if it has none
 abbrev pub value_in : ℕ → List ℕ → Result ℕ SpellFault
 value_in len w =
     if len == 0 then (if bytes_eq w (codes "-") then Ok 0 else Err Words)
@@ -159,12 +159,12 @@ words_reading words =
     (word words 2) (word words 4) (word words 6)) (λ r. Ok (Replied r))
     else Err Words
 
--- a request has a frame where it is valid; each reply has one
+-- a request has a frame if it is valid; each reply has one
 abbrev pub IsSendable : Said → Type 0
 IsSendable (Asked q) = IsValid q
 IsSendable (Replied r) = ⊤
 
--- the words that `frame` writes of it
+-- the words that `frame` writes for it
 abbrev pub words_of : Said → List (List ℕ)
 words_of (Asked q) = request_words q
 words_of (Replied r) = reply_words r

@@ -1,4 +1,4 @@
--- How a run's end is told.
+-- How the end of a run is reported.
 use Rattle.std.specs.Prelude.{ℕ, List, codes}
 use Rattle.vic_answer.specs.declared.status.Status.{Status}
 use Rattle.vic_answer.specs.declared.status.Status.TheVariants.{Whole, NotWhole, Impossible, Refused}

@@ -17,7 +17,7 @@ use std::alloc::{AllocError, Global};
 use vic_log::{LineFault, LogFault, Sink, Source, read_log};
 use vic_verdict::{Verdict, judge};
 
-/// What is answered to a text.
+/// The answer to a text.
 #[derive(Clone, Copy, Debug, PartialEq, Eq)]
 pub enum Answer {
     /// It has a log, and this is the verdict on it.
@@ -26,10 +26,10 @@ pub enum Answer {
     RefusedAt { line: u32, fault: LineFault },
 }
 
-/// The answer to a whole text. It is refused for want of memory alone.
+/// The answer to a complete text. It fails only if memory is refused.
 pub fn judge_text(alloc: Global, text: &[u8]) -> Result<Answer, AllocError>
     ensures answer { IfOk result (IsAnswer text.now) }
-    // where it is `complete`, the list of the log is whole and so long
+    // if it is `complete`, the list of the log is complete and has `count` UIDs
     ensures whole { IfOk result (λ a. (count : ℕ) → a ≡ Answer.Judged (Complete count)
         → IsCompleteText text.now count) }
 {
@@ -41,10 +41,10 @@ pub fn judge_text(alloc: Global, text: &[u8]) -> Result<Answer, AllocError>
     }
 }
 
-/// Judges the log that a source hands out, writes the answer's one line and flushes it. The status
-/// is the answer's. It reads to the end, or to the first fault of a line that no further byte can
-/// change. `Read` where the source has failed, `Memory` where memory was refused: nothing is
-/// written then. `Write` where the sink has failed: a prefix of the line may be out.
+/// Judges the log that is read from a source, writes the one line of the answer and flushes it. The
+/// status is that of the answer. It reads to the end, or to the first fault of a line that no
+/// further byte can change. `Read` if the source has failed, `Memory` if memory was refused: then
+/// nothing is written. `Write` if the sink has failed: a prefix of the line may have been written.
 pub fn run_check<R: Source, W: Sink>(
     alloc: Global,
     source: &mut R,
@@ -52,13 +52,14 @@ pub fn run_check<R: Source, W: Sink>(
 ) -> Result<Status, RunFault>
     ensures answer { Runs IsCheckOf (R.left source.old) (R.left source.new)
         (W.taken sink.old) (W.taken sink.new) result }
-    // the same over the bytes that the reads returned and the writes took, whatever these tell
+    // the same over the bytes that the reads returned and the writes accepted, whatever source and
+    // sink reveal
     ensures bytes { RunsOver IsCheckOf (R.returned source.old) (R.returned source.new)
         (R.ended source.new) (W.written sink.old) (W.written sink.new) result }
-    // where it wrote `complete N`, the list of the log is whole and N long
+    // if it wrote `complete N`, the list of the log is complete and has N UIDs
     ensures whole { IsCompleteWhereSaid (R.left source.old) (R.left source.new)
         (W.taken sink.old) (W.taken sink.new) result }
-    // and so where source and sink tell nothing
+    // and even if source and sink reveal nothing
     ensures complete { IsCompleteWhereWritten (R.returned source.old) (R.returned source.new)
         (R.ended source.new) (W.written sink.old) (W.written sink.new) result }
     ensures leaves_source { LeavesSource R.reads R.has_failed source.old source.new result }

@@ -21,7 +21,7 @@ use vic_frame::Uid;
 use vic_log::{LineFault, LogFault, Sink, Source, read_log, write_listed};
 use vic_verdict::{Explanation, explain};
 
-/// What is answered to a text, with a population that shows it, where one can.
+/// The answer to a text, with a population that shows it, if one can.
 #[derive(Drop)]
 pub enum Explained {
     /// It has a log, and this is the verdict on it with a population that shows it.
@@ -30,12 +30,12 @@ pub enum Explained {
     RefusedAt { line: u32, fault: LineFault },
 }
 
-/// The answer to a whole text, with a population that shows it, where one can. It is refused for
-/// want of memory alone.
+/// The answer to a complete text, with a population that shows it, if one can. It fails only if
+/// memory is refused.
 pub fn explain_text(alloc: Global, text: &[u8]) -> Result<Explained, AllocError>
     ensures explained { IfOk result (IsExplained text.now) }
     ensures answer { IfOk result (λ e. IsAnswer text.now (answer_of e)) }
-    // where it is `complete`, the list of the log is whole and so long
+    // if it is `complete`, the list of the log is complete and has `count` UIDs
     ensures whole { IfOk result (λ e. (count : ℕ)
         → answer_of e ≡ Answer.Judged (Complete count) → IsCompleteText text.now count) }
 {
@@ -60,7 +60,7 @@ pub fn answer_of(explained: &Explained) -> Answer
     }
 }
 
-/// The UIDs of an answer's population, none where it has none.
+/// The UIDs of an answer's population, none if it has no population.
 pub(crate) fn uids_of(explained: &Explained) -> &[Uid]
     ensures { result.now ≡ uids_of explained.now }
 {
@@ -72,12 +72,12 @@ pub(crate) fn uids_of(explained: &Explained) -> &[Uid]
     &[]
 }
 
-/// Judges the log that a source hands out and writes the line of `check`; where a population can
+/// Judges the log that is read from a source and writes the line of `check`; if a population can
 /// show the verdict, also `population N` and its N UIDs, each on a line as a log lists it, in
 /// rising order; and flushes. The status is that of `check`. It reads to the end, or to the first
-/// fault of a line that no further byte can change. `Read` where the source has failed, `Memory`
-/// where memory was refused: nothing is written then. `Write` where the sink has failed: a prefix
-/// of the text may be out.
+/// fault of a line that no further byte can change. `Read` if the source has failed, `Memory` if
+/// memory was refused: then nothing is written. `Write` if the sink has failed: a prefix of the
+/// text may have been written.
 pub fn run_explain<R: Source, W: Sink>(
     alloc: Global,
     source: &mut R,
@@ -85,13 +85,14 @@ pub fn run_explain<R: Source, W: Sink>(
 ) -> Result<Status, RunFault>
     ensures answer { Runs IsExplanationOf (R.left source.old) (R.left source.new)
         (W.taken sink.old) (W.taken sink.new) result }
-    // the same over the bytes that the reads returned and the writes took, whatever these tell
+    // the same over the bytes that the reads returned and the writes accepted, whatever source and
+    // sink reveal
     ensures bytes { RunsOver IsExplanationOf (R.returned source.old) (R.returned source.new)
         (R.ended source.new) (W.written sink.old) (W.written sink.new) result }
-    // where it wrote `complete N`, the list of the log is whole and N long
+    // if it wrote `complete N`, the list of the log is complete and has N UIDs
     ensures whole { IsCompleteWhereSaid (R.left source.old) (R.left source.new)
         (W.taken sink.old) (W.taken sink.new) result }
-    // and so where source and sink tell nothing
+    // and even if source and sink reveal nothing
     ensures complete { IsCompleteWhereWritten (R.returned source.old) (R.returned source.new)
         (R.ended source.new) (W.written sink.old) (W.written sink.new) result }
     ensures leaves_source { LeavesSource R.reads R.has_failed source.old source.new result }
@@ -125,7 +126,7 @@ fn write_explained<W: Sink>(explained: &Explained, sink: &mut W) -> Result<Statu
     }
 }
 
-/// What stands before the UIDs.
+/// What comes before the UIDs.
 fn opening(explained: &Explained) -> Text
     ensures { result.items ++ listed_text (uids_of explained.now) ≡ explained_text explained.now }
 {

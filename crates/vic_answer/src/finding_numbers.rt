@@ -1,4 +1,4 @@
-//! What a log tells against its list, in numbers.
+//! The findings of a log, in numbers.
 
 ghost use Rattle.std.specs.Prelude.{◌≡◌, ◌≤◌, ◌++◌, IfOk, OnOk, length, drop, map};
 ghost use Rattle.vic_answer.specs.ExplainedNumbers.{IsPutInto};
@@ -23,31 +23,31 @@ pub enum FindingKind {
     SilencedBy = 11,
 }
 
-/// A finding in numbers. What the kind does not speak of is 0.
+/// A finding in numbers. Fields that the kind doesn't use are 0.
 ///
 /// | `kind` | finding | it has |
 /// |---|---|---|
 /// | 2 | absent | `uid`, and the `line` that rules it out |
-/// | 3 | unlisted | `uid`, and the `line` that tells of it |
+/// | 3 | unlisted | `uid`, and the `line` that shows it |
 /// | 4 | unsettled | `mask_len`, `mask_value` |
 /// | 5 | doubtful | `uid` |
 /// | 8 | an open mask | `mask_len`, `mask_value` |
-/// | 9 | more open masks than are given | |
+/// | 9 | more open masks than are listed | |
 /// | 10 | a line of a conflict | `line` |
-/// | 11 | what silenced a tag that replies | `line` |
+/// | 11 | what silenced the tag of a conflict | `line` |
 #[repr(C)]
 #[derive(Clone, Copy, Debug, PartialEq, Eq)]
 pub struct VicinityFinding {
     pub kind: u32,
     pub line: u32,
     pub mask_len: u32,
-    /// 0 in each kind; so no byte of the struct is padding.
+    /// 0 in each kind, so that no byte of the struct is padding.
     pub zero: u32,
     pub mask_value: u64,
     pub uid: u64,
 }
 
-/// What no kind has.
+/// A finding of no kind.
 const NO_FINDING: VicinityFinding = VicinityFinding {
     kind: 0,
     line: 0,
@@ -57,8 +57,8 @@ const NO_FINDING: VicinityFinding = VicinityFinding {
     uid: 0,
 };
 
-/// The findings of the answer to a text, in the order of the lines of `report`: none where the
-/// answer is complete or a refusal.
+/// The findings of the answer to a text, in the order of the lines of `report`: none if the answer
+/// is complete or a refusal.
 pub fn findings_of(alloc: Global, reported: &Reported) -> Result<Vec<VicinityFinding>, AllocError>
     ensures { IfOk result (λ list. list.items ≡ spec.reported_findings reported.now) }
 {
@@ -73,7 +73,7 @@ pub fn findings_of(alloc: Global, reported: &Reported) -> Result<Vec<VicinityFin
     Ok(list)
 }
 
-/// Puts findings at the front of a room, where it has enough room.
+/// Puts findings at the start of a buffer, if they fit.
 pub fn put_findings(findings: &[VicinityFinding], room: &mut [VicinityFinding])
     ensures { IsPutInto findings.now room.old room.new }
 {
@@ -82,7 +82,7 @@ pub fn put_findings(findings: &[VicinityFinding], room: &mut [VicinityFinding])
     }
 }
 
-/// Adds the lines of a conflict, and what silenced its tag.
+/// Adds the lines of a conflict, and the line that silenced its tag.
 fn push_conflict(list: &mut Vec<VicinityFinding>, conflict: &Conflict) -> Result<(), AllocError>
     ensures { OnOk result (list.new.items
         ≡ list.old.items ++ spec.conflict_findings conflict.now) }
@@ -180,7 +180,7 @@ fn absent_finding(shown: ShownUid) -> VicinityFinding
     }
 }
 
-/// A UID that must be there and isn't listed, with the line that tells of it.
+/// A UID that must be there and isn't listed, with the line that shows it.
 fn unlisted_finding(shown: ShownUid) -> VicinityFinding
     ensures { result ≡ spec.unlisted_finding shown }
 {

@@ -13,9 +13,9 @@ use arrayvec::ArrayVec;
 use vic_frame::{read_request, read_response};
 use vic_log::{MAX_LINE_LEN, Sink};
 
-/// Writes the two readings of a word of hex digits, as a request and as a response, or why it is no
-/// frame, and flushes. A word is at most as long as a line of a log. `Write` where the sink has
-/// failed: a prefix may be out. It takes no memory.
+/// Writes the two readings of a word of hex digits, as a request and as a reply, or why it isn't a
+/// frame, and flushes. A word is at most as long as a line of a log. `Write` if the sink has
+/// failed: a prefix may have been written. It allocates no memory.
 pub fn run_frame<W: Sink>(word: &[u8], sink: &mut W) -> Result<Status, RunFault>
     ensures status { IfOk result (λ s. s ≡ frame_status word.now) }
     ensures written { Writes W.written W.taken W.is_flushed W.has_failed
@@ -26,7 +26,7 @@ pub fn run_frame<W: Sink>(word: &[u8], sink: &mut W) -> Result<Status, RunFault>
     Ok(status)
 }
 
-/// What is answered to a word.
+/// The answer to a word.
 fn answer(word: &[u8]) -> (Text, Status)
     ensures text { result.0.items ≡ frame_text word.now }
     ensures status { result.1 ≡ frame_status word.now }
@@ -38,7 +38,7 @@ fn answer(word: &[u8]) -> (Text, Status)
     }
 }
 
-/// What is answered to a word that is short enough.
+/// The answer to a word that is short enough.
 fn decoded(word: &[u8]) -> (Text, Status)
     requires { length word.now ≤ MAX_LINE_LEN }
     ensures text { result.0.items ≡ readings_text (decode_of word.now) }
@@ -51,7 +51,7 @@ fn decoded(word: &[u8]) -> (Text, Status)
     readings(&room[..count])
 }
 
-/// The bytes that hex digits spell, at the front of some room, and how many they are.
+/// Puts the bytes that hex digits spell at the start of a buffer, and returns how many there are.
 fn decode(digits: &[u8], room: &mut [u8]) -> Option<usize>
     requires { length digits.now ≤ 2 * length room.old }
     ensures { MatchResult (decode_of digits.now)

@@ -1,4 +1,4 @@
-//! How a log comes in.
+//! How a log is read.
 
 ghost use Rattle.std.specs.Prelude.{◌≡◌, ◌≢◌, ◌↔◌, ◌≤◌, ◌+◌, true, false, IfErr, OnOk};
 ghost use Rattle.vic_answer.specs.Readings.{Gives, GivesOver};
@@ -7,18 +7,17 @@ use crate::status::RunFault;
 use std::alloc::Global;
 use vic_log::{LineFault, Log, LogFault, LogReader, MAX_READS, Source};
 
-/// What the bytes that a source hands out give.
+/// What the bytes of a source say.
 #[derive(Drop)]
 pub(crate) enum Reading {
-    /// They are all its bytes, and this is their log.
+    /// All its bytes were read, and this is their log.
     Given(Log),
-    /// A line of them has a fault, and this is the first.
+    /// A line has a fault, and this is the first fault.
     RefusedAt { line: u32, fault: LineFault },
 }
 
-/// Reads the log that a source hands out, to its end or to the first fault of a line. `Read` where
-/// the source has failed; one that had failed before is not read. `Memory` where memory was
-/// refused.
+/// Reads the log from a source, to its end or to the first fault of a line. `Read` if the source
+/// has failed; one that had failed before isn't read. `Memory` if memory was refused.
 pub(crate) fn read_source<R: Source>(alloc: Global, source: &mut R) -> Result<Reading, RunFault>
     ensures reading { Gives (R.left source.old) (R.left source.new) result }
     ensures bytes { GivesOver (R.returned source.old) (R.returned source.new)

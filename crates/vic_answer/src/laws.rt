@@ -1,4 +1,4 @@
-//! Laws on what is answered.
+//! Laws about answers.
 
 ghost use Rattle.std.specs.Prelude.{◌≡◌, ℕ, ◌++◌, List, Ok, codes};
 ghost use Rattle.hex.specs.Hex.{encode_upper};
@@ -22,9 +22,9 @@ ghost use Rattle.vic_log.specs.Text.{IsLogOf};
 
 use vic_log::laws::text_reads_back;
 
-/// `spell` and `frame` are inverse: what `frame` reads in some bytes goes, by the words of its
-/// line, back to these bytes; and words that `spell` takes are the words of `frame`'s line for what
-/// it spells.
+/// `spell` and `frame` are inverse: the words of the line that `frame` writes for some bytes spell
+/// these bytes again; and words that `spell` accepts are the words of `frame`'s line for what they
+/// spell.
 pub fn spell_undoes_frame()
     ensures request { (f : List ℕ) (q : Request) → AreBytes f → request_reading f ≡ Ok q
         → spell_text (request_words q) ≡ encode_upper f ++ codes "\n" }
@@ -36,8 +36,8 @@ pub fn spell_undoes_frame()
         → words_reading words ≡ Ok what → words ≡ words_of what }
 {}
 
-/// The first line and the status of what `explain` and `report` answer to a text are those of
-/// `check`.
+/// The answers of `explain` and `report` to a text begin with the line of `check` and have its
+/// status.
 pub fn answers_begin_as_check()
     ensures explain { (text answer : List ℕ) (status : Status)
         → IsExplanationOf text answer status → BeginsAsCheck text answer status }
@@ -45,8 +45,8 @@ pub fn answers_begin_as_check()
         → IsReportOf text answer status → BeginsAsCheck text answer status }
 {}
 
-/// What `simulate` writes with status `Whole` is the text of a log. So the header alone is never
-/// answered by a slot line.
+/// What `simulate` writes with status `Whole` is the text of a log. So a log with only the header
+/// is never answered with a slot line.
 pub fn simulation_is_a_log()
     ensures { (text answer : List ℕ) → IsSimulationOf text answer Whole
         → (log : LogValue) × IsLogOf (lines_of_text answer) log }

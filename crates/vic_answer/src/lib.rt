@@ -1,5 +1,5 @@
-//! What is answered to the text of a log, or to a frame: the answer, its text and its status, and
-//! the runs that read the one and write the other.
+//! The answer to the text of a log, or to a frame: what it is, its text and its status, and the
+//! runs that read the one and write the other.
 #![tactic(auto)]
 
 mod check;

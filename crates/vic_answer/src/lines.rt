@@ -13,7 +13,7 @@ use vic_frame::{FrameFault, Mask, Request, Response};
 use vic_log::LineFault;
 use vic_verdict::Verdict;
 
-/// The room for the line of an answer: 45 bytes at most, and a zero.
+/// The size of the buffer for an answer's line: at most 45 bytes, and a zero.
 pub const LINE_ROOM: usize = 64;
 
 /// The line of a reading as a request.
@@ -50,7 +50,7 @@ pub(crate) fn request_line(reading: &Result<Request, FrameFault>) -> Text
     text
 }
 
-/// The line of a reading as a response.
+/// The line of a reading as a reply.
 pub(crate) fn response_line(reading: &Result<Response, FrameFault>) -> Text
     ensures items { result.items ≡ spec.response_line reading.now }
     ensures len { 2 * array_vec_len result ≤ TEXT_ROOM }
@@ -112,7 +112,7 @@ pub(crate) fn verdict_line(verdict: &Verdict) -> Text
     text
 }
 
-/// Puts the line at the end that names a line of the log.
+/// Appends the line that names a line of the log.
 pub(crate) fn put_by_line(text: &mut Text, line: u32)
     requires { array_vec_len text.old < LINE_ROOM }
     ensures { text.new.items ≡ text.old.items ++ report.by_line line }
@@ -131,7 +131,7 @@ pub(crate) fn by_line(line: u32) -> Text
     text
 }
 
-/// The line of what silenced a tag, if it is known.
+/// The line that names the line that silenced a tag, if there is one.
 pub(crate) fn silenced_line(line: Option<u32>) -> Text
     ensures { result.items ≡ report.silenced_line line }
 {
@@ -156,7 +156,7 @@ pub(crate) fn open_line(mask: &Mask) -> Text
     text
 }
 
-/// The line that says that there are more open masks, where there are.
+/// The line that says that there are more open masks, if there are.
 pub(crate) fn more_line(more: bool) -> Text
     ensures { result.items ≡ report.more_line more }
 {
@@ -167,7 +167,7 @@ pub(crate) fn more_line(more: bool) -> Text
     text
 }
 
-/// The line of a refusal, by a reason with a name.
+/// The line of a refusal, for a reason with a name.
 pub(crate) fn refused_at(line: u32, name: &str) -> Text
     requires { length name.now ≤ 16 }
     ensures items { result.items ≡ refusals.refused_at line name.now }
@@ -182,7 +182,7 @@ pub(crate) fn refused_at(line: u32, name: &str) -> Text
     text
 }
 
-/// The line of a refusal, by the fault of a line.
+/// The line of a refusal, for the fault of a line.
 pub(crate) fn refusal_line(line: u32, fault: &LineFault) -> Text
     ensures items { result.items ≡ refusals.refusal_line line fault.now }
     ensures len { array_vec_len result < LINE_ROOM }

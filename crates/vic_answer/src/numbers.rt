@@ -13,7 +13,7 @@ use vic_verdict::Verdict;
 /// What an answer in numbers is.
 #[derive(Clone, Copy, Debug, PartialEq, Eq)]
 pub enum Kind {
-    /// None: memory was refused.
+    /// No answer: memory was refused.
     NoAnswer = 0,
     Complete = 1,
     Absent = 2,
@@ -24,7 +24,7 @@ pub enum Kind {
     Refused = 7,
 }
 
-/// What is answered to a text, in numbers. What the kind does not speak of is 0.
+/// The answer to a text, in numbers. Fields that the kind doesn't use are 0.
 ///
 /// | `kind` | answer | `status` | it has |
 /// |---|---|---|---|
@@ -48,7 +48,7 @@ pub struct VicinityAnswer {
     pub mask_len: u32,
     pub mask_value: u64,
     pub uid: u64,
-    /// The line that the program writes, LF included, with zeros behind it.
+    /// The line that the program writes, LF included, with zeros after it.
     pub text: [u8; LINE_ROOM],
 }
 
@@ -110,7 +110,7 @@ fn kind_of(answer: &Answer) -> VicinityAnswer
     }
 }
 
-/// A text with zeros behind it, one at least.
+/// A text with zeros after it, at least one.
 fn padded(text: &[u8]) -> [u8; LINE_ROOM]
     requires { length text.now < LINE_ROOM }
     ensures { result ≡ spec.padded text.now }
@@ -120,7 +120,7 @@ fn padded(text: &[u8]) -> [u8; LINE_ROOM]
     room
 }
 
-/// The line of an answer, with zeros behind it.
+/// The line of an answer, with zeros after it.
 fn padded_line(answer: &Answer) -> [u8; LINE_ROOM]
     ensures { result ≡ spec.padded (answer_line answer.now) }
 {

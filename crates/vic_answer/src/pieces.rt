@@ -1,4 +1,4 @@
-//! How a long text goes out: in pieces, which wait until there is enough for a write.
+//! How a long text is written: in pieces, which wait until there is enough for a write.
 
 ghost use Rattle.std.specs.Prelude.{◌≡◌, List, ℕ};
 ghost use Rattle.std.specs.List.{flat_map};
@@ -9,10 +9,10 @@ use crate::text::Text;
 use arrayvec::ArrayVec;
 use vic_log::{Sink, WRITTEN_AT_ONCE, write_whole};
 
-/// Bytes that wait for one write.
+/// Bytes that wait to be written at once.
 pub(crate) type Piece = ArrayVec<u8, WRITTEN_AT_ONCE>;
 
-/// Puts a text behind what waits, which is written first where it leaves the text no room.
+/// Adds a text to the bytes that wait; these are written first if the text doesn't fit.
 pub(crate) fn put_text<W: Sink>(
     piece: &mut Piece,
     sink: &mut W,
@@ -33,7 +33,7 @@ pub(crate) fn put_text<W: Sink>(
     Ok(())
 }
 
-/// Puts the text of each item behind what waits.
+/// Adds the text of each item to the bytes that wait.
 pub(crate) fn put_each<W: Sink, T: Copy, F: Fn(T) -> Text>(
     piece: &mut Piece,
     sink: &mut W,

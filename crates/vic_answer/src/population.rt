@@ -1,4 +1,4 @@
-//! The population of an explained answer in a room of the caller.
+//! The population of an explained answer in a buffer of the caller.
 
 ghost use Rattle.std.specs.Prelude.{◌≡◌, ◌≤◌, ◌++◌, length, drop};
 ghost use Rattle.vic_answer.specs.ExplainText.{uids_of};
@@ -7,8 +7,8 @@ ghost use Rattle.vic_answer.specs.ExplainedNumbers.{IsPutInto};
 use crate::explain::{Explained, uids_of};
 use vic_frame::Uid;
 
-/// Puts the UIDs of an answer's population at the front of a room, in rising order, where it has
-/// enough room, and gives how many they are: 0 where it has no population.
+/// Puts the UIDs of an answer's population at the start of a buffer, in rising order, if they fit,
+/// and returns how many there are: 0 if it has no population.
 pub fn put_population(explained: &Explained, room: &mut [u64]) -> usize
     ensures count { result ≡ length (uids_of explained.now) }
     ensures put { IsPutInto (uids_of explained.now) room.old room.new }
@@ -20,7 +20,7 @@ pub fn put_population(explained: &Explained, room: &mut [u64]) -> usize
     uids.len()
 }
 
-/// Puts UIDs at the front of a room.
+/// Puts UIDs at the start of a buffer.
 fn put_uids(uids: &[Uid], room: &mut [u64])
     requires { length uids.now ≤ length room.old }
     ensures { room.new ≡ uids.now ++ drop (length uids.now) room.old }

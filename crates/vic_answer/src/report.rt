@@ -21,8 +21,7 @@ use std::alloc::{AllocError, Global};
 use vic_log::{LineFault, LogFault, Sink, Source, read_log};
 use vic_report::{LogReport, report};
 
-/// What is answered to a text, with all that its log tells against its list and the lines that tell
-/// it.
+/// The answer to a text, with every finding of its log and its lines.
 #[derive(Drop)]
 pub enum Reported {
     /// It has a log, and this is the report on it.
@@ -31,12 +30,12 @@ pub enum Reported {
     RefusedAt { line: u32, fault: LineFault },
 }
 
-/// The answer to a whole text, with all that its log tells against its list and the lines that tell
-/// it. It is refused for want of memory alone.
+/// The answer to a complete text, with every finding of its log and its lines. It fails only if
+/// memory is refused.
 pub fn report_text(alloc: Global, text: &[u8]) -> Result<Reported, AllocError>
     ensures reported { IfOk result (IsReported text.now) }
     ensures answer { IfOk result (λ r. IsAnswer text.now (answer_of r)) }
-    // where it is `complete`, the list of the log is whole and so long
+    // if it is `complete`, the list of the log is complete and has `count` UIDs
     ensures whole { IfOk result (λ r. (count : ℕ)
         → answer_of r ≡ Answer.Judged (Complete count) → IsCompleteText text.now count) }
 {
@@ -61,11 +60,11 @@ pub fn reported_answer(reported: &Reported) -> Answer
     }
 }
 
-/// Judges the log that a source hands out, writes all that it tells against its list with the lines
-/// that tell it, and flushes. The first line and the status are those of `check`. It reads to the
-/// end, or to the first fault of a line that no further byte can change. `Read` where the source has
-/// failed, `Memory` where memory was refused: nothing is written then. `Write` where the sink has
-/// failed: a prefix of the text may be out.
+/// Judges the log that is read from a source, writes every finding with its lines, and flushes. The
+/// first line and the status are those of `check`. It reads to the end, or to the first fault of a
+/// line that no further byte can change. `Read` if the source has failed, `Memory` if memory was
+/// refused: then nothing is written. `Write` if the sink has failed: a prefix of the text may have
+/// been written.
 pub fn run_report<R: Source, W: Sink>(
     alloc: Global,
     source: &mut R,
@@ -73,13 +72,14 @@ pub fn run_report<R: Source, W: Sink>(
 ) -> Result<Status, RunFault>
     ensures answer { Runs IsReportOf (R.left source.old) (R.left source.new)
         (W.taken sink.old) (W.taken sink.new) result }
-    // the same over the bytes that the reads returned and the writes took, whatever these tell
+    // the same over the bytes that the reads returned and the writes accepted, whatever source and
+    // sink reveal
     ensures bytes { RunsOver IsReportOf (R.returned source.old) (R.returned source.new)
         (R.ended source.new) (W.written sink.old) (W.written sink.new) result }
-    // where it wrote `complete N`, the list of the log is whole and N long
+    // if it wrote `complete N`, the list of the log is complete and has N UIDs
     ensures whole { IsCompleteWhereSaid (R.left source.old) (R.left source.new)
         (W.taken sink.old) (W.taken sink.new) result }
-    // and so where source and sink tell nothing
+    // and even if source and sink reveal nothing
     ensures complete { IsCompleteWhereWritten (R.returned source.old) (R.returned source.new)
         (R.ended source.new) (W.written sink.old) (W.written sink.new) result }
     ensures leaves_source { LeavesSource R.reads R.has_failed source.old source.new result }
@@ -121,7 +121,7 @@ fn write_lines<W: Sink>(reported: &Reported, sink: &mut W) -> Result<(), RunFaul
     write_and_flush(sink, piece.as_slice())
 }
 
-/// Puts the text of an answer behind what waits.
+/// Adds the text of an answer to the bytes that wait.
 fn put_reported<W: Sink>(
     piece: &mut Piece,
     sink: &mut W,

@@ -1,4 +1,4 @@
-//! How the lines of a report go out.
+//! How the lines of a report are written.
 
 ghost use Rattle.std.specs.Prelude.{◌≡◌};
 ghost use Rattle.vic_answer.specs.Pieces.{Puts};
@@ -13,7 +13,7 @@ use vic_log::Sink;
 use vic_report::{Conflict, Findings, LogReport, ShownUid, Unsettled};
 use vic_verdict::Verdict;
 
-/// Puts the lines of a report behind what waits.
+/// Adds the lines of a report to the bytes that wait.
 pub(crate) fn put_report<W: Sink>(
     piece: &mut Piece,
     sink: &mut W,
@@ -33,7 +33,7 @@ pub(crate) fn put_report<W: Sink>(
     }
 }
 
-/// Puts the first impossible line, the lines of its conflict, and what silenced its tag.
+/// Adds the first impossible line, the lines of its conflict, and the line that silenced its tag.
 fn put_conflict<W: Sink>(
     piece: &mut Piece,
     sink: &mut W,
@@ -53,7 +53,7 @@ fn put_conflict<W: Sink>(
     put_text(piece, sink, &silenced_line(conflict.silenced_by))
 }
 
-/// Puts the findings, in their order, each with the line that shows it.
+/// Adds the findings, in their order, each with the line that shows it.
 fn put_findings<W: Sink>(
     piece: &mut Piece,
     sink: &mut W,
@@ -83,7 +83,7 @@ fn put_findings<W: Sink>(
     )
 }
 
-/// Puts what is left to ask for, if anything is.
+/// Adds what is left to ask for, if anything is.
 fn put_unsettled<W: Sink>(
     piece: &mut Piece,
     sink: &mut W,
@@ -114,7 +114,7 @@ fn absent_text(shown: ShownUid) -> Text
     text
 }
 
-/// A UID that must be there and isn't listed, with the line that tells of it.
+/// A UID that must be there and isn't listed, with the line that shows it.
 fn unlisted_text(shown: ShownUid) -> Text
     ensures { result.items ≡ spec.unlisted_text shown }
 {

@@ -16,19 +16,19 @@ use std::alloc::{AllocError, Global};
 use vic_field::{SimFault, simulate};
 use vic_log::{LineFault, Log, LogFault, MAX_LINES, Sink, Source, ToWrite, read_log, write_log};
 
-/// The line that no log has: the first behind its last.
+/// The number of a line that no log has: the first after its last.
 const LINE_TOO_MANY: u32 = MAX_LINES + 1;
 
-/// What is answered to a text.
+/// The answer to a text.
 #[derive(Drop)]
 pub(crate) enum Simulated {
     /// Its log with the slots filled in.
     Filled(Log),
     /// A line of it has a fault, and this is the first.
     RefusedAt { line: u32, fault: LineFault },
-    /// Its log tells of a slot already, first on this line.
+    /// Its log has slot lines already; this is the first.
     OutcomeGiven { line: u32 },
-    /// Its log would have too many lines.
+    /// Its log, filled in, would have too many lines.
     TooManyLines,
 }
 
@@ -39,8 +39,8 @@ pub struct Simulation {
     pub status: Status,
 }
 
-/// Fills in the slots of the log that a whole text spells, as the tags that it lists would answer:
-/// what `run_simulate` writes for it. It is refused for want of memory alone.
+/// Fills in the slots of the log that a complete text spells, as the tags that it lists would
+/// answer: what `run_simulate` writes for it. It fails only if memory is refused.
 pub fn simulate_text(alloc: Global, text: &[u8]) -> Result<Simulation, AllocError>
     ensures { IfOk result (λ s. IsSimulationOf text.now s.text.items s.status) }
 {
@@ -60,11 +60,11 @@ pub fn simulate_text(alloc: Global, text: &[u8]) -> Result<Simulation, AllocErro
     }
 }
 
-/// Fills in the slots of the log that a source hands out, as the tags that it lists would answer,
-/// writes the log's text, or the one line of a refusal, and flushes it. It reads to the end, or to
-/// the first fault of a line that no further byte can change. `Read` where the source has failed,
-/// `Memory` where memory was refused: nothing is written then. `Write` where the sink has failed: a
-/// prefix of the text may be out.
+/// Fills in the slots of the log that is read from a source, as the tags that it lists would
+/// answer, writes the log's text, or the one line of a refusal, and flushes it. It reads to the
+/// end, or to the first fault of a line that no further byte can change. `Read` if the source has
+/// failed, `Memory` if memory was refused: then nothing is written. `Write` if the sink has failed:
+/// a prefix of the text may have been written.
 pub fn run_simulate<R: Source, W: Sink>(
     alloc: Global,
     source: &mut R,
@@ -72,7 +72,8 @@ pub fn run_simulate<R: Source, W: Sink>(
 ) -> Result<Status, RunFault>
     ensures answer { Runs IsSimulationOf (R.left source.old) (R.left source.new)
         (W.taken sink.old) (W.taken sink.new) result }
-    // the same over the bytes that the reads returned and the writes took, whatever these tell
+    // the same over the bytes that the reads returned and the writes accepted, whatever source and
+    // sink reveal
     ensures bytes { RunsOver IsSimulationOf (R.returned source.old) (R.returned source.new)
         (R.ended source.new) (W.written sink.old) (W.written sink.new) result }
     ensures leaves_source { LeavesSource R.reads R.has_failed source.old source.new result }
@@ -101,7 +102,7 @@ fn simulate_log(alloc: Global, given: &Log) -> Result<Simulated, AllocError>
 {
     match simulate(alloc, given) {
         Ok(filled) => {
-            // gives that the filled lines are in order
+            // shows that the filled lines are in order
             let _lines = filled.lines();
             Ok(Simulated::Filled(filled))
         }

@@ -1,4 +1,4 @@
-//! The command `spell`: a frame by the words that `frame` says it with.
+//! The command `spell`: a frame by the words with which `frame` describes it.
 
 ghost use Rattle.std.specs.Prelude.{◌≡◌, ◌<◌, ◌≤◌, ◌++◌, map, length, string_bytes, IfOk, IsTrue};
 ghost use Rattle.arrayvec.specs.ArrayVec.{array_vec_len};
@@ -18,13 +18,13 @@ use vic_frame::{
 };
 use vic_log::{Sink, push_hex};
 
-/// The greatest link.
+/// The maximum of a link.
 const MAX_LINK: u64 = 3;
 
-/// Why words spell no frame.
+/// Why words don't spell a frame.
 #[derive(Clone, Copy, Debug, Drop, PartialEq, Eq)]
 pub enum SpellFault {
-    /// They are no line of `frame`.
+    /// They aren't a line of `frame`.
     Words,
     /// The link is above 3, or the mask is longer than its request allows, or its value is longer
     /// than the mask.
@@ -51,8 +51,9 @@ enum Said {
     Replied(Response),
 }
 
-/// Writes the frame that `frame` says by these words, in hex digits, or why there is none, and
-/// flushes. `Write` where the sink has failed: a prefix may be out. It takes no memory.
+/// Writes, in hex digits, the frame that `frame` describes by these words, or why there is none,
+/// and flushes. `Write` if the sink has failed: a prefix may have been written. It allocates no
+/// memory.
 pub fn run_spell<W: Sink>(words: &[String], sink: &mut W) -> Result<Status, RunFault>
     ensures status { IfOk result (λ s. s ≡ spec.spell_status (map string_bytes words.now)) }
     ensures written { Writes W.written W.taken W.is_flushed W.has_failed
@@ -63,7 +64,7 @@ pub fn run_spell<W: Sink>(words: &[String], sink: &mut W) -> Result<Status, RunF
     Ok(status)
 }
 
-/// What is answered to words.
+/// The answer to some words.
 fn answer(words: &[String]) -> (Text, Status)
     ensures text { result.0.items ≡ spec.spell_text (map string_bytes words.now) }
     ensures status { result.1 ≡ spec.spell_status (map string_bytes words.now) }
@@ -84,7 +85,7 @@ fn answer(words: &[String]) -> (Text, Status)
     (text, status)
 }
 
-/// Puts a frame at the end of a text.
+/// Appends a frame to a text.
 fn put_frame(text: &mut Text, what: &Said)
     requires valid { spec.IsSendable what.now }
     requires room { array_vec_len text.old ≡ 0 }
@@ -121,7 +122,7 @@ fn words_reading(words: &[String]) -> Result<Said, SpellFault>
     }
 }
 
-/// The word at a place.
+/// The word at an index.
 fn word(words: &[String], place: usize) -> &str
     requires { place < length words.now }
     ensures { result.now ≡ spec.word (map string_bytes words.now) place }
@@ -226,7 +227,7 @@ fn sixteen_in(word: &str) -> Result<bool, SpellFault>
     }
 }
 
-/// A mask of so many bits, by the word of its value.
+/// A mask of `len` bits, by the word of its value.
 fn mask_in(len: u8, word: &str) -> Result<Mask, SpellFault>
     requires { len ≤ MAX_MASK_LEN }
     ensures { result ≡ spec.mask_in len word.now }
@@ -238,7 +239,7 @@ fn mask_in(len: u8, word: &str) -> Result<Mask, SpellFault>
     }
 }
 
-/// The value of a mask of so many bits, `-` where it has none.
+/// The value of a mask of `len` bits, `-` if it has none.
 fn value_in(len: u8, word: &str) -> Result<u64, SpellFault>
     requires { len ≤ MAX_MASK_LEN }
     ensures { result ≡ spec.value_in len word.now }
@@ -252,7 +253,7 @@ fn value_in(len: u8, word: &str) -> Result<u64, SpellFault>
     }
 }
 
-/// The number that a word writes in decimal, up to a greatest one.
+/// The number that a word writes in decimal, up to a maximum.
 fn number_up_to(most: u64, word: &str) -> Result<u64, SpellFault>
     ensures said { result ≡ spec.number_up_to most word.now }
     ensures most { IfOk result (λ n. n ≤ most) }
@@ -265,7 +266,7 @@ fn number_up_to(most: u64, word: &str) -> Result<u64, SpellFault>
     }
 }
 
-/// The number that a word writes in decimal, without a sign or a 0 before it.
+/// The number that a word writes in decimal, without a sign or leading zeros.
 fn number_in(word: &str) -> Result<u64, SpellFault>
     ensures { result ≡ spec.number_in word.now }
 {
@@ -280,7 +281,7 @@ fn number_in(word: &str) -> Result<u64, SpellFault>
     }
 }
 
-/// The byte that a word writes in hex digits, in upper case.
+/// The byte that a word writes in upper-case hex digits.
 fn byte_in(word: &str) -> Result<u8, SpellFault>
     ensures { result ≡ spec.hex_number_in 1 word.now }
 {
@@ -288,7 +289,7 @@ fn byte_in(word: &str) -> Result<u8, SpellFault>
     Ok(number as u8)
 }
 
-/// The number that a word writes as so many bytes in hex digits, in upper case.
+/// The number that a word writes as `count` bytes in upper-case hex digits.
 fn hex_number_in(count: usize, word: &str) -> Result<u64, SpellFault>
     requires { count ≤ 8 }
     ensures { result ≡ spec.hex_number_in count word.now }

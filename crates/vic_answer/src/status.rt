@@ -5,20 +5,20 @@ ghost use Rattle.vic_answer.specs.Status.{status_code, fault_line};
 
 use std::alloc::AllocError;
 
-/// What a run that ended found.
+/// The result of a run that ended.
 #[derive(Clone, Copy, Debug, PartialEq, Eq)]
 pub enum Status {
-    /// The list is complete, or what was asked for was written.
+    /// The list is complete, or the requested text was written.
     Whole,
     /// The list isn't known to be complete.
     NotWhole,
-    /// No population could have given the log.
+    /// No population could have produced the log.
     Impossible,
     /// The log, or the frame, was refused.
     Refused,
 }
 
-/// What kept a run from its answer.
+/// Why a run has no answer.
 #[derive(Clone, Copy, Debug, Drop, PartialEq, Eq)]
 pub enum RunFault {
     /// The reader failed.
@@ -53,7 +53,7 @@ impl Status {
     }
 }
 
-/// What standard error says of a fault, without its LF.
+/// What standard error says about a fault, without its LF.
 pub fn fault_text(fault: &RunFault) -> &'static str
     ensures { result.now ≡ fault_line fault.now }
 {

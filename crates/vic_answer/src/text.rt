@@ -1,4 +1,4 @@
-//! Text of a fixed room, and how numbers are put into it.
+//! Text in a buffer of fixed size, and how numbers are put into it.
 
 ghost use Rattle.std.specs.Prelude.{◌≡◌, ◌+◌, ◌≤◌, ◌++◌, length, decimal};
 ghost use Rattle.arrayvec.specs.ArrayVec.{array_vec_len};
@@ -9,10 +9,10 @@ use itoa::Buffer;
 use vic_frame::Mask;
 use vic_log::push_hex;
 
-/// How many bytes the text of an answer has room for: two lines.
+/// How many bytes the text of an answer has at most: two lines.
 pub const TEXT_ROOM: usize = 192;
 
-/// The text of an answer, which takes no memory.
+/// The text of an answer, which allocates no memory.
 pub type Text = ArrayVec<u8, TEXT_ROOM>;
 
 /// How many digits a `u32` has at most in decimal.
@@ -21,7 +21,7 @@ const DECIMAL_LEN: usize = 10;
 /// How many digits eight bytes have in hex.
 const HEX_LEN: usize = 16;
 
-/// Puts a word at the end.
+/// Appends a word.
 pub(crate) fn put(text: &mut Text, word: &str)
     requires { array_vec_len text.old + length word.now ≤ TEXT_ROOM }
     ensures items { text.new.items ≡ text.old.items ++ word.now }
@@ -32,7 +32,7 @@ pub(crate) fn put(text: &mut Text, word: &str)
     };
 }
 
-/// Puts a number at the end, in decimal digits.
+/// Appends a number, in decimal digits.
 pub(crate) fn put_decimal(text: &mut Text, number: u32)
     requires { array_vec_len text.old + DECIMAL_LEN ≤ TEXT_ROOM }
     ensures items { text.new.items ≡ text.old.items ++ decimal number }
@@ -42,7 +42,7 @@ pub(crate) fn put_decimal(text: &mut Text, number: u32)
     put(text, buffer.format(number));
 }
 
-/// Puts the last `count` bytes of a number at the end, the most significant first, in hex digits.
+/// Appends the last `count` bytes of a number, most significant first, in hex digits.
 pub(crate) fn put_bytes(text: &mut Text, count: usize, number: u64)
     requires room { array_vec_len text.old + HEX_LEN ≤ TEXT_ROOM }
     requires count { count ≤ 8 }
@@ -53,7 +53,7 @@ pub(crate) fn put_bytes(text: &mut Text, count: usize, number: u64)
     push_hex(text, &bytes[8 - count..]);
 }
 
-/// Puts the value of a mask at the end.
+/// Appends the value of a mask.
 pub(crate) fn put_value(text: &mut Text, mask: &Mask)
     requires { array_vec_len text.old + HEX_LEN ≤ TEXT_ROOM }
     ensures items { text.new.items ≡ text.old.items ++ value_text mask.now }

@@ -1,4 +1,4 @@
--- Which places of a row are Quiet, by bits of words.
+-- Which positions of a row are Quiet, as bits of words.
 use Rattle.std.specs.Prelude.{◌≡◌, ℕ, ◌+◌, ◌*◌, ◌/◌, ◌%◌, ◌<◌, ◌≤◌, Bool, true, false, ◌&&◌, ◌||◌, List, length, slice_index_or, nat_eq}
 use Rattle.std.specs.Int.{bit_at}
 use Rattle.std.specs.List.{All}
@@ -6,11 +6,11 @@ use Rattle.vic_field.specs.declared.quiet.QuietPlaces.{QuietPlaces}
 use Rattle.vic_field.specs.declared.quiet.Word.{Word}
 use Rattle.vic_field.specs.declared.quiet.TheConstants.{WORD}
 
--- a word that says nothing
+-- a word with no bits
 abbrev pub blank : Word
 blank = record { bits = 0; stretch = 0 }
 
--- bit k of words is set, where the word counts in the stretch s
+-- bit k of words is set, if its word belongs to stretch s
 abbrev pub is_set : ℕ → List Word → ℕ → Bool
 is_set s ws k =
     let w = slice_index_or ws (k / WORD) blank in
@@ -29,25 +29,25 @@ HasBitMore s bit old new = (k : ℕ) → is_set s new k ≡ (nat_eq k bit || is_
 abbrev pub IsFull : ℕ → List Word → ℕ → Type 0
 IsFull s ws n = (k : ℕ) → k / WORD ≡ n → is_set s ws k ≡ true
 
--- a bit of `notes` for each word, set exactly where the word is full
+-- a bit of `notes` for each word, set if and only if the word is full
 pub record NotesFull (s : ℕ) (ws notes : List Word) : Type 0 where
   pub room : length ws ≤ length notes * WORD
   pub noted : (n : ℕ) → n < length ws → IsFull s ws n → is_set s notes n ≡ true
   pub full : (n : ℕ) → is_set s notes n ≡ true → IsFull s ws n
 
--- no word is of a later stretch than this one
+-- no word belongs to a later stretch than this one
 abbrev pub AreUpTo : ℕ → List Word → Type 0
 AreUpTo s ws = All (λ w. w.stretch ≤ s) ws
 
--- words that say nothing in any stretch
+-- words with no bits in any stretch
 abbrev pub AreBlank : List Word → Type 0
 AreBlank ws = AreUpTo 0 ws
 
--- the place k is Quiet
+-- position k is Quiet
 abbrev pub is_quiet_place : QuietPlaces → ℕ → Bool
 is_quiet_place q k = is_set q.stretch q.places.items k
 
--- full words and full groups are noted, and nothing is said of a later stretch
+-- full words and full groups are noted, and no word belongs to a later stretch
 pub record IsSound (q : QuietPlaces) : Type 0 where
   pub begun : 0 < q.stretch
   pub full_words : NotesFull q.stretch q.places.items q.full_words.items
@@ -56,12 +56,12 @@ pub record IsSound (q : QuietPlaces) : Type 0 where
   pub words_up_to : AreUpTo q.stretch q.full_words.items
   pub groups_up_to : AreUpTo q.stretch q.full_groups.items
 
--- there is a bit for each of so many places
+-- there is a bit for each of that many positions
 abbrev pub HasRoomFor : ℕ → QuietPlaces → Type 0
 HasRoomFor count q = count ≤ length q.places.items * WORD
 
--- of so many places those before `gap` are as they were, `gap` is Ready, and those after it stood
--- one place before
+-- of `count` positions, those before `gap` are as they were, `gap` is Ready, and those after it
+-- have moved by one
 pub record IsMoved (gap count : ℕ) (old new : QuietPlaces) : Type 0 where
   pub before : (k : ℕ) → k < gap → is_quiet_place new k ≡ is_quiet_place old k
   pub put : is_quiet_place new gap ≡ false

@@ -1,4 +1,4 @@
--- What the simulation of a log gives: its entries, with a line for each slot.
+-- What the simulation of a log returns: its entries, with a line for each slot.
 use Rattle.std.specs.Prelude.{◌≡◌, ℕ, suc, ◌+◌, ◌<◌, ◌≤◌, true, false, not, Some, List, [], ◌∷◌, ⊤, length, slice_get}
 use Rattle.std.specs.List.{filter}
 use Rattle.vic_frame.specs.declared.request.Request.{Request}
@@ -14,7 +14,7 @@ use Rattle.vic_log.specs.Writing.{numbered}
 use Rattle.vic_field.specs.declared.session.SimFault.{SimFault}
 use Rattle.vic_field.specs.declared.session.SimFault.TheVariants.{OutcomeGiven, TooManyLines, Memory}
 
--- the entries that are no slot lines
+-- the entries that aren't slot lines
 abbrev pub without_slots : List Entry → List Entry
 without_slots es = filter (λ e. not (is_slot e)) es
 
@@ -33,8 +33,8 @@ IsPlain e = ⊤
 abbrev pub ArePlain : List Entry → Type 0
 ArePlain es = (i : ℕ) (e : Entry) → slice_get es i ≡ Some e → IsPlain e
 
--- how lines are filled: those given stay, each slot has its line, and the listed UIDs are a
--- population that could have given all of it
+-- how lines are filled in: the given ones stay, each slot has its line, and the listed UIDs are a
+-- population that could have produced all of them
 pub record IsSimulation (given filled : List LogLine) : Type 0 where
   pub kept : without_slots (entries filled) ≡ entries given
   pub slots : HasAllSlots (entries filled)
@@ -43,7 +43,7 @@ pub record IsSimulation (given filled : List LogLine) : Type 0 where
   pub plain : ArePlain (entries filled)
   pub numbers : filled ≡ numbered 2 (entries filled)
 
--- how many lines the entries need with all their slots
+-- how many lines the entries need, with all their slots
 abbrev pub line_count : List Entry → ℕ
 line_count [] = 0
 line_count (e ∷ es) = suc (slots_opened (Some e)) + line_count es
@@ -52,16 +52,16 @@ line_count (e ∷ es) = suc (slots_opened (Some e)) + line_count es
 abbrev pub last_needed : List LogLine → ℕ
 last_needed lines = suc (line_count (entries lines))
 
--- the first n lines tell of no slot
+-- none of the first n lines is a slot line
 abbrev pub HasNoSlotsBefore : ℕ → List LogLine → Type 0
 HasNoSlotsBefore n lines =
     (i : ℕ) (l : LogLine) → i < n → slice_get lines i ≡ Some l → is_slot l.item ≡ false
 
--- no line tells of a slot
+-- no line is a slot line
 abbrev pub HasNoSlots : List LogLine → Type 0
 HasNoSlots lines = HasNoSlotsBefore (length lines) lines
 
--- the first line that tells of a slot has the number n
+-- the first slot line has the number n
 pub record IsFirstSlot (lines : List LogLine) (n : ℕ) : Type 0 where
   pub place : ℕ
   pub line : LogLine
@@ -70,8 +70,8 @@ pub record IsFirstSlot (lines : List LogLine) (n : ℕ) : Type 0 where
   pub tells : is_slot line.item ≡ true
   pub first : HasNoSlotsBefore place lines
 
--- why lines aren't simulated: a slot line is there; else more lines would be needed than a log may
--- have; else memory is wanting
+-- why lines aren't simulated: one is a slot line; else more lines would be needed than a log may
+-- have; else memory was refused
 abbrev pub RefusesLines : List LogLine → SimFault → Type 0
 RefusesLines lines (OutcomeGiven n) = IsFirstSlot lines n
 RefusesLines lines TooManyLines = HasNoSlots lines × (MAX_LINES < last_needed lines)

@@ -39,11 +39,11 @@ abbrev pub with_entries : LogValue → List Entry → LogValue
 with_entries log es =
     record { lines = log.lines ++ numbered (next_line log) es; version = log.version }
 
--- whether the tag u is Ready after an entry, where it is so or not before
+-- whether the tag u is Ready after an entry, given whether it was before
 abbrev pub ready_after : Entry → ℕ → Bool → Bool
 ready_after e u ready = not (silences (Some e) u) && (wakes (Some e) || ready)
 
--- the tags after an entry, where they were others before
+-- the tags after an entry, given the tags before it
 abbrev pub IsAfter : Entry → List (ℕ × Bool) → List (ℕ × Bool) → Type 0
 IsAfter e old new =
     (u : ℕ) → IsUid u → readiness new u ≡ option_map (ready_after e u) (readiness old u)

@@ -31,28 +31,28 @@ abbrev pub quiets : Request → ℕ → Bool
 quiets (StayQuiet link uid) u = nat_eq uid u
 quiets (Inventory link sixteen m) u = false
 
--- some tags are there now and Ready, and the others are as they were
+-- some tags are now there and Ready, and the others are as they were
 abbrev pub HasAdded : (ℕ → Bool) → List (ℕ × Bool) → List (ℕ × Bool) → Type 0
 HasAdded which old new =
     (u : ℕ) → IsUid u → readiness new u ≡ (if which u then Some true else readiness old u)
 
--- some tags are Quiet now, where they are there, and the others are as they were
+-- some tags are now Quiet, if they are there, and the others are as they were
 abbrev pub HasSilenced : (ℕ → Bool) → List (ℕ × Bool) → List (ℕ × Bool) → Type 0
 HasSilenced which old new =
     (u : ℕ) → IsUid u → readiness new u
     ≡ (if which u then option_map (λ _. false) (readiness old u) else readiness old u)
 
--- an outcome, as a field tells it
+-- an outcome, as a field reports it
 abbrev pub told : Outcome → Told
 told Nobody = ToldSilent
 told (Lone u) = ToldLone u
 told Several = ToldSeveral
 
--- what is told where these tags answer
+-- what a field reports if these tags answer
 abbrev pub heard : List ℕ → Told
 heard us = told (outcome_of us)
 
--- why a field doesn't take the tag u: it is there, or there is no memory for one more
+-- why a field doesn't take the tag u: it is there already, or memory for it was refused
 abbrev pub RefusesTag : List (ℕ × Bool) → ℕ → AddFault → Type 0
 RefusesTag tags u Already = has (uids tags) u ≡ true
 RefusesTag tags u Memory = has (uids tags) u ≡ false

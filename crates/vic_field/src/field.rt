@@ -17,12 +17,12 @@ use std::alloc::{AllocError, Global};
 use std::marker::Model;
 use vic_frame::{Mask, Request, Uid, low_bits_first};
 
-/// Why a field takes no further tag.
+/// Why a field doesn't take one more tag.
 #[derive(Clone, Copy, Debug, PartialEq, Eq)]
 pub enum AddFault {
     /// A tag with this UID is in the field.
     Already,
-    /// There is no memory for it.
+    /// Memory for it was refused.
     Memory,
 }
 
@@ -36,7 +36,7 @@ impl From<AllocError> for AddFault {
     }
 }
 
-/// The tags of a field, each Ready or Quiet. No two have one UID.
+/// The tags of a field, each Ready or Quiet. No two have the same UID.
 #[derive(Drop)]
 pub struct Field {
     /// The tags, in the order of the low bits of UIDs.
@@ -79,9 +79,9 @@ impl Field {
         })
     }
 
-    /// Adds a tag to the field, which is Ready then. Refused where a tag with this UID is there.
-    /// Its time is in proportion to the tags, and so is its memory: two bits for each, and what the
-    /// keys grow by.
+    /// Adds a tag to the field; it is Ready. Refused if a tag with this UID is there already. The
+    /// time is proportional to the number of tags, and so is the memory: two bits for each, and
+    /// what the keys grow by.
     pub fn add(&mut self, uid: Uid) -> Result<(), AddFault>
         ensures answer { MatchResult result
             (λ _. has (uids self.old) uid ≡ false)
@@ -103,8 +103,8 @@ impl Field {
         row::holds(&self.row, low_bits_first::key(uid))
     }
 
-    /// What the tags do when a request is sent: a Stay Quiet makes the tag with its UID Quiet,
-    /// if it is there (ISO/IEC 15693-3, Stay Quiet). Takes no memory.
+    /// What the tags do when a request is sent: a Stay Quiet makes the tag with its UID Quiet, if
+    /// it is there (ISO/IEC 15693-3, Stay Quiet). Allocates no memory.
     pub fn send(&mut self, request: &Request)
         ensures { HasSilenced (quiets request.now) self.old self.new }
     {
@@ -122,7 +122,7 @@ impl Field {
         row::silence(&mut self.row, low_bits_first::key(uid));
     }
 
-    /// Makes every tag Ready, as a field that is switched off and on does. Takes no memory.
+    /// Makes every tag Ready, as a field that is switched off and on does. Allocates no memory.
     pub fn power_cycle(&mut self)
         ensures { (u : ℕ) → readiness self.new u
             ≡ option_map (λ _. true) (readiness self.old u) }
@@ -130,10 +130,10 @@ impl Field {
         row::wake(&mut self.row);
     }
 
-    /// What a reader hears of the Ready tags in a mask. Takes no memory.
+    /// What a reader hears of the Ready tags in a mask. Allocates no memory.
     ///
-    /// It looks for two Ready tags at most, and passes over Quiet ones by words of 64 bits, not one
-    /// by one.
+    /// It looks for at most two Ready tags, and skips Quiet ones by words of 64 bits, not one by
+    /// one.
     pub fn answer(&self, mask: &Mask) -> Outcome
         ensures heard { result ≡ heard (ready_in mask.now self.now) }
         ensures population { IsPopulation (uids self.now) }

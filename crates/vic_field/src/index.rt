@@ -1,4 +1,5 @@
-//! An index over tags in the order of their keys, by the keys' top bits. What it says is a hint.
+//! An index over tags in the order of their keys, by the keys' top bits. Its answers are only
+//! hints.
 
 ghost use Rattle.std.specs.Prelude.{◌≤◌};
 ghost use Rattle.vic_frame.specs.declared.uid.TheConstants.{UID_BITS};
@@ -6,11 +7,11 @@ ghost use Rattle.vic_frame.specs.declared.uid.TheConstants.{UID_BITS};
 use std::alloc::{AllocError, Global};
 use vic_frame::UID_BITS;
 
-/// How many of a key's 56 bits an index goes by at most, so that it stays small enough for a
+/// How many of a key's 56 bits an index uses at most, so that it stays small enough for a
 /// processor's cache: 256 KiB.
 const MOST_BITS: u32 = 16;
 
-/// A hint of where a key stands among tags.
+/// A hint of where a key is among tags.
 #[derive(Drop)]
 pub(crate) struct Index {
     /// How many tags have keys below the least one with given top bits.
@@ -29,7 +30,7 @@ impl Index {
         }
     }
 
-    /// An index over tags with these keys: about a number for each two, where they are few.
+    /// An index over tags with these keys: about one number for every two keys, if there are few.
     pub(crate) fn over(alloc: Global, keys: &[u64]) -> Result<Index, AllocError> {
         let bits = (keys.len() / 2 + 1).ilog2().min(MOST_BITS);
         let shift = u32::from(UID_BITS) - bits;
@@ -38,7 +39,7 @@ impl Index {
         Ok(Index { lower, shift })
     }
 
-    /// The places from which and up to which the tags with a key's top bits stand.
+    /// The positions at which the tags with a key's top bits begin and end.
     pub(crate) fn hint(&self, key: u64) -> (usize, usize) {
         let top = (key >> self.shift) as usize;
         match (self.lower.get(top), self.lower.get(top.saturating_add(1))) {
@@ -48,7 +49,7 @@ impl Index {
     }
 }
 
-/// How many keys have each value of their top bits, one further on; 0 at first.
+/// How many keys have each value of their top bits, shifted by one; the first is 0.
 fn count_by_top(alloc: Global, keys: &[u64], bits: u32, shift: u32) -> Result<Vec<u32>, AllocError>
     requires bits { bits ≤ MOST_BITS }
     requires shift { shift ≤ UID_BITS }
@@ -63,7 +64,7 @@ fn count_by_top(alloc: Global, keys: &[u64], bits: u32, shift: u32) -> Result<Ve
     Ok(counts)
 }
 
-/// Puts the sum of all numbers up to each into its place.
+/// Replaces each number with the sum of all up to it.
 fn sum_up(counts: &mut [u32]) {
     let mut sum: u32 = 0;
     for count in counts.iter_mut() {

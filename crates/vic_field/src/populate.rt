@@ -11,7 +11,7 @@ use std::alloc::{AllocError, Global};
 use vic_frame::low_bits_first;
 use vic_log::{Entry, PackedLine};
 
-/// A field of the tags that are listed, all Ready.
+/// A field of the listed tags, all Ready.
 pub(crate) fn populate(alloc: Global, lines: &[PackedLine]) -> Result<Field, AllocError>
     ensures { IfOk result (HasAdded (has (listed (entries lines.now))) []) }
 {
@@ -21,7 +21,7 @@ pub(crate) fn populate(alloc: Global, lines: &[PackedLine]) -> Result<Field, All
     Field::of_keys(alloc, keys)
 }
 
-/// The keys of the UIDs that are listed.
+/// The keys of the listed UIDs.
 fn listed_keys(alloc: Global, lines: &[PackedLine]) -> Result<Vec<u64>, AllocError>
     ensures { IfOk result (λ keys. AreKeysOf (listed (entries lines.now)) keys.items) }
 {

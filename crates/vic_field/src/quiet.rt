@@ -1,4 +1,4 @@
-//! Which places of a row have Quiet tags: words of bits, which a field cycle takes back at once.
+//! Which positions of a row have Quiet tags: words of bits, which a field cycle clears all at once.
 
 ghost use Rattle.std.specs.Prelude.{◌≡◌, ℕ, ◌<◌, ◌≤◌, ◌+◌, ◌*◌, ◌/◌, ◌%◌, true, false, length, IfOk, ◌||◌, nat_eq};
 ghost use Rattle.std.specs.Int.{bit_at};
@@ -9,40 +9,41 @@ use std::alloc::{AllocError, Global};
 /// How many bits a word has.
 pub(crate) const WORD: usize = 64;
 
-/// How many places a group has: those of 64 words, one word of `full_words`.
+/// How many positions a group has: those of 64 words, one word of `full_words`.
 pub(crate) const GROUP: usize = WORD * WORD;
 
-/// How many places a cluster has: those of 64 groups, one word of `full_groups`.
+/// How many positions a cluster has: those of 64 groups, one word of `full_groups`.
 pub(crate) const CLUSTER: usize = WORD * GROUP;
 
-/// Bits that count in one stretch between two field cycles. In any other none of them is set.
+/// Bits that belong to one stretch between two field cycles. In any other stretch none of them is
+/// set.
 #[derive(Clone, Copy)]
 pub(crate) struct Word {
     pub(crate) bits: u64,
     pub(crate) stretch: u32,
 }
 
-/// No bit in any stretch: they are counted from 1.
+/// No bit in any stretch: stretches are counted from 1.
 const BLANK: Word = Word {
     bits: 0,
     stretch: 0,
 };
 
-/// Which places are Quiet.
+/// Which positions are Quiet.
 #[derive(Drop)]
 pub(crate) struct QuietPlaces {
-    /// A bit for each place, set where it is Quiet.
+    /// A bit for each position, set if it is Quiet.
     pub(crate) places: Vec<Word>,
-    /// A bit for each word of `places`, set where all bits of that word are.
+    /// A bit for each word of `places`, set if all bits of that word are.
     pub(crate) full_words: Vec<Word>,
-    /// A bit for each word of `full_words`, set where all bits of that word are.
+    /// A bit for each word of `full_words`, set if all bits of that word are.
     pub(crate) full_groups: Vec<Word>,
-    /// The stretch between two field cycles, from 1.
+    /// The number of the stretch between two field cycles, from 1.
     pub(crate) stretch: u32,
 }
 
 impl QuietPlaces {
-    /// Without places.
+    /// Without positions.
     pub(crate) fn new(alloc: Global) -> QuietPlaces
         ensures sound { IsSound result }
     {
@@ -54,7 +55,7 @@ impl QuietPlaces {
         }
     }
 
-    /// So many places, none of them Quiet.
+    /// That many positions, none of them Quiet.
     pub(crate) fn over(alloc: Global, count: usize) -> Result<QuietPlaces, AllocError>
         ensures sound { IfOk result IsSound }
         ensures room { IfOk result (HasRoomFor count) }
@@ -68,8 +69,8 @@ impl QuietPlaces {
         })
     }
 
-    /// So many places from this one on are Quiet, and more may be: none if this one is Ready, at
-    /// least a word if a full one begins here, at least a group if a full one does.
+    /// At least this many positions from `place` on are Quiet: none if it is Ready, at least a word
+    /// if a full word begins here, at least a group if a full group does.
     pub(crate) fn run_from(&self, place: usize) -> usize
         requires { IsSound self.now }
         ensures quiet { (k : ℕ) → place ≤ k → k < place + result
@@ -97,7 +98,7 @@ impl QuietPlaces {
         run_in(&self.places, self.stretch, place)
     }
 
-    /// Makes a place Quiet.
+    /// Makes a position Quiet.
     pub(crate) fn add(&mut self, place: usize)
         requires sound { IsSound self.old }
         requires room { place < length self.old.places.items * WORD }
@@ -114,7 +115,7 @@ impl QuietPlaces {
         }
     }
 
-    /// Makes every place Ready.
+    /// Makes every position Ready.
     pub(crate) fn wake(&mut self)
         requires sound { IsSound self.old }
         ensures sound { IsSound self.new }
@@ -127,7 +128,7 @@ impl QuietPlaces {
         self.stretch += 1;
     }
 
-    /// Makes all words blank, and begins the count of stretches anew, before the first.
+    /// Makes all words blank, and restarts the count of stretches, before the first.
     fn forget(&mut self)
         ensures places { AreBlank self.new.places.items }
         ensures full_words { AreBlank self.new.full_words.items }
@@ -145,8 +146,8 @@ impl QuietPlaces {
         self.stretch = 0;
     }
 
-    /// The same with one place more, so that there are `count`: `gap` is new and Ready, and what
-    /// stood at `gap` or after it stands one place further.
+    /// The same with one more position, so that there are `count`: `gap` is new and Ready, and what
+    /// was at `gap` or after it has moved by one.
     pub(crate) fn with_gap(&self, gap: usize, count: usize) -> Result<QuietPlaces, AllocError>
         requires sound { IsSound self.now }
         requires within { gap < count }
@@ -182,7 +183,7 @@ fn bits_in(words: &[Word], stretch: u32, number: usize) -> u64
     }
 }
 
-/// So many bits from this one on, all in its word, are set in a stretch, without a gap.
+/// How many bits from this one on, all in its word, are set in a stretch without a gap.
 fn run_in(words: &[Word], stretch: u32, bit: usize) -> usize
     requires { 0 < stretch }
     ensures set { (k : ℕ) → bit ≤ k → k < bit + result → is_set stretch words.now k ≡ true }
@@ -192,7 +193,7 @@ fn run_in(words: &[Word], stretch: u32, bit: usize) -> usize
     ones_from(bits_in(words, stretch, bit / WORD), bit % WORD)
 }
 
-/// So many bits from this one on are ones, without a gap.
+/// How many bits from this one on are ones without a gap.
 fn ones_from(bits: u64, bit: usize) -> usize
     requires { bit < WORD }
     ensures ones { (i : ℕ) → i < result → bit_at bits (bit + i) ≡ 1 }
@@ -202,7 +203,7 @@ fn ones_from(bits: u64, bit: usize) -> usize
     (bits >> bit).trailing_ones() as usize
 }
 
-/// Sets a bit. Whether all bits of its word are set then.
+/// Sets a bit, and returns whether all bits of its word are then set.
 fn set(words: &mut Vec<Word>, stretch: u32, bit: usize) -> bool
     requires begun { 0 < stretch }
     requires room { bit < length words.old.items * WORD }

@@ -15,11 +15,11 @@ use std::alloc::{AllocError, Global};
 /// A set of tags by their keys, each Ready or Quiet.
 #[derive(Drop)]
 pub(crate) struct Row {
-    /// The keys of the tags, the lowest first: the place of a tag is that of its key.
+    /// The keys of the tags, lowest first: the position of a tag is that of its key.
     pub(crate) keys: Vec<u64>,
-    /// The places of the Quiet ones.
+    /// The positions of the Quiet ones.
     pub(crate) quiet: QuietPlaces,
-    /// A hint of where a key stands, which `put` leaves as it is.
+    /// A hint of where a key is, which `put` leaves as it is.
     pub(crate) index: Index,
 }
 
@@ -34,7 +34,7 @@ pub(crate) fn of_keys(alloc: Global, keys: Vec<u64>) -> Result<Row, AllocError>
     Ok(Row { keys, quiet, index })
 }
 
-/// The place of the first Ready tag from a place on, if its key is at most `last`.
+/// The position of the first Ready tag from a position on, if its key is at most `last`.
 pub(crate) fn next_ready(row: &Row, from: usize, last: u64) -> Option<usize>
     requires { IsRow row.now }
     ensures none { result ≡ None → HasNoneReady row.now from last }
@@ -51,7 +51,7 @@ pub(crate) fn next_ready(row: &Row, from: usize, last: u64) -> Option<usize>
     None
 }
 
-/// Whether it is seen that at least `from` and at most `to` of the keys are below this one.
+/// Whether a check shows that at least `from` and at most `to` of the keys are below this one.
 fn is_between(keys: &[u64], key: u64, from: usize, to: usize) -> bool
     requires { IsStrictlySortedBy nat_cmp keys.now }
     ensures { result ≡ true → HasKeyPlaceBetween key keys.now from to }
@@ -62,7 +62,7 @@ fn is_between(keys: &[u64], key: u64, from: usize, to: usize) -> bool
     (from == 0 || keys[from - 1] < key) && (to == keys.len() || key <= keys[to])
 }
 
-/// The least and the most keys that may be below this one: what the index says, or none and all if
+/// How many keys are below this one, at least and at most: what the index says, or none and all if
 /// its hint is wrong.
 fn bounds(row: &Row, key: u64) -> (usize, usize)
     requires { IsStrictlySortedBy nat_cmp row.now.keys.items }
@@ -76,7 +76,7 @@ fn bounds(row: &Row, key: u64) -> (usize, usize)
     }
 }
 
-/// How many of the keys are below this one: its place, if it is there.
+/// How many of the keys are below this one: its position, if it is there.
 pub(crate) fn place_of(row: &Row, key: u64) -> usize
     requires { IsStrictlySortedBy nat_cmp row.now.keys.items }
     ensures { IsKeyPlace key row.now.keys.items result }
@@ -115,7 +115,7 @@ pub(crate) fn holds(row: &Row, key: u64) -> bool
     place < row.keys.len() && row.keys[place] == key
 }
 
-/// Puts the tag with this key in, which is not there yet. It is Ready then.
+/// Adds the tag with this key, which isn't there yet. It is Ready.
 pub(crate) fn put(row: &mut Row, key: u64) -> Result<(), AllocError>
     requires row { IsRow row.old }
     requires small { IsKey key }

@@ -24,11 +24,11 @@ use vic_log::{Entry, Log, MAX_LINES, PackedLine, PushFault};
 /// Why a log isn't simulated.
 #[derive(Clone, Copy, Debug, PartialEq, Eq)]
 pub enum SimFault {
-    /// A slot line is handed in: the number of the first one.
+    /// The log has a slot line already: the number of the first one.
     OutcomeGiven(u32),
     /// A line number above 1,000,000 would be needed.
     TooManyLines,
-    /// There is no memory for the tags or the lines.
+    /// Memory for the tags or the lines was refused.
     Memory,
 }
 
@@ -46,8 +46,8 @@ impl From<AllocError> for SimFault {
 /// and after each Inventory request a line for each of its 1 or 16 slots, on the lines 2, 3, 4
 /// and so on. A reply has flags 00 and DSFID 00.
 ///
-/// Refused where a slot line is handed in, which is looked for first, and where the lines don't
-/// fit into a log, which is looked at next. Memory is taken after that.
+/// Refused if the log has a slot line already, which is checked first, or if the lines don't fit
+/// into a log, which is checked next. Memory is allocated after that.
 pub fn simulate(alloc: Global, log: &Log) -> Result<Log, SimFault>
     ensures simulated { IfOk result (λ filled. IsSimulation log.now.lines filled.lines) }
     ensures version { IfOk result (λ filled. filled.version ≡ log.now.version) }
@@ -70,7 +70,7 @@ pub fn simulate(alloc: Global, log: &Log) -> Result<Log, SimFault>
     Ok(filled)
 }
 
-/// The number of the first line that tells of a slot.
+/// The number of the first slot line.
 fn first_slot(lines: &[PackedLine]) -> Option<u32>
     ensures { MatchOption result (HasNoSlots lines.now) (IsFirstSlot lines.now) }
 {
@@ -82,7 +82,7 @@ fn first_slot(lines: &[PackedLine]) -> Option<u32>
     None
 }
 
-/// Whether the lines fit into a log with all their slots.
+/// Whether the lines, with all their slots, fit into a log.
 fn fit_filled(lines: &[PackedLine]) -> bool
     ensures { result ≡ nat_le (last_needed lines.now) MAX_LINES }
 {
@@ -112,7 +112,7 @@ fn slots_opened(item: &Entry) -> u32
     }
 }
 
-/// Adds an entry, and a line for each slot that it opens, as the tags answer.
+/// Adds an entry, and a line for each slot that it opens, according to what the tags answer.
 fn play_entry(filled: &mut Log, field: &mut Field, item: &Entry) -> Result<(), SimFault>
     requires follows { refusal (entries filled.old.lines) item.now ≡ None }
     requires valid { IsValidEntry item.now }

@@ -4,8 +4,8 @@ use Rattle.std.specs.Prelude.{ℕ, ◌-◌, ◌/◌, ◌%◌, ◌==◌, ◌&&◌
 use Rattle.std.specs.Int.Bits.{bit_xor}
 use Rattle.vic_frame.specs.Bytes.{number_of, bytes_of, bits}
 
--- the register after one bit: it moves down, and 8408 is x^16 + x^12 + x^5 + 1 read from the other
--- end
+-- the register after one bit: it shifts down, and 8408 is x^16 + x^12 + x^5 + 1 with its bits
+-- reversed
 unfoldable pub step : ℕ → ℕ → ℕ
 step r b = if bit_xor b (r % 2) == 1 then bit_xor (r / 2) 0x8408 else r / 2
 
@@ -22,11 +22,11 @@ register bytes = after_bits 0xFFFF (bits bytes)
 abbrev pub crc : List ℕ → ℕ
 crc bytes = 0xFFFF - register bytes
 
--- bytes with their CRC behind them, its low byte first (ISO/IEC 15693-3, CRC)
+-- bytes with their CRC after them, low byte first (ISO/IEC 15693-3, CRC)
 abbrev pub with_crc : List ℕ → List ℕ
 with_crc bytes = bytes ++ bytes_of 2 (crc bytes)
 
--- whether the last two bytes are the CRC of those before them
+-- whether the last two bytes are the CRC of the others
 abbrev pub crc_right : List ℕ → Bool
 crc_right f =
     nat_le 2 (length f) && (number_of (drop (length f - 2) f) == crc (take (length f - 2) f))

@@ -1,4 +1,4 @@
--- What is wrong with a frame: the first fault of a list of tests (profile: their order and names).
+-- What is wrong with a frame: the first fault in a list of tests (profile: their order and names).
 use Rattle.std.specs.Prelude.{ℕ, ◌+◌, ◌-◌, ◌/◌, ◌^◌, ◌==◌, ◌&&◌, not, Bool, Option, Some, None, List, [], ◌∷◌, ◌++◌, length, slice_index, slice_range, nat_lt, if◌then◌else◌}
 use Rattle.vic_frame.specs.declared.fault.FrameFault.{FrameFault}
 use Rattle.vic_frame.specs.declared.fault.FrameFault.TheVariants.{Short, Crc, Extension, Reserved, OptionFlag, OtherCommand, InventoryFlag, Afi, Length, MaskTooLong, MaskPadding, SelectFlag, NotAddressed, ErrorFlag, NotVicinity}
@@ -8,16 +8,16 @@ use Rattle.vic_frame.specs.Bytes.{number_of, bit}
 use Rattle.vic_frame.specs.Crc.{crc_right}
 use Rattle.vic_frame.specs.Requests.{byte_count}
 
--- the first fault whose test says true
+-- the first fault whose test is true
 abbrev pub first_fault : List (FrameFault × Bool) → Option FrameFault
 first_fault [] = None
 first_fault (e ∷ es) = if e.1 then Some e.0 else first_fault es
 
--- the flags of a frame, its first byte (ISO/IEC 15693-3, request flags and response flags)
+-- the flags of a frame: its first byte (ISO/IEC 15693-3, request flags and response flags)
 abbrev pub flags : List ℕ → ℕ
 flags f = slice_index f 0
 
--- the command of a request, its second byte
+-- the command of a request: its second byte
 abbrev pub command : List ℕ → ℕ
 command f = slice_index f 1
 
@@ -25,7 +25,7 @@ command f = slice_index f 1
 abbrev pub mask_len : List ℕ → ℕ
 mask_len f = slice_index f 2
 
--- the mask value of an Inventory request: what stands between the mask length and the CRC
+-- the mask value of an Inventory request: what is between the mask length and the CRC
 abbrev pub mask_bytes : List ℕ → List ℕ
 mask_bytes f = slice_range f 3 (length f - 2)
 
@@ -38,7 +38,7 @@ uid_bytes f = slice_range f 2 10
 abbrev pub longest_mask : List ℕ → ℕ
 longest_mask f = if bit 6 (flags f) then MAX_MASK_LEN else MAX_MASK_LEN_OF_SIXTEEN
 
--- the faults that a request of any command can have, in order
+-- the faults that a request with any command can have, in order
 abbrev pub head_faults : List ℕ → List (FrameFault × Bool)
 head_faults f =
     (Short, nat_lt (length f) 4)

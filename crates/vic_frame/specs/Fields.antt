@@ -1,5 +1,5 @@
--- Frames by their fields: which byte stands where. A law says that a frame spells a value exactly
--- where its fields do.
+-- Frames by their fields: which byte is where. A law says that a frame spells a value if and only
+-- if its fields do.
 use Rattle.std.specs.Prelude.{◌≡◌, ℕ, ◌+◌, ◌-◌, Bool, true, List, length, slice_index, slice_range, if◌then◌else◌}
 use Rattle.vic_frame.specs.Masks.{BitMask}
 use Rattle.vic_frame.specs.Bytes.{number_of}

@@ -1,5 +1,4 @@
--- UIDs by their low bits, the lowest first (profile). In that order the UIDs of a mask stand
--- together.
+-- UIDs by their low bits, lowest first (profile). In that order the UIDs of a mask are consecutive.
 use Rattle.std.specs.Prelude.{◌≡◌, ℕ, zero, suc, ◌+◌, ◌-◌, ◌*◌, ◌/◌, ◌^◌, ◌%◌, ◌<◌, ◌≤◌, Bool, false, ◌&&◌, Option, Some, None, nat_le}
 use Rattle.vic_frame.specs.declared.uid.TheConstants.{UID_BITS}
 use Rattle.vic_frame.specs.declared.low_bits_first.KeyBlock.{KeyBlock}
@@ -7,16 +6,16 @@ use Rattle.vic_frame.specs.declared.request.Request.{Request}
 use Rattle.vic_frame.specs.declared.request.Request.TheVariants.{Inventory, StayQuiet}
 use Rattle.vic_frame.specs.Uids.{uid_from_low_bits}
 
--- the low k bits of n turned round: the lowest becomes the highest
+-- the low k bits of n reversed: the lowest becomes the highest
 unfoldable pub mirror_bits : ℕ → ℕ → ℕ
 mirror_bits zero n = 0
 mirror_bits (suc k) n = (n % 2) * 2 ^ k + mirror_bits k (n / 2)
 
--- a key: the place of a UID in the order
+-- a key: the position of a UID in the order
 abbrev pub IsKey : ℕ → Type 0
 IsKey k = k < 2 ^ UID_BITS
 
--- the key of a UID: the 56 bits that tell UIDs apart, turned round
+-- the key of a UID: the 56 bits that distinguish UIDs, reversed
 abbrev pub mirror : ℕ → ℕ
 mirror u = mirror_bits UID_BITS u
 
@@ -29,16 +28,16 @@ first_key_of (StayQuiet link uid) = 0
 abbrev pub uid_of : ℕ → ℕ
 uid_of k = uid_from_low_bits (mirror k)
 
--- the key is one of the block from `first` on that a mask of so many bits has
+-- the key is in the block, beginning at `first`, of a mask of that many bits
 abbrev pub is_in_block : ℕ → ℕ → ℕ → Bool
 is_in_block first len k = nat_le first k && nat_le k (first + (2 ^ (UID_BITS - len) - 1))
 
--- the key is one of a block, if there is one
+-- the key is in the block, if there is one
 abbrev pub is_in_some_block : Option KeyBlock → ℕ → Bool
 is_in_some_block (Some b) k = is_in_block b.first b.len k
 is_in_some_block None k = false
 
--- the keys from `first` on are the block of some mask of so many bits
+-- the keys from `first` on are the block of some mask of that many bits
 pub record IsBlock (first len : ℕ) : Type 0 where
   pub short : len ≤ UID_BITS
   pub keys : IsKey (first + (2 ^ (UID_BITS - len) - 1))

@@ -10,12 +10,11 @@ pub record BitMask : Type 0 where
   pub len : ℕ
   pub value : ℕ
 
--- so many bits are fixed at most (profile), and the value has no others
+-- at most `MAX_MASK_LEN` bits are fixed (profile), and the value has no others
 abbrev pub IsMask : BitMask → Type 0
 IsMask m = (m.len ≤ MAX_MASK_LEN) × (m.value < 2 ^ m.len)
 
--- a UID lies in the mask where its low bits are the mask's value (ISO/IEC 15693-3, inventory
--- sequence)
+-- a UID lies in the mask if its low bits are the mask's value (ISO/IEC 15693-3, inventory sequence)
 abbrev pub LiesIn : BitMask → ℕ → Type 0
 LiesIn m u = u % 2 ^ m.len ≡ m.value
 
@@ -23,7 +22,7 @@ LiesIn m u = u % 2 ^ m.len ≡ m.value
 abbrev pub lies_in : BitMask → ℕ → Bool
 lies_in m u = u % 2 ^ m.len == m.value
 
--- the mask of slot k of sixteen: the number of the slot stands above the value (ISO/IEC 15693-3,
+-- the mask of slot k of sixteen: the number of the slot is above the value (ISO/IEC 15693-3,
 -- inventory sequence)
 abbrev pub slot_of_sixteen : BitMask → ℕ → BitMask
 slot_of_sixteen m k = record { len = m.len + 4; value = m.value + k * 2 ^ m.len }

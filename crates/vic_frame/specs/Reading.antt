@@ -1,4 +1,4 @@
--- What a frame reads as: its first fault, or what stands in its fields. The layers above cite this
+-- How a frame is read: its first fault, or the contents of its fields. The layers above cite this
 -- one function; the law `read_where_spelled` says that it agrees with the spelling.
 use Rattle.std.specs.Prelude.{ℕ, ◌%◌, ◌==◌, not, Option, Some, None, Result, Ok, Err, List, slice_index, if◌then◌else◌}
 use Rattle.vic_frame.specs.declared.fault.FrameFault.{FrameFault}

@@ -7,18 +7,20 @@ use Rattle.vic_frame.specs.Masks.{IsMask}
 use Rattle.vic_frame.specs.Bytes.{bytes_of}
 use Rattle.vic_frame.specs.Crc.{with_crc}
 
--- two bits of link, and with sixteen slots a mask that leaves four bits for their numbers (profile)
+-- two bits of link, and with sixteen slots, a mask that leaves four bits for their numbers
+-- (profile)
 abbrev pub IsValid : Request → Type 0
 IsValid (Inventory link true m) = (link ≤ 3) × (m.len ≤ MAX_MASK_LEN_OF_SIXTEEN)
 IsValid (Inventory link false m) = link ≤ 3
 IsValid (StayQuiet link uid) = link ≤ 3
 
--- what the type of a request says of its numbers: a mask, or 64 bits
+-- what a request's type says about its numbers: a mask, or 64 bits
 abbrev pub IsInRange : Request → Type 0
 IsInRange (Inventory link sixteen m) = IsMask m
 IsInRange (StayQuiet link uid) = uid < 2 ^ 64
 
--- the least number of bytes that hold so many bits (ISO/IEC 15693-3, Inventory request: mask value)
+-- the least number of bytes that hold that many bits (ISO/IEC 15693-3, Inventory request: mask
+-- value)
 abbrev pub byte_count : ℕ → ℕ
 byte_count bits = (bits + 7) / 8
 
@@ -30,7 +32,7 @@ request_body (Inventory link sixteen m) =
     ∷ bytes_of (byte_count m.len) m.value
 request_body (StayQuiet link uid) = (0x20 + link) ∷ 0x02 ∷ bytes_of 8 uid
 
--- and the CRC behind them: the one spelling of the request
+-- and the CRC after them: the one spelling of the request
 abbrev pub request_spelling : Request → List ℕ
 request_spelling q = with_crc (request_body q)
 

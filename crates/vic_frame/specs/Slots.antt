@@ -9,12 +9,12 @@ abbrev pub slot_count : Request → ℕ
 slot_count (Inventory link sixteen m) = if sixteen then 16 else 1
 slot_count (StayQuiet link uid) = 0
 
--- the mask of slot k of an Inventory request; Stay Quiet has no slot, and its mask here means
+-- the mask of slot k of an Inventory request; Stay Quiet has no slots, and its mask here means
 -- nothing
 abbrev pub mask_in : Request → ℕ → BitMask
 mask_in (Inventory link sixteen m) k = if sixteen then slot_of_sixteen m k else m
 mask_in (StayQuiet link uid) k = record { len = 0; value = 0 }
 
--- the mask of slot k where the request has that slot
+-- the mask of slot k, if the request has that slot
 abbrev pub slot_mask : Request → ℕ → Option BitMask
 slot_mask q k = if nat_lt k (slot_count q) then Some (mask_in q k) else None

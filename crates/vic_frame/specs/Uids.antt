@@ -19,7 +19,7 @@ uid_from_low_bits bits = 0xE0 * 2 ^ UID_BITS + bits
 abbrev pub has : List ℕ → ℕ → Bool
 has us u = list_any (nat_eq u) us
 
--- no number stands twice in the list
+-- no number is in the list twice
 abbrev pub AreDifferent : List ℕ → Type 0
 AreDifferent [] = ⊤
 AreDifferent (u ∷ us) = (has us u ≡ false) × AreDifferent us

@@ -1,4 +1,4 @@
-//! Numbers in bytes, the least significant byte first, and the bits of a byte.
+//! Numbers as bytes, least significant byte first, and the bits of a byte.
 
 ghost use Rattle.std.specs.Prelude.{◌≡◌, ◌+◌, ◌≤◌, ◌++◌, length};
 ghost use Rattle.vic_frame.specs.Bytes as spec;
@@ -6,7 +6,7 @@ ghost use Rattle.arrayvec.specs.ArrayVec.{array_vec_len};
 
 use arrayvec::ArrayVec;
 
-/// The number that at most eight bytes spell, the least significant first.
+/// The number that at most eight bytes spell, least significant first.
 pub(crate) fn number_of(bytes: &[u8]) -> u64
     requires { length bytes.now ≤ 8 }
     ensures { result ≡ spec.number_of bytes.now }
@@ -20,7 +20,7 @@ pub(crate) fn number_of(bytes: &[u8]) -> u64
     number
 }
 
-/// Appends the `count` low bytes of a number, the least significant first.
+/// Appends the `count` low bytes of a number, least significant first.
 pub(crate) fn push_number<const ROOM: usize>(
     out: &mut ArrayVec<u8, ROOM>,
     count: usize,
@@ -37,7 +37,7 @@ pub(crate) fn push_number<const ROOM: usize>(
     }
 }
 
-/// Whether a bit of a byte is 1; `place` counts from 1, the least significant, to 8.
+/// Whether a bit of a byte is 1; `place` is 1 (the least significant bit) to 8.
 pub(crate) fn bit(byte: u8, place: u8) -> bool
     requires low { 1 ≤ place }
     requires high { place ≤ 8 }

@@ -9,7 +9,7 @@ use crate::bytes::number_of;
 /// How many bytes a CRC has.
 pub(crate) const CRC_LEN: usize = 2;
 
-/// The CRC of these bytes. It is sent behind them, its low byte first.
+/// The CRC of these bytes. It is sent after them, low byte first.
 ///
 /// `ISO/IEC 13239, 16-bit FCS`.
 pub fn crc(bytes: &[u8]) -> u16
@@ -25,7 +25,7 @@ pub fn crc(bytes: &[u8]) -> u16
     0xFFFF - register
 }
 
-/// Whether there are at least two bytes, and the last two are the CRC of those before them.
+/// Whether there are at least two bytes, and the last two are the CRC of the others.
 pub fn crc_right(bytes: &[u8]) -> bool
     ensures { result ≡ spec.crc_right bytes.now }
 {
@@ -36,8 +36,8 @@ pub fn crc_right(bytes: &[u8]) -> bool
     number_of(end) == u64::from(crc(body))
 }
 
-/// The register after two bytes more. Neither look-up waits for the other, so that the step takes as
-/// long as one.
+/// The register after two more bytes. Neither lookup waits for the other, so the step takes no
+/// longer than one.
 fn after_two_bytes(register: u16, first: u8, second: u8) -> u16
     ensures { result
         ≡ spec.after_bits (spec.after_bits register (bits_of 8 first)) (bits_of 8 second) }
@@ -47,7 +47,7 @@ fn after_two_bytes(register: u16, first: u8, second: u8) -> u16
     low_after_two_bytes(low) ^ low_after_byte(high)
 }
 
-/// The register after one byte more.
+/// The register after one more byte.
 fn after_byte(register: u16, byte: u8) -> u16
     ensures { result ≡ spec.after_bits register (bits_of 8 byte) }
 {
@@ -55,21 +55,21 @@ fn after_byte(register: u16, byte: u8) -> u16
     (register / 256) ^ low_after_byte(low)
 }
 
-/// A register of eight bits after eight bits 0.
+/// An 8-bit register after eight 0 bits.
 fn low_after_byte(low: u8) -> u16
     ensures { result ≡ spec.after_bits low (bits_of 8 0) }
 {
     AFTER_BYTE[usize::from(low)]
 }
 
-/// A register of eight bits after sixteen bits 0.
+/// An 8-bit register after sixteen 0 bits.
 fn low_after_two_bytes(low: u8) -> u16
     ensures { result ≡ spec.after_bits low (bits_of 16 0) }
 {
     AFTER_TWO_BYTES[usize::from(low)]
 }
 
-/// The register after eight bits 0, for each register of eight bits.
+/// The register after eight 0 bits, for each 8-bit register.
 const AFTER_BYTE: [u16; 256] = [
     0x0000, 0x1189, 0x2312, 0x329B, 0x4624, 0x57AD, 0x6536, 0x74BF, 0x8C48, 0x9DC1, 0xAF5A, 0xBED3,
     0xCA6C, 0xDBE5, 0xE97E, 0xF8F7, 0x1081, 0x0108, 0x3393, 0x221A, 0x56A5, 0x472C, 0x75B7, 0x643E,
@@ -95,7 +95,7 @@ const AFTER_BYTE: [u16; 256] = [
     0x3DE3, 0x2C6A, 0x1EF1, 0x0F78,
 ];
 
-/// The register after sixteen bits 0, for each register of eight bits.
+/// The register after sixteen 0 bits, for each 8-bit register.
 const AFTER_TWO_BYTES: [u16; 256] = [
     0x0000, 0x19D8, 0x33B0, 0x2A68, 0x6760, 0x7EB8, 0x54D0, 0x4D08, 0xCEC0, 0xD718, 0xFD70, 0xE4A8,
     0xA9A0, 0xB078, 0x9A10, 0x83C8, 0x9591, 0x8C49, 0xA621, 0xBFF9, 0xF2F1, 0xEB29, 0xC141, 0xD899,

@@ -5,7 +5,7 @@ ghost use Rattle.vic_frame.specs.Names.{fault_name};
 
 use std::fmt;
 
-/// Why bytes are no frame of the kind asked for: the first fault that applies, in the order of the
+/// Why bytes aren't a frame of the expected kind: the first fault that applies, in the order of the
 /// two tables of `docs/FRAMES.md`. It displays as its name.
 #[derive(Clone, Copy, Debug, PartialEq, Eq)]
 pub enum FrameFault {
@@ -26,7 +26,7 @@ pub enum FrameFault {
     InventoryFlag,
     /// The AFI_flag of an Inventory request, bit 5, is 1.
     Afi,
-    /// The frame has not as many bytes as its fields ask for.
+    /// The frame doesn't have the number of bytes that its fields require.
     Length,
     /// An Inventory request has a mask length above 64 with one slot, or above 60 with sixteen.
     MaskTooLong,

@@ -1,4 +1,4 @@
-//! Laws on frames: what a contract of this crate says of one call, said of all frames.
+//! Laws about frames: what a contract of this crate says about one call, stated for all frames.
 
 ghost use Rattle.std.specs.Prelude.{◌≡◌, ℕ, ◌<◌, ◌≤◌, ◌^◌, ◌↔◌, true, None, Ok, Bool, List, length};
 ghost use Rattle.vic_frame.specs.declared.request.Request.{Request};
@@ -12,7 +12,7 @@ ghost use Rattle.vic_frame.specs.Fields.{HasInventoryFields, HasStayQuietFields,
 ghost use Rattle.vic_frame.specs.Faults.{first_fault, request_faults, reply_faults};
 ghost use Rattle.vic_frame.specs.Reading.{request_reading, reply_reading};
 
-/// Bytes spell a value exactly where the value is in range and each field stands in its place.
+/// Bytes spell a value if and only if the value is in range and each field is where it belongs.
 ///
 /// `ISO/IEC 15693-3, Inventory request`, `.. Stay Quiet` and `.. Inventory response`.
 pub fn spelled_by_fields()
@@ -28,7 +28,7 @@ pub fn spelled_by_fields()
 {}
 
 /// A valid request has exactly one spelling, and so has a reply; bytes spell at most one request
-/// and at most one reply. Some spell one of each, so a caller says which it reads.
+/// and at most one reply. Some bytes spell one of each, so the caller says which it is reading.
 pub fn one_spelling()
     ensures some { (q : Request) → IsInRange q → IsValid q
         → (f : List ℕ) × SpellsRequest f q }
@@ -43,7 +43,7 @@ pub fn one_spelling()
         → SpellsReply f r → SpellsReply f s → r ≡ s }
 {}
 
-/// Bytes read as a value exactly where they spell it.
+/// Bytes are read as a value if and only if they spell it.
 pub fn read_where_spelled()
     ensures request { (f : List ℕ) (q : Request) → AreBytes f
         → (request_reading f ≡ Ok q) ↔ SpellsRequest f q }
@@ -51,7 +51,7 @@ pub fn read_where_spelled()
         → (reply_reading f ≡ Ok r) ↔ SpellsReply f r }
 {}
 
-/// No fault applies exactly where the bytes spell something.
+/// No fault applies if and only if the bytes spell something.
 pub fn no_fault_where_spelled()
     ensures request { (f : List ℕ) → AreBytes f
         → (first_fault (request_faults f) ≡ None) ↔ ((q : Request) × SpellsRequest f q) }
@@ -59,7 +59,7 @@ pub fn no_fault_where_spelled()
         → (first_fault (reply_faults f) ≡ None) ↔ ((r : Reply) × SpellsReply f r) }
 {}
 
-/// The CRC is right exactly where the register, run over all the bytes, ends at F0B8.
+/// The CRC is right if and only if the register, run over all the bytes, ends at F0B8.
 ///
 /// `ISO/IEC 13239, 16-bit FCS`.
 pub fn crc_right_by_register()

@@ -1,8 +1,8 @@
-//! Vicinity tags' UIDs, the masks that a reader asks by, and the frames on the air.
+//! The UIDs of vicinity tags, the masks by which a reader selects them, and the frames on the air.
 //!
-//! A UID is its number, a mask the low bits that a UID must have, a request what a reader sends, a
-//! response what one tag answers. A frame is the bytes of a request or a response with its CRC;
-//! which of the two it is, the caller says. No call takes memory.
+//! A UID is a number, a mask the low bits that a UID must have, a request what a reader sends, a
+//! reply what one tag answers. A frame is the bytes of a request or a reply with its CRC; the
+//! caller says which of the two it is. No call allocates memory.
 #![tactic(auto)]
 
 mod bytes;

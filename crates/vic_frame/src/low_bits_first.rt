@@ -1,7 +1,7 @@
-//! UIDs in the order of their bits read from the lowest up.
+//! UIDs in the order of their bits, lowest bit first.
 //!
-//! In this order the UIDs of a mask stand together, so that a sorted set finds them by one range.
-//! A UID's key is its place in the order: its 56 low bits turned round, a number below `2^56`.
+//! In this order the UIDs of a mask are consecutive, so a sorted set finds them as one range. A
+//! UID's key is its position in the order: its 56 low bits reversed, a number below `2^56`.
 
 ghost use Rattle.std.specs.Prelude.{◌≡◌, ℕ, ◌+◌, ◌-◌, ◌^◌, ◌≤◌, ◌&&◌, IfSome, nat_le};
 ghost use Rattle.vic_frame.specs.Uids.{IsUid};
@@ -11,7 +11,7 @@ ghost use Rattle.vic_frame.specs.LowBitsFirst.{IsBlock, IsKey, is_in_block, is_i
 use crate::mask::{Mask, without_top_byte};
 use crate::uid::{UID_BITS, Uid};
 
-/// The keys of the UIDs in a mask of at most 56 bits, which stand together.
+/// The keys of the UIDs in a mask of at most 56 bits, which are consecutive.
 #[derive(Clone, Copy)]
 pub struct KeyBlock {
     /// The first one.
@@ -58,8 +58,8 @@ pub fn uid_at(key: u64) -> Uid
     Uid::from_low_bits(turn_round(key))
 }
 
-/// The first and the last key of a mask's UIDs: a UID lies in the mask exactly where its key is
-/// between them, both counted. For a longer mask take `without_top_byte` first.
+/// The first and the last key of a mask's UIDs: a UID lies in the mask if and only if its key is
+/// between them, inclusive. For a longer mask call `without_top_byte` first.
 pub fn key_range(mask: &Mask) -> (u64, u64)
     requires { mask.now.len ≤ UID_BITS }
     ensures first { result.0 ≡ mirror mask.now.value }
@@ -106,8 +106,8 @@ pub fn keys_of(mask: &Mask) -> Option<KeyBlock>
     }
 }
 
-/// The keys of the UIDs in slot `k` of sixteen of a mask of at most 52 bits, whose first key is
-/// known. The first one in the slot differs from it by the slot's four bits.
+/// The keys of the UIDs in slot `k` of sixteen, for a mask of at most 52 bits whose first key is
+/// known. The first key in the slot differs from it in the slot's four bits.
 #[inline(always)]
 pub fn keys_of_slot(mask: &Mask, first: u64, k: u8) -> KeyBlock
     requires short { mask.now.len + 4 ≤ UID_BITS }
@@ -125,7 +125,7 @@ pub fn keys_of_slot(mask: &Mask, first: u64, k: u8) -> KeyBlock
     }
 }
 
-/// The 56 low bits of a number turned round, so that the lowest becomes the highest.
+/// The 56 low bits of a number in reverse order, so that the lowest becomes the highest.
 fn turn_round(number: u64) -> u64
     ensures value { result ≡ mirror number }
     ensures small { IsKey result }
@@ -139,14 +139,14 @@ fn turn_round(number: u64) -> u64
     turned
 }
 
-/// A byte turned round.
+/// A byte with its bits reversed.
 fn turn_byte(byte: u8) -> u8
     ensures { result ≡ mirror_bits 8 byte }
 {
     TURNED[usize::from(byte)]
 }
 
-/// Each byte turned round.
+/// Each byte with its bits reversed.
 const TURNED: [u8; 256] = [
     0x00, 0x80, 0x40, 0xC0, 0x20, 0xA0, 0x60, 0xE0, 0x10, 0x90, 0x50, 0xD0, 0x30, 0xB0, 0x70, 0xF0,
     0x08, 0x88, 0x48, 0xC8, 0x28, 0xA8, 0x68, 0xE8, 0x18, 0x98, 0x58, 0xD8, 0x38, 0xB8, 0x78, 0xF8,

@@ -1,4 +1,4 @@
-//! Masks: which UIDs a request asks for, by their low bits.
+//! Masks: which UIDs a request is for, by their low bits.
 
 ghost use Rattle.std.specs.Prelude.{◌≡◌, ℕ, ◌^◌, ◌%◌, ◌<◌, ◌≤◌, ◌+◌, ◌*◌, ◌==◌, false};
 ghost use Rattle.std.specs.Prelude.{SomeIff, IfSome, IfNone};
@@ -12,8 +12,7 @@ use std::marker::Model;
 /// How many bits a mask fixes at most (profile).
 pub const MAX_MASK_LEN: u8 = 64;
 
-/// How many bits a mask fixes at most where sixteen slots are asked for: four are the slot's
-/// number.
+/// How many bits a mask fixes at most with sixteen slots: four more are the slot's number.
 pub const MAX_MASK_LEN_OF_SIXTEEN: u8 = 60;
 
 /// The number of the last of sixteen slots.
@@ -40,8 +39,8 @@ impl Model for Mask {
     ghost inverse = { λ m. record { len = m.len; value = m.value } };
 }
 
-/// The mask of no bits, in which every UID lies: what an `ArrayVec` of masks fills its free places
-/// with.
+/// The mask of no bits, in which every UID lies: what an `ArrayVec` of masks fills its free
+/// elements with.
 impl Default for Mask {
     ghost is_default = { λ m. m ≡ (record { len = 0; value = 0 }) };
 
@@ -51,8 +50,8 @@ impl Default for Mask {
 }
 
 impl Mask {
-    /// The mask of `len` bits with this value; `None` where `len` is above 64, or `value` has a
-    /// bit above the lowest `len`.
+    /// The mask of `len` bits with this value; `None` if `len` is above 64, or `value` has a bit
+    /// above the lowest `len`.
     pub fn new(len: u8, value: u64) -> Option<Mask>
         ensures { SomeIff result (IsMask (record { len = len; value = value }))
             (record { len = len; value = value }) }
@@ -64,7 +63,7 @@ impl Mask {
         }
     }
 
-    /// The mask of `len` bits with this value, which fits them.
+    /// The mask of `len` bits with this value, which fits into them.
     pub fn of_bits(len: u8, value: u64) -> Mask
         requires { IsMask (record { len = len; value = value }) }
         ensures { result ≡ record { len = len; value = value } }
@@ -99,7 +98,7 @@ impl Mask {
         self.value
     }
 
-    /// Whether the UID lies in it: whether its low bits are the mask's.
+    /// Whether the UID lies in it: whether the UID's low bits are the mask's.
     ///
     /// `ISO/IEC 15693-3, inventory sequence`.
     pub fn matches(&self, uid: Uid) -> bool
@@ -109,8 +108,8 @@ impl Mask {
         low_bits(uid.number(), self.len) == self.value
     }
 
-    /// The mask of slot `k` of sixteen: four bits more, the number of the slot above the value.
-    /// `None` where the mask has more than 60 bits, or `k` is above 15.
+    /// The mask of slot `k` of sixteen: four more bits, with the number of the slot above the
+    /// value. `None` if the mask has more than 60 bits, or `k` is above 15.
     ///
     /// `ISO/IEC 15693-3, inventory sequence`.
     pub fn slot(&self, k: u8) -> Option<Mask>
@@ -139,7 +138,7 @@ impl Mask {
     }
 }
 
-/// The mask of at most 56 bits that holds the same UIDs; `None` where the mask holds no UID.
+/// The mask of at most 56 bits that holds the same UIDs; `None` if the mask holds no UID.
 pub fn without_top_byte(mask: &Mask) -> Option<Mask>
     ensures short { IfSome result (λ m. IsMask m × (m.len ≤ UID_BITS)) }
     ensures same { IfSome result (λ m. (u : ℕ) → IsUid u
@@ -172,7 +171,7 @@ fn low_bits(number: u64, len: u8) -> u64
     }
 }
 
-/// The number of a slot, standing above `len` bits.
+/// The number of a slot, above `len` bits.
 fn slot_number(k: u8, len: u8) -> u64
     requires slot { k ≤ LAST_SLOT }
     requires short { len ≤ MAX_MASK_LEN_OF_SIXTEEN }

@@ -1,4 +1,4 @@
-//! Laws on masks: how they lie to each other, and how many UIDs they hold.
+//! Laws about masks: how two masks relate, and how many UIDs a mask holds.
 
 ghost use Rattle.std.specs.Prelude.{ℕ, ◌<◌, ◌≤◌};
 ghost use Rattle.vic_frame.specs.Uids.{IsUid};
@@ -7,13 +7,14 @@ ghost use Rattle.vic_frame.specs.MaskLaws.{NestedOrApart, IsParted, HoldsAtMostO
 
 use crate::uid::UID_BITS;
 
-/// Of two masks the shorter one holds all that the longer one does, or they hold no UID in common.
+/// Of two masks, either the shorter one holds all that the longer one does, or they have no UID in
+/// common.
 pub fn nested_or_apart()
     ensures { (m n : BitMask) → IsMask m → IsMask n → m.len ≤ n.len → NestedOrApart m n }
 {}
 
-/// A mask is parted by the two masks of one bit more: what lies in it lies in one of them, and
-/// never in both.
+/// A mask is divided by the two masks with one more bit: what lies in it lies in one of them, never
+/// in both.
 pub fn halves_part()
     ensures { (m : BitMask) (u : ℕ) → IsMask m → IsParted m u }
 {}

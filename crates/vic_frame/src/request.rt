@@ -1,4 +1,4 @@
-//! What a reader sends: who shall answer, and in which slots.
+//! What a reader sends: which tags are to answer, and in which slots.
 
 ghost use Rattle.std.specs.Prelude.{◌≡◌, ◌<◌, ◌↔◌, IsTrue, SomeIff};
 ghost use Rattle.vic_frame.specs.Requests.{IsValid};
@@ -7,23 +7,23 @@ ghost use Rattle.vic_frame.specs.Slots.{slot_count, mask_in, slot_mask};
 use crate::mask::{MAX_MASK_LEN_OF_SIXTEEN, Mask};
 
 /// A request of a reader. `link`, from 0 to 3, is the sub-carrier flag plus twice the data rate
-/// flag; it does not change who answers.
+/// flag; it doesn't change which tags answer.
 #[derive(Clone, Copy, Debug, PartialEq, Eq)]
 pub enum Request {
     /// Each Ready tag answers in the slot whose mask it lies in. There are sixteen slots or one;
-    /// with sixteen the mask has at most 60 bits.
+    /// with sixteen, the mask has at most 60 bits.
     ///
     /// `ISO/IEC 15693-3, Inventory request`.
     Inventory { link: u8, sixteen: bool, mask: Mask },
     /// The tag with this UID becomes Quiet, and answers no Inventory request until it loses power.
-    /// The number may be no UID, and then it is no tag's.
+    /// The number may be one that isn't a UID, and then it is no tag's.
     ///
     /// `ISO/IEC 15693-3, Stay Quiet`.
     StayQuiet { link: u8, uid: u64 },
 }
 
 impl Request {
-    /// Whether it has a frame: `link` is at most 3, and with sixteen slots the mask has at most 60
+    /// Whether it has a frame: `link` is at most 3, and with sixteen slots, the mask has at most 60
     /// bits.
     pub fn is_valid(&self) -> bool
         ensures { IsTrue result ↔ IsValid self.now }
@@ -48,7 +48,7 @@ impl Request {
         }
     }
 
-    /// The mask of slot `k`; `None` where the request is not valid, or has no such slot.
+    /// The mask of slot `k`; `None` if the request isn't valid, or has no such slot.
     ///
     /// `ISO/IEC 15693-3, inventory sequence`.
     pub fn slot_mask(&self, k: u8) -> Option<Mask>

@@ -58,7 +58,7 @@ fn read_fields(bytes: &[u8]) -> Result<Request, FrameFault>
     }
 }
 
-/// The first fault that applies of those that a request of any command can have.
+/// The first fault that applies, of those that a request with any command can have.
 #[inline(always)]
 fn head_fault(bytes: &[u8]) -> Option<FrameFault>
     ensures { result ≡ first_fault (head_faults bytes.now) }
@@ -194,7 +194,7 @@ fn body(request: &Request) -> ArrayVec<u8, MAX_REQUEST_LEN>
     out
 }
 
-/// How many bytes so many bits of a mask take.
+/// How many bytes that many bits of a mask take.
 fn byte_count(bits: u8) -> usize
     requires { bits ≤ MAX_MASK_LEN }
     ensures { result ≡ byte_count bits }

@@ -7,7 +7,7 @@ use crate::uid::Uid;
 use std::marker::Model;
 
 /// A tag's reply to an Inventory request: its flags, of which the lowest, Error_flag, is 0, its
-/// DSFID and its UID. The other flags and the DSFID are carried and not judged.
+/// DSFID and its UID. The other flags and the DSFID are kept but not judged.
 ///
 /// `ISO/IEC 15693-3, Inventory response`.
 #[derive(Clone, Copy, Debug, PartialEq, Eq)]
@@ -28,7 +28,7 @@ impl Model for Response {
 }
 
 impl Response {
-    /// The reply with these fields; `None` where Error_flag, the lowest bit of `flags`, is 1.
+    /// The reply with these fields; `None` if Error_flag, the lowest bit of `flags`, is 1.
     pub fn new(flags: u8, dsfid: u8, uid: Uid) -> Option<Response>
         ensures { SomeIff result (flags % 2 ≡ 0)
             (record { flags = flags; dsfid = dsfid; uid = uid }) }
@@ -40,7 +40,7 @@ impl Response {
         }
     }
 
-    /// The reply with these fields, where Error_flag is known to be 0.
+    /// The reply with these fields; Error_flag is known to be 0.
     pub fn of_fields(flags: u8, dsfid: u8, uid: Uid) -> Response
         requires { flags % 2 ≡ 0 }
         ensures { result ≡ record { flags = flags; dsfid = dsfid; uid = uid } }
@@ -48,7 +48,7 @@ impl Response {
         Response { flags, dsfid, uid }
     }
 
-    /// The response flags; the lowest, Error_flag, is 0.
+    /// The flags of the reply; the lowest, Error_flag, is 0.
     pub fn flags(&self) -> u8
         ensures value { result ≡ self.now.flags }
         ensures is_reply { IsReply self.now }
@@ -64,7 +64,7 @@ impl Response {
         self.dsfid
     }
 
-    /// The UID that the tag gives.
+    /// The tag's UID.
     pub fn uid(&self) -> Uid
         ensures value { result ≡ self.now.uid }
         ensures is_reply { IsReply self.now }

@@ -8,13 +8,13 @@ use std::marker::Model;
 /// The most significant byte of every UID.
 const TOP_BYTE: u64 = 0xE0;
 
-/// How many bits stand below the top byte, and tell UIDs apart.
+/// How many bits are below the top byte, and distinguish UIDs.
 pub const UID_BITS: u8 = 56;
 
 /// A tag's UID: a number of 64 bits whose most significant byte is E0.
 ///
 /// The next byte is the manufacturer's code, and 48 bits of serial number follow; neither is
-/// judged. UIDs are in the order of their numbers. `ISO/IEC 15693-3, unique identifier`.
+/// judged. UIDs are ordered as numbers. `ISO/IEC 15693-3, unique identifier`.
 #[derive(Clone, Copy, Debug, PartialEq, Eq, PartialOrd, Ord)]
 pub struct Uid {
     number: u64,
@@ -30,7 +30,7 @@ impl Model for Uid {
     ghost inverse = { λ n. record { number = n } };
 }
 
-/// The least UID, E000000000000000: what an `ArrayVec` of UIDs fills its free places with.
+/// The least UID, E000000000000000: what an `ArrayVec` of UIDs fills its free elements with.
 impl Default for Uid {
     ghost is_default = { λ u. u ≡ uid_from_low_bits 0 };
 
@@ -40,7 +40,7 @@ impl Default for Uid {
 }
 
 impl Uid {
-    /// The UID with this number; `None` where the most significant byte is not E0.
+    /// The UID with this number; `None` if the most significant byte isn't E0.
     pub fn new(number: u64) -> Option<Uid>
         ensures { SomeIff result (IsUid number) number }
     {

@@ -8,8 +8,8 @@ use vic_frame::Uid;
 use vic_frame::low_bits_first::key;
 use vic_log::PackedLine;
 
-/// For each of some UIDs a guess at the number of the first line of a log that rules it out, at the
-/// same place. No line has the number if none seems to.
+/// For each of some UIDs, in the same order, a guess at the number of the first line of a log that
+/// rules it out; a number that no line has, if none seems to.
 pub fn guess_ruling_lines(
     alloc: Global,
     lines: &[PackedLine],

@@ -1,4 +1,4 @@
-//! A guess at the lines of a conflict, of which none can be left out.
+//! A guess at the lines of a conflict, none of which can be left out.
 
 use crate::course::{Course, course_of};
 use crate::parts::Parts;
@@ -7,9 +7,8 @@ use crate::waiting::{Waiting, last_rulings, ruled_spans};
 use std::alloc::{AllocError, Global};
 use vic_log::PackedLine;
 
-/// A guess at lines of a log that no population fits together: the one with this number, the first
-/// up to which none could have given the log, and of those before it as few as it takes. In no
-/// order.
+/// A guess at lines of a log that contradict each other: the one with this number, which is the
+/// first impossible line, and as few of those before it as needed. In no order.
 pub fn guess_conflict(
     alloc: Global,
     lines: &[PackedLine],
@@ -26,8 +25,8 @@ pub fn guess_conflict(
 }
 
 /// The line that the last one contradicts by itself, if there is one: the last one itself, if its
-/// reply doesn't fit its own slot; else the first that rules out whom it heard; else the first
-/// reply of one whom it rules out.
+/// reply doesn't fit its own slot; else the first that rules out the UID that it heard; else the
+/// first reply of a UID that it rules out.
 fn other_line(course: &Course) -> Option<u32> {
     let Some(Step::Slot(last, span, found)) = course.steps.last() else {
         return None;
@@ -51,8 +50,8 @@ fn other_line(course: &Course) -> Option<u32> {
     None
 }
 
-/// The line of the first slot that lacks what it was found to hold, and those that rule out who
-/// could have answered there.
+/// The line of the first slot with too few UIDs left, and those that rule out the UIDs that could
+/// have answered there.
 fn lines_of_lack(alloc: Global, course: &mut Course) -> Result<Vec<u32>, AllocError> {
     let steps = course.steps.as_slice();
     let Some(index) = course.fates.first_unmet(steps, &course.parts)? else {
@@ -67,13 +66,13 @@ fn lines_of_lack(alloc: Global, course: &mut Course) -> Result<Vec<u32>, AllocEr
     Ok(numbers)
 }
 
-/// How many UIDs a part counts for: one or several.
+/// How many UIDs a part counts as: one or several.
 fn weight(parts: &Parts, part: u32) -> u32 {
     if parts.has_several(part) { 2 } else { 1 }
 }
 
-/// The lines that are needed to rule out all but fewer than `need` of those who answer. One is left
-/// out if those kept before it, and all after it, rule out enough.
+/// The lines that are needed to rule out all but fewer than `need` of the UIDs that answer. One is
+/// left out if those kept before it, and all after it, rule out enough.
 fn rulings(
     alloc: Global,
     steps: &[Step],
@@ -113,8 +112,8 @@ fn rulings(
     Ok(kept)
 }
 
-/// How many of those who answer may be left besides those that no line rules out; and the others,
-/// each after the last line that rules it out.
+/// How many of the UIDs that answer may be left besides those that no line rules out; and the
+/// others, each after the last line that rules it out.
 fn ruled_alone(
     alloc: Global,
     steps: &[Step],
@@ -140,7 +139,8 @@ fn ruled_alone(
     Ok((spare, alone))
 }
 
-/// How many UIDs that a line is the last to rule out still wait for it; and the place after them.
+/// How many UIDs still wait for a line that is the last to rule them out; and the position after
+/// them.
 fn count_alone(
     alone: &[(u32, u32)],
     start: usize,

@@ -1,4 +1,4 @@
-//! What the lines of a log do to the UIDs, and what becomes of these.
+//! What the lines of a log do to the UIDs, and what becomes of them.
 
 use crate::fates::Fates;
 use crate::parts::Parts;
@@ -9,7 +9,7 @@ use vic_log::PackedLine;
 /// The course of a log.
 #[derive(Drop)]
 pub(crate) struct Course {
-    /// The parts of the UIDs that fare alike.
+    /// The parts: UIDs that are treated alike.
     pub parts: Parts,
     /// What its lines do.
     pub steps: Vec<Step>,

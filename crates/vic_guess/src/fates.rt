@@ -7,14 +7,14 @@ use crate::parts::Parts;
 use crate::steps::{Found, Span, Step};
 use std::alloc::{AllocError, Global};
 
-/// The end of what no line rules out.
+/// The end of a part that no line rules out.
 const NEVER: u32 = u32::MAX;
 
-/// What becomes of each part of the UIDs. All UIDs of a part fare alike, and what falls silent is a
-/// part of its own.
+/// What becomes of each part of the UIDs. All UIDs of a part are treated alike, and a UID that is
+/// silenced is a part of its own.
 #[derive(Drop)]
 pub(crate) struct Fates {
-    /// The number of the line that rules a part out.
+    /// For each part, the number of the line that rules it out.
     ends: Vec<u32>,
     /// The parts that are ruled out, in the order of these lines.
     ruled_out: Vec<u32>,
@@ -28,7 +28,7 @@ pub(crate) struct Fates {
 }
 
 impl Fates {
-    /// So many parts that are Ready, and not ruled out.
+    /// That many parts, all Ready and not ruled out.
     pub(crate) fn new(alloc: Global, count: u32) -> Result<Fates, AllocError> {
         Ok(Fates {
             ends: vec![in alloc; NEVER; count as usize]?,
@@ -74,7 +74,7 @@ impl Fates {
         Ok(())
     }
 
-    /// Goes over all steps, and notes what each slot rules out.
+    /// Walks over all steps, and notes what each slot rules out.
     pub(crate) fn live_through(&mut self, steps: &[Step]) -> Result<(), AllocError> {
         for step in steps {
             match *step {
@@ -96,7 +96,7 @@ impl Fates {
         span.from <= part && part < span.to && self.ready.has(part)
     }
 
-    /// Which parts of a span are Ready, of so many in order.
+    /// For each of `count` parts, in order, whether it is in a span and Ready.
     pub(crate) fn answering(
         &self,
         alloc: Global,
@@ -110,7 +110,7 @@ impl Fates {
         Ok(answers)
     }
 
-    /// The number of the line that rules a part out first, `u32::MAX` where none does.
+    /// The number of the first line that rules a part out, `u32::MAX` if none does.
     pub(crate) fn end(&self, part: u32) -> u32 {
         match self.ends.get(part as usize) {
             Some(end) => *end,
@@ -123,7 +123,7 @@ impl Fates {
         self.lasting.first(span.from, span.to)
     }
 
-    /// Whether a slot lacks what it was found to hold, of those that last.
+    /// Whether a slot has too few of the parts that last for what was found in it.
     fn lacks(&self, span: Span, found: Found, parts: &Parts) -> bool {
         match found {
             Found::Nobody => false,
@@ -138,8 +138,8 @@ impl Fates {
         }
     }
 
-    /// One more part lasts: the last one that was ruled out, unless that was before a line. Tells
-    /// whether one does.
+    /// Makes one more part last: the last one that was ruled out, unless that was before a line.
+    /// Returns whether it did.
     fn go_back(&mut self, line: u32) -> bool {
         let Some(part) = self.ruled_out.last().copied() else {
             return false;
@@ -156,7 +156,7 @@ impl Fates {
         true
     }
 
-    /// Goes back to where a slot doesn't lack what it was found to hold, or to its own line.
+    /// Goes back until a slot has enough parts for what was found in it, or to its own line.
     fn go_back_to(&mut self, line: u32, span: Span, found: Found, parts: &Parts) {
         for _ in 0..self.ruled_out.len() + 1 {
             if !self.lacks(span, found, parts) {
@@ -169,9 +169,9 @@ impl Fates {
         }
     }
 
-    /// The number of the first line at which some slot lacks what it was found to hold, `u32::MAX`
-    /// where none does. Each slot is looked at once, by those that last up to the line found before:
-    /// where they are too few, that line comes earlier, and more of them last.
+    /// The number of the first line at which some slot has too few parts left, `u32::MAX` if none
+    /// does. Each slot is looked at once, with the parts that last up to the line found before: if
+    /// these are too few, that line is earlier, and more parts last.
     pub(crate) fn first_lack(&mut self, steps: &[Step], parts: &Parts) -> Result<u32, AllocError> {
         self.wake();
         for step in steps {
@@ -189,8 +189,8 @@ impl Fates {
         Ok(self.end)
     }
 
-    /// The index of the first step whose slot lacks what it was found to hold, if one does. Those
-    /// are Quiet then that are so at this slot.
+    /// The index of the first step whose slot has too few parts, if one does. The parts that are
+    /// Quiet at this slot are then marked so.
     pub(crate) fn first_unmet(
         &mut self,
         steps: &[Step],

@@ -1,4 +1,4 @@
-//! A guess at the line where a log became one that no population could have given.
+//! A guess at the line at which a log became impossible.
 
 ghost use Rattle.std.specs.Prelude.{◌≤◌, IfOk, length};
 
@@ -6,11 +6,11 @@ use crate::course::course_of;
 use std::alloc::{AllocError, Global};
 use vic_log::PackedLine;
 
-/// How many lines are looked at first, so that an early line costs little: more each time.
+/// How many lines are looked at first, more each time, so that an early line costs little.
 const BEGINNINGS: [usize; 3] = [1_000, 10_000, 100_000];
 
-/// A guess at how many lines come before the first one up to which no population could have given a
-/// log; all where there seems to be none.
+/// A guess at how many lines come before the first impossible line of a log; all of them if there
+/// seems to be none.
 pub fn guess_impossible_line(alloc: Global, lines: &[PackedLine]) -> Result<usize, AllocError>
     ensures { IfOk result (λ index. index ≤ length lines.now) }
 {

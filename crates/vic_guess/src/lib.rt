@@ -1,10 +1,10 @@
 //! Guesses about a log: where it became impossible, which lines rule UIDs out, and which lines
 //! contradict each other.
 //!
-//! Each guess goes over the lines a few times, whatever the lines are, and is right as far as tests
-//! show. Nothing is promised of it but that it takes memory by the allocator, and answers its
-//! refusal. So nobody takes a guess for true: the crates above judge by it where to begin, test what
-//! it says, and have a slower answer for one that is wrong.
+//! Each guess walks over the lines a few times, whatever they are, and is right as far as tests
+//! show. Nothing is promised about it, except that it takes memory from the allocator and reports a
+//! refusal. So no answer rests on a guess: the crates above use it to choose where to begin, check
+//! what it says, and have a slower way if it is wrong.
 #![tactic(auto)]
 
 mod absent;

@@ -1,18 +1,18 @@
-//! Marks in a row, of which the first one of any part of it is found at once.
+//! Marks in a row; the first one in any part of the row is found at once.
 
 use std::alloc::{AllocError, Global};
 
 /// How many marks a word has.
 const WORD: usize = 64;
 
-/// A row of places, of which some are marked.
+/// A row of positions, some of which are marked.
 #[derive(Drop)]
 pub(crate) struct Marks {
-    /// A bit for each place, set where it is marked.
+    /// A bit for each position, set if it is marked.
     places: Vec<u64>,
-    /// A bit for each word of `places`, set where that word isn't 0.
+    /// A bit for each word of `places`, set if that word isn't 0.
     words: Vec<u64>,
-    /// A bit for each word of `words`, set where that word isn't 0.
+    /// A bit for each word of `words`, set if that word isn't 0.
     groups: Vec<u64>,
 }
 
@@ -22,7 +22,7 @@ fn set(bits: &mut [u64], place: usize) {
     }
 }
 
-/// Takes a bit back, and tells whether its word is 0 then.
+/// Clears a bit, and returns whether its word is then 0.
 fn clear(bits: &mut [u64], place: usize) -> bool {
     match bits.get_mut(place / WORD) {
         Some(word) => {
@@ -33,7 +33,7 @@ fn clear(bits: &mut [u64], place: usize) -> bool {
     }
 }
 
-/// The first bit from a place on that is set in the word of that place.
+/// The first bit, from a position on, that is set in the word of that position.
 fn next_in_word(bits: &[u64], from: usize) -> Option<usize> {
     let ahead = *bits.get(from / WORD)? >> (from % WORD);
     if ahead == 0 {
@@ -48,7 +48,7 @@ fn first_in_word(bits: &[u64], word: usize) -> Option<usize> {
 }
 
 impl Marks {
-    /// So many places, none of them marked.
+    /// That many positions, none of them marked.
     pub(crate) fn new(alloc: Global, count: u32) -> Result<Marks, AllocError> {
         let count = count as usize;
         Ok(Marks {
@@ -58,7 +58,7 @@ impl Marks {
         })
     }
 
-    /// So many places, all of them marked.
+    /// That many positions, all of them marked.
     pub(crate) fn all(alloc: Global, count: u32) -> Result<Marks, AllocError> {
         let mut marks = Marks::new(alloc, count)?;
         for place in 0..count {
@@ -67,7 +67,7 @@ impl Marks {
         Ok(marks)
     }
 
-    /// Marks a place.
+    /// Marks a position.
     pub(crate) fn put(&mut self, place: u32) {
         let place = place as usize;
         set(&mut self.places, place);
@@ -75,7 +75,7 @@ impl Marks {
         set(&mut self.groups, place / WORD / WORD);
     }
 
-    /// Takes the mark of a place.
+    /// Removes the mark of a position.
     pub(crate) fn take(&mut self, place: u32) {
         let place = place as usize;
         if clear(&mut self.places, place) && clear(&mut self.words, place / WORD) {
@@ -83,12 +83,12 @@ impl Marks {
         }
     }
 
-    /// Whether a place is marked.
+    /// Whether a position is marked.
     pub(crate) fn has(&self, place: u32) -> bool {
         next_in_word(&self.places, place as usize) == Some(place as usize)
     }
 
-    /// The first marked place from the place `from` to the one before `to`.
+    /// The first marked position from `from` on and before `to`.
     pub(crate) fn first(&self, from: u32, to: u32) -> Option<u32> {
         let place = self.place_from(from as usize)?;
         if place < to as usize {
@@ -114,7 +114,8 @@ impl Marks {
         first_in_word(&self.words, group)
     }
 
-    /// A row of a million places has four words of groups, which are looked at one by one.
+    /// The next group with a mark. A row of a million positions has four words of groups, which are
+    /// searched one by one.
     fn group_from(&self, from: usize) -> Option<usize> {
         if let Some(group) = next_in_word(&self.groups, from) {
             return Some(group);

@@ -1,4 +1,4 @@
-//! Parts of the UIDs that fare alike in a log, numbered in the order of their keys.
+//! Parts: UIDs that a log treats alike, numbered in the order of their keys.
 //!
 //! Masks begin and end parts; a UID that a line names is a part of its own.
 
@@ -8,7 +8,7 @@ ghost use Rattle.vic_frame.specs.declared.uid.TheConstants.{UID_BITS};
 use std::alloc::{AllocError, Global};
 use vic_frame::UID_BITS;
 
-/// How many of a key's 56 bits the index over the borders goes by at most.
+/// How many of a key's 56 bits the index over the borders uses at most.
 const MOST_INDEX_BITS: u32 = 24;
 
 /// A UID that a line silences or hears: its key, and the index of the line.
@@ -23,20 +23,20 @@ pub(crate) struct NamedUid {
 pub(crate) struct Parts {
     /// In rising order.
     borders: Vec<u64>,
-    /// At the index of each line the part of the UID that it names.
+    /// At the index of each line, the part of the UID that it names.
     named: Vec<u32>,
-    /// The first border: keys are counted from it, so that an index serves keys that share their
-    /// top bits.
+    /// The first border: keys are counted from it, so that the index also works for keys that share
+    /// their top bits.
     base: u64,
-    /// How many borders are lower than the least key with given top bits, so that a border is
-    /// looked for among few.
+    /// How many borders are below the least key with given top bits, so that a border is searched
+    /// for among few.
     lower: Vec<u32>,
     /// By how many bits a key, counted from the base, is shifted to its top bits.
     shift: u32,
     ghost in_key: { shift ≤ UID_BITS },
 }
 
-/// Parts that stand together: from the number `from` to the one before `to`.
+/// Consecutive parts: from number `from` to the one before `to`.
 #[derive(Clone, Copy)]
 pub(crate) struct Span {
     pub from: u32,
@@ -44,7 +44,7 @@ pub(crate) struct Span {
 }
 
 impl Span {
-    /// What of it comes before a part.
+    /// Its parts before a part.
     pub(crate) fn before(&self, part: u32) -> Span {
         Span {
             from: self.from,
@@ -52,7 +52,7 @@ impl Span {
         }
     }
 
-    /// A part of it; nothing where it doesn't have that.
+    /// Only this part of it; nothing if it doesn't have it.
     pub(crate) fn only(&self, part: u32) -> Span {
         Span {
             from: self.from.max(part),
@@ -60,7 +60,7 @@ impl Span {
         }
     }
 
-    /// What of it comes after a part.
+    /// Its parts after a part.
     pub(crate) fn after(&self, part: u32) -> Span {
         Span {
             from: self.from.max(part.saturating_add(1)),
@@ -77,7 +77,7 @@ pub(crate) fn number_of(count: usize) -> u32 {
     }
 }
 
-/// Adds a border where it isn't the last one already.
+/// Adds a border, unless it is the last one already.
 fn push_border(borders: &mut Vec<u64>, border: u64) -> Result<(), AllocError> {
     if borders.last() != Some(&border) {
         borders.push(border)?;
@@ -85,7 +85,8 @@ fn push_border(borders: &mut Vec<u64>, border: u64) -> Result<(), AllocError> {
     Ok(())
 }
 
-/// Adds those of some borders up to a key, from index `next` on; the index behind them.
+/// Adds those of some borders, from index `next` on, that are at most a key; returns the index
+/// after them.
 fn push_up_to(
     borders: &mut Vec<u64>,
     masks: &[u64],
@@ -101,8 +102,8 @@ fn push_up_to(
     Ok(masks.len())
 }
 
-/// The borders of masks and those around UIDs that lines name, in order; into `named` goes the part
-/// of each line's UID.
+/// The borders of masks and those around UIDs that lines name, in order; `named` gets the part of
+/// each line's UID.
 fn all_borders(
     alloc: Global,
     mut masks: Vec<u64>,
@@ -133,8 +134,8 @@ fn all_borders(
     Ok(borders)
 }
 
-/// The first of some borders in order, and by how many bits the others, counted from it, are shifted
-/// to so many top bits.
+/// The first of some borders in order, and by how many bits the others, counted from it, are
+/// shifted so that `bits` top bits are left.
 fn base_and_shift(borders: &[u64], bits: u32) -> (u64, u32)
     ensures { result.1 ≤ UID_BITS }
 {
@@ -148,7 +149,7 @@ fn base_and_shift(borders: &[u64], bits: u32) -> (u64, u32)
     (*base, most.saturating_sub(bits).min(u32::from(UID_BITS)))
 }
 
-/// How many borders have each value of their top bits, one further on; 0 at first.
+/// How many borders have each value of their top bits, shifted by one; the first is 0.
 fn count_by_top(
     alloc: Global,
     borders: &[u64],
@@ -169,7 +170,7 @@ fn count_by_top(
     Ok(counts)
 }
 
-/// Puts the sum of all numbers up to each into its place.
+/// Replaces each number with the sum of all up to it.
 fn sum_up(counts: &mut [u32]) {
     let mut sum: u32 = 0;
     for count in counts.iter_mut() {
@@ -235,7 +236,7 @@ impl Parts {
         }
     }
 
-    /// Whether a part has more UIDs than one.
+    /// Whether a part has more than one UID.
     pub(crate) fn has_several(&self, part: u32) -> bool {
         let part = part as usize;
         match (self.borders.get(part), self.borders.get(part + 1)) {

@@ -10,7 +10,7 @@ use vic_log::{Entry, PackedLine, RoundCursor};
 /// What a slot was found to hold.
 #[derive(Clone, Copy)]
 pub(crate) enum Found {
-    /// Nobody.
+    /// No tag.
     Nobody,
     /// One UID, which was read.
     One(u32),
@@ -21,7 +21,7 @@ pub(crate) enum Found {
 }
 
 impl Found {
-    /// How many tags answered in the slot, at least, that weren't read.
+    /// How many tags, at least, answered in the slot without being read.
     pub(crate) fn need(&self) -> u32 {
         match *self {
             Found::Nobody | Found::One(_) => 0,
@@ -30,7 +30,7 @@ impl Found {
         }
     }
 
-    /// Whether it rules out a part that would have answered there.
+    /// Whether it rules out this part, which would have answered there.
     pub(crate) fn rules_out(&self, part: u32) -> bool {
         match *self {
             Found::Nobody => true,
@@ -43,7 +43,7 @@ impl Found {
 /// What a line does.
 #[derive(Clone, Copy)]
 pub(crate) enum Step {
-    /// A UID falls silent.
+    /// A UID is silenced.
     Quiet(u32),
     /// All are Ready again.
     Wake,
@@ -51,8 +51,7 @@ pub(crate) enum Step {
     Slot(u32, Span, Found),
 }
 
-/// The first key of the slot that comes next, and the one after its last; none where no UID lies in
-/// its mask.
+/// The first key of the next slot, and the one after its last; none if no UID lies in its mask.
 fn slot_keys(rounds: &RoundCursor) -> Option<(u64, u64)> {
     let block = rounds.keys()?;
     Some((block.first, block.last().saturating_add(1)))
@@ -87,7 +86,7 @@ fn push_borders(
     Ok(())
 }
 
-/// The parts of the UIDs that fare alike in a log.
+/// The parts of the UIDs that a log treats alike.
 pub(crate) fn parts_of(alloc: Global, lines: &[PackedLine]) -> Result<Parts, AllocError> {
     let mut borders = Vec::new(alloc);
     let mut names = Vec::new(alloc);
@@ -133,8 +132,8 @@ fn step_of(
     Some(Step::Slot(number, span, found))
 }
 
-/// Whether a part that falls silent was Ready. It is noted in which stretch it fell silent, counted
-/// from 1.
+/// Whether a part that is silenced was Ready. The stretch in which it was silenced, counted from 1,
+/// is noted.
 fn was_ready(fallen: &mut [u32], part: u32, stretch: u32) -> bool {
     match fallen.get_mut(part as usize) {
         Some(last) if *last < stretch => {
@@ -145,7 +144,7 @@ fn was_ready(fallen: &mut [u32], part: u32, stretch: u32) -> bool {
     }
 }
 
-/// What the lines of a log do. What is Quiet doesn't fall silent once more.
+/// What the lines of a log do. What is Quiet isn't silenced again.
 pub(crate) fn steps_of(
     alloc: Global,
     lines: &[PackedLine],

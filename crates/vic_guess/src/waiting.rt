@@ -1,11 +1,11 @@
-//! The parts of the UIDs that wait for a line that rules them out.
+//! The parts of the UIDs that wait for a line to rule them out.
 
 use crate::marks::Marks;
 use crate::parts::number_of;
 use crate::steps::{Found, Span, Step};
 use std::alloc::{AllocError, Global};
 
-/// Parts that wait, and of them those that are Ready.
+/// Parts that wait, and those of them that are Ready.
 #[derive(Drop)]
 pub(crate) struct Waiting {
     waits: Marks,
@@ -32,26 +32,26 @@ impl Waiting {
         self.waits.has(part)
     }
 
-    /// A part is Ready.
+    /// Makes a part Ready, if it waits.
     pub(crate) fn show(&mut self, part: u32) {
         if self.has(part) {
             self.ready.put(part);
         }
     }
 
-    /// Some parts are.
+    /// Makes those of some parts Ready that wait.
     pub(crate) fn show_all(&mut self, parts: &[u32]) {
         for part in parts {
             self.show(*part);
         }
     }
 
-    /// A part is Quiet.
+    /// Makes a part Quiet.
     pub(crate) fn hide(&mut self, part: u32) {
         self.ready.take(part);
     }
 
-    /// The parts are Quiet that fell silent in the last of some steps, since all were Ready.
+    /// Makes those parts Quiet that some steps silenced since all were last made Ready.
     fn hide_last(&mut self, steps: &[Step]) {
         for step in steps.iter().rev() {
             match *step {
@@ -62,7 +62,7 @@ impl Waiting {
         }
     }
 
-    /// A part of a span that waits and is Ready, which then waits no more.
+    /// Takes out a part of a span that waits and is Ready.
     fn take(&mut self, span: Span) -> Option<u32> {
         let part = self.ready.first(span.from, span.to)?;
         self.waits.take(part);
@@ -70,7 +70,7 @@ impl Waiting {
         Some(part)
     }
 
-    /// All of them.
+    /// Takes out all parts of a span that wait and are Ready.
     pub(crate) fn take_all(&mut self, span: Span) {
         for _ in span.from..span.to {
             if self.take(span).is_none() {
@@ -79,7 +79,7 @@ impl Waiting {
         }
     }
 
-    /// Notes a line at all of them.
+    /// Takes out all parts of a span that wait and are Ready, and notes a line for each.
     fn rule_out(&mut self, span: Span, line: u32, last: &mut [u32]) {
         for _ in span.from..span.to {
             let Some(part) = self.take(span) else {
@@ -102,7 +102,7 @@ pub(crate) fn ruled_spans(span: Span, found: Found) -> [Span; 2] {
     }
 }
 
-/// The line that is the last to rule out each part of those that answer; 0 where none does.
+/// For each part that answers, the last line that rules it out; 0 if none does.
 pub(crate) fn last_rulings(
     alloc: Global,
     steps: &[Step],

@@ -9,13 +9,13 @@ use Rattle.vic_log.specs.Lines.{lf, cr, cut, ends_with, content}
 use Rattle.vic_log.specs.Log.{LogValue}
 use Rattle.vic_log.specs.Text.{version_of, log_upto, fault_on}
 
--- bytes without LF that may be a line yet, with the CR of its end
+-- bytes without LF that may still be a line, with the CR of its end
 abbrev pub IsShort : List ℕ → Type 0
 IsShort line =
     (length line ≤ MAX_LINE_LEN)
     ⊎ ((length line ≡ MAX_LINE_LEN + 1) × (ends_with cr line ≡ true))
 
--- the text is so many lines without a fault, which gave this log, and a line begun that isn't too
+-- the text is that many lines without a fault, whose log this is, and a line begun that isn't too
 -- long yet
 pub record HasJudged (text : List ℕ) (log : LogValue) (number : ℕ) (line : List ℕ)
     : Type 0 where
@@ -30,22 +30,22 @@ pub record HasJudged (text : List ℕ) (log : LogValue) (number : ℕ) (line : L
   pub short : IsShort line
   pub last : number ≡ MAX_LINES → line ≡ []
 
--- so many bytes at most can still come before a line is too long or one too many
+-- at most this many bytes can follow before a line is too long or one too many
 abbrev pub spare : ℕ → List ℕ → ℕ
 spare number line = LINE_ROOM * (MAX_LINES - number) - length line
 
--- the same of what a reader keeps
+-- the same about what a reader keeps
 abbrev pub HasTaken : List ℕ → Begun → Type 0
 HasTaken text b = HasJudged text b.log b.number b.line.items
 
 abbrev pub spare_of : Begun → ℕ
 spare_of b = spare b.number b.line.items
 
--- a reader that was fed this text: it is within the limit, with what can still come
+-- a reader that was fed this text, which is within the limit, even with all that can still follow
 abbrev pub IsFed : List ℕ → Begun → Type 0
 IsFed text b = HasTaken text b × (length text + spare_of b ≤ MAX_TEXT_LEN)
 
--- a line without LF, and what stands behind its LF
+-- a line without its LF, and what follows that LF
 pub record IsSplit (bytes line rest : List ℕ) : Type 0 where
   pub whole : bytes ≡ line ++ lf ∷ rest
   pub no_lf : has line lf ≡ false

@@ -1,4 +1,4 @@
--- The rules of log version 1, which knows no garbled slots and no field cycles.
+-- The rules of log version 1, which has no garbled slots and no field cycles.
 use Rattle.std.specs.Prelude.{◌≡◌, ◌≢◌, ℕ, zero, suc, ◌-◌, ◌<◌, Bool, true, false, not, ◌&&◌, ◌||◌, Option, Some, None, List, ⊤, slice_get, if◌then◌else◌}
 use Rattle.std.specs.List.{filter}
 use Rattle.vic_frame.specs.Slots.{slot_count}
@@ -38,7 +38,7 @@ FitsFirst (Heard r) o = o ≡ Lone r.uid
 FitsFirst Collision o = o ≡ Several
 FitsFirst e o = ⊤
 
--- a tag with this UID answers in the slot at place i
+-- a tag with this UID answers in the slot at position i
 abbrev pub answers_first_at : List Entry → ℕ → ℕ → Bool
 answers_first_at es i u =
     lies_in_some (mask_since es i (first_opener es i)) u && not (is_first_quiet es i u)
@@ -49,14 +49,14 @@ CouldHaveGivenFirst p es =
     (i : ℕ) (e : Entry) → slice_get es i ≡ Some e
     → FitsFirst e (outcome_of (filter (answers_first_at es i) p))
 
--- the entry tells of a slot
+-- the entry is a slot line
 abbrev pub is_first_slot : Entry → Bool
 is_first_slot Silent = true
 is_first_slot Collision = true
 is_first_slot (Heard r) = true
 is_first_slot e = false
 
--- place i is a slot of the request that its opener sent
+-- position i is a slot of the request that its opener sent
 abbrev pub IsInFirstRound : List Entry → ℕ → Type 0
 IsInFirstRound es i =
     (j : ℕ) × (q : Request)

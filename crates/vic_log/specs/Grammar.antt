@@ -42,7 +42,7 @@ SpellsEntry version line (Listed u) = IsUid u × HasBytes line (byte "U") (to_be
 SpellsEntry version line Garbled = (version ≡ V2) × (line ≡ codes "D")
 SpellsEntry version line FieldCycle = (version ≡ V2) × (line ≡ codes "F")
 
--- the content is passed over: it is empty, or begins with #
+-- the line is ignored: its content is empty, or begins with #
 abbrev pub IsPassedOver : List ℕ → Type 0
 IsPassedOver line =
     (length line ≤ MAX_LINE_LEN)

@@ -1,4 +1,4 @@
--- What a log keeps beside its lines, to tell at once what may follow.
+-- What a log keeps beside its lines, to see at once what may follow.
 use Rattle.std.specs.Prelude.{◌≡◌, ℕ, ◌-◌, Bool, not, List, length}
 use Rattle.vic_frame.specs.Slots.{slot_count}
 use Rattle.vic_log.specs.declared.entry.Entry.{Entry}
@@ -9,7 +9,7 @@ use Rattle.vic_log.specs.Log.{IsLog}
 use Rattle.vic_log.specs.Order.{entries, listed, is_empty}
 use Rattle.vic_log.specs.Rounds.{slots_left}
 
--- how many slots of the round are left after an entry, where so many are left before it
+-- how many slots of the round are left after an entry, given how many are left before it
 abbrev pub left_after : ℕ → Entry → ℕ
 left_after left (Sent q) = slot_count q
 left_after left (Listed u) = 0

@@ -17,7 +17,7 @@ use Rattle.vic_log.specs.declared.entry.Version.TheVariants.{V1, V2}
 use Rattle.vic_log.specs.declared.fault.LineFault.{LineFault}
 use Rattle.vic_log.specs.declared.fault.LineFault.TheVariants.{LineTooLong, UnknownEntry, Hex, ListedLength, Frame, NotVicinity}
 
--- an empty line and a line whose first byte is # are passed over
+-- an empty line and a line whose first byte is # are ignored
 abbrev pub is_passed_over : List ℕ → Bool
 is_passed_over line = length line == 0 || slice_index line 0 == byte "#"
 
@@ -29,7 +29,7 @@ abbrev pub heard : Result Reply FrameFault → Result (Option Entry) LineFault
 heard (Ok r) = Ok (Some (Heard r))
 heard (Err f) = Err (Frame f)
 
--- what a line that claims a number says: that UID is listed, or the number is none
+-- what a line that claims a number says: that UID is listed, or the number isn't a UID
 abbrev pub claimed : ℕ → Result (Option Entry) LineFault
 claimed number = if is_uid number then Ok (Some (Listed number)) else Err NotVicinity
 
@@ -51,14 +51,14 @@ added_letter V2 letter =
     else if letter == byte "F" then Ok (Some FieldCycle)
     else Err UnknownEntry
 
--- a letter alone: S and C, and those that the version adds
+-- only a letter: S and C, and those that the version adds
 abbrev pub one_letter : Version → ℕ → Result (Option Entry) LineFault
 one_letter version letter =
     if letter == byte "S" then Ok (Some Silent)
     else if letter == byte "C" then Ok (Some Collision)
     else added_letter version letter
 
--- T, R and U with hex digits behind a space
+-- T, R and U with hex digits after a space
 abbrev pub with_digits : ℕ → List ℕ → Result (Option Entry) LineFault
 with_digits letter digits =
     if letter == byte "T"
@@ -68,8 +68,8 @@ with_digits letter digits =
     else if letter == byte "U" then with_bytes listed_uid (decode_of digits)
     else Err UnknownEntry
 
--- the entry that a line after the header spells in this version, None where it is passed over, or
--- the first of the faults that it has by itself
+-- the entry that a line after the header spells in this version, None if it is ignored, or the
+-- first of the faults that it has by itself
 abbrev pub line_reading : Version → List ℕ → Result (Option Entry) LineFault
 line_reading version line =
     if nat_lt MAX_LINE_LEN (length line) then Err LineTooLong

@@ -19,15 +19,15 @@ pub record LogValue : Type 0 where
   pub lines : List LogLine
   pub version : Version
 
--- with these lines more
+-- with these lines added
 abbrev pub with_lines : LogValue → List LogLine → LogValue
 with_lines log lines = record { lines = log.lines ++ lines; version = log.version }
 
--- with this line more
+-- with this line added
 abbrev pub with_line : LogValue → ℕ → Entry → LogValue
 with_line log number item = with_lines log (record { number = number; item = item } ∷ [])
 
--- the number of the last line, n where there is none
+-- the number of the last line, n if there is none
 abbrev pub last_from : ℕ → List LogLine → ℕ
 last_from n [] = n
 last_from n (l ∷ lines) = last_from l.number lines
@@ -47,8 +47,8 @@ abbrev pub IsValidEntry : Entry → Type 0
 IsValidEntry (Sent q) = IsValid q
 IsValidEntry e = ⊤
 
--- the lines of a log: entries in order, on lines 2 to 1,000,000, in version 1 no others than it
--- knows
+-- the lines of a log: entries in order, on lines 2 to 1,000,000, in version 1 only those that it
+-- has
 pub record IsLog (version : Version) (lines : List LogLine) : Type 0 where
   pub order : IsInOrder (entries lines)
   pub rising : IsRisingFrom 1 lines
@@ -57,7 +57,7 @@ pub record IsLog (version : Version) (lines : List LogLine) : Type 0 where
   pub typed : AreTyped (entries lines)
   pub first_version : version ≡ V1 → AreOfFirstVersion (entries lines)
 
--- an entry is refused by its reason, and for want of memory only where there is none
+-- an entry is refused for its reason, or because memory was refused only if there is no reason
 abbrev pub RefusesOr : Option PushFault → PushFault → Type 0
 RefusesOr reason Memory = reason ≡ None
 RefusesOr reason fault = reason ≡ Some fault

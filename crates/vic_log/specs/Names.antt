@@ -4,7 +4,7 @@ use Rattle.vic_frame.specs.Names.{fault_name}
 use Rattle.vic_log.specs.declared.fault.LineFault.{LineFault}
 use Rattle.vic_log.specs.declared.fault.LineFault.TheVariants.{TooManyLines, LineTooLong, Header, UnknownEntry, Hex, ListedLength, Frame, NotVicinity, SlotOutsideRound, EntryAfterList, DuplicateListed}
 
--- the fault of a frame has the frame's name for it
+-- the fault of a frame has the same name as in the frame
 abbrev pub line_fault_name : LineFault → List ℕ
 line_fault_name TooManyLines = codes "TooManyLines"
 line_fault_name LineTooLong = codes "LineTooLong"

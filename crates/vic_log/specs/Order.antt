@@ -28,7 +28,7 @@ pub record IsInOrder (es : List Entry) : Type 0 where
   pub once : (i j : ℕ) (u w : ℕ) → i < j → slice_get es i ≡ Some (Listed u)
       → slice_get es j ≡ Some (Listed w) → u ≢ w
 
--- a slot line with no slot of a round left
+-- a slot line when no slot of a round is left
 abbrev pub is_outside_round : List Entry → Entry → Bool
 is_outside_round es e = if is_slot e then not (nat_lt 0 (slots_left es (length es))) else false
 
@@ -47,7 +47,7 @@ abbrev pub is_duplicate : List Entry → Entry → Bool
 is_duplicate es (Listed u) = has (listed es) u
 is_duplicate es e = false
 
--- the first reason why an entry can't follow others in order, by names for the three
+-- the first reason why an entry can't follow others in order, named by these three
 abbrev pub first_reason : {F : Type 0} → F → F → F → List Entry → Entry → Option F
 first_reason outside_round after_list duplicate es e =
     if is_outside_round es e then Some outside_round
@@ -55,7 +55,7 @@ first_reason outside_round after_list duplicate es e =
     else if is_duplicate es e then Some duplicate
     else None
 
--- why a log refuses an entry behind others
+-- why a log refuses an entry after others
 abbrev pub refusal : List Entry → Entry → Option PushFault
 refusal es e = first_reason SlotOutsideRound EntryAfterList DuplicateListed es e
 

@@ -1,4 +1,4 @@
--- Populations of tags, which of them answer, and which populations could have given a log's
+-- Populations of tags, which of them answer, and which populations could have produced a log's
 -- entries.
 use Rattle.std.specs.Prelude.{◌≡◌, ◌≢◌, ℕ, Bool, false, not, ◌&&◌, Some, List, [], ◌∷◌, ⊤, slice_get}
 use Rattle.std.specs.List.{filter}
@@ -13,7 +13,7 @@ abbrev pub IsPopulation : List ℕ → Type 0
 IsPopulation [] = ⊤
 IsPopulation (u ∷ us) = IsUid u × (has us u ≡ false) × IsPopulation us
 
--- a tag with this UID answers in the slot at place i, where it is in the field: it is Ready, and
+-- a tag with this UID, if it is in the field, answers in the slot at position i: it is Ready, and
 -- lies in the slot's mask
 abbrev pub answers_at : List Entry → ℕ → ℕ → Bool
 answers_at es i u = lies_in_some (mask_at es i) u && not (is_quiet es i u)
@@ -24,17 +24,17 @@ pub data Outcome : Type 0 where
   Lone : (uid : ℕ) → Outcome
   Several : Outcome
 
--- the outcome where these tags answer
+-- the outcome if these tags answer
 abbrev pub outcome_of : List ℕ → Outcome
 outcome_of [] = Nobody
 outcome_of (u ∷ []) = Lone u
 outcome_of (u ∷ v ∷ us) = Several
 
--- the outcome of the slot at place i in a population
+-- the outcome of the slot at position i in a population
 abbrev pub outcome_at : List Entry → ℕ → List ℕ → Outcome
 outcome_at es i p = outcome_of (filter (answers_at es i) p)
 
--- an entry fits an outcome of its slot; an entry that is no slot line fits any
+-- an entry fits an outcome of its slot; an entry that isn't a slot line fits any
 abbrev pub Fits : Entry → Outcome → Type 0
 Fits Silent o = o ≡ Nobody
 Fits (Heard r) o = o ≡ Lone r.uid

@@ -1,4 +1,4 @@
--- Which tags are Quiet (ISO/IEC 15693-3, Stay Quiet), found by looking back from a place.
+-- Which tags are Quiet (ISO/IEC 15693-3, Stay Quiet), found by looking back from a position.
 use Rattle.std.specs.Prelude.{◌≡◌, ◌≢◌, ◌<◌, ℕ, zero, suc, ◌==◌, Bool, true, false, not, ◌&&◌, ◌||◌, Option, Some, None, List, slice_get}
 use Rattle.vic_frame.specs.declared.request.Request.TheVariants.{StayQuiet}
 use Rattle.vic_log.specs.declared.entry.Entry.{Entry}
@@ -16,14 +16,14 @@ wakes (Some FieldCycle) = true
 wakes (Some e) = false
 wakes None = false
 
--- a tag with this UID is Quiet at place i: a Stay Quiet with it stands before i, and no field cycle
--- between
+-- a tag with this UID is Quiet at position i: a Stay Quiet with it comes before i, with no field
+-- cycle in between
 abbrev pub is_quiet : List Entry → ℕ → ℕ → Bool
 is_quiet es zero u = false
 is_quiet es (suc j) u =
     silences (slice_get es j) u || (not (wakes (slice_get es j)) && is_quiet es j u)
 
--- the same, said of all places between
+-- the same, said of all positions in between
 abbrev pub IsSilenced : List Entry → ℕ → ℕ → Type 0
 IsSilenced es i u =
     (j : ℕ) × (j < i) × (silences (slice_get es j) u ≡ true)

@@ -1,4 +1,4 @@
--- Rounds, found by looking back from a place of a list of entries (ISO/IEC 15693-3, inventory
+-- Rounds, found by looking back from a position in a list of entries (ISO/IEC 15693-3, inventory
 -- sequence).
 use Rattle.std.specs.Prelude.{◌≡◌, ℕ, zero, suc, ◌-◌, ◌<◌, Bool, true, false, Option, Some, None, List, slice_get, if◌then◌else◌}
 use Rattle.vic_frame.specs.Masks.{BitMask, lies_in}
@@ -7,7 +7,7 @@ use Rattle.vic_frame.specs.declared.request.Request.{Request}
 use Rattle.vic_log.specs.declared.entry.Entry.{Entry}
 use Rattle.vic_log.specs.declared.entry.Entry.TheVariants.{Sent, Silent, Collision, Heard, Listed, Garbled, FieldCycle}
 
--- the entry tells of a slot
+-- the entry is a slot line
 abbrev pub is_slot : Entry → Bool
 is_slot Silent = true
 is_slot Collision = true
@@ -25,12 +25,12 @@ ends_round (Some FieldCycle) = true
 ends_round (Some e) = false
 ends_round None = false
 
--- the last place before i whose entry ends a round
+-- the last position before i whose entry ends a round
 abbrev pub opener : List Entry → ℕ → Option ℕ
 opener es zero = None
 opener es (suc j) = if ends_round (slice_get es j) then Some j else opener es j
 
--- place i is a slot of the request that its opener sent
+-- position i is a slot of the request that its opener sent
 abbrev pub IsInRound : List Entry → ℕ → Type 0
 IsInRound es i =
     (j : ℕ) × (q : Request) × (opener es i ≡ Some j) × (slice_get es j ≡ Some (Sent q))
@@ -46,7 +46,7 @@ abbrev pub left_since : List Entry → ℕ → Option ℕ → ℕ
 left_since es i (Some j) = slots_opened (slice_get es j) - (i - suc j)
 left_since es i None = 0
 
--- how many slots of the round are left at place i: those that its opener opens, without those
+-- how many slots of the round are left at position i: those that its opener opens, without those in
 -- between
 abbrev pub slots_left : List Entry → ℕ → ℕ
 slots_left es i = left_since es i (opener es i)
@@ -61,12 +61,11 @@ abbrev pub mask_since : List Entry → ℕ → Option ℕ → Option BitMask
 mask_since es i (Some j) = mask_of_slot (slice_get es j) (i - suc j)
 mask_since es i None = None
 
--- the mask of the slot that a slot line at place i tells of. Its slots are counted from the opener
--- on
+-- the mask of the slot that a slot line at position i is about; slots are counted from the opener
 abbrev pub mask_at : List Entry → ℕ → Option BitMask
 mask_at es i = mask_since es i (opener es i)
 
--- the UID lies in the mask, where there is one
+-- the UID lies in the mask, if there is one
 abbrev pub lies_in_some : Option BitMask → ℕ → Bool
 lies_in_some (Some m) u = lies_in m u
 lies_in_some None u = false

@@ -1,5 +1,5 @@
--- What a log says, slot by slot, without its requests and places: for each slot line, which tags
--- would answer, and what was read. And which UIDs that leaves open.
+-- What a log says, slot by slot, without its requests and positions: for each slot line, which tags
+-- would answer, and what was read; and which UIDs that leaves open.
 use Rattle.std.specs.Prelude.{◌≡◌, ◌≢◌, ◌⊎◌, ℕ, zero, suc, ◌==◌, Bool, true, not, ◌&&◌, ◌||◌, Option, Some, None, List, [], ◌∷◌, ⊤, slice_get, length}
 use Rattle.std.specs.List.{list_all, AllByRecursion}
 use Rattle.vic_log.specs.declared.entry.Entry.{Entry}
@@ -15,7 +15,7 @@ pub data Reading : Type 0 where
   SomeReply : Reading
 
 pub record Slot : Type 0 where
-  pub answers : ℕ → Bool  -- the UIDs of the tags that answer, where they are in the field
+  pub answers : ℕ → Bool  -- the UIDs of the tags that answer, if they are in the field
   pub reading : Reading
 
 -- the reading of a slot line
@@ -28,7 +28,7 @@ reading_of (Sent q) = None
 reading_of (Listed u) = None
 reading_of FieldCycle = None
 
--- one slot more, where there is one
+-- with one more slot, if there is one
 abbrev pub with_reading : (ℕ → Bool) → Option Reading → List Slot → List Slot
 with_reading answers None slots = slots
 with_reading answers (Some r) slots = record { answers = answers; reading = r } ∷ slots
@@ -37,7 +37,7 @@ abbrev pub with_entry : (ℕ → Bool) → Option Entry → List Slot → List S
 with_entry answers None slots = slots
 with_entry answers (Some e) slots = with_reading answers (reading_of e) slots
 
--- the slots of the first n entries, the last one first
+-- the slots of the first n entries, last one first
 abbrev pub slots_before : List Entry → ℕ → List Slot
 slots_before es zero = []
 slots_before es (suc i) = with_entry (answers_at es i) (slice_get es i) (slots_before es i)
@@ -46,7 +46,7 @@ slots_before es (suc i) = with_entry (answers_at es i) (slice_get es i) (slots_b
 abbrev pub slots_of : List Entry → List Slot
 slots_of es = slots_before es (length es)
 
--- a tag that answers (or not) may be in the field, by this reading alone
+-- by this reading alone, a tag that answers (or doesn't) may be in the field
 abbrev pub may_be : Reading → Bool → ℕ → Bool
 may_be NoReply answers u = not answers
 may_be (OneReply h) answers u = not answers || (u == h)
@@ -60,21 +60,21 @@ allows u s = may_be s.reading (s.answers u) u
 abbrev pub is_open : List Slot → ℕ → Bool
 is_open slots u = is_uid u && list_all (allows u) slots
 
--- what a reading asks of the set of tags that could have answered
+-- what a reading requires of the set of tags that could have answered
 abbrev pub Asks : Reading → (ℕ → Bool) → Type 0
 Asks NoReply t = ⊤
 Asks (OneReply h) t = t h ≡ true
 Asks ManyReplies t = (u v : ℕ) × (u ≢ v) × (t u ≡ true) × (t v ≡ true)
 Asks SomeReply t = (u : ℕ) × (t u ≡ true)
 
--- the set of UIDs has the tags that the slot asks for
+-- the set of UIDs has the tags that the slot requires
 abbrev pub Supplies : (ℕ → Bool) → Slot → Type 0
 Supplies set s = Asks s.reading (λ u. set u && s.answers u)
 
 abbrev pub SuppliesAll : (ℕ → Bool) → List Slot → Type 0
 SuppliesAll set slots = AllByRecursion (Supplies set) slots
 
--- the reading tells that the UID is there, where t are the UIDs that could have answered
+-- the reading shows that the UID is there; t are the UIDs that could have answered
 abbrev pub Forces : Reading → (ℕ → Bool) → ℕ → Type 0
 Forces NoReply t u = ⊥
 Forces (OneReply h) t u = h ≡ u
@@ -83,7 +83,7 @@ Forces ManyReplies t u =
     × ((w : ℕ) → t w ≡ true → (w ≡ u) ⊎ (w ≡ v))
 Forces SomeReply t u = (t u ≡ true) × ((w : ℕ) → t w ≡ true → w ≡ u)
 
--- some slot tells that the UID is there, by the open UIDs
+-- some slot shows that the UID is there, by the open UIDs
 abbrev pub IsForcedBy : (ℕ → Bool) → List Slot → ℕ → Type 0
 IsForcedBy set [] u = ⊥
 IsForcedBy set (s ∷ slots) u =

@@ -24,7 +24,7 @@ header V2 = codes "vicinity-log 2"
 abbrev pub is_header : List ℕ → Bool
 is_header line = bytes_eq line (header V1) || bytes_eq line (header V2)
 
--- a first line names version 2 where it is its header, and version 1 else
+-- a first line names version 2 if it is the header of version 2, and version 1 otherwise
 abbrev pub named_version : Option (List ℕ) → Version
 named_version (Some line) = if bytes_eq line (header V2) then V2 else V1
 named_version None = V1
@@ -58,7 +58,7 @@ entry_line number (Ok (Some e)) = record { number = number; item = e } ∷ []
 entry_line number (Ok None) = []
 entry_line number (Err f) = []
 
--- the log line of a line after the first, where it spells an entry
+-- the log line of a line after the first, if it spells an entry
 abbrev pub logged : Version → ℕ → Option (List ℕ) → List LogLine
 logged version number None = []
 logged version number (Some line) =
@@ -81,18 +81,18 @@ pub record IsFirstFault (lines : List (List ℕ)) (n : ℕ) (f : LineFault) : Ty
   pub first : (m : ℕ) → m < n → fault_on lines m ≡ None
 
 -- no line has a fault, and the log has the log lines of all lines, and the version that the first
--- names
+-- line names
 pub record IsLogOf (lines : List (List ℕ)) (log : LogValue) : Type 0 where
   pub no_fault : (n : ℕ) → fault_on lines n ≡ None
   pub all : log.lines ≡ log_upto lines (length lines)
   pub version : log.version ≡ version_of lines
 
--- the first fault of the line with this number, behind the log of the lines before
+-- the first fault of the line with this number, after the log of the lines before
 abbrev pub next_fault : LogValue → ℕ → List ℕ → Option LineFault
 next_fault log number line = line_fault log.version (entries log.lines) number (Some line)
 
--- a log with what the line with this number says: line 1 gives it its version, each other one its
--- entry, where it spells one
+-- a log with what the line with this number says: line 1 names its version, each other line adds
+-- its entry, if it spells one
 abbrev pub after_line : LogValue → ℕ → List ℕ → LogValue
 after_line log number line = record {
   lines = log.lines ++ logged log.version number (Some line);
@@ -104,22 +104,23 @@ pub record GiveEntries (lines : List (List ℕ)) (n : ℕ) : Type 0 where
   pub no_fault : (m : ℕ) → m ≤ n → fault_on lines m ≡ None
   pub some : log_upto lines n ≢ []
 
--- why a whole text gives no log: its first fault; or memory is wanting for entries before one
+-- why a complete text has no log: its first fault, or refused memory after faultless lines with
+-- entries
 abbrev pub Refuses : List ℕ → LogFault → Type 0
 Refuses text (Line n f) = IsFirstFault (lines_of_text text) n f
 Refuses text Memory = (n : ℕ) × GiveEntries (lines_of_text text) n
 Refuses text Read = ⊥
 Refuses text Spent = ⊥
 
--- why a line with this first fault isn't taken: for it, or where it has none and adds to the log,
--- for want of memory
+-- why a line with this first fault isn't taken: that fault; or, if it has none and adds to the log,
+-- refused memory
 abbrev pub RefusesLine : Option LineFault → List LogLine → ℕ → LogFault → Type 0
 RefusesLine fault added number (Line n f) = (n ≡ number) × (fault ≡ Some f)
 RefusesLine fault added number Memory = (fault ≡ None) × (added ≢ [])
 RefusesLine fault added number Read = ⊥
 RefusesLine fault added number Spent = ⊥
 
--- why the line with this number isn't taken behind a log
+-- why the line with this number isn't taken after a log
 abbrev pub RefusesNext : LogValue → ℕ → List ℕ → LogFault → Type 0
 RefusesNext log number line =
     RefusesLine (next_fault log number line) (logged log.version number (Some line)) number

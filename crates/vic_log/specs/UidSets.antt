@@ -1,4 +1,4 @@
--- A set of UIDs: rows of places, over which they are spread, and those that found their row full.
+-- A set of UIDs: rows over which they are spread, and those whose row was full.
 use Rattle.std.specs.Prelude.{◌≡◌, ℕ, ◌*◌, ◌^◌, ◌<◌, ◌≤◌, Bool, true, false, ◌||◌, List, [], length, slice_index_or, ◌/◌, ◌%◌}
 use Rattle.std.specs.BTreeSet as sorted
 use Rattle.std.specs.Ordering.{nat_cmp}
@@ -6,7 +6,7 @@ use Rattle.vic_frame.specs.Uids.{has}
 use Rattle.vic_log.specs.declared.uid_set.TheConstants.{SPREAD}
 use Rattle.vic_log.specs.declared.uid_set.UidSet.{UidSet}
 
--- which of so many rows a number is spread to
+-- which of that many rows a number selects
 abbrev pub place_of : ℕ → ℕ → ℕ
 place_of u rows = (u * SPREAD % 2 ^ 64 / 2 ^ 32) % rows
 
@@ -17,7 +17,7 @@ row_of rows u = slice_index_or rows (place_of u (length rows)) []
 abbrev pub is_held : UidSet → ℕ → Bool
 is_held s u = has (row_of s.rows.items u) u || sorted.contains nat_cmp s.others u
 
--- there is a row, and what stands beside the rows has found its own full
+-- there is a row, and the row of each UID outside the rows is full
 pub record IsUidSet (s : UidSet) : Type 0 where
   pub some : 0 < length s.rows.items
   pub full : (u : ℕ) → sorted.contains nat_cmp s.others u ≡ true
@@ -27,7 +27,7 @@ pub record IsUidSet (s : UidSet) : Type 0 where
 abbrev pub IsSetOf : List ℕ → UidSet → Type 0
 IsSetOf us s = (u : ℕ) → 0 < u → is_held s u ≡ has us u
 
--- UIDs rise up to the greatest while the set has no row; then it holds them
+-- while the set has no rows, UIDs are at most the greatest; then it holds them
 pub record IsIndex (us : List ℕ) (greatest : ℕ) (s : UidSet) : Type 0 where
   pub rising : length s.rows.items ≡ 0 → (u : ℕ) → has us u ≡ true → u ≤ greatest
   pub set : 0 < length s.rows.items → IsUidSet s

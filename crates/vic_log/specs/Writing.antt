@@ -12,7 +12,7 @@ use Rattle.vic_log.specs.Log.{LogValue}
 use Rattle.vic_log.specs.Order.{entries}
 use Rattle.vic_log.specs.Text.{header}
 
--- an entry's line, with digits in upper case
+-- an entry's line, with upper-case digits
 abbrev pub entry_text : Entry → List ℕ
 entry_text (Sent q) = codes "T " ++ encode_upper (request_spelling q)
 entry_text Silent = codes "S"
@@ -22,12 +22,12 @@ entry_text (Listed u) = codes "U " ++ encode_upper (to_be_bytes w64 u)
 entry_text Garbled = codes "D"
 entry_text FieldCycle = codes "F"
 
--- each line with LF behind it
+-- each line with LF after it
 abbrev pub joined : List (List ℕ) → List ℕ
 joined [] = []
 joined (line ∷ lines) = line ++ lf ∷ joined lines
 
--- the text of lines behind the header
+-- the text of the lines after the header
 abbrev pub lines_text : List LogLine → List ℕ
 lines_text lines = joined (map entry_text (entries lines))
 

@@ -1,4 +1,4 @@
-//! A text that is read in pieces: the lines judged so far, and the one begun.
+//! A text that is read in pieces: the lines judged so far, and the line begun.
 
 ghost use Rattle.std.specs.Prelude.{◌≡◌, ◌+◌, ◌<◌, ◌≤◌, ◌++◌, ◌∷◌, [], ℕ, List, true, false, None, length, MatchResult, IfErr, OnOk, OnErr, IsTrue, MatchOption};
 ghost use Rattle.vic_frame.specs.Uids.{has};
@@ -20,18 +20,18 @@ pub(crate) const LINE_ROOM: usize = 130;
 
 const _: () = prove!(LINE_ROOM == MAX_LINE_LEN + 2);
 
-/// What was read so far.
+/// What has been read so far.
 #[derive(Drop)]
 pub(crate) struct Begun {
     /// The log of the lines judged.
     pub(crate) log: Log,
-    /// How many lines were judged.
+    /// How many lines have been judged.
     pub(crate) number: u32,
     /// The bytes of the line begun.
     pub(crate) line: ArrayVec<u8, LINE_ROOM>,
 }
 
-/// A line without one CR at its end.
+/// A line without a CR at its end.
 fn without_cr(line: &[u8]) -> &[u8]
     ensures { result.now ≡ without_last cr line.now }
 {
@@ -41,7 +41,7 @@ fn without_cr(line: &[u8]) -> &[u8]
     }
 }
 
-/// Whether a line without LF is too long, whatever follows.
+/// Whether a line that has no LF yet is too long, whatever follows.
 fn is_too_long(line: &[u8]) -> bool
     requires { length line.now ≤ LINE_ROOM }
     ensures long { IsTrue result → IsLong line.now }
@@ -50,7 +50,7 @@ fn is_too_long(line: &[u8]) -> bool
     line.len() == LINE_ROOM || (line.len() > MAX_LINE_LEN && line[MAX_LINE_LEN] != b'\r')
 }
 
-/// The first line of some bytes without its LF, and what stands behind that.
+/// The first line of some bytes, without its LF, and what follows that LF.
 fn split_line(bytes: &[u8]) -> Option<(&[u8], &[u8])>
     ensures { MatchOption result
         (has bytes.now lf ≡ false)
@@ -62,7 +62,7 @@ fn split_line(bytes: &[u8]) -> Option<(&[u8], &[u8])>
     }
 }
 
-/// Judges a line whose LF has come.
+/// Judges a line whose LF has been read.
 #[inline(always)]
 fn end_line(log: &mut Log, number: &mut u32, line: &[u8]) -> Result<(), LogFault>
     requires begin { number.old ≡ 0 → log.old.lines ≡ [] }
@@ -80,7 +80,7 @@ fn end_line(log: &mut Log, number: &mut u32, line: &[u8]) -> Result<(), LogFault
     Ok(())
 }
 
-/// Takes bytes of the line begun and its LF, which follows them.
+/// Takes bytes of the line begun, followed by its LF.
 fn take_end(begun: &mut Begun, bytes: &[u8]) -> Result<(), LogFault>
     requires judged { (text : List ℕ) × HasTaken text begun.old }
     requires no_lf { has bytes.now lf ≡ false }
@@ -110,7 +110,7 @@ fn take_end(begun: &mut Begun, bytes: &[u8]) -> Result<(), LogFault>
     Ok(())
 }
 
-/// Takes bytes of the line begun, whose LF has not come.
+/// Takes bytes of the line begun, whose LF hasn't been read yet.
 fn take_begun(begun: &mut Begun, bytes: &[u8]) -> Result<(), LogFault>
     requires judged { (text : List ℕ) × HasTaken text begun.old }
     requires no_lf { has bytes.now lf ≡ false }
@@ -139,7 +139,7 @@ fn take_begun(begun: &mut Begun, bytes: &[u8]) -> Result<(), LogFault>
     Ok(())
 }
 
-/// Takes some bytes more of the text. A line that lies whole among them is judged where it stands.
+/// Takes more bytes of the text. A line that is complete in them is judged in place.
 pub(crate) fn take_piece(begun: &mut Begun, bytes: &[u8]) -> Result<(), LogFault>
     requires judged { (text : List ℕ) × HasTaken text begun.old }
     ensures ok { OnOk result ((text : List ℕ) → HasTaken text begun.old

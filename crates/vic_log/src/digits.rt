@@ -6,8 +6,8 @@ ghost use Rattle.hex.specs.Hex.{encode_upper};
 
 use arrayvec::ArrayVec;
 
-/// Puts bytes at the end of a text, each as two hex digits in upper case. It takes no memory, as
-/// `hex::encode_upper` would.
+/// Appends bytes to a text, each as two upper-case hex digits. Unlike `hex::encode_upper`, it
+/// allocates no memory.
 pub fn push_hex<const ROOM: usize>(text: &mut ArrayVec<u8, ROOM>, bytes: &[u8])
     requires { array_vec_len text.old + 2 * length bytes.now ≤ ROOM }
     ensures items { text.new.items ≡ text.old.items ++ encode_upper bytes.now }

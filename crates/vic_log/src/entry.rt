@@ -16,7 +16,7 @@ pub const MAX_LINE_LEN: usize = 128;
 pub enum Entry {
     /// `T`: a request was sent.
     Sent(Request),
-    /// `S`: nobody answered in the next slot.
+    /// `S`: no tag answered in the next slot.
     Silent,
     /// `C`: two or more tags answered in the next slot.
     Collision,
@@ -24,14 +24,14 @@ pub enum Entry {
     Heard(Response),
     /// `U`: the reader claims this UID.
     Listed(Uid),
-    /// `D`, in version 2 alone: one or more tags answered in the next slot, and none was read.
+    /// `D`, only in version 2: one or more tags answered in the next slot, and none was read.
     Garbled,
-    /// `F`, in version 2 alone: the field was switched off and on.
+    /// `F`, only in version 2: the field was switched off and on.
     FieldCycle,
 }
 
 impl Entry {
-    /// Whether it tells of a slot.
+    /// Whether it is a slot line.
     pub fn is_slot(&self) -> bool
         ensures { result ≡ is_slot self.now }
     {
@@ -42,7 +42,7 @@ impl Entry {
     }
 }
 
-/// Which lines a log may hold.
+/// Which lines a log may have.
 #[derive(Clone, Copy, Debug, PartialEq, Eq)]
 pub enum Version {
     /// Neither `D` nor `F`.

@@ -10,7 +10,7 @@ use std::alloc::{AllocError, AllocFailed};
 use std::fmt;
 use vic_frame::FrameFault;
 
-/// What is wrong with a line of a log's text. Of several faults of one line the first in this order
+/// What is wrong with a line of a log's text. If a line has several faults, the first in this order
 /// counts.
 #[derive(Clone, Copy, Debug, PartialEq, Eq)]
 pub enum LineFault {
@@ -20,7 +20,7 @@ pub enum LineFault {
     LineTooLong,
     /// It is line 1 and isn't a version's header, or the text is empty.
     Header,
-    /// It is neither passed over, nor `S`, `C` or in version 2 `D` or `F`, nor begins with `T `,
+    /// It isn't ignored, isn't `S`, `C` or (in version 2) `D` or `F`, and doesn't begin with `T `,
     /// `R ` or `U `.
     UnknownEntry,
     /// What follows the space isn't an even number of hex digits.
@@ -31,7 +31,7 @@ pub enum LineFault {
     Frame(FrameFault),
     /// A `U` line whose first byte isn't E0.
     NotVicinity,
-    /// A slot line where no slot of a round is left.
+    /// A slot line when no slot of a round is left.
     SlotOutsideRound,
     /// A `T` or `F` line after a `U` line.
     EntryAfterList,
@@ -39,38 +39,39 @@ pub enum LineFault {
     DuplicateListed,
 }
 
-/// Why a log takes no further line. Of several reasons the first in this order counts.
+/// Why a log doesn't take one more line. If there are several reasons, the first in this order
+/// counts.
 #[derive(Clone, Copy, Debug, PartialEq, Eq)]
 pub enum PushFault {
-    /// The entry tells of a slot, and no slot of a round is left.
+    /// The entry is a slot line, and no slot of a round is left.
     SlotOutsideRound,
     /// The entry is a request or a field cycle, and a UID is listed.
     EntryAfterList,
     /// The UID is listed.
     DuplicateListed,
-    /// There is no memory for it.
+    /// Memory for it was refused.
     Memory,
 }
 
-/// Why a text gives no log.
+/// Why a text has no log.
 #[derive(Clone, Copy, Debug, PartialEq, Eq)]
 pub enum LogFault {
     /// The first line with a fault, numbered from 1, and the first of its faults.
     Line { line: u32, fault: LineFault },
     /// The text can't be read.
     Read,
-    /// There is no memory for the log.
+    /// Memory for the log was refused.
     Memory,
     /// The reader was used before.
     Spent,
 }
 
-/// The sink failed, and has taken only a first part of the text.
+/// The sink failed, and accepted only a prefix of the text.
 #[derive(Clone, Copy, Debug, PartialEq, Eq)]
 pub struct WriteFault;
 
 impl LineFault {
-    /// Its name, of at most 16 bytes; that of a frame's fault is the frame's.
+    /// Its name, of at most 16 bytes; a frame's fault has the same name as in the frame.
     pub fn name(&self) -> &'static str
         ensures name { result.now ≡ line_fault_name self.now }
         ensures short { length result.now ≤ 16 }

@@ -15,13 +15,13 @@ use arrayvec::ArrayVec;
 use std::alloc::Global;
 use std::marker::Model;
 
-/// The greatest length of a text that has no early fault: so many lines, each with CR and LF.
+/// The greatest length of a text that has no early fault: `MAX_LINES` lines, each with CR and LF.
 pub const MAX_TEXT_LEN: u64 = 130_000_000;
 
 const _: () = prove!(MAX_TEXT_LEN == LINE_ROOM as u64 * MAX_LINES as u64);
 
-/// A log whose text is fed to it in pieces, of whatever sizes. It stands for the bytes fed so far;
-/// after an `Err` for none, and each further call answers `Spent`.
+/// A log whose text is fed in pieces of any size. Its value is the bytes fed so far; after an `Err`
+/// it has none, and each further call returns `Spent`.
 #[derive(Drop)]
 pub struct LogFeed {
     begun: Begun,
@@ -38,7 +38,7 @@ impl Model for LogFeed {
 }
 
 impl LogFeed {
-    /// Nothing fed yet.
+    /// Nothing has been fed yet.
     pub fn new(alloc: Global) -> LogFeed
         ensures { result ≡ Some [] }
     {
@@ -53,8 +53,8 @@ impl LogFeed {
         }
     }
 
-    /// Takes the next bytes of the text. A line is judged when its LF has come, when it is too long
-    /// whatever follows, or when it is line 1,000,001: then its fault is the answer.
+    /// Takes the next bytes of the text. A line is judged when its LF has been read, when it is too
+    /// long whatever follows, or when it is line 1,000,001; if it has a fault, that is returned.
     pub fn feed(&mut self, piece: &[u8]) -> Result<(), LogFault>
         ensures fed { OnOk result ((text : List ℕ) → self.old ≡ Some text
             → self.new ≡ Some (text ++ piece.now)) }
@@ -68,7 +68,7 @@ impl LogFeed {
         if self.refused {
             return Err(LogFault::Spent);
         }
-        // until the piece is taken whole
+        // until the complete piece is taken
         self.refused = true;
         take_piece(&mut self.begun, piece)?;
         self.fed.note(piece);
@@ -76,7 +76,7 @@ impl LogFeed {
         Ok(())
     }
 
-    /// The log of the whole text that was fed, of the version that its first line names, or its
+    /// The log of the complete text that was fed, of the version that its first line names, or its
     /// first fault.
     pub fn finish(self) -> Result<Log, LogFault>
         ensures answer { (text : List ℕ) → self ≡ Some text

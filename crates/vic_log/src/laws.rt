@@ -1,4 +1,4 @@
-//! Laws on logs and their text.
+//! Laws about logs and their text.
 
 ghost use Rattle.std.specs.Prelude.{◌≡◌, ◌++◌, ◌∷◌, ◌↔◌, ◌⊎◌, ℕ, true, [], List, Some, None, Ok, Result};
 ghost use Rattle.vic_log.specs.declared.entry.Entry.{Entry};
@@ -18,7 +18,7 @@ ghost use Rattle.vic_log.specs.Rounds.{opener};
 ghost use Rattle.vic_log.specs.Text.{IsLogOf, IsFirstFault};
 ghost use Rattle.vic_log.specs.Writing.{text_of, renumbered};
 
-/// A line reads as an entry exactly where it spells it, and is passed over exactly where it is
+/// A line is read as an entry if and only if it spells it, and is ignored if and only if it is
 /// empty or begins with `#`.
 pub fn read_where_spelled()
     ensures entry { (version : Version) (line : List ℕ) (e : Entry)
@@ -27,8 +27,8 @@ pub fn read_where_spelled()
         → (line_reading version line ≡ Ok None) ↔ IsPassedOver line }
 {}
 
-/// The text of a log is that of a log of the same version with the same entries, on the lines 2, 3,
-/// 4 and so on.
+/// The text of a log reads as a log of the same version with the same entries, on the lines 2, 3, 4
+/// and so on.
 pub fn text_reads_back()
     ensures { (log : LogValue) → IsLog log.version log.lines
         → IsLogOf (lines_of_text (text_of log)) (renumbered log) }
@@ -45,33 +45,34 @@ pub fn one_answer()
         → IsFirstFault lines n f → IsLogOf lines log → ⊥ }
 {}
 
-/// An early fault is the fault of every text that begins with the bytes.
+/// An early fault of some bytes is the fault of every text that begins with them.
 pub fn early_fault_stays()
     ensures { (text more : List ℕ) (n : ℕ) (f : LineFault) → IsEarlyFault text n f
         → IsFirstFault (lines_of_text (text ++ more)) n f }
 {}
 
-/// What a source gives in pieces is what its whole text gives: the bytes handed out, and those that
-/// it has left.
+/// What is read from a source in pieces is what its complete text says: the bytes already returned,
+/// and those that it has left.
 pub fn pieces_give_the_whole()
     ensures { (given left : List ℕ) (r : Result LogValue LogFault)
         → ReadsAs (Some left) given r → Judges (given ++ left) r }
 {}
 
-/// Entries in order stay in order with one more exactly where nothing refuses it.
+/// Entries in order stay in order with one more if and only if nothing refuses it.
 pub fn push_keeps_order()
     ensures { (es : List Entry) (e : Entry) → IsInOrder es
         → IsInOrder (es ++ e ∷ []) ↔ (refusal es e ≡ None) }
 {}
 
-/// A tag is Quiet at a place exactly where a Stay Quiet with its UID stands before, and no field
-/// cycle between.
+/// A tag is Quiet at a position if and only if a Stay Quiet with its UID comes before it, with no
+/// field cycle in between.
 pub fn quiet_since_stay_quiet()
     ensures { (es : List Entry) (i u : ℕ) → (is_quiet es i u ≡ true) ↔ IsSilenced es i u }
 {}
 
-/// On entries of version 1, rounds, Quiet tags, outcomes, the order of entries and what a
-/// population could have given are what they are without garbled slots and field cycles.
+/// For entries of version 1, the rules with garbled slots and field cycles agree with those without
+/// them: on rounds, Quiet tags, outcomes, the order of entries, and what a population could have
+/// produced.
 pub fn first_version_is_kept()
     ensures opener { (es : List Entry) → AreOfFirstVersion es
         → (i : ℕ) → opener es i ≡ first_opener es i }

@@ -1,10 +1,11 @@
-//! The log of an inventory session: its text, its entries, and what a population of tags could have
-//! given them.
+//! The log of an inventory session: its text, its entries, and which populations of tags could have
+//! produced them.
 //!
 //! A log is a list of entries on numbered lines, in an order that an inventory session can have. It
-//! is read from its text, whole or in pieces, or refused by its first fault; built entry by entry;
-//! and written back. Bytes come from a `Source` and go to a `Sink`, which remember a failure.
-//! `specs/` has what the crates above stand on: rounds, Quiet tags, populations, and a log's slots.
+//! is read from its text, all at once or in pieces, or refused by its first fault; built entry by
+//! entry; and written back. Bytes come from a `Source` and go to a `Sink`, which remember a
+//! failure. `specs/` has what the crates above rest on: rounds, Quiet tags, populations, and a
+//! log's slots.
 #![tactic(auto)]
 
 mod begun;

@@ -13,8 +13,8 @@ use crate::entry::{Entry, MAX_LINE_LEN, Version};
 use crate::fault::LineFault;
 use vic_frame::{Uid, read_request, read_response};
 
-/// The value of each byte as a hex digit, 255 where it is none. A table, so that a digit takes one
-/// look-up and no branch.
+/// The value of each byte as a hex digit, 255 if it isn't one. A table, so that a digit takes one
+/// lookup and no branch.
 const VALUES: [u8; 256] = [
     255, 255, 255, 255, 255, 255, 255, 255, 255, 255, 255, 255, 255, 255, 255, 255, 255, 255, 255,
     255, 255, 255, 255, 255, 255, 255, 255, 255, 255, 255, 255, 255, 255, 255, 255, 255, 255, 255,
@@ -40,7 +40,7 @@ fn digit_value(byte: u8) -> u8
     VALUES[usize::from(byte)]
 }
 
-/// Puts in the bytes that hex digits spell, and says whether they spell any.
+/// Writes the bytes that hex digits spell, and returns whether they spell any.
 #[inline(always)]
 fn decode_into(digits: &[u8], bytes: &mut [u8]) -> bool
     requires { length digits.now ≡ 2 * length bytes.old }
@@ -58,7 +58,7 @@ fn decode_into(digits: &[u8], bytes: &mut [u8]) -> bool
     true
 }
 
-/// The bytes that hex digits spell, in some room.
+/// The bytes that hex digits spell, in a buffer.
 #[inline(always)]
 fn decode<'a>(digits: &[u8], room: &'a mut [u8; 63]) -> Result<&'a [u8], LineFault>
     requires { length digits.now ≤ 126 }
@@ -76,7 +76,7 @@ fn decode<'a>(digits: &[u8], room: &'a mut [u8; 63]) -> Result<&'a [u8], LineFau
     }
 }
 
-/// The entry of a letter alone. `D` and `F` are known in version 2.
+/// The entry of a line with only a letter. `D` and `F` belong to version 2.
 #[inline(always)]
 fn letter_entry(version: Version, letter: u8) -> Result<Option<Entry>, LineFault>
     ensures reading { result ≡ one_letter version letter }
@@ -155,8 +155,8 @@ fn digits_entry(letter: u8, digits: &[u8]) -> Result<Option<Entry>, LineFault>
     }
 }
 
-/// The entry on one line after the header of a log of this version, without its end; None where the
-/// line is passed over.
+/// The entry on one line after the header of a log of this version, without its line end; `None` if
+/// the line is ignored.
 #[inline(always)]
 pub fn line_entry_of(version: Version, line: &[u8]) -> Result<Option<Entry>, LineFault>
     ensures reading { result ≡ line_reading version line.now }
@@ -179,8 +179,8 @@ pub fn line_entry_of(version: Version, line: &[u8]) -> Result<Option<Entry>, Lin
     digits_entry(line[0], &line[2..])
 }
 
-/// The entry on one line after the header of a log of version 1, without its end; None where the
-/// line is passed over.
+/// The entry on one line after the header of a log of version 1, without its line end; `None` if
+/// the line is ignored.
 pub fn line_entry(line: &[u8]) -> Result<Option<Entry>, LineFault>
     ensures reading { result ≡ line_reading V1 line.now }
     ensures valid { IfOk result (λ entry. IfSome entry IsValidEntry) }

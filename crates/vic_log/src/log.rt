@@ -24,9 +24,10 @@ use vic_frame::Uid;
 pub struct Log {
     version: Version,
     lines: Vec<PackedLine>,
-    /// The greatest UID listed, or the least one, while each is above those before.
+    /// The greatest UID listed, or the least UID of all if none is, while each is above those
+    /// before.
     greatest: Uid,
-    /// The UIDs listed, since one wasn't above those before; without rows till then.
+    /// The UIDs listed, once one of them wasn't above those before; until then it has no rows.
     uids: UidSet,
     /// Whether a UID is listed.
     listing: bool,
@@ -88,7 +89,7 @@ impl Log {
         &self.lines
     }
 
-    /// The number of its last line, 1 where it has none.
+    /// The number of its last line, 1 if it has none.
     pub fn last_line(&self) -> u32
         ensures value { result ≡ last_from 1 self.now.lines }
         ensures limit { result ≤ MAX_LINES }
@@ -99,7 +100,7 @@ impl Log {
         }
     }
 
-    /// Why an entry can't follow the lines, if it can't.
+    /// Why an entry can't follow these lines, if it can't.
     #[inline(always)]
     pub(crate) fn refusal(&self, item: &Entry) -> Option<PushFault>
         ensures { result ≡ refusal (entries self.now.lines) item.now }
@@ -115,7 +116,7 @@ impl Log {
         }
     }
 
-    /// Adds a line, unless its entry can't follow those before, or memory is wanting. Then the log
+    /// Adds a line, unless its entry can't follow those before, or memory is refused. Then the log
     /// stays as it was.
     #[inline(always)]
     pub fn push(&mut self, number: u32, item: Entry) -> Result<(), PushFault>
@@ -144,7 +145,7 @@ impl Log {
     }
 }
 
-/// How many slots are left after an entry.
+/// How many slots of the round are left after an entry.
 #[inline(always)]
 fn slots_after(left: u8, item: &Entry) -> u8
     ensures { result ≡ left_after left item.now }
@@ -178,7 +179,7 @@ fn refusal_listed(lines: &[PackedLine], uid: Uid) -> Option<PushFault>
     is_listed(lines, uid).then_some(PushFault::DuplicateListed)
 }
 
-/// Puts a UID into an index of those that lines list, unless they list it.
+/// Adds a UID to an index of those that lines list, unless they list it already.
 #[inline(always)]
 fn index_uid(
     lines: &[PackedLine],

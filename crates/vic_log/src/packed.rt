@@ -1,4 +1,4 @@
-//! The lines of a log, packed: a log may have a million of them.
+//! The lines of a log, packed, because a log may have a million of them.
 
 ghost use Rattle.std.specs.Prelude.{◌≡◌};
 
@@ -6,7 +6,7 @@ use crate::entry::Entry;
 use std::marker::Model;
 use vic_frame::{Mask, Request, Response, Uid};
 
-/// What a line says, with its number amid it, so that it takes 16 bytes.
+/// What a line says, with its number in the middle, so that it takes 16 bytes.
 #[derive(Clone, Copy, Debug, PartialEq, Eq)]
 enum Packed {
     Inventory {

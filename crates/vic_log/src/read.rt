@@ -1,4 +1,4 @@
-//! One line behind those that a log was read from.
+//! One line after those that a log was read from.
 
 ghost use Rattle.std.specs.Prelude.{◌≡◌, ◌<◌, ◌≤◌, [], ◌∷◌, Some, None, MatchResult, OnOk, if◌then◌else◌};
 ghost use Rattle.vic_log.specs.declared.entry.Version.TheVariants.{V1};
@@ -12,7 +12,7 @@ use crate::fault::{LineFault, LogFault, PushFault};
 use crate::line::line_entry_of;
 use crate::log::Log;
 
-/// The version that the first line of a text names; None where it isn't a header.
+/// The version that the first line of a text names; `None` if it isn't a header.
 fn version_named(line: &[u8]) -> Option<Version>
     ensures { result
         ≡ (if is_header line.now then Some (named_version (Some line.now)) else None) }
@@ -26,7 +26,7 @@ fn version_named(line: &[u8]) -> Option<Version>
     }
 }
 
-/// Adds an entry behind a log.
+/// Adds an entry at the end of a log.
 #[inline(always)]
 fn take_entry(log: &mut Log, number: u32, entry: Entry) -> Result<(), LogFault>
     requires above { last_from 1 log.old.lines < number }
@@ -52,7 +52,7 @@ fn take_entry(log: &mut Log, number: u32, entry: Entry) -> Result<(), LogFault>
     })
 }
 
-/// Reads one line behind those that a log was read from.
+/// Reads one line after those that a log was read from.
 #[inline(always)]
 pub(crate) fn take_line(log: &mut Log, number: u32, line: &[u8]) -> Result<(), LogFault>
     requires first { 1 ≤ number }

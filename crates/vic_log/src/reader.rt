@@ -18,7 +18,7 @@ pub const MAX_READS: u64 = 130_000_001;
 
 const _: () = prove!(MAX_READS == MAX_TEXT_LEN + 1);
 
-/// The log of a whole text, of the version that its first line names.
+/// The log of a complete text, of the version that its first line names.
 pub fn read_log(alloc: Global, text: &[u8]) -> Result<Log, LogFault>
     ensures { MatchResult result
         (IsLogOf (lines_of_text text.now))
@@ -54,7 +54,7 @@ fn read_from<R: Source>(alloc: Global, source: &mut R) -> Result<Log, LogFault>
     fed.finish()
 }
 
-/// Reads one log, from a source that gives its text in whatever pieces.
+/// Reads one log, from a source that returns its text in pieces of any size.
 #[derive(Drop)]
 pub struct LogReader {
     alloc: Global,
@@ -78,16 +78,17 @@ impl LogReader {
         }
     }
 
-    /// The log of a source's bytes, which `read_log` would give for all of them, or its first
-    /// fault. A line is judged when its LF has come, when it is too long whatever follows, when it
-    /// is line 1,000,001, or at the end. A failed read is answered where no line judged by then has
-    /// a fault; only there may a source that told its bytes tell them no more. A second call
-    /// answers `Spent` and reads nothing.
+    /// The log of a source's bytes, or its first fault: what `read_log` would return for all of
+    /// them. A line is judged when its LF has been read, when it is too long whatever follows, when
+    /// it is line 1,000,001, or at the end. A failed read is reported only if no line judged by
+    /// then has a fault; only then may a source stop revealing its bytes. A second call returns
+    /// `Spent` and reads nothing.
     pub fn read_all<R: Source>(&mut self, source: &mut R) -> Result<Log, LogFault>
         ensures answer { self.old ≡ false →
             (given : List ℕ) × HandsOut (R.left source.old) (R.left source.new) given
             × ReadsAs (R.left source.new) given result }
-        // the same of the bytes that the reads returned, whether it tells its bytes or not
+        // the same about the bytes that the reads returned, whether the source reveals its bytes or
+        // not
         ensures returned { self.old ≡ false → (given : List ℕ)
             × (R.returned source.new ≡ R.returned source.old ++ given)
             × ReadsWhere (R.ended source.new ≡ true) given result }

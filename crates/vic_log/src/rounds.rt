@@ -16,8 +16,8 @@ use std::marker::Model;
 use vic_frame::low_bits_first::{KeyBlock, first_key, keys_of, keys_of_slot};
 use vic_frame::{Mask, Request, UID_BITS};
 
-/// A round that is open (ISO/IEC 15693-3, inventory sequence). Contracts alone speak of it: it is
-/// the value of a `KeyedRound`.
+/// An open round (ISO/IEC 15693-3, inventory sequence). Only contracts mention it: it is the value
+/// of a `KeyedRound`.
 #[derive(Clone, Copy)]
 pub struct OpenRound {
     /// The request that opened it.
@@ -26,8 +26,8 @@ pub struct OpenRound {
     pub next: u8,
 }
 
-/// An open round with the first key of its request's mask, from which those of all its slots are
-/// found.
+/// An open round with the first key of its request's mask, from which the keys of its slots are
+/// computed.
 #[derive(Clone, Copy)]
 pub struct KeyedRound {
     request: Request,
@@ -66,7 +66,7 @@ impl KeyedRound {
         }
     }
 
-    /// Goes on past a slot.
+    /// Moves past a slot.
     #[inline(always)]
     fn pass_slot(&mut self)
         ensures { self.old.next ≤ 16
@@ -75,7 +75,7 @@ impl KeyedRound {
         self.next = self.next.saturating_add(1);
     }
 
-    /// The mask of its next slot; `None` if it has no more, or its request isn't valid.
+    /// The mask of its next slot; `None` if no slot is left, or its request isn't valid.
     fn mask(&self) -> Option<Mask>
         ensures { IsValid self.now.request
             → result ≡ slot_mask self.now.request self.now.next }
@@ -146,22 +146,22 @@ fn keys_in_slot(mask: &Mask, first: u64, k: u8) -> Option<KeyBlock>
     }
 }
 
-/// Where one stands that goes over the entries of a log from the first on: the round that is open
-/// there, if one is.
+/// A cursor over the entries of a log, from the first on: the round that is open there, if there is
+/// one.
 #[derive(Clone, Copy)]
 pub struct RoundCursor {
     pub round: Option<KeyedRound>,
 }
 
 impl RoundCursor {
-    /// Before the first entry.
+    /// A cursor before the first entry.
     pub fn first() -> RoundCursor
         ensures { (es : List EntryValue) → IsCursorAt es 0 result }
     {
         RoundCursor { round: None }
     }
 
-    /// Goes on past an entry.
+    /// Moves past an entry.
     #[inline(always)]
     pub fn advance(&mut self, entry: &Entry)
         ensures { (es : List EntryValue) (i : ℕ) → IsInOrder es
@@ -171,7 +171,7 @@ impl RoundCursor {
         pass_entry(&mut self.round, entry);
     }
 
-    /// The mask of the slot that an entry here tells of, if it tells of one.
+    /// The mask of the slot that a slot line here is about, if there is one.
     pub fn mask(&self) -> Option<Mask>
         ensures { (es : List EntryValue) (i : ℕ) → AreValid es → IsCursorAt es i self.now
             → result ≡ mask_at es i }
@@ -198,7 +198,7 @@ impl RoundCursor {
     }
 }
 
-/// Goes on past an entry, with the round that is open.
+/// Moves an open round past an entry.
 #[inline(always)]
 fn pass_entry(round: &mut Option<KeyedRound>, entry: &Entry)
     ensures { (es : List EntryValue) (i : ℕ) → IfSome round.old (λ r. r.next ≤ 16)

@@ -1,4 +1,4 @@
-//! Writers that are written in pieces.
+//! Writers that take their bytes in pieces.
 
 ghost use Rattle.std.specs.Prelude.{◌≡◌, ◌<◌, ◌≤◌, ◌++◌, ℕ, List, [], Bool, true, false, length};
 ghost use Rattle.std.specs.Prelude.{IfOk, OnErr, OnOk, is_err, is_ok, Option};
@@ -11,21 +11,21 @@ use std::io::Write;
 
 /// A writer of bytes that remembers whether its last write or flush failed.
 pub trait Sink {
-    // The bytes that its writes have taken so far.
+    // The bytes that its writes have accepted so far.
     ghost written: { Self → List ℕ };
 
-    // The bytes that it has taken, where it tells them.
+    // The bytes that it has accepted, if it reveals them.
     ghost taken: { Self → Option (List ℕ) };
 
-    // Whether its last write or flush was a flush that succeeded: it has handed on all that it has
-    // taken.
+    // Whether its last write or flush was a flush that succeeded: it has passed on all that it
+    // accepted.
     ghost is_flushed: { Self → Bool };
 
     ghost has_failed: { Self → Bool };
 
-    /// Takes some of the first bytes and says how many: none only where there are none. A failed
-    /// write leaves the bytes taken as they were, or tells them no more. A sink that has failed is
-    /// not written.
+    /// Accepts some of the first bytes and returns how many: none only if there are none. A failed
+    /// write leaves the accepted bytes as they were, or no longer reveals them. A sink that has
+    /// failed isn't written to.
     fn write(&mut self, bytes: &[u8]) -> Result<usize, DeviceFault>
         requires { has_failed self.old ≡ false }
         ensures bound { IfOk result (λ n. n ≤ length bytes.now) }
@@ -35,7 +35,7 @@ pub trait Sink {
         ensures waiting { is_flushed self.new ≡ false }
         ensures state { has_failed self.new ≡ is_err result };
 
-    /// Hands on what it has taken. A sink that has failed is not flushed.
+    /// Passes on what it has accepted. A sink that has failed isn't flushed.
     fn flush(&mut self) -> Result<(), DeviceFault>
         requires { has_failed self.old ≡ false }
         ensures unwritten { written self.new ≡ written self.old }
@@ -49,8 +49,9 @@ pub trait Sink {
         ensures { result ≡ has_failed self.now };
 }
 
-/// A sink over a writer of std. Each write or flush makes one call of that, which is not repeated,
-/// and each write notes the bytes that it took. A write that takes nothing of some bytes has failed.
+/// A sink over a std writer. Each write or flush makes one call of the writer, which isn't
+/// repeated, and each write notes the bytes that were accepted. A write that accepts none of some
+/// bytes has failed.
 #[derive(Drop)]
 pub struct ToWrite<W> {
     inner: W,
@@ -61,7 +62,7 @@ pub struct ToWrite<W> {
 }
 
 impl<W: Write> ToWrite<W> {
-    /// A sink that has not failed.
+    /// A sink that hasn't failed.
     pub fn new(inner: W) -> ToWrite<W>
         ensures inner { to_write_inner result ≡ inner }
         ensures written { ⟦<ToWrite<W> as Sink>⟧.written result ≡ [] }
@@ -76,7 +77,7 @@ impl<W: Write> ToWrite<W> {
         }
     }
 
-    /// The writer of std.
+    /// The std writer.
     pub fn into_inner(self) -> W
         ensures { result ≡ to_write_inner self }
     {
@@ -126,8 +127,8 @@ impl<W: Write> Sink for ToWrite<W> {
     }
 }
 
-/// Writes all the bytes, in as many writes as it takes, and does not flush. A sink that has failed
-/// is not written again.
+/// Writes all the bytes, in as many writes as it takes, and doesn't flush. A sink that has failed
+/// isn't written to again.
 pub fn write_whole<W: Sink>(sink: &mut W, bytes: &[u8]) -> Result<(), DeviceFault>
     ensures all { OnOk result (Appends (W.taken sink.old) (W.taken sink.new) bytes.now) }
     ensures prefix { HasTakenPrefix (W.taken sink.old) (W.taken sink.new) bytes.now }

@@ -1,4 +1,4 @@
-//! Readers that are read in pieces.
+//! Readers that return their bytes in pieces.
 
 ghost use Rattle.std.specs.Prelude.{◌≡◌, ◌↔◌, ◌+◌, ◌-◌, ◌^◌, ◌<◌, ◌≤◌, ◌++◌, ℕ, List, [], Bool, true, false};
 ghost use Rattle.std.specs.Prelude.{min, length, vec_len, IfOk, IfErr, OnOk, is_err, Option};
@@ -15,23 +15,23 @@ pub struct DeviceFault;
 
 /// A reader of bytes that remembers whether its last read failed.
 pub trait Source {
-    // How often it was read.
+    // How many times it has been read.
     ghost reads: { Self → ℕ };
 
     // The bytes that its reads have returned so far.
     ghost returned: { Self → List ℕ };
 
-    // Whether its last read returned none, though there was room.
+    // Whether its last read returned none, though the buffer wasn't empty.
     ghost ended: { Self → Bool };
 
-    // The bytes that it has left, where it tells them.
+    // The bytes that it has left, if it reveals them.
     ghost left: { Self → Option (List ℕ) };
 
     ghost has_failed: { Self → Bool };
 
-    /// Puts the next bytes at the front of `buf` and says how many they are: none only at the end,
-    /// or where `buf` is empty. A failed read leaves the bytes as they were, or tells them no more.
-    /// A source that has failed is not read.
+    /// Puts the next bytes at the start of `buf` and returns how many there are: none only at the
+    /// end, or if `buf` is empty. A failed read leaves the bytes as they were, or no longer reveals
+    /// them. A source that has failed isn't read.
     fn read(&mut self, buf: &mut [u8]) -> Result<usize, DeviceFault>
         requires { has_failed self.old ≡ false }
         ensures counts { reads self.new ≡ min (reads self.old + 1) (2 ^ 64 - 1) }
@@ -46,8 +46,8 @@ pub trait Source {
         ensures { result ≡ has_failed self.now };
 }
 
-/// A source over a reader of std. Each read makes one read of that, which is not repeated, and notes
-/// the bytes that it returned.
+/// A source over a std reader. Each read makes one read of it, which isn't repeated, and notes the
+/// bytes that it returned.
 #[derive(Drop)]
 pub struct FromRead<R> {
     inner: R,
@@ -58,7 +58,7 @@ pub struct FromRead<R> {
 }
 
 impl<R: Read> FromRead<R> {
-    /// A source that was never read.
+    /// A source that hasn't been read.
     pub fn new(inner: R) -> FromRead<R>
         ensures inner { from_read_inner result ≡ inner }
         ensures reads { ⟦<FromRead<R> as Source>⟧.reads result ≡ 0 }
@@ -75,7 +75,7 @@ impl<R: Read> FromRead<R> {
         }
     }
 
-    /// The reader of std.
+    /// The std reader.
     pub fn into_inner(self) -> R
         ensures { result ≡ from_read_inner self }
     {
@@ -128,7 +128,7 @@ impl<R: Read> Source for FromRead<R> {
 pub enum ReadFault {
     /// The source has failed.
     Read,
-    /// There is no memory for the bytes.
+    /// Memory for the bytes was refused.
     Memory,
 }
 
@@ -152,10 +152,10 @@ impl From<AllocError> for ReadFault {
     }
 }
 
-/// How many bytes are asked for at once.
+/// How many bytes are requested at once.
 pub(crate) const PIECE: usize = 16384;
 
-/// The bytes of a source, to its end, or the first `limit` of them. A source that has failed is not
+/// The bytes of a source, to its end, or the first `limit` of them. A source that has failed isn't
 /// read.
 pub fn read_whole<R: Source>(
     alloc: Global,

@@ -1,4 +1,4 @@
-//! A set of UIDs that tells at once whether one more is new.
+//! A set of UIDs that shows at once whether one more is new.
 
 ghost use Rattle.std.specs.Prelude.{◌≡◌, ℕ, ◌<◌, ◌||◌, not, false, length, nat_eq, ◌==◌, IfOk, OnOk, OnErr, IfSome, IfNone, List, slice_get, Some, ◌++◌, ◌∷◌, []};
 ghost use Rattle.vic_frame.specs.Uids.{has};
@@ -11,30 +11,30 @@ use std::alloc::{AllocError, Global};
 use std::collections::BTreeSet;
 use vic_frame::Uid;
 
-/// How many UIDs a row has places for.
+/// How many UIDs fit into a row.
 const ROW: usize = 8;
 
-/// How many UIDs there are for each row at most, unless the rows are as many as a log needs.
+/// How many UIDs there are per row at most, unless there are as many rows as a log needs.
 const MEAN: usize = 5;
 
-/// How many times more UIDs than there are a new set has rows for.
+/// A new set has rows for this many times the UIDs that there are.
 const GROWTH: usize = 4;
 
-/// What a UID is multiplied by, so that UIDs of any order are spread over the rows: 2^64 divided
-/// by the golden ratio.
+/// What a UID is multiplied by, so that UIDs in any order are spread over the rows: 2^64 divided by
+/// the golden ratio.
 const SPREAD: u64 = 0x9E37_79B9_7F4A_7C15;
 
-/// A set of UIDs. Each stands in the row that it is spread to, or, where that is full, in a set in
-/// order: so the UIDs that a hostile log spreads to one row cost a search of that.
+/// A set of UIDs. Each is in the row that its number selects or, if that row is full, in an ordered
+/// set, so that UIDs of a hostile log that all select one row cost only a search of that set.
 #[derive(Drop)]
 pub(crate) struct UidSet {
-    /// The numbers of UIDs; 0 is a free place.
+    /// The numbers of UIDs; 0 is a free element.
     pub(crate) rows: Vec<[u64; ROW]>,
-    /// The UIDs that have found their row full.
+    /// The UIDs whose row was full.
     pub(crate) others: BTreeSet<Uid>,
 }
 
-/// Which of so many rows a UID is spread to.
+/// Which of `rows` rows a UID's number selects.
 fn place_of(uid: Uid, rows: usize) -> usize
     requires { 0 < rows }
     ensures value { result ≡ place_of uid rows }
@@ -43,7 +43,7 @@ fn place_of(uid: Uid, rows: usize) -> usize
     (uid.number().wrapping_mul(SPREAD) >> 32) as usize % rows
 }
 
-/// The first free place of a row.
+/// The index of the first free element of a row.
 fn free_place(row: &[u64; ROW]) -> Option<usize>
     ensures full { IfNone result (has row.now 0 ≡ false) }
     ensures free { IfSome result (λ k. slice_get row.now k ≡ Some 0) }
@@ -57,7 +57,7 @@ fn free_place(row: &[u64; ROW]) -> Option<usize>
 }
 
 impl UidSet {
-    /// A set that no UID can be put in yet. Takes no memory.
+    /// A set that no UID can be put in yet. Allocates no memory.
     pub(crate) fn without_rows(alloc: Global) -> UidSet
         ensures { result.rows.items ≡ [] }
     {
@@ -67,7 +67,7 @@ impl UidSet {
         }
     }
 
-    /// A set of so many rows, without UIDs.
+    /// A set of that many rows, without UIDs.
     fn with_rows(alloc: Global, rows: usize) -> Result<UidSet, AllocError>
         requires { 0 < rows }
         ensures set { IfOk result IsUidSet }
@@ -86,15 +86,15 @@ impl UidSet {
         self.rows.is_empty()
     }
 
-    /// Whether it has too few rows for so many UIDs.
+    /// Whether it has too few rows for that many UIDs.
     pub(crate) fn is_crowded(&self, uids: usize) -> bool
         ensures { result ≡ false → 0 < length self.now.rows.items }
     {
         self.rows.len() <= uids / MEAN
     }
 
-    /// Makes it anew of the UIDs that lines list, which are those in it, if it has too few rows for
-    /// so many lines.
+    /// Rebuilds it from the UIDs that lines list, which are those in it, if it has too few rows for
+    /// that many lines.
     #[inline(always)]
     pub(crate) fn make_room(&mut self, lines: &[PackedLine]) -> Result<(), AllocError>
         requires set { 0 < length self.old.rows.items → IsUidSet self.old }
@@ -110,7 +110,7 @@ impl UidSet {
         Ok(())
     }
 
-    /// Puts a UID in, and tells whether it is new.
+    /// Adds a UID, and returns whether it is new.
     pub(crate) fn put(&mut self, uid: Uid) -> Result<bool, AllocError>
         requires { IsUidSet self.old }
         ensures set { IsUidSet self.new }
@@ -173,14 +173,14 @@ pub(crate) fn listed_uids(alloc: Global, lines: &[PackedLine]) -> Result<UidSet,
     Ok(set)
 }
 
-/// How many rows a new set has, where there are so many lines.
+/// How many rows a new set has for that many lines.
 fn rows_for(lines: usize) -> usize
     ensures { 0 < result }
 {
     lines.min(MAX_LINES as usize / GROWTH) * GROWTH / MEAN + 1
 }
 
-/// Puts in the UID that an entry lists, if it lists one.
+/// Adds the UID that an entry lists, if it lists one.
 fn put_listed(set: &mut UidSet, item: &Entry) -> Result<(), AllocError>
     requires { IsUidSet set.old }
     ensures set { IsUidSet set.new }

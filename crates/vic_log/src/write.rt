@@ -1,4 +1,4 @@
-//! A log to its text.
+//! Writing a log as its text.
 
 ghost use Rattle.std.specs.Prelude.{◌≡◌, ◌+◌, ◌*◌, ◌≤◌, ◌++◌, ◌∷◌, [], true, length};
 ghost use Rattle.std.specs.Prelude.{is_err, OnErr, OnOk};
@@ -24,14 +24,14 @@ use vic_frame::{Uid, write_request, write_response};
 /// How many bytes are written at once, at most.
 pub const WRITTEN_AT_ONCE: usize = 4096;
 
-/// How many bytes an entry's line has at most, with its LF.
+/// How many bytes an entry's line has at most, LF included.
 const LONGEST_LINE: usize = 29;
 
-/// Bytes that wait for one write.
+/// Bytes that wait to be written at once.
 type Piece = ArrayVec<u8, WRITTEN_AT_ONCE>;
 
 /// Writes the text of a log, and flushes: the header of its version, and each entry on a line, with
-/// upper-case digits and LF ends. A sink that has failed is not written again.
+/// upper-case digits and LF line ends. A sink that has failed isn't written to again.
 pub fn write_log<W: Sink>(log: &Log, sink: &mut W) -> Result<(), WriteFault>
     ensures all { OnOk result (Appends (W.taken sink.old) (W.taken sink.new) (text_of log.now)) }
     ensures flushed { OnOk result (W.is_flushed sink.new ≡ true) }
@@ -51,8 +51,8 @@ pub fn write_log<W: Sink>(log: &Log, sink: &mut W) -> Result<(), WriteFault>
     Ok(())
 }
 
-/// Writes an opening, and behind it each UID on a line as a log lists it, and flushes. A sink that
-/// has failed is not written again.
+/// Writes an opening, after it each UID on a line as a log lists it, and flushes. A sink that has
+/// failed isn't written to again.
 pub fn write_listed<W: Sink>(opening: &[u8], uids: &[Uid], sink: &mut W) -> Result<(), WriteFault>
     requires { length opening.now ≤ WRITTEN_AT_ONCE }
     ensures all { OnOk result (Appends (W.taken sink.old) (W.taken sink.new)
@@ -98,7 +98,7 @@ fn with_header(version: Version) -> Piece
     beginning(line)
 }
 
-/// Puts an entry's line behind what waits, which is written first where the line may have no room.
+/// Adds an entry's line to the bytes that wait; these are written first if the line may not fit.
 fn put_entry<W: Sink>(piece: &mut Piece, item: &Entry, sink: &mut W) -> Result<(), DeviceFault>
     requires { IsValidEntry item.now }
     ensures told { OnOk result (HasTakenBut (W.taken sink.old) (W.taken sink.new) piece.new.items
@@ -136,7 +136,7 @@ fn write_last<W: Sink>(piece: &Piece, sink: &mut W) -> Result<(), DeviceFault>
     sink.flush()
 }
 
-/// Adds an entry's line, with its LF.
+/// Adds an entry's line, LF included.
 fn push_entry(piece: &mut Piece, item: &Entry)
     requires room { array_vec_len piece.old + LONGEST_LINE ≤ WRITTEN_AT_ONCE }
     requires valid { IsValidEntry item.now }
@@ -154,7 +154,7 @@ fn push_entry(piece: &mut Piece, item: &Entry)
     piece.push(b'\n');
 }
 
-/// Adds a letter, a space, and bytes as hex digits in upper case.
+/// Adds a letter, a space, and bytes as upper-case hex digits.
 fn push_bytes(piece: &mut Piece, letter: u8, bytes: &[u8])
     requires { array_vec_len piece.old + 2 + 2 * length bytes.now ≤ WRITTEN_AT_ONCE }
     ensures items { piece.new.items

@@ -1,5 +1,4 @@
--- Why a log became one that no population could have given (profile): some of its slot lines, which
--- no population fits together.
+-- Why a log became impossible (profile): some of its slot lines, which no population fits together.
 use Rattle.std.specs.Prelude.{◌≡◌, ◌≢◌, ℕ, ◌<◌, ◌≤◌, true, false, Some, List, slice_get, MatchOption}
 use Rattle.std.specs.List.Sorted.{IsStrictlyIncreasing}
 use Rattle.vic_frame.specs.Uids.{has}
@@ -14,13 +13,13 @@ use Rattle.vic_report.specs.declared.conflict.Conflict.{Conflict}
 use Rattle.vic_verdict.specs.declared.judging.Verdict.TheVariants.{Impossible}
 use Rattle.vic_verdict.specs.Verdict.{IsVerdict}
 
--- the population fits the lines with these numbers: each that tells of a slot is its outcome there
+-- the population fits the lines with these numbers: each that is a slot line is its outcome there
 abbrev pub FitsLines : List LogLine → List ℕ → List ℕ → Type 0
 FitsLines lines numbers p =
     (i : ℕ) (l : LogLine) → slice_get lines i ≡ Some l → has numbers l.number ≡ true
     → Fits l.item (outcome_at (entries lines) i p)
 
--- the line with this number tells of a slot
+-- the line with this number is a slot line
 pub record IsSlotLine (lines : List LogLine) (n : ℕ) : Type 0 where
   pub place : ℕ
   pub line : LogLine
@@ -36,8 +35,8 @@ pub record IsConflictAt (lines : List LogLine) (n : ℕ) (numbers : List ℕ) : 
   pub slots : (m : ℕ) → has numbers m ≡ true → IsSlotLine lines m
   pub unfit : (p : List ℕ) → IsPopulation p → FitsLines lines numbers p → ⊥
 
--- the line with this number is the last Stay Quiet with the UID before place i, and no field cycle
--- stands between
+-- the line with this number is the last Stay Quiet with the UID before position i, with no field
+-- cycle in between
 pub record IsSilencedBefore (lines : List LogLine) (i u n : ℕ) : Type 0 where
   pub place : ℕ
   pub before : place < i
@@ -48,7 +47,7 @@ pub record IsSilencedBefore (lines : List LogLine) (i u n : ℕ) : Type 0 where
   pub last : (k : ℕ) → place < k → k < i → silences (slice_get (entries lines) k) u ≡ false
   pub powered : (k : ℕ) → place < k → k < i → slice_get (entries lines) k ≢ Some FieldCycle
 
--- the line with this number is a reply of a UID that is Quiet there by the line with another
+-- the line with this number is a reply of a UID that is Quiet there by the line with another number
 pub record IsSilencedBy (lines : List LogLine) (n silencer : ℕ) : Type 0 where
   pub place : ℕ
   pub reply : Reply
@@ -61,8 +60,8 @@ IsNoQuietReply lines n =
     (i : ℕ) (r : Reply) → slice_get lines i ≡ Some (record { number = n; item = Heard r })
     → is_quiet (entries lines) i r.uid ≡ false
 
--- the first impossible line, lines that no population fits together, and, exactly if that line is
--- a reply of a tag that was Quiet there, what silenced the tag
+-- the first impossible line, lines that no population fits together, and, if and only if that line
+-- is a reply of a tag that was Quiet there, the line that silenced the tag
 pub record IsConflict (lines : List LogLine) (c : Conflict) : Type 0 where
   pub line : IsVerdict lines (Impossible c.line)
   pub lines_unfit : IsConflictAt lines c.line c.lines.items

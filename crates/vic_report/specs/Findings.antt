@@ -1,4 +1,4 @@
--- The lines that show what a possible log tells against its list (profile).
+-- The lines that show the findings of a possible log (profile).
 use Rattle.std.specs.Prelude.{◌≡◌, ◌≢◌, ◌⊎◌, ℕ, ◌==◌, Bool, true, false, not, Some, List, slice_get, map}
 use Rattle.vic_log.specs.declared.entry.Entry.{Entry}
 use Rattle.vic_log.specs.declared.entry.Entry.TheVariants.{Sent, Silent, Collision, Heard, Listed, Garbled, FieldCycle}
@@ -18,8 +18,8 @@ lacks_reply_of (Sent q) u = false
 lacks_reply_of (Listed v) u = false
 lacks_reply_of FieldCycle u = false
 
--- the line with this number rules the UID out: a tag with it would answer in its slot, and the
--- slot was found without its reply
+-- the line with this number rules the UID out: a tag with it would answer in its slot, and the slot
+-- lacks its reply
 pub record RulesOut (lines : List LogLine) (n u : ℕ) : Type 0 where
   pub place : ℕ
   pub line : LogLine
@@ -28,12 +28,12 @@ pub record RulesOut (lines : List LogLine) (n u : ℕ) : Type 0 where
   pub answers : answers_at (entries lines) place u ≡ true
   pub lacks : lacks_reply_of line.item u ≡ true
 
--- the UID is possible, and answers in the slot at place i where it is in the field
+-- the UID is possible and, if it is in the field, answers in the slot at position i
 abbrev pub MayAnswer : List Entry → ℕ → ℕ → Type 0
 MayAnswer es i u = IsPossibleUid es u × (answers_at es i u ≡ true)
 
--- the slot at place i, found so, tells that the UID is there: by its reply; or where several
--- answered, as one of the only two that may have; or where some did, as the only one
+-- the slot at position i, found so, shows that the UID is there: by its reply; or, if several
+-- answered, as one of the only two that may have; or, if some did, as the only one
 abbrev pub TellsOf : List Entry → ℕ → ℕ → Entry → Type 0
 TellsOf es i u (Heard r) = r.uid ≡ u
 TellsOf es i u Collision =
@@ -46,7 +46,7 @@ TellsOf es i u (Sent q) = ⊥
 TellsOf es i u (Listed v) = ⊥
 TellsOf es i u FieldCycle = ⊥
 
--- the line with this number tells that the UID is there
+-- the line with this number shows that the UID is there
 pub record ShowsCertain (lines : List LogLine) (n u : ℕ) : Type 0 where
   pub place : ℕ
   pub line : LogLine
@@ -58,7 +58,7 @@ pub record ShowsCertain (lines : List LogLine) (n u : ℕ) : Type 0 where
 abbrev pub IsRuledOut : List LogLine → ShownUid → Type 0
 IsRuledOut lines s = RulesOut lines s.line s.uid
 
--- the line beside a UID tells that it is there
+-- the line beside a UID shows that it is there
 abbrev pub IsToldOf : List LogLine → ShownUid → Type 0
 IsToldOf lines s = ShowsCertain lines s.line s.uid
 

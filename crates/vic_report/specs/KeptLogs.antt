@@ -11,11 +11,11 @@ use Rattle.vic_log.specs.Populations.{outcome_at, Fits, CouldHaveGiven}
 use Rattle.vic_log.specs.Quiet.{is_quiet}
 use Rattle.vic_verdict.specs.LogLines.{AreLogLines}
 
--- at the end of the one entries the same tags are Quiet as at place i of the others
+-- at the end of the first entries the same tags are Quiet as at position i of the second
 abbrev pub SameQuiet : List Entry → List Entry → ℕ → Type 0
 SameQuiet kept es i = (u : ℕ) → is_quiet kept (length kept) u ≡ is_quiet es i u
 
--- two entries more: a request of one slot with this mask, and what its slot was found to hold
+-- two more entries: a request of one slot with this mask, and what was found in its slot
 abbrev pub HasSlotAdded : List Entry → BitMask → Entry → List Entry → Type 0
 HasSlotAdded old m e new = new ≡ (old ++ Sent (Inventory 2 false m) ∷ []) ++ e ∷ []
 
@@ -25,8 +25,7 @@ pub record AreNumbered (lines : List LogLine) : Type 0 where
   pub unlisted : listed (entries lines) ≡ []
   pub last : last_from 0 lines ≡ length lines
 
--- the old and the new kept entries stand beside the others before and after place i, with its entry
--- e, if it is kept
+-- the kept entries before and after position i, whose entry e is added if it is kept
 pub record KeepsLine (es : List Entry) (i : ℕ) (is_kept : Bool) (e : Entry)
     (old new : List Entry) : Type 0 where
   pub quiet : SameQuiet old es i → SameQuiet new es (i + 1)

@@ -1,5 +1,4 @@
--- What a report of a log is (profile): all that the log tells against its list, or lines that no
--- population fits together.
+-- What a report on a log is (profile): its findings, or lines that no population fits together.
 use Rattle.std.specs.Prelude.{◌≡◌, ◌↔◌, ℕ, Bool, true, [], ◌∷◌, None, Some, Option, List, MatchOption}
 use Rattle.std.specs.Option.{option_map}
 use Rattle.std.specs.List.{All, Contains}
@@ -32,7 +31,7 @@ pub record AreOpenMasks (es : List Entry) (o : OpenMasks) : Type 0 where
   pub more : (o.more ≡ true)
       ↔ ((m : BitMask) × IsOpenMask set m × (Contains o.masks.items m → ⊥))
 
--- a mask with the open masks
+-- a mask, and the open masks
 abbrev pub left_with : BitMask → OpenMasks → Unsettled
 left_with m o = record { mask = m; «open» = o }
 
@@ -41,7 +40,7 @@ pub record IsUnsettledWith (es : List Entry) (x : Unsettled) : Type 0 where
   pub mask : IsFirstMask (IsLeftOpen es) x.mask
   pub open_masks : AreOpenMasks es x.open
 
--- all that the lines of a possible log tell against its list
+-- the findings of the lines of a possible log
 pub record AreFindings (lines : List LogLine) (f : Findings) : Type 0 where
   pub absent : IsListOf (IsAbsent (entries lines)) (uids_of f.absent.items)
   pub absent_shown : All (IsRuledOut lines) f.absent.items
@@ -51,7 +50,7 @@ pub record AreFindings (lines : List LogLine) (f : Findings) : Type 0 where
       (IsUnsettledWith (entries lines))
   pub doubtful : IsListOf (MayBeMissing (entries lines)) f.doubtful.items
 
--- there is none
+-- there are no findings
 pub record AreNone (f : Findings) : Type 0 where
   pub absent : f.absent.items ≡ []
   pub unlisted : f.unlisted.items ≡ []
@@ -65,7 +64,7 @@ IsReport lines (NotWhole f) =
     IsPossible (entries lines) × AreFindings lines f × (AreNone f → ⊥)
 IsReport lines (Complete count) = IsVerdict lines (verdict.Complete count)
 
--- the first of some findings, the one that is the verdict; a count where there is none
+-- the first of some findings, which is the verdict; a count if there is none
 abbrev pub first_finding : List ℕ → List ℕ → Option BitMask → List ℕ → Verdict
 first_finding (u ∷ absent) unlisted unsettled doubtful = verdict.Absent u
 first_finding [] (u ∷ unlisted) unsettled doubtful = verdict.Unlisted u

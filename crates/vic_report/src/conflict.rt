@@ -1,5 +1,4 @@
-//! Why a log became one that no population could have given: slot lines that no population fits
-//! together.
+//! Why a log became impossible: slot lines that no population fits together.
 
 ghost use Rattle.std.specs.Prelude.{◌≡◌, ◌⊎◌, ℕ, ◌≤◌, IfOk, OnOk, length, true};
 ghost use Rattle.std.specs.List.Sorted.{IsStrictlyIncreasing};
@@ -20,16 +19,16 @@ use vic_log::{MAX_LINES, PackedLine};
 use vic_tree::OpenSet;
 use vic_verdict::{Contradiction, first_impossible_line, open_and_met};
 
-/// The first line up to which no population could have given a log, and lines up to it that no
+/// The first line up to which no population could have produced a log, and lines up to it that no
 /// population fits together.
 #[derive(Drop)]
 pub struct Conflict {
     /// The number of the line.
     pub line: u32,
-    /// The numbers of the lines, in rising order, `line` the last.
+    /// The numbers of the lines, in rising order; `line` is the last.
     pub lines: Vec<u32>,
-    /// If `line` is a reply of a tag that is Quiet there, the number of the last Stay Quiet that made
-    /// it so.
+    /// If `line` is a reply of a tag that is Quiet there, the number of the last Stay Quiet that
+    /// silenced it.
     pub silenced_by: Option<u32>,
 }
 
@@ -47,7 +46,7 @@ pub(crate) fn find_conflict<S: OpenSet>(
     let line = first_impossible_line::<S>(alloc, lines, contradiction)?;
     let silenced_by = silencer_of(lines, line);
     let guess = match silenced_by {
-        // a reply of a tag that is Quiet needs no other line
+        // a reply of a Quiet tag needs no other line
         Some(_) => vec![in alloc; line]?,
         None => guess_conflict(alloc, lines, line)?,
     };
@@ -58,7 +57,7 @@ pub(crate) fn find_conflict<S: OpenSet>(
     })
 }
 
-/// Lines of a conflict: a guess if it is one, else all slot lines up to the last.
+/// Lines of a conflict: the guess if it is one, otherwise all slot lines up to the last.
 fn lines_of_conflict<S: OpenSet>(
     alloc: Global,
     lines: &[PackedLine],
@@ -86,8 +85,8 @@ fn put_numbers_in_order(numbers: &mut Vec<u32>)
     numbers.dedup();
 }
 
-/// Whether rising numbers are those of slot lines, the last one of a given line, and a log of these
-/// lines alone is one that no population could have given.
+/// Whether rising numbers are those of slot lines, the last one a given line, and a log of only
+/// these lines is impossible.
 fn is_conflict<S: OpenSet>(
     alloc: Global,
     lines: &[PackedLine],
@@ -121,7 +120,7 @@ fn are_slot_lines(lines: &[PackedLine], numbers: &[u32]) -> bool
     true
 }
 
-/// Whether a number is that of a slot line. Those of the lines rise.
+/// Whether a number is that of a slot line. The numbers of the lines rise.
 fn is_slot_line(lines: &[PackedLine], number: u32) -> bool
     ensures { result ≡ true → IsSlotLine lines.now number }
 {
@@ -132,7 +131,7 @@ fn is_slot_line(lines: &[PackedLine], number: u32) -> bool
     }
 }
 
-/// The slot lines up to one that no population could have given, which is one of them.
+/// The slot lines up to the first impossible line, which is one of them.
 fn slot_lines_to(alloc: Global, lines: &[PackedLine], last: u32) -> Result<Vec<u32>, AllocError>
     requires lines { AreLogLines lines.now }
     requires impossible { IsVerdict lines.now (Impossible last) }
@@ -146,7 +145,7 @@ fn slot_lines_to(alloc: Global, lines: &[PackedLine], last: u32) -> Result<Vec<u
     Ok(numbers)
 }
 
-/// Adds the number of a line, if it is a slot line up to one.
+/// Adds the number of a line, if it is a slot line up to number `last`.
 fn push_slot_line(numbers: &mut Vec<u32>, line: &PackedLine, last: u32) -> Result<(), AllocError>
     ensures upto { OnOk result ((m : ℕ) → has numbers.new.items m ≡ true
         → (has numbers.old.items m ≡ true)

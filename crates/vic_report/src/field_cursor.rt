@@ -1,4 +1,4 @@
-//! Which tags answer at a place of a log.
+//! Which tags answer at a position in a log.
 
 ghost use Rattle.std.specs.Prelude.{◌≡◌, ℕ, ◌+◌, ◌&&◌, ◌||◌, not, List, Some, OnOk, slice_get};
 ghost use Rattle.std.specs.BTreeSet as sorted;
@@ -15,8 +15,8 @@ use std::collections::BTreeSet;
 use vic_frame::{Request, Uid};
 use vic_log::{Entry, RoundCursor};
 
-/// Where one stands that goes over the entries of a log from the first on: the round that is open
-/// there, and which tags are Quiet.
+/// A cursor over the entries of a log, from the first on: the round that is open there, and which
+/// tags are Quiet.
 #[derive(Drop)]
 pub(crate) struct FieldCursor {
     pub rounds: RoundCursor,
@@ -24,7 +24,7 @@ pub(crate) struct FieldCursor {
 }
 
 impl FieldCursor {
-    /// Before the first entry.
+    /// A cursor before the first entry.
     pub(crate) fn first(alloc: Global) -> FieldCursor
         ensures { (es : List EntryValue) → IsFieldAt es 0 result }
     {
@@ -34,7 +34,7 @@ impl FieldCursor {
         }
     }
 
-    /// Goes on past an entry.
+    /// Moves past an entry.
     pub(crate) fn advance(&mut self, entry: &Entry) -> Result<(), AllocError>
         ensures { OnOk result ((es : List EntryValue) (i : ℕ) → IsInOrder es
             → slice_get es i ≡ Some entry.now → IsFieldAt es i self.old
@@ -45,7 +45,7 @@ impl FieldCursor {
         Ok(())
     }
 
-    /// Whether a tag with a UID answers in the slot that an entry here tells of.
+    /// Whether a tag with a UID answers in the slot that a slot line here is about.
     pub(crate) fn answers(&self, uid: Uid) -> bool
         ensures { (es : List EntryValue) (i : ℕ) → AreValid es → IsFieldAt es i self.now
             → result ≡ answers_at es i uid }
@@ -57,7 +57,7 @@ impl FieldCursor {
     }
 }
 
-/// Notes whom an entry makes Quiet or Ready.
+/// Notes which tags an entry makes Quiet or Ready.
 fn note_quiet(quiet: &mut BTreeSet<Uid>, entry: &Entry) -> Result<(), AllocError>
     ensures { OnOk result ((u : ℕ) → IsUid u → sorted.contains nat_cmp quiet.new u
         ≡ (silences (Some entry.now) u

@@ -1,4 +1,4 @@
-//! What a possible log tells against its list.
+//! The findings of a possible log: where it contradicts its list, or leaves it undecided.
 
 ghost use Rattle.std.specs.Prelude.{◌≡◌, ◌↔◌, IfOk, IsTrue};
 ghost use Rattle.std.specs.Option.{option_map};
@@ -20,13 +20,13 @@ use vic_log::PackedLine;
 use vic_tree::{OpenMasks, RangeSet};
 use vic_verdict::{Met, Verdict, certain_uids, compare, keys_in_order, listed_uids, missing_from};
 
-/// What a possible log tells against its list.
+/// The findings of a possible log: where it contradicts its list, or leaves it undecided.
 #[derive(Drop)]
 pub struct Findings {
     /// The listed UIDs that can't be there, in rising order, each with a line that rules it out.
     pub absent: Vec<ShownUid>,
-    /// The UIDs that must be there and aren't listed, in rising order, each with a line that tells
-    /// of it.
+    /// The UIDs that must be there and aren't listed, in rising order, each with a line that shows
+    /// it.
     pub unlisted: Vec<ShownUid>,
     /// What is left to ask for, if a UID that isn't listed may be there or not.
     pub unsettled: Option<Unsettled>,
@@ -55,7 +55,7 @@ impl Findings {
             && self.doubtful.is_empty()
     }
 
-    /// The first of them, as a verdict; a count of none where there is none.
+    /// The first of them, as a verdict; `Complete` with the count 0 if there is none.
     pub(crate) fn first(&self) -> Verdict
         ensures { result ≡ first_of self.now }
     {

@@ -43,7 +43,7 @@ pub(crate) fn kept_lines(
     Ok(kept)
 }
 
-/// Whether some rising numbers have one.
+/// Whether some rising numbers contain a number.
 fn has_number(numbers: &[u32], number: u32) -> bool
     requires { IsStrictlyIncreasing numbers.now }
     ensures { result ≡ has numbers.now number }
@@ -51,7 +51,7 @@ fn has_number(numbers: &[u32], number: u32) -> bool
     numbers.binary_search(&number).is_ok()
 }
 
-/// Goes past a line, and adds its entry if it is kept or makes tags Quiet or Ready.
+/// Moves past a line, and adds its entry if it is kept or makes tags Quiet or Ready.
 fn pass_line(
     kept: &mut Vec<PackedLine>,
     mask: &Option<Mask>,
@@ -78,7 +78,7 @@ fn pass_line(
     }
 }
 
-/// Adds what a slot was found to hold, if it is kept, behind a request of one slot with its mask.
+/// Adds what was found in a slot, if it is kept, after a request of one slot with its mask.
 fn push_if_kept(
     kept: &mut Vec<PackedLine>,
     mask: &Mask,

@@ -1,4 +1,4 @@
-//! Laws of the definitions. The functions do nothing: each stands for what its clauses say.
+//! Laws about the definitions. The functions do nothing: each stands for what its clauses say.
 
 ghost use Rattle.std.specs.Prelude.{◌≡◌, ℕ, List, ◌++◌};
 ghost use Rattle.vic_log.specs.Order.{entries};
@@ -11,7 +11,7 @@ ghost use Rattle.vic_report.specs.Reports.{IsReport, verdict_of};
 ghost use Rattle.vic_report.specs.declared.reporting.LogReport.{LogReport};
 ghost use Rattle.vic_report.specs.declared.reporting.LogReport.TheVariants as reported;
 
-/// The first finding of a report is the verdict, and where that is `Complete` there is none.
+/// The first finding of a report is the verdict; if that is `Complete`, there is none.
 pub fn first_finding_is_the_verdict()
     ensures first { (lines : List LogLine) (r : LogReport) → IsReport lines r
         → IsVerdict lines (verdict_of r) }

@@ -1,8 +1,8 @@
-//! All that a log tells against its list, and the lines that tell it.
+//! Every finding of a log, with its lines.
 //!
-//! `report` begins with the verdict of `vic_verdict::judge`. What it reports are the findings of a
-//! possible log, each with a line that shows it, or the conflict of an impossible one. Lines are
-//! guessed by `vic_guess` and tried here; that they are the first and the fewest, tests show.
+//! `report` begins with the verdict of `vic_verdict::judge`. It reports the findings of a possible
+//! log, or the conflict of an impossible one. Lines are guessed by `vic_guess` and checked here;
+//! that they are the first and the fewest is only tested.
 #![tactic(auto)]
 
 mod conflict;

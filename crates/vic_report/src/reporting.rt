@@ -1,4 +1,4 @@
-//! All that a log tells against its list, and the lines that tell it.
+//! Every finding of a log, with its lines.
 
 ghost use Rattle.std.specs.Prelude.{◌≡◌, ◌≤◌, IfOk, length};
 ghost use Rattle.vic_tree.specs.OpenSet.{SameUids};
@@ -17,15 +17,15 @@ use vic_log::{Log, MAX_LINES, PackedLine};
 use vic_tree::RangeSet;
 use vic_verdict::{Met, Verdict, count_listed, open_and_met};
 
-/// All that a log tells against its list, and the lines that tell it (profile).
+/// The report on a log (profile): its findings, or the conflict that makes it impossible.
 #[derive(Drop)]
 pub enum LogReport {
-    /// No population could have given the log: the first line up to which none could, and lines
+    /// No population could have produced the log: the first line up to which none could, and lines
     /// that no population fits together.
     Impossible(Conflict),
-    /// The log is possible, and its list isn't whole: one finding at least.
+    /// The log is possible, and its list isn't known to be complete: at least one finding.
     NotWhole(Findings),
-    /// The list is whole, and has so many UIDs.
+    /// The list is complete, and has `count` UIDs.
     Complete { count: u32 },
 }
 
@@ -44,8 +44,7 @@ impl LogReport {
     }
 }
 
-/// The report on a log. It begins with the verdict of `judge`. It is want of memory alone that
-/// keeps it from an answer.
+/// The report on a log. It begins with the verdict of `judge`. It fails only if memory is refused.
 pub fn report(alloc: Global, log: &Log) -> Result<LogReport, AllocError>
     ensures { IfOk result (IsReport log.now.lines) }
 {

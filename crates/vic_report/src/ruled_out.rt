@@ -1,7 +1,8 @@
 //! Lines that rule out UIDs.
 //!
-//! The lines of all UIDs are guessed at once, and tried at once. Where the guess is wrong, which no
-//! test has seen, each UID is looked for by itself. That the lines are the first ones, tests show.
+//! The lines of all UIDs are guessed in one pass, and checked in one pass. If the guess is wrong,
+//! which no test has seen, each UID is searched for separately. That the lines are the first ones
+//! is only tested.
 
 ghost use Rattle.std.specs.Prelude.{◌≡◌, ◌&&◌, ℕ, ◌≤◌, IfOk, MatchOption, List, Some, slice_get, length, take, true, false};
 ghost use Rattle.std.specs.List.{All};
@@ -21,7 +22,7 @@ use vic_frame::Uid;
 use vic_guess::guess_ruling_lines;
 use vic_log::{Entry, PackedLine};
 
-/// For each of some UIDs that aren't open a line that rules it out.
+/// For each of some UIDs that aren't open, a line that rules it out.
 pub(crate) fn lines_of_absent(
     alloc: Global,
     lines: &[PackedLine],
@@ -81,7 +82,7 @@ fn are_ruled_out(
     Ok(next == shown.len())
 }
 
-/// How many UIDs are ruled out by their lines, from the first on, after one line more: those before
+/// How many UIDs, from the first on, are ruled out by their lines after one more line; those before
 /// index `start` are.
 fn pass_ruled_out(
     cursor: &FieldCursor,
@@ -108,7 +109,7 @@ fn pass_ruled_out(
     next
 }
 
-/// Whether an entry at the place of a cursor rules out a UID.
+/// Whether an entry at the position of a cursor rules out a UID.
 fn rules_out(cursor: &FieldCursor, entry: &Entry, uid: Uid) -> bool
     ensures { (es : List EntryValue) (i : ℕ) → AreValid es → IsFieldAt es i cursor.now
         → result ≡ (lacks_reply_of entry.now uid && answers_at es i uid) }
@@ -121,7 +122,7 @@ fn rules_out(cursor: &FieldCursor, entry: &Entry, uid: Uid) -> bool
     }
 }
 
-/// For each of some UIDs that aren't open a line that rules it out, found by itself.
+/// For each of some UIDs that aren't open, a line that rules it out, searched for separately.
 fn search_lines(
     alloc: Global,
     lines: &[PackedLine],

@@ -2,7 +2,7 @@
 
 use vic_frame::Uid;
 
-/// A UID, and a line that shows what was found of it.
+/// A UID, and a line that shows the finding about it.
 #[derive(Clone, Copy, Debug, PartialEq, Eq)]
 pub struct ShownUid {
     pub uid: Uid,

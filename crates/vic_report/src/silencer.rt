@@ -1,4 +1,4 @@
-//! By which line a tag is Quiet whose reply can't be true.
+//! Which line silenced a tag whose reply was heard while it was Quiet.
 
 ghost use Rattle.std.specs.Prelude.{◌≡◌, ℕ, ◌+◌, ◌<◌, ◌≤◌, MatchOption, Some, List, length, slice_get, true, false};
 ghost use Rattle.vic_frame.specs.Replies.{Reply};
@@ -13,7 +13,7 @@ use vic_frame::{Request, Uid};
 use vic_log::{Entry, PackedLine};
 
 /// If the line with a number is a reply of a UID that is Quiet there, the number of the last Stay
-/// Quiet line with it.
+/// Quiet line with that UID.
 pub(crate) fn silencer_of(lines: &[PackedLine], number: u32) -> Option<u32>
     requires { AreLogLines lines.now }
     ensures { MatchOption result (IsNoQuietReply lines.now number)
@@ -27,7 +27,7 @@ pub(crate) fn silencer_of(lines: &[PackedLine], number: u32) -> Option<u32>
     None
 }
 
-/// The same of the line at a place.
+/// The same for the line at a position.
 fn silencer_at(lines: &[PackedLine], place: usize) -> Option<u32>
     requires { place < length lines.now }
     ensures { MatchOption result
@@ -47,7 +47,7 @@ fn silencer_at(lines: &[PackedLine], place: usize) -> Option<u32>
     }
 }
 
-/// The number of the last Stay Quiet line with a UID before a place, if it is Quiet there.
+/// The number of the last Stay Quiet line with a UID before a position, if it is Quiet there.
 fn silencer_before(lines: &[PackedLine], place: usize, uid: Uid) -> Option<u32>
     requires { place < length lines.now }
     ensures { MatchOption result (is_quiet (entries lines.now) place uid ≡ false)
@@ -60,7 +60,7 @@ fn silencer_before(lines: &[PackedLine], place: usize, uid: Uid) -> Option<u32>
     silencer
 }
 
-/// The same after one line more.
+/// The same after one more line.
 fn silencer_after(before: Option<u32>, line: &PackedLine, uid: Uid) -> Option<u32>
     ensures { (lines : List LogLineValue) (i : ℕ) → slice_get lines i ≡ Some line.now
         → MatchOption before (is_quiet (entries lines) i uid ≡ false)

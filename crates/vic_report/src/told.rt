@@ -1,8 +1,8 @@
-//! Lines that tell that UIDs are there.
+//! Lines that show that UIDs are there.
 //!
-//! What the slots tell is put in the order of the UIDs, and gone over beside the UIDs that are
-//! wanted. One that isn't met so, which no test has seen, is looked for by itself. That a reply is
-//! the first one, tests show.
+//! What the slots show is put in the order of the UIDs, and walked side by side with the wanted
+//! UIDs. One that isn't found that way, which no test has seen, is searched for separately. That a
+//! reply is the first one is only tested.
 
 ghost use Rattle.std.specs.Prelude.{◌≡◌, ℕ, IfNone, IfOk, IfSome, OnOk, Some, List, length, slice_get, true, false};
 ghost use Rattle.std.specs.List.{All};
@@ -22,7 +22,7 @@ use vic_frame::Uid;
 use vic_log::{Entry, PackedLine};
 use vic_verdict::{Found, Met};
 
-/// For each of some UIDs that slots of a possible log force a line that tells that it is there.
+/// For each of some UIDs that slots of a possible log force, a line that shows that it is there.
 pub(crate) fn lines_of_unlisted(
     alloc: Global,
     lines: &[PackedLine],
@@ -53,7 +53,7 @@ pub(crate) fn lines_of_unlisted(
     Ok(shown)
 }
 
-/// The UIDs that replies tell of, with their lines: by UID, those of one UID by line.
+/// The UIDs of replies, with their lines: by UID, those of one UID by line.
 fn told_by_replies(alloc: Global, lines: &[PackedLine]) -> Result<Vec<ShownUid>, AllocError>
     ensures { IfOk result (λ v. All (IsToldOf lines.now) v.items) }
 {
@@ -65,7 +65,7 @@ fn told_by_replies(alloc: Global, lines: &[PackedLine]) -> Result<Vec<ShownUid>,
     Ok(told)
 }
 
-/// Adds what a line tells, if it is a reply.
+/// Adds what a line shows, if it is a reply.
 fn push_reply(told: &mut Vec<ShownUid>, line: &PackedLine) -> Result<(), AllocError>
     ensures { OnOk result ((lines : List LogLineValue) (i : ℕ)
         → slice_get lines i ≡ Some line.now
@@ -80,7 +80,7 @@ fn push_reply(told: &mut Vec<ShownUid>, line: &PackedLine) -> Result<(), AllocEr
     Ok(())
 }
 
-/// The UIDs that slots tell of which nobody else could have met, with their lines: by UID.
+/// The UIDs of slots that no other UIDs could have met, with their lines: by UID.
 fn told_by_others(
     alloc: Global,
     lines: &[PackedLine],
@@ -98,7 +98,7 @@ fn told_by_others(
     Ok(told)
 }
 
-/// Adds whom a slot tells of, if nobody but those found could have met it.
+/// Adds the UIDs of a slot, if no others could have met it.
 fn push_exact(told: &mut Vec<ShownUid>, lines: &[PackedLine], one: &Found) -> Result<(), AllocError>
     requires possible { IsPossible (entries lines.now) }
     requires found { IsFound (entries lines.now) one.now }
@@ -111,7 +111,8 @@ fn push_exact(told: &mut Vec<ShownUid>, lines: &[PackedLine], one: &Found) -> Re
     push_uids(told, &one.uids, line)
 }
 
-/// The line of a slot, if nobody but those found could have met it: it tells of each of them.
+/// The line of a slot, if no UIDs but those found could have met it: it shows that each of them is
+/// there.
 fn exact_line(lines: &[PackedLine], one: &Found) -> Option<u32>
     requires possible { IsPossible (entries lines.now) }
     requires found { IsFound (entries lines.now) one.now }
@@ -128,7 +129,7 @@ fn exact_line(lines: &[PackedLine], one: &Found) -> Option<u32>
     Some(line.number())
 }
 
-/// Adds UIDs that a line tells of.
+/// Adds UIDs that a line shows to be there.
 fn push_uids(told: &mut Vec<ShownUid>, uids: &[Uid], line: u32) -> Result<(), AllocError>
     ensures { OnOk result ((lines : List LogLineValue)
         → ((u : ℕ) → has uids.now u ≡ true → ShowsCertain lines line u)
@@ -140,7 +141,7 @@ fn push_uids(told: &mut Vec<ShownUid>, uids: &[Uid], line: u32) -> Result<(), Al
     Ok(())
 }
 
-/// The first index from one on whose UID isn't below another.
+/// The first index, from one on, whose UID isn't below another.
 fn first_from(told: &[ShownUid], start: usize, uid: Uid) -> usize {
     let mut index = start;
     while index < told.len() && told[index].uid < uid {
@@ -149,7 +150,8 @@ fn first_from(told: &[ShownUid], start: usize, uid: Uid) -> usize {
     index
 }
 
-/// The line of a UID at an index among replies, or else at one among other slots, if it is there.
+/// The line of a UID at an index among replies, or otherwise at one among other slots, if it is
+/// there.
 fn line_among(
     replies: &[ShownUid],
     reply: usize,
@@ -175,8 +177,8 @@ fn line_at(told: &[ShownUid], index: usize, uid: Uid) -> Option<u32>
     if one.uid == uid { Some(one.line) } else { None }
 }
 
-/// A line that tells of a UID that the slots of a possible log force: the one that was found, or
-/// one that is looked for.
+/// A line that shows that a UID is there which the slots of a possible log force: the one that was
+/// found, or one that is searched for.
 fn line_of(lines: &[PackedLine], met: &Met, uid: Uid, found: Option<u32>) -> u32
     requires possible { IsPossible (entries lines.now) }
     requires met { IsMet (entries lines.now) met.now }
@@ -190,7 +192,7 @@ fn line_of(lines: &[PackedLine], met: &Met, uid: Uid, found: Option<u32>) -> u32
     }
 }
 
-/// A line that tells of a UID that the slots of a possible log force.
+/// A line that shows that a UID is there which the slots of a possible log force.
 fn search_line(lines: &[PackedLine], met: &Met, uid: Uid) -> u32
     requires possible { IsPossible (entries lines.now) }
     requires met { IsMet (entries lines.now) met.now }
@@ -237,7 +239,7 @@ fn is_reply_of(line: &PackedLine, uid: Uid) -> bool
     }
 }
 
-/// The line of a slot that a UID met and that nobody else could have met.
+/// The line of a slot that a UID meets and that no others could have met.
 fn other_of(lines: &[PackedLine], found: &[Found], uid: Uid) -> Option<u32>
     requires possible { IsPossible (entries lines.now) }
     requires found { All (IsFound (entries lines.now)) found.now }

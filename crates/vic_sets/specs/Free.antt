@@ -1,4 +1,4 @@
--- The UIDs of a set that are wanted: those that aren't exceptions.
+-- The wanted UIDs of a set: those that aren't exceptions.
 use Rattle.std.specs.Prelude.{◌≡◌, ℕ, ◌/◌, ◌^◌, ◌%◌, Bool, true, false, List}
 use Rattle.vic_frame.specs.Uids.{IsUid, has}
 use Rattle.vic_frame.specs.Masks.{BitMask, lies_in}

@@ -3,19 +3,19 @@ use Rattle.std.specs.Prelude.{ℕ, ◌+◌, ◌/◌, ◌%◌, ◌==◌, Bool, tr
 use Rattle.vic_sets.specs.declared.node.Node.{Node, Fork'}
 use Rattle.vic_sets.specs.declared.node.Node.TheVariants.{Clear, Shut}
 
--- the number is open, its lowest bit being asked for first
+-- the number is open; its lowest bit is tested first
 abbrev pub open_at : Node → ℕ → Bool
 open_at Clear u = true
 open_at Shut u = false
 open_at (Fork' p zero one) u = if u % 2 == 0 then open_at zero (u / 2) else open_at one (u / 2)
 
--- how many bits are asked for at most
+-- how many bits are tested at most
 abbrev pub height : Node → ℕ
 height Clear = 0
 height Shut = 0
 height (Fork' p zero one) = max (height zero) (height one) + 1
 
--- both are one leaf
+-- both are the same leaf
 abbrev pub AreOneLeaf : Node → Node → Type 0
 AreOneLeaf Clear Clear = Unit {0}
 AreOneLeaf Shut Shut = Unit {0}
@@ -27,7 +27,7 @@ IsReduced Clear = Unit {0}
 IsReduced Shut = Unit {0}
 IsReduced (Fork' p zero one) = IsReduced zero × IsReduced one × (¬ AreOneLeaf zero one)
 
--- the halves of a fork are so, though they may be equal leaves
+-- the halves of a fork have none, though they may be equal leaves themselves
 abbrev pub HasReducedSides : Node → Type 0
 HasReducedSides Clear = Unit {0}
 HasReducedSides Shut = Unit {0}

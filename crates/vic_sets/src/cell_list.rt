@@ -10,7 +10,7 @@ use std::marker::Model;
 use vic_frame::{Mask, Uid, without_top_byte};
 use vic_tree::OpenSet;
 
-/// A set of UIDs as a list of masks, the plain and slow way to keep one: the masks have at most 56
+/// A set of UIDs as a list of masks, the simple and slow way to keep one: the masks have at most 56
 /// bits, no UID lies in two of them, and no two are the halves of one mask.
 #[derive(Drop)]
 pub struct CellList {

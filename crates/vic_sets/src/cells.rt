@@ -22,7 +22,7 @@ pub(crate) fn is_in(cells: &[Mask], uid: Uid) -> bool
     cells.iter().any(|cell| cell.matches(uid))
 }
 
-/// What is left of some cells once a mask is taken out, except some UIDs.
+/// What is left of some cells after a mask is removed, except some UIDs.
 pub(crate) fn settled(
     alloc: Global,
     cells: &[Mask],
@@ -90,7 +90,7 @@ fn add_back(left: &mut Vec<Mask>, cells: &[Mask], uids: &[Uid]) -> Result<(), Al
     Ok(())
 }
 
-/// Adds a mask. Where the other half of a mask one bit shorter is there, the two become that mask.
+/// Adds a mask. If the other half of a mask one bit shorter is there, the two become that mask.
 fn add(cells: &mut Vec<Mask>, mask: Mask) -> Result<(), AllocError>
     requires cells { AreCells cells.old.items }
     requires cell { IsCell mask }
@@ -111,7 +111,7 @@ fn add(cells: &mut Vec<Mask>, mask: Mask) -> Result<(), AllocError>
     Ok(())
 }
 
-/// Appends the UIDs that lie in a mask and in one of the cells, and are no exceptions.
+/// Appends the UIDs that lie in a mask and in one of the cells, and aren't exceptions.
 pub(crate) fn gather_cells(out: &mut ArrayVec<Uid, 3>, except: &[Uid], cells: &[Mask], mask: &Mask)
     requires rising { IsStrictlyIncreasing except.now }
     requires cells { All IsCell cells.now }

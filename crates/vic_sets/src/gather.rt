@@ -1,4 +1,4 @@
-//! Gathering UIDs that share their low bits, three at most.
+//! Gathering UIDs that share their low bits, at most three.
 
 ghost use Rattle.std.specs.Prelude.{◌≡◌, ◌+◌, ◌-◌, ◌*◌, ◌^◌, ◌<◌, ◌≤◌};
 ghost use Rattle.std.specs.List.Sorted.{IsStrictlyIncreasing};
@@ -10,7 +10,7 @@ use arrayvec::ArrayVec;
 use vic_frame::{UID_BITS, Uid};
 use vic_tree::gather::gather_one;
 
-/// Appends the UIDs with these low bits that are no exceptions.
+/// Appends the UIDs with these low bits that aren't exceptions.
 pub(crate) fn gather_all(out: &mut ArrayVec<Uid, 3>, except: &[Uid], depth: u8, low: u64)
     requires rising { IsStrictlyIncreasing except.now }
     requires depth_fits { depth ≤ UID_BITS }

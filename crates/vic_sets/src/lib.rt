@@ -1,4 +1,4 @@
-//! The open UIDs kept in two plainer ways than the one that the judge goes by: as a list of masks,
+//! The open UIDs, kept in two simpler ways than the one that the judge uses: as a list of masks,
 //! and as a tree of bits. The judge is proved over each.
 #![tactic(auto)]
 

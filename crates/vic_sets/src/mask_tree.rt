@@ -14,9 +14,9 @@ use std::marker::Model;
 use vic_frame::{Mask, UID_BITS, Uid, without_top_byte};
 use vic_tree::OpenSet;
 
-/// A set of UIDs as a tree that asks for their low 56 bits, the lowest first. No fork of it has two
-/// equal leaves, and it is at most 56 forks deep. To settle a mask takes a step for each of its
-/// bits, 56 for each exception in it, and a look at the other exceptions.
+/// A set of UIDs as a tree that tests their low 56 bits, lowest first. No fork in it has two equal
+/// leaves, and it is at most 56 forks deep. Settling a mask takes one step for each of its bits, 56
+/// for each exception in it, and a look at the other exceptions.
 #[derive(Drop)]
 pub struct MaskTree {
     root: Node,
@@ -81,7 +81,7 @@ impl OpenSet for MaskTree {
     }
 }
 
-/// Shuts a mask, and opens those exceptions in it again that were open.
+/// Shuts a mask, and reopens the exceptions in it that were open.
 fn settle_below(
     root: &mut Node,
     alloc: Global,

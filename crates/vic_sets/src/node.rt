@@ -5,7 +5,7 @@ ghost use Rattle.vic_sets.specs.Nodes.{open_at, height, IsReduced, HasReducedSid
 
 use std::alloc::{AllocError, Global};
 
-/// A set of numbers, the open ones, asked for bit by bit, the lowest bit first.
+/// A set of numbers, the open ones, tested bit by bit, lowest bit first.
 #[cycle(node)]
 #[derive(Drop)]
 pub(crate) enum Node {
@@ -44,7 +44,7 @@ pub(crate) fn is_open_at(node: &Node, number: u64) -> bool
     }
 }
 
-/// Makes one leaf of a fork of two equal leaves.
+/// Replaces a fork of two equal leaves with one leaf.
 fn merge(node: &mut Node)
     requires { HasReducedSides node.old }
     ensures reduced { IsReduced node.new }
@@ -62,7 +62,7 @@ fn merge(node: &mut Node)
     *node = leaf;
 }
 
-/// Gives a leaf two halves like it.
+/// Replaces a leaf with a fork of two like it.
 fn split(node: &mut Node, alloc: Global) -> Result<(), AllocError>
     requires { IsReduced node.old }
     ensures fork { OnOk result (IsFork node.new) }

@@ -1,5 +1,4 @@
-//! What is asked of a tree of bits: which UIDs are open below a node, three at most, and the widest
-//! mask.
+//! Queries on a tree of bits: at most three UIDs that are open below a node, and the widest mask.
 
 ghost use Rattle.std.specs.Prelude.{◌≡◌, ℕ, ◌+◌, ◌^◌, ◌<◌, ◌≤◌, false, IfSome, IfNone};
 ghost use Rattle.std.specs.List.Sorted.{IsStrictlyIncreasing};
@@ -14,7 +13,7 @@ use crate::node::Node;
 use arrayvec::ArrayVec;
 use vic_frame::{Mask, UID_BITS, Uid};
 
-/// Appends the UIDs that are open below a node and no exceptions.
+/// Appends the UIDs that are open below a node and aren't exceptions.
 pub(crate) fn gather_open(
     out: &mut ArrayVec<Uid, 3>,
     except: &[Uid],
@@ -39,7 +38,7 @@ pub(crate) fn gather_open(
     }
 }
 
-/// The mask that fixes one bit more, below the others.
+/// The mask that fixes one more bit, below the others.
 fn lengthened(mask: &Mask, bit: u64) -> Mask
     requires short { mask.now.len < UID_BITS }
     requires bit { bit ≤ 1 }
@@ -52,7 +51,7 @@ fn lengthened(mask: &Mask, bit: u64) -> Mask
 }
 
 /// The mask of least length, then of least value, all of whose numbers are open below a node; none
-/// where no number is.
+/// if no number is.
 pub(crate) fn widest_below(node: &Node) -> Option<Mask>
     requires reduced { IsReduced node.now }
     requires low { height node.now ≤ UID_BITS }

@@ -6,7 +6,7 @@ use std::io;
 use std::io::Write;
 use vic_log::{DeviceFault, History, Sink, Source};
 
-/// A source that gives at most so many bytes a call, and fails at one call.
+/// A source that returns at most `piece` bytes per call, and fails at one call.
 #[derive(Drop)]
 pub struct Pieces<'a> {
     bytes: &'a [u8],
@@ -38,7 +38,7 @@ impl<'a> Pieces<'a> {
         }
     }
 
-    /// How often it was read.
+    /// How many times it was read.
     pub fn reads(&self) -> u64
         ensures { result ≡ ⟦<Pieces<'a> as Source>⟧.reads self.now }
     {
@@ -79,7 +79,7 @@ impl<'a> Source for Pieces<'a> {
     }
 }
 
-/// A source that gives one byte again and again, without end.
+/// A source that returns one byte again and again, without end.
 #[derive(Drop)]
 pub struct Endless {
     byte: u8,
@@ -125,7 +125,7 @@ impl Source for Endless {
     }
 }
 
-/// A sink that takes one byte a call, and fails at one call, or in `flush`.
+/// A sink that accepts one byte per call, and fails at one call, or in `flush`.
 #[derive(Drop)]
 pub struct OneByOne {
     taken: Vec<u8>,
@@ -137,7 +137,7 @@ pub struct OneByOne {
 }
 
 impl OneByOne {
-    /// A sink that has taken these bytes. Its writes are numbered from 1; with a `fail_at` of 0
+    /// A sink that has accepted these bytes. Its writes are numbered from 1; with a `fail_at` of 0
     /// none fails.
     pub fn new(taken: Vec<u8>, fail_at: u64, fails_flush: bool) -> OneByOne
         ensures taken { ⟦<OneByOne as Sink>⟧.taken result ≡ Some taken.items }
@@ -153,7 +153,7 @@ impl OneByOne {
         }
     }
 
-    /// The bytes that it has taken.
+    /// The bytes that it has accepted.
     pub fn taken(&self) -> &[u8]
         ensures { Some result.now ≡ ⟦<OneByOne as Sink>⟧.taken self.now }
     {
@@ -203,7 +203,7 @@ impl Sink for OneByOne {
     }
 }
 
-/// A writer of std that takes all it is given, but nothing at one call.
+/// A std writer that accepts all bytes, but none at one call.
 #[derive(Drop)]
 pub struct Stuck {
     stuck_at: u64,
@@ -211,7 +211,7 @@ pub struct Stuck {
 }
 
 impl Stuck {
-    /// Its writes are numbered from 1; with a `stuck_at` of 0 each takes all.
+    /// Its writes are numbered from 1; with a `stuck_at` of 0 each accepts all.
     pub fn new(stuck_at: u64) -> Stuck {
         Stuck {
             stuck_at,

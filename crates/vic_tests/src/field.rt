@@ -1,5 +1,5 @@
-//! The tags of a field, and each call on them. What `simulate` fills in is asked of the program, by
-//! `tests/logs`.
+//! The tags of a field, and each call on them. `tests/logs` asks the program what `simulate` fills
+//! in.
 
 ghost use Rattle.std.specs.Prelude.{◌<◌};
 
@@ -56,8 +56,8 @@ fn tags_of_a_field(rt: HostRuntime) -> Result<(), Fail> {
     answers(&rt, &field, 0, 0, Outcome::Several)
 }
 
-/// A UID whose key lies in each order to those before: inside, before and behind what is there,
-/// near and far.
+/// UIDs whose keys come in all orders: between, before and after those that are there, near and
+/// far.
 fn number_of(i: u64) -> u64
     requires { i < 300 }
 {

@@ -1,4 +1,4 @@
-//! Registers, masks and slots that are worked out elsewhere, and each call once.
+//! Registers, masks and slots that were worked out elsewhere, and each call once.
 
 use crate::values::{A, B, B1, Y, Z, inventory, mask, stay_quiet, uid};
 use std::process::Abort;
@@ -8,7 +8,7 @@ use vic_frame::low_bits_first::{
 };
 use vic_frame::{Mask, Request, UID_BITS, Uid, crc, crc_right, without_top_byte};
 
-/// The length and the value of a mask, where there is one.
+/// The length and the value of a mask, if there is one.
 fn parts(mask: Option<Mask>) -> Option<(u8, u64)> {
     match mask {
         Some(mask) => Some((mask.len(), mask.value())),
@@ -103,7 +103,8 @@ fn slots_of_masks(rt: HostRuntime) -> Result<(), Fail> {
     Ok(())
 }
 
-/// Of Inventory requests: whether in sixteen slots, the mask, how many slots, and one of them.
+/// Inventory requests: whether they have sixteen slots, the mask, how many slots they open, and one
+/// of the slots.
 const SLOTS_OF_REQUESTS: [(bool, u8, u64, u8, u8, Option<(u8, u64)>); 11] = [
     (false, 0, 0, 1, 0, Some((0, 0))),
     (false, 0, 0, 1, 1, None),

@@ -1,5 +1,5 @@
-//! The tests of the libraries, over their public calls: a crate with tests is proved twice, so they
-//! have one of their own.
+//! The tests of the libraries, by their public calls. They have a crate of their own because a
+//! crate with tests is proved twice.
 #![tactic(auto)]
 
 #[cfg(test)]

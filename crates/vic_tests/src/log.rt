@@ -1,5 +1,5 @@
-//! Lines and logs, each call once, and logs read in pieces. What texts are refused for is asked of
-//! the program, by `tests/logs`.
+//! Lines and logs, each call once, and logs read in pieces. `tests/logs` asks the program why texts
+//! are refused.
 
 ghost use Rattle.std.specs.Prelude.{◌<◌};
 
@@ -24,7 +24,7 @@ fn says(rt: &impl Abort, line: &[u8], expected: Result<Option<Entry>, LineFault>
     assert!(rt; line_entry(line) == expected);
 }
 
-/// Asks a line for its entry in version 2, which version 1 hasn't.
+/// Asks a line for its entry in version 2, which version 1 doesn't have.
 fn says_in_version_2(rt: &impl Abort, line: &[u8], entry: Entry) {
     says(rt, line, Err(LineFault::UnknownEntry));
     assert!(rt; line_entry_of(Version::V1, line) == Err(LineFault::UnknownEntry));
@@ -78,7 +78,7 @@ fn entries_that_are_pushed(rt: HostRuntime) -> Result<(), Fail> {
     Ok(())
 }
 
-/// A log with lines that are passed over, and with small digits.
+/// A log with ignored lines, and with lower-case digits.
 const GIVEN: &[u8] = b"vicinity-log 1\n\n#x\nT 260100f60a\nS";
 
 const WRITTEN: &[u8] = b"vicinity-log 1\nT 260100F60A\nS\n";
@@ -141,7 +141,7 @@ fn an_empty_log_of_version_2(rt: HostRuntime) -> Result<(), Fail> {
     Ok(())
 }
 
-/// Writes a log, of which so much is taken.
+/// Writes a log, of which only these bytes are accepted.
 fn is_cut(rt: &impl Abort, log: &Log, sink: &mut OneByOne, taken: &[u8]) {
     assert!(rt; write_log(log, sink) == Err(WriteFault));
     assert!(rt; sink.taken() == taken);
@@ -231,7 +231,7 @@ fn a_log_of_version_2_in_pieces(rt: HostRuntime) -> Result<(), Fail> {
     Ok(())
 }
 
-/// Feeds a text in pieces of so many bytes as the log that it is.
+/// Feeds a text in pieces of `piece` bytes as the log that it is.
 fn is_fed(rt: &impl Abort, alloc: Global, piece: usize, whole: &Log) -> Result<(), Fail>
     requires { 0 < piece }
 {
@@ -263,7 +263,7 @@ fn a_log_that_is_fed_a_fault(rt: HostRuntime) -> Result<(), Fail> {
     Ok(())
 }
 
-/// Reads a text whose read of this number fails, none where it is 0.
+/// Reads a text whose read with this number fails, none if it is 0.
 fn ends(rt: &impl Abort, alloc: Global, text: &[u8], fail_at: u64, fault: Option<LogFault>) {
     let mut source = Pieces::new(text, 1000, fail_at);
     assert!(rt; LogReader::new(alloc).read_all(&mut source).err() == fault);
@@ -289,7 +289,7 @@ fn faults_in_pieces(rt: HostRuntime) {
     ends(&rt, alloc, b"", 0, Some(HEADER));
 }
 
-/// The header, a line of so many `#`, and an end.
+/// The header, a line of that many `#`, and an end.
 fn comment(alloc: Global, bytes: usize, end: &[u8]) -> Result<Vec<u8>, Fail> {
     let mut text = Vec::from_slice(alloc, b"vicinity-log 1\n")?;
     for _ in 0..bytes {

@@ -1,4 +1,4 @@
-//! Logs by short names of their lines, those of `tests/rows/lines`.
+//! Logs by the short names of their lines in `tests/rows/lines`.
 
 use std::alloc::Global;
 use std::test::Fail;
@@ -28,7 +28,7 @@ UB1 = U E0040100000000B1
 UZ = U E000000000000000
 UY = U E080000000000000";
 
-/// The line of a name, and how often it stands. A name that isn't there stands for itself.
+/// The line of a name, and how many times it occurs. A name that isn't there stands for itself.
 fn line_of(name: &str) -> (usize, &str) {
     match name {
         "empty" => (1, ""),
@@ -42,7 +42,7 @@ fn line_of(name: &str) -> (usize, &str) {
     }
 }
 
-/// The same of a name that stands for one line.
+/// The same for a name of one line.
 fn long_line(name: &str) -> &str {
     for row in NAMES.lines() {
         if let Some((other, line)) = row.split_once(" = ") {
@@ -64,7 +64,7 @@ fn push_lines(text: &mut String, name: &str) -> Result<(), Fail> {
     Ok(())
 }
 
-/// The text of a log, its lines by their names: of version 2 where the first one is `V2`.
+/// The text of a log, by the names of its lines: of version 2 if the first one is `V2`.
 pub fn text_of(alloc: Global, names: &str) -> Result<String, Fail> {
     let mut text = String::new(alloc);
     let lines = match names.strip_prefix("V2 ") {

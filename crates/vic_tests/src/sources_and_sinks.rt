@@ -1,5 +1,4 @@
-//! Sources and sinks: those for tests, and those over readers and writers of std, which work or
-//! fail.
+//! Sources and sinks: those for tests, and those over std readers and writers, which work or fail.
 
 use crate::devices::{Endless, OneByOne, Pieces, Stuck};
 use std::alloc::Global;
@@ -9,7 +8,7 @@ use std::process::Abort;
 use std::test::Fail;
 use vic_log::{DeviceFault, FromRead, ReadFault, Sink, Source, ToWrite, read_whole, write_whole};
 
-/// A reader and writer of std that fails at each call.
+/// A std reader and writer that fails at each call.
 #[derive(Drop)]
 struct Broken;
 
@@ -29,7 +28,7 @@ impl Write for Broken {
     }
 }
 
-/// A reader and writer of std that fails at one call, works at all others, and counts its calls.
+/// A std reader and writer that fails at one call, works at all others, and counts its calls.
 #[derive(Drop)]
 struct Counted {
     calls: u64,
@@ -71,7 +70,7 @@ impl Write for Counted {
 
 const TEXT: &[u8] = b"one two three";
 
-/// Asks a source for all that it has, up to so many bytes.
+/// Asks a source for all that it has, up to a number of bytes.
 fn hands_out<S: Source>(
     rt: &impl Abort,
     alloc: Global,
@@ -144,7 +143,7 @@ fn one_read_of_std_for_each(rt: HostRuntime) {
     reads_once(&rt, 1, &mut [0; 4], Err(DeviceFault));
 }
 
-/// Gives the text to a sink, and asks for what it has taken then.
+/// Writes the text to a sink, and asks what it has then accepted.
 fn takes(rt: &impl Abort, sink: &mut OneByOne, given: Result<(), DeviceFault>, taken: &[u8]) {
     assert!(rt; write_whole(sink, TEXT) == given);
     assert!(rt; sink.taken() == taken);

@@ -1,4 +1,4 @@
-//! Each kind of open set, by the same calls.
+//! Each kind of open set, with the same calls.
 
 ghost use Rattle.std.specs.List.Sorted.{IsNonDecreasing, IsStrictlyIncreasing};
 ghost use Rattle.vic_tree.specs.OpenSet.{AreKeys};
@@ -21,7 +21,7 @@ const HALF: u64 = 1 << 55;
 /// The last key.
 const LAST: u64 = (1 << UID_BITS) - 1;
 
-/// Settles a mask, but for some UIDs.
+/// Settles a mask, except some UIDs.
 fn settle<S: OpenSet>(set: &mut S, len: u8, value: u64, except: &[Uid]) -> Result<(), Fail>
     requires { IsStrictlyIncreasing except.now }
 {
@@ -29,7 +29,7 @@ fn settle<S: OpenSet>(set: &mut S, len: u8, value: u64, except: &[Uid]) -> Resul
     Ok(())
 }
 
-/// The set that is left of everything when one mask is settled.
+/// The set that is left of all UIDs when one mask is settled.
 fn all_but<S: OpenSet>(alloc: Global, len: u8, value: u64) -> Result<S, Fail> {
     let mut set = S::everything(alloc)?;
     settle(&mut set, len, value, &[])?;
@@ -47,7 +47,7 @@ fn widest<S: OpenSet>(rt: &impl Abort, set: &S, expected: Option<Mask>) {
     assert!(rt; set.widest() == expected);
 }
 
-/// Asks a set for the open UIDs of a mask, but for some.
+/// Asks a set for the open UIDs of a mask, except some.
 fn finds<S: OpenSet>(rt: &impl Abort, set: &S, mask: &Mask, except: &[Uid], expected: &[Uid])
     requires { IsStrictlyIncreasing except.now }
 {
@@ -66,7 +66,7 @@ fn finds_so_many<S: OpenSet>(
     Ok(())
 }
 
-/// Asks a set for the open UIDs of a mask besides those at some keys.
+/// Asks a set for the open UIDs of a mask besides those with some keys.
 fn finds_besides<S: OpenSet>(
     rt: &impl Abort,
     set: &S,
@@ -83,7 +83,7 @@ fn finds_besides<S: OpenSet>(
     Ok(())
 }
 
-/// Asks a set for the number of open UIDs that it finds in a mask besides those at some keys.
+/// Asks a set for the number of open UIDs that it finds in a mask besides those with some keys.
 fn finds_so_many_besides<S: OpenSet>(
     rt: &impl Abort,
     set: &S,
@@ -100,7 +100,7 @@ fn finds_so_many_besides<S: OpenSet>(
     Ok(())
 }
 
-/// Asks a set for its widest open mask besides the UIDs at some keys.
+/// Asks a set for its widest open mask besides the UIDs with some keys.
 fn widest_besides<S: OpenSet>(
     rt: &impl Abort,
     set: S,
@@ -114,7 +114,7 @@ fn widest_besides<S: OpenSet>(
     Ok(())
 }
 
-/// Asks a set which of the UIDs at some keys aren't in it.
+/// Asks a set which of the UIDs with some keys aren't in it.
 fn misses<S: OpenSet>(
     rt: &impl Abort,
     set: &S,
@@ -241,7 +241,7 @@ fn without_one_range<S: OpenSet>(rt: &impl Abort, alloc: Global) -> Result<(), F
     finds_so_many(rt, &pair, 0, 0, 2)
 }
 
-/// Ranges that come in another order than their keys do. Some meet, and one is inside another.
+/// Ranges in another order than that of their keys. Some adjoin, and one is inside another.
 fn without_some_ranges<S: OpenSet>(rt: &impl Abort, alloc: Global) -> Result<(), Fail> {
     let meeting = [
         KeyRange::new(HALF, LAST),
@@ -289,7 +289,7 @@ fn ranges_calls(rt: HostRuntime) -> Result<(), Fail> {
     calls::<RangeSet>(&rt, rt.alloc())
 }
 
-/// Asks ranges for their first open masks besides the UIDs at some keys.
+/// Asks ranges for their first open masks besides the UIDs with some keys.
 fn opens(
     rt: &impl Abort,
     set: &RangeSet,
@@ -308,7 +308,7 @@ fn opens(
     Ok(())
 }
 
-/// For each length from 1 to 16 bits the mask that parts with A at its last bit.
+/// For each length from 1 to 16 bits, the mask that differs from A in its last bit.
 const BESIDE_A: [(u8, u64); 16] = [
     (1, 0),
     (2, 0x3),
@@ -356,7 +356,7 @@ fn open_masks_round_one_that_is_settled(rt: HostRuntime) -> Result<(), Fail> {
     opens(&rt, &seventeen, &[], &BESIDE_A, true)
 }
 
-/// The next of a fixed row of numbers that look random.
+/// The next of a fixed sequence of numbers that look random.
 fn next(state: u64) -> u64 {
     let left = state ^ (state << 13);
     let right = left ^ (left >> 7);
@@ -368,7 +368,7 @@ fn uid_of(number: u64) -> Result<Uid, Fail> {
     uid(Z + number % (1 << UID_BITS))
 }
 
-/// A mask of 12 to 51 bits in which the UID lies.
+/// A mask of 12 to 51 bits that holds the UID.
 fn mask_round(uid: Uid, number: u64) -> Result<Mask, Fail> {
     let len = 12 + u8::try_from(number % 40).unwrap_or(0);
     mask(len, uid.number() % (1 << len))
@@ -380,7 +380,7 @@ fn range_from(first: u64, number: u64) -> KeyRange {
     KeyRange::new(first, (first + number % (1 << 40)).min(LAST))
 }
 
-/// Ranges of a fixed row that look random.
+/// A fixed sequence of ranges that look random.
 fn some_ranges(alloc: Global, count: usize) -> Result<Vec<KeyRange>, Fail> {
     let mut ranges = Vec::new(alloc);
     let mut state = 1;
@@ -392,7 +392,7 @@ fn some_ranges(alloc: Global, count: usize) -> Result<Vec<KeyRange>, Fail> {
     Ok(ranges)
 }
 
-/// Settles a mask round a UID, which stays as it was.
+/// Settles a mask around a UID, which stays as it was.
 fn settle_round<S: OpenSet>(
     rt: &impl Abort,
     set: &mut S,
@@ -405,7 +405,7 @@ fn settle_round<S: OpenSet>(
     Ok(())
 }
 
-/// Settles a hundred thousand masks, and finds the UIDs that were excepted where they were.
+/// Settles a hundred thousand masks, and finds the excepted UIDs where they were.
 fn many_masks<S: OpenSet>(rt: &impl Abort, alloc: Global) -> Result<(), Fail> {
     let mut set = S::everything(alloc)?;
     let mut state = 1;

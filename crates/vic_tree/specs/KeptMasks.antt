@@ -13,7 +13,7 @@ pub record IsGreatestIn (first last : ℕ) (m : BitMask) : Type 0 where
   pub inside : IsMaskIn first last m
   pub greatest : (m.len ≡ 0) ⊎ ¬ (HoldsMask first last (parent m))
 
--- such a mask of `len` bits, whose block is odd or even in number
+-- such a mask of `len` bits, whose block has an odd or even number
 pub record IsGreatestAt (first last len odd : ℕ) (m : BitMask) : Type 0 where
   pub greatest : IsGreatestIn first last m
   pub len_is : m.len ≡ len
@@ -34,7 +34,7 @@ IsOpenBelow p bound m = IsOpenBlock p m × (mirror m.value < bound)
 abbrev pub AreKept : List BitMask → Type 0
 AreKept ms = AllPairs ComesBefore ms × (length ms ≤ KEPT)
 
--- the first masks of a list and of those that are more, and nothing that came after the list is lost
+-- the first masks of a list and of additional ones; a mask that came after a full list still does
 pub record Keeps (IsMore : BitMask → Type 0) (old new : List BitMask) : Type 0 where
   pub first : AreFirst KEPT (λ m. Contains old m ⊎ IsMore m) new
   pub past : (m : BitMask) → IsPast KEPT old m → IsPast KEPT new m

@@ -1,15 +1,15 @@
--- The open masks of a set: the greatest masks that lie in it as a whole.
+-- The open masks of a set: the greatest masks that lie entirely in it.
 use Rattle.std.specs.Prelude.{◌≡◌, ℕ, ◌-◌, ◌^◌, ◌%◌, ◌<◌, ◌≤◌, ◌⊎◌, Bool, List, length}
 use Rattle.std.specs.List.{All, AllPairs, Contains}
 use Rattle.vic_frame.specs.declared.uid.TheConstants.{UID_BITS}
 use Rattle.vic_frame.specs.Masks.{BitMask, IsMask}
 use Rattle.vic_tree.specs.OpenSet.{AllOpen}
 
--- the mask of one bit less that holds it
+-- the mask with one bit less that holds it
 abbrev pub parent : BitMask → BitMask
 parent m = record { len = m.len - 1; value = m.value % 2 ^ (m.len - 1) }
 
--- a mask of at most 56 bits, each UID of which is in the set, and whose parent isn't such
+-- a mask of at most 56 bits all of whose UIDs are in the set, and whose parent isn't one
 pub record IsOpenMask (set : ℕ → Bool) (m : BitMask) : Type 0 where
   pub is_mask : IsMask m
   pub short : m.len ≤ UID_BITS
@@ -20,11 +20,11 @@ pub record IsOpenMask (set : ℕ → Bool) (m : BitMask) : Type 0 where
 abbrev pub ComesBefore : BitMask → BitMask → Type 0
 ComesBefore m n = (m.len ≤ n.len) × (m.len ≡ n.len → m.value < n.value)
 
--- the list is full, and all of it comes before the mask
+-- the list is full, and all its masks come before this one
 abbrev pub IsPast : ℕ → List BitMask → BitMask → Type 0
 IsPast most ms m = (length ms ≡ most) × All (λ n. ComesBefore n m) ms
 
--- of the masks that are wanted the first, so many at most, in order
+-- the first of the wanted masks, at most `most`, in order
 pub record AreFirst (most : ℕ) (IsWanted : BitMask → Type 0) (ms : List BitMask) : Type 0 where
   pub rising : AllPairs ComesBefore ms
   pub wanted : All IsWanted ms

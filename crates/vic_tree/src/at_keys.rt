@@ -1,4 +1,4 @@
-//! UIDs at some keys, which are their places in the order of low bits first.
+//! UIDs by their keys, which are their positions in the order of low bits first.
 
 ghost use Rattle.std.specs.Prelude.{◌≡◌, ℕ, IfOk};
 ghost use Rattle.std.specs.List.Sorted.{IsStrictlyIncreasing};
@@ -10,7 +10,7 @@ use std::alloc::{AllocError, Global};
 use vic_frame::Uid;
 use vic_frame::low_bits_first::uid_at;
 
-/// The UIDs at some keys, from the least to the greatest.
+/// The UIDs with some keys, from the least to the greatest.
 pub(crate) fn uids_at(alloc: Global, keys: &[u64]) -> Result<Vec<Uid>, AllocError>
     requires { AreKeys keys.now }
     ensures rising { IfOk result (λ uids. IsStrictlyIncreasing uids.items) }

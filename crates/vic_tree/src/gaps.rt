@@ -15,8 +15,8 @@ use crate::ranges::from_key;
 use arrayvec::ArrayVec;
 use vic_frame::{Mask, Uid};
 
-/// Appends the UIDs at the keys from `first` to `last` that are in some ranges, no exceptions and
-/// at none of some keys.
+/// Appends the UIDs with keys from `first` to `last` that are in some ranges, aren't exceptions and
+/// don't have one of some keys.
 pub(crate) fn gather_besides(
     out: &mut ArrayVec<Uid, 3>,
     except: &[Uid],

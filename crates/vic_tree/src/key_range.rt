@@ -1,4 +1,4 @@
-//! Keys that follow one another.
+//! Consecutive keys.
 
 ghost use Rattle.std.specs.Prelude.{◌≡◌, ◌≤◌};
 ghost use Rattle.vic_frame.specs.LowBitsFirst.{IsKey};
@@ -6,7 +6,7 @@ ghost use Rattle.vic_tree.specs.Ranges.{IsKeyRange};
 
 use std::marker::Model;
 
-/// The keys from a first one to a last one, both counted: places of UIDs in the order of low bits
+/// The keys from a first one to a last one, inclusive: positions of UIDs in the order of low bits
 /// first, so below `2^56`.
 #[derive(Clone, Copy, Debug, PartialEq, Eq)]
 pub struct KeyRange {

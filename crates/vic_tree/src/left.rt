@@ -1,6 +1,6 @@
 //! What is left of ranges of keys without some keys, run by run.
 //!
-//! Both the ranges and the keys come in order, and are gone over side by side, once.
+//! Both the ranges and the keys come in order, and are walked side by side, once.
 
 ghost use Rattle.std.specs.Prelude.{◌≡◌, ℕ, ◌+◌, ◌<◌, ◌≤◌, Bool, true, false, IfSome, IfNone, OnSome, length, get_or};
 ghost use Rattle.std.specs.List.Sorted.{IsNonDecreasing};
@@ -12,7 +12,7 @@ ghost use Rattle.vic_tree.specs.Ranges.{AreRanges, IsFirstRun, PassFrom};
 use crate::key_range::KeyRange;
 use std::marker::Model;
 
-/// The keys from one on that are in some ranges and not in a list.
+/// The keys, from one on, that are in some ranges and not in a list.
 #[derive(Drop)]
 pub(crate) struct Left<'a> {
     from: u64,
@@ -45,7 +45,7 @@ impl<'a> Left<'a> {
         Left { from, ranges, keys }
     }
 
-    /// The first run of them, which is taken out.
+    /// Takes out the first run of them.
     pub(crate) fn next_run(&mut self) -> Option<KeyRange>
         ensures run { (p : ℕ → Bool) → PassFrom p self.old
             → IfSome result (λ r. IsFirstRun p self.old.0 r.0 r.1) }
@@ -72,7 +72,7 @@ impl<'a> Left<'a> {
     }
 }
 
-/// The first key from one on that isn't in a list, and the keys of the list after it.
+/// The first key, from one on, that isn't in a list, and the keys of the list after it.
 fn first_free(from: u64, keys: &[u64]) -> (u64, &[u64])
     requires keys { AreKeys keys.now }
     requires order { IsNonDecreasing keys.now }
@@ -95,7 +95,7 @@ fn first_free(from: u64, keys: &[u64]) -> (u64, &[u64])
     (free, rest)
 }
 
-/// The keys from one on that come before another one and before those of a list.
+/// The keys from `first` on, up to `last` or the first key of a list.
 fn run_from(first: u64, last: u64, keys: &[u64]) -> KeyRange
     requires forward { first ≤ last }
     requires small { IsKey last }

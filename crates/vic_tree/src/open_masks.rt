@@ -1,8 +1,8 @@
 //! The open masks of ranges of keys without some keys: the greatest blocks of the keys that are
 //! left.
 //!
-//! The keys that are left are runs. Of the blocks of one size in a run only the first and the last
-//! can be no half of a greater block in it.
+//! The keys that are left form runs. Of the blocks of one size in a run, only the first and the
+//! last can fail to be half of a greater block in it.
 
 ghost use Rattle.std.specs.Prelude.{◌≡◌, ℕ, ◌≤◌, ◌↔◌, ◌⊎◌, Bool, true, IfSome, Some, length};
 ghost use Rattle.std.specs.List.{Contains};
@@ -20,20 +20,21 @@ use crate::left::Left;
 use arrayvec::ArrayVec;
 use vic_frame::{Mask, UID_BITS};
 
-/// How many open masks are given at most.
+/// How many open masks are returned at most.
 pub const MAX_OPEN_MASKS: usize = 16;
 
-/// One more is kept, so that it shows whether there are more.
+/// One more is kept, to show whether there are more.
 const KEPT: usize = MAX_OPEN_MASKS + 1;
 
-/// Before the last one is left out there is one more.
+/// Before the last one is dropped there is one more.
 const BUFFER: usize = KEPT + 1;
 
-/// The first of a set's open masks: the masks of at most 56 bits that lie in the set as a whole,
-/// and are no half of such a one. They are apart, and hold all UIDs of the set.
+/// The first of a set's open masks: the masks of at most 56 bits that lie entirely in the set, and
+/// aren't half of another such mask. All open masks together are disjoint, and hold all UIDs of the
+/// set.
 #[derive(Drop)]
 pub struct OpenMasks {
-    /// Sixteen at most, by length, then by value.
+    /// At most sixteen, by length, then by value.
     pub masks: ArrayVec<Mask, MAX_OPEN_MASKS>,
     /// Whether there are more.
     pub more: bool,
@@ -58,7 +59,7 @@ pub(crate) fn open_masks_besides(ranges: &[KeyRange], keys: &[u64]) -> OpenMasks
     given(&kept)
 }
 
-/// What is given of the masks that were kept.
+/// What is returned of the masks that were kept.
 fn given(kept: &ArrayVec<Mask, BUFFER>) -> OpenMasks
     requires { length kept.now.items ≤ KEPT }
     ensures first { (set : ℕ → Bool) → AreFirst KEPT (IsOpenMask set) kept.now.items
@@ -77,8 +78,8 @@ fn given(kept: &ArrayVec<Mask, BUFFER>) -> OpenMasks
     }
 }
 
-/// Keeps the greatest masks in a run of keys. Once the masks that are kept are as many as may be,
-/// and shorter than those to come, no others are looked at.
+/// Keeps the greatest masks in a run of keys. Once the list of kept masks is full, and all are
+/// shorter than those to come, no others are looked at.
 fn keep_in_run(kept: &mut ArrayVec<Mask, BUFFER>, from: u64, to: u64)
     requires forward { from ≤ to }
     requires small { IsKey to }
@@ -112,8 +113,8 @@ fn greatest_at_start(from: u64, to: u64, len: u8) -> Option<Mask>
     Some(mask_of_block(len, number))
 }
 
-/// The last mask of `len` bits in a run, if it is the lower half of one that ends behind the run,
-/// or holds all keys.
+/// The last mask of `len` bits in a run, if it is the lower half of one that ends after the run, or
+/// holds all keys.
 fn greatest_at_end(from: u64, to: u64, len: u8) -> Option<Mask>
     requires short { len ≤ UID_BITS }
     requires forward { from ≤ to }
@@ -129,7 +130,7 @@ fn greatest_at_end(from: u64, to: u64, len: u8) -> Option<Mask>
     Some(mask_of_block(len, behind - 1))
 }
 
-/// Keeps a mask at its place, if one was found, and leaves out the last one of too many.
+/// Keeps a mask in order, if one was found, and drops the last one if there are too many.
 fn keep(kept: &mut ArrayVec<Mask, BUFFER>, found: Option<Mask>)
     requires kept { AreKept kept.old.items }
     ensures keeps { Keeps (λ m. found ≡ Some m) kept.old.items kept.new.items }

@@ -22,9 +22,9 @@ use std::marker::Model;
 use vic_frame::low_bits_first::{key, key_range, uid_at};
 use vic_frame::{Mask, UID_BITS, Uid, without_top_byte};
 
-/// A set of UIDs as the ranges of their keys in the order of low bits first, where the UIDs of a
-/// mask stand together: a row of as few ranges as can be. It is made at once from the ranges that
-/// are closed, and found in by halving. To settle one mask more makes the row anew.
+/// A set of UIDs as ranges of their keys in the order of low bits first, in which the UIDs of a
+/// mask are consecutive: as few ranges as possible. It is built in one go from the closed ranges,
+/// and searched by bisection. Settling one more mask rebuilds it.
 #[derive(Drop)]
 pub struct RangeSet {
     ranges: Vec<KeyRange>,
@@ -120,9 +120,9 @@ impl OpenSet for RangeSet {
 }
 
 impl RangeSet {
-    /// The first open masks of the set without the UIDs at some keys, which come in order: the
-    /// masks of at most 56 bits that lie in it as a whole, and whose parent doesn't; by length,
-    /// then by value, sixteen at most. With them stands whether there are more.
+    /// The first open masks of the set without the UIDs with some keys, which come in order: the
+    /// masks of at most 56 bits that lie entirely in it, and whose parent doesn't; by length, then
+    /// by value, at most sixteen; and whether there are more.
     pub fn open_masks_besides(&self, keys: &[u64]) -> OpenMasks
         requires order { IsNonDecreasing keys.now }
         requires keys { AreKeys keys.now }
@@ -136,7 +136,7 @@ impl RangeSet {
     }
 }
 
-/// What is left of some ranges once a mask is taken out, except some UIDs.
+/// What is left of some ranges after a mask is removed, except some UIDs.
 fn settled(
     alloc: Global,
     ranges: &[KeyRange],

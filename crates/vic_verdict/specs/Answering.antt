@@ -12,7 +12,7 @@ use Rattle.vic_verdict.specs.declared.answering.Unnamed.{Unnamed}
 use Rattle.vic_verdict.specs.declared.answering.Known.{Known}
 use Rattle.vic_verdict.specs.Sweep.{AreInOrder, HaveKeys, has_where, is_named, is_quiet_by, quiet_of}
 
--- a UID of a set has a key of the block, and isn't Quiet at place i by the names
+-- a UID of a set has a key in the block, and isn't Quiet at position i by the names
 abbrev pub is_answering : (ℕ → Bool) → List Name → KeyBlock → ℕ → ℕ → Bool
 is_answering set ns b i u = (is_uid u && set u)
     && (is_in_block b.first b.len (mirror u) && not (is_quiet_by ns (mirror u) i))
@@ -22,15 +22,15 @@ abbrev pub is_unnamed : (ℕ → Bool) → List Name → ℕ → ℕ → ℕ →
 is_unnamed set ns first last u = (is_uid u && set u)
     && (is_between first last (mirror u) && not (is_named ns (mirror u)))
 
--- it has a key of the block, and no name
+-- it has a key in the block, and no name
 abbrev pub is_unnamed_in : (ℕ → Bool) → List Name → KeyBlock → ℕ → Bool
 is_unnamed_in set ns b u = is_unnamed set ns b.first (b.first + (2 ^ (UID_BITS - b.len) - 1)) u
 
--- what is kept of a range of keys is so
+-- what is kept of a range of keys are such UIDs
 abbrev pub IsUnnamed : (ℕ → Bool) → List Name → Unnamed → Type 0
 IsUnnamed set ns m = UpToThree (is_unnamed set ns m.first m.last) m.uids.items
 
--- of the keys of the block the list has those that have a name
+-- the list has those keys of the block that have a name
 abbrev pub HasNamedIn : List Name → KeyBlock → List ℕ → Type 0
 HasNamedIn ns b keys = (k : ℕ) → is_in_block b.first b.len k ≡ true → has keys k ≡ is_named ns k
 
@@ -38,23 +38,23 @@ HasNamedIn ns b keys = (k : ℕ) → is_in_block b.first b.len k ≡ true → ha
 abbrev pub HasInside : List ℕ → ℕ → ℕ → ℕ → Type 0
 HasInside us first last u = (has us u ≡ true) × (is_between first last (mirror u) ≡ true)
 
--- the name's UID isn't Quiet at place i by it
+-- the name's UID isn't Quiet at position i by it
 abbrev pub is_awake : ℕ → Name → Bool
 is_awake i n = not (nat_lt (quiet_of n) i)
 
--- one of the names is the UID's, and it isn't Quiet at place i by it
+-- one of the names is the UID's, and it isn't Quiet at position i by it
 abbrev pub IsReadyIn : List Name → ℕ → ℕ → Type 0
 IsReadyIn ns i u = IsUid u × (has_where (is_awake i) ns (mirror u) ≡ true)
 
--- the second names are those UIDs of a set that the first ones name, in order, and they are Quiet
--- by them where they are by the first
+-- the second names are of the UIDs of a set that the first ones name, in order, and by them these
+-- are Quiet where they are by the first
 pub record AreOpenNames (set : ℕ → Bool) (ns os : List Name) : Type 0 where
   pub order : AreInOrder os
   pub keys : HaveKeys os
   pub members : (k i : ℕ) → IsKey k → i < 2 ^ 32 → has_where (is_awake i) os k
       ≡ (set (uid_of k) && (is_named ns k && not (is_quiet_by ns k i)))
 
--- a UID of a set isn't Quiet at place i by the names
+-- a UID of a set isn't Quiet at position i by the names
 abbrev pub is_ready_at : (ℕ → Bool) → List Name → ℕ → ℕ → Bool
 is_ready_at set ns i u = set u && not (is_quiet_by ns (mirror u) i)
 

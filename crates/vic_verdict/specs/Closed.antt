@@ -15,15 +15,15 @@ abbrev pub is_in_some_range : Option (ℕ × ℕ) → ℕ → Bool
 is_in_some_range None k = false
 is_in_some_range (Some r) k = is_between r.0 r.1 k
 
--- the new ranges have the keys of the old ones, and those that pass a test but for the keys of
+-- the new ranges have the keys of the old ones, and those that pass a test, except the keys of
 -- names left
 abbrev pub Closes : List Name → (ℕ → Bool)
     → List (ℕ × ℕ) → List (ℕ × ℕ) → Type 0
 Closes ns test old new =
     (k : ℕ) → in_ranges new k ≡ (in_ranges old k || (test k && not (has_left ns k)))
 
--- the key is in one of the ranges, or will be once one more, if there is one, is closed but for
--- the keys of names left
+-- the key is in one of the ranges, or will be once one more, if there is one, is closed, except the
+-- keys of names left
 abbrev pub closes_with : List Name → List (ℕ × ℕ) → Option (ℕ × ℕ) → ℕ → Bool
 closes_with ns closed range k =
     in_ranges closed k || (is_in_some_range range k && not (has_left ns k))

@@ -1,4 +1,4 @@
--- What the slot lines of a log ask for, and which open UIDs meet it.
+-- What the slot lines of a log require, and which open UIDs meet it.
 use Rattle.std.specs.Prelude.{◌≡◌, ◌==◌, ◌↔◌, ◌⊎◌, ℕ, ◌+◌, ◌<◌, ◌≤◌, Bool, true, not, ◌&&◌, Option, Some, None, List, [], ◌∷◌, ◌++◌, length, take, nat_lt, slice_get, slice_index_or}
 use Rattle.std.specs.List.{filter, All, Any, list_any, sum_by}
 use Rattle.std.specs.List.Sorted.{IsPermutation}
@@ -20,7 +20,7 @@ use Rattle.vic_verdict.specs.Sweep.{AreInOrder, HaveKeys, is_quiet_by}
 use Rattle.vic_verdict.specs.Places.{answering}
 use Rattle.vic_verdict.specs.Verdict.{IsHeard}
 
--- how many tags answered in a slot, at least, that its line doesn't name
+-- how many tags, at least, answered in a slot that its line doesn't name
 abbrev pub needs : Entry → ℕ
 needs Collision = 2
 needs Garbled = 1
@@ -34,21 +34,21 @@ abbrev pub needs_of : Option Entry → ℕ
 needs_of (Some e) = needs e
 needs_of None = 0
 
--- how many the line at place i asks for
+-- how many the line at position i requires
 abbrev pub needs_at : List Entry → ℕ → ℕ
 needs_at es i = needs_of (slice_get es i)
 
--- how many all lines ask for, one by one
+-- how many all lines require, added up
 abbrev pub all_needs : List Entry → ℕ
 all_needs es = sum_by needs es
 
--- the list has the UIDs that were heard before place i
+-- the list has the UIDs that were heard before position i
 abbrev pub HasHeard : List Entry → ℕ → List ℕ → Type 0
 HasHeard es i us = (u : ℕ) → (has us u ≡ true)
     ↔ ((j : ℕ) × (r : Reply) × (j < i)
     × (slice_get es j ≡ Some (Heard r)) × (r.uid ≡ u))
 
--- the UIDs are open and answer at place i, and there are as many as it takes
+-- the UIDs are open and answer at position i, and there are as many as needed
 pub record IsFoundAt (es : List Entry) (i : ℕ) (f : Found) : Type 0 where
   pub place : f.at ≡ i
   pub asked : 0 < f.need
@@ -56,18 +56,18 @@ pub record IsFoundAt (es : List Entry) (i : ℕ) (f : Found) : Type 0 where
   pub uids : UpToThree (answering (is_open (slots_of es)) es i) f.uids.items
   pub enough : f.need ≤ length f.uids.items
 
--- they are so at some place
+-- they are so at some position
 abbrev pub IsFound : List Entry → Found → Type 0
 IsFound es f = (i : ℕ) × IsFoundAt es i f
 
--- they are what place i asks for: all of them are open and answer there too
+-- they are what position i requires: all of them are open and answer there too
 pub record Meets (es : List Entry) (f : Found) (i : ℕ) : Type 0 where
   pub need : needs_at es i ≡ f.need
   pub answer : (u : ℕ) → has f.uids.items u ≡ true
       → answering (is_open (slots_of es)) es i u ≡ true
 
--- what meets each slot line that asks for tags and names none. It needs no more in all than the
--- lines ask for
+-- what meets each slot line that requires tags and names none; in all it needs no more than the
+-- lines require
 pub record AreFound (es : List Entry) (fs : List Found) : Type 0 where
   pub found : All (IsFound es) fs
   pub met : (i : ℕ) → 0 < needs_at es i → Any (λ (f : Found). Meets es f i) fs
@@ -78,12 +78,14 @@ pub record IsMet (es : List Entry) (m : Met) : Type 0 where
   pub heard : (u : ℕ) → (has m.heard.items u ≡ true) ↔ IsHeard es u
   pub found : AreFound es m.found.items
 
--- some slot was found to be met by as many as it takes, the UID among them. So the UID is certain
+-- some slot is met by exactly as many UIDs as it requires, this UID among them, which is therefore
+-- certain
 abbrev pub IsExactFor : List Found → ℕ → Type 0
 IsExactFor fs u =
     Any (λ (f : Found). (length f.uids.items ≡ f.need) × (has f.uids.items u ≡ true)) fs
 
--- the UID was heard, or some slot was found to be met by as many as it takes, it among them
+-- the UID was heard, or some slot is met by exactly as many UIDs as it requires, this UID among
+-- them
 abbrev pub IsMetFor : Met → ℕ → Type 0
 IsMetFor m u = (has m.heard.items u ≡ true) ⊎ IsExactFor m.found.items u
 
@@ -93,12 +95,13 @@ IsMetFor m u = (has m.heard.items u ≡ true) ⊎ IsExactFor m.found.items u
 abbrev pub HasBlock : Demand → Type 0
 HasBlock d = IsBlock d.first d.len
 
--- the block has the keys of the UIDs that lie in the mask of place i, if it has one, and no others
+-- the block has the keys of the UIDs that lie in the mask of position i, if it has one, and no
+-- others
 abbrev pub HasKeysAt : List Entry → ℕ → Demand → Type 0
 HasKeysAt es i d = (u : ℕ) → IsUid u
     → is_in_block d.first d.len (mirror u) ≡ lies_in_some (mask_at es i) u
 
--- the demand is that of a slot line before place i, from a place on
+-- the demand is that of a slot line before position i, from a position on
 pub record IsDemand (es : List Entry) (from i : ℕ) (d : Demand) : Type 0 where
   pub asked : 0 < d.need
   pub need : needs_at es d.at ≡ d.need
@@ -112,22 +115,22 @@ abbrev pub answers_by : List Name → Demand → ℕ → Bool
 answers_by ns d u =
     is_in_block d.first d.len (mirror u) && not (is_quiet_by ns (mirror u) d.at)
 
--- the demand is that of a slot line, and the names tell who answers there
+-- the demand is that of a slot line, and the names show which UIDs answer there
 pub record IsDemandBy (es : List Entry) (ns : List Name) (d : Demand) : Type 0 where
   pub asked : 0 < d.need
   pub need : needs_at es d.at ≡ d.need
   pub answers : (u : ℕ) → IsUid u → answers_by ns d u ≡ answers_at es d.at u
 
--- fewer UIDs of a set answer in the slot than it asks for, by the names
+-- fewer UIDs of a set answer in the slot than it requires, by the names
 abbrev pub IsUnmet : (ℕ → Bool) → List Name → Demand → Type 0
 IsUnmet set ns d = (us : List ℕ) × (length us < d.need)
     × UpToThree (λ u. (is_uid u && set u) && answers_by ns d u) us
 
--- some demand at this place is unmet
+-- some demand at this position is unmet
 abbrev pub IsUnmetAt : (ℕ → Bool) → List Name → List Demand → ℕ → Type 0
 IsUnmetAt set ns ds at = Any (λ (d : Demand). (d.at ≡ at) × IsUnmet set ns d) ds
 
--- the next demand asks for as much of the same mask, no earlier
+-- the next demand requires as many of the same mask, no earlier
 pub record IsImpliedBy (d next : Demand) : Type 0 where
   pub first : d.first ≡ next.first
   pub len : d.len ≡ next.len
@@ -140,7 +143,7 @@ IsAskedAgain ds k = (k + 1 < length ds)
     × ((d : Demand) → IsImpliedBy (slice_index_or ds k d) (slice_index_or ds (k + 1) d))
 
 -- what was found before, and what is found for the slots of some demands, which needs no more than
--- these ask for
+-- these require
 pub record AreMet (es : List Entry) (ds : List Demand) (old new : List Found) : Type 0 where
   pub found : All (IsFound es) old → All (IsFound es) new
   pub kept : (i : ℕ) → Any (λ (f : Found). Meets es f i) old
@@ -149,27 +152,27 @@ pub record AreMet (es : List Entry) (ds : List Demand) (old new : List Found) : 
   pub few : sum_by (λ (f : Found). f.need) new
       ≤ sum_by (λ (f : Found). f.need) old + sum_by (λ (d : Demand). d.need) ds
 
--- the demands before place i
+-- the demands before position i
 abbrev pub demands_to : ℕ → List Demand → List Demand
 demands_to i ds = filter (λ (d : Demand). nat_lt d.at i) ds
 
--- some demand is that of place i
+-- some demand is that of position i
 abbrev pub is_asked : List Demand → ℕ → Bool
 is_asked ds i = list_any (λ (d : Demand). d.at == i) ds
 
--- how many tags demands ask for
+-- how many tags some demands require
 abbrev pub asked_by : List Demand → ℕ
 asked_by ds = sum_by (λ (d : Demand). d.need) ds
 
--- the demands of the entries from a place on, behind the last field cycle, up to place i: no more
--- than these entries ask for
+-- the demands of the entries from a position on, after the last field cycle, up to position i: no
+-- more than these entries require
 pub record AreAsked (es : List Entry) (from i : ℕ) (ds : List Demand) : Type 0 where
   pub demands : All (IsDemand es from i) ds
   pub asked : (j : ℕ) → from ≤ j → j < i → 0 < needs_at es j → is_asked ds j ≡ true
   pub few : (j : ℕ) → from ≤ j → j ≤ i
       → all_needs (take from es) + asked_by (demands_to j ds) ≤ all_needs (take j es)
 
--- the names of a stretch stand in order, by keys
+-- the names of a stretch are in the order of their keys
 pub record HasNamesInOrder (s : Stretch) : Type 0 where
   pub order : AreInOrder s.names.items
   pub keys : HaveKeys s.names.items
@@ -178,23 +181,23 @@ pub record HasNamesInOrder (s : Stretch) : Type 0 where
 abbrev pub HasBlocks : Stretch → Type 0
 HasBlocks s = All HasBlock s.demands.items
 
--- the names of a stretch stand in order, and tell who answers in the slots of its demands, which
--- are all before place i
+-- the names of a stretch are in order, and show which UIDs answer in the slots of its demands, all
+-- of which are before position i
 pub record IsKept (es : List Entry) (i : ℕ) (s : Stretch) : Type 0 where
   pub names : HasNamesInOrder s
   pub blocks : HasBlocks s
   pub places : All (λ (d : Demand). d.at < i) s.demands.items
   pub demands : All (IsDemandBy es s.names.items) s.demands.items
 
--- the stretches have the demands of the entries up to place i, no more than these ask for
+-- the stretches have the demands of the entries up to position i, no more than these require
 pub record AreKept (es : List Entry) (i : ℕ) (ss : List Stretch) : Type 0 where
   pub kept : All (IsKept es i) ss
   pub asked : (j : ℕ) → j < i → 0 < needs_at es j
       → list_any (λ (s : Stretch). is_asked s.demands.items j) ss ≡ true
   pub few : sum_by (λ (s : Stretch). asked_by s.demands.items) ss ≤ all_needs (take i es)
 
--- the list has a stretch more, of these names and of the demands before place i, unless there are
--- no such demands
+-- the list has one more stretch, with these names and the demands before position i, unless there
+-- are none
 abbrev pub Keeps : List Name → List Demand → ℕ → List Stretch → List Stretch → Type 0
 Keeps ns ds i old new =
     ((new ≡ old) × (demands_to i ds ≡ []))

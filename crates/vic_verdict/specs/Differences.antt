@@ -1,4 +1,4 @@
--- How a list differs from what a log tells (profile): the findings, of which the verdict is the
+-- How a list differs from what a log says (profile): the findings, of which the verdict is the
 -- first.
 use Rattle.std.specs.Prelude.{◌≡◌, ℕ, ◌^◌, ◌<◌, ◌≤◌, Bool, true, false, not, ◌&&◌, ◌||◌, [], ◌∷◌, None, Some, Option, List, MatchOption}
 use Rattle.vic_frame.specs.declared.uid.TheConstants.{UID_BITS}

@@ -1,5 +1,5 @@
--- What an explanation of a verdict is (profile): a small population that could have given the log
--- and shows the verdict.
+-- What an explanation of a verdict is (profile): a small population that could have produced the
+-- log and shows the verdict.
 use Rattle.std.specs.Prelude.{◌≡◌, ℕ, ◌+◌, ◌≤◌, true, false, List, length, ⊤, MatchOption}
 use Rattle.std.specs.List.Sorted.{IsStrictlyIncreasing}
 use Rattle.vic_frame.specs.Uids.{has}
@@ -18,20 +18,20 @@ use Rattle.vic_verdict.specs.Verdict.{IsVerdict, IsHeard}
 abbrev pub HasAllHeard : List Entry → List ℕ → Type 0
 HasAllHeard es heard = (u : ℕ) → IsHeard es u → has heard u ≡ true
 
--- at most as many as the UIDs heard, two for each collision, one for each garbled slot, and one
+-- at most as many UIDs as were heard, two for each collision, one for each garbled slot, and one
 -- more
 abbrev pub AreFew : List Entry → List ℕ → Type 0
 AreFew es us =
     (heard : List ℕ) → HasAllHeard es heard → length us ≤ length heard + all_needs es + 1
 
--- few UIDs, in rising order, that could have given the entries
+-- few UIDs, in rising order, that could have produced the entries
 pub record IsSmallPopulation (es : List Entry) (us : List ℕ) : Type 0 where
   pub rising : IsStrictlyIncreasing us
   pub population : IsPopulation us
   pub could : CouldHaveGiven us es
   pub few : AreFew es us
 
--- a population shows what the verdict says: it lacks the absent or doubtful UID, it has the
+-- a population shows what the verdict says: it lacks the absent or doubtful UID, or has the
 -- unlisted UID or one of the unsettled mask. None shows that a log is impossible or its list
 -- complete
 abbrev pub Shows : Verdict → List ℕ → Type 0
@@ -51,12 +51,11 @@ IsShownByNone (Unsettled m) = ⊥
 IsShownByNone (Doubtful u) = ⊥
 IsShownByNone (Complete count) = ⊤
 
--- the population of an explanation: a small one that shows the verdict, and none only where none
--- can
+-- the population of an explanation: a small one that shows the verdict, and none only if none can
 abbrev pub IsPopulationBehind : List Entry → Verdict → List ℕ → Type 0
 IsPopulationBehind es v us = IsSmallPopulation es us × Shows v us
 
--- the verdict on the lines with a small population that shows it, or with none where none can
+-- the verdict on the lines, with a small population that shows it, or with none if none can
 pub record IsExplanation (lines : List LogLine) (x : Explanation) : Type 0 where
   pub verdict : IsVerdict lines x.verdict
   pub population : MatchOption x.population (IsShownByNone x.verdict)

@@ -1,4 +1,4 @@
--- A population gathered from what the slots of a log ask for.
+-- A population gathered from what the slots of a log require.
 use Rattle.std.specs.Prelude.{ℕ, ◌==◌, Bool, true, not, Option, Some, None, List, [], ◌∷◌, ◌++◌, take}
 use Rattle.std.specs.List.{filter}
 use Rattle.vic_verdict.specs.declared.demands.Met.{Met}

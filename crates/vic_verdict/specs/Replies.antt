@@ -12,16 +12,16 @@ use Rattle.vic_log.specs.Quiet.{is_quiet}
 use Rattle.vic_verdict.specs.declared.names.Name.{Name}
 use Rattle.vic_verdict.specs.Sweep.{is_quiet_by}
 
--- a tag with this UID answers in the slot at place i, where it is in the field
+-- a tag with this UID, if it is in the field, answers in the slot at position i
 abbrev pub Answers : List Entry → ℕ → ℕ → Type 0
 Answers es i u = IsUid u × (answers_at es i u ≡ true)
 
--- whoever was heard answers there, if it is in the field
+-- each UID that was heard answers in its slot, if it is in the field
 abbrev pub RepliesAnswer : List Entry → Type 0
 RepliesAnswer es =
     (i : ℕ) (r : Reply) → slice_get es i ≡ Some (Heard r) → Answers es i r.uid
 
--- the place at which the line of a name hears its UID; 0 where it silences it
+-- the position at which the line of a name hears its UID; 0 if it silences it
 abbrev pub reply_place : Name → ℕ
 reply_place n = if n.is_heard then n.at else 0
 
@@ -29,19 +29,19 @@ reply_place n = if n.is_heard then n.at else 0
 abbrev pub is_quiet_reply : List Name → Name → Bool
 is_quiet_reply ns n = is_quiet_by ns n.key (reply_place n)
 
--- a UID was heard while it was Quiet, at this place
+-- a UID was heard while it was Quiet, at this position
 abbrev pub IsQuietReply : List Name → ℕ → Type 0
 IsQuietReply ns at =
     list_any (λ n. (reply_place n == at) && is_quiet_by ns n.key at) ns ≡ true
 
--- the first such place before an end; the end where there is none
+-- the first such position before an end; the end if there is none
 pub record IsFirstQuietReply (ns : List Name) (end at : ℕ) : Type 0 where
   pub within : at ≤ end
   pub quiet : at < end → IsQuietReply ns at
   pub first : (i : ℕ) → IsQuietReply ns i → at ≤ i
 
--- the name tells of a UID that was heard before place i, from a place on, in a slot of a mask that
--- it lies in
+-- the name is of a UID that was heard before position i, from a position on, in a slot of a mask
+-- that it lies in
 pub record IsHeardAt (es : List Entry) (from i : ℕ) (n : Name) : Type 0 where
   pub reply : Reply
   pub heard : slice_get es n.at ≡ Some (Heard reply)
@@ -51,12 +51,13 @@ pub record IsHeardAt (es : List Entry) (from i : ℕ) (n : Name) : Type 0 where
   pub since : from ≤ n.at
   pub before : n.at < i
 
--- the name tells of a reply at place j
+-- the name is of a reply at position j
 abbrev pub IsReplyAt : ℕ → Name → Type 0
 IsReplyAt j n = (n.at ≡ j) × (n.is_heard ≡ true)
 
--- the names of the entries from a place on, behind the last field cycle, up to place i. They tell
--- which UIDs are Quiet at each place since, and who was heard at which; the replies before answer
+-- the names of the entries from a position on, after the last field cycle, up to position i. They
+-- show which UIDs are Quiet at each position since, and which were heard where; the UIDs heard
+-- before answer
 pub record AreHeard (es : List Entry) (from i : ℕ) (ns : List Name) : Type 0 where
   pub begun : from ≤ i
   pub names : All (λ (n : Name). n.is_heard ≡ false → n.at < i) ns

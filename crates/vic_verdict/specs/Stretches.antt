@@ -1,4 +1,4 @@
--- What a judge has gathered at a place of a log since the last field cycle.
+-- What a judge has gathered at a position in a log since the last field cycle.
 use Rattle.std.specs.Prelude.{◌≡◌, ℕ, ◌<◌, ◌≤◌, Bool, true, false, not, ◌&&◌, ◌||◌, Option, List, length, take}
 use Rattle.std.specs.List.{All}
 use Rattle.vic_frame.specs.Uids.{IsUid}
@@ -20,14 +20,14 @@ use Rattle.vic_verdict.specs.declared.demands.Demand.{Demand}
 use Rattle.vic_verdict.specs.Demands.{AreAsked, AreKept}
 use Rattle.vic_verdict.specs.Sweep.{HasRange, HaveKeys, are_left, is_named_if, all_hear_named, is_quiet_by, is_heard, all_allow, all_allow_to}
 
--- a slot whose mask has these keys, at a place, allows the UID: it doesn't lie in the mask, is
+-- a slot at a position, whose mask has these keys, allows the UID: it doesn't lie in the mask, is
 -- Quiet there, or is the one that the slot heard, if it heard one
 abbrev pub is_allowed : List Name → Option KeyBlock → ℕ → Option ℕ → ℕ → Bool
 is_allowed ns keys at heard u =
     not (is_in_some_block keys (mirror u))
     || (is_quiet_by ns (mirror u) at || is_heard heard (mirror u))
 
--- the list has a slot more, whose mask has these keys, unless no UID lies in it
+-- the list has one more slot, whose mask has these keys, unless no UID lies in it
 pub record AddsSpot (keys : Option KeyBlock) (at : ℕ) (heard : Option ℕ) (old new : List Spot)
     : Type 0 where
   pub ranges : All HasRange old → All HasRange new
@@ -41,8 +41,9 @@ pub record AddsSpot (keys : Option KeyBlock) (at : ℕ) (heard : Option ℕ) (ol
   pub kept : (ns : List Name) (i k : ℕ) → i ≤ at
       → all_allow_to ns new i k ≡ all_allow_to ns old i k
 
--- the names and the slots of the entries from a place on, behind the last field cycle, up to place
--- i. With what a set leaves open they tell what is open there, and at the places between
+-- the names and the slots of the entries from a position on, after the last field cycle, up to
+-- position i. Together with what a set leaves open they show what is open there, and at the
+-- positions in between
 pub record TellsOpen (es : List Entry) (from i : ℕ) (set : ℕ → Bool) (ns : List Name)
     (ss : List Spot) : Type 0 where
   pub keys : HaveKeys ns
@@ -56,23 +57,24 @@ pub record TellsOpen (es : List Entry) (from i : ℕ) (set : ℕ → Bool) (ns :
   pub before : (j : ℕ) → from ≤ j → j < i
       → SameUids (λ u. set u && all_allow_to ns ss j (mirror u)) (is_open (slots_before es j))
 
--- all that is gathered of those entries: what they tell is open, who was heard, and what they ask
--- for
+-- all that is gathered from those entries: what is open by them, which UIDs were heard, and what
+-- they require
 pub record HasGathered (es : List Entry) (from i : ℕ) (set : ℕ → Bool) (ns : List Name)
     (ss : List Spot) (ds : List Demand) : Type 0 where
   pub stretch : TellsOpen es from i set ns ss
   pub heard : AreHeard es from i ns
   pub asked : AreAsked es from i ds
 
--- a set is what the first lines of a log leave open, and their replies answer. The line after them,
--- if there is one, makes the log impossible
+-- a set is what the first lines of a log leave open, and the UIDs heard there answer. The line
+-- after them, if there is one, makes the log impossible
 pub record IsOpenTo (lines : List LogLine) (set : ℕ → Bool) (cut : ℕ) : Type 0 where
   pub within : cut ≤ length lines
   pub answer : RepliesAnswer (entries (take cut lines))
   pub uids : SameUids set (is_open (slots_of (entries (take cut lines))))
   pub beyond : cut < length lines → IsContradictedAt (entries lines) cut
 
--- what is settled is open up to the cut, and the stretches ask for what is asked for there
+-- the UIDs outside the closed ranges are those open up to the cut, and the stretches keep what is
+-- required there
 pub record IsSettled (lines : List LogLine) (s : Settled) : Type 0 where
   pub uids : IsOpenTo lines (is_outside s.closed.items) s.cut
   pub kept : AreKept (entries (take s.cut lines)) s.cut s.stretches.items

@@ -1,4 +1,5 @@
--- What the slots between two field cycles leave, said of keys: UIDs in the order of their low bits.
+-- What the slots between two field cycles leave, in terms of keys: UIDs in the order of their low
+-- bits.
 use Rattle.std.specs.Prelude.{◌≡◌, ℕ, ◌+◌, ◌-◌, ◌/◌, ◌%◌, ◌^◌, ◌==◌, ◌<◌, ◌≤◌, Bool, true, false, not, ◌&&◌, ◌||◌, Option, Some, None, List, length, slice_index_or, nat_le, nat_lt, map, if◌then◌else◌, IfSome}
 use Rattle.std.specs.List.Sorted.{IsNonDecreasingBy}
 use Rattle.std.specs.List.{list_all, list_any, All}
@@ -12,7 +13,7 @@ use Rattle.vic_verdict.specs.declared.closed.Spot.{Spot}
 use Rattle.vic_verdict.specs.declared.sweep.Level.{Level}
 use Rattle.vic_verdict.specs.declared.sweep.Run.{Run}
 
--- the place after which the UID of a name is Quiet by its line
+-- the position after which the UID of a name is Quiet by its line
 abbrev pub quiet_of : Name → ℕ
 quiet_of n = if n.is_heard then NEVER else n.at
 
@@ -21,12 +22,12 @@ abbrev pub is_heard : Option ℕ → ℕ → Bool
 is_heard None k = false
 is_heard (Some h) k = h == k
 
--- a slot at a place that heard this key or nobody leaves the key k, whose UID is Quiet after place
--- q: it is Quiet before the slot, or was heard
+-- a slot at a position, which heard this key or none, leaves the key k, whose UID is Quiet after
+-- position q: the UID is Quiet before the slot, or was heard
 abbrev pub slot_leaves : ℕ → Option ℕ → ℕ → ℕ → Bool
 slot_leaves at heard k q = nat_lt q at || is_heard heard k
 
--- a place is before another, if there is one
+-- a position is before another, if there is another
 abbrev pub is_before : ℕ → Option ℕ → Bool
 is_before q None = true
 is_before q (Some at) = nat_lt q at
@@ -74,7 +75,7 @@ abbrev pub run_leaves : Option Run → ℕ → ℕ → Bool
 run_leaves None k q = true
 run_leaves (Some r) k q = mask_leaves r.first r.last r.level k q
 
--- names stay left where a test holds of key and place
+-- names stay left if a test of key and position passes
 abbrev pub keep : (ℕ → ℕ → Bool) → Name → Name
 keep p n = record
     { key = n.key; at = n.at; is_heard = n.is_heard; left = n.left && p n.key (quiet_of n) }
@@ -90,7 +91,7 @@ has_where p ns k = list_any (λ n. (n.key == k) && p n) ns
 abbrev pub has_left : List Name → ℕ → Bool
 has_left ns k = has_where (λ n. n.left) ns k
 
--- a UID with this key is Quiet at place i, by the names
+-- a UID with this key is Quiet at position i, by the names
 abbrev pub is_quiet_by : List Name → ℕ → ℕ → Bool
 is_quiet_by ns k i = has_where (λ n. nat_lt (quiet_of n) i) ns k
 
@@ -101,7 +102,7 @@ spot_allows ns s k = not (is_in s k) || (is_quiet_by ns k s.at || is_heard (hear
 abbrev pub all_allow : List Name → List Spot → ℕ → Bool
 all_allow ns spots k = list_all (λ s. spot_allows ns s k) spots
 
--- all slots before place i do
+-- all slots before position i do
 abbrev pub all_allow_to : List Name → List Spot → ℕ → ℕ → Bool
 all_allow_to ns spots i k = list_all (λ s. nat_le i s.at || spot_allows ns s k) spots
 
@@ -113,7 +114,7 @@ HasRange s = (len_of s ≤ UID_BITS) × IsKeyRange (first_of s, last_of s)
 abbrev pub is_named : List Name → ℕ → Bool
 is_named ns k = list_any (λ n. n.key == k) ns
 
--- and so is whom a slot heard
+-- and so is the key that a slot heard
 abbrev pub is_named_if : List Name → Option ℕ → Bool
 is_named_if ns None = true
 is_named_if ns (Some h) = is_named ns h
@@ -132,18 +133,18 @@ are_left ns = list_all (λ n. n.left) ns
 abbrev pub AreInOrder : List Name → Type 0
 AreInOrder ns = IsNonDecreasingBy (λ (n : Name). n.key) ns
 
--- the names before the index have keys below the first one, and no others do
+-- the names before the index, and no others, have keys below the first one
 pub record IsStart (ns : List Name) (first at : ℕ) : Type 0 where
   pub within : at ≤ length ns
   pub below : (k : ℕ) (d : Name) → k < at → (slice_index_or ns k d).key < first
   pub rest : (k : ℕ) (d : Name) → at ≤ k → k < length ns
       → first ≤ (slice_index_or ns k d).key
 
--- keys of UIDs
+-- the names have keys of UIDs
 abbrev pub HaveKeys : List Name → Type 0
 HaveKeys ns = All (λ (n : Name). IsKey n.key) ns
 
--- the names stand in order, and tell who is Quiet as before
+-- the names are in order, and show the same UIDs as Quiet as before
 pub record ArePutInOrder (old new : List Name) : Type 0 where
   pub order : AreInOrder new
   pub keys : HaveKeys old → HaveKeys new

@@ -1,6 +1,6 @@
--- The headline in the words of each version of the log. In version 2 tags are Ready at the start
--- and after each field cycle, a lone reply is heard or garbled, and two or more are a collision or
--- garbled.
+-- The main theorem in the words of each version of the log. In version 2, tags are Ready at the
+-- start and after each field cycle, a lone reply is heard or garbled, and two or more are a
+-- collision or garbled.
 use Rattle.std.specs.Prelude.{◌≡◌, ◌≢◌, ◌↔◌, ◌⊎◌, ℕ, ◌<◌, true, Some, List, ⊤, slice_get}
 use Rattle.vic_frame.specs.Uids.{has}
 use Rattle.vic_log.specs.declared.entry.Entry.{Entry}
@@ -11,30 +11,30 @@ use Rattle.vic_log.specs.Populations.{IsPopulation}
 use Rattle.vic_log.specs.Quiet.{silences}
 use Rattle.vic_log.specs.Rounds.{mask_at, lies_in_some}
 
--- some population stands in the relation to the entries, and each that does has exactly the listed
--- UIDs
+-- the relation holds between some population and the entries, and each such population has exactly
+-- the listed UIDs
 abbrev pub HasExactlyListed : (List ℕ → List Entry → Type 0) → List Entry → Type 0
 HasExactlyListed Gives es =
     ((p : List ℕ) × IsPopulation p × Gives p es)
     × ((p : List ℕ) → IsPopulation p → Gives p es
     → (u : ℕ) → (has p u ≡ true) ↔ (has (listed es) u ≡ true))
 
--- the headline for version 1, whose logs know no garbled slots and no field cycles
+-- the main theorem for version 1, whose logs have no garbled slots and no field cycles
 abbrev pub IsWholeFirst : List Entry → Type 0
 IsWholeFirst = HasExactlyListed CouldHaveGivenFirst
 
--- a tag with this UID is Ready at place i: behind each Stay Quiet with its UID the field was
+-- a tag with this UID is Ready at position i: after each Stay Quiet with its UID the field was
 -- switched off and on
 abbrev pub IsReady : List Entry → ℕ → ℕ → Type 0
 IsReady es i u =
     (j : ℕ) → j < i → silences (slice_get es j) u ≡ true
     → (k : ℕ) × (j < k) × (k < i) × (slice_get es k ≡ Some FieldCycle)
 
--- a tag of the population with this UID answers in the slot at place i
+-- a tag of the population with this UID answers in the slot at position i
 abbrev pub Answers : List ℕ → List Entry → ℕ → ℕ → Type 0
 Answers p es i u = (has p u ≡ true) × IsReady es i u × (lies_in_some (mask_at es i) u ≡ true)
 
--- this tag alone answers
+-- only this tag answers
 abbrev pub AnswersAlone : List ℕ → List Entry → ℕ → ℕ → Type 0
 AnswersAlone p es i u = Answers p es i u × ((v : ℕ) → Answers p es i v → v ≡ u)
 
@@ -42,7 +42,7 @@ AnswersAlone p es i u = Answers p es i u × ((v : ℕ) → Answers p es i v → 
 abbrev pub SeveralAnswer : List ℕ → List Entry → ℕ → Type 0
 SeveralAnswer p es i = (u v : ℕ) × (u ≢ v) × Answers p es i u × Answers p es i v
 
--- what the entry at place i tells of its slot
+-- what the entry at position i says about its slot
 abbrev pub IsToldOf : List ℕ → List Entry → ℕ → Entry → Type 0
 IsToldOf p es i Silent = (u : ℕ) → Answers p es i u → ⊥
 IsToldOf p es i (Heard r) = AnswersAlone p es i r.uid
@@ -52,11 +52,11 @@ IsToldOf p es i (Sent q) = ⊤
 IsToldOf p es i (Listed u) = ⊤
 IsToldOf p es i FieldCycle = ⊤
 
--- every slot line is told of the population
+-- every slot line is true of the population
 abbrev pub CouldHaveGivenSecond : List ℕ → List Entry → Type 0
 CouldHaveGivenSecond p es =
     (i : ℕ) (e : Entry) → slice_get es i ≡ Some e → IsToldOf p es i e
 
--- the headline for version 2
+-- the main theorem for version 2
 abbrev pub IsWholeSecond : List Entry → Type 0
 IsWholeSecond = HasExactlyListed CouldHaveGivenSecond

@@ -71,19 +71,19 @@ IsVerdict lines (Complete count) =
     × NoSuch (IsDoubtful es)
     × (count ≡ length (listed es))
 
--- the list is whole: some population could have given the entries, and each that could has exactly
--- the listed UIDs
+-- the list is complete: some population could have produced the entries, and each that could has
+-- exactly the listed UIDs
 abbrev pub IsWhole : List Entry → Type 0
 IsWhole es =
     IsPossible es
     × ((p : List ℕ) → IsPopulation p → CouldHaveGiven p es
     → (u : ℕ) → (has p u ≡ true) ↔ (has (listed es) u ≡ true))
 
--- some slot line heard the UID
+-- the UID was heard in some slot line
 abbrev pub IsHeard : List Entry → ℕ → Type 0
 IsHeard es u = (i : ℕ) × (r : Reply) × (slice_get es i ≡ Some (Heard r)) × (r.uid ≡ u)
 
--- the reader is done: its log is possible, it heard each UID that it lists, and no other is
+-- the reader is done: its log is possible, each UID that it lists was heard, and no other is
 -- possible
 abbrev pub IsReached : List Entry → Type 0
 IsReached es =

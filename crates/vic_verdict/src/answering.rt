@@ -1,8 +1,8 @@
 //! Which open UIDs answer in a slot.
 //!
-//! Mostly the first ones that are found aren't Quiet there. Else those without a name and those
-//! with one are looked for apart: the former are never Quiet, and those of a mask tell those of the
-//! masks in it; of the latter it is known where each falls Quiet.
+//! Usually the first ones that are found aren't Quiet there. Otherwise the UIDs without a name and
+//! those with one are searched for separately. The former are never Quiet, and those in a mask show
+//! those in its inner masks. For the latter it is known where each becomes Quiet.
 
 ghost use Rattle.std.specs.Prelude.{◌≡◌, ◌^◌, ◌<◌, ◌≤◌, ℕ, Bool, List, [], map, nat_lt, IfOk, OnOk, IfSome};
 ghost use Rattle.std.specs.List.{All};
@@ -25,8 +25,7 @@ use vic_frame::low_bits_first::{KeyBlock, key, mask_of_keys, uid_at};
 use vic_tree::OpenSet;
 use vic_tree::gather::gather_one;
 
-/// Open UIDs without a name, of those with keys from `first` to `last`: three, or all where they
-/// are fewer.
+/// Open UIDs without a name, with keys from `first` to `last`: three, or all if there are fewer.
 #[derive(Drop)]
 pub(crate) struct Unnamed {
     pub first: u64,
@@ -34,17 +33,17 @@ pub(crate) struct Unnamed {
     pub uids: Vec<Uid>,
 }
 
-/// What is known of the names of a stretch, and of the UIDs without one.
+/// What is known about the names of a stretch, and about the UIDs without a name.
 #[derive(Drop)]
 pub(crate) struct Known {
-    /// The place from which on it is known who answers.
+    /// The position from which on it is known which UIDs answer.
     pub from: usize,
     /// The keys of the names.
     pub keys: Vec<u64>,
-    /// A name for each open UID that has one and isn't Quiet at that place, Quiet where the UID is
-    /// by all its names; in the order of keys.
+    /// A name for each open UID that has one and isn't Quiet at that position, Quiet where the UID
+    /// is by all its names; in the order of keys.
     pub named: Vec<Name>,
-    /// The masks that were looked through for UIDs without a name, each within the one before it.
+    /// The masks that were searched for UIDs without a name, each within the one before it.
     pub masks: Vec<Unnamed>,
 }
 
@@ -59,7 +58,7 @@ fn keys_of(alloc: Global, names: &[Name]) -> Result<Vec<u64>, AllocError>
     Ok(keys)
 }
 
-/// A name with a key whose UID is Quiet after a place.
+/// A name with a key whose UID is Quiet after a position.
 fn name_quiet_after(key: u64, quiet: usize) -> Name
     ensures key { result.key ≡ key }
     ensures quiet { (i : ℕ) → i < 2 ^ 32 → nat_lt (quiet_of result) i ≡ nat_lt quiet i }
@@ -76,8 +75,8 @@ fn name_quiet_after(key: u64, quiet: usize) -> Name
     }
 }
 
-/// A name for each UID of a set that has names and isn't Quiet at a place, Quiet where the UID is by
-/// all of them.
+/// A name for each UID of a set that has names and isn't Quiet at a position, Quiet where the UID
+/// is by all of them.
 fn open_names<S: OpenSet>(
     alloc: Global,
     set: &S,
@@ -103,7 +102,7 @@ fn open_names<S: OpenSet>(
 }
 
 impl Known {
-    /// What is known of the slots from a place on, before any mask was looked through.
+    /// What is known about the slots from a position on, before any mask has been searched.
     fn of<S: OpenSet>(
         alloc: Global,
         set: &S,
@@ -126,7 +125,7 @@ impl Known {
         })
     }
 
-    /// Open UIDs that answer in a slot, as `up_to_three_answering` gives them.
+    /// Open UIDs that answer in a slot, as `up_to_three_answering` returns them.
     fn answering<S: OpenSet>(
         &mut self,
         alloc: Global,
@@ -161,7 +160,8 @@ impl Known {
     }
 }
 
-/// What is known at a place: what was found out already, or what is known from the place `from` on.
+/// What is known at a position: what has been found already, or what is known from position `from`
+/// on.
 fn known_at<S: OpenSet>(
     alloc: Global,
     set: &S,
@@ -184,10 +184,10 @@ fn known_at<S: OpenSet>(
     Known::of(alloc, set, names, from.min(at))
 }
 
-/// Open UIDs that answer in a slot with a block of keys: all where they are fewer than three, three
-/// otherwise. Mostly those that are found first are not Quiet, and nothing more has to be known.
-/// The first name of the block is looked for near index `near` first. No slot before the place
-/// `from` will be asked for.
+/// Open UIDs that answer in a slot with a block of keys: all if there are fewer than three,
+/// otherwise three. Usually those that are found first aren't Quiet, and nothing more has to be
+/// known. The search for the first name of the block begins near index `near`. No slot before
+/// position `from` will be asked for.
 pub(crate) fn up_to_three_answering<S: OpenSet>(
     alloc: Global,
     set: &S,
@@ -219,7 +219,7 @@ pub(crate) fn up_to_three_answering<S: OpenSet>(
     Ok(uids)
 }
 
-/// Those of some UIDs that have keys from `first` to `last`, three at most.
+/// Those of some UIDs that have keys from `first` to `last`, at most three.
 fn those_between(uids: &[Uid], first: u64, last: u64) -> ArrayVec<Uid, 3>
     ensures { Gathers (HasInside uids.now first last) [] result.items }
 {
@@ -237,7 +237,7 @@ fn those_between(uids: &[Uid], first: u64, last: u64) -> ArrayVec<Uid, 3>
 }
 
 impl Unnamed {
-    /// Open UIDs without a name in a narrower range of keys, as far as those of this one tell.
+    /// Open UIDs without a name in a narrower range of keys, if those in this range determine them.
     fn between(&self, first: u64, last: u64) -> Option<ArrayVec<Uid, 3>>
         ensures { IfSome result (λ uids. (set : ℕ → Bool) (ns : List NameValue)
             → IsUnnamed set ns self.now → UpToThree (is_unnamed set ns first last) uids.items) }
@@ -254,8 +254,8 @@ impl Unnamed {
     }
 }
 
-/// The index behind the last of some masks that doesn't end before a key: those that do hold none
-/// of the masks that come next.
+/// The index after the last of some masks that doesn't end before a key: those that do contain none
+/// of the next masks.
 fn count_around(masks: &[Unnamed], first: u64) -> usize {
     for index in (0..masks.len()).rev() {
         if first <= masks[index].last {
@@ -265,9 +265,9 @@ fn count_around(masks: &[Unnamed], first: u64) -> usize {
     0
 }
 
-/// Open UIDs without a name in a block of keys, by the keys of the names there: three, or all where
-/// they are fewer. Blocks come in the order of their first keys, outer ones before inner ones, so
-/// that few are looked through whose UIDs are known.
+/// Open UIDs without a name in a block of keys, by the keys of the names there: three, or all if
+/// there are fewer. Blocks come in the order of their first keys, outer ones before inner ones, so
+/// that few are searched whose UIDs are known.
 fn unnamed_in<S: OpenSet>(
     alloc: Global,
     set: &S,
@@ -303,7 +303,7 @@ fn unnamed_in<S: OpenSet>(
     Ok(uids)
 }
 
-/// Adds the UIDs of names that aren't Quiet at a place.
+/// Adds the UIDs of names that aren't Quiet at a position.
 fn gather_ready(uids: &mut ArrayVec<Uid, 3>, names: &[Name], at: usize)
     requires { HaveKeys names.now }
     ensures { Gathers (IsReadyIn names.now at) uids.old.items uids.new.items }

@@ -12,20 +12,21 @@ use std::alloc::AllocError;
 use vic_frame::UID_BITS;
 use vic_tree::KeyRange;
 
-/// More than the number of bits that any mask has: by it a mask's first key and its number of bits
-/// are one number.
+/// More than the number of bits of any mask: it packs a mask's first key and its number of bits
+/// into one number.
 pub(crate) const LENGTHS: u64 = 256;
 
-/// A silent or an answered slot. A log may have a million of them, which are sorted: so its mask is
+/// A silent or an answered slot. A log may have a million of them, which are sorted, so its mask is
 /// one number.
 #[derive(Clone, Copy)]
 pub(crate) struct Spot {
     /// Its mask: the mask's first key, times `LENGTHS`, plus how many bits the mask has. In the
-    /// order of these numbers the slots of one mask stand together, outer masks before inner ones.
+    /// order of these numbers the slots of one mask are consecutive, with outer masks before inner
+    /// ones.
     pub mask: u64,
-    /// The key that was heard; the first key of its mask where nobody was.
+    /// The key that was heard; the first key of its mask if no tag was.
     pub key: u64,
-    /// The place of its line.
+    /// The position of its line.
     pub at: u32,
     pub is_heard: bool,
 }
@@ -62,9 +63,9 @@ impl Spot {
     }
 }
 
-/// Closes the keys of a range, except those of names that are left. Its first name is looked for
-/// near index `near` first. Returns the index behind its names, near which those of the next range
-/// may stand.
+/// Closes the keys of a range, except those of names that are left. The search for its first name
+/// begins near index `near`. Returns the index after its names, near which those of the next range
+/// may be.
 fn close_between(
     closed: &mut Vec<KeyRange>,
     names: &[Name],
@@ -94,7 +95,7 @@ fn close_between(
     Ok(start.saturating_add(inside.len()))
 }
 
-/// Two ranges as one, where the first begins no later than the next and no key is between them.
+/// Two ranges as one, if the first begins no later than the second and no key is between them.
 fn joined(range: KeyRange, next: KeyRange) -> Option<KeyRange>
     ensures { IfSome result (λ r. (k : ℕ) → is_between r.0 r.1 k
         ≡ (is_between range.0 range.1 k || is_between next.0 next.1 k)) }
@@ -106,9 +107,9 @@ fn joined(range: KeyRange, next: KeyRange) -> Option<KeyRange>
     }
 }
 
-/// Adds keys to the range before them where they adjoin it or lie in it; else that range is closed,
-/// if there is one. Returns the range that is to be closed next. `near` is an index near that of
-/// its first name.
+/// Adds keys to the range before them if they adjoin it or lie in it; otherwise closes that range,
+/// if there is one. Returns the range to close next. `near` is an index near that of its first
+/// name.
 fn pass_keys(
     closed: &mut Vec<KeyRange>,
     names: &[Name],
@@ -131,8 +132,8 @@ fn pass_keys(
     Ok(keys)
 }
 
-/// Closes the keys of the masks of some slots, except those of names that are left. Where the slots
-/// stand in order, masks that adjoin or lie in one another are closed as one range.
+/// Closes the keys of the masks of some slots, except those of names that are left. If the slots
+/// are in order, masks that adjoin or lie in one another are closed as one range.
 pub(crate) fn close_spots(
     closed: &mut Vec<KeyRange>,
     names: &[Name],

@@ -1,9 +1,9 @@
-//! The slots of a log in which tags answered and none was read: what they ask for, and the open
+//! The slots of a log in which tags answered and none was read: what they require, and the open
 //! UIDs that meet it.
 //!
-//! Between two field cycles tags only fall silent. So whoever answers in the last of some slots of
-//! one mask answered in the earlier ones too. Of those that ask for as much, the last one alone has
-//! to be looked at.
+//! Between two field cycles tags only become Quiet. So a tag that answers in the last of some slots
+//! of one mask answered in the earlier ones too. Of those that require as many tags, only the last
+//! one has to be looked at.
 
 ghost use Rattle.std.specs.Prelude.{◌≡◌, ◌≤◌, ◌<◌, ◌&&◌, ◌++◌, ◌∷◌, [], true, false, None, Some, IfSome, List, IfOk, OnOk, MatchResult, length};
 ghost use Rattle.std.specs.List.{All};
@@ -26,7 +26,7 @@ use vic_frame::Uid;
 use vic_frame::low_bits_first::KeyBlock;
 use vic_tree::OpenSet;
 
-/// What the slots of a possible log ask for, met by its open UIDs.
+/// What the slots of a possible log require, met by its open UIDs.
 #[derive(Drop)]
 pub struct Met {
     /// The UIDs that were heard, in any order.
@@ -36,11 +36,11 @@ pub struct Met {
     pub found: Vec<Found>,
 }
 
-/// Open UIDs that answer in a slot in which tags answered and none was read: all of them where they
-/// are fewer than three, three otherwise.
+/// Open UIDs that answer in a slot in which tags answered and none was read: all of them if there
+/// are fewer than three, otherwise three.
 #[derive(Drop)]
 pub struct Found {
-    /// The place of its line.
+    /// The position of its line.
     pub at: usize,
     /// How many there have to be: 2 in a collision, 1 in a garbled slot.
     pub need: usize,
@@ -53,18 +53,20 @@ pub struct Found {
 pub(crate) struct Demand {
     /// The first key of its mask.
     pub first: u64,
-    /// How many bits its mask has, at most 56: of a longer one that holds a UID the low 56 tell it.
+    /// How many bits its mask has, at most 56: in a longer one that holds a UID, the low 56
+    /// determine it.
     pub len: u8,
     /// How many tags have to be there: 2 in a collision, 1 in a garbled slot.
     pub need: u8,
-    /// The place of its line.
+    /// The position of its line.
     pub at: u32,
 }
 
 impl Demand {
-    /// The number by which demands are sorted: by mask, by how much is asked for, and by place, so
-    /// that those stand together of which the last alone has to be looked at (`is_asked_again`
-    /// looks). No answer rests on this order. One number is compared faster than four.
+    /// The number by which demands are sorted: by mask, by how many tags are required, and by
+    /// position. Then those of which only the last has to be looked at are consecutive
+    /// (`is_asked_again` checks it). No answer rests on this order. One number is compared faster
+    /// than four.
     fn order(&self) -> u128 {
         u128::from(self.first) << 64
             | u128::from(self.len) << 40
@@ -72,7 +74,7 @@ impl Demand {
             | u128::from(self.at)
     }
 
-    /// The place of its line.
+    /// The position of its line.
     fn place(&self) -> usize
         ensures { result ≡ self.now.at }
     {
@@ -106,17 +108,17 @@ pub(crate) fn push_demand(
     Ok(true)
 }
 
-/// What a stretch (the lines between two field cycles) asks for: kept until it is known which UIDs
+/// What a stretch (the lines between two field cycles) requires: kept until it is known which UIDs
 /// the log leaves open.
 #[derive(Drop)]
 pub(crate) struct Stretch {
-    /// Whom its lines name, in the order of keys.
+    /// The UIDs that its lines name, in the order of keys.
     pub names: Vec<Name>,
     pub demands: Vec<Demand>,
 }
 
-/// Keeps what the slots of a stretch ask for before a place, if they ask for anything, and whom its
-/// lines name. `names` and `demands` are empty then.
+/// Keeps what the slots of a stretch before a position require, if they require anything, and the
+/// UIDs that its lines name. Afterwards `names` and `demands` are empty.
 pub(crate) fn keep_stretch(
     alloc: Global,
     stretches: &mut Vec<Stretch>,
@@ -142,8 +144,8 @@ pub(crate) fn keep_stretch(
     Ok(())
 }
 
-/// Open UIDs that answer in a slot: all where they are fewer than three, three otherwise. The first
-/// name of the slot's mask is looked for near index `near` first. No slot before the place `from`
+/// Open UIDs that answer in a slot: all if there are fewer than three, otherwise three. The search
+/// for the first name of the slot's mask begins near index `near`. No slot before position `from`
 /// will be asked for.
 fn answering<S: OpenSet>(
     alloc: Global,
@@ -170,7 +172,7 @@ fn answering<S: OpenSet>(
     up_to_three_answering(alloc, set, names, known, near, &block, from, demand.at)
 }
 
-/// The place of the first of some slots.
+/// The position of the first of some slots.
 fn first_place(demands: &[Demand]) -> usize {
     let mut first = usize::MAX;
     for demand in demands {
@@ -179,8 +181,8 @@ fn first_place(demands: &[Demand]) -> usize {
     first
 }
 
-/// Whether the next slot of some asks for as much of the same mask, and is no earlier: if it is
-/// met, so is this one.
+/// Whether the next slot requires as many tags of the same mask, and is no earlier: if it is met,
+/// so is this one.
 fn is_asked_again(demands: &[Demand], index: usize) -> bool
     requires { index < length demands.now }
     ensures { result ≡ true → IsAskedAgain demands.now index }
@@ -195,9 +197,9 @@ fn is_asked_again(demands: &[Demand], index: usize) -> bool
     }
 }
 
-/// The place up to which enough UIDs answer in the slots of some mask, where `lacking` more are
-/// wanted than answer at the place `at`: where as many of them fall Quiet the latest before it. One
-/// further on; 0 if there are too few of them.
+/// The position before which enough UIDs answer in the slots of some mask, if `lacking` more are
+/// needed than answer at position `at`: where the last of that many become Quiet. 0 if there are
+/// too few.
 fn end_of_enough(names: &[Name], at: usize, lacking: usize) -> usize {
     let mut last = 0;
     let mut last_but_one = 0;
@@ -211,7 +213,8 @@ fn end_of_enough(names: &[Name], at: usize, lacking: usize) -> usize {
     if lacking == 1 { last } else { last_but_one }
 }
 
-/// Whom the lines name that the log leaves open, of the mask of a slot; nobody if that isn't known.
+/// The UIDs in the mask of a slot that the lines name and the log leaves open; none if that isn't
+/// known.
 fn known_names<'a>(known: &'a Option<Known>, demand: &Demand) -> &'a [Name]
     requires order { IfSome known.now (λ k. AreInOrder k.named.items) }
     requires block { HasBlock demand.now }
@@ -227,8 +230,8 @@ fn known_names<'a>(known: &'a Option<Known>, demand: &Demand) -> &'a [Name]
 }
 
 /// The index of the slot that seems to be the first unmet one, from index `from` on. Those of one
-/// mask that ask for as much stand in order: the last one tells how many are wanting there, and the
-/// others lack their tags as soon as one of so many more is Quiet.
+/// mask that require as many tags are in order: the last one shows how many are missing there, and
+/// the others lack theirs as soon as one of that many more is Quiet.
 fn guess_unmet<S: OpenSet>(
     alloc: Global,
     set: &S,
@@ -270,9 +273,9 @@ fn guess_unmet<S: OpenSet>(
     Ok(guess)
 }
 
-/// The place of the first unmet slot from index `from` on, where the guess is right; else the place
-/// of one that is known. The slots stand by mask, not by place, so those behind that one are looked
-/// at too.
+/// The position of the first unmet slot from index `from` on, if the guess is right; otherwise the
+/// position of one that is known to be unmet. The slots are ordered by mask, not by position, so
+/// those after that one are looked at too.
 fn first_unmet<S: OpenSet>(
     alloc: Global,
     set: &S,
@@ -300,7 +303,7 @@ fn first_unmet<S: OpenSet>(
     Ok(unmet)
 }
 
-/// Finds what meets slots. Returns the place of the first one that is unmet, if one is.
+/// Finds what meets slots. Returns the position of the first unmet one, if one is unmet.
 fn meet_each<S: OpenSet>(
     alloc: Global,
     set: &S,
@@ -341,8 +344,8 @@ fn meet_each<S: OpenSet>(
 }
 
 /// What meets the slots of a log in which tags answered and none was read, by the UIDs that it
-/// leaves open; or the place of a slot that lacks what it asks for. It is the first one that does,
-/// which saves judgings: no answer rests on it.
+/// leaves open; or the position of a slot that lacks what it requires. It is the first such slot,
+/// which saves judging the log again; no answer rests on that.
 pub(crate) fn meet_stretches<S: OpenSet>(
     alloc: Global,
     set: &S,

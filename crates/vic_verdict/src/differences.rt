@@ -1,4 +1,4 @@
-//! How a list differs from what a log tells.
+//! How a list differs from what a log says.
 
 ghost use Rattle.std.specs.Prelude.{◌++◌, IfOk};
 ghost use Rattle.std.specs.List.Sorted.{IsStrictlyIncreasing};
@@ -10,7 +10,7 @@ use std::alloc::{AllocError, Global};
 use vic_frame::{Mask, Uid};
 use vic_tree::OpenSet;
 
-/// How a list of UIDs differs from what a log tells. The other findings, the listed UIDs that may be
+/// How a list of UIDs differs from what a log says. The other findings, the listed UIDs that may be
 /// there or not, follow from these: they are neither certain nor absent.
 #[derive(Drop)]
 pub struct Differences {

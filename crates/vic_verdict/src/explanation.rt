@@ -26,10 +26,10 @@ use vic_tree::{OpenSet, RangeSet};
 #[derive(Drop)]
 pub struct Explanation {
     pub verdict: Verdict,
-    /// Tags that could have given the log: without the UID that is absent or doubtful, with the one
-    /// that is unlisted, or with one of the unsettled mask. In rising order, and at most as many as
-    /// the UIDs heard, two for each collision, one for each garbled slot, and one more. `None`
-    /// where the log is impossible or its list complete.
+    /// Tags that could have produced the log: without the UID that is absent or doubtful, with the
+    /// one that is unlisted, or with one of the unsettled mask. In rising order, and at most as
+    /// many as the UIDs heard, two for each collision, one for each garbled slot, and one more.
+    /// `None` if the log is impossible or its list complete.
     pub population: Option<Vec<Uid>>,
 }
 
@@ -40,8 +40,8 @@ pub fn explain(alloc: Global, log: &Log) -> Result<Explanation, AllocError>
     explain_with::<RangeSet>(alloc, log)
 }
 
-/// The verdict on a log with a small population that shows it, over any set of open UIDs. It is
-/// want of memory alone that keeps it from an answer.
+/// The verdict on a log with a small population that shows it, over any set of open UIDs. It fails
+/// only if memory is refused.
 pub fn explain_with<S: OpenSet>(alloc: Global, log: &Log) -> Result<Explanation, AllocError>
     ensures { IfOk result (IsExplanation log.now.lines) }
 {
@@ -92,8 +92,8 @@ fn explain_possible<S: OpenSet>(
     })
 }
 
-/// The UIDs that were heard, and of each collision two that answer and of each garbled slot one,
-/// other than the one to avoid: in rising order.
+/// The UIDs that were heard, two that answer in each collision, and one in each garbled slot, other
+/// than the one to avoid: in rising order.
 fn gather(met: Met, avoid: &Option<Uid>) -> Result<Vec<Uid>, AllocError>
     ensures rising { IfOk result (λ v. IsStrictlyIncreasing v.items) }
     ensures members { IfOk result (λ v. SameMembers v.items (gathered avoid.now met)) }
@@ -134,7 +134,7 @@ fn is_other(avoid: &Option<Uid>, uid: Uid) -> bool
     }
 }
 
-/// UIDs and one UID more: in rising order.
+/// UIDs with one more UID, in rising order.
 fn with_uid(mut tags: Vec<Uid>, uid: Uid) -> Result<Vec<Uid>, AllocError>
     ensures rising { IfOk result (λ v. IsStrictlyIncreasing v.items) }
     ensures members { IfOk result (λ v. SameMembers v.items (tags.items ++ uid ∷ [])) }

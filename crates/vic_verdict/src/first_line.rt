@@ -1,4 +1,4 @@
-//! The first line of a log that no population could have given.
+//! The first impossible line of a log: no population could have produced the lines up to it.
 
 ghost use Rattle.std.specs.Prelude.{◌<◌, ◌≤◌, List, take, IfOk};
 ghost use Rattle.vic_log.specs.declared.entry.LogLine.{LogLine as LogLineValue};
@@ -14,7 +14,7 @@ use vic_guess::guess_impossible_line;
 use vic_log::PackedLine;
 use vic_tree::OpenSet;
 
-/// A place above one and up to another: the guess where it is one, else the middle.
+/// A position above `low` and up to `last`: the guess if it is one, otherwise the middle.
 fn between(low: usize, last: usize, guess: usize) -> usize
     requires { low < last }
     ensures above { low < result }
@@ -27,8 +27,8 @@ fn between(low: usize, last: usize, guess: usize) -> usize
     }
 }
 
-/// How many of the first lines of a log some population could have given, as far as is known of a
-/// contradiction.
+/// How many of the first lines of a log some population could have produced, as far as a
+/// contradiction shows.
 fn possible_before(contradiction: Contradiction) -> usize
     ensures possible { (lines : List LogLineValue) → IsContradiction (entries lines) contradiction
         → IsPossible (entries (take result lines)) }
@@ -40,7 +40,7 @@ fn possible_before(contradiction: Contradiction) -> usize
     }
 }
 
-/// How many lines to judge next: those before a contradiction, if they seem to be possible.
+/// How many lines to judge next: those before a contradiction, if they seem possible.
 fn first_guess(contradiction: Contradiction) -> Option<usize> {
     match contradiction.before {
         Before::ArePossible | Before::SeemPossible => Some(contradiction.at),
@@ -48,11 +48,11 @@ fn first_guess(contradiction: Contradiction) -> Option<usize> {
     }
 }
 
-/// The number of the first line up to which no population could have given the log, found by
-/// halving: what is impossible stays so when lines follow. Halving begins at a guess: before the
-/// contradiction where it seems to be the first, else where a pass over the lines before it says.
-/// As long as that pass is right, the lines are judged at most three times here, mostly once or not
-/// at all.
+/// The number of the first line up to which no population could have produced the log, found by
+/// bisection: what is impossible stays so when lines follow. Bisection begins at a guess: before
+/// the contradiction if it seems to be the first, otherwise where a pass over the lines before it
+/// suggests. As long as that pass is right, the lines are judged at most three times here, usually
+/// once or not at all.
 pub fn first_impossible_line<S: OpenSet>(
     alloc: Global,
     lines: &[PackedLine],

@@ -1,4 +1,4 @@
-//! What a log proves of its list of tags: the verdict on it.
+//! What a log proves about its list of tags: the verdict on it.
 
 ghost use Rattle.std.specs.Prelude.{◌≡◌, ℕ, IfOk, length};
 ghost use Rattle.vic_tree.specs.OpenSet.{SameUids};
@@ -23,28 +23,28 @@ use vic_frame::{Mask, Uid};
 use vic_log::{Log, PackedLine};
 use vic_tree::{OpenSet, RangeSet};
 
-/// What a log proves of its list of tags (profile): the first answer that applies. It is said of
-/// the populations of tags that could have given the log.
+/// What a log proves about its list of tags (profile): the first answer that applies. Each is about
+/// the populations of tags that could have produced the log.
 #[derive(Clone, Copy, Debug, PartialEq, Eq)]
 pub enum Verdict {
-    /// No population could have given the lines up to this one, and it is the first such line.
+    /// No population could have produced the lines up to this one, and it is the first such line.
     Impossible { line: u32 },
     /// The least listed UID that is in no such population.
     Absent(Uid),
     /// The least UID that is in each of them and isn't listed.
     Unlisted(Uid),
-    /// A mask each of whose UIDs is in some of them and isn't listed: the first by length, and then
-    /// by value, of those of at most 56 bits.
+    /// A mask each of whose UIDs is in some of them and isn't listed: the first by length, then by
+    /// value, of those with at most 56 bits.
     Unsettled(Mask),
     /// The least listed UID that isn't in each of them.
     Doubtful(Uid),
-    /// The list is whole: each of them has exactly the listed UIDs, so many.
+    /// The list is complete: each of them has exactly the listed UIDs, of which there are `count`.
     Complete { count: u32 },
 }
 
 /// The verdict on a log.
 ///
-/// Where it is `Complete`, some population could have given the log, and every population that
+/// If it is `Complete`, some population could have produced the log, and every population that
 /// could has exactly the listed UIDs (clause `whole`; clause `second` says the same in the words of
 /// version 2, whose logs have field cycles and garbled slots). A possible log that leaves nothing
 /// open but what it heard and lists is `Complete` (clause `reached`).
@@ -61,8 +61,8 @@ pub fn judge(alloc: Global, log: &Log) -> Result<Verdict, AllocError>
     judge_with::<RangeSet>(alloc, log)
 }
 
-/// The verdict on a log, over any set of open UIDs: the same over each. It is want of memory alone
-/// that keeps it from an answer.
+/// The verdict on a log, over any set of open UIDs: it is the same over each. It fails only if
+/// memory is refused.
 pub fn judge_with<S: OpenSet>(alloc: Global, log: &Log) -> Result<Verdict, AllocError>
     ensures verdict { IfOk result (λ v. IsVerdict log.now.lines v) }
     ensures whole { IfOk result (λ v. (count : ℕ) → v ≡ Complete count

@@ -1,4 +1,4 @@
-//! Laws of the definitions. The functions do nothing: each stands for what its clauses say.
+//! Laws about the definitions. The functions do nothing: each stands for what its clauses say.
 
 ghost use Rattle.std.specs.Prelude.{◌≡◌, ◌↔◌, ℕ, List, ◌∷◌, ◌++◌, true, false, length};
 ghost use Rattle.vic_frame.specs.Uids.{has};
@@ -15,13 +15,14 @@ ghost use Rattle.vic_frame.specs.Masks.{BitMask};
 ghost use Rattle.vic_verdict.specs.declared.judging.Verdict.{Verdict};
 ghost use Rattle.vic_verdict.specs.declared.judging.Verdict.TheVariants.{Complete};
 
-/// Entries are possible where their open UIDs supply what each slot asks for.
+/// Entries are possible if and only if their open UIDs supply what each slot requires.
 pub fn possible_entries()
     ensures { (es : List Entry)
         → IsPossible es ↔ SuppliesAll (is_open (slots_of es)) (slots_of es) }
 {}
 
-/// A UID is possible where it is open, and certain where some slot forces it.
+/// In possible entries, a UID is possible if and only if it is open, and certain if and only if
+/// some slot forces it.
 pub fn possible_and_certain_uids()
     ensures possible { (es : List Entry) (u : ℕ) → IsPossible es
         → IsPossibleUid es u ↔ (is_open (slots_of es) u ≡ true) }
@@ -29,13 +30,13 @@ pub fn possible_and_certain_uids()
         → IsCertainUid es u ↔ IsForcedBy (is_open (slots_of es)) (slots_of es) u }
 {}
 
-/// What entries make impossible stays impossible when entries follow.
+/// Impossible entries stay impossible when entries follow.
 pub fn impossible_stays()
     ensures { (es more : List Entry) → (IsPossible es → ⊥)
         → IsPossible (es ++ more) → ⊥ }
 {}
 
-/// A population that could have given the entries still could with one possible UID more.
+/// Adding a possible UID to a population that could have produced the entries yields another one.
 pub fn one_possible_uid_more()
     ensures { (es : List Entry) (p : List ℕ) (u : ℕ) → IsPopulation p → CouldHaveGiven p es
         → IsPossibleUid es u → has p u ≡ false
@@ -49,14 +50,13 @@ pub fn exactly_one_verdict()
         → IsVerdict lines v → IsVerdict lines w → v ≡ w }
 {}
 
-/// Some mask is unsettled exactly where some unlisted UID is possible.
+/// Some mask is unsettled if and only if some unlisted UID is possible.
 pub fn unsettled_where_unlisted_is_possible()
     ensures { (es : List Entry) → ((m : BitMask) × IsUnsettled es m)
         ↔ ((u : ℕ) × IsPossibleUid es u × (has (listed es) u ≡ false)) }
 {}
 
-/// Where the verdict is `Complete`, the list is whole, and where the list is whole, it is the
-/// verdict.
+/// The verdict is `Complete` if and only if the list is complete.
 pub fn complete_is_whole()
     ensures sound { (lines : List LogLine) (count : ℕ) → IsVerdict lines (Complete count)
         → IsWhole (entries lines) }
@@ -64,8 +64,8 @@ pub fn complete_is_whole()
         → IsVerdict lines (Complete (length (listed (entries lines)))) }
 {}
 
-/// The headline says the same in the words of each version: in those of version 2 on all entries,
-/// in those of version 1 on entries that it knows.
+/// The main theorem says the same in the words of each version: in those of version 2 for all
+/// entries, in those of version 1 for entries that it has.
 pub fn one_headline()
     ensures second { (es : List Entry) → IsWhole es ↔ IsWholeSecond es }
     ensures first { (es : List Entry) → AreOfFirstVersion es

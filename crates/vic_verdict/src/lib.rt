@@ -1,9 +1,9 @@
-//! What the log of an inventory session proves of its list of tags.
+//! What the log of an inventory session proves about its list of tags.
 //!
-//! `judge` gives the verdict on a log, `explain` with it a small population that shows it. What
-//! they go by is public for `vic_report`, which tells more of a log than its verdict: which UIDs a
-//! possible one leaves open, and what meets its slots (`open_and_met`), where an impossible one
-//! became so, and which UIDs a log forces and lists. `laws` states what follows from the
+//! `judge` returns the verdict on a log, `explain` adds a small population that shows it. What they
+//! use is public for `vic_report`, which says more about a log than its verdict: which UIDs a
+//! possible log leaves open, and what meets its slots (`open_and_met`), at which line an impossible
+//! one became so, and which UIDs a log forces and lists. `laws` states what follows from the
 //! definitions.
 #![tactic(auto)]
 

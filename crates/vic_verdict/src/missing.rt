@@ -1,6 +1,6 @@
 //! Which UIDs of a list aren't in a set, or in another list.
 //!
-//! They are looked for in order: a set that stands in the order of keys is gone over once.
+//! They are looked for in the order of their keys, so that a set in that order is walked once.
 
 ghost use Rattle.std.specs.Prelude.{◌≡◌, ◌≤◌, [], ◌∷◌, ◌++◌, if◌then◌else◌, IfOk, OnOk, length};
 ghost use Rattle.std.specs.List.{list_all};
@@ -51,7 +51,7 @@ pub fn missing_from(alloc: Global, uids: &[Uid], others: &[Uid]) -> Result<Vec<U
     Ok(missing)
 }
 
-/// The place of a UID in a rising list, from one that it doesn't come before.
+/// The index of a UID in a rising list, from an index on that isn't after it.
 fn place_from(uids: &[Uid], start: usize, uid: Uid) -> usize
     requires start { start ≤ length uids.now }
     requires below { AreBelow uids.now start uid }
@@ -64,7 +64,7 @@ fn place_from(uids: &[Uid], start: usize, uid: Uid) -> usize
     place
 }
 
-/// Whether a rising list has a UID, by its place there.
+/// Whether a rising list has a UID, by its index there.
 fn is_at(uids: &[Uid], place: usize, uid: Uid) -> bool
     requires rising { IsStrictlyIncreasing uids.now }
     requires place { IsPlaceOf uids.now place uid }

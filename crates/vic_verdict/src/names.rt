@@ -1,5 +1,5 @@
 //! The UIDs that lines silence or hear between two field cycles, in the order of their keys: which
-//! of them are Quiet at a place, and whether those that were heard were Ready there.
+//! of them are Quiet at a position, and whether those that were heard were Ready.
 
 ghost use Rattle.std.specs.Prelude.{◌≡◌, ◌<◌, ◌≤◌, ◌+◌, ℕ, Bool, true, length, nat_lt, ◌++◌, ◌∷◌, [], IfOk, OnOk, take, drop};
 ghost use Rattle.std.specs.List.{All, list_any};
@@ -17,12 +17,12 @@ use std::alloc::{AllocError, Global};
 use vic_frame::Uid;
 use vic_frame::low_bits_first::key;
 
-/// The place after which a UID is Quiet by a line that hears it: after all places.
+/// The position after which a UID is Quiet by a line that hears it: after all positions.
 pub(crate) const NEVER: usize = usize::MAX;
 
-/// A line that silences a UID or hears it: the UID's key and the line's place. And whether the
-/// slots looked at so far leave the UID open, as far as this line tells: a UID is left where one of
-/// its names is. A log may have a million of them, which are sorted.
+/// A line that silences a UID or hears it: the UID's key, the line's position, and whether the
+/// slots looked at so far leave the UID open by this line. A UID is left if one of its names is. A
+/// log may have a million of them, which are sorted.
 #[derive(Clone, Copy)]
 pub(crate) struct Name {
     pub key: u64,
@@ -32,7 +32,7 @@ pub(crate) struct Name {
 }
 
 impl Name {
-    /// The place after which the UID is Quiet by the line.
+    /// The position after which the UID is Quiet by the line.
     pub(crate) fn quiet(&self) -> usize
         ensures { result ≡ quiet_of self.now }
     {
@@ -43,7 +43,7 @@ impl Name {
         }
     }
 
-    /// The place at which the line hears the UID; 0 where it silences it.
+    /// The position at which the line hears the UID; 0 if it silences it.
     fn reply_place(&self) -> usize
         ensures { result ≡ reply_place self.now }
     {
@@ -70,7 +70,7 @@ pub(crate) fn push_name(
     Ok(())
 }
 
-/// The index of the first name whose key is at least `first`; the end where none is.
+/// The index of the first name whose key is at least `first`; the end if there is none.
 fn start_of(names: &[Name], first: u64) -> usize
     requires { AreInOrder names.now }
     ensures { IsStart names.now first result }
@@ -87,11 +87,11 @@ fn is_start(names: &[Name], at: usize, first: u64) -> bool
     first <= names[at].key && (at == 0 || names[at - 1].key < first)
 }
 
-/// How many names are looked at one by one before halving.
+/// How many names are looked at one by one before bisecting.
 const NEAR: usize = 8;
 
-/// The index of the first name whose key is at least `first`: tried first at `NEAR` names from
-/// `near` on, which is near where masks come in the order of their keys, and then by halving.
+/// The index of the first name whose key is at least `first`. The `NEAR` names from `near` on are
+/// tried first, which are close if masks come in the order of their keys; then it bisects.
 pub(crate) fn start_near(names: &[Name], near: usize, first: u64) -> usize
     requires { AreInOrder names.now }
     ensures { IsStart names.now first result }
@@ -104,7 +104,7 @@ pub(crate) fn start_near(names: &[Name], near: usize, first: u64) -> usize
     start_of(names, first)
 }
 
-/// How many names have keys up to `last`: counted one by one up to `NEAR`, and then by halving.
+/// How many names have keys up to `last`: counted one by one up to `NEAR`, and then by bisection.
 fn count_to(names: &[Name], last: u64) -> usize
     requires { AreInOrder names.now }
     ensures { IsStart names.now (last + 1) result }
@@ -117,8 +117,8 @@ fn count_to(names: &[Name], last: u64) -> usize
     names.partition_point(|name| name.key <= last)
 }
 
-/// The names from key `first` to `last`, the first of which has the index `start`. Whatever is
-/// asked of a name: if some name of a key between passes, one of these does.
+/// The names from key `first` to `last`, the first of which has the index `start`. For any test: if
+/// some name with a key in between passes, one of these does.
 pub(crate) fn names_between(names: &[Name], start: usize, first: u64, last: u64) -> &[Name]
     requires order { AreInOrder names.now }
     requires start { IsStart names.now first start }
@@ -134,7 +134,7 @@ pub(crate) fn names_between(names: &[Name], start: usize, first: u64, last: u64)
     &rest[..count_to(rest, last)]
 }
 
-/// Whether a UID is Quiet at a place.
+/// Whether a UID is Quiet at a position.
 pub(crate) fn is_quiet_by(names: &[Name], uid: Uid, at: usize) -> bool
     requires { AreInOrder names.now }
     ensures { result ≡ is_quiet_by names.now (mirror uid) at }
@@ -143,7 +143,7 @@ pub(crate) fn is_quiet_by(names: &[Name], uid: Uid, at: usize) -> bool
     first_quiet(names_between(names, start_of(names, key), key, key)) < at
 }
 
-/// Whether one of some UIDs is Quiet at a place.
+/// Whether one of some UIDs is Quiet at a position.
 pub(crate) fn is_any_quiet(names: &[Name], uids: &[Uid], at: usize) -> bool
     requires { AreInOrder names.now }
     ensures { result ≡ list_any (λ u. is_quiet_by names.now (mirror u) at) uids.now }
@@ -156,7 +156,7 @@ pub(crate) fn is_any_quiet(names: &[Name], uids: &[Uid], at: usize) -> bool
     false
 }
 
-/// The place after which a UID is Quiet, by all names of it.
+/// The position after which a UID is Quiet, by all its names.
 pub(crate) fn first_quiet(own: &[Name]) -> usize
     ensures { (i : ℕ) → i ≤ NEVER
         → nat_lt result i ≡ list_any (λ n. nat_lt (quiet_of n) i) own.now }
@@ -168,8 +168,8 @@ pub(crate) fn first_quiet(own: &[Name]) -> usize
     first
 }
 
-/// The first place before `end` at which a UID was heard while it was Quiet; `end` where there is
-/// none. The names of one UID stand together.
+/// The first position before `end` at which a UID was heard while it was Quiet; `end` if there is
+/// none. The names of one UID are consecutive.
 pub(crate) fn first_quiet_reply(names: &[Name], end: usize) -> usize
     requires { AreInOrder names.now }
     ensures { IsFirstQuietReply names.now end result }

@@ -1,4 +1,4 @@
-//! Whether some population could have given a log, and what its open UIDs meet.
+//! Whether some population could have produced a log, and what its open UIDs meet.
 
 ghost use Rattle.std.specs.Prelude.{◌≡◌, ◌≤◌, ◌<◌, length, IfOk, MatchResult};
 ghost use Rattle.vic_tree.specs.OpenSet.{SameUids};
@@ -17,8 +17,8 @@ use vic_frame::Uid;
 use vic_log::{Entry, PackedLine};
 use vic_tree::OpenSet;
 
-/// The place of a line of a log, counted from 0, up to which no population could have given it.
-/// Earlier places may be such, too.
+/// The position of a line of a log, counted from 0, up to which no population could have produced
+/// it. There may be earlier such positions.
 #[derive(Clone, Copy)]
 pub struct Contradiction {
     pub at: usize,
@@ -28,11 +28,11 @@ pub struct Contradiction {
 /// The lines before a contradiction.
 #[derive(Clone, Copy)]
 pub enum Before {
-    /// Some population could have given them: it is the first contradiction.
+    /// Some population could have produced them: it is the first contradiction.
     ArePossible,
     /// Some population seems to fit them: no answer rests on it.
     SeemPossible,
-    /// Nothing is known of them.
+    /// Nothing is known about them.
     AreUnknown,
 }
 
@@ -56,8 +56,8 @@ fn rules_out(entry: &Entry) -> bool
     matches!(entry, Entry::Silent | Entry::Heard(_))
 }
 
-/// A place, from a given one on, behind which no line rules UIDs out: the open UIDs are the same
-/// from there. It is the first such place; no answer rests on that.
+/// A position, from a given one on, after which no line rules UIDs out, so that the open UIDs stay
+/// the same. It is the first such position; no answer rests on that.
 fn last_ruling(lines: &[PackedLine], from: usize) -> usize
     requires { from < length lines.now }
     ensures from { from ≤ result }
@@ -73,8 +73,8 @@ fn last_ruling(lines: &[PackedLine], from: usize) -> usize
     last
 }
 
-/// What the UIDs that a log leaves open meet of what its stretches ask for, if some population
-/// could have given it. Each UID that it heard is known to be Ready there, and in the mask of its
+/// What its stretches require, met by the UIDs that a log leaves open, if some population could
+/// have produced it. Each UID that it heard is known to be Ready there, and in the mask of its
 /// slot.
 fn meet_all<S: OpenSet>(
     alloc: Global,
@@ -111,7 +111,7 @@ fn meet_all<S: OpenSet>(
     }
 }
 
-/// The UIDs that a log leaves open, and what they meet, if some population could have given it.
+/// The UIDs that a log leaves open, and what they meet, if some population could have produced it.
 pub fn open_and_met<S: OpenSet>(
     alloc: Global,
     lines: &[PackedLine],

@@ -1,5 +1,5 @@
 //! One walk over a log, from field cycle to field cycle: which keys its silent and answered slots
-//! close, and what its other slots ask for.
+//! close, and what its other slots require.
 
 ghost use Rattle.std.specs.Prelude.{ℕ, ◌≡◌, ◌≢◌, ◌+◌, ◌^◌, ◌<◌, false, Bool, List, Some, IsTrue, IfSome, IfOk, OnOk, slice_get};
 ghost use Rattle.vic_frame.specs.LowBitsFirst.{IsBlock, is_in_some_block};
@@ -51,7 +51,7 @@ fn push_spot(
     Ok(())
 }
 
-/// Gathers whom a request silences.
+/// Gathers the UID that a request silences, if it silences one.
 fn note_sent(names: &mut Vec<Name>, request: &Request, index: usize) -> Result<(), AllocError>
     requires { index < 2 ^ 32 }
     ensures { OnOk result ((es : List EntryValue) (from : ℕ) (set : ℕ → Bool)
@@ -69,7 +69,7 @@ fn note_sent(names: &mut Vec<Name>, request: &Request, index: usize) -> Result<(
     }
 }
 
-/// Whether a key is one of a mask's: none is if the mask holds no UID.
+/// Whether a key is in a mask's block; none is if the mask holds no UID.
 fn is_in_some_block(keys: Option<KeyBlock>, key: u64) -> bool
     requires { IfSome keys (λ b. IsBlock b.first b.len) }
     ensures { result ≡ is_in_some_block keys key }
@@ -80,7 +80,7 @@ fn is_in_some_block(keys: Option<KeyBlock>, key: u64) -> bool
     }
 }
 
-/// Gathers what an entry other than a field cycle tells. Returns false, and gathers nothing, if the
+/// Gathers what an entry other than a field cycle says. Returns false, and gathers nothing, if the
 /// UID that it heard doesn't lie in the mask of its slot, or if tags answered in a mask that holds
 /// no UID.
 #[inline(always)]
@@ -125,20 +125,20 @@ fn note_entry(
     Ok(true)
 }
 
-/// What the lines of a log tell of the UIDs that it leaves open, up to a place.
+/// What the lines of a log, up to a position, say about the UIDs that it leaves open.
 #[derive(Drop)]
 pub(crate) struct Settled {
     /// The keys that its silent and answered slots close.
     pub closed: Vec<KeyRange>,
-    /// The stretches whose other slots ask for tags.
+    /// The stretches whose other slots require tags.
     pub stretches: Vec<Stretch>,
-    /// The end of the log, or the place of a line that couldn't be: a reply of a UID that couldn't
+    /// The end of the log, or the position of an impossible line: a reply of a UID that couldn't
     /// have answered, or tags in a mask that holds no UID.
     pub cut: usize,
 }
 
 impl Settled {
-    /// What was told up to `cut`.
+    /// What the lines up to `cut` say.
     fn new(closed: Vec<KeyRange>, stretches: Vec<Stretch>, cut: usize) -> Settled
         ensures { result ≡ record { closed = closed; stretches = stretches; cut = cut } }
     {
@@ -150,15 +150,15 @@ impl Settled {
     }
 }
 
-/// What the lines of a log tell of the UIDs that it leaves open: one walk, stretch by stretch.
+/// What the lines of a log say about the UIDs that it leaves open: one walk, stretch by stretch.
 pub(crate) fn settle(alloc: Global, lines: &[PackedLine]) -> Result<Settled, AllocError>
     requires { AreLogLines lines.now }
     ensures { IfOk result (IsSettled lines.now) }
 {
     let mut closed = Vec::new(alloc);
     let mut stretches = Vec::new(alloc);
-    // room at once for a name and a slot of each line: what grows step by step is copied. The first
-    // stretch that is kept takes the names with their room; those of later ones grow
+    // allocated once for a name and a slot of each line, since what grows step by step is copied.
+    // The first stretch that is kept takes the names with their capacity; those of later ones grow
     let mut names = Vec::with_capacity(alloc, lines.len())?;
     let mut spots = Vec::with_capacity(alloc, lines.len())?;
     let mut demands = Vec::new(alloc);
@@ -173,7 +173,7 @@ pub(crate) fn settle(alloc: Global, lines: &[PackedLine]) -> Result<Settled, All
             }
             spots.clear();
         } else {
-            // gives the place its bound: the numbers of lines rise, and are of 32 bits
+            // bounds the position: the numbers of lines rise, and have 32 bits
             let _number = line.number();
             if !note_entry(&mut names, &mut spots, &mut demands, &cursor, index, &entry)? {
                 let cut = settle_stretch(&mut closed, &mut names, &mut spots, index)?;

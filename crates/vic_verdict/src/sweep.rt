@@ -1,8 +1,8 @@
 //! What the slots between two field cycles leave open, mask by mask.
 //!
-//! The UIDs that the lines there name are kept in the order of their low bits, where those of a
-//! mask stand together. Each mask is looked at once, whatever number of slots it had: for each name
-//! in it, and no other UID. A UID without a name is ruled out where it lies in any of the masks.
+//! The UIDs that the lines there name are kept in the order of their low bits, in which those of a
+//! mask are consecutive. Each mask is looked at once, however many slots it had: for each name in
+//! it, and no other UID. A UID without a name is ruled out if it lies in any of the masks.
 
 ghost use Rattle.std.specs.Prelude.{◌≡◌, ◌<◌, ℕ, nat_lt, ◌&&◌, true};
 ghost use Rattle.std.specs.Prelude.{Some, IfSome, IfOk, OnOk};
@@ -19,8 +19,8 @@ use crate::names::{Name, first_quiet_reply, start_near};
 use std::alloc::AllocError;
 use vic_tree::KeyRange;
 
-/// The slots of one mask: the place of the first one, whom it heard, if anybody, and the place of
-/// the first one that is otherwise: it heard another, or one of the two heard nobody.
+/// The slots of one mask: the position of the first one, the UID that it heard, if any, and the
+/// position of the first one that differs: it heard another UID, or only one of the two heard one.
 #[derive(Clone, Copy)]
 pub(crate) struct Level {
     pub at: usize,
@@ -41,7 +41,7 @@ impl Level {
         }
     }
 
-    /// With one slot more. Those of a mask come in any order.
+    /// With one more slot. Those of a mask come in any order.
     pub(crate) fn with(&self, at: usize, heard: Option<u64>) -> Level
         requires { IsLevel self.now }
         ensures level { IsLevel result }
@@ -73,7 +73,7 @@ impl Level {
         }
     }
 
-    /// Whether a key is left whose UID is Quiet after a place.
+    /// Whether a key is left whose UID is Quiet after a position.
     pub(crate) fn leaves(&self, key: u64, quiet: usize) -> bool
         ensures { result ≡ level_leaves self.now key quiet }
     {
@@ -99,7 +99,7 @@ pub(crate) struct Run {
 }
 
 /// Rules out those names from key `first` to `last` that a level doesn't leave. Returns the index
-/// of the first name from key `first` on, near which that of the next mask may stand.
+/// of the first name from key `first` on, near which that of the next mask may be.
 fn rule_out(names: &mut [Name], near: usize, first: u64, last: u64, level: &Level) -> usize
     requires { AreInOrder names.old }
     ensures { names.new ≡ keep_all (mask_leaves first last level.now) names.old }
@@ -115,8 +115,8 @@ fn rule_out(names: &mut [Name], near: usize, first: u64, last: u64, level: &Leve
     start
 }
 
-/// Adds a slot to a run of the same mask; else the names that the run doesn't leave are ruled out,
-/// and a new one begins.
+/// Adds a slot to a run of the same mask; otherwise rules out the names that the run doesn't leave,
+/// and begins a new one.
 fn pass_spot(names: &mut [Name], run: Option<Run>, spot: &Spot) -> Run
     requires order { AreInOrder names.old }
     requires level { IfSome run (λ r. IsLevel r.level) }
@@ -162,7 +162,7 @@ fn rule_out_all(names: &mut [Name], spots: &[Spot])
     }
 }
 
-/// Drops the slots that don't come before a cut. All come before `end`: where that is the cut, all
+/// Drops the slots that don't come before a cut. All come before `end`: if that is the cut, all
 /// stay.
 fn cut_spots(spots: &mut Vec<Spot>, cut: usize, end: usize)
     requires { All (λ (s : SpotValue). s.at < end) spots.old.items }
@@ -173,10 +173,10 @@ fn cut_spots(spots: &mut Vec<Spot>, cut: usize, end: usize)
     }
 }
 
-/// Settles what the silent and answered slots of some lines tell, by the UIDs that these lines
-/// name: closes the keys that are ruled out by the slots before the first reply of a Quiet UID.
-/// Returns the place of that reply; `end`, behind all these lines, where there is none. The names
-/// are in order then, and the slots from that place on are dropped.
+/// Settles what the silent and answered slots of some lines say, by the UIDs that these lines name:
+/// closes the keys that are ruled out by the slots before the first reply of a Quiet UID. Returns
+/// the position of that reply, or `end`, after all these lines, if there is none. Afterwards the
+/// names are in order, and the slots from that position on are dropped.
 pub(crate) fn settle_stretch(
     closed: &mut Vec<KeyRange>,
     names: &mut Vec<Name>,
@@ -196,7 +196,7 @@ pub(crate) fn settle_stretch(
     names.sort_unstable_by_key(|name| name.key);
     let cut = first_quiet_reply(names, end);
     cut_spots(spots, cut, end);
-    // Those of one mask together, and outer masks before inner ones.
+    // Those of one mask are then consecutive, with outer masks before inner ones.
     spots.sort_unstable_by_key(|spot| spot.mask);
     rule_out_all(names, spots);
     // at most one range for each slot, and one more for each name: a name divides a range in two

@@ -1,4 +1,4 @@
-//! The UIDs that a log lists, and those that every population that could have given it has.
+//! The UIDs that a log lists, and those in every population that could have produced it.
 
 ghost use Rattle.std.specs.Prelude.{◌≡◌, ℕ, ◌≤◌, List, IfOk, OnOk, length, true, [], ◌∷◌, ◌++◌};
 ghost use Rattle.std.specs.List.Sorted.{IsStrictlyIncreasing};
@@ -36,7 +36,7 @@ fn pass_listed(uids: &mut Vec<Uid>, entry: &Entry) -> Result<(), AllocError>
         → has (listed (entry.now ∷ [])) u ≡ true → IsUid u) }
 {
     if let Entry::Listed(uid) = *entry {
-        // gives the clause `uids` that its number is a UID's
+        // for the clause `uids`: its number is that of a UID
         let _number = uid.number();
         uids.push(uid)?;
     }
@@ -50,7 +50,7 @@ pub fn count_listed(lines: &[PackedLine]) -> u32
 {
     let mut count = 0;
     for line in lines {
-        // gives the count its bound: the numbers of lines rise, and are of 32 bits
+        // bounds the count: the numbers of lines rise, and have 32 bits
         let _number = line.number();
         count += count_one(&line.item());
     }
@@ -74,7 +74,7 @@ fn count_one(entry: &Entry) -> u32
 }
 
 /// The UIDs that the slots of a possible log force, in rising order: those that were heard, and
-/// those that meet a slot where they are exactly as many as it asks for.
+/// those that meet a slot that requires exactly that many.
 pub fn certain_uids(alloc: Global, met: &Met) -> Result<Vec<Uid>, AllocError>
     ensures rising { IfOk result (λ v. IsStrictlyIncreasing v.items) }
     ensures certain { IfOk result (λ v. (es : List EntryValue) → IsMet es met.now
@@ -89,7 +89,7 @@ pub fn certain_uids(alloc: Global, met: &Met) -> Result<Vec<Uid>, AllocError>
     Ok(certain)
 }
 
-/// Adds UIDs where they are this many.
+/// Adds UIDs if there are exactly this many.
 fn add_if_exactly(certain: &mut Vec<Uid>, uids: &[Uid], count: usize) -> Result<(), AllocError>
     ensures { OnOk result (Adds (λ u. (length uids.now ≡ count) × (has uids.now u ≡ true))
         certain.old.items certain.new.items) }

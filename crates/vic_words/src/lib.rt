@@ -1,11 +1,11 @@
-//! What the program's words ask for.
+//! What a command line asks for.
 #![tactic(auto)]
 
 use clap::error::ErrorKind;
 use clap::{Arg, ArgAction, ArgMatches, Command, Error};
 use std::alloc::{AllocError, Global};
 
-/// What the program is asked to do. A file is named as it was given; without one it is standard
+/// What the program is asked to do. A file has the name that was given; without one it is standard
 /// input.
 #[derive(Debug, Drop)]
 pub enum Task {
@@ -15,7 +15,7 @@ pub enum Task {
     Simulate(Option<String>),
     /// To judge a log and show a population behind the verdict.
     Explain(Option<String>),
-    /// To judge a log and show all that it tells against its list, with the lines that tell it.
+    /// To judge a log and show every finding, with its lines.
     Report(Option<String>),
     /// To read one frame, given in hex digits.
     Frame(String),
@@ -24,7 +24,7 @@ pub enum Task {
 }
 
 impl Task {
-    /// The file that it reads, where one is named.
+    /// The file that it reads, if one is named.
     pub fn file(&self) -> Option<&str> {
         match self {
             Task::Check(file) | Task::Simulate(file) | Task::Explain(file) | Task::Report(file) =>
@@ -34,12 +34,12 @@ impl Task {
     }
 }
 
-/// Why the words ask for nothing.
+/// Why the words don't name a task.
 #[derive(Clone, Copy, Debug, Drop, PartialEq, Eq)]
 pub enum WordsFault {
     /// They aren't a command with its operand.
     Usage,
-    /// There was no memory to read them.
+    /// Memory to read them was refused.
     Memory,
 }
 
@@ -71,7 +71,7 @@ fn with_operand<'a>(
     Command::new(alloc, name).arg(operand)
 }
 
-/// A command with words as they come, one at least, `-` among them.
+/// A command with one or more words, taken as they are; `-` may be among them.
 fn with_words<'a>(alloc: Global, name: &'a str) -> Result<Command<'a>, AllocError> {
     let words = Arg::new(alloc, "words")
         .required(true)
@@ -91,7 +91,7 @@ const WITH_OPERAND: [(&str, &str, bool); 5] = [
     ("frame", "hex", true),
 ];
 
-/// A command with one command more below it.
+/// A command with one more subcommand.
 fn with_command<'a>(
     above: Command<'a>,
     command: Result<Command<'a>, AllocError>,
@@ -148,7 +148,7 @@ fn asked(alloc: Global, name: &str, given: &ArgMatches<'_>) -> Result<Task, Word
     }
 }
 
-/// What the program's words ask for, the first of them being its name.
+/// What a command line asks for. The first word is the program's name.
 pub fn read_words(alloc: Global, words: Vec<String>) -> Result<Task, WordsFault> {
     let matches = commands(alloc)?.try_get_matches_from(words.as_slice())?;
     match matches.subcommand() {

@@ -21,7 +21,7 @@ IsWritten text status written written' result =
     × HasWrittenPrefix written written' text
 
 -- what a task does, over the bytes that the source's reads returned, until one returned none, and
--- that the sink's writes took
+-- that the sink's writes accepted
 abbrev pub Does : Task → List ℕ → List ℕ → Bool → List ℕ → List ℕ → Result Status RunFault → Type 0
 Does (Check file) read read' ended written written' result =
     RunsOver IsCheckOf read read' ended written written' result

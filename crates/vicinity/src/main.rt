@@ -14,7 +14,7 @@ use vic_words::{Task, WordsFault, read_words};
 /// The exit status of a run that has no answer.
 const NO_ANSWER: u8 = 4;
 
-/// The program's words, its name first.
+/// The words of the command line, the program's name first.
 fn given_words(rt: &HostRuntime) -> Result<Vec<String>, WordsFault> {
     match env::args(rt) {
         Ok(words) => Ok(words.collect(rt.alloc())?),
@@ -25,14 +25,14 @@ fn given_words(rt: &HostRuntime) -> Result<Vec<String>, WordsFault> {
     }
 }
 
-/// Says on standard error why there is no answer. Where that can't be said, the exit status is
-/// the same.
+/// Says on standard error why there is no answer. If that can't be written, the exit status is the
+/// same.
 fn no_answer(rt: &HostRuntime, why: &str) -> ExitCode {
     let _ = eprintln!(rt; "{why}");
     ExitCode::from(NO_ANSWER)
 }
 
-/// Ends as a run has ended.
+/// Ends the program as a run ended.
 fn end(rt: &HostRuntime, answer: Result<Status, RunFault>) -> ExitCode {
     match answer {
         Ok(status) => ExitCode::from(status.code()),
@@ -40,7 +40,7 @@ fn end(rt: &HostRuntime, answer: Result<Status, RunFault>) -> ExitCode {
     }
 }
 
-/// Does a task over the file that it names, or over standard input where it names none.
+/// Does a task over the file that it names, or over standard input if it names none.
 fn run(rt: &HostRuntime, task: &Task) -> ExitCode {
     let mut sink = ToWrite::new(rt.stdout());
     let Some(file) = task.file() else {

@@ -9,7 +9,7 @@ use vic_answer::{
 use vic_log::{Sink, Source};
 use vic_words::Task;
 
-/// Does a task from a source, which `frame` and `spell` leave alone, to a sink.
+/// Does a task from a source, which `frame` and `spell` don't read, to a sink.
 pub fn do_task<R: Source, W: Sink>(
     alloc: Global,
     task: &Task,

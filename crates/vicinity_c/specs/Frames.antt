@@ -18,7 +18,7 @@ framed bytes = record {
   bytes = bytes ++ replicate (FRAME_ROOM - length bytes) 0;
 }
 
--- none, and why
+-- no frame, and why
 abbrev pub no_frame : ℕ → VicinityFrame
 no_frame fault = record { fault = fault; len = 0; bytes = replicate FRAME_ROOM 0 }
 
@@ -32,7 +32,8 @@ abbrev pub stay_quiet_frame : (link uid : ℕ) → VicinityFrame
 stay_quiet_frame link uid =
     if nat_lt 3 link then no_frame WRONG_LINK else framed (request_spelling (StayQuiet link uid))
 
--- a reply's flags and DSFID are bytes, and Error_flag, the lowest bit, is 0; its UID begins E0
+-- the frame of a reply: its flags and DSFID are bytes, Error_flag, the lowest bit, is 0, and its
+-- UID begins E0
 abbrev pub reply_frame : (flags dsfid uid : ℕ) → VicinityFrame
 reply_frame flags dsfid uid =
     if nat_lt flags 256 && nat_lt dsfid 256 && flags % 2 == 0 && is_uid uid

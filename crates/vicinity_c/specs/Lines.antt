@@ -16,7 +16,7 @@ lined text = record {
   text = text ++ replicate (LINE_ROOM - length text) 0;
 }
 
--- none, and why
+-- no line, and why
 abbrev pub no_line : ℕ → VicinityLine
 no_line fault = record { fault = fault; len = 0; text = replicate LINE_ROOM 0 }
 

@@ -7,7 +7,7 @@ use Rattle.vicinity_c.specs.declared.names.VicinityName.{VicinityName}
 abbrev pub named : List ℕ → VicinityName
 named name = record { len = length name; text = name ++ replicate (NAME_ROOM - length name) 0 }
 
--- the word that the line of an answer begins with; none where there is no answer
+-- the word that the line of an answer begins with; none if there is no answer
 abbrev pub kind_name : ℕ → List ℕ
 kind_name kind =
     if kind == 1 then codes "complete"
@@ -19,7 +19,7 @@ kind_name kind =
     else if kind == 7 then codes "refused"
     else []
 
--- of a line's fault
+-- the name of a line's fault
 abbrev pub line_fault_name : ℕ → List ℕ
 line_fault_name fault =
     if fault == 1 then codes "TooManyLines"
@@ -34,7 +34,7 @@ line_fault_name fault =
     else if fault == 10 then codes "DuplicateListed"
     else []
 
--- of a frame's fault
+-- the name of a frame's fault
 abbrev pub frame_fault_name : ℕ → List ℕ
 frame_fault_name fault =
     if fault == 101 then codes "Short"
@@ -54,7 +54,7 @@ frame_fault_name fault =
     else if fault == 115 then codes "NotVicinity"
     else []
 
--- of a number's, that no frame, mask or line is written of
+-- the name of a refusal of numbers, for which no frame, mask or line is written
 abbrev pub refusal_name : ℕ → List ℕ
 refusal_name fault =
     if fault == 201 then codes "WrongLink"
@@ -66,6 +66,6 @@ refusal_name fault =
     else if fault == 207 then codes "WrongLetter"
     else []
 
--- no number is of two of these
+-- the name of a fault; no number has two of these names
 abbrev pub fault_name : ℕ → List ℕ
 fault_name fault = line_fault_name fault ++ frame_fault_name fault ++ refusal_name fault

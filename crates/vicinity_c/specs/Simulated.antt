@@ -1,12 +1,12 @@
--- The text of a log with its slots filled in, in a caller's room.
+-- The text of a log with its slots filled in, in a caller's buffer.
 use Rattle.std.specs.Prelude.{◌≡◌, ℕ, List, length}
 use Rattle.vic_answer.specs.declared.status.Status.{Status}
 use Rattle.vic_answer.specs.ExplainedNumbers.{IsPutInto}
 use Rattle.vic_answer.specs.SimulateText.{IsSimulationOf}
 use Rattle.vic_answer.specs.Status.{status_code}
 
--- this is the status of what `simulate` answers to a text, so many bytes has the answer, and this
--- is what becomes of the room for it
+-- this is the status of what `simulate` answers to a text, the answer has `count` bytes, and this
+-- is what becomes of the buffer for it
 pub record IsSimulatedInto (text : List ℕ) (code count : ℕ) (room room' : List ℕ) : Type 0 where
   pub answer : List ℕ
   pub status : Status

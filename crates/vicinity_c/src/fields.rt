@@ -7,14 +7,14 @@ ghost use Rattle.vicinity_c.specs.Fields as spec;
 use vic_answer::frame_fault_number;
 use vic_frame::{FrameFault, Request, Response, read_request, read_response};
 
-/// The fields of a request, or why bytes are none; then the others are 0.
+/// The fields of a request, or why bytes aren't a request; then the others are 0.
 #[repr(C)]
 #[derive(Clone, Copy, Debug, PartialEq, Eq)]
 pub struct VicinityRequest {
     /// 0, or the frame's fault.
     pub fault: u32,
     pub link: u32,
-    /// 1 or 16 of an Inventory request, 0 of a Stay Quiet request.
+    /// 1 or 16 for an Inventory request, 0 for a Stay Quiet request.
     pub slots: u32,
     pub mask_len: u32,
     pub mask_value: u64,
@@ -22,7 +22,7 @@ pub struct VicinityRequest {
     pub uid: u64,
 }
 
-/// The fields of a reply, or why bytes are none; then the others are 0.
+/// The fields of a reply, or why bytes aren't a reply; then the others are 0.
 #[repr(C)]
 #[derive(Clone, Copy, Debug, PartialEq, Eq)]
 pub struct VicinityReply {
@@ -33,7 +33,7 @@ pub struct VicinityReply {
     pub uid: u64,
 }
 
-/// Reads the frame of a request. The result is its fault, 0 where there is none.
+/// Reads the frame of a request. The result is its fault, 0 if there is none.
 #[unsafe(no_mangle)]
 pub extern "C" fn vicinity_read_request(bytes: &[u8], request: &mut VicinityRequest) -> u32
     ensures request { request.new ≡ spec.request_fields (request_reading bytes.now) }
@@ -43,7 +43,7 @@ pub extern "C" fn vicinity_read_request(bytes: &[u8], request: &mut VicinityRequ
     request.fault
 }
 
-/// Reads the frame of a reply. The result is its fault, 0 where there is none.
+/// Reads the frame of a reply. The result is its fault, 0 if there is none.
 #[unsafe(no_mangle)]
 pub extern "C" fn vicinity_read_response(bytes: &[u8], reply: &mut VicinityReply) -> u32
     ensures reply { reply.new ≡ spec.reply_fields (reply_reading bytes.now) }

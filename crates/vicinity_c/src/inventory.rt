@@ -16,7 +16,7 @@ pub const WRONG_SLOTS: u32 = 202;
 /// The fault of a mask that is longer than its request allows, or whose value is longer than it.
 pub const WRONG_MASK: u32 = 203;
 
-/// The fault of a slot that a request hasn't.
+/// The fault of a slot that a request doesn't have.
 pub const WRONG_SLOT: u32 = 204;
 
 /// A mask, or why there is none; then the others are 0.
@@ -29,8 +29,8 @@ pub struct VicinityMask {
     pub value: u64,
 }
 
-/// Gives the mask of a slot, counted from 0, of an Inventory request with these slots and this
-/// mask: the UIDs in it answer there. The result is the fault, 0 where there is none: that of the
+/// Returns the mask of a slot, counted from 0, of an Inventory request with these slots and this
+/// mask: the UIDs in it answer there. The result is the fault, 0 if there is none: that of the
 /// request, or `slot` isn't below `slots`.
 #[unsafe(no_mangle)]
 pub extern "C" fn vicinity_slot_mask(
@@ -50,7 +50,7 @@ pub extern "C" fn vicinity_slot_mask(
     mask.fault
 }
 
-/// The Inventory request of some numbers, or their fault.
+/// The Inventory request with some numbers, or their fault.
 pub(crate) fn inventory(link: u32, slots: u32, len: u32, value: u64) -> Result<Request, u32>
     ensures { MatchResult result
         (λ q. (spec.inventory_fault link slots len value ≡ 0) × IsValid q

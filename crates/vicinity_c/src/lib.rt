@@ -1,4 +1,5 @@
-//! The checker for C, and for what calls C: the text of a log in, an answer in numbers out.
+//! The checker for C, and for languages that call C: the text of a log in, an answer in numbers
+//! out.
 #![tactic(auto)]
 
 ghost use Rattle.std.specs.Prelude.{◌≡◌, ◌≢◌, ◌++◌};
@@ -26,8 +27,8 @@ use vic_answer::{
     NO_ANSWER, VicinityAnswer, answer_of, explain_text, judge_text, numbers_of, put_population,
 };
 
-/// The number of this interface: it changes where the struct, a number or the meaning of a call
-/// does, not where a call is added.
+/// The number of this interface: it changes if a struct, a number or the meaning of a call changes,
+/// not if a call is added.
 #[unsafe(no_mangle)]
 pub extern "C" fn vicinity_interface() -> u32
     ensures { result ≡ 1 }
@@ -35,7 +36,7 @@ pub extern "C" fn vicinity_interface() -> u32
     1
 }
 
-/// The version of this library: its first number times 10,000, its second times 100, and its third.
+/// The version of this library: 10,000 times its first number, 100 times its second, and its third.
 #[unsafe(no_mangle)]
 pub extern "C" fn vicinity_version() -> u32
     ensures { result ≡ 10001 }
@@ -43,12 +44,12 @@ pub extern "C" fn vicinity_version() -> u32
     10_001
 }
 
-/// Judges the log that a text spells, and writes the answer in numbers. The result is its status,
-/// with which the program `vicinity check` would end.
+/// Judges the log that a text spells, and writes the answer in numbers. The result is its status:
+/// the exit status of the program `vicinity check`.
 ///
-/// Where the answer's kind is 1, `complete`, the text has a log, some population of tags could have
-/// given it, and every population that could has exactly the listed UIDs, `count` many. Where it is
-/// 0 there is no answer, since memory was refused; what the struct held before is gone.
+/// If the answer's kind is 1, `complete`, the text has a log, some population of tags could have
+/// produced it, and every population that could has exactly the `count` listed UIDs. If it is 0,
+/// there is no answer, since memory was refused; what the struct held before is gone.
 #[unsafe(no_mangle)]
 pub extern "C" fn vicinity_check(alloc: Global, text: &[u8], answer: &mut VicinityAnswer) -> u32
     ensures answer { answer.new.kind ≢ 0 → AreNumbersFor text.now answer.new }
@@ -63,10 +64,10 @@ pub extern "C" fn vicinity_check(alloc: Global, text: &[u8], answer: &mut Vicini
     answer.status
 }
 
-/// Judges the log that a text spells, as `vicinity_check`, and hands over the population that
-/// `vicinity explain` shows: `needed` is how many UIDs it has, 0 where there is none. Where the
-/// room for it has so many places, they stand at its front, in rising order; else it is as it was,
-/// and the same call with `needed` places gives them.
+/// Judges the log that a text spells, as `vicinity_check` does, and returns the population that
+/// `vicinity explain` shows: `needed` is how many UIDs it has, 0 if there is none. If they fit into
+/// the buffer, they are at its start, in rising order; otherwise it is unchanged, and the same call
+/// with a buffer of `needed` elements returns them.
 #[unsafe(no_mangle)]
 pub extern "C" fn vicinity_explain(
     alloc: Global,
@@ -95,9 +96,9 @@ pub extern "C" fn vicinity_explain(
     numbers.status
 }
 
-/// Judges the log of a text with a list of UIDs after it, in any order: what `vicinity_check`
-/// answers to the text with a line `U` for each UID after it. So the text has no `U` line of its
-/// own, and its last line ends with LF.
+/// Judges the log of a text with a list of UIDs after it, in any order: the answer of
+/// `vicinity_check` to the text with a line `U` for each UID after it. So the text has no `U` line
+/// of its own, and its last line ends with LF.
 #[unsafe(no_mangle)]
 pub extern "C" fn vicinity_check_listed(
     alloc: Global,

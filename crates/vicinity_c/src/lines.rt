@@ -9,10 +9,10 @@ use arrayvec::ArrayVec;
 use std::alloc::{AllocError, Global};
 use vic_log::{MAX_LINE_LEN, push_hex};
 
-/// The room for a line, its LF and a zero.
+/// The size of the buffer for a line, its LF and a zero.
 pub const LINE_ROOM: usize = 132;
 
-/// The fault of a letter that no line begins with.
+/// The fault of a letter with which no line begins.
 pub const WRONG_LETTER: u32 = 207;
 
 /// A line, or why there is none; then `len` and `text` are 0.
@@ -26,10 +26,10 @@ pub struct VicinityLine {
     pub text: [u8; LINE_ROOM],
 }
 
-/// Writes one line of a log's text, LF included: `letter` and `bytes` of a frame that was sent, T,
-/// or heard, R; U and `uid` of a UID that is listed; S, C, D or F alone of a slot that was silent,
-/// had a collision or was garbled, and of a field cycle. What the letter does not speak of isn't
-/// looked at, and the bytes aren't judged. The result is the fault, 0 where there is none: the
+/// Writes one line of a log's text, LF included: `letter` and `bytes` for a frame that was sent (T)
+/// or heard (R); U and `uid` for a listed UID; only the letter for a slot that was silent (S), had
+/// a collision (C) or was garbled (D), and for a field cycle (F). What the letter doesn't need
+/// isn't looked at, and the bytes aren't judged. The result is the fault, 0 if there is none: the
 /// letter is another one, or there are more than 63 bytes.
 #[unsafe(no_mangle)]
 pub extern "C" fn vicinity_write_line(

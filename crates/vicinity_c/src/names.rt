@@ -6,10 +6,10 @@ ghost use Rattle.vic_log.specs.declared.fault.LineFault.{LineFault};
 ghost use Rattle.vic_answer.specs.FaultNumbers.{fault_number};
 ghost use Rattle.vicinity_c.specs.Names as spec;
 
-/// The room for a name and a zero.
+/// The size of the buffer for a name and a zero.
 pub const NAME_ROOM: usize = 28;
 
-/// A name, of no length where a number has none.
+/// A name, with length 0 if a number has none.
 #[repr(C)]
 #[derive(Clone, Copy, Debug, PartialEq, Eq)]
 pub struct VicinityName {
@@ -18,8 +18,8 @@ pub struct VicinityName {
     pub text: [u8; NAME_ROOM],
 }
 
-/// The word that the line of an answer of this kind begins with: none of 0, and of 8 and above. The
-/// result is its length.
+/// The word that the line of an answer of this kind begins with: none for 0, and for 8 and above.
+/// The result is its length.
 #[unsafe(no_mangle)]
 pub extern "C" fn vicinity_kind_name(kind: u32, name: &mut VicinityName) -> u32
     ensures name { name.new ≡ spec.named (spec.kind_name kind) }
@@ -30,7 +30,7 @@ pub extern "C" fn vicinity_kind_name(kind: u32, name: &mut VicinityName) -> u32
 }
 
 /// The name of a line's fault, of a frame's, or of a refusal, as `vicinity check` and `vicinity
-/// frame` write the first two; none of another number. The result is its length.
+/// frame` write the first two; none for another number. The result is its length.
 #[unsafe(no_mangle)]
 pub extern "C" fn vicinity_fault_name(fault: u32, name: &mut VicinityName) -> u32
     ensures name { name.new ≡ spec.named (spec.fault_name fault) }
@@ -137,7 +137,7 @@ fn refusal_name(fault: u32) -> &'static str
     }
 }
 
-/// A fault has the name that it is displayed by, under its number.
+/// By its number, a fault has the name that it is displayed as.
 pub fn each_fault_has_its_name()
     ensures { (f : LineFault) → spec.fault_name (fault_number f) ≡ log.line_fault_name f }
 {}

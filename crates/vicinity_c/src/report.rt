@@ -1,4 +1,4 @@
-//! All that the log of a text tells against its list, in numbers.
+//! The findings of the log of a text, in numbers.
 
 ghost use Rattle.std.specs.Prelude.{◌≡◌, ◌≢◌, ◌++◌};
 ghost use Rattle.vic_log.specs.Writing.{listed_text};
@@ -13,11 +13,10 @@ use vic_answer::{
     reported_answer,
 };
 
-/// Judges the log that a text spells, as `vicinity_check`, and hands over all that the log tells
-/// against its list: the lines that `vicinity report` writes, as findings in the same order.
-/// `needed` is how many they are; there is none where the answer is complete or a refusal. Where
-/// the room for them has so many places, they stand at its front; else it is as it was, and the
-/// same call with `needed` places gives them.
+/// Judges the log that a text spells, as `vicinity_check` does, and returns every finding: the
+/// lines that `vicinity report` writes, in the same order. `needed` is how many there are: none if
+/// the answer is complete or a refusal. If they fit into the buffer, they are at its start;
+/// otherwise it is unchanged, and the same call with a buffer of `needed` elements returns them.
 #[unsafe(no_mangle)]
 pub extern "C" fn vicinity_report(
     alloc: Global,
@@ -77,7 +76,7 @@ pub extern "C" fn vicinity_report_listed(
     }
 }
 
-/// Gives no answer and no findings: memory was refused.
+/// Returns no answer and no findings: memory was refused.
 fn refuse(answer: &mut VicinityAnswer, needed: &mut usize) -> u32
     ensures answer { answer.new ≡ no_answer }
     ensures needed { needed.new ≡ 0 }

@@ -8,10 +8,10 @@ use std::alloc::Global;
 use vic_answer::{NO_ANSWER, simulate_text};
 
 /// Fills in the slots of the log that a text spells, as the tags that it lists would answer, and
-/// hands over what `vicinity simulate` writes: the log's text, or the line of a refusal. `needed`
-/// is how many bytes it has. Where the room for it has so many places, they stand at its front;
-/// else it is as it was, and the same call with `needed` places gives them. The result is the
-/// program's status, 0 or 3; or 4 where memory was refused, with nothing handed over.
+/// returns what `vicinity simulate` writes: the log's text, or the line of a refusal. `needed` is
+/// how many bytes it has. If they fit into the buffer, they are at its start; otherwise it is
+/// unchanged, and the same call with a buffer of `needed` bytes returns them. The result is the
+/// program's status, 0 or 3; or 4 if memory was refused, and then nothing is returned.
 #[unsafe(no_mangle)]
 pub extern "C" fn vicinity_simulate(
     alloc: Global,
@@ -31,7 +31,7 @@ pub extern "C" fn vicinity_simulate(
     u32::from(simulation.status.code())
 }
 
-/// Puts bytes at the front of a room, where it has enough room, and gives how many they are.
+/// Puts bytes at the start of a buffer, if they fit, and returns how many there are.
 fn put_bytes(bytes: &[u8], room: &mut [u8]) -> usize
     ensures count { result ≡ length bytes.now }
     ensures put { IsPutInto bytes.now room.old room.new }
