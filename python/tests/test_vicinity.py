@@ -94,8 +94,8 @@ class Frames(unittest.TestCase):
                 (vicinity.write_response, (1, 0, A), "WrongReply"), (vicinity.add_crc, (bytes(15),), "TooLong"),
                 (vicinity.write_line, ("T", bytes(64)), "TooLong"), (vicinity.write_line, ("X",), "WrongLetter"),
                 (vicinity.slot_mask, (1, of(0, 0), 1), "WrongSlot"),
-                (vicinity.write_inventory, (1 << 32, 1), f"{1 << 32} is no number of 32 bits"),
-                (vicinity.write_stay_quiet, (0, -1), "-1 is no number of 64 bits")):
+                (vicinity.write_inventory, (1 << 32, 1), f"{1 << 32} isn't a number of 32 bits"),
+                (vicinity.write_stay_quiet, (0, -1), "-1 isn't a number of 64 bits")):
             with self.subTest(word), self.assertRaises(ValueError) as raised:
                 call(*given)
             self.assertEqual(str(raised.exception), word)

@@ -5,8 +5,8 @@
     >>> answer.is_complete, answer.count
     (True, 0)
 
-The log text and the answers are those of the program `vicinity`. The answers come from the shared library
-libvicinity.so.1: nothing is judged in Python. It is loaded at the first call; LIBVICINITY may name its file.
+The log text and the answers are the same as for the program `vicinity`. The answers come from the shared library
+libvicinity.so.1: nothing is judged in Python. It is loaded on the first call; LIBVICINITY may name its file.
 
 `python3 -m vicinity FILE ..` answers for many files in one process; `python3 -m vicinity show LOG` and `page LOG` draw one.
 """

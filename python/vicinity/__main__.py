@@ -1,9 +1,9 @@
-"""The commands of the package:  python3 -m vicinity --help  tells them.
+"""The commands of the package:  python3 -m vicinity --help  explains them.
 
     python3 -m vicinity [--tabs | --json] FILE ..     an answer for each of many logs, in one process
     python3 -m vicinity show [--ascii] LOG            the rounds of a log, drawn for a terminal
     python3 -m vicinity page LOG                      the same as one HTML file, on standard output
-    python3 -m vicinity report [--json] LOG ..        all that is found in logs, as FILE:LINE: text or as objects
+    python3 -m vicinity report [--json] LOG ..        every finding of some logs, as FILE:LINE: text or as objects
 """
 from __future__ import annotations
 
@@ -22,16 +22,16 @@ USAGE = """python3 -m vicinity [--tabs | --json] FILE ..
        python3 -m vicinity page LOG
        python3 -m vicinity report [--lines | --json] LOG .."""
 COMMANDS = """\
-FILE ..     says of each log whether its list is complete, a line for each
-show LOG    draws the rounds of a log for a terminal, and says all that it tells
+FILE ..     prints for each log whether its list is complete, one line each
+show LOG    draws the rounds of a log for a terminal, and prints every finding
 page LOG    writes the same as one HTML file
-report ..   tells all that is found in each log, a line FILE:LINE: text for each
+report ..   prints every finding of each log, as lines FILE:LINE: text
 
-- is standard input. A log that is named show, page or report is ./show and so on."""
+- is standard input. For a log named show, page or report, write ./show and so on."""
 STATUSES = """\
-The status is the worst of all: 0 complete, 1 a 'no', 2 impossible, 3 refused,
-4 no answer. What has no answer is told on standard error, and the files after
-it are judged."""
+The exit status is the worst of all: 0 complete, 1 not complete, 2 impossible,
+3 refused, 4 no answer. Standard error says why there is no answer; the files
+after that one are still judged."""
 
 
 def judge(name: str) -> Union[Answer, str]:
@@ -45,7 +45,7 @@ def judge(name: str) -> Union[Answer, str]:
 
 
 def fields(answer: Answer) -> dict[str, object]:
-    """What an answer says, in words and numbers."""
+    """The fields of an answer, as words and numbers."""
     told: dict[str, object] = {"status": answer.status, "kind": answer.kind.word}
     if answer.kind is Kind.COMPLETE:
         told["count"] = answer.count
@@ -80,18 +80,18 @@ def words() -> Words:
                    formatter_class=argparse.RawDescriptionHelpFormatter)
     form = parser.add_mutually_exclusive_group()
     form.add_argument("--tabs", dest="form", action="store_const", const=as_tabs,
-                      help="with FILE ..: lines of file, status and answer, with tabs between")
+                      help="with FILE ..: file, status and answer, separated by tabs")
     form.add_argument("--json", dest="form", action="store_const", const=as_json,
-                      help="an object a line: file, status, kind, and what the kind speaks of; with report also what is found")
-    form.add_argument("--lines", action="store_true", help="with report: FILE:LINE: text, as compilers write (the default)")
-    form.add_argument("--ascii", action="store_true", help="with show: no sign outside ASCII")
+                      help="one object per line: file, status, kind and the fields of the kind; with report also the findings")
+    form.add_argument("--lines", action="store_true", help="with report: FILE:LINE: text, like a compiler (the default)")
+    form.add_argument("--ascii", action="store_true", help="with show: only ASCII characters")
     parser.add_argument("--version", action="version", version=__version__)
     parser.add_argument("names", metavar="FILE", nargs="+", help=argparse.SUPPRESS)
     return parser
 
 
 def judge_all(names: list[str], form: Callable[[str, Union[Answer, str]], str]) -> int:
-    """Writes a line for each file, and gives the worst status."""
+    """Writes a line for each file, and returns the worst status."""
     library()
     worst = 0
     for name in names:
@@ -102,8 +102,8 @@ def judge_all(names: list[str], form: Callable[[str, Union[Answer, str]], str]) 
 
 
 def report_all(names: list[str], is_json: bool) -> int:
-    """Writes all that is found in each file, and gives the worst status."""
-    from .listing import as_lines, as_object, reported  # loaded for reports alone
+    """Writes every finding of each file, and returns the worst status."""
+    from .listing import as_lines, as_object, reported  # loaded only for reports
 
     library()
     worst = 0
@@ -126,15 +126,15 @@ def main() -> int:
     task, *logs = asked.names
     if task == "report":
         if not logs or asked.ascii or asked.form is as_tabs:
-            parser.error("a report is of logs, by report [--lines | --json] LOG ..")
+            parser.error("report takes one or more logs: report [--lines | --json] LOG ..")
         return report_all(logs, asked.form is as_json)
     if asked.lines:
-        parser.error("--lines goes with report")
+        parser.error("--lines is only for report")
     if task not in PICTURES and not asked.ascii:
         return judge_all(asked.names, asked.form or as_line)
     if len(logs) != 1 or asked.form or asked.ascii and task != "show":
-        parser.error("a picture is of one log, by show [--ascii] LOG or page LOG")
-    from .draw import draw  # the code of pictures is loaded for them alone
+        parser.error("show and page take one log: show [--ascii] LOG or page LOG")
+    from .draw import draw  # loaded only for pictures
 
     return draw(task, logs[0], asked.ascii)
 

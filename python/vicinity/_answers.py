@@ -26,7 +26,7 @@ class Kind(enum.IntEnum):
 
 
 class Fault(enum.IntEnum):
-    """Why a text is no log. Those that begin with FRAME are of the frame of a T or an R line."""
+    """Why a text isn't a log. Those that begin with FRAME are about the frame of a T or R line."""
 
     NONE = 0
     TOO_MANY_LINES = 1
@@ -57,17 +57,17 @@ class Fault(enum.IntEnum):
 
     @property
     def word(self) -> str:
-        """The name of the fault in the line of the answer, as SlotOutsideRound."""
+        """The name of the fault in the line of the answer, such as SlotOutsideRound."""
         return name_of("fault", self)
 
 
 @dataclass(frozen=True)
 class Answer:
-    """The answer to a text. A number of which the kind doesn't speak is 0."""
+    """The answer to a text. Numbers that the kind doesn't use are 0."""
 
     kind: Kind
     status: int
-    """With which `vicinity check` would end, 0 to 3. Here 0 is complete."""
+    """The exit status of `vicinity check`, 0 to 3. Here 0 is complete."""
     count: int
     """How many UIDs are listed, if the kind is COMPLETE."""
     line: int
@@ -97,12 +97,12 @@ class Explanation(NamedTuple):
 
     answer: Answer
     population: list[int]
-    """UIDs of tags that could have produced the log and that are not the listed ones, in rising order. It is empty if
+    """UIDs of tags that could have produced the log but aren't exactly the listed ones, in rising order. It is empty if
     there are none to show (COMPLETE, IMPOSSIBLE, REFUSED), and if an empty field shows the answer."""
 
 
 class FindingKind(enum.IntEnum):
-    """What a finding is. The first four have the numbers that they have as answers."""
+    """What a finding is. The first four have the same numbers as the answers."""
 
     ABSENT = 2
     UNLISTED = 3
@@ -115,11 +115,11 @@ class FindingKind(enum.IntEnum):
 
 
 class Finding(NamedTuple):
-    """One point in which a log contradicts its list or leaves it undecided. Numbers that a kind does not use are 0."""
+    """One point in which a log contradicts its list or leaves it undecided. Numbers that the kind doesn't use are 0."""
 
     kind: FindingKind
     line: int
-    """The line that shows it (ABSENT, UNLISTED), that is one of a conflict, or that silenced a tag."""
+    """The line that shows it (ABSENT, UNLISTED), that belongs to a conflict, or that silenced a tag."""
     mask_len: int
     """How many low bits the mask has, if the kind is UNSETTLED or OPEN_MASK."""
     mask_value: int
@@ -128,7 +128,7 @@ class Finding(NamedTuple):
     """The UID, if the kind is ABSENT, UNLISTED or DOUBTFUL."""
 
     def __str__(self) -> str:
-        """The line that `vicinity report` writes, without its LF, and the one of the line that shows it."""
+        """The line that `vicinity report` writes, without its LF, and the one that names the line that shows it."""
         size = 2 * ((self.mask_len + 7) // 8)
         mask = f"{self.mask_len} {self.mask_value:0{size}X}" if size else "0 -"
         return {
@@ -148,7 +148,7 @@ class Report(NamedTuple):
 
     answer: Answer
     findings: list[Finding]
-    """In the order of the lines of `vicinity report`; none of COMPLETE and REFUSED."""
+    """In the order of the lines of `vicinity report`; none for COMPLETE and REFUSED."""
 
     def __str__(self) -> str:
         """What `vicinity report` writes, without its last LF."""

@@ -19,7 +19,7 @@ NO_ANSWER = 4
 
 
 def _bytes(text: BytesLike) -> bytes:
-    """The bytes of a text. Other threads run during a call, so what can change is copied."""
+    """The bytes of a text. Other threads run during a call, so anything that can change is copied."""
     if isinstance(text, bytes):
         return text
     try:
@@ -29,13 +29,13 @@ def _bytes(text: BytesLike) -> bytes:
 
 
 def _without_list(text: BytesLike) -> bytes:
-    """The bytes of a text beside which a list stands, with an LF after its last line."""
+    """The bytes of a text with a separate list, with an LF after its last line."""
     text = _bytes(text)
     return text if text.endswith(b"\n") else text + b"\n"
 
 
 def _numbers(uids: Iterable[int]) -> ctypes.Array[ctypes.c_uint64]:
-    """UIDs as C has them. Raises OverflowError if a number is none of 64 bits."""
+    """UIDs as a C array. Raises OverflowError if a number doesn't fit into 64 bits."""
     numbers = array("Q", uids)
     return (ctypes.c_uint64 * len(numbers))(*numbers)
 
@@ -50,7 +50,7 @@ def _answer(told: AnswerStruct) -> Answer:
 def check(text: BytesLike) -> Answer:
     """The answer to a text. Any number of threads may call at once.
 
-    Raises TypeError if the text isn't bytes or alike, MemoryError if memory is refused, and OSError if the shared
+    Raises TypeError if the text isn't bytes or similar, MemoryError if memory is refused, and OSError if the shared
     library can't be loaded."""
     text = _bytes(text)
     told = AnswerStruct()
@@ -59,8 +59,8 @@ def check(text: BytesLike) -> Answer:
 
 
 def explain_into(text: BytesLike, room: ctypes.Array[ctypes.c_uint64]) -> tuple[Answer, int]:
-    """The answer to a text, and how many UIDs the population has that shows it. They are put at the front of the room,
-    if it has so many places; else it stays as it is. Raises what `check` raises."""
+    """The answer to a text, and the number of UIDs in the counterexample. They are put at the start of the buffer `room` if
+    they fit; otherwise it stays as it is. Raises what `check` raises."""
     text = _bytes(text)
     told, needed = AnswerStruct(), ctypes.c_size_t()
     library().vicinity_explain(text, len(text), ctypes.byref(told), room, len(room), ctypes.byref(needed))
@@ -68,7 +68,7 @@ def explain_into(text: BytesLike, room: ctypes.Array[ctypes.c_uint64]) -> tuple[
 
 
 def _room(place: Any, places: int) -> Any:
-    """So many places, which take memory as they are filled."""
+    """A buffer with that many elements, which takes memory only as it is filled."""
     if places <= FIRST_ROOM:
         return (place * places)()
     try:
@@ -78,8 +78,8 @@ def _room(place: Any, places: int) -> Any:
 
 
 def _filled(place: Any, places: int, call: Callable[..., int], *given: Any) -> tuple[Answer, Any, int]:
-    """What a call gives that fills a room, of so many places first: the answer, a room that is large enough, and how many
-    of its places are filled."""
+    """Makes a call that fills a buffer, first with that many elements, and again if it needs more: the answer, the buffer,
+    and how many of its elements are filled."""
     while True:
         told, room, needed = AnswerStruct(), _room(place, places), ctypes.c_size_t()
         call(*given, ctypes.byref(told), room, places, ctypes.byref(needed))
@@ -89,7 +89,7 @@ def _filled(place: Any, places: int, call: Callable[..., int], *given: Any) -> t
 
 
 def _in_room(place: Any, call: Callable[..., int], *given: Any) -> tuple[Answer, list[Any]]:
-    """The answer of such a call, and what it fills in."""
+    """The answer of such a call, and the elements that it filled."""
     answer, room, count = _filled(place, FIRST_ROOM, call, *given)
     return answer, room[:count]
 
@@ -111,18 +111,18 @@ def report(text: BytesLike) -> Report:
 
 
 def report_records(text: bytes) -> tuple[Answer, memoryview]:
-    """What `report` gives, with the findings as the bytes of structs vicinity_finding, of which there may be two million:
-    a line tells of two UIDs at most."""
+    """What `report` returns, with the findings as the bytes of structs vicinity_finding, of which there may be two million:
+    at most two UIDs per line."""
     places = FIRST_ROOM + 2 * text.count(b"\n")
     answer, room, count = _filled(FindingStruct, places, library().vicinity_report, text, len(text))
     return answer, memoryview(room).cast("B")[:count * ctypes.sizeof(FindingStruct)]
 
 
 def check_listed(text: BytesLike, uids: Iterable[int]) -> Answer:
-    """The answer to a text that lists nothing, with a list of UIDs beside it, in any order. The last line of the text
+    """The answer to a text that lists nothing, with a separate list of UIDs, in any order. The last line of the text
     may lack its LF.
 
-    Raises what `check` raises, and OverflowError if a UID is no number of 64 bits."""
+    Raises what `check` raises, and OverflowError if a UID doesn't fit into 64 bits."""
     text, listed = _without_list(text), _numbers(uids)
     told = AnswerStruct()
     library().vicinity_check_listed(text, len(text), listed, len(listed), ctypes.byref(told))
@@ -142,8 +142,8 @@ def report_listed(text: BytesLike, uids: Iterable[int]) -> Report:
 
 
 def simulate_into(text: BytesLike, room: ctypes.Array[ctypes.c_uint8]) -> tuple[int, int]:
-    """The status of `simulate` on a text, and how many bytes it writes. They are put at the front of the room, if it has
-    so many places; else it stays as it is. Raises what `check` raises."""
+    """The status of `simulate` on a text, and the number of bytes that it writes. They are put at the start of the buffer
+    `room` if they fit; otherwise it stays as it is. Raises what `check` raises."""
     text = _bytes(text)
     needed = ctypes.c_size_t()
     status = library().vicinity_simulate(text, len(text), room, len(room), ctypes.byref(needed))
@@ -153,7 +153,7 @@ def simulate_into(text: BytesLike, room: ctypes.Array[ctypes.c_uint8]) -> tuple[
 
 
 def simulate(text: BytesLike) -> Simulation:
-    """The log that conforming tags would give: the text has the requests, and lists the tags. Raises what `check`
+    """The log that conforming tags would produce: the text has the requests, and lists the tags. Raises what `check`
     raises."""
     text = _bytes(text)
     places = FIRST_ROOM + 4 * len(text)

@@ -1,9 +1,9 @@
-"""The frame in which every command runs: its words, what it reads and writes, and how it ends.
+"""What every command shares: its arguments, how it reads and writes, and how it ends.
 
-A command is a function that gives its status, and `run` runs it. It takes its words by `Words`, reads by `read`, writes by
-`write`, and shows the name of a file by `shown`. Where it has no answer it raises NoAnswer, MemoryError or OSError: then a
-line stands on standard error, and the status is 4. Nothing goes by way of sys.stdout or sys.stderr, so a stream that is
-closed or full is seen at once, and no traceback is written.
+A command is a function that returns its status, and `run` runs it. It parses its arguments with `Words`, reads with `read`,
+writes with `write`, and shows the name of a file with `shown`. If it has no answer it raises NoAnswer, MemoryError or
+OSError: then a line is written to standard error, and the status is 4. Nothing goes through sys.stdout or sys.stderr, so a
+closed or full stream is noticed at once, and no traceback is written.
 """
 from __future__ import annotations
 
@@ -13,7 +13,7 @@ import signal
 import sys
 from typing import IO, Callable, Iterable, NoReturn, Optional, Sequence
 
-# A longer text has a line that is too long, or too many lines, within these bytes: 1,000,000 lines of 130 bytes, one more.
+# Within these bytes, a longer text has a line that is too long, or too many lines: 1,000,000 lines of 130 bytes, plus one.
 MOST_BYTES = 1_000_000 * 130 + 1
 PIECE = 1 << 16
 NO_ANSWER = 4
@@ -26,7 +26,7 @@ class NoAnswer(Exception):
 def run(command: Callable[[], int]) -> int:
     """The status of a command, which is 4 if it has no answer."""
     signal.signal(signal.SIGINT, signal.SIG_DFL)  # also while the library judges
-    sys.unraisablehook = lambda _: None  # what fails as memory runs out, while something is given up
+    sys.unraisablehook = lambda _: None  # failures while something is released as memory runs out
     try:
         return command()
     except NoAnswer as why:
@@ -35,12 +35,12 @@ def run(command: Callable[[], int]) -> int:
         return complain("out of memory")
     except OSError as error:
         return complain(shown(str(error)))
-    except Exception as error:  # a defect: by itself Python would end with 1, which is a 'no'
+    except Exception as error:  # a defect: Python itself would end with 1, which means 'not complete'
         return complain(shown(f"{type(error).__name__}: {error}"))
 
 
 def complain(why: str) -> int:
-    """Says on standard error why there is no answer, if that takes it, and gives the status."""
+    """Writes to standard error why there is no answer, if it can, and returns the status."""
     try:
         os.write(2, _encoded(f"vicinity: {why}\n"))
     except (OSError, MemoryError):
@@ -49,13 +49,13 @@ def complain(why: str) -> int:
 
 
 def read(name: str) -> bytes:
-    """What a file holds, as far as it can matter; - is standard input."""
+    """The contents of a file, as far as they can matter; - is standard input."""
     try:
         file = os.dup(0) if name == "-" else os.open(name, os.O_RDONLY | os.O_CLOEXEC)
         try:
             pieces, left, wanted = [], MOST_BYTES, max(PIECE, os.fstat(file).st_size)
             while left > 0:
-                piece = os.read(file, min(wanted, left))  # a file in one piece: put together, pieces take as much again
+                piece = os.read(file, min(wanted, left))  # a file in one piece: joining pieces takes the memory twice
                 wanted = PIECE
                 if not piece:
                     break
@@ -69,7 +69,7 @@ def read(name: str) -> bytes:
 
 
 def write(pieces: Iterable[str]) -> None:
-    """Writes text on standard output as UTF-8, as it comes."""
+    """Writes text to standard output as UTF-8, as it comes."""
     waiting = bytearray()
     for piece in pieces:
         waiting += _encoded(piece)
@@ -91,8 +91,8 @@ def _encoded(text: str) -> bytes:
 
 
 def shown(name: str) -> str:
-    """A name in one line, with nothing in it that a terminal obeys: a backslash is `\\\\`, a tab `\\t`, an end of a line `\\n`,
-    and each byte of another character that can't be printed, or that isn't UTF-8, `\\x` and two hex digits."""
+    """A name on one line, without anything that a terminal would interpret: a backslash is `\\\\`, a tab `\\t`, a line end
+    `\\n`, and each byte of another character that can't be printed, or that isn't UTF-8, `\\x` and two hex digits."""
     text = os.fsencode(name).replace(b"\\", b"\\\\").decode("utf-8", "backslashreplace")
     return "".join(it if it.isprintable() else _escaped(it) for it in text)
 
@@ -108,7 +108,7 @@ def has_colours() -> bool:
 
 
 class Words(argparse.ArgumentParser):
-    """The words of a command. Options have no values, and stand anywhere before `--`."""
+    """The arguments of a command. Options have no values, and may be anywhere before `--`."""
 
     def parse(self, words: Sequence[str]) -> argparse.Namespace:
         end = words.index("--") if "--" in words else len(words)
@@ -120,5 +120,5 @@ class Words(argparse.ArgumentParser):
         raise NoAnswer(f"{shown(message)}\n{self.format_usage().rstrip()}")
 
     def _print_message(self, message: str, file: Optional[IO[str]] = None) -> None:
-        """Help and version, which argparse would write by sys.stdout."""
+        """Help and version, which argparse would write to sys.stdout."""
         write([message])

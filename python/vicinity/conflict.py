@@ -8,15 +8,15 @@ from .session import Reading, Session, Slot
 from .told import Told
 from .words import UID_BITS, lines, short, uid
 
-NOISE = "Noise was logged as a collision. If something surely answered and couldn't be read, write D, in a log of version 2."
-NOISE_UNREAD = "Noise was logged as D. If it isn't known that a tag answered, end the round's lines there."
-WOKE = "A tag that was silenced lost power for a moment and woke."
-SECOND_READER = ("A second reader was at work: it keeps tags powered and Quiet while our field is off, and may silence tags "
-                 "that we count. Switch it off.")
+NOISE = "Noise was logged as a collision. If something did answer but couldn't be read, write D, in a log of version 2."
+NOISE_UNREAD = "Noise was logged as D. If you don't know whether a tag answered, end the round there."
+WOKE = "A silenced tag lost power for a moment and woke up."
+SECOND_READER = ("A second reader was active: it keeps tags powered and Quiet while this reader's field is off, and may "
+                 "silence tags. Switch it off.")
 
 
 class Contradiction(NamedTuple):
-    """A sentence, the causes that fit, the likeliest first, and a request by which they are told apart, if there is one."""
+    """A sentence, the causes that fit, most likely first, and a test that tells them apart, if there is one."""
 
     sentence: str
     causes: Sequence[str]
@@ -42,23 +42,23 @@ def contradiction(session: Session, told: Told) -> Contradiction:
 def _woke(told: Told, slot: Slot) -> Contradiction:
     assert slot.uid is not None
     return Contradiction(
-        f"tag {short(slot.uid)} was silenced in line {told.silenced} and answered in line {slot.line}.",
-        ("The tag lost power for a moment, at the field's edge or behind another, and woke.",
+        f"tag {short(slot.uid)} was silenced in line {told.silenced}, but answered in line {slot.line}.",
+        ("The tag lost power for a moment, at the edge of the field or behind another tag, and woke up.",
          f"The tag didn't receive the Stay Quiet of line {told.silenced}.",
-         "The field was switched off and on in between: then the log needs a line F there, under the header 'vicinity-log 2'.",
-         "A second reader woke it, by Reset to Ready or Select. Switch that reader off."),
-        "Bring the tag well into the field, or lower the reader's pace: a tag that wakes does so again.")
+         "The field was switched off and on in between. Then the log needs a line F there, and the header 'vicinity-log 2'.",
+         "A second reader woke it up, with Reset to Ready or Select. Switch that reader off."),
+        "Move the tag further into the field, or slow the reader down. A tag that woke up once will do it again.")
 
 
 def _alone(session: Session, slot: Slot) -> Contradiction:
     row = session.rows[session.places[slot.line]]
     if slot.uid is not None:
-        said = f"line {slot.line} is a reply of {short(slot.uid)}, a tag that line {row.line} didn't ask."
+        said = f"line {slot.line} is a reply of {short(slot.uid)}, a tag that the request in line {row.line} didn't ask."
     else:
-        wanted = "two tags or more answered" if slot.reading is Reading.COLLISION else "a tag answered"
-        said = f"{wanted} in line {slot.line}, and the mask asked there has fewer UIDs."
+        wanted = "two or more tags answered" if slot.reading is Reading.COLLISION else "a tag answered"
+        said = f"{wanted} in line {slot.line}, but the mask asked there has fewer UIDs."
     causes = [f"Line {slot.line} was logged under the wrong request: a late reply, or lines in the wrong order.",
-              "The reader sent a request that the log doesn't have."]
+              "The reader sent a request that isn't in the log."]
     return Contradiction(said, causes if slot.reading is Reading.HEARD else [NOISE, *causes])
 
 
@@ -67,36 +67,37 @@ def _lost(session: Session, heard: Slot, silent: Slot) -> Contradiction:
     name, is_before = short(heard.uid), silent.line < heard.line
     first, last = sorted((heard.line, silent.line))
     cycled = any(first < line < last for line in session.cycle_lines)
-    causes = [f"Its reply in line {silent.line} was lost: the tag is at the field's edge, or something disturbed it.",
+    causes = [f"Its reply in line {silent.line} was lost: the tag is at the edge of the field, or something interfered.",
               f"The tag came into the field after line {silent.line}." if is_before
               else f"The tag left the field after line {heard.line}."]
     causes.insert(0 if cycled and not is_before else 2, SECOND_READER)
     return Contradiction(
-        f"tag {name} answered in line {heard.line} and didn't in line {silent.line}, where it was asked too.", causes,
-        f"Ask for {name} alone, a few times. If it answers now and then, replies are lost; if always, it came or was kept "
-        "Quiet; if never, it has left.", [ask(session.link, 1, Mask(UID_BITS, heard.uid & (1 << UID_BITS) - 1))])
+        f"tag {name} answered in line {heard.line}, but not in line {silent.line}, where it was also asked.", causes,
+        f"Ask only for {name}, a few times. If it answers sometimes, replies are being lost. If it always answers, it came "
+        "into the field later, or was kept Quiet. If it never answers, it has left.",
+        [ask(session.link, 1, Mask(UID_BITS, heard.uid & (1 << UID_BITS) - 1))])
 
 
 def _hidden(first: Slot, last: Slot) -> Contradiction:
     assert first.uid is not None and last.uid is not None
     one, other = short(first.uid, [last.uid]), short(last.uid, [first.uid])
     return Contradiction(
-        f"tags {one} (line {first.line}) and {other} (line {last.line}) were each read alone, where both would have answered.",
-        (f"A strong reply hid a weaker one: the stronger of {one} and {other} was read over the other.",
+        f"tags {one} (line {first.line}) and {other} (line {last.line}) were each read alone, but both should have answered.",
+        ("A strong reply hid a weaker one: the stronger of the two was read over the other.",
          f"A tag came into the field between lines {first.line} and {last.line}, or left it.", SECOND_READER),
-        "Move the two apart or lower the gain, and ask in sixteen slots, where fewer tags answer at once.")
+        "Move the two apart or lower the gain, and ask in sixteen slots, so that fewer tags answer at once.")
 
 
 def _unmet(session: Session, told: Told, demand: Slot, others: Sequence[Slot]) -> Contradiction:
     rest = [number for number in told.conflict if number != demand.line]
     is_collision = demand.reading is Reading.COLLISION
-    said = (f"in line {demand.line} {'two tags or more' if is_collision else 'a tag'} answered, and {lines(rest)} "
+    said = (f"in line {demand.line} {'two or more tags' if is_collision else 'a tag'} answered, but {lines(rest)} "
             f"leave{'s' * (len(rest) == 1)} {'at most one' if is_collision else 'none'}.")
     noise = NOISE if is_collision else NOISE_UNREAD
     if demand.line > rest[-1]:
         causes = [noise, f"A tag came into the field before line {demand.line}.", *[WOKE] * bool(session.counts.quiets)]
     else:
-        lost = "The reply of a tag of that slot was lost later, so its slot was logged silent."
+        lost = "A later reply of a tag of that slot was lost, so the later slot was logged as silent."
         causes = [_unheard(session, demand, others) or lost, noise, f"A tag left the field after line {demand.line}."]
     if len(others) == 1 and others[0].uid is not None and is_collision:
         causes.insert(1, f"A strong reply in line {others[0].line} hid a weaker one.")
@@ -110,7 +111,7 @@ def _unheard(session: Session, demand: Slot, others: Sequence[Slot]) -> Optional
     for line, number in session.unheard:
         slot = next((it for it in others if it.line < line and it.reading is Reading.SILENT and has(it.mask, number)), None)
         if slot and has(demand.mask, number):
-            return f"The reply of {uid(number)} in line {slot.line} was lost: line {line} silences it, and it was never heard."
+            return f"The reply of {uid(number)} in line {slot.line} was lost: line {line} silences it, but it was never heard."
     return None
 
 

@@ -12,15 +12,15 @@ from .told import Told
 
 #: How many bits two digits have.
 BITS = 8
-#: How many places a map marks at least.
+#: How many cells a map marks at least.
 LEAST = 3
-#: The signs by their weight, the heaviest first: what a cell shows if there are several.
+#: The signs, most important first: a cell with several shows the first.
 SIGNS = {"!": "contradicted", "A": "absent", "O": "open", "U": "unlisted"}
 LOOKS = {"!": "mc", "A": "mA", "O": "mO", "U": "mU"}
 
 
 def digit_map(session: Session, told: Told) -> Iterator[str]:
-    """A map of 16 by 16. It isn't there if it would mark hardly any place, or all alike."""
+    """A map of 16 by 16. There is none if it would mark hardly any cell, or all the same way."""
     found = {"!": _last_digits(_contradicted(session)) if told.conflict else Counter(),
              "A": Counter(uid & 0xFF for uid in told.absent.uids), "O": _last_digits(told.open_masks),
              "U": Counter(uid & 0xFF for uid in told.unlisted.uids)}
@@ -45,7 +45,7 @@ def _cell(last: int, sign: str, found: dict[str, Counter[int]]) -> str:
 
 
 def _last_digits(masks: Iterable[Mask]) -> Counter[int]:
-    """How many of the masks meet each pair of digits."""
+    """How many of the masks have UIDs with each pair of last digits."""
     met: Counter[int] = Counter()
     for mask in masks:
         bits = min(mask.length, BITS)
@@ -54,7 +54,7 @@ def _last_digits(masks: Iterable[Mask]) -> Counter[int]:
 
 
 def _contradicted(session: Session) -> Iterable[Mask]:
-    """What lines that contradict each other speak of: the mask that takes more tags than are left, or the UIDs heard."""
+    """What lines that contradict each other are about: the mask that needs more tags than are left, or the UIDs heard."""
     slots = list(session.slots.values())
     demands = [slot.mask for slot in slots if slot.reading in (Reading.COLLISION, Reading.GARBLED)]
     return demands or [Mask(64, slot.uid) for slot in slots if slot.uid is not None]

@@ -1,4 +1,4 @@
-"""Draws a session, for a terminal or as one HTML file, with what `vicinity report` says of it."""
+"""Draws a session, for a terminal or as one HTML file, with what `vicinity report` says about it."""
 from __future__ import annotations
 
 import os
@@ -13,7 +13,7 @@ from .told import tell
 
 
 def draw(form: str, name: str, ascii_only: bool = False) -> int:
-    """Writes the picture of a log, and gives the status of its report."""
+    """Writes the picture of a log, and returns the status of its report."""
     text = read(name)
     told = tell(text)
     session = read_session(text, told, told.lines(MOST if form == "page" else MOST_LINES))

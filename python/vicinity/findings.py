@@ -16,7 +16,7 @@ from .todo import of_uid
 from .told import Shown, Told
 from .words import ending, printable, short, uid
 
-LINE_HEADS = ("Line", "Text", "It says")
+LINE_HEADS = ("Line", "Text", "Meaning")
 
 
 class Findings:
@@ -34,19 +34,19 @@ class Findings:
         if told.conflict:
             yield from group("conflict", "Lines that contradict each other", told.conflict_size, self._conflict())
         if told.absent.uids:
-            yield from group("absent", "Absent: listed, and not there", len(told.absent.uids), self._shown(told.absent, ""))
+            yield from group("absent", "Absent: listed, but not there", len(told.absent.uids), self._shown(told.absent, ""))
         if told.unlisted.uids:
-            yield from group("unlisted", "Unlisted: there, and not listed", len(told.unlisted.uids),
+            yield from group("unlisted", "Unlisted: there, but not listed", len(told.unlisted.uids),
                              self._shown(told.unlisted, "U "))
         if told.open_masks:
-            yield from group("open", "Open masks: left to ask for", len(told.open_masks), self._open())
+            yield from group("open", "Open masks: still to be asked", len(told.open_masks), self._open())
         if told.doubtful:
-            yield from group("doubtful", "Doubtful: listed, and perhaps not there", len(told.doubtful), self._doubtful())
+            yield from group("doubtful", "Doubtful: listed, but may be missing", len(told.doubtful), self._doubtful())
 
     def _refused(self) -> Iterator[str]:
-        """The line that is refused, what is wrong with it, and how it is fixed."""
+        """The refused line, what is wrong with it, and how to fix it."""
         advice = ADVICE[self.told.answer.fault]
-        yield from table(("Line", "Text", "What is wrong", "How it is fixed"), [row(
+        yield from table(("Line", "Text", "What is wrong", "How to fix it"), [row(
             str(self.told.answer.line), f"<code>{escape(printable(self.session.refused))}</code>", escape(advice.wrong),
             escape(advice.fix))], 1, "lines")
 
@@ -55,7 +55,7 @@ class Findings:
         lines = ([told.silenced] if told.silenced else []) + list(told.conflict[:MOST])
         rows = [self._quote(quote) for quote in quotes(self.session, lines)]
         if told.conflict_size > 1:
-            yield "<p>No tags could have produced all of these lines. If any one of them is left out, some could.</p>"
+            yield "<p>No set of tags could have produced all of these lines. Without any one of them, some set could.</p>"
         yield from table(LINE_HEADS, rows, len(rows) + max(0, len(told.conflict) - MOST), "lines")
 
     def _quote(self, quote: Quote) -> str:
@@ -63,7 +63,7 @@ class Findings:
         return row(place, f"<code>{quote.text}</code>", escape(quote.meaning), name=self._name(quote))
 
     def _link(self, quote: Quote) -> str:
-        """The place of a quote, which leads to its cell in the picture."""
+        """The line numbers of a quote, which link to its cell in the picture."""
         return f'<a href="#c{quote.first}">{quote.place}</a>' if quote.first in self.drawn else quote.place
 
     def _name(self, quote: Quote) -> str:
@@ -75,7 +75,7 @@ class Findings:
         return name
 
     def _shown(self, shown: Shown, letter: str) -> Iterator[str]:
-        """UIDs with the line that shows them, those of one line together; and all of them to copy."""
+        """UIDs with the line that shows them, grouped by line; and all of them to copy."""
         by_line: dict[int, list[int]] = {}
         for number, line in zip(shown.uids[:MOST], shown.lines):
             by_line.setdefault(line, []).append(number)
@@ -86,21 +86,21 @@ class Findings:
             rows.append(row(tags, self._link(quote), f"<code>{quote.text}</code>", escape(quote.meaning),
                             name=self._name(quote)))
         yield from table(("UID", *LINE_HEADS), rows, len(rows) + max(0, len(shown.uids) - MOST), "UIDs")
-        yield '<details class="rest"><summary>to copy</summary>'
+        yield '<details class="rest"><summary>list to copy</summary>'
         yield copy([letter + uid(number) for number in shown.uids[:MOST]]) + "</details>"
 
     def _open(self) -> Iterator[str]:
         link = self.session.link
         rows = [row(f"<code>{mask}</code>", ending(mask), f"<code>{ask(link, 1, mask)}</code>",
                     f"<code>{ask(link, 16, mask)}</code>") for mask in self.told.open_masks]
-        yield from table(("Mask", "It asks", "in one slot", "in sixteen slots"), rows, len(rows), "masks")
+        yield from table(("Mask", "Covers", "Request, one slot", "Request, sixteen slots"), rows, len(rows), "masks")
         if self.told.has_more_open:
-            yield "<p>More masks are open than these.</p>"
+            yield "<p>There are more open masks.</p>"
 
     def _doubtful(self) -> Iterator[str]:
         link, numbers = self.session.link, self.told.doubtful
         rows = [row(uid(number), f"<code>{ask(link, 1, of_uid(number))}</code>") for number in numbers[:MOST]]
-        yield from table(("UID", "Ask for it"), rows, len(numbers), "UIDs")
+        yield from table(("UID", "Request for it"), rows, len(numbers), "UIDs")
 
 
 def notes_group(found: Sequence[Note]) -> Iterator[str]:
@@ -108,18 +108,18 @@ def notes_group(found: Sequence[Note]) -> Iterator[str]:
     if found:
         rows = [row(str(note.line), escape(note.text)) for note in found]
         body = table(("Line", "Note"), rows, len(rows), "notes")
-        yield from group("notes", "Notes, no part of the answer", len(found), body)
+        yield from group("notes", "Notes (not part of the answer)", len(found), body)
 
 
 def list_group(session: Session, told: Told) -> Iterator[str]:
-    """The UIDs that are listed and of which nothing else is said."""
+    """The listed UIDs about which nothing else is said."""
     if told.answer.kind is Kind.REFUSED or not session.counts.listed:
         return
     is_judged = told.answer.kind is not Kind.IMPOSSIBLE
     numbers = [number for _, number in session.listed
                if not is_judged or not (told.absent.line_of(number) or _is_in(number, told.doubtful))]
     total = session.counts.listed - len(told.absent.uids) - len(told.doubtful)
-    yield from group("listed", "Listed, and there" if is_judged else "Listed", total, [uids(numbers, total)], False)
+    yield from group("listed", "Listed and there" if is_judged else "Listed", total, [uids(numbers, total)], False)
 
 
 def _is_in(number: int, rising: Sequence[int]) -> bool:

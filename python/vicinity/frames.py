@@ -1,4 +1,4 @@
-"""Frames read and written, lines of a log, and which tags answer in a slot: calls of the library that take no memory."""
+"""Frames read and written, lines of a log, and which tags answer in a slot: library calls that allocate no memory."""
 from __future__ import annotations
 
 import ctypes
@@ -26,7 +26,7 @@ class Mask(NamedTuple):
     value: int
 
     def __str__(self) -> str:
-        """The last digits of these UIDs; bits in brackets if they do not fill a digit."""
+        """The last digits of these UIDs, with bits in parentheses if they don't fill a digit."""
         digits, bits = divmod(self.length, 4)
         low = f"{self.value & (1 << 4 * digits) - 1:0{digits}X}" if digits else ""
         part = f"({self.value >> 4 * digits:0{bits}b})" if bits else ""
@@ -51,7 +51,7 @@ class Reply(NamedTuple):
 
 
 def read_request(frame: bytes) -> Request:
-    """The fields of a request's frame, CRC included. Raises FrameFault if it spells none."""
+    """The fields of a request's frame, CRC included. Raises FrameFault if it isn't one."""
     told = RequestStruct()
     fault = library().vicinity_read_request(frame, len(frame), ctypes.byref(told))
     if fault:
@@ -60,7 +60,7 @@ def read_request(frame: bytes) -> Request:
 
 
 def read_response(frame: bytes) -> Reply:
-    """The fields of a reply's frame, CRC included. Raises FrameFault if it spells none."""
+    """The fields of a reply's frame, CRC included. Raises FrameFault if it isn't one."""
     told = ReplyStruct()
     fault = library().vicinity_read_response(frame, len(frame), ctypes.byref(told))
     if fault:
@@ -82,19 +82,19 @@ def write_stay_quiet(link: int, uid: int) -> bytes:
 
 
 def write_response(flags: int, dsfid: int, uid: int) -> bytes:
-    """The frame of a reply, CRC included, as a simulated field gives it. Raises ValueError as `write_inventory` does."""
+    """The frame of a reply, CRC included, for a simulated field. Raises ValueError as `write_inventory` does."""
     return _frame(library().vicinity_write_response, _number(flags), _number(dsfid), _number(uid, 64))
 
 
 def add_crc(content: bytes) -> bytes:
-    """At most 14 bytes with their CRC after them: the frame of a chip that took the CRC off. Raises ValueError if there are
-    more."""
+    """At most 14 bytes with their CRC after them: a frame whose CRC the reader's chip removed. Raises ValueError if there
+    are more."""
     return _frame(library().vicinity_add_crc, content, len(content))
 
 
 def write_line(letter: str, frame: bytes = b"", uid: int = 0) -> bytes:
-    """A line of a log, with its LF: "T" or "R" with a frame of at most 63 bytes, which isn't judged, "U" with a UID, or "S",
-    "C", "D" or "F" alone. Raises ValueError, with the name of the refusal, if there is no such line."""
+    """A line of a log, with its LF: "T" or "R" with a frame of at most 63 bytes, which isn't judged, "U" with a UID, or only
+    "S", "C", "D" or "F". Raises ValueError, with the name of the refusal, if there is no such line."""
     told = LineStruct()
     (code,) = letter.encode("ascii")
     _refuse(library().vicinity_write_line(code, frame, len(frame), _number(uid, 64), ctypes.byref(told)))
@@ -102,7 +102,7 @@ def write_line(letter: str, frame: bytes = b"", uid: int = 0) -> bytes:
 
 
 def slot_mask(slots: int, mask: Mask, slot: int) -> Mask:
-    """Who answers in a slot, counted from 0, of an Inventory request with 1 or 16 slots and a mask.
+    """Which UIDs answer in a slot, counted from 0, of an Inventory request with 1 or 16 slots and a mask.
 
     Raises ValueError if there is no such request or slot."""
     told = MaskStruct()
@@ -126,5 +126,5 @@ def _refuse(fault: int) -> None:
 def _number(number: int, bits: int = 32) -> int:
     """A number that fits what C takes."""
     if not 0 <= number < 1 << bits:
-        raise ValueError(f"{number} is no number of {bits} bits")
+        raise ValueError(f"{number} isn't a number of {bits} bits")
     return number

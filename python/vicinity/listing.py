@@ -1,4 +1,4 @@
-"""A report as lines for editors, `FILE:LINE: text`, and as JSON, an object for each log."""
+"""A report as lines for editors, `FILE:LINE: text`, and as JSON, one object for each log."""
 from __future__ import annotations
 
 import json
@@ -27,8 +27,8 @@ def reported(text: bytes) -> tuple[Session, Told]:
 
 
 def as_lines(name: str, session: Session, told: Told) -> Iterator[str]:
-    """A line for each finding and note, as compilers write them: with the line of the log that shows it, or the one after
-    which further requests are to be written. There is none for a list that is complete."""
+    """A line for each finding and note, like a compiler's: with the number of the line of the log that shows it, or of the
+    one after which further requests go. There is no finding if the list is complete."""
     for line, text in chain(_found(session, told), ((it.line, f"note: {it.text}") for it in notes(session, told))):
         yield f"{name}:{line}: {text}\n"
 
@@ -44,15 +44,15 @@ def _found(session: Session, told: Told) -> Iterator[tuple[int, str]]:
     yield from _shown(session, "absent", told.absent)
     yield from _shown(session, "unlisted", told.unlisted)
     for mask in told.open_masks:
-        yield end, f"open: {ending(mask)} may be there: ask {ask(link, 1, mask)}"
+        yield end, f"open: {ending(mask)} may be there: send {ask(link, 1, mask)}"
     if told.has_more_open:
-        yield end, "open: more masks than these"
+        yield end, "open: there are more open masks"
     for number in told.doubtful:
-        yield end, f"doubtful: {uid(number)} may be missing: ask {ask(link, 1, of_uid(number))}"
+        yield end, f"doubtful: {uid(number)} may be missing: send {ask(link, 1, of_uid(number))}"
 
 
 def _shown(session: Session, word: str, shown: Shown) -> Iterator[tuple[int, str]]:
-    """UIDs with the line that shows them, and what it says, where its text is kept."""
+    """UIDs with the line that shows them, and what it says, if its text is kept."""
     said = {quote.first: f": {quote.meaning}" for line in set(shown.lines) & session.texts.keys()
             for quote in quotes(session, [line])}
     for number, line in zip(shown.uids, shown.lines):
@@ -60,7 +60,7 @@ def _shown(session: Session, word: str, shown: Shown) -> Iterator[tuple[int, str
 
 
 def as_object(name: str, session: Session, told: Told, answer: Mapping[str, object]) -> Iterator[str]:
-    """One object on one line: what `--json` says of a log, with all findings and notes."""
+    """One object on one line: what `--json` says about a log, with all findings and notes."""
     yield json.dumps({"file": name, **answer})[:-1] + ', "sentence": ' + json.dumps(sentence(session, told))
     yield ', "findings": ['
     for index, finding in enumerate(_findings(told)):

@@ -1,4 +1,4 @@
-"""Notes beside the answer: what is worth a look and no part of it."""
+"""Notes beside the answer: what is worth a look, but not part of it."""
 from __future__ import annotations
 
 from typing import Iterator, NamedTuple
@@ -7,7 +7,7 @@ from .session import Session
 from .told import Told
 from .words import count, span, uid
 
-#: How many notes of one kind are written one by one.
+#: How many notes of one kind are written separately.
 MOST = 5
 
 
@@ -19,21 +19,21 @@ class Note(NamedTuple):
 
 
 def notes(session: Session, told: Told) -> Iterator[Note]:
-    """The notes on a log, in few lines. There are none on a text that is refused."""
+    """The notes on a log, in a few lines. A refused text has none."""
     if told.refused_line is not None:
         return
     for line, number in session.unheard[:MOST]:
         ruled_out = told.absent.line_of(number)
         lost = f": its reply may have been lost in line {ruled_out}" if 0 < ruled_out < line else ""
-        yield Note(line, f"{uid(number)} was silenced here and was never heard{lost}")
+        yield Note(line, f"{uid(number)} was silenced here but never heard{lost}")
     if session.unheard_count > MOST:
-        yield Note(session.unheard[MOST][0], f"{count(session.unheard_count - MOST, 'more UID')} silenced and never heard")
+        yield Note(session.unheard[MOST][0], f"{count(session.unheard_count - MOST, 'more UID')} silenced but never heard")
     for row in session.short[:MOST]:
-        told_slots = f"after {count(len(row.outcomes), 'slot')} of {row.places}"
+        told_slots = f"after {len(row.outcomes)} of {count(row.places, 'slot')}"
         yield Note(row.line, f"the round of lines {span(row.line, row.outcomes[-1][0])} was cut short {told_slots}"
                    if row.outcomes else "none of this round's slots is logged")
     if session.short_count > MOST:
         yield Note(session.short[MOST].line, f"{count(session.short_count - MOST, 'more round')} cut short")
     last = session.last_round
     if last and (last.mask.length or len(last.outcomes) < last.places):
-        yield Note(last.line, "the last round isn't one over all tags: a tag that no earlier round asked wouldn't show")
+        yield Note(last.line, "the last round didn't ask all tags: one that no earlier round asked would go unnoticed")

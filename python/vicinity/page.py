@@ -1,4 +1,4 @@
-"""A session as one HTML file that needs no other: the answer, what to do, what was found, the rounds, a map, the list."""
+"""A session as one self-contained HTML file: the answer, what to do, what was found, the rounds, a map, the list."""
 from __future__ import annotations
 
 from html import escape
@@ -22,7 +22,7 @@ STATUS = (("yes", "✓"), ("no", "!"), ("broken", "≠"), ("refused", "✕"))
 
 
 def page(session: Session, told: Told, name: str = "") -> Iterator[str]:
-    """The page of a session with what `report` says of it. The name is that of the log."""
+    """The page of a session, with what `report` says about it. `name` is the name of the log."""
     named = told.lines(SEEN) | set(told.conflict[:MOST])
     rows = chosen(session, named)
     drawn = {line for row in rows if not isinstance(row, Gap) for line in lines_of(row)} & named
@@ -39,20 +39,20 @@ def page(session: Session, told: Told, name: str = "") -> Iterator[str]:
         parts += _section("Rounds", ['<div id="rounds">', legend(), *drawing, "</div>"])
     if told.refused_line is None:
         parts += digit_map(session, told)
-    parts += ["</main>", "<footer>Judged by the proved library of vicinity. What a log can't show, and what is taken as true, "
-              "is said in its page AIR.</footer>", "</body>", "</html>"]
+    parts += ["</main>", "<footer>Judged by the proved library of vicinity. Its page AIR says what is assumed, and what no "
+              "log can show.</footer>", "</body>", "</html>"]
     return (part + "\n" for part in parts)
 
 
 def _banner(told: Told, said: str, name: str) -> Iterator[str]:
-    """The answer: a sentence, and in small letters the log's name and the line of the program."""
+    """The answer: a sentence, and in small print the name of the log and the line that the program prints."""
     look, sign = STATUS[told.answer.status]
     yield f'<header class="banner {look}"><span class="sign" aria-hidden="true">{sign}</span><div><h1>{escape(said)}</h1>'
     yield f"<p>{escape(name)} · <code>{escape(told.answer.text)}</code>, status {told.answer.status}</p></div></header>"
 
 
 def _chips(session: Session, told: Told, noted: Sequence[Note]) -> Iterator[str]:
-    """The counts, each with the group that it opens."""
+    """The counts, each with a link to its group."""
     counts, kind = session.counts, told.answer.kind
     yield '<ul class="chips">'
     if kind is Kind.IMPOSSIBLE:
@@ -72,7 +72,7 @@ def _chips(session: Session, told: Told, noted: Sequence[Note]) -> Iterator[str]
 
 
 def _chip(group: str, number: int, one: str, many: str, look: str = "") -> str:
-    """A count that leads to its group, if there is any."""
+    """A count that links to its group, unless it is 0."""
     words = f"<b>{number:,}</b> {one if number == 1 else many}"
     return f'<li><a class="{look}" href="#{group}">{words}</a></li>' if number else f"<li><span>{words}</span></li>"
 
@@ -81,7 +81,7 @@ def _todo(found: Iterator[Step]) -> Iterator[str]:
     """What to do, numbered."""
     yield '<section><h2>What to do</h2><ol class="todo">'
     for step in found:
-        more = f' (<a href="#{step.group}">which</a>)' if step.group else ""
+        more = f' (<a href="#{step.group}">details</a>)' if step.group else ""
         causes = "".join(f"<li>{escape(cause)}</li>" for cause in step.causes)
         yield f"<li>{escape(step.text)}{more}" + (f"<ul>{causes}</ul>" if causes else "")
         yield (copy(step.lines) if step.lines else "") + "</li>"

@@ -1,4 +1,4 @@
-"""The rounds as a table of HTML: a row for each round, a cell for each slot."""
+"""The rounds as an HTML table: a row for each round, a cell for each slot."""
 from __future__ import annotations
 
 from html import escape
@@ -9,14 +9,14 @@ from .session import FieldCycle, Reading, Round, Session, Slot, StayQuiet, lines
 from .told import Told
 from .words import READ, count, digits_heard, ending, span, uid
 
-#: A row with more cells named than these marks them lightly.
+#: A row with more named cells than this marks them lightly.
 MANY = 4
 LOOKS = {Reading.SILENT: ("s", "·"), Reading.HEARD: ("h", ""), Reading.COLLISION: ("x", "×"), Reading.GARBLED: ("g", "?")}
 
 
 def picture(session: Session, told: Told, rows: Sequence[Drawn], named: set[int],
             quoted_at: Mapping[int, str]) -> Iterator[str]:
-    """The table. Cells of named lines lead to the rows that quote them; those of a conflict are joined in the gutter."""
+    """The table. Cells of named lines link to the rows that quote them; those of a conflict are joined in the gutter."""
     joined = set(told.conflict) | {told.silenced} if told.conflict else set()
     bracket = [index for index, row in enumerate(rows) if not isinstance(row, Gap) and not joined.isdisjoint(lines_of(row))]
     yield '<div class="wide" tabindex="0"><table class="rounds"><caption>The rounds of the session</caption><thead><tr>'
@@ -36,7 +36,7 @@ def picture(session: Session, told: Told, rows: Sequence[Drawn], named: set[int]
 
 
 def _side(index: int, bracket: list[int]) -> str:
-    """The class of a row's first cell by which a bracket is drawn in the gutter."""
+    """The class of a row's first cell, which draws a bracket in the gutter."""
     if len(bracket) < 2 or not bracket[0] <= index <= bracket[-1]:
         return ""
     ends = " from" if index == bracket[0] else " till" if index == bracket[-1] else ""
@@ -79,12 +79,12 @@ def _cell(row: Round, slot: Slot, is_named: bool, quoted_at: Mapping[int, str]) 
 
 
 def legend() -> str:
-    """What the signs are."""
+    """What the signs mean."""
     signs = [(look, sign or "A1", READ[reading]) for reading, (look, sign) in LOOKS.items()]
-    signs += [("h q", "A1", "silenced afterwards"), ("n", "&nbsp;", "not reached"), ("s named", "·", "a named line")]
+    signs += [("h q", "A1", "silenced afterwards"), ("n", "&nbsp;", "not reached"), ("s named", "·", "quoted above")]
     return '<ul class="legend">' + "".join(sign_of(*it) for it in signs) + "</ul>"
 
 
 def sign_of(look: str, sign: str, words: str) -> str:
-    """A sign and what it is."""
+    """A sign and its meaning."""
     return f'<li><span class="cell {look}">{sign}</span> {words}</li>'

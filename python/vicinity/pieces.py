@@ -1,4 +1,4 @@
-"""Pieces of HTML: tables with header cells, groups that fold, lines to copy."""
+"""Pieces of HTML: tables with header cells, collapsible groups, lines to copy."""
 from __future__ import annotations
 
 from html import escape
@@ -6,19 +6,19 @@ from typing import Iterable, Iterator, Sequence
 
 from .words import uid
 
-#: How many rows of a table, and UIDs of a list, are seen before the rest is folded; how many of the rest are written.
+#: How many rows of a table, and UIDs of a list, are shown before the rest is collapsed; how many are written at all.
 SEEN, MOST = 20, 2000
 
 
 def table(heads: Sequence[str], rows: Sequence[str], total: int, what: str) -> Iterator[str]:
-    """A table: the first rows, and the rest folded. `total` counts also what isn't among the rows."""
+    """A table: the first rows, and the rest collapsed. `total` also counts what isn't among the rows."""
     yield from _table(heads, rows[:SEEN])
     if len(rows) > SEEN:
         yield f'<details class="rest"><summary>{len(rows) - SEEN:,} more {what}</summary>'
         yield from _table(heads, rows[SEEN:])
         yield "</details>"
     if total > len(rows):
-        yield f"<p>{total - len(rows):,} more {what}: <code>vicinity report</code> tells them all.</p>"
+        yield f"<p>{total - len(rows):,} more {what}: <code>vicinity report</code> lists them all.</p>"
 
 
 def _table(heads: Sequence[str], rows: Iterable[str]) -> Iterator[str]:
@@ -35,7 +35,7 @@ def row(first: str, *cells: str, name: str = "") -> str:
 
 
 def uids(numbers: Sequence[int], total: int) -> str:
-    """UIDs in columns, the first ones and the rest folded."""
+    """UIDs in columns: the first ones, and the rest collapsed."""
     seen = _uids(numbers[:SEEN])
     if len(numbers) <= SEEN and total <= SEEN:
         return seen
@@ -48,12 +48,12 @@ def _uids(numbers: Iterable[int]) -> str:
 
 
 def copy(lines: Sequence[str]) -> str:
-    """Lines to copy: a click marks them all."""
+    """Lines to copy: a click selects them all."""
     return f'<pre class="copy">{escape(chr(10).join(lines))}</pre>'
 
 
 def group(name: str, title: str, total: int, body: Iterable[str], is_open: bool = True) -> Iterator[str]:
-    """A group that folds, and that a link to its name opens. Its number isn't shown if it is 0."""
+    """A collapsible group, which a link to its name opens. Its number isn't shown if it is 0."""
     number = f" <span>{total:,}</span>" if total else ""
     yield f'<details class="group"{" open" if is_open else ""}><summary><h3>{title}{number}</h3></summary>'
     yield f'<div id="{name}">'

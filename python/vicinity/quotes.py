@@ -1,16 +1,16 @@
-"""Lines of a log quoted: their numbers, their texts, and what they mean. Lines of one round that follow each other are
-told in one sentence."""
+"""Quoted lines of a log: their numbers, their texts, and what they mean. Consecutive lines of one round are described in
+one sentence."""
 from __future__ import annotations
 
 from itertools import groupby
 from typing import Callable, Iterable, Iterator, NamedTuple, Sequence
 
 from .session import FieldCycle, Reading, Round, Session, Slot, StayQuiet
-from .words import READ, ending, short, span, uid
+from .words import READ, ending, listing, short, span, uid
 
 
 class Quote(NamedTuple):
-    """Lines that follow each other, from the first to the last, their texts, and what they say together."""
+    """Consecutive lines, from the first to the last, their texts, and what they say together."""
 
     first: int
     last: int
@@ -23,8 +23,8 @@ class Quote(NamedTuple):
 
 
 def quotes(session: Session, numbers: Iterable[int], name: Callable[[int], str] = uid) -> Iterator[Quote]:
-    """The named lines among these, in their order. Slots of a round that adjoin are told as one. A UID that was heard alone
-    is told by `name`."""
+    """The named lines among these, in their order. Consecutive slots of a round are described as one. A UID that was heard
+    alone is written by `name`."""
     known = [number for number in numbers if number in session.texts]
 
     def run(pair: tuple[int, int]) -> tuple[int, int]:
@@ -47,7 +47,7 @@ def _of_row(row: "StayQuiet | FieldCycle") -> str:
 
 
 def _of_round(session: Session, row: Round, slots: Sequence[Slot], name: Callable[[int], str]) -> Iterator[Quote]:
-    """Silent slots and replies that adjoin in one sentence; what else was read in one of its own."""
+    """Consecutive silent slots and replies in one sentence, any other slot in a sentence of its own."""
     for is_plain, group in groupby(slots, lambda slot: slot.reading in (Reading.SILENT, Reading.HEARD)):
         found = list(group)
         for part in [found] if is_plain else [[slot] for slot in found]:
@@ -55,7 +55,7 @@ def _of_round(session: Session, row: Round, slots: Sequence[Slot], name: Callabl
 
 
 def _texts(session: Session, slots: Sequence[Slot]) -> str:
-    """The texts of lines, each once with how often it follows itself."""
+    """The texts of lines, each once, with the number of times it is repeated."""
     runs = [(text, len(list(same))) for text, same in groupby(session.texts[slot.line].decode() for slot in slots)]
     return ", ".join(text + (f" ×{times}" if times > 1 else "") for text, times in runs)
 
@@ -65,8 +65,8 @@ def _meaning(row: Round, slots: Sequence[Slot], name: Callable[[int], str]) -> s
     if len(slots) == 1:
         said = f"{name(heard[0])} answered alone" if heard else READ[slots[0].reading]
         return f"{said}; asked: {ending(slots[0].mask)}"
-    who = " and ".join(short(number, heard) for number in heard) or "none"
+    who = f"only {listing([short(number, heard) for number in heard])}" if heard else "none"
     where = "" if len(slots) == row.places else f" in slots {slots[0].place:X} to {slots[-1].place:X}"
-    return f"of {ending(row.mask)}{where} {'only ' if heard else ''}{who} answered"
+    return f"of {ending(row.mask)}, {who} answered{where}"
 
 

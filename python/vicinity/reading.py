@@ -1,6 +1,6 @@
-"""The one pass over the text of a log, in which the rows of its session that matter are kept, and the others are counted.
+"""The one pass over the text of a log, which keeps the rows of its session that matter, and counts the others.
 
-Nothing is judged here: a text that is refused is read up to the line that is refused.
+Nothing is judged here: a refused text is read up to the refused line.
 """
 from __future__ import annotations
 
@@ -15,14 +15,14 @@ from .told import Told
 
 #: How many rows are kept at the beginning, at the end, and on each side of one that has a named line.
 ENDS, AROUND = 20, 1
-#: How many of the lines of a list, and of what the notes speak of, are kept.
+#: How many of the lines of a list, and of what the notes are about, are kept.
 MOST_LISTED = MOST_NOTED = 2000
-#: How much of a line that is refused is kept.
+#: How much of a refused line is kept.
 MOST_QUOTED = 160
 
 
 def read_session(text: bytes, told: Told, quoted: set[int]) -> Session:
-    """The session of a text, up to the line that is refused, if one is. The lines in `quoted` are kept as text."""
+    """The session of a text, up to the refused line, if there is one. The lines in `quoted` are kept as text."""
     return _Pass(told, quoted).read(text, told.refused_line)
 
 
@@ -60,7 +60,7 @@ class _Pass:
             is_next = number == self.next
             if is_next:
                 self.next = next(self.conflict, 0)
-            # of a long conflict those are kept that take a tag, and the first
+            # of a long conflict, the lines that need a tag are kept, and the first ones
             if is_next and letter in b"CD" or number in quoted:
                 self._named(number, line.rstrip())
         self._close()
@@ -110,7 +110,7 @@ class _Pass:
             session.listed.append((number, int(line[2:18], 16)))
 
     def _named(self, number: int, text: bytes) -> None:
-        """A line that is kept as text."""
+        """Keeps a line as text."""
         self.is_named = True
         self.session.texts[number] = text
         self.session.places[number] = self.session.row_count
@@ -120,7 +120,7 @@ class _Pass:
         self.row = row
 
     def _close(self) -> None:
-        """Keeps the row that has ended, if it matters."""
+        """Keeps the row that ends here, if it matters."""
         row, session, index = self.row, self.session, self.session.row_count
         if row is None:
             return

@@ -5,10 +5,10 @@ from typing import NamedTuple, Union
 
 from .session import Row, Session, lines_of
 
-#: Of a session of so many rows each is drawn. Of a longer one so many are drawn at its ends, more if nothing is named,
-#: on each side of a row that is named, and in all, before the one that is over it.
+#: A session of at most `ALL` rows is drawn completely. Of a longer one: how many rows are drawn at each end, and how many
+#: if no row is named; how many on each side of a named row; and how many named rows at most.
 ALL, ENDS, ENDS_ALONE, AROUND, MOST = 40, 2, 8, 1, 80
-#: Of more rows than these none beside them is drawn.
+#: With more named rows than this, no rows beside them are drawn.
 MOST_WITH_NEIGHBOURS = 8
 
 

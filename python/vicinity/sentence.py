@@ -10,10 +10,10 @@ from .words import count, listing
 
 
 def sentence(session: Session, told: Told) -> str:
-    """What is known of the list."""
+    """What is known about the list."""
     kind = told.answer.kind
     if kind is Kind.REFUSED:
-        return f"This text is no log. Line {told.answer.line}: {ADVICE[told.answer.fault].wrong}."
+        return f"This text isn't a valid log. Line {told.answer.line}: {ADVICE[told.answer.fault].wrong}."
     if kind is Kind.IMPOSSIBLE:
         return f"The log contradicts itself: {contradiction(session, told).sentence}"
     if kind is Kind.COMPLETE:
@@ -29,7 +29,7 @@ def _complete(number: int) -> str:
 
 
 def _missing(told: Told) -> list[str]:
-    """What keeps a list from being complete."""
+    """Why a list isn't complete."""
     said = []
     if told.absent.uids:
         said.append(count(len(told.absent.uids), "listed tag isn't there", "listed tags aren't there"))
@@ -43,9 +43,9 @@ def _missing(told: Told) -> list[str]:
 
 
 def masks_left(told: Told) -> str:
-    """How much is left to ask for."""
+    """How much is still to be asked."""
     if told.open_masks[0].length == 0:
-        return "all UIDs are left to ask for"
+        return "all UIDs are still to be asked for"
     some = "or more " if told.has_more_open else ""
     left = len(told.open_masks)
-    return f"{left} {some}mask{'s are' if left > 1 else ' is'} left to ask for"
+    return f"{left} {some}mask{'s are' if left > 1 else ' is'} still to be asked"

@@ -1,4 +1,4 @@
-"""A session as rows of rounds and slots, as far as it is kept. Frames and the masks of slots come from the library's calls."""
+"""A session as rows of rounds and slots, as far as it is kept. Frames and the masks of slots come from library calls."""
 from __future__ import annotations
 
 from array import array
@@ -20,7 +20,7 @@ class Reading(Enum):
 
 
 class Slot(NamedTuple):
-    """A slot that was listened to: its line and place, which tags answer in it, what was read, and the UID that was heard."""
+    """A logged slot: its line and number, which tags answer in it, what was read, and the UID that was heard."""
 
     line: int
     place: int
@@ -68,7 +68,7 @@ class Round:
 
 @dataclass
 class StayQuiet:
-    """A Stay Quiet request that isn't told with a round: its line, and the digits of its UID, as they were sent."""
+    """A Stay Quiet request that isn't shown with a round: its line, and the digits of its UID, as they were sent."""
 
     line: int
     digits: bytes
@@ -98,7 +98,7 @@ Row = Union[Round, StayQuiet, FieldCycle]
 
 @dataclass
 class Counts:
-    """How many there are of what a log speaks of."""
+    """How many of each thing a log has."""
 
     rounds: int = 0
     quiets: int = 0
@@ -113,7 +113,7 @@ class Counts:
 
 
 class Session:
-    """What is kept of a session: rows by their places among all, the texts of named lines, the list, and counts."""
+    """What is kept of a session: rows by their index among all, the texts of named lines, the list, and counts."""
 
     def __init__(self) -> None:
         self.counts = Counts()
@@ -122,13 +122,13 @@ class Session:
         #: The texts of named lines, and where their rows are.
         self.texts: dict[int, bytes] = {}
         self.places: dict[int, int] = {}
-        #: The first lines that list UIDs; the first and the last of them all.
+        #: The first lines that list UIDs; the numbers of the first and the last line of the list.
         self.listed: list[tuple[int, int]] = []
         self.list_lines = (0, 0)
-        #: The last line that isn't of the list.
+        #: The last line that isn't part of the list.
         self.asked_until = 1
         self.cycle_lines: array[int] = array("I")
-        #: Stay Quiets to UIDs that are heard nowhere, and rounds that end before their last slot: the first of them, and
+        #: Stay Quiets to UIDs that are never heard, and rounds that end before their last slot: the first of them, and
         #: how many there are.
         self.unheard: list[tuple[int, int]] = []
         self.unheard_count = 0
@@ -141,7 +141,7 @@ class Session:
 
     @property
     def link(self) -> int:
-        """How the session's requests ask for replies, for further requests."""
+        """The link of the session's requests, for further requests."""
         return self.first_round.request.link if self.first_round else 2
 
     @cached_property

@@ -1,4 +1,4 @@
-"""A session drawn as text for a terminal: the answer, a row for each round and a place for each slot, and what was found."""
+"""A session drawn as text for a terminal: the answer, a row for each round with a cell for each slot, and what was found."""
 from __future__ import annotations
 
 from textwrap import wrap
@@ -17,7 +17,7 @@ from .told import Shown, Told
 from .words import count, digits_heard, ending, printable, span, uid
 
 SIGNS = {Reading.SILENT: "·", Reading.COLLISION: "╳", Reading.GARBLED: "?"}
-#: What stands for a sign outside ASCII.
+#: What replaces a sign outside ASCII.
 ASCII = {ord("·"): ".", ord("╳"): "X", ord("×"): "x", ord("⋮"): ":"}
 COLOURS = {Reading.SILENT: "2", Reading.HEARD: "32", Reading.COLLISION: "33", Reading.GARBLED: "35"}
 ANSWER_COLOURS = ("1;32", "1;33", "1;31", "1;35")
@@ -42,7 +42,7 @@ class Look(NamedTuple):
 
 
 def show(session: Session, told: Told, look: Look = Look()) -> Iterator[str]:
-    """The lines of a picture, of what was found, and of the answer, which stands first and last."""
+    """The lines of a picture, of what was found, and of the answer, which is first and last."""
     answer = look.painted(told.answer.text, ANSWER_COLOURS[told.answer.status])
     parts: list[Iterable[str]] = [
         [answer, *look.wrapped(sentence(session, told), "")], _picture(session, told, look), _found(session, told, look),
@@ -58,7 +58,7 @@ def show(session: Session, told: Told, look: Look = Look()) -> Iterator[str]:
 
 
 def _picture(session: Session, told: Told, look: Look) -> Iterator[str]:
-    """The rows that matter, each in one line, or in a shorter form where these don't fit."""
+    """The rows that matter, one line each, or in a shorter form if these don't fit."""
     rows, named = chosen(session, told.lines(MOST_LINES)), told.lines(MOST_LINES)
     rounds = [row for row in rows if isinstance(row, Round)]
     labels = max([5, *(len(span(row.line, row.end)) for row in rows if not isinstance(row, Gap)),
@@ -98,12 +98,12 @@ def _sign(row: Round, slot: Slot) -> str:
 
 
 def _mark(row: Round, slot: Slot, named: set[int]) -> str:
-    """! beside what is named, q beside what was silenced afterwards."""
+    """! beside a named line, q beside a tag that was silenced afterwards."""
     return "!" if slot.line in named else "q" if slot.uid in row.quiets else " "
 
 
 def _narrow(row: Round, labels: int, named: set[int], look: Look) -> Iterator[str]:
-    """A round for a narrow terminal: the slots that aren't silent, or are named, and how many others are silent."""
+    """A round for a narrow terminal: the slots that are named or not silent, and how many others are silent."""
     told = [slot for slot in row.slots if slot.uid is not None or slot.reading is not Reading.SILENT or slot.line in named]
     signs = [f"{slot.place:X}:{_sign(row, slot)}{_mark(row, slot, named)}".rstrip() for slot in told]
     silent = len(row.slots) - len(told)
@@ -113,7 +113,7 @@ def _narrow(row: Round, labels: int, named: set[int], look: Look) -> Iterator[st
 
 
 def _found(session: Session, told: Told, look: Look) -> Iterator[str]:
-    """What `report` says, the first of each kind, with the lines of the log and the requests that are to be sent."""
+    """What `report` says, the first of each kind, with the lines of the log and the requests to send."""
     if told.refused_line is not None:
         yield f"{told.answer.line:>8} | {printable(session.refused)}"
         yield from look.wrapped(ADVICE[told.answer.fault].fix, "")
@@ -141,7 +141,7 @@ def _mask(word: str, mask: "Sequence[int]") -> str:
 
 
 def _shown(session: Session, word: str, shown: Shown, look: Look) -> Iterator[str]:
-    """UIDs, those that one line shows together, before it."""
+    """UIDs, grouped by the line that shows them, which follows."""
     by_line: dict[int, list[int]] = {}
     for number, line in zip(shown.uids[:MOST_LINES], shown.lines):
         by_line.setdefault(line, []).append(number)
@@ -159,12 +159,12 @@ def _quoted(quote: Quote, by: str, look: Look) -> Iterator[str]:
 
 def _more(total: int, what: str) -> Iterator[str]:
     if total > MOST_LINES:
-        yield f"⋮ {count(total - MOST_LINES, what)} more"
+        yield f"⋮ {count(total - MOST_LINES, f'more {what}')}"
 
 
 def _looked_for(session: Session, told: Told, look: Look) -> Iterator[str]:
     """The causes that fit a contradiction."""
     if told.answer.kind is Kind.IMPOSSIBLE:
-        yield "These causes fit, the likeliest first:"
+        yield "These causes fit, most likely first:"
         for cause in contradiction(session, told).causes:
             yield from look.wrapped(f"- {cause}")

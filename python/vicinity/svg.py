@@ -1,4 +1,4 @@
-"""A session drawn as SVG: rounds as rows, slots as cells. No script, no font and no file from outside."""
+"""A session drawn as SVG: rounds as rows, slots as cells. No script, no font and no external file."""
 from __future__ import annotations
 
 from html import escape
@@ -13,7 +13,7 @@ LINE_END = 88
 MASK_START = 100
 CELLS_START = 172
 WIDTH = CELLS_START + 16 * CELL + 8
-#: Fill, ink and sign of what was read. The fills differ in lightness, so that they are told apart without hue.
+#: Fill, ink and sign of what was read. The fills differ in lightness, so that they can be distinguished without hue.
 LOOKS = {
     Reading.SILENT: ("#e4e4e4", "#333333", "·"),
     Reading.HEARD: ("#005f47", "#ffffff", ""),
@@ -79,8 +79,8 @@ def _cell(row: Round, place: int, x: int, y: int) -> str:
 
 
 def timeline(asked: Round, title: str = "One inventory round, in time") -> str:
-    """One round as it goes in time, from left to right: the request, then slot after slot, and the reader's EOF before
-    each slot but the first."""
+    """One round in time, from left to right: the request, then slot after slot, and the reader's EOF before each slot
+    except the first."""
     request, gap, top = 110, 10, 44
     step = CELL + gap
     width = 10 + request + asked.places * step + gap

@@ -1,4 +1,4 @@
-"""What to do with an answer, step by step, with the requests to send."""
+"""What to do about an answer, step by step, with the requests to send."""
 from __future__ import annotations
 
 from typing import Iterator, NamedTuple, Sequence
@@ -11,30 +11,30 @@ from .session import Session
 from .told import Told
 from .words import UID_BITS
 
-#: How many requests of a step are written out.
+#: How many requests of a step are listed.
 MOST_ASKED = 100
-NOTHING = "Nothing: what the list says is what is there."
-AGAIN = "Switch the field off and on, and count again, as a new log."
+NOTHING = "Nothing: the list matches what is there."
+AGAIN = "Switch the field off and on, and count again, in a new log."
 CHECK = "Check the log again."
-NO_HARM = "Check the log again. Nothing is wrong with the shelf."
-CAUSES = "Look for the cause. These fit, the likeliest first:"
-LOST = ("Before you look for them: the reader silenced some absent UIDs, so it knew them, and replies of theirs may have "
-        "been lost. Switch the field off and on, and ask for each alone, or count again.")
-ABSENT = ("Look for {}. What was expected is missing from this field, or its tag is covered or broken: keep it on the list of "
-          "what is expected. What the reader says it found has left, or was found in another session: count again.")
-UNLISTED = ("Add {}, if the list is what the reader found: its software forgot what it heard. If the list is what you "
-            "expected, something is here that doesn't belong here, or that the catalogue lacks.")
-ASK_ALL = ("Any tag may be there. Ask all in sixteen slots, silence each that is heard, ask the mask of each collision in "
-           "sixteen slots, and so on. At the end ask all in one slot.")
-ASK_ON = ("The reader hasn't asked enough. Send each of these requests, one slot each, and log it with what answers. Silence "
-          "each tag that is heard; where two or more answer, ask the mask in sixteen slots.")
+NO_HARM = "Check the log again. This says nothing about the shelf."
+CAUSES = "Find the cause. These fit, most likely first:"
+LOST = ("Before you look for them: the reader silenced some of the absent UIDs, so it knew them, and their replies may have "
+        "been lost. Switch the field off and on, and ask for each one separately, or count again.")
+ABSENT = ("Look for {}. If the list is what you expected, the item is missing here, or its tag is covered or broken: keep it "
+          "on the list. If the list is what the reader found, the tag has left, or was found in another session: count again.")
+UNLISTED = ("If the list is what the reader found, add {}: its software forgot what it heard. If the list is what you "
+            "expected, something is here that doesn't belong here, or isn't in the catalogue.")
+ASK_ALL = ("Any tag may be there. Ask all tags in sixteen slots, silence each one that is heard, ask the mask of each "
+           "collision in sixteen slots, and so on. At the end, ask all tags in one slot.")
+ASK_ON = ("The reader hasn't asked enough. Send each of these requests, with one slot each, and log it with the answer. "
+          "Silence each tag that is heard; if two or more answer, ask the same mask in sixteen slots.")
 MORE = " More masks are open: check again after these sixteen."
-ALONE = ("Switch the field off and on, and write F, under the header 'vicinity-log 2': tags that were silenced answer again. "
-         "Then ask for each tag that may be there or missing, alone:")
+ALONE = ("Switch the field off and on, and log this as F (which needs the header 'vicinity-log 2'), so that silenced tags "
+         "answer again. Then ask separately for each tag that may be there or missing:")
 
 
 class Step(NamedTuple):
-    """A step: what to do, the group that it speaks of, lines to copy, and the causes to look for."""
+    """A step: what to do, the group that it is about, lines to copy, and the causes to look for."""
 
     text: str
     group: str = ""
@@ -63,7 +63,7 @@ def steps(session: Session, told: Told) -> Iterator[Step]:
 
 
 def _of_uids(session: Session, told: Told) -> Iterator[Step]:
-    """What to do with UIDs that are absent or unlisted."""
+    """What to do about absent and unlisted UIDs."""
     lost = [number for line, number in session.unheard if 0 < told.absent.line_of(number) < line]
     if lost:
         yield Step(LOST, "notes", [ask(session.link, 1, of_uid(number)) for number in lost[:MOST_ASKED]])
@@ -74,7 +74,7 @@ def _of_uids(session: Session, told: Told) -> Iterator[Step]:
 
 
 def _of_masks(session: Session, told: Told) -> Iterator[Step]:
-    """What is to be asked. A tag that was silenced and never heard answers only after a field cycle."""
+    """What is still to be asked. A tag that was silenced but never heard answers only after a field cycle."""
     unheard = {of_uid(number) for _, number in session.unheard}
     masks = [mask for mask in told.open_masks if mask not in unheard]
     if masks and not masks[0].length:

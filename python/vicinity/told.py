@@ -1,4 +1,4 @@
-"""A report as columns of numbers: as small in memory as the library gives it, since a log may have a million findings."""
+"""A report as columns of numbers: as small in memory as in the library, since a log may have a million findings."""
 from __future__ import annotations
 
 from array import array
@@ -33,21 +33,21 @@ class Shown(NamedTuple):
 
 
 class Told:
-    """What `vicinity report` says of a log."""
+    """What `vicinity report` says about a log."""
 
     def __init__(self, answer: Answer, records: memoryview):
         self.answer = answer
         self.absent = Shown(array("Q"), array("I"))
         self.unlisted = Shown(array("Q"), array("I"))
         self.doubtful: array[int] = array("Q")
-        #: The widest mask that is open and of which nothing is listed.
+        #: The widest open mask without a listed UID.
         self.unsettled: Optional[Mask] = None
-        #: What is left to ask for, at most sixteen masks.
+        #: What is still to be asked, at most sixteen masks.
         self.open_masks: list[Mask] = []
         self.has_more_open = False
-        #: The lines that can't all be true.
+        #: The lines that contradict each other.
         self.conflict: array[int] = array("I")
-        #: The line that silenced the tag that answered all the same, or 0.
+        #: The line that silenced a tag which answered nevertheless, or 0.
         self.silenced = 0
         columns = _Records(records)
         start = 0
@@ -57,7 +57,7 @@ class Told:
             start = behind
 
     def _add(self, kind: int, columns: _Records, places: slice) -> None:
-        """Adds findings of one kind, which stand together."""
+        """Adds findings of one kind, which are consecutive."""
         if kind == FindingKind.ABSENT or kind == FindingKind.UNLISTED:
             shown = self.absent if kind == FindingKind.ABSENT else self.unlisted
             shown.uids.extend(columns.uids[places])
@@ -83,7 +83,7 @@ class Told:
 
     @property
     def conflict_size(self) -> int:
-        """How many lines contradict each other, the one that silenced a tag among them."""
+        """How many lines contradict each other, including the one that silenced a tag."""
         return len(self.conflict) + bool(self.silenced)
 
     def lines(self, most: int) -> set[int]:
@@ -94,5 +94,5 @@ class Told:
 
 
 def tell(text: bytes) -> Told:
-    """What `vicinity report` says of a text. Raises what `report` raises."""
+    """What `vicinity report` says about a text. Raises what `report` raises."""
     return Told(*report_records(text))

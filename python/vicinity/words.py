@@ -9,10 +9,10 @@ from .session import Reading
 READ = {
     Reading.SILENT: "no tag answered",
     Reading.HEARD: "one tag answered",
-    Reading.COLLISION: "two tags or more answered",
-    Reading.GARBLED: "one tag or more answered, unreadable",
+    Reading.COLLISION: "two or more tags answered",
+    Reading.GARBLED: "one or more tags answered, unreadable",
 }
-#: The bits of a UID that a mask of the profile can tell; the others are those of E0.
+#: The bits in which UIDs differ; the others are those of E0.
 UID_BITS = 56
 
 
@@ -22,7 +22,7 @@ def count(number: int, one: str, many: str = "") -> str:
 
 
 def span(first: int, last: int) -> str:
-    """Numbers of lines that follow each other."""
+    """The numbers of consecutive lines."""
     return f"{first}" if first == last else f"{first} to {last}"
 
 
@@ -42,7 +42,7 @@ def uid(number: int) -> str:
 
 
 def short(number: int, others: Iterable[int] = ()) -> str:
-    """The last digits of a UID: four, or as many as tell it from others."""
+    """The last digits of a UID: four, or as many as distinguish it from others."""
     digits = next(it for it in (4, 6, 8, 12, 16)
                   if it == 16 or all((number ^ other) & (1 << 4 * it) - 1 for other in others if other != number))
     return ("" if digits == 16 else "..") + uid(number)[-digits:]
@@ -64,11 +64,11 @@ def ending(mask: Mask) -> str:
 
 
 def digits_heard(asked: Mask, number: int) -> str:
-    """The two last digits of a UID heard that the mask asked leaves open."""
+    """Of a UID that was heard, the last two digits that the asked mask leaves open."""
     return f"{number >> min(asked.length // 4 * 4, UID_BITS) & 0xFF:02X}"
 
 
 def printable(line: bytes) -> str:
-    """A line of any text, with nothing in it that a terminal obeys."""
+    """A line of any text, without anything that a terminal would interpret."""
     text = line.rstrip(b"\r").decode("utf-8", "backslashreplace")
     return "".join(it if it.isprintable() else f"\\x{ord(it):02x}" for it in text) or "(empty)"
