@@ -1,10 +1,10 @@
 /*
  * vicinity: is the list of tags that a reader claims complete?
  *
- * Compare vicinity_interface() with VICINITY_INTERFACE: it tells whether the library that is linked
- * fits this header.
+ * Compare vicinity_interface() with VICINITY_INTERFACE to see whether the linked library fits this
+ * header.
  *
- * What a caller owes, since nothing checks it:
+ * What the caller has to ensure, since nothing checks it:
  * - `text` points to `text_len` readable bytes, `bytes` to `len`, at most PTRDIFF_MAX. No NUL is
  *   needed at the end, and one inside is an ordinary byte.
  * - `uids` points to `count` readable numbers.
@@ -207,8 +207,8 @@ uint32_t vicinity_check(const uint8_t *text, size_t text_len, struct vicinity_an
 /*
  * Judges a log and explains the answer by a counterexample, as `vicinity explain` does. These are
  * the UIDs, in rising order, of tags that could have produced the log and differ from its list.
- * `*needed` is how many they are. If `room` is at least that, they stand at the front of
- * `population`; otherwise nothing is written there: call again with a larger buffer. They may be
+ * `*needed` is how many there are. If `room` is at least that, they are at the start of
+ * `population`; otherwise nothing is written there: call again with a larger buffer. There may be
  * none, which is the empty population. There is no counterexample, and `*needed` is 0, for
  * VICINITY_COMPLETE, _IMPOSSIBLE, _REFUSED and _NO_ANSWER.
  */
@@ -220,7 +220,7 @@ uint32_t vicinity_explain(const uint8_t *text, size_t text_len, struct vicinity_
  * possible log: the absent UIDs, the unlisted ones, the unsettled mask followed by the open masks,
  * and the doubtful UIDs; UIDs in rising order. Of an impossible one: the lines of a conflict, in
  * rising order, and the line that silenced. `*needed` is how many findings there are. If `room` is
- * at least that, they stand at the front of `findings`; otherwise nothing is written there: call
+ * at least that, they are at the start of `findings`; otherwise nothing is written there: call
  * again with a larger buffer. There is none, and `*needed` is 0, for VICINITY_COMPLETE, _REFUSED
  * and _NO_ANSWER.
  */
@@ -249,7 +249,7 @@ uint32_t vicinity_report_listed(const uint8_t *text, size_t text_len, const uint
 /*
  * Fills in the slots of a log, as the tags that it lists would answer. What `vicinity simulate`
  * prints is written: the text of the filled log, or the one line of a refusal. `*needed` is how
- * many bytes it has. If `room` is at least that, they stand at the front of `filled`, with no NUL
+ * many bytes it has. If `room` is at least that, they are at the start of `filled`, with no NUL
  * after them; otherwise nothing is written there: call again with a larger buffer. Returns the
  * status: 0 for a log, 3 for a refusal; 4 if memory was refused, and then `*needed` is 0.
  */

@@ -1,4 +1,4 @@
-"""What pip asks to build the package (PEP 517). It needs Python alone: nothing is downloaded, and nothing is left here."""
+"""What pip calls to build the package (PEP 517). It needs only Python: nothing is downloaded, and nothing is left here."""
 import base64
 import hashlib
 import io
@@ -11,7 +11,7 @@ HERE = os.path.dirname(os.path.abspath(__file__))
 
 
 def _project():
-    """The strings of pyproject.toml, which Python reads by itself from 3.11 on."""
+    """The strings of pyproject.toml, which Python can read itself from 3.11 on."""
     with open(os.path.join(HERE, "pyproject.toml"), encoding="utf-8") as file:
         return dict(re.findall(r'^([a-z-]+) = "(.*)"$', file.read(), re.MULTILINE))
 
@@ -28,7 +28,7 @@ def _modules():
 
 
 def _wheel(folder, files):
-    """Writes a wheel of files, by their names, beside what says what it is."""
+    """Writes a wheel of files, by their names, with its metadata."""
     full = "{name}-{version}".format(**_project())
     about = f"{full}.dist-info"
     files = {**files, f"{about}/METADATA": _metadata().encode(),

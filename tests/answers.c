@@ -1,7 +1,7 @@
-/* All that the library answers to texts:  answers <TEXTS
+/* Everything that the library answers to texts:  answers <TEXTS
  *
- * A text comes as its length in decimal on a line, and its bytes. For each the answer of both calls is written with every
- * field, and the population, in rooms of none, one and as many places as it needs. */
+ * A text is given as its length in decimal on a line, and its bytes. For each, the answer of both calls is written with every
+ * field, and the population, in buffers of none, one and as many elements as it needs. */
 #include "vicinity.h"
 
 #include <inttypes.h>

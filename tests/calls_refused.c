@@ -1,5 +1,5 @@
-/* Refuses each growth of the calls that take memory in turn, on some logs: there is no answer then, nothing else is
-   written and no memory is kept; and the same call gives the right answer afterwards. Link with --wrap of malloc,
+/* Refuses each allocation of the calls that take memory in turn, on some logs: then there is no answer, nothing else is
+   written and no memory is kept; and the same call returns the right answer afterwards. Link with --wrap of malloc,
    realloc and free. */
 #include "vicinity.h"
 
@@ -39,7 +39,7 @@ void __wrap_free(void *memory)
     __real_free(memory);
 }
 
-/* What one call gave: no padding is in it. */
+/* The result of one call: it has no padding. */
 struct given {
     struct vicinity_answer answer;
     uint64_t status;
@@ -49,7 +49,7 @@ struct given {
     uint8_t filled[ROOM];
 };
 
-/* Makes a call whose growth of this number is refused; none is where it is 0. */
+/* Makes a call whose allocation with this number is refused; none is if it is 0. */
 static void call(enum which which, const uint8_t *text, size_t len, size_t number, struct given *given)
 {
     static const uint64_t uids[] = {UINT64_C(0xE0040100000000B2), UINT64_C(0xE0040100000000A1)};
@@ -83,7 +83,7 @@ static void call(enum which which, const uint8_t *text, size_t len, size_t numbe
     }
 }
 
-/* What a call gives that was refused memory: no answer, where it has one to give. */
+/* The result of a call that was refused memory: no answer, if it would have one. */
 static void none(enum which which, struct given *given)
 {
     memset(given, UNWRITTEN, sizeof *given);
@@ -95,7 +95,7 @@ static void none(enum which which, struct given *given)
     given->needed = 0;
 }
 
-/* Takes the lines that begin with one of these letters out of a text. */
+/* Removes the lines that begin with one of these letters from a text. */
 static size_t without(const char *letters, uint8_t *text, size_t len)
 {
     size_t kept = 0;
@@ -110,7 +110,7 @@ static size_t without(const char *letters, uint8_t *text, size_t len)
     return kept;
 }
 
-/* Refuses each growth of a call in turn; gives how many, or 0 where something is wrong. */
+/* Refuses each allocation of a call in turn; returns how many there were, or 0 if something is wrong. */
 static size_t refuse_each(enum which which, const uint8_t *text, size_t len)
 {
     static struct given right, given, memory;
@@ -137,7 +137,7 @@ int main(int argc, char **argv)
             return 1;
         for (int which = 0; which < CALLS; which++) {
             memcpy(changed, text, len);
-            /* what is filled in tells of no slot, and what is judged with a list beside it lists nothing */
+            /* a text to fill in has no slot lines, and a text judged with a separate list lists nothing */
             const char *letters = which == SIMULATE ? "SRCD" : which < CHECK_LISTED ? "" : "U";
             size_t refusals = refuse_each((enum which)which, changed, without(letters, changed, len));
             if (refusals == 0)

@@ -1,6 +1,6 @@
-/* Makes the calls that judge a text or fill it in on each first part of some logs, and those that read bytes on each
-   part of a frame. What is handed over ends where memory ends, and so does the room for what is given: a byte read or
-   written behind would fault. */
+/* Makes the calls that judge a text or fill it in on each prefix of some logs, and those that read bytes on each part of
+   a frame. The bytes that are passed end where memory ends, and so do the buffers for results: a byte read or written
+   after them would fault. */
 #define _GNU_SOURCE
 #include "vicinity.h"
 
@@ -10,7 +10,7 @@
 
 enum { PAGE = 4096, PLACES = 4, UNWRITTEN = 7 };
 
-/* Where memory ends behind ROOM bytes; NULL where there are none. */
+/* Where memory ends after ROOM bytes; NULL if there are none. */
 static uint8_t *end_of_memory(void)
 {
     uint8_t *pages = mmap(0, ROOM + PAGE, PROT_READ | PROT_WRITE, MAP_PRIVATE | MAP_ANONYMOUS, -1, 0);
@@ -25,7 +25,7 @@ static int is_answer(const struct vicinity_answer *answer)
            answer->kind <= VICINITY_REFUSED;
 }
 
-/* Whether an explanation gives this answer, and a room of so many places the population or nothing. */
+/* Whether an explanation has this answer, and a buffer of that many elements gets the population or nothing. */
 static int explains(const uint8_t *text, size_t len, const struct vicinity_answer *answer, uint64_t *end, size_t places)
 {
     struct vicinity_answer explained;
@@ -44,7 +44,7 @@ static int explains(const uint8_t *text, size_t len, const struct vicinity_answe
     return 1;
 }
 
-/* Whether a report gives this answer, and a room that it fits its findings, and no other. */
+/* Whether a report has this answer, and only a buffer that is large enough gets its findings. */
 static int reports(const uint8_t *text, size_t len, const struct vicinity_answer *answer, uint8_t *end)
 {
     struct vicinity_answer reported;
@@ -65,7 +65,7 @@ static int reports(const uint8_t *text, size_t len, const struct vicinity_answer
     return 1;
 }
 
-/* Whether a list beside the text is answered, checked as explained. It is `count` UIDs before the end of memory. */
+/* Whether a separate list gets the same answer when checked as when explained. It is `count` UIDs before the end of memory. */
 static int judges_listed(const uint8_t *text, size_t len, uint64_t *end, size_t count)
 {
     struct vicinity_answer answer, explained;
@@ -78,7 +78,7 @@ static int judges_listed(const uint8_t *text, size_t len, uint64_t *end, size_t 
            is_answer(&answer) && !memcmp(&explained, &answer, sizeof answer);
 }
 
-/* Whether the text that is filled in is written to a room that it fits, all of it, and to no other. */
+/* Whether the filled-in text is written completely, and only to a buffer that is large enough. */
 static int simulates(const uint8_t *text, size_t len, uint8_t *end)
 {
     size_t needed, again;
@@ -96,7 +96,7 @@ static int simulates(const uint8_t *text, size_t len, uint8_t *end)
     return 1;
 }
 
-/* Whether a frame is read, which is a request's and a reply's alike, no part of it is, and each is noted. */
+/* Whether a frame that is both a request and a reply is read, and no part of it; CRCs and lines are written of all parts. */
 static int reads_frames(uint8_t *end)
 {
     static const uint8_t frame[] = {0x22, 0x02, 0xA1, 0, 0, 0, 0, 1, 4, 0xE0, 0x66, 0x2A};

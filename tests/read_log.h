@@ -4,7 +4,7 @@
 
 enum { ROOM = 1 << 16, NO_LOG = ROOM + 1 };
 
-/* How many bytes a file has, which are put at the front of `text`; NO_LOG if it can't be opened. */
+/* How many bytes a file has, which are put at the start of `text`; NO_LOG if it can't be opened. */
 static size_t read_log(const char *name, uint8_t text[ROOM])
 {
     FILE *file = fopen(name, "rb");

@@ -2,9 +2,9 @@
  *
  *     reader_loop [TAGS]
  *
- * A collision is asked again by the mask of its slot. Only when none is left is the checker called, since each call reads
- * the log from its beginning; the mask of its answer `unsettled` is asked then. If that is the mask that it named before, a
- * tag was silenced before it was heard, which wakes up in a field cycle. `slot_gave` stands for the reader's chip: here it
+ * After a collision, the mask of its slot is asked. The checker is called only when no collision is left, since each call
+ * reads the log from its beginning; then the mask of its answer `unsettled` is asked. If that is the same mask as before, a
+ * tag was silenced before it was heard, and wakes up in a field cycle. `slot_gave` stands for the reader's chip: here it
  * asks a simulated field. */
 #include "vicinity.h"
 
@@ -23,7 +23,7 @@ static size_t collisions;
 static char text[TEXT_ROOM] = VICINITY_HEADER_LINE;
 static size_t len = sizeof VICINITY_HEADER_LINE - 1;
 
-/* Notes one line of the log. */
+/* Adds one line to the log. */
 static void note(char letter, const struct vicinity_frame *frame)
 {
     static const struct vicinity_frame none;
@@ -35,7 +35,7 @@ static void note(char letter, const struct vicinity_frame *frame)
     len += line.len;
 }
 
-/* How many tags answer in a slot, and the reply if it is one: what a chip tells. */
+/* How many tags answer in a slot, and the reply if there is one: what a chip reports. */
 static size_t slot_gave(const struct vicinity_mask *slot, struct vicinity_frame *reply)
 {
     size_t answering = 0;
@@ -48,7 +48,7 @@ static size_t slot_gave(const struct vicinity_mask *slot, struct vicinity_frame 
     return answering;
 }
 
-/* Asks the tags of a mask in sixteen slots, and notes the request and what each slot gave. */
+/* Asks the tags of a mask in sixteen slots, and logs the request and what was read in each slot. */
 static void ask(uint32_t mask_len, uint64_t mask_value)
 {
     struct vicinity_frame frame;
@@ -68,7 +68,7 @@ static void ask(uint32_t mask_len, uint64_t mask_value)
     }
 }
 
-/* How many tags a word says; more than MOST_TAGS if it says no number. */
+/* The number of tags that a word says; more than MOST_TAGS if it isn't a number. */
 static size_t count_in(const char *word)
 {
     return *word && word[strspn(word, "0123456789")] == '\0' ? strtoul(word, NULL, 10) : MOST_TAGS + 1;
@@ -78,7 +78,7 @@ int main(int argc, char **argv)
 {
     struct vicinity_answer answer;
     struct vicinity_frame frame;
-    struct vicinity_mask named = {0, 65, 0}; /* by the last answer: at first none */
+    struct vicinity_mask named = {0, 65, 0}; /* by the last answer; none at first */
     size_t rounds = 0, cycles = 0, calls = 1;
     tags = argc == 2 ? count_in(argv[1]) : argc < 2 ? 40 : MOST_TAGS + 1;
     if (vicinity_interface() != VICINITY_INTERFACE || tags > MOST_TAGS) {
@@ -87,7 +87,7 @@ int main(int argc, char **argv)
     }
     for (size_t i = 0; i < tags; i++)
         field[i] = UINT64_C(0xE0) << 56 | (i + 1) * UINT64_C(0x9E3779B97F4A7C15) >> 8;
-    if (tags > 0) { /* someone has silenced a tag before it was heard */
+    if (tags > 0) { /* a tag was silenced before it was heard */
         silenced = field[0];
         vicinity_write_stay_quiet(2, silenced, &frame);
         note('T', &frame);

@@ -4,8 +4,8 @@
  *     vicinity frame HEX
  *     vicinity spell WORDS..
  *
- * A text is read to its end, one call judges it, and the answer is written. What logs and frames mean is known to the
- * library alone; here stand the words, the reading and the writing, in C99 over POSIX. */
+ * A text is read to its end, one call judges it, and the answer is written. Only the library knows what logs and frames
+ * mean; this file has the words, the reading and the writing, in C99 over POSIX. */
 #define _POSIX_C_SOURCE 200112L
 #include "vicinity.h"
 
@@ -24,7 +24,7 @@ enum { WHOLE = 0, REFUSED = 3, NO_ANSWER = 4 }; /* statuses */
 
 enum {
     PIECE = 1 << 16,
-    MOST_BYTES = 1000000 * 130 + 1, /* in so many a line is too long, or one too many */
+    MOST_BYTES = 1000000 * 130 + 1, /* a text of this length has a line that is too long, or one too many */
     LINE_ROOM = 256,
     FIRST_ROOM = 1024, /* of a population, of findings */
     MOST_DIGITS = 128, /* of a frame */
@@ -33,7 +33,7 @@ enum {
     MOST_BITS_OF_SIXTEEN = 60
 };
 
-/* Says on standard error why there is no answer. */
+/* Writes to standard error why there is no answer. */
 static int no_answer(const char *why)
 {
     fprintf(stderr, "vicinity: %s\n", why);
@@ -62,7 +62,7 @@ static bool make_room(struct text *text, size_t more)
     return !text->refused;
 }
 
-/* Puts what printf would write, which is shorter than LINE_ROOM, at the end of a text. */
+/* Appends what printf would write, which is shorter than LINE_ROOM, to a text. */
 static void put(struct text *text, const char *format, ...)
 {
     va_list values;
@@ -73,7 +73,7 @@ static void put(struct text *text, const char *format, ...)
     va_end(values);
 }
 
-/* Reads a stream to its end, or more of it than a log can have. Returns why that failed; NULL if it hasn't. */
+/* Reads a stream to its end, or more of it than a log can have. Returns why that failed; NULL if it didn't. */
 static const char *read_text(int from, struct text *text)
 {
     while (text->len < MOST_BYTES) {
@@ -90,7 +90,7 @@ static const char *read_text(int from, struct text *text)
     return NULL;
 }
 
-/* Writes a text to standard output. Returns why that failed; NULL if it hasn't. */
+/* Writes a text to standard output. Returns why that failed; NULL if it didn't. */
 static const char *write_text(const struct text *text)
 {
     size_t done = 0;
@@ -274,11 +274,11 @@ static uint32_t frame(const char *word, struct text *answered)
     return request.fault && reply.fault ? REFUSED : WHOLE;
 }
 
-/* ---- spell: each reads its words as `frame` writes them, and returns why they spell no frame; NULL if they do */
+/* ---- spell: each reads its words as `frame` writes them, and returns why they don't spell a frame; NULL if they do */
 
 static const char WORDS[] = "Words", RANGE[] = "Range";
 
-/* Whether a word is how a number is written: in decimal, or in hex with so many digits at least. */
+/* Whether a word is how a number is written: in decimal, or in hex with at least that many digits. */
 static bool is_decimal(const char *word, uint64_t *number)
 {
     char again[32];
@@ -370,7 +370,7 @@ static uint32_t spell(char **words, int count, struct text *answered)
 
 /* ---- the words of the command line */
 
-/* Whether a word is UTF-8; no other is taken. */
+/* Whether a word is UTF-8; others aren't accepted. */
 static bool is_utf8(const char *word)
 {
     static const uint32_t least[] = {0, 0x80, 0x800, 0x10000};

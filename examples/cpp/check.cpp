@@ -1,6 +1,6 @@
-// Checks a log, FILE or standard input, and shows the population behind a 'no':  check [FILE]
+// Checks a log, FILE or standard input; if it isn't complete, shows a counterexample:  check [FILE]
 //
-// `vicinity::explain` is all of the binding: it owns what C would have to free, and throws if memory runs out.
+// `vicinity::explain` is the complete binding: it owns what C would have to free, and throws if memory runs out.
 #include "vicinity.h"
 
 #include <cstdio>

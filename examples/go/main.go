@@ -1,4 +1,4 @@
-// Checks a log, FILE or standard input, and shows the tags behind a 'no':  vicinity-check [FILE]
+// Checks a log, FILE or standard input; if it isn't complete, shows a counterexample:  vicinity-check [FILE]
 package main
 
 import (
@@ -18,7 +18,7 @@ func read() ([]byte, error) {
 	return io.ReadAll(os.Stdin)
 }
 
-// check takes the lines of the list off, when each is a UID, and hands them over beside the text.
+// check removes the lines of the list, if each is a UID, and passes them separately.
 func check(text []byte) (vicinity.Answer, error) {
 	rest, list, found := strings.Cut(string(text), "\nU ")
 	if !found {

@@ -1,4 +1,4 @@
-"""Checks a log, and says what the program says:  check.py FILE"""
+"""Checks a log, and prints what the program prints:  check.py FILE"""
 import sys
 
 import vicinity

@@ -1,7 +1,7 @@
 """Many logs over many machines, by Dask:  fleet.py SCHEDULER FILE ..
 
-SCHEDULER is the address of a Dask scheduler, as tcp://shelf:8786, or a number: so many workers on this machine. Each
-worker needs the package vicinity, no worker needs the files. Logs don't depend on each other, so it is one map.
+SCHEDULER is the address of a Dask scheduler, such as tcp://shelf:8786, or a number of workers on this machine. Each
+worker needs the package vicinity, none needs the files. Logs don't depend on each other, so this is a single map.
 """
 import sys
 

@@ -2,11 +2,11 @@
 
     reader_loop.py [TAGS]
 
-A collision is asked again, four bits deeper. Only when none is left is the checker called, since each call reads the log
-from its beginning. It says what to ask then: the mask of its answer `unsettled`, whose UIDs may be there and aren't listed.
-If that is the mask that it named before, a tag was silenced before it was heard: the field is switched off and on. The
-field is simulated here. A real reader sends the frames and notes what comes back, in the same lines: frames, masks of slots
-and lines are the library's."""
+After a collision, the tags of its slot are asked again, by four more bits. The checker is called only when no collision is
+left, since each call reads the log from its beginning. Then it says what to ask: the mask of its answer `unsettled`, whose
+UIDs may be there and aren't listed. If that is the same mask as before, a tag was silenced before it was heard, and the
+field is switched off and on. Here the field is simulated. A real reader sends the frames and logs what comes back, in the
+same lines: frames, masks of slots and lines come from the library."""
 import random
 import sys
 
@@ -16,8 +16,8 @@ MOST_ROUNDS = 20_000
 
 
 def round_over(field, mask, lines, heard):
-    """Asks the tags of a mask in sixteen slots, notes the request and what each slot gave, and gives the masks of the
-    slots in which tags collided."""
+    """Asks the tags of a mask in sixteen slots, logs the request and what was read in each slot, and returns the masks of
+    the slots in which tags collided."""
     collided = []
     lines.append(vicinity.write_line("T", vicinity.write_inventory(2, 16, mask)))
     asked = [uid for uid in field if uid % (1 << mask.length) == mask.value]
@@ -36,8 +36,8 @@ def round_over(field, mask, lines, heard):
 
 
 def find_all(field, silenced):
-    """The tags of a field, the lines of the log that shows that they are all, and how many rounds and calls of the checker
-    it took. One tag of the field is silenced first, and not yet heard."""
+    """The tags of a field, the lines of a log which shows that these are all, and how many rounds and calls of the checker
+    it took. At first, one tag of the field is silenced and hasn't been heard."""
     lines = [vicinity.HEADER_LINE, vicinity.write_line("T", vicinity.write_stay_quiet(2, silenced))]
     heard, to_ask, named, calls = set(), [], None, 0
     awake = field - {silenced}

@@ -15,7 +15,7 @@ import (
 	"unsafe"
 )
 
-// ErrOutOfMemory says that there is no answer, since memory ran out.
+// ErrOutOfMemory means that there is no answer because memory ran out.
 var ErrOutOfMemory = errors.New("vicinity: out of memory")
 
 // Kind is what an answer is.
@@ -31,10 +31,10 @@ const (
 	Refused    Kind = C.VICINITY_REFUSED
 )
 
-// Answer is what is answered to a text. A number of which the kind doesn't speak is 0.
+// Answer is the answer to a text. Numbers that the kind doesn't use are 0.
 type Answer struct {
 	Kind      Kind
-	Status    int // with which the program ends: 0 is complete
+	Status    int // the exit status of the program: 0 is complete
 	Count     uint32
 	Line      uint32
 	Fault     uint32
@@ -44,26 +44,26 @@ type Answer struct {
 	Text      string // the line of the program, without its LF
 }
 
-// Fits tells whether the library that is linked has the interface of the header.
+// Fits reports whether the linked library has the interface of the header.
 func Fits() bool {
 	return C.vicinity_interface() == C.VICINITY_INTERFACE
 }
 
-// Check gives the answer to a text.
+// Check returns the answer to a text.
 func Check(text []byte) (Answer, error) {
 	var told C.struct_vicinity_answer
 	C.vicinity_check(bytes(text), C.size_t(len(text)), &told)
 	return answer(&told)
 }
 
-// CheckListed gives the answer to a text that lists nothing, with a list of UIDs beside it, in any order.
+// CheckListed returns the answer to a text that lists nothing, with a separate list of UIDs, in any order.
 func CheckListed(text []byte, uids []uint64) (Answer, error) {
 	var told C.struct_vicinity_answer
 	C.vicinity_check_listed(bytes(text), C.size_t(len(text)), numbers(uids), C.size_t(len(uids)), &told)
 	return answer(&told)
 }
 
-// Explain gives the answer to a text, and the UIDs of tags that show it, in rising order.
+// Explain returns the answer to a text, and the UIDs of tags that show it, in rising order.
 func Explain(text []byte) (Answer, []uint64, error) {
 	var told C.struct_vicinity_answer
 	var needed C.size_t
@@ -78,7 +78,7 @@ func Explain(text []byte) (Answer, []uint64, error) {
 	}
 }
 
-// bytes is where a text begins. An empty one has no first byte, and the calls take no NULL.
+// bytes points to the start of a text. An empty one has no first byte, and the calls don't accept NULL.
 func bytes(text []byte) *C.uint8_t {
 	if len(text) == 0 {
 		return new(C.uint8_t)
@@ -86,7 +86,7 @@ func bytes(text []byte) *C.uint8_t {
 	return (*C.uint8_t)(unsafe.Pointer(&text[0]))
 }
 
-// numbers is where UIDs begin.
+// numbers points to the first of some UIDs.
 func numbers(uids []uint64) *C.uint64_t {
 	if len(uids) == 0 {
 		return new(C.uint64_t)

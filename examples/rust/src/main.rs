@@ -20,7 +20,7 @@ fn main() -> ExitCode {
     let Ok(text) = text() else {
         return ExitCode::from(4);
     };
-    // The lines of the list are taken off and handed over beside the text, when each is a UID.
+    // The lines of the list are removed and passed separately, if each is a UID.
     let start = text.windows(3).position(|part| part == b"\nU ").map_or(text.len(), |at| at + 1);
     let listed = std::str::from_utf8(&text[start..]).unwrap_or("?").lines();
     let uids: Option<Vec<u64>> =

@@ -1,4 +1,4 @@
-//! The library of vicinity.h, safe to call. It needs `core` alone.
+//! The library of vicinity.h, safe to call. It needs only `core`.
 
 use core::fmt;
 
@@ -30,7 +30,7 @@ mod raw {
     }
 }
 
-/// What is answered to a log.
+/// The answer to a log.
 #[derive(Clone, Copy, Debug, PartialEq, Eq)]
 pub enum Verdict {
     Complete { count: u32 },
@@ -46,7 +46,7 @@ pub enum Verdict {
 #[derive(Clone, Copy, Debug, PartialEq, Eq)]
 pub struct OutOfMemory;
 
-/// A verdict, with the line and the status of the program.
+/// A verdict, with the line and the exit status of the program.
 #[derive(Clone, Copy, Debug, PartialEq, Eq)]
 pub struct Answer {
     pub verdict: Verdict,
@@ -62,7 +62,7 @@ impl fmt::Display for Answer {
     }
 }
 
-/// Whether the library that is linked has the interface that this module was written for.
+/// Whether the linked library has the interface that this module was written for.
 pub fn fits() -> bool {
     // SAFETY: the call takes nothing.
     unsafe { raw::vicinity_interface() == 1 }
@@ -71,12 +71,12 @@ pub fn fits() -> bool {
 /// The answer to a text.
 pub fn check(text: &[u8]) -> Result<Answer, OutOfMemory> {
     let mut told = EMPTY;
-    // SAFETY: a slice's pointer isn't null, its length is at most isize::MAX, and nobody else has `told`.
+    // SAFETY: a slice's pointer isn't null, its length is at most isize::MAX, and nothing else refers to `told`.
     unsafe { raw::vicinity_check(text.as_ptr(), text.len(), &mut told) };
     answer(told)
 }
 
-/// The answer to a text that lists nothing, with a list of UIDs beside it, in any order.
+/// The answer to a text that lists nothing, with a separate list of UIDs, in any order.
 pub fn check_listed(text: &[u8], uids: &[u64]) -> Result<Answer, OutOfMemory> {
     let mut told = EMPTY;
     // SAFETY: as in `check`, for both slices.
