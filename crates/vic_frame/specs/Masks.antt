@@ -18,7 +18,7 @@ IsMask m = (m.len ≤ MAX_MASK_LEN) × (m.value < 2 ^ m.len)
 abbrev pub LiesIn : BitMask → ℕ → Type 0
 LiesIn m u = u % 2 ^ m.len ≡ m.value
 
--- the same, as a test
+-- whether a UID lies in a mask
 abbrev pub lies_in : BitMask → ℕ → Bool
 lies_in m u = u % 2 ^ m.len == m.value
 

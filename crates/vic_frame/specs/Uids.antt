@@ -7,7 +7,7 @@ use Rattle.vic_frame.specs.declared.uid.TheConstants.{UID_BITS}
 abbrev pub IsUid : ℕ → Type 0
 IsUid u = (0xE0 * 2 ^ UID_BITS ≤ u) × (u < 0xE1 * 2 ^ UID_BITS)
 
--- the same, as a test
+-- whether a number is a UID
 abbrev pub is_uid : ℕ → Bool
 is_uid u = nat_le (0xE0 * 2 ^ UID_BITS) u && nat_lt u (0xE1 * 2 ^ UID_BITS)
 

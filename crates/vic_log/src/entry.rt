@@ -47,7 +47,7 @@ impl Entry {
 pub enum Version {
     /// Neither `D` nor `F`.
     V1,
-    /// All.
+    /// All entries.
     V2,
 }
 

@@ -25,17 +25,17 @@ pub enum LineFault {
     UnknownEntry,
     /// What follows the space isn't an even number of hex digits.
     Hex,
-    /// A `U` line without exactly eight bytes.
+    /// It is a `U` line without exactly eight bytes.
     ListedLength,
-    /// A `T` or `R` line whose frame has this fault.
+    /// It is a `T` or `R` line whose frame has this fault.
     Frame(FrameFault),
-    /// A `U` line whose first byte isn't E0.
+    /// It is a `U` line whose first byte isn't E0.
     NotVicinity,
-    /// A slot line when no slot of a round is left.
+    /// It is a slot line, and no slot of a round is left.
     SlotOutsideRound,
-    /// A `T` or `F` line after a `U` line.
+    /// It is a `T` or `F` line after a `U` line.
     EntryAfterList,
-    /// A UID that was listed before.
+    /// It lists a UID that was listed before.
     DuplicateListed,
 }
 

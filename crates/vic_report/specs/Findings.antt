@@ -8,7 +8,7 @@ use Rattle.vic_log.specs.Populations.{answers_at}
 use Rattle.vic_report.specs.declared.shown.ShownUid.{ShownUid}
 use Rattle.vic_verdict.specs.Possible.{IsPossibleUid}
 
--- a slot that was found so is silent, or holds the reply of another UID
+-- a slot with this entry was silent, or held the reply of another UID
 abbrev pub lacks_reply_of : Entry → ℕ → Bool
 lacks_reply_of Silent u = true
 lacks_reply_of (Heard r) u = not (r.uid == u)
@@ -32,8 +32,9 @@ pub record RulesOut (lines : List LogLine) (n u : ℕ) : Type 0 where
 abbrev pub MayAnswer : List Entry → ℕ → ℕ → Type 0
 MayAnswer es i u = IsPossibleUid es u × (answers_at es i u ≡ true)
 
--- the slot at position i, found so, shows that the UID is there: by its reply; or, if several
--- answered, as one of the only two that may have; or, if some did, as the only one
+-- the slot at position i, with this entry, shows that the UID is there: by its reply; or, if two or
+-- more tags answered, as one of the only two UIDs that may have; or, if one or more did, as the
+-- only one
 abbrev pub TellsOf : List Entry → ℕ → ℕ → Entry → Type 0
 TellsOf es i u (Heard r) = r.uid ≡ u
 TellsOf es i u Collision =

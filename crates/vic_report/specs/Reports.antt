@@ -64,7 +64,7 @@ IsReport lines (NotWhole f) =
     IsPossible (entries lines) × AreFindings lines f × (AreNone f → ⊥)
 IsReport lines (Complete count) = IsVerdict lines (verdict.Complete count)
 
--- the first of some findings, which is the verdict; a count if there is none
+-- the first of some findings, which is the verdict; `Complete 0` if there is none
 abbrev pub first_finding : List ℕ → List ℕ → Option BitMask → List ℕ → Verdict
 first_finding (u ∷ absent) unlisted unsettled doubtful = verdict.Absent u
 first_finding [] (u ∷ unlisted) unsettled doubtful = verdict.Unlisted u

@@ -51,7 +51,7 @@ IsShownByNone (Unsettled m) = ⊥
 IsShownByNone (Doubtful u) = ⊥
 IsShownByNone (Complete count) = ⊤
 
--- the population of an explanation: a small one that shows the verdict, and none only if none can
+-- the population of an explanation: a small one that shows the verdict
 abbrev pub IsPopulationBehind : List Entry → Verdict → List ℕ → Type 0
 IsPopulationBehind es v us = IsSmallPopulation es us × Shows v us
 

@@ -7,12 +7,12 @@ use Rattle.vic_frame.specs.Uids.{has}
 abbrev pub SameMembers : List ℕ → List ℕ → Type 0
 SameMembers us vs = (u : ℕ) → has us u ≡ has vs u
 
--- the numbers of which P holds, in rising order
+-- the numbers for which P holds, in rising order
 pub record IsListOf (P : ℕ → Type 0) (us : List ℕ) : Type 0 where
   pub rising : IsStrictlyIncreasing us
   pub members : (u : ℕ) → (has us u ≡ true) ↔ P u
 
--- the new list has the members of the old one, and those of which P holds
+-- the new list has the members of the old one, and those for which P holds
 abbrev pub Adds : (ℕ → Type 0) → List ℕ → List ℕ → Type 0
 Adds P old new = (u : ℕ) → (has new u ≡ true) ↔ (P u ⊎ (has old u ≡ true))
 

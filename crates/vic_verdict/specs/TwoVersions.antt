@@ -38,7 +38,7 @@ Answers p es i u = (has p u ≡ true) × IsReady es i u × (lies_in_some (mask_a
 abbrev pub AnswersAlone : List ℕ → List Entry → ℕ → ℕ → Type 0
 AnswersAlone p es i u = Answers p es i u × ((v : ℕ) → Answers p es i v → v ≡ u)
 
--- two tags or more answer
+-- two or more tags answer
 abbrev pub SeveralAnswer : List ℕ → List Entry → ℕ → Type 0
 SeveralAnswer p es i = (u v : ℕ) × (u ≢ v) × Answers p es i u × Answers p es i v
 

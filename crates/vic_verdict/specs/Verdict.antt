@@ -38,15 +38,15 @@ IsUnsettled es m =
 abbrev pub IsDoubtful : List Entry → ℕ → Type 0
 IsDoubtful es u = (has (listed es) u ≡ true) × (IsCertainUid es u → ⊥)
 
--- there is none
+-- nothing has the property
 abbrev pub NoSuch : {A : Type 0} → (A → Type 0) → Type 0
 NoSuch {A} P = (x : A) → P x → ⊥
 
--- the least number
+-- the least number with the property
 abbrev pub IsLeast : (ℕ → Type 0) → ℕ → Type 0
 IsLeast P n = P n × ((m : ℕ) → P m → n ≤ m)
 
--- the mask of least length, then of least value
+-- the mask with the property that has the least length, then the least value
 abbrev pub IsFirstMask : (BitMask → Type 0) → BitMask → Type 0
 IsFirstMask P m = P m × ((k : BitMask) → P k → IsAtMost m k)
 
