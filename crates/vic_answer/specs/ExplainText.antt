@@ -20,7 +20,7 @@ IsExplained text (Judged x) =
     (log : LogValue) × IsLogOf (lines_of_text text) log × IsExplanation log.lines x
 IsExplained text (RefusedAt n fault) = IsFirstFault (lines_of_text text) n fault
 
--- the answer of `check` in it
+-- the answer of `check` to the same text
 abbrev pub answer_of : Explained → Answer
 answer_of (Judged x) = answer.Judged x.verdict
 answer_of (RefusedAt n fault) = answer.RefusedAt n fault

@@ -29,7 +29,7 @@ IsReported text (Judged r) =
     (log : LogValue) × IsLogOf (lines_of_text text) log × IsReport log.lines r
 IsReported text (RefusedAt n fault) = IsFirstFault (lines_of_text text) n fault
 
--- the answer of `check` in it
+-- the answer of `check` to the same text
 abbrev pub answer_of : Reported → Answer
 answer_of (Judged r) = answer.Judged (verdict_of r)
 answer_of (RefusedAt n fault) = answer.RefusedAt n fault

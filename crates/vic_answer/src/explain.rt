@@ -47,7 +47,7 @@ pub fn explain_text(alloc: Global, text: &[u8]) -> Result<Explained, AllocError>
     }
 }
 
-/// The answer of `check` in it.
+/// The answer of `check` to the same text.
 pub fn answer_of(explained: &Explained) -> Answer
     ensures { result ≡ answer_of explained.now }
 {

@@ -9,8 +9,8 @@ use std::alloc::{AllocError, Global};
 use vic_frame::{Mask, Uid};
 use vic_report::{Conflict, Findings, LogReport, ShownUid, Unsettled};
 
-/// What a finding in numbers is. The first four are numbered as the kinds of the answers that say
-/// the same.
+/// The kind of a finding in numbers. The first four have the numbers of the answers that say the
+/// same.
 #[derive(Clone, Copy, Debug, PartialEq, Eq)]
 pub enum FindingKind {
     Absent = 2,

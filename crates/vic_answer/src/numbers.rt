@@ -10,7 +10,7 @@ use crate::fault_numbers::fault_number;
 use crate::lines::LINE_ROOM;
 use vic_verdict::Verdict;
 
-/// What an answer in numbers is.
+/// The kind of an answer in numbers.
 #[derive(Clone, Copy, Debug, PartialEq, Eq)]
 pub enum Kind {
     /// No answer: memory was refused.

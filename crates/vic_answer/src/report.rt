@@ -21,7 +21,7 @@ use std::alloc::{AllocError, Global};
 use vic_log::{LineFault, LogFault, Sink, Source, read_log};
 use vic_report::{LogReport, report};
 
-/// The answer to a text, with every finding of its log and its lines.
+/// The answer to a text, with every finding of its log and the lines that show it.
 #[derive(Drop)]
 pub enum Reported {
     /// It has a log, and this is the report on it.
@@ -30,8 +30,8 @@ pub enum Reported {
     RefusedAt { line: u32, fault: LineFault },
 }
 
-/// The answer to a complete text, with every finding of its log and its lines. It fails only if
-/// memory is refused.
+/// The answer to a complete text, with every finding of its log and the lines that show it. It
+/// fails only if memory is refused.
 pub fn report_text(alloc: Global, text: &[u8]) -> Result<Reported, AllocError>
     ensures reported { IfOk result (IsReported text.now) }
     ensures answer { IfOk result (λ r. IsAnswer text.now (answer_of r)) }
@@ -47,7 +47,7 @@ pub fn report_text(alloc: Global, text: &[u8]) -> Result<Reported, AllocError>
     }
 }
 
-/// The answer of `check` in it.
+/// The answer of `check` to the same text.
 pub fn reported_answer(reported: &Reported) -> Answer
     ensures { result ≡ answer_of reported.now }
 {

@@ -38,7 +38,7 @@ impl Model for LogFeed {
 }
 
 impl LogFeed {
-    /// Nothing has been fed yet.
+    /// A feed to which nothing has been fed.
     pub fn new(alloc: Global) -> LogFeed
         ensures { result ≡ Some [] }
     {

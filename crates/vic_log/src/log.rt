@@ -116,8 +116,8 @@ impl Log {
         }
     }
 
-    /// Adds a line, unless its entry can't follow those before, or memory is refused. Then the log
-    /// stays as it was.
+    /// Adds a line. If its entry can't follow those before, or memory is refused, the log stays as
+    /// it was.
     #[inline(always)]
     pub fn push(&mut self, number: u32, item: Entry) -> Result<(), PushFault>
         requires above { last_from 1 self.old.lines < number }

@@ -13,7 +13,7 @@ use crate::source::{PIECE, Source};
 use std::alloc::Global;
 use std::marker::Model;
 
-/// How often a source is read at most: for each byte of the longest log, and at its end.
+/// How many times a source is read at most: for each byte of the longest log, and at its end.
 pub const MAX_READS: u64 = 130_000_001;
 
 const _: () = prove!(MAX_READS == MAX_TEXT_LEN + 1);

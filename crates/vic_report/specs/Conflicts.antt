@@ -1,4 +1,5 @@
--- Why a log became impossible (profile): some of its slot lines, which no population fits together.
+-- Why a log became impossible (profile): some of its slot lines contradict each other, since no
+-- population fits them all.
 use Rattle.std.specs.Prelude.{◌≡◌, ◌≢◌, ℕ, ◌<◌, ◌≤◌, true, false, Some, List, slice_get, MatchOption}
 use Rattle.std.specs.List.Sorted.{IsStrictlyIncreasing}
 use Rattle.vic_frame.specs.Uids.{has}
@@ -27,7 +28,7 @@ pub record IsSlotLine (lines : List LogLine) (n : ℕ) : Type 0 where
   pub number : line.number ≡ n
   pub slot : is_slot line.item ≡ true
 
--- numbers of slot lines, in rising order, the last one n, which no population fits together
+-- numbers of slot lines, in rising order, the last one n; no population fits all of these lines
 pub record IsConflictAt (lines : List LogLine) (n : ℕ) (numbers : List ℕ) : Type 0 where
   pub rising : IsStrictlyIncreasing numbers
   pub ends : has numbers n ≡ true
@@ -60,7 +61,7 @@ IsNoQuietReply lines n =
     (i : ℕ) (r : Reply) → slice_get lines i ≡ Some (record { number = n; item = Heard r })
     → is_quiet (entries lines) i r.uid ≡ false
 
--- the first impossible line, lines that no population fits together, and, if and only if that line
+-- the first impossible line, lines that contradict each other, and, if and only if that first line
 -- is a reply of a tag that was Quiet there, the line that silenced the tag
 pub record IsConflict (lines : List LogLine) (c : Conflict) : Type 0 where
   pub line : IsVerdict lines (Impossible c.line)

@@ -1,4 +1,4 @@
--- What a report on a log is (profile): its findings, or lines that no population fits together.
+-- What a report on a log is (profile): its findings, or lines that contradict each other.
 use Rattle.std.specs.Prelude.{◌≡◌, ◌↔◌, ℕ, Bool, true, [], ◌∷◌, None, Some, Option, List, MatchOption}
 use Rattle.std.specs.Option.{option_map}
 use Rattle.std.specs.List.{All, Contains}

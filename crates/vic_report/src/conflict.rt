@@ -1,4 +1,4 @@
-//! Why a log became impossible: slot lines that no population fits together.
+//! Why a log became impossible: slot lines that contradict each other.
 
 ghost use Rattle.std.specs.Prelude.{◌≡◌, ◌⊎◌, ℕ, ◌≤◌, IfOk, OnOk, length, true};
 ghost use Rattle.std.specs.List.Sorted.{IsStrictlyIncreasing};
@@ -19,8 +19,8 @@ use vic_log::{MAX_LINES, PackedLine};
 use vic_tree::OpenSet;
 use vic_verdict::{Contradiction, first_impossible_line, open_and_met};
 
-/// The first line up to which no population could have produced a log, and lines up to it that no
-/// population fits together.
+/// The first line up to which no population could have produced a log, and lines up to it that
+/// contradict each other.
 #[derive(Drop)]
 pub struct Conflict {
     /// The number of the line.

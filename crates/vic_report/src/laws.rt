@@ -19,7 +19,7 @@ pub fn first_finding_is_the_verdict()
         → verdict_of r ≡ Complete count → r ≡ reported.Complete count }
 {}
 
-/// Lines that no population fits together stay so whatever follows.
+/// Lines that contradict each other still do, whatever follows.
 pub fn conflict_stays()
     ensures { (lines more : List LogLine) (n : ℕ) (numbers : List ℕ)
         → IsConflictAt lines n numbers → IsPossible (entries (lines ++ more)) → ⊥ }

@@ -21,7 +21,7 @@ use vic_verdict::{Met, Verdict, count_listed, open_and_met};
 #[derive(Drop)]
 pub enum LogReport {
     /// No population could have produced the log: the first line up to which none could, and lines
-    /// that no population fits together.
+    /// that contradict each other.
     Impossible(Conflict),
     /// The log is possible, and its list isn't known to be complete: at least one finding.
     NotWhole(Findings),

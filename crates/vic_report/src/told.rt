@@ -177,8 +177,8 @@ fn line_at(told: &[ShownUid], index: usize, uid: Uid) -> Option<u32>
     if one.uid == uid { Some(one.line) } else { None }
 }
 
-/// A line that shows that a UID is there which the slots of a possible log force: the one that was
-/// found, or one that is searched for.
+/// A line that shows that a UID, which the slots of a possible log force, is there: the one that
+/// was found, or one that is searched for.
 fn line_of(lines: &[PackedLine], met: &Met, uid: Uid, found: Option<u32>) -> u32
     requires possible { IsPossible (entries lines.now) }
     requires met { IsMet (entries lines.now) met.now }
@@ -192,7 +192,7 @@ fn line_of(lines: &[PackedLine], met: &Met, uid: Uid, found: Option<u32>) -> u32
     }
 }
 
-/// A line that shows that a UID is there which the slots of a possible log force.
+/// A line that shows that a UID, which the slots of a possible log force, is there.
 fn search_line(lines: &[PackedLine], met: &Met, uid: Uid) -> u32
     requires possible { IsPossible (entries lines.now) }
     requires met { IsMet (entries lines.now) met.now }

@@ -33,7 +33,7 @@ pub struct Explanation {
     pub population: Option<Vec<Uid>>,
 }
 
-/// The verdict on a log, that of `judge`, with a small population that shows it.
+/// The verdict of `judge` on a log, with a small population that shows it.
 pub fn explain(alloc: Global, log: &Log) -> Result<Explanation, AllocError>
     ensures { IfOk result (IsExplanation log.now.lines) }
 {

@@ -23,8 +23,8 @@ use vic_frame::{Mask, Uid};
 use vic_log::{Log, PackedLine};
 use vic_tree::{OpenSet, RangeSet};
 
-/// What a log proves about its list of tags (profile): the first answer that applies. Each is about
-/// the populations of tags that could have produced the log.
+/// What a log proves about its list of tags (profile): the first answer that applies. Each answer
+/// is about the populations of tags that could have produced the log.
 #[derive(Clone, Copy, Debug, PartialEq, Eq)]
 pub enum Verdict {
     /// No population could have produced the lines up to this one, and it is the first such line.

@@ -65,7 +65,7 @@ pub fn complete_is_whole()
 {}
 
 /// The main theorem says the same in the words of each version: in those of version 2 for all
-/// entries, in those of version 1 for entries that it has.
+/// entries, in those of version 1 for entries of that version.
 pub fn one_headline()
     ensures second { (es : List Entry) → IsWhole es ↔ IsWholeSecond es }
     ensures first { (es : List Entry) → AreOfFirstVersion es

@@ -74,7 +74,7 @@ fn count_one(entry: &Entry) -> u32
 }
 
 /// The UIDs that the slots of a possible log force, in rising order: those that were heard, and
-/// those that meet a slot that requires exactly that many.
+/// those that meet a slot, if no more can meet it than it requires.
 pub fn certain_uids(alloc: Global, met: &Met) -> Result<Vec<Uid>, AllocError>
     ensures rising { IfOk result (λ v. IsStrictlyIncreasing v.items) }
     ensures certain { IfOk result (λ v. (es : List EntryValue) → IsMet es met.now

@@ -33,7 +33,7 @@ pub struct VicinityReply {
     pub uid: u64,
 }
 
-/// Reads the frame of a request. The result is its fault, 0 if there is none.
+/// Reads the frame of a request. The result is 0 or its fault.
 #[unsafe(no_mangle)]
 pub extern "C" fn vicinity_read_request(bytes: &[u8], request: &mut VicinityRequest) -> u32
     ensures request { request.new ≡ spec.request_fields (request_reading bytes.now) }
@@ -43,7 +43,7 @@ pub extern "C" fn vicinity_read_request(bytes: &[u8], request: &mut VicinityRequ
     request.fault
 }
 
-/// Reads the frame of a reply. The result is its fault, 0 if there is none.
+/// Reads the frame of a reply. The result is 0 or its fault.
 #[unsafe(no_mangle)]
 pub extern "C" fn vicinity_read_response(bytes: &[u8], reply: &mut VicinityReply) -> u32
     ensures reply { reply.new ≡ spec.reply_fields (reply_reading bytes.now) }

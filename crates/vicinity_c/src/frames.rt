@@ -29,9 +29,9 @@ pub struct VicinityFrame {
     pub bytes: [u8; FRAME_ROOM],
 }
 
-/// Writes the frame of an Inventory request, CRC included. The result is its fault, 0 if there is
-/// none: `link` is above 3, `slots` is neither 1 nor 16, `mask_len` is above 64, or above 60 with
-/// 16 slots, or `mask_value` has a bit above its length.
+/// Writes the frame of an Inventory request, CRC included. The result is 0 or the fault: `link` is
+/// above 3, `slots` is neither 1 nor 16, `mask_len` is above 64, or above 60 with 16 slots, or
+/// `mask_value` has a bit above its length.
 #[unsafe(no_mangle)]
 pub extern "C" fn vicinity_write_inventory(
     link: u32,
@@ -50,8 +50,8 @@ pub extern "C" fn vicinity_write_inventory(
     frame.fault
 }
 
-/// Writes the frame of a Stay Quiet request, CRC included. The result is its fault, 0 if there is
-/// none: `link` is above 3.
+/// Writes the frame of a Stay Quiet request, CRC included. The result is 0 or the fault: `link` is
+/// above 3.
 #[unsafe(no_mangle)]
 pub extern "C" fn vicinity_write_stay_quiet(link: u32, uid: u64, frame: &mut VicinityFrame) -> u32
     ensures frame { frame.new ≡ spec.stay_quiet_frame link uid }
@@ -66,9 +66,9 @@ pub extern "C" fn vicinity_write_stay_quiet(link: u32, uid: u64, frame: &mut Vic
     frame.fault
 }
 
-/// Writes the frame of a reply, CRC included. The result is its fault, 0 if there is none: `flags`
-/// or `dsfid` is above 255, the lowest bit of `flags`, Error_flag, is 1, or the most significant
-/// byte of `uid` isn't E0.
+/// Writes the frame of a reply, CRC included. The result is 0 or the fault: `flags` or `dsfid` is
+/// above 255, the lowest bit of `flags`, Error_flag, is 1, or the most significant byte of `uid`
+/// isn't E0.
 #[unsafe(no_mangle)]
 pub extern "C" fn vicinity_write_response(
     flags: u32,
@@ -87,7 +87,7 @@ pub extern "C" fn vicinity_write_response(
 }
 
 /// Writes bytes with their CRC after them: a frame whose CRC the reader's chip removed. The result
-/// is the fault, 0 if there is none: there are more than 14 bytes.
+/// is 0 or the fault: there are more than 14 bytes.
 #[unsafe(no_mangle)]
 pub extern "C" fn vicinity_add_crc(bytes: &[u8], frame: &mut VicinityFrame) -> u32
     ensures frame { frame.new ≡ spec.crc_frame bytes.now }

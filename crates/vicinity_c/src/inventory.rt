@@ -30,8 +30,8 @@ pub struct VicinityMask {
 }
 
 /// Returns the mask of a slot, counted from 0, of an Inventory request with these slots and this
-/// mask: the UIDs in it answer there. The result is the fault, 0 if there is none: that of the
-/// request, or `slot` isn't below `slots`.
+/// mask: the UIDs in it answer there. The result is 0 or the fault: that of the request, or `slot`
+/// isn't below `slots`.
 #[unsafe(no_mangle)]
 pub extern "C" fn vicinity_slot_mask(
     slots: u32,

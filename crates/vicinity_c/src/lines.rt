@@ -29,8 +29,8 @@ pub struct VicinityLine {
 /// Writes one line of a log's text, LF included: `letter` and `bytes` for a frame that was sent (T)
 /// or heard (R); U and `uid` for a listed UID; only the letter for a slot that was silent (S), had
 /// a collision (C) or was garbled (D), and for a field cycle (F). What the letter doesn't need
-/// isn't looked at, and the bytes aren't judged. The result is the fault, 0 if there is none: the
-/// letter is another one, or there are more than 63 bytes.
+/// isn't looked at, and the bytes aren't judged. The result is 0 or the fault: the letter is
+/// another one, or there are more than 63 bytes.
 #[unsafe(no_mangle)]
 pub extern "C" fn vicinity_write_line(
     letter: u8,

@@ -137,7 +137,7 @@ fn refusal_name(fault: u32) -> &'static str
     }
 }
 
-/// By its number, a fault has the name that it is displayed as.
+/// The name of a fault by its number is the name that it displays as.
 pub fn each_fault_has_its_name()
     ensures { (f : LineFault) → spec.fault_name (fault_number f) ≡ log.line_fault_name f }
 {}
