@@ -3,7 +3,7 @@
 
 PROGRAM is the proved one; the words COMMAND start the other, as an emulator and its program. They are asked with words of
 every kind, with streams that are closed, full or no text, about NUMBER changed logs and a quarter as many frames, about
-texts as long as a log can be and texts that come in pieces. Then each growth of the other is refused in turn, by REFUSE,
+texts as long as a log can be and texts that come in pieces. Then each allocation of the other is refused in turn, by REFUSE,
 which is tests/refuse.c built for its machine: it says so and writes nothing else. The last line is `N passed, M failed`.
 """
 import glob
@@ -144,7 +144,7 @@ class Pair:
 
 
 def refused(other, refuse):
-    """Refuses each growth of a run over each log in turn."""
+    """Refuses each allocation of a run over each log in turn."""
     told = b"", b"vicinity: out of memory\n", 4
     environment = {**os.environ, "LD_PRELOAD": refuse}
     asked = [[command, log] for command in COMMANDS for log in LOGS]

@@ -3,8 +3,8 @@ calls.py PROGRAM COUNT LOG..
 
 Each fault, name and kind of finding is met by a row. COUNT random numbers are written and COUNT random frames read, and
 have to be what `spell` and `frame` make of them; COUNT lines and masks of slots have to be what is worked out here; and
-the logs, with their lists taken off and handed over beside them, in another order, too, are answered as the program
-answers the whole. Each struct holds other bytes before the call. The header and the library are of the version in
+the logs, with their lists removed and passed separately, also in another order, get the answer that the program gets for
+the complete log. Each struct holds other bytes before the call. The header and the library are of the version in
 VERSION. The last line is `N passed, M failed`. LIBVICINITY names the library.
 """
 import ctypes
@@ -122,7 +122,7 @@ def lined(text):
 
 
 def rows():
-    """Worked out by hand: each fault, and what it stands beside."""
+    """Worked out by hand: each fault, and what comes with it."""
     count("inventory", inventory(2, 1, 7, 0x61), framed("260107614C5D"))
     count("sixteen slots", inventory(2, 16, 0, 0), framed("060100CD09"))
     count("64 bits", inventory(2, 1, 64, 0), framed("26014000000000000000006DD2"))
@@ -181,8 +181,8 @@ def names():
 
 
 def reported(call, places, *given):
-    """What a call that reports gives, with a room of so many places, whose bytes were 7 before: the status, how many
-    findings there are, and the room."""
+    """What a call that reports returns, with a buffer of that many elements, whose bytes were 7 before: the status, how many
+    findings there are, and the buffer."""
     told, needed = ANSWER.from_buffer_copy(b"\x09" * ctypes.sizeof(ANSWER)), SIZE(9)
     room = (FINDING * places).from_buffer_copy(b"\x07" * ctypes.sizeof(FINDING) * places)
     status = getattr(LIBRARY, "vicinity_" + call)(*given, ctypes.byref(told), room, SIZE(places), ctypes.byref(needed))
@@ -195,7 +195,7 @@ def finding(kind, line=0, mask=(0, 0), uid=0):
 
 
 def findings(short, status, *wanted):
-    """The findings of a log by the short names of its lines, in rooms of every kind, and with its list beside it."""
+    """The findings of a log by the short names of its lines, in buffers of every size, and with a separate list."""
     log = log_of(short)
     text, listed, rest = log.partition(b"U ")
     uids = [int(line, 16) for line in (rest if listed else b"").split() if line != b"U"]
@@ -296,7 +296,7 @@ def others(chance):
 
 
 def judged(text, uids):
-    """What the listed calls say of a text, and what the program says of the whole."""
+    """What the listed calls say about a text, and what the program says about the complete text."""
     whole = text + b"".join(b"U %016X\n" % uid for uid in uids)
     listed = (U64 * len(uids))(*uids)
     told = ANSWER.from_buffer_copy(b"\x09" * ctypes.sizeof(ANSWER))

@@ -1,4 +1,4 @@
-"""The library against the program, on changed logs, and on each beginning of the first: fuzz.py PROGRAM NUMBER LOG.."""
+"""The library against the program, on changed logs, and on each prefix of the first: fuzz.py PROGRAM NUMBER LOG.."""
 import collections
 import ctypes
 import random
@@ -68,8 +68,8 @@ def run(program, command, text):
 
 
 def explained(text):
-    """What the program would write of the library's explanation, by rooms without a place, with one too few, with as
-    many as are needed, and with more. What stands in a room that isn't written has to stay."""
+    """What the program would write of the library's explanation, by buffers with no element, with one too few, with as
+    many as are needed, and with more. The contents of a buffer that isn't written have to stay."""
     answer, uids = vicinity.explain(text)
     for places in {0, max(len(uids) - 1, 0), len(uids), len(uids) + 3}:
         room = (ctypes.c_uint64 * places)(*[7] * places)
@@ -85,7 +85,7 @@ def explained(text):
 
 
 def reported(text):
-    """What the program would write of the library's report, by rooms as above."""
+    """What the program would write of the library's report, by buffers as above."""
     found = vicinity.report(text)
     size, count = ctypes.sizeof(FindingStruct), len(found.findings)
     whole = None
@@ -101,7 +101,7 @@ def reported(text):
 
 
 def simulated(text):
-    """What the program would write of the text with its slots filled in, by rooms as above."""
+    """What the program would write of the text with its slots filled in, by buffers as above."""
     status, written = vicinity.simulate(text)
     for places in {0, len(written) - 1, len(written), len(written) + 3}:
         room = (ctypes.c_uint8 * places)(*[7] * places)

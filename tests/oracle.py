@@ -53,7 +53,7 @@ class Air:
         return sum(1 << place for place, uid in enumerate(self.uids) if holds(uid))
 
     def next(self, line):
-        """The UIDs that would answer where a line tells of a slot; None where it tells of none."""
+        """The UIDs that would answer, if a line is a slot line; None otherwise."""
         if isinstance(line, Ask):
             self.ask, self.slot = line, 0
         elif isinstance(line, StayQuiet):
@@ -68,7 +68,7 @@ class Air:
         return None
 
     def fits(self, line, answering):
-        """Whether a line tells of a slot in which these answer."""
+        """Whether a line is a slot line, and these answer in its slot."""
         number = bin(answering).count("1")
         if line == SILENT:
             return number == 0
@@ -91,7 +91,7 @@ class Judge:
         self.uids = sorted(uids)
 
     def judge(self, lines):
-        """The line that `check` writes, and the populations that could have given the log."""
+        """The line that `check` writes, and the populations that could have produced the log."""
         air = self.air(self.uids)
         left = range(ALL + 1)
         for number, line in enumerate(lines, 2):

@@ -153,7 +153,7 @@ def rounds(rng, version, uids, silenced):
 
 
 def ended(lines):
-    """The rounds of a log that ends as a whole search does: each UID heard is silenced, and all is silent."""
+    """The rounds of a log that ends as a complete search does: each UID heard is silenced, and all is silent."""
     heard = dict.fromkeys(line.uid for line in lines if isinstance(line, Reply))
     at = next((place for place, line in enumerate(lines) if isinstance(line, Listed)), len(lines))
     return lines[:at] + [StayQuiet(uid) for uid in heard] + [Ask(False, 0, 0), SILENT] + lines[at:]

@@ -14,7 +14,7 @@ Slot = collections.namedtuple("Slot", "number mask quiet line")
 
 
 def slots_of(lines):
-    """The slots that a log tells of: the line's number, the mask, the UIDs that are Quiet, and what was read."""
+    """The slots of a log: the line's number, the mask, the UIDs that are Quiet, and what was read."""
     ask, place, quiet, slots = None, 0, frozenset(), []
     for number, line in enumerate(lines, 2):
         if isinstance(line, Ask):

@@ -92,7 +92,7 @@ def search(tags):
 
 @shape
 def session(random_, size):
-    """A whole search of SIZE tags: complete SIZE."""
+    """A complete search of SIZE tags: complete SIZE."""
     tags = new_tags(random_, size)
     yield from search(tags)
     yield from map(claim, sorted(tags))
@@ -112,7 +112,7 @@ def session_cut(random_, size):
 
 @shape
 def session_late(random_, size):
-    """A whole search, and then a silenced tag answers: impossible near the end."""
+    """A complete search, and then a silenced tag answers: impossible near the end."""
     tags = new_tags(random_, size)
     yield from search(tags)
     yield ask(EVERYONE)
@@ -122,7 +122,7 @@ def session_late(random_, size):
 
 @shape
 def deep(random_, size):
-    """Each of SIZE tags asked by a mask of 56 bits and silenced, then nobody is left: complete SIZE."""
+    """Each of SIZE tags asked by a mask of 56 bits and silenced, then no tag is left: complete SIZE."""
     tags = new_tags(random_, size)
     for uid in tags:
         yield from (ask(low(uid, BITS)), reply(uid), silence(uid))
