@@ -1,4 +1,4 @@
--- The bytes at the front of a room are those that some digits spell.
+-- The bytes at the start of a buffer are those that some digits spell.
 use Rattle.std.proofs.Common.{◌≡◌, ℕ, List, length, take, Some, None, Result, Ok, Err, MatchResult}
 use Rattle.hex.specs.declared.error.FromHexError.{FromHexError}
 

@@ -1,4 +1,4 @@
--- Words that `frame` writes give back what it read.
+-- Words that `frame` writes are read back as what it read.
 use Rattle.std.proofs.Common.{◌≡◌, ℕ, zero, suc, ◌+◌, ◌-◌, ◌*◌, ◌/◌, ◌%◌, ◌^◌, ◌<◌, ◌≤◌, ◌==◌, Bool, true, false, List, ◌∷◌, ◌++◌, length, drop, replicate, Ok, bytes_eq, decimal, arith, ap, refl, sym, ◌∙◌, lt-ltb, le-leb, eq-eqb, ne_eqb, if◌then◌else◌}
 use Rattle.std.specs.Int.{bytes_high_first, byte_at, from_be_bytes, to_be_bytes, w64}
 use Rattle.std.specs.Fmt.{digits}
@@ -67,7 +67,7 @@ ending count n h small =
 same_text : (w : List ℕ) → bytes_eq w w ≡ true
 same_text w = (bytes_eq-Decides w w).1 refl
 
--- so many bytes of a number give it back
+-- that many bytes of a number are read back as it
 pub hex_back : (count n : ℕ) → count ≤ 8 → n < 256 ^ count → hex_number_in count (hex_bytes count n) ≡ Ok n
 hex_back count n h small =
     let bs = bytes_high_first count n in

@@ -18,7 +18,7 @@ use Rattle.vic_answer.specs.declared.spell.SpellFault.{SpellFault}
 use Rattle.vic_answer.specs.declared.spell.SpellFault.TheVariants.{Words, Range}
 use Rattle.vic_answer.specs.SpellText.{and_then, word, words_reading, words_of, request_words, reply_words, number_in, number_up_to, number_ending, hex_decoded, hex_number_in, sixteen_in, longest_mask, value_in, mask_in, inventory_in, stay_quiet_in, reply_in, reply_of, says_inventory, says_stay_quiet, says_reply}
 
--- the words from place k on, so many of them
+-- the words from position k on, so many of them
 words_from : ℕ → ℕ → List (List ℕ) → List (List ℕ)
 words_from k zero ws = []
 words_from k (suc n) ws = word ws k ∷ words_from (k + 1) n ws

@@ -43,7 +43,7 @@ number_missing w none =
     none n (ltb-true n (2 ^ 64) (left (nat_lt n (2 ^ 64)) (bytes_eq (decimal n) w) t))
     (sym ((bytes_eq-Decides (decimal n) w).0 (right (nat_lt n (2 ^ 64)) (bytes_eq (decimal n) w) t))))
 
--- the fault where parsing gives none, or another one
+-- the fault if parsing returns none, or another one
 pub number_refused : {E : Type 0} (w : List ℕ) (r : Result ℕ E) → ParsesUnsigned 64 10 w r → ((n : ℕ) → r ≡ Ok n → decimal n ≡ w → ⊥) → number_in w ≡ Err Words
 number_refused w r parsed none = number_missing w (λ n small e. none n (parse-decimal 64 n w r small small e parsed) (sym e))
 

@@ -1,4 +1,4 @@
--- From what reading gives to what a run answers.
+-- From what reading returns to what a run answers.
 use Rattle.std.proofs.Common.{◌≡◌, ℕ, List, Option, Result, Ok, Err, IfOk, IfErr, OnOk, inl, inr, subst, sym}
 use Rattle.std.specs.Io.KnownBytes.{Appends}
 use Rattle.vic_log.specs.Device.{HasTakenPrefix}

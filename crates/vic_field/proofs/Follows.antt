@@ -1,4 +1,4 @@
--- What entries in order leave for the next entry, and whom they list.
+-- What entries in order leave for the next entry, and which UIDs they list.
 use Rattle.std.proofs.Common.{◌≡◌, ℕ, zero, suc, ◌<◌, ◌≤◌, Bool, true, false, not, List, [], ◌∷◌, take, Some, None, refl, sym, ap, ◌∙◌, arith, ⊎_elim}
 use Rattle.std.specs.Prelude.{◌≢◌, slice_get, if◌then◌else◌}
 use Rattle.std.proofs.lemmas.Bool.{false_from_ne_true, false≢true}
@@ -13,9 +13,9 @@ use Rattle.vic_log.specs.Rounds.{is_slot}
 use Rattle.vic_log.proofs.Sets.{has_here, has_there, has_cases}
 use Rattle.vic_field.specs.Simulation.{without_slots, line_count}
 
--- ---- whom entries list
+-- ---- which UIDs entries list
 
--- a listed UID has a place
+-- a listed UID has a position
 pub place_of : (es : List Entry) (u : ℕ) → has (listed es) u ≡ true → (i : ℕ) × (slice_get es i ≡ Some (Listed u))
 place_of [] u h = absurd (false≢true h)
 place_of (Sent q ∷ es) u h = let w = place_of es u h in (suc w.0, w.1)
@@ -64,14 +64,14 @@ listed_kept (Listed u ∷ es) = ap (λ (us : List ℕ). u ∷ us) (listed_kept e
 
 -- ---- what may follow
 
--- a place of the first entries
+-- a position of the first entries
 front_place : (es : List Entry) (i j : ℕ) (e : Entry) → slice_get (take i es) j ≡ Some e → (j < i) × (slice_get es j ≡ Some e)
 front_place es zero j e h = absurd (cc)
 front_place [] (suc i) j e h = absurd (cc)
 front_place (x ∷ es) (suc i) zero e h = (omega arith, h)
 front_place (x ∷ es) (suc i) (suc j) e h = let w = front_place es i j e h in let less = w.0 in (omega arith, w.1)
 
--- a UID listed in the filled entries was listed before place i
+-- a UID listed in the filled entries was listed before position i
 listed_before : (given es : List Entry) (i u : ℕ) → without_slots es ≡ take i given → has (listed es) u ≡ true → (j : ℕ) × (j < i) × (slice_get given j ≡ Some (Listed u))
 listed_before given es i u kept h =
     let w = place_of (take i given) u (ap (λ (xs : List Entry). has (listed xs) u) (sym kept) ∙ (ap (λ (us : List ℕ). has us u) (listed_kept es) ∙ h)) in

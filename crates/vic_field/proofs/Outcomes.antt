@@ -102,7 +102,7 @@ ready_told false q e k = absurd (cc)
 not_true : (q : Bool) → q ≡ false → not q ≡ true
 not_true q e = ap not e
 
--- the Ready tags in a mask give the outcome of the population's members that answer there
+-- the Ready tags in a mask produce the outcome of the population's members that answer there
 pub outcome_told : (p : List ℕ) (es : List Entry) (tags : List (ℕ × Bool)) (m : BitMask) → IsPopulation p → IsPopulation (uids tags) → Tells p es tags
     → outcome_of (ready_in m tags) ≡ outcome_of (filter (λ u. lies_in m u && not (is_quiet es (length es) u)) p)
 outcome_told p es tags m pop tagged tells =

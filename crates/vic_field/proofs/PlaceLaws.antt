@@ -1,4 +1,4 @@
--- Bits of words, and what they say of places.
+-- Bits of words, and what they say of positions.
 use Rattle.std.proofs.Common.{◌≡◌, ◌≢◌, ℕ, ◌+◌, ◌-◌, ◌*◌, ◌/◌, ◌%◌, ◌^◌, ◌<◌, ◌≤◌, Bool, true, false, List, length, get_or, set, replicate, refl, sym, ap, subst, ◌∙◌, ◌&&◌, ◌||◌, ◌⊎◌, arith, ⊎_elim, bit_or, w64}
 use Rattle.std.specs.Prelude.{nat_eq, nat_lt}
 use Rattle.std.specs.Int.{bit_at, trailing_ones}
@@ -142,9 +142,9 @@ noted_more s bit ws new notes after more note size long full i = record {
       (or_cases _ _ (sym (note n) ∙ is));
 }
 
--- ---- a place more
+-- ---- a position more
 
--- of the first places, up to the one before `next`, those from `gap` on are one further
+-- of the first positions, up to the one before `next`, those from `gap` on are one further
 pub record IsGapped (gap next : ℕ) (old new : ℕ → Bool) : Type 0 where
   pub before : (k : ℕ) → k < gap → new k ≡ (nat_lt (k + 1) next && old k)
   pub put : new gap ≡ false
@@ -169,7 +169,7 @@ none_gapped gap old new none = record {
   after = λ k le. none (k + 1) ∙ sym (ap (λ (t : Bool). t && old k) (le-ltb (k + 1) 1 (omega arith)));
 }
 
--- one place further, which isn't Quiet
+-- one position further, which isn't Quiet
 pub gapped_ready : (gap next : ℕ) (old new : ℕ → Bool) → ((k : ℕ) → k + 1 ≡ next → old k ≡ false) → IsGapped gap next old new → IsGapped gap (next + 1) old new
 gapped_ready gap next old new ready i = record {
   before = λ k lt. i.before k lt ∙ same k;
@@ -182,7 +182,7 @@ gapped_ready gap next old new ready i = record {
       (λ (other : k + 1 ≢ next). sym (passed next k (old k) other))
       (cases_eq (k + 1) next)
 
--- one place further, which is Quiet, and stands at `to` now
+-- one position further, which is Quiet, and stands at `to` now
 pub gapped_quiet : (gap next to : ℕ) (old was new : ℕ → Bool) → ((k : ℕ) → k + 1 ≡ next → old k ≡ true) → ((to + 1 ≡ next) × (to < gap)) ⊎ ((to ≡ next) × (gap < next))
     → ((k : ℕ) → new k ≡ (nat_eq k to || was k)) → IsGapped gap next old was → IsGapped gap (next + 1) old new
 gapped_quiet gap next to old was new quiet place added i = record {

@@ -39,7 +39,7 @@ slot_fits p es tags m pop tagged tells at =
 
 -- ---- a round
 
--- the entries with the first n slots: the population could have given them, and the field still tells of it
+-- the entries with the first n slots: the population could have produced them, and the field still agrees with it
 record HasRound (p : List ℕ) (es : List Entry) (tags : List (ℕ × Bool)) : Type 0 where
   outcomes : CouldHaveGiven p es
   tells : Tells p es tags

@@ -17,9 +17,9 @@ use Rattle.vic_field.specs.Simulation.{IsPlain}
 use Rattle.vic_field.specs.Steps.{slot_line, slot_lines_to, slot_lines}
 use Rattle.vic_field.specs.Tags.{heard, ready_in}
 
--- ---- places of joined lists
+-- ---- positions of joined lists
 
--- a place of two lists is one of the first or one of the second
+-- a position of two lists is one of the first or one of the second
 pub place_in : (xs ys : List Entry) (i : ℕ) (e : Entry) → slice_get (xs ++ ys) i ≡ Some e → (slice_get xs i ≡ Some e) ⊎ ((j : ℕ) × (i ≡ length xs + j) × (slice_get ys j ≡ Some e))
 place_in [] ys i e h = inr (i, omega arith, h)
 place_in (x ∷ xs) ys zero e h = inl h

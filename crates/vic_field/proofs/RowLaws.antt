@@ -25,7 +25,7 @@ use Rattle.vic_field.specs.Tags.{heard}
 
 -- ---- where keys stand
 
--- between two places where the key before the one and that at the other are so
+-- between two positions where the key before the one and that at the other are so
 pub between : (ks : List ℕ) (key from to : ℕ) → IsStrictlySortedBy nat_cmp ks → from ≤ to → to ≤ length ks → (0 < from → get_or ks (from - 1) 0 < key) → (to < length ks → key ≤ get_or ks to 0)
     → HasKeyPlaceBetween key ks from to
 between ks key from to o le within low high = record {
@@ -41,13 +41,13 @@ between ks key from to o le within low high = record {
       omega (arith, up, first);
 }
 
--- what stands between two places, counted from the first
+-- what stands between two positions, counted from the first
 inside : (ks : List ℕ) (from to k : ℕ) → from ≤ k → k < to → get_or (take (to - from) (drop from ks)) (k - from) 0 ≡ get_or ks k 0
 inside ks from to k le lt =
     let back : from + (k - from) ≡ k = omega (arith, le) in
     get_or-take (to - from) (drop from ks) (k - from) 0 (omega (arith, le, lt)) ∙ get_or-drop from ks (k - from) 0 ∙ ap (λ n. get_or ks n 0) back
 
--- the place that was looked for between two others
+-- the position that was looked for between two others
 pub found : (ks : List ℕ) (key from to i : ℕ) → HasKeyPlaceBetween key ks from to → i ≤ to - from
     → ((k : ℕ) → k < i → get_or (take (to - from) (drop from ks)) k 0 < key)
     → ((k : ℕ) → i ≤ k → k < to - from → key ≤ get_or (take (to - from) (drop from ks)) k 0) → IsKeyPlace key ks (from + i)
@@ -80,7 +80,7 @@ none_there : (ks : List ℕ) (q : ℕ) → ((k : ℕ) → k < length ks → get_
 none_there [] q none = refl
 none_there (k ∷ ks) q none = rw (ne_eqb q k (λ e. none 0 (omega arith) (sym e))) (none_there ks q (λ i h. none (suc i) (omega arith)))
 
--- no key is this one, where none is at its place
+-- no key is this one, where none is at its position
 pub lacks : (ks : List ℕ) (q place : ℕ) → IsStrictlySortedBy nat_cmp ks → IsKeyPlace q ks place → (place < length ks → get_or ks place 0 ≢ q) → (k : ℕ) → k < length ks → get_or ks k 0 ≢ q
 lacks ks q place o p other k h e = ⊎_elim
     (λ (before : k < place). let a = p.below k before in omega (arith, a, e))
@@ -136,7 +136,7 @@ not_or true false = refl
 not_or false true = refl
 not_or false false = refl
 
--- the tag at a place made Quiet
+-- the tag at a position made Quiet
 pub silenced : (r new : Row) (key place : ℕ) → IsRow r → place < length r.keys.items → get_or r.keys.items place 0 ≡ key → new.keys.items ≡ r.keys.items
     → ((k : ℕ) → is_quiet_place new.quiet k ≡ (nat_eq k place || is_quiet_place r.quiet k)) → entries new ≡ with_quiet key (entries r)
 silenced r new key place i h e keys added =
@@ -180,7 +180,7 @@ flips x y = ⊎_elim
     (λ (other : x ≢ y). ne_eqb x y other ∙ sym (ne_eqb y x (λ e. other (sym e))))
     (cases_eq x y)
 
--- keys with one more at its place
+-- keys with one more at its position
 pub inserted_keys : (ks : List ℕ) (place key : ℕ) → AreKeys ks → IsKeyPlace key ks place → has ks key ≡ false → IsKey key → AreKeys (insert ks place key)
 inserted_keys ks place key i p fresh small = record {
   small = All-permutation IsKey (key ∷ ks) (insert ks place key) (IsPermutation-insert ks place key) (All-cons IsKey key ks small i.small);

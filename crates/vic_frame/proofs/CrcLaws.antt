@@ -72,7 +72,7 @@ chosen b l h below low = below_two b below (λ b. (if bit_xor b l == 1 then bit_
     (below_two l low (λ l. (if bit_xor 0 l == 1 then bit_xor h 0x8408 else h) ≡ bit_xor h (bit_xor l 0 * 0x8408)) (sym (xor_zero_r h)) refl)
     (below_two l low (λ l. (if bit_xor 1 l == 1 then bit_xor h 0x8408 else h) ≡ bit_xor h (bit_xor l 1 * 0x8408)) refl (sym (xor_zero_r h)))
 
--- a bit is taken into the lowest place, then the register shifts
+-- a bit is taken into the lowest position, then the register shifts
 step-shift : (r b : ℕ) → b < 2 → step r b ≡ shift (bit_xor r b)
 unfolding step
 step-shift r b h =
@@ -108,7 +108,7 @@ after_bits-shifts (suc k) r b h =
     ∙ ap (λ x. shifts k (shift x)) (xor_assoc r (b % 2) (b / 2 * 2))
     ∙ ap (λ x. shifts k (shift (bit_xor r x))) (xor_comm (b % 2) (b / 2 * 2) ∙ parts_of 1 b)
 
--- a whole byte
+-- a complete byte
 pub byte_step : (r b : ℕ) → b < 256 → after_bits r (bits_of 8 b) ≡ bit_xor (r / 256) (shifts 8 (bit_xor r b % 256))
 byte_step r b h =
     let x : ℕ = bit_xor r b in
@@ -132,7 +132,7 @@ shifts-add (suc j) k a = let more : suc j + k ≡ suc (j + k) = omega arith in a
 pub low_two_steps : (low : ℕ) → after_bits low (bits_of 16 0) ≡ shifts 16 low
 low_two_steps low = after_bits-shifts 16 low 0 (omega arith) ∙ ap (shifts 16) (xor_zero_r low)
 
--- two whole bytes
+-- two complete bytes
 pub two_bytes_by_low : (r a b : ℕ) → a < 256 → b < 256 → bit_xor (after_bits (bit_xor r a % 256) (bits_of 16 0)) (after_bits (bit_xor (r / 256) b) (bits_of 8 0)) ≡ after_bits (after_bits r (bits_of 8 a)) (bits_of 8 b)
 two_bytes_by_low r a b ha hb =
     let low : ℕ = bit_xor r a % 256 in

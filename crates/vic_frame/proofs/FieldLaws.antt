@@ -1,4 +1,4 @@
--- A frame spells a value exactly where its fields do.
+-- A frame spells a value if and only if its fields do.
 use Rattle.std.proofs.Common.{◌≡◌, ℕ, ◌+◌, ◌%◌, ◌≤◌, ◌^◌, ◌<◌, not, Bool, List, length, if◌then◌else◌, refl, sym, ap, ◌∙◌, arith}
 use Rattle.vic_frame.specs.declared.request.Request.TheVariants.{Inventory, StayQuiet}
 use Rattle.vic_frame.specs.Masks.{BitMask, IsMask}

@@ -207,7 +207,7 @@ same_fault v w es n part rest h (inl (inr l)) =
     let long : 128 < length (content part) = subst (λ p. 128 < length (content p)) (append-nil part) a in
     too_long v es n (content part) long ∙ sym (too_long w es n (content (part ++ rest)) (still_long part rest h l))
 
--- ---- places in a list with more behind it
+-- ---- positions in a list with more behind it
 
 pub front_at : (xs ys : List (List ℕ)) (i : ℕ) → i < length xs → slice_get (xs ++ ys) i ≡ slice_get xs i
 front_at [] ys i h = absurd (omega arith)

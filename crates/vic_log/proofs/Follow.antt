@@ -16,7 +16,7 @@ use Rattle.vic_log.proofs.Places.{agree_append, agree_upto}
 use Rattle.vic_log.proofs.Order.{in_round-slots_left}
 use Rattle.vic_log.proofs.Push.{slots_left_agrees}
 
--- a listed UID has a place
+-- a listed UID has a position
 pub record IsListedAt (es : List Entry) (u : ℕ) : Type 0 where
   pub place : ℕ
   pub there : slice_get es place ≡ Some (Listed u)
@@ -61,7 +61,7 @@ none_first : (b : Bool) (f : LineFault) → b ≡ false → (if b then Some f el
 none_first true f h = cc
 none_first false f h = refl
 
--- no fault of order stands at a place of entries in order
+-- no fault of order stands at a position of entries in order
 pub order_fault-none : (es fs : List Entry) (e : Entry) → IsInOrder (es ++ e ∷ fs) → order_fault es e ≡ None
 order_fault-none es fs Silent o = none_first _ SlotOutsideRound (slot_ok es fs Silent o refl)
 order_fault-none es fs Collision o = none_first _ SlotOutsideRound (slot_ok es fs Collision o refl)

@@ -1,4 +1,4 @@
--- A line reads as an entry exactly where it spells it.
+-- A line reads as an entry if and only if it spells it.
 use Rattle.std.proofs.Common.{◌≡◌, ◌⊎◌, inl, inr, ℕ, zero, suc, ◌+◌, ◌-◌, ◌*◌, ◌/◌, ◌%◌, ◌<◌, ◌≤◌, Bool, true, false, Option, Some, None, Result, Ok, Err, List, [], ◌∷◌, length, drop, refl, sym, ap, subst, ◌∙◌, arith, ⊎_elim}
 use Rattle.std.specs.Prelude.{slice_index, nat_lt, nat_le, if◌then◌else◌, ◌==◌, ◌&&◌, ◌||◌}
 use Rattle.std.specs.Int.{to_be_bytes, from_be_bytes, w64}
@@ -246,7 +246,7 @@ letter-spelled v x e h = ⊎_elim
     (branch (x == 67) (Ok (Some Collision)) (added_letter v x) (Ok (Some e)) s.1))
     (branch (x == 83) (Ok (Some Silent)) (if x == 67 then Ok (Some Collision) else added_letter v x) (Ok (Some e)) h)
 
--- ---- whole lines
+-- ---- complete lines
 
 -- what a line reads as whose first byte isn't #
 abbrev line_rest : Version → ℕ → ℕ → List ℕ → Result (Option Entry) LineFault

@@ -1,4 +1,4 @@
--- The open round, from one place to the next.
+-- The open round, from one position to the next.
 use Rattle.std.proofs.Common.{◌≡◌, ℕ, suc, ◌<◌, ◌≤◌, ◌+◌, ◌-◌, List, true, false, Option, Some, None, refl, sym, ap, ◌∙◌, subst, arith, add-one}
 use Rattle.std.specs.Prelude.{IfSome, slice_get, if◌then◌else◌}
 use Rattle.vic_frame.specs.Slots.{slot_count}

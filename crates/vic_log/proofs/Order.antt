@@ -27,7 +27,7 @@ IsInOrder-front es fs o = record {
   once = λ i j u w lt a b. o.once i j u w lt (still_there es fs i (Listed u) a) (still_there es fs j (Listed w) b);
 }
 
--- a place is in a round exactly where a slot of the round is left
+-- a position is in a round if and only if a slot of the round is left
 slots_left-in_round : (es : List Entry) (i : ℕ) → IsInRound es i → 0 < slots_left es i
 slots_left-in_round es i r =
     let left : slots_left es i ≡ slot_count r.1 - (i - suc r.0) = ap (left_since es i) r.2 ∙ ap (λ e. slots_opened e - (i - suc r.0)) r.3 in

@@ -42,7 +42,7 @@ split_at bytes k n m h e f there none = record {
   no_lf = lacks bytes k (omega arith) none;
 }
 
--- no room for so many
+-- no capacity for that many
 pub over : {A E : Type 0} (r : Result A E) (n : ℕ) → (IsOk r ↔ (n ≤ 130)) → is_ok r ≡ false → 130 < n
 over (Ok x) n v h = cc
 over (Err e) n v h = ⊎_elim (λ (lt : 130 < n). lt) (λ (le : n ≤ 130). absurd (let k = v.1 le in cc)) (cases_lt 130 n)

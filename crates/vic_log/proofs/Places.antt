@@ -24,7 +24,7 @@ fits_entry answers (Listed u) slots p = ((λ h. (tt, h)), (λ h. h.1))
 fits_entry answers Garbled slots p = ((λ h. h), (λ h. h))
 fits_entry answers FieldCycle slots p = ((λ h. (tt, h)), (λ h. h.1))
 
--- the entries of the first n places fit
+-- the entries of the first n positions fit
 abbrev FitBefore : List ℕ → List Entry → ℕ → Type 0
 FitBefore p es n = (i : ℕ) (e : Entry) → i < n → slice_get es i ≡ Some e → Fits e (outcome_at es i p)
 
@@ -60,7 +60,7 @@ CouldHaveGiven-slots p es =
 
 -- ---- entries that follow
 
--- the same entries in the first n places
+-- the same entries in the first n positions
 abbrev pub AgreeBefore : ℕ → List Entry → List Entry → Type 0
 AgreeBefore n es fs = (i : ℕ) → i < n → slice_get es i ≡ slice_get fs i
 
@@ -114,7 +114,7 @@ slice_get-append (e ∷ es) fs (suc i) h = slice_get-append es fs i (omega arith
 pub agree_append : (es fs : List Entry) → AgreeBefore (length es) es (es ++ fs)
 agree_append es fs i h = slice_get-append es fs i h
 
--- a population that could have given entries could have given those that they begin with
+-- a population that could have produced entries could have produced those that they begin with
 pub CouldHaveGiven-front : (p : List ℕ) (es fs : List Entry) → CouldHaveGiven p (es ++ fs) → CouldHaveGiven p es
 CouldHaveGiven-front p es fs h i e k =
     let within = slice_get_within es i e k in

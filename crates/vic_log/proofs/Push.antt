@@ -27,7 +27,7 @@ left_agrees : (n : ℕ) (es fs : List Entry) → AgreeBefore n es fs → (o : Op
 left_agrees n es fs a None b = refl
 left_agrees n es fs a (Some j) b = let h : slice_get es j ≡ slice_get fs j = a j (b j refl) in rw h
 
--- how many slots are left at a place is told by the entries before it
+-- how many slots are left at a position is told by the entries before it
 pub slots_left_agrees : (n : ℕ) (es fs : List Entry) → AgreeBefore n es fs → slots_left es n ≡ slots_left fs n
 slots_left_agrees n es fs a =
     left_agrees n es fs a (opener es n) (opener_below es n) ∙ ap (left_since fs n) (opener_agrees n es fs a)
@@ -113,7 +113,7 @@ slot_has_left : (b : Bool) (left : ℕ) → b ≡ true → (if b then not (nat_l
 slot_has_left true left s h = ltb-true 0 left (not-false (nat_lt 0 left) h)
 slot_has_left false left s h = cc
 
--- a place of the list with one entry more: one before, or the last
+-- a position of the list with one entry more: one before, or the last
 last_or : {P : Type 0} (es : List Entry) (e f : Entry) (i : ℕ) → slice_get (es ++ e ∷ []) i ≡ Some f → (i < length es → slice_get es i ≡ Some f → P) → (i ≡ length es → e ≡ f → P) → P
 last_or es e f i k before last =
     let within = slice_get_within (es ++ e ∷ []) i f k in

@@ -117,7 +117,7 @@ is_uid_from u h = and_from _ _ (le-leb _ _ h.0) (lt-ltb _ _ h.1)
 pub IsUid-from : (u : ℕ) → is_uid u ≡ true → IsUid u
 IsUid-from u h = let w = and_parts _ _ h in (leb-true _ _ w.0, ltb-true _ _ w.1)
 
--- a population meets all slots exactly where its members are open and it supplies what the slots ask for
+-- a population meets all slots if and only if its members are open and it supplies what the slots require
 pub MeetsAll-iff : (p : List ℕ) (slots : List Slot) → IsPopulation p → MeetsAll p slots ↔ (IsWithin (has p) (is_open slots) × SuppliesAll (has p) slots)
 MeetsAll-iff p slots q =
     let d = AreDifferent-population p q in (

@@ -19,7 +19,7 @@ HasTakenBut-step : (a b c : Option (List ℕ)) (piece rest more text : List ℕ)
 HasTakenBut-step a b c piece rest more text h e k =
     (h.0 ++ piece, Appends-trans a b c h.0 piece h.1 k, append_assoc h.0 piece rest ∙ (ap (λ xs. h.0 ++ xs) e ∙ h.2))
 
--- the last piece was taken whole
+-- the last piece was taken completely
 pub HasTakenBut-all : (a b c : Option (List ℕ)) (piece more text : List ℕ) → HasTakenBut a b more text → piece ++ [] ≡ more → Appends b c piece → Appends a c text
 HasTakenBut-all a b c piece more text h e k =
     let last = HasTakenBut-step a b c piece [] more text h e k in

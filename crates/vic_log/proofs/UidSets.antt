@@ -69,7 +69,7 @@ held-put old new uid k h u pos =
     rw (row-set_other rows (place_of uid n) u (set row k uid) other, differ) (sym (or-false (has (row_of rows u) u || besides))))
     (cases_eq (place_of u n) (place_of uid n)))
 
--- a set of which a row has a free place has none of its UIDs beside the rows
+-- a set of which a row has a free element has none of its UIDs outside the rows
 pub absent_besides : (s : UidSet) (uid k : ℕ) → IsUidSet s → slice_get (row_of s.rows.items uid) k ≡ Some 0 → sorted.contains nat_cmp s.others uid ≡ false
 absent_besides s uid k h free = ⊎_elim
     (λ (there : sorted.contains nat_cmp s.others uid ≡ true). let full = h.full uid there in let some = has_got (row_of s.rows.items uid) k 0 free in cc)

@@ -70,7 +70,7 @@ line_of [] i e k = cc
 line_of (x ∷ lines) zero e k = (x, refl, cc)
 line_of (x ∷ lines) (suc i) e k = line_of lines i e k
 
--- a line up to n stands among them, at its place
+-- a line up to n stands among them, at its position
 front_there : (n k : ℕ) (lines : List LogLine) (i : ℕ) (l : LogLine) → IsRisingFrom k lines → slice_get lines i ≡ Some l → l.number ≤ n → slice_get (lines_to n lines) i ≡ Some l
 front_there n k [] i l r g small = cc
 front_there n k (x ∷ lines) zero l r g small =
@@ -124,7 +124,7 @@ below_last m n xs small here none =
     let same : m ≡ suc n = omega arith in
     absurd (false≢true (sym none ∙ (ap (has xs) (sym same) ∙ here)))) (cases_lt m (suc n))
 
--- a population that could have given the lines up to n fits each of them
+-- a population that could have produced the lines up to n fits each of them
 pub fits_given : (lines : List LogLine) (n : ℕ) (p : List ℕ) (i : ℕ) (l : LogLine) → IsRisingFrom 0 lines → CouldHaveGiven p (entries_to n lines) → slice_get lines i ≡ Some l → l.number ≤ n → Fits l.item (outcome_at (entries lines) i p)
 fits_given lines n p i l r given k small =
     let front = lines_to n lines in
@@ -198,7 +198,7 @@ err_of P Q (Err e) err m = (e, m)
 
 -- ---- the line with a number
 
--- is at one place
+-- is at one position
 same_place : (k : ℕ) (lines : List LogLine) (i j : ℕ) (l x : LogLine) → IsRisingFrom k lines → slice_get lines i ≡ Some l → slice_get lines j ≡ Some x → l.number ≡ x.number → i ≡ j
 same_place k [] i j l x r g h e = cc
 same_place k (y ∷ lines) zero zero l x r g h e = refl
@@ -220,7 +220,7 @@ line_with lines n i l r k here heard =
     let item' : l.item ≡ Heard r = cc in
     rw (here, item') refl
 
--- so what is known of that place is known of the number
+-- so what is known of that position is known of the number
 pub silenced_there : (lines : List LogLine) (n i : ℕ) (l : LogLine) (o : Option ℕ) → IsRisingFrom 0 lines → slice_get lines i ≡ Some l → l.number ≡ n
     → MatchOption o ((r : Reply) → slice_get (entries lines) i ≡ Some (Heard r) → is_quiet (entries lines) i r.uid ≡ false) (λ m. (r : Reply) × (slice_get (entries lines) i ≡ Some (Heard r)) × IsSilencedBefore lines i r.uid m)
     → MatchOption o (IsNoQuietReply lines n) (IsSilencedBy lines n)
@@ -237,7 +237,7 @@ silenced_there lines n i l (Some m) rising k here some = record {
 
 -- ---- more lines
 
--- a population that could have given more lines fits each of the first
+-- a population that could have produced more lines fits each of the first
 pub stays_unfit : (lines more : List LogLine) (n : ℕ) (numbers : List ℕ) → IsConflictAt lines n numbers → IsPossible (entries (lines ++ more)) → ⊥
 stays_unfit lines more n numbers conflict possible =
     let p = possible.0 in

@@ -1,4 +1,4 @@
--- Entries of which some slots are kept, each behind a request of its own: the same tags are Quiet, and a population that fits the kept slots could have given them.
+-- Entries of which some slots are kept, each behind a request of its own: the same tags are Quiet, and a population that fits the kept slots could have produced them.
 use Rattle.std.proofs.Common.{◌≡◌, ℕ, suc, ◌+◌, ◌-◌, List, [], ◌∷◌, ◌++◌, length, Bool, true, false, not, ◌&&◌, ◌||◌, Option, Some, sym, ap, ◌∙◌, subst, arith, length-append, add-one, refl}
 use Rattle.std.specs.Prelude.{slice_get, if◌then◌else◌, None, Result, Ok, Err, OnOk}
 use Rattle.std.proofs.lemmas.List.Elements.{filter_agree}

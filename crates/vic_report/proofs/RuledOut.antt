@@ -15,7 +15,7 @@ use Rattle.vic_report.specs.declared.shown.ShownUid.{ShownUid}
 use Rattle.vic_report.specs.Findings.{IsRuledOut, RulesOut, lacks_reply_of}
 use Rattle.vic_verdict.proofs.Entries.{entry_allows, open_step}
 
--- the line at place i rules the UID out where a test says so
+-- the line at position i rules the UID out where a test says so
 pub rules_out_from : (lines : List LogLine) (i : ℕ) (l : LogLine) (u : ℕ) (b : Bool) → slice_get lines i ≡ Some l → b ≡ (lacks_reply_of l.item u && answers_at (entries lines) i u) → b ≡ true → RulesOut lines l.number u
 rules_out_from lines i l u b k is told =
     let w = and_parts _ _ (sym is ∙ told) in

@@ -36,7 +36,7 @@ mask_is c m e f = ap (λ (l : ℕ). record { len = l; value = c.value }) e ∙ a
 two_pow : (l : ℕ) → 2 ^ (l + 1) ≡ 2 ^ l * 2
 two_pow l = rw add-one (pow-suc 2 l)
 
--- a cell that holds a half holds the whole, or is that half
+-- a cell that holds a half holds all of the mask, or is that half
 from_lower : (cells : List BitMask) (m : BitMask) → IsMask m → Holder cells (lower_half m) → Holder cells m ⊎ Contains cells (lower_half m)
 from_lower cells m is_mask h = elim (cases_lt m.len h.cell.len) [
   | inr p ↦ inl (record { cell = h.cell; among = h.among; shorter = p; agrees = h.agrees })

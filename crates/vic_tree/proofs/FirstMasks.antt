@@ -61,7 +61,7 @@ compared a b = go (nat_cmp a.len b.len) (nat_cmp a.value b.value) (ranked a.len 
   go Equal Greater h k = (omega arith, λ e. k)
   go Greater s h k = (omega arith, λ e. absurd (omega arith))
 
--- the place that a search of masks in order finds
+-- the position that a search of masks in order finds
 rises : (ms : List BitMask) (m : BitMask) → AllPairs ComesBefore ms → IsNonDecreasingBy (λ x. ordering_index (mask_cmp x m)) ms
 rises ms m up i j d le lt = elim (cases_lt i j) [
   | inl before ↦ go (get_or ms i d) (get_or ms j d) (up i j d before lt) _ _ (compared (get_or ms i d) m) (compared (get_or ms j d) m)
@@ -89,7 +89,7 @@ in_order ms m i up found =
     greater : (a b : BitMask) (r : Ordering) → r ≡ Greater → MatchOrdering r (ComesBefore a b) (a ≡ b) (ComesBefore b a) → ComesBefore b a
     greater a b r e h = rw e at h
 
--- a mask more is kept at its place, and the last one of too many left out
+-- a mask more is kept at its position, and the last one of too many left out
 take_pairs : (R : BitMask → BitMask → Type 0) (n : ℕ) (ms : List BitMask) → AllPairs R ms → AllPairs R (take n ms)
 take_pairs R n ms h i j d lt within = let long = length-take n ms in rw (get_or-take n ms i d (omega arith), get_or-take n ms j d (omega arith)) (h i j d lt (omega arith))
 

@@ -14,7 +14,7 @@ use Rattle.vic_tree.proofs.BlockLaws.{key_in_mask, mask_ends}
 use Rattle.vic_tree.proofs.GatheringLaws.{gathers_both, gathers_like}
 use Rattle.vic_tree.proofs.RangeLaws.{inside_is, is_inside, neither}
 
--- a key that passes lies before a place, or in the first run from there on
+-- a key that passes lies before a position, or in the first run from there on
 pub in_run : (p : ℕ → Bool) (from x y k : ℕ) → IsFirstRun p from x y → p k ≡ true → k < y + 2 → (k < from) ⊎ ((x ≤ k) × (k ≤ y))
 in_run p from x y k run t lt = elim (cases_lt k from) [
   | inl below ↦ inl below

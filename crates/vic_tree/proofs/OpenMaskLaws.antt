@@ -55,7 +55,7 @@ fails : (x s : Bool) → (not x || s) ≡ false → (x ≡ true) × (s ≡ false
 fails true s h = (refl, h)
 fails false s h = absurd (cc)
 
--- a mask lies in the set as a whole, or doesn't
+-- a mask lies entirely in the set, or doesn't
 all_open_or_not : (set : ℕ → Bool) (m : BitMask) (n : ℕ) → n ≡ 2 ^ 56 → AllOpen set m ⊎ ¬ (AllOpen set m)
 all_open_or_not set m n size = elim (all_or_one (λ k. not (lies_in m (0xE0 * 2 ^ 56 + k)) || set (0xE0 * 2 ^ 56 + k)) n) [
   | inl all ↦ inl (λ u is_uid i.

@@ -23,7 +23,7 @@ between_from first last k a b = go (nat_le first k) (nat_le k last) (grind (arit
   go false y e f = absurd (cc)
   go true false e f = absurd (cc)
 
--- m names from place s on lie between the keys
+-- m names from position s on lie between the keys
 pub part_between : (ns : List Name) (first last s m : ℕ) → s + m ≤ length ns → ((j : ℕ) → s ≤ j → j < length ns → first ≤ (get_or ns j nobody).key) → ((j : ℕ) → j < m → (get_or (drop s ns) j nobody).key ≤ last) → All (λ (n : Name). is_between first last n.key ≡ true) (take m (drop s ns))
 part_between ns first last s m within low high k d below =
     let rest = length-drop s ns in
@@ -55,7 +55,7 @@ part_where ns first last s m within low high p k inside =
 
 -- ---- the keys of a slot
 
--- the keys of a slot below a place are closed, but for those of names that are left, of which the first i are below it
+-- the keys of a slot below a position are closed, but for those of names that are left, of which the first i are below it
 pub record IsClosedTo (old new : List (ℕ × ℕ)) (ns : List Name) (first last from i : ℕ) : Type 0 where
   pub since : first ≤ from
   pub upto : from ≤ last + 1
@@ -63,7 +63,7 @@ pub record IsClosedTo (old new : List (ℕ × ℕ)) (ns : List Name) (first last
   pub below : (j : ℕ) → j < i → (get_or ns j nobody).left ≡ true → (get_or ns j nobody).key < from
   pub closed : (k : ℕ) → in_ranges new k ≡ (in_ranges old k || ((nat_le first k && nat_lt k from) && not (has_left ns k)))
 
--- no name that is left has a key from one on that those from place i on don't reach
+-- no name that is left has a key from one on that those from position i on don't reach
 none_left : (ns : List Name) (from i k : ℕ) → ((j : ℕ) → j < i → (get_or ns j nobody).left ≡ true → (get_or ns j nobody).key < from) → from ≤ k → ((j : ℕ) → i ≤ j → j < length ns → k < (get_or ns j nobody).key) → has_left ns k ≡ false
 none_left ns from i k below le above = false_from_ne_true _ (λ e.
     let some = Any-from_list_any (λ (n : Name). (n.key == k) && n.left) ns e in

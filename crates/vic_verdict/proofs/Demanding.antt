@@ -196,12 +196,12 @@ needs_more es i e k =
 lt_no : (x i : ℕ) → i ≤ x → nat_lt x i ≡ false
 lt_no x i le = grind (arith, nat_tests)
 
--- a demand of a later place doesn't count
+-- a demand of a later position doesn't count
 to_before : (j : ℕ) (ds : List Demand) (d : Demand) → j ≤ d.at → demands_to j (ds ++ d ∷ []) ≡ demands_to j ds
 to_before j [] d late = ap (λ b. cond b (d ∷ []) []) (lt_no d.at j late)
 to_before j (x ∷ ds) d late = ap (λ xs. cond (nat_lt x.at j) (x ∷ xs) xs) (to_before j ds d late)
 
--- up to place i they are all
+-- up to position i they are all
 to_all : (i : ℕ) (ds : List Demand) → All (λ (d : Demand). d.at < i) ds → demands_to i ds ≡ ds
 to_all i [] h = refl
 to_all i (x ∷ ds) h =
@@ -351,7 +351,7 @@ kept_agree es fs i cut s agree le h = record {
       demand_agrees es fs cut s.names.items (get_or s.demands.items k d) agree (omega (arith, lt, le)) (h.demands k d below);
 }
 
--- a demand of a place before the cut is one of those up to it
+-- a demand of a position before the cut is one of those up to it
 asked_to : (cut j : ℕ) (ds : List Demand) → j < cut → is_asked (demands_to cut ds) j ≡ is_asked ds j
 asked_to cut j [] below = refl
 asked_to cut j (d ∷ ds) below = go (nat_lt d.at cut) (d.at == j) refl refl (asked_to cut j ds below)

@@ -52,9 +52,9 @@ pub open_step : (es : List Entry) (i : ℕ) (e : Entry) (u : ℕ) → slice_get 
 open_step es i e u k =
     ap (λ o. is_open (with_entry (answers_at es i) o (slots_before es i)) u) k ∙ open_reading (answers_at es i) e (slots_before es i) u
 
--- ---- slot by slot, by places
+-- ---- slot by slot, by positions
 
--- the slots of the first n places get what they ask for
+-- the slots of the first n positions get what they ask for
 abbrev pub SuppliesBefore : (ℕ → Bool) → List Entry → ℕ → Type 0
 SuppliesBefore set es n = (i : ℕ) (e : Entry) → i < n → slice_get es i ≡ Some e → EntryAsks (reading_of e) (answering set es i)
 

@@ -11,7 +11,7 @@ use Rattle.vic_verdict.specs.Rising.{IsFailing, IsListOf}
 use Rattle.vic_verdict.specs.Verdict.{IsLeast, NoSuch}
 use Rattle.vic_verdict.proofs.Inserted.{rising_order}
 
--- a member has a place
+-- a member has a position
 pub place_of : (us : List ℕ) (u d : ℕ) → has us u ≡ true → (k : ℕ) × (k < length us) × (get_or us k d ≡ u)
 place_of [] u d h = absurd (false≢true h)
 place_of (x ∷ us) u d h =

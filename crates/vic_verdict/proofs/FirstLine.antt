@@ -17,7 +17,7 @@ above_all k below [] l r g = cc
 above_all zero below (x ∷ lines) l r g = let same : x ≡ l = cc in subst (λ y. below < y.number) same r.0
 above_all (suc k) below (x ∷ lines) l r g = let h = above_all k x.number lines l r.1 g in let b = r.0 in omega arith
 
--- up to the line at place k, and below it
+-- up to the line at position k, and below it
 record UpTo (k : ℕ) (lines : List LogLine) (l : LogLine) : Type 0 where
   here : entries_to l.number lines ≡ entries (take (suc k) lines)
   less : (m : ℕ) → m < l.number → (rest : List Entry) × (entries_to m lines ++ rest ≡ entries (take k lines))
@@ -48,7 +48,7 @@ upto k below [] l r g = cc
 upto zero below (x ∷ lines) l r g = let same : x ≡ l = cc in subst (UpTo zero (x ∷ lines)) same (upto_first below x lines r)
 upto (suc k) below (x ∷ lines) l r g = upto_more k x lines l r.1 (above_all k x.number lines l r.1 g) (upto k x.number lines l r.1 g)
 
--- where the first k lines are possible and the line at place k makes them impossible, its number is the verdict's
+-- where the first k lines are possible and the line at position k makes them impossible, its number is the verdict's
 pub first_impossible : (lines : List LogLine) (k : ℕ) (l : LogLine) → IsRisingFrom 0 lines → slice_get lines k ≡ Some l → IsPossible (entries (take k lines)) → (IsPossible (entries (take (suc k) lines)) → ⊥) → IsVerdict lines (Impossible l.number)
 first_impossible lines k l r g p n =
     let u = upto k 0 lines l r g in

@@ -190,7 +190,7 @@ one_of (x ∷ xs) h = (x, has_here x [])
 
 -- ---- who is certain
 
--- whom a slot line tells of is certain
+-- the UID that a slot line shows to be there is certain
 certain_there : (es : List Entry) (i : ℕ) (e : Entry) (u : ℕ) → slice_get es i ≡ Some e → EntryForces (reading_of e) (answering (is_open (slots_of es)) es i) u → IsCertainUid es u
 certain_there es i e u k f p population could =
     let w = (MeetsAll-iff p (slots_of es) population).0 ((CouldHaveGiven-slots p es).0 could) in
@@ -266,7 +266,7 @@ gathered_few es m avoid us met different within heard all =
     let needed = met.found.few in
     omega arith
 
--- what a place asks for
+-- what a position asks for
 asked_there : (es : List Entry) (m : Met) (avoid : Option ℕ) (i n : ℕ) (e : Entry) → slice_get es i ≡ Some e → needs_of (Some e) ≡ n → 0 < n → AvoidsNoneCertain es avoid → IsMet es m → (xs : List ℕ) × AreDifferent xs × (n ≤ length xs) × IsWithin (has (take n xs)) (answering (has (gathered avoid m)) es i)
 asked_there es m avoid i n e k is some none met =
     let asked : 0 < needs_of (slice_get es i) = subst (λ o. 0 < needs_of o) (sym k) (subst (λ z. 0 < z) (sym is) some) in
@@ -300,7 +300,7 @@ gathered_asks es m avoid possible none met i Garbled k =
     let w = asked_there es m avoid i 1 Garbled k refl (omega arith) none met in
     asks_within SomeReply _ _ w.3 (one_of w.0 w.2)
 
--- a population that could have given the entries, with no member to spare
+-- a population that could have produced the entries, with no member to spare
 pub record IsGathered (es : List Entry) (us : List ℕ) : Type 0 where
   pub rising : IsStrictlyIncreasing us
   pub population : IsPopulation us

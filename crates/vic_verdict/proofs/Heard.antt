@@ -1,4 +1,4 @@
--- Whether the UIDs that were heard could have answered, from place to place.
+-- Whether the UIDs that were heard could have answered, from position to position.
 use Rattle.std.proofs.Common.{◌≡◌, ℕ, ◌+◌, ◌<◌, ◌^◌, ◌++◌, ◌==◌, List, [], ◌∷◌, take, drop, zero, suc, ◌≤◌, Bool, true, false, not, ◌&&◌, ◌||◌, Some, refl, sym, ap, ◌∙◌, subst, arith, inl, inr, ⊎_elim}
 use Rattle.std.specs.Prelude.{slice_get, nat_lt, if◌then◌else◌}
 use Rattle.std.specs.List.{All, list_any}
@@ -50,7 +50,7 @@ front_answers es i e u k =
     let same = answers_agree i front (front ++ drop (i + 1) es) (agree_upto front (drop (i + 1) es) i (omega (arith, within))) u in
     ap (λ xs. answers_at xs i u) (sym (take-append-drop (i + 1) es)) ∙ sym same
 
--- a slot has what it asks for, where a population could have given the entries up to there
+-- a slot has what it requires, if a population could have produced the entries up to there
 front_asks : (es : List Entry) (i : ℕ) (e : Entry) → slice_get es i ≡ Some e → IsPossible (take (i + 1) es) → EntryAsks (reading_of e) (answering (is_open (slots_of (take (i + 1) es))) (take (i + 1) es) i)
 front_asks es i e k possible = supplied_each (take (i + 1) es) i e (front_get (i + 1) i es (omega arith) ∙ k) possible
 
@@ -90,7 +90,7 @@ nobody_there es i e k asks none = record {
     go (Listed u) lt a = omega (arith, lt)
     go FieldCycle lt a = omega (arith, lt)
 
--- ---- the place of a reply
+-- ---- the position of a reply
 
 none_at_start : (ns : List Name) (k : ℕ) → is_quiet_by ns k 0 ≡ false
 none_at_start [] k = refl
@@ -110,7 +110,7 @@ quiet_place ns n e = go n.is_heard refl
     go true f = f
     go false f = absurd (both_ways _ (none_at_start ns n.key) (subst (λ b. is_quiet_by ns n.key (if b then n.at else 0) ≡ true) f e))
 
--- ---- from place to place
+-- ---- from position to position
 
 abbrev HeardIn : List Entry → ℕ → ℕ → Name → Type 0
 HeardIn es from i n = n.is_heard ≡ true → IsHeardAt es from i n
@@ -121,7 +121,7 @@ replies_next es from i ns h k d below lt =
     let before = it.before in
     record { reply = it.reply; heard = it.heard; key = it.key; is_uid = it.is_uid; inside = it.inside; since = it.since; before = omega (arith, before) }
 
--- at the next place
+-- at the next position
 quiet_range : (es : List Entry) (from i : ℕ) (ns ms : List Name) → ((j u : ℕ) → j ≤ i → is_quiet_by ms (mirror u) j ≡ is_quiet_by ns (mirror u) j) → ((u : ℕ) → IsUid u → is_quiet_by ms (mirror u) (i + 1) ≡ is_quiet es (i + 1) u) → ((j u : ℕ) → from ≤ j → j ≤ i → IsUid u → is_quiet_by ns (mirror u) j ≡ is_quiet es j u) → (j u : ℕ) → from ≤ j → j ≤ i + 1 → IsUid u → is_quiet_by ms (mirror u) j ≡ is_quiet es j u
 quiet_range es from i ns ms same next quiet j u since upto w =
     ⊎_elim
@@ -129,12 +129,12 @@ quiet_range es from i ns ms same next quiet j u since upto w =
     (λ ne. same j u (omega (arith, upto, ne)) ∙ quiet j u since (omega (arith, upto, ne)) w)
     (cases_eq j (i + 1))
 
--- what the names tell at the place after an entry that silences and wakes nobody
+-- what the names say at the position after an entry that silences and wakes no tag
 quiet_still : (es : List Entry) (from i u : ℕ) (ns : List Name) (e : Entry) → slice_get es i ≡ Some e → i < 2 ^ 32 → wakes (Some e) ≡ false → silences (Some e) u ≡ false → IsUid u → AreHeard es from i ns → is_quiet_by ns (mirror u) (i + 1) ≡ is_quiet es (i + 1) u
 quiet_still es from i u ns e k lt awake none w h =
     silenced_next ns (mirror u) i (beside_all i ns lt h.names) ∙ (h.quiet i u h.begun (omega arith) w ∙ (still_quiet _ _ (is_quiet es i u) none awake ∙ sym (quiet_next es i u e k)))
 
--- an entry that hears, silences and wakes nobody
+-- an entry that hears, silences and wakes no tag
 pub heard_passed : (es : List Entry) (from i : ℕ) (ns : List Name) (e : Entry) → slice_get es i ≡ Some e → i < 2 ^ 32 → ((r : Reply) → e ≡ Heard r → ⊥) → wakes (Some e) ≡ false → ((u : ℕ) → IsUid u → silences (Some e) u ≡ false) → AreHeard es from i ns → AreHeard es from (i + 1) ns
 heard_passed es from i ns e k lt deaf awake none h = record {
   begun = let b = h.begun in omega (arith, b);

@@ -43,7 +43,7 @@ one_outside test us u fails =
     let some = Any-from_list_any (nat_eq u) us fails.0 in
     list_all_at test us some.0 some.1 some.2 (ap test (some.3 ∙ sym (eqb-true u some.1 some.4)) ∙ fails.1)
 
--- none of a list is outside exactly where all pass
+-- none of a list is outside if and only if all pass
 pub all_where_empty : (test : ℕ → Bool) (us vs : List ℕ) → IsListOf (IsFailing us test) vs → (length vs == 0) ≡ list_all test us
 all_where_empty test us [] l = sym (all_inside test us (λ u fails. absurd (both_ways (has [] u) refl ((l.members u).1 fails))))
 all_where_empty test us (v ∷ vs) l = ne_eqb (length (v ∷ vs)) 0 (λ e. omega arith) ∙ sym (one_outside test us v ((l.members v).0 (has_here v vs)))

@@ -1,4 +1,4 @@
--- A slot that lacks whom it asks for contradicts the lines up to it, and up to the last one that may rule UIDs out.
+-- A slot that lacks the tags it requires contradicts the lines up to it, and up to the last one that may rule UIDs out.
 use Rattle.std.proofs.Common.{◌≡◌, ℕ, zero, suc, ◌+◌, ◌<◌, ◌≤◌, List, [], ◌∷◌, length, take, Bool, true, false, ◌&&◌, Option, Some, None, refl, sym, ap, ◌∙◌, subst, arith, add-one, ⊎_elim}
 use Rattle.std.specs.Prelude.{slice_get}
 use Rattle.std.proofs.lemmas.Bool.{cases_eq}
@@ -51,7 +51,7 @@ allows_all (Some FieldCycle) b u h = refl
 allows_all (Some Silent) b u h = let bad = h Silent refl in cc
 allows_all (Some (Heard r)) b u h = let bad = h (Heard r) refl in cc
 
--- after a place behind which none is ruled out the same UIDs are open
+-- after a position behind which none is ruled out the same UIDs are open
 open_settled : (es : List Entry) (c n : ℕ) (u : ℕ) → NoneRulesOutAfter es c → c < n → is_open (slots_before es n) u ≡ is_open (slots_before es (suc c)) u
 open_settled es c zero u h below = absurd (omega (arith, below))
 open_settled es c (suc n) u h below =

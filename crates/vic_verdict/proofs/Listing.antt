@@ -26,13 +26,13 @@ listed_more (x ∷ lines) (suc i) l k =
     ∙ (sym (append_assoc (listed (x.item ∷ [])) (listed (entries (take i lines))) (listed (l.item ∷ [])))
     ∙ ap (λ us. us ++ listed (l.item ∷ [])) (sym (listed_cons x.item (entries (take i lines))))))
 
--- each line's number is above its place
+-- each line's number is above its position
 pub number_above : (n : ℕ) (lines : List LogLine) (i : ℕ) (l : LogLine) → IsRisingFrom n lines → slice_get lines i ≡ Some l → n + i < l.number
 number_above n [] i l r k = cc
 number_above n (x ∷ lines) zero l r k = let same : x ≡ l = cc in let e = ap (λ y. y.number) same in let h = r.0 in omega arith
 number_above n (x ∷ lines) (suc i) l r k = let h = number_above x.number lines i l r.1 k in let b = r.0 in omega arith
 
--- so a place has 32 bits as well
+-- so a position has 32 bits as well
 pub place_bound : (lines : List LogLine) (i number : ℕ) (l : LogLine) → IsRisingFrom 0 lines → i < length lines → l ≡ get_or lines i l → number ≡ l.number → number < 2 ^ 32 → i < 2 ^ 32
 place_bound lines i number l up within here value small =
     let at = slice_get_read lines (length lines) i l refl within here in

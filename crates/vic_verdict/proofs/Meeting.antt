@@ -116,7 +116,7 @@ one_of : (t : ℕ → Bool) (xs : List ℕ) → ((u : ℕ) → has xs u ≡ true
 one_of t [] h n = absurd (omega (arith, n))
 one_of t (x ∷ xs) h n = (x, h x (has_here x xs))
 
--- what meets place i, and how many they are
+-- what meets position i, and how many they are
 record MetBy (es : List Entry) (i n : ℕ) : Type 0 where
   uids : List ℕ
   different : AreDifferent uids
@@ -198,7 +198,7 @@ certain_more heard old new ys fs k f below is same adds h = record {
       (cases_eq j k);
 }
 
--- an entry of the first n places forces the UID
+-- an entry of the first n positions forces the UID
 abbrev ForcedBefore : (ℕ → Bool) → List Entry → ℕ → ℕ → Type 0
 ForcedBefore set es n u = (i : ℕ) × (e : Entry) × (i < n) × (slice_get es i ≡ Some e) × EntryForces (reading_of e) (answering set es i) u
 

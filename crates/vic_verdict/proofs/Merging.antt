@@ -7,7 +7,7 @@ use Rattle.vic_verdict.proofs.Failing.{any_default, member_at, place_of}
 use Rattle.vic_verdict.proofs.Inserted.{rising_order}
 use Rattle.vic_verdict.specs.Merging.{AreBelow, IsPlaceOf}
 
--- a rising list has a number exactly where that stands at its place
+-- a rising list has a number if and only if it is at its index
 lacks : (us : List ℕ) (n u : ℕ) → IsStrictlyIncreasing us → IsPlaceOf us n u → (n < length us → get_or us n 0 ≡ u → ⊥) → has us u ≡ false
 lacks us n u rising place other = false_from_ne_true _ (λ e.
     let p = place_of us u 0 e in
@@ -33,7 +33,7 @@ is_here us n u x rising place within is =
 pub is_past : (us : List ℕ) (n u : ℕ) → IsStrictlyIncreasing us → IsPlaceOf us n u → length us ≤ n → has us u ≡ false
 is_past us n u rising place past = lacks us n u rising place (λ short _. omega (arith, short, past))
 
--- a later member of another rising list comes after all before the place of an earlier one
+-- a later member of another rising list comes after all before the position of an earlier one
 pub below_next : (us vs : List ℕ) (i n u : ℕ) → IsStrictlyIncreasing us → i + 1 < length us → u ≡ get_or us i u → AreBelow vs n u → AreBelow vs n (get_or us (i + 1) 0)
 below_next us vs i n u rising short is below k lt =
     let less = below k lt in

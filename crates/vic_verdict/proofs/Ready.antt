@@ -124,7 +124,7 @@ where_between p (n ∷ ns) first last k inside e =
     (λ there. where_between p ns first last k (All-tail (λ (m : Name). is_between first last m.key ≡ true) n ns inside) there)
     (or_cases _ _ e)
 
--- who is Quiet at a place is so later
+-- who is Quiet at a position is so later
 ready_before : (set : ℕ → Bool) (ns : List Name) (from i u : ℕ) (n : Bool) → from ≤ i → (is_ready_at set ns from u && (n && not (is_quiet_by ns (mirror u) i))) ≡ (set u && (n && not (is_quiet_by ns (mirror u) i)))
 ready_before set ns from i u n le = go (set u) n (is_quiet_by ns (mirror u) from) (is_quiet_by ns (mirror u) i) (silenced_later ns (mirror u) from i le)
   where
@@ -259,7 +259,7 @@ open_more set ns i os new o up small below key there quiet is h = subst (AreOpen
         two false true = refl
         two false false = refl
 
--- whether a UID with a key is one of a set and isn't Quiet at a place, by its own names
+-- whether a UID with a key is one of a set and isn't Quiet at a position, by its own names
 pub ready_key : (set : ℕ → Bool) (ns own : List Name) (from key quiet : ℕ) → IsKey key → All (λ (n : Name). is_between key key n.key ≡ true) own → ((test : Name → Bool) (k : ℕ) → is_between key key k ≡ true → has_where test own k ≡ has_where test ns k) → nat_lt quiet from ≡ list_any (λ (n : Name). nat_lt (quiet_of n) from) own → is_ready_at set ns from (uid_of key) ≡ (set (uid_of key) && not (nat_lt quiet from))
 ready_key set ns own from key quiet small inside all first = ap (λ k. set (uid_of key) && not (is_quiet_by ns k from)) (mirror_of_uid key small) ∙ ap (λ b. set (uid_of key) && not b) (tells_own ns own key quiet from inside all first)
 

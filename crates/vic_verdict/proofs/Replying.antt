@@ -15,11 +15,11 @@ use Rattle.vic_verdict.proofs.Closing.{between_from}
 use Rattle.vic_verdict.proofs.Sweeping.{nobody, between_parts}
 use Rattle.vic_tree.proofs.BoolLaws.{lt_from, lt_yes}
 
--- the name at a place of a list
+-- the name at a position of a list
 abbrev pub at : List Name → ℕ → Name
 at ns i = get_or ns i nobody
 
--- the places at which the UID of a name is Quiet are those after this one
+-- the positions at which the UID of a name is Quiet are those after this one
 abbrev pub TellsFrom : List Name → ℕ → ℕ → Type 0
 TellsFrom ns k quiet = (i : ℕ) → i ≤ NEVER → is_quiet_by ns (at ns k).key i ≡ nat_lt quiet i
 

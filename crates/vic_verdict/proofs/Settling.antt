@@ -1,4 +1,4 @@
--- What the lines of a log leave open up to a place at which a reply could not be.
+-- What the lines of a log leave open up to a position at which a reply could not be.
 use Rattle.std.proofs.Common.{◌≡◌, ℕ, ◌+◌, ◌<◌, ◌≤◌, ◌&&◌, List, [], length, take, Bool, Some, refl, sym, ap, ◌∙◌, subst, arith, ⊎_elim}
 use Rattle.std.specs.Prelude.{slice_get}
 use Rattle.std.proofs.lemmas.Bool.{cases_eq}

@@ -1,4 +1,4 @@
--- What the Stay Quiets since the last field cycle tell, from place to place.
+-- What the Stay Quiets since the last field cycle tell, from position to position.
 use Rattle.std.proofs.Common.{◌≡◌, ℕ, ◌<◌, ◌≤◌, ◌==◌, ◌^◌, List, [], ◌∷◌, Bool, true, ◌&&◌, sym, ◌∙◌, subst, arith, ⊎_elim}
 use Rattle.std.specs.Prelude.{nat_lt}
 use Rattle.std.specs.List.Sorted.{IsPermutation}

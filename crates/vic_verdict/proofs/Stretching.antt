@@ -37,18 +37,18 @@ silenced_pushed ns n k i = list_any-append (λ (m : Name). (m.key == k) && nat_l
 pub silenced_after : (ns : List Name) (n : Name) (k i : ℕ) → i ≤ quiet_of n → is_quiet_by (ns ++ n ∷ []) k i ≡ is_quiet_by ns k i
 silenced_after ns n k i h = silenced_pushed ns n k i ∙ (ap (λ b. is_quiet_by ns k i || b) (and_right (n.key == k) (nat_lt (quiet_of n) i) (lt_no (quiet_of n) i h)) ∙ or_false (is_quiet_by ns k i))
 
--- the place after which a UID is Quiet by a name
+-- the position after which a UID is Quiet by a name
 pub quiet_silent : (n : Name) → n.is_heard ≡ false → quiet_of n ≡ n.at
 quiet_silent n e = ap (λ b. if b then NEVER else n.at) e
 
 pub quiet_heard : (n : Name) → n.is_heard ≡ true → quiet_of n ≡ NEVER
 quiet_heard n e = ap (λ b. if b then NEVER else n.at) e
 
--- a line that silences a UID is before place i
+-- a line that silences a UID is before position i
 abbrev pub IsPlaced : ℕ → Name → Type 0
 IsPlaced i n = n.is_heard ≡ false → n.at < i
 
--- by a name no UID falls silent at place i
+-- by a name no UID falls silent at position i
 abbrev pub IsBeside : ℕ → Name → Type 0
 IsBeside i n = (quiet_of n < i) ⊎ (i < quiet_of n)
 
@@ -85,7 +85,7 @@ allow_named ns n k i (s ∷ ss) h before =
     ap (λ b. (not (is_in s k) || (b || is_heard (heard_of s) k)) && all_allow (ns ++ n ∷ []) ss k) (silenced_after ns n k s.at (omega (arith, lt, h)))
     ∙ ap (λ b. spot_allows ns s k && b) (allow_named ns n k i ss h (All-tail (λ (t : Spot). t.at < i) s ss before))
 
--- and so of the slots before a place
+-- and so of the slots before a position
 allow_named_to : (ns : List Name) (n : Name) (k i j : ℕ) (ss : List Spot) → i ≤ quiet_of n → All (λ (s : Spot). s.at < i) ss → all_allow_to (ns ++ n ∷ []) ss j k ≡ all_allow_to ns ss j k
 allow_named_to ns n k i j [] h before = refl
 allow_named_to ns n k i j (s ∷ ss) h before =
@@ -103,7 +103,7 @@ allow_all ns k i (s ∷ ss) before =
     under : (x y : ℕ) → y < x → nat_le x y ≡ false
     under x y e = grind (arith, nat_tests)
 
--- what a stretch tells of a place up to its end
+-- what a stretch tells of a position up to its end
 pub stretch_to : (es : List Entry) (from i : ℕ) (set : ℕ → Bool) (ns : List Name) (ss : List Spot) → TellsOpen es from i set ns ss → (j : ℕ) → from ≤ j → j ≤ i → SameUids (λ u. set u && all_allow_to ns ss j (mirror u)) (is_open (slots_before es j))
 stretch_to es from i set ns ss h j since upto u w =
     ⊎_elim
@@ -166,7 +166,7 @@ still_quiet false false q e f = refl
 still_quiet true b q e f = absurd (cc)
 still_quiet false true q e f = absurd (cc)
 
--- an entry that silences and wakes nobody, and rules nobody out
+-- an entry that silences and wakes no tag, and rules none out
 pub stretch_passed : (es : List Entry) (from i : ℕ) (set : ℕ → Bool) (ns : List Name) (ss : List Spot) (e : Entry) → slice_get es i ≡ Some e → i < 2 ^ 32 → wakes (Some e) ≡ false → ((u : ℕ) → IsUid u → silences (Some e) u ≡ false) → ((b : Bool) (u : ℕ) → entry_allows (reading_of e) b u ≡ true) → TellsOpen es from i set ns ss → TellsOpen es from (i + 1) set ns ss
 stretch_passed es from i set ns ss e k lt awake none all h = record {
   keys = h.keys;

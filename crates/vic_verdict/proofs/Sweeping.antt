@@ -306,7 +306,7 @@ all_unnamed ns k none b (s ∷ ss) h e =
     let w = and_parts _ _ e in
     and_from _ _ (or_left _ _ (unnamed_outside ns s k none v.0 w.0)) (all_unnamed ns k none b ss v.1 w.1)
 
--- a key lies in no slot or is left by name exactly where all slots allow it
+-- a key lies in no slot or is left by name if and only if all slots allow it
 pub covered_allowed : (ns : List Name) (ss : List Spot) (k : ℕ) → are_left ns ≡ true → all_hear_named ns ss ≡ true → all_cover (keep_all (all_leave ss) ns) ss k ≡ all_allow ns ss k
 covered_allowed ns ss k left named = same_tests _ _ to from where
   to : all_cover (keep_all (all_leave ss) ns) ss k ≡ true → all_allow ns ss k ≡ true
@@ -357,12 +357,12 @@ allow_permuted ns ms ss ts k m w =
     (λ (s : Spot). ap (λ b. not (is_in s k) || (b || is_heard (heard_of s) k)) (sym (list_any-IsPermutation (λ (n : Name). (n.key == k) && nat_lt (quiet_of n) s.at) ns ms m))) ts
     ∙ sym (all_permuted (λ s. spot_allows ns s k) ss ts w)
 
--- ---- the slots before a place
+-- ---- the slots before a position
 
 abbrev pub is_before_place : ℕ → Spot → Bool
 is_before_place i s = nat_lt s.at i
 
--- all of them, where the place is behind them
+-- all of them, where the position is behind them
 pub before_end : (i j : ℕ) (ss : List Spot) → j ≤ i → All (λ (s : Spot). s.at < j) ss → filter (is_before_place i) ss ≡ ss
 before_end i j [] le h = refl
 before_end i j (s ∷ ss) le h =

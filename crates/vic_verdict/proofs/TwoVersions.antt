@@ -1,4 +1,4 @@
--- The headline says the same in the words of each version.
+-- The main theorem says the same in the words of each version.
 use Rattle.std.proofs.Common.{◌≡◌, ◌⊎◌, inl, inr, ℕ, zero, suc, Bool, true, false, not, ◌&&◌, List, [], ◌∷◌, Option, Some, None, refl, sym, ap, subst, ◌∙◌, arith, ⊎_elim}
 use Rattle.std.specs.Prelude.{◌≢◌, ◌↔◌, slice_get}
 use Rattle.std.specs.List.{filter}
@@ -69,7 +69,7 @@ only x u h = ⊎_elim (λ e. e) (λ k. cc) (has_cases u x [] h)
 differ : (x y : ℕ) (xs : List ℕ) → AreDifferent (x ∷ y ∷ xs) → x ≢ y
 differ x y xs d e = both_ways (has (y ∷ xs) x) d.0 (subst (λ z. has (y ∷ xs) z ≡ true) (sym e) (has_here y xs))
 
--- nobody answers, and that is the outcome
+-- no tag answers, and that is the outcome
 abbrev Nobodys : List ℕ → List Entry → ℕ → Outcome → Type 0
 Nobodys p es i o = (o ≡ Nobody) × ((u : ℕ) → Answers p es i u → ⊥)
 
@@ -110,7 +110,7 @@ told-iff p es i Garbled o (inl n) = ((λ k. absurd (k n.0)), (λ k. absurd (⊎_
 told-iff p es i Garbled o (inr (inl w)) = ((λ k. inl (w.0, w.2)), (λ k none. let e = w.1 in cc))
 told-iff p es i Garbled o (inr (inr s)) = ((λ k. inr s.1), (λ k none. let e = s.0 in cc))
 
--- ---- what a population could have given
+-- ---- what a population could have produced
 
 outcome-is : (p : List ℕ) (es : List Entry) (i : ℕ) → IsPopulation p → IsOutcome p es i (outcome_at es i p)
 outcome-is p es i pop = is_outcome p es i (answerers p es i) (AreDifferent-filter (answers_at es i) p (AreDifferent-population p pop)) (answers-member p es i) (member-answers p es i)
@@ -121,7 +121,7 @@ given-second es p pop = (
   (λ g i e k. (told-iff p es i e (outcome_at es i p) (outcome-is p es i pop)).1 (g i e k)),
 )
 
--- the headline over relations that say the same of populations
+-- the main theorem over relations that say the same about populations
 same_headline : (F G : List ℕ → List Entry → Type 0) (es : List Entry) → ((p : List ℕ) → IsPopulation p → F p es ↔ G p es) → HasExactlyListed F es → HasExactlyListed G es
 same_headline F G es same h = (
   (h.0.0, h.0.1, (same h.0.0 h.0.1).0 h.0.2),
@@ -146,6 +146,6 @@ whole-first es h = (
 pub first-second : (es : List Entry) → AreOfFirstVersion es → IsWholeFirst es ↔ IsWholeSecond es
 first-second es h = ((λ w. (whole-second es).0 ((whole-first es h).1 w)), (λ w. (whole-first es h).0 ((whole-second es).1 w)))
 
--- where the verdict is `Complete`, the headline for version 2 holds
+-- if the verdict is `Complete`, the main theorem for version 2 holds
 pub complete_second : (lines : List LogLine) (count : ℕ) → IsVerdict lines (Complete count) → IsWholeSecond (entries lines)
 complete_second lines count h = (whole-second (entries lines)).0 (complete_whole lines count h)

@@ -276,7 +276,7 @@ some_verdict lines =
 
 -- ---- the cases 4 and 6 in other words
 
--- a mask is unsettled exactly where an unlisted UID is possible
+-- a mask is unsettled if and only if an unlisted UID is possible
 pub unsettled_iff : (es : List Entry) → ((m : BitMask) × IsUnsettled es m) ↔ ((u : ℕ) × IsPossibleUid es u × (has (listed es) u ≡ false))
 unsettled_iff es = (
   (λ h. let m = h.0 in let w = h.1.2 (uid_in m) (IsUid-in m h.1.0 h.1.1) (lies_in-uid_in m h.1.0 h.1.1) in (uid_in m, w.0, w.1)),

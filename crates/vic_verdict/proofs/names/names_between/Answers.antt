@@ -9,11 +9,11 @@ use Rattle.vic_verdict.proofs.Sweeping.{nobody}
 use Rattle.vic_verdict.proofs.Closing.{part_between, part_where}
 use Rattle.vic_verdict.proofs.names.names_between.Goals as goal
 
--- what is left of a slice from a place on
+-- what is left of a slice from a position on
 rest_is : (ns : List Name) (s : ℕ) → take (length ns - s) (drop s ns) ≡ drop s ns
 rest_is ns s = take_all (length ns - s) (drop s ns) (let e = length-drop s ns in omega (arith, e))
 
--- the names up to a key, of those from a place on
+-- the names up to a key, of those from a position on
 end_in : (ns : List Name) (s last m : ℕ) → s ≤ length ns → IsStart (drop s ns) (last + 1) m → s + m ≤ length ns
 end_in ns s last m bound h = let long = length-drop s ns in let le = h.within in omega (arith, bound, le, long)
 
