@@ -26,7 +26,7 @@ is_unnamed set ns first last u = (is_uid u && set u)
 abbrev pub is_unnamed_in : (ℕ → Bool) → List Name → KeyBlock → ℕ → Bool
 is_unnamed_in set ns b u = is_unnamed set ns b.first (b.first + (2 ^ (UID_BITS - b.len) - 1)) u
 
--- what is kept of a range of keys are such UIDs
+-- the UIDs kept for a range of keys are such UIDs
 abbrev pub IsUnnamed : (ℕ → Bool) → List Name → Unnamed → Type 0
 IsUnnamed set ns m = UpToThree (is_unnamed set ns m.first m.last) m.uids.items
 

@@ -20,7 +20,7 @@ use Rattle.vic_verdict.specs.Sweep.{AreInOrder, HaveKeys, is_quiet_by}
 use Rattle.vic_verdict.specs.Places.{answering}
 use Rattle.vic_verdict.specs.Verdict.{IsHeard}
 
--- how many tags, at least, answered in a slot that its line doesn't name
+-- how many tags, at least, answered in a slot without being named by its line
 abbrev pub needs : Entry → ℕ
 needs Collision = 2
 needs Garbled = 1
