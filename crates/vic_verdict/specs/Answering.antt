@@ -58,7 +58,7 @@ pub record AreOpenNames (set : ℕ → Bool) (ns os : List Name) : Type 0 where
 abbrev pub is_ready_at : (ℕ → Bool) → List Name → ℕ → ℕ → Bool
 is_ready_at set ns i u = set u && not (is_quiet_by ns (mirror u) i)
 
--- what is known of the names of a stretch
+-- what is known about the names of a stretch
 pub record IsKnown (set : ℕ → Bool) (ns : List Name) (known : Known) : Type 0 where
   pub keys : known.keys.items ≡ map (λ (n : Name). n.key) ns
   pub named : AreOpenNames (is_ready_at set ns known.from) ns known.named.items
