@@ -27,8 +27,8 @@ use vic_frame::{Mask, UID_BITS, Uid, without_top_byte};
 /// and searched by bisection. Settling one more mask rebuilds it.
 #[derive(Drop)]
 pub struct RangeSet {
-    ranges: Vec<KeyRange>,
-    alloc: Global,
+    pub(crate) ranges: Vec<KeyRange>,
+    pub(crate) alloc: Global,
 }
 
 impl Model for RangeSet {

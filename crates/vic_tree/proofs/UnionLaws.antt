@@ -1,0 +1,47 @@
+-- Sets as ranges that are made of others.
+use Rattle.std.proofs.Common.{◌≡◌, ℕ, ◌+◌, ◌≤◌, ◌&&◌, ◌||◌, inl, inr, Bool, true, false, not, List, [], ◌∷◌, ◌++◌, length, ◌∙◌, refl, sym, ap, arith}
+use Rattle.std.specs.Prelude.{nat_lt}
+use Rattle.std.proofs.lemmas.Bool.{cases_lt, cases_Bool}
+use Rattle.std.proofs.lemmas.Bool.Decides.{nat_tests}
+use Rattle.vic_frame.specs.LowBitsFirst.{mirror, uid_of}
+use Rattle.vic_frame.proofs.KeyLaws.{is_uid}
+use Rattle.vic_frame.proofs.MirrorLaws.{mirror_of_uid}
+use Rattle.vic_tree.specs.OpenSet.{SameUids}
+use Rattle.vic_tree.specs.Ranges.{AreRanges, IsFirstRun, in_ranges, is_open_in}
+use Rattle.vic_tree.proofs.BoolLaws.{and_false, lt_yes, or_false, or_true}
+use Rattle.vic_tree.proofs.GapLaws.{in_run}
+use Rattle.vic_tree.proofs.RangeLaws.{in_pushed, is_inside, where_is}
+
+-- one run more of the keys that pass
+pub run_pushed : (p : ℕ → Bool) (from x y k : ℕ) (old : List (ℕ × ℕ)) → IsFirstRun p from x y → x ≤ y → in_ranges old k ≡ (nat_lt k from && p k) → in_ranges (old ++ (x, y) ∷ []) k ≡ (nat_lt k (y + 2) && p k)
+run_pushed p from x y k old run forward kept = in_pushed old x y k ∙ elim (where_is x y k) [
+  | inl i ↦ rw (i.2, lt_yes k (y + 2) (omega (arith, i.1)), run.passes k i.0 i.1) (or_true (in_ranges old k))
+  | inr o ↦ rw (o.1, or_false (in_ranges old k)) (kept ∙ elim (cases_Bool (p k)) [
+    | inl t ↦ rw t (let low = run.begins in let near = in_run p from x y k run t in grind (arith, nat_tests))
+    | inr f ↦ rw f (and_false (nat_lt k from) ∙ sym (and_false (nat_lt k (y + 2))))
+  ])
+]
+
+-- the runs that were found are all
+pub all_pushed : (p : ℕ → Bool) (from k : ℕ) (b : Bool) → (from ≤ k → p k ≡ false) → b ≡ (nat_lt k from && p k) → b ≡ p k
+all_pushed p from k b none is = is ∙ elim (cases_lt k from) [
+  | inl lt ↦ rw (lt_yes k from lt) refl
+  | inr le ↦ rw (none le) (and_false (nat_lt k from))
+]
+
+pub not_not : (b : Bool) → not (not b) ≡ b
+not_not true = refl
+not_not false = refl
+
+-- no range, no UID
+pub none_in : (rs : List (ℕ × ℕ)) (k : ℕ) → length rs ≡ 0 → in_ranges rs k ≡ false
+none_in [] k e = refl
+none_in (r ∷ rs) k e = absurd (omega arith)
+
+pub no_range : (rs : List (ℕ × ℕ)) → AreRanges rs → SameUids (is_open_in rs) (λ u. false) → length rs ≡ 0
+no_range [] ranges none = refl
+no_range (r ∷ rs) ranges none =
+    let back : mirror (uid_of r.0) ≡ r.0 = mirror_of_uid r.0 (omega (arith, ranges.1, ranges.2)) in
+    let closed = sym (ap (in_ranges (r ∷ rs)) back) ∙ none (uid_of r.0) (is_uid r.0) in
+    let inside = ap (λ b. b || in_ranges rs r.0) (is_inside r.0 r.1 r.0 (omega arith) ranges.1) in
+    absurd (cc (closed, inside))

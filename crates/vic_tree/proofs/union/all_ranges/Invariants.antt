@@ -1,0 +1,7 @@
+use Rattle.std.proofs.Common.{◌≡◌, ℕ, take}
+use Rattle.std.specs.List.{list_any}
+use Rattle.vic_tree.specs.Ranges.{in_ranges}
+use Rattle.vic_tree.proofs.union.all_ranges.Given as goal
+
+abbrev pub invariant-loop-set : goal.invariant-loop-set
+invariant-loop-set l = (k : ℕ) → in_ranges l.all.items k ≡ list_any (λ one. in_ranges one k) (take l.set-index l.sets)

@@ -1,0 +1,75 @@
+//! Sets as ranges, made of others: a set without the UIDs at some keys, and the union of some sets.
+
+ghost use Rattle.std.specs.Prelude.{◌≡◌, ℕ, ◌&&◌, ◌↔◌, not, true, false, IfOk};
+ghost use Rattle.std.specs.List.{list_any};
+ghost use Rattle.std.specs.List.Sorted.{IsNonDecreasing};
+ghost use Rattle.vic_frame.specs.Uids.{has};
+ghost use Rattle.vic_tree.specs.OpenSet.{AreKeys, SameUids, without_keys};
+ghost use Rattle.vic_tree.specs.Ranges.{AreRanges, in_ranges, is_left, is_open_in};
+
+use crate::key_range::KeyRange;
+use crate::left::Left;
+use crate::range_set::RangeSet;
+use crate::ranges::{between, outside};
+use std::alloc::{AllocError, Global};
+
+impl RangeSet {
+    /// The set without the UIDs at some keys, which come in order.
+    pub fn besides(&self, alloc: Global, keys: &[u64]) -> Result<RangeSet, AllocError>
+        requires order { IsNonDecreasing keys.now }
+        requires keys { AreKeys keys.now }
+        ensures { IfOk result (λ set. SameUids (is_open_in set)
+            (without_keys (is_open_in self.now) keys.now)) }
+    {
+        let ranges = left_of(alloc, &self.ranges, keys)?;
+        Ok(RangeSet { ranges, alloc })
+    }
+
+    /// The UIDs that are in at least one of some sets.
+    pub fn union(alloc: Global, sets: &[RangeSet]) -> Result<RangeSet, AllocError>
+        ensures { IfOk result (λ set. SameUids (is_open_in set)
+            (λ u. list_any (λ one. is_open_in one u) sets.now)) }
+    {
+        let all = all_ranges(alloc, sets)?;
+        let others = outside(alloc, all)?;
+        let ranges = between(alloc, &others)?;
+        Ok(RangeSet { ranges, alloc })
+    }
+
+    /// Whether no UID is in the set.
+    pub fn is_empty(&self) -> bool
+        ensures { result ≡ true ↔ SameUids (is_open_in self.now) (λ _. false) }
+    {
+        self.ranges.as_slice().is_empty()
+    }
+}
+
+/// What is left of some ranges without the keys of a list.
+fn left_of(alloc: Global, ranges: &[KeyRange], keys: &[u64]) -> Result<Vec<KeyRange>, AllocError>
+    requires ranges { AreRanges ranges.now }
+    requires keys { AreKeys keys.now }
+    requires order { IsNonDecreasing keys.now }
+    ensures ranges { IfOk result (λ runs. AreRanges runs.items) }
+    ensures keys { IfOk result (λ runs. (k : ℕ)
+        → in_ranges runs.items k ≡ is_left ranges.now keys.now k) }
+{
+    let mut runs = Vec::new(alloc);
+    let mut left = Left::new(0, ranges, keys);
+    while let Some(run) = left.next_run() {
+        runs.push(run)?;
+    }
+    Ok(runs)
+}
+
+/// The ranges of all sets, one set after another.
+fn all_ranges(alloc: Global, sets: &[RangeSet]) -> Result<Vec<KeyRange>, AllocError>
+    ensures { IfOk result (λ all. (k : ℕ)
+        → in_ranges all.items k ≡ list_any (λ one. in_ranges one k) sets.now) }
+{
+    let count = sets.iter().fold(0usize, |count, set| count.saturating_add(set.ranges.len()));
+    let mut all = Vec::with_capacity(alloc, count)?;
+    for set in sets {
+        all.extend_from_slice(&set.ranges)?;
+    }
+    Ok(all)
+}
