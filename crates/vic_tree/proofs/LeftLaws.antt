@@ -1,5 +1,5 @@
 -- What is left of ranges of keys without some keys, run by run.
-use Rattle.std.proofs.Common.{◌≡◌, ℕ, ◌+◌, ◌<◌, ◌≤◌, ◌==◌, ◌&&◌, inl, inr, Bool, true, false, not, List, [], ◌∷◌, length, get_or, nat_eq, max, ◌∙◌, refl, arith}
+use Rattle.std.proofs.Common.{◌≡◌, ℕ, zero, suc, ◌+◌, ◌<◌, ◌≤◌, ◌==◌, ◌&&◌, inl, inr, Bool, true, false, not, List, [], ◌∷◌, length, get_or, drop, nat_eq, max, ◌∙◌, refl, sym, arith}
 use Rattle.std.specs.List.Sorted.{IsNonDecreasing}
 use Rattle.std.proofs.lemmas.Bool.{cases_lt}
 use Rattle.std.proofs.lemmas.Bool.Decides.{nat_tests}
@@ -21,6 +21,13 @@ is_behind key k others lt = grind (arith, nat_tests)
 pub is_before_all : (keys : List ℕ) (k : ℕ) → IsNonDecreasing keys → (0 < length keys → k < get_or keys 0 0) → has keys k ≡ false
 is_before_all keys k up low =
     list_any_none (nat_eq k) keys (All-from_get_or (λ y. (k == y) ≡ false) keys 0 (λ i lt. not_among (get_or keys i 0) k (let a = up 0 i 0 (omega arith) lt in let b = low (omega arith) in λ e. omega arith)))
+
+-- without those that come before a key
+pub keys_dropped : (keys : List ℕ) (n from k : ℕ) → ((i d : ℕ) → i < n → get_or keys i d < from) → from ≤ k → has (drop n keys) k ≡ has keys k
+keys_dropped keys zero from k low le = refl
+keys_dropped [] (suc n) from k low le = refl
+keys_dropped (key ∷ keys) (suc n) from k low le =
+    keys_dropped keys n from k (λ i d lt. low (suc i) d (omega arith)) le ∙ sym (is_behind key k keys (let lt = low 0 0 (omega arith) in omega (arith, lt)))
 
 -- nothing is left of no ranges
 pub none_left : (rs : List (ℕ × ℕ)) (keys : List ℕ) (k : ℕ) → length rs ≡ 0 → (in_ranges rs k && not (has keys k)) ≡ false

@@ -84,7 +84,7 @@ fn first_free(from: u64, keys: &[u64]) -> (u64, &[u64])
     ensures order { IsNonDecreasing result.1.now }
 {
     let mut free = from;
-    let mut rest = keys;
+    let mut rest = keys_from(keys, from);
     while let Some((key, others)) = rest.split_first() {
         if free < *key {
             return (free, rest);
@@ -93,6 +93,23 @@ fn first_free(from: u64, keys: &[u64]) -> (u64, &[u64])
         rest = others;
     }
     (free, rest)
+}
+
+/// Those of some keys that come no earlier than one. They are looked for in steps that double, so
+/// that many keys are passed in little time.
+fn keys_from(keys: &[u64], from: u64) -> &[u64]
+    requires keys { AreKeys keys.now }
+    requires order { IsNonDecreasing keys.now }
+    ensures same { (k : ℕ) → from ≤ k → has result.now k ≡ has keys.now k }
+    ensures keys { AreKeys result.now }
+    ensures order { IsNonDecreasing result.now }
+{
+    let mut near = 1;
+    while near < keys.len() && keys[near] < from {
+        near *= 2;
+    }
+    let passed = keys[..near.min(keys.len())].partition_point(|key| *key < from);
+    &keys[passed..]
 }
 
 /// The keys from `first` on, up to `last` or the first key of a list.

@@ -1,0 +1,19 @@
+use Rattle.std.proofs.Common.{◌∙◌, ◌-◌, drop, take, length, ltb, ltb-true, ap, rules, arith}
+use Rattle.std.proofs.lemmas.List.{length-drop, length-take-le, take_all, get_or-take}
+use Rattle.std.proofs.lemmas.List.Sorted.{IsNonDecreasingBy-take, IsPartitionPoint-from_clause, IsPartitionedBy-ltb}
+use Rattle.vic_frame.specs.Uids.{has}
+use Rattle.vic_tree.proofs.LeftLaws.{keys_dropped}
+use Rattle.vic_tree.proofs.left.keys_from.Goals as goal
+
+pub returns-clause-same : goal.returns-clause-same
+returns-clause-same c k le =
+    let keys = c.args.keys.now in
+    let from = c.args.from in
+    let n = c.partition_point-passed.result in
+    let near = c.min.result in
+    let parted = IsPartitionedBy-ltb (λ x. x) (take near keys) from (IsNonDecreasingBy-take (λ x. x) near keys c.requires.order) in
+    let point = IsPartitionPoint-from_clause (λ x. ltb x from) (take near keys) n c.partition_point-passed.ensures.partitioned parted (λ a r q k. search rules) in
+    let rest = length-drop n keys in
+    let short = length-take-le near keys in
+    ap (λ ks. has ks k) (take_all (length keys - n) (drop n keys) (omega arith))
+    ∙ keys_dropped keys n from k (λ i d lt. let below = ltb-true _ _ (point.0 i d (omega arith) lt) in omega (arith, below, get_or-take near keys i d (omega (arith, lt, short)))) le

@@ -1,0 +1,8 @@
+use Rattle.std.proofs.Common.{◌<◌, ◌-◌, length}
+use Rattle.vic_tree.proofs.left.keys_from.Given as goal
+
+abbrev pub invariant-loop-near : goal.invariant-loop-near
+invariant-loop-near l = 0 < l.near
+
+abbrev pub decreases-loop-near : goal.decreases-loop-near
+decreases-loop-near l = length l.keys - l.near
