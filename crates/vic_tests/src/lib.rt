@@ -17,6 +17,8 @@ mod sources_and_sinks;
 #[cfg(test)]
 mod tree;
 #[cfg(test)]
+mod unions;
+#[cfg(test)]
 mod values;
 #[cfg(test)]
 mod verdict;

@@ -19,7 +19,7 @@ const KEY_OF_A: u64 = 0x85_0000_0000_8020;
 const HALF: u64 = 1 << 55;
 
 /// The last key.
-const LAST: u64 = (1 << UID_BITS) - 1;
+pub const LAST: u64 = (1 << UID_BITS) - 1;
 
 /// Settles a mask, except some UIDs.
 fn settle<S: OpenSet>(set: &mut S, len: u8, value: u64, except: &[Uid]) -> Result<(), Fail>
@@ -30,7 +30,7 @@ fn settle<S: OpenSet>(set: &mut S, len: u8, value: u64, except: &[Uid]) -> Resul
 }
 
 /// The set that is left of all UIDs when one mask is settled.
-fn all_but<S: OpenSet>(alloc: Global, len: u8, value: u64) -> Result<S, Fail> {
+pub fn all_but<S: OpenSet>(alloc: Global, len: u8, value: u64) -> Result<S, Fail> {
     let mut set = S::everything(alloc)?;
     settle(&mut set, len, value, &[])?;
     Ok(set)
@@ -43,7 +43,7 @@ fn has<S: OpenSet>(rt: &impl Abort, set: &S, number: u64, expected: bool) -> Res
 }
 
 /// Asks a set for its widest open mask.
-fn widest<S: OpenSet>(rt: &impl Abort, set: &S, expected: Option<Mask>) {
+pub fn widest<S: OpenSet>(rt: &impl Abort, set: &S, expected: Option<Mask>) {
     assert!(rt; set.widest() == expected);
 }
 
@@ -147,7 +147,7 @@ fn one_after_another<S: OpenSet>(rt: &impl Abort, alloc: Global) -> Result<(), F
 }
 
 /// The set of the two UIDs whose keys are 0 and 1.
-fn first_two<S: OpenSet>(alloc: Global) -> Result<S, Fail> {
+pub fn first_two<S: OpenSet>(alloc: Global) -> Result<S, Fail> {
     let mut set = S::everything(alloc)?;
     settle(&mut set, 0, 0, &[uid(Z)?, uid(Y)?])?;
     Ok(set)
@@ -357,7 +357,7 @@ fn open_masks_round_one_that_is_settled(rt: HostRuntime) -> Result<(), Fail> {
 }
 
 /// The next of a fixed sequence of numbers that look random.
-fn next(state: u64) -> u64 {
+pub fn next(state: u64) -> u64 {
     let left = state ^ (state << 13);
     let right = left ^ (left >> 7);
     right ^ (right << 17)
