@@ -95,8 +95,8 @@ fn first_free(from: u64, keys: &[u64]) -> (u64, &[u64])
     (free, rest)
 }
 
-/// Those of some keys that come no earlier than one. They are looked for in steps that double, so
-/// that many keys are passed in little time.
+/// Some keys without those that come before another one, where that is more than the first. They
+/// are passed in steps that double, so that many take little time.
 fn keys_from(keys: &[u64], from: u64) -> &[u64]
     requires keys { AreKeys keys.now }
     requires order { IsNonDecreasing keys.now }
@@ -107,6 +107,9 @@ fn keys_from(keys: &[u64], from: u64) -> &[u64]
     let mut near = 1;
     while near < keys.len() && keys[near] < from {
         near *= 2;
+    }
+    if near == 1 {
+        return keys;
     }
     let passed = keys[..near.min(keys.len())].partition_point(|key| *key < from);
     &keys[passed..]
