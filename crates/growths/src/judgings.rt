@@ -45,8 +45,8 @@ impl OpenSet for Telling {
         self.set.widest()
     }
 
-    fn uids_outside(&self, alloc: Global, keys: &[u64]) -> Result<Vec<Uid>, AllocError> {
-        self.set.uids_outside(alloc, keys)
+    fn has_each(&self, alloc: Global, keys: &[u64]) -> Result<Vec<bool>, AllocError> {
+        self.set.has_each(alloc, keys)
     }
 
     fn up_to_three_besides(

@@ -10,6 +10,7 @@ use std::test::Fail;
 use vic_frame::low_bits_first::uid_at;
 use vic_frame::{Mask, UID_BITS, Uid};
 use vic_sets::{CellList, MaskTree};
+use vic_tree::outside::uids_outside;
 use vic_tree::{KeyRange, OpenSet, RangeSet};
 
 /// The low 56 bits of A, the lowest first.
@@ -125,7 +126,7 @@ fn misses<S: OpenSet>(
     requires order { IsNonDecreasing keys.now }
     requires keys { AreKeys keys.now }
 {
-    let outside = set.uids_outside(alloc, keys)?;
+    let outside = uids_outside(alloc, set, keys)?;
     assert!(rt; outside.as_slice() == expected);
     Ok(())
 }

@@ -15,11 +15,10 @@ use crate::key_range::KeyRange;
 use crate::open_masks::{MAX_OPEN_MASKS, OpenMasks, open_masks_besides};
 use crate::open_set::OpenSet;
 use crate::ranges::{between, is_in, is_in_first, outside, push_others, skip_to};
-use crate::rising::put_in_order;
 use arrayvec::ArrayVec;
 use std::alloc::{AllocError, Global};
 use std::marker::Model;
-use vic_frame::low_bits_first::{key, key_range, uid_at};
+use vic_frame::low_bits_first::{key, key_range};
 use vic_frame::{Mask, UID_BITS, Uid, without_top_byte};
 
 /// A set of UIDs as ranges of their keys in the order of low bits first, in which the UIDs of a
@@ -87,17 +86,14 @@ impl OpenSet for RangeSet {
         widest_besides(&self.ranges, &[])
     }
 
-    fn uids_outside(&self, alloc: Global, keys: &[u64]) -> Result<Vec<Uid>, AllocError> {
-        let mut uids = Vec::new(alloc);
+    fn has_each(&self, alloc: Global, keys: &[u64]) -> Result<Vec<bool>, AllocError> {
+        let mut each = Vec::with_capacity(alloc, keys.len())?;
         let mut ahead = self.ranges.as_slice();
         for key in keys {
             ahead = skip_to(ahead, *key);
-            if !is_in_first(ahead, *key) {
-                uids.push(uid_at(*key))?;
-            }
+            each.push(is_in_first(ahead, *key))?;
         }
-        put_in_order(&mut uids);
-        Ok(uids)
+        Ok(each)
     }
 
     fn up_to_three_besides(

@@ -81,19 +81,22 @@ fn open_names<S: OpenSet>(
     alloc: Global,
     set: &S,
     names: &[Name],
+    keys: &[u64],
     from: usize,
 ) -> Result<Vec<Name>, AllocError>
     requires order { AreInOrder names.now }
-    requires keys { HaveKeys names.now }
+    requires named { HaveKeys names.now }
+    requires keys { keys.now ≡ map (λ (n : NameValue). n.key) names.now }
     ensures { IfOk result (λ named.
         AreOpenNames (is_ready_at (S.is_open set.now) names.now from) names.now named.items) }
 {
+    let is_open = set.has_each(alloc, keys)?;
     let mut named = Vec::new(alloc);
     for i in 0..names.len() {
         let key = names[i].key;
         if i == 0 || names[i - 1].key < key {
             let quiet = first_quiet(names_between(names, i, key, key));
-            if from <= quiet && set.has(uid_at(key)) {
+            if from <= quiet && is_open[i] {
                 named.push(name_quiet_after(key, quiet))?;
             }
         }
@@ -115,7 +118,7 @@ impl Known {
         ensures from { IfOk result (λ known. known.from ≡ from) }
     {
         let keys = keys_of(alloc, names)?;
-        let named = open_names(alloc, set, names, from)?;
+        let named = open_names(alloc, set, names, &keys, from)?;
         let masks = Vec::new(alloc);
         Ok(Known {
             from,

@@ -9,6 +9,7 @@ use crate::missing::{keys_in_order, missing_from};
 use std::alloc::{AllocError, Global};
 use vic_frame::{Mask, Uid};
 use vic_tree::OpenSet;
+use vic_tree::outside::uids_outside;
 
 /// How a list of UIDs differs from what a log says. The other findings, the listed UIDs that may be
 /// there or not, follow from these: they are neither certain nor absent.
@@ -37,7 +38,7 @@ pub fn compare<S: OpenSet>(
 {
     let unlisted = missing_from(alloc, certain, listed)?;
     let keys = keys_of_both(alloc, listed, &unlisted)?;
-    let outside = set.uids_outside(alloc, &keys)?;
+    let outside = uids_outside(alloc, &set, &keys)?;
     let absent = missing_from(alloc, &outside, certain)?;
     let unsettled = set.widest_besides(&keys)?;
     Ok(Differences {

@@ -14,6 +14,7 @@ use std::alloc::{AllocError, Global};
 use vic_frame::Uid;
 use vic_frame::low_bits_first::key;
 use vic_tree::OpenSet;
+use vic_tree::outside::uids_outside;
 
 /// The keys of UIDs, in order.
 pub fn keys_in_order(alloc: Global, uids: &[Uid]) -> Result<Vec<u64>, AllocError>
@@ -32,7 +33,7 @@ pub(crate) fn are_open<S: OpenSet>(alloc: Global, set: &S, uids: &[Uid]) -> Resu
     ensures { IfOk result (λ yes. yes ≡ list_all (S.is_open set.now) uids.now) }
 {
     let keys = keys_in_order(alloc, uids)?;
-    let outside = set.uids_outside(alloc, &keys)?;
+    let outside = uids_outside(alloc, set, &keys)?;
     Ok(outside.is_empty())
 }
 

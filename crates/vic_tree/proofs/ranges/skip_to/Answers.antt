@@ -1,14 +1,66 @@
-use Rattle.std.proofs.Common.{◌∙◌, ℕ, List, sym, ap, subst}
+use Rattle.std.proofs.Common.{◌≡◌, ◌∙◌, ℕ, ◌<◌, ◌≤◌, List, get_or, length, length-drop, inl, inr, min, take, ap, sym, subst, arith}
+use Rattle.std.proofs.lemmas.Bool.{cases_lt}
+use Rattle.std.proofs.lemmas.List.{get_or-take, get_or_default, length-take}
 use Rattle.vic_tree.specs.Ranges.{AreRanges, in_ranges}
-use Rattle.vic_tree.proofs.RangeLaws.{in_dropped, ranges_dropped, take_dropped}
+use Rattle.vic_tree.proofs.RangeLaws.{begins_ahead, in_dropped, lasts_rise, ranges_dropped, ranges_taken, take_dropped}
 use Rattle.vic_tree.proofs.ranges.skip_to.Goals as goal
+use Rattle.vic_tree.proofs.ranges.skip_to.Goals.{then-loop-step-test+else-last-key, else-loop-step-test}
+
+pub loop-step-preserved : goal.loop-step-preserved
+loop-step-preserved c =
+    let es = c.loop-step.ahead.now in
+    let n = c.loop-step.step in
+    let inv = c.loop-step.invariant in
+    let r = c.index-ahead-step.result in
+    let last : (get_or es n r).1 < c.args.key = omega (arith, ap (λ (r : ℕ × ℕ). r.1) c.index-ahead-step.is, c.last.ensures.value, c.if-last-key.true) in
+    let count = ap (λ (xs : List (ℕ × ℕ)). length xs) (take_dropped es n) ∙ length-drop n es in
+    record {
+      step = omega (arith, inv.step);
+      shorter = omega (arith, count, inv.shorter);
+      ranges = subst AreRanges (sym (take_dropped es n)) (ranges_dropped 0 es n inv.ranges);
+      same = λ k from.
+          ap (λ (xs : List (ℕ × ℕ)). in_ranges xs k) (take_dropped es n)
+          ∙ in_dropped es n c.args.key k (λ i d lt. omega (arith, last, lasts_rise 0 es inv.ranges i n r (omega (arith, lt)) c.loop-step-test.true, ap (λ (r : ℕ × ℕ). r.1) (get_or_default es i d r (omega (arith, lt, c.loop-step-test.true))))) from
+          ∙ inv.same k from;
+    }
+
+pub count_before-requires : goal.count_before-requires
+count_before-requires c = ranges_taken 0 c.loop-step.ahead.now c.min.result c.loop-step.invariant.ranges
 
 pub returns-clause-ranges : goal.returns-clause-ranges
-returns-clause-ranges c = subst AreRanges (sym (take_dropped c.args.ranges.now c.loop-passed.passed)) (ranges_dropped 0 c.args.ranges.now c.loop-passed.passed c.requires)
+returns-clause-ranges c = subst AreRanges (sym (take_dropped c.loop-step.ahead.now c.count_before.result)) (ranges_dropped 0 c.loop-step.ahead.now c.count_before.result c.loop-step.invariant.ranges)
+
+-- the first that doesn't end before the key is among those nearby, or comes right after them
+first_ahead : (es : List (ℕ × ℕ)) (near n step key : ℕ) → near ≡ min step (length es) → n ≤ length (take near es)
+    → ((d : ℕ × ℕ) → n < length (take near es) → key ≤ (get_or (take near es) n d).1) → ((d : ℕ × ℕ) → step < length es → key ≤ (get_or es step d).1)
+    → (d : ℕ × ℕ) → n < length es → key ≤ (get_or es n d).1
+first_ahead es near n step key is within ahead next d lt =
+    let count = length-take near es in
+    elim (cases_lt n (length (take near es))) [
+      | inl few ↦ let e = get_or-take near es n d (omega (arith, few, count)) in omega (arith, ahead d few, ap (λ (r : ℕ × ℕ). r.1) e)
+      | inr all ↦ let at : n ≡ step = omega (arith, all, within, count, is, lt) in rw at (next d (omega (arith, at, lt)))
+    ]
+
+pub returns-clause-ahead : goal.returns-clause-ahead
+returns-clause-ahead c d some =
+    let es = c.loop-step.ahead.now in
+    let n = c.count_before.result in
+    let found = c.count_before.ensures in
+    let next : (d : ℕ × ℕ) → c.loop-step.step < length es → c.args.key ≤ (get_or es c.loop-step.step d).1 = λ d lt. elim c.loop-step-test.branch [
+      | then-loop-step-test+else-last-key w ↦
+          let r = w.index-ahead-step.result in
+          omega (arith, ap (λ (r : ℕ × ℕ). r.1) (get_or_default es c.loop-step.step d r lt), ap (λ (r : ℕ × ℕ). r.1) w.index-ahead-step.is, w.last.ensures.value, w.if-last-key.false)
+      | else-loop-step-test w ↦ absurd (omega (arith, lt, w.loop-step-test.false))
+    ] in
+    let first = begins_ahead es n c.args.key (first_ahead es c.min.result n c.loop-step.step c.args.key c.min.ensures found.within found.ahead next) in
+    let whole = take_dropped es n in
+    omega (arith, first d (omega (arith, some, ap (λ (xs : List (ℕ × ℕ)). length xs) whole)), ap (λ (r : ℕ × ℕ). r.1) (ap (λ (xs : List (ℕ × ℕ)). get_or xs 0 d) whole))
 
 pub returns-clause-same : goal.returns-clause-same
 returns-clause-same c k from =
-    let es = c.args.ranges.now in
-    let n = c.loop-passed.passed in
+    let es = c.loop-step.ahead.now in
+    let near = c.min.result in
+    let n = c.count_before.result in
     ap (λ (xs : List (ℕ × ℕ)). in_ranges xs k) (take_dropped es n)
-    ∙ in_dropped es n c.args.key k c.loop-passed.invariant.lower from
+    ∙ in_dropped es n c.args.key k (λ i d lt. omega (arith, c.count_before.ensures.before i d lt, ap (λ (r : ℕ × ℕ). r.1) (get_or-take near es i d (omega (arith, lt, c.count_before.ensures.within, length-take near es))))) from
+    ∙ c.loop-step.invariant.same k from

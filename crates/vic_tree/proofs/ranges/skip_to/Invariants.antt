@@ -1,11 +1,14 @@
-use Rattle.std.proofs.Common.{ℕ, ◌-◌, ◌<◌, ◌≤◌, length, get_or}
+use Rattle.std.proofs.Common.{length, ◌≡◌, ℕ, ◌≤◌}
+use Rattle.vic_tree.specs.Ranges.{in_ranges, AreRanges}
 use Rattle.vic_tree.proofs.ranges.skip_to.Given as goal
 
-abbrev pub invariant-loop-passed : goal.invariant-loop-passed
-invariant-loop-passed l = record {
-  count : l.passed ≤ length l.ranges;
-  lower : (i : ℕ) (d : ℕ × ℕ) → i < l.passed → (get_or l.ranges i d).1 < l.key;
+abbrev pub invariant-loop-step : goal.invariant-loop-step
+invariant-loop-step l = record {
+  step : 1 ≤ l.step;
+  shorter : length l.ahead ≤ length l.ranges;
+  ranges : AreRanges l.ahead;
+  same : (k : ℕ) → l.key ≤ k → in_ranges l.ahead k ≡ in_ranges l.ranges k;
 }
 
-abbrev pub decreases-loop-passed : goal.decreases-loop-passed
-decreases-loop-passed l = length l.ranges - l.passed
+abbrev pub decreases-loop-step : goal.decreases-loop-step
+decreases-loop-step l = length l.ahead

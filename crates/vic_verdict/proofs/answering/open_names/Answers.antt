@@ -1,17 +1,30 @@
-use Rattle.std.proofs.Common.{◌≡◌, ◌+◌, ◌^◌, ◌<◌, ◌≤◌, ℕ, true, false, not, ◌&&◌, sym, ap, ◌∙◌, subst, arith}
+use Rattle.std.proofs.Common.{◌≡◌, ◌+◌, ◌^◌, ◌<◌, ◌≤◌, ℕ, Bool, List, length, get_or, map, true, false, not, ◌&&◌, sym, ap, ◌∙◌, subst, arith}
 use Rattle.std.specs.Prelude.{nat_lt}
 use Rattle.std.proofs.lemmas.Bool.{and_from, and_right}
+use Rattle.std.proofs.lemmas.List.{get_or-map, length-map}
+use Rattle.std.proofs.lemmas.List.Elements.{All-map}
 use Rattle.vic_frame.specs.LowBitsFirst.{uid_of}
 use Rattle.vic_tree.proofs.BoolLaws.{lt_yes}
 use Rattle.vic_verdict.specs.declared.names.Name.{Name}
 use Rattle.vic_verdict.specs.declared.names.TheConstants.{NEVER}
 use Rattle.vic_verdict.specs.Answering.{is_ready_at}
 use Rattle.vic_verdict.specs.Sweep.{is_quiet_by, quiet_of}
-use Rattle.vic_verdict.proofs.Ready.{AreOpenTo, not_before, open_first, open_same, open_other, open_more, open_all, ready_key}
+use Rattle.vic_verdict.proofs.Ready.{AreOpenTo, not_before, open_first, open_same, open_other, open_more, open_all, ready_key, keys_order}
 use Rattle.vic_verdict.proofs.Replying.{at, tells_own}
 use Rattle.vic_verdict.proofs.Sweeping.{nobody, start_here}
 use Rattle.vic_verdict.proofs.answering.open_names.Goals as goal
-use Rattle.vic_verdict.proofs.answering.open_names.Goals.{then-i-eq0+then-from-quiet+then-has+in_ok-push, then-i-eq0-via-then-i-eq0, then-i-eq0-via-else-i-eq0+then-names-i, then-i-eq0+else-from-quiet, else-from-quiet-via-then-from-quiet+else-has, else-from-quiet-via-else-from-quiet, else-i-eq0+else-names-i}
+use Rattle.vic_verdict.proofs.answering.open_names.Goals.{then-i-eq0+then-from-quiet+then-index+in_ok-push, then-i-eq0-via-then-i-eq0, then-i-eq0-via-else-i-eq0+then-names-i, then-i-eq0+else-from-quiet, else-from-quiet-via-then-from-quiet+else-index, else-from-quiet-via-else-from-quiet, else-i-eq0+else-names-i}
+
+-- whether a UID is open, by the key of its name
+open_at : (is_left : ℕ → Bool) (ns : List Name) (ks : List ℕ) (bs : List Bool) (i : ℕ) (b : Bool) → ks ≡ map (λ (n : Name). n.key) ns → bs ≡ map (λ k. is_left (uid_of k)) ks → i < length ns → b ≡ get_or bs i b → b ≡ is_left (uid_of (at ns i).key)
+open_at is_left ns ks bs i b keys is lt read =
+    read
+    ∙ ap (λ xs. get_or xs i b) is
+    ∙ get_or-map (λ k. is_left (uid_of k)) ks i 0 b (rw (keys, length-map) lt)
+    ∙ ap (λ k. is_left (uid_of k)) (rw keys (get_or-map (λ (n : Name). n.key) ns i nobody 0 lt))
+
+pub has_each-requires : goal.has_each-requires
+has_each-requires g c = rw c.requires.keys record { order = keys_order c.args.names.now c.requires.order; keys = All-map (λ k. k < 2 ^ 56) (λ (n : Name). n.key) c.args.names.now c.requires.named }
 
 pub loop-i-init : goal.loop-i-init
 loop-i-init g c =
@@ -33,10 +46,10 @@ loop-i-preserved g c =
     let upto : from ≤ NEVER = omega (arith, c.ranges.from.fits) in
     let is_left = g.S.OpenSet.is_open c.args.set.now in
     let set = is_ready_at is_left ns from in
-    let small = c.requires.keys i nobody c.loop-i-test.true in
+    let small = c.requires.named i nobody c.loop-i-test.true in
     let P = AreOpenTo set ns (i + 1) in
     elim c.if-i-eq0.branch [
-      | then-i-eq0+then-from-quiet+then-has+in_ok-push w ↦
+      | then-i-eq0+then-from-quiet+then-index+in_ok-push w ↦
           let o : Name = w.name_quiet_after.result in
           let key : o.key ≡ (at ns i).key = w.name_quiet_after.ensures.key in
           let own = w.names_between.ensures in
@@ -44,15 +57,15 @@ loop-i-preserved g c =
           w.name_quiet_after.ensures.quiet j small
           ∙ (sym (tells_own ns w.names_between.result.now (at ns i).key w.first_quiet-quiet.result j own.inside own.all (w.first_quiet-quiet.ensures j (omega (arith, small))))
           ∙ ap (λ k. is_quiet_by ns k j) (sym key)) in
-          let is_open = ap is_left (sym w.uid_at.ensures.value) ∙ (sym w.has.ensures ∙ w.if-has.true) in
+          let is_open = sym (open_at is_left ns _ _ i _ c.requires.keys c.in_ok-is_open.ensures c.loop-i-test.true w.index.ensures) ∙ w.if-index.true in
           let is_in : set (uid_of o.key) ≡ true = ap (λ k. set (uid_of k)) key ∙ (ready_key is_left ns _ from _ _ small own.inside own.all (w.first_quiet-quiet.ensures from upto) ∙ and_from _ _ is_open (ap not (not_before _ from w.if-from-quiet.true))) in
-          subst (λ v. P v.items) (sym w.named-is) (open_more set ns i c.loop-i.named.items w.push.new.self.items o c.requires.order c.requires.keys c.loop-i-test.true key is_in quiet w.in_ok-push.ensures.items c.loop-i.invariant)
+          subst (λ v. P v.items) (sym w.named-is) (open_more set ns i c.loop-i.named.items w.push.new.self.items o c.requires.order c.requires.named c.loop-i-test.true key is_in quiet w.in_ok-push.ensures.items c.loop-i.invariant)
       | then-i-eq0+else-from-quiet w ↦
           let own = w.names_between.ensures in
           let key = (at ns i).key in
           let quiet = w.first_quiet-quiet.result in
           let out : (is_left (uid_of key) && not (nat_lt quiet from)) ≡ false = elim w.else-from-quiet.branch [
-            | else-from-quiet-via-then-from-quiet+else-has w' ↦ ap (λ b. b && not (nat_lt quiet from)) (ap is_left (sym w'.uid_at.ensures.value) ∙ (sym w'.has.ensures ∙ w'.if-has.false))
+            | else-from-quiet-via-then-from-quiet+else-index w' ↦ ap (λ b. b && not (nat_lt quiet from)) (sym (open_at is_left ns _ _ i _ c.requires.keys c.in_ok-is_open.ensures c.loop-i-test.true w'.index.ensures) ∙ w'.if-index.false)
             | else-from-quiet-via-else-from-quiet w' ↦ and_right (is_left (uid_of key)) _ (ap not (lt_yes quiet from w'.if-from-quiet.false))
           ] in
           subst (λ v. P v.items) (sym w.named-is) (open_other set ns i c.loop-i.named.items c.loop-i-test.true (ready_key is_left ns _ from key quiet small own.inside own.all (w.first_quiet-quiet.ensures from upto) ∙ out) c.loop-i.invariant)

@@ -1,0 +1,26 @@
+use Rattle.std.proofs.Common.{◌≡◌, ◌∙◌, ◌<◌, length, get_or, ap, sym, arith}
+use Rattle.std.proofs.lemmas.List.{map_more}
+use Rattle.vic_frame.specs.LowBitsFirst.{uid_of}
+use Rattle.vic_frame.proofs.MirrorLaws.{mirror_of_uid}
+use Rattle.vic_tree.specs.Ranges.{in_ranges, is_open_in}
+use Rattle.vic_tree.proofs.range_set.RangeSetOpenSet.has_each.Goals as goal
+
+pub loop-key-preserved : goal.loop-key-preserved
+loop-key-preserved c =
+    let keys = c.args.keys.now in
+    let n = c.loop-key.key-index in
+    let key = get_or keys n 0 in
+    let all = c.args.self.now in
+    let lt : n < length keys = c.loop-key-test.true in
+    let test : c.is_in_first.result ≡ is_open_in all (uid_of key) =
+    c.is_in_first.ensures
+    ∙ c.skip_to-ahead.ensures.same key (omega arith)
+    ∙ c.loop-key.invariant.same n (omega arith) lt key (omega arith)
+    ∙ ap (in_ranges all) (sym (mirror_of_uid key (c.requires.keys n 0 lt))) in
+    record {
+      each = c.in_ok-push.ensures.items ∙ rw (c.loop-key.invariant.each, test) (sym (map_more (λ k. is_open_in all (uid_of k)) keys n 0 lt));
+      ranges = c.skip_to-ahead.ensures.ranges;
+      same = λ j le short k from.
+          let up = c.requires.order n j 0 (omega arith) short in
+          c.skip_to-ahead.ensures.same k (omega (arith, up, from)) ∙ c.loop-key.invariant.same j (omega arith) short k from;
+    }
