@@ -13,7 +13,7 @@ ghost use Rattle.vic_report.specs.Reports.{AreFindings, AreNone, first_of, left_
 
 use crate::ruled_out::lines_of_absent;
 use crate::shown::ShownUid;
-use crate::told::lines_of_unlisted;
+use crate::told::lines_of_certain;
 use std::alloc::{AllocError, Global};
 use vic_frame::{Mask, Uid};
 use vic_log::PackedLine;
@@ -97,7 +97,7 @@ pub(crate) fn find_findings(
     let doubtful = missing_from(alloc, &uncertain, &found.absent)?;
     Ok(Findings {
         absent: lines_of_absent(alloc, lines, &found.absent)?,
-        unlisted: lines_of_unlisted(alloc, lines, met, &found.unlisted)?,
+        unlisted: lines_of_certain(alloc, lines, met, &found.unlisted)?,
         unsettled: left_to_ask(found.unsettled, open),
         doubtful,
     })

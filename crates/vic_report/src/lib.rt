@@ -20,3 +20,4 @@ pub use conflict::Conflict;
 pub use findings::{Findings, Unsettled};
 pub use reporting::{LogReport, report};
 pub use shown::ShownUid;
+pub use told::lines_of_certain;

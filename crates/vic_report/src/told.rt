@@ -23,27 +23,27 @@ use vic_log::{Entry, PackedLine};
 use vic_verdict::{Found, Met};
 
 /// For each of some UIDs that slots of a possible log force, a line that shows that it is there.
-pub(crate) fn lines_of_unlisted(
+pub fn lines_of_certain(
     alloc: Global,
     lines: &[PackedLine],
     met: &Met,
-    unlisted: &[Uid],
+    certain: &[Uid],
 ) -> Result<Vec<ShownUid>, AllocError>
     requires possible { IsPossible (entries lines.now) }
     requires met { IsMet (entries lines.now) met.now }
-    requires forced { (u : ℕ) → has unlisted.now u ≡ true → IsMetFor met.now u }
-    ensures uids { IfOk result (λ v. uids_of v.items ≡ unlisted.now) }
+    requires forced { (u : ℕ) → has certain.now u ≡ true → IsMetFor met.now u }
+    ensures uids { IfOk result (λ v. uids_of v.items ≡ certain.now) }
     ensures shown { IfOk result (λ v. All (IsToldOf lines.now) v.items) }
 {
     let mut shown = Vec::new(alloc);
-    if unlisted.is_empty() {
+    if certain.is_empty() {
         return Ok(shown);
     }
     let replies = told_by_replies(alloc, lines)?;
     let others = told_by_others(alloc, lines, &met.found)?;
     let mut reply = 0;
     let mut other = 0;
-    for uid in unlisted {
+    for uid in certain {
         reply = first_from(&replies, reply, *uid);
         other = first_from(&others, other, *uid);
         let guess = line_among(&replies, reply, &others, other, *uid);

@@ -13,6 +13,8 @@ mod log;
 #[cfg(test)]
 mod logs;
 #[cfg(test)]
+mod reconcile;
+#[cfg(test)]
 mod sources_and_sinks;
 #[cfg(test)]
 mod tree;

@@ -62,7 +62,6 @@ fn leaves(rt: &impl Abort, set: &RangeSet, alloc: Global, keys: &[u64]) -> Resul
         let uid = uid_at(key);
         assert!(rt; left.has(uid) == (set.has(uid) && !keys.contains(&key)));
     }
-    assert!(rt; left.is_empty() == left.widest().is_none());
     Ok(())
 }
 
@@ -80,6 +79,5 @@ fn sets_besides_keys(rt: HostRuntime) -> Result<(), Fail> {
     }
     leaves_some(&rt, &first_two(alloc)?, alloc)?;
     leaves_some(&rt, &RangeSet::everything(alloc)?, alloc)?;
-    assert!(&rt; all_but::<RangeSet>(alloc, 0, 0)?.is_empty());
     Ok(())
 }

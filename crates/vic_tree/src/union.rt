@@ -1,6 +1,6 @@
 //! Sets as ranges, made of others: a set without the UIDs at some keys, and the union of some sets.
 
-ghost use Rattle.std.specs.Prelude.{◌≡◌, ℕ, ◌&&◌, ◌↔◌, not, true, false, IfOk};
+ghost use Rattle.std.specs.Prelude.{◌≡◌, ℕ, ◌&&◌, not, IfOk};
 ghost use Rattle.std.specs.List.{list_any};
 ghost use Rattle.std.specs.List.Sorted.{IsNonDecreasing};
 ghost use Rattle.vic_frame.specs.Uids.{has};
@@ -34,13 +34,6 @@ impl RangeSet {
         let others = outside(alloc, all)?;
         let ranges = between(alloc, &others)?;
         Ok(RangeSet { ranges, alloc })
-    }
-
-    /// Whether no UID is in the set.
-    pub fn is_empty(&self) -> bool
-        ensures { result ≡ true ↔ SameUids (is_open_in self.now) (λ _. false) }
-    {
-        self.ranges.as_slice().is_empty()
     }
 }
 

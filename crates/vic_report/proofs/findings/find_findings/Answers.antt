@@ -30,8 +30,8 @@ lines_of_absent-requires-clause-shut c =
     let here = compared (is_open_in c.args.set) c.deref-3.result.now certain c.deref-4.result.now us d c.deref-3.ensures.value c.deref-4.ensures.value c.in_ok-found.ensures in
     rw c.deref-9.ensures.value (shut_all es (is_open_in c.args.set) us certain d.absent.items c.requires.open c.in_ok-listed.ensures.uids here.absent)
 
-pub lines_of_unlisted-requires-clause-forced : goal.lines_of_unlisted-requires-clause-forced
-lines_of_unlisted-requires-clause-forced c u h =
+pub lines_of_certain-requires-clause-forced : goal.lines_of_certain-requires-clause-forced
+lines_of_certain-requires-clause-forced c u h =
     let w = (c.in_ok-found.ensures.unlisted.members u).0 (subst (λ xs. has xs u ≡ true) c.deref-10.ensures.value h) in
     c.in_ok-certain.ensures.met u (subst (λ xs. has xs u ≡ true) c.deref-3.ensures.value w.0)
 
@@ -57,8 +57,8 @@ returns c =
     record {
       absent = subst (IsListOf (IsAbsent es)) (sym (c.in_ok-lines_of_absent.ensures.uids ∙ c.deref-9.ensures.value)) all.absent;
       absent_shown = c.in_ok-lines_of_absent.ensures.shown;
-      unlisted = subst (IsListOf (IsUnlisted es)) (sym (c.in_ok-lines_of_unlisted.ensures.uids ∙ c.deref-10.ensures.value)) all.unlisted;
-      unlisted_shown = c.in_ok-lines_of_unlisted.ensures.shown;
+      unlisted = subst (IsListOf (IsUnlisted es)) (sym (c.in_ok-lines_of_certain.ensures.uids ∙ c.deref-10.ensures.value)) all.unlisted;
+      unlisted_shown = c.in_ok-lines_of_certain.ensures.shown;
       unsettled = subst (λ o. MatchOption o (NoSuch (IsLeftOpen es)) (IsUnsettledWith es)) (sym c.left_to_ask.ensures) (left_to_ask es d.unsettled c.open_masks_besides-open.result all.unsettled masks);
       doubtful = doubtful_list (IsPossibleUid es) (IsCertainUid es) set certain us (listed es) some d.absent.items c.in_ok-doubtful.doubtful.items facts own
           (renamed c.deref-5.result.now us c.deref-6.result.now certain some c.deref-5.ensures.value c.deref-6.ensures.value c.in_ok-uncertain.ensures)

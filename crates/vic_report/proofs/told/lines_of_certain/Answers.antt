@@ -4,7 +4,7 @@ use Rattle.std.proofs.lemmas.List.{map-append, take_more}
 use Rattle.std.proofs.lemmas.List.Elements.{All-push}
 use Rattle.vic_report.specs.declared.shown.ShownUid.{ShownUid}
 use Rattle.vic_report.specs.Findings.{IsToldOf, uids_of}
-use Rattle.vic_report.proofs.told.lines_of_unlisted.Goals as goal
+use Rattle.vic_report.proofs.told.lines_of_certain.Goals as goal
 
 pub line_of-line-requires-clause-found : goal.line_of-line-requires-clause-found
 line_of-line-requires-clause-found c =
@@ -15,7 +15,7 @@ line_of-line-requires-clause-found c =
 
 pub loop-uid-preserved : goal.loop-uid-preserved
 loop-uid-preserved c =
-    let us = c.args.unlisted.now in
+    let us = c.args.certain.now in
     let i = c.loop-uid.uid-index in
     let u = c.uid-item.result in
     let before = c.loop-uid.invariant in

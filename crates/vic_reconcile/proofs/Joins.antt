@@ -1,0 +1,231 @@
+-- One possible log more is joined.
+use Rattle.std.proofs.Common.{◌≡◌, ℕ, zero, suc, ◌<◌, List, [], ◌∷◌, ◌++◌, length, get_or, Bool, true, false, Option, Some, None, refl, sym, ap, subst, ◌∙◌, arith, inl, inr, ⊎_elim}
+use Rattle.std.specs.Prelude.{◌↔◌, ◌⊎◌, ◌||◌, MatchOption, cond, is_some, nat_eq, slice_get}
+use Rattle.std.specs.BTreeMap.{is_at}
+use Rattle.std.specs.BTreeMap as map
+use Rattle.std.specs.Ordering.{nat_cmp}
+use Rattle.std.specs.List.{All, AllZip, Contains}
+use Rattle.std.proofs.lemmas.Bool.{both_ways, cases_eq, false_from_ne_true, false≢true, or_cases}
+use Rattle.std.proofs.lemmas.List.Folds.{list_any-append}
+use Rattle.std.proofs.lemmas.List.{map-append}
+use Rattle.std.proofs.lemmas.Grind.{common_steps}
+use Rattle.std.proofs.lemmas.List.Elements.{All-head, All-push, All-tail, Contains-append_left, Contains-push}
+use Rattle.vic_frame.specs.Uids.{IsUid, has}
+use Rattle.vic_tree.specs.OpenSet.{SameUids, has_key, without_keys}
+use Rattle.vic_tree.specs.Ranges.{is_open_in}
+use Rattle.vic_log.specs.declared.entry.Entry.{Entry}
+use Rattle.vic_log.specs.declared.entry.LogLine.{LogLine}
+use Rattle.vic_log.specs.Order.{entries}
+use Rattle.vic_log.proofs.Sets.{has_at, has_cases, has_there}
+use Rattle.vic_verdict.specs.Keys.{AreKeysOf}
+use Rattle.vic_verdict.specs.Possible as one
+use Rattle.vic_verdict.specs.Rising.{IsListOf}
+use Rattle.vic_verdict.proofs.Differing.{AreFacts}
+use Rattle.vic_report.specs.declared.shown.ShownUid.{ShownUid}
+use Rattle.vic_report.specs.Findings.{IsToldOf, ShowsCertain, uids_of}
+use Rattle.vic_report.proofs.AllFindings.{open_set}
+use Rattle.vic_reconcile.specs.declared.reconciliation.Place.{Place}
+use Rattle.vic_reconcile.specs.declared.reconciliation.Reconciliation.{Reconciliation}
+use Rattle.vic_reconcile.specs.Findings.{IsFirstLog, IsFirstTold}
+use Rattle.vic_reconcile.specs.Joined.{AreNoted, IsCertainInNone, IsJoined, IsLeftBy, AreExpected}
+use Rattle.vic_reconcile.proofs.Families.{IsCertainIn, IsPossibleLog}
+
+-- ---- places in a list that grows
+
+get_front : {X : Type 0} (xs ys : List X) (i : ℕ) (x : X) → slice_get xs i ≡ Some x → slice_get (xs ++ ys) i ≡ Some x
+get_front [] ys i x h = cc
+get_front (z ∷ xs) ys zero x h = h
+get_front (z ∷ xs) ys (suc i) x h = get_front xs ys i x h
+
+get_back : {X : Type 0} (xs ys : List X) (i : ℕ) (x : X) → i < length xs → slice_get (xs ++ ys) i ≡ Some x → slice_get xs i ≡ Some x
+get_back [] ys i x lt h = absurd (omega (arith, lt))
+get_back (z ∷ xs) ys zero x lt h = h
+get_back (z ∷ xs) ys (suc i) x lt h = get_back xs ys i x (omega (arith, lt)) h
+
+get_end : {X : Type 0} (xs : List X) (x : X) → slice_get (xs ++ x ∷ []) (length xs) ≡ Some x
+get_end [] x = refl
+get_end (z ∷ xs) x = get_end xs x
+
+got_below : {X : Type 0} (xs : List X) (i : ℕ) (x : X) → slice_get xs i ≡ Some x → i < length xs
+got_below [] i x h = cc
+got_below (z ∷ xs) zero x h = omega arith
+got_below (z ∷ xs) (suc i) x h = let lt = got_below xs i x h in omega (arith, lt)
+
+pub all_at : {X : Type 0} (P : X → Type 0) (xs : List X) (i : ℕ) (x : X) → All P xs → slice_get xs i ≡ Some x → P x
+all_at P [] i x all h = cc
+all_at P (z ∷ xs) zero x all h = let same : z ≡ x = cc in subst P same (All-head P z xs all)
+all_at P (z ∷ xs) (suc i) x all h = all_at P xs i x (All-tail P z xs all) h
+
+pub zip_long : {A B : Type 0} (R : A → B → Type 0) (xs : List A) (ys : List B) → AllZip R xs ys → length xs ≡ length ys
+zip_long R [] [] h = refl
+zip_long R [] (y ∷ ys) h = absurd h
+zip_long R (x ∷ xs) [] h = absurd h
+zip_long R (x ∷ xs) (y ∷ ys) h = ap suc (zip_long R xs ys h.1)
+
+pub zip_push : {A B : Type 0} (R : A → B → Type 0) (xs : List A) (ys : List B) (x : A) (y : B) → AllZip R xs ys → R x y → AllZip R (xs ++ x ∷ []) (ys ++ y ∷ [])
+zip_push R [] [] x y h r = (r, tt)
+zip_push R [] (b ∷ ys) x y h r = absurd h
+zip_push R (a ∷ xs) [] x y h r = absurd h
+zip_push R (a ∷ xs) (b ∷ ys) x y h r = (h.0, zip_push R xs ys x y h.1 r)
+
+some_is : {X : Type 0} {x y : X} → Some x ≡ Some y → x ≡ y
+some_is h = cc
+
+match_option : {X : Type 0} (P Q : X → Type 0) (A B : Type 0) (o : Option X) → (A → B) → ((x : X) → P x → Q x) → MatchOption o A P → MatchOption o B Q
+match_option P Q A B None none some h = none h
+match_option P Q A B (Some x) none some h = some x h
+
+-- ---- the certain UIDs
+
+first_later : (P : List LogLine → Type 0) (logs more : List (List LogLine)) (n : ℕ) → IsFirstLog P logs n → IsFirstLog P (logs ++ more) n
+first_later P logs more n f = record {
+  lines = f.lines;
+  there = get_front logs more n f.lines f.there;
+  holds = f.holds;
+  first = λ k others lt h. f.first k others lt (get_back logs more k others (let b = got_below logs n f.lines f.there in omega (arith, lt, b)) h);
+}
+
+told_later : (logs more : List (List LogLine)) (u : ℕ) (p : Place) → IsFirstTold logs u p → IsFirstTold (logs ++ more) u p
+told_later logs more u p t = record {
+  first = first_later (IsCertainIn u) logs more p.log t.first;
+  shows = λ lines h. t.shows lines (get_back logs more p.log lines (got_below logs p.log t.first.lines t.first.there) h);
+}
+
+-- what was told of has its line
+has_told : (told : List ShownUid) (u : ℕ) (s : ShownUid) → s.uid ≡ u → Contains told s → has (uids_of told) u ≡ true
+has_told [] u s e c = absurd (omega (arith, c.1))
+has_told (t ∷ told) u s e (zero, lt, is) = has_at u t.uid (uids_of told) (sym (ap (λ (x : ShownUid). x.uid) is ∙ e))
+has_told (t ∷ told) u s e (suc k, lt, is) = has_there u t.uid (uids_of told) (has_told told u s e (k, omega (arith, lt), is))
+
+told_first : (logs : List (List LogLine)) (lines : List LogLine) (certain : List ℕ) (told : List ShownUid) (u : ℕ) (p : Place)
+    → IsListOf (one.IsCertainUid (entries lines)) certain → uids_of told ≡ certain → All (IsToldOf lines) told
+    → IsCertainInNone logs u → p.log ≡ length logs → Contains told (record { uid = u; line = p.line }) → IsFirstTold (logs ++ lines ∷ []) u p
+told_first logs lines certain told u p l is shown none at c =
+    let s : ShownUid = record { uid = u; line = p.line } in
+    let there = subst (λ n. slice_get (logs ++ lines ∷ []) n ≡ Some lines) (sym at) (get_end logs lines) in
+    record {
+      first = record {
+        lines = lines;
+        there = there;
+        holds = (l.members u).0 (subst (λ us. has us u ≡ true) is (has_told told u s refl c));
+        first = λ k others lt h. all_at (λ ls. IsCertainIn u ls → ⊥) logs k others none (get_back logs (lines ∷ []) k others (omega (arith, lt, at)) h);
+      };
+      shows = λ others h.
+        let same : lines ≡ others = some_is (sym there ∙ h) in
+        subst (λ ls. ShowsCertain ls p.line u) same (subst (IsToldOf lines) c.2 (shown c.0 s c.1));
+    }
+
+certain_more : (logs : List (List LogLine)) (lines : List LogLine) (certain : List ℕ) (told : List ShownUid) (old new : map.BTreeMap ℕ Place) (u : ℕ)
+    → IsListOf (one.IsCertainUid (entries lines)) certain → uids_of told ≡ certain → All (IsToldOf lines) told
+    → AreNoted old new (length logs) told
+    → MatchOption (map.get nat_cmp old u) (IsCertainInNone logs u) (IsFirstTold logs u)
+    → MatchOption (map.get nat_cmp new u) (IsCertainInNone (logs ++ lines ∷ []) u) (IsFirstTold (logs ++ lines ∷ []) u)
+certain_more logs lines certain told old new u l is shown n before = at (map.get nat_cmp old u) refl before
+  where
+    more : List (List LogLine)
+    more = logs ++ lines ∷ []
+
+    at : (o : Option Place) → map.get nat_cmp old u ≡ o → MatchOption o (IsCertainInNone logs u) (IsFirstTold logs u) → MatchOption (map.get nat_cmp new u) (IsCertainInNone more u) (IsFirstTold more u)
+    at (Some p) e h = subst (λ o. MatchOption o (IsCertainInNone more u) (IsFirstTold more u)) (sym (n.kept u p e)) (told_later logs (lines ∷ []) u p h)
+    at None e h =
+        match_option (λ p. (p.log ≡ length logs) × Contains told (record { uid = u; line = p.line })) (IsFirstTold more u) (has (uids_of told) u ≡ false) (IsCertainInNone more u) (map.get nat_cmp new u)
+        (λ no. All-push (λ ls. IsCertainIn u ls → ⊥) logs lines h (λ c. both_ways (has certain u) (subst (λ us. has us u ≡ false) is no) ((l.members u).1 c)))
+        (λ p w. told_first logs lines certain told u p l is shown h w.0 w.1)
+        (n.others u e)
+
+-- ---- what the log leaves open
+
+left_by : (lines : List LogLine) (set besides : List (ℕ × ℕ)) (certain keys : List ℕ) → AreFacts (one.IsPossibleUid (entries lines)) (one.IsCertainUid (entries lines)) (is_open_in set) certain
+    → AreKeysOf keys certain → SameUids (is_open_in besides) (without_keys (is_open_in set) keys) → IsLeftBy lines besides
+left_by lines set besides certain keys facts own same u i =
+    let w = open_set (entries lines) (is_open_in set) certain keys facts own.members u i in
+    ((λ h. w.0 (sym (same u i) ∙ h)), (λ h. same u i ∙ w.1 h))
+
+-- ---- all of it
+
+pub joined_more : (expected : List ℕ) (logs : List (List LogLine)) (lines : List LogLine) (old new : Reconciliation) (set besides : List (ℕ × ℕ)) (certain keys : List ℕ) (told : List ShownUid)
+    → one.IsPossible (entries lines)
+    → AreFacts (one.IsPossibleUid (entries lines)) (one.IsCertainUid (entries lines)) (is_open_in set) certain
+    → uids_of told ≡ certain → All (IsToldOf lines) told
+    → AreNoted old.certain new.certain (length old.left.items) told
+    → AreKeysOf keys certain → SameUids (is_open_in besides) (without_keys (is_open_in set) keys)
+    → new.expected ≡ old.expected → new.left.items ≡ old.left.items ++ besides ∷ []
+    → IsJoined expected logs old → IsJoined expected (logs ++ lines ∷ []) new
+joined_more expected logs lines old new set besides certain keys told p facts is shown noted own same list left j =
+    let long = zip_long IsLeftBy logs old.left.items j.left in
+    record {
+      list = subst (λ (us : List ℕ). AreExpected expected us) (sym (ap (λ v. v.items) list)) j.list;
+      possible = All-push IsPossibleLog logs lines j.possible p;
+      certain = λ u. certain_more logs lines certain told old.certain new.certain u facts.must is shown (subst (λ n. AreNoted old.certain new.certain n told) (sym long) noted) (j.certain u);
+      left = subst (AllZip IsLeftBy (logs ++ lines ∷ [])) (sym left) (zip_push IsLeftBy logs old.left.items lines besides j.left (left_by lines set besides certain keys facts own same));
+    }
+
+-- ---- what slots tell is noted
+
+not_at : (k u : ℕ) → (u ≡ k → ⊥) → is_at (nat_cmp k) u ≡ false
+not_at k u n = let m : k ≡ u → ⊥ = λ e. n (sym e) in grind (arith, common_steps, m)
+
+is_at_same : (k u : ℕ) → u ≡ k → is_at (nat_cmp k) u ≡ true
+is_at_same k u e = let f : k ≡ u = sym e in grind (arith, common_steps, f)
+
+has_other : (told : List ShownUid) (one : ShownUid) (u : ℕ) → (u ≡ one.uid → ⊥) → has (uids_of told) u ≡ false → has (uids_of (told ++ one ∷ [])) u ≡ false
+has_other told one u other none = false_from_ne_true _ (λ e.
+    ⊎_elim (λ h. both_ways (has (uids_of told) u) none h)
+    (λ h. ⊎_elim (λ same. other same) (λ no. false≢true no) (has_cases u one.uid [] h))
+    (or_cases _ _ (sym (has_more told one u) ∙ e)))
+  where
+    has_more : (told : List ShownUid) (one : ShownUid) (u : ℕ) → has (uids_of (told ++ one ∷ [])) u ≡ (has (uids_of told) u || has (one.uid ∷ []) u)
+    has_more told one u = ap (λ us. has us u) (map-append (λ (s : ShownUid). s.uid) told (one ∷ [])) ∙ list_any-append (nat_eq u) (uids_of told) (one.uid ∷ [])
+
+-- a UID that isn't the next one's is as it was
+noted_other : (now : Option Place) (log u : ℕ) (told : List ShownUid) (one : ShownUid) → (u ≡ one.uid → ⊥)
+    → MatchOption now (has (uids_of told) u ≡ false) (λ p. (p.log ≡ log) × Contains told (record { uid = u; line = p.line }))
+    → MatchOption now (has (uids_of (told ++ one ∷ [])) u ≡ false) (λ p. (p.log ≡ log) × Contains (told ++ one ∷ []) (record { uid = u; line = p.line }))
+noted_other now log u told one other h =
+    match_option _ _ _ _ now (has_other told one u other) (λ p w. (w.0, Contains-append_left told (one ∷ []) (record { uid = u; line = p.line }) w.1)) h
+
+-- one that has a place keeps it
+pub noted_before : (old now : map.BTreeMap ℕ Place) (log : ℕ) (told : List ShownUid) (one : ShownUid) → is_some (map.get nat_cmp now one.uid) ≡ true → AreNoted old now log told → AreNoted old now log (told ++ one ∷ [])
+noted_before old now log told one there n = record {
+  kept = n.kept;
+  others = λ u e. at u (n.others u e) (cases_eq u one.uid);
+}
+  where
+    at : (u : ℕ) → MatchOption (map.get nat_cmp now u) (has (uids_of told) u ≡ false) (λ p. (p.log ≡ log) × Contains told (record { uid = u; line = p.line }))
+        → (u ≡ one.uid) ⊎ (u ≡ one.uid → ⊥)
+        → MatchOption (map.get nat_cmp now u) (has (uids_of (told ++ one ∷ [])) u ≡ false) (λ p. (p.log ≡ log) × Contains (told ++ one ∷ []) (record { uid = u; line = p.line }))
+    at u h (inr other) = noted_other (map.get nat_cmp now u) log u told one other h
+    at u h (inl same) = is_there (map.get nat_cmp now u) (ap (λ v. is_some (map.get nat_cmp now v)) same ∙ there) h
+      where
+        is_there : (o : Option Place) → is_some o ≡ true → MatchOption o (has (uids_of told) u ≡ false) (λ p. (p.log ≡ log) × Contains told (record { uid = u; line = p.line }))
+            → MatchOption o (has (uids_of (told ++ one ∷ [])) u ≡ false) (λ p. (p.log ≡ log) × Contains (told ++ one ∷ []) (record { uid = u; line = p.line }))
+        is_there None e h = absurd (false≢true e)
+        is_there (Some p) e h = (h.0, Contains-append_left told (one ∷ []) (record { uid = u; line = p.line }) h.1)
+
+-- one that has none gets one
+pub noted_next : (old now new : map.BTreeMap ℕ Place) (log : ℕ) (told : List ShownUid) (one : ShownUid) → is_some (map.get nat_cmp now one.uid) ≡ false
+    → ((u : ℕ) → map.get nat_cmp new u ≡ cond (is_at (nat_cmp one.uid) u) (Some (record { log = log; line = one.line })) (map.get nat_cmp now u))
+    → AreNoted old now log told → AreNoted old new log (told ++ one ∷ [])
+noted_next old now new log told one none is n = record {
+  kept = λ u p e. apart u (λ same. some_none (map.get nat_cmp now u) p (n.kept u p e) (ap (λ v. is_some (map.get nat_cmp now v)) same ∙ none)) ∙ n.kept u p e;
+  others = λ u e. at u (n.others u e) (cases_eq u one.uid);
+}
+  where
+    place : Place
+    place = record { log = log; line = one.line }
+
+    some_none : (o : Option Place) (p : Place) → o ≡ Some p → is_some o ≡ false → ⊥
+    some_none o p e f = false≢true (sym f ∙ ap is_some e)
+
+    apart : (u : ℕ) → (u ≡ one.uid → ⊥) → map.get nat_cmp new u ≡ map.get nat_cmp now u
+    apart u other = is u ∙ ap (λ b. cond b (Some place) (map.get nat_cmp now u)) (not_at one.uid u other)
+
+    here : (u : ℕ) → u ≡ one.uid → map.get nat_cmp new u ≡ Some place
+    here u same = is u ∙ ap (λ b. cond b (Some place) (map.get nat_cmp now u)) (is_at_same one.uid u same)
+
+    at : (u : ℕ) → MatchOption (map.get nat_cmp now u) (has (uids_of told) u ≡ false) (λ p. (p.log ≡ log) × Contains told (record { uid = u; line = p.line }))
+        → (u ≡ one.uid) ⊎ (u ≡ one.uid → ⊥)
+        → MatchOption (map.get nat_cmp new u) (has (uids_of (told ++ one ∷ [])) u ≡ false) (λ p. (p.log ≡ log) × Contains (told ++ one ∷ []) (record { uid = u; line = p.line }))
+    at u h (inr other) = subst (λ o. MatchOption o (has (uids_of (told ++ one ∷ [])) u ≡ false) (λ p. (p.log ≡ log) × Contains (told ++ one ∷ []) (record { uid = u; line = p.line }))) (sym (apart u other)) (noted_other (map.get nat_cmp now u) log u told one other h)
+    at u h (inl same) = subst (λ o. MatchOption o (has (uids_of (told ++ one ∷ [])) u ≡ false) (λ p. (p.log ≡ log) × Contains (told ++ one ∷ []) (record { uid = u; line = p.line }))) (sym (here u same))
+        (refl, subst (λ v. Contains (told ++ one ∷ []) (record { uid = v; line = one.line })) (sym same) (Contains-push told one))

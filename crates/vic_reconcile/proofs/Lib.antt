@@ -1,0 +1,4 @@
+pub mod Families
+pub mod Joins
+pub mod Reconciling
+pub mod Telling

@@ -1,0 +1,239 @@
+-- The findings of joined logs, and that none of them means that everything is there.
+use Rattle.std.proofs.Common.{◌≡◌, ℕ, zero, suc, ◌<◌, ◌≤◌, List, [], ◌∷◌, ◌++◌, length, get_or, map, Bool, true, false, not, ◌&&◌, Option, Some, None, refl, sym, ap, subst, ◌∙◌, arith, inl, inr, ⊎_elim}
+use Rattle.std.specs.Prelude.{◌↔◌, ◌⊎◌, ◌||◌, IfNone, IfSome, MatchOption, is_some, nat_eq}
+use Rattle.std.specs.BTreeMap as tree
+use Rattle.std.specs.Ordering.{eq_by_cmp, is_eq, nat_cmp}
+use Rattle.std.specs.Set.{is_member}
+use Rattle.std.specs.List.{All, AllZip, Any}
+use Rattle.std.specs.List.Sorted.{IsStrictlyIncreasing}
+use Rattle.std.proofs.lemmas.Bool.{both_ways, cases_Bool, cases_eq, false≢true, or_cases, or_left, or_right}
+use Rattle.std.proofs.lemmas.Grind.{common_steps}
+use Rattle.std.proofs.lemmas.List.Elements.{All-head, All-tail}
+use Rattle.std.proofs.lemmas.List.Folds.{list_any-append}
+use Rattle.vic_frame.specs.Uids.{IsUid, has}
+use Rattle.vic_frame.specs.Masks.{BitMask, lies_in}
+use Rattle.vic_tree.specs.OpenSet.{SameUids}
+use Rattle.vic_tree.specs.Ranges.{is_open_in}
+use Rattle.vic_log.specs.declared.entry.LogLine.{LogLine}
+use Rattle.vic_log.specs.Order.{entries}
+use Rattle.vic_log.proofs.Sets.{IsUid-member, has_at, has_there}
+use Rattle.vic_verdict.specs.declared.differences.Differences.{Differences}
+use Rattle.vic_verdict.specs.Differences.{AreDifferences}
+use Rattle.vic_verdict.specs.Rising.{IsFailing, IsListOf}
+use Rattle.vic_verdict.specs.Verdict.{IsFirstMask, NoSuch}
+use Rattle.vic_verdict.proofs.Decide.{IsCertainUid-either, IsPossibleUid-either}
+use Rattle.vic_verdict.proofs.Differing.{AreFacts, all_findings, doubtful_list}
+use Rattle.vic_verdict.proofs.Failing.{none_of}
+use Rattle.vic_verdict.proofs.Masks.{IsUid-in, lies_in-uid_in, mask_of, mask_of-alone, mask_of-value, uid_in}
+use Rattle.vic_reconcile.specs.declared.findings.DoubtfulUid.{DoubtfulUid}
+use Rattle.vic_reconcile.specs.declared.findings.Findings.{Findings}
+use Rattle.vic_reconcile.specs.declared.findings.UnlistedUid.{UnlistedUid}
+use Rattle.vic_reconcile.specs.declared.findings.Unsettled.{Unsettled}
+use Rattle.vic_reconcile.specs.declared.reconciliation.Reconciliation.{Reconciliation}
+use Rattle.vic_reconcile.specs.Families.{ArePossible, FitsLog, FitsLogs, IsCertainUid, IsPossibleUid, is_somewhere}
+use Rattle.vic_reconcile.specs.Findings.{AreFindings, AreNone, IsAbsent, IsDoubtful, IsFirstPossible, IsFirstTold, IsToldOf, IsUnlisted, IsUnsettled, IsUnsettledWith, IsWhole}
+use Rattle.vic_reconcile.specs.Joined.{IsCertainInNone, IsFirstLeft, IsJoined, IsLeftBy, IsLeftToAsk, is_left}
+use Rattle.vic_reconcile.proofs.Families.{IsCertainIn, IsCertainUid-iff, IsPossibleIn, IsPossibleLog, IsPossibleUid-iff, all_possible, any_cases, any_here, any_none, any_there, certain_by}
+use Rattle.vic_reconcile.proofs.Joins.{zip_push}
+use Rattle.vic_reconcile.proofs.Telling.{all_open_masks, first_possible, joined_facts, listed_as}
+
+-- ---- the keys of the map
+
+same_test : (u x : ℕ) → nat_eq u x ≡ is_eq (nat_cmp u x)
+same_test u x = ⊎_elim (λ e. grind (arith, common_steps, e)) (λ n. grind (arith, common_steps, n)) (cases_eq u x)
+
+pub has_member : (ks : List ℕ) (u : ℕ) → has ks u ≡ is_member (eq_by_cmp nat_cmp) ks u
+has_member [] u = refl
+has_member (k ∷ ks) u = ap (λ b. b || has ks u) (same_test u k) ∙ ap (λ b. is_eq (nat_cmp u k) || b) (has_member ks u)
+
+-- ---- what the calls ask for
+
+-- a listed UID that is neither certain nor absent is left open by some log
+pub doubtful_left : (set : ℕ → Bool) (certain us some absent doubtful : List ℕ) (sets : List (List (ℕ × ℕ))) → SameUids set (is_left sets) → ((u : ℕ) → has us u ≡ true → IsUid u)
+    → IsListOf (λ u. IsFailing us set u × (has certain u ≡ false)) absent → IsListOf (IsFailing us (has certain)) some → IsListOf (IsFailing some (has absent)) doubtful
+    → (u : ℕ) → has doubtful u ≡ true → is_left sets u ≡ true
+doubtful_left set certain us some absent doubtful sets same uids out un l u h =
+    let d = (l.members u).0 h in
+    let w = (un.members u).0 d.0 in
+    ⊎_elim
+    (λ e. sym (same u (uids u w.0)) ∙ e)
+    (λ e. absurd (both_ways (has absent u) d.1 ((out.members u).1 ((w.0, e), w.1))))
+    (cases_Bool (set u))
+
+-- ---- the findings
+
+has_mapped : (xs : List DoubtfulUid) (k : ℕ) (d : DoubtfulUid) → k < length xs → has (map (λ (x : DoubtfulUid). x.uid) xs) (get_or xs k d).uid ≡ true
+has_mapped [] k d lt = absurd (omega (arith, lt))
+has_mapped (x ∷ xs) zero d lt = has_at x.uid x.uid (map (λ (y : DoubtfulUid). y.uid) xs) refl
+has_mapped (x ∷ xs) (suc k) d lt = has_there (get_or xs k d).uid x.uid (map (λ (y : DoubtfulUid). y.uid) xs) (has_mapped xs k d (omega (arith, lt)))
+
+told_at : (expected : List ℕ) (logs : List (List LogLine)) (r : Reconciliation) (s : UnlistedUid) → IsJoined expected logs r → tree.get nat_cmp r.certain s.uid ≡ Some s.place → IsToldOf logs s
+told_at expected logs r s j e = subst (λ o. MatchOption o (IsCertainInNone logs s.uid) (IsFirstTold logs s.uid)) e (j.certain s.uid)
+
+asked_as : (expected : List ℕ) (logs : List (List LogLine)) (r : Reconciliation) (certain : List ℕ) (m : Option BitMask) (x : Option Unsettled) → IsJoined expected logs r → IsListOf (IsCertainUid logs) certain
+    → MatchOption m (NoSuch (IsUnsettled expected logs)) (IsFirstMask (IsUnsettled expected logs))
+    → IfNone m (x ≡ None) → IfSome m (λ k. MatchOption x ⊥ (IsLeftToAsk certain r.left.items k))
+    → MatchOption x (NoSuch (IsUnsettled expected logs)) (IsUnsettledWith expected logs)
+asked_as expected logs r certain None x j l none e s = subst (λ y. MatchOption y (NoSuch (IsUnsettled expected logs)) (IsUnsettledWith expected logs)) (sym e) none
+asked_as expected logs r certain (Some m) None j l first e s = absurd s
+asked_as expected logs r certain (Some m) (Some x) j l first e s = record {
+  mask = subst (IsFirstMask (IsUnsettled expected logs)) (sym s.mask) first;
+  open_masks = all_open_masks logs logs r.left.items certain x.masks.items (λ u i. l.members u) (λ u a. certain_by logs u a) j.left s.masks;
+}
+
+pub findings_of : (expected : List ℕ) (logs : List (List LogLine)) (r : Reconciliation) (all : List (ℕ × ℕ)) (certain some doubtful : List ℕ) (d : Differences) (f : Findings)
+    → IsJoined expected logs r
+    → IsStrictlyIncreasing certain → ((u : ℕ) → has certain u ≡ is_some (tree.get nat_cmp r.certain u))
+    → SameUids (is_open_in all) (is_left r.left.items)
+    → AreDifferences (is_open_in all) certain r.expected.items d
+    → f.absent ≡ d.absent
+    → map (λ (s : UnlistedUid). s.uid) f.unlisted.items ≡ d.unlisted.items
+    → All (λ (s : UnlistedUid). tree.get nat_cmp r.certain s.uid ≡ Some s.place) f.unlisted.items
+    → IfNone d.unsettled (f.unsettled ≡ None) → IfSome d.unsettled (λ m. MatchOption f.unsettled ⊥ (IsLeftToAsk certain r.left.items m))
+    → IsListOf (IsFailing r.expected.items (has certain)) some → IsListOf (IsFailing some (has d.absent.items)) doubtful
+    → map (λ (s : DoubtfulUid). s.uid) f.doubtful.items ≡ doubtful
+    → All (IsFirstLeft r.left.items) f.doubtful.items
+    → AreFindings expected logs f
+findings_of expected logs r all certain some doubtful d f j rising members same differ is placed places none asked un l firsts lefts =
+    let facts = joined_facts expected logs r all certain j rising members same in
+    let own = listed_as expected logs r j in
+    let found = all_findings (IsPossibleUid logs) (IsCertainUid logs) (is_open_in all) certain r.expected.items expected d facts own differ in
+    let doubts : IsListOf (IsDoubtful expected logs) doubtful = doubtful_list (IsPossibleUid logs) (IsCertainUid logs) (is_open_in all) certain r.expected.items expected some d.absent.items doubtful facts own un differ.absent l in
+    record {
+      absent = subst (λ v. IsListOf (IsAbsent expected logs) v.items) (sym is) found.absent;
+      unlisted = subst (IsListOf (IsUnlisted expected logs)) (sym placed) found.unlisted;
+      unlisted_shown = λ k s lt. told_at expected logs r (get_or f.unlisted.items k s) j (places k s lt);
+      unsettled = asked_as expected logs r certain d.unsettled f.unsettled j facts.must found.unsettled none asked;
+      doubtful = subst (IsListOf (IsDoubtful expected logs)) (sym firsts) doubts;
+      doubtful_first = λ k s lt.
+        let x = get_or f.doubtful.items k s in
+        let w = (doubts.members x.uid).0 (subst (λ us. has us x.uid ≡ true) firsts (has_mapped f.doubtful.items k s lt)) in
+        first_possible logs r.left.items x j.left (own.are_uids x.uid (own.members x.uid ∙ w.0)) w.1.1 (lefts k s lt);
+    }
+
+-- ---- none of them
+
+possible_either : (logs : List (List LogLine)) (u : ℕ) → All IsPossibleLog logs → Any (IsPossibleIn u) logs ⊎ (Any (IsPossibleIn u) logs → ⊥)
+possible_either [] u all = inr (any_none (IsPossibleIn u))
+possible_either (l ∷ logs) u all =
+    ⊎_elim
+    (λ (h : IsPossibleIn u l). inl (any_here (IsPossibleIn u) l logs h))
+    (λ (n : IsPossibleIn u l → ⊥). ⊎_elim
+    (λ a. inl (any_there (IsPossibleIn u) l logs a))
+    (λ m. inr (λ a. ⊎_elim (λ h. n h) (λ b. m b) (any_cases (IsPossibleIn u) l logs a)))
+    (possible_either logs u (All-tail IsPossibleLog l logs all)))
+    (IsPossibleUid-either (entries l) u (All-head IsPossibleLog l logs all))
+
+certain_either : (logs : List (List LogLine)) (u : ℕ) → All IsPossibleLog logs → Any (IsCertainIn u) logs ⊎ (Any (IsCertainIn u) logs → ⊥)
+certain_either [] u all = inr (any_none (IsCertainIn u))
+certain_either (l ∷ logs) u all =
+    ⊎_elim
+    (λ (h : IsCertainIn u l). inl (any_here (IsCertainIn u) l logs h))
+    (λ (n : IsCertainIn u l → ⊥). ⊎_elim
+    (λ a. inl (any_there (IsCertainIn u) l logs a))
+    (λ m. inr (λ a. ⊎_elim (λ h. n h) (λ b. m b) (any_cases (IsCertainIn u) l logs a)))
+    (certain_either logs u (All-tail IsPossibleLog l logs all)))
+    (IsCertainUid-either (entries l) u (All-head IsPossibleLog l logs all))
+
+somewhere_uid : (logs : List (List LogLine)) (u : ℕ) → Any (IsPossibleIn u) logs → IsUid u
+somewhere_uid logs u a = let w = a.4 in IsUid-member w.0 u w.1 w.3
+
+pub none_is_whole : (expected : List ℕ) (logs : List (List LogLine)) (f : Findings) → ArePossible logs → AreFindings expected logs f → AreNone f → IsWhole expected logs
+none_is_whole expected logs f p found none = (p, λ family fits u. (
+  (λ h. expected_of u (family, fits, h)),
+  (λ h. certain_of u h family fits),
+))
+  where
+    all : All IsPossibleLog logs
+    all = all_possible logs p.0 p.1
+
+    no_absent : NoSuch (IsAbsent expected logs)
+    no_absent = none_of (IsAbsent expected logs) (subst (IsListOf (IsAbsent expected logs)) none.absent found.absent)
+
+    no_unlisted : NoSuch (IsUnlisted expected logs)
+    no_unlisted = none_of (IsUnlisted expected logs) (subst (λ (xs : List UnlistedUid). IsListOf (IsUnlisted expected logs) (map (λ (s : UnlistedUid). s.uid) xs)) none.unlisted found.unlisted)
+
+    no_unsettled : NoSuch (IsUnsettled expected logs)
+    no_unsettled = subst (λ x. MatchOption x (NoSuch (IsUnsettled expected logs)) (IsUnsettledWith expected logs)) none.unsettled found.unsettled
+
+    no_doubtful : NoSuch (IsDoubtful expected logs)
+    no_doubtful = none_of (IsDoubtful expected logs) (subst (λ (xs : List DoubtfulUid). IsListOf (IsDoubtful expected logs) (map (λ (s : DoubtfulUid). s.uid) xs)) none.doubtful found.doubtful)
+
+    -- a UID that may be there is expected
+    expected_of : (u : ℕ) → IsPossibleUid logs u → has expected u ≡ true
+    expected_of u h =
+        let a = (IsPossibleUid-iff logs u all).0 h in
+        let i = somewhere_uid logs u a in
+        ⊎_elim
+        (λ e. e)
+        (λ e. ⊎_elim
+        (λ c. absurd (no_unlisted u (certain_by logs u c, e)))
+        (λ n. absurd (no_unsettled (mask_of u) (omega arith, mask_of-value u, λ w iw k.
+            let same = mask_of-alone u w i iw k in
+            subst (λ x. (IsPossibleUid logs x × (IsCertainUid logs x → ⊥)) × (has expected x ≡ false)) (sym same) ((h, λ c. n ((IsCertainUid-iff logs u all).0 c)), e))))
+        (certain_either logs u all))
+        (cases_Bool (has expected u))
+
+    -- an expected UID is certain
+    certain_of : (u : ℕ) → has expected u ≡ true → IsCertainUid logs u
+    certain_of u h =
+        ⊎_elim
+        (λ c. certain_by logs u c)
+        (λ n. ⊎_elim
+        (λ a. absurd (no_doubtful u (h, ((IsPossibleUid-iff logs u all).1 a, λ c. n ((IsCertainUid-iff logs u all).0 c)))))
+        (λ m. absurd (no_absent u (h, λ x. m ((IsPossibleUid-iff logs u all).0 x))))
+        (possible_either logs u all))
+        (certain_either logs u all)
+
+-- a list of what there is none of is empty
+none_list : (P : ℕ → Type 0) (us : List ℕ) → NoSuch P → IsListOf P us → us ≡ []
+none_list P [] none l = refl
+none_list P (u ∷ us) none l = absurd (none u ((l.members u).0 (has_at u u us refl)))
+
+no_unlisted_uids : (xs : List UnlistedUid) → map (λ (s : UnlistedUid). s.uid) xs ≡ [] → xs ≡ []
+no_unlisted_uids [] h = refl
+no_unlisted_uids (x ∷ xs) h = cc
+
+no_doubtful_uids : (xs : List DoubtfulUid) → map (λ (s : DoubtfulUid). s.uid) xs ≡ [] → xs ≡ []
+no_doubtful_uids [] h = refl
+no_doubtful_uids (x ∷ xs) h = cc
+
+no_mask : (expected : List ℕ) (logs : List (List LogLine)) (x : Option Unsettled) → NoSuch (IsUnsettled expected logs) → MatchOption x (NoSuch (IsUnsettled expected logs)) (IsUnsettledWith expected logs) → x ≡ None
+no_mask expected logs None none h = refl
+no_mask expected logs (Some x) none h = absurd (none x.mask h.mask.0)
+
+pub whole_has_none : (expected : List ℕ) (logs : List (List LogLine)) (f : Findings) → AreFindings expected logs f → IsWhole expected logs → AreNone f
+whole_has_none expected logs f found w =
+    let somewhere : (u : ℕ) → has expected u ≡ true → IsCertainUid logs u = λ u h family fits. (w.1 family fits u).1 h in
+    let listed : (u : ℕ) → IsPossibleUid logs u → has expected u ≡ true = λ u p. (w.1 p.0 p.1 u).0 p.2 in
+    record {
+      absent = none_list (IsAbsent expected logs) f.absent.items (λ u h. h.1 (w.0.0, w.0.1, somewhere u h.0 w.0.0 w.0.1)) found.absent;
+      unlisted = no_unlisted_uids f.unlisted.items (none_list (IsUnlisted expected logs) _ (λ u h. both_ways (has expected u) h.1 (listed u (w.0.0, w.0.1, h.0 w.0.0 w.0.1))) found.unlisted);
+      unsettled = no_mask expected logs f.unsettled (λ m h.
+          let u = uid_in m in
+          let x = h.2 u (IsUid-in m h.0 h.1) (lies_in-uid_in m h.0 h.1) in
+          both_ways (has expected u) x.1 (listed u x.0.0)) found.unsettled;
+      doubtful = no_doubtful_uids f.doubtful.items (none_list (IsDoubtful expected logs) _ (λ u h. h.1.1 (somewhere u h.0)) found.doubtful);
+    }
+
+-- ---- one log more
+
+-- a family of one log more has a family of the others
+front : (logs : List (List LogLine)) (lines : List LogLine) (family : List (List ℕ)) → FitsLogs family (logs ++ lines ∷ []) → (f : List (List ℕ)) × FitsLogs f logs × ((u : ℕ) → is_somewhere f u ≡ true → is_somewhere family u ≡ true)
+front [] lines family fits = ([], tt, λ u h. absurd (false≢true h))
+front (l ∷ logs) lines [] fits = absurd fits
+front (l ∷ logs) lines (p ∷ family) fits =
+    let r = front logs lines family fits.1 in
+    (p ∷ r.0, (fits.0, r.1), λ u h. ⊎_elim
+        (λ a. or_left (has p u) (is_somewhere family u) a)
+        (λ b. or_right (has p u) (is_somewhere family u) (r.2 u b))
+        (or_cases (has p u) (is_somewhere r.0 u) h))
+
+pub certain_later : (logs : List (List LogLine)) (lines : List LogLine) (u : ℕ) → IsCertainUid logs u → IsCertainUid (logs ++ lines ∷ []) u
+certain_later logs lines u c family fits = let r = front logs lines family fits in r.2 u (c r.0 r.1)
+
+somewhere_more : (family : List (List ℕ)) (p : List ℕ) (u : ℕ) → is_somewhere family u ≡ true → is_somewhere (family ++ p ∷ []) u ≡ true
+somewhere_more family p u h = list_any-append (λ q. has q u) family (p ∷ []) ∙ or_left (is_somewhere family u) (is_somewhere (p ∷ []) u) h
+
+pub possible_later : (logs : List (List LogLine)) (lines : List LogLine) (u : ℕ) → IsPossibleLog lines → IsPossibleUid logs u → IsPossibleUid (logs ++ lines ∷ []) u
+possible_later logs lines u p h = (h.0 ++ p.0 ∷ [], zip_push FitsLog h.0 logs p.0 lines h.1 (p.1, p.2), somewhere_more h.0 p.0 u h.2)

@@ -1,0 +1,6 @@
+use Rattle.std.specs.Prelude.{take}
+use Rattle.vic_reconcile.specs.Joined.{AreNoted}
+use Rattle.vic_reconcile.proofs.joining.note_all.Given as goal
+
+abbrev pub invariant-loop-one : goal.invariant-loop-one
+invariant-loop-one l = AreNoted l.fn.certain l.certain l.log (take l.one-index l.told)

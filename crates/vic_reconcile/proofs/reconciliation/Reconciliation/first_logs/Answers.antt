@@ -1,0 +1,20 @@
+use Rattle.std.proofs.Common.{[], ◌∷◌, ◌++◌, take, map, ap, sym, ◌∙◌}
+use Rattle.std.proofs.lemmas.List.{map-append, take_more}
+use Rattle.std.proofs.lemmas.List.Elements.{All-push}
+use Rattle.vic_reconcile.specs.declared.findings.DoubtfulUid.{DoubtfulUid}
+use Rattle.vic_reconcile.specs.Joined.{IsFirstLeft}
+use Rattle.vic_reconcile.proofs.reconciliation.Reconciliation.first_logs.Goals as goal
+
+pub loop-uid-preserved : goal.loop-uid-preserved
+loop-uid-preserved c =
+    let us = c.args.uids.now in
+    let i = c.loop-uid.uid-index in
+    let u = c.uid-item.result in
+    let before = c.loop-uid.invariant in
+    record {
+      uids =
+          ap (map (λ (s : DoubtfulUid). s.uid)) c.in_ok-push.ensures.items
+          ∙ (map-append (λ (s : DoubtfulUid). s.uid) c.loop-uid.first.items _
+          ∙ (ap (λ vs. vs ++ u ∷ []) before.uids ∙ (ap (λ v. take i us ++ v ∷ []) c.uid-item.is ∙ sym (take_more us i u c.loop-uid-test.true))));
+      logs = rw c.in_ok-push.ensures.items (All-push (IsFirstLeft c.args.self.now.left.items) c.loop-uid.first.items _ before.logs c.in-Some.ensures.some);
+    }

@@ -1,0 +1,12 @@
+use Rattle.std.proofs.Common.{◌≡◌, map}
+use Rattle.std.specs.Prelude.{take}
+use Rattle.std.specs.List.{All}
+use Rattle.vic_reconcile.specs.declared.findings.DoubtfulUid.{DoubtfulUid}
+use Rattle.vic_reconcile.specs.Joined.{IsFirstLeft}
+use Rattle.vic_reconcile.proofs.reconciliation.Reconciliation.first_logs.Given as goal
+
+abbrev pub invariant-loop-uid : goal.invariant-loop-uid
+invariant-loop-uid l = record {
+  uids : map (λ (s : DoubtfulUid). s.uid) l.first.items ≡ take l.uid-index l.uids;
+  logs : All (IsFirstLeft l.self.left.items) l.first.items;
+}

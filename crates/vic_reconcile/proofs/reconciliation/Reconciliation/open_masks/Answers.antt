@@ -1,0 +1,24 @@
+use Rattle.std.proofs.Common.{◌≡◌, ◌<◌, [], ◌∷◌, ◌++◌, get_or, length, take, ap, sym, subst, ◌∙◌}
+use Rattle.std.proofs.lemmas.List.{take_more}
+use Rattle.std.specs.List.{AllZip}
+use Rattle.vic_verdict.specs.Keys.{AreKeysOf}
+use Rattle.vic_reconcile.specs.Joined.{AreOpenBesides}
+use Rattle.vic_reconcile.proofs.Joins.{zip_push}
+use Rattle.vic_reconcile.proofs.reconciliation.Reconciliation.open_masks.Goals as goal
+
+pub loop-set-preserved : goal.loop-set-preserved
+loop-set-preserved c =
+    let R = AreOpenBesides c.args.certain.now in
+    let sets = c.args.self.now.left.items in
+    let i = c.loop-set.set-index in
+    let s = c.set-item.result in
+    let lt = subst (λ ss. i < length ss) c.deref-set-items.ensures.value c.loop-set-test.true in
+    let is = c.set-item.is ∙ ap (λ ss. get_or ss i s) c.deref-set-items.ensures.value in
+    let own : R s c.open_masks_besides.result = record {
+      keys = c.deref.result.now;
+      named = subst (λ ks. AreKeysOf ks c.args.certain.now) (sym c.deref.ensures.value) c.in_ok-keys.ensures;
+      first = c.open_masks_besides.ensures.first;
+      more = c.open_masks_besides.ensures.more;
+    } in
+    subst (λ ss. AllZip R ss c.push.new.self.items) (ap (λ x. take i sets ++ x ∷ []) is ∙ sym (take_more sets i s lt))
+    (subst (AllZip R (take i sets ++ s ∷ [])) (sym c.in_ok-push.ensures.items) (zip_push R (take i sets) c.loop-set.masks.items s c.open_masks_besides.result c.loop-set.invariant own))

@@ -1,0 +1,29 @@
+use Rattle.std.proofs.Common.{◌≡◌, Some, [], ◌∷◌, ◌++◌, take, map, ap, sym, ◌∙◌}
+use Rattle.std.specs.Prelude.{is_some, option_copied}
+use Rattle.std.specs.BTreeMap.{get}
+use Rattle.std.specs.Ordering.{nat_cmp}
+use Rattle.std.proofs.lemmas.Bool.{false≢true}
+use Rattle.std.proofs.lemmas.List.{map-append, take_more}
+use Rattle.std.proofs.lemmas.List.Elements.{All-push}
+use Rattle.vic_reconcile.specs.declared.findings.UnlistedUid.{UnlistedUid}
+use Rattle.vic_reconcile.proofs.reconciliation.Reconciliation.places_of.Goals as goal
+
+pub unreachable-requires : goal.unreachable-requires
+unreachable-requires c =
+    false≢true (sym (ap (λ o. is_some (option_copied o)) c.in_default.is)
+    ∙ (ap is_some c.get.ensures.value
+    ∙ (ap (λ u. is_some (get nat_cmp c.args.self.now.certain u)) c.uid-item.is ∙ c.requires c.loop-uid.uid-index c.uid-item.result c.loop-uid-test.true)))
+
+pub loop-uid-preserved : goal.loop-uid-preserved
+loop-uid-preserved c =
+    let us = c.args.uids.now in
+    let i = c.loop-uid.uid-index in
+    let u = c.uid-item.result in
+    let before = c.loop-uid.invariant in
+    record {
+      uids =
+          ap (map (λ (s : UnlistedUid). s.uid)) c.in_ok-push.ensures.items
+          ∙ (map-append (λ (s : UnlistedUid). s.uid) c.loop-uid.placed.items _
+          ∙ (ap (λ vs. vs ++ u ∷ []) before.uids ∙ (ap (λ v. take i us ++ v ∷ []) c.uid-item.is ∙ sym (take_more us i u c.loop-uid-test.true))));
+      places = rw c.in_ok-push.ensures.items (All-push (λ (s : UnlistedUid). get nat_cmp c.args.self.now.certain s.uid ≡ Some s.place) c.loop-uid.placed.items _ before.places (sym c.get.ensures.value ∙ ap option_copied c.in-Some.is));
+    }

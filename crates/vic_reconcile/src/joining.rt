@@ -1,0 +1,145 @@
+//! How logs are joined, one after another.
+
+ghost use Rattle.std.specs.Prelude.{◌≡◌, ◌+◌, ℕ, [], ◌∷◌, ◌++◌, List, IfErr, IfNone, IfOk, IfSome, OnOk, length};
+ghost use Rattle.vic_tree.specs.OpenSet.{SameUids};
+ghost use Rattle.vic_tree.specs.Ranges.{is_open_in};
+ghost use Rattle.vic_log.specs.Order.{entries, listed};
+ghost use Rattle.vic_log.specs.Slots.{slots_of, is_open};
+ghost use Rattle.vic_log.specs.declared.entry.LogLine.{LogLine as LogLineValue};
+ghost use Rattle.vic_verdict.specs.Demands.{IsMet};
+ghost use Rattle.vic_verdict.specs.LogLines.{AreLogLines};
+ghost use Rattle.vic_verdict.specs.Possible.{IsPossible};
+ghost use Rattle.vic_verdict.specs.Verdict.{IsVerdict};
+ghost use Rattle.vic_verdict.specs.declared.judging.Verdict.TheVariants.{Impossible};
+ghost use Rattle.vic_reconcile.specs.Findings.{IsFirstNotListed, is_listed};
+ghost use Rattle.vic_reconcile.specs.Joined.{AreNoted, IsJoined};
+
+use std::alloc::{AllocError, Global};
+use std::collections::BTreeMap;
+use vic_frame::Uid;
+use vic_log::{Entry, Log, PackedLine};
+use crate::reconciliation::{Place, Reconciliation};
+use vic_report::{ShownUid, lines_of_certain};
+use vic_tree::RangeSet;
+use vic_verdict::{
+    Met, certain_uids, first_impossible_line, keys_in_order, listed_uids, open_and_met,
+};
+
+impl Reconciliation {
+    /// Begins with the list of what is expected: the UIDs that a log lists which has no other
+    /// entries. Where it has one, the first line of such a one is given instead.
+    pub fn expecting(
+        alloc: Global,
+        list: &Log,
+    ) -> Result<Result<Reconciliation, u32>, AllocError>
+        ensures begun { IfOk result (λ r. IfOk r
+            (IsJoined (listed (entries list.now.lines)) [])) }
+        ensures refused { IfOk result (λ r. IfErr r (IsFirstNotListed list.now.lines)) }
+    {
+        let lines = list.lines();
+        if let Some(line) = first_not_listed(lines) {
+            return Ok(Err(line));
+        }
+        Ok(Ok(Reconciliation {
+            alloc,
+            expected: listed_uids(alloc, lines)?,
+            certain: BTreeMap::new(alloc),
+            left: Vec::new(alloc),
+        }))
+    }
+
+    /// Joins what a log tells. Where no population could have given it, nothing is joined, and the
+    /// first line up to which none could is given.
+    pub fn add(&mut self, log: &Log) -> Result<Option<u32>, AllocError>
+        ensures joined { IfOk result (λ r. IfNone r ((expected : List ℕ)
+            (logs : List (List LogLineValue)) → IsJoined expected logs self.old
+            → IsJoined expected (logs ++ log.now.lines ∷ []) self.new)) }
+        ensures impossible { IfOk result (λ r. IfSome r (λ n.
+            IsVerdict log.now.lines (Impossible n))) }
+        ensures unchanged { IfOk result (λ r. IfSome r (λ _. self.new ≡ self.old)) }
+    {
+        self.add_lines(log.lines())
+    }
+
+    /// Joins what the lines of a log tell.
+    fn add_lines(&mut self, lines: &[PackedLine]) -> Result<Option<u32>, AllocError>
+        requires { AreLogLines lines.now }
+        ensures joined { IfOk result (λ r. IfNone r ((expected : List ℕ)
+            (logs : List (List LogLineValue)) → IsJoined expected logs self.old
+            → IsJoined expected (logs ++ lines.now ∷ []) self.new)) }
+        ensures impossible { IfOk result (λ r. IfSome r (λ n.
+            IsVerdict lines.now (Impossible n))) }
+        ensures unchanged { IfOk result (λ r. IfSome r (λ _. self.new ≡ self.old)) }
+    {
+        match open_and_met::<RangeSet>(self.alloc, lines)? {
+            Ok((set, met)) => {
+                self.join(set, &met, lines)?;
+                Ok(None)
+            }
+            Err(contradiction) => {
+                let line = first_impossible_line::<RangeSet>(self.alloc, lines, contradiction)?;
+                Ok(Some(line))
+            }
+        }
+    }
+
+    /// Joins what a possible log tells, by the UIDs that it leaves open and what they meet.
+    fn join(
+        &mut self,
+        set: RangeSet,
+        met: &Met,
+        lines: &[PackedLine],
+    ) -> Result<(), AllocError>
+        requires lines { AreLogLines lines.now }
+        requires possible { IsPossible (entries lines.now) }
+        requires open { SameUids (is_open_in set) (is_open (slots_of (entries lines.now))) }
+        requires met { IsMet (entries lines.now) met.now }
+        ensures { OnOk result ((expected : List ℕ) (logs : List (List LogLineValue))
+            → IsJoined expected logs self.old
+            → IsJoined expected (logs ++ lines.now ∷ []) self.new) }
+    {
+        let alloc = self.alloc;
+        let certain = certain_uids(alloc, met)?;
+        let told = lines_of_certain(alloc, lines, met, &certain)?;
+        note_all(&mut self.certain, self.left.len(), &told)?;
+        let keys = keys_in_order(alloc, &certain)?;
+        self.left.push(set.besides(alloc, &keys)?)?;
+        Ok(())
+    }
+}
+
+/// The first line of a log that lists no UID.
+fn first_not_listed(lines: &[PackedLine]) -> Option<u32>
+    ensures some { IfSome result (IsFirstNotListed lines.now) }
+{
+    for line in lines {
+        if !is_listed(&line.item()) {
+            return Some(line.number());
+        }
+    }
+    None
+}
+
+/// Whether an entry lists a UID.
+fn is_listed(entry: &Entry) -> bool
+    ensures { result ≡ is_listed entry.now }
+{
+    matches!(entry, Entry::Listed(_))
+}
+
+/// Notes where the slots of a log tell of UIDs that have no place yet.
+fn note_all(
+    certain: &mut BTreeMap<Uid, Place>,
+    log: usize,
+    told: &[ShownUid],
+) -> Result<(), AllocError>
+    ensures { OnOk result (AreNoted certain.old certain.new log told.now) }
+{
+    for one in told {
+        if !certain.contains_key(&one.uid) {
+            let line = one.line;
+            certain.insert(one.uid, Place { log, line })?;
+        }
+    }
+    Ok(())
+}

@@ -1,0 +1,13 @@
+//! Many logs against one list of what is expected: is everything there, and nothing else?
+//!
+//! A `Reconciliation` begins with the list, joins what one log after another tells, and keeps no
+//! log. Its findings are those of a single log, said of families of populations, one for each log.
+#![tactic(auto)]
+
+mod findings;
+mod joining;
+pub mod laws;
+mod reconciliation;
+
+pub use findings::{DoubtfulUid, Findings, UnlistedUid, Unsettled};
+pub use reconciliation::{Place, Reconciliation};
