@@ -3,7 +3,8 @@
 ghost use Rattle.std.specs.Prelude.{◌≡◌, ◌↔◌, ℕ, List, [], ◌∷◌, ◌++◌};
 ghost use Rattle.std.specs.List.{All, Any};
 ghost use Rattle.vic_log.specs.declared.entry.LogLine.{LogLine};
-ghost use Rattle.vic_log.specs.Order.{entries};
+ghost use Rattle.vic_log.specs.Order.{entries, listed};
+ghost use Rattle.vic_verdict.specs.Verdict as verdict;
 ghost use Rattle.vic_verdict.specs.Possible as one;
 ghost use Rattle.vic_reconcile.specs.declared.findings.Findings.{Findings};
 ghost use Rattle.vic_reconcile.specs.Families.{ArePossible, IsPossibleUid, IsCertainUid};
@@ -18,6 +19,17 @@ pub fn possible_and_certain_in_some_log()
         → IsPossibleUid logs u ↔ Any (λ lines. one.IsPossibleUid (entries lines) u) logs }
     ensures certain { (logs : List (List LogLine)) (u : ℕ) → ArePossible logs
         → IsCertainUid logs u ↔ Any (λ lines. one.IsCertainUid (entries lines) u) logs }
+{}
+
+/// Of one log alone, its UIDs are possible and certain as they are in the log, and its own list is
+/// complete against it exactly where the list is complete.
+pub fn one_log()
+    ensures possible { (lines : List LogLine) (u : ℕ) → one.IsPossible (entries lines)
+        → IsPossibleUid (lines ∷ []) u ↔ one.IsPossibleUid (entries lines) u }
+    ensures certain { (lines : List LogLine) (u : ℕ) → one.IsPossible (entries lines)
+        → IsCertainUid (lines ∷ []) u ↔ one.IsCertainUid (entries lines) u }
+    ensures whole { (lines : List LogLine)
+        → IsWhole (listed (entries lines)) (lines ∷ []) ↔ verdict.IsWhole (entries lines) }
 {}
 
 /// One possible log more makes no possible UID impossible, and no certain one uncertain.
