@@ -12,6 +12,7 @@ pub(crate) const CRC_LEN: usize = 2;
 /// The CRC of these bytes. It is sent after them, low byte first.
 ///
 /// `ISO/IEC 13239, 16-bit FCS`.
+#[inline(always)]
 pub fn crc(bytes: &[u8]) -> u16
     ensures { result ≡ spec.crc bytes.now }
 {
@@ -26,6 +27,7 @@ pub fn crc(bytes: &[u8]) -> u16
 }
 
 /// Whether there are at least two bytes, and the last two are the CRC of the others.
+#[inline(always)]
 pub fn crc_right(bytes: &[u8]) -> bool
     ensures { result ≡ spec.crc_right bytes.now }
 {
