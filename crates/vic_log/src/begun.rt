@@ -56,6 +56,10 @@ fn split_line(bytes: &[u8]) -> Option<(&[u8], &[u8])>
         (has bytes.now lf ≡ false)
         (λ p. IsSplit bytes.now p.0.now p.1.now) }
 {
+    // A line of one byte needs no search, and most slots are told by one.
+    if bytes.len() > 1 && bytes[0] != b'\n' && bytes[1] == b'\n' {
+        return Some((&bytes[..1], &bytes[2..]));
+    }
     match memchr(b'\n', bytes) {
         Some(place) => Some((&bytes[..place], &bytes[place + 1..])),
         None => None,
