@@ -8,6 +8,7 @@ pub mod Log
 pub mod Kept
 pub mod Lines
 pub mod LineReading
+pub mod Digits
 pub mod Grammar
 pub mod Text
 pub mod Early

@@ -9,6 +9,7 @@
 #![tactic(auto)]
 
 mod begun;
+mod decoding;
 mod digits;
 mod entry;
 mod fault;

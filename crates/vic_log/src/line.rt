@@ -1,80 +1,16 @@
 //! One line.
 
-ghost use Rattle.std.specs.Prelude.{◌≡◌, ◌≤◌, ◌*◌, true, false, MatchOption, Ok, IfOk, IfErr, IfSome, IsErr, length};
+ghost use Rattle.std.specs.Prelude.{◌≡◌, ◌≤◌, IfOk, IfSome, length};
 ghost use Rattle.vic_log.specs.Log.{IsValidEntry};
 ghost use Rattle.vic_log.specs.FirstVersion.{IsOfFirstVersion};
-ghost use Rattle.hex.specs.Hex.{decode_of, decode_pairs, hex_digit_value};
 ghost use Rattle.vic_frame.specs.Reading.{request_reading, reply_reading};
-ghost use Rattle.vic_log.specs.declared.fault.LineFault.TheVariants.{Hex};
 ghost use Rattle.vic_log.specs.declared.entry.Version.TheVariants.{V1};
 ghost use Rattle.vic_log.specs.LineReading.{line_reading, with_digits, one_letter, sent, heard, listed_uid};
 
+use crate::decoding::decode;
 use crate::entry::{Entry, MAX_LINE_LEN, Version};
 use crate::fault::LineFault;
 use vic_frame::{Uid, read_request, read_response};
-
-/// The value of each byte as a hex digit, 255 if it isn't one. A table, so that a digit takes one
-/// lookup and no branch.
-const VALUES: [u8; 256] = [
-    255, 255, 255, 255, 255, 255, 255, 255, 255, 255, 255, 255, 255, 255, 255, 255, 255, 255, 255,
-    255, 255, 255, 255, 255, 255, 255, 255, 255, 255, 255, 255, 255, 255, 255, 255, 255, 255, 255,
-    255, 255, 255, 255, 255, 255, 255, 255, 255, 255, 0, 1, 2, 3, 4, 5, 6, 7, 8, 9, 255, 255, 255,
-    255, 255, 255, 255, 10, 11, 12, 13, 14, 15, 255, 255, 255, 255, 255, 255, 255, 255, 255, 255,
-    255, 255, 255, 255, 255, 255, 255, 255, 255, 255, 255, 255, 255, 255, 255, 255, 10, 11, 12, 13,
-    14, 15, 255, 255, 255, 255, 255, 255, 255, 255, 255, 255, 255, 255, 255, 255, 255, 255, 255,
-    255, 255, 255, 255, 255, 255, 255, 255, 255, 255, 255, 255, 255, 255, 255, 255, 255, 255, 255,
-    255, 255, 255, 255, 255, 255, 255, 255, 255, 255, 255, 255, 255, 255, 255, 255, 255, 255, 255,
-    255, 255, 255, 255, 255, 255, 255, 255, 255, 255, 255, 255, 255, 255, 255, 255, 255, 255, 255,
-    255, 255, 255, 255, 255, 255, 255, 255, 255, 255, 255, 255, 255, 255, 255, 255, 255, 255, 255,
-    255, 255, 255, 255, 255, 255, 255, 255, 255, 255, 255, 255, 255, 255, 255, 255, 255, 255, 255,
-    255, 255, 255, 255, 255, 255, 255, 255, 255, 255, 255, 255, 255, 255, 255, 255, 255, 255, 255,
-    255, 255, 255, 255, 255, 255, 255, 255, 255, 255, 255, 255, 255, 255, 255, 255, 255, 255, 255,
-    255, 255, 255,
-];
-
-/// The value of a hex digit in upper or lower case.
-fn digit_value(byte: u8) -> u8
-    ensures { MatchOption (hex_digit_value byte) (result ≡ 255)
-        (λ v. (v ≡ result) × (result ≤ 15)) }
-{
-    VALUES[usize::from(byte)]
-}
-
-/// Writes the bytes that hex digits spell, and returns whether they spell any.
-#[inline(always)]
-fn decode_into(digits: &[u8], bytes: &mut [u8]) -> bool
-    requires { length digits.now ≡ 2 * length bytes.old }
-    ensures ok { result ≡ true → decode_pairs 0 digits.now ≡ Ok bytes.new }
-    ensures err { result ≡ false → IsErr (decode_pairs 0 digits.now) }
-{
-    'bytes: for i in 0..bytes.len() {
-        let high = digit_value(digits[2 * i]);
-        let low = digit_value(digits[2 * i + 1]);
-        if high > 15 || low > 15 {
-            return false;
-        }
-        bytes[i] = high * 16 + low;
-    }
-    true
-}
-
-/// The bytes that hex digits spell, in a buffer.
-#[inline(always)]
-fn decode<'a>(digits: &[u8], room: &'a mut [u8; 63]) -> Result<&'a [u8], LineFault>
-    requires { length digits.now ≤ 126 }
-    ensures ok { IfOk result (λ bytes. decode_of digits.now ≡ Ok bytes.now) }
-    ensures err { IfErr result (λ e. (e ≡ Hex) × IsErr (decode_of digits.now)) }
-{
-    if digits.len() % 2 != 0 {
-        return Err(LineFault::Hex);
-    }
-    let bytes = &mut room[..digits.len() / 2];
-    if decode_into(digits, bytes) {
-        Ok(bytes)
-    } else {
-        Err(LineFault::Hex)
-    }
-}
 
 /// The entry of a line with only a letter. `D` and `F` belong to version 2.
 #[inline(always)]

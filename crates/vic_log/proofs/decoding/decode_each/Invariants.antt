@@ -1,0 +1,6 @@
+use Rattle.std.proofs.Common.{ℕ, ◌+◌, ◌*◌, ◌<◌, slice_index}
+use Rattle.vic_log.specs.Digits.{SpellsByte}
+use Rattle.vic_log.proofs.decoding.decode_each.Given as goal
+
+abbrev pub invariant-bytes : goal.invariant-bytes
+invariant-bytes l = (k : ℕ) → k < l.i → SpellsByte (slice_index l.digits (2 * k)) (slice_index l.digits (2 * k + 1)) (slice_index l.bytes k)
