@@ -52,8 +52,11 @@ fn decode_ends(digits: &[u8], bytes: &mut [u8]) -> bool
     ensures ok { result ≡ true → decode_pairs 0 digits.now ≡ Ok bytes.new }
     ensures err { result ≡ false → IsErr (decode_pairs 0 digits.now) }
 {
-    let last = bytes.len() - AT_ONCE;
     let begins = decode_eight(digits, bytes, 0);
+    if bytes.len() == AT_ONCE {
+        return begins;
+    }
+    let last = bytes.len() - AT_ONCE;
     let ends = decode_eight(digits, bytes, last);
     begins && ends
 }
