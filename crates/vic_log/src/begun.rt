@@ -1,6 +1,7 @@
 //! A text that is read in pieces: the lines judged so far, and the line begun.
 
 ghost use Rattle.std.specs.Prelude.{◌≡◌, ◌+◌, ◌<◌, ◌≤◌, ◌++◌, ◌∷◌, [], ℕ, List, true, false, None, length, MatchResult, IfErr, OnOk, OnErr, IsTrue, MatchOption};
+ghost use Rattle.memchr.specs.Find.{IsFirstByte, is_byte};
 ghost use Rattle.vic_frame.specs.Uids.{has};
 ghost use Rattle.vic_log.specs.Begun.{IsShort, IsSplit, HasTaken, spare_of};
 ghost use Rattle.vic_log.specs.Early.{IsLong, IsEarly};
@@ -14,6 +15,7 @@ use crate::log::Log;
 use crate::read::take_line;
 use arrayvec::ArrayVec;
 use memchr::memchr;
+use std::simd::prelude::*;
 
 /// The greatest length of a line with its end, CR and LF.
 pub(crate) const LINE_ROOM: usize = 130;
@@ -50,6 +52,21 @@ fn is_too_long(line: &[u8]) -> bool
     line.len() == LINE_ROOM || (line.len() > MAX_LINE_LEN && line[MAX_LINE_LEN] != b'\r')
 }
 
+/// The place of the first LF. Most lines end among the first 32 bytes, which one vector tests.
+#[inline(always)]
+fn find_lf(bytes: &[u8]) -> Option<usize>
+    ensures { IsFirstByte (is_byte lf) bytes.now result }
+{
+    if bytes.len() >= 32 {
+        let ends = u8x32::from_slice(bytes).simd_eq(u8x32::splat(b'\n'));
+        let marks = ends.to_bitmask();
+        if marks != 0 {
+            return Some(marks.trailing_zeros() as usize);
+        }
+    }
+    memchr(b'\n', bytes)
+}
+
 /// The first line of some bytes, without its LF, and what follows that LF.
 fn split_line(bytes: &[u8]) -> Option<(&[u8], &[u8])>
     ensures { MatchOption result
@@ -60,7 +77,7 @@ fn split_line(bytes: &[u8]) -> Option<(&[u8], &[u8])>
     if bytes.len() > 1 && bytes[0] != b'\n' && bytes[1] == b'\n' {
         return Some((&bytes[..1], &bytes[2..]));
     }
-    match memchr(b'\n', bytes) {
+    match find_lf(bytes) {
         Some(place) => Some((&bytes[..place], &bytes[place + 1..])),
         None => None,
     }
