@@ -1,4 +1,4 @@
-//! The bytes of a line from its hex digits, eight at a time.
+//! A line's bytes from its hex digits: those of most frames eight at a time, by vectors.
 
 ghost use Rattle.std.specs.Prelude.{◌≡◌, ℕ, ◌+◌, ◌*◌, ◌<◌, ◌≤◌, true, false, map, length, slice_index, Ok, IsErr, IfOk, IfErr};
 ghost use Rattle.hex.specs.Hex.{decode_of, decode_pairs};
@@ -43,7 +43,7 @@ fn decode_into(digits: &[u8], bytes: &mut [u8]) -> bool
     }
 }
 
-/// The same where the first eight bytes and the last eight are all.
+/// The same of 8 to 16 bytes: the first eight and the last eight are all of them.
 #[inline(always)]
 fn decode_ends(digits: &[u8], bytes: &mut [u8]) -> bool
     requires digits { length digits.now ≡ 2 * length bytes.old }
@@ -61,7 +61,7 @@ fn decode_ends(digits: &[u8], bytes: &mut [u8]) -> bool
     begins && ends
 }
 
-/// The same of eight bytes from a place on, which sixteen hex digits spell.
+/// The same of eight bytes, from a place on.
 #[inline(always)]
 fn decode_eight(digits: &[u8], bytes: &mut [u8], at: usize) -> bool
     requires digits { length digits.now ≡ 2 * length bytes.old }
@@ -85,6 +85,7 @@ fn decode_eight(digits: &[u8], bytes: &mut [u8], at: usize) -> bool
 fn values_of(digits: u8x16) -> u8x16
     ensures { result ≡ map digit_or_255 digits }
 {
+    // A byte below the first digit or letter becomes a large number, since subtraction wraps.
     let number = digits - u8x16::splat(b'0');
     let letter = (digits | u8x16::splat(0x20)) - u8x16::splat(b'a');
     let letters = letter
@@ -93,7 +94,8 @@ fn values_of(digits: u8x16) -> u8x16
     number.simd_lt(u8x16::splat(10)).select(number, letters)
 }
 
-/// The same byte by byte, however many there are.
+/// Puts in the bytes that hex digits spell, however many, one by one, and says whether they spell
+/// any.
 #[inline(always)]
 fn decode_each(digits: &[u8], bytes: &mut [u8]) -> bool
     requires { length digits.now ≡ 2 * length bytes.old }
