@@ -27,7 +27,7 @@ IsPossibleIn u lines = one.IsPossibleUid (entries lines) u
 abbrev pub IsCertainIn : ℕ → List LogLine → Type 0
 IsCertainIn u lines = one.IsCertainUid (entries lines) u
 
--- a UID is certain, or some population that could have given the entries lacks it
+-- a UID is certain, or some population that could have produced the entries lacks it
 pub certain_or_without : (es : List Entry) (u : ℕ) → one.IsPossible es → one.IsCertainUid es u ⊎ ((p : List ℕ) × IsPopulation p × CouldHaveGiven p es × (has p u ≡ false))
 certain_or_without es u p =
     let slots = slots_of es in

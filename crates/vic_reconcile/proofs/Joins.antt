@@ -42,7 +42,7 @@ get_back [] ys i x lt h = absurd (omega (arith, lt))
 get_back (z ∷ xs) ys zero x lt h = h
 get_back (z ∷ xs) ys (suc i) x lt h = get_back xs ys i x (omega (arith, lt)) h
 
-get_end : {X : Type 0} (xs : List X) (x : X) → slice_get (xs ++ x ∷ []) (length xs) ≡ Some x
+pub get_end : {X : Type 0} (xs : List X) (x : X) → slice_get (xs ++ x ∷ []) (length xs) ≡ Some x
 get_end [] x = refl
 get_end (z ∷ xs) x = get_end xs x
 
@@ -149,12 +149,13 @@ pub joined_more : (expected : List ℕ) (logs : List (List LogLine)) (lines : Li
     → uids_of told ≡ certain → All (IsToldOf lines) told
     → AreNoted old.certain new.certain (length old.left.items) told
     → AreKeysOf keys certain → SameUids (is_open_in besides) (without_keys (is_open_in set) keys)
-    → new.expected ≡ old.expected → new.left.items ≡ old.left.items ++ besides ∷ []
+    → new.expected ≡ old.expected → new.count ≡ old.count → new.left.items ≡ old.left.items ++ besides ∷ []
     → IsJoined expected logs old → IsJoined expected (logs ++ lines ∷ []) new
-joined_more expected logs lines old new set besides certain keys told p facts is shown noted own same list left j =
+joined_more expected logs lines old new set besides certain keys told p facts is shown noted own same list count left j =
     let long = zip_long IsLeftBy logs old.left.items j.left in
     record {
       list = subst (λ (us : List ℕ). AreExpected expected us) (sym (ap (λ v. v.items) list)) j.list;
+      count = count ∙ j.count;
       possible = All-push IsPossibleLog logs lines j.possible p;
       certain = λ u. certain_more logs lines certain told old.certain new.certain u facts.must is shown (subst (λ n. AreNoted old.certain new.certain n told) (sym long) noted) (j.certain u);
       left = subst (AllZip IsLeftBy (logs ++ lines ∷ [])) (sym left) (zip_push IsLeftBy logs old.left.items lines besides j.left (left_by lines set besides certain keys facts own same));

@@ -6,11 +6,11 @@ use Rattle.vic_log.specs.declared.entry.LogLine.{LogLine}
 use Rattle.vic_log.specs.Order.{entries}
 use Rattle.vic_log.specs.Populations.{IsPopulation, CouldHaveGiven}
 
--- the population could have given the log
+-- the population could have produced the log
 abbrev pub FitsLog : List ℕ → List LogLine → Type 0
 FitsLog p lines = IsPopulation p × CouldHaveGiven p (entries lines)
 
--- the family has a population for each log, in their order, that could have given it
+-- the family has a population for each log, in their order, that could have produced it
 abbrev pub FitsLogs : List (List ℕ) → List (List LogLine) → Type 0
 FitsLogs family logs = AllZip FitsLog family logs
 
@@ -18,16 +18,16 @@ FitsLogs family logs = AllZip FitsLog family logs
 abbrev pub is_somewhere : List (List ℕ) → ℕ → Bool
 is_somewhere family u = list_any (λ p. has p u) family
 
--- some family could have given the logs
+-- some family could have produced the logs
 abbrev pub ArePossible : List (List LogLine) → Type 0
 ArePossible logs = (family : List (List ℕ)) × FitsLogs family logs
 
--- some family that could have given the logs has the UID
+-- some family that could have produced the logs has the UID
 abbrev pub IsPossibleUid : List (List LogLine) → ℕ → Type 0
 IsPossibleUid logs u =
     (family : List (List ℕ)) × FitsLogs family logs × (is_somewhere family u ≡ true)
 
--- every family that could have given the logs has the UID
+-- every family that could have produced the logs has the UID
 abbrev pub IsCertainUid : List (List LogLine) → ℕ → Type 0
 IsCertainUid logs u =
     (family : List (List ℕ)) → FitsLogs family logs → is_somewhere family u ≡ true

@@ -91,7 +91,7 @@ pub record AreFindings (expected : List ℕ) (logs : List (List LogLine)) (f : F
   pub doubtful : IsListOf (IsDoubtful expected logs) (map (λ d. d.uid) f.doubtful.items)
   pub doubtful_first : All (IsFirstPossible logs) f.doubtful.items
 
--- everything that is expected is somewhere, and nothing else: some family could have given the logs,
+-- everything that is expected is somewhere, and nothing else: some family could have produced the logs,
 -- and in each that could exactly the expected UIDs are somewhere
 abbrev pub IsWhole : List ℕ → List (List LogLine) → Type 0
 IsWhole expected logs =

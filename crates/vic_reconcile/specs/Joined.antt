@@ -1,5 +1,5 @@
 -- What is kept of logs that were joined.
-use Rattle.std.specs.Prelude.{◌≡◌, ◌↔◌, ℕ, Bool, true, false, not, None, Some, List, slice_get, take, MatchOption}
+use Rattle.std.specs.Prelude.{◌≡◌, ◌↔◌, ℕ, Bool, true, false, not, None, Some, List, length, slice_get, take, MatchOption}
 use Rattle.std.specs.BTreeMap as map
 use Rattle.std.specs.Ordering.{nat_cmp}
 use Rattle.std.specs.List.{All, AllPass, AllZip, Contains, list_any}
@@ -43,6 +43,7 @@ pub record AreExpected (expected us : List ℕ) : Type 0 where
 -- what was joined is the list of what is expected and what possible logs tell
 pub record IsJoined (expected : List ℕ) (logs : List (List LogLine)) (r : Reconciliation) : Type 0 where
   pub list : AreExpected expected r.expected.items
+  pub count : r.count ≡ length expected
   pub possible : All (λ lines. IsPossible (entries lines)) logs
   pub certain : (u : ℕ)
       → MatchOption (map.get nat_cmp r.certain u) (IsCertainInNone logs u) (IsFirstTold logs u)

@@ -22,7 +22,7 @@ use crate::reconciliation::{Place, Reconciliation};
 use vic_report::{ShownUid, lines_of_certain};
 use vic_tree::RangeSet;
 use vic_verdict::{
-    Met, certain_uids, first_impossible_line, keys_in_order, listed_uids, open_and_met,
+    Met, certain_uids, count_listed, first_impossible_line, keys_in_order, listed_uids, open_and_met,
 };
 
 impl Reconciliation {
@@ -43,12 +43,29 @@ impl Reconciliation {
         Ok(Ok(Reconciliation {
             alloc,
             expected: listed_uids(alloc, lines)?,
+            count: count_listed(lines),
             certain: BTreeMap::new(alloc),
             left: Vec::new(alloc),
         }))
     }
 
-    /// Joins what a log tells. Where no population could have given it, nothing is joined, and the
+    /// How many UIDs are expected.
+    pub fn count(&self) -> u32
+        ensures { (expected : List ℕ) (logs : List (List LogLineValue))
+            → IsJoined expected logs self.now → result ≡ length expected }
+    {
+        self.count
+    }
+
+    /// How many logs were joined.
+    pub fn log_count(&self) -> usize
+        ensures { (expected : List ℕ) (logs : List (List LogLineValue))
+            → IsJoined expected logs self.now → result ≡ length logs }
+    {
+        self.left.len()
+    }
+
+    /// Joins what a log tells. Where no population could have produced it, nothing is joined, and the
     /// first line up to which none could is given.
     pub fn add(&mut self, log: &Log) -> Result<Option<u32>, AllocError>
         ensures joined { IfOk result (λ r. IfNone r ((expected : List ℕ)

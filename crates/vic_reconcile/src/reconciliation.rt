@@ -24,8 +24,9 @@ pub struct Place {
 #[derive(Drop)]
 pub struct Reconciliation {
     pub(crate) alloc: Global,
-    /// What is expected, in rising order.
+    /// What is expected, in rising order, and how many UIDs that are.
     pub(crate) expected: Vec<Uid>,
+    pub(crate) count: u32,
     /// The UIDs that are certain in some log, each with a line of the first such log that tells so.
     pub(crate) certain: BTreeMap<Uid, Place>,
     /// For each log the UIDs that are possible in it and not certain.

@@ -21,5 +21,6 @@ returns c expected logs j =
     (subst (AreKeysOf c.in_ok-keys.keys.items) c.deref-3.ensures.value c.in_ok-keys.ensures)
     (subst (λ ks. SameUids (is_open_in c.in_ok-besides.field-0) (without_keys (is_open_in c.args.set) ks)) c.deref-4.ensures.value c.in_ok-besides.ensures)
     refl
+    refl
     c.in_ok-push.ensures.items
     j
