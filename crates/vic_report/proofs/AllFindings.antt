@@ -22,9 +22,9 @@ use Rattle.vic_report.specs.declared.shown.ShownUid.{ShownUid}
 use Rattle.vic_report.specs.Reports.{AreFindings, AreOpenMasks, IsReport, IsUnsettledWith, first_finding, left_with, verdict_of}
 use Rattle.vic_verdict.specs.Rising.{IsListOf, IsFailing}
 use Rattle.vic_verdict.specs.Verdict.{IsAbsent, IsUnlisted, IsFirstMask, NoSuch, IsVerdict}
-use Rattle.vic_verdict.specs.declared.judging.Verdict.TheVariants.{Absent, Unlisted, Complete}
+use Rattle.vic_verdict.specs.declared.judging.Verdict.TheVariants.{Complete}
 use Rattle.vic_verdict.specs.declared.judging.Verdict.TheVariants as verdict
-use Rattle.vic_verdict.proofs.Differing.{AreFacts, difference_is_verdict, missing_least, missing_or_absent, no_differences, open_iff}
+use Rattle.vic_verdict.proofs.Differing.{AreFacts, first_mask, missing_least, missing_or_absent, none_unsettled, open_iff}
 use Rattle.vic_verdict.proofs.Failing.{head_least, none_of}
 use Rattle.vic_verdict.proofs.Failing.{member_at}
 
@@ -50,20 +50,25 @@ left_to_ask es (Some m) o first masks = record { mask = first; open_masks = mask
 pub first_is_verdict : (lines : List LogLine) (absent unlisted doubtful : List ℕ) (m : Option BitMask) → IsPossible (entries lines) → IsListOf (IsAbsent (entries lines)) absent → IsListOf (IsUnlisted (entries lines)) unlisted
     → MatchOption m (NoSuch (IsLeftOpen (entries lines))) (IsFirstMask (IsLeftOpen (entries lines))) → IsListOf (MayBeMissing (entries lines)) doubtful
     → (absent ≡ [] → unlisted ≡ [] → m ≡ None → doubtful ≡ [] → ⊥) → IsVerdict lines (first_finding absent unlisted m doubtful)
-first_is_verdict lines (u ∷ absent) unlisted doubtful m p a l f d some = difference_is_verdict lines (u ∷ absent) unlisted m (Absent u) p a l f refl
-first_is_verdict lines [] (u ∷ unlisted) doubtful m p a l f d some = difference_is_verdict lines [] (u ∷ unlisted) m (Unlisted u) p a l f refl
-first_is_verdict lines [] [] doubtful (Some m) p a l f d some = difference_is_verdict lines [] [] (Some m) (verdict.Unsettled m) p a l f refl
+first_is_verdict lines (u ∷ absent) unlisted doubtful m p a l f d some = (p, head_least (IsAbsent (entries lines)) u absent a)
+first_is_verdict lines [] (u ∷ unlisted) doubtful m p a l f d some = (p, none_of (IsAbsent (entries lines)) a, head_least (IsUnlisted (entries lines)) u unlisted l)
+first_is_verdict lines [] [] doubtful (Some m) p a l f d some =
+    let es = entries lines in
+    let none = none_of (IsUnlisted es) l in
+    (p, none_of (IsAbsent es) a, none, first_mask es m none f)
 first_is_verdict lines [] [] (u ∷ doubtful) None p a l f d some =
     let es = entries lines in
-    let n = no_differences es [] [] None a l f refl in
-    (p, n.absent, n.unlisted, n.unsettled, missing_least es u p n.absent (head_least (MayBeMissing es) u doubtful d))
+    let absent = none_of (IsAbsent es) a in
+    let unlisted = none_of (IsUnlisted es) l in
+    (p, absent, unlisted, none_unsettled es unlisted f, missing_least es u p absent (head_least (MayBeMissing es) u doubtful d))
 first_is_verdict lines [] [] [] None p a l f d some = absurd (some refl refl refl refl)
 
 pub none_is_complete : (lines : List LogLine) (count : ℕ) → IsPossible (entries lines) → IsListOf (IsAbsent (entries lines)) [] → IsListOf (IsUnlisted (entries lines)) [] → NoSuch (IsLeftOpen (entries lines)) → IsListOf (MayBeMissing (entries lines)) [] → count ≡ length (listed (entries lines)) → IsVerdict lines (Complete count)
 none_is_complete lines count p a l f d counted =
     let es = entries lines in
-    let n = no_differences es [] [] None a l f refl in
-    (p, n.absent, n.unlisted, n.unsettled, λ u x. missing_or_absent es u n.absent (none_of (MayBeMissing es) d u) x, counted)
+    let absent = none_of (IsAbsent es) a in
+    let unlisted = none_of (IsUnlisted es) l in
+    (p, absent, unlisted, none_unsettled es unlisted f, λ u x. missing_or_absent es u absent (none_of (MayBeMissing es) d u) x, counted)
 
 -- the mask of what is left to ask for
 masks_of : (es : List Entry) (x : Option Unsettled) → MatchOption x (NoSuch (IsLeftOpen es)) (IsUnsettledWith es) → MatchOption (option_map (λ (y : Unsettled). y.mask) x) (NoSuch (IsLeftOpen es)) (IsFirstMask (IsLeftOpen es))

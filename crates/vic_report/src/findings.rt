@@ -2,13 +2,10 @@
 
 ghost use Rattle.std.specs.Prelude.{◌≡◌, ◌↔◌, IfOk, IsTrue};
 ghost use Rattle.std.specs.Option.{option_map};
-ghost use Rattle.vic_tree.specs.OpenSet.{SameUids};
 ghost use Rattle.vic_tree.specs.Ranges.{is_open_in};
 ghost use Rattle.vic_log.specs.Order.{entries};
-ghost use Rattle.vic_log.specs.Slots.{slots_of, is_open};
-ghost use Rattle.vic_verdict.specs.Demands.{IsMet};
+ghost use Rattle.vic_verdict.specs.Facts.{AreFactsOf};
 ghost use Rattle.vic_verdict.specs.LogLines.{AreLogLines};
-ghost use Rattle.vic_verdict.specs.Possible.{IsPossible};
 ghost use Rattle.vic_report.specs.Reports.{AreFindings, AreNone, first_of, left_with};
 
 use crate::ruled_out::lines_of_absent;
@@ -18,7 +15,7 @@ use std::alloc::{AllocError, Global};
 use vic_frame::{Mask, Uid};
 use vic_log::PackedLine;
 use vic_tree::{OpenMasks, RangeSet};
-use vic_verdict::{Met, Verdict, certain_uids, compare, keys_in_order, listed_uids, missing_from};
+use vic_verdict::{Facts, Verdict, compare, keys_in_order, listed_uids, missing_from};
 
 /// The findings of a possible log: where it contradicts its list, or leaves it undecided.
 #[derive(Drop)]
@@ -75,30 +72,28 @@ impl Findings {
     }
 }
 
-/// The findings of a possible log, by the UIDs that it leaves open and what they meet.
+/// The findings of a possible log, by what it tells.
 pub(crate) fn find_findings(
     alloc: Global,
-    set: RangeSet,
-    met: &Met,
+    facts: Facts<RangeSet>,
     lines: &[PackedLine],
 ) -> Result<Findings, AllocError>
     requires lines { AreLogLines lines.now }
-    requires possible { IsPossible (entries lines.now) }
-    requires open { SameUids (is_open_in set) (is_open (slots_of (entries lines.now))) }
-    requires met { IsMet (entries lines.now) met.now }
+    requires facts { AreFactsOf (entries lines.now) (is_open_in facts.«open») facts.met
+        facts.certain.items }
     ensures { IfOk result (AreFindings lines.now) }
 {
-    let certain = certain_uids(alloc, met)?;
+    let Facts { open, met, certain } = facts;
     let listed = listed_uids(alloc, lines)?;
     let keys = keys_in_order(alloc, &certain)?;
-    let open = set.open_masks_besides(&keys);
-    let found = compare(alloc, set, &certain, &listed)?;
+    let masks = open.open_masks_besides(&keys);
+    let found = compare(alloc, open, &certain, &listed)?;
     let uncertain = missing_from(alloc, &listed, &certain)?;
     let doubtful = missing_from(alloc, &uncertain, &found.absent)?;
     Ok(Findings {
         absent: lines_of_absent(alloc, lines, &found.absent)?,
-        unlisted: lines_of_certain(alloc, lines, met, &found.unlisted)?,
-        unsettled: left_to_ask(found.unsettled, open),
+        unlisted: lines_of_certain(alloc, lines, &met, &found.unlisted)?,
+        unsettled: left_to_ask(found.unsettled, masks),
         doubtful,
     })
 }

@@ -1,13 +1,10 @@
 //! Every finding of a log, with its lines.
 
 ghost use Rattle.std.specs.Prelude.{◌≡◌, ◌≤◌, IfOk, length};
-ghost use Rattle.vic_tree.specs.OpenSet.{SameUids};
 ghost use Rattle.vic_tree.specs.Ranges.{is_open_in};
 ghost use Rattle.vic_log.specs.Order.{entries};
-ghost use Rattle.vic_log.specs.Slots.{slots_of, is_open};
-ghost use Rattle.vic_verdict.specs.Demands.{IsMet};
+ghost use Rattle.vic_verdict.specs.Facts.{AreFactsOf};
 ghost use Rattle.vic_verdict.specs.LogLines.{AreLogLines};
-ghost use Rattle.vic_verdict.specs.Possible.{IsPossible};
 ghost use Rattle.vic_report.specs.Reports.{IsReport, verdict_of};
 
 use crate::conflict::{Conflict, find_conflict};
@@ -15,7 +12,7 @@ use crate::findings::{Findings, find_findings};
 use std::alloc::{AllocError, Global};
 use vic_log::{Log, MAX_LINES, PackedLine};
 use vic_tree::RangeSet;
-use vic_verdict::{Met, Verdict, count_listed, open_and_met};
+use vic_verdict::{Facts, Verdict, count_listed, facts_of};
 
 /// The report on a log (profile): its findings, or the conflict that makes it impossible.
 #[derive(Drop)]
@@ -57,8 +54,8 @@ fn report_lines(alloc: Global, lines: &[PackedLine]) -> Result<LogReport, AllocE
     requires limit { length lines.now ≤ MAX_LINES }
     ensures { IfOk result (IsReport lines.now) }
 {
-    match open_and_met::<RangeSet>(alloc, lines)? {
-        Ok((set, met)) => report_possible(alloc, set, &met, lines),
+    match facts_of::<RangeSet>(alloc, lines)? {
+        Ok(facts) => report_facts(alloc, facts, lines),
         Err(contradiction) => Ok(LogReport::Impossible(find_conflict::<RangeSet>(
             alloc,
             lines,
@@ -67,20 +64,18 @@ fn report_lines(alloc: Global, lines: &[PackedLine]) -> Result<LogReport, AllocE
     }
 }
 
-/// The report on a possible log, by the UIDs that it leaves open and what they meet.
-fn report_possible(
+/// The report on a possible log, by what it tells.
+fn report_facts(
     alloc: Global,
-    set: RangeSet,
-    met: &Met,
+    facts: Facts<RangeSet>,
     lines: &[PackedLine],
 ) -> Result<LogReport, AllocError>
     requires lines { AreLogLines lines.now }
-    requires possible { IsPossible (entries lines.now) }
-    requires open { SameUids (is_open_in set) (is_open (slots_of (entries lines.now))) }
-    requires met { IsMet (entries lines.now) met.now }
+    requires facts { AreFactsOf (entries lines.now) (is_open_in facts.«open») facts.met
+        facts.certain.items }
     ensures { IfOk result (IsReport lines.now) }
 {
-    let findings = find_findings(alloc, set, met, lines)?;
+    let findings = find_findings(alloc, facts, lines)?;
     if !findings.is_empty() {
         return Ok(LogReport::NotWhole(findings));
     }

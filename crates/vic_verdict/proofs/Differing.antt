@@ -10,18 +10,16 @@ use Rattle.vic_tree.specs.OpenSet.{IsWidest, SameUids, without_keys}
 use Rattle.vic_tree.proofs.BoolLaws.{same_tests}
 use Rattle.vic_tree.proofs.SetLaws.{widest_same}
 use Rattle.vic_log.specs.declared.entry.Entry.{Entry}
-use Rattle.vic_log.specs.declared.entry.LogLine.{LogLine}
-use Rattle.vic_log.specs.Order.{entries}
-use Rattle.vic_log.specs.Slots.{slots_of, is_open, IsForcedBy}
+use Rattle.vic_log.specs.Order.{listed}
 use Rattle.vic_verdict.specs.declared.differences.Differences.{Differences}
-use Rattle.vic_verdict.specs.declared.judging.Verdict.{Verdict}
-use Rattle.vic_verdict.specs.Differences.{AreDifferences, IsLeftOpen, MayBeMissing, first_difference, left_by}
+use Rattle.vic_verdict.specs.Differences.{AreDifferences, IsLeftOpen, MayBeMissing, left_by}
+use Rattle.vic_verdict.specs.Facts.{IsTold}
 use Rattle.vic_verdict.specs.Keys.{AreKeysOf}
 use Rattle.vic_verdict.specs.Possible.{IsPossible, IsPossibleUid, IsCertainUid}
 use Rattle.vic_verdict.specs.Rising.{IsFailing, IsListOf, SameMembers}
-use Rattle.vic_verdict.specs.Verdict.{IsAbsent, IsUnlisted, IsUnsettled, IsDoubtful, IsLeast, IsFirstMask, NoSuch, IsVerdict}
+use Rattle.vic_verdict.specs.Verdict.{IsAbsent, IsUnlisted, IsUnsettled, IsDoubtful, IsLeast, IsFirstMask, NoSuch}
 use Rattle.vic_verdict.proofs.Decide.{IsPossibleUid-iff, IsPossibleUid-either, IsCertainUid-iff}
-use Rattle.vic_verdict.proofs.Failing.{head_least, list_as, none_of}
+use Rattle.vic_verdict.proofs.Failing.{list_as}
 use Rattle.vic_verdict.proofs.Masks.{uid_in, IsUid-in, lies_in-uid_in}
 
 -- ---- the differences, by the steps of `compare`
@@ -38,15 +36,20 @@ known_has us certain unlisted known u is new =
     (λ e. or_left _ _ e)
     (or_cases _ _ h))
 
-pub absent_by : (set : ℕ → Bool) (us certain known outside absent : List ℕ) → ((u : ℕ) → has known u ≡ (has certain u || has us u)) → IsListOf (IsFailing known set) outside → IsListOf (IsFailing outside (has certain)) absent
+pub neither_by : (set : ℕ → Bool) (us certain outside absent : List ℕ) → IsListOf (IsFailing us set) outside → IsListOf (IsFailing outside (has certain)) absent → IsListOf (λ u. IsFailing us set u × (has certain u ≡ false)) absent
+neither_by set us certain outside absent out l =
+    list_as (IsFailing outside (has certain)) (λ u. IsFailing us set u × (has certain u ≡ false)) absent (λ u. (
+      (λ h. ((out.members u).0 h.0, h.1)),
+      (λ h. ((out.members u).1 h.0, h.1)),
+    )) l
+
+pub absent_by : (set : ℕ → Bool) (us certain known absent : List ℕ) → ((u : ℕ) → has known u ≡ (has certain u || has us u)) → IsListOf (λ u. IsFailing known set u × (has certain u ≡ false)) absent
     → IsListOf (λ u. IsFailing us set u × (has certain u ≡ false)) absent
-absent_by set us certain known outside absent all out l =
-    list_as (IsFailing outside (has certain)) (λ u. IsFailing us set u × (has certain u ≡ false)) absent
+absent_by set us certain known absent all l =
+    list_as (λ u. IsFailing known set u × (has certain u ≡ false)) (λ u. IsFailing us set u × (has certain u ≡ false)) absent
     (λ u. (
-      (λ h.
-          let w = (out.members u).0 h.0 in
-          ((⊎_elim (λ c. absurd (both_ways (has certain u) h.1 c)) (λ e. e) (or_cases _ _ (sym (all u) ∙ w.0)), w.1), h.1)),
-      (λ h. ((out.members u).1 (all u ∙ or_right _ _ h.0.0, h.0.1), h.1)),
+      (λ h. ((⊎_elim (λ c. absurd (both_ways (has certain u) h.1 c)) (λ e. e) (or_cases _ _ (sym (all u) ∙ h.0.0)), h.0.1), h.1)),
+      (λ h. ((all u ∙ or_right _ _ h.0.0, h.0.1), h.1)),
     ))
     l
 
@@ -167,23 +170,23 @@ all_findings P C set certain us all d f l h = record {
 
 -- ---- what one log tells
 
-pub log_facts : (es : List Entry) (set : ℕ → Bool) (certain : List ℕ) → IsPossible es → SameUids set (is_open (slots_of es)) → IsListOf (IsForcedBy (is_open (slots_of es)) (slots_of es)) certain → AreFacts (IsPossibleUid es) (IsCertainUid es) set certain
-log_facts es set certain p s forced = record {
+pub log_facts : (es : List Entry) (set : ℕ → Bool) (certain : List ℕ) → IsTold es set certain → AreFacts (IsPossibleUid es) (IsCertainUid es) set certain
+log_facts es set certain t = record {
   may = λ u i. (
-    ⊎_elim (λ h. (IsPossibleUid-iff es u p).1 (sym (s u i) ∙ h)) (λ h. sure u ((must.members u).0 h)),
-    (λ q. inl (s u i ∙ (IsPossibleUid-iff es u p).0 q)),
+    ⊎_elim (λ h. (IsPossibleUid-iff es u t.possible).1 (sym (t.uids_open u i) ∙ h)) (λ h. sure u ((must.members u).0 h)),
+    (λ q. inl (t.uids_open u i ∙ (IsPossibleUid-iff es u t.possible).0 q)),
   );
   must = must;
   sure = sure;
 }
   where
     must : IsListOf (IsCertainUid es) certain
-    must = list_as _ (IsCertainUid es) certain (λ u. let w = IsCertainUid-iff es u p in (w.1, w.0)) forced
+    must = list_as _ (IsCertainUid es) certain (λ u. let w = IsCertainUid-iff es u t.possible in (w.1, w.0)) t.forced
 
     sure : (u : ℕ) → IsCertainUid es u → IsPossibleUid es u
-    sure u c = (p.0, p.1, p.2, c p.0 p.1 p.2)
+    sure u c = let p = t.possible in (p.0, p.1, p.2, c p.0 p.1 p.2)
 
--- ---- the first difference is the verdict
+-- ---- the findings that no earlier ones go before
 
 -- where none is unlisted, the masks are the unsettled ones
 mask_iff : (es : List Entry) → NoSuch (IsUnlisted es) → (m : BitMask) → IsLeftOpen es m ↔ IsUnsettled es m
@@ -192,11 +195,11 @@ mask_iff es none m = (
   (λ h. (h.0, h.1, λ u i k. let w = h.2 u i k in ((w.0, λ c. none u (c, w.1)), w.1))),
 )
 
-first_mask : (es : List Entry) (m : BitMask) → NoSuch (IsUnlisted es) → IsFirstMask (IsLeftOpen es) m → IsFirstMask (IsUnsettled es) m
+pub first_mask : (es : List Entry) (m : BitMask) → NoSuch (IsUnlisted es) → IsFirstMask (IsLeftOpen es) m → IsFirstMask (IsUnsettled es) m
 first_mask es m none h = ((mask_iff es none m).0 h.0, λ k g. h.1 k ((mask_iff es none k).1 g))
 
-no_mask : (es : List Entry) → NoSuch (IsUnlisted es) → NoSuch (IsLeftOpen es) → NoSuch (IsUnsettled es)
-no_mask es none left m h = left m ((mask_iff es none m).1 h)
+pub none_unsettled : (es : List Entry) → NoSuch (IsUnlisted es) → NoSuch (IsLeftOpen es) → NoSuch (IsUnsettled es)
+none_unsettled es none left m h = left m ((mask_iff es none m).1 h)
 
 -- where none is absent, a listed UID that isn't certain may be missing
 pub missing_or_absent : (es : List Entry) (u : ℕ) → NoSuch (IsAbsent es) → (MayBeMissing es u → ⊥) → IsDoubtful es u → ⊥
@@ -212,39 +215,42 @@ missing_least es u possible present h = (
       (IsPossibleUid-either es m possible),
 )
 
-some_is : {v w : Verdict} → Some v ≡ Some w → v ≡ w
-some_is h = cc
+-- ---- the findings of one log, each by what the judge has of it
 
--- the first of the differences
-pub difference_is_verdict : (lines : List LogLine) (absent unlisted : List ℕ) (m : Option BitMask) (v : Verdict) → IsPossible (entries lines) → IsListOf (IsAbsent (entries lines)) absent → IsListOf (IsUnlisted (entries lines)) unlisted
-    → MatchOption m (NoSuch (IsLeftOpen (entries lines))) (IsFirstMask (IsLeftOpen (entries lines))) → first_difference absent unlisted m ≡ Some v → IsVerdict lines v
-difference_is_verdict lines (u ∷ absent) unlisted m v p a l f is = subst (IsVerdict lines) (some_is is) (p, head_least (IsAbsent (entries lines)) u absent a)
-difference_is_verdict lines [] (u ∷ unlisted) m v p a l f is = subst (IsVerdict lines) (some_is is) (p, none_of (IsAbsent (entries lines)) a, head_least (IsUnlisted (entries lines)) u unlisted l)
-difference_is_verdict lines [] [] (Some m) v p a l f is =
-    let es = entries lines in
-    let none = none_of (IsUnlisted es) l in
-    subst (IsVerdict lines) (some_is is) (p, none_of (IsAbsent es) a, none, first_mask es m none f)
-difference_is_verdict lines [] [] None v p a l f is = cc
+-- the log tells the set and the certain UIDs, and the list has the listed ones
+pub record IsJudged (es : List Entry) (set : ℕ → Bool) (certain us : List ℕ) : Type 0 where
+  pub told : IsTold es set certain
+  pub own : AreListed us (listed es)
 
--- there is none
-pub record AreNoDifferences (es : List Entry) : Type 0 where
-  pub absent : NoSuch (IsAbsent es)
-  pub unlisted : NoSuch (IsUnlisted es)
-  pub unsettled : NoSuch (IsUnsettled es)
+pub absent_list : (es : List Entry) (set : ℕ → Bool) (certain us absent : List ℕ) → IsJudged es set certain us → IsListOf (λ u. IsFailing us set u × (has certain u ≡ false)) absent → IsListOf (IsAbsent es) absent
+absent_list es set certain us absent j h = list_as _ (IsAbsent es) absent (absent_iff (IsPossibleUid es) (IsCertainUid es) set certain us (listed es) (log_facts es set certain j.told) j.own) h
 
-pub no_differences : (es : List Entry) (absent unlisted : List ℕ) (m : Option BitMask) → IsListOf (IsAbsent es) absent → IsListOf (IsUnlisted es) unlisted
-    → MatchOption m (NoSuch (IsLeftOpen es)) (IsFirstMask (IsLeftOpen es)) → first_difference absent unlisted m ≡ None → AreNoDifferences es
-no_differences es (u ∷ absent) unlisted m a l f is = cc
-no_differences es [] (u ∷ unlisted) m a l f is = cc
-no_differences es [] [] (Some m) a l f is = cc
-no_differences es [] [] None a l f is =
-    let none = none_of (IsUnlisted es) l in
-    record { absent = none_of (IsAbsent es) a; unlisted = none; unsettled = no_mask es none f }
+pub unlisted_list : (es : List Entry) (set : ℕ → Bool) (certain us unlisted : List ℕ) → IsJudged es set certain us → IsListOf (IsFailing certain (has us)) unlisted → IsListOf (IsUnlisted es) unlisted
+unlisted_list es set certain us unlisted j h = list_as _ (IsUnlisted es) unlisted (unlisted_iff (IsPossibleUid es) (IsCertainUid es) set certain us (listed es) (log_facts es set certain j.told) j.own) h
 
--- then a listed UID that isn't certain is doubtful
-pub doubtful_as : (P C : ℕ → Type 0) (set : ℕ → Bool) (certain us all : List ℕ) → AreFacts P C set certain → AreListed us all → (u : ℕ) → IsFailing us (has certain) u ↔ ((has all u ≡ true) × (C u → ⊥))
-doubtful_as P C set certain us all f l u =
-    let un = uncertain_iff P C set certain u f in (
-      (λ h. (sym (l.members u) ∙ h.0, un.0 h.1)),
-      (λ h. (l.members u ∙ h.0, un.1 h.1)),
-    )
+-- where none is unlisted
+pub unsettled_mask : (es : List Entry) (set : ℕ → Bool) (certain us keys : List ℕ) (m : Option BitMask) → IsJudged es set certain us → NoSuch (IsUnlisted es) → AreKeysOf keys us
+    → IfSome m (IsWidest (without_keys set keys)) → IfNone m (SameUids (without_keys set keys) (λ _. false)) → MatchOption m (NoSuch (IsUnsettled es)) (IsFirstMask (IsUnsettled es))
+unsettled_mask es set certain us keys m j none own found empty =
+    unsettled m (first_left (IsPossibleUid es) (IsCertainUid es) set certain us (listed es) m f j.own (unsettled_by set us certain us keys m all own found empty))
+  where
+    f : AreFacts (IsPossibleUid es) (IsCertainUid es) set certain
+    f = log_facts es set certain j.told
+
+    is_listed : (u : ℕ) → has certain u ≡ true → has us u ≡ true
+    is_listed u c = ⊎_elim (λ e. e) (λ e. absurd (none u ((unlisted_iff (IsPossibleUid es) (IsCertainUid es) set certain us (listed es) f j.own u).0 (c, e)))) (cases_Bool (has us u))
+
+    all : (u : ℕ) → has us u ≡ (has certain u || has us u)
+    all u = same_tests (has us u) (has certain u || has us u) (λ h. or_right _ _ h) (λ h. ⊎_elim (λ c. is_listed u c) (λ e. e) (or_cases _ _ h))
+
+    unsettled : (m : Option BitMask) → MatchOption m (NoSuch (IsLeftOpen es)) (IsFirstMask (IsLeftOpen es)) → MatchOption m (NoSuch (IsUnsettled es)) (IsFirstMask (IsUnsettled es))
+    unsettled None h = none_unsettled es none h
+    unsettled (Some k) h = first_mask es k none h
+
+pub doubtful_uids : (es : List Entry) (set : ℕ → Bool) (certain us doubtful : List ℕ) → IsJudged es set certain us → IsListOf (IsFailing us (has certain)) doubtful → IsListOf (IsDoubtful es) doubtful
+doubtful_uids es set certain us doubtful j h =
+    list_as _ (IsDoubtful es) doubtful (λ u.
+    let un = uncertain_iff (IsPossibleUid es) (IsCertainUid es) set certain u (log_facts es set certain j.told) in (
+      (λ k. (sym (j.own.members u) ∙ k.0, un.0 k.1)),
+      (λ k. (j.own.members u ∙ k.0, un.1 k.1)),
+    )) h

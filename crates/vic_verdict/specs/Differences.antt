@@ -1,6 +1,6 @@
 -- How a list differs from what a log says (profile): the findings, of which the verdict is the
 -- first.
-use Rattle.std.specs.Prelude.{◌≡◌, ℕ, ◌^◌, ◌<◌, ◌≤◌, Bool, true, false, not, ◌&&◌, ◌||◌, [], ◌∷◌, None, Some, Option, List, MatchOption}
+use Rattle.std.specs.Prelude.{◌≡◌, ℕ, ◌^◌, ◌<◌, ◌≤◌, Bool, true, false, not, ◌&&◌, ◌||◌, List, MatchOption}
 use Rattle.vic_frame.specs.declared.uid.TheConstants.{UID_BITS}
 use Rattle.vic_frame.specs.Uids.{IsUid, has}
 use Rattle.vic_frame.specs.Masks.{BitMask, lies_in}
@@ -10,8 +10,6 @@ use Rattle.vic_log.specs.Order.{listed}
 use Rattle.vic_verdict.specs.Possible.{IsPossibleUid, IsCertainUid}
 use Rattle.vic_verdict.specs.Rising.{IsFailing, IsListOf}
 use Rattle.vic_verdict.specs.declared.differences.Differences.{Differences}
-use Rattle.vic_verdict.specs.declared.judging.Verdict.{Verdict}
-use Rattle.vic_verdict.specs.declared.judging.Verdict.TheVariants as verdict
 
 -- a UID that may be there and may be missing
 abbrev pub IsOpenUid : List Entry → ℕ → Type 0
@@ -27,13 +25,6 @@ IsLeftOpen es m =
 -- a listed UID that may be there and may be missing
 abbrev pub MayBeMissing : List Entry → ℕ → Type 0
 MayBeMissing es u = (has (listed es) u ≡ true) × IsOpenUid es u
-
--- the first of some differences as a verdict
-abbrev pub first_difference : List ℕ → List ℕ → Option BitMask → Option Verdict
-first_difference (u ∷ absent) unlisted unsettled = Some (verdict.Absent u)
-first_difference [] (u ∷ unlisted) unsettled = Some (verdict.Unlisted u)
-first_difference [] [] (Some m) = Some (verdict.Unsettled m)
-first_difference [] [] None = None
 
 -- ---- the same by a set of open UIDs and the list of the certain ones
 

@@ -11,6 +11,7 @@ pub mod Closed
 pub mod Stretches
 pub mod Answering
 pub mod Demands
+pub mod Facts
 pub mod Explained
 pub mod Gathered
 pub mod Replies

@@ -1,9 +1,12 @@
 //! How a list differs from what a log says.
 
-ghost use Rattle.std.specs.Prelude.{◌++◌, IfOk};
-ghost use Rattle.std.specs.List.Sorted.{IsStrictlyIncreasing};
+ghost use Rattle.std.specs.Prelude.{◌≡◌, ◌++◌, ℕ, false, IfOk, List};
+ghost use Rattle.std.specs.List.Sorted.{IsNonDecreasing, IsStrictlyIncreasing};
+ghost use Rattle.vic_frame.specs.Uids.{has};
+ghost use Rattle.vic_tree.specs.OpenSet.{AreKeys};
 ghost use Rattle.vic_verdict.specs.Differences.{AreDifferences};
 ghost use Rattle.vic_verdict.specs.Keys.{AreKeysOf};
+ghost use Rattle.vic_verdict.specs.Rising.{IsFailing, IsListOf};
 
 use crate::missing::{keys_in_order, missing_from};
 use std::alloc::{AllocError, Global};
@@ -38,14 +41,31 @@ pub fn compare<S: OpenSet>(
 {
     let unlisted = missing_from(alloc, certain, listed)?;
     let keys = keys_of_both(alloc, listed, &unlisted)?;
-    let outside = uids_outside(alloc, &set, &keys)?;
-    let absent = missing_from(alloc, &outside, certain)?;
+    let absent = neither_of(alloc, &set, certain, &keys)?;
     let unsettled = set.widest_besides(&keys)?;
     Ok(Differences {
         absent,
         unlisted,
         unsettled,
     })
+}
+
+/// The UIDs at some keys, which come in order, that are neither in a set nor in a list, in rising
+/// order.
+pub(crate) fn neither_of<S: OpenSet>(
+    alloc: Global,
+    set: &S,
+    certain: &[Uid],
+    keys: &[u64],
+) -> Result<Vec<Uid>, AllocError>
+    requires certain { IsStrictlyIncreasing certain.now }
+    requires order { IsNonDecreasing keys.now }
+    requires keys { AreKeys keys.now }
+    ensures { IfOk result (λ v. (us : List ℕ) → AreKeysOf keys.now us
+        → IsListOf (λ u. IsFailing us (S.is_open set.now) u × (has certain.now u ≡ false)) v.items) }
+{
+    let outside = uids_outside(alloc, set, keys)?;
+    missing_from(alloc, &outside, certain)
 }
 
 /// The keys of the UIDs of two lists, in order.

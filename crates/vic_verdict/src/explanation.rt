@@ -2,20 +2,17 @@
 
 ghost use Rattle.std.specs.Prelude.{◌≡◌, ◌++◌, ◌∷◌, [], IfOk, OnOk};
 ghost use Rattle.std.specs.List.Sorted.{IsStrictlyIncreasing};
-ghost use Rattle.vic_tree.specs.OpenSet.{SameUids};
-ghost use Rattle.vic_log.specs.Slots.{slots_of, is_open};
 ghost use Rattle.vic_log.specs.Order.{entries};
 ghost use Rattle.vic_verdict.specs.LogLines.{AreLogLines};
-ghost use Rattle.vic_verdict.specs.Demands.{IsMet};
+ghost use Rattle.vic_verdict.specs.Facts.{AreFactsOf};
 ghost use Rattle.vic_verdict.specs.Explained.{IsExplanation};
 ghost use Rattle.vic_verdict.specs.Gathered.{is_other, chosen, gathered};
-ghost use Rattle.vic_verdict.specs.Possible.{IsPossible};
 ghost use Rattle.vic_verdict.specs.Rising.{SameMembers};
 
 use crate::demands::{Found, Met};
 use crate::first_line::first_impossible_line;
-use crate::judging::{Verdict, judge_possible};
-use crate::possible::open_and_met;
+use crate::judging::{Verdict, judge_told};
+use crate::log_facts::{Facts, facts_of};
 use std::alloc::{AllocError, Global};
 use vic_frame::Uid;
 use vic_log::{Log, PackedLine};
@@ -53,8 +50,8 @@ fn explain_lines<S: OpenSet>(alloc: Global, lines: &[PackedLine]) -> Result<Expl
     requires { AreLogLines lines.now }
     ensures { IfOk result (IsExplanation lines.now) }
 {
-    match open_and_met::<S>(alloc, lines)? {
-        Ok((set, met)) => explain_possible(alloc, set, met, lines),
+    match facts_of::<S>(alloc, lines)? {
+        Ok(facts) => explain_facts(alloc, facts, lines),
         Err(contradiction) => {
             let line = first_impossible_line::<S>(alloc, lines, contradiction)?;
             Ok(Explanation {
@@ -65,21 +62,19 @@ fn explain_lines<S: OpenSet>(alloc: Global, lines: &[PackedLine]) -> Result<Expl
     }
 }
 
-/// The verdict on a possible log with a population that shows it, by the UIDs that it leaves open
-/// and what they meet.
-fn explain_possible<S: OpenSet>(
+/// The verdict on a possible log with a population that shows it, by what it tells.
+fn explain_facts<S: OpenSet>(
     alloc: Global,
-    set: S,
-    met: Met,
+    facts: Facts<S>,
     lines: &[PackedLine],
 ) -> Result<Explanation, AllocError>
     requires lines { AreLogLines lines.now }
-    requires possible { IsPossible (entries lines.now) }
-    requires open { SameUids (S.is_open set) (is_open (slots_of (entries lines.now))) }
-    requires met { IsMet (entries lines.now) met }
+    requires facts { AreFactsOf (entries lines.now) (S.is_open facts.«open») facts.met
+        facts.certain.items }
     ensures { IfOk result (IsExplanation lines.now) }
 {
-    let verdict = judge_possible(alloc, set, &met, lines)?;
+    let Facts { open, met, certain } = facts;
+    let verdict = judge_told(alloc, open, &certain, lines)?;
     let population = match verdict {
         Verdict::Impossible { .. } | Verdict::Complete { .. } => None,
         Verdict::Absent(_) | Verdict::Unlisted(_) => Some(gather(met, &None)?),

@@ -51,8 +51,8 @@ fn first_guess(contradiction: Contradiction) -> Option<usize> {
 /// The number of the first line up to which no population could have produced the log, found by
 /// bisection: what is impossible stays so when lines follow. Bisection begins at a guess: before
 /// the contradiction if it seems to be the first, otherwise where a pass over the lines before it
-/// suggests. As long as that pass is right, the lines are judged at most three times here, usually
-/// once or not at all.
+/// suggests; a guess that is too early is moved on in steps that double. As long as that pass is
+/// right, the lines are judged at most three times here, usually once or not at all.
 pub fn first_impossible_line<S: OpenSet>(
     alloc: Global,
     lines: &[PackedLine],
@@ -65,6 +65,7 @@ pub fn first_impossible_line<S: OpenSet>(
     let mut low = possible_before(contradiction);
     let mut last = contradiction.at;
     let mut guess = first_guess(contradiction);
+    let mut step: usize = 1;
     while low < last {
         let place = match guess {
             Some(place) => place,
@@ -75,7 +76,8 @@ pub fn first_impossible_line<S: OpenSet>(
             Ok(_) => {
                 low = count;
                 // if the guess was right, the line after it is the first impossible one
-                guess = Some(place.saturating_add(1));
+                guess = Some(place.saturating_add(step));
+                step = step.saturating_mul(2);
             }
             Err(earlier) => {
                 low = low.max(possible_before(earlier));

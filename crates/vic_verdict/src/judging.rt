@@ -1,23 +1,18 @@
 //! What a log proves about its list of tags: the verdict on it.
 
-ghost use Rattle.std.specs.Prelude.{◌≡◌, ℕ, IfOk, length};
-ghost use Rattle.vic_tree.specs.OpenSet.{SameUids};
-ghost use Rattle.vic_log.specs.Slots.{slots_of, is_open};
-ghost use Rattle.vic_verdict.specs.Possible.{IsPossible};
+ghost use Rattle.std.specs.Prelude.{◌≡◌, ℕ, IfOk, length, slice_get};
 ghost use Rattle.vic_log.specs.Order.{entries, listed};
 ghost use Rattle.vic_verdict.specs.LogLines.{AreLogLines};
-ghost use Rattle.vic_verdict.specs.Differences.{first_difference};
+ghost use Rattle.vic_verdict.specs.Facts.{IsTold};
 ghost use Rattle.vic_verdict.specs.Verdict.{IsVerdict, IsWhole, IsReached};
 ghost use Rattle.vic_verdict.specs.TwoVersions.{IsWholeSecond};
-ghost use Rattle.vic_verdict.specs.Demands.{IsMet};
 ghost use Rattle.vic_verdict.specs.declared.judging.Verdict.TheVariants.{Complete};
 
-use crate::demands::Met;
-use crate::differences::{Differences, compare};
+use crate::differences::neither_of;
 use crate::first_line::first_impossible_line;
-use crate::missing::missing_from;
-use crate::possible::open_and_met;
-use crate::uids::{certain_uids, count_listed, listed_uids};
+use crate::log_facts::{Facts, facts_of};
+use crate::missing::{keys_in_order, missing_from};
+use crate::uids::{count_listed, listed_uids};
 use std::alloc::{AllocError, Global};
 use vic_frame::{Mask, Uid};
 use vic_log::{Log, PackedLine};
@@ -81,8 +76,14 @@ fn judge_lines<S: OpenSet>(alloc: Global, lines: &[PackedLine]) -> Result<Verdic
     requires { AreLogLines lines.now }
     ensures { IfOk result (λ v. IsVerdict lines.now v) }
 {
-    match open_and_met::<S>(alloc, lines)? {
-        Ok((set, met)) => judge_possible(alloc, set, &met, lines),
+    match facts_of::<S>(alloc, lines)? {
+        Ok(
+            Facts {
+                open,
+                met: _,
+                certain,
+            },
+        ) => judge_told(alloc, open, &certain, lines),
         Err(contradiction) => {
             let line = first_impossible_line::<S>(alloc, lines, contradiction)?;
             Ok(Verdict::Impossible { line })
@@ -90,44 +91,43 @@ fn judge_lines<S: OpenSet>(alloc: Global, lines: &[PackedLine]) -> Result<Verdic
     }
 }
 
-/// The verdict on a possible log, by the UIDs that it leaves open and what they meet.
-pub(crate) fn judge_possible<S: OpenSet>(
+/// The verdict on a possible log, by the UIDs that it leaves open and those that are certain: the
+/// first finding. No later one is looked for.
+pub(crate) fn judge_told<S: OpenSet>(
     alloc: Global,
     set: S,
-    met: &Met,
+    certain: &[Uid],
     lines: &[PackedLine],
 ) -> Result<Verdict, AllocError>
     requires lines { AreLogLines lines.now }
-    requires possible { IsPossible (entries lines.now) }
-    requires open { SameUids (S.is_open set) (is_open (slots_of (entries lines.now))) }
-    requires met { IsMet (entries lines.now) met.now }
+    requires told { IsTold (entries lines.now) (S.is_open set) certain.now }
     ensures { IfOk result (λ v. IsVerdict lines.now v) }
 {
-    let certain = certain_uids(alloc, met)?;
     let listed = listed_uids(alloc, lines)?;
-    let found = compare(alloc, set, &certain, &listed)?;
-    if let Some(verdict) = first_difference(&found) {
-        return Ok(verdict);
+    let keys = keys_in_order(alloc, &listed)?;
+    let absent = neither_of(alloc, &set, certain, &keys)?;
+    if let Some(uid) = first_of(&absent) {
+        return Ok(Verdict::Absent(uid));
     }
-    let doubtful = missing_from(alloc, &listed, &certain)?;
-    if let Some(uid) = doubtful.first().copied() {
+    let unlisted = missing_from(alloc, certain, &listed)?;
+    if let Some(uid) = first_of(&unlisted) {
+        return Ok(Verdict::Unlisted(uid));
+    }
+    // the certain UIDs are listed, too: no key of theirs is wanting
+    if let Some(mask) = set.widest_besides(&keys)? {
+        return Ok(Verdict::Unsettled(mask));
+    }
+    let doubtful = missing_from(alloc, &listed, certain)?;
+    if let Some(uid) = first_of(&doubtful) {
         return Ok(Verdict::Doubtful(uid));
     }
     let count = count_listed(lines);
     Ok(Verdict::Complete { count })
 }
 
-/// The first of some differences, as a verdict.
-fn first_difference(found: &Differences) -> Option<Verdict>
-    ensures { result ≡ first_difference found.now.absent.items found.now.unlisted.items
-        found.now.unsettled }
+/// The first UID of a list.
+fn first_of(uids: &[Uid]) -> Option<Uid>
+    ensures { result ≡ slice_get uids.now 0 }
 {
-    if let Some(uid) = found.absent.first() {
-        return Some(Verdict::Absent(*uid));
-    }
-    if let Some(uid) = found.unlisted.first() {
-        return Some(Verdict::Unlisted(*uid));
-    }
-    let mask = found.unsettled?;
-    Some(Verdict::Unsettled(mask))
+    uids.first().copied()
 }

@@ -25,41 +25,41 @@ pub lines_of_absent-requires-clause-shut : goal.lines_of_absent-requires-clause-
 lines_of_absent-requires-clause-shut c =
     let es = entries c.args.lines.now in
     let us = c.in_ok-listed.listed.items in
-    let certain = c.in_ok-certain.certain.items in
+    let certain = c.args.facts.certain.items in
     let d = c.in_ok-found.found in
-    let here = compared (is_open_in c.args.set) c.deref-3.result.now certain c.deref-4.result.now us d c.deref-3.ensures.value c.deref-4.ensures.value c.in_ok-found.ensures in
-    rw c.deref-9.ensures.value (shut_all es (is_open_in c.args.set) us certain d.absent.items c.requires.open c.in_ok-listed.ensures.uids here.absent)
+    let here = compared (is_open_in c.args.facts.open) c.deref-3.result.now certain c.deref-4.result.now us d c.deref-3.ensures.value c.deref-4.ensures.value c.in_ok-found.ensures in
+    rw c.deref-9.ensures.value (shut_all es (is_open_in c.args.facts.open) us certain d.absent.items c.requires.facts.told.uids_open c.in_ok-listed.ensures.uids here.absent)
 
 pub lines_of_certain-requires-clause-forced : goal.lines_of_certain-requires-clause-forced
 lines_of_certain-requires-clause-forced c u h =
     let w = (c.in_ok-found.ensures.unlisted.members u).0 (subst (λ xs. has xs u ≡ true) c.deref-10.ensures.value h) in
-    c.in_ok-certain.ensures.met u (subst (λ xs. has xs u ≡ true) c.deref-3.ensures.value w.0)
+    c.requires.facts.met_for u (subst (λ xs. has xs u ≡ true) c.deref-3.ensures.value w.0)
 
 pub returns : goal.returns
 returns c =
     let es = entries c.args.lines.now in
-    let set = is_open_in c.args.set in
+    let set = is_open_in c.args.facts.open in
     let us = c.in_ok-listed.listed.items in
-    let certain = c.in_ok-certain.certain.items in
+    let certain = c.args.facts.certain.items in
     let keys = c.deref-2.result.now in
     let some = c.in_ok-uncertain.uncertain.items in
     let d = c.in_ok-found.found in
-    let facts = log_facts es set certain c.requires.possible c.requires.open (c.in_ok-certain.ensures.certain es c.requires.met) in
+    let facts = log_facts es set certain c.requires.facts.told in
     let own : AreListed us (listed es) = record { members = c.in_ok-listed.ensures.members; are_uids = c.in_ok-listed.ensures.uids } in
     let here = compared set c.deref-3.result.now certain c.deref-4.result.now us d c.deref-3.ensures.value c.deref-4.ensures.value c.in_ok-found.ensures in
     let all = all_findings (IsPossibleUid es) (IsCertainUid es) set certain us (listed es) d facts own here in
-    let masks : AreOpenMasks es c.open_masks_besides-open.result = record {
+    let masks : AreOpenMasks es c.open_masks_besides-masks.result = record {
       set = without_keys set keys;
       uids = open_set es set certain keys facts (λ u i. ap (λ ks. has_key ks u) c.deref-2.ensures.value ∙ (c.in_ok-keys.ensures.members u i ∙ ap (λ xs. has xs u) c.deref.ensures.value));
-      first = c.open_masks_besides-open.ensures.first;
-      more = c.open_masks_besides-open.ensures.more;
+      first = c.open_masks_besides-masks.ensures.first;
+      more = c.open_masks_besides-masks.ensures.more;
     } in
     record {
       absent = subst (IsListOf (IsAbsent es)) (sym (c.in_ok-lines_of_absent.ensures.uids ∙ c.deref-9.ensures.value)) all.absent;
       absent_shown = c.in_ok-lines_of_absent.ensures.shown;
       unlisted = subst (IsListOf (IsUnlisted es)) (sym (c.in_ok-lines_of_certain.ensures.uids ∙ c.deref-10.ensures.value)) all.unlisted;
       unlisted_shown = c.in_ok-lines_of_certain.ensures.shown;
-      unsettled = subst (λ o. MatchOption o (NoSuch (IsLeftOpen es)) (IsUnsettledWith es)) (sym c.left_to_ask.ensures) (left_to_ask es d.unsettled c.open_masks_besides-open.result all.unsettled masks);
+      unsettled = subst (λ o. MatchOption o (NoSuch (IsLeftOpen es)) (IsUnsettledWith es)) (sym c.left_to_ask.ensures) (left_to_ask es d.unsettled c.open_masks_besides-masks.result all.unsettled masks);
       doubtful = doubtful_list (IsPossibleUid es) (IsCertainUid es) set certain us (listed es) some d.absent.items c.in_ok-doubtful.doubtful.items facts own
           (renamed c.deref-5.result.now us c.deref-6.result.now certain some c.deref-5.ensures.value c.deref-6.ensures.value c.in_ok-uncertain.ensures)
           here.absent

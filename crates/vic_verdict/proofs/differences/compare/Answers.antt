@@ -1,9 +1,7 @@
 use Rattle.std.proofs.Common.{◌≡◌, ℕ, List, ◌++◌, ◌||◌, sym, ap, subst}
 use Rattle.vic_frame.specs.Uids.{has}
 use Rattle.vic_verdict.specs.Keys.{AreKeysOf}
-use Rattle.vic_verdict.specs.Rising.{IsFailing, IsListOf}
 use Rattle.vic_verdict.proofs.Differing.{known_has, absent_by, unsettled_by}
-use Rattle.vic_verdict.proofs.KeyOrder.{outside_are}
 use Rattle.vic_verdict.proofs.differences.compare.Goals as goal
 
 pub returns : goal.returns
@@ -13,14 +11,11 @@ returns g c =
     let certain = c.args.certain.now in
     let new = c.in_ok-unlisted.unlisted.items in
     let known = us ++ c.deref.result.now in
-    let out = c.in_ok-outside.outside.items in
-    let gone = c.in_ok-absent.absent.items in
     let unlisted = c.in_ok-unlisted.ensures in
     let all : (u : ℕ) → has known u ≡ (has certain u || has us u) = λ u. known_has us certain new known u (ap (λ xs. us ++ xs) c.deref.ensures.value) unlisted in
     let keyed : (keys : List ℕ) → keys ≡ c.in_ok-keys.keys.items → AreKeysOf keys known = λ keys e. subst (λ ks. AreKeysOf ks known) (sym e) c.in_ok-keys.ensures in
-    let outside : IsListOf (IsFailing known set) out = outside_are set c.deref-2.result.now known out (keyed c.deref-2.result.now c.deref-2.ensures.value) c.in_ok-outside.ensures in
     record {
-      absent = absent_by set us certain known out gone all outside (subst (λ xs. IsListOf (IsFailing xs (has certain)) gone) c.deref-3.ensures.value c.in_ok-absent.ensures);
+      absent = absent_by set us certain known c.in_ok-absent.absent.items all (c.in_ok-absent.ensures known (keyed c.deref-2.result.now c.deref-2.ensures.value));
       unlisted = unlisted;
-      unsettled = unsettled_by set us certain known c.deref-4.result.now c.in_ok-unsettled.unsettled all (keyed c.deref-4.result.now c.deref-4.ensures.value) c.in_ok-unsettled.ensures.found c.in_ok-unsettled.ensures.empty;
+      unsettled = unsettled_by set us certain known c.deref-3.result.now c.in_ok-unsettled.unsettled all (keyed c.deref-3.result.now c.deref-3.ensures.value) c.in_ok-unsettled.ensures.found c.in_ok-unsettled.ensures.empty;
     }

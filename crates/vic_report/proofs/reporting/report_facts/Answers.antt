@@ -7,14 +7,14 @@ use Rattle.vic_report.specs.Reports.{IsUnsettledWith}
 use Rattle.vic_verdict.specs.Rising.{IsListOf}
 use Rattle.vic_verdict.specs.Verdict.{IsAbsent, IsUnlisted, NoSuch}
 use Rattle.vic_report.proofs.AllFindings.{none_is_complete}
-use Rattle.vic_report.proofs.reporting.report_possible.Goals as goal
+use Rattle.vic_report.proofs.reporting.report_facts.Goals as goal
 
 pub returns : goal.returns
 returns c =
     let es = entries c.args.lines.now in
     let all = c.in_ok-findings.ensures in
     let none = c.is_empty.ensures.0 c.if-not-is_empty.false in
-    none_is_complete c.args.lines.now c.count_listed-count.result c.requires.possible
+    none_is_complete c.args.lines.now c.count_listed-count.result c.requires.facts.told.possible
     (subst (IsListOf (IsAbsent es)) (ap uids_of none.absent) all.absent)
     (subst (IsListOf (IsUnlisted es)) (ap uids_of none.unlisted) all.unlisted)
     (subst (λ o. MatchOption o (NoSuch (IsLeftOpen es)) (IsUnsettledWith es)) none.unsettled all.unsettled)

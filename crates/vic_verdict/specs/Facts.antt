@@ -1,0 +1,23 @@
+-- What a possible log tells of the tags: which may be there, and which must.
+use Rattle.std.specs.Prelude.{◌≡◌, ℕ, Bool, true, List}
+use Rattle.vic_frame.specs.Uids.{has}
+use Rattle.vic_tree.specs.OpenSet.{SameUids}
+use Rattle.vic_log.specs.declared.entry.Entry.{Entry}
+use Rattle.vic_log.specs.Slots.{slots_of, is_open, IsForcedBy}
+use Rattle.vic_verdict.specs.declared.demands.Met.{Met}
+use Rattle.vic_verdict.specs.Demands.{IsMet, IsMetFor}
+use Rattle.vic_verdict.specs.Possible.{IsPossible}
+use Rattle.vic_verdict.specs.Rising.{IsListOf}
+
+-- some population could have given the log; the set has the UIDs that its slots leave open, and the
+-- list those that they force
+pub record IsTold (es : List Entry) (set : ℕ → Bool) (certain : List ℕ) : Type 0 where
+  pub possible : IsPossible es
+  pub uids_open : SameUids set (is_open (slots_of es))
+  pub forced : IsListOf (IsForcedBy (is_open (slots_of es)) (slots_of es)) certain
+
+-- and what meets its slots, each UID of the list by some slot
+pub record AreFactsOf (es : List Entry) (set : ℕ → Bool) (met : Met) (certain : List ℕ) : Type 0 where
+  pub told : IsTold es set certain
+  pub is_met : IsMet es met
+  pub met_for : (u : ℕ) → has certain u ≡ true → IsMetFor met u
