@@ -1,28 +1,25 @@
 //! How logs are joined, one after another.
 
 ghost use Rattle.std.specs.Prelude.{◌≡◌, ◌+◌, ℕ, [], ◌∷◌, ◌++◌, List, IfErr, IfNone, IfOk, IfSome, OnOk, length};
-ghost use Rattle.vic_tree.specs.OpenSet.{SameUids};
 ghost use Rattle.vic_tree.specs.Ranges.{is_open_in};
 ghost use Rattle.vic_log.specs.Order.{entries, listed};
-ghost use Rattle.vic_log.specs.Slots.{slots_of, is_open};
 ghost use Rattle.vic_log.specs.declared.entry.LogLine.{LogLine as LogLineValue};
-ghost use Rattle.vic_verdict.specs.Demands.{IsMet};
+ghost use Rattle.vic_verdict.specs.Facts.{AreFactsOf};
 ghost use Rattle.vic_verdict.specs.LogLines.{AreLogLines};
-ghost use Rattle.vic_verdict.specs.Possible.{IsPossible};
 ghost use Rattle.vic_verdict.specs.Verdict.{IsVerdict};
 ghost use Rattle.vic_verdict.specs.declared.judging.Verdict.TheVariants.{Impossible};
 ghost use Rattle.vic_reconcile.specs.Findings.{IsFirstNotListed, is_listed};
 ghost use Rattle.vic_reconcile.specs.Joined.{AreNoted, IsJoined};
 
+use crate::reconciliation::{Place, Reconciliation};
 use std::alloc::{AllocError, Global};
 use std::collections::BTreeMap;
 use vic_frame::Uid;
 use vic_log::{Entry, Log, PackedLine};
-use crate::reconciliation::{Place, Reconciliation};
 use vic_report::{ShownUid, lines_of_certain};
 use vic_tree::RangeSet;
 use vic_verdict::{
-    Met, certain_uids, count_listed, first_impossible_line, keys_in_order, listed_uids, open_and_met,
+    Facts, count_listed, facts_of, first_impossible_line, keys_in_order, listed_uids,
 };
 
 impl Reconciliation {
@@ -88,9 +85,9 @@ impl Reconciliation {
             IsVerdict lines.now (Impossible n))) }
         ensures unchanged { IfOk result (λ r. IfSome r (λ _. self.new ≡ self.old)) }
     {
-        match open_and_met::<RangeSet>(self.alloc, lines)? {
-            Ok((set, met)) => {
-                self.join(set, &met, lines)?;
+        match facts_of::<RangeSet>(self.alloc, lines)? {
+            Ok(facts) => {
+                self.join(&facts, lines)?;
                 Ok(None)
             }
             Err(contradiction) => {
@@ -100,27 +97,19 @@ impl Reconciliation {
         }
     }
 
-    /// Joins what a possible log tells, by the UIDs that it leaves open and what they meet.
-    fn join(
-        &mut self,
-        set: RangeSet,
-        met: &Met,
-        lines: &[PackedLine],
-    ) -> Result<(), AllocError>
-        requires lines { AreLogLines lines.now }
-        requires possible { IsPossible (entries lines.now) }
-        requires open { SameUids (is_open_in set) (is_open (slots_of (entries lines.now))) }
-        requires met { IsMet (entries lines.now) met.now }
+    /// Joins the facts of a possible log.
+    fn join(&mut self, facts: &Facts<RangeSet>, lines: &[PackedLine]) -> Result<(), AllocError>
+        requires { AreFactsOf (entries lines.now) (is_open_in facts.now.«open») facts.now.met
+            facts.now.certain.items }
         ensures { OnOk result ((expected : List ℕ) (logs : List (List LogLineValue))
             → IsJoined expected logs self.old
             → IsJoined expected (logs ++ lines.now ∷ []) self.new) }
     {
         let alloc = self.alloc;
-        let certain = certain_uids(alloc, met)?;
-        let told = lines_of_certain(alloc, lines, met, &certain)?;
+        let told = lines_of_certain(alloc, lines, &facts.met, &facts.certain)?;
         note_all(&mut self.certain, self.left.len(), &told)?;
-        let keys = keys_in_order(alloc, &certain)?;
-        self.left.push(set.besides(alloc, &keys)?)?;
+        let keys = keys_in_order(alloc, &facts.certain)?;
+        self.left.push(facts.open.besides(alloc, &keys)?)?;
         Ok(())
     }
 }
