@@ -1,7 +1,7 @@
 -- What logs tell together is what some log tells.
-use Rattle.std.proofs.Common.{◌≡◌, ℕ, zero, suc, ◌<◌, List, [], ◌∷◌, ◌++◌, length, get_or, Bool, true, false, refl, sym, subst, arith, inl, inr, ⊎_elim}
+use Rattle.std.proofs.Common.{◌≡◌, ℕ, zero, suc, List, [], ◌∷◌, true, false, refl, sym, subst, arith, inl, inr, ⊎_elim}
 use Rattle.std.specs.Prelude.{◌↔◌, ◌⊎◌}
-use Rattle.std.specs.List.{All, AllZip, Any, list_any}
+use Rattle.std.specs.List.{All, Any}
 use Rattle.std.proofs.lemmas.Bool.{both_ways, false_from_ne_true, false≢true, or_cases, or_left, or_right}
 use Rattle.std.proofs.lemmas.List.Elements.{All-cons, All-head, All-tail}
 use Rattle.vic_frame.specs.Uids.{has}
@@ -110,8 +110,8 @@ certain_in (lines ∷ logs) u all c =
     ⊎_elim
     (λ here. any_here (IsCertainIn u) lines logs here)
     (λ w. any_there (IsCertainIn u) lines logs (certain_in logs u (All-tail IsPossibleLog lines logs all) (λ family f.
-        ⊎_elim (λ a. absurd (both_ways (has w.0 u) w.3 a)) (λ b. b)
-        (or_cases (has w.0 u) (is_somewhere family u) (c (w.0 ∷ family) ((w.1, w.2), f))))))
+    ⊎_elim (λ a. absurd (both_ways (has w.0 u) w.3 a)) (λ b. b)
+    (or_cases (has w.0 u) (is_somewhere family u) (c (w.0 ∷ family) ((w.1, w.2), f))))))
     (certain_or_without (entries lines) u (All-head IsPossibleLog lines logs all))
 
 pub IsCertainUid-iff : (logs : List (List LogLine)) (u : ℕ) → All IsPossibleLog logs → IsCertainUid logs u ↔ Any (IsCertainIn u) logs

@@ -1,6 +1,6 @@
 -- One possible log more is joined.
-use Rattle.std.proofs.Common.{◌≡◌, ℕ, zero, suc, ◌<◌, List, [], ◌∷◌, ◌++◌, length, get_or, Bool, true, false, Option, Some, None, refl, sym, ap, subst, ◌∙◌, arith, inl, inr, ⊎_elim}
-use Rattle.std.specs.Prelude.{◌↔◌, ◌⊎◌, ◌||◌, MatchOption, cond, is_some, nat_eq, slice_get}
+use Rattle.std.proofs.Common.{◌≡◌, ℕ, zero, suc, ◌<◌, List, [], ◌∷◌, ◌++◌, length, true, false, Option, Some, None, refl, sym, ap, subst, ◌∙◌, arith, inl, inr, ⊎_elim}
+use Rattle.std.specs.Prelude.{◌⊎◌, ◌||◌, MatchOption, cond, is_some, nat_eq, slice_get}
 use Rattle.std.specs.BTreeMap.{is_at}
 use Rattle.std.specs.BTreeMap as map
 use Rattle.std.specs.Ordering.{nat_cmp}
@@ -10,10 +10,9 @@ use Rattle.std.proofs.lemmas.List.Folds.{list_any-append}
 use Rattle.std.proofs.lemmas.List.{map-append}
 use Rattle.std.proofs.lemmas.Grind.{common_steps}
 use Rattle.std.proofs.lemmas.List.Elements.{All-head, All-push, All-tail, Contains-append_left, Contains-push}
-use Rattle.vic_frame.specs.Uids.{IsUid, has}
-use Rattle.vic_tree.specs.OpenSet.{SameUids, has_key, without_keys}
+use Rattle.vic_frame.specs.Uids.{has}
+use Rattle.vic_tree.specs.OpenSet.{SameUids, without_keys}
 use Rattle.vic_tree.specs.Ranges.{is_open_in}
-use Rattle.vic_log.specs.declared.entry.Entry.{Entry}
 use Rattle.vic_log.specs.declared.entry.LogLine.{LogLine}
 use Rattle.vic_log.specs.Order.{entries}
 use Rattle.vic_log.proofs.Sets.{has_at, has_cases, has_there}
@@ -111,8 +110,8 @@ told_first logs lines certain told u p l is shown none at c =
         first = λ k others lt h. all_at (λ ls. IsCertainIn u ls → ⊥) logs k others none (get_back logs (lines ∷ []) k others (omega (arith, lt, at)) h);
       };
       shows = λ others h.
-        let same : lines ≡ others = some_is (sym there ∙ h) in
-        subst (λ ls. ShowsCertain ls p.line u) same (subst (IsToldOf lines) c.2 (shown c.0 s c.1));
+          let same : lines ≡ others = some_is (sym there ∙ h) in
+          subst (λ ls. ShowsCertain ls p.line u) same (subst (IsToldOf lines) c.2 (shown c.0 s c.1));
     }
 
 certain_more : (logs : List (List LogLine)) (lines : List LogLine) (certain : List ℕ) (told : List ShownUid) (old new : map.BTreeMap ℕ Place) (u : ℕ)

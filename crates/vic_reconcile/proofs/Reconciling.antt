@@ -1,17 +1,17 @@
 -- The findings of joined logs, and that none of them means that everything is there.
-use Rattle.std.proofs.Common.{◌≡◌, ℕ, zero, suc, ◌<◌, ◌≤◌, List, [], ◌∷◌, ◌++◌, length, get_or, map, Bool, true, false, not, ◌&&◌, Option, Some, None, refl, sym, ap, subst, ◌∙◌, arith, inl, inr, ⊎_elim}
+use Rattle.std.proofs.Common.{◌≡◌, ℕ, zero, suc, ◌<◌, List, [], ◌∷◌, ◌++◌, length, get_or, map, Bool, true, false, Option, Some, None, refl, sym, ap, subst, ◌∙◌, arith, inl, inr, ⊎_elim}
 use Rattle.std.specs.Prelude.{◌↔◌, ◌⊎◌, ◌||◌, IfNone, IfSome, MatchOption, is_some, nat_eq}
 use Rattle.std.specs.BTreeMap as tree
 use Rattle.std.specs.Ordering.{eq_by_cmp, is_eq, nat_cmp}
 use Rattle.std.specs.Set.{is_member}
-use Rattle.std.specs.List.{All, AllZip, Any}
+use Rattle.std.specs.List.{All, Any}
 use Rattle.std.specs.List.Sorted.{IsStrictlyIncreasing}
 use Rattle.std.proofs.lemmas.Bool.{both_ways, cases_Bool, cases_eq, false≢true, or_cases, or_left, or_right}
 use Rattle.std.proofs.lemmas.Grind.{common_steps}
 use Rattle.std.proofs.lemmas.List.Elements.{All-head, All-tail}
 use Rattle.std.proofs.lemmas.List.Folds.{list_any-append}
 use Rattle.vic_frame.specs.Uids.{IsUid, has}
-use Rattle.vic_frame.specs.Masks.{BitMask, lies_in}
+use Rattle.vic_frame.specs.Masks.{BitMask}
 use Rattle.vic_tree.specs.OpenSet.{SameUids}
 use Rattle.vic_tree.specs.Ranges.{is_open_in}
 use Rattle.vic_log.specs.declared.entry.LogLine.{LogLine}
@@ -23,7 +23,7 @@ use Rattle.vic_verdict.specs.Rising.{IsFailing, IsListOf}
 use Rattle.vic_verdict.specs.Verdict as verdict
 use Rattle.vic_verdict.specs.Verdict.{IsFirstMask, NoSuch}
 use Rattle.vic_verdict.proofs.Decide.{IsCertainUid-either, IsPossibleUid-either}
-use Rattle.vic_verdict.proofs.Differing.{AreFacts, all_findings, doubtful_list}
+use Rattle.vic_verdict.proofs.Differing.{all_findings, doubtful_list}
 use Rattle.vic_verdict.proofs.Failing.{none_of}
 use Rattle.vic_verdict.proofs.Masks.{IsUid-in, lies_in-uid_in, mask_of, mask_of-alone, mask_of-value, uid_in}
 use Rattle.vic_reconcile.specs.declared.findings.DoubtfulUid.{DoubtfulUid}
@@ -32,8 +32,8 @@ use Rattle.vic_reconcile.specs.declared.findings.UnlistedUid.{UnlistedUid}
 use Rattle.vic_reconcile.specs.declared.findings.Unsettled.{Unsettled}
 use Rattle.vic_reconcile.specs.declared.reconciliation.Reconciliation.{Reconciliation}
 use Rattle.vic_reconcile.specs.Families.{ArePossible, FitsLog, FitsLogs, IsCertainUid, IsPossibleUid, is_somewhere}
-use Rattle.vic_reconcile.specs.Findings.{AreFindings, AreNone, IsAbsent, IsDoubtful, IsFirstPossible, IsFirstTold, IsToldOf, IsUnlisted, IsUnsettled, IsUnsettledWith, IsWhole}
-use Rattle.vic_reconcile.specs.Joined.{IsCertainInNone, IsFirstLeft, IsJoined, IsLeftBy, IsLeftToAsk, is_left}
+use Rattle.vic_reconcile.specs.Findings.{AreFindings, AreNone, IsAbsent, IsDoubtful, IsFirstTold, IsToldOf, IsUnlisted, IsUnsettled, IsUnsettledWith, IsWhole}
+use Rattle.vic_reconcile.specs.Joined.{IsCertainInNone, IsFirstLeft, IsJoined, IsLeftToAsk, is_left}
 use Rattle.vic_reconcile.proofs.Families.{IsCertainIn, IsCertainUid-iff, IsPossibleIn, IsPossibleLog, IsPossibleUid-iff, all_possible, any_cases, any_here, any_none, any_there, certain_by}
 use Rattle.vic_reconcile.proofs.Joins.{zip_push}
 use Rattle.vic_reconcile.proofs.Telling.{all_open_masks, first_possible, joined_facts, listed_as}
@@ -107,9 +107,9 @@ findings_of expected logs r all certain some doubtful d f j rising members same 
       unsettled = asked_as expected logs r certain d.unsettled f.unsettled j facts.must found.unsettled none asked;
       doubtful = subst (IsListOf (IsDoubtful expected logs)) (sym firsts) doubts;
       doubtful_first = λ k s lt.
-        let x = get_or f.doubtful.items k s in
-        let w = (doubts.members x.uid).0 (subst (λ us. has us x.uid ≡ true) firsts (has_mapped f.doubtful.items k s lt)) in
-        first_possible logs r.left.items x j.left (own.are_uids x.uid (own.members x.uid ∙ w.0)) w.1.1 (lefts k s lt);
+          let x = get_or f.doubtful.items k s in
+          let w = (doubts.members x.uid).0 (subst (λ us. has us x.uid ≡ true) firsts (has_mapped f.doubtful.items k s lt)) in
+          first_possible logs r.left.items x j.left (own.are_uids x.uid (own.members x.uid ∙ w.0)) w.1.1 (lefts k s lt);
     }
 
 -- ---- none of them
@@ -140,10 +140,13 @@ somewhere_uid : (logs : List (List LogLine)) (u : ℕ) → Any (IsPossibleIn u) 
 somewhere_uid logs u a = let w = a.4 in IsUid-member w.0 u w.1 w.3
 
 pub none_is_whole : (expected : List ℕ) (logs : List (List LogLine)) (f : Findings) → ArePossible logs → AreFindings expected logs f → AreNone f → IsWhole expected logs
-none_is_whole expected logs f p found none = (p, λ family fits u. (
-  (λ h. expected_of u (family, fits, h)),
-  (λ h. certain_of u h family fits),
-))
+none_is_whole expected logs f p found none = (
+  p,
+  λ family fits u. (
+    (λ h. expected_of u (family, fits, h)),
+    (λ h. certain_of u h family fits),
+  ),
+)
   where
     all : All IsPossibleLog logs
     all = all_possible logs p.0 p.1
@@ -169,9 +172,13 @@ none_is_whole expected logs f p found none = (p, λ family fits u. (
         (λ e. e)
         (λ e. ⊎_elim
         (λ c. absurd (no_unlisted u (certain_by logs u c, e)))
-        (λ n. absurd (no_unsettled (mask_of u) (omega arith, mask_of-value u, λ w iw k.
-            let same = mask_of-alone u w i iw k in
-            subst (λ x. (IsPossibleUid logs x × (IsCertainUid logs x → ⊥)) × (has expected x ≡ false)) (sym same) ((h, λ c. n ((IsCertainUid-iff logs u all).0 c)), e))))
+        (λ n. absurd (no_unsettled (mask_of u) (
+          omega arith,
+          mask_of-value u,
+          λ w iw k.
+              let same = mask_of-alone u w i iw k in
+              subst (λ x. (IsPossibleUid logs x × (IsCertainUid logs x → ⊥)) × (has expected x ≡ false)) (sym same) ((h, λ c. n ((IsCertainUid-iff logs u all).0 c)), e),
+        )))
         (certain_either logs u all))
         (cases_Bool (has expected u))
 
@@ -224,11 +231,14 @@ front : (logs : List (List LogLine)) (lines : List LogLine) (family : List (List
 front [] lines family fits = ([], tt, λ u h. absurd (false≢true h))
 front (l ∷ logs) lines [] fits = absurd fits
 front (l ∷ logs) lines (p ∷ family) fits =
-    let r = front logs lines family fits.1 in
-    (p ∷ r.0, (fits.0, r.1), λ u h. ⊎_elim
-        (λ a. or_left (has p u) (is_somewhere family u) a)
-        (λ b. or_right (has p u) (is_somewhere family u) (r.2 u b))
-        (or_cases (has p u) (is_somewhere r.0 u) h))
+    let r = front logs lines family fits.1 in (
+      p ∷ r.0,
+      (fits.0, r.1),
+      λ u h. ⊎_elim
+          (λ a. or_left (has p u) (is_somewhere family u) a)
+          (λ b. or_right (has p u) (is_somewhere family u) (r.2 u b))
+          (or_cases (has p u) (is_somewhere r.0 u) h),
+    )
 
 pub certain_later : (logs : List (List LogLine)) (lines : List LogLine) (u : ℕ) → IsCertainUid logs u → IsCertainUid (logs ++ lines ∷ []) u
 certain_later logs lines u c family fits = let r = front logs lines family fits in r.2 u (c r.0 r.1)
@@ -264,8 +274,8 @@ one_whole lines = (
   (λ h. (
     All-head IsPossibleLog lines [] (all_possible (lines ∷ []) h.0.0 h.0.1),
     λ p i c u.
-      let w = h.1 (p ∷ []) ((i, c), tt) u in
-      ((λ k. w.0 (or_left (has p u) false k)), (λ k. ⊎_elim (λ a. a) (λ f. absurd (false≢true f)) (or_cases (has p u) false (w.1 k)))),
+        let w = h.1 (p ∷ []) ((i, c), tt) u in
+        ((λ k. w.0 (or_left (has p u) false k)), (λ k. ⊎_elim (λ a. a) (λ f. absurd (false≢true f)) (or_cases (has p u) false (w.1 k)))),
   )),
   (λ h. ((h.0.0 ∷ [], ((h.0.1, h.0.2), tt)), alone h)),
 )

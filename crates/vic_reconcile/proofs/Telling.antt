@@ -1,9 +1,9 @@
 -- What joined logs tell, by what is kept of them.
-use Rattle.std.proofs.Common.{◌≡◌, ℕ, zero, suc, ◌<◌, List, [], ◌∷◌, length, map, take, Bool, true, false, not, ◌&&◌, Option, Some, None, refl, sym, ap, subst, ◌∙◌, arith, inl, inr, ⊎_elim}
+use Rattle.std.proofs.Common.{◌≡◌, ℕ, zero, suc, ◌<◌, List, [], ◌∷◌, take, true, false, not, Option, Some, None, refl, sym, subst, ◌∙◌, arith, inl, inr, ⊎_elim}
 use Rattle.std.specs.Prelude.{◌↔◌, ◌⊎◌, MatchOption, is_some, slice_get}
 use Rattle.std.specs.BTreeMap as map
 use Rattle.std.specs.Ordering.{nat_cmp}
-use Rattle.std.specs.List.{All, AllPass, AllZip, Any, list_any}
+use Rattle.std.specs.List.{All, AllPass, AllZip, Any}
 use Rattle.std.specs.List.Sorted.{IsStrictlyIncreasing}
 use Rattle.std.proofs.lemmas.Bool.{and_from, and_parts, both_ways, false≢true, not-true, not_from_false, false_from_ne_true, or_cases, or_left, or_right}
 use Rattle.std.proofs.lemmas.List.Elements.{All-head, All-tail}
@@ -15,14 +15,13 @@ use Rattle.vic_tree.specs.Ranges.{is_open_in}
 use Rattle.vic_log.specs.declared.entry.LogLine.{LogLine}
 use Rattle.vic_log.specs.Order.{entries}
 use Rattle.vic_verdict.specs.Differences as one
-use Rattle.vic_verdict.specs.Possible.{IsPossible}
 use Rattle.vic_verdict.specs.Rising.{IsListOf}
 use Rattle.vic_verdict.proofs.Decide.{IsCertainUid-either}
 use Rattle.vic_verdict.proofs.Differing.{AreFacts, AreListed}
 use Rattle.vic_reconcile.specs.declared.findings.DoubtfulUid.{DoubtfulUid}
 use Rattle.vic_reconcile.specs.declared.reconciliation.Place.{Place}
 use Rattle.vic_reconcile.specs.declared.reconciliation.Reconciliation.{Reconciliation}
-use Rattle.vic_reconcile.specs.Families.{ArePossible, IsCertainUid, IsPossibleUid}
+use Rattle.vic_reconcile.specs.Families.{IsCertainUid, IsPossibleUid}
 use Rattle.vic_reconcile.specs.Findings.{AreOpenMasksOf, IsFirstLog, IsFirstPossible, IsFirstTold}
 use Rattle.vic_reconcile.specs.Joined.{AreOpenBesides, IsCertainInNone, IsFirstLeft, IsJoined, IsLeftBy, is_left}
 use Rattle.vic_reconcile.proofs.Families.{IsCertainIn, IsCertainUid-iff, IsPossibleIn, IsPossibleLog, IsPossibleUid-iff, any_cases, any_here, any_none, any_there, certain_by, family_of}
@@ -98,15 +97,15 @@ pub joined_facts : (expected : List ℕ) (logs : List (List LogLine)) (r : Recon
     → AreFacts (IsPossibleUid logs) (IsCertainUid logs) (is_open_in all) certain
 joined_facts expected logs r all certain j rising members same = record {
   may = λ u i.
-    let possible = IsPossibleUid-iff logs u j.possible in (
-      ⊎_elim
-      (λ h. possible.1 (open_possible logs u (left_in logs r.left.items u j.left i (sym (same u i) ∙ h))))
-      (λ h. sure u ((must.members u).0 h)),
-      (λ p. ⊎_elim
-          (λ o. inl (same u i ∙ left_from logs r.left.items u j.left i o))
-          (λ c. inr ((must.members u).1 (certain_by logs u c)))
-          (open_or_certain logs u j.possible (possible.0 p))),
-    );
+      let possible = IsPossibleUid-iff logs u j.possible in (
+        ⊎_elim
+            (λ h. possible.1 (open_possible logs u (left_in logs r.left.items u j.left i (sym (same u i) ∙ h))))
+            (λ h. sure u ((must.members u).0 h)),
+        (λ p. ⊎_elim
+            (λ o. inl (same u i ∙ left_from logs r.left.items u j.left i o))
+            (λ c. inr ((must.members u).1 (certain_by logs u c)))
+            (open_or_certain logs u j.possible (possible.0 p))),
+      );
   must = must;
   sure = sure;
 }
@@ -156,9 +155,9 @@ first_possible logs sets d z i never f =
       there = here.1;
       holds = ((here.2 d.uid i).0 f.1.2).0;
       first = λ k others lt h p.
-        let b = set_beside logs sets k others z h in
-        let is_open = (b.2 d.uid i).1 (p, not_certain_in logs k d.uid others never h) in
-        both_ways (is_open_in b.0 d.uid) (not-true _ (all_at (λ s. not (is_open_in s d.uid) ≡ true) (take d.log sets) k b.0 f.0 (got_in_front sets d.log k b.0 lt b.1))) is_open;
+          let b = set_beside logs sets k others z h in
+          let is_open = (b.2 d.uid i).1 (p, not_certain_in logs k d.uid others never h) in
+          both_ways (is_open_in b.0 d.uid) (not-true _ (all_at (λ s. not (is_open_in s d.uid) ≡ true) (take d.log sets) k b.0 f.0 (got_in_front sets d.log k b.0 lt b.1))) is_open;
     }
   where
     got_in_front : (sets : List (List (ℕ × ℕ))) (n k : ℕ) (s : List (ℕ × ℕ)) → k < n → slice_get sets k ≡ Some s → slice_get (take n sets) k ≡ Some s

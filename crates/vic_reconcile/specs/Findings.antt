@@ -46,11 +46,13 @@ abbrev pub IsDoubtful : List ℕ → List (List LogLine) → ℕ → Type 0
 IsDoubtful expected logs u = (has expected u ≡ true) × IsOpenUid logs u
 
 -- the log with this number, from 0, is the first of which P holds
-pub record IsFirstLog (P : List LogLine → Type 0) (logs : List (List LogLine)) (n : ℕ) : Type 0 where
+pub record IsFirstLog (P : List LogLine → Type 0) (logs : List (List LogLine)) (n : ℕ)
+    : Type 0 where
   pub lines : List LogLine
   pub there : slice_get logs n ≡ Some lines
   pub holds : P lines
-  pub first : (k : ℕ) (others : List LogLine) → k < n → slice_get logs k ≡ Some others → P others → ⊥
+  pub first : (k : ℕ) (others : List LogLine) → k < n → slice_get logs k ≡ Some others
+      → P others → ⊥
 
 -- the first log in which a UID is certain, and a line of it that tells that the UID is there
 pub record IsFirstTold (logs : List (List LogLine)) (u : ℕ) (p : Place) : Type 0 where
@@ -66,9 +68,10 @@ IsToldOf logs s = IsFirstTold logs s.uid s.place
 abbrev pub IsFirstPossible : List (List LogLine) → DoubtfulUid → Type 0
 IsFirstPossible logs d = IsFirstLog (λ lines. one.IsPossibleUid (entries lines) d.uid) logs d.log
 
--- the first open masks of the UIDs that are possible in a log and certain in none, and whether there
--- are more
-pub record AreOpenMasksOf (logs : List (List LogLine)) (lines : List LogLine) (o : OpenMasks) : Type 0 where
+-- the first open masks of the UIDs that are possible in a log and certain in none, and whether
+-- there are more
+pub record AreOpenMasksOf (logs : List (List LogLine)) (lines : List LogLine) (o : OpenMasks)
+    : Type 0 where
   pub set : ℕ → Bool
   pub uids : (u : ℕ) → IsUid u → (set u ≡ true)
       ↔ one.IsPossibleUid (entries lines) u × (IsCertainUid logs u → ⊥)
@@ -77,12 +80,14 @@ pub record AreOpenMasksOf (logs : List (List LogLine)) (lines : List LogLine) (o
       ↔ ((m : BitMask) × IsOpenMask set m × (Contains o.masks.items m → ⊥))
 
 -- what is left to ask for, log by log
-pub record IsUnsettledWith (expected : List ℕ) (logs : List (List LogLine)) (x : Unsettled) : Type 0 where
+pub record IsUnsettledWith (expected : List ℕ) (logs : List (List LogLine)) (x : Unsettled)
+    : Type 0 where
   pub mask : IsFirstMask (IsUnsettled expected logs) x.mask
   pub open_masks : AllZip (AreOpenMasksOf logs) logs x.masks.items
 
 -- all that possible logs tell together against a list of different UIDs that are expected
-pub record AreFindings (expected : List ℕ) (logs : List (List LogLine)) (f : Findings) : Type 0 where
+pub record AreFindings (expected : List ℕ) (logs : List (List LogLine)) (f : Findings)
+    : Type 0 where
   pub absent : IsListOf (IsAbsent expected logs) f.absent.items
   pub unlisted : IsListOf (IsUnlisted expected logs) (map (λ s. s.uid) f.unlisted.items)
   pub unlisted_shown : All (IsToldOf logs) f.unlisted.items
@@ -91,8 +96,8 @@ pub record AreFindings (expected : List ℕ) (logs : List (List LogLine)) (f : F
   pub doubtful : IsListOf (IsDoubtful expected logs) (map (λ d. d.uid) f.doubtful.items)
   pub doubtful_first : All (IsFirstPossible logs) f.doubtful.items
 
--- everything that is expected is somewhere, and nothing else: some family could have produced the logs,
--- and in each that could exactly the expected UIDs are somewhere
+-- everything that is expected is somewhere, and nothing else: some family could have produced the
+-- logs, and in each that could have, exactly the expected UIDs are somewhere
 abbrev pub IsWhole : List ℕ → List (List LogLine) → Type 0
 IsWhole expected logs =
     ArePossible logs

@@ -41,7 +41,8 @@ pub record AreExpected (expected us : List ℕ) : Type 0 where
   pub are_uids : (u : ℕ) → has us u ≡ true → IsUid u
 
 -- what was joined is the list of what is expected and what possible logs tell
-pub record IsJoined (expected : List ℕ) (logs : List (List LogLine)) (r : Reconciliation) : Type 0 where
+pub record IsJoined (expected : List ℕ) (logs : List (List LogLine)) (r : Reconciliation)
+    : Type 0 where
   pub list : AreExpected expected r.expected.items
   pub count : r.count ≡ length expected
   pub possible : All (λ lines. IsPossible (entries lines)) logs
@@ -70,7 +71,8 @@ IsFirstLeft sets d =
 pub record AreOpenBesides (certain : List ℕ) (set : List (ℕ × ℕ)) (o : OpenMasks) : Type 0 where
   pub keys : List ℕ
   pub named : AreKeysOf keys certain
-  pub first : AreFirst MAX_OPEN_MASKS (IsOpenMask (without_keys (is_open_in set) keys)) o.masks.items
+  pub first : AreFirst MAX_OPEN_MASKS (IsOpenMask (without_keys (is_open_in set) keys))
+      o.masks.items
   pub more : (o.more ≡ true)
       ↔ ((m : BitMask) × IsOpenMask (without_keys (is_open_in set) keys) m
       × (Contains o.masks.items m → ⊥))

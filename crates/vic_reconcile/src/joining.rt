@@ -25,10 +25,7 @@ use vic_verdict::{
 impl Reconciliation {
     /// Begins with the list of what is expected: the UIDs that a log lists which has no other
     /// entries. Where it has one, the first line of such a one is given instead.
-    pub fn expecting(
-        alloc: Global,
-        list: &Log,
-    ) -> Result<Result<Reconciliation, u32>, AllocError>
+    pub fn expecting(alloc: Global, list: &Log) -> Result<Result<Reconciliation, u32>, AllocError>
         ensures begun { IfOk result (λ r. IfOk r
             (IsJoined (listed (entries list.now.lines)) [])) }
         ensures refused { IfOk result (λ r. IfErr r (IsFirstNotListed list.now.lines)) }
@@ -62,8 +59,8 @@ impl Reconciliation {
         self.left.len()
     }
 
-    /// Joins what a log tells. Where no population could have produced it, nothing is joined, and the
-    /// first line up to which none could is given.
+    /// Joins what a log says. If no population could have produced it, nothing is joined, and the
+    /// first line up to which none could have is returned.
     pub fn add(&mut self, log: &Log) -> Result<Option<u32>, AllocError>
         ensures joined { IfOk result (λ r. IfNone r ((expected : List ℕ)
             (logs : List (List LogLineValue)) → IsJoined expected logs self.old

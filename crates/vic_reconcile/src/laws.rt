@@ -10,8 +10,8 @@ ghost use Rattle.vic_reconcile.specs.declared.findings.Findings.{Findings};
 ghost use Rattle.vic_reconcile.specs.Families.{ArePossible, IsPossibleUid, IsCertainUid};
 ghost use Rattle.vic_reconcile.specs.Findings.{AreFindings, AreNone, IsWhole};
 
-/// Logs are possible where each of them is. Then a UID is possible where it is possible in some log,
-/// and certain where it is certain in some log.
+/// Logs are possible if each of them is. Then a UID is possible if it is possible in some log, and
+/// certain if it is certain in some log.
 pub fn possible_and_certain_in_some_log()
     ensures logs { (logs : List (List LogLine))
         → ArePossible logs ↔ All (λ lines. one.IsPossible (entries lines)) logs }

@@ -27,7 +27,7 @@ pub struct Reconciliation {
     /// What is expected, in rising order, and how many UIDs that are.
     pub(crate) expected: Vec<Uid>,
     pub(crate) count: u32,
-    /// The UIDs that are certain in some log, each with a line of the first such log that tells so.
+    /// The UIDs that are certain in some log, each with a line of the first such log.
     pub(crate) certain: BTreeMap<Uid, Place>,
     /// For each log the UIDs that are possible in it and not certain.
     pub(crate) left: Vec<RangeSet>,

@@ -27,7 +27,7 @@ UZ UY / M55 C QZ QY I1 S |
 UZ / M55 C QZ QY I1 S | unlisted 80000000000000 by 3 of 0
 UA UB / QA I1 RB / I1 RA | 
 UA UB / QA I1 RB / I1 S | doubtful A1 in 0
-UB / QA I1 RB / I1 S | unsettled 56 1128098930098337 open 1 in 0 open 0 in 1
+UB / QA I1 RB / I1 S | unsettled 56 1126999418470561 open 1 in 0 open 0 in 1
 UA / I1 S / QA I1 S | doubtful A1 in 1
 UB / I1 RA / I1 RA RB | impossible 4";
 
@@ -66,7 +66,7 @@ fn answer(alloc: Global, names: &str) -> Result<String, Fail> {
     let mut parts = names.split('/');
     let expected = parts.next().unwrap_or("");
     let Ok(mut logs) = Reconciliation::expecting(alloc, &log_of(alloc, expected)?)? else {
-        return Ok(String::from(alloc, "not listed")?);
+        return Ok(String::from_str(alloc, "not listed")?);
     };
     for part in parts {
         if let Some(line) = logs.add(&log_of(alloc, part)?)? {
@@ -84,15 +84,18 @@ fn logs_are_reconciled(rt: HostRuntime) -> Result<(), Fail> {
             return Ok(());
         };
         let answer = answer(rt.alloc(), names)?;
-        assert!(&rt; answer.trim_start() == findings.trim_start(), "{row}: {answer}");
+        assert!(&rt;
+            answer.trim_start() == findings.trim_start(),
+            "{row}: {answer}"
+        );
     }
     Ok(())
 }
 
 #[test]
 fn a_list_with_a_slot_line_is_refused(rt: HostRuntime) -> Result<(), Fail> {
-    let list = log_of(rt.alloc(), "UA I1 S")?;
+    let list = log_of(rt.alloc(), "I1 S UA")?;
     let begun = Reconciliation::expecting(rt.alloc(), &list)?;
-    assert!(&rt; begun.err() == Some(3));
+    assert!(&rt; begun.err() == Some(2));
     Ok(())
 }

@@ -10,7 +10,8 @@ use std::alloc::{AllocError, Global};
 use vic_frame::Uid;
 use vic_frame::low_bits_first::uid_at;
 
-/// The UIDs at some keys, which come in order, that aren't in a set, from the least to the greatest.
+/// The UIDs with some keys, which come in order, that aren't in a set, from the least to the
+/// greatest.
 pub fn uids_outside<S: OpenSet>(
     alloc: Global,
     set: &S,

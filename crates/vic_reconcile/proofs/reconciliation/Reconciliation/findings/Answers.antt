@@ -1,4 +1,4 @@
-use Rattle.std.proofs.Common.{◌≡◌, ℕ, true, sym, ap, subst, refl, ◌∙◌}
+use Rattle.std.proofs.Common.{◌≡◌, true, sym, ap, subst, refl, ◌∙◌}
 use Rattle.std.specs.Prelude.{IfSome, MatchOption, is_some}
 use Rattle.std.specs.List.{All}
 use Rattle.std.specs.BTreeMap.{get}
@@ -28,7 +28,7 @@ places_of-requires c =
     let e = c.in_ok-certain.ensures in
     let d = subst (λ us. AreDifferences (is_open_in c.in_ok-all.all) us c.deref-3.result.now c.in_ok-found.found) (c.deref-2.ensures.value) c.in_ok-found.ensures in
     all_from_has (λ u. is_some (get nat_cmp c.args.self.now.certain u) ≡ true) c.deref-8.result.now (λ u h.
-        e.members u ∙ (sym (has_member _ u) ∙ (sym (ap (λ ks. has ks u) e.keys) ∙ ((d.unlisted.members u).0 (subst (λ us. has us u ≡ true) c.deref-8.ensures.value h)).0)))
+    e.members u ∙ (sym (has_member _ u) ∙ (sym (ap (λ ks. has ks u) e.keys) ∙ ((d.unlisted.members u).0 (subst (λ us. has us u ≡ true) c.deref-8.ensures.value h)).0)))
 
 pub first_logs-requires : goal.first_logs-requires
 first_logs-requires c =

@@ -1,4 +1,4 @@
-use Rattle.std.proofs.Common.{◌≡◌, false, not, true}
+use Rattle.std.proofs.Common.{not}
 use Rattle.std.specs.Prelude.{take}
 use Rattle.std.specs.List.{AllPass}
 use Rattle.vic_tree.specs.Ranges.{is_open_in}

@@ -1,4 +1,4 @@
-use Rattle.std.proofs.Common.{sym, ap, subst, ◌∙◌, refl}
+use Rattle.std.proofs.Common.{subst, ◌∙◌, refl}
 use Rattle.vic_tree.specs.OpenSet.{SameUids, without_keys}
 use Rattle.vic_tree.specs.Ranges.{is_open_in}
 use Rattle.vic_log.specs.Order.{entries}

@@ -1,4 +1,4 @@
-use Rattle.std.proofs.Common.{◌≡◌, ◌<◌, [], ◌∷◌, ◌++◌, get_or, length, take, ap, sym, subst, ◌∙◌}
+use Rattle.std.proofs.Common.{◌<◌, [], ◌∷◌, ◌++◌, get_or, length, take, ap, sym, subst, ◌∙◌}
 use Rattle.std.proofs.lemmas.List.{take_more}
 use Rattle.std.specs.List.{AllZip}
 use Rattle.vic_verdict.specs.Keys.{AreKeysOf}
