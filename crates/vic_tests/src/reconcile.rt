@@ -29,7 +29,7 @@ UA UB / QA I1 RB / I1 RA |
 UA UB / QA I1 RB / I1 S | doubtful A1 in 0
 UB / QA I1 RB / I1 S | unsettled 56 1126999418470561 open 1 in 0 open 0 in 1
 UA / I1 S / QA I1 S | doubtful A1 in 1
-UB / I1 RA / I1 RA RB | impossible 4";
+UB / I1 RA / I1 S I1 RA | impossible 5";
 
 /// The low bits of a UID as hex digits.
 const LOW_BITS: u64 = 0x00FF_FFFF_FFFF_FFFF & !0x0004_0100_0000_0000;
