@@ -6,13 +6,19 @@ use Rattle.vic_tree.proofs.RangeLaws.{begins_ahead, in_dropped, lasts_rise, rang
 use Rattle.vic_tree.proofs.ranges.skip_to.Goals as goal
 use Rattle.vic_tree.proofs.ranges.skip_to.Goals.{then-loop-step-test+else-last-key, else-loop-step-test}
 
+pub returns-then-key-last-clause-same : goal.returns-then-key-last-clause-same
+returns-then-key-last-clause-same c k from =
+    let es = c.args.ranges.now in
+    ap (λ (xs : List (ℕ × ℕ)). in_ranges xs k) (take_dropped es c.loop-near.near)
+    ∙ in_dropped es c.loop-near.near c.args.key k c.loop-near.invariant from
+
 pub loop-step-preserved : goal.loop-step-preserved
 loop-step-preserved c =
     let es = c.loop-step.ahead.now in
     let n = c.loop-step.step in
     let inv = c.loop-step.invariant in
     let r = c.index-ahead-step.result in
-    let last : (get_or es n r).1 < c.args.key = omega (arith, ap (λ (r : ℕ × ℕ). r.1) c.index-ahead-step.is, c.last.ensures.value, c.if-last-key.true) in
+    let last : (get_or es n r).1 < c.args.key = omega (arith, ap (λ (r : ℕ × ℕ). r.1) c.index-ahead-step.is, c.last-in-loop-step.ensures.value, c.if-last-key.true) in
     let count = ap (λ (xs : List (ℕ × ℕ)). length xs) (take_dropped es n) ∙ length-drop n es in
     record {
       step = omega (arith, inv.step);
@@ -49,7 +55,7 @@ returns-clause-ahead c d some =
     let next : (d : ℕ × ℕ) → c.loop-step.step < length es → c.args.key ≤ (get_or es c.loop-step.step d).1 = λ d lt. elim c.loop-step-test.branch [
       | then-loop-step-test+else-last-key w ↦
           let r = w.index-ahead-step.result in
-          omega (arith, ap (λ (r : ℕ × ℕ). r.1) (get_or_default es c.loop-step.step d r lt), ap (λ (r : ℕ × ℕ). r.1) w.index-ahead-step.is, w.last.ensures.value, w.if-last-key.false)
+          omega (arith, ap (λ (r : ℕ × ℕ). r.1) (get_or_default es c.loop-step.step d r lt), ap (λ (r : ℕ × ℕ). r.1) w.index-ahead-step.is, w.last-in-loop-step.ensures.value, w.if-last-key.false)
       | else-loop-step-test w ↦ absurd (omega (arith, lt, w.loop-step-test.false))
     ] in
     let first = begins_ahead es n c.args.key (first_ahead es c.min.result n c.loop-step.step c.args.key c.min.ensures found.within found.ahead next) in

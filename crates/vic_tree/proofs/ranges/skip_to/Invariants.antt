@@ -1,6 +1,9 @@
-use Rattle.std.proofs.Common.{length, ◌≡◌, ℕ, ◌≤◌}
+use Rattle.std.proofs.Common.{length, get_or, ◌≡◌, ℕ, ◌≤◌, ◌<◌}
 use Rattle.vic_tree.specs.Ranges.{in_ranges, AreRanges}
 use Rattle.vic_tree.proofs.ranges.skip_to.Given as goal
+
+abbrev pub invariant-loop-near : goal.invariant-loop-near
+invariant-loop-near l = (i : ℕ) (d : ℕ × ℕ) → i < l.near → (get_or l.ranges i d).1 < l.key
 
 abbrev pub invariant-loop-step : goal.invariant-loop-step
 invariant-loop-step l = record {
