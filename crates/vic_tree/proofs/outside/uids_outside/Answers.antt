@@ -1,4 +1,4 @@
-use Rattle.std.proofs.Common.{◌≡◌, ◌∙◌, ◌<◌, ◌++◌, ◌∷◌, [], length, get_or, true, false, ap, sym, arith}
+use Rattle.std.proofs.Common.{◌≡◌, ◌∙◌, ◌<◌, ◌++◌, ◌∷◌, [], length, get_or, true, false, ap}
 use Rattle.std.proofs.lemmas.List.{get_or-map}
 use Rattle.vic_frame.specs.LowBitsFirst.{uid_of}
 use Rattle.vic_frame.proofs.KeyLaws.{is_uid}

@@ -1,6 +1,3 @@
-use Rattle.std.proofs.Common.{◌∙◌, ℕ, ◌+◌, ◌<◌, List, get_or, length, sym, ap, subst, arith}
-use Rattle.std.proofs.lemmas.List.{get_or-drop, length-drop}
-use Rattle.vic_tree.specs.Ranges.{AreRanges}
 use Rattle.vic_tree.proofs.RangeLaws.{begins_ahead, in_dropped, ranges_dropped, take_dropped}
 use Rattle.vic_tree.proofs.ranges.from_key.Goals as goal
 

@@ -1,7 +1,8 @@
-use Rattle.std.proofs.Common.{◌≡◌, ℕ, List, Option, refl, sym, subst}
+use Rattle.std.proofs.Common.{◌≡◌, ℕ, List, Option, Bool, sym, subst}
 use Rattle.std.specs.Prelude.{MatchOption, slice_get}
 use Rattle.vic_frame.specs.Masks.{BitMask}
 use Rattle.vic_frame.specs.Uids.{has}
+use Rattle.vic_log.specs.declared.entry.Entry.{Entry}
 use Rattle.vic_log.specs.Order.{entries}
 use Rattle.vic_verdict.specs.Keys.{AreKeysOf}
 use Rattle.vic_verdict.specs.Rising.{IsFailing, IsListOf}
@@ -10,9 +11,12 @@ use Rattle.vic_verdict.proofs.Differing.{IsJudged, absent_list, unlisted_list, u
 use Rattle.vic_verdict.proofs.Failing.{first_is_least}
 use Rattle.vic_verdict.proofs.judging.judge_told.Goals as goal
 
--- the least of a rising list, by other names of it
+-- the least of a rising list, by other names of the lists
 abbrev Least : (ℕ → Type 0) → Option ℕ → Type 0
 Least P r = MatchOption r (NoSuch P) (IsLeast P)
+
+abbrev First : List Entry → Option BitMask → Type 0
+First es m = MatchOption m (NoSuch (IsUnsettled es)) (IsFirstMask (IsUnsettled es))
 
 first_found : (P : ℕ → Type 0) (xs ys : List ℕ) (r : Option ℕ) → IsListOf P xs → ys ≡ xs → r ≡ slice_get ys 0 → Least P r
 first_found P xs ys r l e is = subst (Least P) (sym is) (first_is_least P ys (subst (IsListOf P) (sym e) l))
@@ -20,33 +24,29 @@ first_found P xs ys r l e is = subst (Least P) (sym is) (first_is_least P ys (su
 keyed_by : (ks ls us vs : List ℕ) → AreKeysOf ks us → us ≡ vs → ls ≡ ks → AreKeysOf ls vs
 keyed_by ks ls us vs k e f = subst (AreKeysOf ls) e (subst (λ xs. AreKeysOf xs us) (sym f) k)
 
-renamed : (us us' vs vs' ys : List ℕ) → IsListOf (IsFailing us (has vs)) ys → us ≡ us' → vs ≡ vs' → IsListOf (IsFailing us' (has vs')) ys
-renamed us us' vs vs' ys l e f = subst (λ ws. IsListOf (IsFailing ws (has vs')) ys) e (subst (λ ws. IsListOf (IsFailing us (has ws)) ys) f l)
+least_unlisted : (es : List Entry) (set : ℕ → Bool) (certain us vs xs ys : List ℕ) (r : Option ℕ) → IsJudged es set certain us → IsListOf (IsFailing certain (has vs)) xs → vs ≡ us → ys ≡ xs → r ≡ slice_get ys 0 → Least (IsUnlisted es) r
+least_unlisted es set certain us vs xs ys r j l e f is = first_found (IsUnlisted es) xs ys r (unlisted_list es set certain us xs j (subst (λ ws. IsListOf (IsFailing certain (has ws)) xs) e l)) f is
+
+least_doubtful : (es : List Entry) (set : ℕ → Bool) (certain us vs xs ys : List ℕ) (r : Option ℕ) → IsJudged es set certain us → IsListOf (IsFailing vs (has certain)) xs → vs ≡ us → ys ≡ xs → r ≡ slice_get ys 0 → Least (IsDoubtful es) r
+least_doubtful es set certain us vs xs ys r j l e f is = first_found (IsDoubtful es) xs ys r (doubtful_uids es set certain us xs j (subst (λ ws. IsListOf (IsFailing ws (has certain)) xs) e l)) f is
 
 pub returns-in-Some : goal.returns-in-Some
 returns-in-Some g c =
     let es = entries c.args.lines.now in
     let set = g.S.OpenSet.is_open c.args.set in
-    let certain = c.args.certain.now in
     let us = c.in_ok-listed.listed.items in
-    let keys = c.in_ok-keys.keys.items in
-    let j : IsJudged es set certain us = record { told = c.requires.told; own = record { members = c.in_ok-listed.ensures.members; are_uids = c.in_ok-listed.ensures.uids } } in
-    let gone = c.in_ok-absent.absent.items in
-    let absent = first_found (IsAbsent es) gone c.deref-3.result.now c.first_of.result (absent_list es set certain us gone j (c.in_ok-absent.ensures us (keyed_by keys c.deref-2.result.now c.deref.result.now us c.in_ok-keys.ensures c.deref.ensures.value c.deref-2.ensures.value))) c.deref-3.ensures.value c.first_of.ensures in
+    let j : IsJudged es set c.args.certain.now us = record { told = c.requires.told; own = record { members = c.in_ok-listed.ensures.members; are_uids = c.in_ok-listed.ensures.uids } } in
+    let absent = first_found (IsAbsent es) _ _ c.first_of.result (absent_list es set _ us _ j (c.in_ok-absent.ensures us (keyed_by _ _ _ us c.in_ok-keys.ensures c.deref.ensures.value c.deref-2.ensures.value))) c.deref-3.ensures.value c.first_of.ensures in
     (c.requires.told.possible, subst (Least (IsAbsent es)) c.in-Some.is absent)
 
 pub returns-in-Some-first_of : goal.returns-in-Some-first_of
 returns-in-Some-first_of g c =
     let es = entries c.args.lines.now in
     let set = g.S.OpenSet.is_open c.args.set in
-    let certain = c.args.certain.now in
     let us = c.in_ok-listed.listed.items in
-    let keys = c.in_ok-keys.keys.items in
-    let j : IsJudged es set certain us = record { told = c.requires.told; own = record { members = c.in_ok-listed.ensures.members; are_uids = c.in_ok-listed.ensures.uids } } in
-    let gone = c.in_ok-absent.absent.items in
-    let absent = first_found (IsAbsent es) gone c.deref-3.result.now c.first_of.result (absent_list es set certain us gone j (c.in_ok-absent.ensures us (keyed_by keys c.deref-2.result.now c.deref.result.now us c.in_ok-keys.ensures c.deref.ensures.value c.deref-2.ensures.value))) c.deref-3.ensures.value c.first_of.ensures in
-    let new = c.in_ok-unlisted.unlisted.items in
-    let unlisted = first_found (IsUnlisted es) new c.deref-5.result.now c.first_of-2.result (unlisted_list es set certain us new j (renamed certain certain c.deref-4.result.now us new c.in_ok-unlisted.ensures refl c.deref-4.ensures.value)) c.deref-5.ensures.value c.first_of-2.ensures in
+    let j : IsJudged es set c.args.certain.now us = record { told = c.requires.told; own = record { members = c.in_ok-listed.ensures.members; are_uids = c.in_ok-listed.ensures.uids } } in
+    let absent = first_found (IsAbsent es) _ _ c.first_of.result (absent_list es set _ us _ j (c.in_ok-absent.ensures us (keyed_by _ _ _ us c.in_ok-keys.ensures c.deref.ensures.value c.deref-2.ensures.value))) c.deref-3.ensures.value c.first_of.ensures in
+    let unlisted = least_unlisted es set _ us _ _ _ c.first_of-2.result j c.in_ok-unlisted.ensures c.deref-4.ensures.value c.deref-5.ensures.value c.first_of-2.ensures in
     let none_absent : NoSuch (IsAbsent es) = subst (Least (IsAbsent es)) c.in_default.is absent in
     (c.requires.told.possible, none_absent, subst (Least (IsUnlisted es)) c.in-Some-first_of.is unlisted)
 
@@ -54,55 +54,41 @@ pub returns-in-Some-2 : goal.returns-in-Some-2
 returns-in-Some-2 g c =
     let es = entries c.args.lines.now in
     let set = g.S.OpenSet.is_open c.args.set in
-    let certain = c.args.certain.now in
     let us = c.in_ok-listed.listed.items in
-    let keys = c.in_ok-keys.keys.items in
-    let j : IsJudged es set certain us = record { told = c.requires.told; own = record { members = c.in_ok-listed.ensures.members; are_uids = c.in_ok-listed.ensures.uids } } in
-    let gone = c.in_ok-absent.absent.items in
-    let absent = first_found (IsAbsent es) gone c.deref-3.result.now c.first_of.result (absent_list es set certain us gone j (c.in_ok-absent.ensures us (keyed_by keys c.deref-2.result.now c.deref.result.now us c.in_ok-keys.ensures c.deref.ensures.value c.deref-2.ensures.value))) c.deref-3.ensures.value c.first_of.ensures in
-    let new = c.in_ok-unlisted.unlisted.items in
-    let unlisted = first_found (IsUnlisted es) new c.deref-5.result.now c.first_of-2.result (unlisted_list es set certain us new j (renamed certain certain c.deref-4.result.now us new c.in_ok-unlisted.ensures refl c.deref-4.ensures.value)) c.deref-5.ensures.value c.first_of-2.ensures in
+    let j : IsJudged es set c.args.certain.now us = record { told = c.requires.told; own = record { members = c.in_ok-listed.ensures.members; are_uids = c.in_ok-listed.ensures.uids } } in
+    let absent = first_found (IsAbsent es) _ _ c.first_of.result (absent_list es set _ us _ j (c.in_ok-absent.ensures us (keyed_by _ _ _ us c.in_ok-keys.ensures c.deref.ensures.value c.deref-2.ensures.value))) c.deref-3.ensures.value c.first_of.ensures in
+    let unlisted = least_unlisted es set _ us _ _ _ c.first_of-2.result j c.in_ok-unlisted.ensures c.deref-4.ensures.value c.deref-5.ensures.value c.first_of-2.ensures in
     let none_absent : NoSuch (IsAbsent es) = subst (Least (IsAbsent es)) c.in_default.is absent in
     let none_unlisted : NoSuch (IsUnlisted es) = subst (Least (IsUnlisted es)) c.in_default-first_of.is unlisted in
-    let mask = unsettled_mask es set certain us c.deref-6.result.now c.in_ok-mask.field-0 j none_unlisted (keyed_by keys c.deref-6.result.now c.deref.result.now us c.in_ok-keys.ensures c.deref.ensures.value c.deref-6.ensures.value) c.in_ok-mask.ensures.found c.in_ok-mask.ensures.empty in
-    (c.requires.told.possible, none_absent, none_unlisted, subst (λ o. MatchOption o (NoSuch (IsUnsettled es)) (IsFirstMask (IsUnsettled es))) c.in-Some-2.is mask)
+    let mask = unsettled_mask es set _ us _ c.in_ok-mask.field-0 j none_unlisted (keyed_by _ c.deref-6.result.now _ us c.in_ok-keys.ensures c.deref.ensures.value c.deref-6.ensures.value) c.in_ok-mask.ensures.found c.in_ok-mask.ensures.empty in
+    (c.requires.told.possible, none_absent, none_unlisted, subst (First es) c.in-Some-2.is mask)
 
 pub returns-in-Some-first_of-2 : goal.returns-in-Some-first_of-2
 returns-in-Some-first_of-2 g c =
     let es = entries c.args.lines.now in
     let set = g.S.OpenSet.is_open c.args.set in
-    let certain = c.args.certain.now in
     let us = c.in_ok-listed.listed.items in
-    let keys = c.in_ok-keys.keys.items in
-    let j : IsJudged es set certain us = record { told = c.requires.told; own = record { members = c.in_ok-listed.ensures.members; are_uids = c.in_ok-listed.ensures.uids } } in
-    let gone = c.in_ok-absent.absent.items in
-    let absent = first_found (IsAbsent es) gone c.deref-3.result.now c.first_of.result (absent_list es set certain us gone j (c.in_ok-absent.ensures us (keyed_by keys c.deref-2.result.now c.deref.result.now us c.in_ok-keys.ensures c.deref.ensures.value c.deref-2.ensures.value))) c.deref-3.ensures.value c.first_of.ensures in
-    let new = c.in_ok-unlisted.unlisted.items in
-    let unlisted = first_found (IsUnlisted es) new c.deref-5.result.now c.first_of-2.result (unlisted_list es set certain us new j (renamed certain certain c.deref-4.result.now us new c.in_ok-unlisted.ensures refl c.deref-4.ensures.value)) c.deref-5.ensures.value c.first_of-2.ensures in
+    let j : IsJudged es set c.args.certain.now us = record { told = c.requires.told; own = record { members = c.in_ok-listed.ensures.members; are_uids = c.in_ok-listed.ensures.uids } } in
+    let absent = first_found (IsAbsent es) _ _ c.first_of.result (absent_list es set _ us _ j (c.in_ok-absent.ensures us (keyed_by _ _ _ us c.in_ok-keys.ensures c.deref.ensures.value c.deref-2.ensures.value))) c.deref-3.ensures.value c.first_of.ensures in
+    let unlisted = least_unlisted es set _ us _ _ _ c.first_of-2.result j c.in_ok-unlisted.ensures c.deref-4.ensures.value c.deref-5.ensures.value c.first_of-2.ensures in
     let none_absent : NoSuch (IsAbsent es) = subst (Least (IsAbsent es)) c.in_default.is absent in
     let none_unlisted : NoSuch (IsUnlisted es) = subst (Least (IsUnlisted es)) c.in_default-first_of.is unlisted in
-    let mask = unsettled_mask es set certain us c.deref-6.result.now c.in_ok-mask.field-0 j none_unlisted (keyed_by keys c.deref-6.result.now c.deref.result.now us c.in_ok-keys.ensures c.deref.ensures.value c.deref-6.ensures.value) c.in_ok-mask.ensures.found c.in_ok-mask.ensures.empty in
-    let none_unsettled : NoSuch (IsUnsettled es) = subst (λ o. MatchOption o (NoSuch (IsUnsettled es)) (IsFirstMask (IsUnsettled es))) c.in_default-2.is mask in
-    let some = c.in_ok-doubtful.doubtful.items in
-    let doubtful = first_found (IsDoubtful es) some c.deref-8.result.now c.first_of-3.result (doubtful_uids es set certain us some j (renamed c.deref-7.result.now us certain certain some c.in_ok-doubtful.ensures c.deref-7.ensures.value refl)) c.deref-8.ensures.value c.first_of-3.ensures in
+    let mask = unsettled_mask es set _ us _ c.in_ok-mask.field-0 j none_unlisted (keyed_by _ c.deref-6.result.now _ us c.in_ok-keys.ensures c.deref.ensures.value c.deref-6.ensures.value) c.in_ok-mask.ensures.found c.in_ok-mask.ensures.empty in
+    let none_unsettled : NoSuch (IsUnsettled es) = subst (First es) c.in_default-2.is mask in
+    let doubtful = least_doubtful es set _ us _ _ _ c.first_of-3.result j c.in_ok-doubtful.ensures c.deref-7.ensures.value c.deref-8.ensures.value c.first_of-3.ensures in
     (c.requires.told.possible, none_absent, none_unlisted, none_unsettled, subst (Least (IsDoubtful es)) c.in-Some-first_of-2.is doubtful)
 
 pub returns : goal.returns
 returns g c =
     let es = entries c.args.lines.now in
     let set = g.S.OpenSet.is_open c.args.set in
-    let certain = c.args.certain.now in
     let us = c.in_ok-listed.listed.items in
-    let keys = c.in_ok-keys.keys.items in
-    let j : IsJudged es set certain us = record { told = c.requires.told; own = record { members = c.in_ok-listed.ensures.members; are_uids = c.in_ok-listed.ensures.uids } } in
-    let gone = c.in_ok-absent.absent.items in
-    let absent = first_found (IsAbsent es) gone c.deref-3.result.now c.first_of.result (absent_list es set certain us gone j (c.in_ok-absent.ensures us (keyed_by keys c.deref-2.result.now c.deref.result.now us c.in_ok-keys.ensures c.deref.ensures.value c.deref-2.ensures.value))) c.deref-3.ensures.value c.first_of.ensures in
-    let new = c.in_ok-unlisted.unlisted.items in
-    let unlisted = first_found (IsUnlisted es) new c.deref-5.result.now c.first_of-2.result (unlisted_list es set certain us new j (renamed certain certain c.deref-4.result.now us new c.in_ok-unlisted.ensures refl c.deref-4.ensures.value)) c.deref-5.ensures.value c.first_of-2.ensures in
+    let j : IsJudged es set c.args.certain.now us = record { told = c.requires.told; own = record { members = c.in_ok-listed.ensures.members; are_uids = c.in_ok-listed.ensures.uids } } in
+    let absent = first_found (IsAbsent es) _ _ c.first_of.result (absent_list es set _ us _ j (c.in_ok-absent.ensures us (keyed_by _ _ _ us c.in_ok-keys.ensures c.deref.ensures.value c.deref-2.ensures.value))) c.deref-3.ensures.value c.first_of.ensures in
+    let unlisted = least_unlisted es set _ us _ _ _ c.first_of-2.result j c.in_ok-unlisted.ensures c.deref-4.ensures.value c.deref-5.ensures.value c.first_of-2.ensures in
     let none_absent : NoSuch (IsAbsent es) = subst (Least (IsAbsent es)) c.in_default.is absent in
     let none_unlisted : NoSuch (IsUnlisted es) = subst (Least (IsUnlisted es)) c.in_default-first_of.is unlisted in
-    let mask = unsettled_mask es set certain us c.deref-6.result.now c.in_ok-mask.field-0 j none_unlisted (keyed_by keys c.deref-6.result.now c.deref.result.now us c.in_ok-keys.ensures c.deref.ensures.value c.deref-6.ensures.value) c.in_ok-mask.ensures.found c.in_ok-mask.ensures.empty in
-    let none_unsettled : NoSuch (IsUnsettled es) = subst (λ o. MatchOption o (NoSuch (IsUnsettled es)) (IsFirstMask (IsUnsettled es))) c.in_default-2.is mask in
-    let some = c.in_ok-doubtful.doubtful.items in
-    let doubtful = first_found (IsDoubtful es) some c.deref-8.result.now c.first_of-3.result (doubtful_uids es set certain us some j (renamed c.deref-7.result.now us certain certain some c.in_ok-doubtful.ensures c.deref-7.ensures.value refl)) c.deref-8.ensures.value c.first_of-3.ensures in
+    let mask = unsettled_mask es set _ us _ c.in_ok-mask.field-0 j none_unlisted (keyed_by _ c.deref-6.result.now _ us c.in_ok-keys.ensures c.deref.ensures.value c.deref-6.ensures.value) c.in_ok-mask.ensures.found c.in_ok-mask.ensures.empty in
+    let none_unsettled : NoSuch (IsUnsettled es) = subst (First es) c.in_default-2.is mask in
+    let doubtful = least_doubtful es set _ us _ _ _ c.first_of-3.result j c.in_ok-doubtful.ensures c.deref-7.ensures.value c.deref-8.ensures.value c.first_of-3.ensures in
     (c.requires.told.possible, none_absent, none_unlisted, none_unsettled, subst (Least (IsDoubtful es)) c.in_default-first_of-2.is doubtful, c.count_listed-count.ensures)
