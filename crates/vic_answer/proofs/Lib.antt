@@ -7,3 +7,5 @@ mod Numbered
 mod SpelledWords
 mod SpellLaws
 mod SpellOnly
+pub mod Added
+pub mod Reconciles

@@ -11,7 +11,7 @@ use Rattle.vic_answer.specs.Readings.{GivesReading, Stands}
 use Rattle.vic_answer.specs.Runs.{IsEnough, RunsWhere}
 
 -- bytes whose reading stands can be answered
-enough : (IsOver : Type 0) (text : List ℕ) (reading : Reading) → Stands IsOver text reading → IsEnough IsOver text
+pub enough : (IsOver : Type 0) (text : List ℕ) (reading : Reading) → Stands IsOver text reading → IsEnough IsOver text
 enough IsOver text (Given log) h = inl h
 enough IsOver text (RefusedAt n fault) (inl early) = inr record { line = n; fault = fault; early = early }
 enough IsOver text (RefusedAt n fault) (inr over) = inl over

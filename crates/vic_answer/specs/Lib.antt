@@ -15,3 +15,5 @@ pub mod FaultNumbers
 pub mod Numbers
 pub mod ExplainedNumbers
 pub mod FindingNumbers
+pub mod ReconcileText
+pub mod Reconciled

@@ -3,6 +3,7 @@
 #![tactic(auto)]
 
 mod check;
+mod ending;
 mod explain;
 mod fault_numbers;
 mod finding_numbers;
@@ -14,6 +15,8 @@ mod numbers;
 mod output;
 mod pieces;
 mod population;
+mod reconcile;
+mod reconcile_lines;
 mod report;
 mod report_lines;
 mod simulate;
@@ -22,6 +25,7 @@ mod status;
 mod text;
 
 pub use check::{Answer, answer_line, answer_status, judge_text, run_check};
+pub use ending::Ending;
 pub use explain::{Explained, answer_of, explain_text, run_explain};
 pub use fault_numbers::{fault_number, frame_fault_number};
 pub use finding_numbers::{FindingKind, VicinityFinding, findings_of, put_findings};
@@ -29,6 +33,9 @@ pub use frame::run_frame;
 pub use lines::LINE_ROOM;
 pub use numbers::{Kind, NO_ANSWER, VicinityAnswer, numbers_of};
 pub use population::put_population;
+pub use reconcile::{
+    Reconciled, Reconciling, read_expected, read_next, reconciled_answer, write_reconciled,
+};
 pub use report::{Reported, report_text, reported_answer, run_report};
 pub use simulate::{Simulation, run_simulate, simulate_text};
 pub use spell::{SpellFault, run_spell};

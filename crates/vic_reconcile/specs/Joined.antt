@@ -51,8 +51,10 @@ pub record IsJoined (expected : List ℕ) (logs : List (List LogLine)) (r : Reco
   pub left : AllZip IsLeftBy logs r.left.items
 
 -- what slots of log number `log` tell was noted, where a UID had no place yet
-pub record AreNoted (old new : map.BTreeMap ℕ Place) (log : ℕ) (told : List ShownUid) : Type 0 where
-  pub kept : (u : ℕ) (p : Place) → map.get nat_cmp old u ≡ Some p → map.get nat_cmp new u ≡ Some p
+pub record AreNoted (old new : map.BTreeMap ℕ Place) (log : ℕ) (told : List ShownUid)
+    : Type 0 where
+  pub kept : (u : ℕ) (p : Place) → map.get nat_cmp old u ≡ Some p
+      → map.get nat_cmp new u ≡ Some p
   pub others : (u : ℕ) → map.get nat_cmp old u ≡ None
       → MatchOption (map.get nat_cmp new u) (has (uids_of told) u ≡ false)
       (λ p. (p.log ≡ log) × Contains told (record { uid = u; line = p.line }))
@@ -65,10 +67,12 @@ is_left sets u = list_any (λ set. is_open_in set u) sets
 abbrev pub IsFirstLeft : List (List (ℕ × ℕ)) → DoubtfulUid → Type 0
 IsFirstLeft sets d =
     AllPass (λ set. not (is_open_in set d.uid)) (take d.log sets)
-    × ((set : List (ℕ × ℕ)) × (slice_get sets d.log ≡ Some set) × (is_open_in set d.uid ≡ true))
+    × ((set : List (ℕ × ℕ)) × (slice_get sets d.log ≡ Some set)
+    × (is_open_in set d.uid ≡ true))
 
 -- the first open masks of a set without a list of UIDs, and whether there are more
-pub record AreOpenBesides (certain : List ℕ) (set : List (ℕ × ℕ)) (o : OpenMasks) : Type 0 where
+pub record AreOpenBesides (certain : List ℕ) (set : List (ℕ × ℕ)) (o : OpenMasks)
+    : Type 0 where
   pub keys : List ℕ
   pub named : AreKeysOf keys certain
   pub first : AreFirst MAX_OPEN_MASKS (IsOpenMask (without_keys (is_open_in set) keys))
@@ -78,7 +82,7 @@ pub record AreOpenBesides (certain : List ℕ) (set : List (ℕ × ℕ)) (o : Op
       × (Contains o.masks.items m → ⊥))
 
 -- the mask that is unsettled, with the open masks of each log
-pub record IsLeftToAsk (certain : List ℕ) (sets : List (List (ℕ × ℕ))) (m : BitMask) (x : Unsettled)
-    : Type 0 where
+pub record IsLeftToAsk (certain : List ℕ) (sets : List (List (ℕ × ℕ)))
+    (m : BitMask) (x : Unsettled) : Type 0 where
   pub mask : x.mask ≡ m
   pub masks : AllZip (AreOpenBesides certain) sets x.masks.items

@@ -44,7 +44,8 @@ pub fn one_log_more()
 /// Where possible logs have no findings, everything that is expected is somewhere and nothing else.
 pub fn no_findings_are_whole()
     ensures sound { (expected : List ℕ) (logs : List (List LogLine)) (f : Findings)
-        → ArePossible logs → AreFindings expected logs f → AreNone f → IsWhole expected logs }
+        → ArePossible logs → AreFindings expected logs f → AreNone f
+        → IsWhole expected logs }
     ensures exact { (expected : List ℕ) (logs : List (List LogLine)) (f : Findings)
         → AreFindings expected logs f → IsWhole expected logs → AreNone f }
 {}

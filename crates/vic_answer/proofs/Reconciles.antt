@@ -1,0 +1,132 @@
+-- What a list and logs say together, text by text.
+use Rattle.std.proofs.Common.{◌≡◌, ℕ, zero, suc, List, [], ◌∷◌, ◌++◌, take, length, get_or, map, Some, None, Option, codes, refl, sym, ap, subst, ◌∙◌, arith}
+use Rattle.std.specs.Prelude.{decimal, slice_get}
+use Rattle.std.specs.List.{All, AllZip, flat_map}
+use Rattle.std.proofs.lemmas.List.{append_cancel_left, length-map, map-append}
+use Rattle.std.proofs.lemmas.List.Elements.{All-cons, All-head, All-nil, All-tail}
+use Rattle.vic_log.specs.Lines.{lines_of_text}
+use Rattle.vic_log.specs.Log.{LogValue}
+use Rattle.vic_log.specs.Order.{entries, listed}
+use Rattle.vic_log.specs.Text.{IsFirstFault}
+use Rattle.vic_log.specs.declared.fault.LineFault.{LineFault}
+use Rattle.vic_verdict.specs.Verdict.{IsVerdict}
+use Rattle.vic_verdict.specs.declared.judging.Verdict.TheVariants.{Impossible}
+use Rattle.vic_reconcile.specs.Findings.{AreFindings, AreNone}
+use Rattle.vic_reconcile.specs.Joined.{IsJoined}
+use Rattle.vic_reconcile.specs.declared.findings.DoubtfulUid.{DoubtfulUid}
+use Rattle.vic_reconcile.specs.declared.findings.Findings.{Findings}
+use Rattle.vic_reconcile.specs.declared.findings.UnlistedUid.{UnlistedUid}
+use Rattle.vic_reconcile.specs.declared.findings.Unsettled.{Unsettled}
+use Rattle.vic_reconcile.specs.declared.reconciliation.Reconciliation.{Reconciliation}
+use Rattle.vic_reconcile.proofs.Families.{IsPossibleLog, family_of}
+use Rattle.vic_reconcile.proofs.Joins.{get_end, zip_long, zip_push}
+use Rattle.vic_reconcile.proofs.Reconciling.{none_is_whole}
+use Rattle.vic_answer.specs.declared.ending.Ending.{Ending}
+use Rattle.vic_answer.specs.declared.ending.Ending.TheVariants.{ListRefusedAt, NotListedAt, RefusedAt, ImpossibleAt}
+use Rattle.vic_answer.specs.declared.reconcile.Reconciled.{Reconciled}
+use Rattle.vic_answer.specs.declared.reconcile.Reconciled.TheVariants.{Complete, Found, Ended}
+use Rattle.vic_answer.specs.Reconciled.{AreComplete, EndsAt, HasLog, HasPossibleLog, IsKept, IsReconciled, lines_of}
+use Rattle.vic_answer.specs.ReconcileText.{absent_line, doubtful_text, ending_text, findings_text, reconciled_text, unlisted_text, unsettled_text}
+
+-- one log more is kept
+pub kept_more : (list text : List ℕ) (texts : List (List ℕ)) (log : LogValue) (old new : Reconciliation) (k : IsKept list texts old) → HasLog text log
+    → IsJoined (listed (entries k.expected.lines)) (map lines_of k.logs ++ log.lines ∷ []) new → IsKept list (texts ++ text ∷ []) new
+kept_more list text texts log old new k has_log joined = record {
+  expected = k.expected;
+  is_list = k.is_list;
+  logs = k.logs ++ log ∷ [];
+  are_logs = zip_push HasLog texts k.logs text log k.are_logs has_log;
+  joined = subst (λ ls. IsJoined (listed (entries k.expected.lines)) ls new) (sym (map-append lines_of k.logs (log ∷ []))) joined;
+}
+
+possible_texts : (texts : List (List ℕ)) (logs : List LogValue) → AllZip HasLog texts logs → All IsPossibleLog (map lines_of logs) → All HasPossibleLog texts
+possible_texts [] logs z all = All-nil HasPossibleLog
+possible_texts (t ∷ texts) [] z all = absurd z
+possible_texts (t ∷ texts) (l ∷ logs) z all =
+    All-cons HasPossibleLog t texts (l, z.0, All-head IsPossibleLog l.lines (map lines_of logs) all)
+    (possible_texts texts logs z.1 (All-tail IsPossibleLog l.lines (map lines_of logs) all))
+
+take_front : {X : Type 0} (xs ys : List X) (n : ℕ) → n ≡ length xs → take n (xs ++ ys) ≡ xs
+take_front [] ys zero e = refl
+take_front [] ys (suc n) e = cc
+take_front (x ∷ xs) ys zero e = cc
+take_front (x ∷ xs) ys (suc n) e = ap (λ zs. x ∷ zs) (take_front xs ys n (omega (arith, e)))
+
+-- the logs before one are those that are kept
+kept_before : (list text : List ℕ) (texts : List (List ℕ)) (r : Reconciliation) (n : ℕ) → IsKept list texts r → n ≡ length texts → All HasPossibleLog (take n (texts ++ text ∷ []))
+kept_before list text texts r n k e = subst (All HasPossibleLog) (sym (take_front texts (text ∷ []) n e)) (possible_texts texts k.logs k.are_logs k.joined.possible)
+
+-- as many logs are kept as texts were read
+pub kept_long : (list : List ℕ) (texts : List (List ℕ)) (r : Reconciliation) (n : ℕ) (k : IsKept list texts r) → n ≡ length (map lines_of k.logs) → n ≡ length texts
+kept_long list texts r n k e = e ∙ (length-map k.logs lines_of ∙ sym (zip_long HasLog texts k.logs k.are_logs))
+
+last_there : (texts : List (List ℕ)) (text : List ℕ) (n : ℕ) → n ≡ length texts → slice_get (texts ++ text ∷ []) n ≡ Some text
+last_there texts text n e = subst (λ m. slice_get (texts ++ text ∷ []) m ≡ Some text) (sym e) (get_end texts text)
+
+pub ends_refused : (list text : List ℕ) (texts : List (List ℕ)) (r : Reconciliation) (n line : ℕ) (fault : LineFault) → IsKept list texts r → n ≡ length texts → IsFirstFault (lines_of_text text) line fault → EndsAt list (texts ++ text ∷ []) (RefusedAt n line fault)
+ends_refused list text texts r n line fault k e h = (kept_before list text texts r n k e, (text, last_there texts text n e, h))
+
+pub ends_impossible : (list text : List ℕ) (texts : List (List ℕ)) (r : Reconciliation) (n line : ℕ) (log : LogValue) → IsKept list texts r → n ≡ length texts → HasLog text log → IsVerdict log.lines (Impossible line) → EndsAt list (texts ++ text ∷ []) (ImpossibleAt n line)
+ends_impossible list text texts r n line log k e is h = (kept_before list text texts r n k e, (text, log, last_there texts text n e, is, h))
+
+-- ---- the answer
+
+pub reconciled_complete : (list : List ℕ) (texts : List (List ℕ)) (r : Reconciliation) (f : Findings) (count : ℕ) (k : IsKept list texts r)
+    → AreFindings (listed (entries k.expected.lines)) (map lines_of k.logs) f → AreNone f → count ≡ length (listed (entries k.expected.lines)) → IsReconciled list texts (Complete count)
+reconciled_complete list texts r f count k found none counted = record {
+  expected = k.expected;
+  is_list = k.is_list;
+  logs = k.logs;
+  are_logs = k.are_logs;
+  holds = (none_is_whole (listed (entries k.expected.lines)) (map lines_of k.logs) f (family_of (map lines_of k.logs) k.joined.possible) found none, counted);
+}
+
+pub reconciled_found : (list : List ℕ) (texts : List (List ℕ)) (r : Reconciliation) (f : Findings) (k : IsKept list texts r)
+    → AreFindings (listed (entries k.expected.lines)) (map lines_of k.logs) f → (AreNone f → ⊥) → IsReconciled list texts (Found f)
+reconciled_found list texts r f k found some = record {
+  expected = k.expected;
+  is_list = k.is_list;
+  logs = k.logs;
+  are_logs = k.are_logs;
+  holds = (found, some);
+}
+
+-- ---- what was written
+
+-- lists that are the same begin with the same number
+first : {xs ys : List ℕ} → xs ≡ ys → get_or xs 0 0 ≡ get_or ys 0 0
+first h = ap (λ zs. get_or zs 0 0) h
+
+-- findings don't begin as a complete answer does
+found_begins : (names : List (List ℕ)) (absent : List ℕ) (unlisted : List UnlistedUid) (x : Option Unsettled) (doubtful : List DoubtfulUid) (rest : List ℕ) → (absent ≡ [] → unlisted ≡ [] → x ≡ None → doubtful ≡ [] → ⊥)
+    → flat_map absent_line absent ++ flat_map (unlisted_text names) unlisted ++ unsettled_text names x ++ flat_map (doubtful_text names) doubtful ≡ codes "complete " ++ rest → ⊥
+found_begins names (u ∷ absent) unlisted x doubtful rest some h = let e : 97 ≡ 99 = first h in omega (arith, e)
+found_begins names [] (s ∷ unlisted) x doubtful rest some h = let e : 117 ≡ 99 = first h in omega (arith, e)
+found_begins names [] [] (Some x) doubtful rest some h = let e : 117 ≡ 99 = first h in omega (arith, e)
+found_begins names [] [] None (d ∷ doubtful) rest some h = let e : 100 ≡ 99 = first h in omega (arith, e)
+found_begins names [] [] None [] rest some h = some refl refl refl refl
+
+ending_begins : (file : List ℕ) (names : List (List ℕ)) (e : Ending) (rest : List ℕ) → ending_text file names e ≡ codes "complete " ++ rest → ⊥
+ending_begins file names (ListRefusedAt n fault) rest h = let e : 114 ≡ 99 = first h in omega (arith, e)
+ending_begins file names (NotListedAt n) rest h = let e : 114 ≡ 99 = first h in omega (arith, e)
+ending_begins file names (RefusedAt k n fault) rest h = let e : 114 ≡ 99 = first h in omega (arith, e)
+ending_begins file names (ImpossibleAt k n) rest h = let e : 105 ≡ 99 = first h in omega (arith, e)
+
+pub complete_written : (file : List ℕ) (names : List (List ℕ)) (r : Reconciled) (list : List ℕ) (texts : List (List ℕ)) (old new rest : List ℕ) → IsReconciled list texts r
+    → new ≡ old ++ reconciled_text file names r → new ≡ old ++ (codes "complete " ++ rest) → AreComplete list texts rest
+complete_written file names (Complete count) list texts old new rest right wrote now =
+    let same = append_cancel_left old (codes "complete " ++ rest) (reconciled_text file names (Complete count)) (sym now ∙ wrote) in
+    let told : rest ≡ decimal count ++ codes "\n" = cc same in
+    record {
+      expected = right.expected;
+      is_list = right.is_list;
+      logs = right.logs;
+      are_logs = right.are_logs;
+      holds = (right.holds.0, told ∙ ap (λ n. decimal n ++ codes "\n") right.holds.1);
+    }
+complete_written file names (Found f) list texts old new rest right wrote now =
+    let same = append_cancel_left old (codes "complete " ++ rest) (findings_text names f) (sym now ∙ wrote) in
+    absurd (found_begins names f.absent.items f.unlisted.items f.unsettled f.doubtful.items rest (λ a u x d. right.holds.1 (record { absent = a; unlisted = u; unsettled = x; doubtful = d })) (sym same))
+complete_written file names (Ended e) list texts old new rest right wrote now =
+    let same = append_cancel_left old (codes "complete " ++ rest) (ending_text file names e) (sym now ∙ wrote) in
+    absurd (ending_begins file names e rest (sym same))

@@ -1,0 +1,7 @@
+use Rattle.std.proofs.Common.{◌≡◌, ◌++◌, map}
+use Rattle.std.specs.Prelude.{string_bytes, take}
+use Rattle.vic_answer.specs.ReconcileText.{all_masks_text}
+use Rattle.vic_answer.proofs.reconcile_lines.add_all_masks.Given as goal
+
+abbrev pub invariant-loop-log : goal.invariant-loop-log
+invariant-loop-log l = l.text.items ≡ l.fn.text.items ++ all_masks_text (map string_bytes l.names) 0 (take l.log l.masks)

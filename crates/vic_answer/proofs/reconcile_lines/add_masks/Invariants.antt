@@ -1,0 +1,8 @@
+use Rattle.std.proofs.Common.{◌≡◌, ◌++◌, map}
+use Rattle.std.specs.Prelude.{string_bytes, take}
+use Rattle.std.specs.List.{flat_map}
+use Rattle.vic_answer.specs.ReconcileText.{open_text}
+use Rattle.vic_answer.proofs.reconcile_lines.add_masks.Given as goal
+
+abbrev pub invariant-loop-mask : goal.invariant-loop-mask
+invariant-loop-mask l = l.text.items ≡ l.fn.text.items ++ flat_map (open_text (map string_bytes l.names) l.log) (take l.mask-index l.open.masks.items)

@@ -1,0 +1,8 @@
+use Rattle.std.proofs.Common.{◌≡◌, ◌++◌, map}
+use Rattle.std.specs.Prelude.{string_bytes, take}
+use Rattle.std.specs.List.{flat_map}
+use Rattle.vic_answer.specs.ReconcileText.{unlisted_text}
+use Rattle.vic_answer.proofs.reconcile_lines.add_unlisted.Given as goal
+
+abbrev pub invariant-loop-one : goal.invariant-loop-one
+invariant-loop-one l = l.text.items ≡ l.fn.text.items ++ flat_map (unlisted_text (map string_bytes l.names)) (take l.one-index l.unlisted)

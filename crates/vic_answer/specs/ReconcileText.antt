@@ -1,0 +1,119 @@
+-- What `reconcile` answers to a list of what is expected and to logs: every finding with the names
+-- of the files, or where a text is refused or impossible.
+use Rattle.std.specs.Prelude.{ℕ, ◌+◌, Bool, Option, Some, None, List, [], ◌∷◌, ◌++◌, codes, decimal, if◌then◌else◌, slice_index_or}
+use Rattle.std.specs.List.{flat_map}
+use Rattle.vic_frame.specs.Masks.{BitMask}
+use Rattle.vic_tree.specs.declared.open_masks.OpenMasks.{OpenMasks}
+use Rattle.vic_log.specs.Names.{line_fault_name}
+use Rattle.vic_verdict.specs.declared.judging.Verdict.TheVariants.{Absent, Unlisted, Unsettled}
+use Rattle.vic_verdict.specs.declared.judging.Verdict.TheVariants as verdict
+use Rattle.vic_reconcile.specs.declared.findings.DoubtfulUid.{DoubtfulUid}
+use Rattle.vic_reconcile.specs.declared.findings.Findings.{Findings}
+use Rattle.vic_reconcile.specs.declared.findings.UnlistedUid.{UnlistedUid}
+use Rattle.vic_reconcile.specs.declared.findings.Unsettled.{Unsettled as LeftToAsk}
+use Rattle.vic_answer.specs.CheckText.{verdict_line}
+use Rattle.vic_answer.specs.Digits.{uid_text, value_text}
+use Rattle.vic_answer.specs.declared.ending.Ending.{Ending}
+use Rattle.vic_answer.specs.declared.ending.Ending.TheVariants.{ListRefusedAt, NotListedAt, RefusedAt, ImpossibleAt}
+use Rattle.vic_answer.specs.declared.reconcile.Reconciled.{Reconciled}
+use Rattle.vic_answer.specs.declared.reconcile.Reconciled.TheVariants.{Complete, Found, Ended}
+use Rattle.vic_answer.specs.declared.status.Status.{Status}
+use Rattle.vic_answer.specs.declared.status.Status.TheVariants.{Whole, NotWhole, Impossible, Refused}
+
+-- the name of log k
+abbrev pub name_of : List (List ℕ) → ℕ → List ℕ
+name_of names k = slice_index_or names k []
+
+-- a line that ends with the name of log k
+abbrev pub with_name : List ℕ → List (List ℕ) → ℕ → List ℕ
+with_name before names k = before ++ name_of names k ++ codes "\n"
+
+-- ---- what stands before a name
+
+abbrev pub by_line_of : ℕ → List ℕ
+by_line_of n = codes "by line " ++ decimal n ++ codes " of "
+
+abbrev pub open_in : BitMask → List ℕ
+open_in m = codes "open " ++ decimal m.len ++ codes " " ++ value_text m ++ codes " in "
+
+abbrev pub doubtful_in : ℕ → List ℕ
+doubtful_in u = codes "doubtful " ++ uid_text u ++ codes " in "
+
+abbrev pub impossible_of : ℕ → List ℕ
+impossible_of n = codes "impossible at line " ++ decimal n ++ codes " of "
+
+abbrev pub refused_of : ℕ → List ℕ
+refused_of n = codes "refused at line " ++ decimal n ++ codes " of "
+
+-- ---- the findings
+
+-- an expected UID that is nowhere
+abbrev pub absent_line : ℕ → List ℕ
+absent_line u = verdict_line (Absent u)
+
+-- a UID that is somewhere and isn't expected, and a line that shows it
+abbrev pub unlisted_text : List (List ℕ) → UnlistedUid → List ℕ
+unlisted_text names s =
+    verdict_line (Unlisted s.uid) ++ with_name (by_line_of s.place.line) names s.place.log
+
+-- the open masks of log k, and that there are more
+abbrev pub open_text : List (List ℕ) → ℕ → BitMask → List ℕ
+open_text names k m = with_name (open_in m) names k
+
+abbrev pub more_text : List (List ℕ) → ℕ → Bool → List ℕ
+more_text names k more = if more then with_name (codes "more open in ") names k else []
+
+abbrev pub masks_text : List (List ℕ) → ℕ → OpenMasks → List ℕ
+masks_text names k o =
+    flat_map (open_text names k) o.masks.items ++ more_text names k o.more
+
+-- those of each log, from log k on
+abbrev pub all_masks_text : List (List ℕ) → ℕ → List OpenMasks → List ℕ
+all_masks_text names k [] = []
+all_masks_text names k (o ∷ os) = masks_text names k o ++ all_masks_text names (k + 1) os
+
+-- what is left to ask for
+abbrev pub unsettled_text : List (List ℕ) → Option LeftToAsk → List ℕ
+unsettled_text names None = []
+unsettled_text names (Some x) =
+    verdict_line (Unsettled x.mask) ++ all_masks_text names 0 x.masks.items
+
+-- an expected UID that may be missing, and the first log in which it may be
+abbrev pub doubtful_text : List (List ℕ) → DoubtfulUid → List ℕ
+doubtful_text names d = with_name (doubtful_in d.uid) names d.log
+
+-- the findings, in their order
+abbrev pub findings_text : List (List ℕ) → Findings → List ℕ
+findings_text names f =
+    flat_map absent_line f.absent.items
+    ++ flat_map (unlisted_text names) f.unlisted.items
+    ++ unsettled_text names f.unsettled
+    ++ flat_map (doubtful_text names) f.doubtful.items
+
+-- ---- the complete text
+
+-- where it ended: the first text that is refused or impossible
+abbrev pub ending_text : List ℕ → List (List ℕ) → Ending → List ℕ
+ending_text list names (ListRefusedAt n fault) =
+    refused_of n ++ list ++ codes ": " ++ line_fault_name fault ++ codes "\n"
+ending_text list names (NotListedAt n) =
+    refused_of n ++ list ++ codes ": " ++ codes "NotListed" ++ codes "\n"
+ending_text list names (RefusedAt k n fault) =
+    refused_of n ++ name_of names k ++ codes ": " ++ line_fault_name fault ++ codes "\n"
+ending_text list names (ImpossibleAt k n) = with_name (impossible_of n) names k
+
+abbrev pub reconciled_text : List ℕ → List (List ℕ) → Reconciled → List ℕ
+reconciled_text list names (Complete count) = verdict_line (verdict.Complete count)
+reconciled_text list names (Found f) = findings_text names f
+reconciled_text list names (Ended e) = ending_text list names e
+
+abbrev pub ending_status : Ending → Status
+ending_status (ListRefusedAt n fault) = Refused
+ending_status (NotListedAt n) = Refused
+ending_status (RefusedAt k n fault) = Refused
+ending_status (ImpossibleAt k n) = Impossible
+
+abbrev pub reconciled_status : Reconciled → Status
+reconciled_status (Complete count) = Whole
+reconciled_status (Found f) = NotWhole
+reconciled_status (Ended e) = ending_status e

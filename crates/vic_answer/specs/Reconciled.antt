@@ -1,0 +1,90 @@
+-- What a list of what is expected and logs say together, by their texts.
+use Rattle.std.specs.Prelude.{◌≡◌, ℕ, Bool, true, List, ◌++◌, Some, codes, decimal, length, map, slice_get, take}
+use Rattle.std.specs.List.{All, AllZip}
+use Rattle.vic_log.specs.Device.{Grows}
+use Rattle.vic_log.specs.Lines.{lines_of_text}
+use Rattle.vic_log.specs.Log.{LogValue}
+use Rattle.vic_log.specs.Order.{entries, listed}
+use Rattle.vic_log.specs.Text.{IsLogOf, IsFirstFault}
+use Rattle.vic_log.specs.declared.entry.LogLine.{LogLine}
+use Rattle.vic_verdict.specs.Possible.{IsPossible}
+use Rattle.vic_verdict.specs.Verdict.{IsVerdict}
+use Rattle.vic_verdict.specs.declared.judging.Verdict.TheVariants.{Impossible}
+use Rattle.vic_reconcile.specs.Findings.{AreFindings, AreNone, IsFirstNotListed, IsWhole}
+use Rattle.vic_reconcile.specs.Joined.{IsJoined}
+use Rattle.vic_reconcile.specs.declared.reconciliation.Reconciliation.{Reconciliation}
+use Rattle.vic_answer.specs.Runs.{IsEnough}
+use Rattle.vic_answer.specs.declared.ending.Ending.{Ending}
+use Rattle.vic_answer.specs.declared.ending.Ending.TheVariants.{ListRefusedAt, NotListedAt, RefusedAt, ImpossibleAt}
+use Rattle.vic_answer.specs.declared.reconcile.Reconciled.{Reconciled}
+use Rattle.vic_answer.specs.declared.reconcile.Reconciled.TheVariants.{Complete, Found, Ended}
+use Rattle.vic_answer.specs.declared.reconcile.Reconciling.{Reconciling}
+use Rattle.vic_answer.specs.declared.reconcile.Reconciling.TheVariants as state
+
+-- the text has this log
+abbrev pub HasLog : List ℕ → LogValue → Type 0
+HasLog text log = IsLogOf (lines_of_text text) log
+
+-- the text has a log, which is possible
+abbrev pub HasPossibleLog : List ℕ → Type 0
+HasPossibleLog text = (log : LogValue) × HasLog text log × IsPossible (entries log.lines)
+
+abbrev pub lines_of : LogValue → List LogLine
+lines_of log = log.lines
+
+-- where the texts end: no text before is refused or impossible
+abbrev pub EndsAt : List ℕ → List (List ℕ) → Ending → Type 0
+EndsAt list texts (ListRefusedAt n fault) = IsFirstFault (lines_of_text list) n fault
+EndsAt list texts (NotListedAt n) =
+    (log : LogValue) × HasLog list log × IsFirstNotListed log.lines n
+EndsAt list texts (RefusedAt k n fault) =
+    All HasPossibleLog (take k texts)
+    × ((text : List ℕ) × (slice_get texts k ≡ Some text) × IsFirstFault (lines_of_text text) n fault)
+EndsAt list texts (ImpossibleAt k n) =
+    All HasPossibleLog (take k texts)
+    × ((text : List ℕ) × (log : LogValue) × (slice_get texts k ≡ Some text)
+    × HasLog text log × IsVerdict log.lines (Impossible n))
+
+-- the list and the texts have logs, of which this is kept
+pub record IsKept (list : List ℕ) (texts : List (List ℕ)) (r : Reconciliation) : Type 0 where
+  pub expected : LogValue
+  pub is_list : HasLog list expected
+  pub logs : List LogValue
+  pub are_logs : AllZip HasLog texts logs
+  pub joined : IsJoined (listed (entries expected.lines)) (map lines_of logs) r
+
+-- what was read so far
+abbrev pub IsReconciling : List ℕ → List (List ℕ) → Reconciling → Type 0
+IsReconciling list texts (state.Going r) = IsKept list texts r
+IsReconciling list texts (state.Ended e) = EndsAt list texts e
+
+-- the list and the texts have logs, of which P holds
+pub record HaveLogs (list : List ℕ) (texts : List (List ℕ)) (P : List ℕ → List (List LogLine) → Type 0)
+    : Type 0 where
+  pub expected : LogValue
+  pub is_list : HasLog list expected
+  pub logs : List LogValue
+  pub are_logs : AllZip HasLog texts logs
+  pub holds : P (listed (entries expected.lines)) (map lines_of logs)
+
+-- the answer to a list and texts
+abbrev pub IsReconciled : List ℕ → List (List ℕ) → Reconciled → Type 0
+IsReconciled list texts (Complete count) =
+    HaveLogs list texts (λ expected logs. IsWhole expected logs × (count ≡ length expected))
+IsReconciled list texts (Found f) =
+    HaveLogs list texts (λ expected logs. AreFindings expected logs f × (AreNone f → ⊥))
+IsReconciled list texts (Ended e) = EndsAt list texts e
+
+-- everything that is expected is somewhere, and nothing else, and these are the digits of how many
+-- UIDs are expected, and LF
+abbrev pub AreComplete : List ℕ → List (List ℕ) → List ℕ → Type 0
+AreComplete list texts rest =
+    HaveLogs list texts (λ expected logs. IsWhole expected logs
+    × (rest ≡ decimal (length expected) ++ codes "\n"))
+
+-- the source's reads returned bytes that can be answered, of which P holds
+pub record ReadsText (returned returned' : List ℕ) (ended : Bool) (P : List ℕ → Type 0) : Type 0 where
+  pub text : List ℕ
+  pub given : Grows returned returned' text
+  pub enough : IsEnough (ended ≡ true) text
+  pub holds : P text

@@ -1,0 +1,28 @@
+//! Where `reconcile` ends before all texts are read.
+
+use vic_log::LineFault;
+
+/// The first of some texts that is refused or impossible.
+#[derive(Clone, Copy, Debug, PartialEq, Eq)]
+pub enum Ending {
+    /// A line of the list has a fault, and this is the first.
+    ListRefusedAt {
+        line: u32,
+        fault: LineFault,
+    },
+    /// A line of the list doesn't list a UID, and this is the first.
+    NotListedAt {
+        line: u32,
+    },
+    /// A line of a log has a fault, and this is the first. Logs are counted from 0.
+    RefusedAt {
+        log: usize,
+        line: u32,
+        fault: LineFault,
+    },
+    /// No population could have produced a log up to this line, the first such line.
+    ImpossibleAt {
+        log: usize,
+        line: u32,
+    },
+}

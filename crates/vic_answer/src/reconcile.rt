@@ -1,0 +1,179 @@
+//! The command `reconcile`, text by text.
+
+ghost use Rattle.std.specs.Prelude.{◌≡◌, ◌≢◌, ◌++◌, ℕ, [], ◌∷◌, List, IfErr, IfOk, OnOk, true};
+ghost use Rattle.std.specs.Prelude.{codes, map, string_bytes};
+ghost use Rattle.vic_log.specs.Device.{HasWrittenPrefix};
+ghost use Rattle.vic_answer.specs.Readings.{IsReading};
+ghost use Rattle.vic_answer.specs.Reconciled.{AreComplete, IsKept, IsReconciled, IsReconciling, ReadsText};
+ghost use Rattle.vic_answer.specs.ReconcileText as spec;
+ghost use Rattle.vic_answer.specs.declared.status.RunFault.TheVariants.{Write};
+
+use crate::ending::Ending;
+use crate::input::{Reading, read_source};
+use crate::lines::verdict_line;
+use crate::output::write_and_flush;
+use crate::reconcile_lines::{ending_text, findings_text};
+use crate::status::{RunFault, Status};
+use std::alloc::{AllocError, Global};
+use vic_log::{Sink, Source};
+use vic_reconcile::{Findings, Reconciliation};
+use vic_verdict::Verdict;
+
+/// What a list of what is expected and the logs that were read so far say.
+#[derive(Drop)]
+pub enum Reconciling {
+    /// All of them have logs, which are possible.
+    Going(Reconciliation),
+    /// One of them is refused or impossible.
+    Ended(Ending),
+}
+
+/// The answer to a list of what is expected and logs.
+#[derive(Drop)]
+pub enum Reconciled {
+    /// Everything that is expected is somewhere, and nothing else.
+    Complete { count: u32 },
+    /// The findings, one at least.
+    Found(Findings),
+    /// A text is refused or impossible.
+    Ended(Ending),
+}
+
+/// Reads the list of what is expected from a source.
+pub fn read_expected<R: Source>(alloc: Global, source: &mut R) -> Result<Reconciling, RunFault>
+    ensures { IfOk result (λ r. ReadsText (R.returned source.old) (R.returned source.new)
+        (R.ended source.new) (λ text. IsReconciling text [] r)) }
+{
+    let reading = read_source(alloc, source)?;
+    Ok(begin(alloc, reading)?)
+}
+
+/// What the list says.
+fn begin(alloc: Global, reading: Reading) -> Result<Reconciling, AllocError>
+    ensures { IfOk result (λ r. (text : List ℕ)
+        → IsReading text reading → IsReconciling text [] r) }
+{
+    match reading {
+        Reading::Given(list) => match Reconciliation::expecting(alloc, &list)? {
+            Ok(joined) => Ok(Reconciling::Going(joined)),
+            Err(line) => Ok(Reconciling::Ended(Ending::NotListedAt { line })),
+        },
+        Reading::RefusedAt { line, fault } => Ok(Reconciling::Ended(Ending::ListRefusedAt {
+            line,
+            fault,
+        })),
+    }
+}
+
+/// Reads the next log from a source, and joins it to those before.
+pub fn read_next<R: Source>(
+    alloc: Global,
+    joined: Reconciliation,
+    source: &mut R,
+) -> Result<Reconciling, RunFault>
+    ensures { IfOk result (λ r. ReadsText (R.returned source.old) (R.returned source.new)
+        (R.ended source.new) (λ text. (list : List ℕ) (texts : List (List ℕ))
+        → IsKept list texts joined → IsReconciling list (texts ++ text ∷ []) r)) }
+{
+    let reading = read_source(alloc, source)?;
+    Ok(join(joined, reading)?)
+}
+
+/// What the logs say with one more.
+fn join(joined: Reconciliation, reading: Reading) -> Result<Reconciling, AllocError>
+    ensures { IfOk result (λ r. (text list : List ℕ) (texts : List (List ℕ))
+        → IsReading text reading → IsKept list texts joined
+        → IsReconciling list (texts ++ text ∷ []) r) }
+{
+    let mut joined = joined;
+    let log = joined.log_count();
+    match reading {
+        Reading::Given(next) => match joined.add(&next)? {
+            None => Ok(Reconciling::Going(joined)),
+            Some(line) => Ok(Reconciling::Ended(Ending::ImpossibleAt { log, line })),
+        },
+        Reading::RefusedAt { line, fault } => Ok(Reconciling::Ended(Ending::RefusedAt {
+            log,
+            line,
+            fault,
+        })),
+    }
+}
+
+/// The answer to what was read.
+pub fn reconciled_answer(reconciling: &Reconciling) -> Result<Reconciled, AllocError>
+    ensures { IfOk result (λ r. (list : List ℕ) (texts : List (List ℕ))
+        → IsReconciling list texts reconciling.now → IsReconciled list texts r) }
+{
+    match reconciling {
+        Reconciling::Going(joined) => {
+            let found = joined.findings()?;
+            if found.is_empty() {
+                let count = joined.count();
+                Ok(Reconciled::Complete { count })
+            } else {
+                Ok(Reconciled::Found(found))
+            }
+        }
+        Reconciling::Ended(ending) => Ok(Reconciled::Ended(*ending)),
+    }
+}
+
+/// The text of an answer, by the names of the list and of the logs.
+fn reconciled_text(
+    alloc: Global,
+    answer: &Reconciled,
+    list: &str,
+    names: &[String],
+) -> Result<Vec<u8>, AllocError>
+    ensures { IfOk result (λ text. text.items
+        ≡ spec.reconciled_text list.now (map string_bytes names.now) answer.now) }
+{
+    match answer {
+        Reconciled::Complete { count } => {
+            let line = verdict_line(&Verdict::Complete { count: *count });
+            Vec::from_slice(alloc, line.as_slice())
+        }
+        Reconciled::Found(found) => findings_text(alloc, names, found),
+        Reconciled::Ended(ending) => ending_text(alloc, ending, list, names),
+    }
+}
+
+/// The status of an answer.
+fn reconciled_status(answer: &Reconciled) -> Status
+    ensures { result ≡ spec.reconciled_status answer.now }
+{
+    match answer {
+        Reconciled::Complete { .. } => Status::Whole,
+        Reconciled::Found(_) => Status::NotWhole,
+        Reconciled::Ended(Ending::ImpossibleAt { .. }) => Status::Impossible,
+        Reconciled::Ended(_) => Status::Refused,
+    }
+}
+
+/// Writes the text of an answer and flushes it. `Memory` if memory was refused: then nothing is
+/// written. `Write` if the sink has failed: a prefix of the text may have been written.
+pub fn write_reconciled<W: Sink>(
+    alloc: Global,
+    answer: &Reconciled,
+    list: &str,
+    names: &[String],
+    sink: &mut W,
+) -> Result<Status, RunFault>
+    ensures status { IfOk result (λ s. s ≡ spec.reconciled_status answer.now) }
+    ensures wrote { OnOk result (W.written sink.new ≡ W.written sink.old
+        ++ spec.reconciled_text list.now (map string_bytes names.now) answer.now) }
+    ensures part { HasWrittenPrefix (W.written sink.old) (W.written sink.new)
+        (spec.reconciled_text list.now (map string_bytes names.now) answer.now) }
+    // if it wrote `complete N`, everything that is expected is somewhere, and nothing else
+    ensures complete { OnOk result ((list : List ℕ) (texts : List (List ℕ)) (rest : List ℕ)
+        → IsReconciled list texts answer.now
+        → W.written sink.new ≡ W.written sink.old ++ (codes "complete " ++ rest)
+        → AreComplete list texts rest) }
+    ensures flushed { OnOk result (W.is_flushed sink.new ≡ true) }
+    ensures unwritten { IfErr result (λ e. e ≢ Write → sink.new ≡ sink.old) }
+{
+    let text = reconciled_text(alloc, answer, list, names)?;
+    write_and_flush(sink, &text)?;
+    Ok(reconciled_status(answer))
+}
