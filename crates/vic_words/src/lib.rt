@@ -5,7 +5,17 @@ use clap::error::ErrorKind;
 use clap::{Arg, ArgAction, ArgMatches, Command, Error};
 use std::alloc::{AllocError, Global};
 
-/// What the program is asked to do. A file has the name that was given; without one it is standard
+/// What a command line asks for.
+#[derive(Debug, Drop)]
+pub enum Asked {
+    /// A task with one text.
+    Task(Task),
+    /// To judge the logs in some files against the list of what is expected in another, which is
+    /// named first.
+    Reconcile(String, Vec<String>),
+}
+
+/// What the program is asked to do with one text. A file has the name that was given; without one it is standard
 /// input.
 #[derive(Debug, Drop)]
 pub enum Task {
@@ -82,6 +92,17 @@ fn with_words<'a>(alloc: Global, name: &'a str) -> Result<Command<'a>, AllocErro
     Command::new(alloc, name).arg(words)
 }
 
+/// A command with a file, and more files or none.
+fn with_files<'a>(alloc: Global, name: &'a str) -> Result<Command<'a>, AllocError> {
+    let first = Arg::new(alloc, "file")
+        .required(true)
+        .action(ArgAction::Set);
+    let others = Arg::new(alloc, "words")
+        .num_args(1..)
+        .action(ArgAction::Append);
+    Command::new(alloc, name).arg(first)?.arg(others)
+}
+
 /// The commands with one operand: their names, what it is, and whether it is required.
 const WITH_OPERAND: [(&str, &str, bool); 5] = [
     ("check", "file", false),
@@ -105,6 +126,7 @@ fn commands<'a>(alloc: Global) -> Result<Command<'a>, AllocError> {
     for (name, operand, required) in WITH_OPERAND {
         program = with_command(program, with_operand(alloc, name, operand, required))?;
     }
+    program = with_command(program, with_files(alloc, "reconcile"))?;
     with_command(program, with_words(alloc, "spell"))
 }
 
@@ -136,8 +158,8 @@ fn asked_of_file(name: &str, file: Option<String>) -> Result<Task, WordsFault> {
     }
 }
 
-/// What a command asks for, by its name and what it was given.
-fn asked(alloc: Global, name: &str, given: &ArgMatches<'_>) -> Result<Task, WordsFault> {
+/// What a command with one text asks for, by its name and what it was given.
+fn asked_of_text(alloc: Global, name: &str, given: &ArgMatches<'_>) -> Result<Task, WordsFault> {
     match name {
         "frame" => match operand(alloc, given, "hex")? {
             Some(word) => Ok(Task::Frame(word)),
@@ -148,11 +170,22 @@ fn asked(alloc: Global, name: &str, given: &ArgMatches<'_>) -> Result<Task, Word
     }
 }
 
+/// What a command asks for, by its name and what it was given.
+fn asked_for(alloc: Global, name: &str, given: &ArgMatches<'_>) -> Result<Asked, WordsFault> {
+    if name != "reconcile" {
+        return Ok(Asked::Task(asked_of_text(alloc, name, given)?));
+    }
+    match operand(alloc, given, "file")? {
+        Some(list) => Ok(Asked::Reconcile(list, given_words(alloc, given)?)),
+        None => Err(WordsFault::Usage),
+    }
+}
+
 /// What a command line asks for. The first word is the program's name.
-pub fn read_words(alloc: Global, words: Vec<String>) -> Result<Task, WordsFault> {
+pub fn read_words(alloc: Global, words: Vec<String>) -> Result<Asked, WordsFault> {
     let matches = commands(alloc)?.try_get_matches_from(words.as_slice())?;
     match matches.subcommand() {
-        Some((name, given)) => asked(alloc, name, given),
+        Some((name, given)) => asked_for(alloc, name, given),
         None => Err(WordsFault::Usage),
     }
 }
