@@ -1,0 +1,217 @@
+#!/usr/bin/env python3
+"""Reconciles random logs with random lists by brute force, and asks the program for the same:
+
+    families.py [--program PATH] [NUMBER [SEED]]
+
+It shares no code and no definition with what is proved: it was written from docs/COMMANDS.md, and stands on the oracle for
+one log (oracle.py). The first lines of each log leave the same eight UIDs that may be in its field. So a log has at most
+256 populations that could have produced it, and a family of up to three logs has somewhere what one population of each has
+together: these sets are all tried. What is possible and certain, and every finding, is read off them.
+
+Without a NUMBER the cases are the same each time. At the end wrong reconcilers are put in its place, each wrong in one rule,
+and have to be found. The last line is `N passed, M failed`, of cases and wrong reconcilers.
+"""
+import argparse
+import os
+import random
+import subprocess
+import sys
+import tempfile
+
+sys.dont_write_bytecode = True
+import reports
+from oracle import PROGRAM, Judge
+from random_logs import (FIELD_CYCLE, TOP_BYTE, UID_BITS, Listed, StayQuiet, eight_uids, ended, hex_of, opening, rounds,
+                         spelled, text_of)
+
+NUMBER, SEED = 3000, 15693
+PLANTED = 1500
+NAMES = "abc"
+MOST_OPEN = 16
+
+
+def log_over(rng, uids):
+    """A version, and the lines of a log whose first lines leave these UIDs."""
+    version = rng.randint(1, 2)
+    first = opening(rng, version, uids)
+    cycled = first[-1:] == [FIELD_CYCLE]
+    silenced = [line.uid for line in first if isinstance(line, StayQuiet) and not cycled]
+    lines = list(rounds(rng, version, uids, silenced))
+    return version, first + (ended(lines) if rng.random() < 0.6 else lines)
+
+
+def case_of(rng):
+    """What is expected, and some logs."""
+    uids = eight_uids(rng)
+    logs = [log_over(rng, uids) for _ in range(rng.randint(0, len(NAMES)))]
+    expected = [uid for uid in uids if rng.random() < rng.choice((0.3, 0.6, 1))]
+    if rng.random() < 0.6:
+        # what they make certain, so that not every case has findings
+        expected = sorted(Families(uids, [], logs).certain())
+    expected += [TOP_BYTE | rng.getrandbits(UID_BITS)] * (rng.random() < 0.05)
+    rng.shuffle(expected)
+    return uids, expected, logs
+
+
+class Families:
+    """What the logs say together: by all families, whose sets of UIDs somewhere are numbers of eight bits."""
+
+    def __init__(self, uids, expected, logs):
+        self.uids, self.expected, self.logs = sorted(uids), expected, logs
+
+    def those(self, holds):
+        return {uid for place, uid in enumerate(self.uids) if holds(place)}
+
+    def known(self, somewhere):
+        """The UIDs that are in one of these sets, and those that are in each."""
+        return (self.those(lambda place: any(them >> place & 1 for them in somewhere)),
+                self.those(lambda place: all(them >> place & 1 for them in somewhere)))
+
+    def families(self, populations):
+        """Which UIDs are somewhere, in each family of one population for each log."""
+        somewhere = {0}
+        for ones in populations:
+            somewhere = {them | one for them in somewhere for one in ones}
+        return somewhere
+
+    def first(self, uid, ones):
+        """The name of the first log that has the UID."""
+        return next(name for name, known in zip(NAMES, ones) if uid in known)
+
+    def certain(self):
+        """The UIDs that the logs make certain, taken together; none if they are impossible."""
+        somewhere = self.families([set(Judge(self.uids).judge(lines)[1]) for _, lines in self.logs])
+        return self.known(somewhere)[1] if somewhere else set()
+
+    def asked_in(self, possible, certain):
+        """What is left to ask for in a log."""
+        return possible - certain
+
+    def answer(self):
+        judge, populations = Judge(self.uids), []
+        for name, (_, lines) in zip(NAMES, self.logs):
+            text, ones = judge.judge(lines)
+            if not ones:
+                return [f"{text} of {name}"]
+            populations.append(set(ones))
+        each = [self.known(ones) for ones in populations]
+        possible, certain = self.known(self.families(populations))
+        return list(self.findings(possible, certain, each)) or [f"complete {len(self.expected)}"]
+
+    def findings(self, possible, certain, each):
+        for uid in sorted(set(self.expected) - possible):
+            yield f"absent {uid:016X}"
+        for uid in sorted(certain - set(self.expected)):
+            yield f"unlisted {uid:016X}"
+            yield f"by line ? of {self.first(uid, [known for _, known in each])}"
+        unsettled = Judge(self.uids).unsettled(possible - certain - set(self.expected))
+        if unsettled:
+            yield "unsettled %d %s" % (unsettled[0], hex_of(*unsettled))
+            for name, (may, _) in zip(NAMES, each):
+                masks = reports.greatest([reports.as_mask(uid) for uid in self.asked_in(may, certain)])
+                yield from ("open %d %s in %s" % (length, hex_of(length, value), name) for length, value in masks[:MOST_OPEN])
+                yield from [f"more open in {name}"] * (len(masks) > MOST_OPEN)
+        for uid in sorted(set(self.expected) & possible - certain):
+            yield f"doubtful {uid:016X} in {self.first(uid, [may for may, _ in each])}"
+
+
+# Wrong reconcilers, each wrong in one rule.
+
+def wrong(**rules):
+    return type("Wrong", (Families,), rules)
+
+
+def only_where_both(self, populations):
+    somewhere = set(range(256)) if populations else {0}
+    for ones in populations:
+        somewhere = {them & one for them in somewhere for one in ones}
+    return somewhere
+
+
+def last_alone(self, populations):
+    return Families.families(self, populations[-1:])
+
+
+def up_to_the_first_incomplete(self, populations):
+    kept = []
+    for ones in populations:
+        kept.append(ones)
+        if len(ones) > 1:
+            break
+    return Families.families(self, kept)
+
+
+def certain_in_each(self, somewhere):
+    possible, certain = Families.known(self, somewhere)
+    heard = [Families.known(self, set(Judge(self.uids).judge(lines)[1]))[1] for _, lines in self.logs]
+    return possible, {uid for uid in certain if all(uid in known for known in heard)}
+
+
+def claims_are_heard(self, somewhere):
+    possible, certain = Families.known(self, somewhere)
+    claimed = {line.uid for _, lines in self.logs for line in lines if isinstance(line, Listed)} & set(self.uids)
+    return possible | claimed, certain | claimed
+
+
+WRONG = {
+    "possible where it is so in each log": wrong(families=only_where_both),
+    "possible where it is so in the last log": wrong(families=last_alone),
+    "logs after an incomplete one are left out": wrong(families=up_to_the_first_incomplete),
+    "certain where it is so in each log": wrong(known=certain_in_each),
+    "claims are heard": wrong(known=claims_are_heard),
+    "open masks hold UIDs that another log makes certain": wrong(asked_in=lambda self, possible, certain: possible),
+    "no logs are complete": wrong(answer=lambda self: Families.answer(self) if self.logs else ["complete 0"]),
+}
+
+
+def same(told, wanted):
+    """Whether the lines are those, whatever line shows an unlisted UID."""
+    return [" ".join(["by line ?", *line.split()[3:]]) if line.startswith("by line ") else line for line in told] == wanted
+
+
+def asked(program, folder, expected, logs):
+    """The lines of the program, where it ends with the status of the first."""
+    texts = [text_of(1, map(Listed, expected)), *(text_of(version, lines) for version, lines in logs)]
+    names = ["EXPECTED", *NAMES[:len(logs)]]
+    for name, text in zip(names, texts):
+        with open(os.path.join(folder, name), "wb") as file:
+            file.write(text)
+    done = subprocess.run([program, "reconcile", *names], cwd=folder, capture_output=True, check=False)
+    told = done.stdout.decode().splitlines()
+    status = {"complete": 0, "impossible": 2, "refused": 3}.get(told[0].split()[0] if told else "", 1)
+    return told if done.returncode == status and not done.stderr else [f"status {done.returncode}", *told]
+
+
+def main():
+    words = argparse.ArgumentParser(description="reconciles random logs by brute force")
+    words.add_argument("--program", default=PROGRAM)
+    words.add_argument("number", nargs="?", type=int, default=NUMBER)
+    words.add_argument("seed", nargs="?", type=int, default=SEED)
+    given = words.parse_args()
+    passed = failed = 0
+    kinds, left = dict.fromkeys(("complete", "absent", "unlisted", "unsettled", "doubtful", "impossible"), 0), dict(WRONG)
+    with tempfile.TemporaryDirectory() as folder:
+        for number in range(given.number):
+            uids, expected, logs = case_of(random.Random(f"{given.seed} {number}"))
+            told, wanted = asked(given.program, folder, expected, logs), Families(uids, expected, logs).answer()
+            if same(told, wanted):
+                passed += 1
+            else:
+                failed += 1
+                print(f"families: case {number}: {told}, not {wanted}: {[list(map(spelled, log[1][-12:])) for log in logs]}")
+            for line in wanted:
+                if line.split()[0] in kinds:
+                    kinds[line.split()[0]] += 1
+            if number < PLANTED:
+                left = {name: judge for name, judge in left.items() if same(told, judge(uids, expected, logs).answer())}
+    for name in WRONG:
+        passed, failed = (passed, failed + 1) if name in left else (passed + 1, failed)
+        if name in left:
+            print(f"families: not found: {name}")
+    print("families: " + ", ".join(f"{count} {kind}" for kind, count in kinds.items()))
+    print(f"{passed} passed, {failed} failed")
+    return failed > 0
+
+
+if __name__ == "__main__":
+    sys.exit(main())
