@@ -5,8 +5,8 @@
 
 It shares no code and no definition with what is proved: it was written from docs/COMMANDS.md, and stands on the oracle for
 one log (oracle.py). The first lines of each log leave the same eight UIDs that may be in its field. So a log has at most
-256 populations that could have produced it, and a family of up to three logs has somewhere what one population of each has
-together: these sets are all tried. What is possible and certain, and every finding, is read off them.
+256 populations that could have produced it. A UID is somewhere in a family if one of its populations, one for each of up to
+three logs, has it; all families are tried. What is possible and certain, and every finding, is read off them.
 
 Without a NUMBER the cases are the same each time. At the end wrong reconcilers are put in its place, each wrong in one rule,
 and have to be found. The last line is `N passed, M failed`, of cases and wrong reconcilers.

@@ -34,6 +34,7 @@ pub kept_more : (list text : List ℕ) (texts : List (List ℕ)) (log : LogValue
 kept_more list text texts log old new k has_log joined = record {
   expected = k.expected;
   is_list = k.is_list;
+  listed_alone = k.listed_alone;
   logs = k.logs ++ log ∷ [];
   are_logs = zip_push HasLog texts k.logs text log k.are_logs has_log;
   joined = subst (λ ls. IsJoined (listed (entries k.expected.lines)) ls new) (sym (map-append lines_of k.logs (log ∷ []))) joined;
@@ -64,10 +65,10 @@ last_there : (texts : List (List ℕ)) (text : List ℕ) (n : ℕ) → n ≡ len
 last_there texts text n e = subst (λ m. slice_get (texts ++ text ∷ []) m ≡ Some text) (sym e) (get_end texts text)
 
 pub ends_refused : (list text : List ℕ) (texts : List (List ℕ)) (r : Reconciliation) (n line : ℕ) (fault : LineFault) → IsKept list texts r → n ≡ length texts → IsFirstFault (lines_of_text text) line fault → EndsAt list (texts ++ text ∷ []) (RefusedAt n line fault)
-ends_refused list text texts r n line fault k e h = (kept_before list text texts r n k e, (text, last_there texts text n e, h))
+ends_refused list text texts r n line fault k e h = ((k.expected, k.is_list, k.listed_alone), kept_before list text texts r n k e, (text, last_there texts text n e, h))
 
 pub ends_impossible : (list text : List ℕ) (texts : List (List ℕ)) (r : Reconciliation) (n line : ℕ) (log : LogValue) → IsKept list texts r → n ≡ length texts → HasLog text log → IsVerdict log.lines (Impossible line) → EndsAt list (texts ++ text ∷ []) (ImpossibleAt n line)
-ends_impossible list text texts r n line log k e is h = (kept_before list text texts r n k e, (text, log, last_there texts text n e, is, h))
+ends_impossible list text texts r n line log k e is h = ((k.expected, k.is_list, k.listed_alone), kept_before list text texts r n k e, (text, log, last_there texts text n e, is, h))
 
 -- ---- the answer
 
@@ -76,6 +77,7 @@ pub reconciled_complete : (list : List ℕ) (texts : List (List ℕ)) (r : Recon
 reconciled_complete list texts r f count k found none counted = record {
   expected = k.expected;
   is_list = k.is_list;
+  listed_alone = k.listed_alone;
   logs = k.logs;
   are_logs = k.are_logs;
   holds = (none_is_whole (listed (entries k.expected.lines)) (map lines_of k.logs) f (family_of (map lines_of k.logs) k.joined.possible) found none, counted);
@@ -86,6 +88,7 @@ pub reconciled_found : (list : List ℕ) (texts : List (List ℕ)) (r : Reconcil
 reconciled_found list texts r f k found some = record {
   expected = k.expected;
   is_list = k.is_list;
+  listed_alone = k.listed_alone;
   logs = k.logs;
   are_logs = k.are_logs;
   holds = (found, some);
@@ -120,6 +123,7 @@ complete_written file names (Complete count) list texts old new rest right wrote
     record {
       expected = right.expected;
       is_list = right.is_list;
+      listed_alone = right.listed_alone;
       logs = right.logs;
       are_logs = right.are_logs;
       holds = (right.holds.0, told ∙ ap (λ n. decimal n ++ codes "\n") right.holds.1);

@@ -94,18 +94,18 @@ findings_text names f =
 
 -- where it ended: the first text that is refused or impossible
 abbrev pub ending_text : List ℕ → List (List ℕ) → Ending → List ℕ
-ending_text list names (ListRefusedAt n fault) =
-    refused_of n ++ list ++ codes ": " ++ line_fault_name fault ++ codes "\n"
-ending_text list names (NotListedAt n) =
-    refused_of n ++ list ++ codes ": " ++ codes "NotListed" ++ codes "\n"
-ending_text list names (RefusedAt k n fault) =
+ending_text list_name names (ListRefusedAt n fault) =
+    refused_of n ++ list_name ++ codes ": " ++ line_fault_name fault ++ codes "\n"
+ending_text list_name names (NotListedAt n) =
+    refused_of n ++ list_name ++ codes ": " ++ codes "NotListed" ++ codes "\n"
+ending_text list_name names (RefusedAt k n fault) =
     refused_of n ++ name_of names k ++ codes ": " ++ line_fault_name fault ++ codes "\n"
-ending_text list names (ImpossibleAt k n) = with_name (impossible_of n) names k
+ending_text list_name names (ImpossibleAt k n) = with_name (impossible_of n) names k
 
 abbrev pub reconciled_text : List ℕ → List (List ℕ) → Reconciled → List ℕ
-reconciled_text list names (Complete count) = verdict_line (verdict.Complete count)
-reconciled_text list names (Found f) = findings_text names f
-reconciled_text list names (Ended e) = ending_text list names e
+reconciled_text list_name names (Complete count) = verdict_line (verdict.Complete count)
+reconciled_text list_name names (Found f) = findings_text names f
+reconciled_text list_name names (Ended e) = ending_text list_name names e
 
 abbrev pub ending_status : Ending → Status
 ending_status (ListRefusedAt n fault) = Refused

@@ -10,7 +10,7 @@ use Rattle.vic_log.specs.declared.entry.LogLine.{LogLine}
 use Rattle.vic_verdict.specs.Possible.{IsPossible}
 use Rattle.vic_verdict.specs.Verdict.{IsVerdict}
 use Rattle.vic_verdict.specs.declared.judging.Verdict.TheVariants.{Impossible}
-use Rattle.vic_reconcile.specs.Findings.{AreFindings, AreNone, IsFirstNotListed, IsWhole}
+use Rattle.vic_reconcile.specs.Findings.{AreFindings, AreNone, IsFirstNotListed, IsList, IsWhole}
 use Rattle.vic_reconcile.specs.Joined.{IsJoined}
 use Rattle.vic_reconcile.specs.declared.reconciliation.Reconciliation.{Reconciliation}
 use Rattle.vic_answer.specs.Runs.{IsEnough}
@@ -32,16 +32,21 @@ HasPossibleLog text = (log : LogValue) × HasLog text log × IsPossible (entries
 abbrev pub lines_of : LogValue → List LogLine
 lines_of log = log.lines
 
+-- the text has a log that lists UIDs alone
+abbrev pub HasList : List ℕ → Type 0
+HasList list = (log : LogValue) × HasLog list log × IsList log.lines
+
 -- where the texts end: no text before is refused or impossible
 abbrev pub EndsAt : List ℕ → List (List ℕ) → Ending → Type 0
 EndsAt list texts (ListRefusedAt n fault) = IsFirstFault (lines_of_text list) n fault
 EndsAt list texts (NotListedAt n) =
     (log : LogValue) × HasLog list log × IsFirstNotListed log.lines n
 EndsAt list texts (RefusedAt k n fault) =
-    All HasPossibleLog (take k texts)
-    × ((text : List ℕ) × (slice_get texts k ≡ Some text) × IsFirstFault (lines_of_text text) n fault)
+    HasList list × All HasPossibleLog (take k texts)
+    × ((text : List ℕ) × (slice_get texts k ≡ Some text)
+    × IsFirstFault (lines_of_text text) n fault)
 EndsAt list texts (ImpossibleAt k n) =
-    All HasPossibleLog (take k texts)
+    HasList list × All HasPossibleLog (take k texts)
     × ((text : List ℕ) × (log : LogValue) × (slice_get texts k ≡ Some text)
     × HasLog text log × IsVerdict log.lines (Impossible n))
 
@@ -49,6 +54,7 @@ EndsAt list texts (ImpossibleAt k n) =
 pub record IsKept (list : List ℕ) (texts : List (List ℕ)) (r : Reconciliation) : Type 0 where
   pub expected : LogValue
   pub is_list : HasLog list expected
+  pub listed_alone : IsList expected.lines
   pub logs : List LogValue
   pub are_logs : AllZip HasLog texts logs
   pub joined : IsJoined (listed (entries expected.lines)) (map lines_of logs) r
@@ -58,11 +64,12 @@ abbrev pub IsReconciling : List ℕ → List (List ℕ) → Reconciling → Type
 IsReconciling list texts (state.Going r) = IsKept list texts r
 IsReconciling list texts (state.Ended e) = EndsAt list texts e
 
--- the list and the texts have logs, of which P holds
-pub record HaveLogs (list : List ℕ) (texts : List (List ℕ)) (P : List ℕ → List (List LogLine) → Type 0)
-    : Type 0 where
+-- the list has a log that lists UIDs alone, the texts have logs, and P holds of them
+pub record HaveLogs (list : List ℕ) (texts : List (List ℕ))
+    (P : List ℕ → List (List LogLine) → Type 0) : Type 0 where
   pub expected : LogValue
   pub is_list : HasLog list expected
+  pub listed_alone : IsList expected.lines
   pub logs : List LogValue
   pub are_logs : AllZip HasLog texts logs
   pub holds : P (listed (entries expected.lines)) (map lines_of logs)
@@ -82,8 +89,9 @@ AreComplete list texts rest =
     HaveLogs list texts (λ expected logs. IsWhole expected logs
     × (rest ≡ decimal (length expected) ++ codes "\n"))
 
--- the source's reads returned bytes that can be answered, of which P holds
-pub record ReadsText (returned returned' : List ℕ) (ended : Bool) (P : List ℕ → Type 0) : Type 0 where
+-- the source's reads returned a text, up to its end or an early fault, and P holds of it
+pub record ReadsText (returned returned' : List ℕ) (ended : Bool)
+    (P : List ℕ → Type 0) : Type 0 where
   pub text : List ℕ
   pub given : Grows returned returned' text
   pub enough : IsEnough (ended ≡ true) text

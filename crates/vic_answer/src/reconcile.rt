@@ -123,11 +123,11 @@ pub fn reconciled_answer(reconciling: &Reconciling) -> Result<Reconciled, AllocE
 fn reconciled_text(
     alloc: Global,
     answer: &Reconciled,
-    list: &str,
+    list_name: &str,
     names: &[String],
 ) -> Result<Vec<u8>, AllocError>
     ensures { IfOk result (λ text. text.items
-        ≡ spec.reconciled_text list.now (map string_bytes names.now) answer.now) }
+        ≡ spec.reconciled_text list_name.now (map string_bytes names.now) answer.now) }
 {
     match answer {
         Reconciled::Complete { count } => {
@@ -135,7 +135,7 @@ fn reconciled_text(
             Vec::from_slice(alloc, line.as_slice())
         }
         Reconciled::Found(found) => findings_text(alloc, names, found),
-        Reconciled::Ended(ending) => ending_text(alloc, ending, list, names),
+        Reconciled::Ended(ending) => ending_text(alloc, ending, list_name, names),
     }
 }
 
@@ -156,15 +156,15 @@ fn reconciled_status(answer: &Reconciled) -> Status
 pub fn write_reconciled<W: Sink>(
     alloc: Global,
     answer: &Reconciled,
-    list: &str,
+    list_name: &str,
     names: &[String],
     sink: &mut W,
 ) -> Result<Status, RunFault>
     ensures status { IfOk result (λ s. s ≡ spec.reconciled_status answer.now) }
     ensures wrote { OnOk result (W.written sink.new ≡ W.written sink.old
-        ++ spec.reconciled_text list.now (map string_bytes names.now) answer.now) }
+        ++ spec.reconciled_text list_name.now (map string_bytes names.now) answer.now) }
     ensures part { HasWrittenPrefix (W.written sink.old) (W.written sink.new)
-        (spec.reconciled_text list.now (map string_bytes names.now) answer.now) }
+        (spec.reconciled_text list_name.now (map string_bytes names.now) answer.now) }
     // if it wrote `complete N`, everything that is expected is somewhere, and nothing else
     ensures complete { OnOk result ((list : List ℕ) (texts : List (List ℕ)) (rest : List ℕ)
         → IsReconciled list texts answer.now
@@ -173,7 +173,7 @@ pub fn write_reconciled<W: Sink>(
     ensures flushed { OnOk result (W.is_flushed sink.new ≡ true) }
     ensures unwritten { IfErr result (λ e. e ≢ Write → sink.new ≡ sink.old) }
 {
-    let text = reconciled_text(alloc, answer, list, names)?;
+    let text = reconciled_text(alloc, answer, list_name, names)?;
     write_and_flush(sink, &text)?;
     Ok(reconciled_status(answer))
 }

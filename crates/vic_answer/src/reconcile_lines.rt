@@ -26,7 +26,7 @@ fn name_of(names: &[String], log: usize) -> &str
 }
 
 /// What stands before the name of a file whose line is meant: words, and the number of the line.
-pub(crate) fn line_of(words: &str, line: u32) -> Text
+fn line_of(words: &str, line: u32) -> Text
     requires { length words.now ≤ 32 }
     ensures { result.items ≡ words.now ++ (decimal line ++ codes " of ") }
 {
@@ -107,8 +107,8 @@ fn add_unlisted(
     names: &[String],
     unlisted: &[UnlistedUid],
 ) -> Result<(), AllocError>
-    ensures { OnOk result (text.new.items
-        ≡ text.old.items ++ flat_map (spec.unlisted_text (map string_bytes names.now)) unlisted.now) }
+    ensures { OnOk result (text.new.items ≡ text.old.items
+        ++ flat_map (spec.unlisted_text (map string_bytes names.now)) unlisted.now) }
 {
     for one in unlisted {
         add_one_unlisted(text, names, one)?;
@@ -181,8 +181,8 @@ fn add_doubtful(
     names: &[String],
     doubtful: &[DoubtfulUid],
 ) -> Result<(), AllocError>
-    ensures { OnOk result (text.new.items
-        ≡ text.old.items ++ flat_map (spec.doubtful_text (map string_bytes names.now)) doubtful.now) }
+    ensures { OnOk result (text.new.items ≡ text.old.items
+        ++ flat_map (spec.doubtful_text (map string_bytes names.now)) doubtful.now) }
 {
     for one in doubtful {
         add_named(text, doubtful_in(one.uid).as_slice(), names, one.log)?;
@@ -224,15 +224,15 @@ fn refused_text(alloc: Global, line: u32, file: &str, reason: &str) -> Result<Ve
 pub(crate) fn ending_text(
     alloc: Global,
     ending: &Ending,
-    list: &str,
+    list_name: &str,
     names: &[String],
 ) -> Result<Vec<u8>, AllocError>
     ensures { IfOk result (λ text.
-        text.items ≡ spec.ending_text list.now (map string_bytes names.now) ending.now) }
+        text.items ≡ spec.ending_text list_name.now (map string_bytes names.now) ending.now) }
 {
     match *ending {
-        Ending::ListRefusedAt { line, fault } => refused_text(alloc, line, list, fault.name()),
-        Ending::NotListedAt { line } => refused_text(alloc, line, list, "NotListed"),
+        Ending::ListRefusedAt { line, fault } => refused_text(alloc, line, list_name, fault.name()),
+        Ending::NotListedAt { line } => refused_text(alloc, line, list_name, "NotListed"),
         Ending::RefusedAt { log, line, fault } => refused_text(
             alloc,
             line,

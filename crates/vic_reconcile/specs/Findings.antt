@@ -60,7 +60,7 @@ pub record IsFirstTold (logs : List (List LogLine)) (u : ℕ) (p : Place) : Type
   pub shows : (lines : List LogLine) → slice_get logs p.log ≡ Some lines
       → ShowsCertain lines p.line u
 
--- with it the UID
+-- the same, for an unlisted UID and its place
 abbrev pub IsToldOf : List (List LogLine) → UnlistedUid → Type 0
 IsToldOf logs s = IsFirstTold logs s.uid s.place
 
@@ -96,6 +96,13 @@ pub record AreFindings (expected : List ℕ) (logs : List (List LogLine)) (f : F
   pub doubtful : IsListOf (IsDoubtful expected logs) (map (λ d. d.uid) f.doubtful.items)
   pub doubtful_first : All (IsFirstPossible logs) f.doubtful.items
 
+-- there are no findings
+pub record AreNone (f : Findings) : Type 0 where
+  pub absent : f.absent.items ≡ []
+  pub unlisted : f.unlisted.items ≡ []
+  pub unsettled : f.unsettled ≡ None
+  pub doubtful : f.doubtful.items ≡ []
+
 -- everything that is expected is somewhere, and nothing else: some family could have produced the
 -- logs, and in each that could have, exactly the expected UIDs are somewhere
 abbrev pub IsWhole : List ℕ → List (List LogLine) → Type 0
@@ -114,18 +121,15 @@ is_listed Garbled = false
 is_listed (Sent q) = false
 is_listed FieldCycle = false
 
+-- every line lists a UID
+abbrev pub IsList : List LogLine → Type 0
+IsList lines = All (λ (l : LogLine). is_listed l.item ≡ true) lines
+
 -- the number of the first line that lists no UID
 pub record IsFirstNotListed (lines : List LogLine) (n : ℕ) : Type 0 where
   pub place : ℕ
   pub line : LogLine
   pub there : slice_get lines place ≡ Some line
   pub number : line.number ≡ n
-  pub unlisted : is_listed line.item ≡ false
-  pub before : All (λ (l : LogLine). is_listed l.item ≡ true) (take place lines)
-
--- there is none
-pub record AreNone (f : Findings) : Type 0 where
-  pub absent : f.absent.items ≡ []
-  pub unlisted : f.unlisted.items ≡ []
-  pub unsettled : f.unsettled ≡ None
-  pub doubtful : f.doubtful.items ≡ []
+  pub other : is_listed line.item ≡ false
+  pub before : IsList (take place lines)

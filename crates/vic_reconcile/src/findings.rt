@@ -70,8 +70,8 @@ impl Findings {
 }
 
 impl Reconciliation {
-    /// What the logs that were added tell together against the list. It is want of memory alone
-    /// that keeps it from an answer.
+    /// What the logs that were added tell together against the list. The only error
+    /// is that memory was refused.
     pub fn findings(&self) -> Result<Findings, AllocError>
         ensures { IfOk result (λ f. (expected : List ℕ) (logs : List (List LogLineValue))
             → IsJoined expected logs self.now → AreFindings expected logs f) }

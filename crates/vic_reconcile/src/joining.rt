@@ -8,7 +8,7 @@ ghost use Rattle.vic_verdict.specs.Facts.{AreFactsOf};
 ghost use Rattle.vic_verdict.specs.LogLines.{AreLogLines};
 ghost use Rattle.vic_verdict.specs.Verdict.{IsVerdict};
 ghost use Rattle.vic_verdict.specs.declared.judging.Verdict.TheVariants.{Impossible};
-ghost use Rattle.vic_reconcile.specs.Findings.{IsFirstNotListed, is_listed};
+ghost use Rattle.vic_reconcile.specs.Findings.{IsFirstNotListed, IsList, is_listed};
 ghost use Rattle.vic_reconcile.specs.Joined.{AreNoted, IsJoined};
 
 use crate::reconciliation::{Place, Reconciliation};
@@ -28,6 +28,7 @@ impl Reconciliation {
     pub fn expecting(alloc: Global, list: &Log) -> Result<Result<Reconciliation, u32>, AllocError>
         ensures begun { IfOk result (λ r. IfOk r
             (IsJoined (listed (entries list.now.lines)) [])) }
+        ensures list { IfOk result (λ r. OnOk r (IsList list.now.lines)) }
         ensures refused { IfOk result (λ r. IfErr r (IsFirstNotListed list.now.lines)) }
     {
         let lines = list.lines();
@@ -114,6 +115,7 @@ impl Reconciliation {
 /// The first line of a log that lists no UID.
 fn first_not_listed(lines: &[PackedLine]) -> Option<u32>
     ensures some { IfSome result (IsFirstNotListed lines.now) }
+    ensures none { IfNone result (IsList lines.now) }
 {
     for line in lines {
         if !is_listed(&line.item()) {
@@ -130,7 +132,7 @@ fn is_listed(entry: &Entry) -> bool
     matches!(entry, Entry::Listed(_))
 }
 
-/// Notes where the slots of a log tell of UIDs that have no place yet.
+/// Notes the lines that show UIDs of which no line was noted yet.
 fn note_all(
     certain: &mut BTreeMap<Uid, Place>,
     log: usize,

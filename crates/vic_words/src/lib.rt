@@ -15,8 +15,8 @@ pub enum Asked {
     Reconcile(String, Vec<String>),
 }
 
-/// What the program is asked to do with one text. A file has the name that was given; without one it is standard
-/// input.
+/// What the program is asked to do with one file, frame or list of words. Without a file it reads
+/// standard input.
 #[derive(Debug, Drop)]
 pub enum Task {
     /// To judge a log.
@@ -44,10 +44,10 @@ impl Task {
     }
 }
 
-/// Why the words don't name a task.
+/// Why the words ask for nothing.
 #[derive(Clone, Copy, Debug, Drop, PartialEq, Eq)]
 pub enum WordsFault {
-    /// They aren't a command with its operand.
+    /// They aren't a command with its operands.
     Usage,
     /// Memory to read them was refused.
     Memory,

@@ -1,10 +1,16 @@
-use Rattle.std.proofs.Common.{◌≡◌, true, ap, sym, ◌∙◌}
+use Rattle.std.proofs.Common.{◌≡◌, true, ap, arith, subst, sym, ◌∙◌}
+use Rattle.std.proofs.lemmas.List.{take_all}
 use Rattle.std.proofs.lemmas.List.Elements.{All-more}
 use Rattle.vic_log.specs.declared.entry.LogLine.{LogLine}
-use Rattle.vic_reconcile.specs.Findings.{is_listed}
+use Rattle.vic_reconcile.specs.Findings.{IsList, is_listed}
 use Rattle.vic_reconcile.proofs.joining.first_not_listed.Goals as goal
 
 pub loop-line-preserved : goal.loop-line-preserved
 loop-line-preserved c =
     All-more (λ (x : LogLine). is_listed x.item ≡ true) c.args.lines.now c.loop-line.line-index c.line-item.result c.loop-line-test.true c.loop-line.invariant
     (ap (λ (x : LogLine). is_listed x.item) (sym c.line-item.is) ∙ (ap is_listed (sym c.item.ensures) ∙ (sym c.is_listed.ensures ∙ c.if-not-is_listed.false)))
+
+pub returns-clause-none : goal.returns-clause-none
+returns-clause-none c =
+    let end = c.loop-line-test.false in
+    subst IsList (take_all c.loop-line.line-index c.args.lines.now (omega arith)) c.loop-line.invariant
