@@ -52,7 +52,7 @@ before_itself a h = let lt = h.1 refl in omega arith
 abbrev pub mask_cmp : BitMask → BitMask → Ordering
 mask_cmp a b = ordering_then (nat_cmp a.len b.len) (nat_cmp a.value b.value)
 
-compared : (a b : BitMask) → MatchOrdering (mask_cmp a b) (ComesBefore a b) (a ≡ b) (ComesBefore b a)
+pub compared : (a b : BitMask) → MatchOrdering (mask_cmp a b) (ComesBefore a b) (a ≡ b) (ComesBefore b a)
 compared a b = go (nat_cmp a.len b.len) (nat_cmp a.value b.value) (ranked a.len b.len _ refl) (ranked a.value b.value _ refl) where
   go : (r s : Ordering) → MatchOrdering r (a.len < b.len) (a.len ≡ b.len) (b.len < a.len) → MatchOrdering s (a.value < b.value) (a.value ≡ b.value) (b.value < a.value) → MatchOrdering (ordering_then r s) (ComesBefore a b) (a ≡ b) (ComesBefore b a)
   go Less s h k = (omega arith, λ e. absurd (omega arith))
@@ -60,6 +60,11 @@ compared a b = go (nat_cmp a.len b.len) (nat_cmp a.value b.value) (ranked a.len 
   go Equal Equal h k = same_mask a b h k
   go Equal Greater h k = (omega arith, λ e. k)
   go Greater s h k = (omega arith, λ e. absurd (omega arith))
+
+pub less_before : (a b : BitMask) → mask_cmp a b ≡ Less → ComesBefore a b
+less_before a b e = go (mask_cmp a b) e (compared a b) where
+  go : (r : Ordering) → r ≡ Less → MatchOrdering r (ComesBefore a b) (a ≡ b) (ComesBefore b a) → ComesBefore a b
+  go r e h = rw e at h
 
 -- the position that a search of masks in order finds
 rises : (ms : List BitMask) (m : BitMask) → AllPairs ComesBefore ms → IsNonDecreasingBy (λ x. ordering_index (mask_cmp x m)) ms
@@ -80,12 +85,9 @@ in_order : (ms : List BitMask) (m : BitMask) (i : ℕ) → AllPairs ComesBefore 
 in_order ms m i up found =
     let place = found (rises ms m up) in
     AllPairs-insert ComesBefore ms i m up
-    (λ k d from lt. less (get_or ms k d) m _ (place.0 k d from lt) (compared (get_or ms k d) m))
+    (λ k d from lt. less_before (get_or ms k d) m (place.0 k d from lt))
     (λ k d from lt. greater (get_or ms k d) m _ (place.1 k d from lt) (compared (get_or ms k d) m))
   where
-    less : (a b : BitMask) (r : Ordering) → r ≡ Less → MatchOrdering r (ComesBefore a b) (a ≡ b) (ComesBefore b a) → ComesBefore a b
-    less a b r e h = rw e at h
-
     greater : (a b : BitMask) (r : Ordering) → r ≡ Greater → MatchOrdering r (ComesBefore a b) (a ≡ b) (ComesBefore b a) → ComesBefore b a
     greater a b r e h = rw e at h
 
@@ -177,31 +179,37 @@ first_kept P Q xs ys f g = record {
   ];
 }
 
-pub first_like : (n : ℕ) (P Q : BitMask → Type 0) (xs : List BitMask) → ((m : BitMask) → P m → Q m) → ((m : BitMask) → Q m → P m) → AreFirst n P xs → AreFirst n Q xs
-first_like n P Q xs p q f = record {
+pub first_like : (n : ℕ) (P Q : BitMask → Type 0) (xs : List BitMask) → ((m : BitMask) → P m ↔ Q m) → AreFirst n P xs → AreFirst n Q xs
+first_like n P Q xs like f = record {
   rising = f.rising;
-  wanted = All-weaker P Q p xs f.wanted;
-  others = λ m r. f.others m (q m r);
+  wanted = All-weaker P Q (λ m. (like m).0) xs f.wanted;
+  others = λ m q. f.others m ((like m).1 q);
 }
 
-pub kept_like : (P Q : BitMask → Type 0) (xs ys : List BitMask) → ((m : BitMask) → P m → Q m) → ((m : BitMask) → Q m → P m) → Keeps P xs ys → Keeps Q xs ys
-kept_like P Q xs ys p q g = record {
-  first = first_like 17 (λ m. Contains xs m ⊎ P m) (λ m. Contains xs m ⊎ Q m) ys
-      (λ m w. elim w [ inl old ↦ inl old | inr x ↦ inr (p m x) ])
-      (λ m w. elim w [ inl old ↦ inl old | inr y ↦ inr (q m y) ])
-      g.first;
+pub or_like : (A P Q : Type 0) → P ↔ Q → A ⊎ P ↔ A ⊎ Q
+or_like A P Q like = (
+  λ w. elim w [ inl a ↦ inl a | inr x ↦ inr (like.0 x) ],
+  λ w. elim w [ inl a ↦ inl a | inr y ↦ inr (like.1 y) ],
+)
+
+pub or_both : (A P Q R : Type 0) → P ⊎ Q ↔ R → (A ⊎ P) ⊎ Q ↔ A ⊎ R
+or_both A P Q R like = (
+  λ w. elim w [ inl v ↦ elim v [ inl a ↦ inl a | inr x ↦ inr (like.0 (inl x)) ] | inr y ↦ inr (like.0 (inr y)) ],
+  λ w. elim w [ inl a ↦ inl (inl a) | inr r ↦ elim (like.1 r) [ inl x ↦ inl (inr x) | inr y ↦ inr y ] ],
+)
+
+pub kept_like : (P Q : BitMask → Type 0) (xs ys : List BitMask) → ((m : BitMask) → P m ↔ Q m) → Keeps P xs ys → Keeps Q xs ys
+kept_like P Q xs ys like g = record {
+  first = first_like 17 (λ m. Contains xs m ⊎ P m) (λ m. Contains xs m ⊎ Q m) ys (λ m. or_like (Contains xs m) (P m) (Q m) (like m)) g.first;
   past = g.past;
 }
 
 -- one after another, said as one
-pub kept_both : (P Q R : BitMask → Type 0) (xs ys zs : List BitMask) → ((m : BitMask) → P m ⊎ Q m → R m) → ((m : BitMask) → R m → P m ⊎ Q m) → Keeps P xs ys → Keeps Q ys zs → Keeps R xs zs
-kept_both P Q R xs ys zs p q g h = kept_like (λ m. P m ⊎ Q m) R xs zs p q (record {
-  first = first_like 17 (λ m. (Contains xs m ⊎ P m) ⊎ Q m) (λ m. Contains xs m ⊎ (P m ⊎ Q m)) zs
-      (λ m w. elim w [ inl a ↦ elim a [ inl old ↦ inl old | inr x ↦ inr (inl x) ] | inr y ↦ inr (inr y) ])
-      (λ m w. elim w [ inl old ↦ inl (inl old) | inr r ↦ elim r [ inl x ↦ inl (inr x) | inr y ↦ inr y ] ])
-      (first_kept (λ m. Contains xs m ⊎ P m) Q ys zs g.first h);
+pub kept_both : (P Q R : BitMask → Type 0) (xs ys zs : List BitMask) → ((m : BitMask) → P m ⊎ Q m ↔ R m) → Keeps P xs ys → Keeps Q ys zs → Keeps R xs zs
+kept_both P Q R xs ys zs like g h = record {
+  first = first_like 17 (λ m. (Contains xs m ⊎ P m) ⊎ Q m) (λ m. Contains xs m ⊎ R m) zs (λ m. or_both (Contains xs m) (P m) (Q m) (R m) (like m)) (first_kept (λ m. Contains xs m ⊎ P m) Q ys zs g.first h);
   past = λ m a. h.past m (g.past m a);
-})
+}
 
 -- what is given of those that are kept
 pub given_first : (P : BitMask → Type 0) (ms masks : List BitMask) → masks ≡ take (min (length ms) 16) ms → AreFirst 17 P ms → AreFirst 16 P masks

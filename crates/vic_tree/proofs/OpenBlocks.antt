@@ -1,5 +1,5 @@
 -- The greatest blocks of a run of keys.
-use Rattle.std.proofs.Common.{◌≡◌, ℕ, ◌+◌, ◌-◌, ◌*◌, ◌/◌, ◌^◌, ◌%◌, ◌<◌, ◌≤◌, ◌⊎◌, inl, inr, Bool, false, List, [], Option, Some, IfSome, sym, ap, subst, ◌∙◌, arith}
+use Rattle.std.proofs.Common.{◌≡◌, ℕ, ◌+◌, ◌-◌, ◌*◌, ◌/◌, ◌^◌, ◌%◌, ◌<◌, ◌≤◌, ◌⊎◌, ◌↔◌, inl, inr, Bool, false, List, [], Option, Some, IfSome, sym, ap, subst, ◌∙◌, arith}
 use Rattle.std.proofs.lemmas.Bool.{cases_lt, cases_eq}
 use Rattle.std.proofs.lemmas.Nat.{pow_pos}
 use Rattle.std.proofs.Math.Nat.{mul-le-mul_right, lt_of_mul-lt-mul_right}
@@ -12,7 +12,7 @@ use Rattle.std.proofs.lemmas.List.Elements.{All-nil}
 use Rattle.vic_tree.specs.KeptMasks.{IsGreatestAt, IsGreatestIn, IsOpenBlock, IsOpenBelow}
 use Rattle.vic_tree.specs.Ranges.{AllKeysPass, HoldsMask, IsFirstRun, is_left, is_open_in}
 use Rattle.vic_tree.proofs.BlockLaws.{IsBlockMask, block_of_mask, key_in_mask, not_before, number_of_mask, same_mask_value, twice}
-use Rattle.vic_tree.proofs.FirstMasks.{first_like, same_mask}
+use Rattle.vic_tree.proofs.FirstMasks.{same_mask}
 use Rattle.vic_tree.proofs.GapLaws.{first_passes, in_gap, in_run, left_keys}
 use Rattle.vic_tree.proofs.RangeLaws.{inside_is}
 
@@ -188,22 +188,21 @@ none_yet p = record {
   others = λ m w. absurd (omega (arith, w.1));
 }
 
--- those of one run more
-pub run_opened : (p : ℕ → Bool) (from first last : ℕ) (ms : List BitMask) → ((k : ℕ) → k + 1 ≡ from → p k ≡ false) → first ≤ last → IsFirstRun p from first last → AreFirst 17 (λ m. IsOpenBelow p from m ⊎ IsGreatestIn first last m) ms → AreFirst 17 (IsOpenBelow p (last + 2)) ms
-run_opened p from first last ms cut forward run f =
-    first_like 17 (λ m. IsOpenBelow p from m ⊎ IsGreatestIn first last m) (IsOpenBelow p (last + 2)) ms
-    (λ m w. elim w [
-      | inl old ↦ (old.0, let a = run.begins in omega (arith, old.1))
-      | inr g ↦ let pos = pow_pos (56 - m.len) in (opened m g, omega (arith, g.inside.2.1))
-    ])
-    (λ m w. elim (in_run p from first last (mirror m.value) run (first_passes p m w.0.passes) w.1) [
-      | inl lt ↦ inl (w.0, lt)
-      | inr at ↦ inr (record {
-        inside = (w.0.is_mask, w.0.short, in_gap p first last m run.ends w.0.passes at.0 (omega (arith, at.1)));
-        greatest = elim w.0.greatest [ inl z ↦ inl z | inr out ↦ inr (λ held. out (λ k lo hi. run.passes k (omega (arith, held.0, lo)) (omega (arith, held.1, hi)))) ];
-      })
-    ])
-    f
+-- those that begin below the end of one run more
+pub run_opened : (p : ℕ → Bool) (from first last : ℕ) → ((k : ℕ) → k + 1 ≡ from → p k ≡ false) → first ≤ last → IsFirstRun p from first last → (m : BitMask) → IsOpenBelow p from m ⊎ IsGreatestIn first last m ↔ IsOpenBelow p (last + 2) m
+run_opened p from first last cut forward run m = (
+  λ w. elim w [
+    | inl old ↦ (old.0, let a = run.begins in omega (arith, old.1))
+    | inr g ↦ let pos = pow_pos (56 - m.len) in (opened g, omega (arith, g.inside.2.1))
+  ],
+  λ w. elim (in_run p from first last (mirror m.value) run (first_passes p m w.0.passes) w.1) [
+    | inl lt ↦ inl (w.0, lt)
+    | inr at ↦ inr (record {
+      inside = (w.0.is_mask, w.0.short, in_gap p first last m run.ends w.0.passes at.0 (omega (arith, at.1)));
+      greatest = elim w.0.greatest [ inl z ↦ inl z | inr out ↦ inr (λ held. out (λ k lo hi. run.passes k (omega (arith, held.0, lo)) (omega (arith, held.1, hi)))) ];
+    })
+  ],
+)
   where
     before : (k : ℕ) → k + 1 ≡ first → p k ≡ false
     before k e = elim (cases_lt k from) [
@@ -211,8 +210,8 @@ run_opened p from first last ms cut forward run f =
       | inr le ↦ run.before k le (omega arith)
     ]
 
-    opened : (m : BitMask) → IsGreatestIn first last m → IsOpenBlock p m
-    opened m g = record {
+    opened : IsGreatestIn first last m → IsOpenBlock p m
+    opened g = record {
       is_mask = g.inside.0;
       short = g.inside.1;
       passes = λ k lo hi. run.passes k (omega (arith, g.inside.2.0, lo)) (omega (arith, g.inside.2.1, hi));
@@ -256,25 +255,23 @@ open_block es keys m o =
     }
 
 -- once no key is left, they are all
-pub all_opened : (es : List (ℕ × ℕ)) (keys : List ℕ) (b : ℕ) (ms : List BitMask) → ((k : ℕ) → b ≤ k → is_left es keys k ≡ false) → AreFirst 17 (IsOpenBelow (is_left es keys) b) ms → AreFirst 17 (IsOpenMask (without_keys (is_open_in es) keys)) ms
-all_opened es keys b ms none f =
-    first_like 17 (IsOpenBelow (is_left es keys) b) (IsOpenMask (without_keys (is_open_in es) keys)) ms
-    (λ m w. open_mask es keys m w.0)
-    (λ m o.
-    let block = open_block es keys m o in
-    let t = first_passes (is_left es keys) m block.passes in (
-      block,
-      elim (cases_lt (mirror m.value) b) [
-        | inl lt ↦ lt
-        | inr from ↦ absurd (let e = none (mirror m.value) from in cc (t, e))
-      ],
-    ))
-    f
+pub all_opened : (es : List (ℕ × ℕ)) (keys : List ℕ) (b : ℕ) → ((k : ℕ) → b ≤ k → is_left es keys k ≡ false) → (m : BitMask) → IsOpenBelow (is_left es keys) b m ↔ IsOpenMask (without_keys (is_open_in es) keys) m
+all_opened es keys b none m = (
+  λ w. open_mask es keys m w.0,
+  λ o.
+      let block = open_block es keys m o in
+      let t = first_passes (is_left es keys) m block.passes in (
+        block,
+        elim (cases_lt (mirror m.value) b) [
+          | inl lt ↦ lt
+          | inr from ↦ absurd (let e = none (mirror m.value) from in cc (t, e))
+        ],
+      ),
+)
 
 -- the greatest masks of one length more
 pub greatest_of_len : (from to len : ℕ) (a b : Option BitMask) → IfSome a (IsGreatestAt from to len 1) → ((m : BitMask) → IsGreatestAt from to len 1 m → a ≡ Some m) → IfSome b (IsGreatestAt from to len 0) → ((m : BitMask) → IsGreatestAt from to len 0 m → b ≡ Some m) → (m : BitMask)
-    → ((((IsGreatestIn from to m × (m.len < len)) ⊎ (a ≡ Some m)) ⊎ (b ≡ Some m)) → IsGreatestIn from to m × (m.len < len + 1))
-    × (IsGreatestIn from to m × (m.len < len + 1) → ((IsGreatestIn from to m × (m.len < len)) ⊎ (a ≡ Some m)) ⊎ (b ≡ Some m))
+    → ((IsGreatestIn from to m × (m.len < len)) ⊎ (a ≡ Some m)) ⊎ (b ≡ Some m) ↔ IsGreatestIn from to m × (m.len < len + 1)
 greatest_of_len from to len a b odd only_odd even only_even m = (
   λ w. elim w [
     | inl v ↦ elim v [ inl old ↦ (old.0, omega (arith, old.1)) | inr e ↦ told 1 a odd e ]

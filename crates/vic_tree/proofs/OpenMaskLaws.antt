@@ -1,12 +1,15 @@
 -- The open masks of a set are apart, and hold all of it.
-use Rattle.std.proofs.Common.{◌≡◌, ℕ, zero, suc, ◌+◌, ◌-◌, ◌*◌, ◌^◌, ◌%◌, ◌<◌, ◌≤◌, ◌||◌, ◌⊎◌, inl, inr, Bool, true, false, not, refl, sym, ap, subst, ◌∙◌, arith}
+use Rattle.std.proofs.Common.{◌≡◌, ℕ, zero, suc, ◌+◌, ◌-◌, ◌*◌, ◌^◌, ◌%◌, ◌<◌, ◌≤◌, ◌||◌, ◌⊎◌, inl, inr, Bool, true, false, not, List, refl, sym, ap, subst, ◌∙◌, arith}
 use Rattle.std.proofs.lemmas.Bool.{cases_lt, eq-eqb, eqb-true}
+use Rattle.std.specs.List.{list_any}
+use Rattle.std.proofs.lemmas.List.Folds.{Any-from_list_any, list_any_at}
 use Rattle.std.proofs.lemmas.Nat.{pow_pos}
 use Rattle.vic_frame.specs.Uids.{IsUid}
 use Rattle.vic_frame.specs.Masks.{BitMask, lies_in}
 use Rattle.vic_frame.proofs.MaskLaws.{mod_mod_pow}
-use Rattle.vic_tree.specs.OpenMasks.{IsOpenMask, parent}
-use Rattle.vic_tree.specs.OpenSet.{AllOpen}
+use Rattle.vic_tree.specs.OpenMasks.{AreAll, IsOpenMask, parent}
+use Rattle.vic_tree.specs.OpenSet.{AllOpen, SameUids}
+use Rattle.vic_tree.proofs.BoolLaws.{same_tests}
 use Rattle.vic_tree.proofs.FirstMasks.{same_mask}
 
 inside : (m : BitMask) (u : ℕ) → lies_in m u ≡ true → u % 2 ^ m.len ≡ m.value
@@ -94,3 +97,16 @@ held set u is_uid h = open_above set u 56 (omega arith) (λ v is there.
     let low_bits : v % 2 ^ 56 ≡ u % 2 ^ 56 = inside (low 56 u) v there in
     let same : v ≡ u = omega (arith, low_bits, is.0, is.1, is_uid.0, is_uid.1) in
     ap set same ∙ h)
+
+-- what all of them hold is the set
+pub all_held : (set : ℕ → Bool) (ms : List BitMask) → AreAll (IsOpenMask set) ms → SameUids set (λ u. list_any (λ m. lies_in m u) ms)
+all_held set ms all u is_uid =
+    same_tests (set u) (list_any (λ m. lies_in m u) ms)
+    (λ e.
+    let h = held set u is_uid e in
+    let at = all.others h.0 h.1 in
+    list_any_at (λ m. lies_in m u) ms at.0 h.0 at.1 (ap (λ m. lies_in m u) at.2 ∙ h.2))
+    (λ e.
+    let one = Any-from_list_any (λ m. lies_in m u) ms e in
+    let open' : IsOpenMask set one.1 = subst (IsOpenMask set) one.3 (all.wanted one.0 one.1 one.2) in
+    open'.open_throughout u is_uid one.4)

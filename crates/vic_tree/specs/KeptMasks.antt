@@ -1,5 +1,5 @@
--- How the first open masks of ranges of keys are found: run by run, a few blocks of each.
-use Rattle.std.specs.Prelude.{◌≡◌, ℕ, ◌%◌, ◌<◌, ◌≤◌, ◌⊎◌, Bool, List, length}
+-- How the open masks of ranges of keys are found: run by run, a few blocks of each.
+use Rattle.std.specs.Prelude.{◌≡◌, ℕ, ◌%◌, ◌<◌, ◌≤◌, ◌⊎◌, ◌↔◌, Bool, List, length}
 use Rattle.std.specs.List.{AllPairs, Contains}
 use Rattle.vic_frame.specs.declared.uid.TheConstants.{UID_BITS}
 use Rattle.vic_frame.specs.Masks.{BitMask, IsMask}
@@ -38,3 +38,7 @@ AreKept ms = AllPairs ComesBefore ms × (length ms ≤ KEPT)
 pub record Keeps (IsMore : BitMask → Type 0) (old new : List BitMask) : Type 0 where
   pub first : AreFirst KEPT (λ m. Contains old m ⊎ IsMore m) new
   pub past : (m : BitMask) → IsPast KEPT old m → IsPast KEPT new m
+
+-- the masks of a list and additional ones
+abbrev pub Adds : (BitMask → Type 0) → List BitMask → List BitMask → Type 0
+Adds IsMore old new = (m : BitMask) → Contains old m ⊎ IsMore m ↔ Contains new m

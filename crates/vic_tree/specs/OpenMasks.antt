@@ -29,3 +29,9 @@ pub record AreFirst (most : ℕ) (IsWanted : BitMask → Type 0) (ms : List BitM
   pub rising : AllPairs ComesBefore ms
   pub wanted : All IsWanted ms
   pub others : (m : BitMask) → IsWanted m → Contains ms m ⊎ IsPast most ms m
+
+-- all the wanted masks, in order
+pub record AreAll (IsWanted : BitMask → Type 0) (ms : List BitMask) : Type 0 where
+  pub rising : AllPairs ComesBefore ms
+  pub wanted : All IsWanted ms
+  pub others : (m : BitMask) → IsWanted m → Contains ms m

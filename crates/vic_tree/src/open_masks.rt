@@ -4,20 +4,21 @@
 //! The keys that are left form runs. Of the blocks of one size in a run, only the first and the
 //! last can fail to be half of a greater block in it.
 
-ghost use Rattle.std.specs.Prelude.{◌≡◌, ℕ, ◌≤◌, ◌↔◌, ◌⊎◌, Bool, true, IfSome, Some, length};
+ghost use Rattle.std.specs.Prelude.{◌≡◌, ℕ, ◌≤◌, ◌↔◌, ◌⊎◌, Bool, true, IfOk, OnOk, IfSome, Some, length};
 ghost use Rattle.std.specs.List.{Contains};
 ghost use Rattle.std.specs.List.Sorted.{IsNonDecreasing};
 ghost use Rattle.vic_frame.specs.Masks.{BitMask};
 ghost use Rattle.vic_frame.specs.LowBitsFirst.{IsKey};
 ghost use Rattle.vic_tree.specs.OpenSet.{AreKeys, without_keys};
-ghost use Rattle.vic_tree.specs.OpenMasks.{AreFirst, IsOpenMask};
-ghost use Rattle.vic_tree.specs.KeptMasks.{AreKept, IsGreatestAt, IsGreatestIn, Keeps};
+ghost use Rattle.vic_tree.specs.OpenMasks.{AreAll, AreFirst, IsOpenMask};
+ghost use Rattle.vic_tree.specs.KeptMasks.{Adds, AreKept, IsGreatestAt, IsGreatestIn, Keeps};
 ghost use Rattle.vic_tree.specs.Ranges.{AreRanges, is_open_in};
 
 use crate::blocks::{least_len, mask_of_block, size_of_block};
 use crate::key_range::KeyRange;
 use crate::left::Left;
 use arrayvec::ArrayVec;
+use std::alloc::{AllocError, Global};
 use vic_frame::{Mask, UID_BITS};
 
 /// How many open masks are returned at most.
@@ -94,6 +95,51 @@ fn keep_in_run(kept: &mut ArrayVec<Mask, BUFFER>, from: u64, to: u64)
         keep(kept, greatest_at_start(from, to, len));
         keep(kept, greatest_at_end(from, to, len));
     }
+}
+
+/// All open masks of some ranges without the keys of a list.
+pub(crate) fn all_open_masks_besides(
+    alloc: Global,
+    ranges: &[KeyRange],
+    keys: &[u64],
+) -> Result<Vec<Mask>, AllocError>
+    requires keys { AreKeys keys.now }
+    requires order { IsNonDecreasing keys.now }
+    requires ranges { AreRanges ranges.now }
+    ensures { IfOk result (λ masks. AreAll
+        (IsOpenMask (without_keys (is_open_in ranges.now) keys.now)) masks.items) }
+{
+    let mut masks = Vec::new(alloc);
+    let mut left = Left::new(0, ranges, keys);
+    while let Some(run) = left.next_run() {
+        push_in_run(&mut masks, run.first(), run.last())?;
+    }
+    masks.sort_unstable();
+    masks.dedup();
+    Ok(masks)
+}
+
+/// Appends the greatest masks in a run of keys.
+fn push_in_run(masks: &mut Vec<Mask>, from: u64, to: u64) -> Result<(), AllocError>
+    requires forward { from ≤ to }
+    requires small { IsKey to }
+    ensures { OnOk result (Adds (IsGreatestIn from to) masks.old.items masks.new.items) }
+{
+    for len in least_len(from, to)..UID_BITS + 1 {
+        push_found(masks, greatest_at_start(from, to, len))?;
+        push_found(masks, greatest_at_end(from, to, len))?;
+    }
+    Ok(())
+}
+
+/// Appends a mask, if one was found.
+fn push_found(masks: &mut Vec<Mask>, found: Option<Mask>) -> Result<(), AllocError>
+    ensures { OnOk result (Adds (λ m. found ≡ Some m) masks.old.items masks.new.items) }
+{
+    if let Some(mask) = found {
+        masks.push(mask)?;
+    }
+    Ok(())
 }
 
 /// The first mask of `len` bits in a run, if it is the upper half of one that begins before the

@@ -7,12 +7,12 @@ ghost use Rattle.vic_frame.specs.Uids.{IsUid, has};
 ghost use Rattle.vic_frame.specs.Masks.{BitMask, IsMask};
 ghost use Rattle.vic_frame.specs.LowBitsFirst.{mirror};
 ghost use Rattle.vic_tree.specs.OpenSet.{AreKeys, SameUids, settled, without_keys};
-ghost use Rattle.vic_tree.specs.OpenMasks.{AreFirst, IsOpenMask};
+ghost use Rattle.vic_tree.specs.OpenMasks.{AreAll, AreFirst, IsOpenMask};
 ghost use Rattle.vic_tree.specs.Ranges.{AreRanges, is_between, is_open_in};
 
 use crate::gaps::{gather_besides, widest_besides};
 use crate::key_range::KeyRange;
-use crate::open_masks::{MAX_OPEN_MASKS, OpenMasks, open_masks_besides};
+use crate::open_masks::{MAX_OPEN_MASKS, OpenMasks, all_open_masks_besides, open_masks_besides};
 use crate::open_set::OpenSet;
 use crate::ranges::{between, is_in, is_in_first, outside, push_others, skip_to};
 use arrayvec::ArrayVec;
@@ -129,6 +129,21 @@ impl RangeSet {
             × (¬ (Contains result.masks.items m)) }
     {
         open_masks_besides(&self.ranges, keys)
+    }
+
+    /// All open masks of the set without the UIDs with some keys, which come in order: by length,
+    /// then by value.
+    pub fn all_open_masks_besides(
+        &self,
+        alloc: Global,
+        keys: &[u64],
+    ) -> Result<Vec<Mask>, AllocError>
+        requires order { IsNonDecreasing keys.now }
+        requires keys { AreKeys keys.now }
+        ensures { IfOk result (λ masks. AreAll
+            (IsOpenMask (without_keys (is_open_in self.now) keys.now)) masks.items) }
+    {
+        all_open_masks_besides(alloc, &self.ranges, keys)
     }
 }
 

@@ -1,8 +1,10 @@
-//! Sets as ranges, made of others: a set without the UIDs at some keys, and the union of some sets.
+//! Sets as ranges, made of others: a set without the UIDs at some keys, and the union of some sets
+//! or masks.
 
 ghost use Rattle.std.specs.Prelude.{◌≡◌, ℕ, ◌&&◌, not, IfOk};
 ghost use Rattle.std.specs.List.{list_any};
 ghost use Rattle.std.specs.List.Sorted.{IsNonDecreasing};
+ghost use Rattle.vic_frame.specs.Masks.{lies_in};
 ghost use Rattle.vic_frame.specs.Uids.{has};
 ghost use Rattle.vic_tree.specs.OpenSet.{AreKeys, SameUids, without_keys};
 ghost use Rattle.vic_tree.specs.Ranges.{AreRanges, in_ranges, is_left, is_open_in};
@@ -12,6 +14,8 @@ use crate::left::Left;
 use crate::range_set::RangeSet;
 use crate::ranges::{between, outside};
 use std::alloc::{AllocError, Global};
+use vic_frame::Mask;
+use vic_frame::low_bits_first::keys_of;
 
 impl RangeSet {
     /// The set without the UIDs at some keys, which come in order.
@@ -30,10 +34,15 @@ impl RangeSet {
         ensures { IfOk result (λ set. SameUids (is_open_in set)
             (λ u. list_any (λ one. is_open_in one u) sets.now)) }
     {
-        let all = all_ranges(alloc, sets)?;
-        let others = outside(alloc, all)?;
-        let ranges = between(alloc, &others)?;
-        Ok(RangeSet { ranges, alloc })
+        set_of(alloc, all_ranges(alloc, sets)?)
+    }
+
+    /// The UIDs that lie in at least one of some masks.
+    pub fn of_masks(alloc: Global, masks: &[Mask]) -> Result<RangeSet, AllocError>
+        ensures { IfOk result (λ set. SameUids (is_open_in set)
+            (λ u. list_any (λ m. lies_in m u) masks.now)) }
+    {
+        set_of(alloc, ranges_of(alloc, masks)?)
     }
 }
 
@@ -54,6 +63,15 @@ fn left_of(alloc: Global, ranges: &[KeyRange], keys: &[u64]) -> Result<Vec<KeyRa
     Ok(runs)
 }
 
+/// The set of the UIDs with keys in some ranges, which may come in any order, adjoin and overlap.
+fn set_of(alloc: Global, ranges: Vec<KeyRange>) -> Result<RangeSet, AllocError>
+    ensures { IfOk result (λ set. SameUids (is_open_in set) (is_open_in ranges.items)) }
+{
+    let others = outside(alloc, ranges)?;
+    let ranges = between(alloc, &others)?;
+    Ok(RangeSet { ranges, alloc })
+}
+
 /// The ranges of all sets, one set after another.
 fn all_ranges(alloc: Global, sets: &[RangeSet]) -> Result<Vec<KeyRange>, AllocError>
     ensures { IfOk result (λ all. (k : ℕ)
@@ -65,4 +83,18 @@ fn all_ranges(alloc: Global, sets: &[RangeSet]) -> Result<Vec<KeyRange>, AllocEr
         all.extend_from_slice(&set.ranges)?;
     }
     Ok(all)
+}
+
+/// The keys of each mask that holds a UID.
+fn ranges_of(alloc: Global, masks: &[Mask]) -> Result<Vec<KeyRange>, AllocError>
+    ensures { IfOk result (λ ranges. SameUids (is_open_in ranges.items)
+        (λ u. list_any (λ m. lies_in m u) masks.now)) }
+{
+    let mut ranges = Vec::with_capacity(alloc, masks.len())?;
+    for mask in masks {
+        if let Some(keys) = keys_of(mask) {
+            ranges.push(KeyRange::new(keys.first, keys.last()))?;
+        }
+    }
+    Ok(ranges)
 }

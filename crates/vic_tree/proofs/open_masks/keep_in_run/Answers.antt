@@ -26,8 +26,7 @@ returns-then-len-clause-keeps c =
     let is : last ≡ get_or ms 16 last = c.index-deref.is ∙ ap (λ (xs : List BitMask). get_or xs 16 last) c.deref.ensures.0 in
     let short : last.len < len = omega arith in
     kept_both (λ m. IsGreatestIn c.args.from c.args.to m × (m.len < len)) (λ m. IsGreatestIn c.args.from c.args.to m × (len ≤ m.len)) (IsGreatestIn c.args.from c.args.to) c.args.kept.now.items ms ms
-    (λ m w. elim w [ inl a ↦ a.0 | inr a ↦ a.0 ])
-    (λ m g. elim (cases_lt m.len len) [ inl lt ↦ inl (g, lt) | inr le ↦ inr (g, le) ])
+    (λ m. (λ w. elim w [ inl a ↦ a.0 | inr a ↦ a.0 ], λ g. elim (cases_lt m.len len) [ inl lt ↦ inl (g, lt) | inr le ↦ inr (g, le) ]))
     inv.keeps
     (none_kept (λ m. IsGreatestIn c.args.from c.args.to m × (len ≤ m.len)) ms inv.kept (λ m w. inr (past_last ms last m inv.kept.0 full is (omega (arith, w.1, short), λ e. absurd (omega (arith, w.1, short))))))
 
@@ -38,10 +37,10 @@ loop-len-preserved c =
     let len = c.loop-len.len in
     let a = c.greatest_at_start in
     let b = c.greatest_at_end in
-    let first = kept_both (λ m. IsGreatestIn from to m × (m.len < len)) (λ m. a.result ≡ Some m) (λ m. (IsGreatestIn from to m × (m.len < len)) ⊎ (a.result ≡ Some m)) _ _ _ (λ m w. w) (λ m w. w) c.loop-len.invariant.keeps c.keep.ensures.keeps in
+    let first = kept_both (λ m. IsGreatestIn from to m × (m.len < len)) (λ m. a.result ≡ Some m) (λ m. (IsGreatestIn from to m × (m.len < len)) ⊎ (a.result ≡ Some m)) _ _ _ (λ m. (λ w. w, λ w. w)) c.loop-len.invariant.keeps c.keep.ensures.keeps in
     let told = greatest_of_len from to len a.result b.result a.ensures.found a.ensures.only b.ensures.found b.ensures.only in
     record {
-      keeps = kept_both (λ m. (IsGreatestIn from to m × (m.len < len)) ⊎ (a.result ≡ Some m)) (λ m. b.result ≡ Some m) (λ m. IsGreatestIn from to m × (m.len < len + 1)) _ _ _ (λ m. (told m).0) (λ m. (told m).1) first c.keep-in-loop-len.ensures.keeps;
+      keeps = kept_both (λ m. (IsGreatestIn from to m × (m.len < len)) ⊎ (a.result ≡ Some m)) (λ m. b.result ≡ Some m) (λ m. IsGreatestIn from to m × (m.len < len + 1)) _ _ _ told first c.keep-in-loop-len.ensures.keeps;
       kept = c.keep-in-loop-len.ensures.kept;
       most = omega (arith, c.loop-len-test.true);
     }
@@ -49,5 +48,5 @@ loop-len-preserved c =
 pub returns-clause-keeps : goal.returns-clause-keeps
 returns-clause-keeps c =
     kept_like (λ m. IsGreatestIn c.args.from c.args.to m × (m.len < c.loop-len.len)) (IsGreatestIn c.args.from c.args.to) c.args.kept.now.items c.loop-len.kept.items
-    (λ m w. w.0) (λ m g. (g, omega (arith, g.inside.1, c.loop-len-test.false)))
+    (λ m. (λ w. w.0, λ g. (g, omega (arith, g.inside.1, c.loop-len-test.false))))
     c.loop-len.invariant.keeps

@@ -1,8 +1,10 @@
-use Rattle.std.proofs.Common.{◌≡◌, ◌∙◌, ◌+◌, refl, ap, arith}
+use Rattle.std.proofs.Common.{◌≡◌, ◌∙◌, ℕ, ◌+◌, ◌≤◌, List, false, refl, ap, arith}
+use Rattle.vic_frame.specs.Masks.{BitMask}
 use Rattle.vic_tree.specs.KeptMasks.{IsOpenBelow}
 use Rattle.vic_tree.specs.OpenSet.{without_keys}
 use Rattle.vic_tree.specs.Ranges.{is_left, is_open_in}
-use Rattle.vic_tree.proofs.FirstMasks.{first_kept}
+use Rattle.vic_tree.specs.OpenMasks.{AreFirst, IsOpenMask}
+use Rattle.vic_tree.proofs.FirstMasks.{first_kept, first_like}
 use Rattle.vic_tree.proofs.OpenBlocks.{all_opened, none_yet, run_opened}
 use Rattle.vic_tree.proofs.open_masks.open_masks_besides.Goals as goal
 
@@ -25,15 +27,18 @@ loop-run-preserved c =
       pass = next.rest p inv.pass;
       cut = λ k e. ap p (let at : k ≡ c.in-Some.run'.1 + 1 = omega arith in at) ∙ run.ends;
       kept = c.keep_in_run.ensures.kept;
-      first = rw next.from (run_opened p c.loop-run.left.0 _ _ _ inv.cut (omega arith) run (first_kept (IsOpenBelow p c.loop-run.left.0) _ c.loop-run.kept.items _ inv.first keeps));
+      first = rw next.from (first_like 17 _ (IsOpenBelow p (c.in-Some.run'.1 + 2)) _ (run_opened p c.loop-run.left.0 _ _ inv.cut (omega arith) run) (first_kept (IsOpenBelow p c.loop-run.left.0) _ c.loop-run.kept.items _ inv.first keeps));
     }
+
+first_open : (es : List (ℕ × ℕ)) (keys : List ℕ) (b : ℕ) (ms : List BitMask) → ((k : ℕ) → b ≤ k → is_left es keys k ≡ false) → AreFirst 17 (IsOpenBelow (is_left es keys) b) ms → AreFirst 17 (IsOpenMask (without_keys (is_open_in es) keys)) ms
+first_open es keys b ms none = first_like 17 (IsOpenBelow (is_left es keys) b) (IsOpenMask (without_keys (is_open_in es) keys)) ms (all_opened es keys b none)
 
 pub returns-clause-first : goal.returns-clause-first
 returns-clause-first c =
     let inv = c.loop-run.invariant in
-    c.given.ensures.first (without_keys (is_open_in c.args.ranges.now) c.args.keys.now) (all_opened c.args.ranges.now c.args.keys.now c.loop-run.left.0 c.loop-run.kept.items (c.in_default.ensures.none _ inv.pass) inv.first)
+    c.given.ensures.first (without_keys (is_open_in c.args.ranges.now) c.args.keys.now) (first_open c.args.ranges.now c.args.keys.now c.loop-run.left.0 c.loop-run.kept.items (c.in_default.ensures.none _ inv.pass) inv.first)
 
 pub returns-clause-more : goal.returns-clause-more
 returns-clause-more c =
     let inv = c.loop-run.invariant in
-    c.given.ensures.more (without_keys (is_open_in c.args.ranges.now) c.args.keys.now) (all_opened c.args.ranges.now c.args.keys.now c.loop-run.left.0 c.loop-run.kept.items (c.in_default.ensures.none _ inv.pass) inv.first)
+    c.given.ensures.more (without_keys (is_open_in c.args.ranges.now) c.args.keys.now) (first_open c.args.ranges.now c.args.keys.now c.loop-run.left.0 c.loop-run.kept.items (c.in_default.ensures.none _ inv.pass) inv.first)

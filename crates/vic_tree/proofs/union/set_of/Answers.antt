@@ -4,7 +4,7 @@ use Rattle.vic_frame.proofs.MirrorLaws.{mirror_below}
 use Rattle.vic_tree.specs.Ranges.{in_ranges}
 use Rattle.vic_tree.proofs.RangeLaws.{firsts_rise}
 use Rattle.vic_tree.proofs.UnionLaws.{not_not}
-use Rattle.vic_tree.proofs.range_set.RangeSet.union.Goals as goal
+use Rattle.vic_tree.proofs.union.set_of.Goals as goal
 
 pub between-requires : goal.between-requires
 between-requires c = rw c.deref.ensures.value (firsts_rise 0 _ c.in_ok-others.ensures.ranges)
@@ -14,4 +14,4 @@ returns c u i =
     let k = mirror u in
     let small = mirror_below 56 u in
     let others = ap (λ rs. in_ranges rs k) c.deref.ensures.value ∙ c.in_ok-others.ensures.keys k small in
-    c.in_ok-ranges.ensures.keys k small ∙ ap not others ∙ not_not _ ∙ c.in_ok-all.ensures k
+    c.in_ok-ranges.ensures.keys k small ∙ ap not others ∙ not_not _

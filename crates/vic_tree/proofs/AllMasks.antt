@@ -1,0 +1,62 @@
+-- Lists that have all masks of a kind: in any order, then in order.
+use Rattle.std.proofs.Common.{◌≡◌, ◌⊎◌, ◌↔◌, inl, inr, Bool, true, List, [], ◌∷◌, Ordering, Less, Equal, Greater, is_eq, sym, ◌∙◌, arith}
+use Rattle.std.specs.Cmp.{IsEquivalence, IsTotalOrder}
+use Rattle.std.specs.List.{All, AllByRecursion, AllPairs, Contains, dedup}
+use Rattle.std.specs.List.Sorted.{IsPermutation, IsSorted, IsStrictlySortedBy}
+use Rattle.std.specs.Ordering.{MatchOrdering, eq_by_cmp}
+use Rattle.std.proofs.lemmas.Cmp.{eq_by_cmp_equiv, nat_cmp_total, on_total, then_total}
+use Rattle.std.proofs.lemmas.List.Elements.{All-cons, All-nil, Contains-get_or}
+use Rattle.std.proofs.lemmas.List.Filters.{All-dedup}
+use Rattle.std.proofs.lemmas.List.Kept.{AllPairs-cons, Contains-dedup, IsStrictlySortedBy-dedup}
+use Rattle.std.proofs.lemmas.List.Sorted.{All-permutation, Contains-permutation}
+use Rattle.vic_frame.specs.Masks.{BitMask}
+use Rattle.vic_tree.specs.KeptMasks.{Adds}
+use Rattle.vic_tree.specs.OpenMasks.{AreAll, ComesBefore}
+use Rattle.vic_tree.proofs.FirstMasks.{compared, less_before, mask_cmp, or_both}
+
+-- some masks, and those that are added
+pub members_both : (P Q R : BitMask → Type 0) (ys zs : List BitMask) → ((m : BitMask) → P m ⊎ Q m ↔ R m) → ((m : BitMask) → P m ↔ Contains ys m) → Adds Q ys zs → (m : BitMask) → R m ↔ Contains zs m
+members_both P Q R ys zs like own adds m = (
+  λ r. (adds m).0 (elim ((like m).1 r) [ inl x ↦ inl ((own m).0 x) | inr y ↦ inr y ]),
+  λ h. (like m).0 (elim ((adds m).1 h) [ inl old ↦ inl ((own m).1 old) | inr y ↦ inr y ]),
+)
+
+-- one after another, said as one
+pub adds_both : (P Q R : BitMask → Type 0) (xs ys zs : List BitMask) → ((m : BitMask) → P m ⊎ Q m ↔ R m) → Adds P xs ys → Adds Q ys zs → Adds R xs zs
+adds_both P Q R xs ys zs like = members_both (λ m. Contains xs m ⊎ P m) Q (λ m. Contains xs m ⊎ R m) ys zs (λ m. or_both (Contains xs m) (P m) (Q m) (R m) (like m))
+
+-- what a sort leaves in order once no mask is there twice
+after : (m : BitMask) (ms : List BitMask) → AllByRecursion (λ n. mask_cmp m n ≡ Less) ms → All (ComesBefore m) ms
+after m [] h = All-nil (ComesBefore m)
+after m (n ∷ ms) h = All-cons (ComesBefore m) n ms (less_before m n h.0) (after m ms h.1)
+
+rising : (ms : List BitMask) → IsStrictlySortedBy mask_cmp ms → AllPairs ComesBefore ms
+unfolding IsStrictlySortedBy
+rising [] up = λ i j d lt within. absurd (omega arith)
+rising (m ∷ ms) up = AllPairs-cons ComesBefore m ms (after m ms up.0) (rising ms up.1)
+
+total : IsTotalOrder mask_cmp
+total = then_total (on_total (λ m. m.len) nat_cmp_total) (on_total (λ m. m.value) nat_cmp_total)
+
+pub sorted_once : (E : BitMask → BitMask → Bool) → ((x y : BitMask) → E x y ≡ eq_by_cmp mask_cmp x y) → (P : BitMask → Type 0) (ms sorted : List BitMask) → ((m : BitMask) → P m ↔ Contains ms m) → IsPermutation ms sorted → IsSorted mask_cmp sorted → AreAll P (dedup E sorted)
+sorted_once E ties P ms sorted own same up = record {
+  rising = rising (dedup E sorted) (IsStrictlySortedBy-dedup total ties sorted up);
+  wanted = All-dedup E P sorted (All-permutation P ms sorted same (λ k d lt. (own _).1 (Contains-get_or ms k d lt)));
+  others = λ m w. Contains-dedup equal one sorted m (Contains-permutation ms sorted m same ((own m).0 w));
+} where
+  laws : IsEquivalence (eq_by_cmp mask_cmp)
+  laws = eq_by_cmp_equiv total
+
+  equal : IsEquivalence E
+  equal = record {
+    refl = λ x. ties x x ∙ laws.refl x;
+    symm = λ x y. ties x y ∙ laws.symm x y ∙ sym (ties y x);
+    congr = λ x y z e. ties x z ∙ laws.congr x y z (sym (ties x y) ∙ e) ∙ sym (ties y z);
+  }
+
+  one : (x y : BitMask) → E x y ≡ true → x ≡ y
+  one x y e = go (mask_cmp x y) (compared x y) (sym (ties x y) ∙ e) where
+    go : (r : Ordering) → MatchOrdering r (ComesBefore x y) (x ≡ y) (ComesBefore y x) → is_eq r ≡ true → x ≡ y
+    go Less h e = absurd (cc)
+    go Equal h e = h
+    go Greater h e = absurd (cc)

@@ -1,0 +1,16 @@
+use Rattle.std.proofs.Common.{◌≡◌, ℕ, ◌+◌, ◌-◌, ◌^◌, ◌↔◌, false}
+use Rattle.std.specs.List.{Contains}
+use Rattle.vic_frame.specs.Masks.{BitMask}
+use Rattle.vic_tree.specs.KeptMasks.{IsOpenBelow}
+use Rattle.vic_tree.specs.Ranges.{PassFrom, is_left}
+use Rattle.vic_tree.proofs.open_masks.all_open_masks_besides.Given as goal
+
+abbrev pub invariant-loop-run : goal.invariant-loop-run
+invariant-loop-run l = record {
+  pass : PassFrom (is_left l.ranges l.keys) l.left;
+  cut : (k : ℕ) → k + 1 ≡ l.left.0 → is_left l.ranges l.keys k ≡ false;
+  members : (m : BitMask) → IsOpenBelow (is_left l.ranges l.keys) l.left.0 m ↔ Contains l.masks.items m;
+}
+
+abbrev pub decreases-loop-run : goal.decreases-loop-run
+decreases-loop-run l = 2 ^ 56 + 1 - l.left.0

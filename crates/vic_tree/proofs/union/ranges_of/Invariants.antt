@@ -1,0 +1,9 @@
+use Rattle.std.proofs.Common.{take}
+use Rattle.std.specs.List.{list_any}
+use Rattle.vic_frame.specs.Masks.{lies_in}
+use Rattle.vic_tree.specs.OpenSet.{SameUids}
+use Rattle.vic_tree.specs.Ranges.{is_open_in}
+use Rattle.vic_tree.proofs.union.ranges_of.Given as goal
+
+abbrev pub invariant-loop-mask : goal.invariant-loop-mask
+invariant-loop-mask l = SameUids (is_open_in l.ranges.items) (λ u. list_any (λ m. lies_in m u) (take l.mask-index l.masks))
