@@ -357,6 +357,48 @@ fn open_masks_round_one_that_is_settled(rt: HostRuntime) -> Result<(), Fail> {
     opens(&rt, &seventeen, &[], &BESIDE_A, true)
 }
 
+/// Asks ranges for all their open masks besides the UIDs with some keys.
+pub fn opens_all(
+    rt: &impl Abort,
+    set: &RangeSet,
+    alloc: Global,
+    keys: &[u64],
+    expected: &[(u8, u64)],
+) -> Result<(), Fail>
+    requires order { IsNonDecreasing keys.now }
+    requires keys { AreKeys keys.now }
+{
+    let open = set.all_open_masks_besides(alloc, keys)?;
+    assert!(rt; open.len() == expected.len());
+    for (found, (len, value)) in open.iter().zip(expected) {
+        assert!(rt; *found == mask(*len, *value)?);
+    }
+    Ok(())
+}
+
+/// For each length from 2 to 56 bits, the masks that differ in their last bit from the UIDs with
+/// the keys 0 and `HALF`.
+fn beside_two(alloc: Global) -> Result<Vec<(u8, u64)>, Fail> {
+    let mut masks = Vec::new(alloc);
+    for len in 2..UID_BITS + 1 {
+        let last = 1 << (len - 1);
+        masks.push((len, last))?;
+        masks.push((len, last + 1))?;
+    }
+    Ok(masks)
+}
+
+#[test]
+fn all_open_masks(rt: HostRuntime) -> Result<(), Fail> {
+    let alloc = rt.alloc();
+    let all = RangeSet::everything(alloc)?;
+    opens_all(&rt, &all, alloc, &[], &[(0, 0)])?;
+    opens_all(&rt, &all, alloc, &[0, HALF, HALF], &beside_two(alloc)?)?;
+    let two = first_two::<RangeSet>(alloc)?;
+    opens_all(&rt, &two, alloc, &[0], &[(56, 1 << 55)])?;
+    opens_all(&rt, &two, alloc, &[0, 1], &[])
+}
+
 /// The next of a fixed sequence of numbers that look random.
 pub fn next(state: u64) -> u64 {
     let left = state ^ (state << 13);

@@ -1,9 +1,10 @@
-//! Sets as ranges that are made of others, against one UID after another.
+//! Sets as ranges that are made of others, against one UID after another; and of masks.
 
 ghost use Rattle.std.specs.List.Sorted.{IsNonDecreasing};
 ghost use Rattle.vic_tree.specs.OpenSet.{AreKeys};
 
-use crate::tree::{LAST, all_but, first_two, next, widest};
+use crate::tree::{LAST, all_but, first_two, next, opens_all, widest};
+use crate::values::{A, B, mask};
 use std::alloc::Global;
 use std::process::Abort;
 use std::test::Fail;
@@ -50,6 +51,27 @@ fn unions(rt: HostRuntime) -> Result<(), Fail> {
         }
     }
     Ok(())
+}
+
+/// Masks that overlap; of those with more than 56 bits one holds no UID.
+#[test]
+fn sets_of_masks(rt: HostRuntime) -> Result<(), Fail> {
+    let alloc = rt.alloc();
+    opens_all(&rt, &RangeSet::of_masks(alloc, &[])?, alloc, &[], &[])?;
+    let halves = [mask(1, 1)?, mask(1, 0)?];
+    let all = RangeSet::of_masks(alloc, &halves)?;
+    opens_all(&rt, &all, alloc, &[], &[(0, 0)])?;
+    let some = [
+        mask(64, B)?,
+        mask(8, 0xA1)?,
+        mask(57, 0)?,
+        mask(57, 1 << 56)?,
+        mask(64, A)?,
+        mask(9, 0xA1)?,
+    ];
+    let set = RangeSet::of_masks(alloc, &some)?;
+    let expected = [(8, 0xA1), (56, 0), (56, 0x04_0100_0000_00B2)];
+    opens_all(&rt, &set, alloc, &[], &expected)
 }
 
 /// Makes a set without the UIDs at some keys, and asks it for each of the first keys.

@@ -25,7 +25,7 @@ members_both P Q R ys zs like own adds m = (
 pub adds_both : (P Q R : BitMask → Type 0) (xs ys zs : List BitMask) → ((m : BitMask) → P m ⊎ Q m ↔ R m) → Adds P xs ys → Adds Q ys zs → Adds R xs zs
 adds_both P Q R xs ys zs like = members_both (λ m. Contains xs m ⊎ P m) Q (λ m. Contains xs m ⊎ R m) ys zs (λ m. or_both (Contains xs m) (P m) (Q m) (R m) (like m))
 
--- what a sort leaves in order once no mask is there twice
+-- what a sort leaves is in order, each mask once
 after : (m : BitMask) (ms : List BitMask) → AllByRecursion (λ n. mask_cmp m n ≡ Less) ms → All (ComesBefore m) ms
 after m [] h = All-nil (ComesBefore m)
 after m (n ∷ ms) h = All-cons (ComesBefore m) n ms (less_before m n h.0) (after m ms h.1)

@@ -168,6 +168,19 @@ past_last ms x m up full is before = (
   ],
 )
 
+-- a choice, said otherwise
+or_like : (A P Q : Type 0) → P ↔ Q → A ⊎ P ↔ A ⊎ Q
+or_like A P Q like = (
+  λ w. elim w [ inl a ↦ inl a | inr x ↦ inr (like.0 x) ],
+  λ w. elim w [ inl a ↦ inl a | inr y ↦ inr (like.1 y) ],
+)
+
+pub or_both : (A P Q R : Type 0) → P ⊎ Q ↔ R → (A ⊎ P) ⊎ Q ↔ A ⊎ R
+or_both A P Q R like = (
+  λ w. elim w [ inl v ↦ elim v [ inl a ↦ inl a | inr x ↦ inr (like.0 (inl x)) ] | inr y ↦ inr (like.0 (inr y)) ],
+  λ w. elim w [ inl a ↦ inl (inl a) | inr r ↦ elim (like.1 r) [ inl x ↦ inl (inr x) | inr y ↦ inr y ] ],
+)
+
 -- the first masks of more
 pub first_kept : (P Q : BitMask → Type 0) (xs ys : List BitMask) → AreFirst 17 P xs → Keeps Q xs ys → AreFirst 17 (λ m. P m ⊎ Q m) ys
 first_kept P Q xs ys f g = record {
@@ -185,18 +198,6 @@ first_like n P Q xs like f = record {
   wanted = All-weaker P Q (λ m. (like m).0) xs f.wanted;
   others = λ m q. f.others m ((like m).1 q);
 }
-
-pub or_like : (A P Q : Type 0) → P ↔ Q → A ⊎ P ↔ A ⊎ Q
-or_like A P Q like = (
-  λ w. elim w [ inl a ↦ inl a | inr x ↦ inr (like.0 x) ],
-  λ w. elim w [ inl a ↦ inl a | inr y ↦ inr (like.1 y) ],
-)
-
-pub or_both : (A P Q R : Type 0) → P ⊎ Q ↔ R → (A ⊎ P) ⊎ Q ↔ A ⊎ R
-or_both A P Q R like = (
-  λ w. elim w [ inl v ↦ elim v [ inl a ↦ inl a | inr x ↦ inr (like.0 (inl x)) ] | inr y ↦ inr (like.0 (inr y)) ],
-  λ w. elim w [ inl a ↦ inl (inl a) | inr r ↦ elim (like.1 r) [ inl x ↦ inl (inr x) | inr y ↦ inr y ] ],
-)
 
 pub kept_like : (P Q : BitMask → Type 0) (xs ys : List BitMask) → ((m : BitMask) → P m ↔ Q m) → Keeps P xs ys → Keeps Q xs ys
 kept_like P Q xs ys like g = record {

@@ -115,6 +115,7 @@ pub(crate) fn all_open_masks_besides(
         push_in_run(&mut masks, run.first(), run.last())?;
     }
     masks.sort_unstable();
+    // no mask is found twice: this only spares the proof of that
     masks.dedup();
     Ok(masks)
 }
@@ -128,16 +129,6 @@ fn push_in_run(masks: &mut Vec<Mask>, from: u64, to: u64) -> Result<(), AllocErr
     for len in least_len(from, to)..UID_BITS + 1 {
         push_found(masks, greatest_at_start(from, to, len))?;
         push_found(masks, greatest_at_end(from, to, len))?;
-    }
-    Ok(())
-}
-
-/// Appends a mask, if one was found.
-fn push_found(masks: &mut Vec<Mask>, found: Option<Mask>) -> Result<(), AllocError>
-    ensures { OnOk result (Adds (λ m. found ≡ Some m) masks.old.items masks.new.items) }
-{
-    if let Some(mask) = found {
-        masks.push(mask)?;
     }
     Ok(())
 }
@@ -189,4 +180,14 @@ fn keep(kept: &mut ArrayVec<Mask, BUFFER>, found: Option<Mask>)
         kept.insert(place, mask);
         kept.truncate(KEPT);
     }
+}
+
+/// Appends a mask, if one was found.
+fn push_found(masks: &mut Vec<Mask>, found: Option<Mask>) -> Result<(), AllocError>
+    ensures { OnOk result (Adds (λ m. found ≡ Some m) masks.old.items masks.new.items) }
+{
+    if let Some(mask) = found {
+        masks.push(mask)?;
+    }
+    Ok(())
 }
