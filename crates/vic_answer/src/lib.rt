@@ -22,6 +22,7 @@ mod report_lines;
 mod simulate;
 mod spell;
 mod status;
+mod task;
 mod text;
 
 pub use check::{Answer, answer_line, answer_status, judge_text, run_check};
@@ -40,3 +41,4 @@ pub use report::{Reported, report_text, reported_answer, run_report};
 pub use simulate::{Simulation, run_simulate, simulate_text};
 pub use spell::{SpellFault, run_spell};
 pub use status::{RunFault, Status, fault_text};
+pub use task::{Task, do_task};

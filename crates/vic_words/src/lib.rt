@@ -4,6 +4,7 @@
 use clap::error::ErrorKind;
 use clap::{Arg, ArgAction, ArgMatches, Command, Error};
 use std::alloc::{AllocError, Global};
+use vic_answer::Task;
 
 /// What a command line asks for.
 #[derive(Debug, Drop)]
@@ -13,35 +14,6 @@ pub enum Asked {
     /// To judge the logs in some files against the list of what is expected in another, which is
     /// named first.
     Reconcile(String, Vec<String>),
-}
-
-/// What the program is asked to do with one file, frame or list of words. Without a file it reads
-/// standard input.
-#[derive(Debug, Drop)]
-pub enum Task {
-    /// To judge a log.
-    Check(Option<String>),
-    /// To fill in the slots of a log.
-    Simulate(Option<String>),
-    /// To judge a log and show a population behind the verdict.
-    Explain(Option<String>),
-    /// To judge a log and show every finding, with its lines.
-    Report(Option<String>),
-    /// To read one frame, given in hex digits.
-    Frame(String),
-    /// To spell a frame, given in the words of `frame`.
-    Spell(Vec<String>),
-}
-
-impl Task {
-    /// The file that it reads, if one is named.
-    pub fn file(&self) -> Option<&str> {
-        match self {
-            Task::Check(file) | Task::Simulate(file) | Task::Explain(file) | Task::Report(file) =>
-                file.as_ref().map(|name| name.as_str()),
-            Task::Frame(_) | Task::Spell(_) => None,
-        }
-    }
 }
 
 /// Why the words ask for nothing.

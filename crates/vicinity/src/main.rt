@@ -2,16 +2,16 @@
 #![tactic(auto)]
 
 mod files;
-mod task;
 
 use crate::files::{Unread, read_files};
-use crate::task::do_task;
 use std::io::ErrorKind;
 use std::process::ExitCode;
 use std::{env, fs};
-use vic_answer::{RunFault, Status, fault_text, reconciled_answer, write_reconciled};
+use vic_answer::{
+    RunFault, Status, Task, do_task, fault_text, reconciled_answer, write_reconciled,
+};
 use vic_log::{FromRead, ToWrite};
-use vic_words::{Asked, Task, WordsFault, read_words};
+use vic_words::{Asked, WordsFault, read_words};
 
 /// The exit status of a run that has no answer.
 const NO_ANSWER: u8 = 4;

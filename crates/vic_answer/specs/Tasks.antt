@@ -1,8 +1,8 @@
 -- What each task reads and writes.
 use Rattle.std.specs.Prelude.{◌≡◌, ℕ, Bool, List, ◌++◌, Result, IfOk, OnOk, map, string_bytes}
 use Rattle.vic_log.specs.Device.{HasWrittenPrefix}
-use Rattle.vic_words.specs.declared.Task.{Task}
-use Rattle.vic_words.specs.declared.Task.TheVariants.{Check, Simulate, Explain, Report, Frame, Spell}
+use Rattle.vic_answer.specs.declared.task.Task.{Task}
+use Rattle.vic_answer.specs.declared.task.Task.TheVariants.{Check, Simulate, Explain, Report, Frame, Spell}
 use Rattle.vic_answer.specs.declared.status.RunFault.{RunFault}
 use Rattle.vic_answer.specs.declared.status.Status.{Status}
 use Rattle.vic_answer.specs.CheckText.{IsCheckOf}

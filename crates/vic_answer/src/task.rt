@@ -1,0 +1,62 @@
+//! What the program can be asked to do with one text, and how it is done.
+
+ghost use Rattle.vic_answer.specs.Tasks.{Does};
+
+use crate::check::run_check;
+use crate::explain::run_explain;
+use crate::frame::run_frame;
+use crate::report::run_report;
+use crate::simulate::run_simulate;
+use crate::spell::run_spell;
+use crate::status::{RunFault, Status};
+use std::alloc::Global;
+use vic_log::{Sink, Source};
+
+/// What the program is asked to do with one file, frame or list of words. Without a file it reads
+/// standard input.
+#[derive(Debug, Drop)]
+pub enum Task {
+    /// To judge a log.
+    Check(Option<String>),
+    /// To fill in the slots of a log.
+    Simulate(Option<String>),
+    /// To judge a log and show a population behind the verdict.
+    Explain(Option<String>),
+    /// To judge a log and show every finding, with its lines.
+    Report(Option<String>),
+    /// To read one frame, given in hex digits.
+    Frame(String),
+    /// To spell a frame, given in the words of `frame`.
+    Spell(Vec<String>),
+}
+
+impl Task {
+    /// The file that it reads, if one is named.
+    pub fn file(&self) -> Option<&str> {
+        match self {
+            Task::Check(file) | Task::Simulate(file) | Task::Explain(file) | Task::Report(file) =>
+                file.as_ref().map(|name| name.as_str()),
+            Task::Frame(_) | Task::Spell(_) => None,
+        }
+    }
+}
+
+/// Does a task from a source, which `frame` and `spell` don't read, to a sink.
+pub fn do_task<R: Source, W: Sink>(
+    alloc: Global,
+    task: &Task,
+    source: &mut R,
+    sink: &mut W,
+) -> Result<Status, RunFault>
+    ensures { Does task.now (R.returned source.old) (R.returned source.new) (R.ended source.new)
+        (W.written sink.old) (W.written sink.new) result }
+{
+    match task {
+        Task::Check(_) => run_check(alloc, source, sink),
+        Task::Simulate(_) => run_simulate(alloc, source, sink),
+        Task::Explain(_) => run_explain(alloc, source, sink),
+        Task::Report(_) => run_report(alloc, source, sink),
+        Task::Frame(word) => run_frame(word.as_bytes(), sink),
+        Task::Spell(words) => run_spell(words.as_slice(), sink),
+    }
+}
