@@ -12,7 +12,7 @@ use Rattle.vic_frame.specs.Uids.{has}
 use Rattle.vic_log.specs.Rounds.{slots_left, is_slot}
 use Rattle.vic_log.specs.Order.{listed, IsInOrder, is_outside_round, is_empty, is_after_list, is_duplicate, refusal}
 use Rattle.vic_log.specs.Text.{order_fault}
-use Rattle.vic_log.proofs.Places.{agree_append, agree_upto}
+use Rattle.vic_log.proofs.Places.{agree_append, agree_upto, slice_get_seam}
 use Rattle.vic_log.proofs.Order.{in_round-slots_left}
 use Rattle.vic_log.proofs.Push.{slots_left_agrees}
 
@@ -47,13 +47,9 @@ some_place (Garbled ∷ es) h = let p = some_place es h in (p.0, later Garbled e
 some_place (FieldCycle ∷ es) h = let p = some_place es h in (p.0, later FieldCycle es p.0 p.1)
 some_place (Listed w ∷ es) h = (w, record { place = 0; there = refl })
 
-at_end : (es fs : List Entry) (e : Entry) → slice_get (es ++ e ∷ fs) (length es) ≡ Some e
-at_end [] fs e = refl
-at_end (x ∷ es) fs e = at_end es fs e
-
 slot_ok : (es fs : List Entry) (e : Entry) → IsInOrder (es ++ e ∷ fs) → is_slot e ≡ true → not (nat_lt 0 (slots_left es (length es))) ≡ false
 slot_ok es fs e o s =
-    let left = (in_round-slots_left (es ++ e ∷ fs) (length es)).0 (o.rounds (length es) e (at_end es fs e) s) in
+    let left = (in_round-slots_left (es ++ e ∷ fs) (length es)).0 (o.rounds (length es) e (slice_get_seam es e fs) s) in
     let same = slots_left_agrees (length es) es (es ++ e ∷ fs) (agree_upto es (e ∷ fs) (length es) (omega arith)) in
     ap not (lt-ltb 0 (slots_left es (length es)) (omega arith))
 
@@ -72,20 +68,20 @@ order_fault-none es fs (Sent q) o = none_first (not (is_empty (listed es))) Entr
     (λ (no_ : is_empty (listed es) ≡ false).
     let p = some_place es no_ in
     let below = slice_get_within es p.1.place (Listed p.0) p.1.there in
-    absurd (o.requests_first p.1.place (length es) p.0 q below (sym (agree_append es (Sent q ∷ fs) p.1.place below) ∙ p.1.there) (at_end es fs (Sent q))))
+    absurd (o.requests_first p.1.place (length es) p.0 q below (sym (agree_append es (Sent q ∷ fs) p.1.place below) ∙ p.1.there) (slice_get_seam es (Sent q) fs)))
     (cases_Bool (is_empty (listed es))))
 order_fault-none es fs FieldCycle o = none_first (not (is_empty (listed es))) EntryAfterList (⊎_elim
     (λ (yes : is_empty (listed es) ≡ true). ap not yes)
     (λ (no_ : is_empty (listed es) ≡ false).
     let p = some_place es no_ in
     let below = slice_get_within es p.1.place (Listed p.0) p.1.there in
-    absurd (o.cycles_first p.1.place (length es) p.0 below (sym (agree_append es (FieldCycle ∷ fs) p.1.place below) ∙ p.1.there) (at_end es fs FieldCycle)))
+    absurd (o.cycles_first p.1.place (length es) p.0 below (sym (agree_append es (FieldCycle ∷ fs) p.1.place below) ∙ p.1.there) (slice_get_seam es FieldCycle fs)))
     (cases_Bool (is_empty (listed es))))
 order_fault-none es fs (Listed u) o = none_first (has (listed es) u) DuplicateListed (⊎_elim
     (λ (yes : has (listed es) u ≡ true).
     let p = has_place es u yes in
     let below = slice_get_within es p.place (Listed u) p.there in
-    absurd (o.once p.place (length es) u u below (sym (agree_append es (Listed u ∷ fs) p.place below) ∙ p.there) (at_end es fs (Listed u)) refl))
+    absurd (o.once p.place (length es) u u below (sym (agree_append es (Listed u ∷ fs) p.place below) ∙ p.there) (slice_get_seam es (Listed u) fs) refl))
     (λ (no_ : has (listed es) u ≡ false). no_)
     (cases_Bool (has (listed es) u)))
 

@@ -106,13 +106,13 @@ answers_agree n es fs a u =
 pub outcome_agrees : (n : ℕ) (es fs : List Entry) (p : List ℕ) → AgreeBefore n es fs → outcome_at es n p ≡ outcome_at fs n p
 outcome_agrees n es fs p a = ap outcome_of (filter_agree (answers_at es n) (answers_at fs n) (answers_agree n es fs a) p)
 
-slice_get-append : (es fs : List Entry) (i : ℕ) → i < length es → slice_get es i ≡ slice_get (es ++ fs) i
+pub slice_get-append : {A : Type 0} (es fs : List A) (i : ℕ) → i < length es → slice_get es i ≡ slice_get (es ++ fs) i
 slice_get-append [] fs i h = absurd (omega arith)
 slice_get-append (e ∷ es) fs zero h = refl
 slice_get-append (e ∷ es) fs (suc i) h = slice_get-append es fs i (omega arith)
 
 pub agree_append : (es fs : List Entry) → AgreeBefore (length es) es (es ++ fs)
-agree_append es fs i h = slice_get-append es fs i h
+agree_append = slice_get-append
 
 -- a population that could have produced entries could have produced those that they begin with
 pub CouldHaveGiven-front : (p : List ℕ) (es fs : List Entry) → CouldHaveGiven p (es ++ fs) → CouldHaveGiven p es
@@ -123,9 +123,12 @@ CouldHaveGiven-front p es fs h i e k =
 
 -- ---- one entry more
 
+pub slice_get_seam : {A : Type 0} (es : List A) (e : A) (fs : List A) → slice_get (es ++ e ∷ fs) (length es) ≡ Some e
+slice_get_seam [] e fs = refl
+slice_get_seam (x ∷ es) e fs = slice_get_seam es e fs
+
 pub slice_get_last : (es : List Entry) (e : Entry) → slice_get (es ++ e ∷ []) (length es) ≡ Some e
-slice_get_last [] e = refl
-slice_get_last (x ∷ es) e = slice_get_last es e
+slice_get_last es e = slice_get_seam es e []
 
 pub agree_upto : (es fs : List Entry) (i : ℕ) → i ≤ length es → AgreeBefore i es (es ++ fs)
 agree_upto es fs i h j below = agree_append es fs j (omega arith)

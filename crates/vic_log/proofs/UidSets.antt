@@ -17,6 +17,7 @@ use Rattle.vic_log.specs.UidSets.{place_of, row_of, is_held, IsUidSet, IsSetOf, 
 use Rattle.vic_log.specs.declared.entry.LogLine.{LogLine}
 use Rattle.vic_log.specs.Order.{entries, listed}
 use Rattle.vic_log.proofs.Push.{listed-append, entries_next}
+use Rattle.vic_log.proofs.Sets.{eq_swapped}
 
 pub none_has : (us : List ℕ) (u : ℕ) → ((k : ℕ) → k < length us → get_or us k 0 ≡ u → ⊥) → has us u ≡ false
 none_has [] u none = refl
@@ -110,9 +111,6 @@ is_put old uid rows place k number row seen long is there at seen_at free same =
       rows = ap (λ p. set held p (set row k number)) place_is ∙ (ap (λ r. set held (place_of uid (length held)) (set r k number)) (row_is old uid rows place row long is there at) ∙ ap (λ m. set held (place_of uid (length held)) (set (row_of held uid) k m)) same);
       others = refl;
     }
-
-eq_swapped : (a b : ℕ) → nat_eq a b ≡ nat_eq b a
-eq_swapped a b = ⊎_elim (λ e. rw e refl) (λ n. ne_eqb a b n ∙ sym (ne_eqb b a (λ e. n (sym e)))) (cases_eq a b)
 
 -- a search of a row for a number
 pub has_searched : (row : List ℕ) (u : ℕ) → list_any (λ x. nat_eq x u) row ≡ has row u
