@@ -6,7 +6,7 @@ use Rattle.std.proofs.lemmas.Bool.{cases_eq, cases_lt}
 use Rattle.std.proofs.lemmas.List.Elements.{filter_agree}
 use Rattle.std.proofs.lemmas.Option.{slice_get_within}
 use Rattle.vic_log.specs.declared.entry.Entry.{Entry}
-use Rattle.vic_log.specs.declared.entry.Entry.TheVariants.{Sent, Silent, Collision, Heard, Listed, Garbled, FieldCycle}
+use Rattle.vic_log.specs.declared.entry.Entry.TheVariants.{Sent, Listed, FieldCycle}
 use Rattle.vic_log.specs.Rounds.{ends_round, opener, mask_since, mask_at}
 use Rattle.vic_log.specs.Quiet.{is_quiet}
 use Rattle.vic_log.specs.Populations.{answers_at, outcome_of, outcome_at, Fits, CouldHaveGiven}
@@ -17,12 +17,9 @@ use Rattle.vic_log.specs.Slots.{Slot, with_entry, slots_before, slots_of}
 
 fits_entry : (answers : ℕ → Bool) (e : Entry) (slots : List Slot) (p : List ℕ) → MeetsAll p (with_entry answers (Some e) slots) ↔ (Fits e (outcome_of (filter answers p)) × MeetsAll p slots)
 fits_entry answers (Sent q) slots p = ((λ h. (tt, h)), (λ h. h.1))
-fits_entry answers Silent slots p = ((λ h. h), (λ h. h))
-fits_entry answers Collision slots p = ((λ h. h), (λ h. h))
-fits_entry answers (Heard r) slots p = ((λ h. h), (λ h. h))
 fits_entry answers (Listed u) slots p = ((λ h. (tt, h)), (λ h. h.1))
-fits_entry answers Garbled slots p = ((λ h. h), (λ h. h))
 fits_entry answers FieldCycle slots p = ((λ h. (tt, h)), (λ h. h.1))
+fits_entry answers e slots p = ((λ h. h), (λ h. h))
 
 -- the entries of the first n positions fit
 abbrev FitBefore : List ℕ → List Entry → ℕ → Type 0

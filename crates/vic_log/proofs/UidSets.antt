@@ -164,18 +164,6 @@ listed_next lines i l k = ap listed (entries_next lines i l k) ∙ listed-append
 
 -- ---- the index of a log
 
-pub IsIndex-risen : (us : List ℕ) (greatest uid : ℕ) (s : UidSet) → IsIndex us greatest s → length s.rows.items ≡ 0 → greatest < uid → IsIndex (us ++ uid ∷ []) uid s
-IsIndex-risen us greatest uid s h none above = record {
-  rising = λ _ u there. ⊎_elim
-      (λ (before : has us u ≡ true). let most = h.rising none u before in omega arith)
-      (λ (new : has us u ≡ false).
-      let same : nat_eq u uid ≡ true = sym (or-false (nat_eq u uid)) ∙ (sym (rw new refl) ∙ (sym (list_any-append (nat_eq u) us (uid ∷ [])) ∙ there)) in
-      let is : u ≡ uid = eqb-true u uid same in omega arith)
-      (cases_Bool (has us u));
-  set = h.set;
-  uids = λ some. absurd (omega (arith, none, some));
-}
-
 held_more : (us : List ℕ) (uid u : ℕ) → has (us ++ uid ∷ []) u ≡ (has us u || nat_eq u uid)
 held_more us uid u = list_any-append (nat_eq u) us (uid ∷ []) ∙ ap (λ b. has us u || b) (or-false (nat_eq u uid))
 
