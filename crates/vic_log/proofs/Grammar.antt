@@ -1,5 +1,5 @@
 -- A line reads as an entry if and only if it spells it.
-use Rattle.std.proofs.Common.{◌≡◌, ◌⊎◌, inl, inr, ℕ, zero, suc, ◌+◌, ◌-◌, ◌*◌, ◌/◌, ◌%◌, ◌<◌, ◌≤◌, true, false, Option, Some, None, Result, Ok, Err, List, [], ◌∷◌, length, refl, sym, ap, subst, ◌∙◌, arith}
+use Rattle.std.proofs.Common.{◌≡◌, ◌⊎◌, inl, inr, ℕ, ◌+◌, ◌-◌, ◌*◌, ◌/◌, ◌%◌, ◌<◌, ◌≤◌, true, false, Option, Some, None, Result, Ok, Err, List, [], ◌∷◌, length, refl, sym, ap, subst, ◌∙◌, arith}
 use Rattle.std.specs.Prelude.{nat_lt, nat_le, if◌then◌else◌, ◌==◌, ◌&&◌, ◌||◌}
 use Rattle.std.specs.Int.{to_be_bytes, from_be_bytes, w64}
 use Rattle.std.proofs.lemmas.Bool.{and_parts, cond_both, cond-true, cond-false, or_from, or_right, eqb-true, leb-true, ne_eqb, le-ltb, ltb-false}
@@ -8,6 +8,7 @@ use Rattle.std.proofs.lemmas.Nat.{be_bytes_8, from_be_bytes-to_be_bytes_8}
 use Rattle.hex.specs.Hex.{decode_of, decode_pairs, digit_or_error, hex_digit_value, ◌>>=◌}
 use Rattle.hex.specs.declared.error.FromHexError.{FromHexError}
 use Rattle.hex.specs.declared.error.FromHexError.TheVariants.{OddLength}
+use Rattle.hex.proofs.HexLemmas.{decode_of-even, decode_pairs-ok}
 use Rattle.hex.proofs.Pairs.{cons_byte, decode_pairs-ok_pair}
 use Rattle.vic_frame.specs.Bytes.{AreBytes}
 use Rattle.vic_frame.specs.Uids.{IsUid, is_uid}
@@ -28,6 +29,7 @@ use Rattle.vic_log.specs.declared.fault.LineFault.TheVariants.{ListedLength, Not
 use Rattle.vic_log.specs.Grammar.{IsDigitOf, AreDigitsOf, HasBytes, SpellsEntry, IsPassedOver}
 use Rattle.vic_log.specs.LineReading.{line_reading, added_letter, one_letter, with_digits, with_bytes, sent, heard, listed_uid, claimed}
 use Rattle.vic_log.proofs.Supply.{IsUid-from, is_uid_from}
+use Rattle.vic_log.proofs.HexPairs.{both}
 use Rattle.vic_log.proofs.FrameBytes.{length-request, length-reply}
 
 -- ---- hex digits
@@ -89,9 +91,6 @@ decoded i (a ∷ b ∷ rest) bytes h =
     let lower : y ≡ (x * 16 + y) % 16 = omega arith in
     subst (AreDigitsOf (a ∷ b ∷ rest)) (sym w.6) (subst (IsDigitOf a) upper high, subst (IsDigitOf b) lower low, decoded (i + 2) rest w.2 w.5)
 
-pair_ok : (a b i v : ℕ) (o p : Option ℕ) → o ≡ Some (v / 16) → p ≡ Some (v % 16) → (digit_or_error a i o >>= (λ x. digit_or_error b (i + 1) p >>= (λ y. Ok (x * 16 + y)))) ≡ Ok v
-pair_ok a b i v o p e f = let whole : v / 16 * 16 + v % 16 ≡ v = omega arith in rw (e, f) (ap Ok whole)
-
 decodes : (i : ℕ) (digits bytes : List ℕ) → AreDigitsOf digits bytes → decode_pairs i digits ≡ Ok bytes
 unfolding decode_pairs
 decodes i [] [] h = refl
@@ -100,25 +99,15 @@ decodes i (d ∷ []) [] h = absurd h
 decodes i (d ∷ []) (v ∷ bytes) h = absurd h
 decodes i (a ∷ b ∷ rest) [] h = absurd h
 decodes i (a ∷ b ∷ rest) (v ∷ bytes) h =
-    decode_pairs-ok_pair i a b v rest (pair_ok a b i v (hex_digit_value a) (hex_digit_value b) (digit-value a (v / 16) h.0) (digit-value b (v % 16) h.1))
+    let whole : v / 16 * 16 + v % 16 ≡ v = omega arith in
+    decode_pairs-ok_pair i a b v rest (both a b i (v / 16) (v % 16) (hex_digit_value a) (hex_digit_value b) (digit-value a (v / 16) h.0) (digit-value b (v % 16) h.1) ∙ ap Ok whole)
     ∙ ap (cons_byte v) (decodes (i + 2) rest bytes h.2)
 
 twice : (digits bytes : List ℕ) → AreDigitsOf digits bytes → length digits ≡ 2 * length bytes
-twice [] [] h = refl
-twice [] (v ∷ bytes) h = absurd h
-twice (d ∷ []) [] h = absurd h
-twice (d ∷ []) (v ∷ bytes) h = absurd h
-twice (a ∷ b ∷ rest) [] h = absurd h
-twice (a ∷ b ∷ rest) (v ∷ bytes) h = let e = twice rest bytes h.2 in omega arith
+twice digits bytes h = (decode_pairs-ok 0 digits bytes (decodes 0 digits bytes h)).1
 
 are_bytes : (digits bytes : List ℕ) → AreDigitsOf digits bytes → AreBytes bytes
-are_bytes [] [] h i = omega arith
-are_bytes [] (v ∷ bytes) h i = absurd h
-are_bytes (d ∷ []) [] h i = absurd h
-are_bytes (d ∷ []) (v ∷ bytes) h i = absurd h
-are_bytes (a ∷ b ∷ rest) [] h i = absurd h
-are_bytes (a ∷ b ∷ rest) (v ∷ bytes) h zero = let k = small a (v / 16) h.0 in omega arith
-are_bytes (a ∷ b ∷ rest) (v ∷ bytes) h (suc i) = are_bytes rest bytes h.2 i
+are_bytes digits bytes h = (decode_pairs-ok 0 digits bytes (decodes 0 digits bytes h)).2
 
 pub digits-of : (digits bytes : List ℕ) → decode_of digits ≡ Ok bytes → AreDigitsOf digits bytes
 digits-of digits bytes = cond_both (length digits % 2 == 1) (Err OddLength) (decode_pairs 0 digits) (λ r. r ≡ Ok bytes → AreDigitsOf digits bytes)
@@ -126,9 +115,7 @@ digits-of digits bytes = cond_both (length digits % 2 == 1) (Err OddLength) (dec
     (λ _ e. decoded 0 digits bytes e)
 
 of_digits : (digits bytes : List ℕ) → AreDigitsOf digits bytes → decode_of digits ≡ Ok bytes
-of_digits digits bytes h =
-    let e = twice digits bytes h in
-    cond-false _ _ _ (ne_eqb (length digits % 2) 1 (λ odd. absurd (omega arith))) ∙ decodes 0 digits bytes h
+of_digits digits bytes h = let e = twice digits bytes h in decode_of-even digits (omega arith) ∙ decodes 0 digits bytes h
 
 -- ---- what a line reads as is true of it
 
