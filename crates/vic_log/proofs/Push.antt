@@ -109,6 +109,13 @@ last_or es e f i k before last =
     last same e_is)
     (cases_lt i (length es))
 
+-- no UID is listed before an entry that may not follow one
+none_listed : (es : List Entry) (e : Entry) (i u : ℕ) → i < length es → slice_get (es ++ e ∷ []) i ≡ Some (Listed u) → not (is_empty (listed es)) ≡ false → ⊥
+none_listed es e i u lt a after =
+    let some : has (listed es) u ≡ true = has-there es i u (agree_append es (e ∷ []) i lt ∙ a) in
+    let none : has (listed es) u ≡ false = empty_has (listed es) u (not-false (is_empty (listed es)) after) in
+    cc
+
 -- entries in order with one more that nothing refuses are in order
 pub IsInOrder-push : (es : List Entry) (e : Entry) → IsInOrder es → refusal es e ≡ None → IsInOrder (es ++ e ∷ [])
 IsInOrder-push es e o h =
@@ -121,20 +128,10 @@ IsInOrder-push es e o h =
           (λ same it. subst (λ n. 0 < n) (left_is i (omega arith)) (subst (λ j. 0 < slots_left es j) (sym same) (slot_has_left (is_slot e) (slots_left es (length es)) (ap is_slot it ∙ s) free.0))));
       requests_first = λ i j u q lt a b. last_or es e (Sent q) j b
           (λ below here. o.requests_first i j u q lt (agree_append es (e ∷ []) i (omega arith) ∙ a) here)
-          (λ same it.
-          let there : slice_get es i ≡ Some (Listed u) = agree_append es (e ∷ []) i (omega arith) ∙ a in
-          let some : has (listed es) u ≡ true = has-there es i u there in
-          let after : is_after_list es (Sent q) ≡ false = ap (is_after_list es) (sym it) ∙ free.1 in
-          let none : has (listed es) u ≡ false = empty_has (listed es) u (not-false (is_empty (listed es)) after) in
-          cc);
+          (λ same it. none_listed es e i u (omega arith) a (ap (is_after_list es) (sym it) ∙ free.1));
       cycles_first = λ i j u lt a b. last_or es e FieldCycle j b
           (λ below here. o.cycles_first i j u lt (agree_append es (e ∷ []) i (omega arith) ∙ a) here)
-          (λ same it.
-          let there : slice_get es i ≡ Some (Listed u) = agree_append es (e ∷ []) i (omega arith) ∙ a in
-          let some : has (listed es) u ≡ true = has-there es i u there in
-          let after : is_after_list es FieldCycle ≡ false = ap (is_after_list es) (sym it) ∙ free.1 in
-          let none : has (listed es) u ≡ false = empty_has (listed es) u (not-false (is_empty (listed es)) after) in
-          cc);
+          (λ same it. none_listed es e i u (omega arith) a (ap (is_after_list es) (sym it) ∙ free.1));
       once = λ i j u w lt a b. last_or es e (Listed w) j b
           (λ below here. o.once i j u w lt (agree_append es (e ∷ []) i (omega arith) ∙ a) here)
           (λ same it d.
