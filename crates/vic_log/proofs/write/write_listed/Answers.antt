@@ -32,11 +32,11 @@ returns-in_err-put_entry-clause-prefix g c =
 
 pub returns-in_err-write_last-clause-prefix : goal.returns-in_err-write_last-clause-prefix
 returns-in_err-write_last-clause-prefix g c =
-    HasTakenBut-part _ _ _ _ [] _ _ c.loop-uid.invariant.told (none_left _ _ _ (omega arith)) c.in_err-write_last.ensures.prefix
+    HasTakenBut-part _ _ _ _ [] _ _ c.loop-uid.invariant.told (none_left _ c.args.uids.now c.loop-uid.uid-index (omega arith)) c.in_err-write_last.ensures.prefix
 
 pub returns-clause-prefix : goal.returns-clause-prefix
 returns-clause-prefix g c =
-    HasTakenBut-part _ _ _ _ [] _ _ c.loop-uid.invariant.told (none_left _ _ _ (omega arith)) c.in_ok-write_last.ensures.prefix
+    HasTakenBut-part _ _ _ _ [] _ _ c.loop-uid.invariant.told (none_left _ c.args.uids.now c.loop-uid.uid-index (omega arith)) c.in_ok-write_last.ensures.prefix
 
 pub returns-in_err-put_entry-clause-part : goal.returns-in_err-put_entry-clause-part
 returns-in_err-put_entry-clause-part g c =
@@ -44,16 +44,16 @@ returns-in_err-put_entry-clause-part g c =
 
 pub returns-in_err-write_last-clause-part : goal.returns-in_err-write_last-clause-part
 returns-in_err-write_last-clause-part g c =
-    HasTakenBut-part (Some _) (Some _) (Some _) _ [] _ _ c.loop-uid.invariant.written (none_left _ _ _ (omega arith)) c.in_err-write_last.ensures.part
+    HasTakenBut-part (Some _) (Some _) (Some _) _ [] _ _ c.loop-uid.invariant.written (none_left _ c.args.uids.now c.loop-uid.uid-index (omega arith)) c.in_err-write_last.ensures.part
 
 pub returns-clause-part : goal.returns-clause-part
 returns-clause-part g c =
-    HasTakenBut-part (Some _) (Some _) (Some _) _ [] _ _ c.loop-uid.invariant.written (none_left _ _ _ (omega arith)) c.in_ok-write_last.ensures.part
+    HasTakenBut-part (Some _) (Some _) (Some _) _ [] _ _ c.loop-uid.invariant.written (none_left _ c.args.uids.now c.loop-uid.uid-index (omega arith)) c.in_ok-write_last.ensures.part
 
 pub returns-clause-all : goal.returns-clause-all
 returns-clause-all g c =
-    HasTakenBut-all _ _ _ _ _ _ c.loop-uid.invariant.told (none_left _ _ _ (omega arith)) c.in_ok-write_last.ensures.all
+    HasTakenBut-all _ _ _ _ _ _ c.loop-uid.invariant.told (none_left _ c.args.uids.now c.loop-uid.uid-index (omega arith)) c.in_ok-write_last.ensures.all
 
 pub returns-clause-written : goal.returns-clause-written
 returns-clause-written g c =
-    HasTakenBut-all (Some _) (Some _) (Some _) _ _ _ c.loop-uid.invariant.written (none_left _ _ _ (omega arith)) c.in_ok-write_last.ensures.written
+    HasTakenBut-all (Some _) (Some _) (Some _) _ _ _ c.loop-uid.invariant.written (none_left _ c.args.uids.now c.loop-uid.uid-index (omega arith)) c.in_ok-write_last.ensures.written
