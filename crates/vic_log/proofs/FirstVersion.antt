@@ -3,7 +3,7 @@ use Rattle.std.proofs.Common.{◌≡◌, ℕ, zero, suc, List, false, not, ◌&&
 use Rattle.std.specs.List.{filter}
 use Rattle.std.specs.Prelude.{◌↔◌, slice_get, if◌then◌else◌}
 use Rattle.vic_log.specs.declared.entry.Entry.{Entry}
-use Rattle.vic_log.specs.declared.entry.Entry.TheVariants.{Sent, Silent, Collision, Heard, Listed, Garbled, FieldCycle}
+use Rattle.vic_log.specs.declared.entry.Entry.TheVariants.{Sent, Listed, Garbled, FieldCycle}
 use Rattle.vic_log.specs.Order.{IsInOrder}
 use Rattle.vic_log.specs.Rounds.{is_slot, ends_round, opener, mask_since, lies_in_some}
 use Rattle.vic_log.specs.Quiet.{silences, wakes, is_quiet}

@@ -5,7 +5,7 @@ use Rattle.vic_frame.specs.Slots.{slot_count}
 use Rattle.vic_frame.specs.declared.request.Request.{Request}
 use Rattle.vic_frame.specs.declared.request.Request.TheVariants.{Inventory, StayQuiet}
 use Rattle.vic_log.specs.declared.entry.Entry.{Entry}
-use Rattle.vic_log.specs.declared.entry.Entry.TheVariants.{Sent, Silent, Collision, Heard, Listed, Garbled, FieldCycle}
+use Rattle.vic_log.specs.declared.entry.Entry.TheVariants.{Sent, Silent, Listed, FieldCycle}
 use Rattle.vic_log.specs.declared.rounds.OpenRound.{OpenRound}
 use Rattle.vic_log.specs.declared.rounds.RoundCursor.{RoundCursor}
 use Rattle.vic_log.specs.Rounds.{opener, ends_round, IsInRound}

@@ -2,7 +2,7 @@
 use Rattle.std.proofs.lemmas.Grind.{common_steps}
 use Rattle.std.proofs.Common.{◌≡◌, ℕ, zero, suc, subst, ◌<◌, Bool, true, false, Some, List, [], ◌∷◌, ◌++◌, length, take, get_or, ⊎_elim, refl, sym, ap, ◌∙◌, arith}
 use Rattle.std.specs.Prelude.{nat_eq, ◌||◌, not, slice_get, set, cond}
-use Rattle.std.proofs.lemmas.Bool.{cases_Bool, cases_eq, ne_eqb, eq-eqb, eqb-true, or_from, or_right}
+use Rattle.std.proofs.lemmas.Bool.{false_from_ne_true, cases_eq, ne_eqb, eq-eqb, eqb-true, or_from, or_right}
 use Rattle.std.proofs.lemmas.List.{get_or_default, length-set, get_or-set_same, get_or-set_other}
 use Rattle.std.proofs.lemmas.List.Folds.{list_any-append}
 use Rattle.std.proofs.Math.Bool.{or_comm, or_assoc, or-false}
@@ -72,10 +72,7 @@ held-put old new uid k h u pos =
 
 -- a set of which a row has a free element has none of its UIDs outside the rows
 pub absent_besides : (s : UidSet) (uid k : ℕ) → IsUidSet s → slice_get (row_of s.rows.items uid) k ≡ Some 0 → sorted.contains nat_cmp s.others uid ≡ false
-absent_besides s uid k h free = ⊎_elim
-    (λ (there : sorted.contains nat_cmp s.others uid ≡ true). let full = h.full uid there in let some = has_got (row_of s.rows.items uid) k 0 free in cc)
-    (λ (no_ : sorted.contains nat_cmp s.others uid ≡ false). no_)
-    (cases_Bool (sorted.contains nat_cmp s.others uid))
+absent_besides s uid k h free = false_from_ne_true _ (λ there. let full = h.full uid there in let some = has_got (row_of s.rows.items uid) k 0 free in cc)
 
 pub IsUidSet-put : (old new : UidSet) (uid k : ℕ) → IsUidSet old → IsPut old new uid k → IsUidSet new
 IsUidSet-put old new uid k set_ h =
