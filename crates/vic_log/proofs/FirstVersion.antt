@@ -3,7 +3,7 @@ use Rattle.std.proofs.Common.{◌≡◌, ℕ, zero, suc, List, false, not, ◌&&
 use Rattle.std.specs.List.{filter}
 use Rattle.std.specs.Prelude.{◌↔◌, slice_get, if◌then◌else◌}
 use Rattle.vic_log.specs.declared.entry.Entry.{Entry}
-use Rattle.vic_log.specs.declared.entry.Entry.TheVariants.{Sent, Silent, Collision, Heard, Listed, Garbled, FieldCycle}
+use Rattle.vic_log.specs.declared.entry.Entry.TheVariants.{Sent, Listed, Garbled, FieldCycle}
 use Rattle.vic_log.specs.Order.{IsInOrder}
 use Rattle.vic_log.specs.Rounds.{is_slot, ends_round, opener, mask_since, lies_in_some}
 use Rattle.vic_log.specs.Quiet.{silences, wakes, is_quiet}
@@ -36,13 +36,9 @@ quiet-first es h (suc j) u =
     ap (λ b. silences (slice_get es j) u || (not b && is_quiet es j u)) (wakes_none (slice_get es j) (h j)) ∙ ap (λ b. silences (slice_get es j) u || b) k
 
 pub fits-first : (e : Entry) → IsOfFirstVersion e → (o : Outcome) → Fits e o ↔ FitsFirst e o
-fits-first (Sent q) h o = ((λ k. k), (λ k. k))
-fits-first Silent h o = ((λ k. k), (λ k. k))
-fits-first Collision h o = ((λ k. k), (λ k. k))
-fits-first (Heard r) h o = ((λ k. k), (λ k. k))
-fits-first (Listed u) h o = ((λ k. k), (λ k. k))
 fits-first Garbled h o = absurd h
 fits-first FieldCycle h o = absurd h
+fits-first e h o = ((λ k. k), (λ k. k))
 
 answers-first : (es : List Entry) → AreOfFirstVersion es → (i u : ℕ) → answers_at es i u ≡ answers_first_at es i u
 answers-first es h i u =
@@ -59,13 +55,9 @@ given-first es h p = (
 )
 
 slot-first : (e : Entry) → IsOfFirstVersion e → is_slot e ≡ is_first_slot e
-slot-first (Sent q) h = refl
-slot-first Silent h = refl
-slot-first Collision h = refl
-slot-first (Heard r) h = refl
-slot-first (Listed u) h = refl
 slot-first Garbled h = absurd h
 slot-first FieldCycle h = absurd h
+slot-first e h = refl
 
 pub order-first : (es : List Entry) → AreOfFirstVersion es → IsInOrder es ↔ IsInFirstOrder es
 order-first es h = (

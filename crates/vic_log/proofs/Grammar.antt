@@ -1,13 +1,14 @@
 -- A line reads as an entry if and only if it spells it.
-use Rattle.std.proofs.Common.{◌≡◌, ◌⊎◌, inl, inr, ℕ, zero, suc, ◌+◌, ◌-◌, ◌*◌, ◌/◌, ◌%◌, ◌<◌, ◌≤◌, Bool, true, false, Option, Some, None, Result, Ok, Err, List, [], ◌∷◌, length, drop, refl, sym, ap, subst, ◌∙◌, arith, ⊎_elim}
-use Rattle.std.specs.Prelude.{slice_index, nat_lt, nat_le, if◌then◌else◌, ◌==◌, ◌&&◌, ◌||◌}
+use Rattle.std.proofs.Common.{◌≡◌, ◌⊎◌, inl, inr, ℕ, ◌+◌, ◌-◌, ◌*◌, ◌/◌, ◌%◌, ◌<◌, ◌≤◌, true, false, Option, Some, None, Result, Ok, Err, List, [], ◌∷◌, length, refl, sym, ap, subst, ◌∙◌, arith}
+use Rattle.std.specs.Prelude.{nat_lt, nat_le, if◌then◌else◌, ◌==◌, ◌&&◌, ◌||◌}
 use Rattle.std.specs.Int.{to_be_bytes, from_be_bytes, w64}
-use Rattle.std.proofs.lemmas.Bool.{and_parts, or_right, eqb-true, leb-true, ne_eqb, le-ltb, ltb-false}
+use Rattle.std.proofs.lemmas.Bool.{and_parts, cond_both, cond-true, cond-false, or_from, or_right, eqb-true, leb-true, ne_eqb, le-ltb, ltb-false}
 use Rattle.std.proofs.lemmas.Bool.Decides.{nat_tests}
 use Rattle.std.proofs.lemmas.Nat.{be_bytes_8, from_be_bytes-to_be_bytes_8}
 use Rattle.hex.specs.Hex.{decode_of, decode_pairs, digit_or_error, hex_digit_value, ◌>>=◌}
 use Rattle.hex.specs.declared.error.FromHexError.{FromHexError}
 use Rattle.hex.specs.declared.error.FromHexError.TheVariants.{OddLength}
+use Rattle.hex.proofs.HexLemmas.{decode_of-even, decode_pairs-ok}
 use Rattle.hex.proofs.Pairs.{cons_byte, decode_pairs-ok_pair}
 use Rattle.vic_frame.specs.Bytes.{AreBytes}
 use Rattle.vic_frame.specs.Uids.{IsUid, is_uid}
@@ -18,16 +19,17 @@ use Rattle.vic_frame.specs.declared.request.Request.{Request}
 use Rattle.vic_frame.specs.declared.fault.FrameFault.{FrameFault}
 use Rattle.vic_frame.proofs.RequestLaws.{request_found, request_only}
 use Rattle.vic_frame.proofs.ReplyLaws.{reply_found, reply_only}
-use Rattle.std.specs.Prelude.{IfOk}
+use Rattle.std.specs.Prelude.{⊤, IfOk}
 use Rattle.vic_log.specs.declared.entry.Entry.{Entry}
 use Rattle.vic_log.specs.declared.entry.Entry.TheVariants.{Sent, Silent, Collision, Heard, Listed, Garbled, FieldCycle}
 use Rattle.vic_log.specs.declared.entry.Version.{Version}
 use Rattle.vic_log.specs.declared.entry.Version.TheVariants.{V1, V2}
 use Rattle.vic_log.specs.declared.fault.LineFault.{LineFault}
-use Rattle.vic_log.specs.declared.fault.LineFault.TheVariants.{LineTooLong, UnknownEntry, ListedLength, NotVicinity}
+use Rattle.vic_log.specs.declared.fault.LineFault.TheVariants.{ListedLength, NotVicinity}
 use Rattle.vic_log.specs.Grammar.{IsDigitOf, AreDigitsOf, HasBytes, SpellsEntry, IsPassedOver}
-use Rattle.vic_log.specs.LineReading.{line_reading, added_letter, one_letter, with_digits, with_bytes, sent, heard, listed_uid}
+use Rattle.vic_log.specs.LineReading.{line_reading, added_letter, one_letter, with_digits, with_bytes, sent, heard, listed_uid, claimed}
 use Rattle.vic_log.proofs.Supply.{IsUid-from, is_uid_from}
+use Rattle.vic_log.proofs.HexPairs.{both}
 use Rattle.vic_log.proofs.FrameBytes.{length-request, length-reply}
 
 -- ---- hex digits
@@ -35,21 +37,16 @@ use Rattle.vic_log.proofs.FrameBytes.{length-request, length-reply}
 range : (low c high : ℕ) → (nat_le low c && nat_le c high) ≡ true → (low ≤ c) × (c ≤ high)
 range low c high h = let p = and_parts (nat_le low c) (nat_le c high) h in (leb-true low c p.0, leb-true c high p.1)
 
-which : (p q r : Bool) (a b d v : ℕ) → (if p then Some a else if q then Some b else if r then Some d else None) ≡ Some v
-    → ((p ≡ true) × (a ≡ v)) ⊎ (((q ≡ true) × (b ≡ v)) ⊎ ((r ≡ true) × (d ≡ v)))
-which true q r a b d v h = let same : a ≡ v = cc in inl (refl, same)
-which false true r a b d v h = let same : b ≡ v = cc in inr (inl (refl, same))
-which false false true a b d v h = let same : d ≡ v = cc in inr (inr (refl, same))
-which false false false a b d v h = cc
-
 value-digit : (c v : ℕ) → hex_digit_value c ≡ Some v → IsDigitOf c v
-value-digit c v h = ⊎_elim
-    (λ upper. let r = range 65 c 70 upper.0 in let e = upper.1 in let a = r.0 in let b = r.1 in inr (omega arith, omega arith, inl (omega arith)))
-    (λ others. ⊎_elim
-    (λ lower. let r = range 97 c 102 lower.0 in let e = lower.1 in let a = r.0 in let b = r.1 in inr (omega arith, omega arith, inr (omega arith)))
-    (λ plain. let r = range 48 c 57 plain.0 in let e = plain.1 in let a = r.0 in let b = r.1 in inl (omega arith, omega arith))
-    others)
-    (which (nat_le 65 c && nat_le c 70) (nat_le 97 c && nat_le c 102) (nat_le 48 c && nat_le c 57) (c - 55) (c - 87) (c - 48) v h)
+value-digit c v =
+    let P = λ (o : Option ℕ). o ≡ Some v → IsDigitOf c v in
+    cond_both _ _ _ P
+    (λ t e. let r = range 65 c 70 t in let same : c - 55 ≡ v = cc in let a = r.0 in let b = r.1 in inr (omega arith, omega arith, inl (omega arith)))
+    (λ _. cond_both _ _ _ P
+    (λ t e. let r = range 97 c 102 t in let same : c - 87 ≡ v = cc in let a = r.0 in let b = r.1 in inr (omega arith, omega arith, inr (omega arith)))
+    (λ _. cond_both _ _ _ P
+    (λ t e. let r = range 48 c 57 t in let same : c - 48 ≡ v = cc in let a = r.0 in let b = r.1 in inl (omega arith, omega arith))
+    (λ _ e. cc)))
 
 plain_value : (c v : ℕ) → v ≤ 9 → c ≡ 48 + v → hex_digit_value c ≡ Some v
 plain_value c v few e = grind (arith, nat_tests)
@@ -94,9 +91,6 @@ decoded i (a ∷ b ∷ rest) bytes h =
     let lower : y ≡ (x * 16 + y) % 16 = omega arith in
     subst (AreDigitsOf (a ∷ b ∷ rest)) (sym w.6) (subst (IsDigitOf a) upper high, subst (IsDigitOf b) lower low, decoded (i + 2) rest w.2 w.5)
 
-pair_ok : (a b i v : ℕ) (o p : Option ℕ) → o ≡ Some (v / 16) → p ≡ Some (v % 16) → (digit_or_error a i o >>= (λ x. digit_or_error b (i + 1) p >>= (λ y. Ok (x * 16 + y)))) ≡ Ok v
-pair_ok a b i v o p e f = let whole : v / 16 * 16 + v % 16 ≡ v = omega arith in rw (e, f) (ap Ok whole)
-
 decodes : (i : ℕ) (digits bytes : List ℕ) → AreDigitsOf digits bytes → decode_pairs i digits ≡ Ok bytes
 unfolding decode_pairs
 decodes i [] [] h = refl
@@ -105,152 +99,79 @@ decodes i (d ∷ []) [] h = absurd h
 decodes i (d ∷ []) (v ∷ bytes) h = absurd h
 decodes i (a ∷ b ∷ rest) [] h = absurd h
 decodes i (a ∷ b ∷ rest) (v ∷ bytes) h =
-    decode_pairs-ok_pair i a b v rest (pair_ok a b i v (hex_digit_value a) (hex_digit_value b) (digit-value a (v / 16) h.0) (digit-value b (v % 16) h.1))
+    let whole : v / 16 * 16 + v % 16 ≡ v = omega arith in
+    decode_pairs-ok_pair i a b v rest (both a b i (v / 16) (v % 16) (hex_digit_value a) (hex_digit_value b) (digit-value a (v / 16) h.0) (digit-value b (v % 16) h.1) ∙ ap Ok whole)
     ∙ ap (cons_byte v) (decodes (i + 2) rest bytes h.2)
 
 twice : (digits bytes : List ℕ) → AreDigitsOf digits bytes → length digits ≡ 2 * length bytes
-twice [] [] h = refl
-twice [] (v ∷ bytes) h = absurd h
-twice (d ∷ []) [] h = absurd h
-twice (d ∷ []) (v ∷ bytes) h = absurd h
-twice (a ∷ b ∷ rest) [] h = absurd h
-twice (a ∷ b ∷ rest) (v ∷ bytes) h = let e = twice rest bytes h.2 in omega arith
+twice digits bytes h = (decode_pairs-ok 0 digits bytes (decodes 0 digits bytes h)).1
 
 are_bytes : (digits bytes : List ℕ) → AreDigitsOf digits bytes → AreBytes bytes
-are_bytes [] [] h i = omega arith
-are_bytes [] (v ∷ bytes) h i = absurd h
-are_bytes (d ∷ []) [] h i = absurd h
-are_bytes (d ∷ []) (v ∷ bytes) h i = absurd h
-are_bytes (a ∷ b ∷ rest) [] h i = absurd h
-are_bytes (a ∷ b ∷ rest) (v ∷ bytes) h zero = let k = small a (v / 16) h.0 in omega arith
-are_bytes (a ∷ b ∷ rest) (v ∷ bytes) h (suc i) = are_bytes rest bytes h.2 i
-
--- ---- tests
-
-branch : {A : Type 0} (t : Bool) (a b r : A) → (if t then a else b) ≡ r → ((t ≡ true) × (a ≡ r)) ⊎ ((t ≡ false) × (b ≡ r))
-branch true a b r h = inl (refl, h)
-branch false a b r h = inr (refl, h)
-
-second : {A : Type 0} (t : Bool) (a b : A) → t ≡ false → (if t then a else b) ≡ b
-second true a b e = cc
-second false a b e = refl
+are_bytes digits bytes h = (decode_pairs-ok 0 digits bytes (decodes 0 digits bytes h)).2
 
 pub digits-of : (digits bytes : List ℕ) → decode_of digits ≡ Ok bytes → AreDigitsOf digits bytes
-digits-of digits bytes h = ⊎_elim
-    (λ odd. let e = odd.1 in cc)
-    (λ even. decoded 0 digits bytes even.1)
-    (branch (length digits % 2 == 1) (Err OddLength) (decode_pairs 0 digits) (Ok bytes) h)
+digits-of digits bytes = cond_both (length digits % 2 == 1) (Err OddLength) (decode_pairs 0 digits) (λ r. r ≡ Ok bytes → AreDigitsOf digits bytes)
+    (λ _ e. cc)
+    (λ _ e. decoded 0 digits bytes e)
 
 of_digits : (digits bytes : List ℕ) → AreDigitsOf digits bytes → decode_of digits ≡ Ok bytes
-of_digits digits bytes h =
-    let e = twice digits bytes h in
-    second (length digits % 2 == 1) (Err OddLength) (decode_pairs 0 digits) (ne_eqb (length digits % 2) 1 (λ odd. absurd (omega arith))) ∙ decodes 0 digits bytes h
+of_digits digits bytes h = let e = twice digits bytes h in decode_of-even digits (omega arith) ∙ decodes 0 digits bytes h
 
--- ---- what a line with digits reads as
+-- ---- what a line reads as is true of it
 
-digits_read : (f : List ℕ → Result (Option Entry) LineFault) (r : Result (List ℕ) FromHexError) (e : Entry) → with_bytes f r ≡ Ok (Some e) → (bytes : List ℕ) × (r ≡ Ok bytes) × (f bytes ≡ Ok (Some e))
-digits_read f (Ok bytes) e h = (bytes, refl, h)
-digits_read f (Err x) e h = cc
+abbrev Says : Version → List ℕ → Result (Option Entry) LineFault → Type 0
+Says v line (Ok (Some e)) = SpellsEntry v line e
+Says v line (Ok None) = IsPassedOver line
+Says v line (Err f) = ⊤
 
-request_read : (r : Result Request FrameFault) (e : Entry) → sent r ≡ Ok (Some e) → (q : Request) × (r ≡ Ok q) × (Sent q ≡ e)
-request_read (Ok q) e h = let same : Sent q ≡ e = cc in (q, refl, same)
-request_read (Err f) e h = cc
+sent-says : (v : Version) (line frame : List ℕ) → HasBytes line 84 frame → (r : Result Request FrameFault) → IfOk r (λ q. SpellsRequest frame q) → Says v line (sent r)
+sent-says v line frame has (Ok q) h = (frame, h, has)
+sent-says v line frame has (Err f) h = tt
 
-reply_read : (r : Result Reply FrameFault) (e : Entry) → heard r ≡ Ok (Some e) → (q : Reply) × (r ≡ Ok q) × (Heard q ≡ e)
-reply_read (Ok q) e h = let same : Heard q ≡ e = cc in (q, refl, same)
-reply_read (Err f) e h = cc
+heard-says : (v : Version) (line frame : List ℕ) → HasBytes line 82 frame → (r : Result Reply FrameFault) → IfOk r (λ q. SpellsReply frame q) → Says v line (heard r)
+heard-says v line frame has (Ok q) h = (frame, h, has)
+heard-says v line frame has (Err f) h = tt
 
-uid_read : (bytes : List ℕ) (e : Entry) → listed_uid bytes ≡ Ok (Some e) → (length bytes ≡ 8) × IsUid (from_be_bytes w64 bytes) × (Listed (from_be_bytes w64 bytes) ≡ e)
-uid_read bytes e h =
+listed-says : (v : Version) (line bytes : List ℕ) → HasBytes line 85 bytes → Says v line (listed_uid bytes)
+listed-says v line bytes has =
     let n = from_be_bytes w64 bytes in
-    ⊎_elim
-    (λ eight. ⊎_elim
-    (λ uid. let found = uid.1 in let same : Listed n ≡ e = cc in (eqb-true (length bytes) 8 eight.0, IsUid-from n uid.0, same))
-    (λ none. let found = none.1 in cc)
-    (branch (is_uid n) (Ok (Some (Listed n))) (Err NotVicinity) (Ok (Some e)) eight.1))
-    (λ other. let found = other.1 in cc)
-    (branch (length bytes == 8) (if is_uid n then Ok (Some (Listed n)) else Err NotVicinity) (Err ListedLength) (Ok (Some e)) h)
+    cond_both (length bytes == 8) (claimed n) (Err ListedLength) (Says v line)
+    (λ eight. cond_both (is_uid n) (Ok (Some (Listed n))) (Err NotVicinity) (Says v line)
+    (λ uid. (IsUid-from n uid, subst (HasBytes line 85) (sym (be_bytes_8 bytes n (eqb-true (length bytes) 8 eight) (are_bytes has.0 bytes has.2) refl)) has))
+    (λ _. tt))
+    (λ _. tt)
+
+bytes-say : (v : Version) (line : List ℕ) (f : List ℕ → Result (Option Entry) LineFault) (r : Result (List ℕ) FromHexError) → ((bytes : List ℕ) → r ≡ Ok bytes → Says v line (f bytes)) → Says v line (with_bytes f r)
+bytes-say v line f (Ok bytes) h = h bytes refl
+bytes-say v line f (Err x) h = tt
 
 has_bytes : (x letter : ℕ) (digits bytes : List ℕ) → x == letter ≡ true → decode_of digits ≡ Ok bytes → HasBytes (x ∷ 32 ∷ digits) letter bytes
 has_bytes x letter digits bytes e h = (digits, ap (λ l. l ∷ 32 ∷ digits) (eqb-true x letter e), digits-of digits bytes h)
 
-has_are_bytes : (line : List ℕ) (letter : ℕ) (bytes : List ℕ) → HasBytes line letter bytes → AreBytes bytes
-has_are_bytes line letter bytes h = are_bytes h.0 bytes h.2
-
-sent-spelled : (v : Version) (x : ℕ) (digits : List ℕ) (e : Entry) → x == 84 ≡ true → with_bytes (λ bytes. sent (request_reading bytes)) (decode_of digits) ≡ Ok (Some e) → SpellsEntry v (x ∷ 32 ∷ digits) e
-sent-spelled v x digits e t h =
-    let w = digits_read (λ bytes. sent (request_reading bytes)) (decode_of digits) e h in
-    let frame = w.0 in
-    let has = has_bytes x 84 digits frame t w.1 in
-    let r = request_read (request_reading frame) e w.2 in
-    subst (SpellsEntry v (x ∷ 32 ∷ digits)) r.2
-    (frame, subst (λ o. IfOk o (λ q. SpellsRequest frame q)) r.1 (request_found frame (has_are_bytes (x ∷ 32 ∷ digits) 84 frame has)), has)
-
-heard-spelled : (v : Version) (x : ℕ) (digits : List ℕ) (e : Entry) → x == 82 ≡ true → with_bytes (λ bytes. heard (reply_reading bytes)) (decode_of digits) ≡ Ok (Some e) → SpellsEntry v (x ∷ 32 ∷ digits) e
-heard-spelled v x digits e t h =
-    let w = digits_read (λ bytes. heard (reply_reading bytes)) (decode_of digits) e h in
-    let frame = w.0 in
-    let has = has_bytes x 82 digits frame t w.1 in
-    let r = reply_read (reply_reading frame) e w.2 in
-    subst (SpellsEntry v (x ∷ 32 ∷ digits)) r.2
-    (frame, subst (λ o. IfOk o (λ q. SpellsReply frame q)) r.1 (reply_found frame (has_are_bytes (x ∷ 32 ∷ digits) 82 frame has)), has)
-
-listed-spelled : (v : Version) (x : ℕ) (digits : List ℕ) (e : Entry) → x == 85 ≡ true → with_bytes listed_uid (decode_of digits) ≡ Ok (Some e) → SpellsEntry v (x ∷ 32 ∷ digits) e
-listed-spelled v x digits e t h =
-    let w = digits_read listed_uid (decode_of digits) e h in
-    let bytes = w.0 in
-    let has = has_bytes x 85 digits bytes t w.1 in
-    let r = uid_read bytes e w.2 in
-    let u = from_be_bytes w64 bytes in
-    let same : to_be_bytes w64 u ≡ bytes = be_bytes_8 bytes u r.0 (has_are_bytes (x ∷ 32 ∷ digits) 85 bytes has) refl in
-    subst (SpellsEntry v (x ∷ 32 ∷ digits)) r.2 (r.1, subst (HasBytes (x ∷ 32 ∷ digits) 85) (sym same) has)
-
-lettered-spelled : (v : Version) (x : ℕ) (digits : List ℕ) (e : Entry) → with_digits x digits ≡ Ok (Some e) → SpellsEntry v (x ∷ 32 ∷ digits) e
-lettered-spelled v x digits e h =
-    let request = with_bytes (λ bytes. sent (request_reading bytes)) (decode_of digits) in
-    let reply = with_bytes (λ bytes. heard (reply_reading bytes)) (decode_of digits) in
-    let uid = with_bytes listed_uid (decode_of digits) in
-    let last = if x == 85 then uid else Err UnknownEntry in
-    ⊎_elim
-    (λ t. sent-spelled v x digits e t.0 t.1)
-    (λ t. ⊎_elim
-    (λ r. heard-spelled v x digits e r.0 r.1)
-    (λ r. ⊎_elim
-    (λ u. listed-spelled v x digits e u.0 u.1)
-    (λ u. let none = u.1 in cc)
-    (branch (x == 85) uid (Err UnknownEntry) (Ok (Some e)) r.1))
-    (branch (x == 82) reply last (Ok (Some e)) t.1))
-    (branch (x == 84) request (if x == 82 then reply else last) (Ok (Some e)) h)
-
--- ---- what a letter alone reads as
+digits-say : (v : Version) (x : ℕ) (digits : List ℕ) → Says v (x ∷ 32 ∷ digits) (with_digits x digits)
+digits-say v x digits =
+    let line = x ∷ 32 ∷ digits in
+    cond_both (x == 84) _ _ (Says v line)
+    (λ t. bytes-say v line _ (decode_of digits) (λ frame h. let has = has_bytes x 84 digits frame t h in sent-says v line frame has (request_reading frame) (request_found frame (are_bytes has.0 frame has.2))))
+    (λ _. cond_both (x == 82) _ _ (Says v line)
+    (λ t. bytes-say v line _ (decode_of digits) (λ frame h. let has = has_bytes x 82 digits frame t h in heard-says v line frame has (reply_reading frame) (reply_found frame (are_bytes has.0 frame has.2))))
+    (λ _. cond_both (x == 85) _ _ (Says v line)
+    (λ t. bytes-say v line _ (decode_of digits) (λ bytes h. listed-says v line bytes (has_bytes x 85 digits bytes t h)))
+    (λ _. tt)))
 
 one : (x letter : ℕ) → x == letter ≡ true → x ∷ [] ≡ letter ∷ []
 one x letter t = ap (λ l. l ∷ []) (eqb-true x letter t)
 
-added-spelled : (v : Version) (x : ℕ) (e : Entry) → added_letter v x ≡ Ok (Some e) → SpellsEntry v (x ∷ []) e
-added-spelled V1 x e h = cc
-added-spelled V2 x e h = ⊎_elim
-    (λ d. let k = d.1 in let same : Garbled ≡ e = cc in subst (SpellsEntry V2 (x ∷ [])) same (refl, one x 68 d.0))
-    (λ d. ⊎_elim
-    (λ f. let k = f.1 in let same : FieldCycle ≡ e = cc in subst (SpellsEntry V2 (x ∷ [])) same (refl, one x 70 f.0))
-    (λ f. let none = f.1 in cc)
-    (branch (x == 70) (Ok (Some FieldCycle)) (Err UnknownEntry) (Ok (Some e)) d.1))
-    (branch (x == 68) (Ok (Some Garbled)) (if x == 70 then Ok (Some FieldCycle) else Err UnknownEntry) (Ok (Some e)) h)
+added-says : (v : Version) (x : ℕ) → Says v (x ∷ []) (added_letter v x)
+added-says V1 x = tt
+added-says V2 x =
+    cond_both (x == 68) _ _ (Says V2 (x ∷ [])) (λ t. (refl, one x 68 t)) (λ _. cond_both (x == 70) _ _ (Says V2 (x ∷ [])) (λ t. (refl, one x 70 t)) (λ _. tt))
 
-letter-spelled : (v : Version) (x : ℕ) (e : Entry) → one_letter v x ≡ Ok (Some e) → SpellsEntry v (x ∷ []) e
-letter-spelled v x e h = ⊎_elim
-    (λ s. let k = s.1 in let same : Silent ≡ e = cc in subst (SpellsEntry v (x ∷ [])) same (one x 83 s.0))
-    (λ s. ⊎_elim
-    (λ d. let k = d.1 in let same : Collision ≡ e = cc in subst (SpellsEntry v (x ∷ [])) same (one x 67 d.0))
-    (λ d. added-spelled v x e d.1)
-    (branch (x == 67) (Ok (Some Collision)) (added_letter v x) (Ok (Some e)) s.1))
-    (branch (x == 83) (Ok (Some Silent)) (if x == 67 then Ok (Some Collision) else added_letter v x) (Ok (Some e)) h)
+letter-says : (v : Version) (x : ℕ) → Says v (x ∷ []) (one_letter v x)
+letter-says v x = cond_both (x == 83) _ _ (Says v (x ∷ [])) (one x 83) (λ _. cond_both (x == 67) _ _ (Says v (x ∷ [])) (one x 67) (λ _. added-says v x))
 
--- ---- complete lines
-
--- what a line reads as whose first byte isn't #
-abbrev line_rest : Version → ℕ → ℕ → List ℕ → Result (Option Entry) LineFault
-line_rest v x y digits = if y == 32 then with_digits x digits else Err UnknownEntry
+marked : (x : ℕ) (rest : List ℕ) → x == 35 ≡ true → (x ∷ rest ≡ []) ⊎ ((more : List ℕ) × (x ∷ rest ≡ 35 ∷ more))
+marked x rest t = inr (rest, ap (λ l. l ∷ rest) (eqb-true x 35 t))
 
 two_long : (x y : ℕ) (digits : List ℕ) → length (x ∷ y ∷ digits) == 1 ≡ false
 two_long x y digits = ne_eqb (length (x ∷ y ∷ digits)) 1 (λ e. absurd (omega arith))
@@ -258,47 +179,36 @@ two_long x y digits = ne_eqb (length (x ∷ y ∷ digits)) 1 (λ e. absurd (omeg
 some_long : (x y : ℕ) (digits : List ℕ) → length (x ∷ y ∷ digits) == 0 ≡ false
 some_long x y digits = ne_eqb (length (x ∷ y ∷ digits)) 0 (λ e. absurd (omega arith))
 
-pub reads-spelled : (v : Version) (line : List ℕ) (e : Entry) → line_reading v line ≡ Ok (Some e) → SpellsEntry v line e
-reads-spelled v [] e h = cc
-reads-spelled v (x ∷ []) e h = ⊎_elim
-    (λ passed. let k = passed.1 in cc)
-    (λ other. letter-spelled v x e other.1)
-    (branch (x == 35) (Ok None) (one_letter v x) (Ok (Some e)) h)
-reads-spelled v (x ∷ y ∷ digits) e h =
+line-says : (v : Version) (line : List ℕ) → Says v line (line_reading v line)
+line-says v [] = (omega arith, inl refl)
+line-says v (x ∷ []) = cond_both (x == 35) (Ok None) (one_letter v x) (Says v (x ∷ [])) (λ t. (omega arith, marked x [] t)) (λ _. letter-says v x)
+line-says v (x ∷ y ∷ digits) =
     let line = x ∷ y ∷ digits in
-    let rest = line_rest v x y digits in
-    let by_length = if length line == 1 then one_letter v x else rest in
-    let passed = length line == 0 || x == 35 in
-    ⊎_elim
-    (λ long. let k = long.1 in cc)
-    (λ short. ⊎_elim
-    (λ over. let k = over.1 in cc)
-    (λ not_over. ⊎_elim
-    (λ space. subst (λ b. SpellsEntry v (x ∷ b ∷ digits) e) (sym (eqb-true y 32 space.0)) (lettered-spelled v x digits e space.1))
-    (λ other. let k = other.1 in cc)
-    (branch (y == 32) (with_digits x digits) (Err UnknownEntry) (Ok (Some e)) (sym (second (length line == 1) (one_letter v x) rest (two_long x y digits)) ∙ not_over.1)))
-    (branch passed (Ok None) by_length (Ok (Some e)) short.1))
-    (branch (nat_lt 128 (length line)) (Err LineTooLong) (if passed then Ok None else by_length) (Ok (Some e)) h)
+    cond_both (nat_lt 128 (length line)) _ _ (Says v line)
+    (λ _. tt)
+    (λ short. cond_both (length line == 0 || x == 35) _ _ (Says v line)
+    (λ over. (ltb-false 128 (length line) short, marked x (y ∷ digits) (ap (λ b. b || x == 35) (sym (some_long x y digits)) ∙ over)))
+    (λ _. subst (Says v line) (sym (cond-false _ _ _ (two_long x y digits)))
+    (cond_both (y == 32) _ _ (Says v line)
+    (λ space. subst (λ b. Says v (x ∷ b ∷ digits) (with_digits x digits)) (sym (eqb-true y 32 space)) (digits-say v x digits))
+    (λ _. tt))))
+
+pub reads-spelled : (v : Version) (line : List ℕ) (e : Entry) → line_reading v line ≡ Ok (Some e) → SpellsEntry v line e
+reads-spelled v line e h = subst (Says v line) h (line-says v line)
+
+pub reads-passed : (v : Version) (line : List ℕ) → line_reading v line ≡ Ok None → IsPassedOver line
+reads-passed v line h = subst (Says v line) h (line-says v line)
 
 -- ---- a spelled entry is read
 
 lettered : (v : Version) (letter : ℕ) (digits : List ℕ) → letter == 35 ≡ false → length digits ≤ 126 → line_reading v (letter ∷ 32 ∷ digits) ≡ with_digits letter digits
 lettered v letter digits other few =
-    let line = letter ∷ 32 ∷ digits in
-    let rest = line_rest v letter 32 digits in
-    let by_length = if length line == 1 then one_letter v letter else rest in
-    let passed = length line == 0 || letter == 35 in
-    second (nat_lt 128 (length line)) (Err LineTooLong) (if passed then Ok None else by_length) (le-ltb 128 (length line) (omega arith))
-    ∙ (second passed (Ok None) by_length (ap (λ b. b || letter == 35) (some_long letter 32 digits) ∙ other)
-    ∙ second (length line == 1) (one_letter v letter) rest (two_long letter 32 digits))
-
-first : {A : Type 0} (t : Bool) (a b : A) → t ≡ true → (if t then a else b) ≡ a
-first true a b e = refl
-first false a b e = cc
+    cond-false _ _ _ (le-ltb 128 (length (letter ∷ 32 ∷ digits)) (omega arith))
+    ∙ (cond-false _ _ _ (or_from _ _ (some_long letter 32 digits) other) ∙ cond-false _ _ _ (two_long letter 32 digits))
 
 uid_reads : (n u : ℕ) → n ≡ u → IsUid u → (if is_uid n then Ok (Some (Listed n)) else Err NotVicinity) ≡ Ok (Some (Listed u))
 uid_reads n u e h =
-    first (is_uid n) (Ok (Some (Listed n))) (Err NotVicinity) (ap is_uid e ∙ is_uid_from u h) ∙ ap (λ v. Ok (Some (Listed v))) e
+    cond-true _ _ _ (ap is_uid e ∙ is_uid_from u h) ∙ ap (λ v. Ok (Some (Listed v))) e
 
 listed_reads : (u : ℕ) → IsUid u → listed_uid (to_be_bytes w64 u) ≡ Ok (Some (Listed u))
 listed_reads u h =
@@ -332,87 +242,8 @@ spelled-reads v line FieldCycle h = ap (λ w. line_reading w line) h.0 ∙ ap (l
 
 -- ---- lines that are passed over
 
-added_some : (v : Version) (x : ℕ) → added_letter v x ≡ Ok None → ⊥
-added_some V1 x h = cc
-added_some V2 x h = ⊎_elim
-    (λ d. let k = d.1 in cc)
-    (λ d. ⊎_elim (λ f. let k = f.1 in cc) (λ f. let k = f.1 in cc) (branch (x == 70) (Ok (Some FieldCycle)) (Err UnknownEntry) (Ok None) d.1))
-    (branch (x == 68) (Ok (Some Garbled)) (if x == 70 then Ok (Some FieldCycle) else Err UnknownEntry) (Ok None) h)
-
-letter_some : (v : Version) (x : ℕ) → one_letter v x ≡ Ok None → ⊥
-letter_some v x h = ⊎_elim
-    (λ s. let k = s.1 in cc)
-    (λ s. ⊎_elim (λ d. let k = d.1 in cc) (λ d. added_some v x d.1) (branch (x == 67) (Ok (Some Collision)) (added_letter v x) (Ok None) s.1))
-    (branch (x == 83) (Ok (Some Silent)) (if x == 67 then Ok (Some Collision) else added_letter v x) (Ok None) h)
-
-bytes_some : (f : List ℕ → Result (Option Entry) LineFault) (r : Result (List ℕ) FromHexError) → ((bytes : List ℕ) → f bytes ≡ Ok None → ⊥) → with_bytes f r ≡ Ok None → ⊥
-bytes_some f (Ok bytes) none h = none bytes h
-bytes_some f (Err x) none h = cc
-
-sent_some : (r : Result Request FrameFault) → sent r ≡ Ok None → ⊥
-sent_some (Ok q) h = cc
-sent_some (Err f) h = cc
-
-heard_some : (r : Result Reply FrameFault) → heard r ≡ Ok None → ⊥
-heard_some (Ok q) h = cc
-heard_some (Err f) h = cc
-
-listed_some : (bytes : List ℕ) → listed_uid bytes ≡ Ok None → ⊥
-listed_some bytes h =
-    let n = from_be_bytes w64 bytes in
-    ⊎_elim
-    (λ eight. ⊎_elim (λ u. let k = u.1 in cc) (λ u. let k = u.1 in cc) (branch (is_uid n) (Ok (Some (Listed n))) (Err NotVicinity) (Ok None) eight.1))
-    (λ other. let k = other.1 in cc)
-    (branch (length bytes == 8) (if is_uid n then Ok (Some (Listed n)) else Err NotVicinity) (Err ListedLength) (Ok None) h)
-
-digits_some : (x : ℕ) (digits : List ℕ) → with_digits x digits ≡ Ok None → ⊥
-digits_some x digits h =
-    let request = with_bytes (λ bytes. sent (request_reading bytes)) (decode_of digits) in
-    let reply = with_bytes (λ bytes. heard (reply_reading bytes)) (decode_of digits) in
-    let uid = with_bytes listed_uid (decode_of digits) in
-    let last = if x == 85 then uid else Err UnknownEntry in
-    ⊎_elim
-    (λ t. bytes_some (λ bytes. sent (request_reading bytes)) (decode_of digits) (λ bytes. sent_some (request_reading bytes)) t.1)
-    (λ t. ⊎_elim
-    (λ r. bytes_some (λ bytes. heard (reply_reading bytes)) (decode_of digits) (λ bytes. heard_some (reply_reading bytes)) r.1)
-    (λ r. ⊎_elim
-    (λ u. bytes_some listed_uid (decode_of digits) listed_some u.1)
-    (λ u. let k = u.1 in cc)
-    (branch (x == 85) uid (Err UnknownEntry) (Ok None) r.1))
-    (branch (x == 82) reply last (Ok None) t.1))
-    (branch (x == 84) request (if x == 82 then reply else last) (Ok None) h)
-
-marked : (x : ℕ) (rest : List ℕ) → x == 35 ≡ true → (x ∷ rest ≡ []) ⊎ ((more : List ℕ) × (x ∷ rest ≡ 35 ∷ more))
-marked x rest t = inr (rest, ap (λ l. l ∷ rest) (eqb-true x 35 t))
-
-pub reads-passed : (v : Version) (line : List ℕ) → line_reading v line ≡ Ok None → IsPassedOver line
-reads-passed v [] h = (omega arith, inl refl)
-reads-passed v (x ∷ []) h = ⊎_elim
-    (λ passed. (omega arith, marked x [] passed.0))
-    (λ other. absurd (letter_some v x other.1))
-    (branch (x == 35) (Ok None) (one_letter v x) (Ok None) h)
-reads-passed v (x ∷ y ∷ digits) h =
-    let line = x ∷ y ∷ digits in
-    let rest = line_rest v x y digits in
-    let by_length = if length line == 1 then one_letter v x else rest in
-    let passed = length line == 0 || x == 35 in
-    ⊎_elim
-    (λ long. let k = long.1 in cc)
-    (λ short. ⊎_elim
-    (λ over. (ltb-false 128 (length line) short.0, marked x (y ∷ digits) (ap (λ b. b || x == 35) (sym (some_long x y digits)) ∙ over.0)))
-    (λ not_over. absurd (⊎_elim
-    (λ space. digits_some x digits space.1)
-    (λ other. let k = other.1 in cc)
-    (branch (y == 32) (with_digits x digits) (Err UnknownEntry) (Ok None) (sym (second (length line == 1) (one_letter v x) rest (two_long x y digits)) ∙ not_over.1))))
-    (branch passed (Ok None) by_length (Ok None) short.1))
-    (branch (nat_lt 128 (length line)) (Err LineTooLong) (if passed then Ok None else by_length) (Ok None) h)
-
 passed_marked : (v : Version) (rest : List ℕ) → length (35 ∷ rest) ≤ 128 → line_reading v (35 ∷ rest) ≡ Ok None
-passed_marked v rest few =
-    let line = 35 ∷ rest in
-    let by_length = if length line == 1 then one_letter v 35 else if slice_index line 1 == 32 then with_digits 35 (drop 2 line) else Err UnknownEntry in
-    second (nat_lt 128 (length line)) (Err LineTooLong) (if length line == 0 || true then Ok None else by_length) (le-ltb 128 (length line) few)
-    ∙ first (length line == 0 || true) (Ok None) by_length (or_right (length line == 0) true refl)
+passed_marked v rest few = cond-false _ _ _ (le-ltb 128 (length (35 ∷ rest)) few) ∙ cond-true _ _ _ (or_right (length (35 ∷ rest) == 0) true refl)
 
 pub passed-reads : (v : Version) (line : List ℕ) → IsPassedOver line → line_reading v line ≡ Ok None
 passed-reads v line (few, inl none) = ap (line_reading v) none

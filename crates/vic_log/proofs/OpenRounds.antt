@@ -5,7 +5,7 @@ use Rattle.vic_frame.specs.Slots.{slot_count}
 use Rattle.vic_frame.specs.declared.request.Request.{Request}
 use Rattle.vic_frame.specs.declared.request.Request.TheVariants.{Inventory, StayQuiet}
 use Rattle.vic_log.specs.declared.entry.Entry.{Entry}
-use Rattle.vic_log.specs.declared.entry.Entry.TheVariants.{Sent, Silent, Collision, Heard, Listed, Garbled, FieldCycle}
+use Rattle.vic_log.specs.declared.entry.Entry.TheVariants.{Sent, Silent, Listed, FieldCycle}
 use Rattle.vic_log.specs.declared.rounds.OpenRound.{OpenRound}
 use Rattle.vic_log.specs.declared.rounds.RoundCursor.{RoundCursor}
 use Rattle.vic_log.specs.Rounds.{opener, ends_round, IsInRound}
@@ -47,10 +47,7 @@ round_with : (es : List Entry) (i : ℕ) (e : Entry) → slice_get es i ≡ Some
 round_with es i (Sent q) k = round_opens es i (Sent q) k
 round_with es i (Listed u) k = round_opens es i (Listed u) k
 round_with es i FieldCycle k = round_opens es i FieldCycle k
-round_with es i Silent k = next_since es i (opener es i) (opener_below es i)
-round_with es i Collision k = next_since es i (opener es i) (opener_below es i)
-round_with es i (Heard r) k = next_since es i (opener es i) (opener_below es i)
-round_with es i Garbled k = next_since es i (opener es i) (opener_below es i)
+round_with es i e k = next_since es i (opener es i) (opener_below es i)
 
 pub round_step : (es : List Entry) (i : ℕ) (e : Entry) → slice_get es i ≡ Some e → round_at es (suc i) ≡ after_round (round_at es i) e
 round_step es i e k = ap (λ o. round_since es (suc i) (opener_with es i o)) k ∙ round_with es i e k
@@ -77,10 +74,7 @@ pub small_step : (es : List Entry) (i : ℕ) (e : Entry) → IsInOrder es → sl
 small_step es i (Sent q) o k = omega arith
 small_step es i (Listed u) o k = tt
 small_step es i FieldCycle o k = tt
-small_step es i Silent o k = next_in es i (o.rounds i Silent k refl)
-small_step es i Collision o k = next_in es i (o.rounds i Collision k refl)
-small_step es i (Heard r) o k = next_in es i (o.rounds i (Heard r) k refl)
-small_step es i Garbled o k = next_in es i (o.rounds i Garbled k refl)
+small_step es i e o k = next_in es i (o.rounds i e k refl)
 
 pub cursor_passed : (es : List Entry) (i : ℕ) (e : Entry) (old new : RoundCursor) → IsInOrder es → slice_get es i ≡ Some e → new.round ≡ round_at es (i + 1) → IsCursorAt es (i + 1) new
 cursor_passed es i e old new o k r = record {

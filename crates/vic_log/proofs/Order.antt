@@ -5,7 +5,7 @@ use Rattle.vic_log.specs.declared.entry.Entry.{Entry}
 use Rattle.vic_frame.specs.Slots.{slot_count}
 use Rattle.vic_log.specs.Rounds.{opener, slots_opened, left_since, slots_left, IsInRound}
 use Rattle.vic_log.specs.Order.{IsInOrder}
-use Rattle.vic_log.specs.declared.entry.Entry.TheVariants.{Sent, Silent, Collision, Heard, Listed, Garbled, FieldCycle}
+use Rattle.vic_log.specs.declared.entry.Entry.TheVariants.{Sent, Listed, FieldCycle}
 use Rattle.vic_log.proofs.Places.{agree_append, agree_upto, opener_agrees, opener_below}
 use Rattle.std.proofs.lemmas.Option.{slice_get_within}
 use Rattle.std.proofs.Math.Nat.{le_of_lt}
@@ -37,12 +37,7 @@ slots_left-in_round es i r =
 in_round_by : (es : List Entry) (i j : ℕ) → opener es i ≡ Some j → (e : Option Entry) → slice_get es j ≡ e → 0 < slots_opened e - (i - suc j) → IsInRound es i
 in_round_by es i j o None s h = absurd (omega arith)
 in_round_by es i j o (Some (Sent q)) s h = (j, q, o, s, omega arith)
-in_round_by es i j o (Some Silent) s h = absurd (omega arith)
-in_round_by es i j o (Some Collision) s h = absurd (omega arith)
-in_round_by es i j o (Some (Heard r)) s h = absurd (omega arith)
-in_round_by es i j o (Some (Listed u)) s h = absurd (omega arith)
-in_round_by es i j o (Some Garbled) s h = absurd (omega arith)
-in_round_by es i j o (Some FieldCycle) s h = absurd (omega arith)
+in_round_by es i j o (Some e) s h = absurd (omega arith)
 
 in_round_since : (es : List Entry) (i : ℕ) (o : Option ℕ) → opener es i ≡ o → 0 < left_since es i o → IsInRound es i
 in_round_since es i None e h = absurd (omega arith)

@@ -2,6 +2,8 @@
 use Rattle.std.proofs.Common.{◌≡◌, ℕ, zero, suc, ◌-◌, ◌<◌, ◌≤◌, true, false, List, [], ◌∷◌, ◌++◌, length, take, drop, Result, Ok, Err, ⊎_elim, refl, sym, ap, ◌∙◌, arith}
 use Rattle.std.specs.Prelude.{slice_index, nat_eq, ◌==◌, ◌↔◌, IsOk, is_ok, OnOk}
 use Rattle.std.proofs.lemmas.Bool.{or_from, ne_eqb, eq-eqb, cases_lt}
+use Rattle.std.proofs.lemmas.List.{length-drop, take_all}
+use Rattle.std.proofs.Math.Seq.{take-length}
 use Rattle.vic_frame.specs.Uids.{has}
 use Rattle.vic_log.specs.Begun.{IsSplit}
 use Rattle.vic_log.specs.Lines.{lf}
@@ -18,27 +20,14 @@ parted [] k h e = absurd (omega arith)
 parted (b ∷ bytes) zero h e = ap (λ x. x ∷ bytes) e
 parted (b ∷ bytes) (suc k) h e = ap (λ xs. b ∷ xs) (parted bytes k (omega arith) e)
 
-take_whole : (xs : List ℕ) (n : ℕ) → length xs ≤ n → take n xs ≡ xs
-take_whole [] zero h = refl
-take_whole [] (suc n) h = refl
-take_whole (x ∷ xs) zero h = absurd (omega arith)
-take_whole (x ∷ xs) (suc n) h = ap (λ ys. x ∷ ys) (take_whole xs n (omega arith))
-
-drop_length : (xs : List ℕ) (n : ℕ) → length (drop n xs) ≡ length xs - n
-drop_length [] zero = refl
-drop_length [] (suc n) = omega arith
-drop_length (x ∷ xs) zero = omega arith
-drop_length (x ∷ xs) (suc n) = drop_length xs n ∙ omega arith
-
 pub lacks_all : (bytes : List ℕ) → ((i : ℕ) → 0 ≤ i → i < length bytes → slice_index bytes i == lf ≡ true → ⊥) → has bytes lf ≡ false
-lacks_all bytes none = ap (λ xs. has xs lf) (sym (take_whole bytes (length bytes) (omega arith))) ∙ lacks bytes (length bytes) (omega arith) none
+lacks_all bytes none = ap (λ xs. has xs lf) (sym (take-length bytes)) ∙ lacks bytes (length bytes) (omega arith) none
 
 pub split_at : (bytes : List ℕ) (k n m : ℕ) → k < length bytes → n ≡ suc k → m ≡ length bytes - n → slice_index bytes k ≡ lf → ((i : ℕ) → 0 ≤ i → i < k → slice_index bytes i == lf ≡ true → ⊥)
     → IsSplit bytes (take k bytes) (take m (drop n bytes))
 split_at bytes k n m h e f there none = record {
   whole =
-      let size = drop_length bytes n in
-      parted bytes k h there ∙ (ap (λ i. take k bytes ++ lf ∷ drop i bytes) (sym e) ∙ ap (λ xs. take k bytes ++ lf ∷ xs) (sym (take_whole (drop n bytes) m (omega arith))));
+      parted bytes k h there ∙ (ap (λ i. take k bytes ++ lf ∷ drop i bytes) (sym e) ∙ ap (λ xs. take k bytes ++ lf ∷ xs) (sym (take_all m (drop n bytes) (omega (arith, length-drop n bytes)))));
   no_lf = lacks bytes k (omega arith) none;
 }
 

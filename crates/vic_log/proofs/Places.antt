@@ -6,7 +6,7 @@ use Rattle.std.proofs.lemmas.Bool.{cases_eq, cases_lt}
 use Rattle.std.proofs.lemmas.List.Elements.{filter_agree}
 use Rattle.std.proofs.lemmas.Option.{slice_get_within}
 use Rattle.vic_log.specs.declared.entry.Entry.{Entry}
-use Rattle.vic_log.specs.declared.entry.Entry.TheVariants.{Sent, Silent, Collision, Heard, Listed, Garbled, FieldCycle}
+use Rattle.vic_log.specs.declared.entry.Entry.TheVariants.{Sent, Listed, FieldCycle}
 use Rattle.vic_log.specs.Rounds.{ends_round, opener, mask_since, mask_at}
 use Rattle.vic_log.specs.Quiet.{is_quiet}
 use Rattle.vic_log.specs.Populations.{answers_at, outcome_of, outcome_at, Fits, CouldHaveGiven}
@@ -17,12 +17,9 @@ use Rattle.vic_log.specs.Slots.{Slot, with_entry, slots_before, slots_of}
 
 fits_entry : (answers : ℕ → Bool) (e : Entry) (slots : List Slot) (p : List ℕ) → MeetsAll p (with_entry answers (Some e) slots) ↔ (Fits e (outcome_of (filter answers p)) × MeetsAll p slots)
 fits_entry answers (Sent q) slots p = ((λ h. (tt, h)), (λ h. h.1))
-fits_entry answers Silent slots p = ((λ h. h), (λ h. h))
-fits_entry answers Collision slots p = ((λ h. h), (λ h. h))
-fits_entry answers (Heard r) slots p = ((λ h. h), (λ h. h))
 fits_entry answers (Listed u) slots p = ((λ h. (tt, h)), (λ h. h.1))
-fits_entry answers Garbled slots p = ((λ h. h), (λ h. h))
 fits_entry answers FieldCycle slots p = ((λ h. (tt, h)), (λ h. h.1))
+fits_entry answers e slots p = ((λ h. h), (λ h. h))
 
 -- the entries of the first n positions fit
 abbrev FitBefore : List ℕ → List Entry → ℕ → Type 0
@@ -106,13 +103,13 @@ answers_agree n es fs a u =
 pub outcome_agrees : (n : ℕ) (es fs : List Entry) (p : List ℕ) → AgreeBefore n es fs → outcome_at es n p ≡ outcome_at fs n p
 outcome_agrees n es fs p a = ap outcome_of (filter_agree (answers_at es n) (answers_at fs n) (answers_agree n es fs a) p)
 
-slice_get-append : (es fs : List Entry) (i : ℕ) → i < length es → slice_get es i ≡ slice_get (es ++ fs) i
+pub slice_get-append : {A : Type 0} (es fs : List A) (i : ℕ) → i < length es → slice_get es i ≡ slice_get (es ++ fs) i
 slice_get-append [] fs i h = absurd (omega arith)
 slice_get-append (e ∷ es) fs zero h = refl
 slice_get-append (e ∷ es) fs (suc i) h = slice_get-append es fs i (omega arith)
 
 pub agree_append : (es fs : List Entry) → AgreeBefore (length es) es (es ++ fs)
-agree_append es fs i h = slice_get-append es fs i h
+agree_append = slice_get-append
 
 -- a population that could have produced entries could have produced those that they begin with
 pub CouldHaveGiven-front : (p : List ℕ) (es fs : List Entry) → CouldHaveGiven p (es ++ fs) → CouldHaveGiven p es
@@ -123,9 +120,12 @@ CouldHaveGiven-front p es fs h i e k =
 
 -- ---- one entry more
 
+pub slice_get_seam : {A : Type 0} (es : List A) (e : A) (fs : List A) → slice_get (es ++ e ∷ fs) (length es) ≡ Some e
+slice_get_seam [] e fs = refl
+slice_get_seam (x ∷ es) e fs = slice_get_seam es e fs
+
 pub slice_get_last : (es : List Entry) (e : Entry) → slice_get (es ++ e ∷ []) (length es) ≡ Some e
-slice_get_last [] e = refl
-slice_get_last (x ∷ es) e = slice_get_last es e
+slice_get_last es e = slice_get_seam es e []
 
 pub agree_upto : (es fs : List Entry) (i : ℕ) → i ≤ length es → AgreeBefore i es (es ++ fs)
 agree_upto es fs i h j below = agree_append es fs j (omega arith)

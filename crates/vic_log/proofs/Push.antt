@@ -5,7 +5,7 @@ use Rattle.std.proofs.lemmas.Bool.{cases_lt, not-false, ltb-true, eq-eqb, or_rig
 use Rattle.std.proofs.lemmas.List.{map-append, length-map}
 use Rattle.std.proofs.lemmas.Option.{slice_get_within}
 use Rattle.vic_log.specs.declared.entry.Entry.{Entry}
-use Rattle.vic_log.specs.declared.entry.Entry.TheVariants.{Sent, Silent, Collision, Heard, Listed, Garbled, FieldCycle}
+use Rattle.vic_log.specs.declared.entry.Entry.TheVariants.{Sent, Listed, FieldCycle}
 use Rattle.vic_log.specs.declared.entry.LogLine.{LogLine}
 use Rattle.vic_log.specs.declared.fault.PushFault.{PushFault}
 use Rattle.vic_log.specs.declared.fault.PushFault.TheVariants.{SlotOutsideRound, EntryAfterList, DuplicateListed}
@@ -45,10 +45,7 @@ left_by : (es fs : List Entry) (n : ℕ) → AgreeBefore n es fs → (e : Entry)
 left_by es fs n a (Sent q) k = rw k (rw k (omega arith))
 left_by es fs n a (Listed u) k = rw k (rw k (omega arith))
 left_by es fs n a FieldCycle k = rw k (rw k (omega arith))
-left_by es fs n a Silent k = rw k (one_less es fs n a (opener fs n) (opener_below fs n) ∙ ap (λ o. left_since es n o - 1) (sym (opener_agrees n es fs a)))
-left_by es fs n a Collision k = rw k (one_less es fs n a (opener fs n) (opener_below fs n) ∙ ap (λ o. left_since es n o - 1) (sym (opener_agrees n es fs a)))
-left_by es fs n a (Heard r) k = rw k (one_less es fs n a (opener fs n) (opener_below fs n) ∙ ap (λ o. left_since es n o - 1) (sym (opener_agrees n es fs a)))
-left_by es fs n a Garbled k = rw k (one_less es fs n a (opener fs n) (opener_below fs n) ∙ ap (λ o. left_since es n o - 1) (sym (opener_agrees n es fs a)))
+left_by es fs n a e k = rw k (one_less es fs n a (opener fs n) (opener_below fs n) ∙ ap (λ o. left_since es n o - 1) (sym (opener_agrees n es fs a)))
 
 -- the slots left behind the last entry
 pub slots_left-push : (es : List Entry) (e : Entry) → slots_left (es ++ e ∷ []) (suc (length es)) ≡ left_after (slots_left es (length es)) e
@@ -58,24 +55,14 @@ slots_left-push es e = left_by es (es ++ e ∷ []) (length es) (agree_upto es (e
 
 pub listed-append : (es fs : List Entry) → listed (es ++ fs) ≡ listed es ++ listed fs
 listed-append [] fs = refl
-listed-append (Sent q ∷ es) fs = listed-append es fs
-listed-append (Silent ∷ es) fs = listed-append es fs
-listed-append (Collision ∷ es) fs = listed-append es fs
-listed-append (Heard r ∷ es) fs = listed-append es fs
-listed-append (Garbled ∷ es) fs = listed-append es fs
-listed-append (FieldCycle ∷ es) fs = listed-append es fs
 listed-append (Listed u ∷ es) fs = ap (λ us. u ∷ us) (listed-append es fs)
+listed-append (e ∷ es) fs = listed-append es fs
 
 pub has-there : (es : List Entry) (i u : ℕ) → slice_get es i ≡ Some (Listed u) → has (listed es) u ≡ true
 has-there [] i u k = cc
 has-there (e ∷ es) zero u k = let same : e ≡ Listed u = cc in rw same (ap (λ b. b || has (listed es) u) (eq-eqb u u refl))
-has-there (Sent q ∷ es) (suc i) u k = has-there es i u k
-has-there (Silent ∷ es) (suc i) u k = has-there es i u k
-has-there (Collision ∷ es) (suc i) u k = has-there es i u k
-has-there (Heard r ∷ es) (suc i) u k = has-there es i u k
-has-there (Garbled ∷ es) (suc i) u k = has-there es i u k
-has-there (FieldCycle ∷ es) (suc i) u k = has-there es i u k
 has-there (Listed w ∷ es) (suc i) u k = or_right (nat_eq u w) (has (listed es) u) (has-there es i u k)
+has-there (e ∷ es) (suc i) u k = has-there es i u k
 
 empty_has : (us : List ℕ) (u : ℕ) → is_empty us ≡ true → has us u ≡ false
 empty_has [] u h = refl
@@ -102,12 +89,7 @@ refusal_listed es u h = rw h refl
 
 pub lists_none : (e : Entry) → ((u : ℕ) → e ≡ Listed u → ⊥) → listed (e ∷ []) ≡ []
 lists_none (Listed u) other = absurd (other u refl)
-lists_none (Sent q) other = refl
-lists_none Silent other = refl
-lists_none Collision other = refl
-lists_none (Heard r) other = refl
-lists_none Garbled other = refl
-lists_none FieldCycle other = refl
+lists_none e other = refl
 
 slot_has_left : (b : Bool) (left : ℕ) → b ≡ true → (if b then not (nat_lt 0 left) else false) ≡ false → 0 < left
 slot_has_left true left s h = ltb-true 0 left (not-false (nat_lt 0 left) h)
@@ -127,6 +109,13 @@ last_or es e f i k before last =
     last same e_is)
     (cases_lt i (length es))
 
+-- no UID is listed before an entry that may not follow one
+none_listed : (es : List Entry) (e : Entry) (i u : ℕ) → i < length es → slice_get (es ++ e ∷ []) i ≡ Some (Listed u) → not (is_empty (listed es)) ≡ false → ⊥
+none_listed es e i u lt a after =
+    let some : has (listed es) u ≡ true = has-there es i u (agree_append es (e ∷ []) i lt ∙ a) in
+    let none : has (listed es) u ≡ false = empty_has (listed es) u (not-false (is_empty (listed es)) after) in
+    cc
+
 -- entries in order with one more that nothing refuses are in order
 pub IsInOrder-push : (es : List Entry) (e : Entry) → IsInOrder es → refusal es e ≡ None → IsInOrder (es ++ e ∷ [])
 IsInOrder-push es e o h =
@@ -139,20 +128,10 @@ IsInOrder-push es e o h =
           (λ same it. subst (λ n. 0 < n) (left_is i (omega arith)) (subst (λ j. 0 < slots_left es j) (sym same) (slot_has_left (is_slot e) (slots_left es (length es)) (ap is_slot it ∙ s) free.0))));
       requests_first = λ i j u q lt a b. last_or es e (Sent q) j b
           (λ below here. o.requests_first i j u q lt (agree_append es (e ∷ []) i (omega arith) ∙ a) here)
-          (λ same it.
-          let there : slice_get es i ≡ Some (Listed u) = agree_append es (e ∷ []) i (omega arith) ∙ a in
-          let some : has (listed es) u ≡ true = has-there es i u there in
-          let after : is_after_list es (Sent q) ≡ false = ap (is_after_list es) (sym it) ∙ free.1 in
-          let none : has (listed es) u ≡ false = empty_has (listed es) u (not-false (is_empty (listed es)) after) in
-          cc);
+          (λ same it. none_listed es e i u (omega arith) a (ap (is_after_list es) (sym it) ∙ free.1));
       cycles_first = λ i j u lt a b. last_or es e FieldCycle j b
           (λ below here. o.cycles_first i j u lt (agree_append es (e ∷ []) i (omega arith) ∙ a) here)
-          (λ same it.
-          let there : slice_get es i ≡ Some (Listed u) = agree_append es (e ∷ []) i (omega arith) ∙ a in
-          let some : has (listed es) u ≡ true = has-there es i u there in
-          let after : is_after_list es FieldCycle ≡ false = ap (is_after_list es) (sym it) ∙ free.1 in
-          let none : has (listed es) u ≡ false = empty_has (listed es) u (not-false (is_empty (listed es)) after) in
-          cc);
+          (λ same it. none_listed es e i u (omega arith) a (ap (is_after_list es) (sym it) ∙ free.1));
       once = λ i j u w lt a b. last_or es e (Listed w) j b
           (λ below here. o.once i j u w lt (agree_append es (e ∷ []) i (omega arith) ∙ a) here)
           (λ same it d.

@@ -1,14 +1,17 @@
 -- Lists of UIDs as sets.
-use Rattle.std.proofs.Common.{◌≡◌, ℕ, List, [], ◌∷◌, Bool, true, false, cond, ◌&&◌, refl, sym, subst, inl, inr, ⊎_elim}
+use Rattle.std.proofs.Common.{◌≡◌, ℕ, List, [], ◌∷◌, Bool, true, false, cond, ◌&&◌, refl, sym, ◌∙◌, subst, inl, inr, ⊎_elim}
 use Rattle.std.specs.Prelude.{◌⊎◌, nat_eq}
 use Rattle.std.specs.List.{filter}
-use Rattle.std.proofs.lemmas.Bool.{eqb-true, eq-eqb, and_parts, and_from, or_cases, or_left, or_right, false≢true, both_ways, false_from_ne_true}
+use Rattle.std.proofs.lemmas.Bool.{cases_eq, ne_eqb, eqb-true, eq-eqb, and_parts, and_from, or_cases, or_left, or_right, false≢true, both_ways, false_from_ne_true}
 use Rattle.vic_frame.specs.Uids.{IsUid, has, AreDifferent}
 use Rattle.vic_log.specs.Populations.{IsPopulation}
 
 -- a set of numbers within another
 abbrev pub IsWithin : (ℕ → Bool) → (ℕ → Bool) → Type 0
 IsWithin s t = (u : ℕ) → s u ≡ true → t u ≡ true
+
+pub eq_swapped : (a b : ℕ) → nat_eq a b ≡ nat_eq b a
+eq_swapped a b = ⊎_elim (λ e. rw e refl) (λ n. ne_eqb a b n ∙ sym (ne_eqb b a (λ e. n (sym e)))) (cases_eq a b)
 
 pub has_here : (u : ℕ) (us : List ℕ) → has (u ∷ us) u ≡ true
 has_here u us = or_left _ _ (eq-eqb u u refl)

@@ -106,12 +106,7 @@ spelled V2 FieldCycle t v o = record { reads = refl; short = omega arith; plain 
 
 pub valid_at : (es : List Entry) → AreValid es → (i : ℕ) (e : Entry) → slice_get es i ≡ Some e → IsValidEntry e
 valid_at es v i (Sent q) k = v i q k
-valid_at es v i Silent k = tt
-valid_at es v i Collision k = tt
-valid_at es v i (Heard r) k = tt
-valid_at es v i (Listed u) k = tt
-valid_at es v i Garbled k = tt
-valid_at es v i FieldCycle k = tt
+valid_at es v i e k = tt
 
 pub spelled_all : (version : Version) (es : List Entry) → AreTyped es → AreValid es → (version ≡ V1 → AreOfFirstVersion es) → AreSpelled version es
 spelled_all version es t v o i e k = spelled version e (t i e k) (valid_at es v i e k) (λ is. o is i e k)

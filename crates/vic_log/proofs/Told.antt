@@ -1,8 +1,9 @@
 -- Bytes that are taken in turn.
-use Rattle.std.proofs.Common.{arith, ◌≡◌, ◌≤◌, ◌+◌, ◌-◌, ℕ, zero, suc, List, [], ◌∷◌, ◌++◌, length, length-append, take, drop, None, Some, Option, refl, sym, ◌∙◌, ap, subst, append-nil, append_assoc}
+use Rattle.std.proofs.Common.{arith, ◌≡◌, ◌+◌, ◌-◌, ℕ, List, [], ◌++◌, length, length-append, take, drop, None, Some, Option, sym, ◌∙◌, ap, subst, append-nil, append_assoc}
 use Rattle.std.proofs.KnownBytes.{Appends-trans}
 use Rattle.std.proofs.lemmas.Grind.{common_steps}
-use Rattle.std.proofs.Math.Seq.{take-add}
+use Rattle.std.proofs.lemmas.List.{take-append-le}
+use Rattle.std.proofs.Math.Seq.{take-add, take-append-add}
 use Rattle.std.specs.Io.KnownBytes.{Appends}
 use Rattle.vic_log.specs.Device.{HasTakenBut, HasTakenPrefix}
 
@@ -31,16 +32,6 @@ HasTakenBut-line a b c piece piece' line rest more text h k e =
     let same : k.0 ++ (piece' ++ rest) ≡ piece ++ more = sym (append_assoc k.0 piece' rest) ∙ (ap (λ xs. xs ++ rest) k.2 ∙ (append_assoc piece line rest ∙ ap (λ xs. piece ++ xs) e)) in
     HasTakenBut-step a b c k.0 (piece' ++ rest) (piece ++ more) text h same k.1
 
-take_past : (k : ℕ) (xs ys : List ℕ) → take (length xs + k) (xs ++ ys) ≡ xs ++ take k ys
-take_past k [] ys = let same : 0 + k ≡ k = omega arith in ap (λ n. take n ys) same
-take_past k (x ∷ xs) ys =
-    let next : suc (length xs) + k ≡ suc (length xs + k) = omega arith in ap (λ n. take n (x ∷ xs ++ ys)) next ∙ ap (λ zs. x ∷ zs) (take_past k xs ys)
-
-take_within : (k : ℕ) (xs ys : List ℕ) → k ≤ length xs → take k (xs ++ ys) ≡ take k xs
-take_within zero xs ys h = refl
-take_within (suc k) [] ys h = absurd (omega arith)
-take_within (suc k) (x ∷ xs) ys h = ap (λ zs. x ∷ zs) (take_within k xs ys (omega arith))
-
 -- of the last piece only a first part was taken
 pub HasTakenBut-part : (a b c : Option (List ℕ)) (piece rest more text : List ℕ) → HasTakenBut a b more text → piece ++ rest ≡ more → HasTakenPrefix b c piece → HasTakenPrefix a c text
 HasTakenBut-part None b c piece rest more text h e k = tt
@@ -50,5 +41,5 @@ HasTakenBut-part (Some xs) (Some ys) (Some zs) piece rest more text h e k =
     let sent = h.0 in
     let whole : text ≡ sent ++ (piece ++ rest) = sym h.2 ∙ ap (λ ws. sent ++ ws) (sym e) in
     let long : length text ≡ length sent + (length piece + length rest) = ap length whole ∙ (length-append sent (piece ++ rest) ∙ ap (λ n. length sent + n) (length-append piece rest)) in
-    let front : take (length sent + k.0) text ≡ sent ++ take k.0 piece = ap (take (length sent + k.0)) whole ∙ (take_past k.0 sent (piece ++ rest) ∙ ap (λ ws. sent ++ ws) (take_within k.0 piece rest k.1)) in
+    let front : take (length sent + k.0) text ≡ sent ++ take k.0 piece = ap (take (length sent + k.0)) whole ∙ (take-append-add sent (piece ++ rest) k.0 ∙ ap (λ ws. sent ++ ws) (take-append-le k.0 piece rest k.1)) in
     (length sent + k.0, omega arith, k.2 ∙ (ap (λ ws. ws ++ take k.0 piece) h.1 ∙ (append_assoc xs sent (take k.0 piece) ∙ ap (λ ws. xs ++ ws) (sym front))))

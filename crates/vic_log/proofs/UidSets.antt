@@ -2,7 +2,7 @@
 use Rattle.std.proofs.lemmas.Grind.{common_steps}
 use Rattle.std.proofs.Common.{◌≡◌, ℕ, zero, suc, subst, ◌<◌, Bool, true, false, Some, List, [], ◌∷◌, ◌++◌, length, take, get_or, ⊎_elim, refl, sym, ap, ◌∙◌, arith}
 use Rattle.std.specs.Prelude.{nat_eq, ◌||◌, not, slice_get, set, cond}
-use Rattle.std.proofs.lemmas.Bool.{cases_Bool, cases_eq, ne_eqb, eq-eqb, eqb-true, or_from, or_right}
+use Rattle.std.proofs.lemmas.Bool.{false_from_ne_true, cases_eq, ne_eqb, eq-eqb, eqb-true, or_from, or_right}
 use Rattle.std.proofs.lemmas.List.{get_or_default, length-set, get_or-set_same, get_or-set_other}
 use Rattle.std.proofs.lemmas.List.Folds.{list_any-append}
 use Rattle.std.proofs.Math.Bool.{or_comm, or_assoc, or-false}
@@ -17,6 +17,7 @@ use Rattle.vic_log.specs.UidSets.{place_of, row_of, is_held, IsUidSet, IsSetOf, 
 use Rattle.vic_log.specs.declared.entry.LogLine.{LogLine}
 use Rattle.vic_log.specs.Order.{entries, listed}
 use Rattle.vic_log.proofs.Push.{listed-append, entries_next}
+use Rattle.vic_log.proofs.Sets.{eq_swapped}
 
 pub none_has : (us : List ℕ) (u : ℕ) → ((k : ℕ) → k < length us → get_or us k 0 ≡ u → ⊥) → has us u ≡ false
 none_has [] u none = refl
@@ -71,10 +72,7 @@ held-put old new uid k h u pos =
 
 -- a set of which a row has a free element has none of its UIDs outside the rows
 pub absent_besides : (s : UidSet) (uid k : ℕ) → IsUidSet s → slice_get (row_of s.rows.items uid) k ≡ Some 0 → sorted.contains nat_cmp s.others uid ≡ false
-absent_besides s uid k h free = ⊎_elim
-    (λ (there : sorted.contains nat_cmp s.others uid ≡ true). let full = h.full uid there in let some = has_got (row_of s.rows.items uid) k 0 free in cc)
-    (λ (no_ : sorted.contains nat_cmp s.others uid ≡ false). no_)
-    (cases_Bool (sorted.contains nat_cmp s.others uid))
+absent_besides s uid k h free = false_from_ne_true _ (λ there. let full = h.full uid there in let some = has_got (row_of s.rows.items uid) k 0 free in cc)
 
 pub IsUidSet-put : (old new : UidSet) (uid k : ℕ) → IsUidSet old → IsPut old new uid k → IsUidSet new
 IsUidSet-put old new uid k set_ h =
@@ -110,9 +108,6 @@ is_put old uid rows place k number row seen long is there at seen_at free same =
       rows = ap (λ p. set held p (set row k number)) place_is ∙ (ap (λ r. set held (place_of uid (length held)) (set r k number)) (row_is old uid rows place row long is there at) ∙ ap (λ m. set held (place_of uid (length held)) (set (row_of held uid) k m)) same);
       others = refl;
     }
-
-eq_swapped : (a b : ℕ) → nat_eq a b ≡ nat_eq b a
-eq_swapped a b = ⊎_elim (λ e. rw e refl) (λ n. ne_eqb a b n ∙ sym (ne_eqb b a (λ e. n (sym e)))) (cases_eq a b)
 
 -- a search of a row for a number
 pub has_searched : (row : List ℕ) (u : ℕ) → list_any (λ x. nat_eq x u) row ≡ has row u
@@ -165,18 +160,6 @@ pub listed_next : (lines : List LogLine) (i : ℕ) (l : LogLine) → slice_get l
 listed_next lines i l k = ap listed (entries_next lines i l k) ∙ listed-append (entries (take i lines)) (l.item ∷ [])
 
 -- ---- the index of a log
-
-pub IsIndex-risen : (us : List ℕ) (greatest uid : ℕ) (s : UidSet) → IsIndex us greatest s → length s.rows.items ≡ 0 → greatest < uid → IsIndex (us ++ uid ∷ []) uid s
-IsIndex-risen us greatest uid s h none above = record {
-  rising = λ _ u there. ⊎_elim
-      (λ (before : has us u ≡ true). let most = h.rising none u before in omega arith)
-      (λ (new : has us u ≡ false).
-      let same : nat_eq u uid ≡ true = sym (or-false (nat_eq u uid)) ∙ (sym (rw new refl) ∙ (sym (list_any-append (nat_eq u) us (uid ∷ [])) ∙ there)) in
-      let is : u ≡ uid = eqb-true u uid same in omega arith)
-      (cases_Bool (has us u));
-  set = h.set;
-  uids = λ some. absurd (omega (arith, none, some));
-}
 
 held_more : (us : List ℕ) (uid u : ℕ) → has (us ++ uid ∷ []) u ≡ (has us u || nat_eq u uid)
 held_more us uid u = list_any-append (nat_eq u) us (uid ∷ []) ∙ ap (λ b. has us u || b) (or-false (nat_eq u uid))

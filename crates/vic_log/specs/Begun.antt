@@ -15,18 +15,29 @@ IsShort line =
     (length line ≤ MAX_LINE_LEN)
     ⊎ ((length line ≡ MAX_LINE_LEN + 1) × (ends_with cr line ≡ true))
 
--- the text is that many lines without a fault, whose log this is, and a line begun that isn't too
--- long yet
+-- that many lines without a fault, and their log
+pub record AreRead (lines : List (List ℕ)) (log : LogValue) (number : ℕ) : Type 0 where
+  pub count : length lines ≡ number
+  pub clean : (m : ℕ) → m ≤ number → fault_on lines m ≡ None
+  pub log_is : log.lines ≡ log_upto lines number
+  pub version : 0 < number → log.version ≡ version_of lines
+
+-- the text is these parts, each with its LF, and bytes without one
+pub record IsCut (text : List ℕ) (parts : List (List ℕ)) (rest : List ℕ) : Type 0 where
+  pub cuts : (more : List ℕ) → cut (text ++ more) ≡ parts ++ cut (rest ++ more)
+  pub no_lf : has rest lf ≡ false
+
+-- the text is that many lines without a fault, whose log this is, and bytes of one more
+pub record HasCut (text : List ℕ) (log : LogValue) (number : ℕ) (line : List ℕ) : Type 0 where
+  pub parts : List (List ℕ)
+  pub is_cut : IsCut text parts line
+  pub read : AreRead (map content parts) log number
+
+-- the same, where the line begun isn't too long yet, nor one too many
 pub record HasJudged (text : List ℕ) (log : LogValue) (number : ℕ) (line : List ℕ)
     : Type 0 where
-  pub parts : List (List ℕ)
-  pub cuts : (more : List ℕ) → cut (text ++ more) ≡ parts ++ cut (line ++ more)
-  pub count : length parts ≡ number
-  pub clean : (m : ℕ) → m ≤ number → fault_on (map content parts) m ≡ None
-  pub log_is : log.lines ≡ log_upto (map content parts) number
-  pub version : 0 < number → log.version ≡ version_of (map content parts)
+  pub begun : HasCut text log number line
   pub limit : number ≤ MAX_LINES
-  pub no_lf : has line lf ≡ false
   pub short : IsShort line
   pub last : number ≡ MAX_LINES → line ≡ []
 

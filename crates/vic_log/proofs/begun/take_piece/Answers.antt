@@ -1,5 +1,5 @@
-use Rattle.std.proofs.Common.{◌≡◌, ◌++◌, ◌∷◌, [], ℕ, List, Result, Ok, Err, OnOk, IfErr, refl, ap, sym, subst, ◌∙◌, append_assoc, append-nil, length, length-append, arith}
-use Rattle.std.proofs.lemmas.Result.{err_from_is_err_and}
+use Rattle.std.proofs.Common.{◌≡◌, ◌++◌, ◌∷◌, [], ℕ, List, refl, ap, sym, subst, ◌∙◌, append_assoc, append-nil, length, length-append, arith}
+use Rattle.std.proofs.lemmas.Result.{err_from_is_err_and, IfErr-weaker, on_ok_weaker}
 use Rattle.vic_log.specs.Begun.{HasJudged}
 use Rattle.vic_log.specs.Early.{IsEarly}
 use Rattle.vic_log.specs.Lines.{lf}
@@ -56,26 +56,18 @@ loop-line-preserved c =
 more_taken : (text taken rest bytes : List ℕ) → bytes ≡ taken ++ rest → (text ++ taken) ++ rest ≡ text ++ bytes
 more_taken text taken rest bytes e = append_assoc text taken rest ∙ ap (λ xs. text ++ xs) (sym e)
 
-ok_more : {A E : Type 0} (r : Result A E) (P Q : Type 0) → (P → Q) → OnOk r P → OnOk r Q
-ok_more (Ok x) P Q f p = f p
-ok_more (Err e) P Q f p = tt
-
-err_more : {A E : Type 0} (r : Result A E) (P Q : E → Type 0) → ((e : E) → P e → Q e) → IfErr r P → IfErr r Q
-err_more (Ok x) P Q f p = tt
-err_more (Err e) P Q f p = f e p
-
 pub returns-clause-ok : goal.returns-clause-ok
 returns-clause-ok c =
     let i = c.loop-line.invariant in
     let begun = c.take_begun.new.begun in
-    ok_more c.take_begun.result _ _
+    on_ok_weaker c.take_begun.result
     (λ taken text j. subst (λ (xs : List ℕ). HasJudged xs begun.log begun.number begun.line.items) (more_taken text i.taken c.loop-line.rest.now c.args.bytes.now i.whole) (taken (text ++ i.taken) (i.judged text j)))
     c.take_begun.ensures.ok
 
 pub returns-clause-err : goal.returns-clause-err
 returns-clause-err c =
     let i = c.loop-line.invariant in
-    err_more c.take_begun.result _ _
+    IfErr-weaker c.take_begun.result _ _
     (λ e early text j. subst (IsEarly e) (more_taken text i.taken c.loop-line.rest.now c.args.bytes.now i.whole) (early (text ++ i.taken) (i.judged text j)))
     c.take_begun.ensures.err
 
@@ -96,4 +88,4 @@ returns-clause-less c =
     let i = c.loop-line.invariant in
     let before = i.less in
     let whole = ap length i.whole ∙ length-append i.taken c.loop-line.rest.now in
-    ok_more c.take_begun.result _ _ (λ less. omega arith) c.take_begun.ensures.less
+    on_ok_weaker c.take_begun.result (λ less. omega arith) c.take_begun.ensures.less

@@ -1,8 +1,8 @@
-use Rattle.std.proofs.Common.{◌+◌, ◌*◌, get_or, set, length, ap₂, sym, subst, ◌∙◌, arith}
+use Rattle.std.proofs.Common.{◌+◌, ◌*◌, get_or, set, ap₂, sym, subst, ◌∙◌, arith}
 use borrow.Author.Count.{below_more}
 use Rattle.std.proofs.lemmas.List.{get_or-set_same, get_or-set_other}
 use Rattle.vic_log.specs.Digits.{SpellsByte}
-use Rattle.vic_log.proofs.HexPairs.{spelled_all, no_digit, none_is}
+use Rattle.vic_log.proofs.HexPairs.{spelled_all, no_digit}
 use Rattle.vic_log.proofs.decoding.decode_each.Goals as goal
 use Rattle.vic_log.proofs.decoding.decode_each.Goals.{then-high-gt15-via-then-high-gt15, then-high-gt15-via-else-high-gt15+then-low-gt15}
 
@@ -22,15 +22,10 @@ bytes-preserved c =
     })
 
 pub returns-then-high-gt15-clause-err : goal.returns-then-high-gt15-clause-err
-returns-then-high-gt15-clause-err c = λ _.
-    let s = c.args.digits.now in
-    let i = c.bytes.i in
-    elim c.then-high-gt15.branch [
-      | then-high-gt15-via-then-high-gt15 w ↦
-          no_digit s 0 (2 * i) (length c.args.bytes.now) c.requires (omega arith) (none_is (get_or s (2 * i) 0) (omega (arith, w.if-high-gt15.true)))
-      | then-high-gt15-via-else-high-gt15+then-low-gt15 w ↦
-          no_digit s 0 (2 * i + 1) (length c.args.bytes.now) c.requires (omega arith) (none_is (get_or s (2 * i + 1) 0) (omega (arith, w.if-low-gt15.true)))
-    ]
+returns-then-high-gt15-clause-err c = λ _. elim c.then-high-gt15.branch [
+  | then-high-gt15-via-then-high-gt15 w ↦ no_digit c.args.digits.now (2 * c.bytes.i) (omega arith) (omega (arith, w.if-high-gt15.true))
+  | then-high-gt15-via-else-high-gt15+then-low-gt15 w ↦ no_digit c.args.digits.now (2 * c.bytes.i + 1) (omega arith) (omega (arith, w.if-low-gt15.true))
+]
 
 pub returns-clause-ok : goal.returns-clause-ok
 returns-clause-ok c = λ _. spelled_all c.args.digits.now c.bytes.bytes (omega arith) (λ k lt. c.bytes.invariant k (omega arith))

@@ -5,7 +5,7 @@ use Rattle.std.proofs.lemmas.Bool.{eqb-false}
 use lib.Lanes.{chunk, mask_l}
 use Rattle.vic_log.specs.Digits.{digit_or_255}
 use Rattle.vic_log.proofs.Lanes.{marks, none_marked, some_marked}
-use Rattle.vic_log.proofs.HexPairs.{no_digit, none_is}
+use Rattle.vic_log.proofs.HexPairs.{no_digit}
 use Rattle.vic_log.proofs.decoding.decode_eight.Goals as goal
 
 abbrev pair : ℕ → ℕ → ℕ
@@ -71,4 +71,4 @@ returns-clause-err c = λ e.
     let some : mask_l (map (λ y. leb 16 y) v) ≢ 0 = λ none. absurd (omega (arith, eqb-false _ _ e, marks v 16 long, none)) in
     let r = some_marked (λ y. leb 16 y) v (omega arith) in
     let large = leb-true _ _ r.2 in
-    no_digit d 0 (2 * at + r.0) (length c.args.bytes.now) c.requires.digits (omega (arith, r.1)) (none_is (get_or d (2 * at + r.0) 0) (omega (arith, large, lane d v at r.0 (2 * at + r.0) is room (omega (arith, r.1)) refl)))
+    no_digit d (2 * at + r.0) (omega (arith, r.1)) (omega (arith, large, lane d v at r.0 (2 * at + r.0) is room (omega (arith, r.1)) refl))

@@ -1,4 +1,4 @@
-use Rattle.std.proofs.Common.{rules, Some, ◌≡◌, ℕ, ◌+◌, ◌<◌, suc, List, [], ◌∷◌, ◌++◌, length, drop, drop-cons, slice_index_or, refl, ap, sym, ◌∙◌, append_assoc, arith}
+use Rattle.std.proofs.Common.{rules, Some, ◌≡◌, ℕ, ◌+◌, ◌<◌, ◌≤◌, suc, List, [], ◌∷◌, ◌++◌, length, drop, drop-cons, slice_index_or, refl, ap, sym, ◌∙◌, append_assoc, arith}
 use Rattle.std.proofs.lemmas.List.{drop_all}
 use Rattle.vic_log.specs.declared.entry.Entry.TheVariants.{Listed}
 use Rattle.vic_log.specs.Lines.{lf}
@@ -11,6 +11,10 @@ next_uid us i u h is =
     let next : i + 1 ≡ suc i = omega arith in
     append_assoc (entry_text (Listed u)) (lf ∷ []) (listed_text (drop (i + 1) us))
     ∙ ap listed_text (ap (λ v. v ∷ drop (i + 1) us) is ∙ (ap (λ n. slice_index_or us i u ∷ drop n us) next ∙ sym (drop-cons us i u h)))
+
+-- nothing is left behind the last one
+none_left : (piece : List ℕ) (xs : List ℕ) (i : ℕ) → length xs ≤ i → piece ++ [] ≡ piece ++ listed_text (drop i xs)
+none_left piece xs i h = ap (λ ys. piece ++ listed_text ys) (sym (drop_all i xs h))
 
 pub loop-uid-preserved : goal.loop-uid-preserved
 loop-uid-preserved g c =
@@ -28,13 +32,11 @@ returns-in_err-put_entry-clause-prefix g c =
 
 pub returns-in_err-write_last-clause-prefix : goal.returns-in_err-write_last-clause-prefix
 returns-in_err-write_last-clause-prefix g c =
-    let none = drop_all c.loop-uid.uid-index c.args.uids.now (omega arith) in
-    HasTakenBut-part _ _ _ c.loop-uid.piece.items [] _ _ c.loop-uid.invariant.told (ap (λ us. c.loop-uid.piece.items ++ listed_text us) (sym none)) c.in_err-write_last.ensures.prefix
+    HasTakenBut-part _ _ _ _ [] _ _ c.loop-uid.invariant.told (none_left _ c.args.uids.now c.loop-uid.uid-index (omega arith)) c.in_err-write_last.ensures.prefix
 
 pub returns-clause-prefix : goal.returns-clause-prefix
 returns-clause-prefix g c =
-    let none = drop_all c.loop-uid.uid-index c.args.uids.now (omega arith) in
-    HasTakenBut-part _ _ _ c.loop-uid.piece.items [] _ _ c.loop-uid.invariant.told (ap (λ us. c.loop-uid.piece.items ++ listed_text us) (sym none)) c.in_ok-write_last.ensures.prefix
+    HasTakenBut-part _ _ _ _ [] _ _ c.loop-uid.invariant.told (none_left _ c.args.uids.now c.loop-uid.uid-index (omega arith)) c.in_ok-write_last.ensures.prefix
 
 pub returns-in_err-put_entry-clause-part : goal.returns-in_err-put_entry-clause-part
 returns-in_err-put_entry-clause-part g c =
@@ -42,20 +44,16 @@ returns-in_err-put_entry-clause-part g c =
 
 pub returns-in_err-write_last-clause-part : goal.returns-in_err-write_last-clause-part
 returns-in_err-write_last-clause-part g c =
-    let none = drop_all c.loop-uid.uid-index c.args.uids.now (omega arith) in
-    HasTakenBut-part (Some _) (Some _) (Some _) c.loop-uid.piece.items [] _ _ c.loop-uid.invariant.written (ap (λ us. c.loop-uid.piece.items ++ listed_text us) (sym none)) c.in_err-write_last.ensures.part
+    HasTakenBut-part (Some _) (Some _) (Some _) _ [] _ _ c.loop-uid.invariant.written (none_left _ c.args.uids.now c.loop-uid.uid-index (omega arith)) c.in_err-write_last.ensures.part
 
 pub returns-clause-part : goal.returns-clause-part
 returns-clause-part g c =
-    let none = drop_all c.loop-uid.uid-index c.args.uids.now (omega arith) in
-    HasTakenBut-part (Some _) (Some _) (Some _) c.loop-uid.piece.items [] _ _ c.loop-uid.invariant.written (ap (λ us. c.loop-uid.piece.items ++ listed_text us) (sym none)) c.in_ok-write_last.ensures.part
+    HasTakenBut-part (Some _) (Some _) (Some _) _ [] _ _ c.loop-uid.invariant.written (none_left _ c.args.uids.now c.loop-uid.uid-index (omega arith)) c.in_ok-write_last.ensures.part
 
 pub returns-clause-all : goal.returns-clause-all
 returns-clause-all g c =
-    let none = drop_all c.loop-uid.uid-index c.args.uids.now (omega arith) in
-    HasTakenBut-all _ _ _ c.loop-uid.piece.items _ _ c.loop-uid.invariant.told (ap (λ us. c.loop-uid.piece.items ++ listed_text us) (sym none)) c.in_ok-write_last.ensures.all
+    HasTakenBut-all _ _ _ _ _ _ c.loop-uid.invariant.told (none_left _ c.args.uids.now c.loop-uid.uid-index (omega arith)) c.in_ok-write_last.ensures.all
 
 pub returns-clause-written : goal.returns-clause-written
 returns-clause-written g c =
-    let none = drop_all c.loop-uid.uid-index c.args.uids.now (omega arith) in
-    HasTakenBut-all (Some _) (Some _) (Some _) c.loop-uid.piece.items _ _ c.loop-uid.invariant.written (ap (λ us. c.loop-uid.piece.items ++ listed_text us) (sym none)) c.in_ok-write_last.ensures.written
+    HasTakenBut-all (Some _) (Some _) (Some _) _ _ _ c.loop-uid.invariant.written (none_left _ c.args.uids.now c.loop-uid.uid-index (omega arith)) c.in_ok-write_last.ensures.written

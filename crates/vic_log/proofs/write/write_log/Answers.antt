@@ -1,4 +1,4 @@
-use Rattle.std.proofs.Common.{rules, Some, ◌≡◌, ℕ, zero, ◌+◌, ◌<◌, suc, List, [], ◌∷◌, ◌++◌, length, drop, drop-cons, slice_index_or, refl, ap, sym, ◌∙◌, append_assoc, arith}
+use Rattle.std.proofs.Common.{rules, Some, ◌≡◌, ℕ, zero, ◌+◌, ◌<◌, ◌≤◌, suc, List, [], ◌∷◌, ◌++◌, length, drop, drop-cons, slice_index_or, refl, ap, sym, ◌∙◌, append_assoc, arith}
 use Rattle.std.proofs.lemmas.List.{drop_all}
 use Rattle.vic_log.specs.declared.entry.LogLine.{LogLine}
 use Rattle.vic_log.specs.Lines.{lf}
@@ -24,6 +24,10 @@ pub put_entry-requires : goal.put_entry-requires
 put_entry-requires g c =
     rw (c.item.ensures, c.line-item.is) (valid_line c.lines-lines.result.now c.loop-line.line-index c.line-item.result c.lines-lines.ensures.log.valid c.loop-line-test.true)
 
+-- nothing is left behind the last one
+none_left : (piece : List ℕ) (xs : List LogLine) (i : ℕ) → length xs ≤ i → piece ++ [] ≡ piece ++ lines_text (drop i xs)
+none_left piece xs i h = ap (λ ys. piece ++ lines_text ys) (sym (drop_all i xs h))
+
 pub loop-line-preserved : goal.loop-line-preserved
 loop-line-preserved g c =
     let lines = c.lines-lines.result.now in
@@ -40,13 +44,11 @@ returns-in_err-put_entry-clause-prefix g c =
 
 pub returns-in_err-write_last-clause-prefix : goal.returns-in_err-write_last-clause-prefix
 returns-in_err-write_last-clause-prefix g c =
-    let none = drop_all c.loop-line.line-index c.lines-lines.result.now (omega arith) in
-    HasTakenBut-part _ _ _ c.loop-line.piece.items [] _ _ c.loop-line.invariant.told (ap (λ ls. c.loop-line.piece.items ++ lines_text ls) (sym none)) c.in_err-write_last.ensures.prefix
+    HasTakenBut-part _ _ _ _ [] _ _ c.loop-line.invariant.told (none_left _ c.lines-lines.result.now c.loop-line.line-index (omega arith)) c.in_err-write_last.ensures.prefix
 
 pub returns-clause-prefix : goal.returns-clause-prefix
 returns-clause-prefix g c =
-    let none = drop_all c.loop-line.line-index c.lines-lines.result.now (omega arith) in
-    HasTakenBut-part _ _ _ c.loop-line.piece.items [] _ _ c.loop-line.invariant.told (ap (λ ls. c.loop-line.piece.items ++ lines_text ls) (sym none)) c.in_ok-write_last.ensures.prefix
+    HasTakenBut-part _ _ _ _ [] _ _ c.loop-line.invariant.told (none_left _ c.lines-lines.result.now c.loop-line.line-index (omega arith)) c.in_ok-write_last.ensures.prefix
 
 pub returns-in_err-put_entry-clause-part : goal.returns-in_err-put_entry-clause-part
 returns-in_err-put_entry-clause-part g c =
@@ -54,20 +56,16 @@ returns-in_err-put_entry-clause-part g c =
 
 pub returns-in_err-write_last-clause-part : goal.returns-in_err-write_last-clause-part
 returns-in_err-write_last-clause-part g c =
-    let none = drop_all c.loop-line.line-index c.lines-lines.result.now (omega arith) in
-    HasTakenBut-part (Some _) (Some _) (Some _) c.loop-line.piece.items [] _ _ c.loop-line.invariant.written (ap (λ ls. c.loop-line.piece.items ++ lines_text ls) (sym none)) c.in_err-write_last.ensures.part
+    HasTakenBut-part (Some _) (Some _) (Some _) _ [] _ _ c.loop-line.invariant.written (none_left _ c.lines-lines.result.now c.loop-line.line-index (omega arith)) c.in_err-write_last.ensures.part
 
 pub returns-clause-part : goal.returns-clause-part
 returns-clause-part g c =
-    let none = drop_all c.loop-line.line-index c.lines-lines.result.now (omega arith) in
-    HasTakenBut-part (Some _) (Some _) (Some _) c.loop-line.piece.items [] _ _ c.loop-line.invariant.written (ap (λ ls. c.loop-line.piece.items ++ lines_text ls) (sym none)) c.in_ok-write_last.ensures.part
+    HasTakenBut-part (Some _) (Some _) (Some _) _ [] _ _ c.loop-line.invariant.written (none_left _ c.lines-lines.result.now c.loop-line.line-index (omega arith)) c.in_ok-write_last.ensures.part
 
 pub returns-clause-all : goal.returns-clause-all
 returns-clause-all g c =
-    let none = drop_all c.loop-line.line-index c.lines-lines.result.now (omega arith) in
-    HasTakenBut-all _ _ _ c.loop-line.piece.items _ _ c.loop-line.invariant.told (ap (λ ls. c.loop-line.piece.items ++ lines_text ls) (sym none)) c.in_ok-write_last.ensures.all
+    HasTakenBut-all _ _ _ _ _ _ c.loop-line.invariant.told (none_left _ c.lines-lines.result.now c.loop-line.line-index (omega arith)) c.in_ok-write_last.ensures.all
 
 pub returns-clause-written : goal.returns-clause-written
 returns-clause-written g c =
-    let none = drop_all c.loop-line.line-index c.lines-lines.result.now (omega arith) in
-    HasTakenBut-all (Some _) (Some _) (Some _) c.loop-line.piece.items _ _ c.loop-line.invariant.written (ap (λ ls. c.loop-line.piece.items ++ lines_text ls) (sym none)) c.in_ok-write_last.ensures.written
+    HasTakenBut-all (Some _) (Some _) (Some _) _ _ _ c.loop-line.invariant.written (none_left _ c.lines-lines.result.now c.loop-line.line-index (omega arith)) c.in_ok-write_last.ensures.written

@@ -14,7 +14,7 @@ returns-clause-waits c text is =
     let within = before.1 in
     let size = length-append old c.args.piece.now in
     let same = ap length all in
-    (λ n f early. no-early text begun.line.items begun.log begun.number n f now early, omega arith)
+    (λ n f early. no-early now n f early, omega arith)
 
 pub invariant_of-self-2 : goal.invariant_of-self-2
 invariant_of-self-2 c =
