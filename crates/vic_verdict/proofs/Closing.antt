@@ -1,18 +1,8 @@
 -- The names between two keys, and which keys some slots close.
-use Rattle.std.proofs.Common.{◌≡◌, ℕ, ◌+◌, ◌-◌, ◌<◌, ◌≤◌, ◌==◌, ◌++◌, List, [], ◌∷◌, length, take, drop, get_or, Bool, true, false, not, ◌&&◌, ◌||◌, refl, sym, ap, ◌∙◌, subst, arith, ⊎_elim}
-use Rattle.std.specs.Prelude.{nat_le, nat_lt}
-use Rattle.std.specs.List.{All}
-use Rattle.std.proofs.lemmas.Bool.{and_parts, and_from, cases_eq, cases_lt, eq-eqb, eqb-true, false_from_ne_true, false≢true}
-use Rattle.std.proofs.lemmas.Bool.Decides.{nat_tests}
-use Rattle.std.proofs.lemmas.List.{drop-take, get_or-drop, get_or-take, get_or_default, length-drop, length-take-le, take-append-drop, take-take}
-use Rattle.std.proofs.lemmas.List.Folds.{list_any-append, list_any_at, list_any_more, Any-from_list_any}
-use Rattle.vic_verdict.specs.declared.names.Name.{Name}
-use Rattle.vic_tree.specs.Ranges.{in_ranges, is_between}
-use Rattle.vic_verdict.specs.Closed.{Closes, is_in_some}
-use Rattle.vic_verdict.specs.declared.closed.Spot.{Spot}
-use Rattle.vic_verdict.specs.Sweep.{AreInOrder, has_where, has_left, is_in}
+use Rattle.std.proofs.Common.{◌≡◌, ℕ, ◌+◌, ◌-◌, ◌<◌, ◌≤◌, ◌==◌, ◌++◌, List, [], ◌∷◌, length, take, drop, get_or, Bool, true, false, not, ◌&&◌, ◌||◌, refl, sym, ap, ◌∙◌, subst, arith, ⊎_elim, nat_le, nat_lt, All, eq-eqb, eqb-true, get_or-drop, get_or-take, length-drop, length-take-le, take-append-drop, take-take}
+use Rattle.vic_verdict.proofs.Words.{and_parts, and_from, cases_eq, cases_lt, false_from_ne_true, false≢true, nat_tests, get_or_default, list_any-append, list_any_at, list_any_more, Any-from_list_any, Name, in_ranges, is_between, Closes, is_in_some, Spot, AreInOrder, has_where, has_left, is_in, lt_yes, or_false}
+use Rattle.std.proofs.lemmas.List.{drop-take}
 use Rattle.vic_verdict.proofs.Sweeping.{all_cover, between_parts, nobody, where_above, where_below}
-use Rattle.vic_tree.proofs.BoolLaws.{lt_yes, or_false}
 
 -- ---- the names between two keys
 

@@ -1,37 +1,14 @@
 -- What meets the demands of a stretch.
-use Rattle.std.proofs.Common.{◌≡◌, ℕ, zero, suc, ◌+◌, ◌<◌, ◌≤◌, ◌++◌, List, [], ◌∷◌, length, take, get_or, length-append, Bool, true, false, not, ◌&&◌, ◌||◌, cond, Option, Some, None, refl, sym, ap, ◌∙◌, subst, arith, inl, inr, ⊎_elim}
-use Rattle.std.specs.Prelude.{◌⊎◌, ◌==◌, IfSome, nat_lt, slice_get}
-use Rattle.std.specs.List.{All, Any, list_all, list_any, sum_by}
-use Rattle.std.specs.List.Sorted.{IsPermutation}
-use Rattle.std.proofs.lemmas.Bool.{cases_eq, cases_lt, and_parts, and_from, or_left, or_right, both_ways, false≢true, eq-eqb, eqb-true}
-use Rattle.std.proofs.lemmas.Bool.Decides.{nat_tests}
-use Rattle.std.proofs.lemmas.Option.{slice_get_within, get_or_from_slice_get}
-use Rattle.std.proofs.lemmas.List.{get_or_append_left, get_or_default}
-use Rattle.std.proofs.lemmas.List.Elements.{All-push, All-filter, filter_passes}
-use Rattle.std.proofs.lemmas.List.Folds.{list_any-append, Any-from_list_any}
+use Rattle.std.proofs.Common.{◌≡◌, ℕ, zero, suc, ◌+◌, ◌<◌, ◌≤◌, ◌++◌, List, [], ◌∷◌, length, take, get_or, length-append, Bool, true, false, not, ◌&&◌, ◌||◌, cond, Option, Some, None, refl, sym, ap, ◌∙◌, subst, arith, inl, inr, ⊎_elim, ◌⊎◌, ◌==◌, IfSome, nat_lt, slice_get, All, Any, sum_by, IsPermutation, eq-eqb, eqb-true}
+use Rattle.vic_verdict.proofs.Words.{list_all, list_any, cases_eq, cases_lt, and_parts, and_from, or_left, or_right, both_ways, false≢true, nat_tests, slice_get_within, get_or_default, All-push, list_any-append, Any-from_list_any, All-permutation, list_any-IsPermutation, IsUid, is_uid, is_in_block, mirror, SameUids, UpToThree, Entry, Sent, Silent, Collision, Heard, Listed, Garbled, FieldCycle, mask_at, lies_in_some, is_quiet, answers_at, ManyReplies, SomeReply, slots_of, is_open, AgreeBefore, answers_agree, IsUid-from, lt_yes, lt_from, Demand, Found, Stretch, Name, Lacks, answering, AreInOrder, HaveKeys, is_quiet_by, ArePutInOrder, needs, needs_of, IsFoundAt, IsFound, IsDemandBy, AreFound, AreKept}
+use Rattle.std.proofs.lemmas.Option.{get_or_from_slice_get}
+use Rattle.std.proofs.lemmas.List.{get_or_append_left}
+use Rattle.std.proofs.lemmas.List.Elements.{All-filter, filter_passes}
 use Rattle.std.proofs.lemmas.List.Quantifiers.{Any-push}
 use Rattle.std.proofs.lemmas.List.Sums.{sum_by-cons, sum_by_more, sum_by_push, sum_by-take-le}
-use Rattle.std.proofs.lemmas.List.Sorted.{All-permutation, list_any-IsPermutation, sum_by-IsPermutation}
-use Rattle.vic_frame.specs.Uids.{IsUid, is_uid}
-use Rattle.vic_frame.specs.LowBitsFirst.{is_in_block, mirror}
-use Rattle.vic_tree.specs.OpenSet.{SameUids, UpToThree}
-use Rattle.vic_log.specs.declared.entry.Entry.{Entry}
-use Rattle.vic_log.specs.declared.entry.Entry.TheVariants.{Sent, Silent, Collision, Heard, Listed, Garbled, FieldCycle}
-use Rattle.vic_log.specs.Rounds.{mask_at, lies_in_some}
-use Rattle.vic_log.specs.Quiet.{is_quiet}
-use Rattle.vic_log.specs.Populations.{answers_at}
-use Rattle.vic_log.specs.Slots.{ManyReplies, SomeReply, allows, slots_of, is_open}
-use Rattle.vic_log.proofs.Places.{AgreeBefore, answers_agree}
-use Rattle.vic_log.proofs.Supply.{IsUid-from}
-use Rattle.vic_tree.proofs.BoolLaws.{lt_yes, lt_from}
-use Rattle.vic_verdict.specs.declared.demands.Demand.{Demand}
-use Rattle.vic_verdict.specs.declared.demands.Found.{Found}
-use Rattle.vic_verdict.specs.declared.demands.Stretch.{Stretch}
-use Rattle.vic_verdict.specs.declared.names.Name.{Name}
-use Rattle.vic_verdict.specs.Possible.{Lacks}
-use Rattle.vic_verdict.specs.Places.{answering}
-use Rattle.vic_verdict.specs.Sweep.{AreInOrder, HaveKeys, is_quiet_by, ArePutInOrder}
-use Rattle.vic_verdict.specs.Demands.{needs, needs_of, needs_at, all_needs, IsFoundAt, IsFound, Meets, IsDemand, IsDemandBy, answers_by, IsUnmet, IsUnmetAt, IsImpliedBy, IsAskedAgain, HasBlock, HasBlocks, HasKeysAt, HasNamesInOrder, IsKept, Keeps, AreMet, AreAsked, AreFound, AreKept, asked_by, demands_to, is_asked}
+use Rattle.std.proofs.lemmas.List.Sorted.{sum_by-IsPermutation}
+use Rattle.vic_log.specs.Slots.{allows}
+use Rattle.vic_verdict.specs.Demands.{needs_at, all_needs, Meets, IsDemand, answers_by, IsUnmet, IsUnmetAt, IsImpliedBy, IsAskedAgain, HasBlock, HasBlocks, HasKeysAt, HasNamesInOrder, IsKept, Keeps, AreMet, AreAsked, asked_by, demands_to, is_asked}
 use Rattle.vic_verdict.proofs.Silencing.{silenced_later}
 use Rattle.vic_verdict.proofs.Entries.{asks_two_iff, asks_one_iff}
 use Rattle.vic_verdict.proofs.Supplied.{UpToThree-same}

@@ -1,18 +1,9 @@
 -- What a judge that goes over the entries once needs: what each entry does to the open UIDs, and what the open UIDs that
 -- could have answered in a slot, up to three of them, tell.
-use Rattle.std.proofs.Common.{◌≡◌, ℕ, zero, suc, ◌<◌, ◌≤◌, List, [], ◌∷◌, length, Bool, true, false, ◌&&◌, Option, Some, None, refl, sym, ap, ◌∙◌, subst, arith, inl, inr, ⊎_elim}
-use Rattle.std.specs.Prelude.{⊤, ◌⊎◌, ◌≢◌, ◌↔◌, slice_get}
-use Rattle.std.specs.List.{list_all}
-use Rattle.std.proofs.lemmas.Bool.{both_ways, false≢true, cases_eq}
-use Rattle.vic_log.specs.declared.entry.Entry.{Entry}
-use Rattle.vic_log.specs.declared.entry.Entry.TheVariants.{Sent, Silent, Collision, Heard, Listed, Garbled, FieldCycle}
-use Rattle.vic_frame.specs.Uids.{has, is_uid}
-use Rattle.vic_log.specs.Populations.{answers_at}
-use Rattle.vic_log.specs.Slots.{Reading, NoReply, OneReply, ManyReplies, SomeReply, Slot, reading_of, with_reading, with_entry, slots_before, may_be, allows, is_open, Asks, SuppliesAll, Forces, IsForcedBy}
-use Rattle.vic_tree.specs.OpenSet.{UpToThree}
-use Rattle.vic_verdict.specs.Places.{answering}
-use Rattle.vic_log.proofs.Sets.{has_here, has_at, has_there, has_cases}
-use Rattle.vic_tree.proofs.BoolLaws.{and_true}
+use Rattle.std.proofs.Common.{◌≡◌, ℕ, zero, suc, ◌<◌, ◌≤◌, List, [], ◌∷◌, length, Bool, true, false, ◌&&◌, Option, Some, None, refl, sym, ap, ◌∙◌, subst, arith, inl, inr, ⊎_elim, ◌⊎◌, ◌≢◌, ◌↔◌, slice_get}
+use Rattle.vic_verdict.proofs.Words.{list_all, both_ways, false≢true, cases_eq, Entry, Sent, Silent, Collision, Heard, Listed, Garbled, FieldCycle, has, is_uid, answers_at, Reading, NoReply, OneReply, ManyReplies, SomeReply, Slot, reading_of, slots_before, is_open, Asks, SuppliesAll, Forces, IsForcedBy, UpToThree, answering, has_here, has_at, has_there, has_cases, and_true}
+use Rattle.std.specs.Prelude.{⊤}
+use Rattle.vic_log.specs.Slots.{with_reading, with_entry, may_be, allows}
 
 -- what a slot line asks of the UIDs that answer there; an entry that is no slot line asks nothing
 abbrev pub EntryAsks : Option Reading → (ℕ → Bool) → Type 0

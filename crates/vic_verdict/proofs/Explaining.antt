@@ -1,25 +1,11 @@
 -- A gathered population shows the verdict.
-use Rattle.std.proofs.Common.{◌≡◌, ℕ, ◌≤◌, List, [], ◌∷◌, ◌++◌, length, true, Some, None, sym, ◌∙◌, subst, arith, inl, inr, ⊎_elim, length-append}
-use Rattle.std.specs.Prelude.{◌⊎◌}
-use Rattle.std.specs.List.Sorted.{IsStrictlyIncreasing}
-use Rattle.std.proofs.lemmas.Bool.{false≢true, false_from_ne_true}
-use Rattle.vic_frame.specs.Uids.{IsUid, has}
-use Rattle.vic_frame.specs.Masks.{BitMask, lies_in, least_uid_in}
-use Rattle.vic_log.specs.declared.entry.Entry.{Entry}
-use Rattle.vic_log.specs.declared.entry.LogLine.{LogLine}
-use Rattle.vic_log.specs.Order.{entries}
-use Rattle.vic_log.specs.Slots.{slots_of, is_open}
-use Rattle.vic_log.proofs.Sets.{IsWithin, AreDifferent-population, IsUid-member, has_here, has_cases}
-use Rattle.vic_log.proofs.Supply.{MeetsAll-iff, SuppliesAll-within}
-use Rattle.vic_log.proofs.Places.{CouldHaveGiven-slots}
-use Rattle.vic_verdict.specs.declared.demands.Met.{Met}
+use Rattle.std.proofs.Common.{◌≡◌, ℕ, ◌≤◌, List, [], ◌∷◌, ◌++◌, length, true, Some, None, sym, ◌∙◌, subst, arith, inl, inr, ⊎_elim, length-append, ◌⊎◌}
+use Rattle.vic_verdict.proofs.Words.{IsStrictlyIncreasing, false≢true, false_from_ne_true, IsUid, has, BitMask, lies_in, Entry, LogLine, entries, slots_of, is_open, IsWithin, AreDifferent-population, has_here, has_cases, MeetsAll-iff, CouldHaveGiven-slots, Met, IsMet, gathered, IsPossible, IsPossibleUid, IsCertainUid, SameMembers, IsVerdict}
+use Rattle.vic_frame.specs.Masks.{least_uid_in}
+use Rattle.vic_log.proofs.Sets.{IsUid-member}
+use Rattle.vic_log.proofs.Supply.{SuppliesAll-within}
 use Rattle.vic_verdict.specs.declared.judging.Verdict.TheVariants.{Absent, Unlisted, Unsettled, Doubtful}
-use Rattle.vic_verdict.specs.Demands.{IsMet}
 use Rattle.vic_verdict.specs.Explained.{IsSmallPopulation, IsPopulationBehind}
-use Rattle.vic_verdict.specs.Gathered.{gathered}
-use Rattle.vic_verdict.specs.Possible.{IsPossible, IsPossibleUid, IsCertainUid}
-use Rattle.vic_verdict.specs.Rising.{SameMembers}
-use Rattle.vic_verdict.specs.Verdict.{IsVerdict}
 use Rattle.vic_verdict.proofs.Decide.{IsPossibleUid-iff}
 use Rattle.vic_verdict.proofs.Gathering.{IsGathered, AvoidsNoneCertain, append_cases, append_left, append_right, rising_population, no_more, gathered_population, gathered_without}
 use Rattle.vic_verdict.proofs.Masks.{lies_in-uid_in, IsUid-in}

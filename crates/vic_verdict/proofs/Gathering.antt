@@ -1,30 +1,12 @@
 -- A small population, gathered from what the slots of a possible log ask for.
-use Rattle.std.proofs.Common.{◌≡◌, ℕ, zero, suc, ◌+◌, ◌<◌, ◌≤◌, List, [], ◌∷◌, ◌++◌, length, take, get_or, Bool, true, false, ◌||◌, Option, Some, None, refl, sym, ap, ◌∙◌, subst, arith, inl, inr, ⊎_elim, length-append}
-use Rattle.std.specs.Prelude.{◌⊎◌, ◌==◌, nat_eq, slice_get}
-use Rattle.std.specs.List.{filter, All, sum_by}
-use Rattle.std.specs.List.Sorted.{IsStrictlyIncreasing}
-use Rattle.std.proofs.lemmas.Bool.{both_ways, false≢true, and_parts, and_from, or_cases, or_left, or_right, false_from_ne_true, eq-eqb, ne_eqb, cases_eq, not-true, not_from_false}
-use Rattle.std.proofs.lemmas.List.{length-take}
-use Rattle.std.proofs.lemmas.List.Folds.{list_any-append}
+use Rattle.std.proofs.Common.{◌≡◌, ℕ, zero, suc, ◌+◌, ◌<◌, ◌≤◌, List, [], ◌∷◌, ◌++◌, length, take, get_or, Bool, true, false, ◌||◌, Option, Some, None, refl, sym, ap, ◌∙◌, subst, arith, inl, inr, ⊎_elim, length-append, ◌⊎◌, ◌==◌, nat_eq, slice_get, filter, All, sum_by, eq-eqb, ne_eqb, length-take}
+use Rattle.vic_verdict.proofs.Words.{IsStrictlyIncreasing, both_ways, false≢true, and_parts, and_from, or_cases, or_left, or_right, false_from_ne_true, cases_eq, not-true, not_from_false, list_any-append, slice_get_within, IsUid, has, AreDifferent, Entry, Sent, Silent, Collision, Heard, Listed, Garbled, FieldCycle, IsPopulation, CouldHaveGiven, answers_at, Reading, ManyReplies, SomeReply, reading_of, slots_of, is_open, Asks, IsWithin, AreDifferent-population, AreDifferent-filter, has_filter, has_here, has_at, has_there, has_cases, MeetsAll-iff, IsUid-from, CouldHaveGiven-slots, Found, Met, needs_of, IsFoundAt, IsFound, IsMet, is_other, chosen, gathered, answering, IsPossible, IsCertainUid, SameMembers}
 use Rattle.std.proofs.lemmas.List.Kept.{AllPairs-from_increasing}
 use Rattle.std.proofs.lemmas.List.Sums.{sum_by-cons}
-use Rattle.std.proofs.lemmas.Option.{slice_get_within}
-use Rattle.vic_frame.specs.Uids.{IsUid, has, AreDifferent}
-use Rattle.vic_log.specs.declared.entry.Entry.{Entry}
-use Rattle.vic_log.specs.declared.entry.Entry.TheVariants.{Sent, Silent, Collision, Heard, Listed, Garbled, FieldCycle}
-use Rattle.vic_log.specs.Populations.{IsPopulation, CouldHaveGiven, answers_at}
-use Rattle.vic_log.specs.Slots.{Reading, ManyReplies, SomeReply, reading_of, slots_of, is_open, Asks}
-use Rattle.vic_log.proofs.Sets.{IsWithin, AreDifferent-population, AreDifferent-filter, has_filter, has_here, has_at, has_there, has_cases}
-use Rattle.vic_log.proofs.Supply.{asks_within, MeetsAll-iff, IsUid-from}
-use Rattle.vic_log.proofs.Places.{CouldHaveGiven-slots}
-use Rattle.vic_verdict.specs.declared.demands.Found.{Found}
-use Rattle.vic_verdict.specs.declared.demands.Met.{Met}
-use Rattle.vic_verdict.specs.Demands.{needs_of, IsFoundAt, IsFound, IsMet, all_needs}
-use Rattle.vic_verdict.specs.Gathered.{is_other, chosen, all_chosen, gathered}
+use Rattle.vic_log.proofs.Supply.{asks_within}
+use Rattle.vic_verdict.specs.Demands.{all_needs}
+use Rattle.vic_verdict.specs.Gathered.{all_chosen}
 use Rattle.vic_verdict.specs.Explained.{HasAllHeard}
-use Rattle.vic_verdict.specs.Places.{answering}
-use Rattle.vic_verdict.specs.Possible.{IsPossible, IsCertainUid}
-use Rattle.vic_verdict.specs.Rising.{SameMembers}
 use Rattle.vic_verdict.proofs.Choosing.{filter_yes, filter_no}
 use Rattle.vic_verdict.proofs.Decide.{IsPossibleUid-iff}
 use Rattle.vic_verdict.proofs.Entries.{EntryAsks, EntryForces, SuppliesBefore, SuppliesAll-places, forces_two_iff, forces_one_iff}

@@ -1,14 +1,9 @@
 -- Halving over the lines of a log.
-use Rattle.std.proofs.Common.{◌≡◌, ℕ, zero, suc, ◌+◌, ◌<◌, ◌≤◌, List, [], ◌∷◌, ◌++◌, Some, length, take, drop, refl, sym, ap, ◌∙◌, subst, arith, ⊎_elim}
-use Rattle.std.specs.Prelude.{◌⊎◌, slice_get}
-use Rattle.std.proofs.lemmas.Bool.{cases_lt}
-use Rattle.std.proofs.lemmas.List.{take-append-drop, take-map, length-map, length-take}
-use Rattle.vic_log.specs.declared.entry.Entry.TheVariants.{Sent}
-use Rattle.vic_log.specs.declared.entry.LogLine.{LogLine}
+use Rattle.std.proofs.Common.{◌≡◌, ℕ, zero, suc, ◌+◌, ◌<◌, ◌≤◌, List, [], ◌∷◌, ◌++◌, Some, length, take, drop, refl, sym, ap, ◌∙◌, subst, arith, ⊎_elim, ◌⊎◌, slice_get, take-append-drop, length-take}
+use Rattle.vic_verdict.proofs.Words.{cases_lt, take-map, length-map, Sent, LogLine, IsPossible, IsContradictedAt, IsContradiction, entries, IsRisingFrom}
 use Rattle.vic_verdict.specs.declared.possible.Contradiction.{Contradiction}
-use Rattle.vic_verdict.specs.Possible.{IsPossible, IsContradictedAt, IsContradiction}
 use Rattle.vic_verdict.proofs.Possibility.{IsPossible-front}
-use Rattle.vic_log.specs.Order.{IsInOrder, entries, AreValid, IsRisingFrom}
+use Rattle.vic_log.specs.Order.{IsInOrder, AreValid}
 use Rattle.vic_verdict.specs.LogLines.{AreLogLines}
 use Rattle.vic_log.proofs.Order.{IsInOrder-front, still_there}
 

@@ -1,34 +1,11 @@
 -- Whether the UIDs that were heard could have answered, from position to position.
-use Rattle.std.proofs.Common.{◌≡◌, ℕ, ◌+◌, ◌<◌, ◌^◌, ◌++◌, ◌==◌, List, [], ◌∷◌, take, drop, zero, suc, ◌≤◌, Bool, true, false, not, ◌&&◌, ◌||◌, Some, refl, sym, ap, ◌∙◌, subst, arith, inl, inr, ⊎_elim}
-use Rattle.std.specs.Prelude.{slice_get, nat_lt, if◌then◌else◌}
-use Rattle.std.specs.List.{All, list_any}
-use Rattle.std.specs.List.Sorted.{IsPermutation}
-use Rattle.std.proofs.lemmas.List.Sorted.{list_any-IsPermutation, IsPermutation-sym}
-use Rattle.std.proofs.lemmas.List.{take-append-drop}
-use Rattle.std.proofs.lemmas.Bool.{cases_eq, cases_lt, and_parts, and_from, and_right, both_ways, eq-eqb, eqb-true, false_from_ne_true}
-use Rattle.std.proofs.lemmas.Bool.Decides.{nat_tests}
-use Rattle.std.proofs.lemmas.List.Elements.{All-push}
+use Rattle.std.proofs.Common.{◌≡◌, ℕ, ◌+◌, ◌<◌, ◌^◌, ◌++◌, ◌==◌, List, [], ◌∷◌, take, drop, zero, suc, ◌≤◌, Bool, true, false, not, ◌&&◌, ◌||◌, Some, refl, sym, ap, ◌∙◌, subst, arith, inl, inr, ⊎_elim, slice_get, nat_lt, if◌then◌else◌, All, IsPermutation, take-append-drop, eq-eqb, eqb-true}
+use Rattle.vic_verdict.proofs.Words.{list_any, list_any-IsPermutation, cases_eq, cases_lt, and_parts, and_from, and_right, both_ways, false_from_ne_true, nat_tests, All-push, list_any_at, Any-from_list_any, slice_get_within, IsUid, is_uid, mirror, Reply, Entry, Sent, Silent, Collision, Heard, Listed, Garbled, FieldCycle, mask_at, lies_in_some, silences, wakes, is_quiet, answers_at, reading_of, slots_of, is_open, answers_agree, IsUid-from, Name, IsPossible, IsContradictedAt, answering, needs, reply_place, IsFirstQuietReply, quiet_of, is_quiet_by}
+use Rattle.std.proofs.lemmas.List.Sorted.{IsPermutation-sym}
 use Rattle.std.proofs.lemmas.List.Quantifiers.{Any-push}
-use Rattle.std.proofs.lemmas.List.Folds.{list_any_at, Any-from_list_any}
-use Rattle.std.proofs.lemmas.Option.{slice_get_within}
-use Rattle.vic_frame.specs.Uids.{IsUid, is_uid}
-use Rattle.vic_frame.specs.LowBitsFirst.{mirror}
-use Rattle.vic_frame.specs.Replies.{Reply}
-use Rattle.vic_log.specs.declared.entry.Entry.{Entry}
-use Rattle.vic_log.specs.declared.entry.Entry.TheVariants.{Sent, Silent, Collision, Heard, Listed, Garbled, FieldCycle}
-use Rattle.vic_log.specs.Rounds.{mask_at, lies_in_some}
-use Rattle.vic_log.specs.Quiet.{silences, wakes, is_quiet}
-use Rattle.vic_log.specs.Populations.{answers_at}
-use Rattle.vic_log.specs.Slots.{reading_of, slots_of, is_open}
-use Rattle.vic_log.proofs.Places.{answers_agree, agree_upto}
-use Rattle.vic_log.proofs.Supply.{IsUid-from}
-use Rattle.vic_verdict.specs.declared.names.Name.{Name}
-use Rattle.vic_verdict.specs.Possible.{IsPossible, IsContradictedAt}
-use Rattle.vic_verdict.specs.Places.{answering}
-use Rattle.vic_verdict.specs.Demands.{needs}
+use Rattle.vic_log.proofs.Places.{agree_upto}
 use Rattle.vic_verdict.proofs.Entries.{EntryAsks}
-use Rattle.vic_verdict.specs.Replies.{Answers, reply_place, is_quiet_reply, IsQuietReply, IsFirstQuietReply, IsHeardAt, IsReplyAt, AreHeard}
-use Rattle.vic_verdict.specs.Sweep.{quiet_of, is_quiet_by}
+use Rattle.vic_verdict.specs.Replies.{Answers, is_quiet_reply, IsQuietReply, IsHeardAt, IsReplyAt, AreHeard}
 use Rattle.vic_verdict.proofs.Silencing.{silenced_permuted}
 use Rattle.vic_verdict.proofs.Stretching.{IsPlaced, quiet_silent, quiet_heard, beside_all, placed_next, silenced_next, silenced_after, quiet_named, quiet_next, still_quiet}
 use Rattle.vic_verdict.proofs.Supplied.{supplied_each}

@@ -1,19 +1,10 @@
 -- A slot that lacks the tags it requires contradicts the lines up to it, and up to the last one that may rule UIDs out.
-use Rattle.std.proofs.Common.{◌≡◌, ℕ, zero, suc, ◌+◌, ◌<◌, ◌≤◌, List, [], ◌∷◌, length, take, Bool, true, false, ◌&&◌, Option, Some, None, refl, sym, ap, ◌∙◌, subst, arith, add-one, ⊎_elim}
-use Rattle.std.specs.Prelude.{slice_get}
-use Rattle.std.proofs.lemmas.Bool.{cases_eq}
-use Rattle.std.proofs.lemmas.Option.{slice_get_within}
-use Rattle.std.proofs.lemmas.List.{length-take-le}
-use Rattle.vic_log.specs.declared.entry.Entry.{Entry}
-use Rattle.vic_log.specs.declared.entry.Entry.TheVariants.{Sent, Silent, Collision, Heard, Listed, Garbled, FieldCycle}
-use Rattle.vic_log.specs.Populations.{answers_at}
-use Rattle.vic_log.specs.Slots.{Reading, NoReply, OneReply, ManyReplies, SomeReply, Slot, reading_of, with_entry, slots_before, slots_of, is_open, Asks}
-use Rattle.vic_log.proofs.Places.{AgreeBefore, answers_agree}
-use Rattle.vic_verdict.specs.Possible.{IsContradictedAt, Lacks, rules_out, NoneRulesOutAfter}
-use Rattle.vic_verdict.specs.Places.{answering}
+use Rattle.std.proofs.Common.{◌≡◌, ℕ, zero, suc, ◌+◌, ◌<◌, ◌≤◌, List, [], ◌∷◌, length, take, Bool, true, false, ◌&&◌, Option, Some, None, refl, sym, ap, ◌∙◌, subst, arith, add-one, ⊎_elim, slice_get, length-take-le}
+use Rattle.vic_verdict.proofs.Words.{cases_eq, slice_get_within, Entry, Sent, Silent, Collision, Heard, Listed, Garbled, FieldCycle, answers_at, Reading, NoReply, OneReply, ManyReplies, SomeReply, Slot, reading_of, slots_before, slots_of, is_open, Asks, AgreeBefore, answers_agree, IsContradictedAt, Lacks, rules_out, answering, and_true}
+use Rattle.vic_log.specs.Slots.{with_entry}
+use Rattle.vic_verdict.specs.Possible.{NoneRulesOutAfter}
 use Rattle.vic_verdict.proofs.Entries.{EntryAsks, entry_allows, open_reading}
 use Rattle.vic_verdict.proofs.Supplied.{supplied_each}
-use Rattle.vic_tree.proofs.BoolLaws.{and_true}
 
 pub taken : (n : ℕ) (es : List Entry) (j : ℕ) → j < n → slice_get (take n es) j ≡ slice_get es j
 taken zero es j h = absurd (omega (arith, h))

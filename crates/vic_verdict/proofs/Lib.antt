@@ -1,3 +1,4 @@
+pub mod Words
 pub mod Possibility
 pub mod Search
 pub mod Populations

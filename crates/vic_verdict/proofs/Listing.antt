@@ -1,11 +1,6 @@
 -- The UIDs that a log lists, line by line.
-use Rattle.std.proofs.Common.{◌≡◌, ℕ, zero, suc, ◌<◌, ◌+◌, List, [], ◌∷◌, ◌++◌, Some, take, refl, sym, ap, ◌∙◌, arith, append_assoc, length, get_or, ◌^◌}
-use Rattle.std.proofs.lemmas.Option.{slice_get_read}
-use Rattle.std.specs.Prelude.{slice_get}
-use Rattle.vic_log.specs.declared.entry.Entry.{Entry}
-use Rattle.vic_log.specs.declared.entry.Entry.TheVariants.{Sent, Silent, Collision, Heard, Listed, Garbled, FieldCycle}
-use Rattle.vic_log.specs.declared.entry.LogLine.{LogLine}
-use Rattle.vic_log.specs.Order.{entries, listed, IsRisingFrom}
+use Rattle.std.proofs.Common.{◌≡◌, ℕ, zero, suc, ◌<◌, ◌+◌, List, [], ◌∷◌, ◌++◌, Some, take, refl, sym, ap, ◌∙◌, arith, append_assoc, length, get_or, ◌^◌, slice_get}
+use Rattle.vic_verdict.proofs.Words.{slice_get_read, Entry, Sent, Silent, Collision, Heard, Listed, Garbled, FieldCycle, LogLine, entries, listed, IsRisingFrom}
 
 listed_cons : (e : Entry) (es : List Entry) → listed (e ∷ es) ≡ listed (e ∷ []) ++ listed es
 listed_cons (Sent q) es = refl

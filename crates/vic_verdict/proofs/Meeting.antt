@@ -1,26 +1,9 @@
 -- What is met makes a log possible, and UIDs certain.
-use Rattle.std.proofs.Common.{◌≡◌, ℕ, zero, suc, ◌+◌, ◌<◌, ◌≤◌, ◌++◌, List, [], ◌∷◌, length, get_or, Bool, true, false, ◌&&◌, Some, refl, sym, ap, ◌∙◌, subst, arith, inl, inr, ⊎_elim}
-use Rattle.std.specs.Prelude.{◌⊎◌, ◌↔◌, nat_eq, slice_get}
-use Rattle.std.specs.List.{Any, list_all}
-use Rattle.std.proofs.lemmas.Bool.{cases_Bool, cases_eq, cases_lt, and_parts, and_from, both_ways, false≢true, or_cases, or_left, or_right}
-use Rattle.std.proofs.lemmas.Option.{slice_get_within}
-use Rattle.std.proofs.lemmas.List.{get_or_default}
-use Rattle.std.proofs.lemmas.List.Folds.{list_any-append}
-use Rattle.vic_frame.specs.Uids.{is_uid, has, AreDifferent}
-use Rattle.vic_frame.specs.Replies.{Reply}
-use Rattle.vic_tree.specs.OpenSet.{SameUids}
-use Rattle.vic_log.specs.declared.entry.Entry.{Entry}
-use Rattle.vic_log.specs.declared.entry.Entry.TheVariants.{Sent, Silent, Collision, Heard, Listed, Garbled, FieldCycle}
-use Rattle.vic_log.specs.Populations.{answers_at}
-use Rattle.vic_log.specs.Slots.{OneReply, ManyReplies, SomeReply, reading_of, slots_before, slots_of, is_open, Asks, Forces, IsForcedBy}
-use Rattle.vic_log.proofs.Supply.{IsUid-from}
-use Rattle.vic_log.proofs.Sets.{has_here, has_at, has_there, has_cases}
-use Rattle.vic_verdict.specs.declared.demands.Found.{Found}
-use Rattle.vic_verdict.specs.declared.demands.Met.{Met}
-use Rattle.vic_verdict.specs.Possible.{IsPossible, Lacks, NoneRulesOutAfter}
-use Rattle.vic_verdict.specs.Places.{answering}
+use Rattle.std.proofs.Common.{◌≡◌, ℕ, zero, suc, ◌+◌, ◌<◌, ◌≤◌, ◌++◌, List, [], ◌∷◌, length, get_or, Bool, true, false, ◌&&◌, Some, refl, sym, ap, ◌∙◌, subst, arith, inl, inr, ⊎_elim, ◌⊎◌, ◌↔◌, nat_eq, slice_get, Any}
+use Rattle.vic_verdict.proofs.Words.{list_all, cases_Bool, cases_eq, cases_lt, and_parts, and_from, both_ways, false≢true, or_cases, or_left, or_right, slice_get_within, get_or_default, list_any-append, is_uid, has, AreDifferent, Reply, SameUids, Entry, Sent, Silent, Collision, Heard, Listed, Garbled, FieldCycle, answers_at, OneReply, ManyReplies, SomeReply, reading_of, slots_before, slots_of, is_open, Asks, Forces, IsForcedBy, IsUid-from, has_here, has_at, has_there, has_cases, Found, Met, IsPossible, Lacks, answering, needs_of, HasHeard, IsFoundAt, IsFound, AreFound, IsMet}
+use Rattle.vic_verdict.specs.Possible.{NoneRulesOutAfter}
 use Rattle.vic_verdict.specs.Replies.{RepliesAnswer}
-use Rattle.vic_verdict.specs.Demands.{needs_of, needs_at, HasHeard, IsFoundAt, IsFound, Meets, AreFound, IsMet}
+use Rattle.vic_verdict.specs.Demands.{needs_at, Meets}
 use Rattle.vic_verdict.proofs.Entries.{EntryAsks, EntryForces, forced_step, forces_two_iff, forces_one_iff, three_in_two}
 use Rattle.vic_verdict.proofs.Demanding.{asked_two_or_one}
 use Rattle.vic_verdict.specs.Rising.{Adds}

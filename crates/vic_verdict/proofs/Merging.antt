@@ -1,11 +1,9 @@
 -- Rising lists of numbers that are gone over side by side.
-use Rattle.std.proofs.Common.{◌≡◌, ℕ, ◌+◌, ◌<◌, ◌≤◌, ◌==◌, List, length, get_or, false, sym, ◌∙◌, arith, ⊎_elim}
-use Rattle.std.specs.List.Sorted.{IsStrictlyIncreasing}
-use Rattle.std.proofs.lemmas.Bool.{false_from_ne_true, cases_eq, cases_lt, eq-eqb, ne_eqb}
-use Rattle.vic_frame.specs.Uids.{has}
+use Rattle.std.proofs.Common.{◌≡◌, ℕ, ◌+◌, ◌<◌, ◌≤◌, ◌==◌, List, length, get_or, false, sym, ◌∙◌, arith, ⊎_elim, eq-eqb, ne_eqb}
+use Rattle.vic_verdict.proofs.Words.{IsStrictlyIncreasing, false_from_ne_true, cases_eq, cases_lt, has, AreBelow}
 use Rattle.vic_verdict.proofs.Failing.{any_default, member_at, place_of}
 use Rattle.vic_verdict.proofs.Inserted.{rising_order}
-use Rattle.vic_verdict.specs.Merging.{AreBelow, IsPlaceOf}
+use Rattle.vic_verdict.specs.Merging.{IsPlaceOf}
 
 -- a rising list has a number if and only if it is at its index
 lacks : (us : List ℕ) (n u : ℕ) → IsStrictlyIncreasing us → IsPlaceOf us n u → (n < length us → get_or us n 0 ≡ u → ⊥) → has us u ≡ false

@@ -1,29 +1,15 @@
 -- Which open UIDs answer, by the names.
-use Rattle.std.proofs.Common.{◌≡◌, ℕ, zero, suc, nat_eq, ◌+◌, ◌-◌, ◌^◌, ◌<◌, ◌≤◌, ◌==◌, ◌++◌, List, [], ◌∷◌, length, take, drop, get_or, Bool, true, false, not, ◌&&◌, ◌||◌, refl, sym, ap, ◌∙◌, subst, arith, inl, inr, ⊎_elim, map}
-use Rattle.std.specs.Prelude.{◌⊎◌, nat_lt}
-use Rattle.std.specs.List.{All, list_any}
+use Rattle.std.proofs.Common.{◌≡◌, ℕ, zero, suc, nat_eq, ◌+◌, ◌-◌, ◌^◌, ◌<◌, ◌≤◌, ◌==◌, ◌++◌, List, [], ◌∷◌, length, take, drop, get_or, Bool, true, false, not, ◌&&◌, ◌||◌, refl, sym, ap, ◌∙◌, subst, arith, inl, inr, ⊎_elim, map, ◌⊎◌, nat_lt, All, eq-eqb, eqb-true, take_all}
+use Rattle.vic_verdict.proofs.Words.{list_any, and_parts, and_from, or_cases, or_left, or_right, both_ways, false≢true, nat_tests, take-map, length-map, get_or-map, All-head, All-tail, All-push, list_any-append, list_any_more, IsUid, is_uid, has, BitMask, lies_in, is_in_block, mirror, uid_of, KeyBlock, uid_of_mirror, IsUid-from, is_uid_from, Gathers, UpToThree, is_between, and_true, or_false, lt_yes, Name, HasInside, IsReadyIn, is_ready_at, AreInOrder, HaveKeys, has_where, is_named, is_quiet_by, quiet_of}
 use Rattle.std.specs.List.Sorted.{IsNonDecreasing}
-use Rattle.std.proofs.lemmas.Bool.{and_parts, and_from, or_cases, or_left, or_right, both_ways, false≢true, eq-eqb, eqb-true}
-use Rattle.std.proofs.lemmas.Bool.Decides.{nat_tests}
-use Rattle.std.proofs.lemmas.List.{take_all, take-map, drop-map, length-map, get_or-map}
-use Rattle.std.proofs.lemmas.List.Elements.{All-head, All-tail, All-push}
+use Rattle.std.proofs.lemmas.List.{drop-map}
 use Rattle.std.proofs.lemmas.List.Sorted.{IsNonDecreasingBy-push}
-use Rattle.std.proofs.lemmas.List.Folds.{list_any-append, list_any_more}
-use Rattle.vic_frame.specs.Uids.{IsUid, is_uid, has}
-use Rattle.vic_frame.specs.Masks.{BitMask, lies_in}
-use Rattle.vic_frame.specs.LowBitsFirst.{IsKey, is_in_block, mirror, uid_of}
-use Rattle.vic_frame.specs.declared.low_bits_first.KeyBlock.{KeyBlock}
-use Rattle.vic_frame.proofs.MirrorLaws.{mirror_below, mirror_of_uid, uid_of_mirror}
-use Rattle.vic_log.proofs.Supply.{IsUid-from, is_uid_from}
-use Rattle.vic_tree.specs.Gathering.{Gathers}
-use Rattle.vic_tree.specs.OpenSet.{UpToThree, in_mask, without_keys}
-use Rattle.vic_tree.specs.Ranges.{is_between}
-use Rattle.vic_tree.proofs.BoolLaws.{and_true, or_false, lt_yes}
+use Rattle.vic_frame.specs.LowBitsFirst.{IsKey}
+use Rattle.vic_frame.proofs.MirrorLaws.{mirror_below, mirror_of_uid}
+use Rattle.vic_tree.specs.OpenSet.{in_mask, without_keys}
 use Rattle.vic_tree.proofs.GatheringLaws.{gathers_both, gathers_like}
 use Rattle.vic_verdict.specs.declared.answering.Unnamed.{Unnamed}
-use Rattle.vic_verdict.specs.declared.names.Name.{Name}
-use Rattle.vic_verdict.specs.Answering.{AreOpenNames, HasInside, HasNamedIn, IsReadyIn, IsUnnamed, is_answering, is_awake, is_ready_at, is_unnamed, is_unnamed_in}
-use Rattle.vic_verdict.specs.Sweep.{AreInOrder, HaveKeys, has_where, is_named, is_quiet_by, quiet_of}
+use Rattle.vic_verdict.specs.Answering.{AreOpenNames, HasNamedIn, IsUnnamed, is_answering, is_awake, is_unnamed, is_unnamed_in}
 use Rattle.vic_verdict.proofs.Closing.{between_from}
 use Rattle.vic_verdict.proofs.Replying.{tells_own}
 use Rattle.vic_verdict.proofs.Silencing.{silenced_later}

@@ -1,19 +1,9 @@
 -- Whether somebody was heard while Quiet, by names in the order of their keys.
-use Rattle.std.proofs.Common.{◌≡◌, ℕ, ◌+◌, ◌-◌, ◌<◌, ◌≤◌, ◌==◌, List, length, get_or, [], ◌∷◌, Bool, true, ◌&&◌, ◌||◌, refl, sym, ap, ◌∙◌, subst, arith, ⊎_elim}
-use Rattle.std.specs.Prelude.{◌⊎◌, nat_lt}
-use Rattle.std.proofs.lemmas.Bool.{cases_eq, and_parts, and_from, eq-eqb, eqb-true}
-use Rattle.std.specs.List.{All, list_any}
-use Rattle.std.proofs.lemmas.List.{get_or_default}
-use Rattle.std.proofs.lemmas.List.Elements.{All-head, All-tail}
-use Rattle.std.proofs.lemmas.List.Folds.{list_any_at, Any-from_list_any}
-use Rattle.vic_verdict.specs.declared.names.Name.{Name}
-use Rattle.vic_verdict.specs.declared.names.TheConstants.{NEVER}
-use Rattle.vic_verdict.specs.Replies.{reply_place, is_quiet_reply, IsQuietReply, IsFirstQuietReply}
-use Rattle.vic_tree.specs.Ranges.{is_between}
-use Rattle.vic_verdict.specs.Sweep.{quiet_of, is_quiet_by, has_where, AreInOrder}
+use Rattle.std.proofs.Common.{◌≡◌, ℕ, ◌+◌, ◌-◌, ◌<◌, ◌≤◌, ◌==◌, List, length, get_or, [], ◌∷◌, Bool, true, ◌&&◌, ◌||◌, refl, sym, ap, ◌∙◌, subst, arith, ⊎_elim, ◌⊎◌, nat_lt, eq-eqb, eqb-true, All}
+use Rattle.vic_verdict.proofs.Words.{cases_eq, and_parts, and_from, list_any, get_or_default, All-head, All-tail, list_any_at, Any-from_list_any, Name, NEVER, reply_place, IsFirstQuietReply, is_between, quiet_of, is_quiet_by, has_where, AreInOrder, lt_from, lt_yes}
+use Rattle.vic_verdict.specs.Replies.{is_quiet_reply, IsQuietReply}
 use Rattle.vic_verdict.proofs.Closing.{between_from}
 use Rattle.vic_verdict.proofs.Sweeping.{nobody, between_parts}
-use Rattle.vic_tree.proofs.BoolLaws.{lt_from, lt_yes}
 
 -- the name at a position of a list
 abbrev pub at : List Name → ℕ → Name

@@ -1,29 +1,11 @@
 -- What the lines of a log leave open up to a position at which a reply could not be.
-use Rattle.std.proofs.Common.{◌≡◌, ℕ, ◌+◌, ◌<◌, ◌≤◌, ◌&&◌, List, [], length, take, Bool, Some, refl, sym, ap, ◌∙◌, subst, arith, ⊎_elim}
-use Rattle.std.specs.Prelude.{slice_get}
-use Rattle.std.proofs.lemmas.Bool.{cases_eq}
-use Rattle.std.proofs.lemmas.List.{length-map, length-take-le, take-map}
-use Rattle.std.proofs.lemmas.Option.{slice_get_within}
-use Rattle.vic_frame.specs.LowBitsFirst.{mirror}
-use Rattle.vic_tree.specs.OpenSet.{SameUids}
-use Rattle.vic_tree.specs.Ranges.{is_outside}
+use Rattle.std.proofs.Common.{◌≡◌, ℕ, ◌+◌, ◌<◌, ◌≤◌, ◌&&◌, List, [], length, take, Bool, Some, refl, sym, ap, ◌∙◌, subst, arith, ⊎_elim, slice_get, length-take-le}
+use Rattle.vic_verdict.proofs.Words.{cases_eq, length-map, take-map, slice_get_within, mirror, SameUids, is_outside, Entry, Heard, FieldCycle, LogLine, entries, slots_before, is_open, AgreeBefore, answers_agree, Spot, Name, Demand, Stretch, AreKept, needs, IsContradictedAt, IsFirstQuietReply, all_allow_to, ArePutInOrder}
 use Rattle.vic_tree.specs.declared.key_range.KeyRange.{KeyRange}
-use Rattle.vic_log.specs.declared.entry.Entry.{Entry}
-use Rattle.vic_log.specs.declared.entry.Entry.TheVariants.{Heard, FieldCycle}
-use Rattle.vic_log.specs.declared.entry.LogLine.{LogLine}
-use Rattle.vic_log.specs.Order.{entries}
-use Rattle.vic_log.specs.Slots.{slots_before, is_open}
-use Rattle.vic_log.proofs.Places.{AgreeBefore, answers_agree}
-use Rattle.vic_verdict.specs.declared.closed.Spot.{Spot}
-use Rattle.vic_verdict.specs.declared.names.Name.{Name}
-use Rattle.vic_verdict.specs.declared.demands.Demand.{Demand}
-use Rattle.vic_verdict.specs.declared.demands.Stretch.{Stretch}
 use Rattle.vic_verdict.specs.declared.stretches.Settled.{Settled}
-use Rattle.vic_verdict.specs.Demands.{AreKept, Keeps, needs}
-use Rattle.vic_verdict.specs.Possible.{IsContradictedAt}
-use Rattle.vic_verdict.specs.Replies.{Answers, IsFirstQuietReply}
+use Rattle.vic_verdict.specs.Demands.{Keeps}
+use Rattle.vic_verdict.specs.Replies.{Answers}
 use Rattle.vic_verdict.specs.Stretches.{HasGathered, IsOpenTo, IsSettled}
-use Rattle.vic_verdict.specs.Sweep.{all_allow_to, ArePutInOrder}
 use Rattle.vic_verdict.proofs.Demanding.{asked_anew, kept_first, kept_cycle, kept_to}
 use Rattle.vic_verdict.proofs.Heard.{answers_before, quiet_contradicts, quiet_since, heard_first, heard_anew}
 use Rattle.vic_verdict.proofs.Lacking.{taken, open_agrees}

@@ -1,12 +1,6 @@
 -- What the Stay Quiets since the last field cycle tell, from position to position.
-use Rattle.std.proofs.Common.{◌≡◌, ℕ, ◌<◌, ◌≤◌, ◌==◌, ◌^◌, List, [], ◌∷◌, Bool, true, ◌&&◌, sym, ◌∙◌, subst, arith, ⊎_elim}
-use Rattle.std.specs.Prelude.{nat_lt}
-use Rattle.std.specs.List.Sorted.{IsPermutation}
-use Rattle.std.proofs.lemmas.Bool.{and_parts, and_from, or_cases, or_left, or_right, false≢true}
-use Rattle.std.proofs.lemmas.Bool.Decides.{nat_tests}
-use Rattle.std.proofs.lemmas.List.Sorted.{All-permutation, list_any-IsPermutation}
-use Rattle.vic_verdict.specs.declared.names.Name.{Name}
-use Rattle.vic_verdict.specs.Sweep.{AreInOrder, keep_all, quiet_of, is_quiet_by, ArePutInOrder}
+use Rattle.std.proofs.Common.{◌≡◌, ℕ, ◌<◌, ◌≤◌, ◌==◌, ◌^◌, List, [], ◌∷◌, Bool, true, ◌&&◌, sym, ◌∙◌, subst, arith, ⊎_elim, nat_lt, IsPermutation}
+use Rattle.vic_verdict.proofs.Words.{and_parts, and_from, or_cases, or_left, or_right, false≢true, nat_tests, All-permutation, list_any-IsPermutation, Name, AreInOrder, keep_all, quiet_of, is_quiet_by, ArePutInOrder}
 use Rattle.vic_verdict.proofs.Sweeping.{keep-order, keep-keys, keep-quiet}
 
 pub silenced_permuted : (ns ms : List Name) (k i : ℕ) → IsPermutation ns ms → is_quiet_by ms k i ≡ is_quiet_by ns k i

@@ -1,30 +1,12 @@
 -- What a judge gathers from field cycle to field cycle.
-use Rattle.std.proofs.Common.{◌≡◌, ℕ, ◌+◌, ◌<◌, ◌≤◌, ◌==◌, ◌++◌, ◌^◌, List, [], ◌∷◌, get_or, Bool, true, false, not, ◌&&◌, ◌||◌, Option, Some, None, refl, sym, ap, ◌∙◌, subst, arith, add-one, inl, inr, ⊎_elim}
-use Rattle.std.specs.Prelude.{◌⊎◌, nat_lt, nat_le, slice_get, if◌then◌else◌}
-use Rattle.std.specs.List.{All}
-use Rattle.std.proofs.lemmas.Bool.{cases_eq, eq-eqb, false≢true, and_parts, and_from, and_right}
-use Rattle.std.proofs.lemmas.Bool.Decides.{nat_tests}
-use Rattle.std.proofs.lemmas.List.Folds.{list_all-append, list_any-append}
-use Rattle.std.proofs.lemmas.List.Elements.{All-push, All-head, All-tail}
-use Rattle.vic_frame.specs.Uids.{IsUid}
-use Rattle.vic_frame.specs.declared.low_bits_first.KeyBlock.{KeyBlock}
-use Rattle.vic_frame.specs.LowBitsFirst.{is_in_some_block, mirror, uid_of}
-use Rattle.vic_frame.proofs.MirrorLaws.{uid_of_mirror, same_test}
-use Rattle.vic_tree.specs.OpenSet.{SameUids}
-use Rattle.vic_log.specs.declared.entry.Entry.{Entry}
-use Rattle.vic_log.specs.declared.entry.Entry.TheVariants.{FieldCycle}
-use Rattle.vic_log.specs.Rounds.{mask_at, lies_in_some}
-use Rattle.vic_log.specs.Quiet.{silences, wakes, is_quiet}
-use Rattle.vic_log.specs.Populations.{answers_at}
-use Rattle.vic_log.specs.Slots.{reading_of, slots_before, is_open}
-use Rattle.vic_verdict.specs.declared.names.Name.{Name}
-use Rattle.vic_verdict.specs.declared.names.TheConstants.{NEVER}
-use Rattle.vic_verdict.specs.declared.closed.Spot.{Spot}
-use Rattle.vic_verdict.specs.Sweep.{quiet_of, heard_of, is_heard, is_in, is_quiet_by, spot_allows, all_allow, all_allow_to, is_named, is_named_if, all_hear_named, are_left}
+use Rattle.std.proofs.Common.{◌≡◌, ℕ, ◌+◌, ◌<◌, ◌≤◌, ◌==◌, ◌++◌, ◌^◌, List, [], ◌∷◌, get_or, Bool, true, false, not, ◌&&◌, ◌||◌, Option, Some, None, refl, sym, ap, ◌∙◌, subst, arith, add-one, inl, inr, ⊎_elim, ◌⊎◌, nat_lt, nat_le, slice_get, if◌then◌else◌, All, eq-eqb}
+use Rattle.vic_verdict.proofs.Words.{cases_eq, false≢true, and_parts, and_from, and_right, nat_tests, list_any-append, All-push, All-head, All-tail, IsUid, KeyBlock, is_in_some_block, mirror, uid_of, uid_of_mirror, SameUids, Entry, FieldCycle, mask_at, lies_in_some, silences, wakes, is_quiet, answers_at, reading_of, slots_before, is_open, Name, NEVER, Spot, quiet_of, heard_of, is_heard, is_in, is_quiet_by, spot_allows, all_allow, all_allow_to, is_named, is_named_if, all_hear_named, and_true, or_false}
+use Rattle.std.proofs.lemmas.List.Folds.{list_all-append}
+use Rattle.vic_frame.proofs.MirrorLaws.{same_test}
+use Rattle.vic_verdict.specs.Sweep.{are_left}
 use Rattle.vic_verdict.specs.Stretches.{AddsSpot, TellsOpen}
 use Rattle.vic_verdict.proofs.Entries.{entry_allows}
 use Rattle.vic_verdict.proofs.Stands.{open_next}
-use Rattle.vic_tree.proofs.BoolLaws.{and_true, or_false}
 
 pub lt_no : (x y : ℕ) → y ≤ x → nat_lt x y ≡ false
 lt_no x y e = grind (arith, nat_tests)

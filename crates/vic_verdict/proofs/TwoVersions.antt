@@ -1,23 +1,14 @@
 -- The main theorem says the same in the words of each version.
-use Rattle.std.proofs.Common.{◌≡◌, ◌⊎◌, inl, inr, ℕ, zero, suc, Bool, true, false, not, ◌&&◌, List, [], ◌∷◌, Option, Some, None, refl, sym, ap, subst, ◌∙◌, arith, ⊎_elim}
-use Rattle.std.specs.Prelude.{◌≢◌, ◌↔◌, slice_get}
-use Rattle.std.specs.List.{filter}
-use Rattle.std.proofs.lemmas.Bool.{cases_eq, and_parts, and_from, or_parts, both_ways, false_from_ne_true, not-true}
-use Rattle.vic_frame.specs.Uids.{has, AreDifferent}
-use Rattle.vic_log.specs.declared.entry.Entry.{Entry}
-use Rattle.vic_log.specs.declared.entry.Entry.TheVariants.{Sent, Silent, Collision, Heard, Listed, Garbled, FieldCycle}
+use Rattle.std.proofs.Common.{◌≡◌, ◌⊎◌, inl, inr, ℕ, zero, suc, Bool, true, false, not, ◌&&◌, List, [], ◌∷◌, Option, Some, None, refl, sym, ap, subst, ◌∙◌, arith, ⊎_elim, ◌≢◌, ◌↔◌, slice_get, filter}
+use Rattle.vic_verdict.proofs.Words.{cases_eq, and_parts, and_from, both_ways, false_from_ne_true, not-true, has, AreDifferent, Entry, Sent, Silent, Collision, Heard, Listed, Garbled, FieldCycle, LogLine, entries, IsPopulation, answers_at, CouldHaveGiven, silences, wakes, is_quiet, mask_at, lies_in_some, has_here, has_there, has_cases, has_filter, AreDifferent-population, AreDifferent-filter, IsVerdict, Complete}
+use Rattle.std.proofs.lemmas.Bool.{or_parts}
 use Rattle.vic_log.specs.FirstVersion.{AreOfFirstVersion, CouldHaveGivenFirst}
-use Rattle.vic_log.specs.declared.entry.LogLine.{LogLine}
-use Rattle.vic_log.specs.Order.{entries}
-use Rattle.vic_log.specs.Populations.{IsPopulation, answers_at, Outcome, Nobody, Lone, Several, outcome_of, outcome_at, Fits, CouldHaveGiven}
-use Rattle.vic_log.specs.Quiet.{silences, wakes, is_quiet}
-use Rattle.vic_log.specs.Rounds.{mask_at, lies_in_some}
+use Rattle.vic_log.specs.Populations.{Outcome, Nobody, Lone, Several, outcome_of, outcome_at, Fits}
 use Rattle.vic_log.proofs.FirstVersion.{given-first}
 use Rattle.vic_log.proofs.Quiet.{quiet-silenced}
-use Rattle.vic_log.proofs.Sets.{has_here, has_there, has_cases, has_filter, filter_has, AreDifferent-population, AreDifferent-filter}
+use Rattle.vic_log.proofs.Sets.{filter_has}
 use Rattle.vic_verdict.specs.TwoVersions.{HasExactlyListed, IsWholeFirst, IsReady, Answers, AnswersAlone, SeveralAnswer, IsToldOf, CouldHaveGivenSecond, IsWholeSecond}
-use Rattle.vic_verdict.specs.Verdict.{IsVerdict, IsWhole}
-use Rattle.vic_verdict.specs.declared.judging.Verdict.TheVariants.{Complete}
+use Rattle.vic_verdict.specs.Verdict.{IsWhole}
 use Rattle.vic_verdict.proofs.Verdicts.{complete_whole}
 
 -- ---- Ready tags

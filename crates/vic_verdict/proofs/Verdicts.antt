@@ -1,25 +1,14 @@
 -- Each log has exactly one verdict.
-use Rattle.std.proofs.Common.{◌≡◌, ℕ, suc, ◌<◌, ◌≤◌, ◌+◌, ◌^◌, List, [], ◌∷◌, ◌++◌, length, Bool, true, false, cond, not, ◌&&◌, refl, sym, ap, ◌∙◌, subst, arith, inl, inr, ⊎_elim}
-use Rattle.std.specs.Prelude.{◌⊎◌, ◌↔◌, nat_le, leb}
-use Rattle.std.specs.List.{filter}
-use Rattle.std.proofs.Math.Nat.{le_refl, le_of_lt}
-use Rattle.std.proofs.lemmas.Bool.{not-true, and_parts, and_from, cases_Bool, cases_lt, both_ways, false≢true, not_from_false, true_from_ne_false, le-leb, lt-leb, leb-true, leb-false}
-use Rattle.vic_frame.specs.Masks.{BitMask}
-use Rattle.vic_log.specs.declared.entry.Entry.{Entry}
-use Rattle.vic_log.specs.declared.entry.LogLine.{LogLine}
+use Rattle.std.proofs.Common.{◌≡◌, ℕ, suc, ◌<◌, ◌≤◌, ◌+◌, ◌^◌, List, [], ◌∷◌, ◌++◌, length, Bool, true, false, cond, not, ◌&&◌, refl, sym, ap, ◌∙◌, subst, arith, inl, inr, ⊎_elim, ◌⊎◌, ◌↔◌, nat_le, leb, filter, le_refl, le_of_lt, le-leb, leb-true, leb-false}
+use Rattle.vic_verdict.proofs.Words.{not-true, and_parts, and_from, cases_Bool, cases_lt, both_ways, false≢true, not_from_false, BitMask, Entry, LogLine, Impossible, Complete, lies_in, has, is_uid, IsUid, IsPossible, IsPossibleUid, IsCertainUid, slots_of, is_open, entries, IsRisingFrom, listed, IsAbsent, IsUnlisted, IsUnsettled, IsDoubtful, IsLeast, IsFirstMask, NoSuch, IsVerdict, has_cases, is_uid_from, IsUid-from}
+use Rattle.std.proofs.lemmas.Bool.{true_from_ne_false, lt-leb}
 use Rattle.vic_log.specs.declared.entry.Version.{Version}
 use Rattle.vic_log.specs.Log.{IsLog}
 use Rattle.vic_verdict.specs.LogLines.{AreLogLines}
 use Rattle.vic_verdict.specs.declared.judging.Verdict.{Verdict}
-use Rattle.vic_verdict.specs.declared.judging.Verdict.TheVariants.{Impossible, Absent, Unlisted, Unsettled, Doubtful, Complete}
-use Rattle.vic_frame.specs.Masks.{lies_in}
-use Rattle.vic_frame.specs.Uids.{has, is_uid, IsUid}
-use Rattle.vic_verdict.specs.Possible.{IsPossible, IsPossibleUid, IsCertainUid}
-use Rattle.vic_log.specs.Slots.{slots_of, is_open}
-use Rattle.vic_log.specs.Order.{entries, IsRisingFrom, listed}
-use Rattle.vic_verdict.specs.Verdict.{entries_to, IsAbsent, IsUnlisted, IsUnsettled, IsDoubtful, IsLeast, IsFirstMask, NoSuch, IsVerdict, IsWhole, IsReached}
-use Rattle.vic_log.proofs.Sets.{has_cases, IsUid-member}
-use Rattle.vic_log.proofs.Supply.{is_uid_from, IsUid-from}
+use Rattle.vic_verdict.specs.declared.judging.Verdict.TheVariants.{Absent, Unlisted, Unsettled, Doubtful}
+use Rattle.vic_verdict.specs.Verdict.{entries_to, IsWhole, IsReached}
+use Rattle.vic_log.proofs.Sets.{IsUid-member}
 use Rattle.vic_verdict.proofs.Search.{Either, test_either, false_either, not_either, and_either, search_below, least_of, least_or_none}
 use Rattle.vic_verdict.proofs.Populations.{uid_end, uid_below}
 use Rattle.vic_verdict.proofs.Possibility.{IsPossible-front, Heard-certain}

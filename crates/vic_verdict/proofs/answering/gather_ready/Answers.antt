@@ -1,9 +1,6 @@
-use Rattle.std.proofs.Common.{◌≡◌, ◌+◌, ◌<◌, ◌≤◌, length, take, sym, ◌∙◌, subst, arith}
-use Rattle.std.proofs.lemmas.Bool.{eqb-true, false≢true}
-use Rattle.std.proofs.lemmas.List.{take_all}
-use Rattle.vic_tree.specs.Gathering.{Gathers}
+use Rattle.std.proofs.Common.{◌≡◌, ◌+◌, ◌<◌, ◌≤◌, length, take, sym, ◌∙◌, subst, arith, eqb-true, take_all}
+use Rattle.vic_verdict.proofs.Words.{false≢true, Gathers, IsReadyIn}
 use Rattle.vic_tree.proofs.GatheringLaws.{gathers_full}
-use Rattle.vic_verdict.specs.Answering.{IsReadyIn}
 use Rattle.vic_verdict.proofs.Ready.{gathers_none, ready_more, ready_other, ready_so_far}
 use Rattle.vic_verdict.proofs.answering.gather_ready.Goals as goal
 use Rattle.vic_verdict.proofs.answering.gather_ready.Goals.{then-at-quiet, else-at-quiet}

@@ -1,14 +1,6 @@
-use Rattle.std.proofs.Common.{◌≡◌, ◌+◌, ◌^◌, ◌<◌, ◌≤◌, ℕ, Bool, List, length, get_or, map, true, false, not, ◌&&◌, sym, ap, ◌∙◌, subst, arith}
-use Rattle.std.specs.Prelude.{nat_lt}
-use Rattle.std.proofs.lemmas.Bool.{and_from, and_right}
-use Rattle.std.proofs.lemmas.List.{get_or-map, length-map}
+use Rattle.std.proofs.Common.{◌≡◌, ◌+◌, ◌^◌, ◌<◌, ◌≤◌, ℕ, Bool, List, length, get_or, map, true, false, not, ◌&&◌, sym, ap, ◌∙◌, subst, arith, nat_lt}
+use Rattle.vic_verdict.proofs.Words.{and_from, and_right, get_or-map, length-map, uid_of, lt_yes, Name, NEVER, is_ready_at, is_quiet_by, quiet_of}
 use Rattle.std.proofs.lemmas.List.Elements.{All-map}
-use Rattle.vic_frame.specs.LowBitsFirst.{uid_of}
-use Rattle.vic_tree.proofs.BoolLaws.{lt_yes}
-use Rattle.vic_verdict.specs.declared.names.Name.{Name}
-use Rattle.vic_verdict.specs.declared.names.TheConstants.{NEVER}
-use Rattle.vic_verdict.specs.Answering.{is_ready_at}
-use Rattle.vic_verdict.specs.Sweep.{is_quiet_by, quiet_of}
 use Rattle.vic_verdict.proofs.Ready.{AreOpenTo, not_before, open_first, open_same, open_other, open_more, open_all, ready_key, keys_order}
 use Rattle.vic_verdict.proofs.Replying.{at, tells_own}
 use Rattle.vic_verdict.proofs.Sweeping.{nobody, start_here}

@@ -1,10 +1,6 @@
-use Rattle.std.proofs.Common.{◌≡◌, ◌+◌, [], length, take, sym, ◌∙◌, subst, arith}
-use Rattle.std.proofs.lemmas.Bool.{eqb-true}
-use Rattle.std.proofs.lemmas.List.{take_all}
-use Rattle.vic_frame.specs.LowBitsFirst.{mirror}
-use Rattle.vic_tree.specs.Gathering.{Gathers}
+use Rattle.std.proofs.Common.{◌≡◌, ◌+◌, [], length, take, sym, ◌∙◌, subst, arith, eqb-true, take_all}
+use Rattle.vic_verdict.proofs.Words.{mirror, Gathers, HasInside}
 use Rattle.vic_tree.proofs.GatheringLaws.{gathers_full}
-use Rattle.vic_verdict.specs.Answering.{HasInside}
 use Rattle.vic_verdict.proofs.Closing.{between_from}
 use Rattle.vic_verdict.proofs.Ready.{gathers_none, inside_more, inside_other, inside_so_far}
 use Rattle.vic_verdict.proofs.Sweeping.{between_parts}

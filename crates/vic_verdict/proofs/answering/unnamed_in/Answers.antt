@@ -1,10 +1,8 @@
-use Rattle.std.proofs.Common.{ℕ, List, ◌-◌, length, sym, ◌∙◌, subst, arith}
-use Rattle.std.specs.List.{All}
-use Rattle.std.proofs.lemmas.List.Elements.{All-push, All-take}
-use Rattle.vic_tree.specs.OpenSet.{UpToThree}
+use Rattle.std.proofs.Common.{ℕ, List, ◌-◌, length, sym, ◌∙◌, subst, arith, All}
+use Rattle.vic_verdict.proofs.Words.{All-push, UpToThree, is_named}
+use Rattle.std.proofs.lemmas.List.Elements.{All-take}
 use Rattle.vic_verdict.specs.declared.answering.Unnamed.{Unnamed}
 use Rattle.vic_verdict.specs.Answering.{IsUnnamed, is_unnamed, is_unnamed_in}
-use Rattle.vic_verdict.specs.Sweep.{is_named}
 use Rattle.vic_verdict.proofs.Ready.{found_besides}
 use Rattle.vic_verdict.proofs.answering.unnamed_in.Goals as goal
 

@@ -1,7 +1,5 @@
 use Rattle.std.proofs.Common.{◌≡◌, ◌+◌, ◌-◌, ◌<◌, ◌≤◌, ◌++◌, ◌∷◌, [], get_or, sym, ap, ◌∙◌, subst, arith}
-use Rattle.vic_tree.specs.Ranges.{is_between}
-use Rattle.vic_verdict.specs.declared.names.Name.{Name}
-use Rattle.vic_verdict.specs.Closed.{Closes}
+use Rattle.vic_verdict.proofs.Words.{is_between, Name, Closes}
 use Rattle.vic_verdict.proofs.Sweeping.{nobody}
 use Rattle.vic_verdict.proofs.Closing.{IsClosedTo, closed_first, closed_passed, closed_left, closed_all, pushed_none, pushed_one}
 use Rattle.vic_verdict.proofs.closed.close_between.Goals as goal

@@ -1,8 +1,6 @@
-use Rattle.std.proofs.Common.{◌≡◌, ◌∙◌, List, [], ◌∷◌, length, ap, sym, subst, inl, inr, refl, rules}
-use Rattle.std.specs.Prelude.{nat_lt}
-use Rattle.std.specs.List.Sorted.{IsPermutation}
+use Rattle.std.proofs.Common.{◌≡◌, ◌∙◌, List, [], ◌∷◌, length, ap, sym, subst, inl, inr, refl, rules, nat_lt, IsPermutation}
+use Rattle.vic_verdict.proofs.Words.{Demand}
 use Rattle.std.proofs.lemmas.Fn.{filter_same}
-use Rattle.vic_verdict.specs.declared.demands.Demand.{Demand}
 use Rattle.vic_verdict.specs.Demands.{demands_to}
 use Rattle.vic_verdict.proofs.demands.keep_stretch.Goals as goal
 

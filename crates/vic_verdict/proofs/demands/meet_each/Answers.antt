@@ -1,11 +1,6 @@
-use Rattle.std.proofs.Common.{◌≡◌, ◌+◌, get_or, sym, subst, arith}
-use Rattle.std.proofs.lemmas.List.{get_or_default}
-use Rattle.vic_verdict.specs.declared.demands.Demand.{Demand}
-use Rattle.vic_verdict.specs.declared.demands.Found.{Found}
-use Rattle.std.specs.Prelude.{IfSome, Option}
+use Rattle.std.proofs.Common.{◌≡◌, ◌+◌, get_or, sym, subst, arith, IfSome, Option}
+use Rattle.vic_verdict.proofs.Words.{get_or_default, Demand, Found, IsKnown, IsDemandBy}
 use Rattle.vic_verdict.specs.declared.answering.Known.{Known}
-use Rattle.vic_verdict.specs.Answering.{IsKnown}
-use Rattle.vic_verdict.specs.Demands.{IsDemandBy}
 use Rattle.vic_verdict.proofs.Demanding.{AreMetTo, met_skipped, met_found, met_all, found_at}
 use Rattle.vic_verdict.proofs.demands.meet_each.Goals as goal
 use Rattle.vic_verdict.proofs.demands.meet_each.Goals.{then-not-is_asked_again+in_ok-uids+else-len-need+in_ok-push, else-not-is_asked_again}

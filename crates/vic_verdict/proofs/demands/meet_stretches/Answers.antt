@@ -1,11 +1,6 @@
-use Rattle.std.proofs.Common.{◌≡◌, List, length, sym, subst, arith}
-use Rattle.std.specs.List.{All}
-use Rattle.vic_log.specs.declared.entry.Entry.{Entry}
-use Rattle.vic_verdict.specs.declared.demands.Demand.{Demand}
-use Rattle.vic_verdict.specs.declared.demands.Stretch.{Stretch}
-use Rattle.vic_verdict.specs.declared.names.Name.{Name}
-use Rattle.vic_verdict.specs.Demands.{HasBlock, HasBlocks, HasNamesInOrder, IsDemandBy, IsKept}
-use Rattle.vic_verdict.specs.Sweep.{AreInOrder, HaveKeys}
+use Rattle.std.proofs.Common.{◌≡◌, List, length, sym, subst, arith, All}
+use Rattle.vic_verdict.proofs.Words.{Entry, Demand, Stretch, Name, IsDemandBy, AreInOrder, HaveKeys}
+use Rattle.vic_verdict.specs.Demands.{HasBlock, HasBlocks, HasNamesInOrder, IsKept}
 use Rattle.vic_verdict.proofs.Demanding.{AreFoundTo, found_first, found_more, found_all, some_is, unmet_lacks}
 use Rattle.vic_verdict.proofs.demands.meet_stretches.Goals as goal
 

@@ -1,15 +1,6 @@
-use Rattle.std.proofs.Common.{◌≡◌, ℕ, ◌+◌, ◌<◌, length, take, get_or, sym, ap, subst, ◌∙◌, arith, add-one, inl, inr, ⊎_elim}
-use Rattle.std.proofs.lemmas.Bool.{cases_lt}
-use Rattle.std.specs.Prelude.{MatchResult}
+use Rattle.std.proofs.Common.{◌≡◌, ℕ, ◌+◌, ◌<◌, length, take, get_or, sym, ap, subst, ◌∙◌, arith, add-one, inl, inr, ⊎_elim, MatchResult}
+use Rattle.vic_verdict.proofs.Words.{cases_lt, SameUids, LogLine, entries, slots_of, is_open, IsMet, IsPossible, IsContradiction, IsVerdict, Impossible}
 use Rattle.std.proofs.lemmas.Option.{slice_get-get_or}
-use Rattle.vic_tree.specs.OpenSet.{SameUids}
-use Rattle.vic_log.specs.declared.entry.LogLine.{LogLine}
-use Rattle.vic_log.specs.Order.{entries}
-use Rattle.vic_log.specs.Slots.{slots_of, is_open}
-use Rattle.vic_verdict.specs.Demands.{IsMet}
-use Rattle.vic_verdict.specs.Possible.{IsPossible, IsContradiction}
-use Rattle.vic_verdict.specs.Verdict.{IsVerdict}
-use Rattle.vic_verdict.specs.declared.judging.Verdict.TheVariants.{Impossible}
 use Rattle.vic_verdict.proofs.FirstLine.{first_impossible}
 use Rattle.vic_verdict.proofs.Halving.{Between, between_first, between_more, between_earlier, between_raised, first_front, front_contradiction}
 use Rattle.vic_verdict.proofs.first_line.first_impossible_line.Goals as goal

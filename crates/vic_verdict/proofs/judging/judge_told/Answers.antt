@@ -1,12 +1,5 @@
-use Rattle.std.proofs.Common.{◌≡◌, ℕ, List, Option, Bool, sym, subst}
-use Rattle.std.specs.Prelude.{MatchOption, slice_get}
-use Rattle.vic_frame.specs.Masks.{BitMask}
-use Rattle.vic_frame.specs.Uids.{has}
-use Rattle.vic_log.specs.declared.entry.Entry.{Entry}
-use Rattle.vic_log.specs.Order.{entries}
-use Rattle.vic_verdict.specs.Keys.{AreKeysOf}
-use Rattle.vic_verdict.specs.Rising.{IsFailing, IsListOf}
-use Rattle.vic_verdict.specs.Verdict.{IsAbsent, IsUnlisted, IsUnsettled, IsDoubtful, IsFirstMask, IsLeast, NoSuch}
+use Rattle.std.proofs.Common.{◌≡◌, ℕ, List, Option, Bool, sym, subst, MatchOption, slice_get}
+use Rattle.vic_verdict.proofs.Words.{BitMask, has, Entry, entries, AreKeysOf, IsFailing, IsListOf, IsAbsent, IsUnlisted, IsUnsettled, IsDoubtful, IsFirstMask, IsLeast, NoSuch}
 use Rattle.vic_verdict.proofs.Differing.{IsJudged, absent_list, unlisted_list, unsettled_mask, doubtful_uids}
 use Rattle.vic_verdict.proofs.Failing.{first_is_least}
 use Rattle.vic_verdict.proofs.judging.judge_told.Goals as goal

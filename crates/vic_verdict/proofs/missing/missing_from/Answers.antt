@@ -1,11 +1,7 @@
-use Rattle.std.proofs.Common.{ℕ, Bool, not, cond, take, ap, sym, ◌∙◌, [], ◌∷◌, ◌++◌, arith, subst}
-use Rattle.std.specs.List.{filter}
-use Rattle.std.proofs.lemmas.List.{take_all}
+use Rattle.std.proofs.Common.{ℕ, Bool, not, cond, take, ap, sym, ◌∙◌, [], ◌∷◌, ◌++◌, arith, subst, filter, take_all}
+use Rattle.vic_verdict.proofs.Words.{has, AreBelow}
 use Rattle.std.proofs.lemmas.List.Elements.{filter_more}
-use Rattle.vic_frame.specs.Uids.{has}
-use Rattle.vic_verdict.specs.Merging.{AreBelow}
-use Rattle.vic_verdict.proofs.Failing.{any_default}
-use Rattle.vic_verdict.proofs.Failing.{failing_list}
+use Rattle.vic_verdict.proofs.Failing.{any_default, failing_list}
 use Rattle.vic_verdict.proofs.Merging.{below_next}
 use Rattle.vic_verdict.proofs.missing.missing_from.Goals as goal
 

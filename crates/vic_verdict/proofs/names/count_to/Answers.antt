@@ -1,6 +1,6 @@
 use Rattle.std.proofs.Common.{◌+◌, ◌-◌, leb, leb-true, leb-false, arith, rules}
+use Rattle.vic_verdict.proofs.Words.{Name}
 use Rattle.std.proofs.lemmas.List.Sorted.{IsPartitionPoint-from_clause, IsPartitionedBy-leb}
-use Rattle.vic_verdict.specs.declared.names.Name.{Name}
 use Rattle.vic_verdict.proofs.Sweeping.{start_here}
 use Rattle.vic_verdict.proofs.names.count_to.Goals as goal
 

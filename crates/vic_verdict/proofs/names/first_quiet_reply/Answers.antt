@@ -1,7 +1,5 @@
 use Rattle.std.proofs.Common.{◌≡◌, ◌+◌, ◌-◌, ◌≤◌, sym, subst, arith, inl, inr, ⊎_elim}
-use Rattle.std.proofs.lemmas.Bool.{cases_lt}
-use Rattle.vic_verdict.specs.declared.names.TheConstants.{NEVER}
-use Rattle.vic_verdict.specs.Replies.{reply_place}
+use Rattle.vic_verdict.proofs.Words.{cases_lt, NEVER, reply_place}
 use Rattle.vic_verdict.proofs.Sweeping.{start_here}
 use Rattle.vic_verdict.proofs.Replying.{at, TellsFrom, tells_still, tells_own, IsFoundTo, found_more, found_still, found_all}
 use Rattle.vic_verdict.proofs.names.first_quiet_reply.Goals as goal

@@ -1,5 +1,5 @@
 use Rattle.std.proofs.Common.{◌∙◌, sym, ap, arith}
-use Rattle.vic_verdict.specs.Sweep.{is_quiet_by}
+use Rattle.vic_verdict.proofs.Words.{is_quiet_by}
 use Rattle.vic_verdict.proofs.Replying.{tells_own}
 use Rattle.vic_verdict.proofs.names.is_quiet_by.Goals as goal
 

@@ -1,6 +1,5 @@
-use Rattle.std.proofs.Common.{arith}
-use Rattle.std.proofs.lemmas.Bool.{eqb-true}
-use Rattle.vic_tree.proofs.BoolLaws.{lt_from}
+use Rattle.std.proofs.Common.{arith, eqb-true}
+use Rattle.vic_verdict.proofs.Words.{lt_from}
 use Rattle.vic_verdict.proofs.Sweeping.{start_here}
 use Rattle.vic_verdict.proofs.names.is_start.Goals as goal
 

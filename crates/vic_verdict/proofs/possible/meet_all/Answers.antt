@@ -1,11 +1,5 @@
-use Rattle.std.proofs.Common.{◌∙◌, ap, sym, subst, List, ℕ, length, arith}
-use Rattle.std.specs.Prelude.{MatchResult}
-use Rattle.std.specs.List.{list_all}
-use Rattle.std.proofs.lemmas.List.{length-map}
-use Rattle.vic_log.specs.declared.entry.LogLine.{LogLine}
-use Rattle.vic_log.specs.Order.{entries}
-use Rattle.vic_verdict.specs.Possible.{Lacks}
-use Rattle.vic_verdict.specs.Demands.{AreFound}
+use Rattle.std.proofs.Common.{◌∙◌, ap, sym, subst, List, ℕ, length, arith, MatchResult}
+use Rattle.vic_verdict.proofs.Words.{list_all, length-map, LogLine, entries, Lacks, AreFound}
 use Rattle.vic_verdict.proofs.Demanding.{kept_blocks, kept_in_order}
 use Rattle.vic_verdict.proofs.Lacking.{lacking_within, contradicted}
 use Rattle.vic_verdict.proofs.Meeting.{LacksHeard, heard_lacks, met_is_possible, is_met}

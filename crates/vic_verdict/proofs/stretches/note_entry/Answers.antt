@@ -1,15 +1,7 @@
-use Rattle.std.proofs.Common.{◌≡◌, ◌+◌, ℕ, List, Bool, ⊎_elim, ◌==◌, ◌∙◌, ◌||◌, not, false, true, refl, ap, sym, Option, Some, None, subst, arith}
-use Rattle.std.specs.Prelude.{IfSome, slice_get}
-use Rattle.std.proofs.lemmas.Result.{IfOk-weaker}
-use Rattle.vic_frame.specs.declared.low_bits_first.KeyBlock.{KeyBlock}
-use Rattle.vic_frame.specs.LowBitsFirst.{IsBlock, is_in_some_block, mirror}
-use Rattle.vic_frame.specs.Uids.{IsUid}
-use Rattle.vic_log.specs.declared.entry.Entry.{Entry}
-use Rattle.vic_log.specs.declared.entry.Entry.TheVariants.{Silent, Collision, Garbled, Listed, Heard}
-use Rattle.vic_log.specs.Rounds.{lies_in_some, mask_at}
-use Rattle.vic_verdict.specs.declared.names.Name.{Name}
+use Rattle.std.proofs.Common.{◌≡◌, ◌+◌, ℕ, List, Bool, ⊎_elim, ◌==◌, ◌∙◌, ◌||◌, not, false, true, refl, ap, sym, Option, Some, None, subst, arith, IfSome, slice_get}
+use Rattle.vic_verdict.proofs.Words.{IfOk-weaker, KeyBlock, is_in_some_block, mirror, IsUid, Entry, Silent, Collision, Garbled, Listed, Heard, lies_in_some, mask_at, Name, is_named}
+use Rattle.vic_frame.specs.LowBitsFirst.{IsBlock}
 use Rattle.vic_verdict.specs.Stretches.{HasGathered}
-use Rattle.vic_verdict.specs.Sweep.{is_named}
 use Rattle.vic_verdict.proofs.Demanding.{asked_nothing, asked_more}
 use Rattle.vic_verdict.proofs.Heard.{outside_reply, nobody_there, heard_more, heard_passed}
 use Rattle.vic_verdict.proofs.Stretching.{named_here, stretch_named, stretch_passed, stretch_spotted, heard_key}

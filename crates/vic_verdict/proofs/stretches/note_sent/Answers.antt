@@ -1,14 +1,8 @@
-use Rattle.std.proofs.Common.{◌≡◌, ◌==◌, ◌∙◌, refl, ap, sym, subst, Some, true, false}
+use Rattle.std.proofs.Common.{◌≡◌, ◌==◌, ◌∙◌, refl, ap, sym, subst, Some, true, false, ne_eqb}
+use Rattle.vic_verdict.proofs.Words.{IsUid, mirror, Reply, Entry, Sent, Heard, Name}
 use Rattle.std.proofs.lemmas.Result.{on_ok_weaker}
-use Rattle.std.proofs.lemmas.Bool.{ne_eqb}
-use Rattle.vic_frame.specs.Uids.{IsUid}
-use Rattle.vic_frame.specs.LowBitsFirst.{mirror}
-use Rattle.vic_frame.specs.Replies.{Reply}
 use Rattle.vic_frame.specs.declared.request.Request.{Request}
 use Rattle.vic_frame.specs.declared.request.Request.TheVariants.{Inventory, StayQuiet}
-use Rattle.vic_log.specs.declared.entry.Entry.{Entry}
-use Rattle.vic_log.specs.declared.entry.Entry.TheVariants.{Sent, Heard}
-use Rattle.vic_verdict.specs.declared.names.Name.{Name}
 use Rattle.vic_verdict.proofs.Demanding.{asked_nothing}
 use Rattle.vic_verdict.proofs.Heard.{heard_passed, heard_silenced}
 use Rattle.vic_verdict.proofs.Stretching.{stretch_passed, stretch_silenced, silenced_key}

@@ -1,18 +1,10 @@
-use Rattle.std.proofs.Common.{true, ◌≡◌, ℕ, ◌+◌, ◌-◌, ◌*◌, ◌^◌, ◌<◌, ◌∷◌, [], not, ◌&&◌, ◌||◌, ◌∙◌, Option, Some, None, ap, sym, subst, refl, arith}
-use Rattle.std.specs.Option.{is_some}
-use Rattle.std.specs.Prelude.{IfSome, nat_le, if◌then◌else◌}
-use Rattle.std.specs.List.{All}
-use Rattle.std.proofs.lemmas.Bool.{and_from}
-use Rattle.std.proofs.lemmas.List.Elements.{All-push}
+use Rattle.std.proofs.Common.{true, ◌≡◌, ℕ, ◌+◌, ◌-◌, ◌*◌, ◌^◌, ◌<◌, ◌∷◌, [], not, ◌&&◌, ◌||◌, ◌∙◌, Option, Some, None, ap, sym, subst, refl, arith, is_some, IfSome, nat_le, if◌then◌else◌, All}
+use Rattle.vic_verdict.proofs.Words.{and_from, All-push, KeyBlock, is_in_some_block, mirror, and_true, Spot, is_between, all_allow, all_allow_to, all_hear_named, first_of, heard_of, is_heard, is_named_if, is_quiet_by, last_of, spot_allows}
 use Rattle.std.proofs.lemmas.List.Folds.{list_all-append}
 use Rattle.std.proofs.lemmas.Nat.{div-mul-add, mod-mul-add}
-use Rattle.vic_frame.specs.declared.low_bits_first.KeyBlock.{KeyBlock}
-use Rattle.vic_frame.specs.LowBitsFirst.{IsBlock, is_in_some_block, mirror}
-use Rattle.vic_tree.proofs.BoolLaws.{and_true}
+use Rattle.vic_frame.specs.LowBitsFirst.{IsBlock}
 use Rattle.vic_verdict.proofs.Closing.{le_yes}
-use Rattle.vic_verdict.specs.declared.closed.Spot.{Spot}
-use Rattle.vic_tree.specs.Ranges.{is_between}
-use Rattle.vic_verdict.specs.Sweep.{HasRange, all_allow, all_allow_to, all_hear_named, first_of, len_of, heard_of, hears_named, is_heard, is_named_if, is_quiet_by, last_of, spot_allows}
+use Rattle.vic_verdict.specs.Sweep.{HasRange, len_of, hears_named}
 use Rattle.vic_verdict.proofs.stretches.push_spot.Goals as goal
 use Rattle.vic_verdict.proofs.stretches.push_spot.Goals.{in-Some-heard, in-None}
 

@@ -1,7 +1,5 @@
 use Rattle.std.proofs.Common.{Some, refl, ◌+◌, ◌∙◌, ap, sym, subst, length, [], arith, ◌≡◌}
-use Rattle.vic_log.specs.declared.entry.Entry.{Entry}
-use Rattle.vic_log.specs.Order.{entries}
-use Rattle.vic_tree.specs.Ranges.{is_outside}
+use Rattle.vic_verdict.proofs.Words.{Entry, entries, is_outside}
 use Rattle.vic_verdict.specs.Stretches.{IsSettled}
 use Rattle.vic_verdict.proofs.Listing.{place_bound}
 use Rattle.vic_verdict.proofs.Settling.{IsWalked, walked_first, walked_as, walked_anew, settled_to}

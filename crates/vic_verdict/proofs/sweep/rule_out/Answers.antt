@@ -1,6 +1,5 @@
 use Rattle.std.proofs.Common.{◌≡◌, Bool, ◌&&◌, get_or, arith, sym, ap, ◌∙◌}
-use Rattle.vic_verdict.specs.declared.names.Name.{Name}
-use Rattle.vic_verdict.specs.Sweep.{level_leaves, mask_leaves, quiet_of}
+use Rattle.vic_verdict.proofs.Words.{Name, level_leaves, mask_leaves, quiet_of}
 use Rattle.vic_verdict.proofs.Sweeping.{nobody, ruled_first, ruled_more, ruled_all, outside_below, outside_above, inside}
 use Rattle.vic_verdict.proofs.sweep.rule_out.Goals as goal
 use Rattle.vic_verdict.proofs.sweep.rule_out.Goals.{then-name, else-name}
