@@ -1,9 +1,8 @@
-use Rattle.std.proofs.Common.{true, ◌≡◌, ℕ, ◌+◌, ◌-◌, ◌*◌, ◌^◌, ◌<◌, ◌∷◌, [], not, ◌&&◌, ◌||◌, ◌∙◌, Option, Some, None, ap, sym, subst, refl, arith, is_some, IfSome, nat_le, if◌then◌else◌, All}
-use Rattle.vic_verdict.proofs.Words.{and_from, All-push, KeyBlock, is_in_some_block, mirror, and_true, Spot, is_between, all_allow, all_allow_to, all_hear_named, first_of, heard_of, is_heard, is_named_if, is_quiet_by, last_of, spot_allows}
+use Rattle.std.proofs.Common.{true, ◌≡◌, ℕ, ◌+◌, ◌-◌, ◌*◌, ◌^◌, ◌<◌, ◌≤◌, ◌∷◌, [], not, ◌&&◌, ◌||◌, ◌∙◌, Option, Some, None, ap, sym, subst, refl, arith, is_some, IfSome, nat_le, if◌then◌else◌, All}
+use Rattle.vic_verdict.proofs.Words.{and_from, All-push, KeyBlock, is_in_some_block, mirror, and_true, Spot, is_between, all_allow, all_allow_to, all_hear_named, first_of, heard_of, is_heard, is_named_if, is_quiet_by, last_of, nat_tests, spot_allows}
 use Rattle.std.proofs.lemmas.List.Folds.{list_all-append}
 use Rattle.std.proofs.lemmas.Nat.{div-mul-add, mod-mul-add}
 use Rattle.vic_frame.specs.LowBitsFirst.{IsBlock}
-use Rattle.vic_verdict.proofs.Closing.{le_yes}
 use Rattle.vic_verdict.specs.Sweep.{HasRange, len_of, hears_named}
 use Rattle.vic_verdict.proofs.stretches.push_spot.Goals as goal
 use Rattle.vic_verdict.proofs.stretches.push_spot.Goals.{in-Some-heard, in-None}
@@ -11,6 +10,9 @@ use Rattle.vic_verdict.proofs.stretches.push_spot.Goals.{in-Some-heard, in-None}
 same_heard : (heard : Option ℕ) (key : ℕ) (b : _) → b ≡ is_some heard → ((k : ℕ) → heard ≡ Some k → key ≡ k) → (if b then Some key else None) ≡ heard
 same_heard None key b e h = rw e refl
 same_heard (Some k) key b e h = rw (e, h k refl) refl
+
+le_yes : (x y : ℕ) → x ≤ y → nat_le x y ≡ true
+le_yes x y e = grind (arith, nat_tests)
 
 one : (o : Option ℕ) (a b : ℕ) → o ≡ Some a → o ≡ Some b → a ≡ b
 one o a b e f = cc
