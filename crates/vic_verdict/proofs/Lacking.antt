@@ -1,6 +1,6 @@
 -- A slot that lacks the tags it requires contradicts the lines up to it, and up to the last one that may rule UIDs out.
 use Rattle.std.proofs.Common.{◌≡◌, ℕ, zero, suc, ◌+◌, ◌<◌, ◌≤◌, List, [], ◌∷◌, length, take, Bool, true, false, ◌&&◌, Option, Some, None, refl, sym, ap, ◌∙◌, subst, arith, add-one, ⊎_elim, slice_get, length-take-le}
-use Rattle.vic_verdict.proofs.Words.{cases_eq, slice_get_within, Entry, Sent, Silent, Collision, Heard, Listed, Garbled, FieldCycle, answers_at, Reading, NoReply, OneReply, ManyReplies, SomeReply, Slot, reading_of, slots_before, slots_of, is_open, Asks, AgreeBefore, answers_agree, IsContradictedAt, Lacks, rules_out, answering, and_true}
+use Rattle.vic_verdict.proofs.Words.{cases_eq, slice_get_within, Entry, Silent, Heard, answers_at, Reading, NoReply, OneReply, ManyReplies, SomeReply, Slot, reading_of, slots_before, slots_of, is_open, Asks, AgreeBefore, answers_agree, IsContradictedAt, Lacks, rules_out, answering, and_true}
 use Rattle.vic_log.specs.Slots.{with_entry}
 use Rattle.vic_verdict.specs.Possible.{NoneRulesOutAfter}
 use Rattle.vic_verdict.proofs.Entries.{EntryAsks, entry_allows, open_reading}
@@ -13,11 +13,11 @@ taken (suc n) (e ∷ es) zero h = refl
 taken (suc n) (e ∷ es) (suc j) h = taken n es j (omega (arith, h))
 
 -- an entry, if there is one, leaves the UIDs open that it allows
-abbrev place_allows : Option Entry → Bool → ℕ → Bool
+abbrev pub place_allows : Option Entry → Bool → ℕ → Bool
 place_allows None answers u = true
 place_allows (Some e) answers u = entry_allows (reading_of e) answers u
 
-open_place : (answers : ℕ → Bool) (o : Option Entry) (slots : List Slot) (u : ℕ) → is_open (with_entry answers o slots) u ≡ (is_open slots u && place_allows o (answers u) u)
+pub open_place : (answers : ℕ → Bool) (o : Option Entry) (slots : List Slot) (u : ℕ) → is_open (with_entry answers o slots) u ≡ (is_open slots u && place_allows o (answers u) u)
 open_place answers None slots u = sym (and_true (is_open slots u))
 open_place answers (Some e) slots u = open_reading answers e slots u
 
@@ -34,13 +34,9 @@ open_agrees (suc n) es fs u a =
 
 allows_all : (o : Option Entry) (b : Bool) (u : ℕ) → ((e : Entry) → o ≡ Some e → rules_out e ≡ false) → place_allows o b u ≡ true
 allows_all None b u h = refl
-allows_all (Some (Sent q)) b u h = refl
-allows_all (Some Collision) b u h = refl
-allows_all (Some (Listed v)) b u h = refl
-allows_all (Some Garbled) b u h = refl
-allows_all (Some FieldCycle) b u h = refl
 allows_all (Some Silent) b u h = let bad = h Silent refl in cc
 allows_all (Some (Heard r)) b u h = let bad = h (Heard r) refl in cc
+allows_all (Some e) b u h = refl
 
 -- after a position behind which none is ruled out the same UIDs are open
 open_settled : (es : List Entry) (c n : ℕ) (u : ℕ) → NoneRulesOutAfter es c → c < n → is_open (slots_before es n) u ≡ is_open (slots_before es (suc c)) u

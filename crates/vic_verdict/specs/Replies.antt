@@ -1,14 +1,11 @@
 -- Whether the UIDs that were heard could have answered.
-use Rattle.std.specs.Prelude.{◌≡◌, ◌⊎◌, ℕ, ◌<◌, ◌≤◌, ◌==◌, ◌&&◌, Bool, true, false, Some, List, slice_get, if◌then◌else◌}
-use Rattle.std.specs.List.{All, Any, list_any}
+use Rattle.std.specs.Prelude.{◌≡◌, ℕ, ◌<◌, ◌≤◌, ◌==◌, ◌&&◌, Bool, true, Some, List, slice_get, if◌then◌else◌}
+use Rattle.std.specs.List.{list_any}
 use Rattle.vic_frame.specs.Uids.{IsUid}
-use Rattle.vic_frame.specs.LowBitsFirst.{mirror}
 use Rattle.vic_frame.specs.Replies.{Reply}
 use Rattle.vic_log.specs.declared.entry.Entry.{Entry}
 use Rattle.vic_log.specs.declared.entry.Entry.TheVariants.{Heard}
-use Rattle.vic_log.specs.Rounds.{mask_at, lies_in_some}
 use Rattle.vic_log.specs.Populations.{answers_at}
-use Rattle.vic_log.specs.Quiet.{is_quiet}
 use Rattle.vic_verdict.specs.declared.names.Name.{Name}
 use Rattle.vic_verdict.specs.Sweep.{is_quiet_by}
 
@@ -39,30 +36,3 @@ pub record IsFirstQuietReply (ns : List Name) (end at : ℕ) : Type 0 where
   pub within : at ≤ end
   pub quiet : at < end → IsQuietReply ns at
   pub first : (i : ℕ) → IsQuietReply ns i → at ≤ i
-
--- the name is of a UID that was heard before position i, from a position on, in a slot of a mask
--- that it lies in
-pub record IsHeardAt (es : List Entry) (from i : ℕ) (n : Name) : Type 0 where
-  pub reply : Reply
-  pub heard : slice_get es n.at ≡ Some (Heard reply)
-  pub key : n.key ≡ mirror reply.uid
-  pub is_uid : IsUid reply.uid
-  pub inside : lies_in_some (mask_at es n.at) reply.uid ≡ true
-  pub since : from ≤ n.at
-  pub before : n.at < i
-
--- the name is of a reply at position j
-abbrev pub IsReplyAt : ℕ → Name → Type 0
-IsReplyAt j n = (n.at ≡ j) × (n.is_heard ≡ true)
-
--- the names of the entries from a position on, after the last field cycle, up to position i. They
--- show which UIDs are Quiet at each position since, and which were heard where; the UIDs heard
--- before answer
-pub record AreHeard (es : List Entry) (from i : ℕ) (ns : List Name) : Type 0 where
-  pub begun : from ≤ i
-  pub names : All (λ (n : Name). n.is_heard ≡ false → n.at < i) ns
-  pub quiet : (j u : ℕ) → from ≤ j → j ≤ i → IsUid u
-      → is_quiet_by ns (mirror u) j ≡ is_quiet es j u
-  pub replies : All (λ (n : Name). n.is_heard ≡ true → IsHeardAt es from i n) ns
-  pub answer : (j : ℕ) (r : Reply) → j < i → slice_get es j ≡ Some (Heard r)
-      → Answers es j r.uid ⊎ Any (IsReplyAt j) ns

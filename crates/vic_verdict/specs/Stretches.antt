@@ -1,68 +1,98 @@
--- What a judge has gathered at a position in a log since the last field cycle.
-use Rattle.std.specs.Prelude.{◌≡◌, ℕ, ◌<◌, ◌≤◌, Bool, true, false, not, ◌&&◌, ◌||◌, Option, List, length, take}
-use Rattle.std.specs.List.{All}
-use Rattle.vic_frame.specs.Uids.{IsUid}
+-- What the lines between two field cycles say: which UIDs they silence or hear, what their slots
+-- rule out, and what these require.
+use Rattle.std.specs.Prelude.{◌≡◌, ◌⊎◌, ℕ, zero, suc, ◌^◌, ◌<◌, ◌≤◌, Bool, true, false, Option, Some, None, List, [], ◌∷◌, ◌++◌, length, take, nat_le, slice_get, if◌then◌else◌}
+use Rattle.std.specs.List.{All, Any}
+use Rattle.vic_frame.specs.Uids.{IsUid, is_uid}
+use Rattle.vic_frame.specs.Replies.{Reply}
 use Rattle.vic_frame.specs.declared.low_bits_first.KeyBlock.{KeyBlock}
+use Rattle.vic_frame.specs.declared.request.Request.TheVariants.{StayQuiet}
 use Rattle.vic_frame.specs.LowBitsFirst.{is_in_some_block, mirror}
 use Rattle.vic_tree.specs.OpenSet.{SameUids}
 use Rattle.vic_tree.specs.Ranges.{is_outside}
 use Rattle.vic_log.specs.declared.entry.Entry.{Entry}
-use Rattle.vic_log.specs.Quiet.{is_quiet}
+use Rattle.vic_log.specs.declared.entry.Entry.TheVariants.{Sent, Silent, Heard}
 use Rattle.vic_log.specs.declared.entry.LogLine.{LogLine}
 use Rattle.vic_log.specs.Order.{entries}
-use Rattle.vic_log.specs.Slots.{slots_before, slots_of, is_open}
-use Rattle.vic_verdict.specs.Possible.{IsContradictedAt}
-use Rattle.vic_verdict.specs.Replies.{AreHeard, RepliesAnswer}
+use Rattle.vic_log.specs.Quiet.{wakes}
+use Rattle.vic_log.specs.Rounds.{mask_at, lies_in_some}
+use Rattle.vic_log.specs.Slots.{slots_of, is_open}
+use Rattle.vic_verdict.specs.Possible.{IsContradictedAt, rules_out}
+use Rattle.vic_verdict.specs.Replies.{RepliesAnswer}
 use Rattle.vic_verdict.specs.declared.names.Name.{Name}
 use Rattle.vic_verdict.specs.declared.closed.Spot.{Spot}
 use Rattle.vic_verdict.specs.declared.stretches.Settled.{Settled}
 use Rattle.vic_verdict.specs.declared.demands.Demand.{Demand}
 use Rattle.vic_verdict.specs.Demands.{AreAsked, AreKept}
-use Rattle.vic_verdict.specs.Sweep.{HasRange, HaveKeys, are_left, is_named_if, all_hear_named, is_quiet_by, is_heard, all_allow, all_allow_to}
+use Rattle.vic_verdict.specs.Sweep.{HasRange, heard_of, is_in}
 
--- a slot at a position, whose mask has these keys, allows the UID: it doesn't lie in the mask, is
--- Quiet there, or is the one that the slot heard, if it heard one
-abbrev pub is_allowed : List Name → Option KeyBlock → ℕ → Option ℕ → ℕ → Bool
-is_allowed ns keys at heard u =
-    not (is_in_some_block keys (mirror u))
-    || (is_quiet_by ns (mirror u) at || is_heard heard (mirror u))
+-- ---- the names
 
--- the list has one more slot, whose mask has these keys, unless no UID lies in it
-pub record AddsSpot (keys : Option KeyBlock) (at : ℕ) (heard : Option ℕ) (old new : List Spot)
-    : Type 0 where
-  pub ranges : All HasRange old → All HasRange new
-  pub before : (i : ℕ) → at < i
-      → All (λ (s : Spot). s.at < i) old → All (λ (s : Spot). s.at < i) new
-  pub named : (ns : List Name) → is_named_if ns heard ≡ true
-      → all_hear_named ns old ≡ true → all_hear_named ns new ≡ true
-  pub allow : (ns : List Name) (u : ℕ) → IsUid u
-      → all_allow ns new (mirror u)
-      ≡ (all_allow ns old (mirror u) && is_allowed ns keys at heard u)
-  pub kept : (ns : List Name) (i k : ℕ) → i ≤ at
-      → all_allow_to ns new i k ≡ all_allow_to ns old i k
+-- a name at a position that no slot has been looked at for
+abbrev pub name_at : ℕ → ℕ → Bool → Name
+name_at key at heard = record { key = key; at = at; is_heard = heard; left = true }
 
--- the names and the slots of the entries from a position on, after the last field cycle, up to
--- position i. Together with what a set leaves open they show what is open there, and at the
--- positions in between
-pub record TellsOpen (es : List Entry) (from i : ℕ) (set : ℕ → Bool) (ns : List Name)
-    (ss : List Spot) : Type 0 where
-  pub keys : HaveKeys ns
-  pub left : are_left ns ≡ true
-  pub ranges : All HasRange ss
-  pub named : all_hear_named ns ss ≡ true
-  pub slots : All (λ (s : Spot). s.at < i) ss
-  pub names : All (λ (n : Name). n.is_heard ≡ false → n.at < i) ns
-  pub quiet : (u : ℕ) → IsUid u → is_quiet_by ns (mirror u) i ≡ is_quiet es i u
-  pub uids : SameUids (λ u. set u && all_allow ns ss (mirror u)) (is_open (slots_before es i))
-  pub before : (j : ℕ) → from ≤ j → j < i
-      → SameUids (λ u. set u && all_allow_to ns ss j (mirror u)) (is_open (slots_before es j))
+-- the name of an entry at position i: that of the UID that it silences or hears
+abbrev pub names_at : Option Entry → ℕ → List Name
+names_at (Some (Sent (StayQuiet link uid))) i =
+    if is_uid uid then name_at (mirror uid) i false ∷ [] else []
+names_at (Some (Heard r)) i = name_at (mirror r.uid) i true ∷ []
+names_at (Some e) i = []
+names_at None i = []
 
--- all that is gathered from those entries: what is open by them, which UIDs were heard, and what
--- they require
-pub record HasGathered (es : List Entry) (from i : ℕ) (set : ℕ → Bool) (ns : List Name)
-    (ss : List Spot) (ds : List Demand) : Type 0 where
-  pub stretch : TellsOpen es from i set ns ss
-  pub heard : AreHeard es from i ns
+-- the names of the entries from a position on, up to position i
+abbrev pub names_from : List Entry → ℕ → ℕ → List Name
+names_from es from zero = []
+names_from es from (suc i) =
+    if nat_le from i then names_from es from i ++ names_at (slice_get es i) i else []
+
+-- ---- the slots that were silent, or in which one tag was heard
+
+-- the slot at a position, whose mask has these keys, which heard this key or none
+pub record IsSpotOf (keys : Option KeyBlock) (at : ℕ) (heard : Option ℕ) (s : Spot) : Type 0 where
+  pub place : s.at ≡ at
+  pub key : heard_of s ≡ heard
+  pub range : HasRange s
+  pub inside : (k : ℕ) → is_in s k ≡ is_in_some_block keys k
+
+-- the list has one more slot, unless no UID lies in its mask
+abbrev pub AddsSpot : Option KeyBlock → ℕ → Option ℕ → List Spot → List Spot → Type 0
+AddsSpot keys at heard old new =
+    ((keys ≡ None) × (new ≡ old))
+    ⊎ ((s : Spot) × (new ≡ old ++ s ∷ []) × IsSpotOf keys at heard s)
+
+-- the entry is a slot line that heard this key, or none
+abbrev pub HasRead : Option Entry → Option ℕ → Type 0
+HasRead e heard =
+    ((e ≡ Some Silent) × (heard ≡ None))
+    ⊎ ((r : Reply) × (e ≡ Some (Heard r)) × IsUid r.uid × (heard ≡ Some (mirror r.uid)))
+
+-- the slot is that of an entry from a position on, up to position i
+pub record IsSpot (es : List Entry) (from i : ℕ) (s : Spot) : Type 0 where
+  pub since : from ≤ s.at
+  pub before : s.at < i
+  pub read : HasRead (slice_get es s.at) (heard_of s)
+  pub range : HasRange s
+  pub inside : (u : ℕ) → IsUid u → is_in s (mirror u) ≡ lies_in_some (mask_at es s.at) u
+
+-- no UID lies in the mask at position i
+abbrev pub NobodyAt : List Entry → ℕ → Type 0
+NobodyAt es i = (u : ℕ) → IsUid u → lies_in_some (mask_at es i) u ≡ false
+
+-- ---- all of it
+
+-- what is gathered from the entries from a position on, up to position i, none of which is a field
+-- cycle: their names, their slots that may rule UIDs out, and what the others require
+pub record HasGathered (es : List Entry) (from i : ℕ) (ns : List Name) (ss : List Spot)
+    (ds : List Demand) : Type 0 where
+  pub begun : from ≤ i
+  pub small : from < i → i ≤ 2 ^ 32
+  pub awake : (j : ℕ) → from ≤ j → j < i → wakes (slice_get es j) ≡ false
+  pub names : ns ≡ names_from es from i
+  pub spots : All (IsSpot es from i) ss
+  pub read : (j : ℕ) (e : Entry) → from ≤ j → j < i → slice_get es j ≡ Some e
+      → rules_out e ≡ true → Any (λ (s : Spot). s.at ≡ j) ss ⊎ NobodyAt es j
+  pub inside : (j : ℕ) (r : Reply) → from ≤ j → j < i → slice_get es j ≡ Some (Heard r)
+      → IsUid r.uid × (lies_in_some (mask_at es j) r.uid ≡ true)
   pub asked : AreAsked es from i ds
 
 -- a set is what the first lines of a log leave open, and the UIDs heard there answer. The line

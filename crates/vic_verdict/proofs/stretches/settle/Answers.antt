@@ -4,6 +4,8 @@ use Rattle.vic_verdict.specs.Stretches.{IsSettled}
 use Rattle.vic_verdict.proofs.Listing.{place_bound}
 use Rattle.vic_verdict.proofs.Settling.{IsWalked, walked_first, walked_as, walked_anew, settled_to}
 use Rattle.vic_verdict.proofs.Stands.{entry_at}
+use Rattle.vic_verdict.proofs.Stretching.{gathered_settles}
+use Rattle.vic_verdict.specs.Sweep.{AreUnsettled}
 use Rattle.vic_verdict.proofs.stretches.settle.Goals as goal
 use Rattle.vic_verdict.proofs.stretches.settle.Goals.{in-FieldCycle+in_ok-cut+in_ok-keep_stretch+else-cut-index, in_default+in_ok-note_entry+else-not-branch}
 
@@ -17,6 +19,21 @@ loop-index-init c =
 
 pub note_entry-requires : goal.note_entry-requires
 note_entry-requires c = place_bound c.args.lines.now c.loop-index.index c.number-number.result c.index-lines-index.result c.requires.rising c.loop-index-test.true c.index-lines-index.is c.number-number.ensures c.number-number.type_inv
+
+pub settle_stretch-requires : goal.settle_stretch-requires
+settle_stretch-requires c = gathered_settles _ _ _ _ _ _ c.loop-index.invariant.walked.gathered
+
+pub settle_stretch-requires-then-not-branch : goal.settle_stretch-requires-then-not-branch
+settle_stretch-requires-then-not-branch c =
+    let none = c.in_ok-note_entry.ensures.none c.if-not-branch.true in
+    rw (none.0, none.1) (gathered_settles _ _ _ _ _ _ c.loop-index.invariant.walked.gathered)
+
+pub settle_stretch-requires-2 : goal.settle_stretch-requires-2
+settle_stretch-requires-2 c =
+    let past = c.loop-index-test.false in
+    let upto = c.loop-index.auto.index-end in
+    let end : c.loop-index.index ≡ length c.args.lines.now = omega arith in
+    subst (AreUnsettled c.loop-index.names.items c.loop-index.spots.items) end (gathered_settles _ _ _ _ _ _ c.loop-index.invariant.walked.gathered)
 
 pub loop-index-preserved : goal.loop-index-preserved
 loop-index-preserved c =
@@ -38,7 +55,10 @@ loop-index-preserved c =
             (ap (λ v. v.items) w.closed-is) (ap (λ v. v.items) w.stretches-is) (ap (λ v. v.items) w.names-is) (ap (λ v. v.items) w.spots-is) (ap (λ v. v.items) w.demands-is)
             (record {
               from = before.walked.from;
-              gathered = w.in_ok-note_entry.ensures.gathered es before.walked.from (is_outside l.closed.items) here c.requires.valid before.round w.in_default.not-FieldCycle w.if-not-branch.false before.walked.gathered;
+              gathered = w.in_ok-note_entry.ensures.gathered es before.walked.from here c.requires.valid before.round w.in_default.not-FieldCycle w.if-not-branch.false before.walked.gathered;
+              ready = before.walked.ready;
+              uids = before.walked.uids;
+              answer = before.walked.answer;
               kept = before.walked.kept;
             })
       ];
