@@ -1,6 +1,6 @@
 -- The names between two keys, and which keys some slots close.
 use Rattle.std.proofs.Common.{◌≡◌, ℕ, ◌+◌, ◌-◌, ◌<◌, ◌≤◌, ◌==◌, ◌++◌, List, [], ◌∷◌, length, take, drop, get_or, Bool, true, false, not, ◌&&◌, ◌||◌, refl, sym, ap, ◌∙◌, subst, arith, ⊎_elim, nat_le, nat_lt, All, eq-eqb, eqb-true, get_or-drop, get_or-take, length-drop, length-take-le, take-append-drop, take-take}
-use Rattle.vic_verdict.proofs.Words.{and_parts, and_from, cases_eq, cases_lt, false_from_ne_true, false≢true, nat_tests, get_or_default, list_any-append, list_any_at, list_any_more, Any-from_list_any, Name, in_ranges, is_between, Closes, is_in_some, Spot, AreInOrder, has_where, has_left, is_in, lt_yes, or_false}
+use Rattle.vic_verdict.proofs.Words.{and_parts, and_from, cases_eq, cases_lt, false_from_ne_true, false≢true, nat_tests, get_or_default, list_any-append, list_any_at, list_any_more, Any-from_list_any, Name, in_ranges, is_between, Closes, is_in_some, Spot, AreInOrder, has_where, has_left, is_in}
 use Rattle.std.proofs.lemmas.List.{drop-take}
 use Rattle.vic_verdict.proofs.Sweeping.{all_cover, between_parts, nobody, where_above, where_below}
 

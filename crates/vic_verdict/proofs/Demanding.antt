@@ -1,6 +1,6 @@
 -- What meets the demands of a stretch.
 use Rattle.std.proofs.Common.{◌≡◌, ℕ, zero, suc, ◌+◌, ◌<◌, ◌≤◌, ◌++◌, List, [], ◌∷◌, length, take, get_or, length-append, Bool, true, false, not, ◌&&◌, ◌||◌, cond, Option, Some, None, refl, sym, ap, ◌∙◌, subst, arith, inl, inr, ⊎_elim, ◌⊎◌, ◌==◌, IfSome, nat_lt, slice_get, All, Any, sum_by, IsPermutation, eq-eqb, eqb-true}
-use Rattle.vic_verdict.proofs.Words.{list_all, list_any, cases_eq, cases_lt, and_parts, and_from, or_left, or_right, both_ways, false≢true, nat_tests, slice_get_within, get_or_default, All-push, list_any-append, Any-from_list_any, All-permutation, list_any-IsPermutation, IsUid, is_uid, is_in_block, mirror, SameUids, UpToThree, Entry, Sent, Silent, Collision, Heard, Listed, Garbled, FieldCycle, mask_at, lies_in_some, is_quiet, answers_at, ManyReplies, SomeReply, slots_of, is_open, AgreeBefore, answers_agree, IsUid-from, lt_yes, lt_from, Demand, Found, Stretch, Name, Lacks, answering, AreInOrder, HaveKeys, is_quiet_by, ArePutInOrder, needs, needs_of, IsFoundAt, IsFound, IsDemandBy, AreFound, AreKept}
+use Rattle.vic_verdict.proofs.Words.{list_all, list_any, cases_eq, cases_lt, and_parts, and_from, or_left, or_right, false≢true, nat_tests, slice_get_within, get_or_default, All-push, list_any-append, Any-from_list_any, All-permutation, list_any-IsPermutation, IsUid, is_uid, is_in_block, mirror, SameUids, UpToThree, Entry, Collision, Garbled, mask_at, lies_in_some, is_quiet, answers_at, ManyReplies, SomeReply, slots_of, is_open, AgreeBefore, answers_agree, IsUid-from, lt_yes, lt_from, Demand, Found, Stretch, Name, Lacks, answering, AreInOrder, HaveKeys, is_quiet_by, ArePutInOrder, needs, needs_of, IsFoundAt, IsFound, IsDemandBy, AreFound, AreKept}
 use Rattle.std.proofs.lemmas.Option.{get_or_from_slice_get}
 use Rattle.std.proofs.lemmas.List.{get_or_append_left}
 use Rattle.std.proofs.lemmas.List.Elements.{All-filter, filter_passes}
@@ -46,9 +46,7 @@ meets_there es i f h = record { need = h.need; answer = h.uids.members }
 
 -- what the next demand of the same mask is met by meets this one too
 not_later : (b c : Bool) → (c ≡ true → b ≡ true) → not b ≡ true → not c ≡ true
-not_later true true f e = e
-not_later false true f e = f refl
-not_later b false f e = refl
+not_later b c f e = grind (arith, f)
 
 pub meets_again : (es : List Entry) (ns : List Name) (d next : Demand) (f : Found) → IsDemandBy es ns d → IsDemandBy es ns next → IsImpliedBy d next → Meets es f next.at → Meets es f d.at
 meets_again es ns d next f h g said m = record {
@@ -68,11 +66,7 @@ pub asked_two_or_one : (o : Option Entry) (n : ℕ) → needs_of o ≡ n → 0 <
 asked_two_or_one None n e lt = absurd (omega (arith, e, lt))
 asked_two_or_one (Some Collision) n e lt = inl (refl, sym e)
 asked_two_or_one (Some Garbled) n e lt = inr (refl, sym e)
-asked_two_or_one (Some Silent) n e lt = absurd (omega (arith, e, lt))
-asked_two_or_one (Some (Heard r)) n e lt = absurd (omega (arith, e, lt))
-asked_two_or_one (Some (Sent q)) n e lt = absurd (omega (arith, e, lt))
-asked_two_or_one (Some (Listed u)) n e lt = absurd (omega (arith, e, lt))
-asked_two_or_one (Some FieldCycle) n e lt = absurd (omega (arith, e, lt))
+asked_two_or_one (Some x) n e lt = absurd (omega (arith, e, lt))
 
 lacks_by : (es : List Entry) (set : ℕ → Bool) (ns : List Name) (d : Demand) (us : List ℕ) → SameUids set (is_open (slots_of es)) → IsDemandBy es ns d → UpToThree (ready_of set ns d) us → length us < d.need → Lacks es d.at
 lacks_by es set ns d us same h found few =
@@ -331,12 +325,11 @@ kept_agree es fs i cut s agree le h = record {
 -- a demand of a position before the cut is one of those up to it
 asked_to : (cut j : ℕ) (ds : List Demand) → j < cut → is_asked (demands_to cut ds) j ≡ is_asked ds j
 asked_to cut j [] below = refl
-asked_to cut j (d ∷ ds) below = go (nat_lt d.at cut) (d.at == j) refl refl (asked_to cut j ds below)
+asked_to cut j (d ∷ ds) below = go (nat_lt d.at cut) refl (asked_to cut j ds below)
   where
-    go : (b c : Bool) → nat_lt d.at cut ≡ b → (d.at == j) ≡ c → is_asked (demands_to cut ds) j ≡ is_asked ds j → is_asked (cond b (d ∷ demands_to cut ds) (demands_to cut ds)) j ≡ (c || is_asked ds j)
-    go true c e f rest = ap (λ x. x || is_asked (demands_to cut ds) j) f ∙ ap (λ x. c || x) rest
-    go false true e f rest = absurd (let at = eqb-true d.at j f in let late = lt_yes d.at cut (omega (arith, at, below)) in both_ways _ e late)
-    go false false e f rest = rest
+    go : (b : Bool) → nat_lt d.at cut ≡ b → is_asked (demands_to cut ds) j ≡ is_asked ds j → is_asked (cond b (d ∷ demands_to cut ds) (demands_to cut ds)) j ≡ ((d.at == j) || is_asked ds j)
+    go true e rest = grind arith
+    go false e rest = grind (arith, nat_tests)
 
 -- the demands of a stretch up to a cut are kept
 pub kept_to : (es fs : List Entry) (from i cut : ℕ) (ns ms : List Name) (ds : List Demand) (old new : List Stretch) → AgreeBefore cut fs es → from ≤ cut → cut ≤ i → HaveKeys ns → ((j u : ℕ) → from ≤ j → j ≤ i → IsUid u → is_quiet_by ns (mirror u) j ≡ is_quiet es j u) → ArePutInOrder ns ms → Keeps ms ds cut old new → AreAsked es from i ds → AreKept es from old → AreKept fs cut new

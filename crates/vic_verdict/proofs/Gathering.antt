@@ -1,6 +1,6 @@
 -- A small population, gathered from what the slots of a possible log ask for.
-use Rattle.std.proofs.Common.{◌≡◌, ℕ, zero, suc, ◌+◌, ◌<◌, ◌≤◌, List, [], ◌∷◌, ◌++◌, length, take, get_or, Bool, true, false, ◌||◌, Option, Some, None, refl, sym, ap, ◌∙◌, subst, arith, inl, inr, ⊎_elim, length-append, ◌⊎◌, ◌==◌, nat_eq, slice_get, filter, All, sum_by, eq-eqb, ne_eqb, length-take}
-use Rattle.vic_verdict.proofs.Words.{IsStrictlyIncreasing, both_ways, false≢true, and_parts, and_from, or_cases, or_left, or_right, false_from_ne_true, cases_eq, not-true, not_from_false, list_any-append, slice_get_within, IsUid, has, AreDifferent, Entry, Sent, Silent, Collision, Heard, Listed, Garbled, FieldCycle, IsPopulation, CouldHaveGiven, answers_at, Reading, ManyReplies, SomeReply, reading_of, slots_of, is_open, Asks, IsWithin, AreDifferent-population, AreDifferent-filter, has_filter, has_here, has_at, has_there, has_cases, MeetsAll-iff, IsUid-from, CouldHaveGiven-slots, Found, Met, needs_of, IsFoundAt, IsFound, IsMet, is_other, chosen, gathered, answering, IsPossible, IsCertainUid, SameMembers}
+use Rattle.std.proofs.Common.{take-append-drop, drop, ◌≡◌, ℕ, zero, suc, ◌+◌, ◌<◌, ◌≤◌, List, [], ◌∷◌, ◌++◌, length, take, get_or, Bool, true, false, ◌||◌, Option, Some, None, refl, sym, ap, ◌∙◌, subst, arith, inl, inr, ⊎_elim, length-append, ◌⊎◌, ◌==◌, nat_eq, slice_get, filter, All, sum_by, eq-eqb, ne_eqb, length-take}
+use Rattle.vic_verdict.proofs.Words.{cases_Bool, IsStrictlyIncreasing, both_ways, false≢true, and_parts, and_from, or_cases, or_left, or_right, false_from_ne_true, cases_eq, not-true, not_from_false, list_any-append, slice_get_within, IsUid, has, AreDifferent, Entry, Collision, Heard, Garbled, IsPopulation, CouldHaveGiven, answers_at, Reading, ManyReplies, SomeReply, reading_of, slots_of, is_open, Asks, IsWithin, AreDifferent-population, AreDifferent-filter, has_filter, has_here, has_at, has_there, has_cases, MeetsAll-iff, IsUid-from, CouldHaveGiven-slots, Found, Met, needs_of, IsFoundAt, IsFound, IsMet, is_other, chosen, gathered, answering, IsPossible, IsCertainUid, SameMembers}
 use Rattle.std.proofs.lemmas.List.Kept.{AllPairs-from_increasing}
 use Rattle.std.proofs.lemmas.List.Sums.{sum_by-cons}
 use Rattle.vic_log.proofs.Supply.{asks_within}
@@ -73,10 +73,7 @@ append_right xs ys u h = has_append xs ys u ∙ or_right _ _ h
 -- ---- what is chosen
 
 has_take : (n : ℕ) (xs : List ℕ) (u : ℕ) → has (take n xs) u ≡ true → has xs u ≡ true
-has_take zero xs u h = absurd (false≢true h)
-has_take (suc n) [] u h = h
-has_take (suc n) (x ∷ xs) u h =
-    ⊎_elim (λ e. has_at u x xs e) (λ k. has_there u x xs (has_take n xs u k)) (has_cases u x (take n xs) h)
+has_take n xs u h = ap (λ ys. has ys u) (sym (take-append-drop n xs)) ∙ append_left (take n xs) (drop n xs) u h
 
 chosen_parts : (avoid : Option ℕ) (f : Found) (u : ℕ) → has (chosen avoid f) u ≡ true → (has f.uids.items u ≡ true) × (is_other avoid u ≡ true)
 chosen_parts avoid f u h =
@@ -142,10 +139,6 @@ others_but_one a (x ∷ xs) d =
 abbrev IsSpared : Option ℕ → List ℕ → ℕ → Type 0
 IsSpared avoid xs n = (a : ℕ) → avoid ≡ Some a → length xs ≡ n → has xs a ≡ true → ⊥
 
-true_or_false : (b : Bool) → (b ≡ true) ⊎ (b ≡ false)
-true_or_false true = inl refl
-true_or_false false = inr refl
-
 enough_others : (avoid : Option ℕ) (xs : List ℕ) (n : ℕ) → AreDifferent xs → n ≤ length xs → IsSpared avoid xs n → n ≤ length (filter (is_other avoid) xs)
 enough_others None xs n d h spared =
     let e = ap (λ ys. length ys) (filter_all (is_other None) xs (λ u m. refl)) in omega arith
@@ -158,7 +151,7 @@ enough_others (Some a) xs n d h spared =
     (λ out.
     let e = ap (λ ys. length ys) (filter_all (is_other (Some a)) xs (λ u m. is_other-from a u (λ k. both_ways _ out (subst (λ z. has xs z ≡ true) k m)))) in
     omega arith)
-    (true_or_false (has xs a))
+    (cases_Bool (has xs a))
 
 two_of : (xs : List ℕ) → AreDifferent xs → 2 ≤ length xs → Asks ManyReplies (has (take 2 xs))
 two_of [] d h = absurd (omega arith)
@@ -196,11 +189,7 @@ spared_at es i f avoid (Some Collision) k n h a is long m =
 spared_at es i f avoid (Some Garbled) k n h a is long m =
     let need : 1 ≡ f.need = ap needs_of (sym k) ∙ h.need in
     n a is (certain_there es i Garbled a k ((forces_one_iff _ f.uids.items a h.uids).1 (long ∙ sym need, m)))
-spared_at es i f avoid (Some Silent) k n h a is long m = let need = ap needs_of (sym k) ∙ h.need in let some = h.asked in absurd (omega arith)
-spared_at es i f avoid (Some (Heard r)) k n h a is long m = let need = ap needs_of (sym k) ∙ h.need in let some = h.asked in absurd (omega arith)
-spared_at es i f avoid (Some (Sent q)) k n h a is long m = let need = ap needs_of (sym k) ∙ h.need in let some = h.asked in absurd (omega arith)
-spared_at es i f avoid (Some (Listed u)) k n h a is long m = let need = ap needs_of (sym k) ∙ h.need in let some = h.asked in absurd (omega arith)
-spared_at es i f avoid (Some FieldCycle) k n h a is long m = let need = ap needs_of (sym k) ∙ h.need in let some = h.asked in absurd (omega arith)
+spared_at es i f avoid (Some e) k n h a is long m = let need = ap needs_of (sym k) ∙ h.need in let some = h.asked in absurd (omega arith)
 
 -- so there are enough others
 found_others : (es : List Entry) (f : Found) (avoid : Option ℕ) → AvoidsNoneCertain es avoid → IsFound es f → AreDifferent (filter (is_other avoid) f.uids.items) × (f.need ≤ length (filter (is_other avoid) f.uids.items))
@@ -268,10 +257,6 @@ asked_there es m avoid i n e k is some none met =
     )
 
 gathered_asks : (es : List Entry) (m : Met) (avoid : Option ℕ) → IsPossible es → AvoidsNoneCertain es avoid → IsMet es m → (i : ℕ) (e : Entry) → slice_get es i ≡ Some e → EntryAsks (reading_of e) (answering (has (gathered avoid m)) es i)
-gathered_asks es m avoid possible none met i Silent k = tt
-gathered_asks es m avoid possible none met i (Sent q) k = tt
-gathered_asks es m avoid possible none met i (Listed u) k = tt
-gathered_asks es m avoid possible none met i FieldCycle k = tt
 gathered_asks es m avoid possible none met i (Heard r) k =
     let member = append_left m.heard.items (all_chosen avoid m.found.items) r.uid ((met.heard r.uid).1 (i, r, k, refl)) in
     and_from _ _ member (and_parts _ _ (supplied_each es i (Heard r) k possible)).1
@@ -281,6 +266,7 @@ gathered_asks es m avoid possible none met i Collision k =
 gathered_asks es m avoid possible none met i Garbled k =
     let w = asked_there es m avoid i 1 Garbled k refl (omega arith) none met in
     asks_within SomeReply _ _ w.3 (one_of w.0 w.2)
+gathered_asks es m avoid possible none met i e k = tt
 
 -- a population that could have produced the entries, with no member to spare
 pub record IsGathered (es : List Entry) (us : List ℕ) : Type 0 where

@@ -1,15 +1,10 @@
 -- The UIDs that a log lists, line by line.
 use Rattle.std.proofs.Common.{◌≡◌, ℕ, zero, suc, ◌<◌, ◌+◌, List, [], ◌∷◌, ◌++◌, Some, take, refl, sym, ap, ◌∙◌, arith, append_assoc, length, get_or, ◌^◌, slice_get}
-use Rattle.vic_verdict.proofs.Words.{slice_get_read, Entry, Sent, Silent, Collision, Heard, Listed, Garbled, FieldCycle, LogLine, entries, listed, IsRisingFrom}
+use Rattle.vic_verdict.proofs.Words.{slice_get_read, Entry, Listed, LogLine, entries, listed, IsRisingFrom}
 
 listed_cons : (e : Entry) (es : List Entry) → listed (e ∷ es) ≡ listed (e ∷ []) ++ listed es
-listed_cons (Sent q) es = refl
-listed_cons Silent es = refl
-listed_cons Collision es = refl
-listed_cons (Heard r) es = refl
 listed_cons (Listed u) es = refl
-listed_cons Garbled es = refl
-listed_cons FieldCycle es = refl
+listed_cons e es = refl
 
 -- one line more
 pub listed_more : (lines : List LogLine) (i : ℕ) (l : LogLine) → slice_get lines i ≡ Some l → listed (entries (take (suc i) lines)) ≡ listed (entries (take i lines)) ++ listed (l.item ∷ [])

@@ -1,6 +1,6 @@
 -- What is met makes a log possible, and UIDs certain.
-use Rattle.std.proofs.Common.{◌≡◌, ℕ, zero, suc, ◌+◌, ◌<◌, ◌≤◌, ◌++◌, List, [], ◌∷◌, length, get_or, Bool, true, false, ◌&&◌, Some, refl, sym, ap, ◌∙◌, subst, arith, inl, inr, ⊎_elim, ◌⊎◌, ◌↔◌, nat_eq, slice_get, Any}
-use Rattle.vic_verdict.proofs.Words.{list_all, cases_Bool, cases_eq, cases_lt, and_parts, and_from, both_ways, false≢true, or_cases, or_left, or_right, slice_get_within, get_or_default, list_any-append, is_uid, has, AreDifferent, Reply, SameUids, Entry, Sent, Silent, Collision, Heard, Listed, Garbled, FieldCycle, answers_at, OneReply, ManyReplies, SomeReply, reading_of, slots_before, slots_of, is_open, Asks, Forces, IsForcedBy, IsUid-from, has_here, has_at, has_there, has_cases, Found, Met, IsPossible, Lacks, answering, needs_of, HasHeard, IsFoundAt, IsFound, AreFound, IsMet}
+use Rattle.std.proofs.Common.{eqb-true, ◌≡◌, ℕ, zero, suc, ◌+◌, ◌<◌, ◌≤◌, ◌++◌, List, [], ◌∷◌, length, get_or, Bool, true, false, ◌&&◌, Some, refl, sym, ap, ◌∙◌, subst, arith, inl, inr, ⊎_elim, ◌⊎◌, ◌↔◌, nat_eq, slice_get, Any}
+use Rattle.vic_verdict.proofs.Words.{list_all, cases_Bool, cases_eq, cases_lt, and_parts, and_from, both_ways, false≢true, or_cases, or_left, or_right, slice_get_within, get_or_default, list_any-append, is_uid, has, AreDifferent, Reply, SameUids, Entry, Collision, Heard, Garbled, answers_at, OneReply, ManyReplies, SomeReply, reading_of, slots_before, slots_of, is_open, Asks, Forces, IsForcedBy, IsUid-from, has_here, has_at, has_there, has_cases, Found, Met, IsPossible, Lacks, answering, needs_of, HasHeard, IsFoundAt, IsFound, AreFound, IsMet}
 use Rattle.vic_verdict.specs.Possible.{NoneRulesOutAfter}
 use Rattle.vic_verdict.specs.Replies.{RepliesAnswer}
 use Rattle.vic_verdict.specs.Demands.{needs_at, Meets}
@@ -11,7 +11,7 @@ use Rattle.vic_verdict.proofs.Supplied.{supplied_all}
 
 -- ---- who was heard
 
-has_pushed : (us : List ℕ) (v u : ℕ) → has (us ++ v ∷ []) u ≡ true → (has us u ≡ true) ⊎ (u ≡ v)
+pub has_pushed : (us : List ℕ) (v u : ℕ) → has (us ++ v ∷ []) u ≡ true → (has us u ≡ true) ⊎ (u ≡ v)
 has_pushed us v u h =
     ⊎_elim (λ a. inl a) (λ b. ⊎_elim (λ e. inr e) (λ n. absurd (false≢true n)) (has_cases u v [] b)) (or_cases _ _ (sym (list_any-append (nat_eq u) us (v ∷ [])) ∙ h))
 
@@ -54,9 +54,7 @@ heard_pushed es i us vs r v k is all h = subst (HasHeard es (i + 1)) (sym all) (
 
 all_has : (p : ℕ → Bool) (us : List ℕ) (u : ℕ) → list_all p us ≡ true → has us u ≡ true → p u ≡ true
 all_has p [] u h k = absurd (false≢true k)
-all_has p (x ∷ us) u h k =
-    let w = and_parts _ _ h in
-    ⊎_elim (λ e. subst (λ y. p y ≡ true) (sym e) w.0) (λ m. all_has p us u w.1 m) (has_cases u x us k)
+all_has p (x ∷ us) u h k = let same = eqb-true u x in grind (arith, all_has p us u)
 
 not_all : (p : ℕ → Bool) (us : List ℕ) → list_all p us ≡ false → (u : ℕ) × (has us u ≡ true) × (p u ≡ false)
 not_all p [] h = absurd (both_ways _ h refl)
@@ -120,10 +118,6 @@ pub met_is_possible : (es : List Entry) (set : ℕ → Bool) (us : List ℕ) (fs
 met_is_possible es set us fs n replies same heard long all found = supplied_all es (λ i e below k. go i e k)
   where
     go : (i : ℕ) (e : Entry) → slice_get es i ≡ Some e → EntryAsks (reading_of e) (answering (is_open (slots_of es)) es i)
-    go i (Sent q) k = tt
-    go i (Listed u) k = tt
-    go i FieldCycle k = tt
-    go i Silent k = tt
     go i (Heard r) k =
         let a = replies i r k in
         let within = slice_get_within es i (Heard r) k in
@@ -135,6 +129,7 @@ met_is_possible es set us fs n replies same heard long all found = supplied_all 
     go i Garbled k =
         let m = met_by es fs i 1 found (ap needs_of k) (omega arith) in
         one_of (answering (is_open (slots_of es)) es i) m.uids m.answer m.enough
+    go i e k = tt
 
 pub is_met : (es : List Entry) (m : Met) (n : ℕ) → HasHeard es n m.heard.items → length es ≤ n → AreFound es m.found.items → IsMet es m
 is_met es m n heard long found = record {
@@ -260,7 +255,4 @@ certain_all es m us k long met h u = (
   back i (Heard r) k f = h.kept u ((met.heard u).1 (i, r, k, f))
   back i Collision k f = exact i 2 (ap needs_of k) (omega arith) (λ xs d a n. two_exact _ xs u d a n f)
   back i Garbled k f = exact i 1 (ap needs_of k) (omega arith) (λ xs d a n. one_exact _ xs u d a n f)
-  back i Silent k f = absurd f
-  back i (Sent q) k f = absurd f
-  back i (Listed v) k f = absurd f
-  back i FieldCycle k f = absurd f
+  back i e k f = absurd f

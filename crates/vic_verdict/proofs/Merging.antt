@@ -1,7 +1,7 @@
 -- Rising lists of numbers that are gone over side by side.
 use Rattle.std.proofs.Common.{◌≡◌, ℕ, ◌+◌, ◌<◌, ◌≤◌, ◌==◌, List, length, get_or, false, sym, ◌∙◌, arith, ⊎_elim, eq-eqb, ne_eqb}
-use Rattle.vic_verdict.proofs.Words.{IsStrictlyIncreasing, false_from_ne_true, cases_eq, cases_lt, has, AreBelow}
-use Rattle.vic_verdict.proofs.Failing.{any_default, member_at, place_of}
+use Rattle.vic_verdict.proofs.Words.{get_or_default, IsStrictlyIncreasing, false_from_ne_true, cases_eq, cases_lt, has, AreBelow}
+use Rattle.vic_verdict.proofs.Failing.{member_at, place_of}
 use Rattle.vic_verdict.proofs.Inserted.{rising_order}
 use Rattle.vic_verdict.specs.Merging.{IsPlaceOf}
 
@@ -22,7 +22,7 @@ lacks us n u rising place other = false_from_ne_true _ (λ e.
 
 pub is_here : (us : List ℕ) (n u x : ℕ) → IsStrictlyIncreasing us → IsPlaceOf us n u → n < length us → x ≡ get_or us n x → (x == u) ≡ has us u
 is_here us n u x rising place within is =
-    let here : get_or us n 0 ≡ x = any_default us n 0 x within ∙ sym is in
+    let here : get_or us n 0 ≡ x = get_or_default us n 0 x within ∙ sym is in
     ⊎_elim
     (λ e. eq-eqb x u e ∙ sym (member_at us n u 0 within (here ∙ e)))
     (λ ne. ne_eqb x u ne ∙ sym (lacks us n u rising place (λ _ e. ne (sym here ∙ e))))
@@ -35,6 +35,6 @@ is_past us n u rising place past = lacks us n u rising place (λ short _. omega 
 pub below_next : (us vs : List ℕ) (i n u : ℕ) → IsStrictlyIncreasing us → i + 1 < length us → u ≡ get_or us i u → AreBelow vs n u → AreBelow vs n (get_or us (i + 1) 0)
 below_next us vs i n u rising short is below k lt =
     let less = below k lt in
-    let here : get_or us i 0 ≡ u = any_default us i 0 u (omega (arith, short)) ∙ sym is in
+    let here : get_or us i 0 ≡ u = get_or_default us i 0 u (omega (arith, short)) ∙ sym is in
     let up = rising i short in
     omega (arith, less, here, up)

@@ -1,9 +1,9 @@
 -- Whether somebody was heard while Quiet, by names in the order of their keys.
-use Rattle.std.proofs.Common.{◌≡◌, ℕ, ◌+◌, ◌-◌, ◌<◌, ◌≤◌, ◌==◌, List, length, get_or, [], ◌∷◌, Bool, true, ◌&&◌, ◌||◌, refl, sym, ap, ◌∙◌, subst, arith, ⊎_elim, ◌⊎◌, nat_lt, eq-eqb, eqb-true, All}
-use Rattle.vic_verdict.proofs.Words.{cases_eq, and_parts, and_from, list_any, get_or_default, All-head, All-tail, list_any_at, Any-from_list_any, Name, NEVER, reply_place, IsFirstQuietReply, is_between, quiet_of, is_quiet_by, has_where, AreInOrder, lt_from, lt_yes}
+use Rattle.std.proofs.Common.{◌≡◌, ℕ, ◌+◌, ◌-◌, ◌<◌, ◌≤◌, ◌==◌, List, length, get_or, [], ◌∷◌, Bool, true, ◌&&◌, refl, sym, ap, ◌∙◌, subst, arith, ⊎_elim, ◌⊎◌, nat_lt, eq-eqb, eqb-true, All}
+use Rattle.vic_verdict.proofs.Words.{nat_tests, cases_eq, and_parts, and_from, list_any, get_or_default, All-head, All-tail, list_any_at, Any-from_list_any, Name, NEVER, reply_place, IsFirstQuietReply, is_between, quiet_of, is_quiet_by, has_where, AreInOrder, lt_from, lt_yes}
 use Rattle.vic_verdict.specs.Replies.{is_quiet_reply, IsQuietReply}
 use Rattle.vic_verdict.proofs.Closing.{between_from}
-use Rattle.vic_verdict.proofs.Sweeping.{nobody, between_parts}
+use Rattle.vic_verdict.proofs.Sweeping.{nobody}
 
 -- the name at a position of a list
 abbrev pub at : List Name → ℕ → Name
@@ -17,11 +17,9 @@ TellsFrom ns k quiet = (i : ℕ) → i ≤ NEVER → is_quiet_by ns (at ns k).ke
 pub quiet_own : (own : List Name) (key i : ℕ) → All (λ (n : Name). is_between key key n.key ≡ true) own → is_quiet_by own key i ≡ list_any (λ (n : Name). nat_lt (quiet_of n) i) own
 quiet_own [] key i inside = refl
 quiet_own (n ∷ own) key i inside =
-    let parts = between_parts key key n.key (All-head (λ (m : Name). is_between key key m.key ≡ true) n own inside) in
-    let from = parts.0 in
-    let to = parts.1 in
-    ap (λ b. (b && nat_lt (quiet_of n) i) || is_quiet_by own key i) (eq-eqb n.key key (omega (arith, from, to)))
-    ∙ ap (λ b. nat_lt (quiet_of n) i || b) (quiet_own own key i (All-tail (λ (m : Name). is_between key key m.key ≡ true) n own inside))
+    let here = All-head (λ (m : Name). is_between key key m.key ≡ true) n own inside in
+    let rest = quiet_own own key i (All-tail (λ (m : Name). is_between key key m.key ≡ true) n own inside) in
+    grind (arith, nat_tests)
 
 pub tells_own : (ns own : List Name) (key quiet i : ℕ) → All (λ (n : Name). is_between key key n.key ≡ true) own → ((test : Name → Bool) (k : ℕ) → is_between key key k ≡ true → has_where test own k ≡ has_where test ns k) → nat_lt quiet i ≡ list_any (λ (n : Name). nat_lt (quiet_of n) i) own → is_quiet_by ns key i ≡ nat_lt quiet i
 tells_own ns own key quiet i inside all first =

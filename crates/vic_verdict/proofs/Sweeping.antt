@@ -1,6 +1,6 @@
 -- What the slots between two field cycles leave, name by name.
 use Rattle.std.proofs.Common.{◌≡◌, ℕ, zero, suc, ◌+◌, ◌-◌, ◌<◌, ◌≤◌, ◌==◌, List, [], ◌∷◌, length, take, filter, cond, get_or, set, Bool, true, false, not, ◌&&◌, ◌||◌, Option, Some, None, refl, sym, ap, ◌∙◌, subst, arith, add-one, ◌++◌, inl, inr, ⊎_elim, ◌^◌, nat_le, nat_lt, All, ne_eqb, eqb-true, ext_get_or, get_or-set_same, get_or-set_other, length-set, take_all, IsPermutation}
-use Rattle.vic_verdict.proofs.Words.{list_all, list_any, cases_eq, cases_lt, false≢true, and_parts, and_from, or_cases, or_left, or_right, nat_tests, get_or-map, get_or_default, All-head, All-tail, list_any_more, Name, Spot, Run, is_between, quiet_of, first_of, last_of, heard_of, is_heard, is_in, all_leave, level_leaves, mask_leaves, run_leaves, keep_all, has_where, has_left, is_quiet_by, spot_allows, all_allow, all_allow_to, is_named, is_named_if, all_hear_named, AreInOrder, HaveKeys, list_any-IsPermutation, and_true, lt_from, lt_yes, or_false}
+use Rattle.vic_verdict.proofs.Words.{list_all, list_any, cases_eq, cases_lt, false≢true, and_parts, and_from, or_cases, or_left, or_right, nat_tests, get_or-map, get_or_default, All-head, All-tail, list_any_more, Name, Spot, Run, is_between, quiet_of, first_of, last_of, heard_of, is_heard, is_in, all_leave, level_leaves, mask_leaves, run_leaves, keep_all, has_where, has_left, is_quiet_by, spot_allows, all_allow, all_allow_to, is_named, is_named_if, all_hear_named, AreInOrder, HaveKeys, list_any-IsPermutation, and_true, lt_yes, or_false}
 use Rattle.std.proofs.lemmas.List.Folds.{list_all_more}
 use Rattle.vic_verdict.specs.declared.sweep.Level.{Level}
 use Rattle.vic_verdict.specs.Sweep.{slot_leaves, spot_leaves, keep, hears_named, are_left, IsStart}
