@@ -32,7 +32,8 @@ IsUnnamed set ns m = UpToThree (is_unnamed set ns m.first m.last) m.uids.items
 
 -- the list has those keys of the block that have a name
 abbrev pub HasNamedIn : List Name → KeyBlock → List ℕ → Type 0
-HasNamedIn ns b keys = (k : ℕ) → is_in_block b.first b.len k ≡ true → has keys k ≡ is_named ns k
+HasNamedIn ns b keys =
+    (k : ℕ) → is_in_block b.first b.len k ≡ true → has keys k ≡ is_named ns k
 
 -- the UID is in the list, and has a key from `first` to `last`
 abbrev pub HasInside : List ℕ → ℕ → ℕ → ℕ → Type 0

@@ -48,7 +48,8 @@ names_from es from (suc i) =
 -- ---- the slots that were silent, or in which one tag was heard
 
 -- the slot at a position, whose mask has these keys, which heard this key or none
-pub record IsSpotOf (keys : Option KeyBlock) (at : ℕ) (heard : Option ℕ) (s : Spot) : Type 0 where
+pub record IsSpotOf (keys : Option KeyBlock) (at : ℕ) (heard : Option ℕ) (s : Spot)
+    : Type 0 where
   pub place : s.at ≡ at
   pub key : heard_of s ≡ heard
   pub range : HasRange s

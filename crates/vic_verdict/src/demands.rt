@@ -172,8 +172,8 @@ fn answering<S: OpenSet>(
     up_to_three_answering(alloc, set, names, known, near, &block, from, demand.at)
 }
 
-/// The position of the first of some slots. No answer rests on it: it says from where on it is worth
-/// knowing who answers.
+/// The position of the first of some slots. No answer rests on it: it says from where on it is
+/// worth knowing who answers.
 fn first_place(demands: &[Demand]) -> usize {
     let mut first = usize::MAX;
     for demand in demands {
