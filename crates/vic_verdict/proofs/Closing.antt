@@ -13,14 +13,14 @@ between_from first last k a b = grind (arith, nat_tests)
 pub part_between : (ns : List Name) (first last s m : ℕ) → s + m ≤ length ns → ((j : ℕ) → s ≤ j → j < length ns → first ≤ (get_or ns j nobody).key) → ((j : ℕ) → j < m → (get_or (drop s ns) j nobody).key ≤ last) → All (λ (n : Name). is_between first last n.key ≡ true) (take m (drop s ns))
 part_between ns first last s m within low high k d below =
     let rest = length-drop s ns in
-    let long = length-take-le m (drop s ns) (omega (arith, rest, within)) in
-    let lt : k < m = omega (arith, below, long) in
-    let here : get_or (drop s ns) k d ≡ get_or (drop s ns) k nobody = get_or_default (drop s ns) k d nobody (omega (arith, lt, rest, within)) in
+    let long = length-take-le m (drop s ns) (omega arith) in
+    let lt : k < m = omega arith in
+    let here : get_or (drop s ns) k d ≡ get_or (drop s ns) k nobody = get_or_default (drop s ns) k d nobody (omega arith) in
     let upto = high k lt in
-    let from = low (s + k) (omega arith) (omega (arith, lt, within)) in
+    let from = low (s + k) (omega arith) (omega arith) in
     let there : (get_or (drop s ns) k nobody).key ≡ (get_or ns (s + k) nobody).key = ap (λ (n : Name). n.key) (get_or-drop s ns k nobody) in
     ap (λ (n : Name). is_between first last n.key) (get_or-take m (drop s ns) k d lt ∙ here)
-    ∙ between_from first last _ (omega (arith, from, there)) upto
+    ∙ between_from first last _ (omega arith) upto
 
 -- and all that do are among them
 pub part_where : (ns : List Name) (first last s m : ℕ) → s + m ≤ length ns → ((j : ℕ) → j < s → (get_or ns j nobody).key < first) → ((j : ℕ) → s + m ≤ j → j < length ns → last < (get_or ns j nobody).key) → (p : Name → Bool) (k : ℕ) → is_between first last k ≡ true → has_where p (take m (drop s ns)) k ≡ has_where p ns k
@@ -29,10 +29,10 @@ part_where ns first last s m within low high p k inside =
     let from = parts.0 in
     let to = parts.1 in
     let test : Name → Bool = λ (n : Name). (n.key == k) && p n in
-    let before : has_where p (take s ns) k ≡ false = where_below p ns k s (omega (arith, within)) (λ j lt. let under = low j lt in omega (arith, under, from)) in
+    let before : has_where p (take s ns) k ≡ false = where_below p ns k s (omega arith) (λ j lt. let under = low j lt in omega arith) in
     let whole : take s (take (s + m) ns) ++ drop s (take (s + m) ns) ≡ take (s + m) ns = take-append-drop s (take (s + m) ns) in
     sym (
-    sym (where_above p ns k (s + m) (length ns - (s + m)) (omega (arith, within)) (λ j far lt. let over = high j far lt in omega (arith, over, to)))
+    sym (where_above p ns k (s + m) (length ns - (s + m)) (omega arith) (λ j far lt. let over = high j far lt in omega arith))
     ∙ (ap (λ xs. has_where p xs k) (sym whole)
     ∙ (list_any-append test (take s (take (s + m) ns)) (drop s (take (s + m) ns))
     ∙ (ap (λ xs. has_where p xs k || has_where p (drop s (take (s + m) ns)) k) (take-take s (s + m) ns (omega arith))
@@ -66,16 +66,16 @@ none_left ns from i k below le above = false_from_ne_true _ (λ e.
     let parts = and_parts (n.key == k) n.left some.4 in
     let key : (get_or ns some.0 nobody).key ≡ k = ap (λ (m : Name). m.key) here ∙ eqb-true n.key k parts.0 in
     ⊎_elim
-    (λ lt. let under = below some.0 lt (ap (λ (m : Name). m.left) here ∙ parts.1) in omega (arith, under, key, le))
-    (λ ge. let over = above some.0 ge within in omega (arith, over, key))
+    (λ lt. let under = below some.0 lt (ap (λ (m : Name). m.left) here ∙ parts.1) in omega arith)
+    (λ ge. let over = above some.0 ge within in omega arith)
     (cases_lt some.0 i))
 
 pub closed_first : (old : List (ℕ × ℕ)) (ns : List Name) (first last : ℕ) → first ≤ last + 1 → All (λ (n : Name). is_between first last n.key ≡ true) ns → IsClosedTo old old ns first last first 0
 closed_first old ns first last le inside = record {
   since = omega arith;
   upto = le;
-  behind = λ lt. let over = (between_parts first last _ (inside 0 nobody lt)).0 in omega (arith, over);
-  below = λ j lt left. absurd (omega (arith, lt));
+  behind = λ lt. let over = (between_parts first last _ (inside 0 nobody lt)).0 in omega arith;
+  below = λ j lt left. absurd (omega arith);
   closed = λ k. grind (arith, nat_tests);
 }
 
@@ -84,10 +84,10 @@ pub closed_passed : (old new : List (ℕ × ℕ)) (ns : List Name) (first last f
 closed_passed old new ns first last from i up lt gone h = record {
   since = h.since;
   upto = h.upto;
-  behind = λ more. let at = h.behind lt in let next = up i (i + 1) nobody (omega arith) more in omega (arith, at, next);
+  behind = λ more. let at = h.behind lt in let next = up i (i + 1) nobody (omega arith) more in omega arith;
   below = λ j upto left. ⊎_elim
       (λ e. absurd (false≢true (sym gone ∙ subst (λ n. (get_or ns n nobody).left ≡ true) e left)))
-      (λ ne. h.below j (omega (arith, upto, ne)) left)
+      (λ ne. h.below j (omega arith) left)
       (cases_eq j i);
   closed = h.closed;
 }
@@ -95,10 +95,10 @@ closed_passed old new ns first last from i up lt gone h = record {
 -- a name that is left: what is before it is closed
 pub closed_left : (old new next : List (ℕ × ℕ)) (ns : List Name) (first last from i : ℕ) → AreInOrder ns → All (λ (n : Name). is_between first last n.key ≡ true) ns → i < length ns → (get_or ns i nobody).left ≡ true → ((k : ℕ) → in_ranges next k ≡ (in_ranges new k || (nat_le from k && nat_lt k (get_or ns i nobody).key))) → IsClosedTo old new ns first last from i → IsClosedTo old next ns first last ((get_or ns i nobody).key + 1) (i + 1)
 closed_left old new next ns first last from i up inside lt left pushed h = record {
-  since = let a = h.since in omega (arith, a, at);
-  upto = let b = (between_parts first last key (inside i nobody lt)).1 in omega (arith, b);
-  behind = λ more. let over = up i (i + 1) nobody (omega arith) more in omega (arith, over);
-  below = λ j less is. let over = up j i nobody (omega (arith, less)) lt in omega (arith, over);
+  since = omega (arith, at);
+  upto = let b = (between_parts first last key (inside i nobody lt)).1 in omega arith;
+  behind = λ more. let over = up i (i + 1) nobody (omega arith) more in omega arith;
+  below = λ j less is. let over = up j i nobody (omega arith) lt in omega arith;
   closed = λ k. pushed k ∙ ap (λ b. b || (nat_le from k && nat_lt k key)) (h.closed k)
       ∙ next_keys (in_ranges old k) (has_left ns k) first from key k h.since at (none_before k) (λ e. list_any_at (λ (n : Name). (n.key == k) && n.left) ns i nobody lt (and_from _ _ (eq-eqb key k (sym e)) left));
 } where

@@ -1,8 +1,13 @@
 -- A small population, gathered from what the slots of a possible log ask for.
-use Rattle.std.proofs.Common.{take-append-drop, drop, ◌≡◌, ℕ, zero, suc, ◌+◌, ◌<◌, ◌≤◌, List, [], ◌∷◌, ◌++◌, length, take, get_or, Bool, true, false, ◌||◌, Option, Some, None, refl, sym, ap, ◌∙◌, subst, arith, inl, inr, ⊎_elim, length-append, ◌⊎◌, ◌==◌, nat_eq, slice_get, filter, All, sum_by, eq-eqb, ne_eqb, length-take}
-use Rattle.vic_verdict.proofs.Words.{cases_Bool, IsStrictlyIncreasing, both_ways, false≢true, and_parts, and_from, or_cases, or_left, or_right, false_from_ne_true, cases_eq, not-true, not_from_false, list_any-append, slice_get_within, IsUid, has, AreDifferent, Entry, Collision, Heard, Garbled, IsPopulation, CouldHaveGiven, answers_at, Reading, ManyReplies, SomeReply, reading_of, slots_of, is_open, Asks, IsWithin, AreDifferent-population, AreDifferent-filter, has_filter, has_here, has_at, has_there, has_cases, MeetsAll-iff, IsUid-from, CouldHaveGiven-slots, Found, Met, needs_of, IsFoundAt, IsFound, IsMet, is_other, chosen, gathered, answering, IsPossible, IsCertainUid, SameMembers}
+use Rattle.std.proofs.Common.{take-append-drop, drop, ◌≡◌, ℕ, zero, suc, ◌+◌, ◌<◌, ◌≤◌, List, [], ◌∷◌, ◌++◌, length, take, get_or, Bool, true, false, ◌||◌, Option, Some, None, refl, sym, ap, ◌∙◌, subst, arith, ⊎_elim, length-append, ◌⊎◌, ◌==◌, nat_eq, slice_get, filter, All, sum_by, eq-eqb, ne_eqb, length-take}
+use Rattle.vic_verdict.proofs.Words.{cases_Bool, IsStrictlyIncreasing, both_ways, false≢true, and_parts, and_from, or_cases, or_left, or_right, false_from_ne_true, cases_eq, not-true, not_from_false, list_any-append, slice_get_within, IsUid, has, AreDifferent, Entry, Collision, Heard, Garbled, IsPopulation, CouldHaveGiven, answers_at, Reading, ManyReplies, SomeReply, reading_of, slots_of, is_open, Asks, IsWithin, AreDifferent-population, AreDifferent-filter, has_filter, has_here, has_at, has_there, MeetsAll-iff, IsUid-from, CouldHaveGiven-slots, Found, Met, needs_of, IsFoundAt, IsFound, IsMet, is_other, chosen, gathered, answering, IsPossible, IsCertainUid, SameMembers}
 use Rattle.std.proofs.lemmas.List.Kept.{AllPairs-from_increasing}
 use Rattle.std.proofs.lemmas.List.Sums.{sum_by-cons}
+use Rattle.std.specs.List.{AllByRecursion, IsDistinct}
+use Rattle.std.proofs.lemmas.Bool.{or_parts}
+use Rattle.std.proofs.lemmas.Cmp.{nat_eq_equiv}
+use Rattle.std.proofs.lemmas.Map.Keys.{IsDistinct-cons, IsDistinct-from_apart}
+use Rattle.std.proofs.lemmas.Map.Made.{length-le_from_is_member}
 use Rattle.vic_log.proofs.Supply.{asks_within}
 use Rattle.vic_verdict.specs.Demands.{all_needs}
 use Rattle.vic_verdict.specs.Gathered.{all_chosen}
@@ -38,25 +43,16 @@ rising_population (x ∷ us) r i =
 
 -- ---- different members of a list are no more than the list
 
--- the list without one of its members
-less_one : (x : ℕ) (ys : List ℕ) → has ys x ≡ true → (zs : List ℕ) × (length ys ≡ suc (length zs)) × ((u : ℕ) → has ys u ≡ true → (u ≡ x) ⊎ (has zs u ≡ true))
-less_one x [] h = absurd (false≢true h)
-less_one x (y ∷ ys) h =
-    ⊎_elim
-    (λ e. (ys, refl, λ u k. ⊎_elim (λ f. inl (f ∙ sym e)) (λ m. inr m) (has_cases u y ys k)))
-    (λ k.
-    let r = less_one x ys k in
-    let n = r.1 in
-    (y ∷ r.0, omega arith, λ u m. ⊎_elim (λ f. inr (has_at u y r.0 f)) (λ w. ⊎_elim (λ f. inl f) (λ v. inr (has_there u y r.0 v)) (r.2 u w)) (has_cases u y ys m)))
-    (has_cases x y ys h)
+apart : (x : ℕ) (xs : List ℕ) → has xs x ≡ false → AllByRecursion (λ y. nat_eq x y ≡ false) xs
+apart x [] e = tt
+apart x (y ∷ ys) e = let w = or_parts (nat_eq x y) (has ys x) e in (w.0, apart x ys w.1)
+
+distinct : (xs : List ℕ) → AreDifferent xs → IsDistinct nat_eq xs
+distinct [] d = IsDistinct-from_apart nat_eq [] (λ i j e lt below. absurd (omega arith))
+distinct (x ∷ xs) d = IsDistinct-cons nat_eq x xs (apart x xs d.0) (distinct xs d.1)
 
 pub no_more : (xs ys : List ℕ) → AreDifferent xs → IsWithin (has xs) (has ys) → length xs ≤ length ys
-no_more [] ys d w = omega arith
-no_more (x ∷ xs) ys d w =
-    let r = less_one x ys (w x (has_here x xs)) in
-    let n = r.1 in
-    let h = no_more xs r.0 d.1 (λ u m. ⊎_elim (λ e. absurd (both_ways (has xs x) d.0 (subst (λ z. has xs z ≡ true) e m))) (λ k. k) (r.2 u (w u (has_there u x xs m)))) in
-    omega arith
+no_more xs ys d w = length-le_from_is_member nat_eq_equiv xs ys (distinct xs d) w
 
 has_append : (xs ys : List ℕ) (u : ℕ) → has (xs ++ ys) u ≡ (has xs u || has ys u)
 has_append xs ys u = list_any-append (nat_eq u) xs ys
@@ -182,14 +178,14 @@ abbrev pub AvoidsNoneCertain : List Entry → Option ℕ → Type 0
 AvoidsNoneCertain es avoid = (a : ℕ) → avoid ≡ Some a → IsCertainUid es a → ⊥
 
 spared_at : (es : List Entry) (i : ℕ) (f : Found) (avoid : Option ℕ) (o : Option Entry) → slice_get es i ≡ o → AvoidsNoneCertain es avoid → IsFoundAt es i f → IsSpared avoid f.uids.items f.need
-spared_at es i f avoid None k n h a is long m = let need = ap needs_of (sym k) ∙ h.need in let some = h.asked in absurd (omega arith)
+spared_at es i f avoid None k n h a is long m = let need = ap needs_of (sym k) ∙ h.need in absurd (omega arith)
 spared_at es i f avoid (Some Collision) k n h a is long m =
     let need : 2 ≡ f.need = ap needs_of (sym k) ∙ h.need in
     n a is (certain_there es i Collision a k ((forces_two_iff _ f.uids.items a h.uids).1 (long ∙ sym need, m)))
 spared_at es i f avoid (Some Garbled) k n h a is long m =
     let need : 1 ≡ f.need = ap needs_of (sym k) ∙ h.need in
     n a is (certain_there es i Garbled a k ((forces_one_iff _ f.uids.items a h.uids).1 (long ∙ sym need, m)))
-spared_at es i f avoid (Some e) k n h a is long m = let need = ap needs_of (sym k) ∙ h.need in let some = h.asked in absurd (omega arith)
+spared_at es i f avoid (Some e) k n h a is long m = let need = ap needs_of (sym k) ∙ h.need in absurd (omega arith)
 
 -- so there are enough others
 found_others : (es : List Entry) (f : Found) (avoid : Option ℕ) → AvoidsNoneCertain es avoid → IsFound es f → AreDifferent (filter (is_other avoid) f.uids.items) × (f.need ≤ length (filter (is_other avoid) f.uids.items))

@@ -46,7 +46,7 @@ possible_shorter m n lines le h =
 -- a contradiction of the first lines is one of all
 contradicted_lines : (lines : List LogLine) (i : ℕ) → IsContradictedAt (entries lines) i → (i < length lines) × (IsPossible (entries (take (i + 1) lines)) → ⊥)
 contradicted_lines lines i h = (
-  (let within = h.within in let long = length-map lines (λ (l : LogLine). l.item) in omega (arith, within, long)),
+  (let long = length-map lines (λ (l : LogLine). l.item) in omega arith),
   (λ p. h.impossible (subst IsPossible (sym (take-map (λ (l : LogLine). l.item) (i + 1) lines)) p)),
 )
 
@@ -58,7 +58,7 @@ first_entries n lines = sym (take-map (λ (l : LogLine). l.item) n lines)
 pub front_contradiction : (lines : List LogLine) (n : ℕ) (c : Contradiction) → IsContradiction (entries (take n lines)) c → IsContradiction (entries lines) c
 front_contradiction lines n c h = record {
   impossible = record {
-    within = let long = length-map lines (λ (l : LogLine). l.item) in omega (arith, below, long);
+    within = let long = length-map lines (λ (l : LogLine). l.item) in omega (arith, below);
     impossible = λ possible. h.impossible.impossible (subst IsPossible (sym (same (c.at + 1) (omega (arith, short)))) possible);
   };
   before = λ e. subst IsPossible (same c.at (omega (arith, short))) (h.before e);
@@ -79,7 +79,7 @@ pub between_first : (lines : List LogLine) (low i : ℕ) → low ≤ i → IsPos
 between_first lines low i le possible h =
     let c = contradicted_lines lines i h in
     let within = c.0 in
-    record { ordered = omega (arith, le); within = omega (arith, within); possible = possible; impossible = c.1 }
+    record { ordered = omega arith; within = omega arith; possible = possible; impossible = c.1 }
 
 -- more lines that are possible
 pub between_more : (lines : List LogLine) (low high count : ℕ) → count < high → IsPossible (entries (take count lines)) → Between lines low high → Between lines count high
@@ -92,10 +92,10 @@ between_earlier lines low high count i lt h b =
     let short = c.0 in
     let size = length-take count lines in
     let below : i < count = grind (arith, size, short) in
-    let impossible = λ (p : IsPossible (entries (take (i + 1) lines))). c.1 (subst (λ ls. IsPossible (entries ls)) (sym (take-take (i + 1) count lines (omega (arith, below)))) p) in
+    let impossible = λ (p : IsPossible (entries (take (i + 1) lines))). c.1 (subst (λ ls. IsPossible (entries ls)) (sym (take-take (i + 1) count lines (omega arith))) p) in
     record {
       ordered = ⊎_elim (λ yes. yes) (λ no. absurd (impossible (possible_shorter (i + 1) low lines no b.possible))) (cases_lt low (i + 1));
-      within = let within = b.within in omega (arith, below, lt, within);
+      within = omega arith;
       possible = b.possible;
       impossible = impossible;
     }

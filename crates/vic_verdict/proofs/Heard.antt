@@ -1,6 +1,6 @@
 -- Whether the UIDs that were heard could have answered, from position to position.
-use Rattle.std.proofs.Common.{◌≡◌, ℕ, ◌+◌, ◌<◌, ◌++◌, ◌==◌, List, [], ◌∷◌, take, drop, ◌≤◌, Bool, true, false, not, ◌&&◌, ◌||◌, Some, refl, sym, ap, ◌∙◌, subst, arith, inl, inr, ⊎_elim, slice_get, Any, ◌⊎◌, if◌then◌else◌, All, IsPermutation, take-append-drop, eq-eqb, eqb-true}
-use Rattle.vic_verdict.proofs.Words.{Spot, Demand, Any-from_list_any, list_any, list_any-IsPermutation, cases_lt, and_parts, and_from, both_ways, false_from_ne_true, nat_tests, list_any_at, slice_get_within, IsUid, is_uid, mirror, Reply, Entry, Sent, Silent, Collision, Heard, Listed, Garbled, FieldCycle, mask_at, lies_in_some, is_quiet, answers_at, reading_of, slots_of, is_open, answers_agree, IsUid-from, Name, IsPossible, IsContradictedAt, answering, needs, reply_place, IsFirstQuietReply, is_quiet_by}
+use Rattle.std.proofs.Common.{◌≡◌, ℕ, ◌+◌, ◌<◌, ◌++◌, ◌==◌, List, [], ◌∷◌, take, drop, ◌≤◌, Bool, true, false, not, ◌&&◌, Some, refl, sym, ap, ◌∙◌, subst, arith, inl, inr, slice_get, Any, ◌⊎◌, if◌then◌else◌, All, IsPermutation, take-append-drop, eq-eqb, eqb-true}
+use Rattle.vic_verdict.proofs.Words.{not_from_false, Spot, Demand, Any-from_list_any, list_any, list_any-IsPermutation, cases_lt, and_parts, and_from, both_ways, false_from_ne_true, nat_tests, list_any_at, slice_get_within, IsUid, is_uid, mirror, Reply, Entry, Collision, Heard, Garbled, mask_at, lies_in_some, is_quiet, answers_at, reading_of, slots_of, is_open, answers_agree, IsUid-from, Name, IsPossible, IsContradictedAt, answering, needs, reply_place, IsFirstQuietReply, is_quiet_by}
 use Rattle.std.proofs.lemmas.List.Sorted.{IsPermutation-sym}
 use Rattle.std.proofs.lemmas.List.Elements.{All-weaker}
 use Rattle.vic_log.proofs.Places.{agree_upto}
@@ -20,7 +20,7 @@ front_answers : (es : List Entry) (i : ℕ) (e : Entry) (u : ℕ) → slice_get 
 front_answers es i e u k =
     let front = take (i + 1) es in
     let within = slice_get_within front i e (taken (i + 1) es i (omega arith) ∙ k) in
-    let same = answers_agree i front (front ++ drop (i + 1) es) (agree_upto front (drop (i + 1) es) i (omega (arith, within))) u in
+    let same = answers_agree i front (front ++ drop (i + 1) es) (agree_upto front (drop (i + 1) es) i (omega arith)) u in
     ap (λ xs. answers_at xs i u) (sym (take-append-drop (i + 1) es)) ∙ sym same
 
 -- a slot has what it requires, if a population could have produced the entries up to there
@@ -119,70 +119,69 @@ are_heard es from i ns ss ds h ready before = record {
 
 -- ---- what the names tell
 
-not_quiet : (b : Bool) → b ≡ false → not b ≡ true
-not_quiet true e = sym e
-not_quiet false e = refl
-
 -- a reply by a UID that is Quiet there
-pub quiet_contradicts : (es : List Entry) (from i at : ℕ) (ns : List Name) → AreHeard es from i ns → IsQuietReply ns at → IsContradictedAt es at
-quiet_contradicts es from i at ns a some =
+record QuietReply (es : List Entry) (from at : ℕ) : Type 0 where
+  reply : Reply
+  heard : slice_get es at ≡ Some (Heard reply)
+  quiet : is_quiet es at reply.uid ≡ true
+  since : from ≤ at
+
+quiet_reply : (es : List Entry) (from i at : ℕ) (ns : List Name) → AreHeard es from i ns → IsQuietReply ns at → QuietReply es from at
+quiet_reply es from i at ns a some =
     let w = Any-from_list_any (λ (n : Name). (reply_place n == at) && is_quiet_by ns n.key at) ns some in
     let n : Name = w.1 in
     let parts = and_parts (reply_place n == at) (is_quiet_by ns n.key at) w.4 in
     let place = eqb-true (reply_place n) at parts.0 in
     let late = quiet_place ns n (subst (λ p. is_quiet_by ns n.key p ≡ true) (sym place) parts.1) in
     let here : n.at ≡ at = sym (place_of n late) ∙ place in
-    let it = subst (HeardIn es from i) w.3 (a.replies w.0 n w.2) late in
-    let before = it.before in
-    let quiet = sym (a.quiet n.at it.reply.uid it.since (omega (arith, before)) it.is_uid) ∙ (ap (λ key. is_quiet_by ns key n.at) (sym it.key) ∙ (ap (is_quiet_by ns n.key) here ∙ parts.1)) in
-    subst (λ p. IsContradictedAt es p) here (up_to_it es n.at it.reply it.heard (λ answers.
-    both_ways _ (ap not quiet) (and_parts (lies_in_some (mask_at es n.at) it.reply.uid) (not (is_quiet es n.at it.reply.uid)) answers).1))
+    let it : IsHeardAt es from i n = subst (HeardIn es from i) w.3 (a.replies w.0 n w.2) late in
+    subst (QuietReply es from) here (record {
+      reply = it.reply;
+      heard = it.heard;
+      quiet = sym (a.quiet n.at it.reply.uid it.since (omega arith) it.is_uid) ∙ (ap (λ key. is_quiet_by ns key n.at) (sym it.key) ∙ (ap (is_quiet_by ns n.key) here ∙ parts.1));
+      since = it.since;
+    })
+
+pub quiet_contradicts : (es : List Entry) (from i at : ℕ) (ns : List Name) → AreHeard es from i ns → IsQuietReply ns at → IsContradictedAt es at
+quiet_contradicts es from i at ns a some =
+    let it = quiet_reply es from i at ns a some in
+    up_to_it es at it.reply it.heard (λ answers. both_ways _ (ap not it.quiet) (and_parts (lies_in_some (mask_at es at) it.reply.uid) (not (is_quiet es at it.reply.uid)) answers).1)
 
 -- the first one is since the last field cycle
 pub quiet_since : (es : List Entry) (from i cut : ℕ) (ns : List Name) → AreHeard es from i ns → IsFirstQuietReply ns i cut → from ≤ cut
-quiet_since es from i cut ns a first =
-    ⊎_elim
-    (λ lt.
-    let w = Any-from_list_any (λ (n : Name). (reply_place n == cut) && is_quiet_by ns n.key cut) ns (first.quiet lt) in
-    let n : Name = w.1 in
-    let parts = and_parts (reply_place n == cut) (is_quiet_by ns n.key cut) w.4 in
-    let place = eqb-true (reply_place n) cut parts.0 in
-    let late = quiet_place ns n (subst (λ p. is_quiet_by ns n.key p ≡ true) (sym place) parts.1) in
-    let at = place_of n late in
-    let it = subst (HeardIn es from i) w.3 (a.replies w.0 n w.2) late in
-    let since = it.since in
-    omega (arith, place, at, since))
-    (λ ge. let begun = a.begun in let upto = first.within in omega (arith, begun, ge))
-    (cases_lt cut i)
+quiet_since es from i cut ns a first = elim (cases_lt cut i) [
+  | inl lt ↦ (quiet_reply es from i cut ns a (first.quiet lt)).since
+  | inr ge ↦ omega arith
+]
 
 -- those before the first one answer
 pub answers_before : (es : List Entry) (from i cut : ℕ) (ns : List Name) → AreHeard es from i ns → ((place : ℕ) → IsQuietReply ns place → cut ≤ place) → (j : ℕ) (r : Reply) → j < i → j < cut → slice_get es j ≡ Some (Heard r) → Answers es j r.uid
 answers_before es from i cut ns a first j r below early k =
-    ⊎_elim
-    (λ y. y)
-    (λ w.
-    let n : Name = w.1 in
-    let late = w.4.1 in
-    let place = place_of n late in
-    let it = subst (HeardIn es from i) w.3 (a.replies w.0 n w.2) late in
-    let before = it.before in
-    let silent : is_quiet_reply ns n ≡ false = false_from_ne_true _ (λ quiet.
-    let here : IsQuietReply ns (reply_place n) = list_any_at (λ (m : Name). (reply_place m == reply_place n) && is_quiet_by ns m.key (reply_place n)) ns w.0 n w.2 (subst (λ (m : Name). ((reply_place m == reply_place n) && is_quiet_by ns m.key (reply_place n)) ≡ true) (sym w.3) (and_from _ _ (eq-eqb _ _ refl) quiet)) in
-    let le = first (reply_place n) here in
-    let at = w.4.0 in
-    absurd (omega (arith, le, place, at, early))) in
-    let awake = sym (a.quiet n.at it.reply.uid it.since (omega (arith, before)) it.is_uid) ∙ (ap (λ key. is_quiet_by ns key n.at) (sym it.key) ∙ (ap (is_quiet_by ns n.key) (sym place) ∙ silent)) in
-    let here = and_from _ _ it.inside (not_quiet (is_quiet es n.at it.reply.uid) awake) in
-    let both : Some (Heard it.reply) ≡ Some (Heard r) = sym it.heard ∙ subst (λ m. slice_get es m ≡ Some (Heard r)) (sym w.4.0) k in
-    let same : it.reply ≡ r = cc in
-    subst (λ m. Answers es m r.uid) w.4.0 (subst (Answers es n.at) (ap (λ (x : Reply). x.uid) same) (it.is_uid, here)))
-    (a.answer j r below k)
+    elim (a.answer j r below k) [
+      | inl y ↦ y
+      | inr w ↦
+          let n : Name = w.1 in
+          let late : n.is_heard ≡ true = w.4.1 in
+          let at : n.at ≡ j = w.4.0 in
+          let place : reply_place n ≡ n.at = place_of n late in
+          let it : IsHeardAt es from i n = subst (HeardIn es from i) w.3 (a.replies w.0 n w.2) late in
+          let before = it.before in
+          let silent : is_quiet_reply ns n ≡ false = false_from_ne_true (is_quiet_reply ns n) (λ quiet.
+          let here : IsQuietReply ns (reply_place n) = list_any_at (λ (m : Name). (reply_place m == reply_place n) && is_quiet_by ns m.key (reply_place n)) ns w.0 n w.2 (subst (λ (m : Name). ((reply_place m == reply_place n) && is_quiet_by ns m.key (reply_place n)) ≡ true) (sym w.3) (and_from (reply_place n == reply_place n) (is_quiet_reply ns n) (eq-eqb (reply_place n) (reply_place n) refl) quiet)) in
+          let le : cut ≤ reply_place n = first (reply_place n) here in
+          absurd (omega arith)) in
+          let awake : is_quiet es n.at it.reply.uid ≡ false = sym (a.quiet n.at it.reply.uid it.since (omega arith) it.is_uid) ∙ (ap (λ key. is_quiet_by ns key n.at) (sym it.key) ∙ (ap (is_quiet_by ns n.key) (sym place) ∙ silent)) in
+          let here = and_from _ _ it.inside (not_from_false (is_quiet es n.at it.reply.uid) awake) in
+          let both : Some (Heard it.reply) ≡ Some (Heard r) = sym it.heard ∙ subst (λ m. slice_get es m ≡ Some (Heard r)) (sym at) k in
+          let same : it.reply ≡ r = cc in
+          subst (λ m. Answers es m r.uid) at (subst (Answers es n.at) (ap (λ (x : Reply). x.uid) same) (it.is_uid, here))
+    ]
 
 -- ---- in another order
 
 any_alike : (p q : Name → Bool) → ((n : Name) → p n ≡ q n) → (ns : List Name) → list_any p ns ≡ list_any q ns
 any_alike p q h [] = refl
-any_alike p q h (n ∷ ns) = ap (λ b. b || list_any p ns) (h n) ∙ ap (λ b. q n || b) (any_alike p q h ns)
+any_alike p q h (n ∷ ns) = rw (h n, any_alike p q h ns) refl
 
 quiet_permuted : (ns ms : List Name) (at : ℕ) → IsPermutation ns ms → IsQuietReply ms at → IsQuietReply ns at
 quiet_permuted ns ms at m e =

@@ -7,10 +7,10 @@ use Rattle.vic_verdict.proofs.Entries.{EntryAsks, entry_allows, open_reading}
 use Rattle.vic_verdict.proofs.Supplied.{supplied_each}
 
 pub taken : (n : ℕ) (es : List Entry) (j : ℕ) → j < n → slice_get (take n es) j ≡ slice_get es j
-taken zero es j h = absurd (omega (arith, h))
+taken zero es j h = absurd (omega arith)
 taken (suc n) [] j h = refl
 taken (suc n) (e ∷ es) zero h = refl
-taken (suc n) (e ∷ es) (suc j) h = taken n es j (omega (arith, h))
+taken (suc n) (e ∷ es) (suc j) h = taken n es j (omega arith)
 
 -- an entry, if there is one, leaves the UIDs open that it allows
 abbrev pub place_allows : Option Entry → Bool → ℕ → Bool
@@ -26,7 +26,7 @@ pub open_agrees : (n : ℕ) (es fs : List Entry) (u : ℕ) → AgreeBefore n es 
 open_agrees zero es fs u a = refl
 open_agrees (suc n) es fs u a =
     let here : slice_get es n ≡ slice_get fs n = a n (omega arith) in
-    let less : AgreeBefore n es fs = λ i h. a i (omega (arith, h)) in
+    let less : AgreeBefore n es fs = λ i h. a i (omega arith) in
     let before : is_open (slots_before es n) u ≡ is_open (slots_before fs n) u = open_agrees n es fs u less in
     let answers : answers_at es n u ≡ answers_at fs n u = answers_agree n es fs less u in
     let same : (is_open (slots_before es n) u && place_allows (slice_get es n) (answers_at es n u) u) ≡ (is_open (slots_before fs n) u && place_allows (slice_get fs n) (answers_at fs n u) u) = rw (here, before, answers) in
@@ -40,12 +40,12 @@ allows_all (Some e) b u h = refl
 
 -- after a position behind which none is ruled out the same UIDs are open
 open_settled : (es : List Entry) (c n : ℕ) (u : ℕ) → NoneRulesOutAfter es c → c < n → is_open (slots_before es n) u ≡ is_open (slots_before es (suc c)) u
-open_settled es c zero u h below = absurd (omega (arith, below))
+open_settled es c zero u h below = absurd (omega arith)
 open_settled es c (suc n) u h below =
     ⊎_elim
     (λ same. ap (λ m. is_open (slots_before es (suc m)) u) same)
     (λ ne.
-    let later : c < n = omega (arith, below, ne) in
+    let later : c < n = omega (arith, ne) in
     open_place (answers_at es n) (slice_get es n) (slots_before es n) u
     ∙ ap (λ b. is_open (slots_before es n) u && b) (allows_all (slice_get es n) (answers_at es n u) u (λ e k. h n e later k))
     ∙ and_true (is_open (slots_before es n) u)
@@ -66,14 +66,14 @@ contradicted es i c lacks upto within settled = record {
   within = within;
   impossible = λ possible.
       let fs = take (c + 1) es in
-      let size : length fs ≡ suc c = length-take-le (c + 1) es (omega (arith, within)) ∙ add-one c in
-      let agree : AgreeBefore (suc c) fs es = λ j h. taken (c + 1) es j (omega (arith, h)) in
+      let size : length fs ≡ suc c = length-take-le (c + 1) es (omega arith) ∙ add-one c in
+      let agree : AgreeBefore (suc c) fs es = λ j h. taken (c + 1) es j (omega arith) in
       let same : (u : ℕ) → answering (is_open (slots_of fs)) fs i u ≡ answering (is_open (slots_of es)) es i u = λ u.
       let left : is_open (slots_of fs) u ≡ is_open (slots_of es) u =
       ap (λ n. is_open (slots_before fs n) u) size ∙ open_agrees (suc c) fs es u agree ∙ sym (open_settled es c (length es) u settled within) in
-      let answers : answers_at fs i u ≡ answers_at es i u = answers_agree i fs es (λ j h. agree j (omega (arith, h, upto))) u in
+      let answers : answers_at fs i u ≡ answers_at es i u = answers_agree i fs es (λ j h. agree j (omega arith)) u in
       rw (left, answers) in
-      let here : slice_get fs i ≡ Some lacks.0 = agree i (omega (arith, upto)) ∙ lacks.2 in
+      let here : slice_get fs i ≡ Some lacks.0 = agree i (omega arith) ∙ lacks.2 in
       lacks.4 (asks_same lacks.1 _ _ same (asked lacks.0 lacks.1 _ lacks.3 (supplied_each fs i lacks.0 here possible)));
 }
 

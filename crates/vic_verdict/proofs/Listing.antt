@@ -27,4 +27,4 @@ pub place_bound : (lines : List LogLine) (i number : ℕ) (l : LogLine) → IsRi
 place_bound lines i number l up within here value small =
     let at = slice_get_read lines (length lines) i l refl within here in
     let above = number_above 0 lines i l up at in
-    omega (arith, above, small, value)
+    omega arith

@@ -29,5 +29,5 @@ lies_in-uid_in m h k =
     let w = 2 ^ m.len in
     let whole : 56 - m.len + m.len ≡ 56 = omega arith in
     let e : 2 ^ 56 ≡ a * w = sym (ap (λ n. 2 ^ n) whole) ∙ pow-add 2 (56 - m.len) m.len in
-    let f : uid_in m ≡ 0xE0 * a * w + m.value = omega (arith, e) in
+    let f : uid_in m ≡ 0xE0 * a * w + m.value = omega arith in
     eq-eqb _ _ (ap (λ n. n % w) f ∙ mod-mul-add (0xE0 * a) w m.value k)

@@ -1,11 +1,11 @@
 -- The names of entries, and who is Quiet by them.
 use Rattle.std.proofs.Common.{◌≡◌, ℕ, zero, suc, ◌^◌, ◌<◌, ◌≤◌, ◌==◌, List, [], ◌∷◌, ◌++◌, Bool, true, false, ◌&&◌, ◌||◌, Option, Some, None, All, if◌then◌else◌, nat_le, nat_lt, slice_get, refl, sym, ap, ◌∙◌, subst, arith, inl, inr, eq-eqb}
-use Rattle.vic_verdict.proofs.Words.{IsUid, is_uid, mirror, Entry, Heard, Sent, FieldCycle, Silent, Collision, Listed, Garbled, Reply, silences, wakes, is_quiet, is_quiet_by, quiet_of, Name, nat_tests, is_uid_from, IsUid-from, uid_of, uid_of_mirror, cases_lt, cases_eq, and_from, both_ways, false≢true, list_any, list_any-append, or_left, or_right, HaveKeys, is_named}
+use Rattle.vic_verdict.proofs.Words.{IsUid, is_uid, mirror, Entry, Heard, Sent, Reply, silences, wakes, is_quiet, is_quiet_by, quiet_of, Name, nat_tests, is_uid_from, IsUid-from, uid_of, uid_of_mirror, cases_lt, cases_eq, and_from, both_ways, false≢true, list_any, list_any-append, or_left, or_right, HaveKeys, is_named}
 use Rattle.std.proofs.lemmas.Bool.{le-leb, ne_eqb}
 use Rattle.std.proofs.lemmas.List.Elements.{All-nil, All-cons, All-append}
 use Rattle.std.proofs.lemmas.List.Sums.{list_all-from_AllPass}
 use Rattle.vic_frame.proofs.MirrorLaws.{mirror_below, same_test}
-use Rattle.vic_frame.specs.declared.request.Request.TheVariants.{Inventory, StayQuiet}
+use Rattle.vic_frame.specs.declared.request.Request.TheVariants.{StayQuiet}
 use Rattle.vic_verdict.specs.Stretches.{name_at, names_at, names_from}
 use Rattle.vic_verdict.specs.Sweep.{are_left}
 

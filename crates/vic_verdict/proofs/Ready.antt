@@ -1,5 +1,5 @@
 -- Which open UIDs answer, by the names.
-use Rattle.std.proofs.Common.{take-append-drop, ◌≡◌, ℕ, nat_eq, ◌+◌, ◌-◌, ◌^◌, ◌<◌, ◌≤◌, ◌==◌, ◌++◌, List, [], ◌∷◌, length, take, drop, get_or, Bool, true, false, not, ◌&&◌, ◌||◌, refl, sym, ap, ◌∙◌, subst, arith, inl, inr, ⊎_elim, map, ◌⊎◌, nat_lt, All, eq-eqb, eqb-true, take_all}
+use Rattle.std.proofs.Common.{take-append-drop, ◌≡◌, ℕ, nat_eq, ◌+◌, ◌-◌, ◌^◌, ◌<◌, ◌≤◌, ◌==◌, ◌++◌, List, [], ◌∷◌, length, take, drop, get_or, Bool, true, false, not, ◌&&◌, ◌||◌, refl, sym, ap, ◌∙◌, subst, arith, inl, inr, ⊎_elim, map, nat_lt, All, eq-eqb, eqb-true, take_all}
 use Rattle.vic_verdict.proofs.Words.{list_any, and_parts, and_from, or_cases, or_left, or_right, both_ways, false≢true, nat_tests, take-map, length-map, get_or-map, All-head, All-tail, All-push, list_any-append, list_any_more, IsUid, is_uid, has, BitMask, lies_in, is_in_block, mirror, uid_of, KeyBlock, uid_of_mirror, IsUid-from, is_uid_from, Gathers, UpToThree, is_between, lt_yes, Name, HasInside, IsReadyIn, is_ready_at, AreInOrder, HaveKeys, has_where, is_named, is_quiet_by, quiet_of}
 use Rattle.std.specs.List.Sorted.{IsNonDecreasing}
 use Rattle.std.proofs.lemmas.List.{drop-map}
@@ -8,13 +8,11 @@ use Rattle.vic_frame.specs.LowBitsFirst.{IsKey}
 use Rattle.vic_frame.proofs.MirrorLaws.{mirror_below, mirror_of_uid}
 use Rattle.vic_tree.specs.OpenSet.{in_mask, without_keys}
 use Rattle.vic_tree.proofs.GatheringLaws.{gathers_both, gathers_like}
-use Rattle.vic_verdict.specs.declared.answering.Unnamed.{Unnamed}
-use Rattle.vic_verdict.specs.Answering.{AreOpenNames, HasNamedIn, IsUnnamed, is_answering, is_awake, is_unnamed, is_unnamed_in}
-use Rattle.vic_verdict.proofs.Closing.{between_from}
+use Rattle.vic_verdict.specs.Answering.{AreOpenNames, HasNamedIn, is_answering, is_awake, is_unnamed_in}
 use Rattle.vic_verdict.proofs.Replying.{tells_own}
 use Rattle.vic_verdict.proofs.Silencing.{silenced_later}
 use Rattle.vic_verdict.proofs.Supplied.{UpToThree-same}
-use Rattle.vic_verdict.proofs.Sweeping.{between_parts, nobody}
+use Rattle.vic_verdict.proofs.Sweeping.{nobody}
 
 any_has : (p : ℕ → Bool) (us : List ℕ) (u : ℕ) → has us u ≡ true → p u ≡ true → list_any p us ≡ true
 any_has p [] u h e = absurd (false≢true h)
@@ -55,27 +53,6 @@ found_besides set q b m keys us same tells h = UpToThree-same (in_mask (without_
     go u false e =
         ap (λ x. (is_uid u && (set u && not (has keys (mirror u)))) && (x && true)) (same u ∙ e)
         ∙ (neither _ _ ∙ ap (λ x. (is_uid u && set u) && (x && not (q (mirror u)))) (sym e))
-
--- ---- UIDs without a name
-
-pub unnamed_between : (set : ℕ → Bool) (ns : List Name) (m : Unnamed) (first last : ℕ) (us : List ℕ) → m.first ≤ first → last ≤ m.last → Gathers (HasInside m.uids.items first last) [] us → (length m.uids.items < 3) ⊎ (3 ≤ length us) → IsUnnamed set ns m → UpToThree (is_unnamed set ns first last) us
-unnamed_between set ns m first last us from to g known h = record {
-  different = g.different tt;
-  members = λ u k.
-      ⊎_elim
-      (λ none. absurd (false≢true none))
-      (λ p. let w = and_parts (is_uid u && set u) (is_between m.first m.last (mirror u) && not (is_named ns (mirror u))) (h.members u p.0) in and_from _ _ w.0 (and_from _ _ p.1 (and_parts _ _ w.1).1))
-      (g.only u k);
-  all = λ few u k.
-      let w = and_parts (is_uid u && set u) (is_between first last (mirror u) && not (is_named ns (mirror u))) k in
-      let v = and_parts (is_between first last (mirror u)) (not (is_named ns (mirror u))) w.1 in
-      let inside = between_parts first last (mirror u) v.0 in
-      let wide = between_from m.first m.last (mirror u) (omega (arith, inside.0, from)) (omega (arith, inside.1, to)) in
-      ⊎_elim
-      (λ little. g.all few u (h.all little u (and_from _ _ w.0 (and_from _ _ wide v.1)), v.0))
-      (λ full. absurd (omega (arith, few, full)))
-      known;
-}
 
 -- ---- UIDs with a name
 
@@ -138,7 +115,7 @@ both_answering set ns os inside b from i last us vs asked small block o alike wi
         g.all few u (uid, alike (mirror u) (block (mirror u) ∙ lies) ∙ here)
     go few u uid there lies awake false e =
         let more = g.longer in
-        g.keeps u (h.all (omega (arith, few, more)) u (and_from _ _ there (and_from _ _ lies (ap not e))))
+        g.keeps u (h.all (omega (arith, few)) u (and_from _ _ there (and_from _ _ lies (ap not e))))
 
 -- ---- a name for each open UID that has one
 
@@ -175,9 +152,9 @@ open_same set ns i os up some below le h = record {
     before : (k : ℕ) → (get_or ns i nobody).key ≡ k → is_named (take i ns) k ≡ true
     before k e =
         let over = up (i - 1) i nobody (omega arith) below in
-        let back : i - 1 + 1 ≡ i = omega (arith, some) in
-        let same : (get_or ns (i - 1) nobody).key ≡ k = omega (arith, over, le, e) in
-        subst (λ n. is_named (take n ns) k ≡ true) back (named_next ns (i - 1) k (omega (arith, below, some)) ∙ or_right _ _ (eq-eqb _ _ same))
+        let back : i - 1 + 1 ≡ i = omega arith in
+        let same : (get_or ns (i - 1) nobody).key ≡ k = omega (arith, e) in
+        subst (λ n. is_named (take n ns) k ≡ true) back (named_next ns (i - 1) k (omega arith) ∙ or_right _ _ (eq-eqb _ _ same))
 
     go : (k : ℕ) → (is_named (take i ns) k || ((get_or ns i nobody).key == k)) ≡ is_named (take i ns) k
     go k = grind (arith, nat_tests, before k)
@@ -197,9 +174,9 @@ open_other set ns i os below closed h = record {
 -- one that is
 pub open_more : (set : ℕ → Bool) (ns : List Name) (i : ℕ) (os new : List Name) (o : Name) → AreInOrder ns → HaveKeys ns → i < length ns → o.key ≡ (get_or ns i nobody).key → set (uid_of o.key) ≡ true → ((j : ℕ) → j < 2 ^ 32 → nat_lt (quiet_of o) j ≡ is_quiet_by ns o.key j) → new ≡ os ++ o ∷ [] → AreOpenTo set ns i os → AreOpenTo set ns (i + 1) new
 open_more set ns i os new o up small below key there quiet is h = subst (AreOpenTo set ns (i + 1)) (sym is) (record {
-  order = IsNonDecreasingBy-push (λ (n : Name). n.key) os o h.order (λ d some. let low = h.lower (length os - 1) d (omega arith) i (omega arith) below in omega (arith, low, key));
-  keys = All-push (λ (n : Name). n.key < 2 ^ 56) os o h.keys (let one = small i nobody below in omega (arith, one, key));
-  lower = All-push (λ (n : Name). (j : ℕ) → i + 1 ≤ j → j < length ns → n.key ≤ (get_or ns j nobody).key) os o (later set ns i os h) (λ j le more. let over = up i j nobody (omega arith) more in omega (arith, over, key));
+  order = IsNonDecreasingBy-push (λ (n : Name). n.key) os o h.order (λ d some. let low = h.lower (length os - 1) d (omega arith) i (omega arith) below in omega arith);
+  keys = All-push (λ (n : Name). n.key < 2 ^ 56) os o h.keys (let one = small i nobody below in omega (arith, one));
+  lower = All-push (λ (n : Name). (j : ℕ) → i + 1 ≤ j → j < length ns → n.key ≤ (get_or ns j nobody).key) os o (later set ns i os h) (λ j le more. let over = up i j nobody (omega arith) more in omega arith);
   members = λ k j key_small early.
       list_any-append (λ (n : Name). (n.key == k) && is_awake j n) os (o ∷ [])
       ∙ (ap (λ b. b || (((o.key == k) && is_awake j o) || false)) (h.members k j key_small early)
@@ -288,7 +265,7 @@ ready_so_far ns i at u p = (p.0, any_taken (λ (n : Name). (n.key == mirror u) &
 pub keys_part : (ns inside : List Name) (ks part : List ℕ) (s e : ℕ) → ks ≡ map (λ (n : Name). n.key) ns → inside ≡ take (length inside) (drop s ns) → e ≡ s + length inside → part ≡ take (e - s) (drop s ks) → part ≡ map (λ (n : Name). n.key) inside
 keys_part ns inside ks part s e keys place end is =
     is
-    ∙ ap (λ n. take n (drop s ks)) (let n : e - s ≡ length inside = omega (arith, end) in n)
+    ∙ ap (λ n. take n (drop s ks)) (let n : e - s ≡ length inside = omega arith in n)
     ∙ ap (λ xs. take (length inside) (drop s xs)) keys
     ∙ ap (take (length inside)) (drop-map (λ (n : Name). n.key) s ns)
     ∙ take-map (λ (n : Name). n.key) (length inside) (drop s ns)
@@ -297,14 +274,14 @@ keys_part ns inside ks part s e keys place end is =
 pub keys_order : (ns : List Name) → AreInOrder ns → IsNonDecreasing (map (λ (n : Name). n.key) ns)
 keys_order ns up i j d le lt =
     let long = length-map ns (λ (n : Name). n.key) in
-    let below : j < length ns = omega (arith, lt, long) in
-    let a = at i (omega (arith, le, lt)) in
+    let below : j < length ns = omega arith in
+    let a = at i (omega arith) in
     let b = at j lt in
     let over = up i j nobody le below in
-    omega (arith, a, b, over)
+    omega arith
   where
     at : (n : ℕ) → n < length (map (λ (m : Name). m.key) ns) → get_or (map (λ (m : Name). m.key) ns) n d ≡ (get_or ns n nobody).key
-    at n lt = get_or-map (λ (m : Name). m.key) ns n nobody d (let long = length-map ns (λ (m : Name). m.key) in omega (arith, lt, long))
+    at n lt = get_or-map (λ (m : Name). m.key) ns n nobody d (let long = length-map ns (λ (m : Name). m.key) in omega arith)
 
 pub named_where : (ns : List Name) (k : ℕ) → has_where (λ n. true) ns k ≡ is_named ns k
 named_where [] k = refl

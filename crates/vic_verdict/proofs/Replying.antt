@@ -29,7 +29,7 @@ tells_own ns own key quiet i inside all first =
 pub tells_still : (ns : List Name) (k quiet : ℕ) → AreInOrder ns → 0 < k → k < length ns → (at ns k).key ≤ (at ns (k - 1)).key → TellsFrom ns (k - 1) quiet → TellsFrom ns k quiet
 tells_still ns k quiet up some below le tells i upto =
     let over = up (k - 1) k nobody (omega arith) below in
-    ap (λ key. is_quiet_by ns key i) (omega (arith, over, le)) ∙ tells i upto
+    ap (λ key. is_quiet_by ns key i) (omega arith) ∙ tells i upto
 
 -- what is found of the first k names
 pub record IsFoundTo (ns : List Name) (end k first : ℕ) : Type 0 where
@@ -38,7 +38,7 @@ pub record IsFoundTo (ns : List Name) (end k first : ℕ) : Type 0 where
   pub least : (j : ℕ) → j < k → is_quiet_reply ns (at ns j) ≡ true → first ≤ reply_place (at ns j)
 
 pub found_first : (ns : List Name) (end : ℕ) → IsFoundTo ns end 0 end
-found_first ns end = record { within = omega arith; quiet = λ lt. absurd (omega (arith, lt)); least = λ j lt. absurd (omega (arith, lt)) }
+found_first ns end = record { within = omega arith; quiet = λ lt. absurd (omega arith); least = λ j lt. absurd (omega arith) }
 
 -- a reply of a Quiet UID
 quiet_here : (ns : List Name) (k : ℕ) → k < length ns → is_quiet_reply ns (at ns k) ≡ true → IsQuietReply ns (reply_place (at ns k))
@@ -47,12 +47,12 @@ quiet_here ns k below e = list_any_at (λ (n : Name). (reply_place n == reply_pl
 -- the next name is one
 pub found_more : (ns : List Name) (end quiet k first next : ℕ) → k < length ns → reply_place (at ns k) ≤ NEVER → TellsFrom ns k quiet → quiet < reply_place (at ns k) → next ≤ first → next ≤ reply_place (at ns k) → (next ≡ first) ⊎ (next ≡ reply_place (at ns k)) → IsFoundTo ns end k first → IsFoundTo ns end (k + 1) next
 found_more ns end quiet k first next below small tells late le here is f = record {
-  within = let w = f.within in omega (arith, w, le);
-  quiet = λ lt. ⊎_elim (λ old. subst (IsQuietReply ns) (sym old) (f.quiet (omega (arith, lt, old)))) (λ new. subst (IsQuietReply ns) (sym new) (quiet_here ns k below (tells _ small ∙ lt_yes _ _ late))) is;
+  within = omega arith;
+  quiet = λ lt. ⊎_elim (λ old. subst (IsQuietReply ns) (sym old) (f.quiet (omega arith))) (λ new. subst (IsQuietReply ns) (sym new) (quiet_here ns k below (tells _ small ∙ lt_yes _ _ late))) is;
   least = λ j lt it.
       ⊎_elim
       (λ same. subst (λ i. next ≤ reply_place (at ns i)) (sym same) here)
-      (λ ne. let old = f.least j (omega (arith, lt, ne)) it in omega (arith, old, le))
+      (λ ne. let old = f.least j (omega arith) it in omega arith)
       (cases_eq j k);
 }
 
@@ -63,8 +63,8 @@ found_still ns end quiet k first small tells early f = record {
   quiet = f.quiet;
   least = λ j lt it.
       ⊎_elim
-      (λ same. absurd (let late = lt_from _ _ (sym (tells _ small) ∙ subst (λ i. is_quiet_reply ns (at ns i) ≡ true) same it) in omega (arith, late, early)))
-      (λ ne. f.least j (omega (arith, lt, ne)) it)
+      (λ same. absurd (let late = lt_from _ _ (sym (tells _ small) ∙ subst (λ i. is_quiet_reply ns (at ns i) ≡ true) same it) in omega arith))
+      (λ ne. f.least j (omega (arith, lt)) it)
       (cases_eq j k);
 }
 
@@ -80,7 +80,7 @@ found_all ns end k first past f = record {
       let parts = and_parts (reply_place n == m) (is_quiet_by ns n.key m) some.4 in
       let placed = eqb-true (reply_place n) m parts.0 in
       let it : is_quiet_reply ns n ≡ true = subst (λ i. is_quiet_by ns n.key i ≡ true) (sym placed) parts.1 in
-      let far = f.least some.0 (omega (arith, within, past)) (ap (is_quiet_reply ns) here ∙ it) in
+      let far = f.least some.0 (omega arith) (ap (is_quiet_reply ns) here ∙ it) in
       let same = ap reply_place here in
-      omega (arith, far, same, placed);
+      omega arith;
 }

@@ -1,7 +1,6 @@
 -- What the lines of a log leave open up to a position at which a reply could not be.
 use Rattle.std.proofs.Common.{◌≡◌, ℕ, ◌+◌, ◌<◌, ◌≤◌, ◌&&◌, List, [], length, take, Bool, Some, refl, sym, ap, ◌∙◌, subst, arith, false, inl, inr, add-one, slice_get, length-take-le}
 use Rattle.vic_verdict.proofs.Words.{cases_eq, and_true, Reply, is_quiet, length-map, take-map, slice_get_within, mirror, SameUids, is_outside, Entry, Heard, FieldCycle, LogLine, entries, slots_before, is_open, AgreeBefore, answers_agree, Spot, Name, Demand, Stretch, AreKept, needs, IsContradictedAt, IsFirstQuietReply, all_allow_to, ArePutInOrder}
-use Rattle.vic_tree.specs.declared.key_range.KeyRange.{KeyRange}
 use Rattle.vic_verdict.specs.declared.stretches.Settled.{Settled}
 use Rattle.vic_verdict.specs.Demands.{Keeps}
 use Rattle.vic_verdict.specs.Replies.{Answers, IsQuietReply}
@@ -38,18 +37,9 @@ heard_by es i set ts ns ss ds g = are_heard es g.from i ns ss ds g.gathered g.re
 open_by : (es : List Entry) (i : ℕ) (set : ℕ → Bool) (ts : List Stretch) (ns : List Name) (ss : List Spot) (ds : List Demand) (g : IsWalked es i set ts ns ss ds) → (j : ℕ) → g.from ≤ j → j ≤ i → SameUids (λ u. set u && all_allow_to ns ss j (mirror u)) (is_open (slots_before es j))
 open_by es i set ts ns ss ds g = gathered_open es g.from i set ns ss ds g.gathered g.ready g.uids
 
-pub walked_as : (es : List Entry) (i : ℕ) (rs qs : List KeyRange) (ts us : List Stretch) (ns ms : List Name) (ss ps : List Spot) (ds cs : List Demand) → qs ≡ rs → us ≡ ts → ms ≡ ns → ps ≡ ss → cs ≡ ds → IsWalked es i (is_outside rs) ts ns ss ds → IsWalked es i (is_outside qs) us ms ps cs
-walked_as es i rs qs ts us ns ms ss ps ds cs a b c d e w =
-    subst (λ xs. IsWalked es i (is_outside xs) us ms ps cs) (sym a)
-    (subst (λ xs. IsWalked es i (is_outside rs) xs ms ps cs) (sym b)
-    (subst (λ xs. IsWalked es i (is_outside rs) ts xs ps cs) (sym c)
-    (subst (λ xs. IsWalked es i (is_outside rs) ts ns xs cs) (sym d)
-    (subst (λ xs. IsWalked es i (is_outside rs) ts ns ss xs) (sym e) w))))
-
 -- a field cycle, once all is settled
 pub walked_anew : (es : List Entry) (i cut : ℕ) (old set : ℕ → Bool) (kept new : List Stretch) (ns sorted : List Name) (ss : List Spot) (ds : List Demand) (e : Entry) → slice_get es i ≡ Some e → e ≡ FieldCycle → i ≤ cut → IsFirstQuietReply ns i cut → ArePutInOrder ns sorted → Keeps sorted ds cut kept new → SameUids set (λ u. old u && all_allow_to ns ss cut (mirror u)) → IsWalked es i old kept ns ss ds → IsWalked es (i + 1) set new [] [] []
 walked_anew es i cut old set kept new ns sorted ss ds e k is upto first order keeps settled g =
-    let within = first.within in
     let end : cut ≡ i = omega arith in
     let heard = heard_by es i old kept ns ss ds g in
     let here : slice_get es i ≡ Some FieldCycle = k ∙ ap (λ x. Some x) is in
@@ -94,19 +84,19 @@ settled_to lines s i old kept ns sorted ss ds within g first order keeps settled
   firsts = sym (take-map (λ (l : LogLine). l.item) cut lines)
 
   size : length (entries front) ≡ cut
-  size = ap length firsts ∙ length-take-le cut es (let long = length-map lines (λ (l : LogLine). l.item) in omega (arith, long, within, upto))
+  size = ap length firsts ∙ length-take-le cut es (let long = length-map lines (λ (l : LogLine). l.item) in omega (arith, upto))
 
   agree : AgreeBefore cut (entries front) es
   agree j h = ap (λ xs. slice_get xs j) firsts ∙ taken cut es j h
 
   opened : IsOpenTo lines (is_outside s.closed.items) cut
   opened = record {
-    within = omega (arith, within, upto);
+    within = omega (arith, upto);
     answer = λ j r k.
-        let below : j < cut = let inside = slice_get_within (entries front) j (Heard r) k in omega (arith, inside, size) in
+        let below : j < cut = let inside = slice_get_within (entries front) j (Heard r) k in omega (arith, size) in
         let at = sym (agree j below) ∙ k in
-        let answers : Answers es j r.uid = answers_before es g.from i cut ns heard first.first j r (omega (arith, below, upto)) below at in
-        (answers.0, answers_agree j (entries front) es (λ m h. agree m (omega (arith, h, below))) r.uid ∙ answers.1);
+        let answers : Answers es j r.uid = answers_before es g.from i cut ns heard first.first j r (omega (arith, upto)) below at in
+        (answers.0, answers_agree j (entries front) es (λ m h. agree m (omega arith)) r.uid ∙ answers.1);
     uids = λ u w.
         settled u w
         ∙ (open_by es i old kept ns ss ds g cut since upto u w

@@ -1,6 +1,6 @@
 -- What is gathered between two field cycles, entry by entry, and which UIDs it leaves open.
 use Rattle.std.proofs.Common.{◌≡◌, ◌⊎◌, ℕ, zero, suc, ◌+◌, ◌^◌, ◌<◌, ◌≤◌, ◌==◌, List, [], ◌∷◌, ◌++◌, Bool, true, false, not, ◌&&◌, ◌||◌, Option, Some, None, All, Any, nat_le, slice_get, refl, sym, ap, ◌∙◌, subst, arith, inl, inr, eq-eqb, add-one}
-use Rattle.vic_verdict.proofs.Words.{All-push, IsUid, mirror, Entry, Heard, Sent, FieldCycle, Silent, Collision, Listed, Garbled, Reply, KeyBlock, is_in_some_block, wakes, is_quiet, is_quiet_by, Name, Spot, Demand, nat_tests, cases_lt, cases_eq, and_true, both_ways, lies_in_some, mask_at, answers_at, slots_before, is_open, SameUids, HaveKeys, is_heard, heard_of, list_all, spot_allows, all_allow, all_allow_to, all_hear_named, is_named_if, rules_out}
+use Rattle.vic_verdict.proofs.Words.{All-push, IsUid, mirror, Entry, Heard, Silent, Reply, KeyBlock, is_in_some_block, wakes, is_quiet, is_quiet_by, Name, Spot, Demand, nat_tests, cases_lt, cases_eq, and_true, both_ways, lies_in_some, mask_at, answers_at, slots_before, is_open, SameUids, HaveKeys, is_heard, heard_of, list_all, spot_allows, all_allow, all_allow_to, all_hear_named, rules_out}
 use Rattle.std.proofs.lemmas.List.Elements.{All-nil, All-weaker, All-head, All-tail}
 use Rattle.std.proofs.lemmas.List.Quantifiers.{Any-push}
 use Rattle.std.proofs.lemmas.List.Sums.{AllPass-from_list_all, list_all-from_AllPass}
@@ -46,7 +46,7 @@ gathered_first es i = record {
 
 pub gathered_next : (es : List Entry) (from i : ℕ) (e : Entry) (ns ms : List Name) (ss ts : List Spot) (ds cs : List Demand) → slice_get es i ≡ Some e → i < 2 ^ 32 → wakes (Some e) ≡ false → ms ≡ ns ++ names_at (Some e) i → TellsSpot es i e ss ts → ((r : Reply) → e ≡ Heard r → IsUid r.uid × (lies_in_some (mask_at es i) r.uid ≡ true)) → (from ≤ i → AreAsked es from i ds → AreAsked es from (i + 1) cs) → HasGathered es from i ns ss ds → HasGathered es from (i + 1) ms ts cs
 gathered_next es from i e ns ms ss ts ds cs k small awake named told fits asks h = record {
-  begun = let b = h.begun in omega arith;
+  begun = omega arith;
   small = λ _. omega arith;
   awake = λ j since lt. elim (cases_eq j i) [ inl same ↦ rw (same, k) awake | inr ne ↦ h.awake j since (omega arith) ];
   names = named ∙ (ap (λ xs. xs ++ names_at (Some e) i) h.names ∙ (ap (λ o. names_from es from i ++ names_at o i) (sym k) ∙ (sym (names_next es from i h.begun) ∙ ap (names_from es from) (sym (add-one i)))));
@@ -73,7 +73,6 @@ gathered_next es from i e ns ms ss ts ds cs k small awake named told fits asks h
   spots (inl w) = subst (All (IsSpot es from (i + 1))) (sym w.0) (All-weaker (IsSpot es from i) (IsSpot es from (i + 1)) later ss h.spots)
   spots (inr w) =
       let since = w.2.since in
-      let begun = h.begun in
       subst (All (IsSpot es from (i + 1))) (sym w.1) (All-push (IsSpot es from (i + 1)) ss w.0 (All-weaker (IsSpot es from i) (IsSpot es from (i + 1)) later ss h.spots) (record { since = omega arith; before = w.2.before; read = w.2.read; range = w.2.range; inside = w.2.inside }))
 
   more : (j : ℕ) → TellsSpot es i e ss ts → Any (λ (s : Spot). s.at ≡ j) ss → Any (λ (s : Spot). s.at ≡ j) ts
@@ -152,7 +151,7 @@ spots_say : (es : List Entry) (from i : ℕ) (ns : List Name) (ss : List Spot) (
 spots_say es from i ns ss ds h ready j u since below w = same_tests _ _ (to (slice_get es j) refl) from_place
   where
     says : (s : Spot) → IsSpot es from i s → s.at ≡ j → spot_allows ns s (mirror u) ≡ place_allows (slice_get es j) (answers_at es j u) u
-    says s it at = let before = it.before in spot_says es from i ns s u it w (gathered_quiet es from i ns ss ds h ready s.at u it.since (omega arith) w) ∙ ap (λ m. place_allows (slice_get es m) (answers_at es m u) u) at
+    says s it at = spot_says es from i ns s u it w (gathered_quiet es from i ns ss ds h ready s.at u it.since (omega arith) w) ∙ ap (λ m. place_allows (slice_get es m) (answers_at es m u) u) at
 
     ruled : (e : Entry) → slice_get es j ≡ Some e → rules_out e ≡ true → place_allows (Some e) false u ≡ true → all_allow_at ns ss j (mirror u) ≡ true → place_allows (Some e) (answers_at es j u) u ≡ true
     ruled e k out none all = elim (h.read j e since below k out) [

@@ -39,10 +39,10 @@ keep-length p (n ∷ ns) = ap suc (keep-length p ns)
 pub keep-order : (p : ℕ → ℕ → Bool) (ns : List Name) → AreInOrder ns → AreInOrder (keep_all p ns)
 keep-order p ns up i j d le below =
     let short : j < length ns = subst (λ m. j < m) (keep-length p ns) below in
-    let a = ap (λ (n : Name). n.key) (get_or-map (keep p) ns i d d (omega (arith, le, short))) in
+    let a = ap (λ (n : Name). n.key) (get_or-map (keep p) ns i d d (omega arith)) in
     let b = ap (λ (n : Name). n.key) (get_or-map (keep p) ns j d d short) in
     let h = up i j d le short in
-    omega (arith, a, b, h)
+    omega arith
 
 pub keep-keys : (p : ℕ → ℕ → Bool) (ns : List Name) → HaveKeys ns → HaveKeys (keep_all p ns)
 keep-keys p ns h k d below =
@@ -74,16 +74,16 @@ nowhere = record { mask = 0; key = 0; at = 0; is_heard = false }
 -- a name that is the first from a key on
 pub start_here : (ns : List Name) (first at : ℕ) → AreInOrder ns → at < length ns → first ≤ (get_or ns at nobody).key → (0 < at → (get_or ns (at - 1) nobody).key < first) → IsStart ns first at
 start_here ns first at up lt from before = record {
-  within = omega (arith, lt);
+  within = omega arith;
   below = λ k d less.
       let last = before (omega (arith, less)) in
-      let here = ap (λ (n : Name). n.key) (get_or_default ns (at - 1) d nobody (omega (arith, less, lt))) in
-      let le = up k (at - 1) d (omega (arith, less)) (omega (arith, less, lt)) in
-      omega (arith, last, here, le);
+      let here = ap (λ (n : Name). n.key) (get_or_default ns (at - 1) d nobody (omega (arith, less))) in
+      let le = up k (at - 1) d (omega (arith, less)) (omega (arith, less)) in
+      omega arith;
   rest = λ k d ge short.
       let here = ap (λ (n : Name). n.key) (get_or_default ns at d nobody lt) in
       let le = up at k d ge short in
-      omega (arith, from, here, le);
+      omega arith;
 }
 
 -- the first i names of a list were gone over
@@ -101,9 +101,9 @@ ruled_more p old new i m h short is = record {
   done = λ k below within.
       ⊎_elim
       (λ same. subst (λ j. get_or (set new i m) j nobody ≡ keep p (get_or old j nobody)) (sym same) (get_or-set_same new i m nobody (subst (λ n. i < n) (sym h.same) short) ∙ (is ∙ ap (keep p) (h.rest i (omega arith)))))
-      (λ other. get_or-set_other new i k m nobody other ∙ h.done k (omega (arith, below, other)) within)
+      (λ other. get_or-set_other new i k m nobody other ∙ h.done k (omega (arith, below)) within)
       (cases_eq k i);
-  rest = λ k ge. get_or-set_other new i k m nobody (λ e. absurd (omega (arith, e, ge))) ∙ h.rest k (omega (arith, ge));
+  rest = λ k ge. get_or-set_other new i k m nobody (λ e. absurd (omega arith)) ∙ h.rest k (omega arith);
 }
 
 pub ruled_all : (p : ℕ → ℕ → Bool) (old new : List Name) (i : ℕ) → IsRuled p old new i → ((k : ℕ) → i ≤ k → k < length old → p (get_or old k nobody).key (quiet_of (get_or old k nobody)) ≡ true) → new ≡ keep_all p old
@@ -144,14 +144,14 @@ pub where_below : (p : Name → Bool) (ns : List Name) (k i : ℕ) → i ≤ len
 where_below p ns k zero le h = refl
 where_below p ns k (suc i) le h =
     ap (λ n. has_where p (take n ns) k) (sym (add-one i))
-    ∙ (where_skip p ns k i (omega (arith, le)) (λ e. let lt = h i (omega arith) in absurd (omega (arith, e, lt)))
-    ∙ where_below p ns k i (omega (arith, le)) (λ j lt. h j (omega (arith, lt))))
+    ∙ (where_skip p ns k i (omega arith) (λ e. let lt = h i (omega arith) in absurd (omega arith))
+    ∙ where_below p ns k i (omega arith) (λ j lt. h j (omega arith)))
 
 pub where_above : (p : Name → Bool) (ns : List Name) (k i more : ℕ) → i + more ≡ length ns → ((j : ℕ) → i ≤ j → j < length ns → k < (get_or ns j nobody).key) → has_where p (take i ns) k ≡ has_where p ns k
-where_above p ns k i zero e h = ap (λ ms. has_where p ms k) (take_all i ns (omega (arith, e)))
+where_above p ns k i zero e h = ap (λ ms. has_where p ms k) (take_all i ns (omega arith))
 where_above p ns k i (suc more) e h =
-    sym (where_skip p ns k i (omega (arith, e)) (λ same. let lt = h i (omega arith) (omega (arith, e)) in absurd (omega (arith, same, lt))))
-    ∙ where_above p ns k (i + 1) more (omega (arith, e)) (λ j le lt. h j (omega (arith, le)) lt)
+    sym (where_skip p ns k i (omega arith) (λ same. let lt = h i (omega arith) (omega arith) in absurd (omega arith)))
+    ∙ where_above p ns k (i + 1) more (omega arith) (λ j le lt. h j (omega arith) lt)
 
 pub between_parts : (first last k : ℕ) → is_between first last k ≡ true → (first ≤ k) × (k ≤ last)
 between_parts first last k e = (grind (arith, nat_tests), grind (arith, nat_tests))

@@ -23,7 +23,7 @@ loop-name-preserved c =
 pub returns-then-is_full : goal.returns-then-is_full
 returns-then-is_full c =
     let full : length c.loop-name.uids.items ≡ 3 = eqb-true _ 3 (sym c.is_full.ensures.value ∙ c.if-is_full.true) in
-    gathers_full _ _ _ _ (λ u p. ready_so_far c.args.names.now c.loop-name.name-index c.args.at u p) (omega (arith, full)) c.loop-name.invariant
+    gathers_full _ _ _ _ (λ u p. ready_so_far c.args.names.now c.loop-name.name-index c.args.at u p) (omega arith) c.loop-name.invariant
 
 pub returns : goal.returns
 returns c = subst (λ ns. Gathers (IsReadyIn ns c.args.at) c.args.uids.now.items c.loop-name.uids.items) (take_all c.loop-name.name-index c.args.names.now c.loop-name-test.false) c.loop-name.invariant

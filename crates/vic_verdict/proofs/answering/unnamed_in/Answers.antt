@@ -12,7 +12,7 @@ returns-in-Some-between-clause-uids g c ns names masks =
     let kept = subst (All (IsUnnamed set ns)) (sym (c.deref-2.ensures.value ∙ c.truncate.ensures.items)) (All-take (IsUnnamed set ns) _ c.args.masks.now.items masks) in
     let x : Unnamed = c.in-Some.around.now in
     let some = c.in-Some.ensures.item.3.0 in
-    let around = subst (IsUnnamed set ns) (sym (c.in-Some.ensures.item.3.1 x)) (kept (length c.deref-2.result.now - 1) x (omega (arith, some))) in
+    let around = subst (IsUnnamed set ns) (sym (c.in-Some.ensures.item.3.1 x)) (kept (length c.deref-2.result.now - 1) x (omega arith)) in
     subst (λ l. UpToThree (is_unnamed set ns c.args.block.now.first l) c.in-Some-between.uids.items) c.last-last.ensures (c.in-Some-between.ensures set ns around)
 
 pub returns-clause-masks : goal.returns-clause-masks

@@ -10,7 +10,7 @@ loop-name-init c =
     let forward = c.last-last.ensures.is_range.0 in
     let from = c.first-first.ensures.value in
     let to = c.last-last.ensures.value in
-    closed_first c.args.closed.now.items c.names_between-inside.result.now c.first-first.result c.last-last.result (omega (arith, forward, from, to)) c.names_between-inside.ensures.inside
+    closed_first c.args.closed.now.items c.names_between-inside.result.now c.first-first.result c.last-last.result (omega arith) c.names_between-inside.ensures.inside
 
 pub loop-name-preserved : goal.loop-name-preserved
 loop-name-preserved c =
@@ -55,11 +55,11 @@ returns c =
           let next = w.push-then-from-last.new.self.items in
           let to : last ≡ last + 1 - 1 = omega arith in
           let is : next ≡ new ++ (from, last + 1 - 1) ∷ [] = w.in_ok-push-2.ensures.items ∙ ap (λ r. new ++ r ∷ []) (w.new-then-from-last.ensures ∙ ap (λ n. (from, n)) to) in
-          let upto : from < last + 1 = let le = w.if-from-last.true in omega (arith, le) in
+          let upto : from < last + 1 = let le = w.if-from-last.true in omega arith in
           subst (λ v. Closes ns (is_between c.first-first.result last) old v.items) (sym w.closed-is)
           (closed_all old new next inside ns c.first-first.result last from c.loop-name.name-index c.loop-name-test.false left (pushed_one new next from (last + 1) upto is) c.loop-name.invariant)
       | else-from-last w ↦
-          let past : last + 1 ≤ from = let lt = w.if-from-last.false in omega (arith, lt) in
+          let past : last + 1 ≤ from = let lt = w.if-from-last.false in omega arith in
           subst (λ v. Closes ns (is_between c.first-first.result last) old v.items) (sym w.closed-is)
           (closed_all old new new inside ns c.first-first.result last from c.loop-name.name-index c.loop-name-test.false left (pushed_none new from (last + 1) past) c.loop-name.invariant)
     ]))

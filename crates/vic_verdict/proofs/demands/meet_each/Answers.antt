@@ -27,7 +27,7 @@ loop-index-preserved g c = record {
             let need : f.need ≡ d.need = w.from-need.ensures in
             subst (λ v. AreMetTo es ds (k + 1) c.args.found.now.items v.items) (sym w.found-is)
             (met_found es ds k d f c.args.found.now.items c.loop-index.found.items w.push.new.self.items c.loop-index-test.true is w.in_ok-push.ensures.items
-            (found_at es (g.S.OpenSet.is_open c.args.set.now) c.args.names.now d f same asked w.in_ok-uids.ensures.uids w.place-at.ensures need (let long = w.if-len-need.false in let len = w.len.ensures.value in omega (arith, long, len, need))) need before)
+            (found_at es (g.S.OpenSet.is_open c.args.set.now) c.args.names.now d f same asked w.in_ok-uids.ensures.uids w.place-at.ensures need (let long = w.if-len-need.false in let len = w.len.ensures.value in omega arith)) need before)
         | else-not-is_asked_again w ↦
             subst (λ v. AreMetTo es ds (k + 1) c.args.found.now.items v.items) (sym w.found-is)
             (met_skipped es ds k c.args.found.now.items c.loop-index.found.items c.loop-index-test.true (c.is_asked_again.ensures w.if-not-is_asked_again.false) before)
@@ -36,4 +36,4 @@ loop-index-preserved g c = record {
 
 pub returns-clause-met : goal.returns-clause-met
 returns-clause-met g c es same h done =
-    met_all es c.args.names.now c.args.demands.now c.loop-index.index c.args.found.now.items c.loop-index.found.items h (let last = c.loop-index-test.false in let within = c.loop-index.auto.index-end in omega (arith, last, within)) (c.loop-index.invariant.met es same h)
+    met_all es c.args.names.now c.args.demands.now c.loop-index.index c.args.found.now.items c.loop-index.found.items h (let last = c.loop-index-test.false in let within = c.loop-index.auto.index-end in omega arith) (c.loop-index.invariant.met es same h)

@@ -44,5 +44,5 @@ loop-stretch-preserved g c es same kept =
 pub returns : goal.returns
 returns g c es same kept =
     found_all es c.args.stretches.now c.loop-stretch.stretch-index c.loop-stretch.found.items
-    (let last = c.loop-stretch-test.false in let within = c.loop-stretch.auto.stretch-index-end in omega (arith, last, within))
+    (let last = c.loop-stretch-test.false in let within = c.loop-stretch.auto.stretch-index-end in omega arith)
     kept (c.loop-stretch.invariant es same kept)

@@ -15,21 +15,21 @@ loop-index-preserved c =
     let here = entry_at lines i l c.loop-index-test.true c.index-lines-index.is ∙ ap (λ (e : Entry). Some e) (sym c.item.ensures) in
     elim c.if-rules_out.branch [
       | then-rules_out w ↦ let last = w.last-is in record {
-        from = omega (arith, from, less, last);
-        before = omega (arith, last);
-        within = let test = c.loop-index-test.true in omega (arith, last, test);
-        after = λ j e above below k. absurd (omega (arith, above, below, last));
+        from = omega arith;
+        before = omega arith;
+        within = let test = c.loop-index-test.true in omega arith;
+        after = λ j e above below k. absurd (omega arith);
       }
       | else-rules_out w ↦ let last = w.last-is in record {
-        from = omega (arith, from, last);
-        before = omega (arith, less, last);
-        within = let within = before.within in omega (arith, within, last);
+        from = omega arith;
+        before = omega arith;
+        within = let within = before.within in omega arith;
         after = λ j e above below k. ⊎_elim
             (λ same.
             let both : Some e ≡ Some c.item.result = sym k ∙ (ap (slice_get (entries lines)) same ∙ here) in
             let it : e ≡ c.item.result = cc in
             ap rules_out it ∙ (sym c.rules_out.ensures ∙ w.if-rules_out.false))
-            (λ other. before.after j e (omega (arith, above, last)) (omega (arith, below, other)) k)
+            (λ other. before.after j e (omega arith) (omega arith) k)
             (cases_eq j i);
       }
     ]
@@ -40,4 +40,4 @@ returns-clause-after c j e above k =
     let within = slice_get_within (entries lines) j e k in
     let long = length-map lines (λ (l : LogLine). l.item) in
     let end = c.loop-index-test.false in
-    c.loop-index.invariant.after j e above (omega (arith, within, long, end)) k
+    c.loop-index.invariant.after j e above (omega arith) k

@@ -23,14 +23,14 @@ pub overflow_mul-block : goal.overflow_mul-block
 overflow_mul-block c =
     let block = subst (λ (o : Option KeyBlock). IfSome o (λ b. IsBlock b.first b.len)) c.in-Some.is c.requires in
     let keys = block.keys in
-    omega (arith, keys)
+    omega arith
 
 pub overflow_add-block : goal.overflow_add-block
 overflow_add-block c =
     let block = subst (λ (o : Option KeyBlock). IfSome o (λ b. IsBlock b.first b.len)) c.in-Some.is c.requires in
     let keys = block.keys in
     let short = block.short in
-    omega (arith, keys, short)
+    omega arith
 
 pub returns : goal.returns
 returns c =
@@ -46,7 +46,7 @@ returns c =
     ]) in
     let short = block.short in
     let keys = block.keys in
-    let few : len < 256 = omega (arith, short) in
+    let few : len < 256 = omega arith in
     let starts : first_of s ≡ first = div-mul-add first 256 len few in
     let bits : len_of s ≡ len = mod-mul-add first 256 len few in
     let ends : last_of s ≡ first + (2 ^ (56 - len) - 1) = ap (λ n. n + (2 ^ (56 - len_of s) - 1)) starts ∙ ap (λ l. first + (2 ^ (56 - l) - 1)) bits in
@@ -56,7 +56,7 @@ returns c =
       record {
         place = refl;
         key = heard;
-        range = (omega (arith, bits, short), (omega (arith, starts, ends), omega (arith, ends, keys)));
+        range = (omega arith, (omega arith, omega arith));
         inside = λ k. ap (λ n. is_between n (last_of s) k) starts ∙ (ap (λ n. is_between first n k) ends ∙ ap (λ o. is_in_some_block o k) (sym c.in-Some.is));
       },
     )
