@@ -15,15 +15,11 @@ all_cover ns spots k = list_all (λ s. not (is_in s k) || has_left ns k) spots
 
 pub keep_twice : (p q : ℕ → ℕ → Bool) (ns : List Name) → keep_all p (keep_all q ns) ≡ keep_all (λ k t. q k t && p k t) ns
 keep_twice p q [] = refl
-keep_twice p q (n ∷ ns) =
-    ap (λ (b : Bool). record { key = n.key; at = n.at; is_heard = n.is_heard; left = b } ∷ keep_all p (keep_all q ns)) (and_thrice n.left (q n.key (quiet_of n)) (p n.key (quiet_of n)))
-    ∙ ap (λ (ms : List Name). keep (λ k t. q k t && p k t) n ∷ ms) (keep_twice p q ns)
+keep_twice p q (n ∷ ns) = rw (keep_twice p q ns, and_thrice n.left (q n.key (quiet_of n)) (p n.key (quiet_of n))) refl
 
 pub keep_alike : (p q : ℕ → ℕ → Bool) → ((k t : ℕ) → p k t ≡ q k t) → (ns : List Name) → keep_all p ns ≡ keep_all q ns
 keep_alike p q same [] = refl
-keep_alike p q same (n ∷ ns) =
-    ap (λ (b : Bool). record { key = n.key; at = n.at; is_heard = n.is_heard; left = n.left && b } ∷ keep_all p ns) (same n.key (quiet_of n))
-    ∙ ap (λ (ms : List Name). keep q n ∷ ms) (keep_alike p q same ns)
+keep_alike p q same (n ∷ ns) = rw (same n.key (quiet_of n), keep_alike p q same ns) refl
 
 pub kept_whole : (p : ℕ → ℕ → Bool) (n : Name) → p n.key (quiet_of n) ≡ true → keep p n ≡ n
 kept_whole p n e = ap (λ (b : Bool). record { key = n.key; at = n.at; is_heard = n.is_heard; left = n.left && b }) e ∙ ap (λ (b : Bool). record { key = n.key; at = n.at; is_heard = n.is_heard; left = b }) (and_true n.left)

@@ -22,21 +22,11 @@ loop-name-preserved c =
     let from = c.loop-name.from in
     let i = c.loop-name.name-index in
     elim c.if-name.branch [
-      | then-name w ↦
-          subst (λ n. IsClosedTo old c.if-name.closed.items ns first last n (i + 1)) (sym w.from-is)
-          (subst (λ v. IsClosedTo old v.items ns first last ((get_or ns i nobody).key + 1) (i + 1)) (sym w.closed-is)
-          (elim w.if-from-name.branch [
-            | then-from-name+in_ok-push v ↦
-                subst (λ x. IsClosedTo old x.items ns first last ((get_or ns i nobody).key + 1) (i + 1)) (sym v.closed-is)
-                (closed_left old new v.push.new.self.items ns first last from i c.names_between-inside.ensures.order c.names_between-inside.ensures.inside c.loop-name-test.true w.if-name.true (pushed_one new v.push.new.self.items from (get_or ns i nobody).key v.if-from-name.true (v.in_ok-push.ensures.items ∙ ap (λ r. new ++ r ∷ []) v.new.ensures)) c.loop-name.invariant)
-            | else-from-name v ↦
-                subst (λ x. IsClosedTo old x.items ns first last ((get_or ns i nobody).key + 1) (i + 1)) (sym v.closed-is)
-                (closed_left old new new ns first last from i c.names_between-inside.ensures.order c.names_between-inside.ensures.inside c.loop-name-test.true w.if-name.true (pushed_none new from (get_or ns i nobody).key v.if-from-name.false) c.loop-name.invariant)
-          ]))
-      | else-name w ↦
-          subst (λ n. IsClosedTo old c.if-name.closed.items ns first last n (i + 1)) (sym w.from-is)
-          (subst (λ v. IsClosedTo old v.items ns first last from (i + 1)) (sym w.closed-is)
-          (closed_passed old new ns first last from i c.names_between-inside.ensures.order c.loop-name-test.true w.if-name.false c.loop-name.invariant))
+      | then-name w ↦ rw (w.from-is, w.closed-is) (elim w.if-from-name.branch [
+        | then-from-name+in_ok-push v ↦ rw v.closed-is (closed_left old new v.push.new.self.items ns first last from i c.names_between-inside.ensures.order c.names_between-inside.ensures.inside c.loop-name-test.true w.if-name.true (pushed_one new v.push.new.self.items from (get_or ns i nobody).key v.if-from-name.true (v.in_ok-push.ensures.items ∙ ap (λ r. new ++ r ∷ []) v.new.ensures)) c.loop-name.invariant)
+        | else-from-name v ↦ rw v.closed-is (closed_left old new new ns first last from i c.names_between-inside.ensures.order c.names_between-inside.ensures.inside c.loop-name-test.true w.if-name.true (pushed_none new from (get_or ns i nobody).key v.if-from-name.false) c.loop-name.invariant)
+      ])
+      | else-name w ↦ rw (w.from-is, w.closed-is) (closed_passed old new ns first last from i c.names_between-inside.ensures.order c.loop-name-test.true w.if-name.false c.loop-name.invariant)
     ]
 
 pub returns : goal.returns

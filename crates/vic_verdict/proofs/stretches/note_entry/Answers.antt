@@ -1,7 +1,7 @@
-use Rattle.std.proofs.Common.{◌≡◌, ◌+◌, ℕ, List, [], ◌∷◌, ◌++◌, inl, inr, ⊎_elim, ◌∙◌, true, refl, ap, sym, Option, Some, None, subst, arith, IfSome, slice_get, append-nil}
-use Rattle.vic_verdict.proofs.Words.{IfOk-weaker, KeyBlock, is_in_some_block, mirror, IsUid, Entry, Sent, Silent, Collision, Garbled, Listed, Heard, Reply, lies_in_some, mask_at, Name}
+use Rattle.std.proofs.Common.{false, ◌<◌, ◌^◌, ◌≡◌, ◌+◌, ℕ, List, [], ◌∷◌, ◌++◌, inl, inr, ⊎_elim, ◌∙◌, true, refl, ap, sym, Option, Some, None, subst, arith, IfSome, slice_get, append-nil}
+use Rattle.vic_verdict.proofs.Words.{Spot, Demand, wakes, rules_out, needs, IfOk-weaker, KeyBlock, is_in_some_block, mirror, IsUid, Entry, Sent, Silent, Collision, Garbled, Listed, Heard, Reply, lies_in_some, mask_at, Name}
 use Rattle.vic_frame.specs.LowBitsFirst.{IsBlock}
-use Rattle.vic_verdict.specs.Stretches.{HasGathered, name_at}
+use Rattle.vic_verdict.specs.Stretches.{HasGathered, name_at, names_at}
 use Rattle.vic_verdict.proofs.Demanding.{asked_nothing, asked_more}
 use Rattle.vic_verdict.proofs.Heard.{outside_reply, nobody_there}
 use Rattle.vic_verdict.proofs.Stretching.{gathered_next, gathered_passed, spot_told}
@@ -48,19 +48,15 @@ returns-in_ok-push_spot-in-Heard-clause-gathered c es from k valid at other fits
     (λ q e. let same : r ≡ q = cc in subst (λ (x : Reply). IsUid x.uid × (lies_in_some (mask_at es i) x.uid ≡ true)) same (is_uid, inside))
     (λ begun. asked_nothing es from i ds (Heard r) begun here refl) h
 
-has_block : (o : Option KeyBlock) (b : KeyBlock) → o ≡ Some b → IfSome o (λ r. IsBlock r.first r.len) → IsBlock b.first b.len
-has_block o b e h = subst (λ r. IfSome r (λ s. IsBlock s.first s.len)) e h
+-- a slot that requires tags
+gathered_asked : (es : List Entry) (from i : ℕ) (e : Entry) (need : ℕ) (ns : List Name) (ss : List Spot) (ds cs : List Demand) (keys : Option KeyBlock) → slice_get es i ≡ Some e → i < 2 ^ 32 → wakes (Some e) ≡ false → names_at (Some e) i ≡ [] → rules_out e ≡ false → needs e ≡ need → 0 < need → ((u : ℕ) → IsUid u → is_in_some_block keys (mirror u) ≡ lies_in_some (mask_at es i) u) → IfSome keys (λ b. IsBlock b.first b.len) → (b : KeyBlock) × (keys ≡ Some b) × (cs ≡ ds ++ record { first = b.first; len = b.len; need = need; at = i } ∷ []) → HasGathered es from i ns ss ds → HasGathered es from (i + 1) ns ss cs
+gathered_asked es from i e need ns ss ds cs keys k small awake none open_ needed some inside block more h =
+    gathered_passed es from i e ns ns ss ds cs k small awake (sym (ap (λ xs. ns ++ xs) none ∙ append-nil ns)) open_
+    (λ begun. asked_more es from i ds cs e (record { first = more.0.first; len = more.0.len; need = need; at = i }) begun k needed some (subst (λ o. IfSome o (λ b. IsBlock b.first b.len)) more.1 block) (λ u w. ap (λ o. is_in_some_block o (mirror u)) (sym more.1) ∙ inside u w) refl more.2) h
 
 pub returns-in-Collision-clause-gathered : goal.returns-in-Collision-clause-gathered
 returns-in-Collision-clause-gathered c = IfOk-weaker c.push_demand.result _ _ (λ yes told es from k valid at other fits h.
-    let here = k ∙ ap (λ e. Some e) c.in-Collision.is in
-    let more = told fits in
-    let i = c.args.index in
-    let ns = c.args.names.now.items in
-    let ds = c.args.demands.now.items in
-    let keys = c.keys-in-Collision.ensures in
-    gathered_passed es from i Collision ns ns c.args.spots.now.items ds c.push_demand.new.demands.items here c.requires refl (sym (append-nil ns)) refl
-    (λ begun. asked_more es from i ds c.push_demand.new.demands.items Collision (record { first = more.0.first; len = more.0.len; need = 2; at = i }) begun here refl (omega arith) (has_block c.keys-in-Collision.result more.0 more.1 keys.block) (λ u w. ap (λ o. is_in_some_block o (mirror u)) (sym more.1) ∙ keys.inside es i u valid at w) refl more.2) h) c.push_demand.ensures.some
+    gathered_asked es from c.args.index Collision 2 _ _ _ _ c.keys-in-Collision.result (k ∙ ap (λ e. Some e) c.in-Collision.is) c.requires refl refl refl refl (omega arith) (λ u w. c.keys-in-Collision.ensures.inside es c.args.index u valid at w) c.keys-in-Collision.ensures.block (told fits) h) c.push_demand.ensures.some
 
 pub returns-in-Collision-clause-unfit : goal.returns-in-Collision-clause-unfit
 returns-in-Collision-clause-unfit c = IfOk-weaker c.push_demand.result _ _ (λ yes told es k valid at failed.
@@ -69,14 +65,7 @@ returns-in-Collision-clause-unfit c = IfOk-weaker c.push_demand.result _ _ (λ y
 
 pub returns-in-Garbled-clause-gathered : goal.returns-in-Garbled-clause-gathered
 returns-in-Garbled-clause-gathered c = IfOk-weaker c.push_demand-in-Garbled.result _ _ (λ yes told es from k valid at other fits h.
-    let here = k ∙ ap (λ e. Some e) c.in-Garbled.is in
-    let more = told fits in
-    let i = c.args.index in
-    let ns = c.args.names.now.items in
-    let ds = c.args.demands.now.items in
-    let keys = c.keys-in-Garbled.ensures in
-    gathered_passed es from i Garbled ns ns c.args.spots.now.items ds c.push_demand-in-Garbled.new.demands.items here c.requires refl (sym (append-nil ns)) refl
-    (λ begun. asked_more es from i ds c.push_demand-in-Garbled.new.demands.items Garbled (record { first = more.0.first; len = more.0.len; need = 1; at = i }) begun here refl (omega arith) (has_block c.keys-in-Garbled.result more.0 more.1 keys.block) (λ u w. ap (λ o. is_in_some_block o (mirror u)) (sym more.1) ∙ keys.inside es i u valid at w) refl more.2) h) c.push_demand-in-Garbled.ensures.some
+    gathered_asked es from c.args.index Garbled 1 _ _ _ _ c.keys-in-Garbled.result (k ∙ ap (λ e. Some e) c.in-Garbled.is) c.requires refl refl refl refl (omega arith) (λ u w. c.keys-in-Garbled.ensures.inside es c.args.index u valid at w) c.keys-in-Garbled.ensures.block (told fits) h) c.push_demand-in-Garbled.ensures.some
 
 pub returns-in-Garbled-clause-unfit : goal.returns-in-Garbled-clause-unfit
 returns-in-Garbled-clause-unfit c = IfOk-weaker c.push_demand-in-Garbled.result _ _ (λ yes told es k valid at failed.
