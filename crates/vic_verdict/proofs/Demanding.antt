@@ -8,7 +8,8 @@ use Rattle.std.proofs.lemmas.List.Quantifiers.{Any-push}
 use Rattle.std.proofs.lemmas.List.Sums.{sum_by-cons, sum_by_more, sum_by_push, sum_by-take-le}
 use Rattle.std.proofs.lemmas.List.Sorted.{sum_by-IsPermutation}
 use Rattle.vic_log.specs.Slots.{allows}
-use Rattle.vic_verdict.specs.Demands.{needs_at, all_needs, Meets, IsDemand, answers_by, IsUnmet, IsUnmetAt, IsImpliedBy, IsAskedAgain, HasBlock, HasBlocks, HasKeysAt, HasNamesInOrder, IsKept, Keeps, AreMet, AreAsked, asked_by, demands_to, is_asked}
+use Rattle.vic_verdict.specs.Demands.{needs_at, all_needs, Meets}
+use Rattle.vic_verdict.specs.inner.Asked.{IsDemand, answers_by, IsUnmet, IsUnmetAt, IsImpliedBy, IsAskedAgain, HasBlock, HasBlocks, HasKeysAt, HasNamesInOrder, IsKept, Keeps, AreMet, AreAsked, asked_by, demands_to, is_asked}
 use Rattle.vic_verdict.proofs.Silencing.{silenced_later}
 use Rattle.vic_verdict.proofs.Entries.{asks_two_iff, asks_one_iff}
 use Rattle.vic_verdict.proofs.Supplied.{UpToThree-same}

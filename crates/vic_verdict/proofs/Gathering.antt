@@ -10,7 +10,7 @@ use Rattle.std.proofs.lemmas.Map.Keys.{IsDistinct-cons, IsDistinct-from_apart}
 use Rattle.std.proofs.lemmas.Map.Made.{length-le_from_is_member}
 use Rattle.vic_log.proofs.Supply.{asks_within}
 use Rattle.vic_verdict.specs.Demands.{all_needs}
-use Rattle.vic_verdict.specs.Gathered.{all_chosen}
+use Rattle.vic_verdict.specs.inner.Gathered.{all_chosen}
 use Rattle.vic_verdict.specs.Explained.{HasAllHeard}
 use Rattle.vic_verdict.proofs.Choosing.{filter_yes, filter_no}
 use Rattle.vic_verdict.proofs.Decide.{IsPossibleUid-iff}

@@ -5,8 +5,8 @@ use Rattle.std.proofs.lemmas.List.Sorted.{IsPermutation-sym}
 use Rattle.std.proofs.lemmas.List.Elements.{All-weaker}
 use Rattle.vic_log.proofs.Places.{agree_upto}
 use Rattle.vic_verdict.proofs.Entries.{EntryAsks}
-use Rattle.vic_verdict.specs.Replies.{Answers, is_quiet_reply, IsQuietReply}
-use Rattle.vic_verdict.specs.Stretches.{HasGathered, names_from}
+use Rattle.vic_verdict.specs.inner.Replies.{Answers, is_quiet_reply, IsQuietReply}
+use Rattle.vic_verdict.specs.inner.Stretches.{HasGathered, names_from}
 use Rattle.vic_verdict.proofs.Silencing.{silenced_permuted}
 use Rattle.vic_verdict.proofs.Lacking.{taken}
 use Rattle.vic_verdict.proofs.Naming.{IsReplyOf, is_reply_at, names_replies, reply_named}

@@ -3,7 +3,7 @@ use Rattle.std.proofs.Common.{◌≡◌, ℕ, ◌+◌, ◌<◌, ◌≤◌, ◌==
 use Rattle.vic_verdict.proofs.Words.{get_or_default, IsStrictlyIncreasing, false_from_ne_true, cases_eq, cases_lt, has, AreBelow}
 use Rattle.vic_verdict.proofs.Failing.{member_at, place_of}
 use Rattle.vic_verdict.proofs.Inserted.{rising_order}
-use Rattle.vic_verdict.specs.Merging.{IsPlaceOf}
+use Rattle.vic_verdict.specs.inner.Merging.{IsPlaceOf}
 
 -- a rising list has a number if and only if it is at its index
 lacks : (us : List ℕ) (n u : ℕ) → IsStrictlyIncreasing us → IsPlaceOf us n u → (n < length us → get_or us n 0 ≡ u → ⊥) → has us u ≡ false

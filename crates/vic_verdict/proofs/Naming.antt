@@ -6,8 +6,8 @@ use Rattle.std.proofs.lemmas.List.Elements.{All-nil, All-cons, All-append}
 use Rattle.std.proofs.lemmas.List.Sums.{list_all-from_AllPass}
 use Rattle.vic_frame.proofs.MirrorLaws.{mirror_below, same_test}
 use Rattle.vic_frame.specs.declared.request.Request.TheVariants.{StayQuiet}
-use Rattle.vic_verdict.specs.Stretches.{name_at, names_at, names_from}
-use Rattle.vic_verdict.specs.Sweep.{are_left}
+use Rattle.vic_verdict.specs.inner.Stretches.{name_at, names_at, names_from}
+use Rattle.vic_verdict.specs.inner.Sweep.{are_left}
 
 -- ---- UIDs by their keys
 

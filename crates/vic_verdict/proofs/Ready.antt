@@ -8,7 +8,7 @@ use Rattle.vic_frame.specs.LowBitsFirst.{IsKey}
 use Rattle.vic_frame.proofs.MirrorLaws.{mirror_below, mirror_of_uid}
 use Rattle.vic_tree.specs.OpenSet.{in_mask, without_keys}
 use Rattle.vic_tree.proofs.GatheringLaws.{gathers_both, gathers_like}
-use Rattle.vic_verdict.specs.Answering.{AreOpenNames, HasNamedIn, is_answering, is_awake, is_unnamed_in}
+use Rattle.vic_verdict.specs.inner.Answering.{AreOpenNames, HasNamedIn, is_answering, is_awake, is_unnamed_in}
 use Rattle.vic_verdict.proofs.Replying.{tells_own}
 use Rattle.vic_verdict.proofs.Silencing.{silenced_later}
 use Rattle.vic_verdict.proofs.Supplied.{UpToThree-same}

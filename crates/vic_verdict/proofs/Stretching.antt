@@ -5,9 +5,9 @@ use Rattle.std.proofs.lemmas.List.Elements.{All-nil, All-weaker, All-head, All-t
 use Rattle.std.proofs.lemmas.List.Quantifiers.{Any-push}
 use Rattle.std.proofs.lemmas.List.Sums.{AllPass-from_list_all, list_all-from_AllPass}
 use Rattle.vic_tree.proofs.BoolLaws.{same_tests}
-use Rattle.vic_verdict.specs.Demands.{AreAsked}
-use Rattle.vic_verdict.specs.Stretches.{names_at, names_from, AddsSpot, HasRead, IsSpot, NobodyAt, HasGathered}
-use Rattle.vic_verdict.specs.Sweep.{AreUnsettled, are_left, hears_named, HasRange}
+use Rattle.vic_verdict.specs.inner.Asked.{AreAsked}
+use Rattle.vic_verdict.specs.inner.Stretches.{names_at, names_from, AddsSpot, HasRead, IsSpot, NobodyAt, HasGathered}
+use Rattle.vic_verdict.specs.inner.Sweep.{AreUnsettled, are_left, hears_named, HasRange}
 use Rattle.vic_verdict.proofs.Demanding.{any_kept, asked_anew}
 use Rattle.vic_verdict.proofs.Lacking.{place_allows, open_place}
 use Rattle.vic_verdict.proofs.Naming.{heard_key, heard_named, names_keys, names_left, names_next, names_none, quiet_names}

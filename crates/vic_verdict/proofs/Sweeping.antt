@@ -3,7 +3,7 @@ use Rattle.std.proofs.Common.{◌≡◌, ℕ, zero, suc, ◌+◌, ◌-◌, ◌<�
 use Rattle.vic_verdict.proofs.Words.{list_all, list_any, cases_eq, cases_lt, false≢true, and_parts, and_from, or_cases, or_left, or_right, nat_tests, get_or-map, get_or_default, All-head, All-tail, list_any_more, Name, Spot, Run, is_between, quiet_of, first_of, last_of, heard_of, is_heard, is_in, all_leave, level_leaves, mask_leaves, run_leaves, keep_all, has_where, has_left, is_quiet_by, spot_allows, all_allow, all_allow_to, is_named, is_named_if, all_hear_named, AreInOrder, HaveKeys, list_any-IsPermutation, and_true, lt_yes, or_false}
 use Rattle.std.proofs.lemmas.List.Folds.{list_all_more}
 use Rattle.vic_verdict.specs.declared.sweep.Level.{Level}
-use Rattle.vic_verdict.specs.Sweep.{slot_leaves, spot_leaves, keep, hears_named, are_left, IsStart}
+use Rattle.vic_verdict.specs.inner.Sweep.{slot_leaves, spot_leaves, keep, hears_named, are_left, IsStart}
 use Rattle.std.proofs.Math.Seq.{take-append_seam}
 use Rattle.vic_tree.proofs.BoolLaws.{and_thrice, same_tests}
 

@@ -39,15 +39,16 @@ pub use Rattle.vic_verdict.specs.declared.judging.Verdict.TheVariants.{Impossibl
 pub use Rattle.vic_verdict.specs.declared.names.Name.{Name}
 pub use Rattle.vic_verdict.specs.declared.names.TheConstants.{NEVER}
 pub use Rattle.vic_verdict.specs.declared.sweep.Run.{Run}
-pub use Rattle.vic_verdict.specs.Answering.{HasInside, IsReadyIn, is_ready_at, IsKnown}
-pub use Rattle.vic_verdict.specs.Closed.{is_in_some, Closes}
-pub use Rattle.vic_verdict.specs.Demands.{IsMet, IsDemandBy, AreKept, needs, needs_of, IsFoundAt, IsFound, AreFound, HasHeard}
-pub use Rattle.vic_verdict.specs.Gathered.{gathered, is_other, chosen}
+pub use Rattle.vic_verdict.specs.inner.Answering.{HasInside, IsReadyIn, is_ready_at, IsKnown}
+pub use Rattle.vic_verdict.specs.inner.Closed.{is_in_some, Closes}
+pub use Rattle.vic_verdict.specs.Demands.{IsMet, needs, needs_of, IsFoundAt, IsFound, AreFound, HasHeard}
+pub use Rattle.vic_verdict.specs.inner.Asked.{IsDemandBy, AreKept}
+pub use Rattle.vic_verdict.specs.inner.Gathered.{gathered, is_other, chosen}
 pub use Rattle.vic_verdict.specs.Keys.{AreKeysOf}
-pub use Rattle.vic_verdict.specs.Merging.{AreBelow}
+pub use Rattle.vic_verdict.specs.inner.Merging.{AreBelow}
 pub use Rattle.vic_verdict.specs.Places.{answering}
 pub use Rattle.vic_verdict.specs.Possible.{IsPossible, IsCertainUid, IsPossibleUid, Lacks, IsContradictedAt, IsContradiction, rules_out}
-pub use Rattle.vic_verdict.specs.Replies.{IsFirstQuietReply, reply_place}
+pub use Rattle.vic_verdict.specs.inner.Replies.{IsFirstQuietReply, reply_place}
 pub use Rattle.vic_verdict.specs.Rising.{IsFailing, IsListOf, SameMembers}
-pub use Rattle.vic_verdict.specs.Sweep.{is_quiet_by, AreInOrder, quiet_of, has_where, keep_all, HaveKeys, is_named, has_left, all_allow_to, all_allow, all_hear_named, all_leave, mask_leaves, run_leaves, is_in, ArePutInOrder, heard_of, is_heard, spot_allows, is_named_if, first_of, last_of, level_leaves}
+pub use Rattle.vic_verdict.specs.inner.Sweep.{is_quiet_by, AreInOrder, quiet_of, has_where, keep_all, HaveKeys, is_named, has_left, all_allow_to, all_allow, all_hear_named, all_leave, mask_leaves, run_leaves, is_in, ArePutInOrder, heard_of, is_heard, spot_allows, is_named_if, first_of, last_of, level_leaves}
 pub use Rattle.vic_verdict.specs.Verdict.{IsVerdict, NoSuch, IsLeast, IsAbsent, IsUnlisted, IsUnsettled, IsDoubtful, IsFirstMask}

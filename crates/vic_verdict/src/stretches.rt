@@ -9,7 +9,7 @@ ghost use Rattle.vic_log.specs.declared.entry.Entry.TheVariants.{FieldCycle, Sen
 ghost use Rattle.vic_log.specs.OpenRounds.{IsCursorAt};
 ghost use Rattle.vic_log.specs.Order.{AreValid};
 ghost use Rattle.vic_verdict.specs.Possible.{IsContradictedAt};
-ghost use Rattle.vic_verdict.specs.Stretches.{AddsSpot, HasGathered, IsSettled, names_at};
+ghost use Rattle.vic_verdict.specs.inner.Stretches.{AddsSpot, HasGathered, IsSettled, names_at};
 
 use crate::closed::{LENGTHS, Spot};
 use crate::demands::{Demand, Stretch, keep_stretch, push_demand};

@@ -11,8 +11,8 @@ ghost use Rattle.vic_frame.specs.LowBitsFirst.{mirror};
 ghost use Rattle.vic_tree.specs.OpenSet.{SameUids};
 ghost use Rattle.vic_verdict.specs.declared.closed.Spot.{Spot as SpotValue};
 ghost use Rattle.vic_tree.specs.Ranges.{is_outside};
-ghost use Rattle.vic_verdict.specs.Replies.{IsFirstQuietReply};
-ghost use Rattle.vic_verdict.specs.Sweep.{slot_leaves, level_leaves, spot_leaves, all_leave, mask_leaves, run_leaves, IsLevel, keep_all, all_allow_to, HasRange, AreInOrder, ArePutInOrder, AreUnsettled};
+ghost use Rattle.vic_verdict.specs.inner.Replies.{IsFirstQuietReply};
+ghost use Rattle.vic_verdict.specs.inner.Sweep.{slot_leaves, level_leaves, spot_leaves, all_leave, mask_leaves, run_leaves, IsLevel, keep_all, all_allow_to, HasRange, AreInOrder, ArePutInOrder, AreUnsettled};
 
 use crate::closed::{Spot, close_spots};
 use crate::names::{Name, first_quiet_reply, start_near};

@@ -2,7 +2,7 @@ use Rattle.std.proofs.Common.{ℕ, List, ◌-◌, length, sym, ◌∙◌, subst,
 use Rattle.vic_verdict.proofs.Words.{All-push, UpToThree, is_named}
 use Rattle.std.proofs.lemmas.List.Elements.{All-take}
 use Rattle.vic_verdict.specs.declared.answering.Unnamed.{Unnamed}
-use Rattle.vic_verdict.specs.Answering.{IsUnnamed, is_unnamed, is_unnamed_in}
+use Rattle.vic_verdict.specs.inner.Answering.{IsUnnamed, is_unnamed, is_unnamed_in}
 use Rattle.vic_verdict.proofs.Ready.{found_besides}
 use Rattle.vic_verdict.proofs.answering.unnamed_in.Goals as goal
 

@@ -1,7 +1,7 @@
 use Rattle.std.proofs.Common.{◌≡◌, ◌+◌, ◌-◌, ◌<◌, ◌≤◌, ◌++◌, ◌∷◌, [], get_or, sym, ap, ◌∙◌, subst, arith}
 use Rattle.vic_verdict.proofs.Words.{is_between, Name, Closes}
 use Rattle.vic_verdict.proofs.Sweeping.{nobody}
-use Rattle.vic_verdict.proofs.Closing.{IsClosedTo, closed_first, closed_passed, closed_left, closed_all, pushed_none, pushed_one}
+use Rattle.vic_verdict.proofs.Closing.{closed_first, closed_passed, closed_left, closed_all, pushed_none, pushed_one}
 use Rattle.vic_verdict.proofs.closed.close_between.Goals as goal
 use Rattle.vic_verdict.proofs.closed.close_between.Goals.{then-name, then-from-name+in_ok-push, then-from-last+in_ok-push-2, else-from-last, else-from-name, else-name}
 

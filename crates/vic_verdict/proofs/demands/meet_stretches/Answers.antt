@@ -1,6 +1,6 @@
 use Rattle.std.proofs.Common.{◌≡◌, List, length, sym, subst, arith, All}
 use Rattle.vic_verdict.proofs.Words.{Entry, Demand, Stretch, Name, IsDemandBy, AreInOrder, HaveKeys}
-use Rattle.vic_verdict.specs.Demands.{HasBlock, HasBlocks, HasNamesInOrder, IsKept}
+use Rattle.vic_verdict.specs.inner.Asked.{HasBlock, HasBlocks, HasNamesInOrder, IsKept}
 use Rattle.vic_verdict.proofs.Demanding.{AreFoundTo, found_first, found_more, found_all, some_is, unmet_lacks}
 use Rattle.vic_verdict.proofs.demands.meet_stretches.Goals as goal
 

@@ -1,7 +1,7 @@
 use Rattle.std.proofs.Common.{◌≡◌, ℕ, ◌+◌, ◌-◌, ◌^◌, ◌<◌, ◌≤◌, true, List, length, take, drop, get_or, arith, sym, ap, ◌∙◌, subst, All, length-drop, take_all, get_or-drop}
 use Rattle.vic_verdict.proofs.Words.{Name, is_between, HaveKeys, has_where}
 use Rattle.std.proofs.lemmas.List.Elements.{All-drop, All-take}
-use Rattle.vic_verdict.specs.Sweep.{IsStart}
+use Rattle.vic_verdict.specs.inner.Sweep.{IsStart}
 use Rattle.vic_verdict.proofs.Sweeping.{nobody}
 use Rattle.vic_verdict.proofs.Closing.{part_between, part_where}
 use Rattle.vic_verdict.proofs.names.names_between.Goals as goal

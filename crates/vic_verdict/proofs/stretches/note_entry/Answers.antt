@@ -1,7 +1,7 @@
 use Rattle.std.proofs.Common.{false, ◌<◌, ◌^◌, ◌≡◌, ◌+◌, ℕ, List, [], ◌∷◌, ◌++◌, inl, inr, ⊎_elim, ◌∙◌, true, refl, ap, sym, Option, Some, None, subst, arith, IfSome, slice_get, append-nil}
 use Rattle.vic_verdict.proofs.Words.{Spot, Demand, wakes, rules_out, needs, IfOk-weaker, KeyBlock, is_in_some_block, mirror, IsUid, Entry, Sent, Silent, Collision, Garbled, Listed, Heard, Reply, lies_in_some, mask_at, Name}
 use Rattle.vic_frame.specs.LowBitsFirst.{IsBlock}
-use Rattle.vic_verdict.specs.Stretches.{HasGathered, name_at, names_at}
+use Rattle.vic_verdict.specs.inner.Stretches.{HasGathered, name_at, names_at}
 use Rattle.vic_verdict.proofs.Demanding.{asked_nothing, asked_more}
 use Rattle.vic_verdict.proofs.Heard.{outside_reply, nobody_there}
 use Rattle.vic_verdict.proofs.Stretching.{gathered_next, gathered_passed, spot_told}

@@ -2,7 +2,7 @@ use Rattle.std.proofs.Common.{◌≡◌, ◌++◌, [], ◌∷◌, ◌∙◌, Boo
 use Rattle.vic_verdict.proofs.Words.{IsUid, IsUid-from, false_from_ne_true, is_uid, is_uid_from, mirror, Sent}
 use Rattle.std.proofs.lemmas.Result.{on_ok_weaker}
 use Rattle.vic_frame.specs.declared.request.Request.{Request}
-use Rattle.vic_verdict.specs.Stretches.{name_at, names_at}
+use Rattle.vic_verdict.specs.inner.Stretches.{name_at, names_at}
 use Rattle.vic_verdict.proofs.stretches.note_sent.Goals as goal
 
 pub returns-in-Some : goal.returns-in-Some

@@ -2,7 +2,7 @@ use Rattle.std.proofs.Common.{true, ◌≡◌, ℕ, ◌+◌, ◌-◌, ◌*◌, �
 use Rattle.vic_verdict.proofs.Words.{KeyBlock, is_in_some_block, Spot, is_between, first_of, heard_of, last_of, nat_tests}
 use Rattle.std.proofs.lemmas.Nat.{div-mul-add, mod-mul-add}
 use Rattle.vic_frame.specs.LowBitsFirst.{IsBlock}
-use Rattle.vic_verdict.specs.Sweep.{len_of}
+use Rattle.vic_verdict.specs.inner.Sweep.{len_of}
 use Rattle.vic_verdict.proofs.stretches.push_spot.Goals as goal
 use Rattle.vic_verdict.proofs.stretches.push_spot.Goals.{in-Some-heard, in-None}
 

@@ -2,7 +2,7 @@ use Rattle.std.proofs.Common.{◌≡◌, ℕ, ◌∙◌, ◌&&◌, ◌++◌, not
 use Rattle.vic_verdict.proofs.Words.{All-permutation, mirror, Name, Spot, all_allow, all_hear_named, keep_all, all_leave, AreInOrder, in_ranges, Closes, is_in_some, IsFirstQuietReply}
 use Rattle.std.proofs.lemmas.List.Elements.{All-filter}
 use Rattle.std.proofs.lemmas.List.Sorted.{IsNonDecreasingBy-from_sort_by_key}
-use Rattle.vic_verdict.specs.Sweep.{HasRange}
+use Rattle.vic_verdict.specs.inner.Sweep.{HasRange}
 use Rattle.vic_verdict.proofs.Sweeping.{keep-length, keep-order, written, covered_allowed, left_permuted, named_permuted, allow_permuted, is_before_place, allow_filtered, named_filtered}
 use Rattle.vic_verdict.proofs.Closing.{outside_closed}
 use Rattle.vic_verdict.proofs.Heard.{first_permuted}

@@ -10,7 +10,7 @@ use Rattle.vic_tree.specs.Ranges.{is_between}
 use Rattle.vic_verdict.specs.declared.names.Name.{Name}
 use Rattle.vic_verdict.specs.declared.answering.Unnamed.{Unnamed}
 use Rattle.vic_verdict.specs.declared.answering.Known.{Known}
-use Rattle.vic_verdict.specs.Sweep.{AreInOrder, HaveKeys, has_where, is_named, is_quiet_by, quiet_of}
+use Rattle.vic_verdict.specs.inner.Sweep.{AreInOrder, HaveKeys, has_where, is_named, is_quiet_by, quiet_of}
 
 -- a UID of a set has a key in the block, and isn't Quiet at position i by the names
 abbrev pub is_answering : (ℕ → Bool) → List Name → KeyBlock → ℕ → ℕ → Bool

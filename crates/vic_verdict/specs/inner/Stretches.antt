@@ -17,13 +17,13 @@ use Rattle.vic_log.specs.Quiet.{wakes}
 use Rattle.vic_log.specs.Rounds.{mask_at, lies_in_some}
 use Rattle.vic_log.specs.Slots.{slots_of, is_open}
 use Rattle.vic_verdict.specs.Possible.{IsContradictedAt, rules_out}
-use Rattle.vic_verdict.specs.Replies.{RepliesAnswer}
+use Rattle.vic_verdict.specs.inner.Replies.{RepliesAnswer}
 use Rattle.vic_verdict.specs.declared.names.Name.{Name}
 use Rattle.vic_verdict.specs.declared.closed.Spot.{Spot}
 use Rattle.vic_verdict.specs.declared.stretches.Settled.{Settled}
 use Rattle.vic_verdict.specs.declared.demands.Demand.{Demand}
-use Rattle.vic_verdict.specs.Demands.{AreAsked, AreKept}
-use Rattle.vic_verdict.specs.Sweep.{HasRange, heard_of, is_in}
+use Rattle.vic_verdict.specs.inner.Asked.{AreAsked, AreKept}
+use Rattle.vic_verdict.specs.inner.Sweep.{HasRange, heard_of, is_in}
 
 -- ---- the names
 
