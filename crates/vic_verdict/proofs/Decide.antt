@@ -1,10 +1,6 @@
 -- Whether a log is possible, and a UID possible or certain, can be decided.
-use Rattle.std.proofs.Common.{◌≡◌, ℕ, ◌<◌, List, [], ◌∷◌, Bool, true, ◌&&◌, sym, ◌∙◌, inl, inr, ⊎_elim}
-use Rattle.std.specs.Prelude.{◌↔◌}
-use Rattle.std.proofs.lemmas.Bool.{and_parts, cases_eq, both_ways}
-use Rattle.vic_verdict.specs.Possible.{IsPossible, IsPossibleUid, IsCertainUid}
-use Rattle.vic_log.specs.declared.entry.Entry.{Entry}
-use Rattle.vic_log.specs.Slots.{slots_of, Reading, NoReply, OneReply, ManyReplies, SomeReply, Slot, is_open, Asks, SuppliesAll, IsForcedBy}
+use Rattle.std.proofs.Common.{◌≡◌, ℕ, ◌<◌, List, [], ◌∷◌, Bool, true, ◌&&◌, sym, ◌∙◌, inl, inr, ⊎_elim, ◌↔◌}
+use Rattle.vic_verdict.proofs.Words.{and_parts, cases_eq, both_ways, IsPossible, IsPossibleUid, IsCertainUid, Entry, slots_of, Reading, NoReply, OneReply, ManyReplies, SomeReply, Slot, is_open, Asks, SuppliesAll, IsForcedBy}
 use Rattle.vic_verdict.proofs.Search.{search_below, Either, test_either}
 use Rattle.vic_verdict.proofs.Populations.{without, without_parts, without_from, ArePossible-iff, MayHave-iff, MustHave-iff, MustHave-cases, population_without, uid_end, open_below}
 use Rattle.vic_verdict.proofs.Possibility.{IsPossible-slots, IsPossibleUid-slots, IsCertainUid-slots}

@@ -1,37 +1,15 @@
 -- What meets the demands of a stretch.
-use Rattle.std.proofs.Common.{◌≡◌, ℕ, zero, suc, ◌+◌, ◌<◌, ◌≤◌, ◌++◌, List, [], ◌∷◌, length, take, get_or, length-append, Bool, true, false, not, ◌&&◌, ◌||◌, cond, Option, Some, None, refl, sym, ap, ◌∙◌, subst, arith, inl, inr, ⊎_elim}
-use Rattle.std.specs.Prelude.{◌⊎◌, ◌==◌, IfSome, nat_lt, slice_get}
-use Rattle.std.specs.List.{All, Any, list_all, list_any, sum_by}
-use Rattle.std.specs.List.Sorted.{IsPermutation}
-use Rattle.std.proofs.lemmas.Bool.{cases_eq, cases_lt, and_parts, and_from, or_left, or_right, both_ways, false≢true, eq-eqb, eqb-true}
-use Rattle.std.proofs.lemmas.Bool.Decides.{nat_tests}
-use Rattle.std.proofs.lemmas.Option.{slice_get_within, get_or_from_slice_get}
-use Rattle.std.proofs.lemmas.List.{get_or_append_left, get_or_default}
-use Rattle.std.proofs.lemmas.List.Elements.{All-push, All-filter, filter_passes}
-use Rattle.std.proofs.lemmas.List.Folds.{list_any-append, Any-from_list_any}
+use Rattle.std.proofs.Common.{◌≡◌, ℕ, zero, suc, ◌+◌, ◌<◌, ◌≤◌, ◌++◌, List, [], ◌∷◌, length, take, get_or, length-append, Bool, true, false, not, ◌&&◌, ◌||◌, cond, Option, Some, None, refl, sym, ap, ◌∙◌, subst, arith, inl, inr, ⊎_elim, ◌⊎◌, ◌==◌, IfSome, nat_lt, slice_get, All, Any, sum_by, IsPermutation, eq-eqb, eqb-true}
+use Rattle.vic_verdict.proofs.Words.{list_all, list_any, cases_eq, cases_lt, and_parts, and_from, or_left, or_right, false≢true, nat_tests, slice_get_within, get_or_default, All-push, list_any-append, Any-from_list_any, All-permutation, list_any-IsPermutation, IsUid, is_uid, is_in_block, mirror, SameUids, UpToThree, Entry, Collision, Garbled, mask_at, lies_in_some, is_quiet, answers_at, ManyReplies, SomeReply, slots_of, is_open, AgreeBefore, answers_agree, IsUid-from, lt_yes, lt_from, Demand, Found, Stretch, Name, Lacks, answering, AreInOrder, HaveKeys, is_quiet_by, ArePutInOrder, needs, needs_of, IsFoundAt, IsFound, IsDemandBy, AreFound, AreKept}
+use Rattle.std.proofs.lemmas.Option.{get_or_from_slice_get}
+use Rattle.std.proofs.lemmas.List.{get_or_append_left}
+use Rattle.std.proofs.lemmas.List.Elements.{All-filter, filter_passes}
 use Rattle.std.proofs.lemmas.List.Quantifiers.{Any-push}
 use Rattle.std.proofs.lemmas.List.Sums.{sum_by-cons, sum_by_more, sum_by_push, sum_by-take-le}
-use Rattle.std.proofs.lemmas.List.Sorted.{All-permutation, list_any-IsPermutation, sum_by-IsPermutation}
-use Rattle.vic_frame.specs.Uids.{IsUid, is_uid}
-use Rattle.vic_frame.specs.LowBitsFirst.{is_in_block, mirror}
-use Rattle.vic_tree.specs.OpenSet.{SameUids, UpToThree}
-use Rattle.vic_log.specs.declared.entry.Entry.{Entry}
-use Rattle.vic_log.specs.declared.entry.Entry.TheVariants.{Sent, Silent, Collision, Heard, Listed, Garbled, FieldCycle}
-use Rattle.vic_log.specs.Rounds.{mask_at, lies_in_some}
-use Rattle.vic_log.specs.Quiet.{is_quiet}
-use Rattle.vic_log.specs.Populations.{answers_at}
-use Rattle.vic_log.specs.Slots.{ManyReplies, SomeReply, allows, slots_of, is_open}
-use Rattle.vic_log.proofs.Places.{AgreeBefore, answers_agree}
-use Rattle.vic_log.proofs.Supply.{IsUid-from}
-use Rattle.vic_tree.proofs.BoolLaws.{lt_yes, lt_from}
-use Rattle.vic_verdict.specs.declared.demands.Demand.{Demand}
-use Rattle.vic_verdict.specs.declared.demands.Found.{Found}
-use Rattle.vic_verdict.specs.declared.demands.Stretch.{Stretch}
-use Rattle.vic_verdict.specs.declared.names.Name.{Name}
-use Rattle.vic_verdict.specs.Possible.{Lacks}
-use Rattle.vic_verdict.specs.Places.{answering}
-use Rattle.vic_verdict.specs.Sweep.{AreInOrder, HaveKeys, is_quiet_by, ArePutInOrder}
-use Rattle.vic_verdict.specs.Demands.{needs, needs_of, needs_at, all_needs, IsFoundAt, IsFound, Meets, IsDemand, IsDemandBy, answers_by, IsUnmet, IsUnmetAt, IsImpliedBy, IsAskedAgain, HasBlock, HasBlocks, HasKeysAt, HasNamesInOrder, IsKept, Keeps, AreMet, AreAsked, AreFound, AreKept, asked_by, demands_to, is_asked}
+use Rattle.std.proofs.lemmas.List.Sorted.{sum_by-IsPermutation}
+use Rattle.vic_log.specs.Slots.{allows}
+use Rattle.vic_verdict.specs.Demands.{needs_at, all_needs, Meets}
+use Rattle.vic_verdict.specs.inner.Asked.{IsDemand, answers_by, IsUnmet, IsUnmetAt, IsImpliedBy, IsAskedAgain, HasBlock, HasBlocks, HasKeysAt, HasNamesInOrder, IsKept, Keeps, AreMet, AreAsked, asked_by, demands_to, is_asked}
 use Rattle.vic_verdict.proofs.Silencing.{silenced_later}
 use Rattle.vic_verdict.proofs.Entries.{asks_two_iff, asks_one_iff}
 use Rattle.vic_verdict.proofs.Supplied.{UpToThree-same}
@@ -58,10 +36,10 @@ pub found_at : (es : List Entry) (set : ℕ → Bool) (ns : List Name) (d : Dema
 found_at es set ns d f same h found place need enough =
     let asked = h.asked in record {
       place = place;
-      asked = omega (arith, asked, need);
+      asked = omega arith;
       need = h.need ∙ sym need;
       uids = found_answers es set ns d f.uids.items same h found;
-      enough = omega (arith, enough, need);
+      enough = omega arith;
     }
 
 pub meets_there : (es : List Entry) (i : ℕ) (f : Found) → IsFoundAt es i f → Meets es f i
@@ -69,9 +47,7 @@ meets_there es i f h = record { need = h.need; answer = h.uids.members }
 
 -- what the next demand of the same mask is met by meets this one too
 not_later : (b c : Bool) → (c ≡ true → b ≡ true) → not b ≡ true → not c ≡ true
-not_later true true f e = e
-not_later false true f e = f refl
-not_later b false f e = refl
+not_later b c f e = grind (arith, f)
 
 pub meets_again : (es : List Entry) (ns : List Name) (d next : Demand) (f : Found) → IsDemandBy es ns d → IsDemandBy es ns next → IsImpliedBy d next → Meets es f next.at → Meets es f d.at
 meets_again es ns d next f h g said m = record {
@@ -88,21 +64,17 @@ meets_again es ns d next f h g said m = record {
 -- ---- a demand that is not
 
 pub asked_two_or_one : (o : Option Entry) (n : ℕ) → needs_of o ≡ n → 0 < n → ((o ≡ Some Collision) × (n ≡ 2)) ⊎ ((o ≡ Some Garbled) × (n ≡ 1))
-asked_two_or_one None n e lt = absurd (omega (arith, e, lt))
+asked_two_or_one None n e lt = absurd (omega arith)
 asked_two_or_one (Some Collision) n e lt = inl (refl, sym e)
 asked_two_or_one (Some Garbled) n e lt = inr (refl, sym e)
-asked_two_or_one (Some Silent) n e lt = absurd (omega (arith, e, lt))
-asked_two_or_one (Some (Heard r)) n e lt = absurd (omega (arith, e, lt))
-asked_two_or_one (Some (Sent q)) n e lt = absurd (omega (arith, e, lt))
-asked_two_or_one (Some (Listed u)) n e lt = absurd (omega (arith, e, lt))
-asked_two_or_one (Some FieldCycle) n e lt = absurd (omega (arith, e, lt))
+asked_two_or_one (Some x) n e lt = absurd (omega arith)
 
 lacks_by : (es : List Entry) (set : ℕ → Bool) (ns : List Name) (d : Demand) (us : List ℕ) → SameUids set (is_open (slots_of es)) → IsDemandBy es ns d → UpToThree (ready_of set ns d) us → length us < d.need → Lacks es d.at
 lacks_by es set ns d us same h found few =
     let all = found_answers es set ns d us same h found in
     ⊎_elim
-    (λ w. (Collision, ManyReplies, w.0, refl, λ a. let n = (asks_two_iff _ us all).0 a in let two = w.1 in omega (arith, n, two, few)))
-    (λ w. (Garbled, SomeReply, w.0, refl, λ a. let n = (asks_one_iff _ us all).0 a in let one = w.1 in omega (arith, n, one, few)))
+    (λ w. (Collision, ManyReplies, w.0, refl, λ a. let n = (asks_two_iff _ us all).0 a in let two = w.1 in omega arith))
+    (λ w. (Garbled, SomeReply, w.0, refl, λ a. let n = (asks_one_iff _ us all).0 a in let one = w.1 in omega arith))
     (asked_two_or_one (slice_get es d.at) d.need h.need h.asked)
 
 -- what an option is said to hold is so of what it holds
@@ -122,7 +94,7 @@ no_demand = record { first = 0; len = 0; need = 0; at = 0 }
 
 -- an element of a list with one more is one of it, or the one more
 pub any_kept : {X : Type 0} (P : X → Type 0) (xs : List X) (y : X) → Any P xs → Any P (xs ++ y ∷ [])
-any_kept P xs y h = (h.0, h.1, (let longer = length-append xs (y ∷ []) in let below = h.2 in omega (arith, longer, below)), get_or_append_left xs (y ∷ []) h.1 h.0 h.2 ∙ h.3, h.4)
+any_kept P xs y h = (h.0, h.1, (let longer = length-append xs (y ∷ []) in let below = h.2 in omega arith), get_or_append_left xs (y ∷ []) h.1 h.0 h.2 ∙ h.3, h.4)
 
 -- what the first k demands are met by, where the next demand doesn't ask again
 pub record AreMetTo (es : List Entry) (ds : List Demand) (k : ℕ) (old new : List Found) : Type 0 where
@@ -135,11 +107,10 @@ pub met_skipped : (es : List Entry) (ds : List Demand) (k : ℕ) (old new : List
 met_skipped es ds k old new below again h = record {
   found = h.found;
   kept = h.kept;
-  met = λ j d lt. ⊎_elim (λ e. inr (subst (IsAskedAgain ds) (sym e) again)) (λ ne. h.met j d (omega (arith, lt, ne))) (cases_eq j k);
+  met = λ j d lt. ⊎_elim (λ e. inr (subst (IsAskedAgain ds) (sym e) again)) (λ ne. h.met j d (omega arith)) (cases_eq j k);
   few =
-      let before = h.few in
       let more = sum_by_more (λ (d : Demand). d.need) ds k no_demand below in
-      omega (arith, before, more);
+      omega arith;
 }
 
 pub met_found : (es : List Entry) (ds : List Demand) (k : ℕ) (d : Demand) (f : Found) (old now new : List Found) → k < length ds → d ≡ get_or ds k d → new ≡ now ++ f ∷ [] → IsFoundAt es d.at f → f.need ≡ d.need → AreMetTo es ds k old now → AreMetTo es ds (k + 1) old new
@@ -149,24 +120,23 @@ met_found es ds k d f old now new below is all at need h = subst (AreMetTo es ds
   met = λ j c lt.
       ⊎_elim
       (λ e. inl (subst (λ n. Any (λ (x : Found). Meets es x (get_or ds n c).at) (now ++ f ∷ [])) (sym e) (subst (λ (x : Demand). Any (λ (y : Found). Meets es y x.at) (now ++ f ∷ [])) (is ∙ get_or_default ds k d c below) (Any-push (λ x. Meets es x d.at) now f (meets_there es d.at f at)))))
-      (λ ne. ⊎_elim (λ m. inl (any_kept (λ x. Meets es x (get_or ds j c).at) now f m)) (λ a. inr a) (h.met j c (omega (arith, lt, ne))))
+      (λ ne. ⊎_elim (λ m. inl (any_kept (λ x. Meets es x (get_or ds j c).at) now f m)) (λ a. inr a) (h.met j c (omega (arith, lt))))
       (cases_eq j k);
   few =
-      let before = h.few in
       let more = sum_by_more (λ (x : Demand). x.need) ds k d below in
       let here = ap (λ (x : Demand). x.need) is in
       let sum = sum_by_push (λ (x : Found). x.need) now f in
-      omega (arith, before, more, here, sum, need);
+      omega arith;
 })
 
 -- from the last demand back
 met_from : (es : List Entry) (ns : List Name) (ds : List Demand) (old new : List Found) → All (IsDemandBy es ns) ds → AreMetTo es ds (length ds) old new → (left j : ℕ) (d : Demand) → length ds ≤ j + left → j < length ds → Any (λ (f : Found). Meets es f (get_or ds j d).at) new
-met_from es ns ds old new h m zero j d far below = absurd (omega (arith, far, below))
+met_from es ns ds old new h m zero j d far below = absurd (omega arith)
 met_from es ns ds old new h m (suc left) j d far below =
     ⊎_elim
     (λ here. here)
     (λ again.
-    let next = met_from es ns ds old new h m left (j + 1) d (omega (arith, far)) again.0 in
+    let next = met_from es ns ds old new h m left (j + 1) d (omega arith) again.0 in
     (next.0, next.1, next.2, next.3, meets_again es ns (get_or ds j d) (get_or ds (j + 1) d) next.1 (h j d below) (h (j + 1) d again.0) (again.1 d) next.4))
     (m.met j d below)
 
@@ -177,7 +147,7 @@ met_all es ns ds k old new h end m =
       found = m.found;
       kept = m.kept;
       met = λ j d below. met_from es ns ds old new h all (length ds) j d (omega arith) below;
-      few = let few = m.few in let part = sum_by-take-le (λ (d : Demand). d.need) ds k in omega (arith, few, part);
+      few = let part = sum_by-take-le (λ (d : Demand). d.need) ds k in omega arith;
     }
 
 -- ---- an entry more
@@ -185,8 +155,7 @@ met_all es ns ds k old new h end m =
 demands_next : (es : List Entry) (from i : ℕ) (ds : List Demand) → All (IsDemand es from i) ds → All (IsDemand es from (i + 1)) ds
 demands_next es from i ds h k d below =
     let it = h k d below in
-    let lt = it.before in
-    record { asked = it.asked; need = it.need; block = it.block; inside = it.inside; since = it.since; before = omega (arith, lt) }
+    record { asked = it.asked; need = it.need; block = it.block; inside = it.inside; since = it.since; before = omega arith }
 
 -- one entry more asks for what it asks for
 needs_more : (es : List Entry) (i : ℕ) (e : Entry) → slice_get es i ≡ Some e → all_needs (take (i + 1) es) ≡ all_needs (take i es) + needs e
@@ -206,7 +175,7 @@ to_all : (i : ℕ) (ds : List Demand) → All (λ (d : Demand). d.at < i) ds →
 to_all i [] h = refl
 to_all i (x ∷ ds) h =
     ap (λ b. cond b (x ∷ demands_to i ds) (demands_to i ds)) (lt_yes x.at i (h 0 x (omega arith)))
-    ∙ ap (λ xs. x ∷ xs) (to_all i ds (λ k d below. h (suc k) d (omega (arith, below))))
+    ∙ ap (λ xs. x ∷ xs) (to_all i ds (λ k d below. h (suc k) d (omega arith)))
 
 are_before : (es : List Entry) (from i : ℕ) (ds : List Demand) → All (IsDemand es from i) ds → All (λ (d : Demand). d.at < i) ds
 are_before es from i ds h k d below = (h k d below).before
@@ -217,8 +186,8 @@ asked_nothing es from i ds e begun k none h = record {
   demands = demands_next es from i ds h.demands;
   asked = λ j since lt some.
       ⊎_elim
-      (λ here. absurd (let zero = ap needs_of k ∙ none in let at = ap (needs_at es) here in omega (arith, some, at, zero)))
-      (λ ne. h.asked j since (omega (arith, lt, ne)) some)
+      (λ here. absurd (let zero = ap needs_of k ∙ none in let at = ap (needs_at es) here in omega (arith, some)))
+      (λ ne. h.asked j since (omega (arith, lt)) some)
       (cases_eq j i);
   few = λ j since upto.
       ⊎_elim
@@ -227,8 +196,8 @@ asked_nothing es from i ds e begun k none h = record {
       let same = ap asked_by whole in
       let few = h.few i begun (omega arith) in
       let more = ap (λ n. all_needs (take n es)) end ∙ needs_more es i e k in
-      omega (arith, same, few, more))
-      (λ ne. h.few j since (omega (arith, upto, ne)))
+      omega arith)
+      (λ ne. h.few j since (omega (arith, upto)))
       (cases_eq j (i + 1));
 }
 
@@ -240,7 +209,7 @@ asked_more es from i ds new e d begun k need some block inside at is h = subst (
       list_any-append (λ (x : Demand). x.at == j) ds (d ∷ [])
       ∙ ⊎_elim
       (λ here. or_right _ _ (or_left _ _ (eq-eqb _ _ (at ∙ sym here))))
-      (λ ne. or_left _ _ (h.asked j since (omega (arith, lt, ne)) asks))
+      (λ ne. or_left _ _ (h.asked j since (omega (arith, lt)) asks))
       (cases_eq j i);
   few = λ j since upto.
       ⊎_elim
@@ -251,11 +220,11 @@ asked_more es from i ds new e d begun k need some block inside at is h = subst (
       let before = ap asked_by (to_all i ds (are_before es from i ds h.demands)) in
       let few = h.few i begun (omega arith) in
       let more = ap (λ n. all_needs (take n es)) end ∙ needs_more es i e k in
-      omega (arith, same, sum, before, few, more, need))
+      omega arith)
       (λ ne.
-      let few = h.few j since (omega (arith, upto, ne)) in
-      let same = ap asked_by (to_before j ds d (omega (arith, at, upto, ne))) in
-      omega (arith, few, same))
+      let few = h.few j since (omega (arith, upto)) in
+      let same = ap asked_by (to_before j ds d (omega (arith, upto))) in
+      omega arith)
       (cases_eq j (i + 1));
 })
   where
@@ -265,24 +234,24 @@ asked_more es from i ds new e d begun k need some block inside at is h = subst (
       need = ap (needs_at es) at ∙ (ap needs_of k ∙ need);
       block = block;
       inside = subst (λ n. HasKeysAt es n d) (sym at) inside;
-      since = omega (arith, begun, at);
-      before = omega (arith, at);
+      since = omega arith;
+      before = omega arith;
     })
 
 -- where a stretch begins
 pub asked_anew : (es : List Entry) (i : ℕ) → AreAsked es i i []
 asked_anew es i = record {
-  demands = λ k d below. absurd (omega (arith, below));
-  asked = λ j since below some. absurd (omega (arith, since, below));
-  few = λ j since upto. let e = ap (λ n. all_needs (take n es)) (let same : i ≡ j = omega (arith, since, upto) in same) in omega (arith, e);
+  demands = λ k d below. absurd (omega arith);
+  asked = λ j since below some. absurd (omega arith);
+  few = λ j since upto. let e = ap (λ n. all_needs (take n es)) (let same : i ≡ j = omega arith in same) in omega arith;
 }
 
 -- ---- the stretches that are kept
 
 pub kept_first : (es : List Entry) → AreKept es 0 []
 kept_first es = record {
-  kept = λ k s below. absurd (omega (arith, below));
-  asked = λ j below some. absurd (omega (arith, below));
+  kept = λ k s below. absurd (omega arith);
+  asked = λ j below some. absurd (omega arith);
   few = omega arith;
 }
 
@@ -292,15 +261,15 @@ kept_cycle es i ss e k none h = record {
   kept = λ n s below. let it = h.kept n s below in record {
     names = it.names;
     blocks = it.blocks;
-    places = λ m d inside. let lt = it.places m d inside in omega (arith, lt);
+    places = λ m d inside. let lt = it.places m d inside in omega arith;
     demands = it.demands;
   };
   asked = λ j lt some.
       ⊎_elim
-      (λ here. absurd (let zero = ap needs_of k ∙ none in let at = ap (needs_at es) here in omega (arith, some, at, zero)))
-      (λ ne. h.asked j (omega (arith, lt, ne)) some)
+      (λ here. absurd (let zero = ap needs_of k ∙ none in let at = ap (needs_at es) here in omega (arith, some)))
+      (λ ne. h.asked j (omega arith) some)
       (cases_eq j i);
-  few = let few = h.few in let more = needs_more es i e k in omega (arith, few, more, none);
+  few = let more = needs_more es i e k in omega arith;
 }
 
 -- what an entry more asks for, if there is one
@@ -312,7 +281,7 @@ needs_next (e ∷ es) (suc n) =
     let more = sum_by-cons needs e (take (suc n) es) in
     let less = sum_by-cons needs e (take n es) in
     let rest = needs_next es n in
-    omega (arith, more, less, rest)
+    omega arith
 
 -- entries that are the same ask for the same
 needs_agree : (n : ℕ) (es fs : List Entry) → AgreeBefore n es fs → all_needs (take n es) ≡ all_needs (take n fs)
@@ -321,8 +290,8 @@ needs_agree (suc n) es fs agree =
     let one = needs_next es n in
     let other = needs_next fs n in
     let here = ap needs_of (agree n (omega arith)) in
-    let before = needs_agree n es fs (λ j below. agree j (omega (arith, below))) in
-    omega (arith, one, other, here, before)
+    let before = needs_agree n es fs (λ j below. agree j (omega arith)) in
+    omega arith
 
 -- whoever answers by the names answers
 demand_by : (es : List Entry) (i : ℕ) (ns : List Name) (d : Demand) → ((u : ℕ) → IsUid u → is_quiet_by ns (mirror u) d.at ≡ is_quiet es d.at u) → (from : ℕ) → IsDemand es from i d → IsDemandBy es ns d
@@ -338,28 +307,27 @@ demand_agrees : (es fs : List Entry) (cut : ℕ) (ns : List Name) (d : Demand) �
 demand_agrees es fs cut ns d agree below h = record {
   asked = h.asked;
   need = ap needs_of (agree d.at below) ∙ h.need;
-  answers = λ u w. h.answers u w ∙ sym (answers_agree d.at fs es (λ j lt. agree j (omega (arith, lt, below))) u);
+  answers = λ u w. h.answers u w ∙ sym (answers_agree d.at fs es (λ j lt. agree j (omega arith)) u);
 }
 
 kept_agree : (es fs : List Entry) (i cut : ℕ) (s : Stretch) → AgreeBefore cut fs es → i ≤ cut → IsKept es i s → IsKept fs cut s
 kept_agree es fs i cut s agree le h = record {
   names = h.names;
   blocks = h.blocks;
-  places = λ k d below. let lt = h.places k d below in omega (arith, lt, le);
+  places = λ k d below. let lt = h.places k d below in omega arith;
   demands = λ k d below.
       let lt = h.places k d below in
-      demand_agrees es fs cut s.names.items (get_or s.demands.items k d) agree (omega (arith, lt, le)) (h.demands k d below);
+      demand_agrees es fs cut s.names.items (get_or s.demands.items k d) agree (omega arith) (h.demands k d below);
 }
 
 -- a demand of a position before the cut is one of those up to it
 asked_to : (cut j : ℕ) (ds : List Demand) → j < cut → is_asked (demands_to cut ds) j ≡ is_asked ds j
 asked_to cut j [] below = refl
-asked_to cut j (d ∷ ds) below = go (nat_lt d.at cut) (d.at == j) refl refl (asked_to cut j ds below)
+asked_to cut j (d ∷ ds) below = go (nat_lt d.at cut) refl (asked_to cut j ds below)
   where
-    go : (b c : Bool) → nat_lt d.at cut ≡ b → (d.at == j) ≡ c → is_asked (demands_to cut ds) j ≡ is_asked ds j → is_asked (cond b (d ∷ demands_to cut ds) (demands_to cut ds)) j ≡ (c || is_asked ds j)
-    go true c e f rest = ap (λ x. x || is_asked (demands_to cut ds) j) f ∙ ap (λ x. c || x) rest
-    go false true e f rest = absurd (let at = eqb-true d.at j f in let late = lt_yes d.at cut (omega (arith, at, below)) in both_ways _ e late)
-    go false false e f rest = rest
+    go : (b : Bool) → nat_lt d.at cut ≡ b → is_asked (demands_to cut ds) j ≡ is_asked ds j → is_asked (cond b (d ∷ demands_to cut ds) (demands_to cut ds)) j ≡ ((d.at == j) || is_asked ds j)
+    go true e rest = grind arith
+    go false e rest = grind (arith, nat_tests)
 
 -- the demands of a stretch up to a cut are kept
 pub kept_to : (es fs : List Entry) (from i cut : ℕ) (ns ms : List Name) (ds : List Demand) (old new : List Stretch) → AgreeBefore cut fs es → from ≤ cut → cut ≤ i → HaveKeys ns → ((j u : ℕ) → from ≤ j → j ≤ i → IsUid u → is_quiet_by ns (mirror u) j ≡ is_quiet es j u) → ArePutInOrder ns ms → Keeps ms ds cut old new → AreAsked es from i ds → AreKept es from old → AreKept fs cut new
@@ -372,16 +340,15 @@ kept_to es fs from i cut ns ms ds old new agree since upto keys quiet order keep
     asked_before j lt asks =
         let same = ap needs_of (agree j lt) in
         ⊎_elim
-        (λ early. inl (before.asked j early (omega (arith, asks, same))))
-        (λ late. inr (asked_to cut j ds lt ∙ h.asked j late (omega (arith, lt, upto)) (omega (arith, asks, same))))
+        (λ early. inl (before.asked j early (omega (arith, asks))))
+        (λ late. inr (asked_to cut j ds lt ∙ h.asked j late (omega (arith, lt)) (omega (arith, asks))))
         (cases_lt j from)
 
     few_before : sum_by (λ (s : Stretch). asked_by s.demands.items) old + asked_by (demands_to cut ds) ≤ all_needs (take cut fs)
     few_before =
-        let few = before.few in
         let more = h.few cut since upto in
         let same = needs_agree cut fs es agree in
-        omega (arith, few, more, same)
+        omega arith
 
     early : All (λ (d : Demand). d.at < cut) (demands_to cut ds)
     early k d below = lt_from _ _ (filter_passes (λ (x : Demand). nat_lt x.at cut) ds k d below)
@@ -393,15 +360,14 @@ kept_to es fs from i cut ns ms ds old new agree since upto keys quiet order keep
     told k d below =
         let x = get_or (demands_to cut ds) k d in
         let it = All-filter (λ (y : Demand). nat_lt y.at cut) (IsDemand es from i) ds h.demands k d below in
-        let before = it.before in
         demand_agrees es fs cut ms x agree (early k d below)
-        (demand_by es i ms x (λ u w. order.quiet (mirror u) x.at ∙ quiet x.at u it.since (omega (arith, before)) w) from it)
+        (demand_by es i ms x (λ u w. order.quiet (mirror u) x.at ∙ quiet x.at u it.since (omega arith) w) from it)
 
     none : (new ≡ old) × (demands_to cut ds ≡ []) → AreKept fs cut new
     none w = subst (AreKept fs cut) (sym w.0) (record {
       kept = old_kept;
       asked = λ j lt asks. ⊎_elim (λ a. a) (λ b. absurd (false≢true (ap (λ xs. is_asked xs j) (sym w.1) ∙ b))) (asked_before j lt asks);
-      few = let few = few_before in omega (arith, few);
+      few = let few = few_before in omega arith;
     })
 
     some : (s : Stretch) × (new ≡ old ++ s ∷ []) × (s.names.items ≡ ms) × IsPermutation (demands_to cut ds) s.demands.items → AreKept fs cut new
@@ -422,7 +388,7 @@ kept_to es fs from i cut ns ms ds old new agree since upto keys quiet order keep
           let few = few_before in
           let sum = sum_by_push (λ (s : Stretch). asked_by s.demands.items) old w.0 in
           let same = sum_by-IsPermutation (λ (d : Demand). d.need) (demands_to cut ds) w.0.demands.items w.3 in
-          omega (arith, few, sum, same);
+          omega arith;
     })
 
 pub kept_in_order : (es : List Entry) (i : ℕ) (ss : List Stretch) → AreKept es i ss → All HasNamesInOrder ss
@@ -441,8 +407,8 @@ pub record AreFoundTo (es : List Entry) (ss : List Stretch) (k : ℕ) (fs : List
 
 pub found_first : (es : List Entry) (ss : List Stretch) → AreFoundTo es ss 0 []
 found_first es ss = record {
-  found = λ k f below. absurd (omega (arith, below));
-  met = λ j s below. absurd (omega (arith, below));
+  found = λ k f below. absurd (omega arith);
+  met = λ j s below. absurd (omega arith);
   few = omega arith;
 }
 
@@ -452,15 +418,13 @@ found_more es ss k s ds old new below is all m h = record {
   met = λ j t lt.
       ⊎_elim
       (λ here. subst (λ xs. All (λ (d : Demand). Any (λ (f : Found). Meets es f d.at) new) xs) (all ∙ (ap (λ (x : Stretch). x.demands.items) (is ∙ get_or_default ss k s t below) ∙ ap (λ n. (get_or ss n t).demands.items) (sym here))) m.met)
-      (λ ne n d inside. m.kept (get_or (get_or ss j t).demands.items n d).at (h.met j t (omega (arith, lt, ne)) n d inside))
+      (λ ne n d inside. m.kept (get_or (get_or ss j t).demands.items n d).at (h.met j t (omega (arith, lt)) n d inside))
       (cases_eq j k);
   few =
-      let before = h.few in
-      let few = m.few in
       let more = sum_by_more (λ (x : Stretch). asked_by x.demands.items) ss k s below in
       let here = ap (λ (x : Stretch). asked_by x.demands.items) is in
       let same = ap asked_by all in
-      omega (arith, before, few, more, here, same);
+      omega arith;
 }
 
 needs_within : (es : List Entry) (j : ℕ) → 0 < needs_at es j → j < length es
@@ -468,7 +432,7 @@ needs_within es j some = go (slice_get es j) refl
   where
     go : (o : Option Entry) → slice_get es j ≡ o → j < length es
     go (Some e) k = slice_get_within es j e k
-    go None k = absurd (let none = ap needs_of k in omega (arith, some, none))
+    go None k = absurd (let none = ap needs_of k in omega arith)
 
 -- all of them
 pub found_all : (es : List Entry) (ss : List Stretch) (k : ℕ) (fs : List Found) → k ≡ length ss → AreKept es (length es) ss → AreFoundTo es ss k fs → AreFound es fs
@@ -480,12 +444,10 @@ found_all es ss k fs end kept h = record {
       let below = w.2 in
       let place : v.1.at ≡ j = eqb-true v.1.at j v.4 in
       let inside = subst (λ (s : Stretch). v.0 < length s.demands.items) (sym w.3) v.2 in
-      let met = h.met w.0 w.1 (omega (arith, end, below)) v.0 v.1 inside in
+      let met = h.met w.0 w.1 (omega arith) v.0 v.1 inside in
       subst (λ n. Any (λ (f : Found). Meets es f n) fs) place (subst (λ (d : Demand). Any (λ (f : Found). Meets es f d.at) fs) (ap (λ (s : Stretch). get_or s.demands.items v.0 v.1) w.3 ∙ v.3) met);
   few =
-      let few = h.few in
       let part = sum_by-take-le (λ (s : Stretch). asked_by s.demands.items) ss k in
-      let all = kept.few in
       let whole = sum_by-take-le needs es (length es) in
-      omega (arith, few, part, all, whole);
+      omega arith;
 }

@@ -1,23 +1,13 @@
 -- How a list differs from what logs tell, and that the first difference is the verdict.
-use Rattle.std.proofs.Common.{◌≡◌, ℕ, ◌≤◌, ◌<◌, ◌^◌, List, ◌++◌, Bool, true, false, not, ◌&&◌, ◌||◌, Option, Some, None, sym, ap, ◌∙◌, arith, inl, inr, ⊎_elim}
-use Rattle.std.specs.Prelude.{◌↔◌, ◌⊎◌, nat_eq, IfSome, IfNone, MatchOption}
-use Rattle.std.proofs.lemmas.Bool.{and_parts, and_from, both_ways, cases_Bool, not-true, not_from_false, false_from_ne_true, or_cases, or_left, or_right}
-use Rattle.std.proofs.lemmas.List.Folds.{list_any-append}
-use Rattle.vic_frame.specs.Uids.{IsUid, has}
-use Rattle.vic_frame.specs.Masks.{BitMask, lies_in}
+use Rattle.std.proofs.Common.{◌≡◌, ℕ, ◌≤◌, ◌<◌, ◌^◌, List, ◌++◌, Bool, true, false, not, ◌&&◌, ◌||◌, Option, Some, None, sym, ap, ◌∙◌, arith, inl, inr, ⊎_elim, ◌↔◌, ◌⊎◌, nat_eq, IfSome, IfNone, MatchOption}
+use Rattle.vic_verdict.proofs.Words.{and_parts, and_from, both_ways, cases_Bool, not-true, not_from_false, false_from_ne_true, or_cases, or_left, or_right, list_any-append, IsUid, has, BitMask, lies_in, SameUids, Entry, listed, AreKeysOf, IsPossible, IsPossibleUid, IsCertainUid, IsFailing, IsListOf, SameMembers, IsAbsent, IsUnlisted, IsUnsettled, IsDoubtful, IsLeast, IsFirstMask, NoSuch}
 use Rattle.vic_frame.specs.declared.uid.TheConstants.{UID_BITS}
-use Rattle.vic_tree.specs.OpenSet.{IsWidest, SameUids, without_keys}
+use Rattle.vic_tree.specs.OpenSet.{IsWidest, without_keys}
 use Rattle.vic_tree.proofs.BoolLaws.{same_tests}
 use Rattle.vic_tree.proofs.SetLaws.{widest_same}
-use Rattle.vic_log.specs.declared.entry.Entry.{Entry}
-use Rattle.vic_log.specs.Order.{listed}
 use Rattle.vic_verdict.specs.declared.differences.Differences.{Differences}
 use Rattle.vic_verdict.specs.Differences.{AreDifferences, IsLeftOpen, MayBeMissing, left_by}
 use Rattle.vic_verdict.specs.Facts.{IsTold}
-use Rattle.vic_verdict.specs.Keys.{AreKeysOf}
-use Rattle.vic_verdict.specs.Possible.{IsPossible, IsPossibleUid, IsCertainUid}
-use Rattle.vic_verdict.specs.Rising.{IsFailing, IsListOf, SameMembers}
-use Rattle.vic_verdict.specs.Verdict.{IsAbsent, IsUnlisted, IsUnsettled, IsDoubtful, IsLeast, IsFirstMask, NoSuch}
 use Rattle.vic_verdict.proofs.Decide.{IsPossibleUid-iff, IsPossibleUid-either, IsCertainUid-iff}
 use Rattle.vic_verdict.proofs.Failing.{list_as}
 use Rattle.vic_verdict.proofs.Masks.{uid_in, IsUid-in, lies_in-uid_in}

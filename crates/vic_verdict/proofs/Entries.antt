@@ -1,18 +1,9 @@
 -- What a judge that goes over the entries once needs: what each entry does to the open UIDs, and what the open UIDs that
 -- could have answered in a slot, up to three of them, tell.
-use Rattle.std.proofs.Common.{◌≡◌, ℕ, zero, suc, ◌<◌, ◌≤◌, List, [], ◌∷◌, length, Bool, true, false, ◌&&◌, Option, Some, None, refl, sym, ap, ◌∙◌, subst, arith, inl, inr, ⊎_elim}
-use Rattle.std.specs.Prelude.{⊤, ◌⊎◌, ◌≢◌, ◌↔◌, slice_get}
-use Rattle.std.specs.List.{list_all}
-use Rattle.std.proofs.lemmas.Bool.{both_ways, false≢true, cases_eq}
-use Rattle.vic_log.specs.declared.entry.Entry.{Entry}
-use Rattle.vic_log.specs.declared.entry.Entry.TheVariants.{Sent, Silent, Collision, Heard, Listed, Garbled, FieldCycle}
-use Rattle.vic_frame.specs.Uids.{has, is_uid}
-use Rattle.vic_log.specs.Populations.{answers_at}
-use Rattle.vic_log.specs.Slots.{Reading, NoReply, OneReply, ManyReplies, SomeReply, Slot, reading_of, with_reading, with_entry, slots_before, may_be, allows, is_open, Asks, SuppliesAll, Forces, IsForcedBy}
-use Rattle.vic_tree.specs.OpenSet.{UpToThree}
-use Rattle.vic_verdict.specs.Places.{answering}
-use Rattle.vic_log.proofs.Sets.{has_here, has_at, has_there, has_cases}
-use Rattle.vic_tree.proofs.BoolLaws.{and_true}
+use Rattle.std.proofs.Common.{◌≡◌, ℕ, zero, suc, ◌<◌, ◌≤◌, List, [], ◌∷◌, length, Bool, true, ◌&&◌, Option, Some, None, refl, sym, ap, ◌∙◌, subst, arith, inl, inr, ⊎_elim, ◌⊎◌, ◌≢◌, ◌↔◌, slice_get}
+use Rattle.vic_verdict.proofs.Words.{list_all, both_ways, false≢true, cases_eq, Entry, Silent, Heard, has, is_uid, answers_at, Reading, NoReply, OneReply, ManyReplies, SomeReply, Slot, reading_of, slots_before, is_open, Asks, SuppliesAll, Forces, IsForcedBy, UpToThree, answering, has_here, has_at, has_there, has_cases, and_true}
+use Rattle.std.specs.Prelude.{⊤}
+use Rattle.vic_log.specs.Slots.{with_reading, with_entry, may_be, allows}
 
 -- what a slot line asks of the UIDs that answer there; an entry that is no slot line asks nothing
 abbrev pub EntryAsks : Option Reading → (ℕ → Bool) → Type 0
@@ -32,20 +23,12 @@ entry_allows None answers u = true
 entry_allows (Some r) answers u = may_be r answers u
 
 and_swap : (x y z : Bool) → (x && (y && z)) ≡ ((x && z) && y)
-and_swap true true true = refl
-and_swap true true false = refl
-and_swap true false true = refl
-and_swap true false false = refl
-and_swap false y z = refl
+and_swap x y z = grind arith
 
 pub open_reading : (answers : ℕ → Bool) (e : Entry) (slots : List Slot) (u : ℕ) → is_open (with_entry answers (Some e) slots) u ≡ (is_open slots u && entry_allows (reading_of e) (answers u) u)
-open_reading answers (Sent q) slots u = sym (and_true (is_open slots u))
 open_reading answers Silent slots u = and_swap (is_uid u) (may_be NoReply (answers u) u) (list_all (allows u) slots)
-open_reading answers Collision slots u = sym (and_true (is_open slots u))
 open_reading answers (Heard r) slots u = and_swap (is_uid u) (may_be (OneReply r.uid) (answers u) u) (list_all (allows u) slots)
-open_reading answers (Listed w) slots u = sym (and_true (is_open slots u))
-open_reading answers Garbled slots u = sym (and_true (is_open slots u))
-open_reading answers FieldCycle slots u = sym (and_true (is_open slots u))
+open_reading answers e slots u = sym (and_true (is_open slots u))
 
 -- one entry more
 pub open_step : (es : List Entry) (i : ℕ) (e : Entry) (u : ℕ) → slice_get es i ≡ Some e → is_open (slots_before es (suc i)) u ≡ (is_open (slots_before es i) u && entry_allows (reading_of e) (answers_at es i u) u)

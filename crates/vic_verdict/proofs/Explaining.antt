@@ -1,27 +1,14 @@
 -- A gathered population shows the verdict.
-use Rattle.std.proofs.Common.{◌≡◌, ℕ, ◌≤◌, List, [], ◌∷◌, ◌++◌, length, true, Some, None, sym, ◌∙◌, subst, arith, inl, inr, ⊎_elim, length-append}
-use Rattle.std.specs.Prelude.{◌⊎◌}
-use Rattle.std.specs.List.Sorted.{IsStrictlyIncreasing}
-use Rattle.std.proofs.lemmas.Bool.{false≢true, false_from_ne_true}
-use Rattle.vic_frame.specs.Uids.{IsUid, has}
-use Rattle.vic_frame.specs.Masks.{BitMask, lies_in, least_uid_in}
-use Rattle.vic_log.specs.declared.entry.Entry.{Entry}
-use Rattle.vic_log.specs.declared.entry.LogLine.{LogLine}
-use Rattle.vic_log.specs.Order.{entries}
-use Rattle.vic_log.specs.Slots.{slots_of, is_open}
-use Rattle.vic_log.proofs.Sets.{IsWithin, AreDifferent-population, IsUid-member, has_here, has_cases}
-use Rattle.vic_log.proofs.Supply.{MeetsAll-iff, SuppliesAll-within}
-use Rattle.vic_log.proofs.Places.{CouldHaveGiven-slots}
-use Rattle.vic_verdict.specs.declared.demands.Met.{Met}
+use Rattle.std.proofs.Common.{◌≡◌, ℕ, ◌≤◌, List, [], ◌∷◌, ◌++◌, length, true, Some, None, sym, ◌∙◌, subst, arith, ⊎_elim, length-append, ◌⊎◌}
+use Rattle.vic_verdict.proofs.Words.{IsStrictlyIncreasing, false_from_ne_true, IsUid, has, BitMask, lies_in, Entry, LogLine, entries, slots_of, is_open, IsWithin, AreDifferent-population, has_here, MeetsAll-iff, CouldHaveGiven-slots, Met, IsMet, gathered, IsPossible, IsPossibleUid, IsCertainUid, SameMembers, IsVerdict}
+use Rattle.vic_frame.specs.Masks.{least_uid_in}
+use Rattle.vic_log.proofs.Sets.{IsUid-member}
+use Rattle.vic_log.proofs.Supply.{SuppliesAll-within}
 use Rattle.vic_verdict.specs.declared.judging.Verdict.TheVariants.{Absent, Unlisted, Unsettled, Doubtful}
-use Rattle.vic_verdict.specs.Demands.{IsMet}
 use Rattle.vic_verdict.specs.Explained.{IsSmallPopulation, IsPopulationBehind}
-use Rattle.vic_verdict.specs.Gathered.{gathered}
-use Rattle.vic_verdict.specs.Possible.{IsPossible, IsPossibleUid, IsCertainUid}
-use Rattle.vic_verdict.specs.Rising.{SameMembers}
-use Rattle.vic_verdict.specs.Verdict.{IsVerdict}
 use Rattle.vic_verdict.proofs.Decide.{IsPossibleUid-iff}
-use Rattle.vic_verdict.proofs.Gathering.{IsGathered, AvoidsNoneCertain, append_cases, append_left, append_right, rising_population, no_more, gathered_population, gathered_without}
+use Rattle.vic_verdict.proofs.Meeting.{has_pushed}
+use Rattle.vic_verdict.proofs.Gathering.{IsGathered, AvoidsNoneCertain, append_left, append_right, rising_population, no_more, gathered_population, gathered_without}
 use Rattle.vic_verdict.proofs.Masks.{lies_in-uid_in, IsUid-in}
 
 small_from : (es : List Entry) (us : List ℕ) → IsGathered es us → IsSmallPopulation es us
@@ -54,19 +41,12 @@ doubtful_shown lines m us u v met rising same =
     let g = gathered_population es m (Some u) us v.0 spared met rising same in
     (small_from es us g, gathered_without es m u us v.4.0.1 met same)
 
-with_last : (us : List ℕ) (x u : ℕ) → has (us ++ x ∷ []) u ≡ true → (has us u ≡ true) ⊎ (u ≡ x)
-with_last us x u h =
-    ⊎_elim
-    (λ k. inl k)
-    (λ m. inr (⊎_elim (λ e. e) (λ none. absurd (false≢true none)) (has_cases u x [] m)))
-    (append_cases us (x ∷ []) u h)
-
 -- a gathered population with one possible UID more
 with_possible : (es : List Entry) (x : ℕ) (us vs : List ℕ) → IsPossible es → IsUid x → IsPossibleUid es x → IsGathered es us → IsStrictlyIncreasing vs → SameMembers vs (us ++ x ∷ []) → IsSmallPopulation es vs
 with_possible es x us vs possible i p g rising same =
     let slots = slots_of es in
     let split : IsWithin (has vs) (has (us ++ x ∷ [])) = λ u h. sym (same u) ∙ h in
-    let parts : (u : ℕ) → has vs u ≡ true → (has us u ≡ true) ⊎ (u ≡ x) = λ u h. with_last us x u (split u h) in
+    let parts : (u : ℕ) → has vs u ≡ true → (has us u ≡ true) ⊎ (u ≡ x) = λ u h. has_pushed us x u (split u h) in
     let old = (MeetsAll-iff us slots g.population).0 ((CouldHaveGiven-slots us es).0 g.could) in
     let within : IsWithin (has vs) (is_open slots) = λ u h. ⊎_elim (λ k. old.0 u k) (λ e. subst (λ z. is_open slots z ≡ true) (sym e) ((IsPossibleUid-iff es x possible).0 p)) (parts u h) in
     let population = rising_population vs rising (λ u h. ⊎_elim (λ k. IsUid-member us u g.population k) (λ e. subst IsUid (sym e) i) (parts u h)) in

@@ -1,14 +1,8 @@
 -- The members of a list that fail a test.
-use Rattle.std.proofs.Common.{◌≡◌, ℕ, zero, suc, ◌<◌, ◌≤◌, List, [], ◌∷◌, length, get_or, Bool, true, not, refl, sym, subst, arith, ⊎_elim}
-use Rattle.std.specs.Prelude.{◌↔◌, MatchOption, slice_get}
-use Rattle.std.specs.List.{filter}
-use Rattle.std.specs.List.Sorted.{IsStrictlyIncreasing}
-use Rattle.std.proofs.lemmas.Bool.{and_parts, and_from, not-true, not_from_false, false≢true}
+use Rattle.std.proofs.Common.{◌≡◌, ℕ, zero, suc, ◌<◌, ◌≤◌, List, [], ◌∷◌, length, get_or, Bool, true, not, sym, subst, arith, ⊎_elim, ◌↔◌, MatchOption, slice_get, filter}
+use Rattle.vic_verdict.proofs.Words.{IsStrictlyIncreasing, and_parts, and_from, not-true, not_from_false, false≢true, has, has_at, has_there, has_cases, has_here, has_filter, IsFailing, IsListOf, IsLeast, NoSuch}
 use Rattle.std.proofs.lemmas.List.Kept.{IsStrictlyIncreasing-filter}
-use Rattle.vic_frame.specs.Uids.{has}
-use Rattle.vic_log.proofs.Sets.{has_at, has_there, has_cases, has_here, has_filter, filter_has}
-use Rattle.vic_verdict.specs.Rising.{IsFailing, IsListOf}
-use Rattle.vic_verdict.specs.Verdict.{IsLeast, NoSuch}
+use Rattle.vic_log.proofs.Sets.{filter_has}
 use Rattle.vic_verdict.proofs.Inserted.{rising_order}
 
 -- a member has a position
@@ -24,12 +18,6 @@ pub member_at : (us : List ℕ) (k u d : ℕ) → k < length us → get_or us k 
 member_at [] k u d lt e = absurd (omega arith)
 member_at (x ∷ us) zero u d lt e = has_at u x us (sym e)
 member_at (x ∷ us) (suc k) u d lt e = has_there u x us (member_at us k u d (omega arith) e)
-
--- within a list the default does not matter
-pub any_default : (us : List ℕ) (i d e : ℕ) → i < length us → get_or us i d ≡ get_or us i e
-any_default [] i d e h = absurd (omega arith)
-any_default (x ∷ us) zero d e h = refl
-any_default (x ∷ us) (suc i) d e h = any_default us i d e (omega arith)
 
 -- ---- lists of those that fail
 

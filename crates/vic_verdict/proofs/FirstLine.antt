@@ -1,14 +1,8 @@
 -- The first impossible line, found by counting lines.
-use Rattle.std.proofs.Common.{◌≡◌, ℕ, zero, suc, ◌<◌, List, [], ◌∷◌, ◌++◌, true, Some, take, sym, ap, ◌∙◌, subst, arith, ⊎_elim}
-use Rattle.std.specs.Prelude.{slice_get, leb}
-use Rattle.std.proofs.lemmas.Bool.{cases_Bool, le-leb, leb-false}
-use Rattle.vic_log.specs.declared.entry.Entry.{Entry}
-use Rattle.vic_log.specs.declared.entry.LogLine.{LogLine}
-use Rattle.vic_verdict.specs.Possible.{IsPossible}
+use Rattle.std.proofs.Common.{◌≡◌, ℕ, zero, suc, ◌<◌, List, [], ◌∷◌, ◌++◌, true, Some, take, sym, ap, ◌∙◌, subst, arith, ⊎_elim, slice_get, leb, le-leb, leb-false}
+use Rattle.vic_verdict.proofs.Words.{cases_Bool, Entry, LogLine, IsPossible, Impossible, entries, IsRisingFrom, IsVerdict}
 use Rattle.vic_verdict.proofs.Possibility.{IsPossible-front}
-use Rattle.vic_verdict.specs.declared.judging.Verdict.TheVariants.{Impossible}
-use Rattle.vic_log.specs.Order.{entries, IsRisingFrom}
-use Rattle.vic_verdict.specs.Verdict.{entries_to, IsVerdict}
+use Rattle.vic_verdict.specs.Verdict.{entries_to}
 use Rattle.vic_verdict.proofs.Verdicts.{none_to, line_kept}
 use Rattle.vic_verdict.proofs.Search.{least_by}
 

@@ -1,30 +1,17 @@
 -- A small population, gathered from what the slots of a possible log ask for.
-use Rattle.std.proofs.Common.{◌≡◌, ℕ, zero, suc, ◌+◌, ◌<◌, ◌≤◌, List, [], ◌∷◌, ◌++◌, length, take, get_or, Bool, true, false, ◌||◌, Option, Some, None, refl, sym, ap, ◌∙◌, subst, arith, inl, inr, ⊎_elim, length-append}
-use Rattle.std.specs.Prelude.{◌⊎◌, ◌==◌, nat_eq, slice_get}
-use Rattle.std.specs.List.{filter, All, sum_by}
-use Rattle.std.specs.List.Sorted.{IsStrictlyIncreasing}
-use Rattle.std.proofs.lemmas.Bool.{both_ways, false≢true, and_parts, and_from, or_cases, or_left, or_right, false_from_ne_true, eq-eqb, ne_eqb, cases_eq, not-true, not_from_false}
-use Rattle.std.proofs.lemmas.List.{length-take}
-use Rattle.std.proofs.lemmas.List.Folds.{list_any-append}
+use Rattle.std.proofs.Common.{take-append-drop, drop, ◌≡◌, ℕ, zero, suc, ◌+◌, ◌<◌, ◌≤◌, List, [], ◌∷◌, ◌++◌, length, take, get_or, Bool, true, false, ◌||◌, Option, Some, None, refl, sym, ap, ◌∙◌, subst, arith, ⊎_elim, length-append, ◌⊎◌, ◌==◌, nat_eq, slice_get, filter, All, sum_by, eq-eqb, ne_eqb, length-take}
+use Rattle.vic_verdict.proofs.Words.{cases_Bool, IsStrictlyIncreasing, both_ways, false≢true, and_parts, and_from, or_cases, or_left, or_right, false_from_ne_true, cases_eq, not-true, not_from_false, list_any-append, slice_get_within, IsUid, has, AreDifferent, Entry, Collision, Heard, Garbled, IsPopulation, CouldHaveGiven, answers_at, Reading, ManyReplies, SomeReply, reading_of, slots_of, is_open, Asks, IsWithin, AreDifferent-population, AreDifferent-filter, has_filter, has_here, has_at, has_there, MeetsAll-iff, IsUid-from, CouldHaveGiven-slots, Found, Met, needs_of, IsFoundAt, IsFound, IsMet, is_other, chosen, gathered, answering, IsPossible, IsCertainUid, SameMembers}
 use Rattle.std.proofs.lemmas.List.Kept.{AllPairs-from_increasing}
 use Rattle.std.proofs.lemmas.List.Sums.{sum_by-cons}
-use Rattle.std.proofs.lemmas.Option.{slice_get_within}
-use Rattle.vic_frame.specs.Uids.{IsUid, has, AreDifferent}
-use Rattle.vic_log.specs.declared.entry.Entry.{Entry}
-use Rattle.vic_log.specs.declared.entry.Entry.TheVariants.{Sent, Silent, Collision, Heard, Listed, Garbled, FieldCycle}
-use Rattle.vic_log.specs.Populations.{IsPopulation, CouldHaveGiven, answers_at}
-use Rattle.vic_log.specs.Slots.{Reading, ManyReplies, SomeReply, reading_of, slots_of, is_open, Asks}
-use Rattle.vic_log.proofs.Sets.{IsWithin, AreDifferent-population, AreDifferent-filter, has_filter, has_here, has_at, has_there, has_cases}
-use Rattle.vic_log.proofs.Supply.{asks_within, MeetsAll-iff, IsUid-from}
-use Rattle.vic_log.proofs.Places.{CouldHaveGiven-slots}
-use Rattle.vic_verdict.specs.declared.demands.Found.{Found}
-use Rattle.vic_verdict.specs.declared.demands.Met.{Met}
-use Rattle.vic_verdict.specs.Demands.{needs_of, IsFoundAt, IsFound, IsMet, all_needs}
-use Rattle.vic_verdict.specs.Gathered.{is_other, chosen, all_chosen, gathered}
+use Rattle.std.specs.List.{AllByRecursion, IsDistinct}
+use Rattle.std.proofs.lemmas.Bool.{or_parts}
+use Rattle.std.proofs.lemmas.Cmp.{nat_eq_equiv}
+use Rattle.std.proofs.lemmas.Map.Keys.{IsDistinct-cons, IsDistinct-from_apart}
+use Rattle.std.proofs.lemmas.Map.Made.{length-le_from_is_member}
+use Rattle.vic_log.proofs.Supply.{asks_within}
+use Rattle.vic_verdict.specs.Demands.{all_needs}
+use Rattle.vic_verdict.specs.inner.Gathered.{all_chosen}
 use Rattle.vic_verdict.specs.Explained.{HasAllHeard}
-use Rattle.vic_verdict.specs.Places.{answering}
-use Rattle.vic_verdict.specs.Possible.{IsPossible, IsCertainUid}
-use Rattle.vic_verdict.specs.Rising.{SameMembers}
 use Rattle.vic_verdict.proofs.Choosing.{filter_yes, filter_no}
 use Rattle.vic_verdict.proofs.Decide.{IsPossibleUid-iff}
 use Rattle.vic_verdict.proofs.Entries.{EntryAsks, EntryForces, SuppliesBefore, SuppliesAll-places, forces_two_iff, forces_one_iff}
@@ -56,25 +43,16 @@ rising_population (x ∷ us) r i =
 
 -- ---- different members of a list are no more than the list
 
--- the list without one of its members
-less_one : (x : ℕ) (ys : List ℕ) → has ys x ≡ true → (zs : List ℕ) × (length ys ≡ suc (length zs)) × ((u : ℕ) → has ys u ≡ true → (u ≡ x) ⊎ (has zs u ≡ true))
-less_one x [] h = absurd (false≢true h)
-less_one x (y ∷ ys) h =
-    ⊎_elim
-    (λ e. (ys, refl, λ u k. ⊎_elim (λ f. inl (f ∙ sym e)) (λ m. inr m) (has_cases u y ys k)))
-    (λ k.
-    let r = less_one x ys k in
-    let n = r.1 in
-    (y ∷ r.0, omega arith, λ u m. ⊎_elim (λ f. inr (has_at u y r.0 f)) (λ w. ⊎_elim (λ f. inl f) (λ v. inr (has_there u y r.0 v)) (r.2 u w)) (has_cases u y ys m)))
-    (has_cases x y ys h)
+apart : (x : ℕ) (xs : List ℕ) → has xs x ≡ false → AllByRecursion (λ y. nat_eq x y ≡ false) xs
+apart x [] e = tt
+apart x (y ∷ ys) e = let w = or_parts (nat_eq x y) (has ys x) e in (w.0, apart x ys w.1)
+
+distinct : (xs : List ℕ) → AreDifferent xs → IsDistinct nat_eq xs
+distinct [] d = IsDistinct-from_apart nat_eq [] (λ i j e lt below. absurd (omega arith))
+distinct (x ∷ xs) d = IsDistinct-cons nat_eq x xs (apart x xs d.0) (distinct xs d.1)
 
 pub no_more : (xs ys : List ℕ) → AreDifferent xs → IsWithin (has xs) (has ys) → length xs ≤ length ys
-no_more [] ys d w = omega arith
-no_more (x ∷ xs) ys d w =
-    let r = less_one x ys (w x (has_here x xs)) in
-    let n = r.1 in
-    let h = no_more xs r.0 d.1 (λ u m. ⊎_elim (λ e. absurd (both_ways (has xs x) d.0 (subst (λ z. has xs z ≡ true) e m))) (λ k. k) (r.2 u (w u (has_there u x xs m)))) in
-    omega arith
+no_more xs ys d w = length-le_from_is_member nat_eq_equiv xs ys (distinct xs d) w
 
 has_append : (xs ys : List ℕ) (u : ℕ) → has (xs ++ ys) u ≡ (has xs u || has ys u)
 has_append xs ys u = list_any-append (nat_eq u) xs ys
@@ -91,10 +69,7 @@ append_right xs ys u h = has_append xs ys u ∙ or_right _ _ h
 -- ---- what is chosen
 
 has_take : (n : ℕ) (xs : List ℕ) (u : ℕ) → has (take n xs) u ≡ true → has xs u ≡ true
-has_take zero xs u h = absurd (false≢true h)
-has_take (suc n) [] u h = h
-has_take (suc n) (x ∷ xs) u h =
-    ⊎_elim (λ e. has_at u x xs e) (λ k. has_there u x xs (has_take n xs u k)) (has_cases u x (take n xs) h)
+has_take n xs u h = ap (λ ys. has ys u) (sym (take-append-drop n xs)) ∙ append_left (take n xs) (drop n xs) u h
 
 chosen_parts : (avoid : Option ℕ) (f : Found) (u : ℕ) → has (chosen avoid f) u ≡ true → (has f.uids.items u ≡ true) × (is_other avoid u ≡ true)
 chosen_parts avoid f u h =
@@ -160,10 +135,6 @@ others_but_one a (x ∷ xs) d =
 abbrev IsSpared : Option ℕ → List ℕ → ℕ → Type 0
 IsSpared avoid xs n = (a : ℕ) → avoid ≡ Some a → length xs ≡ n → has xs a ≡ true → ⊥
 
-true_or_false : (b : Bool) → (b ≡ true) ⊎ (b ≡ false)
-true_or_false true = inl refl
-true_or_false false = inr refl
-
 enough_others : (avoid : Option ℕ) (xs : List ℕ) (n : ℕ) → AreDifferent xs → n ≤ length xs → IsSpared avoid xs n → n ≤ length (filter (is_other avoid) xs)
 enough_others None xs n d h spared =
     let e = ap (λ ys. length ys) (filter_all (is_other None) xs (λ u m. refl)) in omega arith
@@ -176,7 +147,7 @@ enough_others (Some a) xs n d h spared =
     (λ out.
     let e = ap (λ ys. length ys) (filter_all (is_other (Some a)) xs (λ u m. is_other-from a u (λ k. both_ways _ out (subst (λ z. has xs z ≡ true) k m)))) in
     omega arith)
-    (true_or_false (has xs a))
+    (cases_Bool (has xs a))
 
 two_of : (xs : List ℕ) → AreDifferent xs → 2 ≤ length xs → Asks ManyReplies (has (take 2 xs))
 two_of [] d h = absurd (omega arith)
@@ -207,18 +178,14 @@ abbrev pub AvoidsNoneCertain : List Entry → Option ℕ → Type 0
 AvoidsNoneCertain es avoid = (a : ℕ) → avoid ≡ Some a → IsCertainUid es a → ⊥
 
 spared_at : (es : List Entry) (i : ℕ) (f : Found) (avoid : Option ℕ) (o : Option Entry) → slice_get es i ≡ o → AvoidsNoneCertain es avoid → IsFoundAt es i f → IsSpared avoid f.uids.items f.need
-spared_at es i f avoid None k n h a is long m = let need = ap needs_of (sym k) ∙ h.need in let some = h.asked in absurd (omega arith)
+spared_at es i f avoid None k n h a is long m = let need = ap needs_of (sym k) ∙ h.need in absurd (omega arith)
 spared_at es i f avoid (Some Collision) k n h a is long m =
     let need : 2 ≡ f.need = ap needs_of (sym k) ∙ h.need in
     n a is (certain_there es i Collision a k ((forces_two_iff _ f.uids.items a h.uids).1 (long ∙ sym need, m)))
 spared_at es i f avoid (Some Garbled) k n h a is long m =
     let need : 1 ≡ f.need = ap needs_of (sym k) ∙ h.need in
     n a is (certain_there es i Garbled a k ((forces_one_iff _ f.uids.items a h.uids).1 (long ∙ sym need, m)))
-spared_at es i f avoid (Some Silent) k n h a is long m = let need = ap needs_of (sym k) ∙ h.need in let some = h.asked in absurd (omega arith)
-spared_at es i f avoid (Some (Heard r)) k n h a is long m = let need = ap needs_of (sym k) ∙ h.need in let some = h.asked in absurd (omega arith)
-spared_at es i f avoid (Some (Sent q)) k n h a is long m = let need = ap needs_of (sym k) ∙ h.need in let some = h.asked in absurd (omega arith)
-spared_at es i f avoid (Some (Listed u)) k n h a is long m = let need = ap needs_of (sym k) ∙ h.need in let some = h.asked in absurd (omega arith)
-spared_at es i f avoid (Some FieldCycle) k n h a is long m = let need = ap needs_of (sym k) ∙ h.need in let some = h.asked in absurd (omega arith)
+spared_at es i f avoid (Some e) k n h a is long m = let need = ap needs_of (sym k) ∙ h.need in absurd (omega arith)
 
 -- so there are enough others
 found_others : (es : List Entry) (f : Found) (avoid : Option ℕ) → AvoidsNoneCertain es avoid → IsFound es f → AreDifferent (filter (is_other avoid) f.uids.items) × (f.need ≤ length (filter (is_other avoid) f.uids.items))
@@ -286,10 +253,6 @@ asked_there es m avoid i n e k is some none met =
     )
 
 gathered_asks : (es : List Entry) (m : Met) (avoid : Option ℕ) → IsPossible es → AvoidsNoneCertain es avoid → IsMet es m → (i : ℕ) (e : Entry) → slice_get es i ≡ Some e → EntryAsks (reading_of e) (answering (has (gathered avoid m)) es i)
-gathered_asks es m avoid possible none met i Silent k = tt
-gathered_asks es m avoid possible none met i (Sent q) k = tt
-gathered_asks es m avoid possible none met i (Listed u) k = tt
-gathered_asks es m avoid possible none met i FieldCycle k = tt
 gathered_asks es m avoid possible none met i (Heard r) k =
     let member = append_left m.heard.items (all_chosen avoid m.found.items) r.uid ((met.heard r.uid).1 (i, r, k, refl)) in
     and_from _ _ member (and_parts _ _ (supplied_each es i (Heard r) k possible)).1
@@ -299,6 +262,7 @@ gathered_asks es m avoid possible none met i Collision k =
 gathered_asks es m avoid possible none met i Garbled k =
     let w = asked_there es m avoid i 1 Garbled k refl (omega arith) none met in
     asks_within SomeReply _ _ w.3 (one_of w.0 w.2)
+gathered_asks es m avoid possible none met i e k = tt
 
 -- a population that could have produced the entries, with no member to spare
 pub record IsGathered (es : List Entry) (us : List ℕ) : Type 0 where

@@ -1,14 +1,10 @@
 -- Halving over the lines of a log.
-use Rattle.std.proofs.Common.{◌≡◌, ℕ, zero, suc, ◌+◌, ◌<◌, ◌≤◌, List, [], ◌∷◌, ◌++◌, Some, length, take, drop, refl, sym, ap, ◌∙◌, subst, arith, ⊎_elim}
-use Rattle.std.specs.Prelude.{◌⊎◌, slice_get}
-use Rattle.std.proofs.lemmas.Bool.{cases_lt}
-use Rattle.std.proofs.lemmas.List.{take-append-drop, take-map, length-map, length-take}
-use Rattle.vic_log.specs.declared.entry.Entry.TheVariants.{Sent}
-use Rattle.vic_log.specs.declared.entry.LogLine.{LogLine}
+use Rattle.std.proofs.Common.{take-take, ◌≡◌, ℕ, zero, suc, ◌+◌, ◌<◌, ◌≤◌, List, [], ◌∷◌, ◌++◌, Some, length, take, drop, sym, ap, ◌∙◌, subst, arith, ⊎_elim, ◌⊎◌, slice_get, take-append-drop, length-take}
+use Rattle.vic_verdict.proofs.Words.{cases_lt, take-map, length-map, Sent, LogLine, IsPossible, IsContradictedAt, IsContradiction, entries, IsRisingFrom}
+use Rattle.std.proofs.lemmas.List.{map-append}
 use Rattle.vic_verdict.specs.declared.possible.Contradiction.{Contradiction}
-use Rattle.vic_verdict.specs.Possible.{IsPossible, IsContradictedAt, IsContradiction}
 use Rattle.vic_verdict.proofs.Possibility.{IsPossible-front}
-use Rattle.vic_log.specs.Order.{IsInOrder, entries, AreValid, IsRisingFrom}
+use Rattle.vic_log.specs.Order.{IsInOrder, AreValid}
 use Rattle.vic_verdict.specs.LogLines.{AreLogLines}
 use Rattle.vic_log.proofs.Order.{IsInOrder-front, still_there}
 
@@ -18,13 +14,9 @@ pub record Between (lines : List LogLine) (low high : ℕ) : Type 0 where
   pub possible : IsPossible (entries (take low lines))
   pub impossible : IsPossible (entries (take high lines)) → ⊥
 
-entries_append : (xs ys : List LogLine) → entries (xs ++ ys) ≡ entries xs ++ entries ys
-entries_append [] ys = refl
-entries_append (x ∷ xs) ys = ap (λ es. x.item ∷ es) (entries_append xs ys)
-
 -- the first lines, and the others
 pub front_and_rest : (n : ℕ) (lines : List LogLine) → entries (take n lines) ++ entries (drop n lines) ≡ entries lines
-front_and_rest n lines = sym (entries_append (take n lines) (drop n lines)) ∙ ap entries (take-append-drop n lines)
+front_and_rest n lines = sym (map-append (λ (l : LogLine). l.item) (take n lines) (drop n lines)) ∙ ap entries (take-append-drop n lines)
 
 order_front : (n : ℕ) (lines : List LogLine) → IsInOrder (entries lines) → IsInOrder (entries (take n lines))
 order_front n lines o = IsInOrder-front (entries (take n lines)) (entries (drop n lines)) (subst IsInOrder (sym (front_and_rest n lines)) o)
@@ -45,23 +37,16 @@ first_front n lines f = record {
   rising = rising_front n 0 lines f.rising;
 }
 
--- the first of the first lines
-take_twice : (m n : ℕ) (lines : List LogLine) → m ≤ n → take m (take n lines) ≡ take m lines
-take_twice zero n lines le = refl
-take_twice (suc m) zero lines le = absurd (omega (arith, le))
-take_twice (suc m) (suc n) [] le = refl
-take_twice (suc m) (suc n) (l ∷ lines) le = ap (λ ls. l ∷ ls) (take_twice m n lines (omega (arith, le)))
-
 -- what begins a possible log is possible
 possible_shorter : (m n : ℕ) (lines : List LogLine) → m ≤ n → IsPossible (entries (take n lines)) → IsPossible (entries (take m lines))
 possible_shorter m n lines le h =
-    subst (λ ls. IsPossible (entries ls)) (take_twice m n lines le)
+    subst (λ ls. IsPossible (entries ls)) (take-take m n lines le)
     (IsPossible-front (entries (take m (take n lines))) (entries (drop m (take n lines))) (subst IsPossible (sym (front_and_rest m (take n lines))) h))
 
 -- a contradiction of the first lines is one of all
 contradicted_lines : (lines : List LogLine) (i : ℕ) → IsContradictedAt (entries lines) i → (i < length lines) × (IsPossible (entries (take (i + 1) lines)) → ⊥)
 contradicted_lines lines i h = (
-  (let within = h.within in let long = length-map lines (λ (l : LogLine). l.item) in omega (arith, within, long)),
+  (let long = length-map lines (λ (l : LogLine). l.item) in omega arith),
   (λ p. h.impossible (subst IsPossible (sym (take-map (λ (l : LogLine). l.item) (i + 1) lines)) p)),
 )
 
@@ -73,7 +58,7 @@ first_entries n lines = sym (take-map (λ (l : LogLine). l.item) n lines)
 pub front_contradiction : (lines : List LogLine) (n : ℕ) (c : Contradiction) → IsContradiction (entries (take n lines)) c → IsContradiction (entries lines) c
 front_contradiction lines n c h = record {
   impossible = record {
-    within = let long = length-map lines (λ (l : LogLine). l.item) in omega (arith, below, long);
+    within = let long = length-map lines (λ (l : LogLine). l.item) in omega (arith, below);
     impossible = λ possible. h.impossible.impossible (subst IsPossible (sym (same (c.at + 1) (omega (arith, short)))) possible);
   };
   before = λ e. subst IsPossible (same c.at (omega (arith, short))) (h.before e);
@@ -88,13 +73,13 @@ front_contradiction lines n c h = record {
   below = let within = h.impossible.within in let size = length-take n lines in grind (arith, within, small, size)
 
   same : (m : ℕ) → m ≤ n → take m (entries (take n lines)) ≡ take m (entries lines)
-  same m le = sym (first_entries m (take n lines)) ∙ ap entries (take_twice m n lines le) ∙ first_entries m lines
+  same m le = sym (first_entries m (take n lines)) ∙ ap entries (take-take m n lines le) ∙ first_entries m lines
 
 pub between_first : (lines : List LogLine) (low i : ℕ) → low ≤ i → IsPossible (entries (take low lines)) → IsContradictedAt (entries lines) i → Between lines low (i + 1)
 between_first lines low i le possible h =
     let c = contradicted_lines lines i h in
     let within = c.0 in
-    record { ordered = omega (arith, le); within = omega (arith, within); possible = possible; impossible = c.1 }
+    record { ordered = omega arith; within = omega arith; possible = possible; impossible = c.1 }
 
 -- more lines that are possible
 pub between_more : (lines : List LogLine) (low high count : ℕ) → count < high → IsPossible (entries (take count lines)) → Between lines low high → Between lines count high
@@ -107,10 +92,10 @@ between_earlier lines low high count i lt h b =
     let short = c.0 in
     let size = length-take count lines in
     let below : i < count = grind (arith, size, short) in
-    let impossible = λ (p : IsPossible (entries (take (i + 1) lines))). c.1 (subst (λ ls. IsPossible (entries ls)) (sym (take_twice (i + 1) count lines (omega (arith, below)))) p) in
+    let impossible = λ (p : IsPossible (entries (take (i + 1) lines))). c.1 (subst (λ ls. IsPossible (entries ls)) (sym (take-take (i + 1) count lines (omega arith))) p) in
     record {
       ordered = ⊎_elim (λ yes. yes) (λ no. absurd (impossible (possible_shorter (i + 1) low lines no b.possible))) (cases_lt low (i + 1));
-      within = let within = b.within in omega (arith, below, lt, within);
+      within = omega arith;
       possible = b.possible;
       impossible = impossible;
     }

@@ -1,18 +1,9 @@
 -- Lists of UIDs by their keys, and which of them aren't in a set.
-use Rattle.std.proofs.Common.{◌≡◌, ℕ, ◌+◌, ◌<◌, ◌^◌, ◌==◌, ◌||◌, List, [], ◌∷◌, ◌++◌, length, take, get_or, Bool, true, false, refl, sym, ap, ◌∙◌, subst, arith, ⊎_elim}
-use Rattle.std.specs.Prelude.{◌&&◌, not, nat_eq}
-use Rattle.std.specs.List.{list_all}
-use Rattle.std.proofs.lemmas.Bool.{both_ways, cases_Bool, eq-eqb, eqb-true, ne_eqb, and_from, and_parts, not-true, not_from_false, or_cases, or_right, or_left}
-use Rattle.std.proofs.lemmas.List.Folds.{list_all_at, list_any-append, list_any_more, Any-from_list_any}
-use Rattle.vic_frame.specs.Uids.{IsUid, has, is_uid}
-use Rattle.vic_frame.specs.LowBitsFirst.{mirror, uid_of}
-use Rattle.vic_frame.proofs.MirrorLaws.{mirror_of_uid, uid_of_mirror, same_test}
-use Rattle.vic_tree.specs.OpenSet.{AreOutside, has_key}
-use Rattle.vic_log.proofs.Sets.{has_here}
-use Rattle.vic_log.proofs.Supply.{IsUid-from, is_uid_from}
-use Rattle.vic_verdict.specs.Keys.{AreKeysOf}
-use Rattle.vic_verdict.specs.Rising.{IsFailing, IsListOf}
-use Rattle.vic_verdict.specs.Verdict.{NoSuch}
+use Rattle.std.proofs.Common.{◌≡◌, ℕ, ◌+◌, ◌<◌, ◌^◌, ◌==◌, ◌||◌, List, [], ◌∷◌, ◌++◌, length, take, get_or, Bool, true, false, refl, sym, ap, ◌∙◌, subst, arith, ⊎_elim, ◌&&◌, not, nat_eq, eq-eqb, eqb-true, ne_eqb}
+use Rattle.vic_verdict.proofs.Words.{or_false, list_all, both_ways, cases_Bool, and_from, and_parts, not-true, not_from_false, or_cases, or_right, or_left, list_any-append, list_any_more, Any-from_list_any, IsUid, has, is_uid, mirror, uid_of, uid_of_mirror, has_key, has_here, IsUid-from, is_uid_from, AreKeysOf, IsFailing, IsListOf, NoSuch}
+use Rattle.std.proofs.lemmas.List.Folds.{list_all_at}
+use Rattle.vic_frame.proofs.MirrorLaws.{mirror_of_uid, same_test}
+use Rattle.vic_tree.specs.OpenSet.{AreOutside}
 
 -- the UIDs at the keys of a list that aren't in a set are those of the list that fail its test
 pub outside_are : (test : ℕ → Bool) (keys us vs : List ℕ) → AreKeysOf keys us → AreOutside test keys vs → IsListOf (IsFailing us test) vs
@@ -63,10 +54,6 @@ pub key_pushed : (keys uids : List ℕ) (n k x u : ℕ) → n < length uids → 
 key_pushed keys uids n k x u lt is back small w h =
     list_any-append (nat_eq (mirror u)) keys (k ∷ [])
     ∙ ap (λ b. b || ((mirror u == k) || false)) h
-    ∙ ap (λ b. has (take n uids) u || b) (one (mirror u == k) ∙ same_test (mirror u) k u (uid_of k) (λ e. sym (uid_of_mirror u w) ∙ ap uid_of e) (λ e. ap mirror e ∙ mirror_of_uid k small))
+    ∙ ap (λ b. has (take n uids) u || b) (or_false (mirror u == k) ∙ same_test (mirror u) k u (uid_of k) (λ e. sym (uid_of_mirror u w) ∙ ap uid_of e) (λ e. ap mirror e ∙ mirror_of_uid k small))
     ∙ ap (λ y. has (take n uids) u || (u == y)) (back ∙ is)
     ∙ sym (list_any_more (nat_eq u) uids n x lt)
-  where
-    one : (b : Bool) → (b || false) ≡ b
-    one true = refl
-    one false = refl

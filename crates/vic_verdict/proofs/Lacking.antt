@@ -1,32 +1,23 @@
 -- A slot that lacks the tags it requires contradicts the lines up to it, and up to the last one that may rule UIDs out.
-use Rattle.std.proofs.Common.{◌≡◌, ℕ, zero, suc, ◌+◌, ◌<◌, ◌≤◌, List, [], ◌∷◌, length, take, Bool, true, false, ◌&&◌, Option, Some, None, refl, sym, ap, ◌∙◌, subst, arith, add-one, ⊎_elim}
-use Rattle.std.specs.Prelude.{slice_get}
-use Rattle.std.proofs.lemmas.Bool.{cases_eq}
-use Rattle.std.proofs.lemmas.Option.{slice_get_within}
-use Rattle.std.proofs.lemmas.List.{length-take-le}
-use Rattle.vic_log.specs.declared.entry.Entry.{Entry}
-use Rattle.vic_log.specs.declared.entry.Entry.TheVariants.{Sent, Silent, Collision, Heard, Listed, Garbled, FieldCycle}
-use Rattle.vic_log.specs.Populations.{answers_at}
-use Rattle.vic_log.specs.Slots.{Reading, NoReply, OneReply, ManyReplies, SomeReply, Slot, reading_of, with_entry, slots_before, slots_of, is_open, Asks}
-use Rattle.vic_log.proofs.Places.{AgreeBefore, answers_agree}
-use Rattle.vic_verdict.specs.Possible.{IsContradictedAt, Lacks, rules_out, NoneRulesOutAfter}
-use Rattle.vic_verdict.specs.Places.{answering}
+use Rattle.std.proofs.Common.{◌≡◌, ℕ, zero, suc, ◌+◌, ◌<◌, ◌≤◌, List, [], ◌∷◌, length, take, Bool, true, false, ◌&&◌, Option, Some, None, refl, sym, ap, ◌∙◌, subst, arith, add-one, ⊎_elim, slice_get, length-take-le}
+use Rattle.vic_verdict.proofs.Words.{cases_eq, slice_get_within, Entry, Silent, Heard, answers_at, Reading, NoReply, OneReply, ManyReplies, SomeReply, Slot, reading_of, slots_before, slots_of, is_open, Asks, AgreeBefore, answers_agree, IsContradictedAt, Lacks, rules_out, answering, and_true}
+use Rattle.vic_log.specs.Slots.{with_entry}
+use Rattle.vic_verdict.specs.Possible.{NoneRulesOutAfter}
 use Rattle.vic_verdict.proofs.Entries.{EntryAsks, entry_allows, open_reading}
 use Rattle.vic_verdict.proofs.Supplied.{supplied_each}
-use Rattle.vic_tree.proofs.BoolLaws.{and_true}
 
 pub taken : (n : ℕ) (es : List Entry) (j : ℕ) → j < n → slice_get (take n es) j ≡ slice_get es j
-taken zero es j h = absurd (omega (arith, h))
+taken zero es j h = absurd (omega arith)
 taken (suc n) [] j h = refl
 taken (suc n) (e ∷ es) zero h = refl
-taken (suc n) (e ∷ es) (suc j) h = taken n es j (omega (arith, h))
+taken (suc n) (e ∷ es) (suc j) h = taken n es j (omega arith)
 
 -- an entry, if there is one, leaves the UIDs open that it allows
-abbrev place_allows : Option Entry → Bool → ℕ → Bool
+abbrev pub place_allows : Option Entry → Bool → ℕ → Bool
 place_allows None answers u = true
 place_allows (Some e) answers u = entry_allows (reading_of e) answers u
 
-open_place : (answers : ℕ → Bool) (o : Option Entry) (slots : List Slot) (u : ℕ) → is_open (with_entry answers o slots) u ≡ (is_open slots u && place_allows o (answers u) u)
+pub open_place : (answers : ℕ → Bool) (o : Option Entry) (slots : List Slot) (u : ℕ) → is_open (with_entry answers o slots) u ≡ (is_open slots u && place_allows o (answers u) u)
 open_place answers None slots u = sym (and_true (is_open slots u))
 open_place answers (Some e) slots u = open_reading answers e slots u
 
@@ -35,7 +26,7 @@ pub open_agrees : (n : ℕ) (es fs : List Entry) (u : ℕ) → AgreeBefore n es 
 open_agrees zero es fs u a = refl
 open_agrees (suc n) es fs u a =
     let here : slice_get es n ≡ slice_get fs n = a n (omega arith) in
-    let less : AgreeBefore n es fs = λ i h. a i (omega (arith, h)) in
+    let less : AgreeBefore n es fs = λ i h. a i (omega arith) in
     let before : is_open (slots_before es n) u ≡ is_open (slots_before fs n) u = open_agrees n es fs u less in
     let answers : answers_at es n u ≡ answers_at fs n u = answers_agree n es fs less u in
     let same : (is_open (slots_before es n) u && place_allows (slice_get es n) (answers_at es n u) u) ≡ (is_open (slots_before fs n) u && place_allows (slice_get fs n) (answers_at fs n u) u) = rw (here, before, answers) in
@@ -43,22 +34,18 @@ open_agrees (suc n) es fs u a =
 
 allows_all : (o : Option Entry) (b : Bool) (u : ℕ) → ((e : Entry) → o ≡ Some e → rules_out e ≡ false) → place_allows o b u ≡ true
 allows_all None b u h = refl
-allows_all (Some (Sent q)) b u h = refl
-allows_all (Some Collision) b u h = refl
-allows_all (Some (Listed v)) b u h = refl
-allows_all (Some Garbled) b u h = refl
-allows_all (Some FieldCycle) b u h = refl
 allows_all (Some Silent) b u h = let bad = h Silent refl in cc
 allows_all (Some (Heard r)) b u h = let bad = h (Heard r) refl in cc
+allows_all (Some e) b u h = refl
 
 -- after a position behind which none is ruled out the same UIDs are open
 open_settled : (es : List Entry) (c n : ℕ) (u : ℕ) → NoneRulesOutAfter es c → c < n → is_open (slots_before es n) u ≡ is_open (slots_before es (suc c)) u
-open_settled es c zero u h below = absurd (omega (arith, below))
+open_settled es c zero u h below = absurd (omega arith)
 open_settled es c (suc n) u h below =
     ⊎_elim
     (λ same. ap (λ m. is_open (slots_before es (suc m)) u) same)
     (λ ne.
-    let later : c < n = omega (arith, below, ne) in
+    let later : c < n = omega (arith, ne) in
     open_place (answers_at es n) (slice_get es n) (slots_before es n) u
     ∙ ap (λ b. is_open (slots_before es n) u && b) (allows_all (slice_get es n) (answers_at es n u) u (λ e k. h n e later k))
     ∙ and_true (is_open (slots_before es n) u)
@@ -79,14 +66,14 @@ contradicted es i c lacks upto within settled = record {
   within = within;
   impossible = λ possible.
       let fs = take (c + 1) es in
-      let size : length fs ≡ suc c = length-take-le (c + 1) es (omega (arith, within)) ∙ add-one c in
-      let agree : AgreeBefore (suc c) fs es = λ j h. taken (c + 1) es j (omega (arith, h)) in
+      let size : length fs ≡ suc c = length-take-le (c + 1) es (omega arith) ∙ add-one c in
+      let agree : AgreeBefore (suc c) fs es = λ j h. taken (c + 1) es j (omega arith) in
       let same : (u : ℕ) → answering (is_open (slots_of fs)) fs i u ≡ answering (is_open (slots_of es)) es i u = λ u.
       let left : is_open (slots_of fs) u ≡ is_open (slots_of es) u =
       ap (λ n. is_open (slots_before fs n) u) size ∙ open_agrees (suc c) fs es u agree ∙ sym (open_settled es c (length es) u settled within) in
-      let answers : answers_at fs i u ≡ answers_at es i u = answers_agree i fs es (λ j h. agree j (omega (arith, h, upto))) u in
+      let answers : answers_at fs i u ≡ answers_at es i u = answers_agree i fs es (λ j h. agree j (omega arith)) u in
       rw (left, answers) in
-      let here : slice_get fs i ≡ Some lacks.0 = agree i (omega (arith, upto)) ∙ lacks.2 in
+      let here : slice_get fs i ≡ Some lacks.0 = agree i (omega arith) ∙ lacks.2 in
       lacks.4 (asks_same lacks.1 _ _ same (asked lacks.0 lacks.1 _ lacks.3 (supplied_each fs i lacks.0 here possible)));
 }
 

@@ -1,3 +1,4 @@
+pub mod Words
 pub mod Possibility
 pub mod Search
 pub mod Populations
@@ -30,3 +31,4 @@ pub mod Replying
 pub mod Heard
 pub mod Meeting
 pub mod Settling
+pub mod Naming

@@ -1,20 +1,10 @@
 -- The UIDs that a log lists, line by line.
-use Rattle.std.proofs.Common.{◌≡◌, ℕ, zero, suc, ◌<◌, ◌+◌, List, [], ◌∷◌, ◌++◌, Some, take, refl, sym, ap, ◌∙◌, arith, append_assoc, length, get_or, ◌^◌}
-use Rattle.std.proofs.lemmas.Option.{slice_get_read}
-use Rattle.std.specs.Prelude.{slice_get}
-use Rattle.vic_log.specs.declared.entry.Entry.{Entry}
-use Rattle.vic_log.specs.declared.entry.Entry.TheVariants.{Sent, Silent, Collision, Heard, Listed, Garbled, FieldCycle}
-use Rattle.vic_log.specs.declared.entry.LogLine.{LogLine}
-use Rattle.vic_log.specs.Order.{entries, listed, IsRisingFrom}
+use Rattle.std.proofs.Common.{◌≡◌, ℕ, zero, suc, ◌<◌, ◌+◌, List, [], ◌∷◌, ◌++◌, Some, take, refl, sym, ap, ◌∙◌, arith, append_assoc, length, get_or, ◌^◌, slice_get}
+use Rattle.vic_verdict.proofs.Words.{slice_get_read, Entry, Listed, LogLine, entries, listed, IsRisingFrom}
 
 listed_cons : (e : Entry) (es : List Entry) → listed (e ∷ es) ≡ listed (e ∷ []) ++ listed es
-listed_cons (Sent q) es = refl
-listed_cons Silent es = refl
-listed_cons Collision es = refl
-listed_cons (Heard r) es = refl
 listed_cons (Listed u) es = refl
-listed_cons Garbled es = refl
-listed_cons FieldCycle es = refl
+listed_cons e es = refl
 
 -- one line more
 pub listed_more : (lines : List LogLine) (i : ℕ) (l : LogLine) → slice_get lines i ≡ Some l → listed (entries (take (suc i) lines)) ≡ listed (entries (take i lines)) ++ listed (l.item ∷ [])
@@ -37,4 +27,4 @@ pub place_bound : (lines : List LogLine) (i number : ℕ) (l : LogLine) → IsRi
 place_bound lines i number l up within here value small =
     let at = slice_get_read lines (length lines) i l refl within here in
     let above = number_above 0 lines i l up at in
-    omega (arith, above, small, value)
+    omega arith

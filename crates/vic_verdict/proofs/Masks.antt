@@ -1,11 +1,8 @@
 -- Masks of at most 56 bits hold a UID, and one of 56 bits holds just one.
-use Rattle.std.proofs.Common.{◌≡◌, ℕ, ◌<◌, ◌≤◌, ◌+◌, ◌-◌, ◌*◌, ◌^◌, ◌%◌, true, sym, ap, ◌∙◌, arith}
-use Rattle.std.proofs.lemmas.Bool.{eqb-true, eq-eqb}
-use Rattle.std.proofs.lemmas.Nat.{pow-add, mod-mul-add}
+use Rattle.std.proofs.Common.{◌≡◌, ℕ, ◌<◌, ◌≤◌, ◌+◌, ◌-◌, ◌*◌, ◌^◌, ◌%◌, true, sym, ap, ◌∙◌, arith, eqb-true, eq-eqb, pow-add}
+use Rattle.vic_verdict.proofs.Words.{BitMask, IsUid, lies_in}
+use Rattle.std.proofs.lemmas.Nat.{mod-mul-add}
 use Rattle.std.proofs.Math.Nat.{pow-le-pow_right}
-use Rattle.vic_frame.specs.Masks.{BitMask}
-use Rattle.vic_frame.specs.Uids.{IsUid}
-use Rattle.vic_frame.specs.Masks.{lies_in}
 
 -- the mask of the 56 low bits of a UID
 abbrev pub mask_of : ℕ → BitMask
@@ -32,5 +29,5 @@ lies_in-uid_in m h k =
     let w = 2 ^ m.len in
     let whole : 56 - m.len + m.len ≡ 56 = omega arith in
     let e : 2 ^ 56 ≡ a * w = sym (ap (λ n. 2 ^ n) whole) ∙ pow-add 2 (56 - m.len) m.len in
-    let f : uid_in m ≡ 0xE0 * a * w + m.value = omega (arith, e) in
+    let f : uid_in m ≡ 0xE0 * a * w + m.value = omega arith in
     eq-eqb _ _ (ap (λ n. n % w) f ∙ mod-mul-add (0xE0 * a) w m.value k)

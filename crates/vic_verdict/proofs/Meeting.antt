@@ -1,26 +1,9 @@
 -- What is met makes a log possible, and UIDs certain.
-use Rattle.std.proofs.Common.{◌≡◌, ℕ, zero, suc, ◌+◌, ◌<◌, ◌≤◌, ◌++◌, List, [], ◌∷◌, length, get_or, Bool, true, false, ◌&&◌, Some, refl, sym, ap, ◌∙◌, subst, arith, inl, inr, ⊎_elim}
-use Rattle.std.specs.Prelude.{◌⊎◌, ◌↔◌, nat_eq, slice_get}
-use Rattle.std.specs.List.{Any, list_all}
-use Rattle.std.proofs.lemmas.Bool.{cases_Bool, cases_eq, cases_lt, and_parts, and_from, both_ways, false≢true, or_cases, or_left, or_right}
-use Rattle.std.proofs.lemmas.Option.{slice_get_within}
-use Rattle.std.proofs.lemmas.List.{get_or_default}
-use Rattle.std.proofs.lemmas.List.Folds.{list_any-append}
-use Rattle.vic_frame.specs.Uids.{is_uid, has, AreDifferent}
-use Rattle.vic_frame.specs.Replies.{Reply}
-use Rattle.vic_tree.specs.OpenSet.{SameUids}
-use Rattle.vic_log.specs.declared.entry.Entry.{Entry}
-use Rattle.vic_log.specs.declared.entry.Entry.TheVariants.{Sent, Silent, Collision, Heard, Listed, Garbled, FieldCycle}
-use Rattle.vic_log.specs.Populations.{answers_at}
-use Rattle.vic_log.specs.Slots.{OneReply, ManyReplies, SomeReply, reading_of, slots_before, slots_of, is_open, Asks, Forces, IsForcedBy}
-use Rattle.vic_log.proofs.Supply.{IsUid-from}
-use Rattle.vic_log.proofs.Sets.{has_here, has_at, has_there, has_cases}
-use Rattle.vic_verdict.specs.declared.demands.Found.{Found}
-use Rattle.vic_verdict.specs.declared.demands.Met.{Met}
-use Rattle.vic_verdict.specs.Possible.{IsPossible, Lacks, NoneRulesOutAfter}
-use Rattle.vic_verdict.specs.Places.{answering}
-use Rattle.vic_verdict.specs.Replies.{RepliesAnswer}
-use Rattle.vic_verdict.specs.Demands.{needs_of, needs_at, HasHeard, IsFoundAt, IsFound, Meets, AreFound, IsMet}
+use Rattle.std.proofs.Common.{eqb-true, ◌≡◌, ℕ, zero, suc, ◌+◌, ◌<◌, ◌≤◌, ◌++◌, List, [], ◌∷◌, length, get_or, Bool, true, false, ◌&&◌, Some, refl, sym, ap, ◌∙◌, subst, arith, inl, inr, ⊎_elim, ◌⊎◌, ◌↔◌, nat_eq, slice_get, Any}
+use Rattle.vic_verdict.proofs.Words.{list_all, cases_Bool, cases_eq, cases_lt, and_parts, and_from, both_ways, false≢true, or_cases, or_left, or_right, slice_get_within, get_or_default, list_any-append, is_uid, has, AreDifferent, Reply, SameUids, Entry, Collision, Heard, Garbled, answers_at, OneReply, ManyReplies, SomeReply, reading_of, slots_before, slots_of, is_open, Asks, Forces, IsForcedBy, IsUid-from, has_here, has_at, has_there, has_cases, Found, Met, IsPossible, Lacks, answering, needs_of, HasHeard, IsFoundAt, IsFound, AreFound, IsMet}
+use Rattle.vic_verdict.specs.Possible.{NoneRulesOutAfter}
+use Rattle.vic_verdict.specs.inner.Replies.{RepliesAnswer}
+use Rattle.vic_verdict.specs.Demands.{needs_at, Meets}
 use Rattle.vic_verdict.proofs.Entries.{EntryAsks, EntryForces, forced_step, forces_two_iff, forces_one_iff, three_in_two}
 use Rattle.vic_verdict.proofs.Demanding.{asked_two_or_one}
 use Rattle.vic_verdict.specs.Rising.{Adds}
@@ -28,13 +11,13 @@ use Rattle.vic_verdict.proofs.Supplied.{supplied_all}
 
 -- ---- who was heard
 
-has_pushed : (us : List ℕ) (v u : ℕ) → has (us ++ v ∷ []) u ≡ true → (has us u ≡ true) ⊎ (u ≡ v)
+pub has_pushed : (us : List ℕ) (v u : ℕ) → has (us ++ v ∷ []) u ≡ true → (has us u ≡ true) ⊎ (u ≡ v)
 has_pushed us v u h =
     ⊎_elim (λ a. inl a) (λ b. ⊎_elim (λ e. inr e) (λ n. absurd (false≢true n)) (has_cases u v [] b)) (or_cases _ _ (sym (list_any-append (nat_eq u) us (v ∷ [])) ∙ h))
 
 pub heard_kept : (es : List Entry) (i : ℕ) (us : List ℕ) (e : Entry) → slice_get es i ≡ Some e → ((r : Reply) → e ≡ Heard r → ⊥) → HasHeard es i us → HasHeard es (i + 1) us
 heard_kept es i us e k none h u = (
-  (λ m. let w = (h u).0 m in let below = w.2 in (w.0, w.1, omega (arith, below), w.3, w.4)),
+  (λ m. let w = (h u).0 m in let below = w.2 in (w.0, w.1, omega arith, w.3, w.4)),
   (λ w.
       let below = w.2 in
       (h u).1 (
@@ -42,7 +25,7 @@ heard_kept es i us e k none h u = (
         w.1,
         ⊎_elim
             (λ here. absurd (none w.1 (let both : Some e ≡ Some (Heard w.1) = sym k ∙ subst (λ n. slice_get es n ≡ Some (Heard w.1)) here w.3 in cc)))
-            (λ ne. omega (arith, below, ne))
+            (λ ne. omega arith)
             (cases_eq w.0 i),
         w.3,
         w.4,
@@ -52,7 +35,7 @@ heard_kept es i us e k none h u = (
 pub heard_pushed : (es : List Entry) (i : ℕ) (us vs : List ℕ) (r : Reply) (v : ℕ) → slice_get es i ≡ Some (Heard r) → v ≡ r.uid → vs ≡ us ++ v ∷ [] → HasHeard es i us → HasHeard es (i + 1) vs
 heard_pushed es i us vs r v k is all h = subst (HasHeard es (i + 1)) (sym all) (λ u. (
   (λ m. ⊎_elim
-      (λ old. let w = (h u).0 old in let below = w.2 in (w.0, w.1, omega (arith, below), w.3, w.4))
+      (λ old. let w = (h u).0 old in let below = w.2 in (w.0, w.1, omega arith, w.3, w.4))
       (λ new. (i, r, omega arith, k, sym is ∙ sym new))
       (has_pushed us v u m)),
   (λ w.
@@ -63,7 +46,7 @@ heard_pushed es i us vs r v k is all h = subst (HasHeard es (i + 1)) (sym all) (
       let both : Some (Heard w.1) ≡ Some (Heard r) = sym w.3 ∙ subst (λ n. slice_get es n ≡ Some (Heard r)) (sym here) k in
       let same : w.1 ≡ r = cc in
       or_right (has us u) (has (v ∷ []) u) (has_at u v [] (sym w.4 ∙ (ap (λ (x : Reply). x.uid) same ∙ sym is))))
-      (λ ne. or_left (has us u) (has (v ∷ []) u) ((h u).1 (w.0, w.1, omega (arith, below, ne), w.3, w.4)))
+      (λ ne. or_left (has us u) (has (v ∷ []) u) ((h u).1 (w.0, w.1, omega arith, w.3, w.4)))
       (cases_eq w.0 i)),
 ))
 
@@ -71,9 +54,7 @@ heard_pushed es i us vs r v k is all h = subst (HasHeard es (i + 1)) (sym all) (
 
 all_has : (p : ℕ → Bool) (us : List ℕ) (u : ℕ) → list_all p us ≡ true → has us u ≡ true → p u ≡ true
 all_has p [] u h k = absurd (false≢true k)
-all_has p (x ∷ us) u h k =
-    let w = and_parts _ _ h in
-    ⊎_elim (λ e. subst (λ y. p y ≡ true) (sym e) w.0) (λ m. all_has p us u w.1 m) (has_cases u x us k)
+all_has p (x ∷ us) u h k = let same = eqb-true u x in grind (arith, all_has p us u)
 
 not_all : (p : ℕ → Bool) (us : List ℕ) → list_all p us ≡ false → (u : ℕ) × (has us u ≡ true) × (p u ≡ false)
 not_all p [] h = absurd (both_ways _ h refl)
@@ -108,12 +89,12 @@ heard_lacks es n set us same h some =
 -- ---- what makes a log possible
 
 two_of : (t : ℕ → Bool) (xs : List ℕ) → AreDifferent xs → ((u : ℕ) → has xs u ≡ true → t u ≡ true) → 2 ≤ length xs → Asks ManyReplies t
-two_of t [] d h n = absurd (omega (arith, n))
-two_of t (x ∷ []) d h n = absurd (omega (arith, n))
+two_of t [] d h n = absurd (omega arith)
+two_of t (x ∷ []) d h n = absurd (omega arith)
 two_of t (x ∷ y ∷ xs) d h n = (x, y, (λ e. both_ways _ d.0 (has_at x y xs e)), h x (has_here x (y ∷ xs)), h y (has_there y x (y ∷ xs) (has_here y xs)))
 
 one_of : (t : ℕ → Bool) (xs : List ℕ) → ((u : ℕ) → has xs u ≡ true → t u ≡ true) → 1 ≤ length xs → Asks SomeReply t
-one_of t [] h n = absurd (omega (arith, n))
+one_of t [] h n = absurd (omega arith)
 one_of t (x ∷ xs) h n = (x, h x (has_here x xs))
 
 -- what meets position i, and how many they are
@@ -125,26 +106,21 @@ record MetBy (es : List Entry) (i n : ℕ) : Type 0 where
 
 met_by : (es : List Entry) (fs : List Found) (i n : ℕ) → AreFound es fs → needs_at es i ≡ n → 0 < n → MetBy es i n
 met_by es fs i n a e some =
-    let w = a.met i (omega (arith, e, some)) in
+    let w = a.met i (omega arith) in
     let f : Found = w.1 in
     let at = subst (IsFound es) w.3 (a.found w.0 f w.2) in
     let m : Meets es f i = w.4 in
     let enough = at.1.enough in
-    let need = m.need in
-    record { uids = f.uids.items; different = at.1.uids.different; answer = m.answer; enough = omega (arith, enough, need, e) }
+    record { uids = f.uids.items; different = at.1.uids.different; answer = m.answer; enough = omega arith }
 
 pub met_is_possible : (es : List Entry) (set : ℕ → Bool) (us : List ℕ) (fs : List Found) (n : ℕ) → RepliesAnswer es → SameUids set (is_open (slots_of es)) → HasHeard es n us → length es ≤ n → list_all set us ≡ true → AreFound es fs → IsPossible es
 met_is_possible es set us fs n replies same heard long all found = supplied_all es (λ i e below k. go i e k)
   where
     go : (i : ℕ) (e : Entry) → slice_get es i ≡ Some e → EntryAsks (reading_of e) (answering (is_open (slots_of es)) es i)
-    go i (Sent q) k = tt
-    go i (Listed u) k = tt
-    go i FieldCycle k = tt
-    go i Silent k = tt
     go i (Heard r) k =
         let a = replies i r k in
         let within = slice_get_within es i (Heard r) k in
-        let member = (heard r.uid).1 (i, r, omega (arith, within, long), k, refl) in
+        let member = (heard r.uid).1 (i, r, omega arith, k, refl) in
         and_from _ _ (sym (same r.uid a.0) ∙ all_has set us r.uid all member) a.1
     go i Collision k =
         let m = met_by es fs i 2 found (ap needs_of k) (omega arith) in
@@ -152,12 +128,13 @@ met_is_possible es set us fs n replies same heard long all found = supplied_all 
     go i Garbled k =
         let m = met_by es fs i 1 found (ap needs_of k) (omega arith) in
         one_of (answering (is_open (slots_of es)) es i) m.uids m.answer m.enough
+    go i e k = tt
 
 pub is_met : (es : List Entry) (m : Met) (n : ℕ) → HasHeard es n m.heard.items → length es ≤ n → AreFound es m.found.items → IsMet es m
 is_met es m n heard long found = record {
   heard = λ u. (
     (λ k. let w = (heard u).0 k in (w.0, w.1, w.3, w.4)),
-    (λ w. let within = slice_get_within es w.0 (Heard w.1) w.2 in (heard u).1 (w.0, w.1, omega (arith, within, long), w.2, w.3)),
+    (λ w. let within = slice_get_within es w.0 (Heard w.1) w.2 in (heard u).1 (w.0, w.1, omega arith, w.2, w.3)),
   );
   found = found;
 }
@@ -178,7 +155,7 @@ pub certain_first : (heard us : List ℕ) (fs : List Found) → us ≡ heard →
 certain_first heard us fs e = record {
   from = λ u h. inl (ap (λ xs. has xs u) (sym e) ∙ h);
   kept = λ u h. ap (λ xs. has xs u) e ∙ h;
-  found = λ j u d below x. absurd (omega (arith, below));
+  found = λ j u d below x. absurd (omega arith);
 }
 
 pub certain_more : (heard old new ys : List ℕ) (fs : List Found) (k : ℕ) (f : Found) → k < length fs → f ≡ get_or fs k f → ys ≡ f.uids.items → Adds (λ u. (length ys ≡ f.need) × (has ys u ≡ true)) old new → HasCertain heard fs k old → HasCertain heard fs (k + 1) new
@@ -194,7 +171,7 @@ certain_more heard old new ys fs k f below is same adds h = record {
       (λ here.
       let it : get_or fs j d ≡ f = ap (λ n. get_or fs n d) here ∙ (get_or_default fs k d f below ∙ sym is) in
       (adds u).1 (inl (ap length same ∙ (ap (λ (y : Found). length y.uids.items) (sym it) ∙ (x.0 ∙ ap (λ (y : Found). y.need) it)), ap (λ zs. has zs u) same ∙ (ap (λ (y : Found). has y.uids.items u) (sym it) ∙ x.1))))
-      (λ ne. (adds u).1 (inr (h.found j u d (omega (arith, lt, ne)) x)))
+      (λ ne. (adds u).1 (inr (h.found j u d (omega (arith, lt)) x)))
       (cases_eq j k);
 }
 
@@ -211,17 +188,17 @@ forced_before set es (suc n) u h =
     ((forced_step set (answers_at es n) (slice_get es n) (slots_before es n) u).0 h)
 
 forced_at : (set : ℕ → Bool) (es : List Entry) (n i u : ℕ) (e : Entry) → i < n → slice_get es i ≡ Some e → EntryForces (reading_of e) (answering set es i) u → IsForcedBy set (slots_before es n) u
-forced_at set es zero i u e below k f = absurd (omega (arith, below))
+forced_at set es zero i u e below k f = absurd (omega arith)
 forced_at set es (suc n) i u e below k f =
     let step = forced_step set (answers_at es n) (slice_get es n) (slots_before es n) u in
     ⊎_elim
     (λ here. step.1 (inl (e, subst (λ j. slice_get es j ≡ Some e) here k, subst (λ j. EntryForces (reading_of e) (answering set es j) u) here f)))
-    (λ ne. step.1 (inr (forced_at set es n i u e (omega (arith, below, ne)) k f)))
+    (λ ne. step.1 (inr (forced_at set es n i u e (omega arith) k f)))
     (cases_eq i n)
 
 two_exact : (t : ℕ → Bool) (xs : List ℕ) (u : ℕ) → AreDifferent xs → ((w : ℕ) → has xs w ≡ true → t w ≡ true) → 2 ≤ length xs → Forces ManyReplies t u → Exactly 2 xs u
-two_exact t [] u d h n f = absurd (omega (arith, n))
-two_exact t (x ∷ []) u d h n f = absurd (omega (arith, n))
+two_exact t [] u d h n f = absurd (omega arith)
+two_exact t (x ∷ []) u d h n f = absurd (omega arith)
 two_exact t (x ∷ y ∷ []) u d h n f = (
   refl,
   ⊎_elim
@@ -239,7 +216,7 @@ two_exact t (x ∷ y ∷ z ∷ xs) u d h n f =
     absurd (three_in_two x y z u f.0 (λ e. both_ways _ d.0 (has_at x y (z ∷ xs) e)) (λ e. both_ways _ d.0 (has_there x y (z ∷ xs) (has_at x z xs e))) (λ e. both_ways _ d.1.0 (has_at y z xs e)) a b c)
 
 one_exact : (t : ℕ → Bool) (xs : List ℕ) (u : ℕ) → AreDifferent xs → ((w : ℕ) → has xs w ≡ true → t w ≡ true) → 1 ≤ length xs → Forces SomeReply t u → Exactly 1 xs u
-one_exact t [] u d h n f = absurd (omega (arith, n))
+one_exact t [] u d h n f = absurd (omega arith)
 one_exact t (x ∷ []) u d h n f = (refl, has_at u x [] (sym (f.1 x (h x (has_here x [])))))
 one_exact t (x ∷ y ∷ xs) u d h n f =
     absurd (both_ways _ d.0 (has_at x y xs (f.1 x (h x (has_here x (y ∷ xs))) ∙ sym (f.1 y (h y (has_there y x (y ∷ xs) (has_here y xs)))))))
@@ -267,17 +244,13 @@ certain_all es m us k long met h u = (
       let at = subst (IsFound es) w.3 (met.found.found w.0 f w.2) in
       let it : Meets es f i = w.4 in
       let enough = at.1.enough in
-      let need = it.need in
-      let all = x f.uids.items at.1.uids.different it.answer (omega (arith, enough, need, e)) in
+      let all = x f.uids.items at.1.uids.different it.answer (omega (arith, e)) in
       let below = w.2 in
-      let this : Exactly f.need f.uids.items u = (all.0 ∙ (sym e ∙ need), all.1) in
-      h.found w.0 u f (omega (arith, below, long)) (subst (λ (y : Found). Exactly y.need y.uids.items u) (sym w.3) this)
+      let this : Exactly f.need f.uids.items u = (all.0 ∙ (sym e ∙ it.need), all.1) in
+      h.found w.0 u f (omega arith) (subst (λ (y : Found). Exactly y.need y.uids.items u) (sym w.3) this)
 
   back : (i : ℕ) (e : Entry) → slice_get es i ≡ Some e → EntryForces (reading_of e) (answering (is_open (slots_of es)) es i) u → has us u ≡ true
   back i (Heard r) k f = h.kept u ((met.heard u).1 (i, r, k, f))
   back i Collision k f = exact i 2 (ap needs_of k) (omega arith) (λ xs d a n. two_exact _ xs u d a n f)
   back i Garbled k f = exact i 1 (ap needs_of k) (omega arith) (λ xs d a n. one_exact _ xs u d a n f)
-  back i Silent k f = absurd f
-  back i (Sent q) k f = absurd f
-  back i (Listed v) k f = absurd f
-  back i FieldCycle k f = absurd f
+  back i e k f = absurd f

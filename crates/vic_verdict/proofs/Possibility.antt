@@ -1,18 +1,9 @@
 -- Possible logs, possible and certain UIDs, by the slots of a log.
-use Rattle.std.proofs.Common.{◌≡◌, ℕ, List, ◌++◌, Some}
-use Rattle.std.specs.Prelude.{◌↔◌, slice_get}
-use Rattle.std.specs.List.{filter}
-use Rattle.std.proofs.lemmas.Bool.{and_parts}
-use Rattle.vic_frame.specs.Replies.{Reply}
-use Rattle.vic_log.specs.declared.entry.Entry.{Entry}
-use Rattle.vic_log.specs.declared.entry.Entry.TheVariants.{Heard}
-use Rattle.vic_log.specs.Populations.{answers_at}
-use Rattle.vic_log.specs.Slots.{slots_of, OneReply}
-use Rattle.vic_log.proofs.Sets.{has_filter, AreDifferent-filter, AreDifferent-population}
+use Rattle.std.proofs.Common.{◌≡◌, ℕ, List, ◌++◌, Some, ◌↔◌, slice_get, filter}
+use Rattle.vic_verdict.proofs.Words.{and_parts, Reply, Entry, Heard, answers_at, slots_of, OneReply, has_filter, AreDifferent-filter, AreDifferent-population, CouldHaveGiven-slots, IsPossible, IsPossibleUid, IsCertainUid}
 use Rattle.vic_log.proofs.Supply.{fits_asks}
-use Rattle.vic_log.proofs.Places.{CouldHaveGiven-slots, CouldHaveGiven-front}
+use Rattle.vic_log.proofs.Places.{CouldHaveGiven-front}
 use Rattle.vic_verdict.proofs.Populations.{ArePossible, MayHave, MustHave}
-use Rattle.vic_verdict.specs.Possible.{IsPossible, IsPossibleUid, IsCertainUid}
 
 pub IsPossible-slots : (es : List Entry) → IsPossible es ↔ ArePossible (slots_of es)
 IsPossible-slots es = (

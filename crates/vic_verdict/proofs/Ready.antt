@@ -1,46 +1,25 @@
 -- Which open UIDs answer, by the names.
-use Rattle.std.proofs.Common.{◌≡◌, ℕ, zero, suc, nat_eq, ◌+◌, ◌-◌, ◌^◌, ◌<◌, ◌≤◌, ◌==◌, ◌++◌, List, [], ◌∷◌, length, take, drop, get_or, Bool, true, false, not, ◌&&◌, ◌||◌, refl, sym, ap, ◌∙◌, subst, arith, inl, inr, ⊎_elim, map}
-use Rattle.std.specs.Prelude.{◌⊎◌, nat_lt}
-use Rattle.std.specs.List.{All, list_any}
+use Rattle.std.proofs.Common.{take-append-drop, ◌≡◌, ℕ, nat_eq, ◌+◌, ◌-◌, ◌^◌, ◌<◌, ◌≤◌, ◌==◌, ◌++◌, List, [], ◌∷◌, length, take, drop, get_or, Bool, true, false, not, ◌&&◌, ◌||◌, refl, sym, ap, ◌∙◌, subst, arith, inl, inr, ⊎_elim, map, nat_lt, All, eq-eqb, eqb-true, take_all}
+use Rattle.vic_verdict.proofs.Words.{list_any, and_parts, and_from, or_cases, or_left, or_right, both_ways, false≢true, nat_tests, take-map, length-map, get_or-map, All-head, All-tail, All-push, list_any-append, list_any_more, IsUid, is_uid, has, BitMask, lies_in, is_in_block, mirror, uid_of, KeyBlock, uid_of_mirror, IsUid-from, is_uid_from, Gathers, UpToThree, is_between, lt_yes, Name, HasInside, IsReadyIn, is_ready_at, AreInOrder, HaveKeys, has_where, is_named, is_quiet_by, quiet_of}
 use Rattle.std.specs.List.Sorted.{IsNonDecreasing}
-use Rattle.std.proofs.lemmas.Bool.{and_parts, and_from, or_cases, or_left, or_right, both_ways, false≢true, eq-eqb, eqb-true}
-use Rattle.std.proofs.lemmas.Bool.Decides.{nat_tests}
-use Rattle.std.proofs.lemmas.List.{take_all, take-map, drop-map, length-map, get_or-map}
-use Rattle.std.proofs.lemmas.List.Elements.{All-head, All-tail, All-push}
+use Rattle.std.proofs.lemmas.List.{drop-map}
 use Rattle.std.proofs.lemmas.List.Sorted.{IsNonDecreasingBy-push}
-use Rattle.std.proofs.lemmas.List.Folds.{list_any-append, list_any_more}
-use Rattle.vic_frame.specs.Uids.{IsUid, is_uid, has}
-use Rattle.vic_frame.specs.Masks.{BitMask, lies_in}
-use Rattle.vic_frame.specs.LowBitsFirst.{IsKey, is_in_block, mirror, uid_of}
-use Rattle.vic_frame.specs.declared.low_bits_first.KeyBlock.{KeyBlock}
-use Rattle.vic_frame.proofs.MirrorLaws.{mirror_below, mirror_of_uid, uid_of_mirror}
-use Rattle.vic_log.proofs.Supply.{IsUid-from, is_uid_from}
-use Rattle.vic_tree.specs.Gathering.{Gathers}
-use Rattle.vic_tree.specs.OpenSet.{UpToThree, in_mask, without_keys}
-use Rattle.vic_tree.specs.Ranges.{is_between}
-use Rattle.vic_tree.proofs.BoolLaws.{and_true, or_false, lt_yes}
+use Rattle.vic_frame.specs.LowBitsFirst.{IsKey}
+use Rattle.vic_frame.proofs.MirrorLaws.{mirror_below, mirror_of_uid}
+use Rattle.vic_tree.specs.OpenSet.{in_mask, without_keys}
 use Rattle.vic_tree.proofs.GatheringLaws.{gathers_both, gathers_like}
-use Rattle.vic_verdict.specs.declared.answering.Unnamed.{Unnamed}
-use Rattle.vic_verdict.specs.declared.names.Name.{Name}
-use Rattle.vic_verdict.specs.Answering.{AreOpenNames, HasInside, HasNamedIn, IsReadyIn, IsUnnamed, is_answering, is_awake, is_ready_at, is_unnamed, is_unnamed_in}
-use Rattle.vic_verdict.specs.Sweep.{AreInOrder, HaveKeys, has_where, is_named, is_quiet_by, quiet_of}
-use Rattle.vic_verdict.proofs.Closing.{between_from}
+use Rattle.vic_verdict.specs.inner.Answering.{AreOpenNames, HasNamedIn, is_answering, is_awake, is_unnamed_in}
 use Rattle.vic_verdict.proofs.Replying.{tells_own}
 use Rattle.vic_verdict.proofs.Silencing.{silenced_later}
 use Rattle.vic_verdict.proofs.Supplied.{UpToThree-same}
-use Rattle.vic_verdict.proofs.Sweeping.{between_parts, nobody}
+use Rattle.vic_verdict.proofs.Sweeping.{nobody}
 
 any_has : (p : ℕ → Bool) (us : List ℕ) (u : ℕ) → has us u ≡ true → p u ≡ true → list_any p us ≡ true
 any_has p [] u h e = absurd (false≢true h)
-any_has p (x ∷ us) u h e =
-    ⊎_elim
-    (λ here. or_left _ _ (subst (λ y. p y ≡ true) (eqb-true u x here) e))
-    (λ there. or_right _ _ (any_has p us u there e))
-    (or_cases _ _ h)
+any_has p (x ∷ us) u h e = let same = eqb-true u x in grind (arith, any_has p us u)
 
 is_not : (b : Bool) → (b ≡ true → not b ≡ true) → not b ≡ true
-is_not true f = f refl
-is_not false f = refl
+is_not b f = grind (arith, f)
 
 -- the first UIDs found, where none of them is Quiet
 pub first_answering : (set : ℕ → Bool) (ns inside : List Name) (b : KeyBlock) (i : ℕ) (m : BitMask) (us : List ℕ) → ((u : ℕ) → lies_in m u ≡ is_in_block b.first b.len (mirror u)) → ((u : ℕ) → IsUid u → lies_in m u ≡ true → is_quiet_by inside (mirror u) i ≡ is_quiet_by ns (mirror u) i) → UpToThree (in_mask set m []) us → list_any (λ u. is_quiet_by inside (mirror u) i) us ≡ false → UpToThree (is_answering set ns b i) us
@@ -57,15 +36,10 @@ first_answering set ns inside b i m us same alike h none = record {
 }
 
 shuffled : (a b c : Bool) → ((a && (b && c)) && true) ≡ ((a && b) && c)
-shuffled false b c = refl
-shuffled true false c = refl
-shuffled true true c = and_true c
+shuffled a b c = grind arith
 
 neither : (a b : Bool) → (a && false) ≡ (b && false)
-neither false false = refl
-neither false true = refl
-neither true false = refl
-neither true true = refl
+neither a b = grind arith
 
 -- those found beside the keys of which a test holds
 pub found_besides : (set q : ℕ → Bool) (b : KeyBlock) (m : BitMask) (keys us : List ℕ) → ((u : ℕ) → lies_in m u ≡ is_in_block b.first b.len (mirror u)) → ((k : ℕ) → is_in_block b.first b.len k ≡ true → has keys k ≡ q k) → UpToThree (in_mask (without_keys set keys) m []) us → UpToThree (λ u. (is_uid u && set u) && (is_in_block b.first b.len (mirror u) && not (q (mirror u)))) us
@@ -80,27 +54,6 @@ found_besides set q b m keys us same tells h = UpToThree-same (in_mask (without_
         ap (λ x. (is_uid u && (set u && not (has keys (mirror u)))) && (x && true)) (same u ∙ e)
         ∙ (neither _ _ ∙ ap (λ x. (is_uid u && set u) && (x && not (q (mirror u)))) (sym e))
 
--- ---- UIDs without a name
-
-pub unnamed_between : (set : ℕ → Bool) (ns : List Name) (m : Unnamed) (first last : ℕ) (us : List ℕ) → m.first ≤ first → last ≤ m.last → Gathers (HasInside m.uids.items first last) [] us → (length m.uids.items < 3) ⊎ (3 ≤ length us) → IsUnnamed set ns m → UpToThree (is_unnamed set ns first last) us
-unnamed_between set ns m first last us from to g known h = record {
-  different = g.different tt;
-  members = λ u k.
-      ⊎_elim
-      (λ none. absurd (false≢true none))
-      (λ p. let w = and_parts (is_uid u && set u) (is_between m.first m.last (mirror u) && not (is_named ns (mirror u))) (h.members u p.0) in and_from _ _ w.0 (and_from _ _ p.1 (and_parts _ _ w.1).1))
-      (g.only u k);
-  all = λ few u k.
-      let w = and_parts (is_uid u && set u) (is_between first last (mirror u) && not (is_named ns (mirror u))) k in
-      let v = and_parts (is_between first last (mirror u)) (not (is_named ns (mirror u))) w.1 in
-      let inside = between_parts first last (mirror u) v.0 in
-      let wide = between_from m.first m.last (mirror u) (omega (arith, inside.0, from)) (omega (arith, inside.1, to)) in
-      ⊎_elim
-      (λ little. g.all few u (h.all little u (and_from _ _ w.0 (and_from _ _ wide v.1)), v.0))
-      (λ full. absurd (omega (arith, few, full)))
-      known;
-}
-
 -- ---- UIDs with a name
 
 pub not_before : (x i : ℕ) → i ≤ x → nat_lt x i ≡ false
@@ -109,30 +62,23 @@ not_before x i le = grind (arith, nat_tests)
 -- whoever is Quiet has a name
 quiet_named : (ns : List Name) (k i : ℕ) → is_named ns k ≡ false → is_quiet_by ns k i ≡ false
 quiet_named [] k i e = refl
-quiet_named (n ∷ ns) k i e = go (n.key == k) (is_named ns k) (nat_lt (quiet_of n) i) (is_quiet_by ns k i) e (λ f. quiet_named ns k i f)
-  where
-    go : (a b c d : Bool) → (a || b) ≡ false → (b ≡ false → d ≡ false) → ((a && c) || d) ≡ false
-    go true b c d e f = absurd (false≢true (sym e))
-    go false b c d e f = f e
+quiet_named (n ∷ ns) k i e = grind (arith, quiet_named ns k i)
 
 -- a name with this key lies where all do
 where_between : (p : Name → Bool) (ns : List Name) (first last k : ℕ) → All (λ (n : Name). is_between first last n.key ≡ true) ns → has_where p ns k ≡ true → is_between first last k ≡ true
 where_between p [] first last k inside e = absurd (false≢true e)
 where_between p (n ∷ ns) first last k inside e =
-    ⊎_elim
-    (λ here. subst (λ x. is_between first last x ≡ true) (eqb-true n.key k (and_parts _ _ here).0) (All-head (λ (m : Name). is_between first last m.key ≡ true) n ns inside))
-    (λ there. where_between p ns first last k (All-tail (λ (m : Name). is_between first last m.key ≡ true) n ns inside) there)
-    (or_cases _ _ e)
+    let here = All-head (λ (m : Name). is_between first last m.key ≡ true) n ns inside in
+    let rest = where_between p ns first last k (All-tail (λ (m : Name). is_between first last m.key ≡ true) n ns inside) in
+    let same = eqb-true n.key k in
+    grind arith
 
 -- who is Quiet at a position is so later
 ready_before : (set : ℕ → Bool) (ns : List Name) (from i u : ℕ) (n : Bool) → from ≤ i → (is_ready_at set ns from u && (n && not (is_quiet_by ns (mirror u) i))) ≡ (set u && (n && not (is_quiet_by ns (mirror u) i)))
 ready_before set ns from i u n le = go (set u) n (is_quiet_by ns (mirror u) from) (is_quiet_by ns (mirror u) i) (silenced_later ns (mirror u) from i le)
   where
     go : (a n p q : Bool) → (p ≡ true → q ≡ true) → ((a && not p) && (n && not q)) ≡ (a && (n && not q))
-    go false n p q f = refl
-    go true n false q f = refl
-    go true false true q f = refl
-    go true true true q f = ap not (sym (f refl))
+    go a n p q f = grind (arith, f)
 
 -- those without a name, and then those with one
 pub both_answering : (set : ℕ → Bool) (ns os inside : List Name) (b : KeyBlock) (from i last : ℕ) (us vs : List ℕ) → from ≤ i → i < 2 ^ 32 → ((k : ℕ) → is_between b.first last k ≡ is_in_block b.first b.len k) → AreOpenNames (is_ready_at set ns from) ns os → ((k : ℕ) → is_between b.first last k ≡ true → has_where (is_awake i) inside k ≡ has_where (is_awake i) os k) → All (λ (n : Name). is_between b.first last n.key ≡ true) inside → UpToThree (is_unnamed_in set ns b) us → Gathers (IsReadyIn inside i) us vs → UpToThree (is_answering set ns b i) vs
@@ -153,11 +99,8 @@ both_answering set ns os inside b from i last us vs asked small block o alike wi
     unnamed u old =
         let w = and_parts (is_uid u && set u) _ (h.members u old) in
         let v = and_parts (is_in_block b.first b.len (mirror u)) (not (is_named ns (mirror u))) w.1 in
-        and_from _ _ w.0 (and_from _ _ v.0 (is_not (is_quiet_by ns (mirror u) i) (λ e. absurd (named (is_named ns (mirror u)) refl v.1 e))))
-      where
-        named : (c : Bool) → is_named ns (mirror u) ≡ c → not (is_named ns (mirror u)) ≡ true → is_quiet_by ns (mirror u) i ≡ true → ⊥
-        named true e n q = false≢true (sym (ap not e) ∙ n)
-        named false e n q = both_ways _ (quiet_named ns (mirror u) i e) q
+        let none = quiet_named ns (mirror u) i in
+        and_from _ _ w.0 (and_from _ _ v.0 (grind arith))
 
     ready : (u : ℕ) → IsReadyIn inside i u → is_answering set ns b i u ≡ true
     ready u p =
@@ -172,7 +115,7 @@ both_answering set ns os inside b from i last us vs asked small block o alike wi
         g.all few u (uid, alike (mirror u) (block (mirror u) ∙ lies) ∙ here)
     go few u uid there lies awake false e =
         let more = g.longer in
-        g.keeps u (h.all (omega (arith, few, more)) u (and_from _ _ there (and_from _ _ lies (ap not e))))
+        g.keeps u (h.all (omega (arith, few)) u (and_from _ _ there (and_from _ _ lies (ap not e))))
 
 -- ---- a name for each open UID that has one
 
@@ -188,12 +131,8 @@ open_first set ns = record {
   order = λ i j d le lt. absurd (omega arith);
   keys = λ i d lt. absurd (omega arith);
   lower = λ i d lt. absurd (omega arith);
-  members = λ k j small early. sym (go (set (uid_of k)));
+  members = λ k j small early. grind arith;
 }
-  where
-    go : (a : Bool) → (a && false) ≡ false
-    go true = refl
-    go false = refl
 
 later : (set : ℕ → Bool) (ns : List Name) (i : ℕ) (os : List Name) → AreOpenTo set ns i os → All (λ (o : Name). (j : ℕ) → i + 1 ≤ j → j < length ns → o.key ≤ (get_or ns j nobody).key) os
 later set ns i os h n d lt j le more = h.lower n d lt j (omega arith) more
@@ -207,19 +146,18 @@ open_same set ns i os up some below le h = record {
   order = h.order;
   keys = h.keys;
   lower = later set ns i os h;
-  members = λ k j small early. h.members k j small early ∙ ap (λ b. set (uid_of k) && (b && not (is_quiet_by ns k j))) (sym (named_next ns i k below ∙ go k ((get_or ns i nobody).key == k) refl));
+  members = λ k j small early. h.members k j small early ∙ ap (λ b. set (uid_of k) && (b && not (is_quiet_by ns k j))) (sym (named_next ns i k below ∙ go k));
 }
   where
     before : (k : ℕ) → (get_or ns i nobody).key ≡ k → is_named (take i ns) k ≡ true
     before k e =
         let over = up (i - 1) i nobody (omega arith) below in
-        let back : i - 1 + 1 ≡ i = omega (arith, some) in
-        let same : (get_or ns (i - 1) nobody).key ≡ k = omega (arith, over, le, e) in
-        subst (λ n. is_named (take n ns) k ≡ true) back (named_next ns (i - 1) k (omega (arith, below, some)) ∙ or_right _ _ (eq-eqb _ _ same))
+        let back : i - 1 + 1 ≡ i = omega arith in
+        let same : (get_or ns (i - 1) nobody).key ≡ k = omega (arith, e) in
+        subst (λ n. is_named (take n ns) k ≡ true) back (named_next ns (i - 1) k (omega arith) ∙ or_right _ _ (eq-eqb _ _ same))
 
-    go : (k : ℕ) (b : Bool) → ((get_or ns i nobody).key == k) ≡ b → (is_named (take i ns) k || ((get_or ns i nobody).key == k)) ≡ is_named (take i ns) k
-    go k true e = let yes = before k (eqb-true _ _ e) in or_left _ _ yes ∙ sym yes
-    go k false e = ap (λ b. is_named (take i ns) k || b) e ∙ or_false _
+    go : (k : ℕ) → (is_named (take i ns) k || ((get_or ns i nobody).key == k)) ≡ is_named (take i ns) k
+    go k = grind (arith, nat_tests, before k)
 
 -- a UID that isn't open
 pub open_other : (set : ℕ → Bool) (ns : List Name) (i : ℕ) (os : List Name) → i < length ns → set (uid_of (get_or ns i nobody).key) ≡ false → AreOpenTo set ns i os → AreOpenTo set ns (i + 1) os
@@ -227,37 +165,27 @@ open_other set ns i os below closed h = record {
   order = h.order;
   keys = h.keys;
   lower = later set ns i os h;
-  members = λ k j small early. h.members k j small early ∙ go k j ((get_or ns i nobody).key == k) refl;
+  members = λ k j small early. h.members k j small early ∙ go k j;
 }
   where
-    go : (k j : ℕ) (b : Bool) → ((get_or ns i nobody).key == k) ≡ b → (set (uid_of k) && (is_named (take i ns) k && not (is_quiet_by ns k j))) ≡ (set (uid_of k) && (is_named (take (i + 1) ns) k && not (is_quiet_by ns k j)))
-    go k j true e =
-        let out : set (uid_of k) ≡ false = subst (λ x. set (uid_of x) ≡ false) (eqb-true _ _ e) closed in
-        ap (λ b. b && (is_named (take i ns) k && not (is_quiet_by ns k j))) out ∙ sym (ap (λ b. b && (is_named (take (i + 1) ns) k && not (is_quiet_by ns k j))) out)
-    go k j false e = ap (λ b. set (uid_of k) && (b && not (is_quiet_by ns k j))) (sym (named_next ns i k below ∙ (ap (λ b. is_named (take i ns) k || b) e ∙ or_false _)))
+    go : (k j : ℕ) → (set (uid_of k) && (is_named (take i ns) k && not (is_quiet_by ns k j))) ≡ (set (uid_of k) && (is_named (take (i + 1) ns) k && not (is_quiet_by ns k j)))
+    go k j = let next = named_next ns i k below in grind (arith, nat_tests)
 
 -- one that is
 pub open_more : (set : ℕ → Bool) (ns : List Name) (i : ℕ) (os new : List Name) (o : Name) → AreInOrder ns → HaveKeys ns → i < length ns → o.key ≡ (get_or ns i nobody).key → set (uid_of o.key) ≡ true → ((j : ℕ) → j < 2 ^ 32 → nat_lt (quiet_of o) j ≡ is_quiet_by ns o.key j) → new ≡ os ++ o ∷ [] → AreOpenTo set ns i os → AreOpenTo set ns (i + 1) new
 open_more set ns i os new o up small below key there quiet is h = subst (AreOpenTo set ns (i + 1)) (sym is) (record {
-  order = IsNonDecreasingBy-push (λ (n : Name). n.key) os o h.order (λ d some. let low = h.lower (length os - 1) d (omega arith) i (omega arith) below in omega (arith, low, key));
-  keys = All-push (λ (n : Name). n.key < 2 ^ 56) os o h.keys (let one = small i nobody below in omega (arith, one, key));
-  lower = All-push (λ (n : Name). (j : ℕ) → i + 1 ≤ j → j < length ns → n.key ≤ (get_or ns j nobody).key) os o (later set ns i os h) (λ j le more. let over = up i j nobody (omega arith) more in omega (arith, over, key));
+  order = IsNonDecreasingBy-push (λ (n : Name). n.key) os o h.order (λ d some. let low = h.lower (length os - 1) d (omega arith) i (omega arith) below in omega arith);
+  keys = All-push (λ (n : Name). n.key < 2 ^ 56) os o h.keys (let one = small i nobody below in omega (arith, one));
+  lower = All-push (λ (n : Name). (j : ℕ) → i + 1 ≤ j → j < length ns → n.key ≤ (get_or ns j nobody).key) os o (later set ns i os h) (λ j le more. let over = up i j nobody (omega arith) more in omega arith);
   members = λ k j key_small early.
       list_any-append (λ (n : Name). (n.key == k) && is_awake j n) os (o ∷ [])
       ∙ (ap (λ b. b || (((o.key == k) && is_awake j o) || false)) (h.members k j key_small early)
-      ∙ (one (set (uid_of k)) (is_named (take i ns) k) (is_quiet_by ns k j) (o.key == k) (is_awake j o) (λ e. (subst (λ x. set (uid_of x) ≡ true) (eqb-true _ _ e) there, ap not (quiet j early ∙ ap (λ x. is_quiet_by ns x j) (eqb-true o.key k e))))
+      ∙ (one (set (uid_of k)) (is_named (take i ns) k) (is_quiet_by ns k j) (o.key == k) (is_awake j o) (λ e. subst (λ x. set (uid_of x) ≡ true) (eqb-true _ _ e) there) (λ e. ap not (quiet j early ∙ ap (λ x. is_quiet_by ns x j) (eqb-true o.key k e)))
       ∙ ap (λ b. set (uid_of k) && (b && not (is_quiet_by ns k j))) (ap (λ x. is_named (take i ns) k || (x == k)) key ∙ sym (named_next ns i k below))));
 })
   where
-    one : (a n q e r : Bool) → (e ≡ true → (a ≡ true) × (r ≡ not q)) → ((a && (n && not q)) || ((e && r) || false)) ≡ (a && ((n || e) && not q))
-    one a n q false r f = or_false _ ∙ ap (λ b. a && (b && not q)) (sym (or_false n))
-    one a n q true r f = ap (λ x. (x && (n && not q)) || (r || false)) (f refl).0 ∙ (ap (λ x. (n && not q) || (x || false)) (f refl).1 ∙ (two n q ∙ sym (ap (λ x. x && ((n || true) && not q)) (f refl).0)))
-      where
-        two : (n q : Bool) → ((n && not q) || (not q || false)) ≡ ((n || true) && not q)
-        two true true = refl
-        two true false = refl
-        two false true = refl
-        two false false = refl
+    one : (a n q e r : Bool) → (e ≡ true → a ≡ true) → (e ≡ true → r ≡ not q) → ((a && (n && not q)) || ((e && r) || false)) ≡ (a && ((n || e) && not q))
+    one a n q e r f g = grind (arith, f, g)
 
 -- whether a UID with a key is one of a set and isn't Quiet at a position, by its own names
 pub ready_key : (set : ℕ → Bool) (ns own : List Name) (from key quiet : ℕ) → IsKey key → All (λ (n : Name). is_between key key n.key ≡ true) own → ((test : Name → Bool) (k : ℕ) → is_between key key k ≡ true → has_where test own k ≡ has_where test ns k) → nat_lt quiet from ≡ list_any (λ (n : Name). nat_lt (quiet_of n) from) own → is_ready_at set ns from (uid_of key) ≡ (set (uid_of key) && not (nat_lt quiet from))
@@ -274,12 +202,12 @@ open_all set ns i os end h = record {
 
 pub keys_named : (ns : List Name) (k : ℕ) → has (map (λ (n : Name). n.key) ns) k ≡ is_named ns k
 keys_named [] k = refl
-keys_named (n ∷ ns) k = ap (λ b. b || has (map (λ (m : Name). m.key) ns) k) (turned k n.key) ∙ ap (λ b. (n.key == k) || b) (keys_named ns k)
-  where
-    turned : (a b : ℕ) → (a == b) ≡ (b == a)
-    turned a b = grind (arith, nat_tests)
+keys_named (n ∷ ns) k = grind (arith, nat_tests, keys_named ns k)
 
 -- ---- gathering
+
+any_taken : {X : Type 0} (p : X → Bool) (xs : List X) (i : ℕ) → list_any p (take i xs) ≡ true → list_any p xs ≡ true
+any_taken p xs i h = ap (list_any p) (sym (take-append-drop i xs)) ∙ (list_any-append p (take i xs) (drop i xs) ∙ or_left _ _ h)
 
 -- nothing is gathered where nothing is wanted that isn't there
 pub gathers_none : (P : ℕ → Type 0) (xs : List ℕ) → ((u : ℕ) → length xs < 3 → P u → has xs u ≡ true) → Gathers P xs xs
@@ -303,13 +231,7 @@ inside_other us old i x first last below is outside g =
     g
 
 pub inside_so_far : (us : List ℕ) (i first last u : ℕ) → HasInside (take i us) first last u → HasInside us first last u
-inside_so_far us i first last u p = (has_taken us i u p.0, p.1)
-  where
-    has_taken : (us : List ℕ) (i u : ℕ) → has (take i us) u ≡ true → has us u ≡ true
-    has_taken [] zero u e = e
-    has_taken [] (suc i) u e = e
-    has_taken (x ∷ us) zero u e = absurd (false≢true e)
-    has_taken (x ∷ us) (suc i) u e = ⊎_elim (λ a. or_left _ _ a) (λ b. or_right _ _ (has_taken us i u b)) (or_cases _ _ e)
+inside_so_far us i first last u p = (any_taken (nat_eq u) us i p.0, p.1)
 
 -- a name more, whose UID isn't Quiet
 pub ready_more : (ns : List Name) (old now new : List ℕ) (i x at : ℕ) → i < length ns → IsUid x → mirror x ≡ (get_or ns i nobody).key → at ≤ quiet_of (get_or ns i nobody) → Gathers (IsReadyIn (take i ns) at) old now → Gathers (λ u. (u ≡ x) × (has [] u ≡ false)) now new → Gathers (IsReadyIn (take (i + 1) ns) at) old new
@@ -335,13 +257,7 @@ ready_other ns old now i at below quiet g =
     more k = list_any_more (λ (n : Name). (n.key == k) && is_awake at n) ns i nobody below
 
 pub ready_so_far : (ns : List Name) (i at u : ℕ) → IsReadyIn (take i ns) at u → IsReadyIn ns at u
-ready_so_far ns i at u p = (p.0, has_taken ns i (mirror u) p.1)
-  where
-    has_taken : (ns : List Name) (i k : ℕ) → has_where (is_awake at) (take i ns) k ≡ true → has_where (is_awake at) ns k ≡ true
-    has_taken [] zero k e = e
-    has_taken [] (suc i) k e = e
-    has_taken (n ∷ ns) zero k e = absurd (false≢true e)
-    has_taken (n ∷ ns) (suc i) k e = ⊎_elim (λ a. or_left _ _ a) (λ b. or_right _ _ (has_taken ns i k b)) (or_cases _ _ e)
+ready_so_far ns i at u p = (p.0, any_taken (λ (n : Name). (n.key == mirror u) && is_awake at n) ns i p.1)
 
 -- ---- the keys of the names of a block
 
@@ -349,7 +265,7 @@ ready_so_far ns i at u p = (p.0, has_taken ns i (mirror u) p.1)
 pub keys_part : (ns inside : List Name) (ks part : List ℕ) (s e : ℕ) → ks ≡ map (λ (n : Name). n.key) ns → inside ≡ take (length inside) (drop s ns) → e ≡ s + length inside → part ≡ take (e - s) (drop s ks) → part ≡ map (λ (n : Name). n.key) inside
 keys_part ns inside ks part s e keys place end is =
     is
-    ∙ ap (λ n. take n (drop s ks)) (let n : e - s ≡ length inside = omega (arith, end) in n)
+    ∙ ap (λ n. take n (drop s ks)) (let n : e - s ≡ length inside = omega arith in n)
     ∙ ap (λ xs. take (length inside) (drop s xs)) keys
     ∙ ap (take (length inside)) (drop-map (λ (n : Name). n.key) s ns)
     ∙ take-map (λ (n : Name). n.key) (length inside) (drop s ns)
@@ -358,18 +274,18 @@ keys_part ns inside ks part s e keys place end is =
 pub keys_order : (ns : List Name) → AreInOrder ns → IsNonDecreasing (map (λ (n : Name). n.key) ns)
 keys_order ns up i j d le lt =
     let long = length-map ns (λ (n : Name). n.key) in
-    let below : j < length ns = omega (arith, lt, long) in
-    let a = at i (omega (arith, le, lt)) in
+    let below : j < length ns = omega arith in
+    let a = at i (omega arith) in
     let b = at j lt in
     let over = up i j nobody le below in
-    omega (arith, a, b, over)
+    omega arith
   where
     at : (n : ℕ) → n < length (map (λ (m : Name). m.key) ns) → get_or (map (λ (m : Name). m.key) ns) n d ≡ (get_or ns n nobody).key
-    at n lt = get_or-map (λ (m : Name). m.key) ns n nobody d (let long = length-map ns (λ (m : Name). m.key) in omega (arith, lt, long))
+    at n lt = get_or-map (λ (m : Name). m.key) ns n nobody d (let long = length-map ns (λ (m : Name). m.key) in omega arith)
 
 pub named_where : (ns : List Name) (k : ℕ) → has_where (λ n. true) ns k ≡ is_named ns k
 named_where [] k = refl
-named_where (n ∷ ns) k = ap (λ b. b || has_where (λ m. true) ns k) (and_true (n.key == k)) ∙ ap (λ b. (n.key == k) || b) (named_where ns k)
+named_where (n ∷ ns) k = grind (arith, named_where ns k)
 
 pub named_in : (ns inside : List Name) (b : KeyBlock) (last : ℕ) (keys : List ℕ) → ((k : ℕ) → is_between b.first last k ≡ is_in_block b.first b.len k) → ((test : Name → Bool) (k : ℕ) → is_between b.first last k ≡ true → has_where test inside k ≡ has_where test ns k) → keys ≡ map (λ (n : Name). n.key) inside → HasNamedIn ns b keys
 named_in ns inside b last keys block all is k lies =

@@ -1,19 +1,9 @@
 -- Whether somebody was heard while Quiet, by names in the order of their keys.
-use Rattle.std.proofs.Common.{◌≡◌, ℕ, ◌+◌, ◌-◌, ◌<◌, ◌≤◌, ◌==◌, List, length, get_or, [], ◌∷◌, Bool, true, ◌&&◌, ◌||◌, refl, sym, ap, ◌∙◌, subst, arith, ⊎_elim}
-use Rattle.std.specs.Prelude.{◌⊎◌, nat_lt}
-use Rattle.std.proofs.lemmas.Bool.{cases_eq, and_parts, and_from, eq-eqb, eqb-true}
-use Rattle.std.specs.List.{All, list_any}
-use Rattle.std.proofs.lemmas.List.{get_or_default}
-use Rattle.std.proofs.lemmas.List.Elements.{All-head, All-tail}
-use Rattle.std.proofs.lemmas.List.Folds.{list_any_at, Any-from_list_any}
-use Rattle.vic_verdict.specs.declared.names.Name.{Name}
-use Rattle.vic_verdict.specs.declared.names.TheConstants.{NEVER}
-use Rattle.vic_verdict.specs.Replies.{reply_place, is_quiet_reply, IsQuietReply, IsFirstQuietReply}
-use Rattle.vic_tree.specs.Ranges.{is_between}
-use Rattle.vic_verdict.specs.Sweep.{quiet_of, is_quiet_by, has_where, AreInOrder}
+use Rattle.std.proofs.Common.{◌≡◌, ℕ, ◌+◌, ◌-◌, ◌<◌, ◌≤◌, ◌==◌, List, length, get_or, [], ◌∷◌, Bool, true, ◌&&◌, refl, sym, ap, ◌∙◌, subst, arith, ⊎_elim, ◌⊎◌, nat_lt, eq-eqb, eqb-true, All}
+use Rattle.vic_verdict.proofs.Words.{nat_tests, cases_eq, and_parts, and_from, list_any, get_or_default, All-head, All-tail, list_any_at, Any-from_list_any, Name, NEVER, reply_place, IsFirstQuietReply, is_between, quiet_of, is_quiet_by, has_where, AreInOrder, lt_from, lt_yes}
+use Rattle.vic_verdict.specs.inner.Replies.{is_quiet_reply, IsQuietReply}
 use Rattle.vic_verdict.proofs.Closing.{between_from}
-use Rattle.vic_verdict.proofs.Sweeping.{nobody, between_parts}
-use Rattle.vic_tree.proofs.BoolLaws.{lt_from, lt_yes}
+use Rattle.vic_verdict.proofs.Sweeping.{nobody}
 
 -- the name at a position of a list
 abbrev pub at : List Name → ℕ → Name
@@ -27,11 +17,9 @@ TellsFrom ns k quiet = (i : ℕ) → i ≤ NEVER → is_quiet_by ns (at ns k).ke
 pub quiet_own : (own : List Name) (key i : ℕ) → All (λ (n : Name). is_between key key n.key ≡ true) own → is_quiet_by own key i ≡ list_any (λ (n : Name). nat_lt (quiet_of n) i) own
 quiet_own [] key i inside = refl
 quiet_own (n ∷ own) key i inside =
-    let parts = between_parts key key n.key (All-head (λ (m : Name). is_between key key m.key ≡ true) n own inside) in
-    let from = parts.0 in
-    let to = parts.1 in
-    ap (λ b. (b && nat_lt (quiet_of n) i) || is_quiet_by own key i) (eq-eqb n.key key (omega (arith, from, to)))
-    ∙ ap (λ b. nat_lt (quiet_of n) i || b) (quiet_own own key i (All-tail (λ (m : Name). is_between key key m.key ≡ true) n own inside))
+    let here = All-head (λ (m : Name). is_between key key m.key ≡ true) n own inside in
+    let rest = quiet_own own key i (All-tail (λ (m : Name). is_between key key m.key ≡ true) n own inside) in
+    grind (arith, nat_tests)
 
 pub tells_own : (ns own : List Name) (key quiet i : ℕ) → All (λ (n : Name). is_between key key n.key ≡ true) own → ((test : Name → Bool) (k : ℕ) → is_between key key k ≡ true → has_where test own k ≡ has_where test ns k) → nat_lt quiet i ≡ list_any (λ (n : Name). nat_lt (quiet_of n) i) own → is_quiet_by ns key i ≡ nat_lt quiet i
 tells_own ns own key quiet i inside all first =
@@ -41,7 +29,7 @@ tells_own ns own key quiet i inside all first =
 pub tells_still : (ns : List Name) (k quiet : ℕ) → AreInOrder ns → 0 < k → k < length ns → (at ns k).key ≤ (at ns (k - 1)).key → TellsFrom ns (k - 1) quiet → TellsFrom ns k quiet
 tells_still ns k quiet up some below le tells i upto =
     let over = up (k - 1) k nobody (omega arith) below in
-    ap (λ key. is_quiet_by ns key i) (omega (arith, over, le)) ∙ tells i upto
+    ap (λ key. is_quiet_by ns key i) (omega arith) ∙ tells i upto
 
 -- what is found of the first k names
 pub record IsFoundTo (ns : List Name) (end k first : ℕ) : Type 0 where
@@ -50,7 +38,7 @@ pub record IsFoundTo (ns : List Name) (end k first : ℕ) : Type 0 where
   pub least : (j : ℕ) → j < k → is_quiet_reply ns (at ns j) ≡ true → first ≤ reply_place (at ns j)
 
 pub found_first : (ns : List Name) (end : ℕ) → IsFoundTo ns end 0 end
-found_first ns end = record { within = omega arith; quiet = λ lt. absurd (omega (arith, lt)); least = λ j lt. absurd (omega (arith, lt)) }
+found_first ns end = record { within = omega arith; quiet = λ lt. absurd (omega arith); least = λ j lt. absurd (omega arith) }
 
 -- a reply of a Quiet UID
 quiet_here : (ns : List Name) (k : ℕ) → k < length ns → is_quiet_reply ns (at ns k) ≡ true → IsQuietReply ns (reply_place (at ns k))
@@ -59,12 +47,12 @@ quiet_here ns k below e = list_any_at (λ (n : Name). (reply_place n == reply_pl
 -- the next name is one
 pub found_more : (ns : List Name) (end quiet k first next : ℕ) → k < length ns → reply_place (at ns k) ≤ NEVER → TellsFrom ns k quiet → quiet < reply_place (at ns k) → next ≤ first → next ≤ reply_place (at ns k) → (next ≡ first) ⊎ (next ≡ reply_place (at ns k)) → IsFoundTo ns end k first → IsFoundTo ns end (k + 1) next
 found_more ns end quiet k first next below small tells late le here is f = record {
-  within = let w = f.within in omega (arith, w, le);
-  quiet = λ lt. ⊎_elim (λ old. subst (IsQuietReply ns) (sym old) (f.quiet (omega (arith, lt, old)))) (λ new. subst (IsQuietReply ns) (sym new) (quiet_here ns k below (tells _ small ∙ lt_yes _ _ late))) is;
+  within = omega arith;
+  quiet = λ lt. ⊎_elim (λ old. subst (IsQuietReply ns) (sym old) (f.quiet (omega arith))) (λ new. subst (IsQuietReply ns) (sym new) (quiet_here ns k below (tells _ small ∙ lt_yes _ _ late))) is;
   least = λ j lt it.
       ⊎_elim
       (λ same. subst (λ i. next ≤ reply_place (at ns i)) (sym same) here)
-      (λ ne. let old = f.least j (omega (arith, lt, ne)) it in omega (arith, old, le))
+      (λ ne. let old = f.least j (omega arith) it in omega arith)
       (cases_eq j k);
 }
 
@@ -75,8 +63,8 @@ found_still ns end quiet k first small tells early f = record {
   quiet = f.quiet;
   least = λ j lt it.
       ⊎_elim
-      (λ same. absurd (let late = lt_from _ _ (sym (tells _ small) ∙ subst (λ i. is_quiet_reply ns (at ns i) ≡ true) same it) in omega (arith, late, early)))
-      (λ ne. f.least j (omega (arith, lt, ne)) it)
+      (λ same. absurd (let late = lt_from _ _ (sym (tells _ small) ∙ subst (λ i. is_quiet_reply ns (at ns i) ≡ true) same it) in omega arith))
+      (λ ne. f.least j (omega (arith, lt)) it)
       (cases_eq j k);
 }
 
@@ -92,7 +80,7 @@ found_all ns end k first past f = record {
       let parts = and_parts (reply_place n == m) (is_quiet_by ns n.key m) some.4 in
       let placed = eqb-true (reply_place n) m parts.0 in
       let it : is_quiet_reply ns n ≡ true = subst (λ i. is_quiet_by ns n.key i ≡ true) (sym placed) parts.1 in
-      let far = f.least some.0 (omega (arith, within, past)) (ap (is_quiet_reply ns) here ∙ it) in
+      let far = f.least some.0 (omega arith) (ap (is_quiet_reply ns) here ∙ it) in
       let same = ap reply_place here in
-      omega (arith, far, same, placed);
+      omega arith;
 }

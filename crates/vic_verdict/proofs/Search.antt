@@ -1,8 +1,6 @@
 -- A search over the numbers below a bound, to decide, and never to be run.
-use Rattle.std.proofs.Common.{◌≡◌, ℕ, zero, suc, ◌<◌, Bool, true, false, sym, subst, arith, inl, inr, ⊎_elim}
-use Rattle.std.specs.Prelude.{◌⊎◌}
-use Rattle.std.proofs.lemmas.Bool.{cases_Bool, cases_eq, cases_lt, both_ways}
-use Rattle.vic_verdict.specs.Verdict.{IsLeast, NoSuch}
+use Rattle.std.proofs.Common.{◌≡◌, ℕ, zero, suc, ◌<◌, Bool, true, false, sym, subst, arith, inl, inr, ⊎_elim, ◌⊎◌}
+use Rattle.vic_verdict.proofs.Words.{cases_Bool, cases_eq, cases_lt, both_ways, IsLeast, NoSuch}
 
 none_more : (t : ℕ → Bool) (n : ℕ) → ((k : ℕ) → k < n → t k ≡ false) → t n ≡ false → (k : ℕ) → k < suc n → t k ≡ false
 none_more t n below here k h =

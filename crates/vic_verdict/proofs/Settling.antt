@@ -1,80 +1,66 @@
 -- What the lines of a log leave open up to a position at which a reply could not be.
-use Rattle.std.proofs.Common.{◌≡◌, ℕ, ◌+◌, ◌<◌, ◌≤◌, ◌&&◌, List, [], length, take, Bool, Some, refl, sym, ap, ◌∙◌, subst, arith, ⊎_elim}
-use Rattle.std.specs.Prelude.{slice_get}
-use Rattle.std.proofs.lemmas.Bool.{cases_eq}
-use Rattle.std.proofs.lemmas.List.{length-map, length-take-le, take-map}
-use Rattle.std.proofs.lemmas.Option.{slice_get_within}
-use Rattle.vic_frame.specs.LowBitsFirst.{mirror}
-use Rattle.vic_tree.specs.OpenSet.{SameUids}
-use Rattle.vic_tree.specs.Ranges.{is_outside}
-use Rattle.vic_tree.specs.declared.key_range.KeyRange.{KeyRange}
-use Rattle.vic_log.specs.declared.entry.Entry.{Entry}
-use Rattle.vic_log.specs.declared.entry.Entry.TheVariants.{Heard, FieldCycle}
-use Rattle.vic_log.specs.declared.entry.LogLine.{LogLine}
-use Rattle.vic_log.specs.Order.{entries}
-use Rattle.vic_log.specs.Slots.{slots_before, is_open}
-use Rattle.vic_log.proofs.Places.{AgreeBefore, answers_agree}
-use Rattle.vic_verdict.specs.declared.closed.Spot.{Spot}
-use Rattle.vic_verdict.specs.declared.names.Name.{Name}
-use Rattle.vic_verdict.specs.declared.demands.Demand.{Demand}
-use Rattle.vic_verdict.specs.declared.demands.Stretch.{Stretch}
+use Rattle.std.proofs.Common.{◌≡◌, ℕ, ◌+◌, ◌<◌, ◌≤◌, ◌&&◌, List, [], length, take, Bool, Some, refl, sym, ap, ◌∙◌, subst, arith, false, inl, inr, add-one, slice_get, length-take-le}
+use Rattle.vic_verdict.proofs.Words.{cases_eq, and_true, Reply, is_quiet, length-map, take-map, slice_get_within, mirror, SameUids, is_outside, Entry, Heard, FieldCycle, LogLine, entries, slots_before, is_open, AgreeBefore, answers_agree, Spot, Name, Demand, Stretch, AreKept, needs, IsContradictedAt, IsFirstQuietReply, all_allow_to, ArePutInOrder}
 use Rattle.vic_verdict.specs.declared.stretches.Settled.{Settled}
-use Rattle.vic_verdict.specs.Demands.{AreKept, Keeps, needs}
-use Rattle.vic_verdict.specs.Possible.{IsContradictedAt}
-use Rattle.vic_verdict.specs.Replies.{Answers, IsFirstQuietReply}
-use Rattle.vic_verdict.specs.Stretches.{HasGathered, IsOpenTo, IsSettled}
-use Rattle.vic_verdict.specs.Sweep.{all_allow_to, ArePutInOrder}
-use Rattle.vic_verdict.proofs.Demanding.{asked_anew, kept_first, kept_cycle, kept_to}
-use Rattle.vic_verdict.proofs.Heard.{answers_before, quiet_contradicts, quiet_since, heard_first, heard_anew}
+use Rattle.vic_verdict.specs.inner.Asked.{Keeps}
+use Rattle.vic_verdict.specs.inner.Replies.{Answers, IsQuietReply}
+use Rattle.vic_verdict.specs.inner.Stretches.{HasGathered, IsOpenTo, IsSettled}
+use Rattle.vic_verdict.proofs.Demanding.{kept_first, kept_cycle, kept_to}
+use Rattle.vic_verdict.proofs.Heard.{AreHeard, are_heard, answers_before, quiet_contradicts, quiet_since}
 use Rattle.vic_verdict.proofs.Lacking.{taken, open_agrees}
-use Rattle.vic_verdict.proofs.Stands.{open_first}
-use Rattle.vic_verdict.proofs.Stretching.{allow_all, stretch_to, stretch_first, stretch_anew}
+use Rattle.vic_verdict.proofs.Stands.{open_first, open_next}
+use Rattle.vic_verdict.proofs.Stretching.{gathered_first, gathered_keys, gathered_open}
 
--- what is kept of the stretches that ended, and gathered since the last field cycle
+-- what is kept of the stretches that ended, and gathered since the last field cycle, before which the UIDs heard answer
 pub record IsWalked (es : List Entry) (i : ℕ) (set : ℕ → Bool) (ts : List Stretch) (ns : List Name) (ss : List Spot) (ds : List Demand) : Type 0 where
   pub from : ℕ
-  pub gathered : HasGathered es from i set ns ss ds
+  pub gathered : HasGathered es from i ns ss ds
+  pub ready : (u : ℕ) → is_quiet es from u ≡ false
+  pub uids : SameUids set (is_open (slots_before es from))
+  pub answer : (j : ℕ) (r : Reply) → j < from → slice_get es j ≡ Some (Heard r) → Answers es j r.uid
   pub kept : AreKept es from ts
 
 pub walked_first : (es : List Entry) → IsWalked es 0 (is_outside []) [] [] [] []
 walked_first es = record {
   from = 0;
-  gathered = record {
-    stretch = stretch_first es (is_outside []) (open_first es (is_outside []) (λ u w. refl));
-    heard = heard_first es;
-    asked = asked_anew es 0;
-  };
+  gathered = gathered_first es 0;
+  ready = λ u. refl;
+  uids = open_first es (is_outside []) (λ u w. refl);
+  answer = λ j r lt. absurd (omega arith);
   kept = kept_first es;
 }
 
-pub walked_as : (es : List Entry) (i : ℕ) (rs qs : List KeyRange) (ts us : List Stretch) (ns ms : List Name) (ss ps : List Spot) (ds cs : List Demand) → qs ≡ rs → us ≡ ts → ms ≡ ns → ps ≡ ss → cs ≡ ds → IsWalked es i (is_outside rs) ts ns ss ds → IsWalked es i (is_outside qs) us ms ps cs
-walked_as es i rs qs ts us ns ms ss ps ds cs a b c d e w =
-    subst (λ xs. IsWalked es i (is_outside xs) us ms ps cs) (sym a)
-    (subst (λ xs. IsWalked es i (is_outside rs) xs ms ps cs) (sym b)
-    (subst (λ xs. IsWalked es i (is_outside rs) ts xs ps cs) (sym c)
-    (subst (λ xs. IsWalked es i (is_outside rs) ts ns xs cs) (sym d)
-    (subst (λ xs. IsWalked es i (is_outside rs) ts ns ss xs) (sym e) w))))
+-- what the names tell, and which UIDs are open
+heard_by : (es : List Entry) (i : ℕ) (set : ℕ → Bool) (ts : List Stretch) (ns : List Name) (ss : List Spot) (ds : List Demand) (g : IsWalked es i set ts ns ss ds) → AreHeard es g.from i ns
+heard_by es i set ts ns ss ds g = are_heard es g.from i ns ss ds g.gathered g.ready g.answer
+
+open_by : (es : List Entry) (i : ℕ) (set : ℕ → Bool) (ts : List Stretch) (ns : List Name) (ss : List Spot) (ds : List Demand) (g : IsWalked es i set ts ns ss ds) → (j : ℕ) → g.from ≤ j → j ≤ i → SameUids (λ u. set u && all_allow_to ns ss j (mirror u)) (is_open (slots_before es j))
+open_by es i set ts ns ss ds g = gathered_open es g.from i set ns ss ds g.gathered g.ready g.uids
 
 -- a field cycle, once all is settled
 pub walked_anew : (es : List Entry) (i cut : ℕ) (old set : ℕ → Bool) (kept new : List Stretch) (ns sorted : List Name) (ss : List Spot) (ds : List Demand) (e : Entry) → slice_get es i ≡ Some e → e ≡ FieldCycle → i ≤ cut → IsFirstQuietReply ns i cut → ArePutInOrder ns sorted → Keeps sorted ds cut kept new → SameUids set (λ u. old u && all_allow_to ns ss cut (mirror u)) → IsWalked es i old kept ns ss ds → IsWalked es (i + 1) set new [] [] []
 walked_anew es i cut old set kept new ns sorted ss ds e k is upto first order keeps settled g =
-    let within = first.within in
-    let end : cut ≡ i = omega (arith, upto, within) in
+    let end : cut ≡ i = omega arith in
+    let heard = heard_by es i old kept ns ss ds g in
+    let here : slice_get es i ≡ Some FieldCycle = k ∙ ap (λ x. Some x) is in
+    let quick : (place : ℕ) → IsQuietReply ns place → i ≤ place = λ place quiet. let le = first.first place quiet in omega arith in
     record {
       from = i + 1;
-      gathered = record {
-        stretch = stretch_anew es g.from i old set ns [] ss [] e k is refl refl (λ u w. settled u w ∙ ap (λ b. old u && b) (ap (λ j. all_allow_to ns ss j (mirror u)) end ∙ allow_all ns (mirror u) i ss g.gathered.stretch.slots)) g.gathered.stretch;
-        heard = heard_anew es g.from i ns [] e k is refl (λ place quiet. let le = first.first place quiet in omega (arith, le, end)) g.gathered.heard;
-        asked = asked_anew es (i + 1);
-      };
-      kept = kept_cycle es i new e k (ap needs is) (kept_to es es g.from i i ns sorted ds kept new (λ j below. refl) g.gathered.heard.begun (omega arith) g.gathered.stretch.keys g.gathered.heard.quiet order (subst (λ j. Keeps sorted ds j kept new) end keeps) g.gathered.asked g.kept);
+      gathered = gathered_first es (i + 1);
+      ready = λ u. rw (add-one, here) refl;
+      uids = open_next es i FieldCycle set set here (λ u w. sym (and_true (set u))) (λ u w. settled u w ∙ (ap (λ j. old u && all_allow_to ns ss j (mirror u)) end ∙ open_by es i old kept ns ss ds g i g.gathered.begun (omega arith) u w));
+      answer = λ j r lt f. elim (cases_eq j i) [
+        | inl same ↦ absurd (let both : Some FieldCycle ≡ Some (Heard r) = sym here ∙ (ap (slice_get es) (sym same) ∙ f) in cc)
+        | inr ne ↦ answers_before es g.from i i ns heard quick j r (omega arith) (omega arith) f
+      ];
+      kept = kept_cycle es i new e k (ap needs is) (kept_to es es g.from i i ns sorted ds kept new (λ j below. refl) g.gathered.begun (omega arith) (gathered_keys es g.from i ns ss ds g.gathered) heard.quiet order (subst (λ j. Keeps sorted ds j kept new) end keeps) g.gathered.asked g.kept);
     }
 
 -- once it is settled up to the first reply of a Quiet UID
 pub settled_to : (lines : List LogLine) (s : Settled) (i : ℕ) (old : ℕ → Bool) (kept : List Stretch) (ns sorted : List Name) (ss : List Spot) (ds : List Demand) → i ≤ length lines → IsWalked (entries lines) i old kept ns ss ds → IsFirstQuietReply ns i s.cut → ArePutInOrder ns sorted → Keeps sorted ds s.cut kept s.stretches.items → SameUids (is_outside s.closed.items) (λ u. old u && all_allow_to ns ss s.cut (mirror u)) → (s.cut ≡ i → i < length lines → IsContradictedAt (entries lines) i) → IsSettled lines s
 settled_to lines s i old kept ns sorted ss ds within g first order keeps settled here = record {
   uids = opened;
-  kept = kept_to es (entries front) g.from i cut ns sorted ds kept s.stretches.items agree since upto g.gathered.stretch.keys g.gathered.heard.quiet order keeps g.gathered.asked g.kept;
+  kept = kept_to es (entries front) g.from i cut ns sorted ds kept s.stretches.items agree since upto (gathered_keys es g.from i ns ss ds g.gathered) heard.quiet order keeps g.gathered.asked g.kept;
 } where
   cut : ℕ
   cut = s.cut
@@ -85,36 +71,39 @@ settled_to lines s i old kept ns sorted ss ds within g first order keeps settled
   front : List LogLine
   front = take cut lines
 
+  heard : AreHeard es g.from i ns
+  heard = heard_by es i old kept ns ss ds g
+
   upto : cut ≤ i
   upto = first.within
 
   since : g.from ≤ cut
-  since = quiet_since es g.from i cut ns g.gathered.heard first
+  since = quiet_since es g.from i cut ns heard first
 
   firsts : entries front ≡ take cut es
   firsts = sym (take-map (λ (l : LogLine). l.item) cut lines)
 
   size : length (entries front) ≡ cut
-  size = ap length firsts ∙ length-take-le cut es (let long = length-map lines (λ (l : LogLine). l.item) in omega (arith, long, within, upto))
+  size = ap length firsts ∙ length-take-le cut es (let long = length-map lines (λ (l : LogLine). l.item) in omega (arith, upto))
 
   agree : AgreeBefore cut (entries front) es
   agree j h = ap (λ xs. slice_get xs j) firsts ∙ taken cut es j h
 
   opened : IsOpenTo lines (is_outside s.closed.items) cut
   opened = record {
-    within = omega (arith, within, upto);
+    within = omega (arith, upto);
     answer = λ j r k.
-        let below : j < cut = let inside = slice_get_within (entries front) j (Heard r) k in omega (arith, inside, size) in
+        let below : j < cut = let inside = slice_get_within (entries front) j (Heard r) k in omega (arith, size) in
         let at = sym (agree j below) ∙ k in
-        let answers : Answers es j r.uid = answers_before es g.from i cut ns g.gathered.heard first.first j r (omega (arith, below, upto)) below at in
-        (answers.0, answers_agree j (entries front) es (λ m h. agree m (omega (arith, h, below))) r.uid ∙ answers.1);
+        let answers : Answers es j r.uid = answers_before es g.from i cut ns heard first.first j r (omega (arith, upto)) below at in
+        (answers.0, answers_agree j (entries front) es (λ m h. agree m (omega arith)) r.uid ∙ answers.1);
     uids = λ u w.
         settled u w
-        ∙ (stretch_to es g.from i old ns ss g.gathered.stretch cut since upto u w
+        ∙ (open_by es i old kept ns ss ds g cut since upto u w
         ∙ (sym (open_agrees cut (entries front) es u agree)
         ∙ ap (λ n. is_open (slots_before (entries front) n) u) (sym size)));
-    beyond = λ short. ⊎_elim
-        (λ end. subst (IsContradictedAt es) (sym end) (here end (omega (arith, end, short))))
-        (λ ne. quiet_contradicts es g.from i cut ns g.gathered.heard (first.quiet (omega (arith, ne, upto))))
-        (cases_eq cut i);
+    beyond = λ short. elim (cases_eq cut i) [
+      | inl end ↦ subst (IsContradictedAt es) (sym end) (here end (omega arith))
+      | inr ne ↦ quiet_contradicts es g.from i cut ns heard (first.quiet (omega arith))
+    ];
   }

@@ -1,12 +1,6 @@
 -- What the Stay Quiets since the last field cycle tell, from position to position.
-use Rattle.std.proofs.Common.{◌≡◌, ℕ, ◌<◌, ◌≤◌, ◌==◌, ◌^◌, List, [], ◌∷◌, Bool, true, ◌&&◌, sym, ◌∙◌, subst, arith, ⊎_elim}
-use Rattle.std.specs.Prelude.{nat_lt}
-use Rattle.std.specs.List.Sorted.{IsPermutation}
-use Rattle.std.proofs.lemmas.Bool.{and_parts, and_from, or_cases, or_left, or_right, false≢true}
-use Rattle.std.proofs.lemmas.Bool.Decides.{nat_tests}
-use Rattle.std.proofs.lemmas.List.Sorted.{All-permutation, list_any-IsPermutation}
-use Rattle.vic_verdict.specs.declared.names.Name.{Name}
-use Rattle.vic_verdict.specs.Sweep.{AreInOrder, keep_all, quiet_of, is_quiet_by, ArePutInOrder}
+use Rattle.std.proofs.Common.{◌≡◌, ℕ, ◌<◌, ◌≤◌, ◌==◌, ◌^◌, List, [], ◌∷◌, Bool, true, ◌&&◌, sym, ◌∙◌, subst, arith, nat_lt, IsPermutation}
+use Rattle.vic_verdict.proofs.Words.{false≢true, nat_tests, All-permutation, list_any-IsPermutation, Name, AreInOrder, keep_all, quiet_of, is_quiet_by, ArePutInOrder}
 use Rattle.vic_verdict.proofs.Sweeping.{keep-order, keep-keys, keep-quiet}
 
 pub silenced_permuted : (ns ms : List Name) (k i : ℕ) → IsPermutation ns ms → is_quiet_by ms k i ≡ is_quiet_by ns k i
@@ -20,14 +14,7 @@ put_in_order p ns sorted new m order is = subst (ArePutInOrder ns) (sym is) (rec
   quiet = λ k i. keep-quiet p sorted k i ∙ silenced_permuted ns sorted k i m;
 })
 
-lt_more : (q i j : ℕ) → i ≤ j → nat_lt q i ≡ true → nat_lt q j ≡ true
-lt_more q i j le e = grind (arith, nat_tests)
-
 -- whoever is Quiet stays so
 pub silenced_later : (ns : List Name) (k i j : ℕ) → i ≤ j → is_quiet_by ns k i ≡ true → is_quiet_by ns k j ≡ true
 silenced_later [] k i j le e = absurd (false≢true e)
-silenced_later (n ∷ ns) k i j le e =
-    ⊎_elim
-    (λ here. let a = and_parts (n.key == k) (nat_lt (quiet_of n) i) here in or_left _ _ (and_from _ _ a.0 (lt_more (quiet_of n) i j le a.1)))
-    (λ there. or_right _ _ (silenced_later ns k i j le there))
-    (or_cases _ _ e)
+silenced_later (n ∷ ns) k i j le e = grind (arith, nat_tests, silenced_later ns k i j le)

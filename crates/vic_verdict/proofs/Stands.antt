@@ -1,18 +1,8 @@
 -- The entries of a log's lines, and which UIDs are open from one to the next.
-use Rattle.std.proofs.Common.{◌≡◌, ℕ, ◌+◌, ◌<◌, List, Bool, true, ◌&&◌, Some, refl, sym, ap, ◌∙◌, subst, add-one, length, get_or}
-use Rattle.std.specs.Prelude.{slice_get}
-use Rattle.std.specs.Option.{option_map}
-use Rattle.std.proofs.lemmas.Option.{slice_get-map, slice_get_read}
-use Rattle.vic_frame.specs.Uids.{IsUid}
-use Rattle.vic_tree.specs.OpenSet.{SameUids}
-use Rattle.vic_log.specs.declared.entry.Entry.{Entry}
-use Rattle.vic_log.specs.declared.entry.LogLine.{LogLine}
-use Rattle.vic_log.specs.Populations.{answers_at}
-use Rattle.vic_log.specs.Slots.{reading_of, slots_before, is_open}
-use Rattle.vic_log.specs.Order.{entries}
-use Rattle.vic_log.proofs.Supply.{is_uid_from}
+use Rattle.std.proofs.Common.{◌≡◌, ℕ, ◌+◌, ◌<◌, List, Bool, true, ◌&&◌, Some, refl, sym, ap, ◌∙◌, subst, add-one, length, get_or, slice_get, option_map}
+use Rattle.vic_verdict.proofs.Words.{slice_get_read, IsUid, SameUids, Entry, LogLine, answers_at, reading_of, slots_before, is_open, entries, is_uid_from, and_true}
+use Rattle.std.proofs.lemmas.Option.{slice_get-map}
 use Rattle.vic_verdict.proofs.Entries.{entry_allows, open_step}
-use Rattle.vic_tree.proofs.BoolLaws.{and_true}
 
 -- the entry of a line
 pub entry_at : (lines : List LogLine) (i : ℕ) (l : LogLine) → i < length lines → l ≡ get_or lines i l → slice_get (entries lines) i ≡ Some l.item

@@ -1,12 +1,6 @@
 -- What is asked of the open UIDs is what makes a log possible.
-use Rattle.std.proofs.Common.{◌≡◌, ℕ, List, length, Bool, Some, sym, ◌∙◌}
-use Rattle.std.specs.Prelude.{slice_get}
-use Rattle.std.proofs.lemmas.Option.{slice_get_within}
-use Rattle.vic_tree.specs.OpenSet.{UpToThree}
-use Rattle.vic_log.specs.declared.entry.Entry.{Entry}
-use Rattle.vic_log.specs.Slots.{reading_of, slots_of, is_open}
-use Rattle.vic_verdict.specs.Possible.{IsPossible}
-use Rattle.vic_verdict.specs.Places.{answering}
+use Rattle.std.proofs.Common.{◌≡◌, ℕ, List, length, Bool, Some, sym, ◌∙◌, slice_get}
+use Rattle.vic_verdict.proofs.Words.{slice_get_within, UpToThree, Entry, reading_of, slots_of, is_open, IsPossible, answering}
 use Rattle.vic_verdict.proofs.Decide.{IsPossible-iff}
 use Rattle.vic_verdict.proofs.Entries.{EntryAsks, SuppliesBefore, SuppliesAll-places}
 

@@ -1,22 +1,11 @@
 -- What the slots between two field cycles leave, name by name.
-use Rattle.std.proofs.Common.{◌≡◌, ℕ, zero, suc, ◌+◌, ◌-◌, ◌<◌, ◌≤◌, ◌==◌, List, [], ◌∷◌, length, take, filter, cond, get_or, set, Bool, true, false, not, ◌&&◌, ◌||◌, Option, Some, None, refl, sym, ap, ◌∙◌, subst, arith, add-one, ◌++◌, ⊎_elim, ◌^◌}
-use Rattle.std.specs.Prelude.{nat_le, nat_lt}
-use Rattle.std.specs.List.{All, list_all, list_any}
-use Rattle.std.proofs.lemmas.Bool.{ne_eqb, cases_eq, cases_lt, false≢true, and_parts, and_from, or_cases, or_left, or_right, eqb-true}
-use Rattle.std.proofs.lemmas.Bool.Decides.{nat_tests}
-use Rattle.std.proofs.lemmas.List.{ext_get_or, get_or-map, get_or_default, get_or-set_same, get_or-set_other, length-set, take_all}
-use Rattle.std.proofs.lemmas.List.Elements.{All-head, All-tail}
-use Rattle.std.proofs.lemmas.List.Folds.{list_all_more, list_any_more}
-use Rattle.vic_verdict.specs.declared.names.Name.{Name}
-use Rattle.vic_verdict.specs.declared.closed.Spot.{Spot}
+use Rattle.std.proofs.Common.{◌≡◌, ℕ, zero, suc, ◌+◌, ◌-◌, ◌<◌, ◌≤◌, ◌==◌, List, [], ◌∷◌, length, take, filter, cond, get_or, set, Bool, true, false, not, ◌&&◌, ◌||◌, Option, Some, None, refl, sym, ap, ◌∙◌, subst, arith, add-one, ◌++◌, inl, inr, ⊎_elim, ◌^◌, nat_le, nat_lt, All, ne_eqb, eqb-true, ext_get_or, get_or-set_same, get_or-set_other, length-set, take_all, IsPermutation}
+use Rattle.vic_verdict.proofs.Words.{list_all, list_any, cases_eq, cases_lt, false≢true, and_parts, and_from, or_cases, or_left, or_right, nat_tests, get_or-map, get_or_default, All-head, All-tail, list_any_more, Name, Spot, Run, is_between, quiet_of, first_of, last_of, heard_of, is_heard, is_in, all_leave, level_leaves, mask_leaves, run_leaves, keep_all, has_where, has_left, is_quiet_by, spot_allows, all_allow, all_allow_to, is_named, is_named_if, all_hear_named, AreInOrder, HaveKeys, list_any-IsPermutation, and_true, lt_yes, or_false}
+use Rattle.std.proofs.lemmas.List.Folds.{list_all_more}
 use Rattle.vic_verdict.specs.declared.sweep.Level.{Level}
-use Rattle.vic_verdict.specs.declared.sweep.Run.{Run}
-use Rattle.vic_tree.specs.Ranges.{is_between}
-use Rattle.vic_verdict.specs.Sweep.{quiet_of, first_of, last_of, heard_of, is_heard, slot_leaves, is_in, spot_leaves, all_leave, level_leaves, mask_leaves, run_leaves, keep, keep_all, has_where, has_left, is_quiet_by, spot_allows, all_allow, all_allow_to, is_named, is_named_if, hears_named, all_hear_named, are_left, AreInOrder, IsStart, HaveKeys}
-use Rattle.std.specs.List.Sorted.{IsPermutation}
-use Rattle.std.proofs.lemmas.List.Sorted.{list_any-IsPermutation}
+use Rattle.vic_verdict.specs.inner.Sweep.{slot_leaves, spot_leaves, keep, hears_named, are_left, IsStart}
 use Rattle.std.proofs.Math.Seq.{take-append_seam}
-use Rattle.vic_tree.proofs.BoolLaws.{and_thrice, and_true, lt_from, lt_yes, or_false, same_tests}
+use Rattle.vic_tree.proofs.BoolLaws.{and_thrice, same_tests}
 
 -- ---- names that are kept
 
@@ -26,15 +15,11 @@ all_cover ns spots k = list_all (λ s. not (is_in s k) || has_left ns k) spots
 
 pub keep_twice : (p q : ℕ → ℕ → Bool) (ns : List Name) → keep_all p (keep_all q ns) ≡ keep_all (λ k t. q k t && p k t) ns
 keep_twice p q [] = refl
-keep_twice p q (n ∷ ns) =
-    ap (λ (b : Bool). record { key = n.key; at = n.at; is_heard = n.is_heard; left = b } ∷ keep_all p (keep_all q ns)) (and_thrice n.left (q n.key (quiet_of n)) (p n.key (quiet_of n)))
-    ∙ ap (λ (ms : List Name). keep (λ k t. q k t && p k t) n ∷ ms) (keep_twice p q ns)
+keep_twice p q (n ∷ ns) = rw (keep_twice p q ns, and_thrice n.left (q n.key (quiet_of n)) (p n.key (quiet_of n))) refl
 
 pub keep_alike : (p q : ℕ → ℕ → Bool) → ((k t : ℕ) → p k t ≡ q k t) → (ns : List Name) → keep_all p ns ≡ keep_all q ns
 keep_alike p q same [] = refl
-keep_alike p q same (n ∷ ns) =
-    ap (λ (b : Bool). record { key = n.key; at = n.at; is_heard = n.is_heard; left = n.left && b } ∷ keep_all p ns) (same n.key (quiet_of n))
-    ∙ ap (λ (ms : List Name). keep q n ∷ ms) (keep_alike p q same ns)
+keep_alike p q same (n ∷ ns) = rw (same n.key (quiet_of n), keep_alike p q same ns) refl
 
 pub kept_whole : (p : ℕ → ℕ → Bool) (n : Name) → p n.key (quiet_of n) ≡ true → keep p n ≡ n
 kept_whole p n e = ap (λ (b : Bool). record { key = n.key; at = n.at; is_heard = n.is_heard; left = n.left && b }) e ∙ ap (λ (b : Bool). record { key = n.key; at = n.at; is_heard = n.is_heard; left = b }) (and_true n.left)
@@ -50,10 +35,10 @@ keep-length p (n ∷ ns) = ap suc (keep-length p ns)
 pub keep-order : (p : ℕ → ℕ → Bool) (ns : List Name) → AreInOrder ns → AreInOrder (keep_all p ns)
 keep-order p ns up i j d le below =
     let short : j < length ns = subst (λ m. j < m) (keep-length p ns) below in
-    let a = ap (λ (n : Name). n.key) (get_or-map (keep p) ns i d d (omega (arith, le, short))) in
+    let a = ap (λ (n : Name). n.key) (get_or-map (keep p) ns i d d (omega arith)) in
     let b = ap (λ (n : Name). n.key) (get_or-map (keep p) ns j d d short) in
     let h = up i j d le short in
-    omega (arith, a, b, h)
+    omega arith
 
 pub keep-keys : (p : ℕ → ℕ → Bool) (ns : List Name) → HaveKeys ns → HaveKeys (keep_all p ns)
 keep-keys p ns h k d below =
@@ -67,24 +52,13 @@ keep-quiet p (n ∷ ns) k i = ap (λ b. ((n.key == k) && nat_lt (quiet_of n) i) 
 -- ---- a mask rules names out
 
 pub outside_below : (first last : ℕ) (l : Level) (k q : ℕ) → k < first → mask_leaves first last l k q ≡ true
-outside_below first last l k q h = go (nat_le first k) (grind (arith, nat_tests)) where
-  go : (b : Bool) → b ≡ false → (not (b && nat_le k last) || level_leaves l k q) ≡ true
-  go false e = refl
-  go true e = absurd (cc)
+outside_below first last l k q h = grind (arith, nat_tests)
 
 pub outside_above : (first last : ℕ) (l : Level) (k q : ℕ) → last < k → mask_leaves first last l k q ≡ true
-outside_above first last l k q h = go (nat_le first k) (nat_le k last) (grind (arith, nat_tests)) where
-  go : (a b : Bool) → b ≡ false → (not (a && b) || level_leaves l k q) ≡ true
-  go false b e = refl
-  go true false e = refl
-  go true true e = absurd (cc)
+outside_above first last l k q h = grind (arith, nat_tests)
 
 pub inside : (first last : ℕ) (l : Level) (k q : ℕ) → first ≤ k → k ≤ last → mask_leaves first last l k q ≡ level_leaves l k q
-inside first last l k q f g = go (nat_le first k) (nat_le k last) (grind (arith, nat_tests)) (grind (arith, nat_tests)) where
-  go : (a b : Bool) → a ≡ true → b ≡ true → (not (a && b) || level_leaves l k q) ≡ level_leaves l k q
-  go true true e h = refl
-  go false b e h = absurd (cc)
-  go true false e h = absurd (cc)
+inside first last l k q f g = grind (arith, nat_tests)
 
 -- what stands past the end of a list
 abbrev pub nobody : Name
@@ -96,16 +70,16 @@ nowhere = record { mask = 0; key = 0; at = 0; is_heard = false }
 -- a name that is the first from a key on
 pub start_here : (ns : List Name) (first at : ℕ) → AreInOrder ns → at < length ns → first ≤ (get_or ns at nobody).key → (0 < at → (get_or ns (at - 1) nobody).key < first) → IsStart ns first at
 start_here ns first at up lt from before = record {
-  within = omega (arith, lt);
+  within = omega arith;
   below = λ k d less.
       let last = before (omega (arith, less)) in
-      let here = ap (λ (n : Name). n.key) (get_or_default ns (at - 1) d nobody (omega (arith, less, lt))) in
-      let le = up k (at - 1) d (omega (arith, less)) (omega (arith, less, lt)) in
-      omega (arith, last, here, le);
+      let here = ap (λ (n : Name). n.key) (get_or_default ns (at - 1) d nobody (omega (arith, less))) in
+      let le = up k (at - 1) d (omega (arith, less)) (omega (arith, less)) in
+      omega arith;
   rest = λ k d ge short.
       let here = ap (λ (n : Name). n.key) (get_or_default ns at d nobody lt) in
       let le = up at k d ge short in
-      omega (arith, from, here, le);
+      omega arith;
 }
 
 -- the first i names of a list were gone over
@@ -123,9 +97,9 @@ ruled_more p old new i m h short is = record {
   done = λ k below within.
       ⊎_elim
       (λ same. subst (λ j. get_or (set new i m) j nobody ≡ keep p (get_or old j nobody)) (sym same) (get_or-set_same new i m nobody (subst (λ n. i < n) (sym h.same) short) ∙ (is ∙ ap (keep p) (h.rest i (omega arith)))))
-      (λ other. get_or-set_other new i k m nobody other ∙ h.done k (omega (arith, below, other)) within)
+      (λ other. get_or-set_other new i k m nobody other ∙ h.done k (omega (arith, below)) within)
       (cases_eq k i);
-  rest = λ k ge. get_or-set_other new i k m nobody (λ e. absurd (omega (arith, e, ge))) ∙ h.rest k (omega (arith, ge));
+  rest = λ k ge. get_or-set_other new i k m nobody (λ e. absurd (omega arith)) ∙ h.rest k (omega arith);
 }
 
 pub ruled_all : (p : ℕ → ℕ → Bool) (old new : List Name) (i : ℕ) → IsRuled p old new i → ((k : ℕ) → i ≤ k → k < length old → p (get_or old k nobody).key (quiet_of (get_or old k nobody)) ≡ true) → new ≡ keep_all p old
@@ -140,11 +114,8 @@ ruled_all p old new i h above =
 
 -- ---- a mask after another
 
-mask_of_one : (first last : ℕ) (m : Level) (at : ℕ) (heard : Option ℕ) (k q : ℕ) → level_leaves m k q ≡ slot_leaves at heard k q → mask_leaves first last m k q ≡ (not (is_between first last k) || slot_leaves at heard k q)
-mask_of_one first last m at heard k q e = ap (λ b. not (is_between first last k) || b) e
-
 pub run_first : (s : Spot) (m : Level) (near : ℕ) (ns : List Name) → ((k q : ℕ) → level_leaves m k q ≡ slot_leaves s.at (heard_of s) k q) → keep_all (run_leaves (Some (record { first = first_of s; last = last_of s; level = m; near = near }))) ns ≡ keep_all (spot_leaves s) ns
-run_first s m near ns h = keep_alike _ _ (λ k q. mask_of_one (first_of s) (last_of s) m s.at (heard_of s) k q (h k q)) ns
+run_first s m near ns h = keep_alike _ _ (λ k q. ap (λ b. not (is_between (first_of s) (last_of s) k) || b) (h k q)) ns
 
 pub run_next : (r : Run) (s : Spot) (m : Level) (near : ℕ) (ns new : List Name) → new ≡ keep_all (mask_leaves r.first r.last r.level) ns → ((k q : ℕ) → level_leaves m k q ≡ slot_leaves s.at (heard_of s) k q) → keep_all (run_leaves (Some (record { first = first_of s; last = last_of s; level = m; near = near }))) new ≡ keep_all (λ k q. run_leaves (Some r) k q && spot_leaves s k q) ns
 run_next r s m near ns new is h = run_first s m near new h ∙ (ap (keep_all (spot_leaves s)) is ∙ keep_twice (spot_leaves s) (mask_leaves r.first r.last r.level) ns)
@@ -169,27 +140,23 @@ pub where_below : (p : Name → Bool) (ns : List Name) (k i : ℕ) → i ≤ len
 where_below p ns k zero le h = refl
 where_below p ns k (suc i) le h =
     ap (λ n. has_where p (take n ns) k) (sym (add-one i))
-    ∙ (where_skip p ns k i (omega (arith, le)) (λ e. let lt = h i (omega arith) in absurd (omega (arith, e, lt)))
-    ∙ where_below p ns k i (omega (arith, le)) (λ j lt. h j (omega (arith, lt))))
+    ∙ (where_skip p ns k i (omega arith) (λ e. let lt = h i (omega arith) in absurd (omega arith))
+    ∙ where_below p ns k i (omega arith) (λ j lt. h j (omega arith)))
 
 pub where_above : (p : Name → Bool) (ns : List Name) (k i more : ℕ) → i + more ≡ length ns → ((j : ℕ) → i ≤ j → j < length ns → k < (get_or ns j nobody).key) → has_where p (take i ns) k ≡ has_where p ns k
-where_above p ns k i zero e h = ap (λ ms. has_where p ms k) (take_all i ns (omega (arith, e)))
+where_above p ns k i zero e h = ap (λ ms. has_where p ms k) (take_all i ns (omega arith))
 where_above p ns k i (suc more) e h =
-    sym (where_skip p ns k i (omega (arith, e)) (λ same. let lt = h i (omega arith) (omega (arith, e)) in absurd (omega (arith, same, lt))))
-    ∙ where_above p ns k (i + 1) more (omega (arith, e)) (λ j le lt. h j (omega (arith, le)) lt)
+    sym (where_skip p ns k i (omega arith) (λ same. let lt = h i (omega arith) (omega arith) in absurd (omega arith)))
+    ∙ where_above p ns k (i + 1) more (omega arith) (λ j le lt. h j (omega arith) lt)
 
 pub between_parts : (first last k : ℕ) → is_between first last k ≡ true → (first ≤ k) × (k ≤ last)
-between_parts first last k e = let p = and_parts (nat_le first k) (nat_le k last) e in let a = p.0 in let b = p.1 in (grind (arith, nat_tests, a), grind (arith, nat_tests, b))
+between_parts first last k e = (grind (arith, nat_tests), grind (arith, nat_tests))
 
 -- ---- names and slots
 
 silenced_named : (ns : List Name) (k i : ℕ) → is_quiet_by ns k i ≡ true → is_named ns k ≡ true
 silenced_named [] k i e = e
-silenced_named (n ∷ ns) k i e =
-    ⊎_elim
-    (λ here. or_left _ _ (and_parts (n.key == k) (nat_lt (quiet_of n) i) here).0)
-    (λ there. or_right (n.key == k) _ (silenced_named ns k i there))
-    (or_cases _ _ e)
+silenced_named (n ∷ ns) k i e = grind (arith, silenced_named ns k i)
 
 -- where the UID of a key falls silent first, by the names
 record Least (ns : List Name) (k : ℕ) : Type 0 where
@@ -200,26 +167,15 @@ record Least (ns : List Name) (k : ℕ) : Type 0 where
 least_here : (n : Name) (ns : List Name) (k : ℕ) → (n.key == k) ≡ true → ((i : ℕ) → is_quiet_by ns k i ≡ true → quiet_of n < i) → Least (n ∷ ns) k
 least_here n ns k here h = record {
   quiet = quiet_of n;
-  left = λ p e all.
-      let same = eqb-true n.key k here in
-      let l = and_parts n.left (are_left ns) all in
-      or_left _ _ (and_from _ _ here (and_from _ _ l.0 (subst (λ x. p x (quiet_of n) ≡ true) (sym same) e)));
-  first = λ i e.
-      ⊎_elim
-      (λ now. let lt = (and_parts (n.key == k) (nat_lt (quiet_of n) i) now).1 in lt_from (quiet_of n) i lt)
-      (λ later. h i later)
-      (or_cases _ _ e);
+  left = λ p e all. let same = eqb-true n.key k here in grind arith;
+  first = λ i e. grind (arith, nat_tests, h i);
 }
 
 least_there : (n : Name) (ns : List Name) (k : ℕ) → (t : Least ns k) → ((n.key == k) ≡ true → t.quiet ≤ quiet_of n) → Least (n ∷ ns) k
 least_there n ns k t h = record {
   quiet = t.quiet;
   left = λ p e all. or_right _ _ (t.left p e (and_parts n.left (are_left ns) all).1);
-  first = λ i e.
-      ⊎_elim
-      (λ now. let a = and_parts (n.key == k) (nat_lt (quiet_of n) i) now in let lt = lt_from (quiet_of n) i a.1 in let le = h a.0 in omega (arith, lt, le))
-      (λ later. t.first i later)
-      (or_cases _ _ e);
+  first = λ i e. grind (arith, nat_tests, h, t.first i);
 }
 
 least : (ns : List Name) (k : ℕ) → is_named ns k ≡ true → Least ns k
@@ -227,12 +183,10 @@ least [] k e = absurd (false≢true e)
 least (n ∷ ns) k e = go (n.key == k) refl (is_named ns k) refl (least ns k) e where
   go : (a : Bool) → (n.key == k) ≡ a → (b : Bool) → is_named ns k ≡ b → (is_named ns k ≡ true → Least ns k) → (a || b) ≡ true → Least (n ∷ ns) k
   go true here false none ih _ = least_here n ns k here (λ i s. absurd (false≢true (sym none ∙ silenced_named ns k i s)))
-  go true here true more ih _ =
-      let t = ih more in
-      ⊎_elim
-      (λ lt. least_here n ns k here (λ i s. let f = t.first i s in omega (arith, lt, f)))
-      (λ ge. least_there n ns k t (λ _. ge))
-      (cases_lt (quiet_of n) t.quiet)
+  go true here true more ih _ = elim (cases_lt (quiet_of n) (ih more).quiet) [
+    | inl lt ↦ least_here n ns k here (λ i s. let f = (ih more).first i s in omega arith)
+    | inr ge ↦ least_there n ns k (ih more) (λ _. ge)
+  ]
   go false other true more ih _ = least_there n ns k (ih more) (λ same. absurd (false≢true (sym other ∙ same)))
   go false other false none ih h = absurd (false≢true h)
 
@@ -249,18 +203,10 @@ left_one p (n ∷ ns) k e =
     (or_cases _ _ e)
 
 allow_from_leave : (ns : List Name) (s : Spot) (k q : ℕ) → (nat_lt q s.at ≡ true → is_quiet_by ns k s.at ≡ true) → spot_leaves s k q ≡ true → spot_allows ns s k ≡ true
-allow_from_leave ns s k q h e =
-    ⊎_elim
-    (λ out. or_left _ _ out)
-    (λ inner. ⊎_elim (λ lt. or_right _ _ (or_left _ _ (h lt))) (λ heard. or_right _ _ (or_right _ _ heard)) (or_cases (nat_lt q s.at) (is_heard (heard_of s) k) inner))
-    (or_cases _ _ e)
+allow_from_leave ns s k q h e = grind (arith, h)
 
 leave_from_allow : (ns : List Name) (s : Spot) (k q : ℕ) → (is_quiet_by ns k s.at ≡ true → nat_lt q s.at ≡ true) → spot_allows ns s k ≡ true → spot_leaves s k q ≡ true
-leave_from_allow ns s k q h e =
-    ⊎_elim
-    (λ out. or_left _ _ out)
-    (λ inner. ⊎_elim (λ quiet. or_right _ _ (or_left _ _ (h quiet))) (λ heard. or_right _ _ (or_right _ _ heard)) (or_cases (is_quiet_by ns k s.at) (is_heard (heard_of s) k) inner))
-    (or_cases _ _ e)
+leave_from_allow ns s k q h e = grind (arith, h)
 
 all_allow_from : (ns : List Name) (k q : ℕ) → ((i : ℕ) → nat_lt q i ≡ true → is_quiet_by ns k i ≡ true) → (ss : List Spot) → all_leave ss k q ≡ true → all_allow ns ss k ≡ true
 all_allow_from ns k q h [] e = refl
@@ -276,24 +222,15 @@ all_outside ss k b = list_all (λ (s : Spot). not (is_in s k) || b) ss
 
 outside_yes : (ss : List Spot) (k : ℕ) → all_outside ss k true ≡ true
 outside_yes [] k = refl
-outside_yes (s ∷ ss) k = and_from _ _ (or_right _ _ refl) (outside_yes ss k)
+outside_yes (s ∷ ss) k = grind (arith, outside_yes ss k)
 
 outside_allow : (ns : List Name) (ss : List Spot) (k : ℕ) → all_outside ss k false ≡ true → all_allow ns ss k ≡ true
 outside_allow ns [] k e = refl
-outside_allow ns (s ∷ ss) k e =
-    let w = and_parts _ _ e in
-    and_from _ _ (⊎_elim (λ out. or_left _ _ out) (λ no. absurd (false≢true no)) (or_cases _ _ w.0)) (outside_allow ns ss k w.1)
+outside_allow ns (s ∷ ss) k e = grind (arith, outside_allow ns ss k)
 
 -- the slot allows a key that is not named only where the key is not in it
 unnamed_outside : (ns : List Name) (s : Spot) (k : ℕ) → is_named ns k ≡ false → hears_named ns s ≡ true → spot_allows ns s k ≡ true → not (is_in s k) ≡ true
-unnamed_outside ns s k none h e =
-    ⊎_elim
-    (λ out. out)
-    (λ inner. ⊎_elim
-    (λ quiet. absurd (false≢true (sym none ∙ silenced_named ns k s.at quiet)))
-    (λ heard. absurd (false≢true (sym none ∙ go (heard_of s) heard h)))
-    (or_cases (is_quiet_by ns k s.at) (is_heard (heard_of s) k) inner))
-    (or_cases _ _ e)
+unnamed_outside ns s k none h e = grind (arith, silenced_named ns k s.at, go (heard_of s))
   where
     go : (o : Option ℕ) → is_heard o k ≡ true → is_named_if ns o ≡ true → is_named ns k ≡ true
     go None f g = absurd (false≢true f)
@@ -301,10 +238,7 @@ unnamed_outside ns s k none h e =
 
 all_unnamed : (ns : List Name) (k : ℕ) → is_named ns k ≡ false → (b : Bool) (ss : List Spot) → all_hear_named ns ss ≡ true → all_allow ns ss k ≡ true → all_outside ss k b ≡ true
 all_unnamed ns k none b [] h e = refl
-all_unnamed ns k none b (s ∷ ss) h e =
-    let v = and_parts _ _ h in
-    let w = and_parts _ _ e in
-    and_from _ _ (or_left _ _ (unnamed_outside ns s k none v.0 w.0)) (all_unnamed ns k none b ss v.1 w.1)
+all_unnamed ns k none b (s ∷ ss) h e = grind (arith, unnamed_outside ns s k none, all_unnamed ns k none b ss)
 
 -- a key lies in no slot or is left by name if and only if all slots allow it
 pub covered_allowed : (ns : List Name) (ss : List Spot) (k : ℕ) → are_left ns ≡ true → all_hear_named ns ss ≡ true → all_cover (keep_all (all_leave ss) ns) ss k ≡ all_allow ns ss k
@@ -328,17 +262,14 @@ covered_allowed ns ss k left named = same_tests _ _ to from where
 
 all_by_any : {X : Type 0} (p : X → Bool) (xs : List X) → list_all p xs ≡ not (list_any (λ x. not (p x)) xs)
 all_by_any p [] = refl
-all_by_any p (x ∷ xs) = go (p x) (all_by_any p xs) where
-  go : (b : Bool) → list_all p xs ≡ not (list_any (λ y. not (p y)) xs) → (b && list_all p xs) ≡ not (not b || list_any (λ y. not (p y)) xs)
-  go true e = e
-  go false e = refl
+all_by_any p (x ∷ xs) = grind (arith, all_by_any p xs)
 
 all_permuted : {X : Type 0} (p : X → Bool) (xs ys : List X) → IsPermutation xs ys → list_all p xs ≡ list_all p ys
 all_permuted p xs ys m = all_by_any p xs ∙ (ap not (list_any-IsPermutation (λ x. not (p x)) xs ys m) ∙ sym (all_by_any p ys))
 
 all_alike : {X : Type 0} (p q : X → Bool) → ((x : X) → p x ≡ q x) → (xs : List X) → list_all p xs ≡ list_all q xs
 all_alike p q h [] = refl
-all_alike p q h (x ∷ xs) = ap (λ b. b && list_all p xs) (h x) ∙ ap (λ b. q x && b) (all_alike p q h xs)
+all_alike p q h (x ∷ xs) = rw (h x, all_alike p q h xs) refl
 
 pub left_permuted : (ns ms : List Name) → IsPermutation ns ms → are_left ns ≡ true → are_left ms ≡ true
 left_permuted ns ms m e = sym (all_permuted (λ (n : Name). n.left) ns ms m) ∙ e
@@ -367,21 +298,15 @@ pub before_end : (i j : ℕ) (ss : List Spot) → j ≤ i → All (λ (s : Spot)
 before_end i j [] le h = refl
 before_end i j (s ∷ ss) le h =
     let lt = All-head (λ (t : Spot). t.at < j) s ss h in
-    ap (λ b. cond b (s ∷ filter (is_before_place i) ss) (filter (is_before_place i) ss)) (lt_yes s.at i (omega (arith, lt, le)))
-    ∙ ap (λ xs. s ∷ xs) (before_end i j ss le (All-tail (λ (t : Spot). t.at < j) s ss h))
+    rw (lt_yes s.at i (omega arith), before_end i j ss le (All-tail (λ (t : Spot). t.at < j) s ss h)) refl
 
 pub allow_filtered : (ns : List Name) (i k : ℕ) (ss : List Spot) → all_allow ns (filter (is_before_place i) ss) k ≡ all_allow_to ns ss i k
 allow_filtered ns i k [] = refl
-allow_filtered ns i k (s ∷ ss) = go (nat_lt s.at i) (nat_le i s.at) refl (turned s.at i) (allow_filtered ns i k ss)
+allow_filtered ns i k (s ∷ ss) = go (nat_lt s.at i) refl (allow_filtered ns i k ss)
   where
-    turned : (x y : ℕ) → nat_le y x ≡ not (nat_lt x y)
-    turned x y = grind (arith, nat_tests)
-
-    go : (b c : Bool) → nat_lt s.at i ≡ b → c ≡ not (nat_lt s.at i) → all_allow ns (filter (is_before_place i) ss) k ≡ all_allow_to ns ss i k → all_allow ns (cond b (s ∷ filter (is_before_place i) ss) (filter (is_before_place i) ss)) k ≡ ((c || spot_allows ns s k) && all_allow_to ns ss i k)
-    go true true e f rest = absurd (cc)
-    go true false e f rest = ap (λ x. spot_allows ns s k && x) rest
-    go false true e f rest = rest
-    go false false e f rest = absurd (cc)
+    go : (b : Bool) → nat_lt s.at i ≡ b → all_allow ns (filter (is_before_place i) ss) k ≡ all_allow_to ns ss i k → all_allow ns (cond b (s ∷ filter (is_before_place i) ss) (filter (is_before_place i) ss)) k ≡ ((nat_le i s.at || spot_allows ns s k) && all_allow_to ns ss i k)
+    go true e rest = grind (arith, nat_tests)
+    go false e rest = grind (arith, nat_tests)
 
 pub named_filtered : (ns : List Name) (p : Spot → Bool) (ss : List Spot) → all_hear_named ns ss ≡ true → all_hear_named ns (filter p ss) ≡ true
 named_filtered ns p [] e = refl

@@ -1,23 +1,14 @@
 -- The main theorem says the same in the words of each version.
-use Rattle.std.proofs.Common.{◌≡◌, ◌⊎◌, inl, inr, ℕ, zero, suc, Bool, true, false, not, ◌&&◌, List, [], ◌∷◌, Option, Some, None, refl, sym, ap, subst, ◌∙◌, arith, ⊎_elim}
-use Rattle.std.specs.Prelude.{◌≢◌, ◌↔◌, slice_get}
-use Rattle.std.specs.List.{filter}
-use Rattle.std.proofs.lemmas.Bool.{cases_eq, and_parts, and_from, or_parts, both_ways, false_from_ne_true, not-true}
-use Rattle.vic_frame.specs.Uids.{has, AreDifferent}
-use Rattle.vic_log.specs.declared.entry.Entry.{Entry}
-use Rattle.vic_log.specs.declared.entry.Entry.TheVariants.{Sent, Silent, Collision, Heard, Listed, Garbled, FieldCycle}
+use Rattle.std.proofs.Common.{◌≡◌, ◌⊎◌, inl, inr, ℕ, zero, suc, Bool, true, false, not, ◌&&◌, List, [], ◌∷◌, Option, Some, None, refl, sym, ap, subst, ◌∙◌, arith, ⊎_elim, ◌≢◌, ◌↔◌, slice_get, filter}
+use Rattle.vic_verdict.proofs.Words.{cases_eq, and_parts, and_from, both_ways, false_from_ne_true, not-true, has, AreDifferent, Entry, Silent, Collision, Heard, Garbled, FieldCycle, LogLine, entries, IsPopulation, answers_at, CouldHaveGiven, silences, wakes, is_quiet, mask_at, lies_in_some, has_here, has_there, has_cases, has_filter, AreDifferent-population, AreDifferent-filter, IsVerdict, Complete}
+use Rattle.std.proofs.lemmas.Bool.{or_parts}
 use Rattle.vic_log.specs.FirstVersion.{AreOfFirstVersion, CouldHaveGivenFirst}
-use Rattle.vic_log.specs.declared.entry.LogLine.{LogLine}
-use Rattle.vic_log.specs.Order.{entries}
-use Rattle.vic_log.specs.Populations.{IsPopulation, answers_at, Outcome, Nobody, Lone, Several, outcome_of, outcome_at, Fits, CouldHaveGiven}
-use Rattle.vic_log.specs.Quiet.{silences, wakes, is_quiet}
-use Rattle.vic_log.specs.Rounds.{mask_at, lies_in_some}
+use Rattle.vic_log.specs.Populations.{Outcome, Nobody, Lone, Several, outcome_of, outcome_at, Fits}
 use Rattle.vic_log.proofs.FirstVersion.{given-first}
 use Rattle.vic_log.proofs.Quiet.{quiet-silenced}
-use Rattle.vic_log.proofs.Sets.{has_here, has_there, has_cases, has_filter, filter_has, AreDifferent-population, AreDifferent-filter}
+use Rattle.vic_log.proofs.Sets.{filter_has}
 use Rattle.vic_verdict.specs.TwoVersions.{HasExactlyListed, IsWholeFirst, IsReady, Answers, AnswersAlone, SeveralAnswer, IsToldOf, CouldHaveGivenSecond, IsWholeSecond}
-use Rattle.vic_verdict.specs.Verdict.{IsVerdict, IsWhole}
-use Rattle.vic_verdict.specs.declared.judging.Verdict.TheVariants.{Complete}
+use Rattle.vic_verdict.specs.Verdict.{IsWhole}
 use Rattle.vic_verdict.proofs.Verdicts.{complete_whole}
 
 -- ---- Ready tags
@@ -91,9 +82,6 @@ not_several : (p : List ℕ) (es : List Entry) (i x : ℕ) → ((v : ℕ) → An
 not_several p es i x alone s = s.2 (alone s.0 s.3 ∙ sym (alone s.1 s.4))
 
 told-iff : (p : List ℕ) (es : List Entry) (i : ℕ) (e : Entry) (o : Outcome) → IsOutcome p es i o → Fits e o ↔ IsToldOf p es i e
-told-iff p es i (Sent q) o c = ((λ k. k), (λ k. k))
-told-iff p es i (Listed u) o c = ((λ k. k), (λ k. k))
-told-iff p es i FieldCycle o c = ((λ k. k), (λ k. k))
 told-iff p es i Silent o (inl n) = ((λ k. n.1), (λ k. n.0))
 told-iff p es i Silent o (inr (inl w)) = ((λ k. let e = w.1 in cc), (λ k. absurd (k w.0 w.2.0)))
 told-iff p es i Silent o (inr (inr s)) = ((λ k. let e = s.0 in cc), (λ k. absurd (k s.1.0 s.1.3)))
@@ -109,6 +97,7 @@ told-iff p es i Collision o (inr (inr s)) = ((λ k. s.1), (λ k. s.0))
 told-iff p es i Garbled o (inl n) = ((λ k. absurd (k n.0)), (λ k. absurd (⊎_elim (λ (w : (u : ℕ) × AnswersAlone p es i u). n.1 w.0 w.1.0) (λ (s : SeveralAnswer p es i). n.1 s.0 s.3) k)))
 told-iff p es i Garbled o (inr (inl w)) = ((λ k. inl (w.0, w.2)), (λ k none. let e = w.1 in cc))
 told-iff p es i Garbled o (inr (inr s)) = ((λ k. inr s.1), (λ k none. let e = s.0 in cc))
+told-iff p es i e o c = ((λ k. k), (λ k. k))
 
 -- ---- what a population could have produced
 

@@ -1,25 +1,14 @@
 -- Each log has exactly one verdict.
-use Rattle.std.proofs.Common.{◌≡◌, ℕ, suc, ◌<◌, ◌≤◌, ◌+◌, ◌^◌, List, [], ◌∷◌, ◌++◌, length, Bool, true, false, cond, not, ◌&&◌, refl, sym, ap, ◌∙◌, subst, arith, inl, inr, ⊎_elim}
-use Rattle.std.specs.Prelude.{◌⊎◌, ◌↔◌, nat_le, leb}
-use Rattle.std.specs.List.{filter}
-use Rattle.std.proofs.Math.Nat.{le_refl, le_of_lt}
-use Rattle.std.proofs.lemmas.Bool.{not-true, and_parts, and_from, cases_Bool, cases_lt, both_ways, false≢true, not_from_false, true_from_ne_false, le-leb, lt-leb, leb-true, leb-false}
-use Rattle.vic_frame.specs.Masks.{BitMask}
-use Rattle.vic_log.specs.declared.entry.Entry.{Entry}
-use Rattle.vic_log.specs.declared.entry.LogLine.{LogLine}
+use Rattle.std.proofs.Common.{◌≡◌, ℕ, suc, ◌<◌, ◌≤◌, ◌+◌, ◌^◌, List, [], ◌∷◌, ◌++◌, length, Bool, true, false, cond, not, ◌&&◌, refl, sym, ap, ◌∙◌, subst, arith, inl, inr, ⊎_elim, ◌⊎◌, ◌↔◌, nat_le, leb, filter, le_refl, le_of_lt, le-leb, leb-true, leb-false}
+use Rattle.vic_verdict.proofs.Words.{not-true, and_parts, and_from, cases_Bool, cases_lt, both_ways, false≢true, not_from_false, BitMask, Entry, LogLine, Impossible, Complete, lies_in, has, is_uid, IsUid, IsPossible, IsPossibleUid, IsCertainUid, slots_of, is_open, entries, IsRisingFrom, listed, IsAbsent, IsUnlisted, IsUnsettled, IsDoubtful, IsLeast, IsFirstMask, NoSuch, IsVerdict, has_cases, is_uid_from, IsUid-from}
+use Rattle.std.proofs.lemmas.Bool.{true_from_ne_false, lt-leb}
 use Rattle.vic_log.specs.declared.entry.Version.{Version}
 use Rattle.vic_log.specs.Log.{IsLog}
 use Rattle.vic_verdict.specs.LogLines.{AreLogLines}
 use Rattle.vic_verdict.specs.declared.judging.Verdict.{Verdict}
-use Rattle.vic_verdict.specs.declared.judging.Verdict.TheVariants.{Impossible, Absent, Unlisted, Unsettled, Doubtful, Complete}
-use Rattle.vic_frame.specs.Masks.{lies_in}
-use Rattle.vic_frame.specs.Uids.{has, is_uid, IsUid}
-use Rattle.vic_verdict.specs.Possible.{IsPossible, IsPossibleUid, IsCertainUid}
-use Rattle.vic_log.specs.Slots.{slots_of, is_open}
-use Rattle.vic_log.specs.Order.{entries, IsRisingFrom, listed}
-use Rattle.vic_verdict.specs.Verdict.{entries_to, IsAbsent, IsUnlisted, IsUnsettled, IsDoubtful, IsLeast, IsFirstMask, NoSuch, IsVerdict, IsWhole, IsReached}
-use Rattle.vic_log.proofs.Sets.{has_cases, IsUid-member}
-use Rattle.vic_log.proofs.Supply.{is_uid_from, IsUid-from}
+use Rattle.vic_verdict.specs.declared.judging.Verdict.TheVariants.{Absent, Unlisted, Unsettled, Doubtful}
+use Rattle.vic_verdict.specs.Verdict.{entries_to, IsWhole, IsReached}
+use Rattle.vic_log.proofs.Sets.{IsUid-member}
 use Rattle.vic_verdict.proofs.Search.{Either, test_either, false_either, not_either, and_either, search_below, least_of, least_or_none}
 use Rattle.vic_verdict.proofs.Populations.{uid_end, uid_below}
 use Rattle.vic_verdict.proofs.Possibility.{IsPossible-front, Heard-certain}
@@ -104,40 +93,20 @@ impossible_not lines r p n h = h.0 (possible_to lines r p n)
 
 pub one_verdict : (lines : List LogLine) → IsRisingFrom 0 lines → (v w : Verdict) → IsVerdict lines v → IsVerdict lines w → v ≡ w
 one_verdict lines r (Impossible n1) (Impossible n2) h k = ap Impossible (least_same _ n1 n2 h k)
-one_verdict lines r (Impossible n1) (Absent u2) h k = absurd (impossible_not lines r k.0 n1 h)
-one_verdict lines r (Impossible n1) (Unlisted u2) h k = absurd (impossible_not lines r k.0 n1 h)
-one_verdict lines r (Impossible n1) (Unsettled m2) h k = absurd (impossible_not lines r k.0 n1 h)
-one_verdict lines r (Impossible n1) (Doubtful u2) h k = absurd (impossible_not lines r k.0 n1 h)
-one_verdict lines r (Impossible n1) (Complete c2) h k = absurd (impossible_not lines r k.0 n1 h)
-one_verdict lines r (Absent u1) (Impossible n2) h k = absurd (impossible_not lines r h.0 n2 k)
+one_verdict lines r (Impossible n1) w h k = absurd (impossible_not lines r k.0 n1 h)
+one_verdict lines r v (Impossible n2) h k = absurd (impossible_not lines r h.0 n2 k)
 one_verdict lines r (Absent u1) (Absent u2) h k = ap Absent (least_same (IsAbsent (entries lines)) u1 u2 h.1 k.1)
-one_verdict lines r (Absent u1) (Unlisted u2) h k = absurd (k.1 u1 h.1.0)
-one_verdict lines r (Absent u1) (Unsettled m2) h k = absurd (k.1 u1 h.1.0)
-one_verdict lines r (Absent u1) (Doubtful u2) h k = absurd (k.1 u1 h.1.0)
-one_verdict lines r (Absent u1) (Complete c2) h k = absurd (k.1 u1 h.1.0)
-one_verdict lines r (Unlisted u1) (Impossible n2) h k = absurd (impossible_not lines r h.0 n2 k)
-one_verdict lines r (Unlisted u1) (Absent u2) h k = absurd (h.1 u2 k.1.0)
+one_verdict lines r (Absent u1) w h k = absurd (k.1 u1 h.1.0)
+one_verdict lines r v (Absent u2) h k = absurd (h.1 u2 k.1.0)
 one_verdict lines r (Unlisted u1) (Unlisted u2) h k = ap Unlisted (least_same (IsUnlisted (entries lines)) u1 u2 h.2 k.2)
-one_verdict lines r (Unlisted u1) (Unsettled m2) h k = absurd (k.2 u1 h.2.0)
-one_verdict lines r (Unlisted u1) (Doubtful u2) h k = absurd (k.2 u1 h.2.0)
-one_verdict lines r (Unlisted u1) (Complete c2) h k = absurd (k.2 u1 h.2.0)
-one_verdict lines r (Unsettled m1) (Impossible n2) h k = absurd (impossible_not lines r h.0 n2 k)
-one_verdict lines r (Unsettled m1) (Absent u2) h k = absurd (h.1 u2 k.1.0)
-one_verdict lines r (Unsettled m1) (Unlisted u2) h k = absurd (h.2 u2 k.2.0)
+one_verdict lines r (Unlisted u1) w h k = absurd (k.2 u1 h.2.0)
+one_verdict lines r v (Unlisted u2) h k = absurd (h.2 u2 k.2.0)
 one_verdict lines r (Unsettled m1) (Unsettled m2) h k = ap Unsettled (first_mask_same (IsUnsettled (entries lines)) m1 m2 h.3 k.3)
-one_verdict lines r (Unsettled m1) (Doubtful u2) h k = absurd (k.3 m1 h.3.0)
-one_verdict lines r (Unsettled m1) (Complete c2) h k = absurd (k.3 m1 h.3.0)
-one_verdict lines r (Doubtful u1) (Impossible n2) h k = absurd (impossible_not lines r h.0 n2 k)
-one_verdict lines r (Doubtful u1) (Absent u2) h k = absurd (h.1 u2 k.1.0)
-one_verdict lines r (Doubtful u1) (Unlisted u2) h k = absurd (h.2 u2 k.2.0)
-one_verdict lines r (Doubtful u1) (Unsettled m2) h k = absurd (h.3 m2 k.3.0)
+one_verdict lines r (Unsettled m1) w h k = absurd (k.3 m1 h.3.0)
+one_verdict lines r v (Unsettled m2) h k = absurd (h.3 m2 k.3.0)
 one_verdict lines r (Doubtful u1) (Doubtful u2) h k = ap Doubtful (least_same (IsDoubtful (entries lines)) u1 u2 h.4 k.4)
-one_verdict lines r (Doubtful u1) (Complete c2) h k = absurd (k.4 u1 h.4.0)
-one_verdict lines r (Complete c1) (Impossible n2) h k = absurd (impossible_not lines r h.0 n2 k)
-one_verdict lines r (Complete c1) (Absent u2) h k = absurd (h.1 u2 k.1.0)
-one_verdict lines r (Complete c1) (Unlisted u2) h k = absurd (h.2 u2 k.2.0)
-one_verdict lines r (Complete c1) (Unsettled m2) h k = absurd (h.3 m2 k.3.0)
-one_verdict lines r (Complete c1) (Doubtful u2) h k = absurd (h.4 u2 k.4.0)
+one_verdict lines r (Doubtful u1) w h k = absurd (k.4 u1 h.4.0)
+one_verdict lines r v (Doubtful u2) h k = absurd (h.4 u2 k.4.0)
 one_verdict lines r (Complete c1) (Complete c2) h k = ap Complete (h.5 ∙ sym k.5)
 
 -- ---- at least one verdict

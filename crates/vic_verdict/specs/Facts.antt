@@ -17,7 +17,8 @@ pub record IsTold (es : List Entry) (set : ℕ → Bool) (certain : List ℕ) : 
   pub forced : IsListOf (IsForcedBy (is_open (slots_of es)) (slots_of es)) certain
 
 -- and what meets its slots, each UID of the list by some slot
-pub record AreFactsOf (es : List Entry) (set : ℕ → Bool) (met : Met) (certain : List ℕ) : Type 0 where
+pub record AreFactsOf (es : List Entry) (set : ℕ → Bool) (met : Met) (certain : List ℕ)
+    : Type 0 where
   pub told : IsTold es set certain
   pub is_met : IsMet es met
   pub met_for : (u : ℕ) → has certain u ≡ true → IsMetFor met u

@@ -5,14 +5,8 @@ pub mod TwoVersions
 pub mod Places
 pub mod Rising
 pub mod Differences
-pub mod Merging
-pub mod Sweep
-pub mod Closed
-pub mod Stretches
-pub mod Answering
 pub mod Demands
 pub mod Facts
 pub mod Explained
-pub mod Gathered
-pub mod Replies
 pub mod Keys
+pub mod inner

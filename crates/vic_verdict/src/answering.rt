@@ -14,8 +14,8 @@ ghost use Rattle.vic_tree.specs.Gathering.{Gathers};
 ghost use Rattle.vic_tree.specs.OpenSet.{AreKeys, UpToThree};
 ghost use Rattle.vic_verdict.specs.declared.names.Name.{Name as NameValue};
 ghost use Rattle.vic_verdict.specs.declared.answering.Unnamed.{Unnamed as UnnamedValue};
-ghost use Rattle.vic_verdict.specs.Sweep.{AreInOrder, HaveKeys, is_named, quiet_of};
-ghost use Rattle.vic_verdict.specs.Answering.{AreOpenNames, IsKnown, IsReadyIn, IsUnnamed, HasInside, HasNamedIn, is_answering, is_ready_at, is_unnamed, is_unnamed_in};
+ghost use Rattle.vic_verdict.specs.inner.Sweep.{AreInOrder, HaveKeys, is_named, quiet_of};
+ghost use Rattle.vic_verdict.specs.inner.Answering.{AreOpenNames, IsKnown, IsReadyIn, IsUnnamed, HasInside, HasNamedIn, is_answering, is_ready_at, is_unnamed, is_unnamed_in};
 
 use crate::names::{Name, first_quiet, is_any_quiet, names_between, start_near};
 use arrayvec::ArrayVec;

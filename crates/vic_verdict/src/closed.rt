@@ -4,8 +4,8 @@
 ghost use Rattle.std.specs.Prelude.{◌≡◌, ℕ, ◌||◌, ◌&&◌, not, Some, IfSome, IfOk, OnOk};
 ghost use Rattle.std.specs.List.{All};
 ghost use Rattle.vic_tree.specs.Ranges.{is_between};
-ghost use Rattle.vic_verdict.specs.Closed.{Closes, closes_with, is_in_some};
-ghost use Rattle.vic_verdict.specs.Sweep.{AreInOrder, HasRange, first_of, has_left, heard_of, last_of, len_of};
+ghost use Rattle.vic_verdict.specs.inner.Closed.{Closes, closes_with, is_in_some};
+ghost use Rattle.vic_verdict.specs.inner.Sweep.{AreInOrder, HasRange, first_of, has_left, heard_of, last_of, len_of};
 
 use crate::names::{Name, names_between, start_near};
 use std::alloc::AllocError;

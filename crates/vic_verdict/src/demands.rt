@@ -13,9 +13,10 @@ ghost use Rattle.vic_tree.specs.OpenSet.{SameUids, UpToThree};
 ghost use Rattle.vic_log.specs.declared.entry.Entry.{Entry as EntryValue};
 ghost use Rattle.vic_log.specs.Slots.{slots_of, is_open};
 ghost use Rattle.vic_verdict.specs.Possible.{Lacks};
-ghost use Rattle.vic_verdict.specs.Answering.{IsKnown};
-ghost use Rattle.vic_verdict.specs.Sweep.{AreInOrder, HaveKeys};
-ghost use Rattle.vic_verdict.specs.Demands.{IsDemandBy, answers_by, IsUnmet, IsUnmetAt, IsAskedAgain, AreFound, AreKept, AreMet, HasBlock, HasBlocks, HasNamesInOrder, Keeps};
+ghost use Rattle.vic_verdict.specs.inner.Answering.{IsKnown};
+ghost use Rattle.vic_verdict.specs.inner.Sweep.{AreInOrder, HaveKeys};
+ghost use Rattle.vic_verdict.specs.Demands.{AreFound};
+ghost use Rattle.vic_verdict.specs.inner.Asked.{IsDemandBy, answers_by, IsUnmet, IsUnmetAt, IsAskedAgain, AreKept, AreMet, HasBlock, HasBlocks, HasNamesInOrder, Keeps};
 
 use crate::answering::{Known, up_to_three_answering};
 use crate::names::{Name, names_between, start_near};
@@ -172,8 +173,8 @@ fn answering<S: OpenSet>(
     up_to_three_answering(alloc, set, names, known, near, &block, from, demand.at)
 }
 
-/// The position of the first of some slots. No answer rests on it: it says from where on it is worth
-/// knowing who answers.
+/// The position of the first of some slots. No answer rests on it: it says from where on it is
+/// worth knowing who answers.
 fn first_place(demands: &[Demand]) -> usize {
     let mut first = usize::MAX;
     for demand in demands {

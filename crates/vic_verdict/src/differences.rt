@@ -62,7 +62,8 @@ pub(crate) fn neither_of<S: OpenSet>(
     requires order { IsNonDecreasing keys.now }
     requires keys { AreKeys keys.now }
     ensures { IfOk result (λ v. (us : List ℕ) → AreKeysOf keys.now us
-        → IsListOf (λ u. IsFailing us (S.is_open set.now) u × (has certain.now u ≡ false)) v.items) }
+        → IsListOf (λ u. IsFailing us (S.is_open set.now) u × (has certain.now u ≡ false))
+        v.items) }
 {
     let outside = uids_outside(alloc, set, keys)?;
     missing_from(alloc, &outside, certain)

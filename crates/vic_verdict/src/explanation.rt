@@ -6,7 +6,7 @@ ghost use Rattle.vic_log.specs.Order.{entries};
 ghost use Rattle.vic_verdict.specs.LogLines.{AreLogLines};
 ghost use Rattle.vic_verdict.specs.Facts.{AreFactsOf};
 ghost use Rattle.vic_verdict.specs.Explained.{IsExplanation};
-ghost use Rattle.vic_verdict.specs.Gathered.{is_other, chosen, gathered};
+ghost use Rattle.vic_verdict.specs.inner.Gathered.{is_other, chosen, gathered};
 ghost use Rattle.vic_verdict.specs.Rising.{SameMembers};
 
 use crate::demands::{Found, Met};

@@ -7,7 +7,7 @@ ghost use Rattle.std.specs.List.{list_all};
 ghost use Rattle.std.specs.List.Sorted.{IsStrictlyIncreasing};
 ghost use Rattle.vic_frame.specs.Uids.{has};
 ghost use Rattle.vic_verdict.specs.Keys.{AreKeysOf};
-ghost use Rattle.vic_verdict.specs.Merging.{AreBelow, IsPlaceOf};
+ghost use Rattle.vic_verdict.specs.inner.Merging.{AreBelow, IsPlaceOf};
 ghost use Rattle.vic_verdict.specs.Rising.{IsFailing, IsListOf};
 
 use std::alloc::{AllocError, Global};

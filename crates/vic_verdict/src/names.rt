@@ -10,8 +10,8 @@ ghost use Rattle.vic_tree.specs.OpenSet.{AreKeys};
 ghost use Rattle.vic_verdict.specs.declared.names.Name.{Name as NameValue};
 ghost use Rattle.vic_verdict.specs.declared.names.TheConstants.{NEVER};
 ghost use Rattle.vic_tree.specs.Ranges.{is_between};
-ghost use Rattle.vic_verdict.specs.Sweep.{quiet_of, is_quiet_by, AreInOrder, HaveKeys, IsStart, has_where};
-ghost use Rattle.vic_verdict.specs.Replies.{reply_place, IsFirstQuietReply};
+ghost use Rattle.vic_verdict.specs.inner.Sweep.{quiet_of, is_quiet_by, AreInOrder, HaveKeys, IsStart, has_where};
+ghost use Rattle.vic_verdict.specs.inner.Replies.{reply_place, IsFirstQuietReply};
 
 use std::alloc::{AllocError, Global};
 use vic_frame::Uid;

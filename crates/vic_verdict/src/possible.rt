@@ -6,8 +6,9 @@ ghost use Rattle.vic_log.specs.Order.{entries};
 ghost use Rattle.vic_verdict.specs.LogLines.{AreLogLines};
 ghost use Rattle.vic_log.specs.Slots.{slots_of, is_open};
 ghost use Rattle.vic_verdict.specs.Possible.{IsPossible, IsContradiction, rules_out, NoneRulesOutAfter};
-ghost use Rattle.vic_verdict.specs.Replies.{RepliesAnswer};
-ghost use Rattle.vic_verdict.specs.Demands.{AreKept, IsMet, HasHeard};
+ghost use Rattle.vic_verdict.specs.inner.Replies.{RepliesAnswer};
+ghost use Rattle.vic_verdict.specs.Demands.{IsMet, HasHeard};
+ghost use Rattle.vic_verdict.specs.inner.Asked.{AreKept};
 
 use crate::demands::{Met, Stretch, meet_stretches};
 use crate::missing::are_open;

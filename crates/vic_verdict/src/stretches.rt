@@ -1,17 +1,15 @@
 //! One walk over a log, from field cycle to field cycle: which keys its silent and answered slots
 //! close, and what its other slots require.
 
-ghost use Rattle.std.specs.Prelude.{ℕ, ◌≡◌, ◌≢◌, ◌+◌, ◌^◌, ◌<◌, false, Bool, List, Some, IsTrue, IfSome, IfOk, OnOk, slice_get};
+ghost use Rattle.std.specs.Prelude.{ℕ, ◌≡◌, ◌≢◌, ◌+◌, ◌^◌, ◌<◌, ◌++◌, false, List, Some, IsTrue, IfSome, IfOk, OnOk, slice_get};
 ghost use Rattle.vic_frame.specs.LowBitsFirst.{IsBlock, is_in_some_block};
 ghost use Rattle.vic_verdict.specs.LogLines.{AreLogLines};
 ghost use Rattle.vic_log.specs.declared.entry.Entry.{Entry as EntryValue};
 ghost use Rattle.vic_log.specs.declared.entry.Entry.TheVariants.{FieldCycle, Sent};
-ghost use Rattle.vic_verdict.specs.declared.closed.Spot.{Spot as SpotValue};
-ghost use Rattle.vic_verdict.specs.declared.demands.Demand.{Demand as DemandValue};
 ghost use Rattle.vic_log.specs.OpenRounds.{IsCursorAt};
 ghost use Rattle.vic_log.specs.Order.{AreValid};
 ghost use Rattle.vic_verdict.specs.Possible.{IsContradictedAt};
-ghost use Rattle.vic_verdict.specs.Stretches.{AddsSpot, HasGathered, IsSettled};
+ghost use Rattle.vic_verdict.specs.inner.Stretches.{AddsSpot, HasGathered, IsSettled, names_at};
 
 use crate::closed::{LENGTHS, Spot};
 use crate::demands::{Demand, Stretch, keep_stretch, push_demand};
@@ -54,11 +52,8 @@ fn push_spot(
 /// Gathers the UID that a request silences, if it silences one.
 fn note_sent(names: &mut Vec<Name>, request: &Request, index: usize) -> Result<(), AllocError>
     requires { index < 2 ^ 32 }
-    ensures { OnOk result ((es : List EntryValue) (from : ℕ) (set : ℕ → Bool)
-        (ss : List SpotValue) (ds : List DemandValue)
-        → slice_get es index ≡ Some (Sent request.now)
-        → HasGathered es from index set names.old.items ss ds
-        → HasGathered es from (index + 1) set names.new.items ss ds) }
+    ensures { OnOk result (names.new.items
+        ≡ names.old.items ++ names_at (Some (Sent request.now)) index) }
 {
     match *request {
         Request::StayQuiet { uid, .. } => match Uid::new(uid) {
@@ -93,12 +88,11 @@ fn note_entry(
     entry: &Entry,
 ) -> Result<bool, AllocError>
     requires { index < 2 ^ 32 }
-    ensures gathered { IfOk result (λ yes. (es : List EntryValue) (from : ℕ) (set : ℕ → Bool)
+    ensures gathered { IfOk result (λ yes. (es : List EntryValue) (from : ℕ)
         → slice_get es index ≡ Some entry.now → AreValid es → IsCursorAt es index cursor.now
         → entry.now ≢ FieldCycle → IsTrue yes
-        → HasGathered es from index set names.old.items spots.old.items demands.old.items
-        → HasGathered es from (index + 1) set
-        names.new.items spots.new.items demands.new.items) }
+        → HasGathered es from index names.old.items spots.old.items demands.old.items
+        → HasGathered es from (index + 1) names.new.items spots.new.items demands.new.items) }
     ensures unfit { IfOk result (λ yes. (es : List EntryValue)
         → slice_get es index ≡ Some entry.now → AreValid es → IsCursorAt es index cursor.now
         → yes ≡ false → IsContradictedAt es index) }

@@ -11,8 +11,8 @@ ghost use Rattle.vic_frame.specs.LowBitsFirst.{mirror};
 ghost use Rattle.vic_tree.specs.OpenSet.{SameUids};
 ghost use Rattle.vic_verdict.specs.declared.closed.Spot.{Spot as SpotValue};
 ghost use Rattle.vic_tree.specs.Ranges.{is_outside};
-ghost use Rattle.vic_verdict.specs.Replies.{IsFirstQuietReply};
-ghost use Rattle.vic_verdict.specs.Sweep.{slot_leaves, level_leaves, spot_leaves, all_leave, mask_leaves, run_leaves, IsLevel, keep_all, all_allow_to, are_left, all_hear_named, HasRange, AreInOrder, ArePutInOrder};
+ghost use Rattle.vic_verdict.specs.inner.Replies.{IsFirstQuietReply};
+ghost use Rattle.vic_verdict.specs.inner.Sweep.{slot_leaves, level_leaves, spot_leaves, all_leave, mask_leaves, run_leaves, IsLevel, keep_all, all_allow_to, HasRange, AreInOrder, ArePutInOrder, AreUnsettled};
 
 use crate::closed::{Spot, close_spots};
 use crate::names::{Name, first_quiet_reply, start_near};
@@ -183,10 +183,7 @@ pub(crate) fn settle_stretch(
     spots: &mut Vec<Spot>,
     end: usize,
 ) -> Result<usize, AllocError>
-    requires left { are_left names.old.items ≡ true }
-    requires before { All (λ (s : SpotValue). s.at < end) spots.old.items }
-    requires ranges { All HasRange spots.old.items }
-    requires named { all_hear_named names.old.items spots.old.items ≡ true }
+    requires { AreUnsettled names.old.items spots.old.items end }
     ensures cut { IfOk result (IsFirstQuietReply names.old.items end) }
     ensures names { OnOk result (ArePutInOrder names.old.items names.new.items) }
     ensures settled { IfOk result (λ cut. SameUids (is_outside closed.new.items)

@@ -1,9 +1,6 @@
-use Rattle.std.proofs.Common.{◌≡◌, ◌+◌, ◌<◌, ◌≤◌, length, take, sym, ◌∙◌, subst, arith}
-use Rattle.std.proofs.lemmas.Bool.{eqb-true, false≢true}
-use Rattle.std.proofs.lemmas.List.{take_all}
-use Rattle.vic_tree.specs.Gathering.{Gathers}
+use Rattle.std.proofs.Common.{◌≡◌, ◌+◌, ◌<◌, ◌≤◌, length, take, sym, ◌∙◌, subst, arith, eqb-true, take_all}
+use Rattle.vic_verdict.proofs.Words.{false≢true, Gathers, IsReadyIn}
 use Rattle.vic_tree.proofs.GatheringLaws.{gathers_full}
-use Rattle.vic_verdict.specs.Answering.{IsReadyIn}
 use Rattle.vic_verdict.proofs.Ready.{gathers_none, ready_more, ready_other, ready_so_far}
 use Rattle.vic_verdict.proofs.answering.gather_ready.Goals as goal
 use Rattle.vic_verdict.proofs.answering.gather_ready.Goals.{then-at-quiet, else-at-quiet}
@@ -26,7 +23,7 @@ loop-name-preserved c =
 pub returns-then-is_full : goal.returns-then-is_full
 returns-then-is_full c =
     let full : length c.loop-name.uids.items ≡ 3 = eqb-true _ 3 (sym c.is_full.ensures.value ∙ c.if-is_full.true) in
-    gathers_full _ _ _ _ (λ u p. ready_so_far c.args.names.now c.loop-name.name-index c.args.at u p) (omega (arith, full)) c.loop-name.invariant
+    gathers_full _ _ _ _ (λ u p. ready_so_far c.args.names.now c.loop-name.name-index c.args.at u p) (omega arith) c.loop-name.invariant
 
 pub returns : goal.returns
 returns c = subst (λ ns. Gathers (IsReadyIn ns c.args.at) c.args.uids.now.items c.loop-name.uids.items) (take_all c.loop-name.name-index c.args.names.now c.loop-name-test.false) c.loop-name.invariant

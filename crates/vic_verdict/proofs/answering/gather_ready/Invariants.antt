@@ -1,6 +1,5 @@
 use Rattle.std.proofs.Common.{take}
-use Rattle.vic_tree.specs.Gathering.{Gathers}
-use Rattle.vic_verdict.specs.Answering.{IsReadyIn}
+use Rattle.vic_verdict.proofs.Words.{Gathers, IsReadyIn}
 use Rattle.vic_verdict.proofs.answering.gather_ready.Given as goal
 
 abbrev pub invariant-loop-name : goal.invariant-loop-name

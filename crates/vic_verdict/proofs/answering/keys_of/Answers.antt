@@ -1,6 +1,6 @@
-use Rattle.std.proofs.Common.{get_or, take, ◌∙◌, ◌++◌, ◌∷◌, [], map, sym, ap}
-use Rattle.std.proofs.lemmas.List.{take_all, take_more, map-append}
-use Rattle.vic_verdict.specs.declared.names.Name.{Name}
+use Rattle.std.proofs.Common.{get_or, take, ◌∙◌, ◌++◌, ◌∷◌, [], map, sym, ap, take_all}
+use Rattle.vic_verdict.proofs.Words.{Name}
+use Rattle.std.proofs.lemmas.List.{take_more, map-append}
 use Rattle.vic_verdict.proofs.Sweeping.{nobody}
 use Rattle.vic_verdict.proofs.answering.keys_of.Goals as goal
 

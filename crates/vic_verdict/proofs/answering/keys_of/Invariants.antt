@@ -1,5 +1,5 @@
 use Rattle.std.proofs.Common.{◌≡◌, map, take}
-use Rattle.vic_verdict.specs.declared.names.Name.{Name}
+use Rattle.vic_verdict.proofs.Words.{Name}
 use Rattle.vic_verdict.proofs.answering.keys_of.Given as goal
 
 abbrev pub invariant-loop-name : goal.invariant-loop-name

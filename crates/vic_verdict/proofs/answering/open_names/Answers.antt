@@ -1,14 +1,6 @@
-use Rattle.std.proofs.Common.{◌≡◌, ◌+◌, ◌^◌, ◌<◌, ◌≤◌, ℕ, Bool, List, length, get_or, map, true, false, not, ◌&&◌, sym, ap, ◌∙◌, subst, arith}
-use Rattle.std.specs.Prelude.{nat_lt}
-use Rattle.std.proofs.lemmas.Bool.{and_from, and_right}
-use Rattle.std.proofs.lemmas.List.{get_or-map, length-map}
+use Rattle.std.proofs.Common.{◌≡◌, ◌+◌, ◌^◌, ◌<◌, ◌≤◌, ℕ, Bool, List, length, get_or, map, true, false, not, ◌&&◌, sym, ap, ◌∙◌, subst, arith, nat_lt}
+use Rattle.vic_verdict.proofs.Words.{and_from, and_right, get_or-map, length-map, uid_of, lt_yes, Name, NEVER, is_ready_at, is_quiet_by, quiet_of}
 use Rattle.std.proofs.lemmas.List.Elements.{All-map}
-use Rattle.vic_frame.specs.LowBitsFirst.{uid_of}
-use Rattle.vic_tree.proofs.BoolLaws.{lt_yes}
-use Rattle.vic_verdict.specs.declared.names.Name.{Name}
-use Rattle.vic_verdict.specs.declared.names.TheConstants.{NEVER}
-use Rattle.vic_verdict.specs.Answering.{is_ready_at}
-use Rattle.vic_verdict.specs.Sweep.{is_quiet_by, quiet_of}
 use Rattle.vic_verdict.proofs.Ready.{AreOpenTo, not_before, open_first, open_same, open_other, open_more, open_all, ready_key, keys_order}
 use Rattle.vic_verdict.proofs.Replying.{at, tells_own}
 use Rattle.vic_verdict.proofs.Sweeping.{nobody, start_here}
@@ -34,7 +26,7 @@ loop-i-init g c =
 pub names_between-requires-clause-start : goal.names_between-requires-clause-start
 names_between-requires-clause-start g c =
     start_here c.args.names.now (at c.args.names.now c.loop-i.i).key c.loop-i.i c.requires.order c.loop-i-test.true (omega arith) (λ some. elim c.then-i-eq0.branch [
-      | then-i-eq0-via-then-i-eq0 w ↦ absurd (let none = w.if-i-eq0.true in omega (arith, some, none))
+      | then-i-eq0-via-then-i-eq0 w ↦ absurd (let none = w.if-i-eq0.true in omega arith)
       | then-i-eq0-via-else-i-eq0+then-names-i w ↦ w.if-names-i.true
     ])
 
@@ -55,7 +47,7 @@ loop-i-preserved g c =
           let own = w.names_between.ensures in
           let quiet : (j : ℕ) → j < 2 ^ 32 → nat_lt (quiet_of o) j ≡ is_quiet_by ns o.key j = λ j small.
           w.name_quiet_after.ensures.quiet j small
-          ∙ (sym (tells_own ns w.names_between.result.now (at ns i).key w.first_quiet-quiet.result j own.inside own.all (w.first_quiet-quiet.ensures j (omega (arith, small))))
+          ∙ (sym (tells_own ns w.names_between.result.now (at ns i).key w.first_quiet-quiet.result j own.inside own.all (w.first_quiet-quiet.ensures j (omega arith)))
           ∙ ap (λ k. is_quiet_by ns k j) (sym key)) in
           let is_open = sym (open_at is_left ns _ _ i _ c.requires.keys c.in_ok-is_open.ensures c.loop-i-test.true w.index.ensures) ∙ w.if-index.true in
           let is_in : set (uid_of o.key) ≡ true = ap (λ k. set (uid_of k)) key ∙ (ready_key is_left ns _ from _ _ small own.inside own.all (w.first_quiet-quiet.ensures from upto) ∙ and_from _ _ is_open (ap not (not_before _ from w.if-from-quiet.true))) in
@@ -69,7 +61,7 @@ loop-i-preserved g c =
             | else-from-quiet-via-else-from-quiet w' ↦ and_right (is_left (uid_of key)) _ (ap not (lt_yes quiet from w'.if-from-quiet.false))
           ] in
           subst (λ v. P v.items) (sym w.named-is) (open_other set ns i c.loop-i.named.items c.loop-i-test.true (ready_key is_left ns _ from key quiet small own.inside own.all (w.first_quiet-quiet.ensures from upto) ∙ out) c.loop-i.invariant)
-      | else-i-eq0+else-names-i w ↦ let some = w.if-i-eq0.false in subst (λ v. P v.items) (sym w.named-is) (open_same set ns i c.loop-i.named.items c.requires.order (omega (arith, some)) c.loop-i-test.true w.if-names-i.false c.loop-i.invariant)
+      | else-i-eq0+else-names-i w ↦ let some = w.if-i-eq0.false in subst (λ v. P v.items) (sym w.named-is) (open_same set ns i c.loop-i.named.items c.requires.order (omega arith) c.loop-i-test.true w.if-names-i.false c.loop-i.invariant)
     ]
 
 pub returns : goal.returns

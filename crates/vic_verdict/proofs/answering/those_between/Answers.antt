@@ -1,10 +1,6 @@
-use Rattle.std.proofs.Common.{◌≡◌, ◌+◌, [], length, take, sym, ◌∙◌, subst, arith}
-use Rattle.std.proofs.lemmas.Bool.{eqb-true}
-use Rattle.std.proofs.lemmas.List.{take_all}
-use Rattle.vic_frame.specs.LowBitsFirst.{mirror}
-use Rattle.vic_tree.specs.Gathering.{Gathers}
+use Rattle.std.proofs.Common.{◌≡◌, ◌+◌, [], length, take, sym, ◌∙◌, subst, arith, eqb-true, take_all}
+use Rattle.vic_verdict.proofs.Words.{mirror, Gathers, HasInside}
 use Rattle.vic_tree.proofs.GatheringLaws.{gathers_full}
-use Rattle.vic_verdict.specs.Answering.{HasInside}
 use Rattle.vic_verdict.proofs.Closing.{between_from}
 use Rattle.vic_verdict.proofs.Ready.{gathers_none, inside_more, inside_other, inside_so_far}
 use Rattle.vic_verdict.proofs.Sweeping.{between_parts}
@@ -24,17 +20,17 @@ loop-uid-preserved c =
     let P = Gathers (HasInside (take (i + 1) us) first last) [] in
     let key = c.key-key.ensures.value in
     elim c.if-first-key.branch [
-      | then-first-key+then-key-last w ↦ subst (λ v. P v.items) (sym w.inside-is) (inside_more us c.loop-uid.inside.items _ i x first last c.loop-uid-test.true c.uid-item.is (between_from first last (mirror x) (omega (arith, key, w.if-first-key.true)) (omega (arith, key, w.if-key-last.true))) c.loop-uid.invariant w.gather_one.ensures)
+      | then-first-key+then-key-last w ↦ subst (λ v. P v.items) (sym w.inside-is) (inside_more us c.loop-uid.inside.items _ i x first last c.loop-uid-test.true c.uid-item.is (between_from first last (mirror x) (omega (arith, w.if-first-key.true)) (omega (arith, w.if-key-last.true))) c.loop-uid.invariant w.gather_one.ensures)
       | else-first-key w ↦ subst (λ v. P v.items) (sym w.inside-is) (inside_other us c.loop-uid.inside.items i x first last c.loop-uid-test.true c.uid-item.is (λ e. let p = between_parts first last (mirror x) e in elim w.else-first-key.branch [
-        | else-first-key-via-then-first-key+else-key-last w' ↦ omega (arith, key, p.1, w'.if-key-last.false)
-        | else-first-key-via-else-first-key w' ↦ omega (arith, key, p.0, w'.if-first-key.false)
+        | else-first-key-via-then-first-key+else-key-last w' ↦ omega (arith, p.1, w'.if-key-last.false)
+        | else-first-key-via-else-first-key w' ↦ omega (arith, p.0, w'.if-first-key.false)
       ]) c.loop-uid.invariant)
     ]
 
 pub returns-then-is_full : goal.returns-then-is_full
 returns-then-is_full c =
     let full : length c.loop-uid.inside.items ≡ 3 = eqb-true _ 3 (sym c.is_full.ensures.value ∙ c.if-is_full.true) in
-    gathers_full _ _ _ _ (λ u p. inside_so_far c.args.uids.now c.loop-uid.uid-index c.args.first c.args.last u p) (omega (arith, full)) c.loop-uid.invariant
+    gathers_full _ _ _ _ (λ u p. inside_so_far c.args.uids.now c.loop-uid.uid-index c.args.first c.args.last u p) (omega arith) c.loop-uid.invariant
 
 pub returns : goal.returns
 returns c = subst (λ us. Gathers (HasInside us c.args.first c.args.last) [] c.loop-uid.inside.items) (take_all c.loop-uid.uid-index c.args.uids.now c.loop-uid-test.false) c.loop-uid.invariant

@@ -1,6 +1,5 @@
 use Rattle.std.proofs.Common.{[], take}
-use Rattle.vic_tree.specs.Gathering.{Gathers}
-use Rattle.vic_verdict.specs.Answering.{HasInside}
+use Rattle.vic_verdict.proofs.Words.{Gathers, HasInside}
 use Rattle.vic_verdict.proofs.answering.those_between.Given as goal
 
 abbrev pub invariant-loop-uid : goal.invariant-loop-uid

@@ -1,10 +1,8 @@
-use Rattle.std.proofs.Common.{ℕ, List, ◌-◌, length, sym, ◌∙◌, subst, arith}
-use Rattle.std.specs.List.{All}
-use Rattle.std.proofs.lemmas.List.Elements.{All-push, All-take}
-use Rattle.vic_tree.specs.OpenSet.{UpToThree}
+use Rattle.std.proofs.Common.{ℕ, List, ◌-◌, length, sym, ◌∙◌, subst, arith, All}
+use Rattle.vic_verdict.proofs.Words.{All-push, UpToThree, is_named}
+use Rattle.std.proofs.lemmas.List.Elements.{All-take}
 use Rattle.vic_verdict.specs.declared.answering.Unnamed.{Unnamed}
-use Rattle.vic_verdict.specs.Answering.{IsUnnamed, is_unnamed, is_unnamed_in}
-use Rattle.vic_verdict.specs.Sweep.{is_named}
+use Rattle.vic_verdict.specs.inner.Answering.{IsUnnamed, is_unnamed, is_unnamed_in}
 use Rattle.vic_verdict.proofs.Ready.{found_besides}
 use Rattle.vic_verdict.proofs.answering.unnamed_in.Goals as goal
 
@@ -14,7 +12,7 @@ returns-in-Some-between-clause-uids g c ns names masks =
     let kept = subst (All (IsUnnamed set ns)) (sym (c.deref-2.ensures.value ∙ c.truncate.ensures.items)) (All-take (IsUnnamed set ns) _ c.args.masks.now.items masks) in
     let x : Unnamed = c.in-Some.around.now in
     let some = c.in-Some.ensures.item.3.0 in
-    let around = subst (IsUnnamed set ns) (sym (c.in-Some.ensures.item.3.1 x)) (kept (length c.deref-2.result.now - 1) x (omega (arith, some))) in
+    let around = subst (IsUnnamed set ns) (sym (c.in-Some.ensures.item.3.1 x)) (kept (length c.deref-2.result.now - 1) x (omega arith)) in
     subst (λ l. UpToThree (is_unnamed set ns c.args.block.now.first l) c.in-Some-between.uids.items) c.last-last.ensures (c.in-Some-between.ensures set ns around)
 
 pub returns-clause-masks : goal.returns-clause-masks

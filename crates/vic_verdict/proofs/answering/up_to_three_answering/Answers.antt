@@ -1,8 +1,5 @@
-use Rattle.std.proofs.Common.{◌∙◌, ap, sym, List, ℕ}
-use Rattle.std.specs.Prelude.{◌&&◌, nat_le, nat_lt}
-use Rattle.std.specs.List.{list_any}
-use Rattle.vic_frame.specs.LowBitsFirst.{mirror}
-use Rattle.vic_verdict.specs.Sweep.{quiet_of, is_quiet_by}
+use Rattle.std.proofs.Common.{◌∙◌, ap, sym, List, ℕ, ◌&&◌, nat_le, nat_lt}
+use Rattle.vic_verdict.proofs.Words.{list_any, mirror, quiet_of, is_quiet_by}
 use Rattle.vic_verdict.proofs.Ready.{first_answering}
 use Rattle.vic_verdict.proofs.answering.up_to_three_answering.Goals as goal
 

@@ -1,9 +1,7 @@
 use Rattle.std.proofs.Common.{◌≡◌, ◌+◌, ◌-◌, ◌<◌, ◌≤◌, ◌++◌, ◌∷◌, [], get_or, sym, ap, ◌∙◌, subst, arith}
-use Rattle.vic_tree.specs.Ranges.{is_between}
-use Rattle.vic_verdict.specs.declared.names.Name.{Name}
-use Rattle.vic_verdict.specs.Closed.{Closes}
+use Rattle.vic_verdict.proofs.Words.{is_between, Name, Closes}
 use Rattle.vic_verdict.proofs.Sweeping.{nobody}
-use Rattle.vic_verdict.proofs.Closing.{IsClosedTo, closed_first, closed_passed, closed_left, closed_all, pushed_none, pushed_one}
+use Rattle.vic_verdict.proofs.Closing.{closed_first, closed_passed, closed_left, closed_all, pushed_none, pushed_one}
 use Rattle.vic_verdict.proofs.closed.close_between.Goals as goal
 use Rattle.vic_verdict.proofs.closed.close_between.Goals.{then-name, then-from-name+in_ok-push, then-from-last+in_ok-push-2, else-from-last, else-from-name, else-name}
 
@@ -12,7 +10,7 @@ loop-name-init c =
     let forward = c.last-last.ensures.is_range.0 in
     let from = c.first-first.ensures.value in
     let to = c.last-last.ensures.value in
-    closed_first c.args.closed.now.items c.names_between-inside.result.now c.first-first.result c.last-last.result (omega (arith, forward, from, to)) c.names_between-inside.ensures.inside
+    closed_first c.args.closed.now.items c.names_between-inside.result.now c.first-first.result c.last-last.result (omega arith) c.names_between-inside.ensures.inside
 
 pub loop-name-preserved : goal.loop-name-preserved
 loop-name-preserved c =
@@ -24,21 +22,11 @@ loop-name-preserved c =
     let from = c.loop-name.from in
     let i = c.loop-name.name-index in
     elim c.if-name.branch [
-      | then-name w ↦
-          subst (λ n. IsClosedTo old c.if-name.closed.items ns first last n (i + 1)) (sym w.from-is)
-          (subst (λ v. IsClosedTo old v.items ns first last ((get_or ns i nobody).key + 1) (i + 1)) (sym w.closed-is)
-          (elim w.if-from-name.branch [
-            | then-from-name+in_ok-push v ↦
-                subst (λ x. IsClosedTo old x.items ns first last ((get_or ns i nobody).key + 1) (i + 1)) (sym v.closed-is)
-                (closed_left old new v.push.new.self.items ns first last from i c.names_between-inside.ensures.order c.names_between-inside.ensures.inside c.loop-name-test.true w.if-name.true (pushed_one new v.push.new.self.items from (get_or ns i nobody).key v.if-from-name.true (v.in_ok-push.ensures.items ∙ ap (λ r. new ++ r ∷ []) v.new.ensures)) c.loop-name.invariant)
-            | else-from-name v ↦
-                subst (λ x. IsClosedTo old x.items ns first last ((get_or ns i nobody).key + 1) (i + 1)) (sym v.closed-is)
-                (closed_left old new new ns first last from i c.names_between-inside.ensures.order c.names_between-inside.ensures.inside c.loop-name-test.true w.if-name.true (pushed_none new from (get_or ns i nobody).key v.if-from-name.false) c.loop-name.invariant)
-          ]))
-      | else-name w ↦
-          subst (λ n. IsClosedTo old c.if-name.closed.items ns first last n (i + 1)) (sym w.from-is)
-          (subst (λ v. IsClosedTo old v.items ns first last from (i + 1)) (sym w.closed-is)
-          (closed_passed old new ns first last from i c.names_between-inside.ensures.order c.loop-name-test.true w.if-name.false c.loop-name.invariant))
+      | then-name w ↦ rw (w.from-is, w.closed-is) (elim w.if-from-name.branch [
+        | then-from-name+in_ok-push v ↦ rw v.closed-is (closed_left old new v.push.new.self.items ns first last from i c.names_between-inside.ensures.order c.names_between-inside.ensures.inside c.loop-name-test.true w.if-name.true (pushed_one new v.push.new.self.items from (get_or ns i nobody).key v.if-from-name.true (v.in_ok-push.ensures.items ∙ ap (λ r. new ++ r ∷ []) v.new.ensures)) c.loop-name.invariant)
+        | else-from-name v ↦ rw v.closed-is (closed_left old new new ns first last from i c.names_between-inside.ensures.order c.names_between-inside.ensures.inside c.loop-name-test.true w.if-name.true (pushed_none new from (get_or ns i nobody).key v.if-from-name.false) c.loop-name.invariant)
+      ])
+      | else-name w ↦ rw (w.from-is, w.closed-is) (closed_passed old new ns first last from i c.names_between-inside.ensures.order c.loop-name-test.true w.if-name.false c.loop-name.invariant)
     ]
 
 pub returns : goal.returns
@@ -57,11 +45,11 @@ returns c =
           let next = w.push-then-from-last.new.self.items in
           let to : last ≡ last + 1 - 1 = omega arith in
           let is : next ≡ new ++ (from, last + 1 - 1) ∷ [] = w.in_ok-push-2.ensures.items ∙ ap (λ r. new ++ r ∷ []) (w.new-then-from-last.ensures ∙ ap (λ n. (from, n)) to) in
-          let upto : from < last + 1 = let le = w.if-from-last.true in omega (arith, le) in
+          let upto : from < last + 1 = let le = w.if-from-last.true in omega arith in
           subst (λ v. Closes ns (is_between c.first-first.result last) old v.items) (sym w.closed-is)
           (closed_all old new next inside ns c.first-first.result last from c.loop-name.name-index c.loop-name-test.false left (pushed_one new next from (last + 1) upto is) c.loop-name.invariant)
       | else-from-last w ↦
-          let past : last + 1 ≤ from = let lt = w.if-from-last.false in omega (arith, lt) in
+          let past : last + 1 ≤ from = let lt = w.if-from-last.false in omega arith in
           subst (λ v. Closes ns (is_between c.first-first.result last) old v.items) (sym w.closed-is)
           (closed_all old new new inside ns c.first-first.result last from c.loop-name.name-index c.loop-name-test.false left (pushed_none new from (last + 1) past) c.loop-name.invariant)
     ]))

@@ -1,10 +1,6 @@
-use Rattle.std.proofs.Common.{◌≡◌, ℕ, ◌||◌, ◌&&◌, ◌∙◌, get_or, take, not, refl, sym, ap}
-use Rattle.std.proofs.lemmas.List.{get_or_default, take_all}
-use Rattle.vic_tree.specs.Ranges.{is_between, in_ranges}
-use Rattle.vic_tree.proofs.BoolLaws.{or_false}
-use Rattle.vic_verdict.specs.declared.closed.Spot.{Spot}
-use Rattle.vic_verdict.specs.Closed.{closes_with, is_in_some}
-use Rattle.vic_verdict.specs.Sweep.{has_left}
+use Rattle.std.proofs.Common.{◌≡◌, ℕ, ◌||◌, ◌&&◌, ◌∙◌, get_or, take, not, refl, sym, ap, take_all}
+use Rattle.vic_verdict.proofs.Words.{get_or_default, is_between, in_ranges, or_false, Spot, is_in_some, has_left}
+use Rattle.vic_verdict.specs.inner.Closed.{closes_with}
 use Rattle.vic_verdict.proofs.Closing.{closes_more}
 use Rattle.vic_verdict.proofs.Sweeping.{nowhere}
 use Rattle.vic_verdict.proofs.closed.close_spots.Goals as goal

@@ -1,7 +1,6 @@
 use Rattle.std.proofs.Common.{◌≡◌, ℕ, ◌||◌, ◌&&◌, not, take}
-use Rattle.vic_tree.specs.Ranges.{in_ranges}
-use Rattle.vic_verdict.specs.Closed.{closes_with, is_in_some}
-use Rattle.vic_verdict.specs.Sweep.{has_left}
+use Rattle.vic_verdict.proofs.Words.{in_ranges, is_in_some, has_left}
+use Rattle.vic_verdict.specs.inner.Closed.{closes_with}
 use Rattle.vic_verdict.proofs.closed.close_spots.Given as goal
 
 abbrev pub invariant-loop-spot : goal.invariant-loop-spot

@@ -1,6 +1,5 @@
-use Rattle.std.proofs.Common.{◌≤◌}
-use Rattle.std.specs.Prelude.{IfSome}
-use Rattle.vic_verdict.specs.Answering.{IsKnown}
+use Rattle.std.proofs.Common.{◌≤◌, IfSome}
+use Rattle.vic_verdict.proofs.Words.{IsKnown}
 use Rattle.vic_verdict.proofs.demands.guess_unmet.Given as goal
 
 abbrev pub invariant-loop-index : goal.invariant-loop-index

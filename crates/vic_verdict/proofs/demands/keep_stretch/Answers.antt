@@ -1,9 +1,7 @@
-use Rattle.std.proofs.Common.{◌≡◌, ◌∙◌, List, [], ◌∷◌, length, ap, sym, subst, inl, inr, refl, rules}
-use Rattle.std.specs.Prelude.{nat_lt}
-use Rattle.std.specs.List.Sorted.{IsPermutation}
+use Rattle.std.proofs.Common.{◌≡◌, ◌∙◌, List, [], ◌∷◌, length, ap, sym, subst, inl, inr, refl, rules, nat_lt, IsPermutation}
+use Rattle.vic_verdict.proofs.Words.{Demand}
 use Rattle.std.proofs.lemmas.Fn.{filter_same}
-use Rattle.vic_verdict.specs.declared.demands.Demand.{Demand}
-use Rattle.vic_verdict.specs.Demands.{demands_to}
+use Rattle.vic_verdict.specs.inner.Asked.{demands_to}
 use Rattle.vic_verdict.proofs.demands.keep_stretch.Goals as goal
 
 none : (ds : List Demand) → length ds ≡ 0 → ds ≡ []

@@ -1,11 +1,6 @@
-use Rattle.std.proofs.Common.{◌≡◌, ◌+◌, get_or, sym, subst, arith}
-use Rattle.std.proofs.lemmas.List.{get_or_default}
-use Rattle.vic_verdict.specs.declared.demands.Demand.{Demand}
-use Rattle.vic_verdict.specs.declared.demands.Found.{Found}
-use Rattle.std.specs.Prelude.{IfSome, Option}
+use Rattle.std.proofs.Common.{◌≡◌, ◌+◌, get_or, sym, subst, arith, IfSome, Option}
+use Rattle.vic_verdict.proofs.Words.{get_or_default, Demand, Found, IsKnown, IsDemandBy}
 use Rattle.vic_verdict.specs.declared.answering.Known.{Known}
-use Rattle.vic_verdict.specs.Answering.{IsKnown}
-use Rattle.vic_verdict.specs.Demands.{IsDemandBy}
 use Rattle.vic_verdict.proofs.Demanding.{AreMetTo, met_skipped, met_found, met_all, found_at}
 use Rattle.vic_verdict.proofs.demands.meet_each.Goals as goal
 use Rattle.vic_verdict.proofs.demands.meet_each.Goals.{then-not-is_asked_again+in_ok-uids+else-len-need+in_ok-push, else-not-is_asked_again}
@@ -32,7 +27,7 @@ loop-index-preserved g c = record {
             let need : f.need ≡ d.need = w.from-need.ensures in
             subst (λ v. AreMetTo es ds (k + 1) c.args.found.now.items v.items) (sym w.found-is)
             (met_found es ds k d f c.args.found.now.items c.loop-index.found.items w.push.new.self.items c.loop-index-test.true is w.in_ok-push.ensures.items
-            (found_at es (g.S.OpenSet.is_open c.args.set.now) c.args.names.now d f same asked w.in_ok-uids.ensures.uids w.place-at.ensures need (let long = w.if-len-need.false in let len = w.len.ensures.value in omega (arith, long, len, need))) need before)
+            (found_at es (g.S.OpenSet.is_open c.args.set.now) c.args.names.now d f same asked w.in_ok-uids.ensures.uids w.place-at.ensures need (let long = w.if-len-need.false in let len = w.len.ensures.value in omega arith)) need before)
         | else-not-is_asked_again w ↦
             subst (λ v. AreMetTo es ds (k + 1) c.args.found.now.items v.items) (sym w.found-is)
             (met_skipped es ds k c.args.found.now.items c.loop-index.found.items c.loop-index-test.true (c.is_asked_again.ensures w.if-not-is_asked_again.false) before)
@@ -41,4 +36,4 @@ loop-index-preserved g c = record {
 
 pub returns-clause-met : goal.returns-clause-met
 returns-clause-met g c es same h done =
-    met_all es c.args.names.now c.args.demands.now c.loop-index.index c.args.found.now.items c.loop-index.found.items h (let last = c.loop-index-test.false in let within = c.loop-index.auto.index-end in omega (arith, last, within)) (c.loop-index.invariant.met es same h)
+    met_all es c.args.names.now c.args.demands.now c.loop-index.index c.args.found.now.items c.loop-index.found.items h (let last = c.loop-index-test.false in let within = c.loop-index.auto.index-end in omega arith) (c.loop-index.invariant.met es same h)

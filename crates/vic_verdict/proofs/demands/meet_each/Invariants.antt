@@ -1,11 +1,5 @@
-use Rattle.std.proofs.Common.{List}
-use Rattle.std.specs.List.{All}
-use Rattle.std.specs.Prelude.{IfSome}
-use Rattle.vic_verdict.specs.Answering.{IsKnown}
-use Rattle.vic_tree.specs.OpenSet.{SameUids}
-use Rattle.vic_log.specs.declared.entry.Entry.{Entry}
-use Rattle.vic_log.specs.Slots.{slots_of, is_open}
-use Rattle.vic_verdict.specs.Demands.{IsDemandBy}
+use Rattle.std.proofs.Common.{List, All, IfSome}
+use Rattle.vic_verdict.proofs.Words.{IsKnown, SameUids, Entry, slots_of, is_open, IsDemandBy}
 use Rattle.vic_verdict.proofs.Demanding.{AreMetTo}
 use Rattle.vic_verdict.proofs.demands.meet_each.Given as goal
 

@@ -1,11 +1,6 @@
-use Rattle.std.proofs.Common.{◌≡◌, List, length, sym, subst, arith}
-use Rattle.std.specs.List.{All}
-use Rattle.vic_log.specs.declared.entry.Entry.{Entry}
-use Rattle.vic_verdict.specs.declared.demands.Demand.{Demand}
-use Rattle.vic_verdict.specs.declared.demands.Stretch.{Stretch}
-use Rattle.vic_verdict.specs.declared.names.Name.{Name}
-use Rattle.vic_verdict.specs.Demands.{HasBlock, HasBlocks, HasNamesInOrder, IsDemandBy, IsKept}
-use Rattle.vic_verdict.specs.Sweep.{AreInOrder, HaveKeys}
+use Rattle.std.proofs.Common.{◌≡◌, List, length, sym, subst, arith, All}
+use Rattle.vic_verdict.proofs.Words.{Entry, Demand, Stretch, Name, IsDemandBy, AreInOrder, HaveKeys}
+use Rattle.vic_verdict.specs.inner.Asked.{HasBlock, HasBlocks, HasNamesInOrder, IsKept}
 use Rattle.vic_verdict.proofs.Demanding.{AreFoundTo, found_first, found_more, found_all, some_is, unmet_lacks}
 use Rattle.vic_verdict.proofs.demands.meet_stretches.Goals as goal
 
@@ -49,5 +44,5 @@ loop-stretch-preserved g c es same kept =
 pub returns : goal.returns
 returns g c es same kept =
     found_all es c.args.stretches.now c.loop-stretch.stretch-index c.loop-stretch.found.items
-    (let last = c.loop-stretch-test.false in let within = c.loop-stretch.auto.stretch-index-end in omega (arith, last, within))
+    (let last = c.loop-stretch-test.false in let within = c.loop-stretch.auto.stretch-index-end in omega arith)
     kept (c.loop-stretch.invariant es same kept)

@@ -1,8 +1,5 @@
 use Rattle.std.proofs.Common.{List, length}
-use Rattle.vic_tree.specs.OpenSet.{SameUids}
-use Rattle.vic_log.specs.declared.entry.Entry.{Entry}
-use Rattle.vic_log.specs.Slots.{slots_of, is_open}
-use Rattle.vic_verdict.specs.Demands.{AreKept}
+use Rattle.vic_verdict.proofs.Words.{SameUids, Entry, slots_of, is_open, AreKept}
 use Rattle.vic_verdict.proofs.Demanding.{AreFoundTo}
 use Rattle.vic_verdict.proofs.demands.meet_stretches.Given as goal
 

@@ -1,6 +1,5 @@
 use Rattle.std.proofs.Common.{◌≡◌, ℕ, List, ◌++◌, ◌||◌, sym, ap, subst}
-use Rattle.vic_frame.specs.Uids.{has}
-use Rattle.vic_verdict.specs.Keys.{AreKeysOf}
+use Rattle.vic_verdict.proofs.Words.{has, AreKeysOf}
 use Rattle.vic_verdict.proofs.Differing.{known_has, absent_by, unsettled_by}
 use Rattle.vic_verdict.proofs.differences.compare.Goals as goal
 

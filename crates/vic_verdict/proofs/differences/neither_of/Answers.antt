@@ -1,8 +1,5 @@
 use Rattle.std.proofs.Common.{◌≡◌, ℕ, List, false, subst}
-use Rattle.std.proofs.lemmas.Result.{IfOk-weaker}
-use Rattle.vic_frame.specs.Uids.{has}
-use Rattle.vic_verdict.specs.Keys.{AreKeysOf}
-use Rattle.vic_verdict.specs.Rising.{IsFailing, IsListOf}
+use Rattle.vic_verdict.proofs.Words.{IfOk-weaker, has, AreKeysOf, IsFailing, IsListOf}
 use Rattle.vic_verdict.proofs.Differing.{neither_by}
 use Rattle.vic_verdict.proofs.KeyOrder.{outside_are}
 use Rattle.vic_verdict.proofs.differences.neither_of.Goals as goal

@@ -1,6 +1,5 @@
-use Rattle.std.proofs.Common.{◌≡◌, ◌++◌, take, drop}
-use Rattle.std.specs.List.{filter}
-use Rattle.vic_verdict.specs.Gathered.{is_other, chosen}
+use Rattle.std.proofs.Common.{◌≡◌, ◌++◌, take, drop, filter}
+use Rattle.vic_verdict.proofs.Words.{is_other, chosen}
 use Rattle.vic_verdict.proofs.explanation.add_chosen.Given as goal
 
 abbrev pub invariant-loop-uid : goal.invariant-loop-uid

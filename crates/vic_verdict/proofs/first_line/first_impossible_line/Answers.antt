@@ -1,15 +1,6 @@
-use Rattle.std.proofs.Common.{◌≡◌, ℕ, ◌+◌, ◌<◌, length, take, get_or, sym, ap, subst, ◌∙◌, arith, add-one, inl, inr, ⊎_elim}
-use Rattle.std.proofs.lemmas.Bool.{cases_lt}
-use Rattle.std.specs.Prelude.{MatchResult}
+use Rattle.std.proofs.Common.{◌≡◌, ℕ, ◌+◌, ◌<◌, length, take, get_or, sym, ap, subst, ◌∙◌, arith, add-one, inl, inr, ⊎_elim, MatchResult}
+use Rattle.vic_verdict.proofs.Words.{cases_lt, SameUids, LogLine, entries, slots_of, is_open, IsMet, IsPossible, IsContradiction, IsVerdict, Impossible}
 use Rattle.std.proofs.lemmas.Option.{slice_get-get_or}
-use Rattle.vic_tree.specs.OpenSet.{SameUids}
-use Rattle.vic_log.specs.declared.entry.LogLine.{LogLine}
-use Rattle.vic_log.specs.Order.{entries}
-use Rattle.vic_log.specs.Slots.{slots_of, is_open}
-use Rattle.vic_verdict.specs.Demands.{IsMet}
-use Rattle.vic_verdict.specs.Possible.{IsPossible, IsContradiction}
-use Rattle.vic_verdict.specs.Verdict.{IsVerdict}
-use Rattle.vic_verdict.specs.declared.judging.Verdict.TheVariants.{Impossible}
 use Rattle.vic_verdict.proofs.FirstLine.{first_impossible}
 use Rattle.vic_verdict.proofs.Halving.{Between, between_first, between_more, between_earlier, between_raised, first_front, front_contradiction}
 use Rattle.vic_verdict.proofs.first_line.first_impossible_line.Goals as goal
@@ -34,7 +25,7 @@ loop-low-preserved g c =
       | in-Ok w ↦
           subst (λ n. Between lines n (c.match-branch-3.last + 1)) (sym w.low-is)
           (subst (λ n. Between lines count (n + 1)) (sym w.last-is)
-          (between_more lines c.loop-low.low (c.loop-low.last + 1) count (omega (arith, inside)) (told _ w.in-Ok.is).0 c.loop-low.invariant))
+          (between_more lines c.loop-low.low (c.loop-low.last + 1) count (omega arith) (told _ w.in-Ok.is).0 c.loop-low.invariant))
       | in-Err w ↦
           let at = w.in-Err.earlier.at in
           let low = c.loop-low.low in
@@ -44,10 +35,10 @@ loop-low-preserved g c =
           let most = w.max-low.ensures in
           subst (λ n. Between lines n (c.match-branch-3.last + 1)) (sym w.low-is)
           (subst (λ n. Between lines w.max-low.result (n + 1)) (sym w.last-is)
-          (between_raised lines low (at + 1) more w.max-low.result (omega (arith, upto))
-          (⊎_elim (λ lt. inr (omega (arith, lt, most))) (λ ge. inl (omega (arith, ge, most))) (cases_lt low more))
+          (between_raised lines low (at + 1) more w.max-low.result (omega arith)
+          (⊎_elim (λ lt. inr (omega arith)) (λ ge. inl (omega arith)) (cases_lt low more))
           (w.possible_before.ensures.possible lines (front_contradiction lines count w.in-Err.earlier e))
-          (between_earlier lines low (c.loop-low.last + 1) count at (omega (arith, inside)) e.impossible c.loop-low.invariant)))
+          (between_earlier lines low (c.loop-low.last + 1) count at (omega arith) e.impossible c.loop-low.invariant)))
     ]
 
 pub returns : goal.returns
@@ -56,8 +47,8 @@ returns g c =
     let last = c.loop-low.last in
     let b = c.loop-low.invariant in
     let close = c.loop-low-test.false in
-    let within : last < length lines = let w = b.within in omega (arith, w) in
-    let end : c.loop-low.low ≡ last = let o = b.ordered in omega (arith, o, close) in
+    let within : last < length lines = let w = b.within in omega arith in
+    let end : c.loop-low.low ≡ last = let o = b.ordered in omega arith in
     let l = get_or lines last c.index-lines-last.result in
     let number : c.number.result ≡ l.number = c.number.ensures ∙ ap (λ (x : LogLine). x.number) c.index-lines-last.is in
     subst (λ n. IsVerdict lines (Impossible n)) (sym number) (first_impossible lines last l c.requires.lines.rising (slice_get-get_or lines last c.index-lines-last.result within) (subst (λ n. IsPossible (entries (take n lines))) end b.possible) (subst (λ (n : ℕ). IsPossible (entries (take n lines)) → ⊥) (add-one last) b.impossible))

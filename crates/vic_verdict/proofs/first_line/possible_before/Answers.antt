@@ -1,5 +1,5 @@
 use Rattle.std.proofs.Common.{sym, subst}
-use Rattle.vic_verdict.specs.Possible.{IsPossible}
+use Rattle.vic_verdict.proofs.Words.{IsPossible}
 use Rattle.vic_verdict.proofs.Halving.{first_entries}
 use Rattle.vic_verdict.proofs.first_line.possible_before.Goals as goal
 

@@ -1,12 +1,5 @@
-use Rattle.std.proofs.Common.{◌≡◌, ℕ, List, Option, Bool, sym, subst}
-use Rattle.std.specs.Prelude.{MatchOption, slice_get}
-use Rattle.vic_frame.specs.Masks.{BitMask}
-use Rattle.vic_frame.specs.Uids.{has}
-use Rattle.vic_log.specs.declared.entry.Entry.{Entry}
-use Rattle.vic_log.specs.Order.{entries}
-use Rattle.vic_verdict.specs.Keys.{AreKeysOf}
-use Rattle.vic_verdict.specs.Rising.{IsFailing, IsListOf}
-use Rattle.vic_verdict.specs.Verdict.{IsAbsent, IsUnlisted, IsUnsettled, IsDoubtful, IsFirstMask, IsLeast, NoSuch}
+use Rattle.std.proofs.Common.{◌≡◌, ℕ, List, Option, Bool, sym, subst, MatchOption, slice_get}
+use Rattle.vic_verdict.proofs.Words.{BitMask, has, Entry, entries, AreKeysOf, IsFailing, IsListOf, IsAbsent, IsUnlisted, IsUnsettled, IsDoubtful, IsFirstMask, IsLeast, NoSuch}
 use Rattle.vic_verdict.proofs.Differing.{IsJudged, absent_list, unlisted_list, unsettled_mask, doubtful_uids}
 use Rattle.vic_verdict.proofs.Failing.{first_is_least}
 use Rattle.vic_verdict.proofs.judging.judge_told.Goals as goal
@@ -32,63 +25,48 @@ least_doubtful es set certain us vs xs ys r j l e f is = first_found (IsDoubtful
 
 pub returns-in-Some : goal.returns-in-Some
 returns-in-Some g c =
-    let es = entries c.args.lines.now in
-    let set = g.S.OpenSet.is_open c.args.set in
-    let us = c.in_ok-listed.listed.items in
-    let j : IsJudged es set c.args.certain.now us = record { told = c.requires.told; own = record { members = c.in_ok-listed.ensures.members; are_uids = c.in_ok-listed.ensures.uids } } in
-    let absent = first_found (IsAbsent es) _ _ c.first_of.result (absent_list es set _ us _ j (c.in_ok-absent.ensures us (keyed_by _ _ _ us c.in_ok-keys.ensures c.deref.ensures.value c.deref-2.ensures.value))) c.deref-3.ensures.value c.first_of.ensures in
-    (c.requires.told.possible, subst (Least (IsAbsent es)) c.in-Some.is absent)
+    let j : IsJudged (entries c.args.lines.now) (g.S.OpenSet.is_open c.args.set) c.args.certain.now c.in_ok-listed.listed.items = record { told = c.requires.told; own = record { members = c.in_ok-listed.ensures.members; are_uids = c.in_ok-listed.ensures.uids } } in
+    let absent = first_found (IsAbsent (entries c.args.lines.now)) _ _ c.first_of.result (absent_list _ _ _ _ _ j (c.in_ok-absent.ensures _ (keyed_by _ _ _ _ c.in_ok-keys.ensures c.deref.ensures.value c.deref-2.ensures.value))) c.deref-3.ensures.value c.first_of.ensures in
+    (c.requires.told.possible, subst (Least (IsAbsent (entries c.args.lines.now))) c.in-Some.is absent)
 
 pub returns-in-Some-first_of : goal.returns-in-Some-first_of
 returns-in-Some-first_of g c =
-    let es = entries c.args.lines.now in
-    let set = g.S.OpenSet.is_open c.args.set in
-    let us = c.in_ok-listed.listed.items in
-    let j : IsJudged es set c.args.certain.now us = record { told = c.requires.told; own = record { members = c.in_ok-listed.ensures.members; are_uids = c.in_ok-listed.ensures.uids } } in
-    let absent = first_found (IsAbsent es) _ _ c.first_of.result (absent_list es set _ us _ j (c.in_ok-absent.ensures us (keyed_by _ _ _ us c.in_ok-keys.ensures c.deref.ensures.value c.deref-2.ensures.value))) c.deref-3.ensures.value c.first_of.ensures in
-    let unlisted = least_unlisted es set _ us _ _ _ c.first_of-2.result j c.in_ok-unlisted.ensures c.deref-4.ensures.value c.deref-5.ensures.value c.first_of-2.ensures in
-    let none_absent : NoSuch (IsAbsent es) = subst (Least (IsAbsent es)) c.in_default.is absent in
-    (c.requires.told.possible, none_absent, subst (Least (IsUnlisted es)) c.in-Some-first_of.is unlisted)
+    let j : IsJudged (entries c.args.lines.now) (g.S.OpenSet.is_open c.args.set) c.args.certain.now c.in_ok-listed.listed.items = record { told = c.requires.told; own = record { members = c.in_ok-listed.ensures.members; are_uids = c.in_ok-listed.ensures.uids } } in
+    let absent = first_found (IsAbsent (entries c.args.lines.now)) _ _ c.first_of.result (absent_list _ _ _ _ _ j (c.in_ok-absent.ensures _ (keyed_by _ _ _ _ c.in_ok-keys.ensures c.deref.ensures.value c.deref-2.ensures.value))) c.deref-3.ensures.value c.first_of.ensures in
+    let unlisted = least_unlisted _ _ _ _ _ _ _ c.first_of-2.result j c.in_ok-unlisted.ensures c.deref-4.ensures.value c.deref-5.ensures.value c.first_of-2.ensures in
+    let none_absent : NoSuch (IsAbsent (entries c.args.lines.now)) = subst (Least (IsAbsent (entries c.args.lines.now))) c.in_default.is absent in
+    (c.requires.told.possible, none_absent, subst (Least (IsUnlisted (entries c.args.lines.now))) c.in-Some-first_of.is unlisted)
 
 pub returns-in-Some-2 : goal.returns-in-Some-2
 returns-in-Some-2 g c =
-    let es = entries c.args.lines.now in
-    let set = g.S.OpenSet.is_open c.args.set in
-    let us = c.in_ok-listed.listed.items in
-    let j : IsJudged es set c.args.certain.now us = record { told = c.requires.told; own = record { members = c.in_ok-listed.ensures.members; are_uids = c.in_ok-listed.ensures.uids } } in
-    let absent = first_found (IsAbsent es) _ _ c.first_of.result (absent_list es set _ us _ j (c.in_ok-absent.ensures us (keyed_by _ _ _ us c.in_ok-keys.ensures c.deref.ensures.value c.deref-2.ensures.value))) c.deref-3.ensures.value c.first_of.ensures in
-    let unlisted = least_unlisted es set _ us _ _ _ c.first_of-2.result j c.in_ok-unlisted.ensures c.deref-4.ensures.value c.deref-5.ensures.value c.first_of-2.ensures in
-    let none_absent : NoSuch (IsAbsent es) = subst (Least (IsAbsent es)) c.in_default.is absent in
-    let none_unlisted : NoSuch (IsUnlisted es) = subst (Least (IsUnlisted es)) c.in_default-first_of.is unlisted in
-    let mask = unsettled_mask es set _ us _ c.in_ok-mask.field-0 j none_unlisted (keyed_by _ c.deref-6.result.now _ us c.in_ok-keys.ensures c.deref.ensures.value c.deref-6.ensures.value) c.in_ok-mask.ensures.found c.in_ok-mask.ensures.empty in
-    (c.requires.told.possible, none_absent, none_unlisted, subst (First es) c.in-Some-2.is mask)
+    let j : IsJudged (entries c.args.lines.now) (g.S.OpenSet.is_open c.args.set) c.args.certain.now c.in_ok-listed.listed.items = record { told = c.requires.told; own = record { members = c.in_ok-listed.ensures.members; are_uids = c.in_ok-listed.ensures.uids } } in
+    let absent = first_found (IsAbsent (entries c.args.lines.now)) _ _ c.first_of.result (absent_list _ _ _ _ _ j (c.in_ok-absent.ensures _ (keyed_by _ _ _ _ c.in_ok-keys.ensures c.deref.ensures.value c.deref-2.ensures.value))) c.deref-3.ensures.value c.first_of.ensures in
+    let unlisted = least_unlisted _ _ _ _ _ _ _ c.first_of-2.result j c.in_ok-unlisted.ensures c.deref-4.ensures.value c.deref-5.ensures.value c.first_of-2.ensures in
+    let none_absent : NoSuch (IsAbsent (entries c.args.lines.now)) = subst (Least (IsAbsent (entries c.args.lines.now))) c.in_default.is absent in
+    let none_unlisted : NoSuch (IsUnlisted (entries c.args.lines.now)) = subst (Least (IsUnlisted (entries c.args.lines.now))) c.in_default-first_of.is unlisted in
+    let mask = unsettled_mask _ _ _ _ _ c.in_ok-mask.field-0 j none_unlisted (keyed_by _ c.deref-6.result.now _ _ c.in_ok-keys.ensures c.deref.ensures.value c.deref-6.ensures.value) c.in_ok-mask.ensures.found c.in_ok-mask.ensures.empty in
+    (c.requires.told.possible, none_absent, none_unlisted, subst (First (entries c.args.lines.now)) c.in-Some-2.is mask)
 
 pub returns-in-Some-first_of-2 : goal.returns-in-Some-first_of-2
 returns-in-Some-first_of-2 g c =
-    let es = entries c.args.lines.now in
-    let set = g.S.OpenSet.is_open c.args.set in
-    let us = c.in_ok-listed.listed.items in
-    let j : IsJudged es set c.args.certain.now us = record { told = c.requires.told; own = record { members = c.in_ok-listed.ensures.members; are_uids = c.in_ok-listed.ensures.uids } } in
-    let absent = first_found (IsAbsent es) _ _ c.first_of.result (absent_list es set _ us _ j (c.in_ok-absent.ensures us (keyed_by _ _ _ us c.in_ok-keys.ensures c.deref.ensures.value c.deref-2.ensures.value))) c.deref-3.ensures.value c.first_of.ensures in
-    let unlisted = least_unlisted es set _ us _ _ _ c.first_of-2.result j c.in_ok-unlisted.ensures c.deref-4.ensures.value c.deref-5.ensures.value c.first_of-2.ensures in
-    let none_absent : NoSuch (IsAbsent es) = subst (Least (IsAbsent es)) c.in_default.is absent in
-    let none_unlisted : NoSuch (IsUnlisted es) = subst (Least (IsUnlisted es)) c.in_default-first_of.is unlisted in
-    let mask = unsettled_mask es set _ us _ c.in_ok-mask.field-0 j none_unlisted (keyed_by _ c.deref-6.result.now _ us c.in_ok-keys.ensures c.deref.ensures.value c.deref-6.ensures.value) c.in_ok-mask.ensures.found c.in_ok-mask.ensures.empty in
-    let none_unsettled : NoSuch (IsUnsettled es) = subst (First es) c.in_default-2.is mask in
-    let doubtful = least_doubtful es set _ us _ _ _ c.first_of-3.result j c.in_ok-doubtful.ensures c.deref-7.ensures.value c.deref-8.ensures.value c.first_of-3.ensures in
-    (c.requires.told.possible, none_absent, none_unlisted, none_unsettled, subst (Least (IsDoubtful es)) c.in-Some-first_of-2.is doubtful)
+    let j : IsJudged (entries c.args.lines.now) (g.S.OpenSet.is_open c.args.set) c.args.certain.now c.in_ok-listed.listed.items = record { told = c.requires.told; own = record { members = c.in_ok-listed.ensures.members; are_uids = c.in_ok-listed.ensures.uids } } in
+    let absent = first_found (IsAbsent (entries c.args.lines.now)) _ _ c.first_of.result (absent_list _ _ _ _ _ j (c.in_ok-absent.ensures _ (keyed_by _ _ _ _ c.in_ok-keys.ensures c.deref.ensures.value c.deref-2.ensures.value))) c.deref-3.ensures.value c.first_of.ensures in
+    let unlisted = least_unlisted _ _ _ _ _ _ _ c.first_of-2.result j c.in_ok-unlisted.ensures c.deref-4.ensures.value c.deref-5.ensures.value c.first_of-2.ensures in
+    let none_absent : NoSuch (IsAbsent (entries c.args.lines.now)) = subst (Least (IsAbsent (entries c.args.lines.now))) c.in_default.is absent in
+    let none_unlisted : NoSuch (IsUnlisted (entries c.args.lines.now)) = subst (Least (IsUnlisted (entries c.args.lines.now))) c.in_default-first_of.is unlisted in
+    let mask = unsettled_mask _ _ _ _ _ c.in_ok-mask.field-0 j none_unlisted (keyed_by _ c.deref-6.result.now _ _ c.in_ok-keys.ensures c.deref.ensures.value c.deref-6.ensures.value) c.in_ok-mask.ensures.found c.in_ok-mask.ensures.empty in
+    let none_unsettled : NoSuch (IsUnsettled (entries c.args.lines.now)) = subst (First (entries c.args.lines.now)) c.in_default-2.is mask in
+    let doubtful = least_doubtful _ _ _ _ _ _ _ c.first_of-3.result j c.in_ok-doubtful.ensures c.deref-7.ensures.value c.deref-8.ensures.value c.first_of-3.ensures in
+    (c.requires.told.possible, none_absent, none_unlisted, none_unsettled, subst (Least (IsDoubtful (entries c.args.lines.now))) c.in-Some-first_of-2.is doubtful)
 
 pub returns : goal.returns
 returns g c =
-    let es = entries c.args.lines.now in
-    let set = g.S.OpenSet.is_open c.args.set in
-    let us = c.in_ok-listed.listed.items in
-    let j : IsJudged es set c.args.certain.now us = record { told = c.requires.told; own = record { members = c.in_ok-listed.ensures.members; are_uids = c.in_ok-listed.ensures.uids } } in
-    let absent = first_found (IsAbsent es) _ _ c.first_of.result (absent_list es set _ us _ j (c.in_ok-absent.ensures us (keyed_by _ _ _ us c.in_ok-keys.ensures c.deref.ensures.value c.deref-2.ensures.value))) c.deref-3.ensures.value c.first_of.ensures in
-    let unlisted = least_unlisted es set _ us _ _ _ c.first_of-2.result j c.in_ok-unlisted.ensures c.deref-4.ensures.value c.deref-5.ensures.value c.first_of-2.ensures in
-    let none_absent : NoSuch (IsAbsent es) = subst (Least (IsAbsent es)) c.in_default.is absent in
-    let none_unlisted : NoSuch (IsUnlisted es) = subst (Least (IsUnlisted es)) c.in_default-first_of.is unlisted in
-    let mask = unsettled_mask es set _ us _ c.in_ok-mask.field-0 j none_unlisted (keyed_by _ c.deref-6.result.now _ us c.in_ok-keys.ensures c.deref.ensures.value c.deref-6.ensures.value) c.in_ok-mask.ensures.found c.in_ok-mask.ensures.empty in
-    let none_unsettled : NoSuch (IsUnsettled es) = subst (First es) c.in_default-2.is mask in
-    let doubtful = least_doubtful es set _ us _ _ _ c.first_of-3.result j c.in_ok-doubtful.ensures c.deref-7.ensures.value c.deref-8.ensures.value c.first_of-3.ensures in
-    (c.requires.told.possible, none_absent, none_unlisted, none_unsettled, subst (Least (IsDoubtful es)) c.in_default-first_of-2.is doubtful, c.count_listed-count.ensures)
+    let j : IsJudged (entries c.args.lines.now) (g.S.OpenSet.is_open c.args.set) c.args.certain.now c.in_ok-listed.listed.items = record { told = c.requires.told; own = record { members = c.in_ok-listed.ensures.members; are_uids = c.in_ok-listed.ensures.uids } } in
+    let absent = first_found (IsAbsent (entries c.args.lines.now)) _ _ c.first_of.result (absent_list _ _ _ _ _ j (c.in_ok-absent.ensures _ (keyed_by _ _ _ _ c.in_ok-keys.ensures c.deref.ensures.value c.deref-2.ensures.value))) c.deref-3.ensures.value c.first_of.ensures in
+    let unlisted = least_unlisted _ _ _ _ _ _ _ c.first_of-2.result j c.in_ok-unlisted.ensures c.deref-4.ensures.value c.deref-5.ensures.value c.first_of-2.ensures in
+    let none_absent : NoSuch (IsAbsent (entries c.args.lines.now)) = subst (Least (IsAbsent (entries c.args.lines.now))) c.in_default.is absent in
+    let none_unlisted : NoSuch (IsUnlisted (entries c.args.lines.now)) = subst (Least (IsUnlisted (entries c.args.lines.now))) c.in_default-first_of.is unlisted in
+    let mask = unsettled_mask _ _ _ _ _ c.in_ok-mask.field-0 j none_unlisted (keyed_by _ c.deref-6.result.now _ _ c.in_ok-keys.ensures c.deref.ensures.value c.deref-6.ensures.value) c.in_ok-mask.ensures.found c.in_ok-mask.ensures.empty in
+    let none_unsettled : NoSuch (IsUnsettled (entries c.args.lines.now)) = subst (First (entries c.args.lines.now)) c.in_default-2.is mask in
+    let doubtful = least_doubtful _ _ _ _ _ _ _ c.first_of-3.result j c.in_ok-doubtful.ensures c.deref-7.ensures.value c.deref-8.ensures.value c.first_of-3.ensures in
+    (c.requires.told.possible, none_absent, none_unlisted, none_unsettled, subst (Least (IsDoubtful (entries c.args.lines.now))) c.in_default-first_of-2.is doubtful, c.count_listed-count.ensures)

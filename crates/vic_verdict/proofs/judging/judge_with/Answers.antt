@@ -1,10 +1,5 @@
-use Rattle.std.proofs.Common.{List, subst, length}
-use Rattle.std.specs.Prelude.{IfOk}
-use Rattle.std.proofs.lemmas.Result.{IfOk-weaker}
-use Rattle.vic_log.specs.declared.entry.LogLine.{LogLine}
-use Rattle.vic_log.specs.Order.{entries, listed, IsRisingFrom}
-use Rattle.vic_verdict.specs.declared.judging.Verdict.TheVariants.{Complete}
-use Rattle.vic_verdict.specs.Verdict.{IsVerdict}
+use Rattle.std.proofs.Common.{List, subst, length, IfOk}
+use Rattle.vic_verdict.proofs.Words.{IfOk-weaker, LogLine, entries, listed, IsRisingFrom, Complete, IsVerdict}
 use Rattle.vic_verdict.proofs.Verdicts.{rising_lower, first_lines, complete_count, reached_complete, one_verdict}
 use Rattle.vic_verdict.proofs.TwoVersions.{complete_second}
 use Rattle.vic_verdict.proofs.judging.judge_with.Goals as goal

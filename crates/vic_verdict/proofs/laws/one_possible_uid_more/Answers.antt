@@ -1,7 +1,5 @@
 use Rattle.std.proofs.Common.{Bool, subst}
-use Rattle.vic_log.specs.Populations.{IsPopulation, CouldHaveGiven}
-use Rattle.vic_log.specs.Slots.{slots_of}
-use Rattle.vic_log.proofs.Places.{CouldHaveGiven-slots}
+use Rattle.vic_verdict.proofs.Words.{IsPopulation, CouldHaveGiven, slots_of, CouldHaveGiven-slots}
 use Rattle.vic_log.proofs.Sets.{insert_if, with_member}
 use Rattle.vic_verdict.proofs.Decide.{IsPossibleUid-iff}
 use Rattle.vic_verdict.proofs.Populations.{MeetsAll-with_member}

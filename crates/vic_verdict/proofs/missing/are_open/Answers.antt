@@ -1,5 +1,5 @@
 use Rattle.std.proofs.Common.{List, ℕ, ◌==◌, sym, ap, subst, ◌∙◌}
-use Rattle.vic_verdict.specs.Keys.{AreKeysOf}
+use Rattle.vic_verdict.proofs.Words.{AreKeysOf}
 use Rattle.vic_verdict.proofs.KeyOrder.{all_where_empty, outside_are}
 use Rattle.vic_verdict.proofs.missing.are_open.Goals as goal
 

@@ -1,10 +1,6 @@
-use Rattle.std.proofs.Common.{◌<◌, ◌^◌, ◌∙◌, ap, sym, arith, nat_eq}
-use Rattle.std.proofs.lemmas.List.{take_all}
-use Rattle.std.proofs.lemmas.List.Elements.{All-push}
-use Rattle.std.proofs.lemmas.List.Sorted.{All-permutation, IsNonDecreasingBy-from_sort, list_any-IsPermutation}
-use Rattle.vic_frame.specs.Uids.{has}
-use Rattle.vic_frame.specs.LowBitsFirst.{mirror}
-use Rattle.vic_tree.specs.OpenSet.{has_key}
+use Rattle.std.proofs.Common.{◌<◌, ◌^◌, ◌∙◌, ap, sym, arith, nat_eq, take_all}
+use Rattle.vic_verdict.proofs.Words.{All-push, All-permutation, list_any-IsPermutation, has, mirror, has_key}
+use Rattle.std.proofs.lemmas.List.Sorted.{IsNonDecreasingBy-from_sort}
 use Rattle.vic_verdict.proofs.KeyOrder.{key_pushed, uid_more}
 use Rattle.vic_verdict.proofs.missing.keys_in_order.Goals as goal
 

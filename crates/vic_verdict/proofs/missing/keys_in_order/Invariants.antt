@@ -1,6 +1,6 @@
 use Rattle.std.proofs.Common.{◌≡◌, ℕ, true, take}
-use Rattle.vic_frame.specs.Uids.{IsUid, has}
-use Rattle.vic_tree.specs.OpenSet.{AreKeys, has_key}
+use Rattle.vic_verdict.proofs.Words.{IsUid, has, has_key}
+use Rattle.vic_tree.specs.OpenSet.{AreKeys}
 use Rattle.vic_verdict.proofs.missing.keys_in_order.Given as goal
 
 abbrev pub invariant-loop-uid : goal.invariant-loop-uid

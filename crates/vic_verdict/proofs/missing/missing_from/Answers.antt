@@ -1,10 +1,6 @@
-use Rattle.std.proofs.Common.{ℕ, Bool, not, cond, take, ap, sym, ◌∙◌, [], ◌∷◌, ◌++◌, arith, subst}
-use Rattle.std.specs.List.{filter}
-use Rattle.std.proofs.lemmas.List.{take_all}
+use Rattle.std.proofs.Common.{ℕ, Bool, not, cond, take, ap, sym, ◌∙◌, [], ◌∷◌, ◌++◌, arith, subst, filter, take_all}
+use Rattle.vic_verdict.proofs.Words.{get_or_default, has, AreBelow}
 use Rattle.std.proofs.lemmas.List.Elements.{filter_more}
-use Rattle.vic_frame.specs.Uids.{has}
-use Rattle.vic_verdict.specs.Merging.{AreBelow}
-use Rattle.vic_verdict.proofs.Failing.{any_default}
 use Rattle.vic_verdict.proofs.Failing.{failing_list}
 use Rattle.vic_verdict.proofs.Merging.{below_next}
 use Rattle.vic_verdict.proofs.missing.missing_from.Goals as goal
@@ -14,7 +10,7 @@ place_from-next-requires-clause-below c =
     let us = c.args.uids.now in
     let i = c.loop-uid.uid-index in
     let u = c.uid-item.result in
-    subst (AreBelow c.args.others.now c.loop-uid.next) (any_default us i 0 u c.loop-uid-test.true ∙ sym c.uid-item.is) (c.loop-uid.invariant.below c.loop-uid-test.true)
+    subst (AreBelow c.args.others.now c.loop-uid.next) (get_or_default us i 0 u c.loop-uid-test.true ∙ sym c.uid-item.is) (c.loop-uid.invariant.below c.loop-uid-test.true)
 
 pub loop-uid-preserved : goal.loop-uid-preserved
 loop-uid-preserved c =

@@ -1,7 +1,5 @@
-use Rattle.std.proofs.Common.{◌≡◌, ◌<◌, ◌≤◌, length, get_or, not, take}
-use Rattle.std.specs.List.{filter}
-use Rattle.vic_frame.specs.Uids.{has}
-use Rattle.vic_verdict.specs.Merging.{AreBelow}
+use Rattle.std.proofs.Common.{◌≡◌, ◌<◌, ◌≤◌, length, get_or, not, take, filter}
+use Rattle.vic_verdict.proofs.Words.{has, AreBelow}
 use Rattle.vic_verdict.proofs.missing.missing_from.Given as goal
 
 abbrev pub invariant-loop-uid : goal.invariant-loop-uid

@@ -1,5 +1,5 @@
 use Rattle.std.proofs.Common.{◌-◌, ◌≤◌, length}
-use Rattle.vic_verdict.specs.Merging.{AreBelow}
+use Rattle.vic_verdict.proofs.Words.{AreBelow}
 use Rattle.vic_verdict.proofs.missing.place_from.Given as goal
 
 abbrev pub invariant-loop-place : goal.invariant-loop-place

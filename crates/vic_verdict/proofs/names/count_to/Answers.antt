@@ -1,6 +1,6 @@
 use Rattle.std.proofs.Common.{◌+◌, ◌-◌, leb, leb-true, leb-false, arith, rules}
+use Rattle.vic_verdict.proofs.Words.{Name}
 use Rattle.std.proofs.lemmas.List.Sorted.{IsPartitionPoint-from_clause, IsPartitionedBy-leb}
-use Rattle.vic_verdict.specs.declared.names.Name.{Name}
 use Rattle.vic_verdict.proofs.Sweeping.{start_here}
 use Rattle.vic_verdict.proofs.names.count_to.Goals as goal
 
@@ -11,8 +11,8 @@ returns c =
     let point = IsPartitionPoint-from_clause (λ (n : Name). leb n.key c.args.last) _ _ c.partition_point.ensures.partitioned parted (λ a r q k. search rules) in
     record {
       within = c.partition_point.ensures.bound;
-      below = λ k d lt. let le = leb-true _ _ (point.0 k d (omega arith) lt) in omega (arith, le);
-      rest = λ k d ge lt. let over = leb-false _ _ (point.1 k d ge lt) in omega (arith, over);
+      below = λ k d lt. let le = leb-true _ _ (point.0 k d (omega arith) lt) in omega arith;
+      rest = λ k d ge lt. let over = leb-false _ _ (point.1 k d ge lt) in omega arith;
     }
 
 pub returns-then-last-names : goal.returns-then-last-names
@@ -21,4 +21,4 @@ returns-then-last-names c =
     let upto = c.loop-count-test.true in
     let end = c.min-count-end.ensures in
     let over = c.if-last-names.true in
-    start_here c.args.names.now (c.args.last + 1) at c.requires (omega (arith, upto, end)) (omega (arith, over)) (λ some. let under = c.loop-count.invariant (at - 1) (omega (arith, some)) in omega (arith, under))
+    start_here c.args.names.now (c.args.last + 1) at c.requires (omega arith) (omega arith) (λ some. let under = c.loop-count.invariant (at - 1) (omega arith) in omega arith)

@@ -1,9 +1,5 @@
-use Rattle.std.proofs.Common.{ℕ, ◌≡◌, ◌≤◌, take}
-use Rattle.std.specs.Prelude.{nat_lt}
-use Rattle.std.specs.List.{list_any}
-use Rattle.vic_verdict.specs.declared.names.Name.{Name}
-use Rattle.vic_verdict.specs.declared.names.TheConstants.{NEVER}
-use Rattle.vic_verdict.specs.Sweep.{quiet_of}
+use Rattle.std.proofs.Common.{ℕ, ◌≡◌, ◌≤◌, take, nat_lt}
+use Rattle.vic_verdict.proofs.Words.{list_any, Name, NEVER, quiet_of}
 use Rattle.vic_verdict.proofs.names.first_quiet.Given as goal
 
 abbrev pub invariant-loop-name : goal.invariant-loop-name

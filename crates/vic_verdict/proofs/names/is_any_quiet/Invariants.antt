@@ -1,7 +1,5 @@
 use Rattle.std.proofs.Common.{◌≡◌, false, take}
-use Rattle.std.specs.List.{list_any}
-use Rattle.vic_frame.specs.LowBitsFirst.{mirror}
-use Rattle.vic_verdict.specs.Sweep.{is_quiet_by}
+use Rattle.vic_verdict.proofs.Words.{list_any, mirror, is_quiet_by}
 use Rattle.vic_verdict.proofs.names.is_any_quiet.Given as goal
 
 abbrev pub invariant-loop-uid : goal.invariant-loop-uid

@@ -1,13 +1,12 @@
-use Rattle.std.proofs.Common.{arith}
-use Rattle.std.proofs.lemmas.Bool.{eqb-true}
-use Rattle.vic_tree.proofs.BoolLaws.{lt_from}
+use Rattle.std.proofs.Common.{arith, eqb-true}
+use Rattle.vic_verdict.proofs.Words.{lt_from}
 use Rattle.vic_verdict.proofs.Sweeping.{start_here}
 use Rattle.vic_verdict.proofs.names.is_start.Goals as goal
 
 pub returns-then-at-eq0 : goal.returns-then-at-eq0
 returns-then-at-eq0 c none =
     let zero = eqb-true c.args.at 0 none in
-    start_here c.args.names.now c.args.first c.args.at c.requires.order c.requires.within c.if-first-names.true (λ some. absurd (omega (arith, zero, some)))
+    start_here c.args.names.now c.args.first c.args.at c.requires.order c.requires.within c.if-first-names.true (λ some. absurd (omega arith))
 
 pub returns-else-at-eq0 : goal.returns-else-at-eq0
 returns-else-at-eq0 c less =

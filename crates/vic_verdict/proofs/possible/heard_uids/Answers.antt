@@ -1,7 +1,5 @@
 use Rattle.std.proofs.Common.{◌+◌, ◌∙◌, ap, sym, subst, Some}
-use Rattle.vic_log.specs.declared.entry.Entry.{Entry}
-use Rattle.vic_log.specs.Order.{entries}
-use Rattle.vic_verdict.specs.Demands.{HasHeard}
+use Rattle.vic_verdict.proofs.Words.{Entry, entries, HasHeard}
 use Rattle.vic_verdict.proofs.Stands.{entry_at}
 use Rattle.vic_verdict.proofs.Meeting.{heard_kept, heard_pushed}
 use Rattle.vic_verdict.proofs.possible.heard_uids.Goals as goal

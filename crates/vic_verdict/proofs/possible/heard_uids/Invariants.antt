@@ -1,5 +1,4 @@
-use Rattle.vic_log.specs.Order.{entries}
-use Rattle.vic_verdict.specs.Demands.{HasHeard}
+use Rattle.vic_verdict.proofs.Words.{entries, HasHeard}
 use Rattle.vic_verdict.proofs.possible.heard_uids.Given as goal
 
 abbrev pub invariant-loop-line : goal.invariant-loop-line

@@ -1,12 +1,5 @@
-use Rattle.std.proofs.Common.{◌≡◌, ◌∙◌, Some, ap, sym, arith, ⊎_elim}
-use Rattle.std.specs.Prelude.{slice_get}
-use Rattle.std.proofs.lemmas.Bool.{cases_eq}
-use Rattle.std.proofs.lemmas.Option.{slice_get_within}
-use Rattle.std.proofs.lemmas.List.{length-map}
-use Rattle.vic_log.specs.declared.entry.LogLine.{LogLine}
-use Rattle.vic_log.specs.declared.entry.Entry.{Entry}
-use Rattle.vic_log.specs.Order.{entries}
-use Rattle.vic_verdict.specs.Possible.{rules_out}
+use Rattle.std.proofs.Common.{◌≡◌, ◌∙◌, Some, ap, sym, arith, ⊎_elim, slice_get}
+use Rattle.vic_verdict.proofs.Words.{cases_eq, slice_get_within, length-map, LogLine, Entry, entries, rules_out}
 use Rattle.vic_verdict.proofs.Stands.{entry_at}
 use Rattle.vic_verdict.proofs.possible.last_ruling.Goals as goal
 use Rattle.vic_verdict.proofs.possible.last_ruling.Goals.{then-rules_out, else-rules_out}
@@ -22,21 +15,21 @@ loop-index-preserved c =
     let here = entry_at lines i l c.loop-index-test.true c.index-lines-index.is ∙ ap (λ (e : Entry). Some e) (sym c.item.ensures) in
     elim c.if-rules_out.branch [
       | then-rules_out w ↦ let last = w.last-is in record {
-        from = omega (arith, from, less, last);
-        before = omega (arith, last);
-        within = let test = c.loop-index-test.true in omega (arith, last, test);
-        after = λ j e above below k. absurd (omega (arith, above, below, last));
+        from = omega arith;
+        before = omega arith;
+        within = let test = c.loop-index-test.true in omega arith;
+        after = λ j e above below k. absurd (omega arith);
       }
       | else-rules_out w ↦ let last = w.last-is in record {
-        from = omega (arith, from, last);
-        before = omega (arith, less, last);
-        within = let within = before.within in omega (arith, within, last);
+        from = omega arith;
+        before = omega arith;
+        within = let within = before.within in omega arith;
         after = λ j e above below k. ⊎_elim
             (λ same.
             let both : Some e ≡ Some c.item.result = sym k ∙ (ap (slice_get (entries lines)) same ∙ here) in
             let it : e ≡ c.item.result = cc in
             ap rules_out it ∙ (sym c.rules_out.ensures ∙ w.if-rules_out.false))
-            (λ other. before.after j e (omega (arith, above, last)) (omega (arith, below, other)) k)
+            (λ other. before.after j e (omega arith) (omega arith) k)
             (cases_eq j i);
       }
     ]
@@ -47,4 +40,4 @@ returns-clause-after c j e above k =
     let within = slice_get_within (entries lines) j e k in
     let long = length-map lines (λ (l : LogLine). l.item) in
     let end = c.loop-index-test.false in
-    c.loop-index.invariant.after j e above (omega (arith, within, long, end)) k
+    c.loop-index.invariant.after j e above (omega arith) k

@@ -1,8 +1,5 @@
-use Rattle.std.proofs.Common.{◌≡◌, ◌≤◌, ◌<◌, false, Some, length, ℕ}
-use Rattle.std.specs.Prelude.{slice_get}
-use Rattle.vic_log.specs.declared.entry.Entry.{Entry}
-use Rattle.vic_log.specs.Order.{entries}
-use Rattle.vic_verdict.specs.Possible.{rules_out}
+use Rattle.std.proofs.Common.{◌≡◌, ◌≤◌, ◌<◌, false, Some, length, ℕ, slice_get}
+use Rattle.vic_verdict.proofs.Words.{Entry, entries, rules_out}
 use Rattle.vic_verdict.proofs.possible.last_ruling.Given as goal
 
 abbrev pub invariant-loop-index : goal.invariant-loop-index

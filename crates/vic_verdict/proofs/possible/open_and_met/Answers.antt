@@ -1,10 +1,5 @@
-use Rattle.std.proofs.Common.{◌∙◌, sym, subst, length, take}
-use Rattle.std.specs.Prelude.{MatchResult}
-use Rattle.std.proofs.lemmas.List.{length-map, length-take-le}
-use Rattle.vic_log.specs.declared.entry.LogLine.{LogLine}
-use Rattle.vic_log.specs.Order.{entries}
-use Rattle.vic_verdict.specs.Demands.{IsMet, AreKept}
-use Rattle.vic_verdict.specs.Possible.{IsPossible, IsContradiction}
+use Rattle.std.proofs.Common.{◌∙◌, sym, subst, length, take, MatchResult, length-take-le}
+use Rattle.vic_verdict.proofs.Words.{length-map, LogLine, entries, IsMet, AreKept, IsPossible, IsContradiction}
 use Rattle.vic_verdict.proofs.Halving.{first_front, first_entries, front_contradiction}
 use Rattle.vic_verdict.proofs.possible.open_and_met.Goals as goal
 

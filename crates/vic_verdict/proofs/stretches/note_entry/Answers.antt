@@ -1,18 +1,10 @@
-use Rattle.std.proofs.Common.{◌≡◌, ◌+◌, ℕ, List, Bool, ⊎_elim, ◌==◌, ◌∙◌, ◌||◌, not, false, true, refl, ap, sym, Option, Some, None, subst, arith}
-use Rattle.std.specs.Prelude.{IfSome, slice_get}
-use Rattle.std.proofs.lemmas.Result.{IfOk-weaker}
-use Rattle.vic_frame.specs.declared.low_bits_first.KeyBlock.{KeyBlock}
-use Rattle.vic_frame.specs.LowBitsFirst.{IsBlock, is_in_some_block, mirror}
-use Rattle.vic_frame.specs.Uids.{IsUid}
-use Rattle.vic_log.specs.declared.entry.Entry.{Entry}
-use Rattle.vic_log.specs.declared.entry.Entry.TheVariants.{Silent, Collision, Garbled, Listed, Heard}
-use Rattle.vic_log.specs.Rounds.{lies_in_some, mask_at}
-use Rattle.vic_verdict.specs.declared.names.Name.{Name}
-use Rattle.vic_verdict.specs.Stretches.{HasGathered}
-use Rattle.vic_verdict.specs.Sweep.{is_named}
+use Rattle.std.proofs.Common.{false, ◌<◌, ◌^◌, ◌≡◌, ◌+◌, ℕ, List, [], ◌∷◌, ◌++◌, inl, inr, ⊎_elim, ◌∙◌, true, refl, ap, sym, Option, Some, None, subst, arith, IfSome, slice_get, append-nil}
+use Rattle.vic_verdict.proofs.Words.{Spot, Demand, wakes, rules_out, needs, IfOk-weaker, KeyBlock, is_in_some_block, mirror, IsUid, Entry, Sent, Silent, Collision, Garbled, Listed, Heard, Reply, lies_in_some, mask_at, Name}
+use Rattle.vic_frame.specs.LowBitsFirst.{IsBlock}
+use Rattle.vic_verdict.specs.inner.Stretches.{HasGathered, name_at, names_at}
 use Rattle.vic_verdict.proofs.Demanding.{asked_nothing, asked_more}
-use Rattle.vic_verdict.proofs.Heard.{outside_reply, nobody_there, heard_more, heard_passed}
-use Rattle.vic_verdict.proofs.Stretching.{named_here, stretch_named, stretch_passed, stretch_spotted, heard_key}
+use Rattle.vic_verdict.proofs.Heard.{outside_reply, nobody_there}
+use Rattle.vic_verdict.proofs.Stretching.{gathered_next, gathered_passed, spot_told}
 use Rattle.vic_verdict.proofs.stretches.note_entry.Goals as goal
 
 pub returns-then-not-is_in_some_block-clause-unfit : goal.returns-then-not-is_in_some_block-clause-unfit
@@ -24,64 +16,47 @@ returns-then-not-is_in_some_block-clause-unfit c es k valid at failed =
     ∙ (ap (is_in_some_block c.keys-keys.result) (sym c.key-heard.ensures.value) ∙ (sym c.is_in_some_block.ensures ∙ c.if-not-is_in_some_block.true))))
 
 pub returns-in_ok-note_sent-in-Sent-clause-gathered : goal.returns-in_ok-note_sent-in-Sent-clause-gathered
-returns-in_ok-note_sent-in-Sent-clause-gathered c es from set k valid at other fits h =
-    c.in_ok-note_sent-in-Sent.ensures es from set c.args.spots.now.items c.args.demands.now.items (k ∙ ap (λ e. Some e) c.in-Sent.is) h
+returns-in_ok-note_sent-in-Sent-clause-gathered c es from k valid at other fits h =
+    let e = Sent c.in-Sent.request in
+    let here = k ∙ ap (λ x. Some x) c.in-Sent.is in
+    let ds = c.args.demands.now.items in
+    gathered_passed es from c.args.index e c.args.names.now.items c.note_sent.new.names.items c.args.spots.now.items ds ds here c.requires refl c.in_ok-note_sent-in-Sent.ensures refl (λ begun. asked_nothing es from c.args.index ds e begun here refl) h
 
 pub returns-in_ok-push_spot-in-Silent-clause-gathered : goal.returns-in_ok-push_spot-in-Silent-clause-gathered
-returns-in_ok-push_spot-in-Silent-clause-gathered c es from set k valid at other fits h =
+returns-in_ok-push_spot-in-Silent-clause-gathered c es from k valid at other fits h =
     let here = k ∙ ap (λ e. Some e) c.in-Silent.is in
     let i = c.args.index in
-    let names = c.args.names.now.items in
-    record {
-      stretch = stretch_spotted es from i set names c.args.spots.now.items c.push_spot.new.spots.items Silent c.keys.result None here c.requires (λ u w. c.keys.ensures.inside es i u valid at w) refl (λ u w. refl) (λ b u w. no b) refl c.in_ok-push_spot-in-Silent.ensures h.stretch;
-      heard = heard_passed es from i names Silent here c.requires (λ r e. cc) refl (λ u w. refl) h.heard;
-      asked = asked_nothing es from i c.args.demands.now.items Silent h.heard.begun here refl h.asked;
-    }
-  where
-    no : (b : Bool) → not b ≡ (not b || false)
-    no true = refl
-    no false = refl
+    let ns = c.args.names.now.items in
+    let ds = c.args.demands.now.items in
+    let spot = spot_told es i Silent c.keys.result None c.args.spots.now.items c.push_spot.new.spots.items (λ u w. c.keys.ensures.inside es i u valid at w) (inl (here, refl)) c.in_ok-push_spot-in-Silent.ensures in
+    gathered_next es from i Silent ns ns c.args.spots.now.items c.push_spot.new.spots.items ds ds here c.requires refl (sym (append-nil ns)) spot (λ r e. absurd (cc)) (λ begun. asked_nothing es from i ds Silent begun here refl) h
 
 pub returns-in_ok-push_spot-in-Heard-clause-gathered : goal.returns-in_ok-push_spot-in-Heard-clause-gathered
-returns-in_ok-push_spot-in-Heard-clause-gathered c es from set k valid at other fits h =
+returns-in_ok-push_spot-in-Heard-clause-gathered c es from k valid at other fits h =
     let r = c.in-Heard.response in
     let here = k ∙ ap (λ e. Some e) c.in-Heard.is in
-    let uid = c.uid.result in
     let i = c.args.index in
-    let names = c.args.names.now.items in
-    let new = c.push_name.new.names.items in
-    let n : Name = record { key = c.key-heard.result; at = i; is_heard = true; left = true } in
+    let ns = c.args.names.now.items in
+    let ds = c.args.demands.now.items in
     let told = c.key-heard.ensures in
-    let pushed = c.in_ok-push_name-in-Heard.ensures in
-    let named = stretch_named es from i set names new c.args.spots.now.items n c.requires told.small refl refl pushed h.stretch in
-    let inside = ap (λ u. lies_in_some (mask_at es i) u) (sym c.uid.ensures.value) ∙ (sym (c.keys-keys.ensures.inside es i uid valid at told.is_uid) ∙ (ap (is_in_some_block c.keys-keys.result) (sym told.value) ∙ (sym c.is_in_some_block.ensures ∙ c.if-not-is_in_some_block.false))) in
-    record {
-      stretch = stretch_spotted es from i set new c.args.spots.now.items c.push_spot-in-Heard.new.spots.items (Heard r) c.keys-keys.result (Some c.key-heard.result) here c.requires (λ u w. c.keys-keys.ensures.inside es i u valid at w) refl (λ u w. refl)
-          (λ b u w. ap (λ x. not b || x) (ap (λ v. u == v) (sym c.uid.ensures.value) ∙ (heard_key uid u told.is_uid w ∙ ap (λ v. v == mirror u) (sym told.value))))
-          (ap (λ ms. is_named ms c.key-heard.result) pushed ∙ named_here names n)
-          c.in_ok-push_spot-in-Heard.ensures named;
-      heard = heard_more es from i names new r n here c.requires (told.value ∙ ap mirror c.uid.ensures.value) (subst IsUid c.uid.ensures.value told.is_uid) refl refl inside pushed h.heard;
-      asked = asked_nothing es from i c.args.demands.now.items (Heard r) h.heard.begun here refl h.asked;
-    }
+    let key : c.key-heard.result ≡ mirror r.uid = told.value ∙ ap mirror c.uid.ensures.value in
+    let is_uid : IsUid r.uid = subst IsUid c.uid.ensures.value told.is_uid in
+    let inside : lies_in_some (mask_at es i) r.uid ≡ true = ap (λ u. lies_in_some (mask_at es i) u) (sym c.uid.ensures.value) ∙ (sym (c.keys-keys.ensures.inside es i c.uid.result valid at told.is_uid) ∙ (ap (is_in_some_block c.keys-keys.result) (sym told.value) ∙ (sym c.is_in_some_block.ensures ∙ c.if-not-is_in_some_block.false))) in
+    let spot = spot_told es i (Heard r) c.keys-keys.result (Some c.key-heard.result) c.args.spots.now.items c.push_spot-in-Heard.new.spots.items (λ u w. c.keys-keys.ensures.inside es i u valid at w) (inr (r, here, is_uid, ap (λ x. Some x) key)) c.in_ok-push_spot-in-Heard.ensures in
+    gathered_next es from i (Heard r) ns c.push_name.new.names.items c.args.spots.now.items c.push_spot-in-Heard.new.spots.items ds ds here c.requires refl
+    (c.in_ok-push_name-in-Heard.ensures ∙ ap (λ x. ns ++ name_at x i true ∷ []) key) spot
+    (λ q e. let same : r ≡ q = cc in subst (λ (x : Reply). IsUid x.uid × (lies_in_some (mask_at es i) x.uid ≡ true)) same (is_uid, inside))
+    (λ begun. asked_nothing es from i ds (Heard r) begun here refl) h
 
-has_block : (o : Option KeyBlock) (b : KeyBlock) → o ≡ Some b → IfSome o (λ r. IsBlock r.first r.len) → IsBlock b.first b.len
-has_block o b e h = subst (λ r. IfSome r (λ s. IsBlock s.first s.len)) e h
+-- a slot that requires tags
+gathered_asked : (es : List Entry) (from i : ℕ) (e : Entry) (need : ℕ) (ns : List Name) (ss : List Spot) (ds cs : List Demand) (keys : Option KeyBlock) → slice_get es i ≡ Some e → i < 2 ^ 32 → wakes (Some e) ≡ false → names_at (Some e) i ≡ [] → rules_out e ≡ false → needs e ≡ need → 0 < need → ((u : ℕ) → IsUid u → is_in_some_block keys (mirror u) ≡ lies_in_some (mask_at es i) u) → IfSome keys (λ b. IsBlock b.first b.len) → (b : KeyBlock) × (keys ≡ Some b) × (cs ≡ ds ++ record { first = b.first; len = b.len; need = need; at = i } ∷ []) → HasGathered es from i ns ss ds → HasGathered es from (i + 1) ns ss cs
+gathered_asked es from i e need ns ss ds cs keys k small awake none open_ needed some inside block more h =
+    gathered_passed es from i e ns ns ss ds cs k small awake (sym (ap (λ xs. ns ++ xs) none ∙ append-nil ns)) open_
+    (λ begun. asked_more es from i ds cs e (record { first = more.0.first; len = more.0.len; need = need; at = i }) begun k needed some (subst (λ o. IfSome o (λ b. IsBlock b.first b.len)) more.1 block) (λ u w. ap (λ o. is_in_some_block o (mirror u)) (sym more.1) ∙ inside u w) refl more.2) h
 
 pub returns-in-Collision-clause-gathered : goal.returns-in-Collision-clause-gathered
-returns-in-Collision-clause-gathered c = IfOk-weaker c.push_demand.result _ _ (λ yes told es from set k valid at other fits h.
-    let here = k ∙ ap (λ e. Some e) c.in-Collision.is in
-    let more = told fits in
-    let i = c.args.index in
-    let names = c.args.names.now.items in
-    let keys = c.keys-in-Collision.ensures in
-    record {
-      stretch = stretch_passed es from i set names c.args.spots.now.items Collision here c.requires refl (λ u w. refl) (λ b u. refl) h.stretch;
-      heard = heard_passed es from i names Collision here c.requires (λ r e. cc) refl (λ u w. refl) h.heard;
-      asked = asked_more es from i c.args.demands.now.items c.push_demand.new.demands.items Collision (record { first = more.0.first; len = more.0.len; need = 2; at = i }) h.heard.begun here refl (omega arith)
-          (has_block c.keys-in-Collision.result more.0 more.1 keys.block)
-          (λ u w. ap (λ o. is_in_some_block o (mirror u)) (sym more.1) ∙ keys.inside es i u valid at w)
-          refl more.2 h.asked;
-    }) c.push_demand.ensures.some
+returns-in-Collision-clause-gathered c = IfOk-weaker c.push_demand.result _ _ (λ yes told es from k valid at other fits h.
+    gathered_asked es from c.args.index Collision 2 _ _ _ _ c.keys-in-Collision.result (k ∙ ap (λ e. Some e) c.in-Collision.is) c.requires refl refl refl refl (omega arith) (λ u w. c.keys-in-Collision.ensures.inside es c.args.index u valid at w) c.keys-in-Collision.ensures.block (told fits) h) c.push_demand.ensures.some
 
 pub returns-in-Collision-clause-unfit : goal.returns-in-Collision-clause-unfit
 returns-in-Collision-clause-unfit c = IfOk-weaker c.push_demand.result _ _ (λ yes told es k valid at failed.
@@ -89,20 +64,8 @@ returns-in-Collision-clause-unfit c = IfOk-weaker c.push_demand.result _ _ (λ y
     (λ u w. sym (c.keys-in-Collision.ensures.inside es c.args.index u valid at w) ∙ ap (λ o. is_in_some_block o (mirror u)) (told failed).0)) c.push_demand.ensures.none
 
 pub returns-in-Garbled-clause-gathered : goal.returns-in-Garbled-clause-gathered
-returns-in-Garbled-clause-gathered c = IfOk-weaker c.push_demand-in-Garbled.result _ _ (λ yes told es from set k valid at other fits h.
-    let here = k ∙ ap (λ e. Some e) c.in-Garbled.is in
-    let more = told fits in
-    let i = c.args.index in
-    let names = c.args.names.now.items in
-    let keys = c.keys-in-Garbled.ensures in
-    record {
-      stretch = stretch_passed es from i set names c.args.spots.now.items Garbled here c.requires refl (λ u w. refl) (λ b u. refl) h.stretch;
-      heard = heard_passed es from i names Garbled here c.requires (λ r e. cc) refl (λ u w. refl) h.heard;
-      asked = asked_more es from i c.args.demands.now.items c.push_demand-in-Garbled.new.demands.items Garbled (record { first = more.0.first; len = more.0.len; need = 1; at = i }) h.heard.begun here refl (omega arith)
-          (has_block c.keys-in-Garbled.result more.0 more.1 keys.block)
-          (λ u w. ap (λ o. is_in_some_block o (mirror u)) (sym more.1) ∙ keys.inside es i u valid at w)
-          refl more.2 h.asked;
-    }) c.push_demand-in-Garbled.ensures.some
+returns-in-Garbled-clause-gathered c = IfOk-weaker c.push_demand-in-Garbled.result _ _ (λ yes told es from k valid at other fits h.
+    gathered_asked es from c.args.index Garbled 1 _ _ _ _ c.keys-in-Garbled.result (k ∙ ap (λ e. Some e) c.in-Garbled.is) c.requires refl refl refl refl (omega arith) (λ u w. c.keys-in-Garbled.ensures.inside es c.args.index u valid at w) c.keys-in-Garbled.ensures.block (told fits) h) c.push_demand-in-Garbled.ensures.some
 
 pub returns-in-Garbled-clause-unfit : goal.returns-in-Garbled-clause-unfit
 returns-in-Garbled-clause-unfit c = IfOk-weaker c.push_demand-in-Garbled.result _ _ (λ yes told es k valid at failed.
@@ -110,18 +73,11 @@ returns-in-Garbled-clause-unfit c = IfOk-weaker c.push_demand-in-Garbled.result 
     (λ u w. sym (c.keys-in-Garbled.ensures.inside es c.args.index u valid at w) ∙ ap (λ o. is_in_some_block o (mirror u)) (told failed).0)) c.push_demand-in-Garbled.ensures.none
 
 pub returns-in-Listed-clause-gathered : goal.returns-in-Listed-clause-gathered
-returns-in-Listed-clause-gathered c es from set k valid at other fits h =
+returns-in-Listed-clause-gathered c es from k valid at other fits h =
     ⊎_elim (λ w. listed w.0 (k ∙ ap (λ e. Some e) w.1)) (λ f. absurd (other f)) c.in-Listed.is
   where
-    i : ℕ
-    i = c.args.index
+    ns : List Name
+    ns = c.args.names.now.items
 
-    names : List Name
-    names = c.args.names.now.items
-
-    listed : (u : ℕ) → slice_get es i ≡ Some (Listed u) → HasGathered es from (i + 1) set names c.args.spots.now.items c.args.demands.now.items
-    listed u here = record {
-      stretch = stretch_passed es from i set names c.args.spots.now.items (Listed u) here c.requires refl (λ v w. refl) (λ b v. refl) h.stretch;
-      heard = heard_passed es from i names (Listed u) here c.requires (λ r e. cc) refl (λ v w. refl) h.heard;
-      asked = asked_nothing es from i c.args.demands.now.items (Listed u) h.heard.begun here refl h.asked;
-    }
+    listed : (u : ℕ) → slice_get es c.args.index ≡ Some (Listed u) → HasGathered es from (c.args.index + 1) ns c.args.spots.now.items c.args.demands.now.items
+    listed u here = gathered_passed es from c.args.index (Listed u) ns ns c.args.spots.now.items c.args.demands.now.items c.args.demands.now.items here c.requires refl (sym (append-nil ns)) refl (λ begun. asked_nothing es from c.args.index c.args.demands.now.items (Listed u) begun here refl) h

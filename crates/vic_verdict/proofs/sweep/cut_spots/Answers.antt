@@ -9,4 +9,4 @@ returns-then-cut-end c = filter_same _ (is_before_place c.args.cut) _ (λ x b f'
 pub returns-else-cut-end : goal.returns-else-cut-end
 returns-else-cut-end c =
     let late = c.if-cut-end.false in
-    sym (before_end c.args.cut c.args.end c.args.spots.now.items (omega (arith, late)) c.requires)
+    sym (before_end c.args.cut c.args.end c.args.spots.now.items (omega arith) c.requires)

@@ -1,6 +1,6 @@
 use Rattle.std.proofs.Common.{◌≡◌, ◌&&◌, ◌∙◌, ℕ, ap, sym, subst, Some, Option}
-use Rattle.vic_verdict.specs.declared.sweep.Run.{Run}
-use Rattle.vic_verdict.specs.Sweep.{first_of, level_leaves, slot_leaves, last_of, keep_all, run_leaves, spot_leaves, mask_leaves, AreInOrder}
+use Rattle.vic_verdict.proofs.Words.{Run, first_of, level_leaves, last_of, keep_all, run_leaves, mask_leaves, AreInOrder}
+use Rattle.vic_verdict.specs.inner.Sweep.{slot_leaves, spot_leaves}
 use Rattle.vic_verdict.proofs.Sweeping.{keep-order, run_first, run_next}
 use Rattle.vic_verdict.proofs.sweep.pass_spot.Goals as goal
 use Rattle.vic_verdict.proofs.sweep.pass_spot.Goals.{in-Some+else-r-first, in_default}

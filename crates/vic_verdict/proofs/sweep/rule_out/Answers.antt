@@ -1,6 +1,5 @@
 use Rattle.std.proofs.Common.{◌≡◌, Bool, ◌&&◌, get_or, arith, sym, ap, ◌∙◌}
-use Rattle.vic_verdict.specs.declared.names.Name.{Name}
-use Rattle.vic_verdict.specs.Sweep.{level_leaves, mask_leaves, quiet_of}
+use Rattle.vic_verdict.proofs.Words.{Name, level_leaves, mask_leaves, quiet_of}
 use Rattle.vic_verdict.proofs.Sweeping.{nobody, ruled_first, ruled_more, ruled_all, outside_below, outside_above, inside}
 use Rattle.vic_verdict.proofs.sweep.rule_out.Goals as goal
 use Rattle.vic_verdict.proofs.sweep.rule_out.Goals.{then-name, else-name}
@@ -18,7 +17,7 @@ loop-i-preserved c =
     let same : n ≡ get_or c.args.names.now c.loop-i.i nobody = c.loop-i.invariant.rest c.loop-i.i (omega arith) in
     let from = c.start_near-start.ensures.rest c.loop-i.i nobody c.loop-i.auto.i c.loop-i-test.true in
     let key = ap (λ (m : Name). m.key) same in
-    let in_mask = inside c.args.first c.args.last c.args.level.now n.key (quiet_of n) (omega (arith, from, key)) c.if-last-name.false in
+    let in_mask = inside c.args.first c.args.last c.args.level.now n.key (quiet_of n) (omega arith) c.if-last-name.false in
     let left : c.if-name.names ≡ (n.left && p n.key (quiet_of n)) = elim c.if-name.branch [
       | then-name w ↦ w.names-is ∙ (w.leaves.ensures ∙ ap (level_leaves c.args.level.now n.key) w.quiet.ensures ∙ sym (ap (λ b. b && p n.key (quiet_of n)) w.if-name.true ∙ in_mask))
       | else-name w ↦ w.names-is ∙ (w.if-name.false ∙ sym (ap (λ b. b && p n.key (quiet_of n)) w.if-name.false))
@@ -32,8 +31,8 @@ returns-then-last-name c =
     let here = ap (λ (n : Name). n.key) (c.loop-i.invariant.rest c.loop-i.i (omega arith)) in
     let up = c.requires c.loop-i.i k nobody ge short in
     let over = c.if-last-name.true in
-    outside_above c.args.first c.args.last c.args.level.now _ _ (omega (arith, here, up, over)))
+    outside_above c.args.first c.args.last c.args.level.now _ _ (omega arith))
 
 pub returns : goal.returns
 returns c =
-    ruled_all (mask_leaves c.args.first c.args.last c.args.level.now) c.args.names.now c.loop-i.names c.loop-i.i c.loop-i.invariant (λ k ge short. absurd (omega (arith, c.loop-i-test.false, ge, short)))
+    ruled_all (mask_leaves c.args.first c.args.last c.args.level.now) c.args.names.now c.loop-i.names c.loop-i.i c.loop-i.invariant (λ k ge short. absurd (omega (arith, c.loop-i-test.false)))

@@ -1,4 +1,4 @@
-use Rattle.vic_verdict.specs.Sweep.{mask_leaves}
+use Rattle.vic_verdict.proofs.Words.{mask_leaves}
 use Rattle.vic_verdict.proofs.Sweeping.{IsRuled}
 use Rattle.vic_verdict.proofs.sweep.rule_out.Given as goal
 

@@ -1,7 +1,5 @@
-use Rattle.std.proofs.Common.{◌∙◌, ap, get_or, sym, Option}
-use Rattle.std.proofs.lemmas.List.{get_or_default, take_all}
-use Rattle.vic_verdict.specs.declared.sweep.Run.{Run}
-use Rattle.vic_verdict.specs.Sweep.{keep_all, run_leaves, all_leave}
+use Rattle.std.proofs.Common.{◌∙◌, ap, get_or, sym, Option, take_all}
+use Rattle.vic_verdict.proofs.Words.{get_or_default, Run, keep_all, run_leaves, all_leave}
 use Rattle.vic_verdict.proofs.Sweeping.{nowhere, runs_more, keep_none}
 use Rattle.vic_verdict.proofs.sweep.rule_out_all.Goals as goal
 

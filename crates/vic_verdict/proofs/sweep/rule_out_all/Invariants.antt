@@ -1,6 +1,6 @@
-use Rattle.std.proofs.Common.{◌≡◌, take}
-use Rattle.std.specs.Prelude.{IfSome}
-use Rattle.vic_verdict.specs.Sweep.{keep_all, run_leaves, all_leave, AreInOrder, IsLevel}
+use Rattle.std.proofs.Common.{◌≡◌, take, IfSome}
+use Rattle.vic_verdict.proofs.Words.{keep_all, run_leaves, all_leave, AreInOrder}
+use Rattle.vic_verdict.specs.inner.Sweep.{IsLevel}
 use Rattle.vic_verdict.proofs.sweep.rule_out_all.Given as goal
 
 abbrev pub invariant-loop-spot : goal.invariant-loop-spot

@@ -1,15 +1,9 @@
-use Rattle.std.proofs.Common.{◌≡◌, ℕ, ◌∙◌, ◌&&◌, ◌++◌, not, refl, ap, sym, subst, rules, length, take, filter, List}
+use Rattle.std.proofs.Common.{◌≡◌, ℕ, ◌∙◌, ◌&&◌, ◌++◌, not, refl, ap, sym, subst, rules, length, take, filter, List, All}
+use Rattle.vic_verdict.proofs.Words.{All-permutation, mirror, Name, Spot, all_allow, all_hear_named, keep_all, all_leave, AreInOrder, in_ranges, Closes, is_in_some, IsFirstQuietReply}
 use Rattle.std.proofs.lemmas.List.Elements.{All-filter}
-use Rattle.std.specs.List.{All}
-use Rattle.std.proofs.lemmas.List.Sorted.{IsNonDecreasingBy-from_sort_by_key, All-permutation}
-use Rattle.vic_frame.specs.LowBitsFirst.{mirror}
-use Rattle.vic_verdict.specs.declared.names.Name.{Name}
-use Rattle.vic_verdict.specs.declared.closed.Spot.{Spot}
-use Rattle.vic_verdict.specs.Sweep.{all_allow, all_hear_named, keep_all, all_leave, AreInOrder, HasRange}
+use Rattle.std.proofs.lemmas.List.Sorted.{IsNonDecreasingBy-from_sort_by_key}
+use Rattle.vic_verdict.specs.inner.Sweep.{HasRange}
 use Rattle.vic_verdict.proofs.Sweeping.{keep-length, keep-order, written, covered_allowed, left_permuted, named_permuted, allow_permuted, is_before_place, allow_filtered, named_filtered}
-use Rattle.vic_tree.specs.Ranges.{in_ranges}
-use Rattle.vic_verdict.specs.Closed.{Closes, is_in_some}
-use Rattle.vic_verdict.specs.Replies.{IsFirstQuietReply}
 use Rattle.vic_verdict.proofs.Closing.{outside_closed}
 use Rattle.vic_verdict.proofs.Heard.{first_permuted}
 use Rattle.vic_verdict.proofs.Silencing.{put_in_order}

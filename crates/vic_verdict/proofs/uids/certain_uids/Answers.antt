@@ -1,5 +1,5 @@
 use Rattle.std.proofs.Common.{◌≡◌, ◌<◌, ◌≤◌, ◌∙◌, sym, subst, List, length, get_or}
-use Rattle.vic_verdict.specs.declared.demands.Found.{Found}
+use Rattle.vic_verdict.proofs.Words.{Found}
 use Rattle.vic_verdict.proofs.Meeting.{certain_first, certain_more, certain_all}
 use Rattle.vic_verdict.proofs.uids.certain_uids.Goals as goal
 

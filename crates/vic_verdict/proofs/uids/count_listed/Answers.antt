@@ -1,8 +1,5 @@
-use Rattle.std.proofs.Common.{◌≡◌, Some, length, take, refl, ap, ◌∙◌, arith, add-one, [], ◌∷◌}
-use Rattle.std.specs.Prelude.{slice_get}
-use Rattle.std.proofs.lemmas.List.{length-append}
-use Rattle.std.proofs.lemmas.Option.{slice_get_read}
-use Rattle.vic_log.specs.Order.{entries, listed}
+use Rattle.std.proofs.Common.{◌≡◌, Some, length, take, refl, ap, ◌∙◌, arith, add-one, [], ◌∷◌, slice_get, length-append}
+use Rattle.vic_verdict.proofs.Words.{slice_get_read, entries, listed}
 use Rattle.vic_verdict.proofs.Listing.{listed_more, number_above}
 use Rattle.vic_verdict.proofs.uids.count_listed.Goals as goal
 

@@ -1,5 +1,5 @@
 use Rattle.std.proofs.Common.{◌≡◌, ◌≤◌, take, length}
-use Rattle.vic_log.specs.Order.{entries, listed}
+use Rattle.vic_verdict.proofs.Words.{entries, listed}
 use Rattle.vic_verdict.proofs.uids.count_listed.Given as goal
 
 abbrev pub invariant-loop-line : goal.invariant-loop-line

@@ -1,11 +1,5 @@
-use Rattle.std.proofs.Common.{◌≡◌, Some, length, take, refl, sym, ap, ◌∙◌, add-one, ⊎_elim, ◌++◌, [], ◌∷◌}
-use Rattle.std.specs.Prelude.{nat_eq, slice_get}
-use Rattle.std.specs.List.{list_any}
-use Rattle.std.proofs.lemmas.Bool.{or_cases}
-use Rattle.std.proofs.lemmas.List.Folds.{list_any-append}
-use Rattle.std.proofs.lemmas.Option.{slice_get_read}
-use Rattle.vic_frame.specs.Uids.{has}
-use Rattle.vic_log.specs.Order.{entries, listed}
+use Rattle.std.proofs.Common.{◌≡◌, Some, length, take, refl, sym, ap, ◌∙◌, add-one, ⊎_elim, ◌++◌, [], ◌∷◌, nat_eq, slice_get}
+use Rattle.vic_verdict.proofs.Words.{list_any, or_cases, list_any-append, slice_get_read, has, entries, listed}
 use Rattle.vic_verdict.proofs.Listing.{listed_more}
 use Rattle.vic_verdict.proofs.uids.listed_uids.Goals as goal
 

@@ -1,6 +1,5 @@
 use Rattle.std.proofs.Common.{◌≡◌, ℕ, take, true}
-use Rattle.vic_frame.specs.Uids.{IsUid, has}
-use Rattle.vic_log.specs.Order.{entries, listed}
+use Rattle.vic_verdict.proofs.Words.{IsUid, has, entries, listed}
 use Rattle.vic_verdict.proofs.uids.listed_uids.Given as goal
 
 abbrev pub invariant-loop-line : goal.invariant-loop-line

@@ -1,12 +1,9 @@
 use Rattle.std.proofs.Common.{◌≡◌, ◌^◌, ◌<◌, ℕ, refl, sym, ap, ◌∙◌, subst}
+use Rattle.vic_verdict.proofs.Words.{is_in_block, is_between, Name, has_where}
 use Rattle.std.specs.List.Sorted.{IsNonDecreasing}
 use Rattle.std.proofs.lemmas.List.Elements.{All-map}
-use Rattle.vic_frame.specs.LowBitsFirst.{is_in_block}
 use Rattle.vic_tree.specs.OpenSet.{AreKeys}
-use Rattle.vic_tree.specs.Ranges.{is_between}
-use Rattle.vic_verdict.specs.declared.names.Name.{Name}
-use Rattle.vic_verdict.specs.Answering.{is_awake}
-use Rattle.vic_verdict.specs.Sweep.{has_where}
+use Rattle.vic_verdict.specs.inner.Answering.{is_awake}
 use Rattle.vic_verdict.proofs.Ready.{both_answering, keys_order, keys_part, named_in}
 use Rattle.vic_verdict.proofs.answering.Known.answering.Goals as goal
 

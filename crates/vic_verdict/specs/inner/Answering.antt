@@ -10,7 +10,7 @@ use Rattle.vic_tree.specs.Ranges.{is_between}
 use Rattle.vic_verdict.specs.declared.names.Name.{Name}
 use Rattle.vic_verdict.specs.declared.answering.Unnamed.{Unnamed}
 use Rattle.vic_verdict.specs.declared.answering.Known.{Known}
-use Rattle.vic_verdict.specs.Sweep.{AreInOrder, HaveKeys, has_where, is_named, is_quiet_by, quiet_of}
+use Rattle.vic_verdict.specs.inner.Sweep.{AreInOrder, HaveKeys, has_where, is_named, is_quiet_by, quiet_of}
 
 -- a UID of a set has a key in the block, and isn't Quiet at position i by the names
 abbrev pub is_answering : (ℕ → Bool) → List Name → KeyBlock → ℕ → ℕ → Bool
@@ -32,7 +32,8 @@ IsUnnamed set ns m = UpToThree (is_unnamed set ns m.first m.last) m.uids.items
 
 -- the list has those keys of the block that have a name
 abbrev pub HasNamedIn : List Name → KeyBlock → List ℕ → Type 0
-HasNamedIn ns b keys = (k : ℕ) → is_in_block b.first b.len k ≡ true → has keys k ≡ is_named ns k
+HasNamedIn ns b keys =
+    (k : ℕ) → is_in_block b.first b.len k ≡ true → has keys k ≡ is_named ns k
 
 -- the UID is in the list, and has a key from `first` to `last`
 abbrev pub HasInside : List ℕ → ℕ → ℕ → ℕ → Type 0

@@ -4,7 +4,7 @@ use Rattle.std.specs.List.{list_any}
 use Rattle.vic_tree.specs.Ranges.{in_ranges, is_between}
 use Rattle.vic_verdict.specs.declared.closed.Spot.{Spot}
 use Rattle.vic_verdict.specs.declared.names.Name.{Name}
-use Rattle.vic_verdict.specs.Sweep.{is_in, has_left}
+use Rattle.vic_verdict.specs.inner.Sweep.{is_in, has_left}
 
 -- the key is in the mask of one of the slots
 abbrev pub is_in_some : List Spot → ℕ → Bool

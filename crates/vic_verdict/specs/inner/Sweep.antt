@@ -129,6 +129,14 @@ all_hear_named ns spots = list_all (hears_named ns) spots
 abbrev pub are_left : List Name → Bool
 are_left ns = list_all (λ n. n.left) ns
 
+-- all names are left, and the slots, whose masks are ranges of keys, are before a position; a key
+-- that one of them heard is named
+pub record AreUnsettled (ns : List Name) (ss : List Spot) (end : ℕ) : Type 0 where
+  pub left : are_left ns ≡ true
+  pub before : All (λ (s : Spot). s.at < end) ss
+  pub ranges : All HasRange ss
+  pub named : all_hear_named ns ss ≡ true
+
 -- the names are in the order of their keys
 abbrev pub AreInOrder : List Name → Type 0
 AreInOrder ns = IsNonDecreasingBy (λ (n : Name). n.key) ns

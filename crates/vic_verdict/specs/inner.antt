@@ -1,0 +1,9 @@
+-- Definitions that private contracts alone cite.
+pub mod Merging
+pub mod Sweep
+pub mod Closed
+pub mod Replies
+pub mod Answering
+pub mod Asked
+pub mod Stretches
+pub mod Gathered
