@@ -43,6 +43,7 @@ impl<'a> NamedFile<'a> {
 impl<'a> Read for NamedFile<'a> {
     fn read(&mut self, buf: &mut [u8]) -> io::Result<usize> {
         if let FileState::Unread = self.state {
+            // stays so if the next line fails
             self.state = FileState::CannotOpen;
             self.state = FileState::Open(fs::open(self.rt, self.name)?);
         }
