@@ -2,13 +2,12 @@
 use Rattle.std.proofs.Common.{◌≡◌, ℕ, List, [], ◌∷◌, ◌++◌, ap, append_assoc, append-nil, arith, slice_index, refl, subst, sym, ◌∙◌, codes, decimal, Option, Some, None, MatchOption}
 use Rattle.std.specs.List.{flat_map}
 use Rattle.std.specs.Option.{option_map}
-use Rattle.vic_frame.specs.Masks.{BitMask}
 use Rattle.vic_log.specs.Log.{LogValue}
 use Rattle.vic_log.specs.Lines.{lines_of_text}
 use Rattle.vic_log.specs.Text.{IsLogOf}
 use Rattle.vic_log.specs.declared.entry.Entry.{Entry}
 use Rattle.vic_log.specs.declared.entry.LogLine.{LogLine}
-use Rattle.vic_report.specs.Reports.{IsReport, AreNone, first_finding, verdict_of}
+use Rattle.vic_report.specs.Reports.{IsReport, first_finding, verdict_of}
 use Rattle.vic_report.specs.Findings.{uids_of}
 use Rattle.vic_report.specs.declared.findings.Unsettled.{Unsettled as LeftToAsk}
 use Rattle.vic_report.specs.declared.reporting.LogReport.{LogReport}

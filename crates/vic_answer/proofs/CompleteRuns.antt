@@ -1,9 +1,11 @@
 -- A run that wrote `complete ` has read a complete text.
-use Rattle.std.proofs.Common.{◌≡◌, ℕ, Bool, true, List, ◌++◌, Option, Some, None, Result, Ok, Err, inl, inr, subst, sym, ◌∙◌, codes}
+use Rattle.std.proofs.Common.{◌≡◌, ℕ, Bool, List, ◌++◌, Option, Some, None, Result, Ok, Err, inl, inr, subst, sym, ◌∙◌}
 use Rattle.std.proofs.lemmas.List.{append_cancel_left}
 use Rattle.std.specs.Io.KnownBytes.{Appends}
+use Rattle.vic_log.specs.Lines.{lines_of_text}
+use Rattle.vic_log.specs.Log.{LogValue}
+use Rattle.vic_log.specs.Text.{IsLogOf}
 use Rattle.vic_log.proofs.One.{not_both}
-use Rattle.vic_answer.specs.CheckText.{IsCompleteText}
 use Rattle.vic_answer.specs.CompleteRun.{IsCompleteWhereSaid, IsCompleteWhereWritten}
 use Rattle.vic_answer.specs.Runs.{IsEnough, Runs, RunsOver}
 use Rattle.vic_answer.specs.declared.status.RunFault.{RunFault}
@@ -18,10 +20,10 @@ answer_taken (Some xs) (Some ys) before after answer was now h =
     let e : before ++ after ≡ before ++ answer = cc (h, was, now) in
     append_cancel_left before after answer e
 
--- a complete text has no fault, so no more bytes follow
-over : (IsOver : Type 0) (text : List ℕ) (count : ℕ) → IsCompleteText text count → IsEnough IsOver text → IsOver
-over IsOver text count complete (inl is_over) = is_over
-over IsOver text count complete (inr early) = absurd (not_both _ _ _ _ early.early.fault complete.is_log)
+-- a text that has a log has no fault, so no more bytes follow
+pub over : (IsOver : Type 0) (text : List ℕ) (log : LogValue) → IsLogOf (lines_of_text text) log → IsEnough IsOver text → IsOver
+over IsOver text log is_log (inl is_over) = is_over
+over IsOver text log is_log (inr early) = absurd (not_both _ _ _ _ early.early.fault is_log)
 
 module _ (IsAnswerTo : List ℕ → List ℕ → Status → Type 0) (tell : TellComplete IsAnswerTo) where
   pub complete_where_said : (left left' taken taken' : Option (List ℕ)) (r : Result Status RunFault)
@@ -30,7 +32,7 @@ module _ (IsAnswerTo : List ℕ → List ℕ → Status → Type 0) (tell : Tell
   complete_where_said left left' taken taken' (Ok status) h = λ before rest was now.
       let answer_is = answer_taken taken taken' before _ h.answer was now h.written in
       let told = tell h.text rest status (subst (λ a. IsAnswerTo h.text a status) (sym answer_is) h.right) in
-      record { text = h.text; given = h.given; ended = over _ h.text told.count told.complete h.enough; count = told.count; complete = told.complete; told = told.told }
+      record { text = h.text; given = h.given; ended = over _ h.text told.complete.log told.complete.is_log h.enough; count = told.count; complete = told.complete; told = told.told }
 
   pub complete_where_written : (returned returned' : List ℕ) (ended : Bool) (written written' : List ℕ) (r : Result Status RunFault)
       → RunsOver IsAnswerTo returned returned' ended written written' r → IsCompleteWhereWritten returned returned' ended written written' r
@@ -38,4 +40,4 @@ module _ (IsAnswerTo : List ℕ → List ℕ → Status → Type 0) (tell : Tell
   complete_where_written returned returned' ended written written' (Ok status) h = λ rest now.
       let answer_is = append_cancel_left written _ h.answer (sym now ∙ h.written) in
       let told = tell h.text rest status (subst (λ a. IsAnswerTo h.text a status) (sym answer_is) h.right) in
-      record { text = h.text; read = h.given; over = over _ h.text told.count told.complete h.enough; count = told.count; complete = told.complete; told = told.told }
+      record { text = h.text; read = h.given; over = over _ h.text told.complete.log told.complete.is_log h.enough; count = told.count; complete = told.complete; told = told.told }

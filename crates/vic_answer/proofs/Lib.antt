@@ -4,6 +4,7 @@ mod CompleteRuns
 mod Standing
 mod Waiting
 mod Numbered
+mod Turns
 mod SpelledWords
 mod SpellLaws
 mod SpellOnly

@@ -1,6 +1,7 @@
 -- What a list and logs say together, text by text.
 use Rattle.std.proofs.Common.{◌≡◌, ℕ, zero, suc, List, [], ◌∷◌, ◌++◌, take, length, get_or, map, Some, None, Option, codes, refl, sym, ap, subst, ◌∙◌, arith}
-use Rattle.std.specs.Prelude.{decimal, slice_get}
+use Rattle.std.specs.Prelude.{IfOk, OnOk, Result, Ok, Err, decimal, slice_get}
+use Rattle.vic_log.specs.Device.{HasWrittenPrefix}
 use Rattle.std.specs.List.{All, AllZip, flat_map}
 use Rattle.std.proofs.lemmas.List.{append_cancel_left, length-map, map-append}
 use Rattle.std.proofs.lemmas.List.Elements.{All-cons, All-head, All-nil, All-tail}
@@ -23,10 +24,16 @@ use Rattle.vic_reconcile.proofs.Joins.{get_end, zip_long, zip_push}
 use Rattle.vic_reconcile.proofs.Reconciling.{none_is_whole}
 use Rattle.vic_answer.specs.declared.ending.Ending.{Ending}
 use Rattle.vic_answer.specs.declared.ending.Ending.TheVariants.{ListRefusedAt, NotListedAt, RefusedAt, ImpossibleAt}
+use Rattle.vic_answer.specs.declared.reconcile.Reconciling.{Reconciling}
+use Rattle.vic_answer.specs.declared.reconcile.Reconciling.TheVariants as state
 use Rattle.vic_answer.specs.declared.reconcile.Reconciled.{Reconciled}
 use Rattle.vic_answer.specs.declared.reconcile.Reconciled.TheVariants.{Complete, Found, Ended}
+use Rattle.vic_answer.specs.declared.status.RunFault.{RunFault}
+use Rattle.vic_answer.specs.declared.status.RunFault.TheVariants.{Read, Write, Memory}
+use Rattle.vic_answer.specs.declared.status.Status.{Status}
+use Rattle.vic_answer.specs.ReconcileRun.{AllGoing, AllRead, WritesAnswer}
 use Rattle.vic_answer.specs.Reconciled.{AreComplete, EndsAt, HasLog, HasPossibleLog, IsKept, IsReconciled, lines_of}
-use Rattle.vic_answer.specs.ReconcileText.{absent_line, doubtful_text, ending_text, findings_text, reconciled_text, unlisted_text, unsettled_text}
+use Rattle.vic_answer.specs.ReconcileText.{absent_line, doubtful_text, ending_text, findings_text, reconciled_status, reconciled_text, unlisted_text, unsettled_text}
 
 -- one log more is kept
 pub kept_more : (list text : List ℕ) (texts : List (List ℕ)) (log : LogValue) (old new : Reconciliation) (k : IsKept list texts old) → HasLog text log
@@ -134,3 +141,26 @@ complete_written file names (Found f) list texts old new rest right wrote now =
 complete_written file names (Ended e) list texts old new rest right wrote now =
     let same = append_cancel_left old (codes "complete " ++ rest) (ending_text file names e) (sym now ∙ wrote) in
     absurd (ending_begins file names e rest (sym same))
+
+-- ---- all logs were read
+
+pub answered_all : (r : Reconciling) (a : Reconciled) (logs texts : ℕ) → AllGoing r logs texts → ((e : Ending) → r ≡ state.Ended e → a ≡ Ended e) → AllRead a logs texts
+answered_all (state.Going j) (Complete count) logs texts all ended = all
+answered_all (state.Going j) (Found f) logs texts all ended = all
+answered_all (state.Going j) (Ended e) logs texts all ended = tt
+answered_all (state.Ended e) a logs texts all ended = subst (λ x. AllRead x logs texts) (sym (ended e refl)) tt
+
+-- where what was written begins as a complete answer does
+pub all_where_complete : (file : List ℕ) (names : List (List ℕ)) (r : Reconciled) (old new rest : List ℕ) (logs texts : ℕ) → new ≡ old ++ reconciled_text file names r → new ≡ old ++ (codes "complete " ++ rest) → AllRead r logs texts → texts ≡ logs
+all_where_complete file names (Complete count) old new rest logs texts wrote now all = all
+all_where_complete file names (Found f) old new rest logs texts wrote now all = all
+all_where_complete file names (Ended e) old new rest logs texts wrote now all =
+    let same = append_cancel_left old (codes "complete " ++ rest) (ending_text file names e) (sym now ∙ wrote) in
+    absurd (ending_begins file names e rest (sym same))
+
+pub writes_answer : (IsRight : Reconciled → Type 0) (file : List ℕ) (names : List (List ℕ)) (a : Reconciled) (old new : List ℕ) (result : Result Status RunFault) → IsRight a
+    → IfOk result (λ s. s ≡ reconciled_status a) → OnOk result (new ≡ old ++ reconciled_text file names a) → HasWrittenPrefix old new (reconciled_text file names a) → WritesAnswer IsRight file names old new result
+writes_answer IsRight file names a old new (Ok s) right status wrote part = (a, right, status, wrote)
+writes_answer IsRight file names a old new (Err Write) right status wrote part = (a, right, part)
+writes_answer IsRight file names a old new (Err Read) right status wrote part = tt
+writes_answer IsRight file names a old new (Err Memory) right status wrote part = tt

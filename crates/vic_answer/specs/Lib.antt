@@ -18,3 +18,4 @@ pub mod FindingNumbers
 pub mod ReconcileText
 pub mod Reconciled
 pub mod Tasks
+pub mod ReconcileRun

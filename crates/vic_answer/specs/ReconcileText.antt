@@ -30,20 +30,14 @@ with_name before names k = before ++ name_of names k ++ codes "\n"
 
 -- ---- what stands before a name
 
-abbrev pub by_line_of : ℕ → List ℕ
-by_line_of n = codes "by line " ++ decimal n ++ codes " of "
+abbrev pub line_of : List ℕ → ℕ → List ℕ
+line_of words n = words ++ decimal n ++ codes " of "
 
 abbrev pub open_in : BitMask → List ℕ
 open_in m = codes "open " ++ decimal m.len ++ codes " " ++ value_text m ++ codes " in "
 
 abbrev pub doubtful_in : ℕ → List ℕ
 doubtful_in u = codes "doubtful " ++ uid_text u ++ codes " in "
-
-abbrev pub impossible_of : ℕ → List ℕ
-impossible_of n = codes "impossible at line " ++ decimal n ++ codes " of "
-
-abbrev pub refused_of : ℕ → List ℕ
-refused_of n = codes "refused at line " ++ decimal n ++ codes " of "
 
 -- ---- the findings
 
@@ -54,7 +48,8 @@ absent_line u = verdict_line (Absent u)
 -- a UID that is somewhere and isn't expected, and a line that shows it
 abbrev pub unlisted_text : List (List ℕ) → UnlistedUid → List ℕ
 unlisted_text names s =
-    verdict_line (Unlisted s.uid) ++ with_name (by_line_of s.place.line) names s.place.log
+    verdict_line (Unlisted s.uid)
+    ++ with_name (line_of (codes "by line ") s.place.line) names s.place.log
 
 -- the open masks of log k, and that there are more
 abbrev pub open_text : List (List ℕ) → ℕ → BitMask → List ℕ
@@ -92,15 +87,20 @@ findings_text names f =
 
 -- ---- the complete text
 
+-- the line of the first fault of a text
+abbrev pub refused_text : ℕ → List ℕ → List ℕ → List ℕ
+refused_text n name reason =
+    line_of (codes "refused at line ") n ++ name ++ codes ": " ++ reason ++ codes "\n"
+
 -- where it ended: the first text that is refused or impossible
 abbrev pub ending_text : List ℕ → List (List ℕ) → Ending → List ℕ
 ending_text list_name names (ListRefusedAt n fault) =
-    refused_of n ++ list_name ++ codes ": " ++ line_fault_name fault ++ codes "\n"
-ending_text list_name names (NotListedAt n) =
-    refused_of n ++ list_name ++ codes ": " ++ codes "NotListed" ++ codes "\n"
+    refused_text n list_name (line_fault_name fault)
+ending_text list_name names (NotListedAt n) = refused_text n list_name (codes "NotListed")
 ending_text list_name names (RefusedAt k n fault) =
-    refused_of n ++ name_of names k ++ codes ": " ++ line_fault_name fault ++ codes "\n"
-ending_text list_name names (ImpossibleAt k n) = with_name (impossible_of n) names k
+    refused_text n (name_of names k) (line_fault_name fault)
+ending_text list_name names (ImpossibleAt k n) =
+    with_name (line_of (codes "impossible at line ") n) names k
 
 abbrev pub reconciled_text : List ℕ → List (List ℕ) → Reconciled → List ℕ
 reconciled_text list_name names (Complete count) = verdict_line (verdict.Complete count)

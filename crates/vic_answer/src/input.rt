@@ -25,6 +25,7 @@ pub(crate) fn read_source<R: Source>(alloc: Global, source: &mut R) -> Result<Re
     ensures works { OnOk result (R.has_failed source.new ≡ false) }
     ensures read { IfErr result (λ e.
         (e ≡ RunFault.Read) ↔ (R.has_failed source.new ≡ true)) }
+    ensures fault { IfErr result (λ e. e ≢ RunFault.Write) }
     ensures untouched { R.has_failed source.old ≡ true → source.new ≡ source.old }
     ensures reads { R.reads source.new ≤ R.reads source.old + MAX_READS }
 {

@@ -17,6 +17,7 @@ mod pieces;
 mod population;
 mod reconcile;
 mod reconcile_lines;
+mod reconcile_run;
 mod report;
 mod report_lines;
 mod simulate;
@@ -37,6 +38,7 @@ pub use population::put_population;
 pub use reconcile::{
     Reconciled, Reconciling, read_expected, read_next, reconciled_answer, write_reconciled,
 };
+pub use reconcile_run::run_reconcile;
 pub use report::{Reported, report_text, reported_answer, run_report};
 pub use simulate::{Simulation, run_simulate, simulate_text};
 pub use spell::{SpellFault, run_spell};

@@ -6,6 +6,7 @@ ghost use Rattle.vic_log.specs.Device.{HasWrittenPrefix};
 ghost use Rattle.vic_answer.specs.Readings.{IsReading};
 ghost use Rattle.vic_answer.specs.Reconciled.{AreComplete, IsKept, IsReconciled, IsReconciling, ReadsText};
 ghost use Rattle.vic_answer.specs.ReconcileText as spec;
+ghost use Rattle.vic_answer.specs.declared.ending.Ending.{Ending as EndingValue};
 ghost use Rattle.vic_answer.specs.declared.status.RunFault.TheVariants.{Write};
 
 use crate::ending::Ending;
@@ -41,8 +42,9 @@ pub enum Reconciled {
 
 /// Reads the list of what is expected from a source.
 pub fn read_expected<R: Source>(alloc: Global, source: &mut R) -> Result<Reconciling, RunFault>
-    ensures { IfOk result (λ r. ReadsText (R.returned source.old) (R.returned source.new)
+    ensures text { IfOk result (λ r. ReadsText (R.returned source.old) (R.returned source.new)
         (R.ended source.new) (λ text. IsReconciling text [] r)) }
+    ensures fault { IfErr result (λ e. e ≢ Write) }
 {
     let reading = read_source(alloc, source)?;
     Ok(begin(alloc, reading)?)
@@ -71,9 +73,10 @@ pub fn read_next<R: Source>(
     joined: Reconciliation,
     source: &mut R,
 ) -> Result<Reconciling, RunFault>
-    ensures { IfOk result (λ r. ReadsText (R.returned source.old) (R.returned source.new)
+    ensures text { IfOk result (λ r. ReadsText (R.returned source.old) (R.returned source.new)
         (R.ended source.new) (λ text. (list : List ℕ) (texts : List (List ℕ))
         → IsKept list texts joined → IsReconciling list (texts ++ text ∷ []) r)) }
+    ensures fault { IfErr result (λ e. e ≢ Write) }
 {
     let reading = read_source(alloc, source)?;
     Ok(join(joined, reading)?)
@@ -102,8 +105,10 @@ fn join(joined: Reconciliation, reading: Reading) -> Result<Reconciling, AllocEr
 
 /// The answer to what was read.
 pub fn reconciled_answer(reconciling: &Reconciling) -> Result<Reconciled, AllocError>
-    ensures { IfOk result (λ r. (list : List ℕ) (texts : List (List ℕ))
+    ensures answer { IfOk result (λ r. (list : List ℕ) (texts : List (List ℕ))
         → IsReconciling list texts reconciling.now → IsReconciled list texts r) }
+    ensures ended { IfOk result (λ r. (e : EndingValue)
+        → reconciling.now ≡ Reconciling.Ended e → r ≡ Reconciled.Ended e) }
 {
     match reconciling {
         Reconciling::Going(joined) => {

@@ -1,6 +1,6 @@
 //! The lines of `reconcile`, which name files.
 
-ghost use Rattle.std.specs.Prelude.{◌≡◌, ◌≤◌, ◌++◌, IfOk, OnOk, codes, decimal, length, map, string_bytes};
+ghost use Rattle.std.specs.Prelude.{◌≡◌, ◌≤◌, ◌++◌, IfOk, OnOk, length, map, string_bytes};
 ghost use Rattle.std.specs.List.{flat_map};
 ghost use Rattle.arrayvec.specs.ArrayVec.{array_vec_len};
 ghost use Rattle.vic_answer.specs.ReconcileText as spec;
@@ -28,7 +28,7 @@ fn name_of(names: &[String], log: usize) -> &str
 /// What stands before the name of a file whose line is meant: words, and the number of the line.
 fn line_of(words: &str, line: u32) -> Text
     requires { length words.now ≤ 32 }
-    ensures { result.items ≡ words.now ++ (decimal line ++ codes " of ") }
+    ensures { result.items ≡ spec.line_of words.now line }
 {
     let mut text = ArrayVec::new();
     put(&mut text, words);
@@ -209,8 +209,7 @@ pub(crate) fn findings_text(
 
 /// Adds the end of the line of a refusal, which begins with the number of a line.
 fn refused_text(alloc: Global, line: u32, file: &str, reason: &str) -> Result<Vec<u8>, AllocError>
-    ensures { IfOk result (λ text. text.items
-        ≡ spec.refused_of line ++ file.now ++ codes ": " ++ reason.now ++ codes "\n") }
+    ensures { IfOk result (λ text. text.items ≡ spec.refused_text line file.now reason.now) }
 {
     let mut text = Vec::from_slice(alloc, line_of("refused at line ", line).as_slice())?;
     text.extend_from_slice(file.as_bytes())?;

@@ -18,7 +18,7 @@ use Rattle.vic_log.specs.Order.{entries}
 use Rattle.vic_log.proofs.Sets.{has_at, has_cases, has_there}
 use Rattle.vic_verdict.specs.Keys.{AreKeysOf}
 use Rattle.vic_verdict.specs.Possible as one
-use Rattle.vic_verdict.specs.Rising.{IsListOf}
+use Rattle.vic_verdict.specs.Rising.{IsListOf, SameMembers}
 use Rattle.vic_verdict.proofs.Differing.{AreFacts}
 use Rattle.vic_report.specs.declared.shown.ShownUid.{ShownUid}
 use Rattle.vic_report.specs.Findings.{IsToldOf, ShowsCertain, uids_of}
@@ -26,7 +26,7 @@ use Rattle.vic_report.proofs.AllFindings.{open_set}
 use Rattle.vic_reconcile.specs.declared.reconciliation.Place.{Place}
 use Rattle.vic_reconcile.specs.declared.reconciliation.Reconciliation.{Reconciliation}
 use Rattle.vic_reconcile.specs.Findings.{IsFirstLog, IsFirstTold}
-use Rattle.vic_reconcile.specs.Joined.{AreNoted, IsCertainInNone, IsJoined, IsLeftBy, AreExpected}
+use Rattle.vic_reconcile.specs.Joined.{AreNoted, IsCertainInNone, IsJoined, IsLeftBy}
 use Rattle.vic_reconcile.proofs.Families.{IsCertainIn, IsPossibleLog}
 
 -- ---- places in a list that grows
@@ -153,7 +153,7 @@ pub joined_more : (expected : List ℕ) (logs : List (List LogLine)) (lines : Li
 joined_more expected logs lines old new set besides certain keys told p facts is shown noted own same list count left j =
     let long = zip_long IsLeftBy logs old.left.items j.left in
     record {
-      list = subst (λ (us : List ℕ). AreExpected expected us) (sym (ap (λ v. v.items) list)) j.list;
+      members = subst (λ (us : List ℕ). SameMembers us expected) (sym (ap (λ v. v.items) list)) j.members;
       count = count ∙ j.count;
       possible = All-push IsPossibleLog logs lines j.possible p;
       certain = λ u. certain_more logs lines certain told old.certain new.certain u facts.must is shown (subst (λ n. AreNoted old.certain new.certain n told) (sym long) noted) (j.certain u);

@@ -1,4 +1,7 @@
 pub mod Families
+pub mod Agreeing
+pub mod AnyOrder
+pub mod OneLog
 pub mod Joins
 pub mod Reconciling
 pub mod Telling

@@ -1,6 +1,6 @@
 -- The findings of joined logs, and that none of them means that everything is there.
 use Rattle.std.proofs.Common.{◌≡◌, ℕ, zero, suc, ◌<◌, List, [], ◌∷◌, ◌++◌, length, get_or, map, Bool, true, false, Option, Some, None, refl, sym, ap, subst, ◌∙◌, arith, inl, inr, ⊎_elim}
-use Rattle.std.specs.Prelude.{◌↔◌, ◌⊎◌, ◌||◌, IfNone, IfSome, MatchOption, is_some, nat_eq}
+use Rattle.std.specs.Prelude.{◌⊎◌, ◌||◌, IfNone, IfSome, MatchOption, is_some, nat_eq}
 use Rattle.std.specs.BTreeMap as tree
 use Rattle.std.specs.Ordering.{eq_by_cmp, is_eq, nat_cmp}
 use Rattle.std.specs.Set.{is_member}
@@ -15,12 +15,11 @@ use Rattle.vic_frame.specs.Masks.{BitMask}
 use Rattle.vic_tree.specs.OpenSet.{SameUids}
 use Rattle.vic_tree.specs.Ranges.{is_open_in}
 use Rattle.vic_log.specs.declared.entry.LogLine.{LogLine}
-use Rattle.vic_log.specs.Order.{entries, listed}
+use Rattle.vic_log.specs.Order.{entries}
 use Rattle.vic_log.proofs.Sets.{IsUid-member, has_at, has_there}
 use Rattle.vic_verdict.specs.declared.differences.Differences.{Differences}
 use Rattle.vic_verdict.specs.Differences.{AreDifferences}
 use Rattle.vic_verdict.specs.Rising.{IsFailing, IsListOf}
-use Rattle.vic_verdict.specs.Verdict as verdict
 use Rattle.vic_verdict.specs.Verdict.{IsFirstMask, NoSuch}
 use Rattle.vic_verdict.proofs.Decide.{IsCertainUid-either, IsPossibleUid-either}
 use Rattle.vic_verdict.proofs.Differing.{all_findings, doubtful_list}
@@ -248,41 +247,3 @@ somewhere_more family p u h = list_any-append (λ q. has q u) family (p ∷ []) 
 
 pub possible_later : (logs : List (List LogLine)) (lines : List LogLine) (u : ℕ) → IsPossibleLog lines → IsPossibleUid logs u → IsPossibleUid (logs ++ lines ∷ []) u
 possible_later logs lines u p h = (h.0 ++ p.0 ∷ [], zip_push FitsLog h.0 logs p.0 lines h.1 (p.1, p.2), somewhere_more h.0 p.0 u h.2)
-
--- ---- one log alone
-
-one_possible : (lines : List LogLine) → IsPossibleLog lines → All IsPossibleLog (lines ∷ [])
-one_possible lines p = all_possible (lines ∷ []) (p.0 ∷ []) ((p.1, p.2), tt)
-
-in_one : (P : List LogLine → Type 0) (lines : List LogLine) → Any P (lines ∷ []) ↔ P lines
-in_one P lines = ((λ a. ⊎_elim (λ h. h) (λ b. absurd (any_none P b)) (any_cases P lines [] a)), any_here P lines [])
-
-pub one_possible_uid : (lines : List LogLine) (u : ℕ) → IsPossibleLog lines → IsPossibleUid (lines ∷ []) u ↔ IsPossibleIn u lines
-one_possible_uid lines u p =
-    let w = IsPossibleUid-iff (lines ∷ []) u (one_possible lines p) in
-    let one = in_one (IsPossibleIn u) lines in
-    ((λ h. one.0 (w.0 h)), (λ h. w.1 (one.1 h)))
-
-pub one_certain_uid : (lines : List LogLine) (u : ℕ) → IsPossibleLog lines → IsCertainUid (lines ∷ []) u ↔ IsCertainIn u lines
-one_certain_uid lines u p =
-    let w = IsCertainUid-iff (lines ∷ []) u (one_possible lines p) in
-    let one = in_one (IsCertainIn u) lines in
-    ((λ h. one.0 (w.0 h)), (λ h. w.1 (one.1 h)))
-
-pub one_whole : (lines : List LogLine) → IsWhole (listed (entries lines)) (lines ∷ []) ↔ verdict.IsWhole (entries lines)
-one_whole lines = (
-  (λ h. (
-    All-head IsPossibleLog lines [] (all_possible (lines ∷ []) h.0.0 h.0.1),
-    λ p i c u.
-        let w = h.1 (p ∷ []) ((i, c), tt) u in
-        ((λ k. w.0 (or_left (has p u) false k)), (λ k. ⊎_elim (λ a. a) (λ f. absurd (false≢true f)) (or_cases (has p u) false (w.1 k)))),
-  )),
-  (λ h. ((h.0.0 ∷ [], ((h.0.1, h.0.2), tt)), alone h)),
-)
-  where
-    alone : verdict.IsWhole (entries lines) → (family : List (List ℕ)) → FitsLogs family (lines ∷ []) → (u : ℕ) → (is_somewhere family u ≡ true) ↔ (has (listed (entries lines)) u ≡ true)
-    alone h [] fits u = absurd fits
-    alone h (p ∷ q ∷ family) fits u = absurd fits.1
-    alone h (p ∷ []) fits u =
-        let w = h.1 p fits.0.0 fits.0.1 u in
-        ((λ k. w.0 (⊎_elim (λ a. a) (λ f. absurd (false≢true f)) (or_cases (has p u) false k))), (λ k. or_left (has p u) false (w.1 k)))

@@ -120,7 +120,7 @@ joined_facts expected logs r all certain j rising members same = record {
     sure u c = let f = family_of logs j.possible in (f.0, f.1, c f.0 f.1)
 
 pub listed_as : (expected : List ℕ) (logs : List (List LogLine)) (r : Reconciliation) → IsJoined expected logs r → AreListed r.expected.items expected
-listed_as expected logs r j = record { members = j.list.members; are_uids = j.list.are_uids }
+listed_as expected logs r j = record { members = j.members; are_uids = r.are_uids }
 
 -- ---- the first log in which a UID is possible
 

@@ -3,7 +3,6 @@ use Rattle.std.specs.Prelude.{◌≡◌, ◌↔◌, ℕ, Bool, true, false, not,
 use Rattle.std.specs.BTreeMap as map
 use Rattle.std.specs.Ordering.{nat_cmp}
 use Rattle.std.specs.List.{All, AllPass, AllZip, Contains, list_any}
-use Rattle.std.specs.List.Sorted.{IsStrictlyIncreasing}
 use Rattle.vic_frame.specs.Uids.{IsUid, has}
 use Rattle.vic_frame.specs.Masks.{BitMask}
 use Rattle.vic_tree.specs.declared.open_masks.OpenMasks.{OpenMasks}
@@ -34,16 +33,10 @@ IsLeftBy lines set =
 abbrev pub IsCertainInNone : List (List LogLine) → ℕ → Type 0
 IsCertainInNone logs u = All (λ lines. IsCertainUid (entries lines) u → ⊥) logs
 
--- the list of what is expected
-pub record AreExpected (expected us : List ℕ) : Type 0 where
-  pub rising : IsStrictlyIncreasing us
-  pub members : SameMembers us expected
-  pub are_uids : (u : ℕ) → has us u ≡ true → IsUid u
-
 -- what was joined is the list of what is expected and what possible logs tell
 pub record IsJoined (expected : List ℕ) (logs : List (List LogLine)) (r : Reconciliation)
     : Type 0 where
-  pub list : AreExpected expected r.expected.items
+  pub members : SameMembers r.expected.items expected
   pub count : r.count ≡ length expected
   pub possible : All (λ lines. IsPossible (entries lines)) logs
   pub certain : (u : ℕ)

@@ -1,53 +1,59 @@
-//! How the files of `reconcile` are read, one after another.
+//! Files that are opened when they are first read.
 
-use std::fs;
 use std::fs::File;
-use vic_answer::{Reconciling, RunFault, read_expected, read_next};
-use vic_log::FromRead;
+use std::io::Read;
+use std::{fs, io};
 
-/// Why files weren't read.
-pub enum Unread<'a> {
-    /// This one can't be opened.
-    CannotOpen(&'a str),
-    /// A read failed, or memory was refused.
-    Fault(RunFault),
+/// A file that is opened when it is first read, and closed at its end.
+#[derive(Drop)]
+pub struct NamedFile<'a> {
+    rt: &'a HostRuntime,
+    name: &'a str,
+    state: FileState,
 }
 
-/// Opens a file to be read.
-fn open<'a>(rt: &HostRuntime, name: &'a str) -> Result<FromRead<File>, Unread<'a>> {
-    match fs::open(rt, name) {
-        Ok(file) => Ok(FromRead::new(file)),
-        Err(_) => Err(Unread::CannotOpen(name)),
+/// How far a file was read.
+#[derive(Drop)]
+enum FileState {
+    Unread,
+    CannotOpen,
+    Open(File),
+    Closed,
+}
+
+impl<'a> NamedFile<'a> {
+    /// The file with this name. It isn't opened yet.
+    pub fn new(rt: &'a HostRuntime, name: &'a str) -> NamedFile<'a> {
+        NamedFile {
+            rt,
+            name,
+            state: FileState::Unread,
+        }
+    }
+
+    /// Its name, if it couldn't be opened.
+    pub fn unopened(&self) -> Option<&'a str> {
+        match self.state {
+            FileState::CannotOpen => Some(self.name),
+            FileState::Unread | FileState::Open(_) | FileState::Closed => None,
+        }
     }
 }
 
-/// Reads the list of what is expected from a file.
-fn read_list<'a>(rt: &HostRuntime, name: &'a str) -> Result<Reconciling, Unread<'a>> {
-    let mut file = open(rt, name)?;
-    match read_expected(rt.alloc(), &mut file) {
-        Ok(read) => Ok(read),
-        Err(fault) => Err(Unread::Fault(fault)),
-    }
-}
-
-/// Reads the list of what is expected, and then logs, up to the first text that is refused or
-/// impossible. One file is open at a time.
-pub fn read_files<'a>(
-    rt: &HostRuntime,
-    list: &'a str,
-    logs: &'a [String],
-) -> Result<Reconciling, Unread<'a>> {
-    let mut read = read_list(rt, list)?;
-    for name in logs {
-        let joined = match read {
-            Reconciling::Going(joined) => joined,
-            Reconciling::Ended(ending) => return Ok(Reconciling::Ended(ending)),
+impl<'a> Read for NamedFile<'a> {
+    fn read(&mut self, buf: &mut [u8]) -> io::Result<usize> {
+        if let FileState::Unread = self.state {
+            // stays so if the next line fails
+            self.state = FileState::CannotOpen;
+            self.state = FileState::Open(fs::open(self.rt, self.name)?);
+        }
+        let FileState::Open(file) = &mut self.state else {
+            return Ok(0);
         };
-        let mut file = open(rt, name.as_str())?;
-        read = match read_next(rt.alloc(), joined, &mut file) {
-            Ok(read) => read,
-            Err(fault) => return Err(Unread::Fault(fault)),
-        };
+        let count = file.read(buf)?;
+        if count == 0 {
+            self.state = FileState::Closed;
+        }
+        Ok(count)
     }
-    Ok(read)
 }

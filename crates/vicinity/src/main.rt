@@ -3,13 +3,12 @@
 
 mod files;
 
-use crate::files::{Unread, read_files};
+use crate::files::NamedFile;
+use std::alloc::AllocError;
 use std::io::ErrorKind;
 use std::process::ExitCode;
 use std::{env, fs};
-use vic_answer::{
-    RunFault, Status, Task, do_task, fault_text, reconciled_answer, write_reconciled,
-};
+use vic_answer::{RunFault, Status, Task, do_task, fault_text, run_reconcile};
 use vic_log::{FromRead, ToWrite};
 use vic_words::{Asked, WordsFault, read_words};
 
@@ -48,22 +47,35 @@ fn unopened(rt: &HostRuntime, file: &str) -> ExitCode {
     ExitCode::from(NO_ANSWER)
 }
 
-/// Judges logs against a list of what is expected, and writes the answer.
-fn reconcile(rt: &HostRuntime, list: &str, logs: &[String]) -> ExitCode {
-    match read_files(rt, list, logs) {
-        Ok(read) => match reconciled_answer(&read) {
-            Ok(answer) => {
-                let mut sink = ToWrite::new(rt.stdout());
-                end(
-                    rt,
-                    write_reconciled(rt.alloc(), &answer, list, logs, &mut sink),
-                )
-            }
-            Err(_) => no_answer(rt, fault_text(&RunFault::Memory)),
-        },
-        Err(Unread::CannotOpen(file)) => unopened(rt, file),
-        Err(Unread::Fault(fault)) => no_answer(rt, fault_text(&fault)),
+/// The files with these names, not opened yet.
+fn files_of<'a>(
+    rt: &'a HostRuntime,
+    names: &'a [String],
+) -> Result<Vec<FromRead<NamedFile<'a>>>, AllocError> {
+    let mut files = Vec::with_capacity(rt.alloc(), names.len())?;
+    for name in names {
+        files.push(FromRead::new(NamedFile::new(rt, name.as_str())))?;
     }
+    Ok(files)
+}
+
+/// Reconciles logs with a list of what is expected, and writes the answer.
+fn reconcile(rt: &HostRuntime, list: &str, logs: &[String]) -> ExitCode {
+    let mut expected = FromRead::new(NamedFile::new(rt, list));
+    let Ok(mut files) = files_of(rt, logs) else {
+        return no_answer(rt, fault_text(&RunFault::Memory));
+    };
+    let mut sink = ToWrite::new(rt.stdout());
+    let answer = run_reconcile(rt.alloc(), &mut expected, &mut files, list, logs, &mut sink);
+    if let Some(name) = expected.into_inner().unopened() {
+        return unopened(rt, name);
+    }
+    for file in files {
+        if let Some(name) = file.into_inner().unopened() {
+            return unopened(rt, name);
+        }
+    }
+    end(rt, answer)
 }
 
 /// Does a task over the file that it names, or over standard input if it names none.

@@ -1,0 +1,70 @@
+//! The run of `reconcile`: the list and the logs are read in turn, and the answer is written.
+
+ghost use Rattle.std.specs.Prelude.{◌≡◌, ◌≢◌, ◌++◌, ℕ, [], List, IfErr, IfOk, OnOk, length, true};
+ghost use Rattle.std.specs.Prelude.{codes, map, string_bytes};
+ghost use Rattle.vic_answer.specs.Reconciled.{AreComplete, IsReconciling};
+ghost use Rattle.vic_answer.specs.ReconcileRun.{AllGoing, ReadsListAndLogs, ReadsTexts, Reconciles, WritesAnswer};
+ghost use Rattle.vic_answer.specs.Runs.{IsEnough};
+ghost use Rattle.vic_answer.specs.declared.status.RunFault.TheVariants.{Write};
+
+use crate::reconcile::{
+    Reconciling, read_expected, read_next, reconciled_answer, write_reconciled,
+};
+use crate::status::{RunFault, Status};
+use std::alloc::Global;
+use vic_log::{Sink, Source};
+
+/// Reads the list of what is expected from a source, and then the logs from theirs, one source
+/// after another, up to the first text that is refused or impossible. It writes the answer, in
+/// which `list_name` and `names` name the list and the logs, and flushes it. The status is that of
+/// the answer. `Read` if a source has failed, `Memory` if memory was refused: then nothing is
+/// written. `Write` if the sink has failed: a prefix of the text may have been written.
+pub fn run_reconcile<R: Source, W: Sink>(
+    alloc: Global,
+    list: &mut R,
+    logs: &mut [R],
+    list_name: &str,
+    names: &[String],
+    sink: &mut W,
+) -> Result<Status, RunFault>
+    // over the bytes that the reads returned and the writes accepted
+    ensures answer { WritesAnswer
+        (Reconciles R.returned R.ended list.old list.new logs.old logs.new)
+        list_name.now (map string_bytes names.now) (W.written sink.old) (W.written sink.new)
+        result }
+    // if it wrote `complete N`, the list and all logs were read to their ends, and everything that
+    // is expected is somewhere, and nothing else
+    ensures complete { OnOk result ((rest : List ℕ)
+        → W.written sink.new ≡ W.written sink.old ++ (codes "complete " ++ rest)
+        → ReadsListAndLogs R.returned (λ s _. R.ended s ≡ true)
+        list.old list.new logs.old logs.new
+        (λ text texts. AreComplete text texts rest × (length texts ≡ length logs.old))) }
+    ensures flushed { OnOk result (W.is_flushed sink.new ≡ true) }
+    ensures unwritten { IfErr result (λ e. e ≢ Write → sink.new ≡ sink.old) }
+{
+    let begun = read_expected(alloc, list)?;
+    let read = read_logs(alloc, begun, logs)?;
+    let answer = reconciled_answer(&read)?;
+    write_reconciled(alloc, &answer, list_name, names, sink)
+}
+
+/// Reads logs, one source after another, up to the first text that is refused or impossible.
+fn read_logs<R: Source>(
+    alloc: Global,
+    begun: Reconciling,
+    logs: &mut [R],
+) -> Result<Reconciling, RunFault>
+    ensures texts { IfOk result (λ read. (list : List ℕ) → IsReconciling list [] begun
+        → ReadsTexts R.returned (λ s. IsEnough (R.ended s ≡ true)) logs.old logs.new (λ texts.
+        IsReconciling list texts read × AllGoing read (length logs.old) (length texts))) }
+    ensures fault { IfErr result (λ e. e ≢ Write) }
+{
+    let mut read = begun;
+    for at in 0..logs.len() {
+        read = match read {
+            Reconciling::Going(joined) => read_next(alloc, joined, &mut logs[at])?,
+            Reconciling::Ended(ending) => return Ok(Reconciling::Ended(ending)),
+        };
+    }
+    Ok(read)
+}

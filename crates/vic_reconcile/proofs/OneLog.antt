@@ -1,0 +1,116 @@
+-- What one log alone tells together is what the log tells.
+use Rattle.std.proofs.Common.{◌≡◌, ℕ, zero, suc, List, [], ◌∷◌, Some, true, false, refl, sym, subst, ⊎_elim}
+use Rattle.std.specs.Prelude.{◌↔◌, slice_get}
+use Rattle.std.proofs.lemmas.Bool.{false≢true, or_cases, or_left}
+use Rattle.vic_frame.specs.Uids.{has}
+use Rattle.vic_tree.specs.declared.open_masks.OpenMasks.{OpenMasks}
+use Rattle.vic_log.specs.declared.entry.LogLine.{LogLine}
+use Rattle.vic_log.specs.Order.{entries, listed}
+use Rattle.vic_verdict.specs.Differences.{IsLeftOpen}
+use Rattle.vic_verdict.specs.Possible as one
+use Rattle.vic_verdict.specs.Verdict as verdict
+use Rattle.vic_report.specs.Findings.{ShowsCertain}
+use Rattle.vic_report.specs.Reports as report
+use Rattle.vic_report.specs.declared.findings.Findings.{Findings as LogFindings}
+use Rattle.vic_reconcile.specs.declared.findings.Findings.{Findings}
+use Rattle.vic_reconcile.specs.declared.findings.UnlistedUid.{UnlistedUid}
+use Rattle.vic_reconcile.specs.Agreeing.{AgreeWithReport}
+use Rattle.vic_reconcile.specs.Families.{FitsLog, FitsLogs, IsCertainUid, IsPossibleUid, is_somewhere}
+use Rattle.vic_reconcile.specs.Findings.{AreFindings, AreOpenMasksOf, IsToldOf, IsUnsettled, IsWhole}
+use Rattle.vic_reconcile.proofs.Agreeing.{SameUids, absent_as, doubtful_as, first_of, same_first, same_list, unlisted_as, unsettled_as}
+use Rattle.vic_reconcile.proofs.Families.{IsCertainIn, IsPossibleIn}
+
+-- a family of one log is one population
+of_one : (lines : List LogLine) (family : List (List ℕ)) → FitsLogs family (lines ∷ []) → (p : List ℕ) × FitsLog p lines × (family ≡ p ∷ [])
+of_one lines [] f = absurd f
+of_one lines (p ∷ []) f = (p, f.0, refl)
+of_one lines (p ∷ q ∷ family) f = absurd f.1
+
+in_one : (p : List ℕ) (u : ℕ) → is_somewhere (p ∷ []) u ≡ true → has p u ≡ true
+in_one p u h = ⊎_elim (λ a. a) (λ b. absurd (false≢true b)) (or_cases (has p u) false h)
+
+pub one_possible_uid : (lines : List LogLine) (u : ℕ) → IsPossibleUid (lines ∷ []) u ↔ IsPossibleIn u lines
+one_possible_uid lines u = (
+  (λ h.
+      let p = of_one lines h.0 h.1 in
+      (p.0, p.1.0, p.1.1, in_one p.0 u (subst (λ ps. is_somewhere ps u ≡ true) p.2 h.2))),
+  (λ h. (h.0 ∷ [], ((h.1, h.2), tt), or_left (has h.0 u) false h.3)),
+)
+
+pub one_certain_uid : (lines : List LogLine) (u : ℕ) → IsCertainUid (lines ∷ []) u ↔ IsCertainIn u lines
+one_certain_uid lines u = (
+  (λ c p i w. in_one p u (c (p ∷ []) ((i, w), tt))),
+  (λ c family f.
+      let p = of_one lines family f in
+      subst (λ ps. is_somewhere ps u ≡ true) (sym p.2) (or_left (has p.0 u) false (c p.0 p.1.0 p.1.1))),
+)
+
+pub one_whole : (lines : List LogLine) → IsWhole (listed (entries lines)) (lines ∷ []) ↔ verdict.IsWhole (entries lines)
+one_whole lines = (
+  (λ h.
+      let p = of_one lines h.0.0 h.0.1 in (
+        (p.0, p.1.0, p.1.1),
+        λ q i c u.
+            let w = h.1 (q ∷ []) ((i, c), tt) u in
+            ((λ k. w.0 (or_left (has q u) false k)), (λ k. in_one q u (w.1 k))),
+      )),
+  (λ h. (
+    (h.0.0 ∷ [], ((h.0.1, h.0.2), tt)),
+    λ family f u.
+        let p = of_one lines family f in
+        let w = h.1 p.0 p.1.0 p.1.1 u in (
+          (λ k. w.0 (in_one p.0 u (subst (λ ps. is_somewhere ps u ≡ true) p.2 k))),
+          (λ k. subst (λ ps. is_somewhere ps u ≡ true) (sym p.2) (or_left (has p.0 u) false (w.1 k))),
+        ),
+  )),
+)
+
+-- ---- the findings
+
+same_in_one : (lines : List LogLine) → SameUids (IsPossibleUid (lines ∷ [])) (IsCertainUid (lines ∷ [])) (one.IsPossibleUid (entries lines)) (one.IsCertainUid (entries lines))
+same_in_one lines = record { possible = one_possible_uid lines; certain = one_certain_uid lines }
+
+pub one_report : (lines : List LogLine) (f : Findings) (g : LogFindings) → AreFindings (listed (entries lines)) (lines ∷ []) f → report.AreFindings lines g → AgreeWithReport f g
+one_report lines f g h k =
+    let es = entries lines in
+    let logs : List (List LogLine) = lines ∷ [] in
+    let same = same_in_one lines in
+    record {
+      absent = same_list _ _ _ _ (absent_as _ _ _ _ (listed es) same) h.absent k.absent;
+      unlisted = same_list _ _ _ _ (unlisted_as _ _ _ _ (listed es) same) h.unlisted k.unlisted;
+      unsettled = same_first _ _ _ _ (unsettled_as _ _ _ _ (listed es) same)
+          (first_of (IsUnsettled (listed es) logs) _ (λ x. x.mask) f.unsettled (λ x w. w.mask) h.unsettled)
+          (first_of (IsLeftOpen es) _ (λ x. x.mask) g.unsettled (λ x w. w.mask) k.unsettled);
+      doubtful = same_list _ _ _ _ (doubtful_as _ _ _ _ (listed es) same) h.doubtful k.doubtful;
+    }
+
+pub one_shown : (lines : List LogLine) (s : UnlistedUid) → IsToldOf (lines ∷ []) s → (s.place.log ≡ 0) × ShowsCertain lines s.place.line s.uid
+one_shown lines s t =
+    let at = first_alone s.place.log t.first.lines t.first.there in
+    (at, t.shows lines (subst (λ n. slice_get (lines ∷ []) n ≡ Some lines) (sym at) refl))
+  where
+    first_alone : (n : ℕ) (others : List LogLine) → slice_get (lines ∷ []) n ≡ Some others → n ≡ 0
+    first_alone zero others h = refl
+    first_alone (suc n) others h = cc
+
+pub one_open_masks : (lines : List LogLine) (o : OpenMasks) → AreOpenMasksOf (lines ∷ []) lines o ↔ report.AreOpenMasks (entries lines) o
+one_open_masks lines o = (
+  (λ h. record {
+    set = h.set;
+    uids = λ u i. let w = h.uids u i in (
+      (λ s. let x = w.0 s in (x.0, λ c. x.1 ((one_certain_uid lines u).1 c))),
+      (λ x. w.1 (x.0, λ c. x.1 ((one_certain_uid lines u).0 c))),
+    );
+    first = h.first;
+    more = h.more;
+  }),
+  (λ h. record {
+    set = h.set;
+    uids = λ u i. let w = h.uids u i in (
+      (λ s. let x = w.0 s in (x.0, λ c. x.1 ((one_certain_uid lines u).0 c))),
+      (λ x. w.1 (x.0, λ c. x.1 ((one_certain_uid lines u).1 c))),
+    );
+    first = h.first;
+    more = h.more;
+  }),
+)
