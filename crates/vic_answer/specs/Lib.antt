@@ -17,3 +17,4 @@ pub mod ExplainedNumbers
 pub mod FindingNumbers
 pub mod ReconcileText
 pub mod Reconciled
+pub mod SurveyNumbers

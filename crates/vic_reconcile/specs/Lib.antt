@@ -1,3 +1,4 @@
 pub mod Families
 pub mod Findings
 pub mod Joined
+pub mod Surveys
