@@ -3,7 +3,7 @@
 ghost use Rattle.std.specs.Prelude.{◌≡◌, ℕ, List, IfOk};
 ghost use Rattle.vic_verdict.specs.declared.judging.Verdict.TheVariants.{Complete};
 ghost use Rattle.vic_reconcile.specs.Surveys.{AreCertainIn, AreOpenIn};
-ghost use Rattle.vic_answer.specs.CheckText.{IsCompleteText};
+ghost use Rattle.vic_answer.specs.CheckText.{IsAnswer, IsCompleteText};
 ghost use Rattle.vic_answer.specs.SurveyNumbers as spec;
 
 use crate::check::Answer;
@@ -24,6 +24,7 @@ pub enum Surveyed {
 /// The answer to a complete text, with what is left of its log. It fails only if memory is refused.
 pub fn survey_text(alloc: Global, text: &[u8]) -> Result<Surveyed, AllocError>
     ensures surveyed { IfOk result (spec.IsSurveyed text.now) }
+    ensures answer { IfOk result (λ s. IsAnswer text.now (spec.answer_of s)) }
     // if it is `complete`, the list of the log is complete and has `count` UIDs
     ensures whole { IfOk result (λ s. (count : ℕ)
         → spec.answer_of s ≡ Answer.Judged (Complete count) → IsCompleteText text.now count) }

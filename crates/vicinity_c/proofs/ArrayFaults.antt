@@ -1,9 +1,19 @@
 -- The first fault of arrays.
-use Rattle.std.proofs.Common.{◌≡◌, ◌≢◌, ℕ, zero, suc, ◌+◌, ◌<◌, ◌≤◌, List, [], ◌∷◌, ◌++◌, length, map, take, Some, refl, sym, ap, subst, ◌∙◌, arith, append-nil, append_assoc, length-append}
-use Rattle.std.specs.Prelude.{slice_get}
-use Rattle.std.proofs.lemmas.List.{length-map, take-append-add, take-append-le, take_all, take_more}
+use Rattle.std.proofs.Common.{◌≡◌, ◌≢◌, ℕ, zero, suc, ◌+◌, ◌<◌, ◌≤◌, ◌^◌, List, [], ◌∷◌, ◌++◌, Bool, true, false, ◌||◌, cond, length, map, take, Some, refl, sym, ap, subst, ◌∙◌, ⊎_elim, arith, append-nil, append_assoc, length-append}
+use Rattle.std.specs.BTreeMap.{is_at}
+use Rattle.std.specs.Ordering.{nat_cmp}
+use Rattle.std.specs.Prelude.{nat_eq, slice_get}
+use Rattle.std.proofs.lemmas.Bool.{cases_eq, false_from_ne_true, false≢true, or_right}
+use Rattle.std.proofs.lemmas.Grind.{common_steps}
+use Rattle.std.proofs.lemmas.List.Folds.{list_any-append}
+use Rattle.std.proofs.lemmas.List.{length-map, take-append-le, take_all, take_more}
 use Rattle.std.proofs.lemmas.List.Elements.{All-append, All-push}
+use Rattle.std.proofs.Math.Bool.{or-false}
+use Rattle.std.proofs.Math.Seq.{take-append-add}
 use Rattle.std.proofs.lemmas.Option.{get_or_from_slice_get, slice_get_within}
+use Rattle.vic_frame.specs.Uids.{IsUid, has, is_uid}
+use Rattle.vic_log.proofs.Sets.{has_at, has_cases}
+use Rattle.vic_log.proofs.Supply.{is_uid_from}
 use Rattle.vicinity_c.specs.declared.inventory.VicinityMask.{VicinityMask}
 use Rattle.vicinity_c.specs.Arrays.{HaveNoFault, IsFirst, expected_fault, expected_faults, faults_behind, faults_of, mask_fault, uid_fault}
 
@@ -76,10 +86,38 @@ first_certain es cs ms i f none h =
     subst (λ n. IsFirst (faults_of es cs ms) (n + i) f) (length_expected es) (first_front _ (map mask_fault ms) _ f (first_behind (expected_faults es) (map uid_fault cs) i f none h))
 
 pub first_mask : (es cs : List ℕ) (ms : List VicinityMask) (i f : ℕ) → HaveNoFault (expected_faults es) → HaveNoFault (map uid_fault cs) → IsFirst (map mask_fault ms) i f → IsFirst (faults_of es cs ms) (length es + length cs + i) f
-first_mask es cs ms i f none no h =
+first_mask es cs ms i f none sure h =
     let both = expected_faults es ++ map uid_fault cs in
-    let long : length both ≡ length es + length cs = simp length-append (cong_sum (length_expected es) (length-map uid_fault cs)) in
-    subst (λ n. IsFirst (faults_of es cs ms) (n + i) f) long (first_behind both (map mask_fault ms) i f (All-append (λ n. n ≡ 0) (expected_faults es) (map uid_fault cs) none no) h)
+    let long : length both ≡ length es + length cs = simp length-append (cong_sum (length_expected es) (length-map cs uid_fault)) in
+    subst (λ n. IsFirst (faults_of es cs ms) (n + i) f) long (first_behind both (map mask_fault ms) i f (All-append (λ n. n ≡ 0) (expected_faults es) (map uid_fault cs) none sure) h)
   where
     cong_sum : {a b c d : ℕ} → a ≡ c → b ≡ d → a + b ≡ c + d
     cong_sum p q = omega arith
+
+-- ---- what is read of one element
+
+pub uid_sound : (u : ℕ) → IsUid u → uid_fault u ≡ 0
+uid_sound u i = ap (λ b. cond b 0 7) (is_uid_from u i)
+
+pub expected_sound : (before : List ℕ) (u : ℕ) → length before < 4294967295 → IsUid u → has before u ≡ false → expected_fault before u ≡ 0
+expected_sound before u few i new = let is = is_uid_from u i in grind (arith, common_steps, few, is, new)
+
+-- one more was seen
+pub seen_more : (before : List ℕ) (u w : ℕ) (old new : Bool) → new ≡ cond (is_at (nat_cmp u) w) true old → old ≡ has before w → new ≡ has (before ++ u ∷ []) w
+seen_more before u w old new e h =
+    ⊎_elim
+    (λ same. e ∙ ap (λ b. cond b true old) (at_same u w same) ∙ sym (more ∙ or_right (has before w) _ (has_at w u [] same)))
+    (λ other. e ∙ ap (λ b. cond b true old) (not_at u w other) ∙ h ∙ sym (more ∙ ap (λ b. has before w || b) (none other) ∙ or-false (has before w)))
+    (cases_eq w u)
+  where
+    more : has (before ++ u ∷ []) w ≡ (has before w || has (u ∷ []) w)
+    more = list_any-append (nat_eq w) before (u ∷ [])
+
+    none : (w ≡ u → ⊥) → has (u ∷ []) w ≡ false
+    none other = false_from_ne_true _ (λ t. ⊎_elim other (λ n. false≢true n) (has_cases w u [] t))
+
+    at_same : (k v : ℕ) → v ≡ k → is_at (nat_cmp k) v ≡ true
+    at_same k v s = let f : k ≡ v = sym s in grind (arith, common_steps, f)
+
+    not_at : (k v : ℕ) → (v ≡ k → ⊥) → is_at (nat_cmp k) v ≡ false
+    not_at k v n = let m : k ≡ v → ⊥ = λ s. n (sym s) in grind (arith, common_steps, m)

@@ -19,8 +19,8 @@ returns c =
       certain = ((λ p. facts.must), (λ n. absurd (n told.possible)));
       left = (
         (λ p. left_by c.args.lines.now set c.in_ok-left.left certain c.in_ok-keys.keys.items facts
-        (subst (AreKeysOf c.in_ok-keys.keys.items) c.deref.ensures.value c.in_ok-keys.ensures)
-        (subst (λ ks. SameUids (is_open_in c.in_ok-left.left) (without_keys (is_open_in set) ks)) c.deref-2.ensures.value c.in_ok-left.ensures)),
+            (subst (AreKeysOf c.in_ok-keys.keys.items) c.deref.ensures.value c.in_ok-keys.ensures)
+            (subst (λ ks. SameUids (is_open_in c.in_ok-left.left) (without_keys (is_open_in set) ks)) c.deref-2.ensures.value c.in_ok-left.ensures)),
         (λ n. absurd (n told.possible)),
       );
     }
