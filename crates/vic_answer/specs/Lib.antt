@@ -19,3 +19,4 @@ pub mod ReconcileText
 pub mod Reconciled
 pub mod Tasks
 pub mod ReconcileRun
+pub mod SurveyNumbers

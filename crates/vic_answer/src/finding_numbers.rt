@@ -152,7 +152,7 @@ fn push_unsettled(
 }
 
 /// Adds the finding of each item.
-fn push_each<T: Copy, F: Fn(T) -> VicinityFinding>(
+pub(crate) fn push_each<T: Copy, F: Fn(T) -> VicinityFinding>(
     list: &mut Vec<VicinityFinding>,
     items: &[T],
     finding_of: F,
@@ -169,7 +169,7 @@ fn push_each<T: Copy, F: Fn(T) -> VicinityFinding>(
 }
 
 /// A listed UID that can't be there, with the line that rules it out.
-fn absent_finding(shown: ShownUid) -> VicinityFinding
+pub(crate) fn absent_finding(shown: ShownUid) -> VicinityFinding
     ensures { result ≡ spec.absent_finding shown }
 {
     VicinityFinding {
@@ -181,7 +181,7 @@ fn absent_finding(shown: ShownUid) -> VicinityFinding
 }
 
 /// A UID that must be there and isn't listed, with the line that shows it.
-fn unlisted_finding(shown: ShownUid) -> VicinityFinding
+pub(crate) fn unlisted_finding(shown: ShownUid) -> VicinityFinding
     ensures { result ≡ spec.unlisted_finding shown }
 {
     VicinityFinding {
@@ -193,7 +193,7 @@ fn unlisted_finding(shown: ShownUid) -> VicinityFinding
 }
 
 /// A listed UID that may be missing.
-fn doubtful_finding(uid: Uid) -> VicinityFinding
+pub(crate) fn doubtful_finding(uid: Uid) -> VicinityFinding
     ensures { result ≡ spec.doubtful_finding uid }
 {
     VicinityFinding {
@@ -204,7 +204,7 @@ fn doubtful_finding(uid: Uid) -> VicinityFinding
 }
 
 /// An open mask.
-fn open_finding(mask: Mask) -> VicinityFinding
+pub(crate) fn open_finding(mask: Mask) -> VicinityFinding
     ensures { result ≡ spec.open_finding mask }
 {
     VicinityFinding {

@@ -23,6 +23,8 @@ mod report_lines;
 mod simulate;
 mod spell;
 mod status;
+mod survey;
+mod survey_numbers;
 mod task;
 mod text;
 
@@ -34,7 +36,7 @@ pub use finding_numbers::{FindingKind, VicinityFinding, findings_of, put_finding
 pub use frame::run_frame;
 pub use lines::LINE_ROOM;
 pub use numbers::{Kind, NO_ANSWER, VicinityAnswer, numbers_of};
-pub use population::put_population;
+pub use population::{put_population, put_uids};
 pub use reconcile::{
     Reconciled, Reconciling, read_expected, read_next, reconciled_answer, write_reconciled,
 };
@@ -43,4 +45,6 @@ pub use report::{Reported, report_text, reported_answer, run_report};
 pub use simulate::{Simulation, run_simulate, simulate_text};
 pub use spell::{SpellFault, run_spell};
 pub use status::{RunFault, Status, fault_text};
+pub use survey::{Surveyed, certain_of, open_masks_of, survey_text, surveyed_answer};
+pub use survey_numbers::{plain_answer, plain_findings, refusal_numbers};
 pub use task::{Task, do_task};

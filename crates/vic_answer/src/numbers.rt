@@ -111,7 +111,7 @@ fn kind_of(answer: &Answer) -> VicinityAnswer
 }
 
 /// A text with zeros after it, at least one.
-fn padded(text: &[u8]) -> [u8; LINE_ROOM]
+pub(crate) fn padded(text: &[u8]) -> [u8; LINE_ROOM]
     requires { length text.now < LINE_ROOM }
     ensures { result ≡ spec.padded text.now }
 {

@@ -14,14 +14,21 @@ pub fn put_population(explained: &Explained, room: &mut [u64]) -> usize
     ensures put { IsPutInto (uids_of explained.now) room.old room.new }
 {
     let uids = uids_of(explained);
-    if uids.len() <= room.len() {
-        put_uids(uids, room);
-    }
+    put_uids(uids, room);
     uids.len()
 }
 
-/// Puts UIDs at the start of a buffer.
-fn put_uids(uids: &[Uid], room: &mut [u64])
+/// Puts UIDs at the start of a buffer, if they fit.
+pub fn put_uids(uids: &[Uid], room: &mut [u64])
+    ensures { IsPutInto uids.now room.old room.new }
+{
+    if uids.len() <= room.len() {
+        copy_uids(uids, room);
+    }
+}
+
+/// Copies UIDs to the start of a buffer in which they fit.
+fn copy_uids(uids: &[Uid], room: &mut [u64])
     requires { length uids.now ≤ length room.old }
     ensures { room.new ≡ uids.now ++ drop (length uids.now) room.old }
 {

@@ -134,7 +134,7 @@ certain_more logs lines certain told old new u l is shown n before = at (map.get
 
 -- ---- what the log leaves open
 
-left_by : (lines : List LogLine) (set besides : List (ℕ × ℕ)) (certain keys : List ℕ) → AreFacts (one.IsPossibleUid (entries lines)) (one.IsCertainUid (entries lines)) (is_open_in set) certain
+pub left_by : (lines : List LogLine) (set besides : List (ℕ × ℕ)) (certain keys : List ℕ) → AreFacts (one.IsPossibleUid (entries lines)) (one.IsCertainUid (entries lines)) (is_open_in set) certain
     → AreKeysOf keys certain → SameUids (is_open_in besides) (without_keys (is_open_in set) keys) → IsLeftBy lines besides
 left_by lines set besides certain keys facts own same u i =
     let w = open_set (entries lines) (is_open_in set) certain keys facts own.members u i in

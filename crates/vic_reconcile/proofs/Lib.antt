@@ -5,3 +5,4 @@ pub mod OneLog
 pub mod Joins
 pub mod Reconciling
 pub mod Telling
+pub mod Surveyed

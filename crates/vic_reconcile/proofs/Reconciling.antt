@@ -138,8 +138,8 @@ certain_either (l ∷ logs) u all =
 somewhere_uid : (logs : List (List LogLine)) (u : ℕ) → Any (IsPossibleIn u) logs → IsUid u
 somewhere_uid logs u a = let w = a.4 in IsUid-member w.0 u w.1 w.3
 
-pub none_is_whole : (expected : List ℕ) (logs : List (List LogLine)) (f : Findings) → ArePossible logs → AreFindings expected logs f → AreNone f → IsWhole expected logs
-none_is_whole expected logs f p found none = (
+pub nothing_is_whole : (expected : List ℕ) (logs : List (List LogLine)) → ArePossible logs → NoSuch (IsAbsent expected logs) → NoSuch (IsUnlisted expected logs) → NoSuch (IsUnsettled expected logs) → NoSuch (IsDoubtful expected logs) → IsWhole expected logs
+nothing_is_whole expected logs p no_absent no_unlisted no_unsettled no_doubtful = (
   p,
   λ family fits u. (
     (λ h. expected_of u (family, fits, h)),
@@ -149,18 +149,6 @@ none_is_whole expected logs f p found none = (
   where
     all : All IsPossibleLog logs
     all = all_possible logs p.0 p.1
-
-    no_absent : NoSuch (IsAbsent expected logs)
-    no_absent = none_of (IsAbsent expected logs) (subst (IsListOf (IsAbsent expected logs)) none.absent found.absent)
-
-    no_unlisted : NoSuch (IsUnlisted expected logs)
-    no_unlisted = none_of (IsUnlisted expected logs) (subst (λ (xs : List UnlistedUid). IsListOf (IsUnlisted expected logs) (map (λ (s : UnlistedUid). s.uid) xs)) none.unlisted found.unlisted)
-
-    no_unsettled : NoSuch (IsUnsettled expected logs)
-    no_unsettled = subst (λ x. MatchOption x (NoSuch (IsUnsettled expected logs)) (IsUnsettledWith expected logs)) none.unsettled found.unsettled
-
-    no_doubtful : NoSuch (IsDoubtful expected logs)
-    no_doubtful = none_of (IsDoubtful expected logs) (subst (λ (xs : List DoubtfulUid). IsListOf (IsDoubtful expected logs) (map (λ (s : DoubtfulUid). s.uid) xs)) none.doubtful found.doubtful)
 
     -- a UID that may be there is expected
     expected_of : (u : ℕ) → IsPossibleUid logs u → has expected u ≡ true
@@ -191,6 +179,14 @@ none_is_whole expected logs f p found none = (
         (λ m. absurd (no_absent u (h, λ x. m ((IsPossibleUid-iff logs u all).0 x))))
         (possible_either logs u all))
         (certain_either logs u all)
+
+pub none_is_whole : (expected : List ℕ) (logs : List (List LogLine)) (f : Findings) → ArePossible logs → AreFindings expected logs f → AreNone f → IsWhole expected logs
+none_is_whole expected logs f p found none =
+    nothing_is_whole expected logs p
+    (none_of (IsAbsent expected logs) (subst (IsListOf (IsAbsent expected logs)) none.absent found.absent))
+    (none_of (IsUnlisted expected logs) (subst (λ (xs : List UnlistedUid). IsListOf (IsUnlisted expected logs) (map (λ (s : UnlistedUid). s.uid) xs)) none.unlisted found.unlisted))
+    (subst (λ x. MatchOption x (NoSuch (IsUnsettled expected logs)) (IsUnsettledWith expected logs)) none.unsettled found.unsettled)
+    (none_of (IsDoubtful expected logs) (subst (λ (xs : List DoubtfulUid). IsListOf (IsDoubtful expected logs) (map (λ (s : DoubtfulUid). s.uid) xs)) none.doubtful found.doubtful))
 
 -- a list of what there is none of is empty
 none_list : (P : ℕ → Type 0) (us : List ℕ) → NoSuch P → IsListOf P us → us ≡ []

@@ -72,7 +72,7 @@ left_from (l ∷ logs) (s ∷ sets) u z i a =
     (any_cases (IsOpenIn u) l logs a)
 
 -- possible in one, it is open in it or certain
-open_or_certain : (logs : List (List LogLine)) (u : ℕ) → All IsPossibleLog logs → Any (IsPossibleIn u) logs → Any (IsOpenIn u) logs ⊎ Any (IsCertainIn u) logs
+pub open_or_certain : (logs : List (List LogLine)) (u : ℕ) → All IsPossibleLog logs → Any (IsPossibleIn u) logs → Any (IsOpenIn u) logs ⊎ Any (IsCertainIn u) logs
 open_or_certain [] u all a = absurd (any_none (IsPossibleIn u) a)
 open_or_certain (l ∷ logs) u all a =
     ⊎_elim
@@ -86,7 +86,7 @@ open_or_certain (l ∷ logs) u all a =
     (open_or_certain logs u (All-tail IsPossibleLog l logs all) b))
     (any_cases (IsPossibleIn u) l logs a)
 
-open_possible : (logs : List (List LogLine)) (u : ℕ) → Any (IsOpenIn u) logs → Any (IsPossibleIn u) logs
+pub open_possible : (logs : List (List LogLine)) (u : ℕ) → Any (IsOpenIn u) logs → Any (IsPossibleIn u) logs
 open_possible logs u a = (a.0, a.1, a.2, a.3, a.4.0)
 
 -- ---- the facts of all logs

@@ -2,3 +2,4 @@ pub mod Families
 pub mod Findings
 pub mod Joined
 pub mod Agreeing
+pub mod Surveys

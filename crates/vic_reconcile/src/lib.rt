@@ -8,6 +8,8 @@ mod findings;
 mod joining;
 pub mod laws;
 mod reconciliation;
+mod surveys;
 
 pub use findings::{DoubtfulUid, Findings, UnlistedUid, Unsettled};
 pub use reconciliation::{Place, Reconciliation};
+pub use surveys::{PlainFindings, Survey, compare_surveys};

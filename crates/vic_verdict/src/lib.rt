@@ -27,7 +27,7 @@ pub use demands::{Found, Met};
 pub use differences::{Differences, compare};
 pub use explanation::{Explanation, explain, explain_with};
 pub use first_line::first_impossible_line;
-pub use judging::{Verdict, judge, judge_with};
+pub use judging::{Verdict, judge, judge_told, judge_with};
 pub use log_facts::{Facts, facts_of};
 pub use missing::{keys_in_order, missing_from};
 pub use possible::{Before, Contradiction, open_and_met};

@@ -1,2 +1,4 @@
 mod CrcBytes
 mod ListedLines
+mod ArrayFaults
+mod Answered

@@ -4,3 +4,5 @@ pub mod Inventory
 pub mod Lines
 pub mod Names
 pub mod Simulated
+pub mod Arrays
+pub mod Reconciled

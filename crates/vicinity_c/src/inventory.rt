@@ -91,12 +91,19 @@ fn slot_of(request: &Request, slot: u32) -> VicinityMask
         return no_mask(WRONG_SLOT);
     }
     match request.slot_mask(slot as u8) {
-        Some(mask) => VicinityMask {
-            fault: 0,
-            len: u32::from(mask.len()),
-            value: mask.value(),
-        },
+        Some(mask) => mask_fields(&mask),
         None => no_mask(WRONG_SLOT),
+    }
+}
+
+/// A mask.
+pub(crate) fn mask_fields(mask: &Mask) -> VicinityMask
+    ensures { result ≡ spec.mask_fields mask.now }
+{
+    VicinityMask {
+        fault: 0,
+        len: u32::from(mask.len()),
+        value: mask.value(),
     }
 }
 

@@ -8,13 +8,16 @@ ghost use Rattle.vic_answer.specs.CheckText.{IsCompleteText};
 ghost use Rattle.vic_answer.specs.ExplainedNumbers.{AreExplainedNumbersFor};
 ghost use Rattle.vic_answer.specs.Numbers.{AreNumbersFor, no_answer};
 
+mod arrays;
 mod fields;
 mod frames;
 mod inventory;
 mod lines;
 mod names;
+mod reconciled;
 mod report;
 mod simulated;
+mod surveys;
 
 use crate::lines::with_listed;
 pub use fields::{VicinityReply, VicinityRequest};

@@ -36,13 +36,20 @@ pub extern "C" fn vicinity_fault_name(fault: u32, name: &mut VicinityName) -> u3
     ensures name { name.new ≡ spec.named (spec.fault_name fault) }
     ensures len { result ≡ length (spec.fault_name fault) }
 {
-    let text = match fault / 100 {
+    *name = named(fault_name(fault).as_bytes());
+    name.len
+}
+
+/// The name of a fault.
+pub(crate) fn fault_name(fault: u32) -> &'static str
+    ensures name { result.now ≡ spec.fault_name fault }
+    ensures short { length result.now ≤ 16 }
+{
+    match fault / 100 {
         0 => line_fault_name(fault),
         1 => frame_fault_name(fault),
         _ => refusal_name(fault),
-    };
-    *name = named(text.as_bytes());
-    name.len
+    }
 }
 
 /// A name with zeros after it.

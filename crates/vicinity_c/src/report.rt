@@ -77,7 +77,7 @@ pub extern "C" fn vicinity_report_listed(
 }
 
 /// Returns no answer and no findings: memory was refused.
-fn refuse(answer: &mut VicinityAnswer, needed: &mut usize) -> u32
+pub(crate) fn refuse(answer: &mut VicinityAnswer, needed: &mut usize) -> u32
     ensures answer { answer.new ≡ no_answer }
     ensures needed { needed.new ≡ 0 }
     ensures status { result ≡ no_answer.status }

@@ -1,0 +1,17 @@
+use Rattle.std.proofs.Common.{◌≡◌, ℕ, List, sym, subst}
+use Rattle.std.proofs.lemmas.Result.{IfOk-weaker}
+use Rattle.vic_frame.specs.Masks.{BitMask}
+use Rattle.vic_log.specs.declared.entry.LogLine.{LogLine}
+use Rattle.vic_reconcile.specs.declared.surveys.Survey.{Survey}
+use Rattle.vic_reconcile.specs.Surveys.{AreOpenIn, IsSurvey}
+use Rattle.vic_answer.specs.declared.survey.Surveyed.{Surveyed}
+use Rattle.vic_answer.specs.declared.survey.Surveyed.TheVariants.{Judged}
+use Rattle.vic_answer.specs.SurveyNumbers.{IsAnswerWith, IsSurveyed, answer_of}
+use Rattle.vic_answer.proofs.survey.open_masks_of.Goals as goal
+
+of_survey : (text : List ℕ) (x : Surveyed) (s : Survey) (ms : List BitMask) → x ≡ Judged s → ((lines : List LogLine) → IsSurvey lines s → AreOpenIn lines ms) → IsSurveyed text x → IsAnswerWith AreOpenIn text (answer_of x) ms
+of_survey text x s ms is told = subst (λ y. IsSurveyed text y → IsAnswerWith AreOpenIn text (answer_of y) ms) (sym is) (λ w. (w.0, w.1, w.2.verdict, told w.0.lines w.2))
+
+pub returns-in-Judged : goal.returns-in-Judged
+returns-in-Judged c =
+    IfOk-weaker c.open_masks.result _ _ (λ masks told text w. of_survey text c.args.surveyed.now c.in-Judged.survey masks.items c.in-Judged.is told w) c.open_masks.ensures

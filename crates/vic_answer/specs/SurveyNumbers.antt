@@ -1,0 +1,97 @@
+-- What is left of a log without its lines, and the findings by it, in numbers.
+use Rattle.std.specs.Prelude.{◌≡◌, ℕ, List, [], ◌∷◌, ◌++◌, Option, Some, None, map, length}
+use Rattle.vic_frame.specs.Masks.{BitMask}
+use Rattle.vic_log.specs.Lines.{lines_of_text}
+use Rattle.vic_log.specs.declared.entry.LogLine.{LogLine}
+use Rattle.vic_log.specs.Log.{LogValue}
+use Rattle.vic_log.specs.Text.{IsLogOf, IsFirstFault}
+use Rattle.vic_verdict.specs.Verdict.{IsVerdict}
+use Rattle.vic_verdict.specs.declared.judging.Verdict.{Verdict}
+use Rattle.vic_verdict.specs.declared.judging.Verdict.TheVariants as verdict
+use Rattle.vic_reconcile.specs.Surveys.{AreFindingsBy, IsSurvey}
+use Rattle.vic_reconcile.specs.declared.surveys.PlainFindings.{PlainFindings}
+use Rattle.vic_answer.specs.declared.check.Answer.{Answer}
+use Rattle.vic_answer.specs.declared.check.Answer.TheVariants as answer
+use Rattle.vic_answer.specs.declared.finding_numbers.VicinityFinding.{VicinityFinding}
+use Rattle.vic_answer.specs.declared.numbers.VicinityAnswer.{VicinityAnswer}
+use Rattle.vic_answer.specs.declared.survey.Surveyed.{Surveyed}
+use Rattle.vic_answer.specs.declared.survey.Surveyed.TheVariants.{Judged, RefusedAt}
+use Rattle.vic_answer.specs.ExplainedNumbers.{IsPutInto}
+use Rattle.vic_answer.specs.FindingNumbers.{absent_finding, unlisted_finding, unsettled_finding, doubtful_finding}
+use Rattle.vic_answer.specs.Numbers.{no_answer, numbers_of, padded}
+use Rattle.vic_answer.specs.Refusals.{refused_at}
+
+-- ---- of one log
+
+-- the answer to a text: the survey of its log, or its first fault
+abbrev pub IsSurveyed : List ℕ → Surveyed → Type 0
+IsSurveyed text (Judged s) =
+    (log : LogValue) × IsLogOf (lines_of_text text) log × IsSurvey log.lines s
+IsSurveyed text (RefusedAt n fault) = IsFirstFault (lines_of_text text) n fault
+
+-- the answer of `check` to the same text
+abbrev pub answer_of : Surveyed → Answer
+answer_of (Judged s) = answer.Judged s.verdict
+answer_of (RefusedAt n fault) = answer.RefusedAt n fault
+
+-- its certain UIDs, none if the text is refused
+abbrev pub certain_of : Surveyed → List ℕ
+certain_of (Judged s) = s.certain.items
+certain_of (RefusedAt n fault) = []
+
+-- the answer to a text, where P holds of the lines of its log and the items; of a refused text
+-- there are none
+abbrev pub IsAnswerWith : {T : Type 0} → (List LogLine → List T → Type 0) → List ℕ → Answer
+    → List T → Type 0
+IsAnswerWith P text (answer.Judged v) xs =
+    (log : LogValue) × IsLogOf (lines_of_text text) log × IsVerdict log.lines v
+    × P log.lines xs
+IsAnswerWith P text (answer.RefusedAt n fault) xs =
+    IsFirstFault (lines_of_text text) n fault × (xs ≡ [])
+
+-- these are the numbers of the answer to a text, there are `count` items, which P has of its log,
+-- and this is what becomes of the buffer for them
+pub record AreNumbersWith {T R : Type 0} (P : List LogLine → List T → Type 0) (number_of : T → R)
+    (text : List ℕ) (numbers : VicinityAnswer) (count : ℕ) (room room' : List R) : Type 0 where
+  pub answer : Answer
+  pub items : List T
+  pub right : IsAnswerWith P text answer items
+  pub numbers_are : numbers ≡ numbers_of answer
+  pub counted : count ≡ length items
+  pub put : IsPutInto (map number_of items) room room'
+
+-- ---- of several
+
+-- the first of the findings, as a verdict; if there is none, how many UIDs are expected
+abbrev pub first_of : List ℕ → List ℕ → Option BitMask → List ℕ → ℕ → Verdict
+first_of (u ∷ absent) unlisted unsettled doubtful count = verdict.Absent u
+first_of [] (u ∷ unlisted) unsettled doubtful count = verdict.Unlisted u
+first_of [] [] (Some m) doubtful count = verdict.Unsettled m
+first_of [] [] None (u ∷ doubtful) count = verdict.Doubtful u
+first_of [] [] None [] count = verdict.Complete count
+
+abbrev pub plain_answer : PlainFindings → ℕ → Answer
+plain_answer f count =
+    answer.Judged (first_of f.absent.items f.unlisted.items f.unsettled f.doubtful.items count)
+
+-- no line shows the UID
+abbrev pub unsettled_findings : Option BitMask → List VicinityFinding
+unsettled_findings None = []
+unsettled_findings (Some m) = unsettled_finding m ∷ []
+
+-- the findings, in their order
+abbrev pub plain_findings : PlainFindings → List VicinityFinding
+plain_findings f =
+    map (λ u. absent_finding (record { uid = u; line = 0 })) f.absent.items
+    ++ map (λ u. unlisted_finding (record { uid = u; line = 0 })) f.unlisted.items
+    ++ unsettled_findings f.unsettled ++ map doubtful_finding f.doubtful.items
+
+-- refused at a place, by the number of a fault and its name
+abbrev pub refusal_numbers : (line fault : ℕ) → List ℕ → VicinityAnswer
+refusal_numbers line fault name = record no_answer {
+  kind = 7;
+  status = 3;
+  line = line;
+  fault = fault;
+  text = padded (refused_at line name);
+}

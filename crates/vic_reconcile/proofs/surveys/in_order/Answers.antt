@@ -1,0 +1,32 @@
+use Rattle.std.proofs.Common.{◌≡◌, [], ◌∷◌, ◌++◌, take, length, ap, sym, subst, ◌∙◌, ⊎_elim, arith}
+use Rattle.std.specs.Prelude.{nat_eq}
+use Rattle.std.proofs.lemmas.Bool.{false≢true, or_cases}
+use Rattle.std.proofs.lemmas.List.{take_all, take_more}
+use Rattle.std.proofs.lemmas.List.Folds.{list_any-append}
+use Rattle.vic_frame.specs.Uids.{IsUid, has}
+use Rattle.vic_log.proofs.Sets.{has_cases}
+use Rattle.vic_reconcile.proofs.surveys.in_order.Goals as goal
+
+pub loop-uid-preserved : goal.loop-uid-preserved
+loop-uid-preserved c =
+    let us = c.args.uids.now in
+    let i = c.loop-uid.uid-index in
+    let u = c.uid-item.result in
+    let before = c.loop-uid.invariant in
+    record {
+      items =
+          c.in_ok-push.ensures.items
+          ∙ (ap (λ vs. vs ++ u ∷ []) before.items ∙ (ap (λ v. take i us ++ v ∷ []) c.uid-item.is ∙ sym (take_more us i u c.loop-uid-test.true)));
+      uids = λ v h. ⊎_elim
+          (λ k. before.uids v k)
+          (λ k. ⊎_elim (λ e. subst IsUid (sym e) c.number-number.ensures.range) (λ none. absurd (false≢true none)) (has_cases v u [] k))
+          (or_cases _ _ (sym (ap (λ vs. has vs v) c.in_ok-push.ensures.items ∙ list_any-append (nat_eq v) c.loop-uid.sorted.items (u ∷ [])) ∙ h));
+    }
+
+pub returns-clause-members : goal.returns-clause-members
+returns-clause-members c u =
+    c.put_in_order.ensures.members u
+    ∙ ap (λ vs. has vs u) (c.loop-uid.invariant.items ∙ take_all c.loop-uid.uid-index c.args.uids.now (let end = c.loop-uid-test.false in omega arith))
+
+pub returns-clause-uids : goal.returns-clause-uids
+returns-clause-uids c u h = c.loop-uid.invariant.uids u (sym (c.put_in_order.ensures.members u) ∙ h)

@@ -1,0 +1,9 @@
+use Rattle.std.proofs.Common.{◌≡◌, ℕ, take, true}
+use Rattle.vic_frame.specs.Uids.{IsUid, has}
+use Rattle.vic_reconcile.proofs.surveys.in_order.Given as goal
+
+abbrev pub invariant-loop-uid : goal.invariant-loop-uid
+invariant-loop-uid l = record {
+  items : l.sorted.items ≡ take l.uid-index l.uids;
+  uids : (u : ℕ) → has l.sorted.items u ≡ true → IsUid u;
+}

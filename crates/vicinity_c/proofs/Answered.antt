@@ -1,0 +1,106 @@
+-- What is answered to arrays, and the kinds of these answers.
+use Rattle.std.proofs.Common.{◌≡◌, ℕ, List, [], ◌∷◌, Option, Some, None, length, map, refl, sym, ap, subst, ◌∙◌, arith, inl, inr}
+use Rattle.vic_frame.specs.Masks.{BitMask}
+use Rattle.vic_log.specs.declared.entry.LogLine.{LogLine}
+use Rattle.vic_reconcile.specs.declared.surveys.PlainFindings.{PlainFindings}
+use Rattle.vic_reconcile.specs.Families.{IsCertainUid, IsPossibleUid}
+use Rattle.vic_reconcile.specs.Findings.{IsWhole}
+use Rattle.vic_reconcile.specs.Surveys.{AreNoneOf, AreOpenIn, AreTogether, IsAmong, MayBe}
+use Rattle.vic_answer.specs.declared.check.Answer.{Answer}
+use Rattle.vic_answer.specs.declared.check.Answer.TheVariants.{Judged, RefusedAt}
+use Rattle.vic_answer.specs.declared.finding_numbers.VicinityFinding.{VicinityFinding}
+use Rattle.vic_answer.specs.declared.numbers.VicinityAnswer.{VicinityAnswer}
+use Rattle.vic_answer.specs.ExplainedNumbers.{IsPutInto}
+use Rattle.vic_answer.specs.Numbers.{numbers_of}
+use Rattle.vic_answer.specs.SurveyNumbers.{IsAnswerWith, first_of, plain_answer}
+use Rattle.vicinity_c.specs.declared.inventory.VicinityMask.{VicinityMask}
+use Rattle.vicinity_c.specs.Arrays.{HaveNoFault, faults_of, mask_in}
+use Rattle.vicinity_c.specs.Inventory.{mask_fields}
+use Rattle.vicinity_c.specs.Reconciled.{AreOpenFields, AreReconciled, AreRefused, IsReconciledBy}
+
+pub with_fields : (text : List ℕ) (a : Answer) (ms : List BitMask) → IsAnswerWith AreOpenIn text a ms → IsAnswerWith AreOpenFields text a (map mask_fields ms)
+with_fields text (Judged v) ms w = (w.0, w.1, w.2, (ms, refl, w.3))
+with_fields text (RefusedAt n fault) ms w = (w.0, ap (map mask_fields) w.1)
+
+-- ---- the kinds of the answers
+
+pub never_refused : (absent unlisted : List ℕ) (m : Option BitMask) (doubtful : List ℕ) (n : ℕ) → (numbers_of (Judged (first_of absent unlisted m doubtful n))).kind ≡ 7 → ⊥
+never_refused (u ∷ absent) unlisted m doubtful n h = omega (arith, h)
+never_refused [] (u ∷ unlisted) m doubtful n h = omega (arith, h)
+never_refused [] [] (Some m) doubtful n h = omega (arith, h)
+never_refused [] [] None (u ∷ doubtful) n h = omega (arith, h)
+never_refused [] [] None [] n h = omega (arith, h)
+
+pub always_some : (absent unlisted : List ℕ) (m : Option BitMask) (doubtful : List ℕ) (n : ℕ) → (numbers_of (Judged (first_of absent unlisted m doubtful n))).kind ≡ 0 → ⊥
+always_some (u ∷ absent) unlisted m doubtful n h = omega (arith, h)
+always_some [] (u ∷ unlisted) m doubtful n h = omega (arith, h)
+always_some [] [] (Some m) doubtful n h = omega (arith, h)
+always_some [] [] None (u ∷ doubtful) n h = omega (arith, h)
+always_some [] [] None [] n h = omega (arith, h)
+
+none_where : (absent unlisted : List ℕ) (m : Option BitMask) (doubtful : List ℕ) (n : ℕ) → (numbers_of (Judged (first_of absent unlisted m doubtful n))).kind ≡ 1
+    → (absent ≡ []) × (unlisted ≡ []) × (m ≡ None) × (doubtful ≡ []) × ((numbers_of (Judged (first_of absent unlisted m doubtful n))).count ≡ n)
+none_where (u ∷ absent) unlisted m doubtful n h = absurd (omega (arith, h))
+none_where [] (u ∷ unlisted) m doubtful n h = absurd (omega (arith, h))
+none_where [] [] (Some m) doubtful n h = absurd (omega (arith, h))
+none_where [] [] None (u ∷ doubtful) n h = absurd (omega (arith, h))
+none_where [] [] None [] n h = (refl, refl, refl, refl, refl)
+
+pub none_found : (f : PlainFindings) (n : ℕ) → (numbers_of (plain_answer f n)).kind ≡ 1 → AreNoneOf f
+none_found f n h =
+    let w = none_where f.absent.items f.unlisted.items f.unsettled f.doubtful.items n h in
+    record { absent = w.0; unlisted = w.1; unsettled = w.2; doubtful = w.3 }
+
+pub counted : (f : PlainFindings) (n : ℕ) → (numbers_of (plain_answer f n)).kind ≡ 1 → (numbers_of (plain_answer f n)).count ≡ n
+counted f n h = (none_where f.absent.items f.unlisted.items f.unsettled f.doubtful.items n h).4
+
+-- ---- what is answered, in a buffer
+
+pub found_by_arrays : (es cs : List ℕ) (ms : List VicinityMask) (numbers : VicinityAnswer) (list : List VicinityFinding) (count : ℕ) (room room' : List VicinityFinding) → IsReconciledBy es cs ms numbers list
+    → count ≡ length list → IsPutInto list room room' → (numbers.kind ≡ 7 → ⊥)
+    → AreReconciled (MayBe cs (map mask_in ms)) (IsAmong cs) es numbers count room room'
+found_by_arrays es cs ms numbers list count room room' (inl r) long put some = absurd (some (ap (λ x. x.kind) r.0.1))
+found_by_arrays es cs ms numbers list count room room' (inr a) long put some = record {
+  findings = a.findings;
+  right = a.by_arrays;
+  numbers_are = a.numbers_are;
+  counted = long ∙ ap length a.list_are;
+  put = subst (λ l. IsPutInto l room room') a.list_are put;
+}
+
+pub found_by_logs : (es cs : List ℕ) (ms : List VicinityMask) (numbers : VicinityAnswer) (list : List VicinityFinding) (count : ℕ) (room room' : List VicinityFinding) → IsReconciledBy es cs ms numbers list
+    → count ≡ length list → IsPutInto list room room' → (numbers.kind ≡ 7 → ⊥) → (logs : List (List LogLine)) → AreTogether logs cs (map mask_in ms)
+    → AreReconciled (IsPossibleUid logs) (IsCertainUid logs) es numbers count room room'
+found_by_logs es cs ms numbers list count room room' (inl r) long put some logs t = absurd (some (ap (λ x. x.kind) r.0.1))
+found_by_logs es cs ms numbers list count room room' (inr a) long put some logs t = record {
+  findings = a.findings;
+  right = a.by_logs logs t;
+  numbers_are = a.numbers_are;
+  counted = long ∙ ap length a.list_are;
+  put = subst (λ l. IsPutInto l room room') a.list_are put;
+}
+
+pub whole_where_complete : (es cs : List ℕ) (ms : List VicinityMask) (numbers : VicinityAnswer) (list : List VicinityFinding) → IsReconciledBy es cs ms numbers list → numbers.kind ≡ 1
+    → (logs : List (List LogLine)) → AreTogether logs cs (map mask_in ms) → IsWhole es logs
+whole_where_complete es cs ms numbers list (inl r) is logs t = let seven : numbers.kind ≡ 7 = ap (λ x. x.kind) r.0.1 in absurd (omega (arith, is, seven))
+whole_where_complete es cs ms numbers list (inr a) is logs t = a.whole logs t (none_found a.findings (length es) (sym (ap (λ x. x.kind) a.numbers_are) ∙ is))
+
+pub count_where_complete : (es cs : List ℕ) (ms : List VicinityMask) (numbers : VicinityAnswer) (list : List VicinityFinding) → IsReconciledBy es cs ms numbers list → numbers.kind ≡ 1 → numbers.count ≡ length es
+count_where_complete es cs ms numbers list (inl r) is = let seven : numbers.kind ≡ 7 = ap (λ x. x.kind) r.0.1 in absurd (omega (arith, is, seven))
+count_where_complete es cs ms numbers list (inr a) is = ap (λ x. x.count) a.numbers_are ∙ counted a.findings (length es) (sym (ap (λ x. x.kind) a.numbers_are) ∙ is)
+
+pub no_fault : (es cs : List ℕ) (ms : List VicinityMask) (numbers : VicinityAnswer) (list : List VicinityFinding) → IsReconciledBy es cs ms numbers list → (numbers.kind ≡ 7 → ⊥) → HaveNoFault (faults_of es cs ms)
+no_fault es cs ms numbers list (inl r) some = absurd (some (ap (λ x. x.kind) r.0.1))
+no_fault es cs ms numbers list (inr a) some = a.none
+
+-- it is refused, with no findings
+pub refused : (es cs : List ℕ) (ms : List VicinityMask) (numbers : VicinityAnswer) (list : List VicinityFinding) → IsReconciledBy es cs ms numbers list → numbers.kind ≡ 7 → AreRefused (faults_of es cs ms) numbers × (list ≡ [])
+refused es cs ms numbers list (inl r) is = r
+refused es cs ms numbers list (inr a) is = absurd (never_refused a.findings.absent.items a.findings.unlisted.items a.findings.unsettled a.findings.doubtful.items (length es) (sym (ap (λ x. x.kind) a.numbers_are) ∙ is))
+
+pub answered : (es cs : List ℕ) (ms : List VicinityMask) (numbers : VicinityAnswer) (list : List VicinityFinding) → IsReconciledBy es cs ms numbers list → numbers.kind ≡ 0 → ⊥
+answered es cs ms numbers list (inl r) is = let seven : numbers.kind ≡ 7 = ap (λ x. x.kind) r.0.1 in omega (arith, is, seven)
+answered es cs ms numbers list (inr a) is = always_some a.findings.absent.items a.findings.unlisted.items a.findings.unsettled a.findings.doubtful.items (length es) (sym (ap (λ x. x.kind) a.numbers_are) ∙ is)
+
+pub put_nothing : (list room room' : List VicinityFinding) → list ≡ [] → IsPutInto list room room' → room' ≡ room
+put_nothing list room room' e put = let same : IsPutInto [] room room' = subst (λ l. IsPutInto l room room') e put in same.fits (omega arith)

@@ -1,0 +1,28 @@
+use Rattle.std.proofs.Common.{◌∷◌, [], ◌++◌, get_or, length, map, take, ap, sym, ◌∙◌, arith}
+use Rattle.std.proofs.lemmas.List.{length-map, take_all, take_more}
+use Rattle.std.proofs.lemmas.Option.{slice_get-get_or}
+use Rattle.vicinity_c.specs.Arrays.{uid_fault}
+use Rattle.vicinity_c.proofs.ArrayFaults.{map_get, none_all, none_next, uid_sound}
+use Rattle.vicinity_c.proofs.arrays.certain_uids.Goals as goal
+
+pub loop-index-preserved : goal.loop-index-preserved
+loop-index-preserved c =
+    let us = c.args.numbers.now in
+    let i = c.loop-index.index in
+    let u = get_or us i 0 in
+    let before = c.loop-index.invariant in
+    record {
+      uids =
+          c.in_ok-push.ensures.items
+          ∙ (ap (λ vs. vs ++ c.in-Some.uid ∷ []) before.uids ∙ (ap (λ v. take i us ++ v ∷ []) c.in-Some.ensures.1 ∙ sym (take_more us i 0 c.loop-index-test.true)));
+      none = none_next (map uid_fault us) i (uid_fault u) (map_get uid_fault us i u (slice_get-get_or us i 0 c.loop-index-test.true)) (uid_sound u c.in-Some.ensures.0) before.none;
+    }
+
+pub returns : goal.returns
+returns c =
+    let us = c.args.numbers.now in
+    let end = c.loop-index-test.false in
+    let long = length-map us uid_fault in (
+      c.loop-index.invariant.uids ∙ take_all c.loop-index.index us end,
+      none_all (map uid_fault us) c.loop-index.index (omega (arith, long, end)) c.loop-index.invariant.none,
+    )

@@ -1,0 +1,9 @@
+use Rattle.std.proofs.Common.{◌≡◌, map, take}
+use Rattle.vicinity_c.specs.Arrays.{HaveNoFault, uid_fault}
+use Rattle.vicinity_c.proofs.arrays.certain_uids.Given as goal
+
+abbrev pub invariant-loop-index : goal.invariant-loop-index
+invariant-loop-index l = record {
+  uids : l.uids.items ≡ take l.index l.numbers;
+  none : HaveNoFault (take l.index (map uid_fault l.numbers));
+}

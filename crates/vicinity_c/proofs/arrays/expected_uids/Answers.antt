@@ -1,0 +1,54 @@
+use Rattle.std.proofs.Common.{◌≡◌, ◌≤◌, ℕ, Ok, Err, Some, ◌∷◌, [], ◌++◌, get_or, length, take, ap, sym, subst, ◌∙◌, arith}
+use Rattle.std.specs.BTreeSet.{contains}
+use Rattle.std.specs.Ordering.{nat_cmp}
+use Rattle.std.proofs.lemmas.List.{length-take-le, take_all, take_more}
+use Rattle.std.proofs.lemmas.Option.{slice_get-get_or}
+use Rattle.vic_frame.specs.Uids.{has}
+use Rattle.vicinity_c.specs.Arrays.{IsNextRead, expected_fault, expected_faults}
+use Rattle.vicinity_c.proofs.ArrayFaults.{expected_get, length_expected, none_all, none_next}
+use Rattle.vicinity_c.proofs.arrays.expected_uids.Goals as goal
+
+pub loop-index-preserved : goal.loop-index-preserved
+loop-index-preserved c =
+    let us = c.args.numbers.now in
+    let i = c.loop-index.index in
+    let u = get_or us i 0 in
+    let before = c.loop-index.invariant in
+    let lt = c.loop-index-test.true in
+    let long : length (take i us) ≡ i = length-take-le i us (omega (arith, lt)) in
+    let next : IsNextRead (take i us) u (contains nat_cmp c.expected_uid.new.seen) (Ok c.in-Ok.uid) = subst (IsNextRead (take i us) u (contains nat_cmp c.expected_uid.new.seen)) c.in-Ok.is (c.in_ok-uid.ensures (take i us) long before.seen) in
+    let grown = take_more us i 0 lt in
+    record {
+      uids =
+          c.in_ok-push-in-Ok.ensures.items
+          ∙ (ap (λ vs. vs ++ c.in-Ok.uid ∷ []) before.uids ∙ (ap (λ v. take i us ++ v ∷ []) next.0 ∙ sym grown));
+      seen = λ w. next.3 w ∙ ap (λ vs. has vs w) (sym grown);
+      few = let room = next.2 in omega (arith, room, long);
+      none = none_next (expected_faults us) i (expected_fault (take i us) u) (expected_get us i u (slice_get-get_or us i 0 lt)) next.1 before.none;
+    }
+
+pub returns : goal.returns
+returns c =
+    let us = c.args.numbers.now in
+    let i = c.loop-index.index in
+    let end = c.loop-index-test.false in
+    let few = c.loop-index.invariant.few in
+    let long = length_expected us in (
+      c.loop-index.invariant.uids ∙ take_all i us end,
+      omega (arith, few, end),
+      none_all (expected_faults us) i (omega (arith, long, end)) c.loop-index.invariant.none,
+    )
+
+pub returns-in-Err : goal.returns-in-Err
+returns-in-Err c =
+    let us = c.args.numbers.now in
+    let i = c.loop-index.index in
+    let u = get_or us i 0 in
+    let lt = c.loop-index-test.true in
+    let long : length (take i us) ≡ i = length-take-le i us (omega (arith, lt)) in
+    let next : IsNextRead (take i us) u (contains nat_cmp c.expected_uid.new.seen) (Err c.in-Err.number) = subst (IsNextRead (take i us) u (contains nat_cmp c.expected_uid.new.seen)) c.in-Err.is (c.in_ok-uid.ensures (take i us) long c.loop-index.invariant.seen) in
+    record {
+      there = expected_get us i u (slice_get-get_or us i 0 lt) ∙ ap (λ f. Some f) (sym next.1);
+      is_fault = next.0;
+      before = c.loop-index.invariant.none;
+    }

@@ -1,0 +1,15 @@
+use Rattle.std.proofs.Common.{◌≡◌, ℕ, ◌≤◌, take}
+use Rattle.std.specs.BTreeSet.{contains}
+use Rattle.std.specs.Ordering.{nat_cmp}
+use Rattle.vic_frame.specs.Uids.{has}
+use Rattle.vicinity_c.specs.declared.arrays.TheConstants.{MOST}
+use Rattle.vicinity_c.specs.Arrays.{HaveNoFault, expected_faults}
+use Rattle.vicinity_c.proofs.arrays.expected_uids.Given as goal
+
+abbrev pub invariant-loop-index : goal.invariant-loop-index
+invariant-loop-index l = record {
+  uids : l.uids.items ≡ take l.index l.numbers;
+  seen : (u : ℕ) → contains nat_cmp l.seen u ≡ has (take l.index l.numbers) u;
+  few : l.index ≤ MOST;
+  none : HaveNoFault (take l.index (expected_faults l.numbers));
+}

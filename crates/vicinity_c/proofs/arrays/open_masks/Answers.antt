@@ -1,0 +1,34 @@
+use Rattle.std.proofs.Common.{◌∷◌, [], ◌++◌, get_or, length, map, take, ap, sym, ◌∙◌, arith}
+use Rattle.std.proofs.lemmas.List.{length-map, map-append, take_all, take_more}
+use Rattle.std.proofs.lemmas.Option.{slice_get-get_or}
+use Rattle.vicinity_c.specs.declared.inventory.VicinityMask.{VicinityMask}
+use Rattle.vicinity_c.specs.Arrays.{mask_fault, mask_in}
+use Rattle.vicinity_c.proofs.ArrayFaults.{map_get, none_all, none_next}
+use Rattle.vicinity_c.proofs.arrays.open_masks.Goals as goal
+
+pub loop-index-preserved : goal.loop-index-preserved
+loop-index-preserved c =
+    let ms = c.args.masks.now in
+    let i = c.loop-index.index in
+    let d : VicinityMask = record { fault = 0; len = 0; value = 0 } in
+    let m = get_or ms i d in
+    let lt = c.loop-index-test.true in
+    let before = c.loop-index.invariant in
+    let read = c.in-Some.ensures in
+    record {
+      masks =
+          c.in_ok-push.ensures.items
+          ∙ (ap (λ vs. vs ++ c.in-Some.mask ∷ []) before.masks
+          ∙ (ap (λ v. map mask_in (take i ms) ++ v ∷ []) read.1
+          ∙ (sym (map-append mask_in (take i ms) (m ∷ [])) ∙ ap (map mask_in) (sym (take_more ms i d lt)))));
+      none = none_next (map mask_fault ms) i (mask_fault m) (map_get mask_fault ms i m (slice_get-get_or ms i d lt)) read.0 before.none;
+    }
+
+pub returns : goal.returns
+returns c =
+    let ms = c.args.masks.now in
+    let end = c.loop-index-test.false in
+    let long = length-map ms mask_fault in (
+      c.loop-index.invariant.masks ∙ ap (map mask_in) (take_all c.loop-index.index ms end),
+      none_all (map mask_fault ms) c.loop-index.index (omega (arith, long, end)) c.loop-index.invariant.none,
+    )

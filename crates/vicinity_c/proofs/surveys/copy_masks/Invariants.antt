@@ -1,0 +1,6 @@
+use Rattle.std.proofs.Common.{◌≡◌, ◌++◌, take, drop, map}
+use Rattle.vicinity_c.specs.Inventory.{mask_fields}
+use Rattle.vicinity_c.proofs.surveys.copy_masks.Given as goal
+
+abbrev pub invariant-loop-index : goal.invariant-loop-index
+invariant-loop-index l = l.room ≡ map mask_fields (take l.index l.masks) ++ drop l.index l.fn.room

@@ -1,0 +1,104 @@
+//! What is left of the log of a text without its lines: its certain UIDs, and its open masks.
+
+ghost use Rattle.std.specs.Prelude.{◌≡◌, ◌≢◌, ◌≤◌, ◌++◌, drop, length, map};
+ghost use Rattle.vic_reconcile.specs.Surveys.{AreCertainIn};
+ghost use Rattle.vic_answer.specs.CheckText.{IsCompleteText};
+ghost use Rattle.vic_answer.specs.ExplainedNumbers.{IsPutInto};
+ghost use Rattle.vic_answer.specs.Numbers.{AreNumbersFor, no_answer};
+ghost use Rattle.vic_answer.specs.SurveyNumbers.{AreNumbersWith};
+ghost use Rattle.vicinity_c.specs.Inventory as inventory;
+ghost use Rattle.vicinity_c.specs.Reconciled.{AreOpenFields};
+
+use crate::inventory::{VicinityMask, mask_fields};
+use crate::report::refuse;
+use std::alloc::Global;
+use vic_answer::{
+    VicinityAnswer, certain_of, numbers_of, open_masks_of, put_uids, survey_text, surveyed_answer,
+};
+use vic_frame::Mask;
+
+/// Judges the log that a text spells, as `vicinity_check` does, and returns its certain UIDs, which
+/// every population has that could have produced it: `needed` is how many there are, 0 if it is
+/// impossible or the text refused. If they fit into the buffer, they are at its start, in rising
+/// order; otherwise it is unchanged, and the same call with a buffer of `needed` elements returns
+/// them.
+#[unsafe(no_mangle)]
+pub extern "C" fn vicinity_certain(
+    alloc: Global,
+    text: &[u8],
+    answer: &mut VicinityAnswer,
+    uids: &mut [u64],
+    needed: &mut usize,
+) -> u32
+    ensures answer { answer.new.kind ≢ 0 → AreNumbersFor text.now answer.new }
+    ensures whole { answer.new.kind ≡ 1 → IsCompleteText text.now answer.new.count }
+    ensures certain { answer.new.kind ≢ 0
+        → AreNumbersWith AreCertainIn text.now answer.new needed.new uids.old uids.new }
+    ensures no_answer { answer.new.kind ≡ 0 → answer.new ≡ no_answer }
+    ensures no_uids { answer.new.kind ≡ 0 → (needed.new ≡ 0) × (uids.new ≡ uids.old) }
+    ensures status { result ≡ answer.new.status }
+{
+    let Ok(surveyed) = survey_text(alloc, text) else {
+        return refuse(answer, needed);
+    };
+    let certain = certain_of(&surveyed);
+    put_uids(certain, uids);
+    *needed = certain.len();
+    let numbers = numbers_of(&surveyed_answer(&surveyed));
+    *answer = numbers;
+    numbers.status
+}
+
+/// Judges the log that a text spells, as `vicinity_check` does, and returns all its open masks: the
+/// masks of at most 56 bits all of whose UIDs are possible and not certain, and that aren't half of
+/// another such mask. `needed` is how many there are, 0 if the log is impossible or the text
+/// refused. If they fit into the buffer, they are at its start, by length, then by value; otherwise
+/// it is unchanged, and the same call with a buffer of `needed` elements returns them.
+#[unsafe(no_mangle)]
+pub extern "C" fn vicinity_open_masks(
+    alloc: Global,
+    text: &[u8],
+    answer: &mut VicinityAnswer,
+    masks: &mut [VicinityMask],
+    needed: &mut usize,
+) -> u32
+    ensures answer { answer.new.kind ≢ 0 → AreNumbersFor text.now answer.new }
+    ensures whole { answer.new.kind ≡ 1 → IsCompleteText text.now answer.new.count }
+    ensures open_masks { answer.new.kind ≢ 0
+        → AreNumbersWith AreOpenFields text.now answer.new needed.new masks.old masks.new }
+    ensures no_answer { answer.new.kind ≡ 0 → answer.new ≡ no_answer }
+    ensures no_masks { answer.new.kind ≡ 0 → (needed.new ≡ 0) × (masks.new ≡ masks.old) }
+    ensures status { result ≡ answer.new.status }
+{
+    let Ok(surveyed) = survey_text(alloc, text) else {
+        return refuse(answer, needed);
+    };
+    let Ok(open) = open_masks_of(alloc, &surveyed) else {
+        return refuse(answer, needed);
+    };
+    put_masks(open.as_slice(), masks);
+    *needed = open.len();
+    let numbers = numbers_of(&surveyed_answer(&surveyed));
+    *answer = numbers;
+    numbers.status
+}
+
+/// Puts masks at the start of a buffer, if they fit.
+fn put_masks(masks: &[Mask], room: &mut [VicinityMask])
+    ensures { IsPutInto (map inventory.mask_fields masks.now) room.old room.new }
+{
+    if masks.len() <= room.len() {
+        copy_masks(masks, room);
+    }
+}
+
+/// Copies masks to the start of a buffer in which they fit.
+fn copy_masks(masks: &[Mask], room: &mut [VicinityMask])
+    requires { length masks.now ≤ length room.old }
+    ensures { room.new
+        ≡ map inventory.mask_fields masks.now ++ drop (length masks.now) room.old }
+{
+    for (index, mask) in masks.iter().enumerate() {
+        room[index] = mask_fields(mask);
+    }
+}
