@@ -429,25 +429,18 @@ struct surveys {
     struct text ends;     /* of size_t: how many masks there are up to the end of each log */
 };
 
-static void put_line_of(struct text *answered, const char *what, uint32_t line, const char *file, const char *after)
+/* Ends a line with the name of a file. */
+static void put_name(struct text *answered, const char *file)
 {
-    put(answered, "%s line %" PRIu32 " of ", what, line);
-    append(answered, file, strlen(file));
-    put(answered, "%s\n", after);
-}
-
-static void put_in(struct text *answered, const char *file)
-{
-    put(answered, " in ");
     append(answered, file, strlen(file));
     put(answered, "\n");
 }
 
 static uint32_t put_refused(struct text *answered, uint32_t line, const char *file, const char *name)
 {
-    char after[LINE_ROOM];
-    snprintf(after, sizeof after, ": %s", name);
-    put_line_of(answered, "refused at", line, file, after);
+    put(answered, "refused at line %" PRIu32 " of ", line);
+    append(answered, file, strlen(file));
+    put(answered, ": %s\n", name);
     return REFUSED;
 }
 
@@ -459,8 +452,10 @@ static uint32_t put_wrong(struct text *answered, const struct vicinity_answer *a
         vicinity_fault_name(answer->fault, &fault);
         return put_refused(answered, answer->line, file, fault.text);
     }
-    if (answer->kind == VICINITY_IMPOSSIBLE)
-        put_line_of(answered, "impossible at", answer->line, file, "");
+    if (answer->kind == VICINITY_IMPOSSIBLE) {
+        put(answered, "impossible at line %" PRIu32 " of ", answer->line);
+        put_name(answered, file);
+    }
     return answer->status == FOUND ? WHOLE : answer->status;
 }
 
@@ -575,9 +570,9 @@ static size_t count_below(const uint64_t *keys, size_t count, uint64_t key)
     return below;
 }
 
-/* The first of some masks, by length and then by value: as many as are put, one more, and one to move them. */
+/* The first of some masks, by length and then by value: as many as are put, and one more. */
 struct first_masks {
-    struct vicinity_mask masks[MOST_OPEN + 2];
+    struct vicinity_mask masks[MOST_OPEN + 2]; /* the last only while they are moved */
     size_t count;
 };
 
@@ -590,12 +585,17 @@ static void keep(struct first_masks *first, const struct vicinity_mask *mask)
     first->count += first->count <= MOST_OPEN;
 }
 
-/* Keeps the masks that are left of a mask without some of its UIDs, whose keys these are. */
+static bool comes_first(const struct first_masks *first, uint32_t len)
+{
+    return first->count <= MOST_OPEN || len <= first->masks[MOST_OPEN].len;
+}
+
+/* Keeps what is left of a mask without some of its UIDs, whose keys these are: those of the masks that come first. */
 static void split(struct first_masks *first, struct vicinity_mask mask, const uint64_t *keys, size_t count)
 {
     if (count == 0) {
         keep(first, &mask);
-    } else if (mask.len < UID_BITS) {
+    } else if (mask.len < UID_BITS && comes_first(first, mask.len + 1)) {
         struct vicinity_mask half = {0, mask.len + 1, mask.value | UINT64_C(1) << mask.len};
         size_t below = count_below(keys, count, key_of(half.value));
         split(first, half, keys + below, count - below);
@@ -626,17 +626,18 @@ static void put_open(const struct surveys *told, const uint64_t *keys, size_t ce
         }
         for (size_t i = 0; i < first.count && i < MOST_OPEN; i++) {
             put_mask(answered, "open", first.masks[i].len, first.masks[i].value);
-            put_in(answered, told->files[log]);
+            put(answered, " in ");
+            put_name(answered, told->files[log]);
         }
         if (first.count > MOST_OPEN) {
-            put(answered, "more open");
-            put_in(answered, told->files[log]);
+            put(answered, "more open in ");
+            put_name(answered, told->files[log]);
         }
     }
 }
 
-/* The first log with an open mask that has a UID, which one of them has. */
-static uint32_t log_of(const struct surveys *told, uint64_t uid)
+/* The first log in which a UID may be. */
+static uint32_t first_log_with(const struct surveys *told, uint64_t uid)
 {
     for (uint32_t log = 0; log < told->logs; log++) {
         size_t count;
@@ -661,26 +662,26 @@ static void put_findings(const struct surveys *told, const struct vicinity_findi
         } else if (it->kind == VICINITY_FINDING_UNLISTED) {
             while (shown->uid < it->uid)
                 shown++;
-            put(answered, "unlisted %016" PRIX64 "\n", it->uid);
-            put_line_of(answered, "by", shown->line, told->files[shown->log], "");
+            put(answered, "unlisted %016" PRIX64 "\nby line %" PRIu32 " of ", it->uid, shown->line);
+            put_name(answered, told->files[shown->log]);
         } else if (it->kind == VICINITY_FINDING_UNSETTLED) {
             put_finding(answered, it);
             put_open(told, keys, certain, answered);
         } else {
-            put(answered, "doubtful %016" PRIX64, it->uid);
-            put_in(answered, told->files[log_of(told, it->uid)]);
+            put(answered, "doubtful %016" PRIX64 " in ", it->uid);
+            put_name(answered, told->files[first_log_with(told, it->uid)]);
         }
     }
 }
 
-/* Whether memory was refused to no array; an empty one then has memory too. */
+/* Whether no array was refused memory. An empty one gets some, since no call takes NULL. */
 static bool has_memory(struct surveys *told)
 {
     return make_room(&told->expected, 0) && make_room(&told->shown, 0) && make_room(&told->masks, 0) &&
            make_room(&told->ends, 0);
 }
 
-/* Reconciles what the texts say. There is memory for the certain UIDs, and for one more. */
+/* Reconciles what the texts say. There is memory for the certain UIDs. */
 static uint32_t reconcile(struct surveys *told, uint64_t *certain, struct text *answered)
 {
     struct vicinity_answer answer = {0};
