@@ -271,10 +271,10 @@ uint32_t vicinity_open_masks(const uint8_t *text, size_t text_len, struct vicini
  * `masks` are what vicinity_certain and vicinity_open_masks wrote for each log, in any order, also
  * repeatedly. A UID is possible if it is among `certain` or in one of the masks.
  *
- * Answer and findings are those of `vicinity reconcile`, but for logs, lines and open masks, which
- * the caller has: the absent UIDs, the unlisted ones, the unsettled mask and the doubtful UIDs,
- * UIDs in rising order. Where a kind says listed, read expected; `count` is how many are expected.
- * The buffer and `*needed` are as with vicinity_report.
+ * The answer and the findings are those of `vicinity reconcile`, without logs, lines and open
+ * masks, which the caller has: first the absent UIDs, then the unlisted ones, the unsettled mask
+ * and the doubtful UIDs. UIDs are in rising order. Where a kind says listed, read expected; `count`
+ * is how many are expected. The buffer and `*needed` are as with vicinity_report.
  *
  * VICINITY_REFUSED means that an element of the arrays is wrong. `line` is the place of the first
  * one, counted from 1 through `expected`, then `certain`, then `masks`. Its fault is
