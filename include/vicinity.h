@@ -7,9 +7,10 @@
  * What the caller has to ensure, since nothing checks it:
  * - `text` points to `text_len` readable bytes, `bytes` to `len`, at most PTRDIFF_MAX. No NUL is
  *   needed at the end, and one inside is an ordinary byte.
- * - `uids` points to `count` readable numbers.
- * - A buffer has `room` writable elements: `population` numbers, `findings` structs and `filled`
- *   bytes. `needed` points to one number, and a pointer to a struct to one struct.
+ * - `uids` and `expected` point to `count` readable numbers. Where vicinity_reconcile reads
+ *   `certain` and `masks`, they point to `certain_count` numbers and `mask_count` structs.
+ * - A buffer stands before its `room`, and has that many writable elements: numbers, structs or
+ *   bytes. `needed` points to one number, and any other pointer to a struct to one struct.
  * - All pointers are aligned, and none is NULL, even where the length is 0.
  * - What is written overlaps nothing else that is passed.
  * - While the call runs, no other thread writes what it reads, or reads or writes what it writes.
@@ -18,8 +19,8 @@
  * - An x86-64 processor has x86-64-v2 (SSE4.2, POPCNT).
  * - The stack has 64 KiB left.
  * Calls share nothing: any number of threads may call at the same time. Only the calls that judge a
- * text or fill in its slots take memory. They can't be stopped. They take about a quarter of a
- * second and 40 MB for a session of 1,000,000 lines, and ten times that for the worst logs: bound
+ * text, reconcile or fill in slots take memory. They can't be stopped. They take about a quarter of
+ * a second and 40 MB for a session of 1,000,000 lines, and ten times that for the worst logs: bound
  * the length of untrusted input.
  */
 #ifndef VICINITY_H
@@ -101,7 +102,7 @@ struct vicinity_answer {
     uint32_t status;     /* the exit status of `vicinity check`: 0 to 3, or 4 for no answer */
     uint32_t count;      /* how many UIDs are listed */
     uint32_t line;       /* from 1 */
-    uint32_t fault;      /* enum vicinity_fault */
+    uint32_t fault;      /* enum vicinity_fault, or VICINITY_WRONG_MASK of vicinity_reconcile */
     uint32_t mask_len;   /* in bits, 0 to 56 */
     uint64_t mask_value; /* below two to the power of mask_len */
     uint64_t uid;        /* its top byte is E0 */
@@ -245,6 +246,47 @@ uint32_t vicinity_explain_listed(const uint8_t *text, size_t text_len, const uin
 uint32_t vicinity_report_listed(const uint8_t *text, size_t text_len, const uint64_t *uids,
                                 size_t count, struct vicinity_answer *answer,
                                 struct vicinity_finding *findings, size_t room, size_t *needed);
+
+/*
+ * Judges a log and lists its certain UIDs, those of tags that must be there, in rising order. Its
+ * `U` lines change the answer, but not these UIDs. `*needed` is how many there are. If `room` is at
+ * least that, they are at the start of `certain`; otherwise nothing is written there: call again
+ * with a larger buffer. There is none, and `*needed` is 0, for VICINITY_IMPOSSIBLE, _REFUSED and
+ * _NO_ANSWER.
+ */
+uint32_t vicinity_certain(const uint8_t *text, size_t text_len, struct vicinity_answer *answer,
+                          uint64_t *certain, size_t room, size_t *needed);
+
+/*
+ * Judges a log and lists all its open masks, by length and then by value, each with `fault` 0. All
+ * UIDs of an open mask, of at most 56 bits, may be there or not, and no wider mask around it is
+ * like that. `U` lines, `*needed` and the buffer are as with vicinity_certain. A possible log
+ * without open masks was read completely: only one population could have produced it.
+ */
+uint32_t vicinity_open_masks(const uint8_t *text, size_t text_len, struct vicinity_answer *answer,
+                             struct vicinity_mask *masks, size_t room, size_t *needed);
+
+/*
+ * Reconciles the logs of many fields with the UIDs that are expected, in any order. `certain` and
+ * `masks` are what vicinity_certain and vicinity_open_masks wrote for each log, in any order, also
+ * repeatedly. A UID is possible if it is among `certain` or in one of the masks.
+ *
+ * The answer and the findings are those of `vicinity reconcile`, without logs, lines and open
+ * masks, which the caller has: first the absent UIDs, then the unlisted ones, the unsettled mask
+ * and the doubtful UIDs. UIDs are in rising order. Where a kind says listed, read expected; `count`
+ * is how many are expected. The buffer and `*needed` are as with vicinity_report.
+ *
+ * VICINITY_REFUSED means that an element of the arrays is wrong. `line` is the place of the first
+ * one, counted from 1 through `expected`, then `certain`, then `masks`. Its fault is
+ * VICINITY_FAULT_NOT_VICINITY for a UID that doesn't begin E0, _DUPLICATE_LISTED for a UID that is
+ * expected a second time, VICINITY_WRONG_MASK for a mask that has a fault, more than 56 bits or a
+ * value with more bits, and VICINITY_FAULT_TOO_MANY_LINES for a UID that is expected after
+ * 4,294,967,295 others. A place beyond that is written as that number.
+ */
+uint32_t vicinity_reconcile(const uint64_t *expected, size_t count, const uint64_t *certain,
+                            size_t certain_count, const struct vicinity_mask *masks,
+                            size_t mask_count, struct vicinity_answer *answer,
+                            struct vicinity_finding *findings, size_t room, size_t *needed);
 
 /*
  * Fills in the slots of a log, as the tags that it lists would answer. What `vicinity simulate`

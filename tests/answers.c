@@ -1,7 +1,8 @@
 /* Everything that the library answers to texts:  answers <TEXTS
  *
- * A text is given as its length in decimal on a line, and its bytes. For each, the answer of both calls is written with every
- * field, and the population, in buffers of none, one and as many elements as it needs. */
+ * A text is given as its length in decimal on a line, and its bytes. For each, the answer of each call is written with every
+ * field; the population in buffers of none, one and as many elements as it needs; the certain UIDs and the open masks, and
+ * what these say of two UIDs. */
 #include "vicinity.h"
 
 #include <inttypes.h>
@@ -38,6 +39,51 @@ static void explain(const uint8_t *text, size_t len, size_t room)
         explain(text, len, room == 0 && needed > 1 ? 1 : needed);
 }
 
+/* Where a call that has no space for what it lists would write it. */
+static uint64_t nothing[4];
+
+static void *elements(size_t count, size_t size)
+{
+    void *room = calloc(count + 1, size);
+    if (!room)
+        abort();
+    return room;
+}
+
+static void reconcile(const uint64_t *certain, size_t uids, const struct vicinity_mask *masks, size_t count)
+{
+    static const uint64_t expected[] = {UINT64_C(0xE0040100000000B2), UINT64_C(0xE0040100000000A1)};
+    struct vicinity_answer answer;
+    size_t needed;
+    vicinity_reconcile(expected, 2, certain, uids, masks, count, &answer, (struct vicinity_finding *)nothing, 0, &needed);
+    struct vicinity_finding *findings = elements(needed, sizeof *findings);
+    show(&answer, vicinity_reconcile(expected, 2, certain, uids, masks, count, &answer, findings, needed, &needed));
+    for (size_t i = 0; i < needed; i++)
+        printf("%" PRIu32 " %" PRIu32 " %" PRIu32 " %" PRIX64 " %" PRIX64 "\n", findings[i].kind, findings[i].line,
+               findings[i].mask_len, findings[i].mask_value, findings[i].uid);
+    free(findings);
+}
+
+static void survey(const uint8_t *text, size_t len)
+{
+    struct vicinity_answer answer;
+    size_t uids, count;
+    vicinity_certain(text, len, &answer, nothing, 0, &uids);
+    vicinity_open_masks(text, len, &answer, (struct vicinity_mask *)nothing, 0, &count);
+    uint64_t *certain = elements(uids, sizeof *certain);
+    struct vicinity_mask *masks = elements(count, sizeof *masks);
+    show(&answer, vicinity_certain(text, len, &answer, certain, uids, &uids));
+    show(&answer, vicinity_open_masks(text, len, &answer, masks, count, &count));
+    for (size_t i = 0; i < uids; i++)
+        printf(" %" PRIX64, certain[i]);
+    for (size_t i = 0; i < count; i++)
+        printf(" %" PRIu32 " %" PRIu32 " %" PRIX64, masks[i].fault, masks[i].len, masks[i].value);
+    printf("\n");
+    reconcile(certain, uids, masks, count);
+    free(certain);
+    free(masks);
+}
+
 int main(void)
 {
     size_t len;
@@ -49,6 +95,7 @@ int main(void)
         memset(&answer, 9, sizeof answer);
         show(&answer, vicinity_check(text, len, &answer));
         explain(text, len, 0);
+        survey(text, len);
         free(text);
     }
     return ferror(stdin) || fflush(stdout) ? 1 : 0;

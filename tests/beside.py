@@ -2,9 +2,10 @@
 """Asks two programs the same, which have to write the same and to end alike:  beside.py PROGRAM REFUSE NUMBER COMMAND ..
 
 PROGRAM is the proved one; the words COMMAND start the other, as an emulator and its program. They are asked with words of
-every kind, with streams that are closed, full or no text, about NUMBER changed logs and a quarter as many frames, about
-texts as long as a log can be and texts that come in pieces. Then each allocation of the other is refused in turn, by REFUSE,
-which is tests/refuse.c built for its machine: it says so and writes nothing else. The last line is `N passed, M failed`.
+every kind, with streams that are closed, full or no text, about NUMBER changed logs, half as often about several logs, about
+a quarter as many frames, about texts as long as a log can be and texts that come in pieces. Each allocation of the other is
+refused in turn, by REFUSE, which is tests/refuse.c built for its machine: it says so and writes nothing else. The last line
+is `N passed, M failed`.
 """
 import glob
 import os
@@ -15,8 +16,10 @@ import tempfile
 import time
 from concurrent.futures import ThreadPoolExecutor
 
-from fuzz import changed
-from lines import TOP
+from families import case_of
+from fuzz import LISTED, changed, session
+from lines import TOP, log_of
+from random_logs import Listed as Claimed, text_of
 
 COMMANDS = "check", "explain", "report", "simulate"  # those over a text
 OUTCOMES = b"S", b"C", b"R", b"D"
@@ -73,7 +76,7 @@ class Pair:
                     ["x", "y"], ["--", "x", "--"], ["x", "-y"], ["--help"], ["-h"], ["x", "--help"], ["--", "--help"], ["26"],
                     ["0" * 128], ["0" * 129])
         alone = [[], [""], ["--"], ["--", "check"], ["Check"], ["help"], ["--help"], ["-h"], ["--version"], ["-V"], ["-"]]
-        commands = [*COMMANDS, "frame", "spell"]
+        commands = [*COMMANDS, "reconcile", "frame", "spell"]
         named = [[name] for name in (*NO_UTF8, *UTF8)]
         self.ask_each([(words,) for words in (*alone, *named, *([command, *operand] for command in commands
                                                                 for operand in (*operands, *named)))])
@@ -81,10 +84,12 @@ class Pair:
     def streams(self, folder):
         log, nothing = LOGS[-1], os.path.join(folder, "nothing")
         open(nothing, "w").close()
-        for command in COMMANDS:
-            for file in folder, nothing, nothing + "/x", nothing + "x" * 300, "/dev/null":
-                self.ask("a file", [command, file])
-        for words in ["check", log], ["explain", log], ["check", folder], ["check"], ["frame", "26"], ["spell", "x"], ["x"]:
+        expected, = written(folder, "expected", [log_of("UA UB")])
+        for file in folder, nothing, nothing + "/x", nothing + "x" * 300, "/dev/null":
+            for words in *([command] for command in COMMANDS), ["reconcile"], ["reconcile", expected, log]:
+                self.ask("a file", [*words, file])
+        for words in (["check", log], ["explain", log], ["check", folder], ["check"], ["frame", "26"], ["spell", "x"], ["x"],
+                      ["reconcile", expected, log], ["reconcile", "/dev/stdin", log]):
             for place in 0, 1, 2:
                 self.ask(f"stream {place} is closed", words, stdin=subprocess.DEVNULL, preexec_fn=lambda: os.close(place))
             with open("/dev/full", "wb") as full:
@@ -127,6 +132,24 @@ class Pair:
             cases.append(([command], text))
         self.ask_each(cases)
 
+    def many(self, number, folder):
+        """Random lists and logs: possible ones, and changed ones; also under names that are long, and with a list that is
+        none."""
+        chance = random.Random(13)
+        seeds = [open(log, "rb").read() for log in LOGS]
+        cases = []
+        for index in range(number):
+            _, expected, logs = case_of(chance)
+            texts = [text_of(1, map(Claimed, expected)), *(text_of(*log) for log in logs)]
+            if index % 3:
+                texts[1:] = [b"\n".join(session(chance)) if index % 3 == 1 else changed(chance, seeds)
+                             for _ in range(chance.randint(1, 4))]
+                texts[0] = b"\n".join([b"vicinity-log 1", *chance.sample(LISTED, chance.randint(0, 2))])
+            if not chance.randrange(8):
+                texts[0] = changed(chance, seeds)
+            cases.append((["reconcile", *written(folder, f"{'x' * chance.choice((0, 200))}{index}-", texts)],))
+        self.ask_each(cases)
+
     def frames(self, number):
         """Words of frames, with digits and words changed."""
         chance = random.Random(12)
@@ -143,12 +166,21 @@ class Pair:
         self.ask_each(cases)
 
 
-def refused(other, refuse):
+def written(folder, name, texts):
+    """The names of the files of some texts."""
+    for index, text in enumerate(texts):
+        with open(os.path.join(folder, f"{name}{index}"), "wb") as file:
+            file.write(text)
+    return [os.path.join(folder, f"{name}{index}") for index in range(len(texts))]
+
+
+def refused(other, refuse, folder):
     """Refuses each allocation of a run over each log in turn."""
     told = b"", b"vicinity: out of memory\n", 4
     environment = {**os.environ, "LD_PRELOAD": refuse}
     asked = [[command, log] for command in COMMANDS for log in LOGS]
-    for words in [*asked, ["frame", "260100F60A"], ["spell", *SPELLED[0]]]:
+    many = written(folder, "refused", [log_of(it) for it in ("UA UZ UB", "I1 C MA RA", "QA I1 RB", "M55 C QZ QY I1 S")])
+    for words in [*asked, ["reconcile", *many], ["frame", "260100F60A"], ["spell", *SPELLED[0]]]:
         said = run(other, words, env={**environment, "COUNTED": "1"})[1].split()
         growths = int(said[-2])
         count(("growths", words), growths > 0, True)
@@ -163,12 +195,13 @@ def main():
     with tempfile.TemporaryDirectory() as folder:
         pair.words()
         pair.streams(folder)
+        pair.many(int(number) // 2, folder)
+        refused(other, refuse, folder)
     pair.changed(int(number))
     pair.frames(int(number) // 4)
     with open(LOGS[-1], "rb") as log:
         pair.pieces(log.read())
     pair.longest()
-    refused(other, refuse)
     print(f"{passed} passed, {failed} failed")
     sys.exit(failed > 0 or passed == 0)
 

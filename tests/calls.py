@@ -1,7 +1,8 @@
-"""Asks the library's calls on frames, lines, lists and findings, and compares them with the program:
+"""Asks the library's calls on frames, lines, lists, findings and many logs, and compares them with the program:
 calls.py PROGRAM COUNT LOG..
 
-Each fault, name and kind of finding is met by a row. COUNT random numbers are written and COUNT random frames read, and
+Each fault, name and kind of finding is met by a row, and the rows of tests/rows/reconciliations by the calls for many logs.
+COUNT random numbers are written and COUNT random frames read, and
 have to be what `spell` and `frame` make of them; COUNT lines and masks of slots have to be what is worked out here; and
 the logs, with their lists removed and passed separately, also in another order, get the answer that the program gets for
 the complete log. Each struct holds other bytes before the call. The header and the library are of the version in
@@ -14,7 +15,7 @@ import re
 import subprocess
 import sys
 
-from lines import log_of
+from lines import log_of, rows as rows_of
 
 U8, U16, U32, U64, SIZE = ctypes.c_uint8, ctypes.c_uint16, ctypes.c_uint32, ctypes.c_uint64, ctypes.c_size_t
 LINK, SLOTS, MASK, SLOT, REPLY, TOO_LONG, LETTER = range(201, 208)
@@ -27,6 +28,9 @@ FAULTS = ["Short", "Crc", "Extension", "Reserved", "OptionFlag", "OtherCommand",
 ABSENT, UNLISTED, UNSETTLED, DOUBTFUL, OPEN, MORE, CONFLICT, SILENCED = 2, 3, 4, 5, 8, 9, 10, 11
 UID_A, UID_B = 0xE0040100000000A1, 0xE0040100000000B2
 UID_Z, UID_Y = 0xE000000000000000, 0xE080000000000000
+# The masks around the low byte of A; and around both that of A and that of B.
+BESIDES_A = [(1, 0), (2, 3), (3, 5), (4, 9), (5, 0x11), (6, 1), (7, 0x61), (8, 0x21)]
+BESIDES_BOTH = sorted({*BESIDES_A[1:], (2, 0), (3, 6), (4, 0xA), (5, 2), (6, 0x12), (7, 0x72), (8, 0x32)})
 
 
 def struct(name, *fields):
@@ -180,14 +184,24 @@ def names():
             count(f"{what} {number}", call(what + "_name", NAME, U32(number)), in_room(b"", 28))
 
 
-def reported(call, places, *given):
-    """What a call that reports returns, with a buffer of that many elements, whose bytes were 7 before: the status, how many
-    findings there are, and the buffer."""
+def into(element, places, call, *given):
+    """What a call returns with a buffer of that many elements, whose bytes were 7 before: the answer, how many elements are
+    needed, and the buffer."""
     told, needed = ANSWER.from_buffer_copy(b"\x09" * ctypes.sizeof(ANSWER)), SIZE(9)
-    room = (FINDING * places).from_buffer_copy(b"\x07" * ctypes.sizeof(FINDING) * places)
+    room = (element * places).from_buffer_copy(b"\x07" * ctypes.sizeof(element) * places)
     status = getattr(LIBRARY, "vicinity_" + call)(*given, ctypes.byref(told), room, SIZE(places), ctypes.byref(needed))
     count(f"{call}, its result", status, told.status)
-    return status, needed.value, bytes(room)
+    return told, needed.value, room
+
+
+def into_each(element, wanted, place, call, *given):
+    """The answer of a call that has to write these elements, in buffers of every size."""
+    for places in sorted({0, max(len(wanted) - 1, 0), len(wanted), len(wanted) + 3}):
+        told, needed, room = into(element, places, call, *given)
+        held = b"".join(map(bytes, wanted)) if len(wanted) <= places else b""
+        count(f"{call} {place}, {places} places", (needed, bytes(room)),
+              (len(wanted), held.ljust(places * ctypes.sizeof(element), b"\x07")))
+    return told
 
 
 def finding(kind, line=0, mask=(0, 0), uid=0):
@@ -200,10 +214,8 @@ def findings(short, status, *wanted):
     text, listed, rest = log.partition(b"U ")
     uids = [int(line, 16) for line in (rest if listed else b"").split() if line != b"U"]
     beside = (*bytes_of(text), (U64 * len(uids))(*uids), SIZE(len(uids)))
-    for places in sorted({0, max(len(wanted) - 1, 0), len(wanted), len(wanted) + 3}):
-        held = (b"".join(wanted) if len(wanted) <= places else b"").ljust(places * ctypes.sizeof(FINDING), b"\x07")
-        for call, given in (("report", bytes_of(log)), ("report_listed", beside)):
-            count(f"{call} {short}, {places} places", reported(call, places, *given), (status, len(wanted), held))
+    for call, given in (("report", bytes_of(log)), ("report_listed", beside)):
+        count(f"{call} {short}", into_each(FINDING, wanted, short, call, *given).status, status)
 
 
 def reports():
@@ -223,17 +235,127 @@ def reports():
     alone = 56, 0x040100000000A1
     findings("V2 QZ QY QA I1 S F I1 C M55 C", 1, finding(UNLISTED, 11, uid=UID_Z), finding(UNLISTED, 11, uid=UID_Y),
              finding(UNSETTLED, mask=alone), finding(OPEN, mask=alone))
-    besides_a = (1, 0), (2, 3), (3, 5), (4, 9), (5, 0x11), (6, 1), (7, 0x61), (8, 0x21)
-    findings("MA RA UA", 1, finding(UNSETTLED, mask=(1, 0)), *[finding(OPEN, mask=mask) for mask in besides_a])
-    besides_both = sorted({*besides_a[1:], (2, 0), (3, 6), (4, 0xA), (5, 2), (6, 0x12), (7, 0x72), (8, 0x32)})
+    findings("MA RA UA", 1, finding(UNSETTLED, mask=(1, 0)), *[finding(OPEN, mask=mask) for mask in BESIDES_A])
     findings("MA RA MB S UB", 1, finding(ABSENT, 5, uid=UID_B), finding(UNLISTED, 3, uid=UID_A),
-             finding(UNSETTLED, mask=(2, 0)), *[finding(OPEN, mask=mask) for mask in besides_both])
+             finding(UNSETTLED, mask=(2, 0)), *[finding(OPEN, mask=mask) for mask in BESIDES_BOTH])
     # 55 masks are open: 1, 10, 100 and so on, from the highest bit
     first = [finding(OPEN, mask=(length, 1 << length - 1)) for length in range(1, 17)]
     findings("M55 S", 1, finding(UNSETTLED, mask=(1, 1)), *first, finding(MORE))
     findings("I1 S", 0)
     findings("I1 RA UA", 0)
     findings("UA UA", 3)
+
+
+def survey(short, status, certain, masks):
+    """The certain UIDs and all open masks of a log, in buffers of every size. The answer is that of `check`."""
+    log, checked = log_of(short), ANSWER()
+    LIBRARY.vicinity_check(*bytes_of(log), ctypes.byref(checked))
+    for name, element, wanted in (("certain", U64, list(map(U64, certain))),
+                                  ("open_masks", MASKED, [MASKED(0, *mask) for mask in masks])):
+        told = into_each(element, wanted, short, name, *bytes_of(log))
+        count(f"{name} {short}", (told.status, bytes(told)), (status, bytes(checked)))
+
+
+def surveys():
+    """Worked out by hand: what the list of a log is changes nothing."""
+    survey("I1 S", 0, [], [])
+    survey("I1 RA UA", 0, [UID_A], [])
+    survey("I1 RA", 1, [UID_A], [])
+    survey("I1 RA UB", 1, [UID_A], [])
+    survey("I16 S RA RB S13", 1, [UID_A, UID_B], [])
+    survey("", 1, [], [(0, 0)])
+    survey("UA", 1, [], [(0, 0)])
+    survey("I1 C UA", 1, [], [(0, 0)])
+    survey("QA I1 S", 1, [], [(56, 0x040100000000A1)])
+    survey("MA RA", 1, [UID_A], BESIDES_A)
+    survey("MA RA MB S UB", 1, [UID_A], BESIDES_BOTH)
+    survey("M55 C QZ QY I1 S", 1, [UID_Z, UID_Y], [])
+    survey("V2 QZ QY QA I1 S F I1 C M55 C", 1, [UID_Z, UID_Y], [(56, 0x040100000000A1)])
+    survey("M55 S", 1, [], [(length, 1 << length - 1) for length in range(1, 56)])
+    survey("I1 S I1 RA", 2, [], [])
+    survey("UA UA", 3, [], [])
+
+
+def answer_to(line, place=0, fault=0):
+    """The answer to many logs, by its line."""
+    kind, *words = line.split()
+    told = ANSWER(1 + KINDS.index(kind), {"complete": 0, "refused": 3}.get(kind, 1), line=place, fault=fault)
+    told.text = (U8 * 64)(*f"{line}\n".encode())
+    if kind == "complete":
+        told.count = int(words[0])
+    elif kind == "unsettled":
+        told.mask_len, told.mask_value = int(words[0]), int(words[1].replace("-", "0"), 16)
+    elif kind != "refused":
+        told.uid = int(words[0], 16)
+    return bytes(told)
+
+
+def findings_of(lines):
+    """The findings that the lines of an answer say."""
+    for kind, *words in map(str.split, lines):
+        if kind == "unsettled":
+            yield finding(UNSETTLED, mask=(int(words[0]), int(words[1].replace("-", "0"), 16)))
+        elif kind in ("absent", "unlisted", "doubtful"):
+            yield finding(1 + KINDS.index(kind), uid=int(words[0], 16))
+
+
+def arrays(expected, certain, masks):
+    """How the call for many logs takes them."""
+    return [given for element, them in ((U64, expected), (U64, certain), (MASKED, masks))
+            for given in ((element * len(them))(*them), SIZE(len(them)))]
+
+
+def reconciled(expected, certain, masks, lines, place=0, fault=0):
+    """What many logs say, in buffers of every size; faultless arrays also in other orders, and with elements twice."""
+    wanted, found = answer_to(lines[0], place, fault), list(findings_of(lines))
+    masks = [MASKED(*mask) if len(mask) == 3 else MASKED(0, *mask) for mask in masks]
+    ways = [(expected, certain, masks)]
+    if not fault:
+        ways += [(expected[::-1], [*certain, *certain[::-1]], masks[::-1] * 2)]
+    for way in ways:
+        told = into_each(FINDING, found, lines, "reconcile", *arrays(*way))
+        count(f"reconcile {expected} {certain} {lines}", bytes(told), wanted)
+
+
+def reconciliations():
+    """Worked out by hand: each kind of answer, and each fault at its place."""
+    a, b, z = "E0040100000000A1", "E0040100000000B2", "E000000000000000"
+    reconciled([], [], [], ["complete 0"])
+    reconciled([UID_B, UID_A], [UID_A, UID_B], [], ["complete 2"])
+    reconciled([UID_A, UID_B, UID_Z], [UID_Y], [], [f"absent {z}", f"absent {a}", f"absent {b}", "unlisted E080000000000000"])
+    reconciled([UID_A], [], [(56, UID_A & (1 << 56) - 1)], [f"doubtful {a}"])
+    reconciled([], [], [(56, UID_A & (1 << 56) - 1)], ["unsettled 56 040100000000A1"])
+    reconciled([], [], [(0, 0)], ["unsettled 0 -"])
+    # two halves of two logs are one mask, and what is certain is no part of it
+    reconciled([], [], [(2, 1), (1, 0), (2, 3)], ["unsettled 0 -"])
+    reconciled([UID_A], [UID_A], [(0, 0)], ["unsettled 1 00"])
+    reconciled([UID_A, UID_B], [UID_A], [(2, 3), (3, 1)], [f"absent {b}", "unsettled 2 03"])
+    reconciled([UID_A, UID_B], [UID_A, UID_Z], [(4, 2), (8, 0xB2)], [f"unlisted {z}", "unsettled 5 02", f"doubtful {b}"])
+    refused = [
+        ([UID_A, 0], [], [], 2, "NotVicinity"), ([UID_A, 0xDF << 56, UID_A], [], [], 2, "NotVicinity"),
+        ([UID_A, UID_B, UID_B, UID_A], [], [], 3, "DuplicateListed"), ([UID_A, UID_A], [0], [], 2, "DuplicateListed"),
+        ([UID_A], [UID_A, 0xE1 << 56], [(57, 0)], 3, "NotVicinity"), ([0], [0], [(57, 0)], 1, "NotVicinity"),
+        ([], [], [(57, 0)], 1, "WrongMask"), ([UID_A], [UID_B], [(56, 0), (1 << 31, 0)], 4, "WrongMask"),
+        ([], [], [(0, 1)], 1, "WrongMask"), ([], [], [(4, 15), (4, 16)], 2, "WrongMask"),
+        ([], [], [(56, 1 << 56)], 1, "WrongMask"), ([], [UID_A], [(0, 0, 0), (MASK, 0, 0)], 3, "WrongMask")]
+    for expected, certain, masks, place, name in refused:
+        fault = MASK if name == "WrongMask" else 1 + LINE_FAULTS.index(name)
+        reconciled(expected, certain, masks, [f"refused at line {place}: {name}"], place, fault)
+
+
+def worked():
+    """The worked rows of many logs, by the two calls for one log and the one for many. The logs, lines and open masks are
+    the program's alone."""
+    for place, row in rows_of("reconciliations"):
+        status, expected, logs, lines = (part.strip() for part in row.split("|"))
+        texts = [bytes_of(log_of("" if log == "empty" else log)) for log in map(str.strip, logs.split(";"))] if logs else []
+        known = [(into(U64, 64, "certain", *text), into(MASKED, 64, "open_masks", *text)) for text in texts]
+        if status in "01":
+            certain = [uid for (_, needed, uids), _ in known for uid in uids[:needed]]
+            masks = [mask for _, (_, needed, them) in known for mask in them[:needed]]
+            told = into_each(FINDING, list(findings_of(lines.split(" / "))), place, "reconcile",
+                             *arrays([int(line, 16) for line in log_of(expected).decode().split()[3::2]], certain, masks))
+            count(place, bytes(told.text).rstrip(b"\0").decode(), lines.split(" / ")[0].split(" in ")[0] + "\n")
 
 
 def written(chance):
@@ -337,6 +459,9 @@ def main():
     faults()
     names()
     reports()
+    surveys()
+    reconciliations()
+    worked()
     for _ in range(COUNT):
         written(chance)
         read(chance)

@@ -8,9 +8,26 @@
 #include <string.h>
 
 enum { PLACES = 64, UNWRITTEN = 7 };
-enum which { CHECK, EXPLAIN, REPORT, CHECK_LISTED, EXPLAIN_LISTED, REPORT_LISTED, SIMULATE, CALLS };
+enum which {
+    CHECK,
+    EXPLAIN,
+    REPORT,
+    CERTAIN,
+    OPEN_MASKS,
+    RECONCILE,
+    CHECK_LISTED,
+    EXPLAIN_LISTED,
+    REPORT_LISTED,
+    SIMULATE,
+    CALLS
+};
 
 static size_t growths, refused, held;
+
+/* What a log says of its field. */
+static uint64_t certain[PLACES];
+static struct vicinity_mask open_masks[PLACES];
+static size_t certain_count, mask_count;
 
 void *__real_malloc(size_t size);
 void *__real_realloc(void *memory, size_t size);
@@ -46,6 +63,7 @@ struct given {
     size_t needed;
     uint64_t room[PLACES];
     struct vicinity_finding findings[PLACES];
+    struct vicinity_mask masks[PLACES];
     uint8_t filled[ROOM];
 };
 
@@ -64,6 +82,16 @@ static void call(enum which which, const uint8_t *text, size_t len, size_t numbe
     case REPORT:
         given->status = vicinity_report(text, len, &given->answer, given->findings, PLACES, &given->needed);
         break;
+    case CERTAIN:
+        given->status = vicinity_certain(text, len, &given->answer, given->room, PLACES, &given->needed);
+        break;
+    case OPEN_MASKS:
+        given->status = vicinity_open_masks(text, len, &given->answer, given->masks, PLACES, &given->needed);
+        break;
+    case RECONCILE:
+        given->status = vicinity_reconcile(uids, 2, certain, certain_count, open_masks, mask_count, &given->answer,
+                                           given->findings, PLACES, &given->needed);
+        break;
     case CHECK_LISTED:
         given->status = vicinity_check_listed(text, len, uids, 2, &given->answer);
         break;
@@ -81,6 +109,16 @@ static void call(enum which which, const uint8_t *text, size_t len, size_t numbe
     default:
         given->status = vicinity_check(text, len, &given->answer);
     }
+}
+
+/* Notes what a log says of its field; whether that fits. */
+static int survey(const uint8_t *text, size_t len)
+{
+    struct vicinity_answer answer;
+    refused = 0;
+    vicinity_certain(text, len, &answer, certain, PLACES, &certain_count);
+    vicinity_open_masks(text, len, &answer, open_masks, PLACES, &mask_count);
+    return certain_count <= PLACES && mask_count <= PLACES;
 }
 
 /* The result of a call that was refused memory: no answer, if it would have one. */
@@ -133,7 +171,7 @@ int main(int argc, char **argv)
     size_t calls = 0;
     for (int i = 1; i < argc; i++) {
         size_t len = read_log(argv[i], text);
-        if (len == NO_LOG)
+        if (len == NO_LOG || !survey(text, len))
             return 1;
         for (int which = 0; which < CALLS; which++) {
             memcpy(changed, text, len);

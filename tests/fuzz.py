@@ -1,13 +1,21 @@
-"""The library against the program, on changed logs, and on each prefix of the first: fuzz.py PROGRAM NUMBER LOG.."""
+"""The library against the program, on changed logs, and on each prefix of the first: fuzz.py PROGRAM NUMBER LOG..
+
+Half as often some logs are reconciled with a list: those of families.py, and sessions.
+"""
 import collections
 import ctypes
+import os
 import random
 import re
 import subprocess
 import sys
+import tempfile
 
 import vicinity
-from vicinity._native import AnswerStruct, FindingStruct, library
+from vicinity import FindingKind
+from families import NAMES, case_of
+from random_logs import Listed, text_of
+from vicinity._native import AnswerStruct, FindingStruct, MaskStruct, library
 
 LINES = [
     b"T 260100F60A", b"T 060100CD09", b"T 2202A1000000000104E0662A", b"R 0000A1000000000104E06745",
@@ -17,6 +25,7 @@ LINES = [
 
 OUTCOMES = [b"S", b"C", b"D", b"R 0000A1000000000104E06745", b"R 0000B2000000000104E0CF94"]
 LISTED = [b"U E0040100000000A1", b"U E0040100000000B2"]
+MOST_OPEN = 16
 LISTING = re.compile(rb"U [0-9A-F]{16}")
 
 # the answers that a population can show
@@ -111,6 +120,93 @@ def simulated(text):
     return written.decode(), status
 
 
+def into(element, call, *given):
+    """The answer of a call and all elements that it writes, by buffers as above."""
+    needed, told, told_again = ctypes.c_size_t(), AnswerStruct(), AnswerStruct()
+    library()[f"vicinity_{call}"](*given, ctypes.byref(told), (element * 0)(), ctypes.c_size_t(), ctypes.byref(needed))
+    count, size, whole = needed.value, ctypes.sizeof(element), None
+    for places in (count, max(count - 1, 0), count + 3):
+        room = (element * places)()
+        ctypes.memset(room, 7, places * size)
+        library()[f"vicinity_{call}"](*given, ctypes.byref(told_again), room, ctypes.c_size_t(places), ctypes.byref(needed))
+        whole = room if whole is None else whole
+        wanted = (bytes(whole) if count <= places else b"").ljust(places * size, b"\7")
+        if (bytes(told_again), needed.value, bytes(room)) != (bytes(told), count, wanted):
+            sys.exit(f"{call} differs by room {places}: {given!r}; {bytes(room)}")
+    return told, list(whole)
+
+
+def surveyed(text):
+    """The answer to a text, its certain UIDs and its open masks, which have to be those of its report without a list."""
+    given, answer = (text, ctypes.c_size_t(len(text))), vicinity.check(text)
+    (told, certain), (again, masks) = into(ctypes.c_uint64, "certain", *given), into(MaskStruct, "open_masks", *given)
+    if (told.status, told.text.decode(), bytes(again)) != (answer.status, f"{answer}\n", bytes(told)):
+        sys.exit(f"differ in the answer: {text!r}: {answer}; {told.text} {again.text}")
+    unlisted = b"\n".join(line for line in text.split(b"\n") if line[:1] != b"U")
+    found = vicinity.report(unlisted).findings if answer.status < 2 else []
+    wanted = ([it.uid for it in found if it.kind == FindingKind.UNLISTED],
+              [(0, it.mask_len, it.mask_value) for it in found if it.kind == FindingKind.OPEN_MASK],
+              any(it.kind == FindingKind.MORE_OPEN_MASKS for it in found))
+    shown = [(it.fault, it.len, it.value) for it in masks]
+    if (certain, shown[:MOST_OPEN], len(shown) > MOST_OPEN) != wanted:
+        sys.exit(f"differ from the report: {text!r}: {certain} {shown}; {found}")
+    return answer, certain, masks
+
+
+def lines_of(found):
+    for it in found:
+        if it.kind == FindingKind.UNSETTLED:
+            digits = (it.mask_len + 7) // 8 * 2
+            yield f"unsettled {it.mask_len} " + (f"{it.mask_value:0{digits}X}" if digits else "-")
+        else:
+            yield f"{vicinity.Kind(it.kind).word} {it.uid:016X}"
+
+
+def reconciled(expected, surveys):
+    """What the program would write of many logs, but for the logs, lines and open masks, and its status."""
+    for name, (answer, _, _) in zip(NAMES, surveys):
+        if answer.status > 1:
+            return [re.sub(r"(at line \d+)", rf"\1 of {name}", str(answer))], answer.status
+    certain = [uid for _, uids, _ in surveys for uid in uids]
+    masks = [mask for _, _, some in surveys for mask in some]
+    arrays = [part for kind, them in ((ctypes.c_uint64, expected), (ctypes.c_uint64, certain), (MaskStruct, masks))
+              for part in ((kind * len(them))(*them), ctypes.c_size_t(len(them)))]
+    told, found = into(FindingStruct, "reconcile", *arrays)
+    first = told.text.decode().rstrip("\n")
+    if found and first != next(lines_of(found)):
+        sys.exit(f"differ in the first finding: {expected} {surveys}: {first}")
+    return list(lines_of(found)) or [first], told.status
+
+
+def reconciled_by(program, folder, expected, texts):
+    """The same of the program."""
+    names = ["EXPECTED", *NAMES[:len(texts)]]
+    for name, text in zip(names, [text_of(1, map(Listed, expected)), *texts]):
+        with open(os.path.join(folder, name), "wb") as file:
+            file.write(text)
+    ran = subprocess.run([program, "reconcile", *names], cwd=folder, capture_output=True)
+    lines = [line for line in ran.stdout.decode().splitlines() if not line.startswith(("by ", "open ", "more "))]
+    return [line.partition(" in ")[0] for line in lines], ran.returncode
+
+
+def many(program, rng, number):
+    """Reconciles random logs with random lists, and returns how often each answer came."""
+    seen = collections.Counter()
+    with tempfile.TemporaryDirectory() as folder:
+        for index in range(number):
+            _, expected, logs = case_of(rng)
+            texts = [text_of(*log) for log in logs]
+            if index % 2:
+                texts = [b"\n".join(session(rng)) for _ in NAMES[:rng.randint(1, 3)]]
+                expected = [int(line[2:], 16) for line in LISTED if rng.randrange(3)]
+            wanted = reconciled_by(program, folder, expected, texts)
+            given = reconciled(expected, list(map(surveyed, texts)))
+            if given != wanted:
+                sys.exit(f"differ in reconcile: {expected} {texts}: {wanted}; {given}")
+            seen[wanted[0][0].split()[0]] += 1
+    return dict(seen)
+
+
 def list_taken_off(text):
     """The text before the lines at its end that list UIDs, and these UIDs."""
     rest, uids = text.removesuffix(b"\n"), []
@@ -126,7 +222,7 @@ def main(program, number, logs):
     texts = seeds + [changed(rng, seeds) for _ in range(number)] + [seeds[0][:end] for end in range(len(seeds[0]))]
     seen = collections.Counter()
     for text in texts:
-        answer = vicinity.check(text)
+        answer, _, _ = surveyed(text)
         seen[answer.kind.word] += 1
         listed = list_taken_off(text)
         if listed[1] and (vicinity.check_listed(*listed), vicinity.explain_listed(*listed), vicinity.report_listed(*listed)) \
@@ -138,6 +234,7 @@ def main(program, number, logs):
             if given != wanted:
                 sys.exit(f"differ in {command}: {text!r}: {wanted}; {given}")
     print(f"{number} changed logs and {len(seeds[0])} beginnings, the same answers: {dict(seen)}")
+    print(f"{number // 2} times many logs, the same answers: {many(program, rng, number // 2)}")
 
 
 if __name__ == "__main__":

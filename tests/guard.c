@@ -8,7 +8,12 @@
 #include <string.h>
 #include <sys/mman.h>
 
-enum { PAGE = 4096, PLACES = 4, UNWRITTEN = 7 };
+enum { PAGE = 4096, PLACES = 4, UNWRITTEN = 7, COUNT = 2 };
+enum which { REPORT, CERTAIN, OPEN_MASKS, RECONCILE, CALLS, EXPECTED = CALLS, ENDS };
+
+/* Where memory ends behind what each call lists, and behind a list of what is expected; and how many elements that were. */
+static uint8_t *ends[ENDS];
+static size_t listed[CALLS];
 
 /* Where memory ends after ROOM bytes; NULL if there are none. */
 static uint8_t *end_of_memory(void)
@@ -44,24 +49,49 @@ static int explains(const uint8_t *text, size_t len, const struct vicinity_answe
     return 1;
 }
 
-/* Whether a report has this answer, and only a buffer that is large enough gets its findings. */
-static int reports(const uint8_t *text, size_t len, const struct vicinity_answer *answer, uint8_t *end)
+/* Makes a call that lists something, with a buffer of that many elements. The last reads what the two before wrote. */
+static uint32_t list(enum which which, const uint8_t *text, size_t len, struct vicinity_answer *told, size_t places,
+                     size_t *needed)
 {
-    struct vicinity_answer reported;
-    size_t needed, again;
-    vicinity_report(text, len, &reported, (struct vicinity_finding *)end, 0, &needed);
-    if (memcmp(&reported, answer, sizeof reported) || needed >= ROOM / sizeof(struct vicinity_finding))
+    struct vicinity_finding *findings = (struct vicinity_finding *)ends[which] - places;
+    struct vicinity_mask *masks = (struct vicinity_mask *)ends[OPEN_MASKS];
+    uint64_t *certain = (uint64_t *)ends[CERTAIN];
+    switch (which) {
+    case REPORT:
+        return vicinity_report(text, len, told, findings, places, needed);
+    case CERTAIN:
+        return vicinity_certain(text, len, told, certain - places, places, needed);
+    case OPEN_MASKS:
+        return vicinity_open_masks(text, len, told, masks - places, places, needed);
+    default:
+        return vicinity_reconcile((uint64_t *)ends[EXPECTED] - COUNT, COUNT, certain - listed[CERTAIN], listed[CERTAIN],
+                                  masks - listed[OPEN_MASKS], listed[OPEN_MASKS], told, findings, places, needed);
+    }
+}
+
+/* Whether a call has this answer, and only a buffer that is large enough gets what it lists. */
+static int lists(enum which which, const uint8_t *text, size_t len, const struct vicinity_answer *answer)
+{
+    static const size_t sizes[] = {sizeof(struct vicinity_finding), sizeof(uint64_t), sizeof(struct vicinity_mask),
+                                   sizeof(struct vicinity_finding)};
+    struct vicinity_answer first, told;
+    size_t needed, again, size = sizes[which];
+    uint8_t unwritten[sizeof(struct vicinity_finding)];
+    memset(unwritten, UNWRITTEN, sizeof unwritten);
+    list(which, text, len, &first, 0, &needed);
+    if (!is_answer(&first) || (answer && memcmp(&first, answer, sizeof first)) || needed >= ROOM / size)
         return 0;
     for (size_t places = needed ? needed - 1 : 0; places <= needed; places++) {
-        struct vicinity_finding *first = (struct vicinity_finding *)end - needed;
-        memset(first - 1, UNWRITTEN, (needed + 1) * sizeof *first);
-        vicinity_report(text, len, &reported, (struct vicinity_finding *)end - places, places, &again);
-        if (memcmp(&reported, answer, sizeof reported) || again != needed || first[-1].zero == 0)
+        uint8_t *start = ends[which] - needed * size;
+        memset(start - 1, UNWRITTEN, needed * size + 1);
+        list(which, text, len, &told, places, &again);
+        if (memcmp(&told, &first, sizeof told) || again != needed || start[-1] != UNWRITTEN)
             return 0;
         for (size_t i = 0; i < needed; i++)
-            if ((first[i].zero == 0) != (places == needed))
+            if ((memcmp(start + i * size, unwritten, size) != 0) != (places == needed))
                 return 0;
     }
+    listed[which] = needed;
     return 1;
 }
 
@@ -122,6 +152,11 @@ int main(int argc, char **argv)
     uint8_t *room_end = end_of_memory();
     if (!text_end || !room_end || !reads_frames(text_end))
         return 1;
+    for (int which = 0; which < ENDS; which++)
+        if (!(ends[which] = end_of_memory()))
+            return 1;
+    for (size_t i = 1; i <= COUNT; i++)
+        *((uint64_t *)ends[EXPECTED] - i) = UINT64_C(0xE0040100000000A1) + i;
     size_t calls = 0;
     for (int i = 1; i < argc; i++) {
         size_t len = read_log(argv[i], text);
@@ -131,9 +166,11 @@ int main(int argc, char **argv)
             struct vicinity_answer answer;
             memcpy(text_end - part, text, part);
             vicinity_check(text_end - part, part, &answer);
-            if (!is_answer(&answer) || !simulates(text_end - part, part, room_end) ||
-                !reports(text_end - part, part, &answer, room_end))
+            if (!is_answer(&answer) || !simulates(text_end - part, part, room_end))
                 return 1;
+            for (int which = 0; which < CALLS; which++)
+                if (!lists((enum which)which, text_end - part, part, which == RECONCILE ? NULL : &answer))
+                    return 1;
             for (size_t places = 0; places <= PLACES; places++)
                 if (!explains(text_end - part, part, &answer, (uint64_t *)room_end, places) ||
                     !judges_listed(text_end - part, part, (uint64_t *)room_end, places))

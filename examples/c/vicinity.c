@@ -1,6 +1,7 @@
 /* The commands of vicinity, in C over the calls of its library:
  *
  *     vicinity check|explain|report|simulate [FILE]
+ *     vicinity reconcile EXPECTED [LOG ..]
  *     vicinity frame HEX
  *     vicinity spell WORDS..
  *
@@ -12,6 +13,7 @@
 #include <errno.h>
 #include <fcntl.h>
 #include <inttypes.h>
+#include <limits.h>
 #include <signal.h>
 #include <stdarg.h>
 #include <stdbool.h>
@@ -20,7 +22,7 @@
 #include <string.h>
 #include <unistd.h>
 
-enum { WHOLE = 0, REFUSED = 3, NO_ANSWER = 4 }; /* statuses */
+enum { WHOLE = 0, FOUND = 1, REFUSED = 3, NO_ANSWER = 4 }; /* statuses */
 
 enum {
     PIECE = 1 << 16,
@@ -30,7 +32,10 @@ enum {
     MOST_DIGITS = 128, /* of a frame */
     MOST_LINK = 3,
     MOST_BITS = 64,
-    MOST_BITS_OF_SIXTEEN = 60
+    MOST_BITS_OF_SIXTEEN = 60,
+    UID_BITS = 56, /* that differ */
+    MOST_OPEN = 16, /* masks that are put of a log */
+    NO_OPERANDS = INT_MAX
 };
 
 /* Writes to standard error why there is no answer. */
@@ -73,6 +78,14 @@ static void put(struct text *text, const char *format, ...)
     va_end(values);
 }
 
+static void append(struct text *text, const void *bytes, size_t len)
+{
+    if (make_room(text, len)) {
+        memcpy(text->bytes + text->len, bytes, len);
+        text->len += len;
+    }
+}
+
 /* Reads a stream to its end, or more of it than a log can have. Returns why that failed; NULL if it didn't. */
 static const char *read_text(int from, struct text *text)
 {
@@ -88,6 +101,22 @@ static const char *read_text(int from, struct text *text)
             return "read failed";
     }
     return NULL;
+}
+
+/* Reads FILE, or standard input if none is named. If that fails, it says why. */
+static bool read_file(const char *file, struct text *text)
+{
+    int from = file ? open(file, O_RDONLY) : STDIN_FILENO;
+    if (from < 0) {
+        fprintf(stderr, "vicinity: cannot open %s\n", file);
+        return false;
+    }
+    const char *why = read_text(from, text);
+    if (file)
+        close(from);
+    if (why)
+        no_answer(why);
+    return !why;
 }
 
 /* Writes a text to standard output. Returns why that failed; NULL if it didn't. */
@@ -146,9 +175,9 @@ static int mask_digits(uint64_t bits)
 static void put_mask(struct text *answered, const char *before, uint32_t bits, uint64_t value)
 {
     if (bits)
-        put(answered, "%s %" PRIu32 " %0*" PRIX64 "\n", before, bits, mask_digits(bits), value);
+        put(answered, "%s %" PRIu32 " %0*" PRIX64, before, bits, mask_digits(bits), value);
     else
-        put(answered, "%s 0 -\n", before);
+        put(answered, "%s 0 -", before);
 }
 
 static void put_finding(struct text *answered, const struct vicinity_finding *finding)
@@ -162,9 +191,11 @@ static void put_finding(struct text *answered, const struct vicinity_finding *fi
         break;
     case VICINITY_FINDING_UNSETTLED:
         put_mask(answered, "unsettled", finding->mask_len, finding->mask_value);
+        put(answered, "\n");
         break;
     case VICINITY_FINDING_OPEN_MASK:
         put_mask(answered, "open", finding->mask_len, finding->mask_value);
+        put(answered, "\n");
         break;
     case VICINITY_FINDING_MORE_OPEN_MASKS:
         put(answered, "more open\n");
@@ -181,19 +212,30 @@ static void put_finding(struct text *answered, const struct vicinity_finding *fi
     }
 }
 
+/* The findings of a log; NULL if memory was refused. */
+static struct vicinity_finding *findings_of(const char *bytes, size_t len, struct vicinity_answer *answer, size_t *needed)
+{
+    struct vicinity_finding *findings = NULL;
+    size_t room = 0;
+    *needed = FIRST_ROOM;
+    while (room < *needed) {
+        free(findings);
+        room = *needed;
+        findings = malloc(room * sizeof *findings);
+        if (!findings)
+            return NULL;
+        vicinity_report((const uint8_t *)bytes, len, answer, findings, room, needed);
+    }
+    return findings;
+}
+
 static uint32_t report(const struct text *log, struct text *answered)
 {
     struct vicinity_answer answer = {0};
-    struct vicinity_finding *findings = NULL;
-    size_t room = 0, needed = FIRST_ROOM;
-    while (room < needed) {
-        free(findings);
-        room = needed;
-        findings = malloc(room * sizeof *findings);
-        if (!findings)
-            return NO_ANSWER;
-        vicinity_report((const uint8_t *)log->bytes, log->len, &answer, findings, room, &needed);
-    }
+    size_t needed;
+    struct vicinity_finding *findings = findings_of(log->bytes, log->len, &answer, &needed);
+    if (!findings)
+        return NO_ANSWER;
     if (answer.kind < VICINITY_ABSENT || answer.kind > VICINITY_DOUBTFUL) /* else the first finding says the same */
         put(answered, "%s", answer.text);
     for (size_t i = 0; i < needed; i++)
@@ -229,6 +271,7 @@ static void put_request(struct text *answered, const struct vicinity_request *re
     } else {
         put(answered, "request inventory link %" PRIu32 " slots %" PRIu32, request->link, request->slots);
         put_mask(answered, " mask", request->mask_len, request->mask_value);
+        put(answered, "\n");
     }
 }
 
@@ -368,6 +411,306 @@ static uint32_t spell(char **words, int count, struct text *answered)
     return WHOLE;
 }
 
+/* ---- reconcile: what each text says is kept, but not the text */
+
+/* A certain UID, and a line of a log that shows it. */
+struct shown {
+    uint64_t uid;
+    uint32_t log, line;
+};
+
+/* What the texts say: arrays that grow. */
+struct surveys {
+    char **files;         /* the logs, in their order */
+    uint32_t logs;        /* how many of them have been read */
+    struct text expected; /* of uint64_t */
+    struct text shown;    /* of struct shown, log after log */
+    struct text masks;    /* of struct vicinity_mask, the open ones, log after log */
+    struct text ends;     /* of size_t: how many masks there are up to the end of each log */
+};
+
+/* Ends a line with the name of a file. */
+static void put_name(struct text *answered, const char *file)
+{
+    append(answered, file, strlen(file));
+    put(answered, "\n");
+}
+
+static uint32_t put_refused(struct text *answered, uint32_t line, const char *file, const char *name)
+{
+    put(answered, "refused at line %" PRIu32 " of ", line);
+    append(answered, file, strlen(file));
+    put(answered, ": %s\n", name);
+    return REFUSED;
+}
+
+/* Puts why a text isn't a possible log, if so. Returns the status, WHOLE for one that is. */
+static uint32_t put_wrong(struct text *answered, const struct vicinity_answer *answer, const char *file)
+{
+    struct vicinity_name fault;
+    if (answer->kind == VICINITY_REFUSED) {
+        vicinity_fault_name(answer->fault, &fault);
+        return put_refused(answered, answer->line, file, fault.text);
+    }
+    if (answer->kind == VICINITY_IMPOSSIBLE) {
+        put(answered, "impossible at line %" PRIu32 " of ", answer->line);
+        put_name(answered, file);
+    }
+    return answer->status == FOUND ? WHOLE : answer->status;
+}
+
+/* Keeps the UIDs that a text lists. It may have no entries but these. */
+static uint32_t expect(const struct text *text, const char *file, struct surveys *told, struct text *answered)
+{
+    struct vicinity_answer answer = {0};
+    vicinity_check((const uint8_t *)text->bytes, text->len, &answer);
+    if (answer.kind == VICINITY_REFUSED || answer.kind == VICINITY_NO_ANSWER)
+        return put_wrong(answered, &answer, file);
+    const char *at = text->bytes, *end = at + text->len;
+    for (uint32_t line = 2; (at = memchr(at, '\n', (size_t)(end - at))) && ++at < end; line++) {
+        uint8_t bytes[8] = {0};
+        uint64_t uid = 0;
+        if (memchr("TSCRDF", *at, 6))
+            return put_refused(answered, line, file, "NotListed");
+        if (*at == 'U' && read_hex(at + 2, 16, bytes)) {
+            for (size_t i = 0; i < sizeof bytes; i++)
+                uid = uid << 8 | bytes[i];
+            append(&told->expected, &uid, sizeof uid);
+        }
+    }
+    return WHOLE;
+}
+
+/* How many bytes of a log come before its list. */
+static size_t list_start(const struct text *log)
+{
+    const char *at = log->bytes, *end = at + log->len;
+    while ((at = memchr(at, '\n', (size_t)(end - at))) && ++at < end)
+        if (*at == 'U')
+            return (size_t)(at - log->bytes);
+    return log->len;
+}
+
+/* Keeps all open masks of a log. */
+static uint32_t survey_masks(const struct text *log, const char *file, struct surveys *told, struct text *answered)
+{
+    struct vicinity_answer answer = {0};
+    struct text *masks = &told->masks;
+    size_t room = 0, needed = 1;
+    while (room < needed) {
+        if (!make_room(masks, needed * sizeof(struct vicinity_mask)))
+            return NO_ANSWER;
+        room = (masks->room - masks->len) / sizeof(struct vicinity_mask);
+        vicinity_open_masks((const uint8_t *)log->bytes, log->len, &answer,
+                            (struct vicinity_mask *)(masks->bytes + masks->len), room, &needed);
+    }
+    masks->len += needed * sizeof(struct vicinity_mask);
+    needed = masks->len / sizeof(struct vicinity_mask);
+    append(&told->ends, &needed, sizeof needed);
+    return put_wrong(answered, &answer, file);
+}
+
+/* Keeps what a log says of its field: its open masks, and its certain UIDs, which are what isn't listed in its report
+ * without a list. */
+static uint32_t survey(const struct text *log, const char *file, struct surveys *told, struct text *answered)
+{
+    struct vicinity_answer answer = {0};
+    size_t count;
+    uint32_t status = survey_masks(log, file, told, answered);
+    if (status != WHOLE)
+        return status;
+    struct vicinity_finding *findings = findings_of(log->bytes, list_start(log), &answer, &count);
+    for (size_t i = 0; findings && i < count; i++) {
+        struct shown shown = {findings[i].uid, told->logs, findings[i].line};
+        if (findings[i].kind == VICINITY_FINDING_UNLISTED)
+            append(&told->shown, &shown, sizeof shown);
+    }
+    told->logs++;
+    free(findings);
+    return findings && answer.kind != VICINITY_NO_ANSWER ? WHOLE : NO_ANSWER;
+}
+
+static int by_number(const void *one, const void *other)
+{
+    const uint64_t *a = one, *b = other;
+    return (*a > *b) - (*a < *b);
+}
+
+static int by_uid(const void *one, const void *other)
+{
+    const struct shown *a = one, *b = other;
+    return a->uid != b->uid ? by_number(&a->uid, &b->uid) : (a->log > b->log) - (a->log < b->log);
+}
+
+static int by_mask(const void *one, const void *other)
+{
+    const struct vicinity_mask *a = one, *b = other;
+    return a->len != b->len ? (a->len > b->len) - (a->len < b->len) : by_number(&a->value, &b->value);
+}
+
+/* The bits of a UID in reverse order. In the order of these keys the UIDs of a mask stand side by side. */
+static uint64_t key_of(uint64_t uid)
+{
+    uint64_t key = 0;
+    for (int i = 0; i < MOST_BITS; i++)
+        key = key << 1 | (uid >> i & 1);
+    return key;
+}
+
+static size_t count_below(const uint64_t *keys, size_t count, uint64_t key)
+{
+    size_t below = 0;
+    while (below < count) {
+        size_t middle = below + (count - below) / 2;
+        if (keys[middle] < key)
+            below = middle + 1;
+        else
+            count = middle;
+    }
+    return below;
+}
+
+/* The first of some masks, by length and then by value: as many as are put, and one more. */
+struct first_masks {
+    struct vicinity_mask masks[MOST_OPEN + 2]; /* the last only while they are moved */
+    size_t count;
+};
+
+static void keep(struct first_masks *first, const struct vicinity_mask *mask)
+{
+    size_t at = first->count;
+    for (; at > 0 && by_mask(&first->masks[at - 1], mask) > 0; at--)
+        first->masks[at] = first->masks[at - 1];
+    first->masks[at] = *mask;
+    first->count += first->count <= MOST_OPEN;
+}
+
+static bool comes_first(const struct first_masks *first, uint32_t len)
+{
+    return first->count <= MOST_OPEN || len <= first->masks[MOST_OPEN].len;
+}
+
+/* Keeps what is left of a mask without some of its UIDs, whose keys these are: those of the masks that come first. */
+static void split(struct first_masks *first, struct vicinity_mask mask, const uint64_t *keys, size_t count)
+{
+    if (count == 0) {
+        keep(first, &mask);
+    } else if (mask.len < UID_BITS && comes_first(first, mask.len + 1)) {
+        struct vicinity_mask half = {0, mask.len + 1, mask.value | UINT64_C(1) << mask.len};
+        size_t below = count_below(keys, count, key_of(half.value));
+        split(first, half, keys + below, count - below);
+        half.value = mask.value;
+        split(first, half, keys, below);
+    }
+}
+
+static const struct vicinity_mask *masks_of(const struct surveys *told, uint32_t log, size_t *count)
+{
+    const size_t *ends = (const size_t *)told->ends.bytes;
+    size_t start = log ? ends[log - 1] : 0;
+    *count = ends[log] - start;
+    return (const struct vicinity_mask *)told->masks.bytes + start;
+}
+
+/* Puts what is left to ask for in each log: its open masks without the UIDs that any log makes certain. */
+static void put_open(const struct surveys *told, const uint64_t *keys, size_t certain, struct text *answered)
+{
+    for (uint32_t log = 0; log < told->logs; log++) {
+        struct first_masks first = {0};
+        size_t count;
+        const struct vicinity_mask *masks = masks_of(told, log, &count);
+        for (size_t i = 0; i < count; i++) {
+            size_t from = count_below(keys, certain, key_of(masks[i].value));
+            size_t to = count_below(keys, certain, key_of(masks[i].value | UINT64_MAX << masks[i].len));
+            split(&first, masks[i], keys + from, to - from);
+        }
+        for (size_t i = 0; i < first.count && i < MOST_OPEN; i++) {
+            put_mask(answered, "open", first.masks[i].len, first.masks[i].value);
+            put(answered, " in ");
+            put_name(answered, told->files[log]);
+        }
+        if (first.count > MOST_OPEN) {
+            put(answered, "more open in ");
+            put_name(answered, told->files[log]);
+        }
+    }
+}
+
+/* The first log in which a UID may be. */
+static uint32_t first_log_with(const struct surveys *told, uint64_t uid)
+{
+    for (uint32_t log = 0; log < told->logs; log++) {
+        size_t count;
+        const struct vicinity_mask *masks = masks_of(told, log, &count);
+        for (uint32_t len = 0; len <= UID_BITS; len++) {
+            struct vicinity_mask mask = {0, len, uid & ((UINT64_C(1) << len) - 1)};
+            if (bsearch(&mask, masks, count, sizeof mask, by_mask))
+                return log;
+        }
+    }
+    return 0;
+}
+
+/* Puts all findings. `keys` are those of the certain UIDs. */
+static void put_findings(const struct surveys *told, const struct vicinity_finding *findings, size_t count,
+                         const uint64_t *keys, size_t certain, struct text *answered)
+{
+    const struct shown *shown = (const struct shown *)told->shown.bytes;
+    for (const struct vicinity_finding *it = findings; it < findings + count; it++) {
+        if (it->kind == VICINITY_FINDING_ABSENT) {
+            put(answered, "absent %016" PRIX64 "\n", it->uid);
+        } else if (it->kind == VICINITY_FINDING_UNLISTED) {
+            while (shown->uid < it->uid)
+                shown++;
+            put(answered, "unlisted %016" PRIX64 "\nby line %" PRIu32 " of ", it->uid, shown->line);
+            put_name(answered, told->files[shown->log]);
+        } else if (it->kind == VICINITY_FINDING_UNSETTLED) {
+            put_finding(answered, it);
+            put_open(told, keys, certain, answered);
+        } else {
+            put(answered, "doubtful %016" PRIX64 " in ", it->uid);
+            put_name(answered, told->files[first_log_with(told, it->uid)]);
+        }
+    }
+}
+
+/* Whether no array was refused memory. An empty one gets some, since no call takes NULL. */
+static bool has_memory(struct surveys *told)
+{
+    return make_room(&told->expected, 0) && make_room(&told->shown, 0) && make_room(&told->masks, 0) &&
+           make_room(&told->ends, 0);
+}
+
+/* Reconciles what the texts say. There is memory for the certain UIDs. */
+static uint32_t reconcile(struct surveys *told, uint64_t *certain, struct text *answered)
+{
+    struct vicinity_answer answer = {0};
+    struct vicinity_finding *findings = NULL;
+    struct shown *shown = (struct shown *)told->shown.bytes;
+    size_t count = told->shown.len / sizeof *shown, room = 0, needed = FIRST_ROOM;
+    qsort(shown, count, sizeof *shown, by_uid);
+    for (size_t i = 0; i < count; i++)
+        certain[i] = shown[i].uid;
+    while (room < needed) {
+        free(findings);
+        room = needed;
+        findings = malloc(room * sizeof *findings);
+        if (!findings)
+            return NO_ANSWER;
+        vicinity_reconcile((const uint64_t *)told->expected.bytes, told->expected.len / sizeof(uint64_t), certain, count,
+                           (const struct vicinity_mask *)told->masks.bytes,
+                           told->masks.len / sizeof(struct vicinity_mask), &answer, findings, room, &needed);
+    }
+    if (needed == 0)
+        put(answered, "%s", answer.text);
+    for (size_t i = 0; i < count; i++)
+        certain[i] = key_of(certain[i]);
+    qsort(certain, count, sizeof *certain, by_number);
+    put_findings(told, findings, needed, certain, count, answered);
+    free(findings);
+    return answer.status;
+}
+
 /* ---- the words of the command line */
 
 /* Whether a word is UTF-8; others aren't accepted. */
@@ -391,20 +734,21 @@ static bool is_utf8(const char *word)
     return true;
 }
 
-/* Finds the operand among the words after a command, NULL if there is none; false if there are more, or an option. */
-static bool find_operand(char **words, int count, const char **operand)
+/* Leaves only the operands of the words after a command. Returns how many there are; NO_OPERANDS if a word is an
+ * option. */
+static int find_operands(char **words, int count)
 {
+    int operands = 0;
     bool ended = false;
-    *operand = NULL;
     for (int i = 0; i < count; i++) {
         if (!ended && strcmp(words[i], "--") == 0)
             ended = true;
-        else if (*operand || (!ended && words[i][0] == '-' && words[i][1]))
-            return false;
+        else if (!ended && words[i][0] == '-' && words[i][1])
+            return NO_OPERANDS;
         else
-            *operand = words[i];
+            words[operands++] = words[i];
     }
-    return true;
+    return operands;
 }
 
 /* Writes an answer, and returns the status with which the program ends. */
@@ -419,17 +763,36 @@ static int end(uint32_t status, struct text *answered)
 static int run_over(const char *file, uint32_t (*judge)(const struct text *log, struct text *answered))
 {
     struct text log = {0}, answered = {0};
-    int from = file ? open(file, O_RDONLY) : STDIN_FILENO;
-    if (from < 0) {
-        fprintf(stderr, "vicinity: cannot open %s\n", file);
-        return NO_ANSWER;
-    }
-    const char *why = read_text(from, &log);
-    if (file)
-        close(from);
-    int status = why ? no_answer(why) : end(judge(&log, &answered), &answered);
+    int status = read_file(file, &log) ? end(judge(&log, &answered), &answered) : NO_ANSWER;
     free(log.bytes);
     return status;
+}
+
+/* `reconcile` over EXPECTED and logs. */
+static int run_reconcile(char **files, int count)
+{
+    struct text text = {0}, answered = {0};
+    struct surveys told = {.files = files + 1};
+    uint32_t status = WHOLE;
+    bool is_read = true;
+    for (int i = 0; i < count && is_read && status == WHOLE; i++) {
+        text.len = 0;
+        is_read = read_file(files[i], &text);
+        if (is_read)
+            status = (i ? survey : expect)(&text, files[i], &told, &answered);
+        if (!has_memory(&told))
+            status = NO_ANSWER;
+    }
+    uint64_t *certain = malloc(told.shown.len + sizeof *certain);
+    if (is_read && status == WHOLE)
+        status = certain ? reconcile(&told, certain, &answered) : NO_ANSWER;
+    free(certain);
+    free(text.bytes);
+    free(told.expected.bytes);
+    free(told.shown.bytes);
+    free(told.masks.bytes);
+    free(told.ends.bytes);
+    return is_read ? end(status, &answered) : NO_ANSWER;
 }
 
 static int run_spell(char **words, int count)
@@ -449,16 +812,16 @@ static const struct {
 static int run(const char *command, char **words, int count)
 {
     struct text answered = {0};
-    const char *operand;
     if (strcmp(command, "spell") == 0)
         return run_spell(words, count);
-    if (!find_operand(words, count, &operand))
-        return no_answer("usage");
+    count = find_operands(words, count);
     for (size_t i = 0; i < sizeof OVER_TEXTS / sizeof *OVER_TEXTS; i++)
-        if (strcmp(command, OVER_TEXTS[i].name) == 0)
-            return run_over(operand, OVER_TEXTS[i].judge);
-    if (strcmp(command, "frame") == 0 && operand)
-        return end(frame(operand, &answered), &answered);
+        if (count <= 1 && strcmp(command, OVER_TEXTS[i].name) == 0)
+            return run_over(count ? words[0] : NULL, OVER_TEXTS[i].judge);
+    if (count >= 1 && count < NO_OPERANDS && strcmp(command, "reconcile") == 0)
+        return run_reconcile(words, count);
+    if (count == 1 && strcmp(command, "frame") == 0)
+        return end(frame(words[0], &answered), &answered);
     return no_answer("usage");
 }
 

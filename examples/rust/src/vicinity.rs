@@ -17,6 +17,17 @@ mod raw {
         pub text: [u8; 64],
     }
 
+    /// struct vicinity_finding.
+    #[repr(C)]
+    pub struct Finding {
+        pub kind: u32,
+        pub line: u32,
+        pub mask_len: u32,
+        pub zero: u32,
+        pub mask_value: u64,
+        pub uid: u64,
+    }
+
     extern "C" {
         pub fn vicinity_interface() -> u32;
         pub fn vicinity_check(text: *const u8, text_len: usize, answer: *mut Answer) -> u32;
@@ -27,7 +38,44 @@ mod raw {
             count: usize,
             answer: *mut Answer,
         ) -> u32;
+        pub fn vicinity_certain(
+            text: *const u8,
+            text_len: usize,
+            answer: *mut Answer,
+            certain: *mut u64,
+            room: usize,
+            needed: *mut usize,
+        ) -> u32;
+        pub fn vicinity_open_masks(
+            text: *const u8,
+            text_len: usize,
+            answer: *mut Answer,
+            masks: *mut super::Mask,
+            room: usize,
+            needed: *mut usize,
+        ) -> u32;
+        pub fn vicinity_reconcile(
+            expected: *const u64,
+            count: usize,
+            certain: *const u64,
+            certain_count: usize,
+            masks: *const super::Mask,
+            mask_count: usize,
+            answer: *mut Answer,
+            findings: *mut Finding,
+            room: usize,
+            needed: *mut usize,
+        ) -> u32;
     }
+}
+
+/// The UIDs whose `len` low bits are `value`.
+#[repr(C)]
+#[derive(Clone, Copy, Debug, Default, PartialEq, Eq)]
+pub struct Mask {
+    fault: u32,
+    pub len: u32,
+    pub value: u64,
 }
 
 /// The answer to a log.
@@ -81,6 +129,47 @@ pub fn check_listed(text: &[u8], uids: &[u64]) -> Result<Answer, OutOfMemory> {
     let mut told = EMPTY;
     // SAFETY: as in `check`, for both slices.
     unsafe { raw::vicinity_check_listed(text.as_ptr(), text.len(), uids.as_ptr(), uids.len(), &mut told) };
+    answer(told)
+}
+
+/// The answer to a text, and how many UIDs must be there, whatever it lists. They are written to the start of `certain`
+/// if it is that long.
+pub fn certain(text: &[u8], certain: &mut [u64]) -> Result<(Answer, usize), OutOfMemory> {
+    let (mut told, mut needed) = (EMPTY, 0);
+    let (start, room) = (certain.as_mut_ptr(), certain.len());
+    // SAFETY: as in `check`, for all slices.
+    unsafe { raw::vicinity_certain(text.as_ptr(), text.len(), &mut told, start, room, &mut needed) };
+    Ok((answer(told)?, needed))
+}
+
+/// The answer to a text, and how many masks are open, whatever it lists. They are written to the start of `masks` if it
+/// is that long.
+pub fn open_masks(text: &[u8], masks: &mut [Mask]) -> Result<(Answer, usize), OutOfMemory> {
+    let (mut told, mut needed) = (EMPTY, 0);
+    let (start, room) = (masks.as_mut_ptr(), masks.len());
+    // SAFETY: as in `check`, for all slices; `Mask` has the layout of struct vicinity_mask.
+    unsafe { raw::vicinity_open_masks(text.as_ptr(), text.len(), &mut told, start, room, &mut needed) };
+    Ok((answer(told)?, needed))
+}
+
+/// The answer for many fields: by the UIDs that are expected, and by what `certain` and `open_masks` wrote for each log.
+pub fn reconcile(expected: &[u64], certain: &[u64], masks: &[Mask]) -> Result<Answer, OutOfMemory> {
+    let (mut told, mut needed, mut findings) = (EMPTY, 0, []);
+    // SAFETY: as in `open_masks`. Nothing is written to a buffer without elements.
+    unsafe {
+        raw::vicinity_reconcile(
+            expected.as_ptr(),
+            expected.len(),
+            certain.as_ptr(),
+            certain.len(),
+            masks.as_ptr(),
+            masks.len(),
+            &mut told,
+            findings.as_mut_ptr(),
+            findings.len(),
+            &mut needed,
+        )
+    };
     answer(told)
 }
 
