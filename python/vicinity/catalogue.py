@@ -9,6 +9,7 @@ from typing import Iterator, NamedTuple, Optional, Sequence
 from ._answers import Kind
 from ._calls import check
 from ._command import shown
+from .fields import refusal
 
 #: The column of the UIDs, if none is named.
 COLUMN = "uid"
@@ -46,7 +47,7 @@ def _listed(name: str, text: bytes) -> Iterator[int]:
     """The UIDs of a list."""
     answer = check(text)
     if answer.kind is Kind.REFUSED:
-        raise Wrong(f"{answer} of {name}", is_list=True)
+        raise Wrong(refusal(name, answer), is_list=True)
     for number, line in enumerate(io.BytesIO(text), 1):
         if number > 1 and line[:1] not in b"#\r\n":
             if line[:1] != b"U":

@@ -4,7 +4,7 @@ from __future__ import annotations
 from enum import Enum
 from typing import Iterable, Iterator, NamedTuple, Sequence
 
-from ._answers import Answer, FindingKind
+from ._answers import FindingKind
 from ._calls import reconcile
 from ._command import NoAnswer, shown
 from .catalogue import Catalogue
@@ -104,8 +104,3 @@ class Collection:
         certain, possible = self.where_certain(uids), self.where_open(uids)
         beside = [*(self.expected.cells or [()] * len(self.expected.uids)), *[[""] * len(self.expected.heads)] * len(unlisted)]
         return [Item(uid, cells, states.get(uid, State.THERE), certain[uid], possible[uid]) for uid, cells in zip(uids, beside)]
-
-
-def refusal(name: str, answer: Answer) -> str:
-    """The line of the program for a log that is refused or impossible."""
-    return f"{answer} of {shown(name)}"

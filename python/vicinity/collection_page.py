@@ -7,8 +7,9 @@ from typing import Iterator, Sequence
 
 from ._answers import Answer, FindingKind, Kind
 from ._command import shown
-from .collection import Collection, Item, Left, State, refusal
+from .collection import Collection, Item, Left, State
 from .faults import ADVICE
+from .fields import refusal
 from .pieces import MOST, banner, chip, chips, document, group, numbered, row, section, table
 from .todo import Step
 from .words import count, ending, listing, uid
@@ -128,7 +129,7 @@ def _logs(found: Collection, left: Sequence[Left]) -> Iterator[str]:
         masks = listing([ending(mask) for mask in it.masks]) + " and more" * it.has_more
         rows.append(row(escape(shown(name)), f"no: ask again for {escape(masks)}" if it.masks else "yes",
                         f"{len(survey.certain):,}", f"<code>{escape(survey.answer.text)}</code>"))
-    heads = ("Log", "Read completely", "Tags for certain", "Its own list (which plays no part here)")
+    heads = ("Log", "Read completely", "Certain tags", "Its own list (which plays no part here)")
     yield f'<div id="{LOGS}">'
     yield from table(heads, rows, len(left), "logs", ALL)
     yield "</div>"

@@ -1,7 +1,8 @@
-"""An answer for JSON."""
+"""An answer for JSON, and as the line of one text among many."""
 from __future__ import annotations
 
 from ._answers import Answer, Kind
+from ._command import shown
 
 
 def fields(answer: Answer) -> dict[str, object]:
@@ -18,3 +19,9 @@ def fields(answer: Answer) -> dict[str, object]:
     else:
         told["uid"] = f"{answer.uid:016X}"
     return told
+
+
+def refusal(name: str, answer: Answer) -> str:
+    """The line of the program for a text that is refused or impossible."""
+    place, *fault = answer.text.split(":")
+    return ":".join([f"{place} of {shown(name)}", *fault])

@@ -9,9 +9,9 @@ from ._answers import Answer, Finding, FindingKind, Kind
 from ._command import complain, read, shown, write
 from ._native import library
 from .catalogue import Catalogue, Wrong, catalogue
-from .collection import Collection, refusal
+from .collection import Collection
 from .collection_page import broken_page, collection_page
-from .fields import fields
+from .fields import fields, refusal
 from .frames import Mask
 from .surveys import Surveys
 from .words import uid
