@@ -23,7 +23,7 @@ PROGRAM = next(filter(os.path.exists, (os.environ.get("VICINITY", ""), os.path.j
 COLLECTION = os.path.join(TOP, "examples/collection")
 SHELVES = [os.path.join(COLLECTION, f"shelf-{letter}.log") for letter in "abc"]
 FORMS = ([], ["--csv"], ["--json"], ["--page"])
-CASES = 400
+CASES = 300
 NOTHING = log(ALL + b"S\n")
 #: What was worked out by hand for the three shelves: the Time Machine stands on shelf A, Walden nowhere, and the reader of
 #: shelf C asked for no UID that ends in E or F.
@@ -137,20 +137,20 @@ class TheProgram(Command):
         if not PROGRAM:
             self.skipTest("the program isn't built")
         met = dict.fromkeys(("absent", "unlisted", "unsettled", "more", "doubtful", "complete", "impossible"), 0)
+        self.addCleanup(os.chdir, os.getcwd())
         os.chdir(self.folder)
-        self.addCleanup(os.chdir, TOP)
         for number in range(CASES):
             rng = random.Random(f"collection {number}")
             pool = [0xE0 << 56 | rng.getrandbits(5) << 51 | rng.choice((0, 1 << 20, 7 << 30)) | rng.getrandbits(5)
                     for _ in range(9)]
             pool = sorted(set(pool))
             names = [f"{name}.log" for name in range(rng.randint(0, 4))]
-            for name in names:
-                self.write(name, random_log(rng, pool))
+            texts = [random_log(rng, pool) for _ in names]
+            for name, text in zip(names, texts):
+                self.write(name, text)
             expected = rng.sample(pool, rng.randint(0, len(pool)))
             if rng.random() < 0.5:
-                found = [vicinity.survey(open(name, "rb").read()) for name in names]
-                expected = sorted({uid for one in found for uid in one.certain})
+                expected = sorted({uid for text in texts for uid in vicinity.survey(text).certain})
             self.write("expected", log(b"".join(vicinity.write_line("U", uid=uid) for uid in expected)))
             ran = subprocess.run([PROGRAM, "reconcile", "expected", *names], capture_output=True)
             said, _, status = here("lines", "expected", *names)
@@ -178,7 +178,8 @@ class Reconcile(Command):
             rows = list(csv.reader(file))
         got = list(csv.reader(io.StringIO(said.decode())))
         self.assertEqual(got[0], [*rows[0], "state", "certain in", "may be in"])
-        for row, wanted in zip(got[1:], rows[1:], strict=True):
+        self.assertEqual(len(got), len(rows))
+        for row, wanted in zip(got[1:], rows[1:]):
             state, *logs = WHERE.get(wanted[1], ("there", wanted[2].lower(), ""))
             logs = [SHELVES["abc".index(letter)] if letter else "" for letter in logs]
             self.assertEqual(row, [*wanted, state, *logs])
