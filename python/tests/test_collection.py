@@ -75,9 +75,11 @@ class Calls(unittest.TestCase):
 
     def test_reconcile(self):
         for expected, logs, text in (
-                ([], [], "complete 0"), ([A], [], "absent E0040100000000A1"), ([B, A], [ALL + HEARD_A, ALL + HEARD_B], "complete 2"),
+                ([], [], "complete 0"), ([A], [], "absent E0040100000000A1"),
+                ([B, A], [ALL + HEARD_A, ALL + HEARD_B], "complete 2"),
                 ([A, B], [ALL + HEARD_A, ALL + b"S\n"], "absent E0040100000000B2"), ([A], [ALL + HEARD_A] * 2, "complete 1"),
-                ([A], [ALL + HEARD_A, ALL + HEARD_B], "unlisted E0040100000000B2"), ([A], [ALL + HEARD_A + LIST_B], "complete 1"),
+                ([A], [ALL + HEARD_A, ALL + HEARD_B], "unlisted E0040100000000B2"),
+                ([A], [ALL + HEARD_A + LIST_B], "complete 1"),
                 ([A, B], [ALL + HEARD_A, b""], "unsettled 2 00\ndoubtful E0040100000000B2"),
                 ([A, B], [SILENCE_A + ALL + HEARD_B, ALL + HEARD_A], "complete 2"),
                 ([A, B], [SILENCE_A + ALL + HEARD_B, ALL + b"S\n"], "doubtful E0040100000000A1"),
@@ -214,7 +216,7 @@ class Reconcile(Command):
         groups = set(re.findall(r'href="#([^"]*)"', text))
         self.assertEqual(groups - set(re.findall(r'id="([^"]*)"', text)), set())
         said = here("page", self.catalogue("uid,<b>\nE0040100000000A1,<i>&\33\n"), self.names[1])[0]
-        self.assertIn("Complete: the one expected item is there, and no other.", said)
+        self.assertIn("Complete: the one expected item is there, and no others.", said)
         self.assertIn("&lt;b&gt;</th>", said)
         self.assertIn("&lt;i&gt;&amp; </td>", said)
 
@@ -263,7 +265,8 @@ class Reconcile(Command):
         for lines, text in ((b"", "complete 0"), (b"# text\n\nU E0040100000000A1\r\n", "absent E0040100000000A1"),
                             (LIST_A + LIST_A, "refused at line 3 of {}: DuplicateListed"),
                             (b"U 010401000000A1E0\n", "refused at line 2 of {}: NotVicinity"),
-                            (ALL + LIST_A, "refused at line 2 of {}: NotListed"), (b"#\nX\n", "refused at line 3 of {}: UnknownEntry"),
+                            (ALL + LIST_A, "refused at line 2 of {}: NotListed"),
+                            (b"#\nX\n", "refused at line 3 of {}: UnknownEntry"),
                             (b"F\n", "refused at line 2 of {}: UnknownEntry")):
             listed = self.write("listed", log(lines))
             status = 3 if text.startswith("refused") else int(not text.startswith("complete"))
@@ -285,16 +288,21 @@ class Reconcile(Command):
     def test_wrong_catalogues(self):
         first = "uid,title\nE0040100000000A1,a\n"
         for content, column, row, why in (
-                (first + "E00401000000B2,b\n", None, 3, "'E00401000000B2' isn't a UID"), (first + ",b\n", None, 3, "'' isn't a UID"),
-                (first + "\n\nA1000000000104E0,b\n", None, 5, "the opposite order"), (first + "E0040100000000AG,b", None, 3, "isn't a UID"),
-                (first + "E0040100000000\ufb00,b", None, 3, "isn't a UID"), (first + "x\n" * 3, None, 3, "'x' isn't a UID"),
+                (first + "E00401000000B2,b\n", None, 3, "'E00401000000B2' isn't a UID"),
+                (first + ",b\n", None, 3, "'' isn't a UID"), (first + "x\n" * 3, None, 3, "'x' isn't a UID"),
+                (first + "\n\nA1000000000104E0,b\n", None, 5, "the opposite order"),
+                (first + "E0040100000000AG,b", None, 3, "isn't a UID"),
+                (first + "E0040100000000\ufb00,b", None, 3, "isn't a UID"),
                 (first + "\"x\ny\",b\ne0040100000000a1,c\n", None, 3, r"'x\\ny' isn't a UID"),
                 (first + "e0:04:01:00:00:00:00:a1,b\n", None, 3, "E0040100000000A1 is also in row 2"),
-                (first + "E0040100000000B2,b,c\n", None, 3, "it has 3 cells"), (first, "shelf", 1, "no column is named shelf"),
+                (first + "E0040100000000B2,b,c\n", None, 3, "it has 3 cells"),
+                (first, "shelf", 1, "no column is named shelf"),
                 (first, "UID", 1, "no column is named UID; the columns are: uid, title;"),
-                ("tag,title\nE0040100000000A1,a\n", None, 1, "no column is named uid"), ("", None, 1, "the columns are: none"),
-                ("uid,UID\n", None, 1, "two columns are named uid"), ("uid,x,x\n", None, 1, "two columns are named x"),
-                (first.encode() + b"E0040100000000B2,\xff\n", None, 3, "it isn't UTF-8"), (b"uid,\xff\n", None, 1, "it isn't UTF-8"),
+                ("tag,title\nE0040100000000A1,a\n", None, 1, "no column is named uid"),
+                ("", None, 1, "the columns are: none"), ("uid,UID\n", None, 1, "two columns are named uid"),
+                ("uid,x,x\n", None, 1, "two columns are named x"),
+                (first.encode() + b"E0040100000000B2,\xff\n", None, 3, "it isn't UTF-8"),
+                (b"uid,\xff\n", None, 1, "it isn't UTF-8"),
                 (first + "E0040100000000B2,\"b\nE0040100000000B3,c\n", None, 3, "unexpected end of data"),
                 (first + "E0040100000000B2,\"b\"c\n", None, 3, "expected after")):
             with self.assertRaisesRegex(Wrong, rf"\Aa\.csv, row {row}: .*{why}.*\Z", msg=content):
@@ -307,11 +315,11 @@ class Reconcile(Command):
 
     def test_words_that_are_no_command(self):
         listed = self.write("listed", log(LIST_A))
-        for words in ([listed], ["--expected"], ["--expected", listed, "--jobs", "0"], ["--expected", listed, "--jobs", "x"],
-                      ["--expected", listed, "--csv", "--json"], ["--expected", listed, "--tabs"], ["--expected", listed, "--ascii"],
-                      ["--expected", listed, "--lines"]):
-            said, errors, status = self.ask(*words)
-            self.assertEqual((said, errors.startswith(b"vicinity: "), b"\nusage: " in errors, status), (b"", True, True, 4), words)
+        for words in (["--jobs", "0"], ["--jobs", "x"], ["--jobs"], ["--csv", "--json"], ["--tabs"], ["--ascii"], ["--lines"],
+                      ["--expected"]):
+            said, errors, status = self.ask(self.names[1], "--expected", listed, *words)
+            self.assertEqual((said, errors[:10], b"\nusage: " in errors, status), (b"", b"vicinity: ", True, 4), words)
+        self.assertEqual(self.ask(listed)[::2], (b"", 4))
         for words in (["--csv"], ["--page"], ["--expected", listed], ["--column", "x"], ["--jobs", "2"]):
             said, errors, status = command("report", self.names[0], *words)
             self.assertEqual((said, b"only for reconcile" in errors, status), (b"", True, 4), words)
@@ -324,8 +332,9 @@ class Reconcile(Command):
         for jobs in "1", "2":
             words = ["--expected", catalogue, "--jobs", jobs, self.names[0]]
             for name in "-", "/dev/stdin":
-                self.assertEqual(self.ask(*words, name, given=log(ALL + HEARD_A)), (wanted.format(name).encode(), b"", 1))
-                self.assertEqual(self.ask(*words, name, redirected=f"<{self.names[1]}"), (wanted.format(name).encode(), b"", 1))
+                told = (wanted.format(name).encode(), b"", 1)
+                self.assertEqual(self.ask(*words, name, given=log(ALL + HEARD_A)), told)
+                self.assertEqual(self.ask(*words, name, redirected=f"<{self.names[1]}"), told)
             with open(catalogue, "rb") as file:
                 said = self.ask("--expected", "-", "--jobs", jobs, self.names[1], given=file.read())
             self.assertEqual(said, (wanted.format(self.names[1]).encode(), b"", 1))
@@ -396,8 +405,8 @@ class Surroundings(Command):
 
     def test_progress(self):
         code = ("import os, pty, subprocess, sys\nours, theirs = pty.openpty()\n"
-                "subprocess.run([sys.executable, '-m', 'vicinity', *sys.argv[1:]], stdout=subprocess.DEVNULL, stderr=theirs)\n"
-                "os.close(theirs)\ntry: sys.stdout.buffer.write(os.read(ours, 9999))\nexcept OSError: pass")
+                "words = [sys.executable, '-m', 'vicinity', *sys.argv[1:]]\n"
+                "subprocess.run(words, stdout=subprocess.DEVNULL, stderr=theirs)\nos.close(theirs)\ntry: sys.stdout.buffer.write(os.read(ours, 9999))\nexcept OSError: pass")
         for number, wanted in ((51, b"\r0 of 51 logs"), (50, b"")):
             for more in ([], ["--jobs", "2"]):
                 said = subprocess.run([sys.executable, "-c", code, "reconcile", "--expected", self.listed, *more,

@@ -71,8 +71,8 @@ def words() -> Words:
     form.add_argument("--tabs", dest="form", action="store_const", const=as_tabs,
                       help="with FILE ..: file, status and answer, separated by tabs")
     form.add_argument("--json", dest="form", action="store_const", const=as_json,
-                      help="one object per line: file, status, kind and the fields of the kind; with report also the findings; "
-                      "with reconcile one object: the answer, each item and each log")
+                      help="one object per line: file, status, kind and the fields of the kind; with report also the "
+                      "findings; with reconcile one object: the answer, each item and each log")
     form.add_argument("--lines", action="store_true", help="with report: FILE:LINE: text, like a compiler (the default)")
     form.add_argument("--ascii", action="store_true", help="with show: only ASCII characters")
     form.add_argument("--csv", action="store_true", help="with reconcile: a row for each item")

@@ -29,8 +29,8 @@ class Kind(enum.IntEnum):
 
 
 class Fault(enum.IntEnum):
-    """Why a text isn't a log. Those that begin with FRAME are about the frame of a T or R line. WRONG_MASK is about a survey:
-    a mask of it isn't one."""
+    """Why a text isn't a log. Those that begin with FRAME are about the frame of a T or R line, WRONG_MASK is about a mask
+    of a survey."""
 
     NONE = 0
     TOO_MANY_LINES = 1

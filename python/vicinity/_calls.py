@@ -158,7 +158,7 @@ def survey(text: BytesLike) -> Survey:
     text = _bytes(text)
     places = FIRST_ROOM + 2 * text.count(b"\n")
     answer, uids, count = _filled(ctypes.c_uint64, places, library().vicinity_certain, text, len(text))
-    if answer.kind in (Kind.IMPOSSIBLE, Kind.REFUSED):
+    if answer.status > 1:
         return Survey(answer, [], [])
     _, masks, left = _filled(MaskStruct, places, library().vicinity_open_masks, text, len(text))
     return Survey(answer, uids[:count], [Mask(it.len, it.value) for it in masks[:left]])
@@ -171,7 +171,7 @@ def reconcile(expected: Iterable[int], surveys: Iterable[Survey]) -> Report:
     Raises what `check` raises, and OverflowError if a UID or a mask doesn't fit into 64 bits."""
     found = list(surveys)
     for one in found:
-        if one.answer.kind in (Kind.IMPOSSIBLE, Kind.REFUSED):
+        if one.answer.status > 1:
             return Report(one.answer, [])
     listed = _numbers(expected)
     certain = _numbers(uid for one in found for uid in one.certain)

@@ -46,7 +46,7 @@ def run(command: Callable[[], int]) -> int:
 
 def complain(why: str) -> int:
     """Writes to standard error why there is no answer, if it can, and returns the status."""
-    _note(f"vicinity: {why}\n")
+    _note("vicinity: ", why, "\n")
     return NO_ANSWER
 
 
@@ -117,10 +117,10 @@ def counted(things: Iterable[T], total: int) -> Generator[T, None, None]:
             _note("\r\33[K")
 
 
-def _note(text: str) -> None:
+def _note(*pieces: str) -> None:
     """Writes to standard error, if it can."""
     try:
-        os.write(2, _encoded(text))
+        os.write(2, _encoded("".join(pieces)))
     except (OSError, MemoryError):
         pass
 
@@ -131,7 +131,7 @@ def has_colours() -> bool:
 
 
 class Words(argparse.ArgumentParser):
-    """The arguments of a command. Options may be anywhere before `--`; those that are `valued` have the next word as value."""
+    """The arguments of a command. Options may be anywhere before `--`. The next word after a `valued` one is its value."""
 
     valued: Sequence[str] = ()
 

@@ -26,7 +26,8 @@ class State(Enum):
 
 
 #: The states of the items that a finding is about. An expected item without a finding is there.
-STATES = {FindingKind.ABSENT: State.MISSING, FindingKind.DOUBTFUL: State.NOT_PROVABLE, FindingKind.UNLISTED: State.UNEXPECTED}
+STATES = {FindingKind.ABSENT: State.MISSING, FindingKind.DOUBTFUL: State.NOT_PROVABLE,
+          FindingKind.UNLISTED: State.UNEXPECTED}
 
 
 class Item(NamedTuple):
@@ -40,7 +41,8 @@ class Item(NamedTuple):
 
 
 class Left(NamedTuple):
-    """What is left to ask for in a log: the first masks, and whether there are more. None: it was read completely."""
+    """What is left to ask for in a log: the first masks, and whether there are more. If there are none, the log was read
+    completely."""
 
     masks: list[Mask]
     has_more: bool
@@ -70,7 +72,7 @@ class Collection:
         """The logs in which each UID is possible and not certain."""
         found: dict[int, list[int]] = {uid: [] for uid in uids}
         among = Under(found)
-        for index, survey in enumerate(self.surveys):
+        for index, survey in enumerate(self.surveys if found else ()):
             for mask in survey.open_masks:
                 for uid in among.of(mask):
                     found[uid].append(index)
@@ -102,5 +104,6 @@ class Collection:
         states = {it.uid: STATES[it.kind] for it in self.findings if it.kind in STATES}
         uids = [*self.expected.uids, *unlisted]
         certain, possible = self.where_certain(uids), self.where_open(uids)
-        beside = [*(self.expected.cells or [()] * len(self.expected.uids)), *[[""] * len(self.expected.heads)] * len(unlisted)]
-        return [Item(uid, cells, states.get(uid, State.THERE), certain[uid], possible[uid]) for uid, cells in zip(uids, beside)]
+        cells = dict(zip(self.expected.uids, self.expected.cells))
+        empty = [""] * len(self.expected.heads)
+        return [Item(uid, cells.get(uid, empty), states.get(uid, State.THERE), certain[uid], possible[uid]) for uid in uids]

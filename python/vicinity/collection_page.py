@@ -28,7 +28,7 @@ MISSING = ("Look for {}, and keep it in the catalogue. It was in none of the fie
            "broken, or it was carried from one field to another between two readings.")
 UNEXPECTED = "Bring {} to where it belongs, or add it to the catalogue."
 AGAIN = "Switch the field off and on, and count again, to the end: {}."
-BROKEN = {Kind.IMPOSSIBLE: "Count this field again: its log contradicts itself. python3 -m vicinity page LOG shows the lines.",
+BROKEN = {Kind.IMPOSSIBLE: "Count this field again. python3 -m vicinity page LOG shows which lines contradict each other.",
           Kind.REFUSED: "Nothing is known about the collection until every log can be read."}
 
 
@@ -41,8 +41,8 @@ def collection_page(found: Collection) -> Iterator[str]:
     unread = sum(1 for it in left if it.masks)
     counts = [chip(GROUPS[state], len(by_state[state]), state.value, state.value, "" if state is State.THERE else "found")
               for state in (State.THERE, State.MISSING, State.NOT_PROVABLE, State.UNEXPECTED)]
-    counts += [chip(LOGS, len(left), "log", "logs"), chip(LOGS, unread, "log to be counted again", "logs to be counted again",
-                                                          "found")]
+    counts.append(chip(LOGS, len(left), "log", "logs"))
+    counts.append(chip(LOGS, unread, "log to be counted again", "logs to be counted again", "found"))
     groups = [part for state in TITLES for part in _items(found, state, by_state[state])]
     main = [*numbered(_steps(found, by_state, left)), *section("Items", groups),
             *section("Logs", list(_logs(found, left)))]
@@ -66,9 +66,10 @@ def _title(name: str) -> str:
 
 
 def _sentence(found: Collection, by_state: dict[State, list[Item]], left: Sequence[Left]) -> str:
-    number = len(found.expected.uids)
     if found.answer.kind is Kind.COMPLETE:
-        return f"Complete: {'the one expected item is' if number == 1 else f'all {number:,} expected items are'} there, and no other."
+        number = len(found.expected.uids)
+        items = "the one expected item is" if number == 1 else f"all {number:,} expected items are"
+        return f"Complete: {items} there, and no others."
     said = []
     if by_state[State.MISSING]:
         said.append(count(len(by_state[State.MISSING]), "item is missing", "items are missing"))

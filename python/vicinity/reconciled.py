@@ -5,7 +5,7 @@ import csv
 import json
 from typing import Any, Iterator, Optional, Sequence
 
-from ._answers import Answer, Finding, FindingKind, Kind
+from ._answers import Answer, Finding, FindingKind
 from ._command import complain, read, shown, write
 from ._native import library
 from .catalogue import Catalogue, Wrong, catalogue
@@ -110,7 +110,7 @@ def reconciled(form: str, name: str, column: Optional[str], logs: Sequence[str],
         return REFUSED
     surveys = Surveys(logs, jobs)
     answer = surveys.all[-1].answer if surveys.all else None
-    if answer and answer.kind in (Kind.IMPOSSIBLE, Kind.REFUSED):
+    if answer and answer.status > 1:
         write(_refused(form, expected, logs[len(surveys.all) - 1], answer))
         return answer.status
     found = Collection(expected, logs, surveys)
