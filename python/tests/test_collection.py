@@ -315,8 +315,8 @@ class Reconcile(Command):
 
     def test_words_that_are_no_command(self):
         listed = self.write("listed", log(LIST_A))
-        for words in (["--jobs", "0"], ["--jobs", "x"], ["--jobs"], ["--csv", "--json"], ["--tabs"], ["--ascii"], ["--lines"],
-                      ["--expected"]):
+        for words in (["--jobs", "0"], ["--jobs", "x"], ["--jobs"], ["--csv", "--json"], ["--tabs"], ["--ascii"],
+                      ["--lines"], ["--expected"]):
             said, errors, status = self.ask(self.names[1], "--expected", listed, *words)
             self.assertEqual((said, errors[:10], b"\nusage: " in errors, status), (b"", b"vicinity: ", True, 4), words)
         self.assertEqual(self.ask(listed)[::2], (b"", 4))
@@ -406,7 +406,8 @@ class Surroundings(Command):
     def test_progress(self):
         code = ("import os, pty, subprocess, sys\nours, theirs = pty.openpty()\n"
                 "words = [sys.executable, '-m', 'vicinity', *sys.argv[1:]]\n"
-                "subprocess.run(words, stdout=subprocess.DEVNULL, stderr=theirs)\nos.close(theirs)\ntry: sys.stdout.buffer.write(os.read(ours, 9999))\nexcept OSError: pass")
+                "subprocess.run(words, stdout=subprocess.DEVNULL, stderr=theirs)\nos.close(theirs)\n"
+                "try: sys.stdout.buffer.write(os.read(ours, 9999))\nexcept OSError: pass")
         for number, wanted in ((51, b"\r0 of 51 logs"), (50, b"")):
             for more in ([], ["--jobs", "2"]):
                 said = subprocess.run([sys.executable, "-c", code, "reconcile", "--expected", self.listed, *more,
