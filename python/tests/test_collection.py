@@ -230,7 +230,7 @@ class Reconcile(Command):
         said, _, _ = here("lines", catalogue, self.names[1], both)
         self.assertIn(f"unlisted E0040100000000B2\nby line 5 of {both}\n", said)
         page, _, _ = here("page", catalogue, both)
-        self.assertRegex(page, r"(?s)<h3>Unexpected.*E0040100000000B2</th><td></td><td>[^<]*both.log")
+        self.assertRegex(page, r"(?s)<h3>Unexpected.*E0040100000000B2</th><td>[^<]*both.log")
 
     def test_statuses(self):
         listed = self.write("listed", log(LIST_A))

@@ -110,12 +110,13 @@ def _items(found: Collection, state: State, items: Sequence[Item]) -> Iterator[s
     if not items:
         return
     where = {State.MISSING: (), State.NOT_PROVABLE: ("May be in",)}.get(state, ("Certain in",))
+    heads = () if state is State.UNEXPECTED else found.expected.heads
     rows = []
     for item in items[:MOST]:
         logs = item.may_be_in if state is State.NOT_PROVABLE else item.certain_in
-        cells = map(_text, [*item.cells, *[_named(found, logs)] * len(where)])
+        cells = map(_text, [*item.cells[:len(heads)], *[_named(found, logs)] * len(where)])
         rows.append(row(uid(item.uid), *cells))
-    body = table(("UID", *map(_text, found.expected.heads), *where), rows, len(items), "items", ALL)
+    body = table(("UID", *map(_text, heads), *where), rows, len(items), "items", ALL)
     yield from group(GROUPS[state], TITLES[state], len(items), body, state is not State.THERE)
 
 

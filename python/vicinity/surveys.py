@@ -14,8 +14,8 @@ from ._calls import survey
 from ._command import NoAnswer, counted, read, shown
 from .told import Shown, tell
 
-#: How many logs a process takes at once.
-SHARE = 8
+#: How many logs a process takes at once, at most; of few logs each gets so many times some.
+SHARE, TURNS = 8, 4
 LIST = re.compile(rb"^U", re.MULTILINE)
 
 
@@ -42,7 +42,7 @@ class Surveys:
         pool = ProcessPoolExecutor(min(jobs, len(there)), initializer=signal.signal,
                                    initargs=(signal.SIGINT, signal.SIG_DFL))
         try:
-            made = pool.map(_survey_file, there, chunksize=SHARE)
+            made = pool.map(_survey_file, there, chunksize=max(1, min(SHARE, len(there) // (jobs * TURNS))))
             for index, is_apart in enumerate(apart):
                 yield next(made) if is_apart else self._here(index)
         finally:
