@@ -339,6 +339,12 @@ class Reconcile(Command):
                 said = self.ask("--expected", "-", "--jobs", jobs, self.names[1], given=file.read())
             self.assertEqual(said, (wanted.format(self.names[1]).encode(), b"", 1))
 
+    def test_a_file_that_only_this_process_has_open(self):
+        with open(self.names[1], "rb") as file, mock.patch.object(surveys, "ProcessPoolExecutor", None):
+            name = f"/dev/fd/{file.fileno()}"
+            said = here("lines", self.catalogue("uid\n"), name, jobs=2)
+        self.assertEqual(said, (f"unlisted E0040100000000A1\nby line 3 of {name}\n", "", 1))
+
     def test_a_log_that_changes_meanwhile(self):
         name = self.write("a.log", log(ALL + HEARD_A))
         read = surveys.Surveys([name], 1)
