@@ -36,7 +36,7 @@ reconcile ..  compares many logs with one list of what should be there, and
 STATUSES = """\
 The exit status is the worst of all: 0 complete, 1 not complete, 2 impossible,
 3 refused, 4 no answer. Standard error says why there is no answer; the files
-after that one are still judged."""
+after that one are still judged, except by reconcile."""
 
 
 def judge(name: str) -> Union[Answer, str]:

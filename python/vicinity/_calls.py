@@ -39,7 +39,7 @@ def _without_list(text: BytesLike) -> bytes:
 def _numbers(uids: Iterable[int]) -> ctypes.Array[ctypes.c_uint64]:
     """UIDs as a C array. Raises OverflowError if a number doesn't fit into 64 bits."""
     numbers = array("Q", uids)
-    return (ctypes.c_uint64 * len(numbers))(*numbers)
+    return (ctypes.c_uint64 * len(numbers)).from_buffer(numbers)
 
 
 def _masks(masks: Iterable[Mask]) -> ctypes.Array[MaskStruct]:
