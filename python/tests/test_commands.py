@@ -38,6 +38,13 @@ def on_a_terminal(*words, **env):
     return told
 
 
+def least():
+    """How many KiB of address space the commands take by themselves."""
+    code = ("import vicinity.__main__, vicinity.draw, vicinity.reconciled; vicinity.check(b'')\n"
+            "with open('/proc/self/status') as file: print(*(it.split()[1] for it in file if it.startswith('VmPeak')))")
+    return int(subprocess.run([sys.executable, "-c", code], capture_output=True).stdout)
+
+
 class Command(unittest.TestCase):
     def setUp(self):
         folder = tempfile.TemporaryDirectory()
@@ -142,9 +149,7 @@ class Words(Command):
 class Memory(Command):
     def setUp(self):
         super().setUp()
-        code = ("import vicinity.__main__, vicinity.draw; vicinity.check(b'')\n"
-                "with open('/proc/self/status') as file: print(*(it.split()[1] for it in file if it.startswith('VmPeak')))")
-        self.least = int(subprocess.run([sys.executable, "-c", code], capture_output=True).stdout)
+        self.least = least()
 
     def test_it_is_refused_while_a_file_is_read(self):
         large = self.write("large.log", b"")

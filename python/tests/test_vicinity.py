@@ -252,7 +252,7 @@ class Calls(unittest.TestCase):
         with open(os.path.join(TOP, "include/vicinity.h")) as file:
             header = file.read()
         kinds = {name: int(it) for name, it in re.findall(r"VICINITY_(?!FINDING_)([A-Z_]+) = (\d),? /\*", header)}
-        faults = {name: int(it) for name, it in re.findall(r"VICINITY_FAULT_(\w+) = (\d+)", header)}
+        faults = {name: int(it) for name, it in re.findall(r"VICINITY_(?:FAULT_(?=\w)|(?=WRONG_MASK))(\w+) = (\d+)", header)}
         self.assertEqual(kinds, {"NO_ANSWER": 0, **{it.name: it.value for it in Kind}})
         self.assertEqual(faults, {it.name: it.value for it in Fault})
         found = {name: int(it) for name, it in re.findall(r"VICINITY_FINDING_(\w+) = (\d+)", header)}

@@ -8,16 +8,18 @@
 The log text and the answers are the same as for the program `vicinity`. The answers come from the shared library
 libvicinity.so.1: nothing is judged in Python. It is loaded on the first call; LIBVICINITY may name its file.
 
-`python3 -m vicinity FILE ..` answers for many files in one process; `python3 -m vicinity show LOG` and `page LOG` draw one.
+`python3 -m vicinity FILE ..` answers for many files in one process; `python3 -m vicinity show LOG` and `page LOG` draw one;
+`python3 -m vicinity reconcile --expected FILE LOG ..` compares many with one list of what should be there.
 """
-from ._answers import Answer, Explanation, Fault, Finding, FindingKind, Kind, Report, Simulation
-from ._calls import (check, check_listed, explain, explain_into, explain_listed, report, report_listed, simulate,
-                     simulate_into)
+from ._answers import Answer, Explanation, Fault, Finding, FindingKind, Kind, Report, Simulation, Survey
+from ._calls import (check, check_listed, explain, explain_into, explain_listed, reconcile, report, report_listed, simulate,
+                     simulate_into, survey)
 from .frames import (HEADER_LINE, FrameFault, Mask, Reply, Request, add_crc, read_request, read_response, slot_mask,
                      write_inventory, write_line, write_response, write_stay_quiet)
 
-__all__ = ["Answer", "Explanation", "Fault", "Finding", "FindingKind", "FrameFault", "HEADER_LINE", "Kind", "Mask", "Reply",
-           "Report", "Request", "Simulation", "add_crc", "check", "check_listed", "explain", "explain_into", "explain_listed",
-           "read_request", "read_response", "report", "report_listed", "simulate", "simulate_into", "slot_mask",
-           "write_inventory", "write_line", "write_response", "write_stay_quiet"]
+__all__ = ["Answer", "Explanation", "Fault", "Finding", "FindingKind", "FrameFault", "HEADER_LINE", "Kind",
+           "Mask", "Reply", "Report", "Request", "Simulation", "Survey", "add_crc", "check", "check_listed", "explain",
+           "explain_into", "explain_listed", "read_request", "read_response", "reconcile", "report", "report_listed",
+           "simulate", "simulate_into", "slot_mask", "survey", "write_inventory", "write_line", "write_response",
+           "write_stay_quiet"]
 __version__ = "1.0.1"

@@ -3,9 +3,12 @@ from __future__ import annotations
 
 import enum
 from dataclasses import dataclass
-from typing import NamedTuple
+from typing import TYPE_CHECKING, NamedTuple
 
 from ._native import name_of
+
+if TYPE_CHECKING:
+    from .frames import Mask
 
 
 class Kind(enum.IntEnum):
@@ -26,7 +29,8 @@ class Kind(enum.IntEnum):
 
 
 class Fault(enum.IntEnum):
-    """Why a text isn't a log. Those that begin with FRAME are about the frame of a T or R line."""
+    """Why a text isn't a log. Those that begin with FRAME are about the frame of a T or R line, WRONG_MASK is about a mask
+    of a survey."""
 
     NONE = 0
     TOO_MANY_LINES = 1
@@ -54,6 +58,7 @@ class Fault(enum.IntEnum):
     FRAME_NOT_ADDRESSED = 113
     FRAME_ERROR_FLAG = 114
     FRAME_NOT_VICINITY = 115
+    WRONG_MASK = 203
 
     @property
     def word(self) -> str:
@@ -128,12 +133,14 @@ class Finding(NamedTuple):
     """The UID, if the kind is ABSENT, UNLISTED or DOUBTFUL."""
 
     def __str__(self) -> str:
-        """The line that `vicinity report` writes, without its LF, and the one that names the line that shows it."""
+        """The line that `vicinity report` writes, without its LF, and the one that names the line that shows it, if one
+        log does."""
+        by_line = f"\nby line {self.line}" if self.line else ""
         size = 2 * ((self.mask_len + 7) // 8)
         mask = f"{self.mask_len} {self.mask_value:0{size}X}" if size else "0 -"
         return {
-            FindingKind.ABSENT: f"absent {self.uid:016X}\nby line {self.line}",
-            FindingKind.UNLISTED: f"unlisted {self.uid:016X}\nby line {self.line}",
+            FindingKind.ABSENT: f"absent {self.uid:016X}{by_line}",
+            FindingKind.UNLISTED: f"unlisted {self.uid:016X}{by_line}",
             FindingKind.UNSETTLED: f"unsettled {mask}",
             FindingKind.DOUBTFUL: f"doubtful {self.uid:016X}",
             FindingKind.OPEN_MASK: f"open {mask}",
@@ -148,12 +155,24 @@ class Report(NamedTuple):
 
     answer: Answer
     findings: list[Finding]
-    """In the order of the lines of `vicinity report`; none for COMPLETE and REFUSED."""
+    """In the order of the lines of `vicinity report`, or for many logs in that of `vicinity reconcile`, without lines and
+    open masks; none for COMPLETE and REFUSED."""
 
     def __str__(self) -> str:
         """What `vicinity report` writes, without its last LF."""
         first = [] if self.answer.status == 1 else [self.answer.text]
         return "\n".join([*first, *map(str, self.findings)])
+
+
+class Survey(NamedTuple):
+    """What a log says of its field, whatever it lists. A log that is refused or impossible says nothing of it."""
+
+    answer: Answer
+    """The answer to the log and its own list."""
+    certain: list[int]
+    """The UIDs that must be there, in rising order."""
+    open_masks: list[Mask]
+    """The masks of the UIDs that may be there or not, by length and then by value; none if everything was asked."""
 
 
 class Simulation(NamedTuple):

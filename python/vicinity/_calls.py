@@ -4,10 +4,12 @@ from __future__ import annotations
 import ctypes
 import mmap
 from array import array
+from itertools import repeat
 from typing import TYPE_CHECKING, Any, Callable, Iterable, Union
 
-from ._answers import Answer, Explanation, Fault, Finding, FindingKind, Kind, Report, Simulation
-from ._native import AnswerStruct, FindingStruct, library
+from ._answers import Answer, Explanation, Fault, Finding, FindingKind, Kind, Report, Simulation, Survey
+from ._native import AnswerStruct, FindingStruct, MaskStruct, library
+from .frames import Mask
 
 if TYPE_CHECKING:
     import mmap
@@ -37,7 +39,16 @@ def _without_list(text: BytesLike) -> bytes:
 def _numbers(uids: Iterable[int]) -> ctypes.Array[ctypes.c_uint64]:
     """UIDs as a C array. Raises OverflowError if a number doesn't fit into 64 bits."""
     numbers = array("Q", uids)
-    return (ctypes.c_uint64 * len(numbers))(*numbers)
+    return (ctypes.c_uint64 * len(numbers)).from_buffer(numbers)
+
+
+def _masks(masks: Iterable[Mask]) -> ctypes.Array[MaskStruct]:
+    """Masks as a C array. Raises OverflowError if a number of one doesn't fit into 32 or 64 bits."""
+    lengths, values = array("I"), array("Q")
+    for length, value in masks:
+        lengths.append(length)
+        values.append(value)
+    return (MaskStruct * len(lengths))(*map(MaskStruct, repeat(0), lengths, values))
 
 
 def _answer(told: AnswerStruct) -> Answer:
@@ -139,6 +150,34 @@ def report_listed(text: BytesLike, uids: Iterable[int]) -> Report:
     """The answer of `check_listed`, and every finding. Raises what `check_listed` raises."""
     text, listed = _without_list(text), _numbers(uids)
     return _report(*_in_room(FindingStruct, library().vicinity_report_listed, text, len(text), listed, len(listed)))
+
+
+def survey(text: BytesLike) -> Survey:
+    """What a log says of its field: the UIDs that must be there, and all masks whose UIDs may be. Raises what `check`
+    raises."""
+    text = _bytes(text)
+    places = FIRST_ROOM + 2 * text.count(b"\n")
+    answer, uids, count = _filled(ctypes.c_uint64, places, library().vicinity_certain, text, len(text))
+    if answer.status > 1:
+        return Survey(answer, [], [])
+    _, masks, left = _filled(MaskStruct, places, library().vicinity_open_masks, text, len(text))
+    return Survey(answer, uids[:count], [Mask(it.len, it.value) for it in masks[:left]])
+
+
+def reconcile(expected: Iterable[int], surveys: Iterable[Survey]) -> Report:
+    """The answer for many logs, of which these are the surveys, and every finding; `expected` are the UIDs that should be
+    in their fields, in any order. If a log is refused or impossible, the answer is that to the first one.
+
+    Raises what `check` raises, and OverflowError if a UID or a mask doesn't fit into 64 bits."""
+    found = list(surveys)
+    for one in found:
+        if one.answer.status > 1:
+            return Report(one.answer, [])
+    listed = _numbers(expected)
+    certain = _numbers(uid for one in found for uid in one.certain)
+    masks = _masks(mask for one in found for mask in one.open_masks)
+    return _report(*_in_room(FindingStruct, library().vicinity_reconcile, listed, len(listed), certain, len(certain), masks,
+                             len(masks)))
 
 
 def simulate_into(text: BytesLike, room: ctypes.Array[ctypes.c_uint8]) -> tuple[int, int]:

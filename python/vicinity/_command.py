@@ -11,12 +11,17 @@ import argparse
 import os
 import signal
 import sys
-from typing import IO, Callable, Iterable, NoReturn, Optional, Sequence
+from itertools import islice
+from typing import IO, Callable, Generator, Iterable, NoReturn, Optional, Sequence, TypeVar
 
 # Within these bytes, a longer text has a line that is too long, or too many lines: 1,000,000 lines of 130 bytes, plus one.
 MOST_BYTES = 1_000_000 * 130 + 1
 PIECE = 1 << 16
 NO_ANSWER = 4
+#: With more logs than this, a terminal is told how many have been read, each time after so many.
+MOST_UNCOUNTED, TOLD_EACH = 50, 10
+
+T = TypeVar("T")
 
 
 class NoAnswer(Exception):
@@ -41,10 +46,7 @@ def run(command: Callable[[], int]) -> int:
 
 def complain(why: str) -> int:
     """Writes to standard error why there is no answer, if it can, and returns the status."""
-    try:
-        os.write(2, _encoded(f"vicinity: {why}\n"))
-    except (OSError, MemoryError):
-        pass
+    _note("vicinity: ", why, "\n")
     return NO_ANSWER
 
 
@@ -102,19 +104,49 @@ def _escaped(character: str) -> str:
     return short or "".join(f"\\x{byte:02x}" for byte in character.encode())
 
 
+def counted(things: Iterable[T], total: int) -> Generator[T, None, None]:
+    """The same things, one for each of many logs. Their number is shown if standard error is a terminal."""
+    is_shown = total > MOST_UNCOUNTED and os.isatty(2)
+    try:
+        for number, thing in enumerate(things):
+            if is_shown and number % TOLD_EACH == 0:
+                _note(f"\r{number:,} of {total:,} logs")
+            yield thing
+    finally:
+        if is_shown:
+            _note("\r\33[K")
+
+
+def _note(*pieces: str) -> None:
+    """Writes to standard error, if it can."""
+    try:
+        os.write(2, _encoded("".join(pieces)))
+    except (OSError, MemoryError):
+        pass
+
+
 def has_colours() -> bool:
     """Whether standard output is a terminal, and colours are wanted: NO_COLOR isn't set, or is empty."""
     return os.isatty(1) and not os.environ.get("NO_COLOR")
 
 
 class Words(argparse.ArgumentParser):
-    """The arguments of a command. Options have no values, and may be anywhere before `--`."""
+    """The arguments of a command. Options may be anywhere before `--`. The next word after a `valued` one is its value."""
+
+    valued: Sequence[str] = ()
 
     def parse(self, words: Sequence[str]) -> argparse.Namespace:
-        end = words.index("--") if "--" in words else len(words)
-        options = [word for word in words[:end] if word.startswith("-") and word != "-"]
-        names = [word for word in words[:end] if word == "-" or not word.startswith("-")]
-        return self.parse_args([*options, "--", *names, *words[end + 1:]])
+        options, names, left = [], [], iter(words)
+        for word in left:
+            if word == "--":
+                break
+            if word in self.valued:
+                options.append("=".join([word, *islice(left, 1)]))
+            elif word.startswith("-") and word != "-":
+                options.append(word)
+            else:
+                names.append(word)
+        return self.parse_args([*options, "--", *names, *left])
 
     def error(self, message: str) -> NoReturn:
         raise NoAnswer(f"{shown(message)}\n{self.format_usage().rstrip()}")

@@ -92,6 +92,7 @@ UIDS = [ctypes.POINTER(ctypes.c_uint64), SIZE]
 ANSWER = [ctypes.POINTER(AnswerStruct)]
 POPULATION = [*UIDS, ctypes.POINTER(SIZE)]
 FINDINGS = [ctypes.POINTER(FindingStruct), SIZE, ctypes.POINTER(SIZE)]
+MASKS = [ctypes.POINTER(MaskStruct), SIZE]
 NUMBER, VALUE = ctypes.c_uint32, ctypes.c_uint64
 FRAME = ctypes.POINTER(FrameStruct)
 
@@ -102,6 +103,9 @@ CALLS = {
     "check_listed": [*TEXT, *UIDS, *ANSWER],
     "explain_listed": [*TEXT, *UIDS, *ANSWER, *POPULATION],
     "report_listed": [*TEXT, *UIDS, *ANSWER, *FINDINGS],
+    "certain": [*TEXT, *ANSWER, *POPULATION],
+    "open_masks": [*TEXT, *ANSWER, *MASKS, ctypes.POINTER(SIZE)],
+    "reconcile": [*UIDS, *UIDS, *MASKS, *ANSWER, *FINDINGS],
     "simulate": [*TEXT, ctypes.POINTER(ctypes.c_uint8), SIZE, ctypes.POINTER(SIZE)],
     "kind_name": [NUMBER, ctypes.POINTER(NameStruct)],
     "fault_name": [NUMBER, ctypes.POINTER(NameStruct)],

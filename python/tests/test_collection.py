@@ -1,0 +1,426 @@
+"""Many logs against one list or catalogue: the calls, what `python3 -m vicinity reconcile` writes, and its status."""
+import csv
+import io
+import json
+import os
+import random
+import re
+import subprocess
+import sys
+import unittest
+from unittest import mock
+
+import vicinity
+import test_commands
+from test_commands import FULL, Command, command
+from test_vicinity import A, ALL, B, HEARD_A, HEARD_B, LIST_A, LIST_B, SILENCE_A, SIXTEEN, TOP, frame, log
+from vicinity import Fault, FindingKind, Kind, Mask, collection, reconciled, surveys
+from vicinity.catalogue import Wrong, catalogue
+from vicinity._command import NoAnswer
+
+PROGRAM = next(filter(os.path.exists, (os.environ.get("VICINITY", ""), os.path.join(TOP, "crates/vicinity/out/vicinity"),
+                                       os.path.join(TOP, "out/release/vicinity"))), None)
+COLLECTION = os.path.join(TOP, "examples/collection")
+SHELVES = [os.path.join(COLLECTION, f"shelf-{letter}.log") for letter in "abc"]
+FORMS = ([], ["--csv"], ["--json"], ["--page"])
+CASES = 300
+NOTHING = log(ALL + b"S\n")
+#: What was worked out by hand for the three shelves: the Time Machine stands on shelf A, Walden nowhere, and the reader of
+#: shelf C asked for no UID that ends in E or F.
+LINES = """absent E00401502B91C435
+unsettled 4 0F
+open 4 0E in {c}
+open 4 0F in {c}
+doubtful E00401506D9320CE in {c}
+"""
+WHERE = {"Walden": ("missing", "", ""), "The Time Machine": ("there", "a", ""), "Ulysses": ("not provable", "", "c")}
+
+
+def here(form, expected, *logs, column=None, jobs=1):
+    """What the command writes, also to standard error, and its status, without a process of its own."""
+    with mock.patch.object(reconciled, "write") as write, mock.patch.object(reconciled, "complain") as complain:
+        status = reconciled.reconciled(form, expected, column, logs, jobs)
+        said = "".join(piece for call in write.call_args_list for piece in call[0][0])
+        return said, "".join(call[0][0] for call in complain.call_args_list), status
+
+
+class Calls(unittest.TestCase):
+    def test_a_survey_goes_by_what_was_in_the_field(self):
+        for lines, certain, masks in (
+                (ALL + b"S\n", [], []), (ALL + HEARD_A, [A], []), (ALL + b"S\n" + LIST_A, [], []), (b"", [], [(0, 0)]),
+                (ALL + HEARD_A + LIST_A + LIST_B, [A], []), (SILENCE_A + ALL + HEARD_B, [B], [(56, A % (1 << 56))]),
+                (SIXTEEN + b"S\n" * 14, [], [(4, 14), (4, 15)]), (SIXTEEN + b"S\n" * 14 + LIST_A, [], [(4, 14), (4, 15)])):
+            found = vicinity.survey(log(lines))
+            self.assertEqual(found, (vicinity.check(log(lines)), certain, masks))
+            self.assertEqual([type(mask) for mask in found.open_masks], [Mask] * len(masks))
+        with self.assertRaises(AttributeError):
+            found.certain = []
+        self.assertEqual(vicinity.survey(bytearray(log(ALL + HEARD_A))).certain, [A])
+        with self.assertRaisesRegex(TypeError, "str"):
+            vicinity.survey("vicinity-log 1\n")
+
+    def test_a_survey_of_no_log(self):
+        for text in (b"", log(b"X\n"), log(ALL + b"S\n" + ALL + HEARD_A)):
+            self.assertEqual(vicinity.survey(text), (vicinity.check(text), [], []))
+
+    def test_a_survey_larger_than_the_first_room(self):
+        asked = [3, 1 << 20, 1 << 40]
+        rounds = [b"T %s\n%%s\n" % frame(b"\x26\x01\x37" + it.to_bytes(7, "little")) for it in asked]
+        masks = sorted({(bits, it % (1 << bits) ^ 1 << bits - 1) for it in asked for bits in range(1, 56)})
+        wanted = [mask for mask in masks if not any((it ^ mask[1]) % (1 << mask[0]) == 0 for it in asked)]
+        self.assertGreater(len(wanted), 100)
+        self.assertEqual(vicinity.survey(log(b"".join(rounds).replace(b"%s", b"S"))).open_masks, wanted)
+        rounds = [b"T %s\nC\n" % frame(b"\x26\x01\x37" + it.to_bytes(7, "little")) for it in range(80)]
+        self.assertEqual(len(vicinity.survey(log(b"".join(rounds))).certain), 160)
+
+    def test_reconcile(self):
+        for expected, logs, text in (
+                ([], [], "complete 0"), ([A], [], "absent E0040100000000A1"),
+                ([B, A], [ALL + HEARD_A, ALL + HEARD_B], "complete 2"),
+                ([A, B], [ALL + HEARD_A, ALL + b"S\n"], "absent E0040100000000B2"), ([A], [ALL + HEARD_A] * 2, "complete 1"),
+                ([A], [ALL + HEARD_A, ALL + HEARD_B], "unlisted E0040100000000B2"),
+                ([A], [ALL + HEARD_A + LIST_B], "complete 1"),
+                ([A, B], [ALL + HEARD_A, b""], "unsettled 2 00\ndoubtful E0040100000000B2"),
+                ([A, B], [SILENCE_A + ALL + HEARD_B, ALL + HEARD_A], "complete 2"),
+                ([A, B], [SILENCE_A + ALL + HEARD_B, ALL + b"S\n"], "doubtful E0040100000000A1"),
+                ([B], [SILENCE_A + ALL + HEARD_B, ALL + b"S\n"], "unsettled 56 040100000000A1")):
+            found = [vicinity.survey(log(lines)) for lines in logs]
+            for order in (found, found[::-1], found * 2, iter(found)):
+                report = vicinity.reconcile(iter(expected), order)
+                self.assertEqual(str(report), text)
+                self.assertEqual(report.answer.text, text.partition("\n")[0])
+                self.assertEqual(report.answer.status, 0 if text.startswith("complete") else 1)
+        self.assertEqual(vicinity.reconcile([A], []).findings, [(FindingKind.ABSENT, 0, 0, 0, A)])
+
+    def test_logs_that_are_refused_or_impossible(self):
+        good, refused, impossible = map(vicinity.survey, (NOTHING, log(b"X\n"), log(ALL + b"S\n" + ALL + b"C\n")))
+        self.assertEqual(vicinity.reconcile([A], [good, refused, impossible]), (refused.answer, []))
+        self.assertEqual(vicinity.reconcile([A], [impossible, refused]), (impossible.answer, []))
+
+    def test_what_is_refused(self):
+        good = vicinity.survey(log(ALL + HEARD_A))
+        for expected, found, line, fault in (
+                ([A, 1], [good], 2, Fault.NOT_VICINITY), ([A, B, A], [good], 3, Fault.DUPLICATE_LISTED),
+                ([A], [good, good._replace(certain=[1])], 3, Fault.NOT_VICINITY),
+                ([A], [good, good._replace(open_masks=[Mask(56, 0), Mask(57, 0)])], 5, Fault.WRONG_MASK),
+                ([A], [good._replace(open_masks=[Mask(2, 4)])], 3, Fault.WRONG_MASK)):
+            report = vicinity.reconcile(expected, found)
+            self.assertEqual((str(report), report.findings), (f"refused at line {line}: {fault.word}", []))
+            self.assertEqual((report.answer.kind, report.answer.line, report.answer.fault), (Kind.REFUSED, line, fault))
+        for mask in ((1 << 32, 0), (-1, 0), (3, 1 << 64), (3, -1)):
+            with self.assertRaises(OverflowError):
+                vicinity.reconcile([], [good._replace(open_masks=[Mask(*mask)])])
+        with self.assertRaises(OverflowError):
+            vicinity.reconcile([1 << 64], [])
+
+
+def random_log(rng, pool):
+    """A log of a field with some of these UIDs: rounds that may be cut short, and claims; one of ten is changed."""
+    lines = []
+    for _ in range(rng.randint(0, 4)):
+        uid, slots = rng.choice(pool), rng.choice((1, 16))
+        length = rng.choice((0, 0, 1, 3, 4, 6, 8, 12, 52, 56 if slots == 1 else 52))
+        lines.append(vicinity.write_line("T", vicinity.write_inventory(2, slots, Mask(length, uid % (1 << length)))))
+        lines += [vicinity.write_line("T", vicinity.write_stay_quiet(2, it)) for it in rng.sample(pool, rng.randint(0, 2))]
+    claims = [vicinity.write_line("U", uid=it) for it in rng.sample(pool, rng.randint(0, len(pool)))]
+    told = vicinity.simulate(log(b"".join(lines + claims))).text.splitlines(keepends=True)[1:]
+    kept, is_cut = [], False
+    for line in told:
+        is_cut = line[:1] in b"SRC" and (is_cut or rng.random() < 0.05)
+        if not is_cut and (line[:1] != b"U" or rng.random() < 0.7):
+            kept.append(b"C\n" if line == b"S\n" and rng.random() < 0.004 else line)
+    return log(b"".join(kept))
+
+
+class TheProgram(Command):
+    """What the program writes is what the package writes."""
+
+    def test_random_cases(self):
+        if not PROGRAM:
+            self.skipTest("the program isn't built")
+        met = dict.fromkeys(("absent", "unlisted", "unsettled", "more", "doubtful", "complete", "impossible"), 0)
+        self.addCleanup(os.chdir, os.getcwd())
+        os.chdir(self.folder)
+        for number in range(CASES):
+            rng = random.Random(f"collection {number}")
+            pool = [0xE0 << 56 | rng.getrandbits(5) << 51 | rng.choice((0, 1 << 20, 7 << 30)) | rng.getrandbits(5)
+                    for _ in range(9)]
+            pool = sorted(set(pool))
+            names = [f"{name}.log" for name in range(rng.randint(0, 4))]
+            texts = [random_log(rng, pool) for _ in names]
+            for name, text in zip(names, texts):
+                self.write(name, text)
+            expected = rng.sample(pool, rng.randint(0, len(pool)))
+            if rng.random() < 0.5:
+                expected = sorted({uid for text in texts for uid in vicinity.survey(text).certain})
+            self.write("expected", log(b"".join(vicinity.write_line("U", uid=uid) for uid in expected)))
+            ran = subprocess.run([PROGRAM, "reconcile", "expected", *names], capture_output=True)
+            said, _, status = here("lines", "expected", *names)
+            self.assertEqual((said, status), (ran.stdout.decode(), ran.returncode), number)
+            for word in met:
+                met[word] += bool(re.search(rf"^{word}\b", said, re.M))
+        self.assertEqual([word for word, times in met.items() if times < 5], [], met)
+
+
+class Reconcile(Command):
+    def ask(self, *words, **more):
+        return command("reconcile", *words, **more)
+
+    def catalogue(self, content):
+        return self.write("catalogue.csv", content if isinstance(content, bytes) else content.encode())
+
+    def test_three_shelves(self):
+        catalogue = os.path.join(COLLECTION, "catalogue.csv")
+        for more in ([], ["--jobs", "2"], ["--column", "uid"]):
+            said = self.ask("--expected", catalogue, *SHELVES, *more)
+            self.assertEqual(said, (LINES.format(c=SHELVES[2]).encode(), b"", 1))
+        said, errors, status = self.ask("--expected", catalogue, "--csv", *SHELVES)
+        self.assertEqual((errors, status), (b"", 1))
+        with open(catalogue) as file:
+            rows = list(csv.reader(file))
+        got = list(csv.reader(io.StringIO(said.decode())))
+        self.assertEqual(got[0], [*rows[0], "state", "certain in", "may be in"])
+        self.assertEqual(len(got), len(rows))
+        for row, wanted in zip(got[1:], rows[1:]):
+            state, *logs = WHERE.get(wanted[1], ("there", wanted[2].lower(), ""))
+            logs = [SHELVES["abc".index(letter)] if letter else "" for letter in logs]
+            self.assertEqual(row, [*wanted, state, *logs])
+
+    def test_json(self):
+        said, errors, status = self.ask("--expected", os.path.join(COLLECTION, "catalogue.csv"), "--json", *SHELVES)
+        self.assertEqual((errors, status, said.count(b"\n")), (b"", 1, 1))
+        told = json.loads(said)
+        items, logs = told.pop("items"), told.pop("logs")
+        self.assertEqual(told, {"status": 1, "kind": "absent", "uid": "E00401502B91C435",
+                                "unsettled": {"mask_len": 4, "mask_value": "F"}})
+        self.assertEqual(len(items), 12)
+        self.assertEqual(items[11], {"uid": "E00401506D9320CE", "state": "not provable", "certain_in": [],
+                                     "may_be_in": [SHELVES[2]], "columns": {"title": "Ulysses", "shelf": "C"}})
+        masks = [{"mask_len": 4, "mask_value": "E"}, {"mask_len": 4, "mask_value": "F"}]
+        self.assertEqual(logs, [
+            {"file": SHELVES[0], "open": [], "more_open": False, "list": {"status": 0, "kind": "complete", "count": 4}},
+            {"file": SHELVES[1], "open": [], "more_open": False, "list": {"status": 0, "kind": "complete", "count": 3}},
+            {"file": SHELVES[2], "open": masks, "more_open": False,
+             "list": {"status": 1, "kind": "unsettled", "mask_len": 4, "mask_value": "E"}}])
+
+    def test_page(self):
+        said, errors, status = self.ask("--expected", os.path.join(COLLECTION, "catalogue.csv"), "--page", *SHELVES)
+        text = said.decode()
+        self.assertEqual((errors, status), (b"", 1))
+        self.assertIn("Not complete: 1 item is missing, 1 item may be missing and 1 log wasn&#x27;t read completely.", text)
+        for count in ("10</b> there", "1</b> missing", "1</b> not provable", "0</b> unexpected", "3</b> logs"):
+            self.assertIn(count, text)
+        self.assertRegex(text, r"(?s)<h3>Missing.*E00401502B91C435.*Walden.*<h3>Not provable.*Ulysses.*shelf-c.*<h3>There")
+        self.assertRegex(text, r"shelf-a.log</th><td>yes</td><td>4</td><td><code>complete 4")
+        self.assertRegex(text, r"shelf-c.log</th><td>no: ask again for UIDs ending in E and UIDs ending in F</td><td>3</td>")
+        groups = set(re.findall(r'href="#([^"]*)"', text))
+        self.assertEqual(groups - set(re.findall(r'id="([^"]*)"', text)), set())
+        said = here("page", self.catalogue("uid,<b>\nE0040100000000A1,<i>&\33\n"), self.names[1])[0]
+        self.assertIn("Complete: the one expected item is there, and no others.", said)
+        self.assertIn("&lt;b&gt;</th>", said)
+        self.assertIn("&lt;i&gt;&amp; </td>", said)
+
+    def test_unexpected_items(self):
+        both = self.write("both.log", log(SIXTEEN + b"S\n" + HEARD_A + HEARD_B))
+        catalogue = self.catalogue("title;UID\n\u00c5;e0:04:01:00:00:00:00:a1\n")
+        said, _, status = here("csv", catalogue, both, self.names[1], self.names[0])
+        self.assertEqual((said, status), (
+            f"uid,title,state,certain in,may be in\nE0040100000000A1,\u00c5,there,{both}; {self.names[1]},\n"
+            f"E0040100000000B2,,unexpected,{both},\n", 1))
+        said, _, _ = here("lines", catalogue, self.names[1], both)
+        self.assertIn(f"unlisted E0040100000000B2\nby line 5 of {both}\n", said)
+        page, _, _ = here("page", catalogue, both)
+        self.assertRegex(page, r"(?s)<h3>Unexpected.*E0040100000000B2</th><td>[^<]*both.log")
+
+    def test_statuses(self):
+        listed = self.write("listed", log(LIST_A))
+        complete, refused, impossible = self.names[1], self.names[7], self.names[6]
+        for logs, text, status in (
+                ([complete], "complete 1", 0), ([], "absent E0040100000000A1", 1),
+                ([complete, impossible, refused], f"impossible at line 5 of {impossible}", 2),
+                ([complete, refused, "/nowhere"], f"refused at line 4 of {refused}: SlotOutsideRound", 3)):
+            for jobs in "1", "3":
+                said, errors, ended = self.ask("--expected", listed, "--jobs", jobs, *logs)
+                self.assertEqual((said.decode(), errors, ended), (f"{text}\n", b"", status))
+        for form, jobs in zip(FORMS, "1233"):
+            ended = self.ask("--expected", listed, *form, "--jobs", jobs, complete, "/nowhere", refused)
+            self.assertEqual(ended, (b"", b"vicinity: cannot read /nowhere: No such file or directory\n", 4))
+            ended = self.ask("--expected", "/nowhere", *form, complete)
+            self.assertEqual(ended, (b"", b"vicinity: cannot read /nowhere: No such file or directory\n", 4))
+
+    def test_a_log_that_ends_it_in_other_forms(self):
+        listed = self.write("listed", log(LIST_A))
+        for name, told in ((self.names[7], {"status": 3, "kind": "refused", "line": 4, "fault": "SlotOutsideRound"}),
+                           (self.names[6], {"status": 2, "kind": "impossible", "line": 5})):
+            said, errors, status = here("json", listed, self.names[1], name)
+            self.assertEqual((json.loads(said), errors, status), ({**told, "file": name}, "", told["status"]))
+            said, errors, status = here("csv", listed, self.names[1], name)
+            self.assertEqual((said, status), ("", told["status"]))
+            self.assertRegex(errors, rf"\A{told['kind']} at line \d of {name}(: SlotOutsideRound)?\Z")
+            said, errors, status = here("page", listed, self.names[1], name)
+            self.assertEqual((errors, status), ("", told["status"]))
+            self.assertIn(f"No answer: {name}", said)
+
+    def test_a_list(self):
+        for lines, text in ((b"", "complete 0"), (b"# text\n\nU E0040100000000A1\r\n", "absent E0040100000000A1"),
+                            (LIST_A + LIST_A, "refused at line 3 of {}: DuplicateListed"),
+                            (b"U 010401000000A1E0\n", "refused at line 2 of {}: NotVicinity"),
+                            (ALL + LIST_A, "refused at line 2 of {}: NotListed"),
+                            (b"#\nX\n", "refused at line 3 of {}: UnknownEntry"),
+                            (b"F\n", "refused at line 2 of {}: UnknownEntry")):
+            listed = self.write("listed", log(lines))
+            status = 3 if text.startswith("refused") else int(not text.startswith("complete"))
+            self.assertEqual(here("lines", listed, self.names[0]), (f"{text.format(listed)}\n", "", status))
+            if status == 3:
+                self.assertEqual(here("json", listed, self.names[0]), ("", text.format(listed), 3))
+        listed = self.write("listed", b"vicinity-log 2\n\nF\n" + LIST_A)
+        self.assertEqual(here("lines", listed), (f"refused at line 3 of {listed}: NotListed\n", "", 3))
+        listed = self.write("listed", log(LIST_A))
+        self.assertEqual(here("lines", listed, column="uid"), ("", f"{listed} is a list, which has no columns", 3))
+
+    def test_catalogues(self):
+        for content, column in (
+                ("uid\nE0040100000000A1\n", None), ("Title, UID \r\n\"a\r\nb, c\",e0 04 01 00 00 00 00 a1\r\n", None),
+                ("\ufeffUid,x\nE0:04:01:00:00:00:00:A1,1\n\n,\n", None), ("tag;uid\nE0040100000000A1;1\n", "tag"),
+                ("x\tuid\n\tE0040100000000A1", None), ("uid,,\n E0040100000000A1 ,,\n", None)):
+            self.assertEqual(here("lines", self.catalogue(content), self.names[1], column=column), ("complete 1\n", "", 0))
+
+    def test_wrong_catalogues(self):
+        first = "uid,title\nE0040100000000A1,a\n"
+        for content, column, row, why in (
+                (first + "E00401000000B2,b\n", None, 3, "'E00401000000B2' isn't a UID"),
+                (first + ",b\n", None, 3, "'' isn't a UID"), (first + "x\n" * 3, None, 3, "'x' isn't a UID"),
+                (first + "\n\nA1000000000104E0,b\n", None, 5, "the opposite order"),
+                (first + "E0040100000000AG,b", None, 3, "isn't a UID"),
+                (first + "E0040100000000\ufb00,b", None, 3, "isn't a UID"),
+                (first + "\"x\ny\",b\ne0040100000000a1,c\n", None, 3, r"'x\\ny' isn't a UID"),
+                (first + "e0:04:01:00:00:00:00:a1,b\n", None, 3, "E0040100000000A1 is also in row 2"),
+                (first + "E0040100000000B2,b,c\n", None, 3, "it has 3 cells"),
+                (first, "shelf", 1, "no column is named shelf"),
+                (first, "UID", 1, "no column is named UID; the columns are: uid, title;"),
+                ("tag,title\nE0040100000000A1,a\n", None, 1, "no column is named uid"),
+                ("", None, 1, "the columns are: none"), ("uid,UID\n", None, 1, "two columns are named uid"),
+                ("uid,x,x\n", None, 1, "two columns are named x"),
+                (first.encode() + b"E0040100000000B2,\xff\n", None, 3, "it isn't UTF-8"),
+                (b"uid,\xff\n", None, 1, "it isn't UTF-8"),
+                (first + "E0040100000000B2,\"b\nE0040100000000B3,c\n", None, 3, "unexpected end of data"),
+                (first + "E0040100000000B2,\"b\"c\n", None, 3, "expected after")):
+            with self.assertRaisesRegex(Wrong, rf"\Aa\.csv, row {row}: .*{why}.*\Z", msg=content):
+                catalogue("a.csv", content if isinstance(content, bytes) else content.encode(), column)
+        wrong = self.catalogue(first + ",b\n")
+        for form in FORMS:
+            said, errors, status = self.ask("--expected", wrong, *form, self.names[1], "/nowhere")
+            self.assertEqual((said, status, errors.count(b"\n")), (b"", 3, 1))
+            self.assertRegex(errors.decode(), rf"\Avicinity: {re.escape(wrong)}, row 3: '' isn't a UID")
+
+    def test_words_that_are_no_command(self):
+        listed = self.write("listed", log(LIST_A))
+        for words in (["--jobs", "0"], ["--jobs", "x"], ["--jobs"], ["--csv", "--json"], ["--tabs"], ["--ascii"],
+                      ["--lines"], ["--expected"]):
+            said, errors, status = self.ask(self.names[1], "--expected", listed, *words)
+            self.assertEqual((said, errors[:10], b"\nusage: " in errors, status), (b"", b"vicinity: ", True, 4), words)
+        self.assertEqual(self.ask(listed)[::2], (b"", 4))
+        for words in (["--csv"], ["--page"], ["--expected", listed], ["--column", "x"], ["--jobs", "2"]):
+            said, errors, status = command("report", self.names[0], *words)
+            self.assertEqual((said, b"only for reconcile" in errors, status), (b"", True, 4), words)
+        self.assertEqual(command("--expected", listed, self.names[1], "--jobs", "1")[2], 4)
+        self.assertEqual(command("--expected", listed, "reconcile", "--", self.names[1]), (b"complete 1\n", b"", 0))
+
+    def test_logs_that_cannot_be_read_twice(self):
+        catalogue = self.catalogue("uid\nE0040100000000B2\n")
+        wanted = "absent E0040100000000B2\nunlisted E0040100000000A1\nby line 3 of {}\n"
+        for jobs in "1", "2":
+            words = ["--expected", catalogue, "--jobs", jobs, self.names[0]]
+            for name in "-", "/dev/stdin":
+                told = (wanted.format(name).encode(), b"", 1)
+                self.assertEqual(self.ask(*words, name, given=log(ALL + HEARD_A)), told)
+                self.assertEqual(self.ask(*words, name, redirected=f"<{self.names[1]}"), told)
+            with open(catalogue, "rb") as file:
+                said = self.ask("--expected", "-", "--jobs", jobs, self.names[1], given=file.read())
+            self.assertEqual(said, (wanted.format(self.names[1]).encode(), b"", 1))
+
+    def test_a_file_that_only_this_process_has_open(self):
+        with open(self.names[1], "rb") as file, mock.patch.object(surveys, "ProcessPoolExecutor", None):
+            name = f"/dev/fd/{file.fileno()}"
+            said = here("lines", self.catalogue("uid\n"), name, jobs=2)
+        self.assertEqual(said, (f"unlisted E0040100000000A1\nby line 3 of {name}\n", "", 1))
+
+    def test_a_log_that_changes_meanwhile(self):
+        name = self.write("a.log", log(ALL + HEARD_A))
+        read = surveys.Surveys([name], 1)
+        found = collection.Collection(reconciled.Catalogue("", []), [name], read)
+        for text in (NOTHING, b""):
+            self.write("a.log", text)
+            with self.assertRaisesRegex(NoAnswer, "a.log has changed since"):
+                list(reconciled.as_lines(found))
+
+    def test_jobs_keep_the_order(self):
+        names = [self.write(f"{number}.log", NOTHING if number % 3 else log(ALL + HEARD_A)) for number in range(60)]
+        listed = self.write("listed", log(b""))
+        one, four = (self.ask("--expected", listed, "--csv", "--jobs", jobs, *names) for jobs in "14")
+        self.assertEqual(four, one)
+        self.assertEqual(one[0].count(b"; "), 19)
+
+
+class Surroundings(Command):
+    def setUp(self):
+        super().setUp()
+        self.listed = self.write("listed", log(LIST_A))
+
+    def test_standard_output_that_takes_nothing(self):
+        for redirected, why in ((">&-", "Bad file descriptor"), (">/dev/full", FULL)):
+            for form in FORMS:
+                ended = command("reconcile", "--expected", self.listed, *form, self.names[1], redirected=redirected)
+                self.assertEqual(ended, (b"", f"vicinity: write failed: {why}\n".encode(), 4), form)
+
+    def test_standard_error_that_takes_nothing(self):
+        catalogue = self.write("catalogue.csv", b"x\n")
+        for redirected in ("2>&-", "2>/dev/full"):
+            for name, status in ((self.listed, 0), (catalogue, 3), ("/nowhere", 4)):
+                said = command("reconcile", "--expected", name, *[self.names[1]] * 60, redirected=redirected)
+                self.assertEqual(said, (b"complete 1\n" if not status else b"", b"", status))
+
+    def test_memory_that_is_refused(self):
+        large = self.write("large.log", b"")
+        os.truncate(large, 200_000_000)
+        for form, jobs in zip(FORMS, "1122"):
+            said = command("reconcile", "--expected", self.listed, *form, "--jobs", jobs, self.names[1], large,
+                           limit=test_commands.least() + 100_000)
+            self.assertEqual(said, (b"", f"vicinity: out of memory: {large}\n".encode(), 4))
+
+    def test_names(self):
+        for name, shown in test_commands.Names.NAMES.items():
+            path, where = os.path.join(os.fsencode(self.folder), name), os.path.join(self.folder, shown)
+            with open(path, "wb") as file:
+                file.write(log(SILENCE_A + ALL + HEARD_B))
+            said = command("reconcile", "--expected", self.listed, "--jobs", "2", path)
+            self.assertEqual(said, (f"unlisted E0040100000000B2\nby line 4 of {where}\n"
+                                    f"doubtful E0040100000000A1 in {where}\n".encode(), b"", 1))
+            name = os.fsdecode(path)
+            rows = list(csv.reader(io.StringIO(here("csv", self.listed, name)[0])))
+            self.assertEqual(rows[1:], [["E0040100000000A1", "not provable", "", where],
+                                        ["E0040100000000B2", "unexpected", where, ""]])
+            told = json.loads(here("json", self.listed, name)[0])
+            self.assertEqual(told["items"][0]["may_be_in"], [name])
+            self.assertNotRegex(here("page", self.listed, name)[0], "[\0-\x08\x0b-\x1f\x7f-\x9f\u2028\u202e\udcff]")
+            self.assertEqual(here("lines", name), (f"refused at line 2 of {where}: NotListed\n", "", 3))
+            self.assertEqual(here("lines", name, column="x")[1], f"{where} is a list, which has no columns")
+            with open(path, "wb") as file:
+                file.write(b"uid\nx\n")
+            self.assertEqual(here("lines", name)[1].split(", row 2")[0], where)
+
+    def test_progress(self):
+        code = ("import os, pty, subprocess, sys\nours, theirs = pty.openpty()\n"
+                "words = [sys.executable, '-m', 'vicinity', *sys.argv[1:]]\n"
+                "subprocess.run(words, stdout=subprocess.DEVNULL, stderr=theirs)\nos.close(theirs)\n"
+                "try: sys.stdout.buffer.write(os.read(ours, 9999))\nexcept OSError: pass")
+        for number, wanted in ((51, b"\r0 of 51 logs"), (50, b"")):
+            for more in ([], ["--jobs", "2"]):
+                said = subprocess.run([sys.executable, "-c", code, "reconcile", "--expected", self.listed, *more,
+                                       *[self.names[1]] * number], capture_output=True).stdout
+                self.assertEqual((said[:len(wanted)], said[-4:]), (wanted, b"\r\33[K" if wanted else b""))
+        self.assertEqual(command("reconcile", "--expected", self.listed, *[self.names[1]] * 60), (b"complete 1\n", b"", 0))
+
+
+if __name__ == "__main__":
+    unittest.main()
