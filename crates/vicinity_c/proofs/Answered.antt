@@ -5,22 +5,16 @@ use Rattle.vic_log.specs.declared.entry.LogLine.{LogLine}
 use Rattle.vic_reconcile.specs.declared.surveys.PlainFindings.{PlainFindings}
 use Rattle.vic_reconcile.specs.Families.{IsCertainUid, IsPossibleUid}
 use Rattle.vic_reconcile.specs.Findings.{IsWhole}
-use Rattle.vic_reconcile.specs.Surveys.{AreNoneOf, AreOpenIn, AreTogether, IsAmong, MayBe}
-use Rattle.vic_answer.specs.declared.check.Answer.{Answer}
-use Rattle.vic_answer.specs.declared.check.Answer.TheVariants.{Judged, RefusedAt}
+use Rattle.vic_reconcile.specs.Surveys.{AreNoneOf, AreTogether, IsAmong, MayBe}
+use Rattle.vic_answer.specs.declared.check.Answer.TheVariants.{Judged}
 use Rattle.vic_answer.specs.declared.finding_numbers.VicinityFinding.{VicinityFinding}
 use Rattle.vic_answer.specs.declared.numbers.VicinityAnswer.{VicinityAnswer}
 use Rattle.vic_answer.specs.ExplainedNumbers.{IsPutInto}
 use Rattle.vic_answer.specs.Numbers.{numbers_of}
-use Rattle.vic_answer.specs.SurveyNumbers.{IsAnswerWith, first_of, plain_answer}
+use Rattle.vic_answer.specs.SurveyNumbers.{first_of, plain_answer}
 use Rattle.vicinity_c.specs.declared.inventory.VicinityMask.{VicinityMask}
 use Rattle.vicinity_c.specs.Arrays.{HaveNoFault, faults_of, mask_in}
-use Rattle.vicinity_c.specs.Inventory.{mask_fields}
-use Rattle.vicinity_c.specs.Reconciled.{AreOpenFields, AreReconciled, AreRefused, IsReconciledBy}
-
-pub with_fields : (text : List ℕ) (a : Answer) (ms : List BitMask) → IsAnswerWith AreOpenIn text a ms → IsAnswerWith AreOpenFields text a (map mask_fields ms)
-with_fields text (Judged v) ms w = (w.0, w.1, w.2, (ms, refl, w.3))
-with_fields text (RefusedAt n fault) ms w = (w.0, ap (map mask_fields) w.1)
+use Rattle.vicinity_c.specs.Reconciled.{AreReconciled, AreRefused, IsReconciledBy}
 
 -- ---- the kinds of the answers
 

@@ -1,10 +1,9 @@
--- What is answered to arrays of UIDs and masks, and what is told of a log for such arrays.
+-- What is answered to arrays of UIDs and masks.
 use Rattle.std.specs.Prelude.{◌≡◌, ◌⊎◌, ℕ, List, [], length, map}
-use Rattle.vic_frame.specs.Masks.{BitMask}
 use Rattle.vic_log.specs.declared.entry.LogLine.{LogLine}
 use Rattle.vic_reconcile.specs.Families.{IsCertainUid, IsPossibleUid}
 use Rattle.vic_reconcile.specs.Findings.{IsWhole}
-use Rattle.vic_reconcile.specs.Surveys.{AreFindingsBy, AreNoneOf, AreOpenIn, AreTogether, IsAmong, MayBe}
+use Rattle.vic_reconcile.specs.Surveys.{AreFindingsBy, AreNoneOf, AreTogether, IsAmong, MayBe}
 use Rattle.vic_reconcile.specs.declared.surveys.PlainFindings.{PlainFindings}
 use Rattle.vic_answer.specs.declared.finding_numbers.VicinityFinding.{VicinityFinding}
 use Rattle.vic_answer.specs.declared.numbers.VicinityAnswer.{VicinityAnswer}
@@ -13,13 +12,7 @@ use Rattle.vic_answer.specs.Numbers.{numbers_of}
 use Rattle.vic_answer.specs.SurveyNumbers.{plain_answer, plain_findings, refusal_numbers}
 use Rattle.vicinity_c.specs.declared.inventory.VicinityMask.{VicinityMask}
 use Rattle.vicinity_c.specs.Arrays.{HaveNoFault, IsFirstFault, faults_of, mask_in}
-use Rattle.vicinity_c.specs.Inventory.{mask_fields}
 use Rattle.vicinity_c.specs.Names.{fault_name}
-
--- the open masks of a log, in structs of C
-abbrev pub AreOpenFields : List LogLine → List VicinityMask → Type 0
-AreOpenFields lines masks =
-    (ms : List BitMask) × (masks ≡ map mask_fields ms) × AreOpenIn lines ms
 
 -- these are the numbers of the findings against what is expected, there are `count`, and this is
 -- what becomes of the buffer for them; P holds of the UIDs that may be there, and C of those that

@@ -1,13 +1,12 @@
 //! What is left of the log of a text without its lines: its certain UIDs, and its open masks.
 
 ghost use Rattle.std.specs.Prelude.{◌≡◌, ◌≢◌, ◌≤◌, ◌++◌, drop, length, map};
-ghost use Rattle.vic_reconcile.specs.Surveys.{AreCertainIn};
+ghost use Rattle.vic_reconcile.specs.Surveys.{AreCertainIn, AreOpenIn};
 ghost use Rattle.vic_answer.specs.CheckText.{IsCompleteText};
 ghost use Rattle.vic_answer.specs.ExplainedNumbers.{IsPutInto};
 ghost use Rattle.vic_answer.specs.Numbers.{AreNumbersFor, no_answer};
 ghost use Rattle.vic_answer.specs.SurveyNumbers.{AreNumbersWith};
 ghost use Rattle.vicinity_c.specs.Inventory as inventory;
-ghost use Rattle.vicinity_c.specs.Reconciled.{AreOpenFields};
 
 use crate::inventory::{VicinityMask, mask_fields};
 use crate::report::refuse;
@@ -33,7 +32,8 @@ pub extern "C" fn vicinity_certain(
     ensures answer { answer.new.kind ≢ 0 → AreNumbersFor text.now answer.new }
     ensures whole { answer.new.kind ≡ 1 → IsCompleteText text.now answer.new.count }
     ensures certain { answer.new.kind ≢ 0
-        → AreNumbersWith AreCertainIn text.now answer.new needed.new uids.old uids.new }
+        → AreNumbersWith AreCertainIn (λ u. u) text.now answer.new needed.new
+        uids.old uids.new }
     ensures no_answer { answer.new.kind ≡ 0 → answer.new ≡ no_answer }
     ensures no_uids { answer.new.kind ≡ 0 → (needed.new ≡ 0) × (uids.new ≡ uids.old) }
     ensures status { result ≡ answer.new.status }
@@ -65,7 +65,8 @@ pub extern "C" fn vicinity_open_masks(
     ensures answer { answer.new.kind ≢ 0 → AreNumbersFor text.now answer.new }
     ensures whole { answer.new.kind ≡ 1 → IsCompleteText text.now answer.new.count }
     ensures open_masks { answer.new.kind ≢ 0
-        → AreNumbersWith AreOpenFields text.now answer.new needed.new masks.old masks.new }
+        → AreNumbersWith AreOpenIn inventory.mask_fields text.now answer.new needed.new
+        masks.old masks.new }
     ensures no_answer { answer.new.kind ≡ 0 → answer.new ≡ no_answer }
     ensures no_masks { answer.new.kind ≡ 0 → (needed.new ≡ 0) × (masks.new ≡ masks.old) }
     ensures status { result ≡ answer.new.status }

@@ -1,0 +1,19 @@
+use Rattle.std.proofs.Common.{List, map, sym, subst, ◌∙◌}
+use Rattle.vic_frame.specs.Masks.{BitMask}
+use Rattle.vic_reconcile.specs.Surveys.{AreOpenIn}
+use Rattle.vic_answer.specs.ExplainedNumbers.{IsPutInto}
+use Rattle.vic_answer.specs.SurveyNumbers.{IsAnswerWith}
+use Rattle.vicinity_c.specs.Inventory.{mask_fields}
+use Rattle.vicinity_c.proofs.surveys.vicinity_open_masks.Goals as goal
+
+pub returns-clause-open_masks : goal.returns-clause-open_masks
+returns-clause-open_masks c k =
+    let ms = c.in-Ok-open_masks_of.open.items in
+    record {
+      answer = c.surveyed_answer.result;
+      items = ms;
+      right = subst (λ a. IsAnswerWith AreOpenIn c.args.text.now a ms) (sym c.surveyed_answer.ensures) (c.in-Ok-open_masks_of.ensures c.args.text.now c.in-Ok.ensures.surveyed);
+      numbers_are = c.numbers_of-numbers.ensures.numbers;
+      counted = c.len.ensures ∙ c.in-Ok-open_masks_of.open.ok.0;
+      put = subst (λ (us : List BitMask). IsPutInto (map mask_fields us) c.args.masks.now c.put_masks.new.room) c.as_slice.ensures.value c.put_masks.ensures;
+    }
