@@ -1,16 +1,13 @@
 -- Where entries are in order, nothing refuses any of them.
-use Rattle.std.proofs.Common.{◌≡◌, ℕ, suc, Bool, true, false, Some, None, List, [], ◌∷◌, ◌++◌, ◌<◌, length, refl, sym, ap, ◌∙◌, arith, ⊎_elim, inl, inr}
-use Rattle.std.specs.Prelude.{slice_get, nat_eq, nat_lt, if◌then◌else◌, not}
+use Rattle.std.proofs.Common.{◌≡◌, ℕ, suc, true, false, Some, None, List, [], ◌∷◌, ◌++◌, ◌<◌, length, refl, sym, ap, ◌∙◌, arith, ⊎_elim, inl, inr}
+use Rattle.std.specs.Prelude.{slice_get, nat_eq, nat_lt, not}
 use Rattle.std.proofs.lemmas.Bool.{cases_Bool, cond-false, false_from_ne_true, or_cases, eqb-true, lt-ltb}
 use Rattle.std.proofs.lemmas.Option.{slice_get_within}
 use Rattle.vic_log.specs.declared.entry.Entry.{Entry}
 use Rattle.vic_log.specs.declared.entry.Entry.TheVariants.{Sent, Listed, FieldCycle}
-use Rattle.vic_log.specs.declared.fault.LineFault.{LineFault}
-use Rattle.vic_log.specs.declared.fault.PushFault.{PushFault}
 use Rattle.vic_frame.specs.Uids.{has}
 use Rattle.vic_log.specs.Rounds.{slots_left, is_slot}
-use Rattle.vic_log.specs.Order.{listed, IsInOrder, is_outside_round, is_empty, is_after_list, is_duplicate, refusal}
-use Rattle.vic_log.specs.Text.{order_fault}
+use Rattle.vic_log.specs.Order.{listed, IsInOrder, is_empty, first_reason}
 use Rattle.vic_log.proofs.Places.{agree_append, agree_upto, slice_get_seam}
 use Rattle.vic_log.proofs.Order.{in_round-slots_left}
 use Rattle.vic_log.proofs.Push.{slots_left_agrees}
@@ -52,21 +49,12 @@ slot_ok es fs e o s =
     let same = slots_left_agrees (length es) es (es ++ e ∷ fs) (agree_upto es (e ∷ fs) (length es) (omega arith)) in
     ap not (lt-ltb 0 (slots_left es (length es)) (omega arith))
 
--- no fault of order stands at a position of entries in order
-pub order_fault-none : (es fs : List Entry) (e : Entry) → IsInOrder (es ++ e ∷ fs) → order_fault es e ≡ None
-order_fault-none es fs (Sent q) o = cond-false _ _ _ (none_listed es fs (Sent q) (λ i u lt at. o.requests_first i (length es) u q lt at (slice_get_seam es (Sent q) fs)))
-order_fault-none es fs FieldCycle o = cond-false _ _ _ (none_listed es fs FieldCycle (λ i u lt at. o.cycles_first i (length es) u lt at (slice_get_seam es FieldCycle fs)))
-order_fault-none es fs (Listed u) o = cond-false _ _ _ (false_from_ne_true _ (λ some.
+-- there is no reason to refuse an entry of entries in order
+pub first_reason-none : {F : Type 0} (x y z : F) (es fs : List Entry) (e : Entry) → IsInOrder (es ++ e ∷ fs) → first_reason x y z es e ≡ None
+first_reason-none x y z es fs (Sent q) o = cond-false _ _ _ (none_listed es fs (Sent q) (λ i u lt at. o.requests_first i (length es) u q lt at (slice_get_seam es (Sent q) fs)))
+first_reason-none x y z es fs FieldCycle o = cond-false _ _ _ (none_listed es fs FieldCycle (λ i u lt at. o.cycles_first i (length es) u lt at (slice_get_seam es FieldCycle fs)))
+first_reason-none x y z es fs (Listed u) o = cond-false _ _ _ (false_from_ne_true _ (λ some.
     let p = has_place es u some in
     let below = slice_get_within es p.place (Listed u) p.there in
     o.once p.place (length es) u u below (sym (agree_append es (Listed u ∷ fs) p.place below) ∙ p.there) (slice_get_seam es (Listed u) fs) refl))
-order_fault-none es fs e o = cond-false _ _ _ (slot_ok es fs e o refl)
-
-all_false : (a b d : Bool) (x y z : PushFault) (u v w : LineFault) → (if a then Some u else if b then Some v else if d then Some w else None) ≡ None → (if a then Some x else if b then Some y else if d then Some z else None) ≡ None
-all_false true b d x y z u v w h = cc
-all_false false true d x y z u v w h = cc
-all_false false false true x y z u v w h = cc
-all_false false false false x y z u v w h = refl
-
-pub refusal-none : (es : List Entry) (e : Entry) → IsInOrder (es ++ e ∷ []) → refusal es e ≡ None
-refusal-none es e o = all_false (is_outside_round es e) (is_after_list es e) (is_duplicate es e) _ _ _ _ _ _ (order_fault-none es [] e o)
+first_reason-none x y z es fs e o = cond-false _ _ _ (slot_ok es fs e o refl)

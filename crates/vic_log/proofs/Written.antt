@@ -16,7 +16,7 @@ use Rattle.vic_log.specs.declared.entry.Version.TheVariants.{V1, V2}
 use Rattle.vic_log.specs.Writing.{entry_text, joined, numbered}
 use Rattle.vic_log.specs.Begun.{AreRead}
 use Rattle.vic_log.proofs.Passing.{AreRead-start, AreRead-push, AreRead-end}
-use Rattle.vic_log.proofs.Follow.{order_fault-none}
+use Rattle.vic_log.proofs.Follow.{first_reason-none}
 use Rattle.vic_log.proofs.Push.{entries-numbered}
 use Rattle.vic_log.proofs.Sets.{eq_swapped}
 
@@ -85,7 +85,7 @@ not_first n some = ne_eqb n 1 (λ same. absurd (omega arith))
 no_fault : (v : Version) (es fs : List Entry) (e : Entry) (n : ℕ) → IsInOrder (es ++ e ∷ fs) → IsSpelled v e → 1 < n → n ≤ 1000000 → line_fault v es n (Some (entry_text e)) ≡ None
 no_fault v es fs e n o s some few =
     cond-false _ _ _ (le-ltb 1000000 n few) ∙ (cond-false _ _ _ (le-ltb 128 (length (entry_text e)) s.short) ∙ (cond-false _ _ _ (not_first n some)
-    ∙ (ap (reading_fault es) s.reads ∙ order_fault-none es fs e o)))
+    ∙ (ap (reading_fault es) s.reads ∙ first_reason-none _ _ _ es fs e o)))
 
 logged_is : (v : Version) (e : Entry) (n : ℕ) → IsSpelled v e → 1 < n → logged v n (Some (entry_text e)) ≡ record { number = n; item = e } ∷ []
 logged_is v e n s some = cond-false _ _ _ (not_first n some) ∙ ap (entry_line n) s.reads
