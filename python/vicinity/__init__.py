@@ -22,4 +22,4 @@ __all__ = ["Answer", "Explanation", "Fault", "Finding", "FindingKind", "FrameFau
            "explain_into", "explain_listed", "read_request", "read_response", "reconcile", "report", "report_listed",
            "simulate", "simulate_into", "slot_mask", "survey", "write_inventory", "write_line", "write_response",
            "write_stay_quiet"]
-__version__ = "1.0.1"
+__version__ = "1.1.0"
