@@ -8,7 +8,7 @@ use Rattle.vic_log.specs.Text.{IsLogOf, IsFirstFault}
 use Rattle.vic_verdict.specs.Verdict.{IsVerdict}
 use Rattle.vic_verdict.specs.declared.judging.Verdict.{Verdict}
 use Rattle.vic_verdict.specs.declared.judging.Verdict.TheVariants as verdict
-use Rattle.vic_reconcile.specs.Surveys.{AreFindingsBy, IsSurvey}
+use Rattle.vic_reconcile.specs.Surveys.{IsSurvey}
 use Rattle.vic_reconcile.specs.declared.surveys.PlainFindings.{PlainFindings}
 use Rattle.vic_answer.specs.declared.check.Answer.{Answer}
 use Rattle.vic_answer.specs.declared.check.Answer.TheVariants as answer
@@ -41,8 +41,8 @@ certain_of (RefusedAt n fault) = []
 
 -- the answer to a text, where P holds of the lines of its log and the items; of a refused text
 -- there are none
-abbrev pub IsAnswerWith : {T : Type 0} → (List LogLine → List T → Type 0) → List ℕ → Answer
-    → List T → Type 0
+abbrev pub IsAnswerWith : {T : Type 0} → (List LogLine → List T → Type 0) → List ℕ
+    → Answer → List T → Type 0
 IsAnswerWith P text (answer.Judged v) xs =
     (log : LogValue) × IsLogOf (lines_of_text text) log × IsVerdict log.lines v
     × P log.lines xs
@@ -51,8 +51,9 @@ IsAnswerWith P text (answer.RefusedAt n fault) xs =
 
 -- these are the numbers of the answer to a text, there are `count` items, which P has of its log,
 -- and this is what becomes of the buffer for them
-pub record AreNumbersWith {T R : Type 0} (P : List LogLine → List T → Type 0) (number_of : T → R)
-    (text : List ℕ) (numbers : VicinityAnswer) (count : ℕ) (room room' : List R) : Type 0 where
+pub record AreNumbersWith {T R : Type 0} (P : List LogLine → List T → Type 0)
+    (number_of : T → R) (text : List ℕ) (numbers : VicinityAnswer) (count : ℕ)
+    (room room' : List R) : Type 0 where
   pub answer : Answer
   pub items : List T
   pub right : IsAnswerWith P text answer items

@@ -1,5 +1,5 @@
 -- What surveys tell together is what their logs tell.
-use Rattle.std.proofs.Common.{◌≡◌, ℕ, ◌+◌, zero, suc, List, [], ◌∷◌, ◌++◌, take, drop, Bool, true, false, not, refl, sym, subst, ap, ◌∙◌, arith, inl, inr, ⊎_elim}
+use Rattle.std.proofs.Common.{◌≡◌, ℕ, ◌+◌, List, [], ◌∷◌, take, drop, Bool, true, false, refl, sym, subst, ◌∙◌, arith, inl, inr, ⊎_elim}
 use Rattle.std.specs.Prelude.{◌↔◌, MatchOption}
 use Rattle.std.specs.List.{All, AllZip, Any, Contains, list_any}
 use Rattle.std.specs.List.Sorted.{IsStrictlyIncreasing}
@@ -15,7 +15,6 @@ use Rattle.vic_tree.specs.Ranges.{is_open_in}
 use Rattle.vic_tree.proofs.OpenMaskLaws.{held}
 use Rattle.vic_log.specs.declared.entry.Entry.{Entry}
 use Rattle.vic_log.specs.declared.entry.LogLine.{LogLine}
-use Rattle.vic_log.specs.Order.{entries}
 use Rattle.vic_verdict.specs.declared.differences.Differences.{Differences}
 use Rattle.vic_verdict.specs.declared.possible.Contradiction.{Contradiction}
 use Rattle.vic_verdict.specs.Differences.{AreDifferences}

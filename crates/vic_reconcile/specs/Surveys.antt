@@ -81,7 +81,8 @@ pub record AreFindingsBy (P C : ℕ → Type 0) (expected : List ℕ) (f : Plain
   pub unlisted : IsListOf (λ u. C u × (has expected u ≡ false)) f.unlisted.items
   pub unsettled : MatchOption f.unsettled (NoSuch (IsUnsettledBy P C expected))
       (IsFirstMask (IsUnsettledBy P C expected))
-  pub doubtful : IsListOf (λ u. (has expected u ≡ true) × (P u × (C u → ⊥))) f.doubtful.items
+  pub doubtful : IsListOf (λ u. (has expected u ≡ true) × (P u × (C u → ⊥)))
+      f.doubtful.items
 
 -- the UID is certain
 abbrev pub IsAmong : List ℕ → ℕ → Type 0

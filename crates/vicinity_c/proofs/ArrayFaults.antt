@@ -1,5 +1,5 @@
 -- The first fault of arrays.
-use Rattle.std.proofs.Common.{◌≡◌, ◌≢◌, ℕ, zero, suc, ◌+◌, ◌<◌, ◌≤◌, ◌^◌, List, [], ◌∷◌, ◌++◌, Bool, true, false, ◌||◌, cond, length, map, take, Some, refl, sym, ap, subst, ◌∙◌, ⊎_elim, arith, append-nil, append_assoc, length-append}
+use Rattle.std.proofs.Common.{◌≡◌, ◌≢◌, ℕ, zero, suc, ◌+◌, ◌<◌, ◌≤◌, List, [], ◌∷◌, ◌++◌, Bool, true, false, ◌||◌, cond, length, map, take, Some, refl, sym, ap, subst, ◌∙◌, ⊎_elim, arith, append-nil, append_assoc, length-append}
 use Rattle.std.specs.BTreeMap.{is_at}
 use Rattle.std.specs.Ordering.{nat_cmp}
 use Rattle.std.specs.Prelude.{nat_eq, slice_get}
@@ -11,7 +11,7 @@ use Rattle.std.proofs.lemmas.List.Elements.{All-append, All-push}
 use Rattle.std.proofs.Math.Bool.{or-false}
 use Rattle.std.proofs.Math.Seq.{take-append-add}
 use Rattle.std.proofs.lemmas.Option.{get_or_from_slice_get, slice_get_within}
-use Rattle.vic_frame.specs.Uids.{IsUid, has, is_uid}
+use Rattle.vic_frame.specs.Uids.{IsUid, has}
 use Rattle.vic_log.proofs.Sets.{has_at, has_cases}
 use Rattle.vic_log.proofs.Supply.{is_uid_from}
 use Rattle.vicinity_c.specs.declared.inventory.VicinityMask.{VicinityMask}

@@ -1,5 +1,5 @@
 -- The arrays of C from which logs are reconciled, and their faults.
-use Rattle.std.specs.Prelude.{◌≡◌, ◌≢◌, ℕ, ◌+◌, ◌^◌, ◌==◌, ◌&&◌, not, List, [], ◌∷◌, ◌++◌, Some, length, map, take, slice_get, nat_le, nat_lt, min, Result, Ok, Err, Bool, true, ◌≤◌, ◌||◌, if◌then◌else◌}
+use Rattle.std.specs.Prelude.{◌≡◌, ◌≢◌, ℕ, ◌+◌, ◌^◌, ◌==◌, ◌&&◌, not, List, [], ◌∷◌, ◌++◌, Some, length, map, take, slice_get, nat_le, nat_lt, min, Result, Ok, Err, Bool, ◌≤◌, if◌then◌else◌}
 use Rattle.std.specs.List.{All}
 use Rattle.vic_frame.specs.declared.uid.TheConstants.{UID_BITS}
 use Rattle.vic_frame.specs.Masks.{BitMask}

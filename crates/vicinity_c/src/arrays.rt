@@ -1,6 +1,6 @@
 //! The arrays of C from which logs are reconciled: their UIDs and masks, or their first fault.
 
-ghost use Rattle.std.specs.Prelude.{◌≡◌, ◌+◌, ◌≤◌, ◌<◌, ℕ, IfOk, List, MatchResult, SomeIff, length, map, min, take};
+ghost use Rattle.std.specs.Prelude.{◌≡◌, ◌+◌, ◌≤◌, ◌<◌, ℕ, IfOk, List, MatchResult, SomeIff, length, map, min};
 ghost use Rattle.std.specs.BTreeSet.{contains};
 ghost use Rattle.std.specs.Ordering.{nat_cmp};
 ghost use Rattle.vic_frame.specs.Uids.{has};

@@ -4,7 +4,6 @@ use Rattle.std.specs.BTreeSet.{contains}
 use Rattle.std.specs.Ordering.{nat_cmp}
 use Rattle.std.proofs.lemmas.Bool.{not-true}
 use Rattle.vic_frame.specs.Uids.{has}
-use Rattle.vicinity_c.specs.Arrays.{expected_fault}
 use Rattle.vicinity_c.proofs.ArrayFaults.{expected_sound, seen_more}
 use Rattle.vicinity_c.proofs.arrays.expected_uid.Goals as goal
 
