@@ -1,12 +1,12 @@
 """Asks the library's calls on frames, lines, lists, findings and many logs, and compares them with the program:
 calls.py PROGRAM COUNT LOG..
 
-Each fault, name and kind of finding is met by a row, and the rows of tests/rows/reconciliations by the calls for many logs.
-COUNT random numbers are written and COUNT random frames read, and
-have to be what `spell` and `frame` make of them; COUNT lines and masks of slots have to be what is worked out here; and
-the logs, with their lists removed and passed separately, also in another order, get the answer that the program gets for
-the complete log. Each struct holds other bytes before the call. The header and the library are of the version in
-VERSION. The last line is `N passed, M failed`. LIBVICINITY names the library.
+Each fault, name and kind of finding is met by a row, and the rows of tests/rows/reconciliations by the calls for many
+logs. COUNT random numbers are written and COUNT random frames read, and have to be what `spell` and `frame` make of
+them; COUNT lines and masks of slots have to be what is worked out here; and the logs, with their lists removed and
+passed separately, also in another order, get the answer that the program gets for the complete log. Each struct holds
+other bytes before the call. The header and the library are of the version in VERSION. The last line is `N passed, M
+failed`. LIBVICINITY names the library.
 """
 import ctypes
 import os
