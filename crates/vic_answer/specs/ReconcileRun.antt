@@ -1,5 +1,6 @@
 -- What a run of `reconcile` reads from its sources, and what it writes.
-use Rattle.std.specs.Prelude.{◌≡◌, ℕ, ◌<◌, ◌≤◌, Bool, true, ⊤, [], List, ◌++◌, Result, Ok, Err, length, slice_index_or}
+use Rattle.std.specs.Prelude.{◌≡◌, ◌⊎◌, ℕ, ◌<◌, ◌≤◌, Bool, true, ⊤, [], List, ◌++◌, Result, Ok, Err, length, slice_index_or}
+use Rattle.std.specs.List.{Any}
 use Rattle.vic_log.specs.Device.{Grows, HasWrittenPrefix}
 use Rattle.vic_answer.specs.ReconcileText.{reconciled_status, reconciled_text}
 use Rattle.vic_answer.specs.Reconciled.{IsReconciled}
@@ -54,6 +55,11 @@ Reconciles returned ended list list' logs logs' answer =
     ReadsListAndLogs returned (λ s. IsEnough (ended s ≡ true)) list list' logs logs'
     (λ text texts. IsReconciled text texts answer
     × AllRead answer (length logs) (length texts))
+
+-- the source of the list has failed, or that of a log
+abbrev pub HaveFailed : {R : Type 0} → (R → Bool) → R → List R → Type 0
+HaveFailed has_failed list logs =
+    (has_failed list ≡ true) ⊎ Any (λ s. has_failed s ≡ true) logs
 
 -- what was written, by the result of the run: the text of the answer, or a prefix of it if the sink
 -- failed

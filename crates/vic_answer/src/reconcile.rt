@@ -6,8 +6,9 @@ ghost use Rattle.vic_log.specs.Device.{HasWrittenPrefix};
 ghost use Rattle.vic_answer.specs.Readings.{IsReading};
 ghost use Rattle.vic_answer.specs.Reconciled.{AreComplete, IsKept, IsReconciled, IsReconciling, ReadsText};
 ghost use Rattle.vic_answer.specs.ReconcileText as spec;
+ghost use Rattle.vic_answer.specs.Runs.{LeavesSink};
 ghost use Rattle.vic_answer.specs.declared.ending.Ending.{Ending as EndingValue};
-ghost use Rattle.vic_answer.specs.declared.status.RunFault.TheVariants.{Write};
+ghost use Rattle.vic_answer.specs.declared.status.RunFault.TheVariants.{Read, Write};
 
 use crate::ending::Ending;
 use crate::input::{Reading, read_source};
@@ -44,6 +45,7 @@ pub enum Reconciled {
 pub fn read_expected<R: Source>(alloc: Global, source: &mut R) -> Result<Reconciling, RunFault>
     ensures text { IfOk result (λ r. ReadsText (R.returned source.old) (R.returned source.new)
         (R.ended source.new) (λ text. IsReconciling text [] r)) }
+    ensures read { IfErr result (λ e. e ≡ Read → R.has_failed source.new ≡ true) }
     ensures fault { IfErr result (λ e. e ≢ Write) }
 {
     let reading = read_source(alloc, source)?;
@@ -76,6 +78,7 @@ pub fn read_next<R: Source>(
     ensures text { IfOk result (λ r. ReadsText (R.returned source.old) (R.returned source.new)
         (R.ended source.new) (λ text. (list : List ℕ) (texts : List (List ℕ))
         → IsKept list texts joined → IsReconciling list (texts ++ text ∷ []) r)) }
+    ensures read { IfErr result (λ e. e ≡ Read → R.has_failed source.new ≡ true) }
     ensures fault { IfErr result (λ e. e ≢ Write) }
 {
     let reading = read_source(alloc, source)?;
@@ -175,8 +178,8 @@ pub fn write_reconciled<W: Sink>(
         → IsReconciled list texts answer.now
         → W.written sink.new ≡ W.written sink.old ++ (codes "complete " ++ rest)
         → AreComplete list texts rest) }
-    ensures flushed { OnOk result (W.is_flushed sink.new ≡ true) }
-    ensures unwritten { IfErr result (λ e. e ≢ Write → sink.new ≡ sink.old) }
+    ensures leaves_sink { LeavesSink W.is_flushed W.has_failed sink.old sink.new result }
+    ensures fault { IfErr result (λ e. e ≢ Read) }
 {
     let text = reconciled_text(alloc, answer, list_name, names)?;
     write_and_flush(sink, &text)?;

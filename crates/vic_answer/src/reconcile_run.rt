@@ -2,10 +2,11 @@
 
 ghost use Rattle.std.specs.Prelude.{◌≡◌, ◌≢◌, ◌++◌, ℕ, [], List, IfErr, IfOk, OnOk, length, true};
 ghost use Rattle.std.specs.Prelude.{codes, map, string_bytes};
+ghost use Rattle.std.specs.List.{Any};
 ghost use Rattle.vic_answer.specs.Reconciled.{AreComplete, IsReconciling};
-ghost use Rattle.vic_answer.specs.ReconcileRun.{AllGoing, ReadsListAndLogs, ReadsTexts, Reconciles, WritesAnswer};
-ghost use Rattle.vic_answer.specs.Runs.{IsEnough};
-ghost use Rattle.vic_answer.specs.declared.status.RunFault.TheVariants.{Write};
+ghost use Rattle.vic_answer.specs.ReconcileRun.{AllGoing, HaveFailed, ReadsListAndLogs, ReadsTexts, Reconciles, WritesAnswer};
+ghost use Rattle.vic_answer.specs.Runs.{IsEnough, LeavesSink};
+ghost use Rattle.vic_answer.specs.declared.status.RunFault.TheVariants.{Read, Write};
 
 use crate::reconcile::{
     Reconciling, read_expected, read_next, reconciled_answer, write_reconciled,
@@ -39,8 +40,9 @@ pub fn run_reconcile<R: Source, W: Sink>(
         → ReadsListAndLogs R.returned (λ s _. R.ended s ≡ true)
         list.old list.new logs.old logs.new
         (λ text texts. AreComplete text texts rest × (length texts ≡ length logs.old))) }
-    ensures flushed { OnOk result (W.is_flushed sink.new ≡ true) }
-    ensures unwritten { IfErr result (λ e. e ≢ Write → sink.new ≡ sink.old) }
+    ensures read { IfErr result (λ e. e ≡ Read
+        → HaveFailed R.has_failed list.new logs.new) }
+    ensures leaves_sink { LeavesSink W.is_flushed W.has_failed sink.old sink.new result }
 {
     let begun = read_expected(alloc, list)?;
     let read = read_logs(alloc, begun, logs)?;
@@ -57,6 +59,8 @@ fn read_logs<R: Source>(
     ensures texts { IfOk result (λ read. (list : List ℕ) → IsReconciling list [] begun
         → ReadsTexts R.returned (λ s. IsEnough (R.ended s ≡ true)) logs.old logs.new (λ texts.
         IsReconciling list texts read × AllGoing read (length logs.old) (length texts))) }
+    ensures read { IfErr result (λ e. e ≡ Read
+        → Any (λ s. R.has_failed s ≡ true) logs.new) }
     ensures fault { IfErr result (λ e. e ≢ Write) }
 {
     let mut read = begun;
