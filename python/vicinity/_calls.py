@@ -3,8 +3,8 @@ from __future__ import annotations
 
 import ctypes
 import mmap
+import struct
 from array import array
-from itertools import repeat
 from typing import TYPE_CHECKING, Any, Callable, Iterable, Union
 
 from ._answers import Answer, Explanation, Fault, Finding, FindingKind, Kind, Report, Simulation, Survey
@@ -17,6 +17,8 @@ if TYPE_CHECKING:
     BytesLike = Union[bytes, bytearray, memoryview, mmap.mmap]
 
 FIRST_ROOM = 64
+#: struct vicinity_mask.
+PACKED_MASK = struct.Struct("IIQ")
 NO_ANSWER = 4
 
 
@@ -44,11 +46,11 @@ def _numbers(uids: Iterable[int]) -> ctypes.Array[ctypes.c_uint64]:
 
 def _masks(masks: Iterable[Mask]) -> ctypes.Array[MaskStruct]:
     """Masks as a C array. Raises OverflowError if a number of one doesn't fit into 32 or 64 bits."""
-    lengths, values = array("I"), array("Q")
-    for length, value in masks:
-        lengths.append(length)
-        values.append(value)
-    return (MaskStruct * len(lengths))(*map(MaskStruct, repeat(0), lengths, values))
+    try:
+        packed = bytearray(b"".join([PACKED_MASK.pack(0, length, value) for length, value in masks]))
+    except struct.error as error:
+        raise OverflowError(str(error)) from None
+    return (MaskStruct * (len(packed) // PACKED_MASK.size)).from_buffer(packed)
 
 
 def _answer(told: AnswerStruct) -> Answer:
