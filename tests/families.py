@@ -1,15 +1,19 @@
 #!/usr/bin/env python3
-"""Reconciles random logs with random lists by brute force, and asks the program for the same:
+"""Reconciles random logs with random lists by brute force, and asks the program and the library for the same:
 
-    families.py [--program PATH] [NUMBER [SEED]]
+    families.py [--program PATH] [--library PATH] [NUMBER [SEED]]
 
 It shares no code and no definition with what is proved: it was written from docs/COMMANDS.md, and stands on the oracle for
 one log (oracle.py). The first lines of each log leave the same eight UIDs that may be in its field. So a log has at most
 256 populations that could have produced it. A UID is somewhere in a family if one of its populations, one for each of up to
 three logs, has it; all families are tried. What is possible and certain, and every finding, is read off them.
 
+The library, out/library/libvicinity.so, answers by the surveys of the logs, in the opposite order. It names no log, line or
+open mask.
+
 Without a NUMBER the cases are the same each time. At the end wrong reconcilers are put in its place, each wrong in one rule,
-and have to be found. The last line is `N passed, M failed`, of cases and wrong reconcilers.
+and have to be found. The last line is `N passed, M failed`, of the answers of both and of wrong
+reconcilers.
 """
 import argparse
 import os
@@ -20,11 +24,15 @@ import tempfile
 
 sys.dont_write_bytecode = True
 import reports
-from oracle import PROGRAM, Judge
+from oracle import PROGRAM, TOP, Judge
 from random_logs import (FIELD_CYCLE, TOP_BYTE, UID_BITS, Listed, StayQuiet, eight_uids, ended, hex_of, opening, rounds,
                          spelled, text_of)
 
-NUMBER, SEED = 3000, 15693
+sys.path.insert(0, os.path.join(TOP, "python"))
+import vicinity
+
+LIBRARY = os.path.join(TOP, "out/library/libvicinity.so")
+NUMBER, SEED = 5000, 15693
 PLANTED = 1500
 NAMES = "abc"
 MOST_OPEN = 16
@@ -169,10 +177,25 @@ def same(told, wanted):
     return [" ".join(["by line ?", *line.split()[3:]]) if line.startswith("by line ") else line for line in told] == wanted
 
 
-def asked(program, folder, expected, logs):
+def plain(lines):
+    """The lines without the logs, lines and open masks that they name."""
+    return [line.split(" in ")[0] for line in lines if not line.startswith(("by line ", "open ", "more open "))]
+
+
+def by_surveys(expected, texts):
+    """The lines of what the library answers."""
+    surveys = [vicinity.survey(text) for text in texts]
+    for name, survey in zip(NAMES, surveys):
+        if survey.answer.kind is vicinity.Kind.IMPOSSIBLE:
+            return [f"{survey.answer} of {name}"]
+    report = vicinity.reconcile(expected, surveys[::-1])
+    return list(map(str, report.findings)) or [str(report.answer)]
+
+
+def asked(program, folder, expected, texts):
     """The lines of the program, where it ends with the status of the first."""
-    texts = [text_of(1, map(Listed, expected)), *(text_of(version, lines) for version, lines in logs)]
-    names = ["EXPECTED", *NAMES[:len(logs)]]
+    texts = [text_of(1, map(Listed, expected)), *texts]
+    names = ["EXPECTED", *NAMES][:len(texts)]
     for name, text in zip(names, texts):
         with open(os.path.join(folder, name), "wb") as file:
             file.write(text)
@@ -185,20 +208,23 @@ def asked(program, folder, expected, logs):
 def main():
     words = argparse.ArgumentParser(description="reconciles random logs by brute force")
     words.add_argument("--program", default=PROGRAM)
+    words.add_argument("--library", default=LIBRARY)
     words.add_argument("number", nargs="?", type=int, default=NUMBER)
     words.add_argument("seed", nargs="?", type=int, default=SEED)
     given = words.parse_args()
+    os.environ["LIBVICINITY"] = given.library
     passed = failed = 0
     kinds, left = dict.fromkeys(("complete", "absent", "unlisted", "unsettled", "doubtful", "impossible"), 0), dict(WRONG)
     with tempfile.TemporaryDirectory() as folder:
         for number in range(given.number):
             uids, expected, logs = case_of(random.Random(f"{given.seed} {number}"))
-            told, wanted = asked(given.program, folder, expected, logs), Families(uids, expected, logs).answer()
-            if same(told, wanted):
-                passed += 1
-            else:
-                failed += 1
-                print(f"families: case {number}: {told}, not {wanted}: {[list(map(spelled, log[1][-12:])) for log in logs]}")
+            texts = [text_of(version, lines) for version, lines in logs]
+            told, wanted = asked(given.program, folder, expected, texts), Families(uids, expected, logs).answer()
+            surveyed = by_surveys(expected, texts)
+            for one, is_right in ((told, same(told, wanted)), (surveyed, surveyed == plain(wanted))):
+                passed, failed = passed + is_right, failed + (not is_right)
+                if not is_right:
+                    print(f"families: case {number}: {one}, not {wanted}: {[list(map(spelled, log[1][-12:])) for log in logs]}")
             for line in wanted:
                 if line.split()[0] in kinds:
                     kinds[line.split()[0]] += 1
