@@ -23,9 +23,9 @@ import sys
 import tempfile
 
 sys.dont_write_bytecode = True
-import reports
+from helpers import reports
 from oracle import PROGRAM, TOP, Judge
-from random_logs import (FIELD_CYCLE, TOP_BYTE, UID_BITS, Listed, StayQuiet, eight_uids, ended, hex_of, opening, rounds,
+from helpers.random_logs import (FIELD_CYCLE, TOP_BYTE, UID_BITS, Listed, StayQuiet, eight_uids, ended, hex_of, opening, rounds,
                          spelled, text_of)
 
 sys.path.insert(0, os.path.join(TOP, "python"))

@@ -25,8 +25,8 @@ import subprocess
 import sys
 
 sys.dont_write_bytecode = True
-import reports
-from random_logs import (COLLISION, FIELD_CYCLE, GARBLED, LEFT, SILENT, UID_BITS, Ask, Listed, Reply, StayQuiet, hex_of,
+from helpers import reports
+from helpers.random_logs import (COLLISION, FIELD_CYCLE, GARBLED, LEFT, SILENT, UID_BITS, Ask, Listed, Reply, StayQuiet, hex_of,
                          lies_in, number_of, random_log, slot_mask, text_of)
 
 TOP = os.path.dirname(os.path.dirname(os.path.abspath(__file__)))

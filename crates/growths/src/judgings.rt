@@ -1,5 +1,5 @@
 //! How many times a log is judged: each time, judging begins with a set of every UID. Here, a set
-//! allocates a block of a particular size when it is made, and `tests/refuse.c` counts these.
+//! allocates a block of a particular size when it is made, and `tests/c/refuse.c` counts these.
 
 use crate::logs::log_of;
 use arrayvec::ArrayVec;

@@ -1,4 +1,4 @@
-//! Logs by the short names of their lines in `tests/rows/lines`.
+//! Logs by the short names of their lines in `tests/data/rows/lines`.
 
 use std::alloc::Global;
 use std::test::Fail;

@@ -4,7 +4,7 @@
 PROGRAM is the proved one; the words COMMAND start the other, as an emulator and its program. They are asked with words of
 every kind, with streams that are closed, full or no text, about NUMBER changed logs, half as often about several logs, about
 a quarter as many frames, about texts as long as a log can be and texts that come in pieces. Each allocation of the other is
-refused in turn, by REFUSE, which is tests/refuse.c built for its machine: it says so and writes nothing else. The last line
+refused in turn, by REFUSE, which is tests/c/refuse.c built for its machine: it says so and writes nothing else. The last line
 is `N passed, M failed`.
 """
 import glob
@@ -17,9 +17,9 @@ import time
 from concurrent.futures import ThreadPoolExecutor
 
 from families import case_of
-from fuzz import LISTED, changed, session
-from lines import TOP, log_of
-from random_logs import Listed as Claimed, text_of
+from helpers.fuzz import LISTED, changed, session
+from helpers.lines import TOP, log_of
+from helpers.random_logs import Listed as Claimed, text_of
 
 COMMANDS = "check", "explain", "report", "simulate"  # those over a text
 OUTCOMES = b"S", b"C", b"R", b"D"

@@ -1,13 +1,13 @@
-"""Texts for tests/answers.c, each after its length: the worked logs, changed logs and large ones:  texts.py NUMBER LOG..
+"""Texts for tests/c/answers.c, each after its length: the worked logs, changed logs and large ones:  texts.py NUMBER LOG..
 
-The worked logs are those of the rows of `check` and `explain` in tests/rows/, NUMBER of changed ones and each beginning
+The worked logs are those of the rows of `check` and `explain` in tests/data/rows/, NUMBER of changed ones and each beginning
 of the first LOG are those of fuzz.py.
 """
 import random
 import sys
 
-from fuzz import changed
-from lines import log_of, rows
+from helpers.fuzz import changed
+from helpers.lines import log_of, rows
 
 
 def main(number, logs):

@@ -6,8 +6,8 @@ tags spoil no collision and no garbled slot, so where this one fails, each does.
 """
 import collections
 
-from random_logs import (COLLISION, FIELD_CYCLE, GARBLED, SILENT, TOP_BYTE, UID_BITS, Ask, Listed, Reply, StayQuiet, hex_of,
-                         lies_in, slot_mask)
+from helpers.random_logs import (COLLISION, FIELD_CYCLE, GARBLED, SILENT, TOP_BYTE, UID_BITS, Ask, Listed, Reply, StayQuiet,
+                                 hex_of, lies_in, slot_mask)
 
 MOST_OPEN = 16
 Slot = collections.namedtuple("Slot", "number mask quiet line")

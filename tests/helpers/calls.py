@@ -1,7 +1,7 @@
 """Asks the library's calls on frames, lines, lists, findings and many logs, and compares them with the program:
 calls.py PROGRAM COUNT LOG..
 
-Each fault, name and kind of finding is met by a row, and the rows of tests/rows/reconciliations by the calls for many
+Each fault, name and kind of finding is met by a row, and the rows of tests/data/rows/reconciliations by the calls for many
 logs. COUNT random numbers are written and COUNT random frames read, and have to be what `spell` and `frame` make of
 them; COUNT lines and masks of slots have to be what is worked out here; and the logs, with their lists removed and
 passed separately, also in another order, get the answer that the program gets for the complete log. Each struct holds
@@ -15,7 +15,7 @@ import re
 import subprocess
 import sys
 
-from lines import log_of, rows as rows_of
+from helpers.lines import log_of, rows as rows_of
 
 U8, U16, U32, U64, SIZE = ctypes.c_uint8, ctypes.c_uint16, ctypes.c_uint32, ctypes.c_uint64, ctypes.c_size_t
 LINK, SLOTS, MASK, SLOT, REPLY, TOO_LONG, LETTER = range(201, 208)
@@ -47,7 +47,7 @@ NAME = struct("Name", ("len", U32), ("text", U8 * 28))
 ANSWER = struct("Answer", *[(name, U32) for name in ("kind", "status", "count", "line", "fault", "mask_len")],
                 ("mask_value", U64), ("uid", U64), ("text", U8 * 64))
 
-TOP = os.path.dirname(os.path.dirname(os.path.abspath(__file__)))
+TOP = os.path.abspath(os.path.join(os.path.dirname(__file__), "../.."))
 PROGRAM, COUNT, LOGS = sys.argv[1], int(sys.argv[2]), sys.argv[3:]
 LIBRARY = ctypes.CDLL(os.environ["LIBVICINITY"])
 passed = failed = 0

@@ -1,19 +1,19 @@
-"""Logs by the short names of their lines, and the rows of the files in tests/rows/."""
+"""Logs by the short names of their lines, and the rows of the files in tests/data/rows/."""
 import os
 import re
 import sys
 
-TOP = os.path.dirname(os.path.dirname(os.path.abspath(__file__)))
+TOP = os.path.abspath(os.path.join(os.path.dirname(__file__), "../.."))
 SHORT = re.compile(r"([SCDF#])(\d*)")
 PART = re.compile(r'"([^"]*)"(?: \* (\d+))?')
 
 
 def rows(name):
-    """The rows of a file in tests/rows/, each with its place."""
-    with open(os.path.join(TOP, "tests/rows", name)) as file:
+    """The rows of a file in tests/data/rows/, each with its place."""
+    with open(os.path.join(TOP, "tests/data/rows", name)) as file:
         for number, line in enumerate(file, 1):
             if line.strip() and not line.startswith("#"):
-                yield f"tests/rows/{name}:{number}", line.rstrip("\n")
+                yield f"tests/data/rows/{name}:{number}", line.rstrip("\n")
 
 
 NAMES = {name: f"{letter} {digits}" for _, line in rows("lines") for name, letter, digits in [line.split()[:3]]}

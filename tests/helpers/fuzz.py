@@ -14,7 +14,7 @@ import tempfile
 import vicinity
 from vicinity import FindingKind
 from families import NAMES, case_of
-from random_logs import Listed, text_of
+from helpers.random_logs import Listed, text_of
 from vicinity._native import AnswerStruct, FindingStruct, MaskStruct, library
 
 LINES = [

@@ -1,0 +1,122 @@
+/* What many logs say: what each text says is kept, but not the text. */
+#include "commands.h"
+
+#include <inttypes.h>
+#include <stdlib.h>
+#include <string.h>
+
+/* Ends a line with the name of a file. */
+void put_name(struct text *answered, const char *file)
+{
+    append(answered, file, strlen(file));
+    put(answered, "\n");
+}
+
+static uint32_t put_refused(struct text *answered, uint32_t line, const char *file, const char *name)
+{
+    put(answered, "refused at line %" PRIu32 " of ", line);
+    append(answered, file, strlen(file));
+    put(answered, ": %s\n", name);
+    return REFUSED;
+}
+
+/* Puts why a text isn't a possible log, if so. Returns the status, WHOLE for one that is. */
+static uint32_t put_wrong(struct text *answered, const struct vicinity_answer *answer, const char *file)
+{
+    struct vicinity_name fault;
+    if (answer->kind == VICINITY_REFUSED) {
+        vicinity_fault_name(answer->fault, &fault);
+        return put_refused(answered, answer->line, file, fault.text);
+    }
+    if (answer->kind == VICINITY_IMPOSSIBLE) {
+        put(answered, "impossible at line %" PRIu32 " of ", answer->line);
+        put_name(answered, file);
+    }
+    return answer->status == FOUND ? WHOLE : answer->status;
+}
+
+/* Keeps the UIDs that a text lists. It may have no entries but these. */
+uint32_t expect(const struct text *text, const char *file, struct surveys *told, struct text *answered)
+{
+    struct vicinity_answer answer = {0};
+    vicinity_check((const uint8_t *)text->bytes, text->len, &answer);
+    if (answer.kind == VICINITY_REFUSED || answer.kind == VICINITY_NO_ANSWER)
+        return put_wrong(answered, &answer, file);
+    const char *at = text->bytes, *end = at + text->len;
+    for (uint32_t line = 2; (at = memchr(at, '\n', (size_t)(end - at))) && ++at < end; line++) {
+        uint8_t bytes[8] = {0};
+        uint64_t uid = 0;
+        if (memchr("TSCRDF", *at, 6))
+            return put_refused(answered, line, file, "NotListed");
+        if (*at == 'U' && read_hex(at + 2, 16, bytes)) {
+            for (size_t i = 0; i < sizeof bytes; i++)
+                uid = uid << 8 | bytes[i];
+            append(&told->expected, &uid, sizeof uid);
+        }
+    }
+    return WHOLE;
+}
+
+/* How many bytes of a log come before its list. */
+static size_t list_start(const struct text *log)
+{
+    const char *at = log->bytes, *end = at + log->len;
+    while ((at = memchr(at, '\n', (size_t)(end - at))) && ++at < end)
+        if (*at == 'U')
+            return (size_t)(at - log->bytes);
+    return log->len;
+}
+
+/* Keeps all open masks of a log. */
+static uint32_t survey_masks(const struct text *log, const char *file, struct surveys *told, struct text *answered)
+{
+    struct vicinity_answer answer = {0};
+    struct text *masks = &told->masks;
+    size_t room = 0, needed = 1;
+    while (room < needed) {
+        if (!make_room(masks, needed * sizeof(struct vicinity_mask)))
+            return NO_ANSWER;
+        room = (masks->room - masks->len) / sizeof(struct vicinity_mask);
+        vicinity_open_masks((const uint8_t *)log->bytes, log->len, &answer,
+                            (struct vicinity_mask *)(masks->bytes + masks->len), room, &needed);
+    }
+    masks->len += needed * sizeof(struct vicinity_mask);
+    needed = masks->len / sizeof(struct vicinity_mask);
+    append(&told->ends, &needed, sizeof needed);
+    return put_wrong(answered, &answer, file);
+}
+
+/* Keeps what a log says of its field: its open masks, and its certain UIDs, which are what isn't listed in its report
+ * without a list. */
+uint32_t survey(const struct text *log, const char *file, struct surveys *told, struct text *answered)
+{
+    struct vicinity_answer answer = {0};
+    size_t count;
+    uint32_t status = survey_masks(log, file, told, answered);
+    if (status != WHOLE)
+        return status;
+    struct vicinity_finding *findings = findings_of(log->bytes, list_start(log), &answer, &count);
+    for (size_t i = 0; findings && i < count; i++) {
+        struct shown shown = {findings[i].uid, told->logs, findings[i].line};
+        if (findings[i].kind == VICINITY_FINDING_UNLISTED)
+            append(&told->shown, &shown, sizeof shown);
+    }
+    told->logs++;
+    free(findings);
+    return findings && answer.kind != VICINITY_NO_ANSWER ? WHOLE : NO_ANSWER;
+}
+
+const struct vicinity_mask *masks_of(const struct surveys *told, uint32_t log, size_t *count)
+{
+    const size_t *ends = (const size_t *)told->ends.bytes;
+    size_t start = log ? ends[log - 1] : 0;
+    *count = ends[log] - start;
+    return (const struct vicinity_mask *)told->masks.bytes + start;
+}
+
+/* Whether no array was refused memory. An empty one gets some, since no call takes NULL. */
+bool has_memory(struct surveys *told)
+{
+    return make_room(&told->expected, 0) && make_room(&told->shown, 0) && make_room(&told->masks, 0) &&
+           make_room(&told->ends, 0);
+}
