@@ -1,16 +1,16 @@
--- The names between two keys, and which keys some slots close.
+-- The mentions between two keys, and which keys some slots close.
 use Rattle.std.proofs.Common.{◌≡◌, ℕ, ◌+◌, ◌-◌, ◌<◌, ◌≤◌, ◌==◌, ◌++◌, List, [], ◌∷◌, length, take, drop, get_or, Bool, true, false, not, ◌&&◌, ◌||◌, refl, sym, ap, ◌∙◌, subst, arith, ⊎_elim, nat_le, nat_lt, All, eq-eqb, eqb-true, get_or-drop, get_or-take, length-drop, length-take-le, take-append-drop, take-take}
-use Rattle.vic_verdict.proofs.Words.{and_parts, and_from, cases_eq, cases_lt, false_from_ne_true, false≢true, nat_tests, get_or_default, list_any-append, list_any_at, list_any_more, Any-from_list_any, Name, in_ranges, is_between, Closes, is_in_some, Spot, AreInOrder, has_where, has_left, is_in}
+use Rattle.vic_verdict.proofs.Words.{and_parts, and_from, cases_eq, cases_lt, false_from_ne_true, false≢true, nat_tests, get_or_default, list_any-append, list_any_at, list_any_more, Any-from_list_any, Mention, in_ranges, is_between, Closes, is_in_some, ReadSlot, AreInOrder, has_where, has_left, is_in}
 use Rattle.std.proofs.lemmas.List.{drop-take}
 use Rattle.vic_verdict.proofs.Sweeping.{all_cover, between_parts, nobody, where_above, where_below}
 
--- ---- the names between two keys
+-- ---- the mentions between two keys
 
 pub between_from : (first last k : ℕ) → first ≤ k → k ≤ last → is_between first last k ≡ true
 between_from first last k a b = grind (arith, nat_tests)
 
--- m names from position s on lie between the keys
-pub part_between : (ns : List Name) (first last s m : ℕ) → s + m ≤ length ns → ((j : ℕ) → s ≤ j → j < length ns → first ≤ (get_or ns j nobody).key) → ((j : ℕ) → j < m → (get_or (drop s ns) j nobody).key ≤ last) → All (λ (n : Name). is_between first last n.key ≡ true) (take m (drop s ns))
+-- m mentions from position s on lie between the keys
+pub part_between : (ns : List Mention) (first last s m : ℕ) → s + m ≤ length ns → ((j : ℕ) → s ≤ j → j < length ns → first ≤ (get_or ns j nobody).key) → ((j : ℕ) → j < m → (get_or (drop s ns) j nobody).key ≤ last) → All (λ (n : Mention). is_between first last n.key ≡ true) (take m (drop s ns))
 part_between ns first last s m within low high k d below =
     let rest = length-drop s ns in
     let long = length-take-le m (drop s ns) (omega arith) in
@@ -18,17 +18,17 @@ part_between ns first last s m within low high k d below =
     let here : get_or (drop s ns) k d ≡ get_or (drop s ns) k nobody = get_or_default (drop s ns) k d nobody (omega arith) in
     let upto = high k lt in
     let from = low (s + k) (omega arith) (omega arith) in
-    let there : (get_or (drop s ns) k nobody).key ≡ (get_or ns (s + k) nobody).key = ap (λ (n : Name). n.key) (get_or-drop s ns k nobody) in
-    ap (λ (n : Name). is_between first last n.key) (get_or-take m (drop s ns) k d lt ∙ here)
+    let there : (get_or (drop s ns) k nobody).key ≡ (get_or ns (s + k) nobody).key = ap (λ (n : Mention). n.key) (get_or-drop s ns k nobody) in
+    ap (λ (n : Mention). is_between first last n.key) (get_or-take m (drop s ns) k d lt ∙ here)
     ∙ between_from first last _ (omega arith) upto
 
 -- and all that do are among them
-pub part_where : (ns : List Name) (first last s m : ℕ) → s + m ≤ length ns → ((j : ℕ) → j < s → (get_or ns j nobody).key < first) → ((j : ℕ) → s + m ≤ j → j < length ns → last < (get_or ns j nobody).key) → (p : Name → Bool) (k : ℕ) → is_between first last k ≡ true → has_where p (take m (drop s ns)) k ≡ has_where p ns k
+pub part_where : (ns : List Mention) (first last s m : ℕ) → s + m ≤ length ns → ((j : ℕ) → j < s → (get_or ns j nobody).key < first) → ((j : ℕ) → s + m ≤ j → j < length ns → last < (get_or ns j nobody).key) → (p : Mention → Bool) (k : ℕ) → is_between first last k ≡ true → has_where p (take m (drop s ns)) k ≡ has_where p ns k
 part_where ns first last s m within low high p k inside =
     let parts = between_parts first last k inside in
     let from = parts.0 in
     let to = parts.1 in
-    let test : Name → Bool = λ (n : Name). (n.key == k) && p n in
+    let test : Mention → Bool = λ (n : Mention). (n.key == k) && p n in
     let before : has_where p (take s ns) k ≡ false = where_below p ns k s (omega arith) (λ j lt. let under = low j lt in omega arith) in
     let whole : take s (take (s + m) ns) ++ drop s (take (s + m) ns) ≡ take (s + m) ns = take-append-drop s (take (s + m) ns) in
     sym (
@@ -41,36 +41,36 @@ part_where ns first last s m within low high p k inside =
 
 -- ---- the keys of a slot
 
--- the keys of a slot below a position are closed, but for those of names that are left, of which the first i are below it
-pub record IsClosedTo (old new : List (ℕ × ℕ)) (ns : List Name) (first last from i : ℕ) : Type 0 where
+-- the keys of a slot below a position are closed, but for those of mentions that are left, of which the first i are below it
+pub record IsClosedTo (old new : List (ℕ × ℕ)) (ns : List Mention) (first last from i : ℕ) : Type 0 where
   pub since : first ≤ from
   pub upto : from ≤ last + 1
   pub behind : i < length ns → from ≤ (get_or ns i nobody).key + 1
   pub below : (j : ℕ) → j < i → (get_or ns j nobody).left ≡ true → (get_or ns j nobody).key < from
   pub closed : (k : ℕ) → in_ranges new k ≡ (in_ranges old k || ((nat_le first k && nat_lt k from) && not (has_left ns k)))
 
--- the keys that are closed by a name that is left, and in the end
+-- the keys that are closed by a mention that is left, and in the end
 next_keys : (o l : Bool) (first from key k : ℕ) → first ≤ from → from ≤ key + 1 → (from ≤ k → k < key → l ≡ false) → (k ≡ key → l ≡ true) → ((o || ((nat_le first k && nat_lt k from) && not l)) || (nat_le from k && nat_lt k key)) ≡ (o || ((nat_le first k && nat_lt k (key + 1)) && not l))
 next_keys o l first from key k since at none here = grind (arith, nat_tests)
 
 all_keys : (o l m : Bool) (first last from k : ℕ) → first ≤ from → from ≤ last + 1 → (from ≤ k → l ≡ false) → (first ≤ k → k ≤ last → l ≡ m) → ((o || ((nat_le first k && nat_lt k from) && not l)) || (nat_le from k && nat_lt k (last + 1))) ≡ (o || ((nat_le first k && nat_le k last) && not m))
 all_keys o l m first last from k since upto none same = grind (arith, nat_tests)
 
--- no name that is left has a key from one on that those from position i on don't reach
-none_left : (ns : List Name) (from i k : ℕ) → ((j : ℕ) → j < i → (get_or ns j nobody).left ≡ true → (get_or ns j nobody).key < from) → from ≤ k → ((j : ℕ) → i ≤ j → j < length ns → k < (get_or ns j nobody).key) → has_left ns k ≡ false
+-- no mention that is left has a key from one on that those from position i on don't reach
+none_left : (ns : List Mention) (from i k : ℕ) → ((j : ℕ) → j < i → (get_or ns j nobody).left ≡ true → (get_or ns j nobody).key < from) → from ≤ k → ((j : ℕ) → i ≤ j → j < length ns → k < (get_or ns j nobody).key) → has_left ns k ≡ false
 none_left ns from i k below le above = false_from_ne_true _ (λ e.
-    let some = Any-from_list_any (λ (n : Name). (n.key == k) && n.left) ns e in
-    let n : Name = some.1 in
+    let some = Any-from_list_any (λ (n : Mention). (n.key == k) && n.left) ns e in
+    let n : Mention = some.1 in
     let within = some.2 in
     let here : get_or ns some.0 nobody ≡ n = sym (get_or_default ns some.0 n nobody within) ∙ some.3 in
     let parts = and_parts (n.key == k) n.left some.4 in
-    let key : (get_or ns some.0 nobody).key ≡ k = ap (λ (m : Name). m.key) here ∙ eqb-true n.key k parts.0 in
+    let key : (get_or ns some.0 nobody).key ≡ k = ap (λ (m : Mention). m.key) here ∙ eqb-true n.key k parts.0 in
     ⊎_elim
-    (λ lt. let under = below some.0 lt (ap (λ (m : Name). m.left) here ∙ parts.1) in omega arith)
+    (λ lt. let under = below some.0 lt (ap (λ (m : Mention). m.left) here ∙ parts.1) in omega arith)
     (λ ge. let over = above some.0 ge within in omega arith)
     (cases_lt some.0 i))
 
-pub closed_first : (old : List (ℕ × ℕ)) (ns : List Name) (first last : ℕ) → first ≤ last + 1 → All (λ (n : Name). is_between first last n.key ≡ true) ns → IsClosedTo old old ns first last first 0
+pub closed_first : (old : List (ℕ × ℕ)) (ns : List Mention) (first last : ℕ) → first ≤ last + 1 → All (λ (n : Mention). is_between first last n.key ≡ true) ns → IsClosedTo old old ns first last first 0
 closed_first old ns first last le inside = record {
   since = omega arith;
   upto = le;
@@ -79,8 +79,8 @@ closed_first old ns first last le inside = record {
   closed = λ k. grind (arith, nat_tests);
 }
 
--- a name that isn't left
-pub closed_passed : (old new : List (ℕ × ℕ)) (ns : List Name) (first last from i : ℕ) → AreInOrder ns → i < length ns → (get_or ns i nobody).left ≡ false → IsClosedTo old new ns first last from i → IsClosedTo old new ns first last from (i + 1)
+-- a mention that isn't left
+pub closed_passed : (old new : List (ℕ × ℕ)) (ns : List Mention) (first last from i : ℕ) → AreInOrder ns → i < length ns → (get_or ns i nobody).left ≡ false → IsClosedTo old new ns first last from i → IsClosedTo old new ns first last from (i + 1)
 closed_passed old new ns first last from i up lt gone h = record {
   since = h.since;
   upto = h.upto;
@@ -92,15 +92,15 @@ closed_passed old new ns first last from i up lt gone h = record {
   closed = h.closed;
 }
 
--- a name that is left: what is before it is closed
-pub closed_left : (old new next : List (ℕ × ℕ)) (ns : List Name) (first last from i : ℕ) → AreInOrder ns → All (λ (n : Name). is_between first last n.key ≡ true) ns → i < length ns → (get_or ns i nobody).left ≡ true → ((k : ℕ) → in_ranges next k ≡ (in_ranges new k || (nat_le from k && nat_lt k (get_or ns i nobody).key))) → IsClosedTo old new ns first last from i → IsClosedTo old next ns first last ((get_or ns i nobody).key + 1) (i + 1)
+-- a mention that is left: what is before it is closed
+pub closed_left : (old new next : List (ℕ × ℕ)) (ns : List Mention) (first last from i : ℕ) → AreInOrder ns → All (λ (n : Mention). is_between first last n.key ≡ true) ns → i < length ns → (get_or ns i nobody).left ≡ true → ((k : ℕ) → in_ranges next k ≡ (in_ranges new k || (nat_le from k && nat_lt k (get_or ns i nobody).key))) → IsClosedTo old new ns first last from i → IsClosedTo old next ns first last ((get_or ns i nobody).key + 1) (i + 1)
 closed_left old new next ns first last from i up inside lt left pushed h = record {
   since = omega (arith, at);
   upto = let b = (between_parts first last key (inside i nobody lt)).1 in omega arith;
   behind = λ more. let over = up i (i + 1) nobody (omega arith) more in omega arith;
   below = λ j less is. let over = up j i nobody (omega arith) lt in omega arith;
   closed = λ k. pushed k ∙ ap (λ b. b || (nat_le from k && nat_lt k key)) (h.closed k)
-      ∙ next_keys (in_ranges old k) (has_left ns k) first from key k h.since at (none_before k) (λ e. list_any_at (λ (n : Name). (n.key == k) && n.left) ns i nobody lt (and_from _ _ (eq-eqb key k (sym e)) left));
+      ∙ next_keys (in_ranges old k) (has_left ns k) first from key k h.since at (none_before k) (λ e. list_any_at (λ (n : Mention). (n.key == k) && n.left) ns i nobody lt (and_from _ _ (eq-eqb key k (sym e)) left));
 } where
   key : ℕ
   key = (get_or ns i nobody).key
@@ -123,7 +123,7 @@ pushed_one new next from key lt is k =
     one o = grind (arith, nat_tests)
 
 -- at the end, with the keys that are left over
-pub closed_all : (old new next : List (ℕ × ℕ)) (ns all : List Name) (first last from i : ℕ) → length ns ≤ i → ((k : ℕ) → is_between first last k ≡ true → has_left ns k ≡ has_left all k) → ((k : ℕ) → in_ranges next k ≡ (in_ranges new k || (nat_le from k && nat_lt k (last + 1)))) → IsClosedTo old new ns first last from i → Closes all (is_between first last) old next
+pub closed_all : (old new next : List (ℕ × ℕ)) (ns all : List Mention) (first last from i : ℕ) → length ns ≤ i → ((k : ℕ) → is_between first last k ≡ true → has_left ns k ≡ has_left all k) → ((k : ℕ) → in_ranges next k ≡ (in_ranges new k || (nat_le from k && nat_lt k (last + 1)))) → IsClosedTo old new ns first last from i → Closes all (is_between first last) old next
 closed_all old new next ns all first last from i end same pushed h k =
     pushed k ∙ ap (λ b. b || (nat_le from k && nat_lt k (last + 1))) (h.closed k)
     ∙ all_keys (in_ranges old k) (has_left ns k) (has_left all k) first last from k h.since h.upto (λ since. none_left ns from i k h.below since (λ j ge within. absurd (omega arith))) (λ a b. same k (between_from first last k a b))
@@ -131,22 +131,22 @@ closed_all old new next ns all first last from i end same pushed h k =
 -- ---- the keys of some slots
 
 -- a slot more
-pub closes_more : (ns : List Name) (spots : List Spot) (i : ℕ) (s : Spot) (old : List (ℕ × ℕ)) (k : ℕ) → i < length spots → s ≡ get_or spots i s → ((in_ranges old k || (is_in_some (take i spots) k && not (has_left ns k))) || (is_in s k && not (has_left ns k))) ≡ (in_ranges old k || (is_in_some (take (i + 1) spots) k && not (has_left ns k)))
-closes_more ns spots i s old k below is =
-    either (in_ranges old k) (is_in_some (take i spots) k) (is_in s k) (not (has_left ns k))
-    ∙ ap (λ b. in_ranges old k || (b && not (has_left ns k))) (sym (list_any_more (λ t. is_in t k) spots i s below ∙ ap (λ t. is_in_some (take i spots) k || is_in t k) (sym is)))
+pub closes_more : (ns : List Mention) (reads : List ReadSlot) (i : ℕ) (s : ReadSlot) (old : List (ℕ × ℕ)) (k : ℕ) → i < length reads → s ≡ get_or reads i s → ((in_ranges old k || (is_in_some (take i reads) k && not (has_left ns k))) || (is_in s k && not (has_left ns k))) ≡ (in_ranges old k || (is_in_some (take (i + 1) reads) k && not (has_left ns k)))
+closes_more ns reads i s old k below is =
+    either (in_ranges old k) (is_in_some (take i reads) k) (is_in s k) (not (has_left ns k))
+    ∙ ap (λ b. in_ranges old k || (b && not (has_left ns k))) (sym (list_any_more (λ t. is_in t k) reads i s below ∙ ap (λ t. is_in_some (take i reads) k || is_in t k) (sym is)))
   where
     either : (o a b l : Bool) → ((o || (a && l)) || (b && l)) ≡ (o || ((a || b) && l))
     either o a b l = grind arith
 
--- what the ranges leave open is what they left before and all slots leave by name
-pub outside_closed : (ns : List Name) (spots : List Spot) (old new : List (ℕ × ℕ)) (k : ℕ) → Closes ns (is_in_some spots) old new → not (in_ranges new k) ≡ (not (in_ranges old k) && all_cover ns spots k)
-outside_closed ns spots old new k closes =
-    ap not (closes k) ∙ open_keys (in_ranges old k) (is_in_some spots k) (has_left ns k) ∙ ap (λ b. not (in_ranges old k) && b) (sym (kept_by_slots spots))
+-- what the ranges leave open is what they left before and all slots leave by mention
+pub outside_closed : (ns : List Mention) (reads : List ReadSlot) (old new : List (ℕ × ℕ)) (k : ℕ) → Closes ns (is_in_some reads) old new → not (in_ranges new k) ≡ (not (in_ranges old k) && all_cover ns reads k)
+outside_closed ns reads old new k closes =
+    ap not (closes k) ∙ open_keys (in_ranges old k) (is_in_some reads k) (has_left ns k) ∙ ap (λ b. not (in_ranges old k) && b) (sym (kept_by_slots reads))
   where
     open_keys : (o a l : Bool) → not (o || (a && not l)) ≡ (not o && (not a || l))
     open_keys o a l = grind arith
 
-    kept_by_slots : (spots : List Spot) → all_cover ns spots k ≡ (not (is_in_some spots k) || has_left ns k)
+    kept_by_slots : (reads : List ReadSlot) → all_cover ns reads k ≡ (not (is_in_some reads k) || has_left ns k)
     kept_by_slots [] = refl
-    kept_by_slots (s ∷ spots) = grind (arith, kept_by_slots spots)
+    kept_by_slots (s ∷ reads) = grind (arith, kept_by_slots reads)

@@ -1,6 +1,6 @@
 -- What meets the demands of a stretch.
 use Rattle.std.proofs.Common.{◌≡◌, ℕ, zero, suc, ◌+◌, ◌<◌, ◌≤◌, ◌++◌, List, [], ◌∷◌, length, take, get_or, length-append, Bool, true, false, not, ◌&&◌, ◌||◌, cond, Option, Some, None, refl, sym, ap, ◌∙◌, subst, arith, inl, inr, ⊎_elim, ◌⊎◌, ◌==◌, IfSome, nat_lt, slice_get, All, Any, sum_by, IsPermutation, eq-eqb, eqb-true}
-use Rattle.vic_verdict.proofs.Words.{list_all, list_any, cases_eq, cases_lt, and_parts, and_from, or_left, or_right, false≢true, nat_tests, slice_get_within, get_or_default, All-push, list_any-append, Any-from_list_any, All-permutation, list_any-IsPermutation, IsUid, is_uid, is_in_block, mirror, SameUids, UpToThree, Entry, Collision, Garbled, mask_at, lies_in_some, is_quiet, answers_at, ManyReplies, SomeReply, slots_of, is_open, AgreeBefore, answers_agree, IsUid-from, lt_yes, lt_from, Demand, Found, Stretch, Name, Lacks, answering, AreInOrder, HaveKeys, is_quiet_by, ArePutInOrder, needs, needs_of, IsFoundAt, IsFound, IsDemandBy, AreFound, AreKept}
+use Rattle.vic_verdict.proofs.Words.{list_all, list_any, cases_eq, cases_lt, and_parts, and_from, or_left, or_right, false≢true, nat_tests, slice_get_within, get_or_default, All-push, list_any-append, Any-from_list_any, All-permutation, list_any-IsPermutation, IsUid, is_uid, is_in_block, mirror, SameUids, UpToThree, Entry, Collision, Garbled, mask_at, lies_in_some, is_quiet, answers_at, ManyReplies, SomeReply, slots_of, is_open, AgreeBefore, answers_agree, IsUid-from, lt_yes, lt_from, Demand, Found, Stretch, Mention, Lacks, answering, AreInOrder, HaveKeys, is_quiet_by, ArePutInOrder, needs, needs_of, IsFoundAt, IsFound, IsDemandBy, AreFound, AreKept}
 use Rattle.std.proofs.lemmas.Option.{get_or_from_slice_get}
 use Rattle.std.proofs.lemmas.List.{get_or_append_left}
 use Rattle.std.proofs.lemmas.List.Elements.{All-filter, filter_passes}
@@ -9,20 +9,20 @@ use Rattle.std.proofs.lemmas.List.Sums.{sum_by-cons, sum_by_more, sum_by_push, s
 use Rattle.std.proofs.lemmas.List.Sorted.{sum_by-IsPermutation}
 use Rattle.vic_log.specs.Slots.{allows}
 use Rattle.vic_verdict.specs.Demands.{needs_at, all_needs, Meets}
-use Rattle.vic_verdict.specs.inner.Asked.{IsDemand, answers_by, IsUnmet, IsUnmetAt, IsImpliedBy, IsAskedAgain, HasBlock, HasBlocks, HasKeysAt, HasNamesInOrder, IsKept, Keeps, AreMet, AreAsked, asked_by, demands_to, is_asked}
+use Rattle.vic_verdict.specs.inner.Asked.{IsDemand, answers_by, IsUnmet, IsUnmetAt, IsImpliedBy, IsAskedAgain, HasBlock, HasBlocks, HasKeysAt, HasMentionsInOrder, IsKept, Keeps, AreMet, AreAsked, asked_by, demands_to, is_asked}
 use Rattle.vic_verdict.proofs.Silencing.{silenced_later}
 use Rattle.vic_verdict.proofs.Entries.{asks_two_iff, asks_one_iff}
 use Rattle.vic_verdict.proofs.Supplied.{UpToThree-same}
 
--- ---- who answers, by the names
+-- ---- who answers, by the mentions
 
 -- the answers of a slot, told of the UIDs of a set
-abbrev pub ready_of : (ℕ → Bool) → List Name → Demand → ℕ → Bool
+abbrev pub ready_of : (ℕ → Bool) → List Mention → Demand → ℕ → Bool
 ready_of set ns d u = (is_uid u && set u) && answers_by ns d u
 
 -- ---- a demand that is met
 
-found_answers : (es : List Entry) (set : ℕ → Bool) (ns : List Name) (d : Demand) (us : List ℕ) → SameUids set (is_open (slots_of es)) → IsDemandBy es ns d → UpToThree (ready_of set ns d) us → UpToThree (answering (is_open (slots_of es)) es d.at) us
+found_answers : (es : List Entry) (set : ℕ → Bool) (ns : List Mention) (d : Demand) (us : List ℕ) → SameUids set (is_open (slots_of es)) → IsDemandBy es ns d → UpToThree (ready_of set ns d) us → UpToThree (answering (is_open (slots_of es)) es d.at) us
 found_answers es set ns d us same h found = UpToThree-same (ready_of set ns d) (answering (is_open (slots_of es)) es d.at) us (λ u. go u (is_uid u) refl) found
   where
     go : (u : ℕ) (b : Bool) → is_uid u ≡ b → ((b && set u) && answers_by ns d u) ≡ ((b && list_all (allows u) (slots_of es)) && answers_at es d.at u)
@@ -32,7 +32,7 @@ found_answers es set ns d us same h found = UpToThree-same (ready_of set ns d) (
         ap (λ x. x && answers_by ns d u) o ∙ ap (λ x. list_all (allows u) (slots_of es) && x) (h.answers u w)
     go u false e = refl
 
-pub found_at : (es : List Entry) (set : ℕ → Bool) (ns : List Name) (d : Demand) (f : Found) → SameUids set (is_open (slots_of es)) → IsDemandBy es ns d → UpToThree (ready_of set ns d) f.uids.items → f.at ≡ d.at → f.need ≡ d.need → d.need ≤ length f.uids.items → IsFoundAt es d.at f
+pub found_at : (es : List Entry) (set : ℕ → Bool) (ns : List Mention) (d : Demand) (f : Found) → SameUids set (is_open (slots_of es)) → IsDemandBy es ns d → UpToThree (ready_of set ns d) f.uids.items → f.at ≡ d.at → f.need ≡ d.need → d.need ≤ length f.uids.items → IsFoundAt es d.at f
 found_at es set ns d f same h found place need enough =
     let asked = h.asked in record {
       place = place;
@@ -49,7 +49,7 @@ meets_there es i f h = record { need = h.need; answer = h.uids.members }
 not_later : (b c : Bool) → (c ≡ true → b ≡ true) → not b ≡ true → not c ≡ true
 not_later b c f e = grind (arith, f)
 
-pub meets_again : (es : List Entry) (ns : List Name) (d next : Demand) (f : Found) → IsDemandBy es ns d → IsDemandBy es ns next → IsImpliedBy d next → Meets es f next.at → Meets es f d.at
+pub meets_again : (es : List Entry) (ns : List Mention) (d next : Demand) (f : Found) → IsDemandBy es ns d → IsDemandBy es ns next → IsImpliedBy d next → Meets es f next.at → Meets es f d.at
 meets_again es ns d next f h g said m = record {
   need = h.need ∙ (said.need ∙ (sym g.need ∙ m.need));
   answer = λ u k.
@@ -69,7 +69,7 @@ asked_two_or_one (Some Collision) n e lt = inl (refl, sym e)
 asked_two_or_one (Some Garbled) n e lt = inr (refl, sym e)
 asked_two_or_one (Some x) n e lt = absurd (omega arith)
 
-lacks_by : (es : List Entry) (set : ℕ → Bool) (ns : List Name) (d : Demand) (us : List ℕ) → SameUids set (is_open (slots_of es)) → IsDemandBy es ns d → UpToThree (ready_of set ns d) us → length us < d.need → Lacks es d.at
+lacks_by : (es : List Entry) (set : ℕ → Bool) (ns : List Mention) (d : Demand) (us : List ℕ) → SameUids set (is_open (slots_of es)) → IsDemandBy es ns d → UpToThree (ready_of set ns d) us → length us < d.need → Lacks es d.at
 lacks_by es set ns d us same h found few =
     let all = found_answers es set ns d us same h found in
     ⊎_elim
@@ -81,7 +81,7 @@ lacks_by es set ns d us same h found few =
 pub some_is : (o : Option ℕ) (P : ℕ → Type 0) (x : ℕ) → o ≡ Some x → IfSome o P → P x
 some_is o P x e h = subst (λ (r : Option ℕ). IfSome r P) e h
 
-pub unmet_lacks : (es : List Entry) (set : ℕ → Bool) (ns : List Name) (ds : List Demand) (at : ℕ) → SameUids set (is_open (slots_of es)) → All (IsDemandBy es ns) ds → IsUnmetAt set ns ds at → Lacks es at
+pub unmet_lacks : (es : List Entry) (set : ℕ → Bool) (ns : List Mention) (ds : List Demand) (at : ℕ) → SameUids set (is_open (slots_of es)) → All (IsDemandBy es ns) ds → IsUnmetAt set ns ds at → Lacks es at
 unmet_lacks es set ns ds at same h w =
     let d : Demand = w.1 in
     let unmet : IsUnmet set ns d = w.4.1 in
@@ -130,7 +130,7 @@ met_found es ds k d f old now new below is all at need h = subst (AreMetTo es ds
 })
 
 -- from the last demand back
-met_from : (es : List Entry) (ns : List Name) (ds : List Demand) (old new : List Found) → All (IsDemandBy es ns) ds → AreMetTo es ds (length ds) old new → (left j : ℕ) (d : Demand) → length ds ≤ j + left → j < length ds → Any (λ (f : Found). Meets es f (get_or ds j d).at) new
+met_from : (es : List Entry) (ns : List Mention) (ds : List Demand) (old new : List Found) → All (IsDemandBy es ns) ds → AreMetTo es ds (length ds) old new → (left j : ℕ) (d : Demand) → length ds ≤ j + left → j < length ds → Any (λ (f : Found). Meets es f (get_or ds j d).at) new
 met_from es ns ds old new h m zero j d far below = absurd (omega arith)
 met_from es ns ds old new h m (suc left) j d far below =
     ⊎_elim
@@ -140,7 +140,7 @@ met_from es ns ds old new h m (suc left) j d far below =
     (next.0, next.1, next.2, next.3, meets_again es ns (get_or ds j d) (get_or ds (j + 1) d) next.1 (h j d below) (h (j + 1) d again.0) (again.1 d) next.4))
     (m.met j d below)
 
-pub met_all : (es : List Entry) (ns : List Name) (ds : List Demand) (k : ℕ) (old new : List Found) → All (IsDemandBy es ns) ds → k ≡ length ds → AreMetTo es ds k old new → AreMet es ds old new
+pub met_all : (es : List Entry) (ns : List Mention) (ds : List Demand) (k : ℕ) (old new : List Found) → All (IsDemandBy es ns) ds → k ≡ length ds → AreMetTo es ds k old new → AreMet es ds old new
 met_all es ns ds k old new h end m =
     let all = subst (λ n. AreMetTo es ds n old new) end m in
     record {
@@ -259,7 +259,7 @@ kept_first es = record {
 pub kept_cycle : (es : List Entry) (i : ℕ) (ss : List Stretch) (e : Entry) → slice_get es i ≡ Some e → needs e ≡ 0 → AreKept es i ss → AreKept es (i + 1) ss
 kept_cycle es i ss e k none h = record {
   kept = λ n s below. let it = h.kept n s below in record {
-    names = it.names;
+    mentions = it.mentions;
     blocks = it.blocks;
     places = λ m d inside. let lt = it.places m d inside in omega arith;
     demands = it.demands;
@@ -293,8 +293,8 @@ needs_agree (suc n) es fs agree =
     let before = needs_agree n es fs (λ j below. agree j (omega arith)) in
     omega arith
 
--- whoever answers by the names answers
-demand_by : (es : List Entry) (i : ℕ) (ns : List Name) (d : Demand) → ((u : ℕ) → IsUid u → is_quiet_by ns (mirror u) d.at ≡ is_quiet es d.at u) → (from : ℕ) → IsDemand es from i d → IsDemandBy es ns d
+-- whoever answers by the mentions answers
+demand_by : (es : List Entry) (i : ℕ) (ns : List Mention) (d : Demand) → ((u : ℕ) → IsUid u → is_quiet_by ns (mirror u) d.at ≡ is_quiet es d.at u) → (from : ℕ) → IsDemand es from i d → IsDemandBy es ns d
 demand_by es i ns d quiet from h = record {
   asked = h.asked;
   need = h.need;
@@ -303,7 +303,7 @@ demand_by es i ns d quiet from h = record {
       ∙ ap (λ b. lies_in_some (mask_at es d.at) u && not b) (quiet u w);
 }
 
-demand_agrees : (es fs : List Entry) (cut : ℕ) (ns : List Name) (d : Demand) → AgreeBefore cut fs es → d.at < cut → IsDemandBy es ns d → IsDemandBy fs ns d
+demand_agrees : (es fs : List Entry) (cut : ℕ) (ns : List Mention) (d : Demand) → AgreeBefore cut fs es → d.at < cut → IsDemandBy es ns d → IsDemandBy fs ns d
 demand_agrees es fs cut ns d agree below h = record {
   asked = h.asked;
   need = ap needs_of (agree d.at below) ∙ h.need;
@@ -312,12 +312,12 @@ demand_agrees es fs cut ns d agree below h = record {
 
 kept_agree : (es fs : List Entry) (i cut : ℕ) (s : Stretch) → AgreeBefore cut fs es → i ≤ cut → IsKept es i s → IsKept fs cut s
 kept_agree es fs i cut s agree le h = record {
-  names = h.names;
+  mentions = h.mentions;
   blocks = h.blocks;
   places = λ k d below. let lt = h.places k d below in omega arith;
   demands = λ k d below.
       let lt = h.places k d below in
-      demand_agrees es fs cut s.names.items (get_or s.demands.items k d) agree (omega arith) (h.demands k d below);
+      demand_agrees es fs cut s.mentions.items (get_or s.demands.items k d) agree (omega arith) (h.demands k d below);
 }
 
 -- a demand of a position before the cut is one of those up to it
@@ -330,7 +330,7 @@ asked_to cut j (d ∷ ds) below = go (nat_lt d.at cut) refl (asked_to cut j ds b
     go false e rest = grind (arith, nat_tests)
 
 -- the demands of a stretch up to a cut are kept
-pub kept_to : (es fs : List Entry) (from i cut : ℕ) (ns ms : List Name) (ds : List Demand) (old new : List Stretch) → AgreeBefore cut fs es → from ≤ cut → cut ≤ i → HaveKeys ns → ((j u : ℕ) → from ≤ j → j ≤ i → IsUid u → is_quiet_by ns (mirror u) j ≡ is_quiet es j u) → ArePutInOrder ns ms → Keeps ms ds cut old new → AreAsked es from i ds → AreKept es from old → AreKept fs cut new
+pub kept_to : (es fs : List Entry) (from i cut : ℕ) (ns ms : List Mention) (ds : List Demand) (old new : List Stretch) → AgreeBefore cut fs es → from ≤ cut → cut ≤ i → HaveKeys ns → ((j u : ℕ) → from ≤ j → j ≤ i → IsUid u → is_quiet_by ns (mirror u) j ≡ is_quiet es j u) → ArePutInOrder ns ms → Keeps ms ds cut old new → AreAsked es from i ds → AreKept es from old → AreKept fs cut new
 kept_to es fs from i cut ns ms ds old new agree since upto keys quiet order keeps h before = ⊎_elim none some keeps
   where
     old_kept : All (IsKept fs cut) old
@@ -370,10 +370,10 @@ kept_to es fs from i cut ns ms ds old new agree since upto keys quiet order keep
       few = let few = few_before in omega arith;
     })
 
-    some : (s : Stretch) × (new ≡ old ++ s ∷ []) × (s.names.items ≡ ms) × IsPermutation (demands_to cut ds) s.demands.items → AreKept fs cut new
+    some : (s : Stretch) × (new ≡ old ++ s ∷ []) × (s.mentions.items ≡ ms) × IsPermutation (demands_to cut ds) s.demands.items → AreKept fs cut new
     some w = subst (AreKept fs cut) (sym w.1) (record {
       kept = All-push (IsKept fs cut) old w.0 old_kept (record {
-        names = record { order = subst AreInOrder (sym w.2) order.order; keys = subst HaveKeys (sym w.2) (order.keys keys) };
+        mentions = record { order = subst AreInOrder (sym w.2) order.order; keys = subst HaveKeys (sym w.2) (order.keys keys) };
         blocks = All-permutation HasBlock (demands_to cut ds) w.0.demands.items w.3 are_blocks;
         places = All-permutation (λ (d : Demand). d.at < cut) (demands_to cut ds) w.0.demands.items w.3 early;
         demands = subst (λ xs. All (IsDemandBy fs xs) w.0.demands.items) (sym w.2) (All-permutation (IsDemandBy fs ms) (demands_to cut ds) w.0.demands.items w.3 told);
@@ -391,8 +391,8 @@ kept_to es fs from i cut ns ms ds old new agree since upto keys quiet order keep
           omega arith;
     })
 
-pub kept_in_order : (es : List Entry) (i : ℕ) (ss : List Stretch) → AreKept es i ss → All HasNamesInOrder ss
-kept_in_order es i ss h k s below = (h.kept k s below).names
+pub kept_in_order : (es : List Entry) (i : ℕ) (ss : List Stretch) → AreKept es i ss → All HasMentionsInOrder ss
+kept_in_order es i ss h k s below = (h.kept k s below).mentions
 
 pub kept_blocks : (es : List Entry) (i : ℕ) (ss : List Stretch) → AreKept es i ss → All HasBlocks ss
 kept_blocks es i ss h k s below = (h.kept k s below).blocks

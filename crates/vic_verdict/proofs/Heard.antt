@@ -1,15 +1,15 @@
 -- Whether the UIDs that were heard could have answered, from position to position.
 use Rattle.std.proofs.Common.{◌≡◌, ℕ, ◌+◌, ◌<◌, ◌++◌, ◌==◌, List, [], ◌∷◌, take, drop, ◌≤◌, Bool, true, false, not, ◌&&◌, Some, refl, sym, ap, ◌∙◌, subst, arith, inl, inr, slice_get, Any, ◌⊎◌, if◌then◌else◌, All, IsPermutation, take-append-drop, eq-eqb, eqb-true}
-use Rattle.vic_verdict.proofs.Words.{not_from_false, Spot, Demand, Any-from_list_any, list_any, list_any-IsPermutation, cases_lt, and_parts, and_from, both_ways, false_from_ne_true, nat_tests, list_any_at, slice_get_within, IsUid, is_uid, mirror, Reply, Entry, Collision, Heard, Garbled, mask_at, lies_in_some, is_quiet, answers_at, reading_of, slots_of, is_open, answers_agree, IsUid-from, Name, IsPossible, IsContradictedAt, answering, needs, reply_place, IsFirstQuietReply, is_quiet_by}
+use Rattle.vic_verdict.proofs.Words.{not_from_false, ReadSlot, Demand, Any-from_list_any, list_any, list_any-IsPermutation, cases_lt, and_parts, and_from, both_ways, false_from_ne_true, nat_tests, list_any_at, slice_get_within, IsUid, is_uid, mirror, Reply, Entry, Collision, Heard, Garbled, mask_at, lies_in_some, is_quiet, answers_at, reading_of, slots_of, is_open, answers_agree, IsUid-from, Mention, IsPossible, IsContradictedAt, answering, needs, reply_place, IsFirstQuietReply, is_quiet_by}
 use Rattle.std.proofs.lemmas.List.Sorted.{IsPermutation-sym}
 use Rattle.std.proofs.lemmas.List.Elements.{All-weaker}
 use Rattle.vic_log.proofs.Places.{agree_upto}
 use Rattle.vic_verdict.proofs.Entries.{EntryAsks}
 use Rattle.vic_verdict.specs.inner.Replies.{Answers, is_quiet_reply, IsQuietReply}
-use Rattle.vic_verdict.specs.inner.Stretches.{HasGathered, names_from}
+use Rattle.vic_verdict.specs.inner.Stretches.{HasGathered, mentions_from}
 use Rattle.vic_verdict.proofs.Silencing.{silenced_permuted}
 use Rattle.vic_verdict.proofs.Lacking.{taken}
-use Rattle.vic_verdict.proofs.Naming.{IsReplyOf, is_reply_at, names_replies, reply_named}
+use Rattle.vic_verdict.proofs.Mentioning.{IsReplyOf, is_reply_at, mentions_replies, reply_mentioned}
 use Rattle.vic_verdict.proofs.Stretching.{gathered_quiet}
 use Rattle.vic_verdict.proofs.Supplied.{supplied_each}
 
@@ -61,15 +61,15 @@ nobody_there es i e k asks none = record {
 
 -- ---- the position of a reply
 
-none_at_start : (ns : List Name) (k : ℕ) → is_quiet_by ns k 0 ≡ false
+none_at_start : (ns : List Mention) (k : ℕ) → is_quiet_by ns k 0 ≡ false
 none_at_start [] k = refl
 none_at_start (n ∷ ns) k = grind (arith, nat_tests, none_at_start ns k)
 
-place_of : (n : Name) → n.is_heard ≡ true → reply_place n ≡ n.at
+place_of : (n : Mention) → n.is_heard ≡ true → reply_place n ≡ n.at
 place_of n e = ap (λ b. if b then n.at else 0) e
 
 -- whoever is Quiet at its reply was heard there
-quiet_place : (ns : List Name) (n : Name) → is_quiet_by ns n.key (reply_place n) ≡ true → n.is_heard ≡ true
+quiet_place : (ns : List Mention) (n : Mention) → is_quiet_by ns n.key (reply_place n) ≡ true → n.is_heard ≡ true
 quiet_place ns n e = go n.is_heard refl
   where
     go : (b : Bool) → n.is_heard ≡ b → n.is_heard ≡ true
@@ -78,8 +78,8 @@ quiet_place ns n e = go n.is_heard refl
 
 -- ---- which UIDs were heard where
 
--- the name is of a UID that was heard before position i, from a position on, in a slot of a mask that it lies in
-pub record IsHeardAt (es : List Entry) (from i : ℕ) (n : Name) : Type 0 where
+-- the mention is of a UID that was heard before position i, from a position on, in a slot of a mask that it lies in
+pub record IsHeardAt (es : List Entry) (from i : ℕ) (n : Mention) : Type 0 where
   pub reply : Reply
   pub heard : slice_get es n.at ≡ Some (Heard reply)
   pub key : n.key ≡ mirror reply.uid
@@ -88,36 +88,36 @@ pub record IsHeardAt (es : List Entry) (from i : ℕ) (n : Name) : Type 0 where
   pub since : from ≤ n.at
   pub before : n.at < i
 
-abbrev HeardIn : List Entry → ℕ → ℕ → Name → Type 0
+abbrev HeardIn : List Entry → ℕ → ℕ → Mention → Type 0
 HeardIn es from i n = n.is_heard ≡ true → IsHeardAt es from i n
 
-abbrev pub IsReplyAt : ℕ → Name → Type 0
+abbrev pub IsReplyAt : ℕ → Mention → Type 0
 IsReplyAt j n = (n.at ≡ j) × (n.is_heard ≡ true)
 
--- the names of a stretch show who is Quiet and who was heard where; the UIDs heard before it answer
-pub record AreHeard (es : List Entry) (from i : ℕ) (ns : List Name) : Type 0 where
+-- the mentions of a stretch show who is Quiet and who was heard where; the UIDs heard before it answer
+pub record AreHeard (es : List Entry) (from i : ℕ) (ns : List Mention) : Type 0 where
   pub begun : from ≤ i
   pub quiet : (j u : ℕ) → from ≤ j → j ≤ i → IsUid u → is_quiet_by ns (mirror u) j ≡ is_quiet es j u
   pub replies : All (HeardIn es from i) ns
   pub answer : (j : ℕ) (r : Reply) → j < i → slice_get es j ≡ Some (Heard r) → Answers es j r.uid ⊎ Any (IsReplyAt j) ns
 
-pub are_heard : (es : List Entry) (from i : ℕ) (ns : List Name) (ss : List Spot) (ds : List Demand) → HasGathered es from i ns ss ds → ((u : ℕ) → is_quiet es from u ≡ false) → ((j : ℕ) (r : Reply) → j < from → slice_get es j ≡ Some (Heard r) → Answers es j r.uid) → AreHeard es from i ns
+pub are_heard : (es : List Entry) (from i : ℕ) (ns : List Mention) (ss : List ReadSlot) (ds : List Demand) → HasGathered es from i ns ss ds → ((u : ℕ) → is_quiet es from u ≡ false) → ((j : ℕ) (r : Reply) → j < from → slice_get es j ≡ Some (Heard r) → Answers es j r.uid) → AreHeard es from i ns
 are_heard es from i ns ss ds h ready before = record {
   begun = h.begun;
   quiet = gathered_quiet es from i ns ss ds h ready;
-  replies = subst (All (HeardIn es from i)) (sym h.names) (All-weaker (λ (n : Name). n.is_heard ≡ true → IsReplyOf es from i n) (HeardIn es from i) (λ n f late.
+  replies = subst (All (HeardIn es from i)) (sym h.mentions) (All-weaker (λ (n : Mention). n.is_heard ≡ true → IsReplyOf es from i n) (HeardIn es from i) (λ n f late.
       let it = f late in
       let w = h.inside n.at it.reply it.since it.before it.heard in
-      record { reply = it.reply; heard = it.heard; key = it.key; is_uid = w.0; inside = w.1; since = it.since; before = it.before }) (names_from es from i) (names_replies es from i));
+      record { reply = it.reply; heard = it.heard; key = it.key; is_uid = w.0; inside = w.1; since = it.since; before = it.before }) (mentions_from es from i) (mentions_replies es from i));
   answer = λ j r lt k. elim (cases_lt j from) [
     | inl early ↦ inl (before j r early k)
-    | inr late ↦ inr (subst (Any (IsReplyAt j)) (sym h.names) (any_reply j _ (Any-from_list_any (is_reply_at j) (names_from es from i) (reply_named es from i j r late lt k))))
+    | inr late ↦ inr (subst (Any (IsReplyAt j)) (sym h.mentions) (any_reply j _ (Any-from_list_any (is_reply_at j) (mentions_from es from i) (reply_mentioned es from i j r late lt k))))
   ];
 } where
-  any_reply : (j : ℕ) (ms : List Name) → Any (λ n. is_reply_at j n ≡ true) ms → Any (IsReplyAt j) ms
+  any_reply : (j : ℕ) (ms : List Mention) → Any (λ n. is_reply_at j n ≡ true) ms → Any (IsReplyAt j) ms
   any_reply j ms w = let p = and_parts (w.1.at == j) w.1.is_heard w.4 in (w.0, w.1, w.2, w.3, (eqb-true w.1.at j p.0, p.1))
 
--- ---- what the names tell
+-- ---- what the mentions tell
 
 -- a reply by a UID that is Quiet there
 record QuietReply (es : List Entry) (from at : ℕ) : Type 0 where
@@ -126,10 +126,10 @@ record QuietReply (es : List Entry) (from at : ℕ) : Type 0 where
   quiet : is_quiet es at reply.uid ≡ true
   since : from ≤ at
 
-quiet_reply : (es : List Entry) (from i at : ℕ) (ns : List Name) → AreHeard es from i ns → IsQuietReply ns at → QuietReply es from at
+quiet_reply : (es : List Entry) (from i at : ℕ) (ns : List Mention) → AreHeard es from i ns → IsQuietReply ns at → QuietReply es from at
 quiet_reply es from i at ns a some =
-    let w = Any-from_list_any (λ (n : Name). (reply_place n == at) && is_quiet_by ns n.key at) ns some in
-    let n : Name = w.1 in
+    let w = Any-from_list_any (λ (n : Mention). (reply_place n == at) && is_quiet_by ns n.key at) ns some in
+    let n : Mention = w.1 in
     let parts = and_parts (reply_place n == at) (is_quiet_by ns n.key at) w.4 in
     let place = eqb-true (reply_place n) at parts.0 in
     let late = quiet_place ns n (subst (λ p. is_quiet_by ns n.key p ≡ true) (sym place) parts.1) in
@@ -142,32 +142,32 @@ quiet_reply es from i at ns a some =
       since = it.since;
     })
 
-pub quiet_contradicts : (es : List Entry) (from i at : ℕ) (ns : List Name) → AreHeard es from i ns → IsQuietReply ns at → IsContradictedAt es at
+pub quiet_contradicts : (es : List Entry) (from i at : ℕ) (ns : List Mention) → AreHeard es from i ns → IsQuietReply ns at → IsContradictedAt es at
 quiet_contradicts es from i at ns a some =
     let it = quiet_reply es from i at ns a some in
     up_to_it es at it.reply it.heard (λ answers. both_ways _ (ap not it.quiet) (and_parts (lies_in_some (mask_at es at) it.reply.uid) (not (is_quiet es at it.reply.uid)) answers).1)
 
 -- the first one is since the last field cycle
-pub quiet_since : (es : List Entry) (from i cut : ℕ) (ns : List Name) → AreHeard es from i ns → IsFirstQuietReply ns i cut → from ≤ cut
+pub quiet_since : (es : List Entry) (from i cut : ℕ) (ns : List Mention) → AreHeard es from i ns → IsFirstQuietReply ns i cut → from ≤ cut
 quiet_since es from i cut ns a first = elim (cases_lt cut i) [
   | inl lt ↦ (quiet_reply es from i cut ns a (first.quiet lt)).since
   | inr ge ↦ omega arith
 ]
 
 -- those before the first one answer
-pub answers_before : (es : List Entry) (from i cut : ℕ) (ns : List Name) → AreHeard es from i ns → ((place : ℕ) → IsQuietReply ns place → cut ≤ place) → (j : ℕ) (r : Reply) → j < i → j < cut → slice_get es j ≡ Some (Heard r) → Answers es j r.uid
+pub answers_before : (es : List Entry) (from i cut : ℕ) (ns : List Mention) → AreHeard es from i ns → ((place : ℕ) → IsQuietReply ns place → cut ≤ place) → (j : ℕ) (r : Reply) → j < i → j < cut → slice_get es j ≡ Some (Heard r) → Answers es j r.uid
 answers_before es from i cut ns a first j r below early k =
     elim (a.answer j r below k) [
       | inl y ↦ y
       | inr w ↦
-          let n : Name = w.1 in
+          let n : Mention = w.1 in
           let late : n.is_heard ≡ true = w.4.1 in
           let at : n.at ≡ j = w.4.0 in
           let place : reply_place n ≡ n.at = place_of n late in
           let it : IsHeardAt es from i n = subst (HeardIn es from i) w.3 (a.replies w.0 n w.2) late in
           let before = it.before in
           let silent : is_quiet_reply ns n ≡ false = false_from_ne_true (is_quiet_reply ns n) (λ quiet.
-          let here : IsQuietReply ns (reply_place n) = list_any_at (λ (m : Name). (reply_place m == reply_place n) && is_quiet_by ns m.key (reply_place n)) ns w.0 n w.2 (subst (λ (m : Name). ((reply_place m == reply_place n) && is_quiet_by ns m.key (reply_place n)) ≡ true) (sym w.3) (and_from (reply_place n == reply_place n) (is_quiet_reply ns n) (eq-eqb (reply_place n) (reply_place n) refl) quiet)) in
+          let here : IsQuietReply ns (reply_place n) = list_any_at (λ (m : Mention). (reply_place m == reply_place n) && is_quiet_by ns m.key (reply_place n)) ns w.0 n w.2 (subst (λ (m : Mention). ((reply_place m == reply_place n) && is_quiet_by ns m.key (reply_place n)) ≡ true) (sym w.3) (and_from (reply_place n == reply_place n) (is_quiet_reply ns n) (eq-eqb (reply_place n) (reply_place n) refl) quiet)) in
           let le : cut ≤ reply_place n = first (reply_place n) here in
           absurd (omega arith)) in
           let awake : is_quiet es n.at it.reply.uid ≡ false = sym (a.quiet n.at it.reply.uid it.since (omega arith) it.is_uid) ∙ (ap (λ key. is_quiet_by ns key n.at) (sym it.key) ∙ (ap (is_quiet_by ns n.key) (sym place) ∙ silent)) in
@@ -179,16 +179,16 @@ answers_before es from i cut ns a first j r below early k =
 
 -- ---- in another order
 
-any_alike : (p q : Name → Bool) → ((n : Name) → p n ≡ q n) → (ns : List Name) → list_any p ns ≡ list_any q ns
+any_alike : (p q : Mention → Bool) → ((n : Mention) → p n ≡ q n) → (ns : List Mention) → list_any p ns ≡ list_any q ns
 any_alike p q h [] = refl
 any_alike p q h (n ∷ ns) = rw (h n, any_alike p q h ns) refl
 
-quiet_permuted : (ns ms : List Name) (at : ℕ) → IsPermutation ns ms → IsQuietReply ms at → IsQuietReply ns at
+quiet_permuted : (ns ms : List Mention) (at : ℕ) → IsPermutation ns ms → IsQuietReply ms at → IsQuietReply ns at
 quiet_permuted ns ms at m e =
     list_any-IsPermutation (λ n. (reply_place n == at) && is_quiet_by ns n.key at) ns ms m
     ∙ (any_alike _ _ (λ n. ap (λ b. (reply_place n == at) && b) (sym (silenced_permuted ns ms n.key at m))) ms ∙ e)
 
-pub first_permuted : (ns ms : List Name) (end at : ℕ) → IsPermutation ns ms → IsFirstQuietReply ms end at → IsFirstQuietReply ns end at
+pub first_permuted : (ns ms : List Mention) (end at : ℕ) → IsPermutation ns ms → IsFirstQuietReply ms end at → IsFirstQuietReply ns end at
 first_permuted ns ms end at m f = record {
   within = f.within;
   quiet = λ lt. quiet_permuted ns ms at m (f.quiet lt);

@@ -31,4 +31,4 @@ pub mod Replying
 pub mod Heard
 pub mod Meeting
 pub mod Settling
-pub mod Naming
+pub mod Mentioning

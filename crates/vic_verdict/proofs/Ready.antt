@@ -1,6 +1,6 @@
--- Which open UIDs answer, by the names.
+-- Which open UIDs answer, by the mentions.
 use Rattle.std.proofs.Common.{take-append-drop, ◌≡◌, ℕ, nat_eq, ◌+◌, ◌-◌, ◌^◌, ◌<◌, ◌≤◌, ◌==◌, ◌++◌, List, [], ◌∷◌, length, take, drop, get_or, Bool, true, false, not, ◌&&◌, ◌||◌, refl, sym, ap, ◌∙◌, subst, arith, inl, inr, ⊎_elim, map, nat_lt, All, eq-eqb, eqb-true, take_all}
-use Rattle.vic_verdict.proofs.Words.{list_any, and_parts, and_from, or_cases, or_left, or_right, both_ways, false≢true, nat_tests, take-map, length-map, get_or-map, All-head, All-tail, All-push, list_any-append, list_any_more, IsUid, is_uid, has, BitMask, lies_in, is_in_block, mirror, uid_of, KeyBlock, uid_of_mirror, IsUid-from, is_uid_from, Gathers, UpToThree, is_between, lt_yes, Name, HasInside, IsReadyIn, is_ready_at, AreInOrder, HaveKeys, has_where, is_named, is_quiet_by, quiet_of}
+use Rattle.vic_verdict.proofs.Words.{list_any, and_parts, and_from, or_cases, or_left, or_right, both_ways, false≢true, nat_tests, take-map, length-map, get_or-map, All-head, All-tail, All-push, list_any-append, list_any_more, IsUid, is_uid, has, BitMask, lies_in, is_in_block, mirror, uid_of, KeyBlock, uid_of_mirror, IsUid-from, is_uid_from, Gathers, UpToThree, is_between, lt_yes, Mention, HasInside, IsReadyIn, is_ready_at, AreInOrder, HaveKeys, has_where, is_mentioned, is_quiet_by, quiet_of}
 use Rattle.std.specs.List.Sorted.{IsNonDecreasing}
 use Rattle.std.proofs.lemmas.List.{drop-map}
 use Rattle.std.proofs.lemmas.List.Sorted.{IsNonDecreasingBy-push}
@@ -8,7 +8,7 @@ use Rattle.vic_frame.specs.LowBitsFirst.{IsKey}
 use Rattle.vic_frame.proofs.MirrorLaws.{mirror_below, mirror_of_uid}
 use Rattle.vic_tree.specs.OpenSet.{in_mask, without_keys}
 use Rattle.vic_tree.proofs.GatheringLaws.{gathers_both, gathers_like}
-use Rattle.vic_verdict.specs.inner.Answering.{AreOpenNames, HasNamedIn, is_answering, is_awake, is_unnamed_in}
+use Rattle.vic_verdict.specs.inner.Answering.{AreOpenMentions, HasMentionedIn, is_answering, is_awake, is_unmentioned_in}
 use Rattle.vic_verdict.proofs.Replying.{tells_own}
 use Rattle.vic_verdict.proofs.Silencing.{silenced_later}
 use Rattle.vic_verdict.proofs.Supplied.{UpToThree-same}
@@ -22,7 +22,7 @@ is_not : (b : Bool) → (b ≡ true → not b ≡ true) → not b ≡ true
 is_not b f = grind (arith, f)
 
 -- the first UIDs found, where none of them is Quiet
-pub first_answering : (set : ℕ → Bool) (ns inside : List Name) (b : KeyBlock) (i : ℕ) (m : BitMask) (us : List ℕ) → ((u : ℕ) → lies_in m u ≡ is_in_block b.first b.len (mirror u)) → ((u : ℕ) → IsUid u → lies_in m u ≡ true → is_quiet_by inside (mirror u) i ≡ is_quiet_by ns (mirror u) i) → UpToThree (in_mask set m []) us → list_any (λ u. is_quiet_by inside (mirror u) i) us ≡ false → UpToThree (is_answering set ns b i) us
+pub first_answering : (set : ℕ → Bool) (ns inside : List Mention) (b : KeyBlock) (i : ℕ) (m : BitMask) (us : List ℕ) → ((u : ℕ) → lies_in m u ≡ is_in_block b.first b.len (mirror u)) → ((u : ℕ) → IsUid u → lies_in m u ≡ true → is_quiet_by inside (mirror u) i ≡ is_quiet_by ns (mirror u) i) → UpToThree (in_mask set m []) us → list_any (λ u. is_quiet_by inside (mirror u) i) us ≡ false → UpToThree (is_answering set ns b i) us
 first_answering set ns inside b i m us same alike h none = record {
   different = h.different;
   members = λ u k.
@@ -54,62 +54,62 @@ found_besides set q b m keys us same tells h = UpToThree-same (in_mask (without_
         ap (λ x. (is_uid u && (set u && not (has keys (mirror u)))) && (x && true)) (same u ∙ e)
         ∙ (neither _ _ ∙ ap (λ x. (is_uid u && set u) && (x && not (q (mirror u)))) (sym e))
 
--- ---- UIDs with a name
+-- ---- UIDs with a mention
 
 pub not_before : (x i : ℕ) → i ≤ x → nat_lt x i ≡ false
 not_before x i le = grind (arith, nat_tests)
 
--- whoever is Quiet has a name
-quiet_named : (ns : List Name) (k i : ℕ) → is_named ns k ≡ false → is_quiet_by ns k i ≡ false
-quiet_named [] k i e = refl
-quiet_named (n ∷ ns) k i e = grind (arith, quiet_named ns k i)
+-- whoever is Quiet has a mention
+quiet_mentioned : (ns : List Mention) (k i : ℕ) → is_mentioned ns k ≡ false → is_quiet_by ns k i ≡ false
+quiet_mentioned [] k i e = refl
+quiet_mentioned (n ∷ ns) k i e = grind (arith, quiet_mentioned ns k i)
 
--- a name with this key lies where all do
-where_between : (p : Name → Bool) (ns : List Name) (first last k : ℕ) → All (λ (n : Name). is_between first last n.key ≡ true) ns → has_where p ns k ≡ true → is_between first last k ≡ true
+-- a mention with this key lies where all do
+where_between : (p : Mention → Bool) (ns : List Mention) (first last k : ℕ) → All (λ (n : Mention). is_between first last n.key ≡ true) ns → has_where p ns k ≡ true → is_between first last k ≡ true
 where_between p [] first last k inside e = absurd (false≢true e)
 where_between p (n ∷ ns) first last k inside e =
-    let here = All-head (λ (m : Name). is_between first last m.key ≡ true) n ns inside in
-    let rest = where_between p ns first last k (All-tail (λ (m : Name). is_between first last m.key ≡ true) n ns inside) in
+    let here = All-head (λ (m : Mention). is_between first last m.key ≡ true) n ns inside in
+    let rest = where_between p ns first last k (All-tail (λ (m : Mention). is_between first last m.key ≡ true) n ns inside) in
     let same = eqb-true n.key k in
     grind arith
 
 -- who is Quiet at a position is so later
-ready_before : (set : ℕ → Bool) (ns : List Name) (from i u : ℕ) (n : Bool) → from ≤ i → (is_ready_at set ns from u && (n && not (is_quiet_by ns (mirror u) i))) ≡ (set u && (n && not (is_quiet_by ns (mirror u) i)))
+ready_before : (set : ℕ → Bool) (ns : List Mention) (from i u : ℕ) (n : Bool) → from ≤ i → (is_ready_at set ns from u && (n && not (is_quiet_by ns (mirror u) i))) ≡ (set u && (n && not (is_quiet_by ns (mirror u) i)))
 ready_before set ns from i u n le = go (set u) n (is_quiet_by ns (mirror u) from) (is_quiet_by ns (mirror u) i) (silenced_later ns (mirror u) from i le)
   where
     go : (a n p q : Bool) → (p ≡ true → q ≡ true) → ((a && not p) && (n && not q)) ≡ (a && (n && not q))
     go a n p q f = grind (arith, f)
 
--- those without a name, and then those with one
-pub both_answering : (set : ℕ → Bool) (ns os inside : List Name) (b : KeyBlock) (from i last : ℕ) (us vs : List ℕ) → from ≤ i → i < 2 ^ 32 → ((k : ℕ) → is_between b.first last k ≡ is_in_block b.first b.len k) → AreOpenNames (is_ready_at set ns from) ns os → ((k : ℕ) → is_between b.first last k ≡ true → has_where (is_awake i) inside k ≡ has_where (is_awake i) os k) → All (λ (n : Name). is_between b.first last n.key ≡ true) inside → UpToThree (is_unnamed_in set ns b) us → Gathers (IsReadyIn inside i) us vs → UpToThree (is_answering set ns b i) vs
+-- those without a mention, and then those with one
+pub both_answering : (set : ℕ → Bool) (ns os inside : List Mention) (b : KeyBlock) (from i last : ℕ) (us vs : List ℕ) → from ≤ i → i < 2 ^ 32 → ((k : ℕ) → is_between b.first last k ≡ is_in_block b.first b.len k) → AreOpenMentions (is_ready_at set ns from) ns os → ((k : ℕ) → is_between b.first last k ≡ true → has_where (is_awake i) inside k ≡ has_where (is_awake i) os k) → All (λ (n : Mention). is_between b.first last n.key ≡ true) inside → UpToThree (is_unmentioned_in set ns b) us → Gathers (IsReadyIn inside i) us vs → UpToThree (is_answering set ns b i) vs
 both_answering set ns os inside b from i last us vs asked small block o alike within h g = record {
   different = g.different h.different;
-  members = λ u k. ⊎_elim (unnamed u) (ready u) (g.only u k);
+  members = λ u k. ⊎_elim (unmentioned u) (ready u) (g.only u k);
   all = λ few u k.
       let w = and_parts (is_uid u && set u) _ k in
       let v = and_parts (is_in_block b.first b.len (mirror u)) (not (is_quiet_by ns (mirror u) i)) w.1 in
       let uid = IsUid-from u (and_parts (is_uid u) (set u) w.0).0 in
-      go few u uid w.0 v.0 v.1 (is_named ns (mirror u)) refl;
+      go few u uid w.0 v.0 v.1 (is_mentioned ns (mirror u)) refl;
 }
   where
-    key_of : (u : ℕ) → IsUid u → has_where (is_awake i) os (mirror u) ≡ (set u && (is_named ns (mirror u) && not (is_quiet_by ns (mirror u) i)))
-    key_of u uid = o.members (mirror u) i (mirror_below 56 u) small ∙ (ap (λ x. is_ready_at set ns from x && (is_named ns (mirror u) && not (is_quiet_by ns (mirror u) i))) (uid_of_mirror u uid) ∙ ready_before set ns from i u _ asked)
+    key_of : (u : ℕ) → IsUid u → has_where (is_awake i) os (mirror u) ≡ (set u && (is_mentioned ns (mirror u) && not (is_quiet_by ns (mirror u) i)))
+    key_of u uid = o.members (mirror u) i (mirror_below 56 u) small ∙ (ap (λ x. is_ready_at set ns from x && (is_mentioned ns (mirror u) && not (is_quiet_by ns (mirror u) i))) (uid_of_mirror u uid) ∙ ready_before set ns from i u _ asked)
 
-    unnamed : (u : ℕ) → has us u ≡ true → is_answering set ns b i u ≡ true
-    unnamed u old =
+    unmentioned : (u : ℕ) → has us u ≡ true → is_answering set ns b i u ≡ true
+    unmentioned u old =
         let w = and_parts (is_uid u && set u) _ (h.members u old) in
-        let v = and_parts (is_in_block b.first b.len (mirror u)) (not (is_named ns (mirror u))) w.1 in
-        let none = quiet_named ns (mirror u) i in
+        let v = and_parts (is_in_block b.first b.len (mirror u)) (not (is_mentioned ns (mirror u))) w.1 in
+        let none = quiet_mentioned ns (mirror u) i in
         and_from _ _ w.0 (and_from _ _ v.0 (grind arith))
 
     ready : (u : ℕ) → IsReadyIn inside i u → is_answering set ns b i u ≡ true
     ready u p =
         let lies = where_between (is_awake i) inside b.first last (mirror u) within p.1 in
         let w = and_parts (set u) _ (sym (key_of u p.0) ∙ (sym (alike (mirror u) lies) ∙ p.1)) in
-        let v = and_parts (is_named ns (mirror u)) (not (is_quiet_by ns (mirror u) i)) w.1 in
+        let v = and_parts (is_mentioned ns (mirror u)) (not (is_quiet_by ns (mirror u) i)) w.1 in
         and_from _ _ (and_from _ _ (is_uid_from u p.0) w.0) (and_from _ _ (sym (block (mirror u)) ∙ lies) v.1)
 
-    go : length vs < 3 → (u : ℕ) → IsUid u → (is_uid u && set u) ≡ true → is_in_block b.first b.len (mirror u) ≡ true → not (is_quiet_by ns (mirror u) i) ≡ true → (c : Bool) → is_named ns (mirror u) ≡ c → has vs u ≡ true
+    go : length vs < 3 → (u : ℕ) → IsUid u → (is_uid u && set u) ≡ true → is_in_block b.first b.len (mirror u) ≡ true → not (is_quiet_by ns (mirror u) i) ≡ true → (c : Bool) → is_mentioned ns (mirror u) ≡ c → has vs u ≡ true
     go few u uid there lies awake true e =
         let here : has_where (is_awake i) os (mirror u) ≡ true = key_of u uid ∙ and_from _ _ (and_parts (is_uid u) (set u) there).1 (and_from _ _ e awake) in
         g.all few u (uid, alike (mirror u) (block (mirror u) ∙ lies) ∙ here)
@@ -117,16 +117,16 @@ both_answering set ns os inside b from i last us vs asked small block o alike wi
         let more = g.longer in
         g.keeps u (h.all (omega (arith, few)) u (and_from _ _ there (and_from _ _ lies (ap not e))))
 
--- ---- a name for each open UID that has one
+-- ---- a mention for each open UID that has one
 
--- they are those of the first i names
-pub record AreOpenTo (set : ℕ → Bool) (ns : List Name) (i : ℕ) (os : List Name) : Type 0 where
+-- they are those of the first i mentions
+pub record AreOpenTo (set : ℕ → Bool) (ns : List Mention) (i : ℕ) (os : List Mention) : Type 0 where
   pub order : AreInOrder os
   pub keys : HaveKeys os
-  pub lower : All (λ (o : Name). (j : ℕ) → i ≤ j → j < length ns → o.key ≤ (get_or ns j nobody).key) os
-  pub members : (k j : ℕ) → IsKey k → j < 2 ^ 32 → has_where (is_awake j) os k ≡ (set (uid_of k) && (is_named (take i ns) k && not (is_quiet_by ns k j)))
+  pub lower : All (λ (o : Mention). (j : ℕ) → i ≤ j → j < length ns → o.key ≤ (get_or ns j nobody).key) os
+  pub members : (k j : ℕ) → IsKey k → j < 2 ^ 32 → has_where (is_awake j) os k ≡ (set (uid_of k) && (is_mentioned (take i ns) k && not (is_quiet_by ns k j)))
 
-pub open_first : (set : ℕ → Bool) (ns : List Name) → AreOpenTo set ns 0 []
+pub open_first : (set : ℕ → Bool) (ns : List Mention) → AreOpenTo set ns 0 []
 open_first set ns = record {
   order = λ i j d le lt. absurd (omega arith);
   keys = λ i d lt. absurd (omega arith);
@@ -134,33 +134,33 @@ open_first set ns = record {
   members = λ k j small early. grind arith;
 }
 
-later : (set : ℕ → Bool) (ns : List Name) (i : ℕ) (os : List Name) → AreOpenTo set ns i os → All (λ (o : Name). (j : ℕ) → i + 1 ≤ j → j < length ns → o.key ≤ (get_or ns j nobody).key) os
+later : (set : ℕ → Bool) (ns : List Mention) (i : ℕ) (os : List Mention) → AreOpenTo set ns i os → All (λ (o : Mention). (j : ℕ) → i + 1 ≤ j → j < length ns → o.key ≤ (get_or ns j nobody).key) os
 later set ns i os h n d lt j le more = h.lower n d lt j (omega arith) more
 
-named_next : (ns : List Name) (i k : ℕ) → i < length ns → is_named (take (i + 1) ns) k ≡ (is_named (take i ns) k || ((get_or ns i nobody).key == k))
-named_next ns i k below = list_any_more (λ (n : Name). n.key == k) ns i nobody below
+mentioned_next : (ns : List Mention) (i k : ℕ) → i < length ns → is_mentioned (take (i + 1) ns) k ≡ (is_mentioned (take i ns) k || ((get_or ns i nobody).key == k))
+mentioned_next ns i k below = list_any_more (λ (n : Mention). n.key == k) ns i nobody below
 
--- a name of the same UID as the one before
-pub open_same : (set : ℕ → Bool) (ns : List Name) (i : ℕ) (os : List Name) → AreInOrder ns → 0 < i → i < length ns → (get_or ns i nobody).key ≤ (get_or ns (i - 1) nobody).key → AreOpenTo set ns i os → AreOpenTo set ns (i + 1) os
+-- a mention of the same UID as the one before
+pub open_same : (set : ℕ → Bool) (ns : List Mention) (i : ℕ) (os : List Mention) → AreInOrder ns → 0 < i → i < length ns → (get_or ns i nobody).key ≤ (get_or ns (i - 1) nobody).key → AreOpenTo set ns i os → AreOpenTo set ns (i + 1) os
 open_same set ns i os up some below le h = record {
   order = h.order;
   keys = h.keys;
   lower = later set ns i os h;
-  members = λ k j small early. h.members k j small early ∙ ap (λ b. set (uid_of k) && (b && not (is_quiet_by ns k j))) (sym (named_next ns i k below ∙ go k));
+  members = λ k j small early. h.members k j small early ∙ ap (λ b. set (uid_of k) && (b && not (is_quiet_by ns k j))) (sym (mentioned_next ns i k below ∙ go k));
 }
   where
-    before : (k : ℕ) → (get_or ns i nobody).key ≡ k → is_named (take i ns) k ≡ true
+    before : (k : ℕ) → (get_or ns i nobody).key ≡ k → is_mentioned (take i ns) k ≡ true
     before k e =
         let over = up (i - 1) i nobody (omega arith) below in
         let back : i - 1 + 1 ≡ i = omega arith in
         let same : (get_or ns (i - 1) nobody).key ≡ k = omega (arith, e) in
-        subst (λ n. is_named (take n ns) k ≡ true) back (named_next ns (i - 1) k (omega arith) ∙ or_right _ _ (eq-eqb _ _ same))
+        subst (λ n. is_mentioned (take n ns) k ≡ true) back (mentioned_next ns (i - 1) k (omega arith) ∙ or_right _ _ (eq-eqb _ _ same))
 
-    go : (k : ℕ) → (is_named (take i ns) k || ((get_or ns i nobody).key == k)) ≡ is_named (take i ns) k
+    go : (k : ℕ) → (is_mentioned (take i ns) k || ((get_or ns i nobody).key == k)) ≡ is_mentioned (take i ns) k
     go k = grind (arith, nat_tests, before k)
 
 -- a UID that isn't open
-pub open_other : (set : ℕ → Bool) (ns : List Name) (i : ℕ) (os : List Name) → i < length ns → set (uid_of (get_or ns i nobody).key) ≡ false → AreOpenTo set ns i os → AreOpenTo set ns (i + 1) os
+pub open_other : (set : ℕ → Bool) (ns : List Mention) (i : ℕ) (os : List Mention) → i < length ns → set (uid_of (get_or ns i nobody).key) ≡ false → AreOpenTo set ns i os → AreOpenTo set ns (i + 1) os
 open_other set ns i os below closed h = record {
   order = h.order;
   keys = h.keys;
@@ -168,41 +168,41 @@ open_other set ns i os below closed h = record {
   members = λ k j small early. h.members k j small early ∙ go k j;
 }
   where
-    go : (k j : ℕ) → (set (uid_of k) && (is_named (take i ns) k && not (is_quiet_by ns k j))) ≡ (set (uid_of k) && (is_named (take (i + 1) ns) k && not (is_quiet_by ns k j)))
-    go k j = let next = named_next ns i k below in grind (arith, nat_tests)
+    go : (k j : ℕ) → (set (uid_of k) && (is_mentioned (take i ns) k && not (is_quiet_by ns k j))) ≡ (set (uid_of k) && (is_mentioned (take (i + 1) ns) k && not (is_quiet_by ns k j)))
+    go k j = let next = mentioned_next ns i k below in grind (arith, nat_tests)
 
 -- one that is
-pub open_more : (set : ℕ → Bool) (ns : List Name) (i : ℕ) (os new : List Name) (o : Name) → AreInOrder ns → HaveKeys ns → i < length ns → o.key ≡ (get_or ns i nobody).key → set (uid_of o.key) ≡ true → ((j : ℕ) → j < 2 ^ 32 → nat_lt (quiet_of o) j ≡ is_quiet_by ns o.key j) → new ≡ os ++ o ∷ [] → AreOpenTo set ns i os → AreOpenTo set ns (i + 1) new
+pub open_more : (set : ℕ → Bool) (ns : List Mention) (i : ℕ) (os new : List Mention) (o : Mention) → AreInOrder ns → HaveKeys ns → i < length ns → o.key ≡ (get_or ns i nobody).key → set (uid_of o.key) ≡ true → ((j : ℕ) → j < 2 ^ 32 → nat_lt (quiet_of o) j ≡ is_quiet_by ns o.key j) → new ≡ os ++ o ∷ [] → AreOpenTo set ns i os → AreOpenTo set ns (i + 1) new
 open_more set ns i os new o up small below key there quiet is h = subst (AreOpenTo set ns (i + 1)) (sym is) (record {
-  order = IsNonDecreasingBy-push (λ (n : Name). n.key) os o h.order (λ d some. let low = h.lower (length os - 1) d (omega arith) i (omega arith) below in omega arith);
-  keys = All-push (λ (n : Name). n.key < 2 ^ 56) os o h.keys (let one = small i nobody below in omega (arith, one));
-  lower = All-push (λ (n : Name). (j : ℕ) → i + 1 ≤ j → j < length ns → n.key ≤ (get_or ns j nobody).key) os o (later set ns i os h) (λ j le more. let over = up i j nobody (omega arith) more in omega arith);
+  order = IsNonDecreasingBy-push (λ (n : Mention). n.key) os o h.order (λ d some. let low = h.lower (length os - 1) d (omega arith) i (omega arith) below in omega arith);
+  keys = All-push (λ (n : Mention). n.key < 2 ^ 56) os o h.keys (let one = small i nobody below in omega (arith, one));
+  lower = All-push (λ (n : Mention). (j : ℕ) → i + 1 ≤ j → j < length ns → n.key ≤ (get_or ns j nobody).key) os o (later set ns i os h) (λ j le more. let over = up i j nobody (omega arith) more in omega arith);
   members = λ k j key_small early.
-      list_any-append (λ (n : Name). (n.key == k) && is_awake j n) os (o ∷ [])
+      list_any-append (λ (n : Mention). (n.key == k) && is_awake j n) os (o ∷ [])
       ∙ (ap (λ b. b || (((o.key == k) && is_awake j o) || false)) (h.members k j key_small early)
-      ∙ (one (set (uid_of k)) (is_named (take i ns) k) (is_quiet_by ns k j) (o.key == k) (is_awake j o) (λ e. subst (λ x. set (uid_of x) ≡ true) (eqb-true _ _ e) there) (λ e. ap not (quiet j early ∙ ap (λ x. is_quiet_by ns x j) (eqb-true o.key k e)))
-      ∙ ap (λ b. set (uid_of k) && (b && not (is_quiet_by ns k j))) (ap (λ x. is_named (take i ns) k || (x == k)) key ∙ sym (named_next ns i k below))));
+      ∙ (one (set (uid_of k)) (is_mentioned (take i ns) k) (is_quiet_by ns k j) (o.key == k) (is_awake j o) (λ e. subst (λ x. set (uid_of x) ≡ true) (eqb-true _ _ e) there) (λ e. ap not (quiet j early ∙ ap (λ x. is_quiet_by ns x j) (eqb-true o.key k e)))
+      ∙ ap (λ b. set (uid_of k) && (b && not (is_quiet_by ns k j))) (ap (λ x. is_mentioned (take i ns) k || (x == k)) key ∙ sym (mentioned_next ns i k below))));
 })
   where
     one : (a n q e r : Bool) → (e ≡ true → a ≡ true) → (e ≡ true → r ≡ not q) → ((a && (n && not q)) || ((e && r) || false)) ≡ (a && ((n || e) && not q))
     one a n q e r f g = grind (arith, f, g)
 
--- whether a UID with a key is one of a set and isn't Quiet at a position, by its own names
-pub ready_key : (set : ℕ → Bool) (ns own : List Name) (from key quiet : ℕ) → IsKey key → All (λ (n : Name). is_between key key n.key ≡ true) own → ((test : Name → Bool) (k : ℕ) → is_between key key k ≡ true → has_where test own k ≡ has_where test ns k) → nat_lt quiet from ≡ list_any (λ (n : Name). nat_lt (quiet_of n) from) own → is_ready_at set ns from (uid_of key) ≡ (set (uid_of key) && not (nat_lt quiet from))
+-- whether a UID with a key is one of a set and isn't Quiet at a position, by its own mentions
+pub ready_key : (set : ℕ → Bool) (ns own : List Mention) (from key quiet : ℕ) → IsKey key → All (λ (n : Mention). is_between key key n.key ≡ true) own → ((test : Mention → Bool) (k : ℕ) → is_between key key k ≡ true → has_where test own k ≡ has_where test ns k) → nat_lt quiet from ≡ list_any (λ (n : Mention). nat_lt (quiet_of n) from) own → is_ready_at set ns from (uid_of key) ≡ (set (uid_of key) && not (nat_lt quiet from))
 ready_key set ns own from key quiet small inside all first = ap (λ k. set (uid_of key) && not (is_quiet_by ns k from)) (mirror_of_uid key small) ∙ ap (λ b. set (uid_of key) && not b) (tells_own ns own key quiet from inside all first)
 
-pub open_all : (set : ℕ → Bool) (ns : List Name) (i : ℕ) (os : List Name) → length ns ≤ i → AreOpenTo set ns i os → AreOpenNames set ns os
+pub open_all : (set : ℕ → Bool) (ns : List Mention) (i : ℕ) (os : List Mention) → length ns ≤ i → AreOpenTo set ns i os → AreOpenMentions set ns os
 open_all set ns i os end h = record {
   order = h.order;
   keys = h.keys;
-  members = λ k j small early. h.members k j small early ∙ ap (λ ms. set (uid_of k) && (is_named ms k && not (is_quiet_by ns k j))) (take_all i ns end);
+  members = λ k j small early. h.members k j small early ∙ ap (λ ms. set (uid_of k) && (is_mentioned ms k && not (is_quiet_by ns k j))) (take_all i ns end);
 }
 
--- ---- the keys of names
+-- ---- the keys of mentions
 
-pub keys_named : (ns : List Name) (k : ℕ) → has (map (λ (n : Name). n.key) ns) k ≡ is_named ns k
-keys_named [] k = refl
-keys_named (n ∷ ns) k = grind (arith, nat_tests, keys_named ns k)
+pub keys_mentioned : (ns : List Mention) (k : ℕ) → has (map (λ (n : Mention). n.key) ns) k ≡ is_mentioned ns k
+keys_mentioned [] k = refl
+keys_mentioned (n ∷ ns) k = grind (arith, nat_tests, keys_mentioned ns k)
 
 -- ---- gathering
 
@@ -233,8 +233,8 @@ inside_other us old i x first last below is outside g =
 pub inside_so_far : (us : List ℕ) (i first last u : ℕ) → HasInside (take i us) first last u → HasInside us first last u
 inside_so_far us i first last u p = (any_taken (nat_eq u) us i p.0, p.1)
 
--- a name more, whose UID isn't Quiet
-pub ready_more : (ns : List Name) (old now new : List ℕ) (i x at : ℕ) → i < length ns → IsUid x → mirror x ≡ (get_or ns i nobody).key → at ≤ quiet_of (get_or ns i nobody) → Gathers (IsReadyIn (take i ns) at) old now → Gathers (λ u. (u ≡ x) × (has [] u ≡ false)) now new → Gathers (IsReadyIn (take (i + 1) ns) at) old new
+-- a mention more, whose UID isn't Quiet
+pub ready_more : (ns : List Mention) (old now new : List ℕ) (i x at : ℕ) → i < length ns → IsUid x → mirror x ≡ (get_or ns i nobody).key → at ≤ quiet_of (get_or ns i nobody) → Gathers (IsReadyIn (take i ns) at) old now → Gathers (λ u. (u ≡ x) × (has [] u ≡ false)) now new → Gathers (IsReadyIn (take (i + 1) ns) at) old new
 ready_more ns old now new i x at below uid key awake g h =
     gathers_both (IsReadyIn (take i ns) at) (λ u. (u ≡ x) × (has [] u ≡ false)) (IsReadyIn (take (i + 1) ns) at) old now new
     (λ u p. (p.0, more (mirror u) ∙ or_left _ _ p.1))
@@ -243,10 +243,10 @@ ready_more ns old now new i x at below uid key awake g h =
     g h
   where
     more : (k : ℕ) → has_where (is_awake at) (take (i + 1) ns) k ≡ (has_where (is_awake at) (take i ns) k || (((get_or ns i nobody).key == k) && is_awake at (get_or ns i nobody)))
-    more k = list_any_more (λ (n : Name). (n.key == k) && is_awake at n) ns i nobody below
+    more k = list_any_more (λ (n : Mention). (n.key == k) && is_awake at n) ns i nobody below
 
 -- or is
-pub ready_other : (ns : List Name) (old now : List ℕ) (i at : ℕ) → i < length ns → quiet_of (get_or ns i nobody) < at → Gathers (IsReadyIn (take i ns) at) old now → Gathers (IsReadyIn (take (i + 1) ns) at) old now
+pub ready_other : (ns : List Mention) (old now : List ℕ) (i at : ℕ) → i < length ns → quiet_of (get_or ns i nobody) < at → Gathers (IsReadyIn (take i ns) at) old now → Gathers (IsReadyIn (take (i + 1) ns) at) old now
 ready_other ns old now i at below quiet g =
     gathers_like (IsReadyIn (take i ns) at) (IsReadyIn (take (i + 1) ns) at) old now
     (λ u p. (p.0, more (mirror u) ∙ or_left _ _ p.1))
@@ -254,39 +254,39 @@ ready_other ns old now i at below quiet g =
     g
   where
     more : (k : ℕ) → has_where (is_awake at) (take (i + 1) ns) k ≡ (has_where (is_awake at) (take i ns) k || (((get_or ns i nobody).key == k) && is_awake at (get_or ns i nobody)))
-    more k = list_any_more (λ (n : Name). (n.key == k) && is_awake at n) ns i nobody below
+    more k = list_any_more (λ (n : Mention). (n.key == k) && is_awake at n) ns i nobody below
 
-pub ready_so_far : (ns : List Name) (i at u : ℕ) → IsReadyIn (take i ns) at u → IsReadyIn ns at u
-ready_so_far ns i at u p = (p.0, any_taken (λ (n : Name). (n.key == mirror u) && is_awake at n) ns i p.1)
+pub ready_so_far : (ns : List Mention) (i at u : ℕ) → IsReadyIn (take i ns) at u → IsReadyIn ns at u
+ready_so_far ns i at u p = (p.0, any_taken (λ (n : Mention). (n.key == mirror u) && is_awake at n) ns i p.1)
 
--- ---- the keys of the names of a block
+-- ---- the keys of the mentions of a block
 
 -- a part of the keys is the keys of a part
-pub keys_part : (ns inside : List Name) (ks part : List ℕ) (s e : ℕ) → ks ≡ map (λ (n : Name). n.key) ns → inside ≡ take (length inside) (drop s ns) → e ≡ s + length inside → part ≡ take (e - s) (drop s ks) → part ≡ map (λ (n : Name). n.key) inside
+pub keys_part : (ns inside : List Mention) (ks part : List ℕ) (s e : ℕ) → ks ≡ map (λ (n : Mention). n.key) ns → inside ≡ take (length inside) (drop s ns) → e ≡ s + length inside → part ≡ take (e - s) (drop s ks) → part ≡ map (λ (n : Mention). n.key) inside
 keys_part ns inside ks part s e keys place end is =
     is
     ∙ ap (λ n. take n (drop s ks)) (let n : e - s ≡ length inside = omega arith in n)
     ∙ ap (λ xs. take (length inside) (drop s xs)) keys
-    ∙ ap (take (length inside)) (drop-map (λ (n : Name). n.key) s ns)
-    ∙ take-map (λ (n : Name). n.key) (length inside) (drop s ns)
-    ∙ ap (map (λ (n : Name). n.key)) (sym place)
+    ∙ ap (take (length inside)) (drop-map (λ (n : Mention). n.key) s ns)
+    ∙ take-map (λ (n : Mention). n.key) (length inside) (drop s ns)
+    ∙ ap (map (λ (n : Mention). n.key)) (sym place)
 
-pub keys_order : (ns : List Name) → AreInOrder ns → IsNonDecreasing (map (λ (n : Name). n.key) ns)
+pub keys_order : (ns : List Mention) → AreInOrder ns → IsNonDecreasing (map (λ (n : Mention). n.key) ns)
 keys_order ns up i j d le lt =
-    let long = length-map ns (λ (n : Name). n.key) in
+    let long = length-map ns (λ (n : Mention). n.key) in
     let below : j < length ns = omega arith in
     let a = at i (omega arith) in
     let b = at j lt in
     let over = up i j nobody le below in
     omega arith
   where
-    at : (n : ℕ) → n < length (map (λ (m : Name). m.key) ns) → get_or (map (λ (m : Name). m.key) ns) n d ≡ (get_or ns n nobody).key
-    at n lt = get_or-map (λ (m : Name). m.key) ns n nobody d (let long = length-map ns (λ (m : Name). m.key) in omega arith)
+    at : (n : ℕ) → n < length (map (λ (m : Mention). m.key) ns) → get_or (map (λ (m : Mention). m.key) ns) n d ≡ (get_or ns n nobody).key
+    at n lt = get_or-map (λ (m : Mention). m.key) ns n nobody d (let long = length-map ns (λ (m : Mention). m.key) in omega arith)
 
-pub named_where : (ns : List Name) (k : ℕ) → has_where (λ n. true) ns k ≡ is_named ns k
-named_where [] k = refl
-named_where (n ∷ ns) k = grind (arith, named_where ns k)
+pub mentioned_where : (ns : List Mention) (k : ℕ) → has_where (λ n. true) ns k ≡ is_mentioned ns k
+mentioned_where [] k = refl
+mentioned_where (n ∷ ns) k = grind (arith, mentioned_where ns k)
 
-pub named_in : (ns inside : List Name) (b : KeyBlock) (last : ℕ) (keys : List ℕ) → ((k : ℕ) → is_between b.first last k ≡ is_in_block b.first b.len k) → ((test : Name → Bool) (k : ℕ) → is_between b.first last k ≡ true → has_where test inside k ≡ has_where test ns k) → keys ≡ map (λ (n : Name). n.key) inside → HasNamedIn ns b keys
-named_in ns inside b last keys block all is k lies =
-    ap (λ ks. has ks k) is ∙ (keys_named inside k ∙ (sym (named_where inside k) ∙ (all (λ n. true) k (block k ∙ lies) ∙ named_where ns k)))
+pub mentioned_in : (ns inside : List Mention) (b : KeyBlock) (last : ℕ) (keys : List ℕ) → ((k : ℕ) → is_between b.first last k ≡ is_in_block b.first b.len k) → ((test : Mention → Bool) (k : ℕ) → is_between b.first last k ≡ true → has_where test inside k ≡ has_where test ns k) → keys ≡ map (λ (n : Mention). n.key) inside → HasMentionedIn ns b keys
+mentioned_in ns inside b last keys block all is k lies =
+    ap (λ ks. has ks k) is ∙ (keys_mentioned inside k ∙ (sym (mentioned_where inside k) ∙ (all (λ n. true) k (block k ∙ lies) ∙ mentioned_where ns k)))

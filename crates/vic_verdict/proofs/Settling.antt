@@ -1,6 +1,6 @@
 -- What the lines of a log leave open up to a position at which a reply could not be.
 use Rattle.std.proofs.Common.{◌≡◌, ℕ, ◌+◌, ◌<◌, ◌≤◌, ◌&&◌, List, [], length, take, Bool, Some, refl, sym, ap, ◌∙◌, subst, arith, false, inl, inr, add-one, slice_get, length-take-le}
-use Rattle.vic_verdict.proofs.Words.{cases_eq, and_true, Reply, is_quiet, length-map, take-map, slice_get_within, mirror, SameUids, is_outside, Entry, Heard, FieldCycle, LogLine, entries, slots_before, is_open, AgreeBefore, answers_agree, Spot, Name, Demand, Stretch, AreKept, needs, IsContradictedAt, IsFirstQuietReply, all_allow_to, ArePutInOrder}
+use Rattle.vic_verdict.proofs.Words.{cases_eq, and_true, Reply, is_quiet, length-map, take-map, slice_get_within, mirror, SameUids, is_outside, Entry, Heard, FieldCycle, LogLine, entries, slots_before, is_open, AgreeBefore, answers_agree, ReadSlot, Mention, Demand, Stretch, AreKept, needs, IsContradictedAt, IsFirstQuietReply, all_allow_to, ArePutInOrder}
 use Rattle.vic_verdict.specs.declared.stretches.Settled.{Settled}
 use Rattle.vic_verdict.specs.inner.Asked.{Keeps}
 use Rattle.vic_verdict.specs.inner.Replies.{Answers, IsQuietReply}
@@ -12,7 +12,7 @@ use Rattle.vic_verdict.proofs.Stands.{open_first, open_next}
 use Rattle.vic_verdict.proofs.Stretching.{gathered_first, gathered_keys, gathered_open}
 
 -- what is kept of the stretches that ended, and gathered since the last field cycle, before which the UIDs heard answer
-pub record IsWalked (es : List Entry) (i : ℕ) (set : ℕ → Bool) (ts : List Stretch) (ns : List Name) (ss : List Spot) (ds : List Demand) : Type 0 where
+pub record IsWalked (es : List Entry) (i : ℕ) (set : ℕ → Bool) (ts : List Stretch) (ns : List Mention) (ss : List ReadSlot) (ds : List Demand) : Type 0 where
   pub from : ℕ
   pub gathered : HasGathered es from i ns ss ds
   pub ready : (u : ℕ) → is_quiet es from u ≡ false
@@ -30,15 +30,15 @@ walked_first es = record {
   kept = kept_first es;
 }
 
--- what the names tell, and which UIDs are open
-heard_by : (es : List Entry) (i : ℕ) (set : ℕ → Bool) (ts : List Stretch) (ns : List Name) (ss : List Spot) (ds : List Demand) (g : IsWalked es i set ts ns ss ds) → AreHeard es g.from i ns
+-- what the mentions tell, and which UIDs are open
+heard_by : (es : List Entry) (i : ℕ) (set : ℕ → Bool) (ts : List Stretch) (ns : List Mention) (ss : List ReadSlot) (ds : List Demand) (g : IsWalked es i set ts ns ss ds) → AreHeard es g.from i ns
 heard_by es i set ts ns ss ds g = are_heard es g.from i ns ss ds g.gathered g.ready g.answer
 
-open_by : (es : List Entry) (i : ℕ) (set : ℕ → Bool) (ts : List Stretch) (ns : List Name) (ss : List Spot) (ds : List Demand) (g : IsWalked es i set ts ns ss ds) → (j : ℕ) → g.from ≤ j → j ≤ i → SameUids (λ u. set u && all_allow_to ns ss j (mirror u)) (is_open (slots_before es j))
+open_by : (es : List Entry) (i : ℕ) (set : ℕ → Bool) (ts : List Stretch) (ns : List Mention) (ss : List ReadSlot) (ds : List Demand) (g : IsWalked es i set ts ns ss ds) → (j : ℕ) → g.from ≤ j → j ≤ i → SameUids (λ u. set u && all_allow_to ns ss j (mirror u)) (is_open (slots_before es j))
 open_by es i set ts ns ss ds g = gathered_open es g.from i set ns ss ds g.gathered g.ready g.uids
 
 -- a field cycle, once all is settled
-pub walked_anew : (es : List Entry) (i cut : ℕ) (old set : ℕ → Bool) (kept new : List Stretch) (ns sorted : List Name) (ss : List Spot) (ds : List Demand) (e : Entry) → slice_get es i ≡ Some e → e ≡ FieldCycle → i ≤ cut → IsFirstQuietReply ns i cut → ArePutInOrder ns sorted → Keeps sorted ds cut kept new → SameUids set (λ u. old u && all_allow_to ns ss cut (mirror u)) → IsWalked es i old kept ns ss ds → IsWalked es (i + 1) set new [] [] []
+pub walked_anew : (es : List Entry) (i cut : ℕ) (old set : ℕ → Bool) (kept new : List Stretch) (ns sorted : List Mention) (ss : List ReadSlot) (ds : List Demand) (e : Entry) → slice_get es i ≡ Some e → e ≡ FieldCycle → i ≤ cut → IsFirstQuietReply ns i cut → ArePutInOrder ns sorted → Keeps sorted ds cut kept new → SameUids set (λ u. old u && all_allow_to ns ss cut (mirror u)) → IsWalked es i old kept ns ss ds → IsWalked es (i + 1) set new [] [] []
 walked_anew es i cut old set kept new ns sorted ss ds e k is upto first order keeps settled g =
     let end : cut ≡ i = omega arith in
     let heard = heard_by es i old kept ns ss ds g in
@@ -57,7 +57,7 @@ walked_anew es i cut old set kept new ns sorted ss ds e k is upto first order ke
     }
 
 -- once it is settled up to the first reply of a Quiet UID
-pub settled_to : (lines : List LogLine) (s : Settled) (i : ℕ) (old : ℕ → Bool) (kept : List Stretch) (ns sorted : List Name) (ss : List Spot) (ds : List Demand) → i ≤ length lines → IsWalked (entries lines) i old kept ns ss ds → IsFirstQuietReply ns i s.cut → ArePutInOrder ns sorted → Keeps sorted ds s.cut kept s.stretches.items → SameUids (is_outside s.closed.items) (λ u. old u && all_allow_to ns ss s.cut (mirror u)) → (s.cut ≡ i → i < length lines → IsContradictedAt (entries lines) i) → IsSettled lines s
+pub settled_to : (lines : List LogLine) (s : Settled) (i : ℕ) (old : ℕ → Bool) (kept : List Stretch) (ns sorted : List Mention) (ss : List ReadSlot) (ds : List Demand) → i ≤ length lines → IsWalked (entries lines) i old kept ns ss ds → IsFirstQuietReply ns i s.cut → ArePutInOrder ns sorted → Keeps sorted ds s.cut kept s.stretches.items → SameUids (is_outside s.closed.items) (λ u. old u && all_allow_to ns ss s.cut (mirror u)) → (s.cut ≡ i → i < length lines → IsContradictedAt (entries lines) i) → IsSettled lines s
 settled_to lines s i old kept ns sorted ss ds within g first order keeps settled here = record {
   uids = opened;
   kept = kept_to es (entries front) g.from i cut ns sorted ds kept s.stretches.items agree since upto (gathered_keys es g.from i ns ss ds g.gathered) heard.quiet order keeps g.gathered.asked g.kept;

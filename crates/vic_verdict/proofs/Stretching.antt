@@ -1,26 +1,26 @@
 -- What is gathered between two field cycles, entry by entry, and which UIDs it leaves open.
 use Rattle.std.proofs.Common.{◌≡◌, ◌⊎◌, ℕ, zero, suc, ◌+◌, ◌^◌, ◌<◌, ◌≤◌, ◌==◌, List, [], ◌∷◌, ◌++◌, Bool, true, false, not, ◌&&◌, ◌||◌, Option, Some, None, All, Any, nat_le, slice_get, refl, sym, ap, ◌∙◌, subst, arith, inl, inr, eq-eqb, add-one}
-use Rattle.vic_verdict.proofs.Words.{All-push, IsUid, mirror, Entry, Heard, Silent, Reply, KeyBlock, is_in_some_block, wakes, is_quiet, is_quiet_by, Name, Spot, Demand, nat_tests, cases_lt, cases_eq, and_true, both_ways, lies_in_some, mask_at, answers_at, slots_before, is_open, SameUids, HaveKeys, is_heard, heard_of, list_all, spot_allows, all_allow, all_allow_to, all_hear_named, rules_out}
+use Rattle.vic_verdict.proofs.Words.{All-push, IsUid, mirror, Entry, Heard, Silent, Reply, KeyBlock, is_in_some_block, wakes, is_quiet, is_quiet_by, Mention, ReadSlot, Demand, nat_tests, cases_lt, cases_eq, and_true, both_ways, lies_in_some, mask_at, answers_at, slots_before, is_open, SameUids, HaveKeys, is_heard, heard_of, list_all, read_allows, all_allow, all_allow_to, all_hear_mentioned, rules_out}
 use Rattle.std.proofs.lemmas.List.Elements.{All-nil, All-weaker, All-head, All-tail}
 use Rattle.std.proofs.lemmas.List.Quantifiers.{Any-push}
 use Rattle.std.proofs.lemmas.List.Sums.{AllPass-from_list_all, list_all-from_AllPass}
 use Rattle.vic_tree.proofs.BoolLaws.{same_tests}
 use Rattle.vic_verdict.specs.inner.Asked.{AreAsked}
-use Rattle.vic_verdict.specs.inner.Stretches.{names_at, names_from, AddsSpot, HasRead, IsSpot, NobodyAt, HasGathered}
-use Rattle.vic_verdict.specs.inner.Sweep.{AreUnsettled, are_left, hears_named, HasRange}
+use Rattle.vic_verdict.specs.inner.Stretches.{mentions_at, mentions_from, AddsReadSlot, HasRead, IsReadSlot, NobodyAt, HasGathered}
+use Rattle.vic_verdict.specs.inner.Sweep.{AreUnsettled, are_left, hears_mentioned, HasRange}
 use Rattle.vic_verdict.proofs.Demanding.{any_kept, asked_anew}
 use Rattle.vic_verdict.proofs.Lacking.{place_allows, open_place}
-use Rattle.vic_verdict.proofs.Naming.{heard_key, heard_named, names_keys, names_left, names_next, names_none, quiet_names}
+use Rattle.vic_verdict.proofs.Mentioning.{heard_key, heard_mentioned, mentions_keys, mentions_left, mentions_next, mentions_none, quiet_mentions}
 
 -- ---- what an entry adds
 
 -- its slot, if it may rule UIDs out
-abbrev pub TellsSpot : List Entry → ℕ → Entry → List Spot → List Spot → Type 0
-TellsSpot es i e ss ts = ((ts ≡ ss) × (rules_out e ≡ true → NobodyAt es i)) ⊎ ((s : Spot) × (ts ≡ ss ++ s ∷ []) × IsSpot es i (i + 1) s)
+abbrev pub TellsReadSlot : List Entry → ℕ → Entry → List ReadSlot → List ReadSlot → Type 0
+TellsReadSlot es i e ss ts = ((ts ≡ ss) × (rules_out e ≡ true → NobodyAt es i)) ⊎ ((s : ReadSlot) × (ts ≡ ss ++ s ∷ []) × IsReadSlot es i (i + 1) s)
 
-pub spot_told : (es : List Entry) (i : ℕ) (e : Entry) (keys : Option KeyBlock) (heard : Option ℕ) (ss ts : List Spot) → ((u : ℕ) → IsUid u → is_in_some_block keys (mirror u) ≡ lies_in_some (mask_at es i) u) → HasRead (slice_get es i) heard → AddsSpot keys i heard ss ts → TellsSpot es i e ss ts
-spot_told es i e keys heard ss ts inside read (inl w) = inl (w.1, λ _ u v. sym (inside u v) ∙ ap (λ o. is_in_some_block o (mirror u)) w.0)
-spot_told es i e keys heard ss ts inside read (inr w) = inr (
+pub read_told : (es : List Entry) (i : ℕ) (e : Entry) (keys : Option KeyBlock) (heard : Option ℕ) (ss ts : List ReadSlot) → ((u : ℕ) → IsUid u → is_in_some_block keys (mirror u) ≡ lies_in_some (mask_at es i) u) → HasRead (slice_get es i) heard → AddsReadSlot keys i heard ss ts → TellsReadSlot es i e ss ts
+read_told es i e keys heard ss ts inside read (inl w) = inl (w.1, λ _ u v. sym (inside u v) ∙ ap (λ o. is_in_some_block o (mirror u)) w.0)
+read_told es i e keys heard ss ts inside read (inr w) = inr (
   w.0,
   w.1,
   record {
@@ -37,20 +37,20 @@ gathered_first es i = record {
   begun = omega arith;
   small = λ lt. absurd (omega arith);
   awake = λ j since lt. absurd (omega arith);
-  names = sym (names_none es i i (omega arith));
-  spots = All-nil (IsSpot es i i);
+  mentions = sym (mentions_none es i i (omega arith));
+  reads = All-nil (IsReadSlot es i i);
   read = λ j e since lt. absurd (omega arith);
   inside = λ j r since lt. absurd (omega arith);
   asked = asked_anew es i;
 }
 
-pub gathered_next : (es : List Entry) (from i : ℕ) (e : Entry) (ns ms : List Name) (ss ts : List Spot) (ds cs : List Demand) → slice_get es i ≡ Some e → i < 2 ^ 32 → wakes (Some e) ≡ false → ms ≡ ns ++ names_at (Some e) i → TellsSpot es i e ss ts → ((r : Reply) → e ≡ Heard r → IsUid r.uid × (lies_in_some (mask_at es i) r.uid ≡ true)) → (from ≤ i → AreAsked es from i ds → AreAsked es from (i + 1) cs) → HasGathered es from i ns ss ds → HasGathered es from (i + 1) ms ts cs
-gathered_next es from i e ns ms ss ts ds cs k small awake named told fits asks h = record {
+pub gathered_next : (es : List Entry) (from i : ℕ) (e : Entry) (ns ms : List Mention) (ss ts : List ReadSlot) (ds cs : List Demand) → slice_get es i ≡ Some e → i < 2 ^ 32 → wakes (Some e) ≡ false → ms ≡ ns ++ mentions_at (Some e) i → TellsReadSlot es i e ss ts → ((r : Reply) → e ≡ Heard r → IsUid r.uid × (lies_in_some (mask_at es i) r.uid ≡ true)) → (from ≤ i → AreAsked es from i ds → AreAsked es from (i + 1) cs) → HasGathered es from i ns ss ds → HasGathered es from (i + 1) ms ts cs
+gathered_next es from i e ns ms ss ts ds cs k small awake mentioned told fits asks h = record {
   begun = omega arith;
   small = λ _. omega arith;
   awake = λ j since lt. elim (cases_eq j i) [ inl same ↦ rw (same, k) awake | inr ne ↦ h.awake j since (omega arith) ];
-  names = named ∙ (ap (λ xs. xs ++ names_at (Some e) i) h.names ∙ (ap (λ o. names_from es from i ++ names_at o i) (sym k) ∙ (sym (names_next es from i h.begun) ∙ ap (names_from es from) (sym (add-one i)))));
-  spots = spots told;
+  mentions = mentioned ∙ (ap (λ xs. xs ++ mentions_at (Some e) i) h.mentions ∙ (ap (λ o. mentions_from es from i ++ mentions_at o i) (sym k) ∙ (sym (mentions_next es from i h.begun) ∙ ap (mentions_from es from) (sym (add-one i)))));
+  reads = reads told;
   read = λ j x since lt f out. elim (cases_eq j i) [
     | inl same ↦
         let both : Some e ≡ Some x = sym k ∙ (ap (slice_get es) (sym same) ∙ f) in
@@ -66,79 +66,79 @@ gathered_next es from i e ns ms ss ts ds cs k small awake named told fits asks h
   ];
   asked = asks h.begun h.asked;
 } where
-  later : (s : Spot) → IsSpot es from i s → IsSpot es from (i + 1) s
+  later : (s : ReadSlot) → IsReadSlot es from i s → IsReadSlot es from (i + 1) s
   later s it = let before = it.before in record { since = it.since; before = omega arith; read = it.read; range = it.range; inside = it.inside }
 
-  spots : TellsSpot es i e ss ts → All (IsSpot es from (i + 1)) ts
-  spots (inl w) = subst (All (IsSpot es from (i + 1))) (sym w.0) (All-weaker (IsSpot es from i) (IsSpot es from (i + 1)) later ss h.spots)
-  spots (inr w) =
+  reads : TellsReadSlot es i e ss ts → All (IsReadSlot es from (i + 1)) ts
+  reads (inl w) = subst (All (IsReadSlot es from (i + 1))) (sym w.0) (All-weaker (IsReadSlot es from i) (IsReadSlot es from (i + 1)) later ss h.reads)
+  reads (inr w) =
       let since = w.2.since in
-      subst (All (IsSpot es from (i + 1))) (sym w.1) (All-push (IsSpot es from (i + 1)) ss w.0 (All-weaker (IsSpot es from i) (IsSpot es from (i + 1)) later ss h.spots) (record { since = omega arith; before = w.2.before; read = w.2.read; range = w.2.range; inside = w.2.inside }))
+      subst (All (IsReadSlot es from (i + 1))) (sym w.1) (All-push (IsReadSlot es from (i + 1)) ss w.0 (All-weaker (IsReadSlot es from i) (IsReadSlot es from (i + 1)) later ss h.reads) (record { since = omega arith; before = w.2.before; read = w.2.read; range = w.2.range; inside = w.2.inside }))
 
-  more : (j : ℕ) → TellsSpot es i e ss ts → Any (λ (s : Spot). s.at ≡ j) ss → Any (λ (s : Spot). s.at ≡ j) ts
-  more j (inl w) a = subst (Any (λ (s : Spot). s.at ≡ j)) (sym w.0) a
-  more j (inr w) a = subst (Any (λ (s : Spot). s.at ≡ j)) (sym w.1) (any_kept (λ (s : Spot). s.at ≡ j) ss w.0 a)
+  more : (j : ℕ) → TellsReadSlot es i e ss ts → Any (λ (s : ReadSlot). s.at ≡ j) ss → Any (λ (s : ReadSlot). s.at ≡ j) ts
+  more j (inl w) a = subst (Any (λ (s : ReadSlot). s.at ≡ j)) (sym w.0) a
+  more j (inr w) a = subst (Any (λ (s : ReadSlot). s.at ≡ j)) (sym w.1) (any_kept (λ (s : ReadSlot). s.at ≡ j) ss w.0 a)
 
-  here : (j : ℕ) → j ≡ i → rules_out e ≡ true → TellsSpot es i e ss ts → Any (λ (s : Spot). s.at ≡ j) ts ⊎ NobodyAt es j
+  here : (j : ℕ) → j ≡ i → rules_out e ≡ true → TellsReadSlot es i e ss ts → Any (λ (s : ReadSlot). s.at ≡ j) ts ⊎ NobodyAt es j
   here j same out (inl w) = inr (subst (NobodyAt es) (sym same) (w.1 out))
   here j same out (inr w) =
       let since = w.2.since in
       let before = w.2.before in
-      inl (subst (Any (λ (s : Spot). s.at ≡ j)) (sym w.1) (Any-push (λ (s : Spot). s.at ≡ j) ss w.0 (omega arith)))
+      inl (subst (Any (λ (s : ReadSlot). s.at ≡ j)) (sym w.1) (Any-push (λ (s : ReadSlot). s.at ≡ j) ss w.0 (omega arith)))
 
 -- an entry that rules none out
-pub gathered_passed : (es : List Entry) (from i : ℕ) (e : Entry) (ns ms : List Name) (ss : List Spot) (ds cs : List Demand) → slice_get es i ≡ Some e → i < 2 ^ 32 → wakes (Some e) ≡ false → ms ≡ ns ++ names_at (Some e) i → rules_out e ≡ false → (from ≤ i → AreAsked es from i ds → AreAsked es from (i + 1) cs) → HasGathered es from i ns ss ds → HasGathered es from (i + 1) ms ss cs
-gathered_passed es from i e ns ms ss ds cs k small awake named none asks h = gathered_next es from i e ns ms ss ss ds cs k small awake named (inl (refl, λ out. absurd (both_ways _ none out))) (λ r is. absurd (both_ways _ none (ap rules_out is))) asks h
+pub gathered_passed : (es : List Entry) (from i : ℕ) (e : Entry) (ns ms : List Mention) (ss : List ReadSlot) (ds cs : List Demand) → slice_get es i ≡ Some e → i < 2 ^ 32 → wakes (Some e) ≡ false → ms ≡ ns ++ mentions_at (Some e) i → rules_out e ≡ false → (from ≤ i → AreAsked es from i ds → AreAsked es from (i + 1) cs) → HasGathered es from i ns ss ds → HasGathered es from (i + 1) ms ss cs
+gathered_passed es from i e ns ms ss ds cs k small awake mentioned none asks h = gathered_next es from i e ns ms ss ss ds cs k small awake mentioned (inl (refl, λ out. absurd (both_ways _ none out))) (λ r is. absurd (both_ways _ none (ap rules_out is))) asks h
 
--- ---- what is so of all names and slots
+-- ---- what is so of all mentions and slots
 
-pub gathered_keys : (es : List Entry) (from i : ℕ) (ns : List Name) (ss : List Spot) (ds : List Demand) → HasGathered es from i ns ss ds → HaveKeys ns
-gathered_keys es from i ns ss ds h = subst HaveKeys (sym h.names) (names_keys es from i)
+pub gathered_keys : (es : List Entry) (from i : ℕ) (ns : List Mention) (ss : List ReadSlot) (ds : List Demand) → HasGathered es from i ns ss ds → HaveKeys ns
+gathered_keys es from i ns ss ds h = subst HaveKeys (sym h.mentions) (mentions_keys es from i)
 
-gathered_named : (es : List Entry) (from i : ℕ) (ns : List Name) (ss : List Spot) (ds : List Demand) → HasGathered es from i ns ss ds → all_hear_named ns ss ≡ true
-gathered_named es from i ns ss ds h = list_all-from_AllPass (hears_named ns) ss (All-weaker (IsSpot es from i) (λ s. hears_named ns s ≡ true) (λ s it. elim (it.read) [
+gathered_mentioned : (es : List Entry) (from i : ℕ) (ns : List Mention) (ss : List ReadSlot) (ds : List Demand) → HasGathered es from i ns ss ds → all_hear_mentioned ns ss ≡ true
+gathered_mentioned es from i ns ss ds h = list_all-from_AllPass (hears_mentioned ns) ss (All-weaker (IsReadSlot es from i) (λ s. hears_mentioned ns s ≡ true) (λ s it. elim (it.read) [
   | inl w ↦ rw w.1 refl
-  | inr w ↦ rw (w.3, h.names) (heard_named es from i s.at w.0 it.since it.before w.1)
-]) ss h.spots)
+  | inr w ↦ rw (w.3, h.mentions) (heard_mentioned es from i s.at w.0 it.since it.before w.1)
+]) ss h.reads)
 
 -- so they can be settled
-pub gathered_settles : (es : List Entry) (from i : ℕ) (ns : List Name) (ss : List Spot) (ds : List Demand) → HasGathered es from i ns ss ds → AreUnsettled ns ss i
+pub gathered_settles : (es : List Entry) (from i : ℕ) (ns : List Mention) (ss : List ReadSlot) (ds : List Demand) → HasGathered es from i ns ss ds → AreUnsettled ns ss i
 gathered_settles es from i ns ss ds h = record {
-  left = ap are_left h.names ∙ names_left es from i;
-  before = All-weaker (IsSpot es from i) (λ (s : Spot). s.at < i) (λ s it. it.before) ss h.spots;
-  ranges = All-weaker (IsSpot es from i) HasRange (λ s it. it.range) ss h.spots;
-  named = gathered_named es from i ns ss ds h;
+  left = ap are_left h.mentions ∙ mentions_left es from i;
+  before = All-weaker (IsReadSlot es from i) (λ (s : ReadSlot). s.at < i) (λ s it. it.before) ss h.reads;
+  ranges = All-weaker (IsReadSlot es from i) HasRange (λ s it. it.range) ss h.reads;
+  mentioned = gathered_mentioned es from i ns ss ds h;
 }
 
-pub gathered_quiet : (es : List Entry) (from i : ℕ) (ns : List Name) (ss : List Spot) (ds : List Demand) → HasGathered es from i ns ss ds → ((u : ℕ) → is_quiet es from u ≡ false) → (j u : ℕ) → from ≤ j → j ≤ i → IsUid u → is_quiet_by ns (mirror u) j ≡ is_quiet es j u
+pub gathered_quiet : (es : List Entry) (from i : ℕ) (ns : List Mention) (ss : List ReadSlot) (ds : List Demand) → HasGathered es from i ns ss ds → ((u : ℕ) → is_quiet es from u ≡ false) → (j u : ℕ) → from ≤ j → j ≤ i → IsUid u → is_quiet_by ns (mirror u) j ≡ is_quiet es j u
 gathered_quiet es from i ns ss ds h ready j u since upto w =
-    ap (λ ms. is_quiet_by ms (mirror u) j) h.names ∙ elim (cases_lt from i) [
-      | inl lt ↦ quiet_names es from i j u (ready u) h.awake since upto (h.small lt) w
+    ap (λ ms. is_quiet_by ms (mirror u) j) h.mentions ∙ elim (cases_lt from i) [
+      | inl lt ↦ quiet_mentions es from i j u (ready u) h.awake since upto (h.small lt) w
       | inr ge ↦
           let same : j ≡ from = omega arith in
-          ap (λ ms. is_quiet_by ms (mirror u) j) (names_none es from i ge) ∙ sym (ap (λ m. is_quiet es m u) same ∙ ready u)
+          ap (λ ms. is_quiet_by ms (mirror u) j) (mentions_none es from i ge) ∙ sym (ap (λ m. is_quiet es m u) same ∙ ready u)
     ]
 
 -- ---- who is open
 
 -- before the end of a stretch are all of its slots
-pub allow_all : (ns : List Name) (k i : ℕ) (ss : List Spot) → All (λ (s : Spot). s.at < i) ss → all_allow_to ns ss i k ≡ all_allow ns ss k
+pub allow_all : (ns : List Mention) (k i : ℕ) (ss : List ReadSlot) → All (λ (s : ReadSlot). s.at < i) ss → all_allow_to ns ss i k ≡ all_allow ns ss k
 allow_all ns k i [] before = refl
 allow_all ns k i (s ∷ ss) before =
-    let lt = All-head (λ (t : Spot). t.at < i) s ss before in
-    let rest = allow_all ns k i ss (All-tail (λ (t : Spot). t.at < i) s ss before) in
+    let lt = All-head (λ (t : ReadSlot). t.at < i) s ss before in
+    let rest = allow_all ns k i ss (All-tail (λ (t : ReadSlot). t.at < i) s ss before) in
     grind (arith, nat_tests)
 
 -- what the slots at one position allow
-abbrev all_allow_at : List Name → List Spot → ℕ → ℕ → Bool
-all_allow_at ns ss j k = list_all (λ (s : Spot). not (s.at == j) || spot_allows ns s k) ss
+abbrev all_allow_at : List Mention → List ReadSlot → ℕ → ℕ → Bool
+all_allow_at ns ss j k = list_all (λ (s : ReadSlot). not (s.at == j) || read_allows ns s k) ss
 
-allow_next : (ns : List Name) (k j : ℕ) (ss : List Spot) → all_allow_to ns ss (suc j) k ≡ (all_allow_to ns ss j k && all_allow_at ns ss j k)
+allow_next : (ns : List Mention) (k j : ℕ) (ss : List ReadSlot) → all_allow_to ns ss (suc j) k ≡ (all_allow_to ns ss j k && all_allow_at ns ss j k)
 allow_next ns k j [] = refl
 allow_next ns k j (s ∷ ss) = grind (arith, nat_tests, allow_next ns k j ss)
 
-spot_says : (es : List Entry) (from i : ℕ) (ns : List Name) (s : Spot) (u : ℕ) → IsSpot es from i s → IsUid u → is_quiet_by ns (mirror u) s.at ≡ is_quiet es s.at u → spot_allows ns s (mirror u) ≡ place_allows (slice_get es s.at) (answers_at es s.at u) u
-spot_says es from i ns s u it w quiet =
+read_says : (es : List Entry) (from i : ℕ) (ns : List Mention) (s : ReadSlot) (u : ℕ) → IsReadSlot es from i s → IsUid u → is_quiet_by ns (mirror u) s.at ≡ is_quiet es s.at u → read_allows ns s (mirror u) ≡ place_allows (slice_get es s.at) (answers_at es s.at u) u
+read_says es from i ns s u it w quiet =
     ap (λ b. not b || (is_quiet_by ns (mirror u) s.at || is_heard (heard_of s) (mirror u))) (it.inside u w)
     ∙ (ap (λ b. not (lies_in_some (mask_at es s.at) u) || (b || is_heard (heard_of s) (mirror u))) quiet
     ∙ elim (it.read) [
@@ -147,21 +147,21 @@ spot_says es from i ns s u it w quiet =
     ])
 
 -- the slots at a position allow what its entry allows
-spots_say : (es : List Entry) (from i : ℕ) (ns : List Name) (ss : List Spot) (ds : List Demand) → HasGathered es from i ns ss ds → ((u : ℕ) → is_quiet es from u ≡ false) → (j u : ℕ) → from ≤ j → j < i → IsUid u → all_allow_at ns ss j (mirror u) ≡ place_allows (slice_get es j) (answers_at es j u) u
-spots_say es from i ns ss ds h ready j u since below w = same_tests _ _ (to (slice_get es j) refl) from_place
+reads_say : (es : List Entry) (from i : ℕ) (ns : List Mention) (ss : List ReadSlot) (ds : List Demand) → HasGathered es from i ns ss ds → ((u : ℕ) → is_quiet es from u ≡ false) → (j u : ℕ) → from ≤ j → j < i → IsUid u → all_allow_at ns ss j (mirror u) ≡ place_allows (slice_get es j) (answers_at es j u) u
+reads_say es from i ns ss ds h ready j u since below w = same_tests _ _ (to (slice_get es j) refl) from_place
   where
-    says : (s : Spot) → IsSpot es from i s → s.at ≡ j → spot_allows ns s (mirror u) ≡ place_allows (slice_get es j) (answers_at es j u) u
-    says s it at = spot_says es from i ns s u it w (gathered_quiet es from i ns ss ds h ready s.at u it.since (omega arith) w) ∙ ap (λ m. place_allows (slice_get es m) (answers_at es m u) u) at
+    says : (s : ReadSlot) → IsReadSlot es from i s → s.at ≡ j → read_allows ns s (mirror u) ≡ place_allows (slice_get es j) (answers_at es j u) u
+    says s it at = read_says es from i ns s u it w (gathered_quiet es from i ns ss ds h ready s.at u it.since (omega arith) w) ∙ ap (λ m. place_allows (slice_get es m) (answers_at es m u) u) at
 
     ruled : (e : Entry) → slice_get es j ≡ Some e → rules_out e ≡ true → place_allows (Some e) false u ≡ true → all_allow_at ns ss j (mirror u) ≡ true → place_allows (Some e) (answers_at es j u) u ≡ true
     ruled e k out none all = elim (h.read j e since below k out) [
       | inl a ↦
-          let s : Spot = a.1 in
-          let pass = subst (λ (x : Spot). (not (x.at == j) || spot_allows ns x (mirror u)) ≡ true) a.3 (AllPass-from_list_all _ ss all a.0 s a.2) in
+          let s : ReadSlot = a.1 in
+          let pass = subst (λ (x : ReadSlot). (not (x.at == j) || read_allows ns x (mirror u)) ≡ true) a.3 (AllPass-from_list_all _ ss all a.0 s a.2) in
           let at : s.at ≡ j = a.4 in
-          let it = subst (IsSpot es from i) a.3 (h.spots a.0 s a.2) in
+          let it = subst (IsReadSlot es from i) a.3 (h.reads a.0 s a.2) in
           let same = eq-eqb s.at j at in
-          let allowed : spot_allows ns s (mirror u) ≡ true = grind arith in
+          let allowed : read_allows ns s (mirror u) ≡ true = grind arith in
           subst (λ o. place_allows o (answers_at es j u) u ≡ true) k (sym (says s it at) ∙ allowed)
       | inr nobody ↦ ap (λ b. place_allows (Some e) (b && not (is_quiet es j u)) u) (nobody u w) ∙ none
     ]
@@ -173,18 +173,18 @@ spots_say es from i ns ss ds h ready j u since below w = same_tests _ _ (to (sli
     to (Some e) k all = refl
 
     from_place : place_allows (slice_get es j) (answers_at es j u) u ≡ true → all_allow_at ns ss j (mirror u) ≡ true
-    from_place e = list_all-from_AllPass _ ss (All-weaker (IsSpot es from i) (λ s. (not (s.at == j) || spot_allows ns s (mirror u)) ≡ true) (λ s it. elim (cases_eq s.at j) [
+    from_place e = list_all-from_AllPass _ ss (All-weaker (IsReadSlot es from i) (λ s. (not (s.at == j) || read_allows ns s (mirror u)) ≡ true) (λ s it. elim (cases_eq s.at j) [
       | inl same ↦ let allowed = says s it same ∙ e in grind arith
       | inr ne ↦ grind (arith, nat_tests)
-    ]) ss h.spots)
+    ]) ss h.reads)
 
 -- what a stretch tells of a position up to its end
-pub gathered_open : (es : List Entry) (from i : ℕ) (set : ℕ → Bool) (ns : List Name) (ss : List Spot) (ds : List Demand) → HasGathered es from i ns ss ds → ((u : ℕ) → is_quiet es from u ≡ false) → SameUids set (is_open (slots_before es from)) → (j : ℕ) → from ≤ j → j ≤ i → SameUids (λ u. set u && all_allow_to ns ss j (mirror u)) (is_open (slots_before es j))
+pub gathered_open : (es : List Entry) (from i : ℕ) (set : ℕ → Bool) (ns : List Mention) (ss : List ReadSlot) (ds : List Demand) → HasGathered es from i ns ss ds → ((u : ℕ) → is_quiet es from u ≡ false) → SameUids set (is_open (slots_before es from)) → (j : ℕ) → from ≤ j → j ≤ i → SameUids (λ u. set u && all_allow_to ns ss j (mirror u)) (is_open (slots_before es j))
 gathered_open es from i set ns ss ds h ready same j since upto u w = go j since upto
   where
     first : (j : ℕ) → j ≡ from → (set u && all_allow_to ns ss j (mirror u)) ≡ is_open (slots_before es j) u
     first j at =
-        let none : all_allow_to ns ss j (mirror u) ≡ true = list_all-from_AllPass _ ss (All-weaker (IsSpot es from i) (λ s. (nat_le j s.at || spot_allows ns s (mirror u)) ≡ true) (λ s it. let after = it.since in grind (arith, nat_tests)) ss h.spots) in
+        let none : all_allow_to ns ss j (mirror u) ≡ true = list_all-from_AllPass _ ss (All-weaker (IsReadSlot es from i) (λ s. (nat_le j s.at || read_allows ns s (mirror u)) ≡ true) (λ s it. let after = it.since in grind (arith, nat_tests)) ss h.reads) in
         ap (λ b. set u && b) none ∙ (and_true (set u) ∙ (same u w ∙ ap (λ m. is_open (slots_before es m) u) (sym at)))
 
     go : (j : ℕ) → from ≤ j → j ≤ i → (set u && all_allow_to ns ss j (mirror u)) ≡ is_open (slots_before es j) u
@@ -194,7 +194,7 @@ gathered_open es from i set ns ss ds h ready same j since upto u w = go j since 
       | inr ge ↦
           let next = allow_next ns (mirror u) j ss in
           let before = go j ge (omega arith) in
-          let here = spots_say es from i ns ss ds h ready j u ge (omega arith) w in
+          let here = reads_say es from i ns ss ds h ready j u ge (omega arith) w in
           let all = open_place (answers_at es j) (slice_get es j) (slots_before es j) u in
           grind arith
     ]

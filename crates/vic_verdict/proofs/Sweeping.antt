@@ -1,55 +1,55 @@
--- What the slots between two field cycles leave, name by name.
+-- What the slots between two field cycles leave, mention by mention.
 use Rattle.std.proofs.Common.{◌≡◌, ℕ, zero, suc, ◌+◌, ◌-◌, ◌<◌, ◌≤◌, ◌==◌, List, [], ◌∷◌, length, take, filter, cond, get_or, set, Bool, true, false, not, ◌&&◌, ◌||◌, Option, Some, None, refl, sym, ap, ◌∙◌, subst, arith, add-one, ◌++◌, inl, inr, ⊎_elim, ◌^◌, nat_le, nat_lt, All, ne_eqb, eqb-true, ext_get_or, get_or-set_same, get_or-set_other, length-set, take_all, IsPermutation}
-use Rattle.vic_verdict.proofs.Words.{list_all, list_any, cases_eq, cases_lt, false≢true, and_parts, and_from, or_cases, or_left, or_right, nat_tests, get_or-map, get_or_default, All-head, All-tail, list_any_more, Name, Spot, Run, is_between, quiet_of, first_of, last_of, heard_of, is_heard, is_in, all_leave, level_leaves, mask_leaves, run_leaves, keep_all, has_where, has_left, is_quiet_by, spot_allows, all_allow, all_allow_to, is_named, is_named_if, all_hear_named, AreInOrder, HaveKeys, list_any-IsPermutation, and_true, lt_yes, or_false}
+use Rattle.vic_verdict.proofs.Words.{list_all, list_any, cases_eq, cases_lt, false≢true, and_parts, and_from, or_cases, or_left, or_right, nat_tests, get_or-map, get_or_default, All-head, All-tail, list_any_more, Mention, ReadSlot, Run, is_between, quiet_of, first_of, last_of, heard_of, is_heard, is_in, all_leave, level_leaves, mask_leaves, run_leaves, keep_all, has_where, has_left, is_quiet_by, read_allows, all_allow, all_allow_to, is_mentioned, is_mentioned_if, all_hear_mentioned, AreInOrder, HaveKeys, list_any-IsPermutation, and_true, lt_yes, or_false}
 use Rattle.std.proofs.lemmas.List.Folds.{list_all_more}
 use Rattle.vic_verdict.specs.declared.sweep.Level.{Level}
-use Rattle.vic_verdict.specs.inner.Sweep.{slot_leaves, spot_leaves, keep, hears_named, are_left, IsStart}
+use Rattle.vic_verdict.specs.inner.Sweep.{slot_leaves, read_leaves, keep, hears_mentioned, are_left, IsStart}
 use Rattle.std.proofs.Math.Seq.{take-append_seam}
 use Rattle.vic_tree.proofs.BoolLaws.{and_thrice, same_tests}
 
--- ---- names that are kept
+-- ---- mentions that are kept
 
--- a UID with this key lies in no slot, or is left by name
-abbrev pub all_cover : List Name → List Spot → ℕ → Bool
-all_cover ns spots k = list_all (λ s. not (is_in s k) || has_left ns k) spots
+-- a UID with this key lies in no slot, or is left by mention
+abbrev pub all_cover : List Mention → List ReadSlot → ℕ → Bool
+all_cover ns reads k = list_all (λ s. not (is_in s k) || has_left ns k) reads
 
-pub keep_twice : (p q : ℕ → ℕ → Bool) (ns : List Name) → keep_all p (keep_all q ns) ≡ keep_all (λ k t. q k t && p k t) ns
+pub keep_twice : (p q : ℕ → ℕ → Bool) (ns : List Mention) → keep_all p (keep_all q ns) ≡ keep_all (λ k t. q k t && p k t) ns
 keep_twice p q [] = refl
 keep_twice p q (n ∷ ns) = rw (keep_twice p q ns, and_thrice n.left (q n.key (quiet_of n)) (p n.key (quiet_of n))) refl
 
-pub keep_alike : (p q : ℕ → ℕ → Bool) → ((k t : ℕ) → p k t ≡ q k t) → (ns : List Name) → keep_all p ns ≡ keep_all q ns
+pub keep_alike : (p q : ℕ → ℕ → Bool) → ((k t : ℕ) → p k t ≡ q k t) → (ns : List Mention) → keep_all p ns ≡ keep_all q ns
 keep_alike p q same [] = refl
 keep_alike p q same (n ∷ ns) = rw (same n.key (quiet_of n), keep_alike p q same ns) refl
 
-pub kept_whole : (p : ℕ → ℕ → Bool) (n : Name) → p n.key (quiet_of n) ≡ true → keep p n ≡ n
+pub kept_whole : (p : ℕ → ℕ → Bool) (n : Mention) → p n.key (quiet_of n) ≡ true → keep p n ≡ n
 kept_whole p n e = ap (λ (b : Bool). record { key = n.key; at = n.at; is_heard = n.is_heard; left = n.left && b }) e ∙ ap (λ (b : Bool). record { key = n.key; at = n.at; is_heard = n.is_heard; left = b }) (and_true n.left)
 
-pub keep_none : (ns : List Name) → keep_all (λ k t. true) ns ≡ ns
+pub keep_none : (ns : List Mention) → keep_all (λ k t. true) ns ≡ ns
 keep_none [] = refl
-keep_none (n ∷ ns) = ap (λ (m : Name). m ∷ keep_all (λ k t. true) ns) (kept_whole (λ k t. true) n refl) ∙ ap (λ (ms : List Name). n ∷ ms) (keep_none ns)
+keep_none (n ∷ ns) = ap (λ (m : Mention). m ∷ keep_all (λ k t. true) ns) (kept_whole (λ k t. true) n refl) ∙ ap (λ (ms : List Mention). n ∷ ms) (keep_none ns)
 
-pub keep-length : (p : ℕ → ℕ → Bool) (ns : List Name) → length (keep_all p ns) ≡ length ns
+pub keep-length : (p : ℕ → ℕ → Bool) (ns : List Mention) → length (keep_all p ns) ≡ length ns
 keep-length p [] = refl
 keep-length p (n ∷ ns) = ap suc (keep-length p ns)
 
-pub keep-order : (p : ℕ → ℕ → Bool) (ns : List Name) → AreInOrder ns → AreInOrder (keep_all p ns)
+pub keep-order : (p : ℕ → ℕ → Bool) (ns : List Mention) → AreInOrder ns → AreInOrder (keep_all p ns)
 keep-order p ns up i j d le below =
     let short : j < length ns = subst (λ m. j < m) (keep-length p ns) below in
-    let a = ap (λ (n : Name). n.key) (get_or-map (keep p) ns i d d (omega arith)) in
-    let b = ap (λ (n : Name). n.key) (get_or-map (keep p) ns j d d short) in
+    let a = ap (λ (n : Mention). n.key) (get_or-map (keep p) ns i d d (omega arith)) in
+    let b = ap (λ (n : Mention). n.key) (get_or-map (keep p) ns j d d short) in
     let h = up i j d le short in
     omega arith
 
-pub keep-keys : (p : ℕ → ℕ → Bool) (ns : List Name) → HaveKeys ns → HaveKeys (keep_all p ns)
+pub keep-keys : (p : ℕ → ℕ → Bool) (ns : List Mention) → HaveKeys ns → HaveKeys (keep_all p ns)
 keep-keys p ns h k d below =
     let short : k < length ns = subst (λ m. k < m) (keep-length p ns) below in
-    subst (λ (n : Name). n.key < 2 ^ 56) (sym (get_or-map (keep p) ns k d d short)) (h k d short)
+    subst (λ (n : Mention). n.key < 2 ^ 56) (sym (get_or-map (keep p) ns k d d short)) (h k d short)
 
-pub keep-quiet : (p : ℕ → ℕ → Bool) (ns : List Name) (k i : ℕ) → is_quiet_by (keep_all p ns) k i ≡ is_quiet_by ns k i
+pub keep-quiet : (p : ℕ → ℕ → Bool) (ns : List Mention) (k i : ℕ) → is_quiet_by (keep_all p ns) k i ≡ is_quiet_by ns k i
 keep-quiet p [] k i = refl
 keep-quiet p (n ∷ ns) k i = ap (λ b. ((n.key == k) && nat_lt (quiet_of n) i) || b) (keep-quiet p ns k i)
 
--- ---- a mask rules names out
+-- ---- a mask rules mentions out
 
 pub outside_below : (first last : ℕ) (l : Level) (k q : ℕ) → k < first → mask_leaves first last l k q ≡ true
 outside_below first last l k q h = grind (arith, nat_tests)
@@ -61,37 +61,37 @@ pub inside : (first last : ℕ) (l : Level) (k q : ℕ) → first ≤ k → k �
 inside first last l k q f g = grind (arith, nat_tests)
 
 -- what stands past the end of a list
-abbrev pub nobody : Name
+abbrev pub nobody : Mention
 nobody = record { key = 0; at = 0; is_heard = false; left = false }
 
-abbrev pub nowhere : Spot
+abbrev pub nowhere : ReadSlot
 nowhere = record { mask = 0; key = 0; at = 0; is_heard = false }
 
--- a name that is the first from a key on
-pub start_here : (ns : List Name) (first at : ℕ) → AreInOrder ns → at < length ns → first ≤ (get_or ns at nobody).key → (0 < at → (get_or ns (at - 1) nobody).key < first) → IsStart ns first at
+-- a mention that is the first from a key on
+pub start_here : (ns : List Mention) (first at : ℕ) → AreInOrder ns → at < length ns → first ≤ (get_or ns at nobody).key → (0 < at → (get_or ns (at - 1) nobody).key < first) → IsStart ns first at
 start_here ns first at up lt from before = record {
   within = omega arith;
   below = λ k d less.
       let last = before (omega (arith, less)) in
-      let here = ap (λ (n : Name). n.key) (get_or_default ns (at - 1) d nobody (omega (arith, less))) in
+      let here = ap (λ (n : Mention). n.key) (get_or_default ns (at - 1) d nobody (omega (arith, less))) in
       let le = up k (at - 1) d (omega (arith, less)) (omega (arith, less)) in
       omega arith;
   rest = λ k d ge short.
-      let here = ap (λ (n : Name). n.key) (get_or_default ns at d nobody lt) in
+      let here = ap (λ (n : Mention). n.key) (get_or_default ns at d nobody lt) in
       let le = up at k d ge short in
       omega arith;
 }
 
--- the first i names of a list were gone over
-pub record IsRuled (p : ℕ → ℕ → Bool) (old new : List Name) (i : ℕ) : Type 0 where
+-- the first i mentions of a list were gone over
+pub record IsRuled (p : ℕ → ℕ → Bool) (old new : List Mention) (i : ℕ) : Type 0 where
   pub same : length new ≡ length old
   pub done : (k : ℕ) → k < i → k < length old → get_or new k nobody ≡ keep p (get_or old k nobody)
   pub rest : (k : ℕ) → i ≤ k → get_or new k nobody ≡ get_or old k nobody
 
-pub ruled_first : (p : ℕ → ℕ → Bool) (ns : List Name) (i : ℕ) → ((k : ℕ) → k < i → p (get_or ns k nobody).key (quiet_of (get_or ns k nobody)) ≡ true) → IsRuled p ns ns i
+pub ruled_first : (p : ℕ → ℕ → Bool) (ns : List Mention) (i : ℕ) → ((k : ℕ) → k < i → p (get_or ns k nobody).key (quiet_of (get_or ns k nobody)) ≡ true) → IsRuled p ns ns i
 ruled_first p ns i h = record { same = refl; done = λ k below short. sym (kept_whole p (get_or ns k nobody) (h k below)); rest = λ k ge. refl }
 
-pub ruled_more : (p : ℕ → ℕ → Bool) (old new : List Name) (i : ℕ) (m : Name) → IsRuled p old new i → i < length old → m ≡ keep p (get_or new i nobody) → IsRuled p old (set new i m) (i + 1)
+pub ruled_more : (p : ℕ → ℕ → Bool) (old new : List Mention) (i : ℕ) (m : Mention) → IsRuled p old new i → i < length old → m ≡ keep p (get_or new i nobody) → IsRuled p old (set new i m) (i + 1)
 ruled_more p old new i m h short is = record {
   same = length-set new i m ∙ h.same;
   done = λ k below within.
@@ -102,7 +102,7 @@ ruled_more p old new i m h short is = record {
   rest = λ k ge. get_or-set_other new i k m nobody (λ e. absurd (omega arith)) ∙ h.rest k (omega arith);
 }
 
-pub ruled_all : (p : ℕ → ℕ → Bool) (old new : List Name) (i : ℕ) → IsRuled p old new i → ((k : ℕ) → i ≤ k → k < length old → p (get_or old k nobody).key (quiet_of (get_or old k nobody)) ≡ true) → new ≡ keep_all p old
+pub ruled_all : (p : ℕ → ℕ → Bool) (old new : List Mention) (i : ℕ) → IsRuled p old new i → ((k : ℕ) → i ≤ k → k < length old → p (get_or old k nobody).key (quiet_of (get_or old k nobody)) ≡ true) → new ≡ keep_all p old
 ruled_all p old new i h above =
     ext_get_or nobody new (keep_all p old) (h.same ∙ sym (keep-length p old)) (λ k below.
     let short : k < length old = subst (λ m. k < m) h.same below in
@@ -114,36 +114,36 @@ ruled_all p old new i h above =
 
 -- ---- a mask after another
 
-pub run_first : (s : Spot) (m : Level) (near : ℕ) (ns : List Name) → ((k q : ℕ) → level_leaves m k q ≡ slot_leaves s.at (heard_of s) k q) → keep_all (run_leaves (Some (record { first = first_of s; last = last_of s; level = m; near = near }))) ns ≡ keep_all (spot_leaves s) ns
+pub run_first : (s : ReadSlot) (m : Level) (near : ℕ) (ns : List Mention) → ((k q : ℕ) → level_leaves m k q ≡ slot_leaves s.at (heard_of s) k q) → keep_all (run_leaves (Some (record { first = first_of s; last = last_of s; level = m; near = near }))) ns ≡ keep_all (read_leaves s) ns
 run_first s m near ns h = keep_alike _ _ (λ k q. ap (λ b. not (is_between (first_of s) (last_of s) k) || b) (h k q)) ns
 
-pub run_next : (r : Run) (s : Spot) (m : Level) (near : ℕ) (ns new : List Name) → new ≡ keep_all (mask_leaves r.first r.last r.level) ns → ((k q : ℕ) → level_leaves m k q ≡ slot_leaves s.at (heard_of s) k q) → keep_all (run_leaves (Some (record { first = first_of s; last = last_of s; level = m; near = near }))) new ≡ keep_all (λ k q. run_leaves (Some r) k q && spot_leaves s k q) ns
-run_next r s m near ns new is h = run_first s m near new h ∙ (ap (keep_all (spot_leaves s)) is ∙ keep_twice (spot_leaves s) (mask_leaves r.first r.last r.level) ns)
+pub run_next : (r : Run) (s : ReadSlot) (m : Level) (near : ℕ) (ns new : List Mention) → new ≡ keep_all (mask_leaves r.first r.last r.level) ns → ((k q : ℕ) → level_leaves m k q ≡ slot_leaves s.at (heard_of s) k q) → keep_all (run_leaves (Some (record { first = first_of s; last = last_of s; level = m; near = near }))) new ≡ keep_all (λ k q. run_leaves (Some r) k q && read_leaves s k q) ns
+run_next r s m near ns new is h = run_first s m near new h ∙ (ap (keep_all (read_leaves s)) is ∙ keep_twice (read_leaves s) (mask_leaves r.first r.last r.level) ns)
 
 -- one slot more of all
-pub runs_more : (o : Option Run) (r : Run) (spots : List Spot) (i : ℕ) (s : Spot) (old ns new : List Name) → i < length spots → s ≡ get_or spots i s → keep_all (run_leaves o) ns ≡ keep_all (all_leave (take i spots)) old → keep_all (run_leaves (Some r)) new ≡ keep_all (λ k q. run_leaves o k q && spot_leaves s k q) ns → keep_all (run_leaves (Some r)) new ≡ keep_all (all_leave (take (i + 1) spots)) old
-runs_more o r spots i s old ns new below is before step =
+pub runs_more : (o : Option Run) (r : Run) (reads : List ReadSlot) (i : ℕ) (s : ReadSlot) (old ns new : List Mention) → i < length reads → s ≡ get_or reads i s → keep_all (run_leaves o) ns ≡ keep_all (all_leave (take i reads)) old → keep_all (run_leaves (Some r)) new ≡ keep_all (λ k q. run_leaves o k q && read_leaves s k q) ns → keep_all (run_leaves (Some r)) new ≡ keep_all (all_leave (take (i + 1) reads)) old
+runs_more o r reads i s old ns new below is before step =
     step
-    ∙ (sym (keep_twice (spot_leaves s) (run_leaves o) ns)
-    ∙ (ap (keep_all (spot_leaves s)) before
-    ∙ (keep_twice (spot_leaves s) (all_leave (take i spots)) old
-    ∙ keep_alike _ _ (λ k q. ap (λ x. all_leave (take i spots) k q && spot_leaves x k q) is ∙ sym (list_all_more (λ t. spot_leaves t k q) spots i s below)) old)))
+    ∙ (sym (keep_twice (read_leaves s) (run_leaves o) ns)
+    ∙ (ap (keep_all (read_leaves s)) before
+    ∙ (keep_twice (read_leaves s) (all_leave (take i reads)) old
+    ∙ keep_alike _ _ (λ k q. ap (λ x. all_leave (take i reads) k q && read_leaves x k q) is ∙ sym (list_all_more (λ t. read_leaves t k q) reads i s below)) old)))
 
--- ---- the names that pass a test
+-- ---- the mentions that pass a test
 
-where_skip : (p : Name → Bool) (ns : List Name) (k i : ℕ) → i < length ns → ((get_or ns i nobody).key ≡ k → ⊥) → has_where p (take (i + 1) ns) k ≡ has_where p (take i ns) k
+where_skip : (p : Mention → Bool) (ns : List Mention) (k i : ℕ) → i < length ns → ((get_or ns i nobody).key ≡ k → ⊥) → has_where p (take (i + 1) ns) k ≡ has_where p (take i ns) k
 where_skip p ns k i below other =
-    list_any_more (λ (n : Name). (n.key == k) && p n) ns i nobody below
+    list_any_more (λ (n : Mention). (n.key == k) && p n) ns i nobody below
     ∙ (ap (λ b. has_where p (take i ns) k || (b && p (get_or ns i nobody))) (ne_eqb _ _ other) ∙ or_false (has_where p (take i ns) k))
 
-pub where_below : (p : Name → Bool) (ns : List Name) (k i : ℕ) → i ≤ length ns → ((j : ℕ) → j < i → (get_or ns j nobody).key < k) → has_where p (take i ns) k ≡ false
+pub where_below : (p : Mention → Bool) (ns : List Mention) (k i : ℕ) → i ≤ length ns → ((j : ℕ) → j < i → (get_or ns j nobody).key < k) → has_where p (take i ns) k ≡ false
 where_below p ns k zero le h = refl
 where_below p ns k (suc i) le h =
     ap (λ n. has_where p (take n ns) k) (sym (add-one i))
     ∙ (where_skip p ns k i (omega arith) (λ e. let lt = h i (omega arith) in absurd (omega arith))
     ∙ where_below p ns k i (omega arith) (λ j lt. h j (omega arith)))
 
-pub where_above : (p : Name → Bool) (ns : List Name) (k i more : ℕ) → i + more ≡ length ns → ((j : ℕ) → i ≤ j → j < length ns → k < (get_or ns j nobody).key) → has_where p (take i ns) k ≡ has_where p ns k
+pub where_above : (p : Mention → Bool) (ns : List Mention) (k i more : ℕ) → i + more ≡ length ns → ((j : ℕ) → i ≤ j → j < length ns → k < (get_or ns j nobody).key) → has_where p (take i ns) k ≡ has_where p ns k
 where_above p ns k i zero e h = ap (λ ms. has_where p ms k) (take_all i ns (omega arith))
 where_above p ns k i (suc more) e h =
     sym (where_skip p ns k i (omega arith) (λ same. let lt = h i (omega arith) (omega arith) in absurd (omega arith)))
@@ -152,37 +152,37 @@ where_above p ns k i (suc more) e h =
 pub between_parts : (first last k : ℕ) → is_between first last k ≡ true → (first ≤ k) × (k ≤ last)
 between_parts first last k e = (grind (arith, nat_tests), grind (arith, nat_tests))
 
--- ---- names and slots
+-- ---- mentions and slots
 
-silenced_named : (ns : List Name) (k i : ℕ) → is_quiet_by ns k i ≡ true → is_named ns k ≡ true
-silenced_named [] k i e = e
-silenced_named (n ∷ ns) k i e = grind (arith, silenced_named ns k i)
+silenced_mentioned : (ns : List Mention) (k i : ℕ) → is_quiet_by ns k i ≡ true → is_mentioned ns k ≡ true
+silenced_mentioned [] k i e = e
+silenced_mentioned (n ∷ ns) k i e = grind (arith, silenced_mentioned ns k i)
 
--- where the UID of a key falls silent first, by the names
-record Least (ns : List Name) (k : ℕ) : Type 0 where
+-- where the UID of a key falls silent first, by the mentions
+record Least (ns : List Mention) (k : ℕ) : Type 0 where
   quiet : ℕ
   left : (p : ℕ → ℕ → Bool) → p k quiet ≡ true → are_left ns ≡ true → has_left (keep_all p ns) k ≡ true
   first : (i : ℕ) → is_quiet_by ns k i ≡ true → quiet < i
 
-least_here : (n : Name) (ns : List Name) (k : ℕ) → (n.key == k) ≡ true → ((i : ℕ) → is_quiet_by ns k i ≡ true → quiet_of n < i) → Least (n ∷ ns) k
+least_here : (n : Mention) (ns : List Mention) (k : ℕ) → (n.key == k) ≡ true → ((i : ℕ) → is_quiet_by ns k i ≡ true → quiet_of n < i) → Least (n ∷ ns) k
 least_here n ns k here h = record {
   quiet = quiet_of n;
   left = λ p e all. let same = eqb-true n.key k here in grind arith;
   first = λ i e. grind (arith, nat_tests, h i);
 }
 
-least_there : (n : Name) (ns : List Name) (k : ℕ) → (t : Least ns k) → ((n.key == k) ≡ true → t.quiet ≤ quiet_of n) → Least (n ∷ ns) k
+least_there : (n : Mention) (ns : List Mention) (k : ℕ) → (t : Least ns k) → ((n.key == k) ≡ true → t.quiet ≤ quiet_of n) → Least (n ∷ ns) k
 least_there n ns k t h = record {
   quiet = t.quiet;
   left = λ p e all. or_right _ _ (t.left p e (and_parts n.left (are_left ns) all).1);
   first = λ i e. grind (arith, nat_tests, h, t.first i);
 }
 
-least : (ns : List Name) (k : ℕ) → is_named ns k ≡ true → Least ns k
+least : (ns : List Mention) (k : ℕ) → is_mentioned ns k ≡ true → Least ns k
 least [] k e = absurd (false≢true e)
-least (n ∷ ns) k e = go (n.key == k) refl (is_named ns k) refl (least ns k) e where
-  go : (a : Bool) → (n.key == k) ≡ a → (b : Bool) → is_named ns k ≡ b → (is_named ns k ≡ true → Least ns k) → (a || b) ≡ true → Least (n ∷ ns) k
-  go true here false none ih _ = least_here n ns k here (λ i s. absurd (false≢true (sym none ∙ silenced_named ns k i s)))
+least (n ∷ ns) k e = go (n.key == k) refl (is_mentioned ns k) refl (least ns k) e where
+  go : (a : Bool) → (n.key == k) ≡ a → (b : Bool) → is_mentioned ns k ≡ b → (is_mentioned ns k ≡ true → Least ns k) → (a || b) ≡ true → Least (n ∷ ns) k
+  go true here false none ih _ = least_here n ns k here (λ i s. absurd (false≢true (sym none ∙ silenced_mentioned ns k i s)))
   go true here true more ih _ = elim (cases_lt (quiet_of n) (ih more).quiet) [
     | inl lt ↦ least_here n ns k here (λ i s. let f = (ih more).first i s in omega arith)
     | inr ge ↦ least_there n ns k (ih more) (λ _. ge)
@@ -190,8 +190,8 @@ least (n ∷ ns) k e = go (n.key == k) refl (is_named ns k) refl (least ns k) e 
   go false other true more ih _ = least_there n ns k (ih more) (λ same. absurd (false≢true (sym other ∙ same)))
   go false other false none ih h = absurd (false≢true h)
 
--- a name that is left leaves the test true, and is silent where it fell silent before
-left_one : (p : ℕ → ℕ → Bool) (ns : List Name) (k : ℕ) → has_left (keep_all p ns) k ≡ true → (q : ℕ) × (p k q ≡ true) × ((i : ℕ) → nat_lt q i ≡ true → is_quiet_by ns k i ≡ true)
+-- a mention that is left leaves the test true, and is silent where it fell silent before
+left_one : (p : ℕ → ℕ → Bool) (ns : List Mention) (k : ℕ) → has_left (keep_all p ns) k ≡ true → (q : ℕ) × (p k q ≡ true) × ((i : ℕ) → nat_lt q i ≡ true → is_quiet_by ns k i ≡ true)
 left_one p [] k e = absurd (false≢true e)
 left_one p (n ∷ ns) k e =
     ⊎_elim
@@ -202,47 +202,47 @@ left_one p (n ∷ ns) k e =
     (λ there. let r = left_one p ns k there in (r.0, r.1, λ i lt. or_right _ _ (r.2 i lt)))
     (or_cases _ _ e)
 
-allow_from_leave : (ns : List Name) (s : Spot) (k q : ℕ) → (nat_lt q s.at ≡ true → is_quiet_by ns k s.at ≡ true) → spot_leaves s k q ≡ true → spot_allows ns s k ≡ true
+allow_from_leave : (ns : List Mention) (s : ReadSlot) (k q : ℕ) → (nat_lt q s.at ≡ true → is_quiet_by ns k s.at ≡ true) → read_leaves s k q ≡ true → read_allows ns s k ≡ true
 allow_from_leave ns s k q h e = grind (arith, h)
 
-leave_from_allow : (ns : List Name) (s : Spot) (k q : ℕ) → (is_quiet_by ns k s.at ≡ true → nat_lt q s.at ≡ true) → spot_allows ns s k ≡ true → spot_leaves s k q ≡ true
+leave_from_allow : (ns : List Mention) (s : ReadSlot) (k q : ℕ) → (is_quiet_by ns k s.at ≡ true → nat_lt q s.at ≡ true) → read_allows ns s k ≡ true → read_leaves s k q ≡ true
 leave_from_allow ns s k q h e = grind (arith, h)
 
-all_allow_from : (ns : List Name) (k q : ℕ) → ((i : ℕ) → nat_lt q i ≡ true → is_quiet_by ns k i ≡ true) → (ss : List Spot) → all_leave ss k q ≡ true → all_allow ns ss k ≡ true
+all_allow_from : (ns : List Mention) (k q : ℕ) → ((i : ℕ) → nat_lt q i ≡ true → is_quiet_by ns k i ≡ true) → (ss : List ReadSlot) → all_leave ss k q ≡ true → all_allow ns ss k ≡ true
 all_allow_from ns k q h [] e = refl
 all_allow_from ns k q h (s ∷ ss) e = let w = and_parts _ _ e in and_from _ _ (allow_from_leave ns s k q (h s.at) w.0) (all_allow_from ns k q h ss w.1)
 
-all_leave_from : (ns : List Name) (k q : ℕ) → ((i : ℕ) → is_quiet_by ns k i ≡ true → q < i) → (ss : List Spot) → all_allow ns ss k ≡ true → all_leave ss k q ≡ true
+all_leave_from : (ns : List Mention) (k q : ℕ) → ((i : ℕ) → is_quiet_by ns k i ≡ true → q < i) → (ss : List ReadSlot) → all_allow ns ss k ≡ true → all_leave ss k q ≡ true
 all_leave_from ns k q h [] e = refl
 all_leave_from ns k q h (s ∷ ss) e = let w = and_parts _ _ e in and_from _ _ (leave_from_allow ns s k q (λ f. lt_yes q s.at (h s.at f)) w.0) (all_leave_from ns k q h ss w.1)
 
 -- in no slot
-abbrev all_outside : List Spot → ℕ → Bool → Bool
-all_outside ss k b = list_all (λ (s : Spot). not (is_in s k) || b) ss
+abbrev all_outside : List ReadSlot → ℕ → Bool → Bool
+all_outside ss k b = list_all (λ (s : ReadSlot). not (is_in s k) || b) ss
 
-outside_yes : (ss : List Spot) (k : ℕ) → all_outside ss k true ≡ true
+outside_yes : (ss : List ReadSlot) (k : ℕ) → all_outside ss k true ≡ true
 outside_yes [] k = refl
 outside_yes (s ∷ ss) k = grind (arith, outside_yes ss k)
 
-outside_allow : (ns : List Name) (ss : List Spot) (k : ℕ) → all_outside ss k false ≡ true → all_allow ns ss k ≡ true
+outside_allow : (ns : List Mention) (ss : List ReadSlot) (k : ℕ) → all_outside ss k false ≡ true → all_allow ns ss k ≡ true
 outside_allow ns [] k e = refl
 outside_allow ns (s ∷ ss) k e = grind (arith, outside_allow ns ss k)
 
--- the slot allows a key that is not named only where the key is not in it
-unnamed_outside : (ns : List Name) (s : Spot) (k : ℕ) → is_named ns k ≡ false → hears_named ns s ≡ true → spot_allows ns s k ≡ true → not (is_in s k) ≡ true
-unnamed_outside ns s k none h e = grind (arith, silenced_named ns k s.at, go (heard_of s))
+-- the slot allows a key that is not mentioned only where the key is not in it
+unmentioned_outside : (ns : List Mention) (s : ReadSlot) (k : ℕ) → is_mentioned ns k ≡ false → hears_mentioned ns s ≡ true → read_allows ns s k ≡ true → not (is_in s k) ≡ true
+unmentioned_outside ns s k none h e = grind (arith, silenced_mentioned ns k s.at, go (heard_of s))
   where
-    go : (o : Option ℕ) → is_heard o k ≡ true → is_named_if ns o ≡ true → is_named ns k ≡ true
+    go : (o : Option ℕ) → is_heard o k ≡ true → is_mentioned_if ns o ≡ true → is_mentioned ns k ≡ true
     go None f g = absurd (false≢true f)
-    go (Some x) f g = subst (λ y. is_named ns y ≡ true) (eqb-true x k f) g
+    go (Some x) f g = subst (λ y. is_mentioned ns y ≡ true) (eqb-true x k f) g
 
-all_unnamed : (ns : List Name) (k : ℕ) → is_named ns k ≡ false → (b : Bool) (ss : List Spot) → all_hear_named ns ss ≡ true → all_allow ns ss k ≡ true → all_outside ss k b ≡ true
-all_unnamed ns k none b [] h e = refl
-all_unnamed ns k none b (s ∷ ss) h e = grind (arith, unnamed_outside ns s k none, all_unnamed ns k none b ss)
+all_unmentioned : (ns : List Mention) (k : ℕ) → is_mentioned ns k ≡ false → (b : Bool) (ss : List ReadSlot) → all_hear_mentioned ns ss ≡ true → all_allow ns ss k ≡ true → all_outside ss k b ≡ true
+all_unmentioned ns k none b [] h e = refl
+all_unmentioned ns k none b (s ∷ ss) h e = grind (arith, unmentioned_outside ns s k none, all_unmentioned ns k none b ss)
 
--- a key lies in no slot or is left by name if and only if all slots allow it
-pub covered_allowed : (ns : List Name) (ss : List Spot) (k : ℕ) → are_left ns ≡ true → all_hear_named ns ss ≡ true → all_cover (keep_all (all_leave ss) ns) ss k ≡ all_allow ns ss k
-covered_allowed ns ss k left named = same_tests _ _ to from where
+-- a key lies in no slot or is left by mention if and only if all slots allow it
+pub covered_allowed : (ns : List Mention) (ss : List ReadSlot) (k : ℕ) → are_left ns ≡ true → all_hear_mentioned ns ss ≡ true → all_cover (keep_all (all_leave ss) ns) ss k ≡ all_allow ns ss k
+covered_allowed ns ss k left mentioned = same_tests _ _ to from where
   to : all_cover (keep_all (all_leave ss) ns) ss k ≡ true → all_allow ns ss k ≡ true
   to e = go (has_left (keep_all (all_leave ss) ns) k) refl e where
     go : (b : Bool) → has_left (keep_all (all_leave ss) ns) k ≡ b → all_outside ss k b ≡ true → all_allow ns ss k ≡ true
@@ -250,13 +250,13 @@ covered_allowed ns ss k left named = same_tests _ _ to from where
     go false f g = outside_allow ns ss k g
 
   from : all_allow ns ss k ≡ true → all_cover (keep_all (all_leave ss) ns) ss k ≡ true
-  from e = go (is_named ns k) refl where
-    go : (b : Bool) → is_named ns k ≡ b → all_cover (keep_all (all_leave ss) ns) ss k ≡ true
+  from e = go (is_mentioned ns k) refl where
+    go : (b : Bool) → is_mentioned ns k ≡ b → all_cover (keep_all (all_leave ss) ns) ss k ≡ true
     go true f =
         let t = least ns k f in
         let l = t.left (all_leave ss) (all_leave_from ns k t.quiet t.first ss e) left in
         ap (all_outside ss k) l ∙ outside_yes ss k
-    go false f = all_unnamed ns k f (has_left (keep_all (all_leave ss) ns) k) ss named e
+    go false f = all_unmentioned ns k f (has_left (keep_all (all_leave ss) ns) k) ss mentioned e
 
 -- ---- sorted
 
@@ -271,51 +271,51 @@ all_alike : {X : Type 0} (p q : X → Bool) → ((x : X) → p x ≡ q x) → (x
 all_alike p q h [] = refl
 all_alike p q h (x ∷ xs) = rw (h x, all_alike p q h xs) refl
 
-pub left_permuted : (ns ms : List Name) → IsPermutation ns ms → are_left ns ≡ true → are_left ms ≡ true
-left_permuted ns ms m e = sym (all_permuted (λ (n : Name). n.left) ns ms m) ∙ e
+pub left_permuted : (ns ms : List Mention) → IsPermutation ns ms → are_left ns ≡ true → are_left ms ≡ true
+left_permuted ns ms m e = sym (all_permuted (λ (n : Mention). n.left) ns ms m) ∙ e
 
-pub named_permuted : (ns ms : List Name) (ss ts : List Spot) → IsPermutation ns ms → IsPermutation ss ts → all_hear_named ns ss ≡ true → all_hear_named ms ts ≡ true
-named_permuted ns ms ss ts m w e =
-    all_alike (hears_named ms) (hears_named ns) (λ (s : Spot). go (heard_of s)) ts ∙ (sym (all_permuted (hears_named ns) ss ts w) ∙ e)
+pub mentioned_permuted : (ns ms : List Mention) (ss ts : List ReadSlot) → IsPermutation ns ms → IsPermutation ss ts → all_hear_mentioned ns ss ≡ true → all_hear_mentioned ms ts ≡ true
+mentioned_permuted ns ms ss ts m w e =
+    all_alike (hears_mentioned ms) (hears_mentioned ns) (λ (s : ReadSlot). go (heard_of s)) ts ∙ (sym (all_permuted (hears_mentioned ns) ss ts w) ∙ e)
   where
-    go : (o : Option ℕ) → is_named_if ms o ≡ is_named_if ns o
+    go : (o : Option ℕ) → is_mentioned_if ms o ≡ is_mentioned_if ns o
     go None = refl
-    go (Some h) = sym (list_any-IsPermutation (λ (n : Name). n.key == h) ns ms m)
+    go (Some h) = sym (list_any-IsPermutation (λ (n : Mention). n.key == h) ns ms m)
 
-pub allow_permuted : (ns ms : List Name) (ss ts : List Spot) (k : ℕ) → IsPermutation ns ms → IsPermutation ss ts → all_allow ms ts k ≡ all_allow ns ss k
+pub allow_permuted : (ns ms : List Mention) (ss ts : List ReadSlot) (k : ℕ) → IsPermutation ns ms → IsPermutation ss ts → all_allow ms ts k ≡ all_allow ns ss k
 allow_permuted ns ms ss ts k m w =
-    all_alike (λ s. spot_allows ms s k) (λ s. spot_allows ns s k)
-    (λ (s : Spot). ap (λ b. not (is_in s k) || (b || is_heard (heard_of s) k)) (sym (list_any-IsPermutation (λ (n : Name). (n.key == k) && nat_lt (quiet_of n) s.at) ns ms m))) ts
-    ∙ sym (all_permuted (λ s. spot_allows ns s k) ss ts w)
+    all_alike (λ s. read_allows ms s k) (λ s. read_allows ns s k)
+    (λ (s : ReadSlot). ap (λ b. not (is_in s k) || (b || is_heard (heard_of s) k)) (sym (list_any-IsPermutation (λ (n : Mention). (n.key == k) && nat_lt (quiet_of n) s.at) ns ms m))) ts
+    ∙ sym (all_permuted (λ s. read_allows ns s k) ss ts w)
 
 -- ---- the slots before a position
 
-abbrev pub is_before_place : ℕ → Spot → Bool
+abbrev pub is_before_place : ℕ → ReadSlot → Bool
 is_before_place i s = nat_lt s.at i
 
 -- all of them, where the position is behind them
-pub before_end : (i j : ℕ) (ss : List Spot) → j ≤ i → All (λ (s : Spot). s.at < j) ss → filter (is_before_place i) ss ≡ ss
+pub before_end : (i j : ℕ) (ss : List ReadSlot) → j ≤ i → All (λ (s : ReadSlot). s.at < j) ss → filter (is_before_place i) ss ≡ ss
 before_end i j [] le h = refl
 before_end i j (s ∷ ss) le h =
-    let lt = All-head (λ (t : Spot). t.at < j) s ss h in
-    rw (lt_yes s.at i (omega arith), before_end i j ss le (All-tail (λ (t : Spot). t.at < j) s ss h)) refl
+    let lt = All-head (λ (t : ReadSlot). t.at < j) s ss h in
+    rw (lt_yes s.at i (omega arith), before_end i j ss le (All-tail (λ (t : ReadSlot). t.at < j) s ss h)) refl
 
-pub allow_filtered : (ns : List Name) (i k : ℕ) (ss : List Spot) → all_allow ns (filter (is_before_place i) ss) k ≡ all_allow_to ns ss i k
+pub allow_filtered : (ns : List Mention) (i k : ℕ) (ss : List ReadSlot) → all_allow ns (filter (is_before_place i) ss) k ≡ all_allow_to ns ss i k
 allow_filtered ns i k [] = refl
 allow_filtered ns i k (s ∷ ss) = go (nat_lt s.at i) refl (allow_filtered ns i k ss)
   where
-    go : (b : Bool) → nat_lt s.at i ≡ b → all_allow ns (filter (is_before_place i) ss) k ≡ all_allow_to ns ss i k → all_allow ns (cond b (s ∷ filter (is_before_place i) ss) (filter (is_before_place i) ss)) k ≡ ((nat_le i s.at || spot_allows ns s k) && all_allow_to ns ss i k)
+    go : (b : Bool) → nat_lt s.at i ≡ b → all_allow ns (filter (is_before_place i) ss) k ≡ all_allow_to ns ss i k → all_allow ns (cond b (s ∷ filter (is_before_place i) ss) (filter (is_before_place i) ss)) k ≡ ((nat_le i s.at || read_allows ns s k) && all_allow_to ns ss i k)
     go true e rest = grind (arith, nat_tests)
     go false e rest = grind (arith, nat_tests)
 
-pub named_filtered : (ns : List Name) (p : Spot → Bool) (ss : List Spot) → all_hear_named ns ss ≡ true → all_hear_named ns (filter p ss) ≡ true
-named_filtered ns p [] e = refl
-named_filtered ns p (s ∷ ss) e = go (p s) (and_parts _ _ e).0 (named_filtered ns p ss (and_parts _ _ e).1)
+pub mentioned_filtered : (ns : List Mention) (p : ReadSlot → Bool) (ss : List ReadSlot) → all_hear_mentioned ns ss ≡ true → all_hear_mentioned ns (filter p ss) ≡ true
+mentioned_filtered ns p [] e = refl
+mentioned_filtered ns p (s ∷ ss) e = go (p s) (and_parts _ _ e).0 (mentioned_filtered ns p ss (and_parts _ _ e).1)
   where
-    go : (b : Bool) → hears_named ns s ≡ true → all_hear_named ns (filter p ss) ≡ true → all_hear_named ns (cond b (s ∷ filter p ss) (filter p ss)) ≡ true
+    go : (b : Bool) → hears_mentioned ns s ≡ true → all_hear_mentioned ns (filter p ss) ≡ true → all_hear_mentioned ns (cond b (s ∷ filter p ss) (filter p ss)) ≡ true
     go true one rest = and_from _ _ one rest
     go false one rest = rest
 
 -- a slice that was borrowed from a list and written
-pub written : (n : ℕ) (xs ys : List Name) → n ≡ length xs → take n (xs ++ ys) ≡ xs
+pub written : (n : ℕ) (xs ys : List Mention) → n ≡ length xs → take n (xs ++ ys) ≡ xs
 written n xs ys e = ap (λ m. take m (xs ++ ys)) e ∙ take-append_seam xs ys

@@ -1,4 +1,4 @@
--- The words of proofs, from one place: the types, definitions and lemmas from outside that several files name.
+-- The words of proofs, from one place: the types, definitions and lemmas from outside that several files mention.
 pub use Rattle.std.specs.List.{list_any, list_all}
 pub use Rattle.std.specs.List.Sorted.{IsStrictlyIncreasing}
 pub use Rattle.std.proofs.lemmas.Bool.{and_parts, and_from, cases_eq, false≢true, both_ways, cases_lt, or_left, or_right, or_cases, false_from_ne_true, not-true, cases_Bool, not_from_false, and_right}
@@ -30,14 +30,14 @@ pub use Rattle.vic_log.specs.Slots.{is_open, slots_of, reading_of, ManyReplies, 
 pub use Rattle.vic_log.proofs.Places.{answers_agree, CouldHaveGiven-slots, AgreeBefore}
 pub use Rattle.vic_log.proofs.Sets.{has_here, has_cases, has_there, has_at, AreDifferent-population, has_filter, IsWithin, AreDifferent-filter}
 pub use Rattle.vic_log.proofs.Supply.{IsUid-from, is_uid_from, MeetsAll-iff}
-pub use Rattle.vic_verdict.specs.declared.closed.Spot.{Spot}
+pub use Rattle.vic_verdict.specs.declared.closed.ReadSlot.{ReadSlot}
 pub use Rattle.vic_verdict.specs.declared.demands.Demand.{Demand}
 pub use Rattle.vic_verdict.specs.declared.demands.Found.{Found}
 pub use Rattle.vic_verdict.specs.declared.demands.Met.{Met}
 pub use Rattle.vic_verdict.specs.declared.demands.Stretch.{Stretch}
 pub use Rattle.vic_verdict.specs.declared.judging.Verdict.TheVariants.{Impossible, Complete}
-pub use Rattle.vic_verdict.specs.declared.names.Name.{Name}
-pub use Rattle.vic_verdict.specs.declared.names.TheConstants.{NEVER}
+pub use Rattle.vic_verdict.specs.declared.mentions.Mention.{Mention}
+pub use Rattle.vic_verdict.specs.declared.mentions.TheConstants.{NEVER}
 pub use Rattle.vic_verdict.specs.declared.sweep.Run.{Run}
 pub use Rattle.vic_verdict.specs.inner.Answering.{HasInside, IsReadyIn, is_ready_at, IsKnown}
 pub use Rattle.vic_verdict.specs.inner.Closed.{is_in_some, Closes}
@@ -50,5 +50,5 @@ pub use Rattle.vic_verdict.specs.Places.{answering}
 pub use Rattle.vic_verdict.specs.Possible.{IsPossible, IsCertainUid, IsPossibleUid, Lacks, IsContradictedAt, IsContradiction, rules_out}
 pub use Rattle.vic_verdict.specs.inner.Replies.{IsFirstQuietReply, reply_place}
 pub use Rattle.vic_verdict.specs.Rising.{IsFailing, IsListOf, SameMembers}
-pub use Rattle.vic_verdict.specs.inner.Sweep.{is_quiet_by, AreInOrder, quiet_of, has_where, keep_all, HaveKeys, is_named, has_left, all_allow_to, all_allow, all_hear_named, all_leave, mask_leaves, run_leaves, is_in, ArePutInOrder, heard_of, is_heard, spot_allows, is_named_if, first_of, last_of, level_leaves}
+pub use Rattle.vic_verdict.specs.inner.Sweep.{is_quiet_by, AreInOrder, quiet_of, has_where, keep_all, HaveKeys, is_mentioned, has_left, all_allow_to, all_allow, all_hear_mentioned, all_leave, mask_leaves, run_leaves, is_in, ArePutInOrder, heard_of, is_heard, read_allows, is_mentioned_if, first_of, last_of, level_leaves}
 pub use Rattle.vic_verdict.specs.Verdict.{IsVerdict, NoSuch, IsLeast, IsAbsent, IsUnlisted, IsUnsettled, IsDoubtful, IsFirstMask}

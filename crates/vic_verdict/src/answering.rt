@@ -1,8 +1,8 @@
 //! Which open UIDs answer in a slot.
 //!
-//! Usually the first ones that are found aren't Quiet there. Otherwise the UIDs without a name and
-//! those with one are searched for separately. The former are never Quiet, and those in a mask show
-//! those in its inner masks. For the latter it is known where each becomes Quiet.
+//! Usually the first ones that are found aren't Quiet there. Otherwise the UIDs without a mention
+//! and those with one are searched for separately. The former are never Quiet, and those in a mask
+//! show those in its inner masks. For the latter it is known where each becomes Quiet.
 
 ghost use Rattle.std.specs.Prelude.{◌≡◌, ◌^◌, ◌<◌, ◌≤◌, ℕ, Bool, List, [], map, nat_lt, IfOk, OnOk, IfSome};
 ghost use Rattle.std.specs.List.{All};
@@ -12,12 +12,12 @@ ghost use Rattle.vic_frame.specs.LowBitsFirst.{IsBlock, is_in_block};
 ghost use Rattle.vic_frame.specs.Uids.{has};
 ghost use Rattle.vic_tree.specs.Gathering.{Gathers};
 ghost use Rattle.vic_tree.specs.OpenSet.{AreKeys, UpToThree};
-ghost use Rattle.vic_verdict.specs.declared.names.Name.{Name as NameValue};
-ghost use Rattle.vic_verdict.specs.declared.answering.Unnamed.{Unnamed as UnnamedValue};
-ghost use Rattle.vic_verdict.specs.inner.Sweep.{AreInOrder, HaveKeys, is_named, quiet_of};
-ghost use Rattle.vic_verdict.specs.inner.Answering.{AreOpenNames, IsKnown, IsReadyIn, IsUnnamed, HasInside, HasNamedIn, is_answering, is_ready_at, is_unnamed, is_unnamed_in};
+ghost use Rattle.vic_verdict.specs.declared.mentions.Mention.{Mention as MentionValue};
+ghost use Rattle.vic_verdict.specs.declared.answering.Unmentioned.{Unmentioned as UnmentionedValue};
+ghost use Rattle.vic_verdict.specs.inner.Sweep.{AreInOrder, HaveKeys, is_mentioned, quiet_of};
+ghost use Rattle.vic_verdict.specs.inner.Answering.{AreOpenMentions, IsKnown, IsReadyIn, IsUnmentioned, HasInside, HasMentionedIn, is_answering, is_ready_at, is_unmentioned, is_unmentioned_in};
 
-use crate::names::{Name, first_quiet, is_any_quiet, names_between, start_near};
+use crate::mentions::{Mention, first_quiet, is_any_quiet, mentions_between, start_near};
 use arrayvec::ArrayVec;
 use std::alloc::{AllocError, Global};
 use vic_frame::Uid;
@@ -25,41 +25,41 @@ use vic_frame::low_bits_first::{KeyBlock, key, mask_of_keys, uid_at};
 use vic_tree::OpenSet;
 use vic_tree::gather::gather_one;
 
-/// Open UIDs without a name, with keys from `first` to `last`: three, or all if there are fewer.
+/// Open UIDs without a mention, with keys from `first` to `last`: three, or all if there are fewer.
 #[derive(Drop)]
-pub(crate) struct Unnamed {
+pub(crate) struct Unmentioned {
     pub first: u64,
     pub last: u64,
     pub uids: Vec<Uid>,
 }
 
-/// What is known about the names of a stretch, and about the UIDs without a name.
+/// What is known about the mentions of a stretch, and about the UIDs without a mention.
 #[derive(Drop)]
 pub(crate) struct Known {
     /// The position from which on it is known which UIDs answer.
     pub from: usize,
-    /// The keys of the names.
+    /// The keys of the mentions.
     pub keys: Vec<u64>,
-    /// A name for each open UID that has one and isn't Quiet at that position, Quiet where the UID
-    /// is by all its names; in the order of keys.
-    pub named: Vec<Name>,
-    /// The masks that were searched for UIDs without a name, each within the one before it.
-    pub masks: Vec<Unnamed>,
+    /// A mention for each open UID that has one and isn't Quiet at that position, Quiet where the
+    /// UID is by all its mentions; in the order of keys.
+    pub mentioned: Vec<Mention>,
+    /// The masks that were searched for UIDs without a mention, each within the one before it.
+    pub masks: Vec<Unmentioned>,
 }
 
-/// The keys of names.
-fn keys_of(alloc: Global, names: &[Name]) -> Result<Vec<u64>, AllocError>
-    ensures { IfOk result (λ keys. keys.items ≡ map (λ (n : NameValue). n.key) names.now) }
+/// The keys of mentions.
+fn keys_of(alloc: Global, mentions: &[Mention]) -> Result<Vec<u64>, AllocError>
+    ensures { IfOk result (λ keys. keys.items ≡ map (λ (n : MentionValue). n.key) mentions.now) }
 {
-    let mut keys = Vec::with_capacity(alloc, names.len())?;
-    for name in names {
-        keys.push(name.key)?;
+    let mut keys = Vec::with_capacity(alloc, mentions.len())?;
+    for mention in mentions {
+        keys.push(mention.key)?;
     }
     Ok(keys)
 }
 
-/// A name with a key whose UID is Quiet after a position.
-fn name_quiet_after(key: u64, quiet: usize) -> Name
+/// A mention with a key whose UID is Quiet after a position.
+fn mention_quiet_after(key: u64, quiet: usize) -> Mention
     ensures key { result.key ≡ key }
     ensures quiet { (i : ℕ) → i < 2 ^ 32 → nat_lt (quiet_of result) i ≡ nat_lt quiet i }
 {
@@ -67,7 +67,7 @@ fn name_quiet_after(key: u64, quiet: usize) -> Name
         Ok(at) => (at, false),
         Err(_) => (0, true),
     };
-    Name {
+    Mention {
         key,
         at,
         is_heard,
@@ -75,33 +75,33 @@ fn name_quiet_after(key: u64, quiet: usize) -> Name
     }
 }
 
-/// A name for each UID of a set that has names and isn't Quiet at a position, Quiet where the UID
-/// is by all of them.
-fn open_names<S: OpenSet>(
+/// A mention for each UID of a set that has mentions and isn't Quiet at a position, Quiet where the
+/// UID is by all of them.
+fn open_mentions<S: OpenSet>(
     alloc: Global,
     set: &S,
-    names: &[Name],
+    mentions: &[Mention],
     keys: &[u64],
     from: usize,
-) -> Result<Vec<Name>, AllocError>
-    requires order { AreInOrder names.now }
-    requires named { HaveKeys names.now }
-    requires keys { keys.now ≡ map (λ (n : NameValue). n.key) names.now }
-    ensures { IfOk result (λ named.
-        AreOpenNames (is_ready_at (S.is_open set.now) names.now from) names.now named.items) }
+) -> Result<Vec<Mention>, AllocError>
+    requires order { AreInOrder mentions.now }
+    requires mentioned { HaveKeys mentions.now }
+    requires keys { keys.now ≡ map (λ (n : MentionValue). n.key) mentions.now }
+    ensures { IfOk result (λ mentioned. AreOpenMentions
+        (is_ready_at (S.is_open set.now) mentions.now from) mentions.now mentioned.items) }
 {
     let is_open = set.has_each(alloc, keys)?;
-    let mut named = Vec::new(alloc);
-    for i in 0..names.len() {
-        let key = names[i].key;
-        if i == 0 || names[i - 1].key < key {
-            let quiet = first_quiet(names_between(names, i, key, key));
+    let mut mentioned = Vec::new(alloc);
+    for i in 0..mentions.len() {
+        let key = mentions[i].key;
+        if i == 0 || mentions[i - 1].key < key {
+            let quiet = first_quiet(mentions_between(mentions, i, key, key));
             if from <= quiet && is_open[i] {
-                named.push(name_quiet_after(key, quiet))?;
+                mentioned.push(mention_quiet_after(key, quiet))?;
             }
         }
     }
-    Ok(named)
+    Ok(mentioned)
 }
 
 impl Known {
@@ -109,21 +109,21 @@ impl Known {
     fn of<S: OpenSet>(
         alloc: Global,
         set: &S,
-        names: &[Name],
+        mentions: &[Mention],
         from: usize,
     ) -> Result<Known, AllocError>
-        requires order { AreInOrder names.now }
-        requires keys { HaveKeys names.now }
-        ensures known { IfOk result (IsKnown (S.is_open set.now) names.now) }
+        requires order { AreInOrder mentions.now }
+        requires keys { HaveKeys mentions.now }
+        ensures known { IfOk result (IsKnown (S.is_open set.now) mentions.now) }
         ensures from { IfOk result (λ known. known.from ≡ from) }
     {
-        let keys = keys_of(alloc, names)?;
-        let named = open_names(alloc, set, names, &keys, from)?;
+        let keys = keys_of(alloc, mentions)?;
+        let mentioned = open_mentions(alloc, set, mentions, &keys, from)?;
         let masks = Vec::new(alloc);
         Ok(Known {
             from,
             keys,
-            named,
+            mentioned,
             masks,
         })
     }
@@ -133,30 +133,30 @@ impl Known {
         &mut self,
         alloc: Global,
         set: &S,
-        names: &[Name],
+        mentions: &[Mention],
         near: usize,
         block: &KeyBlock,
         at: usize,
     ) -> Result<ArrayVec<Uid, 3>, AllocError>
-        requires order { AreInOrder names.now }
-        requires keys { HaveKeys names.now }
+        requires order { AreInOrder mentions.now }
+        requires keys { HaveKeys mentions.now }
         requires block { IsBlock block.now.first block.now.len }
         requires place { at < 2 ^ 32 }
         requires from { self.old.from ≤ at }
-        requires known { IsKnown (S.is_open set.now) names.now self.old }
-        ensures known { OnOk result (IsKnown (S.is_open set.now) names.now self.new) }
+        requires known { IsKnown (S.is_open set.now) mentions.now self.old }
+        ensures known { OnOk result (IsKnown (S.is_open set.now) mentions.now self.new) }
         ensures uids { IfOk result (λ uids. UpToThree
-            (is_answering (S.is_open set.now) names.now block.now at) uids.items) }
+            (is_answering (S.is_open set.now) mentions.now block.now at) uids.items) }
     {
         let (first, last) = (block.first, block.last());
-        let start = start_near(names, near, first);
-        let end = start + names_between(names, start, first, last).len();
+        let start = start_near(mentions, near, first);
+        let end = start + mentions_between(mentions, start, first, last).len();
         let masks = &mut self.masks;
-        let mut uids = unnamed_in(alloc, set, &self.keys[start..end], masks, block)?;
-        let start = start_near(&self.named, 0, first);
+        let mut uids = unmentioned_in(alloc, set, &self.keys[start..end], masks, block)?;
+        let start = start_near(&self.mentioned, 0, first);
         gather_ready(
             &mut uids,
-            names_between(&self.named, start, first, last),
+            mentions_between(&self.mentioned, start, first, last),
             at,
         );
         Ok(uids)
@@ -168,15 +168,15 @@ impl Known {
 fn known_at<S: OpenSet>(
     alloc: Global,
     set: &S,
-    names: &[Name],
+    mentions: &[Mention],
     known: Option<Known>,
     from: usize,
     at: usize,
 ) -> Result<Known, AllocError>
-    requires order { AreInOrder names.now }
-    requires keys { HaveKeys names.now }
-    requires known { IfSome known (IsKnown (S.is_open set.now) names.now) }
-    ensures known { IfOk result (IsKnown (S.is_open set.now) names.now) }
+    requires order { AreInOrder mentions.now }
+    requires keys { HaveKeys mentions.now }
+    requires known { IfSome known (IsKnown (S.is_open set.now) mentions.now) }
+    ensures known { IfOk result (IsKnown (S.is_open set.now) mentions.now) }
     ensures from { IfOk result (λ known. known.from ≤ at) }
 {
     if let Some(known) = known {
@@ -184,40 +184,40 @@ fn known_at<S: OpenSet>(
             return Ok(known);
         }
     }
-    Known::of(alloc, set, names, from.min(at))
+    Known::of(alloc, set, mentions, from.min(at))
 }
 
 /// Open UIDs that answer in a slot with a block of keys: all if there are fewer than three,
 /// otherwise three. Usually those that are found first aren't Quiet, and nothing more has to be
-/// known. The search for the first name of the block begins near index `near`. No slot before
+/// known. The search for the first mention of the block begins near index `near`. No slot before
 /// position `from` will be asked for.
 pub(crate) fn up_to_three_answering<S: OpenSet>(
     alloc: Global,
     set: &S,
-    names: &[Name],
+    mentions: &[Mention],
     known: &mut Option<Known>,
     near: usize,
     block: &KeyBlock,
     from: usize,
     at: u32,
 ) -> Result<ArrayVec<Uid, 3>, AllocError>
-    requires order { AreInOrder names.now }
-    requires keys { HaveKeys names.now }
+    requires order { AreInOrder mentions.now }
+    requires keys { HaveKeys mentions.now }
     requires block { IsBlock block.now.first block.now.len }
-    requires known { IfSome known.old (IsKnown (S.is_open set.now) names.now) }
-    ensures known { OnOk result (IfSome known.new (IsKnown (S.is_open set.now) names.now)) }
+    requires known { IfSome known.old (IsKnown (S.is_open set.now) mentions.now) }
+    ensures known { OnOk result (IfSome known.new (IsKnown (S.is_open set.now) mentions.now)) }
     ensures uids { IfOk result (λ uids. UpToThree
-        (is_answering (S.is_open set.now) names.now block.now at) uids.items) }
+        (is_answering (S.is_open set.now) mentions.now block.now at) uids.items) }
 {
     let at = at as usize;
     let uids = set.up_to_three(&mask_of_keys(block.first, block.len), &[]);
-    let start = start_near(names, near, block.first);
-    let inside = names_between(names, start, block.first, block.last());
+    let start = start_near(mentions, near, block.first);
+    let inside = mentions_between(mentions, start, block.first, block.last());
     if !is_any_quiet(inside, &uids, at) {
         return Ok(uids);
     }
-    let mut own = known_at(alloc, set, names, known.take(), from, at)?;
-    let uids = own.answering(alloc, set, names, near, block, at)?;
+    let mut own = known_at(alloc, set, mentions, known.take(), from, at)?;
+    let uids = own.answering(alloc, set, mentions, near, block, at)?;
     *known = Some(own);
     Ok(uids)
 }
@@ -239,11 +239,13 @@ fn those_between(uids: &[Uid], first: u64, last: u64) -> ArrayVec<Uid, 3>
     inside
 }
 
-impl Unnamed {
-    /// Open UIDs without a name in a narrower range of keys, if those in this range determine them.
+impl Unmentioned {
+    /// Open UIDs without a mention in a narrower range of keys, if those in this range determine
+    /// them.
     fn between(&self, first: u64, last: u64) -> Option<ArrayVec<Uid, 3>>
-        ensures { IfSome result (λ uids. (set : ℕ → Bool) (ns : List NameValue)
-            → IsUnnamed set ns self.now → UpToThree (is_unnamed set ns first last) uids.items) }
+        ensures { IfSome result (λ uids. (set : ℕ → Bool) (ns : List MentionValue)
+            → IsUnmentioned set ns self.now
+            → UpToThree (is_unmentioned set ns first last) uids.items) }
     {
         if first < self.first || self.last < last {
             return None;
@@ -259,7 +261,7 @@ impl Unnamed {
 
 /// The index after the last of some masks that doesn't end before a key: those that do contain none
 /// of the next masks.
-fn count_around(masks: &[Unnamed], first: u64) -> usize {
+fn count_around(masks: &[Unmentioned], first: u64) -> usize {
     for index in (0..masks.len()).rev() {
         if first <= masks[index].last {
             return index + 1;
@@ -268,27 +270,27 @@ fn count_around(masks: &[Unnamed], first: u64) -> usize {
     0
 }
 
-/// Open UIDs without a name in a block of keys, by the keys of the names there: three, or all if
-/// there are fewer. Blocks come in the order of their first keys, outer ones before inner ones, so
-/// that few are searched whose UIDs are known.
-fn unnamed_in<S: OpenSet>(
+/// Open UIDs without a mention in a block of keys, by the keys of the mentions there: three, or all
+/// if there are fewer. Blocks come in the order of their first keys, outer ones before inner ones,
+/// so that few are searched whose UIDs are known.
+fn unmentioned_in<S: OpenSet>(
     alloc: Global,
     set: &S,
     keys: &[u64],
-    masks: &mut Vec<Unnamed>,
+    masks: &mut Vec<Unmentioned>,
     block: &KeyBlock,
 ) -> Result<ArrayVec<Uid, 3>, AllocError>
     requires order { IsNonDecreasing keys.now }
     requires keys { AreKeys keys.now }
     requires block { IsBlock block.now.first block.now.len }
-    ensures masks { OnOk result ((ns : List NameValue)
-        → HasNamedIn ns block.now keys.now
-        → All (IsUnnamed (S.is_open set.now) ns) masks.old.items
-        → All (IsUnnamed (S.is_open set.now) ns) masks.new.items) }
-    ensures uids { IfOk result (λ uids. (ns : List NameValue)
-        → HasNamedIn ns block.now keys.now
-        → All (IsUnnamed (S.is_open set.now) ns) masks.old.items
-        → UpToThree (is_unnamed_in (S.is_open set.now) ns block.now) uids.items) }
+    ensures masks { OnOk result ((ns : List MentionValue)
+        → HasMentionedIn ns block.now keys.now
+        → All (IsUnmentioned (S.is_open set.now) ns) masks.old.items
+        → All (IsUnmentioned (S.is_open set.now) ns) masks.new.items) }
+    ensures uids { IfOk result (λ uids. (ns : List MentionValue)
+        → HasMentionedIn ns block.now keys.now
+        → All (IsUnmentioned (S.is_open set.now) ns) masks.old.items
+        → UpToThree (is_unmentioned_in (S.is_open set.now) ns block.now) uids.items) }
 {
     let (first, last) = (block.first, block.last());
     masks.truncate(count_around(masks, first));
@@ -298,7 +300,7 @@ fn unnamed_in<S: OpenSet>(
         }
     }
     let uids = set.up_to_three_besides(alloc, &mask_of_keys(first, block.len), keys)?;
-    masks.push(Unnamed {
+    masks.push(Unmentioned {
         first,
         last,
         uids: Vec::from_slice(alloc, &uids)?,
@@ -306,17 +308,17 @@ fn unnamed_in<S: OpenSet>(
     Ok(uids)
 }
 
-/// Adds the UIDs of names that aren't Quiet at a position.
-fn gather_ready(uids: &mut ArrayVec<Uid, 3>, names: &[Name], at: usize)
-    requires { HaveKeys names.now }
-    ensures { Gathers (IsReadyIn names.now at) uids.old.items uids.new.items }
+/// Adds the UIDs of mentions that aren't Quiet at a position.
+fn gather_ready(uids: &mut ArrayVec<Uid, 3>, mentions: &[Mention], at: usize)
+    requires { HaveKeys mentions.now }
+    ensures { Gathers (IsReadyIn mentions.now at) uids.old.items uids.new.items }
 {
-    for name in names {
+    for mention in mentions {
         if uids.is_full() {
             return;
         }
-        if at <= name.quiet() {
-            gather_one(uids, &[], uid_at(name.key));
+        if at <= mention.quiet() {
+            gather_one(uids, &[], uid_at(mention.key));
         }
     }
 }

@@ -1,5 +1,5 @@
 //! Which keys the silent and answered slots between two field cycles close: those of their masks,
-//! except those of names that are left.
+//! except those of mentions that are left.
 
 ghost use Rattle.std.specs.Prelude.{◌≡◌, ℕ, ◌||◌, ◌&&◌, not, Some, IfSome, IfOk, OnOk};
 ghost use Rattle.std.specs.List.{All};
@@ -7,7 +7,7 @@ ghost use Rattle.vic_tree.specs.Ranges.{is_between};
 ghost use Rattle.vic_verdict.specs.inner.Closed.{Closes, closes_with, is_in_some};
 ghost use Rattle.vic_verdict.specs.inner.Sweep.{AreInOrder, HasRange, first_of, has_left, heard_of, last_of, len_of};
 
-use crate::names::{Name, names_between, start_near};
+use crate::mentions::{Mention, mentions_between, start_near};
 use std::alloc::AllocError;
 use vic_frame::UID_BITS;
 use vic_tree::KeyRange;
@@ -19,7 +19,7 @@ pub(crate) const LENGTHS: u64 = 256;
 /// A silent or an answered slot. A log may have a million of them, which are sorted, so its mask is
 /// one number.
 #[derive(Clone, Copy)]
-pub(crate) struct Spot {
+pub(crate) struct ReadSlot {
     /// Its mask: the mask's first key, times `LENGTHS`, plus how many bits the mask has. In the
     /// order of these numbers the slots of one mask are consecutive, with outer masks before inner
     /// ones.
@@ -31,7 +31,7 @@ pub(crate) struct Spot {
     pub is_heard: bool,
 }
 
-impl Spot {
+impl ReadSlot {
     /// The first key of its mask.
     pub(crate) fn first(&self) -> u64
         ensures { result ≡ first_of self.now }
@@ -63,30 +63,30 @@ impl Spot {
     }
 }
 
-/// Closes the keys of a range, except those of names that are left. The search for its first name
-/// begins near index `near`. Returns the index after its names, near which those of the next range
-/// may be.
+/// Closes the keys of a range, except those of mentions that are left. The search for its first
+/// mention begins near index `near`. Returns the index after its mentions, near which those of the
+/// next range may be.
 fn close_between(
     closed: &mut Vec<KeyRange>,
-    names: &[Name],
+    mentions: &[Mention],
     near: usize,
     range: KeyRange,
 ) -> Result<usize, AllocError>
-    requires { AreInOrder names.now }
-    ensures { OnOk result (Closes names.now (is_between range.0 range.1)
+    requires { AreInOrder mentions.now }
+    ensures { OnOk result (Closes mentions.now (is_between range.0 range.1)
         closed.old.items closed.new.items) }
 {
     let first = range.first();
     let last = range.last();
-    let start = start_near(names, near, first);
-    let inside = names_between(names, start, first, last);
+    let start = start_near(mentions, near, first);
+    let inside = mentions_between(mentions, start, first, last);
     let mut from = first;
-    for name in inside {
-        if name.left {
-            if from < name.key {
-                closed.push(KeyRange::new(from, name.key - 1))?;
+    for mention in inside {
+        if mention.left {
+            if from < mention.key {
+                closed.push(KeyRange::new(from, mention.key - 1))?;
             }
-            from = name.key + 1;
+            from = mention.key + 1;
         }
     }
     if from <= last {
@@ -109,18 +109,18 @@ fn joined(range: KeyRange, next: KeyRange) -> Option<KeyRange>
 
 /// Adds keys to the range before them if they adjoin it or lie in it; otherwise closes that range,
 /// if there is one. Returns the range to close next. `near` is an index near that of its first
-/// name.
+/// mention.
 fn pass_keys(
     closed: &mut Vec<KeyRange>,
-    names: &[Name],
+    mentions: &[Mention],
     near: &mut usize,
     range: Option<KeyRange>,
     keys: KeyRange,
 ) -> Result<KeyRange, AllocError>
-    requires { AreInOrder names.now }
-    ensures { IfOk result (λ r. (k : ℕ) → closes_with names.now closed.new.items (Some r) k
-        ≡ (closes_with names.now closed.old.items range k
-        || (is_between keys.0 keys.1 k && not (has_left names.now k)))) }
+    requires { AreInOrder mentions.now }
+    ensures { IfOk result (λ r. (k : ℕ) → closes_with mentions.now closed.new.items (Some r) k
+        ≡ (closes_with mentions.now closed.old.items range k
+        || (is_between keys.0 keys.1 k && not (has_left mentions.now k)))) }
 {
     let Some(range) = range else {
         return Ok(keys);
@@ -128,31 +128,31 @@ fn pass_keys(
     if let Some(wider) = joined(range, keys) {
         return Ok(wider);
     }
-    *near = close_between(closed, names, *near, range)?;
+    *near = close_between(closed, mentions, *near, range)?;
     Ok(keys)
 }
 
-/// Closes the keys of the masks of some slots, except those of names that are left. If the slots
+/// Closes the keys of the masks of some slots, except those of mentions that are left. If the slots
 /// are in order, masks that adjoin or lie in one another are closed as one range.
-pub(crate) fn close_spots(
+pub(crate) fn close_reads(
     closed: &mut Vec<KeyRange>,
-    names: &[Name],
-    spots: &[Spot],
+    mentions: &[Mention],
+    reads: &[ReadSlot],
 ) -> Result<(), AllocError>
-    requires order { AreInOrder names.now }
-    requires ranges { All HasRange spots.now }
-    ensures { OnOk result (Closes names.now (is_in_some spots.now)
+    requires order { AreInOrder mentions.now }
+    requires ranges { All HasRange reads.now }
+    ensures { OnOk result (Closes mentions.now (is_in_some reads.now)
         closed.old.items closed.new.items) }
 {
     let mut range: Option<KeyRange> = None;
     let mut near = 0;
-    for spot in spots {
-        let (first, last) = spot.keys();
+    for read in reads {
+        let (first, last) = read.keys();
         let keys = KeyRange::new(first, last);
-        range = Some(pass_keys(closed, names, &mut near, range, keys)?);
+        range = Some(pass_keys(closed, mentions, &mut near, range, keys)?);
     }
     if let Some(range) = range {
-        close_between(closed, names, near, range)?;
+        close_between(closed, mentions, near, range)?;
     }
     Ok(())
 }

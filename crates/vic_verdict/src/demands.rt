@@ -16,10 +16,10 @@ ghost use Rattle.vic_verdict.specs.Possible.{Lacks};
 ghost use Rattle.vic_verdict.specs.inner.Answering.{IsKnown};
 ghost use Rattle.vic_verdict.specs.inner.Sweep.{AreInOrder, HaveKeys};
 ghost use Rattle.vic_verdict.specs.Demands.{AreFound};
-ghost use Rattle.vic_verdict.specs.inner.Asked.{IsDemandBy, answers_by, IsUnmet, IsUnmetAt, IsAskedAgain, AreKept, AreMet, HasBlock, HasBlocks, HasNamesInOrder, Keeps};
+ghost use Rattle.vic_verdict.specs.inner.Asked.{IsDemandBy, answers_by, IsUnmet, IsUnmetAt, IsAskedAgain, AreKept, AreMet, HasBlock, HasBlocks, HasMentionsInOrder, Keeps};
 
 use crate::answering::{Known, up_to_three_answering};
-use crate::names::{Name, names_between, start_near};
+use crate::mentions::{Mention, mentions_between, start_near};
 use arrayvec::ArrayVec;
 use std::alloc::{AllocError, Global};
 use std::mem::replace;
@@ -113,64 +113,64 @@ pub(crate) fn push_demand(
 /// the log leaves open.
 #[derive(Drop)]
 pub(crate) struct Stretch {
-    /// The UIDs that its lines name, in the order of keys.
-    pub names: Vec<Name>,
+    /// The UIDs that its lines mention, in the order of keys.
+    pub mentions: Vec<Mention>,
     pub demands: Vec<Demand>,
 }
 
 /// Keeps what the slots of a stretch before a position require, if they require anything, and the
-/// UIDs that its lines name. Afterwards `names` and `demands` are empty.
+/// UIDs that its lines mention. Afterwards `mentions` and `demands` are empty.
 pub(crate) fn keep_stretch(
     alloc: Global,
     stretches: &mut Vec<Stretch>,
-    names: &mut Vec<Name>,
+    mentions: &mut Vec<Mention>,
     demands: &mut Vec<Demand>,
     cut: usize,
 ) -> Result<(), AllocError>
-    ensures kept { OnOk result (Keeps names.old.items demands.old.items cut
+    ensures kept { OnOk result (Keeps mentions.old.items demands.old.items cut
         stretches.old.items stretches.new.items) }
-    ensures names { OnOk result (names.new.items ≡ []) }
+    ensures mentions { OnOk result (mentions.new.items ≡ []) }
     ensures demands { OnOk result (demands.new.items ≡ []) }
 {
     demands.retain(|demand| demand.place() < cut);
     if demands.is_empty() {
-        names.clear();
+        mentions.clear();
         return Ok(());
     }
     demands.sort_unstable_by_key(|demand| demand.order());
     stretches.push(Stretch {
-        names: replace(names, Vec::new(alloc)),
+        mentions: replace(mentions, Vec::new(alloc)),
         demands: replace(demands, Vec::new(alloc)),
     })?;
     Ok(())
 }
 
 /// Open UIDs that answer in a slot: all if there are fewer than three, otherwise three. The search
-/// for the first name of the slot's mask begins near index `near`. No slot before position `from`
-/// will be asked for.
+/// for the first mention of the slot's mask begins near index `near`. No slot before position
+/// `from` will be asked for.
 fn answering<S: OpenSet>(
     alloc: Global,
     set: &S,
-    names: &[Name],
+    mentions: &[Mention],
     known: &mut Option<Known>,
     near: usize,
     from: usize,
     demand: &Demand,
 ) -> Result<ArrayVec<Uid, 3>, AllocError>
-    requires order { AreInOrder names.now }
-    requires keys { HaveKeys names.now }
+    requires order { AreInOrder mentions.now }
+    requires keys { HaveKeys mentions.now }
     requires block { HasBlock demand.now }
-    requires known { IfSome known.old (IsKnown (S.is_open set.now) names.now) }
-    ensures known { OnOk result (IfSome known.new (IsKnown (S.is_open set.now) names.now)) }
+    requires known { IfSome known.old (IsKnown (S.is_open set.now) mentions.now) }
+    ensures known { OnOk result (IfSome known.new (IsKnown (S.is_open set.now) mentions.now)) }
     ensures uids { IfOk result (λ uids.
-        UpToThree (λ u. (is_uid u && S.is_open set.now u) && answers_by names.now demand.now u)
+        UpToThree (λ u. (is_uid u && S.is_open set.now u) && answers_by mentions.now demand.now u)
         uids.items) }
 {
     let block = KeyBlock {
         first: demand.first,
         len: demand.len,
     };
-    up_to_three_answering(alloc, set, names, known, near, &block, from, demand.at)
+    up_to_three_answering(alloc, set, mentions, known, near, &block, from, demand.at)
 }
 
 /// The position of the first of some slots. No answer rests on it: it says from where on it is
@@ -202,11 +202,11 @@ fn is_asked_again(demands: &[Demand], index: usize) -> bool
 /// The position before which enough UIDs answer in the slots of some mask, if `lacking` more are
 /// needed than answer at position `at`: where the last of that many become Quiet. 0 if there are
 /// too few.
-fn end_of_enough(names: &[Name], at: usize, lacking: usize) -> usize {
+fn end_of_enough(mentions: &[Mention], at: usize, lacking: usize) -> usize {
     let mut last = 0;
     let mut last_but_one = 0;
-    for name in names {
-        let end = name.quiet().saturating_add(1);
+    for mention in mentions {
+        let end = mention.quiet().saturating_add(1);
         if end <= at && last_but_one < end {
             last_but_one = end.min(last);
             last = end.max(last);
@@ -215,17 +215,22 @@ fn end_of_enough(names: &[Name], at: usize, lacking: usize) -> usize {
     if lacking == 1 { last } else { last_but_one }
 }
 
-/// The UIDs in the mask of a slot that the lines name and the log leaves open; none if that isn't
-/// known.
-fn known_names<'a>(known: &'a Option<Known>, demand: &Demand) -> &'a [Name]
-    requires order { IfSome known.now (λ k. AreInOrder k.named.items) }
+/// The UIDs in the mask of a slot that the lines mention and the log leaves open; none if that
+/// isn't known.
+fn known_mentions<'a>(known: &'a Option<Known>, demand: &Demand) -> &'a [Mention]
+    requires order { IfSome known.now (λ k. AreInOrder k.mentioned.items) }
     requires block { HasBlock demand.now }
 {
     let Demand { first, len, .. } = *demand;
     match known {
         Some(known) => {
-            let start = start_near(&known.named, 0, first);
-            names_between(&known.named, start, first, KeyBlock { first, len }.last())
+            let start = start_near(&known.mentioned, 0, first);
+            mentions_between(
+                &known.mentioned,
+                start,
+                first,
+                KeyBlock { first, len }.last(),
+            )
         }
         None => &[],
     }
@@ -237,16 +242,16 @@ fn known_names<'a>(known: &'a Option<Known>, demand: &Demand) -> &'a [Name]
 fn guess_unmet<S: OpenSet>(
     alloc: Global,
     set: &S,
-    names: &[Name],
+    mentions: &[Mention],
     known: &mut Option<Known>,
     demands: &[Demand],
     from: usize,
 ) -> Result<usize, AllocError>
-    requires order { AreInOrder names.now }
-    requires keys { HaveKeys names.now }
+    requires order { AreInOrder mentions.now }
+    requires keys { HaveKeys mentions.now }
     requires blocks { All HasBlock demands.now }
-    requires known { IfSome known.old (IsKnown (S.is_open set.now) names.now) }
-    ensures known { OnOk result (IfSome known.new (IsKnown (S.is_open set.now) names.now)) }
+    requires known { IfSome known.old (IsKnown (S.is_open set.now) mentions.now) }
+    ensures known { OnOk result (IfSome known.new (IsKnown (S.is_open set.now) mentions.now)) }
 {
     let first_asked = first_place(demands);
     let mut guess = from;
@@ -256,11 +261,11 @@ fn guess_unmet<S: OpenSet>(
     for index in from..demands.len() {
         if !is_asked_again(demands, index) {
             let demand = demands[index];
-            near = start_near(names, near, demand.first);
-            let uids = answering(alloc, set, names, known, near, first_asked, &demand)?;
+            near = start_near(mentions, near, demand.first);
+            let uids = answering(alloc, set, mentions, known, near, first_asked, &demand)?;
             let need = usize::from(demand.need);
             if uids.len() < need {
-                let inside = known_names(known, &demand);
+                let inside = known_mentions(known, &demand);
                 let end = end_of_enough(inside, demand.place(), need - uids.len());
                 let group = &demands[start..index];
                 let first = start + group.partition_point(|earlier| earlier.place() < end);
@@ -281,23 +286,23 @@ fn guess_unmet<S: OpenSet>(
 fn first_unmet<S: OpenSet>(
     alloc: Global,
     set: &S,
-    names: &[Name],
+    mentions: &[Mention],
     known: &mut Option<Known>,
     demands: &[Demand],
     from: usize,
     unmet: usize,
 ) -> Result<usize, AllocError>
-    requires order { AreInOrder names.now }
-    requires keys { HaveKeys names.now }
+    requires order { AreInOrder mentions.now }
+    requires keys { HaveKeys mentions.now }
     requires blocks { All HasBlock demands.now }
-    requires known { IfSome known.old (IsKnown (S.is_open set.now) names.now) }
-    requires unmet { IsUnmetAt (S.is_open set.now) names.now demands.now unmet }
-    ensures { IfOk result (IsUnmetAt (S.is_open set.now) names.now demands.now) }
+    requires known { IfSome known.old (IsKnown (S.is_open set.now) mentions.now) }
+    requires unmet { IsUnmetAt (S.is_open set.now) mentions.now demands.now unmet }
+    ensures { IfOk result (IsUnmetAt (S.is_open set.now) mentions.now demands.now) }
 {
-    let guess = guess_unmet(alloc, set, names, known, demands, from)?;
+    let guess = guess_unmet(alloc, set, mentions, known, demands, from)?;
     if guess < demands.len() {
         let demand = demands[guess];
-        let uids = answering(alloc, set, names, known, 0, demand.place(), &demand)?;
+        let uids = answering(alloc, set, mentions, known, 0, demand.place(), &demand)?;
         if uids.len() < usize::from(demand.need) {
             return Ok(demand.place());
         }
@@ -309,19 +314,19 @@ fn first_unmet<S: OpenSet>(
 fn meet_each<S: OpenSet>(
     alloc: Global,
     set: &S,
-    names: &[Name],
+    mentions: &[Mention],
     demands: &[Demand],
     found: &mut Vec<Found>,
 ) -> Result<Option<usize>, AllocError>
-    requires order { AreInOrder names.now }
-    requires keys { HaveKeys names.now }
+    requires order { AreInOrder mentions.now }
+    requires keys { HaveKeys mentions.now }
     requires blocks { All HasBlock demands.now }
     ensures met { IfOk result (λ r. (es : List EntryValue)
         → SameUids (S.is_open set.now) (is_open (slots_of es))
-        → All (IsDemandBy es names.now) demands.now → r ≡ None
+        → All (IsDemandBy es mentions.now) demands.now → r ≡ None
         → AreMet es demands.now found.old.items found.new.items) }
     ensures unmet { IfOk result (λ r. IfSome r
-        (IsUnmetAt (S.is_open set.now) names.now demands.now)) }
+        (IsUnmetAt (S.is_open set.now) mentions.now demands.now)) }
 {
     let first_asked = first_place(demands);
     let mut known = None;
@@ -330,12 +335,12 @@ fn meet_each<S: OpenSet>(
     for index in 0..demands.len() {
         if !is_asked_again(demands, index) {
             let demand = demands[index];
-            near = start_near(names, near, demand.first);
-            let uids = answering(alloc, set, names, &mut known, near, first_asked, &demand)?;
+            near = start_near(mentions, near, demand.first);
+            let uids = answering(alloc, set, mentions, &mut known, near, first_asked, &demand)?;
             let at = demand.place();
             let need = usize::from(demand.need);
             if uids.len() < need {
-                let at = first_unmet(alloc, set, names, &mut known, demands, start, at)?;
+                let at = first_unmet(alloc, set, mentions, &mut known, demands, start, at)?;
                 return Ok(Some(at));
             }
             found.push(Found { at, need, uids })?;
@@ -353,7 +358,7 @@ pub(crate) fn meet_stretches<S: OpenSet>(
     set: &S,
     stretches: &[Stretch],
 ) -> Result<Result<Vec<Found>, usize>, AllocError>
-    requires names { All HasNamesInOrder stretches.now }
+    requires mentions { All HasMentionsInOrder stretches.now }
     requires blocks { All HasBlocks stretches.now }
     ensures { IfOk result (λ r. (es : List EntryValue)
         → SameUids (S.is_open set.now) (is_open (slots_of es))
@@ -362,7 +367,7 @@ pub(crate) fn meet_stretches<S: OpenSet>(
 {
     let mut found = Vec::new(alloc);
     for stretch in stretches {
-        let unmet = meet_each(alloc, set, &stretch.names, &stretch.demands, &mut found)?;
+        let unmet = meet_each(alloc, set, &stretch.mentions, &stretch.demands, &mut found)?;
         if let Some(at) = unmet {
             return Ok(Err(at));
         }

@@ -9,11 +9,11 @@ ghost use Rattle.vic_log.specs.declared.entry.Entry.TheVariants.{FieldCycle, Sen
 ghost use Rattle.vic_log.specs.OpenRounds.{IsCursorAt};
 ghost use Rattle.vic_log.specs.Order.{AreValid};
 ghost use Rattle.vic_verdict.specs.Possible.{IsContradictedAt};
-ghost use Rattle.vic_verdict.specs.inner.Stretches.{AddsSpot, HasGathered, IsSettled, names_at};
+ghost use Rattle.vic_verdict.specs.inner.Stretches.{AddsReadSlot, HasGathered, IsSettled, mentions_at};
 
-use crate::closed::{LENGTHS, Spot};
+use crate::closed::{LENGTHS, ReadSlot};
 use crate::demands::{Demand, Stretch, keep_stretch, push_demand};
-use crate::names::{Name, push_name};
+use crate::mentions::{Mention, push_mention};
 use crate::sweep::settle_stretch;
 use std::alloc::{AllocError, Global};
 use vic_frame::low_bits_first::{KeyBlock, key};
@@ -23,14 +23,14 @@ use vic_tree::KeyRange;
 
 /// Adds a silent or an answered slot with the keys of its mask, unless no UID lies in it.
 #[inline(always)]
-fn push_spot(
-    spots: &mut Vec<Spot>,
+fn push_read(
+    reads: &mut Vec<ReadSlot>,
     keys: Option<KeyBlock>,
     at: u32,
     heard: Option<u64>,
 ) -> Result<(), AllocError>
     requires { IfSome keys (λ b. IsBlock b.first b.len) }
-    ensures { OnOk result (AddsSpot keys at heard spots.old.items spots.new.items) }
+    ensures { OnOk result (AddsReadSlot keys at heard reads.old.items reads.new.items) }
 {
     let Some(block) = keys else {
         return Ok(());
@@ -40,7 +40,7 @@ fn push_spot(
         Some(key) => key,
         None => block.first,
     };
-    spots.push(Spot {
+    reads.push(ReadSlot {
         mask: block.first * LENGTHS + block.len as u64,
         key,
         at,
@@ -50,14 +50,14 @@ fn push_spot(
 }
 
 /// Gathers the UID that a request silences, if it silences one.
-fn note_sent(names: &mut Vec<Name>, request: &Request, index: usize) -> Result<(), AllocError>
+fn note_sent(mentions: &mut Vec<Mention>, request: &Request, index: usize) -> Result<(), AllocError>
     requires { index < 2 ^ 32 }
-    ensures { OnOk result (names.new.items
-        ≡ names.old.items ++ names_at (Some (Sent request.now)) index) }
+    ensures { OnOk result (mentions.new.items
+        ≡ mentions.old.items ++ mentions_at (Some (Sent request.now)) index) }
 {
     match *request {
         Request::StayQuiet { uid, .. } => match Uid::new(uid) {
-            Some(tag) => push_name(names, key(tag), index as u32, false),
+            Some(tag) => push_mention(mentions, key(tag), index as u32, false),
             None => Ok(()),
         },
         Request::Inventory { .. } => Ok(()),
@@ -80,8 +80,8 @@ fn is_in_some_block(keys: Option<KeyBlock>, key: u64) -> bool
 /// no UID.
 #[inline(always)]
 fn note_entry(
-    names: &mut Vec<Name>,
-    spots: &mut Vec<Spot>,
+    mentions: &mut Vec<Mention>,
+    reads: &mut Vec<ReadSlot>,
     demands: &mut Vec<Demand>,
     cursor: &RoundCursor,
     index: usize,
@@ -91,26 +91,26 @@ fn note_entry(
     ensures gathered { IfOk result (λ yes. (es : List EntryValue) (from : ℕ)
         → slice_get es index ≡ Some entry.now → AreValid es → IsCursorAt es index cursor.now
         → entry.now ≢ FieldCycle → IsTrue yes
-        → HasGathered es from index names.old.items spots.old.items demands.old.items
-        → HasGathered es from (index + 1) names.new.items spots.new.items demands.new.items) }
+        → HasGathered es from index mentions.old.items reads.old.items demands.old.items
+        → HasGathered es from (index + 1) mentions.new.items reads.new.items demands.new.items) }
     ensures unfit { IfOk result (λ yes. (es : List EntryValue)
         → slice_get es index ≡ Some entry.now → AreValid es → IsCursorAt es index cursor.now
         → yes ≡ false → IsContradictedAt es index) }
     ensures none { IfOk result (λ yes. yes ≡ false
-        → (names.new.items ≡ names.old.items) × (spots.new.items ≡ spots.old.items)
+        → (mentions.new.items ≡ mentions.old.items) × (reads.new.items ≡ reads.old.items)
         × (demands.new.items ≡ demands.old.items)) }
 {
     match *entry {
-        Entry::Sent(request) => note_sent(names, &request, index)?,
-        Entry::Silent => push_spot(spots, cursor.keys(), index as u32, None)?,
+        Entry::Sent(request) => note_sent(mentions, &request, index)?,
+        Entry::Silent => push_read(reads, cursor.keys(), index as u32, None)?,
         Entry::Heard(response) => {
             let keys = cursor.keys();
             let heard = key(response.uid());
             if !is_in_some_block(keys, heard) {
                 return Ok(false);
             }
-            push_name(names, heard, index as u32, true)?;
-            push_spot(spots, keys, index as u32, Some(heard))?;
+            push_mention(mentions, heard, index as u32, true)?;
+            push_read(reads, keys, index as u32, Some(heard))?;
         }
         Entry::Collision => return push_demand(demands, cursor.keys(), 2, index as u32),
         Entry::Garbled => return push_demand(demands, cursor.keys(), 1, index as u32),
@@ -151,33 +151,41 @@ pub(crate) fn settle(alloc: Global, lines: &[PackedLine]) -> Result<Settled, All
 {
     let mut closed = Vec::new(alloc);
     let mut stretches = Vec::new(alloc);
-    // allocated once for a name and a slot of each line, since what grows step by step is copied.
-    // The first stretch that is kept takes the names with their capacity; those of later ones grow
-    let mut names = Vec::with_capacity(alloc, lines.len())?;
-    let mut spots = Vec::with_capacity(alloc, lines.len())?;
+    // allocated once for a mention and a slot of each line, since what grows step by step is
+    // copied. The first stretch that is kept takes the mentions with their capacity; those of later
+    // ones grow
+    let mut mentions = Vec::with_capacity(alloc, lines.len())?;
+    let mut reads = Vec::with_capacity(alloc, lines.len())?;
     let mut demands = Vec::new(alloc);
     let mut cursor = RoundCursor::first();
     for (index, line) in lines.iter().enumerate() {
         let entry = line.item();
         if let Entry::FieldCycle = entry {
-            let cut = settle_stretch(&mut closed, &mut names, &mut spots, index)?;
-            keep_stretch(alloc, &mut stretches, &mut names, &mut demands, cut)?;
+            let cut = settle_stretch(&mut closed, &mut mentions, &mut reads, index)?;
+            keep_stretch(alloc, &mut stretches, &mut mentions, &mut demands, cut)?;
             if cut < index {
                 return Ok(Settled::new(closed, stretches, cut));
             }
-            spots.clear();
+            reads.clear();
         } else {
             // bounds the position: the numbers of lines rise, and have 32 bits
             let _number = line.number();
-            if !note_entry(&mut names, &mut spots, &mut demands, &cursor, index, &entry)? {
-                let cut = settle_stretch(&mut closed, &mut names, &mut spots, index)?;
-                keep_stretch(alloc, &mut stretches, &mut names, &mut demands, cut)?;
+            if !note_entry(
+                &mut mentions,
+                &mut reads,
+                &mut demands,
+                &cursor,
+                index,
+                &entry,
+            )? {
+                let cut = settle_stretch(&mut closed, &mut mentions, &mut reads, index)?;
+                keep_stretch(alloc, &mut stretches, &mut mentions, &mut demands, cut)?;
                 return Ok(Settled::new(closed, stretches, cut));
             }
         }
         cursor.advance(&entry);
     }
-    let cut = settle_stretch(&mut closed, &mut names, &mut spots, lines.len())?;
-    keep_stretch(alloc, &mut stretches, &mut names, &mut demands, cut)?;
+    let cut = settle_stretch(&mut closed, &mut mentions, &mut reads, lines.len())?;
+    keep_stretch(alloc, &mut stretches, &mut mentions, &mut demands, cut)?;
     Ok(Settled::new(closed, stretches, cut))
 }

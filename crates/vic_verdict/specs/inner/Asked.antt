@@ -11,7 +11,7 @@ use Rattle.vic_log.specs.Populations.{answers_at}
 use Rattle.vic_verdict.specs.declared.demands.Found.{Found}
 use Rattle.vic_verdict.specs.declared.demands.Demand.{Demand}
 use Rattle.vic_verdict.specs.declared.demands.Stretch.{Stretch}
-use Rattle.vic_verdict.specs.declared.names.Name.{Name}
+use Rattle.vic_verdict.specs.declared.mentions.Mention.{Mention}
 use Rattle.vic_verdict.specs.inner.Sweep.{AreInOrder, HaveKeys, is_quiet_by}
 use Rattle.vic_verdict.specs.Demands.{needs_at, all_needs, IsFound, Meets}
 
@@ -34,24 +34,24 @@ pub record IsDemand (es : List Entry) (from i : ℕ) (d : Demand) : Type 0 where
   pub since : from ≤ d.at
   pub before : d.at < i
 
--- the UID answers in the slot, by the names
-abbrev pub answers_by : List Name → Demand → ℕ → Bool
+-- the UID answers in the slot, by the mentions
+abbrev pub answers_by : List Mention → Demand → ℕ → Bool
 answers_by ns d u =
     is_in_block d.first d.len (mirror u) && not (is_quiet_by ns (mirror u) d.at)
 
--- the demand is that of a slot line, and the names show which UIDs answer there
-pub record IsDemandBy (es : List Entry) (ns : List Name) (d : Demand) : Type 0 where
+-- the demand is that of a slot line, and the mentions show which UIDs answer there
+pub record IsDemandBy (es : List Entry) (ns : List Mention) (d : Demand) : Type 0 where
   pub asked : 0 < d.need
   pub need : needs_at es d.at ≡ d.need
   pub answers : (u : ℕ) → IsUid u → answers_by ns d u ≡ answers_at es d.at u
 
--- fewer UIDs of a set answer in the slot than it requires, by the names
-abbrev pub IsUnmet : (ℕ → Bool) → List Name → Demand → Type 0
+-- fewer UIDs of a set answer in the slot than it requires, by the mentions
+abbrev pub IsUnmet : (ℕ → Bool) → List Mention → Demand → Type 0
 IsUnmet set ns d = (us : List ℕ) × (length us < d.need)
     × UpToThree (λ u. (is_uid u && set u) && answers_by ns d u) us
 
 -- some demand at this position is unmet
-abbrev pub IsUnmetAt : (ℕ → Bool) → List Name → List Demand → ℕ → Type 0
+abbrev pub IsUnmetAt : (ℕ → Bool) → List Mention → List Demand → ℕ → Type 0
 IsUnmetAt set ns ds at = Any (λ (d : Demand). (d.at ≡ at) × IsUnmet set ns d) ds
 
 -- the next demand requires as many of the same mask, no earlier
@@ -96,22 +96,22 @@ pub record AreAsked (es : List Entry) (from i : ℕ) (ds : List Demand) : Type 0
   pub few : (j : ℕ) → from ≤ j → j ≤ i
       → all_needs (take from es) + asked_by (demands_to j ds) ≤ all_needs (take j es)
 
--- the names of a stretch are in the order of their keys
-pub record HasNamesInOrder (s : Stretch) : Type 0 where
-  pub order : AreInOrder s.names.items
-  pub keys : HaveKeys s.names.items
+-- the mentions of a stretch are in the order of their keys
+pub record HasMentionsInOrder (s : Stretch) : Type 0 where
+  pub order : AreInOrder s.mentions.items
+  pub keys : HaveKeys s.mentions.items
 
 -- the keys of the masks of a stretch's demands are blocks
 abbrev pub HasBlocks : Stretch → Type 0
 HasBlocks s = All HasBlock s.demands.items
 
--- the names of a stretch are in order, and show which UIDs answer in the slots of its demands, all
--- of which are before position i
+-- the mentions of a stretch are in order, and show which UIDs answer in the slots of its demands,
+-- all of which are before position i
 pub record IsKept (es : List Entry) (i : ℕ) (s : Stretch) : Type 0 where
-  pub names : HasNamesInOrder s
+  pub mentions : HasMentionsInOrder s
   pub blocks : HasBlocks s
   pub places : All (λ (d : Demand). d.at < i) s.demands.items
-  pub demands : All (IsDemandBy es s.names.items) s.demands.items
+  pub demands : All (IsDemandBy es s.mentions.items) s.demands.items
 
 -- the stretches have the demands of the entries up to position i, no more than these require
 pub record AreKept (es : List Entry) (i : ℕ) (ss : List Stretch) : Type 0 where
@@ -120,10 +120,10 @@ pub record AreKept (es : List Entry) (i : ℕ) (ss : List Stretch) : Type 0 wher
       → list_any (λ (s : Stretch). is_asked s.demands.items j) ss ≡ true
   pub few : sum_by (λ (s : Stretch). asked_by s.demands.items) ss ≤ all_needs (take i es)
 
--- the list has one more stretch, with these names and the demands before position i, unless there
--- are none
-abbrev pub Keeps : List Name → List Demand → ℕ → List Stretch → List Stretch → Type 0
+-- the list has one more stretch, with these mentions and the demands before position i, unless
+-- there are none
+abbrev pub Keeps : List Mention → List Demand → ℕ → List Stretch → List Stretch → Type 0
 Keeps ns ds i old new =
     ((new ≡ old) × (demands_to i ds ≡ []))
-    ⊎ ((s : Stretch) × (new ≡ old ++ s ∷ []) × (s.names.items ≡ ns)
+    ⊎ ((s : Stretch) × (new ≡ old ++ s ∷ []) × (s.mentions.items ≡ ns)
     × IsPermutation (demands_to i ds) s.demands.items)

@@ -2,13 +2,13 @@
 use Rattle.std.specs.Prelude.{◌≡◌, ℕ, Bool, false, not, Option, Some, None, ◌&&◌, ◌||◌, List}
 use Rattle.std.specs.List.{list_any}
 use Rattle.vic_tree.specs.Ranges.{in_ranges, is_between}
-use Rattle.vic_verdict.specs.declared.closed.Spot.{Spot}
-use Rattle.vic_verdict.specs.declared.names.Name.{Name}
+use Rattle.vic_verdict.specs.declared.closed.ReadSlot.{ReadSlot}
+use Rattle.vic_verdict.specs.declared.mentions.Mention.{Mention}
 use Rattle.vic_verdict.specs.inner.Sweep.{is_in, has_left}
 
 -- the key is in the mask of one of the slots
-abbrev pub is_in_some : List Spot → ℕ → Bool
-is_in_some spots k = list_any (λ s. is_in s k) spots
+abbrev pub is_in_some : List ReadSlot → ℕ → Bool
+is_in_some reads k = list_any (λ s. is_in s k) reads
 
 -- the key is in the range, if there is one
 abbrev pub is_in_some_range : Option (ℕ × ℕ) → ℕ → Bool
@@ -16,14 +16,14 @@ is_in_some_range None k = false
 is_in_some_range (Some r) k = is_between r.0 r.1 k
 
 -- the new ranges have the keys of the old ones, and those that pass a test, except the keys of
--- names left
-abbrev pub Closes : List Name → (ℕ → Bool)
+-- mentions left
+abbrev pub Closes : List Mention → (ℕ → Bool)
     → List (ℕ × ℕ) → List (ℕ × ℕ) → Type 0
 Closes ns test old new =
     (k : ℕ) → in_ranges new k ≡ (in_ranges old k || (test k && not (has_left ns k)))
 
 -- the key is in one of the ranges, or will be once one more, if there is one, is closed, except the
--- keys of names left
-abbrev pub closes_with : List Name → List (ℕ × ℕ) → Option (ℕ × ℕ) → ℕ → Bool
+-- keys of mentions left
+abbrev pub closes_with : List Mention → List (ℕ × ℕ) → Option (ℕ × ℕ) → ℕ → Bool
 closes_with ns closed range k =
     in_ranges closed k || (is_in_some_range range k && not (has_left ns k))

@@ -18,37 +18,37 @@ use Rattle.vic_log.specs.Rounds.{mask_at, lies_in_some}
 use Rattle.vic_log.specs.Slots.{slots_of, is_open}
 use Rattle.vic_verdict.specs.Possible.{IsContradictedAt, rules_out}
 use Rattle.vic_verdict.specs.inner.Replies.{RepliesAnswer}
-use Rattle.vic_verdict.specs.declared.names.Name.{Name}
-use Rattle.vic_verdict.specs.declared.closed.Spot.{Spot}
+use Rattle.vic_verdict.specs.declared.mentions.Mention.{Mention}
+use Rattle.vic_verdict.specs.declared.closed.ReadSlot.{ReadSlot}
 use Rattle.vic_verdict.specs.declared.stretches.Settled.{Settled}
 use Rattle.vic_verdict.specs.declared.demands.Demand.{Demand}
 use Rattle.vic_verdict.specs.inner.Asked.{AreAsked, AreKept}
 use Rattle.vic_verdict.specs.inner.Sweep.{HasRange, heard_of, is_in}
 
--- ---- the names
+-- ---- the mentions
 
--- a name at a position that no slot has been looked at for
-abbrev pub name_at : ℕ → ℕ → Bool → Name
-name_at key at heard = record { key = key; at = at; is_heard = heard; left = true }
+-- a mention at a position that no slot has been looked at for
+abbrev pub mention_at : ℕ → ℕ → Bool → Mention
+mention_at key at heard = record { key = key; at = at; is_heard = heard; left = true }
 
--- the name of an entry at position i: that of the UID that it silences or hears
-abbrev pub names_at : Option Entry → ℕ → List Name
-names_at (Some (Sent (StayQuiet link uid))) i =
-    if is_uid uid then name_at (mirror uid) i false ∷ [] else []
-names_at (Some (Heard r)) i = name_at (mirror r.uid) i true ∷ []
-names_at (Some e) i = []
-names_at None i = []
+-- the mention of an entry at position i: that of the UID that it silences or hears
+abbrev pub mentions_at : Option Entry → ℕ → List Mention
+mentions_at (Some (Sent (StayQuiet link uid))) i =
+    if is_uid uid then mention_at (mirror uid) i false ∷ [] else []
+mentions_at (Some (Heard r)) i = mention_at (mirror r.uid) i true ∷ []
+mentions_at (Some e) i = []
+mentions_at None i = []
 
--- the names of the entries from a position on, up to position i
-abbrev pub names_from : List Entry → ℕ → ℕ → List Name
-names_from es from zero = []
-names_from es from (suc i) =
-    if nat_le from i then names_from es from i ++ names_at (slice_get es i) i else []
+-- the mentions of the entries from a position on, up to position i
+abbrev pub mentions_from : List Entry → ℕ → ℕ → List Mention
+mentions_from es from zero = []
+mentions_from es from (suc i) =
+    if nat_le from i then mentions_from es from i ++ mentions_at (slice_get es i) i else []
 
 -- ---- the slots that were silent, or in which one tag was heard
 
 -- the slot at a position, whose mask has these keys, which heard this key or none
-pub record IsSpotOf (keys : Option KeyBlock) (at : ℕ) (heard : Option ℕ) (s : Spot)
+pub record IsReadSlotOf (keys : Option KeyBlock) (at : ℕ) (heard : Option ℕ) (s : ReadSlot)
     : Type 0 where
   pub place : s.at ≡ at
   pub key : heard_of s ≡ heard
@@ -56,10 +56,10 @@ pub record IsSpotOf (keys : Option KeyBlock) (at : ℕ) (heard : Option ℕ) (s 
   pub inside : (k : ℕ) → is_in s k ≡ is_in_some_block keys k
 
 -- the list has one more slot, unless no UID lies in its mask
-abbrev pub AddsSpot : Option KeyBlock → ℕ → Option ℕ → List Spot → List Spot → Type 0
-AddsSpot keys at heard old new =
+abbrev pub AddsReadSlot : Option KeyBlock → ℕ → Option ℕ → List ReadSlot → List ReadSlot → Type 0
+AddsReadSlot keys at heard old new =
     ((keys ≡ None) × (new ≡ old))
-    ⊎ ((s : Spot) × (new ≡ old ++ s ∷ []) × IsSpotOf keys at heard s)
+    ⊎ ((s : ReadSlot) × (new ≡ old ++ s ∷ []) × IsReadSlotOf keys at heard s)
 
 -- the entry is a slot line that heard this key, or none
 abbrev pub HasRead : Option Entry → Option ℕ → Type 0
@@ -68,7 +68,7 @@ HasRead e heard =
     ⊎ ((r : Reply) × (e ≡ Some (Heard r)) × IsUid r.uid × (heard ≡ Some (mirror r.uid)))
 
 -- the slot is that of an entry from a position on, up to position i
-pub record IsSpot (es : List Entry) (from i : ℕ) (s : Spot) : Type 0 where
+pub record IsReadSlot (es : List Entry) (from i : ℕ) (s : ReadSlot) : Type 0 where
   pub since : from ≤ s.at
   pub before : s.at < i
   pub read : HasRead (slice_get es s.at) (heard_of s)
@@ -82,16 +82,16 @@ NobodyAt es i = (u : ℕ) → IsUid u → lies_in_some (mask_at es i) u ≡ fals
 -- ---- all of it
 
 -- what is gathered from the entries from a position on, up to position i, none of which is a field
--- cycle: their names, their slots that may rule UIDs out, and what the others require
-pub record HasGathered (es : List Entry) (from i : ℕ) (ns : List Name) (ss : List Spot)
+-- cycle: their mentions, their slots that may rule UIDs out, and what the others require
+pub record HasGathered (es : List Entry) (from i : ℕ) (ns : List Mention) (ss : List ReadSlot)
     (ds : List Demand) : Type 0 where
   pub begun : from ≤ i
   pub small : from < i → i ≤ 2 ^ 32
   pub awake : (j : ℕ) → from ≤ j → j < i → wakes (slice_get es j) ≡ false
-  pub names : ns ≡ names_from es from i
-  pub spots : All (IsSpot es from i) ss
+  pub mentions : ns ≡ mentions_from es from i
+  pub reads : All (IsReadSlot es from i) ss
   pub read : (j : ℕ) (e : Entry) → from ≤ j → j < i → slice_get es j ≡ Some e
-      → rules_out e ≡ true → Any (λ (s : Spot). s.at ≡ j) ss ⊎ NobodyAt es j
+      → rules_out e ≡ true → Any (λ (s : ReadSlot). s.at ≡ j) ss ⊎ NobodyAt es j
   pub inside : (j : ℕ) (r : Reply) → from ≤ j → j < i → slice_get es j ≡ Some (Heard r)
       → IsUid r.uid × (lies_in_some (mask_at es j) r.uid ≡ true)
   pub asked : AreAsked es from i ds

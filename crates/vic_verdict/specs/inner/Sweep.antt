@@ -5,16 +5,16 @@ use Rattle.std.specs.List.Sorted.{IsNonDecreasingBy}
 use Rattle.std.specs.List.{list_all, list_any, All}
 use Rattle.vic_frame.specs.declared.uid.TheConstants.{UID_BITS}
 use Rattle.vic_verdict.specs.declared.closed.TheConstants.{LENGTHS}
-use Rattle.vic_verdict.specs.declared.names.TheConstants.{NEVER}
+use Rattle.vic_verdict.specs.declared.mentions.TheConstants.{NEVER}
 use Rattle.vic_frame.specs.LowBitsFirst.{IsKey}
 use Rattle.vic_tree.specs.Ranges.{IsKeyRange, is_between}
-use Rattle.vic_verdict.specs.declared.names.Name.{Name}
-use Rattle.vic_verdict.specs.declared.closed.Spot.{Spot}
+use Rattle.vic_verdict.specs.declared.mentions.Mention.{Mention}
+use Rattle.vic_verdict.specs.declared.closed.ReadSlot.{ReadSlot}
 use Rattle.vic_verdict.specs.declared.sweep.Level.{Level}
 use Rattle.vic_verdict.specs.declared.sweep.Run.{Run}
 
--- the position after which the UID of a name is Quiet by its line
-abbrev pub quiet_of : Name → ℕ
+-- the position after which the UID of a mention is Quiet by its line
+abbrev pub quiet_of : Mention → ℕ
 quiet_of n = if n.is_heard then NEVER else n.at
 
 -- the key was heard
@@ -33,31 +33,31 @@ is_before q None = true
 is_before q (Some at) = nat_lt q at
 
 -- how many bits a slot's mask has
-abbrev pub len_of : Spot → ℕ
+abbrev pub len_of : ReadSlot → ℕ
 len_of s = s.mask % LENGTHS
 
 -- the first and the last key of its mask
-abbrev pub first_of : Spot → ℕ
+abbrev pub first_of : ReadSlot → ℕ
 first_of s = s.mask / LENGTHS
 
-abbrev pub last_of : Spot → ℕ
+abbrev pub last_of : ReadSlot → ℕ
 last_of s = first_of s + (2 ^ (UID_BITS - len_of s) - 1)
 
 -- the key that was heard in it
-abbrev pub heard_of : Spot → Option ℕ
+abbrev pub heard_of : ReadSlot → Option ℕ
 heard_of s = if s.is_heard then Some s.key else None
 
 -- the key lies in its mask
-abbrev pub is_in : Spot → ℕ → Bool
+abbrev pub is_in : ReadSlot → ℕ → Bool
 is_in s k = is_between (first_of s) (last_of s) k
 
 -- the slot leaves the key
-abbrev pub spot_leaves : Spot → ℕ → ℕ → Bool
-spot_leaves s k q = not (is_in s k) || slot_leaves s.at (heard_of s) k q
+abbrev pub read_leaves : ReadSlot → ℕ → ℕ → Bool
+read_leaves s k q = not (is_in s k) || slot_leaves s.at (heard_of s) k q
 
 -- all slots do
-abbrev pub all_leave : List Spot → ℕ → ℕ → Bool
-all_leave spots k q = list_all (λ s. spot_leaves s k q) spots
+abbrev pub all_leave : List ReadSlot → ℕ → ℕ → Bool
+all_leave reads k q = list_all (λ s. read_leaves s k q) reads
 
 -- what a level leaves of the keys in its mask
 abbrev pub level_leaves : Level → ℕ → ℕ → Bool
@@ -75,85 +75,85 @@ abbrev pub run_leaves : Option Run → ℕ → ℕ → Bool
 run_leaves None k q = true
 run_leaves (Some r) k q = mask_leaves r.first r.last r.level k q
 
--- names stay left if a test of key and position passes
-abbrev pub keep : (ℕ → ℕ → Bool) → Name → Name
+-- mentions stay left if a test of key and position passes
+abbrev pub keep : (ℕ → ℕ → Bool) → Mention → Mention
 keep p n = record
     { key = n.key; at = n.at; is_heard = n.is_heard; left = n.left && p n.key (quiet_of n) }
 
-abbrev pub keep_all : (ℕ → ℕ → Bool) → List Name → List Name
+abbrev pub keep_all : (ℕ → ℕ → Bool) → List Mention → List Mention
 keep_all p ns = map (keep p) ns
 
--- a name with this key passes a test
-abbrev pub has_where : (Name → Bool) → List Name → ℕ → Bool
+-- a mention with this key passes a test
+abbrev pub has_where : (Mention → Bool) → List Mention → ℕ → Bool
 has_where p ns k = list_any (λ n. (n.key == k) && p n) ns
 
--- a name with this key is left
-abbrev pub has_left : List Name → ℕ → Bool
+-- a mention with this key is left
+abbrev pub has_left : List Mention → ℕ → Bool
 has_left ns k = has_where (λ n. n.left) ns k
 
--- a UID with this key is Quiet at position i, by the names
-abbrev pub is_quiet_by : List Name → ℕ → ℕ → Bool
+-- a UID with this key is Quiet at position i, by the mentions
+abbrev pub is_quiet_by : List Mention → ℕ → ℕ → Bool
 is_quiet_by ns k i = has_where (λ n. nat_lt (quiet_of n) i) ns k
 
--- the slot allows the key, by the names
-abbrev pub spot_allows : List Name → Spot → ℕ → Bool
-spot_allows ns s k = not (is_in s k) || (is_quiet_by ns k s.at || is_heard (heard_of s) k)
+-- the slot allows the key, by the mentions
+abbrev pub read_allows : List Mention → ReadSlot → ℕ → Bool
+read_allows ns s k = not (is_in s k) || (is_quiet_by ns k s.at || is_heard (heard_of s) k)
 
-abbrev pub all_allow : List Name → List Spot → ℕ → Bool
-all_allow ns spots k = list_all (λ s. spot_allows ns s k) spots
+abbrev pub all_allow : List Mention → List ReadSlot → ℕ → Bool
+all_allow ns reads k = list_all (λ s. read_allows ns s k) reads
 
 -- all slots before position i do
-abbrev pub all_allow_to : List Name → List Spot → ℕ → ℕ → Bool
-all_allow_to ns spots i k = list_all (λ s. nat_le i s.at || spot_allows ns s k) spots
+abbrev pub all_allow_to : List Mention → List ReadSlot → ℕ → ℕ → Bool
+all_allow_to ns reads i k = list_all (λ s. nat_le i s.at || read_allows ns s k) reads
 
 -- the keys of the slot's mask are a range of keys
-abbrev pub HasRange : Spot → Type 0
+abbrev pub HasRange : ReadSlot → Type 0
 HasRange s = (len_of s ≤ UID_BITS) × IsKeyRange (first_of s, last_of s)
 
--- the key is named
-abbrev pub is_named : List Name → ℕ → Bool
-is_named ns k = list_any (λ n. n.key == k) ns
+-- the key is mentioned
+abbrev pub is_mentioned : List Mention → ℕ → Bool
+is_mentioned ns k = list_any (λ n. n.key == k) ns
 
 -- and so is the key that a slot heard
-abbrev pub is_named_if : List Name → Option ℕ → Bool
-is_named_if ns None = true
-is_named_if ns (Some h) = is_named ns h
+abbrev pub is_mentioned_if : List Mention → Option ℕ → Bool
+is_mentioned_if ns None = true
+is_mentioned_if ns (Some h) = is_mentioned ns h
 
-abbrev pub hears_named : List Name → Spot → Bool
-hears_named ns s = is_named_if ns (heard_of s)
+abbrev pub hears_mentioned : List Mention → ReadSlot → Bool
+hears_mentioned ns s = is_mentioned_if ns (heard_of s)
 
-abbrev pub all_hear_named : List Name → List Spot → Bool
-all_hear_named ns spots = list_all (hears_named ns) spots
+abbrev pub all_hear_mentioned : List Mention → List ReadSlot → Bool
+all_hear_mentioned ns reads = list_all (hears_mentioned ns) reads
 
--- all names are left
-abbrev pub are_left : List Name → Bool
+-- all mentions are left
+abbrev pub are_left : List Mention → Bool
 are_left ns = list_all (λ n. n.left) ns
 
--- all names are left, and the slots, whose masks are ranges of keys, are before a position; a key
--- that one of them heard is named
-pub record AreUnsettled (ns : List Name) (ss : List Spot) (end : ℕ) : Type 0 where
+-- all mentions are left, and the slots, whose masks are ranges of keys, are before a position; a
+-- key that one of them heard is mentioned
+pub record AreUnsettled (ns : List Mention) (ss : List ReadSlot) (end : ℕ) : Type 0 where
   pub left : are_left ns ≡ true
-  pub before : All (λ (s : Spot). s.at < end) ss
+  pub before : All (λ (s : ReadSlot). s.at < end) ss
   pub ranges : All HasRange ss
-  pub named : all_hear_named ns ss ≡ true
+  pub mentioned : all_hear_mentioned ns ss ≡ true
 
--- the names are in the order of their keys
-abbrev pub AreInOrder : List Name → Type 0
-AreInOrder ns = IsNonDecreasingBy (λ (n : Name). n.key) ns
+-- the mentions are in the order of their keys
+abbrev pub AreInOrder : List Mention → Type 0
+AreInOrder ns = IsNonDecreasingBy (λ (n : Mention). n.key) ns
 
--- the names before the index, and no others, have keys below the first one
-pub record IsStart (ns : List Name) (first at : ℕ) : Type 0 where
+-- the mentions before the index, and no others, have keys below the first one
+pub record IsStart (ns : List Mention) (first at : ℕ) : Type 0 where
   pub within : at ≤ length ns
-  pub below : (k : ℕ) (d : Name) → k < at → (slice_index_or ns k d).key < first
-  pub rest : (k : ℕ) (d : Name) → at ≤ k → k < length ns
+  pub below : (k : ℕ) (d : Mention) → k < at → (slice_index_or ns k d).key < first
+  pub rest : (k : ℕ) (d : Mention) → at ≤ k → k < length ns
       → first ≤ (slice_index_or ns k d).key
 
--- the names have keys of UIDs
-abbrev pub HaveKeys : List Name → Type 0
-HaveKeys ns = All (λ (n : Name). IsKey n.key) ns
+-- the mentions have keys of UIDs
+abbrev pub HaveKeys : List Mention → Type 0
+HaveKeys ns = All (λ (n : Mention). IsKey n.key) ns
 
--- the names are in order, and show the same UIDs as Quiet as before
-pub record ArePutInOrder (old new : List Name) : Type 0 where
+-- the mentions are in order, and show the same UIDs as Quiet as before
+pub record ArePutInOrder (old new : List Mention) : Type 0 where
   pub order : AreInOrder new
   pub keys : HaveKeys old → HaveKeys new
   pub quiet : (k i : ℕ) → is_quiet_by new k i ≡ is_quiet_by old k i

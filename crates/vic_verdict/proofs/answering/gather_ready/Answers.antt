@@ -5,25 +5,25 @@ use Rattle.vic_verdict.proofs.Ready.{gathers_none, ready_more, ready_other, read
 use Rattle.vic_verdict.proofs.answering.gather_ready.Goals as goal
 use Rattle.vic_verdict.proofs.answering.gather_ready.Goals.{then-at-quiet, else-at-quiet}
 
-pub loop-name-init : goal.loop-name-init
-loop-name-init c = gathers_none _ c.args.uids.now.items (λ u l p. absurd (false≢true p.1))
+pub loop-mention-init : goal.loop-mention-init
+loop-mention-init c = gathers_none _ c.args.uids.now.items (λ u l p. absurd (false≢true p.1))
 
-pub loop-name-preserved : goal.loop-name-preserved
-loop-name-preserved c =
-    let ns = c.args.names.now in
-    let i = c.loop-name.name-index in
+pub loop-mention-preserved : goal.loop-mention-preserved
+loop-mention-preserved c =
+    let ns = c.args.mentions.now in
+    let i = c.loop-mention.mention-index in
     let at = c.args.at in
     let old = c.args.uids.now.items in
     let P = Gathers (IsReadyIn (take (i + 1) ns) at) old in
     elim c.if-at-quiet.branch [
-      | then-at-quiet w ↦ subst (λ v. P v.items) (sym w.uids-is) (ready_more ns old c.loop-name.uids.items _ i w.uid_at.result at c.loop-name-test.true w.uid_at.ensures.is_uid w.uid_at.ensures.back (subst (λ q. at ≤ q) c.quiet.ensures w.if-at-quiet.true) c.loop-name.invariant w.gather_one.ensures)
-      | else-at-quiet w ↦ subst (λ v. P v.items) (sym w.uids-is) (ready_other ns old c.loop-name.uids.items i at c.loop-name-test.true (subst (λ q. q < at) c.quiet.ensures w.if-at-quiet.false) c.loop-name.invariant)
+      | then-at-quiet w ↦ subst (λ v. P v.items) (sym w.uids-is) (ready_more ns old c.loop-mention.uids.items _ i w.uid_at.result at c.loop-mention-test.true w.uid_at.ensures.is_uid w.uid_at.ensures.back (subst (λ q. at ≤ q) c.quiet.ensures w.if-at-quiet.true) c.loop-mention.invariant w.gather_one.ensures)
+      | else-at-quiet w ↦ subst (λ v. P v.items) (sym w.uids-is) (ready_other ns old c.loop-mention.uids.items i at c.loop-mention-test.true (subst (λ q. q < at) c.quiet.ensures w.if-at-quiet.false) c.loop-mention.invariant)
     ]
 
 pub returns-then-is_full : goal.returns-then-is_full
 returns-then-is_full c =
-    let full : length c.loop-name.uids.items ≡ 3 = eqb-true _ 3 (sym c.is_full.ensures.value ∙ c.if-is_full.true) in
-    gathers_full _ _ _ _ (λ u p. ready_so_far c.args.names.now c.loop-name.name-index c.args.at u p) (omega arith) c.loop-name.invariant
+    let full : length c.loop-mention.uids.items ≡ 3 = eqb-true _ 3 (sym c.is_full.ensures.value ∙ c.if-is_full.true) in
+    gathers_full _ _ _ _ (λ u p. ready_so_far c.args.mentions.now c.loop-mention.mention-index c.args.at u p) (omega arith) c.loop-mention.invariant
 
 pub returns : goal.returns
-returns c = subst (λ ns. Gathers (IsReadyIn ns c.args.at) c.args.uids.now.items c.loop-name.uids.items) (take_all c.loop-name.name-index c.args.names.now c.loop-name-test.false) c.loop-name.invariant
+returns c = subst (λ ns. Gathers (IsReadyIn ns c.args.at) c.args.uids.now.items c.loop-mention.uids.items) (take_all c.loop-mention.mention-index c.args.mentions.now c.loop-mention-test.false) c.loop-mention.invariant

@@ -2,5 +2,5 @@ use Rattle.std.proofs.Common.{take}
 use Rattle.vic_verdict.proofs.Words.{Gathers, IsReadyIn}
 use Rattle.vic_verdict.proofs.answering.gather_ready.Given as goal
 
-abbrev pub invariant-loop-name : goal.invariant-loop-name
-invariant-loop-name l = Gathers (IsReadyIn (take l.name-index l.names) l.at) l.initial.uids.items l.uids.items
+abbrev pub invariant-loop-mention : goal.invariant-loop-mention
+invariant-loop-mention l = Gathers (IsReadyIn (take l.mention-index l.mentions) l.at) l.initial.uids.items l.uids.items

@@ -8,7 +8,7 @@ use Rattle.vic_verdict.proofs.demands.meet_each.Goals.{then-not-is_asked_again+i
 pub loop-index-preserved : goal.loop-index-preserved
 loop-index-preserved g c = record {
   known =
-      let K = λ (k : Option Known). IfSome k (IsKnown (g.S.OpenSet.is_open c.args.set.now) c.args.names.now) in
+      let K = λ (k : Option Known). IfSome k (IsKnown (g.S.OpenSet.is_open c.args.set.now) c.args.mentions.now) in
       elim c.if-not-is_asked_again.branch [
         | then-not-is_asked_again+in_ok-uids+else-len-need+in_ok-push w ↦ subst K (sym w.known-is) w.in_ok-uids.ensures.known
         | else-not-is_asked_again w ↦ subst K (sym w.known-is) c.loop-index.invariant.known
@@ -22,12 +22,12 @@ loop-index-preserved g c = record {
             let none : Demand = record { first = 0; len = 0; need = 0; at = 0 } in
             let d = get_or ds k none in
             let is : d ≡ get_or ds k d = get_or_default ds k none d c.loop-index-test.true in
-            let asked = subst (IsDemandBy es c.args.names.now) (sym is) (h k d c.loop-index-test.true) in
+            let asked = subst (IsDemandBy es c.args.mentions.now) (sym is) (h k d c.loop-index-test.true) in
             let f : Found = record { at = w.place-at.result; need = w.from-need.result; uids = w.in_ok-uids.uids } in
             let need : f.need ≡ d.need = w.from-need.ensures in
             subst (λ v. AreMetTo es ds (k + 1) c.args.found.now.items v.items) (sym w.found-is)
             (met_found es ds k d f c.args.found.now.items c.loop-index.found.items w.push.new.self.items c.loop-index-test.true is w.in_ok-push.ensures.items
-            (found_at es (g.S.OpenSet.is_open c.args.set.now) c.args.names.now d f same asked w.in_ok-uids.ensures.uids w.place-at.ensures need (let long = w.if-len-need.false in let len = w.len.ensures.value in omega arith)) need before)
+            (found_at es (g.S.OpenSet.is_open c.args.set.now) c.args.mentions.now d f same asked w.in_ok-uids.ensures.uids w.place-at.ensures need (let long = w.if-len-need.false in let len = w.len.ensures.value in omega arith)) need before)
         | else-not-is_asked_again w ↦
             subst (λ v. AreMetTo es ds (k + 1) c.args.found.now.items v.items) (sym w.found-is)
             (met_skipped es ds k c.args.found.now.items c.loop-index.found.items c.loop-index-test.true (c.is_asked_again.ensures w.if-not-is_asked_again.false) before)
@@ -36,4 +36,4 @@ loop-index-preserved g c = record {
 
 pub returns-clause-met : goal.returns-clause-met
 returns-clause-met g c es same h done =
-    met_all es c.args.names.now c.args.demands.now c.loop-index.index c.args.found.now.items c.loop-index.found.items h (let last = c.loop-index-test.false in let within = c.loop-index.auto.index-end in omega arith) (c.loop-index.invariant.met es same h)
+    met_all es c.args.mentions.now c.args.demands.now c.loop-index.index c.args.found.now.items c.loop-index.found.items h (let last = c.loop-index-test.false in let within = c.loop-index.auto.index-end in omega arith) (c.loop-index.invariant.met es same h)

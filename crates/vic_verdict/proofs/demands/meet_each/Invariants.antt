@@ -5,6 +5,6 @@ use Rattle.vic_verdict.proofs.demands.meet_each.Given as goal
 
 abbrev pub invariant-loop-index : goal.invariant-loop-index
 invariant-loop-index g l = record {
-  known : IfSome l.known (IsKnown (g.S.OpenSet.is_open l.set) l.names);
-  met : (es : List Entry) → SameUids (g.S.OpenSet.is_open l.set) (is_open (slots_of es)) → All (IsDemandBy es l.names) l.demands → AreMetTo es l.demands l.index l.fn.found.items l.found.items;
+  known : IfSome l.known (IsKnown (g.S.OpenSet.is_open l.set) l.mentions);
+  met : (es : List Entry) → SameUids (g.S.OpenSet.is_open l.set) (is_open (slots_of es)) → All (IsDemandBy es l.mentions) l.demands → AreMetTo es l.demands l.index l.fn.found.items l.found.items;
 }

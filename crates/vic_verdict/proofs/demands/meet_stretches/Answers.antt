@@ -1,6 +1,6 @@
 use Rattle.std.proofs.Common.{◌≡◌, List, length, sym, subst, arith, All}
-use Rattle.vic_verdict.proofs.Words.{Entry, Demand, Stretch, Name, IsDemandBy, AreInOrder, HaveKeys}
-use Rattle.vic_verdict.specs.inner.Asked.{HasBlock, HasBlocks, HasNamesInOrder, IsKept}
+use Rattle.vic_verdict.proofs.Words.{Entry, Demand, Stretch, Mention, IsDemandBy, AreInOrder, HaveKeys}
+use Rattle.vic_verdict.specs.inner.Asked.{HasBlock, HasBlocks, HasMentionsInOrder, IsKept}
 use Rattle.vic_verdict.proofs.Demanding.{AreFoundTo, found_first, found_more, found_all, some_is, unmet_lacks}
 use Rattle.vic_verdict.proofs.demands.meet_stretches.Goals as goal
 
@@ -9,12 +9,12 @@ loop-stretch-init g c es same kept = subst (AreFoundTo es c.args.stretches.now 0
 
 pub meet_each-requires-clause-order : goal.meet_each-requires-clause-order
 meet_each-requires-clause-order g c =
-    let s = subst HasNamesInOrder (sym c.stretch-item.is) (c.requires.names c.loop-stretch.stretch-index c.stretch-item.result c.loop-stretch-test.true) in
+    let s = subst HasMentionsInOrder (sym c.stretch-item.is) (c.requires.mentions c.loop-stretch.stretch-index c.stretch-item.result c.loop-stretch-test.true) in
     subst AreInOrder (sym c.deref.ensures.value) s.order
 
 pub meet_each-requires-clause-keys : goal.meet_each-requires-clause-keys
 meet_each-requires-clause-keys g c =
-    let s = subst HasNamesInOrder (sym c.stretch-item.is) (c.requires.names c.loop-stretch.stretch-index c.stretch-item.result c.loop-stretch-test.true) in
+    let s = subst HasMentionsInOrder (sym c.stretch-item.is) (c.requires.mentions c.loop-stretch.stretch-index c.stretch-item.result c.loop-stretch-test.true) in
     subst HaveKeys (sym c.deref.ensures.value) s.keys
 
 pub meet_each-requires-clause-blocks : goal.meet_each-requires-clause-blocks
@@ -23,8 +23,8 @@ meet_each-requires-clause-blocks g c =
     subst (All HasBlock) (sym c.deref-in-loop-stretch.ensures.value) s
 
 -- the demands of a stretch, as they are lent
-lent : (es : List Entry) (s : Stretch) (ns : List Name) (ds : List Demand) → ns ≡ s.names.items → ds ≡ s.demands.items → IsKept es (length es) s → All (IsDemandBy es ns) ds
-lent es s ns ds a b h = subst (λ xs. All (IsDemandBy es xs) ds) (sym a) (subst (All (IsDemandBy es s.names.items)) (sym b) h.demands)
+lent : (es : List Entry) (s : Stretch) (ns : List Mention) (ds : List Demand) → ns ≡ s.mentions.items → ds ≡ s.demands.items → IsKept es (length es) s → All (IsDemandBy es ns) ds
+lent es s ns ds a b h = subst (λ xs. All (IsDemandBy es xs) ds) (sym a) (subst (All (IsDemandBy es s.mentions.items)) (sym b) h.demands)
 
 pub returns-in-Some : goal.returns-in-Some
 returns-in-Some g c es same kept =

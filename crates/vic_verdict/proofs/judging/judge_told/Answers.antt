@@ -4,7 +4,7 @@ use Rattle.vic_verdict.proofs.Differing.{IsJudged, absent_list, unlisted_list, u
 use Rattle.vic_verdict.proofs.Failing.{first_is_least}
 use Rattle.vic_verdict.proofs.judging.judge_told.Goals as goal
 
--- the least of a rising list, by other names of the lists
+-- the least of a rising list, by other mentions of the lists
 abbrev Least : (ℕ → Type 0) → Option ℕ → Type 0
 Least P r = MatchOption r (NoSuch P) (IsLeast P)
 

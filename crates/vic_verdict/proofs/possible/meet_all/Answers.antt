@@ -31,8 +31,8 @@ returns-then-not-branch g c =
       before = λ e. absurd (cc);
     }
 
-pub meet_stretches-requires-clause-names : goal.meet_stretches-requires-clause-names
-meet_stretches-requires-clause-names g c = kept_in_order (entries c.args.lines.now) _ c.args.stretches.now c.requires.kept
+pub meet_stretches-requires-clause-mentions : goal.meet_stretches-requires-clause-mentions
+meet_stretches-requires-clause-mentions g c = kept_in_order (entries c.args.lines.now) _ c.args.stretches.now c.requires.kept
 
 pub meet_stretches-requires-clause-blocks : goal.meet_stretches-requires-clause-blocks
 meet_stretches-requires-clause-blocks g c = kept_blocks (entries c.args.lines.now) _ c.args.stretches.now c.requires.kept

@@ -1,10 +1,10 @@
 use Rattle.std.proofs.Common.{false, ◌<◌, ◌^◌, ◌≡◌, ◌+◌, ℕ, List, [], ◌∷◌, ◌++◌, inl, inr, ⊎_elim, ◌∙◌, true, refl, ap, sym, Option, Some, None, subst, arith, IfSome, slice_get, append-nil}
-use Rattle.vic_verdict.proofs.Words.{Spot, Demand, wakes, rules_out, needs, IfOk-weaker, KeyBlock, is_in_some_block, mirror, IsUid, Entry, Sent, Silent, Collision, Garbled, Listed, Heard, Reply, lies_in_some, mask_at, Name}
+use Rattle.vic_verdict.proofs.Words.{ReadSlot, Demand, wakes, rules_out, needs, IfOk-weaker, KeyBlock, is_in_some_block, mirror, IsUid, Entry, Sent, Silent, Collision, Garbled, Listed, Heard, Reply, lies_in_some, mask_at, Mention}
 use Rattle.vic_frame.specs.LowBitsFirst.{IsBlock}
-use Rattle.vic_verdict.specs.inner.Stretches.{HasGathered, name_at, names_at}
+use Rattle.vic_verdict.specs.inner.Stretches.{HasGathered, mention_at, mentions_at}
 use Rattle.vic_verdict.proofs.Demanding.{asked_nothing, asked_more}
 use Rattle.vic_verdict.proofs.Heard.{outside_reply, nobody_there}
-use Rattle.vic_verdict.proofs.Stretching.{gathered_next, gathered_passed, spot_told}
+use Rattle.vic_verdict.proofs.Stretching.{gathered_next, gathered_passed, read_told}
 use Rattle.vic_verdict.proofs.stretches.note_entry.Goals as goal
 
 pub returns-then-not-is_in_some_block-clause-unfit : goal.returns-then-not-is_in_some_block-clause-unfit
@@ -20,36 +20,36 @@ returns-in_ok-note_sent-in-Sent-clause-gathered c es from k valid at other fits 
     let e = Sent c.in-Sent.request in
     let here = k ∙ ap (λ x. Some x) c.in-Sent.is in
     let ds = c.args.demands.now.items in
-    gathered_passed es from c.args.index e c.args.names.now.items c.note_sent.new.names.items c.args.spots.now.items ds ds here c.requires refl c.in_ok-note_sent-in-Sent.ensures refl (λ begun. asked_nothing es from c.args.index ds e begun here refl) h
+    gathered_passed es from c.args.index e c.args.mentions.now.items c.note_sent.new.mentions.items c.args.reads.now.items ds ds here c.requires refl c.in_ok-note_sent-in-Sent.ensures refl (λ begun. asked_nothing es from c.args.index ds e begun here refl) h
 
-pub returns-in_ok-push_spot-in-Silent-clause-gathered : goal.returns-in_ok-push_spot-in-Silent-clause-gathered
-returns-in_ok-push_spot-in-Silent-clause-gathered c es from k valid at other fits h =
+pub returns-in_ok-push_read-in-Silent-clause-gathered : goal.returns-in_ok-push_read-in-Silent-clause-gathered
+returns-in_ok-push_read-in-Silent-clause-gathered c es from k valid at other fits h =
     let here = k ∙ ap (λ e. Some e) c.in-Silent.is in
     let i = c.args.index in
-    let ns = c.args.names.now.items in
+    let ns = c.args.mentions.now.items in
     let ds = c.args.demands.now.items in
-    let spot = spot_told es i Silent c.keys.result None c.args.spots.now.items c.push_spot.new.spots.items (λ u w. c.keys.ensures.inside es i u valid at w) (inl (here, refl)) c.in_ok-push_spot-in-Silent.ensures in
-    gathered_next es from i Silent ns ns c.args.spots.now.items c.push_spot.new.spots.items ds ds here c.requires refl (sym (append-nil ns)) spot (λ r e. absurd (cc)) (λ begun. asked_nothing es from i ds Silent begun here refl) h
+    let read = read_told es i Silent c.keys.result None c.args.reads.now.items c.push_read.new.reads.items (λ u w. c.keys.ensures.inside es i u valid at w) (inl (here, refl)) c.in_ok-push_read-in-Silent.ensures in
+    gathered_next es from i Silent ns ns c.args.reads.now.items c.push_read.new.reads.items ds ds here c.requires refl (sym (append-nil ns)) read (λ r e. absurd (cc)) (λ begun. asked_nothing es from i ds Silent begun here refl) h
 
-pub returns-in_ok-push_spot-in-Heard-clause-gathered : goal.returns-in_ok-push_spot-in-Heard-clause-gathered
-returns-in_ok-push_spot-in-Heard-clause-gathered c es from k valid at other fits h =
+pub returns-in_ok-push_read-in-Heard-clause-gathered : goal.returns-in_ok-push_read-in-Heard-clause-gathered
+returns-in_ok-push_read-in-Heard-clause-gathered c es from k valid at other fits h =
     let r = c.in-Heard.response in
     let here = k ∙ ap (λ e. Some e) c.in-Heard.is in
     let i = c.args.index in
-    let ns = c.args.names.now.items in
+    let ns = c.args.mentions.now.items in
     let ds = c.args.demands.now.items in
     let told = c.key-heard.ensures in
     let key : c.key-heard.result ≡ mirror r.uid = told.value ∙ ap mirror c.uid.ensures.value in
     let is_uid : IsUid r.uid = subst IsUid c.uid.ensures.value told.is_uid in
     let inside : lies_in_some (mask_at es i) r.uid ≡ true = ap (λ u. lies_in_some (mask_at es i) u) (sym c.uid.ensures.value) ∙ (sym (c.keys-keys.ensures.inside es i c.uid.result valid at told.is_uid) ∙ (ap (is_in_some_block c.keys-keys.result) (sym told.value) ∙ (sym c.is_in_some_block.ensures ∙ c.if-not-is_in_some_block.false))) in
-    let spot = spot_told es i (Heard r) c.keys-keys.result (Some c.key-heard.result) c.args.spots.now.items c.push_spot-in-Heard.new.spots.items (λ u w. c.keys-keys.ensures.inside es i u valid at w) (inr (r, here, is_uid, ap (λ x. Some x) key)) c.in_ok-push_spot-in-Heard.ensures in
-    gathered_next es from i (Heard r) ns c.push_name.new.names.items c.args.spots.now.items c.push_spot-in-Heard.new.spots.items ds ds here c.requires refl
-    (c.in_ok-push_name-in-Heard.ensures ∙ ap (λ x. ns ++ name_at x i true ∷ []) key) spot
+    let read = read_told es i (Heard r) c.keys-keys.result (Some c.key-heard.result) c.args.reads.now.items c.push_read-in-Heard.new.reads.items (λ u w. c.keys-keys.ensures.inside es i u valid at w) (inr (r, here, is_uid, ap (λ x. Some x) key)) c.in_ok-push_read-in-Heard.ensures in
+    gathered_next es from i (Heard r) ns c.push_mention.new.mentions.items c.args.reads.now.items c.push_read-in-Heard.new.reads.items ds ds here c.requires refl
+    (c.in_ok-push_mention-in-Heard.ensures ∙ ap (λ x. ns ++ mention_at x i true ∷ []) key) read
     (λ q e. let same : r ≡ q = cc in subst (λ (x : Reply). IsUid x.uid × (lies_in_some (mask_at es i) x.uid ≡ true)) same (is_uid, inside))
     (λ begun. asked_nothing es from i ds (Heard r) begun here refl) h
 
 -- a slot that requires tags
-gathered_asked : (es : List Entry) (from i : ℕ) (e : Entry) (need : ℕ) (ns : List Name) (ss : List Spot) (ds cs : List Demand) (keys : Option KeyBlock) → slice_get es i ≡ Some e → i < 2 ^ 32 → wakes (Some e) ≡ false → names_at (Some e) i ≡ [] → rules_out e ≡ false → needs e ≡ need → 0 < need → ((u : ℕ) → IsUid u → is_in_some_block keys (mirror u) ≡ lies_in_some (mask_at es i) u) → IfSome keys (λ b. IsBlock b.first b.len) → (b : KeyBlock) × (keys ≡ Some b) × (cs ≡ ds ++ record { first = b.first; len = b.len; need = need; at = i } ∷ []) → HasGathered es from i ns ss ds → HasGathered es from (i + 1) ns ss cs
+gathered_asked : (es : List Entry) (from i : ℕ) (e : Entry) (need : ℕ) (ns : List Mention) (ss : List ReadSlot) (ds cs : List Demand) (keys : Option KeyBlock) → slice_get es i ≡ Some e → i < 2 ^ 32 → wakes (Some e) ≡ false → mentions_at (Some e) i ≡ [] → rules_out e ≡ false → needs e ≡ need → 0 < need → ((u : ℕ) → IsUid u → is_in_some_block keys (mirror u) ≡ lies_in_some (mask_at es i) u) → IfSome keys (λ b. IsBlock b.first b.len) → (b : KeyBlock) × (keys ≡ Some b) × (cs ≡ ds ++ record { first = b.first; len = b.len; need = need; at = i } ∷ []) → HasGathered es from i ns ss ds → HasGathered es from (i + 1) ns ss cs
 gathered_asked es from i e need ns ss ds cs keys k small awake none open_ needed some inside block more h =
     gathered_passed es from i e ns ns ss ds cs k small awake (sym (ap (λ xs. ns ++ xs) none ∙ append-nil ns)) open_
     (λ begun. asked_more es from i ds cs e (record { first = more.0.first; len = more.0.len; need = need; at = i }) begun k needed some (subst (λ o. IfSome o (λ b. IsBlock b.first b.len)) more.1 block) (λ u w. ap (λ o. is_in_some_block o (mirror u)) (sym more.1) ∙ inside u w) refl more.2) h
@@ -76,8 +76,8 @@ pub returns-in-Listed-clause-gathered : goal.returns-in-Listed-clause-gathered
 returns-in-Listed-clause-gathered c es from k valid at other fits h =
     ⊎_elim (λ w. listed w.0 (k ∙ ap (λ e. Some e) w.1)) (λ f. absurd (other f)) c.in-Listed.is
   where
-    ns : List Name
-    ns = c.args.names.now.items
+    ns : List Mention
+    ns = c.args.mentions.now.items
 
-    listed : (u : ℕ) → slice_get es c.args.index ≡ Some (Listed u) → HasGathered es from (c.args.index + 1) ns c.args.spots.now.items c.args.demands.now.items
-    listed u here = gathered_passed es from c.args.index (Listed u) ns ns c.args.spots.now.items c.args.demands.now.items c.args.demands.now.items here c.requires refl (sym (append-nil ns)) refl (λ begun. asked_nothing es from c.args.index c.args.demands.now.items (Listed u) begun here refl) h
+    listed : (u : ℕ) → slice_get es c.args.index ≡ Some (Listed u) → HasGathered es from (c.args.index + 1) ns c.args.reads.now.items c.args.demands.now.items
+    listed u here = gathered_passed es from c.args.index (Listed u) ns ns c.args.reads.now.items c.args.demands.now.items c.args.demands.now.items here c.requires refl (sym (append-nil ns)) refl (λ begun. asked_nothing es from c.args.index c.args.demands.now.items (Listed u) begun here refl) h

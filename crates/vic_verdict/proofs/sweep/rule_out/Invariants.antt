@@ -3,4 +3,4 @@ use Rattle.vic_verdict.proofs.Sweeping.{IsRuled}
 use Rattle.vic_verdict.proofs.sweep.rule_out.Given as goal
 
 abbrev pub invariant-loop-i : goal.invariant-loop-i
-invariant-loop-i l = IsRuled (mask_leaves l.fn.first l.fn.last l.fn.level) l.fn.names l.names l.i
+invariant-loop-i l = IsRuled (mask_leaves l.fn.first l.fn.last l.fn.level) l.fn.mentions l.mentions l.i

@@ -3,9 +3,9 @@ use Rattle.vic_verdict.proofs.Words.{keep_all, run_leaves, all_leave, AreInOrder
 use Rattle.vic_verdict.specs.inner.Sweep.{IsLevel}
 use Rattle.vic_verdict.proofs.sweep.rule_out_all.Given as goal
 
-abbrev pub invariant-loop-spot : goal.invariant-loop-spot
-invariant-loop-spot l = record {
-  order : AreInOrder l.names;
+abbrev pub invariant-loop-read : goal.invariant-loop-read
+invariant-loop-read l = record {
+  order : AreInOrder l.mentions;
   level : IfSome l.run (λ r. IsLevel r.level);
-  done : keep_all (run_leaves l.run) l.names ≡ keep_all (all_leave (take l.spot-index l.spots)) l.fn.names;
+  done : keep_all (run_leaves l.run) l.mentions ≡ keep_all (all_leave (take l.read-index l.reads)) l.fn.mentions;
 }

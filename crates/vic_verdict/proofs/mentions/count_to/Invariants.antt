@@ -1,0 +1,6 @@
+use Rattle.std.proofs.Common.{ℕ, ◌<◌, ◌≤◌, get_or}
+use Rattle.vic_verdict.proofs.Sweeping.{nobody}
+use Rattle.vic_verdict.proofs.mentions.count_to.Given as goal
+
+abbrev pub invariant-loop-count : goal.invariant-loop-count
+invariant-loop-count l = (j : ℕ) → j < l.count → (get_or l.mentions j nobody).key ≤ l.last

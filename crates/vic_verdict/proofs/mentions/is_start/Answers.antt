@@ -1,0 +1,13 @@
+use Rattle.std.proofs.Common.{arith, eqb-true}
+use Rattle.vic_verdict.proofs.Words.{lt_from}
+use Rattle.vic_verdict.proofs.Sweeping.{start_here}
+use Rattle.vic_verdict.proofs.mentions.is_start.Goals as goal
+
+pub returns-then-at-eq0 : goal.returns-then-at-eq0
+returns-then-at-eq0 c none =
+    let zero = eqb-true c.args.at 0 none in
+    start_here c.args.mentions.now c.args.first c.args.at c.requires.order c.requires.within c.if-first-mentions.true (λ some. absurd (omega arith))
+
+pub returns-else-at-eq0 : goal.returns-else-at-eq0
+returns-else-at-eq0 c less =
+    start_here c.args.mentions.now c.args.first c.args.at c.requires.order c.requires.within c.if-first-mentions.true (λ some. lt_from _ _ less)

@@ -1,6 +1,0 @@
-use Rattle.std.proofs.Common.{ℕ, ◌<◌, ◌≤◌, get_or}
-use Rattle.vic_verdict.proofs.Sweeping.{nobody}
-use Rattle.vic_verdict.proofs.names.count_to.Given as goal
-
-abbrev pub invariant-loop-count : goal.invariant-loop-count
-invariant-loop-count l = (j : ℕ) → j < l.count → (get_or l.names j nobody).key ≤ l.last

@@ -1,9 +1,0 @@
-use Rattle.std.proofs.Common.{◌∙◌, sym, ap, arith}
-use Rattle.vic_verdict.proofs.Words.{is_quiet_by}
-use Rattle.vic_verdict.proofs.Replying.{tells_own}
-use Rattle.vic_verdict.proofs.names.is_quiet_by.Goals as goal
-
-pub returns : goal.returns
-returns c =
-    let own = c.names_between.ensures in
-    sym (tells_own c.args.names.now c.names_between.result.now c.key-key.result c.first_quiet.result c.args.at own.inside own.all (c.first_quiet.ensures c.args.at (let r = c.ranges.at in omega arith))) ∙ ap (λ k. is_quiet_by c.args.names.now k c.args.at) c.key-key.ensures.value

@@ -1,0 +1,196 @@
+//! The UIDs that lines silence or hear between two field cycles, in the order of their keys: which
+//! of them are Quiet at a position, and whether those that were heard were Ready.
+
+ghost use Rattle.std.specs.Prelude.{◌≡◌, ◌<◌, ◌≤◌, ◌+◌, ℕ, Bool, true, length, nat_lt, ◌++◌, ◌∷◌, [], IfOk, OnOk, take, drop};
+ghost use Rattle.std.specs.List.{All, list_any};
+ghost use Rattle.std.specs.List.Sorted.{IsNonDecreasing};
+ghost use Rattle.vic_frame.specs.Uids.{has};
+ghost use Rattle.vic_frame.specs.LowBitsFirst.{mirror};
+ghost use Rattle.vic_tree.specs.OpenSet.{AreKeys};
+ghost use Rattle.vic_verdict.specs.declared.mentions.Mention.{Mention as MentionValue};
+ghost use Rattle.vic_verdict.specs.declared.mentions.TheConstants.{NEVER};
+ghost use Rattle.vic_tree.specs.Ranges.{is_between};
+ghost use Rattle.vic_verdict.specs.inner.Sweep.{quiet_of, is_quiet_by, AreInOrder, HaveKeys, IsStart, has_where};
+ghost use Rattle.vic_verdict.specs.inner.Replies.{reply_place, IsFirstQuietReply};
+
+use std::alloc::{AllocError, Global};
+use vic_frame::Uid;
+use vic_frame::low_bits_first::key;
+
+/// The position after which a UID is Quiet by a line that hears it: after all positions.
+pub(crate) const NEVER: usize = usize::MAX;
+
+/// A line that silences a UID or hears it: the UID's key, the line's position, and whether the
+/// slots looked at so far leave the UID open by this line. A UID is left if one of its mentions is.
+/// A log may have a million of them, which are sorted.
+#[derive(Clone, Copy)]
+pub(crate) struct Mention {
+    pub key: u64,
+    pub at: u32,
+    pub is_heard: bool,
+    pub left: bool,
+}
+
+impl Mention {
+    /// The position after which the UID is Quiet by the line.
+    pub(crate) fn quiet(&self) -> usize
+        ensures { result ≡ quiet_of self.now }
+    {
+        if self.is_heard {
+            NEVER
+        } else {
+            self.at as usize
+        }
+    }
+
+    /// The position at which the line hears the UID; 0 if it silences it.
+    fn reply_place(&self) -> usize
+        ensures { result ≡ reply_place self.now }
+    {
+        if self.is_heard { self.at as usize } else { 0 }
+    }
+}
+
+/// Adds a line that mentions the UID with a key.
+pub(crate) fn push_mention(
+    mentions: &mut Vec<Mention>,
+    key: u64,
+    at: u32,
+    is_heard: bool,
+) -> Result<(), AllocError>
+    ensures { OnOk result (mentions.new.items ≡ mentions.old.items
+        ++ record { key = key; at = at; is_heard = is_heard; left = true } ∷ []) }
+{
+    mentions.push(Mention {
+        key,
+        at,
+        is_heard,
+        left: true,
+    })?;
+    Ok(())
+}
+
+/// The index of the first mention whose key is at least `first`; the end if there is none.
+fn start_of(mentions: &[Mention], first: u64) -> usize
+    requires { AreInOrder mentions.now }
+    ensures { IsStart mentions.now first result }
+{
+    mentions.partition_point(|mention| mention.key < first)
+}
+
+/// Whether a mention is the first whose key is at least `first`.
+fn is_start(mentions: &[Mention], at: usize, first: u64) -> bool
+    requires order { AreInOrder mentions.now }
+    requires within { at < length mentions.now }
+    ensures { result ≡ true → IsStart mentions.now first at }
+{
+    first <= mentions[at].key && (at == 0 || mentions[at - 1].key < first)
+}
+
+/// How many mentions are looked at one by one before bisecting.
+const NEAR: usize = 8;
+
+/// The index of the first mention whose key is at least `first`. The `NEAR` mentions from `near` on
+/// are tried first, which are close if masks come in the order of their keys; then it bisects.
+pub(crate) fn start_near(mentions: &[Mention], near: usize, first: u64) -> usize
+    requires { AreInOrder mentions.now }
+    ensures { IsStart mentions.now first result }
+{
+    for at in near..mentions.len().min(near.saturating_add(NEAR)) {
+        if is_start(mentions, at, first) {
+            return at;
+        }
+    }
+    start_of(mentions, first)
+}
+
+/// How many mentions have keys up to `last`: counted one by one up to `NEAR`, and then by
+/// bisection.
+fn count_to(mentions: &[Mention], last: u64) -> usize
+    requires { AreInOrder mentions.now }
+    ensures { IsStart mentions.now (last + 1) result }
+{
+    for count in 0..mentions.len().min(NEAR) {
+        if last < mentions[count].key {
+            return count;
+        }
+    }
+    mentions.partition_point(|mention| mention.key <= last)
+}
+
+/// The mentions from key `first` to `last`, the first of which has the index `start`. For any test:
+/// if some mention with a key in between passes, one of these does.
+pub(crate) fn mentions_between(
+    mentions: &[Mention],
+    start: usize,
+    first: u64,
+    last: u64,
+) -> &[Mention]
+    requires order { AreInOrder mentions.now }
+    requires start { IsStart mentions.now first start }
+    ensures order { AreInOrder result.now }
+    ensures keys { HaveKeys mentions.now → HaveKeys result.now }
+    ensures inside { All (λ n. is_between first last n.key ≡ true) result.now }
+    ensures within { start + length result.now ≤ length mentions.now }
+    ensures place { result.now ≡ take (length result.now) (drop start mentions.now) }
+    ensures all { (test : MentionValue → Bool) (k : ℕ) → is_between first last k ≡ true
+        → has_where test result.now k ≡ has_where test mentions.now k }
+{
+    let rest = &mentions[start..];
+    &rest[..count_to(rest, last)]
+}
+
+/// Whether a UID is Quiet at a position.
+pub(crate) fn is_quiet_by(mentions: &[Mention], uid: Uid, at: usize) -> bool
+    requires { AreInOrder mentions.now }
+    ensures { result ≡ is_quiet_by mentions.now (mirror uid) at }
+{
+    let key = key(uid);
+    first_quiet(mentions_between(mentions, start_of(mentions, key), key, key)) < at
+}
+
+/// Whether one of some UIDs is Quiet at a position.
+pub(crate) fn is_any_quiet(mentions: &[Mention], uids: &[Uid], at: usize) -> bool
+    requires { AreInOrder mentions.now }
+    ensures { result ≡ list_any (λ u. is_quiet_by mentions.now (mirror u) at) uids.now }
+{
+    for uid in uids {
+        if is_quiet_by(mentions, *uid, at) {
+            return true;
+        }
+    }
+    false
+}
+
+/// The position after which a UID is Quiet, by all its mentions.
+pub(crate) fn first_quiet(own: &[Mention]) -> usize
+    ensures { (i : ℕ) → i ≤ NEVER
+        → nat_lt result i ≡ list_any (λ n. nat_lt (quiet_of n) i) own.now }
+{
+    let mut first = NEVER;
+    for mention in own {
+        first = first.min(mention.quiet());
+    }
+    first
+}
+
+/// The first position before `end` at which a UID was heard while it was Quiet; `end` if there is
+/// none. The mentions of one UID are consecutive.
+pub(crate) fn first_quiet_reply(mentions: &[Mention], end: usize) -> usize
+    requires { AreInOrder mentions.now }
+    ensures { IsFirstQuietReply mentions.now end result }
+{
+    let mut quiet = NEVER;
+    let mut first = end;
+    for i in 0..mentions.len() {
+        let key = mentions[i].key;
+        if i == 0 || mentions[i - 1].key < key {
+            quiet = first_quiet(mentions_between(mentions, i, key, key));
+        }
+        let reply = mentions[i].reply_place();
+        if quiet < reply {
+            first = first.min(reply);
+        }
+    }
+    first
+}
