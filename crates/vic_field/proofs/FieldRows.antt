@@ -12,7 +12,8 @@ use Rattle.vic_frame.specs.Uids.{IsUid, has}
 use Rattle.vic_frame.proofs.MirrorLaws.{mirror_of_uid, uid_of_mirror}
 use Rattle.vic_field.specs.declared.row.Row.{Row}
 use Rattle.vic_field.specs.Keys.{tags_of, uids_at}
-use Rattle.vic_field.specs.Rows.{entries, with_quiet}
+use Rattle.vic_field.specs.Rows.{entries}
+use Rattle.vic_field.specs.inner.Rows.{with_quiet}
 use Rattle.vic_field.specs.Tags.{readiness, uids}
 use Rattle.vic_field.proofs.RowLaws.{keys_of_entries}
 

@@ -7,7 +7,7 @@ use Rattle.vic_log.specs.Log.{LogValue, last_from}
 use Rattle.vic_log.specs.Order.{entries}
 use Rattle.vic_log.specs.Writing.{numbered}
 use Rattle.vic_log.proofs.Push.{entries-numbered}
-use Rattle.vic_field.specs.Steps.{with_entries}
+use Rattle.vic_field.specs.inner.Steps.{with_entries}
 
 pub entries-append : (ls ms : List LogLine) → entries (ls ++ ms) ≡ entries ls ++ entries ms
 entries-append ls ms = map-append (λ (x : LogLine). x.item) ls ms

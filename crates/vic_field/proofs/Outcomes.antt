@@ -9,7 +9,7 @@ use Rattle.vic_log.specs.declared.entry.Entry.{Entry}
 use Rattle.vic_log.specs.Populations.{IsPopulation, Outcome, Nobody, Lone, Several, outcome_of, Fits}
 use Rattle.vic_log.specs.Quiet.{is_quiet}
 use Rattle.vic_log.proofs.Sets.{IsWithin, AreDifferent-population, AreDifferent-filter, has_at, has_here, has_there, has_cases, has_filter, filter_has, IsUid-member}
-use Rattle.vic_field.specs.Steps.{slot_line}
+use Rattle.vic_field.specs.inner.Steps.{slot_line}
 use Rattle.vic_field.specs.Tags.{uids, readiness, ready_in, told}
 
 only : (x y : ℕ) → has (x ∷ []) y ≡ true → y ≡ x

@@ -8,7 +8,8 @@ use Rattle.std.proofs.lemmas.Nat.{or_lt, shr-shr, shr_le}
 use Rattle.std.proofs.lemmas.Nat.Bits.{bit_at_above, bit_at_ones, bit_at-trailing_ones, bit_at_set_same, bit_at_set_other, same_from_bits_below}
 use Rattle.vic_field.specs.declared.quiet.QuietPlaces.{QuietPlaces}
 use Rattle.vic_field.specs.declared.quiet.Word.{Word}
-use Rattle.vic_field.specs.Places.{AreUpTo, HasBitMore, HasBits, IsFull, IsSound, NotesFull, blank, is_set}
+use Rattle.vic_field.specs.Places.{AreUpTo, IsFull, IsSound, NotesFull, blank, is_set}
+use Rattle.vic_field.specs.inner.Places.{HasBitMore, HasBits}
 
 -- no bit is set in a stretch after those of all words
 pub none_later : (t s k : ℕ) (ws : List Word) → AreUpTo t ws → t < s → is_set s ws k ≡ false

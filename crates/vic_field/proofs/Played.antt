@@ -17,7 +17,7 @@ use Rattle.vic_log.specs.Rounds.{is_slot, slots_opened, mask_at, lies_in_some}
 use Rattle.vic_log.proofs.Order.{still_there}
 use Rattle.vic_log.proofs.Places.{CouldHaveGiven-push}
 use Rattle.vic_field.specs.Simulation.{without_slots, HasAllSlots, IsPlain, ArePlain, line_count}
-use Rattle.vic_field.specs.Steps.{slot_line, slot_lines_to, slot_lines, ready_after}
+use Rattle.vic_field.specs.inner.Steps.{slot_line, slot_lines_to, slot_lines, ready_after}
 use Rattle.vic_field.specs.Tags.{uids, readiness, ready_in, heard}
 use Rattle.vic_field.proofs.Outcomes.{Tells, outcome_told, fits_told}
 use Rattle.vic_field.proofs.Rounds.{place_in, second_place, slot_line-is_slot, slot_lines-slots, slot_lines-plain, slot_lines-length, IsOpen, IsOpen-sent, IsOpen-slots, IsOpen-mask, quiet-next, quiet-slot}

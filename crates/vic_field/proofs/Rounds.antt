@@ -14,7 +14,7 @@ use Rattle.vic_log.proofs.Places.{opener_agrees, quiet_agrees, agree_append, sli
 use Rattle.vic_field.specs.declared.outcome.Outcome.{Outcome as Told}
 use Rattle.vic_field.specs.declared.outcome.Outcome.TheVariants.{Silent as ToldSilent, Lone as ToldLone, Several as ToldSeveral}
 use Rattle.vic_field.specs.Simulation.{IsPlain}
-use Rattle.vic_field.specs.Steps.{slot_line, slot_lines_to, slot_lines}
+use Rattle.vic_field.specs.inner.Steps.{slot_line, slot_lines_to, slot_lines}
 use Rattle.vic_field.specs.Tags.{heard, ready_in}
 
 -- ---- positions of joined lists

@@ -20,7 +20,8 @@ use Rattle.vic_field.specs.declared.outcome.Outcome.TheVariants.{Several}
 use Rattle.vic_field.specs.declared.row.Row.{Row}
 use Rattle.vic_field.specs.Keys.{AreKeys, ready_between}
 use Rattle.vic_field.specs.Places.{is_quiet_place}
-use Rattle.vic_field.specs.Rows.{HasKeyPlaceBetween, IsKeyPlace, IsRow, as_ready, entries, entry_at, with_quiet}
+use Rattle.vic_field.specs.Rows.{IsRow, entries, entry_at}
+use Rattle.vic_field.specs.inner.Rows.{HasKeyPlaceBetween, IsKeyPlace, as_ready, with_quiet}
 use Rattle.vic_field.specs.Tags.{heard}
 
 -- ---- where keys stand

@@ -3,4 +3,4 @@ pub mod Keys
 pub mod Places
 pub mod Rows
 pub mod Simulation
-pub mod Steps
+pub mod inner

@@ -1,5 +1,5 @@
 -- Which positions of a row are Quiet, as bits of words.
-use Rattle.std.specs.Prelude.{◌≡◌, ℕ, ◌+◌, ◌*◌, ◌/◌, ◌%◌, ◌<◌, ◌≤◌, Bool, true, false, ◌&&◌, ◌||◌, List, length, slice_index_or, nat_eq}
+use Rattle.std.specs.Prelude.{◌≡◌, ℕ, ◌*◌, ◌/◌, ◌%◌, ◌<◌, ◌≤◌, Bool, true, ◌&&◌, List, length, slice_index_or, nat_eq}
 use Rattle.std.specs.Int.{bit_at}
 use Rattle.std.specs.List.{All}
 use Rattle.vic_field.specs.declared.quiet.QuietPlaces.{QuietPlaces}
@@ -16,15 +16,6 @@ is_set s ws k =
     let w = slice_index_or ws (k / WORD) blank in
     nat_eq w.stretch s && nat_eq (bit_at w.bits (k % WORD)) 1
 
--- these are the bits of word n that are set
-abbrev pub HasBits : ℕ → List Word → ℕ → ℕ → Type 0
-HasBits s ws n bits =
-    (k : ℕ) → k / WORD ≡ n → is_set s ws k ≡ nat_eq (bit_at bits (k % WORD)) 1
-
--- this bit is set now, and the others are as they were
-abbrev pub HasBitMore : ℕ → ℕ → List Word → List Word → Type 0
-HasBitMore s bit old new = (k : ℕ) → is_set s new k ≡ (nat_eq k bit || is_set s old k)
-
 -- all bits of word n are set
 abbrev pub IsFull : ℕ → List Word → ℕ → Type 0
 IsFull s ws n = (k : ℕ) → k / WORD ≡ n → is_set s ws k ≡ true
@@ -38,10 +29,6 @@ pub record NotesFull (s : ℕ) (ws notes : List Word) : Type 0 where
 -- no word belongs to a later stretch than this one
 abbrev pub AreUpTo : ℕ → List Word → Type 0
 AreUpTo s ws = All (λ w. w.stretch ≤ s) ws
-
--- words with no bits in any stretch
-abbrev pub AreBlank : List Word → Type 0
-AreBlank ws = AreUpTo 0 ws
 
 -- position k is Quiet
 abbrev pub is_quiet_place : QuietPlaces → ℕ → Bool
@@ -59,11 +46,3 @@ pub record IsSound (q : QuietPlaces) : Type 0 where
 -- there is a bit for each of that many positions
 abbrev pub HasRoomFor : ℕ → QuietPlaces → Type 0
 HasRoomFor count q = count ≤ length q.places.items * WORD
-
--- of `count` positions, those before `gap` are as they were, `gap` is Ready, and those after it
--- have moved by one
-pub record IsMoved (gap count : ℕ) (old new : QuietPlaces) : Type 0 where
-  pub before : (k : ℕ) → k < gap → is_quiet_place new k ≡ is_quiet_place old k
-  pub put : is_quiet_place new gap ≡ false
-  pub after : (k : ℕ) → gap ≤ k → k + 1 < count
-      → is_quiet_place new (k + 1) ≡ is_quiet_place old k

@@ -2,7 +2,8 @@
 
 ghost use Rattle.std.specs.Prelude.{◌≡◌, ℕ, ◌<◌, ◌≤◌, ◌+◌, ◌*◌, ◌/◌, ◌%◌, true, false, length, IfOk, ◌||◌, nat_eq};
 ghost use Rattle.std.specs.Int.{bit_at};
-ghost use Rattle.vic_field.specs.Places.{AreBlank, AreUpTo, HasBitMore, HasBits, HasRoomFor, IsFull, IsMoved, IsSound, is_quiet_place, is_set};
+ghost use Rattle.vic_field.specs.Places.{AreUpTo, HasRoomFor, IsFull, IsSound, is_quiet_place, is_set};
+ghost use Rattle.vic_field.specs.inner.Places.{AreBlank, HasBitMore, HasBits, IsMoved};
 
 use std::alloc::{AllocError, Global};
 

@@ -4,7 +4,8 @@ ghost use Rattle.std.specs.Prelude.{◌≡◌, true, false, None, IfOk, IfSome, 
 ghost use Rattle.std.specs.List.Sorted.{IsStrictlySortedBy};
 ghost use Rattle.std.specs.Ordering.{nat_cmp};
 ghost use Rattle.vic_field.specs.Keys.{AreKeys};
-ghost use Rattle.vic_field.specs.Rows.{HasKeyPlaceBetween, HasMore, HasNoneReady, IsKeyPlace, IsNextReady, IsRow, as_ready, entries, with_quiet};
+ghost use Rattle.vic_field.specs.Rows.{IsRow, entries};
+ghost use Rattle.vic_field.specs.inner.Rows.{HasKeyPlaceBetween, HasMore, HasNoneReady, IsKeyPlace, IsNextReady, as_ready, with_quiet};
 ghost use Rattle.vic_frame.specs.LowBitsFirst.{IsKey};
 ghost use Rattle.vic_frame.specs.Uids.{has};
 

@@ -2,7 +2,7 @@
 
 ghost use Rattle.std.specs.Prelude.{◌≡◌, ◌+◌, ◌<◌, ◌≤◌, ◌++◌, [], ◌∷◌, List, Some, None, IfOk, IfErr, OnOk, MatchOption, nat_le};
 ghost use Rattle.vic_field.specs.Simulation.{IsSimulation, HasNoSlots, IsFirstSlot, RefusesLines, last_needed};
-ghost use Rattle.vic_field.specs.Steps.{slot_line, slot_lines_to, slot_lines, with_entries, next_line, IsAfter};
+ghost use Rattle.vic_field.specs.inner.Steps.{slot_line, slot_lines_to, slot_lines, with_entries, next_line, IsAfter};
 ghost use Rattle.vic_field.specs.Tags.{uids};
 ghost use Rattle.vic_frame.specs.Requests.{IsValid};
 ghost use Rattle.vic_frame.specs.Slots.{slot_count};

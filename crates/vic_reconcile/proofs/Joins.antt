@@ -26,7 +26,8 @@ use Rattle.vic_report.proofs.AllFindings.{open_set}
 use Rattle.vic_reconcile.specs.declared.reconciliation.Place.{Place}
 use Rattle.vic_reconcile.specs.declared.reconciliation.Reconciliation.{Reconciliation}
 use Rattle.vic_reconcile.specs.Findings.{IsFirstLog, IsFirstTold}
-use Rattle.vic_reconcile.specs.Joined.{AreNoted, IsCertainInNone, IsJoined, IsLeftBy}
+use Rattle.vic_reconcile.specs.Joined.{IsCertainInNone, IsJoined, IsLeftBy}
+use Rattle.vic_reconcile.specs.inner.Joined.{AreNoted}
 use Rattle.vic_reconcile.proofs.Families.{IsCertainIn, IsPossibleLog}
 
 -- ---- places in a list that grows

@@ -32,7 +32,8 @@ use Rattle.vic_reconcile.specs.declared.findings.Unsettled.{Unsettled}
 use Rattle.vic_reconcile.specs.declared.reconciliation.Reconciliation.{Reconciliation}
 use Rattle.vic_reconcile.specs.Families.{ArePossible, FitsLog, FitsLogs, IsCertainUid, IsPossibleUid, is_somewhere}
 use Rattle.vic_reconcile.specs.Findings.{AreFindings, AreNone, IsAbsent, IsDoubtful, IsFirstTold, IsToldOf, IsUnlisted, IsUnsettled, IsUnsettledWith, IsWhole}
-use Rattle.vic_reconcile.specs.Joined.{IsCertainInNone, IsFirstLeft, IsJoined, IsLeftToAsk, is_left}
+use Rattle.vic_reconcile.specs.Joined.{IsCertainInNone, IsJoined}
+use Rattle.vic_reconcile.specs.inner.Joined.{IsFirstLeft, IsLeftToAsk, is_left}
 use Rattle.vic_reconcile.proofs.Families.{IsCertainIn, IsCertainUid-iff, IsPossibleIn, IsPossibleLog, IsPossibleUid-iff, all_possible, any_cases, any_here, any_none, any_there, certain_by}
 use Rattle.vic_reconcile.proofs.Joins.{zip_push}
 use Rattle.vic_reconcile.proofs.Telling.{all_open_masks, first_possible, joined_facts, listed_as}

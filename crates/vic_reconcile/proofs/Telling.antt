@@ -23,7 +23,8 @@ use Rattle.vic_reconcile.specs.declared.reconciliation.Place.{Place}
 use Rattle.vic_reconcile.specs.declared.reconciliation.Reconciliation.{Reconciliation}
 use Rattle.vic_reconcile.specs.Families.{IsCertainUid, IsPossibleUid}
 use Rattle.vic_reconcile.specs.Findings.{AreOpenMasksOf, IsFirstLog, IsFirstPossible, IsFirstTold}
-use Rattle.vic_reconcile.specs.Joined.{AreOpenBesides, IsCertainInNone, IsFirstLeft, IsJoined, IsLeftBy, is_left}
+use Rattle.vic_reconcile.specs.Joined.{IsCertainInNone, IsJoined, IsLeftBy}
+use Rattle.vic_reconcile.specs.inner.Joined.{AreOpenBesides, IsFirstLeft, is_left}
 use Rattle.vic_reconcile.proofs.Families.{IsCertainIn, IsCertainUid-iff, IsPossibleIn, IsPossibleLog, IsPossibleUid-iff, any_cases, any_here, any_none, any_there, certain_by, family_of}
 use Rattle.vic_reconcile.proofs.Joins.{all_at}
 

@@ -1,26 +1,15 @@
 -- What is kept of logs that were joined.
-use Rattle.std.specs.Prelude.{◌≡◌, ◌↔◌, ℕ, Bool, true, false, not, None, Some, List, length, slice_get, take, MatchOption}
+use Rattle.std.specs.Prelude.{◌≡◌, ◌↔◌, ℕ, true, not, List, length, MatchOption}
 use Rattle.std.specs.BTreeMap as map
 use Rattle.std.specs.Ordering.{nat_cmp}
-use Rattle.std.specs.List.{All, AllPass, AllZip, Contains, list_any}
-use Rattle.vic_frame.specs.Uids.{IsUid, has}
-use Rattle.vic_frame.specs.Masks.{BitMask}
-use Rattle.vic_tree.specs.declared.open_masks.OpenMasks.{OpenMasks}
-use Rattle.vic_tree.specs.declared.open_masks.TheConstants.{MAX_OPEN_MASKS}
-use Rattle.vic_tree.specs.OpenMasks.{AreFirst, IsOpenMask}
-use Rattle.vic_tree.specs.OpenSet.{without_keys}
+use Rattle.std.specs.List.{All, AllZip}
+use Rattle.vic_frame.specs.Uids.{IsUid}
 use Rattle.vic_tree.specs.Ranges.{is_open_in}
 use Rattle.vic_log.specs.declared.entry.LogLine.{LogLine}
 use Rattle.vic_log.specs.Order.{entries}
 use Rattle.vic_verdict.specs.Differences as one
-use Rattle.vic_verdict.specs.Keys.{AreKeysOf}
 use Rattle.vic_verdict.specs.Possible.{IsPossible, IsCertainUid}
 use Rattle.vic_verdict.specs.Rising.{SameMembers}
-use Rattle.vic_report.specs.declared.shown.ShownUid.{ShownUid}
-use Rattle.vic_report.specs.Findings.{uids_of}
-use Rattle.vic_reconcile.specs.declared.findings.DoubtfulUid.{DoubtfulUid}
-use Rattle.vic_reconcile.specs.declared.findings.Unsettled.{Unsettled}
-use Rattle.vic_reconcile.specs.declared.reconciliation.Place.{Place}
 use Rattle.vic_reconcile.specs.declared.reconciliation.Reconciliation.{Reconciliation}
 use Rattle.vic_reconcile.specs.Findings.{IsFirstTold}
 
@@ -42,40 +31,3 @@ pub record IsJoined (expected : List ℕ) (logs : List (List LogLine)) (r : Reco
   pub certain : (u : ℕ)
       → MatchOption (map.get nat_cmp r.certain u) (IsCertainInNone logs u) (IsFirstTold logs u)
   pub left : AllZip IsLeftBy logs r.left.items
-
--- what slots of log number `log` tell was noted, where a UID had no place yet
-pub record AreNoted (old new : map.BTreeMap ℕ Place) (log : ℕ) (told : List ShownUid)
-    : Type 0 where
-  pub kept : (u : ℕ) (p : Place) → map.get nat_cmp old u ≡ Some p
-      → map.get nat_cmp new u ≡ Some p
-  pub others : (u : ℕ) → map.get nat_cmp old u ≡ None
-      → MatchOption (map.get nat_cmp new u) (has (uids_of told) u ≡ false)
-      (λ p. (p.log ≡ log) × Contains told (record { uid = u; line = p.line }))
-
--- the UID is among those that some log leaves open
-abbrev pub is_left : List (List (ℕ × ℕ)) → ℕ → Bool
-is_left sets u = list_any (λ set. is_open_in set u) sets
-
--- the number is that of the first log that leaves the UID open
-abbrev pub IsFirstLeft : List (List (ℕ × ℕ)) → DoubtfulUid → Type 0
-IsFirstLeft sets d =
-    AllPass (λ set. not (is_open_in set d.uid)) (take d.log sets)
-    × ((set : List (ℕ × ℕ)) × (slice_get sets d.log ≡ Some set)
-    × (is_open_in set d.uid ≡ true))
-
--- the first open masks of a set without a list of UIDs, and whether there are more
-pub record AreOpenBesides (certain : List ℕ) (set : List (ℕ × ℕ)) (o : OpenMasks)
-    : Type 0 where
-  pub keys : List ℕ
-  pub named : AreKeysOf keys certain
-  pub first : AreFirst MAX_OPEN_MASKS (IsOpenMask (without_keys (is_open_in set) keys))
-      o.masks.items
-  pub more : (o.more ≡ true)
-      ↔ ((m : BitMask) × IsOpenMask (without_keys (is_open_in set) keys) m
-      × (Contains o.masks.items m → ⊥))
-
--- the mask that is unsettled, with the open masks of each log
-pub record IsLeftToAsk (certain : List ℕ) (sets : List (List (ℕ × ℕ)))
-    (m : BitMask) (x : Unsettled) : Type 0 where
-  pub mask : x.mask ≡ m
-  pub masks : AllZip (AreOpenBesides certain) sets x.masks.items

@@ -3,3 +3,4 @@ pub mod Findings
 pub mod Joined
 pub mod Agreeing
 pub mod Surveys
+pub mod inner

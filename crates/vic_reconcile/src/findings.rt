@@ -10,7 +10,8 @@ ghost use Rattle.vic_frame.specs.Uids.{has};
 ghost use Rattle.vic_tree.specs.Ranges.{is_open_in};
 ghost use Rattle.vic_log.specs.declared.entry.LogLine.{LogLine as LogLineValue};
 ghost use Rattle.vic_reconcile.specs.Findings.{AreFindings, AreNone};
-ghost use Rattle.vic_reconcile.specs.Joined.{IsFirstLeft, IsJoined, IsLeftToAsk, is_left};
+ghost use Rattle.vic_reconcile.specs.Joined.{IsJoined};
+ghost use Rattle.vic_reconcile.specs.inner.Joined.{IsFirstLeft, IsLeftToAsk, is_left};
 
 use crate::reconciliation::{Place, Reconciliation};
 use std::alloc::{AllocError, Global};

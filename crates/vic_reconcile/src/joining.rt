@@ -9,7 +9,8 @@ ghost use Rattle.vic_verdict.specs.LogLines.{AreLogLines};
 ghost use Rattle.vic_verdict.specs.Verdict.{IsVerdict};
 ghost use Rattle.vic_verdict.specs.declared.judging.Verdict.TheVariants.{Impossible};
 ghost use Rattle.vic_reconcile.specs.Findings.{IsFirstNotListed, IsList, is_listed};
-ghost use Rattle.vic_reconcile.specs.Joined.{AreNoted, IsJoined};
+ghost use Rattle.vic_reconcile.specs.Joined.{IsJoined};
+ghost use Rattle.vic_reconcile.specs.inner.Joined.{AreNoted};
 
 use crate::reconciliation::{Place, Reconciliation};
 use std::alloc::{AllocError, Global};

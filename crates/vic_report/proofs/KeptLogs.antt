@@ -15,7 +15,7 @@ use Rattle.vic_log.specs.Order.{AreValid, entries, listed, refusal}
 use Rattle.vic_log.specs.Log.{IsValidEntry}
 use Rattle.vic_log.proofs.Places.{quiet_agrees, agree_upto, slice_get_last, CouldHaveGiven-push}
 use Rattle.vic_log.proofs.Push.{IsInOrder-push, entries-push, last_from-push, listed-append, rising-push, slots_left-push, valid-push}
-use Rattle.vic_report.specs.KeptLogs.{AreNumbered, SameQuiet, HasSlotAdded, KeepsLine}
+use Rattle.vic_report.specs.inner.KeptLogs.{AreNumbered, SameQuiet, HasSlotAdded, KeepsLine}
 
 -- who is Quiet after an entry
 abbrev pub quiet_after : Option Entry → Bool → ℕ → Bool

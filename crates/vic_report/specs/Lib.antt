@@ -1,5 +1,4 @@
 pub mod Conflicts
-pub mod KeptLogs
 pub mod Findings
-pub mod FieldCursors
 pub mod Reports
+pub mod inner

@@ -8,7 +8,7 @@ ghost use Rattle.vic_log.specs.declared.entry.Entry.{Entry as EntryValue};
 ghost use Rattle.vic_log.specs.Order.{AreValid, IsInOrder};
 ghost use Rattle.vic_log.specs.Populations.{answers_at};
 ghost use Rattle.vic_log.specs.Quiet.{silences, wakes};
-ghost use Rattle.vic_report.specs.FieldCursors.{IsFieldAt};
+ghost use Rattle.vic_report.specs.inner.FieldCursors.{IsFieldAt};
 
 use std::alloc::{AllocError, Global};
 use std::collections::BTreeSet;

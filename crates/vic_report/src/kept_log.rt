@@ -11,7 +11,7 @@ ghost use Rattle.vic_log.specs.Populations.{CouldHaveGiven};
 ghost use Rattle.vic_log.specs.Rounds.{is_slot, mask_at};
 ghost use Rattle.vic_report.specs.Conflicts.{FitsLines};
 ghost use Rattle.vic_verdict.specs.LogLines.{AreLogLines};
-ghost use Rattle.vic_report.specs.KeptLogs.{AreNumbered, HasSlotAdded, KeepsLine};
+ghost use Rattle.vic_report.specs.inner.KeptLogs.{AreNumbered, HasSlotAdded, KeepsLine};
 
 use std::alloc::{AllocError, Global};
 use vic_frame::{Mask, Request};

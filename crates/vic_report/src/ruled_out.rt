@@ -11,7 +11,7 @@ ghost use Rattle.vic_log.specs.declared.entry.LogLine.{LogLine as LogLineValue};
 ghost use Rattle.vic_log.specs.Order.{AreValid, entries};
 ghost use Rattle.vic_log.specs.Populations.{answers_at};
 ghost use Rattle.vic_log.specs.Slots.{slots_of, is_open};
-ghost use Rattle.vic_report.specs.FieldCursors.{IsFieldAt};
+ghost use Rattle.vic_report.specs.inner.FieldCursors.{IsFieldAt};
 ghost use Rattle.vic_report.specs.Findings.{IsRuledOut, RulesOut, lacks_reply_of, uids_of};
 ghost use Rattle.vic_verdict.specs.LogLines.{AreLogLines};
 

@@ -141,7 +141,7 @@ fn push_uids(told: &mut Vec<ShownUid>, uids: &[Uid], line: u32) -> Result<(), Al
     Ok(())
 }
 
-/// The first index, from one on, whose UID isn't below another.
+/// The first index, from `start` on, of a UID that isn't below `uid`.
 fn first_from(told: &[ShownUid], start: usize, uid: Uid) -> usize {
     let mut index = start;
     while index < told.len() && told[index].uid < uid {

@@ -8,7 +8,7 @@ use Rattle.vic_sets.specs.declared.node.Node.{Node, Fork'}
 use Rattle.vic_sets.specs.declared.node.Node.TheVariants.{Clear, Shut}
 use Rattle.vic_sets.specs.Nodes.{open_at, height}
 use Rattle.vic_tree.specs.OpenSet.{AllOpen, IsWidest}
-use Rattle.vic_sets.specs.Widest.{IsWidestOf}
+use Rattle.vic_sets.specs.inner.Widest.{IsWidestOf}
 use Rattle.vic_sets.proofs.Bits.{low_and_rest}
 
 -- the lowest bit and the rest of the low bits

@@ -8,7 +8,7 @@ use Rattle.vic_sets.specs.declared.node.Node.{Node}
 use Rattle.vic_sets.specs.declared.node.Node.TheVariants.{Fork}
 use Rattle.vic_sets.specs.declared.node.Halves.{Halves}
 use Rattle.vic_sets.specs.Nodes.{open_at}
-use Rattle.vic_sets.specs.Free.{IsFreeUnder}
+use Rattle.vic_sets.specs.inner.Free.{IsFreeUnder}
 
 powers : (d : ℕ) → d ≤ 56 → 2 ^ (56 - d) * 2 ^ d ≡ 2 ^ 56
 powers d h = let e : 56 - d + d ≡ 56 = omega arith in let f : 2 ^ (56 - d + d) ≡ 2 ^ (56 - d) * 2 ^ d = pow-add 2 (56 - d) d in sym (rw e at f)

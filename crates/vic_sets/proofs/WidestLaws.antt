@@ -9,7 +9,7 @@ use Rattle.std.specs.declared.alloc.Global.{Global}
 use Rattle.vic_sets.specs.declared.node.Halves.{Halves}
 use Rattle.vic_sets.specs.Nodes.{open_at, IsReduced, AreOneLeaf}
 use Rattle.vic_tree.specs.OpenSet.{IsAtMost}
-use Rattle.vic_sets.specs.Widest.{AllPass, IsWidestOf, with_low_bit}
+use Rattle.vic_sets.specs.inner.Widest.{AllPass, IsWidestOf, with_low_bit}
 use Rattle.vic_sets.proofs.Bits.{low_and_rest}
 
 -- what a fork of two tests answers

@@ -1,4 +1,3 @@
 pub mod Nodes
-pub mod Widest
 pub mod Cells
-pub mod Free
+pub mod inner

@@ -6,7 +6,7 @@ ghost use Rattle.vic_frame.specs.Uids.{has};
 ghost use Rattle.vic_frame.specs.Masks.{lies_in};
 ghost use Rattle.vic_tree.specs.OpenSet.{SameUids, settled, IsAtMost};
 ghost use Rattle.vic_tree.specs.Gathering.{Gathers};
-ghost use Rattle.vic_sets.specs.Free.{IsFreeIn};
+ghost use Rattle.vic_sets.specs.inner.Free.{IsFreeIn};
 ghost use Rattle.vic_sets.specs.Cells.{in_cells, IsCell, IsApart, AreCells};
 
 use crate::cut::{flipped, shared, widened};

@@ -4,7 +4,7 @@ ghost use Rattle.std.specs.Prelude.{◌≡◌, ◌+◌, ◌-◌, ◌*◌, ◌^�
 ghost use Rattle.std.specs.List.Sorted.{IsStrictlyIncreasing};
 ghost use Rattle.vic_frame.specs.Uids.{uid_from_low_bits};
 ghost use Rattle.vic_tree.specs.Gathering.{Gathers};
-ghost use Rattle.vic_sets.specs.Free.{IsFree};
+ghost use Rattle.vic_sets.specs.inner.Free.{IsFree};
 
 use arrayvec::ArrayVec;
 use vic_frame::{UID_BITS, Uid};

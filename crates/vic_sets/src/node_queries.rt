@@ -4,8 +4,8 @@ ghost use Rattle.std.specs.Prelude.{◌≡◌, ℕ, ◌+◌, ◌^◌, ◌<◌, �
 ghost use Rattle.std.specs.List.Sorted.{IsStrictlyIncreasing};
 ghost use Rattle.vic_sets.specs.Nodes.{open_at, height, IsReduced};
 ghost use Rattle.vic_tree.specs.Gathering.{Gathers};
-ghost use Rattle.vic_sets.specs.Free.{IsFreeUnder};
-ghost use Rattle.vic_sets.specs.Widest.{IsWidestOf, with_low_bit};
+ghost use Rattle.vic_sets.specs.inner.Free.{IsFreeUnder};
+ghost use Rattle.vic_sets.specs.inner.Widest.{IsWidestOf, with_low_bit};
 
 use crate::cut::whole;
 use crate::gather::gather_all;

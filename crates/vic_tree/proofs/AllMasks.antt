@@ -10,7 +10,7 @@ use Rattle.std.proofs.lemmas.List.Filters.{All-dedup}
 use Rattle.std.proofs.lemmas.List.Kept.{AllPairs-cons, Contains-dedup, IsStrictlySortedBy-dedup}
 use Rattle.std.proofs.lemmas.List.Sorted.{All-permutation, Contains-permutation}
 use Rattle.vic_frame.specs.Masks.{BitMask}
-use Rattle.vic_tree.specs.KeptMasks.{Adds}
+use Rattle.vic_tree.specs.inner.KeptMasks.{Adds}
 use Rattle.vic_tree.specs.OpenMasks.{AreAll, ComesBefore}
 use Rattle.vic_tree.proofs.FirstMasks.{compared, less_before, mask_cmp, or_both}
 

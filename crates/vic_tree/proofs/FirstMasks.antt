@@ -15,7 +15,7 @@ use Rattle.std.proofs.lemmas.Nat.{pow_pos}
 use Rattle.vic_frame.specs.Masks.{BitMask}
 use Rattle.vic_tree.specs.OpenSet.{IsAtMost, IsWidest}
 use Rattle.vic_tree.specs.OpenMasks.{AreFirst, ComesBefore, IsOpenMask, IsPast, parent}
-use Rattle.vic_tree.specs.KeptMasks.{AreKept, Keeps}
+use Rattle.vic_tree.specs.inner.KeptMasks.{AreKept, Keeps}
 
 -- one element more in a list
 module _ {X : Type 0} where

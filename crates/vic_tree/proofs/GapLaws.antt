@@ -9,7 +9,8 @@ use Rattle.vic_frame.proofs.MirrorLaws.{mirror_of_uid}
 use Rattle.vic_frame.proofs.KeyLaws.{is_uid}
 use Rattle.vic_tree.specs.Gathering.{Gathers}
 use Rattle.vic_tree.specs.OpenSet.{AllOpen, IsAtMost, IsWidest, SameUids, has_key, without_keys}
-use Rattle.vic_tree.specs.Ranges.{AllKeysPass, ComesFirstIn, HoldsMask, IsFoundBelow, IsFirstRun, IsFreeBetween, IsFreeInRanges, IsMaskIn, IsWidestBelow, in_ranges, is_left, is_open_in, is_passed}
+use Rattle.vic_tree.specs.Ranges.{in_ranges, is_open_in}
+use Rattle.vic_tree.specs.inner.Ranges.{AllKeysPass, ComesFirstIn, HoldsMask, IsFoundBelow, IsFirstRun, IsFreeBetween, IsFreeInRanges, IsMaskIn, IsWidestBelow, is_left, is_passed}
 use Rattle.vic_tree.proofs.BlockLaws.{key_in_mask, mask_ends}
 use Rattle.vic_tree.proofs.GatheringLaws.{gathers_both, gathers_like}
 use Rattle.vic_tree.proofs.RangeLaws.{inside_is, is_inside, neither}

@@ -6,7 +6,8 @@ use Rattle.std.proofs.lemmas.Bool.Decides.{nat_tests}
 use Rattle.std.proofs.lemmas.List.Elements.{All-from_get_or}
 use Rattle.std.proofs.lemmas.List.Folds.{list_any_none}
 use Rattle.vic_frame.specs.Uids.{has}
-use Rattle.vic_tree.specs.Ranges.{AreRanges, IsFirstRun, PassFrom, in_ranges}
+use Rattle.vic_tree.specs.Ranges.{AreRanges, in_ranges}
+use Rattle.vic_tree.specs.inner.Ranges.{IsFirstRun, PassFrom}
 use Rattle.vic_tree.proofs.BoolLaws.{and_false}
 use Rattle.vic_tree.proofs.GatheringLaws.{not_among}
 use Rattle.vic_tree.proofs.RangeLaws.{is_after, is_inside, none_below}

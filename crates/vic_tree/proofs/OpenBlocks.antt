@@ -9,8 +9,9 @@ use Rattle.vic_frame.proofs.MirrorLaws.{mirror_below, mirror_split, mirror_mod}
 use Rattle.vic_tree.specs.OpenMasks.{AreFirst, IsOpenMask, parent}
 use Rattle.vic_tree.specs.OpenSet.{AllOpen, without_keys}
 use Rattle.std.proofs.lemmas.List.Elements.{All-nil}
-use Rattle.vic_tree.specs.KeptMasks.{IsGreatestAt, IsGreatestIn, IsOpenBlock, IsOpenBelow}
-use Rattle.vic_tree.specs.Ranges.{AllKeysPass, HoldsMask, IsFirstRun, is_left, is_open_in}
+use Rattle.vic_tree.specs.inner.KeptMasks.{IsGreatestAt, IsGreatestIn, IsOpenBlock, IsOpenBelow}
+use Rattle.vic_tree.specs.Ranges.{is_open_in}
+use Rattle.vic_tree.specs.inner.Ranges.{AllKeysPass, HoldsMask, IsFirstRun, is_left}
 use Rattle.vic_tree.proofs.BlockLaws.{IsBlockMask, block_of_mask, key_in_mask, not_before, number_of_mask, same_mask_value, twice}
 use Rattle.vic_tree.proofs.FirstMasks.{same_mask}
 use Rattle.vic_tree.proofs.GapLaws.{first_passes, in_gap, in_run, left_keys}

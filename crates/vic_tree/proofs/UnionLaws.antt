@@ -7,7 +7,8 @@ use Rattle.vic_frame.specs.LowBitsFirst.{mirror, uid_of}
 use Rattle.vic_frame.proofs.KeyLaws.{is_uid}
 use Rattle.vic_frame.proofs.MirrorLaws.{mirror_of_uid}
 use Rattle.vic_tree.specs.OpenSet.{SameUids}
-use Rattle.vic_tree.specs.Ranges.{AreRanges, IsFirstRun, in_ranges, is_open_in}
+use Rattle.vic_tree.specs.Ranges.{AreRanges, in_ranges, is_open_in}
+use Rattle.vic_tree.specs.inner.Ranges.{IsFirstRun}
 use Rattle.vic_tree.proofs.BoolLaws.{and_false, lt_yes, or_false, or_true}
 use Rattle.vic_tree.proofs.GapLaws.{in_run}
 use Rattle.vic_tree.proofs.RangeLaws.{in_pushed, is_inside, where_is}

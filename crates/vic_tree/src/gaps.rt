@@ -5,7 +5,8 @@ ghost use Rattle.std.specs.List.Sorted.{IsNonDecreasing, IsStrictlyIncreasing};
 ghost use Rattle.vic_frame.specs.LowBitsFirst.{IsKey};
 ghost use Rattle.vic_tree.specs.Gathering.{Gathers};
 ghost use Rattle.vic_tree.specs.OpenSet.{AreKeys, IsWidest, SameUids, without_keys};
-ghost use Rattle.vic_tree.specs.Ranges.{AreRanges, IsFreeInRanges, is_open_in, is_passed};
+ghost use Rattle.vic_tree.specs.Ranges.{AreRanges, is_open_in};
+ghost use Rattle.vic_tree.specs.inner.Ranges.{IsFreeInRanges, is_passed};
 
 use crate::blocks::widest_with;
 use crate::gather_keys::gather_keys;

@@ -7,12 +7,13 @@ ghost use Rattle.std.specs.List.Sorted.{IsNonDecreasing};
 ghost use Rattle.vic_frame.specs.LowBitsFirst.{IsKey};
 ghost use Rattle.vic_frame.specs.Uids.{has};
 ghost use Rattle.vic_tree.specs.OpenSet.{AreKeys};
-ghost use Rattle.vic_tree.specs.Ranges.{AreRanges, IsFirstRun, PassFrom};
+ghost use Rattle.vic_tree.specs.Ranges.{AreRanges};
+ghost use Rattle.vic_tree.specs.inner.Ranges.{IsFirstRun, PassFrom};
 
 use crate::key_range::KeyRange;
 use std::marker::Model;
 
-/// The keys, from one on, that are in some ranges and not in a list.
+/// The keys, from key `from` on, that are in some ranges and not in a list.
 #[derive(Drop)]
 pub(crate) struct Left<'a> {
     from: u64,
@@ -62,6 +63,7 @@ impl<'a> Left<'a> {
             (from, keys) = first_free(from.max(range.first()), keys);
             if from <= range.last() {
                 let run = run_from(from, range.last(), keys);
+                // the key after a run isn't left
                 from = run.last() + 2;
                 *self = Left { from, ranges, keys };
                 return Some(run);
@@ -72,7 +74,7 @@ impl<'a> Left<'a> {
     }
 }
 
-/// The first key, from one on, that isn't in a list, and the keys of the list after it.
+/// The first key, from key `from` on, that isn't in a list, and the keys of the list after it.
 fn first_free(from: u64, keys: &[u64]) -> (u64, &[u64])
     requires keys { AreKeys keys.now }
     requires order { IsNonDecreasing keys.now }
@@ -95,8 +97,8 @@ fn first_free(from: u64, keys: &[u64]) -> (u64, &[u64])
     (free, rest)
 }
 
-/// Some keys without those that come before another one, where that is more than the first. They
-/// are passed in steps that double, so that many take little time.
+/// The keys without those below `from`; if that is only the first one, it may stay. They are passed
+/// in steps that double, so that many take little time.
 fn keys_from(keys: &[u64], from: u64) -> &[u64]
     requires keys { AreKeys keys.now }
     requires order { IsNonDecreasing keys.now }

@@ -11,7 +11,7 @@ ghost use Rattle.vic_frame.specs.Masks.{BitMask};
 ghost use Rattle.vic_frame.specs.LowBitsFirst.{IsKey};
 ghost use Rattle.vic_tree.specs.OpenSet.{AreKeys, without_keys};
 ghost use Rattle.vic_tree.specs.OpenMasks.{AreAll, AreFirst, IsOpenMask};
-ghost use Rattle.vic_tree.specs.KeptMasks.{Adds, AreKept, IsGreatestAt, IsGreatestIn, Keeps};
+ghost use Rattle.vic_tree.specs.inner.KeptMasks.{Adds, AreKept, IsGreatestAt, IsGreatestIn, Keeps};
 ghost use Rattle.vic_tree.specs.Ranges.{AreRanges, is_open_in};
 
 use crate::blocks::{least_len, mask_of_block, size_of_block};

@@ -7,7 +7,8 @@ ghost use Rattle.std.specs.List.Sorted.{IsNonDecreasing};
 ghost use Rattle.vic_frame.specs.Masks.{lies_in};
 ghost use Rattle.vic_frame.specs.Uids.{has};
 ghost use Rattle.vic_tree.specs.OpenSet.{AreKeys, SameUids, without_keys};
-ghost use Rattle.vic_tree.specs.Ranges.{AreRanges, in_ranges, is_left, is_open_in};
+ghost use Rattle.vic_tree.specs.Ranges.{AreRanges, in_ranges, is_open_in};
+ghost use Rattle.vic_tree.specs.inner.Ranges.{is_left};
 
 use crate::key_range::KeyRange;
 use crate::left::Left;
@@ -67,6 +68,7 @@ fn left_of(alloc: Global, ranges: &[KeyRange], keys: &[u64]) -> Result<Vec<KeyRa
 fn set_of(alloc: Global, ranges: Vec<KeyRange>) -> Result<RangeSet, AllocError>
     ensures { IfOk result (λ set. SameUids (is_open_in set) (is_open_in ranges.items)) }
 {
+    // outside of what is outside: in order, and none adjoin
     let others = outside(alloc, ranges)?;
     let ranges = between(alloc, &others)?;
     Ok(RangeSet { ranges, alloc })

@@ -47,7 +47,8 @@ pub use Rattle.vic_verdict.specs.inner.Gathered.{gathered, is_other, chosen}
 pub use Rattle.vic_verdict.specs.Keys.{AreKeysOf}
 pub use Rattle.vic_verdict.specs.inner.Merging.{AreBelow}
 pub use Rattle.vic_verdict.specs.Places.{answering}
-pub use Rattle.vic_verdict.specs.Possible.{IsPossible, IsCertainUid, IsPossibleUid, Lacks, IsContradictedAt, IsContradiction, rules_out}
+pub use Rattle.vic_verdict.specs.Possible.{IsPossible, IsCertainUid, IsPossibleUid, IsContradictedAt, IsContradiction}
+pub use Rattle.vic_verdict.specs.inner.Possible.{Lacks, rules_out}
 pub use Rattle.vic_verdict.specs.inner.Replies.{IsFirstQuietReply, reply_place}
 pub use Rattle.vic_verdict.specs.Rising.{IsFailing, IsListOf, SameMembers}
 pub use Rattle.vic_verdict.specs.inner.Sweep.{is_quiet_by, AreInOrder, quiet_of, has_where, keep_all, HaveKeys, is_mentioned, has_left, all_allow_to, all_allow, all_hear_mentioned, all_leave, mask_leaves, run_leaves, is_in, ArePutInOrder, heard_of, is_heard, read_allows, is_mentioned_if, first_of, last_of, level_leaves}

@@ -11,7 +11,7 @@ use Rattle.vic_verdict.specs.Possible.{IsPossibleUid, IsCertainUid}
 use Rattle.vic_verdict.specs.Rising.{IsFailing, IsListOf}
 use Rattle.vic_verdict.specs.declared.differences.Differences.{Differences}
 
--- a UID that may be there and may be missing
+-- a UID that may be there and may be missing: possible, and not certain
 abbrev pub IsOpenUid : List Entry → ℕ → Type 0
 IsOpenUid es u = IsPossibleUid es u × (IsCertainUid es u → ⊥)
 

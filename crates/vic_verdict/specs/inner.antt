@@ -7,3 +7,4 @@ pub mod Answering
 pub mod Asked
 pub mod Stretches
 pub mod Gathered
+pub mod Possible

@@ -40,10 +40,11 @@ pub(crate) struct Known {
     pub from: usize,
     /// The keys of the mentions.
     pub keys: Vec<u64>,
-    /// A mention for each open UID that has one and isn't Quiet at that position, Quiet where the
-    /// UID is by all its mentions; in the order of keys.
+    /// One mention for each open UID that has any and isn't Quiet at that position, Quiet where the
+    /// UID is by all of them; in the order of keys.
     pub mentioned: Vec<Mention>,
-    /// The masks that were searched for UIDs without a mention, each within the one before it.
+    /// The masks that were searched for UIDs without a mention, each within the one before it if
+    /// blocks come in order.
     pub masks: Vec<Unmentioned>,
 }
 
@@ -58,7 +59,8 @@ fn keys_of(alloc: Global, mentions: &[Mention]) -> Result<Vec<u64>, AllocError>
     Ok(keys)
 }
 
-/// A mention with a key whose UID is Quiet after a position.
+/// A mention with a key whose UID is Quiet after a position; if no position of a log is as late, one
+/// of a line that hears it.
 fn mention_quiet_after(key: u64, quiet: usize) -> Mention
     ensures key { result.key ≡ key }
     ensures quiet { (i : ℕ) → i < 2 ^ 32 → nat_lt (quiet_of result) i ≡ nat_lt quiet i }
@@ -259,8 +261,8 @@ impl Unmentioned {
     }
 }
 
-/// The index after the last of some masks that doesn't end before a key: those that do contain none
-/// of the next masks.
+/// How many of the searched masks are kept: those up to the last one that doesn't end before a key.
+/// The ones after it have none of the blocks that are still to come.
 fn count_around(masks: &[Unmentioned], first: u64) -> usize {
     for index in (0..masks.len()).rev() {
         if first <= masks[index].last {
@@ -272,7 +274,7 @@ fn count_around(masks: &[Unmentioned], first: u64) -> usize {
 
 /// Open UIDs without a mention in a block of keys, by the keys of the mentions there: three, or all
 /// if there are fewer. Blocks come in the order of their first keys, outer ones before inner ones,
-/// so that few are searched whose UIDs are known.
+/// so that hardly any keys are searched twice.
 fn unmentioned_in<S: OpenSet>(
     alloc: Global,
     set: &S,

@@ -12,7 +12,7 @@ ghost use Rattle.vic_frame.specs.Uids.{is_uid};
 ghost use Rattle.vic_tree.specs.OpenSet.{SameUids, UpToThree};
 ghost use Rattle.vic_log.specs.declared.entry.Entry.{Entry as EntryValue};
 ghost use Rattle.vic_log.specs.Slots.{slots_of, is_open};
-ghost use Rattle.vic_verdict.specs.Possible.{Lacks};
+ghost use Rattle.vic_verdict.specs.inner.Possible.{Lacks};
 ghost use Rattle.vic_verdict.specs.inner.Answering.{IsKnown};
 ghost use Rattle.vic_verdict.specs.inner.Sweep.{AreInOrder, HaveKeys};
 ghost use Rattle.vic_verdict.specs.Demands.{AreFound};
@@ -199,9 +199,10 @@ fn is_asked_again(demands: &[Demand], index: usize) -> bool
     }
 }
 
-/// The position before which enough UIDs answer in the slots of some mask, if `lacking` more are
-/// needed than answer at position `at`: where the last of that many become Quiet. 0 if there are
-/// too few.
+/// A guess: the position from which on the slots of a mask lack tags, if one lacks `lacking`, one or
+/// two, at position `at`. The mentions are those of the mask's open UIDs, each of which answers until
+/// it becomes Quiet. Of the positions where that happens, up to `at`, the last one counts, or the
+/// last but one; 0 if there is none.
 fn end_of_enough(mentions: &[Mention], at: usize, lacking: usize) -> usize {
     let mut last = 0;
     let mut last_but_one = 0;
@@ -280,8 +281,8 @@ fn guess_unmet<S: OpenSet>(
     Ok(guess)
 }
 
-/// The position of the first unmet slot from index `from` on, if the guess is right; otherwise the
-/// position of one that is known to be unmet. The slots are ordered by mask, not by position, so
+/// The position of the first unmet slot from index `from` on, if the guess is right; otherwise that
+/// of `unmet`, which is known to be unmet. The slots are ordered by mask, not by position, so
 /// those after that one are looked at too.
 fn first_unmet<S: OpenSet>(
     alloc: Global,

@@ -17,12 +17,14 @@ use std::alloc::{AllocError, Global};
 use vic_frame::Uid;
 use vic_frame::low_bits_first::key;
 
-/// The position after which a UID is Quiet by a line that hears it: after all positions.
+/// The position after which a UID is Quiet by a line that hears it, which doesn't make it Quiet:
+/// after all positions.
 pub(crate) const NEVER: usize = usize::MAX;
 
-/// A line that silences a UID or hears it: the UID's key, the line's position, and whether the
-/// slots looked at so far leave the UID open by this line. A UID is left if one of its mentions is.
-/// A log may have a million of them, which are sorted.
+/// A line that silences a UID or hears it: the UID's key and the line's position. `left` is whether
+/// every slot looked at so far leaves the UID open if this line alone says from where on it is
+/// Quiet. The first Stay Quiet counts, so a UID is left if one of its mentions is. A log may have a
+/// million mentions, which are sorted.
 #[derive(Clone, Copy)]
 pub(crate) struct Mention {
     pub key: u64,

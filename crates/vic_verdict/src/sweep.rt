@@ -19,8 +19,9 @@ use crate::mentions::{Mention, first_quiet_reply, start_near};
 use std::alloc::AllocError;
 use vic_tree::KeyRange;
 
-/// The slots of one mask: the position of the first one, the UID that it heard, if any, and the
-/// position of the first one that differs: it heard another UID, or only one of the two heard one.
+/// What the slots of one mask say together: the position of the first one, the key that it heard, if
+/// any, and the position of the first one that differs: it heard another key, or only one of the two
+/// heard one. So the key `heard` has to be Quiet before `other`, and any other key before `at`.
 #[derive(Clone, Copy)]
 pub(crate) struct Level {
     pub at: usize,

@@ -43,7 +43,7 @@ fn pass_listed(uids: &mut Vec<Uid>, entry: &Entry) -> Result<(), AllocError>
     Ok(())
 }
 
-/// How many UIDs a log lists.
+/// How many UIDs a log lists, none of them twice.
 pub fn count_listed(lines: &[PackedLine]) -> u32
     requires { IsRisingFrom 0 lines.now }
     ensures { result ≡ length (listed (entries lines.now)) }

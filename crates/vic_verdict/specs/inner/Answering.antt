@@ -48,8 +48,8 @@ is_awake i n = not (nat_lt (quiet_of n) i)
 abbrev pub IsReadyIn : List Mention → ℕ → ℕ → Type 0
 IsReadyIn ns i u = IsUid u × (has_where (is_awake i) ns (mirror u) ≡ true)
 
--- the second mentions are of the UIDs of a set that the first ones mention, in order, and by them
--- these are Quiet where they are by the first
+-- of the second mentions, in order, some one isn't Quiet at a position exactly if its UID is in the
+-- set, and the first ones mention it and don't make it Quiet there
 pub record AreOpenMentions (set : ℕ → Bool) (ns os : List Mention) : Type 0 where
   pub order : AreInOrder os
   pub keys : HaveKeys os

@@ -16,7 +16,8 @@ use Rattle.vic_log.specs.Order.{entries}
 use Rattle.vic_log.specs.Quiet.{wakes}
 use Rattle.vic_log.specs.Rounds.{mask_at, lies_in_some}
 use Rattle.vic_log.specs.Slots.{slots_of, is_open}
-use Rattle.vic_verdict.specs.Possible.{IsContradictedAt, rules_out}
+use Rattle.vic_verdict.specs.Possible.{IsContradictedAt}
+use Rattle.vic_verdict.specs.inner.Possible.{rules_out}
 use Rattle.vic_verdict.specs.inner.Replies.{RepliesAnswer}
 use Rattle.vic_verdict.specs.declared.mentions.Mention.{Mention}
 use Rattle.vic_verdict.specs.declared.closed.ReadSlot.{ReadSlot}

@@ -4,7 +4,7 @@ use Rattle.std.specs.Ordering.{nat_cmp}
 use Rattle.std.proofs.lemmas.List.{length-drop, length-take-le}
 use Rattle.std.proofs.lemmas.List.Sorted.{IsNonDecreasingBy-drop, IsNonDecreasingBy-take, IsPartitionPoint-from_clause, IsPartitionedBy-ltb}
 use Rattle.std.proofs.lemmas.Map.Keys.{non_decreasing_from_sorted}
-use Rattle.vic_field.specs.Rows.{HasKeyPlaceBetween, IsKeyPlace}
+use Rattle.vic_field.specs.inner.Rows.{HasKeyPlaceBetween, IsKeyPlace}
 use Rattle.vic_field.proofs.RowLaws.{found}
 use Rattle.vic_field.proofs.row.place_of.Goals as goal
 

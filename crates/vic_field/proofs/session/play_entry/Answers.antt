@@ -5,7 +5,7 @@ use Rattle.vic_log.specs.declared.entry.Entry.{Entry}
 use Rattle.vic_log.specs.Log.{last_from, LogValue}
 use Rattle.vic_log.specs.Order.{entries}
 use Rattle.vic_log.specs.Rounds.{slots_opened}
-use Rattle.vic_field.specs.Steps.{slot_lines_to, slot_lines, with_entries}
+use Rattle.vic_field.specs.inner.Steps.{slot_lines_to, slot_lines, with_entries}
 use Rattle.vic_field.proofs.Numbering.{entries-with, last_from-with, with-append}
 use Rattle.vic_field.proofs.session.play_entry.Goals as goal
 

@@ -1,6 +1,6 @@
 use Rattle.std.proofs.Common.{◌≡◌, ◌<◌}
 use Rattle.vic_log.specs.Populations.{IsPopulation}
-use Rattle.vic_field.specs.Steps.{slot_lines_to, with_entries}
+use Rattle.vic_field.specs.inner.Steps.{slot_lines_to, with_entries}
 use Rattle.vic_field.specs.Tags.{uids}
 use Rattle.vic_field.proofs.session.push_slots.Given as goal
 

@@ -8,7 +8,7 @@ use Rattle.vic_log.specs.declared.entry.TheConstants.{MAX_LINES}
 use Rattle.vic_log.specs.Order.{entries, listed}
 use Rattle.vic_log.specs.Populations.{IsPopulation}
 use Rattle.vic_field.specs.Simulation.{line_count, last_needed, IsSimulation}
-use Rattle.vic_field.specs.Steps.{slot_lines, with_entries}
+use Rattle.vic_field.specs.inner.Steps.{slot_lines, with_entries}
 use Rattle.vic_field.proofs.Follows.{follows, listed_population, line_count-front}
 use Rattle.vic_field.proofs.Listing.{entries_take, entry_at, valid_entry}
 use Rattle.vic_log.proofs.Push.{entries_next}

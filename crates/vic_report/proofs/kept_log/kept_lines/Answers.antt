@@ -5,7 +5,7 @@ use Rattle.vic_log.specs.declared.entry.Entry.{Entry}
 use Rattle.vic_log.specs.Order.{entries}
 use Rattle.vic_log.specs.Populations.{CouldHaveGiven, Fits, outcome_at}
 use Rattle.vic_log.specs.Quiet.{is_quiet}
-use Rattle.vic_report.specs.KeptLogs.{AreNumbered}
+use Rattle.vic_report.specs.inner.KeptLogs.{AreNumbered}
 use Rattle.vic_report.proofs.KeptLogs.{none_numbered, valid_entry}
 use Rattle.vic_verdict.proofs.Stands.{entry_at}
 use Rattle.vic_report.proofs.kept_log.kept_lines.Goals as goal

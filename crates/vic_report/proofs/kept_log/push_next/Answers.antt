@@ -2,7 +2,7 @@ use Rattle.std.proofs.Common.{◌≡◌, ◌+◌, ◌∷◌, [], None, length, a
 use Rattle.vic_log.specs.Log.{IsValidEntry}
 use Rattle.vic_log.specs.Order.{entries, listed, refusal}
 use Rattle.vic_log.specs.declared.entry.LogLine.{LogLine}
-use Rattle.vic_report.specs.KeptLogs.{AreNumbered}
+use Rattle.vic_report.specs.inner.KeptLogs.{AreNumbered}
 use Rattle.vic_report.proofs.KeptLogs.{numbered_more}
 use Rattle.vic_report.proofs.kept_log.push_next.Goals as goal
 

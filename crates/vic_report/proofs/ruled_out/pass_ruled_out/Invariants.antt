@@ -3,7 +3,7 @@ use Rattle.std.specs.Prelude.{slice_get}
 use Rattle.std.specs.List.{All}
 use Rattle.vic_log.specs.declared.entry.LogLine.{LogLine}
 use Rattle.vic_log.specs.Order.{AreValid, entries}
-use Rattle.vic_report.specs.FieldCursors.{IsFieldAt}
+use Rattle.vic_report.specs.inner.FieldCursors.{IsFieldAt}
 use Rattle.vic_report.specs.Findings.{IsRuledOut}
 use Rattle.vic_report.proofs.ruled_out.pass_ruled_out.Given as goal
 

@@ -1,7 +1,7 @@
 use Rattle.std.proofs.Common.{take}
 use Rattle.vic_sets.specs.Cells.{in_cells}
 use Rattle.vic_tree.specs.Gathering.{Gathers}
-use Rattle.vic_sets.specs.Free.{IsFreeIn}
+use Rattle.vic_sets.specs.inner.Free.{IsFreeIn}
 use Rattle.vic_sets.proofs.cells.gather_cells.Given as goal
 
 abbrev pub invariant-loop-cell : goal.invariant-loop-cell

@@ -1,6 +1,6 @@
 use Rattle.std.proofs.Common.{◌≡◌, ◌+◌, ◌-◌, ◌/◌, ◌^◌, ◌%◌, ◌<◌, inl, inr, sym, ◌∙◌, false, arith}
 use Rattle.vic_frame.specs.Uids.{has}
-use Rattle.vic_sets.specs.Free.{IsFree}
+use Rattle.vic_sets.specs.inner.Free.{IsFree}
 use Rattle.vic_tree.proofs.GatheringLaws.{gathers_both, gathers_like}
 use Rattle.std.proofs.lemmas.Nat.{one_shl}
 use Rattle.vic_sets.proofs.Places.{is_uid_of, uid_is, high_below}

@@ -2,7 +2,7 @@ use Rattle.std.proofs.Common.{◌≡◌, ◌∙◌, ◌+◌, ◌<◌, ◌≤◌,
 use Rattle.std.proofs.lemmas.Bool.{cases_lt}
 use Rattle.vic_frame.specs.Masks.{BitMask}
 use Rattle.vic_frame.specs.LowBitsFirst.{mirror_bits}
-use Rattle.vic_tree.specs.KeptMasks.{IsGreatestIn}
+use Rattle.vic_tree.specs.inner.KeptMasks.{IsGreatestIn}
 use Rattle.vic_tree.proofs.BlockLaws.{mask_block}
 use Rattle.vic_tree.proofs.FirstMasks.{kept_both, kept_like, none_kept, past_last}
 use Rattle.vic_tree.proofs.OpenBlocks.{greatest_of_len}

@@ -1,5 +1,5 @@
 use Rattle.std.proofs.Common.{◌≡◌, ◌/◌, refl, subst, arith}
-use Rattle.vic_field.specs.Places.{HasBitMore}
+use Rattle.vic_field.specs.inner.Places.{HasBitMore}
 use Rattle.vic_field.proofs.PlaceLaws.{noted_as_before, noted_more}
 use Rattle.vic_field.proofs.quiet.QuietPlaces.add.Goals as goal
 

@@ -11,7 +11,7 @@ use Rattle.vic_tree.specs.Ranges.{is_open_in}
 use Rattle.vic_verdict.specs.Differences.{AreDifferences}
 use Rattle.vic_verdict.specs.Rising.{IsFailing, IsListOf}
 use Rattle.vic_report.proofs.AllFindings.{all_from_has}
-use Rattle.vic_reconcile.specs.Joined.{IsLeftToAsk, is_left}
+use Rattle.vic_reconcile.specs.inner.Joined.{IsLeftToAsk, is_left}
 use Rattle.vic_reconcile.proofs.Reconciling.{doubtful_left, findings_of, has_member}
 use Rattle.vic_reconcile.proofs.reconciliation.Reconciliation.findings.Goals as goal
 

@@ -1,7 +1,8 @@
 use Rattle.std.proofs.Common.{◌≡◌, ℕ, ◌<◌, ◌≤◌, Bool, false, length}
 use Rattle.std.specs.List.Sorted.{IsNonDecreasing}
 use Rattle.vic_tree.specs.OpenSet.{AreKeys}
-use Rattle.vic_tree.specs.Ranges.{AreRanges, PassFrom}
+use Rattle.vic_tree.specs.Ranges.{AreRanges}
+use Rattle.vic_tree.specs.inner.Ranges.{PassFrom}
 use Rattle.vic_tree.proofs.left.Left.next_run.Given as goal
 
 abbrev pub invariant-loop-range : goal.invariant-loop-range

@@ -6,7 +6,7 @@ use Rattle.vic_frame.specs.Masks.{BitMask, IsMask}
 use Rattle.vic_frame.specs.LowBitsFirst.{mirror, mirror_bits}
 use Rattle.vic_tree.specs.declared.open_masks.TheConstants.{KEPT}
 use Rattle.vic_tree.specs.OpenMasks.{AreFirst, ComesBefore, IsPast, parent}
-use Rattle.vic_tree.specs.Ranges.{AllKeysPass, HoldsMask, IsMaskIn}
+use Rattle.vic_tree.specs.inner.Ranges.{AllKeysPass, HoldsMask, IsMaskIn}
 
 -- the keys of the mask lie in the range, and those of its parent don't
 pub record IsGreatestIn (first last : ℕ) (m : BitMask) : Type 0 where
