@@ -75,7 +75,7 @@ abbrev pub plain_answer : PlainFindings → ℕ → Answer
 plain_answer f count =
     answer.Judged (first_of f.absent.items f.unlisted.items f.unsettled f.doubtful.items count)
 
--- no line shows the UID
+-- the unsettled mask, if there is one
 abbrev pub unsettled_findings : Option BitMask → List VicinityFinding
 unsettled_findings None = []
 unsettled_findings (Some m) = unsettled_finding m ∷ []

@@ -45,7 +45,7 @@ impl SpellFault {
 }
 
 /// What words say.
-#[derive(Clone, Copy, Debug, PartialEq, Eq)]
+#[derive(Clone, Copy)]
 enum Said {
     Asked(Request),
     Replied(Response),

@@ -13,13 +13,9 @@ mod log;
 #[cfg(test)]
 mod logs;
 #[cfg(test)]
-mod reconcile;
-#[cfg(test)]
 mod sources_and_sinks;
 #[cfg(test)]
 mod tree;
-#[cfg(test)]
-mod unions;
 #[cfg(test)]
 mod values;
 #[cfg(test)]

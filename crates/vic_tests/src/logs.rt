@@ -11,39 +11,37 @@ MB = T 260108B2923A
 N1 = T 06010401719B
 M55 = T 26013700000000000000641B
 M60 = T 06013C0000000000000000069E
-M64 = T 26014000000000000000006DD2
 QA = T 2202A1000000000104E0662A
 QB = T 2202B2000000000104E0CEFB
 QZ = T 220200000000000000E077EB
 QY = T 220200000000000080E0BB67
-Q0 = T 22020000000000000000790C
 RA = R 0000A1000000000104E06745
-RA1 = R 0001A1000000000104E09A08
 RB = R 0000B2000000000104E0CF94
 RB1 = R 0000B1000000000104E01F1E
-RZ = R 000000000000000000E07684
 UA = U E0040100000000A1
 UB = U E0040100000000B2
 UB1 = U E0040100000000B1
 UZ = U E000000000000000
 UY = U E080000000000000";
 
-/// The line of a name, and how many times it occurs. A name that isn't there stands for itself.
-fn line_of(name: &str) -> (usize, &str) {
+/// How many times the line of a name occurs.
+fn count_of(name: &str) -> usize {
     match name {
-        "empty" => (1, ""),
-        "S4" => (4, "S"),
-        "S10" => (10, "S"),
-        "S12" => (12, "S"),
-        "S13" => (13, "S"),
-        "S14" => (14, "S"),
-        "S16" => (16, "S"),
-        _ => (1, long_line(name)),
+        "S4" => 4,
+        "S10" => 10,
+        "S12" => 12,
+        "S13" => 13,
+        "S14" => 14,
+        "S16" => 16,
+        _ => 1,
     }
 }
 
-/// The same for a name of one line.
-fn long_line(name: &str) -> &str {
+/// The line of a name. A name that isn't there stands for itself.
+fn line_of(name: &str) -> &str {
+    if name.starts_with('S') {
+        return "S";
+    }
     for row in NAMES.lines() {
         if let Some((other, line)) = row.split_once(" = ") {
             if other == name {
@@ -54,31 +52,15 @@ fn long_line(name: &str) -> &str {
     name
 }
 
-/// Adds the lines of a name.
-fn push_lines(text: &mut String, name: &str) -> Result<(), Fail> {
-    let (count, line) = line_of(name);
-    for _ in 0..count {
-        text.push_str(line)?;
-        text.push('\n')?;
-    }
-    Ok(())
-}
-
-/// The text of a log, by the names of its lines: of version 2 if the first one is `V2`.
+/// The text of a log, by the names of its lines.
 pub fn text_of(alloc: Global, names: &str) -> Result<String, Fail> {
     let mut text = String::new(alloc);
-    let lines = match names.strip_prefix("V2 ") {
-        Some(lines) => {
-            text.push_str("vicinity-log 2\n")?;
-            lines
+    text.push_str("vicinity-log 1\n")?;
+    for name in names.split(' ').filter(|name| !name.is_empty()) {
+        for _ in 0..count_of(name) {
+            text.push_str(line_of(name))?;
+            text.push('\n')?;
         }
-        None => {
-            text.push_str("vicinity-log 1\n")?;
-            names
-        }
-    };
-    for name in lines.split(' ').filter(|name| !name.is_empty()) {
-        push_lines(&mut text, name)?;
     }
     Ok(text)
 }

@@ -8,19 +8,14 @@ use std::process::Abort;
 use std::test::Fail;
 use vic_answer::{Answer, answer_line};
 use vic_frame::{Mask, Uid};
-use vic_log::{Log, read_log};
+use vic_log::read_log;
 use vic_sets::{CellList, MaskTree};
 use vic_tree::OpenSet;
 use vic_verdict::{explain_with, judge_with};
 
-fn log_of(alloc: Global, names: &str) -> Result<Log, Fail> {
-    let text = text_of(alloc, names)?;
-    Ok(read_log(alloc, text.as_bytes())?)
-}
-
 /// Asks a log for the line of its verdict, by a list of cells and by a tree.
 fn is_judged(rt: &impl Abort, alloc: Global, names: &str, line: &str) -> Result<(), Fail> {
-    let log = log_of(alloc, names)?;
+    let log = read_log(alloc, text_of(alloc, names)?.as_bytes())?;
     let verdict = judge_with::<CellList>(alloc, &log)?;
     let explained = explain_with::<MaskTree>(alloc, &log)?;
     assert!(rt; explained.verdict == verdict, "{names}");
@@ -34,54 +29,26 @@ fn is_judged(rt: &impl Abort, alloc: Global, names: &str, line: &str) -> Result<
 
 /// Logs, each with the line of its verdict.
 const VERDICTS: &str = "I1 S | complete 0
-I1 RA UA | complete 1
-I1 RA I1 RA1 UA | complete 1
 I16 S RA RB S13 UA UB | complete 2
 I1 C MA RA QA I1 RB UA UB | complete 2
-I1 C QA I1 RB UA UB | complete 2
-I1 S QA | complete 0
-Q0 I1 S | complete 0
-M55 C QZ QY I1 S UZ UY | complete 2
 I16 S C S14 N1 S10 RA RB1 S4 UA UB1 | complete 2
-I1 S UA | absent E0040100000000A1
+M55 C QZ QY I1 S UZ UY | complete 2
 I1 S UB UA | absent E0040100000000A1
-I1 RA UB | absent E0040100000000B2
 I1 RA | unlisted E0040100000000A1
-M55 C | unlisted E000000000000000
 M55 C QZ QY I1 S | unlisted E000000000000000
+I1 C QA I1 RB | unlisted E0040100000000A1
  | unsettled 0 -
-M64 S | unsettled 0 -
-I1 C UA | unsettled 1 00
 M55 C UZ UY | unsettled 1 01
 M60 S16 | unsettled 1 01
 I1 C MA RA MB RB UA UB | unsettled 2 00
 I16 S RA RB S12 UA UB | unsettled 4 0F
 QA I1 S | unsettled 56 040100000000A1
 QA I1 S UA | doubtful E0040100000000A1
-I1 S I1 RA I1 S | impossible at line 5
 I1 S I1 RA I1 S UA | impossible at line 5
-I1 S empty # I1 RA I1 RA | impossible at line 7
-I1 S I1 C | impossible at line 5
-I1 S I1 C QA I1 RA | impossible at line 5
-I1 RA I1 RA I1 S I1 RA | impossible at line 7
-I1 RA QA I1 RA | impossible at line 6
-QA I1 RA I1 RA | impossible at line 4
-QA QB I1 RA I1 RB | impossible at line 5
 QA QB I1 RB I1 RA | impossible at line 5
-MB RA | impossible at line 3
-I1 S MB RA QA I1 RA | impossible at line 5
-M64 C | impossible at line 3
 M60 S14 C | impossible at line 17
-I1 RA I1 C | impossible at line 5
-QZ M55 C | impossible at line 4
-QZ I1 S M55 C | impossible at line 6
-M55 C QY M55 C | impossible at line 6
-I1 C I1 S I1 S | impossible at line 5
-I1 C I1 RA I1 S | impossible at line 5
-M55 C I1 RZ | impossible at line 5
 M55 C QZ I1 S I1 S | impossible at line 6
-I16 S C S14 N1 S10 RA S S4 UA | impossible at line 35
-I1 C QA I1 RB | unlisted E0040100000000A1";
+I16 S C S14 N1 S10 RA S S4 UA | impossible at line 35";
 
 #[test]
 fn verdicts_by_a_list(rt: HostRuntime) -> Result<(), Fail> {
@@ -124,7 +91,7 @@ impl OpenSet for Refusing {
 
 #[test]
 fn a_set_that_wants_memory(rt: HostRuntime) -> Result<(), Fail> {
-    let log = log_of(rt.alloc(), "I1 RA UA")?;
+    let log = read_log(rt.alloc(), b"vicinity-log 1\n")?;
     assert!(&rt; judge_with::<Refusing>(rt.alloc(), &log).is_err());
     assert!(&rt; explain_with::<Refusing>(rt.alloc(), &log).is_err());
     Ok(())
