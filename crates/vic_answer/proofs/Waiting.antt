@@ -8,7 +8,7 @@ use Rattle.std.proofs.Math.Seq.{take-append-add}
 use Rattle.std.specs.Io.KnownBytes.{Appends}
 use Rattle.vic_log.specs.Device.{HasTakenBut, HasTakenPrefix}
 use Rattle.vic_answer.specs.declared.status.RunFault.{RunFault}
-use Rattle.vic_answer.specs.Pieces.{PutsBehind, Puts}
+use Rattle.vic_answer.specs.inner.Pieces.{PutsBehind, Puts}
 use Rattle.vic_answer.specs.Runs.{Writes}
 
 -- a text behind a text

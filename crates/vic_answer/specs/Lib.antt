@@ -6,7 +6,6 @@ pub mod Refusals
 pub mod CheckText
 pub mod SimulateText
 pub mod Runs
-pub mod Pieces
 pub mod Readings
 pub mod CompleteRun
 pub mod ExplainText
@@ -20,3 +19,4 @@ pub mod Reconciled
 pub mod Tasks
 pub mod ReconcileRun
 pub mod SurveyNumbers
+pub mod inner

@@ -2,7 +2,7 @@
 
 ghost use Rattle.std.specs.Prelude.{◌≡◌, List, ℕ};
 ghost use Rattle.std.specs.List.{flat_map};
-ghost use Rattle.vic_answer.specs.Pieces.{Puts};
+ghost use Rattle.vic_answer.specs.inner.Pieces.{Puts};
 
 use crate::status::RunFault;
 use crate::text::Text;

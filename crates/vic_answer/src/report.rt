@@ -3,7 +3,7 @@
 ghost use Rattle.std.specs.Prelude.{◌≡◌, ℕ, List, IfOk};
 ghost use Rattle.vic_verdict.specs.declared.judging.Verdict.TheVariants.{Complete};
 ghost use Rattle.vic_answer.specs.CheckText.{IsAnswer, IsCompleteText, answer_status};
-ghost use Rattle.vic_answer.specs.Pieces.{Puts};
+ghost use Rattle.vic_answer.specs.inner.Pieces.{Puts};
 ghost use Rattle.vic_answer.specs.CompleteRun.{IsCompleteWhereSaid, IsCompleteWhereWritten};
 ghost use Rattle.vic_answer.specs.Readings.{IsReading};
 ghost use Rattle.vic_answer.specs.ReportText.{IsReportOf, IsReported, answer_of, reported_text};

@@ -1,7 +1,7 @@
 //! How the lines of a report are written.
 
 ghost use Rattle.std.specs.Prelude.{◌≡◌};
-ghost use Rattle.vic_answer.specs.Pieces.{Puts};
+ghost use Rattle.vic_answer.specs.inner.Pieces.{Puts};
 ghost use Rattle.vic_answer.specs.ReportText as spec;
 
 use crate::lines::{by_line, more_line, open_line, put_by_line, silenced_line, verdict_line};

@@ -6,7 +6,7 @@ use Rattle.hex.proofs.HexLemmas.{decode_pairs-ok}
 use Rattle.hex.proofs.Pairs.{cons_byte, decode_pairs-ok_pair}
 use Rattle.std.specs.Option.{is_some, unwrap_or}
 use Rattle.std.specs.Prelude.{true}
-use Rattle.vic_log.specs.Digits.{digit_or_255, SpellsByte}
+use Rattle.vic_log.specs.inner.Digits.{digit_or_255, SpellsByte}
 
 value_of : (o : Option ℕ) → unwrap_or o 255 ≤ 15 → o ≡ Some (unwrap_or o 255)
 value_of None h = absurd (omega arith)

@@ -14,7 +14,8 @@ use Rattle.vic_log.specs.Early.{IsLong, IsJudged, IsEarlyFault, IsEarly}
 use Rattle.vic_log.specs.Lines.{lf, cr, cut, without_last, content, lines_of_text}
 use Rattle.vic_log.specs.Log.{LogValue}
 use Rattle.vic_log.specs.Order.{entries}
-use Rattle.vic_log.specs.Text.{next_fault, after_line, fault_on, IsFirstFault, IsLogOf, Refuses, RefusesNext}
+use Rattle.vic_log.specs.Text.{fault_on, IsFirstFault, IsLogOf, Refuses}
+use Rattle.vic_log.specs.inner.Text.{next_fault, after_line, RefusesNext}
 use Rattle.vic_log.proofs.Early.{begins, content-open, cut-only, cut-some, cut-whole, last_part, lines_are, still_long, too_many, too_long}
 use Rattle.vic_log.proofs.Passing.{AreRead-end, AreRead-entries, AreRead-fault, AreRead-push, fault_agrees, in_limit, no_header}
 use Rattle.vic_log.proofs.Places.{slice_get-append, slice_get_seam}

@@ -14,7 +14,8 @@ use Rattle.vic_log.specs.Begun.{AreRead}
 use Rattle.vic_log.specs.Order.{entries}
 use Rattle.vic_log.specs.Log.{LogValue, last_from}
 use Rattle.vic_log.specs.LineReading.{line_reading}
-use Rattle.vic_log.specs.Text.{named_version, version_of, line_fault, next_fault, after_line, entry_line, logged, log_upto, fault_on, IsFirstFault, IsLogOf, GiveEntries, RefusesNext}
+use Rattle.vic_log.specs.Text.{named_version, version_of, line_fault, entry_line, logged, log_upto, fault_on, IsFirstFault, IsLogOf, GiveEntries}
+use Rattle.vic_log.specs.inner.Text.{next_fault, after_line, RefusesNext}
 use Rattle.vic_log.proofs.Places.{slice_get-append, slice_get_seam}
 use Rattle.vic_log.proofs.Push.{last_from-push}
 

@@ -13,7 +13,7 @@ use Rattle.std.specs.BTreeSet as sorted
 use Rattle.std.specs.Ordering.{nat_cmp}
 use Rattle.vic_frame.specs.Uids.{has, IsUid}
 use Rattle.vic_log.specs.declared.uid_set.UidSet.{UidSet}
-use Rattle.vic_log.specs.UidSets.{place_of, row_of, is_held, IsUidSet, IsSetOf, IsIndex}
+use Rattle.vic_log.specs.inner.UidSets.{place_of, row_of, is_held, IsUidSet, IsSetOf, IsIndex}
 use Rattle.vic_log.specs.declared.entry.LogLine.{LogLine}
 use Rattle.vic_log.specs.Order.{entries, listed}
 use Rattle.vic_log.proofs.Push.{listed-append, entries_next}

@@ -9,7 +9,8 @@ use Rattle.vic_frame.specs.Uids.{has}
 use Rattle.vic_log.specs.Order.{IsInOrder, entries}
 use Rattle.vic_log.specs.Lines.{onto, cut, ends_with, all_but_last, without_last, content, lines_of_text}
 use Rattle.vic_log.specs.LineReading.{line_reading}
-use Rattle.vic_log.specs.Text.{named_version, line_fault, after_line, reading_fault, entry_line, logged, IsLogOf, header}
+use Rattle.vic_log.specs.Text.{named_version, line_fault, reading_fault, entry_line, logged, IsLogOf, header}
+use Rattle.vic_log.specs.inner.Text.{after_line}
 use Rattle.vic_log.specs.Log.{LogValue}
 use Rattle.vic_log.specs.declared.entry.Version.{Version}
 use Rattle.vic_log.specs.declared.entry.Version.TheVariants.{V1, V2}

@@ -8,7 +8,6 @@ pub mod Log
 pub mod Kept
 pub mod Lines
 pub mod LineReading
-pub mod Digits
 pub mod Grammar
 pub mod Text
 pub mod Early
@@ -16,6 +15,6 @@ pub mod Begun
 pub mod Writing
 pub mod Names
 pub mod Device
-pub mod UidSets
 pub mod OpenRounds
 pub mod Packed
+pub mod inner

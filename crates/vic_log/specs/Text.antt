@@ -87,18 +87,6 @@ pub record IsLogOf (lines : List (List ℕ)) (log : LogValue) : Type 0 where
   pub all : log.lines ≡ log_upto lines (length lines)
   pub version : log.version ≡ version_of lines
 
--- the first fault of the line with this number, after the log of the lines before
-abbrev pub next_fault : LogValue → ℕ → List ℕ → Option LineFault
-next_fault log number line = line_fault log.version (entries log.lines) number (Some line)
-
--- a log with what the line with this number says: line 1 names its version, each other line adds
--- its entry, if it spells one
-abbrev pub after_line : LogValue → ℕ → List ℕ → LogValue
-after_line log number line = record {
-  lines = log.lines ++ logged log.version number (Some line);
-  version = if number == 1 then named_version (Some line) else log.version;
-}
-
 -- the lines 1 to n have no fault, and spell entries
 pub record GiveEntries (lines : List (List ℕ)) (n : ℕ) : Type 0 where
   pub no_fault : (m : ℕ) → m ≤ n → fault_on lines m ≡ None
@@ -111,16 +99,3 @@ Refuses text (Line n f) = IsFirstFault (lines_of_text text) n f
 Refuses text Memory = (n : ℕ) × GiveEntries (lines_of_text text) n
 Refuses text Read = ⊥
 Refuses text Spent = ⊥
-
--- why a line with this first fault isn't taken: that fault; or, if it has none and adds to the log,
--- refused memory
-abbrev pub RefusesLine : Option LineFault → List LogLine → ℕ → LogFault → Type 0
-RefusesLine fault added number (Line n f) = (n ≡ number) × (fault ≡ Some f)
-RefusesLine fault added number Memory = (fault ≡ None) × (added ≢ [])
-RefusesLine fault added number Read = ⊥
-RefusesLine fault added number Spent = ⊥
-
--- why the line with this number isn't taken after a log
-abbrev pub RefusesNext : LogValue → ℕ → List ℕ → LogFault → Type 0
-RefusesNext log number line =
-    RefusesLine (next_fault log number line) (logged log.version number (Some line)) number

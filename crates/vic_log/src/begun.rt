@@ -7,7 +7,8 @@ ghost use Rattle.vic_log.specs.Begun.{IsShort, IsSplit, HasTaken, spare_of};
 ghost use Rattle.vic_log.specs.Early.{IsLong, IsEarly};
 ghost use Rattle.vic_log.specs.Lines.{lf, cr, without_last, lines_of_text};
 ghost use Rattle.vic_log.specs.Log.{last_from};
-ghost use Rattle.vic_log.specs.Text.{IsLogOf, Refuses, RefusesNext, next_fault, after_line};
+ghost use Rattle.vic_log.specs.Text.{IsLogOf, Refuses};
+ghost use Rattle.vic_log.specs.inner.Text.{RefusesNext, next_fault, after_line};
 
 use crate::entry::{MAX_LINE_LEN, MAX_LINES};
 use crate::fault::{LineFault, LogFault};

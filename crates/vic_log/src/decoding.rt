@@ -2,7 +2,7 @@
 
 ghost use Rattle.std.specs.Prelude.{◌≡◌, ℕ, ◌+◌, ◌*◌, ◌<◌, ◌≤◌, true, false, map, length, slice_index, Ok, IsErr, IfOk, IfErr};
 ghost use Rattle.hex.specs.Hex.{decode_of, decode_pairs};
-ghost use Rattle.vic_log.specs.Digits.{digit_or_255, SpellsByte};
+ghost use Rattle.vic_log.specs.inner.Digits.{digit_or_255, SpellsByte};
 ghost use Rattle.vic_log.specs.declared.fault.LineFault.TheVariants.{Hex};
 
 use crate::fault::LineFault;

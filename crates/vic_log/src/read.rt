@@ -5,7 +5,8 @@ ghost use Rattle.vic_log.specs.declared.entry.Version.TheVariants.{V1};
 ghost use Rattle.vic_log.specs.FirstVersion.{IsOfFirstVersion};
 ghost use Rattle.vic_log.specs.Order.{entries};
 ghost use Rattle.vic_log.specs.Log.{last_from, with_line, IsValidEntry};
-ghost use Rattle.vic_log.specs.Text.{RefusesLine, RefusesNext, next_fault, after_line, order_fault, is_header, named_version};
+ghost use Rattle.vic_log.specs.Text.{order_fault, is_header, named_version};
+ghost use Rattle.vic_log.specs.inner.Text.{RefusesLine, RefusesNext, next_fault, after_line};
 
 use crate::entry::{Entry, MAX_LINE_LEN, MAX_LINES, Version};
 use crate::fault::{LineFault, LogFault, PushFault};

@@ -3,7 +3,7 @@
 ghost use Rattle.std.specs.Prelude.{◌≡◌, ℕ, ◌<◌, ◌||◌, not, false, length, nat_eq, ◌==◌, IfOk, OnOk, OnErr, IfSome, IfNone, List, slice_get, Some, ◌++◌, ◌∷◌, []};
 ghost use Rattle.vic_frame.specs.Uids.{has};
 ghost use Rattle.vic_log.specs.Order.{entries, listed};
-ghost use Rattle.vic_log.specs.UidSets.{place_of, is_held, IsUidSet, IsSetOf};
+ghost use Rattle.vic_log.specs.inner.UidSets.{place_of, is_held, IsUidSet, IsSetOf};
 
 use crate::entry::{Entry, MAX_LINES};
 use crate::packed::PackedLine;

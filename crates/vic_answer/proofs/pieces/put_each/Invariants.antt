@@ -1,6 +1,6 @@
 use Rattle.std.proofs.Common.{◌≡◌, ℕ, List, take, Ok}
 use Rattle.std.specs.List.{flat_map}
-use Rattle.vic_answer.specs.Pieces.{Puts}
+use Rattle.vic_answer.specs.inner.Pieces.{Puts}
 use Rattle.vic_answer.proofs.pieces.put_each.Given as goal
 
 abbrev pub invariant-loop-item : goal.invariant-loop-item

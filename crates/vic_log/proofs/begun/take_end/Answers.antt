@@ -7,7 +7,7 @@ use Rattle.vic_log.specs.Begun.{HasJudged}
 use Rattle.vic_log.specs.Early.{IsEarly}
 use Rattle.vic_log.specs.Lines.{lf, cr, without_last}
 use Rattle.vic_log.specs.Log.{LogValue}
-use Rattle.vic_log.specs.Text.{next_fault, after_line, RefusesNext}
+use Rattle.vic_log.specs.inner.Text.{next_fault, after_line, RefusesNext}
 use Rattle.vic_log.proofs.Judged.{HasCut-more, HasJudged-end, early-refused, early-long, early-many}
 use Rattle.vic_log.proofs.Passing.{AreRead-above, AreRead-none}
 use Rattle.vic_log.proofs.Place.{over}

@@ -1,5 +1,5 @@
 use Rattle.std.proofs.Common.{ℕ, ◌+◌, ◌*◌, ◌<◌, slice_index}
-use Rattle.vic_log.specs.Digits.{SpellsByte}
+use Rattle.vic_log.specs.inner.Digits.{SpellsByte}
 use Rattle.vic_log.proofs.decoding.decode_each.Given as goal
 
 abbrev pub invariant-bytes : goal.invariant-bytes

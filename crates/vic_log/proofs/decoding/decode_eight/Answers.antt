@@ -3,7 +3,7 @@ use Rattle.std.proofs.lemmas.List.{get_or-map, length-map, get_or_append_left}
 use Rattle.std.proofs.lemmas.Simd.{length-chunk, get_or-chunk, get_or-put_chunk_below, get_or-put_chunk_at}
 use Rattle.std.proofs.lemmas.Bool.{eqb-false}
 use lib.Lanes.{chunk, mask_l}
-use Rattle.vic_log.specs.Digits.{digit_or_255}
+use Rattle.vic_log.specs.inner.Digits.{digit_or_255}
 use Rattle.vic_log.proofs.Lanes.{marks, none_marked, some_marked}
 use Rattle.vic_log.proofs.HexPairs.{no_digit}
 use Rattle.vic_log.proofs.decoding.decode_eight.Goals as goal

@@ -2,7 +2,7 @@ use Rattle.std.proofs.Common.{◌≡◌, List, ℕ, Some, take, length, refl, sy
 use Rattle.std.specs.Prelude.{slice_get}
 use Rattle.std.proofs.lemmas.Option.{slice_get_read}
 use Rattle.vic_log.specs.Order.{entries, listed}
-use Rattle.vic_log.specs.UidSets.{IsSetOf}
+use Rattle.vic_log.specs.inner.UidSets.{IsSetOf}
 use Rattle.vic_log.proofs.UidSets.{listed_next}
 use Rattle.vic_log.proofs.uid_set.listed_uids.Goals as goal
 

@@ -1,7 +1,7 @@
 use Rattle.std.proofs.Common.{rules, ◌≡◌, ap, sym, subst, ◌∙◌, ◌∷◌, [], ◌++◌, ◌||◌, List, ℕ, None, ◌<◌, refl, append-nil}
 use Rattle.std.specs.Prelude.{not}
 use Rattle.vic_frame.specs.Uids.{has}
-use Rattle.vic_log.specs.UidSets.{IsIndex}
+use Rattle.vic_log.specs.inner.UidSets.{IsIndex}
 use Rattle.vic_log.specs.Order.{entries, listed, is_empty, refusal}
 use Rattle.vic_log.specs.Log.{LogValue, last_from, IsTyped}
 use Rattle.vic_log.specs.declared.entry.LogLine.{LogLine}

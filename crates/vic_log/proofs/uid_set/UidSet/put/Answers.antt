@@ -3,7 +3,7 @@ use Rattle.std.specs.Prelude.{nat_eq, slice_get}
 use Rattle.std.specs.List.{list_any}
 use Rattle.std.proofs.lemmas.Option.{slice_get_within}
 use Rattle.vic_frame.specs.Uids.{has}
-use Rattle.vic_log.specs.UidSets.{row_of}
+use Rattle.vic_log.specs.inner.UidSets.{row_of}
 use Rattle.vic_log.proofs.UidSets.{is_put, IsUidSet-put, held-put, absent_besides, row_is, has_searched, IsUidSet-beside, held-beside}
 use Rattle.vic_log.proofs.uid_set.UidSet.put.Goals as goal
 
