@@ -17,7 +17,7 @@ use Rattle.vic_tree.specs.Ranges.{is_open_in}
 use Rattle.vic_log.specs.declared.entry.LogLine.{LogLine}
 use Rattle.vic_log.specs.Order.{entries}
 use Rattle.vic_log.proofs.Sets.{IsUid-member, has_at, has_there}
-use Rattle.vic_verdict.specs.declared.differences.Differences.{Differences}
+use Rattle.vic_verdict.specs.declared.findings.Differences.{Differences}
 use Rattle.vic_verdict.specs.Differences.{AreDifferences}
 use Rattle.vic_verdict.specs.Rising.{IsFailing, IsListOf}
 use Rattle.vic_verdict.specs.Verdict.{IsFirstMask, NoSuch}

@@ -15,8 +15,8 @@ use Rattle.vic_tree.specs.Ranges.{is_open_in}
 use Rattle.vic_tree.proofs.OpenMaskLaws.{held}
 use Rattle.vic_log.specs.declared.entry.Entry.{Entry}
 use Rattle.vic_log.specs.declared.entry.LogLine.{LogLine}
-use Rattle.vic_verdict.specs.declared.differences.Differences.{Differences}
-use Rattle.vic_verdict.specs.declared.possible.Contradiction.{Contradiction}
+use Rattle.vic_verdict.specs.declared.findings.Differences.{Differences}
+use Rattle.vic_verdict.specs.declared.facts.Contradiction.{Contradiction}
 use Rattle.vic_verdict.specs.Differences.{AreDifferences}
 use Rattle.vic_verdict.specs.Possible.{IsContradiction, IsPossible}
 use Rattle.vic_verdict.specs.Rising.{IsFailing, IsListOf, SameMembers}

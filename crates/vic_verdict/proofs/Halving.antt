@@ -2,7 +2,7 @@
 use Rattle.std.proofs.Common.{take-take, ◌≡◌, ℕ, zero, suc, ◌+◌, ◌<◌, ◌≤◌, List, [], ◌∷◌, ◌++◌, Some, length, take, drop, sym, ap, ◌∙◌, subst, arith, ⊎_elim, ◌⊎◌, slice_get, take-append-drop, length-take}
 use Rattle.vic_verdict.proofs.Words.{cases_lt, take-map, length-map, Sent, LogLine, IsPossible, IsContradictedAt, IsContradiction, entries, IsRisingFrom}
 use Rattle.std.proofs.lemmas.List.{map-append}
-use Rattle.vic_verdict.specs.declared.possible.Contradiction.{Contradiction}
+use Rattle.vic_verdict.specs.declared.facts.Contradiction.{Contradiction}
 use Rattle.vic_verdict.proofs.Possibility.{IsPossible-front}
 use Rattle.vic_log.specs.Order.{IsInOrder, AreValid}
 use Rattle.vic_verdict.specs.LogLines.{AreLogLines}

@@ -30,7 +30,7 @@ pub use Rattle.vic_log.specs.Slots.{is_open, slots_of, reading_of, ManyReplies, 
 pub use Rattle.vic_log.proofs.Places.{answers_agree, CouldHaveGiven-slots, AgreeBefore}
 pub use Rattle.vic_log.proofs.Sets.{has_here, has_cases, has_there, has_at, AreDifferent-population, has_filter, IsWithin, AreDifferent-filter}
 pub use Rattle.vic_log.proofs.Supply.{IsUid-from, is_uid_from, MeetsAll-iff}
-pub use Rattle.vic_verdict.specs.declared.closed.ReadSlot.{ReadSlot}
+pub use Rattle.vic_verdict.specs.declared.sweep.ReadSlot.{ReadSlot}
 pub use Rattle.vic_verdict.specs.declared.demands.Demand.{Demand}
 pub use Rattle.vic_verdict.specs.declared.demands.Found.{Found}
 pub use Rattle.vic_verdict.specs.declared.demands.Met.{Met}

@@ -9,7 +9,7 @@ use Rattle.vic_log.specs.declared.entry.Entry.{Entry}
 use Rattle.vic_log.specs.Order.{listed}
 use Rattle.vic_verdict.specs.Possible.{IsPossibleUid, IsCertainUid}
 use Rattle.vic_verdict.specs.Rising.{IsFailing, IsListOf}
-use Rattle.vic_verdict.specs.declared.differences.Differences.{Differences}
+use Rattle.vic_verdict.specs.declared.findings.Differences.{Differences}
 
 -- a UID that may be there and may be missing: possible, and not certain
 abbrev pub IsOpenUid : List Entry → ℕ → Type 0

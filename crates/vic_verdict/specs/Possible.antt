@@ -3,8 +3,8 @@
 use Rattle.std.specs.Prelude.{◌≡◌, ℕ, ◌+◌, ◌<◌, true, List, length, take}
 use Rattle.vic_frame.specs.Uids.{has}
 use Rattle.vic_log.specs.declared.entry.Entry.{Entry}
-use Rattle.vic_verdict.specs.declared.possible.Contradiction.{Contradiction}
-use Rattle.vic_verdict.specs.declared.possible.Before.TheVariants.{ArePossible}
+use Rattle.vic_verdict.specs.declared.facts.Contradiction.{Contradiction}
+use Rattle.vic_verdict.specs.declared.facts.Before.TheVariants.{ArePossible}
 use Rattle.vic_log.specs.Populations.{IsPopulation, CouldHaveGiven}
 
 -- some population could have produced the entries

@@ -50,7 +50,8 @@ pub(crate) struct Known {
 
 /// The keys of mentions.
 fn keys_of(alloc: Global, mentions: &[Mention]) -> Result<Vec<u64>, AllocError>
-    ensures { IfOk result (λ keys. keys.items ≡ map (λ (n : MentionValue). n.key) mentions.now) }
+    ensures { IfOk result (λ keys.
+        keys.items ≡ map (λ (n : MentionValue). n.key) mentions.now) }
 {
     let mut keys = Vec::with_capacity(alloc, mentions.len())?;
     for mention in mentions {
@@ -59,8 +60,8 @@ fn keys_of(alloc: Global, mentions: &[Mention]) -> Result<Vec<u64>, AllocError>
     Ok(keys)
 }
 
-/// A mention with a key whose UID is Quiet after a position; if no position of a log is as late, one
-/// of a line that hears it.
+/// A mention with a key whose UID is Quiet after a position; if no position of a log is as late,
+/// one of a line that hears it.
 fn mention_quiet_after(key: u64, quiet: usize) -> Mention
     ensures key { result.key ≡ key }
     ensures quiet { (i : ℕ) → i < 2 ^ 32 → nat_lt (quiet_of result) i ≡ nat_lt quiet i }

@@ -199,10 +199,10 @@ fn is_asked_again(demands: &[Demand], index: usize) -> bool
     }
 }
 
-/// A guess: the position from which on the slots of a mask lack tags, if one lacks `lacking`, one or
-/// two, at position `at`. The mentions are those of the mask's open UIDs, each of which answers until
-/// it becomes Quiet. Of the positions where that happens, up to `at`, the last one counts, or the
-/// last but one; 0 if there is none.
+/// A guess: the position from which on the slots of a mask lack tags, if one lacks `lacking`, one
+/// or two, at position `at`. The mentions are those of the mask's open UIDs, each of which answers
+/// until it becomes Quiet. Of the positions where that happens, up to `at`, the last one counts, or
+/// the last but one; 0 if there is none.
 fn end_of_enough(mentions: &[Mention], at: usize, lacking: usize) -> usize {
     let mut last = 0;
     let mut last_but_one = 0;

@@ -10,9 +10,8 @@ ghost use Rattle.vic_verdict.specs.inner.Gathered.{is_other, chosen, gathered};
 ghost use Rattle.vic_verdict.specs.Rising.{SameMembers};
 
 use crate::demands::{Found, Met};
-use crate::first_line::first_impossible_line;
-use crate::judging::{Verdict, judge_told};
-use crate::log_facts::{Facts, facts_of};
+use crate::facts::{Facts, facts_of};
+use crate::judging::{Verdict, first_impossible_line, judge_told};
 use std::alloc::{AllocError, Global};
 use vic_frame::Uid;
 use vic_log::{Log, PackedLine};

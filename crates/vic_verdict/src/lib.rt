@@ -8,27 +8,20 @@
 #![tactic(auto)]
 
 mod answering;
-mod closed;
 mod demands;
-mod differences;
 mod explanation;
-mod first_line;
+mod facts;
+mod findings;
 mod judging;
 pub mod laws;
-mod log_facts;
 mod mentions;
-mod missing;
-mod possible;
 mod stretches;
 mod sweep;
-mod uids;
 
 pub use demands::{Found, Met};
-pub use differences::{Differences, compare};
 pub use explanation::{Explanation, explain, explain_with};
-pub use first_line::first_impossible_line;
-pub use judging::{Verdict, judge, judge_told, judge_with};
-pub use log_facts::{Facts, facts_of};
-pub use missing::{keys_in_order, missing_from};
-pub use possible::{Before, Contradiction, open_and_met};
-pub use uids::{certain_uids, count_listed, listed_uids};
+pub use facts::{
+    Before, Contradiction, Facts, certain_uids, facts_of, keys_in_order, open_and_met,
+};
+pub use findings::{Differences, compare, count_listed, listed_uids, missing_from};
+pub use judging::{Verdict, first_impossible_line, judge, judge_told, judge_with};

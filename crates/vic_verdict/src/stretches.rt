@@ -11,10 +11,9 @@ ghost use Rattle.vic_log.specs.Order.{AreValid};
 ghost use Rattle.vic_verdict.specs.Possible.{IsContradictedAt};
 ghost use Rattle.vic_verdict.specs.inner.Stretches.{AddsReadSlot, HasGathered, IsSettled, mentions_at};
 
-use crate::closed::{LENGTHS, ReadSlot};
 use crate::demands::{Demand, Stretch, keep_stretch, push_demand};
 use crate::mentions::{Mention, push_mention};
-use crate::sweep::settle_stretch;
+use crate::sweep::{LENGTHS, ReadSlot, settle_stretch};
 use std::alloc::{AllocError, Global};
 use vic_frame::low_bits_first::{KeyBlock, key};
 use vic_frame::{Request, Uid};

@@ -1,27 +1,193 @@
-//! What the slots between two field cycles leave open, mask by mask.
+//! What the slots between two field cycles rule out, mask by mask: which keys they close.
 //!
 //! The UIDs that the lines there mention are kept in the order of their low bits, in which those of
 //! a mask are consecutive. Each mask is looked at once, however many slots it had: for each mention
 //! in it, and no other UID. A UID without a mention is ruled out if it lies in any of the masks.
 
-ghost use Rattle.std.specs.Prelude.{◌≡◌, ◌<◌, ℕ, nat_lt, ◌&&◌, true};
-ghost use Rattle.std.specs.Prelude.{Some, IfSome, IfOk, OnOk};
+ghost use Rattle.std.specs.Prelude.{◌≡◌, ℕ, ◌||◌, ◌&&◌, not, Some, IfSome, IfOk, OnOk, ◌<◌, nat_lt, true};
 ghost use Rattle.std.specs.List.{All, filter};
 ghost use Rattle.vic_frame.specs.LowBitsFirst.{mirror};
+ghost use Rattle.vic_tree.specs.Ranges.{is_between, is_outside};
 ghost use Rattle.vic_tree.specs.OpenSet.{SameUids};
-ghost use Rattle.vic_verdict.specs.declared.closed.ReadSlot.{ReadSlot as ReadSlotValue};
-ghost use Rattle.vic_tree.specs.Ranges.{is_outside};
+ghost use Rattle.vic_verdict.specs.inner.Closed.{Closes, closes_with, is_in_some};
+ghost use Rattle.vic_verdict.specs.inner.Sweep.{AreInOrder, HasRange, first_of, has_left, heard_of, last_of, len_of, slot_leaves, level_leaves, read_leaves, all_leave, mask_leaves, run_leaves, IsLevel, keep_all, all_allow_to, ArePutInOrder, AreUnsettled};
 ghost use Rattle.vic_verdict.specs.inner.Replies.{IsFirstQuietReply};
-ghost use Rattle.vic_verdict.specs.inner.Sweep.{slot_leaves, level_leaves, read_leaves, all_leave, mask_leaves, run_leaves, IsLevel, keep_all, all_allow_to, HasRange, AreInOrder, ArePutInOrder, AreUnsettled};
+ghost use Rattle.vic_verdict.specs.declared.sweep.ReadSlot.{ReadSlot as ReadSlotValue};
 
-use crate::closed::{ReadSlot, close_reads};
-use crate::mentions::{Mention, first_quiet_reply, start_near};
+use crate::mentions::{Mention, first_quiet_reply, mentions_between, start_near};
 use std::alloc::AllocError;
+use vic_frame::UID_BITS;
 use vic_tree::KeyRange;
 
-/// What the slots of one mask say together: the position of the first one, the key that it heard, if
-/// any, and the position of the first one that differs: it heard another key, or only one of the two
-/// heard one. So the key `heard` has to be Quiet before `other`, and any other key before `at`.
+/// More than the number of bits of any mask: it packs a mask's first key and its number of bits
+/// into one number.
+pub(crate) const LENGTHS: u64 = 256;
+
+/// A silent or an answered slot. A log may have a million of them, which are sorted, so its mask is
+/// one number.
+#[derive(Clone, Copy)]
+pub(crate) struct ReadSlot {
+    /// Its mask: the mask's first key, times `LENGTHS`, plus how many bits the mask has. In the
+    /// order of these numbers the slots of one mask are consecutive, with outer masks before inner
+    /// ones.
+    pub mask: u64,
+    /// The key that was heard; the first key of its mask if no tag was.
+    pub key: u64,
+    /// The position of its line.
+    pub at: u32,
+    pub is_heard: bool,
+}
+
+impl ReadSlot {
+    /// The first key of its mask.
+    pub(crate) fn first(&self) -> u64
+        ensures { result ≡ first_of self.now }
+    {
+        self.mask / LENGTHS
+    }
+
+    /// How many bits its mask has.
+    fn len(&self) -> u8
+        ensures { result ≡ len_of self.now }
+    {
+        (self.mask % LENGTHS) as u8
+    }
+
+    /// The first and the last key of its mask.
+    pub(crate) fn keys(&self) -> (u64, u64)
+        requires { HasRange self.now }
+        ensures { result ≡ (first_of self.now, last_of self.now) }
+    {
+        let first = self.first();
+        (first, first + ((1 << (UID_BITS - self.len())) - 1))
+    }
+
+    /// The key that was heard, if one was.
+    pub(crate) fn heard(&self) -> Option<u64>
+        ensures { result ≡ heard_of self.now }
+    {
+        if self.is_heard { Some(self.key) } else { None }
+    }
+}
+
+/// Settles what the silent and answered slots of some lines say, by the UIDs that these lines
+/// mention: closes the keys that are ruled out by the slots before the first reply of a Quiet UID.
+/// Returns the position of that reply, or `end`, after all these lines, if there is none.
+/// Afterwards the mentions are in order, and the slots from that position on are dropped.
+pub(crate) fn settle_stretch(
+    closed: &mut Vec<KeyRange>,
+    mentions: &mut Vec<Mention>,
+    reads: &mut Vec<ReadSlot>,
+    end: usize,
+) -> Result<usize, AllocError>
+    requires { AreUnsettled mentions.old.items reads.old.items end }
+    ensures cut { IfOk result (IsFirstQuietReply mentions.old.items end) }
+    ensures mentions { OnOk result (ArePutInOrder mentions.old.items mentions.new.items) }
+    ensures settled { IfOk result (λ cut. SameUids (is_outside closed.new.items)
+        (λ u. is_outside closed.old.items u
+        && all_allow_to mentions.old.items reads.old.items cut (mirror u))) }
+{
+    mentions.sort_unstable_by_key(|mention| mention.key);
+    let cut = first_quiet_reply(mentions, end);
+    cut_reads(reads, cut, end);
+    // Those of one mask are then consecutive, with outer masks before inner ones.
+    reads.sort_unstable_by_key(|read| read.mask);
+    rule_out_all(mentions, reads);
+    // at most one range for each slot, and one more for each mention: a mention divides a range in
+    // two
+    closed.reserve(reads.len().saturating_add(mentions.len()))?;
+    close_reads(closed, mentions, reads)?;
+    Ok(cut)
+}
+
+/// Drops the slots that don't come before a cut. All come before `end`: if that is the cut, all
+/// stay.
+fn cut_reads(reads: &mut Vec<ReadSlot>, cut: usize, end: usize)
+    requires { All (λ (s : ReadSlotValue). s.at < end) reads.old.items }
+    ensures { reads.new.items ≡ filter (λ (s : ReadSlotValue). nat_lt s.at cut) reads.old.items }
+{
+    if cut < end {
+        reads.retain(|read| (read.at as usize) < cut);
+    }
+}
+
+/// Rules out the mentions that some slot doesn't leave.
+fn rule_out_all(mentions: &mut [Mention], reads: &[ReadSlot])
+    requires order { AreInOrder mentions.old }
+    requires ranges { All HasRange reads.now }
+    ensures { mentions.new ≡ keep_all (all_leave reads.now) mentions.old }
+{
+    let mut run: Option<Run> = None;
+    for read in reads {
+        run = Some(pass_read(mentions, run, read));
+    }
+    if let Some(r) = run {
+        rule_out(mentions, r.near, r.first, r.last, &r.level);
+    }
+}
+
+/// Adds a slot to a run of the same mask; otherwise rules out the mentions that the run doesn't
+/// leave, and begins a new one.
+fn pass_read(mentions: &mut [Mention], run: Option<Run>, read: &ReadSlot) -> Run
+    requires order { AreInOrder mentions.old }
+    requires level { IfSome run (λ r. IsLevel r.level) }
+    requires range { HasRange read.now }
+    ensures order { AreInOrder mentions.new }
+    ensures level { IsLevel result.level }
+    ensures leaves { keep_all (run_leaves (Some result)) mentions.new
+        ≡ keep_all (λ k q. run_leaves run k q && read_leaves read.now k q) mentions.old }
+{
+    let (first, last) = read.keys();
+    let mut near = 0;
+    if let Some(r) = run {
+        if r.first == first && r.last == last {
+            return Run {
+                first: r.first,
+                last: r.last,
+                level: r.level.with(read.at as usize, read.heard()),
+                near: r.near,
+            };
+        }
+        near = rule_out(mentions, r.near, r.first, r.last, &r.level);
+    }
+    Run {
+        first,
+        last,
+        level: Level::of(read.at as usize, read.heard()),
+        near,
+    }
+}
+
+/// Slots of one mask, one after another.
+#[derive(Clone, Copy)]
+pub(crate) struct Run {
+    pub first: u64,
+    pub last: u64,
+    pub level: Level,
+    /// An index near that of its first mention.
+    pub near: usize,
+}
+
+/// Rules out those mentions from key `first` to `last` that a level doesn't leave. Returns the
+/// index of the first mention from key `first` on, near which that of the next mask may be.
+fn rule_out(mentions: &mut [Mention], near: usize, first: u64, last: u64, level: &Level) -> usize
+    requires { AreInOrder mentions.old }
+    ensures { mentions.new ≡ keep_all (mask_leaves first last level.now) mentions.old }
+{
+    let start = start_near(mentions, near, first);
+    for i in start..mentions.len() {
+        let mention = mentions[i];
+        if last < mention.key {
+            return start;
+        }
+        mentions[i].left = mention.left && level.leaves(mention.key, mention.quiet());
+    }
+    start
+}
+
+/// What the slots of one mask say together: the position of the first one, the key that it heard,
+/// if any, and the position of the first one that differs: it heard another key, or only one of the
+/// two heard one. So the key `heard` has to be Quiet before `other`, and any other key before `at`.
 #[derive(Clone, Copy)]
 pub(crate) struct Level {
     pub at: usize,
@@ -89,117 +255,96 @@ impl Level {
     }
 }
 
-/// Slots of one mask, one after another.
-#[derive(Clone, Copy)]
-pub(crate) struct Run {
-    pub first: u64,
-    pub last: u64,
-    pub level: Level,
-    /// An index near that of its first mention.
-    pub near: usize,
-}
-
-/// Rules out those mentions from key `first` to `last` that a level doesn't leave. Returns the
-/// index of the first mention from key `first` on, near which that of the next mask may be.
-fn rule_out(mentions: &mut [Mention], near: usize, first: u64, last: u64, level: &Level) -> usize
-    requires { AreInOrder mentions.old }
-    ensures { mentions.new ≡ keep_all (mask_leaves first last level.now) mentions.old }
-{
-    let start = start_near(mentions, near, first);
-    for i in start..mentions.len() {
-        let mention = mentions[i];
-        if last < mention.key {
-            return start;
-        }
-        mentions[i].left = mention.left && level.leaves(mention.key, mention.quiet());
-    }
-    start
-}
-
-/// Adds a slot to a run of the same mask; otherwise rules out the mentions that the run doesn't
-/// leave, and begins a new one.
-fn pass_read(mentions: &mut [Mention], run: Option<Run>, read: &ReadSlot) -> Run
-    requires order { AreInOrder mentions.old }
-    requires level { IfSome run (λ r. IsLevel r.level) }
-    requires range { HasRange read.now }
-    ensures order { AreInOrder mentions.new }
-    ensures level { IsLevel result.level }
-    ensures leaves { keep_all (run_leaves (Some result)) mentions.new
-        ≡ keep_all (λ k q. run_leaves run k q && read_leaves read.now k q) mentions.old }
-{
-    let (first, last) = read.keys();
-    let mut near = 0;
-    if let Some(r) = run {
-        if r.first == first && r.last == last {
-            return Run {
-                first: r.first,
-                last: r.last,
-                level: r.level.with(read.at as usize, read.heard()),
-                near: r.near,
-            };
-        }
-        near = rule_out(mentions, r.near, r.first, r.last, &r.level);
-    }
-    Run {
-        first,
-        last,
-        level: Level::of(read.at as usize, read.heard()),
-        near,
-    }
-}
-
-/// Rules out the mentions that some slot doesn't leave.
-fn rule_out_all(mentions: &mut [Mention], reads: &[ReadSlot])
-    requires order { AreInOrder mentions.old }
-    requires ranges { All HasRange reads.now }
-    ensures { mentions.new ≡ keep_all (all_leave reads.now) mentions.old }
-{
-    let mut run: Option<Run> = None;
-    for read in reads {
-        run = Some(pass_read(mentions, run, read));
-    }
-    if let Some(r) = run {
-        rule_out(mentions, r.near, r.first, r.last, &r.level);
-    }
-}
-
-/// Drops the slots that don't come before a cut. All come before `end`: if that is the cut, all
-/// stay.
-fn cut_reads(reads: &mut Vec<ReadSlot>, cut: usize, end: usize)
-    requires { All (λ (s : ReadSlotValue). s.at < end) reads.old.items }
-    ensures { reads.new.items ≡ filter (λ (s : ReadSlotValue). nat_lt s.at cut) reads.old.items }
-{
-    if cut < end {
-        reads.retain(|read| (read.at as usize) < cut);
-    }
-}
-
-/// Settles what the silent and answered slots of some lines say, by the UIDs that these lines
-/// mention: closes the keys that are ruled out by the slots before the first reply of a Quiet UID.
-/// Returns the position of that reply, or `end`, after all these lines, if there is none.
-/// Afterwards the mentions are in order, and the slots from that position on are dropped.
-pub(crate) fn settle_stretch(
+/// Closes the keys of the masks of some slots, except those of mentions that are left. If the slots
+/// are in order, masks that adjoin or lie in one another are closed as one range.
+pub(crate) fn close_reads(
     closed: &mut Vec<KeyRange>,
-    mentions: &mut Vec<Mention>,
-    reads: &mut Vec<ReadSlot>,
-    end: usize,
-) -> Result<usize, AllocError>
-    requires { AreUnsettled mentions.old.items reads.old.items end }
-    ensures cut { IfOk result (IsFirstQuietReply mentions.old.items end) }
-    ensures mentions { OnOk result (ArePutInOrder mentions.old.items mentions.new.items) }
-    ensures settled { IfOk result (λ cut. SameUids (is_outside closed.new.items)
-        (λ u. is_outside closed.old.items u
-        && all_allow_to mentions.old.items reads.old.items cut (mirror u))) }
+    mentions: &[Mention],
+    reads: &[ReadSlot],
+) -> Result<(), AllocError>
+    requires order { AreInOrder mentions.now }
+    requires ranges { All HasRange reads.now }
+    ensures { OnOk result (Closes mentions.now (is_in_some reads.now)
+        closed.old.items closed.new.items) }
 {
-    mentions.sort_unstable_by_key(|mention| mention.key);
-    let cut = first_quiet_reply(mentions, end);
-    cut_reads(reads, cut, end);
-    // Those of one mask are then consecutive, with outer masks before inner ones.
-    reads.sort_unstable_by_key(|read| read.mask);
-    rule_out_all(mentions, reads);
-    // at most one range for each slot, and one more for each mention: a mention divides a range in
-    // two
-    closed.reserve(reads.len().saturating_add(mentions.len()))?;
-    close_reads(closed, mentions, reads)?;
-    Ok(cut)
+    let mut range: Option<KeyRange> = None;
+    let mut near = 0;
+    for read in reads {
+        let (first, last) = read.keys();
+        let keys = KeyRange::new(first, last);
+        range = Some(pass_keys(closed, mentions, &mut near, range, keys)?);
+    }
+    if let Some(range) = range {
+        close_between(closed, mentions, near, range)?;
+    }
+    Ok(())
+}
+
+/// Adds keys to the range before them if they adjoin it or lie in it; otherwise closes that range,
+/// if there is one. Returns the range to close next. `near` is an index near that of its first
+/// mention.
+fn pass_keys(
+    closed: &mut Vec<KeyRange>,
+    mentions: &[Mention],
+    near: &mut usize,
+    range: Option<KeyRange>,
+    keys: KeyRange,
+) -> Result<KeyRange, AllocError>
+    requires { AreInOrder mentions.now }
+    ensures { IfOk result (λ r. (k : ℕ) → closes_with mentions.now closed.new.items (Some r) k
+        ≡ (closes_with mentions.now closed.old.items range k
+        || (is_between keys.0 keys.1 k && not (has_left mentions.now k)))) }
+{
+    let Some(range) = range else {
+        return Ok(keys);
+    };
+    if let Some(wider) = joined(range, keys) {
+        return Ok(wider);
+    }
+    *near = close_between(closed, mentions, *near, range)?;
+    Ok(keys)
+}
+
+/// Two ranges as one, if the first begins no later than the second and no key is between them.
+fn joined(range: KeyRange, next: KeyRange) -> Option<KeyRange>
+    ensures { IfSome result (λ r. (k : ℕ) → is_between r.0 r.1 k
+        ≡ (is_between range.0 range.1 k || is_between next.0 next.1 k)) }
+{
+    if range.first() <= next.first() && next.first() <= range.last() + 1 {
+        Some(KeyRange::new(range.first(), range.last().max(next.last())))
+    } else {
+        None
+    }
+}
+
+/// Closes the keys of a range, except those of mentions that are left. The search for its first
+/// mention begins near index `near`. Returns the index after its mentions, near which those of the
+/// next range may be.
+fn close_between(
+    closed: &mut Vec<KeyRange>,
+    mentions: &[Mention],
+    near: usize,
+    range: KeyRange,
+) -> Result<usize, AllocError>
+    requires { AreInOrder mentions.now }
+    ensures { OnOk result (Closes mentions.now (is_between range.0 range.1)
+        closed.old.items closed.new.items) }
+{
+    let first = range.first();
+    let last = range.last();
+    let start = start_near(mentions, near, first);
+    let inside = mentions_between(mentions, start, first, last);
+    let mut from = first;
+    for mention in inside {
+        if mention.left {
+            if from < mention.key {
+                closed.push(KeyRange::new(from, mention.key - 1))?;
+            }
+            from = mention.key + 1;
+        }
+    }
+    if from <= last {
+        closed.push(KeyRange::new(from, last))?;
+    }
+    Ok(start.saturating_add(inside.len()))
 }

@@ -2,7 +2,7 @@
 use Rattle.std.specs.Prelude.{◌≡◌, ℕ, Bool, false, not, Option, Some, None, ◌&&◌, ◌||◌, List}
 use Rattle.std.specs.List.{list_any}
 use Rattle.vic_tree.specs.Ranges.{in_ranges, is_between}
-use Rattle.vic_verdict.specs.declared.closed.ReadSlot.{ReadSlot}
+use Rattle.vic_verdict.specs.declared.sweep.ReadSlot.{ReadSlot}
 use Rattle.vic_verdict.specs.declared.mentions.Mention.{Mention}
 use Rattle.vic_verdict.specs.inner.Sweep.{is_in, has_left}
 

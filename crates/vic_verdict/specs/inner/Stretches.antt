@@ -20,7 +20,7 @@ use Rattle.vic_verdict.specs.Possible.{IsContradictedAt}
 use Rattle.vic_verdict.specs.inner.Possible.{rules_out}
 use Rattle.vic_verdict.specs.inner.Replies.{RepliesAnswer}
 use Rattle.vic_verdict.specs.declared.mentions.Mention.{Mention}
-use Rattle.vic_verdict.specs.declared.closed.ReadSlot.{ReadSlot}
+use Rattle.vic_verdict.specs.declared.sweep.ReadSlot.{ReadSlot}
 use Rattle.vic_verdict.specs.declared.stretches.Settled.{Settled}
 use Rattle.vic_verdict.specs.declared.demands.Demand.{Demand}
 use Rattle.vic_verdict.specs.inner.Asked.{AreAsked, AreKept}

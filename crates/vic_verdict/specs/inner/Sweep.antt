@@ -4,12 +4,12 @@ use Rattle.std.specs.Prelude.{◌≡◌, ℕ, ◌+◌, ◌-◌, ◌/◌, ◌%◌
 use Rattle.std.specs.List.Sorted.{IsNonDecreasingBy}
 use Rattle.std.specs.List.{list_all, list_any, All}
 use Rattle.vic_frame.specs.declared.uid.TheConstants.{UID_BITS}
-use Rattle.vic_verdict.specs.declared.closed.TheConstants.{LENGTHS}
+use Rattle.vic_verdict.specs.declared.sweep.TheConstants.{LENGTHS}
 use Rattle.vic_verdict.specs.declared.mentions.TheConstants.{NEVER}
 use Rattle.vic_frame.specs.LowBitsFirst.{IsKey}
 use Rattle.vic_tree.specs.Ranges.{IsKeyRange, is_between}
 use Rattle.vic_verdict.specs.declared.mentions.Mention.{Mention}
-use Rattle.vic_verdict.specs.declared.closed.ReadSlot.{ReadSlot}
+use Rattle.vic_verdict.specs.declared.sweep.ReadSlot.{ReadSlot}
 use Rattle.vic_verdict.specs.declared.sweep.Level.{Level}
 use Rattle.vic_verdict.specs.declared.sweep.Run.{Run}
 

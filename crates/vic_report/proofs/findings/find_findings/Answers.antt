@@ -4,7 +4,7 @@ use Rattle.vic_frame.specs.Uids.{has}
 use Rattle.vic_tree.specs.OpenSet.{has_key, without_keys}
 use Rattle.vic_tree.specs.Ranges.{is_open_in}
 use Rattle.vic_log.specs.Order.{entries, listed}
-use Rattle.vic_verdict.specs.declared.differences.Differences.{Differences}
+use Rattle.vic_verdict.specs.declared.findings.Differences.{Differences}
 use Rattle.vic_verdict.specs.Differences.{AreDifferences, IsLeftOpen}
 use Rattle.vic_verdict.specs.Possible.{IsPossibleUid, IsCertainUid}
 use Rattle.vic_verdict.specs.Rising.{IsFailing, IsListOf}

@@ -1,0 +1,11 @@
+use Rattle.std.proofs.Common.{◌≡◌, ℕ, true, take}
+use Rattle.vic_verdict.proofs.Words.{IsUid, has, has_key}
+use Rattle.vic_tree.specs.OpenSet.{AreKeys}
+use Rattle.vic_verdict.proofs.facts.keys_in_order.Given as goal
+
+abbrev pub invariant-loop-uid : goal.invariant-loop-uid
+invariant-loop-uid l = record {
+  keys : AreKeys l.keys.items;
+  members : (u : ℕ) → IsUid u → has_key l.keys.items u ≡ has (take l.uid-index l.uids) u;
+  are_uids : (u : ℕ) → has (take l.uid-index l.uids) u ≡ true → IsUid u;
+}

@@ -1,0 +1,6 @@
+use Rattle.std.proofs.Common.{◌≡◌, ℕ, take, true}
+use Rattle.vic_verdict.proofs.Words.{IsUid, has, entries, listed}
+use Rattle.vic_verdict.proofs.findings.listed_uids.Given as goal
+
+abbrev pub invariant-loop-line : goal.invariant-loop-line
+invariant-loop-line l = record { items : l.uids.items ≡ listed (entries (take l.line-index l.lines)); uids : (u : ℕ) → has l.uids.items u ≡ true → IsUid u }

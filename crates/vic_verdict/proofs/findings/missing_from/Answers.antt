@@ -1,0 +1,36 @@
+use Rattle.std.proofs.Common.{ℕ, Bool, not, cond, take, ap, sym, ◌∙◌, [], ◌∷◌, ◌++◌, arith, subst, filter, take_all}
+use Rattle.vic_verdict.proofs.Words.{get_or_default, has, AreBelow}
+use Rattle.std.proofs.lemmas.List.Elements.{filter_more}
+use Rattle.vic_verdict.proofs.Failing.{failing_list}
+use Rattle.vic_verdict.proofs.Merging.{below_next}
+use Rattle.vic_verdict.proofs.findings.missing_from.Goals as goal
+
+pub place_from-next-requires-clause-below : goal.place_from-next-requires-clause-below
+place_from-next-requires-clause-below c =
+    let us = c.args.uids.now in
+    let i = c.loop-uid.uid-index in
+    let u = c.uid-item.result in
+    subst (AreBelow c.args.others.now c.loop-uid.next) (get_or_default us i 0 u c.loop-uid-test.true ∙ sym c.uid-item.is) (c.loop-uid.invariant.below c.loop-uid-test.true)
+
+pub loop-uid-preserved : goal.loop-uid-preserved
+loop-uid-preserved c =
+    let us = c.args.uids.now in
+    let vs = c.args.others.now in
+    let i = c.loop-uid.uid-index in
+    let u = c.uid-item.result in
+    let p : ℕ → Bool = λ v. not (has vs v) in
+    record {
+      within = c.place_from-next.ensures.within;
+      below = λ short. below_next us vs i c.place_from-next.result u c.requires.rising short c.uid-item.is c.place_from-next.ensures.below;
+      items =
+          c.in_ok-push_if.ensures
+          ∙ (ap (λ xs. xs ++ cond (not c.is_at.result) (u ∷ []) []) c.loop-uid.invariant.items
+          ∙ (ap (λ b. filter p (take i us) ++ cond (not b) (u ∷ []) []) c.is_at.ensures
+          ∙ (ap (λ v. filter p (take i us) ++ cond (p v) (v ∷ []) []) c.uid-item.is ∙ sym (filter_more p us i u c.loop-uid-test.true))));
+    }
+
+pub returns : goal.returns
+returns c =
+    let vs = c.args.others.now in
+    failing_list (has vs) c.args.uids.now c.loop-uid.missing.items c.requires.rising
+    (c.loop-uid.invariant.items ∙ ap (filter (λ v. not (has vs v))) (take_all c.loop-uid.uid-index c.args.uids.now (let end = c.loop-uid-test.false in omega arith)))

@@ -1,0 +1,9 @@
+use Rattle.std.proofs.Common.{◌≡◌, ℕ, ◌||◌, ◌&&◌, not, take}
+use Rattle.vic_verdict.proofs.Words.{in_ranges, is_in_some, has_left}
+use Rattle.vic_verdict.specs.inner.Closed.{closes_with}
+use Rattle.vic_verdict.proofs.sweep.close_reads.Given as goal
+
+abbrev pub invariant-loop-read : goal.invariant-loop-read
+invariant-loop-read l =
+    (k : ℕ) → closes_with l.mentions l.closed.items l.range k
+    ≡ (in_ranges l.fn.closed.items k || (is_in_some (take l.read-index l.reads) k && not (has_left l.mentions k)))

@@ -1,0 +1,235 @@
+//! What a possible log tells of the tags: which may be there, and which must; or up to which line
+//! no population could have produced it.
+
+ghost use Rattle.std.specs.Prelude.{IfOk, MatchResult, ◌≡◌, ℕ, ◌≤◌, List, OnOk, length, true, ◌<◌};
+ghost use Rattle.std.specs.List.Sorted.{IsStrictlyIncreasing};
+ghost use Rattle.std.specs.List.{list_all};
+ghost use Rattle.vic_frame.specs.Uids.{has};
+ghost use Rattle.vic_log.specs.Order.{entries};
+ghost use Rattle.vic_log.specs.declared.entry.Entry.{Entry as EntryValue};
+ghost use Rattle.vic_log.specs.Slots.{slots_of, is_open, IsForcedBy};
+ghost use Rattle.vic_tree.specs.OpenSet.{SameUids};
+ghost use Rattle.vic_verdict.specs.Facts.{AreFactsOf};
+ghost use Rattle.vic_verdict.specs.LogLines.{AreLogLines};
+ghost use Rattle.vic_verdict.specs.Possible.{IsContradiction, IsPossible};
+ghost use Rattle.vic_verdict.specs.Demands.{IsMet, IsMetFor, HasHeard};
+ghost use Rattle.vic_verdict.specs.Rising.{Adds, IsListOf};
+ghost use Rattle.vic_verdict.specs.Keys.{AreKeysOf};
+ghost use Rattle.vic_verdict.specs.inner.Possible.{rules_out, NoneRulesOutAfter};
+ghost use Rattle.vic_verdict.specs.inner.Replies.{RepliesAnswer};
+ghost use Rattle.vic_verdict.specs.inner.Asked.{AreKept};
+
+use crate::demands::{Met, Stretch, meet_stretches};
+use crate::stretches::{Settled, settle};
+use std::alloc::{AllocError, Global};
+use vic_frame::Uid;
+use vic_frame::low_bits_first::key;
+use vic_log::{Entry, PackedLine};
+use vic_tree::OpenSet;
+use vic_tree::outside::uids_outside;
+use vic_tree::rising::put_in_order;
+
+/// What a possible log tells of the tags: which may be there, and which must.
+#[derive(Drop)]
+pub struct Facts<S: OpenSet> {
+    /// The UIDs that no slot rules out.
+    pub open: S,
+    /// What meets the slots in which tags answered.
+    pub met: Met,
+    /// The UIDs that every population has that could have given the log, in rising order.
+    pub certain: Vec<Uid>,
+}
+
+/// What the lines of a log tell, if some population could have given them; else up to which place
+/// none could.
+pub fn facts_of<S: OpenSet>(
+    alloc: Global,
+    lines: &[PackedLine],
+) -> Result<Result<Facts<S>, Contradiction>, AllocError>
+    requires { AreLogLines lines.now }
+    ensures { IfOk result (λ r. MatchResult r
+        (λ f. AreFactsOf (entries lines.now) (S.is_open f.«open») f.met f.certain.items)
+        (IsContradiction (entries lines.now))) }
+{
+    match open_and_met::<S>(alloc, lines)? {
+        Ok((open, met)) => {
+            let certain = certain_uids(alloc, &met)?;
+            Ok(Ok(Facts { open, met, certain }))
+        }
+        Err(contradiction) => Ok(Err(contradiction)),
+    }
+}
+
+/// The UIDs that the slots of a possible log force, in rising order: those that were heard, and
+/// those that meet a slot, if no more can meet it than it requires.
+pub fn certain_uids(alloc: Global, met: &Met) -> Result<Vec<Uid>, AllocError>
+    ensures rising { IfOk result (λ v. IsStrictlyIncreasing v.items) }
+    ensures certain { IfOk result (λ v. (es : List EntryValue) → IsMet es met.now
+        → IsListOf (IsForcedBy (is_open (slots_of es)) (slots_of es)) v.items) }
+    ensures met { IfOk result (λ v. (u : ℕ) → has v.items u ≡ true → IsMetFor met.now u) }
+{
+    let mut certain = Vec::from_slice(alloc, &met.heard)?;
+    for found in &met.found {
+        add_if_exactly(&mut certain, &found.uids, found.need)?;
+    }
+    put_in_order(&mut certain);
+    Ok(certain)
+}
+
+/// Adds UIDs if there are exactly this many.
+fn add_if_exactly(certain: &mut Vec<Uid>, uids: &[Uid], count: usize) -> Result<(), AllocError>
+    ensures { OnOk result (Adds (λ u. (length uids.now ≡ count) × (has uids.now u ≡ true))
+        certain.old.items certain.new.items) }
+{
+    if uids.len() == count {
+        certain.extend_from_slice(uids)?;
+    }
+    Ok(())
+}
+
+/// The position of a line of a log, counted from 0, up to which no population could have produced
+/// it. There may be earlier such positions.
+#[derive(Clone, Copy)]
+pub struct Contradiction {
+    pub at: usize,
+    pub before: Before,
+}
+
+/// The lines before a contradiction.
+#[derive(Clone, Copy)]
+pub enum Before {
+    /// Some population could have produced them: it is the first contradiction.
+    ArePossible,
+    /// Some population seems to fit them: no answer rests on it.
+    SeemPossible,
+    /// Nothing is known about them.
+    AreUnknown,
+}
+
+/// The UIDs that a log leaves open, and what they meet, if some population could have produced it.
+pub fn open_and_met<S: OpenSet>(
+    alloc: Global,
+    lines: &[PackedLine],
+) -> Result<Result<(S, Met), Contradiction>, AllocError>
+    requires { AreLogLines lines.now }
+    ensures { IfOk result (λ r. MatchResult r
+        (λ p. IsPossible (entries lines.now)
+        × SameUids (S.is_open p.0) (is_open (slots_of (entries lines.now)))
+        × IsMet (entries lines.now) p.1)
+        (IsContradiction (entries lines.now))) }
+{
+    let Settled {
+        closed,
+        stretches,
+        cut,
+    } = settle(alloc, lines)?;
+    let set = S::without(alloc, closed)?;
+    match meet_all(alloc, &set, &lines[..cut], &stretches)? {
+        Ok(met) => {
+            if cut < lines.len() {
+                return Ok(Err(Contradiction {
+                    at: cut,
+                    before: Before::ArePossible,
+                }));
+            }
+            Ok(Ok((set, met)))
+        }
+        Err(contradiction) => Ok(Err(contradiction)),
+    }
+}
+
+/// What its stretches require, met by the UIDs that a log leaves open, if some population could
+/// have produced it. Each UID that it heard is known to be Ready there, and in the mask of its
+/// slot.
+fn meet_all<S: OpenSet>(
+    alloc: Global,
+    set: &S,
+    lines: &[PackedLine],
+    stretches: &[Stretch],
+) -> Result<Result<Met, Contradiction>, AllocError>
+    requires lines { AreLogLines lines.now }
+    requires kept { AreKept (entries lines.now) (length (entries lines.now)) stretches.now }
+    requires answer { RepliesAnswer (entries lines.now) }
+    requires open { SameUids (S.is_open set.now) (is_open (slots_of (entries lines.now))) }
+    ensures { IfOk result (λ r. MatchResult r
+        (λ met. IsPossible (entries lines.now) × IsMet (entries lines.now) met)
+        (IsContradiction (entries lines.now))) }
+{
+    let heard = heard_uids(alloc, lines)?;
+    if !are_open(alloc, set, &heard)? {
+        return Ok(Err(Contradiction {
+            at: last_ruling(lines, 0),
+            before: Before::AreUnknown,
+        }));
+    }
+    match meet_stretches(alloc, set, stretches)? {
+        Ok(found) => Ok(Ok(Met { heard, found })),
+        Err(unmet) => {
+            let at = last_ruling(lines, unmet);
+            let before = if at == unmet {
+                Before::SeemPossible
+            } else {
+                Before::AreUnknown
+            };
+            Ok(Err(Contradiction { at, before }))
+        }
+    }
+}
+
+/// The UIDs that the slots of a log heard.
+fn heard_uids(alloc: Global, lines: &[PackedLine]) -> Result<Vec<Uid>, AllocError>
+    ensures { IfOk result (λ v. HasHeard (entries lines.now) (length lines.now) v.items) }
+{
+    let mut heard = Vec::new(alloc);
+    for line in lines {
+        if let Entry::Heard(response) = line.item() {
+            heard.push(response.uid())?;
+        }
+    }
+    Ok(heard)
+}
+
+/// Whether all UIDs of a list are in a set.
+pub(crate) fn are_open<S: OpenSet>(alloc: Global, set: &S, uids: &[Uid]) -> Result<bool, AllocError>
+    ensures { IfOk result (λ yes. yes ≡ list_all (S.is_open set.now) uids.now) }
+{
+    let keys = keys_in_order(alloc, uids)?;
+    let outside = uids_outside(alloc, set, &keys)?;
+    Ok(outside.is_empty())
+}
+
+/// The keys of UIDs, in order.
+pub fn keys_in_order(alloc: Global, uids: &[Uid]) -> Result<Vec<u64>, AllocError>
+    ensures { IfOk result (λ keys. AreKeysOf keys.items uids.now) }
+{
+    let mut keys = Vec::with_capacity(alloc, uids.len())?;
+    for uid in uids {
+        keys.push(key(*uid))?;
+    }
+    keys.sort_unstable();
+    Ok(keys)
+}
+
+/// A position, from a given one on, after which no line rules UIDs out, so that the open UIDs stay
+/// the same. It is the first such position; no answer rests on that.
+fn last_ruling(lines: &[PackedLine], from: usize) -> usize
+    requires { from < length lines.now }
+    ensures from { from ≤ result }
+    ensures within { result < length lines.now }
+    ensures after { NoneRulesOutAfter (entries lines.now) result }
+{
+    let mut last = from;
+    for index in from + 1..lines.len() {
+        if rules_out(&lines[index].item()) {
+            last = index;
+        }
+    }
+    last
+}
+
+/// Whether an entry may rule UIDs out.
+fn rules_out(entry: &Entry) -> bool
+    ensures { result ≡ rules_out entry.now }
+{
+    matches!(entry, Entry::Silent | Entry::Heard(_))
+}

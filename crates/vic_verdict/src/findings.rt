@@ -1,0 +1,195 @@
+//! How a list differs from what a log tells. UIDs are looked for in the order of their keys, so
+//! that a set in that order is walked once.
+
+ghost use Rattle.std.specs.Prelude.{◌≡◌, ◌++◌, ℕ, false, IfOk, List, ◌≤◌, [], ◌∷◌, if◌then◌else◌, OnOk, length, true};
+ghost use Rattle.std.specs.List.Sorted.{IsNonDecreasing, IsStrictlyIncreasing};
+ghost use Rattle.vic_frame.specs.Uids.{has, IsUid};
+ghost use Rattle.vic_log.specs.Order.{entries, listed, IsRisingFrom};
+ghost use Rattle.vic_tree.specs.OpenSet.{AreKeys};
+ghost use Rattle.vic_verdict.specs.Differences.{AreDifferences};
+ghost use Rattle.vic_verdict.specs.Keys.{AreKeysOf};
+ghost use Rattle.vic_verdict.specs.Rising.{IsFailing, IsListOf, SameMembers};
+ghost use Rattle.vic_verdict.specs.inner.Merging.{AreBelow, IsPlaceOf};
+
+use crate::facts::keys_in_order;
+use std::alloc::{AllocError, Global};
+use vic_frame::{Mask, Uid};
+use vic_log::{Entry, PackedLine};
+use vic_tree::OpenSet;
+use vic_tree::outside::uids_outside;
+use vic_tree::rising::put_in_order;
+
+/// How a list of UIDs differs from what a log says. The other findings, the listed UIDs that may be
+/// there or not, follow from these: they are neither certain nor absent.
+#[derive(Drop)]
+pub struct Differences {
+    /// The listed UIDs that can't be there, in rising order.
+    pub absent: Vec<Uid>,
+    /// The UIDs that must be there and aren't listed, in rising order.
+    pub unlisted: Vec<Uid>,
+    /// The first mask by length, then by value, of at most 56 bits, all of whose UIDs may be there
+    /// or not and aren't listed.
+    pub unsettled: Option<Mask>,
+}
+
+/// How a list differs from the UIDs that may be there, which are open or certain, and from those
+/// that must be there, which are certain.
+pub fn compare<S: OpenSet>(
+    alloc: Global,
+    set: S,
+    certain: &[Uid],
+    listed: &[Uid],
+) -> Result<Differences, AllocError>
+    requires certain { IsStrictlyIncreasing certain.now }
+    requires listed { IsStrictlyIncreasing listed.now }
+    ensures { IfOk result (AreDifferences (S.is_open set) certain.now listed.now) }
+{
+    let unlisted = missing_from(alloc, certain, listed)?;
+    let keys = keys_of_both(alloc, listed, &unlisted)?;
+    let absent = neither_of(alloc, &set, certain, &keys)?;
+    let unsettled = set.widest_besides(&keys)?;
+    Ok(Differences {
+        absent,
+        unlisted,
+        unsettled,
+    })
+}
+
+/// The UIDs at some keys, which come in order, that are neither in a set nor in a list, in rising
+/// order.
+pub(crate) fn neither_of<S: OpenSet>(
+    alloc: Global,
+    set: &S,
+    certain: &[Uid],
+    keys: &[u64],
+) -> Result<Vec<Uid>, AllocError>
+    requires certain { IsStrictlyIncreasing certain.now }
+    requires order { IsNonDecreasing keys.now }
+    requires keys { AreKeys keys.now }
+    ensures { IfOk result (λ v. (us : List ℕ) → AreKeysOf keys.now us
+        → IsListOf (λ u. IsFailing us (S.is_open set.now) u × (has certain.now u ≡ false))
+        v.items) }
+{
+    let outside = uids_outside(alloc, set, keys)?;
+    missing_from(alloc, &outside, certain)
+}
+
+/// The keys of the UIDs of two lists, in order.
+fn keys_of_both(alloc: Global, uids: &[Uid], others: &[Uid]) -> Result<Vec<u64>, AllocError>
+    ensures { IfOk result (λ keys. AreKeysOf keys.items (uids.now ++ others.now)) }
+{
+    if others.is_empty() {
+        return keys_in_order(alloc, uids);
+    }
+    let mut both = Vec::from_slice(alloc, uids)?;
+    both.extend_from_slice(others)?;
+    keys_in_order(alloc, &both)
+}
+
+/// Those of a rising list that aren't in another, in rising order.
+pub fn missing_from(alloc: Global, uids: &[Uid], others: &[Uid]) -> Result<Vec<Uid>, AllocError>
+    requires rising { IsStrictlyIncreasing uids.now }
+    requires others { IsStrictlyIncreasing others.now }
+    ensures { IfOk result (λ v. IsListOf (IsFailing uids.now (has others.now)) v.items) }
+{
+    let mut missing = Vec::new(alloc);
+    let mut next = 0;
+    for uid in uids {
+        next = place_from(others, next, *uid);
+        push_if(&mut missing, *uid, !is_at(others, next, *uid))?;
+    }
+    Ok(missing)
+}
+
+/// The index of a UID in a rising list, from an index on that isn't after it.
+fn place_from(uids: &[Uid], start: usize, uid: Uid) -> usize
+    requires start { start ≤ length uids.now }
+    requires below { AreBelow uids.now start uid }
+    ensures { IsPlaceOf uids.now result uid }
+{
+    let mut place = start;
+    while place < uids.len() && uids[place] < uid {
+        place += 1;
+    }
+    place
+}
+
+/// Whether a rising list has a UID, by its index there.
+fn is_at(uids: &[Uid], place: usize, uid: Uid) -> bool
+    requires rising { IsStrictlyIncreasing uids.now }
+    requires place { IsPlaceOf uids.now place uid }
+    ensures { result ≡ has uids.now uid }
+{
+    if place < uids.len() {
+        return uids[place] == uid;
+    }
+    false
+}
+
+/// Adds a UID, or doesn't.
+fn push_if(uids: &mut Vec<Uid>, uid: Uid, yes: bool) -> Result<(), AllocError>
+    ensures { OnOk result (uids.new.items ≡ uids.old.items ++ (if yes then uid ∷ [] else [])) }
+{
+    if yes {
+        uids.push(uid)?;
+    }
+    Ok(())
+}
+
+/// The UIDs that a log lists, in rising order.
+pub fn listed_uids(alloc: Global, lines: &[PackedLine]) -> Result<Vec<Uid>, AllocError>
+    ensures rising { IfOk result (λ v. IsStrictlyIncreasing v.items) }
+    ensures members { IfOk result (λ v. SameMembers v.items (listed (entries lines.now))) }
+    ensures uids { IfOk result (λ v. (u : ℕ) → has v.items u ≡ true → IsUid u) }
+{
+    let mut uids = Vec::new(alloc);
+    for line in lines {
+        pass_listed(&mut uids, &line.item())?;
+    }
+    put_in_order(&mut uids);
+    Ok(uids)
+}
+
+/// Adds the UID that an entry lists.
+fn pass_listed(uids: &mut Vec<Uid>, entry: &Entry) -> Result<(), AllocError>
+    ensures items { OnOk result (uids.new.items ≡ uids.old.items ++ listed (entry.now ∷ [])) }
+    ensures uids { OnOk result ((u : ℕ)
+        → has (listed (entry.now ∷ [])) u ≡ true → IsUid u) }
+{
+    if let Entry::Listed(uid) = *entry {
+        // for the clause `uids`: its number is that of a UID
+        let _number = uid.number();
+        uids.push(uid)?;
+    }
+    Ok(())
+}
+
+/// How many UIDs a log lists, none of them twice.
+pub fn count_listed(lines: &[PackedLine]) -> u32
+    requires { IsRisingFrom 0 lines.now }
+    ensures { result ≡ length (listed (entries lines.now)) }
+{
+    let mut count = 0;
+    for line in lines {
+        // bounds the count: the numbers of lines rise, and have 32 bits
+        let _number = line.number();
+        count += count_one(&line.item());
+    }
+    count
+}
+
+/// Whether an entry lists a UID, as a count.
+fn count_one(entry: &Entry) -> u32
+    ensures value { result ≡ length (listed (entry.now ∷ [])) }
+    ensures small { result ≤ 1 }
+{
+    match *entry {
+        Entry::Listed(_) => 1,
+        Entry::Sent(_)
+        | Entry::Silent
+        | Entry::Collision
+        | Entry::Heard(_)
+        | Entry::Garbled
+        | Entry::FieldCycle => 0,
+    }
+}
