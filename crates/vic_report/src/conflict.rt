@@ -23,9 +23,10 @@ use vic_verdict::{Contradiction, first_impossible_line, open_and_met};
 /// contradict each other.
 #[derive(Drop)]
 pub struct Conflict {
-    /// The number of the line.
+    /// The number of that first line.
     pub line: u32,
-    /// The numbers of the lines, in rising order; `line` is the last.
+    /// The numbers of the lines that contradict each other, in rising order; `line` is the last.
+    /// That none of them can be left out is only tested.
     pub lines: Vec<u32>,
     /// If `line` is a reply of a tag that is Quiet there, the number of the last Stay Quiet that
     /// silenced it.

@@ -45,7 +45,7 @@ impl FieldCursor {
         Ok(())
     }
 
-    /// Whether a tag with a UID answers in the slot that a slot line here is about.
+    /// Whether a tag with a UID answers in the slot at the cursor's position.
     pub(crate) fn answers(&self, uid: Uid) -> bool
         ensures { (es : List EntryValue) (i : ℕ) → AreValid es → IsFieldAt es i self.now
             → result ≡ answers_at es i uid }

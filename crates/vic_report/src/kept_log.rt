@@ -18,7 +18,7 @@ use vic_frame::{Mask, Request};
 use vic_log::{Entry, MAX_LINES, PackedLine, RoundCursor};
 
 /// The slot lines with some numbers. Each has a request of its own that asks for its mask, so there
-/// may be more lines than a text can have.
+/// may be up to twice as many lines as a text can have.
 pub(crate) fn kept_lines(
     alloc: Global,
     lines: &[PackedLine],

@@ -45,7 +45,7 @@ pub(crate) fn lines_of_absent(
     search_lines(alloc, lines, absent)
 }
 
-/// A guess at the first line that rules out each of some UIDs.
+/// For each of some UIDs, a guess at the first line that rules it out.
 fn guess_lines(
     alloc: Global,
     lines: &[PackedLine],
@@ -64,7 +64,7 @@ fn guess_lines(
     Ok(shown)
 }
 
-/// Whether each line rules out its UID. The lines come in order.
+/// Whether each line that is shown rules out its UID. Those lines come in order.
 fn are_ruled_out(
     alloc: Global,
     lines: &[PackedLine],
@@ -82,8 +82,8 @@ fn are_ruled_out(
     Ok(next == shown.len())
 }
 
-/// How many UIDs, from the first on, are ruled out by their lines after one more line; those before
-/// index `start` are.
+/// How many UIDs, from the first on, are known to be ruled out by their lines after one more line
+/// of the log. Those before index `start` were known before it.
 fn pass_ruled_out(
     cursor: &FieldCursor,
     line: &PackedLine,

@@ -80,7 +80,8 @@ fn push_reply(told: &mut Vec<ShownUid>, line: &PackedLine) -> Result<(), AllocEr
     Ok(())
 }
 
-/// The UIDs of slots that no other UIDs could have met, with their lines: by UID.
+/// The UIDs of slots that aren't replies, with their lines, where no further UIDs could have met
+/// the slot: by UID.
 fn told_by_others(
     alloc: Global,
     lines: &[PackedLine],

@@ -36,7 +36,7 @@ impl<'a> Model for Left<'a> {
 }
 
 impl<'a> Left<'a> {
-    /// Those of some ranges without the keys of a list.
+    /// The keys from key `from` on that are in `ranges` and not in `keys`.
     pub(crate) fn new(from: u64, ranges: &'a [KeyRange], keys: &'a [u64]) -> Left<'a>
         requires ranges { AreRanges ranges.now }
         requires keys { AreKeys keys.now }
@@ -46,7 +46,7 @@ impl<'a> Left<'a> {
         Left { from, ranges, keys }
     }
 
-    /// Takes out the first run of them.
+    /// Takes out their first run: consecutive keys, neither neighbour of which is left.
     pub(crate) fn next_run(&mut self) -> Option<KeyRange>
         ensures run { (p : ℕ → Bool) → PassFrom p self.old
             → IfSome result (λ r. IsFirstRun p self.old.0 r.0 r.1) }

@@ -24,10 +24,10 @@ use vic_frame::{Mask, UID_BITS};
 /// How many open masks are returned at most.
 pub const MAX_OPEN_MASKS: usize = 16;
 
-/// One more is kept, to show whether there are more.
+/// How many are kept: one more, to show whether there are more.
 const KEPT: usize = MAX_OPEN_MASKS + 1;
 
-/// Before the last one is dropped there is one more.
+/// How many there is room for: one more is put in order before the last one is dropped.
 const BUFFER: usize = KEPT + 1;
 
 /// The first of a set's open masks: the masks of at most 56 bits that lie entirely in the set, and
@@ -60,7 +60,7 @@ pub(crate) fn open_masks_besides(ranges: &[KeyRange], keys: &[u64]) -> OpenMasks
     given(&kept)
 }
 
-/// What is returned of the masks that were kept.
+/// The masks that were kept, up to the limit, and whether there are more.
 fn given(kept: &ArrayVec<Mask, BUFFER>) -> OpenMasks
     requires { length kept.now.items ≤ KEPT }
     ensures first { (set : ℕ → Bool) → AreFirst KEPT (IsOpenMask set) kept.now.items

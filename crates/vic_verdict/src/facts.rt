@@ -87,8 +87,8 @@ fn add_if_exactly(certain: &mut Vec<Uid>, uids: &[Uid], count: usize) -> Result<
     Ok(())
 }
 
-/// The position of a line of a log, counted from 0, up to which no population could have produced
-/// it. There may be earlier such positions.
+/// The position of a line, counted from 0: no population could have produced the lines of the log
+/// up to that one, itself included. There may be earlier such positions.
 #[derive(Clone, Copy)]
 pub struct Contradiction {
     pub at: usize,
@@ -100,7 +100,8 @@ pub struct Contradiction {
 pub enum Before {
     /// Some population could have produced them: it is the first contradiction.
     ArePossible,
-    /// Some population seems to fit them: no answer rests on it.
+    /// Some population seems to fit them: only where the search for the first impossible line
+    /// begins rests on it.
     SeemPossible,
     /// Nothing is known about them.
     AreUnknown,
@@ -126,6 +127,7 @@ pub fn open_and_met<S: OpenSet>(
     let set = S::without(alloc, closed)?;
     match meet_all(alloc, &set, &lines[..cut], &stretches)? {
         Ok(met) => {
+            // the line at the cut is impossible by itself
             if cut < lines.len() {
                 return Ok(Err(Contradiction {
                     at: cut,
@@ -211,7 +213,8 @@ pub fn keys_in_order(alloc: Global, uids: &[Uid]) -> Result<Vec<u64>, AllocError
 }
 
 /// A position, from a given one on, after which no line rules UIDs out, so that the open UIDs stay
-/// the same. It is the first such position; no answer rests on that.
+/// the same: up to a contradiction there, they are those by which it was found. It is the first
+/// such position; no answer rests on that.
 fn last_ruling(lines: &[PackedLine], from: usize) -> usize
     requires { from < length lines.now }
     ensures from { from ≤ result }

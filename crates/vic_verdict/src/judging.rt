@@ -92,8 +92,8 @@ fn judge_lines<S: OpenSet>(alloc: Global, lines: &[PackedLine]) -> Result<Verdic
     }
 }
 
-/// The verdict on a possible log, by the UIDs that it leaves open and those that are certain: the
-/// first finding. No later one is looked for.
+/// The verdict on a possible log, by what its facts tell, the UIDs that it leaves open and those
+/// that are certain: the first finding. No later one is looked for.
 pub fn judge_told<S: OpenSet>(
     alloc: Global,
     set: S,

@@ -23,8 +23,8 @@ use vic_tree::KeyRange;
 /// into one number.
 pub(crate) const LENGTHS: u64 = 256;
 
-/// A silent or an answered slot. A log may have a million of them, which are sorted, so its mask is
-/// one number.
+/// A slot that was silent, or in which one tag was heard. A log may have a million of them, which
+/// are sorted, so its mask is one number.
 #[derive(Clone, Copy)]
 pub(crate) struct ReadSlot {
     /// Its mask: the mask's first key, times `LENGTHS`, plus how many bits the mask has. In the
