@@ -1,15 +1,15 @@
 -- Lists that have all masks of a kind: in any order, then in order.
-use Rattle.std.proofs.Common.{◌≡◌, ◌⊎◌, ◌↔◌, inl, inr, Bool, true, List, [], ◌∷◌, Ordering, Less, Equal, Greater, is_eq, sym, ◌∙◌, arith}
+use Rattle.std.proofs.Common.{◌≡◌, ◌⊎◌, ◌↔◌, inl, inr, Bool, true, List, [], ◌∷◌, Ordering, Less, Equal, Greater, is_eq, sym, ◌∙◌, arith, All, AllPairs, Contains, IsPermutation, IsSorted}
+use Rattle.vic_tree.proofs.Words.{All-nil, BitMask}
 use Rattle.std.specs.Cmp.{IsEquivalence, IsTotalOrder}
-use Rattle.std.specs.List.{All, AllByRecursion, AllPairs, Contains, dedup}
-use Rattle.std.specs.List.Sorted.{IsPermutation, IsSorted, IsStrictlySortedBy}
+use Rattle.std.specs.List.{AllByRecursion, dedup}
+use Rattle.std.specs.List.Sorted.{IsStrictlySortedBy}
 use Rattle.std.specs.Ordering.{MatchOrdering, eq_by_cmp}
 use Rattle.std.proofs.lemmas.Cmp.{eq_by_cmp_equiv, nat_cmp_total, on_total, then_total}
-use Rattle.std.proofs.lemmas.List.Elements.{All-cons, All-nil, Contains-get_or}
+use Rattle.std.proofs.lemmas.List.Elements.{All-cons, Contains-get_or}
 use Rattle.std.proofs.lemmas.List.Filters.{All-dedup}
 use Rattle.std.proofs.lemmas.List.Kept.{AllPairs-cons, Contains-dedup, IsStrictlySortedBy-dedup}
 use Rattle.std.proofs.lemmas.List.Sorted.{All-permutation, Contains-permutation}
-use Rattle.vic_frame.specs.Masks.{BitMask}
 use Rattle.vic_tree.specs.inner.KeptMasks.{Adds}
 use Rattle.vic_tree.specs.OpenMasks.{AreAll, ComesBefore}
 use Rattle.vic_tree.proofs.FirstMasks.{compared, less_before, mask_cmp, or_both}

@@ -1,21 +1,15 @@
 -- Lists of masks in order, of which the last are left out.
-use Rattle.std.proofs.Common.{◌≡◌, ◌==◌, ◌↔◌, Bool, true, min, ℕ, suc, zero, ◌+◌, ◌-◌, ◌<◌, ◌≤◌, ◌⊎◌, inl, inr, List, [], ◌∷◌, length, get_or, take, Some, Err, Ordering, Less, Equal, Greater, refl, sym, ap, subst, ◌∙◌, arith}
-use Rattle.std.specs.List.{AllPairs, Contains, insert}
-use Rattle.std.specs.List.Sorted.{IsBinarySearchResult, IsNonDecreasingBy}
-use Rattle.std.specs.Ordering.{MatchOrdering, nat_cmp, ordering_index, ordering_then}
-use Rattle.std.proofs.lemmas.Bool.{cases_lt, cases_eq, eqb-true}
-use Rattle.std.proofs.lemmas.Bool.Decides.{nat_tests}
+use Rattle.std.proofs.Common.{◌≡◌, ◌==◌, ◌↔◌, Bool, true, min, ℕ, suc, zero, ◌+◌, ◌-◌, ◌<◌, ◌≤◌, ◌⊎◌, inl, inr, List, [], ◌∷◌, length, get_or, take, Some, Err, Ordering, Less, Equal, Greater, refl, sym, ap, subst, ◌∙◌, arith, AllPairs, Contains, insert, nat_cmp, eqb-true, get_or-take, length-take, length-take-le, take_all, pow_pos}
+use Rattle.vic_tree.proofs.Words.{IsNonDecreasingBy, cases_lt, cases_eq, nat_tests, get_or_default, All-nil, All-weaker, BitMask, IsAtMost, IsWidest, AreFirst, IsOpenMask, parent, AreKept}
+use Rattle.std.specs.List.Sorted.{IsBinarySearchResult}
+use Rattle.std.specs.Ordering.{MatchOrdering, ordering_index, ordering_then}
 use Rattle.std.proofs.lemmas.Cmp.{ranked}
-use Rattle.std.proofs.lemmas.List.{get_or_default, get_or-take, length-take, length-take-le, take_all}
 use Rattle.std.proofs.lemmas.List.Edits.{length-insert}
-use Rattle.std.proofs.lemmas.List.Elements.{All-cons, All-contains, All-nil, All-take, All-weaker, Contains-append_cases, Contains-append_right, Contains-get_or, Contains-push_cases}
+use Rattle.std.proofs.lemmas.List.Elements.{All-cons, All-contains, All-take, Contains-append_cases, Contains-append_right, Contains-get_or, Contains-push_cases}
 use Rattle.std.proofs.lemmas.List.Kept.{AllPairs-cons}
 use Rattle.std.proofs.lemmas.List.Sorted.{All-permutation, Contains-permutation, IsPermutation-insert, IsPermutation-sym}
-use Rattle.std.proofs.lemmas.Nat.{pow_pos}
-use Rattle.vic_frame.specs.Masks.{BitMask}
-use Rattle.vic_tree.specs.OpenSet.{IsAtMost, IsWidest}
-use Rattle.vic_tree.specs.OpenMasks.{AreFirst, ComesBefore, IsOpenMask, IsPast, parent}
-use Rattle.vic_tree.specs.inner.KeptMasks.{AreKept, Keeps}
+use Rattle.vic_tree.specs.OpenMasks.{ComesBefore, IsPast}
+use Rattle.vic_tree.specs.inner.KeptMasks.{Keeps}
 
 -- one element more in a list
 module _ {X : Type 0} where

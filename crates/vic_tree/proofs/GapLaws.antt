@@ -1,16 +1,8 @@
 -- Ranges of keys without some keys.
-use Rattle.std.proofs.Common.{◌≡◌, ℕ, ◌+◌, ◌-◌, ◌^◌, ◌<◌, ◌≤◌, ◌&&◌, ◌⊎◌, inl, inr, Bool, true, false, not, List, Option, Some, None, IfNone, IfSome, min, refl, sym, ap, subst, ◌∙◌, arith}
-use Rattle.std.proofs.lemmas.Bool.{cases_lt}
-use Rattle.std.proofs.lemmas.Nat.{pow_pos}
-use Rattle.vic_frame.specs.Uids.{has}
-use Rattle.vic_frame.specs.Masks.{BitMask, IsMask, lies_in}
-use Rattle.vic_frame.specs.LowBitsFirst.{mirror, uid_of}
-use Rattle.vic_frame.proofs.MirrorLaws.{mirror_of_uid}
+use Rattle.std.proofs.Common.{◌≡◌, ℕ, ◌+◌, ◌-◌, ◌^◌, ◌<◌, ◌≤◌, ◌&&◌, ◌⊎◌, inl, inr, Bool, true, false, not, List, Option, Some, None, IfNone, IfSome, min, refl, sym, ap, subst, ◌∙◌, arith, pow_pos}
+use Rattle.vic_tree.proofs.Words.{cases_lt, has, BitMask, IsMask, lies_in, mirror, uid_of, mirror_of_uid, Gathers, AllOpen, IsAtMost, IsWidest, SameUids, has_key, without_keys, in_ranges, is_open_in, HoldsMask, IsFirstRun, IsFreeBetween, is_left}
 use Rattle.vic_frame.proofs.KeyLaws.{is_uid}
-use Rattle.vic_tree.specs.Gathering.{Gathers}
-use Rattle.vic_tree.specs.OpenSet.{AllOpen, IsAtMost, IsWidest, SameUids, has_key, without_keys}
-use Rattle.vic_tree.specs.Ranges.{in_ranges, is_open_in}
-use Rattle.vic_tree.specs.inner.Ranges.{AllKeysPass, ComesFirstIn, HoldsMask, IsFoundBelow, IsFirstRun, IsFreeBetween, IsFreeInRanges, IsMaskIn, IsWidestBelow, is_left, is_passed}
+use Rattle.vic_tree.specs.inner.Ranges.{AllKeysPass, ComesFirstIn, IsFoundBelow, IsFreeInRanges, IsMaskIn, IsWidestBelow, is_passed}
 use Rattle.vic_tree.proofs.BlockLaws.{key_in_mask, mask_ends}
 use Rattle.vic_tree.proofs.GatheringLaws.{gathers_both, gathers_like}
 use Rattle.vic_tree.proofs.RangeLaws.{inside_is, is_inside, neither}

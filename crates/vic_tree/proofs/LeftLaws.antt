@@ -1,14 +1,8 @@
 -- What is left of ranges of keys without some keys, run by run.
 use Rattle.std.proofs.Common.{◌≡◌, ℕ, zero, suc, ◌+◌, ◌<◌, ◌≤◌, ◌==◌, ◌&&◌, inl, inr, Bool, true, false, not, List, [], ◌∷◌, length, get_or, drop, nat_eq, max, ◌∙◌, refl, sym, arith}
-use Rattle.std.specs.List.Sorted.{IsNonDecreasing}
-use Rattle.std.proofs.lemmas.Bool.{cases_lt}
-use Rattle.std.proofs.lemmas.Bool.Decides.{nat_tests}
+use Rattle.vic_tree.proofs.Words.{IsNonDecreasing, cases_lt, nat_tests, has, AreRanges, in_ranges, IsFirstRun, PassFrom, and_false}
 use Rattle.std.proofs.lemmas.List.Elements.{All-from_get_or}
 use Rattle.std.proofs.lemmas.List.Folds.{list_any_none}
-use Rattle.vic_frame.specs.Uids.{has}
-use Rattle.vic_tree.specs.Ranges.{AreRanges, in_ranges}
-use Rattle.vic_tree.specs.inner.Ranges.{IsFirstRun, PassFrom}
-use Rattle.vic_tree.proofs.BoolLaws.{and_false}
 use Rattle.vic_tree.proofs.GatheringLaws.{not_among}
 use Rattle.vic_tree.proofs.RangeLaws.{is_after, is_inside, none_below}
 

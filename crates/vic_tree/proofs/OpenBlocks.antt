@@ -1,17 +1,9 @@
 -- The greatest blocks of a run of keys.
-use Rattle.std.proofs.Common.{◌≡◌, ℕ, ◌+◌, ◌-◌, ◌*◌, ◌/◌, ◌^◌, ◌%◌, ◌<◌, ◌≤◌, ◌⊎◌, ◌↔◌, inl, inr, Bool, false, List, [], Option, Some, IfSome, sym, ap, subst, ◌∙◌, arith}
-use Rattle.std.proofs.lemmas.Bool.{cases_lt, cases_eq}
-use Rattle.std.proofs.lemmas.Nat.{pow_pos}
-use Rattle.std.proofs.Math.Nat.{mul-le-mul_right, lt_of_mul-lt-mul_right}
-use Rattle.vic_frame.specs.Masks.{BitMask, IsMask}
-use Rattle.vic_frame.specs.LowBitsFirst.{mirror, mirror_bits}
-use Rattle.vic_frame.proofs.MirrorLaws.{mirror_below, mirror_split, mirror_mod}
-use Rattle.vic_tree.specs.OpenMasks.{AreFirst, IsOpenMask, parent}
-use Rattle.vic_tree.specs.OpenSet.{AllOpen, without_keys}
-use Rattle.std.proofs.lemmas.List.Elements.{All-nil}
-use Rattle.vic_tree.specs.inner.KeptMasks.{IsGreatestAt, IsGreatestIn, IsOpenBlock, IsOpenBelow}
-use Rattle.vic_tree.specs.Ranges.{is_open_in}
-use Rattle.vic_tree.specs.inner.Ranges.{AllKeysPass, HoldsMask, IsFirstRun, is_left}
+use Rattle.std.proofs.Common.{◌≡◌, ℕ, ◌+◌, ◌-◌, ◌*◌, ◌/◌, ◌^◌, ◌%◌, ◌<◌, ◌≤◌, ◌⊎◌, ◌↔◌, inl, inr, Bool, false, List, [], Option, Some, IfSome, sym, ap, subst, ◌∙◌, arith, pow_pos, mul-le-mul_right, lt_of_mul-lt-mul_right}
+use Rattle.vic_tree.proofs.Words.{cases_lt, cases_eq, BitMask, IsMask, mirror, mirror_bits, mirror_below, AreFirst, IsOpenMask, parent, AllOpen, without_keys, All-nil, IsGreatestIn, IsOpenBelow, is_open_in, HoldsMask, IsFirstRun, is_left}
+use Rattle.vic_frame.proofs.MirrorLaws.{mirror_split, mirror_mod}
+use Rattle.vic_tree.specs.inner.KeptMasks.{IsGreatestAt, IsOpenBlock}
+use Rattle.vic_tree.specs.inner.Ranges.{AllKeysPass}
 use Rattle.vic_tree.proofs.BlockLaws.{IsBlockMask, block_of_mask, key_in_mask, not_before, number_of_mask, same_mask_value, twice}
 use Rattle.vic_tree.proofs.FirstMasks.{same_mask}
 use Rattle.vic_tree.proofs.GapLaws.{first_passes, in_gap, in_run, left_keys}

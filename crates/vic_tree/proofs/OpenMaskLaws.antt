@@ -1,14 +1,9 @@
 -- The open masks of a set are apart, and hold all of it.
-use Rattle.std.proofs.Common.{◌≡◌, ℕ, zero, suc, ◌+◌, ◌-◌, ◌*◌, ◌^◌, ◌%◌, ◌<◌, ◌≤◌, ◌||◌, ◌⊎◌, inl, inr, Bool, true, false, not, List, refl, sym, ap, subst, ◌∙◌, arith}
-use Rattle.std.specs.List.{list_any}
-use Rattle.std.proofs.lemmas.Bool.{cases_lt, eq-eqb, eqb-true}
-use Rattle.std.proofs.lemmas.List.Folds.{Any-from_list_any, list_any_at}
-use Rattle.std.proofs.lemmas.Nat.{pow_pos}
-use Rattle.vic_frame.specs.Uids.{IsUid}
-use Rattle.vic_frame.specs.Masks.{BitMask, lies_in}
+use Rattle.std.proofs.Common.{◌≡◌, ℕ, zero, suc, ◌+◌, ◌-◌, ◌*◌, ◌^◌, ◌%◌, ◌<◌, ◌≤◌, ◌||◌, ◌⊎◌, inl, inr, Bool, true, false, not, List, refl, sym, ap, subst, ◌∙◌, arith, eq-eqb, eqb-true, pow_pos}
+use Rattle.vic_tree.proofs.Words.{list_any, cases_lt, list_any_at, IsUid, BitMask, lies_in, IsOpenMask, parent, AllOpen, SameUids}
+use Rattle.std.proofs.lemmas.List.Folds.{Any-from_list_any}
 use Rattle.vic_frame.proofs.MaskLaws.{mod_mod_pow}
-use Rattle.vic_tree.specs.OpenMasks.{AreAll, IsOpenMask, parent}
-use Rattle.vic_tree.specs.OpenSet.{AllOpen, SameUids}
+use Rattle.vic_tree.specs.OpenMasks.{AreAll}
 use Rattle.vic_tree.proofs.BoolLaws.{same_tests}
 use Rattle.vic_tree.proofs.FirstMasks.{same_mask}
 

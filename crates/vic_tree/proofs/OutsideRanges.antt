@@ -1,11 +1,7 @@
 -- What lies outside of ranges that come in order.
-use Rattle.std.proofs.Common.{◌≡◌, ℕ, ◌+◌, ◌-◌, ◌<◌, ◌≤◌, ◌&&◌, ◌||◌, inl, inr, Bool, true, false, not, refl, sym, ◌∙◌, arith, max}
-use Rattle.std.specs.Prelude.{nat_lt}
-use Rattle.std.proofs.lemmas.Bool.{cases_lt}
-use Rattle.std.proofs.lemmas.Bool.Decides.{nat_tests}
-use Rattle.vic_tree.specs.Ranges.{is_between}
+use Rattle.std.proofs.Common.{◌≡◌, ℕ, ◌+◌, ◌-◌, ◌<◌, ◌≤◌, ◌&&◌, ◌||◌, inl, inr, Bool, true, false, not, refl, sym, ◌∙◌, arith, max, nat_lt}
+use Rattle.vic_tree.proofs.Words.{cases_lt, nat_tests, is_between, and_false, lt_yes, or_false, or_true}
 use Rattle.vic_tree.proofs.RangeLaws.{is_after, is_before, is_inside, where_is}
-use Rattle.vic_tree.proofs.BoolLaws.{and_false, lt_yes, or_false, or_true}
 
 lt_no : (a b : ℕ) → b ≤ a → nat_lt a b ≡ false
 lt_no a b h = grind (arith, nat_tests)

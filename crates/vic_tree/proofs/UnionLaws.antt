@@ -1,15 +1,8 @@
 -- Sets as ranges that are made of others.
-use Rattle.std.proofs.Common.{◌≡◌, ℕ, ◌+◌, ◌≤◌, ◌&&◌, ◌||◌, inl, inr, Bool, true, false, not, List, [], ◌∷◌, ◌++◌, length, ◌∙◌, refl, sym, ap, arith}
-use Rattle.std.specs.Prelude.{nat_lt}
-use Rattle.std.proofs.lemmas.Bool.{cases_lt, cases_Bool}
-use Rattle.std.proofs.lemmas.Bool.Decides.{nat_tests}
-use Rattle.vic_frame.specs.LowBitsFirst.{mirror, uid_of}
+use Rattle.std.proofs.Common.{◌≡◌, ℕ, ◌+◌, ◌≤◌, ◌&&◌, ◌||◌, inl, inr, Bool, true, false, not, List, [], ◌∷◌, ◌++◌, length, ◌∙◌, refl, sym, ap, arith, nat_lt}
+use Rattle.vic_tree.proofs.Words.{cases_lt, nat_tests, mirror, uid_of, mirror_of_uid, SameUids, AreRanges, in_ranges, is_open_in, IsFirstRun, and_false, lt_yes, or_false, or_true}
+use Rattle.std.proofs.lemmas.Bool.{cases_Bool}
 use Rattle.vic_frame.proofs.KeyLaws.{is_uid}
-use Rattle.vic_frame.proofs.MirrorLaws.{mirror_of_uid}
-use Rattle.vic_tree.specs.OpenSet.{SameUids}
-use Rattle.vic_tree.specs.Ranges.{AreRanges, in_ranges, is_open_in}
-use Rattle.vic_tree.specs.inner.Ranges.{IsFirstRun}
-use Rattle.vic_tree.proofs.BoolLaws.{and_false, lt_yes, or_false, or_true}
 use Rattle.vic_tree.proofs.GapLaws.{in_run}
 use Rattle.vic_tree.proofs.RangeLaws.{in_pushed, is_inside, where_is}
 

@@ -1,9 +1,5 @@
-use Rattle.std.proofs.Common.{◌∙◌, ◌==◌, ◌||◌, ℕ, List, take, nat_eq, sym, ap, arith}
-use Rattle.std.proofs.lemmas.List.{take_all}
-use Rattle.std.proofs.lemmas.List.Folds.{list_any_more}
-use Rattle.vic_frame.specs.Uids.{has}
-use Rattle.vic_frame.specs.LowBitsFirst.{mirror}
-use Rattle.vic_tree.specs.OpenSet.{has_key}
+use Rattle.std.proofs.Common.{◌∙◌, ◌==◌, ◌||◌, ℕ, List, take, nat_eq, sym, ap, arith, take_all}
+use Rattle.vic_tree.proofs.Words.{list_any_more, has, mirror, has_key}
 use Rattle.vic_tree.proofs.GatheringLaws.{has_pushed}
 use Rattle.vic_tree.proofs.RangeSets.{same_uids}
 use Rattle.vic_tree.proofs.at_keys.uids_at.Goals as goal

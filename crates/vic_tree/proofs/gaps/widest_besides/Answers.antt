@@ -1,4 +1,4 @@
-use Rattle.vic_tree.specs.inner.Ranges.{is_left}
+use Rattle.vic_tree.proofs.Words.{is_left}
 use Rattle.vic_tree.proofs.GapLaws.{found_is_widest, none_found, run_found}
 use Rattle.vic_tree.proofs.gaps.widest_besides.Goals as goal
 

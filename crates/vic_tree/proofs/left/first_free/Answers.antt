@@ -1,5 +1,5 @@
 use Rattle.std.proofs.Common.{◌≡◌, ◌∙◌, suc, ◌∷◌, inl, inr, sym, arith}
-use Rattle.std.proofs.lemmas.Bool.{cases_lt}
+use Rattle.vic_tree.proofs.Words.{cases_lt}
 use Rattle.vic_tree.proofs.LeftLaws.{is_behind, is_first}
 use Rattle.vic_tree.proofs.left.first_free.Goals as goal
 

@@ -1,6 +1,5 @@
 use Rattle.std.proofs.Common.{◌≡◌, ℕ, ◌<◌, ◌≤◌, true, length}
-use Rattle.std.specs.List.Sorted.{IsNonDecreasing}
-use Rattle.vic_frame.specs.Uids.{has}
+use Rattle.vic_tree.proofs.Words.{IsNonDecreasing, has}
 use Rattle.vic_tree.specs.OpenSet.{AreKeys}
 use Rattle.vic_tree.proofs.left.first_free.Given as goal
 

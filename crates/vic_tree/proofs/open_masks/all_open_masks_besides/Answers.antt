@@ -1,11 +1,7 @@
 use Rattle.std.proofs.Common.{◌≡◌, ◌∙◌, ◌+◌, ap, arith}
+use Rattle.vic_tree.proofs.Words.{IsGreatestIn, IsOpenBelow, IsOpenMask, without_keys, is_open_in, is_left}
 use Rattle.std.proofs.lemmas.List.Filters.{dedup_is}
 use Rattle.vic_frame.specs.contracts.mask.MaskOrd.TheImpl.Laws.{matches_eq-law}
-use Rattle.vic_tree.specs.inner.KeptMasks.{IsGreatestIn, IsOpenBelow}
-use Rattle.vic_tree.specs.OpenMasks.{IsOpenMask}
-use Rattle.vic_tree.specs.OpenSet.{without_keys}
-use Rattle.vic_tree.specs.Ranges.{is_open_in}
-use Rattle.vic_tree.specs.inner.Ranges.{is_left}
 use Rattle.vic_tree.proofs.AllMasks.{members_both, sorted_once}
 use Rattle.vic_tree.proofs.OpenBlocks.{all_opened, run_opened}
 use Rattle.vic_tree.proofs.open_masks.all_open_masks_besides.Goals as goal

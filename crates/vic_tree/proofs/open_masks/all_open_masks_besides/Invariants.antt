@@ -1,8 +1,5 @@
-use Rattle.std.proofs.Common.{◌≡◌, ℕ, ◌+◌, ◌-◌, ◌^◌, ◌↔◌, false}
-use Rattle.std.specs.List.{Contains}
-use Rattle.vic_frame.specs.Masks.{BitMask}
-use Rattle.vic_tree.specs.inner.KeptMasks.{IsOpenBelow}
-use Rattle.vic_tree.specs.inner.Ranges.{PassFrom, is_left}
+use Rattle.std.proofs.Common.{◌≡◌, ℕ, ◌+◌, ◌-◌, ◌^◌, ◌↔◌, false, Contains}
+use Rattle.vic_tree.proofs.Words.{BitMask, IsOpenBelow, PassFrom, is_left}
 use Rattle.vic_tree.proofs.open_masks.all_open_masks_besides.Given as goal
 
 abbrev pub invariant-loop-run : goal.invariant-loop-run

@@ -1,7 +1,5 @@
-use Rattle.std.proofs.Common.{◌≡◌, ◌==◌, ◌∙◌, ℕ, List, length, take, min, ap}
-use Rattle.std.proofs.lemmas.List.{take_all}
-use Rattle.vic_frame.specs.Masks.{BitMask}
-use Rattle.vic_tree.specs.OpenMasks.{IsOpenMask}
+use Rattle.std.proofs.Common.{◌≡◌, ◌==◌, ◌∙◌, ℕ, List, length, take, min, ap, take_all}
+use Rattle.vic_tree.proofs.Words.{BitMask, IsOpenMask}
 use Rattle.vic_tree.proofs.FirstMasks.{given_first, given_more}
 use Rattle.vic_tree.proofs.open_masks.given.Goals as goal
 

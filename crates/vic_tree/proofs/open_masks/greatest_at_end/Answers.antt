@@ -1,5 +1,5 @@
 use Rattle.std.proofs.Common.{◌≡◌, ℕ, ◌+◌, ◌-◌, ◌*◌, ◌/◌, ◌^◌, ap, sym, arith, Some}
-use Rattle.vic_frame.specs.LowBitsFirst.{mirror_bits}
+use Rattle.vic_tree.proofs.Words.{mirror_bits}
 use Rattle.vic_tree.proofs.BlockLaws.{block_small}
 use Rattle.vic_tree.proofs.OpenBlocks.{block_fits, end_is_greatest, end_is_only, last_block, mask_at}
 use Rattle.vic_tree.proofs.open_masks.greatest_at_end.Goals as goal

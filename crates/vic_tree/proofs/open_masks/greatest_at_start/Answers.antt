@@ -1,5 +1,4 @@
-use Rattle.std.proofs.Common.{◌-◌, ◌^◌, ◌≤◌, ap, arith, Some}
-use Rattle.std.proofs.Math.Pow.{pow_mono}
+use Rattle.std.proofs.Common.{◌-◌, ◌^◌, ◌≤◌, ap, arith, Some, pow_mono}
 use Rattle.vic_tree.proofs.BlockLaws.{FirstBlock, first_block, block_small}
 use Rattle.vic_tree.proofs.OpenBlocks.{block_fits, mask_at, start_is_greatest, start_is_only}
 use Rattle.vic_tree.proofs.open_masks.greatest_at_start.Goals as goal

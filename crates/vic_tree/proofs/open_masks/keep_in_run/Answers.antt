@@ -1,8 +1,5 @@
 use Rattle.std.proofs.Common.{◌≡◌, ◌∙◌, ◌+◌, ◌<◌, ◌≤◌, ◌⊎◌, inl, inr, List, length, get_or, ap, Some, sym, arith}
-use Rattle.std.proofs.lemmas.Bool.{cases_lt}
-use Rattle.vic_frame.specs.Masks.{BitMask}
-use Rattle.vic_frame.specs.LowBitsFirst.{mirror_bits}
-use Rattle.vic_tree.specs.inner.KeptMasks.{IsGreatestIn}
+use Rattle.vic_tree.proofs.Words.{cases_lt, BitMask, mirror_bits, IsGreatestIn}
 use Rattle.vic_tree.proofs.BlockLaws.{mask_block}
 use Rattle.vic_tree.proofs.FirstMasks.{kept_both, kept_like, none_kept, past_last}
 use Rattle.vic_tree.proofs.OpenBlocks.{greatest_of_len}

@@ -1,10 +1,6 @@
-use Rattle.std.proofs.Common.{◌≡◌, ◌∙◌, ap, sym, not, ◌&&◌, ◌||◌, Bool, ◌-◌, arith}
-use Rattle.std.proofs.lemmas.Nat.{pow_pos}
+use Rattle.std.proofs.Common.{◌≡◌, ◌∙◌, ap, sym, not, ◌&&◌, ◌||◌, Bool, ◌-◌, arith, pow_pos}
+use Rattle.vic_tree.proofs.Words.{has, mirror, mirror_below, in_ranges, is_between}
 use Rattle.std.proofs.lemmas.Result.{IfOk-weaker}
-use Rattle.vic_frame.specs.Uids.{has}
-use Rattle.vic_frame.specs.LowBitsFirst.{mirror}
-use Rattle.vic_frame.proofs.MirrorLaws.{mirror_below}
-use Rattle.vic_tree.specs.Ranges.{in_ranges, is_between}
 use Rattle.vic_tree.proofs.BlockLaws.{mask_ends}
 use Rattle.vic_tree.proofs.KeptKeys.{settled_bits}
 use Rattle.vic_tree.proofs.RangeLaws.{firsts_rise}

@@ -1,10 +1,6 @@
-use Rattle.std.proofs.Common.{◌≡◌, ◌∙◌, ℕ, ◌+◌, ◌-◌, ◌<◌, ◌≤◌, ◌&&◌, ◌||◌, not, nat_lt, true, inl, inr, List, take, length, get_or, [], ◌∷◌, ◌++◌, ◌^◌, max, refl, sym, ap, subst, arith}
-use Rattle.std.specs.List.{All}
-use Rattle.std.proofs.lemmas.Bool.{cases_lt}
-use Rattle.std.proofs.lemmas.List.{get_or_default}
-use Rattle.std.proofs.lemmas.List.Elements.{All-push, All-weaker}
-use Rattle.std.proofs.lemmas.List.Folds.{list_any_more}
-use Rattle.vic_tree.specs.Ranges.{in_ranges, is_between, AreRanges}
+use Rattle.std.proofs.Common.{◌≡◌, ◌∙◌, ℕ, ◌+◌, ◌-◌, ◌<◌, ◌≤◌, ◌&&◌, ◌||◌, not, nat_lt, true, inl, inr, List, take, length, get_or, [], ◌∷◌, ◌++◌, ◌^◌, max, refl, sym, ap, subst, arith, All}
+use Rattle.vic_tree.proofs.Words.{cases_lt, get_or_default, All-weaker, list_any_more, in_ranges, is_between, AreRanges}
+use Rattle.std.proofs.lemmas.List.Elements.{All-push}
 use Rattle.vic_tree.proofs.RangeLaws.{either, in_pushed, inside_is, ranges_pushed}
 use Rattle.vic_tree.proofs.OutsideRanges.{outside_more}
 use Rattle.vic_tree.proofs.ranges.between.Goals as goal

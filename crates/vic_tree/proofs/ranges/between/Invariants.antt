@@ -1,6 +1,5 @@
-use Rattle.std.proofs.Common.{◌≡◌, ℕ, ◌+◌, ◌^◌, ◌<◌, ◌≤◌, ◌&&◌, not, nat_lt, true, take, length, get_or}
-use Rattle.std.specs.List.{All}
-use Rattle.vic_tree.specs.Ranges.{in_ranges, AreRanges}
+use Rattle.std.proofs.Common.{◌≡◌, ℕ, ◌+◌, ◌^◌, ◌<◌, ◌≤◌, ◌&&◌, not, nat_lt, true, take, length, get_or, All}
+use Rattle.vic_tree.proofs.Words.{in_ranges, AreRanges}
 use Rattle.vic_tree.proofs.ranges.between.Given as goal
 
 abbrev pub invariant-loop-range : goal.invariant-loop-range

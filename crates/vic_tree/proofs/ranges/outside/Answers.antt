@@ -1,8 +1,7 @@
 use Rattle.std.proofs.Common.{◌∙◌, ℕ, not, ap, sym, subst, rules}
-use Rattle.std.specs.List.Sorted.{IsNonDecreasingBy}
-use Rattle.std.proofs.lemmas.List.Sorted.{IsNonDecreasingBy-from_sort_by_key, list_any-IsPermutation}
+use Rattle.vic_tree.proofs.Words.{IsNonDecreasingBy, list_any-IsPermutation, in_ranges, is_between}
+use Rattle.std.proofs.lemmas.List.Sorted.{IsNonDecreasingBy-from_sort_by_key}
 use Rattle.std.proofs.lemmas.Result.{IfOk-weaker}
-use Rattle.vic_tree.specs.Ranges.{in_ranges, is_between}
 use Rattle.vic_tree.proofs.ranges.outside.Goals as goal
 
 pub between-requires : goal.between-requires

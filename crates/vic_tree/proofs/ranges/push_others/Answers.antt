@@ -1,7 +1,5 @@
-use Rattle.std.proofs.Common.{◌≡◌, ◌∙◌, ℕ, ◌+◌, ◌-◌, ◌<◌, ◌≤◌, ◌&&◌, not, List, [], ◌∷◌, ◌++◌, take, get_or, length, refl, sym, ap, arith}
-use Rattle.std.proofs.lemmas.List.{take_all}
-use Rattle.vic_frame.specs.Uids.{has}
-use Rattle.vic_tree.specs.Ranges.{in_ranges, is_between}
+use Rattle.std.proofs.Common.{◌≡◌, ◌∙◌, ℕ, ◌+◌, ◌-◌, ◌<◌, ◌≤◌, ◌&&◌, not, List, [], ◌∷◌, ◌++◌, take, get_or, length, refl, sym, ap, arith, take_all}
+use Rattle.vic_tree.proofs.Words.{has, in_ranges, is_between}
 use Rattle.vic_tree.proofs.BoolLaws.{not_and_not}
 use Rattle.vic_tree.proofs.RangeLaws.{in_pushed, inside_is}
 use Rattle.vic_tree.proofs.KeptKeys.{kept_key, last_left, turn_left, turn_passed, turn_before, first_left}

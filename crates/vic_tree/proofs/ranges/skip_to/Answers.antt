@@ -1,7 +1,5 @@
-use Rattle.std.proofs.Common.{◌≡◌, ◌∙◌, ℕ, ◌<◌, ◌≤◌, List, get_or, length, length-drop, inl, inr, min, take, ap, sym, subst, arith}
-use Rattle.std.proofs.lemmas.Bool.{cases_lt}
-use Rattle.std.proofs.lemmas.List.{get_or-take, get_or_default, length-take}
-use Rattle.vic_tree.specs.Ranges.{AreRanges, in_ranges}
+use Rattle.std.proofs.Common.{◌≡◌, ◌∙◌, ℕ, ◌<◌, ◌≤◌, List, get_or, length, length-drop, inl, inr, min, take, ap, sym, subst, arith, get_or-take, length-take}
+use Rattle.vic_tree.proofs.Words.{cases_lt, get_or_default, AreRanges, in_ranges}
 use Rattle.vic_tree.proofs.RangeLaws.{begins_ahead, in_dropped, lasts_rise, ranges_dropped, ranges_taken, take_dropped}
 use Rattle.vic_tree.proofs.ranges.skip_to.Goals as goal
 use Rattle.vic_tree.proofs.ranges.skip_to.Goals.{then-loop-step-test+else-last-key, else-loop-step-test}

@@ -1,6 +1,5 @@
 use Rattle.std.proofs.Common.{◌≡◌, ℕ, take}
-use Rattle.std.specs.List.{list_any}
-use Rattle.vic_tree.specs.Ranges.{in_ranges}
+use Rattle.vic_tree.proofs.Words.{list_any, in_ranges}
 use Rattle.vic_tree.proofs.union.all_ranges.Given as goal
 
 abbrev pub invariant-loop-set : goal.invariant-loop-set

@@ -1,6 +1,6 @@
 use Rattle.std.proofs.Common.{◌+◌, ◌≤◌, arith}
-use Rattle.std.proofs.lemmas.List.Elements.{All-push, All-weaker}
-use Rattle.vic_tree.specs.inner.Ranges.{is_left}
+use Rattle.vic_tree.proofs.Words.{All-weaker, is_left}
+use Rattle.std.proofs.lemmas.List.Elements.{All-push}
 use Rattle.vic_tree.proofs.RangeLaws.{ranges_pushed}
 use Rattle.vic_tree.proofs.UnionLaws.{all_pushed, run_pushed}
 use Rattle.vic_tree.proofs.union.left_of.Goals as goal

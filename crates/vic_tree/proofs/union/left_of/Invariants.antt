@@ -1,7 +1,5 @@
-use Rattle.std.proofs.Common.{◌≡◌, ℕ, ◌+◌, ◌-◌, ◌^◌, ◌≤◌, ◌&&◌, nat_lt}
-use Rattle.std.specs.List.{All}
-use Rattle.vic_tree.specs.Ranges.{AreRanges, in_ranges}
-use Rattle.vic_tree.specs.inner.Ranges.{PassFrom, is_left}
+use Rattle.std.proofs.Common.{◌≡◌, ℕ, ◌+◌, ◌-◌, ◌^◌, ◌≤◌, ◌&&◌, nat_lt, All}
+use Rattle.vic_tree.proofs.Words.{AreRanges, in_ranges, PassFrom, is_left}
 use Rattle.vic_tree.proofs.union.left_of.Given as goal
 
 abbrev pub invariant-loop-run : goal.invariant-loop-run

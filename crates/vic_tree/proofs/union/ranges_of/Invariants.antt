@@ -1,8 +1,5 @@
 use Rattle.std.proofs.Common.{take}
-use Rattle.std.specs.List.{list_any}
-use Rattle.vic_frame.specs.Masks.{lies_in}
-use Rattle.vic_tree.specs.OpenSet.{SameUids}
-use Rattle.vic_tree.specs.Ranges.{is_open_in}
+use Rattle.vic_tree.proofs.Words.{list_any, lies_in, SameUids, is_open_in}
 use Rattle.vic_tree.proofs.union.ranges_of.Given as goal
 
 abbrev pub invariant-loop-mask : goal.invariant-loop-mask

@@ -1,7 +1,5 @@
 use Rattle.std.proofs.Common.{◌∙◌, ap, not}
-use Rattle.vic_frame.specs.LowBitsFirst.{mirror}
-use Rattle.vic_frame.proofs.MirrorLaws.{mirror_below}
-use Rattle.vic_tree.specs.Ranges.{in_ranges}
+use Rattle.vic_tree.proofs.Words.{mirror, mirror_below, in_ranges}
 use Rattle.vic_tree.proofs.RangeLaws.{firsts_rise}
 use Rattle.vic_tree.proofs.UnionLaws.{not_not}
 use Rattle.vic_tree.proofs.union.set_of.Goals as goal

@@ -1,5 +1,5 @@
 use Rattle.std.proofs.Common.{◌∙◌, inl, inr, arith}
-use Rattle.std.proofs.lemmas.Bool.{cases_lt}
+use Rattle.vic_tree.proofs.Words.{cases_lt}
 use Rattle.vic_tree.proofs.LeftLaws.{is_first_run, none_left, none_passed, pass_others}
 use Rattle.vic_tree.proofs.RangeLaws.{from_lower}
 use Rattle.vic_tree.proofs.left.Left.next_run.Goals as goal

@@ -1,8 +1,6 @@
 use Rattle.std.proofs.Common.{◌≡◌, ℕ, ◌<◌, ◌≤◌, Bool, false, length}
-use Rattle.std.specs.List.Sorted.{IsNonDecreasing}
+use Rattle.vic_tree.proofs.Words.{IsNonDecreasing, AreRanges, PassFrom}
 use Rattle.vic_tree.specs.OpenSet.{AreKeys}
-use Rattle.vic_tree.specs.Ranges.{AreRanges}
-use Rattle.vic_tree.specs.inner.Ranges.{PassFrom}
 use Rattle.vic_tree.proofs.left.Left.next_run.Given as goal
 
 abbrev pub invariant-loop-range : goal.invariant-loop-range

@@ -1,7 +1,5 @@
 use Rattle.std.proofs.Common.{◌≡◌, ◌∙◌, ℕ, ◌&&◌, ◌||◌, ◌<◌, not, List, length, get_or, ap, sym, take, arith}
-use Rattle.std.proofs.lemmas.List.Folds.{list_any_more}
-use Rattle.vic_frame.specs.LowBitsFirst.{mirror}
-use Rattle.vic_tree.specs.Ranges.{in_ranges, is_between}
+use Rattle.vic_tree.proofs.Words.{list_any_more, mirror, in_ranges, is_between}
 use Rattle.vic_tree.proofs.BoolLaws.{not_and_not}
 use Rattle.vic_tree.proofs.open_set.OpenSet.without.Goals as goal
 

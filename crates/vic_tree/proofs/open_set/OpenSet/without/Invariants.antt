@@ -1,5 +1,5 @@
 use Rattle.std.proofs.Common.{take}
-use Rattle.vic_tree.specs.OpenSet.{SameUids}
+use Rattle.vic_tree.proofs.Words.{SameUids}
 use Rattle.vic_tree.specs.Ranges.{is_outside}
 use Rattle.vic_tree.proofs.open_set.OpenSet.without.Given as goal
 

@@ -1,8 +1,6 @@
 use Rattle.std.proofs.Common.{◌≡◌, ◌∙◌, ◌<◌, length, get_or, ap, sym, arith}
+use Rattle.vic_tree.proofs.Words.{uid_of, mirror_of_uid, in_ranges, is_open_in}
 use Rattle.std.proofs.lemmas.List.{map_more}
-use Rattle.vic_frame.specs.LowBitsFirst.{uid_of}
-use Rattle.vic_frame.proofs.MirrorLaws.{mirror_of_uid}
-use Rattle.vic_tree.specs.Ranges.{in_ranges, is_open_in}
 use Rattle.vic_tree.proofs.range_set.RangeSetOpenSet.has_each.Goals as goal
 
 pub loop-key-preserved : goal.loop-key-preserved

@@ -1,5 +1,4 @@
-use Rattle.vic_frame.specs.LowBitsFirst.{mirror}
-use Rattle.vic_frame.proofs.MirrorLaws.{mirror_below}
+use Rattle.vic_tree.proofs.Words.{mirror, mirror_below}
 use Rattle.vic_tree.proofs.range_set.RangeSetOpenSet.without.Goals as goal
 
 pub returns : goal.returns
