@@ -1,5 +1,5 @@
 -- Lists that have all masks of a kind: in any order, then in order.
-use Rattle.std.proofs.Common.{◌≡◌, ◌⊎◌, ◌↔◌, inl, inr, Bool, true, List, [], ◌∷◌, Ordering, Less, Equal, Greater, is_eq, sym, ◌∙◌, arith, All, AllPairs, Contains, IsPermutation, IsSorted}
+use Rattle.std.proofs.Common.{◌≡◌, ◌⊎◌, ◌↔◌, inl, inr, Bool, true, List, [], ◌∷◌, Ordering, Less, Equal, Greater, is_eq, sym, ◌∙◌, arith, All, AllPairs, Contains, IsPermutation, IsSorted, refl}
 use Rattle.vic_tree.proofs.Words.{All-nil, BitMask}
 use Rattle.std.specs.Cmp.{IsEquivalence, IsTotalOrder}
 use Rattle.std.specs.List.{AllByRecursion, dedup}

@@ -1,11 +1,12 @@
 -- Ranges of keys without some keys.
 use Rattle.std.proofs.Common.{◌≡◌, ℕ, ◌+◌, ◌-◌, ◌^◌, ◌<◌, ◌≤◌, ◌&&◌, ◌⊎◌, inl, inr, Bool, true, false, not, List, Option, Some, None, IfNone, IfSome, min, refl, sym, ap, subst, ◌∙◌, arith, pow_pos}
 use Rattle.vic_tree.proofs.Words.{cases_lt, has, BitMask, IsMask, lies_in, mirror, uid_of, mirror_of_uid, Gathers, AllOpen, IsAtMost, IsWidest, SameUids, has_key, without_keys, in_ranges, is_open_in, HoldsMask, IsFirstRun, IsFreeBetween, is_left}
+use Rattle.std.proofs.lemmas.Bool.{or_parts}
 use Rattle.vic_frame.proofs.KeyLaws.{is_uid}
 use Rattle.vic_tree.specs.inner.Ranges.{AllKeysPass, ComesFirstIn, IsFoundBelow, IsFreeInRanges, IsMaskIn, IsWidestBelow, is_passed}
 use Rattle.vic_tree.proofs.BlockLaws.{key_in_mask, mask_ends}
 use Rattle.vic_tree.proofs.GatheringLaws.{gathers_both, gathers_like}
-use Rattle.vic_tree.proofs.RangeLaws.{inside_is, is_inside, neither}
+use Rattle.vic_tree.proofs.RangeLaws.{inside_is, is_inside}
 
 -- a key that passes lies before a position, or in the first run from there on
 pub in_run : (p : ℕ → Bool) (from x y k : ℕ) → IsFirstRun p from x y → p k ≡ true → k < y + 2 → (k < from) ⊎ ((x ≤ k) × (k ≤ y))
@@ -19,7 +20,7 @@ in_run p from x y k run t lt = elim (cases_lt k from) [
 
 -- a UID is left if it's free, and is in a range and not in the list if it's left
 free_is_left : (rs : List (ℕ × ℕ)) (except keys : List ℕ) (first last u : ℕ) → IsFreeInRanges rs first last (is_passed except keys) u → is_left rs keys (mirror u) ≡ true
-free_is_left rs except keys first last u w = rw (w.is_open, (neither (has except u) (has_key keys u) w.free).1) refl
+free_is_left rs except keys first last u w = rw (w.is_open, (or_parts (has except u) (has_key keys u) w.free).1) refl
 
 left_is : (x y : Bool) → (x && not y) ≡ true → (x ≡ true) × (y ≡ false)
 left_is true false e = (refl, refl)
@@ -48,7 +49,7 @@ run_gathered rs except keys first last from x y to old out new run forward is lo
     (λ u w.
     let i = inside_is first last (mirror u) w.0.inside in
     let t = free_is_left rs except keys first last u w.0 in
-    let free = (neither (has except u) (has_key keys u) w.0.free).0 in
+    let free = (or_parts (has except u) (has_key keys u) w.0.free).0 in
     elim (in_run (is_left rs keys) from x y (mirror u) run t w.1) [
       | inl lt ↦ inl (w.0, lt)
       | inr at ↦ inr (record { is_uid = w.0.is_uid; inside = is_inside x to (mirror u) at.0 (omega (arith, at.1, i.1)); free = free })

@@ -1,9 +1,9 @@
 -- What is left of ranges of keys without some keys, run by run.
-use Rattle.std.proofs.Common.{◌≡◌, ℕ, zero, suc, ◌+◌, ◌<◌, ◌≤◌, ◌==◌, ◌&&◌, inl, inr, Bool, true, false, not, List, [], ◌∷◌, length, get_or, drop, nat_eq, max, ◌∙◌, refl, sym, arith}
-use Rattle.vic_tree.proofs.Words.{IsNonDecreasing, cases_lt, nat_tests, has, AreRanges, in_ranges, IsFirstRun, PassFrom, and_false}
+use Rattle.std.proofs.Common.{◌≡◌, ℕ, zero, suc, ◌+◌, ◌<◌, ◌≤◌, ◌==◌, ◌&&◌, inl, inr, Bool, true, false, not, List, [], ◌∷◌, length, get_or, drop, nat_eq, max, ◌∙◌, refl, sym, arith, ne_eqb}
+use Rattle.vic_tree.proofs.Words.{IsNonDecreasing, cases_lt, nat_tests, has, AreRanges, in_ranges, IsFirstRun, PassFrom}
+use Rattle.std.proofs.Math.Bool.{and-false}
 use Rattle.std.proofs.lemmas.List.Elements.{All-from_get_or}
 use Rattle.std.proofs.lemmas.List.Folds.{list_any_none}
-use Rattle.vic_tree.proofs.GatheringLaws.{not_among}
 use Rattle.vic_tree.proofs.RangeLaws.{is_after, is_inside, none_below}
 
 -- a key in a list that rises, and one behind its first
@@ -15,7 +15,7 @@ is_behind key k others lt = grind (arith, nat_tests)
 
 pub is_before_all : (keys : List ℕ) (k : ℕ) → IsNonDecreasing keys → (0 < length keys → k < get_or keys 0 0) → has keys k ≡ false
 is_before_all keys k up low =
-    list_any_none (nat_eq k) keys (All-from_get_or (λ y. (k == y) ≡ false) keys 0 (λ i lt. not_among (get_or keys i 0) k (let a = up 0 i 0 (omega arith) lt in let b = low (omega arith) in λ e. omega arith)))
+    list_any_none (nat_eq k) keys (All-from_get_or (λ y. (k == y) ≡ false) keys 0 (λ i lt. ne_eqb k (get_or keys i 0) (let a = up 0 i 0 (omega arith) lt in let b = low (omega arith) in λ e. omega arith)))
 
 -- without those that come before a key
 pub keys_dropped : (keys : List ℕ) (n from k : ℕ) → ((i d : ℕ) → i < n → get_or keys i d < from) → from ≤ k → has (drop n keys) k ≡ has keys k
@@ -33,7 +33,7 @@ none_left (r ∷ rs) keys k e = absurd (omega arith)
 pub none_passed : (p : ℕ → Bool) (from free : ℕ) (r : ℕ × ℕ) (others : List (ℕ × ℕ)) (keys : List ℕ) → AreRanges (r ∷ others) → PassFrom p (from, r ∷ others, keys) → ((k : ℕ) → max from r.0 ≤ k → k < free → has keys k ≡ true) → (k : ℕ) → from ≤ k → k < free → p k ≡ false
 none_passed p from free r others keys ranges pass taken k low lt = pass k low ∙ elim (cases_lt k r.0) [
   | inl below ↦ rw (none_below r.0 (r ∷ others) k (omega arith, ranges.1, ranges.2, ranges.3) below) refl
-  | inr over ↦ rw (taken k (omega arith) lt) (and_false (in_ranges (r ∷ others) k))
+  | inr over ↦ rw (taken k (omega arith) lt) (and-false (in_ranges (r ∷ others) k))
 ]
 
 -- a range that ends before it is passed
@@ -56,7 +56,7 @@ is_first_run p begin from first last r others keys rest ranges pass none a b d e
   ];
   passes = λ k low high. pass k (omega arith) ∙ rw (is_inside r.0 r.1 k (omega arith) (omega arith), ← same k low, free k high) refl;
   ends = pass (last + 1) (omega arith) ∙ elim (cases_lt last r.1) [
-    | inl lt ↦ rw (← same (last + 1) (omega arith), end lt) (and_false (in_ranges (r ∷ others) (last + 1)))
+    | inl lt ↦ rw (← same (last + 1) (omega arith), end lt) (and-false (in_ranges (r ∷ others) (last + 1)))
     | inr le ↦ rw (is_after r.0 r.1 (last + 1) (omega arith), none_below (r.1 + 2) others (last + 1) ranges.3 (omega arith)) refl
   ];
 }

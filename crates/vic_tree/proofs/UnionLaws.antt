@@ -1,31 +1,17 @@
 -- Sets as ranges that are made of others.
-use Rattle.std.proofs.Common.{◌≡◌, ℕ, ◌+◌, ◌≤◌, ◌&&◌, ◌||◌, inl, inr, Bool, true, false, not, List, [], ◌∷◌, ◌++◌, length, ◌∙◌, refl, sym, ap, arith, nat_lt}
-use Rattle.vic_tree.proofs.Words.{cases_lt, nat_tests, mirror, uid_of, mirror_of_uid, SameUids, AreRanges, in_ranges, is_open_in, IsFirstRun, and_false, lt_yes, or_false, or_true}
-use Rattle.std.proofs.lemmas.Bool.{cases_Bool}
+use Rattle.std.proofs.Common.{◌≡◌, ℕ, ◌+◌, ◌≤◌, ◌&&◌, ◌||◌, Bool, false, List, [], ◌∷◌, ◌++◌, length, ◌∙◌, refl, sym, ap, arith, nat_lt}
+use Rattle.vic_tree.proofs.Words.{nat_tests, mirror, uid_of, mirror_of_uid, SameUids, AreRanges, in_ranges, is_open_in, IsFirstRun}
 use Rattle.vic_frame.proofs.KeyLaws.{is_uid}
 use Rattle.vic_tree.proofs.GapLaws.{in_run}
-use Rattle.vic_tree.proofs.RangeLaws.{in_pushed, is_inside, where_is}
+use Rattle.vic_tree.proofs.RangeLaws.{in_pushed, is_inside}
 
 -- one run more of the keys that pass
 pub run_pushed : (p : ℕ → Bool) (from x y k : ℕ) (old : List (ℕ × ℕ)) → IsFirstRun p from x y → x ≤ y → in_ranges old k ≡ (nat_lt k from && p k) → in_ranges (old ++ (x, y) ∷ []) k ≡ (nat_lt k (y + 2) && p k)
-run_pushed p from x y k old run forward kept = in_pushed old x y k ∙ elim (where_is x y k) [
-  | inl i ↦ rw (i.2, lt_yes k (y + 2) (omega (arith, i.1)), run.passes k i.0 i.1) (or_true (in_ranges old k))
-  | inr o ↦ rw (o.1, or_false (in_ranges old k)) (kept ∙ elim (cases_Bool (p k)) [
-    | inl t ↦ rw t (let low = run.begins in let near = in_run p from x y k run t in grind (arith, nat_tests))
-    | inr f ↦ rw f (and_false (nat_lt k from) ∙ sym (and_false (nat_lt k (y + 2))))
-  ])
-]
+run_pushed p from x y k old run forward kept = in_pushed old x y k ∙ grind (arith, nat_tests, run.begins, in_run p from x y k run, run.passes k)
 
 -- the runs that were found are all
 pub all_pushed : (p : ℕ → Bool) (from k : ℕ) (b : Bool) → (from ≤ k → p k ≡ false) → b ≡ (nat_lt k from && p k) → b ≡ p k
-all_pushed p from k b none is = is ∙ elim (cases_lt k from) [
-  | inl lt ↦ rw (lt_yes k from lt) refl
-  | inr le ↦ rw (none le) (and_false (nat_lt k from))
-]
-
-pub not_not : (b : Bool) → not (not b) ≡ b
-not_not true = refl
-not_not false = refl
+all_pushed p from k b none is = grind (arith, nat_tests)
 
 -- no range, no UID
 pub none_in : (rs : List (ℕ × ℕ)) (k : ℕ) → length rs ≡ 0 → in_ranges rs k ≡ false

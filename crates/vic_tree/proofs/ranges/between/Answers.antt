@@ -1,7 +1,8 @@
 use Rattle.std.proofs.Common.{◌≡◌, ◌∙◌, ℕ, ◌+◌, ◌-◌, ◌<◌, ◌≤◌, ◌&&◌, ◌||◌, not, nat_lt, true, inl, inr, List, take, length, get_or, [], ◌∷◌, ◌++◌, ◌^◌, max, refl, sym, ap, subst, arith, All}
 use Rattle.vic_tree.proofs.Words.{cases_lt, get_or_default, All-weaker, list_any_more, in_ranges, is_between, AreRanges}
 use Rattle.std.proofs.lemmas.List.Elements.{All-push}
-use Rattle.vic_tree.proofs.RangeLaws.{either, in_pushed, inside_is, ranges_pushed}
+use Rattle.std.proofs.lemmas.Bool.{or_cases}
+use Rattle.vic_tree.proofs.RangeLaws.{in_pushed, inside_is, ranges_pushed}
 use Rattle.vic_tree.proofs.OutsideRanges.{outside_more}
 use Rattle.vic_tree.proofs.ranges.between.Goals as goal
 use Rattle.vic_tree.proofs.ranges.between.Goals.{then-from-first+in_ok-push, else-from-first, then-from+in_ok-push-2, else-from}
@@ -47,7 +48,7 @@ loop-range-preserved c =
         | inr l ↦ subst (All (λ (q : ℕ × ℕ). q.1 + 2 ≤ to)) (sym (same l)) ends
       ];
       keys = λ k. outside_more (in_ranges old k) (in_ranges new k) (in_ranges (take n rs) k) from r.0 r.1 to k forward reach (inv.keys k) (inv.passed k) (before k) (λ l. pushed l k) (λ l. kept l k) ∙ ap (λ z. nat_lt k to && not z) (sym (in_more k));
-      passed = λ k e. elim (either (in_ranges (take n rs) k) (is_between r.0 r.1 k) (sym (in_more k) ∙ e)) [
+      passed = λ k e. elim (or_cases (in_ranges (take n rs) k) (is_between r.0 r.1 k) (sym (in_more k) ∙ e)) [
         | inl a ↦ let lt = inv.passed k a in omega (arith, reach)
         | inr a ↦ let b = inside_is r.0 r.1 k a in omega (arith, reach, b.1)
       ];
@@ -55,7 +56,7 @@ loop-range-preserved c =
           let up = c.requires n j d (omega arith) short in
           let here = ap (λ (q : ℕ × ℕ). q.0) (get_or_default rs n d r lt ∙ at) in
           elim (cases_lt from r.0) [
-            | inl l ↦ elim (either (in_ranges old k) (is_between from (r.0 - 1) k) (sym (pushed l k) ∙ e)) [
+            | inl l ↦ elim (or_cases (in_ranges old k) (is_between from (r.0 - 1) k) (sym (pushed l k) ∙ e)) [
               | inl a ↦ let b = before k a in omega (arith, b, up, here)
               | inr a ↦ let b = inside_is from (r.0 - 1) k a in omega (arith, b.1, up, here, l)
             ]

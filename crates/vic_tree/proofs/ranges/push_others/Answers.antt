@@ -1,15 +1,13 @@
-use Rattle.std.proofs.Common.{◌≡◌, ◌∙◌, ℕ, ◌+◌, ◌-◌, ◌<◌, ◌≤◌, ◌&&◌, not, List, [], ◌∷◌, ◌++◌, take, get_or, length, refl, sym, ap, arith, take_all}
-use Rattle.vic_tree.proofs.Words.{has, in_ranges, is_between}
-use Rattle.vic_tree.proofs.BoolLaws.{not_and_not}
+use Rattle.std.proofs.Common.{◌≡◌, ℕ, ◌+◌, ◌-◌, ◌<◌, ◌≤◌, ◌&&◌, take, get_or, length, arith, take_all, nat_le, nat_lt, ◌||◌}
+use Rattle.vic_tree.proofs.Words.{in_ranges, nat_tests}
 use Rattle.vic_tree.proofs.RangeLaws.{in_pushed, inside_is}
-use Rattle.vic_tree.proofs.KeptKeys.{kept_key, last_left, turn_left, turn_passed, turn_before, first_left}
-use Rattle.vic_tree.proofs.OutsideRanges.{more_from_fewer}
+use Rattle.vic_tree.proofs.KeptKeys.{kept_key, one_more_kept, turn_left}
 use Rattle.vic_tree.proofs.ranges.push_others.Goals as goal
 use Rattle.vic_tree.proofs.ranges.push_others.Goals.{then-from-key+in_ok-push, else-from-key}
 
 pub loop-key-init : goal.loop-key-init
 loop-key-init c = record {
-  left = λ k. first_left (not (in_ranges c.args.ranges.now.items k)) c.args.first k;
+  keys = λ k. grind (arith, nat_tests);
   low = omega arith;
   high = omega (arith, c.requires.forward);
   passed = λ k h. cc;
@@ -35,40 +33,22 @@ loop-key-preserved c =
     let i = inside_is c.args.first c.args.last key (c.requires.inside key (kept_key kept n lt)) in
     let near : from ≤ key + 1 = inv.ahead n (omega arith) lt in
     let old = c.loop-key.ranges.items in
-    let now = λ (k : ℕ). not (in_ranges old k) in
-    let new = λ (k : ℕ). not (in_ranges c.if-from-key.ranges.items k) in
-    let cut : from < key → (k : ℕ) → new k ≡ (now k && not (is_between from (key - 1) k)) = elim c.if-from-key.branch [
-      | then-from-key+in_ok-push w ↦ (λ l k.
-          ap (λ (rs : List (ℕ × ℕ)). not (in_ranges rs k)) (rw w.ranges-is (w.in_ok-push.ensures.items ∙ ap (λ (r : ℕ × ℕ). old ++ r ∷ []) w.new.ensures))
-          ∙ ap not (in_pushed old from (key - 1) k)
-          ∙ sym (not_and_not (in_ranges old k) (is_between from (key - 1) k)))
-      | else-from-key w ↦ (λ l. absurd (omega (arith, w.if-from-key.false)))
-    ] in
-    let same : key ≤ from → (k : ℕ) → new k ≡ now k = elim c.if-from-key.branch [
-      | then-from-key+in_ok-push w ↦ (λ l. absurd (omega (arith, w.if-from-key.true)))
-      | else-from-key w ↦ (λ l k. rw w.ranges-is refl)
+    let step : (k : ℕ) → in_ranges c.if-from-key.ranges.items k ≡ (in_ranges old k || (nat_le from k && nat_lt k key)) = λ k. elim c.if-from-key.branch [
+      | then-from-key+in_ok-push w ↦ rw (w.ranges-is, w.in_ok-push.ensures.items, w.new.ensures, in_pushed old from (key - 1) k) (let l : from < key = w.if-from-key.true in grind (arith, nat_tests))
+      | else-from-key w ↦ rw w.ranges-is (let l : key ≤ from = w.if-from-key.false in grind (arith, nat_tests))
     ] in
     record {
-      left = turn_left kept (λ (k : ℕ). not (in_ranges c.args.ranges.now.items k)) now new c.args.first from n lt near inv.low i.0 inv.passed inv.before inv.left cut same;
+      keys = λ k. turn_left _ _ _ _ _ c.args.first from key k near inv.low i.0 (inv.passed k) (inv.before k) (inv.keys k) (step k) (one_more_kept kept n k lt);
       low = omega (arith, i.0);
       high = omega (arith, i.1);
-      passed = λ k h. turn_passed kept from n k lt near (inv.passed k) h;
-      before = λ k e l. turn_before kept n k lt e;
+      passed = λ k h. grind (arith, nat_tests, inv.passed k, one_more_kept kept n k lt);
+      before = λ k e l. grind (arith, nat_tests, one_more_kept kept n k lt);
       ahead = λ j le l. let up = c.requires.order n j 0 (omega arith) l in omega (arith, up);
     }
 
 pub returns-in_ok-push-2 : goal.returns-in_ok-push-2
 returns-in_ok-push-2 c k =
-    let kept = c.args.kept.now in
     let from = c.loop-key.from in
-    let old = c.loop-key.ranges.items in
-    let new = c.push-then-from-last.new.self.items in
-    let inv = c.loop-key.invariant in
-    let first = c.args.first in
-    let last = c.args.last in
-    let all : take c.loop-key.key-index kept ≡ kept = take_all c.loop-key.key-index kept (omega (arith, c.loop-key-test.false)) in
-    let items : new ≡ old ++ (from, last) ∷ [] = c.in_ok-push-2.ensures.items ∙ ap (λ (r : ℕ × ℕ). old ++ r ∷ []) c.new-then-from-last.ensures in
-    let cut : not (in_ranges new k) ≡ (not (in_ranges old k) && not (is_between from last k)) =
-    ap (λ (rs : List (ℕ × ℕ)). not (in_ranges rs k)) items ∙ ap not (in_pushed old from last k) ∙ sym (not_and_not (in_ranges old k) (is_between from last k)) in
-    more_from_fewer (in_ranges new k) (in_ranges c.args.ranges.now.items k) (is_between first last k && not (has kept k))
-    (last_left (not (in_ranges c.args.ranges.now.items k)) (not (in_ranges old k)) (not (in_ranges new k)) (has kept k) first from last k inv.low c.if-from-last.true (rw all at (inv.passed k)) (rw all at (inv.left k)) cut)
+    let all : take c.loop-key.key-index c.args.kept.now ≡ c.args.kept.now = take_all c.loop-key.key-index c.args.kept.now (omega (arith, c.loop-key-test.false)) in
+    let inv = rw all at c.loop-key.invariant in
+    rw (c.in_ok-push-2.ensures.items, c.new-then-from-last.ensures, in_pushed c.loop-key.ranges.items from c.args.last k) (grind (arith, nat_tests, inv.keys k, inv.passed k, inv.low))
