@@ -1,10 +1,10 @@
 -- The greatest blocks of a run of keys.
-use Rattle.std.proofs.Common.{◌≡◌, ℕ, ◌+◌, ◌-◌, ◌*◌, ◌/◌, ◌^◌, ◌%◌, ◌<◌, ◌≤◌, ◌⊎◌, ◌↔◌, inl, inr, Bool, false, List, [], Option, Some, IfSome, sym, ap, subst, ◌∙◌, arith, pow_pos, mul-le-mul_right, lt_of_mul-lt-mul_right}
+use Rattle.std.proofs.Common.{◌≡◌, ℕ, ◌+◌, ◌-◌, ◌*◌, ◌/◌, ◌^◌, ◌%◌, ◌<◌, ◌≤◌, ◌⊎◌, ◌↔◌, inl, inr, Bool, false, List, [], Option, Some, IfSome, sym, ap, subst, ◌∙◌, arith, pow_pos, lt_of_mul-lt-mul_right}
 use Rattle.vic_tree.proofs.Words.{cases_lt, cases_eq, BitMask, IsMask, mirror, mirror_bits, mirror_below, AreFirst, IsOpenMask, parent, AllOpen, without_keys, All-nil, IsGreatestIn, IsOpenBelow, is_open_in, HoldsMask, IsFirstRun, is_left}
 use Rattle.vic_frame.proofs.MirrorLaws.{mirror_split, mirror_mod}
 use Rattle.vic_tree.specs.inner.KeptMasks.{IsGreatestAt, IsOpenBlock}
 use Rattle.vic_tree.specs.inner.Ranges.{AllKeysPass}
-use Rattle.vic_tree.proofs.BlockLaws.{IsBlockMask, block_of_mask, key_in_mask, not_before, number_of_mask, same_mask_value, twice}
+use Rattle.vic_tree.proofs.BlockLaws.{IsBlockMask, block_of_mask, key_in_mask, not_before, number_of_mask, same_mask_value, twice, FirstBlock}
 use Rattle.vic_tree.proofs.FirstMasks.{same_mask}
 use Rattle.vic_tree.proofs.GapLaws.{first_passes, in_gap, in_run, left_keys}
 use Rattle.vic_tree.proofs.RangeLaws.{inside_is}
@@ -46,116 +46,94 @@ number_is len q m h b =
     let small : m.value < 2 ^ len = subst (λ (l : ℕ). m.value < 2 ^ l) b.len_is b.is_mask.1 in
     same_number (mirror_bits len m.value) q (2 ^ (56 - len)) (pow_pos (56 - len)) (sym (number_of_mask len m.value h small) ∙ b.first_is)
 
--- the first block of a run is greatest if it is odd: its parent begins before the run
-pub start_is_greatest : (from to len q s : ℕ) (m : BitMask) → len ≤ 56 → s ≡ 2 ^ (56 - len) → IsBlockMask len q m → from ≤ q * s → q * s < from + s → (q + 1) * s ≤ to + 1 → q % 2 ≡ 1 → IsGreatestAt from to len 1 m
-start_is_greatest from to len q s m h size b low near fits odd =
+-- a block in a run that begins near its start if the number is odd, and else ends near its end
+pub record IsEdge (from to s n : ℕ) : Type 0 where
+  pub inside : (from ≤ n * s) × ((n + 1) * s ≤ to + 1)
+  pub upper : n % 2 ≡ 1 → n * s < from + s
+  pub lower : n % 2 ≡ 0 → to + 1 < (n + 2) * s
+
+-- such a block is greatest: its parent begins before the run, or ends behind it
+pub edge_is_greatest : (from to len q s odd : ℕ) (m : BitMask) → len ≤ 56 → s ≡ 2 ^ (56 - len) → IsBlockMask len q m → IsEdge from to s q → q % 2 ≡ odd → IsGreatestAt from to len odd m
+edge_is_greatest from to len q s odd m h size b edge is =
     let number : mirror_bits len m.value ≡ q = number_is len q m h b in
     let own : 2 ^ (56 - m.len) ≡ s = ap (λ (l : ℕ). 2 ^ (56 - l)) b.len_is ∙ sym size in
     let first : mirror m.value ≡ q * s = b.first_is ∙ ap (λ (x : ℕ). q * x) (sym size) in
-    let side : mirror_bits len m.value % 2 ≡ 1 = ap (λ (x : ℕ). x % 2) number ∙ odd in
+    let side : mirror_bits m.len m.value ≡ q = ap (λ (l : ℕ). mirror_bits l m.value) b.len_is ∙ number in
     record {
       greatest = record {
-        inside = (b.is_mask, omega (arith, b.len_is), (omega arith, omega arith));
+        inside = (b.is_mask, omega (arith, b.len_is), (omega (arith, edge.inside.0), omega (arith, edge.inside.1)));
         greatest = elim (cases_eq m.len 0) [
           | inl z ↦ inl z
-          | inr some ↦ inr (λ w.
-              let p = in_parent m b.is_mask (omega (arith, b.len_is)) some in
-              let step = p.upper (subst (λ (l : ℕ). mirror_bits l m.value % 2 ≡ 1) (sym b.len_is) side) in
-              omega (arith, w.0))
+          | inr some ↦ inr (λ w. let p = in_parent m b.is_mask (omega (arith, b.len_is)) some in grind (arith, w.0, w.1, p.size, p.upper, p.lower, edge.upper, edge.lower))
         ];
       };
       len_is = b.len_is;
-      side = side;
+      side = omega (arith, number);
     }
 
--- and no other odd block is
-number_of : (len s : ℕ) (m : BitMask) → s ≡ 2 ^ (56 - len) → IsMask m → m.len ≤ 56 → m.len ≡ len → mirror m.value ≡ mirror_bits len m.value * s
-number_of len s m size is short e = number_of_mask m.len m.value short is.1 ∙ ap (λ (l : ℕ). mirror_bits l m.value * 2 ^ (56 - l)) e ∙ ap (λ (x : ℕ). mirror_bits len m.value * x) (sym size)
-
-pub start_is_only : (from to len q s : ℕ) (m : BitMask) → s ≡ 2 ^ (56 - len) → from ≤ q * s → q * s < from + s → IsGreatestAt from to len 1 m → mirror_bits len m.value ≡ q
-start_is_only from to len q s m size begins near g =
+-- and no others are
+pub greatest_is_edge : (from to len odd s : ℕ) (m : BitMask) → s ≡ 2 ^ (56 - len) → to < 2 ^ 56 → IsGreatestAt from to len odd m → IsEdge from to s (mirror_bits len m.value)
+greatest_is_edge from to len odd s m size small g =
     let n : ℕ = mirror_bits len m.value in
-    let own : 2 ^ (56 - m.len) ≡ s = ap (λ (l : ℕ). 2 ^ (56 - l)) g.len_is ∙ sym size in
+    let is = g.greatest.inside.0 in
+    let short = g.greatest.inside.1 in
     let held = g.greatest.inside.2 in
-    let first : mirror m.value ≡ n * s = number_of len s m size g.greatest.inside.0 g.greatest.inside.1 g.len_is in
-    let low : q ≤ n = not_before from s q n near (omega (arith, held.0)) in
-    let below : n < 2 ^ len = mirror_below len m.value in
-    let some : m.len ≡ 0 → ⊥ = λ z. let one : 2 ^ len ≡ 2 ^ 0 = ap (λ (x : ℕ). 2 ^ x) (sym g.len_is ∙ z) in omega (arith, one, below, g.side) in
-    let p = in_parent m g.greatest.inside.0 g.greatest.inside.1 some in
-    let step = p.upper (subst (λ (l : ℕ). mirror_bits l m.value % 2 ≡ 1) (sym g.len_is) g.side) in
-    elim (cases_lt q n) [
-      | inr le ↦ omega arith
-      | inl lt ↦
-          let more : (q + 1) * s ≤ n * s = mul-le-mul_right s (omega arith) in
-          elim g.greatest.greatest [
-            | inl z ↦ absurd (some z)
-            | inr out ↦ absurd (out (omega arith, omega (arith, held.1, p.size)))
-          ]
+    let own : 2 ^ (56 - m.len) ≡ s = ap (λ (l : ℕ). 2 ^ (56 - l)) g.len_is ∙ sym size in
+    let side : mirror_bits m.len m.value ≡ n = ap (λ (l : ℕ). mirror_bits l m.value) g.len_is in
+    let first : mirror m.value ≡ n * s = number_of_mask m.len m.value short is.1 ∙ ap (λ (x : ℕ). x * 2 ^ (56 - m.len)) side ∙ ap (λ (x : ℕ). n * x) own in
+    elim (cases_eq m.len 0) [
+      | inl z ↦
+          let below : n < 2 ^ 0 = subst (λ (l : ℕ). n < 2 ^ l) (sym g.len_is ∙ z) (mirror_below len m.value) in
+          let whole : s ≡ 2 ^ 56 = sym own ∙ ap (λ (l : ℕ). 2 ^ (56 - l)) z in
+          record { inside = (omega (arith, held.0), omega (arith, held.1)); upper = λ odd. absurd (omega arith); lower = λ even. omega arith }
+      | inr some ↦
+          let p = in_parent m is short some in
+          let out : HoldsMask from to (parent m) → ⊥ = elim g.greatest.greatest [ inl z ↦ absurd (some z) | inr out ↦ out ] in
+          record {
+            inside = (omega (arith, held.0), omega (arith, held.1));
+            upper = λ odd. let at = p.upper (omega arith) in elim (cases_lt (n * s) (from + s)) [
+              | inl lt ↦ lt
+              | inr le ↦ absurd (out (omega arith, omega (arith, held.1, p.size)))
+            ];
+            lower = λ even. let at = p.lower (omega arith) in elim (cases_lt (to + 1) ((n + 2) * s)) [
+              | inl lt ↦ lt
+              | inr le ↦ absurd (out (omega (arith, held.0), omega (arith, p.size)))
+            ];
+          }
     ]
 
--- the last block of a run is greatest if it is even: its parent ends behind the run
-pub end_is_greatest : (from to len q s : ℕ) (m : BitMask) → len ≤ 56 → s ≡ 2 ^ (56 - len) → IsBlockMask len q m → from ≤ q * s → (q + 1) * s ≤ to + 1 → to + 1 < (q + 2) * s → q % 2 ≡ 0 → IsGreatestAt from to len 0 m
-end_is_greatest from to len q s m h size b low fits near even =
-    let number : mirror_bits len m.value ≡ q = number_is len q m h b in
-    let own : 2 ^ (56 - m.len) ≡ s = ap (λ (l : ℕ). 2 ^ (56 - l)) b.len_is ∙ sym size in
-    let first : mirror m.value ≡ q * s = b.first_is ∙ ap (λ (x : ℕ). q * x) (sym size) in
-    let side : mirror_bits len m.value % 2 ≡ 0 = ap (λ (x : ℕ). x % 2) number ∙ even in
-    record {
-      greatest = record {
-        inside = (b.is_mask, omega (arith, b.len_is), (omega arith, omega arith));
-        greatest = elim (cases_eq m.len 0) [
-          | inl z ↦ inl z
-          | inr some ↦ inr (λ w.
-              let p = in_parent m b.is_mask (omega (arith, b.len_is)) some in
-              let step = p.lower (subst (λ (l : ℕ). mirror_bits l m.value % 2 ≡ 0) (sym b.len_is) side) in
-              omega (arith, w.1, p.size))
-        ];
-      };
-      len_is = b.len_is;
-      side = side;
-    }
+pub start_is_only : (from to len q s : ℕ) (m : BitMask) → s ≡ 2 ^ (56 - len) → to < 2 ^ 56 → FirstBlock from s q → IsGreatestAt from to len 1 m → (mirror_bits len m.value ≡ q) × IsEdge from to s q
+start_is_only from to len q s m size small f g =
+    let edge = greatest_is_edge from to len 1 s m size small g in
+    let low = not_before from s q (mirror_bits len m.value) f.near edge.inside.0 in
+    let high = not_before from s (mirror_bits len m.value) q (edge.upper g.side) f.from in
+    let is : mirror_bits len m.value ≡ q = omega arith in
+    (is, rw is at edge)
 
--- and no other even block is
-pub end_is_only : (from to len e s : ℕ) (m : BitMask) → s ≡ 2 ^ (56 - len) → to < 2 ^ 56 → e * s ≤ to + 1 → to + 1 < (e + 1) * s → IsGreatestAt from to len 0 m → mirror_bits len m.value + 1 ≡ e
-end_is_only from to len e s m size small low near g =
+-- the last block that ends in a range
+last_block : (x s : ℕ) → 0 < s → (x / s * s ≤ x) × (x < (x / s + 1) * s)
+last_block x s pos = let e : s * (x / s) + x % s ≡ x = omega arith in let lt : x % s < s = omega arith in (omega arith, omega arith)
+
+pub end_is_edge : (from to s j : ℕ) → 0 < s → (to + 1) / s ≡ j + 1 → j % 2 ≡ 0 → from ≤ j * s → IsEdge from to s j
+end_is_edge from to s j pos is even low =
+    let last = rw is at (last_block (to + 1) s pos) in
+    record { inside = (low, last.0); upper = λ odd. absurd (omega arith); lower = λ e. omega (arith, last.1) }
+
+pub end_is_only : (from to len s : ℕ) (m : BitMask) → s ≡ 2 ^ (56 - len) → 0 < s → to < 2 ^ 56 → IsGreatestAt from to len 0 m → (mirror_bits len m.value ≡ (to + 1) / s - 1) × ((to + 1) / s % 2 ≡ 1) × IsEdge from to s ((to + 1) / s - 1)
+end_is_only from to len s m size pos small g =
     let n : ℕ = mirror_bits len m.value in
-    let own : 2 ^ (56 - m.len) ≡ s = ap (λ (l : ℕ). 2 ^ (56 - l)) g.len_is ∙ sym size in
-    let held = g.greatest.inside.2 in
-    let first : mirror m.value ≡ n * s = number_of len s m size g.greatest.inside.0 g.greatest.inside.1 g.len_is in
-    let lt : (n + 1) * s < (e + 1) * s = omega (arith, held.1) in
-    let high : n + 1 < e + 1 = lt_of_mul-lt-mul_right s lt in
-    elim (cases_lt (n + 1) e) [
-      | inr le ↦ omega arith
-      | inl more ↦
-          let next : (n + 2) * s ≤ e * s = mul-le-mul_right s (omega arith) in
-          elim (cases_eq m.len 0) [
-            | inl z ↦ let whole : s ≡ 2 ^ 56 = sym own ∙ ap (λ (l : ℕ). 2 ^ (56 - l)) z in absurd (omega arith)
-            | inr some ↦
-                let p = in_parent m g.greatest.inside.0 g.greatest.inside.1 some in
-                let step = p.lower (subst (λ (l : ℕ). mirror_bits l m.value % 2 ≡ 0) (sym g.len_is) g.side) in
-                elim g.greatest.greatest [
-                  | inl z ↦ absurd (some z)
-                  | inr out ↦ absurd (out (omega (arith, held.0), omega (arith, p.size)))
-                ]
-          ]
-    ]
+    let edge = greatest_is_edge from to len 0 s m size small g in
+    let last = last_block (to + 1) s pos in
+    let low : n + 1 < (to + 1) / s + 1 = lt_of_mul-lt-mul_right s (omega (arith, edge.inside.1, last.1)) in
+    let high : (to + 1) / s < n + 2 = lt_of_mul-lt-mul_right s (omega (arith, edge.lower g.side, last.0)) in
+    let is : n ≡ (to + 1) / s - 1 = omega arith in
+    (is, omega (arith, g.side), rw is at edge)
 
 -- a mask is told by its length and the number of its block
 pub mask_at : (from to len q odd : ℕ) (m x : BitMask) → len ≤ 56 → IsBlockMask len q x → mirror_bits len m.value ≡ q → IsGreatestAt from to len odd m → x ≡ m
 mask_at from to len q odd m x h b e g =
     let own = block_of_mask len m h g.greatest.inside.0 g.len_is in
     same_mask x m (b.len_is ∙ sym g.len_is) (same_mask_value len q x m h b (subst (λ (n : ℕ). IsBlockMask len n m) e own))
-
-pub block_fits : (from to len q odd s : ℕ) (m : BitMask) → s ≡ 2 ^ (56 - len) → mirror_bits len m.value ≡ q → IsGreatestAt from to len odd m → (from ≤ q * s) × ((q + 1) * s ≤ to + 1)
-block_fits from to len q odd s m size e g =
-    let own : 2 ^ (56 - m.len) ≡ s = ap (λ (l : ℕ). 2 ^ (56 - l)) g.len_is ∙ sym size in
-    let held = g.greatest.inside.2 in
-    let first : mirror m.value ≡ q * s = number_of len s m size g.greatest.inside.0 g.greatest.inside.1 g.len_is ∙ ap (λ (x : ℕ). x * s) e in
-    (omega (arith, held.0), omega (arith, held.1))
-
--- the last block that ends in a range
-pub last_block : (x s : ℕ) → 0 < s → (x / s * s ≤ x) × (x < (x / s + 1) * s)
-last_block x s pos = let e : s * (x / s) + x % s ≡ x = omega arith in let lt : x % s < s = omega arith in (omega arith, omega arith)
 
 -- the greatest blocks of a run are open, and no others that begin in it: a key before it and one behind it fail
 parent_held : (p : ℕ → Bool) (from to : ℕ) (m : BitMask) → IsMask m → m.len ≤ 56 → (m.len ≡ 0 → ⊥) → ((k : ℕ) → k + 1 ≡ from → p k ≡ false) → p (to + 1) ≡ false → HoldsMask from to m → AllKeysPass p (parent m) → HoldsMask from to (parent m)

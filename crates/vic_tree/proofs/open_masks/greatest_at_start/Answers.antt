@@ -1,25 +1,23 @@
 use Rattle.std.proofs.Common.{◌-◌, ◌^◌, ◌≤◌, ap, arith, Some, pow_mono}
-use Rattle.vic_tree.proofs.BlockLaws.{FirstBlock, first_block, block_small}
-use Rattle.vic_tree.proofs.OpenBlocks.{block_fits, mask_at, start_is_greatest, start_is_only}
+use Rattle.vic_tree.proofs.BlockLaws.{first_block, block_small}
+use Rattle.vic_tree.proofs.OpenBlocks.{edge_is_greatest, mask_at, start_is_only}
 use Rattle.vic_tree.proofs.open_masks.greatest_at_start.Goals as goal
 use Rattle.vic_tree.proofs.open_masks.greatest_at_start.Goals.{then-number-eq0-via-then-number-eq0, then-number-eq0-via-else-number-eq0+then-to-number}
 
 pub overflow_mul-number : goal.overflow_mul-number
 overflow_mul-number c =
-    let s = c.size_of_block-size.result in
-    let f : FirstBlock c.args.from s c.div_ceil-number.result = first_block c.args.from s c.div_ceil-number.result c.size_of_block-size.ensures.some c.div_ceil-number.ensures in
+    let f = first_block c.args.from c.size_of_block-size.result c.div_ceil-number.result c.size_of_block-size.ensures.some c.div_ceil-number.ensures in
     let most : 2 ^ (56 - c.args.len) ≤ 2 ^ 56 = pow_mono {j = 56} (omega arith) in
     omega (arith, f.near, most, c.size_of_block-size.ensures.value)
 
 pub returns-then-number-eq0-clause-only : goal.returns-then-number-eq0-clause-only
 returns-then-number-eq0-clause-only c m g =
-    let s = c.size_of_block-size.result in
+    let s = c.size_of_block-size in
     let q = c.div_ceil-number.result in
-    let f : FirstBlock c.args.from s q = first_block c.args.from s q c.size_of_block-size.ensures.some c.div_ceil-number.ensures in
-    let is = start_is_only c.args.from c.args.to c.args.len q s m c.size_of_block-size.ensures.value f.from f.near g in
+    let only = start_is_only c.args.from c.args.to c.args.len q s.result m s.ensures.value c.requires.small (first_block c.args.from s.result q s.ensures.some c.div_ceil-number.ensures) g in
     elim c.then-number-eq0.branch [
-      | then-number-eq0-via-then-number-eq0 w ↦ absurd (omega (arith, is, g.side, w.if-number-eq0.true))
-      | then-number-eq0-via-else-number-eq0+then-to-number w ↦ absurd (let fits = block_fits c.args.from c.args.to c.args.len q 1 s m c.size_of_block-size.ensures.value is g in omega (arith, fits.1, w.if-to-number.true))
+      | then-number-eq0-via-then-number-eq0 w ↦ absurd (omega (arith, only.0, g.side, w.if-number-eq0.true))
+      | then-number-eq0-via-else-number-eq0+then-to-number w ↦ absurd (omega (arith, only.1.inside.1, w.if-to-number.true))
     ]
 
 pub mask_of_block-requires-clause-small : goal.mask_of_block-requires-clause-small
@@ -27,18 +25,18 @@ mask_of_block-requires-clause-small c = block_small c.args.len c.div_ceil-number
 
 pub returns-clause-found : goal.returns-clause-found
 returns-clause-found c =
-    let s = c.size_of_block-size.result in
+    let s = c.size_of_block-size in
     let q = c.div_ceil-number.result in
-    let f : FirstBlock c.args.from s q = first_block c.args.from s q c.size_of_block-size.ensures.some c.div_ceil-number.ensures in
-    start_is_greatest c.args.from c.args.to c.args.len q s c.mask_of_block.result c.requires.short c.size_of_block-size.ensures.value
+    let f = first_block c.args.from s.result q s.ensures.some c.div_ceil-number.ensures in
+    edge_is_greatest c.args.from c.args.to c.args.len q s.result 1 c.mask_of_block.result c.requires.short s.ensures.value
     (record { len_is = c.mask_of_block.ensures.len; is_mask = c.mask_of_block.ensures.is_mask; first_is = c.mask_of_block.ensures.first })
-    f.from f.near c.if-to-number.false (omega (arith, c.if-number-eq0.false))
+    (record { inside = (f.from, c.if-to-number.false); upper = λ odd. f.near; lower = λ even. absurd (omega (arith, c.if-number-eq0.false)) })
+    (omega (arith, c.if-number-eq0.false))
 
 pub returns-clause-only : goal.returns-clause-only
 returns-clause-only c m g =
-    let s = c.size_of_block-size.result in
+    let s = c.size_of_block-size in
     let q = c.div_ceil-number.result in
-    let f : FirstBlock c.args.from s q = first_block c.args.from s q c.size_of_block-size.ensures.some c.div_ceil-number.ensures in
-    let is = start_is_only c.args.from c.args.to c.args.len q s m c.size_of_block-size.ensures.value f.from f.near g in
+    let only = start_is_only c.args.from c.args.to c.args.len q s.result m s.ensures.value c.requires.small (first_block c.args.from s.result q s.ensures.some c.div_ceil-number.ensures) g in
     ap Some (mask_at c.args.from c.args.to c.args.len q 1 m c.mask_of_block.result c.requires.short
-    (record { len_is = c.mask_of_block.ensures.len; is_mask = c.mask_of_block.ensures.is_mask; first_is = c.mask_of_block.ensures.first }) is g)
+    (record { len_is = c.mask_of_block.ensures.len; is_mask = c.mask_of_block.ensures.is_mask; first_is = c.mask_of_block.ensures.first }) only.0 g)
