@@ -1,10 +1,10 @@
 -- Lists that have all masks of a kind: in any order, then in order.
-use Rattle.std.proofs.Common.{◌≡◌, ◌⊎◌, ◌↔◌, inl, inr, Bool, true, List, [], ◌∷◌, Ordering, Less, Equal, Greater, is_eq, sym, ◌∙◌, arith, All, AllPairs, Contains, IsPermutation, IsSorted, refl}
+use Rattle.std.proofs.Common.{◌≡◌, ◌⊎◌, ◌↔◌, inl, inr, Bool, true, List, [], ◌∷◌, Less, sym, ◌∙◌, arith, All, AllPairs, Contains, IsPermutation, IsSorted, refl}
 use Rattle.vic_tree.proofs.Words.{All-nil, BitMask}
 use Rattle.std.specs.Cmp.{IsEquivalence, IsTotalOrder}
 use Rattle.std.specs.List.{AllByRecursion, dedup}
 use Rattle.std.specs.List.Sorted.{IsStrictlySortedBy}
-use Rattle.std.specs.Ordering.{MatchOrdering, eq_by_cmp}
+use Rattle.std.specs.Ordering.{eq_by_cmp}
 use Rattle.std.proofs.lemmas.Cmp.{eq_by_cmp_equiv, nat_cmp_total, on_total, then_total}
 use Rattle.std.proofs.lemmas.List.Elements.{All-cons, Contains-get_or}
 use Rattle.std.proofs.lemmas.List.Filters.{All-dedup}
@@ -12,7 +12,7 @@ use Rattle.std.proofs.lemmas.List.Kept.{AllPairs-cons, Contains-dedup, IsStrictl
 use Rattle.std.proofs.lemmas.List.Sorted.{All-permutation, Contains-permutation}
 use Rattle.vic_tree.specs.inner.KeptMasks.{Adds}
 use Rattle.vic_tree.specs.OpenMasks.{AreAll, ComesBefore}
-use Rattle.vic_tree.proofs.FirstMasks.{compared, less_before, mask_cmp, or_both}
+use Rattle.vic_tree.proofs.FirstMasks.{less_before, mask_cmp, or_both, equal_same}
 
 -- some masks, and those that are added
 pub members_both : (P Q R : BitMask → Type 0) (ys zs : List BitMask) → ((m : BitMask) → P m ⊎ Q m ↔ R m) → ((m : BitMask) → P m ↔ Contains ys m) → Adds Q ys zs → (m : BitMask) → R m ↔ Contains zs m
@@ -55,8 +55,4 @@ sorted_once E ties P ms sorted own same up = record {
   }
 
   one : (x y : BitMask) → E x y ≡ true → x ≡ y
-  one x y e = go (mask_cmp x y) (compared x y) (sym (ties x y) ∙ e) where
-    go : (r : Ordering) → MatchOrdering r (ComesBefore x y) (x ≡ y) (ComesBefore y x) → is_eq r ≡ true → x ≡ y
-    go Less h e = absurd (cc)
-    go Equal h e = h
-    go Greater h e = absurd (cc)
+  one x y e = equal_same x y (sym (ties x y) ∙ e)

@@ -1,9 +1,8 @@
 -- Lists of masks in order, of which the last are left out.
-use Rattle.std.proofs.Common.{◌≡◌, ◌==◌, ◌↔◌, Bool, true, min, ℕ, suc, zero, ◌+◌, ◌-◌, ◌<◌, ◌≤◌, ◌⊎◌, inl, inr, List, [], ◌∷◌, length, get_or, take, Some, Err, Ordering, Less, Equal, Greater, refl, sym, ap, subst, ◌∙◌, arith, AllPairs, Contains, insert, nat_cmp, eqb-true, get_or-take, length-take, length-take-le, take_all, pow_pos}
+use Rattle.std.proofs.Common.{◌≡◌, ◌==◌, ◌↔◌, Bool, true, min, ℕ, suc, zero, ◌+◌, ◌-◌, ◌<◌, ◌≤◌, ◌⊎◌, inl, inr, List, [], ◌∷◌, length, get_or, take, Some, Err, Ordering, Less, Greater, refl, sym, ap, subst, ◌∙◌, arith, AllPairs, Contains, insert, nat_cmp, eqb-true, get_or-take, length-take, length-take-le, take_all, pow_pos, is_eq}
 use Rattle.vic_tree.proofs.Words.{IsNonDecreasingBy, cases_lt, cases_eq, nat_tests, get_or_default, All-nil, All-weaker, BitMask, IsAtMost, IsWidest, AreFirst, IsOpenMask, parent, AreKept}
 use Rattle.std.specs.List.Sorted.{IsBinarySearchResult}
-use Rattle.std.specs.Ordering.{MatchOrdering, ordering_index, ordering_then}
-use Rattle.std.proofs.lemmas.Cmp.{ranked}
+use Rattle.std.specs.Ordering.{ordering_index, ordering_then}
 use Rattle.std.proofs.lemmas.List.Edits.{length-insert}
 use Rattle.std.proofs.lemmas.List.Elements.{All-cons, All-contains, All-take, Contains-append_cases, Contains-append_right, Contains-get_or, Contains-push_cases}
 use Rattle.std.proofs.lemmas.List.Kept.{AllPairs-cons}
@@ -46,44 +45,31 @@ before_itself a h = let lt = h.1 refl in omega arith
 abbrev pub mask_cmp : BitMask → BitMask → Ordering
 mask_cmp a b = ordering_then (nat_cmp a.len b.len) (nat_cmp a.value b.value)
 
-pub compared : (a b : BitMask) → MatchOrdering (mask_cmp a b) (ComesBefore a b) (a ≡ b) (ComesBefore b a)
-compared a b = go (nat_cmp a.len b.len) (nat_cmp a.value b.value) (ranked a.len b.len _ refl) (ranked a.value b.value _ refl) where
-  go : (r s : Ordering) → MatchOrdering r (a.len < b.len) (a.len ≡ b.len) (b.len < a.len) → MatchOrdering s (a.value < b.value) (a.value ≡ b.value) (b.value < a.value) → MatchOrdering (ordering_then r s) (ComesBefore a b) (a ≡ b) (ComesBefore b a)
-  go Less s h k = (omega arith, λ e. absurd (omega arith))
-  go Equal Less h k = (omega arith, λ e. k)
-  go Equal Equal h k = same_mask a b h k
-  go Equal Greater h k = (omega arith, λ e. k)
-  go Greater s h k = (omega arith, λ e. absurd (omega arith))
-
 pub less_before : (a b : BitMask) → mask_cmp a b ≡ Less → ComesBefore a b
-less_before a b e = go (mask_cmp a b) e (compared a b) where
-  go : (r : Ordering) → r ≡ Less → MatchOrdering r (ComesBefore a b) (a ≡ b) (ComesBefore b a) → ComesBefore a b
-  go r e h = rw e at h
+less_before a b e = (grind (arith, nat_tests), λ f. grind (arith, nat_tests))
+
+greater_before : (a b : BitMask) → mask_cmp a b ≡ Greater → ComesBefore b a
+greater_before a b e = (grind (arith, nat_tests), λ f. grind (arith, nat_tests))
+
+pub equal_same : (a b : BitMask) → is_eq (mask_cmp a b) ≡ true → a ≡ b
+equal_same a b e = same_mask a b (grind (arith, nat_tests)) (grind (arith, nat_tests))
+
+index_rises : (a b m : BitMask) → ComesBefore a b → ordering_index (mask_cmp a m) ≤ ordering_index (mask_cmp b m)
+index_rises a b m h = let le = h.0 in let lt = h.1 in grind (arith, nat_tests)
 
 -- the position that a search of masks in order finds
 rises : (ms : List BitMask) (m : BitMask) → AllPairs ComesBefore ms → IsNonDecreasingBy (λ x. ordering_index (mask_cmp x m)) ms
 rises ms m up i j d le lt = elim (cases_lt i j) [
-  | inl before ↦ go (get_or ms i d) (get_or ms j d) (up i j d before lt) _ _ (compared (get_or ms i d) m) (compared (get_or ms j d) m)
+  | inl before ↦ index_rises (get_or ms i d) (get_or ms j d) m (up i j d before lt)
   | inr from ↦ let same : i ≡ j = omega arith in rw same (omega arith)
-] where
-  go : (a b : BitMask) → ComesBefore a b → (r s : Ordering) → MatchOrdering r (ComesBefore a m) (a ≡ m) (ComesBefore m a) → MatchOrdering s (ComesBefore b m) (b ≡ m) (ComesBefore m b) → ordering_index r ≤ ordering_index s
-  go a b h Less s x y = omega arith
-  go a b h Equal Less x y = absurd (before_itself a (rw (← x) at (before_then a b m h y)))
-  go a b h Equal Equal x y = omega arith
-  go a b h Equal Greater x y = omega arith
-  go a b h Greater Less x y = absurd (before_itself a (before_then a b a h (before_then b m a y x)))
-  go a b h Greater Equal x y = absurd (before_itself a (before_then a b a h (rw (← y) at x)))
-  go a b h Greater Greater x y = omega arith
+]
 
 in_order : (ms : List BitMask) (m : BitMask) (i : ℕ) → AllPairs ComesBefore ms → IsBinarySearchResult (λ x. mask_cmp x m) ms (Err i) → AllPairs ComesBefore (insert ms i m)
 in_order ms m i up found =
     let place = found (rises ms m up) in
     AllPairs-insert ComesBefore ms i m up
     (λ k d from lt. less_before (get_or ms k d) m (place.0 k d from lt))
-    (λ k d from lt. greater (get_or ms k d) m _ (place.1 k d from lt) (compared (get_or ms k d) m))
-  where
-    greater : (a b : BitMask) (r : Ordering) → r ≡ Greater → MatchOrdering r (ComesBefore a b) (a ≡ b) (ComesBefore b a) → ComesBefore b a
-    greater a b r e h = rw e at h
+    (λ k d from lt. greater_before (get_or ms k d) m (place.1 k d from lt))
 
 -- a mask more is kept at its position, and the last one of too many left out
 take_pairs : (R : BitMask → BitMask → Type 0) (n : ℕ) (ms : List BitMask) → AllPairs R ms → AllPairs R (take n ms)

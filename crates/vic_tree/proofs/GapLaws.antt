@@ -1,6 +1,6 @@
 -- Ranges of keys without some keys.
 use Rattle.std.proofs.Common.{◌≡◌, ℕ, ◌+◌, ◌-◌, ◌^◌, ◌<◌, ◌≤◌, ◌&&◌, ◌⊎◌, inl, inr, Bool, true, false, not, List, Option, Some, None, IfNone, IfSome, min, refl, sym, ap, subst, ◌∙◌, arith, pow_pos}
-use Rattle.vic_tree.proofs.Words.{cases_lt, has, BitMask, IsMask, lies_in, mirror, uid_of, mirror_of_uid, Gathers, AllOpen, IsAtMost, IsWidest, SameUids, has_key, without_keys, in_ranges, is_open_in, HoldsMask, IsFirstRun, IsFreeBetween, is_left}
+use Rattle.vic_tree.proofs.Words.{cases_lt, has, BitMask, IsMask, lies_in, mirror, uid_of, mirror_of_uid, Gathers, AllOpen, IsAtMost, IsWidest, SameUids, has_key, without_keys, in_ranges, is_open_in, HoldsMask, IsFirstRun, IsFreeBetween, is_left, nat_tests}
 use Rattle.std.proofs.lemmas.Bool.{or_parts}
 use Rattle.vic_frame.proofs.KeyLaws.{is_uid}
 use Rattle.vic_tree.specs.inner.Ranges.{AllKeysPass, ComesFirstIn, IsFoundBelow, IsFreeInRanges, IsMaskIn, IsWidestBelow, is_passed}
@@ -10,22 +10,14 @@ use Rattle.vic_tree.proofs.RangeLaws.{inside_is, is_inside}
 
 -- a key that passes lies before a position, or in the first run from there on
 pub in_run : (p : ℕ → Bool) (from x y k : ℕ) → IsFirstRun p from x y → p k ≡ true → k < y + 2 → (k < from) ⊎ ((x ≤ k) × (k ≤ y))
-in_run p from x y k run t lt = elim (cases_lt k from) [
-  | inl below ↦ inl below
-  | inr le ↦ inr (
-    elim (cases_lt k x) [ inl low ↦ absurd (let f = run.before k le low in cc (t, f)) | inr at ↦ at ],
-    elim (cases_lt y k) [ inl over ↦ absurd (let e : k ≡ y + 1 = omega arith in let f = run.ends in let s = ap p e in cc (t, f, s)) | inr at ↦ at ],
-  )
-]
+in_run p from x y k run t lt = grind (arith, nat_tests, run.before k, run.ends)
 
 -- a UID is left if it's free, and is in a range and not in the list if it's left
 free_is_left : (rs : List (ℕ × ℕ)) (except keys : List ℕ) (first last u : ℕ) → IsFreeInRanges rs first last (is_passed except keys) u → is_left rs keys (mirror u) ≡ true
 free_is_left rs except keys first last u w = rw (w.is_open, (or_parts (has except u) (has_key keys u) w.free).1) refl
 
 left_is : (x y : Bool) → (x && not y) ≡ true → (x ≡ true) × (y ≡ false)
-left_is true false e = (refl, refl)
-left_is true true e = absurd (cc)
-left_is false y e = absurd (cc)
+left_is x y e = (grind (arith, nat_tests), grind (arith, nat_tests))
 
 -- the UIDs of a run are gathered
 pub run_gathered : (rs : List (ℕ × ℕ)) (except keys : List ℕ) (first last from x y to : ℕ) (old out new : List ℕ) → IsFirstRun (is_left rs keys) from x y → x ≤ y → to ≡ min y last → first ≤ from

@@ -4,7 +4,7 @@ use Rattle.vic_tree.proofs.Words.{cases_lt, cases_eq, BitMask, IsMask, mirror, m
 use Rattle.vic_frame.proofs.MirrorLaws.{mirror_split, mirror_mod}
 use Rattle.vic_tree.specs.inner.KeptMasks.{IsGreatestAt, IsOpenBlock}
 use Rattle.vic_tree.specs.inner.Ranges.{AllKeysPass}
-use Rattle.vic_tree.proofs.BlockLaws.{IsBlockMask, block_of_mask, key_in_mask, not_before, number_of_mask, same_mask_value, twice, FirstBlock}
+use Rattle.vic_tree.proofs.BlockLaws.{IsBlockMask, key_in_mask, not_before, number_of_mask, twice, FirstBlock, value_is}
 use Rattle.vic_tree.proofs.FirstMasks.{same_mask}
 use Rattle.vic_tree.proofs.GapLaws.{first_passes, in_gap, in_run, left_keys}
 use Rattle.vic_tree.proofs.RangeLaws.{inside_is}
@@ -131,9 +131,7 @@ end_is_only from to len s m size pos small g =
 
 -- a mask is told by its length and the number of its block
 pub mask_at : (from to len q odd : ℕ) (m x : BitMask) → len ≤ 56 → IsBlockMask len q x → mirror_bits len m.value ≡ q → IsGreatestAt from to len odd m → x ≡ m
-mask_at from to len q odd m x h b e g =
-    let own = block_of_mask len m h g.greatest.inside.0 g.len_is in
-    same_mask x m (b.len_is ∙ sym g.len_is) (same_mask_value len q x m h b (subst (λ (n : ℕ). IsBlockMask len n m) e own))
+mask_at from to len q odd m x h b e g = same_mask x m (b.len_is ∙ sym g.len_is) (value_is len q x m h b g.greatest.inside.0 g.len_is e)
 
 -- the greatest blocks of a run are open, and no others that begin in it: a key before it and one behind it fail
 parent_held : (p : ℕ → Bool) (from to : ℕ) (m : BitMask) → IsMask m → m.len ≤ 56 → (m.len ≡ 0 → ⊥) → ((k : ℕ) → k + 1 ≡ from → p k ≡ false) → p (to + 1) ≡ false → HoldsMask from to m → AllKeysPass p (parent m) → HoldsMask from to (parent m)

@@ -1,7 +1,8 @@
 -- The open masks of a set are apart, and hold all of it.
-use Rattle.std.proofs.Common.{◌≡◌, ℕ, zero, suc, ◌+◌, ◌-◌, ◌*◌, ◌^◌, ◌%◌, ◌<◌, ◌≤◌, ◌||◌, ◌⊎◌, inl, inr, Bool, true, false, not, List, refl, sym, ap, subst, ◌∙◌, arith, eq-eqb, eqb-true, pow_pos}
-use Rattle.vic_tree.proofs.Words.{list_any, cases_lt, list_any_at, IsUid, BitMask, lies_in, IsOpenMask, parent, AllOpen, SameUids}
+use Rattle.std.proofs.Common.{◌≡◌, ℕ, zero, suc, ◌+◌, ◌-◌, ◌*◌, ◌^◌, ◌%◌, ◌<◌, ◌≤◌, ◌||◌, ◌⊎◌, inl, inr, Bool, true, false, not, List, refl, sym, ap, subst, ◌∙◌, arith, eq-eqb, eqb-true, pow_pos, below_more}
+use Rattle.vic_tree.proofs.Words.{list_any, cases_lt, list_any_at, IsUid, BitMask, lies_in, IsOpenMask, parent, AllOpen, SameUids, nat_tests}
 use Rattle.std.proofs.lemmas.List.Folds.{Any-from_list_any}
+use Rattle.std.proofs.lemmas.Bool.{or_parts, cases_Bool, not-false}
 use Rattle.vic_frame.proofs.MaskLaws.{mod_mod_pow}
 use Rattle.vic_tree.specs.OpenMasks.{AreAll}
 use Rattle.vic_tree.proofs.BoolLaws.{same_tests}
@@ -36,35 +37,25 @@ apart set m n u g h i j = elim (cases_lt m.len n.len) [
 -- all numbers below a bound pass a test, or one fails
 all_or_one : (q : ℕ → Bool) (n : ℕ) → ((k : ℕ) → k < n → q k ≡ true) ⊎ ((k : ℕ) × (k < n) × (q k ≡ false))
 all_or_one q zero = inl (λ k lt. absurd (omega arith))
-all_or_one q (suc n) = go (q n) refl (all_or_one q n) where
-  go : (b : Bool) → q n ≡ b → ((k : ℕ) → k < n → q k ≡ true) ⊎ ((k : ℕ) × (k < n) × (q k ≡ false)) → ((k : ℕ) → k < suc n → q k ≡ true) ⊎ ((k : ℕ) × (k < suc n) × (q k ≡ false))
-  go b e (inr f) = inr (f.0, omega (arith, f.1), f.2)
-  go false e (inl all) = inr (n, omega arith, e)
-  go true e (inl all) = inl (λ k lt. elim (cases_lt k n) [
-    | inl below ↦ all k below
-    | inr at ↦ let same : n ≡ k = omega arith in ap q (sym same) ∙ e
-  ])
-
-passes : (x s : Bool) → (not x || s) ≡ true → x ≡ true → s ≡ true
-passes true s h e = h
-passes false s h e = absurd (cc)
-
-fails : (x s : Bool) → (not x || s) ≡ false → (x ≡ true) × (s ≡ false)
-fails true s h = (refl, h)
-fails false s h = absurd (cc)
+all_or_one q (suc n) = elim (all_or_one q n) [
+  | inr f ↦ inr (f.0, omega (arith, f.1), f.2)
+  | inl all ↦ elim (cases_Bool (q n)) [
+    | inl e ↦ inl (λ k lt. below_more (λ k. q k ≡ true) n all e k (omega arith))
+    | inr e ↦ inr (n, omega arith, e)
+  ]
+]
 
 -- a mask lies entirely in the set, or doesn't
 all_open_or_not : (set : ℕ → Bool) (m : BitMask) (n : ℕ) → n ≡ 2 ^ 56 → AllOpen set m ⊎ ¬ (AllOpen set m)
 all_open_or_not set m n size = elim (all_or_one (λ k. not (lies_in m (0xE0 * 2 ^ 56 + k)) || set (0xE0 * 2 ^ 56 + k)) n) [
   | inl all ↦ inl (λ u is_uid i.
       let back : 0xE0 * 2 ^ 56 + (u - 0xE0 * 2 ^ 56) ≡ u = omega (arith, is_uid.0) in
-      let t = all (u - 0xE0 * 2 ^ 56) (omega (arith, is_uid.0, is_uid.1)) in
-      ap set (sym back) ∙ passes (lies_in m (0xE0 * 2 ^ 56 + (u - 0xE0 * 2 ^ 56))) (set (0xE0 * 2 ^ 56 + (u - 0xE0 * 2 ^ 56))) t (ap (lies_in m) back ∙ i))
+      let t = rw back at (all (u - 0xE0 * 2 ^ 56) (omega (arith, is_uid.0, is_uid.1))) in
+      grind (arith, nat_tests))
   | inr f ↦ inr (λ all.
-      let w = fails (lies_in m (0xE0 * 2 ^ 56 + f.0)) (set (0xE0 * 2 ^ 56 + f.0)) f.2 in
-      let t = all (0xE0 * 2 ^ 56 + f.0) (omega arith, omega (arith, f.1)) w.0 in
-      let s = w.1 in
-      cc (t, s))
+      let w = or_parts (not (lies_in m (0xE0 * 2 ^ 56 + f.0))) (set (0xE0 * 2 ^ 56 + f.0)) f.2 in
+      let s = all (0xE0 * 2 ^ 56 + f.0) (omega arith, omega (arith, f.1)) (not-false _ w.0) in
+      cc (s, w.1))
 ]
 
 -- the mask of a UID's low bits

@@ -1,8 +1,7 @@
-use Rattle.std.proofs.Common.{◌≡◌, ◌∙◌, ap, sym, not, ◌&&◌, ◌||◌, Bool, ◌-◌, arith, pow_pos}
-use Rattle.vic_tree.proofs.Words.{has, mirror, mirror_below, in_ranges, is_between}
+use Rattle.std.proofs.Common.{◌≡◌, ◌∙◌, ap, ◌&&◌, ◌-◌, arith, pow_pos}
+use Rattle.vic_tree.proofs.Words.{has, mirror, mirror_below, in_ranges, is_between, nat_tests}
 use Rattle.std.proofs.lemmas.Result.{IfOk-weaker}
 use Rattle.vic_tree.proofs.BlockLaws.{mask_ends}
-use Rattle.vic_tree.proofs.KeptKeys.{settled_bits}
 use Rattle.vic_tree.proofs.RangeLaws.{firsts_rise}
 use Rattle.vic_tree.proofs.range_set.settled.Goals as goal
 
@@ -23,9 +22,4 @@ returns-clause-left c = IfOk-weaker c.outside.result _ _ (λ left keys u is_uid.
     let b = is_between c.key_range-first.result.0 c.key_range-first.result.1 k in
     let small = mirror_below 56 u in
     let kept : has c.deref.result.now k ≡ (b && except) = ap (λ ks. has ks k) c.deref.ensures.value ∙ c.in_ok-kept.ensures.members u is_uid in
-    keys k small
-    ∙ ap not (c.in_ok-push_others.ensures k)
-    ∙ ap (λ (z : Bool). not (z || (b && not (has c.deref.result.now k)))) (c.in_ok-closed.ensures.keys k small)
-    ∙ ap (λ (z : Bool). not (not open' || (b && not z))) kept
-    ∙ settled_bits open' b except
-    ∙ ap (λ (z : Bool). open' && (not z || except)) (sym (c.key_range-first.ensures.inside u))) c.outside.ensures.keys
+    grind (arith, nat_tests, keys k small, c.in_ok-push_others.ensures k, c.in_ok-closed.ensures.keys k small, kept, c.key_range-first.ensures.inside u)) c.outside.ensures.keys

@@ -1,8 +1,7 @@
-use Rattle.std.proofs.Common.{◌≡◌, ◌∙◌, ℕ, ◌+◌, ◌-◌, ◌<◌, ◌≤◌, ◌&&◌, ◌||◌, not, nat_lt, true, inl, inr, List, take, length, get_or, [], ◌∷◌, ◌++◌, ◌^◌, max, refl, sym, ap, subst, arith, All}
-use Rattle.vic_tree.proofs.Words.{cases_lt, get_or_default, All-weaker, list_any_more, in_ranges, is_between, AreRanges}
+use Rattle.std.proofs.Common.{◌≡◌, ◌∙◌, ℕ, ◌+◌, ◌-◌, ◌<◌, ◌≤◌, ◌&&◌, ◌||◌, nat_lt, true, inl, inr, take, length, get_or, [], ◌∷◌, ◌++◌, ◌^◌, max, refl, sym, ap, subst, arith, All, nat_le}
+use Rattle.vic_tree.proofs.Words.{cases_lt, get_or_default, All-weaker, list_any_more, in_ranges, is_between, AreRanges, nat_tests}
 use Rattle.std.proofs.lemmas.List.Elements.{All-push}
-use Rattle.std.proofs.lemmas.Bool.{or_cases}
-use Rattle.vic_tree.proofs.RangeLaws.{in_pushed, inside_is, ranges_pushed}
+use Rattle.vic_tree.proofs.RangeLaws.{in_pushed, ranges_pushed}
 use Rattle.vic_tree.proofs.OutsideRanges.{outside_more}
 use Rattle.vic_tree.proofs.ranges.between.Goals as goal
 use Rattle.vic_tree.proofs.ranges.between.Goals.{then-from-first+in_ok-push, else-from-first, then-from+in_ok-push-2, else-from}
@@ -34,9 +33,10 @@ loop-range-preserved c =
       | then-from-first+in_ok-push w ↦ (λ l. absurd (omega (arith, w.if-from-first.true, first)))
       | else-from-first w ↦ (λ l. rw w.others-is refl)
     ] in
-    let pushed : from < r.0 → (k : ℕ) → in_ranges new k ≡ (in_ranges old k || is_between from (r.0 - 1) k) = λ l k.
-    ap (λ (xs : List (ℕ × ℕ)). in_ranges xs k) (longer l) ∙ in_pushed old from (r.0 - 1) k in
-    let kept : r.0 ≤ from → (k : ℕ) → in_ranges new k ≡ in_ranges old k = λ l k. ap (λ (xs : List (ℕ × ℕ)). in_ranges xs k) (same l) in
+    let step : (k : ℕ) → in_ranges new k ≡ (in_ranges old k || (nat_le from k && nat_lt k r.0)) = λ k. elim (cases_lt from r.0) [
+      | inl l ↦ rw (longer l, in_pushed old from (r.0 - 1) k) (grind (arith, nat_tests))
+      | inr l ↦ rw (same l) (grind (arith, nat_tests))
+    ] in
     let ends : All (λ (q : ℕ × ℕ). q.1 + 2 ≤ to) old = All-weaker (λ (q : ℕ × ℕ). q.1 + 2 ≤ from) (λ (q : ℕ × ℕ). q.1 + 2 ≤ to) (λ q h. omega (arith, reach)) old inv.ends in
     record {
       ranges = elim (cases_lt from r.0) [
@@ -47,21 +47,12 @@ loop-range-preserved c =
         | inl l ↦ subst (All (λ (q : ℕ × ℕ). q.1 + 2 ≤ to)) (sym (longer l)) (All-push (λ (q : ℕ × ℕ). q.1 + 2 ≤ to) old (from, r.0 - 1) ends (omega (arith, reach, forward)))
         | inr l ↦ subst (All (λ (q : ℕ × ℕ). q.1 + 2 ≤ to)) (sym (same l)) ends
       ];
-      keys = λ k. outside_more (in_ranges old k) (in_ranges new k) (in_ranges (take n rs) k) from r.0 r.1 to k forward reach (inv.keys k) (inv.passed k) (before k) (λ l. pushed l k) (λ l. kept l k) ∙ ap (λ z. nat_lt k to && not z) (sym (in_more k));
-      passed = λ k e. elim (or_cases (in_ranges (take n rs) k) (is_between r.0 r.1 k) (sym (in_more k) ∙ e)) [
-        | inl a ↦ let lt = inv.passed k a in omega (arith, reach)
-        | inr a ↦ let b = inside_is r.0 r.1 k a in omega (arith, reach, b.1)
-      ];
+      keys = λ k. outside_more _ _ _ _ from r.0 r.1 to k forward reach (inv.keys k) (inv.passed k) (before k) (step k) (in_more k);
+      passed = λ k e. grind (arith, nat_tests, in_more k, inv.passed k);
       ahead = λ k e j d le short.
           let up = c.requires n j d (omega arith) short in
           let here = ap (λ (q : ℕ × ℕ). q.0) (get_or_default rs n d r lt ∙ at) in
-          elim (cases_lt from r.0) [
-            | inl l ↦ elim (or_cases (in_ranges old k) (is_between from (r.0 - 1) k) (sym (pushed l k) ∙ e)) [
-              | inl a ↦ let b = before k a in omega (arith, b, up, here)
-              | inr a ↦ let b = inside_is from (r.0 - 1) k a in omega (arith, b.1, up, here, l)
-            ]
-            | inr l ↦ let b = before k (sym (kept l k) ∙ e) in omega (arith, b, up, here)
-          ];
+          grind (arith, nat_tests, step k, before k, up, here);
       small = omega (arith, reach, small, inv.small);
     }
 
