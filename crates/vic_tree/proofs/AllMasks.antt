@@ -1,5 +1,5 @@
 -- Lists that have all masks of a kind: in any order, then in order.
-use Rattle.std.proofs.Common.{◌≡◌, ◌⊎◌, ◌↔◌, inl, inr, Bool, true, List, [], ◌∷◌, Less, sym, ◌∙◌, arith, All, AllPairs, Contains, IsPermutation, IsSorted, refl}
+use Rattle.std.proofs.Common.{◌≡◌, ◌⊎◌, ◌↔◌, Bool, true, List, [], ◌∷◌, Less, sym, ◌∙◌, arith, All, AllPairs, Contains, IsPermutation, IsSorted}
 use Rattle.vic_tree.proofs.Words.{All-nil, BitMask}
 use Rattle.std.specs.Cmp.{IsEquivalence, IsTotalOrder}
 use Rattle.std.specs.List.{AllByRecursion, dedup}
@@ -16,10 +16,7 @@ use Rattle.vic_tree.proofs.FirstMasks.{less_before, mask_cmp, or_both, equal_sam
 
 -- some masks, and those that are added
 pub members_both : (P Q R : BitMask → Type 0) (ys zs : List BitMask) → ((m : BitMask) → P m ⊎ Q m ↔ R m) → ((m : BitMask) → P m ↔ Contains ys m) → Adds Q ys zs → (m : BitMask) → R m ↔ Contains zs m
-members_both P Q R ys zs like own adds m = (
-  λ r. (adds m).0 (elim ((like m).1 r) [ inl x ↦ inl ((own m).0 x) | inr y ↦ inr y ]),
-  λ h. (like m).0 (elim ((adds m).1 h) [ inl old ↦ inl ((own m).1 old) | inr y ↦ inr y ]),
-)
+members_both P Q R ys zs like own adds m = grind (arith, like m, own m, adds m)
 
 -- one after another, said as one
 pub adds_both : (P Q R : BitMask → Type 0) (xs ys zs : List BitMask) → ((m : BitMask) → P m ⊎ Q m ↔ R m) → Adds P xs ys → Adds Q ys zs → Adds R xs zs

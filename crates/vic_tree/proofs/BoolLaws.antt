@@ -1,5 +1,5 @@
 -- Tests, joined by and, or and not.
-use Rattle.std.proofs.Common.{◌≡◌, ℕ, ◌<◌, Bool, true, false, not, ◌&&◌, ◌||◌, arith, nat_lt}
+use Rattle.std.proofs.Common.{◌≡◌, ℕ, ◌<◌, Bool, true, false, ◌&&◌, ◌||◌, arith, nat_lt}
 use Rattle.std.proofs.Math.Bool.{and-true, or-false, and_assoc}
 use Rattle.std.proofs.lemmas.Bool.Decides.{nat_tests}
 
@@ -20,6 +20,3 @@ lt_yes x y e = grind (arith, nat_tests)
 
 pub lt_from : (x y : ℕ) → nat_lt x y ≡ true → x < y
 lt_from x y e = grind (arith, nat_tests)
-
-pub not_and_not : (a b : Bool) → (not a && not b) ≡ not (a || b)
-not_and_not a b = grind (arith, nat_tests)

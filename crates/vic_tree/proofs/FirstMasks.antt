@@ -1,5 +1,5 @@
 -- Lists of masks in order, of which the last are left out.
-use Rattle.std.proofs.Common.{◌≡◌, ◌==◌, ◌↔◌, Bool, true, min, ℕ, suc, zero, ◌+◌, ◌-◌, ◌<◌, ◌≤◌, ◌⊎◌, inl, inr, List, [], ◌∷◌, length, get_or, take, Some, Err, Ordering, Less, Greater, refl, sym, ap, subst, ◌∙◌, arith, AllPairs, Contains, insert, nat_cmp, eqb-true, get_or-take, length-take, length-take-le, take_all, pow_pos, is_eq}
+use Rattle.std.proofs.Common.{◌≡◌, ◌==◌, ◌↔◌, Bool, true, min, ℕ, suc, zero, ◌+◌, ◌-◌, ◌<◌, ◌≤◌, ◌⊎◌, inl, inr, List, [], ◌∷◌, length, get_or, take, Some, Err, Ordering, Less, Greater, refl, sym, ap, subst, ◌∙◌, arith, AllPairs, Contains, insert, nat_cmp, eqb-true, get_or-take, length-take, length-take-le, take_all, pow_pos, is_eq, rules, eq-eqb}
 use Rattle.vic_tree.proofs.Words.{IsNonDecreasingBy, cases_lt, cases_eq, nat_tests, get_or_default, All-nil, All-weaker, BitMask, IsAtMost, IsWidest, AreFirst, IsOpenMask, parent, AreKept}
 use Rattle.std.specs.List.Sorted.{IsBinarySearchResult}
 use Rattle.std.specs.Ordering.{ordering_index, ordering_then}
@@ -34,10 +34,10 @@ module _ {X : Type 0} where
 
 -- the order of masks
 pub same_mask : (a b : BitMask) → a.len ≡ b.len → a.value ≡ b.value → a ≡ b
-same_mask a b len value = ap (λ (l : ℕ). record { len = l; value = a.value }) len ∙ ap (λ (v : ℕ). record { len = b.len; value = v }) value
+same_mask a b len value = search rules
 
 pub before_then : (a b c : BitMask) → ComesBefore a b → ComesBefore b c → ComesBefore a c
-before_then a b c h k = (omega (arith, h.0, k.0), λ e. omega (arith, h.0, k.0, h.1, k.1))
+before_then a b c h k = grind arith
 
 pub before_itself : (a : BitMask) → ComesBefore a a → ⊥
 before_itself a h = let lt = h.1 refl in omega arith
@@ -80,8 +80,8 @@ one_kept ms m i kept le found = (
   record {
     first = record {
       rising = rising;
-      wanted = All-take (λ n. Contains ms n ⊎ (Some m ≡ Some n)) 17 more (λ k d lt. has_old (get_or more k d) (Contains-insert_cases ms i m (get_or more k d) (Contains-get_or more k d lt)));
-      others = λ n h. in_front n (Contains-insert ms i m n (elim h [ inl old ↦ inl old | inr e ↦ inr (cc) ]));
+      wanted = All-take (λ n. Contains ms n ⊎ (Some m ≡ Some n)) 17 more (λ k d lt. let is = Contains-insert_cases ms i m (get_or more k d) (Contains-get_or more k d lt) in grind arith);
+      others = λ n h. in_front n (Contains-insert ms i m n (grind arith));
     };
     past = λ n h. (omega (arith, h.0, front, long), λ k d lt. let below : k < 17 = omega (arith, front) in rw (get_or-take 17 more k d below) (passed n h k d below));
   },
@@ -101,10 +101,6 @@ one_kept ms m i kept le found = (
 
   rising : AllPairs ComesBefore (take 17 more)
   rising = take_pairs ComesBefore 17 more up
-
-  has_old : (n : BitMask) → Contains ms n ⊎ (m ≡ n) → Contains ms n ⊎ (Some m ≡ Some n)
-  has_old n (inl old) = inl old
-  has_old n (inr e) = inr (ap Some e)
 
   in_front : (n : BitMask) → Contains more n → Contains (take 17 more) n ⊎ IsPast 17 (take 17 more) n
   in_front n h = elim (cases_lt h.0 17) [
@@ -150,26 +146,17 @@ past_last ms x m up full is before = (
 
 -- a choice, said otherwise
 or_like : (A P Q : Type 0) → P ↔ Q → A ⊎ P ↔ A ⊎ Q
-or_like A P Q like = (
-  λ w. elim w [ inl a ↦ inl a | inr x ↦ inr (like.0 x) ],
-  λ w. elim w [ inl a ↦ inl a | inr y ↦ inr (like.1 y) ],
-)
+or_like A P Q like = grind arith
 
 pub or_both : (A P Q R : Type 0) → P ⊎ Q ↔ R → (A ⊎ P) ⊎ Q ↔ A ⊎ R
-or_both A P Q R like = (
-  λ w. elim w [ inl v ↦ elim v [ inl a ↦ inl a | inr x ↦ inr (like.0 (inl x)) ] | inr y ↦ inr (like.0 (inr y)) ],
-  λ w. elim w [ inl a ↦ inl (inl a) | inr r ↦ elim (like.1 r) [ inl x ↦ inl (inr x) | inr y ↦ inr y ] ],
-)
+or_both A P Q R like = (λ w. grind arith, λ w. grind arith)
 
 -- the first masks of more
 pub first_kept : (P Q : BitMask → Type 0) (xs ys : List BitMask) → AreFirst 17 P xs → Keeps Q xs ys → AreFirst 17 (λ m. P m ⊎ Q m) ys
 first_kept P Q xs ys f g = record {
   rising = g.first.rising;
   wanted = All-weaker (λ m. Contains xs m ⊎ Q m) (λ m. P m ⊎ Q m) (λ m h. elim h [ inl old ↦ inl (All-contains P xs m f.wanted old) | inr more ↦ inr more ]) ys g.first.wanted;
-  others = λ m h. elim h [
-    | inl p ↦ elim (f.others m p) [ inl old ↦ g.first.others m (inl old) | inr past ↦ inr (g.past m past) ]
-    | inr q ↦ g.first.others m (inr q)
-  ];
+  others = λ m h. grind (arith, f.others m, g.first.others m, g.past m);
 }
 
 pub first_like : (n : ℕ) (P Q : BitMask → Type 0) (xs : List BitMask) → ((m : BitMask) → P m ↔ Q m) → AreFirst n P xs → AreFirst n Q xs
@@ -227,20 +214,17 @@ given_more P ms masks more short told is f =
                 before_itself last (subst (λ x. ComesBefore x last) same (f.rising k.0 16 none lt (omega arith))),
           ),
       λ w. elim (cases_lt (length ms) 17) [
-        | inr le ↦ told ∙ full_test (length ms) (omega arith)
+        | inr le ↦ told ∙ eq-eqb _ 17 (omega arith)
         | inl lt ↦ elim (f.others w.0 w.1) [
           | inl h ↦ absurd (w.2 (subst (λ xs. Contains xs w.0) (sym (is ∙ take_all n ms (omega arith))) h))
-          | inr past ↦ told ∙ full_test (length ms) past.0
+          | inr past ↦ told ∙ eq-eqb _ 17 past.0
         ]
       ],
-    ) where
-      full_test : (n : ℕ) → n ≡ 17 → (n == 17) ≡ true
-      full_test n e = grind (arith, nat_tests)
+    )
 
 -- the widest mask is open, and the first of the open ones
 one_mask : (m n : BitMask) → IsAtMost m n → ComesBefore n m ⊎ (n ≡ m) → n ≡ m
-one_mask m n h (inl b) = absurd (let e : n.len ≡ m.len = omega (arith, h.0, b.0) in omega (arith, b.1 e, h.1 (sym e)))
-one_mask m n h (inr e) = e
+one_mask m n h k = grind arith
 
 pub widest_is_first : (set : ℕ → Bool) (m : BitMask) (most : ℕ) (masks : List BitMask) → 0 < most → IsWidest set m → AreFirst most (IsOpenMask set) masks → (others : List BitMask) × (masks ≡ m ∷ others)
 widest_is_first set m most masks some w f = go masks f (f.others m opened) where

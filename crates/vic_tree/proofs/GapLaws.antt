@@ -1,6 +1,6 @@
 -- Ranges of keys without some keys.
-use Rattle.std.proofs.Common.{◌≡◌, ℕ, ◌+◌, ◌-◌, ◌^◌, ◌<◌, ◌≤◌, ◌&&◌, ◌⊎◌, inl, inr, Bool, true, false, not, List, Option, Some, None, IfNone, IfSome, min, refl, sym, ap, subst, ◌∙◌, arith, pow_pos}
-use Rattle.vic_tree.proofs.Words.{cases_lt, has, BitMask, IsMask, lies_in, mirror, uid_of, mirror_of_uid, Gathers, AllOpen, IsAtMost, IsWidest, SameUids, has_key, without_keys, in_ranges, is_open_in, HoldsMask, IsFirstRun, IsFreeBetween, is_left, nat_tests}
+use Rattle.std.proofs.Common.{◌≡◌, ℕ, ◌+◌, ◌-◌, ◌^◌, ◌<◌, ◌≤◌, ◌⊎◌, inl, inr, Bool, true, false, List, Option, Some, None, IfNone, IfSome, min, refl, sym, ap, subst, ◌∙◌, arith, pow_pos}
+use Rattle.vic_tree.proofs.Words.{cases_lt, has, BitMask, IsMask, lies_in, mirror, uid_of, mirror_of_uid, Gathers, AllOpen, IsAtMost, IsWidest, SameUids, has_key, without_keys, is_open_in, HoldsMask, IsFirstRun, IsFreeBetween, is_left, nat_tests}
 use Rattle.std.proofs.lemmas.Bool.{or_parts}
 use Rattle.vic_frame.proofs.KeyLaws.{is_uid}
 use Rattle.vic_tree.specs.inner.Ranges.{AllKeysPass, ComesFirstIn, IsFoundBelow, IsFreeInRanges, IsMaskIn, IsWidestBelow, is_passed}
@@ -16,9 +16,6 @@ in_run p from x y k run t lt = grind (arith, nat_tests, run.before k, run.ends)
 free_is_left : (rs : List (ℕ × ℕ)) (except keys : List ℕ) (first last u : ℕ) → IsFreeInRanges rs first last (is_passed except keys) u → is_left rs keys (mirror u) ≡ true
 free_is_left rs except keys first last u w = rw (w.is_open, (or_parts (has except u) (has_key keys u) w.free).1) refl
 
-left_is : (x y : Bool) → (x && not y) ≡ true → (x ≡ true) × (y ≡ false)
-left_is x y e = (grind (arith, nat_tests), grind (arith, nat_tests))
-
 -- the UIDs of a run are gathered
 pub run_gathered : (rs : List (ℕ × ℕ)) (except keys : List ℕ) (first last from x y to : ℕ) (old out new : List ℕ) → IsFirstRun (is_left rs keys) from x y → x ≤ y → to ≡ min y last → first ≤ from
     → Gathers (λ u. IsFreeInRanges rs first last (is_passed except keys) u × (mirror u < from)) old out
@@ -32,19 +29,14 @@ run_gathered rs except keys first last from x y to old out new run forward is lo
     old out new
     (λ u w. (w.0, let a = run.begins in omega (arith, w.1)))
     (λ u w.
-    let a = run.begins in
-    let i = inside_is x to (mirror u) w.inside in
-    let left = left_is (in_ranges rs (mirror u)) (has keys (mirror u)) (run.passes (mirror u) i.0 (omega (arith, i.1))) in (
-      record { is_uid = w.is_uid; is_open = left.0; inside = is_inside first last (mirror u) (omega (arith, i.0)) (omega (arith, i.1)); free = rw (w.free, left.1) refl },
-      omega (arith, i.1),
+    let begins = run.begins in
+    let pass = run.passes (mirror u) in (
+      record { is_uid = w.is_uid; is_open = grind (arith, nat_tests, w.inside, pass); inside = grind (arith, nat_tests, w.inside); free = grind (arith, nat_tests, w.inside, w.free, pass) },
+      grind (arith, nat_tests, w.inside),
     ))
-    (λ u w.
-    let i = inside_is first last (mirror u) w.0.inside in
-    let t = free_is_left rs except keys first last u w.0 in
-    let free = (or_parts (has except u) (has_key keys u) w.0.free).0 in
-    elim (in_run (is_left rs keys) from x y (mirror u) run t w.1) [
+    (λ u w. elim (in_run (is_left rs keys) from x y (mirror u) run (free_is_left rs except keys first last u w.0) w.1) [
       | inl lt ↦ inl (w.0, lt)
-      | inr at ↦ inr (record { is_uid = w.0.is_uid; inside = is_inside x to (mirror u) at.0 (omega (arith, at.1, i.1)); free = free })
+      | inr at ↦ inr (record { is_uid = w.0.is_uid; inside = grind (arith, nat_tests, w.0.inside); free = grind (arith, nat_tests, w.0.free) })
     ])
     g h
 
@@ -58,33 +50,20 @@ all_gathered rs except keys first last from old new none g =
     (IsFreeInRanges rs first last (is_passed except keys))
     old new
     (λ u w. w.0)
-    (λ u w. (
-      w,
-      elim (cases_lt (mirror u) from) [
-        | inl lt ↦ lt
-        | inr le ↦ absurd (
-            let i = inside_is first last (mirror u) w.inside in let t = free_is_left rs except keys first last u w in let f = none (mirror u) le i.1 in cc (t, f))
-      ],
-    ))
+    (λ u w. let t = free_is_left rs except keys first last u w in (w, grind (arith, nat_tests, none (mirror u), w.inside)))
     g
 
 -- ---- the widest mask
 
 at_most_then : (a b c : BitMask) → IsAtMost a b → IsAtMost b c → IsAtMost a c
-at_most_then a b c h k = (omega (arith, h.0, k.0), λ e. omega (arith, h.0, k.0, h.1, k.1))
+at_most_then a b c h k = grind arith
 
 pub first_passes : (p : ℕ → Bool) (m : BitMask) → AllKeysPass p m → p (mirror m.value) ≡ true
 first_passes p m all = let pos = pow_pos (56 - m.len) in all (mirror m.value) (omega arith) (omega arith)
 
 -- a mask whose keys pass doesn't go beyond a key that fails
 pub in_gap : (p : ℕ → Bool) (from to : ℕ) (m : BitMask) → p (to + 1) ≡ false → AllKeysPass p m → from ≤ mirror m.value → mirror m.value < to + 1 → HoldsMask from to m
-in_gap p from to m end all low high = (
-  low,
-  elim (cases_lt (to + 1) (mirror m.value + 2 ^ (56 - m.len))) [
-    | inl lt ↦ absurd (let t = all (to + 1) (omega arith) lt in cc (t, end))
-    | inr le ↦ le
-  ],
-)
+in_gap p from to m end all low high = (low, grind (arith, all (to + 1), end))
 
 -- the widest mask of a run, and one that was found before
 found_passes : (p : ℕ → Bool) (o : Option BitMask) (m : BitMask) (b x y : ℕ) → ((k : ℕ) → x ≤ k → k ≤ y → p k ≡ true) → IsMaskIn x y m ⊎ (o ≡ Some m) → IsFoundBelow p b o → IsMask m × (m.len ≤ 56) × AllKeysPass p m
@@ -129,10 +108,7 @@ found_is_widest es keys b (Some m) none w = record {
       w.passes (mirror u) t.0 (omega (arith, t.1, pos));
   least = λ n is short all.
       let pass = left_keys (is_left es keys) n is short all in
-      elim (cases_lt (mirror n.value) b) [
-        | inl h ↦ w.least n is short pass h
-        | inr h ↦ absurd (let t = first_passes (is_left es keys) n pass in let f = none (mirror n.value) h in cc (t, f))
-      ];
+      grind (arith, w.least n is short pass, none (mirror n.value), first_passes (is_left es keys) n pass);
 }
 
 pub none_found : (es : List (ℕ × ℕ)) (keys : List ℕ) (b : ℕ) (o : Option BitMask) → ((k : ℕ) → b ≤ k → is_left es keys k ≡ false) → IsFoundBelow (is_left es keys) b o → IfNone o (SameUids (without_keys (is_open_in es) keys) (λ u. false))

@@ -1,10 +1,9 @@
 -- What is left of ranges of keys without some keys, run by run.
-use Rattle.std.proofs.Common.{◌≡◌, ℕ, zero, suc, ◌+◌, ◌<◌, ◌≤◌, ◌==◌, ◌&&◌, inl, inr, Bool, true, false, not, List, [], ◌∷◌, length, get_or, drop, nat_eq, max, ◌∙◌, refl, sym, arith, ne_eqb}
-use Rattle.vic_tree.proofs.Words.{IsNonDecreasing, cases_lt, nat_tests, has, AreRanges, in_ranges, IsFirstRun, PassFrom}
-use Rattle.std.proofs.Math.Bool.{and-false}
+use Rattle.std.proofs.Common.{◌≡◌, ℕ, zero, suc, ◌+◌, ◌<◌, ◌≤◌, ◌==◌, ◌&&◌, Bool, true, false, not, List, [], ◌∷◌, length, get_or, drop, nat_eq, max, ◌∙◌, refl, sym, arith, ne_eqb}
+use Rattle.vic_tree.proofs.Words.{IsNonDecreasing, nat_tests, has, AreRanges, in_ranges, IsFirstRun, PassFrom}
 use Rattle.std.proofs.lemmas.List.Elements.{All-from_get_or}
 use Rattle.std.proofs.lemmas.List.Folds.{list_any_none}
-use Rattle.vic_tree.proofs.RangeLaws.{is_after, is_inside, none_below}
+use Rattle.vic_tree.proofs.RangeLaws.{none_below}
 
 -- a key in a list that rises, and one behind its first
 pub is_first : (key k : ℕ) (others : List ℕ) → k ≡ key → has (key ∷ others) k ≡ true
@@ -31,14 +30,11 @@ none_left (r ∷ rs) keys k e = absurd (omega arith)
 
 -- the keys before the first that is free don't pass
 pub none_passed : (p : ℕ → Bool) (from free : ℕ) (r : ℕ × ℕ) (others : List (ℕ × ℕ)) (keys : List ℕ) → AreRanges (r ∷ others) → PassFrom p (from, r ∷ others, keys) → ((k : ℕ) → max from r.0 ≤ k → k < free → has keys k ≡ true) → (k : ℕ) → from ≤ k → k < free → p k ≡ false
-none_passed p from free r others keys ranges pass taken k low lt = pass k low ∙ elim (cases_lt k r.0) [
-  | inl below ↦ rw (none_below r.0 (r ∷ others) k (omega arith, ranges.1, ranges.2, ranges.3) below) refl
-  | inr over ↦ rw (taken k (omega arith) lt) (and-false (in_ranges (r ∷ others) k))
-]
+none_passed p from free r others keys ranges pass taken k low lt = grind (arith, nat_tests, pass k low, none_below r.0 (r ∷ others) k (omega arith, ranges.1, ranges.2, ranges.3), taken k)
 
 -- a range that ends before it is passed
 pub pass_others : (p : ℕ → Bool) (from free : ℕ) (r : ℕ × ℕ) (others : List (ℕ × ℕ)) (keys rest : List ℕ) → from ≤ free → r.1 < free → PassFrom p (from, r ∷ others, keys) → ((k : ℕ) → free ≤ k → has rest k ≡ has keys k) → PassFrom p (free, others, rest)
-pass_others p from free r others keys rest low over pass same k le = pass k (omega arith) ∙ rw (is_after r.0 r.1 k (omega arith), same k le) refl
+pass_others p from free r others keys rest low over pass same k le = grind (arith, nat_tests, pass k, same k le)
 
 -- and one that doesn't has a run
 pub is_first_run : (p : ℕ → Bool) (begin from first last : ℕ) (r : ℕ × ℕ) (others : List (ℕ × ℕ)) (keys rest : List ℕ) → AreRanges (r ∷ others) → PassFrom p (from, r ∷ others, keys)
@@ -50,13 +46,7 @@ pub is_first_run : (p : ℕ → Bool) (begin from first last : ℕ) (r : ℕ × 
     → IsFirstRun p begin first last
 is_first_run p begin from first last r others keys rest ranges pass none a b d e taken same free end = record {
   begins = omega arith;
-  before = λ k low lt. elim (cases_lt k from) [
-    | inl below ↦ none k low below
-    | inr le ↦ none_passed p from first r others keys ranges pass taken k le lt
-  ];
-  passes = λ k low high. pass k (omega arith) ∙ rw (is_inside r.0 r.1 k (omega arith) (omega arith), ← same k low, free k high) refl;
-  ends = pass (last + 1) (omega arith) ∙ elim (cases_lt last r.1) [
-    | inl lt ↦ rw (← same (last + 1) (omega arith), end lt) (and-false (in_ranges (r ∷ others) (last + 1)))
-    | inr le ↦ rw (is_after r.0 r.1 (last + 1) (omega arith), none_below (r.1 + 2) others (last + 1) ranges.3 (omega arith)) refl
-  ];
+  before = λ k low lt. grind (arith, none k, none_passed p from first r others keys ranges pass taken k);
+  passes = λ k low high. grind (arith, nat_tests, pass k, same k low, free k high);
+  ends = grind (arith, nat_tests, pass (last + 1), same (last + 1), end, none_below (r.1 + 2) others (last + 1) ranges.3);
 }

@@ -139,14 +139,8 @@ parent_held p from to m is short some before behind held all =
     let i = in_parent m is short some in
     let n : ℕ = mirror_bits m.len m.value in
     let pos = pow_pos (56 - m.len) in
-    let near : (mirror (parent m).value ≤ mirror m.value) × (mirror m.value < mirror (parent m).value + 2 ^ (56 - (m.len - 1))) = elim (cases_eq (n % 2) 0) [
-      | inl even ↦ (omega (arith, i.lower even), omega (arith, i.lower even, i.size))
-      | inr odd ↦ let one : n % 2 ≡ 1 = omega arith in (omega (arith, i.upper one), omega (arith, i.upper one, i.size))
-    ] in
-    let low : from ≤ mirror (parent m).value = elim (cases_lt (mirror (parent m).value) from) [
-      | inr le ↦ le
-      | inl lt ↦ absurd (let t = all (from - 1) (omega arith) (omega (arith, near.1, held.0)) in let f = before (from - 1) (omega arith) in cc (t, f))
-    ] in
+    let near : (mirror (parent m).value ≤ mirror m.value) × (mirror m.value < mirror (parent m).value + 2 ^ (56 - (m.len - 1))) = (grind (arith, i.lower, i.upper), grind (arith, i.lower, i.upper, i.size)) in
+    let low : from ≤ mirror (parent m).value = grind (arith, all (from - 1), before (from - 1), held.0) in
     in_gap p from to (parent m) behind all low (omega (arith, near.0, held.1))
 
 -- no mask is open before the first key
@@ -174,10 +168,7 @@ run_opened p from first last cut forward run m = (
 )
   where
     before : (k : ℕ) → k + 1 ≡ first → p k ≡ false
-    before k e = elim (cases_lt k from) [
-      | inl lt ↦ cut k (let a = run.begins in omega arith)
-      | inr le ↦ run.before k le (omega arith)
-    ]
+    before k e = grind (arith, cut k, run.before k, run.begins)
 
     opened : IsGreatestIn first last m → IsOpenBlock p m
     opened g = record {
@@ -231,10 +222,7 @@ all_opened es keys b none m = (
       let block = open_block es keys m o in
       let t = first_passes (is_left es keys) m block.passes in (
         block,
-        elim (cases_lt (mirror m.value) b) [
-          | inl lt ↦ lt
-          | inr from ↦ absurd (let e = none (mirror m.value) from in cc (t, e))
-        ],
+        grind (arith, none (mirror m.value), t),
       ),
 )
 

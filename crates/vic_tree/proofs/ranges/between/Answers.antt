@@ -1,10 +1,16 @@
-use Rattle.std.proofs.Common.{◌≡◌, ◌∙◌, ℕ, ◌+◌, ◌-◌, ◌<◌, ◌≤◌, ◌&&◌, ◌||◌, nat_lt, true, inl, inr, take, length, get_or, [], ◌∷◌, ◌++◌, ◌^◌, max, refl, sym, ap, subst, arith, All, nat_le}
+use Rattle.std.proofs.Common.{◌≡◌, ◌∙◌, ℕ, ◌+◌, ◌-◌, ◌<◌, ◌≤◌, ◌&&◌, ◌||◌, nat_lt, true, inl, inr, take, length, get_or, [], ◌∷◌, ◌++◌, ◌^◌, max, refl, sym, ap, subst, arith, All, nat_le, not, Bool}
 use Rattle.vic_tree.proofs.Words.{cases_lt, get_or_default, All-weaker, list_any_more, in_ranges, is_between, AreRanges, nat_tests}
 use Rattle.std.proofs.lemmas.List.Elements.{All-push}
 use Rattle.vic_tree.proofs.RangeLaws.{in_pushed, ranges_pushed}
-use Rattle.vic_tree.proofs.OutsideRanges.{outside_more}
 use Rattle.vic_tree.proofs.ranges.between.Goals as goal
 use Rattle.vic_tree.proofs.ranges.between.Goals.{then-from-first+in_ok-push, else-from-first, then-from+in_ok-push-2, else-from}
+
+-- whether a key is outside of one range more, from a to b, where those before reach up to `from`
+outside_more : (out new was more : Bool) (from a b to k : ℕ) → a ≤ b → to ≡ max from (b + 1)
+    → out ≡ (nat_lt k from && not was) → (was ≡ true → k < from) → (out ≡ true → k < a)
+    → new ≡ (out || (nat_le from k && nat_lt k a)) → more ≡ (was || is_between a b k)
+    → new ≡ (nat_lt k to && not more)
+outside_more out new was more from a b to k forward at is passed ahead step one = grind (arith, nat_tests)
 
 pub loop-range-preserved : goal.loop-range-preserved
 loop-range-preserved c =

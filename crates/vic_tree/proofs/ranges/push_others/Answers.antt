@@ -1,9 +1,18 @@
-use Rattle.std.proofs.Common.{◌≡◌, ℕ, ◌+◌, ◌-◌, ◌<◌, ◌≤◌, ◌&&◌, take, get_or, length, arith, take_all, nat_le, nat_lt, ◌||◌}
-use Rattle.vic_tree.proofs.Words.{in_ranges, nat_tests}
+use Rattle.std.proofs.Common.{◌≡◌, ℕ, ◌+◌, ◌-◌, ◌<◌, ◌≤◌, ◌&&◌, take, get_or, length, arith, take_all, nat_le, nat_lt, ◌||◌, refl, true, List, not, nat_eq, eq-eqb, Bool, ◌==◌}
+use Rattle.vic_tree.proofs.Words.{in_ranges, nat_tests, has, list_any_at, list_any_more}
 use Rattle.vic_tree.proofs.RangeLaws.{in_pushed, inside_is}
-use Rattle.vic_tree.proofs.KeptKeys.{kept_key, one_more_kept, turn_left}
 use Rattle.vic_tree.proofs.ranges.push_others.Goals as goal
 use Rattle.vic_tree.proofs.ranges.push_others.Goals.{then-from-key+in_ok-push, else-from-key}
+
+-- an element of a list is in it
+kept_key : (xs : List ℕ) (i : ℕ) → i < length xs → has xs (get_or xs i 0) ≡ true
+kept_key xs i lt = list_any_at (nat_eq (get_or xs i 0)) xs i 0 lt (eq-eqb (get_or xs i 0) (get_or xs i 0) refl)
+
+-- what is left of a key after a turn that takes out what lies between the kept keys
+turn_left : (old now new h more : Bool) (first from key k : ℕ) → from ≤ key + 1 → first ≤ from → first ≤ key → (h ≡ true → k < from) → (k + 1 ≡ from → first < from → h ≡ true)
+    → now ≡ (old || ((nat_le first k && nat_lt k from) && not h)) → new ≡ (now || (nat_le from k && nat_lt k key)) → more ≡ (h || (k == key))
+    → new ≡ (old || ((nat_le first k && nat_lt k (key + 1)) && not more))
+turn_left old now new h more first from key k p q r passed before is step one = grind (arith, nat_tests)
 
 pub loop-key-init : goal.loop-key-init
 loop-key-init c = record {
@@ -38,11 +47,11 @@ loop-key-preserved c =
       | else-from-key w ↦ rw w.ranges-is (let l : key ≤ from = w.if-from-key.false in grind (arith, nat_tests))
     ] in
     record {
-      keys = λ k. turn_left _ _ _ _ _ c.args.first from key k near inv.low i.0 (inv.passed k) (inv.before k) (inv.keys k) (step k) (one_more_kept kept n k lt);
+      keys = λ k. turn_left _ _ _ _ _ c.args.first from key k near inv.low i.0 (inv.passed k) (inv.before k) (inv.keys k) (step k) (list_any_more (nat_eq k) kept n 0 lt);
       low = omega (arith, i.0);
       high = omega (arith, i.1);
-      passed = λ k h. grind (arith, nat_tests, inv.passed k, one_more_kept kept n k lt);
-      before = λ k e l. grind (arith, nat_tests, one_more_kept kept n k lt);
+      passed = λ k h. grind (arith, nat_tests, inv.passed k, list_any_more (nat_eq k) kept n 0 lt);
+      before = λ k e l. grind (arith, nat_tests, list_any_more (nat_eq k) kept n 0 lt);
       ahead = λ j le l. let up = c.requires.order n j 0 (omega arith) l in omega (arith, up);
     }
 

@@ -1,14 +1,12 @@
 use Rattle.std.proofs.Common.{◌≡◌, ◌∙◌, ℕ, ◌<◌, ◌≤◌, List, get_or, length, length-drop, inl, inr, min, take, ap, sym, subst, arith, get_or-take, length-take}
-use Rattle.vic_tree.proofs.Words.{cases_lt, get_or_default, AreRanges, in_ranges}
+use Rattle.vic_tree.proofs.Words.{cases_lt, get_or_default, AreRanges}
 use Rattle.vic_tree.proofs.RangeLaws.{begins_ahead, in_dropped, lasts_rise, ranges_dropped, ranges_taken, take_dropped}
 use Rattle.vic_tree.proofs.ranges.skip_to.Goals as goal
 use Rattle.vic_tree.proofs.ranges.skip_to.Goals.{then-loop-step-test+else-last-key, else-loop-step-test}
 
 pub returns-then-key-last-clause-same : goal.returns-then-key-last-clause-same
 returns-then-key-last-clause-same c k from =
-    let es = c.args.ranges.now in
-    ap (λ (xs : List (ℕ × ℕ)). in_ranges xs k) (take_dropped es c.loop-near.near)
-    ∙ in_dropped es c.loop-near.near c.args.key k c.loop-near.invariant from
+    rw (take_dropped c.args.ranges.now c.loop-near.near) (in_dropped c.args.ranges.now c.loop-near.near c.args.key k c.loop-near.invariant from)
 
 pub loop-step-preserved : goal.loop-step-preserved
 loop-step-preserved c =
@@ -23,8 +21,7 @@ loop-step-preserved c =
       shorter = omega (arith, count, inv.shorter);
       ranges = subst AreRanges (sym (take_dropped es n)) (ranges_dropped 0 es n inv.ranges);
       same = λ k from.
-          ap (λ (xs : List (ℕ × ℕ)). in_ranges xs k) (take_dropped es n)
-          ∙ in_dropped es n c.args.key k (λ i d lt. omega (arith, last, lasts_rise 0 es inv.ranges i n r (omega (arith, lt)) c.loop-step-test.true, ap (λ (r : ℕ × ℕ). r.1) (get_or_default es i d r (omega (arith, lt, c.loop-step-test.true))))) from
+          rw (take_dropped es n) (in_dropped es n c.args.key k (λ i d lt. omega (arith, last, lasts_rise 0 es inv.ranges i n r (omega (arith, lt)) c.loop-step-test.true, ap (λ (r : ℕ × ℕ). r.1) (get_or_default es i d r (omega (arith, lt, c.loop-step-test.true))))) from)
           ∙ inv.same k from;
     }
 
@@ -65,6 +62,5 @@ returns-clause-same c k from =
     let es = c.loop-step.ahead.now in
     let near = c.min.result in
     let n = c.count_before.result in
-    ap (λ (xs : List (ℕ × ℕ)). in_ranges xs k) (take_dropped es n)
-    ∙ in_dropped es n c.args.key k (λ i d lt. omega (arith, c.count_before.ensures.before i d lt, ap (λ (r : ℕ × ℕ). r.1) (get_or-take near es i d (omega (arith, lt, c.count_before.ensures.within, length-take near es))))) from
+    rw (take_dropped es n) (in_dropped es n c.args.key k (λ i d lt. omega (arith, c.count_before.ensures.before i d lt, ap (λ (r : ℕ × ℕ). r.1) (get_or-take near es i d (omega (arith, lt, c.count_before.ensures.within, length-take near es))))) from)
     ∙ c.loop-step.invariant.same k from

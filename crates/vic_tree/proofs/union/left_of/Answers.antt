@@ -1,9 +1,17 @@
-use Rattle.std.proofs.Common.{◌+◌, ◌≤◌, arith}
-use Rattle.vic_tree.proofs.Words.{All-weaker, is_left}
+use Rattle.std.proofs.Common.{◌+◌, ◌≤◌, arith, nat_lt, ◌&&◌, ℕ, List, false, Bool, [], ◌∷◌, ◌++◌, ◌∙◌, ◌≡◌}
+use Rattle.vic_tree.proofs.Words.{All-weaker, is_left, nat_tests, IsFirstRun, in_ranges}
 use Rattle.std.proofs.lemmas.List.Elements.{All-push}
-use Rattle.vic_tree.proofs.RangeLaws.{ranges_pushed}
-use Rattle.vic_tree.proofs.UnionLaws.{all_pushed, run_pushed}
+use Rattle.vic_tree.proofs.RangeLaws.{ranges_pushed, in_pushed}
+use Rattle.vic_tree.proofs.GapLaws.{in_run}
 use Rattle.vic_tree.proofs.union.left_of.Goals as goal
+
+-- one run more of the keys that pass
+run_pushed : (p : ℕ → Bool) (from x y k : ℕ) (old : List (ℕ × ℕ)) → IsFirstRun p from x y → x ≤ y → in_ranges old k ≡ (nat_lt k from && p k) → in_ranges (old ++ (x, y) ∷ []) k ≡ (nat_lt k (y + 2) && p k)
+run_pushed p from x y k old run forward kept = in_pushed old x y k ∙ grind (arith, nat_tests, run.begins, in_run p from x y k run, run.passes k)
+
+-- the runs that were found are all
+all_pushed : (p : ℕ → Bool) (from k : ℕ) (b : Bool) → (from ≤ k → p k ≡ false) → b ≡ (nat_lt k from && p k) → b ≡ p k
+all_pushed p from k b none is = grind (arith, nat_tests)
 
 pub loop-run-preserved : goal.loop-run-preserved
 loop-run-preserved c =

@@ -1,10 +1,9 @@
-use Rattle.std.proofs.Common.{◌∙◌, ◌&&◌, ◌||◌, ◌==◌, false, not, ap}
+use Rattle.std.proofs.Common.{arith}
+use Rattle.vic_tree.proofs.Words.{nat_tests}
 use Rattle.vic_tree.proofs.SetLaws.{without_more}
 use Rattle.vic_tree.proofs.open_set.OpenSet.widest_besides.Goals as goal
 
 pub loop-key-preserved : goal.loop-key-preserved
 loop-key-preserved g c u i =
-    c.in_ok-settle.ensures.done u i
-    ∙ ap (λ b. g.Self.OpenSet.is_open c.loop-key.set u && (not b || false)) (c.of_uid.ensures.alone u i)
-    ∙ ap (λ b. b && (not (u == c.uid_at.result) || false)) (c.loop-key.invariant u i)
-    ∙ without_more (g.Self.OpenSet.is_open c.args.self) c.args.keys.now c.loop-key.key-index c.uid_at.result u c.loop-key-test.true i c.uid_at.ensures.is_uid c.uid_at.ensures.back
+    let more = without_more (g.Self.OpenSet.is_open c.args.self) c.args.keys.now c.loop-key.key-index c.uid_at.result u c.loop-key-test.true i c.uid_at.ensures.is_uid c.uid_at.ensures.back in
+    grind (arith, nat_tests, c.in_ok-settle.ensures.done u i, c.of_uid.ensures.alone u i, c.loop-key.invariant u i, more)
