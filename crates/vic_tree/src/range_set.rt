@@ -65,7 +65,7 @@ impl OpenSet for RangeSet {
     }
 
     fn without(alloc: Global, closed: Vec<KeyRange>) -> Result<RangeSet, AllocError> {
-        let ranges = outside(alloc, closed)?;
+        let ranges = outside(closed)?;
         Ok(RangeSet { ranges, alloc })
     }
 
@@ -162,9 +162,9 @@ fn settled(
 {
     let (first, last) = key_range(mask);
     let kept = keys_between(alloc, except, first, last)?;
-    let mut closed = between(alloc, ranges)?;
+    let mut closed = between(Vec::from_slice(alloc, ranges)?)?;
     push_others(&mut closed, first, last, &kept)?;
-    outside(alloc, closed)
+    outside(closed)
 }
 
 /// The keys from `first` to `last` of the UIDs of a list, in order.

@@ -69,8 +69,7 @@ fn set_of(alloc: Global, ranges: Vec<KeyRange>) -> Result<RangeSet, AllocError>
     ensures { IfOk result (λ set. SameUids (is_open_in set) (is_open_in ranges.items)) }
 {
     // outside of what is outside: in order, and none adjoin
-    let others = outside(alloc, ranges)?;
-    let ranges = between(alloc, &others)?;
+    let ranges = between(outside(ranges)?)?;
     Ok(RangeSet { ranges, alloc })
 }
 

@@ -2,12 +2,15 @@ use Rattle.std.proofs.Common.{◌≡◌, ℕ, ◌+◌, ◌^◌, ◌<◌, ◌≤�
 use Rattle.vic_tree.proofs.Words.{in_ranges, AreRanges}
 use Rattle.vic_tree.proofs.ranges.between.Given as goal
 
-abbrev pub invariant-loop-range : goal.invariant-loop-range
-invariant-loop-range l = record {
-  ranges : AreRanges l.others.items;
-  ends : All (λ r. r.1 + 2 ≤ l.from) l.others.items;
-  keys : (k : ℕ) → in_ranges l.others.items k ≡ (nat_lt k l.from && not (in_ranges (take l.range-index l.ranges) k));
-  passed : (k : ℕ) → in_ranges (take l.range-index l.ranges) k ≡ true → k < l.from;
-  ahead : (k : ℕ) → in_ranges l.others.items k ≡ true → (j : ℕ) (d : ℕ × ℕ) → l.range-index ≤ j → j < length l.ranges → k < (get_or l.ranges j d).0;
+abbrev pub invariant-loop-i : goal.invariant-loop-i
+invariant-loop-i l = record {
+  within : l.count ≤ l.i;
+  len : length l.gaps.items ≡ length l.fn.ranges.items;
+  rest : (j : ℕ) (d : ℕ × ℕ) → l.i ≤ j → j < length l.fn.ranges.items → get_or l.gaps.items j d ≡ get_or l.fn.ranges.items j d;
+  ranges : AreRanges (take l.count l.gaps.items);
+  ends : All (λ r. r.1 + 2 ≤ l.from) (take l.count l.gaps.items);
+  keys : (k : ℕ) → in_ranges (take l.count l.gaps.items) k ≡ (nat_lt k l.from && not (in_ranges (take l.i l.fn.ranges.items) k));
+  passed : (k : ℕ) → in_ranges (take l.i l.fn.ranges.items) k ≡ true → k < l.from;
+  ahead : (k : ℕ) → in_ranges (take l.count l.gaps.items) k ≡ true → (j : ℕ) (d : ℕ × ℕ) → l.i ≤ j → j < length l.fn.ranges.items → k < (get_or l.fn.ranges.items j d).0;
   small : l.from ≤ 2 ^ 56;
 }
