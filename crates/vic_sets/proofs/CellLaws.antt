@@ -1,29 +1,26 @@
 -- How lists of cells change.
-use Rattle.std.proofs.Common.{◌≡◌, ℕ, zero, suc, ◌+◌, ◌-◌, ◌*◌, ◌/◌, ◌^◌, ◌%◌, ◌<◌, ◌⊎◌, inl, inr, refl, sym, ap, subst, ◌∙◌, arith, Bool, true, false, not, cond, ◌&&◌, ◌||◌, ◌==◌, List, [], ◌∷◌, ◌++◌, Contains, filter, length, get_or, take}
-use Rattle.std.proofs.lemmas.Bool.{or_cases, or_parts, or_from, or_left, or_right, false_from_ne_true, and_parts, and_from, eqb-true, eq-eqb, not_from_true, not-false}
+use Rattle.std.proofs.Common.{◌≡◌, ℕ, zero, suc, ◌+◌, ◌-◌, ◌*◌, ◌/◌, ◌^◌, ◌%◌, ◌<◌, ◌⊎◌, inl, inr, refl, sym, ap, subst, ◌∙◌, arith, Bool, true, false, not, cond, ◌&&◌, ◌||◌, ◌==◌, List, [], ◌∷◌, ◌++◌, Contains, filter, length, get_or, take, pow_pos, mod-eq_of_lt, rules}
+use Rattle.vic_sets.proofs.Words.{mod-mul-add, BitMask, IsMask, lies_in, in_cells, AreCells, cut_at, nat_tests}
+use Rattle.std.specs.List.{list_any}
+use Rattle.std.proofs.lemmas.Bool.{or_cases, or_parts, not_from_true, not-false, cases_Bool}
 use Rattle.std.proofs.lemmas.List.Folds.{list_any-append, list_any_at}
 use Rattle.std.proofs.lemmas.List.Elements.{All-push, All-filter, All-contains, All-contains_itself, Contains-push_cases}
-use Rattle.std.proofs.lemmas.Nat.{pow_pos, mod-mul-add, div-mul-add}
-use Rattle.std.proofs.Math.Nat.{mod-eq_of_lt, div-eq_of_lt}
-use Rattle.std.specs.List.{list_any}
-use Rattle.vic_frame.specs.Masks.{BitMask, IsMask, lies_in}
+use Rattle.std.proofs.lemmas.Nat.{div-mul-add}
+use Rattle.std.proofs.Math.Nat.{div-eq_of_lt}
 use Rattle.vic_frame.specs.MaskLaws.{lower_half, upper_half}
-use Rattle.vic_sets.specs.Cells.{in_cells, IsCell, IsApart, AreApart, NoHalves, AreCells, cut_at, beside}
+use Rattle.vic_tree.proofs.BoolLaws.{or_false}
+use Rattle.vic_sets.specs.Cells.{IsCell, IsApart, AreApart, NoHalves, beside}
 use Rattle.vic_sets.proofs.CutLaws.{cut_parted}
-use Rattle.vic_tree.proofs.BoolLaws.{or_false, same_tests}
 
 -- a cell more
 in_pushed : (cells : List BitMask) (m : BitMask) (u : ℕ) → in_cells (cells ++ m ∷ []) u ≡ (in_cells cells u || lies_in m u)
 in_pushed cells m u = list_any-append (λ x. lies_in x u) cells (m ∷ []) ∙ ap (λ b. in_cells cells u || b) (or_false (lies_in m u))
 
-both_not : (a : Bool) → a ≡ true → a ≡ false → ⊥
-both_not a h k = cc
-
 apart_pushed : (cells : List BitMask) (m : BitMask) → AreApart cells → IsApart m cells → AreApart (cells ++ m ∷ [])
 apart_pushed [] m a h = (λ u i k. refl, tt)
 apart_pushed (x ∷ xs) m a h = (first, apart_pushed xs m a.1 (λ u i k. (or_parts (lies_in x u) (in_cells xs u) (h u i k)).1)) where
   first : IsApart x (xs ++ m ∷ [])
-  first u i k = in_pushed xs m u ∙ or_from (in_cells xs u) (lies_in m u) (a.0 u i k) (false_from_ne_true (lies_in m u) (λ e. both_not (lies_in x u) k (or_parts (lies_in x u) (in_cells xs u) (h u i e)).0))
+  first u i k = rw (in_pushed xs m u) (grind (arith, nat_tests, a.0 u i, h u i))
 
 -- a mask of one bit more
 abbrev longer : BitMask → ℕ → BitMask
@@ -69,15 +66,15 @@ in_contained : (xs : List BitMask) (m : BitMask) (u : ℕ) → Contains xs m →
 in_contained xs m u h k = list_any_at (λ x. lies_in x u) xs h.0 m h.1 (ap (λ x. lies_in x u) h.2 ∙ k)
 
 -- what a test keeps
+in_next : (p : BitMask → Bool) (x : BitMask) (xs : List BitMask) (u : ℕ) → in_cells (filter p (x ∷ xs)) u ≡ ((p x && lies_in x u) || in_cells (filter p xs) u)
+in_next p x xs u = elim (cases_Bool (p x)) [ inl e ↦ rw e refl | inr e ↦ rw e refl ]
+
 in_kept : (p : BitMask → Bool) (xs : List BitMask) (u : ℕ) → in_cells (filter p xs) u ≡ true → in_cells xs u ≡ true
 in_kept p [] u h = h
-in_kept p (x ∷ xs) u h = at_test (in_kept p xs u) (p x) h where
-  at_test : (in_cells (filter p xs) u ≡ true → in_cells xs u ≡ true) → (b : Bool) → in_cells (cond b (x ∷ filter p xs) (filter p xs)) u ≡ true → in_cells (x ∷ xs) u ≡ true
-  at_test rest true h = elim (or_cases (lies_in x u) (in_cells (filter p xs) u) h) [ inl a ↦ or_left (lies_in x u) (in_cells xs u) a | inr a ↦ or_right (lies_in x u) (in_cells xs u) (rest a) ]
-  at_test rest false h = or_right (lies_in x u) (in_cells xs u) (rest h)
+in_kept p (x ∷ xs) u h = let next = sym (in_next p x xs u) ∙ h in grind (arith, nat_tests, next, in_kept p xs u)
 
 not_kept : (p : BitMask → Bool) (xs : List BitMask) (u : ℕ) → in_cells xs u ≡ false → in_cells (filter p xs) u ≡ false
-not_kept p xs u h = false_from_ne_true (in_cells (filter p xs) u) (λ e. both_not (in_cells xs u) (in_kept p xs u e) h)
+not_kept p xs u h = grind (arith, nat_tests, in_kept p xs u)
 
 apart_kept : (p : BitMask → Bool) (xs : List BitMask) → AreApart xs → AreApart (filter p xs)
 apart_kept p [] a = a
@@ -99,37 +96,27 @@ record KeepsAllBut (p : BitMask → Bool) (s : BitMask) : Type 0 where
 
 kept_or_that : (p : BitMask → Bool) (s : BitMask) (xs : List BitMask) (u : ℕ) → KeepsAllBut p s → in_cells xs u ≡ true → (in_cells (filter p xs) u || lies_in s u) ≡ true
 kept_or_that p s [] u k h = absurd (cc)
-kept_or_that p s (x ∷ xs) u k h = at_test (kept_or_that p s xs u k) (p x) refl (or_cases (lies_in x u) (in_cells xs u) h) where
-  at_test : (in_cells xs u ≡ true → (in_cells (filter p xs) u || lies_in s u) ≡ true) → (b : Bool) → p x ≡ b → (lies_in x u ≡ true) ⊎ (in_cells xs u ≡ true) → (in_cells (cond b (x ∷ filter p xs) (filter p xs)) u || lies_in s u) ≡ true
-  at_test rest true e (inl a) = or_left _ (lies_in s u) (or_left (lies_in x u) (in_cells (filter p xs) u) a)
-  at_test rest true e (inr a) = elim (or_cases (in_cells (filter p xs) u) (lies_in s u) (rest a)) [
-    | inl b ↦ or_left _ (lies_in s u) (or_right (lies_in x u) (in_cells (filter p xs) u) b)
-    | inr b ↦ or_right (in_cells (x ∷ filter p xs) u) (lies_in s u) b
-  ]
-  at_test rest false e (inl a) = or_right (in_cells (filter p xs) u) (lies_in s u) (subst (λ (m : BitMask). lies_in m u ≡ true) (k.keeps x e) a)
-  at_test rest false e (inr a) = rest a
+kept_or_that p s (x ∷ xs) u k h =
+    let that : p x ≡ false → lies_in x u ≡ lies_in s u = λ e. ap (λ m. lies_in m u) (k.keeps x e) in
+    rw (in_next p x xs u) (grind (arith, nat_tests, that, kept_or_that p s xs u k))
 
 -- a cell is taken out
 taken_out : (p : BitMask → Bool) (s : BitMask) (xs : List BitMask) (u : ℕ) → KeepsAllBut p s → Contains xs s → in_cells xs u ≡ (in_cells (filter p xs) u || lies_in s u)
-taken_out p s xs u k there = same_tests _ _ (kept_or_that p s xs u k) (λ h. elim (or_cases (in_cells (filter p xs) u) (lies_in s u) h) [ inl a ↦ in_kept p xs u a | inr a ↦ in_contained xs s u there a ])
+taken_out p s xs u k there = grind (arith, nat_tests, kept_or_that p s xs u k, in_kept p xs u, in_contained xs s u there)
 
 taken_apart : (p : BitMask → Bool) (s : BitMask) (xs : List BitMask) → KeepsAllBut p s → Contains xs s → AreApart xs → IsApart s (filter p xs)
 taken_apart p s [] k there a u i h = refl
-taken_apart p s (x ∷ xs) k there a u i h = at_test (λ c. taken_apart p s xs k c a.1 u i h) (p x) refl where
-  at_test : (Contains xs s → in_cells (filter p xs) u ≡ false) → (b : Bool) → p x ≡ b → in_cells (cond b (x ∷ filter p xs) (filter p xs)) u ≡ false
-  at_test rest false e = not_kept p xs u (a.0 u i (subst (λ (m : BitMask). lies_in m u ≡ true) (sym (k.keeps x e)) h))
-  at_test rest true e = elim (contains_cases x s xs there) [
-    | inl f ↦ absurd (both_not (p x) e (ap p f ∙ k.drops))
-    | inr c ↦ or_from (lies_in x u) (in_cells (filter p xs) u) (false_from_ne_true (lies_in x u) (λ g. both_not (in_cells xs u) (in_contained xs s u c h) (a.0 u i g))) (rest c)
-  ]
+taken_apart p s (x ∷ xs) k there a u i h = rw (in_next p x xs u) (elim (contains_cases x s xs there) [
+  | inl f ↦ let out = ap p f ∙ k.drops in let same = ap (λ m. lies_in m u) f in grind (arith, nat_tests, out, same, a.0 u i, not_kept p xs u)
+  | inr c ↦ grind (arith, nat_tests, in_contained xs s u c h, a.0 u i, taken_apart p s xs k c a.1 u i h)
+])
 
 -- a UID of one cell lies in none before it
 pub apart_before : (xs : List BitMask) (i : ℕ) (m : BitMask) → AreApart xs → i < length xs → get_or xs i m ≡ m → IsApart m (take i xs)
 apart_before [] i m a h e u is_uid k = absurd (omega arith)
 apart_before (x ∷ xs) zero m a h e u is_uid k = refl
 apart_before (x ∷ xs) (suc i) m a h e u is_uid k =
-    let there : in_cells xs u ≡ true = in_contained xs m u (i, omega arith, e) k in
-    or_from (lies_in x u) (in_cells (take i xs) u) (false_from_ne_true (lies_in x u) (λ g. both_not (in_cells xs u) there (a.0 u is_uid g))) (apart_before xs i m a.1 (omega arith) e u is_uid k)
+    grind (arith, nat_tests, in_contained xs m u (i, omega arith, e) k, a.0 u is_uid, apart_before xs i m a.1 (omega arith) e u is_uid k)
 
 -- the test for equal masks
 abbrev pub same_mask : BitMask → BitMask → Bool
@@ -137,13 +124,12 @@ same_mask a b = (a.len == b.len) && (a.value == b.value)
 
 is_same : (a b : BitMask) → same_mask a b ≡ true → a ≡ b
 is_same a b h =
-    let p = and_parts (a.len == b.len) (a.value == b.value) h in
-    let len : a.len ≡ b.len = eqb-true a.len b.len p.0 in
-    let value : a.value ≡ b.value = eqb-true a.value b.value p.1 in
-    ap (λ (l : ℕ). record { len = l; value = a.value }) len ∙ ap (λ (v : ℕ). record { len = b.len; value = v }) value
+    let len : a.len ≡ b.len = grind (arith, nat_tests) in
+    let value : a.value ≡ b.value = grind (arith, nat_tests) in
+    search rules
 
 same_self : (a : BitMask) → same_mask a a ≡ true
-same_self a = and_from (a.len == a.len) (a.value == a.value) (eq-eqb a.len a.len refl) (eq-eqb a.value a.value refl)
+same_self a = grind (arith, nat_tests)
 
 found : (xs : List BitMask) (m : BitMask) → list_any (λ x. same_mask x m) xs ≡ true → Contains xs m
 found [] m h = absurd (cc)
@@ -153,7 +139,7 @@ found (x ∷ xs) m h = elim (or_cases (same_mask x m) (list_any (λ y. same_mask
 ]
 
 pub not_found : (xs : List BitMask) (m : BitMask) → list_any (λ x. same_mask x m) xs ≡ false → Contains xs m → ⊥
-not_found xs m h k = both_not _ (list_any_at (λ x. same_mask x m) xs k.0 m k.1 (ap (λ x. same_mask x m) k.2 ∙ same_self m)) h
+not_found xs m h k = cc (list_any_at (λ x. same_mask x m) xs k.0 m k.1 (ap (λ x. same_mask x m) k.2 ∙ same_self m), h)
 
 all_but : (s : BitMask) → KeepsAllBut (λ x. not (same_mask x s)) s
 all_but s = record { drops = not_from_true (same_mask s s) (same_self s); keeps = λ x h. is_same x s (not-false (same_mask x s) h) }
@@ -175,18 +161,9 @@ pub record Merged (p : BitMask → Bool) (m w : BitMask) (xs : List BitMask) : T
 merged : (p : BitMask → Bool) (s m w : BitMask) (xs : List BitMask) → KeepsAllBut p s → Contains xs s → AreCells xs → IsApart m xs → ((u : ℕ) → lies_in w u ≡ (lies_in m u || lies_in s u)) → Merged p m w xs
 merged p s m w xs k there h apart parts = record {
   cells = kept_cells p xs h;
-  apart = λ u i e. elim (or_cases (lies_in m u) (lies_in s u) (sym (parts u) ∙ e)) [
-    | inl f ↦ not_kept p xs u (apart u i f)
-    | inr f ↦ taken_apart p s xs k there h.apart u i f
-  ];
-  same = λ u. ap (λ b. in_cells (filter p xs) u || b) (parts u) ∙ turned (in_cells (filter p xs) u) (lies_in m u) (lies_in s u) ∙ ap (λ b. b || lies_in m u) (sym (taken_out p s xs u k there));
-} where
-  turned : (r m s : Bool) → (r || (m || s)) ≡ ((r || s) || m)
-  turned true m s = refl
-  turned false true true = refl
-  turned false true false = refl
-  turned false false true = refl
-  turned false false false = refl
+  apart = λ u i e. grind (arith, nat_tests, parts u, apart u i, not_kept p xs u, taken_apart p s xs k there h.apart u i);
+  same = λ u. grind (arith, nat_tests, parts u, taken_out p s xs u k there);
+}
 
 -- the same, where s lies beside m
 pub merged_beside : (s m w : BitMask) (xs : List BitMask) → 0 < m.len → IsMask m → s ≡ beside (m.len - 1) m → w ≡ cut_at (m.len - 1) m → list_any (λ x. same_mask x s) xs ≡ true → AreCells xs → IsApart m xs → Merged (λ x. not (same_mask x s)) m w xs
@@ -194,35 +171,18 @@ merged_beside s m w xs pos is_mask is cut there h apart = merged _ s m w xs (all
 
 -- x a UID was there before, c it lies in the cells, h it is among the UIDs so far, e it is the next of them
 pub next_added : (x c h e : Bool) → (e ≡ true → c ≡ true) → ((x || (c && h)) || e) ≡ (x || (c && (h || e)))
-next_added true c h e k = refl
-next_added false true true e k = refl
-next_added false true false e k = refl
-next_added false false h true k = absurd (cc (k refl))
-next_added false false h false k = refl
+next_added x c h e k = grind (arith, nat_tests)
 
 pub next_there : (x c h e : Bool) → (e ≡ true → (x || (c && h)) ≡ true) → (x || (c && h)) ≡ (x || (c && (h || e)))
-next_there true c h e k = refl
-next_there false false h e k = refl
-next_there false true true e k = refl
-next_there false true false true k = k refl
-next_there false true false false k = refl
+next_there x c h e k = grind (arith, nat_tests)
 
 pub next_elsewhere : (x c h e : Bool) → (e ≡ true → c ≡ false) → (x || (c && h)) ≡ (x || (c && (h || e)))
-next_elsewhere true c h e k = refl
-next_elsewhere false false h e k = refl
-next_elsewhere false true true e k = refl
-next_elsewhere false true false true k = sym (k refl)
-next_elsewhere false true false false k = refl
+next_elsewhere x c h e k = grind (arith, nat_tests)
 
 -- t a UID lies in the cells so far, x in the next one, k in the mask
 pub next_outside : (t x k : Bool) → ((t && not k) || (x && not k)) ≡ ((t || x) && not k)
-next_outside true true true = refl
-next_outside true true false = refl
-next_outside true false true = refl
-next_outside true false false = refl
-next_outside false x k = refl
+next_outside t x k = grind (arith, nat_tests)
 
 -- x a UID was there before, c it lies in the cell, k in the mask
 pub rest_added : (x c k : Bool) → (x || (c && not (c && k))) ≡ (x || (c && not k))
-rest_added x true k = refl
-rest_added x false k = refl
+rest_added x c k = grind (arith, nat_tests)

@@ -1,15 +1,14 @@
 -- A mask whose UIDs all lie in some cells lies in one of them.
-use Rattle.std.proofs.Common.{◌≡◌, ℕ, zero, suc, ◌+◌, ◌-◌, ◌*◌, ◌^◌, ◌%◌, ◌<◌, ◌≤◌, ◌⊎◌, inl, inr, refl, add-one, sym, ap, subst, ◌∙◌, arith, true, List, [], ◌∷◌, All, Contains}
-use Rattle.std.proofs.lemmas.Bool.{eqb-true, eq-eqb, cases_lt, or_cases}
-use Rattle.std.proofs.lemmas.Nat.{mod-mul-add}
+use Rattle.std.proofs.Common.{◌≡◌, ℕ, zero, suc, ◌+◌, ◌-◌, ◌*◌, ◌^◌, ◌%◌, ◌<◌, ◌≤◌, ◌⊎◌, inl, inr, refl, add-one, sym, ap, subst, ◌∙◌, arith, true, List, [], ◌∷◌, All, Contains, eqb-true, eq-eqb, mod-eq_of_lt, pow-suc}
+use Rattle.vic_sets.proofs.Words.{cases_lt, mod-mul-add, BitMask, IsMask, lies_in, mod_mod_pow, IsAtMost, IsWidest, in_cells, AreCells}
+use Rattle.std.proofs.lemmas.Bool.{or_cases}
 use Rattle.std.proofs.lemmas.List.Elements.{All-contains}
 use Rattle.std.proofs.lemmas.List.Folds.{list_any_at}
-use Rattle.std.proofs.Math.Nat.{mod-eq_of_lt, pow-suc}
-use Rattle.vic_frame.specs.Masks.{BitMask, IsMask, lies_in}
 use Rattle.vic_frame.specs.MaskLaws.{lower_half, upper_half}
-use Rattle.vic_frame.proofs.MaskLaws.{mod_mod_pow, parted}
-use Rattle.vic_tree.specs.OpenSet.{AllOpen, IsAtMost, IsWidest}
-use Rattle.vic_sets.specs.Cells.{in_cells, IsCell, NoHalves, AreCells}
+use Rattle.vic_tree.specs.OpenSet.{AllOpen}
+use Rattle.vic_tree.proofs.FirstMasks.{same_mask}
+use Rattle.vic_frame.proofs.MaskLaws.{parted}
+use Rattle.vic_sets.specs.Cells.{IsCell, NoHalves}
 
 -- a cell that holds all of a mask
 pub record Holder (cells : List BitMask) (m : BitMask) : Type 0 where
@@ -24,14 +23,10 @@ CellOf cells u = (m : BitMask) × Contains cells m × (u % 2 ^ m.len ≡ m.value
 
 cell_of : (cells : List BitMask) (u : ℕ) → in_cells cells u ≡ true → CellOf cells u
 cell_of [] u h = absurd (cc)
-cell_of (x ∷ xs) u h = at_first (or_cases (lies_in x u) (in_cells xs u) h) (cell_of xs u) where
-  at_first : (lies_in x u ≡ true) ⊎ (in_cells xs u ≡ true) → (in_cells xs u ≡ true → CellOf xs u) → CellOf (x ∷ xs) u
-  at_first (inl e) f = (x, (0, omega arith, refl), eqb-true (u % 2 ^ x.len) x.value e)
-  at_first (inr e) f = let r = f e in (r.0, (suc r.1.0, omega (arith, r.1.1), r.1.2), r.2)
-
--- masks of one length and value are one
-mask_is : (c m : BitMask) → c.len ≡ m.len → c.value ≡ m.value → c ≡ m
-mask_is c m e f = ap (λ (l : ℕ). record { len = l; value = c.value }) e ∙ ap (λ (v : ℕ). record { len = m.len; value = v }) f
+cell_of (x ∷ xs) u h = elim (or_cases (lies_in x u) (in_cells xs u) h) [
+  | inl e ↦ (x, (0, omega arith, refl), eqb-true (u % 2 ^ x.len) x.value e)
+  | inr e ↦ let r = cell_of xs u e in (r.0, (suc r.1.0, omega (arith, r.1.1), r.1.2), r.2)
+]
 
 two_pow : (l : ℕ) → 2 ^ (l + 1) ≡ 2 ^ l * 2
 two_pow l = rw add-one (pow-suc 2 l)
@@ -44,7 +39,7 @@ from_lower cells m is_mask h = elim (cases_lt m.len h.cell.len) [
       let len : h.cell.len ≡ m.len + 1 = omega (arith, h.shorter) in
       let fits : m.value < 2 ^ (m.len + 1) = omega (arith, two_pow m.len, is_mask.1) in
       let value : h.cell.value ≡ m.value = sym h.agrees ∙ ap (λ l. m.value % 2 ^ l) len ∙ mod-eq_of_lt fits in
-      inr (subst (Contains cells) (mask_is h.cell (lower_half m) len value) h.among)
+      inr (subst (Contains cells) (same_mask h.cell (lower_half m) len value) h.among)
 ]
 
 from_upper : (cells : List BitMask) (m : BitMask) → IsMask m → Holder cells (upper_half m) → Holder cells m ⊎ Contains cells (upper_half m)
@@ -57,7 +52,7 @@ from_upper cells m is_mask h = elim (cases_lt m.len h.cell.len) [
       let len : h.cell.len ≡ m.len + 1 = omega (arith, h.shorter) in
       let fits : m.value + 2 ^ m.len < 2 ^ (m.len + 1) = omega (arith, two_pow m.len, is_mask.1) in
       let value : h.cell.value ≡ m.value + 2 ^ m.len = sym h.agrees ∙ ap (λ l. (m.value + 2 ^ m.len) % 2 ^ l) len ∙ mod-eq_of_lt fits in
-      inr (subst (Contains cells) (mask_is h.cell (upper_half m) len value) h.among)
+      inr (subst (Contains cells) (same_mask h.cell (upper_half m) len value) h.among)
 ]
 
 covered : (k : ℕ) (cells : List BitMask) (m : BitMask) → All IsCell cells → NoHalves cells → IsMask m → k + m.len ≡ 56 → AllOpen (in_cells cells) m → Holder cells m

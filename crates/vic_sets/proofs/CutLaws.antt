@@ -1,12 +1,9 @@
 -- Masks cut from masks, and what lies beside them.
-use Rattle.std.proofs.Common.{◌≡◌, ℕ, zero, suc, ◌+◌, ◌-◌, ◌*◌, ◌/◌, ◌^◌, ◌%◌, ◌<◌, ◌≤◌, inl, inr, refl, sym, ap, ◌∙◌, arith, Bool, true, false, not, cond, ◌&&◌, ◌||◌, ◌==◌}
-use Rattle.std.proofs.lemmas.Bool.Decides.{nat_tests}
-use Rattle.std.proofs.lemmas.Nat.{mod_below, pow_pos}
-use Rattle.std.proofs.Math.Nat.{mod-eq_of_lt}
-use Rattle.std.proofs.lemmas.Bool.{eq-eqb, eqb-true, le-leb, leb-true, and_from, and_parts, cases_lt, false_from_ne_true}
-use Rattle.vic_frame.specs.Masks.{BitMask, IsMask, lies_in}
-use Rattle.vic_frame.proofs.MaskLaws.{mod_mod_pow, mod_pow_more}
-use Rattle.vic_sets.specs.Cells.{holds, cut_at, beside}
+use Rattle.std.proofs.Common.{◌≡◌, ℕ, zero, suc, ◌+◌, ◌-◌, ◌*◌, ◌/◌, ◌^◌, ◌%◌, ◌<◌, ◌≤◌, inl, inr, sym, ap, ◌∙◌, arith, Bool, true, false, not, cond, ◌&&◌, ◌||◌, ◌==◌, pow_pos, mod-eq_of_lt, eq-eqb, eqb-true, le-leb, leb-true}
+use Rattle.vic_sets.proofs.Words.{nat_tests, mod_below, cases_lt, BitMask, IsMask, lies_in, mod_mod_pow, cut_at}
+use Rattle.std.proofs.lemmas.Bool.{and_from, and_parts, false_from_ne_true}
+use Rattle.vic_frame.proofs.MaskLaws.{mod_pow_more}
+use Rattle.vic_sets.specs.Cells.{holds, beside}
 
 -- x and y have the bits b and c above their rests r and s
 same_top : (x b r y c s t : ℕ) → b < 2 → c < 2 → r < t → s < t → x ≡ b * t + r → y ≡ c * t + s → (x == y) ≡ ((r == s) && (b == c))
@@ -35,12 +32,7 @@ beside_is m l u = other_top (u % 2 ^ (l + 1)) (u / 2 ^ l % 2) (u % 2 ^ l) (m.val
 
 -- one mask more: x the masks before, a what is cut, l what is kept so far, b the next bit
 pub one_more : (x a l b : Bool) → (l ≡ true → a ≡ true) → ((x || (a && not l)) || (l && not b)) ≡ (x || (a && not (l && b)))
-one_more true a l b h = refl
-one_more false true true true h = refl
-one_more false true true false h = refl
-one_more false true false b h = refl
-one_more false false true b h = absurd (cc (h refl))
-one_more false false false b h = refl
+one_more x a l b h = grind (arith, nat_tests)
 
 pub cut_less : (m : BitMask) (k l u : ℕ) → k ≤ l → lies_in (cut_at l m) u ≡ true → lies_in (cut_at k m) u ≡ true
 cut_less m k l u le h =
@@ -56,11 +48,10 @@ cut_parted m u h pos =
     let l : ℕ = m.len - 1 in
     let e : l + 1 ≡ m.len = omega arith in
     let whole : lies_in m u ≡ lies_in (cut_at (l + 1) m) u = sym (ap (λ n. lies_in (cut_at n m) u) e ∙ cut_whole m u h) in
-    both_sides (lies_in (cut_at l m) u) (u / 2 ^ l % 2 == m.value / 2 ^ l % 2) ∙ ap (λ b. b || (lies_in (cut_at l m) u && not (u / 2 ^ l % 2 == m.value / 2 ^ l % 2))) (sym (whole ∙ cut_more m l u)) ∙ ap (λ b. lies_in m u || b) (sym (beside_is m l u)) where
-      both_sides : (c b : Bool) → c ≡ ((c && b) || (c && not b))
-      both_sides false b = refl
-      both_sides true false = refl
-      both_sides true true = refl
+    bits _ _ _ _ (whole ∙ cut_more m l u) (beside_is m l u)
+  where
+    bits : (c w x b : Bool) → w ≡ (c && b) → x ≡ (c && not b) → c ≡ (w || x)
+    bits c w x b p q = grind (arith, nat_tests)
 
 inside : (o i : BitMask) (u : ℕ) → o.len ≤ i.len → i.value % 2 ^ o.len ≡ o.value → lies_in i u ≡ true → lies_in o u ≡ true
 inside o i u le e h = eq-eqb _ _ (sym (mod_mod_pow u o.len i.len le) ∙ ap (λ x. x % 2 ^ o.len) (eqb-true (u % 2 ^ i.len) i.value h) ∙ e)
@@ -70,17 +61,10 @@ pub held : (o i : BitMask) (u : ℕ) → holds o i ≡ true → lies_in i u ≡ 
 held o i u h k = let p = and_parts _ _ h in inside o i u (leb-true o.len i.len p.0) (eqb-true _ _ p.1) k
 
 pub held_both : (o i : BitMask) (u : ℕ) → holds o i ≡ true → lies_in i u ≡ (lies_in o u && lies_in i u)
-held_both o i u h = at_both (lies_in o u) (lies_in i u) (held o i u h) where
-  at_both : (a b : Bool) → (b ≡ true → a ≡ true) → b ≡ (a && b)
-  at_both true b h = refl
-  at_both false true h = absurd (cc (h refl))
-  at_both false false h = refl
+held_both o i u h = let both = held o i u h in grind (arith, nat_tests)
 
 pub held_both_turned : (o i : BitMask) (u : ℕ) → holds o i ≡ true → lies_in i u ≡ (lies_in i u && lies_in o u)
-held_both_turned o i u h = at_both (lies_in o u) (lies_in i u) (held o i u h) where
-  at_both : (a b : Bool) → (b ≡ true → a ≡ true) → b ≡ (b && a)
-  at_both a false h = refl
-  at_both a true h = sym (h refl)
+held_both_turned o i u h = let both = held o i u h in grind (arith, nat_tests)
 
 -- a mask that is cut nowhere
 pub cut_self : (m : BitMask) → IsMask m → cut_at m.len m ≡ m

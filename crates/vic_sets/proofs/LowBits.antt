@@ -1,14 +1,7 @@
 -- What a node says depends on the low bits alone.
-use Rattle.std.proofs.Common.{◌≡◌, ℕ, ◌+◌, ◌-◌, ◌*◌, ◌/◌, ◌^◌, ◌%◌, ◌<◌, ◌≤◌, refl, sym, ap, subst, ◌∙◌, arith, true}
-use Rattle.std.proofs.lemmas.Nat.{mod_below, shr-shr}
-use Rattle.std.proofs.lemmas.Bool.{eqb-true, eq-eqb}
-use Rattle.vic_frame.specs.Masks.{BitMask}
-use Rattle.vic_frame.proofs.MaskLaws.{mod_mod_pow}
-use Rattle.vic_sets.specs.declared.node.Node.{Node, Fork'}
-use Rattle.vic_sets.specs.declared.node.Node.TheVariants.{Clear, Shut}
-use Rattle.vic_sets.specs.Nodes.{open_at, height}
-use Rattle.vic_tree.specs.OpenSet.{AllOpen, IsWidest}
-use Rattle.vic_sets.specs.inner.Widest.{IsWidestOf}
+use Rattle.std.proofs.Common.{◌≡◌, ℕ, ◌+◌, ◌-◌, ◌*◌, ◌/◌, ◌^◌, ◌%◌, ◌<◌, ◌≤◌, refl, sym, ap, subst, ◌∙◌, arith, true, shr-shr, eqb-true, eq-eqb}
+use Rattle.vic_sets.proofs.Words.{mod_below, BitMask, mod_mod_pow, Node, Fork', Clear, Shut, open_at, height, IsWidest, IsWidestOf}
+use Rattle.vic_tree.specs.OpenSet.{AllOpen}
 use Rattle.vic_sets.proofs.Bits.{low_and_rest}
 
 -- the lowest bit and the rest of the low bits

@@ -1,9 +1,6 @@
 -- What is known of a node that is a fork.
-use Rattle.std.proofs.Common.{◌≡◌, refl, Box}
-use Rattle.std.specs.declared.alloc.Global.{Global}
-use Rattle.vic_sets.specs.declared.node.Node.{Node, Fork'}
-use Rattle.vic_sets.specs.declared.node.Node.TheVariants.{Clear, Shut, Fork}
-use Rattle.vic_sets.specs.declared.node.Halves.{Halves}
+use Rattle.std.proofs.Common.{◌≡◌, refl, Box, Global}
+use Rattle.vic_sets.proofs.Words.{Node, Fork', Clear, Shut, Fork, Halves}
 use Rattle.vic_sets.specs.Nodes.{IsFork}
 
 -- what is no fork isn't one

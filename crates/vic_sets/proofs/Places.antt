@@ -1,13 +1,9 @@
 -- A UID by its low bits and those above them.
-use Rattle.std.proofs.Common.{◌≡◌, ℕ, ◌+◌, ◌-◌, ◌*◌, ◌/◌, ◌^◌, ◌%◌, ◌<◌, ◌≤◌, ◌⊎◌, inl, inr, zero, suc, Box, List, true, refl, sym, ap, ◌∙◌, arith}
-use Rattle.std.proofs.lemmas.Nat.{pow-add, pow_pos, mul-add-lt, div-mul-add, mod-mul-add, div_below, shl_whole, shr_split, mod_below, shr-shr}
+use Rattle.std.proofs.Common.{◌≡◌, ℕ, ◌+◌, ◌-◌, ◌*◌, ◌/◌, ◌^◌, ◌%◌, ◌<◌, ◌≤◌, ◌⊎◌, inl, inr, zero, suc, Box, List, true, refl, sym, ap, ◌∙◌, arith, pow-add, pow_pos, shr-shr, Global}
+use Rattle.vic_sets.proofs.Words.{mod-mul-add, mod_below, mod_mod_pow, Node, Fork, Halves, open_at}
+use Rattle.std.proofs.lemmas.Nat.{mul-add-lt, div-mul-add, div_below, shl_whole, shr_split}
 use Rattle.vic_frame.specs.Uids.{IsUid, uid_from_low_bits}
-use Rattle.vic_frame.proofs.MaskLaws.{mod_mod_pow, mod_pow_more}
-use Rattle.std.specs.declared.alloc.Global.{Global}
-use Rattle.vic_sets.specs.declared.node.Node.{Node}
-use Rattle.vic_sets.specs.declared.node.Node.TheVariants.{Fork}
-use Rattle.vic_sets.specs.declared.node.Halves.{Halves}
-use Rattle.vic_sets.specs.Nodes.{open_at}
+use Rattle.vic_frame.proofs.MaskLaws.{mod_pow_more}
 use Rattle.vic_sets.specs.inner.Free.{IsFreeUnder}
 
 powers : (d : ℕ) → d ≤ 56 → 2 ^ (56 - d) * 2 ^ d ≡ 2 ^ 56

@@ -1,15 +1,8 @@
 -- The widest mask of a fork, from those of its halves.
-use Rattle.std.proofs.Common.{◌≡◌, ℕ, zero, suc, ◌+◌, ◌*◌, ◌/◌, ◌^◌, ◌%◌, ◌<◌, ◌⊎◌, inl, inr, Box, refl, add-one, sym, subst, ◌∙◌, arith, Bool, true, false, cond, ◌==◌}
-use Rattle.std.proofs.lemmas.Nat.{mod_below}
-use Rattle.std.proofs.Math.Nat.{pow-suc, mod-eq_of_lt}
-use Rattle.vic_frame.specs.Masks.{BitMask}
-use Rattle.vic_sets.specs.declared.node.Node.{Node, Fork'}
-use Rattle.vic_sets.specs.declared.node.Node.TheVariants.{Clear, Shut, Fork}
-use Rattle.std.specs.declared.alloc.Global.{Global}
-use Rattle.vic_sets.specs.declared.node.Halves.{Halves}
-use Rattle.vic_sets.specs.Nodes.{open_at, IsReduced, AreOneLeaf}
-use Rattle.vic_tree.specs.OpenSet.{IsAtMost}
-use Rattle.vic_sets.specs.inner.Widest.{AllPass, IsWidestOf, with_low_bit}
+use Rattle.std.proofs.Common.{◌≡◌, ℕ, zero, suc, ◌+◌, ◌*◌, ◌/◌, ◌^◌, ◌%◌, ◌<◌, ◌⊎◌, inl, inr, Box, refl, add-one, sym, subst, ◌∙◌, arith, Bool, true, false, cond, ◌==◌, pow-suc, mod-eq_of_lt, Global}
+use Rattle.vic_sets.proofs.Words.{mod_below, BitMask, Node, Fork', Clear, Shut, Fork, Halves, open_at, IsAtMost, IsWidestOf}
+use Rattle.vic_sets.specs.Nodes.{IsReduced, AreOneLeaf}
+use Rattle.vic_sets.specs.inner.Widest.{AllPass, with_low_bit}
 use Rattle.vic_sets.proofs.Bits.{low_and_rest}
 
 -- what a fork of two tests answers

@@ -1,7 +1,5 @@
 use Rattle.std.proofs.Common.{◌&&◌, ◌||◌, take}
-use Rattle.vic_frame.specs.Uids.{has}
-use Rattle.vic_tree.specs.OpenSet.{SameUids}
-use Rattle.vic_sets.specs.Cells.{in_cells, AreCells}
+use Rattle.vic_sets.proofs.Words.{has, SameUids, in_cells, AreCells}
 use Rattle.vic_sets.proofs.cells.add_back.Given as goal
 
 abbrev pub invariant-loop-uid : goal.invariant-loop-uid

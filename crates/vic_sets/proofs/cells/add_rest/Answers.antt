@@ -1,7 +1,6 @@
 use Rattle.std.proofs.Common.{◌≡◌, ◌∙◌, ◌≤◌, ◌&&◌, ◌||◌, Bool, true, not, sym, ap, refl, arith}
+use Rattle.vic_sets.proofs.Words.{BitMask, lies_in, in_cells, cut_at}
 use Rattle.std.proofs.lemmas.Bool.{and_parts}
-use Rattle.vic_frame.specs.Masks.{BitMask, lies_in}
-use Rattle.vic_sets.specs.Cells.{in_cells, cut_at}
 use Rattle.vic_sets.proofs.CutLaws.{beside_is, cut_more, cut_less, cut_self, one_more}
 use Rattle.vic_sets.proofs.CellLaws.{rest_added}
 use Rattle.vic_sets.proofs.cells.add_rest.Goals as goal

@@ -1,7 +1,5 @@
 use Rattle.std.proofs.Common.{◌&&◌, ◌||◌, not}
-use Rattle.vic_frame.specs.Masks.{lies_in}
-use Rattle.vic_tree.specs.OpenSet.{SameUids}
-use Rattle.vic_sets.specs.Cells.{in_cells, AreCells, cut_at}
+use Rattle.vic_sets.proofs.Words.{lies_in, SameUids, in_cells, AreCells, cut_at}
 use Rattle.vic_sets.proofs.cells.add_rest.Given as goal
 
 abbrev pub invariant-loop-len : goal.invariant-loop-len

@@ -1,6 +1,5 @@
 use Rattle.std.proofs.Common.{take}
-use Rattle.vic_sets.specs.Cells.{in_cells}
-use Rattle.vic_tree.specs.Gathering.{Gathers}
+use Rattle.vic_sets.proofs.Words.{in_cells, Gathers}
 use Rattle.vic_sets.specs.inner.Free.{IsFreeIn}
 use Rattle.vic_sets.proofs.cells.gather_cells.Given as goal
 

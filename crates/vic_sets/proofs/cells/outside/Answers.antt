@@ -1,8 +1,7 @@
 use Rattle.std.proofs.Common.{◌≡◌, ◌∙◌, ◌+◌, ◌||◌, sym, ap, take}
+use Rattle.vic_sets.proofs.Words.{BitMask, lies_in, in_cells}
 use Rattle.std.proofs.lemmas.Bool.{and_left}
 use Rattle.std.proofs.lemmas.List.Folds.{list_any_more}
-use Rattle.vic_frame.specs.Masks.{BitMask, lies_in}
-use Rattle.vic_sets.specs.Cells.{in_cells}
 use Rattle.vic_sets.proofs.CellLaws.{apart_before, next_outside}
 use Rattle.vic_sets.proofs.cells.outside.Goals as goal
 

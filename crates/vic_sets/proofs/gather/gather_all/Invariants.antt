@@ -1,5 +1,5 @@
 use Rattle.std.proofs.Common.{◌/◌, ◌^◌, ◌%◌, ◌<◌}
-use Rattle.vic_tree.specs.Gathering.{Gathers}
+use Rattle.vic_sets.proofs.Words.{Gathers}
 use Rattle.vic_sets.specs.inner.Free.{IsFree}
 use Rattle.vic_sets.proofs.gather.gather_all.Given as goal
 

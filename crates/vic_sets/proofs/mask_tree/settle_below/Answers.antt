@@ -1,7 +1,5 @@
 use Rattle.std.proofs.Common.{◌≡◌, ◌∙◌, cond, false, ◌&&◌, ℕ}
-use Rattle.vic_frame.specs.Uids.{has}
-use Rattle.vic_frame.specs.Masks.{lies_in}
-use Rattle.vic_sets.specs.Nodes.{open_at}
+use Rattle.vic_sets.proofs.Words.{has, lies_in, open_at}
 use Rattle.vic_sets.proofs.Settled.{has_kept, settled_bits}
 use Rattle.vic_sets.proofs.mask_tree.settle_below.Goals as goal
 

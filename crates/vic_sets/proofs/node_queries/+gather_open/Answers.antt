@@ -1,9 +1,8 @@
-use Rattle.std.proofs.Common.{◌≡◌, ◌+◌, ◌^◌, sym, arith, length}
-use Rattle.std.proofs.lemmas.Bool.{eqb-true}
+use Rattle.std.proofs.Common.{◌≡◌, ◌+◌, ◌^◌, sym, arith, length, eqb-true}
+use Rattle.vic_sets.proofs.Words.{Gathers}
 use Rattle.std.proofs.lemmas.Nat.{one_shl}
-use Rattle.vic_tree.specs.Gathering.{Gathers}
-use Rattle.vic_sets.specs.inner.Free.{IsFreeUnder}
 use Rattle.vic_tree.proofs.GatheringLaws.{gathers_both, gathers_full}
+use Rattle.vic_sets.specs.inner.Free.{IsFreeUnder}
 use Rattle.vic_sets.proofs.Places.{from_zero, from_one, to_half}
 use Rattle.vic_sets.proofs.node_queries.+gather_open.Goals as goal
 

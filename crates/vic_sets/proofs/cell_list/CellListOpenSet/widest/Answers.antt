@@ -1,7 +1,5 @@
 use Rattle.std.proofs.Common.{List, Option, Some, None, All, Contains, IfSome}
-use Rattle.vic_frame.specs.Masks.{BitMask}
-use Rattle.vic_tree.specs.OpenSet.{IsAtMost, IsWidest}
-use Rattle.vic_sets.specs.Cells.{in_cells, AreCells}
+use Rattle.vic_sets.proofs.Words.{BitMask, IsAtMost, IsWidest, in_cells, AreCells}
 use Rattle.vic_sets.proofs.Covered.{widest_cell}
 use Rattle.vic_sets.proofs.cell_list.CellListOpenSet.widest.Goals as goal
 

@@ -1,9 +1,5 @@
 use Rattle.std.proofs.Common.{◌≤◌, Option, Some, None, IfSome, arith}
-use Rattle.vic_frame.specs.Masks.{BitMask}
-use Rattle.vic_sets.specs.declared.node.Node.{Node}
-use Rattle.vic_sets.specs.Nodes.{open_at, height}
-use Rattle.vic_tree.specs.OpenSet.{IsWidest}
-use Rattle.vic_sets.specs.inner.Widest.{IsWidestOf}
+use Rattle.vic_sets.proofs.Words.{BitMask, Node, open_at, height, IsWidest, IsWidestOf}
 use Rattle.vic_sets.proofs.LowBits.{widest_of_uids}
 use Rattle.vic_sets.proofs.mask_tree.MaskTreeOpenSet.widest.Goals as goal
 
