@@ -35,6 +35,16 @@ first_answering set ns inside b i m us same alike h none = record {
       h.all few u (and_from _ _ w.0 (and_from _ _ (same u ∙ (and_parts _ _ w.1).0) refl));
 }
 
+-- the same by the mentions in the block alone
+pub answering_inside : (set : ℕ → Bool) (ns inside : List Mention) (b : KeyBlock) (i : ℕ) (us : List ℕ) → ((k : ℕ) → is_in_block b.first b.len k ≡ true → is_quiet_by inside k i ≡ is_quiet_by ns k i) → UpToThree (is_answering set inside b i) us → UpToThree (is_answering set ns b i) us
+answering_inside set ns inside b i us alike h = UpToThree-same (is_answering set inside b i) (is_answering set ns b i) us (λ u. go u (is_in_block b.first b.len (mirror u)) refl) h
+  where
+    go : (u : ℕ) (c : Bool) → is_in_block b.first b.len (mirror u) ≡ c → is_answering set inside b i u ≡ is_answering set ns b i u
+    go u true e = ap (λ q. (is_uid u && set u) && (is_in_block b.first b.len (mirror u) && not q)) (alike (mirror u) e)
+    go u false e =
+        ap (λ x. (is_uid u && set u) && (x && not (is_quiet_by inside (mirror u) i))) e
+        ∙ sym (ap (λ x. (is_uid u && set u) && (x && not (is_quiet_by ns (mirror u) i))) e)
+
 shuffled : (a b c : Bool) → ((a && (b && c)) && true) ≡ ((a && b) && c)
 shuffled a b c = grind arith
 

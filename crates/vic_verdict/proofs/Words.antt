@@ -39,7 +39,7 @@ pub use Rattle.vic_verdict.specs.declared.judging.Verdict.TheVariants.{Impossibl
 pub use Rattle.vic_verdict.specs.declared.mentions.Mention.{Mention}
 pub use Rattle.vic_verdict.specs.declared.mentions.TheConstants.{NEVER}
 pub use Rattle.vic_verdict.specs.declared.sweep.Run.{Run}
-pub use Rattle.vic_verdict.specs.inner.Answering.{HasInside, IsReadyIn, is_ready_at, IsKnown}
+pub use Rattle.vic_verdict.specs.inner.Answering.{HasInside, IsReadyIn, is_ready_at, IsLearnt}
 pub use Rattle.vic_verdict.specs.inner.Closed.{is_in_some, Closes}
 pub use Rattle.vic_verdict.specs.Demands.{IsMet, needs, needs_of, IsFoundAt, IsFound, AreFound, HasHeard}
 pub use Rattle.vic_verdict.specs.inner.Asked.{IsDemandBy, AreKept}

@@ -15,7 +15,7 @@ ghost use Rattle.vic_tree.specs.OpenSet.{AreKeys, UpToThree};
 ghost use Rattle.vic_verdict.specs.declared.mentions.Mention.{Mention as MentionValue};
 ghost use Rattle.vic_verdict.specs.declared.answering.Unmentioned.{Unmentioned as UnmentionedValue};
 ghost use Rattle.vic_verdict.specs.inner.Sweep.{AreInOrder, HaveKeys, is_mentioned, quiet_of};
-ghost use Rattle.vic_verdict.specs.inner.Answering.{AreOpenMentions, IsKnown, IsReadyIn, IsUnmentioned, HasInside, HasMentionedIn, is_answering, is_ready_at, is_unmentioned, is_unmentioned_in};
+ghost use Rattle.vic_verdict.specs.inner.Answering.{AreOpenMentions, IsKnown, IsLearnt, IsReadyIn, IsUnmentioned, HasInside, HasMentionedIn, is_answering, is_ready_at, is_unmentioned, is_unmentioned_in};
 
 use crate::mentions::{Mention, first_quiet, is_any_quiet, mentions_between, start_near};
 use arrayvec::ArrayVec;
@@ -166,6 +166,38 @@ impl Known {
     }
 }
 
+/// What slots have taught about the mentions of a stretch.
+#[derive(Drop)]
+pub(crate) struct Learnt {
+    /// How many more mentions are looked at for one slot alone. Then all are, for all slots.
+    pub spare: usize,
+    pub known: Option<Known>,
+}
+
+impl Learnt {
+    /// Nothing. Until it is known where each UID becomes Quiet, a quarter of the mentions may be
+    /// looked at slot by slot, since most stretches have only a few such slots.
+    pub(crate) fn nothing(mentions: &[Mention]) -> Learnt
+        ensures { result.known ≡ None }
+    {
+        Learnt {
+            spare: mentions.len() / 4,
+            known: None,
+        }
+    }
+
+    /// Whether a slot with some mentions is worth looking at alone; if so, they are spent.
+    fn spends(&mut self, mentions: &[Mention]) -> bool
+        ensures { self.new.known ≡ self.old.known }
+    {
+        if self.known.is_some() || self.spare < mentions.len() {
+            return false;
+        }
+        self.spare -= mentions.len();
+        true
+    }
+}
+
 /// What is known at a position: what has been found already, or what is known from position `from`
 /// on.
 fn known_at<S: OpenSet>(
@@ -198,7 +230,7 @@ pub(crate) fn up_to_three_answering<S: OpenSet>(
     alloc: Global,
     set: &S,
     mentions: &[Mention],
-    known: &mut Option<Known>,
+    learnt: &mut Learnt,
     near: usize,
     block: &KeyBlock,
     from: usize,
@@ -207,8 +239,8 @@ pub(crate) fn up_to_three_answering<S: OpenSet>(
     requires order { AreInOrder mentions.now }
     requires keys { HaveKeys mentions.now }
     requires block { IsBlock block.now.first block.now.len }
-    requires known { IfSome known.old (IsKnown (S.is_open set.now) mentions.now) }
-    ensures known { OnOk result (IfSome known.new (IsKnown (S.is_open set.now) mentions.now)) }
+    requires learnt { IsLearnt (S.is_open set.now) mentions.now learnt.old }
+    ensures learnt { OnOk result (IsLearnt (S.is_open set.now) mentions.now learnt.new) }
     ensures uids { IfOk result (λ uids. UpToThree
         (is_answering (S.is_open set.now) mentions.now block.now at) uids.items) }
 {
@@ -219,9 +251,13 @@ pub(crate) fn up_to_three_answering<S: OpenSet>(
     if !is_any_quiet(inside, &uids, at) {
         return Ok(uids);
     }
-    let mut own = known_at(alloc, set, mentions, known.take(), from, at)?;
-    let uids = own.answering(alloc, set, mentions, near, block, at)?;
-    *known = Some(own);
+    if learnt.spends(inside) {
+        let mut known = Known::of(alloc, set, inside, at)?;
+        return known.answering(alloc, set, inside, 0, block, at);
+    }
+    let mut known = known_at(alloc, set, mentions, learnt.known.take(), from, at)?;
+    let uids = known.answering(alloc, set, mentions, near, block, at)?;
+    learnt.known = Some(known);
     Ok(uids)
 }
 

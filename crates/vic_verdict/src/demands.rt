@@ -13,12 +13,12 @@ ghost use Rattle.vic_tree.specs.OpenSet.{SameUids, UpToThree};
 ghost use Rattle.vic_log.specs.declared.entry.Entry.{Entry as EntryValue};
 ghost use Rattle.vic_log.specs.Slots.{slots_of, is_open};
 ghost use Rattle.vic_verdict.specs.inner.Possible.{Lacks};
-ghost use Rattle.vic_verdict.specs.inner.Answering.{IsKnown};
+ghost use Rattle.vic_verdict.specs.inner.Answering.{IsLearnt};
 ghost use Rattle.vic_verdict.specs.inner.Sweep.{AreInOrder, HaveKeys};
 ghost use Rattle.vic_verdict.specs.Demands.{AreFound};
 ghost use Rattle.vic_verdict.specs.inner.Asked.{IsDemandBy, answers_by, IsUnmet, IsUnmetAt, IsAskedAgain, AreKept, AreMet, HasBlock, HasBlocks, HasMentionsInOrder, Keeps};
 
-use crate::answering::{Known, up_to_three_answering};
+use crate::answering::{Learnt, up_to_three_answering};
 use crate::mentions::{Mention, mentions_between, start_near};
 use arrayvec::ArrayVec;
 use std::alloc::{AllocError, Global};
@@ -138,8 +138,10 @@ pub(crate) fn keep_stretch(
         return Ok(());
     }
     demands.sort_unstable_by_key(|demand| demand.order());
+    // the next stretch may well have as many
+    let next = Vec::with_capacity(alloc, mentions.len())?;
     stretches.push(Stretch {
-        mentions: replace(mentions, Vec::new(alloc)),
+        mentions: replace(mentions, next),
         demands: replace(demands, Vec::new(alloc)),
     })?;
     Ok(())
@@ -152,7 +154,7 @@ fn answering<S: OpenSet>(
     alloc: Global,
     set: &S,
     mentions: &[Mention],
-    known: &mut Option<Known>,
+    learnt: &mut Learnt,
     near: usize,
     from: usize,
     demand: &Demand,
@@ -160,8 +162,8 @@ fn answering<S: OpenSet>(
     requires order { AreInOrder mentions.now }
     requires keys { HaveKeys mentions.now }
     requires block { HasBlock demand.now }
-    requires known { IfSome known.old (IsKnown (S.is_open set.now) mentions.now) }
-    ensures known { OnOk result (IfSome known.new (IsKnown (S.is_open set.now) mentions.now)) }
+    requires learnt { IsLearnt (S.is_open set.now) mentions.now learnt.old }
+    ensures learnt { OnOk result (IsLearnt (S.is_open set.now) mentions.now learnt.new) }
     ensures uids { IfOk result (λ uids.
         UpToThree (λ u. (is_uid u && S.is_open set.now u) && answers_by mentions.now demand.now u)
         uids.items) }
@@ -170,7 +172,7 @@ fn answering<S: OpenSet>(
         first: demand.first,
         len: demand.len,
     };
-    up_to_three_answering(alloc, set, mentions, known, near, &block, from, demand.at)
+    up_to_three_answering(alloc, set, mentions, learnt, near, &block, from, demand.at)
 }
 
 /// The position of the first of some slots. No answer rests on it: it says from where on it is
@@ -218,12 +220,12 @@ fn end_of_enough(mentions: &[Mention], at: usize, lacking: usize) -> usize {
 
 /// The UIDs in the mask of a slot that the lines mention and the log leaves open; none if that
 /// isn't known.
-fn known_mentions<'a>(known: &'a Option<Known>, demand: &Demand) -> &'a [Mention]
-    requires order { IfSome known.now (λ k. AreInOrder k.mentioned.items) }
+fn known_mentions<'a>(learnt: &'a Learnt, demand: &Demand) -> &'a [Mention]
+    requires order { IfSome learnt.now.known (λ k. AreInOrder k.mentioned.items) }
     requires block { HasBlock demand.now }
 {
     let Demand { first, len, .. } = *demand;
-    match known {
+    match &learnt.known {
         Some(known) => {
             let start = start_near(&known.mentioned, 0, first);
             mentions_between(
@@ -244,16 +246,17 @@ fn guess_unmet<S: OpenSet>(
     alloc: Global,
     set: &S,
     mentions: &[Mention],
-    known: &mut Option<Known>,
+    learnt: &mut Learnt,
     demands: &[Demand],
     from: usize,
 ) -> Result<usize, AllocError>
     requires order { AreInOrder mentions.now }
     requires keys { HaveKeys mentions.now }
     requires blocks { All HasBlock demands.now }
-    requires known { IfSome known.old (IsKnown (S.is_open set.now) mentions.now) }
-    ensures known { OnOk result (IfSome known.new (IsKnown (S.is_open set.now) mentions.now)) }
+    requires learnt { IsLearnt (S.is_open set.now) mentions.now learnt.old }
+    ensures learnt { OnOk result (IsLearnt (S.is_open set.now) mentions.now learnt.new) }
 {
+    learnt.spare = 0;
     let first_asked = first_place(demands);
     let mut guess = from;
     let mut least = usize::MAX;
@@ -263,10 +266,10 @@ fn guess_unmet<S: OpenSet>(
         if !is_asked_again(demands, index) {
             let demand = demands[index];
             near = start_near(mentions, near, demand.first);
-            let uids = answering(alloc, set, mentions, known, near, first_asked, &demand)?;
+            let uids = answering(alloc, set, mentions, learnt, near, first_asked, &demand)?;
             let need = usize::from(demand.need);
             if uids.len() < need {
-                let inside = known_mentions(known, &demand);
+                let inside = known_mentions(learnt, &demand);
                 let end = end_of_enough(inside, demand.place(), need - uids.len());
                 let group = &demands[start..index];
                 let first = start + group.partition_point(|earlier| earlier.place() < end);
@@ -288,7 +291,7 @@ fn first_unmet<S: OpenSet>(
     alloc: Global,
     set: &S,
     mentions: &[Mention],
-    known: &mut Option<Known>,
+    learnt: &mut Learnt,
     demands: &[Demand],
     from: usize,
     unmet: usize,
@@ -296,14 +299,14 @@ fn first_unmet<S: OpenSet>(
     requires order { AreInOrder mentions.now }
     requires keys { HaveKeys mentions.now }
     requires blocks { All HasBlock demands.now }
-    requires known { IfSome known.old (IsKnown (S.is_open set.now) mentions.now) }
+    requires learnt { IsLearnt (S.is_open set.now) mentions.now learnt.old }
     requires unmet { IsUnmetAt (S.is_open set.now) mentions.now demands.now unmet }
     ensures { IfOk result (IsUnmetAt (S.is_open set.now) mentions.now demands.now) }
 {
-    let guess = guess_unmet(alloc, set, mentions, known, demands, from)?;
+    let guess = guess_unmet(alloc, set, mentions, learnt, demands, from)?;
     if guess < demands.len() {
         let demand = demands[guess];
-        let uids = answering(alloc, set, mentions, known, 0, demand.place(), &demand)?;
+        let uids = answering(alloc, set, mentions, learnt, 0, demand.place(), &demand)?;
         if uids.len() < usize::from(demand.need) {
             return Ok(demand.place());
         }
@@ -330,18 +333,18 @@ fn meet_each<S: OpenSet>(
         (IsUnmetAt (S.is_open set.now) mentions.now demands.now)) }
 {
     let first_asked = first_place(demands);
-    let mut known = None;
+    let mut learnt = Learnt::nothing(mentions);
     let mut start = 0;
     let mut near = 0;
     for index in 0..demands.len() {
         if !is_asked_again(demands, index) {
             let demand = demands[index];
             near = start_near(mentions, near, demand.first);
-            let uids = answering(alloc, set, mentions, &mut known, near, first_asked, &demand)?;
+            let uids = answering(alloc, set, mentions, &mut learnt, near, first_asked, &demand)?;
             let at = demand.place();
             let need = usize::from(demand.need);
             if uids.len() < need {
-                let at = first_unmet(alloc, set, mentions, &mut known, demands, start, at)?;
+                let at = first_unmet(alloc, set, mentions, &mut learnt, demands, start, at)?;
                 return Ok(Some(at));
             }
             found.push(Found { at, need, uids })?;

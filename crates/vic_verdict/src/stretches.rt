@@ -151,8 +151,7 @@ pub(crate) fn settle(alloc: Global, lines: &[PackedLine]) -> Result<Settled, All
     let mut closed = Vec::new(alloc);
     let mut stretches = Vec::new(alloc);
     // allocated once for a mention and a slot of each line, since what grows step by step is
-    // copied. The first stretch that is kept takes the mentions with their capacity; those of later
-    // ones grow
+    // copied. The first stretch that is kept takes the mentions with their capacity
     let mut mentions = Vec::with_capacity(alloc, lines.len())?;
     let mut reads = Vec::with_capacity(alloc, lines.len())?;
     let mut demands = Vec::new(alloc);

@@ -1,5 +1,5 @@
 -- Which open UIDs answer in a slot, by the mentions of a stretch.
-use Rattle.std.specs.Prelude.{◌≡◌, ℕ, ◌+◌, ◌-◌, ◌^◌, ◌<◌, Bool, true, not, ◌&&◌, List, map, nat_lt}
+use Rattle.std.specs.Prelude.{IfSome, ◌≡◌, ℕ, ◌+◌, ◌-◌, ◌^◌, ◌<◌, Bool, true, not, ◌&&◌, List, map, nat_lt}
 use Rattle.std.specs.List.{All}
 use Rattle.vic_frame.specs.declared.uid.TheConstants.{UID_BITS}
 use Rattle.vic_frame.specs.declared.low_bits_first.KeyBlock.{KeyBlock}
@@ -10,6 +10,7 @@ use Rattle.vic_tree.specs.Ranges.{is_between}
 use Rattle.vic_verdict.specs.declared.mentions.Mention.{Mention}
 use Rattle.vic_verdict.specs.declared.answering.Unmentioned.{Unmentioned}
 use Rattle.vic_verdict.specs.declared.answering.Known.{Known}
+use Rattle.vic_verdict.specs.declared.answering.Learnt.{Learnt}
 use Rattle.vic_verdict.specs.inner.Sweep.{AreInOrder, HaveKeys, has_where, is_mentioned, is_quiet_by, quiet_of}
 
 -- a UID of a set has a key in the block, and isn't Quiet at position i by the mentions
@@ -65,3 +66,7 @@ pub record IsKnown (set : ℕ → Bool) (ns : List Mention) (known : Known) : Ty
   pub keys : known.keys.items ≡ map (λ (n : Mention). n.key) ns
   pub mentioned : AreOpenMentions (is_ready_at set ns known.from) ns known.mentioned.items
   pub masks : All (IsUnmentioned set ns) known.masks.items
+
+-- and, if it is known yet, by what slots have taught
+abbrev pub IsLearnt : (ℕ → Bool) → List Mention → Learnt → Type 0
+IsLearnt set ns learnt = IfSome learnt.known (IsKnown set ns)

@@ -1,17 +1,16 @@
-use Rattle.std.proofs.Common.{◌≡◌, ◌+◌, get_or, sym, subst, arith, IfSome, Option}
-use Rattle.vic_verdict.proofs.Words.{get_or_default, Demand, Found, IsKnown, IsDemandBy}
-use Rattle.vic_verdict.specs.declared.answering.Known.{Known}
+use Rattle.std.proofs.Common.{◌≡◌, ◌+◌, get_or, sym, subst, arith}
+use Rattle.vic_verdict.proofs.Words.{get_or_default, Demand, Found, IsLearnt, IsDemandBy}
 use Rattle.vic_verdict.proofs.Demanding.{AreMetTo, met_skipped, met_found, met_all, found_at}
 use Rattle.vic_verdict.proofs.demands.meet_each.Goals as goal
 use Rattle.vic_verdict.proofs.demands.meet_each.Goals.{then-not-is_asked_again+in_ok-uids+else-len-need+in_ok-push, else-not-is_asked_again}
 
 pub loop-index-preserved : goal.loop-index-preserved
 loop-index-preserved g c = record {
-  known =
-      let K = λ (k : Option Known). IfSome k (IsKnown (g.S.OpenSet.is_open c.args.set.now) c.args.mentions.now) in
+  learnt =
+      let K = IsLearnt (g.S.OpenSet.is_open c.args.set.now) c.args.mentions.now in
       elim c.if-not-is_asked_again.branch [
-        | then-not-is_asked_again+in_ok-uids+else-len-need+in_ok-push w ↦ subst K (sym w.known-is) w.in_ok-uids.ensures.known
-        | else-not-is_asked_again w ↦ subst K (sym w.known-is) c.loop-index.invariant.known
+        | then-not-is_asked_again+in_ok-uids+else-len-need+in_ok-push w ↦ subst K (sym w.learnt-is) w.in_ok-uids.ensures.learnt
+        | else-not-is_asked_again w ↦ subst K (sym w.learnt-is) c.loop-index.invariant.learnt
       ];
   met = λ es same h.
       let ds = c.args.demands.now in

@@ -1,10 +1,10 @@
-use Rattle.std.proofs.Common.{List, All, IfSome}
-use Rattle.vic_verdict.proofs.Words.{IsKnown, SameUids, Entry, slots_of, is_open, IsDemandBy}
+use Rattle.std.proofs.Common.{List, All}
+use Rattle.vic_verdict.proofs.Words.{IsLearnt, SameUids, Entry, slots_of, is_open, IsDemandBy}
 use Rattle.vic_verdict.proofs.Demanding.{AreMetTo}
 use Rattle.vic_verdict.proofs.demands.meet_each.Given as goal
 
 abbrev pub invariant-loop-index : goal.invariant-loop-index
 invariant-loop-index g l = record {
-  known : IfSome l.known (IsKnown (g.S.OpenSet.is_open l.set) l.mentions);
+  learnt : IsLearnt (g.S.OpenSet.is_open l.set) l.mentions l.learnt;
   met : (es : List Entry) → SameUids (g.S.OpenSet.is_open l.set) (is_open (slots_of es)) → All (IsDemandBy es l.mentions) l.demands → AreMetTo es l.demands l.index l.fn.found.items l.found.items;
 }
