@@ -24,8 +24,7 @@ is_taken p xs us all i x left lt e more passes h =
 -- one is avoided
 pub is_avoided : (p : ℕ → Bool) (xs us all : List ℕ) (i x left : ℕ) → i < length xs → x ≡ get_or xs i x → p x ≡ false → us ++ take left (filter p (drop i xs)) ≡ all → us ++ take left (filter p (drop (i + 1) xs)) ≡ all
 is_avoided p xs us all i x left lt e fails h =
-    let here : filter p (drop i xs) ≡ filter p (drop (i + 1) xs) = ap (filter p) (rest_at xs i x lt e) ∙ filter_no p x (drop (i + 1) xs) fails in
-    ap (λ zs. us ++ take left zs) (sym here) ∙ h
+    ap (λ zs. us ++ take left zs) (sym (ap (filter p) (rest_at xs i x lt e) ∙ filter_no p x (drop (i + 1) xs) fails)) ∙ h
 
 -- no more are needed
 pub is_enough : (xs ys us all : List ℕ) (left : ℕ) → left ≡ 0 → us ++ take left xs ≡ all → us ++ take left ys ≡ all

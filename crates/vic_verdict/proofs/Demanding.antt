@@ -1,7 +1,7 @@
 -- What meets the demands of a stretch.
-use Rattle.std.proofs.Common.{◌≡◌, ℕ, zero, suc, ◌+◌, ◌<◌, ◌≤◌, ◌++◌, List, [], ◌∷◌, length, take, get_or, length-append, Bool, true, false, not, ◌&&◌, ◌||◌, cond, Option, Some, None, refl, sym, ap, ◌∙◌, subst, arith, inl, inr, ⊎_elim, ◌⊎◌, ◌==◌, IfSome, nat_lt, slice_get, All, Any, sum_by, IsPermutation, eq-eqb, eqb-true}
-use Rattle.vic_verdict.proofs.Words.{list_all, list_any, cases_eq, cases_lt, and_parts, and_from, or_left, or_right, false≢true, nat_tests, slice_get_within, get_or_default, All-push, list_any-append, Any-from_list_any, All-permutation, list_any-IsPermutation, IsUid, is_uid, is_in_block, mirror, SameUids, UpToThree, Entry, Collision, Garbled, mask_at, lies_in_some, is_quiet, answers_at, ManyReplies, SomeReply, slots_of, is_open, AgreeBefore, answers_agree, IsUid-from, lt_yes, lt_from, Demand, Found, Stretch, Mention, Lacks, answering, AreInOrder, HaveKeys, is_quiet_by, ArePutInOrder, needs, needs_of, IsFoundAt, IsFound, IsDemandBy, AreFound, AreKept}
-use Rattle.std.proofs.lemmas.Option.{get_or_from_slice_get}
+use Rattle.std.proofs.Common.{◌≡◌, ℕ, zero, suc, ◌+◌, ◌<◌, ◌≤◌, ◌++◌, List, [], ◌∷◌, length, take, get_or, length-append, Bool, true, false, not, ◌&&◌, ◌||◌, cond, Option, Some, None, refl, sym, ap, ◌∙◌, subst, arith, inl, inr, ⊎_elim, ◌⊎◌, ◌==◌, nat_lt, slice_get, All, Any, sum_by, IsPermutation, eq-eqb, eqb-true, le-ltb}
+use Rattle.vic_verdict.proofs.Words.{list_all, list_any, cases_eq, cases_lt, and_parts, and_from, or_left, or_right, false≢true, nat_tests, slice_get_within, get_or_default, All-push, list_any-append, Any-from_list_any, All-permutation, list_any-IsPermutation, IsUid, is_uid, is_in_block, mirror, SameUids, UpToThree, Entry, Collision, Garbled, mask_at, lies_in_some, is_quiet, answers_at, ManyReplies, SomeReply, slots_of, is_open, AgreeBefore, answers_agree, IsUid-from, lt_yes, lt_from, Demand, Found, Stretch, Mention, Lacks, answering, AreInOrder, HaveKeys, is_quiet_by, ArePutInOrder, needs, needs_of, IsFoundAt, IsFound, IsDemandBy, AreFound, AreKept, not_from_false, false_from_ne_true, both_ways, not-true}
+use Rattle.std.proofs.lemmas.Option.{get_or_from_slice_get, slice_get_past}
 use Rattle.std.proofs.lemmas.List.{get_or_append_left}
 use Rattle.std.proofs.lemmas.List.Elements.{All-filter, filter_passes}
 use Rattle.std.proofs.lemmas.List.Quantifiers.{Any-push}
@@ -22,15 +22,12 @@ ready_of set ns d u = (is_uid u && set u) && answers_by ns d u
 
 -- ---- a demand that is met
 
+told_answers : (i s o a b : Bool) → (i ≡ true → s ≡ (i && o)) → (i ≡ true → a ≡ b) → ((i && s) && a) ≡ ((i && o) && b)
+told_answers i s o a b f g = grind (arith, f, g)
+
 found_answers : (es : List Entry) (set : ℕ → Bool) (ns : List Mention) (d : Demand) (us : List ℕ) → SameUids set (is_open (slots_of es)) → IsDemandBy es ns d → UpToThree (ready_of set ns d) us → UpToThree (answering (is_open (slots_of es)) es d.at) us
-found_answers es set ns d us same h found = UpToThree-same (ready_of set ns d) (answering (is_open (slots_of es)) es d.at) us (λ u. go u (is_uid u) refl) found
-  where
-    go : (u : ℕ) (b : Bool) → is_uid u ≡ b → ((b && set u) && answers_by ns d u) ≡ ((b && list_all (allows u) (slots_of es)) && answers_at es d.at u)
-    go u true e =
-        let w = IsUid-from u e in
-        let o : set u ≡ list_all (allows u) (slots_of es) = same u w ∙ ap (λ b. b && list_all (allows u) (slots_of es)) e in
-        ap (λ x. x && answers_by ns d u) o ∙ ap (λ x. list_all (allows u) (slots_of es) && x) (h.answers u w)
-    go u false e = refl
+found_answers es set ns d us same h found =
+    UpToThree-same (ready_of set ns d) (answering (is_open (slots_of es)) es d.at) us (λ u. told_answers (is_uid u) (set u) (list_all (allows u) (slots_of es)) (answers_by ns d u) (answers_at es d.at u) (λ e. same u (IsUid-from u e)) (λ e. h.answers u (IsUid-from u e))) found
 
 pub found_at : (es : List Entry) (set : ℕ → Bool) (ns : List Mention) (d : Demand) (f : Found) → SameUids set (is_open (slots_of es)) → IsDemandBy es ns d → UpToThree (ready_of set ns d) f.uids.items → f.at ≡ d.at → f.need ≡ d.need → d.need ≤ length f.uids.items → IsFoundAt es d.at f
 found_at es set ns d f same h found place need enough =
@@ -42,13 +39,7 @@ found_at es set ns d f same h found place need enough =
       enough = omega arith;
     }
 
-pub meets_there : (es : List Entry) (i : ℕ) (f : Found) → IsFoundAt es i f → Meets es f i
-meets_there es i f h = record { need = h.need; answer = h.uids.members }
-
 -- what the next demand of the same mask is met by meets this one too
-not_later : (b c : Bool) → (c ≡ true → b ≡ true) → not b ≡ true → not c ≡ true
-not_later b c f e = grind (arith, f)
-
 pub meets_again : (es : List Entry) (ns : List Mention) (d next : Demand) (f : Found) → IsDemandBy es ns d → IsDemandBy es ns next → IsImpliedBy d next → Meets es f next.at → Meets es f d.at
 meets_again es ns d next f h g said m = record {
   need = h.need ∙ (said.need ∙ (sym g.need ∙ m.need));
@@ -57,7 +48,7 @@ meets_again es ns d next f h g said m = record {
       let uid = IsUid-from u (and_parts (is_uid u) _ w.0).0 in
       let ready = and_parts _ _ (g.answers u uid ∙ w.1) in
       let inside = ap (λ n. is_in_block n d.len (mirror u)) said.first ∙ (ap (λ n. is_in_block next.first n (mirror u)) said.len ∙ ready.0) in
-      let awake = not_later _ _ (silenced_later ns (mirror u) d.at next.at said.later) ready.1 in
+      let awake = not_from_false _ (false_from_ne_true _ (λ k. both_ways _ (not-true _ ready.1) (silenced_later ns (mirror u) d.at next.at said.later k))) in
       and_from _ _ w.0 (sym (h.answers u uid) ∙ and_from _ _ inside awake);
 }
 
@@ -77,10 +68,6 @@ lacks_by es set ns d us same h found few =
     (λ w. (Garbled, SomeReply, w.0, refl, λ a. let n = (asks_one_iff _ us all).0 a in let one = w.1 in omega arith))
     (asked_two_or_one (slice_get es d.at) d.need h.need h.asked)
 
--- what an option is said to hold is so of what it holds
-pub some_is : (o : Option ℕ) (P : ℕ → Type 0) (x : ℕ) → o ≡ Some x → IfSome o P → P x
-some_is o P x e h = subst (λ (r : Option ℕ). IfSome r P) e h
-
 pub unmet_lacks : (es : List Entry) (set : ℕ → Bool) (ns : List Mention) (ds : List Demand) (at : ℕ) → SameUids set (is_open (slots_of es)) → All (IsDemandBy es ns) ds → IsUnmetAt set ns ds at → Lacks es at
 unmet_lacks es set ns ds at same h w =
     let d : Demand = w.1 in
@@ -89,12 +76,12 @@ unmet_lacks es set ns ds at same h w =
 
 -- ---- one demand after another
 
-no_demand : Demand
+abbrev pub no_demand : Demand
 no_demand = record { first = 0; len = 0; need = 0; at = 0 }
 
 -- an element of a list with one more is one of it, or the one more
 pub any_kept : {X : Type 0} (P : X → Type 0) (xs : List X) (y : X) → Any P xs → Any P (xs ++ y ∷ [])
-any_kept P xs y h = (h.0, h.1, (let longer = length-append xs (y ∷ []) in let below = h.2 in omega arith), get_or_append_left xs (y ∷ []) h.1 h.0 h.2 ∙ h.3, h.4)
+any_kept P xs y h = (h.0, h.1, omega (arith, length-append xs (y ∷ []), h.2), get_or_append_left xs (y ∷ []) h.1 h.0 h.2 ∙ h.3, h.4)
 
 -- what the first k demands are met by, where the next demand doesn't ask again
 pub record AreMetTo (es : List Entry) (ds : List Demand) (k : ℕ) (old new : List Found) : Type 0 where
@@ -108,9 +95,7 @@ met_skipped es ds k old new below again h = record {
   found = h.found;
   kept = h.kept;
   met = λ j d lt. ⊎_elim (λ e. inr (subst (IsAskedAgain ds) (sym e) again)) (λ ne. h.met j d (omega arith)) (cases_eq j k);
-  few =
-      let more = sum_by_more (λ (d : Demand). d.need) ds k no_demand below in
-      omega arith;
+  few = omega (arith, sum_by_more (λ (d : Demand). d.need) ds k no_demand below);
 }
 
 pub met_found : (es : List Entry) (ds : List Demand) (k : ℕ) (d : Demand) (f : Found) (old now new : List Found) → k < length ds → d ≡ get_or ds k d → new ≡ now ++ f ∷ [] → IsFoundAt es d.at f → f.need ≡ d.need → AreMetTo es ds k old now → AreMetTo es ds (k + 1) old new
@@ -119,14 +104,10 @@ met_found es ds k d f old now new below is all at need h = subst (AreMetTo es ds
   kept = λ i g. any_kept (λ x. Meets es x i) now f (h.kept i g);
   met = λ j c lt.
       ⊎_elim
-      (λ e. inl (subst (λ n. Any (λ (x : Found). Meets es x (get_or ds n c).at) (now ++ f ∷ [])) (sym e) (subst (λ (x : Demand). Any (λ (y : Found). Meets es y x.at) (now ++ f ∷ [])) (is ∙ get_or_default ds k d c below) (Any-push (λ x. Meets es x d.at) now f (meets_there es d.at f at)))))
+      (λ e. inl (subst (λ n. Any (λ (x : Found). Meets es x (get_or ds n c).at) (now ++ f ∷ [])) (sym e) (subst (λ (x : Demand). Any (λ (y : Found). Meets es y x.at) (now ++ f ∷ [])) (is ∙ get_or_default ds k d c below) (Any-push (λ x. Meets es x d.at) now f (record { need = at.need; answer = at.uids.members })))))
       (λ ne. ⊎_elim (λ m. inl (any_kept (λ x. Meets es x (get_or ds j c).at) now f m)) (λ a. inr a) (h.met j c (omega (arith, lt))))
       (cases_eq j k);
-  few =
-      let more = sum_by_more (λ (x : Demand). x.need) ds k d below in
-      let here = ap (λ (x : Demand). x.need) is in
-      let sum = sum_by_push (λ (x : Found). x.need) now f in
-      omega arith;
+  few = omega (arith, sum_by_more (λ (x : Demand). x.need) ds k d below, ap (λ (x : Demand). x.need) is, sum_by_push (λ (x : Found). x.need) now f);
 })
 
 -- from the last demand back
@@ -162,12 +143,9 @@ needs_more : (es : List Entry) (i : ℕ) (e : Entry) → slice_get es i ≡ Some
 needs_more es i e k =
     sum_by_more needs es i e (slice_get_within es i e k) ∙ ap (λ x. all_needs (take i es) + needs x) (get_or_from_slice_get es i e e k)
 
-lt_no : (x i : ℕ) → i ≤ x → nat_lt x i ≡ false
-lt_no x i le = grind (arith, nat_tests)
-
 -- a demand of a later position doesn't count
 to_before : (j : ℕ) (ds : List Demand) (d : Demand) → j ≤ d.at → demands_to j (ds ++ d ∷ []) ≡ demands_to j ds
-to_before j [] d late = ap (λ b. cond b (d ∷ []) []) (lt_no d.at j late)
+to_before j [] d late = ap (λ b. cond b (d ∷ []) []) (le-ltb d.at j late)
 to_before j (x ∷ ds) d late = ap (λ xs. cond (nat_lt x.at j) (x ∷ xs) xs) (to_before j ds d late)
 
 -- up to position i they are all
@@ -177,23 +155,23 @@ to_all i (x ∷ ds) h =
     ap (λ b. cond b (x ∷ demands_to i ds) (demands_to i ds)) (lt_yes x.at i (h 0 x (omega arith)))
     ∙ ap (λ xs. x ∷ xs) (to_all i ds (λ k d below. h (suc k) d (omega arith)))
 
-are_before : (es : List Entry) (from i : ℕ) (ds : List Demand) → All (IsDemand es from i) ds → All (λ (d : Demand). d.at < i) ds
-are_before es from i ds h k d below = (h k d below).before
+all_asked : (es : List Entry) (from i j : ℕ) (ds : List Demand) → All (IsDemand es from i) ds → j ≡ i → asked_by (demands_to j ds) ≡ asked_by ds
+all_asked es from i j ds h end = ap (λ n. asked_by (demands_to n ds)) end ∙ ap asked_by (to_all i ds (λ k d below. (h k d below).before))
+
+-- an entry that asks for nothing is none of those that ask
+asks_before : (es : List Entry) (i j : ℕ) (e : Entry) → slice_get es i ≡ Some e → needs e ≡ 0 → j < i + 1 → 0 < needs_at es j → j < i
+asks_before es i j e k none lt some =
+    ⊎_elim (λ here. absurd (omega (arith, some, ap needs_of k ∙ none, ap (needs_at es) here))) (λ ne. omega arith) (cases_eq j i)
 
 -- an entry that asks for nothing
 pub asked_nothing : (es : List Entry) (from i : ℕ) (ds : List Demand) (e : Entry) → from ≤ i → slice_get es i ≡ Some e → needs e ≡ 0 → AreAsked es from i ds → AreAsked es from (i + 1) ds
 asked_nothing es from i ds e begun k none h = record {
   demands = demands_next es from i ds h.demands;
-  asked = λ j since lt some.
-      ⊎_elim
-      (λ here. absurd (let zero = ap needs_of k ∙ none in let at = ap (needs_at es) here in omega (arith, some)))
-      (λ ne. h.asked j since (omega (arith, lt)) some)
-      (cases_eq j i);
+  asked = λ j since lt some. h.asked j since (asks_before es i j e k none lt some) some;
   few = λ j since upto.
       ⊎_elim
       (λ end.
-      let whole : demands_to j ds ≡ demands_to i ds = ap (λ n. demands_to n ds) end ∙ (to_all (i + 1) ds (are_before es from (i + 1) ds (demands_next es from i ds h.demands)) ∙ sym (to_all i ds (are_before es from i ds h.demands))) in
-      let same = ap asked_by whole in
+      let same = all_asked es from (i + 1) j ds (demands_next es from i ds h.demands) end ∙ sym (all_asked es from i i ds h.demands refl) in
       let few = h.few i begun (omega arith) in
       let more = ap (λ n. all_needs (take n es)) end ∙ needs_more es i e k in
       omega arith)
@@ -214,17 +192,13 @@ asked_more es from i ds new e d begun k need some block inside at is h = subst (
   few = λ j since upto.
       ⊎_elim
       (λ end.
-      let whole : demands_to j (ds ++ d ∷ []) ≡ ds ++ d ∷ [] = ap (λ n. demands_to n (ds ++ d ∷ [])) end ∙ to_all (i + 1) (ds ++ d ∷ []) (are_before es from (i + 1) (ds ++ d ∷ []) all) in
-      let same = ap asked_by whole in
+      let same = all_asked es from (i + 1) j (ds ++ d ∷ []) all end in
       let sum = sum_by_push (λ (x : Demand). x.need) ds d in
-      let before = ap asked_by (to_all i ds (are_before es from i ds h.demands)) in
+      let before = all_asked es from i i ds h.demands refl in
       let few = h.few i begun (omega arith) in
       let more = ap (λ n. all_needs (take n es)) end ∙ needs_more es i e k in
       omega arith)
-      (λ ne.
-      let few = h.few j since (omega (arith, upto)) in
-      let same = ap asked_by (to_before j ds d (omega (arith, upto))) in
-      omega arith)
+      (λ ne. omega (arith, h.few j since (omega (arith, upto)), ap asked_by (to_before j ds d (omega (arith, upto)))))
       (cases_eq j (i + 1));
 })
   where
@@ -255,43 +229,20 @@ kept_first es = record {
   few = omega arith;
 }
 
--- a field cycle asks for nothing
-pub kept_cycle : (es : List Entry) (i : ℕ) (ss : List Stretch) (e : Entry) → slice_get es i ≡ Some e → needs e ≡ 0 → AreKept es i ss → AreKept es (i + 1) ss
-kept_cycle es i ss e k none h = record {
-  kept = λ n s below. let it = h.kept n s below in record {
-    mentions = it.mentions;
-    blocks = it.blocks;
-    places = λ m d inside. let lt = it.places m d inside in omega arith;
-    demands = it.demands;
-  };
-  asked = λ j lt some.
-      ⊎_elim
-      (λ here. absurd (let zero = ap needs_of k ∙ none in let at = ap (needs_at es) here in omega (arith, some)))
-      (λ ne. h.asked j (omega arith) some)
-      (cases_eq j i);
-  few = let more = needs_more es i e k in omega arith;
-}
-
 -- what an entry more asks for, if there is one
 needs_next : (es : List Entry) (n : ℕ) → all_needs (take (suc n) es) ≡ all_needs (take n es) + needs_at es n
 needs_next [] zero = refl
 needs_next [] (suc n) = refl
 needs_next (e ∷ es) zero = refl
 needs_next (e ∷ es) (suc n) =
-    let more = sum_by-cons needs e (take (suc n) es) in
-    let less = sum_by-cons needs e (take n es) in
-    let rest = needs_next es n in
-    omega arith
+    omega (arith, sum_by-cons needs e (take (suc n) es), sum_by-cons needs e (take n es), needs_next es n)
 
 -- entries that are the same ask for the same
 needs_agree : (n : ℕ) (es fs : List Entry) → AgreeBefore n es fs → all_needs (take n es) ≡ all_needs (take n fs)
 needs_agree zero es fs agree = refl
 needs_agree (suc n) es fs agree =
-    let one = needs_next es n in
-    let other = needs_next fs n in
-    let here = ap needs_of (agree n (omega arith)) in
     let before = needs_agree n es fs (λ j below. agree j (omega arith)) in
-    omega arith
+    omega (arith, needs_next es n, needs_next fs n, ap needs_of (agree n (omega arith)))
 
 -- whoever answers by the mentions answers
 demand_by : (es : List Entry) (i : ℕ) (ns : List Mention) (d : Demand) → ((u : ℕ) → IsUid u → is_quiet_by ns (mirror u) d.at ≡ is_quiet es d.at u) → (from : ℕ) → IsDemand es from i d → IsDemandBy es ns d
@@ -320,6 +271,14 @@ kept_agree es fs i cut s agree le h = record {
       demand_agrees es fs cut s.mentions.items (get_or s.demands.items k d) agree (omega arith) (h.demands k d below);
 }
 
+-- a field cycle asks for nothing
+pub kept_cycle : (es : List Entry) (i : ℕ) (ss : List Stretch) (e : Entry) → slice_get es i ≡ Some e → needs e ≡ 0 → AreKept es i ss → AreKept es (i + 1) ss
+kept_cycle es i ss e k none h = record {
+  kept = λ n s below. kept_agree es es i (i + 1) (get_or ss n s) (λ j lt. refl) (omega arith) (h.kept n s below);
+  asked = λ j lt some. h.asked j (asks_before es i j e k none lt some) some;
+  few = omega (arith, needs_more es i e k);
+}
+
 -- a demand of a position before the cut is one of those up to it
 asked_to : (cut j : ℕ) (ds : List Demand) → j < cut → is_asked (demands_to cut ds) j ≡ is_asked ds j
 asked_to cut j [] below = refl
@@ -345,16 +304,10 @@ kept_to es fs from i cut ns ms ds old new agree since upto keys quiet order keep
         (cases_lt j from)
 
     few_before : sum_by (λ (s : Stretch). asked_by s.demands.items) old + asked_by (demands_to cut ds) ≤ all_needs (take cut fs)
-    few_before =
-        let more = h.few cut since upto in
-        let same = needs_agree cut fs es agree in
-        omega arith
+    few_before = omega (arith, h.few cut since upto, needs_agree cut fs es agree)
 
     early : All (λ (d : Demand). d.at < cut) (demands_to cut ds)
     early k d below = lt_from _ _ (filter_passes (λ (x : Demand). nat_lt x.at cut) ds k d below)
-
-    are_blocks : All HasBlock (demands_to cut ds)
-    are_blocks = All-filter (λ (d : Demand). nat_lt d.at cut) HasBlock ds (λ k d below. (h.demands k d below).block)
 
     told : All (IsDemandBy fs ms) (demands_to cut ds)
     told k d below =
@@ -367,14 +320,14 @@ kept_to es fs from i cut ns ms ds old new agree since upto keys quiet order keep
     none w = subst (AreKept fs cut) (sym w.0) (record {
       kept = old_kept;
       asked = λ j lt asks. ⊎_elim (λ a. a) (λ b. absurd (false≢true (ap (λ xs. is_asked xs j) (sym w.1) ∙ b))) (asked_before j lt asks);
-      few = let few = few_before in omega arith;
+      few = omega (arith, few_before);
     })
 
     some : (s : Stretch) × (new ≡ old ++ s ∷ []) × (s.mentions.items ≡ ms) × IsPermutation (demands_to cut ds) s.demands.items → AreKept fs cut new
     some w = subst (AreKept fs cut) (sym w.1) (record {
       kept = All-push (IsKept fs cut) old w.0 old_kept (record {
         mentions = record { order = subst AreInOrder (sym w.2) order.order; keys = subst HaveKeys (sym w.2) (order.keys keys) };
-        blocks = All-permutation HasBlock (demands_to cut ds) w.0.demands.items w.3 are_blocks;
+        blocks = All-permutation HasBlock (demands_to cut ds) w.0.demands.items w.3 (All-filter (λ (d : Demand). nat_lt d.at cut) HasBlock ds (λ k d below. (h.demands k d below).block));
         places = All-permutation (λ (d : Demand). d.at < cut) (demands_to cut ds) w.0.demands.items w.3 early;
         demands = subst (λ xs. All (IsDemandBy fs xs) w.0.demands.items) (sym w.2) (All-permutation (IsDemandBy fs ms) (demands_to cut ds) w.0.demands.items w.3 told);
       });
@@ -385,10 +338,8 @@ kept_to es fs from i cut ns ms ds old new agree since upto keys quiet order keep
           (λ b. or_right _ _ (or_left _ _ (sym (list_any-IsPermutation (λ (d : Demand). d.at == j) (demands_to cut ds) w.0.demands.items w.3) ∙ b)))
           (asked_before j lt asks);
       few =
-          let few = few_before in
-          let sum = sum_by_push (λ (s : Stretch). asked_by s.demands.items) old w.0 in
           let same = sum_by-IsPermutation (λ (d : Demand). d.need) (demands_to cut ds) w.0.demands.items w.3 in
-          omega arith;
+          omega (arith, few_before, sum_by_push (λ (s : Stretch). asked_by s.demands.items) old w.0);
     })
 
 pub kept_in_order : (es : List Entry) (i : ℕ) (ss : List Stretch) → AreKept es i ss → All HasMentionsInOrder ss
@@ -422,17 +373,11 @@ found_more es ss k s ds old new below is all m h = record {
       (cases_eq j k);
   few =
       let more = sum_by_more (λ (x : Stretch). asked_by x.demands.items) ss k s below in
-      let here = ap (λ (x : Stretch). asked_by x.demands.items) is in
-      let same = ap asked_by all in
-      omega arith;
+      omega (arith, ap (λ (x : Stretch). asked_by x.demands.items) is, ap asked_by all);
 }
 
 needs_within : (es : List Entry) (j : ℕ) → 0 < needs_at es j → j < length es
-needs_within es j some = go (slice_get es j) refl
-  where
-    go : (o : Option Entry) → slice_get es j ≡ o → j < length es
-    go (Some e) k = slice_get_within es j e k
-    go None k = absurd (let none = ap needs_of k in omega arith)
+needs_within es j some = ⊎_elim (λ lt. lt) (λ past. absurd (let none = ap needs_of (slice_get_past es j past) in omega (arith, some))) (cases_lt j (length es))
 
 -- all of them
 pub found_all : (es : List Entry) (ss : List Stretch) (k : ℕ) (fs : List Found) → k ≡ length ss → AreKept es (length es) ss → AreFoundTo es ss k fs → AreFound es fs
@@ -441,13 +386,9 @@ found_all es ss k fs end kept h = record {
   met = λ j some.
       let w = Any-from_list_any (λ (s : Stretch). is_asked s.demands.items j) ss (kept.asked j (needs_within es j some) some) in
       let v = Any-from_list_any (λ (d : Demand). d.at == j) w.1.demands.items w.4 in
-      let below = w.2 in
       let place : v.1.at ≡ j = eqb-true v.1.at j v.4 in
       let inside = subst (λ (s : Stretch). v.0 < length s.demands.items) (sym w.3) v.2 in
-      let met = h.met w.0 w.1 (omega arith) v.0 v.1 inside in
+      let met = h.met w.0 w.1 (omega (arith, w.2)) v.0 v.1 inside in
       subst (λ n. Any (λ (f : Found). Meets es f n) fs) place (subst (λ (d : Demand). Any (λ (f : Found). Meets es f d.at) fs) (ap (λ (s : Stretch). get_or s.demands.items v.0 v.1) w.3 ∙ v.3) met);
-  few =
-      let part = sum_by-take-le (λ (s : Stretch). asked_by s.demands.items) ss k in
-      let whole = sum_by-take-le needs es (length es) in
-      omega arith;
+  few = omega (arith, sum_by-take-le (λ (s : Stretch). asked_by s.demands.items) ss k, sum_by-take-le needs es (length es));
 }

@@ -21,10 +21,7 @@ known_has us certain unlisted known u is new =
     ∙ list_any-append (nat_eq u) us unlisted
     ∙ same_tests (has us u || has unlisted u) (has certain u || has us u)
     (λ h. ⊎_elim (λ e. or_right _ _ e) (λ e. or_left _ _ ((new.members u).0 e).0) (or_cases _ _ h))
-    (λ h. ⊎_elim
-    (λ c. ⊎_elim (λ e. or_left _ _ e) (λ e. or_right _ _ ((new.members u).1 (c, e))) (cases_Bool (has us u)))
-    (λ e. or_left _ _ e)
-    (or_cases _ _ h))
+    (λ h. ⊎_elim (λ e. or_left _ _ e) (λ e. ⊎_elim (λ c. or_right _ _ ((new.members u).1 (c, e))) (λ m. or_left _ _ m) (or_cases _ _ h)) (cases_Bool (has us u)))
 
 pub neither_by : (set : ℕ → Bool) (us certain outside absent : List ℕ) → IsListOf (IsFailing us set) outside → IsListOf (IsFailing outside (has certain)) absent → IsListOf (λ u. IsFailing us set u × (has certain u ≡ false)) absent
 neither_by set us certain outside absent out l =
@@ -102,21 +99,18 @@ unlisted_iff P C set certain us all f l u = (
 )
 
 -- a listed UID that is neither certain nor absent may be there and may be missing
-doubtful_iff : (P C : ℕ → Type 0) (set : ℕ → Bool) (certain us all some absent : List ℕ) → AreFacts P C set certain → AreListed us all → IsListOf (IsFailing us (has certain)) some → IsListOf (λ u. IsFailing us set u × (has certain u ≡ false)) absent → (u : ℕ) → IsFailing some (has absent) u ↔ ((has all u ≡ true) × (P u × (C u → ⊥)))
-doubtful_iff P C set certain us all some absent f l un out u = (
-  (λ h.
-      let w = (un.members u).0 h.0 in
-      let open_ : set u ≡ true = ⊎_elim (λ e. e) (λ e. absurd (both_ways (has absent u) h.1 ((out.members u).1 ((w.0, e), w.1)))) (cases_Bool (set u)) in
-      (sym (l.members u) ∙ w.0, (open_iff P C set certain u f (l.are_uids u w.0)).0 (open_, w.1))),
-  (λ h.
-      let member = l.members u ∙ h.0 in
-      let w = (open_iff P C set certain u f (l.are_uids u member)).1 h.1 in
-      ((un.members u).1 (member, w.1), false_from_ne_true _ (λ e. both_ways (set u) ((out.members u).0 e).0.1 w.0))),
-)
-
 pub doubtful_list : (P C : ℕ → Type 0) (set : ℕ → Bool) (certain us all some absent doubtful : List ℕ) → AreFacts P C set certain → AreListed us all → IsListOf (IsFailing us (has certain)) some → IsListOf (λ u. IsFailing us set u × (has certain u ≡ false)) absent → IsListOf (IsFailing some (has absent)) doubtful → IsListOf (λ u. (has all u ≡ true) × (P u × (C u → ⊥))) doubtful
 doubtful_list P C set certain us all some absent doubtful f l un out h =
-    list_as _ _ doubtful (doubtful_iff P C set certain us all some absent f l un out) h
+    list_as (IsFailing some (has absent)) (λ u. (has all u ≡ true) × (P u × (C u → ⊥))) doubtful (λ u. (
+      (λ k.
+          let w = (un.members u).0 k.0 in
+          let open_ : set u ≡ true = ⊎_elim (λ e. e) (λ e. absurd (both_ways (has absent u) k.1 ((out.members u).1 ((w.0, e), w.1)))) (cases_Bool (set u)) in
+          (sym (l.members u) ∙ w.0, (open_iff P C set certain u f (l.are_uids u w.0)).0 (open_, w.1))),
+      (λ k.
+          let member = l.members u ∙ k.0 in
+          let w = (open_iff P C set certain u f (l.are_uids u member)).1 k.1 in
+          ((un.members u).1 (member, w.1), false_from_ne_true _ (λ e. both_ways (set u) ((out.members u).0 e).0.1 w.0))),
+    )) h
 
 left_iff : (P C : ℕ → Type 0) (set : ℕ → Bool) (certain us all : List ℕ) → AreFacts P C set certain → AreListed us all → (u : ℕ) → IsUid u → (left_by set certain us u ≡ true) ↔ ((P u × (C u → ⊥)) × (has all u ≡ false))
 left_iff P C set certain us all f l u i =

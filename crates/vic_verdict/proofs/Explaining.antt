@@ -19,27 +19,21 @@ small_from es us g = record {
   few = λ heard all. let n = g.few heard all in omega arith;
 }
 
-none_avoided : (es : List Entry) → AvoidsNoneCertain es None
-none_avoided es a e = cc
-
 pub absent_shown : (lines : List LogLine) (m : Met) (us : List ℕ) (u : ℕ) → IsVerdict lines (Absent u) → IsMet (entries lines) m → IsStrictlyIncreasing us → SameMembers us (gathered None m) → IsPopulationBehind (entries lines) (Absent u) us
 absent_shown lines m us u v met rising same =
-    let es = entries lines in
-    let g = gathered_population es m None us v.0 (none_avoided es) met rising same in
-    (small_from es us g, false_from_ne_true _ (λ h. v.1.0.1 (us, g.population, g.could, h)))
+    let g = gathered_population (entries lines) m None us v.0 (λ a e. cc) met rising same in
+    (small_from _ us g, false_from_ne_true _ (λ h. v.1.0.1 (us, g.population, g.could, h)))
 
 pub unlisted_shown : (lines : List LogLine) (m : Met) (us : List ℕ) (u : ℕ) → IsVerdict lines (Unlisted u) → IsMet (entries lines) m → IsStrictlyIncreasing us → SameMembers us (gathered None m) → IsPopulationBehind (entries lines) (Unlisted u) us
 unlisted_shown lines m us u v met rising same =
-    let es = entries lines in
-    let g = gathered_population es m None us v.0 (none_avoided es) met rising same in
-    (small_from es us g, v.2.0.0 us g.population g.could)
+    let g = gathered_population (entries lines) m None us v.0 (λ a e. cc) met rising same in
+    (small_from _ us g, v.2.0.0 us g.population g.could)
 
 pub doubtful_shown : (lines : List LogLine) (m : Met) (us : List ℕ) (u : ℕ) → IsVerdict lines (Doubtful u) → IsMet (entries lines) m → IsStrictlyIncreasing us → SameMembers us (gathered (Some u) m) → IsPopulationBehind (entries lines) (Doubtful u) us
 doubtful_shown lines m us u v met rising same =
     let es = entries lines in
     let spared : AvoidsNoneCertain es (Some u) = λ a e certain. let it : u ≡ a = cc in v.4.0.1 (subst (IsCertainUid es) (sym it) certain) in
-    let g = gathered_population es m (Some u) us v.0 spared met rising same in
-    (small_from es us g, gathered_without es m u us v.4.0.1 met same)
+    (small_from es us (gathered_population es m (Some u) us v.0 spared met rising same), gathered_without es m u us v.4.0.1 met same)
 
 -- a gathered population with one possible UID more
 with_possible : (es : List Entry) (x : ℕ) (us vs : List ℕ) → IsPossible es → IsUid x → IsPossibleUid es x → IsGathered es us → IsStrictlyIncreasing vs → SameMembers vs (us ++ x ∷ []) → IsSmallPopulation es vs
@@ -63,7 +57,7 @@ with_possible es x us vs possible i p g rising same =
 pub unsettled_shown : (lines : List LogLine) (m : Met) (us vs : List ℕ) (k : BitMask) (x : ℕ) → IsVerdict lines (Unsettled k) → IsMet (entries lines) m → IsStrictlyIncreasing us → SameMembers us (gathered None m) → x ≡ least_uid_in k → IsStrictlyIncreasing vs → SameMembers vs (us ++ x ∷ []) → IsPopulationBehind (entries lines) (Unsettled k) vs
 unsettled_shown lines m us vs k x v met rising same is rising' same' =
     let es = entries lines in
-    let g = gathered_population es m None us v.0 (none_avoided es) met rising same in
+    let g = gathered_population es m None us v.0 (λ a e. cc) met rising same in
     let mask = v.3.0 in
     let i : IsUid x = subst IsUid (sym is) (IsUid-in k mask.0 mask.1) in
     let inside : lies_in k x ≡ true = subst (λ z. lies_in k z ≡ true) (sym is) (lies_in-uid_in k mask.0 mask.1) in

@@ -1,23 +1,16 @@
 -- The members of a list that fail a test.
-use Rattle.std.proofs.Common.{◌≡◌, ℕ, zero, suc, ◌<◌, ◌≤◌, List, [], ◌∷◌, length, get_or, Bool, true, not, sym, subst, arith, ⊎_elim, ◌↔◌, MatchOption, slice_get, filter}
-use Rattle.vic_verdict.proofs.Words.{IsStrictlyIncreasing, and_parts, and_from, not-true, not_from_false, false≢true, has, has_at, has_there, has_cases, has_here, has_filter, IsFailing, IsListOf, IsLeast, NoSuch}
+use Rattle.std.proofs.Common.{◌∙◌, ◌≡◌, ℕ, ◌<◌, ◌≤◌, List, [], ◌∷◌, length, get_or, Bool, true, not, sym, subst, arith, ◌↔◌, MatchOption, slice_get, filter, eq-eqb, eqb-true, nat_eq}
+use Rattle.vic_verdict.proofs.Words.{IsStrictlyIncreasing, and_parts, and_from, not-true, not_from_false, false≢true, has, has_here, has_filter, IsFailing, IsListOf, IsLeast, NoSuch, Any-from_list_any, list_any_at, get_or_default}
 use Rattle.std.proofs.lemmas.List.Kept.{IsStrictlyIncreasing-filter}
 use Rattle.vic_log.proofs.Sets.{filter_has}
 use Rattle.vic_verdict.proofs.Inserted.{rising_order}
 
 -- a member has a position
 pub place_of : (us : List ℕ) (u d : ℕ) → has us u ≡ true → (k : ℕ) × (k < length us) × (get_or us k d ≡ u)
-place_of [] u d h = absurd (false≢true h)
-place_of (x ∷ us) u d h =
-    ⊎_elim
-    (λ e. (zero, omega arith, sym e))
-    (λ k. let r = place_of us u d k in let lt = r.1 in (suc r.0, omega arith, r.2))
-    (has_cases u x us h)
+place_of us u d h = let w = Any-from_list_any (nat_eq u) us h in (w.0, w.2, get_or_default us w.0 d w.1 w.2 ∙ (w.3 ∙ sym (eqb-true u w.1 w.4)))
 
 pub member_at : (us : List ℕ) (k u d : ℕ) → k < length us → get_or us k d ≡ u → has us u ≡ true
-member_at [] k u d lt e = absurd (omega arith)
-member_at (x ∷ us) zero u d lt e = has_at u x us (sym e)
-member_at (x ∷ us) (suc k) u d lt e = has_there u x us (member_at us k u d (omega arith) e)
+member_at us k u d lt e = list_any_at (nat_eq u) us k d lt (eq-eqb u _ (sym e))
 
 -- ---- lists of those that fail
 
@@ -51,8 +44,7 @@ head_least P u us l = (
   λ m h.
       let p = place_of (u ∷ us) m 0 ((l.members m).1 h) in
       let o : u ≤ get_or (u ∷ us) p.0 0 = rising_order (u ∷ us) l.rising 0 p.0 (omega arith) p.1 in
-      let here = p.2 in
-      omega arith,
+      omega (arith, p.2),
 )
 
 pub none_of : (P : ℕ → Type 0) → IsListOf P [] → NoSuch P

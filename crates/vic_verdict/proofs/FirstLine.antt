@@ -1,5 +1,5 @@
 -- The first impossible line, found by counting lines.
-use Rattle.std.proofs.Common.{◌≡◌, ℕ, zero, suc, ◌<◌, List, [], ◌∷◌, ◌++◌, true, Some, take, sym, ap, ◌∙◌, subst, arith, ⊎_elim, slice_get, leb, le-leb, leb-false}
+use Rattle.std.proofs.Common.{◌≡◌, ℕ, zero, suc, ◌<◌, List, [], ◌∷◌, ◌++◌, Some, take, sym, ap, ◌∙◌, subst, arith, ⊎_elim, slice_get, leb, le-leb, leb-false}
 use Rattle.vic_verdict.proofs.Words.{cases_Bool, Entry, LogLine, IsPossible, Impossible, entries, IsRisingFrom, IsVerdict}
 use Rattle.vic_verdict.proofs.Possibility.{IsPossible-front}
 use Rattle.vic_verdict.specs.Verdict.{entries_to}
@@ -19,16 +19,14 @@ record UpTo (k : ℕ) (lines : List LogLine) (l : LogLine) : Type 0 where
 upto_first : (below : ℕ) (x : LogLine) (lines : List LogLine) → IsRisingFrom below (x ∷ lines) → UpTo zero (x ∷ lines) x
 upto_first below x lines r = record {
   here =
-      let yes : leb x.number x.number ≡ true = le-leb x.number x.number (omega arith) in
-      ap (line_kept x.number x lines) yes ∙ ap (λ es. x.item ∷ es) (none_to x.number x.number lines (omega arith) r.1);
+      ap (line_kept x.number x lines) (le-leb x.number x.number (omega arith)) ∙ ap (λ es. x.item ∷ es) (none_to x.number x.number lines (omega arith) r.1);
   less = λ m h. ([], ap (λ es. es ++ []) (none_to m m (x ∷ lines) (omega arith) (h, r.1)));
 }
 
 upto_more : (k : ℕ) (x : LogLine) (lines : List LogLine) (l : LogLine) → IsRisingFrom x.number lines → x.number < l.number → UpTo k lines l → UpTo (suc k) (x ∷ lines) l
 upto_more k x lines l r b u = record {
   here =
-      let yes : leb x.number l.number ≡ true = le-leb x.number l.number (omega arith) in
-      ap (line_kept l.number x lines) yes ∙ ap (λ es. x.item ∷ es) u.here;
+      ap (line_kept l.number x lines) (le-leb x.number l.number (omega arith)) ∙ ap (λ es. x.item ∷ es) u.here;
   less = λ m h.
       let rest = u.less m h in
       ⊎_elim

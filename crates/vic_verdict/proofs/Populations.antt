@@ -34,29 +34,22 @@ grown_by set p q k u i h = record {
   within = λ w m. ⊎_elim (λ e. subst (λ z. set z ≡ true) (sym e) h) (λ old. k w old) (with_member_cases u p w m);
 }
 
-pub grown_twice : (set : ℕ → Bool) (p q r : List ℕ) → Grown set p q → Grown set q r → Grown set p r
-grown_twice set p q r g h = record {
-  population = h.population;
-  keeps = λ u m. h.keeps u (g.keeps u m);
-  within = h.within;
-}
+-- with one that answers
+pub grown_one : (answers set : ℕ → Bool) (p : List ℕ) (u : ℕ) → IsWithin set is_uid → IsPopulation p → IsWithin (has p) set → (set u && answers u) ≡ true → Grown set p (with_member u p) × ((has (with_member u p) u && answers u) ≡ true)
+grown_one answers set p u uids i k a =
+    let w = and_parts (set u) (answers u) a in
+    (grown_by set p i k u (IsUid-from u (uids u w.0)) w.0, and_from _ _ (has_with_member u p) w.1)
 
 unfoldable pub grow : (r : Reading) (answers set : ℕ → Bool) (p : List ℕ) → IsWithin set is_uid → IsPopulation p → IsWithin (has p) set → Asks r (λ u. set u && answers u) → (q : List ℕ) × Grown set p q × Asks r (λ u. has q u && answers u)
 grow NoReply answers set p uids i k a = (p, record { population = i; keeps = λ u h. h; within = k }, tt)
-grow (OneReply h) answers set p uids i k a =
-    let w = and_parts (set h) (answers h) a in
-    (with_member h p, grown_by set p i k h (IsUid-from h (uids h w.0)) w.0, and_from _ _ (has_with_member h p) w.1)
+grow (OneReply h) answers set p uids i k a = let g = grown_one answers set p h uids i k a in (with_member h p, g.0, g.1)
 grow ManyReplies answers set p uids i k a =
-    let w = and_parts (set a.0) (answers a.0) a.3 in
-    let g = grown_by set p i k a.0 (IsUid-from a.0 (uids a.0 w.0)) w.0 in
-    let q = with_member a.0 p in
-    let v = and_parts (set a.1) (answers a.1) a.4 in
-    let f = grown_by set q g.population g.within a.1 (IsUid-from a.1 (uids a.1 v.0)) v.0 in
-    let r = with_member a.1 q in
-    (r, grown_twice set p q r g f, (a.0, a.1, a.2, and_from _ _ (f.keeps a.0 (has_with_member a.0 p)) w.1, and_from _ _ (has_with_member a.1 q) v.1))
-grow SomeReply answers set p uids i k a =
-    let w = and_parts (set a.0) (answers a.0) a.1 in
-    (with_member a.0 p, grown_by set p i k a.0 (IsUid-from a.0 (uids a.0 w.0)) w.0, (a.0, and_from _ _ (has_with_member a.0 p) w.1))
+    let g = grown_one answers set p a.0 uids i k a.3 in
+    let f = grown_one answers set (with_member a.0 p) a.1 uids g.0.population g.0.within a.4 in
+    let w = and_parts _ _ g.1 in
+    let both : Grown set p (with_member a.1 (with_member a.0 p)) = record { population = f.0.population; keeps = λ u m. f.0.keeps u (g.0.keeps u m); within = f.0.within } in
+    (with_member a.1 (with_member a.0 p), both, (a.0, a.1, a.2, and_from _ _ (f.0.keeps a.0 w.0) w.1, f.1))
+grow SomeReply answers set p uids i k a = let g = grown_one answers set p a.0 uids i k a.1 in (with_member a.0 p, g.0, (a.0, g.1))
 
 pub supply : (set : ℕ → Bool) (slots : List Slot) → IsWithin set is_uid → SuppliesAll set slots → (p : List ℕ) × IsPopulation p × IsWithin (has p) set × SuppliesAll (has p) slots
 supply set [] uids a = ([], tt, (λ u h. absurd (false≢true h)), tt)
@@ -118,14 +111,10 @@ third t n b u v =
     let x = without_parts v (without u t) found.0 found.2 in
     let y = without_parts u t found.0 x.0 in
     inl (found.0, y.0, y.1, x.1))
-    (λ none. inr (λ w h.
-    ⊎_elim
-    (λ e. inl e)
-    (λ ne. ⊎_elim
-    (λ e. inr e)
-    (λ ne'. absurd (both_ways _ (none w (b w h)) (without_from v (without u t) w (without_from u t w h ne) ne')))
-    (cases_eq w v))
-    (cases_eq w u)))
+    (λ none. inr (λ w h. elim (cases_eq w u) [
+      | inl e ↦ inl e
+      | inr ne ↦ ⊎_elim (λ e. inr e) (λ ne'. absurd (both_ways _ (none w (b w h)) (without_from v (without u t) w (without_from u t w h ne) ne'))) (cases_eq w v)
+    ]))
     (search_below (without v (without u t)) n)
 
 -- the two that a collision asks for, where u is one of two known
@@ -141,34 +130,28 @@ spare : (r : Reading) (t : ℕ → Bool) (n : ℕ) → ((w : ℕ) → t w ≡ tr
 spare NoReply t n b u a = inl tt
 spare (OneReply h) t n b u a = ⊎_elim (λ e. inr e) (λ ne. inl (without_from u t h a ne)) (cases_eq h u)
 spare ManyReplies t n b u a =
-    ⊎_elim
-    (λ e. two_or_last t n b u a.1 (λ k. a.2 (e ∙ sym k)) (subst (λ z. t z ≡ true) e a.3) a.4)
-    (λ ne. ⊎_elim
-    (λ e. two_or_last t n b u a.0 ne (subst (λ z. t z ≡ true) e a.4) a.3)
-    (λ ne'. inl (a.0, a.1, a.2, without_from u t a.0 a.3 ne, without_from u t a.1 a.4 ne'))
-    (cases_eq a.1 u))
-    (cases_eq a.0 u)
+    elim (cases_eq a.0 u) [
+      | inl e ↦ two_or_last t n b u a.1 (λ k. a.2 (e ∙ sym k)) (subst (λ z. t z ≡ true) e a.3) a.4
+      | inr ne ↦ elim (cases_eq a.1 u) [
+        | inl e ↦ two_or_last t n b u a.0 ne (subst (λ z. t z ≡ true) e a.4) a.3
+        | inr ne' ↦ inl (a.0, a.1, a.2, without_from u t a.0 a.3 ne, without_from u t a.1 a.4 ne')
+      ]
+    ]
 spare SomeReply t n b u a =
-    ⊎_elim
-    (λ e. ⊎_elim
-    (λ found. inl (found.0, without_from u t found.0 found.1 found.2))
-    (λ none. inr (subst (λ z. t z ≡ true) e a.1, λ w h. ⊎_elim (λ k. k) (λ k. k) (none w h)))
-    (third t n b u u))
-    (λ ne. inl (a.0, without_from u t a.0 a.1 ne))
-    (cases_eq a.0 u)
+    elim (cases_eq a.0 u) [
+      | inl e ↦ ⊎_elim (λ found. inl (found.0, without_from u t found.0 found.1 found.2)) (λ none. inr (subst (λ z. t z ≡ true) e a.1, λ w h. ⊎_elim (λ k. k) (λ k. k) (none w h))) (third t n b u u)
+      | inr ne ↦ inl (a.0, without_from u t a.0 a.1 ne)
+    ]
 
 -- where a slot tells that the UID is there, each set that has what it asks for has the UID
 pub forced : (r : Reading) (s t : ℕ → Bool) (u : ℕ) → Forces r t u → IsWithin s t → Asks r s → s u ≡ true
 forced NoReply s t u f k a = absurd f
 forced (OneReply h) s t u f k a = subst (λ z. s z ≡ true) f a
 forced ManyReplies s t u f k a =
-    ⊎_elim
-    (λ e. subst (λ z. s z ≡ true) e a.3)
-    (λ e. ⊎_elim
-    (λ e'. subst (λ z. s z ≡ true) e' a.4)
-    (λ e'. absurd (a.2 (e ∙ sym e')))
-    (f.4 a.1 (k a.1 a.4)))
-    (f.4 a.0 (k a.0 a.3))
+    elim (f.4 a.0 (k a.0 a.3)) [
+      | inl e ↦ subst (λ z. s z ≡ true) e a.3
+      | inr e ↦ ⊎_elim (λ e'. subst (λ z. s z ≡ true) e' a.4) (λ e'. absurd (a.2 (e ∙ sym e'))) (f.4 a.1 (k a.1 a.4))
+    ]
 forced SomeReply s t u f k a = subst (λ z. s z ≡ true) (f.1 a.0 (k a.0 a.1)) a.1
 
 forced_by : (set members : ℕ → Bool) (slots : List Slot) (u : ℕ) → IsForcedBy set slots u → IsWithin members set → SuppliesAll members slots → members u ≡ true

@@ -1,6 +1,6 @@
 -- Which open UIDs answer, by the mentions.
-use Rattle.std.proofs.Common.{take-append-drop, ◌≡◌, ℕ, nat_eq, ◌+◌, ◌-◌, ◌^◌, ◌<◌, ◌≤◌, ◌==◌, ◌++◌, List, [], ◌∷◌, length, take, drop, get_or, Bool, true, false, not, ◌&&◌, ◌||◌, refl, sym, ap, ◌∙◌, subst, arith, inl, inr, ⊎_elim, map, nat_lt, All, eq-eqb, eqb-true, take_all}
-use Rattle.vic_verdict.proofs.Words.{list_any, and_parts, and_from, or_cases, or_left, or_right, both_ways, false≢true, nat_tests, take-map, length-map, get_or-map, All-head, All-tail, All-push, list_any-append, list_any_more, IsUid, is_uid, has, BitMask, lies_in, is_in_block, mirror, uid_of, KeyBlock, uid_of_mirror, IsUid-from, is_uid_from, Gathers, UpToThree, is_between, lt_yes, Mention, HasInside, IsReadyIn, is_ready_at, AreInOrder, HaveKeys, has_where, is_mentioned, is_quiet_by, quiet_of}
+use Rattle.std.proofs.Common.{take-append-drop, ◌≡◌, ℕ, nat_eq, ◌+◌, ◌-◌, ◌^◌, ◌<◌, ◌≤◌, ◌==◌, ◌++◌, List, [], ◌∷◌, length, take, drop, get_or, Bool, true, false, not, ◌&&◌, ◌||◌, refl, sym, ap, ◌∙◌, subst, arith, inl, inr, ⊎_elim, map, nat_lt, All, eq-eqb, eqb-true, take_all, le-ltb}
+use Rattle.vic_verdict.proofs.Words.{list_any, and_parts, and_from, or_cases, or_left, or_right, both_ways, false≢true, nat_tests, take-map, length-map, get_or-map, All-head, All-tail, All-push, list_any-append, list_any_more, IsUid, is_uid, has, BitMask, lies_in, is_in_block, mirror, uid_of, KeyBlock, uid_of_mirror, IsUid-from, is_uid_from, Gathers, UpToThree, is_between, lt_yes, Mention, HasInside, IsReadyIn, is_ready_at, AreInOrder, HaveKeys, has_where, is_mentioned, is_quiet_by, quiet_of, not_from_false, false_from_ne_true}
 use Rattle.std.specs.List.Sorted.{IsNonDecreasing}
 use Rattle.std.proofs.lemmas.List.{drop-map}
 use Rattle.std.proofs.lemmas.List.Sorted.{IsNonDecreasingBy-push}
@@ -18,9 +18,6 @@ any_has : (p : ℕ → Bool) (us : List ℕ) (u : ℕ) → has us u ≡ true →
 any_has p [] u h e = absurd (false≢true h)
 any_has p (x ∷ us) u h e = let same = eqb-true u x in grind (arith, any_has p us u)
 
-is_not : (b : Bool) → (b ≡ true → not b ≡ true) → not b ≡ true
-is_not b f = grind (arith, f)
-
 -- the first UIDs found, where none of them is Quiet
 pub first_answering : (set : ℕ → Bool) (ns inside : List Mention) (b : KeyBlock) (i : ℕ) (m : BitMask) (us : List ℕ) → ((u : ℕ) → lies_in m u ≡ is_in_block b.first b.len (mirror u)) → ((u : ℕ) → IsUid u → lies_in m u ≡ true → is_quiet_by inside (mirror u) i ≡ is_quiet_by ns (mirror u) i) → UpToThree (in_mask set m []) us → list_any (λ u. is_quiet_by inside (mirror u) i) us ≡ false → UpToThree (is_answering set ns b i) us
 first_answering set ns inside b i m us same alike h none = record {
@@ -29,7 +26,7 @@ first_answering set ns inside b i m us same alike h none = record {
       let w = and_parts _ _ (h.members u k) in
       let uid = IsUid-from u (and_parts (is_uid u) (set u) w.0).0 in
       let lies = (and_parts _ _ w.1).0 in
-      and_from _ _ w.0 (and_from _ _ (sym (same u) ∙ lies) (is_not (is_quiet_by ns (mirror u) i) (λ e. absurd (both_ways _ none (any_has (λ v. is_quiet_by inside (mirror v) i) us u k (alike u uid lies ∙ e))))));
+      and_from _ _ w.0 (and_from _ _ (sym (same u) ∙ lies) (not_from_false _ (false_from_ne_true _ (λ e. both_ways _ none (any_has (λ v. is_quiet_by inside (mirror v) i) us u k (alike u uid lies ∙ e))))));
   all = λ few u k.
       let w = and_parts _ _ k in
       h.all few u (and_from _ _ w.0 (and_from _ _ (same u ∙ (and_parts _ _ w.1).0) refl));
@@ -37,37 +34,19 @@ first_answering set ns inside b i m us same alike h none = record {
 
 -- the same by the mentions in the block alone
 pub answering_inside : (set : ℕ → Bool) (ns inside : List Mention) (b : KeyBlock) (i : ℕ) (us : List ℕ) → ((k : ℕ) → is_in_block b.first b.len k ≡ true → is_quiet_by inside k i ≡ is_quiet_by ns k i) → UpToThree (is_answering set inside b i) us → UpToThree (is_answering set ns b i) us
-answering_inside set ns inside b i us alike h = UpToThree-same (is_answering set inside b i) (is_answering set ns b i) us (λ u. go u (is_in_block b.first b.len (mirror u)) refl) h
+answering_inside set ns inside b i us alike h = UpToThree-same (is_answering set inside b i) (is_answering set ns b i) us (λ u. go (is_uid u && set u) (is_in_block b.first b.len (mirror u)) _ _ (alike (mirror u))) h
   where
-    go : (u : ℕ) (c : Bool) → is_in_block b.first b.len (mirror u) ≡ c → is_answering set inside b i u ≡ is_answering set ns b i u
-    go u true e = ap (λ q. (is_uid u && set u) && (is_in_block b.first b.len (mirror u) && not q)) (alike (mirror u) e)
-    go u false e =
-        ap (λ x. (is_uid u && set u) && (x && not (is_quiet_by inside (mirror u) i))) e
-        ∙ sym (ap (λ x. (is_uid u && set u) && (x && not (is_quiet_by ns (mirror u) i))) e)
-
-shuffled : (a b c : Bool) → ((a && (b && c)) && true) ≡ ((a && b) && c)
-shuffled a b c = grind arith
-
-neither : (a b : Bool) → (a && false) ≡ (b && false)
-neither a b = grind arith
+    go : (a b p q : Bool) → (b ≡ true → p ≡ q) → (a && (b && not p)) ≡ (a && (b && not q))
+    go a b p q f = grind (arith, f)
 
 -- those found beside the keys of which a test holds
 pub found_besides : (set q : ℕ → Bool) (b : KeyBlock) (m : BitMask) (keys us : List ℕ) → ((u : ℕ) → lies_in m u ≡ is_in_block b.first b.len (mirror u)) → ((k : ℕ) → is_in_block b.first b.len k ≡ true → has keys k ≡ q k) → UpToThree (in_mask (without_keys set keys) m []) us → UpToThree (λ u. (is_uid u && set u) && (is_in_block b.first b.len (mirror u) && not (q (mirror u)))) us
-found_besides set q b m keys us same tells h = UpToThree-same (in_mask (without_keys set keys) m []) _ us (λ u. go u (is_in_block b.first b.len (mirror u)) refl) h
+found_besides set q b m keys us same tells h = UpToThree-same (in_mask (without_keys set keys) m []) _ us (λ u. go (is_uid u) (set u) (has keys (mirror u)) (q (mirror u)) (lies_in m u) (is_in_block b.first b.len (mirror u)) (same u) (tells (mirror u))) h
   where
-    go : (u : ℕ) (c : Bool) → is_in_block b.first b.len (mirror u) ≡ c → in_mask (without_keys set keys) m [] u ≡ ((is_uid u && set u) && (is_in_block b.first b.len (mirror u) && not (q (mirror u))))
-    go u true e =
-        ap (λ x. (is_uid u && (set u && not (has keys (mirror u)))) && (x && true)) (same u ∙ e)
-        ∙ (ap (λ x. (is_uid u && (set u && not x)) && true) (tells (mirror u) e)
-        ∙ (shuffled (is_uid u) (set u) _ ∙ ap (λ x. (is_uid u && set u) && (x && not (q (mirror u)))) (sym e)))
-    go u false e =
-        ap (λ x. (is_uid u && (set u && not (has keys (mirror u)))) && (x && true)) (same u ∙ e)
-        ∙ (neither _ _ ∙ ap (λ x. (is_uid u && set u) && (x && not (q (mirror u)))) (sym e))
+    go : (i s k q l b : Bool) → l ≡ b → (b ≡ true → k ≡ q) → ((i && (s && not k)) && (l && true)) ≡ ((i && s) && (b && not q))
+    go i s k q l b e f = grind (arith, f)
 
 -- ---- UIDs with a mention
-
-pub not_before : (x i : ℕ) → i ≤ x → nat_lt x i ≡ false
-not_before x i le = grind (arith, nat_tests)
 
 -- whoever is Quiet has a mention
 quiet_mentioned : (ns : List Mention) (k i : ℕ) → is_mentioned ns k ≡ false → is_quiet_by ns k i ≡ false
@@ -124,8 +103,7 @@ both_answering set ns os inside b from i last us vs asked small block o alike wi
         let here : has_where (is_awake i) os (mirror u) ≡ true = key_of u uid ∙ and_from _ _ (and_parts (is_uid u) (set u) there).1 (and_from _ _ e awake) in
         g.all few u (uid, alike (mirror u) (block (mirror u) ∙ lies) ∙ here)
     go few u uid there lies awake false e =
-        let more = g.longer in
-        g.keeps u (h.all (omega (arith, few)) u (and_from _ _ there (and_from _ _ lies (ap not e))))
+        g.keeps u (h.all (omega (arith, few, g.longer)) u (and_from _ _ there (and_from _ _ lies (ap not e))))
 
 -- ---- a mention for each open UID that has one
 
@@ -243,28 +221,25 @@ inside_other us old i x first last below is outside g =
 pub inside_so_far : (us : List ℕ) (i first last u : ℕ) → HasInside (take i us) first last u → HasInside us first last u
 inside_so_far us i first last u p = (any_taken (nat_eq u) us i p.0, p.1)
 
+awake_more : (ns : List Mention) (i at k : ℕ) → i < length ns → has_where (is_awake at) (take (i + 1) ns) k ≡ (has_where (is_awake at) (take i ns) k || (((get_or ns i nobody).key == k) && is_awake at (get_or ns i nobody)))
+awake_more ns i at k below = list_any_more (λ (n : Mention). (n.key == k) && is_awake at n) ns i nobody below
+
 -- a mention more, whose UID isn't Quiet
 pub ready_more : (ns : List Mention) (old now new : List ℕ) (i x at : ℕ) → i < length ns → IsUid x → mirror x ≡ (get_or ns i nobody).key → at ≤ quiet_of (get_or ns i nobody) → Gathers (IsReadyIn (take i ns) at) old now → Gathers (λ u. (u ≡ x) × (has [] u ≡ false)) now new → Gathers (IsReadyIn (take (i + 1) ns) at) old new
 ready_more ns old now new i x at below uid key awake g h =
     gathers_both (IsReadyIn (take i ns) at) (λ u. (u ≡ x) × (has [] u ≡ false)) (IsReadyIn (take (i + 1) ns) at) old now new
-    (λ u p. (p.0, more (mirror u) ∙ or_left _ _ p.1))
-    (λ u q. (subst IsUid (sym q.0) uid, more (mirror u) ∙ or_right _ _ (and_from _ _ (eq-eqb _ _ (sym (ap mirror q.0 ∙ key))) (ap not (not_before _ _ awake)))))
-    (λ u r. ⊎_elim (λ a. inl (r.0, a)) (λ b. let same = eqb-true _ _ (and_parts _ _ b).0 in inr (sym (uid_of_mirror u r.0) ∙ (ap uid_of (sym same ∙ sym key) ∙ uid_of_mirror x uid), refl)) (or_cases _ _ (sym (more (mirror u)) ∙ r.1)))
+    (λ u p. (p.0, awake_more ns i at (mirror u) below ∙ or_left _ _ p.1))
+    (λ u q. (subst IsUid (sym q.0) uid, awake_more ns i at (mirror u) below ∙ or_right _ _ (and_from _ _ (eq-eqb _ _ (sym (ap mirror q.0 ∙ key))) (ap not (le-ltb _ _ awake)))))
+    (λ u r. ⊎_elim (λ a. inl (r.0, a)) (λ b. let same = eqb-true _ _ (and_parts _ _ b).0 in inr (sym (uid_of_mirror u r.0) ∙ (ap uid_of (sym same ∙ sym key) ∙ uid_of_mirror x uid), refl)) (or_cases _ _ (sym (awake_more ns i at (mirror u) below) ∙ r.1)))
     g h
-  where
-    more : (k : ℕ) → has_where (is_awake at) (take (i + 1) ns) k ≡ (has_where (is_awake at) (take i ns) k || (((get_or ns i nobody).key == k) && is_awake at (get_or ns i nobody)))
-    more k = list_any_more (λ (n : Mention). (n.key == k) && is_awake at n) ns i nobody below
 
 -- or is
 pub ready_other : (ns : List Mention) (old now : List ℕ) (i at : ℕ) → i < length ns → quiet_of (get_or ns i nobody) < at → Gathers (IsReadyIn (take i ns) at) old now → Gathers (IsReadyIn (take (i + 1) ns) at) old now
 ready_other ns old now i at below quiet g =
     gathers_like (IsReadyIn (take i ns) at) (IsReadyIn (take (i + 1) ns) at) old now
-    (λ u p. (p.0, more (mirror u) ∙ or_left _ _ p.1))
-    (λ u r. ⊎_elim (λ a. (r.0, a)) (λ b. absurd (both_ways _ (ap not (lt_yes _ _ quiet)) (and_parts _ _ b).1)) (or_cases _ _ (sym (more (mirror u)) ∙ r.1)))
+    (λ u p. (p.0, awake_more ns i at (mirror u) below ∙ or_left _ _ p.1))
+    (λ u r. ⊎_elim (λ a. (r.0, a)) (λ b. absurd (both_ways _ (ap not (lt_yes _ _ quiet)) (and_parts _ _ b).1)) (or_cases _ _ (sym (awake_more ns i at (mirror u) below) ∙ r.1)))
     g
-  where
-    more : (k : ℕ) → has_where (is_awake at) (take (i + 1) ns) k ≡ (has_where (is_awake at) (take i ns) k || (((get_or ns i nobody).key == k) && is_awake at (get_or ns i nobody)))
-    more k = list_any_more (λ (n : Mention). (n.key == k) && is_awake at n) ns i nobody below
 
 pub ready_so_far : (ns : List Mention) (i at u : ℕ) → IsReadyIn (take i ns) at u → IsReadyIn ns at u
 ready_so_far ns i at u p = (p.0, any_taken (λ (n : Mention). (n.key == mirror u) && is_awake at n) ns i p.1)
@@ -285,10 +260,7 @@ pub keys_order : (ns : List Mention) → AreInOrder ns → IsNonDecreasing (map 
 keys_order ns up i j d le lt =
     let long = length-map ns (λ (n : Mention). n.key) in
     let below : j < length ns = omega arith in
-    let a = at i (omega arith) in
-    let b = at j lt in
-    let over = up i j nobody le below in
-    omega arith
+    omega (arith, at i (omega arith), at j lt, up i j nobody le below)
   where
     at : (n : ℕ) → n < length (map (λ (m : Mention). m.key) ns) → get_or (map (λ (m : Mention). m.key) ns) n d ≡ (get_or ns n nobody).key
     at n lt = get_or-map (λ (m : Mention). m.key) ns n nobody d (let long = length-map ns (λ (m : Mention). m.key) in omega arith)

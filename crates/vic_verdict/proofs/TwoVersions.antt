@@ -60,18 +60,11 @@ only x u h = ⊎_elim (λ e. e) (λ k. cc) (has_cases u x [] h)
 differ : (x y : ℕ) (xs : List ℕ) → AreDifferent (x ∷ y ∷ xs) → x ≢ y
 differ x y xs d e = both_ways (has (y ∷ xs) x) d.0 (subst (λ z. has (y ∷ xs) z ≡ true) (sym e) (has_here y xs))
 
--- no tag answers, and that is the outcome
-abbrev Nobodys : List ℕ → List Entry → ℕ → Outcome → Type 0
-Nobodys p es i o = (o ≡ Nobody) × ((u : ℕ) → Answers p es i u → ⊥)
-
-abbrev OneAnswers : List ℕ → List Entry → ℕ → Outcome → Type 0
-OneAnswers p es i o = (x : ℕ) × (o ≡ Lone x) × AnswersAlone p es i x
-
-abbrev MoreAnswer : List ℕ → List Entry → ℕ → Outcome → Type 0
-MoreAnswer p es i o = (o ≡ Several) × SeveralAnswer p es i
-
+-- no tag answers, one does, or several, and that is the outcome
 abbrev IsOutcome : List ℕ → List Entry → ℕ → Outcome → Type 0
-IsOutcome p es i o = Nobodys p es i o ⊎ (OneAnswers p es i o ⊎ MoreAnswer p es i o)
+IsOutcome p es i o =
+    ((o ≡ Nobody) × ((u : ℕ) → Answers p es i u → ⊥))
+    ⊎ (((x : ℕ) × (o ≡ Lone x) × AnswersAlone p es i x) ⊎ ((o ≡ Several) × SeveralAnswer p es i))
 
 is_outcome : (p : List ℕ) (es : List Entry) (i : ℕ) (xs : List ℕ) → AreDifferent xs → ((u : ℕ) → Answers p es i u → has xs u ≡ true) → ((u : ℕ) → has xs u ≡ true → Answers p es i u) → IsOutcome p es i (outcome_of xs)
 is_outcome p es i [] d to from = inl (refl, λ u a. let h = to u a in cc)
@@ -111,26 +104,17 @@ given-second es p pop = (
 )
 
 -- the main theorem over relations that say the same about populations
-same_headline : (F G : List ℕ → List Entry → Type 0) (es : List Entry) → ((p : List ℕ) → IsPopulation p → F p es ↔ G p es) → HasExactlyListed F es → HasExactlyListed G es
-same_headline F G es same h = (
-  (h.0.0, h.0.1, (same h.0.0 h.0.1).0 h.0.2),
-  λ p pop g. h.1 p pop ((same p pop).1 g),
+same_headline : (F G : List ℕ → List Entry → Type 0) (es : List Entry) → ((p : List ℕ) → IsPopulation p → F p es ↔ G p es) → HasExactlyListed F es ↔ HasExactlyListed G es
+same_headline F G es same = (
+  (λ h. ((h.0.0, h.0.1, (same h.0.0 h.0.1).0 h.0.2), λ p pop g. h.1 p pop ((same p pop).1 g))),
+  (λ h. ((h.0.0, h.0.1, (same h.0.0 h.0.1).1 h.0.2), λ p pop f. h.1 p pop ((same p pop).0 f))),
 )
-
-turned : {A B : Type 0} → A ↔ B → B ↔ A
-turned h = (h.1, h.0)
 
 pub whole-second : (es : List Entry) → IsWhole es ↔ IsWholeSecond es
-whole-second es = (
-  same_headline CouldHaveGiven CouldHaveGivenSecond es (given-second es),
-  same_headline CouldHaveGivenSecond CouldHaveGiven es (λ p pop. turned (given-second es p pop)),
-)
+whole-second es = same_headline CouldHaveGiven CouldHaveGivenSecond es (given-second es)
 
 pub whole-first : (es : List Entry) → AreOfFirstVersion es → IsWhole es ↔ IsWholeFirst es
-whole-first es h = (
-  same_headline CouldHaveGiven CouldHaveGivenFirst es (λ p pop. given-first es h p),
-  same_headline CouldHaveGivenFirst CouldHaveGiven es (λ p pop. turned (given-first es h p)),
-)
+whole-first es h = same_headline CouldHaveGiven CouldHaveGivenFirst es (λ p pop. given-first es h p)
 
 pub first-second : (es : List Entry) → AreOfFirstVersion es → IsWholeFirst es ↔ IsWholeSecond es
 first-second es h = ((λ w. (whole-second es).0 ((whole-first es h).1 w)), (λ w. (whole-first es h).0 ((whole-second es).1 w)))

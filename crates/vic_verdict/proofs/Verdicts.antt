@@ -1,6 +1,6 @@
 -- Each log has exactly one verdict.
-use Rattle.std.proofs.Common.{◌≡◌, ℕ, suc, ◌<◌, ◌≤◌, ◌+◌, ◌^◌, List, [], ◌∷◌, ◌++◌, length, Bool, true, false, cond, not, ◌&&◌, refl, sym, ap, ◌∙◌, subst, arith, inl, inr, ⊎_elim, ◌⊎◌, ◌↔◌, nat_le, leb, filter, le_refl, le_of_lt, le-leb, leb-true, leb-false}
-use Rattle.vic_verdict.proofs.Words.{not-true, and_parts, and_from, cases_Bool, cases_lt, both_ways, false≢true, not_from_false, BitMask, Entry, LogLine, Impossible, Complete, lies_in, has, is_uid, IsUid, IsPossible, IsPossibleUid, IsCertainUid, slots_of, is_open, entries, IsRisingFrom, listed, IsAbsent, IsUnlisted, IsUnsettled, IsDoubtful, IsLeast, IsFirstMask, NoSuch, IsVerdict, has_cases, is_uid_from, IsUid-from}
+use Rattle.std.proofs.Common.{◌≡◌, ℕ, suc, ◌<◌, ◌≤◌, ◌+◌, ◌^◌, List, [], ◌∷◌, ◌++◌, length, Bool, true, false, cond, refl, sym, ap, ◌∙◌, subst, arith, inl, inr, ⊎_elim, ◌⊎◌, ◌↔◌, nat_le, leb, filter, le_refl, le_of_lt, le-leb, leb-true, leb-false}
+use Rattle.vic_verdict.proofs.Words.{cases_Bool, cases_lt, both_ways, false≢true, BitMask, Entry, LogLine, Impossible, Complete, lies_in, has, is_uid, IsUid, IsPossible, IsPossibleUid, IsCertainUid, entries, IsRisingFrom, listed, IsAbsent, IsUnlisted, IsUnsettled, IsDoubtful, IsLeast, IsFirstMask, NoSuch, IsVerdict, has_cases, is_uid_from, IsUid-from}
 use Rattle.std.proofs.lemmas.Bool.{true_from_ne_false, lt-leb}
 use Rattle.vic_log.specs.declared.entry.Version.{Version}
 use Rattle.vic_log.specs.Log.{IsLog}
@@ -9,10 +9,10 @@ use Rattle.vic_verdict.specs.declared.judging.Verdict.{Verdict}
 use Rattle.vic_verdict.specs.declared.judging.Verdict.TheVariants.{Absent, Unlisted, Unsettled, Doubtful}
 use Rattle.vic_verdict.specs.Verdict.{entries_to, IsWhole, IsReached}
 use Rattle.vic_log.proofs.Sets.{IsUid-member}
-use Rattle.vic_verdict.proofs.Search.{Either, test_either, false_either, not_either, and_either, search_below, least_of, least_or_none}
+use Rattle.vic_verdict.proofs.Search.{Either, test_either, false_either, not_either, and_either, least_of, least_or_none}
 use Rattle.vic_verdict.proofs.Populations.{uid_end, uid_below}
 use Rattle.vic_verdict.proofs.Possibility.{IsPossible-front, Heard-certain}
-use Rattle.vic_verdict.proofs.Decide.{IsPossible-either, IsPossibleUid-either, IsPossibleUid-iff, IsCertainUid-either}
+use Rattle.vic_verdict.proofs.Decide.{IsPossible-either, IsPossibleUid-either, IsCertainUid-either}
 use Rattle.vic_verdict.proofs.Masks.{mask_of, mask_of-alone, mask_of-value, uid_in, IsUid-in, lies_in-uid_in}
 
 -- ---- the lines 1 to n
@@ -21,8 +21,7 @@ pub none_to : (n k : ℕ) (lines : List LogLine) → n ≤ k → IsRisingFrom k 
 none_to n k [] h r = refl
 none_to n k (l ∷ lines) h r =
     let above : n < l.number = omega (arith, r.0) in
-    let no : leb l.number n ≡ false = lt-leb l.number n above in
-    ap (λ b. entries (cond b (l ∷ filter (λ x. nat_le x.number n) lines) (filter (λ x. nat_le x.number n) lines))) no ∙ none_to n l.number lines (le_of_lt above) r.1
+    ap (λ b. entries (cond b (l ∷ filter (λ x. nat_le x.number n) lines) (filter (λ x. nat_le x.number n) lines))) (lt-leb l.number n above) ∙ none_to n l.number lines (le_of_lt above) r.1
 
 -- with one line more in front, kept or left out
 abbrev pub line_kept : ℕ → LogLine → List LogLine → Bool → List Entry
@@ -37,8 +36,7 @@ entries_to_front n m k (l ∷ lines) le r =
     ⊎_elim
     (λ yes.
     let within : l.number ≤ n = leb-true l.number n yes in
-    let yes' : leb l.number m ≡ true = le-leb l.number m (omega arith) in
-    (front.0, ap (λ b. line_kept n l lines b ++ front.0) yes ∙ (ap (λ es. l.item ∷ es) front.1 ∙ sym (ap (line_kept m l lines) yes'))))
+    (front.0, ap (λ b. line_kept n l lines b ++ front.0) yes ∙ (ap (λ es. l.item ∷ es) front.1 ∙ sym (ap (line_kept m l lines) (le-leb l.number m (omega arith))))))
     (λ out. (all, ap (λ es. es ++ all) (ap (line_kept n l lines) out ∙ none_to n l.number lines (le_of_lt (leb-false l.number n out)) r.1)))
     (cases_Bool (leb l.number n))
 
@@ -51,8 +49,7 @@ all_to : (n : ℕ) (lines : List LogLine) → last_line lines ≤ n → entries_
 unfolding last_line
 all_to n [] h = refl
 all_to n (l ∷ lines) h =
-    let yes : leb l.number n ≡ true = le-leb l.number n (omega arith) in
-    ap (λ b. entries (cond b (l ∷ filter (λ x. nat_le x.number n) lines) (filter (λ x. nat_le x.number n) lines))) yes ∙ ap (λ es. l.item ∷ es) (all_to n lines (omega arith))
+    ap (λ b. entries (cond b (l ∷ filter (λ x. nat_le x.number n) lines) (filter (λ x. nat_le x.number n) lines))) (le-leb l.number n (omega arith)) ∙ ap (λ es. l.item ∷ es) (all_to n lines (omega arith))
 
 -- the lines 1 to n are possible where more lines are
 pub possible_less : (lines : List LogLine) → IsRisingFrom 0 lines → (n m : ℕ) → n ≤ m → IsPossible (entries_to m lines) → IsPossible (entries_to n lines)
@@ -111,6 +108,10 @@ one_verdict lines r (Complete c1) (Complete c2) h k = ap Complete (h.5 ∙ sym k
 
 -- ---- at least one verdict
 
+-- the least number of which P holds, or none
+abbrev OrNone : (ℕ → Type 0) → Type 0
+OrNone P = ((u : ℕ) × IsLeast P u) ⊎ NoSuch P
+
 -- a number above each member
 above : List ℕ → ℕ
 above [] = 0
@@ -122,71 +123,39 @@ below_above [] u h = absurd (false≢true h)
 below_above (x ∷ us) u h =
     ⊎_elim (λ e. omega arith) (λ k. let b = below_above us u k in omega arith) (has_cases u x us h)
 
-absent_or_none : (es : List Entry) → IsPossible es → ((u : ℕ) × IsLeast (IsAbsent es) u) ⊎ NoSuch (IsAbsent es)
-absent_or_none es p =
-    least_or_none (IsAbsent es)
-    (λ u. and_either (test_either (has (listed es) u)) (not_either (IsPossibleUid-either es u p)))
-    (above (listed es))
-    (λ u h. below_above (listed es) u h.0)
+listed_or_none : (es : List Entry) (P : ℕ → Type 0) → ((u : ℕ) → Either (P u)) → OrNone (λ u. (has (listed es) u ≡ true) × (P u → ⊥))
+listed_or_none es P d = least_or_none _ (λ u. and_either (test_either (has (listed es) u)) (not_either (d u))) (above (listed es)) (λ u h. below_above (listed es) u h.0)
 
-certain_uid : (es : List Entry) (u : ℕ) → IsPossible es → IsCertainUid es u → IsUid u
-certain_uid es u p c = IsUid-member p.0 u p.1 (c p.0 p.1 p.2)
-
-unlisted_or_none : (es : List Entry) → IsPossible es → ((u : ℕ) × IsLeast (IsUnlisted es) u) ⊎ NoSuch (IsUnlisted es)
+unlisted_or_none : (es : List Entry) → IsPossible es → OrNone (IsUnlisted es)
 unlisted_or_none es p =
     least_or_none (IsUnlisted es)
     (λ u. and_either (IsCertainUid-either es u p) (false_either (has (listed es) u)))
     uid_end
-    (λ u h. uid_below u (certain_uid es u p h.0))
-
-doubtful_or_none : (es : List Entry) → IsPossible es → ((u : ℕ) × IsLeast (IsDoubtful es) u) ⊎ NoSuch (IsDoubtful es)
-doubtful_or_none es p =
-    least_or_none (IsDoubtful es)
-    (λ u. and_either (test_either (has (listed es) u)) (not_either (IsCertainUid-either es u p)))
-    (above (listed es))
-    (λ u h. below_above (listed es) u h.0)
+    (λ u h. uid_below u (IsUid-member p.0 u p.1 (h.0 p.0 p.1 p.2)))
 
 le_either : (a b : ℕ) → Either (a ≤ b)
 le_either a b = ⊎_elim (λ h. inr (λ k. omega arith)) (λ h. inl h) (cases_lt b a)
 
--- a UID of the mask that isn't open, or is listed
-abbrev is_against : List Entry → BitMask → ℕ → Bool
-is_against es m u = (is_uid u && lies_in m u) && not (is_open (slots_of es) u && not (has (listed es) u))
-
 all_either : (es : List Entry) (m : BitMask) → IsPossible es → Either ((u : ℕ) → IsUid u → lies_in m u ≡ true → IsPossibleUid es u × (has (listed es) u ≡ false))
 all_either es m p =
-    ⊎_elim
-    (λ found.
-    let w = and_parts (is_uid found.0 && lies_in m found.0) _ found.2 in
-    let v = and_parts (is_uid found.0) (lies_in m found.0) w.0 in
-    inr (λ h.
-    let k = h found.0 (IsUid-from found.0 v.0) v.1 in
-    both_ways _ (not-true _ w.1) (and_from _ _ ((IsPossibleUid-iff es found.0 p).0 k.0) (not_from_false _ k.1))))
-    (λ none. inl (λ u i h.
-    let in' : is_uid u && lies_in m u ≡ true = and_from _ _ (is_uid_from u i) h in
-    let w = and_parts (is_open (slots_of es) u) (not (has (listed es) u)) (true_from_ne_false _ (λ e. both_ways _ (none u (uid_below u i)) (and_from _ _ in' (not_from_false _ e)))) in
-    ((IsPossibleUid-iff es u p).1 w.0, not-true _ w.1)))
-    (search_below (is_against es m) uid_end)
+    let P : ℕ → Type 0 = λ u. (is_uid u ≡ true) × ((lies_in m u ≡ true) × (IsPossibleUid es u × (has (listed es) u ≡ false) → ⊥)) in
+    let left : (u : ℕ) → Either (IsPossibleUid es u × (has (listed es) u ≡ false)) = λ u. and_either (IsPossibleUid-either es u p) (false_either (has (listed es) u)) in
+    elim (least_or_none P (λ u. and_either (test_either (is_uid u)) (and_either (test_either (lies_in m u)) (not_either (left u)))) uid_end (λ u h. uid_below u (IsUid-from u h.0))) [
+      | inl against ↦ let h = against.1.0 in inr (λ all. h.1.1 (all against.0 (IsUid-from against.0 h.0) h.1.0))
+      | inr none ↦ inl (λ u i lies. ⊎_elim (λ yes. yes) (λ no. absurd (none u (is_uid_from u i, (lies, no)))) (left u))
+    ]
 
 unsettled_either : (es : List Entry) (m : BitMask) → IsPossible es → Either (IsUnsettled es m)
 unsettled_either es m p =
-    ⊎_elim
-    (λ short. ⊎_elim
-    (λ low. ⊎_elim
-    (λ all. inl (short, low, all))
-    (λ no. inr (λ h. no h.2))
-    (all_either es m p))
-    (λ no. inr (λ h. no h.1))
-    (le_either (suc m.value) (2 ^ m.len)))
-    (λ no. inr (λ h. no h.0))
-    (le_either m.len 56)
+    ⊎_elim (λ h. inl (h.0, h.1.0, h.1.1)) (λ no. inr (λ h. no (h.0, (h.1, h.2))))
+    (and_either (le_either m.len 56) (and_either (le_either (suc m.value) (2 ^ m.len)) (all_either es m p)))
 
 -- a mask by its length and value
 abbrev mask : ℕ → ℕ → BitMask
 mask len value = record { len = len; value = value }
 
 -- the least value of an unsettled mask of this length
-value_or_none : (es : List Entry) (len : ℕ) → IsPossible es → ((v : ℕ) × IsLeast (λ w. IsUnsettled es (mask len w)) v) ⊎ NoSuch (λ w. IsUnsettled es (mask len w))
+value_or_none : (es : List Entry) (len : ℕ) → IsPossible es → OrNone (λ w. IsUnsettled es (mask len w))
 value_or_none es len p =
     least_or_none (λ w. IsUnsettled es (mask len w)) (λ w. unsettled_either es (mask len w) p) (2 ^ len) (λ w h. h.1)
 
@@ -205,43 +174,31 @@ first_mask_from es len v l least = (
 
 unsettled_or_none : (es : List Entry) → IsPossible es → ((m : BitMask) × IsFirstMask (IsUnsettled es) m) ⊎ NoSuch (IsUnsettled es)
 unsettled_or_none es p =
-    ⊎_elim
-    (λ len. ⊎_elim
-    (λ v. inl (mask len.0 v.0, first_mask_from es len.0 v.0 len.1 v.1))
-    (λ none. absurd (none len.1.0.0 len.1.0.1))
-    (value_or_none es len.0 p))
-    (λ none. inr (λ m h. none m.len (m.value, h)))
-    (least_or_none (HasUnsettled es) (λ len. length_either es len p) 57 (λ len h. let short = h.1.0 in omega arith))
+    elim (least_or_none (HasUnsettled es) (λ len. length_either es len p) 57 (λ len h. let short = h.1.0 in omega arith)) [
+      | inl len ↦ ⊎_elim (λ v. inl (mask len.0 v.0, first_mask_from es len.0 v.0 len.1 v.1)) (λ none. absurd (none len.1.0.0 len.1.0.1)) (value_or_none es len.0 p)
+      | inr none ↦ inr (λ m h. none m.len (m.value, h))
+    ]
 
 abbrev HasVerdict : List LogLine → Type 0
 HasVerdict lines = (v : Verdict) × IsVerdict lines v
 
-possible_verdict : (lines : List LogLine) → IsPossible (entries lines) → HasVerdict lines
-possible_verdict lines p =
-    let es = entries lines in
-    ⊎_elim
-    (λ a. (Absent a.0, (p, a.1)))
-    (λ no_absent. ⊎_elim
-    (λ a. (Unlisted a.0, (p, no_absent, a.1)))
-    (λ no_unlisted. ⊎_elim
-    (λ m. (Unsettled m.0, (p, no_absent, no_unlisted, m.1)))
-    (λ no_unsettled. ⊎_elim
-    (λ a. (Doubtful a.0, (p, no_absent, no_unlisted, no_unsettled, a.1)))
-    (λ no_doubtful. (Complete (length (listed es)), (p, no_absent, no_unlisted, no_unsettled, no_doubtful, refl)))
-    (doubtful_or_none es p))
-    (unsettled_or_none es p))
-    (unlisted_or_none es p))
-    (absent_or_none es p)
+first_verdict : (lines : List LogLine) → IsPossible (entries lines) → OrNone (IsAbsent (entries lines)) → OrNone (IsUnlisted (entries lines)) → ((m : BitMask) × IsFirstMask (IsUnsettled (entries lines)) m) ⊎ NoSuch (IsUnsettled (entries lines)) → OrNone (IsDoubtful (entries lines)) → HasVerdict lines
+first_verdict lines p (inl a) b m d = (Absent a.0, (p, a.1))
+first_verdict lines p (inr a) (inl b) m d = (Unlisted b.0, (p, a, b.1))
+first_verdict lines p (inr a) (inr b) (inl m) d = (Unsettled m.0, (p, a, b, m.1))
+first_verdict lines p (inr a) (inr b) (inr m) (inl d) = (Doubtful d.0, (p, a, b, m, d.1))
+first_verdict lines p (inr a) (inr b) (inr m) (inr d) = (Complete (length (listed (entries lines))), (p, a, b, m, d, refl))
 
 pub some_verdict : (lines : List LogLine) → HasVerdict lines
 some_verdict lines =
-    ⊎_elim
-    (λ p. possible_verdict lines p)
-    (λ no.
-    let last = last_line lines in
-    let n = least_of (λ k. IsPossible (entries_to k lines) → ⊥) (λ k. not_either (IsPossible-either (entries_to k lines))) last (subst (λ es. IsPossible es → ⊥) (sym (all_to last lines (le_refl last))) no) in
-    (Impossible n.0, n.1))
-    (IsPossible-either (entries lines))
+    let es = entries lines in
+    elim (IsPossible-either es) [
+      | inl p ↦ first_verdict lines p (listed_or_none es (IsPossibleUid es) (λ u. IsPossibleUid-either es u p)) (unlisted_or_none es p) (unsettled_or_none es p) (listed_or_none es (IsCertainUid es) (λ u. IsCertainUid-either es u p))
+      | inr not_ ↦
+          let last = last_line lines in
+          let n = least_of (λ k. IsPossible (entries_to k lines) → ⊥) (λ k. not_either (IsPossible-either (entries_to k lines))) last (subst (λ fs. IsPossible fs → ⊥) (sym (all_to last lines (le_refl last))) not_) in
+          (Impossible n.0, n.1)
+    ]
 
 -- ---- the cases 4 and 6 in other words
 
@@ -256,9 +213,7 @@ unsettled_iff es = (
         (
           le_refl 56,
           mask_of-value h.0,
-          λ w j k.
-              let e = mask_of-alone h.0 w i j k in
-              subst (λ z. IsPossibleUid es z × (has (listed es) z ≡ false)) (sym e) (q, h.2),
+          λ w j k. subst (λ z. IsPossibleUid es z × (has (listed es) z ≡ false)) (sym (mask_of-alone h.0 w i j k)) (q, h.2),
         ),
       )),
 )

@@ -1,7 +1,7 @@
-use Rattle.std.proofs.Common.{◌≡◌, ◌+◌, ◌^◌, ◌<◌, ◌≤◌, ℕ, Bool, List, length, get_or, map, true, false, not, ◌&&◌, sym, ap, ◌∙◌, subst, arith, nat_lt}
+use Rattle.std.proofs.Common.{◌≡◌, ◌+◌, ◌^◌, ◌<◌, ◌≤◌, ℕ, Bool, List, length, get_or, map, true, false, not, ◌&&◌, sym, ap, ◌∙◌, subst, arith, nat_lt, le-ltb}
 use Rattle.vic_verdict.proofs.Words.{and_from, and_right, get_or-map, length-map, uid_of, lt_yes, Mention, NEVER, is_ready_at, is_quiet_by, quiet_of}
 use Rattle.std.proofs.lemmas.List.Elements.{All-map}
-use Rattle.vic_verdict.proofs.Ready.{AreOpenTo, not_before, open_first, open_same, open_other, open_more, open_all, ready_key, keys_order}
+use Rattle.vic_verdict.proofs.Ready.{AreOpenTo, open_first, open_same, open_other, open_more, open_all, ready_key, keys_order}
 use Rattle.vic_verdict.proofs.Replying.{at, tells_own}
 use Rattle.vic_verdict.proofs.Sweeping.{nobody, start_here}
 use Rattle.vic_verdict.proofs.answering.open_mentions.Goals as goal
@@ -50,7 +50,7 @@ loop-i-preserved g c =
           ∙ (sym (tells_own ns w.mentions_between.result.now (at ns i).key w.first_quiet-quiet.result j own.inside own.all (w.first_quiet-quiet.ensures j (omega arith)))
           ∙ ap (λ k. is_quiet_by ns k j) (sym key)) in
           let is_open = sym (open_at is_left ns _ _ i _ c.requires.keys c.in_ok-is_open.ensures c.loop-i-test.true w.index.ensures) ∙ w.if-index.true in
-          let is_in : set (uid_of o.key) ≡ true = ap (λ k. set (uid_of k)) key ∙ (ready_key is_left ns _ from _ _ small own.inside own.all (w.first_quiet-quiet.ensures from upto) ∙ and_from _ _ is_open (ap not (not_before _ from w.if-from-quiet.true))) in
+          let is_in : set (uid_of o.key) ≡ true = ap (λ k. set (uid_of k)) key ∙ (ready_key is_left ns _ from _ _ small own.inside own.all (w.first_quiet-quiet.ensures from upto) ∙ and_from _ _ is_open (ap not (le-ltb _ from w.if-from-quiet.true))) in
           subst (λ v. P v.items) (sym w.mentioned-is) (open_more set ns i c.loop-i.mentioned.items w.push.new.self.items o c.requires.order c.requires.mentioned c.loop-i-test.true key is_in quiet w.in_ok-push.ensures.items c.loop-i.invariant)
       | then-i-eq0+else-from-quiet w ↦
           let own = w.mentions_between.ensures in

@@ -18,7 +18,6 @@ loop-uid-preserved c =
     let first = c.args.first in
     let last = c.args.last in
     let P = Gathers (HasInside (take (i + 1) us) first last) [] in
-    let key = c.key-key.ensures.value in
     elim c.if-first-key.branch [
       | then-first-key+then-key-last w ↦ subst (λ v. P v.items) (sym w.inside-is) (inside_more us c.loop-uid.inside.items _ i x first last c.loop-uid-test.true c.uid-item.is (between_from first last (mirror x) (omega (arith, w.if-first-key.true)) (omega (arith, w.if-key-last.true))) c.loop-uid.invariant w.gather_one.ensures)
       | else-first-key w ↦ subst (λ v. P v.items) (sym w.inside-is) (inside_other us c.loop-uid.inside.items i x first last c.loop-uid-test.true c.uid-item.is (λ e. let p = between_parts first last (mirror x) e in elim w.else-first-key.branch [

@@ -11,8 +11,7 @@ returns-in-Some-between-clause-uids g c ns mentions masks =
     let set = g.S.OpenSet.is_open c.args.set.now in
     let kept = subst (All (IsUnmentioned set ns)) (sym (c.deref-2.ensures.value ∙ c.truncate.ensures.items)) (All-take (IsUnmentioned set ns) _ c.args.masks.now.items masks) in
     let x : Unmentioned = c.in-Some.around.now in
-    let some = c.in-Some.ensures.item.3.0 in
-    let around = subst (IsUnmentioned set ns) (sym (c.in-Some.ensures.item.3.1 x)) (kept (length c.deref-2.result.now - 1) x (omega arith)) in
+    let around = subst (IsUnmentioned set ns) (sym (c.in-Some.ensures.item.3.1 x)) (kept (length c.deref-2.result.now - 1) x (omega (arith, c.in-Some.ensures.item.3.0))) in
     subst (λ l. UpToThree (is_unmentioned set ns c.args.block.now.first l) c.in-Some-between.uids.items) c.last-last.ensures (c.in-Some-between.ensures set ns around)
 
 pub returns-clause-masks : goal.returns-clause-masks
@@ -20,9 +19,8 @@ returns-clause-masks g c ns mentions masks =
     let set = g.S.OpenSet.is_open c.args.set.now in
     let b = c.args.block.now in
     let found = found_besides set (is_mentioned ns) b c.mask_of_keys.result _ _ c.mask_of_keys.ensures.inside mentions c.in_ok-uids.ensures in
-    let kept = subst (All (IsUnmentioned set ns)) (sym c.truncate.ensures.items) (All-take (IsUnmentioned set ns) _ c.args.masks.now.items masks) in
     subst (All (IsUnmentioned set ns)) (sym c.in_ok-push.ensures.items)
-    (All-push (IsUnmentioned set ns) c.truncate.new.self.items _ kept
+    (All-push (IsUnmentioned set ns) c.truncate.new.self.items _ (subst (All (IsUnmentioned set ns)) (sym c.truncate.ensures.items) (All-take (IsUnmentioned set ns) _ c.args.masks.now.items masks))
     (subst (λ (us : List ℕ). UpToThree (is_unmentioned set ns b.first c.last-last.result) us) (sym c.in_ok-from_slice.ensures.items)
     (subst (λ l. UpToThree (is_unmentioned set ns b.first l) c.deref-3.result.now) (sym c.last-last.ensures) (subst (λ (us : List ℕ). UpToThree (is_unmentioned_in set ns b) us) (sym c.deref-3.ensures.0) found))))
 

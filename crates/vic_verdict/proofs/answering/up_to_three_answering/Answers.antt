@@ -5,11 +5,10 @@ use Rattle.vic_verdict.proofs.answering.up_to_three_answering.Goals as goal
 
 pub returns-then-not-is_any_quiet-clause-uids : goal.returns-then-not-is_any_quiet-clause-uids
 returns-then-not-is_any_quiet-clause-uids g c =
-    let ns = c.args.mentions.now in
     let b = c.args.block.now in
     let at = c.args.at in
     let inside = c.mentions_between-inside.result.now in
-    first_answering (g.S.OpenSet.is_open c.args.set.now) ns inside b at c.mask_of_keys.result c.up_to_three-uids.result.items
+    first_answering (g.S.OpenSet.is_open c.args.set.now) c.args.mentions.now inside b at c.mask_of_keys.result c.up_to_three-uids.result.items
     c.mask_of_keys.ensures.inside
     (λ u w lies. c.mentions_between-inside.ensures.all (λ n. nat_lt (quiet_of n) at) (mirror u) (ap (λ n. nat_le b.first (mirror u) && nat_le (mirror u) n) c.last.ensures ∙ (sym (c.mask_of_keys.ensures.inside u) ∙ lies)))
     c.up_to_three-uids.ensures

@@ -19,10 +19,9 @@ returns-then-is_empty-clause-demands c = none c.retain.new.self.items (let empty
 pub returns-clause-kept : goal.returns-clause-kept
 returns-clause-kept c =
     let only : c.retain.new.self.items ≡ demands_to c.args.cut c.args.demands.now.items = filter_same _ (λ (d : Demand). nat_lt d.at c.args.cut) _ (λ x b f' k. search rules) _ _ c.retain.ensures.filtered in
-    let sorted = ap (λ v. v.items) c.replace-2.ensures.value in
     inr (
       record { mentions = c.replace.result; demands = c.replace-2.result },
       c.in_ok-push.ensures.items,
       ap (λ v. v.items) c.replace.ensures.value,
-      subst (λ xs. IsPermutation xs c.replace-2.result.items) only (subst (IsPermutation c.retain.new.self.items) (sym sorted) c.sort_unstable_by_key.ensures.permutation),
+      subst (λ xs. IsPermutation xs c.replace-2.result.items) only (subst (IsPermutation c.retain.new.self.items) (sym (ap (λ v. v.items) c.replace-2.ensures.value)) c.sort_unstable_by_key.ensures.permutation),
     )

@@ -1,6 +1,6 @@
 use Rattle.std.proofs.Common.{◌≡◌, ◌+◌, get_or, sym, subst, arith}
-use Rattle.vic_verdict.proofs.Words.{get_or_default, Demand, Found, IsLearnt, IsDemandBy}
-use Rattle.vic_verdict.proofs.Demanding.{AreMetTo, met_skipped, met_found, met_all, found_at}
+use Rattle.vic_verdict.proofs.Words.{get_or_default, Found, IsLearnt, IsDemandBy}
+use Rattle.vic_verdict.proofs.Demanding.{no_demand, AreMetTo, met_skipped, met_found, met_all, found_at}
 use Rattle.vic_verdict.proofs.demands.meet_each.Goals as goal
 use Rattle.vic_verdict.proofs.demands.meet_each.Goals.{then-not-is_asked_again+in_ok-uids+else-len-need+in_ok-push, else-not-is_asked_again}
 
@@ -18,9 +18,8 @@ loop-index-preserved g c = record {
       let before = c.loop-index.invariant.met es same h in
       elim c.if-not-is_asked_again.branch [
         | then-not-is_asked_again+in_ok-uids+else-len-need+in_ok-push w ↦
-            let none : Demand = record { first = 0; len = 0; need = 0; at = 0 } in
-            let d = get_or ds k none in
-            let is : d ≡ get_or ds k d = get_or_default ds k none d c.loop-index-test.true in
+            let d = get_or ds k no_demand in
+            let is : d ≡ get_or ds k d = get_or_default ds k no_demand d c.loop-index-test.true in
             let asked = subst (IsDemandBy es c.args.mentions.now) (sym is) (h k d c.loop-index-test.true) in
             let f : Found = record { at = w.place-at.result; need = w.from-need.result; uids = w.in_ok-uids.uids } in
             let need : f.need ≡ d.need = w.from-need.ensures in

@@ -1,7 +1,7 @@
 use Rattle.std.proofs.Common.{◌≡◌, List, length, sym, subst, arith, All}
 use Rattle.vic_verdict.proofs.Words.{Entry, Demand, Stretch, Mention, IsDemandBy, AreInOrder, HaveKeys}
 use Rattle.vic_verdict.specs.inner.Asked.{HasBlock, HasBlocks, HasMentionsInOrder, IsKept}
-use Rattle.vic_verdict.proofs.Demanding.{AreFoundTo, found_first, found_more, found_all, some_is, unmet_lacks}
+use Rattle.vic_verdict.proofs.Demanding.{AreFoundTo, found_first, found_more, found_all, unmet_lacks}
 use Rattle.vic_verdict.proofs.demands.meet_stretches.Goals as goal
 
 pub loop-stretch-init : goal.loop-stretch-init
@@ -9,18 +9,15 @@ loop-stretch-init g c es same kept = subst (AreFoundTo es c.args.stretches.now 0
 
 pub meet_each-requires-clause-order : goal.meet_each-requires-clause-order
 meet_each-requires-clause-order g c =
-    let s = subst HasMentionsInOrder (sym c.stretch-item.is) (c.requires.mentions c.loop-stretch.stretch-index c.stretch-item.result c.loop-stretch-test.true) in
-    subst AreInOrder (sym c.deref.ensures.value) s.order
+    subst AreInOrder (sym c.deref.ensures.value) (subst HasMentionsInOrder (sym c.stretch-item.is) (c.requires.mentions c.loop-stretch.stretch-index c.stretch-item.result c.loop-stretch-test.true)).order
 
 pub meet_each-requires-clause-keys : goal.meet_each-requires-clause-keys
 meet_each-requires-clause-keys g c =
-    let s = subst HasMentionsInOrder (sym c.stretch-item.is) (c.requires.mentions c.loop-stretch.stretch-index c.stretch-item.result c.loop-stretch-test.true) in
-    subst HaveKeys (sym c.deref.ensures.value) s.keys
+    subst HaveKeys (sym c.deref.ensures.value) (subst HasMentionsInOrder (sym c.stretch-item.is) (c.requires.mentions c.loop-stretch.stretch-index c.stretch-item.result c.loop-stretch-test.true)).keys
 
 pub meet_each-requires-clause-blocks : goal.meet_each-requires-clause-blocks
 meet_each-requires-clause-blocks g c =
-    let s = subst HasBlocks (sym c.stretch-item.is) (c.requires.blocks c.loop-stretch.stretch-index c.stretch-item.result c.loop-stretch-test.true) in
-    subst (All HasBlock) (sym c.deref-in-loop-stretch.ensures.value) s
+    subst (All HasBlock) (sym c.deref-in-loop-stretch.ensures.value) (subst HasBlocks (sym c.stretch-item.is) (c.requires.blocks c.loop-stretch.stretch-index c.stretch-item.result c.loop-stretch-test.true))
 
 -- the demands of a stretch, as they are lent
 lent : (es : List Entry) (s : Stretch) (ns : List Mention) (ds : List Demand) → ns ≡ s.mentions.items → ds ≡ s.demands.items → IsKept es (length es) s → All (IsDemandBy es ns) ds
@@ -31,7 +28,7 @@ returns-in-Some g c es same kept =
     let s = subst (IsKept es (length es)) (sym c.stretch-item.is) (kept.kept c.loop-stretch.stretch-index c.stretch-item.result c.loop-stretch-test.true) in
     unmet_lacks es (g.S.OpenSet.is_open c.args.set.now) _ _ c.in-Some.at same
     (lent es c.stretch-item.result _ _ c.deref.ensures.value c.deref-in-loop-stretch.ensures.value s)
-    (some_is _ _ c.in-Some.at c.in-Some.is c.in_ok-unmet.ensures.unmet)
+    (rw c.in-Some.is at c.in_ok-unmet.ensures.unmet)
 
 pub loop-stretch-preserved : goal.loop-stretch-preserved
 loop-stretch-preserved g c es same kept =

@@ -27,15 +27,15 @@ returns g c =
           let given = w.in_ok-gather-in-Unsettled in
           let more = w.in_ok-with_uid-in-Unsettled in
           let here = subst (IsVerdict lines) w.in-Unsettled.is verdict in
-          record {
-            verdict = rw w.verdict-is here;
-            population = rw (w.verdict-is, w.population-is) (unsettled_shown lines c.args.facts.met given.field-0.items more.field-0.items w.in-Unsettled.mask w.least_uid.result here met given.ensures.rising given.ensures.members w.least_uid.ensures.value more.ensures.rising more.ensures.members);
+          rw (w.verdict-is, w.population-is) record {
+            verdict = here;
+            population = unsettled_shown lines c.args.facts.met given.field-0.items more.field-0.items w.in-Unsettled.mask w.least_uid.result here met given.ensures.rising given.ensures.members w.least_uid.ensures.value more.ensures.rising more.ensures.members;
           }
       | in-Doubtful+in_ok-gather-in-Doubtful w ↦
           let given = w.in_ok-gather-in-Doubtful in
           let here = subst (IsVerdict lines) w.in-Doubtful.is verdict in
-          record {
-            verdict = rw w.verdict-is here;
-            population = rw (w.verdict-is, w.population-is) (doubtful_shown lines c.args.facts.met given.field-0.items w.in-Doubtful.uid here met given.ensures.rising given.ensures.members);
+          rw (w.verdict-is, w.population-is) record {
+            verdict = here;
+            population = doubtful_shown lines c.args.facts.met given.field-0.items w.in-Doubtful.uid here met given.ensures.rising given.ensures.members;
           }
     ]

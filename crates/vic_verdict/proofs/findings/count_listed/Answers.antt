@@ -9,10 +9,7 @@ overflow_add-count c =
     let i = c.loop-line.line-index in
     let l = c.line-item.result in
     let at : slice_get lines i ≡ Some l = slice_get_read lines (length lines) i l refl c.loop-line-test.true c.line-item.is in
-    let above = number_above 0 lines i l c.requires at in
-    let small = c.loop-line.invariant.small in
-    let one = c.count_one-count.ensures.small in
-    omega arith
+    omega (arith, number_above 0 lines i l c.requires at, c.loop-line.invariant.small, c.count_one-count.ensures.small)
 
 pub loop-line-preserved : goal.loop-line-preserved
 loop-line-preserved c =
@@ -22,8 +19,5 @@ loop-line-preserved c =
     let at : slice_get lines i ≡ Some l = slice_get_read lines (length lines) i l refl c.loop-line-test.true c.line-item.is in
     let more = ap length (listed_more lines i l at) ∙ length-append (listed (entries (take i lines))) (listed (l.item ∷ [])) in
     let next = ap (λ n. length (listed (entries (take n lines)))) (add-one i) in
-    let here = c.loop-line.invariant.value in
     let one = c.count_one-count.ensures.value ∙ ap (λ e. length (listed (e ∷ []))) c.item.ensures in
-    let small = c.loop-line.invariant.small in
-    let few = c.count_one-count.ensures.small in
-    record { value = omega arith; small = omega arith }
+    record { value = omega (arith, c.loop-line.invariant.value); small = omega (arith, c.loop-line.invariant.small, c.count_one-count.ensures.small) }

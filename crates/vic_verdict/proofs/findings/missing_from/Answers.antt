@@ -7,10 +7,7 @@ use Rattle.vic_verdict.proofs.findings.missing_from.Goals as goal
 
 pub place_from-next-requires-clause-below : goal.place_from-next-requires-clause-below
 place_from-next-requires-clause-below c =
-    let us = c.args.uids.now in
-    let i = c.loop-uid.uid-index in
-    let u = c.uid-item.result in
-    subst (AreBelow c.args.others.now c.loop-uid.next) (get_or_default us i 0 u c.loop-uid-test.true ∙ sym c.uid-item.is) (c.loop-uid.invariant.below c.loop-uid-test.true)
+    subst (AreBelow c.args.others.now c.loop-uid.next) (get_or_default c.args.uids.now c.loop-uid.uid-index 0 c.uid-item.result c.loop-uid-test.true ∙ sym c.uid-item.is) (c.loop-uid.invariant.below c.loop-uid-test.true)
 
 pub loop-uid-preserved : goal.loop-uid-preserved
 loop-uid-preserved c =

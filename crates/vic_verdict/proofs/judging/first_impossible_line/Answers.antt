@@ -19,7 +19,6 @@ loop-low-preserved g c =
     let lines = c.args.lines.now in
     let count = c.between-count.result in
     let es = entries (take count lines) in
-    let inside = c.between-count.ensures.within in
     let told : (r : _) → c.in_ok-earlier.field-0 ≡ r → MatchResult r (λ p. IsPossible es × SameUids (g.S.OpenSet.is_open p.0) (is_open (slots_of es)) × IsMet es p.1) (IsContradiction es) = λ r is. subst (λ x. MatchResult x (λ p. IsPossible es × SameUids (g.S.OpenSet.is_open p.0) (is_open (slots_of es)) × IsMet es p.1) (IsContradiction es)) is c.in_ok-earlier.ensures in
     elim c.match-branch-3.branch [
       | in-Ok w ↦
@@ -31,8 +30,6 @@ loop-low-preserved g c =
           let low = c.loop-low.low in
           let more = w.possible_before.result in
           let e = told _ w.in-Err.is in
-          let upto = w.possible_before.ensures.upto in
-          let most = w.max-low.ensures in
           subst (λ n. Between lines n (c.match-branch-3.last + 1)) (sym w.low-is)
           (subst (λ n. Between lines w.max-low.result (n + 1)) (sym w.last-is)
           (between_raised lines low (at + 1) more w.max-low.result (omega arith)
@@ -46,7 +43,6 @@ returns g c =
     let lines = c.args.lines.now in
     let last = c.loop-low.last in
     let b = c.loop-low.invariant in
-    let close = c.loop-low-test.false in
     let within : last < length lines = let w = b.within in omega arith in
     let end : c.loop-low.low ≡ last = let o = b.ordered in omega arith in
     let l = get_or lines last c.index-lines-last.result in
