@@ -40,18 +40,14 @@ absent_by set us certain known absent all l =
     ))
     l
 
+left_same : (set : ℕ → Bool) (us certain known keys : List ℕ) → ((u : ℕ) → has known u ≡ (has certain u || has us u)) → AreKeysOf keys known → SameUids (without_keys set keys) (left_by set certain us)
+left_same set us certain known keys all own u i = ap (λ b. set u && not b) (own.members u i ∙ all u)
+
 pub unsettled_by : (set : ℕ → Bool) (us certain known keys : List ℕ) (m : Option BitMask) → ((u : ℕ) → has known u ≡ (has certain u || has us u)) → AreKeysOf keys known
     → IfSome m (IsWidest (without_keys set keys)) → IfNone m (SameUids (without_keys set keys) (λ _. false))
     → MatchOption m (SameUids (left_by set certain us) (λ _. false)) (IsWidest (left_by set certain us))
-unsettled_by set us certain known keys m all own found empty = at m found empty
-  where
-    same : SameUids (without_keys set keys) (left_by set certain us)
-    same u i = ap (λ b. set u && not b) (own.members u i ∙ all u)
-
-    at : (m : Option BitMask) → IfSome m (IsWidest (without_keys set keys)) → IfNone m (SameUids (without_keys set keys) (λ _. false))
-        → MatchOption m (SameUids (left_by set certain us) (λ _. false)) (IsWidest (left_by set certain us))
-    at None found empty = λ u i. sym (same u i) ∙ empty u i
-    at (Some m) found empty = widest_same (without_keys set keys) (left_by set certain us) m same found
+unsettled_by set us certain known keys None all own found empty = λ u i. sym (left_same set us certain known keys all own u i) ∙ empty u i
+unsettled_by set us certain known keys (Some m) all own found empty = widest_same (without_keys set keys) (left_by set certain us) m (left_same set us certain known keys all own) found
 
 -- ---- the same by the UIDs that may be there and those that must
 

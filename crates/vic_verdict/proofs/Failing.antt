@@ -17,17 +17,14 @@ member_at us k u d lt e = list_any_at (nat_eq u) us k d lt (eq-eqb u _ (sym e))
 abbrev pub failing : (ℕ → Bool) → List ℕ → List ℕ
 failing test us = filter (λ u. not (test u)) us
 
-pub failing_has : (test : ℕ → Bool) (us : List ℕ) (u : ℕ) → (has (failing test us) u ≡ true) ↔ IsFailing us test u
-failing_has test us u = (
-  (λ h. let w = and_parts (has us u) (not (test u)) (has_filter (λ v. not (test v)) us u h) in (w.0, not-true _ w.1)),
-  (λ h. filter_has (λ v. not (test v)) us u (and_from (has us u) (not (test u)) h.0 (not_from_false _ h.1))),
-)
-
 -- those of a rising list
 pub failing_list : (test : ℕ → Bool) (us ys : List ℕ) → IsStrictlyIncreasing us → ys ≡ failing test us → IsListOf (IsFailing us test) ys
 failing_list test us ys rising is = subst (IsListOf (IsFailing us test)) (sym is) (record {
   rising = IsStrictlyIncreasing-filter (λ u. not (test u)) us rising;
-  members = failing_has test us;
+  members = λ u. (
+    (λ h. let w = and_parts (has us u) (not (test u)) (has_filter (λ v. not (test v)) us u h) in (w.0, not-true _ w.1)),
+    (λ h. filter_has (λ v. not (test v)) us u (and_from (has us u) (not (test u)) h.0 (not_from_false _ h.1))),
+  );
 })
 
 -- the same property has the same list

@@ -1,6 +1,6 @@
 -- Which open UIDs answer, by the mentions.
 use Rattle.std.proofs.Common.{take-append-drop, ◌≡◌, ℕ, nat_eq, ◌+◌, ◌-◌, ◌^◌, ◌<◌, ◌≤◌, ◌==◌, ◌++◌, List, [], ◌∷◌, length, take, drop, get_or, Bool, true, false, not, ◌&&◌, ◌||◌, refl, sym, ap, ◌∙◌, subst, arith, inl, inr, ⊎_elim, map, nat_lt, All, eq-eqb, eqb-true, take_all, le-ltb}
-use Rattle.vic_verdict.proofs.Words.{list_any, and_parts, and_from, or_cases, or_left, or_right, both_ways, false≢true, nat_tests, take-map, length-map, get_or-map, All-head, All-tail, All-push, list_any-append, list_any_more, IsUid, is_uid, has, BitMask, lies_in, is_in_block, mirror, uid_of, KeyBlock, uid_of_mirror, IsUid-from, is_uid_from, Gathers, UpToThree, is_between, lt_yes, Mention, HasInside, IsReadyIn, is_ready_at, AreInOrder, HaveKeys, has_where, is_mentioned, is_quiet_by, quiet_of, not_from_false, false_from_ne_true}
+use Rattle.vic_verdict.proofs.Words.{list_any, and_parts, and_from, or_cases, or_left, or_right, both_ways, false≢true, nat_tests, take-map, length-map, get_or-map, All-head, All-tail, All-push, list_any-append, list_any_more, IsUid, is_uid, has, BitMask, lies_in, is_in_block, mirror, uid_of, KeyBlock, uid_of_mirror, IsUid-from, is_uid_from, Gathers, UpToThree, is_between, lt_yes, Mention, HasInside, IsReadyIn, is_ready_at, AreInOrder, HaveKeys, has_where, is_mentioned, is_quiet_by, quiet_of, not_from_false, false_from_ne_true, cases_Bool}
 use Rattle.std.specs.List.Sorted.{IsNonDecreasing}
 use Rattle.std.proofs.lemmas.List.{drop-map}
 use Rattle.std.proofs.lemmas.List.Sorted.{IsNonDecreasingBy-push}
@@ -78,7 +78,10 @@ both_answering set ns os inside b from i last us vs asked small block o alike wi
       let w = and_parts (is_uid u && set u) _ k in
       let v = and_parts (is_in_block b.first b.len (mirror u)) (not (is_quiet_by ns (mirror u) i)) w.1 in
       let uid = IsUid-from u (and_parts (is_uid u) (set u) w.0).0 in
-      go few u uid w.0 v.0 v.1 (is_mentioned ns (mirror u)) refl;
+      ⊎_elim
+      (λ m. g.all few u (uid, alike (mirror u) (block (mirror u) ∙ v.0) ∙ (key_of u uid ∙ and_from _ _ (and_parts (is_uid u) (set u) w.0).1 (and_from _ _ m v.1))))
+      (λ none. g.keeps u (h.all (omega (arith, few, g.longer)) u (and_from _ _ w.0 (and_from _ _ v.0 (ap not none)))))
+      (cases_Bool (is_mentioned ns (mirror u)));
 }
   where
     key_of : (u : ℕ) → IsUid u → has_where (is_awake i) os (mirror u) ≡ (set u && (is_mentioned ns (mirror u) && not (is_quiet_by ns (mirror u) i)))
@@ -97,13 +100,6 @@ both_answering set ns os inside b from i last us vs asked small block o alike wi
         let w = and_parts (set u) _ (sym (key_of u p.0) ∙ (sym (alike (mirror u) lies) ∙ p.1)) in
         let v = and_parts (is_mentioned ns (mirror u)) (not (is_quiet_by ns (mirror u) i)) w.1 in
         and_from _ _ (and_from _ _ (is_uid_from u p.0) w.0) (and_from _ _ (sym (block (mirror u)) ∙ lies) v.1)
-
-    go : length vs < 3 → (u : ℕ) → IsUid u → (is_uid u && set u) ≡ true → is_in_block b.first b.len (mirror u) ≡ true → not (is_quiet_by ns (mirror u) i) ≡ true → (c : Bool) → is_mentioned ns (mirror u) ≡ c → has vs u ≡ true
-    go few u uid there lies awake true e =
-        let here : has_where (is_awake i) os (mirror u) ≡ true = key_of u uid ∙ and_from _ _ (and_parts (is_uid u) (set u) there).1 (and_from _ _ e awake) in
-        g.all few u (uid, alike (mirror u) (block (mirror u) ∙ lies) ∙ here)
-    go few u uid there lies awake false e =
-        g.keeps u (h.all (omega (arith, few, g.longer)) u (and_from _ _ there (and_from _ _ lies (ap not e))))
 
 -- ---- a mention for each open UID that has one
 

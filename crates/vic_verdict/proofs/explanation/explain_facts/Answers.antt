@@ -10,10 +10,7 @@ returns g c =
     let verdict = c.in_ok-verdict.ensures in
     let met = c.requires.facts.is_met in
     elim c.match-verdict.branch [
-      | in-Impossible w ↦ record {
-        verdict = rw w.verdict-is verdict;
-        population = rw (w.verdict-is, w.population-is) (⊎_elim (λ h. rw h.1 tt) (λ h. rw h.1 tt) w.in-Impossible.is);
-      }
+      | in-Impossible w ↦ rw (w.verdict-is, w.population-is) record { verdict = verdict; population = ⊎_elim (λ h. rw h.1 tt) (λ h. rw h.1 tt) w.in-Impossible.is }
       | in-Absent+in_ok-gather-in-Absent w ↦
           let given = w.in_ok-gather-in-Absent in
           record {
