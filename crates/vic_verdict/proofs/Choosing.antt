@@ -1,6 +1,6 @@
 -- UIDs of a list, other than one to avoid, taken one by one.
 use Rattle.std.proofs.Common.{◌≡◌, ℕ, suc, ◌+◌, ◌-◌, ◌<◌, List, [], ◌∷◌, ◌++◌, length, take, drop, get_or, Bool, true, false, cond, sym, ap, ◌∙◌, arith, append_assoc, filter}
-use Rattle.std.proofs.lemmas.List.{drop_more}
+use Rattle.vic_verdict.proofs.Words.{drop_more}
 
 pub filter_yes : (p : ℕ → Bool) (x : ℕ) (xs : List ℕ) → p x ≡ true → filter p (x ∷ xs) ≡ x ∷ filter p xs
 filter_yes p x xs e = ap (λ b. cond b (x ∷ filter p xs) (filter p xs)) e
@@ -18,8 +18,7 @@ take_one n x xs lt = let e : n ≡ suc (n - 1) = omega arith in ap (λ k. take k
 pub is_taken : (p : ℕ → Bool) (xs us all : List ℕ) (i x left : ℕ) → i < length xs → x ≡ get_or xs i x → 0 < left → p x ≡ true → us ++ take left (filter p (drop i xs)) ≡ all → (us ++ x ∷ []) ++ take (left - 1) (filter p (drop (i + 1) xs)) ≡ all
 is_taken p xs us all i x left lt e more passes h =
     let rest = filter p (drop (i + 1) xs) in
-    let here : filter p (drop i xs) ≡ x ∷ rest = ap (filter p) (rest_at xs i x lt e) ∙ filter_yes p x (drop (i + 1) xs) passes in
-    append_assoc us (x ∷ []) (take (left - 1) rest) ∙ (ap (λ zs. us ++ zs) (sym (ap (take left) here ∙ take_one left x rest more)) ∙ h)
+    append_assoc us (x ∷ []) (take (left - 1) rest) ∙ (ap (λ zs. us ++ zs) (sym (ap (take left) (ap (filter p) (rest_at xs i x lt e) ∙ filter_yes p x (drop (i + 1) xs) passes) ∙ take_one left x rest more)) ∙ h)
 
 -- one is avoided
 pub is_avoided : (p : ℕ → Bool) (xs us all : List ℕ) (i x left : ℕ) → i < length xs → x ≡ get_or xs i x → p x ≡ false → us ++ take left (filter p (drop i xs)) ≡ all → us ++ take left (filter p (drop (i + 1) xs)) ≡ all

@@ -1,15 +1,11 @@
 -- What meets the demands of a stretch.
-use Rattle.std.proofs.Common.{◌≡◌, ℕ, zero, suc, ◌+◌, ◌<◌, ◌≤◌, ◌++◌, List, [], ◌∷◌, length, take, get_or, length-append, Bool, true, false, not, ◌&&◌, ◌||◌, cond, Option, Some, None, refl, sym, ap, ◌∙◌, subst, arith, inl, inr, ⊎_elim, ◌⊎◌, ◌==◌, nat_lt, slice_get, All, Any, sum_by, IsPermutation, eq-eqb, eqb-true, le-ltb}
-use Rattle.vic_verdict.proofs.Words.{list_all, list_any, cases_eq, cases_lt, and_parts, and_from, or_left, or_right, false≢true, nat_tests, slice_get_within, get_or_default, All-push, list_any-append, Any-from_list_any, All-permutation, list_any-IsPermutation, IsUid, is_uid, is_in_block, mirror, SameUids, UpToThree, Entry, Collision, Garbled, mask_at, lies_in_some, is_quiet, answers_at, ManyReplies, SomeReply, slots_of, is_open, AgreeBefore, answers_agree, IsUid-from, lt_yes, lt_from, Demand, Found, Stretch, Mention, Lacks, answering, AreInOrder, HaveKeys, is_quiet_by, ArePutInOrder, needs, needs_of, IsFoundAt, IsFound, IsDemandBy, AreFound, AreKept, not_from_false, false_from_ne_true, both_ways, not-true}
-use Rattle.std.proofs.lemmas.Option.{get_or_from_slice_get, slice_get_past}
-use Rattle.std.proofs.lemmas.List.{get_or_append_left}
-use Rattle.std.proofs.lemmas.List.Elements.{All-filter, filter_passes}
+use Rattle.std.proofs.Common.{◌≡◌, ℕ, zero, suc, ◌+◌, ◌<◌, ◌≤◌, ◌++◌, List, [], ◌∷◌, length, take, get_or, length-append, Bool, true, not, ◌&&◌, cond, Option, Some, None, refl, sym, ap, ◌∙◌, subst, arith, inl, inr, ⊎_elim, ◌⊎◌, ◌==◌, nat_lt, slice_get, All, Any, sum_by, IsPermutation, eq-eqb, eqb-true, le-ltb}
+use Rattle.vic_verdict.proofs.Words.{list_all, list_any, cases_eq, cases_lt, and_parts, and_from, or_left, or_right, false≢true, slice_get_within, get_or_default, All-push, list_any-append, Any-from_list_any, All-permutation, list_any-IsPermutation, IsUid, is_uid, is_in_block, mirror, SameUids, UpToThree, Entry, Collision, Garbled, mask_at, lies_in_some, is_quiet, answers_at, ManyReplies, SomeReply, slots_of, is_open, AgreeBefore, answers_agree, IsUid-from, lt_yes, lt_from, Demand, Found, Stretch, Mention, Lacks, answering, AreInOrder, HaveKeys, is_quiet_by, ArePutInOrder, needs, needs_of, IsFoundAt, IsFound, IsDemandBy, AreFound, AreKept, not_from_false, false_from_ne_true, both_ways, not-true, get_or_append_left, All-filter, filter_passes, get_or_from_slice_get, slice_get_past, allows, IsDemand, answers_by, IsUnmet, IsUnmetAt, IsImpliedBy, IsAskedAgain, HasBlock, HasBlocks, HasKeysAt, HasMentionsInOrder, IsKept, Keeps, AreMet, AreAsked, asked_by, demands_to, is_asked}
+use Rattle.std.proofs.lemmas.Map.Views.{any-filter_same}
 use Rattle.std.proofs.lemmas.List.Quantifiers.{Any-push}
 use Rattle.std.proofs.lemmas.List.Sums.{sum_by-cons, sum_by_more, sum_by_push, sum_by-take-le}
 use Rattle.std.proofs.lemmas.List.Sorted.{sum_by-IsPermutation}
-use Rattle.vic_log.specs.Slots.{allows}
 use Rattle.vic_verdict.specs.Demands.{needs_at, all_needs, Meets}
-use Rattle.vic_verdict.specs.inner.Asked.{IsDemand, answers_by, IsUnmet, IsUnmetAt, IsImpliedBy, IsAskedAgain, HasBlock, HasBlocks, HasKeysAt, HasMentionsInOrder, IsKept, Keeps, AreMet, AreAsked, asked_by, demands_to, is_asked}
 use Rattle.vic_verdict.proofs.Silencing.{silenced_later}
 use Rattle.vic_verdict.proofs.Entries.{asks_two_iff, asks_one_iff}
 use Rattle.vic_verdict.proofs.Supplied.{UpToThree-same}
@@ -266,9 +262,7 @@ kept_agree es fs i cut s agree le h = record {
   mentions = h.mentions;
   blocks = h.blocks;
   places = λ k d below. let lt = h.places k d below in omega arith;
-  demands = λ k d below.
-      let lt = h.places k d below in
-      demand_agrees es fs cut s.mentions.items (get_or s.demands.items k d) agree (omega arith) (h.demands k d below);
+  demands = λ k d below. demand_agrees es fs cut s.mentions.items (get_or s.demands.items k d) agree (omega (arith, h.places k d below)) (h.demands k d below);
 }
 
 -- a field cycle asks for nothing
@@ -281,12 +275,7 @@ kept_cycle es i ss e k none h = record {
 
 -- a demand of a position before the cut is one of those up to it
 asked_to : (cut j : ℕ) (ds : List Demand) → j < cut → is_asked (demands_to cut ds) j ≡ is_asked ds j
-asked_to cut j [] below = refl
-asked_to cut j (d ∷ ds) below = go (nat_lt d.at cut) refl (asked_to cut j ds below)
-  where
-    go : (b : Bool) → nat_lt d.at cut ≡ b → is_asked (demands_to cut ds) j ≡ is_asked ds j → is_asked (cond b (d ∷ demands_to cut ds) (demands_to cut ds)) j ≡ ((d.at == j) || is_asked ds j)
-    go true e rest = grind arith
-    go false e rest = grind (arith, nat_tests)
+asked_to cut j ds below = any-filter_same (λ (d : Demand). d.at == j) (λ (d : Demand). nat_lt d.at cut) true (λ d e. lt_yes d.at cut (omega (arith, eqb-true d.at j e))) ds
 
 -- the demands of a stretch up to a cut are kept
 pub kept_to : (es fs : List Entry) (from i cut : ℕ) (ns ms : List Mention) (ds : List Demand) (old new : List Stretch) → AgreeBefore cut fs es → from ≤ cut → cut ≤ i → HaveKeys ns → ((j u : ℕ) → from ≤ j → j ≤ i → IsUid u → is_quiet_by ns (mirror u) j ≡ is_quiet es j u) → ArePutInOrder ns ms → Keeps ms ds cut old new → AreAsked es from i ds → AreKept es from old → AreKept fs cut new
@@ -371,9 +360,7 @@ found_more es ss k s ds old new below is all m h = record {
       (λ here. subst (λ xs. All (λ (d : Demand). Any (λ (f : Found). Meets es f d.at) new) xs) (all ∙ (ap (λ (x : Stretch). x.demands.items) (is ∙ get_or_default ss k s t below) ∙ ap (λ n. (get_or ss n t).demands.items) (sym here))) m.met)
       (λ ne n d inside. m.kept (get_or (get_or ss j t).demands.items n d).at (h.met j t (omega (arith, lt)) n d inside))
       (cases_eq j k);
-  few =
-      let more = sum_by_more (λ (x : Stretch). asked_by x.demands.items) ss k s below in
-      omega (arith, ap (λ (x : Stretch). asked_by x.demands.items) is, ap asked_by all);
+  few = omega (arith, sum_by_more (λ (x : Stretch). asked_by x.demands.items) ss k s below, ap (λ (x : Stretch). asked_by x.demands.items) is, ap asked_by all);
 }
 
 needs_within : (es : List Entry) (j : ℕ) → 0 < needs_at es j → j < length es

@@ -1,9 +1,8 @@
 -- What a judge that goes over the entries once needs: what each entry does to the open UIDs, and what the open UIDs that
 -- could have answered in a slot, up to three of them, tell.
 use Rattle.std.proofs.Common.{◌≡◌, ℕ, zero, suc, ◌<◌, ◌≤◌, List, [], ◌∷◌, length, Bool, true, ◌&&◌, Option, Some, None, refl, sym, ap, ◌∙◌, subst, arith, inl, inr, ⊎_elim, ◌⊎◌, ◌≢◌, ◌↔◌, slice_get}
-use Rattle.vic_verdict.proofs.Words.{list_all, both_ways, false≢true, cases_eq, Entry, Silent, Heard, has, is_uid, answers_at, Reading, NoReply, OneReply, ManyReplies, SomeReply, Slot, reading_of, slots_before, is_open, Asks, SuppliesAll, Forces, IsForcedBy, UpToThree, answering, has_here, has_at, has_there, has_cases, and_true}
+use Rattle.vic_verdict.proofs.Words.{list_all, both_ways, false≢true, cases_eq, Entry, Silent, Heard, has, is_uid, answers_at, Reading, NoReply, OneReply, ManyReplies, SomeReply, Slot, reading_of, slots_before, is_open, Asks, SuppliesAll, Forces, IsForcedBy, UpToThree, answering, has_here, has_at, has_there, has_cases, and_true, with_reading, with_entry, may_be, allows}
 use Rattle.std.specs.Prelude.{⊤}
-use Rattle.vic_log.specs.Slots.{with_reading, with_entry, may_be, allows}
 
 -- what a slot line asks of the UIDs that answer there; an entry that is no slot line asks nothing
 abbrev pub EntryAsks : Option Reading → (ℕ → Bool) → Type 0
@@ -83,9 +82,12 @@ forced_step set answers (Some e) slots u =
 
 -- ---- up to three of a set
 
+two_members : (t : ℕ → Bool) (x y : ℕ) (xs : List ℕ) → UpToThree t (x ∷ y ∷ xs) → (x ≢ y) × (t x ≡ true) × (t y ≡ true)
+two_members t x y xs h =
+    ((λ e. both_ways _ h.different.0 (has_at x y xs e)), h.members x (has_here x (y ∷ xs)), h.members y (has_there y x (y ∷ xs) (has_here y xs)))
+
 two_asked : (t : ℕ → Bool) (x y : ℕ) (xs : List ℕ) → UpToThree t (x ∷ y ∷ xs) → Asks ManyReplies t
-two_asked t x y xs h =
-    (x, y, (λ e. both_ways _ h.different.0 (has_at x y xs e)), h.members x (has_here x (y ∷ xs)), h.members y (has_there y x (y ∷ xs) (has_here y xs)))
+two_asked t x y xs h = let two = two_members t x y xs h in (x, y, two.0, two.1, two.2)
 
 none_asked : (t : ℕ → Bool) → UpToThree t [] → (u : ℕ) → t u ≡ true → ⊥
 none_asked t h u k = false≢true (h.all (omega arith) u k)
@@ -111,24 +113,20 @@ pub forces_two_iff : (t : ℕ → Bool) (xs : List ℕ) (u : ℕ) → UpToThree 
 forces_two_iff t [] u h = ((λ f. absurd (none_asked t h u f.2)), (λ w. absurd (omega arith)))
 forces_two_iff t (x ∷ []) u h = ((λ f. absurd (f.1 (one_only t x h f.0 f.3 ∙ sym (one_only t x h u f.2)))), (λ w. absurd (omega arith)))
 forces_two_iff t (x ∷ y ∷ []) u h =
-    let tx = h.members x (has_here x (y ∷ [])) in
-    let ty = h.members y (has_there y x (y ∷ []) (has_here y [])) in
-    let ne : x ≡ y → ⊥ = λ e. both_ways _ h.different.0 (has_at x y [] e) in
+    let two = two_members t x y [] h in
     let only : (w : ℕ) → t w ≡ true → (w ≡ x) ⊎ (w ≡ y) = λ w k. of_two x y w (h.all (omega arith) w k) in (
       (λ f. (refl, h.all (omega arith) u f.2)),
       (λ w. ⊎_elim
-          (λ e. (y, (λ k. ne (sym e ∙ sym k)), subst (λ z. t z ≡ true) (sym e) tx, ty, λ v k. ⊎_elim (λ a. inl (a ∙ sym e)) (λ b. inr b) (only v k)))
-          (λ e. (x, (λ k. ne (k ∙ e)), subst (λ z. t z ≡ true) (sym e) ty, tx, λ v k. ⊎_elim (λ a. inr a) (λ b. inl (b ∙ sym e)) (only v k)))
+          (λ e. (y, (λ k. two.0 (sym e ∙ sym k)), subst (λ z. t z ≡ true) (sym e) two.1, two.2, λ v k. ⊎_elim (λ a. inl (a ∙ sym e)) (λ b. inr b) (only v k)))
+          (λ e. (x, (λ k. two.0 (k ∙ e)), subst (λ z. t z ≡ true) (sym e) two.2, two.1, λ v k. ⊎_elim (λ a. inr a) (λ b. inl (b ∙ sym e)) (only v k)))
           (of_two x y u w.1)),
     )
 forces_two_iff t (x ∷ y ∷ z ∷ xs) u h =
-    let tx = h.members x (has_here x (y ∷ z ∷ xs)) in
-    let ty = h.members y (has_there y x (y ∷ z ∷ xs) (has_here y (z ∷ xs))) in
+    let two = two_members t x y (z ∷ xs) h in
     let tz = h.members z (has_there z x (y ∷ z ∷ xs) (has_there z y (z ∷ xs) (has_here z xs))) in
-    let xy : x ≡ y → ⊥ = λ e. both_ways _ h.different.0 (has_at x y (z ∷ xs) e) in
     let xz : x ≡ z → ⊥ = λ e. both_ways _ h.different.0 (has_there x y (z ∷ xs) (has_at x z xs e)) in
     let yz : y ≡ z → ⊥ = λ e. both_ways _ h.different.1.0 (has_at y z xs e) in
-    ((λ f. absurd (three_in_two x y z u f.0 xy xz yz (f.4 x tx) (f.4 y ty) (f.4 z tz))), (λ w. absurd (omega arith)))
+    ((λ f. absurd (three_in_two x y z u f.0 two.0 xz yz (f.4 x two.1) (f.4 y two.2) (f.4 z tz))), (λ w. absurd (omega arith)))
 
 -- a garbled slot is possible where there is one
 pub asks_one_iff : (t : ℕ → Bool) (xs : List ℕ) → UpToThree t xs → Asks SomeReply t ↔ (1 ≤ length xs)

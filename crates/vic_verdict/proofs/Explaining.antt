@@ -1,14 +1,12 @@
 -- A gathered population shows the verdict.
 use Rattle.std.proofs.Common.{◌≡◌, ℕ, ◌≤◌, List, [], ◌∷◌, ◌++◌, length, true, Some, None, sym, ◌∙◌, subst, arith, ⊎_elim, length-append, ◌⊎◌}
-use Rattle.vic_verdict.proofs.Words.{IsStrictlyIncreasing, false_from_ne_true, IsUid, has, BitMask, lies_in, Entry, LogLine, entries, slots_of, is_open, IsWithin, AreDifferent-population, has_here, MeetsAll-iff, CouldHaveGiven-slots, Met, IsMet, gathered, IsPossible, IsPossibleUid, IsCertainUid, SameMembers, IsVerdict}
+use Rattle.vic_verdict.proofs.Words.{IsStrictlyIncreasing, false_from_ne_true, IsUid, has, BitMask, lies_in, Entry, LogLine, entries, slots_of, is_open, IsWithin, AreDifferent-population, has_here, MeetsAll-iff, CouldHaveGiven-slots, Met, IsMet, gathered, IsPossible, IsPossibleUid, IsCertainUid, SameMembers, IsVerdict, IsUid-member, SuppliesAll-within}
 use Rattle.vic_frame.specs.Masks.{least_uid_in}
-use Rattle.vic_log.proofs.Sets.{IsUid-member}
-use Rattle.vic_log.proofs.Supply.{SuppliesAll-within}
 use Rattle.vic_verdict.specs.declared.judging.Verdict.TheVariants.{Absent, Unlisted, Unsettled, Doubtful}
 use Rattle.vic_verdict.specs.Explained.{IsSmallPopulation, IsPopulationBehind}
 use Rattle.vic_verdict.proofs.Decide.{IsPossibleUid-iff}
 use Rattle.vic_verdict.proofs.Meeting.{has_pushed}
-use Rattle.vic_verdict.proofs.Gathering.{IsGathered, AvoidsNoneCertain, append_left, append_right, rising_population, no_more, gathered_population, gathered_without}
+use Rattle.vic_verdict.proofs.Gathering.{IsGathered, append_left, append_right, rising_population, no_more, gathered_population, gathered_without}
 use Rattle.vic_verdict.proofs.Masks.{lies_in-uid_in, IsUid-in}
 
 small_from : (es : List Entry) (us : List ℕ) → IsGathered es us → IsSmallPopulation es us
@@ -32,8 +30,7 @@ unlisted_shown lines m us u v met rising same =
 pub doubtful_shown : (lines : List LogLine) (m : Met) (us : List ℕ) (u : ℕ) → IsVerdict lines (Doubtful u) → IsMet (entries lines) m → IsStrictlyIncreasing us → SameMembers us (gathered (Some u) m) → IsPopulationBehind (entries lines) (Doubtful u) us
 doubtful_shown lines m us u v met rising same =
     let es = entries lines in
-    let spared : AvoidsNoneCertain es (Some u) = λ a e certain. let it : u ≡ a = cc in v.4.0.1 (subst (IsCertainUid es) (sym it) certain) in
-    (small_from es us (gathered_population es m (Some u) us v.0 spared met rising same), gathered_without es m u us v.4.0.1 met same)
+    (small_from es us (gathered_population es m (Some u) us v.0 (λ a e certain. let it : u ≡ a = cc in v.4.0.1 (subst (IsCertainUid es) (sym it) certain)) met rising same), gathered_without es m u us v.4.0.1 met same)
 
 -- a gathered population with one possible UID more
 with_possible : (es : List Entry) (x : ℕ) (us vs : List ℕ) → IsPossible es → IsUid x → IsPossibleUid es x → IsGathered es us → IsStrictlyIncreasing vs → SameMembers vs (us ++ x ∷ []) → IsSmallPopulation es vs
@@ -44,14 +41,12 @@ with_possible es x us vs possible i p g rising same =
     let old = (MeetsAll-iff us slots g.population).0 ((CouldHaveGiven-slots us es).0 g.could) in
     let within : IsWithin (has vs) (is_open slots) = λ u h. ⊎_elim (λ k. old.0 u k) (λ e. subst (λ z. is_open slots z ≡ true) (sym e) ((IsPossibleUid-iff es x possible).0 p)) (parts u h) in
     let population = rising_population vs rising (λ u h. ⊎_elim (λ k. IsUid-member us u g.population k) (λ e. subst IsUid (sym e) i) (parts u h)) in
-    let supplied = SuppliesAll-within (has us) (has vs) slots (λ u h. same u ∙ append_left us (x ∷ []) u h) old.1 in
-    let long = length-append us (x ∷ []) in
     let longer : length vs ≤ length (us ++ x ∷ []) = no_more vs (us ++ x ∷ []) (AreDifferent-population vs population) split in
     record {
       rising = rising;
       population = population;
-      could = (CouldHaveGiven-slots vs es).1 ((MeetsAll-iff vs slots population).1 (within, supplied));
-      few = λ heard all. let n = g.few heard all in omega arith;
+      could = (CouldHaveGiven-slots vs es).1 ((MeetsAll-iff vs slots population).1 (within, SuppliesAll-within (has us) (has vs) slots (λ u h. same u ∙ append_left us (x ∷ []) u h) old.1));
+      few = λ heard all. omega (arith, g.few heard all, length-append us (x ∷ []));
     }
 
 pub unsettled_shown : (lines : List LogLine) (m : Met) (us vs : List ℕ) (k : BitMask) (x : ℕ) → IsVerdict lines (Unsettled k) → IsMet (entries lines) m → IsStrictlyIncreasing us → SameMembers us (gathered None m) → x ≡ least_uid_in k → IsStrictlyIncreasing vs → SameMembers vs (us ++ x ∷ []) → IsPopulationBehind (entries lines) (Unsettled k) vs

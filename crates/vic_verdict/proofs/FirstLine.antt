@@ -1,8 +1,7 @@
 -- The first impossible line, found by counting lines.
 use Rattle.std.proofs.Common.{◌≡◌, ℕ, zero, suc, ◌<◌, List, [], ◌∷◌, ◌++◌, Some, take, sym, ap, ◌∙◌, subst, arith, ⊎_elim, slice_get, leb, le-leb, leb-false}
-use Rattle.vic_verdict.proofs.Words.{cases_Bool, Entry, LogLine, IsPossible, Impossible, entries, IsRisingFrom, IsVerdict}
+use Rattle.vic_verdict.proofs.Words.{cases_Bool, Entry, LogLine, IsPossible, Impossible, entries, IsRisingFrom, IsVerdict, entries_to}
 use Rattle.vic_verdict.proofs.Possibility.{IsPossible-front}
-use Rattle.vic_verdict.specs.Verdict.{entries_to}
 use Rattle.vic_verdict.proofs.Verdicts.{none_to, line_kept}
 use Rattle.vic_verdict.proofs.Search.{least_by}
 
@@ -16,29 +15,24 @@ record UpTo (k : ℕ) (lines : List LogLine) (l : LogLine) : Type 0 where
   here : entries_to l.number lines ≡ entries (take (suc k) lines)
   less : (m : ℕ) → m < l.number → (rest : List Entry) × (entries_to m lines ++ rest ≡ entries (take k lines))
 
-upto_first : (below : ℕ) (x : LogLine) (lines : List LogLine) → IsRisingFrom below (x ∷ lines) → UpTo zero (x ∷ lines) x
-upto_first below x lines r = record {
-  here =
-      ap (line_kept x.number x lines) (le-leb x.number x.number (omega arith)) ∙ ap (λ es. x.item ∷ es) (none_to x.number x.number lines (omega arith) r.1);
-  less = λ m h. ([], ap (λ es. es ++ []) (none_to m m (x ∷ lines) (omega arith) (h, r.1)));
-}
-
-upto_more : (k : ℕ) (x : LogLine) (lines : List LogLine) (l : LogLine) → IsRisingFrom x.number lines → x.number < l.number → UpTo k lines l → UpTo (suc k) (x ∷ lines) l
-upto_more k x lines l r b u = record {
-  here =
-      ap (line_kept l.number x lines) (le-leb x.number l.number (omega arith)) ∙ ap (λ es. x.item ∷ es) u.here;
-  less = λ m h.
-      let rest = u.less m h in
-      ⊎_elim
-      (λ yes. (rest.0, ap (λ c. line_kept m x lines c ++ rest.0) yes ∙ ap (λ es. x.item ∷ es) rest.1))
-      (λ out. (entries (take (suc k) (x ∷ lines)), ap (λ es. es ++ entries (take (suc k) (x ∷ lines))) (ap (line_kept m x lines) out ∙ none_to m x.number lines (let lt = leb-false x.number m out in omega arith) r)))
-      (cases_Bool (leb x.number m));
-}
-
 upto : (k below : ℕ) (lines : List LogLine) (l : LogLine) → IsRisingFrom below lines → slice_get lines k ≡ Some l → UpTo k lines l
 upto k below [] l r g = cc
-upto zero below (x ∷ lines) l r g = let same : x ≡ l = cc in subst (UpTo zero (x ∷ lines)) same (upto_first below x lines r)
-upto (suc k) below (x ∷ lines) l r g = upto_more k x lines l r.1 (above_all k x.number lines l r.1 g) (upto k x.number lines l r.1 g)
+upto zero below (x ∷ lines) l r g = let same : x ≡ l = cc in subst (UpTo zero (x ∷ lines)) same (record {
+  here = ap (line_kept x.number x lines) (le-leb x.number x.number (omega arith)) ∙ ap (λ es. x.item ∷ es) (none_to x.number x.number lines (omega arith) r.1);
+  less = λ m h. ([], ap (λ es. es ++ []) (none_to m m (x ∷ lines) (omega arith) (h, r.1)));
+})
+upto (suc k) below (x ∷ lines) l r g =
+    let above : x.number < l.number = above_all k x.number lines l r.1 g in
+    let u = upto k x.number lines l r.1 g in
+    record {
+      here = ap (line_kept l.number x lines) (le-leb x.number l.number (omega arith)) ∙ ap (λ es. x.item ∷ es) u.here;
+      less = λ m h.
+          let rest = u.less m h in
+          ⊎_elim
+          (λ yes. (rest.0, ap (λ c. line_kept m x lines c ++ rest.0) yes ∙ ap (λ es. x.item ∷ es) rest.1))
+          (λ out. (entries (take (suc k) (x ∷ lines)), ap (λ es. es ++ entries (take (suc k) (x ∷ lines))) (ap (line_kept m x lines) out ∙ none_to m x.number lines (let lt = leb-false x.number m out in omega arith) r.1)))
+          (cases_Bool (leb x.number m));
+    }
 
 -- where the first k lines are possible and the line at position k makes them impossible, its number is the verdict's
 pub first_impossible : (lines : List LogLine) (k : ℕ) (l : LogLine) → IsRisingFrom 0 lines → slice_get lines k ≡ Some l → IsPossible (entries (take k lines)) → (IsPossible (entries (take (suc k) lines)) → ⊥) → IsVerdict lines (Impossible l.number)

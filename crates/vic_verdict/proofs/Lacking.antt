@@ -1,7 +1,6 @@
 -- A slot that lacks the tags it requires contradicts the lines up to it, and up to the last one that may rule UIDs out.
 use Rattle.std.proofs.Common.{◌≡◌, ℕ, zero, suc, ◌+◌, ◌<◌, ◌≤◌, List, [], ◌∷◌, length, take, Bool, true, false, ◌&&◌, Option, Some, None, refl, sym, ap, ◌∙◌, subst, arith, add-one, ⊎_elim, slice_get, length-take-le}
-use Rattle.vic_verdict.proofs.Words.{cases_eq, slice_get_within, Entry, Silent, Heard, answers_at, Reading, NoReply, OneReply, ManyReplies, SomeReply, Slot, reading_of, slots_before, slots_of, is_open, Asks, AgreeBefore, answers_agree, IsContradictedAt, Lacks, rules_out, answering, and_true}
-use Rattle.vic_log.specs.Slots.{with_entry}
+use Rattle.vic_verdict.proofs.Words.{cases_eq, slice_get_within, Entry, Silent, Heard, answers_at, Reading, NoReply, OneReply, ManyReplies, SomeReply, Slot, reading_of, slots_before, slots_of, is_open, Asks, AgreeBefore, answers_agree, IsContradictedAt, Lacks, rules_out, answering, and_true, with_entry}
 use Rattle.vic_verdict.specs.inner.Possible.{NoneRulesOutAfter}
 use Rattle.vic_verdict.proofs.Entries.{EntryAsks, entry_allows, open_reading}
 use Rattle.vic_verdict.proofs.Supplied.{supplied_each}
@@ -25,12 +24,8 @@ open_place answers (Some e) slots u = open_reading answers e slots u
 pub open_agrees : (n : ℕ) (es fs : List Entry) (u : ℕ) → AgreeBefore n es fs → is_open (slots_before es n) u ≡ is_open (slots_before fs n) u
 open_agrees zero es fs u a = refl
 open_agrees (suc n) es fs u a =
-    let here : slice_get es n ≡ slice_get fs n = a n (omega arith) in
     let less : AgreeBefore n es fs = λ i h. a i (omega arith) in
-    let before : is_open (slots_before es n) u ≡ is_open (slots_before fs n) u = open_agrees n es fs u less in
-    let answers : answers_at es n u ≡ answers_at fs n u = answers_agree n es fs less u in
-    let same : (is_open (slots_before es n) u && place_allows (slice_get es n) (answers_at es n u) u) ≡ (is_open (slots_before fs n) u && place_allows (slice_get fs n) (answers_at fs n u) u) = rw (here, before, answers) in
-    open_place (answers_at es n) (slice_get es n) (slots_before es n) u ∙ same ∙ sym (open_place (answers_at fs n) (slice_get fs n) (slots_before fs n) u)
+    rw (open_place (answers_at es n) (slice_get es n) (slots_before es n) u, open_place (answers_at fs n) (slice_get fs n) (slots_before fs n) u, a n (omega arith), open_agrees n es fs u less, answers_agree n es fs less u)
 
 allows_all : (o : Option Entry) (b : Bool) (u : ℕ) → ((e : Entry) → o ≡ Some e → rules_out e ≡ false) → place_allows o b u ≡ true
 allows_all None b u h = refl
@@ -58,9 +53,6 @@ asks_same (OneReply v) s t e h = sym (e v) ∙ h
 asks_same ManyReplies s t e h = (h.0, h.1, h.2, sym (e h.0) ∙ h.3, sym (e h.1) ∙ h.4)
 asks_same SomeReply s t e h = (h.0, sym (e h.0) ∙ h.1)
 
-asked : (e : Entry) (r : Reading) (t : ℕ → Bool) → reading_of e ≡ Some r → EntryAsks (reading_of e) t → Asks r t
-asked e r t k h = subst (λ o. EntryAsks o t) k h
-
 pub contradicted : (es : List Entry) (i c : ℕ) → Lacks es i → i ≤ c → c < length es → NoneRulesOutAfter es c → IsContradictedAt es c
 contradicted es i c lacks upto within settled = record {
   within = within;
@@ -71,10 +63,8 @@ contradicted es i c lacks upto within settled = record {
       let same : (u : ℕ) → answering (is_open (slots_of fs)) fs i u ≡ answering (is_open (slots_of es)) es i u = λ u.
       let left : is_open (slots_of fs) u ≡ is_open (slots_of es) u =
       ap (λ n. is_open (slots_before fs n) u) size ∙ open_agrees (suc c) fs es u agree ∙ sym (open_settled es c (length es) u settled within) in
-      let answers : answers_at fs i u ≡ answers_at es i u = answers_agree i fs es (λ j h. agree j (omega arith)) u in
-      rw (left, answers) in
-      let here : slice_get fs i ≡ Some lacks.0 = agree i (omega arith) ∙ lacks.2 in
-      lacks.4 (asks_same lacks.1 _ _ same (asked lacks.0 lacks.1 _ lacks.3 (supplied_each fs i lacks.0 here possible)));
+      rw (left, answers_agree i fs es (λ j h. agree j (omega arith)) u) in
+      lacks.4 (asks_same lacks.1 _ _ same (subst (λ (o : Option Reading). EntryAsks o (answering (is_open (slots_of fs)) fs i)) lacks.3 (supplied_each fs i lacks.0 (agree i (omega arith) ∙ lacks.2) possible)));
 }
 
 -- the slot is one of the log's

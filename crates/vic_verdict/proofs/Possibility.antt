@@ -1,7 +1,6 @@
 -- Possible logs, possible and certain UIDs, by the slots of a log.
 use Rattle.std.proofs.Common.{◌≡◌, ℕ, List, ◌++◌, Some, ◌↔◌, slice_get, filter}
-use Rattle.vic_verdict.proofs.Words.{and_parts, Reply, Entry, Heard, answers_at, slots_of, OneReply, has_filter, AreDifferent-filter, AreDifferent-population, CouldHaveGiven-slots, IsPossible, IsPossibleUid, IsCertainUid}
-use Rattle.vic_log.proofs.Supply.{fits_asks}
+use Rattle.vic_verdict.proofs.Words.{and_parts, Reply, Entry, Heard, answers_at, slots_of, OneReply, has_filter, AreDifferent-filter, AreDifferent-population, CouldHaveGiven-slots, IsPossible, IsPossibleUid, IsCertainUid, fits_asks}
 use Rattle.vic_log.proofs.Places.{CouldHaveGiven-front}
 use Rattle.vic_verdict.proofs.Populations.{ArePossible, MayHave, MustHave}
 
@@ -31,5 +30,4 @@ pub Heard-certain : (es : List Entry) (i : ℕ) (r : Reply) → slice_get es i �
 Heard-certain es i r k p q g =
     let answers = answers_at es i in
     let u = r.uid in
-    let there = fits_asks (OneReply u) (filter answers p) (AreDifferent-filter answers p (AreDifferent-population p q)) (g i (Heard r) k) in
-    (and_parts _ _ (has_filter answers p u there)).0
+    (and_parts _ _ (has_filter answers p u (fits_asks (OneReply u) (filter answers p) (AreDifferent-filter answers p (AreDifferent-population p q)) (g i (Heard r) k)))).0

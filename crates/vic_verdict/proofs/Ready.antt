@@ -1,14 +1,10 @@
 -- Which open UIDs answer, by the mentions.
 use Rattle.std.proofs.Common.{take-append-drop, ◌≡◌, ℕ, nat_eq, ◌+◌, ◌-◌, ◌^◌, ◌<◌, ◌≤◌, ◌==◌, ◌++◌, List, [], ◌∷◌, length, take, drop, get_or, Bool, true, false, not, ◌&&◌, ◌||◌, refl, sym, ap, ◌∙◌, subst, arith, inl, inr, ⊎_elim, map, nat_lt, All, eq-eqb, eqb-true, take_all, le-ltb}
-use Rattle.vic_verdict.proofs.Words.{list_any, and_parts, and_from, or_cases, or_left, or_right, both_ways, false≢true, nat_tests, take-map, length-map, get_or-map, All-head, All-tail, All-push, list_any-append, list_any_more, IsUid, is_uid, has, BitMask, lies_in, is_in_block, mirror, uid_of, KeyBlock, uid_of_mirror, IsUid-from, is_uid_from, Gathers, UpToThree, is_between, lt_yes, Mention, HasInside, IsReadyIn, is_ready_at, AreInOrder, HaveKeys, has_where, is_mentioned, is_quiet_by, quiet_of, not_from_false, false_from_ne_true, cases_Bool}
+use Rattle.vic_verdict.proofs.Words.{list_any, and_parts, and_from, or_cases, or_left, or_right, both_ways, false≢true, nat_tests, take-map, length-map, get_or-map, All-head, All-tail, All-push, list_any-append, list_any_more, IsUid, is_uid, has, BitMask, lies_in, is_in_block, mirror, uid_of, KeyBlock, uid_of_mirror, IsUid-from, is_uid_from, Gathers, UpToThree, is_between, lt_yes, Mention, HasInside, IsReadyIn, is_ready_at, AreInOrder, HaveKeys, has_where, is_mentioned, is_quiet_by, quiet_of, not_from_false, false_from_ne_true, cases_Bool, drop-map, gathers_both, gathers_like, in_mask, without_keys, AreOpenMentions, HasMentionedIn, is_answering, is_awake, is_unmentioned_in}
 use Rattle.std.specs.List.Sorted.{IsNonDecreasing}
-use Rattle.std.proofs.lemmas.List.{drop-map}
 use Rattle.std.proofs.lemmas.List.Sorted.{IsNonDecreasingBy-push}
 use Rattle.vic_frame.specs.LowBitsFirst.{IsKey}
 use Rattle.vic_frame.proofs.MirrorLaws.{mirror_below, mirror_of_uid}
-use Rattle.vic_tree.specs.OpenSet.{in_mask, without_keys}
-use Rattle.vic_tree.proofs.GatheringLaws.{gathers_both, gathers_like}
-use Rattle.vic_verdict.specs.inner.Answering.{AreOpenMentions, HasMentionedIn, is_answering, is_awake, is_unmentioned_in}
 use Rattle.vic_verdict.proofs.Replying.{tells_own}
 use Rattle.vic_verdict.proofs.Silencing.{silenced_later}
 use Rattle.vic_verdict.proofs.Supplied.{UpToThree-same}
@@ -24,9 +20,8 @@ first_answering set ns inside b i m us same alike h none = record {
   different = h.different;
   members = λ u k.
       let w = and_parts _ _ (h.members u k) in
-      let uid = IsUid-from u (and_parts (is_uid u) (set u) w.0).0 in
       let lies = (and_parts _ _ w.1).0 in
-      and_from _ _ w.0 (and_from _ _ (sym (same u) ∙ lies) (not_from_false _ (false_from_ne_true _ (λ e. both_ways _ none (any_has (λ v. is_quiet_by inside (mirror v) i) us u k (alike u uid lies ∙ e))))));
+      and_from _ _ w.0 (and_from _ _ (sym (same u) ∙ lies) (not_from_false _ (false_from_ne_true _ (λ e. both_ways _ none (any_has (λ v. is_quiet_by inside (mirror v) i) us u k (alike u (IsUid-from u (and_parts (is_uid u) (set u) w.0).0) lies ∙ e))))));
   all = λ few u k.
       let w = and_parts _ _ k in
       h.all few u (and_from _ _ w.0 (and_from _ _ (same u ∙ (and_parts _ _ w.1).0) refl));
@@ -135,9 +130,8 @@ open_same set ns i os up some below le h = record {
   where
     before : (k : ℕ) → (get_or ns i nobody).key ≡ k → is_mentioned (take i ns) k ≡ true
     before k e =
-        let over = up (i - 1) i nobody (omega arith) below in
         let back : i - 1 + 1 ≡ i = omega arith in
-        let same : (get_or ns (i - 1) nobody).key ≡ k = omega (arith, e) in
+        let same : (get_or ns (i - 1) nobody).key ≡ k = omega (arith, e, up (i - 1) i nobody (omega arith) below) in
         subst (λ n. is_mentioned (take n ns) k ≡ true) back (mentioned_next ns (i - 1) k (omega arith) ∙ or_right _ _ (eq-eqb _ _ same))
 
     go : (k : ℕ) → (is_mentioned (take i ns) k || ((get_or ns i nobody).key == k)) ≡ is_mentioned (take i ns) k
@@ -245,12 +239,8 @@ ready_so_far ns i at u p = (p.0, any_taken (λ (n : Mention). (n.key == mirror u
 -- a part of the keys is the keys of a part
 pub keys_part : (ns inside : List Mention) (ks part : List ℕ) (s e : ℕ) → ks ≡ map (λ (n : Mention). n.key) ns → inside ≡ take (length inside) (drop s ns) → e ≡ s + length inside → part ≡ take (e - s) (drop s ks) → part ≡ map (λ (n : Mention). n.key) inside
 keys_part ns inside ks part s e keys place end is =
-    is
-    ∙ ap (λ n. take n (drop s ks)) (let n : e - s ≡ length inside = omega arith in n)
-    ∙ ap (λ xs. take (length inside) (drop s xs)) keys
-    ∙ ap (take (length inside)) (drop-map (λ (n : Mention). n.key) s ns)
-    ∙ take-map (λ (n : Mention). n.key) (length inside) (drop s ns)
-    ∙ ap (map (λ (n : Mention). n.key)) (sym place)
+    let long : e - s ≡ length inside = omega arith in
+    rw (is, long, keys, drop-map (λ (n : Mention). n.key) s ns, take-map (λ (n : Mention). n.key) (length inside) (drop s ns)) (ap (map (λ (n : Mention). n.key)) (sym place))
 
 pub keys_order : (ns : List Mention) → AreInOrder ns → IsNonDecreasing (map (λ (n : Mention). n.key) ns)
 keys_order ns up i j d le lt =

@@ -1,14 +1,11 @@
 -- The main theorem says the same in the words of each version.
-use Rattle.std.proofs.Common.{◌≡◌, ◌⊎◌, inl, inr, ℕ, zero, suc, Bool, true, false, not, ◌&&◌, List, [], ◌∷◌, Option, Some, None, refl, sym, ap, subst, ◌∙◌, arith, ⊎_elim, ◌≢◌, ◌↔◌, slice_get, filter}
-use Rattle.vic_verdict.proofs.Words.{cases_eq, and_parts, and_from, both_ways, false_from_ne_true, not-true, has, AreDifferent, Entry, Silent, Collision, Heard, Garbled, FieldCycle, LogLine, entries, IsPopulation, answers_at, CouldHaveGiven, silences, wakes, is_quiet, mask_at, lies_in_some, has_here, has_there, has_cases, has_filter, AreDifferent-population, AreDifferent-filter, IsVerdict, Complete}
-use Rattle.std.proofs.lemmas.Bool.{or_parts}
+use Rattle.std.proofs.Common.{◌≡◌, ◌⊎◌, inl, inr, ℕ, zero, suc, Bool, true, false, not, ◌&&◌, List, [], ◌∷◌, Option, Some, None, refl, sym, ap, subst, ◌∙◌, arith, ⊎_elim, ◌↔◌, slice_get, filter}
+use Rattle.vic_verdict.proofs.Words.{cases_eq, and_parts, and_from, both_ways, false_from_ne_true, not-true, has, AreDifferent, Entry, Silent, Collision, Heard, Garbled, FieldCycle, LogLine, entries, IsPopulation, answers_at, CouldHaveGiven, silences, wakes, is_quiet, mask_at, lies_in_some, has_here, has_there, has_cases, has_filter, AreDifferent-population, AreDifferent-filter, IsVerdict, Complete, or_parts, filter_has, IsWhole, has_at}
 use Rattle.vic_log.specs.FirstVersion.{AreOfFirstVersion, CouldHaveGivenFirst}
 use Rattle.vic_log.specs.Populations.{Outcome, Nobody, Lone, Several, outcome_of, outcome_at, Fits}
 use Rattle.vic_log.proofs.FirstVersion.{given-first}
 use Rattle.vic_log.proofs.Quiet.{quiet-silenced}
-use Rattle.vic_log.proofs.Sets.{filter_has}
 use Rattle.vic_verdict.specs.TwoVersions.{HasExactlyListed, IsWholeFirst, IsReady, Answers, AnswersAlone, SeveralAnswer, IsToldOf, CouldHaveGivenSecond, IsWholeSecond}
-use Rattle.vic_verdict.specs.Verdict.{IsWhole}
 use Rattle.vic_verdict.proofs.Verdicts.{complete_whole}
 
 -- ---- Ready tags
@@ -54,12 +51,6 @@ member-answers p es i u h =
 
 -- ---- outcomes, by the members of a list
 
-only : (x u : ℕ) → has (x ∷ []) u ≡ true → u ≡ x
-only x u h = ⊎_elim (λ e. e) (λ k. cc) (has_cases u x [] h)
-
-differ : (x y : ℕ) (xs : List ℕ) → AreDifferent (x ∷ y ∷ xs) → x ≢ y
-differ x y xs d e = both_ways (has (y ∷ xs) x) d.0 (subst (λ z. has (y ∷ xs) z ≡ true) (sym e) (has_here y xs))
-
 -- no tag answers, one does, or several, and that is the outcome
 abbrev IsOutcome : List ℕ → List Entry → ℕ → Outcome → Type 0
 IsOutcome p es i o =
@@ -68,8 +59,8 @@ IsOutcome p es i o =
 
 is_outcome : (p : List ℕ) (es : List Entry) (i : ℕ) (xs : List ℕ) → AreDifferent xs → ((u : ℕ) → Answers p es i u → has xs u ≡ true) → ((u : ℕ) → has xs u ≡ true → Answers p es i u) → IsOutcome p es i (outcome_of xs)
 is_outcome p es i [] d to from = inl (refl, λ u a. let h = to u a in cc)
-is_outcome p es i (x ∷ []) d to from = inr (inl (x, refl, (from x (has_here x []), λ v a. only x v (to v a))))
-is_outcome p es i (x ∷ y ∷ xs) d to from = inr (inr (refl, (x, y, differ x y xs d, from x (has_here x (y ∷ xs)), from y (has_there y x (y ∷ xs) (has_here y xs)))))
+is_outcome p es i (x ∷ []) d to from = inr (inl (x, refl, (from x (has_here x []), λ v a. ⊎_elim (λ e. e) (λ k. cc) (has_cases v x [] (to v a)))))
+is_outcome p es i (x ∷ y ∷ xs) d to from = inr (inr (refl, (x, y, (λ e. both_ways _ d.0 (has_at x y xs e)), from x (has_here x (y ∷ xs)), from y (has_there y x (y ∷ xs) (has_here y xs)))))
 
 not_several : (p : List ℕ) (es : List Entry) (i x : ℕ) → ((v : ℕ) → Answers p es i v → v ≡ x) → SeveralAnswer p es i → ⊥
 not_several p es i x alone s = s.2 (alone s.0 s.3 ∙ sym (alone s.1 s.4))

@@ -1,14 +1,13 @@
 -- Each log has exactly one verdict.
-use Rattle.std.proofs.Common.{◌≡◌, ℕ, suc, ◌<◌, ◌≤◌, ◌+◌, ◌^◌, List, [], ◌∷◌, ◌++◌, length, Bool, true, false, cond, refl, sym, ap, ◌∙◌, subst, arith, inl, inr, ⊎_elim, ◌⊎◌, ◌↔◌, nat_le, leb, filter, le_refl, le_of_lt, le-leb, leb-true, leb-false}
-use Rattle.vic_verdict.proofs.Words.{cases_Bool, cases_lt, both_ways, false≢true, BitMask, Entry, LogLine, Impossible, Complete, lies_in, has, is_uid, IsUid, IsPossible, IsPossibleUid, IsCertainUid, entries, IsRisingFrom, listed, IsAbsent, IsUnlisted, IsUnsettled, IsDoubtful, IsLeast, IsFirstMask, NoSuch, IsVerdict, has_cases, is_uid_from, IsUid-from}
-use Rattle.std.proofs.lemmas.Bool.{true_from_ne_false, lt-leb}
+use Rattle.std.proofs.Common.{◌≡◌, ℕ, suc, ◌<◌, ◌≤◌, ◌+◌, ◌^◌, List, [], ◌∷◌, ◌++◌, length, Bool, true, false, cond, refl, sym, ap, ◌∙◌, subst, arith, inl, inr, ⊎_elim, ◌⊎◌, ◌↔◌, nat_le, leb, filter, le_refl, le_of_lt, le-leb, leb-true, leb-false, sum_by}
+use Rattle.vic_verdict.proofs.Words.{cases_Bool, cases_lt, both_ways, BitMask, Entry, LogLine, Impossible, Complete, lies_in, has, is_uid, IsUid, IsPossible, IsPossibleUid, IsCertainUid, entries, IsRisingFrom, listed, IsAbsent, IsUnlisted, IsUnsettled, IsDoubtful, IsLeast, IsFirstMask, NoSuch, IsVerdict, is_uid_from, IsUid-from, true_from_ne_false, lt-leb, IsUid-member, entries_to, IsWhole, IsReached}
+use Rattle.vic_verdict.proofs.Failing.{place_of}
+use Rattle.std.proofs.lemmas.List.Sums.{sum_by_more_le}
 use Rattle.vic_log.specs.declared.entry.Version.{Version}
 use Rattle.vic_log.specs.Log.{IsLog}
 use Rattle.vic_verdict.specs.LogLines.{AreLogLines}
 use Rattle.vic_verdict.specs.declared.judging.Verdict.{Verdict}
 use Rattle.vic_verdict.specs.declared.judging.Verdict.TheVariants.{Absent, Unlisted, Unsettled, Doubtful}
-use Rattle.vic_verdict.specs.Verdict.{entries_to, IsWhole, IsReached}
-use Rattle.vic_log.proofs.Sets.{IsUid-member}
 use Rattle.vic_verdict.proofs.Search.{Either, test_either, false_either, not_either, and_either, least_of, least_or_none}
 use Rattle.vic_verdict.proofs.Populations.{uid_end, uid_below}
 use Rattle.vic_verdict.proofs.Possibility.{IsPossible-front, Heard-certain}
@@ -34,9 +33,7 @@ entries_to_front n m k (l ∷ lines) le r =
     let front = entries_to_front n m l.number lines le r.1 in
     let all = entries_to m (l ∷ lines) in
     ⊎_elim
-    (λ yes.
-    let within : l.number ≤ n = leb-true l.number n yes in
-    (front.0, ap (λ b. line_kept n l lines b ++ front.0) yes ∙ (ap (λ es. l.item ∷ es) front.1 ∙ sym (ap (line_kept m l lines) (le-leb l.number m (omega arith))))))
+    (λ yes. (front.0, ap (λ b. line_kept n l lines b ++ front.0) yes ∙ (ap (λ es. l.item ∷ es) front.1 ∙ sym (ap (line_kept m l lines) (le-leb l.number m (omega (arith, leb-true l.number n yes)))))))
     (λ out. (all, ap (λ es. es ++ all) (ap (line_kept n l lines) out ∙ none_to n l.number lines (le_of_lt (leb-false l.number n out)) r.1)))
     (cases_Bool (leb l.number n))
 
@@ -51,17 +48,12 @@ all_to n [] h = refl
 all_to n (l ∷ lines) h =
     ap (λ b. entries (cond b (l ∷ filter (λ x. nat_le x.number n) lines) (filter (λ x. nat_le x.number n) lines))) (le-leb l.number n (omega arith)) ∙ ap (λ es. l.item ∷ es) (all_to n lines (omega arith))
 
--- the lines 1 to n are possible where more lines are
-pub possible_less : (lines : List LogLine) → IsRisingFrom 0 lines → (n m : ℕ) → n ≤ m → IsPossible (entries_to m lines) → IsPossible (entries_to n lines)
-possible_less lines r n m le p =
-    let front = entries_to_front n m 0 lines le r in
-    IsPossible-front (entries_to n lines) front.0 (subst IsPossible (sym front.1) p)
-
 -- a possible log has no impossible line
 pub possible_to : (lines : List LogLine) → IsRisingFrom 0 lines → IsPossible (entries lines) → (n : ℕ) → IsPossible (entries_to n lines)
 possible_to lines r p n =
-    let m = n + last_line lines in
-    possible_less lines r n m (omega arith) (subst IsPossible (sym (all_to m lines (omega arith))) p)
+    let all = n + last_line lines in
+    let front = entries_to_front n all 0 lines (omega arith) r in
+    IsPossible-front (entries_to n lines) front.0 (subst IsPossible (sym (front.1 ∙ all_to all lines (omega arith))) p)
 
 -- numbers that rise above 1 rise above 0
 pub rising_lower : (lines : List LogLine) → IsRisingFrom 1 lines → IsRisingFrom 0 lines
@@ -112,19 +104,10 @@ one_verdict lines r (Complete c1) (Complete c2) h k = ap Complete (h.5 ∙ sym k
 abbrev OrNone : (ℕ → Type 0) → Type 0
 OrNone P = ((u : ℕ) × IsLeast P u) ⊎ NoSuch P
 
--- a number above each member
-above : List ℕ → ℕ
-above [] = 0
-above (u ∷ us) = suc u + above us
-
-below_above : (us : List ℕ) (u : ℕ) → has us u ≡ true → u < above us
-unfolding above
-below_above [] u h = absurd (false≢true h)
-below_above (x ∷ us) u h =
-    ⊎_elim (λ e. omega arith) (λ k. let b = below_above us u k in omega arith) (has_cases u x us h)
-
 listed_or_none : (es : List Entry) (P : ℕ → Type 0) → ((u : ℕ) → Either (P u)) → OrNone (λ u. (has (listed es) u ≡ true) × (P u → ⊥))
-listed_or_none es P d = least_or_none _ (λ u. and_either (test_either (has (listed es) u)) (not_either (d u))) (above (listed es)) (λ u h. below_above (listed es) u h.0)
+listed_or_none es P d =
+    least_or_none _ (λ u. and_either (test_either (has (listed es) u)) (not_either (d u))) (suc (sum_by (λ (u : ℕ). u) (listed es)))
+    (λ u h. let k = place_of (listed es) u 0 h.0 in omega (arith, sum_by_more_le (λ (v : ℕ). v) (listed es) k.0 0 k.1, k.2))
 
 unlisted_or_none : (es : List Entry) → IsPossible es → OrNone (IsUnlisted es)
 unlisted_or_none es p =

@@ -1,6 +1,5 @@
-use Rattle.std.proofs.Common.{◌≡◌, ◌+◌, ◌<◌, ◌≤◌, length, take, sym, ◌∙◌, subst, arith, eqb-true, take_all}
-use Rattle.vic_verdict.proofs.Words.{false≢true, Gathers, IsReadyIn}
-use Rattle.vic_tree.proofs.GatheringLaws.{gathers_full}
+use Rattle.std.proofs.Common.{◌+◌, ◌<◌, ◌≤◌, length, take, sym, ◌∙◌, subst, arith, eqb-true, take_all}
+use Rattle.vic_verdict.proofs.Words.{false≢true, Gathers, IsReadyIn, gathers_full}
 use Rattle.vic_verdict.proofs.Ready.{gathers_none, ready_more, ready_other, ready_so_far}
 use Rattle.vic_verdict.proofs.answering.gather_ready.Goals as goal
 use Rattle.vic_verdict.proofs.answering.gather_ready.Goals.{then-at-quiet, else-at-quiet}
@@ -22,8 +21,7 @@ loop-mention-preserved c =
 
 pub returns-then-is_full : goal.returns-then-is_full
 returns-then-is_full c =
-    let full : length c.loop-mention.uids.items ≡ 3 = eqb-true _ 3 (sym c.is_full.ensures.value ∙ c.if-is_full.true) in
-    gathers_full _ _ _ _ (λ u p. ready_so_far c.args.mentions.now c.loop-mention.mention-index c.args.at u p) (omega arith) c.loop-mention.invariant
+    gathers_full _ _ _ _ (λ u p. ready_so_far c.args.mentions.now c.loop-mention.mention-index c.args.at u p) (omega (arith, eqb-true (length c.loop-mention.uids.items) 3 (sym c.is_full.ensures.value ∙ c.if-is_full.true))) c.loop-mention.invariant
 
 pub returns : goal.returns
 returns c = subst (λ ns. Gathers (IsReadyIn ns c.args.at) c.args.uids.now.items c.loop-mention.uids.items) (take_all c.loop-mention.mention-index c.args.mentions.now c.loop-mention-test.false) c.loop-mention.invariant

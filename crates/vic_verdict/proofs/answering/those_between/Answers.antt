@@ -1,6 +1,5 @@
-use Rattle.std.proofs.Common.{◌≡◌, ◌+◌, [], length, take, sym, ◌∙◌, subst, arith, eqb-true, take_all}
-use Rattle.vic_verdict.proofs.Words.{mirror, Gathers, HasInside}
-use Rattle.vic_tree.proofs.GatheringLaws.{gathers_full}
+use Rattle.std.proofs.Common.{◌+◌, [], length, take, sym, ◌∙◌, subst, arith, eqb-true, take_all}
+use Rattle.vic_verdict.proofs.Words.{mirror, Gathers, HasInside, gathers_full}
 use Rattle.vic_verdict.proofs.Closing.{between_from}
 use Rattle.vic_verdict.proofs.Ready.{gathers_none, inside_more, inside_other, inside_so_far}
 use Rattle.vic_verdict.proofs.Sweeping.{between_parts}
@@ -28,8 +27,7 @@ loop-uid-preserved c =
 
 pub returns-then-is_full : goal.returns-then-is_full
 returns-then-is_full c =
-    let full : length c.loop-uid.inside.items ≡ 3 = eqb-true _ 3 (sym c.is_full.ensures.value ∙ c.if-is_full.true) in
-    gathers_full _ _ _ _ (λ u p. inside_so_far c.args.uids.now c.loop-uid.uid-index c.args.first c.args.last u p) (omega arith) c.loop-uid.invariant
+    gathers_full _ _ _ _ (λ u p. inside_so_far c.args.uids.now c.loop-uid.uid-index c.args.first c.args.last u p) (omega (arith, eqb-true (length c.loop-uid.inside.items) 3 (sym c.is_full.ensures.value ∙ c.if-is_full.true))) c.loop-uid.invariant
 
 pub returns : goal.returns
 returns c = subst (λ us. Gathers (HasInside us c.args.first c.args.last) [] c.loop-uid.inside.items) (take_all c.loop-uid.uid-index c.args.uids.now c.loop-uid-test.false) c.loop-uid.invariant

@@ -1,8 +1,6 @@
 use Rattle.std.proofs.Common.{ℕ, List, ◌-◌, length, sym, ◌∙◌, subst, arith, All}
-use Rattle.vic_verdict.proofs.Words.{All-push, UpToThree, is_mentioned}
-use Rattle.std.proofs.lemmas.List.Elements.{All-take}
+use Rattle.vic_verdict.proofs.Words.{All-push, UpToThree, is_mentioned, All-take, IsUnmentioned, is_unmentioned, is_unmentioned_in}
 use Rattle.vic_verdict.specs.declared.answering.Unmentioned.{Unmentioned}
-use Rattle.vic_verdict.specs.inner.Answering.{IsUnmentioned, is_unmentioned, is_unmentioned_in}
 use Rattle.vic_verdict.proofs.Ready.{found_besides}
 use Rattle.vic_verdict.proofs.answering.unmentioned_in.Goals as goal
 

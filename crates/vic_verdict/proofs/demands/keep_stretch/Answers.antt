@@ -1,7 +1,6 @@
 use Rattle.std.proofs.Common.{◌≡◌, ◌∙◌, List, [], ◌∷◌, length, ap, sym, subst, inl, inr, refl, rules, nat_lt, IsPermutation}
-use Rattle.vic_verdict.proofs.Words.{Demand}
+use Rattle.vic_verdict.proofs.Words.{Demand, demands_to}
 use Rattle.std.proofs.lemmas.Fn.{filter_same}
-use Rattle.vic_verdict.specs.inner.Asked.{demands_to}
 use Rattle.vic_verdict.proofs.demands.keep_stretch.Goals as goal
 
 none : (ds : List Demand) → length ds ≡ 0 → ds ≡ []

@@ -20,12 +20,11 @@ loop-index-preserved g c = record {
         | then-not-is_asked_again+in_ok-uids+else-len-need+in_ok-push w ↦
             let d = get_or ds k no_demand in
             let is : d ≡ get_or ds k d = get_or_default ds k no_demand d c.loop-index-test.true in
-            let asked = subst (IsDemandBy es c.args.mentions.now) (sym is) (h k d c.loop-index-test.true) in
             let f : Found = record { at = w.place-at.result; need = w.from-need.result; uids = w.in_ok-uids.uids } in
             let need : f.need ≡ d.need = w.from-need.ensures in
             subst (λ v. AreMetTo es ds (k + 1) c.args.found.now.items v.items) (sym w.found-is)
             (met_found es ds k d f c.args.found.now.items c.loop-index.found.items w.push.new.self.items c.loop-index-test.true is w.in_ok-push.ensures.items
-            (found_at es (g.S.OpenSet.is_open c.args.set.now) c.args.mentions.now d f same asked w.in_ok-uids.ensures.uids w.place-at.ensures need (let long = w.if-len-need.false in let len = w.len.ensures.value in omega arith)) need before)
+            (found_at es (g.S.OpenSet.is_open c.args.set.now) c.args.mentions.now d f same (subst (IsDemandBy es c.args.mentions.now) (sym is) (h k d c.loop-index-test.true)) w.in_ok-uids.ensures.uids w.place-at.ensures need (let long = w.if-len-need.false in let len = w.len.ensures.value in omega arith)) need before)
         | else-not-is_asked_again w ↦
             subst (λ v. AreMetTo es ds (k + 1) c.args.found.now.items v.items) (sym w.found-is)
             (met_skipped es ds k c.args.found.now.items c.loop-index.found.items c.loop-index-test.true (c.is_asked_again.ensures w.if-not-is_asked_again.false) before)

@@ -1,6 +1,5 @@
-use Rattle.std.proofs.Common.{◌≡◌, List, length, sym, subst, arith, All}
-use Rattle.vic_verdict.proofs.Words.{Entry, Demand, Stretch, Mention, IsDemandBy, AreInOrder, HaveKeys}
-use Rattle.vic_verdict.specs.inner.Asked.{HasBlock, HasBlocks, HasMentionsInOrder, IsKept}
+use Rattle.std.proofs.Common.{◌≡◌, List, length, sym, subst, arith, All, ℕ, ◌<◌, get_or}
+use Rattle.vic_verdict.proofs.Words.{Entry, Demand, Stretch, Mention, IsDemandBy, AreInOrder, HaveKeys, HasBlock, HasBlocks, HasMentionsInOrder, IsKept, AreKept}
 use Rattle.vic_verdict.proofs.Demanding.{AreFoundTo, found_first, found_more, found_all, unmet_lacks}
 use Rattle.vic_verdict.proofs.demands.meet_stretches.Goals as goal
 
@@ -20,22 +19,20 @@ meet_each-requires-clause-blocks g c =
     subst (All HasBlock) (sym c.deref-in-loop-stretch.ensures.value) (subst HasBlocks (sym c.stretch-item.is) (c.requires.blocks c.loop-stretch.stretch-index c.stretch-item.result c.loop-stretch-test.true))
 
 -- the demands of a stretch, as they are lent
-lent : (es : List Entry) (s : Stretch) (ns : List Mention) (ds : List Demand) → ns ≡ s.mentions.items → ds ≡ s.demands.items → IsKept es (length es) s → All (IsDemandBy es ns) ds
-lent es s ns ds a b h = subst (λ xs. All (IsDemandBy es xs) ds) (sym a) (subst (All (IsDemandBy es s.mentions.items)) (sym b) h.demands)
+lent : (es : List Entry) (ss : List Stretch) (k : ℕ) (s : Stretch) (ns : List Mention) (ds : List Demand) → k < length ss → s ≡ get_or ss k s → ns ≡ s.mentions.items → ds ≡ s.demands.items → AreKept es (length es) ss → All (IsDemandBy es ns) ds
+lent es ss k s ns ds below is a b h = subst (λ xs. All (IsDemandBy es xs) ds) (sym a) (subst (All (IsDemandBy es s.mentions.items)) (sym b) (subst (IsKept es (length es)) (sym is) (h.kept k s below)).demands)
 
 pub returns-in-Some : goal.returns-in-Some
 returns-in-Some g c es same kept =
-    let s = subst (IsKept es (length es)) (sym c.stretch-item.is) (kept.kept c.loop-stretch.stretch-index c.stretch-item.result c.loop-stretch-test.true) in
     unmet_lacks es (g.S.OpenSet.is_open c.args.set.now) _ _ c.in-Some.at same
-    (lent es c.stretch-item.result _ _ c.deref.ensures.value c.deref-in-loop-stretch.ensures.value s)
+    (lent es c.args.stretches.now c.loop-stretch.stretch-index c.stretch-item.result _ _ c.loop-stretch-test.true c.stretch-item.is c.deref.ensures.value c.deref-in-loop-stretch.ensures.value kept)
     (rw c.in-Some.is at c.in_ok-unmet.ensures.unmet)
 
 pub loop-stretch-preserved : goal.loop-stretch-preserved
 loop-stretch-preserved g c es same kept =
     let k = c.loop-stretch.stretch-index in
-    let s = subst (IsKept es (length es)) (sym c.stretch-item.is) (kept.kept k c.stretch-item.result c.loop-stretch-test.true) in
     found_more es c.args.stretches.now k c.stretch-item.result c.deref-in-loop-stretch.result.now c.loop-stretch.found.items _ c.loop-stretch-test.true c.stretch-item.is c.deref-in-loop-stretch.ensures.value
-    (c.in_ok-unmet.ensures.met es same (lent es c.stretch-item.result _ _ c.deref.ensures.value c.deref-in-loop-stretch.ensures.value s) c.in_default.is)
+    (c.in_ok-unmet.ensures.met es same (lent es c.args.stretches.now c.loop-stretch.stretch-index c.stretch-item.result _ _ c.loop-stretch-test.true c.stretch-item.is c.deref.ensures.value c.deref-in-loop-stretch.ensures.value kept) c.in_default.is)
     (c.loop-stretch.invariant es same kept)
 
 pub returns : goal.returns

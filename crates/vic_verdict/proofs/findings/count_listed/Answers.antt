@@ -1,4 +1,4 @@
-use Rattle.std.proofs.Common.{◌≡◌, Some, length, take, refl, ap, ◌∙◌, arith, add-one, [], ◌∷◌, slice_get, length-append}
+use Rattle.std.proofs.Common.{length, take, refl, ap, ◌∙◌, arith, add-one, [], ◌∷◌, length-append}
 use Rattle.vic_verdict.proofs.Words.{slice_get_read, entries, listed}
 use Rattle.vic_verdict.proofs.Listing.{listed_more, number_above}
 use Rattle.vic_verdict.proofs.findings.count_listed.Goals as goal
@@ -8,16 +8,14 @@ overflow_add-count c =
     let lines = c.args.lines.now in
     let i = c.loop-line.line-index in
     let l = c.line-item.result in
-    let at : slice_get lines i ≡ Some l = slice_get_read lines (length lines) i l refl c.loop-line-test.true c.line-item.is in
-    omega (arith, number_above 0 lines i l c.requires at, c.loop-line.invariant.small, c.count_one-count.ensures.small)
+    omega (arith, number_above 0 lines i l c.requires (slice_get_read lines (length lines) i l refl c.loop-line-test.true c.line-item.is), c.loop-line.invariant.small, c.count_one-count.ensures.small)
 
 pub loop-line-preserved : goal.loop-line-preserved
 loop-line-preserved c =
     let lines = c.args.lines.now in
     let i = c.loop-line.line-index in
     let l = c.line-item.result in
-    let at : slice_get lines i ≡ Some l = slice_get_read lines (length lines) i l refl c.loop-line-test.true c.line-item.is in
-    let more = ap length (listed_more lines i l at) ∙ length-append (listed (entries (take i lines))) (listed (l.item ∷ [])) in
+    let more = ap length (listed_more lines i l (slice_get_read lines (length lines) i l refl c.loop-line-test.true c.line-item.is)) ∙ length-append (listed (entries (take i lines))) (listed (l.item ∷ [])) in
     let next = ap (λ n. length (listed (entries (take n lines)))) (add-one i) in
     let one = c.count_one-count.ensures.value ∙ ap (λ e. length (listed (e ∷ []))) c.item.ensures in
     record { value = omega (arith, c.loop-line.invariant.value); small = omega (arith, c.loop-line.invariant.small, c.count_one-count.ensures.small) }

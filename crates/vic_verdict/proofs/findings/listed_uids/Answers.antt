@@ -1,4 +1,4 @@
-use Rattle.std.proofs.Common.{◌≡◌, Some, length, take, refl, sym, ap, ◌∙◌, add-one, ⊎_elim, ◌++◌, [], ◌∷◌, nat_eq, slice_get}
+use Rattle.std.proofs.Common.{length, take, refl, sym, ap, ◌∙◌, add-one, ⊎_elim, ◌++◌, [], ◌∷◌, nat_eq}
 use Rattle.vic_verdict.proofs.Words.{list_any, or_cases, list_any-append, slice_get_read, has, entries, listed}
 use Rattle.vic_verdict.proofs.Listing.{listed_more}
 use Rattle.vic_verdict.proofs.findings.listed_uids.Goals as goal
@@ -8,11 +8,10 @@ loop-line-preserved c =
     let lines = c.args.lines.now in
     let i = c.loop-line.line-index in
     let l = c.line-item.result in
-    let at : slice_get lines i ≡ Some l = slice_get_read lines (length lines) i l refl c.loop-line-test.true c.line-item.is in
     let items = c.in_ok-pass_listed.ensures.items ∙ ap (λ e. c.loop-line.uids.items ++ listed (e ∷ [])) c.item.ensures in
     let grown = ap (λ us. us ++ listed (l.item ∷ [])) c.loop-line.invariant.items in
     record {
-      items = items ∙ (grown ∙ (sym (listed_more lines i l at) ∙ ap (λ n. listed (entries (take n lines))) (sym (add-one i))));
+      items = items ∙ (grown ∙ (sym (listed_more lines i l (slice_get_read lines (length lines) i l refl c.loop-line-test.true c.line-item.is)) ∙ ap (λ n. listed (entries (take n lines))) (sym (add-one i))));
       uids = λ u h.
           ⊎_elim
           (λ a. c.loop-line.invariant.uids u a)

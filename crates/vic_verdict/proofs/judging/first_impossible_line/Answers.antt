@@ -1,6 +1,5 @@
 use Rattle.std.proofs.Common.{◌≡◌, ℕ, ◌+◌, ◌<◌, length, take, get_or, sym, ap, subst, ◌∙◌, arith, add-one, inl, inr, ⊎_elim, MatchResult}
-use Rattle.vic_verdict.proofs.Words.{cases_lt, SameUids, LogLine, entries, slots_of, is_open, IsMet, IsPossible, IsContradiction, IsVerdict, Impossible}
-use Rattle.std.proofs.lemmas.Option.{slice_get-get_or}
+use Rattle.vic_verdict.proofs.Words.{cases_lt, SameUids, LogLine, entries, slots_of, is_open, IsMet, IsPossible, IsContradiction, IsVerdict, Impossible, slice_get-get_or}
 use Rattle.vic_verdict.proofs.FirstLine.{first_impossible}
 use Rattle.vic_verdict.proofs.Halving.{Between, between_first, between_more, between_earlier, between_raised, first_front, front_contradiction}
 use Rattle.vic_verdict.proofs.judging.first_impossible_line.Goals as goal
@@ -46,5 +45,4 @@ returns g c =
     let within : last < length lines = let w = b.within in omega arith in
     let end : c.loop-low.low ≡ last = let o = b.ordered in omega arith in
     let l = get_or lines last c.index-lines-last.result in
-    let number : c.number.result ≡ l.number = c.number.ensures ∙ ap (λ (x : LogLine). x.number) c.index-lines-last.is in
-    subst (λ n. IsVerdict lines (Impossible n)) (sym number) (first_impossible lines last l c.requires.lines.rising (slice_get-get_or lines last c.index-lines-last.result within) (subst (λ n. IsPossible (entries (take n lines))) end b.possible) (subst (λ (n : ℕ). IsPossible (entries (take n lines)) → ⊥) (add-one last) b.impossible))
+    subst (λ n. IsVerdict lines (Impossible n)) (sym (c.number.ensures ∙ ap (λ (x : LogLine). x.number) c.index-lines-last.is)) (first_impossible lines last l c.requires.lines.rising (slice_get-get_or lines last c.index-lines-last.result within) (subst (λ n. IsPossible (entries (take n lines))) end b.possible) (subst (λ (n : ℕ). IsPossible (entries (take n lines)) → ⊥) (add-one last) b.impossible))

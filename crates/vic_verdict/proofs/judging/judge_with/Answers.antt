@@ -1,5 +1,5 @@
-use Rattle.std.proofs.Common.{List, subst, length, IfOk}
-use Rattle.vic_verdict.proofs.Words.{IfOk-weaker, LogLine, entries, listed, IsRisingFrom, Complete, IsVerdict}
+use Rattle.std.proofs.Common.{subst, length}
+use Rattle.vic_verdict.proofs.Words.{IfOk-weaker, entries, listed, IsRisingFrom, Complete, IsVerdict}
 use Rattle.vic_verdict.proofs.Verdicts.{rising_lower, first_lines, complete_count, reached_complete, one_verdict}
 use Rattle.vic_verdict.proofs.TwoVersions.{complete_second}
 use Rattle.vic_verdict.proofs.judging.judge_with.Goals as goal
@@ -10,18 +10,15 @@ judge_lines-requires g c = first_lines c.args.log.now.version c.lines.result.now
 pub returns-clause-whole : goal.returns-clause-whole
 returns-clause-whole g c =
     let lines = c.args.log.now.lines in
-    let verdict = subst (λ (ls : List LogLine). IfOk c.judge_lines.result (IsVerdict ls)) c.lines.ensures.value c.judge_lines.ensures in
-    IfOk-weaker c.judge_lines.result (IsVerdict lines) _ (λ v h count e. complete_count lines count (subst (IsVerdict lines) e h)) verdict
+    IfOk-weaker c.judge_lines.result (IsVerdict lines) _ (λ v h count e. complete_count lines count (subst (IsVerdict lines) e h)) (rw c.lines.ensures.value at c.judge_lines.ensures)
 
 pub returns-clause-second : goal.returns-clause-second
 returns-clause-second g c =
     let lines = c.args.log.now.lines in
-    let verdict = subst (λ (ls : List LogLine). IfOk c.judge_lines.result (IsVerdict ls)) c.lines.ensures.value c.judge_lines.ensures in
-    IfOk-weaker c.judge_lines.result (IsVerdict lines) _ (λ v h count e. complete_second lines count (subst (IsVerdict lines) e h)) verdict
+    IfOk-weaker c.judge_lines.result (IsVerdict lines) _ (λ v h count e. complete_second lines count (subst (IsVerdict lines) e h)) (rw c.lines.ensures.value at c.judge_lines.ensures)
 
 pub returns-clause-reached : goal.returns-clause-reached
 returns-clause-reached g c =
     let lines = c.args.log.now.lines in
-    let verdict = subst (λ (ls : List LogLine). IfOk c.judge_lines.result (IsVerdict ls)) c.lines.ensures.value c.judge_lines.ensures in
     let rising = rising_lower lines (subst (IsRisingFrom 1) c.lines.ensures.value c.lines.ensures.log.rising) in
-    IfOk-weaker c.judge_lines.result (IsVerdict lines) _ (λ v h r. one_verdict lines rising v (Complete (length (listed (entries lines)))) h (reached_complete lines r)) verdict
+    IfOk-weaker c.judge_lines.result (IsVerdict lines) _ (λ v h r. one_verdict lines rising v (Complete (length (listed (entries lines)))) h (reached_complete lines r)) (rw c.lines.ensures.value at c.judge_lines.ensures)

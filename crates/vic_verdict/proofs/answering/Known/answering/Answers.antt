@@ -1,9 +1,6 @@
 use Rattle.std.proofs.Common.{◌≡◌, ◌^◌, ◌<◌, ℕ, refl, sym, ap, ◌∙◌, subst}
-use Rattle.vic_verdict.proofs.Words.{is_in_block, is_between, Mention, has_where}
+use Rattle.vic_verdict.proofs.Words.{is_in_block, is_between, Mention, has_where, All-map, AreKeys, is_awake}
 use Rattle.std.specs.List.Sorted.{IsNonDecreasing}
-use Rattle.std.proofs.lemmas.List.Elements.{All-map}
-use Rattle.vic_tree.specs.OpenSet.{AreKeys}
-use Rattle.vic_verdict.specs.inner.Answering.{is_awake}
 use Rattle.vic_verdict.proofs.Ready.{both_answering, keys_order, keys_part, mentioned_in}
 use Rattle.vic_verdict.proofs.answering.Known.answering.Goals as goal
 
