@@ -44,8 +44,7 @@ meets_again es ns d next f h g said m = record {
       let uid = IsUid-from u (and_parts (is_uid u) _ w.0).0 in
       let ready = and_parts _ _ (g.answers u uid ∙ w.1) in
       let inside = ap (λ n. is_in_block n d.len (mirror u)) said.first ∙ (ap (λ n. is_in_block next.first n (mirror u)) said.len ∙ ready.0) in
-      let awake = not_from_false _ (false_from_ne_true _ (λ k. both_ways _ (not-true _ ready.1) (silenced_later ns (mirror u) d.at next.at said.later k))) in
-      and_from _ _ w.0 (sym (h.answers u uid) ∙ and_from _ _ inside awake);
+      and_from _ _ w.0 (sym (h.answers u uid) ∙ and_from _ _ inside (not_from_false _ (false_from_ne_true _ (λ k. both_ways _ (not-true _ ready.1) (silenced_later ns (mirror u) d.at next.at said.later k)))));
 }
 
 -- ---- a demand that is not

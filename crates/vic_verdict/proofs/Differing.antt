@@ -1,6 +1,6 @@
 -- How a list differs from what logs tell, and that the first difference is the verdict.
 use Rattle.std.proofs.Common.{◌≡◌, ℕ, ◌≤◌, ◌<◌, ◌^◌, List, ◌++◌, Bool, true, false, not, ◌&&◌, ◌||◌, Option, Some, None, sym, ap, ◌∙◌, arith, inl, inr, ⊎_elim, ◌↔◌, ◌⊎◌, nat_eq, IfSome, IfNone, MatchOption}
-use Rattle.vic_verdict.proofs.Words.{and_parts, and_from, both_ways, cases_Bool, not-true, not_from_false, false_from_ne_true, or_cases, or_left, or_right, list_any-append, IsUid, has, BitMask, lies_in, SameUids, Entry, listed, AreKeysOf, IsPossible, IsPossibleUid, IsCertainUid, IsFailing, IsListOf, SameMembers, IsAbsent, IsUnlisted, IsUnsettled, IsDoubtful, IsLeast, IsFirstMask, NoSuch, IsWidest, without_keys}
+use Rattle.vic_verdict.proofs.Words.{and_parts, and_from, both_ways, cases_Bool, not-true, not_from_false, false_from_ne_true, or_cases, or_left, or_right, list_any-append, IsUid, has, BitMask, lies_in, SameUids, Entry, listed, AreKeysOf, IsPossible, IsPossibleUid, IsCertainUid, IsFailing, IsListOf, SameMembers, IsAbsent, IsUnlisted, IsUnsettled, IsDoubtful, IsLeast, IsFirstMask, NoSuch, IsWidest, without_keys, true_from_ne_false}
 use Rattle.vic_frame.specs.declared.uid.TheConstants.{UID_BITS}
 use Rattle.vic_tree.proofs.BoolLaws.{same_tests}
 use Rattle.vic_tree.proofs.SetLaws.{widest_same}
@@ -99,8 +99,7 @@ doubtful_list P C set certain us all some absent doubtful f l un out h =
     list_as (IsFailing some (has absent)) (λ u. (has all u ≡ true) × (P u × (C u → ⊥))) doubtful (λ u. (
       (λ k.
           let w = (un.members u).0 k.0 in
-          let open_ : set u ≡ true = ⊎_elim (λ e. e) (λ e. absurd (both_ways (has absent u) k.1 ((out.members u).1 ((w.0, e), w.1)))) (cases_Bool (set u)) in
-          (sym (l.members u) ∙ w.0, (open_iff P C set certain u f (l.are_uids u w.0)).0 (open_, w.1))),
+          (sym (l.members u) ∙ w.0, (open_iff P C set certain u f (l.are_uids u w.0)).0 (true_from_ne_false _ (λ e. both_ways (has absent u) k.1 ((out.members u).1 ((w.0, e), w.1))), w.1))),
       (λ k.
           let member = l.members u ∙ k.0 in
           let w = (open_iff P C set certain u f (l.are_uids u member)).1 k.1 in

@@ -52,8 +52,7 @@ with_possible es x us vs possible i p g rising same =
 pub unsettled_shown : (lines : List LogLine) (m : Met) (us vs : List ℕ) (k : BitMask) (x : ℕ) → IsVerdict lines (Unsettled k) → IsMet (entries lines) m → IsStrictlyIncreasing us → SameMembers us (gathered None m) → x ≡ least_uid_in k → IsStrictlyIncreasing vs → SameMembers vs (us ++ x ∷ []) → IsPopulationBehind (entries lines) (Unsettled k) vs
 unsettled_shown lines m us vs k x v met rising same is rising' same' =
     let es = entries lines in
-    let g = gathered_population es m None us v.0 (λ a e. cc) met rising same in
     let mask = v.3.0 in
     let i : IsUid x = subst IsUid (sym is) (IsUid-in k mask.0 mask.1) in
     let inside : lies_in k x ≡ true = subst (λ z. lies_in k z ≡ true) (sym is) (lies_in-uid_in k mask.0 mask.1) in
-    (with_possible es x us vs v.0 i (mask.2 x i inside).0 g rising' same', (x, inside, same' x ∙ append_right us (x ∷ []) x (has_here x [])))
+    (with_possible es x us vs v.0 i (mask.2 x i inside).0 (gathered_population es m None us v.0 (λ a e. cc) met rising same) rising' same', (x, inside, same' x ∙ append_right us (x ∷ []) x (has_here x [])))

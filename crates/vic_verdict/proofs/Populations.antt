@@ -44,8 +44,7 @@ grow ManyReplies answers set p uids i k a =
     let g = grown_one answers set p a.0 uids i k a.3 in
     let f = grown_one answers set (with_member a.0 p) a.1 uids g.0.population g.0.within a.4 in
     let w = and_parts _ _ g.1 in
-    let both : Grown set p (with_member a.1 (with_member a.0 p)) = record { population = f.0.population; keeps = λ u m. f.0.keeps u (g.0.keeps u m); within = f.0.within } in
-    (with_member a.1 (with_member a.0 p), both, (a.0, a.1, a.2, and_from _ _ (f.0.keeps a.0 w.0) w.1, f.1))
+    (with_member a.1 (with_member a.0 p), record { population = f.0.population; keeps = λ u m. f.0.keeps u (g.0.keeps u m); within = f.0.within }, (a.0, a.1, a.2, and_from _ _ (f.0.keeps a.0 w.0) w.1, f.1))
 grow SomeReply answers set p uids i k a = let g = grown_one answers set p a.0 uids i k a.1 in (with_member a.0 p, g.0, (a.0, g.1))
 
 pub supply : (set : ℕ → Bool) (slots : List Slot) → IsWithin set is_uid → SuppliesAll set slots → (p : List ℕ) × IsPopulation p × IsWithin (has p) set × SuppliesAll (has p) slots

@@ -93,8 +93,7 @@ both_answering set ns os inside b from i last us vs asked small block o alike wi
     ready u p =
         let lies = where_between (is_awake i) inside b.first last (mirror u) within p.1 in
         let w = and_parts (set u) _ (sym (key_of u p.0) ∙ (sym (alike (mirror u) lies) ∙ p.1)) in
-        let v = and_parts (is_mentioned ns (mirror u)) (not (is_quiet_by ns (mirror u) i)) w.1 in
-        and_from _ _ (and_from _ _ (is_uid_from u p.0) w.0) (and_from _ _ (sym (block (mirror u)) ∙ lies) v.1)
+        and_from _ _ (and_from _ _ (is_uid_from u p.0) w.0) (and_from _ _ (sym (block (mirror u)) ∙ lies) (and_parts (is_mentioned ns (mirror u)) (not (is_quiet_by ns (mirror u) i)) w.1).1)
 
 -- ---- a mention for each open UID that has one
 

@@ -1,6 +1,6 @@
 -- The main theorem says the same in the words of each version.
-use Rattle.std.proofs.Common.{◌≡◌, ◌⊎◌, inl, inr, ℕ, zero, suc, Bool, true, false, not, ◌&&◌, List, [], ◌∷◌, Option, Some, None, refl, sym, ap, subst, ◌∙◌, arith, ⊎_elim, ◌↔◌, slice_get, filter}
-use Rattle.vic_verdict.proofs.Words.{cases_eq, and_parts, and_from, both_ways, false_from_ne_true, not-true, has, AreDifferent, Entry, Silent, Collision, Heard, Garbled, FieldCycle, LogLine, entries, IsPopulation, answers_at, CouldHaveGiven, silences, wakes, is_quiet, mask_at, lies_in_some, has_here, has_there, has_cases, has_filter, AreDifferent-population, AreDifferent-filter, IsVerdict, Complete, or_parts, filter_has, IsWhole, has_at}
+use Rattle.std.proofs.Common.{◌≡◌, ◌⊎◌, inl, inr, ℕ, zero, suc, true, false, not, ◌&&◌, List, [], ◌∷◌, Option, Some, None, refl, sym, ap, subst, ◌∙◌, arith, ⊎_elim, ◌↔◌, slice_get, filter}
+use Rattle.vic_verdict.proofs.Words.{cases_eq, and_parts, and_from, both_ways, false_from_ne_true, not-true, has, AreDifferent, Entry, Silent, Collision, Heard, Garbled, FieldCycle, LogLine, entries, IsPopulation, answers_at, CouldHaveGiven, silences, wakes, is_quiet, mask_at, lies_in_some, has_here, has_there, has_cases, has_filter, AreDifferent-population, AreDifferent-filter, IsVerdict, Complete, or_parts, filter_has, IsWhole, has_at, and_cases, not-false}
 use Rattle.vic_log.specs.FirstVersion.{AreOfFirstVersion, CouldHaveGivenFirst}
 use Rattle.vic_log.specs.Populations.{Outcome, Nobody, Lone, Several, outcome_of, outcome_at, Fits}
 use Rattle.vic_log.proofs.FirstVersion.{given-first}
@@ -15,10 +15,6 @@ cycle_at None h = cc
 cycle_at (Some FieldCycle) h = refl
 cycle_at (Some e) h = cc
 
-unless : (w q : Bool) → (not w && q) ≡ false → (w ≡ true) ⊎ (q ≡ false)
-unless true q h = inl refl
-unless false q h = inr h
-
 not_quiet-ready : (es : List Entry) (i u : ℕ) → is_quiet es i u ≡ false → IsReady es i u
 not_quiet-ready es zero u h j below s = absurd (omega arith)
 not_quiet-ready es (suc n) u h j below s =
@@ -26,9 +22,9 @@ not_quiet-ready es (suc n) u h j below s =
     ⊎_elim
     (λ same. absurd (both_ways (silences (slice_get es j) u) (ap (λ k. silences (slice_get es k) u) same ∙ w.0) s))
     (λ ne. ⊎_elim
-    (λ woken. (n, omega arith, omega arith, cycle_at (slice_get es n) woken))
+    (λ woken. (n, omega arith, omega arith, cycle_at (slice_get es n) (not-false _ woken)))
     (λ before. let r = not_quiet-ready es n u before j (omega arith) s in (r.0, r.1, omega arith, r.3))
-    (unless (wakes (slice_get es n)) (is_quiet es n u) w.1))
+    (and_cases (not (wakes (slice_get es n))) (is_quiet es n u) w.1))
     (cases_eq j n)
 
 ready-not_quiet : (es : List Entry) (i u : ℕ) → IsReady es i u → is_quiet es i u ≡ false
@@ -85,14 +81,10 @@ told-iff p es i e o c = ((λ k. k), (λ k. k))
 
 -- ---- what a population could have produced
 
-outcome-is : (p : List ℕ) (es : List Entry) (i : ℕ) → IsPopulation p → IsOutcome p es i (outcome_at es i p)
-outcome-is p es i pop = is_outcome p es i (answerers p es i) (AreDifferent-filter (answers_at es i) p (AreDifferent-population p pop)) (answers-member p es i) (member-answers p es i)
-
 given-second : (es : List Entry) (p : List ℕ) → IsPopulation p → CouldHaveGiven p es ↔ CouldHaveGivenSecond p es
-given-second es p pop = (
-  (λ g i e k. (told-iff p es i e (outcome_at es i p) (outcome-is p es i pop)).0 (g i e k)),
-  (λ g i e k. (told-iff p es i e (outcome_at es i p) (outcome-is p es i pop)).1 (g i e k)),
-)
+given-second es p pop =
+    let told = λ (i : ℕ) (e : Entry). told-iff p es i e (outcome_at es i p) (is_outcome p es i (answerers p es i) (AreDifferent-filter (answers_at es i) p (AreDifferent-population p pop)) (answers-member p es i) (member-answers p es i)) in
+    ((λ g i e k. (told i e).0 (g i e k)), (λ g i e k. (told i e).1 (g i e k)))
 
 -- the main theorem over relations that say the same about populations
 same_headline : (F G : List ℕ → List Entry → Type 0) (es : List Entry) → ((p : List ℕ) → IsPopulation p → F p es ↔ G p es) → HasExactlyListed F es ↔ HasExactlyListed G es

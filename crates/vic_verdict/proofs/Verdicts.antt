@@ -229,11 +229,10 @@ whole_complete lines h =
 -- a log that is reached is complete
 pub reached_complete : (lines : List LogLine) → IsReached (entries lines) → IsVerdict lines (Complete (length (listed (entries lines))))
 reached_complete lines h =
-    let es = entries lines in
     whole_complete lines (
       h.0,
       λ p i g u. (
         (λ k. h.2 u (p, i, g, k)),
-        (λ k. let w = h.1 u k in subst (λ z. has p z ≡ true) w.3 (Heard-certain es w.0 w.1 w.2 p i g)),
+        (λ k. let w = h.1 u k in subst (λ z. has p z ≡ true) w.3 (Heard-certain (entries lines) w.0 w.1 w.2 p i g)),
       ),
     )

@@ -53,8 +53,8 @@ pub use Rattle.vic_verdict.specs.inner.Replies.{IsFirstQuietReply, reply_place}
 pub use Rattle.vic_verdict.specs.Rising.{IsFailing, IsListOf, SameMembers}
 pub use Rattle.vic_verdict.specs.inner.Sweep.{is_quiet_by, AreInOrder, quiet_of, has_where, keep_all, HaveKeys, is_mentioned, has_left, all_allow_to, all_allow, all_hear_mentioned, all_leave, mask_leaves, run_leaves, is_in, ArePutInOrder, heard_of, is_heard, read_allows, is_mentioned_if, first_of, last_of, level_leaves}
 pub use Rattle.vic_verdict.specs.Verdict.{IsVerdict, NoSuch, IsLeast, IsAbsent, IsUnlisted, IsUnsettled, IsDoubtful, IsFirstMask}
-pub use Rattle.std.proofs.lemmas.Bool.{eqb-false, lt-leb, or_parts, true_from_ne_false}
-pub use Rattle.std.proofs.lemmas.List.{drop-map, drop_more, get_or_append_left, map-append, take_more}
+pub use Rattle.std.proofs.lemmas.Bool.{and_cases, eqb-false, lt-leb, not-false, or_parts, true_from_ne_false}
+pub use Rattle.std.proofs.lemmas.List.{drop-map, drop_more, get_or_append_left, map-append, nil_from_length, take_more}
 pub use Rattle.std.proofs.lemmas.List.Elements.{All-filter, All-map, All-take, filter_more, filter_passes}
 pub use Rattle.std.proofs.lemmas.Option.{get_or_from_slice_get, slice_get-get_or, slice_get-map, slice_get_past}
 pub use Rattle.vic_log.proofs.Sets.{IsPopulation-with_member, IsUid-member, filter_has, has_with_member, insert_if, with_member, with_member_cases, with_member_keeps}

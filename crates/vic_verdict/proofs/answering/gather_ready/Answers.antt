@@ -1,4 +1,4 @@
-use Rattle.std.proofs.Common.{◌+◌, ◌<◌, ◌≤◌, length, take, sym, ◌∙◌, subst, arith, eqb-true, take_all}
+use Rattle.std.proofs.Common.{◌<◌, ◌≤◌, length, sym, ◌∙◌, subst, arith, eqb-true, take_all}
 use Rattle.vic_verdict.proofs.Words.{false≢true, Gathers, IsReadyIn, gathers_full}
 use Rattle.vic_verdict.proofs.Ready.{gathers_none, ready_more, ready_other, ready_so_far}
 use Rattle.vic_verdict.proofs.answering.gather_ready.Goals as goal
@@ -13,10 +13,9 @@ loop-mention-preserved c =
     let i = c.loop-mention.mention-index in
     let at = c.args.at in
     let old = c.args.uids.now.items in
-    let P = Gathers (IsReadyIn (take (i + 1) ns) at) old in
     elim c.if-at-quiet.branch [
-      | then-at-quiet w ↦ subst (λ v. P v.items) (sym w.uids-is) (ready_more ns old c.loop-mention.uids.items _ i w.uid_at.result at c.loop-mention-test.true w.uid_at.ensures.is_uid w.uid_at.ensures.back (subst (λ q. at ≤ q) c.quiet.ensures w.if-at-quiet.true) c.loop-mention.invariant w.gather_one.ensures)
-      | else-at-quiet w ↦ subst (λ v. P v.items) (sym w.uids-is) (ready_other ns old c.loop-mention.uids.items i at c.loop-mention-test.true (subst (λ q. q < at) c.quiet.ensures w.if-at-quiet.false) c.loop-mention.invariant)
+      | then-at-quiet w ↦ rw w.uids-is (ready_more ns old c.loop-mention.uids.items _ i w.uid_at.result at c.loop-mention-test.true w.uid_at.ensures.is_uid w.uid_at.ensures.back (subst (λ q. at ≤ q) c.quiet.ensures w.if-at-quiet.true) c.loop-mention.invariant w.gather_one.ensures)
+      | else-at-quiet w ↦ rw w.uids-is (ready_other ns old c.loop-mention.uids.items i at c.loop-mention-test.true (subst (λ q. q < at) c.quiet.ensures w.if-at-quiet.false) c.loop-mention.invariant)
     ]
 
 pub returns-then-is_full : goal.returns-then-is_full

@@ -1,6 +1,6 @@
-use Rattle.std.proofs.Common.{◌≡◌, ◌+◌, ◌^◌, ◌<◌, ◌≤◌, ℕ, Bool, List, length, get_or, map, true, false, not, ◌&&◌, sym, ap, ◌∙◌, subst, arith, nat_lt, le-ltb}
+use Rattle.std.proofs.Common.{◌≡◌, ◌^◌, ◌<◌, ◌≤◌, ℕ, Bool, List, length, get_or, map, true, false, not, ◌&&◌, sym, ap, ◌∙◌, arith, nat_lt, le-ltb}
 use Rattle.vic_verdict.proofs.Words.{and_from, and_right, get_or-map, length-map, uid_of, lt_yes, Mention, NEVER, is_ready_at, is_quiet_by, quiet_of, All-map}
-use Rattle.vic_verdict.proofs.Ready.{AreOpenTo, open_first, open_same, open_other, open_more, open_all, ready_key, keys_order}
+use Rattle.vic_verdict.proofs.Ready.{open_first, open_same, open_other, open_more, open_all, ready_key, keys_order}
 use Rattle.vic_verdict.proofs.Replying.{at, tells_own}
 use Rattle.vic_verdict.proofs.Sweeping.{nobody, start_here}
 use Rattle.vic_verdict.proofs.answering.open_mentions.Goals as goal
@@ -18,9 +18,7 @@ pub has_each-requires : goal.has_each-requires
 has_each-requires g c = rw c.requires.keys record { order = keys_order c.args.mentions.now c.requires.order; keys = All-map (λ k. k < 2 ^ 56) (λ (n : Mention). n.key) c.args.mentions.now c.requires.mentioned }
 
 pub loop-i-init : goal.loop-i-init
-loop-i-init g c =
-    let set = is_ready_at (g.S.OpenSet.is_open c.args.set.now) c.args.mentions.now c.args.from in
-    subst (AreOpenTo set c.args.mentions.now 0) (sym c.new-mentioned.ensures.items) (open_first set c.args.mentions.now)
+loop-i-init g c = rw c.new-mentioned.ensures.items (open_first _ _)
 
 pub mentions_between-requires-clause-start : goal.mentions_between-requires-clause-start
 mentions_between-requires-clause-start g c =
@@ -38,7 +36,6 @@ loop-i-preserved g c =
     let is_left = g.S.OpenSet.is_open c.args.set.now in
     let set = is_ready_at is_left ns from in
     let small = c.requires.mentioned i nobody c.loop-i-test.true in
-    let P = AreOpenTo set ns (i + 1) in
     elim c.if-i-eq0.branch [
       | then-i-eq0+then-from-quiet+then-index+in_ok-push w ↦
           let o : Mention = w.mention_quiet_after.result in
@@ -50,7 +47,7 @@ loop-i-preserved g c =
           ∙ ap (λ k. is_quiet_by ns k j) (sym key)) in
           let is_open = sym (open_at is_left ns _ _ i _ c.requires.keys c.in_ok-is_open.ensures c.loop-i-test.true w.index.ensures) ∙ w.if-index.true in
           let is_in : set (uid_of o.key) ≡ true = ap (λ k. set (uid_of k)) key ∙ (ready_key is_left ns _ from _ _ small own.inside own.all (w.first_quiet-quiet.ensures from upto) ∙ and_from _ _ is_open (ap not (le-ltb _ from w.if-from-quiet.true))) in
-          subst (λ v. P v.items) (sym w.mentioned-is) (open_more set ns i c.loop-i.mentioned.items w.push.new.self.items o c.requires.order c.requires.mentioned c.loop-i-test.true key is_in quiet w.in_ok-push.ensures.items c.loop-i.invariant)
+          rw w.mentioned-is (open_more set ns i c.loop-i.mentioned.items w.push.new.self.items o c.requires.order c.requires.mentioned c.loop-i-test.true key is_in quiet w.in_ok-push.ensures.items c.loop-i.invariant)
       | then-i-eq0+else-from-quiet w ↦
           let own = w.mentions_between.ensures in
           let key = (at ns i).key in
@@ -59,8 +56,8 @@ loop-i-preserved g c =
             | else-from-quiet-via-then-from-quiet+else-index w' ↦ ap (λ b. b && not (nat_lt quiet from)) (sym (open_at is_left ns _ _ i _ c.requires.keys c.in_ok-is_open.ensures c.loop-i-test.true w'.index.ensures) ∙ w'.if-index.false)
             | else-from-quiet-via-else-from-quiet w' ↦ and_right (is_left (uid_of key)) _ (ap not (lt_yes quiet from w'.if-from-quiet.false))
           ] in
-          subst (λ v. P v.items) (sym w.mentioned-is) (open_other set ns i c.loop-i.mentioned.items c.loop-i-test.true (ready_key is_left ns _ from key quiet small own.inside own.all (w.first_quiet-quiet.ensures from upto) ∙ out) c.loop-i.invariant)
-      | else-i-eq0+else-mentions-i w ↦ let some = w.if-i-eq0.false in subst (λ v. P v.items) (sym w.mentioned-is) (open_same set ns i c.loop-i.mentioned.items c.requires.order (omega arith) c.loop-i-test.true w.if-mentions-i.false c.loop-i.invariant)
+          rw w.mentioned-is (open_other set ns i c.loop-i.mentioned.items c.loop-i-test.true (ready_key is_left ns _ from key quiet small own.inside own.all (w.first_quiet-quiet.ensures from upto) ∙ out) c.loop-i.invariant)
+      | else-i-eq0+else-mentions-i w ↦ let some = w.if-i-eq0.false in rw w.mentioned-is (open_same set ns i c.loop-i.mentioned.items c.requires.order (omega arith) c.loop-i-test.true w.if-mentions-i.false c.loop-i.invariant)
     ]
 
 pub returns : goal.returns

@@ -1,4 +1,4 @@
-use Rattle.std.proofs.Common.{◌+◌, [], length, take, sym, ◌∙◌, subst, arith, eqb-true, take_all}
+use Rattle.std.proofs.Common.{[], length, sym, ◌∙◌, subst, arith, eqb-true, take_all}
 use Rattle.vic_verdict.proofs.Words.{mirror, Gathers, HasInside, gathers_full}
 use Rattle.vic_verdict.proofs.Closing.{between_from}
 use Rattle.vic_verdict.proofs.Ready.{gathers_none, inside_more, inside_other, inside_so_far}
@@ -16,10 +16,9 @@ loop-uid-preserved c =
     let x = c.uid-item.result in
     let first = c.args.first in
     let last = c.args.last in
-    let P = Gathers (HasInside (take (i + 1) us) first last) [] in
     elim c.if-first-key.branch [
-      | then-first-key+then-key-last w ↦ subst (λ v. P v.items) (sym w.inside-is) (inside_more us c.loop-uid.inside.items _ i x first last c.loop-uid-test.true c.uid-item.is (between_from first last (mirror x) (omega (arith, w.if-first-key.true)) (omega (arith, w.if-key-last.true))) c.loop-uid.invariant w.gather_one.ensures)
-      | else-first-key w ↦ subst (λ v. P v.items) (sym w.inside-is) (inside_other us c.loop-uid.inside.items i x first last c.loop-uid-test.true c.uid-item.is (λ e. let p = between_parts first last (mirror x) e in elim w.else-first-key.branch [
+      | then-first-key+then-key-last w ↦ rw w.inside-is (inside_more us c.loop-uid.inside.items _ i x first last c.loop-uid-test.true c.uid-item.is (between_from first last (mirror x) (omega (arith, w.if-first-key.true)) (omega (arith, w.if-key-last.true))) c.loop-uid.invariant w.gather_one.ensures)
+      | else-first-key w ↦ rw w.inside-is (inside_other us c.loop-uid.inside.items i x first last c.loop-uid-test.true c.uid-item.is (λ e. let p = between_parts first last (mirror x) e in elim w.else-first-key.branch [
         | else-first-key-via-then-first-key+else-key-last w' ↦ omega (arith, p.1, w'.if-key-last.false)
         | else-first-key-via-else-first-key w' ↦ omega (arith, p.0, w'.if-first-key.false)
       ]) c.loop-uid.invariant)

@@ -9,8 +9,7 @@ returns-in-Some-between-clause-uids g c ns mentions masks =
     let set = g.S.OpenSet.is_open c.args.set.now in
     let kept = subst (All (IsUnmentioned set ns)) (sym (c.deref-2.ensures.value ∙ c.truncate.ensures.items)) (All-take (IsUnmentioned set ns) _ c.args.masks.now.items masks) in
     let x : Unmentioned = c.in-Some.around.now in
-    let around = subst (IsUnmentioned set ns) (sym (c.in-Some.ensures.item.3.1 x)) (kept (length c.deref-2.result.now - 1) x (omega (arith, c.in-Some.ensures.item.3.0))) in
-    subst (λ l. UpToThree (is_unmentioned set ns c.args.block.now.first l) c.in-Some-between.uids.items) c.last-last.ensures (c.in-Some-between.ensures set ns around)
+    subst (λ l. UpToThree (is_unmentioned set ns c.args.block.now.first l) c.in-Some-between.uids.items) c.last-last.ensures (c.in-Some-between.ensures set ns (subst (IsUnmentioned set ns) (sym (c.in-Some.ensures.item.3.1 x)) (kept (length c.deref-2.result.now - 1) x (omega (arith, c.in-Some.ensures.item.3.0)))))
 
 pub returns-clause-masks : goal.returns-clause-masks
 returns-clause-masks g c ns mentions masks =

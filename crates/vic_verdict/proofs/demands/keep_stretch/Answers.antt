@@ -1,19 +1,15 @@
-use Rattle.std.proofs.Common.{◌≡◌, ◌∙◌, List, [], ◌∷◌, length, ap, sym, subst, inl, inr, refl, rules, nat_lt, IsPermutation}
-use Rattle.vic_verdict.proofs.Words.{Demand, demands_to}
+use Rattle.std.proofs.Common.{◌≡◌, ◌∙◌, ap, sym, subst, inl, inr, refl, rules, nat_lt, IsPermutation}
+use Rattle.vic_verdict.proofs.Words.{Demand, demands_to, nil_from_length}
 use Rattle.std.proofs.lemmas.Fn.{filter_same}
 use Rattle.vic_verdict.proofs.demands.keep_stretch.Goals as goal
-
-none : (ds : List Demand) → length ds ≡ 0 → ds ≡ []
-none [] e = refl
-none (d ∷ ds) e = absurd (cc)
 
 pub returns-then-is_empty-clause-kept : goal.returns-then-is_empty-clause-kept
 returns-then-is_empty-clause-kept c =
     let only : c.retain.new.self.items ≡ demands_to c.args.cut c.args.demands.now.items = filter_same _ (λ (d : Demand). nat_lt d.at c.args.cut) _ (λ x b f' k. search rules) _ _ c.retain.ensures.filtered in
-    inl (refl, sym only ∙ none c.retain.new.self.items (let empty = sym c.is_empty.ensures ∙ c.if-is_empty.true in search rules))
+    inl (refl, sym only ∙ nil_from_length c.retain.new.self.items (let empty = sym c.is_empty.ensures ∙ c.if-is_empty.true in search rules))
 
 pub returns-then-is_empty-clause-demands : goal.returns-then-is_empty-clause-demands
-returns-then-is_empty-clause-demands c = none c.retain.new.self.items (let empty = sym c.is_empty.ensures ∙ c.if-is_empty.true in search rules)
+returns-then-is_empty-clause-demands c = nil_from_length c.retain.new.self.items (let empty = sym c.is_empty.ensures ∙ c.if-is_empty.true in search rules)
 
 pub returns-clause-kept : goal.returns-clause-kept
 returns-clause-kept c =

@@ -30,8 +30,7 @@ returns-in-Some g c es same kept =
 
 pub loop-stretch-preserved : goal.loop-stretch-preserved
 loop-stretch-preserved g c es same kept =
-    let k = c.loop-stretch.stretch-index in
-    found_more es c.args.stretches.now k c.stretch-item.result c.deref-in-loop-stretch.result.now c.loop-stretch.found.items _ c.loop-stretch-test.true c.stretch-item.is c.deref-in-loop-stretch.ensures.value
+    found_more es c.args.stretches.now c.loop-stretch.stretch-index c.stretch-item.result c.deref-in-loop-stretch.result.now c.loop-stretch.found.items _ c.loop-stretch-test.true c.stretch-item.is c.deref-in-loop-stretch.ensures.value
     (c.in_ok-unmet.ensures.met es same (lent es c.args.stretches.now c.loop-stretch.stretch-index c.stretch-item.result _ _ c.loop-stretch-test.true c.stretch-item.is c.deref.ensures.value c.deref-in-loop-stretch.ensures.value kept) c.in_default.is)
     (c.loop-stretch.invariant es same kept)
 

@@ -9,9 +9,8 @@ loop-line-preserved c =
     let i = c.loop-line.line-index in
     let l = c.line-item.result in
     let items = c.in_ok-pass_listed.ensures.items ∙ ap (λ e. c.loop-line.uids.items ++ listed (e ∷ [])) c.item.ensures in
-    let grown = ap (λ us. us ++ listed (l.item ∷ [])) c.loop-line.invariant.items in
     record {
-      items = items ∙ (grown ∙ (sym (listed_more lines i l (slice_get_read lines (length lines) i l refl c.loop-line-test.true c.line-item.is)) ∙ ap (λ n. listed (entries (take n lines))) (sym (add-one i))));
+      items = items ∙ (ap (λ us. us ++ listed (l.item ∷ [])) c.loop-line.invariant.items ∙ (sym (listed_more lines i l (slice_get_read lines (length lines) i l refl c.loop-line-test.true c.line-item.is)) ∙ ap (λ n. listed (entries (take n lines))) (sym (add-one i))));
       uids = λ u h.
           ⊎_elim
           (λ a. c.loop-line.invariant.uids u a)

@@ -1,7 +1,7 @@
 use Rattle.std.proofs.Common.{◌≡◌, ℕ, ◌+◌, ◌<◌, length, take, get_or, sym, ap, subst, ◌∙◌, arith, add-one, inl, inr, ⊎_elim, MatchResult}
 use Rattle.vic_verdict.proofs.Words.{cases_lt, SameUids, LogLine, entries, slots_of, is_open, IsMet, IsPossible, IsContradiction, IsVerdict, Impossible, slice_get-get_or}
 use Rattle.vic_verdict.proofs.FirstLine.{first_impossible}
-use Rattle.vic_verdict.proofs.Halving.{Between, between_first, between_more, between_earlier, between_raised, first_front, front_contradiction}
+use Rattle.vic_verdict.proofs.Halving.{between_first, between_more, between_earlier, between_raised, first_front, front_contradiction}
 use Rattle.vic_verdict.proofs.judging.first_impossible_line.Goals as goal
 use Rattle.vic_verdict.proofs.judging.first_impossible_line.Goals.{in-Ok, in-Err}
 
@@ -21,20 +21,16 @@ loop-low-preserved g c =
     let told : (r : _) → c.in_ok-earlier.field-0 ≡ r → MatchResult r (λ p. IsPossible es × SameUids (g.S.OpenSet.is_open p.0) (is_open (slots_of es)) × IsMet es p.1) (IsContradiction es) = λ r is. subst (λ x. MatchResult x (λ p. IsPossible es × SameUids (g.S.OpenSet.is_open p.0) (is_open (slots_of es)) × IsMet es p.1) (IsContradiction es)) is c.in_ok-earlier.ensures in
     elim c.match-branch-3.branch [
       | in-Ok w ↦
-          subst (λ n. Between lines n (c.match-branch-3.last + 1)) (sym w.low-is)
-          (subst (λ n. Between lines count (n + 1)) (sym w.last-is)
-          (between_more lines c.loop-low.low (c.loop-low.last + 1) count (omega arith) (told _ w.in-Ok.is).0 c.loop-low.invariant))
+          rw (w.low-is, w.last-is) (between_more lines c.loop-low.low (c.loop-low.last + 1) count (omega arith) (told _ w.in-Ok.is).0 c.loop-low.invariant)
       | in-Err w ↦
           let at = w.in-Err.earlier.at in
           let low = c.loop-low.low in
           let more = w.possible_before.result in
           let e = told _ w.in-Err.is in
-          subst (λ n. Between lines n (c.match-branch-3.last + 1)) (sym w.low-is)
-          (subst (λ n. Between lines w.max-low.result (n + 1)) (sym w.last-is)
-          (between_raised lines low (at + 1) more w.max-low.result (omega arith)
+          rw (w.low-is, w.last-is) (between_raised lines low (at + 1) more w.max-low.result (omega arith)
           (⊎_elim (λ lt. inr (omega arith)) (λ ge. inl (omega arith)) (cases_lt low more))
           (w.possible_before.ensures.possible lines (front_contradiction lines count w.in-Err.earlier e))
-          (between_earlier lines low (c.loop-low.last + 1) count at (omega arith) e.impossible c.loop-low.invariant)))
+          (between_earlier lines low (c.loop-low.last + 1) count at (omega arith) e.impossible c.loop-low.invariant))
     ]
 
 pub returns : goal.returns

@@ -20,5 +20,4 @@ returns-clause-second g c =
 pub returns-clause-reached : goal.returns-clause-reached
 returns-clause-reached g c =
     let lines = c.args.log.now.lines in
-    let rising = rising_lower lines (subst (IsRisingFrom 1) c.lines.ensures.value c.lines.ensures.log.rising) in
-    IfOk-weaker c.judge_lines.result (IsVerdict lines) _ (λ v h r. one_verdict lines rising v (Complete (length (listed (entries lines)))) h (reached_complete lines r)) (rw c.lines.ensures.value at c.judge_lines.ensures)
+    IfOk-weaker c.judge_lines.result (IsVerdict lines) _ (λ v h r. one_verdict lines (rising_lower lines (subst (IsRisingFrom 1) c.lines.ensures.value c.lines.ensures.log.rising)) v (Complete (length (listed (entries lines)))) h (reached_complete lines r)) (rw c.lines.ensures.value at c.judge_lines.ensures)
