@@ -340,7 +340,15 @@ fn meet_each<S: OpenSet>(
         if !is_asked_again(demands, index) {
             let demand = demands[index];
             near = start_near(mentions, near, demand.first);
-            let uids = answering(alloc, set, mentions, &mut learnt, near, first_asked, &demand)?;
+            let uids = answering(
+                alloc,
+                set,
+                mentions,
+                &mut learnt,
+                near,
+                first_asked,
+                &demand,
+            )?;
             let at = demand.place();
             let need = usize::from(demand.need);
             if uids.len() < need {
