@@ -332,7 +332,7 @@ fn meet_each<S: OpenSet>(
     ensures unmet { IfOk result (λ r. IfSome r
         (IsUnmetAt (S.is_open set.now) mentions.now demands.now)) }
 {
-    let first_asked = first_place(demands);
+    let from = first_place(demands);
     let mut learnt = Learnt::nothing(mentions);
     let mut start = 0;
     let mut near = 0;
@@ -340,15 +340,7 @@ fn meet_each<S: OpenSet>(
         if !is_asked_again(demands, index) {
             let demand = demands[index];
             near = start_near(mentions, near, demand.first);
-            let uids = answering(
-                alloc,
-                set,
-                mentions,
-                &mut learnt,
-                near,
-                first_asked,
-                &demand,
-            )?;
+            let uids = answering(alloc, set, mentions, &mut learnt, near, from, &demand)?;
             let at = demand.place();
             let need = usize::from(demand.need);
             if uids.len() < need {
