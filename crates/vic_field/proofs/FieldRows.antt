@@ -1,20 +1,11 @@
 -- The tags that a row's entries stand for.
-use Rattle.std.proofs.Common.{◌≡◌, ◌≢◌, ℕ, zero, suc, Bool, true, false, cond, ◌||◌, ◌==◌, List, [], ◌∷◌, map, Some, None, refl, sym, ap, ◌∙◌, ⊎_elim}
-use Rattle.std.specs.Prelude.{nat_eq}
-use Rattle.std.specs.List.{All, insert}
-use Rattle.std.specs.Map.{keys_of}
-use Rattle.std.specs.Option.{option_map}
+use Rattle.std.proofs.Common.{◌≡◌, ◌≢◌, ℕ, zero, suc, Bool, true, false, cond, ◌||◌, ◌==◌, List, [], ◌∷◌, map, Some, None, refl, sym, ap, ◌∙◌, ⊎_elim, nat_eq, All, insert, option_map, ne_eqb, eq-eqb}
+use Rattle.vic_field.proofs.Words.{keys_of, cases_eq, All-head, All-tail, IsKey, uid_of, IsUid, has, tags_of, uids_at, with_quiet, readiness, uids}
 use Rattle.std.proofs.Math.Bool.{and-true, and-false}
-use Rattle.std.proofs.lemmas.Bool.{cases_eq, ne_eqb, eq-eqb}
-use Rattle.std.proofs.lemmas.List.Elements.{All-head, All-tail}
-use Rattle.vic_frame.specs.LowBitsFirst.{IsKey, mirror, uid_of}
-use Rattle.vic_frame.specs.Uids.{IsUid, has}
+use Rattle.vic_frame.specs.LowBitsFirst.{mirror}
 use Rattle.vic_frame.proofs.MirrorLaws.{mirror_of_uid, uid_of_mirror}
 use Rattle.vic_field.specs.declared.row.Row.{Row}
-use Rattle.vic_field.specs.Keys.{tags_of, uids_at}
 use Rattle.vic_field.specs.Rows.{entries}
-use Rattle.vic_field.specs.inner.Rows.{with_quiet}
-use Rattle.vic_field.specs.Tags.{readiness, uids}
 use Rattle.vic_field.proofs.RowLaws.{keys_of_entries}
 
 either_none : (b : Bool) → None ≡ cond b (option_map (λ (r : Bool). false) None) None

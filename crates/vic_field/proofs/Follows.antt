@@ -1,17 +1,12 @@
 -- What entries in order leave for the next entry, and which UIDs they list.
-use Rattle.std.proofs.Common.{◌≡◌, ℕ, zero, suc, ◌<◌, ◌≤◌, Bool, true, false, not, List, [], ◌∷◌, take, Some, None, refl, sym, ap, ◌∙◌, arith, ⊎_elim}
-use Rattle.std.specs.Prelude.{◌≢◌, slice_get, if◌then◌else◌}
-use Rattle.std.proofs.lemmas.Bool.{false_from_ne_true, false≢true}
-use Rattle.vic_frame.specs.Uids.{IsUid, has}
-use Rattle.vic_log.specs.declared.entry.Entry.{Entry}
-use Rattle.vic_log.specs.declared.entry.Entry.TheVariants.{Sent, Silent, Collision, Heard, Listed, Garbled, FieldCycle}
+use Rattle.std.proofs.Common.{◌≡◌, ℕ, zero, suc, ◌<◌, ◌≤◌, Bool, true, false, not, List, [], ◌∷◌, take, Some, None, refl, sym, ap, ◌∙◌, arith, ⊎_elim, ◌≢◌, slice_get, if◌then◌else◌}
+use Rattle.vic_field.proofs.Words.{false≢true, IsUid, has, Entry, Sent, Silent, Collision, Heard, Listed, Garbled, FieldCycle, listed, IsPopulation, is_slot, line_count}
+use Rattle.std.proofs.lemmas.Bool.{false_from_ne_true}
 use Rattle.vic_log.specs.declared.fault.PushFault.TheVariants.{EntryAfterList, DuplicateListed}
-use Rattle.vic_log.specs.Order.{IsInOrder, listed, is_empty, refusal}
+use Rattle.vic_log.specs.Order.{IsInOrder, is_empty, refusal}
 use Rattle.vic_log.specs.Log.{AreTyped}
-use Rattle.vic_log.specs.Populations.{IsPopulation}
-use Rattle.vic_log.specs.Rounds.{is_slot}
 use Rattle.vic_log.proofs.Sets.{has_here, has_there, has_cases}
-use Rattle.vic_field.specs.Simulation.{without_slots, line_count}
+use Rattle.vic_field.specs.Simulation.{without_slots}
 
 -- ---- which UIDs entries list
 

@@ -1,18 +1,9 @@
 -- UIDs and the keys that a field keeps them by.
-use Rattle.std.proofs.Common.{Bool, false, ◌||◌, ◌≡◌, ℕ, refl, ap, ◌∙◌, List, [], ◌∷◌}
-use Rattle.std.specs.declared.cmp.Ordering.TheVariants.{Less}
-use Rattle.std.specs.Ordering.{nat_cmp}
-use Rattle.std.specs.List.{All, AllByRecursion}
-use Rattle.std.specs.List.Sorted.{IsStrictlySortedBy}
-use Rattle.std.specs.Map.{keys_of}
-use Rattle.std.proofs.lemmas.List.Elements.{All-head, All-tail}
+use Rattle.std.proofs.Common.{Bool, false, ◌||◌, ◌≡◌, ℕ, refl, ap, ◌∙◌, List, [], ◌∷◌, Less, nat_cmp, All}
+use Rattle.vic_field.proofs.Words.{IsStrictlySortedBy, keys_of, All-head, All-tail, has, IsKey, uid_of, tags_of, IsPopulation, uids}
+use Rattle.std.specs.List.{AllByRecursion}
 use Rattle.std.proofs.lemmas.Map.Keys.{sorted_head, sorted_tail}
-use Rattle.vic_frame.specs.Uids.{has}
-use Rattle.vic_frame.specs.LowBitsFirst.{IsKey, uid_of}
 use Rattle.vic_frame.proofs.KeyLaws.{is_uid, differ}
-use Rattle.vic_field.specs.Keys.{tags_of}
-use Rattle.vic_log.specs.Populations.{IsPopulation}
-use Rattle.vic_field.specs.Tags.{uids}
 
 not_there : (k : ℕ) (es : List (ℕ × Bool)) → IsKey k → All IsKey (keys_of es) → AllByRecursion (λ y. nat_cmp k y ≡ Less) (keys_of es) → has (uids (tags_of es)) (uid_of k) ≡ false
 not_there k [] small keys up = refl

@@ -1,18 +1,10 @@
 -- The entries of lines, one by one, and the UIDs that they list.
-use Rattle.std.proofs.Common.{◌≡◌, ℕ, zero, suc, false, List, [], ◌∷◌, take, Some, refl, sym, ap, ◌∙◌, subst, arith, ⊎_elim}
-use Rattle.std.specs.Prelude.{slice_get}
-use Rattle.std.proofs.lemmas.Bool.{cases_eq}
-use Rattle.vic_log.specs.declared.entry.Entry.{Entry}
-use Rattle.vic_log.specs.declared.entry.Entry.TheVariants.{Sent, Silent, Collision, Heard, Listed, Garbled, FieldCycle}
-use Rattle.vic_log.specs.declared.entry.LogLine.{LogLine}
-use Rattle.vic_frame.specs.declared.request.Request.{Request}
+use Rattle.std.proofs.Common.{◌≡◌, ℕ, zero, suc, false, List, [], ◌∷◌, take, Some, refl, sym, ap, ◌∙◌, subst, arith, ⊎_elim, slice_get, option_map}
+use Rattle.vic_field.proofs.Words.{cases_eq, Entry, Sent, Silent, Collision, Heard, Listed, Garbled, FieldCycle, LogLine, Request, entries, is_slot}
 use Rattle.vic_frame.specs.Requests.{IsValid}
-use Rattle.std.specs.Option.{option_map}
 use Rattle.std.proofs.lemmas.Option.{slice_get-map}
 use Rattle.vic_log.specs.Log.{IsValidEntry}
-use Rattle.vic_log.specs.Order.{entries}
 use Rattle.vic_field.specs.Simulation.{HasNoSlotsBefore}
-use Rattle.vic_log.specs.Rounds.{is_slot}
 
 -- one line more that tells of no slot
 pub no_slots_next : (n : ℕ) (lines : List LogLine) (l : LogLine) → HasNoSlotsBefore n lines → slice_get lines n ≡ Some l → is_slot l.item ≡ false → HasNoSlotsBefore (suc n) lines

@@ -1,13 +1,9 @@
 -- Entries on numbered lines.
 use Rattle.std.proofs.Common.{◌≡◌, ℕ, suc, ◌+◌, List, [], ◌∷◌, ◌++◌, length, refl, sym, ap, ◌∙◌, arith, append_assoc, append-nil}
+use Rattle.vic_field.proofs.Words.{Entry, LogLine, LogValue, last_from, entries, with_entries}
 use Rattle.std.proofs.lemmas.List.{map-append}
-use Rattle.vic_log.specs.declared.entry.Entry.{Entry}
-use Rattle.vic_log.specs.declared.entry.LogLine.{LogLine}
-use Rattle.vic_log.specs.Log.{LogValue, last_from}
-use Rattle.vic_log.specs.Order.{entries}
 use Rattle.vic_log.specs.Writing.{numbered}
 use Rattle.vic_log.proofs.Push.{entries-numbered}
-use Rattle.vic_field.specs.inner.Steps.{with_entries}
 
 pub entries-append : (ls ms : List LogLine) → entries (ls ++ ms) ≡ entries ls ++ entries ms
 entries-append ls ms = map-append (λ (x : LogLine). x.item) ls ms

@@ -1,16 +1,11 @@
 -- The Ready tags of a field, and the members of a population that answer: the outcome is the same.
-use Rattle.std.proofs.Common.{◌≡◌, ℕ, Bool, true, false, not, cond, ◌&&◌, List, [], ◌∷◌, length, Option, Some, None, refl, sym, ap, ◌∙◌, subst, map, ⊎_elim}
-use Rattle.std.specs.Prelude.{nat_eq, if◌then◌else◌}
-use Rattle.std.specs.List.{filter}
-use Rattle.std.proofs.lemmas.Bool.{eqb-true, eq-eqb, and_parts, and_from, both_ways, false≢true, false_from_ne_true}
-use Rattle.vic_frame.specs.Masks.{BitMask, lies_in}
-use Rattle.vic_frame.specs.Uids.{IsUid, has, AreDifferent}
-use Rattle.vic_log.specs.declared.entry.Entry.{Entry}
-use Rattle.vic_log.specs.Populations.{IsPopulation, Outcome, Nobody, Lone, Several, outcome_of, Fits}
-use Rattle.vic_log.specs.Quiet.{is_quiet}
+use Rattle.std.proofs.Common.{◌≡◌, ℕ, Bool, true, false, not, cond, ◌&&◌, List, [], ◌∷◌, length, Option, Some, None, refl, sym, ap, ◌∙◌, subst, map, ⊎_elim, nat_eq, if◌then◌else◌, filter, eqb-true, eq-eqb}
+use Rattle.vic_field.proofs.Words.{both_ways, false≢true, BitMask, lies_in, IsUid, has, Entry, IsPopulation, is_quiet, slot_line, uids, readiness, ready_in}
+use Rattle.std.proofs.lemmas.Bool.{and_parts, and_from, false_from_ne_true}
+use Rattle.vic_frame.specs.Uids.{AreDifferent}
+use Rattle.vic_log.specs.Populations.{Outcome, Nobody, Lone, Several, outcome_of, Fits}
 use Rattle.vic_log.proofs.Sets.{IsWithin, AreDifferent-population, AreDifferent-filter, has_at, has_here, has_there, has_cases, has_filter, filter_has, IsUid-member}
-use Rattle.vic_field.specs.inner.Steps.{slot_line}
-use Rattle.vic_field.specs.Tags.{uids, readiness, ready_in, told}
+use Rattle.vic_field.specs.Tags.{told}
 
 only : (x y : ℕ) → has (x ∷ []) y ≡ true → y ≡ x
 only x y h = ⊎_elim (λ e. e) (λ k. absurd (false≢true k)) (has_cases y x [] h)

@@ -1,21 +1,14 @@
 -- The rounds of entries: what one entry more, and the slot lines of a request, leave as it was.
-use Rattle.std.proofs.Common.{◌≡◌, ℕ, zero, suc, ◌+◌, ◌-◌, ◌<◌, ◌⊎◌, inl, inr, Bool, true, false, not, ◌&&◌, ◌||◌, List, [], ◌∷◌, ◌++◌, length, Some, None, refl, sym, ap, ◌∙◌, subst, arith, append_assoc, append-nil, length-append, ⊎_elim}
-use Rattle.std.specs.Prelude.{slice_get, nat_lt, if◌then◌else◌}
-use Rattle.std.proofs.lemmas.Bool.{lt-ltb}
+use Rattle.std.proofs.Common.{◌≡◌, ℕ, zero, suc, ◌+◌, ◌-◌, ◌<◌, ◌⊎◌, inl, inr, Bool, true, false, not, ◌&&◌, ◌||◌, List, [], ◌∷◌, ◌++◌, length, Some, None, refl, sym, ap, ◌∙◌, subst, arith, append_assoc, append-nil, length-append, ⊎_elim, slice_get, nat_lt, if◌then◌else◌, lt-ltb}
+use Rattle.vic_field.proofs.Words.{Request, slot_count, mask_in, Entry, Sent, Silent, Collision, Heard, Listed, Garbled, FieldCycle, is_quiet, is_slot, slots_opened, slot_line, slot_lines_to, slot_lines, heard, ready_in}
 use Rattle.std.proofs.lemmas.Option.{slice_get_within}
-use Rattle.vic_frame.specs.declared.request.Request.{Request}
-use Rattle.vic_frame.specs.Slots.{slot_count, mask_in}
-use Rattle.vic_log.specs.declared.entry.Entry.{Entry}
-use Rattle.vic_log.specs.declared.entry.Entry.TheVariants.{Sent, Silent, Collision, Heard, Listed, Garbled, FieldCycle}
 use Rattle.vic_log.specs.Order.{refusal}
-use Rattle.vic_log.specs.Quiet.{silences, wakes, is_quiet}
-use Rattle.vic_log.specs.Rounds.{is_slot, ends_round, opener, slots_opened, left_since, slots_left, mask_of_slot, mask_since, mask_at}
+use Rattle.vic_log.specs.Quiet.{silences, wakes}
+use Rattle.vic_log.specs.Rounds.{ends_round, opener, left_since, slots_left, mask_of_slot, mask_since, mask_at}
 use Rattle.vic_log.proofs.Places.{opener_agrees, quiet_agrees, agree_append, slice_get_last}
 use Rattle.vic_field.specs.declared.outcome.Outcome.{Outcome as Told}
 use Rattle.vic_field.specs.declared.outcome.Outcome.TheVariants.{Silent as ToldSilent, Lone as ToldLone, Several as ToldSeveral}
 use Rattle.vic_field.specs.Simulation.{IsPlain}
-use Rattle.vic_field.specs.inner.Steps.{slot_line, slot_lines_to, slot_lines}
-use Rattle.vic_field.specs.Tags.{heard, ready_in}
 
 -- ---- positions of joined lists
 

@@ -1,28 +1,21 @@
 -- Tags in a row by their keys.
-use Rattle.std.proofs.Common.{◌≡◌, ◌≢◌, ℕ, zero, suc, ◌+◌, ◌-◌, ◌<◌, ◌≤◌, Bool, true, false, List, [], ◌∷◌, ◌&&◌, ◌||◌, length, take, drop, get_or, map, not, refl, sym, ap, subst, ◌∙◌, arith, ⊎_elim}
-use Rattle.std.specs.Prelude.{nat_eq, nat_le}
-use Rattle.std.specs.Ordering.{nat_cmp}
-use Rattle.std.specs.List.{All, AllByRecursion, IsDistinct, insert}
-use Rattle.std.specs.List.Sorted.{IsStrictlySortedBy}
-use Rattle.std.specs.Map.{keys_of}
+use Rattle.std.proofs.Common.{◌≡◌, ◌≢◌, ℕ, zero, suc, ◌+◌, ◌-◌, ◌<◌, ◌≤◌, Bool, true, false, List, [], ◌∷◌, ◌&&◌, ◌||◌, length, take, drop, get_or, map, not, refl, sym, ap, subst, ◌∙◌, arith, ⊎_elim, nat_eq, nat_le, nat_cmp, All, insert, ne_eqb, eq-eqb, le-leb, get_or-take, get_or-drop}
+use Rattle.vic_field.proofs.Words.{IsStrictlySortedBy, keys_of, cases_lt, cases_eq, get_or_default, non_decreasing_from_sorted, IsKey, uid_of, has, AreKeys, is_quiet_place, with_quiet, heard}
+use Rattle.std.specs.List.{AllByRecursion, IsDistinct}
 use Rattle.std.proofs.Math.Bool.{and-false}
-use Rattle.std.proofs.lemmas.Bool.{cases_lt, cases_eq, cases_Bool, ne_eqb, eq-eqb, le-leb, lt-leb, or_parts}
-use Rattle.std.proofs.lemmas.List.{get_or-map, get_or-take, get_or-drop, get_or_default, length-map, same_lists}
+use Rattle.std.proofs.lemmas.Bool.{cases_Bool, lt-leb, or_parts}
+use Rattle.std.proofs.lemmas.List.{get_or-map, length-map, same_lists}
 use Rattle.std.proofs.lemmas.List.Edits.{get_or-insert_at, get_or-insert_below, get_or-insert_above, length-insert}
 use Rattle.std.proofs.lemmas.List.Elements.{All-cons}
 use Rattle.std.proofs.lemmas.List.Folds.{list_any_at}
 use Rattle.std.proofs.lemmas.List.FromFn.{get_or-map-range_with_len, length-map-range_with_len}
 use Rattle.std.proofs.lemmas.List.Sorted.{All-permutation, IsNonDecreasingBy-insert, IsPermutation-insert}
-use Rattle.std.proofs.lemmas.Map.Keys.{IsDistinct-IsPermutation, IsDistinct-cons, IsDistinct-from_apart, IsStrictlyIncreasing-from_distinct, below_from_sorted, non_decreasing_from_sorted, sorted_from_strictly_increasing}
-use Rattle.vic_frame.specs.LowBitsFirst.{IsKey, uid_of}
-use Rattle.vic_frame.specs.Uids.{has}
+use Rattle.std.proofs.lemmas.Map.Keys.{IsDistinct-IsPermutation, IsDistinct-cons, IsDistinct-from_apart, IsStrictlyIncreasing-from_distinct, below_from_sorted, sorted_from_strictly_increasing}
 use Rattle.vic_field.specs.declared.outcome.Outcome.TheVariants.{Several}
 use Rattle.vic_field.specs.declared.row.Row.{Row}
-use Rattle.vic_field.specs.Keys.{AreKeys, ready_between}
-use Rattle.vic_field.specs.Places.{is_quiet_place}
+use Rattle.vic_field.specs.Keys.{ready_between}
 use Rattle.vic_field.specs.Rows.{IsRow, entries, entry_at}
-use Rattle.vic_field.specs.inner.Rows.{HasKeyPlaceBetween, IsKeyPlace, as_ready, with_quiet}
-use Rattle.vic_field.specs.Tags.{heard}
+use Rattle.vic_field.specs.inner.Rows.{HasKeyPlaceBetween, IsKeyPlace, as_ready}
 
 -- ---- where keys stand
 

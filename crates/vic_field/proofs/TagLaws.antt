@@ -1,19 +1,10 @@
 -- Tags and their keys.
-use Rattle.std.proofs.Common.{ℕ, Bool, true, false, cond, ◌&&◌, ◌||◌, ◌==◌, ◌≡◌, ◌∙◌, List, [], ◌∷◌, map, Option, Some, ap, sym, refl, arith}
-use Rattle.std.specs.Prelude.{nat_le, nat_eq}
-use Rattle.std.specs.Ordering.{nat_cmp, is_eq}
-use Rattle.std.specs.List.{All, filter}
-use Rattle.std.specs.Map.{lookup, keys_of}
-use Rattle.std.specs.Option.{is_some}
+use Rattle.std.proofs.Common.{ℕ, Bool, true, false, cond, ◌&&◌, ◌||◌, ◌==◌, ◌≡◌, ◌∙◌, List, [], ◌∷◌, map, Option, Some, ap, sym, refl, arith, nat_le, nat_eq, nat_cmp, is_eq, All, filter, is_some}
+use Rattle.vic_field.proofs.Words.{keys_of, nat_tests, All-head, All-tail, BitMask, IsUid, has, lies_in, IsKey, uid_of, tags_of, uids_at, uids, readiness, ready_in}
+use Rattle.std.specs.Map.{lookup}
 use Rattle.std.specs.BTreeMap.{is_at}
-use Rattle.std.proofs.lemmas.Bool.Decides.{nat_tests}
-use Rattle.std.proofs.lemmas.List.Elements.{All-head, All-tail}
-use Rattle.vic_frame.specs.Masks.{BitMask}
-use Rattle.vic_frame.specs.Uids.{IsUid, has}
-use Rattle.vic_frame.specs.Masks.{lies_in}
-use Rattle.vic_frame.specs.LowBitsFirst.{IsKey, mirror, uid_of}
-use Rattle.vic_field.specs.Keys.{tags_of, ready_between, uids_at}
-use Rattle.vic_field.specs.Tags.{uids, readiness, ready_in}
+use Rattle.vic_frame.specs.LowBitsFirst.{mirror}
+use Rattle.vic_field.specs.Keys.{ready_between}
 use Rattle.vic_frame.proofs.MirrorLaws.{mirror_below, uid_of_mirror, mirror_of_uid}
 use Rattle.vic_frame.proofs.KeyLaws.{key_test, is_uid}
 

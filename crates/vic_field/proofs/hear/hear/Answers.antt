@@ -1,9 +1,6 @@
 use Rattle.std.proofs.Common.{◌≡◌, ◌<◌, ◌≤◌, ℕ, Option, Some, None, get_or, refl, ⊎_elim, ap, sym, subst, ◌∙◌, arith}
-use Rattle.std.proofs.lemmas.Bool.{cases_lt}
-use Rattle.std.proofs.lemmas.List.{get_or_default}
-use Rattle.vic_frame.specs.LowBitsFirst.{IsKey, uid_of}
+use Rattle.vic_field.proofs.Words.{cases_lt, get_or_default, IsKey, uid_of, heard}
 use Rattle.vic_field.specs.declared.outcome.Outcome.TheVariants.{Lone}
-use Rattle.vic_field.specs.Tags.{heard}
 use Rattle.vic_field.proofs.RowLaws.{hears_nobody, hears_one, hears_several, inside_ready, outside}
 use Rattle.vic_field.proofs.hear.hear.Goals as goal
 

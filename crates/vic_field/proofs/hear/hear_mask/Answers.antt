@@ -1,6 +1,6 @@
 use Rattle.std.proofs.Common.{◌∙◌, ap, sym}
+use Rattle.vic_field.proofs.Words.{heard}
 use Rattle.vic_field.specs.Rows.{entries}
-use Rattle.vic_field.specs.Tags.{heard}
 use Rattle.vic_field.proofs.RowLaws.{small_entries}
 use Rattle.vic_field.proofs.TagLaws.{ready_of_mask, same_ready, none_ready}
 use Rattle.vic_field.proofs.hear.hear_mask.Goals as goal

@@ -1,11 +1,7 @@
-use Rattle.std.proofs.Common.{◌≡◌, ℕ, List, Some, length, take, [], ◌∷◌, refl, sym, ap, ◌∙◌, subst, add-one}
-use Rattle.std.specs.Prelude.{slice_get}
-use Rattle.std.proofs.lemmas.Option.{slice_get_read}
-use Rattle.vic_log.specs.declared.entry.Entry.{Entry}
-use Rattle.vic_log.specs.Order.{entries, listed}
+use Rattle.std.proofs.Common.{◌≡◌, ℕ, List, Some, length, take, [], ◌∷◌, refl, sym, ap, ◌∙◌, subst, add-one, slice_get}
+use Rattle.vic_field.proofs.Words.{slice_get_read, Entry, entries, listed, entries_next}
 use Rattle.vic_log.proofs.Push.{listed-append}
 use Rattle.vic_field.specs.Keys.{AreKeysOf}
-use Rattle.vic_log.proofs.Push.{entries_next}
 use Rattle.vic_field.proofs.populate.listed_keys.Goals as goal
 
 pub loop-line-preserved : goal.loop-line-preserved

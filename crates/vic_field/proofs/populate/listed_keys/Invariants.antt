@@ -1,5 +1,5 @@
 use Rattle.std.proofs.Common.{take}
-use Rattle.vic_log.specs.Order.{entries, listed}
+use Rattle.vic_field.proofs.Words.{entries, listed}
 use Rattle.vic_field.specs.Keys.{AreKeysOf}
 use Rattle.vic_field.proofs.populate.listed_keys.Given as goal
 

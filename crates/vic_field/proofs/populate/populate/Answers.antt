@@ -1,18 +1,13 @@
-use Rattle.std.proofs.Common.{◌≡◌, ℕ, Bool, true, false, List, [], ◌∷◌, Some, None, sym, ap, subst, ◌∙◌, ◌||◌, refl, ⊎_elim}
-use Rattle.std.specs.Prelude.{nat_eq, if◌then◌else◌}
-use Rattle.std.specs.List.{All, Contains, dedup, list_any}
-use Rattle.std.specs.List.Sorted.{IsStrictlySortedBy}
-use Rattle.std.specs.Ordering.{nat_cmp}
-use Rattle.std.proofs.lemmas.Bool.{both_ways, cases_Bool}
+use Rattle.std.proofs.Common.{◌≡◌, ℕ, Bool, true, false, List, [], ◌∷◌, Some, None, sym, ap, subst, ◌∙◌, ◌||◌, refl, ⊎_elim, nat_eq, if◌then◌else◌, All, Contains, nat_cmp}
+use Rattle.vic_field.proofs.Words.{IsStrictlySortedBy, both_ways, IsKey, uid_of, has, uids_at}
+use Rattle.std.specs.List.{dedup, list_any}
+use Rattle.std.proofs.lemmas.Bool.{cases_Bool}
 use Rattle.std.proofs.lemmas.List.Filters.{All-dedup, dedup_is}
 use Rattle.std.proofs.lemmas.List.Folds.{Any-from_list_any, list_any_at}
 use Rattle.std.proofs.lemmas.List.Kept.{Contains-dedup_nat, Contains-from_dedup}
 use Rattle.std.proofs.lemmas.List.Sorted.{list_any-IsPermutation, All-permutation}
 use Rattle.std.proofs.lemmas.Map.Keys.{IsStrictlyIncreasing-dedup, sorted_from_strictly_increasing}
 use Rattle.std.proofs.lemmas.Result.{IfOk-weaker}
-use Rattle.vic_frame.specs.LowBitsFirst.{IsKey, uid_of}
-use Rattle.vic_frame.specs.Uids.{has}
-use Rattle.vic_field.specs.Keys.{uids_at}
 use Rattle.vic_field.proofs.populate.populate.Goals as goal
 
 has_at : (ks : List ℕ) (u : ℕ) → has (uids_at ks) u ≡ list_any (λ k. nat_eq u (uid_of k)) ks

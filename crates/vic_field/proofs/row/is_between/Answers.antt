@@ -1,5 +1,4 @@
-use Rattle.std.proofs.Common.{◌<◌, ◌≤◌, ◌∙◌, length, get_or, sym, arith}
-use Rattle.std.proofs.lemmas.Bool.{leb-true, ltb-true}
+use Rattle.std.proofs.Common.{◌<◌, ◌≤◌, ◌∙◌, length, get_or, sym, arith, leb-true, ltb-true}
 use Rattle.vic_field.proofs.RowLaws.{between}
 use Rattle.vic_field.proofs.row.is_between.Goals as goal
 use Rattle.vic_field.proofs.row.is_between.Goals.{then-from-eq0, else-from-eq0}

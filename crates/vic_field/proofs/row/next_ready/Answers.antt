@@ -1,7 +1,5 @@
 use Rattle.std.proofs.Common.{◌<◌, ◌≤◌, length, arith, ⊎_elim}
-use Rattle.std.proofs.lemmas.Bool.{cases_lt}
-use Rattle.std.proofs.lemmas.List.{get_or_default}
-use Rattle.std.proofs.lemmas.Map.Keys.{non_decreasing_from_sorted}
+use Rattle.vic_field.proofs.Words.{cases_lt, get_or_default, non_decreasing_from_sorted}
 use Rattle.vic_field.proofs.row.next_ready.Goals as goal
 
 pub loop-place-preserved : goal.loop-place-preserved

@@ -1,9 +1,7 @@
-use Rattle.std.proofs.Common.{◌≡◌, ◌+◌, ◌-◌, true, false, ltb, ltb-true, ltb-false, List, ℕ, length, take, drop, subst, sym, arith, rules}
-use Rattle.std.specs.List.Sorted.{IsPartitionPoint, IsStrictlySortedBy}
-use Rattle.std.specs.Ordering.{nat_cmp}
-use Rattle.std.proofs.lemmas.List.{length-drop, length-take-le}
+use Rattle.std.proofs.Common.{◌≡◌, ◌+◌, ◌-◌, true, false, ltb, ltb-true, ltb-false, List, ℕ, length, take, drop, subst, sym, arith, rules, nat_cmp, length-drop, length-take-le}
+use Rattle.vic_field.proofs.Words.{IsStrictlySortedBy, non_decreasing_from_sorted}
+use Rattle.std.specs.List.Sorted.{IsPartitionPoint}
 use Rattle.std.proofs.lemmas.List.Sorted.{IsNonDecreasingBy-drop, IsNonDecreasingBy-take, IsPartitionPoint-from_clause, IsPartitionedBy-ltb}
-use Rattle.std.proofs.lemmas.Map.Keys.{non_decreasing_from_sorted}
 use Rattle.vic_field.specs.inner.Rows.{HasKeyPlaceBetween, IsKeyPlace}
 use Rattle.vic_field.proofs.RowLaws.{found}
 use Rattle.vic_field.proofs.row.place_of.Goals as goal

@@ -1,15 +1,8 @@
-use Rattle.std.proofs.Common.{◌≡◌, suc, ◌+◌, ◌≤◌, ◌<◌, ℕ, List, Some, false, length, take, refl, sym, ap, ◌∙◌, subst, add-one, arith}
-use Rattle.std.specs.Prelude.{slice_get, nat_le}
-use Rattle.std.proofs.lemmas.Bool.Decides.{nat_tests}
-use Rattle.std.proofs.lemmas.Option.{slice_get_read}
-use Rattle.vic_log.specs.declared.entry.LogLine.{LogLine}
-use Rattle.vic_log.specs.declared.entry.TheConstants.{MAX_LINES}
-use Rattle.vic_log.specs.Order.{entries}
-use Rattle.vic_log.specs.Rounds.{slots_opened}
-use Rattle.vic_field.specs.Simulation.{line_count, last_needed}
+use Rattle.std.proofs.Common.{◌≡◌, suc, ◌+◌, ◌≤◌, ◌<◌, ℕ, List, Some, false, length, take, refl, sym, ap, ◌∙◌, subst, add-one, arith, slice_get, nat_le}
+use Rattle.vic_field.proofs.Words.{nat_tests, slice_get_read, LogLine, MAX_LINES, entries, slots_opened, line_count, entries_next}
+use Rattle.vic_field.specs.Simulation.{last_needed}
 use Rattle.vic_field.proofs.Follows.{line_count-front}
 use Rattle.vic_field.proofs.Listing.{entries_take}
-use Rattle.vic_log.proofs.Push.{entries_next}
 use Rattle.vic_field.proofs.Played.{line_count-next}
 use Rattle.vic_field.proofs.session.fit_filled.Goals as goal
 

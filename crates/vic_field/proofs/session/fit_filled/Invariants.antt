@@ -1,7 +1,5 @@
 use Rattle.std.proofs.Common.{◌≡◌, ◌≤◌, suc, take}
-use Rattle.vic_log.specs.declared.entry.TheConstants.{MAX_LINES}
-use Rattle.vic_log.specs.Order.{entries}
-use Rattle.vic_field.specs.Simulation.{line_count}
+use Rattle.vic_field.proofs.Words.{MAX_LINES, entries, line_count}
 use Rattle.vic_field.proofs.session.fit_filled.Given as goal
 
 abbrev pub invariant-loop-line : goal.invariant-loop-line

@@ -1,11 +1,6 @@
 use Rattle.std.proofs.Common.{◌≡◌, suc, ◌++◌, [], ◌∷◌, Some, sym, ap, ◌∙◌, arith}
+use Rattle.vic_field.proofs.Words.{slot_count, Entry, last_from, LogValue, entries, slots_opened, slot_lines_to, slot_lines, with_entries}
 use Rattle.std.proofs.lemmas.Result.{on_ok_weaker}
-use Rattle.vic_frame.specs.Slots.{slot_count}
-use Rattle.vic_log.specs.declared.entry.Entry.{Entry}
-use Rattle.vic_log.specs.Log.{last_from, LogValue}
-use Rattle.vic_log.specs.Order.{entries}
-use Rattle.vic_log.specs.Rounds.{slots_opened}
-use Rattle.vic_field.specs.inner.Steps.{slot_lines_to, slot_lines, with_entries}
 use Rattle.vic_field.proofs.Numbering.{entries-with, last_from-with, with-append}
 use Rattle.vic_field.proofs.session.play_entry.Goals as goal
 

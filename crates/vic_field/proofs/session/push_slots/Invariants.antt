@@ -1,7 +1,5 @@
 use Rattle.std.proofs.Common.{◌≡◌, ◌<◌}
-use Rattle.vic_log.specs.Populations.{IsPopulation}
-use Rattle.vic_field.specs.inner.Steps.{slot_lines_to, with_entries}
-use Rattle.vic_field.specs.Tags.{uids}
+use Rattle.vic_field.proofs.Words.{IsPopulation, slot_lines_to, with_entries, uids}
 use Rattle.vic_field.proofs.session.push_slots.Given as goal
 
 abbrev pub invariant-loop-k : goal.invariant-loop-k

@@ -1,17 +1,8 @@
-use Rattle.std.proofs.Common.{◌≡◌, ℕ, true, suc, ◌≤◌, ◌++◌, [], ◌∷◌, Some, length, take, refl, sym, ap, ◌∙◌, subst, arith, add-one}
-use Rattle.std.specs.Prelude.{slice_get, nat_le}
-use Rattle.std.proofs.lemmas.Bool.Decides.{nat_tests}
-use Rattle.std.proofs.lemmas.List.{take_all}
-use Rattle.std.proofs.lemmas.Option.{slice_get_read}
-use Rattle.vic_log.specs.declared.entry.Entry.{Entry}
-use Rattle.vic_log.specs.declared.entry.TheConstants.{MAX_LINES}
-use Rattle.vic_log.specs.Order.{entries, listed}
-use Rattle.vic_log.specs.Populations.{IsPopulation}
-use Rattle.vic_field.specs.Simulation.{line_count, last_needed, IsSimulation}
-use Rattle.vic_field.specs.inner.Steps.{slot_lines, with_entries}
+use Rattle.std.proofs.Common.{◌≡◌, ℕ, true, suc, ◌≤◌, ◌++◌, [], ◌∷◌, Some, length, take, refl, sym, ap, ◌∙◌, subst, arith, add-one, slice_get, nat_le, take_all}
+use Rattle.vic_field.proofs.Words.{nat_tests, slice_get_read, Entry, MAX_LINES, entries, listed, IsPopulation, line_count, slot_lines, with_entries, entries_next}
+use Rattle.vic_field.specs.Simulation.{last_needed, IsSimulation}
 use Rattle.vic_field.proofs.Follows.{follows, listed_population, line_count-front}
 use Rattle.vic_field.proofs.Listing.{entries_take, entry_at, valid_entry}
-use Rattle.vic_log.proofs.Push.{entries_next}
 use Rattle.vic_field.proofs.Numbering.{entries-with, last_is, numbers_next}
 use Rattle.vic_field.proofs.Played.{IsPlayed, IsPlayed-start, IsPlayed-next, line_count-next}
 use Rattle.vic_field.proofs.session.simulate.Goals as goal

@@ -1,8 +1,6 @@
 use Rattle.std.proofs.Common.{ℕ, Bool, true, false, cond, List, Some, ◌≡◌, ◌∙◌, ◌==◌, ap, sym}
-use Rattle.vic_frame.specs.Uids.{has}
-use Rattle.vic_field.specs.Keys.{tags_of}
+use Rattle.vic_field.proofs.Words.{has, tags_of, readiness, uids}
 use Rattle.vic_field.specs.Rows.{entries}
-use Rattle.vic_field.specs.Tags.{readiness, uids}
 use Rattle.vic_field.proofs.FieldRows.{more_readiness, uids_of_entries}
 use Rattle.vic_field.proofs.TagLaws.{has_key}
 use Rattle.vic_field.proofs.field.Field.add.Goals as goal

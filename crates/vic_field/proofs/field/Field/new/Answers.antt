@@ -1,6 +1,6 @@
 use Rattle.std.proofs.Common.{length, [], ap, subst, sym, arith}
+use Rattle.vic_field.proofs.Words.{AreKeys}
 use Rattle.std.specs.List.Sorted.{IsStrictlySortedBy}
-use Rattle.vic_field.specs.Keys.{AreKeys}
 use Rattle.vic_field.proofs.field.Field.new.Goals as goal
 
 no_keys : AreKeys []

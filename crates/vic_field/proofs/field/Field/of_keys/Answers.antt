@@ -1,6 +1,5 @@
 use Rattle.std.proofs.Common.{ℕ, Bool, List, ◌∙◌, ap}
-use Rattle.vic_field.specs.Keys.{tags_of}
-use Rattle.vic_field.specs.Tags.{readiness}
+use Rattle.vic_field.proofs.Words.{tags_of, readiness}
 use Rattle.vic_field.proofs.FieldRows.{new_readiness}
 use Rattle.vic_field.proofs.field.Field.of_keys.Goals as goal
 

@@ -1,9 +1,7 @@
-use Rattle.std.proofs.Common.{ℕ, Bool, true, List, ◌∙◌, ◌==◌, ap}
-use Rattle.std.specs.Option.{option_map}
+use Rattle.std.proofs.Common.{ℕ, Bool, true, List, ◌∙◌, ◌==◌, ap, option_map}
+use Rattle.vic_field.proofs.Words.{tags_of, readiness}
 use Rattle.std.proofs.lemmas.Map.Made.{lookup-map_values}
-use Rattle.vic_field.specs.Keys.{tags_of}
 use Rattle.vic_field.specs.Rows.{entries}
-use Rattle.vic_field.specs.Tags.{readiness}
 use Rattle.vic_field.proofs.TagLaws.{tags_of-map}
 use Rattle.vic_field.proofs.field.Field.power_cycle.Goals as goal
 

@@ -1,9 +1,6 @@
-use Rattle.std.proofs.Common.{ℕ, Bool, false, cond, List, ◌∙◌, ◌==◌, ap}
-use Rattle.std.specs.Option.{option_map}
-use Rattle.vic_field.specs.Keys.{tags_of}
+use Rattle.std.proofs.Common.{ℕ, Bool, false, cond, List, ◌∙◌, ◌==◌, ap, option_map}
+use Rattle.vic_field.proofs.Words.{tags_of, with_quiet, readiness}
 use Rattle.vic_field.specs.Rows.{entries}
-use Rattle.vic_field.specs.inner.Rows.{with_quiet}
-use Rattle.vic_field.specs.Tags.{readiness}
 use Rattle.vic_field.proofs.FieldRows.{quiet_readiness}
 use Rattle.vic_field.proofs.RowLaws.{small_entries}
 use Rattle.vic_field.proofs.field.Field.quiet.Goals as goal

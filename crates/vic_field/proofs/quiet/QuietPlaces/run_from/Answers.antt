@@ -1,5 +1,5 @@
 use Rattle.std.proofs.Common.{◌≡◌, ◌/◌, false, subst, arith}
-use Rattle.std.proofs.lemmas.Bool.{both_ways}
+use Rattle.vic_field.proofs.Words.{both_ways}
 use Rattle.vic_field.specs.Places.{is_set}
 use Rattle.vic_field.proofs.quiet.QuietPlaces.run_from.Goals as goal
 use Rattle.vic_field.proofs.quiet.QuietPlaces.run_from.Goals.{then-place-eq0+else-groups-gt0, else-place-eq0, then-place-eq0-2+else-words-gt0, else-place-eq0-2}
