@@ -1,6 +1,6 @@
 -- What entries in order leave for the next entry, and which UIDs they list.
 use Rattle.std.proofs.Common.{◌≡◌, ℕ, zero, suc, ◌<◌, ◌≤◌, Bool, true, false, not, List, [], ◌∷◌, take, Some, None, refl, sym, ap, ◌∙◌, arith, ⊎_elim, ◌≢◌, slice_get, if◌then◌else◌}
-use Rattle.vic_field.proofs.Words.{false≢true, IsUid, has, Entry, Sent, Silent, Collision, Heard, Listed, Garbled, FieldCycle, listed, IsPopulation, is_slot, line_count}
+use Rattle.vic_field.proofs.Words.{false≢true, IsUid, has, Entry, Sent, Listed, FieldCycle, listed, IsPopulation, is_slot, line_count}
 use Rattle.std.proofs.lemmas.Bool.{false_from_ne_true}
 use Rattle.vic_log.specs.declared.fault.PushFault.TheVariants.{EntryAfterList, DuplicateListed}
 use Rattle.vic_log.specs.Order.{IsInOrder, is_empty, refusal}
@@ -13,13 +13,8 @@ use Rattle.vic_field.specs.Simulation.{without_slots}
 -- a listed UID has a position
 pub place_of : (es : List Entry) (u : ℕ) → has (listed es) u ≡ true → (i : ℕ) × (slice_get es i ≡ Some (Listed u))
 place_of [] u h = absurd (false≢true h)
-place_of (Sent q ∷ es) u h = let w = place_of es u h in (suc w.0, w.1)
-place_of (Silent ∷ es) u h = let w = place_of es u h in (suc w.0, w.1)
-place_of (Collision ∷ es) u h = let w = place_of es u h in (suc w.0, w.1)
-place_of (Heard r ∷ es) u h = let w = place_of es u h in (suc w.0, w.1)
-place_of (Garbled ∷ es) u h = let w = place_of es u h in (suc w.0, w.1)
-place_of (FieldCycle ∷ es) u h = let w = place_of es u h in (suc w.0, w.1)
 place_of (Listed v ∷ es) u h = ⊎_elim (λ same. (0, ap (λ (w : ℕ). Some (Listed w)) (sym same))) (λ k. let w = place_of es u k in (suc w.0, w.1)) (has_cases u v (listed es) h)
+place_of (e ∷ es) u h = let w = place_of es u h in (suc w.0, w.1)
 
 -- no UID is listed twice
 abbrev AreOnce : List Entry → Type 0
@@ -30,17 +25,12 @@ once_rest e es h i j u w less a b = h (suc i) (suc j) u w (omega arith) a b
 
 listed_different : (es : List Entry) → AreOnce es → ((u : ℕ) → has (listed es) u ≡ true → IsUid u) → IsPopulation (listed es)
 listed_different [] once uids = tt
-listed_different (Sent q ∷ es) once uids = listed_different es (once_rest (Sent q) es once) uids
-listed_different (Silent ∷ es) once uids = listed_different es (once_rest Silent es once) uids
-listed_different (Collision ∷ es) once uids = listed_different es (once_rest Collision es once) uids
-listed_different (Heard r ∷ es) once uids = listed_different es (once_rest (Heard r) es once) uids
-listed_different (Garbled ∷ es) once uids = listed_different es (once_rest Garbled es once) uids
-listed_different (FieldCycle ∷ es) once uids = listed_different es (once_rest FieldCycle es once) uids
 listed_different (Listed v ∷ es) once uids = (
   uids v (has_here v (listed es)),
   false_from_ne_true _ (λ h. let w = place_of es v h in once 0 (suc w.0) v v (omega arith) refl w.1 refl),
   listed_different es (once_rest (Listed v) es once) (λ u h. uids u (has_there u v (listed es) h)),
 )
+listed_different (e ∷ es) once uids = listed_different es (once_rest e es once) uids
 
 -- the listed UIDs are a population
 pub listed_population : (es : List Entry) → IsInOrder es → AreTyped es → IsPopulation (listed es)
@@ -49,13 +39,8 @@ listed_population es order typed = listed_different es order.once (λ u h. let w
 -- slot lines list none
 listed_kept : (es : List Entry) → listed (without_slots es) ≡ listed es
 listed_kept [] = refl
-listed_kept (Sent q ∷ es) = listed_kept es
-listed_kept (Silent ∷ es) = listed_kept es
-listed_kept (Collision ∷ es) = listed_kept es
-listed_kept (Heard r ∷ es) = listed_kept es
-listed_kept (Garbled ∷ es) = listed_kept es
-listed_kept (FieldCycle ∷ es) = listed_kept es
 listed_kept (Listed u ∷ es) = ap (λ (us : List ℕ). u ∷ us) (listed_kept es)
+listed_kept (e ∷ es) = listed_kept es
 
 -- ---- what may follow
 
@@ -88,10 +73,7 @@ follows given es i FieldCycle o at s kept =
 follows given es i (Listed v) o at s kept =
     let fresh : has (listed es) v ≡ false = false_from_ne_true _ (λ h. let w = listed_before given es i v kept h in o.once w.0 i v v w.1 w.2 at refl) in
     ap (λ (b : Bool). if b then Some DuplicateListed else None) fresh
-follows given es i Silent o at s kept = absurd (cc)
-follows given es i Collision o at s kept = absurd (cc)
-follows given es i (Heard r) o at s kept = absurd (cc)
-follows given es i Garbled o at s kept = absurd (cc)
+follows given es i e o at s kept = absurd (cc)
 
 -- ---- how many lines
 

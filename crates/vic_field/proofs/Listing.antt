@@ -1,6 +1,6 @@
 -- The entries of lines, one by one, and the UIDs that they list.
 use Rattle.std.proofs.Common.{◌≡◌, ℕ, zero, suc, false, List, [], ◌∷◌, take, Some, refl, sym, ap, ◌∙◌, subst, arith, ⊎_elim, slice_get, option_map}
-use Rattle.vic_field.proofs.Words.{cases_eq, Entry, Sent, Silent, Collision, Heard, Listed, Garbled, FieldCycle, LogLine, Request, entries, is_slot}
+use Rattle.vic_field.proofs.Words.{cases_eq, Entry, Sent, LogLine, Request, entries, is_slot}
 use Rattle.vic_frame.specs.Requests.{IsValid}
 use Rattle.std.proofs.lemmas.Option.{slice_get-map}
 use Rattle.vic_log.specs.Log.{IsValidEntry}
@@ -26,9 +26,4 @@ entry_at lines i l k = slice_get-map (λ (x : LogLine). x.item) lines i ∙ ap (
 
 pub valid_entry : (e : Entry) → ((q : Request) → e ≡ Sent q → IsValid q) → IsValidEntry e
 valid_entry (Sent q) h = h q refl
-valid_entry Silent h = tt
-valid_entry Collision h = tt
-valid_entry (Heard r) h = tt
-valid_entry (Listed u) h = tt
-valid_entry Garbled h = tt
-valid_entry FieldCycle h = tt
+valid_entry e h = tt

@@ -36,11 +36,9 @@ with_none log = ap (λ (ls : List LogLine). record { lines = ls; version = log.v
 -- more, and more again
 pub with-append : (log : LogValue) (es fs : List Entry) → with_entries (with_entries log es) fs ≡ with_entries log (es ++ fs)
 with-append log es fs =
-    let n = last_from 1 log.lines in
-    let at : suc (last_from 1 (with_entries log es).lines) ≡ suc n + length es = let h = last_from-with log es in omega arith in
-    ap (λ (ls : List LogLine). record { lines = ls; version = log.version })
-    (append_assoc log.lines (numbered (suc n) es) (numbered (suc (last_from 1 (with_entries log es).lines)) fs)
-    ∙ ap (λ (ms : List LogLine). log.lines ++ ms) (ap (λ (m : ℕ). numbered (suc n) es ++ numbered m fs) at ∙ sym (numbered-append (suc n) es fs)))
+    let n = suc (last_from 1 log.lines) in
+    let at : suc (last_from 1 (with_entries log es).lines) ≡ n + length es = let h = last_from-with log es in omega arith in
+    cc (append_assoc log.lines (numbered n es) (numbered (suc (last_from 1 (with_entries log es).lines)) fs), numbered-append n es fs)
 
 -- ---- lines from 2 on
 
@@ -51,7 +49,4 @@ pub numbers_next : (log : LogValue) (es : List Entry) → log.lines ≡ numbered
 numbers_next log es h =
     let last = last_is log.lines h in
     let at : suc (last_from 1 log.lines) ≡ 2 + length (entries log.lines) = omega arith in
-    ap (λ (ls : List LogLine). ls ++ numbered (suc (last_from 1 log.lines)) es) h
-    ∙ ap (λ (n : ℕ). numbered 2 (entries log.lines) ++ numbered n es) at
-    ∙ sym (numbered-append 2 (entries log.lines) es)
-    ∙ ap (numbered 2) (sym (entries-with log es))
+    cc (numbered-append 2 (entries log.lines) es, entries-with log es)

@@ -1,9 +1,9 @@
 -- The Ready tags of a field, and the members of a population that answer: the outcome is the same.
-use Rattle.std.proofs.Common.{◌≡◌, ℕ, Bool, true, false, not, cond, ◌&&◌, List, [], ◌∷◌, length, Option, Some, None, refl, sym, ap, ◌∙◌, subst, map, ⊎_elim, nat_eq, if◌then◌else◌, filter, eqb-true, eq-eqb}
+use Rattle.std.proofs.Common.{◌≡◌, ℕ, Bool, true, false, not, cond, ◌&&◌, List, [], ◌∷◌, length, Option, Some, None, refl, sym, ap, ◌∙◌, subst, map, arith, ⊎_elim, nat_eq, if◌then◌else◌, filter, eqb-true, eq-eqb}
 use Rattle.vic_field.proofs.Words.{both_ways, false≢true, BitMask, lies_in, IsUid, has, Entry, IsPopulation, is_quiet, slot_line, uids, readiness, ready_in}
 use Rattle.std.proofs.lemmas.Bool.{and_parts, and_from, false_from_ne_true}
 use Rattle.vic_frame.specs.Uids.{AreDifferent}
-use Rattle.vic_log.specs.Populations.{Outcome, Nobody, Lone, Several, outcome_of, Fits}
+use Rattle.vic_log.specs.Populations.{Outcome, Lone, outcome_of, Fits}
 use Rattle.vic_log.proofs.Sets.{IsWithin, AreDifferent-population, AreDifferent-filter, has_at, has_here, has_there, has_cases, has_filter, filter_has, IsUid-member}
 use Rattle.vic_field.specs.Tags.{told}
 
@@ -85,14 +85,10 @@ abbrev pub Tells : List ℕ → List Entry → List (ℕ × Bool) → Type 0
 Tells p es tags = (u : ℕ) → IsUid u → readiness tags u ≡ (if has p u then Some (not (is_quiet es (length es) u)) else None)
 
 told_ready : (b q : Bool) (r : Option Bool) → r ≡ (if b then Some (not q) else None) → r ≡ Some true → (b ≡ true) × (q ≡ false)
-told_ready true true r e k = absurd (cc)
-told_ready true false r e k = (refl, refl)
-told_ready false q r e k = absurd (cc)
+told_ready b q r e k = grind arith
 
 ready_told : (b q : Bool) → b ≡ true → not q ≡ true → (if b then Some (not q) else None) ≡ Some true
-ready_told true true e k = absurd (cc)
-ready_told true false e k = refl
-ready_told false q e k = absurd (cc)
+ready_told b q e k = grind arith
 
 not_true : (q : Bool) → q ≡ false → not q ≡ true
 not_true q e = ap not e
@@ -121,6 +117,4 @@ outcome_told p es tags m pop tagged tells =
 
 -- the line of an outcome fits it
 pub fits_told : (o : Outcome) → Fits (slot_line (told o)) o
-fits_told Nobody = refl
-fits_told (Lone u) = refl
-fits_told Several = refl
+fits_told o = grind arith

@@ -1,6 +1,6 @@
 -- A session in play: the entries of a log so far, filled, and the field's tags behind them.
 use Rattle.std.proofs.Common.{◌≡◌, ℕ, zero, suc, ◌+◌, ◌<◌, ◌≤◌, Bool, true, false, not, ◌&&◌, ◌||◌, List, [], ◌∷◌, ◌++◌, length, Option, Some, None, refl, sym, ap, ◌∙◌, subst, arith, append_assoc, append-nil, length-append, ⊎_elim, slice_get, if◌then◌else◌, option_map}
-use Rattle.vic_field.proofs.Words.{false≢true, Request, BitMask, lies_in, slot_count, mask_in, IsUid, has, Entry, Sent, Silent, Collision, Heard, Listed, Garbled, FieldCycle, IsPopulation, is_quiet, is_slot, slots_opened, line_count, slot_line, slot_lines_to, slot_lines, uids, readiness, ready_in, heard}
+use Rattle.vic_field.proofs.Words.{false≢true, Request, BitMask, lies_in, slot_count, mask_in, IsUid, has, Entry, Sent, IsPopulation, is_quiet, is_slot, slots_opened, line_count, slot_line, slot_lines_to, slot_lines, uids, readiness, ready_in, heard}
 use Rattle.std.proofs.lemmas.List.Elements.{filter-append, filter_agree}
 use Rattle.std.proofs.lemmas.Option.{slice_get_cases}
 use Rattle.vic_log.specs.Populations.{answers_at, outcome_of, outcome_at, Fits, CouldHaveGiven}
@@ -51,28 +51,13 @@ round p es q tags (suc n) pop tagged open_now le h =
 -- ---- one entry
 
 fits_any : (e : Entry) → is_slot e ≡ false → (o : _) → Fits e o
-fits_any (Sent q) s o = tt
-fits_any Silent s o = absurd (cc)
-fits_any Collision s o = absurd (cc)
-fits_any (Heard r) s o = absurd (cc)
-fits_any (Listed u) s o = tt
-fits_any Garbled s o = absurd (cc)
-fits_any FieldCycle s o = tt
+fits_any e s o = grind arith
 
 plain_any : (e : Entry) → is_slot e ≡ false → IsPlain e
-plain_any (Sent q) s = tt
-plain_any Silent s = absurd (cc)
-plain_any Collision s = absurd (cc)
-plain_any (Heard r) s = absurd (cc)
-plain_any (Listed u) s = tt
-plain_any Garbled s = absurd (cc)
-plain_any FieldCycle s = tt
+plain_any e s = grind arith
 
 told_after : (h s w q : Bool) (r t : Option Bool) → r ≡ (if h then Some (not q) else None) → t ≡ option_map (λ b. not s && (w || b)) r → t ≡ (if h then Some (not (s || (not w && q))) else None)
-told_after true true w q r t e f = f ∙ ap (option_map (λ b. not true && (w || b))) e
-told_after true false true q r t e f = f ∙ ap (option_map (λ b. not false && (true || b))) e
-told_after true false false q r t e f = f ∙ ap (option_map (λ b. not false && (false || b))) e
-told_after false s w q r t e f = f ∙ ap (option_map (λ b. not s && (w || b))) e
+told_after h s w q r t e f = grind arith
 
 Tells-entry : (p : List ℕ) (es : List Entry) (tags after : List (ℕ × Bool)) (e : Entry) → ((u : ℕ) → IsUid u → readiness after u ≡ option_map (ready_after e u) (readiness tags u)) → Tells p es tags → Tells p (es ++ e ∷ []) after
 Tells-entry p es tags after e step t u h =
@@ -82,12 +67,7 @@ Tells-entry p es tags after e step t u h =
 entry_round : (p : List ℕ) (es : List Entry) (tags : List (ℕ × Bool)) (e : Entry) → is_slot e ≡ false → IsPopulation p → (0 < slots_opened (Some e) → IsPopulation (uids tags))
     → HasRound p (es ++ e ∷ []) tags → HasRound p ((es ++ e ∷ []) ++ slot_lines tags e) tags
 entry_round p es tags (Sent q) s pop tagged h = round p (es ++ Sent q ∷ []) q tags (slot_count q) pop tagged (IsOpen-sent es q) (omega arith) h
-entry_round p es tags Silent s pop tagged h = absurd (cc)
-entry_round p es tags Collision s pop tagged h = absurd (cc)
-entry_round p es tags (Heard r) s pop tagged h = absurd (cc)
-entry_round p es tags (Listed u) s pop tagged h = subst (λ fs. HasRound p fs tags) (sym (append-nil (es ++ Listed u ∷ []))) h
-entry_round p es tags Garbled s pop tagged h = absurd (cc)
-entry_round p es tags FieldCycle s pop tagged h = subst (λ fs. HasRound p fs tags) (sym (append-nil (es ++ FieldCycle ∷ []))) h
+entry_round p es tags e s pop tagged h = subst (λ fs. HasRound p fs tags) (sym (append-nil (es ++ e ∷ []))) h
 
 -- ---- what a session keeps
 
@@ -121,15 +101,11 @@ line_count-next [] e = omega arith
 line_count-next (x ∷ es) e = let h = line_count-next es e in omega arith
 
 count_next : (done es : List Entry) (tags : List (ℕ × Bool)) (e : Entry) → length es ≡ line_count done → length (es ++ e ∷ slot_lines tags e) ≡ line_count (done ++ e ∷ [])
-count_next done es tags e h =
-    let long : length (es ++ e ∷ slot_lines tags e) ≡ length es + suc (length (slot_lines tags e)) = length-append es (e ∷ slot_lines tags e) in
-    let slots = slot_lines-length tags e in
-    let more = line_count-next done e in
-    omega arith
+count_next done es tags e h = grind (arith, length-append es (e ∷ slot_lines tags e), slot_lines-length tags e, line_count-next done e)
 
 -- an element of the list is there
 here_is : (xs : List Entry) (k : ℕ) → k < length xs → (x : Entry) × (slice_get xs k ≡ Some x)
-here_is xs k h = ⊎_elim (λ w. (w.0, w.2)) (λ w. let past = w.0 in absurd (omega arith)) (slice_get_cases xs k).1
+here_is xs k h = grind (arith, slice_get_cases xs k)
 
 -- the slots of one entry more
 slots_next : (es : List Entry) (tags : List (ℕ × Bool)) (e : Entry) → HasAllSlots es → HasAllSlots (es ++ e ∷ slot_lines tags e)

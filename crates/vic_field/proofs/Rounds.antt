@@ -1,13 +1,12 @@
 -- The rounds of entries: what one entry more, and the slot lines of a request, leave as it was.
 use Rattle.std.proofs.Common.{◌≡◌, ℕ, zero, suc, ◌+◌, ◌-◌, ◌<◌, ◌⊎◌, inl, inr, Bool, true, false, not, ◌&&◌, ◌||◌, List, [], ◌∷◌, ◌++◌, length, Some, None, refl, sym, ap, ◌∙◌, subst, arith, append_assoc, append-nil, length-append, ⊎_elim, slice_get, nat_lt, if◌then◌else◌, lt-ltb}
-use Rattle.vic_field.proofs.Words.{Request, slot_count, mask_in, Entry, Sent, Silent, Collision, Heard, Listed, Garbled, FieldCycle, is_quiet, is_slot, slots_opened, slot_line, slot_lines_to, slot_lines, heard, ready_in}
+use Rattle.vic_field.proofs.Words.{Request, slot_count, mask_in, Entry, Sent, is_quiet, is_slot, slots_opened, slot_line, slot_lines_to, slot_lines, heard, ready_in}
 use Rattle.std.proofs.lemmas.Option.{slice_get_within}
 use Rattle.vic_log.specs.Order.{refusal}
 use Rattle.vic_log.specs.Quiet.{silences, wakes}
 use Rattle.vic_log.specs.Rounds.{ends_round, opener, left_since, slots_left, mask_of_slot, mask_since, mask_at}
 use Rattle.vic_log.proofs.Places.{opener_agrees, quiet_agrees, agree_append, slice_get_last}
 use Rattle.vic_field.specs.declared.outcome.Outcome.{Outcome as Told}
-use Rattle.vic_field.specs.declared.outcome.Outcome.TheVariants.{Silent as ToldSilent, Lone as ToldLone, Several as ToldSeveral}
 use Rattle.vic_field.specs.Simulation.{IsPlain}
 
 -- ---- positions of joined lists
@@ -29,14 +28,10 @@ next_length es e = length-append es (e ∷ []) ∙ omega arith
 -- ---- slot lines
 
 pub slot_line-is_slot : (o : Told) → is_slot (slot_line o) ≡ true
-slot_line-is_slot ToldSilent = refl
-slot_line-is_slot (ToldLone u) = refl
-slot_line-is_slot ToldSeveral = refl
+slot_line-is_slot o = grind arith
 
 slot_line-plain : (o : Told) → IsPlain (slot_line o)
-slot_line-plain ToldSilent = tt
-slot_line-plain (ToldLone u) = (refl, refl)
-slot_line-plain ToldSeveral = tt
+slot_line-plain o = grind arith
 
 pub slot_lines_to-length : (tags : List (ℕ × Bool)) (q : Request) (n : ℕ) → length (slot_lines_to tags q n) ≡ n
 slot_lines_to-length tags q zero = refl
@@ -59,12 +54,7 @@ slot_lines_to-each P each tags q (suc n) i e h =
 
 slot_lines-each : (P : Entry → Type 0) → ((o : Told) → P (slot_line o)) → (tags : List (ℕ × Bool)) (x : Entry) (i : ℕ) (e : Entry) → slice_get (slot_lines tags x) i ≡ Some e → P e
 slot_lines-each P each tags (Sent q) i e h = slot_lines_to-each P each tags q (slot_count q) i e h
-slot_lines-each P each tags Silent i e h = absurd (cc)
-slot_lines-each P each tags Collision i e h = absurd (cc)
-slot_lines-each P each tags (Heard r) i e h = absurd (cc)
-slot_lines-each P each tags (Listed u) i e h = absurd (cc)
-slot_lines-each P each tags Garbled i e h = absurd (cc)
-slot_lines-each P each tags FieldCycle i e h = absurd (cc)
+slot_lines-each P each tags x i e h = absurd (cc)
 
 pub slot_lines-slots : (tags : List (ℕ × Bool)) (x : Entry) (i : ℕ) (e : Entry) → slice_get (slot_lines tags x) i ≡ Some e → is_slot e ≡ true
 slot_lines-slots tags x i e h = slot_lines-each (λ y. is_slot y ≡ true) slot_line-is_slot tags x i e h
@@ -74,12 +64,7 @@ slot_lines-plain tags x i e h = slot_lines-each IsPlain slot_line-plain tags x i
 
 pub slot_lines-length : (tags : List (ℕ × Bool)) (x : Entry) → length (slot_lines tags x) ≡ slots_opened (Some x)
 slot_lines-length tags (Sent q) = slot_lines_to-length tags q (slot_count q)
-slot_lines-length tags Silent = refl
-slot_lines-length tags Collision = refl
-slot_lines-length tags (Heard r) = refl
-slot_lines-length tags (Listed u) = refl
-slot_lines-length tags Garbled = refl
-slot_lines-length tags FieldCycle = refl
+slot_lines-length tags x = refl
 
 -- ---- an open round
 
@@ -105,13 +90,7 @@ IsOpen-sent es q = record {
 }
 
 slot_stays : (e : Entry) → is_slot e ≡ true → ends_round (Some e) ≡ false
-slot_stays (Sent q) h = cc
-slot_stays Silent h = refl
-slot_stays Collision h = refl
-slot_stays (Heard r) h = refl
-slot_stays (Listed u) h = cc
-slot_stays Garbled h = refl
-slot_stays FieldCycle h = cc
+slot_stays e h = grind arith
 
 pub IsOpen-slot : (es : List Entry) (q : Request) (k : ℕ) (e : Entry) → IsOpen es q k → is_slot e ≡ true → IsOpen (es ++ e ∷ []) q (suc k)
 IsOpen-slot es q k e o h =
@@ -150,13 +129,7 @@ left_open es q k o =
 
 -- a slot line may follow where a slot is left
 pub slot_follows : (es : List Entry) (e : Entry) → is_slot e ≡ true → nat_lt 0 (slots_left es (length es)) ≡ true → refusal es e ≡ None
-slot_follows es (Sent q) s h = cc
-slot_follows es Silent s h = rw h
-slot_follows es Collision s h = rw h
-slot_follows es (Heard r) s h = rw h
-slot_follows es (Listed u) s h = cc
-slot_follows es Garbled s h = rw h
-slot_follows es FieldCycle s h = cc
+slot_follows es e s h = grind arith
 
 pub IsOpen-follows : (es : List Entry) (q : Request) (k : ℕ) (e : Entry) → IsOpen es q k → k < slot_count q → is_slot e ≡ true → refusal es e ≡ None
 IsOpen-follows es q k e o h s =
@@ -175,12 +148,4 @@ quiet-next es e u =
 
 -- a slot line changes none
 pub quiet-slot : (es : List Entry) (e : Entry) (u : ℕ) → is_slot e ≡ true → is_quiet (es ++ e ∷ []) (length (es ++ e ∷ [])) u ≡ is_quiet es (length es) u
-quiet-slot es e u h = quiet-next es e u ∙ go e h where
-  go : (e : Entry) → is_slot e ≡ true → (silences (Some e) u || (not (wakes (Some e)) && is_quiet es (length es) u)) ≡ is_quiet es (length es) u
-  go (Sent q) h = cc
-  go Silent h = refl
-  go Collision h = refl
-  go (Heard r) h = refl
-  go (Listed u) h = cc
-  go Garbled h = refl
-  go FieldCycle h = cc
+quiet-slot es e u h = rw quiet-next (grind arith)

@@ -19,7 +19,7 @@ pub use Rattle.vic_log.specs.Populations.{IsPopulation}
 pub use Rattle.vic_log.specs.Quiet.{is_quiet}
 pub use Rattle.vic_log.specs.Rounds.{is_slot, slots_opened}
 pub use Rattle.vic_log.specs.declared.entry.Entry.{Entry}
-pub use Rattle.vic_log.specs.declared.entry.Entry.TheVariants.{Collision, FieldCycle, Garbled, Heard, Listed, Sent, Silent}
+pub use Rattle.vic_log.specs.declared.entry.Entry.TheVariants.{FieldCycle, Listed, Sent}
 pub use Rattle.vic_log.specs.declared.entry.LogLine.{LogLine}
 pub use Rattle.vic_log.specs.declared.entry.TheConstants.{MAX_LINES}
 pub use Rattle.vic_field.specs.Keys.{tags_of, AreKeys, uids_at}

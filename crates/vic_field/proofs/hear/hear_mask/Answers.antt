@@ -1,8 +1,11 @@
-use Rattle.std.proofs.Common.{◌∙◌, ap, sym}
+use Rattle.std.proofs.Common.{ℕ, ◌∙◌, ◌&&◌, ap, sym, nat_le}
+use Rattle.vic_frame.specs.LowBitsFirst.{uid_of}
+use Rattle.vic_frame.proofs.KeyLaws.{is_uid}
+use Rattle.vic_frame.proofs.MirrorLaws.{mirror_of_uid}
 use Rattle.vic_field.proofs.Words.{heard}
 use Rattle.vic_field.specs.Rows.{entries}
 use Rattle.vic_field.proofs.RowLaws.{small_entries}
-use Rattle.vic_field.proofs.TagLaws.{ready_of_mask, same_ready, none_ready}
+use Rattle.vic_field.proofs.TagLaws.{ready_of_mask, none_ready}
 use Rattle.vic_field.proofs.hear.hear_mask.Goals as goal
 
 pub returns-in_default : goal.returns-in_default
@@ -11,6 +14,8 @@ returns-in_default c = ap heard (sym (none_ready c.args.mask.now c.in_default.en
 pub returns : goal.returns
 returns c =
     let row = c.args.row.now in
+    let a = c.key_range-first.result.0 in
+    let b = c.key_range-first.result.1 in
     c.hear.ensures
-    ∙ ap heard (ready_of_mask c.in-Some.mask c.key_range-first.result.0 c.key_range-first.result.1 (entries row) c.key_range-first.ensures.inside (small_entries row c.requires)
-    ∙ same_ready c.in-Some.mask c.args.mask.now c.in-Some.ensures.same (entries row))
+    ∙ ap heard (ready_of_mask c.args.mask.now a b (entries row) (λ k small. sym (c.in-Some.ensures.same (uid_of k) (is_uid k)) ∙ c.key_range-first.ensures.inside (uid_of k)
+    ∙ ap (λ (x : ℕ). nat_le a x && nat_le x b) (mirror_of_uid k small)) (small_entries row c.requires))
