@@ -1,8 +1,9 @@
 -- Bits of words, and what they say of positions.
-use Rattle.std.proofs.Common.{◌≡◌, ◌≢◌, ℕ, ◌+◌, ◌-◌, ◌*◌, ◌/◌, ◌%◌, ◌^◌, ◌<◌, ◌≤◌, Bool, true, false, List, length, get_or, set, replicate, refl, sym, ap, subst, ◌∙◌, ◌&&◌, ◌||◌, ◌⊎◌, arith, ⊎_elim, bit_or, w64, nat_eq, nat_lt, eq-eqb, eqb-true, ne_eqb, lt-ltb, le-ltb, get_or-set_same, get_or-set_other, shr-shr}
+use Rattle.std.proofs.Common.{◌≡◌, ◌≢◌, ℕ, ◌+◌, ◌-◌, ◌*◌, ◌/◌, ◌%◌, ◌^◌, ◌<◌, ◌≤◌, Bool, true, false, List, length, get_or, set, replicate, refl, sym, ap, subst, ◌∙◌, ◌&&◌, ◌||◌, ◌⊎◌, arith, ⊎_elim, bit_or, w64, add-zero, nat_eq, nat_lt, eq-eqb, eqb-true, ne_eqb, get_or-set_same, get_or-set_other, shr-shr}
+use Rattle.std.proofs.lemmas.Bool.Decides.{nat_tests}
 use Rattle.vic_field.proofs.Words.{both_ways, cases_lt, cases_eq}
 use Rattle.std.specs.Int.{bit_at, trailing_ones}
-use Rattle.std.proofs.lemmas.Bool.{and_left, or_cases, or_right}
+use Rattle.std.proofs.lemmas.Bool.{or_cases, or_right}
 use Rattle.std.proofs.lemmas.List.{get_or_past, get_or-replicate, length-replicate}
 use Rattle.std.proofs.lemmas.Nat.{or_lt, shr_le}
 use Rattle.std.proofs.lemmas.Nat.Bits.{bit_at_above, bit_at_ones, bit_at-trailing_ones, bit_at_set_same, bit_at_set_other, same_from_bits_below}
@@ -13,10 +14,7 @@ use Rattle.vic_field.specs.inner.Places.{HasBitMore, HasBits}
 
 -- no bit is set in a stretch after those of all words
 pub none_later : (t s k : ℕ) (ws : List Word) → AreUpTo t ws → t < s → is_set s ws k ≡ false
-none_later t s k ws up later = and_left _ _ (ne_eqb _ s (λ e. ⊎_elim
-    (λ (within : k / 64 < length ws). let low = up (k / 64) blank within in omega (arith, low, later, e))
-    (λ (past : length ws ≤ k / 64). let none : (get_or ws (k / 64) blank).stretch ≡ 0 = ap (λ (w : Word). w.stretch) (get_or_past ws (k / 64) blank past) in omega (arith, none, later, e))
-    (cases_lt (k / 64) (length ws))))
+none_later t s k ws up later = grind (arith, nat_tests, up (k / 64) blank, get_or_past ws (k / 64) blank)
 
 pub all_blank : (n : ℕ) (ws : List Word) → ws ≡ replicate n blank → AreUpTo 0 ws
 all_blank n ws e = subst (AreUpTo 0) (sym e) (λ k d lt. let is : (get_or (replicate n blank) k d).stretch ≡ 0 = ap (λ (w : Word). w.stretch) (get_or-replicate n k blank d (let size = length-replicate n blank in omega (arith, size, lt))) in omega (arith, is))
@@ -26,27 +24,19 @@ all_blank n ws e = subst (AreUpTo 0) (sym e) (λ k d lt. let is : (get_or (repli
 shifted : (b r i : ℕ) → bit_at (b / 2 ^ r) i ≡ bit_at b (r + i)
 shifted b r i = ap (λ n. n % 2) (shr-shr b r i)
 
-pub ones : (b r : ℕ) → b < 2 ^ 64 → (i : ℕ) → i < trailing_ones w64 (b / 2 ^ r) → bit_at b (r + i) ≡ 1
+-- those at its end
+low_ones : (n : ℕ) → n < 2 ^ 64 → ((i : ℕ) → i < trailing_ones w64 n → bit_at n i ≡ 1) × (trailing_ones w64 n ≡ 0 → bit_at n 0 ≡ 0)
 unfolding lib.Count.count_trailing_zeros
-ones b r small i h = sym (shifted b r i) ∙ ⊎_elim
-    (λ (below : b / 2 ^ r + 1 < 2 ^ 64). (bit_at-trailing_ones w64 (b / 2 ^ r) below).2 i h)
-    (λ (top : 2 ^ 64 ≤ b / 2 ^ r + 1).
-    let low = shr_le b r in
-    let all : b / 2 ^ r ≡ 2 ^ 64 - 1 = omega (arith, top, low, small) in
-    let far : i < 64 = subst (λ n. i < trailing_ones w64 n) all h in
-    ap (λ n. bit_at n i) all ∙ bit_at_ones 64 i far)
-    (cases_lt (b / 2 ^ r + 1) (2 ^ 64))
+low_ones n small = ⊎_elim
+    (λ (below : n + 1 < 2 ^ 64). let ends = bit_at-trailing_ones w64 n below in (ends.2, λ e. rw e at ends.1))
+    (λ (top : 2 ^ 64 ≤ n + 1). let all : n ≡ 2 ^ 64 - 1 = omega arith in rw all (bit_at_ones 64, λ e. absurd (omega arith)))
+    (cases_lt (n + 1) (2 ^ 64))
+
+pub ones : (b r : ℕ) → b < 2 ^ 64 → (i : ℕ) → i < trailing_ones w64 (b / 2 ^ r) → bit_at b (r + i) ≡ 1
+ones b r small i h = let low = shr_le b r in sym (shifted b r i) ∙ (low_ones (b / 2 ^ r) (omega arith)).0 i h
 
 pub ones_end : (b r : ℕ) → b < 2 ^ 64 → trailing_ones w64 (b / 2 ^ r) ≡ 0 → bit_at b r ≡ 0
-unfolding lib.Count.count_trailing_zeros
-ones_end b r small e = let same : r + 0 ≡ r = omega arith in subst (λ n. bit_at b n ≡ 0) same (sym (shifted b r 0) ∙ ⊎_elim
-    (λ (below : b / 2 ^ r + 1 < 2 ^ 64). ap (bit_at (b / 2 ^ r)) (sym e) ∙ (bit_at-trailing_ones w64 (b / 2 ^ r) below).1)
-    (λ (top : 2 ^ 64 ≤ b / 2 ^ r + 1).
-    let low = shr_le b r in
-    let all : b / 2 ^ r ≡ 2 ^ 64 - 1 = omega (arith, top, low, small) in
-    let none : 64 ≡ 0 = subst (λ n. trailing_ones w64 n ≡ 0) all e in
-    absurd (omega (arith, none)))
-    (cases_lt (b / 2 ^ r + 1) (2 ^ 64)))
+ones_end b r small e = let low = shr_le b r in rw add-zero at (sym (shifted b r 0) ∙ (low_ones (b / 2 ^ r) (omega arith)).1 e)
 
 pub ones_within : (b r : ℕ) → b < 2 ^ 64 → r < 64 → r + trailing_ones w64 (b / 2 ^ r) ≤ 64
 ones_within b r small lt = ⊎_elim
@@ -69,19 +59,7 @@ set_here s bit b k ws h e =
     rw (here, eq-eqb s s refl) refl
 
 pub set_bit : (s bit b : ℕ) (ws : List Word) → bit / 64 < length ws → HasBits s ws (bit / 64) b → HasBitMore s bit ws (set ws (bit / 64) (with_bit s bit b))
-set_bit s bit b ws h bits k = ⊎_elim
-    (λ (same : k / 64 ≡ bit / 64). set_here s bit b k ws h same ∙ ⊎_elim
-    (λ (here : k ≡ bit).
-    let one : bit_at (with_bit s bit b).bits (k % 64) ≡ 1 = ap (λ n. bit_at (with_bit s bit b).bits (n % 64)) here ∙ bit_at_set_same w64 b (bit % 64) (omega arith) in
-    rw (eq-eqb k bit here) (eq-eqb _ 1 one))
-    (λ (other : k ≢ bit).
-    let same_bit : bit_at (with_bit s bit b).bits (k % 64) ≡ bit_at b (k % 64) = bit_at_set_other w64 b (bit % 64) (omega arith) (k % 64) (λ e. other (omega (arith, e, same))) in
-    rw (ne_eqb k bit other) (ap (λ n. nat_eq n 1) same_bit ∙ sym (bits k same)))
-    (cases_eq k bit))
-    (λ (apart : k / 64 ≢ bit / 64).
-    let there : get_or (set ws (bit / 64) (with_bit s bit b)) (k / 64) blank ≡ get_or ws (k / 64) blank = get_or-set_other ws (bit / 64) (k / 64) (with_bit s bit b) blank apart in
-    rw (there, ne_eqb k bit (λ e. apart (ap (λ n. n / 64) e))) refl)
-    (cases_eq (k / 64) (bit / 64))
+set_bit s bit b ws h bits k = grind (arith, nat_tests, set_here s bit b k ws h, bits k, bit_at_set_same w64 b (bit % 64), bit_at_set_other w64 b (bit % 64), get_or-set_other ws (bit / 64) (k / 64) (with_bit s bit b) blank)
 
 pub set_full : (s bit b k : ℕ) (ws : List Word) → bit / 64 < length ws → (with_bit s bit b).bits ≡ 2 ^ 64 - 1 → k / 64 ≡ bit / 64 → is_set s (set ws (bit / 64) (with_bit s bit b)) k ≡ true
 set_full s bit b k ws h all e = set_here s bit b k ws h e ∙ eq-eqb _ 1 (ap (λ n. bit_at n (k % 64)) all ∙ bit_at_ones 64 (k % 64) (omega arith))
@@ -107,12 +85,12 @@ none_noted t s ws notes up notes_up later room = record {
 pub sound_later : (t : ℕ) (q : QuietPlaces) → t < q.stretch → AreUpTo t q.places.items → AreUpTo t q.full_words.items → AreUpTo t q.full_groups.items
     → length q.places.items ≤ length q.full_words.items * 64 → length q.full_words.items ≤ length q.full_groups.items * 64 → IsSound q
 sound_later t q later places words groups room word_room = record {
-  begun = omega (arith, later);
+  begun = omega arith;
   full_words = none_noted t q.stretch _ _ places words later room;
   full_groups = none_noted t q.stretch _ _ words groups later word_room;
-  places_up_to = λ k d lt. let low = places k d lt in omega (arith, low, later);
-  words_up_to = λ k d lt. let low = words k d lt in omega (arith, low, later);
-  groups_up_to = λ k d lt. let low = groups k d lt in omega (arith, low, later);
+  places_up_to = λ k d. omega (arith, places k d);
+  words_up_to = λ k d. omega (arith, words k d);
+  groups_up_to = λ k d. omega (arith, groups k d);
 }
 
 others : (s bit n : ℕ) (ws new : List Word) → HasBitMore s bit ws new → n ≢ bit / 64 → IsFull s new n → IsFull s ws n
@@ -151,54 +129,14 @@ pub record IsGapped (gap next : ℕ) (old new : ℕ → Bool) : Type 0 where
   pub put : new gap ≡ false
   pub after : (k : ℕ) → gap ≤ k → new (k + 1) ≡ (nat_lt (k + 1) next && old k)
 
-lt_more : (k n : ℕ) → k ≢ n → nat_lt k (n + 1) ≡ nat_lt k n
-lt_more k n other = ⊎_elim
-    (λ (under : k < n). lt-ltb k (n + 1) (omega arith) ∙ sym (lt-ltb k n under))
-    (λ (from : n ≤ k). le-ltb k (n + 1) (omega (arith, from, other)) ∙ sym (le-ltb k n from))
-    (cases_lt k n)
-
-passed : (next k : ℕ) (b : Bool) → k + 1 ≢ next → (nat_lt (k + 1) (next + 1) && b) ≡ (nat_lt (k + 1) next && b)
-passed next k b other = ap (λ (t : Bool). t && b) (lt_more (k + 1) next other)
-
-reached : (next k : ℕ) (b : Bool) → k + 1 ≡ next → (nat_lt (k + 1) (next + 1) && b) ≡ b
-reached next k b same = ap (λ (t : Bool). t && b) (lt-ltb (k + 1) (next + 1) (omega (arith, same)))
-
 pub none_gapped : (gap : ℕ) (old new : ℕ → Bool) → ((k : ℕ) → new k ≡ false) → IsGapped gap 1 old new
-none_gapped gap old new none = record {
-  before = λ k lt. none k ∙ sym (ap (λ (t : Bool). t && old k) (le-ltb (k + 1) 1 (omega arith)));
-  put = none gap;
-  after = λ k le. none (k + 1) ∙ sym (ap (λ (t : Bool). t && old k) (le-ltb (k + 1) 1 (omega arith)));
-}
+none_gapped gap old new none = grind (arith, nat_tests, none)
 
 -- one position further, which isn't Quiet
 pub gapped_ready : (gap next : ℕ) (old new : ℕ → Bool) → ((k : ℕ) → k + 1 ≡ next → old k ≡ false) → IsGapped gap next old new → IsGapped gap (next + 1) old new
-gapped_ready gap next old new ready i = record {
-  before = λ k lt. i.before k lt ∙ same k;
-  put = i.put;
-  after = λ k le. i.after k le ∙ same k;
-} where
-  same : (k : ℕ) → (nat_lt (k + 1) next && old k) ≡ (nat_lt (k + 1) (next + 1) && old k)
-  same k = ⊎_elim
-      (λ (here : k + 1 ≡ next). ap (λ (t : Bool). t && old k) (le-ltb (k + 1) next (omega (arith, here))) ∙ sym (ready k here) ∙ sym (reached next k (old k) here))
-      (λ (other : k + 1 ≢ next). sym (passed next k (old k) other))
-      (cases_eq (k + 1) next)
+gapped_ready gap next old new ready i = grind (arith, nat_tests)
 
 -- one position further, which is Quiet, and stands at `to` now
 pub gapped_quiet : (gap next to : ℕ) (old was new : ℕ → Bool) → ((k : ℕ) → k + 1 ≡ next → old k ≡ true) → ((to + 1 ≡ next) × (to < gap)) ⊎ ((to ≡ next) × (gap < next))
     → ((k : ℕ) → new k ≡ (nat_eq k to || was k)) → IsGapped gap next old was → IsGapped gap (next + 1) old new
-gapped_quiet gap next to old was new quiet place added i = record {
-  before = λ k lt. ⊎_elim
-      (λ (here : k + 1 ≡ next). at k k here (⊎_elim (λ p. omega (arith, here, p.0)) (λ p. absurd (omega (arith, here, lt, p.1))) place))
-      (λ (other : k + 1 ≢ next). off k (⊎_elim (λ p e. other (omega (arith, p.0, e))) (λ p e. omega (arith, lt, p.0, p.1, e)) place) ∙ i.before k lt ∙ sym (passed next k (old k) other))
-      (cases_eq (k + 1) next);
-  put = off gap (⊎_elim (λ p e. omega (arith, p.1, e)) (λ p e. omega (arith, p.0, p.1, e)) place) ∙ i.put;
-  after = λ k le. ⊎_elim
-      (λ (here : k + 1 ≡ next). at (k + 1) k here (⊎_elim (λ p. absurd (omega (arith, here, le, p.0, p.1))) (λ p. omega (arith, here, p.0)) place))
-      (λ (other : k + 1 ≢ next). off (k + 1) (⊎_elim (λ p e. omega (arith, le, p.1, e)) (λ p e. other (omega (arith, p.0, e))) place) ∙ i.after k le ∙ sym (passed next k (old k) other))
-      (cases_eq (k + 1) next);
-} where
-  at : (n k : ℕ) → k + 1 ≡ next → n ≡ to → new n ≡ (nat_lt (k + 1) (next + 1) && old k)
-  at n k here same = added n ∙ ap (λ (b : Bool). b || was n) (eq-eqb n to same) ∙ sym (quiet k here) ∙ sym (reached next k (old k) here)
-
-  off : (n : ℕ) → n ≢ to → new n ≡ was n
-  off n other = added n ∙ ap (λ (b : Bool). b || was n) (ne_eqb n to other)
+gapped_quiet gap next to old was new quiet place added i = grind (arith, nat_tests)

@@ -1,9 +1,11 @@
 -- Tags in a row by their keys.
-use Rattle.std.proofs.Common.{◌≡◌, ◌≢◌, ℕ, zero, suc, ◌+◌, ◌-◌, ◌<◌, ◌≤◌, Bool, true, false, List, [], ◌∷◌, ◌&&◌, ◌||◌, length, take, drop, get_or, map, not, refl, sym, ap, subst, ◌∙◌, arith, ⊎_elim, nat_eq, nat_le, nat_cmp, All, insert, ne_eqb, eq-eqb, le-leb, get_or-take, get_or-drop}
-use Rattle.vic_field.proofs.Words.{IsStrictlySortedBy, keys_of, cases_lt, cases_eq, get_or_default, non_decreasing_from_sorted, IsKey, uid_of, has, AreKeys, is_quiet_place, with_quiet, heard}
+use Rattle.std.proofs.Common.{◌≡◌, ◌≢◌, ℕ, zero, suc, ◌+◌, ◌-◌, ◌<◌, ◌≤◌, Bool, true, false, List, [], ◌∷◌, ◌&&◌, ◌||◌, length, take, drop, get_or, map, not, refl, sym, ap, subst, ◌∙◌, arith, ⊎_elim, add-one, drop-cons, drop-drop, drop_of_length-le, length-drop, nat_eq, nat_le, nat_cmp, All, insert, ne_eqb, eq-eqb, le-leb, get_or-take, get_or-drop}
+use Rattle.vic_field.proofs.Words.{IsStrictlySortedBy, keys_of, cases_lt, cases_eq, get_or_default, non_decreasing_from_sorted, IsKey, uid_of, has, AreKeys, is_quiet_place, with_quiet}
 use Rattle.std.specs.List.{AllByRecursion, IsDistinct}
-use Rattle.std.proofs.Math.Bool.{and-false}
-use Rattle.std.proofs.lemmas.Bool.{cases_Bool, lt-leb, or_parts}
+use Rattle.std.proofs.Math.Bool.{and-true}
+use Rattle.std.proofs.lemmas.Bool.Decides.{nat_tests}
+use Rattle.vic_log.proofs.Sets.{eq_swapped}
+use Rattle.std.proofs.lemmas.Bool.{or_parts}
 use Rattle.std.proofs.lemmas.List.{get_or-map, length-map, same_lists}
 use Rattle.std.proofs.lemmas.List.Edits.{get_or-insert_at, get_or-insert_below, get_or-insert_above, length-insert}
 use Rattle.std.proofs.lemmas.List.Elements.{All-cons}
@@ -11,11 +13,10 @@ use Rattle.std.proofs.lemmas.List.Folds.{list_any_at}
 use Rattle.std.proofs.lemmas.List.FromFn.{get_or-map-range_with_len, length-map-range_with_len}
 use Rattle.std.proofs.lemmas.List.Sorted.{All-permutation, IsNonDecreasingBy-insert, IsPermutation-insert}
 use Rattle.std.proofs.lemmas.Map.Keys.{IsDistinct-IsPermutation, IsDistinct-cons, IsDistinct-from_apart, IsStrictlyIncreasing-from_distinct, below_from_sorted, sorted_from_strictly_increasing}
-use Rattle.vic_field.specs.declared.outcome.Outcome.TheVariants.{Several}
 use Rattle.vic_field.specs.declared.row.Row.{Row}
 use Rattle.vic_field.specs.Keys.{ready_between}
 use Rattle.vic_field.specs.Rows.{IsRow, entries, entry_at}
-use Rattle.vic_field.specs.inner.Rows.{HasKeyPlaceBetween, IsKeyPlace, as_ready}
+use Rattle.vic_field.specs.inner.Rows.{HasKeyPlaceBetween, IsKeyPlace, as_ready, HasNoneReady, IsNextReady}
 
 -- ---- where keys stand
 
@@ -25,46 +26,26 @@ pub between : (ks : List ℕ) (key from to : ℕ) → IsStrictlySortedBy nat_cmp
 between ks key from to o le within low high = record {
   order = le;
   within = within;
-  below = λ k lt.
-      let up = non_decreasing_from_sorted ks o k (from - 1) 0 (omega (arith, lt)) (omega (arith, lt, le, within)) in
-      let last = low (omega (arith, lt)) in
-      omega (arith, up, last);
-  above = λ k past lt.
-      let up = non_decreasing_from_sorted ks o to k 0 past lt in
-      let first = high (omega (arith, past, lt)) in
-      omega (arith, up, first);
+  below = λ k lt. omega (arith, non_decreasing_from_sorted ks o k (from - 1) 0);
+  above = λ k past lt. omega (arith, non_decreasing_from_sorted ks o to k 0);
 }
 
 -- what stands between two positions, counted from the first
 inside : (ks : List ℕ) (from to k : ℕ) → from ≤ k → k < to → get_or (take (to - from) (drop from ks)) (k - from) 0 ≡ get_or ks k 0
 inside ks from to k le lt =
-    let back : from + (k - from) ≡ k = omega (arith, le) in
-    get_or-take (to - from) (drop from ks) (k - from) 0 (omega (arith, le, lt)) ∙ get_or-drop from ks (k - from) 0 ∙ ap (λ n. get_or ks n 0) back
+    let back : from + (k - from) ≡ k = omega arith in
+    get_or-take (to - from) (drop from ks) (k - from) 0 (omega arith) ∙ get_or-drop from ks (k - from) 0 ∙ ap (λ n. get_or ks n 0) back
 
 -- the position that was looked for between two others
 pub found : (ks : List ℕ) (key from to i : ℕ) → HasKeyPlaceBetween key ks from to → i ≤ to - from
     → ((k : ℕ) → k < i → get_or (take (to - from) (drop from ks)) k 0 < key)
     → ((k : ℕ) → i ≤ k → k < to - from → key ≤ get_or (take (to - from) (drop from ks)) k 0) → IsKeyPlace key ks (from + i)
 found ks key from to i h most below above =
-    let order = h.order in
-    let within = h.within in
     record {
       order = omega arith;
-      within = omega (arith, order, within, most);
-      below = λ k lt. ⊎_elim
-          (λ (before : k < from). h.below k before)
-          (λ (le : from ≤ k).
-          let here = inside ks from to k le (omega (arith, lt, most, le)) in
-          let less = below (k - from) (omega (arith, lt, le)) in
-          omega (arith, here, less))
-          (cases_lt k from);
-      above = λ k le lt. ⊎_elim
-          (λ (before : k < to).
-          let here = inside ks from to k (omega (arith, le)) before in
-          let more = above (k - from) (omega (arith, le)) (omega (arith, le, before)) in
-          omega (arith, here, more))
-          (λ (past : to ≤ k). h.above k past lt)
-          (cases_lt k to);
+      within = omega arith;
+      below = λ k lt. grind (arith, h.below k, inside ks from to k, below (k - from));
+      above = λ k le lt. grind (arith, h.above k, inside ks from to k, above (k - from));
     }
 
 pub key_there : (ks : List ℕ) (q k : ℕ) → k < length ks → get_or ks k 0 ≡ q → has ks q ≡ true
@@ -76,13 +57,7 @@ none_there (k ∷ ks) q none = rw (ne_eqb q k (λ e. none 0 (omega arith) (sym e
 
 -- no key is this one, where none is at its position
 pub lacks : (ks : List ℕ) (q place : ℕ) → IsStrictlySortedBy nat_cmp ks → IsKeyPlace q ks place → (place < length ks → get_or ks place 0 ≢ q) → (k : ℕ) → k < length ks → get_or ks k 0 ≢ q
-lacks ks q place o p other k h e = ⊎_elim
-    (λ (before : k < place). let a = p.below k before in omega (arith, a, e))
-    (λ (from : place ≤ k).
-    let low = p.above place (omega arith) (omega arith) in
-    let up = non_decreasing_from_sorted ks o place k 0 from h in
-    other (omega arith) (omega (arith, low, up, e)))
-    (cases_lt k place)
+lacks ks q place o p other k h e = grind (arith, p.below k, p.above place, non_decreasing_from_sorted ks o place k 0)
 
 pub key_lacks : (ks : List ℕ) (q place : ℕ) → IsStrictlySortedBy nat_cmp ks → IsKeyPlace q ks place → (place < length ks → get_or ks place 0 ≢ q) → has ks q ≡ false
 key_lacks ks q place o p other = none_there ks q (lacks ks q place o p other)
@@ -124,33 +99,18 @@ each f r new size same =
     ∙ ap f (sym (entry r k d lt))
     ∙ sym (get_or-map f (entries r) k d d (omega (arith, lt, b))))
 
-not_or : (a b : Bool) → not (a || b) ≡ (not b && not a)
-not_or true true = refl
-not_or true false = refl
-not_or false true = refl
-not_or false false = refl
+one_quiet : (ks : List ℕ) (place k key : ℕ) (q : Bool) → IsStrictlySortedBy nat_cmp ks → place < length ks → k < length ks → get_or ks place 0 ≡ key → not (nat_eq k place || q) ≡ (not q && not (nat_eq key (get_or ks k 0)))
+one_quiet ks place k key q o h lt e = grind (arith, nat_tests, below_from_sorted ks k place 0 o, below_from_sorted ks place k 0 o)
 
 -- the tag at a position made Quiet
 pub silenced : (r new : Row) (key place : ℕ) → IsRow r → place < length r.keys.items → get_or r.keys.items place 0 ≡ key → new.keys.items ≡ r.keys.items
     → ((k : ℕ) → is_quiet_place new.quiet k ≡ (nat_eq k place || is_quiet_place r.quiet k)) → entries new ≡ with_quiet key (entries r)
 silenced r new key place i h e keys added =
-    let ks = r.keys.items in
-    each (λ t. (t.0, t.1 && not (nat_eq key t.0))) r new (ap length keys) (λ k lt.
-    let same : nat_eq k place ≡ nat_eq key (get_or ks k 0) = ⊎_elim
-    (λ (here : k ≡ place). eq-eqb k place here ∙ sym (eq-eqb key (get_or ks k 0) (sym (ap (λ n. get_or ks n 0) here ∙ e))))
-    (λ (other : k ≢ place). ne_eqb k place other ∙ sym (ne_eqb key (get_or ks k 0) (λ is. other (⊎_elim
-    (λ (before : k < place). let up = below_from_sorted ks k place 0 i.keys.rising before h in omega (arith, up, e, is))
-    (λ (from : place ≤ k). let up : place < k = omega (arith, from, other) in let more = below_from_sorted ks place k 0 i.keys.rising up lt in omega (arith, more, e, is))
-    (cases_lt k place)))))
-    (cases_eq k place) in
-    rw (keys, added k, same, not_or (nat_eq key (get_or ks k 0)) (is_quiet_place r.quiet k)) refl)
+    each (λ t. (t.0, t.1 && not (nat_eq key t.0))) r new (ap length keys) (λ k lt. rw (keys, added k, one_quiet r.keys.items place k key (is_quiet_place r.quiet k) i.keys.rising h lt e) refl)
 
 pub with_quiet_none : (r : Row) (q : ℕ) → ((k : ℕ) → k < length r.keys.items → get_or r.keys.items k 0 ≢ q) → entries r ≡ with_quiet q (entries r)
 with_quiet_none r q none = each (λ t. (t.0, t.1 && not (nat_eq q t.0))) r r refl (λ k lt.
-    rw (ne_eqb q (get_or r.keys.items k 0) (λ e. none k lt (sym e))) (ap (λ (b : Bool). (get_or r.keys.items k 0, b)) (sym (and_yes (not (is_quiet_place r.quiet k)))))) where
-      and_yes : (b : Bool) → (b && true) ≡ b
-      and_yes true = refl
-      and_yes false = refl
+    rw (ne_eqb q (get_or r.keys.items k 0) (λ e. none k lt (sym e)), and-true) refl)
 
 pub all_ready : (r new : Row) → new.keys.items ≡ r.keys.items → ((k : ℕ) → is_quiet_place new.quiet k ≡ false) → entries new ≡ as_ready (entries r)
 all_ready r new keys none = each (λ e. (e.0, true)) r new (ap length keys) (λ k lt. rw (keys, none k) refl)
@@ -168,12 +128,6 @@ no_key : (q : ℕ) (ks : List ℕ) → has ks q ≡ false → AllByRecursion (λ
 no_key q [] h = tt
 no_key q (k ∷ ks) h = let parts = or_parts (nat_eq q k) (has ks q) h in (parts.0, no_key q ks parts.1)
 
-flips : (x y : ℕ) → nat_eq x y ≡ nat_eq y x
-flips x y = ⊎_elim
-    (λ (same : x ≡ y). eq-eqb x y same ∙ sym (eq-eqb y x (sym same)))
-    (λ (other : x ≢ y). ne_eqb x y other ∙ sym (ne_eqb y x (λ e. other (sym e))))
-    (cases_eq x y)
-
 -- keys with one more at its position
 pub inserted_keys : (ks : List ℕ) (place key : ℕ) → AreKeys ks → IsKeyPlace key ks place → has ks key ≡ false → IsKey key → AreKeys (insert ks place key)
 inserted_keys ks place key i p fresh small = record {
@@ -183,7 +137,7 @@ inserted_keys ks place key i p fresh small = record {
       (λ k d lt. let low = p.below k lt in let within = p.within in let same = get_or_default ks k d 0 (omega (arith, lt, within)) in omega (arith, low, same))
       (λ k d le lt. let high = p.above k le lt in let same = get_or_default ks k d 0 lt in omega (arith, high, same)) in
       let apart : IsDistinct nat_eq ks = IsDistinct-from_apart nat_eq ks (λ j k d lt h. ne_eqb (get_or ks j d) (get_or ks k d) (λ e. let more = below_from_sorted ks j k d i.rising lt h in omega (arith, more, e))) in
-      let distinct = IsDistinct-IsPermutation nat_eq flips (key ∷ ks) (insert ks place key) (IsPermutation-insert ks place key) (IsDistinct-cons nat_eq key ks (no_key key ks fresh) apart) in
+      let distinct = IsDistinct-IsPermutation nat_eq eq_swapped (key ∷ ks) (insert ks place key) (IsPermutation-insert ks place key) (IsDistinct-cons nat_eq key ks (no_key key ks fresh) apart) in
       sorted_from_strictly_increasing (insert ks place key) (IsStrictlyIncreasing-from_distinct (insert ks place key) up distinct);
 }
 
@@ -223,68 +177,36 @@ inserted r new key place within keys before put after =
 abbrev answers : ℕ → ℕ → ℕ × Bool → Bool
 answers a b e = (nat_le a e.0 && nat_le e.0 b) && e.1
 
-nobody : (a b : ℕ) (es : List (ℕ × Bool)) → ((k : ℕ) (d : ℕ × Bool) → k < length es → answers a b (get_or es k d) ≡ false) → ready_between a b es ≡ []
-nobody a b [] none = refl
-nobody a b (e ∷ es) none = rw (none 0 e (omega arith)) (nobody a b es (λ k d h. none (suc k) d (omega arith)))
+skipped : (a b : ℕ) (es : List (ℕ × Bool)) (n : ℕ) → ((k : ℕ) (d : ℕ × Bool) → k < n → k < length es → answers a b (get_or es k d) ≡ false) → ready_between a b es ≡ ready_between a b (drop n es)
+skipped a b es zero none = refl
+skipped a b [] (suc n) none = refl
+skipped a b (e ∷ es) (suc n) none = rw (none 0 e (omega arith) (omega arith)) (skipped a b es n (λ k d lt h. none (suc k) d (omega arith) (omega arith)))
 
-lone : (a b : ℕ) (es : List (ℕ × Bool)) (i : ℕ) (d : ℕ × Bool) → i < length es → answers a b (get_or es i d) ≡ true → ((k : ℕ) (e : ℕ × Bool) → k < length es → k ≢ i → answers a b (get_or es k e) ≡ false)
-    → ready_between a b es ≡ uid_of (get_or es i d).0 ∷ []
-lone a b [] i d h here others = absurd (omega arith)
-lone a b (e ∷ es) zero d h here others = rw here (ap (λ us. uid_of e.0 ∷ us) (nobody a b es (λ k x lt. others (suc k) x (omega arith) (λ same. omega (arith, same)))))
-lone a b (e ∷ es) (suc i) d h here others = rw (others 0 e (omega arith) (λ same. omega (arith, same)))
-    (lone a b es i d (omega arith) here (λ k x lt differs. others (suc k) x (omega arith) (λ same. differs (omega (arith, same)))))
-
-one_more : (a b : ℕ) (es : List (ℕ × Bool)) (e : ℕ × Bool) (n : ℕ) → n ≤ length (ready_between a b es) → n ≤ length (ready_between a b (e ∷ es))
-one_more a b es e n h = ⊎_elim
-    (λ (yes : answers a b e ≡ true). rw yes (omega (arith, h)))
-    (λ (no_ : answers a b e ≡ false). rw no_ h)
-    (cases_Bool (answers a b e))
-
-somebody : (a b : ℕ) (es : List (ℕ × Bool)) (i : ℕ) (d : ℕ × Bool) → i < length es → answers a b (get_or es i d) ≡ true → 1 ≤ length (ready_between a b es)
-somebody a b [] i d h here = absurd (omega arith)
-somebody a b (e ∷ es) zero d h here = rw here (omega arith)
-somebody a b (e ∷ es) (suc i) d h here = one_more a b es e 1 (somebody a b es i d (omega arith) here)
-
-two : (a b : ℕ) (es : List (ℕ × Bool)) (i j : ℕ) (d : ℕ × Bool) → i < j → j < length es → answers a b (get_or es i d) ≡ true → answers a b (get_or es j d) ≡ true → 2 ≤ length (ready_between a b es)
-two a b [] i j d lt h one other = absurd (omega arith)
-two a b (e ∷ es) zero zero d lt h one other = absurd (omega arith)
-two a b (e ∷ es) zero (suc j) d lt h one other = let rest = somebody a b es j d (omega arith) other in rw one (omega (arith, rest))
-two a b (e ∷ es) (suc i) zero d lt h one other = absurd (omega arith)
-two a b (e ∷ es) (suc i) (suc j) d lt h one other = one_more a b es e 2 (two a b es i j d (omega arith) (omega arith) one other)
-
-several : (us : List ℕ) → 2 ≤ length us → heard us ≡ Several
-several [] h = absurd (omega arith)
-several (u ∷ []) h = absurd (omega arith)
-several (u ∷ v ∷ us) h = refl
-
--- a tag that isn't Ready, or whose key lies outside, doesn't answer
-pub outside : (r : Row) (a b from : ℕ) → IsKeyPlace a r.keys.items from → (k : ℕ) → (from ≤ k → get_or r.keys.items k 0 ≤ b → is_quiet_place r.quiet k ≡ true) → answers a b (entry_at r k) ≡ false
-outside r a b from p k quiet = ⊎_elim
-    (λ (before : k < from). rw (lt-leb a key (p.below k before)) refl)
-    (λ (low : from ≤ k). ⊎_elim
-    (λ (past : b < key). rw (lt-leb key b past, and-false (nat_le a key)) refl)
-    (λ (high : key ≤ b). rw (quiet low high) (and-false (nat_le a key && nat_le key b)))
-    (cases_lt b key))
-    (cases_lt k from) where
-      key : ℕ
-      key = get_or r.keys.items k 0
-
-pub inside_ready : (r : Row) (a b k : ℕ) → a ≤ get_or r.keys.items k 0 → get_or r.keys.items k 0 ≤ b → is_quiet_place r.quiet k ≡ false → answers a b (entry_at r k) ≡ true
-inside_ready r a b k low high ready = rw (le-leb a (get_or r.keys.items k 0) low, le-leb (get_or r.keys.items k 0) b high, ready) refl
-
-pub hears_nobody : (r : Row) (a b : ℕ) → ((k : ℕ) → k < length r.keys.items → answers a b (entry_at r k) ≡ false) → ready_between a b (entries r) ≡ []
-hears_nobody r a b none = let size = length_entries r in nobody a b (entries r) (λ k d h. let lt : k < length r.keys.items = omega (arith, h, size) in ap (answers a b) (entry r k d lt) ∙ none k lt)
-
-pub hears_one : (r : Row) (a b i : ℕ) → i < length r.keys.items → answers a b (entry_at r i) ≡ true → ((k : ℕ) → k < length r.keys.items → k ≢ i → answers a b (entry_at r k) ≡ false)
-    → ready_between a b (entries r) ≡ uid_of (get_or r.keys.items i 0) ∷ []
-hears_one r a b i lt one others =
+-- from one position to another none answers
+passed : (r : Row) (a b from to : ℕ) → from ≤ to → ((k : ℕ) → from ≤ k → k < to → k < length r.keys.items → answers a b (entry_at r k) ≡ false)
+    → ready_between a b (drop from (entries r)) ≡ ready_between a b (drop to (entries r))
+passed r a b from to le none =
     let size = length_entries r in
-    let d : ℕ × Bool = (0, false) in
-    lone a b (entries r) i d (omega (arith, lt, size)) (ap (answers a b) (entry r i d lt) ∙ one) (λ k e h other. let there : k < length r.keys.items = omega (arith, h, size) in ap (answers a b) (entry r k e there) ∙ others k there other)
-    ∙ ap (λ (e : ℕ × Bool). uid_of e.0 ∷ []) (entry r i d lt)
+    let rest = length-drop from (entries r) in
+    let end : from + (to - from) ≡ to = omega arith in
+    skipped a b (drop from (entries r)) (to - from) (λ k d lt h. ap (answers a b) (get_or-drop from (entries r) k d ∙ entry r (from + k) d (omega arith)) ∙ none (from + k) (omega arith) (omega arith) (omega arith))
+    ∙ ap (ready_between a b) (drop-drop (to - from) from (entries r) ∙ ap (λ n. drop n (entries r)) end)
 
-pub hears_several : (r : Row) (a b i j : ℕ) → i < j → j < length r.keys.items → answers a b (entry_at r i) ≡ true → answers a b (entry_at r j) ≡ true → heard (ready_between a b (entries r)) ≡ Several
-hears_several r a b i j lt h one other =
-    let size = length_entries r in
-    let d : ℕ × Bool = (0, false) in
-    several (ready_between a b (entries r)) (two a b (entries r) i j d lt (omega (arith, h, size)) (ap (answers a b) (entry r i d (omega (arith, lt, h))) ∙ one) (ap (answers a b) (entry r j d h) ∙ other))
+-- those behind position `from` where none is Ready
+pub hears_none : (r : Row) (a b from : ℕ) → HasNoneReady r from b → ready_between a b (drop from (entries r)) ≡ []
+hears_none r a b from none =
+    let to = from + length r.keys.items in
+    passed r a b from to (omega arith) (λ k low lt h. grind (arith, nat_tests, none k low h))
+    ∙ ap (ready_between a b) (drop_of_length-le (entries r) (let size = length_entries r in omega arith))
+
+-- where position i has the next one
+pub hears_next : (r : Row) (a b from i : ℕ) → IsNextReady r from b i → a ≤ get_or r.keys.items i 0
+    → ready_between a b (drop from (entries r)) ≡ uid_of (get_or r.keys.items i 0) ∷ ready_between a b (drop (i + 1) (entries r))
+hears_next r a b from i n low =
+    let there : i < length (entries r) = let size = length_entries r in let lt = n.there in omega arith in
+    passed r a b from i n.low (λ k le lt h. grind (arith, nat_tests, n.quiet k le lt))
+    ∙ rw (add-one, drop-cons (entries r) i (0, false) there, entry r i (0, false) n.there, le-leb a _ low, le-leb _ b n.key, n.ready) refl
+
+-- those with keys from a on are all that count
+pub hears_from : (r : Row) (a b from : ℕ) → IsKeyPlace a r.keys.items from → ready_between a b (entries r) ≡ ready_between a b (drop from (entries r))
+hears_from r a b from p = passed r a b 0 from (omega arith) (λ k low lt h. let below = p.below k lt in grind (arith, nat_tests))
