@@ -1,6 +1,6 @@
 -- The entries of lines, one by one, and the UIDs that they list.
-use Rattle.std.proofs.Common.{◌≡◌, ℕ, zero, suc, false, List, [], ◌∷◌, take, Some, refl, sym, ap, ◌∙◌, subst, arith, ⊎_elim, slice_get, option_map}
-use Rattle.vic_field.proofs.Words.{cases_eq, Entry, Sent, LogLine, Request, entries, is_slot}
+use Rattle.std.proofs.Common.{◌≡◌, ℕ, zero, suc, false, List, [], ◌∷◌, take, Some, refl, ap, ◌∙◌, arith, slice_get, option_map}
+use Rattle.vic_field.proofs.Words.{Entry, Sent, LogLine, Request, entries, is_slot}
 use Rattle.vic_frame.specs.Requests.{IsValid}
 use Rattle.std.proofs.lemmas.Option.{slice_get-map}
 use Rattle.vic_log.specs.Log.{IsValidEntry}
@@ -9,10 +9,7 @@ use Rattle.vic_field.specs.Simulation.{HasNoSlotsBefore}
 -- one line more that tells of no slot
 pub no_slots_next : (n : ℕ) (lines : List LogLine) (l : LogLine) → HasNoSlotsBefore n lines → slice_get lines n ≡ Some l → is_slot l.item ≡ false → HasNoSlotsBefore (suc n) lines
 no_slots_next n lines l h k s i m below there =
-    ⊎_elim
-    (λ same. let it : Some l ≡ Some m = sym k ∙ (ap (slice_get lines) (sym same) ∙ there) in let is : l ≡ m = cc in subst (λ (x : LogLine). is_slot x.item ≡ false) is s)
-    (λ ne. h i m (omega arith) there)
-    (cases_eq i n)
+    grind (arith, h i m)
 
 -- the entries of the first lines
 pub entries_take : (lines : List LogLine) (n : ℕ) → entries (take n lines) ≡ take n (entries lines)

@@ -3,7 +3,7 @@ use Rattle.std.proofs.Common.{◌≡◌, ◌≢◌, ℕ, ◌+◌, ◌-◌, ◌*�
 use Rattle.std.proofs.lemmas.Bool.Decides.{nat_tests}
 use Rattle.vic_field.proofs.Words.{both_ways, cases_lt, cases_eq}
 use Rattle.std.specs.Int.{bit_at, trailing_ones}
-use Rattle.std.proofs.lemmas.Bool.{or_cases, or_right}
+use Rattle.std.proofs.lemmas.Bool.{and_parts, or_cases, or_right}
 use Rattle.std.proofs.lemmas.List.{get_or_past, get_or-replicate, length-replicate}
 use Rattle.std.proofs.lemmas.Nat.{or_lt, shr_le}
 use Rattle.std.proofs.lemmas.Nat.Bits.{bit_at_above, bit_at_ones, bit_at-trailing_ones, bit_at_set_same, bit_at_set_other, same_from_bits_below}
@@ -96,27 +96,17 @@ sound_later t q later places words groups room word_room = record {
 others : (s bit n : ℕ) (ws new : List Word) → HasBitMore s bit ws new → n ≢ bit / 64 → IsFull s new n → IsFull s ws n
 others s bit n ws new more other full k at = sym (more k ∙ ap (λ (b : Bool). b || is_set s ws k) (ne_eqb k bit (λ e. other (sym at ∙ ap (λ m. m / 64) e)))) ∙ full k at
 
--- a bit more in a word that isn't full
-pub noted_as_before : (s bit : ℕ) (ws new notes : List Word) → HasBitMore s bit ws new → length new ≡ length ws → (IsFull s new (bit / 64) → false ≡ true) → NotesFull s ws notes → NotesFull s new notes
-noted_as_before s bit ws new notes more size not_full i = record {
-  room = subst (λ n. n ≤ length notes * 64) (sym size) i.room;
-  noted = λ n lt is. ⊎_elim
-      (λ (same : n ≡ bit / 64). absurd (both_ways false refl (not_full (λ k at. is k (at ∙ sym same)))))
-      (λ (other : n ≢ bit / 64). i.noted n (subst (λ m. n < m) size lt) (others s bit n ws new more other is))
-      (cases_eq n (bit / 64));
-  full = λ n is k at. more k ∙ or_right _ _ (i.full n is k at);
-}
-
--- a bit more with which its word is full, and noted
-pub noted_more : (s bit : ℕ) (ws new notes after : List Word) → HasBitMore s bit ws new → HasBitMore s (bit / 64) notes after → length new ≡ length ws → length after ≡ length notes → IsFull s new (bit / 64) → NotesFull s ws notes → NotesFull s new after
-noted_more s bit ws new notes after more note size long full i = record {
+-- a bit more, and the word noted where it is full now
+pub noted_after : (s bit : ℕ) (is_full : Bool) (ws new notes after : List Word) → HasBitMore s bit ws new → ((k : ℕ) → is_set s after k ≡ ((is_full && nat_eq k (bit / 64)) || is_set s notes k)) → length new ≡ length ws → length after ≡ length notes
+    → (is_full ≡ true → IsFull s new (bit / 64)) → (IsFull s new (bit / 64) → is_full ≡ true) → NotesFull s ws notes → NotesFull s new after
+noted_after s bit is_full ws new notes after more note size long full noted i = record {
   room = rw (size, long) i.room;
   noted = λ n lt is. note n ∙ ⊎_elim
-      (λ (same : n ≡ bit / 64). ap (λ (b : Bool). b || is_set s notes n) (eq-eqb n (bit / 64) same))
+      (λ (same : n ≡ bit / 64). rw (eq-eqb n (bit / 64) same, noted (λ k at. is k (at ∙ sym same))) refl)
       (λ (other : n ≢ bit / 64). or_right _ _ (i.noted n (subst (λ m. n < m) size lt) (others s bit n ws new more other is)))
       (cases_eq n (bit / 64));
   full = λ n is k at. ⊎_elim
-      (λ (same : nat_eq n (bit / 64) ≡ true). full k (at ∙ eqb-true n (bit / 64) same))
+      (λ (here : (is_full && nat_eq n (bit / 64)) ≡ true). let parts = and_parts _ _ here in full parts.0 k (at ∙ eqb-true n (bit / 64) parts.1))
       (λ (old : is_set s notes n ≡ true). more k ∙ or_right _ _ (i.full n old k at))
       (or_cases _ _ (sym (note n) ∙ is));
 }

@@ -1,7 +1,8 @@
 -- The rounds of entries: what one entry more, and the slot lines of a request, leave as it was.
-use Rattle.std.proofs.Common.{◌≡◌, ℕ, zero, suc, ◌+◌, ◌-◌, ◌<◌, ◌⊎◌, inl, inr, Bool, true, false, not, ◌&&◌, ◌||◌, List, [], ◌∷◌, ◌++◌, length, Some, None, refl, sym, ap, ◌∙◌, subst, arith, append_assoc, append-nil, length-append, ⊎_elim, slice_get, nat_lt, if◌then◌else◌, lt-ltb}
+use Rattle.std.proofs.Common.{All, ◌≡◌, ℕ, zero, suc, ◌+◌, ◌-◌, ◌<◌, ◌⊎◌, inl, inr, Bool, true, false, not, ◌&&◌, ◌||◌, List, [], ◌∷◌, ◌++◌, length, Some, None, refl, sym, ap, ◌∙◌, subst, arith, append_assoc, append-nil, length-append, ⊎_elim, slice_get, nat_lt, if◌then◌else◌, lt-ltb}
+use Rattle.std.proofs.lemmas.List.Elements.{All-nil, All-push}
 use Rattle.vic_field.proofs.Words.{Request, slot_count, mask_in, Entry, Sent, is_quiet, is_slot, slots_opened, slot_line, slot_lines_to, slot_lines, heard, ready_in}
-use Rattle.std.proofs.lemmas.Option.{slice_get_within}
+use Rattle.std.proofs.lemmas.Option.{get_or_from_slice_get, slice_get_within}
 use Rattle.vic_log.specs.Order.{refusal}
 use Rattle.vic_log.specs.Quiet.{silences, wakes}
 use Rattle.vic_log.specs.Rounds.{ends_round, opener, left_since, slots_left, mask_of_slot, mask_since, mask_at}
@@ -38,23 +39,16 @@ slot_lines_to-length tags q zero = refl
 slot_lines_to-length tags q (suc n) = next_length (slot_lines_to tags q n) (slot_line (heard (ready_in (mask_in q n) tags))) ∙ ap suc (slot_lines_to-length tags q n)
 
 -- what holds of the line of any outcome holds of the lines of slots
-slot_lines_to-each : (P : Entry → Type 0) → ((o : Told) → P (slot_line o)) → (tags : List (ℕ × Bool)) (q : Request) (n : ℕ) (i : ℕ) (e : Entry) → slice_get (slot_lines_to tags q n) i ≡ Some e → P e
-slot_lines_to-each P each tags q zero i e h = absurd (cc)
-slot_lines_to-each P each tags q (suc n) i e h =
-    ⊎_elim
-    (λ k. slot_lines_to-each P each tags q n i e k)
-    (λ k. last k.0 k.2)
-    (place_in (slot_lines_to tags q n) (line ∷ []) i e h) where
-      line : Entry
-      line = slot_line (heard (ready_in (mask_in q n) tags))
+slot_lines_to-all : (P : Entry → Type 0) → ((o : Told) → P (slot_line o)) → (tags : List (ℕ × Bool)) (q : Request) (n : ℕ) → All P (slot_lines_to tags q n)
+slot_lines_to-all P each tags q zero = All-nil P
+slot_lines_to-all P each tags q (suc n) = All-push P (slot_lines_to tags q n) _ (slot_lines_to-all P each tags q n) (each _)
 
-      last : (j : ℕ) → slice_get (line ∷ []) j ≡ Some e → P e
-      last zero k = let same : line ≡ e = cc in subst P same (each (heard (ready_in (mask_in q n) tags)))
-      last (suc j) k = absurd (cc)
+slot_lines-all : (P : Entry → Type 0) → ((o : Told) → P (slot_line o)) → (tags : List (ℕ × Bool)) (x : Entry) → All P (slot_lines tags x)
+slot_lines-all P each tags (Sent q) = slot_lines_to-all P each tags q (slot_count q)
+slot_lines-all P each tags x = All-nil P
 
 slot_lines-each : (P : Entry → Type 0) → ((o : Told) → P (slot_line o)) → (tags : List (ℕ × Bool)) (x : Entry) (i : ℕ) (e : Entry) → slice_get (slot_lines tags x) i ≡ Some e → P e
-slot_lines-each P each tags (Sent q) i e h = slot_lines_to-each P each tags q (slot_count q) i e h
-slot_lines-each P each tags x i e h = absurd (cc)
+slot_lines-each P each tags x i e h = subst P (get_or_from_slice_get (slot_lines tags x) i e e h) (slot_lines-all P each tags x i e (slice_get_within (slot_lines tags x) i e h))
 
 pub slot_lines-slots : (tags : List (ℕ × Bool)) (x : Entry) (i : ℕ) (e : Entry) → slice_get (slot_lines tags x) i ≡ Some e → is_slot e ≡ true
 slot_lines-slots tags x i e h = slot_lines-each (λ y. is_slot y ≡ true) slot_line-is_slot tags x i e h

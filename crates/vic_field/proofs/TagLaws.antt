@@ -16,11 +16,11 @@ tags_of-map b [] = refl
 tags_of-map b (e ∷ es) = ap (λ (ts : List (ℕ × Bool)). (uid_of e.0, b) ∷ ts) (tags_of-map b es)
 
 -- the Ready ones of a mask
-pub ready_of_mask : (m : BitMask) (a b : ℕ) (es : List (ℕ × Bool)) → ((k : ℕ) → IsKey k → lies_in m (uid_of k) ≡ (nat_le a k && nat_le k b)) → All IsKey (keys_of es)
+pub ready_by_key : (m : BitMask) (a b : ℕ) (es : List (ℕ × Bool)) → ((k : ℕ) → IsKey k → lies_in m (uid_of k) ≡ (nat_le a k && nat_le k b)) → All IsKey (keys_of es)
     → ready_between a b es ≡ ready_in m (tags_of es)
-ready_of_mask m a b [] h small = refl
-ready_of_mask m a b (e ∷ es) h small =
-    rw (h e.0 (All-head IsKey e.0 (keys_of es) small)) (grind (arith, ready_of_mask m a b es h (All-tail IsKey e.0 (keys_of es) small)))
+ready_by_key m a b [] h small = refl
+ready_by_key m a b (e ∷ es) h small =
+    rw (h e.0 (All-head IsKey e.0 (keys_of es) small)) (grind (arith, ready_by_key m a b es h (All-tail IsKey e.0 (keys_of es) small)))
 
 -- a mask of no UID has none
 pub none_ready : (m : BitMask) → ((u : ℕ) → IsUid u → lies_in m u ≡ false) → (es : List (ℕ × Bool)) → ready_in m (tags_of es) ≡ []

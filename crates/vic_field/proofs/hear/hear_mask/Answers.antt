@@ -5,7 +5,7 @@ use Rattle.vic_frame.proofs.MirrorLaws.{mirror_of_uid}
 use Rattle.vic_field.proofs.Words.{heard}
 use Rattle.vic_field.specs.Rows.{entries}
 use Rattle.vic_field.proofs.RowLaws.{small_entries}
-use Rattle.vic_field.proofs.TagLaws.{ready_of_mask, none_ready}
+use Rattle.vic_field.proofs.TagLaws.{ready_by_key, none_ready}
 use Rattle.vic_field.proofs.hear.hear_mask.Goals as goal
 
 pub returns-in_default : goal.returns-in_default
@@ -17,5 +17,5 @@ returns c =
     let a = c.key_range-first.result.0 in
     let b = c.key_range-first.result.1 in
     c.hear.ensures
-    ∙ ap heard (ready_of_mask c.args.mask.now a b (entries row) (λ k small. sym (c.in-Some.ensures.same (uid_of k) (is_uid k)) ∙ c.key_range-first.ensures.inside (uid_of k)
+    ∙ ap heard (ready_by_key c.args.mask.now a b (entries row) (λ k small. sym (c.in-Some.ensures.same (uid_of k) (is_uid k)) ∙ c.key_range-first.ensures.inside (uid_of k)
     ∙ ap (λ (x : ℕ). nat_le a x && nat_le x b) (mirror_of_uid k small)) (small_entries row c.requires))

@@ -1,7 +1,6 @@
-use Rattle.std.proofs.Common.{◌≡◌, ℕ, Bool, true, false, List, [], ◌∷◌, Some, None, sym, ap, subst, ◌∙◌, ◌||◌, refl, ⊎_elim, nat_eq, if◌then◌else◌, All, Contains, nat_cmp}
-use Rattle.vic_field.proofs.Words.{IsStrictlySortedBy, both_ways, IsKey, uid_of, has, uids_at}
+use Rattle.std.proofs.Common.{arith, ◌≡◌, ℕ, Bool, true, List, [], ◌∷◌, Some, None, sym, ap, subst, ◌∙◌, ◌||◌, refl, nat_eq, if◌then◌else◌, All, Contains, nat_cmp}
+use Rattle.vic_field.proofs.Words.{IsStrictlySortedBy, IsKey, uid_of, has, uids_at}
 use Rattle.std.specs.List.{dedup, list_any}
-use Rattle.std.proofs.lemmas.Bool.{cases_Bool}
 use Rattle.std.proofs.lemmas.List.Filters.{All-dedup, dedup_is}
 use Rattle.std.proofs.lemmas.List.Folds.{Any-from_list_any, list_any_at}
 use Rattle.std.proofs.lemmas.List.Kept.{Contains-dedup_nat, Contains-from_dedup}
@@ -22,13 +21,7 @@ goes_over p xs ys holds any =
     list_any_at p ys there.0 one.1 there.1 (ap p there.2 ∙ one.4)
 
 any_dedup : (p : ℕ → Bool) (xs : List ℕ) → list_any p (dedup nat_eq xs) ≡ list_any p xs
-any_dedup p xs = ⊎_elim
-    (λ (yes : list_any p xs ≡ true). goes_over p xs (dedup nat_eq xs) (Contains-dedup_nat xs) yes ∙ sym yes)
-    (λ (no_ : list_any p xs ≡ false). ⊎_elim
-    (λ (yes : list_any p (dedup nat_eq xs) ≡ true). absurd (both_ways _ no_ (goes_over p (dedup nat_eq xs) xs (Contains-from_dedup nat_eq xs) yes)))
-    (λ (none : list_any p (dedup nat_eq xs) ≡ false). none ∙ sym no_)
-    (cases_Bool (list_any p (dedup nat_eq xs))))
-    (cases_Bool (list_any p xs))
+any_dedup p xs = grind (arith, goes_over p xs (dedup nat_eq xs) (Contains-dedup_nat xs), goes_over p (dedup nat_eq xs) xs (Contains-from_dedup nat_eq xs))
 
 pub of_keys-requires : goal.of_keys-requires
 of_keys-requires c =

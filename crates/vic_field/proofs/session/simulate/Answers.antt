@@ -15,31 +15,26 @@ loop-line-init c =
       played = IsPlayed-start (listed (entries c.lines-lines.result.now)) c.in_ok-field.field c.in_ok-field.ensures;
     }
 
+-- the entry that comes
+here : (c : goal.After-play_entry-arg-1) → slice_get (entries c.lines-lines.result.now) c.loop-line.line-index ≡ Some c.item.result
+here c =
+    let lines = c.lines-lines.result.now in
+    rw c.item.ensures (entry_at lines c.loop-line.line-index c.line-item.result (slice_get_read lines (length lines) c.loop-line.line-index c.line-item.result refl c.loop-line-test.true c.line-item.is))
+
 pub play_entry-requires-clause-follows : goal.play_entry-requires-clause-follows
 play_entry-requires-clause-follows c =
     let lines = c.lines-lines.result.now in
     let i = c.loop-line.line-index in
-    let l = c.line-item.result in
-    let at : slice_get lines i ≡ Some l = slice_get_read lines (length lines) i l refl c.loop-line-test.true c.line-item.is in
-    rw c.item.ensures (follows (entries lines) (entries c.loop-line.filled.lines) i l.item c.lines-lines.ensures.log.order (entry_at lines i l at)
-    (c.in_default.ensures i l c.loop-line-test.true at)
-    (c.loop-line.invariant.played.kept ∙ entries_take lines i))
+    let at = slice_get_read lines (length lines) i c.line-item.result refl c.loop-line-test.true c.line-item.is in
+    follows (entries lines) (entries c.loop-line.filled.lines) i c.item.result c.lines-lines.ensures.log.order (here c)
+    (rw c.item.ensures (c.in_default.ensures i c.line-item.result c.loop-line-test.true at))
+    (c.loop-line.invariant.played.kept ∙ entries_take lines i)
 
 pub play_entry-requires-clause-valid : goal.play_entry-requires-clause-valid
-play_entry-requires-clause-valid c =
-    let lines = c.lines-lines.result.now in
-    let i = c.loop-line.line-index in
-    let l = c.line-item.result in
-    let at : slice_get lines i ≡ Some l = slice_get_read lines (length lines) i l refl c.loop-line-test.true c.line-item.is in
-    rw c.item.ensures (valid_entry l.item (λ q e. c.lines-lines.ensures.log.valid i q (entry_at lines i l at ∙ ap (λ (x : Entry). Some x) e)))
+play_entry-requires-clause-valid c = valid_entry c.item.result (λ q e. c.lines-lines.ensures.log.valid c.loop-line.line-index q (here c ∙ ap (λ (x : Entry). Some x) e))
 
 pub play_entry-requires-clause-first_version : goal.play_entry-requires-clause-first_version
-play_entry-requires-clause-first_version c v =
-    let lines = c.lines-lines.result.now in
-    let i = c.loop-line.line-index in
-    let l = c.line-item.result in
-    let at : slice_get lines i ≡ Some l = slice_get_read lines (length lines) i l refl c.loop-line-test.true c.line-item.is in
-    rw c.item.ensures (c.lines-lines.ensures.log.first_version (sym c.loop-line.invariant.version ∙ v) i l.item (entry_at lines i l at))
+play_entry-requires-clause-first_version c v = c.lines-lines.ensures.log.first_version (sym c.loop-line.invariant.version ∙ v) c.loop-line.line-index c.item.result (here c)
 
 pub loop-line-preserved : goal.loop-line-preserved
 loop-line-preserved c =
