@@ -1,12 +1,12 @@
 -- Numbers and their bytes, and tables by a byte.
-use Rattle.std.proofs.Common.{◌≡◌, ℕ, zero, suc, ◌+◌, ◌*◌, ◌/◌, ◌^◌, ◌%◌, ◌<◌, ◌≤◌, List, [], ◌∷◌, ◌++◌, length, get_or, map, take, drop, refl, sym, ap, ◌∙◌, arith, append_assoc, append-nil}
-use Rattle.std.proofs.lemmas.List.{get_or-drop, get_or-map, length-take}
+use Rattle.std.proofs.Common.{◌≡◌, ℕ, zero, suc, ◌+◌, ◌*◌, ◌/◌, ◌^◌, ◌%◌, ◌<◌, ◌≤◌, List, [], ◌∷◌, ◌++◌, length, get_or, map, take, drop, refl, sym, ap, ◌∙◌, arith, append_assoc, append-nil, get_or-drop, length-take, pow-add}
+use Rattle.vic_frame.proofs.Words.{pow-le-pow_right, number_of, AreBytes}
+use Rattle.std.proofs.lemmas.List.{get_or-map}
 use Rattle.std.proofs.lemmas.List.FromFn.{get_or-range_with_len, length-range_with_len}
 use Rattle.std.specs.List.{range_with_len}
 use Rattle.std.proofs.Math.Seq.{take-append_seam}
-use Rattle.std.proofs.lemmas.Nat.{pow-add, mul-le}
-use Rattle.std.proofs.Math.Nat.{pow-le-pow_right}
-use Rattle.vic_frame.specs.Bytes.{number_of, bytes_of, AreBytes}
+use Rattle.std.proofs.lemmas.Nat.{mul-le}
+use Rattle.vic_frame.specs.Bytes.{bytes_of}
 
 pub length_bytes_of : (count n : ℕ) → length (bytes_of count n) ≡ count
 unfolding bytes_of
@@ -17,10 +17,7 @@ length_bytes_of (suc count) n = ap suc (length_bytes_of count (n / 256))
 pub number_of-bytes_of : (count n : ℕ) → n < 256 ^ count → number_of (bytes_of count n) ≡ n
 unfolding bytes_of
 number_of-bytes_of zero n h = omega arith
-number_of-bytes_of (suc count) n h =
-    let below : n / 256 < 256 ^ count = omega arith in
-    let rest = number_of-bytes_of count (n / 256) below in
-    omega (arith, rest)
+number_of-bytes_of (suc count) n h = omega (arith, number_of-bytes_of count (n / 256) (omega arith))
 
 -- and the number of bytes has those bytes
 pub bytes_of-number_of : (xs : List ℕ) → AreBytes xs → bytes_of (length xs) (number_of xs) ≡ xs
@@ -35,16 +32,12 @@ bytes_of-number_of (x ∷ xs) h =
 pub number_below : (xs : List ℕ) → AreBytes xs → number_of xs < 256 ^ length xs
 number_below [] h = omega arith
 number_below (x ∷ xs) h =
-    let low : x < 256 = h 0 in
-    let rest = number_below xs (λ i. h (suc i)) in
-    let all : x + 256 * number_of xs < 256 ^ suc (length xs) = omega (arith, rest) in
+    let all : x + 256 * number_of xs < 256 ^ suc (length xs) = omega (arith, h 0, number_below xs (λ i. h (suc i))) in
     all
 
-pub number_below_7 : (xs : List ℕ) → AreBytes xs → length xs ≤ 7 → number_of xs < 256 ^ 7
-number_below_7 xs h short =
-    let below = number_below xs h in
-    let most = pow-le-pow_right {n = 256} (omega arith) {i = length xs} {j = 7} short in
-    omega (arith, below, most)
+pub number_within : (most : ℕ) (xs : List ℕ) → AreBytes xs → length xs ≤ most → number_of xs < 256 ^ most
+number_within most xs h short =
+    omega (arith, number_below xs h, pow-le-pow_right {n = 256} (omega arith) {i = length xs} {j = most} short)
 
 pub AreBytes-drop : (n : ℕ) (xs : List ℕ) → AreBytes xs → AreBytes (drop n xs)
 AreBytes-drop n xs h i = rw (get_or-drop n xs i 0) (h (n + i))
@@ -83,15 +76,7 @@ pow_bytes (suc k) =
 -- the least number of bytes for so many bits holds them
 pub holds_bits : (bits n : ℕ) → n < 2 ^ bits → n < 256 ^ ((bits + 7) / 8)
 holds_bits bits n h =
-    let most = pow-le-pow_right {n = 2} (omega arith) {i = bits} {j = 8 * ((bits + 7) / 8)} (omega arith) in
-    let is = pow_bytes ((bits + 7) / 8) in
-    omega (arith, most, is)
-
-pub number_below_8 : (xs : List ℕ) → AreBytes xs → length xs ≤ 8 → number_of xs < 256 ^ 8
-number_below_8 xs h short =
-    let below = number_below xs h in
-    let most = pow-le-pow_right {n = 256} (omega arith) {i = length xs} {j = 8} short in
-    omega (arith, below, most)
+    omega (arith, pow-le-pow_right {n = 2} (omega arith) {i = bits} {j = 8 * ((bits + 7) / 8)} (omega arith), pow_bytes ((bits + 7) / 8))
 
 -- four bits above others
 pub sixteen_times : (k p : ℕ) → k ≤ 15 → k * p + p ≤ 16 * p

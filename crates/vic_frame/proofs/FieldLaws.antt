@@ -1,14 +1,12 @@
 -- A frame spells a value if and only if its fields do.
 use Rattle.std.proofs.Common.{◌≡◌, ℕ, ◌+◌, ◌%◌, ◌≤◌, ◌^◌, ◌<◌, not, Bool, List, length, if◌then◌else◌, refl, sym, ap, ◌∙◌, arith}
+use Rattle.vic_frame.proofs.Words.{BitMask, IsMask, AreBytes, bit, with_crc, request_spelling, reply_spelling, flags, reply_in}
 use Rattle.vic_frame.specs.declared.request.Request.TheVariants.{Inventory, StayQuiet}
-use Rattle.vic_frame.specs.Masks.{BitMask, IsMask}
-use Rattle.vic_frame.specs.Bytes.{AreBytes, number_of, bit}
-use Rattle.vic_frame.specs.Crc.{with_crc}
-use Rattle.vic_frame.specs.Requests.{IsValid, byte_count, request_body, request_spelling}
-use Rattle.vic_frame.specs.Replies.{Reply, IsReply, reply_body, reply_spelling}
-use Rattle.vic_frame.specs.Faults.{flags, mask_len, mask_bytes, uid_bytes}
+use Rattle.vic_frame.specs.Requests.{IsValid, byte_count, request_body}
+use Rattle.vic_frame.specs.Replies.{Reply, IsReply, reply_body}
+use Rattle.vic_frame.specs.Faults.{mask_len}
 use Rattle.vic_frame.specs.Fields.{HasInventoryFields, HasStayQuietFields, HasReplyFields}
-use Rattle.vic_frame.specs.Reading.{inventory_in, stay_quiet_in, reply_in}
+use Rattle.vic_frame.specs.Reading.{inventory_in, stay_quiet_in}
 use Rattle.vic_frame.proofs.BytesLaws.{length_bytes_of}
 use Rattle.vic_frame.proofs.FrameLaws.{crc_frame, with_crc-right, length-with_crc}
 use Rattle.vic_frame.proofs.RequestLaws.{inventory_body, stay_quiet_body, inventory_bits, stay_quiet_bits, link_of, inventory_len, inventory_value, stay_quiet_len, stay_quiet_uid}
@@ -52,15 +50,8 @@ inventory_from f link s m h valid has =
     let low : flags f % 4 ≡ link = ap (λ (x : ℕ). x % 4) has.flags ∙ bits.low in
     let sixth : not (bit 6 (flags f)) ≡ s = ap (λ (x : ℕ). not (bit 6 x)) has.flags ∙ bits.b6 in
     let size : length f ≡ byte_count (mask_len f) + 5 = has.size ∙ ap (λ (n : ℕ). byte_count n + 5) (sym has.mask_length) in
-    let is : flags f ≡ (if not (bit 6 (flags f)) then 0x04 else 0x24) + flags f % 4 =
-    has.flags
-    ∙ ap (λ (t : Bool). (if t then 0x04 else 0x24) + link) (sym sixth)
-    ∙ ap (λ (l : ℕ). (if not (bit 6 (flags f)) then 0x04 else 0x24) + l) (sym low) in
-    let same : inventory_in f ≡ Inventory link s m =
-    ap (λ (l : ℕ). Inventory l (not (bit 6 (flags f))) (record { len = mask_len f; value = number_of (mask_bytes f) })) low
-    ∙ ap (λ (t : Bool). Inventory link t (record { len = mask_len f; value = number_of (mask_bytes f) })) sixth
-    ∙ ap (λ (n : ℕ). Inventory link s (record { len = n; value = number_of (mask_bytes f) })) has.mask_length
-    ∙ ap (λ (n : ℕ). Inventory link s (record { len = m.len; value = n })) has.mask_value in
+    let is : flags f ≡ (if not (bit 6 (flags f)) then 0x04 else 0x24) + flags f % 4 = rw (sixth, low) has.flags in
+    let same : inventory_in f ≡ Inventory link s (record { len = m.len; value = m.value }) = cc in
     crc_frame f h has.crc ∙ ap with_crc (inventory_body f has.command is size h ∙ ap request_body same)
 
 pub stay_quiet_from : (f : List ℕ) (link uid : ℕ) → AreBytes f → link ≤ 3 → HasStayQuietFields f link uid → f ≡ request_spelling (StayQuiet link uid)
@@ -68,13 +59,10 @@ stay_quiet_from f link uid h valid has =
     let bits = stay_quiet_bits link valid in
     let low : flags f % 4 ≡ link = ap (λ (x : ℕ). x % 4) has.flags ∙ bits.low in
     let is : flags f ≡ 0x20 + flags f % 4 = has.flags ∙ ap (λ (l : ℕ). 0x20 + l) (sym low) in
-    let same : stay_quiet_in f ≡ StayQuiet link uid = ap (λ (l : ℕ). StayQuiet l (number_of (uid_bytes f))) low ∙ ap (StayQuiet link) has.uid in
+    let same : stay_quiet_in f ≡ StayQuiet link uid = cc in
     crc_frame f h has.crc ∙ ap with_crc (stay_quiet_body f has.command is has.size h ∙ ap request_body same)
 
 pub reply_from : (f : List ℕ) (r : Reply) → AreBytes f → HasReplyFields f r → f ≡ reply_spelling r
 reply_from f r h has =
-    let same : reply_in f ≡ r =
-    ap (λ (x : ℕ). record { flags = x; dsfid = (reply_in f).dsfid; uid = (reply_in f).uid }) has.flags
-    ∙ ap (λ (x : ℕ). record { flags = r.flags; dsfid = x; uid = (reply_in f).uid }) has.dsfid
-    ∙ ap (λ (x : ℕ). record { flags = r.flags; dsfid = r.dsfid; uid = x }) has.uid in
+    let same : reply_in f ≡ record { flags = r.flags; dsfid = r.dsfid; uid = r.uid } = cc in
     crc_frame f h has.crc ∙ ap with_crc (body_of f has.size h ∙ ap reply_body same)

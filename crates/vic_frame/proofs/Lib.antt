@@ -1,3 +1,4 @@
+pub mod Words
 pub mod BytesLaws
 pub mod CrcLaws
 pub mod ResidueLaws

@@ -1,11 +1,11 @@
 -- Laws on masks.
-use Rattle.std.proofs.Common.{Bool, true, false, ◌==◌, ◌≡◌, ℕ, ◌+◌, ◌-◌, ◌*◌, ◌/◌, ◌^◌, ◌%◌, ◌<◌, ◌≤◌, ◌⊎◌, inl, inr, refl, sym, ap, ◌∙◌, arith, zero, suc, add_comm}
-use Rattle.std.proofs.Math.Nat.{pow-le-pow_right, mul_assoc, mul-add-mod_self_right, mod-le}
-use Rattle.std.proofs.lemmas.Nat.{mod-pow-add, mod_low, pow_pos, pow-add, mod_below}
-use Rattle.std.proofs.lemmas.Bool.{cases_eq, eqb-true, eq-eqb}
-use Rattle.std.proofs.lemmas.Bool.Decides.{nat_tests}
-use Rattle.vic_frame.specs.Masks.{BitMask, IsMask, LiesIn, lies_in}
-use Rattle.vic_frame.specs.Uids.{IsUid, uid_from_low_bits}
+use Rattle.std.proofs.Common.{true, false, ◌==◌, ◌≡◌, ℕ, ◌+◌, ◌-◌, ◌*◌, ◌/◌, ◌^◌, ◌%◌, ◌<◌, ◌≤◌, inl, inr, sym, ap, ◌∙◌, arith, zero, suc, add_comm, mul_assoc, pow_pos, pow-add}
+use Rattle.vic_frame.proofs.Words.{pow-le-pow_right, nat_tests, BitMask, IsMask, lies_in, IsUid}
+use Rattle.std.proofs.Math.Nat.{mul-add-mod_self_right, mod-le}
+use Rattle.std.proofs.lemmas.Nat.{mod-pow-add, mod_low, mod_below}
+use Rattle.std.proofs.lemmas.Bool.{cases_eq}
+use Rattle.vic_frame.specs.Masks.{LiesIn}
+use Rattle.vic_frame.specs.Uids.{uid_from_low_bits}
 use Rattle.vic_frame.specs.MaskLaws.{NestedOrApart, IsParted}
 
 -- the low bits of the low bits
@@ -27,24 +27,15 @@ nested_or_apart_lem m n p q le = elim (cases_eq (n.value % 2 ^ m.len) m.value) [
   | inr other ↦ inr (λ u h k. other (sym (ap (λ x. x % 2 ^ m.len) k) ∙ mod_mod_pow u m.len n.len le ∙ h))
 ]
 
--- x has the bit b above the rest r, which is below t
-record Parts (x t r v : ℕ) : Type 0 where
-  covers : r ≡ v → (x ≡ v) ⊎ (x ≡ v + t)
-  lower : x ≡ v → r ≡ v
-  upper : x ≡ v + t → r ≡ v
-  apart : x ≡ v → x ≡ v + t → ⊥
-
-parts : (x b t r v : ℕ) → b < 2 → r < t → v < t → x ≡ b * t + r → Parts x t r v
-parts x zero t r v p q h e = record { covers = λ k. inl (omega arith); lower = λ k. omega arith; upper = λ k. absurd (omega arith); apart = λ k l. omega arith }
-parts x (suc zero) t r v p q h e = record { covers = λ k. inr (omega arith); lower = λ k. absurd (omega arith); upper = λ k. omega arith; apart = λ k l. omega arith }
-parts x (suc (suc b)) t r v p q h e = absurd (omega arith)
+-- by the bit b above the low ones
+parts : (m : BitMask) (u b : ℕ) → b < 2 → u % 2 ^ m.len < 2 ^ m.len → m.value < 2 ^ m.len → u % 2 ^ (m.len + 1) ≡ b * 2 ^ m.len + u % 2 ^ m.len → IsParted m u
+parts m u zero p q h e = record { covers = λ k. inl (omega arith); lower = λ k. omega arith; upper = λ k. absurd (omega arith); apart = λ k l. omega arith }
+parts m u (suc zero) p q h e = record { covers = λ k. inr (omega arith); lower = λ k. absurd (omega arith); upper = λ k. omega arith; apart = λ k l. omega arith }
+parts m u (suc (suc b)) p q h e = absurd (omega arith)
 
 pub parted : (m : BitMask) (u : ℕ) → IsMask m → IsParted m u
 parted m u p =
-    let low : u / 2 ^ m.len % 2 < 2 = mod_below (u / 2 ^ m.len) 2 (omega arith) in
-    let rest = mod_below u (2 ^ m.len) (pow_pos m.len) in
-    let d = parts (u % 2 ^ (m.len + 1)) (u / 2 ^ m.len % 2) (2 ^ m.len) (u % 2 ^ m.len) m.value low rest p.1 (mod_pow_more u m.len) in
-    record { covers = d.covers; lower = d.lower; upper = d.upper; apart = d.apart }
+    parts m u (u / 2 ^ m.len % 2) (mod_below (u / 2 ^ m.len) 2 (omega arith)) (mod_below u (2 ^ m.len) (pow_pos m.len)) p.1 (mod_pow_more u m.len)
 
 -- the one UID that a long mask can hold
 abbrev pub only_uid : ℕ → ℕ
@@ -59,20 +50,10 @@ low_of_only : (u v : ℕ) → IsUid u → (u % 2 ^ 56 == v % 2 ^ 56) ≡ (u == o
 low_of_only u v h = grind (arith, nat_tests)
 
 pub long_none : (m : BitMask) (u : ℕ) → 56 ≤ m.len → IsUid u → lies_in m (only_uid m.value) ≡ false → lies_in m u ≡ false
-long_none m u long is_uid none = go (lies_in m u) refl where
-  go : (b : Bool) → lies_in m u ≡ b → lies_in m u ≡ false
-  go false e = e
-  go true e = ap (lies_in m) (is_only m u long is_uid (eqb-true (u % 2 ^ m.len) m.value e)) ∙ none
+long_none m u long is_uid none = grind (arith, nat_tests, is_only m u long is_uid)
 
 pub long_same : (m : BitMask) (u : ℕ) → 56 ≤ m.len → IsUid u → lies_in m (only_uid m.value) ≡ true → (u % 2 ^ 56 == m.value % 2 ^ 56) ≡ lies_in m u
-long_same m u long is_uid some = low_of_only u m.value is_uid ∙ go (lies_in m u) refl where
-  other : (b : Bool) → (u == only_uid m.value) ≡ b → lies_in m u ≡ false → b ≡ false
-  other false e f = refl
-  other true e f = sym some ∙ ap (lies_in m) (sym (eqb-true u (only_uid m.value) e)) ∙ f
-
-  go : (b : Bool) → lies_in m u ≡ b → (u == only_uid m.value) ≡ lies_in m u
-  go false e = other (u == only_uid m.value) refl e ∙ sym e
-  go true e = eq-eqb u (only_uid m.value) (is_only m u long is_uid (eqb-true (u % 2 ^ m.len) m.value e)) ∙ sym e
+long_same m u long is_uid some = low_of_only u m.value is_uid ∙ grind (arith, nat_tests, is_only m u long is_uid)
 
 -- E0 and seven bytes 0 is a multiple of any power of two up to 2 ^ 56
 top_is : (len : ℕ) → len ≤ 56 → 0xE0 * 2 ^ 56 ≡ 0xE0 * 2 ^ (56 - len) * 2 ^ len

@@ -1,18 +1,13 @@
 -- Laws of the mirrored bits.
-use Rattle.std.proofs.Common.{◌&&◌, ◌==◌, ◌≡◌, ℕ, ◌+◌, ◌-◌, ◌*◌, ◌/◌, ◌^◌, ◌%◌, ◌<◌, ◌≤◌, ◌⊎◌, inl, inr, refl, sym, ap, ◌∙◌, arith, zero, suc, add-one}
-use Rattle.std.specs.Prelude.{nat_le}
-use Rattle.std.proofs.lemmas.Nat.{pow-add, mod-pow-add, field_of, shr_high, mod_low, shr-shr, pow_pos}
-use Rattle.std.proofs.lemmas.Bool.{cases_order}
-use Rattle.std.proofs.lemmas.Bool.Decides.{nat_tests}
-use Rattle.std.proofs.Math.Nat.{add_assoc, add-mul, mul_assoc, mul_comm, pow-suc, div-one, mod-one, mod-eq_of_lt, div-eq_of_lt, mul-le-mul_right, suc-mul, pow-le-pow_right, mul-add-mod_self_right}
+use Rattle.std.proofs.Common.{add-zero, ◌&&◌, ◌==◌, ◌≡◌, ℕ, ◌+◌, ◌-◌, ◌*◌, ◌/◌, ◌^◌, ◌%◌, ◌<◌, ◌≤◌, refl, sym, ap, ◌∙◌, arith, zero, suc, add-one, nat_le, pow-add, shr-shr, pow_pos, add_assoc, add-mul, mul_assoc, div-one, mod-eq_of_lt, mul-le-mul_right, suc-mul}
+use Rattle.vic_frame.proofs.Words.{nat_tests, pow-le-pow_right, IsUid, BitMask, IsMask, IsBlock, mirror, uid_of}
+use Rattle.std.proofs.lemmas.Nat.{mod-pow-add, field_of, shr_high, mod_low}
+use Rattle.std.proofs.Math.Nat.{mod-one, div-eq_of_lt}
+use Rattle.std.proofs.Math.Nat.{mul-mod_left}
 use Rattle.vic_frame.proofs.BytesLaws.{sixteen_times}
 use Rattle.vic_frame.proofs.MaskLaws.{mod_mod_pow}
-use Rattle.vic_frame.specs.Uids.{IsUid}
-use Rattle.vic_frame.specs.Masks.{BitMask, IsMask, slot_of_sixteen}
-use Rattle.vic_frame.specs.LowBitsFirst.{IsBlock, IsKey, mirror_bits, mirror, uid_of}
-
-pow_more : (k : ℕ) → 2 ^ suc k ≡ 2 * 2 ^ k
-pow_more k = pow-suc 2 k ∙ mul_comm (2 ^ k) 2
+use Rattle.vic_frame.specs.Masks.{slot_of_sixteen}
+use Rattle.vic_frame.specs.LowBitsFirst.{IsKey, mirror_bits}
 
 -- a bit above what is below t is below 2 * t
 bit_below : (b t r w : ℕ) → b < 2 → r < t → w ≡ 2 * t → b * t + r < w
@@ -23,7 +18,7 @@ bit_below (suc (suc b)) t r w p q e = absurd (omega arith)
 pub mirror_below : (k n : ℕ) → mirror_bits k n < 2 ^ k
 unfolding mirror_bits
 mirror_below zero n = omega arith
-mirror_below (suc k) n = bit_below (n % 2) (2 ^ k) (mirror_bits k (n / 2)) (2 ^ suc k) (omega arith) (mirror_below k (n / 2)) (pow_more k)
+mirror_below (suc k) n = bit_below (n % 2) (2 ^ k) (mirror_bits k (n / 2)) (2 ^ suc k) (omega arith) (mirror_below k (n / 2)) (omega arith)
 
 joined : (b s t m a r x : ℕ) → m ≡ s * t → x ≡ a * t + r → b * m + x ≡ (b * s + a) * t + r
 joined b s t m a r x p q =
@@ -94,11 +89,7 @@ rest-next i n = let e : 8 * i + 8 ≡ 8 * (i + 1) = omega arith in shr-shr n (8 
 
 pub turned_below : (i n : ℕ) → i < 7 → mirror_bits (8 * i) n < 2 ^ 48
 turned_below i n h =
-    let low : 8 * i ≤ 48 = omega arith in
-    let two : zero < 2 = omega arith in
-    let more : 2 ^ (8 * i) ≤ 2 ^ 48 = pow-le-pow_right two low in
-    let below : mirror_bits (8 * i) n < 2 ^ (8 * i) = mirror_below (8 * i) n in
-    omega arith
+    omega (arith, pow-le-pow_right {n = 2} (omega arith) {i = 8 * i} {j = 48} (omega arith), mirror_below (8 * i) n)
 
 pub uid_of_mirror : (u : ℕ) → IsUid u → uid_of (mirror u) ≡ u
 uid_of_mirror u h = let e : mirror_bits 56 (mirror_bits 56 u) ≡ u % 2 ^ 56 = mirror_twice 56 u in omega arith
@@ -113,41 +104,21 @@ mirror_of_uid k h =
 pub same_test : (x y a b : ℕ) → (x ≡ y → a ≡ b) → (a ≡ b → x ≡ y) → (x == y) ≡ (a == b)
 same_test x y a b f g = grind (arith, nat_tests)
 
--- numbers p and q in blocks of t
-near : (a b t p q : ℕ) → p ≡ a * t → q ≡ b * t → ((a ≡ b) × (p ≡ q)) ⊎ ((a < b) × (p + t ≤ q)) ⊎ ((b < a) × (q + t ≤ p))
-near a b t p q e f = elim (cases_order a b) [
-  | inl same ↦ inl (same, e ∙ ap (λ (x : ℕ). x * t) same ∙ sym f)
-  | inr (inl less) ↦ inr (inl (less, above a b less p q e f))
-  | inr (inr more) ↦ inr (inr (more, above b a more q p f e))
-] where
-  above : (a b : ℕ) → a < b → (p q : ℕ) → p ≡ a * t → q ≡ b * t → p + t ≤ q
-  above a b h p q e f =
+span_test : (a b t r x y : ℕ) → r < t → x ≡ a * t + r → y ≡ b * t → (a == b) ≡ (nat_le y x && nat_le x (y + (t - 1)))
+span_test a b t r x y h e f = plain (a * t) (b * t) (λ s. ap (λ (z : ℕ). z * t) s) (above a b) (above b a) e f where
+  above : (a b : ℕ) → a < b → a * t + t ≤ b * t
+  above a b h =
       let k : suc a * t ≤ b * t = mul-le-mul_right t h in
       let m : suc a * t ≡ a * t + t = suc-mul a t in
       omega arith
 
-span_test : (a b t r x y : ℕ) → r < t → x ≡ a * t + r → y ≡ b * t → (a == b) ≡ (nat_le y x && nat_le x (y + (t - 1)))
-span_test a b t r x y h e f = elim (near a b t (a * t) (b * t) refl refl) [
-  | inl same ↦ equal_here a b t r (a * t) x y h same.0 e (f ∙ sym same.1)
-  | inr (inl less) ↦ below_here a b t r (a * t) (b * t) x y h less.0 less.1 e f
-  | inr (inr more) ↦ above_here a b t r (a * t) (b * t) x y h more.0 more.1 e f
-] where
-  equal_here : (a b t r p x y : ℕ) → r < t → a ≡ b → x ≡ p + r → y ≡ p → (a == b) ≡ (nat_le y x && nat_le x (y + (t - 1)))
-  equal_here a b t r p x y h k e f = grind (arith, nat_tests)
-
-  below_here : (a b t r p q x y : ℕ) → r < t → a < b → p + t ≤ q → x ≡ p + r → y ≡ q → (a == b) ≡ (nat_le y x && nat_le x (y + (t - 1)))
-  below_here a b t r p q x y h k l e f = grind (arith, nat_tests)
-
-  above_here : (a b t r p q x y : ℕ) → r < t → b < a → q + t ≤ p → x ≡ p + r → y ≡ q → (a == b) ≡ (nat_le y x && nat_le x (y + (t - 1)))
-  above_here a b t r p q x y h k l e f = grind (arith, nat_tests)
-
-more_none : (n : ℕ) → n + 0 ≡ n
-more_none n = omega arith
+  plain : (p q : ℕ) → (a ≡ b → p ≡ q) → (a < b → p + t ≤ q) → (b < a → q + t ≤ p) → x ≡ p + r → y ≡ q → (a == b) ≡ (nat_le y x && nat_le x (y + (t - 1)))
+  plain p q same less more e f = grind (arith, nat_tests)
 
 pub in_span : (l h v u : ℕ) → 56 ≡ l + h → v < 2 ^ l → (u % 2 ^ l == v) ≡ (nat_le (mirror v) (mirror u) && nat_le (mirror u) (mirror v + (2 ^ h - 1)))
 in_span l h v u e below =
     let first : mirror_bits 56 v ≡ mirror_bits l v * 2 ^ h =
-    mirror_split l h 56 v e ∙ ap (λ (x : ℕ). mirror_bits l v * 2 ^ h + x) (ap (mirror_bits h) (div-eq_of_lt below) ∙ mirror_none h) ∙ more_none (mirror_bits l v * 2 ^ h) in
+    mirror_split l h 56 v e ∙ ap (λ (x : ℕ). mirror_bits l v * 2 ^ h + x) (ap (mirror_bits h) (div-eq_of_lt below) ∙ mirror_none h) ∙ add-zero (mirror_bits l v * 2 ^ h) in
     let there = λ (s : u % 2 ^ l ≡ v). sym (mirror_mod l u) ∙ ap (mirror_bits l) s in
     let back = λ (s : mirror_bits l u ≡ mirror_bits l v). sym (mirror_twice l u) ∙ ap (mirror_bits l) s ∙ mirror_twice l v ∙ mod-eq_of_lt below in
     same_test (u % 2 ^ l) v (mirror_bits l u) (mirror_bits l v) there back
@@ -163,12 +134,6 @@ block_value l h k e aligned =
     let below = mirror_below l (k / 2 ^ h) in
     omega arith
 
-multiple : (a t : ℕ) → 0 < t → a * t % t ≡ 0
-multiple a t pos =
-    let e : (a * t + 0) % t ≡ 0 % t = mul-add-mod_self_right a t 0 in
-    let f : a * t + 0 ≡ a * t = omega arith in
-    sym (ap (λ (x : ℕ). x % t) f) ∙ e ∙ mod-eq_of_lt pos
-
 -- the keys of a mask are a block
 pub first_is_block : (m : BitMask) → IsMask m → m.len ≤ 56 → IsBlock (mirror m.value) m.len
 first_is_block m is_mask short =
@@ -176,7 +141,7 @@ first_is_block m is_mask short =
     let n : ℕ = mirror_bits m.len m.value in
     let whole : 56 ≡ m.len + h = omega arith in
     let first : mirror m.value ≡ n * 2 ^ h =
-    mirror_split m.len h 56 m.value whole ∙ ap (λ (x : ℕ). n * 2 ^ h + x) (ap (mirror_bits h) (div-eq_of_lt is_mask.1) ∙ mirror_none h) ∙ more_none (n * 2 ^ h) in
+    mirror_split m.len h 56 m.value whole ∙ ap (λ (x : ℕ). n * 2 ^ h + x) (ap (mirror_bits h) (div-eq_of_lt is_mask.1) ∙ mirror_none h) ∙ add-zero (n * 2 ^ h) in
     let below : n < 2 ^ m.len = mirror_below m.len m.value in
     let ends : suc n * 2 ^ h ≤ 2 ^ m.len * 2 ^ h = mul-le-mul_right (2 ^ h) below in
     let next : suc n * 2 ^ h ≡ n * 2 ^ h + 2 ^ h = suc-mul n (2 ^ h) in
@@ -185,7 +150,7 @@ first_is_block m is_mask short =
     record {
       short = short;
       keys = omega (arith, first, ends, next, all, pos);
-      aligned = ap (λ (x : ℕ). x % 2 ^ h) first ∙ multiple n (2 ^ h) pos;
+      aligned = ap (λ (x : ℕ). x % 2 ^ h) first ∙ mul-mod_left n (2 ^ h);
     }
 
 -- ---- the keys of slots
@@ -197,7 +162,7 @@ mirror_above l h v k e below =
     let swap : v + k * 2 ^ l ≡ n = omega arith in
     let low : mirror_bits l n ≡ mirror_bits l v = sym (mirror_mod l n) ∙ ap (mirror_bits l) (mod_low k l v below) in
     let first : mirror_bits 56 v ≡ mirror_bits l v * 2 ^ h =
-    mirror_split l h 56 v e ∙ ap (λ (x : ℕ). mirror_bits l v * 2 ^ h + x) (ap (mirror_bits h) (div-eq_of_lt below) ∙ mirror_none h) ∙ more_none (mirror_bits l v * 2 ^ h) in
+    mirror_split l h 56 v e ∙ ap (λ (x : ℕ). mirror_bits l v * 2 ^ h + x) (ap (mirror_bits h) (div-eq_of_lt below) ∙ mirror_none h) ∙ add-zero (mirror_bits l v * 2 ^ h) in
     ap mirror swap
     ∙ mirror_split l h 56 n e
     ∙ ap (λ (x : ℕ). x * 2 ^ h + mirror_bits h (n / 2 ^ l)) low
@@ -211,7 +176,7 @@ four_bits h k e few =
     mirror_split 4 (h - 4) h k (omega arith)
     ∙ ap (λ (x : ℕ). mirror_bits 4 k * 2 ^ (h - 4) + mirror_bits (h - 4) x) none
     ∙ ap (λ (x : ℕ). mirror_bits 4 k * 2 ^ (h - 4) + x) (mirror_none (h - 4))
-    ∙ more_none (mirror_bits 4 k * 2 ^ (h - 4))
+    ∙ add-zero (mirror_bits 4 k * 2 ^ (h - 4))
 
 pub mirror_of_slot : (l v k : ℕ) → l + 4 ≤ 56 → v < 2 ^ l → k ≤ 15 → mirror (v + k * 2 ^ l) ≡ mirror v + mirror_bits 4 k * 2 ^ (56 - (l + 4))
 mirror_of_slot l v k short below few =

@@ -1,23 +1,19 @@
 -- Replies: what has no fault is spelled, and what is spelled has none.
-use Rattle.std.proofs.Common.{◌≡◌, ℕ, suc, ◌-◌, ◌/◌, ◌^◌, ◌%◌, ◌<◌, ◌≤◌, ◌==◌, true, false, None, Ok, IfOk, List, [], ◌∷◌, length, take, sym, ap, ◌∙◌, arith}
-use Rattle.std.proofs.lemmas.Bool.{not-false, not_from_true, eqb-true, eqb-false, eq-eqb, ne_eqb}
-use Rattle.vic_frame.specs.Replies.{Reply, IsReply, reply_body, reply_spelling, SpellsReply}
-use Rattle.vic_frame.specs.Uids.{IsUid}
-use Rattle.vic_frame.specs.Bytes.{AreBytes, number_of, bytes_of, bit}
-use Rattle.vic_frame.specs.Crc.{crc, crc_right, with_crc}
-use Rattle.vic_frame.specs.Faults.{first_fault, flags, uid_bytes, reply_faults}
-use Rattle.vic_frame.specs.Reading.{fault_or, reply_in}
+use Rattle.std.proofs.Common.{◌≡◌, ℕ, suc, ◌-◌, ◌/◌, ◌^◌, ◌%◌, ◌<◌, ◌≤◌, ◌==◌, true, false, None, Ok, IfOk, List, ◌∷◌, length, take, sym, ap, ◌∙◌, arith, eqb-true, eq-eqb, ne_eqb}
+use Rattle.vic_frame.proofs.Words.{reply_spelling, IsUid, AreBytes, number_of, bytes_of, bit, crc, crc_right, with_crc, first_fault, flags, uid_bytes, fault_or, reply_in}
+use Rattle.std.proofs.lemmas.Bool.{not-false, not_from_true, eqb-false}
+use Rattle.vic_frame.specs.Replies.{Reply, IsReply, reply_body, SpellsReply}
+use Rattle.vic_frame.specs.Faults.{reply_faults}
 use Rattle.vic_frame.proofs.BytesLaws.{bytes_of-take, number_of-bytes_of, length_bytes_of, take_front}
 use Rattle.vic_frame.proofs.FrameLaws.{crc_frame, with_crc-right, length-with_crc, all_fail, none_from, found_from}
 
 pub body_of : (f : List ℕ) → length f ≡ 12 → AreBytes f → take (length f - 2) f ≡ reply_body (reply_in f)
-body_of [] len h = absurd (omega arith)
-body_of (x ∷ []) len h = absurd (omega arith)
 body_of (x ∷ y ∷ xs) len h =
     let rest : length xs ≡ 10 = omega arith in
     let cut : length (x ∷ y ∷ xs) - 2 ≡ 10 = omega arith in
     let long : 8 ≤ length xs = omega arith in
     ap (λ k. take k (x ∷ y ∷ xs)) cut ∙ ap (λ t. x ∷ y ∷ t) (sym (bytes_of-take 8 xs (λ i. h (suc (suc i))) long))
+body_of f len h = absurd (omega arith)
 
 even_of : (b : ℕ) → (bit 1 b) ≡ false → b % 2 ≡ 0
 even_of b h = let odd = eqb-false (b / 2 ^ (1 - 1) % 2) 1 h in omega (arith, odd)
@@ -63,6 +59,4 @@ reply_found f h = found_from (first_fault (reply_faults f)) (reply_in f) (λ r. 
 
 pub reply_only : (f : List ℕ) (r : Reply) → SpellsReply f r → fault_or (first_fault (reply_faults f)) (reply_in f) ≡ Ok r
 reply_only f r s =
-    ap (λ f. fault_or (first_fault (reply_faults f)) (reply_in f)) s.1
-    ∙ ap (λ o. fault_or o (reply_in (reply_spelling r))) (reply_none r s.0)
-    ∙ ap Ok (reply_again r s.0)
+    rw (s.1, reply_none r s.0) (ap Ok (reply_again r s.0))

@@ -1,16 +1,13 @@
 -- Requests: what has no fault is spelled, and what is spelled has none.
-use Rattle.std.proofs.Common.{◌≡◌, ℕ, zero, suc, ◌+◌, ◌-◌, ◌*◌, ◌/◌, ◌^◌, ◌%◌, ◌<◌, ◌≤◌, ◌==◌, ◌&&◌, not, nat_lt, Bool, true, false, None, Ok, IfOk, List, [], ◌∷◌, length, take, drop, if◌then◌else◌, refl, sym, ap, subst, ◌∙◌, arith}
-use Rattle.std.proofs.lemmas.List.{length-take}
-use Rattle.std.proofs.lemmas.Bool.{not-false, not_from_true, eqb-true, eqb-false, eq-eqb, ne_eqb, ltb-false, le-ltb, ltb-true, lt-ltb}
+use Rattle.std.proofs.Common.{◌≡◌, ℕ, suc, ◌+◌, ◌-◌, ◌*◌, ◌/◌, ◌^◌, ◌%◌, ◌<◌, ◌≤◌, ◌==◌, ◌&&◌, not, nat_lt, Bool, true, false, None, Ok, IfOk, List, ◌∷◌, length, take, drop, if◌then◌else◌, refl, sym, ap, subst, ◌∙◌, arith, length-take, eqb-true, eq-eqb, ne_eqb, ltb-false, le-ltb, ltb-true, lt-ltb}
+use Rattle.vic_frame.proofs.Words.{BitMask, IsMask, AreBytes, number_of, bytes_of, bit, crc, crc_right, with_crc, request_spelling, first_fault, flags, uid_bytes, fault_or}
+use Rattle.std.proofs.lemmas.Bool.{not-false, not_from_true, eqb-false}
 use Rattle.vic_frame.specs.declared.request.Request.{Request}
 use Rattle.vic_frame.specs.declared.request.Request.TheVariants.{Inventory, StayQuiet}
-use Rattle.vic_frame.specs.Masks.{BitMask, IsMask}
-use Rattle.vic_frame.specs.Bytes.{AreBytes, number_of, bytes_of, bit}
-use Rattle.vic_frame.specs.Crc.{crc, crc_right, with_crc}
-use Rattle.vic_frame.specs.Requests.{IsValid, IsInRange, byte_count, request_body, request_spelling, SpellsRequest}
-use Rattle.vic_frame.specs.Faults.{first_fault, flags, command, mask_len, mask_bytes, uid_bytes, longest_mask, head_faults, inventory_faults, stay_quiet_faults, request_faults}
-use Rattle.vic_frame.specs.Reading.{fault_or, inventory_in, stay_quiet_in, request_in}
-use Rattle.vic_frame.proofs.BytesLaws.{bytes_of-take, number_of-bytes_of, length_bytes_of, take_front, holds_bits, number_below_8, AreBytes-take, AreBytes-drop}
+use Rattle.vic_frame.specs.Requests.{IsValid, IsInRange, byte_count, request_body, SpellsRequest}
+use Rattle.vic_frame.specs.Faults.{command, mask_len, mask_bytes, longest_mask, head_faults, inventory_faults, stay_quiet_faults, request_faults}
+use Rattle.vic_frame.specs.Reading.{inventory_in, stay_quiet_in, request_in}
+use Rattle.vic_frame.proofs.BytesLaws.{bytes_of-take, number_of-bytes_of, length_bytes_of, take_front, holds_bits, number_within, AreBytes-take, AreBytes-drop}
 use Rattle.vic_frame.proofs.FrameLaws.{crc_frame, with_crc-right, length-with_crc, all_fail, none_from, none_append, none_both, found_from}
 
 -- ---- what has no fault is spelled
@@ -49,9 +46,6 @@ head_of f none =
 
 pub inventory_body : (f : List ℕ) → command f ≡ 1 → flags f ≡ (if not (bit 6 (flags f)) then 0x04 else 0x24) + flags f % 4 → length f ≡ byte_count (mask_len f) + 5 → AreBytes f
     → take (length f - 2) f ≡ request_body (inventory_in f)
-inventory_body [] c b len h = absurd (omega arith)
-inventory_body (x ∷ []) c b len h = absurd (omega arith)
-inventory_body (x ∷ y ∷ []) c b len h = absurd (omega arith)
 inventory_body (x ∷ y ∷ z ∷ xs) c b len h =
     let k = byte_count z in
     let rest : length xs ≡ byte_count z + 2 = omega arith in
@@ -63,11 +57,10 @@ inventory_body (x ∷ y ∷ z ∷ xs) c b len h =
     ∙ ap (λ t. x ∷ y ∷ z ∷ t) (sym bytes ∙ ap (λ k. bytes_of (byte_count z) (number_of (take k xs))) (sym inner))
     ∙ ap (λ y. x ∷ y ∷ z ∷ bytes_of (byte_count z) (number_of (take (length (x ∷ y ∷ z ∷ xs) - 2 - 3) xs))) c
     ∙ ap (λ w. w ∷ 1 ∷ z ∷ bytes_of (byte_count z) (number_of (take (length (x ∷ y ∷ z ∷ xs) - 2 - 3) xs))) b
+inventory_body f c b len h = absurd (omega arith)
 
 pub stay_quiet_body : (f : List ℕ) → command f ≡ 2 → flags f ≡ 0x20 + flags f % 4 → length f ≡ 12 → AreBytes f
     → take (length f - 2) f ≡ request_body (stay_quiet_in f)
-stay_quiet_body [] c b len h = absurd (omega arith)
-stay_quiet_body (x ∷ []) c b len h = absurd (omega arith)
 stay_quiet_body (x ∷ y ∷ xs) c b len h =
     let cut : length (x ∷ y ∷ xs) - 2 ≡ 10 = omega arith in
     let long : 8 ≤ length xs = omega arith in
@@ -75,6 +68,7 @@ stay_quiet_body (x ∷ y ∷ xs) c b len h =
     ∙ ap (λ t. x ∷ y ∷ t) (sym (bytes_of-take 8 xs (λ i. h (suc (suc i))) long))
     ∙ ap (λ y. x ∷ y ∷ bytes_of 8 (number_of (take 8 xs))) c
     ∙ ap (λ w. w ∷ 2 ∷ bytes_of 8 (number_of (take 8 xs))) b
+stay_quiet_body f c b len h = absurd (omega arith)
 
 inventory_flags : (b : ℕ) → b < 256 → b / 8 % 2 ≡ 0 → b / 64 % 2 ≡ 0 → b / 128 % 2 ≡ 0 → b / 16 % 2 ≡ 0 → b / 4 % 2 ≡ 1
     → (s : Bool) → bit 6 b ≡ s → b ≡ (if not s then 0x04 else 0x24) + b % 4
@@ -86,8 +80,7 @@ valid_from true link m h k = h
 valid_from false link m h k = (h, k)
 
 at_most_64 : (s : Bool) (n : ℕ) → n ≤ (if s then 64 else 60) → n ≤ 64
-at_most_64 true n h = h
-at_most_64 false n h = omega arith
+at_most_64 s n h = grind arith
 
 inventory_sound : (f : List ℕ) → AreBytes f → Head f → command f ≡ 1 → bit 3 (flags f) ≡ true → first_fault (inventory_faults f) ≡ None → SpellsRequest f (inventory_in f)
 inventory_sound f h head c three none =
@@ -105,7 +98,7 @@ inventory_sound f h head c three none =
     )
 
 uid_small : (f : List ℕ) → AreBytes f → number_of (uid_bytes f) < 2 ^ 64
-uid_small f h = number_below_8 (take 8 (drop 2 f)) (AreBytes-take 8 (drop 2 f) (AreBytes-drop 2 f h)) (omega (arith, length-take 8 (drop 2 f)))
+uid_small f h = number_within 8 (take 8 (drop 2 f)) (AreBytes-take 8 (drop 2 f) (AreBytes-drop 2 f h)) (omega (arith, length-take 8 (drop 2 f)))
 
 stay_quiet_sound : (f : List ℕ) → AreBytes f → Head f → command f ≡ 2 → bit 3 (flags f) ≡ false → first_fault (stay_quiet_faults f) ≡ None → SpellsRequest f (stay_quiet_in f)
 stay_quiet_sound f h head c three none =
@@ -148,16 +141,9 @@ pub record InventoryBits (s : Bool) (link x : ℕ) : Type 0 where
   pub low : x % 4 ≡ link
 
 pub inventory_bits : (s : Bool) (link : ℕ) → link ≤ 3 → InventoryBits s link ((if s then 0x04 else 0x24) + link)
-inventory_bits true zero h = record { b3 = refl; b4 = refl; b5 = refl; b6 = refl; b7 = refl; b8 = refl; low = refl }
-inventory_bits true (suc zero) h = record { b3 = refl; b4 = refl; b5 = refl; b6 = refl; b7 = refl; b8 = refl; low = refl }
-inventory_bits true (suc (suc zero)) h = record { b3 = refl; b4 = refl; b5 = refl; b6 = refl; b7 = refl; b8 = refl; low = refl }
-inventory_bits true (suc (suc (suc zero))) h = record { b3 = refl; b4 = refl; b5 = refl; b6 = refl; b7 = refl; b8 = refl; low = refl }
 inventory_bits true (suc (suc (suc (suc n)))) h = absurd (omega arith)
-inventory_bits false zero h = record { b3 = refl; b4 = refl; b5 = refl; b6 = refl; b7 = refl; b8 = refl; low = refl }
-inventory_bits false (suc zero) h = record { b3 = refl; b4 = refl; b5 = refl; b6 = refl; b7 = refl; b8 = refl; low = refl }
-inventory_bits false (suc (suc zero)) h = record { b3 = refl; b4 = refl; b5 = refl; b6 = refl; b7 = refl; b8 = refl; low = refl }
-inventory_bits false (suc (suc (suc zero))) h = record { b3 = refl; b4 = refl; b5 = refl; b6 = refl; b7 = refl; b8 = refl; low = refl }
 inventory_bits false (suc (suc (suc (suc n)))) h = absurd (omega arith)
+inventory_bits s link h = record { b3 = refl; b4 = refl; b5 = refl; b6 = refl; b7 = refl; b8 = refl; low = refl }
 
 pub record StayQuietBits (link x : ℕ) : Type 0 where
   pub b3 : bit 3 x ≡ false
@@ -169,11 +155,8 @@ pub record StayQuietBits (link x : ℕ) : Type 0 where
   pub low : x % 4 ≡ link
 
 pub stay_quiet_bits : (link : ℕ) → link ≤ 3 → StayQuietBits link (0x20 + link)
-stay_quiet_bits zero h = record { b3 = refl; b4 = refl; b5 = refl; b6 = refl; b7 = refl; b8 = refl; low = refl }
-stay_quiet_bits (suc zero) h = record { b3 = refl; b4 = refl; b5 = refl; b6 = refl; b7 = refl; b8 = refl; low = refl }
-stay_quiet_bits (suc (suc zero)) h = record { b3 = refl; b4 = refl; b5 = refl; b6 = refl; b7 = refl; b8 = refl; low = refl }
-stay_quiet_bits (suc (suc (suc zero))) h = record { b3 = refl; b4 = refl; b5 = refl; b6 = refl; b7 = refl; b8 = refl; low = refl }
 stay_quiet_bits (suc (suc (suc (suc n)))) h = absurd (omega arith)
+stay_quiet_bits link h = record { b3 = refl; b4 = refl; b5 = refl; b6 = refl; b7 = refl; b8 = refl; low = refl }
 
 pub link_of : (s : Bool) (link : ℕ) (m : BitMask) → IsValid (Inventory link s m) → link ≤ 3
 link_of true link m h = h.0
@@ -192,9 +175,7 @@ head_none f long right b4 b8 b7 known third =
 
 pub inventory_len : (link : ℕ) (s : Bool) (m : BitMask) → length (request_spelling (Inventory link s m)) ≡ byte_count m.len + 5
 inventory_len link s m =
-    let total = length-with_crc (request_body (Inventory link s m)) in
-    let inner = length_bytes_of (byte_count m.len) m.value in
-    omega (arith, total, inner)
+    omega (arith, length-with_crc (request_body (Inventory link s m)), length_bytes_of (byte_count m.len) m.value)
 
 pub inventory_value : (link : ℕ) (s : Bool) (m : BitMask) → IsMask m → number_of (mask_bytes (request_spelling (Inventory link s m))) ≡ m.value
 inventory_value link s m h =
@@ -221,11 +202,9 @@ inventory_none link s m h v =
 inventory_again : (link : ℕ) (s : Bool) (m : BitMask) → IsMask m → IsValid (Inventory link s m) → request_in (request_spelling (Inventory link s m)) ≡ Inventory link s m
 inventory_again link s m h v =
     let bits = inventory_bits s link (link_of s link m v) in
-    let x : ℕ = (if s then 0x04 else 0x24) + link in
-    let read : ℕ = number_of (mask_bytes (request_spelling (Inventory link s m))) in
-    ap (λ l. Inventory l (not (bit 6 x)) (record { len = m.len; value = read })) bits.low
-    ∙ ap (λ t. Inventory link t (record { len = m.len; value = read })) bits.b6
-    ∙ ap (λ n. Inventory link s (record { len = m.len; value = n })) (inventory_value link s m h)
+    let value = inventory_value link s m h in
+    let same : request_in (request_spelling (Inventory link s m)) ≡ Inventory link s (record { len = m.len; value = m.value }) = cc in
+    same
 
 pub stay_quiet_len : (link uid : ℕ) → length (request_spelling (StayQuiet link uid)) ≡ 12
 stay_quiet_len link uid = omega (arith, length-with_crc (request_body (StayQuiet link uid)), length_bytes_of 8 uid)
@@ -259,6 +238,4 @@ request_again (StayQuiet link uid) h v = stay_quiet_again link uid h v
 
 pub request_only : (f : List ℕ) (q : Request) → SpellsRequest f q → fault_or (first_fault (request_faults f)) (request_in f) ≡ Ok q
 request_only f q s =
-    ap (λ f. fault_or (first_fault (request_faults f)) (request_in f)) s.2
-    ∙ ap (λ o. fault_or o (request_in (request_spelling q))) (request_none q s.0 s.1)
-    ∙ ap Ok (request_again q s.0 s.1)
+    rw (s.2, request_none q s.0 s.1) (ap Ok (request_again q s.0 s.1))

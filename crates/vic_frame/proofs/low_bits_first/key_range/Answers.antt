@@ -1,7 +1,6 @@
-use Rattle.std.proofs.Common.{ℕ, ◌+◌, ◌-◌, ◌*◌, ◌^◌, ◌%◌, ◌∙◌, ap, arith, sym, ◌&&◌}
-use Rattle.std.specs.Prelude.{nat_le}
+use Rattle.std.proofs.Common.{ℕ, ◌+◌, ◌-◌, ◌*◌, ◌^◌, ◌%◌, ◌∙◌, ap, arith, sym, ◌&&◌, nat_le}
+use Rattle.vic_frame.proofs.Words.{mirror}
 use Rattle.std.proofs.lemmas.Nat.{one_shl}
-use Rattle.vic_frame.specs.LowBitsFirst.{mirror}
 use Rattle.vic_frame.proofs.MirrorLaws.{in_span}
 use Rattle.vic_frame.proofs.low_bits_first.key_range.Goals as goal
 

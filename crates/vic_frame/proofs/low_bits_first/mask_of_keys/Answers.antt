@@ -1,8 +1,5 @@
-use Rattle.std.proofs.Common.{ℕ, ◌≡◌, ◌+◌, ◌-◌, ◌^◌, ◌<◌, ◌∙◌, ◌&&◌, ap, subst, sym, arith}
-use Rattle.std.specs.Prelude.{nat_le}
-use Rattle.std.proofs.Math.Nat.{mod-eq_of_lt}
-use Rattle.vic_frame.specs.Masks.{BitMask, lies_in}
-use Rattle.vic_frame.specs.LowBitsFirst.{IsBlock, mirror}
+use Rattle.std.proofs.Common.{ℕ, ◌≡◌, ◌+◌, ◌-◌, ◌^◌, ◌<◌, ◌∙◌, ◌&&◌, ap, subst, sym, arith, nat_le, mod-eq_of_lt}
+use Rattle.vic_frame.proofs.Words.{BitMask, lies_in, IsBlock, mirror}
 use Rattle.vic_frame.proofs.MirrorLaws.{block_value, in_span, mirror_twice}
 use Rattle.vic_frame.proofs.low_bits_first.mask_of_keys.Goals as goal
 

@@ -1,7 +1,6 @@
-use Rattle.std.proofs.Common.{ℕ, ◌≡◌, ◌+◌, ◌*◌, ◌/◌, ◌%◌, ◌<◌, ◌^◌, ◌∙◌, ap, sym, refl, arith}
+use Rattle.std.proofs.Common.{ℕ, ◌≡◌, ◌+◌, ◌*◌, ◌/◌, ◌%◌, ◌<◌, ◌^◌, ◌∙◌, ap, sym, refl, arith, div-one}
 use Rattle.vic_frame.specs.LowBitsFirst.{mirror_bits}
 use Rattle.vic_frame.proofs.MirrorLaws.{mirror_below, turn-next, rest-next, turned_below}
-use Rattle.std.proofs.Math.Nat.{div-one}
 use Rattle.vic_frame.proofs.low_bits_first.turn_round.Goals as goal
 
 pub loop-init : goal.loop-init

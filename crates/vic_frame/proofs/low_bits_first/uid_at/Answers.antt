@@ -1,5 +1,5 @@
 use Rattle.std.proofs.Common.{ℕ, ◌+◌, ◌*◌, ◌^◌, ◌∙◌, ap}
-use Rattle.vic_frame.specs.LowBitsFirst.{mirror}
+use Rattle.vic_frame.proofs.Words.{mirror}
 use Rattle.vic_frame.proofs.MirrorLaws.{mirror_of_uid}
 use Rattle.vic_frame.proofs.low_bits_first.uid_at.Goals as goal
 

@@ -1,6 +1,5 @@
 use Rattle.std.proofs.Common.{ℕ, ◌<◌, ◌≤◌, ◌^◌, ◌%◌, ◌∙◌, ap, arith}
-use Rattle.std.proofs.Math.Nat.{pow-le-pow_right}
-use Rattle.vic_frame.specs.Masks.{BitMask}
+use Rattle.vic_frame.proofs.Words.{pow-le-pow_right, BitMask}
 use Rattle.vic_frame.proofs.MaskLaws.{least_inside, least_first}
 use Rattle.vic_frame.proofs.mask.Mask.least_uid.Goals as goal
 
