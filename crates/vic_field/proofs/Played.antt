@@ -61,8 +61,7 @@ told_after h s w q r t e f = grind arith
 
 Tells-entry : (p : List ℕ) (es : List Entry) (tags after : List (ℕ × Bool)) (e : Entry) → ((u : ℕ) → IsUid u → readiness after u ≡ option_map (ready_after e u) (readiness tags u)) → Tells p es tags → Tells p (es ++ e ∷ []) after
 Tells-entry p es tags after e step t u h =
-    told_after (has p u) (silences (Some e) u) (wakes (Some e)) (is_quiet es (length es) u) (readiness tags u) (readiness after u) (t u h) (step u h)
-    ∙ ap (λ (b : Bool). if has p u then Some (not b) else None) (sym (quiet-next es e u))
+    rw quiet-next (told_after (has p u) (silences (Some e) u) (wakes (Some e)) (is_quiet es (length es) u) (readiness tags u) (readiness after u) (t u h) (step u h))
 
 entry_round : (p : List ℕ) (es : List Entry) (tags : List (ℕ × Bool)) (e : Entry) → is_slot e ≡ false → IsPopulation p → (0 < slots_opened (Some e) → IsPopulation (uids tags))
     → HasRound p (es ++ e ∷ []) tags → HasRound p ((es ++ e ∷ []) ++ slot_lines tags e) tags
@@ -83,18 +82,11 @@ pub record IsPlayed (p : List ℕ) (done es : List Entry) (tags : List (ℕ × B
 -- a list of slot lines has no other
 none_kept : (ss : List Entry) → ((i : ℕ) (e : Entry) → slice_get ss i ≡ Some e → is_slot e ≡ true) → without_slots ss ≡ []
 none_kept [] h = refl
-none_kept (s ∷ ss) h =
-    ap (λ (b : Bool). if not b then s ∷ without_slots ss else without_slots ss) (h 0 s refl)
-    ∙ none_kept ss (λ i e k. h (suc i) e k)
-
-one_kept : (e : Entry) (ss : List Entry) → is_slot e ≡ false → without_slots (e ∷ ss) ≡ e ∷ without_slots ss
-one_kept e ss h = ap (λ (b : Bool). if not b then e ∷ without_slots ss else without_slots ss) h
+none_kept (s ∷ ss) h = rw (h 0 s refl) (none_kept ss (λ i e k. h (suc i) e k))
 
 kept_next : (done es : List Entry) (tags : List (ℕ × Bool)) (e : Entry) → is_slot e ≡ false → without_slots es ≡ done → without_slots (es ++ e ∷ slot_lines tags e) ≡ done ++ e ∷ []
 kept_next done es tags e s k =
-    filter-append (λ x. not (is_slot x)) es (e ∷ slot_lines tags e)
-    ∙ ap (λ (xs : List Entry). without_slots es ++ xs) (one_kept e (slot_lines tags e) s ∙ ap (λ (xs : List Entry). e ∷ xs) (none_kept (slot_lines tags e) (slot_lines-slots tags e)))
-    ∙ ap (λ (xs : List Entry). xs ++ e ∷ []) k
+    rw (filter-append (λ x. not (is_slot x)) es (e ∷ slot_lines tags e), s, none_kept (slot_lines tags e) (slot_lines-slots tags e), k) refl
 
 pub line_count-next : (es : List Entry) (e : Entry) → line_count (es ++ e ∷ []) ≡ line_count es + suc (slots_opened (Some e))
 line_count-next [] e = omega arith
@@ -109,7 +101,7 @@ here_is xs k h = grind (arith, slice_get_cases xs k)
 
 -- the slots of one entry more
 slots_next : (es : List Entry) (tags : List (ℕ × Bool)) (e : Entry) → HasAllSlots es → HasAllSlots (es ++ e ∷ slot_lines tags e)
-slots_next es tags e h i k q at less = ⊎_elim before here (place_in es (e ∷ slot_lines tags e) i (Sent q) at) where
+slots_next es tags e h i k q at less = ⊎_elim before (λ w. at_place w.0 w.1 w.2) (place_in es (e ∷ slot_lines tags e) i (Sent q) at) where
   before : slice_get es i ≡ Some (Sent q) → (x : Entry) × (slice_get (es ++ e ∷ slot_lines tags e) (suc i + k) ≡ Some x) × (is_slot x ≡ true)
   before b = let w = h i k q b less in (w.0, still_there es (e ∷ slot_lines tags e) (suc i + k) w.0 w.1, w.2)
 
@@ -122,9 +114,6 @@ slots_next es tags e h i k q at less = ⊎_elim before here (place_in es (e ∷ 
   at_place : (j : ℕ) → i ≡ length es + j → slice_get (e ∷ slot_lines tags e) j ≡ Some (Sent q) → (x : Entry) × (slice_get (es ++ e ∷ slot_lines tags e) (suc i + k) ≡ Some x) × (is_slot x ≡ true)
   at_place zero place b = let same : e ≡ Sent q = cc in its_own (omega arith) same
   at_place (suc j) place b = absurd (false≢true (slot_lines-slots tags e j (Sent q) b))
-
-  here : (j : ℕ) × (i ≡ length es + j) × (slice_get (e ∷ slot_lines tags e) j ≡ Some (Sent q)) → (x : Entry) × (slice_get (es ++ e ∷ slot_lines tags e) (suc i + k) ≡ Some x) × (is_slot x ≡ true)
-  here w = at_place w.0 w.1 w.2
 
 plain_next : (es : List Entry) (tags : List (ℕ × Bool)) (e : Entry) → is_slot e ≡ false → ArePlain es → ArePlain (es ++ e ∷ slot_lines tags e)
 plain_next es tags e s h i x at = ⊎_elim (λ b. h i x b) (λ w. later w.0 w.2) (place_in es (e ∷ slot_lines tags e) i x at) where

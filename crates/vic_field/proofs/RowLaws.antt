@@ -1,6 +1,6 @@
 -- Tags in a row by their keys.
-use Rattle.std.proofs.Common.{◌≡◌, ◌≢◌, ℕ, zero, suc, ◌+◌, ◌-◌, ◌<◌, ◌≤◌, Bool, true, false, List, [], ◌∷◌, ◌&&◌, ◌||◌, length, take, drop, get_or, map, not, refl, sym, ap, subst, ◌∙◌, arith, ⊎_elim, add-one, drop-cons, drop-drop, drop_of_length-le, length-drop, nat_eq, nat_le, nat_cmp, All, insert, ne_eqb, eq-eqb, le-leb, get_or-take, get_or-drop}
-use Rattle.vic_field.proofs.Words.{IsStrictlySortedBy, keys_of, cases_lt, cases_eq, get_or_default, non_decreasing_from_sorted, IsKey, uid_of, has, AreKeys, is_quiet_place, with_quiet}
+use Rattle.std.proofs.Common.{◌≡◌, ◌≢◌, ℕ, zero, suc, ◌+◌, ◌-◌, ◌<◌, ◌≤◌, Bool, true, false, List, [], ◌∷◌, ◌&&◌, ◌||◌, length, take, drop, get_or, map, not, refl, sym, ap, subst, ◌∙◌, arith, add-one, drop-cons, drop-drop, drop_of_length-le, length-drop, nat_eq, nat_le, nat_cmp, All, insert, ne_eqb, eq-eqb, le-leb, get_or-take, get_or-drop}
+use Rattle.vic_field.proofs.Words.{IsStrictlySortedBy, keys_of, get_or_default, non_decreasing_from_sorted, IsKey, uid_of, has, AreKeys, is_quiet_place, with_quiet}
 use Rattle.std.specs.List.{AllByRecursion, IsDistinct}
 use Rattle.std.proofs.Math.Bool.{and-true}
 use Rattle.std.proofs.lemmas.Bool.Decides.{nat_tests}
@@ -141,35 +141,30 @@ inserted_keys ks place key i p fresh small = record {
       sorted_from_strictly_increasing (insert ks place key) (IsStrictlyIncreasing-from_distinct (insert ks place key) up distinct);
 }
 
+-- the tag at position k, where another is put at `place`
+moved : (ks : List ℕ) (es : List (ℕ × Bool)) (key place k : ℕ) (old new : ℕ → Bool) (d : ℕ × Bool) → place ≤ length ks → length es ≡ length ks → k < suc (length ks)
+    → ((j : ℕ) → j < length ks → get_or es j d ≡ (get_or ks j 0, not (old j)))
+    → (k < place → new k ≡ old k) → new place ≡ false → (place < k → new k ≡ old (k - 1)) → (get_or (insert ks place key) k 0, not (new k)) ≡ get_or (insert es place (key, true)) k d
+moved ks es key place k old new d within size lt entry before put after =
+    let above : place < k → (k - 1) + 1 ≡ k = λ p. omega arith in
+    let key_above : place < k → get_or (insert ks place key) k 0 ≡ get_or ks (k - 1) 0 = λ p. rw (above p) at (get_or-insert_above ks place key 0 (k - 1) (omega arith) within) in
+    let tag_above : place < k → get_or (insert es place (key, true)) k d ≡ get_or es (k - 1) d = λ p. rw (above p) at (get_or-insert_above es place (key, true) d (k - 1) (omega arith) (omega arith)) in
+    grind (arith, key_above, tag_above, get_or-insert_below ks place key 0 k, get_or-insert_at ks place key 0, get_or-insert_below es place (key, true) d k, get_or-insert_at es place (key, true) d, entry k, entry (k - 1))
+
 -- a row with one tag more, Ready
 pub inserted : (r new : Row) (key place : ℕ) → place ≤ length r.keys.items → new.keys.items ≡ insert r.keys.items place key
     → ((k : ℕ) → k < place → is_quiet_place new.quiet k ≡ is_quiet_place r.quiet k) → is_quiet_place new.quiet place ≡ false
     → ((k : ℕ) → place ≤ k → k < length r.keys.items → is_quiet_place new.quiet (k + 1) ≡ is_quiet_place r.quiet k) → entries new ≡ insert (entries r) place (key, true)
 inserted r new key place within keys before put after =
     let ks = r.keys.items in
-    let es = entries r in
     let size = length_entries r in
     let long = length_entries new in
-    let more = length-insert ks place key within in
-    let same = ap length keys in
-    let there : place ≤ length es = omega (arith, size, within) in
-    let one = length-insert es place (key, true) there in
-    same_lists _ _ (omega (arith, size, long, more, same, one)) (λ k d h.
-    let lt : k < length new.keys.items = omega (arith, h, long) in
-    entry new k d lt ∙ ⊎_elim
-    (λ (low : k < place).
-    let lt_old : k < length ks = omega (arith, low, within) in
-    rw (keys, before k low, get_or-insert_below ks place key 0 k low within) (sym (get_or-insert_below es place (key, true) d k low there ∙ entry r k d lt_old)))
-    (λ (from : place ≤ k). ⊎_elim
-    (λ (here : k ≡ place). rw (here, keys, put, get_or-insert_at ks place key 0 within) (sym (get_or-insert_at es place (key, true) d there)))
-    (λ (other : k ≢ place).
-    let j = k - 1 in
-    let next : k ≡ j + 1 = omega (arith, from, other) in
-    let above : place ≤ j = omega (arith, from, other) in
-    let lt_old : j < length ks = omega (arith, lt, same, more, from, other) in
-    rw (next, keys, after j above lt_old, get_or-insert_above ks place key 0 j above within) (sym (get_or-insert_above es place (key, true) d j above there ∙ entry r j d lt_old)))
-    (cases_eq k place))
-    (cases_lt k place))
+    let more = ap length keys ∙ length-insert ks place key within in
+    let one = length-insert (entries r) place (key, true) (omega arith) in
+    same_lists _ _ (omega arith) (λ k d h.
+    let last : place < k → k - 1 + 1 ≡ k = λ p. omega arith in
+    entry new k d (omega arith)
+    ∙ rw keys (moved ks (entries r) key place k (is_quiet_place r.quiet) (is_quiet_place new.quiet) d within size (omega arith) (λ j lt. entry r j d lt) (before k) put (λ p. rw (last p) at (after (k - 1) (omega arith) (omega arith)))))
 
 -- ---- what is heard
 
