@@ -1,10 +1,9 @@
 -- Numbers and their bytes, and tables by a byte.
-use Rattle.std.proofs.Common.{◌≡◌, ℕ, zero, suc, ◌+◌, ◌*◌, ◌/◌, ◌^◌, ◌%◌, ◌<◌, ◌≤◌, List, [], ◌∷◌, ◌++◌, length, get_or, map, take, drop, refl, sym, ap, ◌∙◌, arith, append_assoc, append-nil, get_or-drop, length-take, pow-add}
+use Rattle.std.proofs.Common.{get_or-take, ◌≡◌, ℕ, zero, suc, ◌+◌, ◌*◌, ◌/◌, ◌^◌, ◌%◌, ◌<◌, ◌≤◌, List, [], ◌∷◌, ◌++◌, length, get_or, map, take, drop, refl, sym, ap, ◌∙◌, arith, append_assoc, append-nil, get_or-drop, length-take, pow-add}
 use Rattle.vic_frame.proofs.Words.{pow-le-pow_right, number_of, AreBytes}
-use Rattle.std.proofs.lemmas.List.{get_or-map}
-use Rattle.std.proofs.lemmas.List.FromFn.{get_or-range_with_len, length-range_with_len}
+use Rattle.std.proofs.lemmas.List.{get_or_past}
+use Rattle.std.proofs.lemmas.List.FromFn.{get_or-map-range_with_len}
 use Rattle.std.specs.List.{range_with_len}
-use Rattle.std.proofs.Math.Seq.{take-append_seam}
 use Rattle.std.proofs.lemmas.Nat.{mul-le}
 use Rattle.vic_frame.specs.Bytes.{bytes_of}
 
@@ -43,10 +42,7 @@ pub AreBytes-drop : (n : ℕ) (xs : List ℕ) → AreBytes xs → AreBytes (drop
 AreBytes-drop n xs h i = rw (get_or-drop n xs i 0) (h (n + i))
 
 pub AreBytes-take : (n : ℕ) (xs : List ℕ) → AreBytes xs → AreBytes (take n xs)
-AreBytes-take zero xs h i = omega arith
-AreBytes-take (suc n) [] h i = h i
-AreBytes-take (suc n) (x ∷ xs) h zero = h 0
-AreBytes-take (suc n) (x ∷ xs) h (suc i) = AreBytes-take n xs (λ j. h (suc j)) i
+AreBytes-take n xs h i = grind (arith, h i, get_or-take n xs i 0, get_or_past (take n xs) i 0, length-take n xs)
 
 -- one byte more
 pub bytes_of-push : (out : List ℕ) (k j n : ℕ) → k ≡ suc j → (out ++ n % 256 ∷ []) ++ bytes_of j (n / 256) ≡ out ++ bytes_of k n
@@ -56,9 +52,6 @@ bytes_of-push out k j n e = rw (e, append_assoc) refl
 pub bytes_of-end : (out : List ℕ) (k n : ℕ) → k ≡ 0 → out ++ bytes_of k n ≡ out
 unfolding bytes_of
 bytes_of-end out k n e = rw (e, append-nil) refl
-
-pub take_front : (k : ℕ) (xs ys : List ℕ) → length xs ≡ k → take k (xs ++ ys) ≡ xs
-take_front k xs ys e = ap (λ j. take j (xs ++ ys)) (sym e) ∙ take-append_seam xs ys
 
 -- so many bytes of a list, and their number
 pub bytes_of-take : (k : ℕ) (xs : List ℕ) → AreBytes xs → k ≤ length xs → bytes_of k (number_of (take k xs)) ≡ take k xs
@@ -84,7 +77,4 @@ sixteen_times k p h = let most = mul-le k p 15 p h (omega arith) in omega (arith
 
 -- an entry of a table of a function's values
 pub table_to : (f : ℕ → ℕ) (n i : ℕ) → i < n → get_or (map f (range_with_len 0 n)) i 0 ≡ f i
-table_to f n i h =
-    let plain : 0 + i ≡ i = omega arith in
-    let len : i < length (range_with_len 0 n) = rw (length-range_with_len 0 n) h in
-    get_or-map f (range_with_len 0 n) i 0 0 len ∙ ap f (get_or-range_with_len 0 n i 0 h ∙ plain)
+table_to f n i h = get_or-map-range_with_len f 0 n i i 0 h (omega arith)

@@ -59,11 +59,6 @@ none_both [] fs h k = k
 none_both ((e, false) ∷ es) fs h k = none_both es fs h k
 none_both ((e, true) ∷ es) fs h k = absurd cc
 
-pub none_first : (es fs : List (FrameFault × Bool)) → first_fault es ≡ None → first_fault (es ++ fs) ≡ first_fault fs
-none_first [] fs h = refl
-none_first ((e, false) ∷ es) fs h = none_first es fs h
-none_first ((e, true) ∷ es) fs h = absurd cc
-
 -- what is read is spelled, if whatever has no fault is
 pub found_from : {A : Type 0} (o : Option FrameFault) (x : A) (P : A → Type 0) → (o ≡ None → P x) → IfOk (fault_or o x) P
 found_from None x P h = h refl

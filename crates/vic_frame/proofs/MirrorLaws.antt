@@ -1,5 +1,5 @@
 -- Laws of the mirrored bits.
-use Rattle.std.proofs.Common.{add-zero, ◌&&◌, ◌==◌, ◌≡◌, ℕ, ◌+◌, ◌-◌, ◌*◌, ◌/◌, ◌^◌, ◌%◌, ◌<◌, ◌≤◌, refl, sym, ap, ◌∙◌, arith, zero, suc, add-one, nat_le, pow-add, shr-shr, pow_pos, add_assoc, add-mul, mul_assoc, div-one, mod-eq_of_lt, mul-le-mul_right, suc-mul}
+use Rattle.std.proofs.Common.{add-zero, ◌&&◌, ◌==◌, ◌≡◌, ℕ, ◌+◌, ◌-◌, ◌*◌, ◌/◌, ◌^◌, ◌%◌, ◌<◌, ◌≤◌, refl, sym, ap, ◌∙◌, arith, zero, suc, add-one, nat_le, pow-add, shr-shr, pow_pos, div-one, mod-eq_of_lt, mul-le-mul_right, suc-mul}
 use Rattle.vic_frame.proofs.Words.{nat_tests, pow-le-pow_right, IsUid, BitMask, IsMask, IsBlock, mirror, uid_of}
 use Rattle.std.proofs.lemmas.Nat.{mod-pow-add, field_of, shr_high, mod_low}
 use Rattle.std.proofs.Math.Nat.{mod-one, div-eq_of_lt}
@@ -22,10 +22,7 @@ mirror_below (suc k) n = bit_below (n % 2) (2 ^ k) (mirror_bits k (n / 2)) (2 ^ 
 
 joined : (b s t m a r x : ℕ) → m ≡ s * t → x ≡ a * t + r → b * m + x ≡ (b * s + a) * t + r
 joined b s t m a r x p q =
-    ap (λ (y : ℕ). b * y + x) p
-    ∙ ap (λ (y : ℕ). b * (s * t) + y) q
-    ∙ sym (add_assoc (b * (s * t)) (a * t) r)
-    ∙ ap (λ (y : ℕ). y + r) (ap (λ (y : ℕ). y + a * t) (sym (mul_assoc b s t)) ∙ sym (add-mul (b * s) a t))
+    rw (p, q) (omega arith)
 
 none_above : (t r : ℕ) → r ≡ 0 * t + r
 none_above t r = omega arith
@@ -115,14 +112,16 @@ span_test a b t r x y h e f = plain (a * t) (b * t) (λ s. ap (λ (z : ℕ). z *
   plain : (p q : ℕ) → (a ≡ b → p ≡ q) → (a < b → p + t ≤ q) → (b < a → q + t ≤ p) → x ≡ p + r → y ≡ q → (a == b) ≡ (nat_le y x && nat_le x (y + (t - 1)))
   plain p q same less more e f = grind (arith, nat_tests)
 
+-- a number of l bits, turned round
+first_of : (l h v : ℕ) → 56 ≡ l + h → v < 2 ^ l → mirror v ≡ mirror_bits l v * 2 ^ h
+first_of l h v e below = mirror_split l h 56 v e ∙ ap (λ (x : ℕ). mirror_bits l v * 2 ^ h + x) (ap (mirror_bits h) (div-eq_of_lt below) ∙ mirror_none h) ∙ add-zero (mirror_bits l v * 2 ^ h)
+
 pub in_span : (l h v u : ℕ) → 56 ≡ l + h → v < 2 ^ l → (u % 2 ^ l == v) ≡ (nat_le (mirror v) (mirror u) && nat_le (mirror u) (mirror v + (2 ^ h - 1)))
 in_span l h v u e below =
-    let first : mirror_bits 56 v ≡ mirror_bits l v * 2 ^ h =
-    mirror_split l h 56 v e ∙ ap (λ (x : ℕ). mirror_bits l v * 2 ^ h + x) (ap (mirror_bits h) (div-eq_of_lt below) ∙ mirror_none h) ∙ add-zero (mirror_bits l v * 2 ^ h) in
     let there = λ (s : u % 2 ^ l ≡ v). sym (mirror_mod l u) ∙ ap (mirror_bits l) s in
     let back = λ (s : mirror_bits l u ≡ mirror_bits l v). sym (mirror_twice l u) ∙ ap (mirror_bits l) s ∙ mirror_twice l v ∙ mod-eq_of_lt below in
     same_test (u % 2 ^ l) v (mirror_bits l u) (mirror_bits l v) there back
-    ∙ span_test (mirror_bits l u) (mirror_bits l v) (2 ^ h) (mirror_bits h (u / 2 ^ l)) (mirror u) (mirror v) (mirror_below h (u / 2 ^ l)) (mirror_split l h 56 u e) first
+    ∙ span_test (mirror_bits l u) (mirror_bits l v) (2 ^ h) (mirror_bits h (u / 2 ^ l)) (mirror u) (mirror v) (mirror_below h (u / 2 ^ l)) (mirror_split l h 56 u e) (first_of l h v e below)
 
 -- ---- blocks of keys
 
@@ -140,8 +139,7 @@ first_is_block m is_mask short =
     let h : ℕ = 56 - m.len in
     let n : ℕ = mirror_bits m.len m.value in
     let whole : 56 ≡ m.len + h = omega arith in
-    let first : mirror m.value ≡ n * 2 ^ h =
-    mirror_split m.len h 56 m.value whole ∙ ap (λ (x : ℕ). n * 2 ^ h + x) (ap (mirror_bits h) (div-eq_of_lt is_mask.1) ∙ mirror_none h) ∙ add-zero (n * 2 ^ h) in
+    let first : mirror m.value ≡ n * 2 ^ h = first_of m.len h m.value whole is_mask.1 in
     let below : n < 2 ^ m.len = mirror_below m.len m.value in
     let ends : suc n * 2 ^ h ≤ 2 ^ m.len * 2 ^ h = mul-le-mul_right (2 ^ h) below in
     let next : suc n * 2 ^ h ≡ n * 2 ^ h + 2 ^ h = suc-mul n (2 ^ h) in
@@ -161,13 +159,11 @@ mirror_above l h v k e below =
     let n : ℕ = k * 2 ^ l + v in
     let swap : v + k * 2 ^ l ≡ n = omega arith in
     let low : mirror_bits l n ≡ mirror_bits l v = sym (mirror_mod l n) ∙ ap (mirror_bits l) (mod_low k l v below) in
-    let first : mirror_bits 56 v ≡ mirror_bits l v * 2 ^ h =
-    mirror_split l h 56 v e ∙ ap (λ (x : ℕ). mirror_bits l v * 2 ^ h + x) (ap (mirror_bits h) (div-eq_of_lt below) ∙ mirror_none h) ∙ add-zero (mirror_bits l v * 2 ^ h) in
     ap mirror swap
     ∙ mirror_split l h 56 n e
     ∙ ap (λ (x : ℕ). x * 2 ^ h + mirror_bits h (n / 2 ^ l)) low
     ∙ ap (λ (x : ℕ). mirror_bits l v * 2 ^ h + mirror_bits h x) (shr_high k l v below)
-    ∙ ap (λ (x : ℕ). x + mirror_bits h k) (sym first)
+    ∙ ap (λ (x : ℕ). x + mirror_bits h k) (sym (first_of l h v e below))
 
 -- the four bits of a slot's number
 pub four_bits : (h k : ℕ) → 4 ≤ h → k ≤ 15 → mirror_bits h k ≡ mirror_bits 4 k * 2 ^ (h - 4)

@@ -1,10 +1,10 @@
 -- Replies: what has no fault is spelled, and what is spelled has none.
-use Rattle.std.proofs.Common.{◌≡◌, ℕ, suc, ◌-◌, ◌/◌, ◌^◌, ◌%◌, ◌<◌, ◌≤◌, ◌==◌, true, false, None, Ok, IfOk, List, ◌∷◌, length, take, sym, ap, ◌∙◌, arith, eqb-true, eq-eqb, ne_eqb}
+use Rattle.std.proofs.Common.{take_at, ◌≡◌, ℕ, suc, ◌-◌, ◌/◌, ◌^◌, ◌%◌, ◌<◌, ◌≤◌, ◌==◌, true, false, None, Ok, IfOk, List, ◌∷◌, length, take, sym, ap, ◌∙◌, arith, eqb-true, eq-eqb, ne_eqb}
 use Rattle.vic_frame.proofs.Words.{reply_spelling, IsUid, AreBytes, number_of, bytes_of, bit, crc, crc_right, with_crc, first_fault, flags, uid_bytes, fault_or, reply_in}
 use Rattle.std.proofs.lemmas.Bool.{not-false, not_from_true, eqb-false}
 use Rattle.vic_frame.specs.Replies.{Reply, IsReply, reply_body, SpellsReply}
 use Rattle.vic_frame.specs.Faults.{reply_faults}
-use Rattle.vic_frame.proofs.BytesLaws.{bytes_of-take, number_of-bytes_of, length_bytes_of, take_front}
+use Rattle.vic_frame.proofs.BytesLaws.{bytes_of-take, number_of-bytes_of, length_bytes_of}
 use Rattle.vic_frame.proofs.FrameLaws.{crc_frame, with_crc-right, length-with_crc, all_fail, none_from, found_from}
 
 pub body_of : (f : List ℕ) → length f ≡ 12 → AreBytes f → take (length f - 2) f ≡ reply_body (reply_in f)
@@ -40,7 +40,7 @@ reply_sound f h none =
 pub uid_in : (r : Reply) → IsReply r → number_of (uid_bytes (reply_spelling r)) ≡ r.uid
 uid_in r h =
     let small : r.uid < 256 ^ 8 = omega (arith, h.uid) in
-    ap number_of (take_front 8 (bytes_of 8 r.uid) (bytes_of 2 (crc (reply_body r))) (length_bytes_of 8 r.uid)) ∙ number_of-bytes_of 8 r.uid small
+    ap number_of (take_at (bytes_of 8 r.uid) (bytes_of 2 (crc (reply_body r))) 8 (length_bytes_of 8 r.uid)) ∙ number_of-bytes_of 8 r.uid small
 
 pub reply_none : (r : Reply) → IsReply r → first_fault (reply_faults (reply_spelling r)) ≡ None
 reply_none r h =

@@ -1,5 +1,5 @@
 -- Requests: what has no fault is spelled, and what is spelled has none.
-use Rattle.std.proofs.Common.{◌≡◌, ℕ, suc, ◌+◌, ◌-◌, ◌*◌, ◌/◌, ◌^◌, ◌%◌, ◌<◌, ◌≤◌, ◌==◌, ◌&&◌, not, nat_lt, Bool, true, false, None, Ok, IfOk, List, ◌∷◌, length, take, drop, if◌then◌else◌, refl, sym, ap, subst, ◌∙◌, arith, length-take, eqb-true, eq-eqb, ne_eqb, ltb-false, le-ltb, ltb-true, lt-ltb}
+use Rattle.std.proofs.Common.{take_at, ◌≡◌, ℕ, suc, ◌+◌, ◌-◌, ◌*◌, ◌/◌, ◌^◌, ◌%◌, ◌<◌, ◌≤◌, ◌==◌, ◌&&◌, not, nat_lt, Bool, true, false, None, Ok, IfOk, List, ◌∷◌, length, take, drop, if◌then◌else◌, refl, sym, ap, subst, ◌∙◌, arith, length-take, eqb-true, eq-eqb, ne_eqb, ltb-false, le-ltb, ltb-true, lt-ltb}
 use Rattle.vic_frame.proofs.Words.{BitMask, IsMask, AreBytes, number_of, bytes_of, bit, crc, crc_right, with_crc, request_spelling, first_fault, flags, uid_bytes, fault_or}
 use Rattle.std.proofs.lemmas.Bool.{not-false, not_from_true, eqb-false}
 use Rattle.vic_frame.specs.declared.request.Request.{Request}
@@ -7,7 +7,7 @@ use Rattle.vic_frame.specs.declared.request.Request.TheVariants.{Inventory, Stay
 use Rattle.vic_frame.specs.Requests.{IsValid, IsInRange, byte_count, request_body, SpellsRequest}
 use Rattle.vic_frame.specs.Faults.{command, mask_len, mask_bytes, longest_mask, head_faults, inventory_faults, stay_quiet_faults, request_faults}
 use Rattle.vic_frame.specs.Reading.{inventory_in, stay_quiet_in, request_in}
-use Rattle.vic_frame.proofs.BytesLaws.{bytes_of-take, number_of-bytes_of, length_bytes_of, take_front, holds_bits, number_within, AreBytes-take, AreBytes-drop}
+use Rattle.vic_frame.proofs.BytesLaws.{bytes_of-take, number_of-bytes_of, length_bytes_of, holds_bits, number_within, AreBytes-take, AreBytes-drop}
 use Rattle.vic_frame.proofs.FrameLaws.{crc_frame, with_crc-right, length-with_crc, all_fail, none_from, none_append, none_both, found_from}
 
 -- ---- what has no fault is spelled
@@ -181,7 +181,7 @@ pub inventory_value : (link : ℕ) (s : Bool) (m : BitMask) → IsMask m → num
 inventory_value link s m h =
     let len = inventory_len link s m in
     let inner : length (bytes_of (byte_count m.len) m.value) ≡ length (request_spelling (Inventory link s m)) - 2 - 3 = length_bytes_of (byte_count m.len) m.value ∙ omega (arith, len) in
-    ap number_of (take_front (length (request_spelling (Inventory link s m)) - 2 - 3) (bytes_of (byte_count m.len) m.value) (bytes_of 2 (crc (request_body (Inventory link s m)))) inner)
+    ap number_of (take_at (bytes_of (byte_count m.len) m.value) (bytes_of 2 (crc (request_body (Inventory link s m)))) (length (request_spelling (Inventory link s m)) - 2 - 3) inner)
     ∙ number_of-bytes_of (byte_count m.len) m.value (holds_bits m.len m.value h.1)
 
 inventory_none : (link : ℕ) (s : Bool) (m : BitMask) → IsMask m → IsValid (Inventory link s m) → first_fault (request_faults (request_spelling (Inventory link s m))) ≡ None
@@ -210,7 +210,7 @@ pub stay_quiet_len : (link uid : ℕ) → length (request_spelling (StayQuiet li
 stay_quiet_len link uid = omega (arith, length-with_crc (request_body (StayQuiet link uid)), length_bytes_of 8 uid)
 
 pub stay_quiet_uid : (link uid : ℕ) → uid < 2 ^ 64 → number_of (uid_bytes (request_spelling (StayQuiet link uid))) ≡ uid
-stay_quiet_uid link uid h = ap number_of (take_front 8 (bytes_of 8 uid) (bytes_of 2 (crc (request_body (StayQuiet link uid)))) (length_bytes_of 8 uid)) ∙ number_of-bytes_of 8 uid h
+stay_quiet_uid link uid h = ap number_of (take_at (bytes_of 8 uid) (bytes_of 2 (crc (request_body (StayQuiet link uid)))) 8 (length_bytes_of 8 uid)) ∙ number_of-bytes_of 8 uid h
 
 stay_quiet_none : (link uid : ℕ) → link ≤ 3 → first_fault (request_faults (request_spelling (StayQuiet link uid))) ≡ None
 stay_quiet_none link uid v =
