@@ -1,14 +1,7 @@
 -- Findings agree where the same UIDs are possible and the same are certain.
-use Rattle.std.proofs.Common.{◌≡◌, ℕ, suc, ◌+◌, ◌<◌, ◌≤◌, ◌^◌, List, [], ◌∷◌, true, false, Option, Some, None, refl, sym, ap, subst, ◌∙◌, arith, ⊎_elim}
-use Rattle.std.specs.Prelude.{◌↔◌, MatchOption, slice_index}
-use Rattle.std.specs.Option.{option_map}
+use Rattle.std.proofs.Common.{◌≡◌, ℕ, suc, ◌+◌, ◌<◌, ◌≤◌, ◌^◌, List, [], ◌∷◌, true, false, Option, Some, None, refl, sym, ap, subst, ◌∙◌, arith, ⊎_elim, ◌↔◌, MatchOption, slice_index, option_map}
+use Rattle.vic_reconcile.proofs.Words.{IsUid, has, BitMask, lies_in, has_cases, has_here, has_there, IsListOf, IsFirstMask, NoSuch, head_least, list_as, none_of, place_of}
 use Rattle.std.proofs.lemmas.List.Kept.{AllPairs-from_increasing}
-use Rattle.vic_frame.specs.Uids.{IsUid, has}
-use Rattle.vic_frame.specs.Masks.{BitMask, lies_in}
-use Rattle.vic_log.proofs.Sets.{has_cases, has_here, has_there}
-use Rattle.vic_verdict.specs.Rising.{IsListOf}
-use Rattle.vic_verdict.specs.Verdict.{IsFirstMask, NoSuch}
-use Rattle.vic_verdict.proofs.Failing.{head_least, list_as, none_of, place_of}
 
 -- ---- one list, one first mask
 

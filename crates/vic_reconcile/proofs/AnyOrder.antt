@@ -1,15 +1,8 @@
 -- The order of the logs changes nothing that they tell.
-use Rattle.std.proofs.Common.{ℕ, List}
-use Rattle.std.specs.Prelude.{◌↔◌}
-use Rattle.std.specs.List.{Any}
-use Rattle.std.specs.List.Sorted.{IsPermutation}
+use Rattle.std.proofs.Common.{ℕ, List, ◌↔◌, Any, IsPermutation}
+use Rattle.vic_reconcile.proofs.Words.{OpenMasks, LogLine, Findings, ArePossible, IsCertainUid, IsPossibleUid, AreFindings, AreOpenMasksOf, IsUnsettled, IsWhole}
 use Rattle.std.proofs.lemmas.List.Sorted.{All-permutation, Contains-permutation, IsPermutation-sym}
-use Rattle.vic_tree.specs.declared.open_masks.OpenMasks.{OpenMasks}
-use Rattle.vic_log.specs.declared.entry.LogLine.{LogLine}
-use Rattle.vic_reconcile.specs.declared.findings.Findings.{Findings}
 use Rattle.vic_reconcile.specs.Agreeing.{Agree}
-use Rattle.vic_reconcile.specs.Families.{ArePossible, IsCertainUid, IsPossibleUid}
-use Rattle.vic_reconcile.specs.Findings.{AreFindings, AreOpenMasksOf, IsUnsettled, IsWhole}
 use Rattle.vic_reconcile.proofs.Agreeing.{SameUids, absent_as, doubtful_as, first_of, same_first, same_list, unlisted_as, unsettled_as}
 use Rattle.vic_reconcile.proofs.Families.{ArePossible-iff, IsCertainIn, IsCertainUid-iff, IsPossibleIn, IsPossibleLog, IsPossibleUid-iff}
 

@@ -1,20 +1,13 @@
 -- What logs tell together is what some log tells.
-use Rattle.std.proofs.Common.{◌≡◌, ℕ, zero, suc, List, [], ◌∷◌, true, false, refl, sym, subst, arith, inl, inr, ⊎_elim}
-use Rattle.std.specs.Prelude.{◌↔◌, ◌⊎◌}
-use Rattle.std.specs.List.{All, Any}
-use Rattle.std.proofs.lemmas.Bool.{both_ways, false_from_ne_true, false≢true, or_cases, or_left, or_right}
-use Rattle.std.proofs.lemmas.List.Elements.{All-cons, All-head, All-tail}
-use Rattle.vic_frame.specs.Uids.{has}
+use Rattle.std.proofs.Common.{◌≡◌, ℕ, zero, suc, List, [], ◌∷◌, true, false, refl, sym, subst, arith, inl, inr, ⊎_elim, ◌↔◌, ◌⊎◌, All, Any}
+use Rattle.vic_reconcile.proofs.Words.{both_ways, false_from_ne_true, false≢true, or_cases, or_left, or_right, All-cons, All-head, All-tail, has, LogLine, entries, ArePossible, FitsLogs, IsCertainUid, IsPossibleUid, is_somewhere}
 use Rattle.vic_log.specs.declared.entry.Entry.{Entry}
-use Rattle.vic_log.specs.declared.entry.LogLine.{LogLine}
-use Rattle.vic_log.specs.Order.{entries}
 use Rattle.vic_log.specs.Populations.{IsPopulation, CouldHaveGiven}
 use Rattle.vic_log.specs.Slots.{slots_of}
 use Rattle.vic_verdict.specs.Possible as one
 use Rattle.vic_verdict.proofs.Populations.{MustHave-cases, MustHave-iff, population_without}
 use Rattle.vic_log.proofs.Places.{CouldHaveGiven-slots}
 use Rattle.vic_verdict.proofs.Possibility.{IsCertainUid-slots, IsPossible-slots}
-use Rattle.vic_reconcile.specs.Families.{ArePossible, FitsLogs, IsCertainUid, IsPossibleUid, is_somewhere}
 
 -- ---- of one log
 

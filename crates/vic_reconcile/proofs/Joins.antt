@@ -1,33 +1,13 @@
 -- One possible log more is joined.
-use Rattle.std.proofs.Common.{◌≡◌, ℕ, zero, suc, ◌<◌, List, [], ◌∷◌, ◌++◌, length, true, false, Option, Some, None, refl, sym, ap, subst, ◌∙◌, arith, inl, inr, ⊎_elim}
-use Rattle.std.specs.Prelude.{◌⊎◌, ◌||◌, MatchOption, cond, is_some, nat_eq, slice_get}
-use Rattle.std.specs.BTreeMap.{is_at}
+use Rattle.std.proofs.Common.{◌≡◌, ℕ, zero, suc, ◌<◌, List, [], ◌∷◌, ◌++◌, length, true, false, Option, Some, None, refl, sym, ap, subst, ◌∙◌, arith, inl, inr, ⊎_elim, ◌⊎◌, ◌||◌, MatchOption, cond, is_some, nat_eq, slice_get, nat_cmp, All, Contains}
+use Rattle.vic_reconcile.proofs.Words.{is_at, AllZip, both_ways, cases_eq, false_from_ne_true, false≢true, or_cases, list_any-append, map-append, All-head, All-push, All-tail, Contains-append_left, Contains-push, has, SameUids, without_keys, is_open_in, LogLine, entries, has_at, has_cases, has_there, AreKeysOf, IsListOf, SameMembers, AreFacts, Reconciliation, IsFirstLog, IsFirstTold, IsCertainInNone, IsJoined, IsLeftBy, AreNoted}
 use Rattle.std.specs.BTreeMap as map
-use Rattle.std.specs.Ordering.{nat_cmp}
-use Rattle.std.specs.List.{All, AllZip, Contains}
-use Rattle.std.proofs.lemmas.Bool.{both_ways, cases_eq, false_from_ne_true, false≢true, or_cases}
-use Rattle.std.proofs.lemmas.List.Folds.{list_any-append}
-use Rattle.std.proofs.lemmas.List.{map-append}
 use Rattle.std.proofs.lemmas.Grind.{common_steps}
-use Rattle.std.proofs.lemmas.List.Elements.{All-head, All-push, All-tail, Contains-append_left, Contains-push}
-use Rattle.vic_frame.specs.Uids.{has}
-use Rattle.vic_tree.specs.OpenSet.{SameUids, without_keys}
-use Rattle.vic_tree.specs.Ranges.{is_open_in}
-use Rattle.vic_log.specs.declared.entry.LogLine.{LogLine}
-use Rattle.vic_log.specs.Order.{entries}
-use Rattle.vic_log.proofs.Sets.{has_at, has_cases, has_there}
-use Rattle.vic_verdict.specs.Keys.{AreKeysOf}
 use Rattle.vic_verdict.specs.Possible as one
-use Rattle.vic_verdict.specs.Rising.{IsListOf, SameMembers}
-use Rattle.vic_verdict.proofs.Differing.{AreFacts}
 use Rattle.vic_report.specs.declared.shown.ShownUid.{ShownUid}
 use Rattle.vic_report.specs.Findings.{IsToldOf, ShowsCertain, uids_of}
 use Rattle.vic_report.proofs.AllFindings.{open_set}
 use Rattle.vic_reconcile.specs.declared.reconciliation.Place.{Place}
-use Rattle.vic_reconcile.specs.declared.reconciliation.Reconciliation.{Reconciliation}
-use Rattle.vic_reconcile.specs.Findings.{IsFirstLog, IsFirstTold}
-use Rattle.vic_reconcile.specs.Joined.{IsCertainInNone, IsJoined, IsLeftBy}
-use Rattle.vic_reconcile.specs.inner.Joined.{AreNoted}
 use Rattle.vic_reconcile.proofs.Families.{IsCertainIn, IsPossibleLog}
 
 -- ---- places in a list that grows

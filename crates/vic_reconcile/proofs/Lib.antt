@@ -1,3 +1,4 @@
+pub mod Words
 pub mod Families
 pub mod Agreeing
 pub mod AnyOrder

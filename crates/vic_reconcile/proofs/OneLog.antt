@@ -1,22 +1,12 @@
 -- What one log alone tells together is what the log tells.
-use Rattle.std.proofs.Common.{◌≡◌, ℕ, zero, suc, List, [], ◌∷◌, Some, true, false, refl, sym, subst, ⊎_elim}
-use Rattle.std.specs.Prelude.{◌↔◌, slice_get}
-use Rattle.std.proofs.lemmas.Bool.{false≢true, or_cases, or_left}
-use Rattle.vic_frame.specs.Uids.{has}
-use Rattle.vic_tree.specs.declared.open_masks.OpenMasks.{OpenMasks}
-use Rattle.vic_log.specs.declared.entry.LogLine.{LogLine}
-use Rattle.vic_log.specs.Order.{entries, listed}
-use Rattle.vic_verdict.specs.Differences.{IsLeftOpen}
+use Rattle.std.proofs.Common.{◌≡◌, ℕ, zero, suc, List, [], ◌∷◌, Some, true, false, refl, sym, subst, ⊎_elim, ◌↔◌, slice_get}
+use Rattle.vic_reconcile.proofs.Words.{false≢true, or_cases, or_left, has, OpenMasks, LogLine, entries, listed, IsLeftOpen, Findings, UnlistedUid, FitsLog, FitsLogs, IsCertainUid, IsPossibleUid, is_somewhere, AreFindings, AreOpenMasksOf, IsToldOf, IsUnsettled, IsWhole}
 use Rattle.vic_verdict.specs.Possible as one
 use Rattle.vic_verdict.specs.Verdict as verdict
 use Rattle.vic_report.specs.Findings.{ShowsCertain}
 use Rattle.vic_report.specs.Reports as report
 use Rattle.vic_report.specs.declared.findings.Findings.{Findings as LogFindings}
-use Rattle.vic_reconcile.specs.declared.findings.Findings.{Findings}
-use Rattle.vic_reconcile.specs.declared.findings.UnlistedUid.{UnlistedUid}
 use Rattle.vic_reconcile.specs.Agreeing.{AgreeWithReport}
-use Rattle.vic_reconcile.specs.Families.{FitsLog, FitsLogs, IsCertainUid, IsPossibleUid, is_somewhere}
-use Rattle.vic_reconcile.specs.Findings.{AreFindings, AreOpenMasksOf, IsToldOf, IsUnsettled, IsWhole}
 use Rattle.vic_reconcile.proofs.Agreeing.{SameUids, absent_as, doubtful_as, first_of, same_first, same_list, unlisted_as, unsettled_as}
 use Rattle.vic_reconcile.proofs.Families.{IsCertainIn, IsPossibleIn}
 

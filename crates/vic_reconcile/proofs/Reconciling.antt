@@ -1,39 +1,14 @@
 -- The findings of joined logs, and that none of them means that everything is there.
-use Rattle.std.proofs.Common.{◌≡◌, ℕ, zero, suc, ◌<◌, List, [], ◌∷◌, ◌++◌, length, get_or, map, Bool, true, false, Option, Some, None, refl, sym, ap, subst, ◌∙◌, arith, inl, inr, ⊎_elim}
-use Rattle.std.specs.Prelude.{◌⊎◌, ◌||◌, IfNone, IfSome, MatchOption, is_some, nat_eq}
+use Rattle.std.proofs.Common.{◌≡◌, ℕ, zero, suc, ◌<◌, List, [], ◌∷◌, ◌++◌, length, get_or, map, Bool, true, false, Option, Some, None, refl, sym, ap, subst, ◌∙◌, arith, inl, inr, ⊎_elim, ◌⊎◌, ◌||◌, IfNone, IfSome, MatchOption, is_some, nat_eq, is_eq, nat_cmp, All, Any}
+use Rattle.vic_reconcile.proofs.Words.{IsStrictlyIncreasing, both_ways, cases_Bool, cases_eq, false≢true, or_cases, or_left, or_right, All-head, All-tail, list_any-append, IsUid, has, BitMask, SameUids, is_open_in, LogLine, entries, IsUid-member, has_at, has_there, AreDifferences, IsFailing, IsListOf, IsFirstMask, NoSuch, all_findings, doubtful_list, none_of, DoubtfulUid, Findings, UnlistedUid, Reconciliation, ArePossible, FitsLog, FitsLogs, IsCertainUid, IsPossibleUid, is_somewhere, AreFindings, AreNone, IsAbsent, IsDoubtful, IsFirstTold, IsToldOf, IsUnlisted, IsUnsettled, IsUnsettledWith, IsWhole, IsCertainInNone, IsJoined, IsFirstLeft, IsLeftToAsk, is_left}
 use Rattle.std.specs.BTreeMap as tree
-use Rattle.std.specs.Ordering.{eq_by_cmp, is_eq, nat_cmp}
+use Rattle.std.specs.Ordering.{eq_by_cmp}
 use Rattle.std.specs.Set.{is_member}
-use Rattle.std.specs.List.{All, Any}
-use Rattle.std.specs.List.Sorted.{IsStrictlyIncreasing}
-use Rattle.std.proofs.lemmas.Bool.{both_ways, cases_Bool, cases_eq, false≢true, or_cases, or_left, or_right}
 use Rattle.std.proofs.lemmas.Grind.{common_steps}
-use Rattle.std.proofs.lemmas.List.Elements.{All-head, All-tail}
-use Rattle.std.proofs.lemmas.List.Folds.{list_any-append}
-use Rattle.vic_frame.specs.Uids.{IsUid, has}
-use Rattle.vic_frame.specs.Masks.{BitMask}
-use Rattle.vic_tree.specs.OpenSet.{SameUids}
-use Rattle.vic_tree.specs.Ranges.{is_open_in}
-use Rattle.vic_log.specs.declared.entry.LogLine.{LogLine}
-use Rattle.vic_log.specs.Order.{entries}
-use Rattle.vic_log.proofs.Sets.{IsUid-member, has_at, has_there}
 use Rattle.vic_verdict.specs.declared.findings.Differences.{Differences}
-use Rattle.vic_verdict.specs.Differences.{AreDifferences}
-use Rattle.vic_verdict.specs.Rising.{IsFailing, IsListOf}
-use Rattle.vic_verdict.specs.Verdict.{IsFirstMask, NoSuch}
 use Rattle.vic_verdict.proofs.Decide.{IsCertainUid-either, IsPossibleUid-either}
-use Rattle.vic_verdict.proofs.Differing.{all_findings, doubtful_list}
-use Rattle.vic_verdict.proofs.Failing.{none_of}
 use Rattle.vic_verdict.proofs.Masks.{IsUid-in, lies_in-uid_in, mask_of, mask_of-alone, mask_of-value, uid_in}
-use Rattle.vic_reconcile.specs.declared.findings.DoubtfulUid.{DoubtfulUid}
-use Rattle.vic_reconcile.specs.declared.findings.Findings.{Findings}
-use Rattle.vic_reconcile.specs.declared.findings.UnlistedUid.{UnlistedUid}
 use Rattle.vic_reconcile.specs.declared.findings.Unsettled.{Unsettled}
-use Rattle.vic_reconcile.specs.declared.reconciliation.Reconciliation.{Reconciliation}
-use Rattle.vic_reconcile.specs.Families.{ArePossible, FitsLog, FitsLogs, IsCertainUid, IsPossibleUid, is_somewhere}
-use Rattle.vic_reconcile.specs.Findings.{AreFindings, AreNone, IsAbsent, IsDoubtful, IsFirstTold, IsToldOf, IsUnlisted, IsUnsettled, IsUnsettledWith, IsWhole}
-use Rattle.vic_reconcile.specs.Joined.{IsCertainInNone, IsJoined}
-use Rattle.vic_reconcile.specs.inner.Joined.{IsFirstLeft, IsLeftToAsk, is_left}
 use Rattle.vic_reconcile.proofs.Families.{IsCertainIn, IsCertainUid-iff, IsPossibleIn, IsPossibleLog, IsPossibleUid-iff, all_possible, any_cases, any_here, any_none, any_there, certain_by}
 use Rattle.vic_reconcile.proofs.Joins.{zip_push}
 use Rattle.vic_reconcile.proofs.Telling.{all_open_masks, first_possible, joined_facts, listed_as}

@@ -1,34 +1,16 @@
 -- What surveys tell together is what their logs tell.
-use Rattle.std.proofs.Common.{◌≡◌, ℕ, ◌+◌, List, [], ◌∷◌, take, drop, Bool, true, false, refl, sym, subst, ◌∙◌, arith, inl, inr, ⊎_elim}
-use Rattle.std.specs.Prelude.{◌↔◌, MatchOption}
-use Rattle.std.specs.List.{All, AllZip, Any, Contains, list_any}
-use Rattle.std.specs.List.Sorted.{IsStrictlyIncreasing}
-use Rattle.std.proofs.lemmas.Bool.{and_from, and_parts, both_ways, or_cases, or_left, or_right}
-use Rattle.std.proofs.lemmas.List.{take-append-drop}
-use Rattle.std.proofs.lemmas.List.Elements.{All-cons, All-contains, All-head}
-use Rattle.std.proofs.lemmas.List.Folds.{Any-from_list_any, list_any-from_Any}
-use Rattle.vic_frame.specs.Uids.{IsUid, has}
-use Rattle.vic_frame.specs.Masks.{BitMask, lies_in}
+use Rattle.std.proofs.Common.{◌≡◌, ℕ, ◌+◌, List, [], ◌∷◌, take, drop, Bool, true, false, refl, sym, subst, ◌∙◌, arith, inl, inr, ⊎_elim, ◌↔◌, MatchOption, All, Any, Contains}
+use Rattle.vic_reconcile.proofs.Words.{AllZip, list_any, IsStrictlyIncreasing, and_from, and_parts, both_ways, or_cases, or_left, or_right, take-append-drop, All-cons, All-contains, All-head, Any-from_list_any, list_any-from_Any, IsUid, has, BitMask, lies_in, SameUids, without_keys, is_open_in, LogLine, AreDifferences, IsFailing, IsListOf, SameMembers, IsFirstMask, NoSuch, AreFacts, AreListed, all_findings, doubtful_list, list_as, none_of, IsCertainUid, IsPossibleUid, IsAbsent, IsDoubtful, IsUnlisted, IsUnsettled, IsWhole}
 use Rattle.vic_tree.specs.OpenMasks.{AreAll, IsOpenMask}
-use Rattle.vic_tree.specs.OpenSet.{SameUids, without_keys}
-use Rattle.vic_tree.specs.Ranges.{is_open_in}
 use Rattle.vic_tree.proofs.OpenMaskLaws.{held}
 use Rattle.vic_log.specs.declared.entry.Entry.{Entry}
-use Rattle.vic_log.specs.declared.entry.LogLine.{LogLine}
 use Rattle.vic_verdict.specs.declared.findings.Differences.{Differences}
 use Rattle.vic_verdict.specs.declared.facts.Contradiction.{Contradiction}
-use Rattle.vic_verdict.specs.Differences.{AreDifferences}
 use Rattle.vic_verdict.specs.Possible.{IsContradiction, IsPossible}
-use Rattle.vic_verdict.specs.Rising.{IsFailing, IsListOf, SameMembers}
-use Rattle.vic_verdict.specs.Verdict.{IsFirstMask, NoSuch}
-use Rattle.vic_verdict.proofs.Differing.{AreFacts, AreListed, all_findings, doubtful_list}
-use Rattle.vic_verdict.proofs.Failing.{list_as, none_of}
 use Rattle.vic_verdict.proofs.Masks.{IsUid-in, lies_in-uid_in, uid_in}
 use Rattle.vic_verdict.proofs.Possibility.{IsPossible-front}
 use Rattle.vic_reconcile.specs.declared.surveys.PlainFindings.{PlainFindings}
 use Rattle.vic_reconcile.specs.declared.surveys.Survey.{Survey}
-use Rattle.vic_reconcile.specs.Families.{IsCertainUid, IsPossibleUid}
-use Rattle.vic_reconcile.specs.Findings.{IsAbsent, IsDoubtful, IsUnlisted, IsUnsettled, IsWhole}
 use Rattle.vic_reconcile.specs.Surveys.{AreFindingsBy, AreNoneOf, AreOpenIn, AreTogether, IsAmong, IsSurvey, IsToldBy, IsUnsettledBy, MayBe}
 use Rattle.vic_reconcile.proofs.Families.{IsCertainIn, IsCertainUid-iff, IsPossibleIn, IsPossibleLog, IsPossibleUid-iff, any_cases, any_here, any_none, any_there, certain_by, family_of}
 use Rattle.vic_reconcile.proofs.Reconciling.{nothing_is_whole}

@@ -1,30 +1,10 @@
 -- What joined logs tell, by what is kept of them.
-use Rattle.std.proofs.Common.{◌≡◌, ℕ, zero, suc, ◌<◌, List, [], ◌∷◌, take, true, false, not, Option, Some, None, refl, sym, subst, ◌∙◌, arith, inl, inr, ⊎_elim}
-use Rattle.std.specs.Prelude.{◌↔◌, ◌⊎◌, MatchOption, is_some, slice_get}
+use Rattle.std.proofs.Common.{◌≡◌, ℕ, zero, suc, ◌<◌, List, [], ◌∷◌, take, true, false, not, Option, Some, None, refl, sym, subst, ◌∙◌, arith, inl, inr, ⊎_elim, ◌↔◌, ◌⊎◌, MatchOption, is_some, slice_get, nat_cmp, All, Any}
+use Rattle.vic_reconcile.proofs.Words.{AllPass, AllZip, IsStrictlyIncreasing, and_from, and_parts, both_ways, false≢true, not-true, not_from_false, false_from_ne_true, or_cases, or_left, or_right, All-head, All-tail, list_any_none, IsUid, has, OpenMasks, SameUids, has_key, without_keys, is_open_in, LogLine, entries, IsListOf, AreFacts, AreListed, DoubtfulUid, Reconciliation, IsCertainUid, IsPossibleUid, AreOpenMasksOf, IsFirstLog, IsFirstPossible, IsFirstTold, IsCertainInNone, IsJoined, IsLeftBy, AreOpenBesides, IsFirstLeft, is_left}
 use Rattle.std.specs.BTreeMap as map
-use Rattle.std.specs.Ordering.{nat_cmp}
-use Rattle.std.specs.List.{All, AllPass, AllZip, Any}
-use Rattle.std.specs.List.Sorted.{IsStrictlyIncreasing}
-use Rattle.std.proofs.lemmas.Bool.{and_from, and_parts, both_ways, false≢true, not-true, not_from_false, false_from_ne_true, or_cases, or_left, or_right}
-use Rattle.std.proofs.lemmas.List.Elements.{All-head, All-tail}
-use Rattle.std.proofs.lemmas.List.Folds.{list_any_none}
-use Rattle.vic_frame.specs.Uids.{IsUid, has}
-use Rattle.vic_tree.specs.declared.open_masks.OpenMasks.{OpenMasks}
-use Rattle.vic_tree.specs.OpenSet.{SameUids, has_key, without_keys}
-use Rattle.vic_tree.specs.Ranges.{is_open_in}
-use Rattle.vic_log.specs.declared.entry.LogLine.{LogLine}
-use Rattle.vic_log.specs.Order.{entries}
 use Rattle.vic_verdict.specs.Differences as one
-use Rattle.vic_verdict.specs.Rising.{IsListOf}
 use Rattle.vic_verdict.proofs.Decide.{IsCertainUid-either}
-use Rattle.vic_verdict.proofs.Differing.{AreFacts, AreListed}
-use Rattle.vic_reconcile.specs.declared.findings.DoubtfulUid.{DoubtfulUid}
 use Rattle.vic_reconcile.specs.declared.reconciliation.Place.{Place}
-use Rattle.vic_reconcile.specs.declared.reconciliation.Reconciliation.{Reconciliation}
-use Rattle.vic_reconcile.specs.Families.{IsCertainUid, IsPossibleUid}
-use Rattle.vic_reconcile.specs.Findings.{AreOpenMasksOf, IsFirstLog, IsFirstPossible, IsFirstTold}
-use Rattle.vic_reconcile.specs.Joined.{IsCertainInNone, IsJoined, IsLeftBy}
-use Rattle.vic_reconcile.specs.inner.Joined.{AreOpenBesides, IsFirstLeft, is_left}
 use Rattle.vic_reconcile.proofs.Families.{IsCertainIn, IsCertainUid-iff, IsPossibleIn, IsPossibleLog, IsPossibleUid-iff, any_cases, any_here, any_none, any_there, certain_by, family_of}
 use Rattle.vic_reconcile.proofs.Joins.{all_at}
 

@@ -1,8 +1,5 @@
 use Rattle.std.proofs.Common.{◌≡◌, true, ap, arith, subst, sym, ◌∙◌}
-use Rattle.std.proofs.lemmas.List.{take_all}
-use Rattle.std.proofs.lemmas.List.Elements.{All-more}
-use Rattle.vic_log.specs.declared.entry.LogLine.{LogLine}
-use Rattle.vic_reconcile.specs.Findings.{IsList, is_listed}
+use Rattle.vic_reconcile.proofs.Words.{take_all, All-more, LogLine, IsList, is_listed}
 use Rattle.vic_reconcile.proofs.joining.first_not_listed.Goals as goal
 
 pub loop-line-preserved : goal.loop-line-preserved

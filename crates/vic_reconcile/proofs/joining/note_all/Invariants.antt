@@ -1,5 +1,5 @@
-use Rattle.std.specs.Prelude.{take}
-use Rattle.vic_reconcile.specs.inner.Joined.{AreNoted}
+use Rattle.std.proofs.Common.{take}
+use Rattle.vic_reconcile.proofs.Words.{AreNoted}
 use Rattle.vic_reconcile.proofs.joining.note_all.Given as goal
 
 abbrev pub invariant-loop-one : goal.invariant-loop-one

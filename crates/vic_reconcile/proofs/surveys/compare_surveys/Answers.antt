@@ -1,11 +1,5 @@
 use Rattle.std.proofs.Common.{List, subst, refl}
-use Rattle.vic_frame.specs.Uids.{has}
-use Rattle.vic_tree.specs.Ranges.{is_open_in}
-use Rattle.vic_log.specs.declared.entry.LogLine.{LogLine}
-use Rattle.vic_verdict.specs.Differences.{AreDifferences}
-use Rattle.vic_verdict.specs.Rising.{IsFailing, IsListOf}
-use Rattle.vic_verdict.proofs.Differing.{AreListed}
-use Rattle.vic_reconcile.specs.Families.{IsCertainUid, IsPossibleUid}
+use Rattle.vic_reconcile.proofs.Words.{has, is_open_in, LogLine, AreDifferences, IsFailing, IsListOf, AreListed, IsCertainUid, IsPossibleUid}
 use Rattle.vic_reconcile.specs.Surveys.{AreFindingsBy, AreTogether, IsAmong, MayBe}
 use Rattle.vic_reconcile.proofs.Surveyed.{array_facts, found, log_facts, none_found}
 use Rattle.vic_reconcile.proofs.surveys.compare_surveys.Goals as goal

@@ -1,10 +1,5 @@
-use Rattle.std.proofs.Common.{[], ◌∷◌, ◌++◌, take, ap, sym, subst, ◌∙◌, ⊎_elim, arith}
-use Rattle.std.specs.Prelude.{nat_eq}
-use Rattle.std.proofs.lemmas.Bool.{false≢true, or_cases}
-use Rattle.std.proofs.lemmas.List.{take_all, take_more}
-use Rattle.std.proofs.lemmas.List.Folds.{list_any-append}
-use Rattle.vic_frame.specs.Uids.{IsUid, has}
-use Rattle.vic_log.proofs.Sets.{has_cases}
+use Rattle.std.proofs.Common.{[], ◌∷◌, ◌++◌, take, ap, sym, subst, ◌∙◌, ⊎_elim, arith, nat_eq}
+use Rattle.vic_reconcile.proofs.Words.{false≢true, or_cases, take_all, take_more, list_any-append, IsUid, has, has_cases}
 use Rattle.vic_reconcile.proofs.surveys.in_order.Goals as goal
 
 pub loop-uid-preserved : goal.loop-uid-preserved

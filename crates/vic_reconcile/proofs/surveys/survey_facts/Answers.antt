@@ -1,9 +1,5 @@
 use Rattle.std.proofs.Common.{subst}
-use Rattle.vic_tree.specs.OpenSet.{SameUids, without_keys}
-use Rattle.vic_tree.specs.Ranges.{is_open_in}
-use Rattle.vic_log.specs.Order.{entries}
-use Rattle.vic_verdict.specs.Keys.{AreKeysOf}
-use Rattle.vic_verdict.proofs.Differing.{log_facts}
+use Rattle.vic_reconcile.proofs.Words.{SameUids, without_keys, is_open_in, entries, AreKeysOf, log_facts}
 use Rattle.vic_reconcile.proofs.Joins.{left_by}
 use Rattle.vic_reconcile.proofs.surveys.survey_facts.Goals as goal
 

@@ -1,7 +1,6 @@
-use Rattle.std.proofs.Common.{◌≡◌, ℕ, subst}
-use Rattle.std.specs.Prelude.{is_some}
-use Rattle.std.specs.BTreeMap.{get}
-use Rattle.std.specs.Ordering.{eq_by_cmp, nat_cmp}
+use Rattle.std.proofs.Common.{◌≡◌, ℕ, subst, is_some, nat_cmp}
+use Rattle.vic_reconcile.proofs.Words.{get}
+use Rattle.std.specs.Ordering.{eq_by_cmp}
 use Rattle.std.specs.Set.{is_member}
 use Rattle.vic_reconcile.proofs.reconciliation.Reconciliation.certain_uids.Goals as goal
 

@@ -1,4 +1,4 @@
-use Rattle.vic_verdict.proofs.Verdicts.{first_lines}
+use Rattle.vic_reconcile.proofs.Words.{first_lines}
 use Rattle.vic_reconcile.proofs.reconciliation.Reconciliation.expecting.Goals as goal
 
 pub count_listed-requires : goal.count_listed-requires

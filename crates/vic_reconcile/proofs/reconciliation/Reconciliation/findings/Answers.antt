@@ -1,17 +1,7 @@
-use Rattle.std.proofs.Common.{◌≡◌, true, sym, ap, subst, refl, ◌∙◌}
-use Rattle.std.specs.Prelude.{IfSome, MatchOption, is_some}
-use Rattle.std.specs.List.{All}
-use Rattle.std.specs.BTreeMap.{get}
-use Rattle.std.specs.Ordering.{nat_cmp}
-use Rattle.std.specs.List.Sorted.{IsStrictlyIncreasing}
+use Rattle.std.proofs.Common.{◌≡◌, true, sym, ap, subst, refl, ◌∙◌, IfSome, MatchOption, is_some, All, nat_cmp}
+use Rattle.vic_reconcile.proofs.Words.{get, IsStrictlyIncreasing, has, SameUids, is_open_in, AreDifferences, IsFailing, IsListOf, IsLeftToAsk, is_left}
 use Rattle.std.proofs.lemmas.Map.Keys.{IsStrictlyIncreasing-from_sorted}
-use Rattle.vic_frame.specs.Uids.{has}
-use Rattle.vic_tree.specs.OpenSet.{SameUids}
-use Rattle.vic_tree.specs.Ranges.{is_open_in}
-use Rattle.vic_verdict.specs.Differences.{AreDifferences}
-use Rattle.vic_verdict.specs.Rising.{IsFailing, IsListOf}
 use Rattle.vic_report.proofs.AllFindings.{all_from_has}
-use Rattle.vic_reconcile.specs.inner.Joined.{IsLeftToAsk, is_left}
 use Rattle.vic_reconcile.proofs.Reconciling.{doubtful_left, findings_of, has_member}
 use Rattle.vic_reconcile.proofs.reconciliation.Reconciliation.findings.Goals as goal
 

@@ -1,9 +1,5 @@
 use Rattle.std.proofs.Common.{◌≡◌, true, not, sym, ap, subst, arith, ◌∙◌}
-use Rattle.std.proofs.lemmas.Bool.{not_from_false}
-use Rattle.std.proofs.lemmas.List.{take_all}
-use Rattle.std.proofs.lemmas.List.Elements.{All-more}
-use Rattle.std.specs.List.{AllPass}
-use Rattle.vic_tree.specs.Ranges.{is_open_in}
+use Rattle.vic_reconcile.proofs.Words.{not_from_false, take_all, All-more, AllPass, is_open_in}
 use Rattle.vic_reconcile.proofs.Telling.{none_left}
 use Rattle.vic_reconcile.proofs.reconciliation.Reconciliation.first_log.Goals as goal
 

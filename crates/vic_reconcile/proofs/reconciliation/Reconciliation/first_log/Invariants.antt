@@ -1,7 +1,5 @@
-use Rattle.std.proofs.Common.{not}
-use Rattle.std.specs.Prelude.{take}
-use Rattle.std.specs.List.{AllPass}
-use Rattle.vic_tree.specs.Ranges.{is_open_in}
+use Rattle.std.proofs.Common.{not, take}
+use Rattle.vic_reconcile.proofs.Words.{AllPass, is_open_in}
 use Rattle.vic_reconcile.proofs.reconciliation.Reconciliation.first_log.Given as goal
 
 abbrev pub invariant-loop-log : goal.invariant-loop-log

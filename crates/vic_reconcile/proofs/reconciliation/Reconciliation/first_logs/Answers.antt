@@ -1,8 +1,5 @@
 use Rattle.std.proofs.Common.{[], ◌∷◌, ◌++◌, take, map, ap, sym, ◌∙◌}
-use Rattle.std.proofs.lemmas.List.{map-append, take_more}
-use Rattle.std.proofs.lemmas.List.Elements.{All-push}
-use Rattle.vic_reconcile.specs.declared.findings.DoubtfulUid.{DoubtfulUid}
-use Rattle.vic_reconcile.specs.inner.Joined.{IsFirstLeft}
+use Rattle.vic_reconcile.proofs.Words.{map-append, take_more, All-push, DoubtfulUid, IsFirstLeft}
 use Rattle.vic_reconcile.proofs.reconciliation.Reconciliation.first_logs.Goals as goal
 
 pub loop-uid-preserved : goal.loop-uid-preserved

@@ -1,8 +1,5 @@
-use Rattle.std.proofs.Common.{◌≡◌, map}
-use Rattle.std.specs.Prelude.{take}
-use Rattle.std.specs.List.{All}
-use Rattle.vic_reconcile.specs.declared.findings.DoubtfulUid.{DoubtfulUid}
-use Rattle.vic_reconcile.specs.inner.Joined.{IsFirstLeft}
+use Rattle.std.proofs.Common.{◌≡◌, map, take, All}
+use Rattle.vic_reconcile.proofs.Words.{DoubtfulUid, IsFirstLeft}
 use Rattle.vic_reconcile.proofs.reconciliation.Reconciliation.first_logs.Given as goal
 
 abbrev pub invariant-loop-uid : goal.invariant-loop-uid

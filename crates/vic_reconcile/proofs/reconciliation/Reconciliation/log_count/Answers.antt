@@ -1,5 +1,5 @@
 use Rattle.std.proofs.Common.{sym, ◌∙◌}
-use Rattle.vic_reconcile.specs.Joined.{IsLeftBy}
+use Rattle.vic_reconcile.proofs.Words.{IsLeftBy}
 use Rattle.vic_reconcile.proofs.Joins.{zip_long}
 use Rattle.vic_reconcile.proofs.reconciliation.Reconciliation.log_count.Goals as goal
 

@@ -1,8 +1,5 @@
 use Rattle.std.proofs.Common.{◌<◌, [], ◌∷◌, ◌++◌, get_or, length, take, ap, sym, subst, ◌∙◌}
-use Rattle.std.proofs.lemmas.List.{take_more}
-use Rattle.std.specs.List.{AllZip}
-use Rattle.vic_verdict.specs.Keys.{AreKeysOf}
-use Rattle.vic_reconcile.specs.inner.Joined.{AreOpenBesides}
+use Rattle.vic_reconcile.proofs.Words.{take_more, AllZip, AreKeysOf, AreOpenBesides}
 use Rattle.vic_reconcile.proofs.Joins.{zip_push}
 use Rattle.vic_reconcile.proofs.reconciliation.Reconciliation.open_masks.Goals as goal
 

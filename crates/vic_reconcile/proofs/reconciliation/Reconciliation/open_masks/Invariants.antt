@@ -1,6 +1,5 @@
-use Rattle.std.specs.Prelude.{take}
-use Rattle.std.specs.List.{AllZip}
-use Rattle.vic_reconcile.specs.inner.Joined.{AreOpenBesides}
+use Rattle.std.proofs.Common.{take}
+use Rattle.vic_reconcile.proofs.Words.{AllZip, AreOpenBesides}
 use Rattle.vic_reconcile.proofs.reconciliation.Reconciliation.open_masks.Given as goal
 
 abbrev pub invariant-loop-set : goal.invariant-loop-set

@@ -1,11 +1,5 @@
-use Rattle.std.proofs.Common.{◌≡◌, Some, [], ◌∷◌, ◌++◌, take, map, ap, sym, ◌∙◌}
-use Rattle.std.specs.Prelude.{is_some, option_copied}
-use Rattle.std.specs.BTreeMap.{get}
-use Rattle.std.specs.Ordering.{nat_cmp}
-use Rattle.std.proofs.lemmas.Bool.{false≢true}
-use Rattle.std.proofs.lemmas.List.{map-append, take_more}
-use Rattle.std.proofs.lemmas.List.Elements.{All-push}
-use Rattle.vic_reconcile.specs.declared.findings.UnlistedUid.{UnlistedUid}
+use Rattle.std.proofs.Common.{◌≡◌, Some, [], ◌∷◌, ◌++◌, take, map, ap, sym, ◌∙◌, is_some, option_copied, nat_cmp}
+use Rattle.vic_reconcile.proofs.Words.{get, false≢true, map-append, take_more, All-push, UnlistedUid}
 use Rattle.vic_reconcile.proofs.reconciliation.Reconciliation.places_of.Goals as goal
 
 pub unreachable-requires : goal.unreachable-requires

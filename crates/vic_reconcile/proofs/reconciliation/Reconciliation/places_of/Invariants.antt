@@ -1,9 +1,5 @@
-use Rattle.std.proofs.Common.{◌≡◌, Some, map}
-use Rattle.std.specs.Prelude.{take}
-use Rattle.std.specs.BTreeMap.{get}
-use Rattle.std.specs.Ordering.{nat_cmp}
-use Rattle.std.specs.List.{All}
-use Rattle.vic_reconcile.specs.declared.findings.UnlistedUid.{UnlistedUid}
+use Rattle.std.proofs.Common.{◌≡◌, Some, map, take, nat_cmp, All}
+use Rattle.vic_reconcile.proofs.Words.{get, UnlistedUid}
 use Rattle.vic_reconcile.proofs.reconciliation.Reconciliation.places_of.Given as goal
 
 abbrev pub invariant-loop-uid : goal.invariant-loop-uid

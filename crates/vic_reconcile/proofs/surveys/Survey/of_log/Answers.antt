@@ -1,4 +1,4 @@
-use Rattle.vic_verdict.proofs.Verdicts.{first_lines}
+use Rattle.vic_reconcile.proofs.Words.{first_lines}
 use Rattle.vic_reconcile.proofs.surveys.Survey.of_log.Goals as goal
 
 pub survey_lines-requires : goal.survey_lines-requires

@@ -1,0 +1,31 @@
+-- The words of proofs, from one place: what is from outside, by the modules that several files name.
+pub use Rattle.std.proofs.lemmas.Bool.{and_from, and_parts, both_ways, cases_Bool, cases_eq, false_from_ne_true, false≢true, not-true, not_from_false, or_cases, or_left, or_right}
+pub use Rattle.std.proofs.lemmas.List.{map-append, take-append-drop, take_all, take_more}
+pub use Rattle.std.proofs.lemmas.List.Elements.{All-cons, All-contains, All-head, All-more, All-push, All-tail, Contains-append_left, Contains-push}
+pub use Rattle.std.proofs.lemmas.List.Folds.{Any-from_list_any, list_any-append, list_any-from_Any, list_any_none}
+pub use Rattle.std.specs.BTreeMap.{get, is_at}
+pub use Rattle.std.specs.List.{AllPass, AllZip, list_any}
+pub use Rattle.std.specs.List.Sorted.{IsStrictlyIncreasing}
+pub use Rattle.vic_frame.specs.Masks.{BitMask, lies_in}
+pub use Rattle.vic_frame.specs.Uids.{IsUid, has}
+pub use Rattle.vic_tree.specs.OpenSet.{SameUids, has_key, without_keys}
+pub use Rattle.vic_tree.specs.Ranges.{is_open_in}
+pub use Rattle.vic_tree.specs.declared.open_masks.OpenMasks.{OpenMasks}
+pub use Rattle.vic_log.proofs.Sets.{IsUid-member, has_at, has_cases, has_here, has_there}
+pub use Rattle.vic_log.specs.Order.{entries, listed}
+pub use Rattle.vic_log.specs.declared.entry.LogLine.{LogLine}
+pub use Rattle.vic_verdict.proofs.Differing.{AreFacts, AreListed, all_findings, doubtful_list, log_facts}
+pub use Rattle.vic_verdict.proofs.Failing.{head_least, list_as, none_of, place_of}
+pub use Rattle.vic_verdict.proofs.Verdicts.{first_lines}
+pub use Rattle.vic_verdict.specs.Differences.{AreDifferences, IsLeftOpen}
+pub use Rattle.vic_verdict.specs.Keys.{AreKeysOf}
+pub use Rattle.vic_verdict.specs.Rising.{IsFailing, IsListOf, SameMembers}
+pub use Rattle.vic_verdict.specs.Verdict.{IsFirstMask, NoSuch}
+pub use Rattle.vic_reconcile.specs.Families.{ArePossible, FitsLog, FitsLogs, IsCertainUid, IsPossibleUid, is_somewhere}
+pub use Rattle.vic_reconcile.specs.Findings.{AreFindings, AreNone, AreOpenMasksOf, IsAbsent, IsDoubtful, IsFirstLog, IsFirstPossible, IsFirstTold, IsList, IsToldOf, IsUnlisted, IsUnsettled, IsUnsettledWith, IsWhole, is_listed}
+pub use Rattle.vic_reconcile.specs.Joined.{IsCertainInNone, IsJoined, IsLeftBy}
+pub use Rattle.vic_reconcile.specs.declared.findings.DoubtfulUid.{DoubtfulUid}
+pub use Rattle.vic_reconcile.specs.declared.findings.Findings.{Findings}
+pub use Rattle.vic_reconcile.specs.declared.findings.UnlistedUid.{UnlistedUid}
+pub use Rattle.vic_reconcile.specs.declared.reconciliation.Reconciliation.{Reconciliation}
+pub use Rattle.vic_reconcile.specs.inner.Joined.{AreNoted, AreOpenBesides, IsFirstLeft, IsLeftToAsk, is_left}
