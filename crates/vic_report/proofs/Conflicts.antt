@@ -1,28 +1,9 @@
 -- Slot lines that no population fits together: all up to the first impossible line do.
-use Rattle.std.proofs.Common.{◌≡◌, ℕ, zero, suc, ◌<◌, ◌≤◌, ◌+◌, ◌-◌, List, [], ◌∷◌, ◌++◌, length, get_or, take, drop, Bool, true, false, cond, Some, refl, sym, ap, ◌∙◌, subst, arith, ⊎_elim}
-use Rattle.std.specs.Prelude.{slice_get, nat_le, leb, None, Option, Result, Ok, Err, MatchOption, MatchResult, is_err}
-use Rattle.std.specs.Option.{option_map}
-use Rattle.std.specs.List.{filter}
+use Rattle.std.proofs.Common.{◌≡◌, ℕ, zero, suc, ◌<◌, ◌≤◌, ◌+◌, ◌-◌, List, [], ◌∷◌, ◌++◌, length, get_or, take, drop, Bool, true, false, cond, Some, refl, sym, ap, ◌∙◌, subst, arith, ⊎_elim, slice_get, nat_le, leb, None, Option, Result, Ok, Err, MatchOption, MatchResult, is_err, option_map, filter}
+use Rattle.vic_report.proofs.Words.{cases_Bool, cases_lt, le-leb, leb-true, leb-false, lt-leb, false≢true, length-map, map-append, take-append-drop, All-get_or, filter_passes, slice_get-map, slice_get_within, get_or_from_slice_get, Reply, has, Entry, Sent, Silent, Collision, Heard, Listed, Garbled, FieldCycle, LogLine, entries, IsRisingFrom, Outcome, outcome_at, Fits, CouldHaveGiven, is_quiet, is_slot, FitsLines, IsConflictAt, IsNoQuietReply, IsSilencedBefore, IsSilencedBy, IsSlotLine, IsPossible, IsContradictedAt, entries_to, IsVerdict, place_of, member_at}
 use Rattle.std.specs.List.Sorted.{IsStrictlyIncreasing}
-use Rattle.std.proofs.lemmas.Bool.{cases_Bool, cases_lt, le-leb, leb-true, leb-false, lt-leb, false≢true}
-use Rattle.std.proofs.lemmas.List.{length-map, map-append, take-append-drop}
-use Rattle.std.proofs.lemmas.List.Elements.{All-get_or, filter_passes}
-use Rattle.std.proofs.lemmas.Option.{slice_get-map, slice_get_within, get_or_from_slice_get}
-use Rattle.vic_frame.specs.Replies.{Reply}
-use Rattle.vic_frame.specs.Uids.{has}
-use Rattle.vic_log.specs.declared.entry.Entry.{Entry}
-use Rattle.vic_log.specs.declared.entry.Entry.TheVariants.{Sent, Silent, Collision, Heard, Listed, Garbled, FieldCycle}
-use Rattle.vic_log.specs.declared.entry.LogLine.{LogLine}
-use Rattle.vic_log.specs.Order.{entries, IsRisingFrom}
-use Rattle.vic_log.specs.Populations.{Outcome, outcome_at, Fits, CouldHaveGiven}
-use Rattle.vic_log.specs.Quiet.{is_quiet}
-use Rattle.vic_log.specs.Rounds.{is_slot}
 use Rattle.vic_log.proofs.Places.{agree_upto, outcome_agrees, CouldHaveGiven-front}
-use Rattle.vic_report.specs.Conflicts.{FitsLines, IsConflictAt, IsNoQuietReply, IsSilencedBefore, IsSilencedBy, IsSlotLine}
-use Rattle.vic_verdict.specs.Possible.{IsPossible, IsContradictedAt}
-use Rattle.vic_verdict.specs.Verdict.{entries_to, IsVerdict}
 use Rattle.vic_verdict.specs.declared.judging.Verdict.TheVariants.{Impossible}
-use Rattle.vic_verdict.proofs.Failing.{place_of, member_at}
 use Rattle.vic_verdict.proofs.Possibility.{IsPossible-front}
 use Rattle.vic_verdict.proofs.Inserted.{rising_order}
 

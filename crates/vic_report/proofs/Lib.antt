@@ -1,3 +1,4 @@
+pub mod Words
 pub mod KeptLogs
 pub mod Conflicts
 pub mod RuledOut

@@ -1,18 +1,6 @@
 -- Lines that rule out UIDs, and those that leave them open.
-use Rattle.std.proofs.Common.{◌≡◌, ℕ, ◌+◌, ◌<◌, ◌==◌, ◌&&◌, List, length, get_or, take, Bool, true, false, not, Some, refl, sym, ap, ◌∙◌, subst, add-one, ⊎_elim}
-use Rattle.std.specs.Prelude.{slice_get}
-use Rattle.std.specs.List.{All}
-use Rattle.std.proofs.lemmas.Bool.{and_parts, and_from, not_from_false, cases_eq, eq-eqb, ne_eqb}
-use Rattle.std.proofs.lemmas.List.{get_or_default}
-use Rattle.std.proofs.lemmas.List.Elements.{All-more}
-use Rattle.vic_log.specs.declared.entry.Entry.{Entry}
-use Rattle.vic_log.specs.declared.entry.Entry.TheVariants.{Sent, Silent, Collision, Heard, Listed, Garbled, FieldCycle}
-use Rattle.vic_log.specs.declared.entry.LogLine.{LogLine}
-use Rattle.vic_log.specs.Order.{entries}
-use Rattle.vic_log.specs.Populations.{answers_at}
-use Rattle.vic_log.specs.Slots.{reading_of, slots_before, is_open}
-use Rattle.vic_report.specs.declared.shown.ShownUid.{ShownUid}
-use Rattle.vic_report.specs.Findings.{IsRuledOut, RulesOut, lacks_reply_of}
+use Rattle.std.proofs.Common.{◌≡◌, ℕ, ◌+◌, ◌<◌, ◌==◌, ◌&&◌, List, length, get_or, take, Bool, true, false, not, Some, refl, sym, ap, ◌∙◌, subst, add-one, ⊎_elim, slice_get, All}
+use Rattle.vic_report.proofs.Words.{and_parts, and_from, not_from_false, cases_eq, eq-eqb, ne_eqb, get_or_default, All-more, Entry, Sent, Silent, Collision, Heard, Listed, Garbled, FieldCycle, LogLine, entries, answers_at, reading_of, slots_before, is_open, ShownUid, IsRuledOut, RulesOut, lacks_reply_of}
 use Rattle.vic_verdict.proofs.Entries.{entry_allows, open_step}
 
 -- the line at position i rules the UID out where a test says so

@@ -1,19 +1,8 @@
 -- Lines that tell of UIDs.
-use Rattle.std.proofs.Common.{◌≡◌, ℕ, List, true, Some, refl, sym, ap, ◌∙◌, subst, ⊎_elim}
-use Rattle.std.specs.Prelude.{slice_get}
-use Rattle.std.proofs.lemmas.Bool.{and_parts, and_from}
-use Rattle.vic_log.specs.declared.entry.Entry.{Entry}
-use Rattle.vic_log.specs.declared.entry.Entry.TheVariants.{Collision, Garbled, Heard}
-use Rattle.vic_log.specs.declared.entry.LogLine.{LogLine}
-use Rattle.vic_log.specs.Order.{entries}
-use Rattle.vic_log.specs.Populations.{answers_at}
-use Rattle.vic_log.specs.Slots.{slots_of, is_open, Forces, ManyReplies, SomeReply}
-use Rattle.vic_frame.specs.Replies.{Reply}
+use Rattle.std.proofs.Common.{◌≡◌, ℕ, List, true, Some, refl, sym, ap, ◌∙◌, subst, ⊎_elim, slice_get}
+use Rattle.vic_report.proofs.Words.{and_parts, and_from, Entry, Collision, Garbled, Heard, LogLine, entries, answers_at, slots_of, is_open, Forces, ManyReplies, SomeReply, Reply, IsFound, MayAnswer, TellsOf, ShowsCertain, IsPossible}
 use Rattle.vic_verdict.specs.declared.demands.Found.{Found}
-use Rattle.vic_verdict.specs.Demands.{IsFound}
-use Rattle.vic_report.specs.Findings.{MayAnswer, TellsOf, ShowsCertain}
 use Rattle.vic_verdict.specs.Places.{answering}
-use Rattle.vic_verdict.specs.Possible.{IsPossible}
 use Rattle.vic_report.proofs.Conflicts.{line_of}
 use Rattle.vic_verdict.proofs.Decide.{IsPossibleUid-iff}
 use Rattle.vic_verdict.proofs.Demanding.{asked_two_or_one}

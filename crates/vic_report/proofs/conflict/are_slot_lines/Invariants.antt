@@ -1,6 +1,5 @@
 use Rattle.std.proofs.Common.{◌≡◌, ℕ, true, take}
-use Rattle.vic_frame.specs.Uids.{has}
-use Rattle.vic_report.specs.Conflicts.{IsSlotLine}
+use Rattle.vic_report.proofs.Words.{has, IsSlotLine}
 use Rattle.vic_report.proofs.conflict.are_slot_lines.Given as goal
 
 abbrev pub invariant-loop-number : goal.invariant-loop-number

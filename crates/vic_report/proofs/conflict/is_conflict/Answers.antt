@@ -1,6 +1,5 @@
 use Rattle.std.proofs.Common.{◌∙◌, sym, subst}
-use Rattle.vic_log.specs.Order.{entries}
-use Rattle.vic_verdict.specs.Possible.{IsContradictedAt}
+use Rattle.vic_report.proofs.Words.{entries, IsContradictedAt}
 use Rattle.vic_report.proofs.Conflicts.{err_of, kept_conflict}
 use Rattle.vic_report.proofs.conflict.is_conflict.Goals as goal
 

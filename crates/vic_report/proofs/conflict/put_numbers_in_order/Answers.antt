@@ -1,8 +1,7 @@
-use Rattle.std.proofs.Common.{ap, sym, ◌∙◌}
-use Rattle.std.specs.Prelude.{nat_eq}
+use Rattle.std.proofs.Common.{ap, sym, ◌∙◌, nat_eq}
+use Rattle.vic_report.proofs.Words.{list_any-IsPermutation}
 use Rattle.std.specs.List.{list_any}
 use Rattle.std.proofs.lemmas.List.Filters.{dedup_is}
-use Rattle.std.proofs.lemmas.List.Sorted.{list_any-IsPermutation}
 use Rattle.std.proofs.lemmas.Map.Keys.{IsStrictlyIncreasing-dedup}
 use Rattle.vic_tree.proofs.GatheringLaws.{has_dedup}
 use Rattle.vic_report.proofs.conflict.put_numbers_in_order.Goals as goal

@@ -1,9 +1,5 @@
-use Rattle.std.proofs.Common.{◌≡◌, Some, true, length, ap, refl, sym, subst, arith, ⊎_elim, ◌∙◌}
-use Rattle.std.specs.Prelude.{slice_get}
-use Rattle.std.proofs.lemmas.Bool.{cases_lt}
-use Rattle.std.proofs.lemmas.Option.{slice_get_read, slice_get_within}
-use Rattle.vic_frame.specs.Uids.{has}
-use Rattle.vic_log.specs.declared.entry.LogLine.{LogLine}
+use Rattle.std.proofs.Common.{◌≡◌, Some, true, length, ap, refl, sym, subst, arith, ⊎_elim, ◌∙◌, slice_get}
+use Rattle.vic_report.proofs.Words.{cases_lt, slice_get_read, slice_get_within, has, LogLine}
 use Rattle.vic_report.proofs.Conflicts.{slots_conflict}
 use Rattle.vic_report.proofs.conflict.slot_lines_to.Goals as goal
 

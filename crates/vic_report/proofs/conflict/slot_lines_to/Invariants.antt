@@ -1,9 +1,5 @@
-use Rattle.std.proofs.Common.{◌≡◌, ℕ, ◌<◌, ◌≤◌, Some, true}
-use Rattle.std.specs.Prelude.{slice_get}
-use Rattle.vic_frame.specs.Uids.{has}
-use Rattle.vic_log.specs.declared.entry.LogLine.{LogLine}
-use Rattle.vic_log.specs.Rounds.{is_slot}
-use Rattle.vic_report.specs.Conflicts.{IsSlotLine}
+use Rattle.std.proofs.Common.{◌≡◌, ℕ, ◌<◌, ◌≤◌, Some, true, slice_get}
+use Rattle.vic_report.proofs.Words.{has, LogLine, is_slot, IsSlotLine}
 use Rattle.vic_report.proofs.conflict.slot_lines_to.Given as goal
 
 abbrev pub invariant-loop-line : goal.invariant-loop-line

@@ -1,13 +1,6 @@
 use Rattle.std.proofs.Common.{Some, ap, sym, subst, length, refl, arith, ◌∙◌}
-use Rattle.std.proofs.lemmas.Option.{slice_get_read}
-use Rattle.vic_frame.specs.Uids.{has}
-use Rattle.vic_log.specs.declared.entry.Entry.{Entry}
-use Rattle.vic_log.specs.Order.{entries}
-use Rattle.vic_log.specs.Populations.{CouldHaveGiven, Fits, outcome_at}
-use Rattle.vic_log.specs.Quiet.{is_quiet}
-use Rattle.vic_report.specs.inner.KeptLogs.{AreNumbered}
+use Rattle.vic_report.proofs.Words.{slice_get_read, has, Entry, entries, CouldHaveGiven, Fits, outcome_at, is_quiet, AreNumbered, entry_at}
 use Rattle.vic_report.proofs.KeptLogs.{none_numbered, valid_entry}
-use Rattle.vic_verdict.proofs.Stands.{entry_at}
 use Rattle.vic_report.proofs.kept_log.kept_lines.Goals as goal
 
 pub loop-index-init : goal.loop-index-init

@@ -1,9 +1,6 @@
 use Rattle.std.proofs.Common.{ℕ, ◌*◌, ◌≤◌, List, length}
+use Rattle.vic_report.proofs.Words.{entries, CouldHaveGiven, FitsLines, AreNumbered, SameQuiet}
 use Rattle.vic_log.specs.OpenRounds.{IsCursorAt}
-use Rattle.vic_log.specs.Order.{entries}
-use Rattle.vic_log.specs.Populations.{CouldHaveGiven}
-use Rattle.vic_report.specs.Conflicts.{FitsLines}
-use Rattle.vic_report.specs.inner.KeptLogs.{AreNumbered, SameQuiet}
 use Rattle.vic_report.proofs.kept_log.kept_lines.Given as goal
 
 abbrev pub invariant-loop-index : goal.invariant-loop-index

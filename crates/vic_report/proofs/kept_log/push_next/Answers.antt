@@ -1,8 +1,6 @@
 use Rattle.std.proofs.Common.{◌≡◌, ◌+◌, ◌∷◌, [], None, length, ap, arith, sym, subst, ◌∙◌}
+use Rattle.vic_report.proofs.Words.{entries, listed, refusal, LogLine, AreNumbered}
 use Rattle.vic_log.specs.Log.{IsValidEntry}
-use Rattle.vic_log.specs.Order.{entries, listed, refusal}
-use Rattle.vic_log.specs.declared.entry.LogLine.{LogLine}
-use Rattle.vic_report.specs.inner.KeptLogs.{AreNumbered}
 use Rattle.vic_report.proofs.KeptLogs.{numbered_more}
 use Rattle.vic_report.proofs.kept_log.push_next.Goals as goal
 

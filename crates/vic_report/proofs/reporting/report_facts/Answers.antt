@@ -1,11 +1,5 @@
-use Rattle.std.proofs.Common.{ap, subst}
-use Rattle.std.specs.Prelude.{MatchOption}
-use Rattle.vic_log.specs.Order.{entries}
-use Rattle.vic_report.specs.Findings.{uids_of}
-use Rattle.vic_verdict.specs.Differences.{IsLeftOpen, MayBeMissing}
-use Rattle.vic_report.specs.Reports.{IsUnsettledWith}
-use Rattle.vic_verdict.specs.Rising.{IsListOf}
-use Rattle.vic_verdict.specs.Verdict.{IsAbsent, IsUnlisted, NoSuch}
+use Rattle.std.proofs.Common.{ap, subst, MatchOption}
+use Rattle.vic_report.proofs.Words.{entries, uids_of, IsLeftOpen, MayBeMissing, IsUnsettledWith, IsListOf, IsAbsent, IsUnlisted, NoSuch}
 use Rattle.vic_report.proofs.AllFindings.{none_is_complete}
 use Rattle.vic_report.proofs.reporting.report_facts.Goals as goal
 

@@ -1,12 +1,5 @@
-use Rattle.std.proofs.Common.{Some, length, refl, sym, ap, ◌∙◌, subst, arith}
-use Rattle.std.specs.List.{All}
-use Rattle.std.proofs.lemmas.Bool.{eqb-true}
-use Rattle.std.proofs.lemmas.List.{take_all}
-use Rattle.std.proofs.lemmas.Option.{slice_get_read}
-use Rattle.vic_log.specs.declared.entry.Entry.{Entry}
-use Rattle.vic_log.specs.Order.{entries}
-use Rattle.vic_report.specs.Findings.{IsRuledOut}
-use Rattle.vic_verdict.proofs.Stands.{entry_at}
+use Rattle.std.proofs.Common.{Some, length, refl, sym, ap, ◌∙◌, subst, arith, All}
+use Rattle.vic_report.proofs.Words.{eqb-true, take_all, slice_get_read, Entry, entries, IsRuledOut, entry_at}
 use Rattle.vic_report.proofs.ruled_out.are_ruled_out.Goals as goal
 
 pub loop-line-init : goal.loop-line-init

@@ -1,8 +1,5 @@
-use Rattle.std.proofs.Common.{◌≤◌, length, take}
-use Rattle.std.specs.List.{All}
-use Rattle.vic_log.specs.Order.{entries}
-use Rattle.vic_report.specs.inner.FieldCursors.{IsFieldAt}
-use Rattle.vic_report.specs.Findings.{IsRuledOut}
+use Rattle.std.proofs.Common.{◌≤◌, length, take, All}
+use Rattle.vic_report.proofs.Words.{entries, IsFieldAt, IsRuledOut}
 use Rattle.vic_report.proofs.ruled_out.are_ruled_out.Given as goal
 
 abbrev pub invariant-loop-line : goal.invariant-loop-line

@@ -1,15 +1,7 @@
-use Rattle.std.proofs.Common.{Some, length, refl, sym, ap, ◌∙◌, subst, rules}
-use Rattle.std.specs.Prelude.{◌&&◌}
-use Rattle.std.proofs.lemmas.Bool.{and_from}
-use Rattle.std.proofs.lemmas.Option.{slice_get_read}
-use Rattle.vic_frame.specs.Uids.{IsUid}
-use Rattle.vic_log.specs.declared.entry.Entry.{Entry}
-use Rattle.vic_log.specs.Order.{entries}
-use Rattle.vic_log.specs.Populations.{answers_at}
+use Rattle.std.proofs.Common.{Some, length, refl, sym, ap, ◌∙◌, subst, rules, ◌&&◌}
+use Rattle.vic_report.proofs.Words.{and_from, slice_get_read, IsUid, Entry, entries, answers_at, RulesOut, lacks_reply_of, entry_at}
 use Rattle.vic_log.proofs.Supply.{is_uid_from}
-use Rattle.vic_report.specs.Findings.{RulesOut, lacks_reply_of}
 use Rattle.vic_report.proofs.RuledOut.{rules_out_from, open_passed}
-use Rattle.vic_verdict.proofs.Stands.{entry_at}
 use Rattle.vic_report.proofs.ruled_out.first_ruling.Goals as goal
 
 pub loop-line-init : goal.loop-line-init

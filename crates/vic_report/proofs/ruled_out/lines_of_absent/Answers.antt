@@ -1,7 +1,5 @@
-use Rattle.std.proofs.Common.{◌∙◌, subst}
-use Rattle.std.specs.List.{All}
-use Rattle.std.proofs.lemmas.List.Sorted.{All-permutation, IsPermutation-sym}
-use Rattle.vic_report.specs.Findings.{IsRuledOut}
+use Rattle.std.proofs.Common.{◌∙◌, subst, All}
+use Rattle.vic_report.proofs.Words.{All-permutation, IsPermutation-sym, IsRuledOut}
 use Rattle.vic_report.proofs.ruled_out.lines_of_absent.Goals as goal
 
 pub returns-then-branch-clause-shown : goal.returns-then-branch-clause-shown

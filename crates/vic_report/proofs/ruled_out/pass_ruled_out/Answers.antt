@@ -1,8 +1,5 @@
-use Rattle.std.proofs.Common.{get_or, ap, ◌∙◌, arith}
-use Rattle.std.specs.Prelude.{◌&&◌}
-use Rattle.vic_log.specs.Order.{entries}
-use Rattle.vic_log.specs.Populations.{answers_at}
-use Rattle.vic_report.specs.Findings.{lacks_reply_of}
+use Rattle.std.proofs.Common.{get_or, ap, ◌∙◌, arith, ◌&&◌}
+use Rattle.vic_report.proofs.Words.{entries, answers_at, lacks_reply_of}
 use Rattle.vic_report.proofs.RuledOut.{passed_more}
 use Rattle.vic_report.proofs.ruled_out.pass_ruled_out.Goals as goal
 

@@ -1,10 +1,5 @@
-use Rattle.std.proofs.Common.{◌≡◌, ◌≤◌, ◌-◌, ℕ, List, Some, length, take}
-use Rattle.std.specs.Prelude.{slice_get}
-use Rattle.std.specs.List.{All}
-use Rattle.vic_log.specs.declared.entry.LogLine.{LogLine}
-use Rattle.vic_log.specs.Order.{AreValid, entries}
-use Rattle.vic_report.specs.inner.FieldCursors.{IsFieldAt}
-use Rattle.vic_report.specs.Findings.{IsRuledOut}
+use Rattle.std.proofs.Common.{◌≡◌, ◌≤◌, ◌-◌, ℕ, List, Some, length, take, slice_get, All}
+use Rattle.vic_report.proofs.Words.{LogLine, AreValid, entries, IsFieldAt, IsRuledOut}
 use Rattle.vic_report.proofs.ruled_out.pass_ruled_out.Given as goal
 
 abbrev pub invariant-loop-next : goal.invariant-loop-next

@@ -1,6 +1,5 @@
-use Rattle.std.proofs.Common.{◌≡◌, take}
-use Rattle.std.specs.List.{All}
-use Rattle.vic_report.specs.Findings.{uids_of, IsRuledOut}
+use Rattle.std.proofs.Common.{◌≡◌, take, All}
+use Rattle.vic_report.proofs.Words.{uids_of, IsRuledOut}
 use Rattle.vic_report.proofs.ruled_out.search_lines.Given as goal
 
 abbrev pub invariant-loop-uid : goal.invariant-loop-uid

@@ -1,8 +1,5 @@
-use Rattle.std.proofs.Common.{◌≡◌, false}
-use Rattle.std.specs.Prelude.{MatchOption}
-use Rattle.vic_log.specs.Order.{entries}
-use Rattle.vic_log.specs.Quiet.{is_quiet}
-use Rattle.vic_report.specs.Conflicts.{IsSilencedBefore}
+use Rattle.std.proofs.Common.{◌≡◌, false, MatchOption}
+use Rattle.vic_report.proofs.Words.{entries, is_quiet, IsSilencedBefore}
 use Rattle.vic_report.proofs.silencer.silencer_before.Given as goal
 
 abbrev pub invariant-loop-index : goal.invariant-loop-index

@@ -1,8 +1,5 @@
-use Rattle.std.proofs.Common.{◌≡◌, Some, length, ap, refl, sym, arith, ⊎_elim, ◌∙◌}
-use Rattle.std.specs.Prelude.{slice_get}
-use Rattle.std.proofs.lemmas.Bool.{cases_lt}
-use Rattle.std.proofs.lemmas.Option.{slice_get_read, slice_get_within}
-use Rattle.vic_log.specs.declared.entry.LogLine.{LogLine}
+use Rattle.std.proofs.Common.{◌≡◌, Some, length, ap, refl, sym, arith, ⊎_elim, ◌∙◌, slice_get}
+use Rattle.vic_report.proofs.Words.{cases_lt, slice_get_read, slice_get_within, LogLine}
 use Rattle.vic_report.proofs.Conflicts.{silenced_there}
 use Rattle.vic_report.proofs.silencer.silencer_of.Goals as goal
 

@@ -1,6 +1,5 @@
-use Rattle.std.proofs.Common.{◌≡◌, ℕ, ◌<◌, Some}
-use Rattle.std.specs.Prelude.{slice_get}
-use Rattle.vic_log.specs.declared.entry.LogLine.{LogLine}
+use Rattle.std.proofs.Common.{◌≡◌, ℕ, ◌<◌, Some, slice_get}
+use Rattle.vic_report.proofs.Words.{LogLine}
 use Rattle.vic_report.proofs.silencer.silencer_of.Given as goal
 
 abbrev pub invariant-loop-index : goal.invariant-loop-index

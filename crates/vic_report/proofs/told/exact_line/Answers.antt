@@ -1,7 +1,5 @@
-use Rattle.std.proofs.Common.{◌≡◌, Some, length, refl, sym, subst, ltb-true, arith}
-use Rattle.std.specs.Prelude.{slice_get}
-use Rattle.std.proofs.lemmas.Option.{slice_get_read}
-use Rattle.vic_report.specs.Findings.{ShowsCertain}
+use Rattle.std.proofs.Common.{◌≡◌, Some, length, refl, sym, subst, ltb-true, arith, slice_get}
+use Rattle.vic_report.proofs.Words.{slice_get_read, ShowsCertain}
 use Rattle.vic_report.proofs.Telling.{found_shows}
 use Rattle.vic_report.proofs.told.exact_line.Goals as goal
 

@@ -1,9 +1,5 @@
-use Rattle.std.proofs.Common.{[], ◌∷◌, ◌++◌, take, ap, ◌∙◌, sym, subst}
-use Rattle.std.specs.List.{All}
-use Rattle.std.proofs.lemmas.List.{map-append, take_more}
-use Rattle.std.proofs.lemmas.List.Elements.{All-push}
-use Rattle.vic_report.specs.declared.shown.ShownUid.{ShownUid}
-use Rattle.vic_report.specs.Findings.{IsToldOf, uids_of}
+use Rattle.std.proofs.Common.{[], ◌∷◌, ◌++◌, take, ap, ◌∙◌, sym, subst, All}
+use Rattle.vic_report.proofs.Words.{map-append, take_more, All-push, ShownUid, IsToldOf, uids_of}
 use Rattle.vic_report.proofs.told.lines_of_certain.Goals as goal
 
 pub line_of-line-requires-clause-found : goal.line_of-line-requires-clause-found

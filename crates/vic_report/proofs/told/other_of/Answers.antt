@@ -1,9 +1,5 @@
 use Rattle.std.proofs.Common.{subst, sym, ap, ◌∙◌}
-use Rattle.std.proofs.lemmas.Bool.{eqb-true}
-use Rattle.vic_frame.specs.Uids.{has}
-use Rattle.vic_log.specs.Order.{entries}
-use Rattle.vic_verdict.specs.Demands.{IsFound}
-use Rattle.vic_verdict.proofs.Failing.{member_at}
+use Rattle.vic_report.proofs.Words.{eqb-true, has, entries, IsFound, member_at}
 use Rattle.vic_report.proofs.told.other_of.Goals as goal
 
 pub exact_line-requires-clause-found : goal.exact_line-requires-clause-found

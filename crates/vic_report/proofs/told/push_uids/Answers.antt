@@ -1,7 +1,5 @@
 use Rattle.std.proofs.Common.{sym}
-use Rattle.std.proofs.lemmas.List.Elements.{All-push}
-use Rattle.vic_report.specs.Findings.{IsToldOf}
-use Rattle.vic_verdict.proofs.Failing.{member_at}
+use Rattle.vic_report.proofs.Words.{All-push, IsToldOf, member_at}
 use Rattle.vic_report.proofs.told.push_uids.Goals as goal
 
 pub loop-uid-preserved : goal.loop-uid-preserved

@@ -1,8 +1,5 @@
-use Rattle.std.proofs.Common.{◌≡◌, ℕ, List, true}
-use Rattle.std.specs.List.{All}
-use Rattle.vic_frame.specs.Uids.{has}
-use Rattle.vic_log.specs.declared.entry.LogLine.{LogLine}
-use Rattle.vic_report.specs.Findings.{IsToldOf, ShowsCertain}
+use Rattle.std.proofs.Common.{◌≡◌, ℕ, List, true, All}
+use Rattle.vic_report.proofs.Words.{has, LogLine, IsToldOf, ShowsCertain}
 use Rattle.vic_report.proofs.told.push_uids.Given as goal
 
 abbrev pub invariant-loop-uid : goal.invariant-loop-uid

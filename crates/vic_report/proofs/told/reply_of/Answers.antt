@@ -1,13 +1,5 @@
-use Rattle.std.proofs.Common.{◌≡◌, Some, length, refl, sym, ap, ◌∙◌, subst, arith, ⊎_elim}
-use Rattle.std.specs.Prelude.{slice_get}
-use Rattle.std.proofs.lemmas.Bool.{cases_eq}
-use Rattle.std.proofs.lemmas.List.{length-map}
-use Rattle.std.proofs.lemmas.Option.{slice_get_read, slice_get_within}
-use Rattle.vic_log.specs.declared.entry.Entry.TheVariants.{Heard}
-use Rattle.vic_log.specs.declared.entry.LogLine.{LogLine}
-use Rattle.vic_log.specs.Order.{entries}
-use Rattle.vic_report.specs.Findings.{ShowsCertain}
-use Rattle.vic_verdict.proofs.Stands.{entry_at}
+use Rattle.std.proofs.Common.{◌≡◌, Some, length, refl, sym, ap, ◌∙◌, subst, arith, ⊎_elim, slice_get}
+use Rattle.vic_report.proofs.Words.{cases_eq, length-map, slice_get_read, slice_get_within, Heard, LogLine, entries, ShowsCertain, entry_at}
 use Rattle.vic_report.proofs.Telling.{reply_shows}
 use Rattle.vic_report.proofs.told.reply_of.Goals as goal
 

@@ -1,8 +1,5 @@
-use Rattle.std.proofs.Common.{◌≡◌, ℕ, ◌<◌, Some}
-use Rattle.std.specs.Prelude.{slice_get}
-use Rattle.vic_frame.specs.Replies.{Reply}
-use Rattle.vic_log.specs.declared.entry.Entry.TheVariants.{Heard}
-use Rattle.vic_log.specs.Order.{entries}
+use Rattle.std.proofs.Common.{◌≡◌, ℕ, ◌<◌, Some, slice_get}
+use Rattle.vic_report.proofs.Words.{Reply, Heard, entries}
 use Rattle.vic_report.proofs.told.reply_of.Given as goal
 
 abbrev pub invariant-loop-line : goal.invariant-loop-line

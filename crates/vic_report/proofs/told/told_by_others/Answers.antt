@@ -1,8 +1,5 @@
 use Rattle.std.proofs.Common.{subst, sym}
-use Rattle.std.proofs.lemmas.List.Sorted.{All-permutation}
-use Rattle.vic_log.specs.Order.{entries}
-use Rattle.vic_verdict.specs.Demands.{IsFound}
-use Rattle.vic_report.specs.Findings.{IsToldOf}
+use Rattle.vic_report.proofs.Words.{All-permutation, entries, IsFound, IsToldOf}
 use Rattle.vic_report.proofs.told.told_by_others.Goals as goal
 
 pub push_exact-requires-clause-found : goal.push_exact-requires-clause-found

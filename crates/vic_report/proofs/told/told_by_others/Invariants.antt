@@ -1,5 +1,5 @@
-use Rattle.std.specs.List.{All}
-use Rattle.vic_report.specs.Findings.{IsToldOf}
+use Rattle.std.proofs.Common.{All}
+use Rattle.vic_report.proofs.Words.{IsToldOf}
 use Rattle.vic_report.proofs.told.told_by_others.Given as goal
 
 abbrev pub invariant-loop-one : goal.invariant-loop-one

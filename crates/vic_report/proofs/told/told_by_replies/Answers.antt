@@ -1,7 +1,5 @@
 use Rattle.std.proofs.Common.{length, refl}
-use Rattle.std.proofs.lemmas.List.Sorted.{All-permutation}
-use Rattle.std.proofs.lemmas.Option.{slice_get_read}
-use Rattle.vic_report.specs.Findings.{IsToldOf}
+use Rattle.vic_report.proofs.Words.{All-permutation, slice_get_read, IsToldOf}
 use Rattle.vic_report.proofs.told.told_by_replies.Goals as goal
 
 pub loop-line-preserved : goal.loop-line-preserved
