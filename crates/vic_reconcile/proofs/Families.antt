@@ -1,6 +1,6 @@
 -- What logs tell together is what some log tells.
-use Rattle.std.proofs.Common.{◌≡◌, ℕ, zero, suc, List, [], ◌∷◌, true, false, refl, sym, subst, arith, inl, inr, ⊎_elim, ◌↔◌, ◌⊎◌, All, Any}
-use Rattle.vic_reconcile.proofs.Words.{both_ways, false_from_ne_true, false≢true, or_cases, or_left, or_right, All-cons, All-head, All-tail, has, LogLine, entries, ArePossible, FitsLogs, IsCertainUid, IsPossibleUid, is_somewhere}
+use Rattle.std.proofs.Common.{◌≡◌, ℕ, zero, suc, List, [], ◌∷◌, true, false, refl, sym, subst, arith, inl, inr, ⊎_elim, ◌↔◌, ◌⊎◌, All, Any, Some, slice_get, get_or, map, length, ◌<◌}
+use Rattle.vic_reconcile.proofs.Words.{both_ways, false_from_ne_true, false≢true, or_cases, or_left, or_right, All-cons, All-head, All-tail, has, LogLine, entries, ArePossible, FitsLogs, IsCertainUid, IsPossibleUid, is_somewhere, slice_get_within, get_or_from_slice_get, AllZip, has_at, has_there}
 use Rattle.vic_log.specs.declared.entry.Entry.{Entry}
 use Rattle.vic_log.specs.Populations.{IsPopulation, CouldHaveGiven}
 use Rattle.vic_log.specs.Slots.{slots_of}
@@ -44,6 +44,26 @@ any_cases P x xs (suc k, y, lt, e, h) = inr (k, y, omega (arith, lt), e, h)
 
 pub any_none : {X : Type 0} (P : X → Type 0) → Any P [] → ⊥
 any_none P a = omega (arith, a.2)
+
+pub any_at : {X : Type 0} (P : X → Type 0) (xs : List X) (n : ℕ) (x : X) → slice_get xs n ≡ Some x → P x → Any P xs
+any_at P xs n x h p = (n, x, slice_get_within xs n x h, get_or_from_slice_get xs n x x h, p)
+
+-- what is mapped is in the list of what it is mapped to
+pub has_mapped : {X : Type 0} (uid : X → ℕ) (xs : List X) (k : ℕ) (d : X) → k < length xs → has (map uid xs) (uid (get_or xs k d)) ≡ true
+has_mapped uid [] k d lt = absurd (omega arith)
+has_mapped uid (x ∷ xs) zero d lt = has_at (uid x) (uid x) (map uid xs) refl
+has_mapped uid (x ∷ xs) (suc k) d lt = has_there (uid (get_or xs k d)) (uid x) (map uid xs) (has_mapped uid xs k d (omega arith))
+
+-- of lists beside one another
+pub any_zip : {A B : Type 0} (R : A → B → Type 0) (P : A → Type 0) (Q : B → Type 0) (xs : List A) (ys : List B) → ((x : A) (y : B) → R x y → P x → Q y) → AllZip R xs ys → Any P xs → Any Q ys
+any_zip R P Q [] ys f z a = absurd (any_none P a)
+any_zip R P Q (x ∷ xs) [] f z a = absurd z
+any_zip R P Q (x ∷ xs) (y ∷ ys) f z a = ⊎_elim (λ h. any_here Q y ys (f x y z.0 h)) (λ b. any_there Q y ys (any_zip R P Q xs ys f z.1 b)) (any_cases P x xs a)
+
+pub any_back : {A B : Type 0} (R : A → B → Type 0) (P : A → Type 0) (Q : B → Type 0) (xs : List A) (ys : List B) → ((x : A) (y : B) → R x y → Q y → P x) → AllZip R xs ys → Any Q ys → Any P xs
+any_back R P Q xs [] f z a = absurd (any_none Q a)
+any_back R P Q [] (y ∷ ys) f z a = absurd z
+any_back R P Q (x ∷ xs) (y ∷ ys) f z a = ⊎_elim (λ h. any_here P x xs (f x y z.0 h)) (λ b. any_there P x xs (any_back R P Q xs ys f z.1 b)) (any_cases Q y ys a)
 
 -- ---- of all logs
 
@@ -106,6 +126,9 @@ certain_in (lines ∷ logs) u all c =
     ⊎_elim (λ a. absurd (both_ways (has w.0 u) w.3 a)) (λ b. b)
     (or_cases (has w.0 u) (is_somewhere family u) (c (w.0 ∷ family) ((w.1, w.2), f))))))
     (certain_or_without (entries lines) u (All-head IsPossibleLog lines logs all))
+
+pub certain_is_possible : (logs : List (List LogLine)) (u : ℕ) → All IsPossibleLog logs → IsCertainUid logs u → IsPossibleUid logs u
+certain_is_possible logs u all c = let f = family_of logs all in (f.0, f.1, c f.0 f.1)
 
 pub IsCertainUid-iff : (logs : List (List LogLine)) (u : ℕ) → All IsPossibleLog logs → IsCertainUid logs u ↔ Any (IsCertainIn u) logs
 IsCertainUid-iff logs u all = (certain_in logs u all, certain_by logs u)

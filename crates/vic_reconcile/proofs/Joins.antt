@@ -1,6 +1,7 @@
 -- One possible log more is joined.
-use Rattle.std.proofs.Common.{◌≡◌, ℕ, zero, suc, ◌<◌, List, [], ◌∷◌, ◌++◌, length, true, false, Option, Some, None, refl, sym, ap, subst, ◌∙◌, arith, inl, inr, ⊎_elim, ◌⊎◌, ◌||◌, MatchOption, cond, is_some, nat_eq, slice_get, nat_cmp, All, Contains}
-use Rattle.vic_reconcile.proofs.Words.{is_at, AllZip, both_ways, cases_eq, false_from_ne_true, false≢true, or_cases, list_any-append, map-append, All-head, All-push, All-tail, Contains-append_left, Contains-push, has, SameUids, without_keys, is_open_in, LogLine, entries, has_at, has_cases, has_there, AreKeysOf, IsListOf, SameMembers, AreFacts, Reconciliation, IsFirstLog, IsFirstTold, IsCertainInNone, IsJoined, IsLeftBy, AreNoted}
+use Rattle.std.proofs.Common.{◌≡◌, ℕ, ◌<◌, List, [], ◌∷◌, ◌++◌, length, true, false, Option, Some, None, refl, sym, ap, subst, ◌∙◌, arith, inl, inr, ⊎_elim, ◌⊎◌, ◌||◌, MatchOption, cond, is_some, nat_eq, slice_get, nat_cmp, All, Contains}
+use Rattle.vic_reconcile.proofs.Words.{is_at, AllZip, both_ways, cases_eq, false_from_ne_true, false≢true, or_cases, list_any-append, map-append, All-push, Contains-append_left, Contains-push, has, SameUids, without_keys, is_open_in, LogLine, entries, has_cases, AreKeysOf, IsListOf, SameMembers, AreFacts, Reconciliation, IsFirstLog, IsFirstTold, IsCertainInNone, IsJoined, IsLeftBy, AreNoted, slice_get_within, get_or_from_slice_get, AllZip-long, all_zipped_more}
+use Rattle.vic_log.proofs.Places.{slice_get-append, slice_get_seam}
 use Rattle.std.specs.BTreeMap as map
 use Rattle.std.proofs.lemmas.Grind.{common_steps}
 use Rattle.vic_verdict.specs.Possible as one
@@ -8,48 +9,9 @@ use Rattle.vic_report.specs.declared.shown.ShownUid.{ShownUid}
 use Rattle.vic_report.specs.Findings.{IsToldOf, ShowsCertain, uids_of}
 use Rattle.vic_report.proofs.AllFindings.{open_set}
 use Rattle.vic_reconcile.specs.declared.reconciliation.Place.{Place}
-use Rattle.vic_reconcile.proofs.Families.{IsCertainIn, IsPossibleLog}
+use Rattle.vic_reconcile.proofs.Families.{IsCertainIn, IsPossibleLog, has_mapped}
 
 -- ---- places in a list that grows
-
-get_front : {X : Type 0} (xs ys : List X) (i : ℕ) (x : X) → slice_get xs i ≡ Some x → slice_get (xs ++ ys) i ≡ Some x
-get_front [] ys i x h = cc
-get_front (z ∷ xs) ys zero x h = h
-get_front (z ∷ xs) ys (suc i) x h = get_front xs ys i x h
-
-get_back : {X : Type 0} (xs ys : List X) (i : ℕ) (x : X) → i < length xs → slice_get (xs ++ ys) i ≡ Some x → slice_get xs i ≡ Some x
-get_back [] ys i x lt h = absurd (omega (arith, lt))
-get_back (z ∷ xs) ys zero x lt h = h
-get_back (z ∷ xs) ys (suc i) x lt h = get_back xs ys i x (omega (arith, lt)) h
-
-pub get_end : {X : Type 0} (xs : List X) (x : X) → slice_get (xs ++ x ∷ []) (length xs) ≡ Some x
-get_end [] x = refl
-get_end (z ∷ xs) x = get_end xs x
-
-got_below : {X : Type 0} (xs : List X) (i : ℕ) (x : X) → slice_get xs i ≡ Some x → i < length xs
-got_below [] i x h = cc
-got_below (z ∷ xs) zero x h = omega arith
-got_below (z ∷ xs) (suc i) x h = let lt = got_below xs i x h in omega (arith, lt)
-
-pub all_at : {X : Type 0} (P : X → Type 0) (xs : List X) (i : ℕ) (x : X) → All P xs → slice_get xs i ≡ Some x → P x
-all_at P [] i x all h = cc
-all_at P (z ∷ xs) zero x all h = let same : z ≡ x = cc in subst P same (All-head P z xs all)
-all_at P (z ∷ xs) (suc i) x all h = all_at P xs i x (All-tail P z xs all) h
-
-pub zip_long : {A B : Type 0} (R : A → B → Type 0) (xs : List A) (ys : List B) → AllZip R xs ys → length xs ≡ length ys
-zip_long R [] [] h = refl
-zip_long R [] (y ∷ ys) h = absurd h
-zip_long R (x ∷ xs) [] h = absurd h
-zip_long R (x ∷ xs) (y ∷ ys) h = ap suc (zip_long R xs ys h.1)
-
-pub zip_push : {A B : Type 0} (R : A → B → Type 0) (xs : List A) (ys : List B) (x : A) (y : B) → AllZip R xs ys → R x y → AllZip R (xs ++ x ∷ []) (ys ++ y ∷ [])
-zip_push R [] [] x y h r = (r, tt)
-zip_push R [] (b ∷ ys) x y h r = absurd h
-zip_push R (a ∷ xs) [] x y h r = absurd h
-zip_push R (a ∷ xs) (b ∷ ys) x y h r = (h.0, zip_push R xs ys x y h.1 r)
-
-some_is : {X : Type 0} {x y : X} → Some x ≡ Some y → x ≡ y
-some_is h = cc
 
 match_option : {X : Type 0} (P Q : X → Type 0) (A B : Type 0) (o : Option X) → (A → B) → ((x : X) → P x → Q x) → MatchOption o A P → MatchOption o B Q
 match_option P Q A B None none some h = none h
@@ -58,40 +20,39 @@ match_option P Q A B (Some x) none some h = some x h
 -- ---- the certain UIDs
 
 first_later : (P : List LogLine → Type 0) (logs more : List (List LogLine)) (n : ℕ) → IsFirstLog P logs n → IsFirstLog P (logs ++ more) n
-first_later P logs more n f = record {
-  lines = f.lines;
-  there = get_front logs more n f.lines f.there;
-  holds = f.holds;
-  first = λ k others lt h. f.first k others lt (get_back logs more k others (let b = got_below logs n f.lines f.there in omega (arith, lt, b)) h);
-}
+first_later P logs more n f =
+    let here = slice_get_within logs n f.lines f.there in
+    record {
+      lines = f.lines;
+      there = sym (slice_get-append logs more n here) ∙ f.there;
+      holds = f.holds;
+      first = λ k others lt h. f.first k others lt (slice_get-append logs more k (omega arith) ∙ h);
+    }
 
 told_later : (logs more : List (List LogLine)) (u : ℕ) (p : Place) → IsFirstTold logs u p → IsFirstTold (logs ++ more) u p
 told_later logs more u p t = record {
   first = first_later (IsCertainIn u) logs more p.log t.first;
-  shows = λ lines h. t.shows lines (get_back logs more p.log lines (got_below logs p.log t.first.lines t.first.there) h);
+  shows = λ lines h. t.shows lines (slice_get-append logs more p.log (slice_get_within logs p.log t.first.lines t.first.there) ∙ h);
 }
-
--- what was told of has its line
-has_told : (told : List ShownUid) (u : ℕ) (s : ShownUid) → s.uid ≡ u → Contains told s → has (uids_of told) u ≡ true
-has_told [] u s e c = absurd (omega (arith, c.1))
-has_told (t ∷ told) u s e (zero, lt, is) = has_at u t.uid (uids_of told) (sym (ap (λ (x : ShownUid). x.uid) is ∙ e))
-has_told (t ∷ told) u s e (suc k, lt, is) = has_there u t.uid (uids_of told) (has_told told u s e (k, omega (arith, lt), is))
 
 told_first : (logs : List (List LogLine)) (lines : List LogLine) (certain : List ℕ) (told : List ShownUid) (u : ℕ) (p : Place)
     → IsListOf (one.IsCertainUid (entries lines)) certain → uids_of told ≡ certain → All (IsToldOf lines) told
     → IsCertainInNone logs u → p.log ≡ length logs → Contains told (record { uid = u; line = p.line }) → IsFirstTold (logs ++ lines ∷ []) u p
 told_first logs lines certain told u p l is shown none at c =
     let s : ShownUid = record { uid = u; line = p.line } in
-    let there = subst (λ n. slice_get (logs ++ lines ∷ []) n ≡ Some lines) (sym at) (get_end logs lines) in
+    let there = subst (λ n. slice_get (logs ++ lines ∷ []) n ≡ Some lines) (sym at) (slice_get_seam logs lines []) in
     record {
       first = record {
         lines = lines;
         there = there;
-        holds = (l.members u).0 (subst (λ us. has us u ≡ true) is (has_told told u s refl c));
-        first = λ k others lt h. all_at (λ ls. IsCertainIn u ls → ⊥) logs k others none (get_back logs (lines ∷ []) k others (omega (arith, lt, at)) h);
+        holds = (l.members u).0 (subst (λ us. has us u ≡ true) is (subst (λ (x : ShownUid). has (uids_of told) x.uid ≡ true) c.2 (has_mapped (λ (x : ShownUid). x.uid) told c.0 s c.1)));
+        first = λ k others lt h.
+            let lt : k < length logs = omega arith in
+            let is = get_or_from_slice_get logs k others others (slice_get-append logs (lines ∷ []) k lt ∙ h) in
+            subst (λ ls. IsCertainIn u ls → ⊥) is (none k others lt);
       };
       shows = λ others h.
-          let same : lines ≡ others = some_is (sym there ∙ h) in
+          let same : lines ≡ others = cc in
           subst (λ ls. ShowsCertain ls p.line u) same (subst (IsToldOf lines) c.2 (shown c.0 s c.1));
     }
 
@@ -132,13 +93,13 @@ pub joined_more : (expected : List ℕ) (logs : List (List LogLine)) (lines : Li
     → new.expected ≡ old.expected → new.count ≡ old.count → new.left.items ≡ old.left.items ++ besides ∷ []
     → IsJoined expected logs old → IsJoined expected (logs ++ lines ∷ []) new
 joined_more expected logs lines old new set besides certain keys told p facts is shown noted own same list count left j =
-    let long = zip_long IsLeftBy logs old.left.items j.left in
+    let long = AllZip-long IsLeftBy logs old.left.items j.left in
     record {
       members = subst (λ (us : List ℕ). SameMembers us expected) (sym (ap (λ v. v.items) list)) j.members;
       count = count ∙ j.count;
       possible = All-push IsPossibleLog logs lines j.possible p;
-      certain = λ u. certain_more logs lines certain told old.certain new.certain u facts.must is shown (subst (λ n. AreNoted old.certain new.certain n told) (sym long) noted) (j.certain u);
-      left = subst (AllZip IsLeftBy (logs ++ lines ∷ [])) (sym left) (zip_push IsLeftBy logs old.left.items lines besides j.left (left_by lines set besides certain keys facts own same));
+      certain = λ u. certain_more logs lines certain told old.certain new.certain u facts.must is shown (subst (λ n. AreNoted old.certain new.certain n told) long noted) (j.certain u);
+      left = subst (AllZip IsLeftBy (logs ++ lines ∷ [])) (sym left) (all_zipped_more IsLeftBy logs old.left.items lines besides j.left (left_by lines set besides certain keys facts own same));
     }
 
 -- ---- what slots tell is noted

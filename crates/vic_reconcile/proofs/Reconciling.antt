@@ -1,6 +1,6 @@
 -- The findings of joined logs, and that none of them means that everything is there.
-use Rattle.std.proofs.Common.{◌≡◌, ℕ, zero, suc, ◌<◌, List, [], ◌∷◌, ◌++◌, length, get_or, map, Bool, true, false, Option, Some, None, refl, sym, ap, subst, ◌∙◌, arith, inl, inr, ⊎_elim, ◌⊎◌, ◌||◌, IfNone, IfSome, MatchOption, is_some, nat_eq, is_eq, nat_cmp, All, Any}
-use Rattle.vic_reconcile.proofs.Words.{IsStrictlyIncreasing, both_ways, cases_Bool, cases_eq, false≢true, or_cases, or_left, or_right, All-head, All-tail, list_any-append, IsUid, has, BitMask, SameUids, is_open_in, LogLine, entries, IsUid-member, has_at, has_there, AreDifferences, IsFailing, IsListOf, IsFirstMask, NoSuch, all_findings, doubtful_list, none_of, DoubtfulUid, Findings, UnlistedUid, Reconciliation, ArePossible, FitsLog, FitsLogs, IsCertainUid, IsPossibleUid, is_somewhere, AreFindings, AreNone, IsAbsent, IsDoubtful, IsFirstTold, IsToldOf, IsUnlisted, IsUnsettled, IsUnsettledWith, IsWhole, IsCertainInNone, IsJoined, IsFirstLeft, IsLeftToAsk, is_left}
+use Rattle.std.proofs.Common.{◌≡◌, ℕ, List, [], ◌∷◌, ◌++◌, get_or, map, Bool, true, false, Option, Some, None, refl, sym, ap, subst, ◌∙◌, arith, inl, inr, ⊎_elim, ◌⊎◌, ◌||◌, IfNone, IfSome, MatchOption, is_some, nat_eq, is_eq, nat_cmp, All, Any}
+use Rattle.vic_reconcile.proofs.Words.{IsStrictlyIncreasing, both_ways, cases_Bool, cases_eq, false≢true, or_cases, or_left, or_right, All-head, All-tail, list_any-append, IsUid, has, BitMask, SameUids, is_open_in, LogLine, entries, IsUid-member, has_at, AreDifferences, IsFailing, IsListOf, IsFirstMask, NoSuch, all_findings, doubtful_list, none_of, DoubtfulUid, Findings, UnlistedUid, Reconciliation, ArePossible, FitsLog, FitsLogs, IsCertainUid, IsPossibleUid, is_somewhere, AreFindings, AreNone, IsAbsent, IsDoubtful, IsFirstTold, IsToldOf, IsUnlisted, IsUnsettled, IsUnsettledWith, IsWhole, IsCertainInNone, IsJoined, IsFirstLeft, IsLeftToAsk, is_left, all_zipped_more}
 use Rattle.std.specs.BTreeMap as tree
 use Rattle.std.specs.Ordering.{eq_by_cmp}
 use Rattle.std.specs.Set.{is_member}
@@ -9,8 +9,7 @@ use Rattle.vic_verdict.specs.declared.findings.Differences.{Differences}
 use Rattle.vic_verdict.proofs.Decide.{IsCertainUid-either, IsPossibleUid-either}
 use Rattle.vic_verdict.proofs.Masks.{IsUid-in, lies_in-uid_in, mask_of, mask_of-alone, mask_of-value, uid_in}
 use Rattle.vic_reconcile.specs.declared.findings.Unsettled.{Unsettled}
-use Rattle.vic_reconcile.proofs.Families.{IsCertainIn, IsCertainUid-iff, IsPossibleIn, IsPossibleLog, IsPossibleUid-iff, all_possible, any_cases, any_here, any_none, any_there, certain_by}
-use Rattle.vic_reconcile.proofs.Joins.{zip_push}
+use Rattle.vic_reconcile.proofs.Families.{has_mapped, IsCertainIn, IsCertainUid-iff, IsPossibleIn, IsPossibleLog, IsPossibleUid-iff, all_possible, any_cases, any_here, any_none, any_there, certain_by}
 use Rattle.vic_reconcile.proofs.Telling.{all_open_masks, first_possible, joined_facts, listed_as}
 
 -- ---- the keys of the map
@@ -37,11 +36,6 @@ doubtful_left set certain us some absent doubtful sets same uids out un l u h =
     (cases_Bool (set u))
 
 -- ---- the findings
-
-has_mapped : (xs : List DoubtfulUid) (k : ℕ) (d : DoubtfulUid) → k < length xs → has (map (λ (x : DoubtfulUid). x.uid) xs) (get_or xs k d).uid ≡ true
-has_mapped [] k d lt = absurd (omega (arith, lt))
-has_mapped (x ∷ xs) zero d lt = has_at x.uid x.uid (map (λ (y : DoubtfulUid). y.uid) xs) refl
-has_mapped (x ∷ xs) (suc k) d lt = has_there (get_or xs k d).uid x.uid (map (λ (y : DoubtfulUid). y.uid) xs) (has_mapped xs k d (omega (arith, lt)))
 
 told_at : (expected : List ℕ) (logs : List (List LogLine)) (r : Reconciliation) (s : UnlistedUid) → IsJoined expected logs r → tree.get nat_cmp r.certain s.uid ≡ Some s.place → IsToldOf logs s
 told_at expected logs r s j e = subst (λ o. MatchOption o (IsCertainInNone logs s.uid) (IsFirstTold logs s.uid)) e (j.certain s.uid)
@@ -83,36 +77,22 @@ findings_of expected logs r all certain some doubtful d f j rising members same 
       doubtful = subst (IsListOf (IsDoubtful expected logs)) (sym firsts) doubts;
       doubtful_first = λ k s lt.
           let x = get_or f.doubtful.items k s in
-          let w = (doubts.members x.uid).0 (subst (λ us. has us x.uid ≡ true) firsts (has_mapped f.doubtful.items k s lt)) in
+          let w = (doubts.members x.uid).0 (subst (λ us. has us x.uid ≡ true) firsts (has_mapped (λ (y : DoubtfulUid). y.uid) f.doubtful.items k s lt)) in
           first_possible logs r.left.items x j.left (own.are_uids x.uid (own.members x.uid ∙ w.0)) w.1.1 (lefts k s lt);
     }
 
 -- ---- none of them
 
-possible_either : (logs : List (List LogLine)) (u : ℕ) → All IsPossibleLog logs → Any (IsPossibleIn u) logs ⊎ (Any (IsPossibleIn u) logs → ⊥)
-possible_either [] u all = inr (any_none (IsPossibleIn u))
-possible_either (l ∷ logs) u all =
+any_either : (P : List LogLine → Type 0) (logs : List (List LogLine)) → ((l : List LogLine) → IsPossibleLog l → P l ⊎ (P l → ⊥)) → All IsPossibleLog logs → Any P logs ⊎ (Any P logs → ⊥)
+any_either P [] either all = inr (any_none P)
+any_either P (l ∷ logs) either all =
     ⊎_elim
-    (λ (h : IsPossibleIn u l). inl (any_here (IsPossibleIn u) l logs h))
-    (λ (n : IsPossibleIn u l → ⊥). ⊎_elim
-    (λ a. inl (any_there (IsPossibleIn u) l logs a))
-    (λ m. inr (λ a. ⊎_elim (λ h. n h) (λ b. m b) (any_cases (IsPossibleIn u) l logs a)))
-    (possible_either logs u (All-tail IsPossibleLog l logs all)))
-    (IsPossibleUid-either (entries l) u (All-head IsPossibleLog l logs all))
-
-certain_either : (logs : List (List LogLine)) (u : ℕ) → All IsPossibleLog logs → Any (IsCertainIn u) logs ⊎ (Any (IsCertainIn u) logs → ⊥)
-certain_either [] u all = inr (any_none (IsCertainIn u))
-certain_either (l ∷ logs) u all =
-    ⊎_elim
-    (λ (h : IsCertainIn u l). inl (any_here (IsCertainIn u) l logs h))
-    (λ (n : IsCertainIn u l → ⊥). ⊎_elim
-    (λ a. inl (any_there (IsCertainIn u) l logs a))
-    (λ m. inr (λ a. ⊎_elim (λ h. n h) (λ b. m b) (any_cases (IsCertainIn u) l logs a)))
-    (certain_either logs u (All-tail IsPossibleLog l logs all)))
-    (IsCertainUid-either (entries l) u (All-head IsPossibleLog l logs all))
-
-somewhere_uid : (logs : List (List LogLine)) (u : ℕ) → Any (IsPossibleIn u) logs → IsUid u
-somewhere_uid logs u a = let w = a.4 in IsUid-member w.0 u w.1 w.3
+    (λ (h : P l). inl (any_here P l logs h))
+    (λ (n : P l → ⊥). ⊎_elim
+    (λ a. inl (any_there P l logs a))
+    (λ (m : Any P logs → ⊥). inr (λ a. ⊎_elim n m (any_cases P l logs a)))
+    (any_either P logs either (All-tail IsPossibleLog l logs all)))
+    (either l (All-head IsPossibleLog l logs all))
 
 pub nothing_is_whole : (expected : List ℕ) (logs : List (List LogLine)) → ArePossible logs → NoSuch (IsAbsent expected logs) → NoSuch (IsUnlisted expected logs) → NoSuch (IsUnsettled expected logs) → NoSuch (IsDoubtful expected logs) → IsWhole expected logs
 nothing_is_whole expected logs p no_absent no_unlisted no_unsettled no_doubtful = (
@@ -126,11 +106,14 @@ nothing_is_whole expected logs p no_absent no_unlisted no_unsettled no_doubtful 
     all : All IsPossibleLog logs
     all = all_possible logs p.0 p.1
 
+    certain_either : (u : ℕ) → Any (IsCertainIn u) logs ⊎ (Any (IsCertainIn u) logs → ⊥)
+    certain_either u = any_either (IsCertainIn u) logs (λ l. IsCertainUid-either (entries l) u) all
+
     -- a UID that may be there is expected
     expected_of : (u : ℕ) → IsPossibleUid logs u → has expected u ≡ true
     expected_of u h =
         let a = (IsPossibleUid-iff logs u all).0 h in
-        let i = somewhere_uid logs u a in
+        let i = IsUid-member a.4.0 u a.4.1 a.4.3 in
         ⊎_elim
         (λ e. e)
         (λ e. ⊎_elim
@@ -142,7 +125,7 @@ nothing_is_whole expected logs p no_absent no_unlisted no_unsettled no_doubtful 
               let same = mask_of-alone u w i iw k in
               subst (λ x. (IsPossibleUid logs x × (IsCertainUid logs x → ⊥)) × (has expected x ≡ false)) (sym same) ((h, λ c. n ((IsCertainUid-iff logs u all).0 c)), e),
         )))
-        (certain_either logs u all))
+        (certain_either u))
         (cases_Bool (has expected u))
 
     -- an expected UID is certain
@@ -153,8 +136,8 @@ nothing_is_whole expected logs p no_absent no_unlisted no_unsettled no_doubtful 
         (λ n. ⊎_elim
         (λ a. absurd (no_doubtful u (h, ((IsPossibleUid-iff logs u all).1 a, λ c. n ((IsCertainUid-iff logs u all).0 c)))))
         (λ m. absurd (no_absent u (h, λ x. m ((IsPossibleUid-iff logs u all).0 x))))
-        (possible_either logs u all))
-        (certain_either logs u all)
+        (any_either (IsPossibleIn u) logs (λ l. IsPossibleUid-either (entries l) u) all))
+        (certain_either u)
 
 pub none_is_whole : (expected : List ℕ) (logs : List (List LogLine)) (f : Findings) → ArePossible logs → AreFindings expected logs f → AreNone f → IsWhole expected logs
 none_is_whole expected logs f p found none =
@@ -169,13 +152,9 @@ none_list : (P : ℕ → Type 0) (us : List ℕ) → NoSuch P → IsListOf P us 
 none_list P [] none l = refl
 none_list P (u ∷ us) none l = absurd (none u ((l.members u).0 (has_at u u us refl)))
 
-no_unlisted_uids : (xs : List UnlistedUid) → map (λ (s : UnlistedUid). s.uid) xs ≡ [] → xs ≡ []
-no_unlisted_uids [] h = refl
-no_unlisted_uids (x ∷ xs) h = cc
-
-no_doubtful_uids : (xs : List DoubtfulUid) → map (λ (s : DoubtfulUid). s.uid) xs ≡ [] → xs ≡ []
-no_doubtful_uids [] h = refl
-no_doubtful_uids (x ∷ xs) h = cc
+no_uids : {X : Type 0} (uid : X → ℕ) (xs : List X) → map uid xs ≡ [] → xs ≡ []
+no_uids uid [] h = refl
+no_uids uid (x ∷ xs) h = cc
 
 no_mask : (expected : List ℕ) (logs : List (List LogLine)) (x : Option Unsettled) → NoSuch (IsUnsettled expected logs) → MatchOption x (NoSuch (IsUnsettled expected logs)) (IsUnsettledWith expected logs) → x ≡ None
 no_mask expected logs None none h = refl
@@ -187,12 +166,12 @@ whole_has_none expected logs f found w =
     let listed : (u : ℕ) → IsPossibleUid logs u → has expected u ≡ true = λ u p. (w.1 p.0 p.1 u).0 p.2 in
     record {
       absent = none_list (IsAbsent expected logs) f.absent.items (λ u h. h.1 (w.0.0, w.0.1, somewhere u h.0 w.0.0 w.0.1)) found.absent;
-      unlisted = no_unlisted_uids f.unlisted.items (none_list (IsUnlisted expected logs) _ (λ u h. both_ways (has expected u) h.1 (listed u (w.0.0, w.0.1, h.0 w.0.0 w.0.1))) found.unlisted);
+      unlisted = no_uids _ f.unlisted.items (none_list (IsUnlisted expected logs) _ (λ u h. both_ways (has expected u) h.1 (listed u (w.0.0, w.0.1, h.0 w.0.0 w.0.1))) found.unlisted);
       unsettled = no_mask expected logs f.unsettled (λ m h.
           let u = uid_in m in
           let x = h.2 u (IsUid-in m h.0 h.1) (lies_in-uid_in m h.0 h.1) in
           both_ways (has expected u) x.1 (listed u x.0.0)) found.unsettled;
-      doubtful = no_doubtful_uids f.doubtful.items (none_list (IsDoubtful expected logs) _ (λ u h. h.1.1 (somewhere u h.0)) found.doubtful);
+      doubtful = no_uids _ f.doubtful.items (none_list (IsDoubtful expected logs) _ (λ u h. h.1.1 (somewhere u h.0)) found.doubtful);
     }
 
 -- ---- one log more
@@ -214,8 +193,9 @@ front (l ∷ logs) lines (p ∷ family) fits =
 pub certain_later : (logs : List (List LogLine)) (lines : List LogLine) (u : ℕ) → IsCertainUid logs u → IsCertainUid (logs ++ lines ∷ []) u
 certain_later logs lines u c family fits = let r = front logs lines family fits in r.2 u (c r.0 r.1)
 
-somewhere_more : (family : List (List ℕ)) (p : List ℕ) (u : ℕ) → is_somewhere family u ≡ true → is_somewhere (family ++ p ∷ []) u ≡ true
-somewhere_more family p u h = list_any-append (λ q. has q u) family (p ∷ []) ∙ or_left (is_somewhere family u) (is_somewhere (p ∷ []) u) h
-
 pub possible_later : (logs : List (List LogLine)) (lines : List LogLine) (u : ℕ) → IsPossibleLog lines → IsPossibleUid logs u → IsPossibleUid (logs ++ lines ∷ []) u
-possible_later logs lines u p h = (h.0 ++ p.0 ∷ [], zip_push FitsLog h.0 logs p.0 lines h.1 (p.1, p.2), somewhere_more h.0 p.0 u h.2)
+possible_later logs lines u p h = (
+  h.0 ++ p.0 ∷ [],
+  all_zipped_more FitsLog h.0 logs p.0 lines h.1 (p.1, p.2),
+  list_any-append (λ q. has q u) h.0 (p.0 ∷ []) ∙ or_left (is_somewhere h.0 u) (is_somewhere (p.0 ∷ []) u) h.2,
+)

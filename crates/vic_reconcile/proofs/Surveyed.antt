@@ -12,7 +12,7 @@ use Rattle.vic_verdict.proofs.Possibility.{IsPossible-front}
 use Rattle.vic_reconcile.specs.declared.surveys.PlainFindings.{PlainFindings}
 use Rattle.vic_reconcile.specs.declared.surveys.Survey.{Survey}
 use Rattle.vic_reconcile.specs.Surveys.{AreFindingsBy, AreNoneOf, AreOpenIn, AreTogether, IsAmong, IsSurvey, IsToldBy, IsUnsettledBy, MayBe}
-use Rattle.vic_reconcile.proofs.Families.{IsCertainIn, IsCertainUid-iff, IsPossibleIn, IsPossibleLog, IsPossibleUid-iff, any_cases, any_here, any_none, any_there, certain_by, family_of}
+use Rattle.vic_reconcile.proofs.Families.{IsCertainIn, IsCertainUid-iff, IsPossibleIn, IsPossibleLog, IsPossibleUid-iff, certain_by, family_of, any_zip, any_back, certain_is_possible}
 use Rattle.vic_reconcile.proofs.Reconciling.{nothing_is_whole}
 use Rattle.vic_reconcile.proofs.Telling.{IsOpenIn, open_or_certain, open_possible}
 
@@ -41,18 +41,6 @@ surveyed_masks lines s ms a is = (
   (λ n. no_masks (without_keys (is_open_in s.left) []) ms (λ u i. let f = is.left.1 n u i in rw f refl) a),
 )
 
--- ---- lists beside one another
-
-any_zip : {A B : Type 0} (R : A → B → Type 0) (P : A → Type 0) (Q : B → Type 0) (xs : List A) (ys : List B) → ((x : A) (y : B) → R x y → P x → Q y) → AllZip R xs ys → Any P xs → Any Q ys
-any_zip R P Q [] ys f z a = absurd (any_none P a)
-any_zip R P Q (x ∷ xs) [] f z a = absurd z
-any_zip R P Q (x ∷ xs) (y ∷ ys) f z a = ⊎_elim (λ h. any_here Q y ys (f x y z.0 h)) (λ b. any_there Q y ys (any_zip R P Q xs ys f z.1 b)) (any_cases P x xs a)
-
-any_back : {A B : Type 0} (R : A → B → Type 0) (P : A → Type 0) (Q : B → Type 0) (xs : List A) (ys : List B) → ((x : A) (y : B) → R x y → Q y → P x) → AllZip R xs ys → Any Q ys → Any P xs
-any_back R P Q xs [] f z a = absurd (any_none Q a)
-any_back R P Q [] (y ∷ ys) f z a = absurd z
-any_back R P Q (x ∷ xs) (y ∷ ys) f z a = ⊎_elim (λ h. any_here P x xs (f x y z.0 h)) (λ b. any_there P x xs (any_back R P Q xs ys f z.1 b)) (any_cases Q y ys a)
-
 -- ---- what is told together
 
 possible_logs : (logs : List (List LogLine)) (surveys : List (List ℕ × List BitMask)) → AllZip IsToldBy logs surveys → All IsPossibleLog logs
@@ -67,9 +55,6 @@ certain_same logs certain masks u t =
       (λ c. (t.uids u).1 (any_zip IsToldBy (IsCertainIn u) (λ s. has s.0 u ≡ true) logs t.surveys (λ lines s told k. ((told.certain.0 told.possible).members u).1 k) t.each (w.0 c))),
     )
 
-sure : (logs : List (List LogLine)) (u : ℕ) → All IsPossibleLog logs → IsCertainUid logs u → IsPossibleUid logs u
-sure logs u all c = let f = family_of logs all in (f.0, f.1, c f.0 f.1)
-
 -- the UID lies in a mask of the survey
 abbrev HasMask : ℕ → List ℕ × List BitMask → Type 0
 HasMask u s = (m : BitMask) × Contains s.1 m × (lies_in m u ≡ true)
@@ -77,7 +62,7 @@ HasMask u s = (m : BitMask) × Contains s.1 m × (lies_in m u ≡ true)
 possible_same : (logs : List (List LogLine)) (certain : List ℕ) (masks : List BitMask) (u : ℕ) → AreTogether logs certain masks → IsUid u → MayBe certain masks u ↔ IsPossibleUid logs u
 possible_same logs certain masks u t i = (
   (λ h. ⊎_elim
-      (λ c. sure logs u all ((certain_same logs certain masks u t).0 c))
+      (λ c. certain_is_possible logs u all ((certain_same logs certain masks u t).0 c))
       (λ l. w.1 (open_possible logs u (in_mask (Any-from_list_any (λ m. lies_in m u) masks l))))
       (or_cases (has certain u) (list_any (λ m. lies_in m u) masks) h)),
   (λ p. ⊎_elim
@@ -128,7 +113,7 @@ log_facts logs certain sorted masks set t f = record {
       let m = f.may u i in
       ((λ h. p.0 (m.0 h)), (λ h. m.1 (p.1 h)));
   must = list_as (IsAmong certain) (IsCertainUid logs) sorted (λ u. certain_same logs certain masks u t) f.must;
-  sure = λ u c. sure logs u (possible_logs logs t.surveys t.each) c;
+  sure = λ u. certain_is_possible logs u (possible_logs logs t.surveys t.each);
 }
 
 pub found : (P C : ℕ → Type 0) (set : ℕ → Bool) (sorted us expected some : List ℕ) (d : Differences) (f : PlainFindings) → AreFacts P C set sorted → AreListed us expected → AreDifferences set sorted us d

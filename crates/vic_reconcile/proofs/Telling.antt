@@ -1,22 +1,13 @@
 -- What joined logs tell, by what is kept of them.
-use Rattle.std.proofs.Common.{◌≡◌, ℕ, zero, suc, ◌<◌, List, [], ◌∷◌, take, true, false, not, Option, Some, None, refl, sym, subst, ◌∙◌, arith, inl, inr, ⊎_elim, ◌↔◌, ◌⊎◌, MatchOption, is_some, slice_get, nat_cmp, All, Any}
-use Rattle.vic_reconcile.proofs.Words.{AllPass, AllZip, IsStrictlyIncreasing, and_from, and_parts, both_ways, false≢true, not-true, not_from_false, false_from_ne_true, or_cases, or_left, or_right, All-head, All-tail, list_any_none, IsUid, has, OpenMasks, SameUids, has_key, without_keys, is_open_in, LogLine, entries, IsListOf, AreFacts, AreListed, DoubtfulUid, Reconciliation, IsCertainUid, IsPossibleUid, AreOpenMasksOf, IsFirstLog, IsFirstPossible, IsFirstTold, IsCertainInNone, IsJoined, IsLeftBy, AreOpenBesides, IsFirstLeft, is_left}
+use Rattle.std.proofs.Common.{◌≡◌, ℕ, List, [], ◌∷◌, true, false, not, Option, Some, None, refl, sym, subst, ◌∙◌, arith, inl, inr, ⊎_elim, ◌↔◌, ◌⊎◌, MatchOption, is_some, slice_get, nat_cmp, All, Any, IsSomeAnd, length-take, get_or-take}
+use Rattle.vic_reconcile.proofs.Words.{AllPass, AllZip, IsStrictlyIncreasing, and_from, and_parts, both_ways, false≢true, not-true, not_from_false, false_from_ne_true, list_any_none, IsUid, has, OpenMasks, SameUids, has_key, without_keys, is_open_in, LogLine, entries, IsListOf, AreFacts, AreListed, DoubtfulUid, Reconciliation, IsCertainUid, IsPossibleUid, AreOpenMasksOf, IsFirstPossible, IsFirstTold, IsCertainInNone, IsJoined, IsLeftBy, AreOpenBesides, IsFirstLeft, is_left, slice_get_within, get_or_from_slice_get, list_any-from_Any, Any-from_list_any, AllZip-left, AllZip-right, MatchOption-at_some}
 use Rattle.std.specs.BTreeMap as map
 use Rattle.vic_verdict.specs.Differences as one
 use Rattle.vic_verdict.proofs.Decide.{IsCertainUid-either}
 use Rattle.vic_reconcile.specs.declared.reconciliation.Place.{Place}
-use Rattle.vic_reconcile.proofs.Families.{IsCertainIn, IsCertainUid-iff, IsPossibleIn, IsPossibleLog, IsPossibleUid-iff, any_cases, any_here, any_none, any_there, certain_by, family_of}
-use Rattle.vic_reconcile.proofs.Joins.{all_at}
+use Rattle.vic_reconcile.proofs.Families.{IsCertainIn, IsCertainUid-iff, IsPossibleIn, IsPossibleLog, IsPossibleUid-iff, any_here, any_there, certain_by, any_zip, any_back, any_at, certain_is_possible}
 
 -- ---- the certain UIDs
-
-any_first : {P : List LogLine → Type 0} (logs : List (List LogLine)) (n : ℕ) → IsFirstLog P logs n → Any P logs
-any_first logs n f = any_got logs n f.lines f.there f.holds
-  where
-    any_got : {P : List LogLine → Type 0} (logs : List (List LogLine)) (n : ℕ) (lines : List LogLine) → slice_get logs n ≡ Some lines → P lines → Any P logs
-    any_got [] n lines h p = cc
-    any_got {P} (l ∷ logs) zero lines h p = let same : l ≡ lines = cc in any_here P l logs (subst P (sym same) p)
-    any_got {P} (l ∷ logs) (suc n) lines h p = any_there P l logs (any_got logs n lines h p)
 
 none_any : (P : List LogLine → Type 0) (logs : List (List LogLine)) → All (λ lines. P lines → ⊥) logs → Any P logs → ⊥
 none_any P logs none a = none a.0 a.1 a.2 (subst P (sym a.3) a.4)
@@ -26,7 +17,7 @@ certain_iff expected logs r u j = at (map.get nat_cmp r.certain u) (j.certain u)
   where
     at : (o : Option Place) → MatchOption o (IsCertainInNone logs u) (IsFirstTold logs u) → (is_some o ≡ true) ↔ IsCertainUid logs u
     at None none = ((λ h. absurd (false≢true h)), (λ c. absurd (none_any (IsCertainIn u) logs none ((IsCertainUid-iff logs u j.possible).0 c))))
-    at (Some p) told = ((λ h. certain_by logs u (any_first logs p.log told.first)), (λ c. refl))
+    at (Some p) told = ((λ h. certain_by logs u (any_at (IsCertainIn u) logs p.log told.first.lines told.first.there told.first.holds)), (λ c. refl))
 
 -- ---- the open UIDs
 
@@ -34,38 +25,18 @@ abbrev pub IsOpenIn : ℕ → List LogLine → Type 0
 IsOpenIn u lines = one.IsOpenUid (entries lines) u
 
 left_in : (logs : List (List LogLine)) (sets : List (List (ℕ × ℕ))) (u : ℕ) → AllZip IsLeftBy logs sets → IsUid u → is_left sets u ≡ true → Any (IsOpenIn u) logs
-left_in [] [] u z i h = absurd (false≢true h)
-left_in [] (s ∷ sets) u z i h = absurd z
-left_in (l ∷ logs) [] u z i h = absurd z
-left_in (l ∷ logs) (s ∷ sets) u z i h =
-    ⊎_elim
-    (λ a. any_here (IsOpenIn u) l logs ((z.0 u i).0 a))
-    (λ b. any_there (IsOpenIn u) l logs (left_in logs sets u z.1 i b))
-    (or_cases (is_open_in s u) (is_left sets u) h)
+left_in logs sets u z i h = any_back IsLeftBy (IsOpenIn u) (λ s. is_open_in s u ≡ true) logs sets (λ l s by. (by u i).0) z (Any-from_list_any (λ s. is_open_in s u) sets h)
 
 left_from : (logs : List (List LogLine)) (sets : List (List (ℕ × ℕ))) (u : ℕ) → AllZip IsLeftBy logs sets → IsUid u → Any (IsOpenIn u) logs → is_left sets u ≡ true
-left_from [] sets u z i a = absurd (any_none (IsOpenIn u) a)
-left_from (l ∷ logs) [] u z i a = absurd z
-left_from (l ∷ logs) (s ∷ sets) u z i a =
-    ⊎_elim
-    (λ h. or_left (is_open_in s u) (is_left sets u) ((z.0 u i).1 h))
-    (λ b. or_right (is_open_in s u) (is_left sets u) (left_from logs sets u z.1 i b))
-    (any_cases (IsOpenIn u) l logs a)
+left_from logs sets u z i a = list_any-from_Any (λ s. is_open_in s u) sets (any_zip IsLeftBy (IsOpenIn u) (λ s. is_open_in s u ≡ true) logs sets (λ l s by. (by u i).1) z a)
 
 -- possible in one, it is open in it or certain
 pub open_or_certain : (logs : List (List LogLine)) (u : ℕ) → All IsPossibleLog logs → Any (IsPossibleIn u) logs → Any (IsOpenIn u) logs ⊎ Any (IsCertainIn u) logs
-open_or_certain [] u all a = absurd (any_none (IsPossibleIn u) a)
-open_or_certain (l ∷ logs) u all a =
+open_or_certain logs u all a =
     ⊎_elim
-    (λ (p : IsPossibleIn u l). ⊎_elim
-    (λ (c : IsCertainIn u l). inr (any_here (IsCertainIn u) l logs c))
-    (λ (n : IsCertainIn u l → ⊥). inl (any_here (IsOpenIn u) l logs (p, n)))
-    (IsCertainUid-either (entries l) u (All-head IsPossibleLog l logs all)))
-    (λ b. ⊎_elim
-    (λ o. inl (any_there (IsOpenIn u) l logs o))
-    (λ c. inr (any_there (IsCertainIn u) l logs c))
-    (open_or_certain logs u (All-tail IsPossibleLog l logs all) b))
-    (any_cases (IsPossibleIn u) l logs a)
+    (λ c. inr (a.0, a.1, a.2, a.3, c))
+    (λ n. inl (a.0, a.1, a.2, a.3, (a.4, n)))
+    (IsCertainUid-either (entries a.1) u (subst IsPossibleLog a.3 (all a.0 a.1 a.2)))
 
 pub open_possible : (logs : List (List LogLine)) (u : ℕ) → Any (IsOpenIn u) logs → Any (IsPossibleIn u) logs
 open_possible logs u a = (a.0, a.1, a.2, a.3, a.4.0)
@@ -81,14 +52,14 @@ joined_facts expected logs r all certain j rising members same = record {
       let possible = IsPossibleUid-iff logs u j.possible in (
         ⊎_elim
             (λ h. possible.1 (open_possible logs u (left_in logs r.left.items u j.left i (sym (same u i) ∙ h))))
-            (λ h. sure u ((must.members u).0 h)),
+            (λ h. certain_is_possible logs u j.possible ((must.members u).0 h)),
         (λ p. ⊎_elim
             (λ o. inl (same u i ∙ left_from logs r.left.items u j.left i o))
             (λ c. inr ((must.members u).1 (certain_by logs u c)))
             (open_or_certain logs u j.possible (possible.0 p))),
       );
   must = must;
-  sure = sure;
+  sure = λ u. certain_is_possible logs u j.possible;
 }
   where
     must : IsListOf (IsCertainUid logs) certain
@@ -97,36 +68,21 @@ joined_facts expected logs r all certain j rising members same = record {
       members = λ u. let w = certain_iff expected logs r u j in ((λ h. w.0 (sym (members u) ∙ h)), (λ c. members u ∙ w.1 c));
     }
 
-    sure : (u : ℕ) → IsCertainUid logs u → IsPossibleUid logs u
-    sure u c = let f = family_of logs j.possible in (f.0, f.1, c f.0 f.1)
-
 pub listed_as : (expected : List ℕ) (logs : List (List LogLine)) (r : Reconciliation) → IsJoined expected logs r → AreListed r.expected.items expected
 listed_as expected logs r j = record { members = j.members; are_uids = r.are_uids }
 
 -- ---- the first log in which a UID is possible
 
-not_certain_in : (logs : List (List LogLine)) (n u : ℕ) (lines : List LogLine) → (IsCertainUid logs u → ⊥) → slice_get logs n ≡ Some lines → IsCertainIn u lines → ⊥
-not_certain_in logs n u lines never h c = never (certain_by logs u (any_at logs n lines h c))
-  where
-    any_at : (logs : List (List LogLine)) (n : ℕ) (lines : List LogLine) → slice_get logs n ≡ Some lines → IsCertainIn u lines → Any (IsCertainIn u) logs
-    any_at [] n lines h p = cc
-    any_at (l ∷ logs) zero lines h p = let same : l ≡ lines = cc in any_here (IsCertainIn u) l logs (subst (IsCertainIn u) (sym same) p)
-    any_at (l ∷ logs) (suc n) lines h p = any_there (IsCertainIn u) l logs (any_at logs n lines h p)
+some_value : {X : Type 0} (o : Option X) (P : X → Type 0) → IsSomeAnd o P → (x : X) × (o ≡ Some x) × P x
+some_value None P h = absurd h
+some_value (Some x) P h = (x, refl, h)
 
 -- the log beside a set, and the set beside a log
 log_beside : (logs : List (List LogLine)) (sets : List (List (ℕ × ℕ))) (n : ℕ) (set : List (ℕ × ℕ)) → AllZip IsLeftBy logs sets → slice_get sets n ≡ Some set → (lines : List LogLine) × (slice_get logs n ≡ Some lines) × IsLeftBy lines set
-log_beside [] [] n set z h = cc
-log_beside [] (s ∷ sets) n set z h = absurd z
-log_beside (l ∷ logs) [] n set z h = absurd z
-log_beside (l ∷ logs) (s ∷ sets) zero set z h = let same : s ≡ set = cc in (l, refl, subst (IsLeftBy l) same z.0)
-log_beside (l ∷ logs) (s ∷ sets) (suc n) set z h = log_beside logs sets n set z.1 h
+log_beside logs sets n set z h = some_value (slice_get logs n) (λ l. IsLeftBy l set) (MatchOption-at_some _ (λ s. IsSomeAnd (slice_get logs n) (λ l. IsLeftBy l s)) set h (AllZip-right IsLeftBy logs sets z n))
 
 set_beside : (logs : List (List LogLine)) (sets : List (List (ℕ × ℕ))) (n : ℕ) (lines : List LogLine) → AllZip IsLeftBy logs sets → slice_get logs n ≡ Some lines → (set : List (ℕ × ℕ)) × (slice_get sets n ≡ Some set) × IsLeftBy lines set
-set_beside [] [] n lines z h = cc
-set_beside [] (s ∷ sets) n lines z h = absurd z
-set_beside (l ∷ logs) [] n lines z h = absurd z
-set_beside (l ∷ logs) (s ∷ sets) zero lines z h = let same : l ≡ lines = cc in (s, refl, subst (λ x. IsLeftBy x s) same z.0)
-set_beside (l ∷ logs) (s ∷ sets) (suc n) lines z h = set_beside logs sets n lines z.1 h
+set_beside logs sets n lines z h = some_value (slice_get sets n) (IsLeftBy lines) (MatchOption-at_some _ (λ l. IsSomeAnd (slice_get sets n) (IsLeftBy l)) lines h (AllZip-left IsLeftBy logs sets z n))
 
 pub first_possible : (logs : List (List LogLine)) (sets : List (List (ℕ × ℕ))) (d : DoubtfulUid) → AllZip IsLeftBy logs sets → IsUid d.uid → (IsCertainUid logs d.uid → ⊥) → IsFirstLeft sets d → IsFirstPossible logs d
 first_possible logs sets d z i never f =
@@ -137,15 +93,11 @@ first_possible logs sets d z i never f =
       holds = ((here.2 d.uid i).0 f.1.2).0;
       first = λ k others lt h p.
           let b = set_beside logs sets k others z h in
-          let is_open = (b.2 d.uid i).1 (p, not_certain_in logs k d.uid others never h) in
-          both_ways (is_open_in b.0 d.uid) (not-true _ (all_at (λ s. not (is_open_in s d.uid) ≡ true) (take d.log sets) k b.0 f.0 (got_in_front sets d.log k b.0 lt b.1))) is_open;
+          let is_open = (b.2 d.uid i).1 (p, λ c. never (certain_by logs d.uid (any_at (IsCertainIn d.uid) logs k others h c))) in
+          let here = slice_get_within sets k b.0 b.1 in
+          let none = f.0 k b.0 (omega (arith, length-take {A = List (ℕ × ℕ)})) in
+          both_ways (is_open_in b.0 d.uid) (not-true _ (rw (get_or-take d.log sets k b.0 lt, get_or_from_slice_get sets k b.0 b.0 b.1) at none)) is_open;
     }
-  where
-    got_in_front : (sets : List (List (ℕ × ℕ))) (n k : ℕ) (s : List (ℕ × ℕ)) → k < n → slice_get sets k ≡ Some s → slice_get (take n sets) k ≡ Some s
-    got_in_front sets zero k s lt h = absurd (omega (arith, lt))
-    got_in_front [] (suc n) k s lt h = cc
-    got_in_front (x ∷ sets) (suc n) zero s lt h = h
-    got_in_front (x ∷ sets) (suc n) (suc k) s lt h = got_in_front sets n k s (omega (arith, lt)) h
 
 -- ---- what is left to ask of a log
 

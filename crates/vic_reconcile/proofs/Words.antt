@@ -3,6 +3,8 @@ pub use Rattle.std.proofs.lemmas.Bool.{and_from, and_parts, both_ways, cases_Boo
 pub use Rattle.std.proofs.lemmas.List.{map-append, take-append-drop, take_all, take_more}
 pub use Rattle.std.proofs.lemmas.List.Elements.{All-cons, All-contains, All-head, All-more, All-push, All-tail, Contains-append_left, Contains-push}
 pub use Rattle.std.proofs.lemmas.List.Folds.{Any-from_list_any, list_any-append, list_any-from_Any, list_any_none}
+pub use Rattle.std.proofs.lemmas.Option.{MatchOption-at_some, get_or_from_slice_get, slice_get_within}
+pub use Rattle.std.proofs.lemmas.Slice.Zip.{AllZip-left, AllZip-long, AllZip-right, all_zipped_more}
 pub use Rattle.std.specs.BTreeMap.{get, is_at}
 pub use Rattle.std.specs.List.{AllPass, AllZip, list_any}
 pub use Rattle.std.specs.List.Sorted.{IsStrictlyIncreasing}

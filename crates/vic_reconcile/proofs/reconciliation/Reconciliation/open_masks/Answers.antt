@@ -1,6 +1,5 @@
 use Rattle.std.proofs.Common.{◌<◌, [], ◌∷◌, ◌++◌, get_or, length, take, ap, sym, subst, ◌∙◌}
-use Rattle.vic_reconcile.proofs.Words.{take_more, AllZip, AreKeysOf, AreOpenBesides}
-use Rattle.vic_reconcile.proofs.Joins.{zip_push}
+use Rattle.vic_reconcile.proofs.Words.{take_more, all_zipped_more, AllZip, AreKeysOf, AreOpenBesides}
 use Rattle.vic_reconcile.proofs.reconciliation.Reconciliation.open_masks.Goals as goal
 
 pub loop-set-preserved : goal.loop-set-preserved
@@ -18,4 +17,4 @@ loop-set-preserved c =
       more = c.open_masks_besides.ensures.more;
     } in
     subst (λ ss. AllZip R ss c.push.new.self.items) (ap (λ x. take i sets ++ x ∷ []) is ∙ sym (take_more sets i s lt))
-    (subst (AllZip R (take i sets ++ s ∷ [])) (sym c.in_ok-push.ensures.items) (zip_push R (take i sets) c.loop-set.masks.items s c.open_masks_besides.result c.loop-set.invariant own))
+    (subst (AllZip R (take i sets ++ s ∷ [])) (sym c.in_ok-push.ensures.items) (all_zipped_more R (take i sets) c.loop-set.masks.items s c.open_masks_besides.result c.loop-set.invariant own))
