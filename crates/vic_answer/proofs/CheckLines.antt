@@ -1,12 +1,7 @@
 -- Answers that begin with the line of `check`, and which of them with `complete `.
-use Rattle.std.proofs.Common.{◌≡◌, ℕ, List, [], ◌∷◌, ◌++◌, ap, append_assoc, append-nil, arith, slice_index, refl, subst, sym, ◌∙◌, codes, decimal, Option, Some, None, MatchOption}
-use Rattle.std.specs.List.{flat_map}
-use Rattle.std.specs.Option.{option_map}
-use Rattle.vic_log.specs.Log.{LogValue}
-use Rattle.vic_log.specs.Lines.{lines_of_text}
-use Rattle.vic_log.specs.Text.{IsLogOf}
+use Rattle.std.proofs.Common.{◌≡◌, ℕ, List, [], ◌∷◌, ◌++◌, ap, append_assoc, append-nil, arith, slice_index, refl, subst, sym, ◌∙◌, codes, decimal, Option, Some, None, MatchOption, flat_map, option_map}
+use Rattle.vic_answer.proofs.Words.{LogValue, lines_of_text, IsLogOf, LogLine, IsVerdict, Impossible, Absent, Unlisted, Unsettled, Doubtful, Complete, BeginsAsCheck, IsAnswer, IsCheckOf, IsCompleteText, answer_line, verdict_line, Status}
 use Rattle.vic_log.specs.declared.entry.Entry.{Entry}
-use Rattle.vic_log.specs.declared.entry.LogLine.{LogLine}
 use Rattle.vic_report.specs.Reports.{IsReport, first_finding, verdict_of}
 use Rattle.vic_report.specs.Findings.{uids_of}
 use Rattle.vic_report.specs.declared.findings.Unsettled.{Unsettled as LeftToAsk}
@@ -15,12 +10,9 @@ use Rattle.vic_report.specs.declared.reporting.LogReport.TheVariants as report
 use Rattle.vic_report.specs.declared.shown.ShownUid.{ShownUid}
 use Rattle.vic_report.proofs.AllFindings.{report_begins, none_where_complete}
 use Rattle.vic_verdict.specs.Explained.{IsPopulationBehind, IsShownByNone, Shows}
-use Rattle.vic_verdict.specs.Verdict.{IsVerdict}
 use Rattle.vic_verdict.specs.declared.judging.Verdict.{Verdict}
-use Rattle.vic_verdict.specs.declared.judging.Verdict.TheVariants.{Impossible, Absent, Unlisted, Unsettled, Doubtful, Complete}
 use Rattle.vic_verdict.proofs.Verdicts.{complete_whole}
 use Rattle.vic_verdict.proofs.TwoVersions.{complete_second}
-use Rattle.vic_answer.specs.CheckText.{BeginsAsCheck, IsAnswer, IsCheckOf, IsCompleteText, answer_line, verdict_line}
 use Rattle.vic_answer.specs.ExplainText as explain
 use Rattle.vic_answer.specs.ReportText as reporting
 use Rattle.vic_answer.specs.declared.check.Answer.{Answer}
@@ -29,7 +21,6 @@ use Rattle.vic_answer.specs.declared.explain.Explained.{Explained}
 use Rattle.vic_answer.specs.declared.explain.Explained.TheVariants as explained
 use Rattle.vic_answer.specs.declared.report.Reported.{Reported}
 use Rattle.vic_answer.specs.declared.report.Reported.TheVariants as reported
-use Rattle.vic_answer.specs.declared.status.Status.{Status}
 
 -- ---- a complete text
 

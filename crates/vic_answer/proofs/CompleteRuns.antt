@@ -1,15 +1,8 @@
 -- A run that wrote `complete ` has read a complete text.
 use Rattle.std.proofs.Common.{◌≡◌, ℕ, Bool, List, ◌++◌, Option, Some, None, Result, Ok, Err, inl, inr, subst, sym, ◌∙◌}
-use Rattle.std.proofs.lemmas.List.{append_cancel_left}
-use Rattle.std.specs.Io.KnownBytes.{Appends}
-use Rattle.vic_log.specs.Lines.{lines_of_text}
-use Rattle.vic_log.specs.Log.{LogValue}
-use Rattle.vic_log.specs.Text.{IsLogOf}
+use Rattle.vic_answer.proofs.Words.{append_cancel_left, Appends, lines_of_text, LogValue, IsLogOf, IsEnough, Runs, RunsOver, RunFault, Status}
 use Rattle.vic_log.proofs.One.{not_both}
 use Rattle.vic_answer.specs.CompleteRun.{IsCompleteWhereSaid, IsCompleteWhereWritten}
-use Rattle.vic_answer.specs.Runs.{IsEnough, Runs, RunsOver}
-use Rattle.vic_answer.specs.declared.status.RunFault.{RunFault}
-use Rattle.vic_answer.specs.declared.status.Status.{Status}
 use Rattle.vic_answer.proofs.CheckLines.{TellComplete}
 
 -- what a sink took behind the bytes before is the answer

@@ -1,3 +1,4 @@
+pub mod Words
 mod Decoded
 mod CheckLines
 mod CompleteRuns

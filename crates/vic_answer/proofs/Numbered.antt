@@ -1,6 +1,6 @@
 -- Which answers have which number.
 use Rattle.std.proofs.Common.{◌≡◌, arith, refl}
-use Rattle.vic_verdict.specs.declared.judging.Verdict.TheVariants.{Impossible, Absent, Unlisted, Unsettled, Doubtful, Complete}
+use Rattle.vic_answer.proofs.Words.{Impossible, Absent, Unlisted, Unsettled, Doubtful, Complete}
 use Rattle.vic_answer.specs.declared.check.Answer.{Answer}
 use Rattle.vic_answer.specs.declared.check.Answer.TheVariants.{Judged, RefusedAt}
 use Rattle.vic_answer.specs.Numbers.{kind_of}

@@ -1,17 +1,9 @@
 -- What a list and logs say together, text by text.
-use Rattle.std.proofs.Common.{◌≡◌, ℕ, zero, suc, List, [], ◌∷◌, ◌++◌, take, length, get_or, map, Some, None, Option, codes, refl, sym, ap, subst, ◌∙◌, arith}
-use Rattle.std.specs.Prelude.{IfOk, OnOk, Result, Ok, Err, decimal, slice_get}
-use Rattle.vic_log.specs.Device.{HasWrittenPrefix}
-use Rattle.std.specs.List.{All, AllZip, flat_map}
-use Rattle.std.proofs.lemmas.List.{append_cancel_left, length-map, map-append}
+use Rattle.std.proofs.Common.{◌≡◌, ℕ, zero, suc, List, [], ◌∷◌, ◌++◌, take, length, get_or, map, Some, None, Option, codes, refl, sym, ap, subst, ◌∙◌, arith, IfOk, OnOk, Result, Ok, Err, decimal, slice_get, All, flat_map}
+use Rattle.vic_answer.proofs.Words.{HasWrittenPrefix, append_cancel_left, length-map, map-append, lines_of_text, LogValue, entries, listed, IsFirstFault, IsVerdict, Impossible, Reconciling, RunFault, Status, AllGoing, AllRead, WritesAnswer, AreComplete, EndsAt, HasLog, HasPossibleLog, IsKept, IsReconciled, lines_of, absent_line, doubtful_text, ending_text, findings_text, reconciled_status, reconciled_text, unlisted_text}
+use Rattle.std.specs.List.{AllZip}
 use Rattle.std.proofs.lemmas.List.Elements.{All-cons, All-head, All-nil, All-tail}
-use Rattle.vic_log.specs.Lines.{lines_of_text}
-use Rattle.vic_log.specs.Log.{LogValue}
-use Rattle.vic_log.specs.Order.{entries, listed}
-use Rattle.vic_log.specs.Text.{IsFirstFault}
 use Rattle.vic_log.specs.declared.fault.LineFault.{LineFault}
-use Rattle.vic_verdict.specs.Verdict.{IsVerdict}
-use Rattle.vic_verdict.specs.declared.judging.Verdict.TheVariants.{Impossible}
 use Rattle.vic_reconcile.specs.Findings.{AreFindings, AreNone}
 use Rattle.vic_reconcile.specs.Joined.{IsJoined}
 use Rattle.vic_reconcile.specs.declared.findings.DoubtfulUid.{DoubtfulUid}
@@ -24,16 +16,11 @@ use Rattle.vic_reconcile.proofs.Joins.{get_end, zip_long, zip_push}
 use Rattle.vic_reconcile.proofs.Reconciling.{none_is_whole}
 use Rattle.vic_answer.specs.declared.ending.Ending.{Ending}
 use Rattle.vic_answer.specs.declared.ending.Ending.TheVariants.{ListRefusedAt, NotListedAt, RefusedAt, ImpossibleAt}
-use Rattle.vic_answer.specs.declared.reconcile.Reconciling.{Reconciling}
 use Rattle.vic_answer.specs.declared.reconcile.Reconciling.TheVariants as state
 use Rattle.vic_answer.specs.declared.reconcile.Reconciled.{Reconciled}
 use Rattle.vic_answer.specs.declared.reconcile.Reconciled.TheVariants.{Complete, Found, Ended}
-use Rattle.vic_answer.specs.declared.status.RunFault.{RunFault}
 use Rattle.vic_answer.specs.declared.status.RunFault.TheVariants.{Read, Write, Memory}
-use Rattle.vic_answer.specs.declared.status.Status.{Status}
-use Rattle.vic_answer.specs.ReconcileRun.{AllGoing, AllRead, WritesAnswer}
-use Rattle.vic_answer.specs.Reconciled.{AreComplete, EndsAt, HasLog, HasPossibleLog, IsKept, IsReconciled, lines_of}
-use Rattle.vic_answer.specs.ReconcileText.{absent_line, doubtful_text, ending_text, findings_text, reconciled_status, reconciled_text, unlisted_text, unsettled_text}
+use Rattle.vic_answer.specs.ReconcileText.{unsettled_text}
 
 -- one log more is kept
 pub kept_more : (list text : List ℕ) (texts : List (List ℕ)) (log : LogValue) (old new : Reconciliation) (k : IsKept list texts old) → HasLog text log

@@ -1,16 +1,11 @@
 -- Which number a word writes.
-use Rattle.std.proofs.Common.{◌≡◌, ◌^◌, ◌<◌, ◌&&◌, ℕ, Bool, true, false, List, [], ◌∷◌, length, slice_index, Result, Ok, Err, bytes_eq, nat_lt, decimal, arith, ap, refl, sym, ◌∙◌, lt-ltb, ltb-true}
-use Rattle.std.specs.Prelude.{if◌then◌else◌}
+use Rattle.std.proofs.Common.{◌≡◌, ◌^◌, ◌<◌, ◌&&◌, ℕ, Bool, true, false, List, [], ◌∷◌, length, slice_index, Result, Ok, Err, bytes_eq, nat_lt, decimal, arith, ap, refl, sym, ◌∙◌, lt-ltb, ltb-true, if◌then◌else◌}
+use Rattle.vic_answer.proofs.Words.{bytes_eq-Decides, decode_sized, FromHexError, hex_bytes, number_in, hex_number_in, hex_decoded, number_ending}
 use Rattle.std.specs.Str.Parse.{ParsesUnsigned, digits_value}
 use Rattle.std.proofs.lemmas.Fmt.{decimal_is_IsNumeral, parse-decimal}
-use Rattle.std.proofs.lemmas.Slice.Eq.{bytes_eq-Decides}
 use Rattle.vic_answer.specs.declared.spell.SpellFault.{SpellFault}
 use Rattle.vic_answer.specs.declared.spell.SpellFault.TheVariants.{Words}
-use Rattle.hex.specs.Hex.{decode_sized}
-use Rattle.hex.specs.declared.error.FromHexError.{FromHexError}
 use Rattle.hex.proofs.HexLemmas.{decode_sized-ok, decode_sized-twice, decode_of-ok}
-use Rattle.vic_answer.specs.Digits.{hex_bytes}
-use Rattle.vic_answer.specs.SpellText.{number_in, hex_number_in, hex_decoded, number_ending}
 
 both : (b c : Bool) → b ≡ true → c ≡ true → (b && c) ≡ true
 both b c e f = rw (e, f) refl

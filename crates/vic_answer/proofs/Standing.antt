@@ -1,14 +1,9 @@
 -- From what reading returns to what a run answers.
 use Rattle.std.proofs.Common.{◌≡◌, ℕ, List, Option, Result, Ok, Err, IfOk, IfErr, OnOk, inl, inr, subst, sym}
-use Rattle.std.specs.Io.KnownBytes.{Appends}
-use Rattle.vic_log.specs.Device.{HasTakenPrefix}
+use Rattle.vic_answer.proofs.Words.{Appends, HasTakenPrefix, RunFault, Status, GivesReading, Stands, IsEnough, RunsWhere}
 use Rattle.vic_answer.specs.declared.input.Reading.{Reading}
 use Rattle.vic_answer.specs.declared.input.Reading.TheVariants.{Given, RefusedAt}
-use Rattle.vic_answer.specs.declared.status.RunFault.{RunFault}
 use Rattle.vic_answer.specs.declared.status.RunFault.TheVariants.{Read, Write, Memory}
-use Rattle.vic_answer.specs.declared.status.Status.{Status}
-use Rattle.vic_answer.specs.Readings.{GivesReading, Stands}
-use Rattle.vic_answer.specs.Runs.{IsEnough, RunsWhere}
 
 -- bytes whose reading stands can be answered
 pub enough : (IsOver : Type 0) (text : List ℕ) (reading : Reading) → Stands IsOver text reading → IsEnough IsOver text

@@ -1,17 +1,12 @@
 -- Sources are read in turn.
 use Rattle.std.proofs.Common.{◌≡◌, ℕ, zero, suc, ◌+◌, ◌<◌, ◌≤◌, List, [], ◌∷◌, ◌++◌, length, get_or, set, Bool, true, sym, subst, ◌∙◌, arith, inl, inr}
+use Rattle.vic_answer.proofs.Words.{get_or-set_other, get_or-set_same, get_or_append_left, get_or_default, length-append, LogValue, AllGoing, HasReadText, ReadsListAndLogs, ReadsTexts, Reconciles, AreComplete, HasLog, IsReconciled, IsReconciling, ReadsText, IsEnough, Reconciling}
 use Rattle.std.proofs.lemmas.Bool.{cases_lt}
-use Rattle.std.proofs.lemmas.List.{get_or-set_other, get_or-set_same, get_or_append_left, get_or_default, length-append}
 use Rattle.std.proofs.Math.Seq.{get_or-append_seam}
 use Rattle.std.specs.List.{AllZip}
-use Rattle.vic_log.specs.Log.{LogValue}
-use Rattle.vic_answer.specs.ReconcileRun.{AllGoing, HasReadText, ReadsListAndLogs, ReadsTexts, Reconciles}
-use Rattle.vic_answer.specs.Reconciled.{AreComplete, HasLog, IsReconciled, IsReconciling, ReadsText}
-use Rattle.vic_answer.specs.Runs.{IsEnough}
 use Rattle.vic_answer.specs.declared.ending.Ending.{Ending}
 use Rattle.vic_answer.specs.declared.reconcile.Reconciled.{Reconciled}
 use Rattle.vic_answer.specs.declared.reconcile.Reconciled.TheVariants.{Ended}
-use Rattle.vic_answer.specs.declared.reconcile.Reconciling.{Reconciling}
 use Rattle.vic_answer.specs.declared.reconcile.Reconciling.TheVariants as state
 use Rattle.vic_answer.proofs.CompleteRuns.{over}
 use Rattle.vic_answer.proofs.Reconciles.{answered_all}

@@ -1,15 +1,10 @@
 -- What was put behind bytes that wait, in turn.
-use Rattle.std.proofs.Common.{arith, OnOk, ◌≡◌, ◌+◌, ℕ, List, [], ◌++◌, length, length-append, take, None, Some, Option, Bool, Result, Ok, Err, refl, sym, ◌∙◌, ap, append_assoc, append-nil, subst}
+use Rattle.std.proofs.Common.{arith, OnOk, ◌≡◌, ◌+◌, ℕ, List, [], ◌++◌, length, length-append, take, None, Some, Option, Bool, Result, Ok, Err, refl, sym, ◌∙◌, ap, append_assoc, append-nil, subst, IsErr, IsErrAnd}
+use Rattle.vic_answer.proofs.Words.{take-append-le, Appends, HasTakenBut, HasTakenPrefix, RunFault, Writes}
 use Rattle.std.specs.Prelude.{⊤}
-use Rattle.std.specs.Result.{IsErr, IsErrAnd}
 use Rattle.std.proofs.KnownBytes.{Appends-trans, Appends-nil}
-use Rattle.std.proofs.lemmas.List.{take-append-le}
 use Rattle.std.proofs.Math.Seq.{take-append-add}
-use Rattle.std.specs.Io.KnownBytes.{Appends}
-use Rattle.vic_log.specs.Device.{HasTakenBut, HasTakenPrefix}
-use Rattle.vic_answer.specs.declared.status.RunFault.{RunFault}
 use Rattle.vic_answer.specs.inner.Pieces.{PutsBehind, Puts}
-use Rattle.vic_answer.specs.Runs.{Writes}
 
 -- a text behind a text
 more_waits : (a b c : Option (List ℕ)) (w w' w'' xs ys : List ℕ) → HasTakenBut a b w' (w ++ xs) → HasTakenBut b c w'' (w' ++ ys) → HasTakenBut a c w'' (w ++ (xs ++ ys))

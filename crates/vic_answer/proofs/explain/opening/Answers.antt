@@ -1,8 +1,7 @@
-use Rattle.std.proofs.Common.{◌≡◌, List, ℕ, [], ◌++◌, Some, length, ap, sym, ◌∙◌, append_assoc, arith}
-use Rattle.std.specs.Option.{option_map, unwrap_or}
+use Rattle.std.proofs.Common.{◌≡◌, List, ℕ, [], ◌++◌, Some, length, ap, sym, ◌∙◌, append_assoc, arith, option_map, unwrap_or}
+use Rattle.vic_answer.proofs.Words.{answer_line}
 use Rattle.vic_log.specs.Writing.{listed_text}
 use Rattle.vic_answer.specs.declared.explain.Explained.{Explained}
-use Rattle.vic_answer.specs.CheckText.{answer_line}
 use Rattle.vic_answer.specs.ExplainText.{answer_of, population_of, population_line, population_text, explained_text, uids_of}
 use Rattle.vic_answer.proofs.explain.opening.Goals as goal
 

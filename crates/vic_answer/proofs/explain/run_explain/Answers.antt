@@ -1,5 +1,5 @@
 use Rattle.std.proofs.Common.{refl, Some}
-use Rattle.vic_answer.specs.CheckText.{answer_status}
+use Rattle.vic_answer.proofs.Words.{answer_status}
 use Rattle.vic_answer.specs.ExplainText.{IsExplanationOf, answer_of, explained_text}
 use Rattle.vic_answer.proofs.CheckLines.{explanation_tells}
 use Rattle.vic_answer.proofs.CompleteRuns.{complete_where_said, complete_where_written}

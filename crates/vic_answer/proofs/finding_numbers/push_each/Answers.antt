@@ -1,5 +1,5 @@
 use Rattle.std.proofs.Common.{◌≡◌, ◌<◌, ◌+◌, ℕ, List, [], ◌∷◌, ◌++◌, take, length, map, get_or, sym, ap, ◌∙◌, append_assoc, arith}
-use Rattle.std.proofs.lemmas.List.{map-append, take_more, take_all}
+use Rattle.vic_answer.proofs.Words.{map-append, take_more, take_all}
 use Rattle.vic_answer.specs.declared.finding_numbers.VicinityFinding.{VicinityFinding}
 use Rattle.vic_answer.proofs.finding_numbers.push_each.Goals as goal
 

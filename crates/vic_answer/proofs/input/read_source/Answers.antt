@@ -1,13 +1,9 @@
 use Rattle.std.proofs.Common.{◌≡◌, ℕ, List, Option, Some, None, Err, inl, inr, ⊎_elim, subst}
-use Rattle.std.specs.Io.KnownBytes.{Consumes}
+use Rattle.vic_answer.proofs.Words.{Consumes, HandsOut, TellsOn, lines_of_text, IsFirstFault, Stands}
 use Rattle.vic_log.specs.declared.fault.LineFault.{LineFault}
 use Rattle.vic_log.specs.declared.fault.LogFault.{LogFault}
 use Rattle.vic_log.specs.declared.fault.LogFault.TheVariants.{Line, Read}
-use Rattle.vic_log.specs.Device.{HandsOut, TellsOn}
 use Rattle.vic_log.specs.Early.{HasNoEarlyFault, ReadsWhere}
-use Rattle.vic_log.specs.Lines.{lines_of_text}
-use Rattle.vic_log.specs.Text.{IsFirstFault}
-use Rattle.vic_answer.specs.Readings.{Stands}
 use Rattle.vic_answer.specs.declared.input.Reading.TheVariants.{RefusedAt}
 use Rattle.vic_answer.proofs.input.read_source.Goals as goal
 

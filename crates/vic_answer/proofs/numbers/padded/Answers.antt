@@ -1,5 +1,5 @@
 use Rattle.std.proofs.Common.{ℕ, List, ◌++◌, length, drop, replicate, ap, ◌∙◌}
-use Rattle.std.proofs.lemmas.List.{drop-replicate}
+use Rattle.vic_answer.proofs.Words.{drop-replicate}
 use Rattle.vic_answer.specs.declared.lines.TheConstants.{LINE_ROOM}
 use Rattle.vic_answer.proofs.numbers.padded.Goals as goal
 

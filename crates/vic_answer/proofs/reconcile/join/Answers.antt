@@ -1,13 +1,7 @@
-use Rattle.std.proofs.Common.{ℕ, List, [], ◌∷◌, ◌++◌, map, subst}
-use Rattle.std.specs.Prelude.{IfNone, IfSome}
-use Rattle.vic_log.specs.Order.{entries, listed}
-use Rattle.vic_log.specs.declared.entry.LogLine.{LogLine}
-use Rattle.vic_verdict.specs.Verdict.{IsVerdict}
-use Rattle.vic_verdict.specs.declared.judging.Verdict.TheVariants.{Impossible}
+use Rattle.std.proofs.Common.{ℕ, List, [], ◌∷◌, ◌++◌, map, subst, IfNone, IfSome}
+use Rattle.vic_answer.proofs.Words.{entries, listed, LogLine, IsVerdict, Impossible, IsReading, lines_of}
 use Rattle.vic_reconcile.specs.Joined.{IsJoined}
 use Rattle.vic_reconcile.specs.declared.reconciliation.Reconciliation.{Reconciliation}
-use Rattle.vic_answer.specs.Readings.{IsReading}
-use Rattle.vic_answer.specs.Reconciled.{lines_of}
 use Rattle.vic_answer.proofs.Reconciles.{ends_impossible, ends_refused, kept_long, kept_more}
 use Rattle.vic_answer.proofs.reconcile.join.Goals as goal
 

@@ -1,7 +1,5 @@
-use Rattle.std.proofs.Common.{◌≡◌, ◌++◌}
-use Rattle.std.specs.Prelude.{take}
-use Rattle.std.specs.List.{flat_map}
-use Rattle.vic_answer.specs.ReconcileText.{absent_line}
+use Rattle.std.proofs.Common.{◌≡◌, ◌++◌, take, flat_map}
+use Rattle.vic_answer.proofs.Words.{absent_line}
 use Rattle.vic_answer.proofs.reconcile_lines.add_absent.Given as goal
 
 abbrev pub invariant-loop-uid : goal.invariant-loop-uid

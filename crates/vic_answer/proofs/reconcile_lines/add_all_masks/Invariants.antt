@@ -1,6 +1,5 @@
-use Rattle.std.proofs.Common.{◌≡◌, ◌++◌, map}
-use Rattle.std.specs.Prelude.{string_bytes, take}
-use Rattle.vic_answer.specs.ReconcileText.{all_masks_text}
+use Rattle.std.proofs.Common.{◌≡◌, ◌++◌, map, string_bytes, take}
+use Rattle.vic_answer.proofs.Words.{all_masks_text}
 use Rattle.vic_answer.proofs.reconcile_lines.add_all_masks.Given as goal
 
 abbrev pub invariant-loop-log : goal.invariant-loop-log

@@ -1,7 +1,5 @@
-use Rattle.std.proofs.Common.{◌≡◌, ◌++◌, map}
-use Rattle.std.specs.Prelude.{string_bytes, take}
-use Rattle.std.specs.List.{flat_map}
-use Rattle.vic_answer.specs.ReconcileText.{unlisted_text}
+use Rattle.std.proofs.Common.{◌≡◌, ◌++◌, map, string_bytes, take, flat_map}
+use Rattle.vic_answer.proofs.Words.{unlisted_text}
 use Rattle.vic_answer.proofs.reconcile_lines.add_unlisted.Given as goal
 
 abbrev pub invariant-loop-one : goal.invariant-loop-one

@@ -1,7 +1,5 @@
 use Rattle.std.proofs.Common.{ℕ, ◌≡◌, ◌<◌, length, subst, arith}
-use Rattle.vic_answer.specs.ReconcileRun.{AllGoing}
-use Rattle.vic_answer.specs.Reconciled.{IsReconciling}
-use Rattle.vic_answer.specs.declared.reconcile.Reconciling.{Reconciling}
+use Rattle.vic_answer.proofs.Words.{AllGoing, IsReconciling, Reconciling}
 use Rattle.vic_answer.specs.declared.reconcile.Reconciling.TheVariants.{Going, Ended}
 use Rattle.vic_answer.proofs.Turns.{all_read, one_more}
 use Rattle.vic_answer.proofs.reconcile_run.read_logs.Goals as goal

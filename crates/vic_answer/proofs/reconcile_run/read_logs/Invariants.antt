@@ -1,6 +1,5 @@
 use Rattle.std.proofs.Common.{◌≡◌, ℕ, List, [], true}
-use Rattle.vic_answer.specs.Reconciled.{IsReconciling}
-use Rattle.vic_answer.specs.Runs.{IsEnough}
+use Rattle.vic_answer.proofs.Words.{IsReconciling, IsEnough}
 use Rattle.vic_answer.proofs.Turns.{HaveRead}
 use Rattle.vic_answer.proofs.reconcile_run.read_logs.Given as goal
 

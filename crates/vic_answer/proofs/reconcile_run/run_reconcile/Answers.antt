@@ -1,7 +1,5 @@
-use Rattle.std.proofs.Common.{length, Result, Ok, Err}
-use Rattle.std.specs.Prelude.{OnOk}
-use Rattle.vic_answer.specs.ReconcileRun.{AllRead}
-use Rattle.vic_answer.specs.Reconciled.{IsReconciled}
+use Rattle.std.proofs.Common.{length, Result, Ok, Err, OnOk}
+use Rattle.vic_answer.proofs.Words.{AllRead, IsReconciled}
 use Rattle.vic_answer.proofs.Reconciles.{all_where_complete, writes_answer}
 use Rattle.vic_answer.proofs.Turns.{read_to_ends, reconciles}
 use Rattle.vic_answer.proofs.reconcile_run.run_reconcile.Goals as goal

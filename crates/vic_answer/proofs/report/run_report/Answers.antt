@@ -1,6 +1,5 @@
 use Rattle.std.proofs.Common.{refl, Some}
-use Rattle.vic_answer.specs.CheckText.{answer_status}
-use Rattle.vic_answer.specs.ReportText.{IsReportOf, answer_of, reported_text}
+use Rattle.vic_answer.proofs.Words.{answer_status, IsReportOf, answer_of, reported_text}
 use Rattle.vic_answer.proofs.CheckLines.{report_tells}
 use Rattle.vic_answer.proofs.CompleteRuns.{complete_where_said, complete_where_written}
 use Rattle.vic_answer.proofs.Standing.{ends_written}

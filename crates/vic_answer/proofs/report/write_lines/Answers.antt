@@ -1,5 +1,5 @@
 use Rattle.std.proofs.Common.{subst}
-use Rattle.vic_answer.specs.Runs.{Writes}
+use Rattle.vic_answer.proofs.Words.{Writes}
 use Rattle.vic_answer.proofs.Waiting.{Writes-behind}
 use Rattle.vic_answer.proofs.report.write_lines.Goals as goal
 

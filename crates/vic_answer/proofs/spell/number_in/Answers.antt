@@ -1,5 +1,5 @@
 use Rattle.std.proofs.Common.{◌≡◌, ◌∙◌, arith, sym}
-use Rattle.std.proofs.lemmas.Slice.Eq.{bytes_eq-Decides}
+use Rattle.vic_answer.proofs.Words.{bytes_eq-Decides}
 use Rattle.vic_answer.proofs.SpelledWords.{number_refused, number_found}
 use Rattle.vic_answer.proofs.spell.number_in.Goals as goal
 

@@ -1,7 +1,6 @@
 use Rattle.std.proofs.Common.{◌≡◌, ℕ, List, sym, subst}
+use Rattle.vic_answer.proofs.Words.{BitMask, LogLine}
 use Rattle.std.proofs.lemmas.Result.{IfOk-weaker}
-use Rattle.vic_frame.specs.Masks.{BitMask}
-use Rattle.vic_log.specs.declared.entry.LogLine.{LogLine}
 use Rattle.vic_reconcile.specs.declared.surveys.Survey.{Survey}
 use Rattle.vic_reconcile.specs.Surveys.{AreOpenIn, IsSurvey}
 use Rattle.vic_answer.specs.declared.survey.Surveyed.{Surveyed}
