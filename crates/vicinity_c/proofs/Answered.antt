@@ -1,19 +1,14 @@
 -- What is answered to arrays, and the kinds of these answers.
 use Rattle.std.proofs.Common.{◌≡◌, ℕ, List, [], ◌∷◌, Option, Some, None, length, map, refl, sym, ap, subst, ◌∙◌, arith, inl, inr}
-use Rattle.vic_frame.specs.Masks.{BitMask}
+use Rattle.vicinity_c.proofs.Words.{BitMask, AreNoneOf, AreTogether, IsAmong, MayBe, IsPutInto, first_of, plain_answer, VicinityMask, HaveNoFault, faults_of, mask_in}
 use Rattle.vic_log.specs.declared.entry.LogLine.{LogLine}
 use Rattle.vic_reconcile.specs.declared.surveys.PlainFindings.{PlainFindings}
 use Rattle.vic_reconcile.specs.Families.{IsCertainUid, IsPossibleUid}
 use Rattle.vic_reconcile.specs.Findings.{IsWhole}
-use Rattle.vic_reconcile.specs.Surveys.{AreNoneOf, AreTogether, IsAmong, MayBe}
 use Rattle.vic_answer.specs.declared.check.Answer.TheVariants.{Judged}
 use Rattle.vic_answer.specs.declared.finding_numbers.VicinityFinding.{VicinityFinding}
 use Rattle.vic_answer.specs.declared.numbers.VicinityAnswer.{VicinityAnswer}
-use Rattle.vic_answer.specs.ExplainedNumbers.{IsPutInto}
 use Rattle.vic_answer.specs.Numbers.{numbers_of}
-use Rattle.vic_answer.specs.SurveyNumbers.{first_of, plain_answer}
-use Rattle.vicinity_c.specs.declared.inventory.VicinityMask.{VicinityMask}
-use Rattle.vicinity_c.specs.Arrays.{HaveNoFault, faults_of, mask_in}
 use Rattle.vicinity_c.specs.Reconciled.{AreReconciled, AreRefused, IsReconciledBy}
 
 -- ---- the kinds of the answers

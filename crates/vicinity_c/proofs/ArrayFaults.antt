@@ -1,21 +1,15 @@
 -- The first fault of arrays.
-use Rattle.std.proofs.Common.{◌≡◌, ◌≢◌, ℕ, zero, suc, ◌+◌, ◌<◌, ◌≤◌, List, [], ◌∷◌, ◌++◌, Bool, true, false, ◌||◌, cond, length, map, take, Some, refl, sym, ap, subst, ◌∙◌, ⊎_elim, arith, append-nil, append_assoc, length-append}
+use Rattle.std.proofs.Common.{◌≡◌, ◌≢◌, ℕ, zero, suc, ◌+◌, ◌<◌, ◌≤◌, List, [], ◌∷◌, ◌++◌, Bool, true, false, ◌||◌, cond, length, map, take, Some, refl, sym, ap, subst, ◌∙◌, ⊎_elim, arith, append-nil, append_assoc, length-append, nat_cmp, nat_eq, slice_get}
+use Rattle.vicinity_c.proofs.Words.{length-map, take-append-le, take_all, take_more, get_or_from_slice_get, slice_get_within, IsUid, has, VicinityMask, HaveNoFault, IsFirst, expected_fault, expected_faults, faults_behind, faults_of, mask_fault, uid_fault}
 use Rattle.std.specs.BTreeMap.{is_at}
-use Rattle.std.specs.Ordering.{nat_cmp}
-use Rattle.std.specs.Prelude.{nat_eq, slice_get}
 use Rattle.std.proofs.lemmas.Bool.{cases_eq, false_from_ne_true, false≢true, or_right}
 use Rattle.std.proofs.lemmas.Grind.{common_steps}
 use Rattle.std.proofs.lemmas.List.Folds.{list_any-append}
-use Rattle.std.proofs.lemmas.List.{length-map, take-append-le, take_all, take_more}
 use Rattle.std.proofs.lemmas.List.Elements.{All-append, All-push}
 use Rattle.std.proofs.Math.Bool.{or-false}
 use Rattle.std.proofs.Math.Seq.{take-append-add}
-use Rattle.std.proofs.lemmas.Option.{get_or_from_slice_get, slice_get_within}
-use Rattle.vic_frame.specs.Uids.{IsUid, has}
 use Rattle.vic_log.proofs.Sets.{has_at, has_cases}
 use Rattle.vic_log.proofs.Supply.{is_uid_from}
-use Rattle.vicinity_c.specs.declared.inventory.VicinityMask.{VicinityMask}
-use Rattle.vicinity_c.specs.Arrays.{HaveNoFault, IsFirst, expected_fault, expected_faults, faults_behind, faults_of, mask_fault, uid_fault}
 
 -- ---- one list of faults behind another
 

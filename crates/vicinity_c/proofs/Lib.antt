@@ -1,3 +1,4 @@
+pub mod Words
 mod CrcBytes
 mod ListedLines
 mod ArrayFaults

@@ -1,10 +1,9 @@
 -- UIDs on lines after a text.
-use Rattle.std.proofs.Common.{◌≡◌, ℕ, ◌+◌, ◌<◌, suc, List, [], ◌∷◌, ◌++◌, length, drop, drop-cons, slice_index, ap, sym, ◌∙◌, append_assoc, append-nil, arith}
-use Rattle.std.proofs.lemmas.List.{drop_all}
-use Rattle.std.specs.Int.{to_be_bytes, w64}
+use Rattle.std.proofs.Common.{◌≡◌, ℕ, ◌+◌, ◌<◌, suc, List, [], ◌∷◌, ◌++◌, length, drop, drop-cons, slice_index, ap, sym, ◌∙◌, append_assoc, append-nil, arith, w64}
+use Rattle.vicinity_c.proofs.Words.{drop_all, entry_text, listed_text}
+use Rattle.std.specs.Int.{to_be_bytes}
 use Rattle.vic_log.specs.declared.entry.Entry.TheVariants.{Listed}
 use Rattle.vic_log.specs.Lines.{lf}
-use Rattle.vic_log.specs.Writing.{entry_text, listed_text}
 use Rattle.vicinity_c.specs.Lines.{bytes_line}
 
 -- one line more

@@ -1,9 +1,7 @@
-use Rattle.std.proofs.Common.{◌≡◌, ◌<◌, true, false, cond, length, ap, sym, subst, ◌∙◌, arith}
+use Rattle.std.proofs.Common.{◌≡◌, ◌<◌, true, false, cond, length, ap, sym, subst, ◌∙◌, arith, nat_cmp}
+use Rattle.vicinity_c.proofs.Words.{contains, has}
 use Rattle.std.specs.BTreeMap.{is_at}
-use Rattle.std.specs.BTreeSet.{contains}
-use Rattle.std.specs.Ordering.{nat_cmp}
 use Rattle.std.proofs.lemmas.Bool.{not-true}
-use Rattle.vic_frame.specs.Uids.{has}
 use Rattle.vicinity_c.proofs.ArrayFaults.{expected_sound, seen_more}
 use Rattle.vicinity_c.proofs.arrays.expected_uid.Goals as goal
 

@@ -1,10 +1,5 @@
-use Rattle.std.proofs.Common.{◌≡◌, Ok, Err, Some, ◌∷◌, [], ◌++◌, get_or, length, take, ap, sym, subst, ◌∙◌, arith}
-use Rattle.std.specs.BTreeSet.{contains}
-use Rattle.std.specs.Ordering.{nat_cmp}
-use Rattle.std.proofs.lemmas.List.{length-take-le, take_all, take_more}
-use Rattle.std.proofs.lemmas.Option.{slice_get-get_or}
-use Rattle.vic_frame.specs.Uids.{has}
-use Rattle.vicinity_c.specs.Arrays.{IsNextRead, expected_fault, expected_faults}
+use Rattle.std.proofs.Common.{◌≡◌, Ok, Err, Some, ◌∷◌, [], ◌++◌, get_or, length, take, ap, sym, subst, ◌∙◌, arith, nat_cmp}
+use Rattle.vicinity_c.proofs.Words.{contains, length-take-le, take_all, take_more, slice_get-get_or, has, IsNextRead, expected_fault, expected_faults}
 use Rattle.vicinity_c.proofs.ArrayFaults.{expected_get, length_expected, none_all, none_next}
 use Rattle.vicinity_c.proofs.arrays.expected_uids.Goals as goal
 

@@ -1,9 +1,6 @@
-use Rattle.std.proofs.Common.{◌≡◌, ℕ, ◌≤◌, take}
-use Rattle.std.specs.BTreeSet.{contains}
-use Rattle.std.specs.Ordering.{nat_cmp}
-use Rattle.vic_frame.specs.Uids.{has}
+use Rattle.std.proofs.Common.{◌≡◌, ℕ, ◌≤◌, take, nat_cmp}
+use Rattle.vicinity_c.proofs.Words.{contains, has, HaveNoFault, expected_faults}
 use Rattle.vicinity_c.specs.declared.arrays.TheConstants.{MOST}
-use Rattle.vicinity_c.specs.Arrays.{HaveNoFault, expected_faults}
 use Rattle.vicinity_c.proofs.arrays.expected_uids.Given as goal
 
 abbrev pub invariant-loop-index : goal.invariant-loop-index

@@ -1,5 +1,5 @@
 use Rattle.std.proofs.Common.{◌≡◌, map, take}
-use Rattle.vicinity_c.specs.Arrays.{HaveNoFault, mask_fault, mask_in}
+use Rattle.vicinity_c.proofs.Words.{HaveNoFault, mask_fault, mask_in}
 use Rattle.vicinity_c.proofs.arrays.open_masks.Given as goal
 
 abbrev pub invariant-loop-index : goal.invariant-loop-index

@@ -1,6 +1,6 @@
-use Rattle.std.proofs.Common.{◌≡◌, ℕ, ◌+◌, List, ◌++◌, drop, slice_index, ap, ◌∙◌}
-use Rattle.std.specs.Int.{to_be_bytes, w64}
-use Rattle.vic_log.specs.Writing.{listed_text}
+use Rattle.std.proofs.Common.{◌≡◌, ℕ, ◌+◌, List, ◌++◌, drop, slice_index, ap, ◌∙◌, w64}
+use Rattle.vicinity_c.proofs.Words.{listed_text}
+use Rattle.std.specs.Int.{to_be_bytes}
 use Rattle.vicinity_c.specs.Lines.{bytes_line}
 use Rattle.vicinity_c.proofs.ListedLines.{next_uid}
 use Rattle.vicinity_c.proofs.lines.with_listed.Goals as goal

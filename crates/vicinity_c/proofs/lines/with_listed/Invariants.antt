@@ -1,5 +1,5 @@
 use Rattle.std.proofs.Common.{◌≡◌, ◌++◌, drop}
-use Rattle.vic_log.specs.Writing.{listed_text}
+use Rattle.vicinity_c.proofs.Words.{listed_text}
 use Rattle.vicinity_c.proofs.lines.with_listed.Given as goal
 
 abbrev pub invariant-loop-uid : goal.invariant-loop-uid

@@ -1,13 +1,10 @@
 use Rattle.std.proofs.Common.{◌≡◌, ℕ, List, length, map, ap, subst, ◌∙◌}
-use Rattle.vic_frame.specs.Masks.{BitMask}
+use Rattle.vicinity_c.proofs.Words.{BitMask, AreFindingsBy, AreNoneOf, AreTogether, IsAmong, MayBe, plain_answer, mask_in}
 use Rattle.vic_log.specs.declared.entry.LogLine.{LogLine}
 use Rattle.vic_reconcile.specs.declared.surveys.PlainFindings.{PlainFindings}
 use Rattle.vic_reconcile.specs.Families.{IsCertainUid, IsPossibleUid}
 use Rattle.vic_reconcile.specs.Findings.{IsWhole}
-use Rattle.vic_reconcile.specs.Surveys.{AreFindingsBy, AreNoneOf, AreTogether, IsAmong, MayBe}
 use Rattle.vic_answer.specs.Numbers.{numbers_of}
-use Rattle.vic_answer.specs.SurveyNumbers.{plain_answer}
-use Rattle.vicinity_c.specs.Arrays.{mask_in}
 use Rattle.vicinity_c.proofs.reconciled.compare_arrays.Goals as goal
 
 -- what the findings of arrays are

@@ -1,7 +1,6 @@
 use Rattle.std.proofs.Common.{◌≡◌, ap, inl, inr, refl, sym, subst, ◌∙◌}
+use Rattle.vicinity_c.proofs.Words.{refusal_numbers, AreRead, IsFirstFault, faults_of}
 use Rattle.std.proofs.lemmas.Result.{IfOk-weaker}
-use Rattle.vic_answer.specs.SurveyNumbers.{refusal_numbers}
-use Rattle.vicinity_c.specs.Arrays.{AreRead, IsFirstFault, faults_of}
 use Rattle.vicinity_c.specs.Names.{fault_name}
 use Rattle.vicinity_c.specs.Reconciled.{AreRefused}
 use Rattle.vicinity_c.proofs.reconciled.reconcile_arrays.Goals as goal

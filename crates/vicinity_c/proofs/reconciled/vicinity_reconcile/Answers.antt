@@ -1,5 +1,5 @@
 use Rattle.std.proofs.Common.{length, ap, subst, ◌∙◌}
-use Rattle.vic_answer.specs.ExplainedNumbers.{IsPutInto}
+use Rattle.vicinity_c.proofs.Words.{IsPutInto}
 use Rattle.vicinity_c.proofs.Answered.{answered, count_where_complete, found_by_arrays, found_by_logs, no_fault, put_nothing, refused, whole_where_complete}
 use Rattle.vicinity_c.proofs.reconciled.vicinity_reconcile.Goals as goal
 

@@ -1,5 +1,5 @@
 use Rattle.std.proofs.Common.{◌≡◌, ◌++◌, take, drop, map}
-use Rattle.vicinity_c.specs.Inventory.{mask_fields}
+use Rattle.vicinity_c.proofs.Words.{mask_fields}
 use Rattle.vicinity_c.proofs.surveys.copy_masks.Given as goal
 
 abbrev pub invariant-loop-index : goal.invariant-loop-index

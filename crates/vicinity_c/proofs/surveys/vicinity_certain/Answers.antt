@@ -1,8 +1,5 @@
 use Rattle.std.proofs.Common.{refl, sym, subst}
-use Rattle.std.proofs.lemmas.List.{map-id}
-use Rattle.vic_reconcile.specs.Surveys.{AreCertainIn}
-use Rattle.vic_answer.specs.ExplainedNumbers.{IsPutInto}
-use Rattle.vic_answer.specs.SurveyNumbers.{IsAnswerWith}
+use Rattle.vicinity_c.proofs.Words.{map-id, AreCertainIn, IsPutInto, IsAnswerWith}
 use Rattle.vicinity_c.proofs.surveys.vicinity_certain.Goals as goal
 
 pub returns-clause-certain : goal.returns-clause-certain

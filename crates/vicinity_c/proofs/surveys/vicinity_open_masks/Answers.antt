@@ -1,9 +1,5 @@
 use Rattle.std.proofs.Common.{List, map, sym, subst, ◌∙◌}
-use Rattle.vic_frame.specs.Masks.{BitMask}
-use Rattle.vic_reconcile.specs.Surveys.{AreOpenIn}
-use Rattle.vic_answer.specs.ExplainedNumbers.{IsPutInto}
-use Rattle.vic_answer.specs.SurveyNumbers.{IsAnswerWith}
-use Rattle.vicinity_c.specs.Inventory.{mask_fields}
+use Rattle.vicinity_c.proofs.Words.{BitMask, AreOpenIn, IsPutInto, IsAnswerWith, mask_fields}
 use Rattle.vicinity_c.proofs.surveys.vicinity_open_masks.Goals as goal
 
 pub returns-clause-open_masks : goal.returns-clause-open_masks
