@@ -1,7 +1,9 @@
 -- What a list and logs say together, text by text.
-use Rattle.std.proofs.Common.{◌≡◌, ℕ, zero, suc, List, [], ◌∷◌, ◌++◌, take, length, get_or, map, Some, None, Option, codes, refl, sym, ap, subst, ◌∙◌, arith, IfOk, OnOk, Result, Ok, Err, decimal, slice_get, All, flat_map}
+use Rattle.std.proofs.Common.{◌≡◌, ℕ, List, [], ◌∷◌, ◌++◌, take, length, get_or, map, Some, None, Option, codes, refl, sym, ap, subst, ◌∙◌, arith, IfOk, OnOk, Result, Ok, Err, decimal, slice_get, All, flat_map}
 use Rattle.vic_answer.proofs.Words.{HasWrittenPrefix, append_cancel_left, length-map, map-append, lines_of_text, LogValue, entries, listed, IsFirstFault, IsVerdict, Impossible, Reconciling, RunFault, Status, AllGoing, AllRead, WritesAnswer, AreComplete, EndsAt, HasLog, HasPossibleLog, IsKept, IsReconciled, lines_of, absent_line, doubtful_text, ending_text, findings_text, reconciled_status, reconciled_text, unlisted_text}
 use Rattle.std.specs.List.{AllZip}
+use Rattle.std.proofs.Math.Seq.{take-append_seam}
+use Rattle.std.proofs.lemmas.Slice.Zip.{AllZip-long, all_zipped_more}
 use Rattle.std.proofs.lemmas.List.Elements.{All-cons, All-head, All-nil, All-tail}
 use Rattle.vic_log.specs.declared.fault.LineFault.{LineFault}
 use Rattle.vic_reconcile.specs.Findings.{AreFindings, AreNone}
@@ -12,7 +14,7 @@ use Rattle.vic_reconcile.specs.declared.findings.UnlistedUid.{UnlistedUid}
 use Rattle.vic_reconcile.specs.declared.findings.Unsettled.{Unsettled}
 use Rattle.vic_reconcile.specs.declared.reconciliation.Reconciliation.{Reconciliation}
 use Rattle.vic_reconcile.proofs.Families.{IsPossibleLog, family_of}
-use Rattle.vic_reconcile.proofs.Joins.{get_end, zip_long, zip_push}
+use Rattle.vic_log.proofs.Places.{slice_get_seam}
 use Rattle.vic_reconcile.proofs.Reconciling.{none_is_whole}
 use Rattle.vic_answer.specs.declared.ending.Ending.{Ending}
 use Rattle.vic_answer.specs.declared.ending.Ending.TheVariants.{ListRefusedAt, NotListedAt, RefusedAt, ImpossibleAt}
@@ -30,7 +32,7 @@ kept_more list text texts log old new k has_log joined = record {
   is_list = k.is_list;
   listed_alone = k.listed_alone;
   logs = k.logs ++ log ∷ [];
-  are_logs = zip_push HasLog texts k.logs text log k.are_logs has_log;
+  are_logs = all_zipped_more HasLog texts k.logs text log k.are_logs has_log;
   joined = subst (λ ls. IsJoined (listed (entries k.expected.lines)) ls new) (sym (map-append lines_of k.logs (log ∷ []))) joined;
 }
 
@@ -41,22 +43,16 @@ possible_texts (t ∷ texts) (l ∷ logs) z all =
     All-cons HasPossibleLog t texts (l, z.0, All-head IsPossibleLog l.lines (map lines_of logs) all)
     (possible_texts texts logs z.1 (All-tail IsPossibleLog l.lines (map lines_of logs) all))
 
-take_front : {X : Type 0} (xs ys : List X) (n : ℕ) → n ≡ length xs → take n (xs ++ ys) ≡ xs
-take_front [] ys zero e = refl
-take_front [] ys (suc n) e = cc
-take_front (x ∷ xs) ys zero e = cc
-take_front (x ∷ xs) ys (suc n) e = ap (λ zs. x ∷ zs) (take_front xs ys n (omega (arith, e)))
-
 -- the logs before one are those that are kept
 kept_before : (list text : List ℕ) (texts : List (List ℕ)) (r : Reconciliation) (n : ℕ) → IsKept list texts r → n ≡ length texts → All HasPossibleLog (take n (texts ++ text ∷ []))
-kept_before list text texts r n k e = subst (All HasPossibleLog) (sym (take_front texts (text ∷ []) n e)) (possible_texts texts k.logs k.are_logs k.joined.possible)
+kept_before list text texts r n k e = rw (e, take-append_seam texts (text ∷ [])) (possible_texts texts k.logs k.are_logs k.joined.possible)
 
 -- as many logs are kept as texts were read
 pub kept_long : (list : List ℕ) (texts : List (List ℕ)) (r : Reconciliation) (n : ℕ) (k : IsKept list texts r) → n ≡ length (map lines_of k.logs) → n ≡ length texts
-kept_long list texts r n k e = e ∙ (length-map k.logs lines_of ∙ sym (zip_long HasLog texts k.logs k.are_logs))
+kept_long list texts r n k e = e ∙ (length-map k.logs lines_of ∙ AllZip-long HasLog texts k.logs k.are_logs)
 
 last_there : (texts : List (List ℕ)) (text : List ℕ) (n : ℕ) → n ≡ length texts → slice_get (texts ++ text ∷ []) n ≡ Some text
-last_there texts text n e = subst (λ m. slice_get (texts ++ text ∷ []) m ≡ Some text) (sym e) (get_end texts text)
+last_there texts text n e = subst (λ m. slice_get (texts ++ text ∷ []) m ≡ Some text) (sym e) (slice_get_seam texts text [])
 
 pub ends_refused : (list text : List ℕ) (texts : List (List ℕ)) (r : Reconciliation) (n line : ℕ) (fault : LineFault) → IsKept list texts r → n ≡ length texts → IsFirstFault (lines_of_text text) line fault → EndsAt list (texts ++ text ∷ []) (RefusedAt n line fault)
 ends_refused list text texts r n line fault k e h = ((k.expected, k.is_list, k.listed_alone), kept_before list text texts r n k e, (text, last_there texts text n e, h))

@@ -1,6 +1,7 @@
 -- Words that spell something are the words that `frame` writes of it.
 use Rattle.std.proofs.Common.{◌≡◌, ℕ, zero, suc, ◌+◌, ◌%◌, ◌^◌, ◌==◌, ◌&&◌, Bool, true, false, List, [], ◌∷◌, length, Result, Ok, Err, bytes_eq, nat_lt, nat_le, codes, decimal, arith, ap, refl, sym, ◌∙◌, if◌then◌else◌, eqb-true}
 use Rattle.vic_answer.proofs.Words.{bytes_eq-Decides, decode_sized, FromHexError, BitMask, Reply, byte_count, hex_bytes, value_text, and_then, word, words_reading, words_of, request_words, reply_words, number_in, number_up_to, number_ending, hex_decoded, hex_number_in, sixteen_in, longest_mask, value_in, mask_in, inventory_in, stay_quiet_in, reply_in, reply_of, says_inventory, says_stay_quiet, says_reply}
+use Rattle.std.proofs.lemmas.Bool.{and_parts}
 use Rattle.std.specs.Fmt.{digits}
 use Rattle.std.specs.Str.Parse.{digits_value}
 use Rattle.vic_frame.specs.declared.request.Request.TheVariants.{Inventory, StayQuiet}
@@ -10,6 +11,7 @@ use Rattle.vic_answer.specs.declared.spell.Said.{Said}
 use Rattle.vic_answer.specs.declared.spell.Said.TheVariants.{Asked, Replied}
 use Rattle.vic_answer.specs.declared.spell.SpellFault.{SpellFault}
 use Rattle.vic_answer.specs.declared.spell.SpellFault.TheVariants.{Words, Range}
+use Rattle.vic_answer.proofs.SpelledWords.{if_ok}
 
 -- the words from position k on, so many of them
 words_from : ℕ → ℕ → List (List ℕ) → List (List ℕ)
@@ -30,29 +32,20 @@ all_words zero (w ∷ ws) e = absurd (omega (arith, e))
 all_words (suc n) [] e = absurd (omega (arith, e))
 all_words (suc n) (w ∷ ws) e = rw (one_later 0 n w ws) (ap (λ vs. w ∷ vs) (all_words n ws (omega (arith, e))))
 
-cons : {v w : List ℕ} {vs ws : List (List ℕ)} → v ≡ w → vs ≡ ws → v ∷ vs ≡ w ∷ ws
-cons e es = cc
-
 same : (v w : List ℕ) → bytes_eq v w ≡ true → v ≡ w
 same v w h = (bytes_eq-Decides v w).0 h
 
-both : (b c : Bool) → (b && c) ≡ true → (b ≡ true) × (c ≡ true)
-both true c h = (refl, h)
-both false c h = absurd (cc h)
+and_same : (b : Bool) (v w : List ℕ) → (b && bytes_eq v w) ≡ true → (b ≡ true) × (v ≡ w)
+and_same b v w h = let p = and_parts b (bytes_eq v w) h in (p.0, same v w p.1)
 
 then_ok : {A B : Type 0} (r : Result A SpellFault) (f : A → Result B SpellFault) (y : B) → and_then r f ≡ Ok y → (x : A) × (r ≡ Ok x) × (f x ≡ Ok y)
 then_ok (Ok x) f y h = (x, refl, h)
 then_ok (Err e) f y h = absurd (cc h)
 
-if_ok : {A : Type 0} (b : Bool) (x y : A) (e : SpellFault) → (let r : Result A SpellFault = if b then Ok x else Err e in r) ≡ Ok y → (b ≡ true) × (x ≡ y)
-if_ok true x y e h = (refl, cc h)
-if_ok false x y e h = absurd (cc h)
-
 number_word : (w : List ℕ) (n : ℕ) → number_in w ≡ Ok n → w ≡ decimal n
 number_word w n h =
     let t = if_ok (nat_lt (digits_value 10 w) (2 ^ 64) && bytes_eq (decimal (digits_value 10 w)) w) (digits_value 10 w) n Words h in
-    let eq = same (decimal (digits_value 10 w)) w (both (nat_lt (digits_value 10 w) (2 ^ 64)) (bytes_eq (decimal (digits_value 10 w)) w) t.0).1 in
-    sym eq ∙ ap decimal t.1
+    sym (and_same (nat_lt (digits_value 10 w) (2 ^ 64)) (decimal (digits_value 10 w)) w t.0).1 ∙ ap decimal t.1
 
 up_to_word : (most : ℕ) (w : List ℕ) (n : ℕ) → number_up_to most w ≡ Ok n → w ≡ decimal n
 up_to_word most w n h =
@@ -109,28 +102,20 @@ from_link slots len value link = and_then (sixteen_in slots) (from_slots link le
 inventory_is : (ws : List (List ℕ)) (q : Request) → says_inventory ws ≡ true → inventory_in (word ws 3) (word ws 5) (word ws 7) (word ws 8) ≡ Ok q → ws ≡ request_words q
 unfolding words_from
 inventory_is ws q says h =
-    let t6 = both _ (bytes_eq (word ws 6) (codes "mask")) says in
-    let t4 = both _ (bytes_eq (word ws 4) (codes "slots")) t6.0 in
-    let t2 = both _ (bytes_eq (word ws 2) (codes "link")) t4.0 in
-    let t1 = both _ (bytes_eq (word ws 1) (codes "inventory")) t2.0 in
-    let t0 = both (length ws == 9) (bytes_eq (word ws 0) (codes "request")) t1.0 in
+    let t6 = and_same _ (word ws 6) (codes "mask") says in
+    let t4 = and_same _ (word ws 4) (codes "slots") t6.0 in
+    let t2 = and_same _ (word ws 2) (codes "link") t4.0 in
+    let t1 = and_same _ (word ws 1) (codes "inventory") t2.0 in
+    let t0 = and_same (length ws == 9) (word ws 0) (codes "request") t1.0 in
     let a = then_ok (number_up_to 3 (word ws 3)) (from_link (word ws 5) (word ws 7) (word ws 8)) q h in
     let b = then_ok (sixteen_in (word ws 5)) (from_slots a.0 (word ws 7) (word ws 8)) q a.2 in
     let d = then_ok (number_up_to (longest_mask b.0) (word ws 7)) (from_len a.0 b.0 (word ws 8)) q b.2 in
     let m = then_ok (mask_in d.0 (word ws 8)) (from_mask a.0 b.0) q d.2 in
     let value = mask_word d.0 (word ws 8) m.0 m.1 in
     let is : Inventory a.0 b.0 m.0 ≡ q = cc m.2 in
+    let len = up_to_word (longest_mask b.0) (word ws 7) d.0 d.1 ∙ ap decimal value.0 in
     all_words 9 ws (eqb-true (length ws) 9 t0.0)
-    ∙ (cons (same (word ws 0) (codes "request") t0.1)
-    (cons (same (word ws 1) (codes "inventory") t1.1)
-    (cons (same (word ws 2) (codes "link") t2.1)
-    (cons (up_to_word 3 (word ws 3) a.0 a.1)
-    (cons (same (word ws 4) (codes "slots") t4.1)
-    (cons (sixteen_word (word ws 5) b.0 b.1)
-    (cons (same (word ws 6) (codes "mask") t6.1)
-    (cons (up_to_word (longest_mask b.0) (word ws 7) d.0 d.1 ∙ ap decimal value.0)
-    (cons (value.1) refl)))))))))
-    ∙ ap request_words is
+    ∙ cc (t0.1, t1.1, t2.1, up_to_word 3 (word ws 3) a.0 a.1, t4.1, sixteen_word (word ws 5) b.0 b.1, t6.1, len, value.1) ∙ ap request_words is
 
 abbrev from_uid : ℕ → ℕ → Result Request SpellFault
 from_uid link uid = Ok (StayQuiet link uid)
@@ -141,21 +126,15 @@ quiet_from_link uid link = and_then (hex_number_in 8 uid) (from_uid link)
 stay_quiet_is : (ws : List (List ℕ)) (q : Request) → says_stay_quiet ws ≡ true → stay_quiet_in (word ws 3) (word ws 5) ≡ Ok q → ws ≡ request_words q
 unfolding words_from
 stay_quiet_is ws q says h =
-    let t4 = both _ (bytes_eq (word ws 4) (codes "uid")) says in
-    let t2 = both _ (bytes_eq (word ws 2) (codes "link")) t4.0 in
-    let t1 = both _ (bytes_eq (word ws 1) (codes "stay-quiet")) t2.0 in
-    let t0 = both (length ws == 6) (bytes_eq (word ws 0) (codes "request")) t1.0 in
+    let t4 = and_same _ (word ws 4) (codes "uid") says in
+    let t2 = and_same _ (word ws 2) (codes "link") t4.0 in
+    let t1 = and_same _ (word ws 1) (codes "stay-quiet") t2.0 in
+    let t0 = and_same (length ws == 6) (word ws 0) (codes "request") t1.0 in
     let a = then_ok (number_up_to 3 (word ws 3)) (quiet_from_link (word ws 5)) q h in
     let b = then_ok (hex_number_in 8 (word ws 5)) (from_uid a.0) q a.2 in
     let is : StayQuiet a.0 b.0 ≡ q = cc b.2 in
     all_words 6 ws (eqb-true (length ws) 6 t0.0)
-    ∙ (cons (same (word ws 0) (codes "request") t0.1)
-    (cons (same (word ws 1) (codes "stay-quiet") t1.1)
-    (cons (same (word ws 2) (codes "link") t2.1)
-    (cons (up_to_word 3 (word ws 3) a.0 a.1)
-    (cons (same (word ws 4) (codes "uid") t4.1)
-    (cons (hex_word 8 (word ws 5) b.0 b.1) refl))))))
-    ∙ ap request_words is
+    ∙ cc (t0.1, t1.1, t2.1, up_to_word 3 (word ws 3) a.0 a.1, t4.1, hex_word 8 (word ws 5) b.0 b.1) ∙ ap request_words is
 
 abbrev from_dsfid : List ℕ → ℕ → ℕ → Result Reply SpellFault
 from_dsfid uid flags dsfid = and_then (hex_number_in 8 uid) (reply_of flags dsfid)
@@ -166,23 +145,16 @@ from_flags dsfid uid flags = and_then (hex_number_in 1 dsfid) (from_dsfid uid fl
 reply_is : (ws : List (List ℕ)) (r : Reply) → says_reply ws ≡ true → reply_in (word ws 2) (word ws 4) (word ws 6) ≡ Ok r → ws ≡ reply_words r
 unfolding words_from
 reply_is ws r says h =
-    let t5 = both _ (bytes_eq (word ws 5) (codes "uid")) says in
-    let t3 = both _ (bytes_eq (word ws 3) (codes "dsfid")) t5.0 in
-    let t1 = both _ (bytes_eq (word ws 1) (codes "flags")) t3.0 in
-    let t0 = both (length ws == 7) (bytes_eq (word ws 0) (codes "response")) t1.0 in
+    let t5 = and_same _ (word ws 5) (codes "uid") says in
+    let t3 = and_same _ (word ws 3) (codes "dsfid") t5.0 in
+    let t1 = and_same _ (word ws 1) (codes "flags") t3.0 in
+    let t0 = and_same (length ws == 7) (word ws 0) (codes "response") t1.0 in
     let a = then_ok (hex_number_in 1 (word ws 2)) (from_flags (word ws 4) (word ws 6)) r h in
     let b = then_ok (hex_number_in 1 (word ws 4)) (from_dsfid (word ws 6) a.0) r a.2 in
     let d = then_ok (hex_number_in 8 (word ws 6)) (reply_of a.0 b.0) r b.2 in
     let is = (if_ok (a.0 % 2 == 0 && is_uid d.0) (record { flags = a.0; dsfid = b.0; uid = d.0 }) r Words d.2).1 in
     all_words 7 ws (eqb-true (length ws) 7 t0.0)
-    ∙ (cons (same (word ws 0) (codes "response") t0.1)
-    (cons (same (word ws 1) (codes "flags") t1.1)
-    (cons (hex_word 1 (word ws 2) a.0 a.1)
-    (cons (same (word ws 3) (codes "dsfid") t3.1)
-    (cons (hex_word 1 (word ws 4) b.0 b.1)
-    (cons (same (word ws 5) (codes "uid") t5.1)
-    (cons (hex_word 8 (word ws 6) d.0 d.1) refl)))))))
-    ∙ ap reply_words is
+    ∙ cc (t0.1, t1.1, hex_word 1 (word ws 2) a.0 a.1, t3.1, hex_word 1 (word ws 4) b.0 b.1, t5.1, hex_word 8 (word ws 6) d.0 d.1) ∙ ap reply_words is
 
 -- words that are taken are those of what they say
 taken : (ws : List (List ℕ)) (what : Said) (b d e : Bool) → says_inventory ws ≡ b → says_stay_quiet ws ≡ d → says_reply ws ≡ e

@@ -1,14 +1,12 @@
 -- Which number a word writes.
 use Rattle.std.proofs.Common.{◌≡◌, ◌^◌, ◌<◌, ◌&&◌, ℕ, Bool, true, false, List, [], ◌∷◌, length, slice_index, Result, Ok, Err, bytes_eq, nat_lt, decimal, arith, ap, refl, sym, ◌∙◌, lt-ltb, ltb-true, if◌then◌else◌}
 use Rattle.vic_answer.proofs.Words.{bytes_eq-Decides, decode_sized, FromHexError, hex_bytes, number_in, hex_number_in, hex_decoded, number_ending}
+use Rattle.std.proofs.lemmas.Bool.{and_parts}
 use Rattle.std.specs.Str.Parse.{ParsesUnsigned, digits_value}
 use Rattle.std.proofs.lemmas.Fmt.{decimal_is_IsNumeral, parse-decimal}
 use Rattle.vic_answer.specs.declared.spell.SpellFault.{SpellFault}
 use Rattle.vic_answer.specs.declared.spell.SpellFault.TheVariants.{Words}
 use Rattle.hex.proofs.HexLemmas.{decode_sized-ok, decode_sized-twice, decode_of-ok}
-
-both : (b c : Bool) → b ≡ true → c ≡ true → (b && c) ≡ true
-both b c e f = rw (e, f) refl
 
 -- the number that a word was written from
 pub number_found : (w : List ℕ) (n : ℕ) → n < 2 ^ 64 → w ≡ decimal n → number_in w ≡ Ok n
@@ -22,31 +20,23 @@ by_test : (b : Bool) (n : ℕ) → (b ≡ true → ⊥) → (let r : Result ℕ 
 by_test true n unmet = absurd (unmet refl)
 by_test false n unmet = refl
 
-left : (b c : Bool) → (b && c) ≡ true → b ≡ true
-left true c h = refl
-left false c h = h
-
-right : (b c : Bool) → (b && c) ≡ true → c ≡ true
-right true c h = h
-right false c h = absurd (cc h)
-
 -- a word that no number was written as
 pub number_missing : (w : List ℕ) → ((n : ℕ) → n < 2 ^ 64 → w ≡ decimal n → ⊥) → number_in w ≡ Err Words
 number_missing w none =
     let n = digits_value 10 w in
     by_test (nat_lt n (2 ^ 64) && bytes_eq (decimal n) w) n (λ t.
-    none n (ltb-true n (2 ^ 64) (left (nat_lt n (2 ^ 64)) (bytes_eq (decimal n) w) t))
-    (sym ((bytes_eq-Decides (decimal n) w).0 (right (nat_lt n (2 ^ 64)) (bytes_eq (decimal n) w) t))))
+    let p = and_parts (nat_lt n (2 ^ 64)) (bytes_eq (decimal n) w) t in
+    none n (ltb-true n (2 ^ 64) p.0) (sym ((bytes_eq-Decides (decimal n) w).0 p.1)))
 
 -- the fault if parsing returns none, or another one
 pub number_refused : {E : Type 0} (w : List ℕ) (r : Result ℕ E) → ParsesUnsigned 64 10 w r → ((n : ℕ) → r ≡ Ok n → decimal n ≡ w → ⊥) → number_in w ≡ Err Words
 number_refused w r parsed none = number_missing w (λ n small e. none n (parse-decimal 64 n w r small small e parsed) (sym e))
 
--- what a word writes as one byte is one
-hex_taken : (b : Bool) (m n : ℕ) → (let r : Result ℕ SpellFault = if b then Ok m else Err Words in r) ≡ Ok n → m ≡ n
-hex_taken true m n h = cc h
-hex_taken false m n h = cc h
+pub if_ok : {A : Type 0} (b : Bool) (x y : A) (e : SpellFault) → (let r : Result A SpellFault = if b then Ok x else Err e in r) ≡ Ok y → (b ≡ true) × (x ≡ y)
+if_ok true x y e h = (refl, cc h)
+if_ok false x y e h = absurd (cc h)
 
+-- what a word writes as one byte is one
 one_byte : (bytes : List ℕ) → length bytes ≡ 1 → slice_index bytes 0 < 256 → number_ending bytes < 256
 one_byte [] len small = omega (arith, len)
 one_byte (b ∷ []) len small = omega (arith, small)
@@ -57,8 +47,8 @@ by_decoded w n (Ok bytes) e h =
     let len = decode_sized-ok w 1 bytes e in
     let ok = decode_of-ok w bytes (sym (decode_sized-twice w 1 len) ∙ e) in
     let small = one_byte bytes (omega (arith, len, ok.2)) (ok.3 0) in
-    let is = hex_taken (bytes_eq (hex_bytes 1 (number_ending bytes)) w) (number_ending bytes) n h in
-    omega (arith, small, is)
+    let is = if_ok (bytes_eq (hex_bytes 1 (number_ending bytes)) w) (number_ending bytes) n Words h in
+    omega (arith, small, is.1)
 by_decoded w n (Err f) e h = cc h
 
 pub byte_below : (w : List ℕ) (n : ℕ) → hex_number_in 1 w ≡ Ok n → n < 256

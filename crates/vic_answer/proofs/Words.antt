@@ -1,5 +1,5 @@
 -- The words of proofs, from one place: what is from outside, by the modules that several files name.
-pub use Rattle.std.proofs.lemmas.List.{append_cancel_left, drop-replicate, get_or-set_other, get_or-set_same, get_or_append_left, get_or_default, length-append, length-map, map-append, take-append-le, take_all, take_more}
+pub use Rattle.std.proofs.lemmas.List.{append_cancel_left, drop-replicate, flat_map_more, get_or-set_other, get_or-set_same, get_or_append_left, get_or_default, length-append, length-map, map-append, map_more, take-append-le, take_all, take_more}
 pub use Rattle.std.proofs.lemmas.Slice.Eq.{bytes_eq-Decides}
 pub use Rattle.std.specs.Io.KnownBytes.{Appends, Consumes}
 pub use Rattle.vic_frame.specs.Masks.{BitMask, IsMask}

@@ -60,6 +60,10 @@ first_of P Is mask (Some x) first h = first x h
 
 -- ---- the same UIDs
 
+-- what holds where a UID isn't certain
+pub open_iff_same : {S P C D : Type 0} → C ↔ D → S ↔ P × (C → ⊥) → S ↔ P × (D → ⊥)
+open_iff_same same w = ((λ s. let x = w.0 s in (x.0, λ d. x.1 (same.1 d))), (λ x. w.1 (x.0, λ c. x.1 (same.0 c))))
+
 -- the same UIDs are possible, and the same are certain
 pub record SameUids (P C Q D : ℕ → Type 0) : Type 0 where
   pub possible : (u : ℕ) → P u ↔ Q u

@@ -3,7 +3,7 @@ use Rattle.std.proofs.Common.{ℕ, List, ◌↔◌, Any, IsPermutation}
 use Rattle.vic_reconcile.proofs.Words.{OpenMasks, LogLine, Findings, ArePossible, IsCertainUid, IsPossibleUid, AreFindings, AreOpenMasksOf, IsUnsettled, IsWhole}
 use Rattle.std.proofs.lemmas.List.Sorted.{All-permutation, Contains-permutation, IsPermutation-sym}
 use Rattle.vic_reconcile.specs.Agreeing.{Agree}
-use Rattle.vic_reconcile.proofs.Agreeing.{SameUids, absent_as, doubtful_as, first_of, same_first, same_list, unlisted_as, unsettled_as}
+use Rattle.vic_reconcile.proofs.Agreeing.{SameUids, absent_as, doubtful_as, first_of, same_first, same_list, unlisted_as, unsettled_as, open_iff_same}
 use Rattle.vic_reconcile.proofs.Families.{ArePossible-iff, IsCertainIn, IsCertainUid-iff, IsPossibleIn, IsPossibleLog, IsPossibleUid-iff}
 
 any_permutation : (P : List LogLine → Type 0) (logs others : List (List LogLine)) → IsPermutation logs others → Any P logs → Any P others
@@ -60,10 +60,7 @@ open_masks_then logs others lines o m h =
     let same = any_order logs others m in
     record {
       set = h.set;
-      uids = λ u i. let w = h.uids u i in (
-        (λ s. let x = w.0 s in (x.0, λ c. x.1 ((same.certain u).1 c))),
-        (λ x. w.1 (x.0, λ c. x.1 ((same.certain u).0 c))),
-      );
+      uids = λ u i. open_iff_same (same.certain u) (h.uids u i);
       first = h.first;
       more = h.more;
     }

@@ -119,30 +119,21 @@ has_other told one u other none = false_from_ne_true _ (λ e.
     has_more : (told : List ShownUid) (one : ShownUid) (u : ℕ) → has (uids_of (told ++ one ∷ [])) u ≡ (has (uids_of told) u || has (one.uid ∷ []) u)
     has_more told one u = ap (λ us. has us u) (map-append (λ (s : ShownUid). s.uid) told (one ∷ [])) ∙ list_any-append (nat_eq u) (uids_of told) (one.uid ∷ [])
 
--- a UID that isn't the next one's is as it was
-noted_other : (now : Option Place) (log u : ℕ) (told : List ShownUid) (one : ShownUid) → (u ≡ one.uid → ⊥)
-    → MatchOption now (has (uids_of told) u ≡ false) (λ p. (p.log ≡ log) × Contains told (record { uid = u; line = p.line }))
-    → MatchOption now (has (uids_of (told ++ one ∷ [])) u ≡ false) (λ p. (p.log ≡ log) × Contains (told ++ one ∷ []) (record { uid = u; line = p.line }))
-noted_other now log u told one other h =
-    match_option _ _ _ _ now (has_other told one u other) (λ p w. (w.0, Contains-append_left told (one ∷ []) (record { uid = u; line = p.line }) w.1)) h
+-- what was noted of a UID, by its place
+abbrev IsNoted : ℕ → List ShownUid → ℕ → Option Place → Type 0
+IsNoted log told u o = MatchOption o (has (uids_of told) u ≡ false) (λ p. (p.log ≡ log) × Contains told (record { uid = u; line = p.line }))
+
+-- stays so, unless it is the next one's and has no place
+noted_same : (o : Option Place) (log u : ℕ) (told : List ShownUid) (one : ShownUid) → (u ≡ one.uid → is_some o ≡ true) → IsNoted log told u o → IsNoted log (told ++ one ∷ []) u o
+noted_same None log u told one some h = has_other told one u (λ same. false≢true (some same)) h
+noted_same (Some p) log u told one some h = (h.0, Contains-append_left told (one ∷ []) (record { uid = u; line = p.line }) h.1)
 
 -- one that has a place keeps it
 pub noted_before : (old now : map.BTreeMap ℕ Place) (log : ℕ) (told : List ShownUid) (one : ShownUid) → is_some (map.get nat_cmp now one.uid) ≡ true → AreNoted old now log told → AreNoted old now log (told ++ one ∷ [])
 noted_before old now log told one there n = record {
   kept = n.kept;
-  others = λ u e. at u (n.others u e) (cases_eq u one.uid);
+  others = λ u e. noted_same (map.get nat_cmp now u) log u told one (λ same. ap (λ v. is_some (map.get nat_cmp now v)) same ∙ there) (n.others u e);
 }
-  where
-    at : (u : ℕ) → MatchOption (map.get nat_cmp now u) (has (uids_of told) u ≡ false) (λ p. (p.log ≡ log) × Contains told (record { uid = u; line = p.line }))
-        → (u ≡ one.uid) ⊎ (u ≡ one.uid → ⊥)
-        → MatchOption (map.get nat_cmp now u) (has (uids_of (told ++ one ∷ [])) u ≡ false) (λ p. (p.log ≡ log) × Contains (told ++ one ∷ []) (record { uid = u; line = p.line }))
-    at u h (inr other) = noted_other (map.get nat_cmp now u) log u told one other h
-    at u h (inl same) = is_there (map.get nat_cmp now u) (ap (λ v. is_some (map.get nat_cmp now v)) same ∙ there) h
-      where
-        is_there : (o : Option Place) → is_some o ≡ true → MatchOption o (has (uids_of told) u ≡ false) (λ p. (p.log ≡ log) × Contains told (record { uid = u; line = p.line }))
-            → MatchOption o (has (uids_of (told ++ one ∷ [])) u ≡ false) (λ p. (p.log ≡ log) × Contains (told ++ one ∷ []) (record { uid = u; line = p.line }))
-        is_there None e h = absurd (false≢true e)
-        is_there (Some p) e h = (h.0, Contains-append_left told (one ∷ []) (record { uid = u; line = p.line }) h.1)
 
 -- one that has none gets one
 pub noted_next : (old now new : map.BTreeMap ℕ Place) (log : ℕ) (told : List ShownUid) (one : ShownUid) → is_some (map.get nat_cmp now one.uid) ≡ false
@@ -165,9 +156,6 @@ noted_next old now new log told one none is n = record {
     here : (u : ℕ) → u ≡ one.uid → map.get nat_cmp new u ≡ Some place
     here u same = is u ∙ ap (λ b. cond b (Some place) (map.get nat_cmp now u)) (is_at_same one.uid u same)
 
-    at : (u : ℕ) → MatchOption (map.get nat_cmp now u) (has (uids_of told) u ≡ false) (λ p. (p.log ≡ log) × Contains told (record { uid = u; line = p.line }))
-        → (u ≡ one.uid) ⊎ (u ≡ one.uid → ⊥)
-        → MatchOption (map.get nat_cmp new u) (has (uids_of (told ++ one ∷ [])) u ≡ false) (λ p. (p.log ≡ log) × Contains (told ++ one ∷ []) (record { uid = u; line = p.line }))
-    at u h (inr other) = subst (λ o. MatchOption o (has (uids_of (told ++ one ∷ [])) u ≡ false) (λ p. (p.log ≡ log) × Contains (told ++ one ∷ []) (record { uid = u; line = p.line }))) (sym (apart u other)) (noted_other (map.get nat_cmp now u) log u told one other h)
-    at u h (inl same) = subst (λ o. MatchOption o (has (uids_of (told ++ one ∷ [])) u ≡ false) (λ p. (p.log ≡ log) × Contains (told ++ one ∷ []) (record { uid = u; line = p.line }))) (sym (here u same))
-        (refl, subst (λ v. Contains (told ++ one ∷ []) (record { uid = v; line = one.line })) (sym same) (Contains-push told one))
+    at : (u : ℕ) → IsNoted log told u (map.get nat_cmp now u) → (u ≡ one.uid) ⊎ (u ≡ one.uid → ⊥) → IsNoted log (told ++ one ∷ []) u (map.get nat_cmp new u)
+    at u h (inr other) = subst (IsNoted log (told ++ one ∷ []) u) (sym (apart u other)) (noted_same (map.get nat_cmp now u) log u told one (λ same. absurd (other same)) h)
+    at u h (inl same) = subst (IsNoted log (told ++ one ∷ []) u) (sym (here u same)) (refl, subst (λ v. Contains (told ++ one ∷ []) (record { uid = v; line = one.line })) (sym same) (Contains-push told one))

@@ -1,13 +1,14 @@
 -- What one log alone tells together is what the log tells.
-use Rattle.std.proofs.Common.{◌≡◌, ℕ, zero, suc, List, [], ◌∷◌, Some, true, false, refl, sym, subst, ⊎_elim, ◌↔◌, slice_get}
-use Rattle.vic_reconcile.proofs.Words.{false≢true, or_cases, or_left, has, OpenMasks, LogLine, entries, listed, IsLeftOpen, Findings, UnlistedUid, FitsLog, FitsLogs, IsCertainUid, IsPossibleUid, is_somewhere, AreFindings, AreOpenMasksOf, IsToldOf, IsUnsettled, IsWhole}
+use Rattle.std.proofs.Common.{◌≡◌, ℕ, List, [], ◌∷◌, true, false, refl, sym, subst, ◌↔◌, arith, ◌∙◌}
+use Rattle.vic_reconcile.proofs.Words.{or_left, has, OpenMasks, LogLine, entries, listed, IsLeftOpen, Findings, UnlistedUid, FitsLog, FitsLogs, IsCertainUid, IsPossibleUid, is_somewhere, AreFindings, AreOpenMasksOf, IsToldOf, IsUnsettled, IsWhole, slice_get_within}
+use Rattle.vic_tree.proofs.BoolLaws.{or_false}
 use Rattle.vic_verdict.specs.Possible as one
 use Rattle.vic_verdict.specs.Verdict as verdict
 use Rattle.vic_report.specs.Findings.{ShowsCertain}
 use Rattle.vic_report.specs.Reports as report
 use Rattle.vic_report.specs.declared.findings.Findings.{Findings as LogFindings}
 use Rattle.vic_reconcile.specs.Agreeing.{AgreeWithReport}
-use Rattle.vic_reconcile.proofs.Agreeing.{SameUids, absent_as, doubtful_as, first_of, same_first, same_list, unlisted_as, unsettled_as}
+use Rattle.vic_reconcile.proofs.Agreeing.{SameUids, absent_as, doubtful_as, first_of, same_first, same_list, unlisted_as, unsettled_as, open_iff_same}
 use Rattle.vic_reconcile.proofs.Families.{IsCertainIn, IsPossibleIn}
 
 -- a family of one log is one population
@@ -16,42 +17,32 @@ of_one lines [] f = absurd f
 of_one lines (p ∷ []) f = (p, f.0, refl)
 of_one lines (p ∷ q ∷ family) f = absurd f.1
 
-in_one : (p : List ℕ) (u : ℕ) → is_somewhere (p ∷ []) u ≡ true → has p u ≡ true
-in_one p u h = ⊎_elim (λ a. a) (λ b. absurd (false≢true b)) (or_cases (has p u) false h)
-
 pub one_possible_uid : (lines : List LogLine) (u : ℕ) → IsPossibleUid (lines ∷ []) u ↔ IsPossibleIn u lines
 one_possible_uid lines u = (
   (λ h.
       let p = of_one lines h.0 h.1 in
-      (p.0, p.1.0, p.1.1, in_one p.0 u (subst (λ ps. is_somewhere ps u ≡ true) p.2 h.2))),
+      (p.0, p.1.0, p.1.1, sym (or_false (has p.0 u)) ∙ subst (λ ps. is_somewhere ps u ≡ true) p.2 h.2)),
   (λ h. (h.0 ∷ [], ((h.1, h.2), tt), or_left (has h.0 u) false h.3)),
 )
 
 pub one_certain_uid : (lines : List LogLine) (u : ℕ) → IsCertainUid (lines ∷ []) u ↔ IsCertainIn u lines
 one_certain_uid lines u = (
-  (λ c p i w. in_one p u (c (p ∷ []) ((i, w), tt))),
+  (λ c p i w. sym (or_false (has p u)) ∙ c (p ∷ []) ((i, w), tt)),
   (λ c family f.
       let p = of_one lines family f in
-      subst (λ ps. is_somewhere ps u ≡ true) (sym p.2) (or_left (has p.0 u) false (c p.0 p.1.0 p.1.1))),
+      rw (p.2, or_false (has p.0 u)) (c p.0 p.1.0 p.1.1)),
 )
 
 pub one_whole : (lines : List LogLine) → IsWhole (listed (entries lines)) (lines ∷ []) ↔ verdict.IsWhole (entries lines)
 one_whole lines = (
   (λ h.
-      let p = of_one lines h.0.0 h.0.1 in (
-        (p.0, p.1.0, p.1.1),
-        λ q i c u.
-            let w = h.1 (q ∷ []) ((i, c), tt) u in
-            ((λ k. w.0 (or_left (has q u) false k)), (λ k. in_one q u (w.1 k))),
-      )),
+      let p = of_one lines h.0.0 h.0.1 in
+      ((p.0, p.1.0, p.1.1), λ q i c u. rw (or_false (has q u)) at (h.1 (q ∷ []) ((i, c), tt) u))),
   (λ h. (
     (h.0.0 ∷ [], ((h.0.1, h.0.2), tt)),
     λ family f u.
         let p = of_one lines family f in
-        let w = h.1 p.0 p.1.0 p.1.1 u in (
-          (λ k. w.0 (in_one p.0 u (subst (λ ps. is_somewhere ps u ≡ true) p.2 k))),
-          (λ k. subst (λ ps. is_somewhere ps u ≡ true) (sym p.2) (or_left (has p.0 u) false (w.1 k))),
-        ),
+        rw (p.2, or_false (has p.0 u)) (h.1 p.0 p.1.0 p.1.1 u),
   )),
 )
 
@@ -76,30 +67,20 @@ one_report lines f g h k =
 
 pub one_shown : (lines : List LogLine) (s : UnlistedUid) → IsToldOf (lines ∷ []) s → (s.place.log ≡ 0) × ShowsCertain lines s.place.line s.uid
 one_shown lines s t =
-    let at = first_alone s.place.log t.first.lines t.first.there in
-    (at, t.shows lines (subst (λ n. slice_get (lines ∷ []) n ≡ Some lines) (sym at) refl))
-  where
-    first_alone : (n : ℕ) (others : List LogLine) → slice_get (lines ∷ []) n ≡ Some others → n ≡ 0
-    first_alone zero others h = refl
-    first_alone (suc n) others h = cc
+    let at : s.place.log ≡ 0 = omega (arith, slice_get_within (lines ∷ []) s.place.log t.first.lines t.first.there) in
+    (at, t.shows lines (rw at refl))
 
 pub one_open_masks : (lines : List LogLine) (o : OpenMasks) → AreOpenMasksOf (lines ∷ []) lines o ↔ report.AreOpenMasks (entries lines) o
 one_open_masks lines o = (
   (λ h. record {
     set = h.set;
-    uids = λ u i. let w = h.uids u i in (
-      (λ s. let x = w.0 s in (x.0, λ c. x.1 ((one_certain_uid lines u).1 c))),
-      (λ x. w.1 (x.0, λ c. x.1 ((one_certain_uid lines u).0 c))),
-    );
+    uids = λ u i. open_iff_same (one_certain_uid lines u) (h.uids u i);
     first = h.first;
     more = h.more;
   }),
   (λ h. record {
     set = h.set;
-    uids = λ u i. let w = h.uids u i in (
-      (λ s. let x = w.0 s in (x.0, λ c. x.1 ((one_certain_uid lines u).0 c))),
-      (λ x. w.1 (x.0, λ c. x.1 ((one_certain_uid lines u).1 c))),
-    );
+    uids = λ u i. let c = one_certain_uid lines u in open_iff_same (c.1, c.0) (h.uids u i);
     first = h.first;
     more = h.more;
   }),

@@ -1,5 +1,5 @@
-use Rattle.std.proofs.Common.{◌≡◌, ◌<◌, ◌+◌, ℕ, List, [], ◌∷◌, ◌++◌, take, drop, length, get_or, sym, ap, ◌∙◌, append-nil, arith, take-append-drop, flat_map}
-use Rattle.vic_answer.proofs.Words.{take_more, take_all}
+use Rattle.std.proofs.Common.{◌≡◌, ◌<◌, ◌+◌, ℕ, List, [], ◌∷◌, ◌++◌, take, drop, length, get_or, sym, ap, ◌∙◌, arith, take-append-drop, flat_map}
+use Rattle.vic_answer.proofs.Words.{take_more, take_all, flat_map_more}
 use Rattle.std.proofs.lemmas.List.Concat.{flat_map-append}
 use Rattle.vic_answer.proofs.Waiting.{Puts-nil, Puts-then, Puts-longer, Puts-handed, Puts-same}
 use Rattle.vic_answer.proofs.pieces.put_each.Goals as goal
@@ -7,10 +7,7 @@ use Rattle.vic_answer.proofs.pieces.put_each.Goals as goal
 -- the texts of the items up to one, and of that one
 told_more : {X : Type 0} (told : X → List ℕ) (xs : List X) (i : ℕ) (x : X) → i < length xs → x ≡ get_or xs i x → flat_map told (take i xs) ++ told x ≡ flat_map told (take (i + 1) xs)
 told_more told xs i x h is =
-    let one : flat_map told (x ∷ []) ≡ told x = append-nil (told x) in
-    ap (λ ys. flat_map told (take i xs) ++ ys) (sym one)
-    ∙ (sym (flat_map-append told (take i xs) (x ∷ []))
-    ∙ ap (flat_map told) (ap (λ y. take i xs ++ y ∷ []) is ∙ sym (take_more xs i x h)))
+    flat_map_more told [] (take i xs) x ∙ ap (flat_map told) (ap (λ y. take i xs ++ y ∷ []) is ∙ sym (take_more xs i x h))
 
 pub loop-item-init : goal.loop-item-init
 loop-item-init g c told by = Puts-nil _ _
