@@ -1,6 +1,7 @@
 -- What a list and logs say together, text by text.
-use Rattle.std.proofs.Common.{◌≡◌, ℕ, List, [], ◌∷◌, ◌++◌, take, length, get_or, map, Some, None, Option, codes, refl, sym, ap, subst, ◌∙◌, arith, IfOk, OnOk, Result, Ok, Err, decimal, slice_get, All, flat_map}
-use Rattle.vic_answer.proofs.Words.{HasWrittenPrefix, append_cancel_left, length-map, map-append, lines_of_text, LogValue, entries, listed, IsFirstFault, IsVerdict, Impossible, Reconciling, RunFault, Status, AllGoing, AllRead, WritesAnswer, AreComplete, EndsAt, HasLog, HasPossibleLog, IsKept, IsReconciled, lines_of, absent_line, doubtful_text, ending_text, findings_text, reconciled_status, reconciled_text, unlisted_text}
+use Rattle.std.proofs.Common.{◌≡◌, ℕ, List, [], ◌∷◌, ◌++◌, take, length, map, Some, None, Option, codes, refl, sym, ap, subst, ◌∙◌, IfOk, OnOk, Result, Ok, Err, decimal, slice_get, All, flat_map, get_or, arith}
+use Rattle.vic_answer.proofs.Words.{HasWrittenPrefix, append_cancel_left, length-map, map-append, lines_of_text, LogValue, entries, listed, IsFirstFault, IsVerdict, Impossible, Reconciling, RunFault, Status, AllGoing, AllRead, WritesAnswer, AreComplete, EndsAt, HasLog, HasPossibleLog, IsKept, IsReconciled, lines_of, absent_line, doubtful_text, ending_text, findings_text, reconciled_status, reconciled_text, unlisted_text, LogLine}
+use Rattle.vic_answer.specs.Reconciled.{HaveLogs}
 use Rattle.std.specs.List.{AllZip}
 use Rattle.std.proofs.Math.Seq.{take-append_seam}
 use Rattle.std.proofs.lemmas.Slice.Zip.{AllZip-long, all_zipped_more}
@@ -62,27 +63,24 @@ ends_impossible list text texts r n line log k e is h = ((k.expected, k.is_list,
 
 -- ---- the answer
 
-pub reconciled_complete : (list : List ℕ) (texts : List (List ℕ)) (r : Reconciliation) (f : Findings) (count : ℕ) (k : IsKept list texts r)
-    → AreFindings (listed (entries k.expected.lines)) (map lines_of k.logs) f → AreNone f → count ≡ length (listed (entries k.expected.lines)) → IsReconciled list texts (Complete count)
-reconciled_complete list texts r f count k found none counted = record {
+have_logs : {list : List ℕ} {texts : List (List ℕ)} {r : Reconciliation} (P : List ℕ → List (List LogLine) → Type 0) (k : IsKept list texts r) → P (listed (entries k.expected.lines)) (map lines_of k.logs) → HaveLogs list texts P
+have_logs P k holds = record {
   expected = k.expected;
   is_list = k.is_list;
   listed_alone = k.listed_alone;
   logs = k.logs;
   are_logs = k.are_logs;
-  holds = (none_is_whole (listed (entries k.expected.lines)) (map lines_of k.logs) f (family_of (map lines_of k.logs) k.joined.possible) found none, counted);
+  holds = holds;
 }
+
+pub reconciled_complete : (list : List ℕ) (texts : List (List ℕ)) (r : Reconciliation) (f : Findings) (count : ℕ) (k : IsKept list texts r)
+    → AreFindings (listed (entries k.expected.lines)) (map lines_of k.logs) f → AreNone f → count ≡ length (listed (entries k.expected.lines)) → IsReconciled list texts (Complete count)
+reconciled_complete list texts r f count k found none counted =
+    have_logs _ k (none_is_whole (listed (entries k.expected.lines)) (map lines_of k.logs) f (family_of (map lines_of k.logs) k.joined.possible) found none, counted)
 
 pub reconciled_found : (list : List ℕ) (texts : List (List ℕ)) (r : Reconciliation) (f : Findings) (k : IsKept list texts r)
     → AreFindings (listed (entries k.expected.lines)) (map lines_of k.logs) f → (AreNone f → ⊥) → IsReconciled list texts (Found f)
-reconciled_found list texts r f k found some = record {
-  expected = k.expected;
-  is_list = k.is_list;
-  listed_alone = k.listed_alone;
-  logs = k.logs;
-  are_logs = k.are_logs;
-  holds = (found, some);
-}
+reconciled_found list texts r f k found some = have_logs _ k (found, some)
 
 -- ---- what was written
 

@@ -1,5 +1,5 @@
 -- Words that `frame` writes are read back as what it read.
-use Rattle.std.proofs.Common.{◌≡◌, ℕ, zero, suc, ◌+◌, ◌-◌, ◌*◌, ◌/◌, ◌%◌, ◌^◌, ◌<◌, ◌≤◌, ◌==◌, Bool, true, false, List, ◌∷◌, ◌++◌, length, drop, replicate, Ok, bytes_eq, decimal, arith, ap, refl, sym, ◌∙◌, lt-ltb, le-leb, eq-eqb, ne_eqb, if◌then◌else◌, w64}
+use Rattle.std.proofs.Common.{◌≡◌, ℕ, zero, suc, ◌+◌, ◌-◌, ◌*◌, ◌/◌, ◌%◌, ◌^◌, ◌<◌, ◌≤◌, ◌==◌, Bool, true, false, ◌∷◌, ◌++◌, length, drop, replicate, Ok, decimal, arith, ap, refl, sym, ◌∙◌, lt-ltb, le-leb, eq-eqb, ne_eqb, if◌then◌else◌, w64}
 use Rattle.vic_answer.proofs.Words.{bytes_eq-Decides, decode_sized, encode_upper, upper_digits, IsBytes, BitMask, IsMask, IsInRange, IsValid, byte_count, Reply, IsReply, hex_bytes, value_text, words_reading, request_words, reply_words, number_up_to, number_ending, hex_number_in, sixteen_in, longest_mask, value_in, mask_in}
 use Rattle.std.specs.Int.{bytes_high_first, byte_at, from_be_bytes, to_be_bytes}
 use Rattle.std.specs.Fmt.{digits}
@@ -58,9 +58,6 @@ ending count n h small =
     ∙ zeros_before (8 - count) count n small ∙ ap (λ k. bytes_high_first k n) e in
     ap (from_be_bytes w64) all ∙ from_be_bytes-to_be_bytes_8 n (omega (arith, small, most))
 
-same_text : (w : List ℕ) → bytes_eq w w ≡ true
-same_text w = (bytes_eq-Decides w w).1 refl
-
 -- that many bytes of a number are read back as it
 pub hex_back : (count n : ℕ) → count ≤ 8 → n < 256 ^ count → hex_number_in count (hex_bytes count n) ≡ Ok n
 hex_back count n h small =
@@ -69,7 +66,7 @@ hex_back count n h small =
     let len : length (encode_upper bs) ≡ 2 * count = omega (arith, length-encode_with upper_digits bs, length_high count n) in
     let decoded : decode_sized (hex_bytes count n) count ≡ Ok bs =
     ap (λ w. decode_sized w count) word ∙ decode_sized-twice (encode_upper bs) count len ∙ decode_of-encode_upper bs (bytes_high count n) in
-    rw (decoded, ending count n h small, same_text (hex_bytes count n)) refl
+    rw (decoded, ending count n h small, (bytes_eq-Decides (hex_bytes count n) (hex_bytes count n)).1 refl) refl
 
 -- a number in decimal, up to a greatest one
 number_back : (most n : ℕ) → n ≤ most → n < 2 ^ 64 → number_up_to most (decimal n) ≡ Ok n
@@ -85,16 +82,10 @@ value_cases (suc len) value h small =
     rw some (hex_back (byte_count (suc len)) value (omega (arith, h)) (holds_bits (suc len) value small))
 
 -- the words of a mask
-value_back : (m : BitMask) → IsMask m → value_in m.len (value_text m) ≡ Ok m.value
-value_back m h = value_cases m.len m.value h.0 h.1
-
 mask_back : (m : BitMask) → IsMask m → mask_in m.len (value_text m) ≡ Ok m
 mask_back m h =
     let fits = lt-ltb m.value (2 ^ m.len) h.1 in
-    rw (value_back m h, fits) refl
-
-link_back : (link : ℕ) → link ≤ 3 → number_up_to 3 (decimal link) ≡ Ok link
-link_back link h = number_back 3 link h (omega (arith, h))
+    rw (value_cases m.len m.value h.0 h.1, fits) refl
 
 sixteen_back : (sixteen : Bool) → sixteen_in (decimal (if sixteen then 16 else 1)) ≡ Ok sixteen
 unfolding digits
@@ -109,9 +100,9 @@ pub request_back : (q : Request) → IsInRange q → IsValid q → words_reading
 request_back (Inventory link sixteen m) range valid =
     let most = most_back link sixteen m range valid in
     let len = number_back (longest_mask sixteen) m.len most.1 (omega (arith, range.0)) in
-    rw (link_back link most.0, sixteen_back sixteen, len, mask_back m range) refl
+    rw (number_back 3 link most.0 (omega (arith, most.0)), sixteen_back sixteen, len, mask_back m range) refl
 request_back (StayQuiet link uid) range valid =
-    rw (link_back link valid, hex_back 8 uid (omega arith) (omega (arith, range))) refl
+    rw (number_back 3 link valid (omega (arith, valid)), hex_back 8 uid (omega arith) (omega (arith, range))) refl
 
 pub reply_back : (r : Reply) → IsReply r → words_reading (reply_words r) ≡ Ok (Replied r)
 reply_back r h =

@@ -45,8 +45,9 @@ PutsBehind-nil : (a : Option (List ℕ)) (w : List ℕ) → PutsBehind a a w w [
 PutsBehind-nil a w = record { told = ([], Appends-nil a, sym (append-nil w)); begun = tt }
 
 -- what waited was taken, behind what was taken before
-all_behind : (a b c : Option (List ℕ)) (w text : List ℕ) → HasTakenBut a b w text → Appends b c w → Appends a c text
-all_behind a b c w text h k = subst (Appends a c) h.2 (Appends-trans a b c h.0 w h.1 k)
+all_behind : (a b c : Option (List ℕ)) (w text : List ℕ) (r : Result ⊤ RunFault) → HasTakenBut a b w text → OnOk r (Appends b c w) → OnOk r (Appends a c text)
+all_behind a b c w text (Ok x) h k = subst (Appends a c) h.2 (Appends-trans a b c h.0 w h.1 k)
+all_behind a b c w text (Err e) h k = tt
 
 part_behind : (a b c : Option (List ℕ)) (w text : List ℕ) → HasTakenBut a b w text → HasTakenPrefix b c w → HasTakenPrefix a c text
 part_behind a b c w text h k = subst (HasTakenPrefix a c) (append-nil text) (HasTakenPrefix-behind a b c w text [] h (subst (HasTakenPrefix b c) (sym (append-nil w)) k))
@@ -100,16 +101,6 @@ module _ {W : Type 0} {written : W → List ℕ} {taken : W → Option (List ℕ
     untouched = λ e. refl;
   }
 
-  wrote_behind : {is_flushed : W → Bool} (a b c : W) (w text : List ℕ) (r : Result ⊤ RunFault) → HasTakenBut (Some (written a)) (Some (written b)) w text
-      → Writes written taken is_flushed has_failed b c w r → OnOk r (written c ≡ written a ++ text)
-  wrote_behind a b c w text (Ok x) h k = all_behind (Some (written a)) (Some (written b)) (Some (written c)) w text h k.wrote
-  wrote_behind a b c w text (Err e) h k = tt
-
-  took_behind : {is_flushed : W → Bool} (a b c : W) (w text : List ℕ) (r : Result ⊤ RunFault) → HasTakenBut (taken a) (taken b) w text
-      → Writes written taken is_flushed has_failed b c w r → OnOk r (Appends (taken a) (taken c) text)
-  took_behind a b c w text (Ok x) h k = all_behind (taken a) (taken b) (taken c) w text h k.all
-  took_behind a b c w text (Err e) h k = tt
-
   -- the last piece is written, where at first nothing waited
   pub Writes-behind : {is_flushed : W → Bool} {a b c : W} {none w text : List ℕ} {r : Result ⊤ RunFault}
       → none ≡ [] → Puts written taken has_failed a b none w text (Ok tt) → Writes written taken is_flushed has_failed b c w r
@@ -118,9 +109,9 @@ module _ {W : Type 0} {written : W → List ℕ} {taken : W → Option (List ℕ
       let wrote : HasTakenBut (Some (written a)) (Some (written b)) w text = subst (λ ws. HasTakenBut (Some (written a)) (Some (written b)) w (ws ++ text)) start h.wrote.told in
       let took : HasTakenBut (taken a) (taken b) w text = subst (λ ws. HasTakenBut (taken a) (taken b) w (ws ++ text)) start h.took.told in
       record {
-        wrote = wrote_behind a b c w text r wrote k;
+        wrote = all_behind (Some (written a)) (Some (written b)) (Some (written c)) w text r wrote k.wrote;
         part = part_behind (Some (written a)) (Some (written b)) (Some (written c)) w text wrote k.part;
-        all = took_behind a b c w text r took k;
+        all = all_behind (taken a) (taken b) (taken c) w text r took k.all;
         flushed = k.flushed;
         begun = part_behind (taken a) (taken b) (taken c) w text took k.begun;
         fault = k.fault;
