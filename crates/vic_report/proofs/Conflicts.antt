@@ -1,8 +1,8 @@
 -- Slot lines that no population fits together: all up to the first impossible line do.
 use Rattle.std.proofs.Common.{◌≡◌, ℕ, zero, suc, ◌<◌, ◌≤◌, ◌+◌, ◌-◌, List, [], ◌∷◌, ◌++◌, length, get_or, take, drop, Bool, true, false, cond, Some, refl, sym, ap, ◌∙◌, subst, arith, ⊎_elim, slice_get, nat_le, leb, None, Option, Result, Ok, Err, MatchOption, MatchResult, is_err, option_map, filter}
-use Rattle.vic_report.proofs.Words.{cases_Bool, cases_lt, le-leb, leb-true, leb-false, lt-leb, false≢true, length-map, map-append, take-append-drop, All-get_or, filter_passes, slice_get-map, slice_get_within, get_or_from_slice_get, Reply, has, Entry, Sent, Silent, Collision, Heard, Listed, Garbled, FieldCycle, LogLine, entries, IsRisingFrom, Outcome, outcome_at, Fits, CouldHaveGiven, is_quiet, is_slot, FitsLines, IsConflictAt, IsNoQuietReply, IsSilencedBefore, IsSilencedBy, IsSlotLine, IsPossible, IsContradictedAt, entries_to, IsVerdict, place_of, member_at}
+use Rattle.vic_report.proofs.Words.{cases_Bool, cases_lt, le-leb, leb-true, leb-false, lt-leb, false≢true, map-append, take-append-drop, All-get_or, filter_passes, slice_get-map, slice_get_within, get_or_from_slice_get, Reply, has, Entry, Sent, Silent, Collision, Heard, Listed, Garbled, FieldCycle, LogLine, entries, IsRisingFrom, Outcome, outcome_at, Fits, CouldHaveGiven, is_quiet, is_slot, FitsLines, IsConflictAt, IsNoQuietReply, IsSilencedBefore, IsSilencedBy, IsSlotLine, IsPossible, IsContradictedAt, entries_to, IsVerdict, place_of, member_at}
 use Rattle.std.specs.List.Sorted.{IsStrictlyIncreasing}
-use Rattle.vic_log.proofs.Places.{agree_upto, outcome_agrees, CouldHaveGiven-front}
+use Rattle.vic_log.proofs.Places.{agree_upto, outcome_agrees, CouldHaveGiven-front, slice_get-append}
 use Rattle.vic_verdict.specs.declared.judging.Verdict.TheVariants.{Impossible}
 use Rattle.vic_verdict.proofs.Possibility.{IsPossible-front}
 use Rattle.vic_verdict.proofs.Inserted.{rising_order}
@@ -40,10 +40,13 @@ lines_front n k (l ∷ lines) r =
     (l ∷ lines, ap (λ b. lines_kept n l lines b ++ (l ∷ lines)) out ∙ ap (λ ls. ls ++ (l ∷ lines)) (none_before n l.number lines (omega arith) r.1)))
     (cases_Bool (leb l.number n))
 
-slice_front : (xs ys : List LogLine) (i : ℕ) (x : LogLine) → slice_get xs i ≡ Some x → slice_get (xs ++ ys) i ≡ Some x
-slice_front [] ys i x k = cc
-slice_front (y ∷ xs) ys zero x k = k
-slice_front (y ∷ xs) ys (suc i) x k = slice_front xs ys i x k
+-- so what a population makes of a position among them is what it makes of it among all
+front_outcome : (lines : List LogLine) (n i : ℕ) (p : List ℕ) → IsRisingFrom 0 lines → i < length (entries_to n lines) → outcome_at (entries_to n lines) i p ≡ outcome_at (entries lines) i p
+front_outcome lines n i p r within =
+    let front = lines_to n lines in
+    let rest = lines_front n 0 lines r in
+    outcome_agrees i (entries front) (entries front ++ entries rest.0) p (agree_upto (entries front) (entries rest.0) i (omega arith))
+    ∙ ap (λ es. outcome_at es i p) (sym (map-append (λ (l : LogLine). l.item) front rest.0) ∙ ap entries rest.1)
 
 -- the line of an entry
 pub line_of : (lines : List LogLine) (i : ℕ) (e : Entry) → slice_get (entries lines) i ≡ Some e → (x : LogLine) × (slice_get lines i ≡ Some x) × (x.item ≡ e)
@@ -89,12 +92,8 @@ given_to lines n numbers p r all fits i e k =
     let front = lines_to n lines in
     let rest = lines_front n 0 lines r in
     let x = line_of front i e k in
-    let there : slice_get lines i ≡ Some x.0 = subst (λ ls. slice_get ls i ≡ Some x.0) rest.1 (slice_front front rest.0 i x.0 x.1) in
-    let within = slice_get_within (entries front) i e k in
-    let whole : entries front ++ entries rest.0 ≡ entries lines = sym (map-append (λ (l : LogLine). l.item) front rest.0) ∙ ap entries rest.1 in
-    let same : outcome_at (entries front) i p ≡ outcome_at (entries lines) i p =
-    outcome_agrees i (entries front) (entries front ++ entries rest.0) p (agree_upto (entries front) (entries rest.0) i (omega arith))
-    ∙ ap (λ es. outcome_at es i p) whole in
+    let there : slice_get lines i ≡ Some x.0 = subst (λ ls. slice_get ls i ≡ Some x.0) rest.1 (sym (slice_get-append front rest.0 i (slice_get_within front i x.0 x.1)) ∙ x.1) in
+    let same = front_outcome lines n i p r (slice_get_within (entries front) i e k) in
     fits_if_slot e (outcome_at (entries front) i p) (λ slot.
     subst (Fits e) (sym same) (subst (λ f. Fits f (outcome_at (entries lines) i p)) x.2
     (fits i x.0 there (all i x.0 there (number_within n lines i x.0 x.1) (subst (λ f. is_slot f ≡ true) (sym x.2) slot)))))
@@ -109,15 +108,8 @@ below_last m n xs small here none =
 pub fits_given : (lines : List LogLine) (n : ℕ) (p : List ℕ) (i : ℕ) (l : LogLine) → IsRisingFrom 0 lines → CouldHaveGiven p (entries_to n lines) → slice_get lines i ≡ Some l → l.number ≤ n → Fits l.item (outcome_at (entries lines) i p)
 fits_given lines n p i l r given k small =
     let front = lines_to n lines in
-    let rest = lines_front n 0 lines r in
-    let there = front_there n 0 lines i l r k small in
-    let within = slice_get_within front i l there in
-    let long : length (entries front) ≡ length front = length-map front (λ (x : LogLine). x.item) in
-    let whole : entries front ++ entries rest.0 ≡ entries lines = sym (map-append (λ (x : LogLine). x.item) front rest.0) ∙ ap entries rest.1 in
-    let same : outcome_at (entries front) i p ≡ outcome_at (entries lines) i p =
-    outcome_agrees i (entries front) (entries front ++ entries rest.0) p (agree_upto (entries front) (entries rest.0) i (omega arith))
-    ∙ ap (λ es. outcome_at es i p) whole in
-    subst (Fits l.item) same (given i l.item (slice_get-map (λ (x : LogLine). x.item) front i ∙ ap (option_map (λ (x : LogLine). x.item)) there))
+    let there = slice_get-map (λ (x : LogLine). x.item) front i ∙ ap (option_map (λ (x : LogLine). x.item)) (front_there n 0 lines i l r k small) in
+    subst (Fits l.item) (front_outcome lines n i p r (slice_get_within (entries front) i l.item there)) (given i l.item there)
 
 -- the first impossible line is among the slot lines up to it
 pub last_is_slot : (lines : List LogLine) (n : ℕ) (xs : List ℕ) → IsRisingFrom 0 lines → IsVerdict lines (Impossible n) → ((m : ℕ) → has xs m ≡ true → m ≤ n) → HaveSlotsTo lines n xs → has xs n ≡ true
@@ -185,13 +177,11 @@ same_place k [] i j l x r g h e = cc
 same_place k (y ∷ lines) zero zero l x r g h e = refl
 same_place k (y ∷ lines) zero (suc j) l x r g h e =
     let above = number_above j y.number lines x r.1 h in
-    let same : y ≡ l = cc in
-    let n = ap (λ (z : LogLine). z.number) same in
+    let same : y.number ≡ l.number = cc in
     omega arith
 same_place k (y ∷ lines) (suc i) zero l x r g h e =
     let above = number_above i y.number lines l r.1 g in
-    let same : y ≡ x = cc in
-    let n = ap (λ (z : LogLine). z.number) same in
+    let same : y.number ≡ x.number = cc in
     omega arith
 same_place k (y ∷ lines) (suc i) (suc j) l x r g h e = ap suc (same_place y.number lines i j l x r.1 g h e)
 
