@@ -1,31 +1,27 @@
 -- What is answered to arrays, and the kinds of these answers.
-use Rattle.std.proofs.Common.{◌≡◌, ℕ, List, [], ◌∷◌, Option, Some, None, length, map, refl, sym, ap, subst, ◌∙◌, arith, inl, inr}
-use Rattle.vicinity_c.proofs.Words.{BitMask, AreNoneOf, AreTogether, IsAmong, MayBe, IsPutInto, first_of, plain_answer, VicinityMask, HaveNoFault, faults_of, mask_in}
+use Rattle.std.proofs.Common.{◌≡◌, ℕ, List, [], ◌∷◌, Option, Some, None, length, map, refl, sym, ap, subst, ◌∙◌, arith, inl, inr, ◌<◌}
+use Rattle.vicinity_c.proofs.Words.{BitMask, AreNoneOf, AreTogether, IsPutInto, first_of, plain_answer, VicinityMask, HaveNoFault, faults_of, mask_in, AreFindingsBy}
 use Rattle.vic_log.specs.declared.entry.LogLine.{LogLine}
 use Rattle.vic_reconcile.specs.declared.surveys.PlainFindings.{PlainFindings}
-use Rattle.vic_reconcile.specs.Families.{IsCertainUid, IsPossibleUid}
 use Rattle.vic_reconcile.specs.Findings.{IsWhole}
 use Rattle.vic_answer.specs.declared.check.Answer.TheVariants.{Judged}
 use Rattle.vic_answer.specs.declared.finding_numbers.VicinityFinding.{VicinityFinding}
 use Rattle.vic_answer.specs.declared.numbers.VicinityAnswer.{VicinityAnswer}
 use Rattle.vic_answer.specs.Numbers.{numbers_of}
-use Rattle.vicinity_c.specs.Reconciled.{AreReconciled, AreRefused, IsReconciledBy}
+use Rattle.vicinity_c.specs.Reconciled.{AreReconciled, AreRefused, IsReconciledBy, AreCompared}
 
 -- ---- the kinds of the answers
 
-pub never_refused : (absent unlisted : List ℕ) (m : Option BitMask) (doubtful : List ℕ) (n : ℕ) → (numbers_of (Judged (first_of absent unlisted m doubtful n))).kind ≡ 7 → ⊥
-never_refused (u ∷ absent) unlisted m doubtful n h = omega (arith, h)
-never_refused [] (u ∷ unlisted) m doubtful n h = omega (arith, h)
-never_refused [] [] (Some m) doubtful n h = omega (arith, h)
-never_refused [] [] None (u ∷ doubtful) n h = omega (arith, h)
-never_refused [] [] None [] n h = omega (arith, h)
+-- there is one, and it isn't that of a refusal
+kind_between : (absent unlisted : List ℕ) (m : Option BitMask) (doubtful : List ℕ) (n : ℕ) → (0 < (numbers_of (Judged (first_of absent unlisted m doubtful n))).kind) × ((numbers_of (Judged (first_of absent unlisted m doubtful n))).kind < 7)
+kind_between (u ∷ absent) unlisted m doubtful n = (omega arith, omega arith)
+kind_between [] (u ∷ unlisted) m doubtful n = (omega arith, omega arith)
+kind_between [] [] (Some m) doubtful n = (omega arith, omega arith)
+kind_between [] [] None (u ∷ doubtful) n = (omega arith, omega arith)
+kind_between [] [] None [] n = (omega arith, omega arith)
 
-pub always_some : (absent unlisted : List ℕ) (m : Option BitMask) (doubtful : List ℕ) (n : ℕ) → (numbers_of (Judged (first_of absent unlisted m doubtful n))).kind ≡ 0 → ⊥
-always_some (u ∷ absent) unlisted m doubtful n h = omega (arith, h)
-always_some [] (u ∷ unlisted) m doubtful n h = omega (arith, h)
-always_some [] [] (Some m) doubtful n h = omega (arith, h)
-always_some [] [] None (u ∷ doubtful) n h = omega (arith, h)
-always_some [] [] None [] n h = omega (arith, h)
+plain_between : (f : PlainFindings) (n : ℕ) (numbers : VicinityAnswer) → numbers ≡ numbers_of (plain_answer f n) → (0 < numbers.kind) × (numbers.kind < 7)
+plain_between f n numbers e = rw e (kind_between f.absent.items f.unlisted.items f.unsettled f.doubtful.items n)
 
 none_where : (absent unlisted : List ℕ) (m : Option BitMask) (doubtful : List ℕ) (n : ℕ) → (numbers_of (Judged (first_of absent unlisted m doubtful n))).kind ≡ 1
     → (absent ≡ []) × (unlisted ≡ []) × (m ≡ None) × (doubtful ≡ []) × ((numbers_of (Judged (first_of absent unlisted m doubtful n))).count ≡ n)
@@ -45,25 +41,14 @@ counted f n h = (none_where f.absent.items f.unlisted.items f.unsettled f.doubtf
 
 -- ---- what is answered, in a buffer
 
-pub found_by_arrays : (es cs : List ℕ) (ms : List VicinityMask) (numbers : VicinityAnswer) (list : List VicinityFinding) (count : ℕ) (room room' : List VicinityFinding) → IsReconciledBy es cs ms numbers list
-    → count ≡ length list → IsPutInto list room room' → (numbers.kind ≡ 7 → ⊥)
-    → AreReconciled (MayBe cs (map mask_in ms)) (IsAmong cs) es numbers count room room'
-found_by_arrays es cs ms numbers list count room room' (inl r) long put some = absurd (some (ap (λ x. x.kind) r.0.1))
-found_by_arrays es cs ms numbers list count room room' (inr a) long put some = record {
+-- by arrays, or by logs
+pub found_by : (P C : ℕ → Type 0) (es cs : List ℕ) (ms : List VicinityMask) (numbers : VicinityAnswer) (list : List VicinityFinding) (count : ℕ) (room room' : List VicinityFinding) → ((a : AreCompared es cs ms numbers list) → AreFindingsBy P C es a.findings)
+    → IsReconciledBy es cs ms numbers list → count ≡ length list → IsPutInto list room room' → (numbers.kind ≡ 7 → ⊥)
+    → AreReconciled P C es numbers count room room'
+found_by P C es cs ms numbers list count room room' right (inl r) long put some = absurd (some (ap (λ x. x.kind) r.0.1))
+found_by P C es cs ms numbers list count room room' right (inr a) long put some = record {
   findings = a.findings;
-  right = a.by_arrays;
-  numbers_are = a.numbers_are;
-  counted = long ∙ ap length a.list_are;
-  put = subst (λ l. IsPutInto l room room') a.list_are put;
-}
-
-pub found_by_logs : (es cs : List ℕ) (ms : List VicinityMask) (numbers : VicinityAnswer) (list : List VicinityFinding) (count : ℕ) (room room' : List VicinityFinding) → IsReconciledBy es cs ms numbers list
-    → count ≡ length list → IsPutInto list room room' → (numbers.kind ≡ 7 → ⊥) → (logs : List (List LogLine)) → AreTogether logs cs (map mask_in ms)
-    → AreReconciled (IsPossibleUid logs) (IsCertainUid logs) es numbers count room room'
-found_by_logs es cs ms numbers list count room room' (inl r) long put some logs t = absurd (some (ap (λ x. x.kind) r.0.1))
-found_by_logs es cs ms numbers list count room room' (inr a) long put some logs t = record {
-  findings = a.findings;
-  right = a.by_logs logs t;
+  right = right a;
   numbers_are = a.numbers_are;
   counted = long ∙ ap length a.list_are;
   put = subst (λ l. IsPutInto l room room') a.list_are put;
@@ -85,11 +70,11 @@ no_fault es cs ms numbers list (inr a) some = a.none
 -- it is refused, with no findings
 pub refused : (es cs : List ℕ) (ms : List VicinityMask) (numbers : VicinityAnswer) (list : List VicinityFinding) → IsReconciledBy es cs ms numbers list → numbers.kind ≡ 7 → AreRefused (faults_of es cs ms) numbers × (list ≡ [])
 refused es cs ms numbers list (inl r) is = r
-refused es cs ms numbers list (inr a) is = absurd (never_refused a.findings.absent.items a.findings.unlisted.items a.findings.unsettled a.findings.doubtful.items (length es) (sym (ap (λ x. x.kind) a.numbers_are) ∙ is))
+refused es cs ms numbers list (inr a) is = absurd (omega (arith, is, plain_between a.findings (length es) numbers a.numbers_are))
 
 pub answered : (es cs : List ℕ) (ms : List VicinityMask) (numbers : VicinityAnswer) (list : List VicinityFinding) → IsReconciledBy es cs ms numbers list → numbers.kind ≡ 0 → ⊥
 answered es cs ms numbers list (inl r) is = let seven : numbers.kind ≡ 7 = ap (λ x. x.kind) r.0.1 in omega (arith, is, seven)
-answered es cs ms numbers list (inr a) is = always_some a.findings.absent.items a.findings.unlisted.items a.findings.unsettled a.findings.doubtful.items (length es) (sym (ap (λ x. x.kind) a.numbers_are) ∙ is)
+answered es cs ms numbers list (inr a) is = omega (arith, is, plain_between a.findings (length es) numbers a.numbers_are)
 
 pub put_nothing : (list room room' : List VicinityFinding) → list ≡ [] → IsPutInto list room room' → room' ≡ room
 put_nothing list room room' e put = let same : IsPutInto [] room room' = subst (λ l. IsPutInto l room room') e put in same.fits (omega arith)

@@ -1,6 +1,7 @@
 -- The first fault of arrays.
-use Rattle.std.proofs.Common.{◌≡◌, ◌≢◌, ℕ, zero, suc, ◌+◌, ◌<◌, ◌≤◌, List, [], ◌∷◌, ◌++◌, Bool, true, false, ◌||◌, cond, length, map, take, Some, refl, sym, ap, subst, ◌∙◌, ⊎_elim, arith, append-nil, append_assoc, length-append, nat_cmp, nat_eq, slice_get}
-use Rattle.vicinity_c.proofs.Words.{length-map, take-append-le, take_all, take_more, get_or_from_slice_get, slice_get_within, IsUid, has, VicinityMask, HaveNoFault, IsFirst, expected_fault, expected_faults, faults_behind, faults_of, mask_fault, uid_fault}
+use Rattle.std.proofs.Common.{◌≡◌, ℕ, zero, suc, ◌+◌, ◌<◌, ◌≤◌, List, [], ◌∷◌, ◌++◌, Bool, true, false, ◌||◌, cond, length, map, take, Some, refl, sym, ap, subst, ◌∙◌, ⊎_elim, arith, append-nil, append_assoc, length-append, nat_cmp, nat_eq, slice_get, option_map}
+use Rattle.vicinity_c.proofs.Words.{length-map, take-append-le, take_all, take_more, get_or_from_slice_get, slice_get_within, IsUid, has, VicinityMask, HaveNoFault, IsFirst, expected_fault, expected_faults, faults_behind, faults_of, mask_fault, uid_fault, slice_get-map}
+use Rattle.vic_log.proofs.Places.{slice_get-append}
 use Rattle.std.specs.BTreeMap.{is_at}
 use Rattle.std.proofs.lemmas.Bool.{cases_eq, false_from_ne_true, false≢true, or_right}
 use Rattle.std.proofs.lemmas.Grind.{common_steps}
@@ -13,11 +14,6 @@ use Rattle.vic_log.proofs.Supply.{is_uid_from}
 
 -- ---- one list of faults behind another
 
-get_front : (xs ys : List ℕ) (i f : ℕ) → slice_get xs i ≡ Some f → slice_get (xs ++ ys) i ≡ Some f
-get_front [] ys i f h = cc
-get_front (x ∷ xs) ys zero f h = h
-get_front (x ∷ xs) ys (suc i) f h = get_front xs ys i f h
-
 get_behind : (xs ys : List ℕ) (i f : ℕ) → slice_get ys i ≡ Some f → slice_get (xs ++ ys) (length xs + i) ≡ Some f
 get_behind [] ys i f h = let e : 0 + i ≡ i = omega arith in rw e h
 get_behind (x ∷ xs) ys i f h =
@@ -28,7 +24,7 @@ pub first_front : (xs ys : List ℕ) (i f : ℕ) → IsFirst xs i f → IsFirst 
 first_front xs ys i f h =
     let lt = slice_get_within xs i f h.there in
     record {
-      there = get_front xs ys i f h.there;
+      there = sym (slice_get-append xs ys i lt) ∙ h.there;
       is_fault = h.is_fault;
       before = subst HaveNoFault (sym (take-append-le i xs ys (omega arith))) h.before;
     }
@@ -51,9 +47,7 @@ pub none_all : (fs : List ℕ) (i : ℕ) → length fs ≤ i → HaveNoFault (ta
 none_all fs i le none = subst HaveNoFault (take_all i fs le) none
 
 pub map_get : {X : Type 0} (g : X → ℕ) (xs : List X) (i : ℕ) (x : X) → slice_get xs i ≡ Some x → slice_get (map g xs) i ≡ Some (g x)
-map_get g [] i x h = cc
-map_get g (y ∷ xs) zero x h = let same : y ≡ x = cc in ap (λ z. Some (g z)) same
-map_get g (y ∷ xs) (suc i) x h = map_get g xs i x h
+map_get g xs i x h = slice_get-map g xs i ∙ ap (option_map g) h
 
 behind_get : (before us : List ℕ) (i u : ℕ) → slice_get us i ≡ Some u → slice_get (faults_behind before us) i ≡ Some (expected_fault (before ++ take i us) u)
 behind_get before [] i u h = cc
@@ -82,11 +76,8 @@ first_certain es cs ms i f none h =
 pub first_mask : (es cs : List ℕ) (ms : List VicinityMask) (i f : ℕ) → HaveNoFault (expected_faults es) → HaveNoFault (map uid_fault cs) → IsFirst (map mask_fault ms) i f → IsFirst (faults_of es cs ms) (length es + length cs + i) f
 first_mask es cs ms i f none sure h =
     let both = expected_faults es ++ map uid_fault cs in
-    let long : length both ≡ length es + length cs = simp length-append (cong_sum (length_expected es) (length-map cs uid_fault)) in
+    let long : length both ≡ length es + length cs = simp length-append (omega (arith, length_expected es, length-map cs uid_fault)) in
     subst (λ n. IsFirst (faults_of es cs ms) (n + i) f) long (first_behind both (map mask_fault ms) i f (All-append (λ n. n ≡ 0) (expected_faults es) (map uid_fault cs) none sure) h)
-  where
-    cong_sum : {a b c d : ℕ} → a ≡ c → b ≡ d → a + b ≡ c + d
-    cong_sum p q = omega arith
 
 -- ---- what is read of one element
 

@@ -1,6 +1,6 @@
 -- The words of proofs, from one place: what is from outside, by the modules that several files name.
 pub use Rattle.std.proofs.lemmas.List.{drop-replicate, drop_all, length-map, length-take-le, map-append, map-id, take-append-le, take_all, take_more}
-pub use Rattle.std.proofs.lemmas.Option.{get_or_from_slice_get, slice_get-get_or, slice_get_within}
+pub use Rattle.std.proofs.lemmas.Option.{get_or_from_slice_get, slice_get-get_or, slice_get-map, slice_get_within}
 pub use Rattle.std.specs.BTreeSet.{contains}
 pub use Rattle.vic_frame.specs.Masks.{BitMask}
 pub use Rattle.vic_frame.specs.Uids.{IsUid, has}

@@ -1,19 +1,19 @@
 use Rattle.std.proofs.Common.{length, ap, subst, ◌∙◌}
 use Rattle.vicinity_c.proofs.Words.{IsPutInto}
-use Rattle.vicinity_c.proofs.Answered.{answered, count_where_complete, found_by_arrays, found_by_logs, no_fault, put_nothing, refused, whole_where_complete}
+use Rattle.vicinity_c.proofs.Answered.{answered, count_where_complete, found_by, no_fault, put_nothing, refused, whole_where_complete}
 use Rattle.vicinity_c.proofs.reconciled.vicinity_reconcile.Goals as goal
 
 pub returns-clause-found : goal.returns-clause-found
 returns-clause-found c some fine =
     let r = c.in-Ok.reconciled in
     let put = subst (λ l. IsPutInto l c.args.findings.now c.put_findings.new.room) c.as_slice.ensures.value c.put_findings.ensures in
-    found_by_arrays c.args.expected.now c.args.certain.now c.args.masks.now r.answer r.findings.items _ _ _ c.in-Ok.ensures (c.len.ensures ∙ r.findings.ok.0) put fine
+    found_by _ _ c.args.expected.now c.args.certain.now c.args.masks.now r.answer r.findings.items _ _ _ (λ a. a.by_arrays) c.in-Ok.ensures (c.len.ensures ∙ r.findings.ok.0) put fine
 
 pub returns-clause-together : goal.returns-clause-together
 returns-clause-together c some fine logs t =
     let r = c.in-Ok.reconciled in
     let put = subst (λ l. IsPutInto l c.args.findings.now c.put_findings.new.room) c.as_slice.ensures.value c.put_findings.ensures in
-    found_by_logs c.args.expected.now c.args.certain.now c.args.masks.now r.answer r.findings.items _ _ _ c.in-Ok.ensures (c.len.ensures ∙ r.findings.ok.0) put fine logs t
+    found_by _ _ c.args.expected.now c.args.certain.now c.args.masks.now r.answer r.findings.items _ _ _ (λ a. a.by_logs logs t) c.in-Ok.ensures (c.len.ensures ∙ r.findings.ok.0) put fine
 
 pub returns-clause-whole : goal.returns-clause-whole
 returns-clause-whole c = whole_where_complete c.args.expected.now c.args.certain.now c.args.masks.now _ _ c.in-Ok.ensures
