@@ -1,19 +1,7 @@
 -- An early fault stays the fault of each text that goes on.
-use Rattle.std.proofs.Common.{◌≡◌, ◌⊎◌, ℕ, suc, ◌+◌, ◌-◌, ◌<◌, ◌≤◌, false, Some, List, [], ◌∷◌, ◌++◌, length, length-take-le, refl, sym, ap, subst, ◌∙◌, arith, append-nil, length-append, inl, inr}
-use Rattle.std.specs.Prelude.{slice_get, nat_eq, nat_lt, if◌then◌else◌, ◌==◌, map}
-use Rattle.std.proofs.lemmas.Bool.{cases_Bool, cases_lt, cond_both, cond-true, cond-false, lt-ltb, or_parts}
-use Rattle.std.proofs.lemmas.List.{length-map, length_push, map-append}
-use Rattle.std.proofs.lemmas.Option.{slice_get_within}
-use Rattle.vic_log.specs.declared.entry.Entry.{Entry}
-use Rattle.vic_log.specs.declared.entry.Version.{Version}
-use Rattle.vic_log.specs.declared.fault.LineFault.{LineFault}
-use Rattle.vic_log.specs.declared.fault.LineFault.TheVariants.{TooManyLines, LineTooLong}
-use Rattle.vic_frame.specs.Uids.{has}
+use Rattle.std.proofs.Common.{◌≡◌, ◌⊎◌, ℕ, suc, ◌+◌, ◌-◌, ◌<◌, ◌≤◌, false, Some, List, [], ◌∷◌, ◌++◌, length, length-take-le, refl, sym, ap, subst, ◌∙◌, arith, append-nil, length-append, inl, inr, slice_get, nat_eq, nat_lt, if◌then◌else◌, ◌==◌, map}
+use Rattle.vic_log.proofs.Words.{cases_Bool, cases_lt, cond_both, cond-true, cond-false, lt-ltb, or_parts, length-map, length_push, map-append, slice_get_within, Entry, Version, LineFault, TooManyLines, LineTooLong, has, IsLong, IsJudged, IsEarlyFault, onto, cut, ends_with, all_but_last, without_last, content, lines_of_text, entries, version_of, line_fault, log_upto, fault_on, IsFirstFault}
 use Rattle.vic_log.specs.Begun.{IsCut}
-use Rattle.vic_log.specs.Early.{IsLong, IsJudged, IsEarlyFault}
-use Rattle.vic_log.specs.Lines.{onto, cut, ends_with, all_but_last, without_last, content, lines_of_text}
-use Rattle.vic_log.specs.Order.{entries}
-use Rattle.vic_log.specs.Text.{version_of, line_fault, log_upto, fault_on, IsFirstFault}
 use Rattle.vic_log.proofs.Passing.{AgreeBelow, log_agrees, fault_agrees, first_agrees}
 use Rattle.vic_log.proofs.Places.{slice_get-append, slice_get_seam}
 use Rattle.vic_log.proofs.Sets.{eq_swapped}

@@ -1,14 +1,8 @@
 -- On entries of version 1 both versions say the same.
-use Rattle.std.proofs.Common.{◌≡◌, ℕ, zero, suc, List, false, not, ◌&&◌, ◌||◌, Option, Some, None, refl, sym, ap, subst, ◌∙◌}
-use Rattle.std.specs.List.{filter}
-use Rattle.std.specs.Prelude.{◌↔◌, slice_get, if◌then◌else◌}
-use Rattle.vic_log.specs.declared.entry.Entry.{Entry}
-use Rattle.vic_log.specs.declared.entry.Entry.TheVariants.{Sent, Listed, Garbled, FieldCycle}
-use Rattle.vic_log.specs.Order.{IsInOrder}
-use Rattle.vic_log.specs.Rounds.{is_slot, ends_round, opener, mask_since, lies_in_some}
-use Rattle.vic_log.specs.Quiet.{silences, wakes, is_quiet}
-use Rattle.vic_log.specs.Populations.{Outcome, Fits, answers_at, outcome_of, CouldHaveGiven}
-use Rattle.vic_log.specs.FirstVersion.{IsOfFirstVersion, AreOfFirstVersion, ends_first_round, first_opener, is_first_quiet, FitsFirst, answers_first_at, CouldHaveGivenFirst, is_first_slot, IsInFirstOrder}
+use Rattle.std.proofs.Common.{◌≡◌, ℕ, zero, suc, List, false, not, ◌&&◌, ◌||◌, Option, Some, None, refl, sym, ap, subst, ◌∙◌, ◌↔◌, slice_get, if◌then◌else◌}
+use Rattle.vic_log.proofs.Words.{filter, Entry, Sent, Listed, Garbled, FieldCycle, IsInOrder, is_slot, ends_round, opener, mask_since, silences, wakes, is_quiet, Outcome, Fits, answers_at, outcome_of, CouldHaveGiven, IsOfFirstVersion, AreOfFirstVersion}
+use Rattle.vic_log.specs.Rounds.{lies_in_some}
+use Rattle.vic_log.specs.FirstVersion.{ends_first_round, first_opener, is_first_quiet, FitsFirst, answers_first_at, CouldHaveGivenFirst, is_first_slot, IsInFirstOrder}
 use Rattle.std.proofs.lemmas.List.Elements.{filter_agree}
 
 ends_same : (o : Option Entry) → ((e : Entry) → o ≡ Some e → IsOfFirstVersion e) → ends_round o ≡ ends_first_round o

@@ -1,17 +1,15 @@
 -- A line reads as an entry if and only if it spells it.
-use Rattle.std.proofs.Common.{◌≡◌, ◌⊎◌, inl, inr, ℕ, ◌+◌, ◌-◌, ◌*◌, ◌/◌, ◌%◌, ◌<◌, ◌≤◌, true, false, Option, Some, None, Result, Ok, Err, List, [], ◌∷◌, length, refl, sym, ap, subst, ◌∙◌, arith}
-use Rattle.std.specs.Prelude.{nat_lt, nat_le, if◌then◌else◌, ◌==◌, ◌&&◌, ◌||◌}
+use Rattle.std.proofs.Common.{◌≡◌, ◌⊎◌, inl, inr, ℕ, ◌+◌, ◌-◌, ◌*◌, ◌/◌, ◌%◌, ◌<◌, ◌≤◌, true, false, Option, Some, None, Result, Ok, Err, List, [], ◌∷◌, length, refl, sym, ap, subst, ◌∙◌, arith, nat_lt, nat_le, if◌then◌else◌, ◌==◌, ◌&&◌, ◌||◌, IfOk}
+use Rattle.vic_log.proofs.Words.{and_parts, cond_both, cond-true, cond-false, or_from, or_right, eqb-true, leb-true, ne_eqb, le-ltb, ltb-false, hex_digit_value, IsUid, is_uid, Entry, Sent, Silent, Collision, Heard, Listed, Garbled, FieldCycle, Version, V1, V2, LineFault, line_reading}
 use Rattle.std.specs.Int.{to_be_bytes, from_be_bytes, w64}
-use Rattle.std.proofs.lemmas.Bool.{and_parts, cond_both, cond-true, cond-false, or_from, or_right, eqb-true, leb-true, ne_eqb, le-ltb, ltb-false}
 use Rattle.std.proofs.lemmas.Bool.Decides.{nat_tests}
 use Rattle.std.proofs.lemmas.Nat.{be_bytes_8, from_be_bytes-to_be_bytes_8}
-use Rattle.hex.specs.Hex.{decode_of, decode_pairs, digit_or_error, hex_digit_value, ◌>>=◌}
+use Rattle.hex.specs.Hex.{decode_of, decode_pairs, digit_or_error, ◌>>=◌}
 use Rattle.hex.specs.declared.error.FromHexError.{FromHexError}
 use Rattle.hex.specs.declared.error.FromHexError.TheVariants.{OddLength}
 use Rattle.hex.proofs.HexLemmas.{decode_of-even, decode_pairs-ok}
 use Rattle.hex.proofs.Pairs.{cons_byte, decode_pairs-ok_pair}
 use Rattle.vic_frame.specs.Bytes.{AreBytes}
-use Rattle.vic_frame.specs.Uids.{IsUid, is_uid}
 use Rattle.vic_frame.specs.Requests.{SpellsRequest}
 use Rattle.vic_frame.specs.Replies.{Reply, SpellsReply}
 use Rattle.vic_frame.specs.Reading.{request_reading, reply_reading}
@@ -19,15 +17,10 @@ use Rattle.vic_frame.specs.declared.request.Request.{Request}
 use Rattle.vic_frame.specs.declared.fault.FrameFault.{FrameFault}
 use Rattle.vic_frame.proofs.RequestLaws.{request_found, request_only}
 use Rattle.vic_frame.proofs.ReplyLaws.{reply_found, reply_only}
-use Rattle.std.specs.Prelude.{⊤, IfOk}
-use Rattle.vic_log.specs.declared.entry.Entry.{Entry}
-use Rattle.vic_log.specs.declared.entry.Entry.TheVariants.{Sent, Silent, Collision, Heard, Listed, Garbled, FieldCycle}
-use Rattle.vic_log.specs.declared.entry.Version.{Version}
-use Rattle.vic_log.specs.declared.entry.Version.TheVariants.{V1, V2}
-use Rattle.vic_log.specs.declared.fault.LineFault.{LineFault}
+use Rattle.std.specs.Prelude.{⊤}
 use Rattle.vic_log.specs.declared.fault.LineFault.TheVariants.{ListedLength, NotVicinity}
 use Rattle.vic_log.specs.Grammar.{IsDigitOf, AreDigitsOf, HasBytes, SpellsEntry, IsPassedOver}
-use Rattle.vic_log.specs.LineReading.{line_reading, added_letter, one_letter, with_digits, with_bytes, sent, heard, listed_uid, claimed}
+use Rattle.vic_log.specs.LineReading.{added_letter, one_letter, with_digits, with_bytes, sent, heard, listed_uid, claimed}
 use Rattle.vic_log.proofs.Supply.{IsUid-from, is_uid_from}
 use Rattle.vic_log.proofs.HexPairs.{both}
 use Rattle.vic_log.proofs.FrameBytes.{length-request, length-reply}

@@ -1,21 +1,7 @@
 -- A text that is read in pieces: more bytes, a fault, and the end.
-use Rattle.std.proofs.Common.{◌≡◌, ◌⊎◌, inl, inr, ℕ, suc, ◌<◌, false, Some, None, List, [], ◌∷◌, ◌++◌, length, length-append, append_assoc, append-nil, refl, sym, ap, subst, ◌∙◌, arith}
-use Rattle.std.specs.Prelude.{slice_get, nat_eq, map}
-use Rattle.std.proofs.lemmas.Bool.{cases_lt, cond-false, le-ltb, or_from}
-use Rattle.std.proofs.lemmas.List.{length-map, map-append, nil_from_length}
-use Rattle.std.proofs.lemmas.List.Folds.{list_any-append}
-use Rattle.vic_frame.specs.Uids.{has}
-use Rattle.vic_log.specs.declared.fault.LineFault.{LineFault}
-use Rattle.vic_log.specs.declared.fault.LineFault.TheVariants.{TooManyLines, LineTooLong, Header}
-use Rattle.vic_log.specs.declared.fault.LogFault.{LogFault}
-use Rattle.vic_log.specs.declared.fault.LogFault.TheVariants.{Line, Read, Memory, Spent}
-use Rattle.vic_log.specs.Begun.{HasCut, HasJudged, IsShort}
-use Rattle.vic_log.specs.Early.{IsLong, IsJudged, IsEarlyFault, IsEarly}
-use Rattle.vic_log.specs.Lines.{lf, cr, cut, without_last, content, lines_of_text}
-use Rattle.vic_log.specs.Log.{LogValue}
-use Rattle.vic_log.specs.Order.{entries}
-use Rattle.vic_log.specs.Text.{fault_on, IsFirstFault, IsLogOf, Refuses}
-use Rattle.vic_log.specs.inner.Text.{next_fault, after_line, RefusesNext}
+use Rattle.std.proofs.Common.{◌≡◌, ◌⊎◌, inl, inr, ℕ, suc, ◌<◌, false, Some, None, List, [], ◌∷◌, ◌++◌, length, length-append, append_assoc, append-nil, refl, sym, ap, subst, ◌∙◌, arith, slice_get, nat_eq, map}
+use Rattle.vic_log.proofs.Words.{cases_lt, cond-false, le-ltb, or_from, length-map, map-append, nil_from_length, list_any-append, has, LineFault, TooManyLines, LineTooLong, Header, LogFault, Line, Read, Memory, Spent, HasJudged, IsLong, IsJudged, IsEarlyFault, IsEarly, lf, cr, cut, without_last, content, lines_of_text, LogValue, entries, fault_on, IsFirstFault, IsLogOf, Refuses, next_fault, after_line, RefusesNext}
+use Rattle.vic_log.specs.Begun.{HasCut, IsShort}
 use Rattle.vic_log.proofs.Early.{begins, content-open, cut-only, cut-some, cut-whole, last_part, lines_are, still_long, too_many, too_long}
 use Rattle.vic_log.proofs.Passing.{AreRead-end, AreRead-entries, AreRead-fault, AreRead-push, fault_agrees, in_limit, no_header}
 use Rattle.vic_log.proofs.Places.{slice_get-append, slice_get_seam}

@@ -1,8 +1,8 @@
 -- A population meets a log's slots: every slot was read as what happens in it.
-use Rattle.std.specs.Prelude.{◌≡◌, ◌≢◌, ℕ, List}
-use Rattle.std.specs.List.{filter, AllByRecursion}
-use Rattle.vic_log.specs.Populations.{Outcome, Nobody, Lone, Several, outcome_of}
-use Rattle.vic_log.specs.Slots.{Reading, NoReply, OneReply, ManyReplies, SomeReply, Slot}
+use Rattle.std.proofs.Common.{◌≡◌, ◌≢◌, ℕ, List}
+use Rattle.vic_log.proofs.Words.{filter, Outcome, Lone, outcome_of, Reading, NoReply, OneReply, ManyReplies, SomeReply, Slot}
+use Rattle.std.specs.List.{AllByRecursion}
+use Rattle.vic_log.specs.Populations.{Nobody, Several}
 
 -- a reading fits an outcome
 abbrev pub ReadingFits : Reading → Outcome → Type 0

@@ -1,9 +1,6 @@
 -- A text has one answer.
 use Rattle.std.proofs.Common.{◌≡◌, ◌⊎◌, inl, inr, ℕ, zero, suc, ◌<◌, Option, Some, None, List, length, refl, sym, ap, ◌∙◌, arith, ⊎_elim}
-use Rattle.std.proofs.lemmas.Bool.{cases_eq, cases_lt}
-use Rattle.vic_log.specs.declared.fault.LineFault.{LineFault}
-use Rattle.vic_log.specs.Log.{LogValue}
-use Rattle.vic_log.specs.Text.{version_of, log_upto, fault_on, IsFirstFault, IsLogOf}
+use Rattle.vic_log.proofs.Words.{cases_eq, cases_lt, LineFault, LogValue, version_of, log_upto, fault_on, IsFirstFault, IsLogOf}
 use Rattle.vic_log.proofs.Passing.{past_end}
 
 not_before : (lines : List (List ℕ)) (n m : ℕ) (f g : LineFault) → IsFirstFault lines n f → IsFirstFault lines m g → n < m → ⊥

@@ -1,15 +1,11 @@
 -- The open round, from one position to the next.
-use Rattle.std.proofs.Common.{◌≡◌, ℕ, suc, ◌<◌, ◌≤◌, ◌+◌, ◌-◌, List, true, false, Option, Some, None, refl, sym, ap, ◌∙◌, subst, arith, add-one}
-use Rattle.std.specs.Prelude.{IfSome, slice_get, if◌then◌else◌}
+use Rattle.std.proofs.Common.{◌≡◌, ℕ, suc, ◌<◌, ◌≤◌, ◌+◌, ◌-◌, List, true, false, Option, Some, None, refl, sym, ap, ◌∙◌, subst, arith, add-one, IfSome, slice_get, if◌then◌else◌}
+use Rattle.vic_log.proofs.Words.{Entry, Sent, Silent, Listed, FieldCycle, opener, ends_round, IsInRound, IsInOrder}
 use Rattle.vic_frame.specs.Slots.{slot_count}
 use Rattle.vic_frame.specs.declared.request.Request.{Request}
 use Rattle.vic_frame.specs.declared.request.Request.TheVariants.{Inventory, StayQuiet}
-use Rattle.vic_log.specs.declared.entry.Entry.{Entry}
-use Rattle.vic_log.specs.declared.entry.Entry.TheVariants.{Sent, Silent, Listed, FieldCycle}
 use Rattle.vic_log.specs.declared.rounds.OpenRound.{OpenRound}
 use Rattle.vic_log.specs.declared.rounds.RoundCursor.{RoundCursor}
-use Rattle.vic_log.specs.Rounds.{opener, ends_round, IsInRound}
-use Rattle.vic_log.specs.Order.{IsInOrder}
 use Rattle.vic_log.specs.OpenRounds.{round_of, round_since, round_at, IsCursorAt}
 use Rattle.vic_log.proofs.Places.{opener_below}
 

@@ -1,13 +1,8 @@
 -- Slots in a round, and entries in order.
-use Rattle.std.proofs.Common.{◌≡◌, ℕ, suc, ◌-◌, ◌<◌, List, Option, Some, None, refl, ap, sym, ◌∙◌, ◌++◌, arith}
-use Rattle.std.specs.Prelude.{◌↔◌, slice_get}
-use Rattle.vic_log.specs.declared.entry.Entry.{Entry}
+use Rattle.std.proofs.Common.{◌≡◌, ℕ, suc, ◌-◌, ◌<◌, List, Option, Some, None, refl, ap, sym, ◌∙◌, ◌++◌, arith, ◌↔◌, slice_get}
+use Rattle.vic_log.proofs.Words.{Entry, opener, slots_opened, left_since, slots_left, IsInRound, IsInOrder, Sent, Listed, FieldCycle, slice_get_within}
 use Rattle.vic_frame.specs.Slots.{slot_count}
-use Rattle.vic_log.specs.Rounds.{opener, slots_opened, left_since, slots_left, IsInRound}
-use Rattle.vic_log.specs.Order.{IsInOrder}
-use Rattle.vic_log.specs.declared.entry.Entry.TheVariants.{Sent, Listed, FieldCycle}
 use Rattle.vic_log.proofs.Places.{agree_append, agree_upto, opener_agrees, opener_below}
-use Rattle.std.proofs.lemmas.Option.{slice_get_within}
 use Rattle.std.proofs.Math.Nat.{le_of_lt}
 
 pub still_there : (es fs : List Entry) (i : ℕ) (e : Entry) → slice_get es i ≡ Some e → slice_get (es ++ fs) i ≡ Some e

@@ -1,21 +1,8 @@
 -- Lines that were read, and the next one.
-use Rattle.std.proofs.Common.{◌≡◌, ℕ, zero, suc, ◌<◌, ◌≤◌, Bool, true, false, Option, Some, None, Result, Ok, Err, List, [], ◌∷◌, ◌++◌, length, refl, sym, ap, ◌∙◌, arith, ⊎_elim, append-nil}
-use Rattle.std.specs.Prelude.{◌≢◌, slice_get, nat_lt, if◌then◌else◌, ◌==◌}
-use Rattle.std.proofs.lemmas.Bool.{cases_eq, cases_lt, cond_both, cond-false, ltb-false, ne_eqb}
-use Rattle.std.proofs.lemmas.List.{length_push}
+use Rattle.std.proofs.Common.{◌≡◌, ℕ, zero, suc, ◌<◌, ◌≤◌, Bool, true, false, Option, Some, None, Result, Ok, Err, List, [], ◌∷◌, ◌++◌, length, refl, sym, ap, ◌∙◌, arith, ⊎_elim, append-nil, ◌≢◌, slice_get, nat_lt, if◌then◌else◌, ◌==◌}
+use Rattle.vic_log.proofs.Words.{cases_eq, cases_lt, cond_both, cond-false, ltb-false, ne_eqb, length_push, Entry, LogLine, Version, LineFault, TooManyLines, Header, Memory, AreRead, entries, LogValue, last_from, line_reading, named_version, version_of, line_fault, entry_line, logged, log_upto, fault_on, IsFirstFault, IsLogOf, next_fault, after_line, RefusesNext}
 use Rattle.std.proofs.lemmas.Option.{slice_get_past}
-use Rattle.vic_log.specs.declared.entry.Entry.{Entry}
-use Rattle.vic_log.specs.declared.entry.LogLine.{LogLine}
-use Rattle.vic_log.specs.declared.entry.Version.{Version}
-use Rattle.vic_log.specs.declared.fault.LineFault.{LineFault}
-use Rattle.vic_log.specs.declared.fault.LineFault.TheVariants.{TooManyLines, Header}
-use Rattle.vic_log.specs.declared.fault.LogFault.TheVariants.{Memory}
-use Rattle.vic_log.specs.Begun.{AreRead}
-use Rattle.vic_log.specs.Order.{entries}
-use Rattle.vic_log.specs.Log.{LogValue, last_from}
-use Rattle.vic_log.specs.LineReading.{line_reading}
-use Rattle.vic_log.specs.Text.{named_version, version_of, line_fault, entry_line, logged, log_upto, fault_on, IsFirstFault, IsLogOf, GiveEntries}
-use Rattle.vic_log.specs.inner.Text.{next_fault, after_line, RefusesNext}
+use Rattle.vic_log.specs.Text.{GiveEntries}
 use Rattle.vic_log.proofs.Places.{slice_get-append, slice_get_seam}
 use Rattle.vic_log.proofs.Push.{last_from-push}
 

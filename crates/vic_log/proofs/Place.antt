@@ -1,12 +1,9 @@
 -- The first LF of some bytes.
-use Rattle.std.proofs.Common.{◌≡◌, ℕ, zero, suc, ◌-◌, ◌<◌, ◌≤◌, true, false, List, [], ◌∷◌, ◌++◌, length, take, drop, Result, Ok, Err, ⊎_elim, refl, sym, ap, ◌∙◌, arith}
-use Rattle.std.specs.Prelude.{slice_index, nat_eq, ◌==◌, ◌↔◌, IsOk, is_ok, OnOk}
-use Rattle.std.proofs.lemmas.Bool.{or_from, ne_eqb, eq-eqb, cases_lt}
+use Rattle.std.proofs.Common.{◌≡◌, ℕ, zero, suc, ◌-◌, ◌<◌, ◌≤◌, true, false, List, [], ◌∷◌, ◌++◌, length, take, drop, Result, Ok, Err, ⊎_elim, refl, sym, ap, ◌∙◌, arith, slice_index, nat_eq, ◌==◌, ◌↔◌, IsOk, is_ok, OnOk}
+use Rattle.vic_log.proofs.Words.{or_from, ne_eqb, eq-eqb, cases_lt, has, lf}
 use Rattle.std.proofs.lemmas.List.{length-drop, take_all}
 use Rattle.std.proofs.Math.Seq.{take-length}
-use Rattle.vic_frame.specs.Uids.{has}
 use Rattle.vic_log.specs.Begun.{IsSplit}
-use Rattle.vic_log.specs.Lines.{lf}
 
 pub lacks : (bytes : List ℕ) (k : ℕ) → k ≤ length bytes → ((i : ℕ) → 0 ≤ i → i < k → slice_index bytes i == lf ≡ true → ⊥) → has (take k bytes) lf ≡ false
 lacks bytes zero h none = refl

@@ -1,17 +1,11 @@
 -- From the entries of a log to its slots; what entries that follow leave as it is.
-use Rattle.std.proofs.Common.{◌≡◌, ℕ, zero, suc, ◌<◌, ◌≤◌, List, [], ◌∷◌, ◌++◌, length, Bool, true, false, Option, Some, None, refl, sym, ap, ◌∙◌, subst, arith, ⊎_elim, ◌+◌, length-append}
-use Rattle.std.specs.Prelude.{◌↔◌, slice_get, if◌then◌else◌}
-use Rattle.std.specs.List.{filter}
-use Rattle.std.proofs.lemmas.Bool.{cases_eq, cases_lt}
+use Rattle.std.proofs.Common.{◌≡◌, ℕ, zero, suc, ◌<◌, ◌≤◌, List, [], ◌∷◌, ◌++◌, length, Bool, true, false, Option, Some, None, refl, sym, ap, ◌∙◌, subst, arith, ⊎_elim, ◌+◌, length-append, ◌↔◌, slice_get, if◌then◌else◌}
+use Rattle.vic_log.proofs.Words.{filter, cases_eq, cases_lt, slice_get_within, Entry, Sent, Listed, FieldCycle, ends_round, opener, mask_since, is_quiet, answers_at, outcome_of, Fits, CouldHaveGiven, Slot}
 use Rattle.std.proofs.lemmas.List.Elements.{filter_agree}
-use Rattle.std.proofs.lemmas.Option.{slice_get_within}
-use Rattle.vic_log.specs.declared.entry.Entry.{Entry}
-use Rattle.vic_log.specs.declared.entry.Entry.TheVariants.{Sent, Listed, FieldCycle}
-use Rattle.vic_log.specs.Rounds.{ends_round, opener, mask_since, mask_at}
-use Rattle.vic_log.specs.Quiet.{is_quiet}
-use Rattle.vic_log.specs.Populations.{answers_at, outcome_of, outcome_at, Fits, CouldHaveGiven}
+use Rattle.vic_log.specs.Rounds.{mask_at}
+use Rattle.vic_log.specs.Populations.{outcome_at}
 use Rattle.vic_log.proofs.Meeting.{MeetsAll}
-use Rattle.vic_log.specs.Slots.{Slot, with_entry, slots_before, slots_of}
+use Rattle.vic_log.specs.Slots.{with_entry, slots_before, slots_of}
 
 -- ---- entries and slots
 

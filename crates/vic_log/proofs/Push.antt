@@ -1,23 +1,12 @@
 -- One entry more: what entries in order keep, and what a log keeps.
-use Rattle.std.proofs.Common.{◌≡◌, ℕ, zero, suc, ◌+◌, ◌-◌, ◌<◌, ◌≤◌, Bool, true, false, Option, Some, None, List, [], ◌∷◌, ◌++◌, length, take, length-append, refl, sym, ap, subst, ◌∙◌, arith, ⊎_elim}
-use Rattle.std.specs.Prelude.{slice_get, nat_eq, nat_lt, if◌then◌else◌, not, ◌||◌}
-use Rattle.std.proofs.lemmas.Bool.{cases_lt, not-false, ltb-true, eq-eqb, or_right}
-use Rattle.std.proofs.lemmas.List.{map-append, length-map}
-use Rattle.std.proofs.lemmas.Option.{slice_get_within}
-use Rattle.vic_log.specs.declared.entry.Entry.{Entry}
-use Rattle.vic_log.specs.declared.entry.Entry.TheVariants.{Sent, Listed, FieldCycle}
-use Rattle.vic_log.specs.declared.entry.LogLine.{LogLine}
+use Rattle.std.proofs.Common.{◌≡◌, ℕ, zero, suc, ◌+◌, ◌-◌, ◌<◌, ◌≤◌, Bool, true, false, Option, Some, None, List, [], ◌∷◌, ◌++◌, length, take, length-append, refl, sym, ap, subst, ◌∙◌, arith, ⊎_elim, slice_get, nat_eq, nat_lt, if◌then◌else◌, not, ◌||◌}
+use Rattle.vic_log.proofs.Words.{cases_lt, ltb-true, eq-eqb, or_right, map-append, length-map, slice_get_within, Entry, Sent, Listed, FieldCycle, LogLine, has, Version, V1, IsOfFirstVersion, AreOfFirstVersion, opener, slots_opened, left_since, slots_left, is_slot, IsInOrder, entries, listed, AreValid, is_empty, refusal, last_from, IsValidEntry, IsTyped, AreTyped, numbered}
+use Rattle.std.proofs.lemmas.Bool.{not-false}
 use Rattle.vic_log.specs.declared.fault.PushFault.{PushFault}
 use Rattle.vic_log.specs.declared.fault.PushFault.TheVariants.{SlotOutsideRound, EntryAfterList, DuplicateListed}
-use Rattle.vic_frame.specs.Uids.{has}
-use Rattle.vic_log.specs.declared.entry.Version.{Version}
-use Rattle.vic_log.specs.declared.entry.Version.TheVariants.{V1}
-use Rattle.vic_log.specs.FirstVersion.{IsOfFirstVersion, AreOfFirstVersion}
-use Rattle.vic_log.specs.Rounds.{opener, slots_opened, left_since, slots_left, is_slot}
-use Rattle.vic_log.specs.Order.{IsInOrder, entries, listed, IsRisingFrom, AreValid, is_outside_round, is_empty, is_after_list, is_duplicate, refusal}
-use Rattle.vic_log.specs.Log.{last_from, IsValidEntry, IsTyped, AreTyped, IsLog}
+use Rattle.vic_log.specs.Order.{IsRisingFrom, is_outside_round, is_after_list, is_duplicate}
+use Rattle.vic_log.specs.Log.{IsLog}
 use Rattle.vic_log.specs.Kept.{left_after, Keeps}
-use Rattle.vic_log.specs.Writing.{numbered}
 use Rattle.vic_log.proofs.Places.{AgreeBefore, opener_agrees, opener_below, agree_append, slice_get_last, agree_upto}
 use Rattle.vic_log.proofs.Order.{in_round-slots_left}
 

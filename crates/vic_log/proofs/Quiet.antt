@@ -1,10 +1,7 @@
 -- A tag is Quiet where a Stay Quiet with its UID stands before, and no field cycle between.
-use Rattle.std.proofs.Common.{◌≡◌, ℕ, zero, suc, List, true, not, ◌&&◌, Option, Some, None, refl, sym, subst, arith, ⊎_elim}
-use Rattle.std.specs.Prelude.{◌≢◌, slice_get}
-use Rattle.std.proofs.lemmas.Bool.{cases_eq, and_parts, and_from, or_cases, or_left, or_right, false≢true}
-use Rattle.vic_log.specs.declared.entry.Entry.{Entry}
-use Rattle.vic_log.specs.declared.entry.Entry.TheVariants.{FieldCycle}
-use Rattle.vic_log.specs.Quiet.{silences, wakes, is_quiet, IsSilenced}
+use Rattle.std.proofs.Common.{◌≡◌, ℕ, zero, suc, List, true, not, ◌&&◌, Option, Some, None, refl, sym, subst, arith, ⊎_elim, ◌≢◌, slice_get}
+use Rattle.vic_log.proofs.Words.{cases_eq, and_parts, and_from, or_cases, or_left, or_right, false≢true, Entry, FieldCycle, silences, wakes, is_quiet}
+use Rattle.vic_log.specs.Quiet.{IsSilenced}
 
 keeps_quiet : (o : Option Entry) → not (wakes o) ≡ true → o ≢ Some FieldCycle
 keeps_quiet (Some FieldCycle) h e = false≢true h

@@ -1,10 +1,6 @@
 -- Lists of UIDs as sets.
-use Rattle.std.proofs.Common.{◌≡◌, ℕ, List, [], ◌∷◌, Bool, true, false, cond, ◌&&◌, refl, sym, ◌∙◌, subst, inl, inr, ⊎_elim}
-use Rattle.std.specs.Prelude.{◌⊎◌, nat_eq}
-use Rattle.std.specs.List.{filter}
-use Rattle.std.proofs.lemmas.Bool.{cases_eq, ne_eqb, eqb-true, eq-eqb, and_parts, and_from, or_cases, or_left, or_right, false≢true, both_ways, false_from_ne_true}
-use Rattle.vic_frame.specs.Uids.{IsUid, has, AreDifferent}
-use Rattle.vic_log.specs.Populations.{IsPopulation}
+use Rattle.std.proofs.Common.{◌≡◌, ℕ, List, [], ◌∷◌, Bool, true, false, cond, ◌&&◌, refl, sym, ◌∙◌, subst, inl, inr, ⊎_elim, ◌⊎◌, nat_eq}
+use Rattle.vic_log.proofs.Words.{filter, cases_eq, ne_eqb, eqb-true, eq-eqb, and_parts, and_from, or_cases, or_left, or_right, false≢true, both_ways, false_from_ne_true, IsUid, has, AreDifferent, IsPopulation}
 
 -- a set of numbers within another
 abbrev pub IsWithin : (ℕ → Bool) → (ℕ → Bool) → Type 0

@@ -1,23 +1,13 @@
 -- The line of an entry reads back as the entry.
-use Rattle.std.proofs.Common.{◌≡◌, ℕ, zero, suc, ◌*◌, ◌/◌, ◌%◌, ◌<◌, Bool, true, false, Some, None, List, [], ◌∷◌, length, refl, ap, arith}
-use Rattle.std.specs.Prelude.{slice_get, slice_index, nat_eq, ◌||◌}
+use Rattle.std.proofs.Common.{◌≡◌, ℕ, zero, suc, ◌*◌, ◌/◌, ◌%◌, ◌<◌, Bool, true, false, Some, None, List, [], ◌∷◌, length, refl, ap, arith, slice_get, slice_index, nat_eq, ◌||◌}
+use Rattle.vic_log.proofs.Words.{ne_eqb, encode_upper, upper_digits, hex_digit_value, has, Entry, Sent, Silent, Collision, Heard, Listed, Garbled, FieldCycle, Version, V1, V2, IsOfFirstVersion, AreOfFirstVersion, IsValidEntry, IsTyped, AreTyped, AreValid, entry_text}
+use Rattle.hex.specs.Hex.{encode_with, IsBytes}
 use Rattle.std.specs.Int.{to_be_bytes, w64}
-use Rattle.std.proofs.lemmas.Bool.{ne_eqb}
-use Rattle.hex.specs.Hex.{encode_upper, encode_with, upper_digits, hex_digit_value, IsBytes}
 use Rattle.hex.proofs.HexLemmas.{decode_of-encode_upper, length-encode_with, IsDigits-upper_digits}
-use Rattle.vic_frame.specs.Uids.{has}
 use Rattle.vic_frame.specs.Requests.{request_spelling}
 use Rattle.vic_frame.specs.Replies.{reply_spelling}
-use Rattle.vic_log.specs.declared.entry.Entry.{Entry}
-use Rattle.vic_log.specs.declared.entry.Entry.TheVariants.{Sent, Silent, Collision, Heard, Listed, Garbled, FieldCycle}
-use Rattle.vic_log.specs.declared.entry.Version.{Version}
-use Rattle.vic_log.specs.declared.entry.Version.TheVariants.{V1, V2}
-use Rattle.vic_log.specs.FirstVersion.{IsOfFirstVersion, AreOfFirstVersion}
-use Rattle.vic_log.specs.Log.{IsValidEntry, IsTyped, AreTyped}
-use Rattle.vic_log.specs.Order.{AreValid}
 use Rattle.vic_log.proofs.FrameBytes.{AreBytes-request, length-request, AreBytes-reply, length-reply}
 use Rattle.vic_log.specs.Grammar.{HasBytes}
-use Rattle.vic_log.specs.Writing.{entry_text}
 use Rattle.vic_log.proofs.Grammar.{digits-of, spelled-reads}
 use Rattle.vic_log.proofs.Written.{IsPlain, IsSpelled, AreSpelled}
 

@@ -1,11 +1,9 @@
 -- A population meets the slots where its members are open and it supplies what the slots ask for.
-use Rattle.std.proofs.Common.{◌≡◌, ℕ, List, [], ◌∷◌, Bool, true, false, refl, sym, ap, ◌∙◌, subst, ⊎_elim}
-use Rattle.std.specs.Prelude.{◌≢◌, ◌↔◌}
+use Rattle.std.proofs.Common.{◌≡◌, ℕ, List, [], ◌∷◌, Bool, true, false, refl, sym, ap, ◌∙◌, subst, ⊎_elim, ◌≢◌, ◌↔◌}
+use Rattle.vic_log.proofs.Words.{eqb-true, eq-eqb, leb-true, ltb-true, lt-ltb, and_parts, and_from, false≢true, both_ways, has, is_uid, IsUid, AreDifferent, IsPopulation, Lone, outcome_of, Reading, NoReply, OneReply, ManyReplies, SomeReply, Slot}
 use Rattle.std.specs.List.{list_all}
-use Rattle.std.proofs.lemmas.Bool.{eqb-true, eq-eqb, leb-true, ltb-true, le-leb, lt-ltb, and_parts, and_from, false≢true, both_ways}
-use Rattle.vic_frame.specs.Uids.{has, is_uid, IsUid, AreDifferent}
-use Rattle.vic_log.specs.Populations.{IsPopulation, Lone, outcome_of}
-use Rattle.vic_log.specs.Slots.{Reading, NoReply, OneReply, ManyReplies, SomeReply, Slot, may_be, allows, is_open, Asks, Supplies, SuppliesAll}
+use Rattle.std.proofs.lemmas.Bool.{le-leb}
+use Rattle.vic_log.specs.Slots.{may_be, allows, is_open, Asks, Supplies, SuppliesAll}
 use Rattle.vic_log.proofs.Meeting.{ReadingFits, Meets, MeetsAll}
 use Rattle.vic_log.proofs.Sets.{IsWithin, has_here, has_at, has_there, has_cases, has_filter, filter_has, AreDifferent-filter, AreDifferent-population, IsUid-member}
 

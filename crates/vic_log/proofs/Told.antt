@@ -1,11 +1,10 @@
 -- Bytes that are taken in turn.
 use Rattle.std.proofs.Common.{arith, ◌≡◌, ◌+◌, ◌-◌, ℕ, List, [], ◌++◌, length, length-append, take, drop, None, Some, Option, sym, ◌∙◌, ap, subst, append-nil, append_assoc}
+use Rattle.vic_log.proofs.Words.{take-append-le, Appends, HasTakenBut}
 use Rattle.std.proofs.KnownBytes.{Appends-trans}
 use Rattle.std.proofs.lemmas.Grind.{common_steps}
-use Rattle.std.proofs.lemmas.List.{take-append-le}
 use Rattle.std.proofs.Math.Seq.{take-add, take-append-add}
-use Rattle.std.specs.Io.KnownBytes.{Appends}
-use Rattle.vic_log.specs.Device.{HasTakenBut, HasTakenPrefix}
+use Rattle.vic_log.specs.Device.{HasTakenPrefix}
 
 -- the first n bytes, and then the next m of the rest
 pub appended-more : (a b c : Option (List ℕ)) (n m : ℕ) (xs : List ℕ) →

@@ -1,21 +1,15 @@
 -- A set of UIDs, spread over rows.
+use Rattle.std.proofs.Common.{◌≡◌, ℕ, zero, suc, subst, ◌<◌, Bool, true, false, Some, List, [], ◌∷◌, ◌++◌, length, take, get_or, ⊎_elim, refl, sym, ap, ◌∙◌, arith, nat_eq, ◌||◌, not, slice_get, set, cond}
+use Rattle.vic_log.proofs.Words.{false_from_ne_true, cases_eq, ne_eqb, eq-eqb, eqb-true, or_from, or_right, list_any-append, list_any, has, IsUid, row_of, IsUidSet, IsSetOf, IsIndex, LogLine, entries, listed}
 use Rattle.std.proofs.lemmas.Grind.{common_steps}
-use Rattle.std.proofs.Common.{◌≡◌, ℕ, zero, suc, subst, ◌<◌, Bool, true, false, Some, List, [], ◌∷◌, ◌++◌, length, take, get_or, ⊎_elim, refl, sym, ap, ◌∙◌, arith}
-use Rattle.std.specs.Prelude.{nat_eq, ◌||◌, not, slice_get, set, cond}
-use Rattle.std.proofs.lemmas.Bool.{false_from_ne_true, cases_eq, ne_eqb, eq-eqb, eqb-true, or_from, or_right}
 use Rattle.std.proofs.lemmas.List.{get_or_default, length-set, get_or-set_same, get_or-set_other}
-use Rattle.std.proofs.lemmas.List.Folds.{list_any-append}
 use Rattle.std.proofs.Math.Bool.{or_comm, or_assoc, or-false}
-use Rattle.std.specs.List.{list_any}
 use Rattle.std.specs.BTreeMap.{is_at}
 use Rattle.std.specs.Vec.{with_item, vec_len}
 use Rattle.std.specs.BTreeSet as sorted
 use Rattle.std.specs.Ordering.{nat_cmp}
-use Rattle.vic_frame.specs.Uids.{has, IsUid}
 use Rattle.vic_log.specs.declared.uid_set.UidSet.{UidSet}
-use Rattle.vic_log.specs.inner.UidSets.{place_of, row_of, is_held, IsUidSet, IsSetOf, IsIndex}
-use Rattle.vic_log.specs.declared.entry.LogLine.{LogLine}
-use Rattle.vic_log.specs.Order.{entries, listed}
+use Rattle.vic_log.specs.inner.UidSets.{place_of, is_held}
 use Rattle.vic_log.proofs.Push.{listed-append, entries_next}
 use Rattle.vic_log.proofs.Sets.{eq_swapped}
 

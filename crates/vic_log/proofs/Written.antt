@@ -1,21 +1,10 @@
 -- The text of a log reads back.
-use Rattle.std.proofs.Common.{◌≡◌, ℕ, zero, suc, ◌+◌, ◌-◌, ◌<◌, ◌≤◌, true, false, Some, None, Ok, List, [], ◌∷◌, ◌++◌, length, refl, sym, ap, subst, ◌∙◌, arith, append_assoc, append-nil}
-use Rattle.std.specs.Prelude.{slice_get, slice_index, nat_eq, if◌then◌else◌, ◌==◌, map}
+use Rattle.std.proofs.Common.{◌≡◌, ℕ, zero, suc, ◌+◌, ◌-◌, ◌<◌, ◌≤◌, true, false, Some, None, Ok, List, [], ◌∷◌, ◌++◌, length, refl, sym, ap, subst, ◌∙◌, arith, append_assoc, append-nil, slice_get, slice_index, nat_eq, if◌then◌else◌, ◌==◌, map}
+use Rattle.vic_log.proofs.Words.{and_from, cond-true, cond-false, or_parts, eq-eqb, ne_eqb, le-ltb, lt-ltb, length_push, Entry, has, IsInOrder, entries, onto, cut, ends_with, all_but_last, without_last, content, lines_of_text, line_reading, named_version, line_fault, entry_line, logged, IsLogOf, after_line, LogValue, Version, V1, V2, entry_text, numbered, AreRead}
 use Rattle.std.proofs.Math.Seq.{get_or-append_seam, take-append_seam}
-use Rattle.std.proofs.lemmas.Bool.{and_from, and_right, cond-true, cond-false, or_parts, eq-eqb, ne_eqb, le-ltb, lt-ltb}
-use Rattle.std.proofs.lemmas.List.{length_push}
-use Rattle.vic_log.specs.declared.entry.Entry.{Entry}
-use Rattle.vic_frame.specs.Uids.{has}
-use Rattle.vic_log.specs.Order.{IsInOrder, entries}
-use Rattle.vic_log.specs.Lines.{onto, cut, ends_with, all_but_last, without_last, content, lines_of_text}
-use Rattle.vic_log.specs.LineReading.{line_reading}
-use Rattle.vic_log.specs.Text.{named_version, line_fault, reading_fault, entry_line, logged, IsLogOf, header}
-use Rattle.vic_log.specs.inner.Text.{after_line}
-use Rattle.vic_log.specs.Log.{LogValue}
-use Rattle.vic_log.specs.declared.entry.Version.{Version}
-use Rattle.vic_log.specs.declared.entry.Version.TheVariants.{V1, V2}
-use Rattle.vic_log.specs.Writing.{entry_text, joined, numbered}
-use Rattle.vic_log.specs.Begun.{AreRead}
+use Rattle.std.proofs.lemmas.Bool.{and_right}
+use Rattle.vic_log.specs.Text.{reading_fault, header}
+use Rattle.vic_log.specs.Writing.{joined}
 use Rattle.vic_log.proofs.Passing.{AreRead-start, AreRead-push, AreRead-end}
 use Rattle.vic_log.proofs.Follow.{first_reason-none}
 use Rattle.vic_log.proofs.Push.{entries-numbered}

@@ -1,10 +1,9 @@
 use Rattle.std.proofs.Common.{◌≡◌, ℕ, ◌+◌, ◌<◌, ◌≤◌, eqb, Bool, false, true, not, List, length, map, get_or, sym, ap, subst, ◌∙◌, arith, w8, inl, inr}
-use Rattle.std.proofs.lemmas.Bool.{cases_lt}
+use Rattle.vic_log.proofs.Words.{cases_lt, lf}
 use Rattle.std.proofs.lemmas.Simd.{bitmask_splat, length-chunk, get_or-chunk, trailing_mask_l, run_in_chunk_fails, run_in_chunk_stops}
 use Rattle.std.specs.List.{prefix_len}
 use lib.Count.{count_trailing_zeros}
 use lib.Lanes.{chunk, mask_l}
-use Rattle.vic_log.specs.Lines.{lf}
 use Rattle.vic_log.proofs.Lanes.{some_marked}
 use Rattle.vic_log.proofs.begun.find_lf.Goals as goal
 

@@ -1,7 +1,5 @@
-use Rattle.std.proofs.Common.{◌≡◌, ◌+◌, refl, arith}
-use Rattle.std.proofs.lemmas.Bool.{eqb-true}
-use Rattle.std.specs.Prelude.{slice_index}
-use Rattle.vic_log.specs.Lines.{lf}
+use Rattle.std.proofs.Common.{◌≡◌, ◌+◌, refl, arith, slice_index}
+use Rattle.vic_log.proofs.Words.{eqb-true, lf}
 use Rattle.vic_log.proofs.Place.{lacks_all, split_at}
 use Rattle.vic_log.proofs.begun.split_line.Goals as goal
 

@@ -1,13 +1,5 @@
 use Rattle.std.proofs.Common.{rules, ◌≡◌, false, ◌+◌, ◌++◌, ◌∷◌, [], ℕ, List, None, Result, Ok, Err, MatchResult, IfErr, OnOk, length, sym, ap, append_assoc, add-one, arith, inl, length-append}
-use Rattle.std.proofs.lemmas.List.{nil_from_length}
-use Rattle.std.proofs.lemmas.Result.{err_from_is_err_and}
-use Rattle.vic_frame.specs.Uids.{has}
-use Rattle.vic_log.specs.declared.fault.LogFault.{LogFault}
-use Rattle.vic_log.specs.Begun.{HasJudged}
-use Rattle.vic_log.specs.Early.{IsEarly}
-use Rattle.vic_log.specs.Lines.{lf, cr, without_last}
-use Rattle.vic_log.specs.Log.{LogValue}
-use Rattle.vic_log.specs.inner.Text.{next_fault, after_line, RefusesNext}
+use Rattle.vic_log.proofs.Words.{nil_from_length, err_from_is_err_and, has, LogFault, HasJudged, IsEarly, lf, cr, without_last, LogValue, next_fault, after_line, RefusesNext}
 use Rattle.vic_log.proofs.Judged.{HasCut-more, HasJudged-end, early-refused, early-long, early-many}
 use Rattle.vic_log.proofs.Passing.{AreRead-above, AreRead-none}
 use Rattle.vic_log.proofs.Place.{over}

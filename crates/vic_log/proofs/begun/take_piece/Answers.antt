@@ -1,8 +1,6 @@
 use Rattle.std.proofs.Common.{◌≡◌, ◌++◌, ◌∷◌, [], ℕ, List, refl, ap, sym, subst, ◌∙◌, append_assoc, append-nil, length, length-append, arith}
-use Rattle.std.proofs.lemmas.Result.{err_from_is_err_and, IfErr-weaker, on_ok_weaker}
-use Rattle.vic_log.specs.Begun.{HasJudged}
-use Rattle.vic_log.specs.Early.{IsEarly}
-use Rattle.vic_log.specs.Lines.{lf}
+use Rattle.vic_log.proofs.Words.{err_from_is_err_and, HasJudged, IsEarly, lf}
+use Rattle.std.proofs.lemmas.Result.{IfErr-weaker, on_ok_weaker}
 use Rattle.vic_log.proofs.begun.take_piece.Goals as goal
 
 -- what was taken, the line, and what stands behind it

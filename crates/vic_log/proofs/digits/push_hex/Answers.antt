@@ -1,5 +1,5 @@
 use Rattle.std.proofs.Common.{◌≡◌, ◌+◌, ◌/◌, ◌%◌, [], ◌∷◌, ◌++◌, drop, slice_index, ap, sym, ◌∙◌, arith}
-use Rattle.hex.specs.Hex.{encode_upper, upper_digits}
+use Rattle.vic_log.proofs.Words.{encode_upper, upper_digits}
 use Rattle.vic_log.proofs.HexDigits.{with_digits, next_byte, no_byte}
 use Rattle.vic_log.proofs.digits.push_hex.Goals as goal
 

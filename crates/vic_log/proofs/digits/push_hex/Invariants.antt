@@ -1,6 +1,6 @@
 use Rattle.std.proofs.Common.{◌≡◌, ◌+◌, ◌*◌, ◌++◌, drop}
+use Rattle.vic_log.proofs.Words.{encode_upper}
 use Rattle.arrayvec.specs.ArrayVec.{array_vec_len}
-use Rattle.hex.specs.Hex.{encode_upper}
 use Rattle.vic_log.proofs.digits.push_hex.Given as goal
 
 abbrev pub invariant-loop-byte : goal.invariant-loop-byte

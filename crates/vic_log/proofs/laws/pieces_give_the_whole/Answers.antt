@@ -1,10 +1,6 @@
 use Rattle.std.proofs.Common.{◌≡◌, ◌++◌, ℕ, List, [], Some, Result, Ok, Err, ap, sym, subst, ◌∙◌, append-nil, ⊎_elim}
-use Rattle.vic_log.specs.declared.fault.LogFault.{LogFault}
-use Rattle.vic_log.specs.declared.fault.LogFault.TheVariants.{Line, Read, Memory, Spent}
-use Rattle.vic_log.specs.Early.{IsEarlyFault, ReadsAs, Judges}
-use Rattle.vic_log.specs.Lines.{lines_of_text}
-use Rattle.vic_log.specs.Log.{LogValue}
-use Rattle.vic_log.specs.Text.{IsFirstFault, IsLogOf}
+use Rattle.vic_log.proofs.Words.{LogFault, Line, Read, Memory, Spent, IsEarlyFault, lines_of_text, LogValue, IsFirstFault, IsLogOf}
+use Rattle.vic_log.specs.Early.{ReadsAs, Judges}
 use Rattle.vic_log.proofs.Early.{early}
 use Rattle.vic_log.proofs.laws.pieces_give_the_whole.Goals as goal
 

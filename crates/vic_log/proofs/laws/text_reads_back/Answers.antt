@@ -1,4 +1,4 @@
-use Rattle.vic_log.specs.Order.{entries}
+use Rattle.vic_log.proofs.Words.{entries}
 use Rattle.vic_log.proofs.Push.{IsLog-long}
 use Rattle.vic_log.proofs.Written.{text_of-reads}
 use Rattle.vic_log.proofs.Spelled.{spelled_all}

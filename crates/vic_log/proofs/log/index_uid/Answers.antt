@@ -1,6 +1,5 @@
 use Rattle.std.proofs.Common.{rules, ◌≡◌, ◌∙◌, ap, refl, true, not}
-use Rattle.vic_frame.specs.Uids.{has, IsUid}
-use Rattle.vic_log.specs.Order.{entries, listed}
+use Rattle.vic_log.proofs.Words.{has, IsUid, entries, listed}
 use Rattle.vic_log.proofs.UidSets.{IsIndex-held, IsSetOf-push, IsSetOf-same, has_unless}
 use Rattle.vic_log.proofs.log.index_uid.Goals as goal
 

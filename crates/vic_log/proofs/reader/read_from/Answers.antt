@@ -1,15 +1,8 @@
-use Rattle.std.proofs.Common.{rules, ◌≡◌, ◌≤◌, ◌<◌, ◌-◌, ◌++◌, ℕ, List, Option, Some, None, [], Result, Ok, Err, MatchResult, IfErr, take, length, length-append, length-take-le, false, true, inl, inr, ap, sym, subst, ◌∙◌, append-nil, append_assoc, arith}
-use Rattle.std.specs.Prelude.{◌↔◌}
-use Rattle.std.proofs.KnownBytes.{Consumes-nil, Consumes-trans}
-use Rattle.std.proofs.lemmas.Result.{err_from_is_err_and}
-use Rattle.std.specs.Io.KnownBytes.{Consumes}
-use Rattle.vic_log.specs.declared.fault.LogFault.{LogFault}
-use Rattle.vic_log.specs.declared.fault.LogFault.TheVariants.{Line, Read, Memory, Spent}
+use Rattle.std.proofs.Common.{rules, ◌≡◌, ◌≤◌, ◌<◌, ◌-◌, ◌++◌, ℕ, List, Option, Some, None, [], Result, Ok, Err, MatchResult, IfErr, take, length, length-append, length-take-le, false, true, inl, inr, ap, sym, subst, ◌∙◌, append-nil, append_assoc, arith, ◌↔◌}
+use Rattle.vic_log.proofs.Words.{Consumes-trans, err_from_is_err_and, Consumes, LogFault, Line, Read, Memory, Spent, IsEarly, lines_of_text, LogValue, IsLogOf, Refuses}
+use Rattle.std.proofs.KnownBytes.{Consumes-nil}
 use Rattle.vic_log.specs.Device.{KeepsOrHides, HandsOut, TellsOn}
-use Rattle.vic_log.specs.Early.{IsEarly, ReadsWhere}
-use Rattle.vic_log.specs.Lines.{lines_of_text}
-use Rattle.vic_log.specs.Log.{LogValue}
-use Rattle.vic_log.specs.Text.{IsLogOf, Refuses}
+use Rattle.vic_log.specs.Early.{ReadsWhere}
 use Rattle.vic_log.proofs.reader.read_from.Goals as goal
 
 handed : (a b : Option (List ℕ)) (xs : List ℕ) → Consumes a b xs → HandsOut a b xs

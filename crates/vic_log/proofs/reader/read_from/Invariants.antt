@@ -1,6 +1,6 @@
-use Rattle.std.proofs.Common.{◌≡◌, ◌≤◌, ◌+◌, ◌-◌, ◌++◌, ℕ, List, [], Some, take, true, false, length}
-use Rattle.std.specs.Prelude.{unwrap_or}
-use Rattle.std.specs.Io.KnownBytes.{Consumes, IsAtEnd}
+use Rattle.std.proofs.Common.{◌≡◌, ◌≤◌, ◌+◌, ◌-◌, ◌++◌, ℕ, List, [], Some, take, true, false, length, unwrap_or}
+use Rattle.vic_log.proofs.Words.{Consumes}
+use Rattle.std.specs.Io.KnownBytes.{IsAtEnd}
 use Rattle.vic_log.specs.Early.{HasNoEarlyFault}
 use Rattle.vic_log.proofs.reader.read_from.Given as goal
 

@@ -1,9 +1,5 @@
 use Rattle.std.proofs.Common.{[], List, ℕ}
-use Rattle.std.proofs.lemmas.Result.{err_from_is_err_and}
-use Rattle.vic_log.specs.declared.fault.LogFault.{LogFault}
-use Rattle.vic_log.specs.declared.fault.LogFault.TheVariants.{Line, Read, Memory, Spent}
-use Rattle.vic_log.specs.Early.{IsEarly}
-use Rattle.vic_log.specs.Text.{Refuses}
+use Rattle.vic_log.proofs.Words.{err_from_is_err_and, LogFault, Line, Read, Memory, Spent, IsEarly, Refuses}
 use Rattle.vic_log.proofs.reader.read_log.Goals as goal
 
 early_refuses : (e : LogFault) (text : List ℕ) → IsEarly e text → Refuses text e

@@ -1,5 +1,5 @@
 use Rattle.std.proofs.Common.{length, ◌-◌, ◌≡◌, ◌≤◌, ◌++◌, false, take}
-use Rattle.std.specs.Io.KnownBytes.{Appends}
+use Rattle.vic_log.proofs.Words.{Appends}
 use Rattle.vic_log.proofs.sink.write_whole.Given as goal
 
 abbrev pub invariant-loop-at : goal.invariant-loop-at

@@ -1,6 +1,6 @@
 use Rattle.std.proofs.Common.{◌≡◌, ◌≤◌, ◌+◌, vec_len, length, length-take-le, ◌∙◌, arith}
-use Rattle.std.proofs.KnownBytes.{Consumes-trans}
-use Rattle.std.proofs.lemmas.List.{take-append-le, length-take}
+use Rattle.vic_log.proofs.Words.{Consumes-trans, take-append-le}
+use Rattle.std.proofs.lemmas.List.{length-take}
 use Rattle.vic_log.proofs.source.read_whole.Goals as goal
 
 pub loop-piece-preserved : goal.loop-piece-preserved

@@ -1,9 +1,5 @@
-use Rattle.std.proofs.Common.{◌≡◌, Some, false, [], ◌∷◌, take, length, refl, sym, ap, ◌∙◌, add-one}
-use Rattle.std.specs.Prelude.{slice_get, nat_eq}
-use Rattle.std.proofs.lemmas.Option.{slice_get_read}
-use Rattle.std.proofs.lemmas.List.Folds.{list_any-append}
-use Rattle.vic_frame.specs.Uids.{has}
-use Rattle.vic_log.specs.Order.{entries, listed}
+use Rattle.std.proofs.Common.{◌≡◌, Some, false, [], ◌∷◌, take, length, refl, sym, ap, ◌∙◌, add-one, slice_get, nat_eq}
+use Rattle.vic_log.proofs.Words.{slice_get_read, list_any-append, has, entries, listed}
 use Rattle.vic_log.proofs.UidSets.{has_at_line, listed_next}
 use Rattle.vic_log.proofs.uid_set.is_listed.Goals as goal
 

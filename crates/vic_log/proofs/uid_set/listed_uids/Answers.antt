@@ -1,8 +1,5 @@
-use Rattle.std.proofs.Common.{◌≡◌, List, ℕ, Some, take, length, refl, sym, subst, add-one}
-use Rattle.std.specs.Prelude.{slice_get}
-use Rattle.std.proofs.lemmas.Option.{slice_get_read}
-use Rattle.vic_log.specs.Order.{entries, listed}
-use Rattle.vic_log.specs.inner.UidSets.{IsSetOf}
+use Rattle.std.proofs.Common.{◌≡◌, List, ℕ, Some, take, length, refl, sym, subst, add-one, slice_get}
+use Rattle.vic_log.proofs.Words.{slice_get_read, entries, listed, IsSetOf}
 use Rattle.vic_log.proofs.UidSets.{listed_next}
 use Rattle.vic_log.proofs.uid_set.listed_uids.Goals as goal
 

@@ -1,6 +1,5 @@
 use Rattle.std.proofs.Common.{take}
-use Rattle.vic_log.specs.Order.{entries, listed}
-use Rattle.vic_log.specs.inner.UidSets.{IsUidSet, IsSetOf}
+use Rattle.vic_log.proofs.Words.{entries, listed, IsUidSet, IsSetOf}
 use Rattle.vic_log.proofs.uid_set.listed_uids.Given as goal
 
 abbrev pub invariant-loop-line : goal.invariant-loop-line

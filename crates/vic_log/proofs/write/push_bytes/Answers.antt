@@ -1,5 +1,5 @@
 use Rattle.std.proofs.Common.{◌≡◌, ℕ, List, [], ◌∷◌, ◌++◌, ap, ◌∙◌, append_assoc}
-use Rattle.hex.specs.Hex.{encode_upper}
+use Rattle.vic_log.proofs.Words.{encode_upper}
 use Rattle.vic_log.proofs.write.push_bytes.Goals as goal
 
 two_first : (line bytes : List ℕ) (letter : ℕ) → ((line ++ letter ∷ []) ++ 32 ∷ []) ++ encode_upper bytes ≡ line ++ letter ∷ 32 ∷ encode_upper bytes

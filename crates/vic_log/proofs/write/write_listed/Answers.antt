@@ -1,8 +1,5 @@
 use Rattle.std.proofs.Common.{rules, Some, ◌≡◌, ℕ, ◌+◌, ◌<◌, ◌≤◌, suc, List, [], ◌∷◌, ◌++◌, length, drop, drop-cons, slice_index_or, refl, ap, sym, ◌∙◌, append_assoc, arith}
-use Rattle.std.proofs.lemmas.List.{drop_all}
-use Rattle.vic_log.specs.declared.entry.Entry.TheVariants.{Listed}
-use Rattle.vic_log.specs.Lines.{lf}
-use Rattle.vic_log.specs.Writing.{entry_text, listed_text}
+use Rattle.vic_log.proofs.Words.{drop_all, Listed, lf, entry_text, listed_text}
 use Rattle.vic_log.proofs.Told.{HasTakenBut-all, HasTakenBut-line, HasTakenBut-part}
 use Rattle.vic_log.proofs.write.write_listed.Goals as goal
 

@@ -1,10 +1,5 @@
 use Rattle.std.proofs.Common.{rules, Some, ◌≡◌, ℕ, zero, ◌+◌, ◌<◌, ◌≤◌, suc, List, [], ◌∷◌, ◌++◌, length, drop, drop-cons, slice_index_or, refl, ap, sym, ◌∙◌, append_assoc, arith}
-use Rattle.std.proofs.lemmas.List.{drop_all}
-use Rattle.vic_log.specs.declared.entry.LogLine.{LogLine}
-use Rattle.vic_log.specs.Lines.{lf}
-use Rattle.vic_log.specs.Log.{IsValidEntry}
-use Rattle.vic_log.specs.Order.{AreValid, entries}
-use Rattle.vic_log.specs.Writing.{entry_text, lines_text}
+use Rattle.vic_log.proofs.Words.{drop_all, LogLine, lf, IsValidEntry, AreValid, entries, entry_text, lines_text}
 use Rattle.vic_log.proofs.Spelled.{valid_at}
 use Rattle.vic_log.proofs.Told.{HasTakenBut-all, HasTakenBut-line, HasTakenBut-part}
 use Rattle.vic_log.proofs.write.write_log.Goals as goal

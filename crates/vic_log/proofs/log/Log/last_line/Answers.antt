@@ -1,6 +1,5 @@
-use Rattle.std.proofs.Common.{◌≡◌, ◌-◌, sym, ◌∙◌, ap, arith, length, Some}
-use Rattle.std.specs.Prelude.{slice_get}
-use Rattle.vic_log.specs.Log.{LogValue, last_from}
+use Rattle.std.proofs.Common.{◌≡◌, ◌-◌, sym, ◌∙◌, ap, arith, length, Some, slice_get}
+use Rattle.vic_log.proofs.Words.{LogValue, last_from}
 use Rattle.vic_log.proofs.Push.{last_from-last}
 use Rattle.vic_log.proofs.log.Log.last_line.Goals as goal
 

@@ -1,12 +1,5 @@
-use Rattle.std.proofs.Common.{rules, ◌≡◌, ap, sym, subst, ◌∙◌, ◌∷◌, [], ◌++◌, ◌||◌, List, ℕ, None, ◌<◌, refl, append-nil}
-use Rattle.std.specs.Prelude.{not}
-use Rattle.vic_frame.specs.Uids.{has}
-use Rattle.vic_log.specs.inner.UidSets.{IsIndex}
-use Rattle.vic_log.specs.Order.{entries, listed, is_empty, refusal}
-use Rattle.vic_log.specs.Log.{LogValue, last_from, IsTyped}
-use Rattle.vic_log.specs.declared.entry.LogLine.{LogLine}
-use Rattle.vic_log.specs.declared.entry.Version.TheVariants.{V1}
-use Rattle.vic_log.specs.FirstVersion.{IsOfFirstVersion}
+use Rattle.std.proofs.Common.{rules, ◌≡◌, ap, sym, subst, ◌∙◌, ◌∷◌, [], ◌++◌, ◌||◌, List, ℕ, None, ◌<◌, refl, append-nil, not}
+use Rattle.vic_log.proofs.Words.{has, IsIndex, entries, listed, is_empty, refusal, LogValue, last_from, IsTyped, LogLine, V1, IsOfFirstVersion}
 use Rattle.vic_log.specs.Kept.{left_after}
 use Rattle.vic_log.proofs.Push.{Keeps-push, refusal_listed, lists_none, listed-append, entries-push}
 use Rattle.vic_log.proofs.log.Log.push.Goals as goal

@@ -1,9 +1,5 @@
-use Rattle.std.proofs.Common.{◌≡◌, ℕ, Bool, List, length, refl, ap, sym, ◌∙◌, false, arith}
-use Rattle.std.specs.Prelude.{nat_eq, slice_get}
-use Rattle.std.specs.List.{list_any}
-use Rattle.std.proofs.lemmas.Option.{slice_get_within}
-use Rattle.vic_frame.specs.Uids.{has}
-use Rattle.vic_log.specs.inner.UidSets.{row_of}
+use Rattle.std.proofs.Common.{◌≡◌, ℕ, Bool, List, length, refl, ap, sym, ◌∙◌, false, arith, nat_eq, slice_get}
+use Rattle.vic_log.proofs.Words.{list_any, slice_get_within, has, row_of}
 use Rattle.vic_log.proofs.UidSets.{is_put, IsUidSet-put, held-put, absent_besides, row_is, has_searched, IsUidSet-beside, held-beside}
 use Rattle.vic_log.proofs.uid_set.UidSet.put.Goals as goal
 
