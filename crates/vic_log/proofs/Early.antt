@@ -1,57 +1,40 @@
 -- An early fault stays the fault of each text that goes on.
-use Rattle.std.proofs.Common.{◌≡◌, ◌⊎◌, ℕ, suc, ◌+◌, ◌-◌, ◌<◌, ◌≤◌, false, Some, List, [], ◌∷◌, ◌++◌, length, length-take-le, refl, sym, ap, subst, ◌∙◌, arith, append-nil, length-append, inl, inr, slice_get, nat_eq, nat_lt, if◌then◌else◌, ◌==◌, map}
-use Rattle.vic_log.proofs.Words.{cases_Bool, cases_lt, cond_both, cond-true, cond-false, lt-ltb, or_parts, length-map, length_push, map-append, slice_get_within, Entry, Version, LineFault, TooManyLines, LineTooLong, has, IsLong, IsJudged, IsEarlyFault, onto, cut, ends_with, all_but_last, without_last, content, lines_of_text, entries, version_of, line_fault, log_upto, fault_on, IsFirstFault}
+use Rattle.std.proofs.Common.{◌≡◌, ◌⊎◌, ℕ, suc, ◌<◌, ◌≤◌, false, Some, List, [], ◌∷◌, ◌++◌, length, refl, sym, ap, subst, ◌∙◌, arith, append-nil, inl, inr, slice_get, nat_eq, nat_lt, if◌then◌else◌, ◌==◌, map}
+use Rattle.vic_log.proofs.Words.{common_steps, nat_tests, cases_Bool, cases_lt, cond-true, cond-false, lt-ltb, length-map, length_push, map-append, slice_get_within, Entry, Version, LineFault, TooManyLines, LineTooLong, has, IsLong, IsJudged, IsEarlyFault, onto, cut, ends_with, content, lines_of_text, entries, version_of, line_fault, log_upto, fault_on, IsFirstFault}
 use Rattle.vic_log.specs.Begun.{IsCut}
 use Rattle.vic_log.proofs.Passing.{AgreeBelow, log_agrees, fault_agrees, first_agrees}
 use Rattle.vic_log.proofs.Places.{slice_get-append, slice_get_seam}
 use Rattle.vic_log.proofs.Sets.{eq_swapped}
-use Rattle.vic_log.proofs.Written.{all_but_last-push, not_last}
+use Rattle.vic_log.proofs.Written.{parted, not_last}
 
 -- ---- bytes without LF
 
--- bytes put in front of the first part
-abbrev before_first : List ℕ → List (List ℕ) → List (List ℕ)
-before_first bytes [] = bytes ∷ []
-before_first bytes (part ∷ parts) = (bytes ++ part) ∷ parts
-
-onto-one : (b : ℕ) (parts : List (List ℕ)) → onto b parts ≡ before_first (b ∷ []) parts
-onto-one b [] = refl
-onto-one b (part ∷ parts) = refl
-
-onto-more : (b : ℕ) (bytes : List ℕ) (parts : List (List ℕ)) → onto b (before_first bytes parts) ≡ before_first (b ∷ bytes) parts
-onto-more b bytes [] = refl
-onto-more b bytes (part ∷ parts) = refl
-
-cut-open : (b : ℕ) (tail more : List ℕ) → has (b ∷ tail) 10 ≡ false → cut (b ∷ tail ++ more) ≡ before_first (b ∷ tail) (cut more)
-cut-open b [] more h = cond-false _ _ _ (eq_swapped b 10 ∙ (or_parts (nat_eq 10 b) false h).0) ∙ onto-one b (cut more)
-cut-open b (x ∷ tail) more h =
-    let p = or_parts (nat_eq 10 b) (has (x ∷ tail) 10) h in
-    cond-false _ _ _ (eq_swapped b 10 ∙ p.0) ∙ (ap (onto b) (cut-open x tail more p.1) ∙ onto-more b (x ∷ tail) (cut more))
-
--- they are the only part, or begin the first one
-pub cut-only : (line : List ℕ) → has line 10 ≡ false → 0 < length line → cut line ≡ line ∷ []
-cut-only [] h some = absurd (omega arith)
-cut-only (b ∷ tail) h some = ap cut (sym (append-nil (b ∷ tail))) ∙ cut-open b tail [] h
-
+-- they begin the first part
 pub record Begins (bytes : List ℕ) (parts : List (List ℕ)) : Type 0 where
   pub rest : List ℕ
   pub others : List (List ℕ)
   pub parts_are : parts ≡ (bytes ++ rest) ∷ others
 
-begun : (bytes : List ℕ) (parts : List (List ℕ)) → Begins bytes (before_first bytes parts)
-begun bytes [] = record { rest = []; others = []; parts_are = ap (λ part. part ∷ []) (sym (append-nil bytes)) }
-begun bytes (part ∷ parts) = record { rest = part; others = parts; parts_are = refl }
-
--- some bytes are some parts
-pub cut-some : (b : ℕ) (more : List ℕ) → Begins [] (cut (b ∷ more))
-cut-some b more = elim (cases_Bool (b == 10)) [
-  | inl ends ↦ record { rest = b ∷ []; others = cut more; parts_are = cond-true _ _ _ ends }
-  | inr other ↦ let s = begun (b ∷ []) (cut more) in record { rest = b ∷ s.rest; others = s.others; parts_are = cond-false _ _ _ other ∙ (onto-one b (cut more) ∙ s.parts_are) }
-]
+begun : (b : ℕ) (parts : List (List ℕ)) → Begins (b ∷ []) (onto b parts)
+begun b parts = grind (arith, nat_tests)
 
 pub begins : (line more : List ℕ) → has line 10 ≡ false → 0 < length line → Begins line (cut (line ++ more))
 begins [] more h some = absurd (omega arith)
-begins (b ∷ tail) more h some = rw (cut-open b tail more h) (begun (b ∷ tail) (cut more))
+begins (b ∷ []) more h some = rw (cond-false _ _ _ (parted b [] h).0) (begun b (cut more))
+begins (b ∷ x ∷ tail) more h some =
+    let p = parted b (x ∷ tail) h in
+    let s = begins (x ∷ tail) more p.1 (omega arith) in
+    record { rest = s.rest; others = s.others; parts_are = cond-false _ _ _ p.0 ∙ ap (onto b) s.parts_are }
+
+-- or are the only one
+pub cut-only : (line : List ℕ) → has line 10 ≡ false → 0 < length line → cut line ≡ line ∷ []
+cut-only [] h some = absurd (omega arith)
+cut-only (b ∷ []) h some = cond-false _ _ _ (parted b [] h).0
+cut-only (b ∷ x ∷ tail) h some = let p = parted b (x ∷ tail) h in cond-false _ _ _ p.0 ∙ ap (onto b) (cut-only (x ∷ tail) p.1 (omega arith))
+
+-- some bytes are some parts
+pub cut-some : (b : ℕ) (more : List ℕ) → Begins [] (cut (b ∷ more))
+cut-some b more = grind (arith, nat_tests)
 
 -- ---- a text is parts with their LF, and bytes without one
 
@@ -92,41 +75,22 @@ pub last_part : (parts : List (List ℕ)) (tail part : List ℕ) (place : ℕ) �
 last_part parts [] part place h k above = let within = slice_get_within (parts ++ []) place part k in let size = ap length (append-nil parts) in absurd (omega arith)
 last_part parts (b ∷ t) part place h k above =
     let only : cut (b ∷ t) ≡ (b ∷ t) ∷ [] = cut-only (b ∷ t) h (omega arith) in
-    let there : slice_get (parts ++ (b ∷ t) ∷ []) place ≡ Some part = ap (λ ps. slice_get (parts ++ ps) place) (sym only) ∙ k in
+    let there : slice_get (parts ++ (b ∷ t) ∷ []) place ≡ Some part = rw only at k in
     let within = slice_get_within (parts ++ (b ∷ t) ∷ []) place part there in
     let last : place ≡ length parts = omega (arith, length_push parts (b ∷ t)) in
-    let it : Some (b ∷ t) ≡ Some part = sym (slice_get_seam parts (b ∷ t) []) ∙ (ap (slice_get (parts ++ (b ∷ t) ∷ [])) (sym last) ∙ there) in
-    let same : part ≡ b ∷ t = cc in
+    let same : part ≡ b ∷ t = cc (slice_get_seam parts (b ∷ t) []) in
     (last, same, omega arith)
 
 -- ---- how long a line is without its end
-
-without_last-long : (b : ℕ) (line : List ℕ) → length line ≤ length (without_last b line) + 1
-without_last-long b line = cond_both (ends_with b line) (all_but_last line) line (λ xs. length line ≤ length xs + 1)
-    (λ _. let e = length-take-le (length line - 1) line (omega arith) in omega arith)
-    (λ _. omega arith)
-
-content-long : (part : List ℕ) → length part ≤ length (content part) + 2
-content-long part = cond_both (ends_with 10 part) (without_last 13 (all_but_last part)) part (λ xs. length part ≤ length xs + 2)
-    (λ _. let e = length-take-le (length part - 1) part (omega arith) in let w = without_last-long 13 (all_but_last part) in omega arith)
-    (λ _. omega arith)
 
 pub content-open : (part : List ℕ) → has part 10 ≡ false → content part ≡ part
 content-open part h = cond-false _ _ _ (not_last part 10 h)
 
 one_more : (part : List ℕ) (b : ℕ) → 129 ≤ length part → ends_with 13 part ≡ false → 129 ≤ length (content (part ++ b ∷ []))
-one_more part b long cr = cond_both (ends_with 10 (part ++ b ∷ [])) (without_last 13 (all_but_last (part ++ b ∷ []))) (part ++ b ∷ []) (λ xs. 129 ≤ length xs)
-    (λ _. let e = ap length (ap (without_last 13) (all_but_last-push part b) ∙ cond-false _ _ _ cr) in omega arith)
-    (λ _. omega (arith, length_push part b))
+one_more part b long cr = grind (arith, common_steps)
 
 pub still_long : (part rest : List ℕ) → has part 10 ≡ false → IsLong part → 128 < length (content (part ++ rest))
-still_long part [] h l = let e = ap length (ap content (append-nil part) ∙ content-open part h) in elim l [ inl a ↦ omega arith | inr b ↦ omega (arith, b.0) ]
-still_long part (x ∷ []) h (inl a) = omega (arith, content-long (part ++ x ∷ []), length_push part x)
-still_long part (x ∷ []) h (inr b) = one_more part x b.0 b.1
-still_long part (x ∷ y ∷ rest) h l =
-    let k = content-long (part ++ x ∷ y ∷ rest) in
-    let size = length-append part (x ∷ y ∷ rest) in
-    elim l [ inl a ↦ omega arith | inr b ↦ omega (arith, b.0) ]
+still_long part rest h k = grind (arith, common_steps)
 
 pub too_many : (v : Version) (es : List Entry) (n : ℕ) (line : List ℕ) → 1000000 < n → line_fault v es n (Some line) ≡ Some TooManyLines
 too_many v es n line h = cond-true _ _ _ (lt-ltb 1000000 n h)

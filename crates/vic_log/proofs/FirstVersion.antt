@@ -1,6 +1,6 @@
 -- On entries of version 1 both versions say the same.
-use Rattle.std.proofs.Common.{◌≡◌, ℕ, zero, suc, List, false, not, ◌&&◌, ◌||◌, Option, Some, None, refl, sym, ap, subst, ◌∙◌, ◌↔◌, slice_get, if◌then◌else◌}
-use Rattle.vic_log.proofs.Words.{filter, Entry, Sent, Listed, Garbled, FieldCycle, IsInOrder, is_slot, ends_round, opener, mask_since, silences, wakes, is_quiet, Outcome, Fits, answers_at, outcome_of, CouldHaveGiven, IsOfFirstVersion, AreOfFirstVersion}
+use Rattle.std.proofs.Common.{◌≡◌, ℕ, zero, suc, List, false, not, ◌&&◌, ◌||◌, Option, Some, None, refl, sym, ap, subst, ◌∙◌, ◌↔◌, slice_get, if◌then◌else◌, arith}
+use Rattle.vic_log.proofs.Words.{nat_tests, filter, Entry, Sent, Listed, FieldCycle, IsInOrder, is_slot, ends_round, opener, mask_since, silences, wakes, is_quiet, Outcome, Fits, answers_at, outcome_of, CouldHaveGiven, IsOfFirstVersion, AreOfFirstVersion}
 use Rattle.vic_log.specs.Rounds.{lies_in_some}
 use Rattle.vic_log.specs.FirstVersion.{ends_first_round, first_opener, is_first_quiet, FitsFirst, answers_first_at, CouldHaveGivenFirst, is_first_slot, IsInFirstOrder}
 use Rattle.std.proofs.lemmas.List.Elements.{filter_agree}
@@ -30,9 +30,7 @@ quiet-first es h (suc j) u =
     ap (λ b. silences (slice_get es j) u || (not b && is_quiet es j u)) (wakes_none (slice_get es j) (h j)) ∙ ap (λ b. silences (slice_get es j) u || b) k
 
 pub fits-first : (e : Entry) → IsOfFirstVersion e → (o : Outcome) → Fits e o ↔ FitsFirst e o
-fits-first Garbled h o = absurd h
-fits-first FieldCycle h o = absurd h
-fits-first e h o = ((λ k. k), (λ k. k))
+fits-first e h o = grind (arith, nat_tests)
 
 answers-first : (es : List Entry) → AreOfFirstVersion es → (i u : ℕ) → answers_at es i u ≡ answers_first_at es i u
 answers-first es h i u =
@@ -49,9 +47,7 @@ given-first es h p = (
 )
 
 slot-first : (e : Entry) → IsOfFirstVersion e → is_slot e ≡ is_first_slot e
-slot-first Garbled h = absurd h
-slot-first FieldCycle h = absurd h
-slot-first e h = refl
+slot-first e h = grind (arith, nat_tests)
 
 pub order-first : (es : List Entry) → AreOfFirstVersion es → IsInOrder es ↔ IsInFirstOrder es
 order-first es h = (

@@ -8,20 +8,13 @@ use Rattle.vic_log.proofs.Push.{slots_left_agrees}
 use Rattle.vic_log.proofs.Sets.{has_here}
 
 -- a listed UID has a position
-pub record IsListedAt (es : List Entry) (u : ℕ) : Type 0 where
-  pub place : ℕ
-  pub there : slice_get es place ≡ Some (Listed u)
-
-later : (e : Entry) (es : List Entry) (u : ℕ) → IsListedAt es u → IsListedAt (e ∷ es) u
-later e es u p = record { place = suc p.place; there = p.there }
-
-pub has_place : (es : List Entry) (u : ℕ) → has (listed es) u ≡ true → IsListedAt es u
+pub has_place : (es : List Entry) (u : ℕ) → has (listed es) u ≡ true → (i : ℕ) × (slice_get es i ≡ Some (Listed u))
 has_place [] u h = cc
 has_place (Listed w ∷ es) u h = ⊎_elim
-    (λ here. let same : u ≡ w = eqb-true u w here in record { place = 0; there = ap (λ v. Some (Listed v)) (sym same) })
-    (λ rest. later (Listed w) es u (has_place es u rest))
+    (λ here. (0, ap (λ v. Some (Listed v)) (sym (eqb-true u w here))))
+    (λ rest. let p = has_place es u rest in (suc p.0, p.1))
     (or_cases (nat_eq u w) (has (listed es) u) h)
-has_place (e ∷ es) u h = later e es u (has_place es u h)
+has_place (e ∷ es) u h = let p = has_place es u h in (suc p.0, p.1)
 
 some_of : (us : List ℕ) → is_empty us ≡ false → (u : ℕ) × (has us u ≡ true)
 some_of [] h = cc
@@ -33,8 +26,8 @@ none_listed es fs e none = elim (cases_Bool (is_empty (listed es))) [
   | inr some ↦
       let u = some_of (listed es) some in
       let p = has_place es u.0 u.1 in
-      let below = slice_get_within es p.place (Listed u.0) p.there in
-      absurd (none p.place u.0 below (sym (agree_append es (e ∷ fs) p.place below) ∙ p.there))
+      let below = slice_get_within es p.0 (Listed u.0) p.1 in
+      absurd (none p.0 u.0 below (sym (agree_append es (e ∷ fs) p.0 below) ∙ p.1))
 ]
 
 slot_ok : (es fs : List Entry) (e : Entry) → IsInOrder (es ++ e ∷ fs) → is_slot e ≡ true → not (nat_lt 0 (slots_left es (length es))) ≡ false
@@ -49,6 +42,6 @@ first_reason-none x y z es fs (Sent q) o = cond-false _ _ _ (none_listed es fs (
 first_reason-none x y z es fs FieldCycle o = cond-false _ _ _ (none_listed es fs FieldCycle (λ i u lt at. o.cycles_first i (length es) u lt at (slice_get_seam es FieldCycle fs)))
 first_reason-none x y z es fs (Listed u) o = cond-false _ _ _ (false_from_ne_true _ (λ some.
     let p = has_place es u some in
-    let below = slice_get_within es p.place (Listed u) p.there in
-    o.once p.place (length es) u u below (sym (agree_append es (Listed u ∷ fs) p.place below) ∙ p.there) (slice_get_seam es (Listed u) fs) refl))
+    let below = slice_get_within es p.0 (Listed u) p.1 in
+    o.once p.0 (length es) u u below (sym (agree_append es (Listed u ∷ fs) p.0 below) ∙ p.1) (slice_get_seam es (Listed u) fs) refl))
 first_reason-none x y z es fs e o = cond-false _ _ _ (slot_ok es fs e o refl)

@@ -1,8 +1,7 @@
 -- A line reads as an entry if and only if it spells it.
-use Rattle.std.proofs.Common.{◌≡◌, ◌⊎◌, inl, inr, ℕ, ◌+◌, ◌-◌, ◌*◌, ◌/◌, ◌%◌, ◌<◌, ◌≤◌, true, false, Option, Some, None, Result, Ok, Err, List, [], ◌∷◌, length, refl, sym, ap, subst, ◌∙◌, arith, nat_lt, nat_le, if◌then◌else◌, ◌==◌, ◌&&◌, ◌||◌, IfOk}
-use Rattle.vic_log.proofs.Words.{and_parts, cond_both, cond-true, cond-false, or_from, or_right, eqb-true, leb-true, ne_eqb, le-ltb, ltb-false, hex_digit_value, IsUid, is_uid, Entry, Sent, Silent, Collision, Heard, Listed, Garbled, FieldCycle, Version, V1, V2, LineFault, line_reading}
+use Rattle.std.proofs.Common.{◌≡◌, ◌⊎◌, inl, inr, ℕ, ◌+◌, ◌*◌, ◌/◌, ◌%◌, ◌<◌, ◌≤◌, true, false, Option, Some, None, Result, Ok, Err, List, [], ◌∷◌, length, refl, sym, ap, subst, ◌∙◌, arith, nat_lt, ◌==◌, ◌||◌, IfOk}
+use Rattle.vic_log.proofs.Words.{nat_tests, cond_both, cond-false, eqb-true, ne_eqb, ltb-false, hex_digit_value, IsUid, is_uid, Entry, Sent, Silent, Collision, Heard, Listed, Garbled, FieldCycle, Version, V2, LineFault, line_reading}
 use Rattle.std.specs.Int.{to_be_bytes, from_be_bytes, w64}
-use Rattle.std.proofs.lemmas.Bool.Decides.{nat_tests}
 use Rattle.std.proofs.lemmas.Nat.{be_bytes_8, from_be_bytes-to_be_bytes_8}
 use Rattle.hex.specs.Hex.{decode_of, decode_pairs, digit_or_error, ◌>>=◌}
 use Rattle.hex.specs.declared.error.FromHexError.{FromHexError}
@@ -27,47 +26,21 @@ use Rattle.vic_log.proofs.FrameBytes.{length-request, length-reply}
 
 -- ---- hex digits
 
-range : (low c high : ℕ) → (nat_le low c && nat_le c high) ≡ true → (low ≤ c) × (c ≤ high)
-range low c high h = let p = and_parts (nat_le low c) (nat_le c high) h in (leb-true low c p.0, leb-true c high p.1)
-
 value-digit : (c v : ℕ) → hex_digit_value c ≡ Some v → IsDigitOf c v
-value-digit c v =
-    let P = λ (o : Option ℕ). o ≡ Some v → IsDigitOf c v in
-    cond_both _ _ _ P
-    (λ t e. let r = range 65 c 70 t in let same : c - 55 ≡ v = cc in let a = r.0 in let b = r.1 in inr (omega arith, omega arith, inl (omega arith)))
-    (λ _. cond_both _ _ _ P
-    (λ t e. let r = range 97 c 102 t in let same : c - 87 ≡ v = cc in let a = r.0 in let b = r.1 in inr (omega arith, omega arith, inr (omega arith)))
-    (λ _. cond_both _ _ _ P
-    (λ t e. let r = range 48 c 57 t in let same : c - 48 ≡ v = cc in let a = r.0 in let b = r.1 in inl (omega arith, omega arith))
-    (λ _ e. cc)))
-
-plain_value : (c v : ℕ) → v ≤ 9 → c ≡ 48 + v → hex_digit_value c ≡ Some v
-plain_value c v few e = grind (arith, nat_tests)
-
-upper_value : (c v : ℕ) → 10 ≤ v → v ≤ 15 → c ≡ 65 + (v - 10) → hex_digit_value c ≡ Some v
-upper_value c v some few e = grind (arith, nat_tests)
-
-lower_value : (c v : ℕ) → 10 ≤ v → v ≤ 15 → c ≡ 97 + (v - 10) → hex_digit_value c ≡ Some v
-lower_value c v some few e = grind (arith, nat_tests)
+value-digit c v h = grind (arith, nat_tests)
 
 digit-value : (c v : ℕ) → IsDigitOf c v → hex_digit_value c ≡ Some v
-digit-value c v (inl d) = plain_value c v d.0 d.1
-digit-value c v (inr (some, few, inl e)) = upper_value c v some few e
-digit-value c v (inr (some, few, inr e)) = lower_value c v some few e
+digit-value c v d = grind (arith, nat_tests)
 
 small : (c v : ℕ) → IsDigitOf c v → v < 16
-small c v (inl d) = let few = d.0 in omega arith
-small c v (inr d) = let few = d.1 in omega arith
+small c v d = grind arith
 
 -- ---- digits of bytes
 
 pair_parts : (a b i : ℕ) (o p : Option ℕ) (r : Result (List ℕ) FromHexError) (bytes : List ℕ)
     → ((digit_or_error a i o >>= (λ x. digit_or_error b (i + 1) p >>= (λ y. Ok (x * 16 + y)))) >>= (λ v. r >>= (λ vs. Ok (v ∷ vs)))) ≡ Ok bytes
     → (x y : ℕ) × (vs : List ℕ) × (o ≡ Some x) × (p ≡ Some y) × (r ≡ Ok vs) × (bytes ≡ (x * 16 + y) ∷ vs)
-pair_parts a b i None p r bytes h = cc
-pair_parts a b i (Some x) None r bytes h = cc
-pair_parts a b i (Some x) (Some y) (Err e) bytes h = cc
-pair_parts a b i (Some x) (Some y) (Ok vs) bytes h = let same : bytes ≡ (x * 16 + y) ∷ vs = cc in (x, y, vs, refl, refl, refl, same)
+pair_parts a b i o p r bytes h = grind (arith, nat_tests)
 
 decoded : (i : ℕ) (digits bytes : List ℕ) → decode_pairs i digits ≡ Ok bytes → AreDigitsOf digits bytes
 unfolding decode_pairs
@@ -118,12 +91,10 @@ Says v line (Ok None) = IsPassedOver line
 Says v line (Err f) = ⊤
 
 sent-says : (v : Version) (line frame : List ℕ) → HasBytes line 84 frame → (r : Result Request FrameFault) → IfOk r (λ q. SpellsRequest frame q) → Says v line (sent r)
-sent-says v line frame has (Ok q) h = (frame, h, has)
-sent-says v line frame has (Err f) h = tt
+sent-says v line frame h r k = grind (arith, nat_tests)
 
 heard-says : (v : Version) (line frame : List ℕ) → HasBytes line 82 frame → (r : Result Reply FrameFault) → IfOk r (λ q. SpellsReply frame q) → Says v line (heard r)
-heard-says v line frame has (Ok q) h = (frame, h, has)
-heard-says v line frame has (Err f) h = tt
+heard-says v line frame h r k = grind (arith, nat_tests)
 
 listed-says : (v : Version) (line bytes : List ℕ) → HasBytes line 85 bytes → Says v line (listed_uid bytes)
 listed-says v line bytes has =
@@ -135,8 +106,7 @@ listed-says v line bytes has =
     (λ _. tt)
 
 bytes-say : (v : Version) (line : List ℕ) (f : List ℕ → Result (Option Entry) LineFault) (r : Result (List ℕ) FromHexError) → ((bytes : List ℕ) → r ≡ Ok bytes → Says v line (f bytes)) → Says v line (with_bytes f r)
-bytes-say v line f (Ok bytes) h = h bytes refl
-bytes-say v line f (Err x) h = tt
+bytes-say v line f r h = grind (arith, nat_tests)
 
 has_bytes : (x letter : ℕ) (digits bytes : List ℕ) → x == letter ≡ true → decode_of digits ≡ Ok bytes → HasBytes (x ∷ 32 ∷ digits) letter bytes
 has_bytes x letter digits bytes e h = (digits, ap (λ l. l ∷ 32 ∷ digits) (eqb-true x letter e), digits-of digits bytes h)
@@ -156,9 +126,7 @@ one : (x letter : ℕ) → x == letter ≡ true → x ∷ [] ≡ letter ∷ []
 one x letter t = ap (λ l. l ∷ []) (eqb-true x letter t)
 
 added-says : (v : Version) (x : ℕ) → Says v (x ∷ []) (added_letter v x)
-added-says V1 x = tt
-added-says V2 x =
-    cond_both (x == 68) _ _ (Says V2 (x ∷ [])) (λ t. (refl, one x 68 t)) (λ _. cond_both (x == 70) _ _ (Says V2 (x ∷ [])) (λ t. (refl, one x 70 t)) (λ _. tt))
+added-says v x = grind (arith, nat_tests)
 
 letter-says : (v : Version) (x : ℕ) → Says v (x ∷ []) (one_letter v x)
 letter-says v x = cond_both (x == 83) _ _ (Says v (x ∷ [])) (one x 83) (λ _. cond_both (x == 67) _ _ (Says v (x ∷ [])) (one x 67) (λ _. added-says v x))
@@ -195,49 +163,34 @@ reads-passed v line h = subst (Says v line) h (line-says v line)
 -- ---- a spelled entry is read
 
 lettered : (v : Version) (letter : ℕ) (digits : List ℕ) → letter == 35 ≡ false → length digits ≤ 126 → line_reading v (letter ∷ 32 ∷ digits) ≡ with_digits letter digits
-lettered v letter digits other few =
-    cond-false _ _ _ (le-ltb 128 (length (letter ∷ 32 ∷ digits)) (omega arith))
-    ∙ (cond-false _ _ _ (or_from _ _ (some_long letter 32 digits) other) ∙ cond-false _ _ _ (two_long letter 32 digits))
-
-uid_reads : (n u : ℕ) → n ≡ u → IsUid u → (if is_uid n then Ok (Some (Listed n)) else Err NotVicinity) ≡ Ok (Some (Listed u))
-uid_reads n u e h =
-    cond-true _ _ _ (ap is_uid e ∙ is_uid_from u h) ∙ ap (λ v. Ok (Some (Listed v))) e
+lettered v letter digits other few = grind (arith, nat_tests)
 
 listed_reads : (u : ℕ) → IsUid u → listed_uid (to_be_bytes w64 u) ≡ Ok (Some (Listed u))
-listed_reads u h =
-    let below = h.1 in
-    uid_reads (from_be_bytes w64 (to_be_bytes w64 u)) u (from_be_bytes-to_be_bytes_8 u (omega arith)) h
+listed_reads u h = let below = h.1 in rw (from_be_bytes-to_be_bytes_8 u (omega arith), is_uid_from u h)
+
+-- a letter, a space and digits
+spaced : (v : Version) (letter : ℕ) (line bytes : List ℕ) (f : List ℕ → Result (Option Entry) LineFault) → letter == 35 ≡ false → ((digits : List ℕ) → with_digits letter digits ≡ with_bytes f (decode_of digits)) → length bytes ≤ 63
+    → HasBytes line letter bytes → line_reading v line ≡ f bytes
+spaced v letter line bytes f other is few (digits, line_is, h) =
+    let long = twice digits bytes h in
+    rw (line_is, lettered v letter digits other (omega arith), is digits, of_digits digits bytes h)
 
 pub spelled-reads : (v : Version) (line : List ℕ) (e : Entry) → SpellsEntry v line e → line_reading v line ≡ Ok (Some e)
-spelled-reads v line (Sent q) (frame, spells, (digits, line_is, h)) =
-    let long = twice digits frame h in
+spelled-reads v line (Sent q) (frame, spells, has) =
     let few = length-request q spells.0 in
     let size = ap length spells.2 in
-    ap (line_reading v) line_is
-    ∙ (lettered v 84 digits refl (omega arith)
-    ∙ (ap (with_bytes (λ bytes. sent (request_reading bytes))) (of_digits digits frame h) ∙ ap sent (request_only frame q spells)))
+    spaced v 84 line frame (λ bytes. sent (request_reading bytes)) refl (λ d. refl) (omega arith) has ∙ ap sent (request_only frame q spells)
 spelled-reads v line Silent h = ap (line_reading v) h
 spelled-reads v line Collision h = ap (line_reading v) h
-spelled-reads v line (Heard r) (frame, spells, (digits, line_is, h)) =
-    let long = twice digits frame h in
+spelled-reads v line (Heard r) (frame, spells, has) =
     let few = length-reply r in
     let size = ap length spells.1 in
-    ap (line_reading v) line_is
-    ∙ (lettered v 82 digits refl (omega arith)
-    ∙ (ap (with_bytes (λ bytes. heard (reply_reading bytes))) (of_digits digits frame h) ∙ ap heard (reply_only frame r spells)))
-spelled-reads v line (Listed u) (uid, (digits, line_is, h)) =
-    let long = twice digits (to_be_bytes w64 u) h in
-    ap (line_reading v) line_is
-    ∙ (lettered v 85 digits refl (omega arith)
-    ∙ (ap (with_bytes listed_uid) (of_digits digits (to_be_bytes w64 u) h) ∙ listed_reads u uid))
+    spaced v 82 line frame (λ bytes. heard (reply_reading bytes)) refl (λ d. refl) (omega arith) has ∙ ap heard (reply_only frame r spells)
+spelled-reads v line (Listed u) (uid, has) = spaced v 85 line (to_be_bytes w64 u) listed_uid refl (λ d. refl) (omega arith) has ∙ listed_reads u uid
 spelled-reads v line Garbled h = ap (λ w. line_reading w line) h.0 ∙ ap (line_reading V2) h.1
 spelled-reads v line FieldCycle h = ap (λ w. line_reading w line) h.0 ∙ ap (line_reading V2) h.1
 
 -- ---- lines that are passed over
 
-passed_marked : (v : Version) (rest : List ℕ) → length (35 ∷ rest) ≤ 128 → line_reading v (35 ∷ rest) ≡ Ok None
-passed_marked v rest few = cond-false _ _ _ (le-ltb 128 (length (35 ∷ rest)) few) ∙ cond-true _ _ _ (or_right (length (35 ∷ rest) == 0) true refl)
-
 pub passed-reads : (v : Version) (line : List ℕ) → IsPassedOver line → line_reading v line ≡ Ok None
-passed-reads v line (few, inl none) = ap (line_reading v) none
-passed-reads v line (few, inr (rest, e)) = ap (line_reading v) e ∙ passed_marked v rest (subst (λ (l : List ℕ). length l ≤ 128) e few)
+passed-reads v line h = grind (arith, nat_tests)

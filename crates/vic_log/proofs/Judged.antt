@@ -1,32 +1,22 @@
 -- A text that is read in pieces: more bytes, a fault, and the end.
-use Rattle.std.proofs.Common.{◌≡◌, ◌⊎◌, inl, inr, ℕ, suc, ◌<◌, false, Some, None, List, [], ◌∷◌, ◌++◌, length, length-append, append_assoc, append-nil, refl, sym, ap, subst, ◌∙◌, arith, slice_get, nat_eq, map}
-use Rattle.vic_log.proofs.Words.{cases_lt, cond-false, le-ltb, or_from, length-map, map-append, nil_from_length, list_any-append, has, LineFault, TooManyLines, LineTooLong, Header, LogFault, Line, Read, Memory, Spent, HasJudged, IsLong, IsJudged, IsEarlyFault, IsEarly, lf, cr, cut, without_last, content, lines_of_text, LogValue, entries, fault_on, IsFirstFault, IsLogOf, Refuses, next_fault, after_line, RefusesNext}
+use Rattle.std.proofs.Common.{◌≡◌, ◌⊎◌, inl, inr, ℕ, suc, ◌<◌, false, Some, None, List, [], ◌∷◌, ◌++◌, length, append_assoc, append-nil, refl, sym, ap, subst, ◌∙◌, arith, slice_get, map}
+use Rattle.vic_log.proofs.Words.{common_steps, nat_tests, cases_lt, cond-false, le-ltb, length-map, map-append, nil_from_length, has, LineFault, TooManyLines, LineTooLong, Header, LogFault, Line, Read, Memory, Spent, HasJudged, IsLong, IsJudged, IsEarlyFault, IsEarly, lf, cr, cut, without_last, content, lines_of_text, LogValue, entries, fault_on, IsFirstFault, IsLogOf, Refuses, next_fault, after_line, RefusesNext}
 use Rattle.vic_log.specs.Begun.{HasCut, IsShort}
 use Rattle.vic_log.proofs.Early.{begins, content-open, cut-only, cut-some, cut-whole, last_part, lines_are, still_long, too_many, too_long}
 use Rattle.vic_log.proofs.Passing.{AreRead-end, AreRead-entries, AreRead-fault, AreRead-push, fault_agrees, in_limit, no_header}
 use Rattle.vic_log.proofs.Places.{slice_get-append, slice_get_seam}
-use Rattle.vic_log.proofs.Written.{content-end, cut-line, ends_with-push, not_last}
+use Rattle.vic_log.proofs.Written.{content-end, cut-line, ends_with-push}
 
 long_some : (line : List ℕ) → IsLong line → 0 < length line
-long_some line (inl a) = omega arith
-long_some line (inr b) = omega (arith, b.0)
+long_some line h = grind (arith, nat_tests)
 
 long_more : (line rest : List ℕ) → IsLong line → IsLong (line ++ rest)
-long_more line [] l = rw append-nil l
-long_more line (x ∷ rest) (inl a) = inl (omega (arith, length-append line (x ∷ rest)))
-long_more line (x ∷ rest) (inr b) = inl (omega (arith, b.0, length-append line (x ∷ rest)))
+long_more line rest h = grind (arith, common_steps)
 
 module _ {text line : List ℕ} {log : LogValue} {n : ℕ} (j : HasCut text log n line) where
   -- more bytes of the line begun
   pub HasCut-more : (bytes : List ℕ) → has bytes lf ≡ false → HasCut (text ++ bytes) log n (line ++ bytes)
-  HasCut-more bytes lacks = record {
-    parts = j.parts;
-    is_cut = record {
-      cuts = λ more. ap cut (append_assoc text bytes more) ∙ (j.is_cut.cuts (bytes ++ more) ∙ ap (λ xs. j.parts ++ cut xs) (sym (append_assoc line bytes more)));
-      no_lf = list_any-append (nat_eq lf) line bytes ∙ or_from _ _ j.is_cut.no_lf lacks;
-    };
-    read = j.read;
-  }
+  HasCut-more bytes lacks = grind (arith, common_steps)
 
   -- the line's LF
   cut-end : (more : List ℕ) → cut (text ++ lf ∷ more) ≡ j.parts ++ (line ++ lf ∷ []) ∷ cut more
@@ -120,11 +110,7 @@ early-many {text = text} {line = line} {log = log} {n = n} j (b ∷ more) all so
 -- ---- bytes without an early fault
 
 not_judged : (line : List ℕ) → has line lf ≡ false → IsShort line → IsJudged line → ⊥
-not_judged line h s (inl ends) = let other = not_last line lf h in cc
-not_judged line h (inl few) (inr (inl many)) = omega arith
-not_judged line h (inr full) (inr (inl many)) = let e = full.0 in omega arith
-not_judged line h (inl few) (inr (inr long)) = let e = long.0 in omega arith
-not_judged line h (inr full) (inr (inr long)) = let yes_ = full.1 in let no_ = long.1 in cc
+not_judged line h k g = grind (arith, common_steps)
 
 pub no-early : {text line : List ℕ} {log : LogValue} {n : ℕ} → HasJudged text log n line → (m : ℕ) (f : LineFault) → IsEarlyFault text m f → ⊥
 no-early {text = text} {line = line} {n = n} j m f e =

@@ -1,9 +1,6 @@
 -- The open round, from one position to the next.
-use Rattle.std.proofs.Common.{◌≡◌, ℕ, suc, ◌<◌, ◌≤◌, ◌+◌, ◌-◌, List, true, false, Option, Some, None, refl, sym, ap, ◌∙◌, subst, arith, add-one, IfSome, slice_get, if◌then◌else◌}
-use Rattle.vic_log.proofs.Words.{Entry, Sent, Silent, Listed, FieldCycle, opener, ends_round, IsInRound, IsInOrder}
-use Rattle.vic_frame.specs.Slots.{slot_count}
-use Rattle.vic_frame.specs.declared.request.Request.{Request}
-use Rattle.vic_frame.specs.declared.request.Request.TheVariants.{Inventory, StayQuiet}
+use Rattle.std.proofs.Common.{◌≡◌, ℕ, suc, ◌<◌, ◌+◌, ◌-◌, List, Option, Some, None, sym, ap, ◌∙◌, arith, add-one, slice_get, if◌then◌else◌}
+use Rattle.vic_log.proofs.Words.{nat_tests, Entry, Sent, Listed, FieldCycle, opener, ends_round, IsInOrder}
 use Rattle.vic_log.specs.declared.rounds.OpenRound.{OpenRound}
 use Rattle.vic_log.specs.declared.rounds.RoundCursor.{RoundCursor}
 use Rattle.vic_log.specs.OpenRounds.{round_of, round_since, round_at, IsCursorAt}
@@ -21,16 +18,8 @@ after_round round (Listed u) = None
 after_round round FieldCycle = None
 after_round round e = next_slot round
 
-next_of_round : (o : Option Entry) (k n : ℕ) → n ≡ k + 1 → round_of o n ≡ next_slot (round_of o k)
-next_of_round None k n e = refl
-next_of_round (Some (Sent q)) k n e = rw e
-next_of_round (Some Silent) k n e = refl
-next_of_round (Some e') k n e = refl
-
 next_since : (es : List Entry) (i : ℕ) (o : Option ℕ) → ((j : ℕ) → o ≡ Some j → j < i) → round_since es (suc i) o ≡ next_slot (round_since es i o)
-next_since es i None b = refl
-next_since es i (Some j) b =
-    let below = b j refl in next_of_round (slice_get es j) (i - suc j) (suc i - suc j) (omega arith)
+next_since es i o h = grind (arith, nat_tests)
 
 -- the round after one entry more
 abbrev opener_with : List Entry → ℕ → Option Entry → Option ℕ
@@ -52,28 +41,5 @@ pub round_passed : (es : List Entry) (i : ℕ) (e : Entry) (round next : Option 
 round_passed es i e round next h k r =
     h ∙ (ap (λ o. after_round o e) r ∙ (sym (round_step es i e k) ∙ ap (round_at es) (sym (add-one i))))
 
-slots_few : (q : Request) → slot_count q ≤ 16
-slots_few (Inventory link true m) = omega arith
-slots_few (Inventory link false m) = omega arith
-slots_few (StayQuiet link uid) = omega arith
-
-next_in : (es : List Entry) (i : ℕ) → IsInRound es i → IfSome (next_slot (round_at es i)) (λ r. r.next ≤ 16)
-next_in es i r =
-    let k = i - suc r.0 in
-    let here : round_at es i ≡ Some (record { request = r.1; next = k }) = ap (round_since es i) r.2 ∙ ap (λ o. round_of o k) r.3 in
-    let few = slots_few r.1 in
-    let lt = r.4 in
-    let small : k + 1 ≤ 16 = omega arith in
-    subst (λ o. IfSome (next_slot o) (λ s. s.next ≤ 16)) (sym here) small
-
-pub small_step : (es : List Entry) (i : ℕ) (e : Entry) → IsInOrder es → slice_get es i ≡ Some e → IfSome (after_round (round_at es i) e) (λ r. r.next ≤ 16)
-small_step es i (Sent q) o k = omega arith
-small_step es i (Listed u) o k = tt
-small_step es i FieldCycle o k = tt
-small_step es i e o k = next_in es i (o.rounds i e k refl)
-
 pub cursor_passed : (es : List Entry) (i : ℕ) (e : Entry) (old new : RoundCursor) → IsInOrder es → slice_get es i ≡ Some e → new.round ≡ round_at es (i + 1) → IsCursorAt es (i + 1) new
-cursor_passed es i e old new o k r = record {
-  open_round = r;
-  few_slots = subst (λ x. IfSome x (λ y. y.next ≤ 16)) (sym (round_step es i e k) ∙ (ap (round_at es) (sym (add-one i)) ∙ sym r)) (small_step es i e o k);
-}
+cursor_passed es i e old new o k r = grind (arith, nat_tests)

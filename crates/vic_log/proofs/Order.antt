@@ -1,7 +1,6 @@
 -- Slots in a round, and entries in order.
-use Rattle.std.proofs.Common.{◌≡◌, ℕ, suc, ◌-◌, ◌<◌, List, Option, Some, None, refl, ap, sym, ◌∙◌, ◌++◌, arith, ◌↔◌, slice_get}
-use Rattle.vic_log.proofs.Words.{Entry, opener, slots_opened, left_since, slots_left, IsInRound, IsInOrder, Sent, Listed, FieldCycle, slice_get_within}
-use Rattle.vic_frame.specs.Slots.{slot_count}
+use Rattle.std.proofs.Common.{◌≡◌, ℕ, ◌<◌, List, Option, Some, refl, sym, ◌∙◌, ◌++◌, arith, ◌↔◌, slice_get}
+use Rattle.vic_log.proofs.Words.{nat_tests, Entry, opener, left_since, slots_left, IsInRound, IsInOrder, Sent, Listed, FieldCycle, slice_get_within}
 use Rattle.vic_log.proofs.Places.{agree_append, agree_upto, opener_agrees, opener_below}
 use Rattle.std.proofs.Math.Nat.{le_of_lt}
 
@@ -24,19 +23,10 @@ IsInOrder-front es fs o = record {
 
 -- a position is in a round if and only if a slot of the round is left
 slots_left-in_round : (es : List Entry) (i : ℕ) → IsInRound es i → 0 < slots_left es i
-slots_left-in_round es i r =
-    let left : slots_left es i ≡ slot_count r.1 - (i - suc r.0) = ap (left_since es i) r.2 ∙ ap (λ e. slots_opened e - (i - suc r.0)) r.3 in
-    let some = r.4 in
-    omega arith
-
-in_round_by : (es : List Entry) (i j : ℕ) → opener es i ≡ Some j → (e : Option Entry) → slice_get es j ≡ e → 0 < slots_opened e - (i - suc j) → IsInRound es i
-in_round_by es i j o None s h = absurd (omega arith)
-in_round_by es i j o (Some (Sent q)) s h = (j, q, o, s, omega arith)
-in_round_by es i j o (Some e) s h = absurd (omega arith)
+slots_left-in_round es i r = grind (arith, nat_tests)
 
 in_round_since : (es : List Entry) (i : ℕ) (o : Option ℕ) → opener es i ≡ o → 0 < left_since es i o → IsInRound es i
-in_round_since es i None e h = absurd (omega arith)
-in_round_since es i (Some j) e h = in_round_by es i j e (slice_get es j) refl h
+in_round_since es i o h k = grind (arith, nat_tests)
 
 pub in_round-slots_left : (es : List Entry) (i : ℕ) → IsInRound es i ↔ (0 < slots_left es i)
 in_round-slots_left es i = (slots_left-in_round es i, in_round_since es i (opener es i) refl)

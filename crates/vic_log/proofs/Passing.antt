@@ -1,6 +1,6 @@
 -- Lines that were read, and the next one.
-use Rattle.std.proofs.Common.{◌≡◌, ℕ, zero, suc, ◌<◌, ◌≤◌, Bool, true, false, Option, Some, None, Result, Ok, Err, List, [], ◌∷◌, ◌++◌, length, refl, sym, ap, ◌∙◌, arith, ⊎_elim, append-nil, ◌≢◌, slice_get, nat_lt, if◌then◌else◌, ◌==◌}
-use Rattle.vic_log.proofs.Words.{cases_eq, cases_lt, cond_both, cond-false, ltb-false, ne_eqb, length_push, Entry, LogLine, Version, LineFault, TooManyLines, Header, Memory, AreRead, entries, LogValue, last_from, line_reading, named_version, version_of, line_fault, entry_line, logged, log_upto, fault_on, IsFirstFault, IsLogOf, next_fault, after_line, RefusesNext}
+use Rattle.std.proofs.Common.{◌≡◌, ℕ, zero, suc, ◌<◌, ◌≤◌, Option, Some, None, Result, Ok, Err, List, [], ◌∷◌, ◌++◌, length, refl, sym, ap, ◌∙◌, arith, ⊎_elim, append-nil, ◌≢◌, slice_get, ◌==◌}
+use Rattle.vic_log.proofs.Words.{nat_tests, cases_eq, cases_lt, cond_both, cond-false, ne_eqb, length_push, Entry, LogLine, Version, LineFault, Header, Memory, AreRead, entries, LogValue, last_from, line_reading, named_version, version_of, line_fault, entry_line, logged, log_upto, fault_on, IsFirstFault, IsLogOf, next_fault, after_line, RefusesNext}
 use Rattle.std.proofs.lemmas.Option.{slice_get_past}
 use Rattle.vic_log.specs.Text.{GiveEntries}
 use Rattle.vic_log.proofs.Places.{slice_get-append, slice_get_seam}
@@ -40,19 +40,13 @@ first_agrees n ls ms f a r = record {
 
 -- the version says nothing of line 1
 fault-any : (n : ℕ) (v w : Version) (es fs : List Entry) (line : List ℕ) → (0 < n → v ≡ w) → (0 < n → es ≡ fs) → line_fault v es (suc n) (Some line) ≡ line_fault w fs (suc n) (Some line)
-fault-any zero v w es fs line p q = refl
-fault-any (suc k) v w es fs line p q = rw (p (omega arith), q (omega arith)) refl
+fault-any n v w es fs line h k = grind (arith, nat_tests)
 
 logged-any : (n : ℕ) (v w : Version) (line : List ℕ) → (0 < n → v ≡ w) → logged v (suc n) (Some line) ≡ logged w (suc n) (Some line)
-logged-any zero v w line p = refl
-logged-any (suc k) v w line p = rw (p (omega arith)) refl
-
-not_many : (b : Bool) (f : LineFault) (rest : Option LineFault) → (if b then Some f else rest) ≡ None → b ≡ false
-not_many true f rest h = cc
-not_many false f rest h = refl
+logged-any n v w line h = grind (arith, nat_tests)
 
 pub in_limit : (version : Version) (es : List Entry) (n : ℕ) (line : List ℕ) → line_fault version es n (Some line) ≡ None → n ≤ 1000000
-in_limit version es n line h = ltb-false 1000000 n (not_many (nat_lt 1000000 n) TooManyLines _ h)
+in_limit version es n line h = grind (arith, nat_tests)
 
 more_than_none : {A : Type 0} (xs ys : List A) → ys ≢ [] → xs ++ ys ≢ []
 more_than_none [] ys h = h
@@ -117,14 +111,6 @@ AreRead-push {ls = ls} {n = n} r line h = record {
 pub no_header : IsFirstFault [] 1 Header
 no_header = record { here = refl; first = λ m lt. let zero_is : m ≡ 0 = omega arith in ap (fault_on []) zero_is }
 
-pub AreRead-start : (log : LogValue) → log.lines ≡ [] → AreRead [] log 0
-AreRead-start log none = record {
-  count = refl;
-  clean = λ m le. let zero_is : m ≡ 0 = omega arith in ap (fault_on []) zero_is;
-  log_is = none;
-  version = λ some. absurd (omega arith);
-}
-
 -- ---- all lines
 
 pub past_end : (lines : List (List ℕ)) (k : ℕ) → 0 < k → length lines ≤ k → fault_on lines (suc k) ≡ None
@@ -132,7 +118,8 @@ past_end lines (suc k) some le = ap (line_fault (version_of lines) (entries (log
     ∙ cond-false _ _ _ (ne_eqb (suc (suc k)) 1 (λ e. absurd (omega arith)))
 past_end lines zero some le = absurd (omega arith)
 
-clean_all : (lines : List (List ℕ)) (n : ℕ) → 0 < n → length lines ≤ n → ((m : ℕ) → m ≤ n → fault_on lines m ≡ None) → (m : ℕ) → fault_on lines m ≡ None
+-- a fault beyond the last line there is none
+pub clean_all : (lines : List (List ℕ)) (n : ℕ) → 0 < n → length lines ≤ n → ((m : ℕ) → m ≤ n → fault_on lines m ≡ None) → (m : ℕ) → fault_on lines m ≡ None
 clean_all lines n some le clean zero = refl
 clean_all lines n some le clean (suc k) = ⊎_elim
     (λ below. clean (suc k) (omega arith))

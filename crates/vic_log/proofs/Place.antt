@@ -1,6 +1,6 @@
 -- The first LF of some bytes.
-use Rattle.std.proofs.Common.{◌≡◌, ℕ, zero, suc, ◌-◌, ◌<◌, ◌≤◌, true, false, List, [], ◌∷◌, ◌++◌, length, take, drop, Result, Ok, Err, ⊎_elim, refl, sym, ap, ◌∙◌, arith, slice_index, nat_eq, ◌==◌, ◌↔◌, IsOk, is_ok, OnOk}
-use Rattle.vic_log.proofs.Words.{or_from, ne_eqb, eq-eqb, cases_lt, has, lf}
+use Rattle.std.proofs.Common.{◌≡◌, ℕ, zero, suc, ◌-◌, ◌<◌, ◌≤◌, true, false, List, [], ◌∷◌, ◌++◌, length, take, drop, Result, refl, sym, ap, ◌∙◌, arith, slice_index, nat_eq, ◌==◌, ◌↔◌, IsOk, is_ok, OnOk}
+use Rattle.vic_log.proofs.Words.{nat_tests, or_from, ne_eqb, eq-eqb, has, lf}
 use Rattle.std.proofs.lemmas.List.{length-drop, take_all}
 use Rattle.std.proofs.Math.Seq.{take-length}
 use Rattle.vic_log.specs.Begun.{IsSplit}
@@ -30,9 +30,7 @@ split_at bytes k n m h e f there none = record {
 
 -- no capacity for that many
 pub over : {A E : Type 0} (r : Result A E) (n : ℕ) → (IsOk r ↔ (n ≤ 130)) → is_ok r ≡ false → 130 < n
-over (Ok x) n v h = cc
-over (Err e) n v h = ⊎_elim (λ (lt : 130 < n). lt) (λ (le : n ≤ 130). absurd (let k = v.1 le in cc)) (cases_lt 130 n)
+over r n h k = grind (arith, nat_tests)
 
 pub on_ok : {A E : Type 0} (r : Result A E) (P : Type 0) → is_ok r ≡ true → OnOk r P → P
-on_ok (Ok x) P h p = p
-on_ok (Err e) P h p = cc
+on_ok r P h k = grind (arith, nat_tests)

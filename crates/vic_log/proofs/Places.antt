@@ -1,6 +1,6 @@
 -- From the entries of a log to its slots; what entries that follow leave as it is.
-use Rattle.std.proofs.Common.{◌≡◌, ℕ, zero, suc, ◌<◌, ◌≤◌, List, [], ◌∷◌, ◌++◌, length, Bool, true, false, Option, Some, None, refl, sym, ap, ◌∙◌, subst, arith, ⊎_elim, ◌+◌, length-append, ◌↔◌, slice_get, if◌then◌else◌}
-use Rattle.vic_log.proofs.Words.{filter, cases_eq, cases_lt, slice_get_within, Entry, Sent, Listed, FieldCycle, ends_round, opener, mask_since, is_quiet, answers_at, outcome_of, Fits, CouldHaveGiven, Slot}
+use Rattle.std.proofs.Common.{◌≡◌, ℕ, zero, suc, ◌<◌, ◌≤◌, List, [], ◌∷◌, ◌++◌, length, Bool, Option, Some, None, refl, sym, ap, ◌∙◌, subst, arith, ◌↔◌, inl, inr, slice_get}
+use Rattle.vic_log.proofs.Words.{nat_tests, filter, cases_lt, cond_both, length_push, slice_get_within, Entry, ends_round, opener, mask_since, is_quiet, answers_at, outcome_of, Fits, CouldHaveGiven, Slot}
 use Rattle.std.proofs.lemmas.List.Elements.{filter_agree}
 use Rattle.vic_log.specs.Rounds.{mask_at}
 use Rattle.vic_log.specs.Populations.{outcome_at}
@@ -10,21 +10,14 @@ use Rattle.vic_log.specs.Slots.{with_entry, slots_before, slots_of}
 -- ---- entries and slots
 
 fits_entry : (answers : ℕ → Bool) (e : Entry) (slots : List Slot) (p : List ℕ) → MeetsAll p (with_entry answers (Some e) slots) ↔ (Fits e (outcome_of (filter answers p)) × MeetsAll p slots)
-fits_entry answers (Sent q) slots p = ((λ h. (tt, h)), (λ h. h.1))
-fits_entry answers (Listed u) slots p = ((λ h. (tt, h)), (λ h. h.1))
-fits_entry answers FieldCycle slots p = ((λ h. (tt, h)), (λ h. h.1))
-fits_entry answers e slots p = ((λ h. h), (λ h. h))
+fits_entry answers e slots p = grind (arith, nat_tests)
 
 -- the entries of the first n positions fit
 abbrev FitBefore : List ℕ → List Entry → ℕ → Type 0
 FitBefore p es n = (i : ℕ) (e : Entry) → i < n → slice_get es i ≡ Some e → Fits e (outcome_at es i p)
 
 fit_more : (p : List ℕ) (es : List Entry) (n : ℕ) → FitBefore p es n → ((e : Entry) → slice_get es n ≡ Some e → Fits e (outcome_at es n p)) → FitBefore p es (suc n)
-fit_more p es n below here i e h k =
-    ⊎_elim
-    (λ same. subst (λ j. slice_get es j ≡ Some e → Fits e (outcome_at es j p)) (sym same) (here e) k)
-    (λ ne. below i e (omega arith) k)
-    (cases_eq i n)
+fit_more p es n below here i e h k = grind (arith, nat_tests)
 
 slot_step : (p : List ℕ) (answers : ℕ → Bool) (o : Option Entry) (slots : List Slot) → MeetsAll p (with_entry answers o slots) ↔ (((e : Entry) → o ≡ Some e → Fits e (outcome_of (filter answers p))) × MeetsAll p slots)
 slot_step p answers None slots = ((λ h. ((λ e k. cc), h)), (λ h. h.1))
@@ -72,21 +65,18 @@ quiet_agrees (suc n) es fs u a =
     let k : is_quiet es n u ≡ is_quiet fs n u = quiet_agrees n es fs u (agree_less n es fs a) in
     rw (h, k)
 
-opener_below_by : (es : List Entry) (n j : ℕ) → (b : Bool) → ((k : ℕ) → opener es n ≡ Some k → k < n) → (if b then Some n else opener es n) ≡ Some j → j < suc n
-opener_below_by es n j true rest e = let same : n ≡ j = cc in omega arith
-opener_below_by es n j false rest e = let h = rest j e in omega arith
-
 pub opener_below : (es : List Entry) (n j : ℕ) → opener es n ≡ Some j → j < n
 opener_below es zero j e = cc
-opener_below es (suc n) j e = opener_below_by es n j (ends_round (slice_get es n)) (opener_below es n) e
-
-mask_since_agrees : (n : ℕ) (es fs : List Entry) → AgreeBefore n es fs → (o : Option ℕ) → ((k : ℕ) → o ≡ Some k → k < n) → mask_since es n o ≡ mask_since fs n o
-mask_since_agrees n es fs a None b = refl
-mask_since_agrees n es fs a (Some j) b = let h : slice_get es j ≡ slice_get fs j = a j (b j refl) in rw h
+opener_below es (suc n) j e = cond_both (ends_round (slice_get es n)) (Some n) (opener es n) (λ o. o ≡ Some j → j < suc n)
+    (λ _ k. let same : n ≡ j = cc in omega arith)
+    (λ _ k. let h = opener_below es n j k in omega arith)
+    e
 
 mask_agrees : (n : ℕ) (es fs : List Entry) → AgreeBefore n es fs → mask_at es n ≡ mask_at fs n
-mask_agrees n es fs a =
-    mask_since_agrees n es fs a (opener es n) (opener_below es n) ∙ ap (mask_since fs n) (opener_agrees n es fs a)
+mask_agrees n es fs a = rw (opener_agrees n es fs a) ((elim (opener fs n) as (λ o. opener fs n ≡ o → mask_since es n o ≡ mask_since fs n o) [
+  | None ↦ λ e. refl
+  | Some j ↦ λ e. rw (a j (opener_below fs n j e)) refl
+]) refl)
 
 pub answers_agree : (n : ℕ) (es fs : List Entry) → AgreeBefore n es fs → (u : ℕ) → answers_at es n u ≡ answers_at fs n u
 answers_agree n es fs a u =
@@ -124,22 +114,18 @@ slice_get_last es e = slice_get_seam es e []
 pub agree_upto : (es fs : List Entry) (i : ℕ) → i ≤ length es → AgreeBefore i es (es ++ fs)
 agree_upto es fs i h j below = agree_append es fs j (omega arith)
 
-fits_last : (p : List ℕ) (es : List Entry) (e : Entry) → Fits e (outcome_at es (length es) p) → (f : Entry) → slice_get (es ++ e ∷ []) (length es) ≡ Some f → Fits f (outcome_at (es ++ e ∷ []) (length es) p)
-fits_last p es e h f k =
-    let same : Some e ≡ Some f = sym (slice_get_last es e) ∙ k in
-    let it : e ≡ f = cc in
-    subst (Fits f) (outcome_agrees (length es) es (es ++ e ∷ []) p (agree_upto es (e ∷ []) (length es) (omega arith))) (subst (λ x. Fits x (outcome_at es (length es) p)) it h)
+-- a position of the list with one entry more: one before, or the last
+pub last_or : {P : Type 0} (es : List Entry) (e f : Entry) (i : ℕ) → slice_get (es ++ e ∷ []) i ≡ Some f → (i < length es → slice_get es i ≡ Some f → P) → (i ≡ length es → e ≡ f → P) → P
+last_or es e f i k before last = elim (cases_lt i (length es)) [
+  | inl below ↦ before below (agree_append es (e ∷ []) i below ∙ k)
+  | inr above ↦
+      let within = slice_get_within (es ++ e ∷ []) i f k in
+      let same : i ≡ length es = omega (arith, length_push es e) in
+      last same (cc (slice_get_last es e))
+]
 
 -- with one entry more, that one has to fit too
 pub CouldHaveGiven-push : (p : List ℕ) (es : List Entry) (e : Entry) → CouldHaveGiven p es → Fits e (outcome_at es (length es) p) → CouldHaveGiven p (es ++ e ∷ [])
-CouldHaveGiven-push p es e g h i f k =
-    let within = slice_get_within (es ++ e ∷ []) i f k in
-    let long : length (es ++ e ∷ []) ≡ length es + 1 = length-append es (e ∷ []) in
-    ⊎_elim
-    (λ below.
-    let here = agree_append es (e ∷ []) i below in
-    subst (Fits f) (outcome_agrees i es (es ++ e ∷ []) p (agree_upto es (e ∷ []) i (omega arith))) (g i f (here ∙ k)))
-    (λ ge.
-    let at : i ≡ length es = omega arith in
-    subst (λ j. slice_get (es ++ e ∷ []) j ≡ Some f → Fits f (outcome_at (es ++ e ∷ []) j p)) (sym at) (fits_last p es e h f) k)
-    (cases_lt i (length es))
+CouldHaveGiven-push p es e g h i f k = last_or es e f i k
+    (λ below here. subst (Fits f) (outcome_agrees i es (es ++ e ∷ []) p (agree_upto es (e ∷ []) i (omega arith))) (g i f here))
+    (λ same it. rw (same, ← it) (subst (Fits e) (outcome_agrees (length es) es (es ++ e ∷ []) p (agree_upto es (e ∷ []) (length es) (omega arith))) h))

@@ -1,40 +1,30 @@
 -- One entry more: what entries in order keep, and what a log keeps.
-use Rattle.std.proofs.Common.{◌≡◌, ℕ, zero, suc, ◌+◌, ◌-◌, ◌<◌, ◌≤◌, Bool, true, false, Option, Some, None, List, [], ◌∷◌, ◌++◌, length, take, length-append, refl, sym, ap, subst, ◌∙◌, arith, ⊎_elim, slice_get, nat_eq, nat_lt, if◌then◌else◌, not, ◌||◌}
-use Rattle.vic_log.proofs.Words.{cases_lt, ltb-true, eq-eqb, or_right, map-append, length-map, slice_get_within, Entry, Sent, Listed, FieldCycle, LogLine, has, Version, V1, IsOfFirstVersion, AreOfFirstVersion, opener, slots_opened, left_since, slots_left, is_slot, IsInOrder, entries, listed, AreValid, is_empty, refusal, last_from, IsValidEntry, IsTyped, AreTyped, numbered}
+use Rattle.std.proofs.Common.{◌≡◌, ℕ, zero, suc, ◌+◌, ◌-◌, ◌<◌, ◌≤◌, Bool, true, false, Some, None, List, [], ◌∷◌, ◌++◌, length, take, length-append, refl, sym, ap, subst, ◌∙◌, arith, slice_get, nat_eq, nat_lt, if◌then◌else◌, not, ◌||◌}
+use Rattle.vic_log.proofs.Words.{nat_tests, eq-eqb, or_right, map-append, length-map, Entry, Sent, Listed, FieldCycle, LogLine, has, Version, V1, IsOfFirstVersion, AreOfFirstVersion, opener, left_since, slots_left, is_slot, IsInOrder, entries, listed, AreValid, is_empty, refusal, last_from, IsValidEntry, IsTyped, AreTyped, numbered}
 use Rattle.std.proofs.lemmas.Bool.{not-false}
-use Rattle.vic_log.specs.declared.fault.PushFault.{PushFault}
-use Rattle.vic_log.specs.declared.fault.PushFault.TheVariants.{SlotOutsideRound, EntryAfterList, DuplicateListed}
 use Rattle.vic_log.specs.Order.{IsRisingFrom, is_outside_round, is_after_list, is_duplicate}
 use Rattle.vic_log.specs.Log.{IsLog}
 use Rattle.vic_log.specs.Kept.{left_after, Keeps}
-use Rattle.vic_log.proofs.Places.{AgreeBefore, opener_agrees, opener_below, agree_append, slice_get_last, agree_upto}
+use Rattle.vic_log.proofs.Places.{last_or, AgreeBefore, opener_agrees, opener_below, agree_append, slice_get_last, agree_upto}
 use Rattle.vic_log.proofs.Order.{in_round-slots_left}
 
 -- ---- slots left
 
-left_agrees : (n : ℕ) (es fs : List Entry) → AgreeBefore n es fs → (o : Option ℕ) → ((k : ℕ) → o ≡ Some k → k < n) → left_since es n o ≡ left_since fs n o
-left_agrees n es fs a None b = refl
-left_agrees n es fs a (Some j) b = let h : slice_get es j ≡ slice_get fs j = a j (b j refl) in rw h
-
 -- how many slots are left at a position is told by the entries before it
 pub slots_left_agrees : (n : ℕ) (es fs : List Entry) → AgreeBefore n es fs → slots_left es n ≡ slots_left fs n
-slots_left_agrees n es fs a =
-    left_agrees n es fs a (opener es n) (opener_below es n) ∙ ap (left_since fs n) (opener_agrees n es fs a)
-
-one_less : (es fs : List Entry) (n : ℕ) → AgreeBefore n es fs → (o : Option ℕ) → ((k : ℕ) → o ≡ Some k → k < n) → left_since fs (suc n) o ≡ left_since es n o - 1
-one_less es fs n a None b = refl
-one_less es fs n a (Some j) b =
-    let h : slice_get es j ≡ slice_get fs j = a j (b j refl) in
-    let below : j < n = b j refl in
-    let many = slots_opened (slice_get es j) in
-    let same : slots_opened (slice_get fs j) ≡ many = ap slots_opened (sym h) in
-    ap (λ m. m - (suc n - suc j)) same ∙ omega arith
+slots_left_agrees n es fs a = rw (opener_agrees n es fs a) ((elim (opener fs n) as (λ o. opener fs n ≡ o → left_since es n o ≡ left_since fs n o) [
+  | None ↦ λ e. refl
+  | Some j ↦ λ e. rw (a j (opener_below fs n j e)) refl
+]) refl)
 
 left_by : (es fs : List Entry) (n : ℕ) → AgreeBefore n es fs → (e : Entry) → slice_get fs n ≡ Some e → slots_left fs (suc n) ≡ left_after (slots_left es n) e
 left_by es fs n a (Sent q) k = rw k (rw k (omega arith))
 left_by es fs n a (Listed u) k = rw k (rw k (omega arith))
 left_by es fs n a FieldCycle k = rw k (rw k (omega arith))
-left_by es fs n a e k = rw k (one_less es fs n a (opener fs n) (opener_below fs n) ∙ ap (λ o. left_since es n o - 1) (sym (opener_agrees n es fs a)))
+left_by es fs n a e k = rw (k, opener_agrees n es fs a) ((elim (opener fs n) as (λ o. opener fs n ≡ o → left_since fs (suc n) o ≡ left_since es n o - 1) [
+  | None ↦ λ o. refl
+  | Some j ↦ λ o. let below = opener_below fs n j o in rw (a j below) (omega arith)
+]) refl)
 
 -- the slots left behind the last entry
 pub slots_left-push : (es : List Entry) (e : Entry) → slots_left (es ++ e ∷ []) (suc (length es)) ≡ left_after (slots_left es (length es)) e
@@ -54,49 +44,25 @@ has-there (Listed w ∷ es) (suc i) u k = or_right (nat_eq u w) (has (listed es)
 has-there (e ∷ es) (suc i) u k = has-there es i u k
 
 empty_has : (us : List ℕ) (u : ℕ) → is_empty us ≡ true → has us u ≡ false
-empty_has [] u h = refl
-empty_has (x ∷ us) u h = cc
+empty_has us u h = grind (arith, nat_tests)
 
 empty-append : (us ws : List ℕ) → not (is_empty (us ++ ws)) ≡ (not (is_empty us) || not (is_empty ws))
-empty-append [] ws = refl
-empty-append (u ∷ us) ws = refl
+empty-append us ws = grind (arith, nat_tests)
 
 -- ---- order
 
 -- no reason to refuse: none of the three holds
-none_of : (a b d : Bool) (x y z : PushFault) → (if a then Some x else if b then Some y else if d then Some z else None) ≡ None → (a ≡ false) × (b ≡ false) × (d ≡ false)
-none_of true b d x y z h = cc
-none_of false true d x y z h = cc
-none_of false false true x y z h = cc
-none_of false false false x y z h = (refl, refl, refl)
-
 pub refusal_none : (es : List Entry) (e : Entry) → refusal es e ≡ None → (is_outside_round es e ≡ false) × (is_after_list es e ≡ false) × (is_duplicate es e ≡ false)
-refusal_none es e h = none_of (is_outside_round es e) (is_after_list es e) (is_duplicate es e) SlotOutsideRound EntryAfterList DuplicateListed h
+refusal_none es e h = grind arith
 
 pub refusal_listed : (es : List Entry) (u : ℕ) → has (listed es) u ≡ false → refusal es (Listed u) ≡ None
 refusal_listed es u h = rw h refl
 
 pub lists_none : (e : Entry) → ((u : ℕ) → e ≡ Listed u → ⊥) → listed (e ∷ []) ≡ []
-lists_none (Listed u) other = absurd (other u refl)
-lists_none e other = refl
+lists_none e h = grind (arith, nat_tests)
 
 slot_has_left : (b : Bool) (left : ℕ) → b ≡ true → (if b then not (nat_lt 0 left) else false) ≡ false → 0 < left
-slot_has_left true left s h = ltb-true 0 left (not-false (nat_lt 0 left) h)
-slot_has_left false left s h = cc
-
--- a position of the list with one entry more: one before, or the last
-last_or : {P : Type 0} (es : List Entry) (e f : Entry) (i : ℕ) → slice_get (es ++ e ∷ []) i ≡ Some f → (i < length es → slice_get es i ≡ Some f → P) → (i ≡ length es → e ≡ f → P) → P
-last_or es e f i k before last =
-    let within = slice_get_within (es ++ e ∷ []) i f k in
-    let long : length (es ++ e ∷ []) ≡ length es + 1 = length-append es (e ∷ []) in
-    ⊎_elim
-    (λ below. before below (agree_append es (e ∷ []) i below ∙ k))
-    (λ above.
-    let same : i ≡ length es = omega arith in
-    let it : Some e ≡ Some f = sym (slice_get_last es e) ∙ (ap (slice_get (es ++ e ∷ [])) (sym same) ∙ k) in
-    let e_is : e ≡ f = cc in
-    last same e_is)
-    (cases_lt i (length es))
+slot_has_left b left h k = grind (arith, nat_tests)
 
 -- no UID is listed before an entry that may not follow one
 none_listed : (es : List Entry) (e : Entry) (i u : ℕ) → i < length es → slice_get (es ++ e ∷ []) i ≡ Some (Listed u) → not (is_empty (listed es)) ≡ false → ⊥

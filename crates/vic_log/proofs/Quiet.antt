@@ -1,16 +1,10 @@
 -- A tag is Quiet where a Stay Quiet with its UID stands before, and no field cycle between.
-use Rattle.std.proofs.Common.{◌≡◌, ℕ, zero, suc, List, true, not, ◌&&◌, Option, Some, None, refl, sym, subst, arith, ⊎_elim, ◌≢◌, slice_get}
-use Rattle.vic_log.proofs.Words.{cases_eq, and_parts, and_from, or_cases, or_left, or_right, false≢true, Entry, FieldCycle, silences, wakes, is_quiet}
+use Rattle.std.proofs.Common.{◌≡◌, ℕ, zero, suc, List, true, not, ◌&&◌, Option, Some, subst, arith, ⊎_elim, ◌≢◌, slice_get}
+use Rattle.vic_log.proofs.Words.{nat_tests, cases_eq, and_parts, and_from, or_cases, or_left, or_right, false≢true, Entry, FieldCycle, silences, wakes, is_quiet}
 use Rattle.vic_log.specs.Quiet.{IsSilenced}
 
-keeps_quiet : (o : Option Entry) → not (wakes o) ≡ true → o ≢ Some FieldCycle
-keeps_quiet (Some FieldCycle) h e = false≢true h
-keeps_quiet o h e = cc
-
 no_wake : (o : Option Entry) → o ≢ Some FieldCycle → not (wakes o) ≡ true
-no_wake None h = refl
-no_wake (Some FieldCycle) h = absurd (h refl)
-no_wake (Some e) h = refl
+no_wake o h = grind (arith, nat_tests)
 
 pub quiet-silenced : (es : List Entry) (i u : ℕ) → is_quiet es i u ≡ true → IsSilenced es i u
 quiet-silenced es zero u h = absurd (false≢true h)
@@ -26,7 +20,7 @@ quiet-silenced es (suc n) u h =
       omega arith,
       r.2,
       λ k above below. ⊎_elim
-          (λ same. subst (λ j. slice_get es j ≢ Some FieldCycle) (sym same) (keeps_quiet (slice_get es n) w.0))
+          (λ same cycle. cc w.0)
           (λ ne. r.3 k above (omega arith))
           (cases_eq k n),
     ))

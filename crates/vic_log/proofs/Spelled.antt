@@ -1,9 +1,9 @@
 -- The line of an entry reads back as the entry.
-use Rattle.std.proofs.Common.{◌≡◌, ℕ, zero, suc, ◌*◌, ◌/◌, ◌%◌, ◌<◌, Bool, true, false, Some, None, List, [], ◌∷◌, length, refl, ap, arith, slice_get, slice_index, nat_eq, ◌||◌}
-use Rattle.vic_log.proofs.Words.{ne_eqb, encode_upper, upper_digits, hex_digit_value, has, Entry, Sent, Silent, Collision, Heard, Listed, Garbled, FieldCycle, Version, V1, V2, IsOfFirstVersion, AreOfFirstVersion, IsValidEntry, IsTyped, AreTyped, AreValid, entry_text}
+use Rattle.std.proofs.Common.{◌≡◌, ℕ, suc, ◌*◌, ◌/◌, ◌%◌, ◌<◌, Bool, false, Some, None, List, [], ◌∷◌, length, refl, arith, slice_get, slice_index, nat_eq, ◌||◌}
+use Rattle.vic_log.proofs.Words.{nat_tests, encode_upper, upper_digits, hex_digit_value, has, Entry, Sent, Silent, Collision, Heard, Listed, Garbled, FieldCycle, Version, V1, V2, IsOfFirstVersion, AreOfFirstVersion, IsValidEntry, IsTyped, AreTyped, AreValid, entry_text}
 use Rattle.hex.specs.Hex.{encode_with, IsBytes}
 use Rattle.std.specs.Int.{to_be_bytes, w64}
-use Rattle.hex.proofs.HexLemmas.{decode_of-encode_upper, length-encode_with, IsDigits-upper_digits}
+use Rattle.hex.proofs.HexLemmas.{decode_of-encode_upper, length-encode_with}
 use Rattle.vic_frame.specs.Requests.{request_spelling}
 use Rattle.vic_frame.specs.Replies.{reply_spelling}
 use Rattle.vic_log.proofs.FrameBytes.{AreBytes-request, length-request, AreBytes-reply, length-reply}
@@ -14,16 +14,10 @@ use Rattle.vic_log.proofs.Written.{IsPlain, IsSpelled, AreSpelled}
 -- ---- hex digits are neither LF nor CR
 
 no_digit_is : (w d : ℕ) → hex_digit_value w ≡ None → d < 16 → nat_eq w (slice_index upper_digits d) ≡ false
-no_digit_is w d none lt = ne_eqb w (slice_index upper_digits d) (λ same.
-    let some : hex_digit_value (slice_index upper_digits d) ≡ Some d = IsDigits-upper_digits d lt in
-    let also : hex_digit_value w ≡ hex_digit_value (slice_index upper_digits d) = ap hex_digit_value same in
-    cc)
+no_digit_is w d none lt = grind (arith, nat_tests)
 
 neither : (a b d : Bool) → a ≡ false → b ≡ false → d ≡ false → (a || (b || d)) ≡ false
-neither false false false p q r = refl
-neither true b d p q r = cc
-neither false true d p q r = cc
-neither false false true p q r = cc
+neither a b d p q r = cc
 
 hex_lacks : (w : ℕ) (bytes : List ℕ) → hex_digit_value w ≡ None → IsBytes bytes → has (encode_upper bytes) w ≡ false
 unfolding encode_with
@@ -44,15 +38,7 @@ plain_line letter bytes a b h = record {
 }
 
 be_bytes : (u : ℕ) → IsBytes (to_be_bytes w64 u)
-be_bytes u zero = omega arith
-be_bytes u (suc zero) = omega arith
-be_bytes u (suc (suc zero)) = omega arith
-be_bytes u (suc (suc (suc zero))) = omega arith
-be_bytes u (suc (suc (suc (suc zero)))) = omega arith
-be_bytes u (suc (suc (suc (suc (suc zero))))) = omega arith
-be_bytes u (suc (suc (suc (suc (suc (suc zero)))))) = omega arith
-be_bytes u (suc (suc (suc (suc (suc (suc (suc zero))))))) = omega arith
-be_bytes u (suc (suc (suc (suc (suc (suc (suc (suc k)))))))) = omega arith
+be_bytes u i = grind (arith, nat_tests)
 
 be_long : (u : ℕ) → length (to_be_bytes w64 u) ≡ 8
 be_long u = refl
@@ -95,8 +81,7 @@ spelled V1 FieldCycle t v o = absurd (o refl)
 spelled V2 FieldCycle t v o = record { reads = refl; short = omega arith; plain = record { no_lf = refl; no_cr = refl } }
 
 pub valid_at : (es : List Entry) → AreValid es → (i : ℕ) (e : Entry) → slice_get es i ≡ Some e → IsValidEntry e
-valid_at es v i (Sent q) k = v i q k
-valid_at es v i e k = tt
+valid_at es h i e k = grind (arith, nat_tests)
 
 pub spelled_all : (version : Version) (es : List Entry) → AreTyped es → AreValid es → (version ≡ V1 → AreOfFirstVersion es) → AreSpelled version es
 spelled_all version es t v o i e k = spelled version e (t i e k) (valid_at es v i e k) (λ is. o is i e k)

@@ -1,6 +1,6 @@
 -- A population meets the slots where its members are open and it supplies what the slots ask for.
-use Rattle.std.proofs.Common.{◌≡◌, ℕ, List, [], ◌∷◌, Bool, true, false, refl, sym, ap, ◌∙◌, subst, ⊎_elim, ◌≢◌, ◌↔◌}
-use Rattle.vic_log.proofs.Words.{eqb-true, eq-eqb, leb-true, ltb-true, lt-ltb, and_parts, and_from, false≢true, both_ways, has, is_uid, IsUid, AreDifferent, IsPopulation, Lone, outcome_of, Reading, NoReply, OneReply, ManyReplies, SomeReply, Slot}
+use Rattle.std.proofs.Common.{◌≡◌, ℕ, List, [], ◌∷◌, Bool, true, refl, sym, ap, ◌∙◌, subst, ⊎_elim, ◌≢◌, ◌↔◌, arith}
+use Rattle.vic_log.proofs.Words.{nat_tests, eqb-true, leb-true, ltb-true, lt-ltb, and_parts, and_from, false≢true, both_ways, has, is_uid, IsUid, AreDifferent, IsPopulation, Lone, outcome_of, Reading, NoReply, OneReply, ManyReplies, SomeReply, Slot}
 use Rattle.std.specs.List.{list_all}
 use Rattle.std.proofs.lemmas.Bool.{le-leb}
 use Rattle.vic_log.specs.Slots.{may_be, allows, is_open, Asks, Supplies, SuppliesAll}
@@ -16,14 +16,7 @@ two_differ : (x y : ℕ) (q : List ℕ) → AreDifferent (x ∷ y ∷ q) → x �
 two_differ x y q d e = both_ways (has (y ∷ q) x) d.0 (has_at x y q e)
 
 fits_allows : (r : Reading) (q : List ℕ) → ReadingFits r (outcome_of q) → (u : ℕ) → has q u ≡ true → may_be r true u ≡ true
-fits_allows NoReply [] f u h = absurd (false≢true h)
-fits_allows NoReply (x ∷ []) f u h = cc
-fits_allows NoReply (x ∷ y ∷ q) f u h = cc
-fits_allows (OneReply w) [] f u h = cc
-fits_allows (OneReply w) (x ∷ []) f u h = let e : x ≡ w = cc in eq-eqb u w (only_member u x h ∙ e)
-fits_allows (OneReply w) (x ∷ y ∷ q) f u h = cc
-fits_allows ManyReplies q f u h = refl
-fits_allows SomeReply q f u h = refl
+fits_allows r q h u k = grind (arith, nat_tests)
 
 pub fits_asks : (r : Reading) (q : List ℕ) → AreDifferent q → ReadingFits r (outcome_of q) → Asks r (has q)
 fits_asks NoReply q d f = tt
@@ -56,20 +49,10 @@ asks_fits SomeReply (x ∷ y ∷ q) d m a = λ e. cc
 -- ---- one slot, by the population
 
 pub asks_within : (r : Reading) (s t : ℕ → Bool) → IsWithin s t → Asks r s → Asks r t
-asks_within NoReply s t k a = tt
-asks_within (OneReply w) s t k a = k w a
-asks_within ManyReplies s t k a = (a.0, a.1, a.2, k a.0 a.3, k a.1 a.4)
-asks_within SomeReply s t k a = (a.0, k a.0 a.1)
-
-may_be_aside : (r : Reading) (u : ℕ) → may_be r false u ≡ true
-may_be_aside NoReply u = refl
-may_be_aside (OneReply w) u = refl
-may_be_aside ManyReplies u = refl
-may_be_aside SomeReply u = refl
+asks_within r s t h k = grind (arith, nat_tests)
 
 allows_by : (r : Reading) (b : Bool) (u : ℕ) → (b ≡ true → may_be r true u ≡ true) → may_be r b u ≡ true
-allows_by r true u h = h refl
-allows_by r false u h = may_be_aside r u
+allows_by r b u h = grind (arith, nat_tests)
 
 pub Meets-allows : (p : List ℕ) (s : Slot) → Meets p s → (u : ℕ) → has p u ≡ true → allows u s ≡ true
 Meets-allows p s m u h =
@@ -87,8 +70,7 @@ Supplies-meets p s d k a =
     (asks_within s.reading _ _ (filter_has s.answers p) a)
 
 pub Supplies-within : (s t : ℕ → Bool) (x : Slot) → IsWithin s t → Supplies s x → Supplies t x
-Supplies-within s t x k a =
-    asks_within x.reading _ _ (λ u h. let w = and_parts (s u) (x.answers u) h in and_from _ _ (k u w.0) w.1) a
+Supplies-within s t x k a = grind (arith, nat_tests)
 
 -- ---- all slots
 

@@ -1,8 +1,7 @@
 -- Bytes that are taken in turn.
-use Rattle.std.proofs.Common.{arith, ◌≡◌, ◌+◌, ◌-◌, ℕ, List, [], ◌++◌, length, length-append, take, drop, None, Some, Option, sym, ◌∙◌, ap, subst, append-nil, append_assoc}
-use Rattle.vic_log.proofs.Words.{take-append-le, Appends, HasTakenBut}
+use Rattle.std.proofs.Common.{◌<◌, ◌≤◌, ◌∷◌, slice_index_or, arith, ◌≡◌, ◌+◌, ◌-◌, ℕ, List, [], ◌++◌, length, length-append, take, drop, None, Some, Option, sym, ◌∙◌, ap, append_assoc}
+use Rattle.vic_log.proofs.Words.{common_steps, lf, drop_all, take-append-le, Appends, HasTakenBut}
 use Rattle.std.proofs.KnownBytes.{Appends-trans}
-use Rattle.std.proofs.lemmas.Grind.{common_steps}
 use Rattle.std.proofs.Math.Seq.{take-add, take-append-add}
 use Rattle.vic_log.specs.Device.{HasTakenPrefix}
 
@@ -21,9 +20,7 @@ HasTakenBut-step a b c piece rest more text h e k =
 
 -- the last piece was taken completely
 pub HasTakenBut-all : (a b c : Option (List ℕ)) (piece more text : List ℕ) → HasTakenBut a b more text → piece ++ [] ≡ more → Appends b c piece → Appends a c text
-HasTakenBut-all a b c piece more text h e k =
-    let last = HasTakenBut-step a b c piece [] more text h e k in
-    subst (Appends a c) (sym (append-nil last.0) ∙ last.2) last.1
+HasTakenBut-all a b c piece more text h e k = grind (arith, common_steps)
 
 -- a line was put behind what waited, of which some may have been taken
 pub HasTakenBut-line : (a b c : Option (List ℕ)) (piece piece' line rest more text : List ℕ) → HasTakenBut a b (piece ++ more) text → HasTakenBut b c piece' (piece ++ line) → line ++ rest ≡ more → HasTakenBut a c (piece' ++ rest) text
@@ -42,3 +39,12 @@ HasTakenBut-part (Some xs) (Some ys) (Some zs) piece rest more text h e k =
     let long : length text ≡ length sent + (length piece + length rest) = ap length whole ∙ (length-append sent (piece ++ rest) ∙ ap (λ n. length sent + n) (length-append piece rest)) in
     let front : take (length sent + k.0) text ≡ sent ++ take k.0 piece = ap (take (length sent + k.0)) whole ∙ (take-append-add sent (piece ++ rest) k.0 ∙ ap (λ ws. sent ++ ws) (take-append-le k.0 piece rest k.1)) in
     (length sent + k.0, omega arith, k.2 ∙ (ap (λ ws. ws ++ take k.0 piece) h.1 ∙ (append_assoc xs sent (take k.0 piece) ∙ ap (λ ws. xs ++ ws) (sym front))))
+
+-- the line of the element at position i, and the lines behind it
+pub line_next : {X : Type 0} (line : X → List ℕ) (text : List X → List ℕ) → ((x : X) (xs : List X) → text (x ∷ xs) ≡ line x ++ lf ∷ text xs) → (xs : List X) (i : ℕ) (x : X) → i < length xs → x ≡ slice_index_or xs i x
+    → (line x ++ lf ∷ []) ++ text (drop (i + 1) xs) ≡ text (drop i xs)
+line_next line text e xs i x h is = grind (arith, common_steps)
+
+-- nothing is left behind the last one
+pub none_left : {X : Type 0} (text : List X → List ℕ) (piece : List ℕ) (xs : List X) (i : ℕ) → text [] ≡ [] → length xs ≤ i → piece ++ [] ≡ piece ++ text (drop i xs)
+none_left text piece xs i none h = ap (λ ys. piece ++ ys) (sym (ap text (drop_all i xs h) ∙ none))

@@ -1,8 +1,7 @@
 -- A set of UIDs, spread over rows.
-use Rattle.std.proofs.Common.{◌≡◌, ℕ, zero, suc, subst, ◌<◌, Bool, true, false, Some, List, [], ◌∷◌, ◌++◌, length, take, get_or, ⊎_elim, refl, sym, ap, ◌∙◌, arith, nat_eq, ◌||◌, not, slice_get, set, cond}
-use Rattle.vic_log.proofs.Words.{false_from_ne_true, cases_eq, ne_eqb, eq-eqb, eqb-true, or_from, or_right, list_any-append, list_any, has, IsUid, row_of, IsUidSet, IsSetOf, IsIndex, LogLine, entries, listed}
-use Rattle.std.proofs.lemmas.Grind.{common_steps}
-use Rattle.std.proofs.lemmas.List.{get_or_default, length-set, get_or-set_same, get_or-set_other}
+use Rattle.std.proofs.Common.{◌≡◌, ℕ, zero, suc, ◌<◌, Bool, true, false, Some, List, [], ◌∷◌, ◌++◌, length, take, get_or, ⊎_elim, refl, sym, ap, ◌∙◌, arith, nat_eq, ◌||◌, not, slice_get, set, cond}
+use Rattle.vic_log.proofs.Words.{common_steps, nat_tests, false_from_ne_true, cases_eq, ne_eqb, eq-eqb, or_from, or_right, list_any-append, list_any, has, IsUid, row_of, IsUidSet, IsSetOf, IsIndex, LogLine, entries, listed}
+use Rattle.std.proofs.lemmas.List.{length-set, get_or-set_same, get_or-set_other}
 use Rattle.std.proofs.Math.Bool.{or_comm, or_assoc, or-false}
 use Rattle.std.specs.BTreeMap.{is_at}
 use Rattle.std.specs.Vec.{with_item, vec_len}
@@ -38,8 +37,7 @@ row-set_other : (rows : List (List ℕ)) (p u : ℕ) (row : List ℕ) → (place
 row-set_other rows p u row other = rw (length-set rows p row) (get_or-set_other rows p (place_of u (length rows)) row [] other)
 
 last_two : (a b d : Bool) → ((a || b) || d) ≡ ((a || d) || b)
-last_two true b d = refl
-last_two false b d = or_comm b d
+last_two a b d = grind arith
 
 -- a UID put into its row
 pub record IsPut (old new : UidSet) (uid k : ℕ) : Type 0 where
@@ -88,20 +86,11 @@ IsUidSet-put old new uid k set_ h =
 
 -- the row that was read is that of the UID
 pub row_is : (s : UidSet) (uid rows place : ℕ) (row : List ℕ) → rows ≡ vec_len s.rows → place ≡ place_of uid rows → place < rows → row ≡ get_or s.rows.items place row → row ≡ row_of s.rows.items uid
-row_is s uid rows place row long is there at =
-    at ∙ (get_or_default s.rows.items place row [] (subst (λ n. place < n) (long ∙ s.rows.ok.0) there) ∙ ap (λ p. get_or s.rows.items p []) (is ∙ ap (place_of uid) (long ∙ s.rows.ok.0)))
+row_is s uid rows place row long is there at = grind (arith, common_steps)
 
 pub is_put : (old : UidSet) (uid rows place k number : ℕ) (row seen : List ℕ) → rows ≡ vec_len old.rows → place ≡ place_of uid rows → place < rows → row ≡ get_or old.rows.items place row → seen ≡ get_or old.rows.items place seen → slice_get seen k ≡ Some 0 → number ≡ uid
     → IsPut old (record { rows = with_item old.rows place (set row k number); others = old.others }) uid k
-is_put old uid rows place k number row seen long is there at seen_at free same =
-    let held = old.rows.items in
-    let place_is : place ≡ place_of uid (length held) = is ∙ ap (place_of uid) (long ∙ old.rows.ok.0) in
-    record {
-      there = subst (λ p. p < length held) place_is (subst (λ n. place < n) (long ∙ old.rows.ok.0) there);
-      free = ap (λ r. slice_get r k) (sym (row_is old uid rows place seen long is there seen_at)) ∙ free;
-      rows = ap (λ p. set held p (set row k number)) place_is ∙ (ap (λ r. set held (place_of uid (length held)) (set r k number)) (row_is old uid rows place row long is there at) ∙ ap (λ m. set held (place_of uid (length held)) (set (row_of held uid) k m)) same);
-      others = refl;
-    }
+is_put old uid rows place k number row seen long is there at seen_at free same = grind (arith, common_steps)
 
 -- a search of a row for a number
 pub has_searched : (row : List ℕ) (u : ℕ) → list_any (λ x. nat_eq x u) row ≡ has row u
@@ -110,44 +99,23 @@ has_searched (x ∷ row) u = rw (eq_swapped x u) (ap (λ b. nat_eq u x || b) (ha
 
 -- a UID put beside the rows
 at_test : (k u : ℕ) → is_at (nat_cmp k) u ≡ nat_eq u k
-at_test k u = ⊎_elim
-    (λ e. grind (arith, common_steps, e))
-    (λ n. grind (arith, common_steps, n))
-    (cases_eq k u)
-
-swapped : (a b t : Bool) → (a || cond t true b) ≡ ((a || b) || t)
-swapped true b t = refl
-swapped false true true = refl
-swapped false true false = refl
-swapped false false true = refl
-swapped false false false = refl
+at_test k u = grind (arith, nat_tests)
 
 of_two : (t b : Bool) (P : Type 0) → (t ≡ true → P) → (b ≡ true → P) → cond t true b ≡ true → P
-of_two true b P f g h = f refl
-of_two false b P f g h = g h
+of_two t b P h k g = grind (arith, nat_tests)
 
 pub held-beside : (old new : UidSet) (uid u : ℕ) → new.rows ≡ old.rows → sorted.contains nat_cmp new.others u ≡ cond (is_at (nat_cmp uid) u) true (sorted.contains nat_cmp old.others u) → is_held new u ≡ (is_held old u || nat_eq u uid)
-held-beside old new uid u rows h =
-    rw (rows, h, at_test uid u) (swapped (has (row_of old.rows.items u) u) (sorted.contains nat_cmp old.others u) (nat_eq u uid))
+held-beside old new uid u rows h = grind (arith, nat_tests)
 
 pub IsUidSet-beside : (old new : UidSet) (uid : ℕ) → IsUidSet old → new.rows ≡ old.rows → has (row_of old.rows.items uid) 0 ≡ false → ((u : ℕ) → sorted.contains nat_cmp new.others u ≡ cond (is_at (nat_cmp uid) u) true (sorted.contains nat_cmp old.others u)) → IsUidSet new
-IsUidSet-beside old new uid h rows full e = record {
-  some = rw rows h.some;
-  full = λ u there. rw rows (of_two (nat_eq u uid) (sorted.contains nat_cmp old.others u) (has (row_of old.rows.items u) 0 ≡ false)
-      (λ same. let is : u ≡ uid = eqb-true u uid same in rw is full)
-      (λ before. h.full u before)
-      (ap (λ t. cond t true (sorted.contains nat_cmp old.others u)) (sym (at_test uid u)) ∙ (sym (e u) ∙ there)));
-}
+IsUidSet-beside old new uid h rows full e = grind (arith, nat_tests)
 
 -- ---- the UIDs of lines
 
 pub has_at_line : (lines : List LogLine) (i u : ℕ) (l : LogLine) → slice_get lines i ≡ Some l → has (listed (l.item ∷ [])) u ≡ true → has (listed (entries lines)) u ≡ true
 has_at_line [] i u l k h = cc
-has_at_line (x ∷ lines) zero u l k h =
-    let same : x ≡ l = cc in
-    ap (λ us. has us u) (listed-append (x.item ∷ []) (entries lines)) ∙ (list_any-append (nat_eq u) (listed (x.item ∷ [])) (listed (entries lines)) ∙ rw (same, h) refl)
-has_at_line (x ∷ lines) (suc i) u l k h =
-    ap (λ us. has us u) (listed-append (x.item ∷ []) (entries lines)) ∙ (list_any-append (nat_eq u) (listed (x.item ∷ [])) (listed (entries lines)) ∙ or_right (has (listed (x.item ∷ [])) u) (has (listed (entries lines)) u) (has_at_line lines i u l k h))
+has_at_line (x ∷ lines) zero u l k h = let same : x ≡ l = cc in rw (listed-append (x.item ∷ []) (entries lines), list_any-append, same, h)
+has_at_line (x ∷ lines) (suc i) u l k h = rw (listed-append (x.item ∷ []) (entries lines), list_any-append) (or_right _ _ (has_at_line lines i u l k h))
 
 -- one line more
 pub listed_next : (lines : List LogLine) (i : ℕ) (l : LogLine) → slice_get lines i ≡ Some l → listed (entries (take (suc i) lines)) ≡ listed (entries (take i lines)) ++ listed (l.item ∷ [])
@@ -164,21 +132,13 @@ IsSetOf-push us uid old new h more u pos = more u pos ∙ (ap (λ b. b || nat_eq
 
 -- a UID put into the set once more
 pub IsSetOf-same : (us : List ℕ) (uid : ℕ) (old new : UidSet) → IsSetOf us old → has us uid ≡ true → ((u : ℕ) → 0 < u → is_held new u ≡ (is_held old u || nat_eq u uid)) → IsSetOf us new
-IsSetOf-same us uid old new h there more u pos = more u pos ∙ (ap (λ b. b || nat_eq u uid) (h u pos) ∙ ⊎_elim
-    (λ (same : u ≡ uid). rw (same, there) refl)
-    (λ other. rw (ne_eqb u uid other) (or-false (has us u)))
-    (cases_eq u uid))
+IsSetOf-same us uid old new h there more u pos = grind (arith, nat_tests)
 
 pub IsIndex-held : (us : List ℕ) (greatest : ℕ) (s : UidSet) → IsUidSet s → IsSetOf us s → IsIndex us greatest s
-IsIndex-held us greatest s set_ uids_ = record {
-  rising = λ none u there. let some = set_.some in absurd (omega (arith, none, some));
-  set = λ _. set_;
-  uids = λ _. uids_;
-}
+IsIndex-held us greatest s set_ uids_ = grind (arith, nat_tests)
 
 unless : (a b : Bool) → a ≡ not b → not a ≡ b
-unless a true e = rw e refl
-unless a false e = rw e refl
+unless a b h = grind (arith, nat_tests)
 
 -- what the set answers at a UID of a tag
 pub has_unless : (us : List ℕ) (uid : ℕ) (s : UidSet) (is_new : Bool) → IsSetOf us s → IsUid uid → is_new ≡ not (is_held s uid) → has us uid ≡ not is_new

@@ -3,6 +3,8 @@ pub use Rattle.std.specs.Io.KnownBytes.{Consumes, Appends}
 pub use Rattle.std.specs.List.{filter, list_any}
 pub use Rattle.std.proofs.KnownBytes.{Consumes-trans}
 pub use Rattle.std.proofs.lemmas.Bool.{cases_lt, ne_eqb, cases_eq, eqb-true, cond-false, eq-eqb, or_right, and_parts, lt-ltb, and_from, or_from, cond_both, false_from_ne_true, cond-true, le-ltb, or_cases, false≢true, ltb-false, leb-true, both_ways, ltb-true, cases_Bool, or_left, or_parts}
+pub use Rattle.std.proofs.lemmas.Bool.Decides.{nat_tests}
+pub use Rattle.std.proofs.lemmas.Grind.{common_steps}
 pub use Rattle.std.proofs.lemmas.List.{length-map, drop_all, length_push, map-append, nil_from_length, take-append-le}
 pub use Rattle.std.proofs.lemmas.List.Folds.{list_any-append}
 pub use Rattle.std.proofs.lemmas.Option.{slice_get_within, slice_get_read}

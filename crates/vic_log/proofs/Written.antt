@@ -1,39 +1,33 @@
 -- The text of a log reads back.
-use Rattle.std.proofs.Common.{◌≡◌, ℕ, zero, suc, ◌+◌, ◌-◌, ◌<◌, ◌≤◌, true, false, Some, None, Ok, List, [], ◌∷◌, ◌++◌, length, refl, sym, ap, subst, ◌∙◌, arith, append_assoc, append-nil, slice_get, slice_index, nat_eq, if◌then◌else◌, ◌==◌, map}
-use Rattle.vic_log.proofs.Words.{and_from, cond-true, cond-false, or_parts, eq-eqb, ne_eqb, le-ltb, lt-ltb, length_push, Entry, has, IsInOrder, entries, onto, cut, ends_with, all_but_last, without_last, content, lines_of_text, line_reading, named_version, line_fault, entry_line, logged, IsLogOf, after_line, LogValue, Version, V1, V2, entry_text, numbered, AreRead}
-use Rattle.std.proofs.Math.Seq.{get_or-append_seam, take-append_seam}
-use Rattle.std.proofs.lemmas.Bool.{and_right}
+use Rattle.std.proofs.Common.{◌≡◌, ℕ, suc, ◌+◌, ◌-◌, ◌<◌, ◌≤◌, true, false, Some, None, Ok, List, [], ◌∷◌, ◌++◌, length, refl, sym, ap, subst, ◌∙◌, arith, append_assoc, append-nil, slice_get, nat_eq, if◌then◌else◌, ◌==◌, map}
+use Rattle.vic_log.proofs.Words.{common_steps, nat_tests, cond-true, cond-false, or_parts, ne_eqb, le-ltb, length_push, Entry, has, IsInOrder, entries, onto, cut, ends_with, all_but_last, without_last, content, lines_of_text, line_reading, named_version, line_fault, entry_line, logged, IsLogOf, after_line, LogValue, Version, entry_text, numbered, AreRead}
+use Rattle.std.proofs.Math.Seq.{take-append_seam}
+use Rattle.std.specs.List.{AllByRecursion}
 use Rattle.vic_log.specs.Text.{reading_fault, header}
 use Rattle.vic_log.specs.Writing.{joined}
-use Rattle.vic_log.proofs.Passing.{AreRead-start, AreRead-push, AreRead-end}
+use Rattle.vic_log.proofs.Passing.{AreRead-push, AreRead-end}
 use Rattle.vic_log.proofs.Follow.{first_reason-none}
 use Rattle.vic_log.proofs.Push.{entries-numbered}
 use Rattle.vic_log.proofs.Sets.{eq_swapped}
 
 -- ---- lines that are joined are cut again
 
+-- the first of some bytes, and the others
+pub parted : (b : ℕ) (tail : List ℕ) → has (b ∷ tail) 10 ≡ false → (b == 10 ≡ false) × (has tail 10 ≡ false)
+parted b tail h = let p = or_parts (nat_eq 10 b) (has tail 10) h in (eq_swapped b 10 ∙ p.0, p.1)
+
 pub cut-line : (line rest : List ℕ) → has line 10 ≡ false → cut (line ++ 10 ∷ rest) ≡ (line ++ 10 ∷ []) ∷ cut rest
 cut-line [] rest h = refl
-cut-line (b ∷ line) rest h =
-    let parts = or_parts (nat_eq 10 b) (has line 10) h in
-    cond-false _ _ _ (eq_swapped b 10 ∙ parts.0) ∙ ap (onto b) (cut-line line rest parts.1)
-
-not_there : (line : List ℕ) (b k : ℕ) → has line b ≡ false → k < length line → slice_index line k == b ≡ false
-not_there [] b k h lt = absurd (omega arith)
-not_there (x ∷ line) b zero h lt = eq_swapped x b ∙ (or_parts (nat_eq b x) (has line b) h).0
-not_there (x ∷ line) b (suc k) h lt = not_there line b k (or_parts (nat_eq b x) (has line b) h).1 (omega arith)
+cut-line (b ∷ line) rest h = let p = parted b line h in cond-false _ _ _ p.0 ∙ ap (onto b) (cut-line line rest p.1)
 
 pub not_last : (line : List ℕ) (b : ℕ) → has line b ≡ false → ends_with b line ≡ false
-not_last [] b h = refl
-not_last (x ∷ line) b h = and_right _ _ (not_there (x ∷ line) b (length (x ∷ line) - 1) h (omega arith))
+not_last line b h = grind (arith, common_steps)
 
 pub all_but_last-push : (line : List ℕ) (b : ℕ) → all_but_last (line ++ b ∷ []) ≡ line
 all_but_last-push line b = let place : length (line ++ b ∷ []) - 1 ≡ length line = omega (arith, length_push line b) in rw place (take-append_seam line (b ∷ []))
 
 pub ends_with-push : (line : List ℕ) (b : ℕ) → ends_with b (line ++ b ∷ []) ≡ true
-ends_with-push line b =
-    let place : length (line ++ b ∷ []) - 1 ≡ length line = omega (arith, length_push line b) in
-    and_from _ _ (lt-ltb 0 (length (line ++ b ∷ [])) (omega (arith, length_push line b))) (rw (place, get_or-append_seam line b [] 0) (eq-eqb b b refl))
+ends_with-push line b = grind (arith, common_steps)
 
 -- what is left of a part with its LF
 pub content-end : (line : List ℕ) → content (line ++ 10 ∷ []) ≡ without_last 13 line
@@ -47,13 +41,11 @@ pub record IsPlain (line : List ℕ) : Type 0 where
   pub no_lf : has line 10 ≡ false
   pub no_cr : has line 13 ≡ false
 
-pub lines-joined : (lines : List (List ℕ)) → ((i : ℕ) (line : List ℕ) → slice_get lines i ≡ Some line → IsPlain line) → lines_of_text (joined lines) ≡ lines
+pub lines-joined : (lines : List (List ℕ)) → AllByRecursion IsPlain lines → lines_of_text (joined lines) ≡ lines
 lines-joined [] plain = refl
 lines-joined (line ∷ lines) plain =
-    let here = plain 0 line refl in
-    ap (map content) (cut-line line (joined lines) here.no_lf)
-    ∙ (ap (λ l. l ∷ lines_of_text (joined lines)) (content-line line here.no_cr)
-    ∙ ap (λ ls. line ∷ ls) (lines-joined lines (λ i l k. plain (suc i) l k)))
+    ap (map content) (cut-line line (joined lines) plain.0.no_lf)
+    ∙ (ap (λ l. l ∷ lines_of_text (joined lines)) (content-line line plain.0.no_cr) ∙ ap (λ ls. line ∷ ls) (lines-joined lines plain.1))
 
 -- ---- the lines of entries in order have no fault
 
@@ -108,26 +100,19 @@ reads_on v lines es (e ∷ rest) r o s few =
     (subst (λ fs. IsLogOf ((lines ++ line ∷ []) ++ map entry_text rest) (of_version v fs)) (append_assoc es (e ∷ []) rest)
     (reads_on v (lines ++ line ∷ []) (es ++ e ∷ []) rest more (subst IsInOrder (sym (append_assoc es (e ∷ []) rest)) o) (λ i f k. s (suc i) f k) (omega arith)))
 
-plain_all : (v : Version) (es : List Entry) → AreSpelled v es → (i : ℕ) (line : List ℕ) → slice_get (map entry_text es) i ≡ Some line → IsPlain line
-plain_all v [] s i line k = cc
-plain_all v (e ∷ es) s zero line k = let same : entry_text e ≡ line = cc in subst IsPlain same (s 0 e refl).plain
-plain_all v (e ∷ es) s (suc i) line k = plain_all v es (λ j f g. s (suc j) f g) i line k
+plain_all : (v : Version) (es : List Entry) → AreSpelled v es → AllByRecursion IsPlain (map entry_text es)
+plain_all v [] s = tt
+plain_all v (e ∷ es) s = ((s 0 e refl).plain, plain_all v es (λ j f g. s (suc j) f g))
 
 header_plain : (v : Version) → IsPlain (header v)
-header_plain V1 = record { no_lf = refl; no_cr = refl }
-header_plain V2 = record { no_lf = refl; no_cr = refl }
-
-plain_lines : (v : Version) (es : List Entry) → AreSpelled v es → (i : ℕ) (line : List ℕ) → slice_get (header v ∷ map entry_text es) i ≡ Some line → IsPlain line
-plain_lines v es s zero line k = let same : header v ≡ line = cc in subst IsPlain same (header_plain v)
-plain_lines v es s (suc i) line k = plain_all v es s i line k
+header_plain v = grind (arith, nat_tests)
 
 -- the header is line 1, and names its version
 header_read : (v : Version) → AreRead (header v ∷ []) (of_version v []) 1
-header_read V1 = AreRead-push (AreRead-start (of_version V1 []) refl) (header V1) refl
-header_read V2 = AreRead-push (AreRead-start (of_version V1 []) refl) (header V2) refl
+header_read v = grind (arith, nat_tests)
 
 -- the text of entries in order reads back as these entries, numbered from 2 on
 pub text_of-reads : (v : Version) (es : List Entry) → IsInOrder es → AreSpelled v es → length es ≤ 999999 → IsLogOf (lines_of_text (joined (header v ∷ map entry_text es))) (of_version v es)
 text_of-reads v es o s few =
     let lines = header v ∷ map entry_text es in
-    subst (λ ls. IsLogOf ls (of_version v es)) (sym (lines-joined lines (plain_lines v es s))) (reads_on v (header v ∷ []) [] es (header_read v) o s (omega arith))
+    subst (λ ls. IsLogOf ls (of_version v es)) (sym (lines-joined lines (header_plain v, plain_all v es s))) (reads_on v (header v ∷ []) [] es (header_read v) o s (omega arith))

@@ -17,18 +17,13 @@ refused : {log : LogValue} {n : ℕ} {text line whole : List ℕ} → HasJudged 
 refused {text = text} j bytes lacks w fault h more =
     rw (← append_assoc text bytes (lf ∷ more)) (early-refused (HasCut-more j.begun bytes lacks) fault (rw (w, add-one) at h) more)
 
-alone_ended : {A : Type 0} {line : List ℕ} (old new : LogValue) (n m : ℕ) (bytes : List ℕ) (r : Result A LogFault) → line ≡ [] → has bytes lf ≡ false
+alone : {A : Type 0} {line : List ℕ} (old new : LogValue) (n m : ℕ) (bytes : List ℕ) (r : Result A LogFault) → line ≡ [] → has bytes lf ≡ false
     → MatchResult r (λ _. next_fault old (n + 1) (without_last cr bytes) ≡ None) (RefusesNext old (n + 1) (without_last cr bytes))
     → OnOk r (new ≡ after_line old (n + 1) (without_last cr bytes)) → OnOk r (m ≡ n + 1)
     → OnOk r ((text : List ℕ) → HasJudged text old n line → HasJudged (text ++ (bytes ++ lf ∷ [])) new m line)
-alone_ended old new n m bytes (Ok x) none lacks h l k = λ text j. ended j bytes lacks (sym (ap (λ xs. xs ++ bytes) none)) h l k none
-alone_ended old new n m bytes (Err f) none lacks h l k = tt
-
-alone_refused : {A : Type 0} {line : List ℕ} (log : LogValue) (n : ℕ) (bytes : List ℕ) (r : Result A LogFault) → line ≡ [] → has bytes lf ≡ false
-    → MatchResult r (λ _. next_fault log (n + 1) (without_last cr bytes) ≡ None) (RefusesNext log (n + 1) (without_last cr bytes))
-    → IfErr r (λ e. (text more : List ℕ) → HasJudged text log n line → IsEarly e (text ++ (bytes ++ lf ∷ more)))
-alone_refused log n bytes (Ok x) none lacks h = tt
-alone_refused log n bytes (Err f) none lacks h = λ text more j. refused j bytes lacks (sym (ap (λ xs. xs ++ bytes) none)) f h more
+    × IfErr r (λ e. (text more : List ℕ) → HasJudged text old n line → IsEarly e (text ++ (bytes ++ lf ∷ more)))
+alone old new n m bytes (Ok x) none lacks h l k = ((λ text j. ended j bytes lacks (sym (ap (λ xs. xs ++ bytes) none)) h l k none), tt)
+alone old new n m bytes (Err f) none lacks h l k = (tt, λ text more j. refused j bytes lacks (sym (ap (λ xs. xs ++ bytes) none)) f h more)
 
 pub returns-then-begun-eq-MAX_LINES-clause-err : goal.returns-then-begun-eq-MAX_LINES-clause-err
 returns-then-begun-eq-MAX_LINES-clause-err c = λ text more j.
@@ -49,11 +44,11 @@ end_line-requires-2-clause-above c = λ some. AreRead-above _ c.requires.judged.
 
 pub returns-then-is_empty-clause-ok : goal.returns-then-is_empty-clause-ok
 returns-then-is_empty-clause-ok c =
-    let none = nil_from_length c.args.begun.now.line.items (search rules) in
-    alone_ended _ _ _ _ _ c.end_line.result none c.requires.no_lf c.end_line.ensures.answer c.end_line.ensures.log c.end_line.ensures.number
+    (alone _ _ _ _ _ c.end_line.result (nil_from_length c.args.begun.now.line.items (search rules)) c.requires.no_lf c.end_line.ensures.answer c.end_line.ensures.log c.end_line.ensures.number).0
 
 pub returns-then-is_empty-clause-err : goal.returns-then-is_empty-clause-err
-returns-then-is_empty-clause-err c = alone_refused _ _ _ c.end_line.result (nil_from_length c.args.begun.now.line.items (search rules)) c.requires.no_lf c.end_line.ensures.answer
+returns-then-is_empty-clause-err c =
+    (alone _ _ _ _ _ c.end_line.result (nil_from_length c.args.begun.now.line.items (search rules)) c.requires.no_lf c.end_line.ensures.answer c.end_line.ensures.log c.end_line.ensures.number).1
 
 pub returns-then-is_err-clause-err : goal.returns-then-is_err-clause-err
 returns-then-is_err-clause-err c = λ text more j.

@@ -1,21 +1,11 @@
-use Rattle.std.proofs.Common.{◌≡◌, ◌++◌, ◌∷◌, [], ℕ, List, refl, ap, sym, subst, ◌∙◌, append_assoc, append-nil, length, length-append, arith}
-use Rattle.vic_log.proofs.Words.{err_from_is_err_and, HasJudged, IsEarly, lf}
+use Rattle.std.proofs.Common.{◌++◌, ◌∷◌, [], refl, ap, sym, ◌∙◌, append_assoc, append-nil, length, length-append, arith}
+use Rattle.vic_log.proofs.Words.{err_from_is_err_and, lf}
 use Rattle.std.proofs.lemmas.Result.{IfErr-weaker, on_ok_weaker}
 use Rattle.vic_log.proofs.begun.take_piece.Goals as goal
 
--- what was taken, the line, and what stands behind it
-regrouped : (text taken line behind bytes rest : List ℕ) → bytes ≡ taken ++ rest → rest ≡ line ++ lf ∷ behind → (text ++ taken) ++ (line ++ lf ∷ behind) ≡ text ++ bytes
-regrouped text taken line behind bytes rest e f = append_assoc text taken (line ++ lf ∷ behind) ∙ ap (λ xs. text ++ xs) (ap (λ xs. taken ++ xs) (sym f) ∙ sym e)
-
 pub loop-line-init : goal.loop-line-init
 loop-line-init c =
-    let begun = c.args.begun.now in
-    record {
-      taken = [];
-      whole = refl;
-      judged = λ text j. subst (λ (xs : List ℕ). HasJudged xs begun.log begun.number begun.line.items) (sym (append-nil text)) j;
-      less = omega arith;
-    }
+    record { taken = []; whole = refl; judged = λ text j. rw append-nil j; less = omega arith }
 
 pub take_end-requires-clause-judged : goal.take_end-requires-clause-judged
 take_end-requires-clause-judged c = (c.requires.judged.0 ++ c.loop-line.invariant.taken, c.loop-line.invariant.judged c.requires.judged.0 c.requires.judged.1)
@@ -23,13 +13,9 @@ take_end-requires-clause-judged c = (c.requires.judged.0 ++ c.loop-line.invarian
 pub returns-in_err-take_end-clause-err : goal.returns-in_err-take_end-clause-err
 returns-in_err-take_end-clause-err c =
     let i = c.loop-line.invariant in
-    let split = c.in-Some.ensures in
-    let line = c.in-Some.line.now in
     let behind = c.in-Some.behind.now in
-    let fault = c.in_err-take_end.field-0.0 in
     let p = err_from_is_err_and c.from_residual.result c.from_residual.ensures.1 in
-    rw (p.1, p.2) (λ text j. subst (IsEarly fault) (regrouped text i.taken line behind c.args.bytes.now c.loop-line.rest.now i.whole split.whole)
-    (c.in_err-take_end.ensures.err (text ++ i.taken) behind (i.judged text j)))
+    rw (p.1, p.2) (λ text j. rw (i.whole, c.in-Some.ensures.whole, ← append_assoc text i.taken (c.in-Some.line.now ++ lf ∷ behind)) (c.in_err-take_end.ensures.err (text ++ i.taken) behind (i.judged text j)))
 
 pub loop-line-preserved : goal.loop-line-preserved
 loop-line-preserved c =
@@ -37,7 +23,6 @@ loop-line-preserved c =
     let split = c.in-Some.ensures in
     let line = c.in-Some.line.now in
     let behind = c.in-Some.behind.now in
-    let begun = c.take_end.new.begun in
     let less = c.in_ok-take_end.ensures.less in
     let before = i.less in
     let size = length-append i.taken (line ++ lf ∷ []) in
@@ -45,28 +30,20 @@ loop-line-preserved c =
     record {
       taken = i.taken ++ (line ++ lf ∷ []);
       whole = i.whole ∙ (ap (λ xs. i.taken ++ xs) (split.whole ∙ sym (append_assoc line (lf ∷ []) behind)) ∙ sym (append_assoc i.taken (line ++ lf ∷ []) behind));
-      judged = λ text j. subst (λ (xs : List ℕ). HasJudged xs begun.log begun.number begun.line.items) (append_assoc text i.taken (line ++ lf ∷ []))
-          (c.in_ok-take_end.ensures.ok (text ++ i.taken) (i.judged text j));
+      judged = λ text j. rw append_assoc at (c.in_ok-take_end.ensures.ok (text ++ i.taken) (i.judged text j));
       less = omega arith;
     }
-
--- the last bytes
-more_taken : (text taken rest bytes : List ℕ) → bytes ≡ taken ++ rest → (text ++ taken) ++ rest ≡ text ++ bytes
-more_taken text taken rest bytes e = append_assoc text taken rest ∙ ap (λ xs. text ++ xs) (sym e)
 
 pub returns-clause-ok : goal.returns-clause-ok
 returns-clause-ok c =
     let i = c.loop-line.invariant in
-    let begun = c.take_begun.new.begun in
-    on_ok_weaker c.take_begun.result
-    (λ taken text j. subst (λ (xs : List ℕ). HasJudged xs begun.log begun.number begun.line.items) (more_taken text i.taken c.loop-line.rest.now c.args.bytes.now i.whole) (taken (text ++ i.taken) (i.judged text j)))
-    c.take_begun.ensures.ok
+    on_ok_weaker c.take_begun.result (λ taken text j. rw (i.whole, ← append_assoc text i.taken c.loop-line.rest.now) (taken (text ++ i.taken) (i.judged text j))) c.take_begun.ensures.ok
 
 pub returns-clause-err : goal.returns-clause-err
 returns-clause-err c =
     let i = c.loop-line.invariant in
     IfErr-weaker c.take_begun.result _ _
-    (λ e early text j. subst (IsEarly e) (more_taken text i.taken c.loop-line.rest.now c.args.bytes.now i.whole) (early (text ++ i.taken) (i.judged text j)))
+    (λ e early text j. rw (i.whole, ← append_assoc text i.taken c.loop-line.rest.now) (early (text ++ i.taken) (i.judged text j)))
     c.take_begun.ensures.err
 
 pub take_end-requires-clause-no_lf : goal.take_end-requires-clause-no_lf

@@ -3,11 +3,6 @@ use Rattle.vic_log.proofs.Words.{has, IsUid, entries, listed}
 use Rattle.vic_log.proofs.UidSets.{IsIndex-held, IsSetOf-push, IsSetOf-same, has_unless}
 use Rattle.vic_log.proofs.log.index_uid.Goals as goal
 
-pub returns-then-branch-clause-answer : goal.returns-then-branch-clause-answer
-returns-then-branch-clause-answer c =
-    let typed : IsUid c.args.uid = search rules in
-    has_unless (listed (entries c.args.lines.now)) c.args.uid c.make_room.new.self c.in_ok-put.field-0 c.in-Ok.ensures.uids typed c.in_ok-put.ensures.answer ∙ ap not c.if-branch.true
-
 pub returns-then-branch-clause-more : goal.returns-then-branch-clause-more
 returns-then-branch-clause-more c =
     IsIndex-held _ c.args.greatest.now c.put.new.self c.put.ensures.set (IsSetOf-push (listed (entries c.args.lines.now)) c.args.uid c.make_room.new.self c.put.new.self c.in-Ok.ensures.uids c.in_ok-put.ensures.more)

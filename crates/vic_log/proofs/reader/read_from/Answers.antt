@@ -1,14 +1,14 @@
-use Rattle.std.proofs.Common.{rules, ◌≡◌, ◌≤◌, ◌<◌, ◌-◌, ◌++◌, ℕ, List, Option, Some, None, [], Result, Ok, Err, MatchResult, IfErr, take, length, length-append, length-take-le, false, true, inl, inr, ap, sym, subst, ◌∙◌, append-nil, append_assoc, arith, ◌↔◌}
+use Rattle.std.proofs.Common.{rules, ◌≡◌, ◌++◌, ℕ, List, Option, Some, None, [], Result, Ok, Err, MatchResult, IfErr, take, length-append, length-take-le, false, true, inl, inr, ap, sym, subst, ◌∙◌, append-nil, append_assoc, arith, ◌↔◌}
 use Rattle.vic_log.proofs.Words.{Consumes-trans, err_from_is_err_and, Consumes, LogFault, Line, Read, Memory, Spent, IsEarly, lines_of_text, LogValue, IsLogOf, Refuses}
 use Rattle.std.proofs.KnownBytes.{Consumes-nil}
 use Rattle.vic_log.specs.Device.{KeepsOrHides, HandsOut, TellsOn}
 use Rattle.vic_log.specs.Early.{ReadsWhere}
 use Rattle.vic_log.proofs.reader.read_from.Goals as goal
 
-handed : (a b : Option (List ℕ)) (xs : List ℕ) → Consumes a b xs → HandsOut a b xs
-handed None b xs h = tt
-handed (Some as_) None xs h = tt
-handed (Some as_) (Some bs) xs h = h
+handed : (a b : Option (List ℕ)) (xs : List ℕ) → Consumes a b xs → HandsOut a b xs × TellsOn a b
+handed None b xs h = (tt, tt)
+handed (Some as_) None xs h = absurd h
+handed (Some as_) (Some bs) xs h = (h, tt)
 
 handed_kept : (a b d : Option (List ℕ)) (xs : List ℕ) → Consumes a b xs → KeepsOrHides b d → HandsOut a d xs
 handed_kept None b d xs h k = tt
@@ -16,33 +16,18 @@ handed_kept (Some as_) None d xs h k = absurd h
 handed_kept (Some as_) (Some bs) None xs h k = tt
 handed_kept (Some as_) (Some bs) (Some ds) xs h k = h ∙ ap (λ ys. xs ++ ys) (sym k)
 
-tells_on : (a b : Option (List ℕ)) (xs : List ℕ) → Consumes a b xs → TellsOn a b
-tells_on None b xs h = tt
-tells_on (Some as_) None xs h = absurd h
-tells_on (Some as_) (Some bs) xs h = tt
-
 reads_early : (IsOver : Type 0) (text : List ℕ) (e : LogFault) → IsEarly e text → ReadsWhere IsOver text (Err e)
 reads_early IsOver text (Line n f) h = inl h
 reads_early IsOver text Memory h = h
 reads_early IsOver text Read h = absurd h
 reads_early IsOver text Spent h = h
 
-reads_end : (IsOver : Type 0) (text : List ℕ) (r : Result LogValue LogFault) → IsOver → MatchResult r (IsLogOf (lines_of_text text)) (Refuses text) → ReadsWhere IsOver text r
-reads_end IsOver text (Ok log) e h = (e, h)
-reads_end IsOver text (Err (Line n f)) e h = inr (e, h)
-reads_end IsOver text (Err Memory) e h = h
+reads_end : (IsOver : Type 0) (text : List ℕ) (r : Result LogValue LogFault) → IsOver → MatchResult r (IsLogOf (lines_of_text text)) (Refuses text) → ReadsWhere IsOver text r × IfErr r (λ e. (e ≡ Read) ↔ (false ≡ true))
+reads_end IsOver text (Ok log) e h = ((e, h), tt)
+reads_end IsOver text (Err (Line n f)) e h = (inr (e, h), ((λ k. cc), (λ k. cc)))
+reads_end IsOver text (Err Memory) e h = (h, ((λ k. cc), (λ k. cc)))
 reads_end IsOver text (Err Read) e h = absurd h
-reads_end IsOver text (Err Spent) e h = h
-
-not_read : (text : List ℕ) (r : Result LogValue LogFault) → MatchResult r (IsLogOf (lines_of_text text)) (Refuses text) → IfErr r (λ e. (e ≡ Read) ↔ (false ≡ true))
-not_read text (Ok log) h = tt
-not_read text (Err (Line n f)) h = ((λ e. cc), (λ e. cc))
-not_read text (Err Memory) h = ((λ e. cc), (λ e. cc))
-not_read text (Err Read) h = absurd h
-not_read text (Err Spent) h = absurd h
-
-less_left : (text piece : List ℕ) (count : ℕ) → 0 < count → count ≤ length piece → length text ≤ 130000000 → 130000001 - length (text ++ take count piece) < 130000001 - length text
-less_left text piece count some bound within = omega (arith, length-append text (take count piece), length-take-le {A = ℕ})
+reads_end IsOver text (Err Spent) e h = absurd h
 
 pub returns-in_err-count-clause-answer : goal.returns-in_err-count-clause-answer
 returns-in_err-count-clause-answer g c =
@@ -54,7 +39,7 @@ returns-in_err-feed-clause-answer g c =
     let i = c.loop-count.invariant in
     let given = i.text ++ take c.loop-count.count c.loop-count.piece in
     let p = err_from_is_err_and c.from_residual-in_err-feed.result c.from_residual-in_err-feed.ensures.1 in
-    rw (p.1, p.2) (given, handed _ _ given i.given, reads_early _ given c.in_err-feed.field-0.0 (c.in_err-feed.ensures.early i.text i.fed))
+    rw (p.1, p.2) (given, (handed _ _ given i.given).0, reads_early _ given c.in_err-feed.field-0.0 (c.in_err-feed.ensures.early i.text i.fed))
 
 pub returns-in_err-feed-clause-returned : goal.returns-in_err-feed-clause-returned
 returns-in_err-feed-clause-returned g c =
@@ -64,7 +49,7 @@ returns-in_err-feed-clause-returned g c =
     rw (p.1, p.2) (given, i.returned, reads_early _ given c.in_err-feed.field-0.0 (c.in_err-feed.ensures.early i.text i.fed))
 
 pub returns-in_err-feed-clause-tells : goal.returns-in_err-feed-clause-tells
-returns-in_err-feed-clause-tells g c = λ _. tells_on _ _ _ c.loop-count.invariant.given
+returns-in_err-feed-clause-tells g c = λ _. (handed _ _ _ c.loop-count.invariant.given).1
 
 pub returns-in_err-count-2-clause-answer : goal.returns-in_err-count-2-clause-answer
 returns-in_err-count-2-clause-answer g c =
@@ -115,23 +100,23 @@ loop-count-preserved g c =
 pub loop-count-smaller : goal.loop-count-smaller
 loop-count-smaller g c =
     let i = c.loop-count.invariant in
-    let less = less_left i.text c.loop-count.piece c.loop-count.count (omega arith) i.bound i.within in
-    rw (i.fed, c.in_ok-feed.ensures.fed i.text i.fed) (omega arith)
+    let size = length-append i.text (take c.loop-count.count c.loop-count.piece) in
+    rw (i.fed, c.in_ok-feed.ensures.fed i.text i.fed) (omega (arith, length-take-le {A = ℕ}))
 
 pub returns-clause-answer : goal.returns-clause-answer
 returns-clause-answer g c =
     let i = c.loop-count.invariant in
     let none : c.loop-count.count ≡ 0 = omega arith in
     let all : i.text ++ take c.loop-count.count c.loop-count.piece ≡ i.text = ap (λ n. i.text ++ take n c.loop-count.piece) none ∙ append-nil i.text in
-    (i.text, handed _ _ i.text (subst (Consumes _ _) all i.given), reads_end _ i.text c.finish.result (i.end none) (c.finish.ensures.answer i.text i.fed))
+    (i.text, (handed _ _ i.text (subst (Consumes _ _) all i.given)).0, (reads_end _ i.text c.finish.result (i.end none) (c.finish.ensures.answer i.text i.fed)).0)
 
 pub returns-clause-returned : goal.returns-clause-returned
 returns-clause-returned g c =
     let i = c.loop-count.invariant in
     let none : c.loop-count.count ≡ 0 = omega arith in
     let all : i.text ++ take c.loop-count.count c.loop-count.piece ≡ i.text = ap (λ n. i.text ++ take n c.loop-count.piece) none ∙ append-nil i.text in
-    (i.text, i.returned ∙ ap (λ xs. g.R.Source.returned c.args.source.now ++ xs) all, reads_end _ i.text c.finish.result (i.ended none) (c.finish.ensures.answer i.text i.fed))
+    (i.text, i.returned ∙ ap (λ xs. g.R.Source.returned c.args.source.now ++ xs) all, (reads_end _ i.text c.finish.result (i.ended none) (c.finish.ensures.answer i.text i.fed)).0)
 
 pub returns-clause-read : goal.returns-clause-read
 returns-clause-read g c =
-    let i = c.loop-count.invariant in rw i.works (not_read i.text c.finish.result (c.finish.ensures.answer i.text i.fed))
+    let i = c.loop-count.invariant in rw i.works (reads_end _ i.text c.finish.result (i.ended (omega arith)) (c.finish.ensures.answer i.text i.fed)).1

@@ -1,22 +1,12 @@
-use Rattle.std.proofs.Common.{rules, Some, ◌≡◌, ℕ, ◌+◌, ◌<◌, ◌≤◌, suc, List, [], ◌∷◌, ◌++◌, length, drop, drop-cons, slice_index_or, refl, ap, sym, ◌∙◌, append_assoc, arith}
-use Rattle.vic_log.proofs.Words.{drop_all, Listed, lf, entry_text, listed_text}
-use Rattle.vic_log.proofs.Told.{HasTakenBut-all, HasTakenBut-line, HasTakenBut-part}
+use Rattle.std.proofs.Common.{rules, Some, [], ◌∷◌, ◌++◌, drop, refl, arith}
+use Rattle.vic_log.proofs.Words.{Listed, lf, entry_text, listed_text}
+use Rattle.vic_log.proofs.Told.{line_next, none_left, HasTakenBut-all, HasTakenBut-line, HasTakenBut-part}
 use Rattle.vic_log.proofs.write.write_listed.Goals as goal
-
-next_uid : (us : List ℕ) (i u : ℕ) → i < length us → u ≡ slice_index_or us i u → (entry_text (Listed u) ++ lf ∷ []) ++ listed_text (drop (i + 1) us) ≡ listed_text (drop i us)
-next_uid us i u h is =
-    let next : i + 1 ≡ suc i = omega arith in
-    append_assoc (entry_text (Listed u)) (lf ∷ []) (listed_text (drop (i + 1) us))
-    ∙ ap listed_text (ap (λ v. v ∷ drop (i + 1) us) is ∙ (ap (λ n. slice_index_or us i u ∷ drop n us) next ∙ sym (drop-cons us i u h)))
-
--- nothing is left behind the last one
-none_left : (piece : List ℕ) (xs : List ℕ) (i : ℕ) → length xs ≤ i → piece ++ [] ≡ piece ++ listed_text (drop i xs)
-none_left piece xs i h = ap (λ ys. piece ++ listed_text ys) (sym (drop_all i xs h))
 
 pub loop-uid-preserved : goal.loop-uid-preserved
 loop-uid-preserved g c =
     let us = c.args.uids.now in
-    let next = next_uid us c.loop-uid.uid-index c.uid-item.result c.loop-uid-test.true c.uid-item.is in
+    let next = line_next (λ w. entry_text (Listed w)) listed_text (λ w ws. refl) us c.loop-uid.uid-index c.uid-item.result c.loop-uid-test.true c.uid-item.is in
     record {
       untouched = search rules;
       told = HasTakenBut-line _ _ _ c.loop-uid.piece.items _ (entry_text (Listed c.uid-item.result) ++ lf ∷ []) _ _ _ c.loop-uid.invariant.told c.in_ok-put_entry.ensures.told next;
@@ -29,11 +19,11 @@ returns-in_err-put_entry-clause-prefix g c =
 
 pub returns-in_err-write_last-clause-prefix : goal.returns-in_err-write_last-clause-prefix
 returns-in_err-write_last-clause-prefix g c =
-    HasTakenBut-part _ _ _ _ [] _ _ c.loop-uid.invariant.told (none_left _ c.args.uids.now c.loop-uid.uid-index (omega arith)) c.in_err-write_last.ensures.prefix
+    HasTakenBut-part _ _ _ _ [] _ _ c.loop-uid.invariant.told (none_left listed_text _ c.args.uids.now c.loop-uid.uid-index refl (omega arith)) c.in_err-write_last.ensures.prefix
 
 pub returns-clause-prefix : goal.returns-clause-prefix
 returns-clause-prefix g c =
-    HasTakenBut-part _ _ _ _ [] _ _ c.loop-uid.invariant.told (none_left _ c.args.uids.now c.loop-uid.uid-index (omega arith)) c.in_ok-write_last.ensures.prefix
+    HasTakenBut-part _ _ _ _ [] _ _ c.loop-uid.invariant.told (none_left listed_text _ c.args.uids.now c.loop-uid.uid-index refl (omega arith)) c.in_ok-write_last.ensures.prefix
 
 pub returns-in_err-put_entry-clause-part : goal.returns-in_err-put_entry-clause-part
 returns-in_err-put_entry-clause-part g c =
@@ -41,16 +31,16 @@ returns-in_err-put_entry-clause-part g c =
 
 pub returns-in_err-write_last-clause-part : goal.returns-in_err-write_last-clause-part
 returns-in_err-write_last-clause-part g c =
-    HasTakenBut-part (Some _) (Some _) (Some _) _ [] _ _ c.loop-uid.invariant.written (none_left _ c.args.uids.now c.loop-uid.uid-index (omega arith)) c.in_err-write_last.ensures.part
+    HasTakenBut-part (Some _) (Some _) (Some _) _ [] _ _ c.loop-uid.invariant.written (none_left listed_text _ c.args.uids.now c.loop-uid.uid-index refl (omega arith)) c.in_err-write_last.ensures.part
 
 pub returns-clause-part : goal.returns-clause-part
 returns-clause-part g c =
-    HasTakenBut-part (Some _) (Some _) (Some _) _ [] _ _ c.loop-uid.invariant.written (none_left _ c.args.uids.now c.loop-uid.uid-index (omega arith)) c.in_ok-write_last.ensures.part
+    HasTakenBut-part (Some _) (Some _) (Some _) _ [] _ _ c.loop-uid.invariant.written (none_left listed_text _ c.args.uids.now c.loop-uid.uid-index refl (omega arith)) c.in_ok-write_last.ensures.part
 
 pub returns-clause-all : goal.returns-clause-all
 returns-clause-all g c =
-    HasTakenBut-all _ _ _ _ _ _ c.loop-uid.invariant.told (none_left _ c.args.uids.now c.loop-uid.uid-index (omega arith)) c.in_ok-write_last.ensures.all
+    HasTakenBut-all _ _ _ _ _ _ c.loop-uid.invariant.told (none_left listed_text _ c.args.uids.now c.loop-uid.uid-index refl (omega arith)) c.in_ok-write_last.ensures.all
 
 pub returns-clause-written : goal.returns-clause-written
 returns-clause-written g c =
-    HasTakenBut-all (Some _) (Some _) (Some _) _ _ _ c.loop-uid.invariant.written (none_left _ c.args.uids.now c.loop-uid.uid-index (omega arith)) c.in_ok-write_last.ensures.written
+    HasTakenBut-all (Some _) (Some _) (Some _) _ _ _ c.loop-uid.invariant.written (none_left listed_text _ c.args.uids.now c.loop-uid.uid-index refl (omega arith)) c.in_ok-write_last.ensures.written

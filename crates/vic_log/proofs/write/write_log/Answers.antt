@@ -1,7 +1,7 @@
-use Rattle.std.proofs.Common.{rules, Some, ◌≡◌, ℕ, zero, ◌+◌, ◌<◌, ◌≤◌, suc, List, [], ◌∷◌, ◌++◌, length, drop, drop-cons, slice_index_or, refl, ap, sym, ◌∙◌, append_assoc, arith}
-use Rattle.vic_log.proofs.Words.{drop_all, LogLine, lf, IsValidEntry, AreValid, entries, entry_text, lines_text}
+use Rattle.std.proofs.Common.{rules, Some, ℕ, zero, ◌<◌, suc, List, [], ◌∷◌, ◌++◌, length, drop, slice_index_or, refl, sym, arith}
+use Rattle.vic_log.proofs.Words.{LogLine, lf, IsValidEntry, AreValid, entries, entry_text, lines_text}
 use Rattle.vic_log.proofs.Spelled.{valid_at}
-use Rattle.vic_log.proofs.Told.{HasTakenBut-all, HasTakenBut-line, HasTakenBut-part}
+use Rattle.vic_log.proofs.Told.{line_next, none_left, HasTakenBut-all, HasTakenBut-line, HasTakenBut-part}
 use Rattle.vic_log.proofs.write.write_log.Goals as goal
 
 valid_line : (lines : List LogLine) (i : ℕ) (other : LogLine) → AreValid (entries lines) → i < length lines → IsValidEntry (slice_index_or lines i other).item
@@ -9,24 +9,14 @@ valid_line [] i other v h = absurd (omega arith)
 valid_line (l ∷ lines) zero other v h = valid_at (entries (l ∷ lines)) v 0 l.item refl
 valid_line (l ∷ lines) (suc i) other v h = valid_line lines i other (λ j q k. v (suc j) q k) (omega arith)
 
-next_line : (lines : List LogLine) (i : ℕ) (l : LogLine) → i < length lines → l ≡ slice_index_or lines i l → (entry_text l.item ++ lf ∷ []) ++ lines_text (drop (i + 1) lines) ≡ lines_text (drop i lines)
-next_line lines i l h is =
-    let next : i + 1 ≡ suc i = omega arith in
-    append_assoc (entry_text l.item) (lf ∷ []) (lines_text (drop (i + 1) lines))
-    ∙ ap lines_text (ap (λ k. k ∷ drop (i + 1) lines) is ∙ (ap (λ n. slice_index_or lines i l ∷ drop n lines) next ∙ sym (drop-cons lines i l h)))
-
 pub put_entry-requires : goal.put_entry-requires
 put_entry-requires g c =
     rw (c.item.ensures, c.line-item.is) (valid_line c.lines-lines.result.now c.loop-line.line-index c.line-item.result c.lines-lines.ensures.log.valid c.loop-line-test.true)
 
--- nothing is left behind the last one
-none_left : (piece : List ℕ) (xs : List LogLine) (i : ℕ) → length xs ≤ i → piece ++ [] ≡ piece ++ lines_text (drop i xs)
-none_left piece xs i h = ap (λ ys. piece ++ lines_text ys) (sym (drop_all i xs h))
-
 pub loop-line-preserved : goal.loop-line-preserved
 loop-line-preserved g c =
     let lines = c.lines-lines.result.now in
-    let next = next_line lines c.loop-line.line-index c.line-item.result c.loop-line-test.true c.line-item.is in
+    let next = line_next (λ (l : LogLine). entry_text l.item) lines_text (λ l ls. refl) lines c.loop-line.line-index c.line-item.result c.loop-line-test.true c.line-item.is in
     record {
       untouched = search rules;
       told = HasTakenBut-line _ _ _ c.loop-line.piece.items _ (entry_text c.line-item.result.item ++ lf ∷ []) _ _ _ c.loop-line.invariant.told (rw (sym c.item.ensures) c.in_ok-put_entry.ensures.told) next;
@@ -39,11 +29,11 @@ returns-in_err-put_entry-clause-prefix g c =
 
 pub returns-in_err-write_last-clause-prefix : goal.returns-in_err-write_last-clause-prefix
 returns-in_err-write_last-clause-prefix g c =
-    HasTakenBut-part _ _ _ _ [] _ _ c.loop-line.invariant.told (none_left _ c.lines-lines.result.now c.loop-line.line-index (omega arith)) c.in_err-write_last.ensures.prefix
+    HasTakenBut-part _ _ _ _ [] _ _ c.loop-line.invariant.told (none_left lines_text _ c.lines-lines.result.now c.loop-line.line-index refl (omega arith)) c.in_err-write_last.ensures.prefix
 
 pub returns-clause-prefix : goal.returns-clause-prefix
 returns-clause-prefix g c =
-    HasTakenBut-part _ _ _ _ [] _ _ c.loop-line.invariant.told (none_left _ c.lines-lines.result.now c.loop-line.line-index (omega arith)) c.in_ok-write_last.ensures.prefix
+    HasTakenBut-part _ _ _ _ [] _ _ c.loop-line.invariant.told (none_left lines_text _ c.lines-lines.result.now c.loop-line.line-index refl (omega arith)) c.in_ok-write_last.ensures.prefix
 
 pub returns-in_err-put_entry-clause-part : goal.returns-in_err-put_entry-clause-part
 returns-in_err-put_entry-clause-part g c =
@@ -51,16 +41,16 @@ returns-in_err-put_entry-clause-part g c =
 
 pub returns-in_err-write_last-clause-part : goal.returns-in_err-write_last-clause-part
 returns-in_err-write_last-clause-part g c =
-    HasTakenBut-part (Some _) (Some _) (Some _) _ [] _ _ c.loop-line.invariant.written (none_left _ c.lines-lines.result.now c.loop-line.line-index (omega arith)) c.in_err-write_last.ensures.part
+    HasTakenBut-part (Some _) (Some _) (Some _) _ [] _ _ c.loop-line.invariant.written (none_left lines_text _ c.lines-lines.result.now c.loop-line.line-index refl (omega arith)) c.in_err-write_last.ensures.part
 
 pub returns-clause-part : goal.returns-clause-part
 returns-clause-part g c =
-    HasTakenBut-part (Some _) (Some _) (Some _) _ [] _ _ c.loop-line.invariant.written (none_left _ c.lines-lines.result.now c.loop-line.line-index (omega arith)) c.in_ok-write_last.ensures.part
+    HasTakenBut-part (Some _) (Some _) (Some _) _ [] _ _ c.loop-line.invariant.written (none_left lines_text _ c.lines-lines.result.now c.loop-line.line-index refl (omega arith)) c.in_ok-write_last.ensures.part
 
 pub returns-clause-all : goal.returns-clause-all
 returns-clause-all g c =
-    HasTakenBut-all _ _ _ _ _ _ c.loop-line.invariant.told (none_left _ c.lines-lines.result.now c.loop-line.line-index (omega arith)) c.in_ok-write_last.ensures.all
+    HasTakenBut-all _ _ _ _ _ _ c.loop-line.invariant.told (none_left lines_text _ c.lines-lines.result.now c.loop-line.line-index refl (omega arith)) c.in_ok-write_last.ensures.all
 
 pub returns-clause-written : goal.returns-clause-written
 returns-clause-written g c =
-    HasTakenBut-all (Some _) (Some _) (Some _) _ _ _ c.loop-line.invariant.written (none_left _ c.lines-lines.result.now c.loop-line.line-index (omega arith)) c.in_ok-write_last.ensures.written
+    HasTakenBut-all (Some _) (Some _) (Some _) _ _ _ c.loop-line.invariant.written (none_left lines_text _ c.lines-lines.result.now c.loop-line.line-index refl (omega arith)) c.in_ok-write_last.ensures.written
