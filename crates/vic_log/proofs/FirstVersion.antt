@@ -1,7 +1,6 @@
 -- On entries of version 1 both versions say the same.
-use Rattle.std.proofs.Common.{◌≡◌, ℕ, zero, suc, List, false, not, ◌&&◌, ◌||◌, Option, Some, None, refl, sym, ap, subst, ◌∙◌, ◌↔◌, slice_get, if◌then◌else◌, arith}
-use Rattle.vic_log.proofs.Words.{nat_tests, filter, Entry, Sent, Listed, FieldCycle, IsInOrder, is_slot, ends_round, opener, mask_since, silences, wakes, is_quiet, Outcome, Fits, answers_at, outcome_of, CouldHaveGiven, IsOfFirstVersion, AreOfFirstVersion}
-use Rattle.vic_log.specs.Rounds.{lies_in_some}
+use Rattle.std.proofs.Common.{◌≡◌, ℕ, zero, suc, List, false, Option, Some, None, refl, sym, ap, subst, ◌∙◌, ◌↔◌, arith}
+use Rattle.vic_log.proofs.Words.{nat_tests, filter, Entry, Sent, Listed, FieldCycle, IsInOrder, is_slot, ends_round, opener, wakes, is_quiet, Outcome, Fits, answers_at, outcome_of, CouldHaveGiven, IsOfFirstVersion, AreOfFirstVersion}
 use Rattle.vic_log.specs.FirstVersion.{ends_first_round, first_opener, is_first_quiet, FitsFirst, answers_first_at, CouldHaveGivenFirst, is_first_slot, IsInFirstOrder}
 use Rattle.std.proofs.lemmas.List.Elements.{filter_agree}
 
@@ -19,23 +18,17 @@ wakes_none (Some e) h = refl
 
 pub opener-first : (es : List Entry) → AreOfFirstVersion es → (i : ℕ) → opener es i ≡ first_opener es i
 opener-first es h zero = refl
-opener-first es h (suc j) =
-    let k : opener es j ≡ first_opener es j = opener-first es h j in
-    ap (λ b. if b then Some j else opener es j) (ends_same (slice_get es j) (h j)) ∙ ap (λ o. if ends_first_round (slice_get es j) then Some j else o) k
+opener-first es h (suc j) = grind (arith, nat_tests, ends_same, opener-first es h j)
 
 pub quiet-first : (es : List Entry) → AreOfFirstVersion es → (i u : ℕ) → is_quiet es i u ≡ is_first_quiet es i u
 quiet-first es h zero u = refl
-quiet-first es h (suc j) u =
-    let k : is_quiet es j u ≡ is_first_quiet es j u = quiet-first es h j u in
-    ap (λ b. silences (slice_get es j) u || (not b && is_quiet es j u)) (wakes_none (slice_get es j) (h j)) ∙ ap (λ b. silences (slice_get es j) u || b) k
+quiet-first es h (suc j) u = grind (arith, nat_tests, wakes_none, quiet-first es h j u)
 
 pub fits-first : (e : Entry) → IsOfFirstVersion e → (o : Outcome) → Fits e o ↔ FitsFirst e o
 fits-first e h o = grind (arith, nat_tests)
 
 answers-first : (es : List Entry) → AreOfFirstVersion es → (i u : ℕ) → answers_at es i u ≡ answers_first_at es i u
-answers-first es h i u =
-    ap (λ o. lies_in_some (mask_since es i o) u && not (is_quiet es i u)) (opener-first es h i)
-    ∙ ap (λ b. lies_in_some (mask_since es i (first_opener es i)) u && not b) (quiet-first es h i u)
+answers-first es h i u = grind (arith, nat_tests, opener-first, quiet-first)
 
 outcome-first : (es : List Entry) → AreOfFirstVersion es → (i : ℕ) (p : List ℕ) → outcome_of (filter (answers_at es i) p) ≡ outcome_of (filter (answers_first_at es i) p)
 outcome-first es h i p = ap outcome_of (filter_agree (answers_at es i) (answers_first_at es i) (answers-first es h i) p)

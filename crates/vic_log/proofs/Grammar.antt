@@ -1,11 +1,10 @@
 -- A line reads as an entry if and only if it spells it.
 use Rattle.std.proofs.Common.{◌≡◌, ◌⊎◌, inl, inr, ℕ, ◌+◌, ◌*◌, ◌/◌, ◌%◌, ◌<◌, ◌≤◌, true, false, Option, Some, None, Result, Ok, Err, List, [], ◌∷◌, length, refl, sym, ap, subst, ◌∙◌, arith, nat_lt, ◌==◌, ◌||◌, IfOk}
-use Rattle.vic_log.proofs.Words.{nat_tests, cond_both, cond-false, eqb-true, ne_eqb, ltb-false, hex_digit_value, IsUid, is_uid, Entry, Sent, Silent, Collision, Heard, Listed, Garbled, FieldCycle, Version, V2, LineFault, line_reading}
-use Rattle.std.specs.Int.{to_be_bytes, from_be_bytes, w64}
+use Rattle.vic_log.proofs.Words.{nat_tests, cond_both, cond-false, eqb-true, ne_eqb, ltb-false, hex_digit_value, IsUid, Entry, Sent, Silent, Collision, Heard, Listed, Garbled, FieldCycle, Version, V2, LineFault, line_reading}
+use Rattle.std.specs.Int.{to_be_bytes, w64}
 use Rattle.std.proofs.lemmas.Nat.{be_bytes_8, from_be_bytes-to_be_bytes_8}
 use Rattle.hex.specs.Hex.{decode_of, decode_pairs, digit_or_error, ◌>>=◌}
 use Rattle.hex.specs.declared.error.FromHexError.{FromHexError}
-use Rattle.hex.specs.declared.error.FromHexError.TheVariants.{OddLength}
 use Rattle.hex.proofs.HexLemmas.{decode_of-even, decode_pairs-ok}
 use Rattle.hex.proofs.Pairs.{cons_byte, decode_pairs-ok_pair}
 use Rattle.vic_frame.specs.Bytes.{AreBytes}
@@ -17,9 +16,8 @@ use Rattle.vic_frame.specs.declared.fault.FrameFault.{FrameFault}
 use Rattle.vic_frame.proofs.RequestLaws.{request_found, request_only}
 use Rattle.vic_frame.proofs.ReplyLaws.{reply_found, reply_only}
 use Rattle.std.specs.Prelude.{⊤}
-use Rattle.vic_log.specs.declared.fault.LineFault.TheVariants.{ListedLength, NotVicinity}
 use Rattle.vic_log.specs.Grammar.{IsDigitOf, AreDigitsOf, HasBytes, SpellsEntry, IsPassedOver}
-use Rattle.vic_log.specs.LineReading.{added_letter, one_letter, with_digits, with_bytes, sent, heard, listed_uid, claimed}
+use Rattle.vic_log.specs.LineReading.{added_letter, one_letter, with_digits, with_bytes, sent, heard, listed_uid}
 use Rattle.vic_log.proofs.Supply.{IsUid-from, is_uid_from}
 use Rattle.vic_log.proofs.HexPairs.{both}
 use Rattle.vic_log.proofs.FrameBytes.{length-request, length-reply}
@@ -76,9 +74,7 @@ are_bytes : (digits bytes : List ℕ) → AreDigitsOf digits bytes → AreBytes 
 are_bytes digits bytes h = (decode_pairs-ok 0 digits bytes (decodes 0 digits bytes h)).2
 
 pub digits-of : (digits bytes : List ℕ) → decode_of digits ≡ Ok bytes → AreDigitsOf digits bytes
-digits-of digits bytes = cond_both (length digits % 2 == 1) (Err OddLength) (decode_pairs 0 digits) (λ r. r ≡ Ok bytes → AreDigitsOf digits bytes)
-    (λ _ e. cc)
-    (λ _ e. decoded 0 digits bytes e)
+digits-of digits bytes = grind (arith, nat_tests, cond_both, decoded)
 
 of_digits : (digits bytes : List ℕ) → AreDigitsOf digits bytes → decode_of digits ≡ Ok bytes
 of_digits digits bytes h = let e = twice digits bytes h in decode_of-even digits (omega arith) ∙ decodes 0 digits bytes h
@@ -97,13 +93,7 @@ heard-says : (v : Version) (line frame : List ℕ) → HasBytes line 82 frame �
 heard-says v line frame h r k = grind (arith, nat_tests)
 
 listed-says : (v : Version) (line bytes : List ℕ) → HasBytes line 85 bytes → Says v line (listed_uid bytes)
-listed-says v line bytes has =
-    let n = from_be_bytes w64 bytes in
-    cond_both (length bytes == 8) (claimed n) (Err ListedLength) (Says v line)
-    (λ eight. cond_both (is_uid n) (Ok (Some (Listed n))) (Err NotVicinity) (Says v line)
-    (λ uid. (IsUid-from n uid, subst (HasBytes line 85) (sym (be_bytes_8 bytes n (eqb-true (length bytes) 8 eight) (are_bytes has.0 bytes has.2) refl)) has))
-    (λ _. tt))
-    (λ _. tt)
+listed-says v line bytes has = grind (arith, nat_tests, cond_both, IsUid-from, be_bytes_8, eqb-true, are_bytes)
 
 bytes-say : (v : Version) (line : List ℕ) (f : List ℕ → Result (Option Entry) LineFault) (r : Result (List ℕ) FromHexError) → ((bytes : List ℕ) → r ≡ Ok bytes → Says v line (f bytes)) → Says v line (with_bytes f r)
 bytes-say v line f r h = grind (arith, nat_tests)
@@ -171,9 +161,7 @@ listed_reads u h = let below = h.1 in rw (from_be_bytes-to_be_bytes_8 u (omega a
 -- a letter, a space and digits
 spaced : (v : Version) (letter : ℕ) (line bytes : List ℕ) (f : List ℕ → Result (Option Entry) LineFault) → letter == 35 ≡ false → ((digits : List ℕ) → with_digits letter digits ≡ with_bytes f (decode_of digits)) → length bytes ≤ 63
     → HasBytes line letter bytes → line_reading v line ≡ f bytes
-spaced v letter line bytes f other is few (digits, line_is, h) =
-    let long = twice digits bytes h in
-    rw (line_is, lettered v letter digits other (omega arith), is digits, of_digits digits bytes h)
+spaced v letter line bytes f h k g p = grind (arith, nat_tests, twice, lettered, of_digits)
 
 pub spelled-reads : (v : Version) (line : List ℕ) (e : Entry) → SpellsEntry v line e → line_reading v line ≡ Ok (Some e)
 spelled-reads v line (Sent q) (frame, spells, has) =

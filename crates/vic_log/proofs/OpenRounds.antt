@@ -1,5 +1,5 @@
 -- The open round, from one position to the next.
-use Rattle.std.proofs.Common.{◌≡◌, ℕ, suc, ◌<◌, ◌+◌, ◌-◌, List, Option, Some, None, sym, ap, ◌∙◌, arith, add-one, slice_get, if◌then◌else◌}
+use Rattle.std.proofs.Common.{◌≡◌, ℕ, suc, ◌<◌, ◌+◌, ◌-◌, List, Option, Some, None, ap, ◌∙◌, arith, add-one, slice_get, if◌then◌else◌}
 use Rattle.vic_log.proofs.Words.{nat_tests, Entry, Sent, Listed, FieldCycle, opener, ends_round, IsInOrder}
 use Rattle.vic_log.specs.declared.rounds.OpenRound.{OpenRound}
 use Rattle.vic_log.specs.declared.rounds.RoundCursor.{RoundCursor}
@@ -29,17 +29,13 @@ round_opens : (es : List Entry) (i : ℕ) (e : Entry) → slice_get es i ≡ Som
 round_opens es i e k = let z : suc i - suc i ≡ 0 = omega arith in ap (λ o. round_of o (suc i - suc i)) k ∙ ap (round_of (Some e)) z
 
 round_with : (es : List Entry) (i : ℕ) (e : Entry) → slice_get es i ≡ Some e → round_since es (suc i) (opener_with es i (Some e)) ≡ after_round (round_at es i) e
-round_with es i (Sent q) k = round_opens es i (Sent q) k
-round_with es i (Listed u) k = round_opens es i (Listed u) k
-round_with es i FieldCycle k = round_opens es i FieldCycle k
-round_with es i e k = next_since es i (opener es i) (opener_below es i)
+round_with es i e h = grind (arith, nat_tests, round_opens, next_since, opener_below)
 
 pub round_step : (es : List Entry) (i : ℕ) (e : Entry) → slice_get es i ≡ Some e → round_at es (suc i) ≡ after_round (round_at es i) e
 round_step es i e k = ap (λ o. round_since es (suc i) (opener_with es i o)) k ∙ round_with es i e k
 
 pub round_passed : (es : List Entry) (i : ℕ) (e : Entry) (round next : Option OpenRound) → next ≡ after_round round e → slice_get es i ≡ Some e → round ≡ round_at es i → next ≡ round_at es (i + 1)
-round_passed es i e round next h k r =
-    h ∙ (ap (λ o. after_round o e) r ∙ (sym (round_step es i e k) ∙ ap (round_at es) (sym (add-one i))))
+round_passed es i e round next h k r = grind (arith, nat_tests, round_step, add-one)
 
 pub cursor_passed : (es : List Entry) (i : ℕ) (e : Entry) (old new : RoundCursor) → IsInOrder es → slice_get es i ≡ Some e → new.round ≡ round_at es (i + 1) → IsCursorAt es (i + 1) new
 cursor_passed es i e old new o k r = grind (arith, nat_tests)

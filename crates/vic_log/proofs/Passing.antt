@@ -1,6 +1,6 @@
 -- Lines that were read, and the next one.
-use Rattle.std.proofs.Common.{◌≡◌, ℕ, zero, suc, ◌<◌, ◌≤◌, Option, Some, None, Result, Ok, Err, List, [], ◌∷◌, ◌++◌, length, refl, sym, ap, ◌∙◌, arith, ⊎_elim, append-nil, ◌≢◌, slice_get, ◌==◌}
-use Rattle.vic_log.proofs.Words.{nat_tests, cases_eq, cases_lt, cond_both, cond-false, ne_eqb, length_push, Entry, LogLine, Version, LineFault, Header, Memory, AreRead, entries, LogValue, last_from, line_reading, named_version, version_of, line_fault, entry_line, logged, log_upto, fault_on, IsFirstFault, IsLogOf, next_fault, after_line, RefusesNext}
+use Rattle.std.proofs.Common.{◌≡◌, ℕ, zero, suc, ◌<◌, ◌≤◌, Option, Some, None, Result, List, [], ◌∷◌, ◌++◌, length, refl, sym, ap, ◌∙◌, arith, ⊎_elim, append-nil, ◌≢◌, slice_get}
+use Rattle.vic_log.proofs.Words.{nat_tests, cases_eq, cases_lt, cond_both, cond-false, ne_eqb, length_push, Entry, LogLine, Version, LineFault, Header, Memory, AreRead, LogValue, last_from, named_version, version_of, line_fault, entry_line, logged, log_upto, fault_on, IsFirstFault, IsLogOf, next_fault, after_line, RefusesNext}
 use Rattle.std.proofs.lemmas.Option.{slice_get_past}
 use Rattle.vic_log.specs.Text.{GiveEntries}
 use Rattle.vic_log.proofs.Places.{slice_get-append, slice_get_seam}
@@ -16,19 +16,11 @@ version_agrees n ls ms a some = ap named_version (a 0 some)
 
 pub log_agrees : (n : ℕ) (ls ms : List (List ℕ)) → AgreeBelow n ls ms → log_upto ls n ≡ log_upto ms n
 log_agrees zero ls ms a = refl
-log_agrees (suc n) ls ms a =
-    let first : slice_get ls 0 ≡ slice_get ms 0 = a 0 (omega arith) in
-    let here : slice_get ls n ≡ slice_get ms n = a n (omega arith) in
-    let before : log_upto ls n ≡ log_upto ms n = log_agrees n ls ms (λ i below. a i (omega arith)) in
-    cc
+log_agrees (suc n) ls ms a = grind (arith, nat_tests, log_agrees n ls ms)
 
 pub fault_agrees : (n : ℕ) (ls ms : List (List ℕ)) → AgreeBelow n ls ms → fault_on ls n ≡ fault_on ms n
 fault_agrees zero ls ms a = refl
-fault_agrees (suc n) ls ms a =
-    let first : slice_get ls 0 ≡ slice_get ms 0 = a 0 (omega arith) in
-    let here : slice_get ls n ≡ slice_get ms n = a n (omega arith) in
-    let before : entries (log_upto ls n) ≡ entries (log_upto ms n) = ap entries (log_agrees n ls ms (λ i below. a i (omega arith))) in
-    cc
+fault_agrees (suc n) ls ms a = grind (arith, nat_tests, log_agrees)
 
 pub first_agrees : (n : ℕ) (ls ms : List (List ℕ)) (f : LineFault) → AgreeBelow n ls ms → IsFirstFault ls n f → IsFirstFault ms n f
 first_agrees n ls ms f a r = record {
@@ -66,15 +58,10 @@ module _ {ls : List (List ℕ)} {log : LogValue} {n : ℕ} (r : AreRead ls log n
   log_before = r.log_is ∙ log_agrees n ls (ls ++ line ∷ others) agree
 
   fault_next : next_fault log (suc n) line ≡ fault_on (ls ++ line ∷ others) (suc n)
-  fault_next =
-      fault-any n log.version _ (entries log.lines) _ line version_before (λ _. ap entries log_before)
-      ∙ ap (line_fault (version_of (ls ++ line ∷ others)) (entries (log_upto (ls ++ line ∷ others) n)) (suc n)) (sym at)
+  fault_next = grind (arith, nat_tests, fault-any, version_before, log_before, at)
 
   log_next : (after_line log (suc n) line).lines ≡ log_upto (ls ++ line ∷ others) (suc n)
-  log_next =
-      ap (λ ks. ks ++ logged log.version (suc n) (Some line)) log_before
-      ∙ (ap (λ ks. log_upto (ls ++ line ∷ others) n ++ ks) (logged-any n log.version _ line version_before)
-      ∙ ap (λ o. log_upto (ls ++ line ∷ others) n ++ logged (version_of (ls ++ line ∷ others)) (suc n) o) (sym at))
+  log_next = grind (arith, nat_tests, log_before, logged-any, version_before, at)
 
   clean_before : (m : ℕ) → m ≤ n → fault_on (ls ++ line ∷ others) m ≡ None
   clean_before m le = sym (fault_agrees m ls (ls ++ line ∷ others) (λ i below. agree i (omega arith))) ∙ r.clean m le
@@ -88,10 +75,7 @@ module _ {ls : List (List ℕ)} {log : LogValue} {n : ℕ} (r : AreRead ls log n
 
   -- a line without a fault that adds to the log
   pub AreRead-entries : RefusesNext log (suc n) line Memory → GiveEntries (ls ++ line ∷ others) (suc n)
-  AreRead-entries h = record {
-    no_fault = clean_next h.0;
-    some = λ none. more_than_none log.lines (logged log.version (suc n) (Some line)) h.1 (log_next ∙ none);
-  }
+  AreRead-entries h = grind (arith, nat_tests, clean_next, more_than_none, log_next)
 
 -- the header names the version
 version_next : {ls : List (List ℕ)} {log : LogValue} (n : ℕ) → AreRead ls log n → (line : List ℕ) → (after_line log (suc n) line).version ≡ version_of (ls ++ line ∷ [])
@@ -100,12 +84,7 @@ version_next (suc k) r line = cond-false _ _ _ (ne_eqb (suc (suc k)) 1 (λ e. ab
 
 -- one line more without a fault
 pub AreRead-push : {ls : List (List ℕ)} {log : LogValue} {n : ℕ} → AreRead ls log n → (line : List ℕ) → next_fault log (suc n) line ≡ None → AreRead (ls ++ line ∷ []) (after_line log (suc n) line) (suc n)
-AreRead-push {ls = ls} {n = n} r line h = record {
-  count = let count = r.count in omega (arith, length_push ls line);
-  clean = clean_next r line [] h;
-  log_is = log_next r line [];
-  version = λ some. version_next n r line;
-}
+AreRead-push {ls = ls} {n = n} r line h = grind (arith, nat_tests, length_push, clean_next, log_next, version_next)
 
 -- no line at all
 pub no_header : IsFirstFault [] 1 Header
@@ -114,17 +93,11 @@ no_header = record { here = refl; first = λ m lt. let zero_is : m ≡ 0 = omega
 -- ---- all lines
 
 pub past_end : (lines : List (List ℕ)) (k : ℕ) → 0 < k → length lines ≤ k → fault_on lines (suc k) ≡ None
-past_end lines (suc k) some le = ap (line_fault (version_of lines) (entries (log_upto lines (suc k))) (suc (suc k))) (slice_get_past lines (suc k) le)
-    ∙ cond-false _ _ _ (ne_eqb (suc (suc k)) 1 (λ e. absurd (omega arith)))
-past_end lines zero some le = absurd (omega arith)
+past_end lines k h g = grind (arith, nat_tests, slice_get_past, cond-false, ne_eqb)
 
 -- a fault beyond the last line there is none
 pub clean_all : (lines : List (List ℕ)) (n : ℕ) → 0 < n → length lines ≤ n → ((m : ℕ) → m ≤ n → fault_on lines m ≡ None) → (m : ℕ) → fault_on lines m ≡ None
-clean_all lines n some le clean zero = refl
-clean_all lines n some le clean (suc k) = ⊎_elim
-    (λ below. clean (suc k) (omega arith))
-    (λ above. past_end lines k (omega arith) (omega arith))
-    (cases_lt k n)
+clean_all lines n h k g m = grind (arith, nat_tests, past_end, cases_lt)
 
 pub AreRead-end : {ls : List (List ℕ)} {log : LogValue} {n : ℕ} → AreRead ls log n → 0 < n → IsLogOf ls log
 AreRead-end {ls = ls} {n = n} r some = record {
@@ -135,23 +108,17 @@ AreRead-end {ls = ls} {n = n} r some = record {
 
 -- the last number of the log lines so far
 last_logged : (ls : List LogLine) (n k : ℕ) → last_from 1 ls ≤ k → k ≤ n → (r : Result (Option Entry) LineFault) → last_from 1 (ls ++ entry_line n r) ≤ n
-last_logged ls n k h le (Ok (Some e)) = let p = last_from-push 1 ls (record { number = n; item = e }) in omega arith
-last_logged ls n k h le (Ok None) = let p = ap (last_from 1) (append-nil ls) in omega arith
-last_logged ls n k h le (Err f) = let p = ap (last_from 1) (append-nil ls) in omega arith
+last_logged ls n k h g r = grind (arith, nat_tests, last_from-push, append-nil)
 
 logged_last : (version : Version) (ls : List LogLine) (n k : ℕ) (o : Option (List ℕ)) → last_from 1 ls ≤ k → k ≤ n → last_from 1 (ls ++ logged version n o) ≤ n
-logged_last version ls n k None h le = let p = ap (last_from 1) (append-nil ls) in omega arith
-logged_last version ls n k (Some line) h le = cond_both (n == 1) [] (entry_line n (line_reading version line)) (λ ks. last_from 1 (ls ++ ks) ≤ n)
-    (λ _. let p = ap (last_from 1) (append-nil ls) in omega arith)
-    (λ _. last_logged ls n k h le (line_reading version line))
+logged_last version ls n k o h g = grind (arith, nat_tests, append-nil, cond_both, last_logged)
 
 pub log_upto-last : (lines : List (List ℕ)) (k : ℕ) → last_from 1 (log_upto lines (suc k)) ≤ suc k
 log_upto-last lines zero = logged_last (version_of lines) [] 1 1 (slice_get lines 0) (omega arith) (omega arith)
 log_upto-last lines (suc k) = logged_last (version_of lines) (log_upto lines (suc k)) (suc (suc k)) (suc k) (slice_get lines (suc k)) (log_upto-last lines k) (omega arith)
 
 pub AreRead-above : {ls : List (List ℕ)} {log : LogValue} (n : ℕ) → AreRead ls log n → 0 < n → last_from 1 log.lines ≤ n
-AreRead-above zero r some = absurd (omega arith)
-AreRead-above {ls = ls} (suc k) r some = let e = ap (last_from 1) r.log_is in let l = log_upto-last ls k in omega arith
+AreRead-above n h k = grind (arith, nat_tests, log_upto-last)
 
 -- before the first line nothing is logged
 pub AreRead-none : {ls : List (List ℕ)} {log : LogValue} {n : ℕ} → AreRead ls log n → n ≡ 0 → log.lines ≡ []

@@ -22,11 +22,7 @@ lacks_all bytes none = ap (λ xs. has xs lf) (sym (take-length bytes)) ∙ lacks
 
 pub split_at : (bytes : List ℕ) (k n m : ℕ) → k < length bytes → n ≡ suc k → m ≡ length bytes - n → slice_index bytes k ≡ lf → ((i : ℕ) → 0 ≤ i → i < k → slice_index bytes i == lf ≡ true → ⊥)
     → IsSplit bytes (take k bytes) (take m (drop n bytes))
-split_at bytes k n m h e f there none = record {
-  whole =
-      parted bytes k h there ∙ (ap (λ i. take k bytes ++ lf ∷ drop i bytes) (sym e) ∙ ap (λ xs. take k bytes ++ lf ∷ xs) (sym (take_all m (drop n bytes) (omega (arith, length-drop n bytes)))));
-  no_lf = lacks bytes k (omega arith) none;
-}
+split_at bytes k n m h e f there none = grind (arith, nat_tests, parted, take_all, length-drop, lacks)
 
 -- no capacity for that many
 pub over : {A E : Type 0} (r : Result A E) (n : ℕ) → (IsOk r ↔ (n ≤ 130)) → is_ok r ≡ false → 130 < n

@@ -1,6 +1,6 @@
 -- From the entries of a log to its slots; what entries that follow leave as it is.
 use Rattle.std.proofs.Common.{◌≡◌, ℕ, zero, suc, ◌<◌, ◌≤◌, List, [], ◌∷◌, ◌++◌, length, Bool, Option, Some, None, refl, sym, ap, ◌∙◌, subst, arith, ◌↔◌, inl, inr, slice_get}
-use Rattle.vic_log.proofs.Words.{nat_tests, filter, cases_lt, cond_both, length_push, slice_get_within, Entry, ends_round, opener, mask_since, is_quiet, answers_at, outcome_of, Fits, CouldHaveGiven, Slot}
+use Rattle.vic_log.proofs.Words.{nat_tests, filter, cases_lt, cond_both, length_push, slice_get_within, Entry, opener, is_quiet, answers_at, outcome_of, Fits, CouldHaveGiven, Slot}
 use Rattle.std.proofs.lemmas.List.Elements.{filter_agree}
 use Rattle.vic_log.specs.Rounds.{mask_at}
 use Rattle.vic_log.specs.Populations.{outcome_at}
@@ -28,12 +28,7 @@ slot_step p answers (Some e) slots = (
 
 pub MeetsAll-slots : (p : List ℕ) (es : List Entry) (n : ℕ) → MeetsAll p (slots_before es n) ↔ FitBefore p es n
 MeetsAll-slots p es zero = ((λ h i e k. absurd (omega arith)), (λ h. tt))
-MeetsAll-slots p es (suc n) =
-    let step = slot_step p (answers_at es n) (slice_get es n) (slots_before es n) in
-    let rest = MeetsAll-slots p es n in (
-      (λ h. let w = step.0 h in fit_more p es n (rest.0 w.1) w.0),
-      (λ h. step.1 ((λ e k. h n e (omega arith) k), rest.1 (λ i e k g. h i e (omega arith) g))),
-    )
+MeetsAll-slots p es (suc n) = grind (arith, nat_tests, slot_step, fit_more, MeetsAll-slots p es n)
 
 pub CouldHaveGiven-slots : (p : List ℕ) (es : List Entry) → CouldHaveGiven p es ↔ MeetsAll p (slots_of es)
 CouldHaveGiven-slots p es =
@@ -53,36 +48,21 @@ agree_less n es fs a i h = a i (omega arith)
 
 pub opener_agrees : (n : ℕ) (es fs : List Entry) → AgreeBefore n es fs → opener es n ≡ opener fs n
 opener_agrees zero es fs a = refl
-opener_agrees (suc n) es fs a =
-    let h : slice_get es n ≡ slice_get fs n = a n (omega arith) in
-    let k : opener es n ≡ opener fs n = opener_agrees n es fs (agree_less n es fs a) in
-    rw (h, k)
+opener_agrees (suc n) es fs a = grind (arith, nat_tests, agree_less, opener_agrees n es fs)
 
 pub quiet_agrees : (n : ℕ) (es fs : List Entry) (u : ℕ) → AgreeBefore n es fs → is_quiet es n u ≡ is_quiet fs n u
 quiet_agrees zero es fs u a = refl
-quiet_agrees (suc n) es fs u a =
-    let h : slice_get es n ≡ slice_get fs n = a n (omega arith) in
-    let k : is_quiet es n u ≡ is_quiet fs n u = quiet_agrees n es fs u (agree_less n es fs a) in
-    rw (h, k)
+quiet_agrees (suc n) es fs u a = grind (arith, nat_tests, agree_less, quiet_agrees n es fs u)
 
 pub opener_below : (es : List Entry) (n j : ℕ) → opener es n ≡ Some j → j < n
 opener_below es zero j e = cc
-opener_below es (suc n) j e = cond_both (ends_round (slice_get es n)) (Some n) (opener es n) (λ o. o ≡ Some j → j < suc n)
-    (λ _ k. let same : n ≡ j = cc in omega arith)
-    (λ _ k. let h = opener_below es n j k in omega arith)
-    e
+opener_below es (suc n) j e = grind (arith, nat_tests, cond_both, opener_below es n j)
 
 mask_agrees : (n : ℕ) (es fs : List Entry) → AgreeBefore n es fs → mask_at es n ≡ mask_at fs n
-mask_agrees n es fs a = rw (opener_agrees n es fs a) ((elim (opener fs n) as (λ o. opener fs n ≡ o → mask_since es n o ≡ mask_since fs n o) [
-  | None ↦ λ e. refl
-  | Some j ↦ λ e. rw (a j (opener_below fs n j e)) refl
-]) refl)
+mask_agrees n es fs a = grind (arith, nat_tests, opener_agrees, opener_below)
 
 pub answers_agree : (n : ℕ) (es fs : List Entry) → AgreeBefore n es fs → (u : ℕ) → answers_at es n u ≡ answers_at fs n u
-answers_agree n es fs a u =
-    let h : mask_at es n ≡ mask_at fs n = mask_agrees n es fs a in
-    let k : is_quiet es n u ≡ is_quiet fs n u = quiet_agrees n es fs u a in
-    rw (h, k)
+answers_agree n es fs a u = grind (arith, nat_tests, mask_agrees, quiet_agrees)
 
 pub outcome_agrees : (n : ℕ) (es fs : List Entry) (p : List ℕ) → AgreeBefore n es fs → outcome_at es n p ≡ outcome_at fs n p
 outcome_agrees n es fs p a = ap outcome_of (filter_agree (answers_at es n) (answers_at fs n) (answers_agree n es fs a) p)

@@ -1,6 +1,6 @@
 -- One entry more: what entries in order keep, and what a log keeps.
 use Rattle.std.proofs.Common.{◌≡◌, ℕ, zero, suc, ◌+◌, ◌-◌, ◌<◌, ◌≤◌, Bool, true, false, Some, None, List, [], ◌∷◌, ◌++◌, length, take, length-append, refl, sym, ap, subst, ◌∙◌, arith, slice_get, nat_eq, nat_lt, if◌then◌else◌, not, ◌||◌}
-use Rattle.vic_log.proofs.Words.{nat_tests, eq-eqb, or_right, map-append, length-map, Entry, Sent, Listed, FieldCycle, LogLine, has, Version, V1, IsOfFirstVersion, AreOfFirstVersion, opener, left_since, slots_left, is_slot, IsInOrder, entries, listed, AreValid, is_empty, refusal, last_from, IsValidEntry, IsTyped, AreTyped, numbered}
+use Rattle.vic_log.proofs.Words.{nat_tests, eq-eqb, or_right, map-append, length-map, Entry, Sent, Listed, FieldCycle, LogLine, has, Version, V1, IsOfFirstVersion, AreOfFirstVersion, slots_left, is_slot, IsInOrder, entries, listed, AreValid, is_empty, refusal, last_from, IsValidEntry, IsTyped, AreTyped, numbered}
 use Rattle.std.proofs.lemmas.Bool.{not-false}
 use Rattle.vic_log.specs.Order.{IsRisingFrom, is_outside_round, is_after_list, is_duplicate}
 use Rattle.vic_log.specs.Log.{IsLog}
@@ -12,19 +12,10 @@ use Rattle.vic_log.proofs.Order.{in_round-slots_left}
 
 -- how many slots are left at a position is told by the entries before it
 pub slots_left_agrees : (n : ℕ) (es fs : List Entry) → AgreeBefore n es fs → slots_left es n ≡ slots_left fs n
-slots_left_agrees n es fs a = rw (opener_agrees n es fs a) ((elim (opener fs n) as (λ o. opener fs n ≡ o → left_since es n o ≡ left_since fs n o) [
-  | None ↦ λ e. refl
-  | Some j ↦ λ e. rw (a j (opener_below fs n j e)) refl
-]) refl)
+slots_left_agrees n es fs a = grind (arith, nat_tests, opener_agrees, opener_below)
 
 left_by : (es fs : List Entry) (n : ℕ) → AgreeBefore n es fs → (e : Entry) → slice_get fs n ≡ Some e → slots_left fs (suc n) ≡ left_after (slots_left es n) e
-left_by es fs n a (Sent q) k = rw k (rw k (omega arith))
-left_by es fs n a (Listed u) k = rw k (rw k (omega arith))
-left_by es fs n a FieldCycle k = rw k (rw k (omega arith))
-left_by es fs n a e k = rw (k, opener_agrees n es fs a) ((elim (opener fs n) as (λ o. opener fs n ≡ o → left_since fs (suc n) o ≡ left_since es n o - 1) [
-  | None ↦ λ o. refl
-  | Some j ↦ λ o. let below = opener_below fs n j o in rw (a j below) (omega arith)
-]) refl)
+left_by es fs n h e k = grind (arith, nat_tests, opener_agrees, opener_below)
 
 -- the slots left behind the last entry
 pub slots_left-push : (es : List Entry) (e : Entry) → slots_left (es ++ e ∷ []) (suc (length es)) ≡ left_after (slots_left es (length es)) e
@@ -135,14 +126,8 @@ last_from-last n (x ∷ y ∷ ls) l k =
 -- ---- what a log keeps
 
 pub IsLog-push : (v : Version) (ls : List LogLine) (l : LogLine) → IsLog v ls → refusal (entries ls) l.item ≡ None → last_from 1 ls < l.number → l.number ≤ 1000000 → IsValidEntry l.item → IsTyped l.item → (v ≡ V1 → IsOfFirstVersion l.item) → IsLog v (ls ++ l ∷ [])
-IsLog-push v ls l g h above limit valid typed first = record {
-  order = subst IsInOrder (sym (entries-push ls l)) (IsInOrder-push (entries ls) l.item g.order h);
-  rising = rising-push 1 ls l g.rising above;
-  limit = let e = last_from-push 1 ls l in omega arith;
-  valid = subst AreValid (sym (entries-push ls l)) (valid-push (entries ls) l.item g.valid valid);
-  typed = subst AreTyped (sym (entries-push ls l)) (typed-push (entries ls) l.item g.typed typed);
-  first_version = λ is. subst AreOfFirstVersion (sym (entries-push ls l)) (first_version-push (entries ls) l.item (g.first_version is) (first is));
-}
+IsLog-push v ls l g h above limit valid typed first =
+    grind (arith, nat_tests, entries-push, IsInOrder-push, rising-push, last_from-push, valid-push, typed-push, first_version-push)
 
 pub Keeps-push : (v : Version) (ls : List LogLine) (l : LogLine) (listing further : Bool) (left rest : ℕ) → Keeps v ls listing left
     → refusal (entries ls) l.item ≡ None → last_from 1 ls < l.number → l.number ≤ 1000000 → IsValidEntry l.item → IsTyped l.item → (v ≡ V1 → IsOfFirstVersion l.item)
@@ -167,11 +152,7 @@ rising_long n [] r = omega arith
 rising_long n (l ∷ ls) r = let above = r.0 in let rest = rising_long l.number ls r.1 in omega arith
 
 pub IsLog-long : (v : Version) (ls : List LogLine) → IsLog v ls → length (entries ls) ≤ 999999
-IsLog-long v ls g =
-    let long = rising_long 1 ls g.rising in
-    let limit = g.limit in
-    let same : length (entries ls) ≡ length ls = length-map ls (λ (x : LogLine). x.item) in
-    omega arith
+IsLog-long v ls g = grind (arith, nat_tests, rising_long, length-map)
 
 -- entries on numbered lines
 pub entries-numbered : (n : ℕ) (es : List Entry) → entries (numbered n es) ≡ es

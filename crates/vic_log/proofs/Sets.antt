@@ -1,6 +1,6 @@
 -- Lists of UIDs as sets.
-use Rattle.std.proofs.Common.{◌≡◌, ℕ, List, [], ◌∷◌, Bool, true, false, ◌&&◌, refl, sym, ap, ◌∙◌, subst, inl, inr, ⊎_elim, ◌⊎◌, nat_eq}
-use Rattle.vic_log.proofs.Words.{filter, cases_eq, cases_Bool, cond_both, ne_eqb, eqb-true, eq-eqb, and_parts, and_from, or_cases, or_left, or_right, false≢true, IsUid, has, AreDifferent, IsPopulation}
+use Rattle.std.proofs.Common.{◌≡◌, ℕ, List, [], ◌∷◌, Bool, true, false, ◌&&◌, refl, sym, ap, ◌∙◌, inl, inr, ⊎_elim, ◌⊎◌, nat_eq, arith}
+use Rattle.vic_log.proofs.Words.{nat_tests, filter, cases_eq, cases_Bool, cond_both, ne_eqb, eqb-true, eq-eqb, and_parts, and_from, or_cases, or_left, or_right, false≢true, IsUid, has, AreDifferent, IsPopulation}
 use Rattle.std.proofs.lemmas.Bool.{and_right}
 use Rattle.std.proofs.lemmas.Map.Views.{any-filter_same}
 
@@ -39,14 +39,11 @@ AreDifferent-population (u ∷ us) h = (h.1, AreDifferent-population us h.2)
 
 pub AreDifferent-filter : (t : ℕ → Bool) (us : List ℕ) → AreDifferent us → AreDifferent (filter t us)
 AreDifferent-filter t [] d = tt
-AreDifferent-filter t (x ∷ us) d =
-    let rest = AreDifferent-filter t us d.1 in
-    cond_both (t x) (x ∷ filter t us) (filter t us) AreDifferent (λ _. (has-filter t us x ∙ and_right _ _ d.0, rest)) (λ _. rest)
+AreDifferent-filter t (x ∷ us) d = grind (arith, nat_tests, cond_both, has-filter, and_right, AreDifferent-filter t us d.1)
 
 pub IsUid-member : (us : List ℕ) (u : ℕ) → IsPopulation us → has us u ≡ true → IsUid u
 IsUid-member [] u p h = absurd (false≢true h)
-IsUid-member (x ∷ us) u p h =
-    ⊎_elim (λ e. subst IsUid (sym e) p.0) (λ k. IsUid-member us u p.2 k) (has_cases u x us h)
+IsUid-member (x ∷ us) u p h = grind (arith, nat_tests, has_cases, IsUid-member us u p.2)
 
 -- one member more, unless it is there
 abbrev pub insert_if : Bool → ℕ → List ℕ → List ℕ

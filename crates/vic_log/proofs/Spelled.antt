@@ -32,10 +32,7 @@ hex_long bytes = length-encode_with upper_digits bytes
 -- ---- a letter, a space and digits
 
 plain_line : (letter : ℕ) (bytes : List ℕ) → nat_eq 10 letter ≡ false → nat_eq 13 letter ≡ false → IsBytes bytes → IsPlain (letter ∷ 32 ∷ encode_upper bytes)
-plain_line letter bytes a b h = record {
-  no_lf = neither _ _ _ a refl (hex_lacks 10 bytes refl h);
-  no_cr = neither _ _ _ b refl (hex_lacks 13 bytes refl h);
-}
+plain_line letter bytes a b h = grind (arith, nat_tests, neither, hex_lacks)
 
 be_bytes : (u : ℕ) → IsBytes (to_be_bytes w64 u)
 be_bytes u i = grind (arith, nat_tests)

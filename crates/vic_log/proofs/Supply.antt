@@ -1,5 +1,5 @@
 -- A population meets the slots where its members are open and it supplies what the slots ask for.
-use Rattle.std.proofs.Common.{◌≡◌, ℕ, List, [], ◌∷◌, Bool, true, refl, sym, ap, ◌∙◌, subst, ⊎_elim, ◌≢◌, ◌↔◌, arith}
+use Rattle.std.proofs.Common.{◌≡◌, ℕ, List, [], ◌∷◌, Bool, true, refl, sym, ap, ◌∙◌, ⊎_elim, ◌≢◌, ◌↔◌, arith}
 use Rattle.vic_log.proofs.Words.{nat_tests, eqb-true, leb-true, ltb-true, lt-ltb, and_parts, and_from, false≢true, both_ways, has, is_uid, IsUid, AreDifferent, IsPopulation, Lone, outcome_of, Reading, NoReply, OneReply, ManyReplies, SomeReply, Slot}
 use Rattle.std.specs.List.{list_all}
 use Rattle.std.proofs.lemmas.Bool.{le-leb}
@@ -25,8 +25,7 @@ fits_asks (OneReply w) (x ∷ []) d f = let e : w ≡ x = cc in has_at w x [] e
 fits_asks (OneReply w) (x ∷ y ∷ q) d f = cc
 fits_asks ManyReplies [] d f = cc
 fits_asks ManyReplies (x ∷ []) d f = cc
-fits_asks ManyReplies (x ∷ y ∷ q) d f =
-    (x, y, two_differ x y q d, has_here x (y ∷ q), has_there y x (y ∷ q) (has_here y q))
+fits_asks ManyReplies (x ∷ y ∷ q) d f = grind (arith, nat_tests, two_differ, has_here, has_there)
 fits_asks SomeReply [] d f = absurd (f refl)
 fits_asks SomeReply (x ∷ q) d f = (x, has_here x q)
 
@@ -35,10 +34,7 @@ asks_fits NoReply [] d m a = refl
 asks_fits NoReply (x ∷ q) d m a = absurd (false≢true (m x (has_here x q)))
 asks_fits (OneReply w) [] d m a = absurd (false≢true a)
 asks_fits (OneReply w) (x ∷ []) d m a = ap Lone (eqb-true x w (m x (has_here x [])))
-asks_fits (OneReply w) (x ∷ y ∷ q) d m a =
-    let e = eqb-true x w (m x (has_here x (y ∷ q))) in
-    let k = eqb-true y w (m y (has_there y x (y ∷ q) (has_here y q))) in
-    absurd (two_differ x y q d (e ∙ sym k))
+asks_fits (OneReply w) (x ∷ y ∷ q) d m a = grind (arith, nat_tests, eqb-true, has_here, has_there, two_differ)
 asks_fits ManyReplies [] d m a = absurd (false≢true a.3)
 asks_fits ManyReplies (x ∷ []) d m a = absurd (a.2 (only_member a.0 x a.3 ∙ sym (only_member a.1 x a.4)))
 asks_fits ManyReplies (x ∷ y ∷ q) d m a = refl
@@ -55,19 +51,14 @@ allows_by : (r : Reading) (b : Bool) (u : ℕ) → (b ≡ true → may_be r true
 allows_by r b u h = grind (arith, nat_tests)
 
 pub Meets-allows : (p : List ℕ) (s : Slot) → Meets p s → (u : ℕ) → has p u ≡ true → allows u s ≡ true
-Meets-allows p s m u h =
-    allows_by s.reading (s.answers u) u
-    (λ e. fits_allows s.reading _ m u (filter_has s.answers p u (and_from _ _ h e)))
+Meets-allows p s m u h = grind (arith, nat_tests, allows_by, fits_allows, filter_has, and_from)
 
 pub Meets-supplies : (p : List ℕ) (s : Slot) → AreDifferent p → Meets p s → Supplies (has p) s
 Meets-supplies p s d m =
     asks_within s.reading _ _ (has_filter s.answers p) (fits_asks s.reading _ (AreDifferent-filter s.answers p d) m)
 
 pub Supplies-meets : (p : List ℕ) (s : Slot) → AreDifferent p → ((u : ℕ) → has p u ≡ true → allows u s ≡ true) → Supplies (has p) s → Meets p s
-Supplies-meets p s d k a =
-    asks_fits s.reading _ (AreDifferent-filter s.answers p d)
-    (λ u h. let w = and_parts (has p u) (s.answers u) (has_filter s.answers p u h) in subst (λ b. may_be s.reading b u ≡ true) w.1 (k u w.0))
-    (asks_within s.reading _ _ (filter_has s.answers p) a)
+Supplies-meets p s d k a = grind (arith, nat_tests, asks_fits, AreDifferent-filter, and_parts, has_filter, asks_within, filter_has)
 
 pub Supplies-within : (s t : ℕ → Bool) (x : Slot) → IsWithin s t → Supplies s x → Supplies t x
 Supplies-within s t x k a = grind (arith, nat_tests)
@@ -88,8 +79,7 @@ MeetsAll-supplies p (s ∷ slots) d m = (Meets-supplies p s d m.0, MeetsAll-supp
 
 MeetsAll-from : (p : List ℕ) (slots : List Slot) → AreDifferent p → ((u : ℕ) → has p u ≡ true → list_all (allows u) slots ≡ true) → SuppliesAll (has p) slots → MeetsAll p slots
 MeetsAll-from p [] d k a = tt
-MeetsAll-from p (s ∷ slots) d k a =
-    (Supplies-meets p s d (λ u h. (and_parts _ _ (k u h)).0) a.0, MeetsAll-from p slots d (λ u h. (and_parts _ _ (k u h)).1) a.1)
+MeetsAll-from p (s ∷ slots) d k a = grind (arith, nat_tests, Supplies-meets, and_parts, MeetsAll-from p slots d)
 
 pub is_uid_from : (u : ℕ) → IsUid u → is_uid u ≡ true
 is_uid_from u h = and_from _ _ (le-leb _ _ h.0) (lt-ltb _ _ h.1)
@@ -100,7 +90,4 @@ IsUid-from u h = let w = and_parts _ _ h in (leb-true _ _ w.0, ltb-true _ _ w.1)
 -- a population meets all slots if and only if its members are open and it supplies what the slots require
 pub MeetsAll-iff : (p : List ℕ) (slots : List Slot) → IsPopulation p → MeetsAll p slots ↔ (IsWithin (has p) (is_open slots) × SuppliesAll (has p) slots)
 MeetsAll-iff p slots q =
-    let d = AreDifferent-population p q in (
-      (λ m. ((λ u h. and_from _ _ (is_uid_from u (IsUid-member p u q h)) (MeetsAll-allows p slots m u h)), MeetsAll-supplies p slots d m)),
-      (λ w. MeetsAll-from p slots d (λ u h. (and_parts _ _ (w.0 u h)).1) w.1),
-    )
+    grind (arith, nat_tests, AreDifferent-population, and_from, is_uid_from, IsUid-member, MeetsAll-allows, MeetsAll-supplies, MeetsAll-from, and_parts)

@@ -1,6 +1,6 @@
 -- Bytes that are taken in turn.
 use Rattle.std.proofs.Common.{◌<◌, ◌≤◌, ◌∷◌, slice_index_or, arith, ◌≡◌, ◌+◌, ◌-◌, ℕ, List, [], ◌++◌, length, length-append, take, drop, None, Some, Option, sym, ◌∙◌, ap, append_assoc}
-use Rattle.vic_log.proofs.Words.{common_steps, lf, drop_all, take-append-le, Appends, HasTakenBut}
+use Rattle.vic_log.proofs.Words.{nat_tests, common_steps, lf, drop_all, take-append-le, Appends, HasTakenBut}
 use Rattle.std.proofs.KnownBytes.{Appends-trans}
 use Rattle.std.proofs.Math.Seq.{take-add, take-append-add}
 use Rattle.vic_log.specs.Device.{HasTakenPrefix}
@@ -8,15 +8,11 @@ use Rattle.vic_log.specs.Device.{HasTakenPrefix}
 -- the first n bytes, and then the next m of the rest
 pub appended-more : (a b c : Option (List ℕ)) (n m : ℕ) (xs : List ℕ) →
     Appends a b (take n xs) → Appends b c (take m (take (length xs - n) (drop n xs))) → Appends a c (take (n + m) xs)
-appended-more None b c n m xs h k = tt
-appended-more (Some us) None c n m xs h k = absurd h
-appended-more (Some us) (Some vs) None n m xs h k = absurd k
-appended-more (Some us) (Some vs) (Some ws) n m xs h k = grind (arith, common_steps, take-add n m xs, h, k)
+appended-more a b c n m xs h k = grind (arith, nat_tests, common_steps, take-add)
 
 -- one piece more was taken
 HasTakenBut-step : (a b c : Option (List ℕ)) (piece rest more text : List ℕ) → HasTakenBut a b more text → piece ++ rest ≡ more → Appends b c piece → HasTakenBut a c rest text
-HasTakenBut-step a b c piece rest more text h e k =
-    (h.0 ++ piece, Appends-trans a b c h.0 piece h.1 k, append_assoc h.0 piece rest ∙ (ap (λ xs. h.0 ++ xs) e ∙ h.2))
+HasTakenBut-step a b c piece rest more text h e k = grind (arith, nat_tests, Appends-trans, append_assoc)
 
 -- the last piece was taken completely
 pub HasTakenBut-all : (a b c : Option (List ℕ)) (piece more text : List ℕ) → HasTakenBut a b more text → piece ++ [] ≡ more → Appends b c piece → Appends a c text

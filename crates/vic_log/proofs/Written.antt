@@ -1,6 +1,6 @@
 -- The text of a log reads back.
-use Rattle.std.proofs.Common.{◌≡◌, ℕ, suc, ◌+◌, ◌-◌, ◌<◌, ◌≤◌, true, false, Some, None, Ok, List, [], ◌∷◌, ◌++◌, length, refl, sym, ap, subst, ◌∙◌, arith, append_assoc, append-nil, slice_get, nat_eq, if◌then◌else◌, ◌==◌, map}
-use Rattle.vic_log.proofs.Words.{common_steps, nat_tests, cond-true, cond-false, or_parts, ne_eqb, le-ltb, length_push, Entry, has, IsInOrder, entries, onto, cut, ends_with, all_but_last, without_last, content, lines_of_text, line_reading, named_version, line_fault, entry_line, logged, IsLogOf, after_line, LogValue, Version, entry_text, numbered, AreRead}
+use Rattle.std.proofs.Common.{◌≡◌, ℕ, suc, ◌+◌, ◌-◌, ◌<◌, ◌≤◌, true, false, Some, None, Ok, List, [], ◌∷◌, ◌++◌, length, refl, sym, ap, subst, ◌∙◌, arith, append_assoc, append-nil, slice_get, nat_eq, ◌==◌, map}
+use Rattle.vic_log.proofs.Words.{common_steps, nat_tests, cond-true, cond-false, or_parts, ne_eqb, le-ltb, length_push, Entry, has, IsInOrder, entries, onto, cut, ends_with, all_but_last, without_last, content, lines_of_text, line_reading, line_fault, entry_line, logged, IsLogOf, after_line, LogValue, Version, entry_text, numbered, AreRead}
 use Rattle.std.proofs.Math.Seq.{take-append_seam}
 use Rattle.std.specs.List.{AllByRecursion}
 use Rattle.vic_log.specs.Text.{reading_fault, header}
@@ -57,9 +57,7 @@ pub record IsSpelled (version : Version) (e : Entry) : Type 0 where
 
 numbered-push : (n : ℕ) (es : List Entry) (e : Entry) → numbered n (es ++ e ∷ []) ≡ numbered n es ++ record { number = n + length es; item = e } ∷ []
 numbered-push n [] e = let same : n ≡ n + 0 = omega arith in ap (λ k. record { number = k; item = e } ∷ []) same
-numbered-push n (x ∷ es) e =
-    let same : suc n + length es ≡ n + suc (length es) = omega arith in
-    ap (λ ls. record { number = n; item = x } ∷ ls) (numbered-push (suc n) es e ∙ ap (λ k. numbered (suc n) es ++ record { number = k; item = e } ∷ []) same)
+numbered-push n (x ∷ es) e = grind (arith, nat_tests, numbered-push (suc n) es e)
 
 not_first : (n : ℕ) → 1 < n → nat_eq n 1 ≡ false
 not_first n some = ne_eqb n 1 (λ same. absurd (omega arith))
@@ -77,10 +75,7 @@ abbrev of_version : Version → List Entry → LogValue
 of_version v es = record { lines = numbered 2 es; version = v }
 
 after_line-is : (v : Version) (es : List Entry) (e : Entry) (n : ℕ) → n ≡ 2 + length es → IsSpelled v e → after_line (of_version v es) n (entry_text e) ≡ of_version v (es ++ e ∷ [])
-after_line-is v es e n at s =
-    let lines_are : numbered 2 es ++ logged v n (Some (entry_text e)) ≡ numbered 2 (es ++ e ∷ []) = ap (λ ls. numbered 2 es ++ ls) (logged_is v e n s (omega arith)) ∙ sym (numbered-push 2 es e ∙ ap (λ k. numbered 2 es ++ record { number = k; item = e } ∷ []) (sym at)) in
-    let version_is : (if nat_eq n 1 then named_version (Some (entry_text e)) else v) ≡ v = cond-false _ _ _ (not_first n (omega arith)) in
-    rw (lines_are, version_is) refl
+after_line-is v es e n at s = grind (arith, nat_tests, logged_is, numbered-push, cond-false, not_first)
 
 abbrev pub AreSpelled : Version → List Entry → Type 0
 AreSpelled v es = (i : ℕ) (e : Entry) → slice_get es i ≡ Some e → IsSpelled v e

@@ -1,5 +1,5 @@
-use Rattle.std.proofs.Common.{rules, ◌≡◌, ◌+◌, ◌++◌, [], append-nil, length, subst, sym, refl, ◌∙◌, add-one, arith, inl, length-append}
-use Rattle.vic_log.proofs.Words.{IsLong}
+use Rattle.std.proofs.Common.{rules, ◌+◌, ◌++◌, [], append-nil, length, subst, sym, refl, ◌∙◌, add-one, arith, inl, length-append}
+use Rattle.vic_log.proofs.Words.{common_steps, IsLong}
 use Rattle.vic_log.proofs.Judged.{HasCut-more, early-long, early-many}
 use Rattle.vic_log.proofs.Place.{over, on_ok}
 use Rattle.vic_log.proofs.begun.take_begun.Goals as goal
@@ -23,12 +23,4 @@ returns-then-not-fits-clause-err c = λ text j.
     rw (← append-nil (text ++ bytes), add-one) (early-long (HasCut-more j.begun bytes c.requires.no_lf) (omega arith) long [])
 
 pub returns-clause-ok : goal.returns-clause-ok
-returns-clause-ok c = λ text j.
-    let bytes = c.args.bytes.now in
-    let items : c.try_extend_from_slice.new.self.items ≡ c.args.begun.now.line.items ++ bytes = search rules in
-    rw items record {
-      begun = HasCut-more j.begun bytes c.requires.no_lf;
-      limit = j.limit;
-      short = rw (c.as_slice.ensures.value, items) at (c.is_too_long.ensures.short c.if-is_too_long.false);
-      last = λ e. absurd (c.if-begun-eq-MAX_LINES.false e);
-    }
+returns-clause-ok c = grind (arith, common_steps, rules, HasCut-more)

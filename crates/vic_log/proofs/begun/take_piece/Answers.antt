@@ -1,5 +1,5 @@
-use Rattle.std.proofs.Common.{◌++◌, ◌∷◌, [], refl, ap, sym, ◌∙◌, append_assoc, append-nil, length, length-append, arith}
-use Rattle.vic_log.proofs.Words.{err_from_is_err_and, lf}
+use Rattle.std.proofs.Common.{◌++◌, ◌∷◌, [], refl, ap, sym, ◌∙◌, append_assoc, append-nil, length-append, arith}
+use Rattle.vic_log.proofs.Words.{common_steps, err_from_is_err_and, lf}
 use Rattle.std.proofs.lemmas.Result.{IfErr-weaker, on_ok_weaker}
 use Rattle.vic_log.proofs.begun.take_piece.Goals as goal
 
@@ -50,17 +50,10 @@ pub take_end-requires-clause-no_lf : goal.take_end-requires-clause-no_lf
 take_end-requires-clause-no_lf c = c.in-Some.ensures.no_lf
 
 pub loop-line-smaller : goal.loop-line-smaller
-loop-line-smaller c =
-    let whole = ap length c.in-Some.ensures.whole in
-    let size = length-append c.in-Some.line.now (lf ∷ c.in-Some.behind.now) in
-    omega arith
+loop-line-smaller c = grind (arith, common_steps, length-append)
 
 pub take_begun-requires-clause-judged : goal.take_begun-requires-clause-judged
 take_begun-requires-clause-judged c = (c.requires.judged.0 ++ c.loop-line.invariant.taken, c.loop-line.invariant.judged c.requires.judged.0 c.requires.judged.1)
 
 pub returns-clause-less : goal.returns-clause-less
-returns-clause-less c =
-    let i = c.loop-line.invariant in
-    let before = i.less in
-    let whole = ap length i.whole ∙ length-append i.taken c.loop-line.rest.now in
-    on_ok_weaker c.take_begun.result (λ less. omega arith) c.take_begun.ensures.less
+returns-clause-less c = grind (arith, common_steps, length-append, on_ok_weaker)

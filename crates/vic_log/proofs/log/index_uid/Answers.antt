@@ -1,5 +1,5 @@
-use Rattle.std.proofs.Common.{rules, ◌≡◌, ◌∙◌, ap, refl, true, not}
-use Rattle.vic_log.proofs.Words.{has, IsUid, entries, listed}
+use Rattle.std.proofs.Common.{rules, ◌≡◌, ◌∙◌, ap, true, not, arith}
+use Rattle.vic_log.proofs.Words.{common_steps, has, IsUid, entries, listed}
 use Rattle.vic_log.proofs.UidSets.{IsIndex-held, IsSetOf-push, IsSetOf-same, has_unless}
 use Rattle.vic_log.proofs.log.index_uid.Goals as goal
 
@@ -8,10 +8,7 @@ returns-then-branch-clause-more c =
     IsIndex-held _ c.args.greatest.now c.put.new.self c.put.ensures.set (IsSetOf-push (listed (entries c.args.lines.now)) c.args.uid c.make_room.new.self c.put.new.self c.in-Ok.ensures.uids c.in_ok-put.ensures.more)
 
 pub returns-else-branch-clause-answer : goal.returns-else-branch-clause-answer
-returns-else-branch-clause-answer c =
-    let typed : IsUid c.args.uid = search rules in
-    let there : has (listed (entries c.args.lines.now)) c.args.uid ≡ true = has_unless (listed (entries c.args.lines.now)) c.args.uid c.make_room.new.self c.in_ok-put.field-0 c.in-Ok.ensures.uids typed c.in_ok-put.ensures.answer ∙ ap not c.if-branch.false in
-    rw there refl
+returns-else-branch-clause-answer c = grind (arith, common_steps, rules, has_unless)
 
 pub returns-else-branch-clause-same : goal.returns-else-branch-clause-same
 returns-else-branch-clause-same c =

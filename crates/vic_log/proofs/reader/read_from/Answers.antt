@@ -1,5 +1,5 @@
-use Rattle.std.proofs.Common.{rules, ◌≡◌, ◌++◌, ℕ, List, Option, Some, None, [], Result, Ok, Err, MatchResult, IfErr, take, length-append, length-take-le, false, true, inl, inr, ap, sym, subst, ◌∙◌, append-nil, append_assoc, arith, ◌↔◌}
-use Rattle.vic_log.proofs.Words.{Consumes-trans, err_from_is_err_and, Consumes, LogFault, Line, Read, Memory, Spent, IsEarly, lines_of_text, LogValue, IsLogOf, Refuses}
+use Rattle.std.proofs.Common.{rules, ◌≡◌, ◌++◌, ℕ, List, Option, Some, None, Result, Ok, Err, MatchResult, IfErr, take, length-append, length-take-le, false, true, inl, inr, ap, sym, ◌∙◌, append-nil, append_assoc, arith, ◌↔◌}
+use Rattle.vic_log.proofs.Words.{common_steps, Consumes-trans, err_from_is_err_and, Consumes, LogFault, Line, Read, Memory, Spent, IsEarly, lines_of_text, LogValue, IsLogOf, Refuses}
 use Rattle.std.proofs.KnownBytes.{Consumes-nil}
 use Rattle.vic_log.specs.Device.{KeepsOrHides, HandsOut, TellsOn}
 use Rattle.vic_log.specs.Early.{ReadsWhere}
@@ -30,9 +30,7 @@ reads_end IsOver text (Err Read) e h = absurd h
 reads_end IsOver text (Err Spent) e h = absurd h
 
 pub returns-in_err-count-clause-answer : goal.returns-in_err-count-clause-answer
-returns-in_err-count-clause-answer g c =
-    let p = err_from_is_err_and c.from_residual.result c.from_residual.ensures.1 in
-    rw (p.1, p.2) ([], handed_kept _ _ _ [] (Consumes-nil _) c.in_err-count.ensures.bytes, search rules)
+returns-in_err-count-clause-answer g c = grind (arith, common_steps, err_from_is_err_and, handed_kept, Consumes-nil, rules)
 
 pub returns-in_err-feed-clause-answer : goal.returns-in_err-feed-clause-answer
 returns-in_err-feed-clause-answer g c =
@@ -42,11 +40,7 @@ returns-in_err-feed-clause-answer g c =
     rw (p.1, p.2) (given, (handed _ _ given i.given).0, reads_early _ given c.in_err-feed.field-0.0 (c.in_err-feed.ensures.early i.text i.fed))
 
 pub returns-in_err-feed-clause-returned : goal.returns-in_err-feed-clause-returned
-returns-in_err-feed-clause-returned g c =
-    let i = c.loop-count.invariant in
-    let given = i.text ++ take c.loop-count.count c.loop-count.piece in
-    let p = err_from_is_err_and c.from_residual-in_err-feed.result c.from_residual-in_err-feed.ensures.1 in
-    rw (p.1, p.2) (given, i.returned, reads_early _ given c.in_err-feed.field-0.0 (c.in_err-feed.ensures.early i.text i.fed))
+returns-in_err-feed-clause-returned g c = grind (arith, common_steps, err_from_is_err_and, reads_early)
 
 pub returns-in_err-feed-clause-tells : goal.returns-in_err-feed-clause-tells
 returns-in_err-feed-clause-tells g c = λ _. (handed _ _ _ c.loop-count.invariant.given).1
@@ -68,13 +62,7 @@ returns-in_err-count-2-clause-returned g c =
     rw (p.1, p.2) (given, c.in_err-count-2.ensures.returned ∙ (append-nil _ ∙ i.returned), waits.0)
 
 pub returns-in_err-count-2-clause-reads : goal.returns-in_err-count-2-clause-reads
-returns-in_err-count-2-clause-reads g c =
-    let i = c.loop-count.invariant in
-    let given = i.text ++ take c.loop-count.count c.loop-count.piece in
-    let waits = c.in_ok-feed.ensures.waits given (c.in_ok-feed.ensures.fed i.text i.fed) in
-    let within = waits.1 in
-    let size = length-append i.text (take c.loop-count.count c.loop-count.piece) in
-    search rules
+returns-in_err-count-2-clause-reads g c = grind (arith, common_steps, length-append, rules)
 
 pub loop-count-preserved : goal.loop-count-preserved
 loop-count-preserved g c =
@@ -98,24 +86,13 @@ loop-count-preserved g c =
     }
 
 pub loop-count-smaller : goal.loop-count-smaller
-loop-count-smaller g c =
-    let i = c.loop-count.invariant in
-    let size = length-append i.text (take c.loop-count.count c.loop-count.piece) in
-    rw (i.fed, c.in_ok-feed.ensures.fed i.text i.fed) (omega (arith, length-take-le {A = ℕ}))
+loop-count-smaller g c = grind (arith, common_steps, length-append, length-take-le)
 
 pub returns-clause-answer : goal.returns-clause-answer
-returns-clause-answer g c =
-    let i = c.loop-count.invariant in
-    let none : c.loop-count.count ≡ 0 = omega arith in
-    let all : i.text ++ take c.loop-count.count c.loop-count.piece ≡ i.text = ap (λ n. i.text ++ take n c.loop-count.piece) none ∙ append-nil i.text in
-    (i.text, (handed _ _ i.text (subst (Consumes _ _) all i.given)).0, (reads_end _ i.text c.finish.result (i.end none) (c.finish.ensures.answer i.text i.fed)).0)
+returns-clause-answer g c = grind (arith, common_steps, append-nil, handed, reads_end)
 
 pub returns-clause-returned : goal.returns-clause-returned
-returns-clause-returned g c =
-    let i = c.loop-count.invariant in
-    let none : c.loop-count.count ≡ 0 = omega arith in
-    let all : i.text ++ take c.loop-count.count c.loop-count.piece ≡ i.text = ap (λ n. i.text ++ take n c.loop-count.piece) none ∙ append-nil i.text in
-    (i.text, i.returned ∙ ap (λ xs. g.R.Source.returned c.args.source.now ++ xs) all, (reads_end _ i.text c.finish.result (i.ended none) (c.finish.ensures.answer i.text i.fed)).0)
+returns-clause-returned g c = grind (arith, common_steps, append-nil, reads_end)
 
 pub returns-clause-read : goal.returns-clause-read
 returns-clause-read g c =

@@ -1,5 +1,5 @@
-use Rattle.std.proofs.Common.{[], List, ℕ}
-use Rattle.vic_log.proofs.Words.{err_from_is_err_and, LogFault, Line, Read, Memory, Spent, IsEarly, Refuses}
+use Rattle.std.proofs.Common.{List, ℕ, arith}
+use Rattle.vic_log.proofs.Words.{common_steps, err_from_is_err_and, LogFault, Line, Read, Memory, Spent, IsEarly, Refuses}
 use Rattle.vic_log.proofs.reader.read_log.Goals as goal
 
 early_refuses : (e : LogFault) (text : List ℕ) → IsEarly e text → Refuses text e
@@ -9,6 +9,4 @@ early_refuses Read text h = h
 early_refuses Spent text h = h
 
 pub returns-in_err-feed : goal.returns-in_err-feed
-returns-in_err-feed c =
-    let p = err_from_is_err_and c.from_residual.result c.from_residual.ensures.1 in
-    rw (p.1, p.2) (early_refuses c.in_err-feed.field-0.0 c.args.text.now (c.in_err-feed.ensures.early [] c.new-fed.ensures))
+returns-in_err-feed c = grind (arith, common_steps, err_from_is_err_and, early_refuses)

@@ -1,15 +1,10 @@
-use Rattle.std.proofs.Common.{◌≡◌, Some, false, [], ◌∷◌, take, length, refl, sym, ap, ◌∙◌, add-one, slice_get, nat_eq}
-use Rattle.vic_log.proofs.Words.{slice_get_read, list_any-append, has, entries, listed}
+use Rattle.std.proofs.Common.{◌≡◌, Some, false, [], ◌∷◌, take, length, refl, sym, ap, ◌∙◌, add-one, slice_get, nat_eq, arith}
+use Rattle.vic_log.proofs.Words.{common_steps, slice_get_read, list_any-append, has, entries, listed}
 use Rattle.vic_log.proofs.UidSets.{has_at_line, listed_next}
 use Rattle.vic_log.proofs.uid_set.is_listed.Goals as goal
 
 pub returns-then-lists : goal.returns-then-lists
-returns-then-lists c =
-    let lines = c.args.lines.now in
-    let i = c.loop-line.line-index in
-    let l = c.line-item.result in
-    let at : slice_get lines i ≡ Some l = slice_get_read lines (length lines) i l refl c.loop-line-test.true c.line-item.is in
-    sym (has_at_line lines i c.args.uid l at (ap (λ e. has (listed (e ∷ [])) c.args.uid) (sym c.item.ensures) ∙ (sym c.lists.ensures ∙ c.if-lists.true)))
+returns-then-lists c = grind (arith, common_steps, slice_get_read, has_at_line)
 
 pub loop-line-preserved : goal.loop-line-preserved
 loop-line-preserved c =
