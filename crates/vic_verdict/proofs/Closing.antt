@@ -1,43 +1,47 @@
 -- The mentions between two keys, and which keys some slots close.
-use Rattle.std.proofs.Common.{◌≡◌, ℕ, ◌+◌, ◌-◌, ◌<◌, ◌≤◌, ◌==◌, ◌++◌, List, [], ◌∷◌, length, take, drop, get_or, Bool, true, false, not, ◌&&◌, ◌||◌, refl, sym, ap, ◌∙◌, subst, arith, ⊎_elim, nat_le, nat_lt, All, eq-eqb, eqb-true, get_or-drop, get_or-take, length-drop, length-take-le, take-append-drop, take-take}
-use Rattle.vic_verdict.proofs.Words.{and_parts, and_from, cases_eq, cases_lt, false_from_ne_true, false≢true, nat_tests, get_or_default, list_any-append, list_any_at, list_any_more, Any-from_list_any, Mention, in_ranges, is_between, Closes, is_in_some, ReadSlot, AreInOrder, has_where, has_left, is_in}
-use Rattle.std.proofs.lemmas.List.{drop-take}
-use Rattle.vic_verdict.proofs.Sweeping.{all_cover, between_parts, nobody, where_above, where_below}
+use Rattle.std.proofs.Common.{◌≡◌, ℕ, ◌+◌, ◌-◌, ◌<◌, ◌≤◌, ◌==◌, ◌++◌, List, [], ◌∷◌, length, take, drop, get_or, Bool, true, false, not, ◌&&◌, ◌||◌, refl, sym, ap, ◌∙◌, subst, arith, ⊎_elim, inl, inr, nat_le, nat_lt, All, eq-eqb, eqb-true, get_or-drop, get_or-take, length-drop, length-take-le, take-append-drop, take-take}
+use Rattle.vic_verdict.proofs.Words.{list_any, or_false, and_parts, and_from, cases_eq, cases_lt, false_from_ne_true, false≢true, nat_tests, get_or_default, list_any-append, list_any_at, list_any_more, Any-from_list_any, Mention, in_ranges, is_between, Closes, is_in_some, ReadSlot, AreInOrder, has_where, has_left, is_in}
+use Rattle.std.proofs.lemmas.List.Elements.{All-from_get_or}
+use Rattle.vic_verdict.specs.inner.Sweep.{IsStart}
+use Rattle.vic_verdict.proofs.Sweeping.{all_cover, between_parts, nobody, where_none}
 
 -- ---- the mentions between two keys
 
 pub between_from : (first last k : ℕ) → first ≤ k → k ≤ last → is_between first last k ≡ true
 between_from first last k a b = grind (arith, nat_tests)
 
--- m mentions from position s on lie between the keys
-pub part_between : (ns : List Mention) (first last s m : ℕ) → s + m ≤ length ns → ((j : ℕ) → s ≤ j → j < length ns → first ≤ (get_or ns j nobody).key) → ((j : ℕ) → j < m → (get_or (drop s ns) j nobody).key ≤ last) → All (λ (n : Mention). is_between first last n.key ≡ true) (take m (drop s ns))
-part_between ns first last s m within low high k d below =
+-- the m mentions from position s on lie between the keys
+pub part_between : (ns : List Mention) (first last s m : ℕ) → IsStart ns first s → IsStart (drop s ns) (last + 1) m → All (λ (n : Mention). is_between first last n.key ≡ true) (take m (drop s ns))
+part_between ns first last s m start end = All-from_get_or (λ (n : Mention). is_between first last n.key ≡ true) (take m (drop s ns)) nobody (λ j lt.
+    let upto = end.within in
     let rest = length-drop s ns in
-    let long = length-take-le m (drop s ns) (omega arith) in
-    let lt : k < m = omega arith in
-    let here : get_or (drop s ns) k d ≡ get_or (drop s ns) k nobody = get_or_default (drop s ns) k d nobody (omega arith) in
-    let upto = high k lt in
-    let from = low (s + k) (omega arith) (omega arith) in
-    let there : (get_or (drop s ns) k nobody).key ≡ (get_or ns (s + k) nobody).key = ap (λ (n : Mention). n.key) (get_or-drop s ns k nobody) in
-    ap (λ (n : Mention). is_between first last n.key) (get_or-take m (drop s ns) k d lt ∙ here)
-    ∙ between_from first last _ (omega arith) upto
+    let long = length-take-le m (drop s ns) upto in
+    let low = start.rest (s + j) nobody (omega arith) (omega arith) in
+    let high = end.below j nobody (omega arith) in
+    let there = ap (λ (n : Mention). n.key) (get_or-drop s ns j nobody) in
+    rw (get_or-take m (drop s ns) j nobody (omega arith)) (between_from first last _ (omega arith) (omega arith)))
 
 -- and all that do are among them
-pub part_where : (ns : List Mention) (first last s m : ℕ) → s + m ≤ length ns → ((j : ℕ) → j < s → (get_or ns j nobody).key < first) → ((j : ℕ) → s + m ≤ j → j < length ns → last < (get_or ns j nobody).key) → (p : Mention → Bool) (k : ℕ) → is_between first last k ≡ true → has_where p (take m (drop s ns)) k ≡ has_where p ns k
-part_where ns first last s m within low high p k inside =
+pub part_where : (ns : List Mention) (first last s m : ℕ) → IsStart ns first s → IsStart (drop s ns) (last + 1) m → (p : Mention → Bool) (k : ℕ) → is_between first last k ≡ true → has_where p (take m (drop s ns)) k ≡ has_where p ns k
+part_where ns first last s m start end p k inside =
     let parts = between_parts first last k inside in
-    let from = parts.0 in
-    let to = parts.1 in
+    let behind = length-drop m (drop s ns) in
+    let front = length-take-le s ns start.within in
+    let none = where_none p (take s ns) k (λ j lt e _.
+        let at = ap (λ (n : Mention). n.key) (get_or-take s ns j nobody (omega arith)) in
+        let under = start.below j nobody (omega arith) in
+        omega arith) in
+    let past = where_none p (drop m (drop s ns)) k (λ j lt e _.
+        let at = ap (λ (n : Mention). n.key) (get_or-drop m (drop s ns) j nobody) in
+        let over = end.rest (m + j) nobody (omega arith) (omega arith) in
+        omega arith) in
     let test : Mention → Bool = λ (n : Mention). (n.key == k) && p n in
-    let before : has_where p (take s ns) k ≡ false = where_below p ns k s (omega arith) (λ j lt. let under = low j lt in omega arith) in
-    let whole : take s (take (s + m) ns) ++ drop s (take (s + m) ns) ≡ take (s + m) ns = take-append-drop s (take (s + m) ns) in
-    sym (
-    sym (where_above p ns k (s + m) (length ns - (s + m)) (omega arith) (λ j far lt. let over = high j far lt in omega arith))
-    ∙ (ap (λ xs. has_where p xs k) (sym whole)
-    ∙ (list_any-append test (take s (take (s + m) ns)) (drop s (take (s + m) ns))
-    ∙ (ap (λ xs. has_where p xs k || has_where p (drop s (take (s + m) ns)) k) (take-take s (s + m) ns (omega arith))
-    ∙ (ap (λ b. b || has_where p (drop s (take (s + m) ns)) k) before
-    ∙ ap (λ xs. has_where p xs k) (drop-take s m ns))))))
+    sym (ap (list_any test) (sym (take-append-drop s ns))
+    ∙ (list_any-append test (take s ns) (drop s ns)
+    ∙ (ap (λ b. b || list_any test (drop s ns)) none
+    ∙ (ap (list_any test) (sym (take-append-drop m (drop s ns)))
+    ∙ (list_any-append test (take m (drop s ns)) (drop m (drop s ns))
+    ∙ (ap (λ b. list_any test (take m (drop s ns)) || b) past ∙ or_false (list_any test (take m (drop s ns)))))))))
 
 -- ---- the keys of a slot
 
@@ -58,17 +62,10 @@ all_keys o l m first last from k since upto none same = grind (arith, nat_tests)
 
 -- no mention that is left has a key from one on that those from position i on don't reach
 none_left : (ns : List Mention) (from i k : ℕ) → ((j : ℕ) → j < i → (get_or ns j nobody).left ≡ true → (get_or ns j nobody).key < from) → from ≤ k → ((j : ℕ) → i ≤ j → j < length ns → k < (get_or ns j nobody).key) → has_left ns k ≡ false
-none_left ns from i k below le above = false_from_ne_true _ (λ e.
-    let some = Any-from_list_any (λ (n : Mention). (n.key == k) && n.left) ns e in
-    let n : Mention = some.1 in
-    let within = some.2 in
-    let here : get_or ns some.0 nobody ≡ n = sym (get_or_default ns some.0 n nobody within) ∙ some.3 in
-    let parts = and_parts (n.key == k) n.left some.4 in
-    let key : (get_or ns some.0 nobody).key ≡ k = ap (λ (m : Mention). m.key) here ∙ eqb-true n.key k parts.0 in
-    ⊎_elim
-    (λ lt. let under = below some.0 lt (ap (λ (m : Mention). m.left) here ∙ parts.1) in omega arith)
-    (λ ge. let over = above some.0 ge within in omega arith)
-    (cases_lt some.0 i))
+none_left ns from i k below le above = where_none (λ n. n.left) ns k (λ j within at left. elim (cases_lt j i) [
+  | inl lt ↦ let under = below j lt left in omega arith
+  | inr ge ↦ let over = above j ge within in omega arith
+])
 
 pub closed_first : (old : List (ℕ × ℕ)) (ns : List Mention) (first last : ℕ) → first ≤ last + 1 → All (λ (n : Mention). is_between first last n.key ≡ true) ns → IsClosedTo old old ns first last first 0
 closed_first old ns first last le inside = record {
@@ -133,20 +130,14 @@ closed_all old new next ns all first last from i end same pushed h k =
 -- a slot more
 pub closes_more : (ns : List Mention) (reads : List ReadSlot) (i : ℕ) (s : ReadSlot) (old : List (ℕ × ℕ)) (k : ℕ) → i < length reads → s ≡ get_or reads i s → ((in_ranges old k || (is_in_some (take i reads) k && not (has_left ns k))) || (is_in s k && not (has_left ns k))) ≡ (in_ranges old k || (is_in_some (take (i + 1) reads) k && not (has_left ns k)))
 closes_more ns reads i s old k below is =
-    either (in_ranges old k) (is_in_some (take i reads) k) (is_in s k) (not (has_left ns k))
-    ∙ ap (λ b. in_ranges old k || (b && not (has_left ns k))) (sym (list_any_more (λ t. is_in t k) reads i s below ∙ ap (λ t. is_in_some (take i reads) k || is_in t k) (sym is)))
-  where
-    either : (o a b l : Bool) → ((o || (a && l)) || (b && l)) ≡ (o || ((a || b) && l))
-    either o a b l = grind arith
+    let more = list_any_more (λ t. is_in t k) reads i s below in
+    let here = ap (λ t. is_in t k) is in
+    grind arith
 
 -- what the ranges leave open is what they left before and all slots leave by mention
 pub outside_closed : (ns : List Mention) (reads : List ReadSlot) (old new : List (ℕ × ℕ)) (k : ℕ) → Closes ns (is_in_some reads) old new → not (in_ranges new k) ≡ (not (in_ranges old k) && all_cover ns reads k)
-outside_closed ns reads old new k closes =
-    ap not (closes k) ∙ open_keys (in_ranges old k) (is_in_some reads k) (has_left ns k) ∙ ap (λ b. not (in_ranges old k) && b) (sym (kept_by_slots reads))
+outside_closed ns reads old new k closes = let closed = closes k in let kept = kept_by_slots reads in grind arith
   where
-    open_keys : (o a l : Bool) → not (o || (a && not l)) ≡ (not o && (not a || l))
-    open_keys o a l = grind arith
-
     kept_by_slots : (reads : List ReadSlot) → all_cover ns reads k ≡ (not (is_in_some reads k) || has_left ns k)
     kept_by_slots [] = refl
     kept_by_slots (s ∷ reads) = grind (arith, kept_by_slots reads)

@@ -1,7 +1,7 @@
 -- Whether a log is possible, and a UID possible or certain, can be decided.
 use Rattle.std.proofs.Common.{◌≡◌, ℕ, ◌<◌, List, [], ◌∷◌, Bool, true, ◌&&◌, sym, ◌∙◌, inl, inr, ⊎_elim, ◌↔◌}
 use Rattle.vic_verdict.proofs.Words.{and_parts, cases_eq, both_ways, IsPossible, IsPossibleUid, IsCertainUid, Entry, slots_of, Reading, NoReply, OneReply, ManyReplies, SomeReply, Slot, is_open, Asks, SuppliesAll, IsForcedBy}
-use Rattle.vic_verdict.proofs.Search.{search_below, Either, test_either}
+use Rattle.vic_verdict.proofs.Search.{search_below, Either, test_either, and_either, iff_either}
 use Rattle.vic_verdict.proofs.Populations.{without, without_parts, without_from, ArePossible-iff, MayHave-iff, MustHave-iff, MustHave-cases, population_without, uid_end, open_below}
 use Rattle.vic_verdict.proofs.Possibility.{IsPossible-slots, IsPossibleUid-slots, IsCertainUid-slots}
 
@@ -36,10 +36,7 @@ asks_or_not SomeReply t n b = some_or_none t n b
 supplies_or_not : (set : ℕ → Bool) (slots : List Slot) (n : ℕ) → ((w : ℕ) → set w ≡ true → w < n) → Either (SuppliesAll set slots)
 supplies_or_not set [] n b = inl tt
 supplies_or_not set (s ∷ slots) n b =
-    ⊎_elim
-    (λ here. ⊎_elim (λ rest. inl (here, rest)) (λ no. inr (λ h. no h.1)) (supplies_or_not set slots n b))
-    (λ no. inr (λ h. no h.0))
-    (asks_or_not s.reading (λ w. set w && s.answers w) n (λ w h. b w (and_parts _ _ h).0))
+    and_either (asks_or_not s.reading (λ w. set w && s.answers w) n (λ w h. b w (and_parts _ _ h).0)) (supplies_or_not set slots n b)
 
 pub IsPossible-iff : (es : List Entry) → IsPossible es ↔ SuppliesAll (is_open (slots_of es)) (slots_of es)
 IsPossible-iff es =
@@ -50,11 +47,7 @@ IsPossible-iff es =
 pub IsPossible-either : (es : List Entry) → Either (IsPossible es)
 IsPossible-either es =
     let slots = slots_of es in
-    let w = IsPossible-iff es in
-    ⊎_elim
-    (λ a. inl (w.1 a))
-    (λ no. inr (λ h. no (w.0 h)))
-    (supplies_or_not (is_open slots) slots uid_end (open_below slots))
+    iff_either (IsPossible-iff es) (supplies_or_not (is_open slots) slots uid_end (open_below slots))
 
 -- a UID is possible where it is open
 pub IsPossibleUid-iff : (es : List Entry) (u : ℕ) → IsPossible es → IsPossibleUid es u ↔ (is_open (slots_of es) u ≡ true)
@@ -63,9 +56,7 @@ IsPossibleUid-iff es u p =
     ((λ h. may.0 ((IsPossibleUid-slots es u).0 h)), (λ h. (IsPossibleUid-slots es u).1 (may.1 h)))
 
 pub IsPossibleUid-either : (es : List Entry) (u : ℕ) → IsPossible es → Either (IsPossibleUid es u)
-IsPossibleUid-either es u p =
-    let w = IsPossibleUid-iff es u p in
-    ⊎_elim (λ h. inl (w.1 h)) (λ no. inr (λ h. no (w.0 h))) (test_either (is_open (slots_of es) u))
+IsPossibleUid-either es u p = iff_either (IsPossibleUid-iff es u p) (test_either (is_open (slots_of es) u))
 
 -- a possible log's UID is certain where a slot forces it
 pub IsCertainUid-iff : (es : List Entry) (u : ℕ) → IsPossible es → IsCertainUid es u ↔ IsForcedBy (is_open (slots_of es)) (slots_of es) u

@@ -1,5 +1,5 @@
 -- A small population, gathered from what the slots of a possible log ask for.
-use Rattle.std.proofs.Common.{take-append-drop, drop, ◌≡◌, ℕ, zero, suc, ◌+◌, ◌<◌, ◌≤◌, List, [], ◌∷◌, ◌++◌, length, take, get_or, Bool, true, false, ◌||◌, Option, Some, None, refl, sym, ap, ◌∙◌, subst, arith, ⊎_elim, length-append, ◌⊎◌, ◌==◌, nat_eq, slice_get, filter, All, sum_by, eq-eqb, ne_eqb, length-take}
+use Rattle.std.proofs.Common.{take-append-drop, drop, ◌≡◌, ℕ, zero, suc, ◌+◌, ◌<◌, ◌≤◌, List, [], ◌∷◌, ◌++◌, length, take, get_or, Bool, true, false, ◌||◌, Option, Some, None, refl, sym, ap, ◌∙◌, subst, arith, inl, inr, ⊎_elim, length-append, ◌⊎◌, ◌==◌, nat_eq, slice_get, filter, All, sum_by, eq-eqb, ne_eqb, length-take}
 use Rattle.vic_verdict.proofs.Words.{cases_Bool, IsStrictlyIncreasing, both_ways, false≢true, and_parts, and_from, or_cases, or_left, or_right, false_from_ne_true, cases_eq, not-true, not_from_false, list_any-append, slice_get_within, IsUid, has, AreDifferent, Entry, Collision, Heard, Garbled, IsPopulation, CouldHaveGiven, answers_at, Reading, ManyReplies, SomeReply, reading_of, slots_of, is_open, Asks, IsWithin, AreDifferent-population, AreDifferent-filter, has_filter, has_here, has_at, has_there, MeetsAll-iff, IsUid-from, CouldHaveGiven-slots, Found, Met, needs_of, IsFoundAt, IsFound, IsMet, is_other, chosen, gathered, answering, IsPossible, IsCertainUid, SameMembers}
 use Rattle.std.proofs.lemmas.List.Kept.{AllPairs-from_increasing}
 use Rattle.std.proofs.lemmas.List.Sums.{sum_by-cons}
@@ -8,12 +8,13 @@ use Rattle.std.proofs.lemmas.Bool.{or_parts}
 use Rattle.std.proofs.lemmas.Cmp.{nat_eq_equiv}
 use Rattle.std.proofs.lemmas.Map.Keys.{IsDistinct-cons, IsDistinct-from_apart}
 use Rattle.std.proofs.lemmas.Map.Made.{length-le_from_is_member}
+use Rattle.vic_log.proofs.Sets.{filter_has}
 use Rattle.vic_log.proofs.Supply.{asks_within}
 use Rattle.vic_verdict.specs.Demands.{all_needs}
 use Rattle.vic_verdict.specs.inner.Gathered.{all_chosen}
 use Rattle.vic_verdict.specs.Explained.{HasAllHeard}
-use Rattle.vic_verdict.proofs.Choosing.{filter_yes, filter_no}
 use Rattle.vic_verdict.proofs.Decide.{IsPossibleUid-iff}
+use Rattle.vic_verdict.proofs.Demanding.{asked_two_or_one}
 use Rattle.vic_verdict.proofs.Entries.{EntryAsks, EntryForces, SuppliesBefore, SuppliesAll-places, forces_two_iff, forces_one_iff}
 use Rattle.vic_verdict.proofs.Failing.{place_of}
 use Rattle.vic_verdict.proofs.Populations.{forced, is_open-is_uid}
@@ -68,7 +69,7 @@ append_right xs ys u h = has_append xs ys u ∙ or_right _ _ h
 
 -- ---- what is chosen
 
-has_take : (n : ℕ) (xs : List ℕ) (u : ℕ) → has (take n xs) u ≡ true → has xs u ≡ true
+pub has_take : (n : ℕ) (xs : List ℕ) (u : ℕ) → has (take n xs) u ≡ true → has xs u ≡ true
 has_take n xs u h = ap (λ ys. has ys u) (sym (take-append-drop n xs)) ∙ append_left (take n xs) (drop n xs) u h
 
 chosen_parts : (avoid : Option ℕ) (f : Found) (u : ℕ) → has (chosen avoid f) u ≡ true → (has f.uids.items u ≡ true) × (is_other avoid u ≡ true)
@@ -103,10 +104,9 @@ few_chosen avoid (f ∷ fs) =
 
 -- ---- there are enough others
 
-filter_all : (p : ℕ → Bool) (xs : List ℕ) → ((u : ℕ) → has xs u ≡ true → p u ≡ true) → filter p xs ≡ xs
-filter_all p [] h = refl
-filter_all p (x ∷ xs) h =
-    filter_yes p x xs (h x (has_here x xs)) ∙ ap (λ ys. x ∷ ys) (filter_all p xs (λ u m. h u (has_there u x xs m)))
+-- those of which all are others
+all_others : (avoid : Option ℕ) (xs : List ℕ) → AreDifferent xs → ((u : ℕ) → has xs u ≡ true → is_other avoid u ≡ true) → length xs ≤ length (filter (is_other avoid) xs)
+all_others avoid xs d all = no_more xs (filter (is_other avoid) xs) d (λ u h. filter_has (is_other avoid) xs u (and_from _ _ h (all u h)))
 
 is_other-from : (a u : ℕ) → (u ≡ a → ⊥) → is_other (Some a) u ≡ true
 is_other-from a u ne = not_from_false _ (ne_eqb u a ne)
@@ -116,28 +116,20 @@ is_other-self a h = both_ways (a == a) (not-true _ h) (eq-eqb a a refl)
 
 -- one at most is avoided
 others_but_one : (a : ℕ) (xs : List ℕ) → AreDifferent xs → length xs ≤ length (filter (is_other (Some a)) xs) + 1
-others_but_one a [] d = omega arith
-others_but_one a (x ∷ xs) d =
-    let p = is_other (Some a) in
-    ⊎_elim
-    (λ e.
-    let rest : filter p xs ≡ xs = filter_all p xs (λ u m. is_other-from a u (λ k. both_ways _ d.0 (subst (λ z. has xs z ≡ true) (k ∙ sym e) m))) in
-    let none : p x ≡ false = subst (λ z. p z ≡ false) (sym e) (false_from_ne_true _ (is_other-self a)) in
-    let n = ap (λ ys. length ys) (filter_no p x xs none ∙ rest) in
-    omega arith)
-    (λ ne.
-    let n = ap (λ ys. length ys) (filter_yes p x xs (is_other-from a x ne)) in
-    let h = others_but_one a xs d.1 in
-    omega arith)
-    (cases_eq x a)
+others_but_one a xs d =
+    let others = filter (is_other (Some a)) xs in
+    let le = no_more xs (a ∷ others) d (λ u h. ⊎_elim
+        (λ e. has_at u a others e)
+        (λ ne. has_there u a others (filter_has (is_other (Some a)) xs u (and_from _ _ h (is_other-from a u ne))))
+        (cases_eq u a)) in
+    omega arith
 
 -- the UID to avoid isn't one of exactly as many as are needed
 abbrev IsSpared : Option ℕ → List ℕ → ℕ → Type 0
 IsSpared avoid xs n = (a : ℕ) → avoid ≡ Some a → length xs ≡ n → has xs a ≡ true → ⊥
 
 enough_others : (avoid : Option ℕ) (xs : List ℕ) (n : ℕ) → AreDifferent xs → n ≤ length xs → IsSpared avoid xs n → n ≤ length (filter (is_other avoid) xs)
-enough_others None xs n d h spared =
-    let e = ap (λ ys. length ys) (filter_all (is_other None) xs (λ u m. refl)) in omega arith
+enough_others None xs n d h spared = let le = all_others None xs d (λ u m. refl) in omega arith
 enough_others (Some a) xs n d h spared =
     ⊎_elim
     (λ m.
@@ -145,17 +137,17 @@ enough_others (Some a) xs n d h spared =
     let most = others_but_one a xs d in
     omega arith)
     (λ out.
-    let e = ap (λ ys. length ys) (filter_all (is_other (Some a)) xs (λ u m. is_other-from a u (λ k. both_ways _ out (subst (λ z. has xs z ≡ true) k m)))) in
+    let le = all_others (Some a) xs d (λ u m. is_other-from a u (λ k. both_ways _ out (subst (λ z. has xs z ≡ true) k m))) in
     omega arith)
     (cases_Bool (has xs a))
 
-two_of : (xs : List ℕ) → AreDifferent xs → 2 ≤ length xs → Asks ManyReplies (has (take 2 xs))
+pub two_of : (xs : List ℕ) → AreDifferent xs → 2 ≤ length xs → Asks ManyReplies (has (take 2 xs))
 two_of [] d h = absurd (omega arith)
 two_of (x ∷ []) d h = absurd (omega arith)
 two_of (x ∷ y ∷ xs) d h =
     (x, y, (λ e. both_ways _ d.0 (has_at x y xs e)), has_here x (y ∷ []), has_there y x (y ∷ []) (has_here y []))
 
-one_of : (xs : List ℕ) → 1 ≤ length xs → Asks SomeReply (has (take 1 xs))
+pub one_of : (xs : List ℕ) → 1 ≤ length xs → Asks SomeReply (has (take 1 xs))
 one_of [] h = absurd (omega arith)
 one_of (x ∷ xs) h = (x, has_here x [])
 
@@ -177,15 +169,13 @@ certain_there es i e u k f p population could =
 abbrev pub AvoidsNoneCertain : List Entry → Option ℕ → Type 0
 AvoidsNoneCertain es avoid = (a : ℕ) → avoid ≡ Some a → IsCertainUid es a → ⊥
 
-spared_at : (es : List Entry) (i : ℕ) (f : Found) (avoid : Option ℕ) (o : Option Entry) → slice_get es i ≡ o → AvoidsNoneCertain es avoid → IsFoundAt es i f → IsSpared avoid f.uids.items f.need
-spared_at es i f avoid None k n h a is long m = let need = ap needs_of (sym k) ∙ h.need in absurd (omega arith)
-spared_at es i f avoid (Some Collision) k n h a is long m =
-    let need : 2 ≡ f.need = ap needs_of (sym k) ∙ h.need in
-    n a is (certain_there es i Collision a k ((forces_two_iff _ f.uids.items a h.uids).1 (long ∙ sym need, m)))
-spared_at es i f avoid (Some Garbled) k n h a is long m =
-    let need : 1 ≡ f.need = ap needs_of (sym k) ∙ h.need in
-    n a is (certain_there es i Garbled a k ((forces_one_iff _ f.uids.items a h.uids).1 (long ∙ sym need, m)))
-spared_at es i f avoid (Some e) k n h a is long m = let need = ap needs_of (sym k) ∙ h.need in absurd (omega arith)
+-- exactly as many as are needed are forced there
+pub exact_forces : (es : List Entry) (i u : ℕ) (f : Found) → IsFoundAt es i f → length f.uids.items ≡ f.need → has f.uids.items u ≡ true → (e : Entry) × (slice_get es i ≡ Some e) × EntryForces (reading_of e) (answering (is_open (slots_of es)) es i) u
+exact_forces es i u f h long m =
+    ⊎_elim
+    (λ w. (Collision, w.0, (forces_two_iff _ f.uids.items u h.uids).1 (long ∙ w.1, m)))
+    (λ w. (Garbled, w.0, (forces_one_iff _ f.uids.items u h.uids).1 (long ∙ w.1, m)))
+    (asked_two_or_one (slice_get es i) f.need h.need h.asked)
 
 -- so there are enough others
 found_others : (es : List Entry) (f : Found) (avoid : Option ℕ) → AvoidsNoneCertain es avoid → IsFound es f → AreDifferent (filter (is_other avoid) f.uids.items) × (f.need ≤ length (filter (is_other avoid) f.uids.items))
@@ -193,35 +183,31 @@ found_others es f avoid n h =
     let at = h.1 in
     let different = at.uids.different in (
       AreDifferent-filter (is_other avoid) f.uids.items different,
-      enough_others avoid f.uids.items f.need different at.enough (spared_at es h.0 f avoid (slice_get es h.0) refl n at),
+      enough_others avoid f.uids.items f.need different at.enough (λ a is long m. let w = exact_forces es h.0 a f at long m in n a is (certain_there es h.0 w.0 a w.1 w.2)),
     )
 
 -- ---- the UIDs that were gathered
+
+-- each was heard, and is certain, or chosen of what was found
+gathered_from : (es : List Entry) (m : Met) (avoid : Option ℕ) (u : ℕ) → IsMet es m → has (gathered avoid m) u ≡ true → IsCertainUid es u ⊎ ((f : Found) × IsFound es f × (has (chosen avoid f) u ≡ true))
+gathered_from es m avoid u met h =
+    ⊎_elim
+    (λ a. let heard = (met.heard u).0 a in inl (subst (IsCertainUid es) heard.3 (Heard-certain es heard.0 heard.1 heard.2)))
+    (λ b. inr (all_chosen_from avoid (IsFound es) m.found.items u met.found.found b))
+    (append_cases m.heard.items (all_chosen avoid m.found.items) u h)
 
 -- all are open
 gathered_open : (es : List Entry) (m : Met) (avoid : Option ℕ) → IsPossible es → IsMet es m → IsWithin (has (gathered avoid m)) (is_open (slots_of es))
 gathered_open es m avoid possible met u h =
     ⊎_elim
-    (λ a.
-    let heard = (met.heard u).0 a in
-    let certain = subst (IsCertainUid es) heard.3 (Heard-certain es heard.0 heard.1 heard.2) in
-    (IsPossibleUid-iff es u possible).0 (possible.0, possible.1, possible.2, certain possible.0 possible.1 possible.2))
-    (λ b.
-    let from = all_chosen_from avoid (IsFound es) m.found.items u met.found.found b in
-    (and_parts _ _ (from.1.1.uids.members u (chosen_parts avoid from.0 u from.2).0)).0)
-    (append_cases m.heard.items (all_chosen avoid m.found.items) u h)
+    (λ certain. (IsPossibleUid-iff es u possible).0 (possible.0, possible.1, possible.2, certain possible.0 possible.1 possible.2))
+    (λ from. (and_parts _ _ (from.1.1.uids.members u (chosen_parts avoid from.0 u from.2).0)).0)
+    (gathered_from es m avoid u met h)
 
 -- the one to avoid isn't there
 gathered_other : (es : List Entry) (m : Met) (a : ℕ) → (IsCertainUid es a → ⊥) → IsMet es m → has (gathered (Some a) m) a ≡ true → ⊥
 gathered_other es m a n met h =
-    ⊎_elim
-    (λ b.
-    let heard = (met.heard a).0 b in
-    n (subst (IsCertainUid es) heard.3 (Heard-certain es heard.0 heard.1 heard.2)))
-    (λ b.
-    let from = all_chosen_from (Some a) (IsFound es) m.found.items a met.found.found b in
-    is_other-self a (chosen_parts (Some a) from.0 a from.2).1)
-    (append_cases m.heard.items (all_chosen (Some a) m.found.items) a h)
+    ⊎_elim n (λ from. is_other-self a (chosen_parts (Some a) from.0 a from.2).1) (gathered_from es m (Some a) a met h)
 
 -- they are few
 gathered_few : (es : List Entry) (m : Met) (avoid : Option ℕ) (us : List ℕ) → IsMet es m → AreDifferent us → IsWithin (has us) (has (gathered avoid m)) → (heard : List ℕ) → HasAllHeard es heard → length us ≤ length heard + all_needs es

@@ -56,24 +56,21 @@ first_entries n lines = sym (take-map (λ (l : LogLine). l.item) n lines)
 
 -- a contradiction of the first lines is one of all, and what is known of the lines before it holds
 pub front_contradiction : (lines : List LogLine) (n : ℕ) (c : Contradiction) → IsContradiction (entries (take n lines)) c → IsContradiction (entries lines) c
-front_contradiction lines n c h = record {
-  impossible = record {
-    within = let long = length-map lines (λ (l : LogLine). l.item) in omega (arith, below);
-    impossible = λ possible. h.impossible.impossible (subst IsPossible (sym (same (c.at + 1) (omega (arith, short)))) possible);
-  };
-  before = λ e. subst IsPossible (same c.at (omega (arith, short))) (h.before e);
-} where
-  small : length (entries (take n lines)) ≡ length (take n lines)
-  small = length-map (take n lines) (λ (l : LogLine). l.item)
-
-  short : c.at < n
-  short = let within = h.impossible.within in let size = length-take n lines in grind (arith, within, small, size)
-
-  below : c.at < length lines
-  below = let within = h.impossible.within in let size = length-take n lines in grind (arith, within, small, size)
-
-  same : (m : ℕ) → m ≤ n → take m (entries (take n lines)) ≡ take m (entries lines)
-  same m le = sym (first_entries m (take n lines)) ∙ ap entries (take-take m n lines le) ∙ first_entries m lines
+front_contradiction lines n c h =
+    let within = h.impossible.within in
+    let small = length-map (take n lines) (λ (l : LogLine). l.item) in
+    let long = length-map lines (λ (l : LogLine). l.item) in
+    let size = length-take n lines in
+    let short : c.at < n = grind (arith, within, small, size) in
+    let below : c.at < length lines = grind (arith, within, small, size) in
+    let same = λ (m : ℕ) (le : m ≤ n). sym (first_entries m (take n lines)) ∙ (ap entries (take-take m n lines le) ∙ first_entries m lines) in
+    record {
+      impossible = record {
+        within = omega arith;
+        impossible = λ possible. h.impossible.impossible (subst IsPossible (sym (same (c.at + 1) (omega arith))) possible);
+      };
+      before = λ e. subst IsPossible (same c.at (omega arith)) (h.before e);
+    }
 
 pub between_first : (lines : List LogLine) (low i : ℕ) → low ≤ i → IsPossible (entries (take low lines)) → IsContradictedAt (entries lines) i → Between lines low (i + 1)
 between_first lines low i le possible h =

@@ -1,6 +1,7 @@
 -- Whether the UIDs that were heard could have answered, from position to position.
 use Rattle.std.proofs.Common.{◌≡◌, ℕ, ◌+◌, ◌<◌, ◌++◌, ◌==◌, List, [], ◌∷◌, take, drop, ◌≤◌, Bool, true, false, not, ◌&&◌, Some, refl, sym, ap, ◌∙◌, subst, arith, inl, inr, slice_get, Any, ◌⊎◌, if◌then◌else◌, All, IsPermutation, take-append-drop, eq-eqb, eqb-true}
 use Rattle.vic_verdict.proofs.Words.{not_from_false, ReadSlot, Demand, Any-from_list_any, list_any, list_any-IsPermutation, cases_lt, and_parts, and_from, both_ways, false_from_ne_true, nat_tests, list_any_at, slice_get_within, IsUid, is_uid, mirror, Reply, Entry, Collision, Heard, Garbled, mask_at, lies_in_some, is_quiet, answers_at, reading_of, slots_of, is_open, answers_agree, IsUid-from, Mention, IsPossible, IsContradictedAt, answering, needs, reply_place, IsFirstQuietReply, is_quiet_by}
+use Rattle.std.proofs.lemmas.Bool.{true_from_ne_false}
 use Rattle.std.proofs.lemmas.List.Sorted.{IsPermutation-sym}
 use Rattle.std.proofs.lemmas.List.Elements.{All-weaker}
 use Rattle.vic_log.proofs.Places.{agree_upto}
@@ -28,13 +29,10 @@ front_asks : (es : List Entry) (i : ℕ) (e : Entry) → slice_get es i ≡ Some
 front_asks es i e k possible = supplied_each (take (i + 1) es) i e (taken (i + 1) es i (omega arith) ∙ k) possible
 
 -- who is heard answers there
-heard_answers : (es : List Entry) (i : ℕ) (r : Reply) → slice_get es i ≡ Some (Heard r) → IsPossible (take (i + 1) es) → answers_at es i r.uid ≡ true
-heard_answers es i r k possible = front_answers es i (Heard r) r.uid k ∙ (and_parts _ _ (front_asks es i (Heard r) k possible)).1
-
 up_to_it : (es : List Entry) (i : ℕ) (r : Reply) → slice_get es i ≡ Some (Heard r) → (answers_at es i r.uid ≡ true → ⊥) → IsContradictedAt es i
 up_to_it es i r k none = record {
   within = slice_get_within es i (Heard r) k;
-  impossible = λ possible. none (heard_answers es i r k possible);
+  impossible = λ possible. none (front_answers es i (Heard r) r.uid k ∙ (and_parts _ _ (front_asks es i (Heard r) k possible)).1);
 }
 
 -- a reply by a UID outside of the mask
@@ -70,23 +68,15 @@ place_of n e = ap (λ b. if b then n.at else 0) e
 
 -- whoever is Quiet at its reply was heard there
 quiet_place : (ns : List Mention) (n : Mention) → is_quiet_by ns n.key (reply_place n) ≡ true → n.is_heard ≡ true
-quiet_place ns n e = go n.is_heard refl
-  where
-    go : (b : Bool) → n.is_heard ≡ b → n.is_heard ≡ true
-    go true f = f
-    go false f = absurd (both_ways _ (none_at_start ns n.key) (subst (λ b. is_quiet_by ns n.key (if b then n.at else 0) ≡ true) f e))
+quiet_place ns n e = true_from_ne_false n.is_heard (λ f. both_ways _ (none_at_start ns n.key) (rw f at e))
 
 -- ---- which UIDs were heard where
 
 -- the mention is of a UID that was heard before position i, from a position on, in a slot of a mask that it lies in
 pub record IsHeardAt (es : List Entry) (from i : ℕ) (n : Mention) : Type 0 where
-  pub reply : Reply
-  pub heard : slice_get es n.at ≡ Some (Heard reply)
-  pub key : n.key ≡ mirror reply.uid
-  pub is_uid : IsUid reply.uid
-  pub inside : lies_in_some (mask_at es n.at) reply.uid ≡ true
-  pub since : from ≤ n.at
-  pub before : n.at < i
+  pub told : IsReplyOf es from i n
+  pub is_uid : IsUid told.reply.uid
+  pub inside : lies_in_some (mask_at es n.at) told.reply.uid ≡ true
 
 abbrev HeardIn : List Entry → ℕ → ℕ → Mention → Type 0
 HeardIn es from i n = n.is_heard ≡ true → IsHeardAt es from i n
@@ -108,7 +98,7 @@ are_heard es from i ns ss ds h ready before = record {
   replies = subst (All (HeardIn es from i)) (sym h.mentions) (All-weaker (λ (n : Mention). n.is_heard ≡ true → IsReplyOf es from i n) (HeardIn es from i) (λ n f late.
       let it = f late in
       let w = h.inside n.at it.reply it.since it.before it.heard in
-      record { reply = it.reply; heard = it.heard; key = it.key; is_uid = w.0; inside = w.1; since = it.since; before = it.before }) (mentions_from es from i) (mentions_replies es from i));
+      record { told = it; is_uid = w.0; inside = w.1 }) (mentions_from es from i) (mentions_replies es from i));
   answer = λ j r lt k. elim (cases_lt j from) [
     | inl early ↦ inl (before j r early k)
     | inr late ↦ inr (subst (Any (IsReplyAt j)) (sym h.mentions) (any_reply j _ (Any-from_list_any (is_reply_at j) (mentions_from es from i) (reply_mentioned es from i j r late lt k))))
@@ -135,11 +125,12 @@ quiet_reply es from i at ns a some =
     let late = quiet_place ns n (subst (λ p. is_quiet_by ns n.key p ≡ true) (sym place) parts.1) in
     let here : n.at ≡ at = sym (place_of n late) ∙ place in
     let it : IsHeardAt es from i n = subst (HeardIn es from i) w.3 (a.replies w.0 n w.2) late in
+    let told = it.told in
     subst (QuietReply es from) here (record {
-      reply = it.reply;
-      heard = it.heard;
-      quiet = sym (a.quiet n.at it.reply.uid it.since (omega arith) it.is_uid) ∙ (ap (λ key. is_quiet_by ns key n.at) (sym it.key) ∙ (ap (is_quiet_by ns n.key) here ∙ parts.1));
-      since = it.since;
+      reply = told.reply;
+      heard = told.heard;
+      quiet = sym (a.quiet n.at told.reply.uid told.since (omega arith) it.is_uid) ∙ (ap (λ key. is_quiet_by ns key n.at) (sym told.key) ∙ (ap (is_quiet_by ns n.key) here ∙ parts.1));
+      since = told.since;
     })
 
 pub quiet_contradicts : (es : List Entry) (from i at : ℕ) (ns : List Mention) → AreHeard es from i ns → IsQuietReply ns at → IsContradictedAt es at
@@ -161,32 +152,25 @@ answers_before es from i cut ns a first j r below early k =
       | inl y ↦ y
       | inr w ↦
           let n : Mention = w.1 in
-          let late : n.is_heard ≡ true = w.4.1 in
           let at : n.at ≡ j = w.4.0 in
-          let place : reply_place n ≡ n.at = place_of n late in
-          let it : IsHeardAt es from i n = subst (HeardIn es from i) w.3 (a.replies w.0 n w.2) late in
-          let before = it.before in
-          let silent : is_quiet_reply ns n ≡ false = false_from_ne_true (is_quiet_reply ns n) (λ quiet.
-          let here : IsQuietReply ns (reply_place n) = list_any_at (λ (m : Mention). (reply_place m == reply_place n) && is_quiet_by ns m.key (reply_place n)) ns w.0 n w.2 (subst (λ (m : Mention). ((reply_place m == reply_place n) && is_quiet_by ns m.key (reply_place n)) ≡ true) (sym w.3) (and_from (reply_place n == reply_place n) (is_quiet_reply ns n) (eq-eqb (reply_place n) (reply_place n) refl) quiet)) in
-          let le : cut ≤ reply_place n = first (reply_place n) here in
-          absurd (omega arith)) in
-          let awake : is_quiet es n.at it.reply.uid ≡ false = sym (a.quiet n.at it.reply.uid it.since (omega arith) it.is_uid) ∙ (ap (λ key. is_quiet_by ns key n.at) (sym it.key) ∙ (ap (is_quiet_by ns n.key) (sym place) ∙ silent)) in
-          let here = and_from _ _ it.inside (not_from_false (is_quiet es n.at it.reply.uid) awake) in
-          let both : Some (Heard it.reply) ≡ Some (Heard r) = sym it.heard ∙ subst (λ m. slice_get es m ≡ Some (Heard r)) (sym at) k in
-          let same : it.reply ≡ r = cc in
-          subst (λ m. Answers es m r.uid) at (subst (Answers es n.at) (ap (λ (x : Reply). x.uid) same) (it.is_uid, here))
+          let it : IsHeardAt es from i n = subst (HeardIn es from i) w.3 (a.replies w.0 n w.2) w.4.1 in
+          let told = it.told in
+          let awake : is_quiet es n.at told.reply.uid ≡ false = false_from_ne_true _ (λ quiet.
+              let key = ap (λ key. is_quiet_by ns key n.at) told.key ∙ (a.quiet n.at told.reply.uid told.since (omega arith) it.is_uid ∙ quiet) in
+              let here = list_any_at (λ (m : Mention). (reply_place m == n.at) && is_quiet_by ns m.key n.at) ns w.0 n w.2 (subst (λ (m : Mention). ((reply_place m == n.at) && is_quiet_by ns m.key n.at) ≡ true) (sym w.3) (and_from _ _ (eq-eqb (reply_place n) n.at (place_of n w.4.1)) key)) in
+              let le : cut ≤ n.at = first n.at here in
+              absurd (omega arith)) in
+          let both : Some (Heard told.reply) ≡ Some (Heard r) = sym told.heard ∙ (ap (slice_get es) at ∙ k) in
+          let same : told.reply ≡ r = cc in
+          subst (λ m. Answers es m r.uid) at (subst (λ (x : Reply). Answers es n.at x.uid) same (it.is_uid, and_from _ _ it.inside (not_from_false _ awake)))
     ]
 
 -- ---- in another order
 
-any_alike : (p q : Mention → Bool) → ((n : Mention) → p n ≡ q n) → (ns : List Mention) → list_any p ns ≡ list_any q ns
-any_alike p q h [] = refl
-any_alike p q h (n ∷ ns) = rw (h n, any_alike p q h ns) refl
-
 quiet_permuted : (ns ms : List Mention) (at : ℕ) → IsPermutation ns ms → IsQuietReply ms at → IsQuietReply ns at
 quiet_permuted ns ms at m e =
-    list_any-IsPermutation (λ n. (reply_place n == at) && is_quiet_by ns n.key at) ns ms m
-    ∙ (any_alike _ _ (λ n. ap (λ b. (reply_place n == at) && b) (sym (silenced_permuted ns ms n.key at m))) ms ∙ e)
+    let quiet : (k : ℕ) → is_quiet_by ns k at ≡ is_quiet_by ms k at = λ k. sym (silenced_permuted ns ms k at m) in
+    list_any-IsPermutation (λ n. (reply_place n == at) && is_quiet_by ns n.key at) ns ms m ∙ simp quiet e
 
 pub first_permuted : (ns ms : List Mention) (end at : ℕ) → IsPermutation ns ms → IsFirstQuietReply ms end at → IsFirstQuietReply ns end at
 first_permuted ns ms end at m f = record {

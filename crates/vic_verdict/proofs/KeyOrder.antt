@@ -1,6 +1,7 @@
 -- Lists of UIDs by their keys, and which of them aren't in a set.
 use Rattle.std.proofs.Common.{◌≡◌, ℕ, ◌+◌, ◌<◌, ◌^◌, ◌==◌, ◌||◌, List, [], ◌∷◌, ◌++◌, length, take, get_or, Bool, true, false, refl, sym, ap, ◌∙◌, subst, arith, ⊎_elim, ◌&&◌, not, nat_eq, eq-eqb, eqb-true, ne_eqb}
-use Rattle.vic_verdict.proofs.Words.{or_false, list_all, both_ways, cases_Bool, and_from, and_parts, not-true, not_from_false, or_cases, or_right, or_left, list_any-append, list_any_more, Any-from_list_any, IsUid, has, is_uid, mirror, uid_of, uid_of_mirror, has_key, has_here, IsUid-from, is_uid_from, AreKeysOf, IsFailing, IsListOf, NoSuch}
+use Rattle.vic_verdict.proofs.Words.{or_false, list_all, both_ways, cases_Bool, and_from, and_parts, not-true, not_from_false, or_cases, or_right, or_left, list_any-append, list_any_more, Any-from_list_any, IsUid, has, is_uid, mirror, uid_of, uid_of_mirror, has_key, has_here, has_there, IsUid-from, is_uid_from, AreKeysOf, IsFailing, IsListOf, NoSuch}
+use Rattle.std.proofs.lemmas.Bool.{true_from_ne_false}
 use Rattle.std.proofs.lemmas.List.Folds.{list_all_at}
 use Rattle.vic_frame.proofs.MirrorLaws.{mirror_of_uid, same_test}
 use Rattle.vic_tree.specs.OpenSet.{AreOutside}
@@ -22,12 +23,15 @@ outside_are test keys us vs k out = record {
 
 -- ---- all of a list
 
+pub not_all : (p : ℕ → Bool) (us : List ℕ) → list_all p us ≡ false → (u : ℕ) × (has us u ≡ true) × (p u ≡ false)
+not_all p [] h = absurd (both_ways _ h refl)
+not_all p (x ∷ us) h = ⊎_elim
+    (λ yes. let w = not_all p us (sym (ap (λ b. b && list_all p us) yes) ∙ h) in (w.0, has_there w.0 x us w.1, w.2))
+    (λ out. (x, has_here x us, out))
+    (cases_Bool (p x))
+
 all_inside : (test : ℕ → Bool) (us : List ℕ) → NoSuch (IsFailing us test) → list_all test us ≡ true
-all_inside test [] none = refl
-all_inside test (u ∷ us) none =
-    and_from _ _
-    (⊎_elim (λ e. e) (λ e. absurd (none u (or_left _ _ (eq-eqb u u refl), e))) (cases_Bool (test u)))
-    (all_inside test us (λ v fails. none v (or_right _ _ fails.0, fails.1)))
+all_inside test us none = true_from_ne_false _ (λ e. let w = not_all test us e in none w.0 (w.1, w.2))
 
 one_outside : (test : ℕ → Bool) (us : List ℕ) (u : ℕ) → IsFailing us test u → list_all test us ≡ false
 one_outside test us u fails =

@@ -4,9 +4,12 @@ use Rattle.vic_verdict.proofs.Words.{list_all, cases_Bool, cases_eq, cases_lt, a
 use Rattle.vic_verdict.specs.inner.Possible.{NoneRulesOutAfter}
 use Rattle.vic_verdict.specs.inner.Replies.{RepliesAnswer}
 use Rattle.vic_verdict.specs.Demands.{needs_at, Meets}
-use Rattle.vic_verdict.proofs.Entries.{EntryAsks, EntryForces, forced_step, forces_two_iff, forces_one_iff, three_in_two}
-use Rattle.vic_verdict.proofs.Demanding.{asked_two_or_one}
+use Rattle.vic_verdict.proofs.Entries.{EntryAsks, EntryForces, forced_step}
+use Rattle.std.proofs.lemmas.Bool.{true_from_ne_false}
+use Rattle.vic_log.proofs.Supply.{asks_within}
+use Rattle.vic_verdict.proofs.Gathering.{exact_forces, has_take, no_more, one_of, two_of}
 use Rattle.vic_verdict.specs.Rising.{Adds}
+use Rattle.vic_verdict.proofs.KeyOrder.{not_all}
 use Rattle.vic_verdict.proofs.Supplied.{supplied_all}
 
 -- ---- who was heard
@@ -15,53 +18,38 @@ pub has_pushed : (us : List ℕ) (v u : ℕ) → has (us ++ v ∷ []) u ≡ true
 has_pushed us v u h =
     ⊎_elim (λ a. inl a) (λ b. ⊎_elim (λ e. inr e) (λ n. absurd (false≢true n)) (has_cases u v [] b)) (or_cases _ _ (sym (list_any-append (nat_eq u) us (v ∷ [])) ∙ h))
 
-pub heard_kept : (es : List Entry) (i : ℕ) (us : List ℕ) (e : Entry) → slice_get es i ≡ Some e → ((r : Reply) → e ≡ Heard r → ⊥) → HasHeard es i us → HasHeard es (i + 1) us
-heard_kept es i us e k none h u = (
-  (λ m. let w = (h u).0 m in let below = w.2 in (w.0, w.1, omega arith, w.3, w.4)),
-  (λ w.
-      let below = w.2 in
-      (h u).1 (
-        w.0,
-        w.1,
-        ⊎_elim
-            (λ here. absurd (none w.1 (let both : Some e ≡ Some (Heard w.1) = sym k ∙ subst (λ n. slice_get es n ≡ Some (Heard w.1)) here w.3 in cc)))
-            (λ ne. omega arith)
-            (cases_eq w.0 i),
-        w.3,
-        w.4,
-      )),
-)
-
-pub heard_pushed : (es : List Entry) (i : ℕ) (us vs : List ℕ) (r : Reply) (v : ℕ) → slice_get es i ≡ Some (Heard r) → v ≡ r.uid → vs ≡ us ++ v ∷ [] → HasHeard es i us → HasHeard es (i + 1) vs
-heard_pushed es i us vs r v k is all h = subst (HasHeard es (i + 1)) (sym all) (λ u. (
+-- an entry more, and whom it heard
+heard_next : (es : List Entry) (i : ℕ) (us vs : List ℕ) (e : Entry) → slice_get es i ≡ Some e → ((u : ℕ) → (has vs u ≡ true) ↔ ((has us u ≡ true) ⊎ ((r : Reply) × (e ≡ Heard r) × (r.uid ≡ u)))) → HasHeard es i us → HasHeard es (i + 1) vs
+heard_next es i us vs e k is h u = (
   (λ m. ⊎_elim
       (λ old. let w = (h u).0 old in let below = w.2 in (w.0, w.1, omega arith, w.3, w.4))
-      (λ new. (i, r, omega arith, k, sym is ∙ sym new))
-      (has_pushed us v u m)),
+      (λ new. (i, new.0, omega arith, k ∙ ap (λ x. Some x) new.1, new.2))
+      ((is u).0 m)),
   (λ w.
       let below = w.2 in
-      list_any-append (nat_eq u) us (v ∷ [])
-      ∙ ⊎_elim
-      (λ here.
-      let both : Some (Heard w.1) ≡ Some (Heard r) = sym w.3 ∙ subst (λ n. slice_get es n ≡ Some (Heard r)) (sym here) k in
-      let same : w.1 ≡ r = cc in
-      or_right (has us u) (has (v ∷ []) u) (has_at u v [] (sym w.4 ∙ (ap (λ (x : Reply). x.uid) same ∙ sym is))))
-      (λ ne. or_left (has us u) (has (v ∷ []) u) ((h u).1 (w.0, w.1, omega arith, w.3, w.4)))
-      (cases_eq w.0 i)),
-))
+      (is u).1 (⊎_elim
+      (λ here. let both : Some e ≡ Some (Heard w.1) = sym k ∙ (ap (slice_get es) (sym here) ∙ w.3) in inr (w.1, cc, w.4))
+      (λ ne. inl ((h u).1 (w.0, w.1, omega arith, w.3, w.4)))
+      (cases_eq w.0 i))),
+)
+
+pub heard_kept : (es : List Entry) (i : ℕ) (us : List ℕ) (e : Entry) → slice_get es i ≡ Some e → ((r : Reply) → e ≡ Heard r → ⊥) → HasHeard es i us → HasHeard es (i + 1) us
+heard_kept es i us e k none h = heard_next es i us us e k (λ u. ((λ m. inl m), (λ w. ⊎_elim (λ m. m) (λ new. absurd (none new.0 new.1)) w))) h
+
+pub heard_pushed : (es : List Entry) (i : ℕ) (us vs : List ℕ) (r : Reply) (v : ℕ) → slice_get es i ≡ Some (Heard r) → v ≡ r.uid → vs ≡ us ++ v ∷ [] → HasHeard es i us → HasHeard es (i + 1) vs
+heard_pushed es i us vs r v k is all h = subst (HasHeard es (i + 1)) (sym all) (heard_next es i us (us ++ v ∷ []) (Heard r) k (λ u. (
+  (λ m. ⊎_elim (λ old. inl old) (λ new. inr (r, refl, sym is ∙ sym new)) (has_pushed us v u m)),
+  (λ w. list_any-append (nat_eq u) us (v ∷ []) ∙ ⊎_elim
+      (λ old. or_left (has us u) (has (v ∷ []) u) old)
+      (λ new. let same : r ≡ new.0 = cc in or_right (has us u) (has (v ∷ []) u) (has_at u v [] (sym new.2 ∙ (ap (λ (x : Reply). x.uid) (sym same) ∙ sym is))))
+      w),
+)) h)
 
 -- ---- whether they are open
 
 all_has : (p : ℕ → Bool) (us : List ℕ) (u : ℕ) → list_all p us ≡ true → has us u ≡ true → p u ≡ true
 all_has p [] u h k = absurd (false≢true k)
 all_has p (x ∷ us) u h k = let same = eqb-true u x in grind (arith, all_has p us u)
-
-not_all : (p : ℕ → Bool) (us : List ℕ) → list_all p us ≡ false → (u : ℕ) × (has us u ≡ true) × (p u ≡ false)
-not_all p [] h = absurd (both_ways _ h refl)
-not_all p (x ∷ us) h = ⊎_elim
-    (λ yes. let w = not_all p us (sym (ap (λ b. b && list_all p us) yes) ∙ h) in (w.0, has_there w.0 x us w.1, w.2))
-    (λ out. (x, has_here x us, out))
-    (cases_Bool (p x))
 
 -- some slot heard a UID that isn't open
 abbrev pub LacksHeard : List Entry → Type 0
@@ -88,30 +76,25 @@ heard_lacks es n set us same h some =
 
 -- ---- what makes a log possible
 
-two_of : (t : ℕ → Bool) (xs : List ℕ) → AreDifferent xs → ((u : ℕ) → has xs u ≡ true → t u ≡ true) → 2 ≤ length xs → Asks ManyReplies t
-two_of t [] d h n = absurd (omega arith)
-two_of t (x ∷ []) d h n = absurd (omega arith)
-two_of t (x ∷ y ∷ xs) d h n = (x, y, (λ e. both_ways _ d.0 (has_at x y xs e)), h x (has_here x (y ∷ xs)), h y (has_there y x (y ∷ xs) (has_here y xs)))
-
-one_of : (t : ℕ → Bool) (xs : List ℕ) → ((u : ℕ) → has xs u ≡ true → t u ≡ true) → 1 ≤ length xs → Asks SomeReply t
-one_of t [] h n = absurd (omega arith)
-one_of t (x ∷ xs) h n = (x, h x (has_here x xs))
-
 -- what meets position i, and how many they are
-record MetBy (es : List Entry) (i n : ℕ) : Type 0 where
-  uids : List ℕ
-  different : AreDifferent uids
-  answer : (u : ℕ) → has uids u ≡ true → answering (is_open (slots_of es)) es i u ≡ true
-  enough : n ≤ length uids
+record MetBy (es : List Entry) (fs : List Found) (i n : ℕ) : Type 0 where
+  place : ℕ
+  found : Found
+  below : place < length fs
+  is : get_or fs place found ≡ found
+  need : found.need ≡ n
+  different : AreDifferent found.uids.items
+  answer : (u : ℕ) → has found.uids.items u ≡ true → answering (is_open (slots_of es)) es i u ≡ true
+  enough : n ≤ length found.uids.items
 
-met_by : (es : List Entry) (fs : List Found) (i n : ℕ) → AreFound es fs → needs_at es i ≡ n → 0 < n → MetBy es i n
+met_by : (es : List Entry) (fs : List Found) (i n : ℕ) → AreFound es fs → needs_at es i ≡ n → 0 < n → MetBy es fs i n
 met_by es fs i n a e some =
     let w = a.met i (omega arith) in
-    let f : Found = w.1 in
-    let at = subst (IsFound es) w.3 (a.found w.0 f w.2) in
-    let m : Meets es f i = w.4 in
+    let at = subst (IsFound es) w.3 (a.found w.0 w.1 w.2) in
+    let m : Meets es w.1 i = w.4 in
     let enough = at.1.enough in
-    record { uids = f.uids.items; different = at.1.uids.different; answer = m.answer; enough = omega arith }
+    let need : w.1.need ≡ n = sym m.need ∙ e in
+    record { place = w.0; found = w.1; below = w.2; is = w.3; need = need; different = at.1.uids.different; answer = m.answer; enough = omega arith }
 
 pub met_is_possible : (es : List Entry) (set : ℕ → Bool) (us : List ℕ) (fs : List Found) (n : ℕ) → RepliesAnswer es → SameUids set (is_open (slots_of es)) → HasHeard es n us → length es ≤ n → list_all set us ≡ true → AreFound es fs → IsPossible es
 met_is_possible es set us fs n replies same heard long all found = supplied_all es (λ i e below k. go i e k)
@@ -124,10 +107,10 @@ met_is_possible es set us fs n replies same heard long all found = supplied_all 
         and_from _ _ (sym (same r.uid a.0) ∙ all_has set us r.uid all member) a.1
     go i Collision k =
         let m = met_by es fs i 2 found (ap needs_of k) (omega arith) in
-        two_of (answering (is_open (slots_of es)) es i) m.uids m.different m.answer m.enough
+        asks_within ManyReplies _ _ (λ u h. m.answer u (has_take 2 m.found.uids.items u h)) (two_of m.found.uids.items m.different m.enough)
     go i Garbled k =
         let m = met_by es fs i 1 found (ap needs_of k) (omega arith) in
-        one_of (answering (is_open (slots_of es)) es i) m.uids m.answer m.enough
+        asks_within SomeReply _ _ (λ u h. m.answer u (has_take 1 m.found.uids.items u h)) (one_of m.found.uids.items m.enough)
     go i e k = tt
 
 pub is_met : (es : List Entry) (m : Met) (n : ℕ) → HasHeard es n m.heard.items → length es ≤ n → AreFound es m.found.items → IsMet es m
@@ -196,38 +179,19 @@ forced_at set es (suc n) i u e below k f =
     (λ ne. step.1 (inr (forced_at set es n i u e (omega arith) k f)))
     (cases_eq i n)
 
-two_exact : (t : ℕ → Bool) (xs : List ℕ) (u : ℕ) → AreDifferent xs → ((w : ℕ) → has xs w ≡ true → t w ≡ true) → 2 ≤ length xs → Forces ManyReplies t u → Exactly 2 xs u
-two_exact t [] u d h n f = absurd (omega arith)
-two_exact t (x ∷ []) u d h n f = absurd (omega arith)
-two_exact t (x ∷ y ∷ []) u d h n f = (
-  refl,
-  ⊎_elim
-      (λ e. has_at u x (y ∷ []) (sym e))
-      (λ e. ⊎_elim
-      (λ g. has_there u x (y ∷ []) (has_at u y [] (sym g)))
-      (λ g. absurd (both_ways _ d.0 (has_at x y [] (e ∙ sym g))))
-      (f.4 y (h y (has_there y x (y ∷ []) (has_here y [])))))
-      (f.4 x (h x (has_here x (y ∷ [])))),
-)
-two_exact t (x ∷ y ∷ z ∷ xs) u d h n f =
-    let a = f.4 x (h x (has_here x (y ∷ z ∷ xs))) in
-    let b = f.4 y (h y (has_there y x (y ∷ z ∷ xs) (has_here y (z ∷ xs)))) in
-    let c = f.4 z (h z (has_there z x (y ∷ z ∷ xs) (has_there z y (z ∷ xs) (has_here z xs)))) in
-    absurd (three_in_two x y z u f.0 (λ e. both_ways _ d.0 (has_at x y (z ∷ xs) e)) (λ e. both_ways _ d.0 (has_there x y (z ∷ xs) (has_at x z xs e))) (λ e. both_ways _ d.1.0 (has_at y z xs e)) a b c)
-
-one_exact : (t : ℕ → Bool) (xs : List ℕ) (u : ℕ) → AreDifferent xs → ((w : ℕ) → has xs w ≡ true → t w ≡ true) → 1 ≤ length xs → Forces SomeReply t u → Exactly 1 xs u
-one_exact t [] u d h n f = absurd (omega arith)
-one_exact t (x ∷ []) u d h n f = (refl, has_at u x [] (sym (f.1 x (h x (has_here x [])))))
-one_exact t (x ∷ y ∷ xs) u d h n f =
-    absurd (both_ways _ d.0 (has_at x y xs (f.1 x (h x (has_here x (y ∷ xs))) ∙ sym (f.1 y (h y (has_there y x (y ∷ xs) (has_here y xs)))))))
+-- different numbers that are more than some others, and that are u or of these, are one more, and u is one
+with_others : (xs ys : List ℕ) (u : ℕ) → AreDifferent xs → length ys < length xs → ((v : ℕ) → has xs v ≡ true → (v ≡ u) ⊎ (has ys v ≡ true)) → Exactly (length ys + 1) xs u
+with_others xs ys u d n all =
+    let most = no_more xs (u ∷ ys) d (λ v m. ⊎_elim (λ e. has_at v u ys e) (λ h. has_there v u ys h) (all v m)) in (
+      omega arith,
+      true_from_ne_false (has xs u) (λ no.
+          let fewer = no_more xs ys d (λ v m. ⊎_elim (λ e. absurd (both_ways _ no (subst (λ z. has xs z ≡ true) e m))) (λ h. h) (all v m)) in
+          omega arith),
+    )
 
 -- found where exactly as many are open, the UIDs are forced there
 found_forces : (es : List Entry) (i u : ℕ) (f : Found) → IsFoundAt es i f → Exactly f.need f.uids.items u → IsForcedBy (is_open (slots_of es)) (slots_of es) u
-found_forces es i u f h x =
-    ⊎_elim
-    (λ w. let two = w.1 in forced_at (is_open (slots_of es)) es (length es) i u Collision (slice_get_within es i Collision w.0) w.0 ((forces_two_iff _ f.uids.items u h.uids).1 (x.0 ∙ two, x.1)))
-    (λ w. let one = w.1 in forced_at (is_open (slots_of es)) es (length es) i u Garbled (slice_get_within es i Garbled w.0) w.0 ((forces_one_iff _ f.uids.items u h.uids).1 (x.0 ∙ one, x.1)))
-    (asked_two_or_one (slice_get es i) f.need h.need h.asked)
+found_forces es i u f h x = let w = exact_forces es i u f h x.0 x.1 in forced_at (is_open (slots_of es)) es (length es) i u w.0 (slice_get_within es i w.0 w.1) w.1 w.2
 
 pub certain_all : (es : List Entry) (m : Met) (us : List ℕ) (k : ℕ) → length m.found.items ≤ k → IsMet es m → HasCertain m.heard.items m.found.items k us → (u : ℕ) → (has us u ≡ true) ↔ IsForcedBy (is_open (slots_of es)) (slots_of es) u
 certain_all es m us k long met h u = (
@@ -239,18 +203,13 @@ certain_all es m us k long met h u = (
 ) where
   exact : (i n : ℕ) → needs_at es i ≡ n → 0 < n → ((xs : List ℕ) → AreDifferent xs → ((v : ℕ) → has xs v ≡ true → answering (is_open (slots_of es)) es i v ≡ true) → n ≤ length xs → Exactly n xs u) → has us u ≡ true
   exact i n e some x =
-      let w = met.found.met i (omega (arith, e, some)) in
-      let f : Found = w.1 in
-      let at = subst (IsFound es) w.3 (met.found.found w.0 f w.2) in
-      let it : Meets es f i = w.4 in
-      let enough = at.1.enough in
-      let all = x f.uids.items at.1.uids.different it.answer (omega (arith, e)) in
-      let below = w.2 in
-      let this : Exactly f.need f.uids.items u = (all.0 ∙ (sym e ∙ it.need), all.1) in
-      h.found w.0 u f (omega arith) (subst (λ (y : Found). Exactly y.need y.uids.items u) (sym w.3) this)
+      let those = met_by es m.found.items i n met.found e some in
+      let all = x those.found.uids.items those.different those.answer those.enough in
+      let below = those.below in
+      h.found those.place u those.found (omega arith) (subst (λ (y : Found). Exactly y.need y.uids.items u) (sym those.is) (all.0 ∙ sym those.need, all.1))
 
   back : (i : ℕ) (e : Entry) → slice_get es i ≡ Some e → EntryForces (reading_of e) (answering (is_open (slots_of es)) es i) u → has us u ≡ true
   back i (Heard r) k f = h.kept u ((met.heard u).1 (i, r, k, f))
-  back i Collision k f = exact i 2 (ap needs_of k) (omega arith) (λ xs d a n. two_exact _ xs u d a n f)
-  back i Garbled k f = exact i 1 (ap needs_of k) (omega arith) (λ xs d a n. one_exact _ xs u d a n f)
+  back i Collision k f = exact i 2 (ap needs_of k) (omega arith) (λ xs d a n. with_others xs (f.0 ∷ []) u d n (λ v m. ⊎_elim (λ e. inl e) (λ e. inr (has_at v f.0 [] e)) (f.4 v (a v m))))
+  back i Garbled k f = exact i 1 (ap needs_of k) (omega arith) (λ xs d a n. with_others xs [] u d n (λ v m. inl (f.1 v (a v m))))
   back i e k f = absurd f

@@ -44,27 +44,15 @@ found_first ns end = record { within = omega arith; quiet = λ lt. absurd (omega
 quiet_here : (ns : List Mention) (k : ℕ) → k < length ns → is_quiet_reply ns (at ns k) ≡ true → IsQuietReply ns (reply_place (at ns k))
 quiet_here ns k below e = list_any_at (λ (n : Mention). (reply_place n == reply_place (at ns k)) && is_quiet_by ns n.key (reply_place (at ns k))) ns k nobody below (and_from _ _ (eq-eqb _ _ refl) e)
 
--- the next mention is one
-pub found_more : (ns : List Mention) (end quiet k first next : ℕ) → k < length ns → reply_place (at ns k) ≤ NEVER → TellsFrom ns k quiet → quiet < reply_place (at ns k) → next ≤ first → next ≤ reply_place (at ns k) → (next ≡ first) ⊎ (next ≡ reply_place (at ns k)) → IsFoundTo ns end k first → IsFoundTo ns end (k + 1) next
-found_more ns end quiet k first next below small tells late le here is f = record {
+-- a mention more, which may be one
+pub found_more : (ns : List Mention) (end quiet k first next : ℕ) → k < length ns → reply_place (at ns k) ≤ NEVER → TellsFrom ns k quiet → next ≤ first → (quiet < reply_place (at ns k) → next ≤ reply_place (at ns k)) → (next ≡ first) ⊎ ((next ≡ reply_place (at ns k)) × (quiet < reply_place (at ns k))) → IsFoundTo ns end k first → IsFoundTo ns end (k + 1) next
+found_more ns end quiet k first next below small tells le here is f = record {
   within = omega arith;
-  quiet = λ lt. ⊎_elim (λ old. subst (IsQuietReply ns) (sym old) (f.quiet (omega arith))) (λ new. subst (IsQuietReply ns) (sym new) (quiet_here ns k below (tells _ small ∙ lt_yes _ _ late))) is;
+  quiet = λ lt. ⊎_elim (λ old. subst (IsQuietReply ns) (sym old) (f.quiet (omega arith))) (λ new. subst (IsQuietReply ns) (sym new.0) (quiet_here ns k below (tells _ small ∙ lt_yes _ _ new.1))) is;
   least = λ j lt it.
       ⊎_elim
-      (λ same. subst (λ i. next ≤ reply_place (at ns i)) (sym same) here)
+      (λ same. subst (λ i. next ≤ reply_place (at ns i)) (sym same) (here (lt_from _ _ (sym (tells _ small) ∙ subst (λ i. is_quiet_reply ns (at ns i) ≡ true) same it))))
       (λ ne. let old = f.least j (omega arith) it in omega arith)
-      (cases_eq j k);
-}
-
--- or isn't
-pub found_still : (ns : List Mention) (end quiet k first : ℕ) → reply_place (at ns k) ≤ NEVER → TellsFrom ns k quiet → reply_place (at ns k) ≤ quiet → IsFoundTo ns end k first → IsFoundTo ns end (k + 1) first
-found_still ns end quiet k first small tells early f = record {
-  within = f.within;
-  quiet = f.quiet;
-  least = λ j lt it.
-      ⊎_elim
-      (λ same. absurd (let late = lt_from _ _ (sym (tells _ small) ∙ subst (λ i. is_quiet_reply ns (at ns i) ≡ true) same it) in omega arith))
-      (λ ne. f.least j (omega (arith, lt)) it)
       (cases_eq j k);
 }
 

@@ -1,25 +1,6 @@
 -- A search over the numbers below a bound, to decide, and never to be run.
-use Rattle.std.proofs.Common.{◌≡◌, ℕ, zero, suc, ◌<◌, Bool, true, false, sym, subst, arith, inl, inr, ⊎_elim, ◌⊎◌}
-use Rattle.vic_verdict.proofs.Words.{cases_Bool, cases_eq, cases_lt, both_ways, IsLeast, NoSuch}
-
-none_more : (t : ℕ → Bool) (n : ℕ) → ((k : ℕ) → k < n → t k ≡ false) → t n ≡ false → (k : ℕ) → k < suc n → t k ≡ false
-none_more t n below here k h =
-    ⊎_elim
-    (λ e. subst (λ m. t m ≡ false) (sym e) here)
-    (λ ne. below k (omega arith))
-    (cases_eq k n)
-
--- a number below n that passes, or none does
-pub search_below : (t : ℕ → Bool) (n : ℕ) → ((k : ℕ) × (k < n) × (t k ≡ true)) ⊎ ((k : ℕ) → k < n → t k ≡ false)
-search_below t zero = inr (λ k h. absurd (omega arith))
-search_below t (suc n) =
-    ⊎_elim
-    (λ found. inl (found.0, omega (arith, found.1), found.2))
-    (λ none. ⊎_elim
-    (λ yes. inl (n, omega arith, yes))
-    (λ no. inr (none_more t n none no))
-    (cases_Bool (t n)))
-    (search_below t n)
+use Rattle.std.proofs.Common.{◌≡◌, ℕ, zero, suc, ◌<◌, Bool, true, false, subst, arith, inl, inr, ⊎_elim, ◌⊎◌, ◌↔◌}
+use Rattle.vic_verdict.proofs.Words.{cases_Bool, false_from_ne_true, cases_eq, cases_lt, both_ways, IsLeast, NoSuch}
 
 -- P holds or it doesn't
 abbrev pub Either : Type 0 → Type 0
@@ -37,6 +18,9 @@ not_either e = ⊎_elim (λ h. inr (λ k. k h)) (λ h. inl h) e
 pub and_either : {P Q : Type 0} → Either P → Either Q → Either (P × Q)
 and_either e f = ⊎_elim (λ h. ⊎_elim (λ k. inl (h, k)) (λ no. inr (λ w. no w.1)) f) (λ no. inr (λ w. no w.0)) e
 
+pub iff_either : {P Q : Type 0} → P ↔ Q → Either Q → Either P
+iff_either w e = ⊎_elim (λ h. inl (w.1 h)) (λ no. inr (λ h. no (w.0 h))) e
+
 -- the first number below n of which P holds, or there is none
 first_below : (P : ℕ → Type 0) → ((k : ℕ) → Either (P k)) → (n : ℕ) → ((k : ℕ) × (k < n) × P k × ((j : ℕ) → j < k → P j → ⊥)) ⊎ ((k : ℕ) → k < n → P k → ⊥)
 first_below P d zero = inr (λ k h. absurd (omega arith))
@@ -48,6 +32,14 @@ first_below P d (suc n) =
     (λ no. inr (λ k h p. ⊎_elim (λ e. no (subst P e p)) (λ ne. none k (omega arith) p) (cases_eq k n)))
     (d n))
     (first_below P d n)
+
+-- a number below n that passes, or none does
+pub search_below : (t : ℕ → Bool) (n : ℕ) → ((k : ℕ) × (k < n) × (t k ≡ true)) ⊎ ((k : ℕ) → k < n → t k ≡ false)
+search_below t n =
+    ⊎_elim
+    (λ found. inl (found.0, found.1, found.2))
+    (λ none. inr (λ k h. false_from_ne_true (t k) (none k h)))
+    (first_below (λ k. t k ≡ true) (λ k. test_either (t k)) n)
 
 pub least_by : (P : ℕ → Type 0) (k : ℕ) → P k → ((j : ℕ) → j < k → P j → ⊥) → IsLeast P k
 least_by P k p none = (p, λ m h. ⊎_elim (λ below. absurd (none m below h)) (λ le. le) (cases_lt m k))

@@ -58,52 +58,34 @@ walked_anew es i cut old set kept new ns sorted ss ds e k is upto first order ke
 
 -- once it is settled up to the first reply of a Quiet UID
 pub settled_to : (lines : List LogLine) (s : Settled) (i : ℕ) (old : ℕ → Bool) (kept : List Stretch) (ns sorted : List Mention) (ss : List ReadSlot) (ds : List Demand) → i ≤ length lines → IsWalked (entries lines) i old kept ns ss ds → IsFirstQuietReply ns i s.cut → ArePutInOrder ns sorted → Keeps sorted ds s.cut kept s.stretches.items → SameUids (is_outside s.closed.items) (λ u. old u && all_allow_to ns ss s.cut (mirror u)) → (s.cut ≡ i → i < length lines → IsContradictedAt (entries lines) i) → IsSettled lines s
-settled_to lines s i old kept ns sorted ss ds within g first order keeps settled here = record {
-  uids = opened;
-  kept = kept_to es (entries front) g.from i cut ns sorted ds kept s.stretches.items agree since upto (gathered_keys es g.from i ns ss ds g.gathered) heard.quiet order keeps g.gathered.asked g.kept;
-} where
-  cut : ℕ
-  cut = s.cut
-
-  es : List Entry
-  es = entries lines
-
-  front : List LogLine
-  front = take cut lines
-
-  heard : AreHeard es g.from i ns
-  heard = heard_by es i old kept ns ss ds g
-
-  upto : cut ≤ i
-  upto = first.within
-
-  since : g.from ≤ cut
-  since = quiet_since es g.from i cut ns heard first
-
-  firsts : entries front ≡ take cut es
-  firsts = sym (take-map (λ (l : LogLine). l.item) cut lines)
-
-  size : length (entries front) ≡ cut
-  size = ap length firsts ∙ length-take-le cut es (let long = length-map lines (λ (l : LogLine). l.item) in omega (arith, upto))
-
-  agree : AgreeBefore cut (entries front) es
-  agree j h = ap (λ xs. slice_get xs j) firsts ∙ taken cut es j h
-
-  opened : IsOpenTo lines (is_outside s.closed.items) cut
-  opened = record {
-    within = omega (arith, upto);
-    answer = λ j r k.
-        let below : j < cut = let inside = slice_get_within (entries front) j (Heard r) k in omega (arith, size) in
-        let at = sym (agree j below) ∙ k in
-        let answers : Answers es j r.uid = answers_before es g.from i cut ns heard first.first j r (omega (arith, upto)) below at in
-        (answers.0, answers_agree j (entries front) es (λ m h. agree m (omega arith)) r.uid ∙ answers.1);
-    uids = λ u w.
-        settled u w
-        ∙ (open_by es i old kept ns ss ds g cut since upto u w
-        ∙ (sym (open_agrees cut (entries front) es u agree)
-        ∙ ap (λ n. is_open (slots_before (entries front) n) u) (sym size)));
-    beyond = λ short. elim (cases_eq cut i) [
-      | inl end ↦ subst (IsContradictedAt es) (sym end) (here end (omega arith))
-      | inr ne ↦ quiet_contradicts es g.from i cut ns heard (first.quiet (omega arith))
-    ];
-  }
+settled_to lines s i old kept ns sorted ss ds within g first order keeps settled here =
+    let cut = s.cut in
+    let es = entries lines in
+    let front = take cut lines in
+    let heard = heard_by es i old kept ns ss ds g in
+    let upto = first.within in
+    let since = quiet_since es g.from i cut ns heard first in
+    let long = length-map lines (λ (l : LogLine). l.item) in
+    let firsts : entries front ≡ take cut es = sym (take-map (λ (l : LogLine). l.item) cut lines) in
+    let size : length (entries front) ≡ cut = ap length firsts ∙ length-take-le cut es (omega arith) in
+    let agree : AgreeBefore cut (entries front) es = λ j h. ap (λ xs. slice_get xs j) firsts ∙ taken cut es j h in
+    record {
+      uids = record {
+        within = omega arith;
+        answer = λ j r k.
+            let inside = slice_get_within (entries front) j (Heard r) k in
+            let below : j < cut = omega arith in
+            let answers = answers_before es g.from i cut ns heard first.first j r (omega arith) below (sym (agree j below) ∙ k) in
+            (answers.0, answers_agree j (entries front) es (λ m h. agree m (omega arith)) r.uid ∙ answers.1);
+        uids = λ u w.
+            settled u w
+            ∙ (open_by es i old kept ns ss ds g cut since upto u w
+            ∙ (sym (open_agrees cut (entries front) es u agree)
+            ∙ ap (λ n. is_open (slots_before (entries front) n) u) (sym size)));
+        beyond = λ short. elim (cases_eq cut i) [
+          | inl end ↦ subst (IsContradictedAt es) (sym end) (here end (omega arith))
+          | inr ne ↦ quiet_contradicts es g.from i cut ns heard (first.quiet (omega arith))
+        ];
+      };
+      kept = kept_to es (entries front) g.from i cut ns sorted ds kept s.stretches.items agree since upto (gathered_keys es g.from i ns ss ds g.gathered) heard.quiet order keeps g.gathered.asked g.kept;
+    }

@@ -66,18 +66,19 @@ gathered_next es from i e ns ms ss ts ds cs k small awake mentioned told fits as
   ];
   asked = asks h.begun h.asked;
 } where
-  later : (s : ReadSlot) → IsReadSlot es from i s → IsReadSlot es from (i + 1) s
-  later s it = let before = it.before in record { since = it.since; before = omega arith; read = it.read; range = it.range; inside = it.inside }
+  later : (a b : ℕ) → from ≤ a → b ≤ i + 1 → (s : ReadSlot) → IsReadSlot es a b s → IsReadSlot es from (i + 1) s
+  later a b begun end s it = let since = it.since in let before = it.before in record { since = omega arith; before = omega arith; read = it.read; range = it.range; inside = it.inside }
+
+  old : All (IsReadSlot es from (i + 1)) ss
+  old = All-weaker (IsReadSlot es from i) (IsReadSlot es from (i + 1)) (later from i (omega arith) (omega arith)) ss h.reads
 
   reads : TellsReadSlot es i e ss ts → All (IsReadSlot es from (i + 1)) ts
-  reads (inl w) = subst (All (IsReadSlot es from (i + 1))) (sym w.0) (All-weaker (IsReadSlot es from i) (IsReadSlot es from (i + 1)) later ss h.reads)
-  reads (inr w) =
-      let since = w.2.since in
-      subst (All (IsReadSlot es from (i + 1))) (sym w.1) (All-push (IsReadSlot es from (i + 1)) ss w.0 (All-weaker (IsReadSlot es from i) (IsReadSlot es from (i + 1)) later ss h.reads) (record { since = omega arith; before = w.2.before; read = w.2.read; range = w.2.range; inside = w.2.inside }))
+  reads (inl w) = rw w.0 old
+  reads (inr w) = rw w.1 (All-push (IsReadSlot es from (i + 1)) ss w.0 old (later i (i + 1) h.begun (omega arith) w.0 w.2))
 
   more : (j : ℕ) → TellsReadSlot es i e ss ts → Any (λ (s : ReadSlot). s.at ≡ j) ss → Any (λ (s : ReadSlot). s.at ≡ j) ts
-  more j (inl w) a = subst (Any (λ (s : ReadSlot). s.at ≡ j)) (sym w.0) a
-  more j (inr w) a = subst (Any (λ (s : ReadSlot). s.at ≡ j)) (sym w.1) (any_kept (λ (s : ReadSlot). s.at ≡ j) ss w.0 a)
+  more j (inl w) a = rw w.0 a
+  more j (inr w) a = rw w.1 (any_kept (λ (s : ReadSlot). s.at ≡ j) ss w.0 a)
 
   here : (j : ℕ) → j ≡ i → rules_out e ≡ true → TellsReadSlot es i e ss ts → Any (λ (s : ReadSlot). s.at ≡ j) ts ⊎ NobodyAt es j
   here j same out (inl w) = inr (subst (NobodyAt es) (sym same) (w.1 out))

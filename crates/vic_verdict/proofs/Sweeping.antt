@@ -1,7 +1,9 @@
 -- What the slots between two field cycles leave, mention by mention.
 use Rattle.std.proofs.Common.{◌≡◌, ℕ, zero, suc, ◌+◌, ◌-◌, ◌<◌, ◌≤◌, ◌==◌, List, [], ◌∷◌, length, take, filter, cond, get_or, set, Bool, true, false, not, ◌&&◌, ◌||◌, Option, Some, None, refl, sym, ap, ◌∙◌, subst, arith, add-one, ◌++◌, inl, inr, ⊎_elim, ◌^◌, nat_le, nat_lt, All, ne_eqb, eqb-true, ext_get_or, get_or-set_same, get_or-set_other, length-set, take_all, IsPermutation}
-use Rattle.vic_verdict.proofs.Words.{list_all, list_any, cases_eq, cases_lt, false≢true, and_parts, and_from, or_cases, or_left, or_right, nat_tests, get_or-map, get_or_default, All-head, All-tail, list_any_more, Mention, ReadSlot, Run, is_between, quiet_of, first_of, last_of, heard_of, is_heard, is_in, all_leave, level_leaves, mask_leaves, run_leaves, keep_all, has_where, has_left, is_quiet_by, read_allows, all_allow, all_allow_to, is_mentioned, is_mentioned_if, all_hear_mentioned, AreInOrder, HaveKeys, list_any-IsPermutation, and_true, lt_yes, or_false}
-use Rattle.std.proofs.lemmas.List.Folds.{list_all_more}
+use Rattle.vic_verdict.proofs.Words.{cases_Bool, false_from_ne_true, length-map, list_all, list_any, cases_eq, cases_lt, false≢true, and_parts, and_from, or_cases, or_left, or_right, nat_tests, get_or-map, get_or_default, All-head, All-tail, list_any_more, Mention, ReadSlot, Run, is_between, quiet_of, first_of, last_of, heard_of, is_heard, is_in, all_leave, level_leaves, mask_leaves, run_leaves, keep_all, has_where, has_left, is_quiet_by, read_allows, all_allow, all_allow_to, is_mentioned, is_mentioned_if, all_hear_mentioned, AreInOrder, HaveKeys, list_any-IsPermutation, and_true, lt_yes, or_false}
+use Rattle.std.proofs.lemmas.List.Elements.{All-filter, All-from_get_or, All-map, All-weaker}
+use Rattle.std.proofs.lemmas.List.Folds.{list_all_more, list_any_none, map_fixed}
+use Rattle.std.proofs.lemmas.List.Sums.{AllPass-from_list_all, list_all-from_AllPass}
 use Rattle.vic_verdict.specs.declared.sweep.Level.{Level}
 use Rattle.vic_verdict.specs.inner.Sweep.{slot_leaves, read_leaves, keep, hears_mentioned, are_left, IsStart}
 use Rattle.std.proofs.Math.Seq.{take-append_seam}
@@ -25,25 +27,18 @@ pub kept_whole : (p : ℕ → ℕ → Bool) (n : Mention) → p n.key (quiet_of 
 kept_whole p n e = ap (λ (b : Bool). record { key = n.key; at = n.at; is_heard = n.is_heard; left = n.left && b }) e ∙ ap (λ (b : Bool). record { key = n.key; at = n.at; is_heard = n.is_heard; left = b }) (and_true n.left)
 
 pub keep_none : (ns : List Mention) → keep_all (λ k t. true) ns ≡ ns
-keep_none [] = refl
-keep_none (n ∷ ns) = ap (λ (m : Mention). m ∷ keep_all (λ k t. true) ns) (kept_whole (λ k t. true) n refl) ∙ ap (λ (ms : List Mention). n ∷ ms) (keep_none ns)
+keep_none ns = map_fixed (keep (λ k t. true)) ns (λ j d lt. kept_whole (λ k t. true) (get_or ns j d) refl)
 
 pub keep-length : (p : ℕ → ℕ → Bool) (ns : List Mention) → length (keep_all p ns) ≡ length ns
-keep-length p [] = refl
-keep-length p (n ∷ ns) = ap suc (keep-length p ns)
+keep-length p ns = length-map ns (keep p)
 
 pub keep-order : (p : ℕ → ℕ → Bool) (ns : List Mention) → AreInOrder ns → AreInOrder (keep_all p ns)
 keep-order p ns up i j d le below =
     let short : j < length ns = subst (λ m. j < m) (keep-length p ns) below in
-    let a = ap (λ (n : Mention). n.key) (get_or-map (keep p) ns i d d (omega arith)) in
-    let b = ap (λ (n : Mention). n.key) (get_or-map (keep p) ns j d d short) in
-    let h = up i j d le short in
-    omega arith
+    rw (get_or-map (keep p) ns i d d (omega arith), get_or-map (keep p) ns j d d short) (up i j d le short)
 
 pub keep-keys : (p : ℕ → ℕ → Bool) (ns : List Mention) → HaveKeys ns → HaveKeys (keep_all p ns)
-keep-keys p ns h k d below =
-    let short : k < length ns = subst (λ m. k < m) (keep-length p ns) below in
-    subst (λ (n : Mention). n.key < 2 ^ 56) (sym (get_or-map (keep p) ns k d d short)) (h k d short)
+keep-keys p ns h = All-map (λ (n : Mention). n.key < 2 ^ 56) (keep p) ns h
 
 pub keep-quiet : (p : ℕ → ℕ → Bool) (ns : List Mention) (k i : ℕ) → is_quiet_by (keep_all p ns) k i ≡ is_quiet_by ns k i
 keep-quiet p [] k i = refl
@@ -131,23 +126,10 @@ runs_more o r reads i s old ns new below is before step =
 
 -- ---- the mentions that pass a test
 
-where_skip : (p : Mention → Bool) (ns : List Mention) (k i : ℕ) → i < length ns → ((get_or ns i nobody).key ≡ k → ⊥) → has_where p (take (i + 1) ns) k ≡ has_where p (take i ns) k
-where_skip p ns k i below other =
-    list_any_more (λ (n : Mention). (n.key == k) && p n) ns i nobody below
-    ∙ (ap (λ b. has_where p (take i ns) k || (b && p (get_or ns i nobody))) (ne_eqb _ _ other) ∙ or_false (has_where p (take i ns) k))
-
-pub where_below : (p : Mention → Bool) (ns : List Mention) (k i : ℕ) → i ≤ length ns → ((j : ℕ) → j < i → (get_or ns j nobody).key < k) → has_where p (take i ns) k ≡ false
-where_below p ns k zero le h = refl
-where_below p ns k (suc i) le h =
-    ap (λ n. has_where p (take n ns) k) (sym (add-one i))
-    ∙ (where_skip p ns k i (omega arith) (λ e. let lt = h i (omega arith) in absurd (omega arith))
-    ∙ where_below p ns k i (omega arith) (λ j lt. h j (omega arith)))
-
-pub where_above : (p : Mention → Bool) (ns : List Mention) (k i more : ℕ) → i + more ≡ length ns → ((j : ℕ) → i ≤ j → j < length ns → k < (get_or ns j nobody).key) → has_where p (take i ns) k ≡ has_where p ns k
-where_above p ns k i zero e h = ap (λ ms. has_where p ms k) (take_all i ns (omega arith))
-where_above p ns k i (suc more) e h =
-    sym (where_skip p ns k i (omega arith) (λ same. let lt = h i (omega arith) (omega arith) in absurd (omega arith)))
-    ∙ where_above p ns k (i + 1) more (omega arith) (λ j le lt. h j (omega arith) lt)
+pub where_none : (p : Mention → Bool) (ns : List Mention) (k : ℕ) → ((j : ℕ) → j < length ns → (get_or ns j nobody).key ≡ k → p (get_or ns j nobody) ≡ true → ⊥) → has_where p ns k ≡ false
+where_none p ns k none = list_any_none (λ n. (n.key == k) && p n) ns (All-from_get_or (λ n. ((n.key == k) && p n) ≡ false) ns nobody (λ j lt. false_from_ne_true _ (λ e.
+    let w = and_parts ((get_or ns j nobody).key == k) (p (get_or ns j nobody)) e in
+    none j lt (eqb-true (get_or ns j nobody).key k w.0) w.1)))
 
 pub between_parts : (first last k : ℕ) → is_between first last k ≡ true → (first ≤ k) × (k ≤ last)
 between_parts first last k e = (grind (arith, nat_tests), grind (arith, nat_tests))
@@ -202,31 +184,9 @@ left_one p (n ∷ ns) k e =
     (λ there. let r = left_one p ns k there in (r.0, r.1, λ i lt. or_right _ _ (r.2 i lt)))
     (or_cases _ _ e)
 
-allow_from_leave : (ns : List Mention) (s : ReadSlot) (k q : ℕ) → (nat_lt q s.at ≡ true → is_quiet_by ns k s.at ≡ true) → read_leaves s k q ≡ true → read_allows ns s k ≡ true
-allow_from_leave ns s k q h e = grind (arith, h)
-
-leave_from_allow : (ns : List Mention) (s : ReadSlot) (k q : ℕ) → (is_quiet_by ns k s.at ≡ true → nat_lt q s.at ≡ true) → read_allows ns s k ≡ true → read_leaves s k q ≡ true
-leave_from_allow ns s k q h e = grind (arith, h)
-
-all_allow_from : (ns : List Mention) (k q : ℕ) → ((i : ℕ) → nat_lt q i ≡ true → is_quiet_by ns k i ≡ true) → (ss : List ReadSlot) → all_leave ss k q ≡ true → all_allow ns ss k ≡ true
-all_allow_from ns k q h [] e = refl
-all_allow_from ns k q h (s ∷ ss) e = let w = and_parts _ _ e in and_from _ _ (allow_from_leave ns s k q (h s.at) w.0) (all_allow_from ns k q h ss w.1)
-
-all_leave_from : (ns : List Mention) (k q : ℕ) → ((i : ℕ) → is_quiet_by ns k i ≡ true → q < i) → (ss : List ReadSlot) → all_allow ns ss k ≡ true → all_leave ss k q ≡ true
-all_leave_from ns k q h [] e = refl
-all_leave_from ns k q h (s ∷ ss) e = let w = and_parts _ _ e in and_from _ _ (leave_from_allow ns s k q (λ f. lt_yes q s.at (h s.at f)) w.0) (all_leave_from ns k q h ss w.1)
-
--- in no slot
-abbrev all_outside : List ReadSlot → ℕ → Bool → Bool
-all_outside ss k b = list_all (λ (s : ReadSlot). not (is_in s k) || b) ss
-
-outside_yes : (ss : List ReadSlot) (k : ℕ) → all_outside ss k true ≡ true
-outside_yes [] k = refl
-outside_yes (s ∷ ss) k = grind (arith, outside_yes ss k)
-
-outside_allow : (ns : List Mention) (ss : List ReadSlot) (k : ℕ) → all_outside ss k false ≡ true → all_allow ns ss k ≡ true
-outside_allow ns [] k e = refl
-outside_allow ns (s ∷ ss) k e = grind (arith, outside_allow ns ss k)
+-- a test that passes wherever another does
+all_weaker : {X : Type 0} (p q : X → Bool) → ((x : X) → p x ≡ true → q x ≡ true) → (xs : List X) → list_all p xs ≡ true → list_all q xs ≡ true
+all_weaker p q h xs e = list_all-from_AllPass q xs (All-weaker (λ x. p x ≡ true) (λ x. q x ≡ true) h xs (AllPass-from_list_all p xs e))
 
 -- the slot allows a key that is not mentioned only where the key is not in it
 unmentioned_outside : (ns : List Mention) (s : ReadSlot) (k : ℕ) → is_mentioned ns k ≡ false → hears_mentioned ns s ≡ true → read_allows ns s k ≡ true → not (is_in s k) ≡ true
@@ -236,27 +196,32 @@ unmentioned_outside ns s k none h e = grind (arith, silenced_mentioned ns k s.at
     go None f g = absurd (false≢true f)
     go (Some x) f g = subst (λ y. is_mentioned ns y ≡ true) (eqb-true x k f) g
 
-all_unmentioned : (ns : List Mention) (k : ℕ) → is_mentioned ns k ≡ false → (b : Bool) (ss : List ReadSlot) → all_hear_mentioned ns ss ≡ true → all_allow ns ss k ≡ true → all_outside ss k b ≡ true
-all_unmentioned ns k none b [] h e = refl
-all_unmentioned ns k none b (s ∷ ss) h e = grind (arith, unmentioned_outside ns s k none, all_unmentioned ns k none b ss)
-
 -- a key lies in no slot or is left by mention if and only if all slots allow it
 pub covered_allowed : (ns : List Mention) (ss : List ReadSlot) (k : ℕ) → are_left ns ≡ true → all_hear_mentioned ns ss ≡ true → all_cover (keep_all (all_leave ss) ns) ss k ≡ all_allow ns ss k
 covered_allowed ns ss k left mentioned = same_tests _ _ to from where
+  all_left : Bool
+  all_left = has_left (keep_all (all_leave ss) ns) k
+
+  allows : ReadSlot → Bool
+  allows s = read_allows ns s k
+
   to : all_cover (keep_all (all_leave ss) ns) ss k ≡ true → all_allow ns ss k ≡ true
-  to e = go (has_left (keep_all (all_leave ss) ns) k) refl e where
-    go : (b : Bool) → has_left (keep_all (all_leave ss) ns) k ≡ b → all_outside ss k b ≡ true → all_allow ns ss k ≡ true
-    go true f g = let r = left_one (all_leave ss) ns k f in all_allow_from ns k r.0 r.2 ss r.1
-    go false f g = outside_allow ns ss k g
+  to e = elim (cases_Bool all_left) [
+    | inl f ↦ let r = left_one (all_leave ss) ns k f in all_weaker (λ s. read_leaves s k r.0) allows (λ s w. grind (arith, r.2 s.at)) ss r.1
+    | inr f ↦ all_weaker (λ s. not (is_in s k) || all_left) allows (λ s w. grind arith) ss e
+  ]
 
   from : all_allow ns ss k ≡ true → all_cover (keep_all (all_leave ss) ns) ss k ≡ true
-  from e = go (is_mentioned ns k) refl where
-    go : (b : Bool) → is_mentioned ns k ≡ b → all_cover (keep_all (all_leave ss) ns) ss k ≡ true
-    go true f =
+  from e = elim (cases_Bool (is_mentioned ns k)) [
+    | inl f ↦
         let t = least ns k f in
-        let l = t.left (all_leave ss) (all_leave_from ns k t.quiet t.first ss e) left in
-        ap (all_outside ss k) l ∙ outside_yes ss k
-    go false f = all_unmentioned ns k f (has_left (keep_all (all_leave ss) ns) k) ss mentioned e
+        let leave = all_weaker allows (λ s. read_leaves s k t.quiet) (λ s w. grind (arith, nat_tests, t.first s.at)) ss e in
+        let l = t.left (all_leave ss) leave left in
+        all_weaker allows (λ s. not (is_in s k) || all_left) (λ s w. grind arith) ss e
+    | inr f ↦ list_all-from_AllPass (λ s. not (is_in s k) || all_left) ss (λ j d lt.
+        let out = unmentioned_outside ns (get_or ss j d) k f (AllPass-from_list_all (hears_mentioned ns) ss mentioned j d lt) (AllPass-from_list_all allows ss e j d lt) in
+        grind arith)
+  ]
 
 -- ---- sorted
 
@@ -267,26 +232,21 @@ all_by_any p (x ∷ xs) = grind (arith, all_by_any p xs)
 all_permuted : {X : Type 0} (p : X → Bool) (xs ys : List X) → IsPermutation xs ys → list_all p xs ≡ list_all p ys
 all_permuted p xs ys m = all_by_any p xs ∙ (ap not (list_any-IsPermutation (λ x. not (p x)) xs ys m) ∙ sym (all_by_any p ys))
 
-all_alike : {X : Type 0} (p q : X → Bool) → ((x : X) → p x ≡ q x) → (xs : List X) → list_all p xs ≡ list_all q xs
-all_alike p q h [] = refl
-all_alike p q h (x ∷ xs) = rw (h x, all_alike p q h xs) refl
-
 pub left_permuted : (ns ms : List Mention) → IsPermutation ns ms → are_left ns ≡ true → are_left ms ≡ true
 left_permuted ns ms m e = sym (all_permuted (λ (n : Mention). n.left) ns ms m) ∙ e
 
 pub mentioned_permuted : (ns ms : List Mention) (ss ts : List ReadSlot) → IsPermutation ns ms → IsPermutation ss ts → all_hear_mentioned ns ss ≡ true → all_hear_mentioned ms ts ≡ true
 mentioned_permuted ns ms ss ts m w e =
-    all_alike (hears_mentioned ms) (hears_mentioned ns) (λ (s : ReadSlot). go (heard_of s)) ts ∙ (sym (all_permuted (hears_mentioned ns) ss ts w) ∙ e)
+    all_weaker (hears_mentioned ns) (hears_mentioned ms) (λ s. go (heard_of s)) ts (sym (all_permuted (hears_mentioned ns) ss ts w) ∙ e)
   where
-    go : (o : Option ℕ) → is_mentioned_if ms o ≡ is_mentioned_if ns o
-    go None = refl
-    go (Some h) = sym (list_any-IsPermutation (λ (n : Mention). n.key == h) ns ms m)
+    go : (o : Option ℕ) → is_mentioned_if ns o ≡ true → is_mentioned_if ms o ≡ true
+    go None h = refl
+    go (Some x) h = sym (list_any-IsPermutation (λ (n : Mention). n.key == x) ns ms m) ∙ h
 
 pub allow_permuted : (ns ms : List Mention) (ss ts : List ReadSlot) (k : ℕ) → IsPermutation ns ms → IsPermutation ss ts → all_allow ms ts k ≡ all_allow ns ss k
 allow_permuted ns ms ss ts k m w =
-    all_alike (λ s. read_allows ms s k) (λ s. read_allows ns s k)
-    (λ (s : ReadSlot). ap (λ b. not (is_in s k) || (b || is_heard (heard_of s) k)) (sym (list_any-IsPermutation (λ (n : Mention). (n.key == k) && nat_lt (quiet_of n) s.at) ns ms m))) ts
-    ∙ sym (all_permuted (λ s. read_allows ns s k) ss ts w)
+    let quiet : (i : ℕ) → is_quiet_by ms k i ≡ is_quiet_by ns k i = λ i. sym (list_any-IsPermutation (λ (n : Mention). (n.key == k) && nat_lt (quiet_of n) i) ns ms m) in
+    simp quiet (sym (all_permuted (λ s. read_allows ns s k) ss ts w))
 
 -- ---- the slots before a position
 
@@ -302,19 +262,13 @@ before_end i j (s ∷ ss) le h =
 
 pub allow_filtered : (ns : List Mention) (i k : ℕ) (ss : List ReadSlot) → all_allow ns (filter (is_before_place i) ss) k ≡ all_allow_to ns ss i k
 allow_filtered ns i k [] = refl
-allow_filtered ns i k (s ∷ ss) = go (nat_lt s.at i) refl (allow_filtered ns i k ss)
-  where
-    go : (b : Bool) → nat_lt s.at i ≡ b → all_allow ns (filter (is_before_place i) ss) k ≡ all_allow_to ns ss i k → all_allow ns (cond b (s ∷ filter (is_before_place i) ss) (filter (is_before_place i) ss)) k ≡ ((nat_le i s.at || read_allows ns s k) && all_allow_to ns ss i k)
-    go true e rest = grind (arith, nat_tests)
-    go false e rest = grind (arith, nat_tests)
+allow_filtered ns i k (s ∷ ss) = elim (cases_Bool (nat_lt s.at i)) [
+  | inl e ↦ rw e (grind (arith, nat_tests, allow_filtered ns i k ss))
+  | inr e ↦ rw e (grind (arith, nat_tests, allow_filtered ns i k ss))
+]
 
 pub mentioned_filtered : (ns : List Mention) (p : ReadSlot → Bool) (ss : List ReadSlot) → all_hear_mentioned ns ss ≡ true → all_hear_mentioned ns (filter p ss) ≡ true
-mentioned_filtered ns p [] e = refl
-mentioned_filtered ns p (s ∷ ss) e = go (p s) (and_parts _ _ e).0 (mentioned_filtered ns p ss (and_parts _ _ e).1)
-  where
-    go : (b : Bool) → hears_mentioned ns s ≡ true → all_hear_mentioned ns (filter p ss) ≡ true → all_hear_mentioned ns (cond b (s ∷ filter p ss) (filter p ss)) ≡ true
-    go true one rest = and_from _ _ one rest
-    go false one rest = rest
+mentioned_filtered ns p ss e = list_all-from_AllPass (hears_mentioned ns) (filter p ss) (All-filter p (λ s. hears_mentioned ns s ≡ true) ss (AllPass-from_list_all (hears_mentioned ns) ss e))
 
 -- a slice that was borrowed from a list and written
 pub written : (n : ℕ) (xs ys : List Mention) → n ≡ length xs → take n (xs ++ ys) ≡ xs

@@ -1,7 +1,7 @@
-use Rattle.std.proofs.Common.{◌≡◌, ◌+◌, ◌-◌, ◌≤◌, sym, subst, arith, inl, inr, ⊎_elim}
+use Rattle.std.proofs.Common.{◌≡◌, ◌+◌, ◌-◌, ◌≤◌, refl, sym, subst, arith, inl, inr, ⊎_elim}
 use Rattle.vic_verdict.proofs.Words.{cases_lt, NEVER, reply_place}
 use Rattle.vic_verdict.proofs.Sweeping.{start_here}
-use Rattle.vic_verdict.proofs.Replying.{at, TellsFrom, tells_still, tells_own, IsFoundTo, found_more, found_still, found_all}
+use Rattle.vic_verdict.proofs.Replying.{at, TellsFrom, tells_still, tells_own, IsFoundTo, found_more, found_all}
 use Rattle.vic_verdict.proofs.mentions.first_quiet_reply.Goals as goal
 use Rattle.vic_verdict.proofs.mentions.first_quiet_reply.Goals.{then-i-eq0, then-i-eq0-via-then-i-eq0, then-i-eq0-via-else-i-eq0+then-mentions-i, else-i-eq0+else-mentions-i, then-quiet-reply, else-quiet-reply}
 
@@ -33,12 +33,12 @@ loop-i-preserved c =
             let late = w.if-quiet-reply.true in
             let least = w.min-first.ensures in
             subst (IsFoundTo ns c.args.end (k + 1)) (sym w.first-is)
-            (found_more ns c.args.end quiet k c.loop-i.first w.min-first.result c.loop-i-test.true small tells (omega arith) (omega arith) (omega arith)
-            (⊎_elim (λ lt. inl (omega arith)) (λ ge. inr (omega arith)) (cases_lt c.loop-i.first c.reply_place-reply.result))
+            (found_more ns c.args.end quiet k c.loop-i.first w.min-first.result c.loop-i-test.true small tells (omega arith) (λ _. omega arith)
+            (⊎_elim (λ lt. inl (omega arith)) (λ ge. inr (omega arith, omega arith)) (cases_lt c.loop-i.first c.reply_place-reply.result))
             c.loop-i.invariant.found)
         | else-quiet-reply w ↦
             let early = w.if-quiet-reply.false in
-            subst (IsFoundTo ns c.args.end (k + 1)) (sym w.first-is) (found_still ns c.args.end quiet k c.loop-i.first small tells (omega arith) c.loop-i.invariant.found)
+            subst (IsFoundTo ns c.args.end (k + 1)) (sym w.first-is) (found_more ns c.args.end quiet k c.loop-i.first c.loop-i.first c.loop-i-test.true small tells (omega arith) (λ late. absurd (omega arith)) (inl refl) c.loop-i.invariant.found)
       ];
     }
 

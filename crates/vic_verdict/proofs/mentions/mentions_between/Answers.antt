@@ -2,26 +2,12 @@ use Rattle.std.proofs.Common.{◌≡◌, ℕ, ◌+◌, ◌-◌, ◌^◌, ◌<◌
 use Rattle.vic_verdict.proofs.Words.{Mention, is_between, HaveKeys, has_where}
 use Rattle.std.proofs.lemmas.List.Elements.{All-drop, All-take}
 use Rattle.vic_verdict.specs.inner.Sweep.{IsStart}
-use Rattle.vic_verdict.proofs.Sweeping.{nobody}
 use Rattle.vic_verdict.proofs.Closing.{part_between, part_where}
 use Rattle.vic_verdict.proofs.mentions.mentions_between.Goals as goal
 
 -- what is left of a slice from a position on
 rest_is : (ns : List Mention) (s : ℕ) → take (length ns - s) (drop s ns) ≡ drop s ns
 rest_is ns s = take_all (length ns - s) (drop s ns) (let e = length-drop s ns in omega arith)
-
--- the mentions up to a key, of those from a position on
-end_in : (ns : List Mention) (s last m : ℕ) → s ≤ length ns → IsStart (drop s ns) (last + 1) m → s + m ≤ length ns
-end_in ns s last m bound h = let long = length-drop s ns in let le = h.within in omega arith
-
--- and those behind them
-end_past : (ns : List Mention) (s last m : ℕ) → IsStart (drop s ns) (last + 1) m → (j : ℕ) → s + m ≤ j → j < length ns → last < (get_or ns j nobody).key
-end_past ns s last m h j from lt =
-    let long = length-drop s ns in
-    let over = h.rest (j - s) nobody (omega arith) (omega arith) in
-    let here = ap (λ (n : Mention). n.key) (get_or-drop s ns (j - s) nobody) in
-    let back = ap (λ i. (get_or ns i nobody).key) (let e : s + (j - s) ≡ j = omega arith in e) in
-    omega arith
 
 pub returns-clause-inside : goal.returns-clause-inside
 returns-clause-inside c =
@@ -30,7 +16,7 @@ returns-clause-inside c =
     let m = c.count_to.result in
     let end = subst (λ xs. IsStart xs (c.args.last + 1) m) (rest_is ns s) c.count_to.ensures in
     subst (λ xs. All (λ (n : Mention). is_between c.args.first c.args.last n.key ≡ true) (take m xs)) (sym (rest_is ns s))
-    (part_between ns c.args.first c.args.last s m (end_in ns s c.args.last m c.requires.start.within end) (λ j from lt. c.requires.start.rest j nobody from lt) (λ j lt. let under = end.below j nobody lt in omega arith))
+    (part_between ns c.args.first c.args.last s m c.requires.start end)
 
 pub returns-clause-keys : goal.returns-clause-keys
 returns-clause-keys c have =
@@ -45,4 +31,4 @@ returns-clause-all c test k inside =
     let m = c.count_to.result in
     let end = subst (λ xs. IsStart xs (c.args.last + 1) m) (rest_is ns s) c.count_to.ensures in
     ap (λ xs. has_where test (take m xs) k) (rest_is ns s)
-    ∙ part_where ns c.args.first c.args.last s m (end_in ns s c.args.last m c.requires.start.within end) (λ j lt. c.requires.start.below j nobody lt) (end_past ns s c.args.last m end) test k inside
+    ∙ part_where ns c.args.first c.args.last s m c.requires.start end test k inside

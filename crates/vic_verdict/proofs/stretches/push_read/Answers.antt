@@ -6,19 +6,6 @@ use Rattle.vic_verdict.specs.inner.Sweep.{len_of}
 use Rattle.vic_verdict.proofs.stretches.push_read.Goals as goal
 use Rattle.vic_verdict.proofs.stretches.push_read.Goals.{in-Some-heard, in-None}
 
-same_heard : (heard : Option ℕ) (key : ℕ) (b : _) → b ≡ is_some heard → ((k : ℕ) → heard ≡ Some k → key ≡ k) → (if b then Some key else None) ≡ heard
-same_heard None key b e h = rw e refl
-same_heard (Some k) key b e h = rw (e, h k refl) refl
-
-le_yes : (x y : ℕ) → x ≤ y → nat_le x y ≡ true
-le_yes x y e = grind (arith, nat_tests)
-
-one : (o : Option ℕ) (a b : ℕ) → o ≡ Some a → o ≡ Some b → a ≡ b
-one o a b e f = cc
-
-none : (o : Option ℕ) (a b : ℕ) → o ≡ None → o ≡ Some b → a ≡ b
-none o a b e f = absurd (cc)
-
 pub overflow_mul-block : goal.overflow_mul-block
 overflow_mul-block c =
     let block = subst (λ (o : Option KeyBlock). IfSome o (λ b. IsBlock b.first b.len)) c.in-Some.is c.requires in
@@ -40,10 +27,10 @@ returns c =
     let block = subst (λ (o : Option KeyBlock). IfSome o (λ b. IsBlock b.first b.len)) c.in-Some.is c.requires in
     let s : ReadSlot = record { mask = first * 256 + len; key = c.match-heard.key; at = c.args.at; is_heard = c.is_some-is_heard.result } in
     let items = c.in_ok-push.ensures.items in
-    let heard : heard_of s ≡ c.args.heard = same_heard c.args.heard c.match-heard.key c.is_some-is_heard.result c.is_some-is_heard.ensures (λ k is. elim c.match-heard.branch [
-      | in-Some-heard w ↦ w.key-is ∙ one c.args.heard w.in-Some-heard.key k w.in-Some-heard.is is
-      | in-None w ↦ none c.args.heard c.match-heard.key k w.in-None.is is
-    ]) in
+    let heard : heard_of s ≡ c.args.heard = elim c.match-heard.branch [
+      | in-Some-heard w ↦ rw (c.is_some-is_heard.ensures, w.in-Some-heard.is, w.key-is) refl
+      | in-None w ↦ rw (c.is_some-is_heard.ensures, w.in-None.is) refl
+    ] in
     let short = block.short in
     let keys = block.keys in
     let few : len < 256 = omega arith in
