@@ -1,6 +1,6 @@
 -- The mentions between two keys, and which keys some slots close.
-use Rattle.std.proofs.Common.{◌≡◌, ℕ, ◌+◌, ◌-◌, ◌<◌, ◌≤◌, ◌==◌, ◌++◌, List, [], ◌∷◌, length, take, drop, get_or, Bool, true, false, not, ◌&&◌, ◌||◌, refl, sym, ap, ◌∙◌, subst, arith, ⊎_elim, inl, inr, nat_le, nat_lt, All, eq-eqb, eqb-true, get_or-drop, get_or-take, length-drop, length-take-le, take-append-drop, take-take}
-use Rattle.vic_verdict.proofs.Words.{list_any, or_false, and_parts, and_from, cases_eq, cases_lt, false_from_ne_true, false≢true, nat_tests, get_or_default, list_any-append, list_any_at, list_any_more, Any-from_list_any, Mention, in_ranges, is_between, Closes, is_in_some, ReadSlot, AreInOrder, has_where, has_left, is_in}
+use Rattle.std.proofs.Common.{◌≡◌, ℕ, ◌+◌, ◌-◌, ◌<◌, ◌≤◌, ◌==◌, ◌++◌, List, [], ◌∷◌, length, take, drop, get_or, Bool, true, false, not, ◌&&◌, ◌||◌, refl, sym, ap, ◌∙◌, subst, arith, ⊎_elim, inl, inr, nat_le, nat_lt, All, eq-eqb, get_or-drop, get_or-take, length-drop, length-take-le, take-append-drop}
+use Rattle.vic_verdict.proofs.Words.{list_any, or_false, and_from, cases_eq, cases_lt, false≢true, nat_tests, list_any-append, list_any_at, list_any_more, Mention, in_ranges, is_between, Closes, is_in_some, ReadSlot, AreInOrder, has_where, has_left, is_in}
 use Rattle.std.proofs.lemmas.List.Elements.{All-from_get_or}
 use Rattle.vic_verdict.specs.inner.Sweep.{IsStart}
 use Rattle.vic_verdict.proofs.Sweeping.{all_cover, between_parts, nobody, where_none}
@@ -28,13 +28,13 @@ part_where ns first last s m start end p k inside =
     let behind = length-drop m (drop s ns) in
     let front = length-take-le s ns start.within in
     let none = where_none p (take s ns) k (λ j lt e _.
-        let at = ap (λ (n : Mention). n.key) (get_or-take s ns j nobody (omega arith)) in
-        let under = start.below j nobody (omega arith) in
-        omega arith) in
+    let at = ap (λ (n : Mention). n.key) (get_or-take s ns j nobody (omega arith)) in
+    let under = start.below j nobody (omega arith) in
+    omega arith) in
     let past = where_none p (drop m (drop s ns)) k (λ j lt e _.
-        let at = ap (λ (n : Mention). n.key) (get_or-drop m (drop s ns) j nobody) in
-        let over = end.rest (m + j) nobody (omega arith) (omega arith) in
-        omega arith) in
+    let at = ap (λ (n : Mention). n.key) (get_or-drop m (drop s ns) j nobody) in
+    let over = end.rest (m + j) nobody (omega arith) (omega arith) in
+    omega arith) in
     let test : Mention → Bool = λ (n : Mention). (n.key == k) && p n in
     sym (ap (list_any test) (sym (take-append-drop s ns))
     ∙ (list_any-append test (take s ns) (drop s ns)
@@ -91,22 +91,19 @@ closed_passed old new ns first last from i up lt gone h = record {
 
 -- a mention that is left: what is before it is closed
 pub closed_left : (old new next : List (ℕ × ℕ)) (ns : List Mention) (first last from i : ℕ) → AreInOrder ns → All (λ (n : Mention). is_between first last n.key ≡ true) ns → i < length ns → (get_or ns i nobody).left ≡ true → ((k : ℕ) → in_ranges next k ≡ (in_ranges new k || (nat_le from k && nat_lt k (get_or ns i nobody).key))) → IsClosedTo old new ns first last from i → IsClosedTo old next ns first last ((get_or ns i nobody).key + 1) (i + 1)
-closed_left old new next ns first last from i up inside lt left pushed h = record {
-  since = omega (arith, at);
-  upto = let b = (between_parts first last key (inside i nobody lt)).1 in omega arith;
-  behind = λ more. let over = up i (i + 1) nobody (omega arith) more in omega arith;
-  below = λ j less is. let over = up j i nobody (omega arith) lt in omega arith;
-  closed = λ k. pushed k ∙ ap (λ b. b || (nat_le from k && nat_lt k key)) (h.closed k)
-      ∙ next_keys (in_ranges old k) (has_left ns k) first from key k h.since at (none_before k) (λ e. list_any_at (λ (n : Mention). (n.key == k) && n.left) ns i nobody lt (and_from _ _ (eq-eqb key k (sym e)) left));
-} where
-  key : ℕ
-  key = (get_or ns i nobody).key
-
-  at : from ≤ key + 1
-  at = h.behind lt
-
-  none_before : (k : ℕ) → from ≤ k → k < key → has_left ns k ≡ false
-  none_before k since less = none_left ns from i k h.below since (λ j ge within. let over = up i j nobody ge within in omega arith)
+closed_left old new next ns first last from i up inside lt left pushed h =
+    let key = (get_or ns i nobody).key in
+    let at = h.behind lt in
+    record {
+      since = let since = h.since in omega arith;
+      upto = let b = (between_parts first last key (inside i nobody lt)).1 in omega arith;
+      behind = λ more. let over = up i (i + 1) nobody (omega arith) more in omega arith;
+      below = λ j less is. let over = up j i nobody (omega arith) lt in omega arith;
+      closed = λ k. pushed k ∙ ap (λ b. b || (nat_le from k && nat_lt k key)) (h.closed k)
+          ∙ next_keys (in_ranges old k) (has_left ns k) first from key k h.since at
+          (λ since less. none_left ns from i k h.below since (λ j ge within. let over = up i j nobody ge within in omega arith))
+          (λ e. list_any_at (λ (n : Mention). (n.key == k) && n.left) ns i nobody lt (and_from _ _ (eq-eqb key k (sym e)) left));
+    }
 
 -- where nothing is pushed, or one range is
 pub pushed_none : (new : List (ℕ × ℕ)) (from key : ℕ) → key ≤ from → (k : ℕ) → in_ranges new k ≡ (in_ranges new k || (nat_le from k && nat_lt k key))
@@ -114,10 +111,8 @@ pushed_none new from key le k = grind (arith, nat_tests)
 
 pub pushed_one : (new next : List (ℕ × ℕ)) (from key : ℕ) → from < key → next ≡ new ++ (from, key - 1) ∷ [] → (k : ℕ) → in_ranges next k ≡ (in_ranges new k || (nat_le from k && nat_lt k key))
 pushed_one new next from key lt is k =
-    ap (λ rs. in_ranges rs k) is ∙ list_any-append (λ r. is_between r.0 r.1 k) new ((from, key - 1) ∷ []) ∙ one (in_ranges new k)
-  where
-    one : (o : Bool) → (o || ((nat_le from k && nat_le k (key - 1)) || false)) ≡ (o || (nat_le from k && nat_lt k key))
-    one o = grind (arith, nat_tests)
+    let pushed = list_any-append (λ (r : ℕ × ℕ). is_between r.0 r.1 k) new ((from, key - 1) ∷ []) in
+    rw is (grind (arith, nat_tests))
 
 -- at the end, with the keys that are left over
 pub closed_all : (old new next : List (ℕ × ℕ)) (ns all : List Mention) (first last from i : ℕ) → length ns ≤ i → ((k : ℕ) → is_between first last k ≡ true → has_left ns k ≡ has_left all k) → ((k : ℕ) → in_ranges next k ≡ (in_ranges new k || (nat_le from k && nat_lt k (last + 1)))) → IsClosedTo old new ns first last from i → Closes all (is_between first last) old next

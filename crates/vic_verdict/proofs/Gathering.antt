@@ -119,9 +119,9 @@ others_but_one : (a : ℕ) (xs : List ℕ) → AreDifferent xs → length xs ≤
 others_but_one a xs d =
     let others = filter (is_other (Some a)) xs in
     let le = no_more xs (a ∷ others) d (λ u h. ⊎_elim
-        (λ e. has_at u a others e)
-        (λ ne. has_there u a others (filter_has (is_other (Some a)) xs u (and_from _ _ h (is_other-from a u ne))))
-        (cases_eq u a)) in
+    (λ e. has_at u a others e)
+    (λ ne. has_there u a others (filter_has (is_other (Some a)) xs u (and_from _ _ h (is_other-from a u ne))))
+    (cases_eq u a)) in
     omega arith
 
 -- the UID to avoid isn't one of exactly as many as are needed

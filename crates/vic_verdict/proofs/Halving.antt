@@ -4,7 +4,7 @@ use Rattle.vic_verdict.proofs.Words.{cases_lt, take-map, length-map, Sent, LogLi
 use Rattle.std.proofs.lemmas.List.{map-append}
 use Rattle.vic_verdict.specs.declared.facts.Contradiction.{Contradiction}
 use Rattle.vic_verdict.proofs.Possibility.{IsPossible-front}
-use Rattle.vic_log.specs.Order.{IsInOrder, AreValid}
+use Rattle.vic_log.specs.Order.{IsInOrder}
 use Rattle.vic_verdict.specs.LogLines.{AreLogLines}
 use Rattle.vic_log.proofs.Order.{IsInOrder-front, still_there}
 
@@ -18,12 +18,6 @@ pub record Between (lines : List LogLine) (low high : ℕ) : Type 0 where
 pub front_and_rest : (n : ℕ) (lines : List LogLine) → entries (take n lines) ++ entries (drop n lines) ≡ entries lines
 front_and_rest n lines = sym (map-append (λ (l : LogLine). l.item) (take n lines) (drop n lines)) ∙ ap entries (take-append-drop n lines)
 
-order_front : (n : ℕ) (lines : List LogLine) → IsInOrder (entries lines) → IsInOrder (entries (take n lines))
-order_front n lines o = IsInOrder-front (entries (take n lines)) (entries (drop n lines)) (subst IsInOrder (sym (front_and_rest n lines)) o)
-
-valid_front : (n : ℕ) (lines : List LogLine) → AreValid (entries lines) → AreValid (entries (take n lines))
-valid_front n lines v i q k = v i q (subst (λ es. slice_get es i ≡ Some (Sent q)) (front_and_rest n lines) (still_there (entries (take n lines)) (entries (drop n lines)) i (Sent q) k))
-
 rising_front : (n below : ℕ) (lines : List LogLine) → IsRisingFrom below lines → IsRisingFrom below (take n lines)
 rising_front zero below lines r = tt
 rising_front (suc n) below [] r = tt
@@ -32,8 +26,8 @@ rising_front (suc n) below (l ∷ lines) r = (r.0, rising_front n l.number lines
 -- the first of some first lines are first lines
 pub first_front : (n : ℕ) (lines : List LogLine) → AreLogLines lines → AreLogLines (take n lines)
 first_front n lines f = record {
-  order = order_front n lines f.order;
-  valid = valid_front n lines f.valid;
+  order = IsInOrder-front (entries (take n lines)) (entries (drop n lines)) (subst IsInOrder (sym (front_and_rest n lines)) f.order);
+  valid = λ i q k. f.valid i q (subst (λ es. slice_get es i ≡ Some (Sent q)) (front_and_rest n lines) (still_there (entries (take n lines)) (entries (drop n lines)) i (Sent q) k));
   rising = rising_front n 0 lines f.rising;
 }
 

@@ -1,12 +1,11 @@
 -- Whether the UIDs that were heard could have answered, from position to position.
-use Rattle.std.proofs.Common.{◌≡◌, ℕ, ◌+◌, ◌<◌, ◌++◌, ◌==◌, List, [], ◌∷◌, take, drop, ◌≤◌, Bool, true, false, not, ◌&&◌, Some, refl, sym, ap, ◌∙◌, subst, arith, inl, inr, slice_get, Any, ◌⊎◌, if◌then◌else◌, All, IsPermutation, take-append-drop, eq-eqb, eqb-true}
-use Rattle.vic_verdict.proofs.Words.{not_from_false, ReadSlot, Demand, Any-from_list_any, list_any, list_any-IsPermutation, cases_lt, and_parts, and_from, both_ways, false_from_ne_true, nat_tests, list_any_at, slice_get_within, IsUid, is_uid, mirror, Reply, Entry, Collision, Heard, Garbled, mask_at, lies_in_some, is_quiet, answers_at, reading_of, slots_of, is_open, answers_agree, IsUid-from, Mention, IsPossible, IsContradictedAt, answering, needs, reply_place, IsFirstQuietReply, is_quiet_by}
+use Rattle.std.proofs.Common.{◌≡◌, ℕ, ◌+◌, ◌<◌, ◌==◌, List, [], ◌∷◌, take, ◌≤◌, true, false, not, ◌&&◌, Some, refl, sym, ap, ◌∙◌, subst, arith, inl, inr, slice_get, Any, ◌⊎◌, if◌then◌else◌, All, IsPermutation, eq-eqb, eqb-true}
+use Rattle.vic_verdict.proofs.Words.{not_from_false, ReadSlot, Demand, Any-from_list_any, list_any-IsPermutation, cases_lt, and_parts, and_from, both_ways, false_from_ne_true, nat_tests, list_any_at, slice_get_within, IsUid, is_uid, mirror, Reply, Entry, Collision, Heard, Garbled, mask_at, lies_in_some, is_quiet, answers_at, reading_of, slots_of, is_open, answers_agree, IsUid-from, Mention, IsPossible, IsContradictedAt, answering, needs, reply_place, IsFirstQuietReply, is_quiet_by}
 use Rattle.std.proofs.lemmas.Bool.{true_from_ne_false}
 use Rattle.std.proofs.lemmas.List.Sorted.{IsPermutation-sym}
 use Rattle.std.proofs.lemmas.List.Elements.{All-weaker}
-use Rattle.vic_log.proofs.Places.{agree_upto}
 use Rattle.vic_verdict.proofs.Entries.{EntryAsks}
-use Rattle.vic_verdict.specs.inner.Replies.{Answers, is_quiet_reply, IsQuietReply}
+use Rattle.vic_verdict.specs.inner.Replies.{Answers, IsQuietReply}
 use Rattle.vic_verdict.specs.inner.Stretches.{HasGathered, mentions_from}
 use Rattle.vic_verdict.proofs.Silencing.{silenced_permuted}
 use Rattle.vic_verdict.proofs.Lacking.{taken}
@@ -17,12 +16,8 @@ use Rattle.vic_verdict.proofs.Supplied.{supplied_each}
 -- ---- who could have answered
 
 -- who answers in a slot of some entries answers there in those up to it
-front_answers : (es : List Entry) (i : ℕ) (e : Entry) (u : ℕ) → slice_get es i ≡ Some e → answers_at es i u ≡ answers_at (take (i + 1) es) i u
-front_answers es i e u k =
-    let front = take (i + 1) es in
-    let within = slice_get_within front i e (taken (i + 1) es i (omega arith) ∙ k) in
-    let same = answers_agree i front (front ++ drop (i + 1) es) (agree_upto front (drop (i + 1) es) i (omega arith)) u in
-    ap (λ xs. answers_at xs i u) (sym (take-append-drop (i + 1) es)) ∙ sym same
+front_answers : (es : List Entry) (i u : ℕ) → answers_at es i u ≡ answers_at (take (i + 1) es) i u
+front_answers es i u = answers_agree i es (take (i + 1) es) (λ j lt. sym (taken (i + 1) es j (omega arith))) u
 
 -- a slot has what it requires, if a population could have produced the entries up to there
 front_asks : (es : List Entry) (i : ℕ) (e : Entry) → slice_get es i ≡ Some e → IsPossible (take (i + 1) es) → EntryAsks (reading_of e) (answering (is_open (slots_of (take (i + 1) es))) (take (i + 1) es) i)
@@ -32,7 +27,7 @@ front_asks es i e k possible = supplied_each (take (i + 1) es) i e (taken (i + 1
 up_to_it : (es : List Entry) (i : ℕ) (r : Reply) → slice_get es i ≡ Some (Heard r) → (answers_at es i r.uid ≡ true → ⊥) → IsContradictedAt es i
 up_to_it es i r k none = record {
   within = slice_get_within es i (Heard r) k;
-  impossible = λ possible. none (front_answers es i (Heard r) r.uid k ∙ (and_parts _ _ (front_asks es i (Heard r) k possible)).1);
+  impossible = λ possible. none (front_answers es i r.uid ∙ (and_parts _ _ (front_asks es i (Heard r) k possible)).1);
 }
 
 -- a reply by a UID outside of the mask
@@ -50,7 +45,7 @@ nobody_there es i e k asks none = record {
     nobody u a =
         let w = and_parts (is_open (slots_of (take (i + 1) es)) u) _ a in
         let uid = IsUid-from u (and_parts (is_uid u) _ w.0).0 in
-        both_ways _ (none u uid) (and_parts (lies_in_some (mask_at es i) u) _ (front_answers es i e u k ∙ w.1)).0
+        both_ways _ (none u uid) (and_parts (lies_in_some (mask_at es i) u) _ (front_answers es i u ∙ w.1)).0
 
     go : (f : Entry) → 0 < needs f → EntryAsks (reading_of f) (answering (is_open (slots_of (take (i + 1) es))) (take (i + 1) es) i) → ⊥
     go Collision lt a = nobody a.0 a.3
@@ -156,10 +151,10 @@ answers_before es from i cut ns a first j r below early k =
           let it : IsHeardAt es from i n = subst (HeardIn es from i) w.3 (a.replies w.0 n w.2) w.4.1 in
           let told = it.told in
           let awake : is_quiet es n.at told.reply.uid ≡ false = false_from_ne_true _ (λ quiet.
-              let key = ap (λ key. is_quiet_by ns key n.at) told.key ∙ (a.quiet n.at told.reply.uid told.since (omega arith) it.is_uid ∙ quiet) in
-              let here = list_any_at (λ (m : Mention). (reply_place m == n.at) && is_quiet_by ns m.key n.at) ns w.0 n w.2 (subst (λ (m : Mention). ((reply_place m == n.at) && is_quiet_by ns m.key n.at) ≡ true) (sym w.3) (and_from _ _ (eq-eqb (reply_place n) n.at (place_of n w.4.1)) key)) in
-              let le : cut ≤ n.at = first n.at here in
-              absurd (omega arith)) in
+          let key = ap (λ key. is_quiet_by ns key n.at) told.key ∙ (a.quiet n.at told.reply.uid told.since (omega arith) it.is_uid ∙ quiet) in
+          let here = list_any_at (λ (m : Mention). (reply_place m == n.at) && is_quiet_by ns m.key n.at) ns w.0 n w.2 (subst (λ (m : Mention). ((reply_place m == n.at) && is_quiet_by ns m.key n.at) ≡ true) (sym w.3) (and_from _ _ (eq-eqb (reply_place n) n.at (place_of n w.4.1)) key)) in
+          let le : cut ≤ n.at = first n.at here in
+          absurd (omega arith)) in
           let both : Some (Heard told.reply) ≡ Some (Heard r) = sym told.heard ∙ (ap (slice_get es) at ∙ k) in
           let same : told.reply ≡ r = cc in
           subst (λ m. Answers es m r.uid) at (subst (λ (x : Reply). Answers es n.at x.uid) same (it.is_uid, and_from _ _ it.inside (not_from_false _ awake)))

@@ -1,20 +1,11 @@
 -- The UIDs that a log lists, line by line.
-use Rattle.std.proofs.Common.{◌≡◌, ℕ, zero, suc, ◌<◌, ◌+◌, List, [], ◌∷◌, ◌++◌, Some, take, refl, sym, ap, ◌∙◌, arith, append_assoc, length, get_or, ◌^◌, slice_get}
-use Rattle.vic_verdict.proofs.Words.{slice_get_read, Entry, Listed, LogLine, entries, listed, IsRisingFrom}
-
-listed_cons : (e : Entry) (es : List Entry) → listed (e ∷ es) ≡ listed (e ∷ []) ++ listed es
-listed_cons (Listed u) es = refl
-listed_cons e es = refl
+use Rattle.std.proofs.Common.{◌≡◌, ℕ, zero, suc, ◌<◌, ◌+◌, List, [], ◌∷◌, ◌++◌, Some, take, refl, ap, ◌∙◌, arith, length, get_or, ◌^◌, slice_get}
+use Rattle.vic_log.proofs.Push.{entries_next, listed-append}
+use Rattle.vic_verdict.proofs.Words.{slice_get_read, LogLine, entries, listed, IsRisingFrom}
 
 -- one line more
 pub listed_more : (lines : List LogLine) (i : ℕ) (l : LogLine) → slice_get lines i ≡ Some l → listed (entries (take (suc i) lines)) ≡ listed (entries (take i lines)) ++ listed (l.item ∷ [])
-listed_more [] i l k = cc
-listed_more (x ∷ lines) zero l k = let same : x ≡ l = cc in ap (λ y. listed (y.item ∷ [])) same
-listed_more (x ∷ lines) (suc i) l k =
-    listed_cons x.item (entries (take (suc i) lines))
-    ∙ (ap (λ us. listed (x.item ∷ []) ++ us) (listed_more lines i l k)
-    ∙ (sym (append_assoc (listed (x.item ∷ [])) (listed (entries (take i lines))) (listed (l.item ∷ [])))
-    ∙ ap (λ us. us ++ listed (l.item ∷ [])) (sym (listed_cons x.item (entries (take i lines))))))
+listed_more lines i l k = ap listed (entries_next lines i l k) ∙ listed-append (entries (take i lines)) (l.item ∷ [])
 
 -- each line's number is above its position
 pub number_above : (n : ℕ) (lines : List LogLine) (i : ℕ) (l : LogLine) → IsRisingFrom n lines → slice_get lines i ≡ Some l → n + i < l.number

@@ -1,7 +1,6 @@
 -- The mentions of entries, and who is Quiet by them.
-use Rattle.std.proofs.Common.{◌≡◌, ℕ, zero, suc, ◌^◌, ◌<◌, ◌≤◌, ◌==◌, List, [], ◌∷◌, ◌++◌, Bool, true, false, ◌&&◌, ◌||◌, Option, Some, None, All, if◌then◌else◌, nat_le, nat_lt, slice_get, refl, sym, ap, ◌∙◌, subst, arith, inl, inr, eq-eqb}
+use Rattle.std.proofs.Common.{◌≡◌, ℕ, min, zero, suc, ◌^◌, ◌<◌, ◌≤◌, ◌==◌, List, [], ◌∷◌, ◌++◌, Bool, true, false, ◌&&◌, ◌||◌, Option, Some, None, All, if◌then◌else◌, nat_le, nat_lt, slice_get, refl, sym, ap, ◌∙◌, subst, arith, inl, inr, eq-eqb, le-leb, ne_eqb}
 use Rattle.vic_verdict.proofs.Words.{IsUid, is_uid, mirror, Entry, Heard, Sent, Reply, silences, wakes, is_quiet, is_quiet_by, quiet_of, Mention, nat_tests, is_uid_from, IsUid-from, uid_of, uid_of_mirror, cases_lt, cases_eq, and_from, both_ways, false≢true, list_any, list_any-append, or_left, or_right, HaveKeys, is_mentioned}
-use Rattle.std.proofs.lemmas.Bool.{le-leb, ne_eqb}
 use Rattle.std.proofs.lemmas.List.Elements.{All-nil, All-cons, All-append}
 use Rattle.std.proofs.lemmas.List.Sums.{list_all-from_AllPass}
 use Rattle.vic_frame.proofs.MirrorLaws.{mirror_below, same_test}
@@ -100,36 +99,25 @@ quiet_next es from i j u since small early w =
     ∙ (list_any-append (λ (n : Mention). (n.key == mirror u) && nat_lt (quiet_of n) j) (mentions_from es from i) (mentions_at (slice_get es i) i)
     ∙ ap (λ b. is_quiet_by (mentions_from es from i) (mirror u) j || b) (quiet_one (slice_get es i) i j u small early w))
 
--- behind the last of them the mentions show no more
-quiet_past : (es : List Entry) (from i j u : ℕ) → i ≤ j → j ≤ 2 ^ 32 → IsUid u → is_quiet_by (mentions_from es from i) (mirror u) j ≡ is_quiet_by (mentions_from es from i) (mirror u) i
-quiet_past es from zero j u le small w = refl
-quiet_past es from (suc i) j u le small w = elim (cases_lt i from) [
-  | inl lt ↦ rw (none_yet from i lt) refl
+-- without a field cycle in between they show who is Quiet, as far as they reach
+quiet_upto : (es : List Entry) (from i j m u : ℕ) → is_quiet es from u ≡ false → ((k : ℕ) → from ≤ k → k < i → wakes (slice_get es k) ≡ false) → from ≤ i → from ≤ j → m ≡ min i j → i ≤ 2 ^ 32 → j ≤ 2 ^ 32 → IsUid u → is_quiet_by (mentions_from es from i) (mirror u) j ≡ is_quiet es m u
+quiet_upto es from zero j m u ready awake begun since is small early w = let z : m ≡ 0 = omega arith in rw z refl
+quiet_upto es from (suc i) j m u ready awake begun since is small early w = elim (cases_lt i from) [
+  | inl lt ↦ let e : m ≡ from = omega arith in rw (none_yet from i lt) (sym (ap (λ k. is_quiet es k u) e ∙ ready))
   | inr ge ↦
-      let now = quiet_next es from i (suc i) u ge (omega arith) (omega arith) w in
-      let then' = quiet_next es from i j u ge (omega arith) small w in
-      let a = quiet_past es from i j u (omega arith) small w in
-      let b = quiet_past es from i (suc i) u (omega arith) (omega arith) w in
-      grind (arith, nat_tests)
-]
-
--- without a field cycle in between they show who is Quiet
-pub quiet_mentions : (es : List Entry) (from i j u : ℕ) → is_quiet es from u ≡ false → ((m : ℕ) → from ≤ m → m < i → wakes (slice_get es m) ≡ false) → from ≤ j → j ≤ i → i ≤ 2 ^ 32 → IsUid u → is_quiet_by (mentions_from es from i) (mirror u) j ≡ is_quiet es j u
-quiet_mentions es from zero j u ready awake since upto small w = let z : j ≡ 0 = omega arith in rw z refl
-quiet_mentions es from (suc i) j u ready awake since upto small w = elim (cases_lt i from) [
-  | inl lt ↦ let e : j ≡ from = omega arith in rw (none_yet from i lt) (sym (ap (λ m. is_quiet es m u) e ∙ ready))
-  | inr ge ↦
-      let before : (m : ℕ) → from ≤ m → m < i → wakes (slice_get es m) ≡ false = λ m s lt. awake m s (omega arith) in
-      elim (cases_eq j (suc i)) [
-        | inl same ↦
-            let next = quiet_next es from i (suc i) u ge (omega arith) (omega arith) w in
-            let past = quiet_past es from i (suc i) u (omega arith) (omega arith) w in
-            let h = quiet_mentions es from i i u ready before ge (omega arith) (omega arith) w in
+      let before : (k : ℕ) → from ≤ k → k < i → wakes (slice_get es k) ≡ false = λ k s lt. awake k s (omega arith) in
+      let next = quiet_next es from i j u ge (omega arith) early w in
+      elim (cases_lt i j) [
+        | inl more ↦
+            let e : m ≡ suc i = omega arith in
+            let h = quiet_upto es from i j i u ready before ge since (omega arith) (omega arith) early w in
             let wake = awake i ge (omega arith) in
-            rw same (grind (arith, nat_tests))
-        | inr ne ↦
-            let next = quiet_next es from i j u ge (omega arith) (omega arith) w in
-            let h = quiet_mentions es from i j u ready before since (omega arith) (omega arith) w in
+            rw e (grind (arith, nat_tests))
+        | inr past ↦
+            let h = quiet_upto es from i j m u ready before ge since (omega arith) (omega arith) early w in
             grind (arith, nat_tests)
       ]
 ]
+
+pub quiet_mentions : (es : List Entry) (from i j u : ℕ) → is_quiet es from u ≡ false → ((m : ℕ) → from ≤ m → m < i → wakes (slice_get es m) ≡ false) → from ≤ j → j ≤ i → i ≤ 2 ^ 32 → IsUid u → is_quiet_by (mentions_from es from i) (mirror u) j ≡ is_quiet es j u
+quiet_mentions es from i j u ready awake since upto small w = quiet_upto es from i j j u ready awake (omega arith) since (omega arith) small (omega arith) w

@@ -37,9 +37,6 @@ pub record IsFoundTo (ns : List Mention) (end k first : ℕ) : Type 0 where
   pub quiet : first < end → IsQuietReply ns first
   pub least : (j : ℕ) → j < k → is_quiet_reply ns (at ns j) ≡ true → first ≤ reply_place (at ns j)
 
-pub found_first : (ns : List Mention) (end : ℕ) → IsFoundTo ns end 0 end
-found_first ns end = record { within = omega arith; quiet = λ lt. absurd (omega arith); least = λ j lt. absurd (omega arith) }
-
 -- a reply of a Quiet UID
 quiet_here : (ns : List Mention) (k : ℕ) → k < length ns → is_quiet_reply ns (at ns k) ≡ true → IsQuietReply ns (reply_place (at ns k))
 quiet_here ns k below e = list_any_at (λ (n : Mention). (reply_place n == reply_place (at ns k)) && is_quiet_by ns n.key (reply_place (at ns k))) ns k nobody below (and_from _ _ (eq-eqb _ _ refl) e)

@@ -4,7 +4,7 @@ use Rattle.vic_verdict.proofs.Words.{cases_eq, and_true, Reply, is_quiet, length
 use Rattle.vic_verdict.specs.declared.stretches.Settled.{Settled}
 use Rattle.vic_verdict.specs.inner.Asked.{Keeps}
 use Rattle.vic_verdict.specs.inner.Replies.{Answers, IsQuietReply}
-use Rattle.vic_verdict.specs.inner.Stretches.{HasGathered, IsOpenTo, IsSettled}
+use Rattle.vic_verdict.specs.inner.Stretches.{HasGathered, IsSettled}
 use Rattle.vic_verdict.proofs.Demanding.{kept_first, kept_cycle, kept_to}
 use Rattle.vic_verdict.proofs.Heard.{AreHeard, are_heard, answers_before, quiet_contradicts, quiet_since}
 use Rattle.vic_verdict.proofs.Lacking.{taken, open_agrees}

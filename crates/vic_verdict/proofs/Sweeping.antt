@@ -1,6 +1,6 @@
 -- What the slots between two field cycles leave, mention by mention.
-use Rattle.std.proofs.Common.{◌≡◌, ℕ, zero, suc, ◌+◌, ◌-◌, ◌<◌, ◌≤◌, ◌==◌, List, [], ◌∷◌, length, take, filter, cond, get_or, set, Bool, true, false, not, ◌&&◌, ◌||◌, Option, Some, None, refl, sym, ap, ◌∙◌, subst, arith, add-one, ◌++◌, inl, inr, ⊎_elim, ◌^◌, nat_le, nat_lt, All, ne_eqb, eqb-true, ext_get_or, get_or-set_same, get_or-set_other, length-set, take_all, IsPermutation}
-use Rattle.vic_verdict.proofs.Words.{cases_Bool, false_from_ne_true, length-map, list_all, list_any, cases_eq, cases_lt, false≢true, and_parts, and_from, or_cases, or_left, or_right, nat_tests, get_or-map, get_or_default, All-head, All-tail, list_any_more, Mention, ReadSlot, Run, is_between, quiet_of, first_of, last_of, heard_of, is_heard, is_in, all_leave, level_leaves, mask_leaves, run_leaves, keep_all, has_where, has_left, is_quiet_by, read_allows, all_allow, all_allow_to, is_mentioned, is_mentioned_if, all_hear_mentioned, AreInOrder, HaveKeys, list_any-IsPermutation, and_true, lt_yes, or_false}
+use Rattle.std.proofs.Common.{◌≡◌, ℕ, ◌+◌, ◌-◌, ◌<◌, ◌≤◌, ◌==◌, List, [], ◌∷◌, length, take, filter, get_or, set, Bool, true, false, not, ◌&&◌, ◌||◌, Option, Some, None, refl, sym, ap, ◌∙◌, subst, arith, ◌++◌, inl, inr, ⊎_elim, ◌^◌, nat_lt, All, eqb-true, ext_get_or, get_or-set_same, get_or-set_other, length-set, IsPermutation}
+use Rattle.vic_verdict.proofs.Words.{cases_Bool, false_from_ne_true, length-map, list_all, list_any, cases_eq, cases_lt, false≢true, and_parts, and_from, or_cases, or_left, or_right, nat_tests, get_or-map, get_or_default, All-head, All-tail, Mention, ReadSlot, Run, is_between, quiet_of, first_of, last_of, heard_of, is_heard, is_in, all_leave, level_leaves, mask_leaves, run_leaves, keep_all, has_where, has_left, is_quiet_by, read_allows, all_allow, all_allow_to, is_mentioned, is_mentioned_if, all_hear_mentioned, AreInOrder, HaveKeys, list_any-IsPermutation, and_true, both_ways, lt_from, lt_yes}
 use Rattle.std.proofs.lemmas.List.Elements.{All-filter, All-from_get_or, All-map, All-weaker}
 use Rattle.std.proofs.lemmas.List.Folds.{list_all_more, list_any_none, map_fixed}
 use Rattle.std.proofs.lemmas.List.Sums.{AllPass-from_list_all, list_all-from_AllPass}
@@ -29,12 +29,9 @@ kept_whole p n e = ap (λ (b : Bool). record { key = n.key; at = n.at; is_heard 
 pub keep_none : (ns : List Mention) → keep_all (λ k t. true) ns ≡ ns
 keep_none ns = map_fixed (keep (λ k t. true)) ns (λ j d lt. kept_whole (λ k t. true) (get_or ns j d) refl)
 
-pub keep-length : (p : ℕ → ℕ → Bool) (ns : List Mention) → length (keep_all p ns) ≡ length ns
-keep-length p ns = length-map ns (keep p)
-
 pub keep-order : (p : ℕ → ℕ → Bool) (ns : List Mention) → AreInOrder ns → AreInOrder (keep_all p ns)
 keep-order p ns up i j d le below =
-    let short : j < length ns = subst (λ m. j < m) (keep-length p ns) below in
+    let short : j < length ns = subst (λ m. j < m) (length-map ns (keep p)) below in
     rw (get_or-map (keep p) ns i d d (omega arith), get_or-map (keep p) ns j d d short) (up i j d le short)
 
 pub keep-keys : (p : ℕ → ℕ → Bool) (ns : List Mention) → HaveKeys ns → HaveKeys (keep_all p ns)
@@ -99,7 +96,7 @@ ruled_more p old new i m h short is = record {
 
 pub ruled_all : (p : ℕ → ℕ → Bool) (old new : List Mention) (i : ℕ) → IsRuled p old new i → ((k : ℕ) → i ≤ k → k < length old → p (get_or old k nobody).key (quiet_of (get_or old k nobody)) ≡ true) → new ≡ keep_all p old
 ruled_all p old new i h above =
-    ext_get_or nobody new (keep_all p old) (h.same ∙ sym (keep-length p old)) (λ k below.
+    ext_get_or nobody new (keep_all p old) (h.same ∙ sym (length-map old (keep p))) (λ k below.
     let short : k < length old = subst (λ m. k < m) h.same below in
     let there = sym (get_or-map (keep p) old k nobody nobody short) in
     ⊎_elim
@@ -109,11 +106,10 @@ ruled_all p old new i h above =
 
 -- ---- a mask after another
 
-pub run_first : (s : ReadSlot) (m : Level) (near : ℕ) (ns : List Mention) → ((k q : ℕ) → level_leaves m k q ≡ slot_leaves s.at (heard_of s) k q) → keep_all (run_leaves (Some (record { first = first_of s; last = last_of s; level = m; near = near }))) ns ≡ keep_all (read_leaves s) ns
-run_first s m near ns h = keep_alike _ _ (λ k q. ap (λ b. not (is_between (first_of s) (last_of s) k) || b) (h k q)) ns
-
-pub run_next : (r : Run) (s : ReadSlot) (m : Level) (near : ℕ) (ns new : List Mention) → new ≡ keep_all (mask_leaves r.first r.last r.level) ns → ((k q : ℕ) → level_leaves m k q ≡ slot_leaves s.at (heard_of s) k q) → keep_all (run_leaves (Some (record { first = first_of s; last = last_of s; level = m; near = near }))) new ≡ keep_all (λ k q. run_leaves (Some r) k q && read_leaves s k q) ns
-run_next r s m near ns new is h = run_first s m near new h ∙ (ap (keep_all (read_leaves s)) is ∙ keep_twice (read_leaves s) (mask_leaves r.first r.last r.level) ns)
+pub run_next : (o : Option Run) (s : ReadSlot) (m : Level) (near : ℕ) (ns new : List Mention) → new ≡ keep_all (run_leaves o) ns → ((k q : ℕ) → level_leaves m k q ≡ slot_leaves s.at (heard_of s) k q) → keep_all (run_leaves (Some (record { first = first_of s; last = last_of s; level = m; near = near }))) new ≡ keep_all (λ k q. run_leaves o k q && read_leaves s k q) ns
+run_next o s m near ns new is h =
+    keep_alike _ _ (λ k q. ap (λ b. not (is_between (first_of s) (last_of s) k) || b) (h k q)) new
+    ∙ (ap (keep_all (read_leaves s)) is ∙ keep_twice (read_leaves s) (run_leaves o) ns)
 
 -- one slot more of all
 pub runs_more : (o : Option Run) (r : Run) (reads : List ReadSlot) (i : ℕ) (s : ReadSlot) (old ns new : List Mention) → i < length reads → s ≡ get_or reads i s → keep_all (run_leaves o) ns ≡ keep_all (all_leave (take i reads)) old → keep_all (run_leaves (Some r)) new ≡ keep_all (λ k q. run_leaves o k q && read_leaves s k q) ns → keep_all (run_leaves (Some r)) new ≡ keep_all (all_leave (take (i + 1) reads)) old
@@ -153,24 +149,19 @@ least_here n ns k here h = record {
   first = λ i e. grind (arith, nat_tests, h i);
 }
 
-least_there : (n : Mention) (ns : List Mention) (k : ℕ) → (t : Least ns k) → ((n.key == k) ≡ true → t.quiet ≤ quiet_of n) → Least (n ∷ ns) k
-least_there n ns k t h = record {
-  quiet = t.quiet;
-  left = λ p e all. or_right _ _ (t.left p e (and_parts n.left (are_left ns) all).1);
-  first = λ i e. grind (arith, nat_tests, h, t.first i);
-}
-
 least : (ns : List Mention) (k : ℕ) → is_mentioned ns k ≡ true → Least ns k
 least [] k e = absurd (false≢true e)
-least (n ∷ ns) k e = go (n.key == k) refl (is_mentioned ns k) refl (least ns k) e where
-  go : (a : Bool) → (n.key == k) ≡ a → (b : Bool) → is_mentioned ns k ≡ b → (is_mentioned ns k ≡ true → Least ns k) → (a || b) ≡ true → Least (n ∷ ns) k
-  go true here false none ih _ = least_here n ns k here (λ i s. absurd (false≢true (sym none ∙ silenced_mentioned ns k i s)))
-  go true here true more ih _ = elim (cases_lt (quiet_of n) (ih more).quiet) [
-    | inl lt ↦ least_here n ns k here (λ i s. let f = (ih more).first i s in omega arith)
-    | inr ge ↦ least_there n ns k (ih more) (λ _. ge)
+least (n ∷ ns) k e = elim (cases_Bool (is_mentioned ns k)) [
+  | inl more ↦ let t = least ns k more in elim (cases_Bool ((n.key == k) && nat_lt (quiet_of n) t.quiet)) [
+    | inl w ↦ let p = and_parts (n.key == k) (nat_lt (quiet_of n) t.quiet) w in least_here n ns k p.0 (λ i s. let f = t.first i s in let lt = lt_from (quiet_of n) t.quiet p.1 in omega arith)
+    | inr w ↦ record {
+      quiet = t.quiet;
+      left = λ p f all. or_right _ _ (t.left p f (and_parts n.left (are_left ns) all).1);
+      first = λ i s. grind (arith, nat_tests, t.first i);
+    }
   ]
-  go false other true more ih _ = least_there n ns k (ih more) (λ same. absurd (false≢true (sym other ∙ same)))
-  go false other false none ih h = absurd (false≢true h)
+  | inr none ↦ let here : (n.key == k) ≡ true = grind arith in least_here n ns k here (λ i s. absurd (both_ways _ none (silenced_mentioned ns k i s)))
+]
 
 -- a mention that is left leaves the test true, and is silent where it fell silent before
 left_one : (p : ℕ → ℕ → Bool) (ns : List Mention) (k : ℕ) → has_left (keep_all p ns) k ≡ true → (q : ℕ) × (p k q ≡ true) × ((i : ℕ) → nat_lt q i ≡ true → is_quiet_by ns k i ≡ true)

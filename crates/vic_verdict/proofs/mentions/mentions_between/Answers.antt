@@ -1,4 +1,4 @@
-use Rattle.std.proofs.Common.{◌≡◌, ℕ, ◌+◌, ◌-◌, ◌^◌, ◌<◌, ◌≤◌, true, List, length, take, drop, get_or, arith, sym, ap, ◌∙◌, subst, All, length-drop, take_all, get_or-drop}
+use Rattle.std.proofs.Common.{◌≡◌, ℕ, ◌+◌, ◌-◌, ◌^◌, ◌<◌, true, List, length, take, drop, arith, sym, ap, ◌∙◌, subst, All, length-drop, take_all}
 use Rattle.vic_verdict.proofs.Words.{Mention, is_between, HaveKeys, has_where}
 use Rattle.std.proofs.lemmas.List.Elements.{All-drop, All-take}
 use Rattle.vic_verdict.specs.inner.Sweep.{IsStart}

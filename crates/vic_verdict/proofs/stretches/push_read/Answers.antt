@@ -1,5 +1,5 @@
-use Rattle.std.proofs.Common.{true, ◌≡◌, ℕ, ◌+◌, ◌-◌, ◌*◌, ◌^◌, ◌<◌, ◌≤◌, ◌∙◌, Option, Some, None, ap, sym, subst, refl, arith, inr, is_some, IfSome, nat_le, if◌then◌else◌}
-use Rattle.vic_verdict.proofs.Words.{KeyBlock, is_in_some_block, ReadSlot, is_between, first_of, heard_of, last_of, nat_tests}
+use Rattle.std.proofs.Common.{◌≡◌, ◌+◌, ◌-◌, ◌*◌, ◌^◌, ◌<◌, ◌∙◌, Option, ap, sym, subst, refl, arith, inr, IfSome}
+use Rattle.vic_verdict.proofs.Words.{KeyBlock, is_in_some_block, ReadSlot, is_between, first_of, heard_of, last_of}
 use Rattle.std.proofs.lemmas.Nat.{div-mul-add, mod-mul-add}
 use Rattle.vic_frame.specs.LowBitsFirst.{IsBlock}
 use Rattle.vic_verdict.specs.inner.Sweep.{len_of}

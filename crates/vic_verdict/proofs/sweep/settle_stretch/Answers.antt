@@ -1,9 +1,9 @@
 use Rattle.std.proofs.Common.{◌≡◌, ℕ, ◌∙◌, ◌&&◌, ◌++◌, not, refl, ap, sym, subst, rules, length, take, filter, List, All}
-use Rattle.vic_verdict.proofs.Words.{All-permutation, mirror, Mention, ReadSlot, all_allow, all_hear_mentioned, keep_all, all_leave, AreInOrder, in_ranges, Closes, is_in_some, IsFirstQuietReply}
+use Rattle.vic_verdict.proofs.Words.{length-map, All-permutation, mirror, Mention, ReadSlot, all_allow, all_hear_mentioned, keep_all, all_leave, AreInOrder, in_ranges, Closes, is_in_some, IsFirstQuietReply}
 use Rattle.std.proofs.lemmas.List.Elements.{All-filter}
 use Rattle.std.proofs.lemmas.List.Sorted.{IsNonDecreasingBy-from_sort_by_key}
-use Rattle.vic_verdict.specs.inner.Sweep.{HasRange}
-use Rattle.vic_verdict.proofs.Sweeping.{keep-length, keep-order, written, covered_allowed, left_permuted, mentioned_permuted, allow_permuted, is_before_place, allow_filtered, mentioned_filtered}
+use Rattle.vic_verdict.specs.inner.Sweep.{HasRange, keep}
+use Rattle.vic_verdict.proofs.Sweeping.{keep-order, written, covered_allowed, left_permuted, mentioned_permuted, allow_permuted, is_before_place, allow_filtered, mentioned_filtered}
 use Rattle.vic_verdict.proofs.Closing.{outside_closed}
 use Rattle.vic_verdict.proofs.Heard.{first_permuted}
 use Rattle.vic_verdict.proofs.Silencing.{put_in_order}
@@ -23,7 +23,7 @@ rule_out_all-requires-clause-ranges c =
 
 mentions_are : (n : ℕ) (ns now new sorted kept : List Mention) (ss reads : List ReadSlot) → now ≡ sorted → ss ≡ reads → new ≡ keep_all (all_leave ss) now → length now ≡ n → kept ≡ take n (new ++ ns) → kept ≡ keep_all (all_leave reads) sorted
 mentions_are n ns now new sorted kept ss reads a b d e f =
-    f ∙ (written n new ns (sym (ap length d ∙ (keep-length (all_leave ss) now ∙ e))) ∙ (d ∙ (ap (λ ts. keep_all (all_leave ts) now) b ∙ ap (keep_all (all_leave reads)) a)))
+    f ∙ (written n new ns (sym (ap length d ∙ (length-map now (keep (all_leave ss)) ∙ e))) ∙ (d ∙ (ap (λ ts. keep_all (all_leave ts) now) b ∙ ap (keep_all (all_leave reads)) a)))
 
 pub close_reads-requires-clause-order : goal.close_reads-requires-clause-order
 close_reads-requires-clause-order c =
