@@ -1,7 +1,5 @@
 -- Texts to which one line after another is added.
-use Rattle.std.proofs.Common.{◌≡◌, ◌<◌, ◌+◌, ℕ, zero, suc, List, [], ◌∷◌, ◌++◌, take, length, get_or, sym, ap, ◌∙◌, append-nil, append_assoc, arith}
-use Rattle.vic_answer.proofs.Words.{all_masks_text, masks_text}
-use Rattle.vic_tree.specs.declared.open_masks.OpenMasks.{OpenMasks}
+use Rattle.vic_answer.proofs.Words.{◌≡◌, ◌<◌, ◌+◌, ℕ, zero, suc, List, [], ◌∷◌, ◌++◌, take, length, get_or, sym, ap, ◌∙◌, append-nil, append_assoc, arith, all_masks_text, masks_text, OpenMasks}
 
 masks_more : (names : List (List ℕ)) (k : ℕ) (os : List OpenMasks) (i : ℕ) (o : OpenMasks) → i < length os → o ≡ get_or os i o → all_masks_text names k (take (suc i) os) ≡ all_masks_text names k (take i os) ++ masks_text names (k + i) o
 masks_more names k [] i o lt is = absurd (omega (arith, lt))

@@ -1,23 +1,10 @@
 -- Answers that begin with the line of `check`, and which of them with `complete `.
-use Rattle.std.proofs.Common.{◌≡◌, ℕ, List, [], ◌∷◌, ◌++◌, ap, append_assoc, append-nil, arith, slice_index, refl, subst, sym, ◌∙◌, codes, decimal, Option, Some, None, MatchOption, flat_map, option_map}
-use Rattle.vic_answer.proofs.Words.{LogValue, lines_of_text, IsLogOf, LogLine, IsVerdict, Impossible, Absent, Unlisted, Unsettled, Doubtful, Complete, BeginsAsCheck, IsAnswer, IsCheckOf, IsCompleteText, answer_line, verdict_line, Status}
-use Rattle.vic_log.specs.declared.entry.Entry.{Entry}
-use Rattle.vic_report.specs.Reports.{IsReport, first_finding, verdict_of}
-use Rattle.vic_report.specs.Findings.{uids_of}
+use Rattle.vic_answer.proofs.Words.{◌≡◌, ℕ, List, [], ◌∷◌, ◌++◌, ap, append_assoc, append-nil, arith, slice_index, refl, subst, sym, ◌∙◌, codes, decimal, Option, Some, None, MatchOption, flat_map, option_map, LogValue, lines_of_text, IsLogOf, LogLine, IsVerdict, Impossible, Absent, Unlisted, Unsettled, Doubtful, Complete, BeginsAsCheck, IsAnswer, IsCheckOf, IsCompleteText, answer_line, verdict_line, Status, Entry, IsReport, first_finding, verdict_of, uids_of, LogReport, ShownUid, report_begins, none_where_complete, IsPopulationBehind, IsShownByNone, Shows, Verdict, complete_whole, complete_second, Answer, Judged, Explained}
 use Rattle.vic_report.specs.declared.findings.Unsettled.{Unsettled as LeftToAsk}
-use Rattle.vic_report.specs.declared.reporting.LogReport.{LogReport}
 use Rattle.vic_report.specs.declared.reporting.LogReport.TheVariants as report
-use Rattle.vic_report.specs.declared.shown.ShownUid.{ShownUid}
-use Rattle.vic_report.proofs.AllFindings.{report_begins, none_where_complete}
-use Rattle.vic_verdict.specs.Explained.{IsPopulationBehind, IsShownByNone, Shows}
-use Rattle.vic_verdict.specs.declared.judging.Verdict.{Verdict}
-use Rattle.vic_verdict.proofs.Verdicts.{complete_whole}
-use Rattle.vic_verdict.proofs.TwoVersions.{complete_second}
 use Rattle.vic_answer.specs.ExplainText as explain
 use Rattle.vic_answer.specs.ReportText as reporting
-use Rattle.vic_answer.specs.declared.check.Answer.{Answer}
-use Rattle.vic_answer.specs.declared.check.Answer.TheVariants.{Judged, RefusedAt}
-use Rattle.vic_answer.specs.declared.explain.Explained.{Explained}
+use Rattle.vic_answer.specs.declared.check.Answer.TheVariants.{RefusedAt}
 use Rattle.vic_answer.specs.declared.explain.Explained.TheVariants as explained
 use Rattle.vic_answer.specs.declared.report.Reported.{Reported}
 use Rattle.vic_answer.specs.declared.report.Reported.TheVariants as reported

@@ -1,7 +1,5 @@
 -- A run that wrote `complete ` has read a complete text.
-use Rattle.std.proofs.Common.{◌≡◌, ℕ, Bool, List, ◌++◌, Option, Some, None, Result, Ok, Err, inl, inr, subst, sym, ◌∙◌}
-use Rattle.vic_answer.proofs.Words.{append_cancel_left, Appends, lines_of_text, LogValue, IsLogOf, IsEnough, Runs, RunsOver, RunFault, Status}
-use Rattle.vic_log.proofs.One.{not_both}
+use Rattle.vic_answer.proofs.Words.{◌≡◌, ℕ, Bool, List, ◌++◌, Option, Some, None, Result, Ok, Err, inl, inr, subst, sym, ◌∙◌, append_cancel_left, Appends, lines_of_text, LogValue, IsLogOf, IsEnough, Runs, RunsOver, RunFault, Status, not_both}
 use Rattle.vic_answer.specs.CompleteRun.{IsCompleteWhereSaid, IsCompleteWhereWritten}
 use Rattle.vic_answer.proofs.CheckLines.{TellComplete}
 

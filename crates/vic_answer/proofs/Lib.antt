@@ -1,4 +1,4 @@
-pub mod Words
+mod Words
 mod Decoded
 mod CheckLines
 mod CompleteRuns

@@ -1,8 +1,6 @@
 -- Which answers have which number.
-use Rattle.std.proofs.Common.{◌≡◌, arith, refl}
-use Rattle.vic_answer.proofs.Words.{Impossible, Absent, Unlisted, Unsettled, Doubtful, Complete}
-use Rattle.vic_answer.specs.declared.check.Answer.{Answer}
-use Rattle.vic_answer.specs.declared.check.Answer.TheVariants.{Judged, RefusedAt}
+use Rattle.vic_answer.proofs.Words.{◌≡◌, arith, refl, Impossible, Absent, Unlisted, Unsettled, Doubtful, Complete, Answer, Judged}
+use Rattle.vic_answer.specs.declared.check.Answer.TheVariants.{RefusedAt}
 use Rattle.vic_answer.specs.Numbers.{kind_of}
 
 pub kind_complete : (a : Answer) → (kind_of a).kind ≡ 1 → a ≡ Judged (Complete (kind_of a).count)

@@ -1,28 +1,10 @@
 -- What a list and logs say together, text by text.
-use Rattle.std.proofs.Common.{◌≡◌, ℕ, List, [], ◌∷◌, ◌++◌, take, length, map, Some, None, Option, codes, refl, sym, ap, subst, ◌∙◌, IfOk, OnOk, Result, Ok, Err, decimal, slice_get, All, flat_map, get_or, arith}
-use Rattle.vic_answer.proofs.Words.{HasWrittenPrefix, append_cancel_left, length-map, map-append, lines_of_text, LogValue, entries, listed, IsFirstFault, IsVerdict, Impossible, Reconciling, RunFault, Status, AllGoing, AllRead, WritesAnswer, AreComplete, EndsAt, HasLog, HasPossibleLog, IsKept, IsReconciled, lines_of, absent_line, doubtful_text, ending_text, findings_text, reconciled_status, reconciled_text, unlisted_text, LogLine}
+use Rattle.vic_answer.proofs.Words.{◌≡◌, ℕ, List, [], ◌∷◌, ◌++◌, take, length, map, Some, None, Option, codes, refl, sym, ap, subst, ◌∙◌, IfOk, OnOk, Result, Ok, Err, decimal, slice_get, All, flat_map, get_or, arith, HasWrittenPrefix, append_cancel_left, length-map, map-append, lines_of_text, LogValue, entries, listed, IsFirstFault, IsVerdict, Impossible, Reconciling, RunFault, Status, AllGoing, AllRead, WritesAnswer, AreComplete, EndsAt, HasLog, HasPossibleLog, IsKept, IsReconciled, lines_of, absent_line, doubtful_text, ending_text, findings_text, reconciled_status, reconciled_text, unlisted_text, LogLine, AllZip, take-append_seam, AllZip-long, all_zipped_more, All-cons, All-head, All-nil, All-tail, LineFault, AreFindings, AreNone, IsJoined, DoubtfulUid, Findings, UnlistedUid, Reconciliation, IsPossibleLog, family_of, slice_get_seam, none_is_whole, Ending, Reconciled, Found, Ended, Read, Write, Memory}
 use Rattle.vic_answer.specs.Reconciled.{HaveLogs}
-use Rattle.std.specs.List.{AllZip}
-use Rattle.std.proofs.Math.Seq.{take-append_seam}
-use Rattle.std.proofs.lemmas.Slice.Zip.{AllZip-long, all_zipped_more}
-use Rattle.std.proofs.lemmas.List.Elements.{All-cons, All-head, All-nil, All-tail}
-use Rattle.vic_log.specs.declared.fault.LineFault.{LineFault}
-use Rattle.vic_reconcile.specs.Findings.{AreFindings, AreNone}
-use Rattle.vic_reconcile.specs.Joined.{IsJoined}
-use Rattle.vic_reconcile.specs.declared.findings.DoubtfulUid.{DoubtfulUid}
-use Rattle.vic_reconcile.specs.declared.findings.Findings.{Findings}
-use Rattle.vic_reconcile.specs.declared.findings.UnlistedUid.{UnlistedUid}
 use Rattle.vic_reconcile.specs.declared.findings.Unsettled.{Unsettled}
-use Rattle.vic_reconcile.specs.declared.reconciliation.Reconciliation.{Reconciliation}
-use Rattle.vic_reconcile.proofs.Families.{IsPossibleLog, family_of}
-use Rattle.vic_log.proofs.Places.{slice_get_seam}
-use Rattle.vic_reconcile.proofs.Reconciling.{none_is_whole}
-use Rattle.vic_answer.specs.declared.ending.Ending.{Ending}
 use Rattle.vic_answer.specs.declared.ending.Ending.TheVariants.{ListRefusedAt, NotListedAt, RefusedAt, ImpossibleAt}
 use Rattle.vic_answer.specs.declared.reconcile.Reconciling.TheVariants as state
-use Rattle.vic_answer.specs.declared.reconcile.Reconciled.{Reconciled}
-use Rattle.vic_answer.specs.declared.reconcile.Reconciled.TheVariants.{Complete, Found, Ended}
-use Rattle.vic_answer.specs.declared.status.RunFault.TheVariants.{Read, Write, Memory}
+use Rattle.vic_answer.specs.declared.reconcile.Reconciled.TheVariants.{Complete}
 use Rattle.vic_answer.specs.ReconcileText.{unsettled_text}
 
 -- one log more is kept

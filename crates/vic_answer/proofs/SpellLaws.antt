@@ -1,17 +1,6 @@
 -- Words that `frame` writes are read back as what it read.
-use Rattle.std.proofs.Common.{◌≡◌, ℕ, zero, suc, ◌+◌, ◌-◌, ◌*◌, ◌/◌, ◌%◌, ◌^◌, ◌<◌, ◌≤◌, ◌==◌, Bool, true, false, ◌∷◌, ◌++◌, length, drop, replicate, Ok, decimal, arith, ap, refl, sym, ◌∙◌, lt-ltb, le-leb, eq-eqb, ne_eqb, if◌then◌else◌, w64}
-use Rattle.vic_answer.proofs.Words.{bytes_eq-Decides, decode_sized, encode_upper, upper_digits, IsBytes, BitMask, IsMask, IsInRange, IsValid, byte_count, Reply, IsReply, hex_bytes, value_text, words_reading, request_words, reply_words, number_up_to, number_ending, hex_number_in, sixteen_in, longest_mask, value_in, mask_in}
-use Rattle.std.specs.Int.{bytes_high_first, byte_at, from_be_bytes, to_be_bytes}
+use Rattle.vic_answer.proofs.Words.{◌≡◌, ℕ, zero, suc, ◌+◌, ◌-◌, ◌*◌, ◌/◌, ◌%◌, ◌^◌, ◌<◌, ◌≤◌, ◌==◌, Bool, true, false, ◌∷◌, ◌++◌, length, drop, replicate, Ok, decimal, arith, ap, refl, sym, ◌∙◌, lt-ltb, le-leb, eq-eqb, ne_eqb, if◌then◌else◌, w64, bytes_eq-Decides, decode_sized, encode_upper, upper_digits, IsBytes, BitMask, IsMask, IsInRange, IsValid, byte_count, Reply, IsReply, hex_bytes, value_text, words_reading, request_words, reply_words, number_up_to, number_ending, hex_number_in, sixteen_in, longest_mask, value_in, mask_in, bytes_high_first, byte_at, from_be_bytes, to_be_bytes, pow-le-pow_right, from_be_bytes-to_be_bytes_8, decode_sized-twice, decode_of-encode_upper, length-encode_with, Request, Inventory, StayQuiet, IsUid, is_uid, UID_BITS, holds_bits, Asked, Replied}
 use Rattle.std.specs.Fmt.{digits}
-use Rattle.std.proofs.Math.Nat.{pow-le-pow_right}
-use Rattle.std.proofs.lemmas.Nat.{from_be_bytes-to_be_bytes_8}
-use Rattle.hex.proofs.HexLemmas.{decode_sized-twice, decode_of-encode_upper, length-encode_with}
-use Rattle.vic_frame.specs.declared.request.Request.{Request}
-use Rattle.vic_frame.specs.declared.request.Request.TheVariants.{Inventory, StayQuiet}
-use Rattle.vic_frame.specs.Uids.{IsUid, is_uid}
-use Rattle.vic_frame.specs.declared.uid.TheConstants.{UID_BITS}
-use Rattle.vic_frame.proofs.BytesLaws.{holds_bits}
-use Rattle.vic_answer.specs.declared.spell.Said.TheVariants.{Asked, Replied}
 use Rattle.vic_answer.proofs.SpelledWords.{number_found}
 
 -- the last bytes of a number, and the zeros before them

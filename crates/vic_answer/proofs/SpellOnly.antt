@@ -1,16 +1,7 @@
 -- Words that spell something are the words that `frame` writes of it.
-use Rattle.std.proofs.Common.{◌≡◌, ℕ, zero, suc, ◌+◌, ◌%◌, ◌^◌, ◌==◌, ◌&&◌, Bool, true, false, List, [], ◌∷◌, length, Result, Ok, Err, bytes_eq, nat_lt, nat_le, codes, decimal, arith, ap, refl, sym, ◌∙◌, if◌then◌else◌, eqb-true}
-use Rattle.vic_answer.proofs.Words.{bytes_eq-Decides, decode_sized, FromHexError, BitMask, Reply, byte_count, hex_bytes, value_text, and_then, word, words_reading, words_of, request_words, reply_words, number_in, number_up_to, number_ending, hex_decoded, hex_number_in, sixteen_in, longest_mask, value_in, mask_in, inventory_in, stay_quiet_in, reply_in, reply_of, says_inventory, says_stay_quiet, says_reply}
-use Rattle.std.proofs.lemmas.Bool.{and_parts}
+use Rattle.vic_answer.proofs.Words.{◌≡◌, ℕ, zero, suc, ◌+◌, ◌%◌, ◌^◌, ◌==◌, ◌&&◌, Bool, true, false, List, [], ◌∷◌, length, Result, Ok, Err, bytes_eq, nat_lt, nat_le, codes, decimal, arith, ap, refl, sym, ◌∙◌, if◌then◌else◌, eqb-true, bytes_eq-Decides, decode_sized, FromHexError, BitMask, Reply, byte_count, hex_bytes, value_text, and_then, word, words_reading, words_of, request_words, reply_words, number_in, number_up_to, number_ending, hex_decoded, hex_number_in, sixteen_in, longest_mask, value_in, mask_in, inventory_in, stay_quiet_in, reply_in, reply_of, says_inventory, says_stay_quiet, says_reply, and_parts, digits_value, Inventory, StayQuiet, Request, is_uid, Asked, Replied, SpellFault, Words, Range}
 use Rattle.std.specs.Fmt.{digits}
-use Rattle.std.specs.Str.Parse.{digits_value}
-use Rattle.vic_frame.specs.declared.request.Request.TheVariants.{Inventory, StayQuiet}
-use Rattle.vic_frame.specs.declared.request.Request.{Request}
-use Rattle.vic_frame.specs.Uids.{is_uid}
 use Rattle.vic_answer.specs.declared.spell.Said.{Said}
-use Rattle.vic_answer.specs.declared.spell.Said.TheVariants.{Asked, Replied}
-use Rattle.vic_answer.specs.declared.spell.SpellFault.{SpellFault}
-use Rattle.vic_answer.specs.declared.spell.SpellFault.TheVariants.{Words, Range}
 use Rattle.vic_answer.proofs.SpelledWords.{if_ok}
 
 -- the words from position k on, so many of them

@@ -1,12 +1,5 @@
 -- Which number a word writes.
-use Rattle.std.proofs.Common.{◌≡◌, ◌^◌, ◌<◌, ◌&&◌, ℕ, Bool, true, false, List, [], ◌∷◌, length, slice_index, Result, Ok, Err, bytes_eq, nat_lt, decimal, arith, ap, refl, sym, ◌∙◌, lt-ltb, ltb-true, if◌then◌else◌}
-use Rattle.vic_answer.proofs.Words.{bytes_eq-Decides, decode_sized, FromHexError, hex_bytes, number_in, hex_number_in, hex_decoded, number_ending}
-use Rattle.std.proofs.lemmas.Bool.{and_parts}
-use Rattle.std.specs.Str.Parse.{ParsesUnsigned, digits_value}
-use Rattle.std.proofs.lemmas.Fmt.{decimal_is_IsNumeral, parse-decimal}
-use Rattle.vic_answer.specs.declared.spell.SpellFault.{SpellFault}
-use Rattle.vic_answer.specs.declared.spell.SpellFault.TheVariants.{Words}
-use Rattle.hex.proofs.HexLemmas.{decode_sized-ok, decode_sized-twice, decode_of-ok}
+use Rattle.vic_answer.proofs.Words.{◌≡◌, ◌^◌, ◌<◌, ◌&&◌, ℕ, Bool, true, false, List, [], ◌∷◌, length, slice_index, Result, Ok, Err, bytes_eq, nat_lt, decimal, arith, ap, refl, sym, ◌∙◌, lt-ltb, ltb-true, if◌then◌else◌, bytes_eq-Decides, decode_sized, FromHexError, hex_bytes, number_in, hex_number_in, hex_decoded, number_ending, and_parts, ParsesUnsigned, digits_value, decimal_is_IsNumeral, parse-decimal, SpellFault, Words, decode_sized-ok, decode_sized-twice, decode_of-ok}
 
 -- the number that a word was written from
 pub number_found : (w : List ℕ) (n : ℕ) → n < 2 ^ 64 → w ≡ decimal n → number_in w ≡ Ok n

@@ -1,9 +1,6 @@
 -- From what reading returns to what a run answers.
-use Rattle.std.proofs.Common.{◌≡◌, ℕ, List, Option, Result, Ok, Err, IfOk, IfErr, OnOk, inl, inr, subst, sym}
-use Rattle.vic_answer.proofs.Words.{Appends, HasTakenPrefix, RunFault, Status, GivesReading, Stands, IsEnough, RunsWhere}
+use Rattle.vic_answer.proofs.Words.{◌≡◌, ℕ, List, Option, Result, Ok, Err, IfOk, IfErr, OnOk, inl, inr, subst, sym, Appends, HasTakenPrefix, RunFault, Status, GivesReading, Stands, IsEnough, RunsWhere, Given, RefusedAt, Read, Write, Memory}
 use Rattle.vic_answer.specs.declared.input.Reading.{Reading}
-use Rattle.vic_answer.specs.declared.input.Reading.TheVariants.{Given, RefusedAt}
-use Rattle.vic_answer.specs.declared.status.RunFault.TheVariants.{Read, Write, Memory}
 
 -- bytes whose reading stands can be answered
 pub enough : (IsOver : Type 0) (text : List ℕ) (reading : Reading) → Stands IsOver text reading → IsEnough IsOver text

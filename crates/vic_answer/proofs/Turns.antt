@@ -1,12 +1,5 @@
 -- Sources are read in turn.
-use Rattle.std.proofs.Common.{◌≡◌, ℕ, zero, suc, ◌+◌, ◌<◌, ◌≤◌, List, [], ◌∷◌, ◌++◌, length, get_or, set, Bool, true, sym, subst, ◌∙◌, arith, inl, inr}
-use Rattle.vic_answer.proofs.Words.{get_or-set_other, get_or-set_same, get_or_append_left, get_or_default, length-append, LogValue, AllGoing, HasReadText, ReadsListAndLogs, ReadsTexts, Reconciles, AreComplete, HasLog, IsReconciled, IsReconciling, ReadsText, IsEnough, Reconciling}
-use Rattle.std.proofs.lemmas.Bool.{cases_lt}
-use Rattle.std.proofs.Math.Seq.{get_or-append_seam}
-use Rattle.std.specs.List.{AllZip}
-use Rattle.vic_answer.specs.declared.ending.Ending.{Ending}
-use Rattle.vic_answer.specs.declared.reconcile.Reconciled.{Reconciled}
-use Rattle.vic_answer.specs.declared.reconcile.Reconciled.TheVariants.{Ended}
+use Rattle.vic_answer.proofs.Words.{◌≡◌, ℕ, zero, suc, ◌+◌, ◌<◌, ◌≤◌, List, [], ◌∷◌, ◌++◌, length, get_or, set, Bool, true, sym, subst, ◌∙◌, arith, inl, inr, get_or-set_other, get_or-set_same, get_or_append_left, get_or_default, length-append, LogValue, AllGoing, HasReadText, ReadsListAndLogs, ReadsTexts, Reconciles, AreComplete, HasLog, IsReconciled, IsReconciling, ReadsText, IsEnough, Reconciling, cases_lt, get_or-append_seam, AllZip, Ending, Reconciled, Ended}
 use Rattle.vic_answer.specs.declared.reconcile.Reconciling.TheVariants as state
 use Rattle.vic_answer.proofs.CompleteRuns.{over}
 use Rattle.vic_answer.proofs.Reconciles.{answered_all}

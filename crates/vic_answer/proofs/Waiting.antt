@@ -1,10 +1,6 @@
 -- What was put behind bytes that wait, in turn.
-use Rattle.std.proofs.Common.{arith, OnOk, ◌≡◌, ◌+◌, ℕ, List, [], ◌++◌, length, length-append, take, None, Some, Option, Bool, Result, Ok, Err, refl, sym, ◌∙◌, ap, append_assoc, append-nil, subst, IsErr, IsErrAnd}
-use Rattle.vic_answer.proofs.Words.{take-append-le, Appends, HasTakenBut, HasTakenPrefix, RunFault, Writes}
-use Rattle.std.specs.Prelude.{⊤}
-use Rattle.std.proofs.KnownBytes.{Appends-trans, Appends-nil}
-use Rattle.std.proofs.Math.Seq.{take-append-add}
-use Rattle.vic_answer.specs.inner.Pieces.{PutsBehind, Puts}
+use Rattle.vic_answer.proofs.Words.{arith, OnOk, ◌≡◌, ◌+◌, ℕ, List, [], ◌++◌, length, take, None, Some, Option, Bool, Result, Ok, Err, refl, sym, ◌∙◌, ap, append_assoc, append-nil, subst, IsErr, IsErrAnd, take-append-le, Appends, HasTakenBut, HasTakenPrefix, RunFault, Writes, ⊤, Appends-trans, Appends-nil, take-append-add, PutsBehind, Puts}
+use Rattle.std.proofs.Common.{length-append}
 
 -- a text behind a text
 more_waits : (a b c : Option (List ℕ)) (w w' w'' xs ys : List ℕ) → HasTakenBut a b w' (w ++ xs) → HasTakenBut b c w'' (w' ++ ys) → HasTakenBut a c w'' (w ++ (xs ++ ys))

@@ -1,11 +1,5 @@
 -- The tags that a row's entries stand for.
-use Rattle.std.proofs.Common.{◌≡◌, ℕ, zero, suc, Bool, true, false, cond, ◌==◌, List, [], ◌∷◌, map, Some, None, refl, ap, ◌∙◌, arith, nat_eq, All, insert, option_map}
-use Rattle.vic_field.proofs.Words.{keys_of, All-head, All-tail, IsKey, uid_of, IsUid, has, tags_of, uids_at, with_quiet, readiness, uids}
-use Rattle.std.proofs.lemmas.Bool.{or_parts}
-use Rattle.std.proofs.lemmas.Bool.Decides.{nat_tests}
-use Rattle.vic_frame.specs.LowBitsFirst.{mirror}
-use Rattle.vic_frame.proofs.MirrorLaws.{mirror_of_uid, uid_of_mirror}
-use Rattle.vic_field.specs.declared.row.Row.{Row}
+use Rattle.vic_field.proofs.Words.{◌≡◌, ℕ, zero, suc, Bool, true, false, cond, ◌==◌, List, [], ◌∷◌, map, Some, None, refl, ap, ◌∙◌, arith, nat_eq, All, insert, option_map, keys_of, All-head, All-tail, IsKey, uid_of, IsUid, has, tags_of, uids_at, with_quiet, readiness, uids, or_parts, nat_tests, mirror, mirror_of_uid, uid_of_mirror, Row}
 use Rattle.vic_field.specs.Rows.{entries}
 use Rattle.vic_field.proofs.RowLaws.{keys_of_entries}
 

@@ -1,12 +1,5 @@
 -- What entries in order leave for the next entry, and which UIDs they list.
-use Rattle.std.proofs.Common.{◌≡◌, ℕ, zero, suc, ◌<◌, ◌≤◌, Bool, true, false, not, List, [], ◌∷◌, take, Some, None, refl, sym, ap, ◌∙◌, arith, ⊎_elim, ◌≢◌, slice_get, if◌then◌else◌}
-use Rattle.vic_field.proofs.Words.{false≢true, IsUid, has, Entry, Sent, Listed, FieldCycle, listed, IsPopulation, is_slot, line_count}
-use Rattle.std.proofs.lemmas.Bool.{false_from_ne_true}
-use Rattle.vic_log.specs.declared.fault.PushFault.TheVariants.{EntryAfterList, DuplicateListed}
-use Rattle.vic_log.specs.Order.{IsInOrder, is_empty, refusal}
-use Rattle.vic_log.specs.Log.{AreTyped}
-use Rattle.vic_log.proofs.Sets.{has_here, has_there, has_cases}
-use Rattle.vic_field.specs.Simulation.{without_slots}
+use Rattle.vic_field.proofs.Words.{◌≡◌, ℕ, zero, suc, ◌<◌, ◌≤◌, Bool, true, false, not, List, [], ◌∷◌, take, Some, None, refl, sym, ap, ◌∙◌, arith, ⊎_elim, ◌≢◌, slice_get, if◌then◌else◌, false≢true, IsUid, has, Entry, Sent, Listed, FieldCycle, listed, IsPopulation, is_slot, line_count, false_from_ne_true, EntryAfterList, DuplicateListed, IsInOrder, is_empty, refusal, AreTyped, has_here, has_there, has_cases, without_slots}
 
 -- ---- which UIDs entries list
 

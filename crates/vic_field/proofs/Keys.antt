@@ -1,9 +1,5 @@
 -- UIDs and the keys that a field keeps them by.
-use Rattle.std.proofs.Common.{Bool, false, ◌||◌, ◌≡◌, ℕ, refl, ap, ◌∙◌, List, [], ◌∷◌, Less, nat_cmp, All}
-use Rattle.vic_field.proofs.Words.{IsStrictlySortedBy, keys_of, All-head, All-tail, has, IsKey, uid_of, tags_of, IsPopulation, uids}
-use Rattle.std.specs.List.{AllByRecursion}
-use Rattle.std.proofs.lemmas.Map.Keys.{sorted_head, sorted_tail}
-use Rattle.vic_frame.proofs.KeyLaws.{is_uid, differ}
+use Rattle.vic_field.proofs.Words.{Bool, false, ◌||◌, ◌≡◌, ℕ, refl, ap, ◌∙◌, List, [], ◌∷◌, Less, nat_cmp, All, IsStrictlySortedBy, keys_of, All-head, All-tail, has, IsKey, uid_of, tags_of, IsPopulation, uids, AllByRecursion, sorted_head, sorted_tail, is_uid, differ}
 
 not_there : (k : ℕ) (es : List (ℕ × Bool)) → IsKey k → All IsKey (keys_of es) → AllByRecursion (λ y. nat_cmp k y ≡ Less) (keys_of es) → has (uids (tags_of es)) (uid_of k) ≡ false
 not_there k [] small keys up = refl

@@ -1,4 +1,4 @@
-pub mod Words
+mod Words
 pub mod Keys
 pub mod TagLaws
 pub mod PlaceLaws

@@ -1,10 +1,5 @@
 -- The entries of lines, one by one, and the UIDs that they list.
-use Rattle.std.proofs.Common.{◌≡◌, ℕ, zero, suc, false, List, [], ◌∷◌, take, Some, refl, ap, ◌∙◌, arith, slice_get, option_map}
-use Rattle.vic_field.proofs.Words.{Entry, Sent, LogLine, Request, entries, is_slot}
-use Rattle.vic_frame.specs.Requests.{IsValid}
-use Rattle.std.proofs.lemmas.Option.{slice_get-map}
-use Rattle.vic_log.specs.Log.{IsValidEntry}
-use Rattle.vic_field.specs.Simulation.{HasNoSlotsBefore}
+use Rattle.vic_field.proofs.Words.{◌≡◌, ℕ, zero, suc, false, List, [], ◌∷◌, take, Some, refl, ap, ◌∙◌, arith, slice_get, option_map, Entry, Sent, LogLine, Request, entries, is_slot, IsValid, slice_get-map, IsValidEntry, HasNoSlotsBefore}
 
 -- one line more that tells of no slot
 pub no_slots_next : (n : ℕ) (lines : List LogLine) (l : LogLine) → HasNoSlotsBefore n lines → slice_get lines n ≡ Some l → is_slot l.item ≡ false → HasNoSlotsBefore (suc n) lines

@@ -1,9 +1,5 @@
 -- Entries on numbered lines.
-use Rattle.std.proofs.Common.{◌≡◌, ℕ, suc, ◌+◌, List, [], ◌∷◌, ◌++◌, length, refl, sym, ap, ◌∙◌, arith, append_assoc, append-nil}
-use Rattle.vic_field.proofs.Words.{Entry, LogLine, LogValue, last_from, entries, with_entries}
-use Rattle.std.proofs.lemmas.List.{map-append}
-use Rattle.vic_log.specs.Writing.{numbered}
-use Rattle.vic_log.proofs.Push.{entries-numbered}
+use Rattle.vic_field.proofs.Words.{◌≡◌, ℕ, suc, ◌+◌, List, [], ◌∷◌, ◌++◌, length, refl, sym, ap, ◌∙◌, arith, append_assoc, append-nil, Entry, LogLine, LogValue, last_from, entries, with_entries, map-append, numbered, entries-numbered}
 
 pub entries-append : (ls ms : List LogLine) → entries (ls ++ ms) ≡ entries ls ++ entries ms
 entries-append ls ms = map-append (λ (x : LogLine). x.item) ls ms

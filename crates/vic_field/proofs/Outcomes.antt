@@ -1,12 +1,5 @@
 -- The Ready tags of a field, and the members of a population that answer: the outcome is the same.
-use Rattle.std.proofs.Common.{◌≡◌, ℕ, Bool, true, false, not, ◌&&◌, List, [], ◌∷◌, length, Option, Some, None, refl, sym, ap, ◌∙◌, unwrap_or, arith, ⊎_elim, nat_eq, if◌then◌else◌, filter}
-use Rattle.std.proofs.lemmas.Map.Made.{is_some-lookup}
-use Rattle.std.proofs.lemmas.Bool.Decides.{nat_tests}
-use Rattle.vic_field.proofs.Words.{both_ways, false≢true, BitMask, lies_in, IsUid, has, Entry, IsPopulation, is_quiet, slot_line, uids, readiness, ready_in}
-use Rattle.std.proofs.lemmas.Bool.{and_parts}
-use Rattle.vic_frame.specs.Uids.{AreDifferent}
-use Rattle.vic_log.specs.Populations.{Outcome, Lone, outcome_of, Fits}
-use Rattle.vic_log.proofs.Sets.{IsWithin, AreDifferent-population, AreDifferent-filter, has_at, has_here, has_there, has_cases, has_filter, filter_has, IsUid-member}
+use Rattle.vic_field.proofs.Words.{◌≡◌, ℕ, Bool, true, false, not, ◌&&◌, List, [], ◌∷◌, length, Option, Some, None, refl, sym, ap, ◌∙◌, unwrap_or, arith, ⊎_elim, nat_eq, if◌then◌else◌, filter, is_some-lookup, nat_tests, both_ways, false≢true, BitMask, lies_in, IsUid, has, Entry, IsPopulation, is_quiet, slot_line, uids, readiness, ready_in, and_parts, AreDifferent, Outcome, Lone, outcome_of, Fits, IsWithin, AreDifferent-population, AreDifferent-filter, has_at, has_here, has_there, has_cases, has_filter, filter_has, IsUid-member}
 use Rattle.vic_field.specs.Tags.{told}
 
 only : (x y : ℕ) → has (x ∷ []) y ≡ true → y ≡ x

@@ -1,16 +1,7 @@
 -- Bits of words, and what they say of positions.
-use Rattle.std.proofs.Common.{◌≡◌, ◌≢◌, ℕ, ◌+◌, ◌-◌, ◌*◌, ◌/◌, ◌%◌, ◌^◌, ◌<◌, ◌≤◌, Bool, true, false, List, length, get_or, set, replicate, refl, sym, ap, subst, ◌∙◌, ◌&&◌, ◌||◌, ◌⊎◌, arith, ⊎_elim, bit_or, w64, add-zero, nat_eq, nat_lt, eq-eqb, eqb-true, ne_eqb, get_or-set_same, get_or-set_other, shr-shr}
-use Rattle.std.proofs.lemmas.Bool.Decides.{nat_tests}
-use Rattle.vic_field.proofs.Words.{both_ways, cases_lt, cases_eq}
-use Rattle.std.specs.Int.{bit_at, trailing_ones}
-use Rattle.std.proofs.lemmas.Bool.{and_parts, or_cases, or_right}
-use Rattle.std.proofs.lemmas.List.{get_or_past, get_or-replicate, length-replicate}
-use Rattle.std.proofs.lemmas.Nat.{or_lt, shr_le}
-use Rattle.std.proofs.lemmas.Nat.Bits.{bit_at_above, bit_at_ones, bit_at-trailing_ones, bit_at_set_same, bit_at_set_other, same_from_bits_below}
+use Rattle.vic_field.proofs.Words.{◌≡◌, ◌≢◌, ℕ, ◌+◌, ◌-◌, ◌*◌, ◌/◌, ◌%◌, ◌^◌, ◌<◌, ◌≤◌, Bool, true, false, List, length, get_or, set, replicate, refl, sym, ap, subst, ◌∙◌, ◌&&◌, ◌||◌, ◌⊎◌, arith, ⊎_elim, bit_or, w64, add-zero, nat_eq, nat_lt, eq-eqb, eqb-true, ne_eqb, get_or-set_same, get_or-set_other, shr-shr, nat_tests, both_ways, cases_lt, cases_eq, bit_at, trailing_ones, and_parts, or_cases, or_right, get_or_past, get_or-replicate, length-replicate, or_lt, shr_le, bit_at_above, bit_at_ones, bit_at-trailing_ones, bit_at_set_same, bit_at_set_other, same_from_bits_below, AreUpTo, IsFull, IsSound, NotesFull, blank, is_set, HasBitMore, HasBits}
 use Rattle.vic_field.specs.declared.quiet.QuietPlaces.{QuietPlaces}
 use Rattle.vic_field.specs.declared.quiet.Word.{Word}
-use Rattle.vic_field.specs.Places.{AreUpTo, IsFull, IsSound, NotesFull, blank, is_set}
-use Rattle.vic_field.specs.inner.Places.{HasBitMore, HasBits}
 
 -- no bit is set in a stretch after those of all words
 pub none_later : (t s k : ℕ) (ws : List Word) → AreUpTo t ws → t < s → is_set s ws k ≡ false

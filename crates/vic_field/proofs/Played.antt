@@ -1,14 +1,5 @@
 -- A session in play: the entries of a log so far, filled, and the field's tags behind them.
-use Rattle.std.proofs.Common.{◌≡◌, ℕ, zero, suc, ◌+◌, ◌<◌, ◌≤◌, Bool, true, false, not, ◌&&◌, ◌||◌, List, [], ◌∷◌, ◌++◌, length, Option, Some, None, refl, sym, ap, ◌∙◌, subst, arith, append_assoc, append-nil, length-append, ⊎_elim, slice_get, if◌then◌else◌, option_map}
-use Rattle.vic_field.proofs.Words.{false≢true, Request, BitMask, lies_in, slot_count, mask_in, IsUid, has, Entry, Sent, IsPopulation, is_quiet, is_slot, slots_opened, line_count, slot_line, slot_lines_to, slot_lines, uids, readiness, ready_in, heard}
-use Rattle.std.proofs.lemmas.List.Elements.{filter-append, filter_agree}
-use Rattle.std.proofs.lemmas.Option.{slice_get_cases}
-use Rattle.vic_log.specs.Populations.{answers_at, outcome_of, outcome_at, Fits, CouldHaveGiven}
-use Rattle.vic_log.specs.Quiet.{silences, wakes}
-use Rattle.vic_log.specs.Rounds.{mask_at, lies_in_some}
-use Rattle.vic_log.proofs.Order.{still_there}
-use Rattle.vic_log.proofs.Places.{CouldHaveGiven-push}
-use Rattle.vic_field.specs.Simulation.{without_slots, HasAllSlots, IsPlain, ArePlain}
+use Rattle.vic_field.proofs.Words.{◌≡◌, ℕ, zero, suc, ◌+◌, ◌<◌, ◌≤◌, Bool, true, false, not, ◌&&◌, ◌||◌, List, [], ◌∷◌, ◌++◌, length, Option, Some, None, refl, sym, ap, ◌∙◌, subst, arith, append_assoc, append-nil, length-append, ⊎_elim, slice_get, if◌then◌else◌, option_map, false≢true, Request, BitMask, lies_in, slot_count, mask_in, IsUid, has, Entry, Sent, IsPopulation, is_quiet, is_slot, slots_opened, line_count, slot_line, slot_lines_to, slot_lines, uids, readiness, ready_in, heard, filter-append, filter_agree, slice_get_cases, answers_at, outcome_of, outcome_at, Fits, CouldHaveGiven, silences, wakes, mask_at, lies_in_some, still_there, CouldHaveGiven-push, without_slots, HasAllSlots, IsPlain, ArePlain}
 use Rattle.vic_field.specs.inner.Steps.{ready_after}
 use Rattle.vic_field.proofs.Outcomes.{Tells, outcome_told, fits_told}
 use Rattle.vic_field.proofs.Rounds.{place_in, second_place, slot_line-is_slot, slot_lines-slots, slot_lines-plain, slot_lines-length, IsOpen, IsOpen-sent, IsOpen-slots, IsOpen-mask, quiet-next, quiet-slot}

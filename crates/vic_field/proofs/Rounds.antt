@@ -1,14 +1,6 @@
 -- The rounds of entries: what one entry more, and the slot lines of a request, leave as it was.
-use Rattle.std.proofs.Common.{All, ◌≡◌, ℕ, zero, suc, ◌+◌, ◌-◌, ◌<◌, ◌⊎◌, inl, inr, Bool, true, false, not, ◌&&◌, ◌||◌, List, [], ◌∷◌, ◌++◌, length, Some, None, refl, sym, ap, ◌∙◌, subst, arith, append_assoc, append-nil, length-append, ⊎_elim, slice_get, nat_lt, if◌then◌else◌, lt-ltb}
-use Rattle.std.proofs.lemmas.List.Elements.{All-nil, All-push}
-use Rattle.vic_field.proofs.Words.{Request, slot_count, mask_in, Entry, Sent, is_quiet, is_slot, slots_opened, slot_line, slot_lines_to, slot_lines, heard, ready_in}
-use Rattle.std.proofs.lemmas.Option.{get_or_from_slice_get, slice_get_within}
-use Rattle.vic_log.specs.Order.{refusal}
-use Rattle.vic_log.specs.Quiet.{silences, wakes}
-use Rattle.vic_log.specs.Rounds.{ends_round, opener, left_since, slots_left, mask_of_slot, mask_since, mask_at}
-use Rattle.vic_log.proofs.Places.{opener_agrees, quiet_agrees, agree_append, slice_get_last}
+use Rattle.vic_field.proofs.Words.{All, ◌≡◌, ℕ, zero, suc, ◌+◌, ◌-◌, ◌<◌, ◌⊎◌, inl, inr, Bool, true, false, not, ◌&&◌, ◌||◌, List, [], ◌∷◌, ◌++◌, length, Some, None, refl, sym, ap, ◌∙◌, subst, arith, append_assoc, append-nil, length-append, ⊎_elim, slice_get, nat_lt, if◌then◌else◌, lt-ltb, All-nil, All-push, Request, slot_count, mask_in, Entry, Sent, is_quiet, is_slot, slots_opened, slot_line, slot_lines_to, slot_lines, heard, ready_in, get_or_from_slice_get, slice_get_within, refusal, silences, wakes, ends_round, opener, left_since, slots_left, mask_of_slot, mask_since, mask_at, opener_agrees, quiet_agrees, agree_append, slice_get_last, IsPlain}
 use Rattle.vic_field.specs.declared.outcome.Outcome.{Outcome as Told}
-use Rattle.vic_field.specs.Simulation.{IsPlain}
 
 -- ---- positions of joined lists
 

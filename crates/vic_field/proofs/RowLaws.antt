@@ -1,22 +1,6 @@
 -- Tags in a row by their keys.
-use Rattle.std.proofs.Common.{◌≡◌, ◌≢◌, ℕ, zero, suc, ◌+◌, ◌-◌, ◌<◌, ◌≤◌, Bool, true, false, List, [], ◌∷◌, ◌&&◌, ◌||◌, length, take, drop, get_or, map, not, refl, sym, ap, subst, ◌∙◌, arith, add-one, drop-cons, drop-drop, drop_of_length-le, length-drop, nat_eq, nat_le, nat_cmp, All, insert, ne_eqb, eq-eqb, le-leb, get_or-take, get_or-drop}
-use Rattle.vic_field.proofs.Words.{IsStrictlySortedBy, keys_of, get_or_default, non_decreasing_from_sorted, IsKey, uid_of, has, AreKeys, is_quiet_place, with_quiet}
-use Rattle.std.specs.List.{AllByRecursion, IsDistinct}
-use Rattle.std.proofs.Math.Bool.{and-true}
-use Rattle.std.proofs.lemmas.Bool.Decides.{nat_tests}
-use Rattle.vic_log.proofs.Sets.{eq_swapped}
-use Rattle.std.proofs.lemmas.Bool.{or_parts}
-use Rattle.std.proofs.lemmas.List.{get_or-map, length-map, same_lists}
-use Rattle.std.proofs.lemmas.List.Edits.{get_or-insert_at, get_or-insert_below, get_or-insert_above, length-insert}
-use Rattle.std.proofs.lemmas.List.Elements.{All-cons}
-use Rattle.std.proofs.lemmas.List.Folds.{list_any_at}
-use Rattle.std.proofs.lemmas.List.FromFn.{get_or-map-range_with_len, length-map-range_with_len}
-use Rattle.std.proofs.lemmas.List.Sorted.{All-permutation, IsNonDecreasingBy-insert, IsPermutation-insert}
-use Rattle.std.proofs.lemmas.Map.Keys.{IsDistinct-IsPermutation, IsDistinct-cons, IsDistinct-from_apart, IsStrictlyIncreasing-from_distinct, below_from_sorted, sorted_from_strictly_increasing}
-use Rattle.vic_field.specs.declared.row.Row.{Row}
-use Rattle.vic_field.specs.Keys.{ready_between}
-use Rattle.vic_field.specs.Rows.{IsRow, entries, entry_at}
-use Rattle.vic_field.specs.inner.Rows.{HasKeyPlaceBetween, IsKeyPlace, as_ready, HasNoneReady, IsNextReady}
+use Rattle.vic_field.proofs.Words.{◌≡◌, ◌≢◌, ℕ, zero, suc, ◌+◌, ◌-◌, ◌<◌, ◌≤◌, Bool, true, false, List, [], ◌∷◌, ◌&&◌, ◌||◌, length, take, drop, get_or, map, not, refl, sym, ap, subst, ◌∙◌, arith, add-one, drop-cons, drop-drop, drop_of_length-le, length-drop, nat_eq, nat_le, nat_cmp, All, insert, ne_eqb, eq-eqb, le-leb, get_or-take, get_or-drop, IsStrictlySortedBy, keys_of, get_or_default, non_decreasing_from_sorted, IsKey, uid_of, has, AreKeys, is_quiet_place, with_quiet, AllByRecursion, IsDistinct, and-true, nat_tests, eq_swapped, or_parts, get_or-map, length-map, same_lists, get_or-insert_at, get_or-insert_below, get_or-insert_above, length-insert, All-cons, list_any_at, get_or-map-range_with_len, length-map-range_with_len, All-permutation, IsNonDecreasingBy-insert, IsPermutation-insert, IsDistinct-IsPermutation, IsDistinct-cons, IsDistinct-from_apart, IsStrictlyIncreasing-from_distinct, below_from_sorted, sorted_from_strictly_increasing, Row, ready_between, IsRow, entry_at, HasKeyPlaceBetween, IsKeyPlace, as_ready, HasNoneReady, IsNextReady}
+use Rattle.vic_field.specs.Rows.{entries}
 
 -- ---- where keys stand
 

@@ -1,9 +1,5 @@
 -- Tags and their keys.
-use Rattle.std.proofs.Common.{ℕ, Bool, false, ◌&&◌, ◌≡◌, List, [], ◌∷◌, map, ap, refl, arith, nat_le, All}
-use Rattle.vic_field.proofs.Words.{keys_of, nat_tests, All-head, All-tail, BitMask, IsUid, has, lies_in, IsKey, uid_of, tags_of, uids_at, ready_in}
-use Rattle.vic_frame.specs.LowBitsFirst.{mirror}
-use Rattle.vic_field.specs.Keys.{ready_between}
-use Rattle.vic_frame.proofs.KeyLaws.{key_test, is_uid}
+use Rattle.vic_field.proofs.Words.{ℕ, Bool, false, ◌&&◌, ◌≡◌, List, [], ◌∷◌, map, ap, refl, arith, nat_le, All, keys_of, nat_tests, All-head, All-tail, BitMask, IsUid, has, lies_in, IsKey, uid_of, tags_of, uids_at, ready_in, mirror, ready_between, key_test, is_uid}
 
 -- a UID is among those of keys where its key is among these
 pub has_key : (u : ℕ) (ks : List ℕ) → IsUid u → All IsKey ks → has ks (mirror u) ≡ has (uids_at ks) u

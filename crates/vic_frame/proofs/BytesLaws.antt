@@ -1,10 +1,5 @@
 -- Numbers and their bytes, and tables by a byte.
-use Rattle.std.proofs.Common.{get_or-take, ◌≡◌, ℕ, zero, suc, ◌+◌, ◌*◌, ◌/◌, ◌^◌, ◌%◌, ◌<◌, ◌≤◌, List, [], ◌∷◌, ◌++◌, length, get_or, map, take, drop, refl, sym, ap, ◌∙◌, arith, append_assoc, append-nil, get_or-drop, length-take, pow-add}
-use Rattle.vic_frame.proofs.Words.{pow-le-pow_right, number_of, AreBytes}
-use Rattle.std.proofs.lemmas.List.{get_or_past}
-use Rattle.std.proofs.lemmas.List.FromFn.{get_or-map-range_with_len}
-use Rattle.std.specs.List.{range_with_len}
-use Rattle.std.proofs.lemmas.Nat.{mul-le}
+use Rattle.vic_frame.proofs.Words.{get_or-take, ◌≡◌, ℕ, zero, suc, ◌+◌, ◌*◌, ◌/◌, ◌^◌, ◌%◌, ◌<◌, ◌≤◌, List, [], ◌∷◌, ◌++◌, length, get_or, map, take, drop, refl, sym, ap, ◌∙◌, arith, append_assoc, append-nil, get_or-drop, length-take, pow-add, pow-le-pow_right, number_of, AreBytes, get_or_past, get_or-map-range_with_len, range_with_len, mul-le}
 use Rattle.vic_frame.specs.Bytes.{bytes_of}
 
 pub length_bytes_of : (count n : ℕ) → length (bytes_of count n) ≡ count

@@ -1,9 +1,8 @@
 -- Eight bits in one step.
-use Rattle.std.proofs.Common.{◌≡◌, ℕ, zero, suc, ◌+◌, ◌*◌, ◌/◌, ◌^◌, ◌%◌, ◌<◌, ◌≤◌, ◌==◌, List, [], ◌∷◌, ◌++◌, length, get_or, drop, add-one, drop-cons, refl, sym, ap, ◌∙◌, arith, bit_xor, if◌then◌else◌}
+use Rattle.vic_frame.proofs.Words.{◌≡◌, ℕ, zero, suc, ◌+◌, ◌*◌, ◌/◌, ◌^◌, ◌%◌, ◌<◌, ◌≤◌, ◌==◌, List, [], ◌∷◌, ◌++◌, length, get_or, drop, add-one, drop-cons, refl, sym, ap, ◌∙◌, arith, bit_xor, if◌then◌else◌, xor_comm, xor_shr, xor_mod, xor_block, shr_split, mod_below, drop_all, bits}
 use lib.Bits.{xor_assoc, xor_zero_r}
-use Rattle.std.proofs.lemmas.Nat.{xor_comm, xor_shr, xor_mod, xor_block, pow_pos, shr_split, mod_below}
-use Rattle.std.proofs.lemmas.List.{drop_all}
-use Rattle.vic_frame.specs.Bytes.{bits_of, bits}
+use Rattle.std.proofs.lemmas.Nat.{pow_pos}
+use Rattle.vic_frame.specs.Bytes.{bits_of}
 use Rattle.vic_frame.specs.Crc.{step, after_bits}
 
 -- the register after a bit 0

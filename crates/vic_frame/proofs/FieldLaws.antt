@@ -1,12 +1,5 @@
 -- A frame spells a value if and only if its fields do.
-use Rattle.std.proofs.Common.{◌≡◌, ℕ, ◌+◌, ◌%◌, ◌≤◌, ◌^◌, ◌<◌, not, Bool, List, length, if◌then◌else◌, refl, sym, ap, ◌∙◌, arith}
-use Rattle.vic_frame.proofs.Words.{BitMask, IsMask, AreBytes, bit, with_crc, request_spelling, reply_spelling, flags, reply_in}
-use Rattle.vic_frame.specs.declared.request.Request.TheVariants.{Inventory, StayQuiet}
-use Rattle.vic_frame.specs.Requests.{IsValid, byte_count, request_body}
-use Rattle.vic_frame.specs.Replies.{Reply, IsReply, reply_body}
-use Rattle.vic_frame.specs.Faults.{mask_len}
-use Rattle.vic_frame.specs.Fields.{HasInventoryFields, HasStayQuietFields, HasReplyFields}
-use Rattle.vic_frame.specs.Reading.{inventory_in, stay_quiet_in}
+use Rattle.vic_frame.proofs.Words.{◌≡◌, ℕ, ◌+◌, ◌%◌, ◌≤◌, ◌^◌, ◌<◌, not, Bool, List, length, if◌then◌else◌, refl, sym, ap, ◌∙◌, arith, BitMask, IsMask, AreBytes, bit, with_crc, request_spelling, reply_spelling, flags, reply_in, Inventory, StayQuiet, IsValid, byte_count, request_body, Reply, IsReply, reply_body, mask_len, HasInventoryFields, HasStayQuietFields, HasReplyFields, inventory_in, stay_quiet_in}
 use Rattle.vic_frame.proofs.BytesLaws.{length_bytes_of}
 use Rattle.vic_frame.proofs.FrameLaws.{crc_frame, with_crc-right, length-with_crc}
 use Rattle.vic_frame.proofs.RequestLaws.{inventory_body, stay_quiet_body, inventory_bits, stay_quiet_bits, link_of, inventory_len, inventory_value, stay_quiet_len, stay_quiet_uid}

@@ -1,8 +1,5 @@
 -- Frames and their CRC; the first fault.
-use Rattle.std.proofs.Common.{◌≡◌, ℕ, ◌+◌, ◌-◌, ◌^◌, ◌<◌, ◌≤◌, ◌==◌, nat_le, Bool, true, false, Option, Some, None, IfOk, List, [], ◌∷◌, ◌++◌, length, take, drop, refl, sym, ap, ◌∙◌, arith, length-append, leb-true, le-leb, eqb-true, eq-eqb, length-drop, take-append-drop}
-use Rattle.vic_frame.proofs.Words.{AreBytes, number_of, bytes_of, crc, crc_right, with_crc, first_fault, fault_or}
-use Rattle.std.proofs.lemmas.Bool.{and_parts, and_from}
-use Rattle.std.proofs.Math.Seq.{take-append_seam, drop-append_seam}
+use Rattle.vic_frame.proofs.Words.{◌≡◌, ℕ, ◌+◌, ◌-◌, ◌^◌, ◌<◌, ◌≤◌, ◌==◌, nat_le, Bool, true, false, Option, Some, None, IfOk, List, [], ◌∷◌, ◌++◌, length, take, drop, refl, sym, ap, ◌∙◌, arith, length-append, leb-true, le-leb, eqb-true, eq-eqb, length-drop, take-append-drop, AreBytes, number_of, bytes_of, crc, crc_right, with_crc, first_fault, fault_or, and_parts, and_from, take-append_seam, drop-append_seam}
 use Rattle.vic_frame.specs.declared.fault.FrameFault.{FrameFault}
 use Rattle.vic_frame.proofs.BytesLaws.{AreBytes-drop, bytes_of-number_of, number_of-bytes_of, length_bytes_of}
 

@@ -1,8 +1,5 @@
 -- Keys of 56 bits, in the order of low bits first, and the UIDs that they stand for.
-use Rattle.std.proofs.Common.{false, ◌==◌, ◌≡◌, ℕ, ◌^◌, ◌<◌, sym, ap, ◌∙◌, arith, nat_eq, Less, nat_cmp, is_eq}
-use Rattle.vic_frame.proofs.Words.{nat_tests, IsUid, mirror_bits, mirror, uid_of}
-use Rattle.std.proofs.lemmas.Cmp.{ranked}
-use Rattle.vic_frame.specs.LowBitsFirst.{IsKey}
+use Rattle.vic_frame.proofs.Words.{false, ◌==◌, ◌≡◌, ℕ, ◌^◌, ◌<◌, sym, ap, ◌∙◌, arith, nat_eq, Less, nat_cmp, is_eq, nat_tests, IsUid, mirror_bits, mirror, uid_of, ranked, IsKey}
 use Rattle.vic_frame.proofs.MirrorLaws.{mirror_below, mirror_of_uid, uid_of_mirror, same_test}
 
 pub is_uid : (k : ℕ) → IsUid (uid_of k)

@@ -1,4 +1,4 @@
-pub mod Words
+mod Words
 pub mod BytesLaws
 pub mod CrcLaws
 pub mod ResidueLaws

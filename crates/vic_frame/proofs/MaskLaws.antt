@@ -1,10 +1,5 @@
 -- Laws on masks.
-use Rattle.std.proofs.Common.{true, false, ◌==◌, ◌≡◌, ℕ, ◌+◌, ◌-◌, ◌*◌, ◌/◌, ◌^◌, ◌%◌, ◌<◌, ◌≤◌, inl, inr, sym, ap, ◌∙◌, arith, zero, suc, add_comm, mul_assoc, pow_pos, pow-add}
-use Rattle.vic_frame.proofs.Words.{pow-le-pow_right, nat_tests, BitMask, IsMask, lies_in, IsUid}
-use Rattle.std.proofs.Math.Nat.{mul-add-mod_self_right, mod-le}
-use Rattle.std.proofs.lemmas.Nat.{mod-pow-add, mod_low, mod_below}
-use Rattle.std.proofs.lemmas.Bool.{cases_eq}
-use Rattle.vic_frame.specs.Masks.{LiesIn}
+use Rattle.vic_frame.proofs.Words.{true, false, ◌==◌, ◌≡◌, ℕ, ◌+◌, ◌-◌, ◌*◌, ◌/◌, ◌^◌, ◌%◌, ◌<◌, ◌≤◌, inl, inr, sym, ap, ◌∙◌, arith, zero, suc, add_comm, mul_assoc, pow_pos, pow-add, pow-le-pow_right, nat_tests, BitMask, IsMask, lies_in, IsUid, mul-add-mod_self_right, mod-le, mod-pow-add, mod_low, mod_below, cases_eq, LiesIn}
 use Rattle.vic_frame.specs.Uids.{uid_from_low_bits}
 use Rattle.vic_frame.specs.MaskLaws.{NestedOrApart, IsParted}
 

@@ -1,13 +1,8 @@
 -- Laws of the mirrored bits.
-use Rattle.std.proofs.Common.{add-zero, ◌&&◌, ◌==◌, ◌≡◌, ℕ, ◌+◌, ◌-◌, ◌*◌, ◌/◌, ◌^◌, ◌%◌, ◌<◌, ◌≤◌, refl, sym, ap, ◌∙◌, arith, zero, suc, add-one, nat_le, pow-add, shr-shr, pow_pos, div-one, mod-eq_of_lt, mul-le-mul_right, suc-mul}
-use Rattle.vic_frame.proofs.Words.{nat_tests, pow-le-pow_right, IsUid, BitMask, IsMask, IsBlock, mirror, uid_of}
-use Rattle.std.proofs.lemmas.Nat.{mod-pow-add, field_of, shr_high, mod_low}
-use Rattle.std.proofs.Math.Nat.{mod-one, div-eq_of_lt}
-use Rattle.std.proofs.Math.Nat.{mul-mod_left}
+use Rattle.vic_frame.proofs.Words.{add-zero, ◌&&◌, ◌==◌, ◌≡◌, ℕ, ◌+◌, ◌-◌, ◌*◌, ◌/◌, ◌^◌, ◌%◌, ◌<◌, ◌≤◌, refl, sym, ap, ◌∙◌, arith, zero, suc, add-one, nat_le, pow-add, shr-shr, pow_pos, div-one, mod-eq_of_lt, mul-le-mul_right, suc-mul, nat_tests, pow-le-pow_right, IsUid, BitMask, IsMask, IsBlock, mirror, uid_of, mod-pow-add, field_of, shr_high, mod_low, mod-one, div-eq_of_lt, mul-mod_left, slot_of_sixteen, IsKey}
 use Rattle.vic_frame.proofs.BytesLaws.{sixteen_times}
 use Rattle.vic_frame.proofs.MaskLaws.{mod_mod_pow}
-use Rattle.vic_frame.specs.Masks.{slot_of_sixteen}
-use Rattle.vic_frame.specs.LowBitsFirst.{IsKey, mirror_bits}
+use Rattle.vic_frame.specs.LowBitsFirst.{mirror_bits}
 
 -- a bit above what is below t is below 2 * t
 bit_below : (b t r w : ℕ) → b < 2 → r < t → w ≡ 2 * t → b * t + r < w

@@ -1,9 +1,5 @@
 -- Replies: what has no fault is spelled, and what is spelled has none.
-use Rattle.std.proofs.Common.{take_at, ◌≡◌, ℕ, suc, ◌-◌, ◌/◌, ◌^◌, ◌%◌, ◌<◌, ◌≤◌, ◌==◌, true, false, None, Ok, IfOk, List, ◌∷◌, length, take, sym, ap, ◌∙◌, arith, eqb-true, eq-eqb, ne_eqb}
-use Rattle.vic_frame.proofs.Words.{reply_spelling, IsUid, AreBytes, number_of, bytes_of, bit, crc, crc_right, with_crc, first_fault, flags, uid_bytes, fault_or, reply_in}
-use Rattle.std.proofs.lemmas.Bool.{not-false, not_from_true, eqb-false}
-use Rattle.vic_frame.specs.Replies.{Reply, IsReply, reply_body, SpellsReply}
-use Rattle.vic_frame.specs.Faults.{reply_faults}
+use Rattle.vic_frame.proofs.Words.{take_at, ◌≡◌, ℕ, suc, ◌-◌, ◌/◌, ◌^◌, ◌%◌, ◌<◌, ◌≤◌, ◌==◌, true, false, None, Ok, IfOk, List, ◌∷◌, length, take, sym, ap, ◌∙◌, arith, eqb-true, eq-eqb, ne_eqb, reply_spelling, IsUid, AreBytes, number_of, bytes_of, bit, crc, crc_right, with_crc, first_fault, flags, uid_bytes, fault_or, reply_in, not-false, not_from_true, eqb-false, Reply, IsReply, reply_body, SpellsReply, reply_faults}
 use Rattle.vic_frame.proofs.BytesLaws.{bytes_of-take, number_of-bytes_of, length_bytes_of}
 use Rattle.vic_frame.proofs.FrameLaws.{crc_frame, with_crc-right, length-with_crc, all_fail, none_from, found_from}
 

@@ -1,12 +1,6 @@
 -- Requests: what has no fault is spelled, and what is spelled has none.
-use Rattle.std.proofs.Common.{take_at, ◌≡◌, ℕ, suc, ◌+◌, ◌-◌, ◌*◌, ◌/◌, ◌^◌, ◌%◌, ◌<◌, ◌≤◌, ◌==◌, ◌&&◌, not, nat_lt, Bool, true, false, None, Ok, IfOk, List, ◌∷◌, length, take, drop, if◌then◌else◌, refl, sym, ap, subst, ◌∙◌, arith, length-take, eqb-true, eq-eqb, ne_eqb, ltb-false, le-ltb, ltb-true, lt-ltb}
-use Rattle.vic_frame.proofs.Words.{BitMask, IsMask, AreBytes, number_of, bytes_of, bit, crc, crc_right, with_crc, request_spelling, first_fault, flags, uid_bytes, fault_or}
-use Rattle.std.proofs.lemmas.Bool.{not-false, not_from_true, eqb-false}
+use Rattle.vic_frame.proofs.Words.{take_at, ◌≡◌, ℕ, suc, ◌+◌, ◌-◌, ◌*◌, ◌/◌, ◌^◌, ◌%◌, ◌<◌, ◌≤◌, ◌==◌, ◌&&◌, not, nat_lt, Bool, true, false, None, Ok, IfOk, List, ◌∷◌, length, take, drop, if◌then◌else◌, refl, sym, ap, subst, ◌∙◌, arith, length-take, eqb-true, eq-eqb, ne_eqb, ltb-false, le-ltb, ltb-true, lt-ltb, BitMask, IsMask, AreBytes, number_of, bytes_of, bit, crc, crc_right, with_crc, request_spelling, first_fault, flags, uid_bytes, fault_or, not-false, not_from_true, eqb-false, Inventory, StayQuiet, IsValid, IsInRange, byte_count, request_body, SpellsRequest, command, mask_len, mask_bytes, longest_mask, head_faults, inventory_faults, stay_quiet_faults, request_faults, inventory_in, stay_quiet_in, request_in}
 use Rattle.vic_frame.specs.declared.request.Request.{Request}
-use Rattle.vic_frame.specs.declared.request.Request.TheVariants.{Inventory, StayQuiet}
-use Rattle.vic_frame.specs.Requests.{IsValid, IsInRange, byte_count, request_body, SpellsRequest}
-use Rattle.vic_frame.specs.Faults.{command, mask_len, mask_bytes, longest_mask, head_faults, inventory_faults, stay_quiet_faults, request_faults}
-use Rattle.vic_frame.specs.Reading.{inventory_in, stay_quiet_in, request_in}
 use Rattle.vic_frame.proofs.BytesLaws.{bytes_of-take, number_of-bytes_of, length_bytes_of, holds_bits, number_within, AreBytes-take, AreBytes-drop}
 use Rattle.vic_frame.proofs.FrameLaws.{crc_frame, with_crc-right, length-with_crc, all_fail, none_from, none_append, none_both, found_from}
 

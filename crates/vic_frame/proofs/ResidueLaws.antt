@@ -1,11 +1,8 @@
 -- The register of a frame with its CRC.
-use Rattle.std.proofs.Common.{◌≡◌, ℕ, zero, suc, ◌+◌, ◌-◌, ◌*◌, ◌/◌, ◌^◌, ◌%◌, ◌<◌, ◌≤◌, ◌↔◌, ◌==◌, nat_le, true, List, [], ◌∷◌, ◌++◌, length, take, drop, refl, sym, ap, subst, ◌∙◌, arith, bit_xor, bit_and}
+use Rattle.vic_frame.proofs.Words.{◌≡◌, ℕ, zero, suc, ◌+◌, ◌-◌, ◌*◌, ◌/◌, ◌^◌, ◌%◌, ◌<◌, ◌≤◌, ◌↔◌, ◌==◌, nat_le, true, List, [], ◌∷◌, ◌++◌, length, take, drop, refl, sym, ap, subst, ◌∙◌, arith, bit_xor, bit_and, xor_comm, xor_block, xor_lt, and_mask, mod_below, and_parts, and_from, AreBytes, number_of, bits_of, after_bits, register, crc, crc_right}
 use lib.Bits.{xor_assoc, xor_self, xor_zero_r, xor_add_and}
-use Rattle.std.proofs.lemmas.Nat.{xor_comm, xor_block, xor_lt, and_mask, mod_below}
 use Rattle.std.proofs.lemmas.List.{length-drop, take-append-drop}
-use Rattle.std.proofs.lemmas.Bool.{and_parts, and_from, le-leb, eqb-true, eq-eqb}
-use Rattle.vic_frame.specs.Bytes.{AreBytes, number_of, bits_of}
-use Rattle.vic_frame.specs.Crc.{after_bits, register, crc, crc_right}
+use Rattle.std.proofs.lemmas.Bool.{le-leb, eqb-true, eq-eqb}
 use Rattle.vic_frame.proofs.BytesLaws.{AreBytes-drop, AreBytes-take, number_below}
 use Rattle.vic_frame.proofs.CrcLaws.{after, after_is, shift, shifts, shifts-xor, shifts-high, after_bits-shifts, parts_of}
 

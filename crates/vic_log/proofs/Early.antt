@@ -1,7 +1,5 @@
 -- An early fault stays the fault of each text that goes on.
-use Rattle.std.proofs.Common.{◌≡◌, ◌⊎◌, ℕ, suc, ◌<◌, ◌≤◌, false, Some, List, [], ◌∷◌, ◌++◌, length, refl, sym, ap, subst, ◌∙◌, arith, append-nil, inl, inr, slice_get, nat_eq, nat_lt, if◌then◌else◌, ◌==◌, map}
-use Rattle.vic_log.proofs.Words.{common_steps, nat_tests, cases_Bool, cases_lt, cond-true, cond-false, lt-ltb, length-map, length_push, map-append, slice_get_within, Entry, Version, LineFault, TooManyLines, LineTooLong, has, IsLong, IsJudged, IsEarlyFault, onto, cut, ends_with, content, lines_of_text, entries, version_of, line_fault, log_upto, fault_on, IsFirstFault}
-use Rattle.vic_log.specs.Begun.{IsCut}
+use Rattle.vic_log.proofs.Words.{◌≡◌, ◌⊎◌, ℕ, suc, ◌<◌, ◌≤◌, false, Some, List, [], ◌∷◌, ◌++◌, length, refl, sym, ap, subst, ◌∙◌, arith, append-nil, inl, inr, slice_get, nat_eq, nat_lt, if◌then◌else◌, ◌==◌, map, common_steps, nat_tests, cases_Bool, cases_lt, cond-true, cond-false, lt-ltb, length-map, length_push, map-append, slice_get_within, Entry, Version, LineFault, TooManyLines, LineTooLong, has, IsLong, IsJudged, IsEarlyFault, onto, cut, ends_with, content, lines_of_text, entries, version_of, line_fault, log_upto, fault_on, IsFirstFault, IsCut}
 use Rattle.vic_log.proofs.Passing.{AgreeBelow, log_agrees, fault_agrees, first_agrees}
 use Rattle.vic_log.proofs.Places.{slice_get-append, slice_get_seam}
 use Rattle.vic_log.proofs.Sets.{eq_swapped}

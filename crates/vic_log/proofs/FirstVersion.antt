@@ -1,8 +1,6 @@
 -- On entries of version 1 both versions say the same.
-use Rattle.std.proofs.Common.{◌≡◌, ℕ, zero, suc, List, false, Option, Some, None, refl, sym, ap, subst, ◌∙◌, ◌↔◌, arith}
-use Rattle.vic_log.proofs.Words.{nat_tests, filter, Entry, Sent, Listed, FieldCycle, IsInOrder, is_slot, ends_round, opener, wakes, is_quiet, Outcome, Fits, answers_at, outcome_of, CouldHaveGiven, IsOfFirstVersion, AreOfFirstVersion}
+use Rattle.vic_log.proofs.Words.{◌≡◌, ℕ, zero, suc, List, false, Option, Some, None, refl, sym, ap, subst, ◌∙◌, ◌↔◌, arith, nat_tests, filter, Entry, Sent, Listed, FieldCycle, IsInOrder, is_slot, ends_round, opener, wakes, is_quiet, Outcome, Fits, answers_at, outcome_of, CouldHaveGiven, IsOfFirstVersion, AreOfFirstVersion, filter_agree}
 use Rattle.vic_log.specs.FirstVersion.{ends_first_round, first_opener, is_first_quiet, FitsFirst, answers_first_at, CouldHaveGivenFirst, is_first_slot, IsInFirstOrder}
-use Rattle.std.proofs.lemmas.List.Elements.{filter_agree}
 
 ends_same : (o : Option Entry) → ((e : Entry) → o ≡ Some e → IsOfFirstVersion e) → ends_round o ≡ ends_first_round o
 ends_same None h = refl

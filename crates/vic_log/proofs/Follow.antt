@@ -1,7 +1,5 @@
 -- Where entries are in order, nothing refuses any of them.
-use Rattle.std.proofs.Common.{◌≡◌, ℕ, suc, true, false, Some, None, List, [], ◌∷◌, ◌++◌, ◌<◌, length, refl, sym, ap, ◌∙◌, arith, ⊎_elim, inl, inr, slice_get, nat_eq, nat_lt, not}
-use Rattle.vic_log.proofs.Words.{cases_Bool, cond-false, false_from_ne_true, or_cases, eqb-true, lt-ltb, slice_get_within, Entry, Sent, Listed, FieldCycle, has, slots_left, is_slot, listed, IsInOrder, is_empty}
-use Rattle.vic_log.specs.Order.{first_reason}
+use Rattle.vic_log.proofs.Words.{◌≡◌, ℕ, suc, true, false, Some, None, List, [], ◌∷◌, ◌++◌, ◌<◌, length, refl, sym, ap, ◌∙◌, arith, ⊎_elim, inl, inr, slice_get, nat_eq, nat_lt, not, cases_Bool, cond-false, false_from_ne_true, or_cases, eqb-true, lt-ltb, slice_get_within, Entry, Sent, Listed, FieldCycle, has, slots_left, is_slot, listed, IsInOrder, is_empty, first_reason}
 use Rattle.vic_log.proofs.Places.{agree_append, agree_upto, slice_get_seam}
 use Rattle.vic_log.proofs.Order.{in_round-slots_left}
 use Rattle.vic_log.proofs.Push.{slots_left_agrees}

@@ -1,14 +1,6 @@
 -- The bytes of a frame: each is a byte, and they are few.
-use Rattle.std.proofs.Common.{◌≡◌, ℕ, zero, suc, ◌+◌, ◌/◌, ◌<◌, ◌≤◌, true, false, List, [], ◌∷◌, ◌++◌, length, ◌∙◌, arith}
-use Rattle.vic_frame.specs.declared.request.Request.{Request}
-use Rattle.vic_frame.specs.declared.request.Request.TheVariants.{Inventory, StayQuiet}
-use Rattle.vic_frame.specs.Bytes.{AreBytes, bytes_of}
-use Rattle.vic_frame.specs.Crc.{crc, with_crc}
-use Rattle.vic_frame.specs.Masks.{BitMask, IsMask}
-use Rattle.vic_frame.specs.Replies.{Reply, IsReply, reply_body, reply_spelling}
-use Rattle.vic_frame.specs.Requests.{IsInRange, IsValid, byte_count, request_body, request_spelling}
-use Rattle.vic_frame.proofs.BytesLaws.{length_bytes_of}
-use Rattle.vic_frame.proofs.FrameLaws.{length-with_crc}
+use Rattle.vic_log.proofs.Words.{◌≡◌, ℕ, zero, suc, ◌+◌, ◌/◌, ◌<◌, ◌≤◌, true, false, List, [], ◌∷◌, ◌++◌, length, ◌∙◌, arith, Request, Inventory, StayQuiet, AreBytes, crc, with_crc, BitMask, IsMask, Reply, IsReply, reply_body, reply_spelling, IsInRange, IsValid, byte_count, request_body, request_spelling, length_bytes_of, length-with_crc}
+use Rattle.vic_frame.specs.Bytes.{bytes_of}
 
 AreBytes-bytes_of : (k n : ℕ) → AreBytes (bytes_of k n)
 unfolding bytes_of

@@ -1,22 +1,6 @@
 -- A line reads as an entry if and only if it spells it.
-use Rattle.std.proofs.Common.{◌≡◌, ◌⊎◌, inl, inr, ℕ, ◌+◌, ◌*◌, ◌/◌, ◌%◌, ◌<◌, ◌≤◌, true, false, Option, Some, None, Result, Ok, Err, List, [], ◌∷◌, length, refl, sym, ap, subst, ◌∙◌, arith, nat_lt, ◌==◌, ◌||◌, IfOk}
-use Rattle.vic_log.proofs.Words.{nat_tests, cond_both, cond-false, eqb-true, ne_eqb, ltb-false, hex_digit_value, IsUid, Entry, Sent, Silent, Collision, Heard, Listed, Garbled, FieldCycle, Version, V2, LineFault, line_reading}
-use Rattle.std.specs.Int.{to_be_bytes, w64}
-use Rattle.std.proofs.lemmas.Nat.{be_bytes_8, from_be_bytes-to_be_bytes_8}
-use Rattle.hex.specs.Hex.{decode_of, decode_pairs, digit_or_error, ◌>>=◌}
-use Rattle.hex.specs.declared.error.FromHexError.{FromHexError}
-use Rattle.hex.proofs.HexLemmas.{decode_of-even, decode_pairs-ok}
-use Rattle.hex.proofs.Pairs.{cons_byte, decode_pairs-ok_pair}
-use Rattle.vic_frame.specs.Bytes.{AreBytes}
-use Rattle.vic_frame.specs.Requests.{SpellsRequest}
-use Rattle.vic_frame.specs.Replies.{Reply, SpellsReply}
-use Rattle.vic_frame.specs.Reading.{request_reading, reply_reading}
-use Rattle.vic_frame.specs.declared.request.Request.{Request}
-use Rattle.vic_frame.specs.declared.fault.FrameFault.{FrameFault}
-use Rattle.vic_frame.proofs.RequestLaws.{request_found, request_only}
-use Rattle.vic_frame.proofs.ReplyLaws.{reply_found, reply_only}
-use Rattle.std.specs.Prelude.{⊤}
-use Rattle.vic_log.specs.Grammar.{IsDigitOf, AreDigitsOf, HasBytes, SpellsEntry, IsPassedOver}
+use Rattle.vic_log.proofs.Words.{◌≡◌, ◌⊎◌, inl, inr, ℕ, ◌+◌, ◌*◌, ◌/◌, ◌%◌, ◌<◌, ◌≤◌, true, false, Option, Some, None, Result, Ok, Err, List, [], ◌∷◌, length, refl, sym, ap, subst, ◌∙◌, arith, nat_lt, ◌==◌, ◌||◌, IfOk, nat_tests, cond_both, cond-false, eqb-true, ne_eqb, ltb-false, hex_digit_value, IsUid, Entry, Sent, Silent, Collision, Heard, Listed, Garbled, FieldCycle, Version, V2, LineFault, line_reading, to_be_bytes, w64, be_bytes_8, from_be_bytes-to_be_bytes_8, decode_of, digit_or_error, ◌>>=◌, FromHexError, decode_of-even, decode_pairs-ok, cons_byte, decode_pairs-ok_pair, AreBytes, SpellsRequest, Reply, SpellsReply, request_reading, reply_reading, Request, FrameFault, request_found, request_only, reply_found, reply_only, ⊤, IsDigitOf, AreDigitsOf, HasBytes, SpellsEntry, IsPassedOver}
+use Rattle.hex.specs.Hex.{decode_pairs}
 use Rattle.vic_log.specs.LineReading.{added_letter, one_letter, with_digits, with_bytes, sent, heard, listed_uid}
 use Rattle.vic_log.proofs.Supply.{IsUid-from, is_uid_from}
 use Rattle.vic_log.proofs.HexPairs.{both}

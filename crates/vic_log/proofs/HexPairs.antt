@@ -1,12 +1,7 @@
 -- Pairs of hex digits, place by place.
-use Rattle.std.proofs.Common.{◌≡◌, ℕ, suc, ◌+◌, ◌*◌, ◌<◌, ◌≤◌, List, [], ◌∷◌, length, get_or, Option, Some, None, Result, Ok, Err, IsErr, refl, ap, sym, subst, ◌∙◌, arith}
-use Rattle.hex.specs.Hex.{hex_digit_value, digit_or_error, pair_value, decode_pairs, ◌>>=◌}
-use Rattle.hex.specs.declared.error.FromHexError.{FromHexError}
-use Rattle.hex.proofs.HexLemmas.{decode_pairs-ok}
-use Rattle.hex.proofs.Pairs.{cons_byte, decode_pairs-ok_pair}
-use Rattle.std.specs.Option.{is_some, unwrap_or}
+use Rattle.vic_log.proofs.Words.{◌≡◌, ℕ, suc, ◌+◌, ◌*◌, ◌<◌, ◌≤◌, List, [], ◌∷◌, length, get_or, Option, Some, None, Result, Ok, Err, IsErr, refl, ap, sym, subst, ◌∙◌, arith, hex_digit_value, digit_or_error, pair_value, ◌>>=◌, FromHexError, decode_pairs-ok, cons_byte, decode_pairs-ok_pair, is_some, unwrap_or, digit_or_255, SpellsByte}
+use Rattle.hex.specs.Hex.{decode_pairs}
 use Rattle.std.specs.Prelude.{true}
-use Rattle.vic_log.specs.inner.Digits.{digit_or_255, SpellsByte}
 
 value_of : (o : Option ℕ) → unwrap_or o 255 ≤ 15 → o ≡ Some (unwrap_or o 255)
 value_of None h = absurd (omega arith)

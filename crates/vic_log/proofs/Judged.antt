@@ -1,7 +1,5 @@
 -- A text that is read in pieces: more bytes, a fault, and the end.
-use Rattle.std.proofs.Common.{◌≡◌, ◌⊎◌, inl, inr, ℕ, suc, ◌<◌, false, Some, None, List, [], ◌∷◌, ◌++◌, length, append_assoc, append-nil, refl, sym, ap, subst, ◌∙◌, arith, slice_get, map}
-use Rattle.vic_log.proofs.Words.{common_steps, nat_tests, cases_lt, cond-false, le-ltb, length-map, map-append, nil_from_length, has, LineFault, TooManyLines, LineTooLong, Header, LogFault, Line, Read, Memory, Spent, HasJudged, IsLong, IsJudged, IsEarlyFault, IsEarly, lf, cr, cut, without_last, content, lines_of_text, LogValue, entries, fault_on, IsFirstFault, IsLogOf, Refuses, next_fault, after_line, RefusesNext}
-use Rattle.vic_log.specs.Begun.{HasCut, IsShort}
+use Rattle.vic_log.proofs.Words.{◌≡◌, ◌⊎◌, inl, inr, ℕ, suc, ◌<◌, false, Some, None, List, [], ◌∷◌, ◌++◌, length, append_assoc, append-nil, refl, sym, ap, subst, ◌∙◌, arith, slice_get, map, common_steps, nat_tests, cases_lt, cond-false, le-ltb, length-map, map-append, nil_from_length, has, LineFault, TooManyLines, LineTooLong, Header, LogFault, Line, Read, Memory, Spent, HasJudged, IsLong, IsJudged, IsEarlyFault, IsEarly, lf, cr, cut, without_last, content, lines_of_text, LogValue, entries, fault_on, IsFirstFault, IsLogOf, Refuses, next_fault, after_line, RefusesNext, HasCut, IsShort}
 use Rattle.vic_log.proofs.Early.{begins, content-open, cut-only, cut-some, cut-whole, last_part, lines_are, still_long, too_many, too_long}
 use Rattle.vic_log.proofs.Passing.{AreRead-end, AreRead-entries, AreRead-fault, AreRead-push, fault_agrees, in_limit, no_header}
 use Rattle.vic_log.proofs.Places.{slice_get-append, slice_get_seam}

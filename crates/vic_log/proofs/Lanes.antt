@@ -1,8 +1,6 @@
 -- Vectors, lane by lane.
-use Rattle.std.proofs.Common.{◌≡◌, ℕ, zero, suc, ◌+◌, ◌*◌, ◌%◌, ◌^◌, ◌<◌, get_or, leb, replicate, eqb, eqb-true, Bool, true, false, cond, List, [], ◌∷◌, map, length, Fits, w8, refl, ap, ap₂, ◌∙◌, arith, inl, inr}
-use Rattle.std.proofs.lemmas.Bool.{agree_below, agree_below_at, cases_Bool}
-use Rattle.std.proofs.lemmas.List.{length-map}
-use Rattle.std.proofs.lemmas.Simd.{tops_compared, zip2_splat_left, mask_l-mod}
+use Rattle.vic_log.proofs.Words.{◌≡◌, ℕ, zero, suc, ◌+◌, ◌*◌, ◌%◌, ◌^◌, ◌<◌, get_or, leb, replicate, eqb, Bool, true, false, cond, List, [], ◌∷◌, map, length, w8, refl, ap, ap₂, ◌∙◌, arith, inl, inr, agree_below, agree_below_at, cases_Bool, length-map, tops_compared, zip2_splat_left, mask_l-mod}
+use Rattle.std.proofs.Common.{eqb-true, Fits}
 use lib.Lanes.{zip2, sel_l, top, Each1, mask_l}
 
 pub itself : (v : List ℕ) → v ≡ map (λ x. x) v

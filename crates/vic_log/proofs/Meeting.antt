@@ -1,8 +1,5 @@
 -- A population meets a log's slots: every slot was read as what happens in it.
-use Rattle.std.proofs.Common.{◌≡◌, ◌≢◌, ℕ, List}
-use Rattle.vic_log.proofs.Words.{filter, Outcome, Lone, outcome_of, Reading, NoReply, OneReply, ManyReplies, SomeReply, Slot}
-use Rattle.std.specs.List.{AllByRecursion}
-use Rattle.vic_log.specs.Populations.{Nobody, Several}
+use Rattle.vic_log.proofs.Words.{◌≡◌, ◌≢◌, ℕ, List, filter, Outcome, Lone, outcome_of, Reading, NoReply, OneReply, ManyReplies, SomeReply, Slot, AllByRecursion, Nobody, Several}
 
 -- a reading fits an outcome
 abbrev pub ReadingFits : Reading → Outcome → Type 0

@@ -1,6 +1,5 @@
 -- A text has one answer.
-use Rattle.std.proofs.Common.{◌≡◌, ◌⊎◌, inl, inr, ℕ, zero, suc, ◌<◌, Some, None, List, length, refl, arith, ⊎_elim}
-use Rattle.vic_log.proofs.Words.{common_steps, cases_eq, LineFault, LogValue, version_of, log_upto, fault_on, IsFirstFault, IsLogOf}
+use Rattle.vic_log.proofs.Words.{◌≡◌, ◌⊎◌, inl, inr, ℕ, zero, suc, ◌<◌, Some, None, List, length, refl, arith, ⊎_elim, common_steps, cases_eq, LineFault, LogValue, version_of, log_upto, fault_on, IsFirstFault, IsLogOf}
 use Rattle.vic_log.proofs.Passing.{clean_all}
 
 not_before : (lines : List (List ℕ)) (n m : ℕ) (f g : LineFault) → IsFirstFault lines n f → IsFirstFault lines m g → n < m → ⊥

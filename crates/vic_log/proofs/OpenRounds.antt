@@ -1,9 +1,6 @@
 -- The open round, from one position to the next.
-use Rattle.std.proofs.Common.{◌≡◌, ℕ, suc, ◌<◌, ◌+◌, ◌-◌, List, Option, Some, None, ap, ◌∙◌, arith, add-one, slice_get, if◌then◌else◌}
-use Rattle.vic_log.proofs.Words.{nat_tests, Entry, Sent, Listed, FieldCycle, opener, ends_round, IsInOrder}
-use Rattle.vic_log.specs.declared.rounds.OpenRound.{OpenRound}
+use Rattle.vic_log.proofs.Words.{◌≡◌, ℕ, suc, ◌<◌, ◌+◌, ◌-◌, List, Option, Some, None, ap, ◌∙◌, arith, add-one, slice_get, if◌then◌else◌, nat_tests, Entry, Sent, Listed, FieldCycle, opener, ends_round, IsInOrder, OpenRound, round_of, round_since, round_at, IsCursorAt}
 use Rattle.vic_log.specs.declared.rounds.RoundCursor.{RoundCursor}
-use Rattle.vic_log.specs.OpenRounds.{round_of, round_since, round_at, IsCursorAt}
 use Rattle.vic_log.proofs.Places.{opener_below}
 
 -- one slot further

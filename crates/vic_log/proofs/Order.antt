@@ -1,8 +1,6 @@
 -- Slots in a round, and entries in order.
-use Rattle.std.proofs.Common.{◌≡◌, ℕ, ◌<◌, List, Option, Some, refl, sym, ◌∙◌, ◌++◌, arith, ◌↔◌, slice_get}
-use Rattle.vic_log.proofs.Words.{nat_tests, Entry, opener, left_since, slots_left, IsInRound, IsInOrder, Sent, Listed, FieldCycle, slice_get_within}
+use Rattle.vic_log.proofs.Words.{◌≡◌, ℕ, ◌<◌, List, Option, Some, refl, sym, ◌∙◌, ◌++◌, arith, ◌↔◌, slice_get, nat_tests, Entry, opener, left_since, slots_left, IsInRound, IsInOrder, Sent, Listed, FieldCycle, slice_get_within, le_of_lt}
 use Rattle.vic_log.proofs.Places.{agree_append, agree_upto, opener_agrees, opener_below}
-use Rattle.std.proofs.Math.Nat.{le_of_lt}
 
 pub still_there : (es fs : List Entry) (i : ℕ) (e : Entry) → slice_get es i ≡ Some e → slice_get (es ++ fs) i ≡ Some e
 still_there es fs i e k = sym (agree_append es fs i (slice_get_within es i e k)) ∙ k

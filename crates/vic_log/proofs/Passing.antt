@@ -1,8 +1,5 @@
 -- Lines that were read, and the next one.
-use Rattle.std.proofs.Common.{◌≡◌, ℕ, zero, suc, ◌<◌, ◌≤◌, Option, Some, None, Result, List, [], ◌∷◌, ◌++◌, length, refl, sym, ap, ◌∙◌, arith, ⊎_elim, append-nil, ◌≢◌, slice_get}
-use Rattle.vic_log.proofs.Words.{nat_tests, cases_eq, cases_lt, cond_both, cond-false, ne_eqb, length_push, Entry, LogLine, Version, LineFault, Header, Memory, AreRead, LogValue, last_from, named_version, version_of, line_fault, entry_line, logged, log_upto, fault_on, IsFirstFault, IsLogOf, next_fault, after_line, RefusesNext}
-use Rattle.std.proofs.lemmas.Option.{slice_get_past}
-use Rattle.vic_log.specs.Text.{GiveEntries}
+use Rattle.vic_log.proofs.Words.{◌≡◌, ℕ, zero, suc, ◌<◌, ◌≤◌, Option, Some, None, Result, List, [], ◌∷◌, ◌++◌, length, refl, sym, ap, ◌∙◌, arith, ⊎_elim, append-nil, ◌≢◌, slice_get, nat_tests, cases_eq, cases_lt, cond_both, cond-false, ne_eqb, length_push, Entry, LogLine, Version, LineFault, Header, Memory, AreRead, LogValue, last_from, named_version, version_of, line_fault, entry_line, logged, log_upto, fault_on, IsFirstFault, IsLogOf, next_fault, after_line, RefusesNext, slice_get_past, GiveEntries}
 use Rattle.vic_log.proofs.Places.{slice_get-append, slice_get_seam}
 use Rattle.vic_log.proofs.Push.{last_from-push}
 

@@ -1,9 +1,5 @@
 -- The first LF of some bytes.
-use Rattle.std.proofs.Common.{◌≡◌, ℕ, zero, suc, ◌-◌, ◌<◌, ◌≤◌, true, false, List, [], ◌∷◌, ◌++◌, length, take, drop, Result, refl, sym, ap, ◌∙◌, arith, slice_index, nat_eq, ◌==◌, ◌↔◌, IsOk, is_ok, OnOk}
-use Rattle.vic_log.proofs.Words.{nat_tests, or_from, ne_eqb, eq-eqb, has, lf}
-use Rattle.std.proofs.lemmas.List.{length-drop, take_all}
-use Rattle.std.proofs.Math.Seq.{take-length}
-use Rattle.vic_log.specs.Begun.{IsSplit}
+use Rattle.vic_log.proofs.Words.{◌≡◌, ℕ, zero, suc, ◌-◌, ◌<◌, ◌≤◌, true, false, List, [], ◌∷◌, ◌++◌, length, take, drop, Result, refl, sym, ap, ◌∙◌, arith, slice_index, nat_eq, ◌==◌, ◌↔◌, IsOk, is_ok, OnOk, nat_tests, or_from, ne_eqb, eq-eqb, has, lf, length-drop, take_all, take-length, IsSplit}
 
 pub lacks : (bytes : List ℕ) (k : ℕ) → k ≤ length bytes → ((i : ℕ) → 0 ≤ i → i < k → slice_index bytes i == lf ≡ true → ⊥) → has (take k bytes) lf ≡ false
 lacks bytes zero h none = refl

@@ -1,11 +1,7 @@
 -- From the entries of a log to its slots; what entries that follow leave as it is.
-use Rattle.std.proofs.Common.{◌≡◌, ℕ, zero, suc, ◌<◌, ◌≤◌, List, [], ◌∷◌, ◌++◌, length, Bool, Option, Some, None, refl, sym, ap, ◌∙◌, subst, arith, ◌↔◌, inl, inr, slice_get}
-use Rattle.vic_log.proofs.Words.{nat_tests, filter, cases_lt, cond_both, length_push, slice_get_within, Entry, opener, is_quiet, answers_at, outcome_of, Fits, CouldHaveGiven, Slot}
-use Rattle.std.proofs.lemmas.List.Elements.{filter_agree}
+use Rattle.vic_log.proofs.Words.{◌≡◌, ℕ, zero, suc, ◌<◌, ◌≤◌, List, [], ◌∷◌, ◌++◌, length, Bool, Option, Some, None, refl, sym, ap, ◌∙◌, subst, arith, ◌↔◌, inl, inr, slice_get, nat_tests, filter, cases_lt, cond_both, length_push, slice_get_within, Entry, opener, is_quiet, answers_at, outcome_of, Fits, CouldHaveGiven, Slot, filter_agree, outcome_at, with_entry, slots_before, slots_of}
 use Rattle.vic_log.specs.Rounds.{mask_at}
-use Rattle.vic_log.specs.Populations.{outcome_at}
 use Rattle.vic_log.proofs.Meeting.{MeetsAll}
-use Rattle.vic_log.specs.Slots.{with_entry, slots_before, slots_of}
 
 -- ---- entries and slots
 

@@ -1,10 +1,6 @@
 -- One entry more: what entries in order keep, and what a log keeps.
-use Rattle.std.proofs.Common.{◌≡◌, ℕ, zero, suc, ◌+◌, ◌-◌, ◌<◌, ◌≤◌, Bool, true, false, Some, None, List, [], ◌∷◌, ◌++◌, length, take, length-append, refl, sym, ap, subst, ◌∙◌, arith, slice_get, nat_eq, nat_lt, if◌then◌else◌, not, ◌||◌}
-use Rattle.vic_log.proofs.Words.{nat_tests, eq-eqb, or_right, map-append, length-map, Entry, Sent, Listed, FieldCycle, LogLine, has, Version, V1, IsOfFirstVersion, AreOfFirstVersion, slots_left, is_slot, IsInOrder, entries, listed, AreValid, is_empty, refusal, last_from, IsValidEntry, IsTyped, AreTyped, numbered}
-use Rattle.std.proofs.lemmas.Bool.{not-false}
-use Rattle.vic_log.specs.Order.{IsRisingFrom, is_outside_round, is_after_list, is_duplicate}
+use Rattle.vic_log.proofs.Words.{◌≡◌, ℕ, zero, suc, ◌+◌, ◌-◌, ◌<◌, ◌≤◌, Bool, true, false, Some, None, List, [], ◌∷◌, ◌++◌, length, take, length-append, refl, sym, ap, subst, ◌∙◌, arith, slice_get, nat_eq, nat_lt, if◌then◌else◌, not, ◌||◌, nat_tests, eq-eqb, or_right, map-append, length-map, Entry, Sent, Listed, FieldCycle, LogLine, has, Version, V1, IsOfFirstVersion, AreOfFirstVersion, slots_left, is_slot, IsInOrder, entries, listed, AreValid, is_empty, refusal, last_from, IsValidEntry, IsTyped, AreTyped, numbered, not-false, IsRisingFrom, is_outside_round, is_after_list, is_duplicate, left_after, Keeps}
 use Rattle.vic_log.specs.Log.{IsLog}
-use Rattle.vic_log.specs.Kept.{left_after, Keeps}
 use Rattle.vic_log.proofs.Places.{last_or, AgreeBefore, opener_agrees, opener_below, agree_append, slice_get_last, agree_upto}
 use Rattle.vic_log.proofs.Order.{in_round-slots_left}
 

@@ -1,6 +1,5 @@
 -- A tag is Quiet where a Stay Quiet with its UID stands before, and no field cycle between.
-use Rattle.std.proofs.Common.{◌≡◌, ℕ, zero, suc, List, true, not, Option, Some, arith, ◌≢◌}
-use Rattle.vic_log.proofs.Words.{nat_tests, cases_eq, and_parts, and_from, or_cases, or_left, or_right, false≢true, Entry, FieldCycle, wakes, is_quiet}
+use Rattle.vic_log.proofs.Words.{◌≡◌, ℕ, zero, suc, List, true, not, Option, Some, arith, ◌≢◌, nat_tests, cases_eq, and_parts, and_from, or_cases, or_left, or_right, false≢true, Entry, FieldCycle, wakes, is_quiet}
 use Rattle.vic_log.specs.Quiet.{IsSilenced}
 
 no_wake : (o : Option Entry) → o ≢ Some FieldCycle → not (wakes o) ≡ true

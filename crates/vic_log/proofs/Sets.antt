@@ -1,8 +1,5 @@
 -- Lists of UIDs as sets.
-use Rattle.std.proofs.Common.{◌≡◌, ℕ, List, [], ◌∷◌, Bool, true, false, ◌&&◌, refl, sym, ap, ◌∙◌, inl, inr, ⊎_elim, ◌⊎◌, nat_eq, arith}
-use Rattle.vic_log.proofs.Words.{nat_tests, filter, cases_eq, cases_Bool, cond_both, ne_eqb, eqb-true, eq-eqb, and_parts, and_from, or_cases, or_left, or_right, false≢true, IsUid, has, AreDifferent, IsPopulation}
-use Rattle.std.proofs.lemmas.Bool.{and_right}
-use Rattle.std.proofs.lemmas.Map.Views.{any-filter_same}
+use Rattle.vic_log.proofs.Words.{◌≡◌, ℕ, List, [], ◌∷◌, Bool, true, false, ◌&&◌, refl, sym, ap, ◌∙◌, inl, inr, ⊎_elim, ◌⊎◌, nat_eq, arith, nat_tests, filter, cases_eq, cases_Bool, cond_both, ne_eqb, eqb-true, eq-eqb, and_parts, and_from, or_cases, or_left, or_right, false≢true, IsUid, has, AreDifferent, IsPopulation, and_right, any-filter_same}
 
 -- a set of numbers within another
 abbrev pub IsWithin : (ℕ → Bool) → (ℕ → Bool) → Type 0

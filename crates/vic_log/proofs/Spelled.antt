@@ -1,13 +1,7 @@
 -- The line of an entry reads back as the entry.
-use Rattle.std.proofs.Common.{◌≡◌, ℕ, suc, ◌*◌, ◌/◌, ◌%◌, ◌<◌, Bool, false, Some, None, List, [], ◌∷◌, length, refl, arith, slice_get, slice_index, nat_eq, ◌||◌}
-use Rattle.vic_log.proofs.Words.{nat_tests, encode_upper, upper_digits, hex_digit_value, has, Entry, Sent, Silent, Collision, Heard, Listed, Garbled, FieldCycle, Version, V1, V2, IsOfFirstVersion, AreOfFirstVersion, IsValidEntry, IsTyped, AreTyped, AreValid, entry_text}
-use Rattle.hex.specs.Hex.{encode_with, IsBytes}
-use Rattle.std.specs.Int.{to_be_bytes, w64}
-use Rattle.hex.proofs.HexLemmas.{decode_of-encode_upper, length-encode_with}
-use Rattle.vic_frame.specs.Requests.{request_spelling}
-use Rattle.vic_frame.specs.Replies.{reply_spelling}
+use Rattle.vic_log.proofs.Words.{◌≡◌, ℕ, suc, ◌*◌, ◌/◌, ◌%◌, ◌<◌, Bool, false, Some, None, List, [], ◌∷◌, length, refl, arith, slice_get, slice_index, nat_eq, ◌||◌, nat_tests, encode_upper, upper_digits, hex_digit_value, has, Entry, Sent, Silent, Collision, Heard, Listed, Garbled, FieldCycle, Version, V1, V2, IsOfFirstVersion, AreOfFirstVersion, IsValidEntry, IsTyped, AreTyped, AreValid, entry_text, IsBytes, to_be_bytes, w64, decode_of-encode_upper, length-encode_with, request_spelling, reply_spelling, HasBytes}
+use Rattle.hex.specs.Hex.{encode_with}
 use Rattle.vic_log.proofs.FrameBytes.{AreBytes-request, length-request, AreBytes-reply, length-reply}
-use Rattle.vic_log.specs.Grammar.{HasBytes}
 use Rattle.vic_log.proofs.Grammar.{digits-of, spelled-reads}
 use Rattle.vic_log.proofs.Written.{IsPlain, IsSpelled, AreSpelled}
 

@@ -1,9 +1,5 @@
 -- A population meets the slots where its members are open and it supplies what the slots ask for.
-use Rattle.std.proofs.Common.{◌≡◌, ℕ, List, [], ◌∷◌, Bool, true, refl, sym, ap, ◌∙◌, ⊎_elim, ◌≢◌, ◌↔◌, arith}
-use Rattle.vic_log.proofs.Words.{nat_tests, eqb-true, leb-true, ltb-true, lt-ltb, and_parts, and_from, false≢true, both_ways, has, is_uid, IsUid, AreDifferent, IsPopulation, Lone, outcome_of, Reading, NoReply, OneReply, ManyReplies, SomeReply, Slot}
-use Rattle.std.specs.List.{list_all}
-use Rattle.std.proofs.lemmas.Bool.{le-leb}
-use Rattle.vic_log.specs.Slots.{may_be, allows, is_open, Asks, Supplies, SuppliesAll}
+use Rattle.vic_log.proofs.Words.{◌≡◌, ℕ, List, [], ◌∷◌, Bool, true, refl, sym, ap, ◌∙◌, ⊎_elim, ◌≢◌, ◌↔◌, arith, nat_tests, eqb-true, leb-true, ltb-true, lt-ltb, and_parts, and_from, false≢true, both_ways, has, is_uid, IsUid, AreDifferent, IsPopulation, Lone, outcome_of, Reading, NoReply, OneReply, ManyReplies, SomeReply, Slot, list_all, le-leb, may_be, allows, is_open, Asks, Supplies, SuppliesAll}
 use Rattle.vic_log.proofs.Meeting.{ReadingFits, Meets, MeetsAll}
 use Rattle.vic_log.proofs.Sets.{IsWithin, has_here, has_at, has_there, has_cases, has_filter, filter_has, AreDifferent-filter, AreDifferent-population, IsUid-member}
 

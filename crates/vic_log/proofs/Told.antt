@@ -1,9 +1,5 @@
 -- Bytes that are taken in turn.
-use Rattle.std.proofs.Common.{◌<◌, ◌≤◌, ◌∷◌, slice_index_or, arith, ◌≡◌, ◌+◌, ◌-◌, ℕ, List, [], ◌++◌, length, length-append, take, drop, None, Some, Option, sym, ◌∙◌, ap, append_assoc}
-use Rattle.vic_log.proofs.Words.{nat_tests, common_steps, lf, drop_all, take-append-le, Appends, HasTakenBut}
-use Rattle.std.proofs.KnownBytes.{Appends-trans}
-use Rattle.std.proofs.Math.Seq.{take-add, take-append-add}
-use Rattle.vic_log.specs.Device.{HasTakenPrefix}
+use Rattle.vic_log.proofs.Words.{◌<◌, ◌≤◌, ◌∷◌, slice_index_or, arith, ◌≡◌, ◌+◌, ◌-◌, ℕ, List, [], ◌++◌, length, length-append, take, drop, None, Some, Option, sym, ◌∙◌, ap, append_assoc, nat_tests, common_steps, lf, drop_all, take-append-le, Appends, HasTakenBut, Appends-trans, take-add, take-append-add, HasTakenPrefix}
 
 -- the first n bytes, and then the next m of the rest
 pub appended-more : (a b c : Option (List ℕ)) (n m : ℕ) (xs : List ℕ) →

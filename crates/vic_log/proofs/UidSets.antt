@@ -1,12 +1,6 @@
 -- A set of UIDs, spread over rows.
-use Rattle.std.proofs.Common.{◌≡◌, ℕ, zero, suc, ◌<◌, Bool, true, false, Some, List, [], ◌∷◌, ◌++◌, length, take, get_or, ⊎_elim, refl, sym, ap, ◌∙◌, arith, nat_eq, ◌||◌, not, slice_get, set, cond}
-use Rattle.vic_log.proofs.Words.{common_steps, nat_tests, false_from_ne_true, cases_eq, ne_eqb, eq-eqb, or_from, or_right, list_any-append, list_any, has, IsUid, row_of, IsUidSet, IsSetOf, IsIndex, LogLine, entries, listed}
-use Rattle.std.proofs.lemmas.List.{length-set, get_or-set_same, get_or-set_other}
-use Rattle.std.proofs.Math.Bool.{or_comm, or_assoc, or-false}
-use Rattle.std.specs.BTreeMap.{is_at}
-use Rattle.std.specs.Vec.{with_item, vec_len}
+use Rattle.vic_log.proofs.Words.{◌≡◌, ℕ, zero, suc, ◌<◌, Bool, true, false, Some, List, [], ◌∷◌, ◌++◌, length, take, get_or, ⊎_elim, refl, sym, ap, ◌∙◌, arith, nat_eq, ◌||◌, not, slice_get, set, cond, common_steps, nat_tests, false_from_ne_true, cases_eq, ne_eqb, eq-eqb, or_from, or_right, list_any-append, list_any, has, IsUid, row_of, IsUidSet, IsSetOf, IsIndex, LogLine, entries, listed, length-set, get_or-set_same, get_or-set_other, or_comm, or_assoc, or-false, is_at, with_item, vec_len, nat_cmp}
 use Rattle.std.specs.BTreeSet as sorted
-use Rattle.std.specs.Ordering.{nat_cmp}
 use Rattle.vic_log.specs.declared.uid_set.UidSet.{UidSet}
 use Rattle.vic_log.specs.inner.UidSets.{place_of, is_held}
 use Rattle.vic_log.proofs.Push.{listed-append, entries_next}

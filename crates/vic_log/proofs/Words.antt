@@ -1,38 +1,77 @@
--- The words of proofs, from one place: the types, definitions and lemmas from outside that several files mention.
-pub use Rattle.std.specs.Io.KnownBytes.{Consumes, Appends}
-pub use Rattle.std.specs.List.{filter, list_any}
-pub use Rattle.std.proofs.KnownBytes.{Consumes-trans}
-pub use Rattle.std.proofs.lemmas.Bool.{cases_lt, ne_eqb, cases_eq, eqb-true, cond-false, eq-eqb, or_right, and_parts, lt-ltb, and_from, or_from, cond_both, false_from_ne_true, cond-true, le-ltb, or_cases, false≢true, ltb-false, leb-true, both_ways, ltb-true, cases_Bool, or_left, or_parts}
+-- The words of proofs, from one place: what files name from outside of the crate, and the definitions that several of them name.
+pub use Rattle.std.proofs.Common.{Bool, Err, IfErr, IfOk, IfSome, IsErr, IsOk, List, MatchResult, None, Ok, OnOk, Option, Result, Some, [], add-one, ap, append-nil, append_assoc, ap₂, arith, cond, drop, drop-cons, eqb, false, get_or, if◌then◌else◌, inl, inr, is_ok, leb, leb-false, length, length-append, length-take-le, map, nat_eq, nat_lt, not, refl, replicate, rules, set, slice_get, slice_index, slice_index_or, subst, suc, sym, take, true, w8, zero, ℕ, ⊎_elim, ◌%◌, ◌&&◌, ◌*◌, ◌++◌, ◌+◌, ◌-◌, ◌/◌, ◌<◌, ◌==◌, ◌^◌, ◌||◌, ◌↔◌, ◌∙◌, ◌∷◌, ◌≡◌, ◌≢◌, ◌≤◌, ◌⊎◌}
+pub use Rattle.std.proofs.KnownBytes.{Appends-trans, Consumes-nil, Consumes-trans}
+pub use Rattle.std.proofs.Math.Bool.{or-false, or_assoc, or_comm}
+pub use Rattle.std.proofs.Math.Nat.{le_of_lt}
+pub use Rattle.std.proofs.Math.Seq.{take-add, take-append-add, take-append_seam, take-length}
+pub use Rattle.std.proofs.lemmas.Bool.{agree_below, agree_below_at, and_from, and_parts, and_right, both_ways, cases_Bool, cases_eq, cases_lt, cond-false, cond-true, cond_both, eq-eqb, eqb-false, eqb-true, false_from_ne_true, false≢true, le-leb, le-ltb, leb-true, lt-ltb, ltb-false, ltb-true, ne_eqb, not-false, or_cases, or_from, or_left, or_parts, or_right}
 pub use Rattle.std.proofs.lemmas.Bool.Decides.{nat_tests}
 pub use Rattle.std.proofs.lemmas.Grind.{common_steps}
-pub use Rattle.std.proofs.lemmas.List.{length-map, drop_all, length_push, map-append, nil_from_length, take-append-le}
+pub use Rattle.std.proofs.lemmas.List.{drop_all, get_or-map, get_or-set_other, get_or-set_same, get_or_append_left, length-drop, length-map, length-set, length-take, length_push, map-append, nil_from_length, take-append-le, take_all}
+pub use Rattle.std.proofs.lemmas.List.Elements.{filter_agree}
 pub use Rattle.std.proofs.lemmas.List.Folds.{list_any-append}
-pub use Rattle.std.proofs.lemmas.Option.{slice_get_within, slice_get_read}
-pub use Rattle.std.proofs.lemmas.Result.{err_from_is_err_and}
-pub use Rattle.hex.specs.Hex.{encode_upper, upper_digits, hex_digit_value}
-pub use Rattle.vic_frame.specs.Uids.{has, IsUid, is_uid, AreDifferent}
+pub use Rattle.std.proofs.lemmas.List.FromFn.{get_or-range_with_len, length-range_with_len}
+pub use Rattle.std.proofs.lemmas.Map.Views.{any-filter_same}
+pub use Rattle.std.proofs.lemmas.Nat.{be_bytes_8, from_be_bytes-to_be_bytes_8}
+pub use Rattle.std.proofs.lemmas.Option.{slice_get_past, slice_get_read, slice_get_within}
+pub use Rattle.std.proofs.lemmas.Result.{IfErr-weaker, err_from_is_err_and, on_ok_weaker}
+pub use Rattle.std.proofs.lemmas.Simd.{bitmask_splat, get_or-chunk, get_or-put_chunk_at, get_or-put_chunk_below, length-chunk, mask_l-mod, run_in_chunk_fails, run_in_chunk_stops, splat_is_map, tops_compared, trailing_mask_l, zip2_of_maps, zip2_splat_left}
+pub use Rattle.std.specs.BTreeMap.{is_at}
+pub use Rattle.std.specs.Int.{to_be_bytes, w64}
+pub use Rattle.std.specs.Io.KnownBytes.{Appends, Consumes, IsAtEnd}
+pub use Rattle.std.specs.List.{AllByRecursion, filter, list_all, list_any, prefix_len, range_with_len}
+pub use Rattle.std.specs.Option.{is_some, unwrap_or}
+pub use Rattle.std.specs.Ordering.{nat_cmp}
+pub use Rattle.std.specs.Prelude.{⊤}
+pub use Rattle.std.specs.Vec.{vec_len, with_item}
+pub use Rattle.arrayvec.specs.ArrayVec.{array_vec_len}
+pub use Rattle.hex.proofs.HexLemmas.{decode_of-encode_upper, decode_of-even, decode_pairs-ok, length-encode_with}
+pub use Rattle.hex.proofs.Pairs.{cons_byte, decode_pairs-ok_pair}
+pub use Rattle.hex.specs.Hex.{IsBytes, decode_of, digit_or_error, encode_upper, hex_digit_value, pair_value, upper_digits, ◌>>=◌}
+pub use Rattle.hex.specs.declared.error.FromHexError.{FromHexError}
+pub use Rattle.vic_frame.proofs.BytesLaws.{length_bytes_of}
+pub use Rattle.vic_frame.proofs.FrameLaws.{length-with_crc}
+pub use Rattle.vic_frame.proofs.MirrorLaws.{first_is_block, in_span}
+pub use Rattle.vic_frame.proofs.ReplyLaws.{reply_found, reply_only}
+pub use Rattle.vic_frame.proofs.RequestLaws.{request_found, request_only}
+pub use Rattle.vic_frame.specs.Bytes.{AreBytes}
+pub use Rattle.vic_frame.specs.Crc.{crc, with_crc}
+pub use Rattle.vic_frame.specs.LowBitsFirst.{IsBlock, is_in_block, mirror}
+pub use Rattle.vic_frame.specs.Masks.{BitMask, IsMask}
+pub use Rattle.vic_frame.specs.Reading.{reply_reading, request_reading}
+pub use Rattle.vic_frame.specs.Replies.{IsReply, Reply, SpellsReply, reply_body, reply_spelling}
+pub use Rattle.vic_frame.specs.Requests.{IsInRange, IsValid, SpellsRequest, byte_count, request_body, request_spelling}
+pub use Rattle.vic_frame.specs.Uids.{AreDifferent, IsUid, has, is_uid}
+pub use Rattle.vic_frame.specs.declared.fault.FrameFault.{FrameFault}
+pub use Rattle.vic_frame.specs.declared.request.Request.{Request}
+pub use Rattle.vic_frame.specs.declared.request.Request.TheVariants.{Inventory, StayQuiet}
+pub use Rattle.vic_log.specs.Begun.{AreRead, HasCut, HasJudged, HasTaken, IsCut, IsShort, IsSplit, spare}
+pub use Rattle.vic_log.specs.Device.{HandsOut, HasTakenBut, HasTakenPrefix, HasWrittenBut, KeepsOrHides, TellsOn}
+pub use Rattle.vic_log.specs.Early.{HasNoEarlyFault, IsEarly, IsEarlyFault, IsJudged, IsLong, Judges, ReadsAs, ReadsWhere}
+pub use Rattle.vic_log.specs.FirstVersion.{AreOfFirstVersion, IsOfFirstVersion}
+pub use Rattle.vic_log.specs.Grammar.{AreDigitsOf, HasBytes, IsDigitOf, IsPassedOver, SpellsEntry}
+pub use Rattle.vic_log.specs.Kept.{Keeps, left_after}
+pub use Rattle.vic_log.specs.LineReading.{line_reading}
+pub use Rattle.vic_log.specs.Lines.{all_but_last, content, cr, cut, ends_with, lf, lines_of_text, onto, without_last}
+pub use Rattle.vic_log.specs.Log.{AreTyped, IsTyped, IsValidEntry, LogValue, last_from}
+pub use Rattle.vic_log.specs.OpenRounds.{IsCursorAt, round_at, round_of, round_since}
+pub use Rattle.vic_log.specs.Order.{AreValid, IsInOrder, IsRisingFrom, entries, first_reason, is_after_list, is_duplicate, is_empty, is_outside_round, listed, refusal}
+pub use Rattle.vic_log.specs.Populations.{CouldHaveGiven, Fits, IsPopulation, Lone, Nobody, Outcome, Several, answers_at, outcome_at, outcome_of}
+pub use Rattle.vic_log.specs.Quiet.{is_quiet, silences, wakes}
+pub use Rattle.vic_log.specs.Rounds.{IsInRound, ends_round, is_slot, left_since, mask_since, opener, slots_left, slots_opened}
+pub use Rattle.vic_log.specs.Slots.{Asks, ManyReplies, NoReply, OneReply, Reading, Slot, SomeReply, Supplies, SuppliesAll, allows, is_open, may_be, slots_before, slots_of, with_entry}
+pub use Rattle.vic_log.specs.Text.{GiveEntries, IsFirstFault, IsLogOf, Refuses, entry_line, fault_on, header, line_fault, log_upto, logged, named_version, reading_fault, version_of}
+pub use Rattle.vic_log.specs.Writing.{entry_text, joined, lines_text, listed_text, numbered, text_of}
 pub use Rattle.vic_log.specs.declared.entry.Entry.{Entry}
-pub use Rattle.vic_log.specs.declared.entry.Entry.TheVariants.{FieldCycle, Listed, Sent, Garbled, Silent, Heard, Collision}
+pub use Rattle.vic_log.specs.declared.entry.Entry.TheVariants.{Collision, FieldCycle, Garbled, Heard, Listed, Sent, Silent}
 pub use Rattle.vic_log.specs.declared.entry.LogLine.{LogLine}
 pub use Rattle.vic_log.specs.declared.entry.Version.{Version}
 pub use Rattle.vic_log.specs.declared.entry.Version.TheVariants.{V1, V2}
 pub use Rattle.vic_log.specs.declared.fault.LineFault.{LineFault}
-pub use Rattle.vic_log.specs.declared.fault.LineFault.TheVariants.{TooManyLines, LineTooLong, Header}
+pub use Rattle.vic_log.specs.declared.fault.LineFault.TheVariants.{Header, LineTooLong, TooManyLines}
 pub use Rattle.vic_log.specs.declared.fault.LogFault.{LogFault}
-pub use Rattle.vic_log.specs.declared.fault.LogFault.TheVariants.{Memory, Read, Spent, Line}
-pub use Rattle.vic_log.specs.Begun.{HasJudged, AreRead}
-pub use Rattle.vic_log.specs.Device.{HasTakenBut, HasWrittenBut}
-pub use Rattle.vic_log.specs.Early.{IsEarly, IsEarlyFault, IsLong, IsJudged}
-pub use Rattle.vic_log.specs.FirstVersion.{IsOfFirstVersion, AreOfFirstVersion}
-pub use Rattle.vic_log.specs.LineReading.{line_reading}
-pub use Rattle.vic_log.specs.Lines.{lf, lines_of_text, without_last, content, cut, onto, cr, all_but_last, ends_with}
-pub use Rattle.vic_log.specs.Log.{LogValue, last_from, IsTyped, IsValidEntry, AreTyped}
-pub use Rattle.vic_log.specs.Order.{entries, listed, IsInOrder, AreValid, is_empty, refusal}
-pub use Rattle.vic_log.specs.Populations.{outcome_of, IsPopulation, Lone, Fits, CouldHaveGiven, Outcome, answers_at}
-pub use Rattle.vic_log.specs.Quiet.{is_quiet, wakes, silences}
-pub use Rattle.vic_log.specs.Rounds.{opener, ends_round, is_slot, slots_left, slots_opened, IsInRound, mask_since, left_since}
-pub use Rattle.vic_log.specs.Slots.{Slot, NoReply, Reading, OneReply, ManyReplies, SomeReply}
-pub use Rattle.vic_log.specs.Text.{IsLogOf, IsFirstFault, fault_on, line_fault, version_of, Refuses, log_upto, named_version, entry_line, logged}
-pub use Rattle.vic_log.specs.Writing.{entry_text, numbered, lines_text, listed_text}
-pub use Rattle.vic_log.specs.inner.Text.{after_line, next_fault, RefusesNext}
-pub use Rattle.vic_log.specs.inner.UidSets.{IsSetOf, IsUidSet, row_of, IsIndex}
+pub use Rattle.vic_log.specs.declared.fault.LogFault.TheVariants.{Line, Memory, Read, Spent}
+pub use Rattle.vic_log.specs.declared.rounds.OpenRound.{OpenRound}
+pub use Rattle.vic_log.specs.inner.Digits.{SpellsByte, digit_or_255}
+pub use Rattle.vic_log.specs.inner.Text.{RefusesNext, after_line, next_fault}
+pub use Rattle.vic_log.specs.inner.UidSets.{IsIndex, IsSetOf, IsUidSet, row_of}

@@ -1,10 +1,5 @@
 -- The text of a log reads back.
-use Rattle.std.proofs.Common.{◌≡◌, ℕ, suc, ◌+◌, ◌-◌, ◌<◌, ◌≤◌, true, false, Some, None, Ok, List, [], ◌∷◌, ◌++◌, length, refl, sym, ap, subst, ◌∙◌, arith, append_assoc, append-nil, slice_get, nat_eq, ◌==◌, map}
-use Rattle.vic_log.proofs.Words.{common_steps, nat_tests, cond-true, cond-false, or_parts, ne_eqb, le-ltb, length_push, Entry, has, IsInOrder, entries, onto, cut, ends_with, all_but_last, without_last, content, lines_of_text, line_reading, line_fault, entry_line, logged, IsLogOf, after_line, LogValue, Version, entry_text, numbered, AreRead}
-use Rattle.std.proofs.Math.Seq.{take-append_seam}
-use Rattle.std.specs.List.{AllByRecursion}
-use Rattle.vic_log.specs.Text.{reading_fault, header}
-use Rattle.vic_log.specs.Writing.{joined}
+use Rattle.vic_log.proofs.Words.{◌≡◌, ℕ, suc, ◌+◌, ◌-◌, ◌<◌, ◌≤◌, true, false, Some, None, Ok, List, [], ◌∷◌, ◌++◌, length, refl, sym, ap, subst, ◌∙◌, arith, append_assoc, append-nil, slice_get, nat_eq, ◌==◌, map, common_steps, nat_tests, cond-true, cond-false, or_parts, ne_eqb, le-ltb, length_push, Entry, has, IsInOrder, entries, onto, cut, ends_with, all_but_last, without_last, content, lines_of_text, line_reading, line_fault, entry_line, logged, IsLogOf, after_line, LogValue, Version, entry_text, numbered, AreRead, take-append_seam, AllByRecursion, reading_fault, header, joined}
 use Rattle.vic_log.proofs.Passing.{AreRead-push, AreRead-end}
 use Rattle.vic_log.proofs.Follow.{first_reason-none}
 use Rattle.vic_log.proofs.Push.{entries-numbered}

@@ -1,7 +1,5 @@
 -- Findings agree where the same UIDs are possible and the same are certain.
-use Rattle.std.proofs.Common.{◌≡◌, ℕ, suc, ◌+◌, ◌<◌, ◌≤◌, ◌^◌, List, [], ◌∷◌, true, false, Option, Some, None, refl, sym, ap, subst, ◌∙◌, arith, ⊎_elim, ◌↔◌, MatchOption, slice_index, option_map}
-use Rattle.vic_reconcile.proofs.Words.{IsUid, has, BitMask, lies_in, has_cases, has_here, has_there, IsListOf, IsFirstMask, NoSuch, head_least, list_as, none_of, place_of}
-use Rattle.std.proofs.lemmas.List.Kept.{AllPairs-from_increasing}
+use Rattle.vic_reconcile.proofs.Words.{◌≡◌, ℕ, suc, ◌+◌, ◌<◌, ◌≤◌, ◌^◌, List, [], ◌∷◌, true, false, Option, Some, None, refl, sym, ap, subst, ◌∙◌, arith, ⊎_elim, ◌↔◌, MatchOption, slice_index, option_map, IsUid, has, BitMask, lies_in, has_cases, has_here, has_there, IsListOf, IsFirstMask, NoSuch, head_least, list_as, none_of, place_of, AllPairs-from_increasing}
 
 -- ---- one list, one first mask
 

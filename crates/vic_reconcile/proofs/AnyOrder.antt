@@ -1,8 +1,5 @@
 -- The order of the logs changes nothing that they tell.
-use Rattle.std.proofs.Common.{ℕ, List, ◌↔◌, Any, IsPermutation}
-use Rattle.vic_reconcile.proofs.Words.{OpenMasks, LogLine, Findings, ArePossible, IsCertainUid, IsPossibleUid, AreFindings, AreOpenMasksOf, IsUnsettled, IsWhole}
-use Rattle.std.proofs.lemmas.List.Sorted.{All-permutation, Contains-permutation, IsPermutation-sym}
-use Rattle.vic_reconcile.specs.Agreeing.{Agree}
+use Rattle.vic_reconcile.proofs.Words.{ℕ, List, ◌↔◌, Any, IsPermutation, OpenMasks, LogLine, Findings, ArePossible, IsCertainUid, IsPossibleUid, AreFindings, AreOpenMasksOf, IsUnsettled, IsWhole, All-permutation, Contains-permutation, IsPermutation-sym, Agree}
 use Rattle.vic_reconcile.proofs.Agreeing.{SameUids, absent_as, doubtful_as, first_of, same_first, same_list, unlisted_as, unsettled_as, open_iff_same}
 use Rattle.vic_reconcile.proofs.Families.{ArePossible-iff, IsCertainIn, IsCertainUid-iff, IsPossibleIn, IsPossibleLog, IsPossibleUid-iff}
 

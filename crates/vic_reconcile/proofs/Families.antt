@@ -1,13 +1,6 @@
 -- What logs tell together is what some log tells.
-use Rattle.std.proofs.Common.{◌≡◌, ℕ, zero, suc, List, [], ◌∷◌, true, false, refl, sym, subst, arith, inl, inr, ⊎_elim, ◌↔◌, ◌⊎◌, All, Any, Some, slice_get, get_or, map, length, ◌<◌}
-use Rattle.vic_reconcile.proofs.Words.{both_ways, false_from_ne_true, false≢true, or_cases, or_left, or_right, All-cons, All-head, All-tail, has, LogLine, entries, ArePossible, FitsLogs, IsCertainUid, IsPossibleUid, is_somewhere, slice_get_within, get_or_from_slice_get, AllZip, has_at, has_there}
-use Rattle.vic_log.specs.declared.entry.Entry.{Entry}
-use Rattle.vic_log.specs.Populations.{IsPopulation, CouldHaveGiven}
-use Rattle.vic_log.specs.Slots.{slots_of}
+use Rattle.vic_reconcile.proofs.Words.{◌≡◌, ℕ, zero, suc, List, [], ◌∷◌, true, false, refl, sym, subst, arith, inl, inr, ⊎_elim, ◌↔◌, ◌⊎◌, All, Any, Some, slice_get, get_or, map, length, ◌<◌, both_ways, false_from_ne_true, false≢true, or_cases, or_left, or_right, All-cons, All-head, All-tail, has, LogLine, entries, ArePossible, FitsLogs, IsCertainUid, IsPossibleUid, is_somewhere, slice_get_within, get_or_from_slice_get, AllZip, has_at, has_there, Entry, IsPopulation, CouldHaveGiven, slots_of, MustHave-cases, MustHave-iff, population_without, CouldHaveGiven-slots, IsCertainUid-slots, IsPossible-slots}
 use Rattle.vic_verdict.specs.Possible as one
-use Rattle.vic_verdict.proofs.Populations.{MustHave-cases, MustHave-iff, population_without}
-use Rattle.vic_log.proofs.Places.{CouldHaveGiven-slots}
-use Rattle.vic_verdict.proofs.Possibility.{IsCertainUid-slots, IsPossible-slots}
 
 -- ---- of one log
 

@@ -1,14 +1,8 @@
 -- One possible log more is joined.
-use Rattle.std.proofs.Common.{◌≡◌, ℕ, ◌<◌, List, [], ◌∷◌, ◌++◌, length, true, false, Option, Some, None, refl, sym, ap, subst, ◌∙◌, arith, inl, inr, ⊎_elim, ◌⊎◌, ◌||◌, MatchOption, cond, is_some, nat_eq, slice_get, nat_cmp, All, Contains}
-use Rattle.vic_reconcile.proofs.Words.{is_at, AllZip, both_ways, cases_eq, false_from_ne_true, false≢true, or_cases, list_any-append, map-append, All-push, Contains-append_left, Contains-push, has, SameUids, without_keys, is_open_in, LogLine, entries, has_cases, AreKeysOf, IsListOf, SameMembers, AreFacts, Reconciliation, IsFirstLog, IsFirstTold, IsCertainInNone, IsJoined, IsLeftBy, AreNoted, slice_get_within, get_or_from_slice_get, AllZip-long, all_zipped_more}
-use Rattle.vic_log.proofs.Places.{slice_get-append, slice_get_seam}
+use Rattle.vic_reconcile.proofs.Words.{◌≡◌, ℕ, ◌<◌, List, [], ◌∷◌, ◌++◌, length, true, false, Option, Some, None, refl, sym, ap, subst, ◌∙◌, arith, inl, inr, ⊎_elim, ◌⊎◌, ◌||◌, MatchOption, cond, is_some, nat_eq, slice_get, nat_cmp, All, Contains, is_at, AllZip, both_ways, cases_eq, false_from_ne_true, false≢true, or_cases, list_any-append, map-append, All-push, Contains-append_left, Contains-push, has, SameUids, without_keys, is_open_in, LogLine, entries, has_cases, AreKeysOf, IsListOf, SameMembers, AreFacts, Reconciliation, IsFirstLog, IsFirstTold, IsCertainInNone, IsJoined, IsLeftBy, AreNoted, slice_get_within, get_or_from_slice_get, AllZip-long, all_zipped_more, slice_get-append, slice_get_seam, common_steps, ShownUid, ShowsCertain, uids_of, open_set, Place}
 use Rattle.std.specs.BTreeMap as map
-use Rattle.std.proofs.lemmas.Grind.{common_steps}
 use Rattle.vic_verdict.specs.Possible as one
-use Rattle.vic_report.specs.declared.shown.ShownUid.{ShownUid}
-use Rattle.vic_report.specs.Findings.{IsToldOf, ShowsCertain, uids_of}
-use Rattle.vic_report.proofs.AllFindings.{open_set}
-use Rattle.vic_reconcile.specs.declared.reconciliation.Place.{Place}
+use Rattle.vic_report.specs.Findings.{IsToldOf}
 use Rattle.vic_reconcile.proofs.Families.{IsCertainIn, IsPossibleLog, has_mapped}
 
 -- ---- places in a list that grows

@@ -1,4 +1,4 @@
-pub mod Words
+mod Words
 pub mod Families
 pub mod Agreeing
 pub mod AnyOrder

@@ -1,13 +1,9 @@
 -- What one log alone tells together is what the log tells.
-use Rattle.std.proofs.Common.{◌≡◌, ℕ, List, [], ◌∷◌, true, false, refl, sym, subst, ◌↔◌, arith, ◌∙◌}
-use Rattle.vic_reconcile.proofs.Words.{or_left, has, OpenMasks, LogLine, entries, listed, IsLeftOpen, Findings, UnlistedUid, FitsLog, FitsLogs, IsCertainUid, IsPossibleUid, is_somewhere, AreFindings, AreOpenMasksOf, IsToldOf, IsUnsettled, IsWhole, slice_get_within}
-use Rattle.vic_tree.proofs.BoolLaws.{or_false}
+use Rattle.vic_reconcile.proofs.Words.{◌≡◌, ℕ, List, [], ◌∷◌, true, false, refl, sym, subst, ◌↔◌, arith, ◌∙◌, or_left, has, OpenMasks, LogLine, entries, listed, IsLeftOpen, Findings, UnlistedUid, FitsLog, FitsLogs, IsCertainUid, IsPossibleUid, is_somewhere, AreFindings, AreOpenMasksOf, IsToldOf, IsUnsettled, IsWhole, slice_get_within, or_false, ShowsCertain, AgreeWithReport}
 use Rattle.vic_verdict.specs.Possible as one
 use Rattle.vic_verdict.specs.Verdict as verdict
-use Rattle.vic_report.specs.Findings.{ShowsCertain}
 use Rattle.vic_report.specs.Reports as report
 use Rattle.vic_report.specs.declared.findings.Findings.{Findings as LogFindings}
-use Rattle.vic_reconcile.specs.Agreeing.{AgreeWithReport}
 use Rattle.vic_reconcile.proofs.Agreeing.{SameUids, absent_as, doubtful_as, first_of, same_first, same_list, unlisted_as, unsettled_as, open_iff_same}
 use Rattle.vic_reconcile.proofs.Families.{IsCertainIn, IsPossibleIn}
 

@@ -1,13 +1,6 @@
 -- The findings of joined logs, and that none of them means that everything is there.
-use Rattle.std.proofs.Common.{◌≡◌, ℕ, List, [], ◌∷◌, ◌++◌, get_or, map, Bool, true, false, Option, Some, None, refl, sym, ap, subst, ◌∙◌, arith, inl, inr, ⊎_elim, ◌⊎◌, ◌||◌, IfNone, IfSome, MatchOption, is_some, nat_eq, is_eq, nat_cmp, All, Any}
-use Rattle.vic_reconcile.proofs.Words.{IsStrictlyIncreasing, both_ways, cases_Bool, cases_eq, false≢true, or_cases, or_left, or_right, All-head, All-tail, list_any-append, IsUid, has, BitMask, SameUids, is_open_in, LogLine, entries, IsUid-member, has_at, AreDifferences, IsFailing, IsListOf, IsFirstMask, NoSuch, all_findings, doubtful_list, none_of, DoubtfulUid, Findings, UnlistedUid, Reconciliation, ArePossible, FitsLog, FitsLogs, IsCertainUid, IsPossibleUid, is_somewhere, AreFindings, AreNone, IsAbsent, IsDoubtful, IsFirstTold, IsToldOf, IsUnlisted, IsUnsettled, IsUnsettledWith, IsWhole, IsCertainInNone, IsJoined, IsFirstLeft, IsLeftToAsk, is_left, all_zipped_more}
+use Rattle.vic_reconcile.proofs.Words.{◌≡◌, ℕ, List, [], ◌∷◌, ◌++◌, get_or, map, Bool, true, false, Option, Some, None, refl, sym, ap, subst, ◌∙◌, arith, inl, inr, ⊎_elim, ◌⊎◌, ◌||◌, IfNone, IfSome, MatchOption, is_some, nat_eq, is_eq, nat_cmp, All, Any, IsStrictlyIncreasing, both_ways, cases_Bool, cases_eq, false≢true, or_cases, or_left, or_right, All-head, All-tail, list_any-append, IsUid, has, BitMask, SameUids, is_open_in, LogLine, entries, IsUid-member, has_at, AreDifferences, IsFailing, IsListOf, IsFirstMask, NoSuch, all_findings, doubtful_list, none_of, DoubtfulUid, Findings, UnlistedUid, Reconciliation, ArePossible, FitsLog, FitsLogs, IsCertainUid, IsPossibleUid, is_somewhere, AreFindings, AreNone, IsAbsent, IsDoubtful, IsFirstTold, IsToldOf, IsUnlisted, IsUnsettled, IsUnsettledWith, IsWhole, IsCertainInNone, IsJoined, IsFirstLeft, IsLeftToAsk, is_left, all_zipped_more, eq_by_cmp, is_member, common_steps, Differences, IsCertainUid-either, IsPossibleUid-either, IsUid-in, lies_in-uid_in, mask_of, mask_of-alone, mask_of-value, uid_in}
 use Rattle.std.specs.BTreeMap as tree
-use Rattle.std.specs.Ordering.{eq_by_cmp}
-use Rattle.std.specs.Set.{is_member}
-use Rattle.std.proofs.lemmas.Grind.{common_steps}
-use Rattle.vic_verdict.specs.declared.findings.Differences.{Differences}
-use Rattle.vic_verdict.proofs.Decide.{IsCertainUid-either, IsPossibleUid-either}
-use Rattle.vic_verdict.proofs.Masks.{IsUid-in, lies_in-uid_in, mask_of, mask_of-alone, mask_of-value, uid_in}
 use Rattle.vic_reconcile.specs.declared.findings.Unsettled.{Unsettled}
 use Rattle.vic_reconcile.proofs.Families.{has_mapped, IsCertainIn, IsCertainUid-iff, IsPossibleIn, IsPossibleLog, IsPossibleUid-iff, all_possible, any_cases, any_here, any_none, any_there, certain_by}
 use Rattle.vic_reconcile.proofs.Telling.{all_open_masks, first_possible, joined_facts, listed_as}

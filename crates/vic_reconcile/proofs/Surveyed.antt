@@ -1,17 +1,7 @@
 -- What surveys tell together is what their logs tell.
-use Rattle.std.proofs.Common.{◌≡◌, ℕ, ◌+◌, List, [], ◌∷◌, take, drop, Bool, true, false, refl, sym, subst, ◌∙◌, arith, inl, inr, ⊎_elim, ◌↔◌, MatchOption, All, Any, Contains}
-use Rattle.vic_reconcile.proofs.Words.{AllZip, list_any, IsStrictlyIncreasing, and_from, and_parts, both_ways, or_cases, or_left, or_right, take-append-drop, All-cons, All-contains, All-head, Any-from_list_any, list_any-from_Any, IsUid, has, BitMask, lies_in, SameUids, without_keys, is_open_in, LogLine, AreDifferences, IsFailing, IsListOf, SameMembers, IsFirstMask, NoSuch, AreFacts, AreListed, all_findings, doubtful_list, list_as, none_of, IsCertainUid, IsPossibleUid, IsAbsent, IsDoubtful, IsUnlisted, IsUnsettled, IsWhole}
-use Rattle.vic_tree.specs.OpenMasks.{AreAll, IsOpenMask}
-use Rattle.vic_tree.proofs.OpenMaskLaws.{held}
-use Rattle.vic_log.specs.declared.entry.Entry.{Entry}
-use Rattle.vic_verdict.specs.declared.findings.Differences.{Differences}
-use Rattle.vic_verdict.specs.declared.facts.Contradiction.{Contradiction}
-use Rattle.vic_verdict.specs.Possible.{IsContradiction, IsPossible}
-use Rattle.vic_verdict.proofs.Masks.{IsUid-in, lies_in-uid_in, uid_in}
-use Rattle.vic_verdict.proofs.Possibility.{IsPossible-front}
+use Rattle.vic_reconcile.proofs.Words.{◌≡◌, ℕ, ◌+◌, List, [], ◌∷◌, take, drop, Bool, true, false, refl, sym, subst, ◌∙◌, arith, inl, inr, ⊎_elim, ◌↔◌, MatchOption, All, Any, Contains, AllZip, list_any, IsStrictlyIncreasing, and_from, and_parts, both_ways, or_cases, or_left, or_right, take-append-drop, All-cons, All-contains, All-head, Any-from_list_any, list_any-from_Any, IsUid, has, BitMask, lies_in, SameUids, without_keys, is_open_in, LogLine, AreDifferences, IsFailing, IsListOf, SameMembers, IsFirstMask, NoSuch, AreFacts, AreListed, all_findings, doubtful_list, list_as, none_of, IsCertainUid, IsPossibleUid, IsAbsent, IsDoubtful, IsUnlisted, IsUnsettled, IsWhole, AreAll, IsOpenMask, held, Entry, Differences, Contradiction, IsContradiction, IsPossible, IsUid-in, lies_in-uid_in, uid_in, IsPossible-front, AreFindingsBy, AreNoneOf, AreOpenIn, AreTogether, IsAmong, IsSurvey, IsToldBy, IsUnsettledBy, MayBe}
 use Rattle.vic_reconcile.specs.declared.surveys.PlainFindings.{PlainFindings}
 use Rattle.vic_reconcile.specs.declared.surveys.Survey.{Survey}
-use Rattle.vic_reconcile.specs.Surveys.{AreFindingsBy, AreNoneOf, AreOpenIn, AreTogether, IsAmong, IsSurvey, IsToldBy, IsUnsettledBy, MayBe}
 use Rattle.vic_reconcile.proofs.Families.{IsCertainIn, IsCertainUid-iff, IsPossibleIn, IsPossibleLog, IsPossibleUid-iff, certain_by, family_of, any_zip, any_back, certain_is_possible}
 use Rattle.vic_reconcile.proofs.Reconciling.{nothing_is_whole}
 use Rattle.vic_reconcile.proofs.Telling.{IsOpenIn, open_or_certain, open_possible}

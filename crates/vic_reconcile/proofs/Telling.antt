@@ -1,10 +1,7 @@
 -- What joined logs tell, by what is kept of them.
-use Rattle.std.proofs.Common.{◌≡◌, ℕ, List, [], ◌∷◌, true, false, not, Option, Some, None, refl, sym, subst, ◌∙◌, arith, inl, inr, ⊎_elim, ◌↔◌, ◌⊎◌, MatchOption, is_some, slice_get, nat_cmp, All, Any, IsSomeAnd, length-take, get_or-take}
-use Rattle.vic_reconcile.proofs.Words.{AllPass, AllZip, IsStrictlyIncreasing, and_from, and_parts, both_ways, false≢true, not-true, not_from_false, false_from_ne_true, list_any_none, IsUid, has, OpenMasks, SameUids, has_key, without_keys, is_open_in, LogLine, entries, IsListOf, AreFacts, AreListed, DoubtfulUid, Reconciliation, IsCertainUid, IsPossibleUid, AreOpenMasksOf, IsFirstPossible, IsFirstTold, IsCertainInNone, IsJoined, IsLeftBy, AreOpenBesides, IsFirstLeft, is_left, slice_get_within, get_or_from_slice_get, list_any-from_Any, Any-from_list_any, AllZip-left, AllZip-right, MatchOption-at_some}
+use Rattle.vic_reconcile.proofs.Words.{◌≡◌, ℕ, List, [], ◌∷◌, true, false, not, Option, Some, None, refl, sym, subst, ◌∙◌, arith, inl, inr, ⊎_elim, ◌↔◌, ◌⊎◌, MatchOption, is_some, slice_get, nat_cmp, All, Any, IsSomeAnd, length-take, get_or-take, AllPass, AllZip, IsStrictlyIncreasing, and_from, and_parts, both_ways, false≢true, not-true, not_from_false, false_from_ne_true, list_any_none, IsUid, has, OpenMasks, SameUids, has_key, without_keys, is_open_in, LogLine, entries, IsListOf, AreFacts, AreListed, DoubtfulUid, Reconciliation, IsCertainUid, IsPossibleUid, AreOpenMasksOf, IsFirstPossible, IsFirstTold, IsCertainInNone, IsJoined, IsLeftBy, AreOpenBesides, IsFirstLeft, is_left, slice_get_within, get_or_from_slice_get, list_any-from_Any, Any-from_list_any, AllZip-left, AllZip-right, MatchOption-at_some, IsCertainUid-either, Place}
 use Rattle.std.specs.BTreeMap as map
 use Rattle.vic_verdict.specs.Differences as one
-use Rattle.vic_verdict.proofs.Decide.{IsCertainUid-either}
-use Rattle.vic_reconcile.specs.declared.reconciliation.Place.{Place}
 use Rattle.vic_reconcile.proofs.Families.{IsCertainIn, IsCertainUid-iff, IsPossibleIn, IsPossibleLog, IsPossibleUid-iff, any_here, any_there, certain_by, any_zip, any_back, any_at, certain_is_possible}
 
 -- ---- the certain UIDs

@@ -1,15 +1,9 @@
 -- All findings of a possible log, and that the first of them is its verdict.
-use Rattle.std.proofs.Common.{◌≡◌, ℕ, List, [], ◌∷◌, length, get_or, Bool, true, false, not, ◌&&◌, Option, Some, None, refl, sym, ap, ◌∙◌, ◌↔◌, MatchOption, option_map, All}
-use Rattle.vic_report.proofs.Words.{and_parts, and_from, not-true, not_from_false, IsUid, has, Entry, LogLine, entries, listed, slots_of, is_open, uids_of, IsOpenUid, IsLeftOpen, MayBeMissing, IsPossible, IsPossibleUid, IsCertainUid, ShownUid, AreFindings, AreOpenMasks, IsReport, IsUnsettledWith, first_finding, left_with, verdict_of, IsListOf, IsFailing, IsAbsent, IsUnlisted, IsFirstMask, NoSuch, IsVerdict, head_least, none_of, member_at}
-use Rattle.vic_frame.specs.Masks.{BitMask}
-use Rattle.vic_tree.specs.OpenSet.{SameUids, has_key, without_keys}
-use Rattle.vic_tree.specs.declared.open_masks.OpenMasks.{OpenMasks}
+use Rattle.vic_report.proofs.Words.{◌≡◌, ℕ, List, [], ◌∷◌, length, get_or, Bool, true, false, not, ◌&&◌, Option, Some, None, refl, sym, ap, ◌∙◌, ◌↔◌, MatchOption, option_map, All, and_parts, and_from, not-true, not_from_false, IsUid, has, Entry, LogLine, entries, listed, slots_of, is_open, uids_of, IsOpenUid, IsLeftOpen, MayBeMissing, IsPossible, IsPossibleUid, IsCertainUid, ShownUid, AreFindings, AreOpenMasks, IsReport, IsUnsettledWith, first_finding, left_with, verdict_of, IsListOf, IsFailing, IsAbsent, IsUnlisted, IsFirstMask, NoSuch, IsVerdict, head_least, none_of, member_at, BitMask, SameUids, has_key, without_keys, OpenMasks, Complete, AreFacts, first_mask, missing_least, missing_or_absent, none_unsettled, open_iff}
 use Rattle.vic_report.specs.declared.findings.Unsettled.{Unsettled}
 use Rattle.vic_report.specs.declared.reporting.LogReport.{LogReport}
 use Rattle.vic_report.specs.declared.reporting.LogReport.TheVariants as report
-use Rattle.vic_verdict.specs.declared.judging.Verdict.TheVariants.{Complete}
 use Rattle.vic_verdict.specs.declared.judging.Verdict.TheVariants as verdict
-use Rattle.vic_verdict.proofs.Differing.{AreFacts, first_mask, missing_least, missing_or_absent, none_unsettled, open_iff}
 
 pub all_from_has : (P : ℕ → Type 0) (us : List ℕ) → ((u : ℕ) → has us u ≡ true → P u) → All P us
 all_from_has P us h k d below = h (get_or us k d) (member_at us k (get_or us k d) d below refl)

@@ -1,11 +1,5 @@
 -- Slot lines that no population fits together: all up to the first impossible line do.
-use Rattle.std.proofs.Common.{◌≡◌, ℕ, zero, suc, ◌<◌, ◌≤◌, ◌+◌, ◌-◌, List, [], ◌∷◌, ◌++◌, length, get_or, take, drop, Bool, true, false, cond, Some, refl, sym, ap, ◌∙◌, subst, arith, ⊎_elim, slice_get, nat_le, leb, None, Option, Result, Ok, Err, MatchOption, MatchResult, is_err, option_map, filter}
-use Rattle.vic_report.proofs.Words.{cases_Bool, cases_lt, le-leb, leb-true, leb-false, lt-leb, false≢true, map-append, take-append-drop, All-get_or, filter_passes, slice_get-map, slice_get_within, get_or_from_slice_get, Reply, has, Entry, Sent, Silent, Collision, Heard, Listed, Garbled, FieldCycle, LogLine, entries, IsRisingFrom, Outcome, outcome_at, Fits, CouldHaveGiven, is_quiet, is_slot, FitsLines, IsConflictAt, IsNoQuietReply, IsSilencedBefore, IsSilencedBy, IsSlotLine, IsPossible, IsContradictedAt, entries_to, IsVerdict, place_of, member_at}
-use Rattle.std.specs.List.Sorted.{IsStrictlyIncreasing}
-use Rattle.vic_log.proofs.Places.{agree_upto, outcome_agrees, CouldHaveGiven-front, slice_get-append}
-use Rattle.vic_verdict.specs.declared.judging.Verdict.TheVariants.{Impossible}
-use Rattle.vic_verdict.proofs.Possibility.{IsPossible-front}
-use Rattle.vic_verdict.proofs.Inserted.{rising_order}
+use Rattle.vic_report.proofs.Words.{◌≡◌, ℕ, zero, suc, ◌<◌, ◌≤◌, ◌+◌, ◌-◌, List, [], ◌∷◌, ◌++◌, length, get_or, take, drop, Bool, true, false, cond, Some, refl, sym, ap, ◌∙◌, subst, arith, ⊎_elim, slice_get, nat_le, leb, None, Option, Result, Ok, Err, MatchOption, MatchResult, is_err, option_map, filter, cases_Bool, cases_lt, le-leb, leb-true, leb-false, lt-leb, false≢true, map-append, take-append-drop, All-get_or, filter_passes, slice_get-map, slice_get_within, get_or_from_slice_get, Reply, has, Entry, Sent, Silent, Collision, Heard, Listed, Garbled, FieldCycle, LogLine, entries, IsRisingFrom, Outcome, outcome_at, Fits, CouldHaveGiven, is_quiet, is_slot, FitsLines, IsConflictAt, IsNoQuietReply, IsSilencedBefore, IsSilencedBy, IsSlotLine, IsPossible, IsContradictedAt, entries_to, IsVerdict, place_of, member_at, IsStrictlyIncreasing, agree_upto, outcome_agrees, CouldHaveGiven-front, slice_get-append, Impossible, IsPossible-front, rising_order}
 
 -- ---- the lines 1 to n
 

@@ -1,12 +1,5 @@
 -- Entries of which some slots are kept, each behind a request of its own: the same tags are Quiet, and a population that fits the kept slots could have produced them.
-use Rattle.std.proofs.Common.{◌≡◌, ℕ, suc, ◌+◌, ◌-◌, List, [], ◌∷◌, ◌++◌, length, Bool, true, false, not, ◌&&◌, ◌||◌, Option, Some, sym, ap, ◌∙◌, subst, arith, length-append, add-one, refl, slice_get, if◌then◌else◌, None, Result, Ok, Err, OnOk}
-use Rattle.vic_report.proofs.Words.{filter_agree, Entry, Sent, Silent, Collision, Heard, Listed, Garbled, FieldCycle, LogLine, is_slot, mask_at, mask_of_slot, mask_since, ends_round, opener, slots_left, is_quiet, silences, wakes, Outcome, answers_at, outcome_of, outcome_at, Fits, CouldHaveGiven, AreValid, entries, listed, refusal, AreNumbered, SameQuiet, HasSlotAdded, KeepsLine}
-use Rattle.vic_frame.specs.Masks.{BitMask}
-use Rattle.vic_frame.specs.declared.request.Request.TheVariants.{Inventory}
-use Rattle.vic_frame.specs.declared.request.Request.{Request}
-use Rattle.vic_log.specs.Log.{IsValidEntry}
-use Rattle.vic_log.proofs.Places.{quiet_agrees, agree_upto, slice_get_last, CouldHaveGiven-push}
-use Rattle.vic_log.proofs.Push.{IsInOrder-push, entries-push, last_from-push, listed-append, rising-push, slots_left-push, valid-push}
+use Rattle.vic_report.proofs.Words.{◌≡◌, ℕ, suc, ◌+◌, ◌-◌, List, [], ◌∷◌, ◌++◌, length, Bool, true, false, not, ◌&&◌, ◌||◌, Option, Some, sym, ap, ◌∙◌, subst, arith, length-append, add-one, refl, slice_get, if◌then◌else◌, None, Result, Ok, Err, OnOk, filter_agree, Entry, Sent, Silent, Collision, Heard, Listed, Garbled, FieldCycle, LogLine, is_slot, mask_at, mask_of_slot, mask_since, ends_round, opener, slots_left, is_quiet, silences, wakes, Outcome, answers_at, outcome_of, outcome_at, Fits, CouldHaveGiven, AreValid, entries, listed, refusal, AreNumbered, SameQuiet, HasSlotAdded, KeepsLine, BitMask, Inventory, Request, IsValidEntry, quiet_agrees, agree_upto, slice_get_last, CouldHaveGiven-push, IsInOrder-push, entries-push, last_from-push, listed-append, rising-push, slots_left-push, valid-push}
 
 -- who is Quiet after an entry
 abbrev pub quiet_after : Option Entry → Bool → ℕ → Bool

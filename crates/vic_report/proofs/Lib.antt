@@ -1,4 +1,4 @@
-pub mod Words
+mod Words
 pub mod KeptLogs
 pub mod Conflicts
 pub mod RuledOut

@@ -1,7 +1,5 @@
 -- Lines that rule out UIDs, and those that leave them open.
-use Rattle.std.proofs.Common.{◌≡◌, ℕ, ◌+◌, ◌<◌, ◌==◌, ◌&&◌, List, length, get_or, take, Bool, true, false, not, Some, refl, sym, ap, ◌∙◌, subst, add-one, ⊎_elim, slice_get, All}
-use Rattle.vic_report.proofs.Words.{and_parts, and_from, not_from_false, cases_eq, eq-eqb, ne_eqb, get_or_default, All-more, Entry, Sent, Silent, Collision, Heard, Listed, Garbled, FieldCycle, LogLine, entries, answers_at, reading_of, slots_before, is_open, ShownUid, IsRuledOut, RulesOut, lacks_reply_of}
-use Rattle.vic_verdict.proofs.Entries.{entry_allows, open_step}
+use Rattle.vic_report.proofs.Words.{◌≡◌, ℕ, ◌+◌, ◌<◌, ◌==◌, ◌&&◌, List, length, get_or, take, Bool, true, false, not, Some, refl, sym, ap, ◌∙◌, subst, add-one, ⊎_elim, slice_get, All, and_parts, and_from, not_from_false, cases_eq, eq-eqb, ne_eqb, get_or_default, All-more, Entry, Sent, Silent, Collision, Heard, Listed, Garbled, FieldCycle, LogLine, entries, answers_at, reading_of, slots_before, is_open, ShownUid, IsRuledOut, RulesOut, lacks_reply_of, entry_allows, open_step}
 
 -- the line at position i rules the UID out where a test says so
 pub rules_out_from : (lines : List LogLine) (i : ℕ) (l : LogLine) (u : ℕ) (b : Bool) → slice_get lines i ≡ Some l → b ≡ (lacks_reply_of l.item u && answers_at (entries lines) i u) → b ≡ true → RulesOut lines l.number u

@@ -1,13 +1,6 @@
 -- Lines that tell of UIDs.
-use Rattle.std.proofs.Common.{◌≡◌, ℕ, List, true, Some, refl, sym, ap, ◌∙◌, subst, ⊎_elim, slice_get}
-use Rattle.vic_report.proofs.Words.{and_parts, and_from, Entry, Collision, Garbled, Heard, LogLine, entries, answers_at, slots_of, is_open, Forces, ManyReplies, SomeReply, Reply, IsFound, MayAnswer, TellsOf, ShowsCertain, IsPossible}
-use Rattle.vic_verdict.specs.declared.demands.Found.{Found}
-use Rattle.vic_verdict.specs.Places.{answering}
+use Rattle.vic_report.proofs.Words.{◌≡◌, ℕ, List, true, Some, refl, sym, ap, ◌∙◌, subst, ⊎_elim, slice_get, and_parts, and_from, Entry, Collision, Garbled, Heard, LogLine, entries, answers_at, slots_of, is_open, Forces, ManyReplies, SomeReply, Reply, IsFound, MayAnswer, TellsOf, ShowsCertain, IsPossible, Found, answering, IsPossibleUid-iff, asked_two_or_one, forces_two_iff, forces_one_iff, Exactly}
 use Rattle.vic_report.proofs.Conflicts.{line_of}
-use Rattle.vic_verdict.proofs.Decide.{IsPossibleUid-iff}
-use Rattle.vic_verdict.proofs.Demanding.{asked_two_or_one}
-use Rattle.vic_verdict.proofs.Entries.{forces_two_iff, forces_one_iff}
-use Rattle.vic_verdict.proofs.Meeting.{Exactly}
 
 -- ---- what a line tells
 

@@ -1,11 +1,24 @@
--- The words of proofs, from one place: what is from outside, by the modules that several files name.
+-- The words of proofs, from one place: what files name from outside of the crate, and the definitions that several of them name.
+pub use Rattle.std.proofs.Common.{All, Bool, Err, List, MatchOption, MatchResult, None, Ok, OnOk, Option, Result, Some, [], add-one, ap, arith, cond, drop, false, filter, get_or, if◌then◌else◌, is_err, leb, length, length-append, ltb-true, nat_eq, nat_le, not, option_map, refl, rules, slice_get, subst, suc, sym, take, true, zero, ℕ, ⊎_elim, ◌&&◌, ◌*◌, ◌++◌, ◌+◌, ◌-◌, ◌<◌, ◌==◌, ◌||◌, ◌↔◌, ◌∙◌, ◌∷◌, ◌≡◌, ◌≤◌}
 pub use Rattle.std.proofs.lemmas.Bool.{and_from, and_parts, cases_Bool, cases_eq, cases_lt, eq-eqb, eqb-true, false≢true, le-leb, leb-false, leb-true, lt-leb, ne_eqb, not-true, not_from_false}
 pub use Rattle.std.proofs.lemmas.List.{get_or_default, length-map, map-append, take-append-drop, take_all, take_more}
 pub use Rattle.std.proofs.lemmas.List.Elements.{All-get_or, All-more, All-push, filter_agree, filter_passes}
+pub use Rattle.std.proofs.lemmas.List.Filters.{dedup_is}
 pub use Rattle.std.proofs.lemmas.List.Sorted.{All-permutation, IsPermutation-sym, list_any-IsPermutation}
+pub use Rattle.std.proofs.lemmas.Map.Keys.{IsStrictlyIncreasing-dedup}
 pub use Rattle.std.proofs.lemmas.Option.{get_or_from_slice_get, slice_get-map, slice_get_read, slice_get_within}
+pub use Rattle.std.specs.List.{list_any}
+pub use Rattle.std.specs.List.Sorted.{IsStrictlyIncreasing}
+pub use Rattle.vic_frame.specs.Masks.{BitMask}
 pub use Rattle.vic_frame.specs.Replies.{Reply}
 pub use Rattle.vic_frame.specs.Uids.{IsUid, has}
+pub use Rattle.vic_frame.specs.declared.request.Request.{Request}
+pub use Rattle.vic_frame.specs.declared.request.Request.TheVariants.{Inventory}
+pub use Rattle.vic_log.proofs.Places.{CouldHaveGiven-front, CouldHaveGiven-push, agree_upto, outcome_agrees, quiet_agrees, slice_get-append, slice_get_last}
+pub use Rattle.vic_log.proofs.Push.{IsInOrder-push, entries-push, last_from-push, listed-append, rising-push, rising_long, slots_left-push, valid-push}
+pub use Rattle.vic_log.proofs.Supply.{is_uid_from}
+pub use Rattle.vic_log.specs.Log.{IsValidEntry}
+pub use Rattle.vic_log.specs.OpenRounds.{IsCursorAt}
 pub use Rattle.vic_log.specs.Order.{AreValid, IsRisingFrom, entries, listed, refusal}
 pub use Rattle.vic_log.specs.Populations.{CouldHaveGiven, Fits, Outcome, answers_at, outcome_at, outcome_of}
 pub use Rattle.vic_log.specs.Quiet.{is_quiet, silences, wakes}
@@ -14,13 +27,29 @@ pub use Rattle.vic_log.specs.Slots.{Forces, ManyReplies, SomeReply, is_open, rea
 pub use Rattle.vic_log.specs.declared.entry.Entry.{Entry}
 pub use Rattle.vic_log.specs.declared.entry.Entry.TheVariants.{Collision, FieldCycle, Garbled, Heard, Listed, Sent, Silent}
 pub use Rattle.vic_log.specs.declared.entry.LogLine.{LogLine}
+pub use Rattle.vic_tree.proofs.GatheringLaws.{found_among, has_dedup}
+pub use Rattle.vic_tree.specs.OpenSet.{SameUids, has_key, without_keys}
+pub use Rattle.vic_tree.specs.Ranges.{is_open_in}
+pub use Rattle.vic_tree.specs.declared.open_masks.OpenMasks.{OpenMasks}
+pub use Rattle.vic_verdict.proofs.Decide.{IsPossibleUid-iff}
+pub use Rattle.vic_verdict.proofs.Demanding.{asked_two_or_one}
+pub use Rattle.vic_verdict.proofs.Differing.{AreFacts, AreListed, all_findings, doubtful_list, first_mask, log_facts, missing_least, missing_or_absent, none_unsettled, open_iff}
+pub use Rattle.vic_verdict.proofs.Entries.{entry_allows, forces_one_iff, forces_two_iff, open_step}
 pub use Rattle.vic_verdict.proofs.Failing.{head_least, member_at, none_of, place_of}
+pub use Rattle.vic_verdict.proofs.Inserted.{rising_order}
+pub use Rattle.vic_verdict.proofs.Meeting.{Exactly}
+pub use Rattle.vic_verdict.proofs.Possibility.{IsPossible-front}
 pub use Rattle.vic_verdict.proofs.Stands.{entry_at}
+pub use Rattle.vic_verdict.proofs.Verdicts.{first_lines}
 pub use Rattle.vic_verdict.specs.Demands.{IsFound}
 pub use Rattle.vic_verdict.specs.Differences.{AreDifferences, IsLeftOpen, IsOpenUid, MayBeMissing}
+pub use Rattle.vic_verdict.specs.Places.{answering}
 pub use Rattle.vic_verdict.specs.Possible.{IsCertainUid, IsContradictedAt, IsPossible, IsPossibleUid}
 pub use Rattle.vic_verdict.specs.Rising.{IsFailing, IsListOf}
 pub use Rattle.vic_verdict.specs.Verdict.{IsAbsent, IsFirstMask, IsUnlisted, IsVerdict, NoSuch, entries_to}
+pub use Rattle.vic_verdict.specs.declared.demands.Found.{Found}
+pub use Rattle.vic_verdict.specs.declared.findings.Differences.{Differences}
+pub use Rattle.vic_verdict.specs.declared.judging.Verdict.TheVariants.{Complete, Impossible}
 pub use Rattle.vic_report.specs.Conflicts.{FitsLines, IsConflictAt, IsNoQuietReply, IsSilencedBefore, IsSilencedBy, IsSlotLine}
 pub use Rattle.vic_report.specs.Findings.{IsRuledOut, IsToldOf, MayAnswer, RulesOut, ShowsCertain, TellsOf, lacks_reply_of, uids_of}
 pub use Rattle.vic_report.specs.Reports.{AreFindings, AreOpenMasks, IsReport, IsUnsettledWith, first_finding, left_with, verdict_of}

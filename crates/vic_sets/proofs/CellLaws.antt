@@ -1,15 +1,5 @@
 -- How lists of cells change.
-use Rattle.std.proofs.Common.{◌≡◌, ℕ, zero, suc, ◌+◌, ◌-◌, ◌*◌, ◌/◌, ◌^◌, ◌%◌, ◌<◌, ◌⊎◌, inl, inr, refl, sym, ap, subst, ◌∙◌, arith, Bool, true, false, not, cond, ◌&&◌, ◌||◌, ◌==◌, List, [], ◌∷◌, ◌++◌, Contains, filter, length, get_or, take, pow_pos, mod-eq_of_lt, rules}
-use Rattle.vic_sets.proofs.Words.{mod-mul-add, BitMask, IsMask, lies_in, in_cells, AreCells, cut_at, nat_tests}
-use Rattle.std.specs.List.{list_any}
-use Rattle.std.proofs.lemmas.Bool.{or_cases, or_parts, not_from_true, not-false, cases_Bool}
-use Rattle.std.proofs.lemmas.List.Folds.{list_any-append, list_any_at}
-use Rattle.std.proofs.lemmas.List.Elements.{All-push, All-filter, All-contains, All-contains_itself, Contains-push_cases}
-use Rattle.std.proofs.lemmas.Nat.{div-mul-add}
-use Rattle.std.proofs.Math.Nat.{div-eq_of_lt}
-use Rattle.vic_frame.specs.MaskLaws.{lower_half, upper_half}
-use Rattle.vic_tree.proofs.BoolLaws.{or_false}
-use Rattle.vic_sets.specs.Cells.{IsCell, IsApart, AreApart, NoHalves, beside}
+use Rattle.vic_sets.proofs.Words.{◌≡◌, ℕ, zero, suc, ◌+◌, ◌-◌, ◌*◌, ◌/◌, ◌^◌, ◌%◌, ◌<◌, ◌⊎◌, inl, inr, refl, sym, ap, subst, ◌∙◌, arith, Bool, true, false, not, cond, ◌&&◌, ◌||◌, ◌==◌, List, [], ◌∷◌, ◌++◌, Contains, filter, length, get_or, take, pow_pos, mod-eq_of_lt, rules, mod-mul-add, BitMask, IsMask, lies_in, in_cells, AreCells, cut_at, nat_tests, list_any, or_cases, or_parts, not_from_true, not-false, cases_Bool, list_any-append, list_any_at, All-push, All-filter, All-contains, All-contains_itself, Contains-push_cases, div-mul-add, div-eq_of_lt, lower_half, upper_half, or_false, IsCell, IsApart, AreApart, NoHalves, beside}
 use Rattle.vic_sets.proofs.CutLaws.{cut_parted}
 
 -- a cell more

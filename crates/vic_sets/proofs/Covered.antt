@@ -1,14 +1,5 @@
 -- A mask whose UIDs all lie in some cells lies in one of them.
-use Rattle.std.proofs.Common.{◌≡◌, ℕ, zero, suc, ◌+◌, ◌-◌, ◌*◌, ◌^◌, ◌%◌, ◌<◌, ◌≤◌, ◌⊎◌, inl, inr, refl, add-one, sym, ap, subst, ◌∙◌, arith, true, List, [], ◌∷◌, All, Contains, eqb-true, eq-eqb, mod-eq_of_lt, pow-suc}
-use Rattle.vic_sets.proofs.Words.{cases_lt, mod-mul-add, BitMask, IsMask, lies_in, mod_mod_pow, IsAtMost, IsWidest, in_cells, AreCells}
-use Rattle.std.proofs.lemmas.Bool.{or_cases}
-use Rattle.std.proofs.lemmas.List.Elements.{All-contains}
-use Rattle.std.proofs.lemmas.List.Folds.{list_any_at}
-use Rattle.vic_frame.specs.MaskLaws.{lower_half, upper_half}
-use Rattle.vic_tree.specs.OpenSet.{AllOpen}
-use Rattle.vic_tree.proofs.FirstMasks.{same_mask}
-use Rattle.vic_frame.proofs.MaskLaws.{parted}
-use Rattle.vic_sets.specs.Cells.{IsCell, NoHalves}
+use Rattle.vic_sets.proofs.Words.{◌≡◌, ℕ, zero, suc, ◌+◌, ◌-◌, ◌*◌, ◌^◌, ◌%◌, ◌<◌, ◌≤◌, ◌⊎◌, inl, inr, refl, add-one, sym, ap, subst, ◌∙◌, arith, true, List, [], ◌∷◌, All, Contains, eqb-true, eq-eqb, mod-eq_of_lt, pow-suc, cases_lt, mod-mul-add, BitMask, IsMask, lies_in, mod_mod_pow, IsAtMost, IsWidest, in_cells, AreCells, or_cases, All-contains, list_any_at, lower_half, upper_half, AllOpen, same_mask, parted, IsCell, NoHalves}
 
 -- a cell that holds all of a mask
 pub record Holder (cells : List BitMask) (m : BitMask) : Type 0 where

@@ -1,9 +1,5 @@
 -- Masks cut from masks, and what lies beside them.
-use Rattle.std.proofs.Common.{◌≡◌, ℕ, zero, suc, ◌+◌, ◌-◌, ◌*◌, ◌/◌, ◌^◌, ◌%◌, ◌<◌, ◌≤◌, inl, inr, sym, ap, ◌∙◌, arith, Bool, true, false, not, cond, ◌&&◌, ◌||◌, ◌==◌, pow_pos, mod-eq_of_lt, eq-eqb, eqb-true, le-leb, leb-true}
-use Rattle.vic_sets.proofs.Words.{nat_tests, mod_below, cases_lt, BitMask, IsMask, lies_in, mod_mod_pow, cut_at}
-use Rattle.std.proofs.lemmas.Bool.{and_from, and_parts, false_from_ne_true}
-use Rattle.vic_frame.proofs.MaskLaws.{mod_pow_more}
-use Rattle.vic_sets.specs.Cells.{holds, beside}
+use Rattle.vic_sets.proofs.Words.{◌≡◌, ℕ, zero, suc, ◌+◌, ◌-◌, ◌*◌, ◌/◌, ◌^◌, ◌%◌, ◌<◌, ◌≤◌, inl, inr, sym, ap, ◌∙◌, arith, Bool, true, false, not, cond, ◌&&◌, ◌||◌, ◌==◌, pow_pos, mod-eq_of_lt, eq-eqb, eqb-true, le-leb, leb-true, nat_tests, mod_below, cases_lt, BitMask, IsMask, lies_in, mod_mod_pow, cut_at, and_from, and_parts, false_from_ne_true, mod_pow_more, holds, beside}
 
 -- x and y have the bits b and c above their rests r and s
 same_top : (x b r y c s t : ℕ) → b < 2 → c < 2 → r < t → s < t → x ≡ b * t + r → y ≡ c * t + s → (x == y) ≡ ((r == s) && (b == c))

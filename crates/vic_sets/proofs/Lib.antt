@@ -1,4 +1,4 @@
-pub mod Words
+mod Words
 pub mod Bits
 pub mod NodeLaws
 pub mod Settled

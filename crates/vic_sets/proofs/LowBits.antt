@@ -1,7 +1,5 @@
 -- What a node says depends on the low bits alone.
-use Rattle.std.proofs.Common.{◌≡◌, ℕ, ◌+◌, ◌-◌, ◌*◌, ◌/◌, ◌^◌, ◌%◌, ◌<◌, ◌≤◌, refl, sym, ap, subst, ◌∙◌, arith, true, shr-shr, eqb-true, eq-eqb}
-use Rattle.vic_sets.proofs.Words.{mod_below, BitMask, mod_mod_pow, Node, Fork', Clear, Shut, open_at, height, IsWidest, IsWidestOf}
-use Rattle.vic_tree.specs.OpenSet.{AllOpen}
+use Rattle.vic_sets.proofs.Words.{◌≡◌, ℕ, ◌+◌, ◌-◌, ◌*◌, ◌/◌, ◌^◌, ◌%◌, ◌<◌, ◌≤◌, refl, sym, ap, subst, ◌∙◌, arith, true, shr-shr, eqb-true, eq-eqb, mod_below, BitMask, mod_mod_pow, Node, Fork', Clear, Shut, open_at, height, IsWidest, IsWidestOf, AllOpen}
 use Rattle.vic_sets.proofs.Bits.{low_and_rest}
 
 -- the lowest bit and the rest of the low bits

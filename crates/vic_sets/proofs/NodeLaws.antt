@@ -1,7 +1,5 @@
 -- What is known of a node that is a fork.
-use Rattle.std.proofs.Common.{◌≡◌, refl, Box, Global}
-use Rattle.vic_sets.proofs.Words.{Node, Fork', Clear, Shut, Fork, Halves}
-use Rattle.vic_sets.specs.Nodes.{IsFork}
+use Rattle.vic_sets.proofs.Words.{◌≡◌, refl, Box, Global, Node, Fork', Clear, Shut, Fork, Halves, IsFork}
 
 -- what is no fork isn't one
 pub no_fork : (n : Node) → IsFork n → ((x : Box Halves Global) → n ≡ Fork x → ⊥) → ⊥

@@ -1,10 +1,5 @@
 -- A UID by its low bits and those above them.
-use Rattle.std.proofs.Common.{◌≡◌, ℕ, ◌+◌, ◌-◌, ◌*◌, ◌/◌, ◌^◌, ◌%◌, ◌<◌, ◌≤◌, ◌⊎◌, inl, inr, zero, suc, Box, List, true, refl, sym, ap, ◌∙◌, arith, pow-add, pow_pos, shr-shr, Global}
-use Rattle.vic_sets.proofs.Words.{mod-mul-add, mod_below, mod_mod_pow, Node, Fork, Halves, open_at}
-use Rattle.std.proofs.lemmas.Nat.{mul-add-lt, div-mul-add, div_below, shl_whole, shr_split}
-use Rattle.vic_frame.specs.Uids.{IsUid, uid_from_low_bits}
-use Rattle.vic_frame.proofs.MaskLaws.{mod_pow_more}
-use Rattle.vic_sets.specs.inner.Free.{IsFreeUnder}
+use Rattle.vic_sets.proofs.Words.{◌≡◌, ℕ, ◌+◌, ◌-◌, ◌*◌, ◌/◌, ◌^◌, ◌%◌, ◌<◌, ◌≤◌, ◌⊎◌, inl, inr, zero, suc, Box, List, true, refl, sym, ap, ◌∙◌, arith, pow-add, pow_pos, shr-shr, Global, mod-mul-add, mod_below, mod_mod_pow, Node, Fork, Halves, open_at, mul-add-lt, div-mul-add, div_below, shl_whole, shr_split, IsUid, uid_from_low_bits, mod_pow_more, IsFreeUnder}
 
 powers : (d : ℕ) → d ≤ 56 → 2 ^ (56 - d) * 2 ^ d ≡ 2 ^ 56
 powers d h = let e : 56 - d + d ≡ 56 = omega arith in let f : 2 ^ (56 - d + d) ≡ 2 ^ (56 - d) * 2 ^ d = pow-add 2 (56 - d) d in sym (rw e at f)

@@ -1,8 +1,5 @@
 -- The widest mask of a fork, from those of its halves.
-use Rattle.std.proofs.Common.{◌≡◌, ℕ, zero, suc, ◌+◌, ◌*◌, ◌/◌, ◌^◌, ◌%◌, ◌<◌, ◌⊎◌, inl, inr, Box, refl, add-one, sym, subst, ◌∙◌, arith, Bool, true, false, cond, ◌==◌, pow-suc, mod-eq_of_lt, Global}
-use Rattle.vic_sets.proofs.Words.{mod_below, BitMask, Node, Fork', Clear, Shut, Fork, Halves, open_at, IsAtMost, IsWidestOf}
-use Rattle.vic_sets.specs.Nodes.{IsReduced, AreOneLeaf}
-use Rattle.vic_sets.specs.inner.Widest.{AllPass, with_low_bit}
+use Rattle.vic_sets.proofs.Words.{◌≡◌, ℕ, zero, suc, ◌+◌, ◌*◌, ◌/◌, ◌^◌, ◌%◌, ◌<◌, ◌⊎◌, inl, inr, Box, refl, add-one, sym, subst, ◌∙◌, arith, Bool, true, false, cond, ◌==◌, pow-suc, mod-eq_of_lt, Global, mod_below, BitMask, Node, Fork', Clear, Shut, Fork, Halves, open_at, IsAtMost, IsWidestOf, IsReduced, AreOneLeaf, AllPass, with_low_bit}
 use Rattle.vic_sets.proofs.Bits.{low_and_rest}
 
 -- what a fork of two tests answers

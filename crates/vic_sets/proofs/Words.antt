@@ -1,15 +1,27 @@
--- The words of proofs, from one place: the types, definitions and lemmas from outside that several files mention.
-pub use Rattle.std.proofs.lemmas.Bool.{cases_lt}
+-- The words of proofs, from one place: what files name from outside of the crate, and the definitions that several of them name.
+pub use Rattle.std.proofs.Common.{All, Bool, Box, Contains, Global, IfSome, List, None, Option, Some, [], add-one, ap, arith, cond, eq-eqb, eqb-true, false, filter, get_or, inl, inr, le-leb, leb-true, length, max, mod-eq_of_lt, nat_eq, not, pow-add, pow-suc, pow_pos, refl, rules, shr-shr, subst, suc, sym, take, true, zero, ℕ, ◌%◌, ◌&&◌, ◌*◌, ◌++◌, ◌+◌, ◌-◌, ◌/◌, ◌<◌, ◌==◌, ◌^◌, ◌||◌, ◌∙◌, ◌∷◌, ◌≡◌, ◌≢◌, ◌≤◌, ◌⊎◌}
+pub use Rattle.std.proofs.Math.Nat.{div-eq_of_lt}
+pub use Rattle.std.proofs.lemmas.Bool.{and_from, and_left, and_parts, cases_Bool, cases_lt, false_from_ne_true, not-false, not_from_true, or_cases, or_parts}
 pub use Rattle.std.proofs.lemmas.Bool.Decides.{nat_tests}
-pub use Rattle.std.proofs.lemmas.Nat.{mod_below, mod-mul-add}
-pub use Rattle.vic_frame.specs.Masks.{BitMask, lies_in, IsMask}
-pub use Rattle.vic_frame.specs.Uids.{has}
+pub use Rattle.std.proofs.lemmas.Fn.{filter_same}
+pub use Rattle.std.proofs.lemmas.List.Elements.{All-contains, All-contains_itself, All-filter, All-push, Contains-push_cases}
+pub use Rattle.std.proofs.lemmas.List.Folds.{list_any-append, list_any_at, list_any_more}
+pub use Rattle.std.proofs.lemmas.Map.Views.{any-filter_same}
+pub use Rattle.std.proofs.lemmas.Nat.{div-mul-add, div_below, mod-mul-add, mod-pow-add, mod_below, mul-add-lt, one_shl, shl_whole, shr_split}
+pub use Rattle.std.specs.List.{list_any}
+pub use Rattle.vic_frame.proofs.MaskLaws.{mod_mod_pow, mod_pow_more, parted}
+pub use Rattle.vic_frame.specs.MaskLaws.{lower_half, upper_half}
+pub use Rattle.vic_frame.specs.Masks.{BitMask, IsMask, lies_in}
+pub use Rattle.vic_frame.specs.Uids.{IsUid, has, uid_from_low_bits}
+pub use Rattle.vic_tree.proofs.BoolLaws.{or_false}
+pub use Rattle.vic_tree.proofs.FirstMasks.{same_mask}
+pub use Rattle.vic_tree.proofs.GatheringLaws.{gathers_both, gathers_full, gathers_like}
 pub use Rattle.vic_tree.specs.Gathering.{Gathers}
-pub use Rattle.vic_tree.specs.OpenSet.{IsAtMost, IsWidest, SameUids}
-pub use Rattle.vic_frame.proofs.MaskLaws.{mod_mod_pow}
-pub use Rattle.vic_sets.specs.Cells.{in_cells, AreCells, cut_at}
-pub use Rattle.vic_sets.specs.Nodes.{open_at, height}
+pub use Rattle.vic_tree.specs.OpenSet.{AllOpen, IsAtMost, IsWidest, SameUids}
+pub use Rattle.vic_sets.specs.Cells.{AreApart, AreCells, IsApart, IsCell, NoHalves, beside, cut_at, holds, in_cells}
+pub use Rattle.vic_sets.specs.Nodes.{AreOneLeaf, IsFork, IsReduced, height, open_at}
 pub use Rattle.vic_sets.specs.declared.node.Halves.{Halves}
-pub use Rattle.vic_sets.specs.declared.node.Node.{Node, Fork'}
+pub use Rattle.vic_sets.specs.declared.node.Node.{Fork', Node}
 pub use Rattle.vic_sets.specs.declared.node.Node.TheVariants.{Clear, Fork, Shut}
-pub use Rattle.vic_sets.specs.inner.Widest.{IsWidestOf}
+pub use Rattle.vic_sets.specs.inner.Free.{IsFree, IsFreeIn, IsFreeUnder}
+pub use Rattle.vic_sets.specs.inner.Widest.{AllPass, IsWidestOf, with_low_bit}

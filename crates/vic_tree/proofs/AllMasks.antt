@@ -1,17 +1,6 @@
 -- Lists that have all masks of a kind: in any order, then in order.
-use Rattle.std.proofs.Common.{◌≡◌, ◌⊎◌, ◌↔◌, Bool, true, List, [], ◌∷◌, Less, sym, ◌∙◌, arith, All, AllPairs, Contains, IsPermutation, IsSorted}
-use Rattle.vic_tree.proofs.Words.{All-nil, BitMask}
-use Rattle.std.specs.Cmp.{IsEquivalence, IsTotalOrder}
-use Rattle.std.specs.List.{AllByRecursion, dedup}
+use Rattle.vic_tree.proofs.Words.{◌≡◌, ◌⊎◌, ◌↔◌, Bool, true, List, [], ◌∷◌, Less, sym, ◌∙◌, arith, All, AllPairs, Contains, IsPermutation, IsSorted, All-nil, BitMask, IsEquivalence, IsTotalOrder, AllByRecursion, dedup, eq_by_cmp, eq_by_cmp_equiv, nat_cmp_total, on_total, then_total, All-cons, Contains-get_or, All-dedup, AllPairs-cons, Contains-dedup, IsStrictlySortedBy-dedup, All-permutation, Contains-permutation, Adds, AreAll, ComesBefore}
 use Rattle.std.specs.List.Sorted.{IsStrictlySortedBy}
-use Rattle.std.specs.Ordering.{eq_by_cmp}
-use Rattle.std.proofs.lemmas.Cmp.{eq_by_cmp_equiv, nat_cmp_total, on_total, then_total}
-use Rattle.std.proofs.lemmas.List.Elements.{All-cons, Contains-get_or}
-use Rattle.std.proofs.lemmas.List.Filters.{All-dedup}
-use Rattle.std.proofs.lemmas.List.Kept.{AllPairs-cons, Contains-dedup, IsStrictlySortedBy-dedup}
-use Rattle.std.proofs.lemmas.List.Sorted.{All-permutation, Contains-permutation}
-use Rattle.vic_tree.specs.inner.KeptMasks.{Adds}
-use Rattle.vic_tree.specs.OpenMasks.{AreAll, ComesBefore}
 use Rattle.vic_tree.proofs.FirstMasks.{less_before, mask_cmp, or_both, equal_same}
 
 -- some masks, and those that are added

@@ -1,7 +1,5 @@
 -- Tests, joined by and, or and not.
-use Rattle.std.proofs.Common.{◌≡◌, ℕ, ◌<◌, Bool, true, false, ◌&&◌, ◌||◌, arith, nat_lt}
-use Rattle.std.proofs.Math.Bool.{and-true, or-false, and_assoc}
-use Rattle.std.proofs.lemmas.Bool.Decides.{nat_tests}
+use Rattle.vic_tree.proofs.Words.{◌≡◌, ℕ, ◌<◌, Bool, true, false, ◌&&◌, ◌||◌, arith, nat_lt, and-true, or-false, and_assoc, nat_tests}
 
 pub and_true : (b : Bool) → (b && true) ≡ b
 and_true = and-true

@@ -1,14 +1,5 @@
 -- Lists of masks in order, of which the last are left out.
-use Rattle.std.proofs.Common.{◌≡◌, ◌==◌, ◌↔◌, Bool, true, min, ℕ, suc, zero, ◌+◌, ◌-◌, ◌<◌, ◌≤◌, ◌⊎◌, inl, inr, List, [], ◌∷◌, length, get_or, take, Some, Err, Ordering, Less, Greater, refl, sym, ap, subst, ◌∙◌, arith, AllPairs, Contains, insert, nat_cmp, eqb-true, get_or-take, length-take, length-take-le, take_all, pow_pos, is_eq, rules, eq-eqb}
-use Rattle.vic_tree.proofs.Words.{IsNonDecreasingBy, cases_lt, cases_eq, nat_tests, get_or_default, All-nil, All-weaker, BitMask, IsAtMost, IsWidest, AreFirst, IsOpenMask, parent, AreKept}
-use Rattle.std.specs.List.Sorted.{IsBinarySearchResult}
-use Rattle.std.specs.Ordering.{ordering_index, ordering_then}
-use Rattle.std.proofs.lemmas.List.Edits.{length-insert}
-use Rattle.std.proofs.lemmas.List.Elements.{All-cons, All-contains, All-take, Contains-append_cases, Contains-append_right, Contains-get_or, Contains-push_cases}
-use Rattle.std.proofs.lemmas.List.Kept.{AllPairs-cons}
-use Rattle.std.proofs.lemmas.List.Sorted.{All-permutation, Contains-permutation, IsPermutation-insert, IsPermutation-sym}
-use Rattle.vic_tree.specs.OpenMasks.{ComesBefore, IsPast}
-use Rattle.vic_tree.specs.inner.KeptMasks.{Keeps}
+use Rattle.vic_tree.proofs.Words.{◌≡◌, ◌==◌, ◌↔◌, Bool, true, min, ℕ, suc, zero, ◌+◌, ◌-◌, ◌<◌, ◌≤◌, ◌⊎◌, inl, inr, List, [], ◌∷◌, length, get_or, take, Some, Err, Ordering, Less, Greater, refl, sym, ap, subst, ◌∙◌, arith, AllPairs, Contains, insert, nat_cmp, eqb-true, get_or-take, length-take, length-take-le, take_all, pow_pos, is_eq, rules, eq-eqb, IsNonDecreasingBy, cases_lt, cases_eq, nat_tests, get_or_default, All-nil, All-weaker, BitMask, IsAtMost, IsWidest, AreFirst, IsOpenMask, parent, AreKept, IsBinarySearchResult, ordering_index, ordering_then, length-insert, All-cons, All-contains, All-take, Contains-append_cases, Contains-append_right, Contains-get_or, Contains-push_cases, AllPairs-cons, All-permutation, Contains-permutation, IsPermutation-insert, IsPermutation-sym, ComesBefore, IsPast, Keeps}
 
 -- one element more in a list
 module _ {X : Type 0} where

@@ -1,9 +1,5 @@
 -- Ranges of keys without some keys.
-use Rattle.std.proofs.Common.{◌≡◌, ℕ, ◌+◌, ◌-◌, ◌^◌, ◌<◌, ◌≤◌, ◌⊎◌, inl, inr, Bool, true, false, List, Option, Some, None, IfNone, IfSome, min, refl, sym, ap, subst, ◌∙◌, arith, pow_pos}
-use Rattle.vic_tree.proofs.Words.{cases_lt, has, BitMask, IsMask, lies_in, mirror, uid_of, mirror_of_uid, Gathers, AllOpen, IsAtMost, IsWidest, SameUids, has_key, without_keys, is_open_in, HoldsMask, IsFirstRun, IsFreeBetween, is_left, nat_tests}
-use Rattle.std.proofs.lemmas.Bool.{or_parts}
-use Rattle.vic_frame.proofs.KeyLaws.{is_uid}
-use Rattle.vic_tree.specs.inner.Ranges.{AllKeysPass, ComesFirstIn, IsFoundBelow, IsFreeInRanges, IsMaskIn, IsWidestBelow, is_passed}
+use Rattle.vic_tree.proofs.Words.{◌≡◌, ℕ, ◌+◌, ◌-◌, ◌^◌, ◌<◌, ◌≤◌, ◌⊎◌, inl, inr, Bool, true, false, List, Option, Some, None, IfNone, IfSome, min, refl, sym, ap, subst, ◌∙◌, arith, pow_pos, cases_lt, has, BitMask, IsMask, lies_in, mirror, uid_of, mirror_of_uid, Gathers, AllOpen, IsAtMost, IsWidest, SameUids, has_key, without_keys, is_open_in, HoldsMask, IsFirstRun, IsFreeBetween, is_left, nat_tests, or_parts, is_uid, AllKeysPass, ComesFirstIn, IsFoundBelow, IsFreeInRanges, IsMaskIn, IsWidestBelow, is_passed}
 use Rattle.vic_tree.proofs.BlockLaws.{key_in_mask, mask_ends}
 use Rattle.vic_tree.proofs.GatheringLaws.{gathers_both, gathers_like}
 use Rattle.vic_tree.proofs.RangeLaws.{inside_is, is_inside}

@@ -1,8 +1,5 @@
 -- What is left of ranges of keys without some keys, run by run.
-use Rattle.std.proofs.Common.{◌≡◌, ℕ, zero, suc, ◌+◌, ◌<◌, ◌≤◌, ◌==◌, ◌&&◌, Bool, true, false, not, List, [], ◌∷◌, length, get_or, drop, nat_eq, max, ◌∙◌, refl, sym, arith, ne_eqb}
-use Rattle.vic_tree.proofs.Words.{IsNonDecreasing, nat_tests, has, AreRanges, in_ranges, IsFirstRun, PassFrom}
-use Rattle.std.proofs.lemmas.List.Elements.{All-from_get_or}
-use Rattle.std.proofs.lemmas.List.Folds.{list_any_none}
+use Rattle.vic_tree.proofs.Words.{◌≡◌, ℕ, zero, suc, ◌+◌, ◌<◌, ◌≤◌, ◌==◌, ◌&&◌, Bool, true, false, not, List, [], ◌∷◌, length, get_or, drop, nat_eq, max, ◌∙◌, refl, sym, arith, ne_eqb, IsNonDecreasing, nat_tests, has, AreRanges, in_ranges, IsFirstRun, PassFrom, All-from_get_or, list_any_none}
 use Rattle.vic_tree.proofs.RangeLaws.{none_below}
 
 -- a key in a list that rises, and one behind its first

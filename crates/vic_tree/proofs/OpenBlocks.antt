@@ -1,9 +1,5 @@
 -- The greatest blocks of a run of keys.
-use Rattle.std.proofs.Common.{◌≡◌, ℕ, ◌+◌, ◌-◌, ◌*◌, ◌/◌, ◌^◌, ◌%◌, ◌<◌, ◌≤◌, ◌⊎◌, ◌↔◌, inl, inr, Bool, false, List, [], Option, Some, IfSome, sym, ap, subst, ◌∙◌, arith, pow_pos, lt_of_mul-lt-mul_right}
-use Rattle.vic_tree.proofs.Words.{cases_lt, cases_eq, BitMask, IsMask, mirror, mirror_bits, mirror_below, AreFirst, IsOpenMask, parent, AllOpen, without_keys, All-nil, IsGreatestIn, IsOpenBelow, is_open_in, HoldsMask, IsFirstRun, is_left}
-use Rattle.vic_frame.proofs.MirrorLaws.{mirror_split, mirror_mod}
-use Rattle.vic_tree.specs.inner.KeptMasks.{IsGreatestAt, IsOpenBlock}
-use Rattle.vic_tree.specs.inner.Ranges.{AllKeysPass}
+use Rattle.vic_tree.proofs.Words.{◌≡◌, ℕ, ◌+◌, ◌-◌, ◌*◌, ◌/◌, ◌^◌, ◌%◌, ◌<◌, ◌≤◌, ◌⊎◌, ◌↔◌, inl, inr, Bool, false, List, [], Option, Some, IfSome, sym, ap, subst, ◌∙◌, arith, pow_pos, lt_of_mul-lt-mul_right, cases_lt, cases_eq, BitMask, IsMask, mirror, mirror_bits, mirror_below, AreFirst, IsOpenMask, parent, AllOpen, without_keys, All-nil, IsGreatestIn, IsOpenBelow, is_open_in, HoldsMask, IsFirstRun, is_left, mirror_split, mirror_mod, IsGreatestAt, IsOpenBlock, AllKeysPass}
 use Rattle.vic_tree.proofs.BlockLaws.{IsBlockMask, key_in_mask, not_before, number_of_mask, twice, FirstBlock, value_is}
 use Rattle.vic_tree.proofs.FirstMasks.{same_mask}
 use Rattle.vic_tree.proofs.GapLaws.{first_passes, in_gap, in_run, left_keys}

@@ -1,10 +1,5 @@
 -- The open masks of a set are apart, and hold all of it.
-use Rattle.std.proofs.Common.{◌≡◌, ℕ, zero, suc, ◌+◌, ◌-◌, ◌*◌, ◌^◌, ◌%◌, ◌<◌, ◌≤◌, ◌||◌, ◌⊎◌, inl, inr, Bool, true, false, not, List, refl, sym, ap, subst, ◌∙◌, arith, eq-eqb, eqb-true, pow_pos, below_more}
-use Rattle.vic_tree.proofs.Words.{list_any, cases_lt, list_any_at, IsUid, BitMask, lies_in, IsOpenMask, parent, AllOpen, SameUids, nat_tests}
-use Rattle.std.proofs.lemmas.List.Folds.{Any-from_list_any}
-use Rattle.std.proofs.lemmas.Bool.{or_parts, cases_Bool, not-false}
-use Rattle.vic_frame.proofs.MaskLaws.{mod_mod_pow}
-use Rattle.vic_tree.specs.OpenMasks.{AreAll}
+use Rattle.vic_tree.proofs.Words.{◌≡◌, ℕ, zero, suc, ◌+◌, ◌-◌, ◌*◌, ◌^◌, ◌%◌, ◌<◌, ◌≤◌, ◌||◌, ◌⊎◌, inl, inr, Bool, true, false, not, List, refl, sym, ap, subst, ◌∙◌, arith, eq-eqb, eqb-true, pow_pos, below_more, list_any, cases_lt, list_any_at, IsUid, BitMask, lies_in, IsOpenMask, parent, AllOpen, SameUids, nat_tests, Any-from_list_any, or_parts, cases_Bool, not-false, mod_mod_pow, AreAll}
 use Rattle.vic_tree.proofs.BoolLaws.{same_tests}
 use Rattle.vic_tree.proofs.FirstMasks.{same_mask}
 

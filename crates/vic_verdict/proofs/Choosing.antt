@@ -1,6 +1,5 @@
 -- UIDs of a list, other than one to avoid, taken one by one.
-use Rattle.std.proofs.Common.{◌≡◌, ℕ, suc, ◌+◌, ◌-◌, ◌<◌, List, [], ◌∷◌, ◌++◌, length, take, drop, get_or, Bool, true, false, cond, sym, ap, ◌∙◌, arith, append_assoc, filter}
-use Rattle.vic_verdict.proofs.Words.{drop_more}
+use Rattle.vic_verdict.proofs.Words.{◌≡◌, ℕ, suc, ◌+◌, ◌-◌, ◌<◌, List, [], ◌∷◌, ◌++◌, length, take, drop, get_or, Bool, true, false, cond, sym, ap, ◌∙◌, arith, append_assoc, filter, drop_more}
 
 pub filter_yes : (p : ℕ → Bool) (x : ℕ) (xs : List ℕ) → p x ≡ true → filter p (x ∷ xs) ≡ x ∷ filter p xs
 filter_yes p x xs e = ap (λ b. cond b (x ∷ filter p xs) (filter p xs)) e

@@ -1,8 +1,5 @@
 -- The mentions between two keys, and which keys some slots close.
-use Rattle.std.proofs.Common.{◌≡◌, ℕ, ◌+◌, ◌-◌, ◌<◌, ◌≤◌, ◌==◌, ◌++◌, List, [], ◌∷◌, length, take, drop, get_or, Bool, true, false, not, ◌&&◌, ◌||◌, refl, sym, ap, ◌∙◌, subst, arith, ⊎_elim, inl, inr, nat_le, nat_lt, All, eq-eqb, get_or-drop, get_or-take, length-drop, length-take-le, take-append-drop}
-use Rattle.vic_verdict.proofs.Words.{list_any, or_false, and_from, cases_eq, cases_lt, false≢true, nat_tests, list_any-append, list_any_at, list_any_more, Mention, in_ranges, is_between, Closes, is_in_some, ReadSlot, AreInOrder, has_where, has_left, is_in}
-use Rattle.std.proofs.lemmas.List.Elements.{All-from_get_or}
-use Rattle.vic_verdict.specs.inner.Sweep.{IsStart}
+use Rattle.vic_verdict.proofs.Words.{◌≡◌, ℕ, ◌+◌, ◌-◌, ◌<◌, ◌≤◌, ◌==◌, ◌++◌, List, [], ◌∷◌, length, take, drop, get_or, Bool, true, false, not, ◌&&◌, ◌||◌, refl, sym, ap, ◌∙◌, subst, arith, ⊎_elim, inl, inr, nat_le, nat_lt, All, eq-eqb, get_or-drop, get_or-take, length-drop, length-take-le, take-append-drop, list_any, or_false, and_from, cases_eq, cases_lt, false≢true, nat_tests, list_any-append, list_any_at, list_any_more, Mention, in_ranges, is_between, Closes, is_in_some, ReadSlot, AreInOrder, has_where, has_left, is_in, All-from_get_or, IsStart}
 use Rattle.vic_verdict.proofs.Sweeping.{all_cover, between_parts, nobody, where_none}
 
 -- ---- the mentions between two keys

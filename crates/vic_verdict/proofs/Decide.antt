@@ -1,6 +1,5 @@
 -- Whether a log is possible, and a UID possible or certain, can be decided.
-use Rattle.std.proofs.Common.{◌≡◌, ℕ, ◌<◌, List, [], ◌∷◌, Bool, true, ◌&&◌, sym, ◌∙◌, inl, inr, ⊎_elim, ◌↔◌}
-use Rattle.vic_verdict.proofs.Words.{and_parts, cases_eq, both_ways, IsPossible, IsPossibleUid, IsCertainUid, Entry, slots_of, Reading, NoReply, OneReply, ManyReplies, SomeReply, Slot, is_open, Asks, SuppliesAll, IsForcedBy}
+use Rattle.vic_verdict.proofs.Words.{◌≡◌, ℕ, ◌<◌, List, [], ◌∷◌, Bool, true, ◌&&◌, sym, ◌∙◌, inl, inr, ⊎_elim, ◌↔◌, and_parts, cases_eq, both_ways, IsPossible, IsPossibleUid, IsCertainUid, Entry, slots_of, Reading, NoReply, OneReply, ManyReplies, SomeReply, Slot, is_open, Asks, SuppliesAll, IsForcedBy}
 use Rattle.vic_verdict.proofs.Search.{search_below, Either, test_either, and_either, iff_either}
 use Rattle.vic_verdict.proofs.Populations.{without, without_parts, without_from, ArePossible-iff, MayHave-iff, MustHave-iff, MustHave-cases, population_without, uid_end, open_below}
 use Rattle.vic_verdict.proofs.Possibility.{IsPossible-slots, IsPossibleUid-slots, IsCertainUid-slots}

@@ -1,11 +1,5 @@
 -- What meets the demands of a stretch.
-use Rattle.std.proofs.Common.{◌≡◌, ℕ, zero, suc, ◌+◌, ◌<◌, ◌≤◌, ◌++◌, List, [], ◌∷◌, length, take, get_or, length-append, Bool, true, not, ◌&&◌, cond, Option, Some, None, refl, sym, ap, ◌∙◌, subst, arith, inl, inr, ⊎_elim, ◌⊎◌, ◌==◌, nat_lt, slice_get, All, Any, sum_by, IsPermutation, eq-eqb, eqb-true, le-ltb}
-use Rattle.vic_verdict.proofs.Words.{list_all, list_any, cases_eq, cases_lt, and_parts, and_from, or_left, or_right, false≢true, slice_get_within, get_or_default, All-push, list_any-append, Any-from_list_any, All-permutation, list_any-IsPermutation, IsUid, is_uid, is_in_block, mirror, SameUids, UpToThree, Entry, Collision, Garbled, mask_at, lies_in_some, is_quiet, answers_at, ManyReplies, SomeReply, slots_of, is_open, AgreeBefore, answers_agree, IsUid-from, lt_yes, lt_from, Demand, Found, Stretch, Mention, Lacks, answering, AreInOrder, HaveKeys, is_quiet_by, ArePutInOrder, needs, needs_of, IsFoundAt, IsFound, IsDemandBy, AreFound, AreKept, not_from_false, false_from_ne_true, both_ways, not-true, get_or_append_left, All-filter, filter_passes, get_or_from_slice_get, slice_get_past, allows, IsDemand, answers_by, IsUnmet, IsUnmetAt, IsImpliedBy, IsAskedAgain, HasBlock, HasBlocks, HasKeysAt, HasMentionsInOrder, IsKept, Keeps, AreMet, AreAsked, asked_by, demands_to, is_asked}
-use Rattle.std.proofs.lemmas.Map.Views.{any-filter_same}
-use Rattle.std.proofs.lemmas.List.Quantifiers.{Any-push}
-use Rattle.std.proofs.lemmas.List.Sums.{sum_by-cons, sum_by_more, sum_by_push, sum_by-take-le}
-use Rattle.std.proofs.lemmas.List.Sorted.{sum_by-IsPermutation}
-use Rattle.vic_verdict.specs.Demands.{needs_at, all_needs, Meets}
+use Rattle.vic_verdict.proofs.Words.{◌≡◌, ℕ, zero, suc, ◌+◌, ◌<◌, ◌≤◌, ◌++◌, List, [], ◌∷◌, length, take, get_or, length-append, Bool, true, not, ◌&&◌, cond, Option, Some, None, refl, sym, ap, ◌∙◌, subst, arith, inl, inr, ⊎_elim, ◌⊎◌, ◌==◌, nat_lt, slice_get, All, Any, sum_by, IsPermutation, eq-eqb, eqb-true, le-ltb, list_all, list_any, cases_eq, cases_lt, and_parts, and_from, or_left, or_right, false≢true, slice_get_within, get_or_default, All-push, list_any-append, Any-from_list_any, All-permutation, list_any-IsPermutation, IsUid, is_uid, is_in_block, mirror, SameUids, UpToThree, Entry, Collision, Garbled, mask_at, lies_in_some, is_quiet, answers_at, ManyReplies, SomeReply, slots_of, is_open, AgreeBefore, answers_agree, IsUid-from, lt_yes, lt_from, Demand, Found, Stretch, Mention, Lacks, answering, AreInOrder, HaveKeys, is_quiet_by, ArePutInOrder, needs, needs_of, IsFoundAt, IsFound, IsDemandBy, AreFound, AreKept, not_from_false, false_from_ne_true, both_ways, not-true, get_or_append_left, All-filter, filter_passes, get_or_from_slice_get, slice_get_past, allows, IsDemand, answers_by, IsUnmet, IsUnmetAt, IsImpliedBy, IsAskedAgain, HasBlock, HasBlocks, HasKeysAt, HasMentionsInOrder, IsKept, Keeps, AreMet, AreAsked, asked_by, demands_to, is_asked, any-filter_same, Any-push, sum_by-cons, sum_by_more, sum_by_push, sum_by-take-le, sum_by-IsPermutation, needs_at, all_needs, Meets}
 use Rattle.vic_verdict.proofs.Silencing.{silenced_later}
 use Rattle.vic_verdict.proofs.Entries.{asks_two_iff, asks_one_iff}
 use Rattle.vic_verdict.proofs.Supplied.{UpToThree-same}

@@ -1,8 +1,6 @@
 -- What a judge that goes over the entries once needs: what each entry does to the open UIDs, and what the open UIDs that
 -- could have answered in a slot, up to three of them, tell.
-use Rattle.std.proofs.Common.{◌≡◌, ℕ, zero, suc, ◌<◌, ◌≤◌, List, [], ◌∷◌, length, Bool, true, ◌&&◌, Option, Some, None, refl, sym, ap, ◌∙◌, subst, arith, inl, inr, ⊎_elim, ◌⊎◌, ◌≢◌, ◌↔◌, slice_get}
-use Rattle.vic_verdict.proofs.Words.{list_all, both_ways, false≢true, cases_eq, Entry, Silent, Heard, has, is_uid, answers_at, Reading, NoReply, OneReply, ManyReplies, SomeReply, Slot, reading_of, slots_before, is_open, Asks, SuppliesAll, Forces, IsForcedBy, UpToThree, answering, has_here, has_at, has_there, has_cases, and_true, with_reading, with_entry, may_be, allows}
-use Rattle.std.specs.Prelude.{⊤}
+use Rattle.vic_verdict.proofs.Words.{◌≡◌, ℕ, zero, suc, ◌<◌, ◌≤◌, List, [], ◌∷◌, length, Bool, true, ◌&&◌, Option, Some, None, refl, sym, ap, ◌∙◌, subst, arith, inl, inr, ⊎_elim, ◌⊎◌, ◌≢◌, ◌↔◌, slice_get, list_all, both_ways, false≢true, cases_eq, Entry, Silent, Heard, has, is_uid, answers_at, Reading, NoReply, OneReply, ManyReplies, SomeReply, Slot, reading_of, slots_before, is_open, Asks, SuppliesAll, Forces, IsForcedBy, UpToThree, answering, has_here, has_at, has_there, has_cases, and_true, with_reading, with_entry, may_be, allows, ⊤}
 
 -- what a slot line asks of the UIDs that answer there; an entry that is no slot line asks nothing
 abbrev pub EntryAsks : Option Reading → (ℕ → Bool) → Type 0

@@ -1,9 +1,5 @@
 -- A gathered population shows the verdict.
-use Rattle.std.proofs.Common.{◌≡◌, ℕ, ◌≤◌, List, [], ◌∷◌, ◌++◌, length, true, Some, None, sym, ◌∙◌, subst, arith, ⊎_elim, length-append, ◌⊎◌}
-use Rattle.vic_verdict.proofs.Words.{IsStrictlyIncreasing, false_from_ne_true, IsUid, has, BitMask, lies_in, Entry, LogLine, entries, slots_of, is_open, IsWithin, AreDifferent-population, has_here, MeetsAll-iff, CouldHaveGiven-slots, Met, IsMet, gathered, IsPossible, IsPossibleUid, IsCertainUid, SameMembers, IsVerdict, IsUid-member, SuppliesAll-within}
-use Rattle.vic_frame.specs.Masks.{least_uid_in}
-use Rattle.vic_verdict.specs.declared.judging.Verdict.TheVariants.{Absent, Unlisted, Unsettled, Doubtful}
-use Rattle.vic_verdict.specs.Explained.{IsSmallPopulation, IsPopulationBehind}
+use Rattle.vic_verdict.proofs.Words.{◌≡◌, ℕ, ◌≤◌, List, [], ◌∷◌, ◌++◌, length, true, Some, None, sym, ◌∙◌, subst, arith, ⊎_elim, length-append, ◌⊎◌, IsStrictlyIncreasing, false_from_ne_true, IsUid, has, BitMask, lies_in, Entry, LogLine, entries, slots_of, is_open, IsWithin, AreDifferent-population, has_here, MeetsAll-iff, CouldHaveGiven-slots, Met, IsMet, gathered, IsPossible, IsPossibleUid, IsCertainUid, SameMembers, IsVerdict, IsUid-member, SuppliesAll-within, least_uid_in, Absent, Unlisted, Unsettled, Doubtful, IsSmallPopulation, IsPopulationBehind}
 use Rattle.vic_verdict.proofs.Decide.{IsPossibleUid-iff}
 use Rattle.vic_verdict.proofs.Meeting.{has_pushed}
 use Rattle.vic_verdict.proofs.Gathering.{IsGathered, append_left, append_right, rising_population, no_more, gathered_population, gathered_without}

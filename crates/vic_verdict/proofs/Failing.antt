@@ -1,7 +1,5 @@
 -- The members of a list that fail a test.
-use Rattle.std.proofs.Common.{◌∙◌, ◌≡◌, ℕ, ◌<◌, ◌≤◌, List, [], ◌∷◌, length, get_or, Bool, true, not, sym, subst, arith, ◌↔◌, MatchOption, slice_get, filter, eq-eqb, eqb-true, nat_eq}
-use Rattle.vic_verdict.proofs.Words.{IsStrictlyIncreasing, and_parts, and_from, not-true, not_from_false, false≢true, has, has_here, has_filter, IsFailing, IsListOf, IsLeast, NoSuch, Any-from_list_any, list_any_at, get_or_default, filter_has}
-use Rattle.std.proofs.lemmas.List.Kept.{IsStrictlyIncreasing-filter}
+use Rattle.vic_verdict.proofs.Words.{◌∙◌, ◌≡◌, ℕ, ◌<◌, ◌≤◌, List, [], ◌∷◌, length, get_or, Bool, true, not, sym, subst, arith, ◌↔◌, MatchOption, slice_get, filter, eq-eqb, eqb-true, nat_eq, IsStrictlyIncreasing, and_parts, and_from, not-true, not_from_false, false≢true, has, has_here, has_filter, IsFailing, IsListOf, IsLeast, NoSuch, Any-from_list_any, list_any_at, get_or_default, filter_has, IsStrictlyIncreasing-filter}
 use Rattle.vic_verdict.proofs.Inserted.{rising_order}
 
 -- a member has a position

@@ -1,6 +1,5 @@
 -- The first impossible line, found by counting lines.
-use Rattle.std.proofs.Common.{◌≡◌, ℕ, zero, suc, ◌<◌, List, [], ◌∷◌, ◌++◌, Some, take, sym, ap, ◌∙◌, subst, arith, ⊎_elim, slice_get, leb, le-leb, leb-false}
-use Rattle.vic_verdict.proofs.Words.{cases_Bool, Entry, LogLine, IsPossible, Impossible, entries, IsRisingFrom, IsVerdict, entries_to}
+use Rattle.vic_verdict.proofs.Words.{◌≡◌, ℕ, zero, suc, ◌<◌, List, [], ◌∷◌, ◌++◌, Some, take, sym, ap, ◌∙◌, subst, arith, ⊎_elim, slice_get, leb, le-leb, leb-false, cases_Bool, Entry, LogLine, IsPossible, Impossible, entries, IsRisingFrom, IsVerdict, entries_to}
 use Rattle.vic_verdict.proofs.Possibility.{IsPossible-front}
 use Rattle.vic_verdict.proofs.Verdicts.{none_to, line_kept}
 use Rattle.vic_verdict.proofs.Search.{least_by}

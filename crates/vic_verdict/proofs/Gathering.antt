@@ -1,18 +1,5 @@
 -- A small population, gathered from what the slots of a possible log ask for.
-use Rattle.std.proofs.Common.{take-append-drop, drop, ◌≡◌, ℕ, zero, suc, ◌+◌, ◌<◌, ◌≤◌, List, [], ◌∷◌, ◌++◌, length, take, get_or, Bool, true, false, ◌||◌, Option, Some, None, refl, sym, ap, ◌∙◌, subst, arith, inl, inr, ⊎_elim, length-append, ◌⊎◌, ◌==◌, nat_eq, slice_get, filter, All, sum_by, eq-eqb, ne_eqb, length-take}
-use Rattle.vic_verdict.proofs.Words.{cases_Bool, IsStrictlyIncreasing, both_ways, false≢true, and_parts, and_from, or_cases, or_left, or_right, false_from_ne_true, cases_eq, not-true, not_from_false, list_any-append, slice_get_within, IsUid, has, AreDifferent, Entry, Collision, Heard, Garbled, IsPopulation, CouldHaveGiven, answers_at, Reading, ManyReplies, SomeReply, reading_of, slots_of, is_open, Asks, IsWithin, AreDifferent-population, AreDifferent-filter, has_filter, has_here, has_at, has_there, MeetsAll-iff, IsUid-from, CouldHaveGiven-slots, Found, Met, needs_of, IsFoundAt, IsFound, IsMet, is_other, chosen, gathered, answering, IsPossible, IsCertainUid, SameMembers}
-use Rattle.std.proofs.lemmas.List.Kept.{AllPairs-from_increasing}
-use Rattle.std.proofs.lemmas.List.Sums.{sum_by-cons}
-use Rattle.std.specs.List.{AllByRecursion, IsDistinct}
-use Rattle.std.proofs.lemmas.Bool.{or_parts}
-use Rattle.std.proofs.lemmas.Cmp.{nat_eq_equiv}
-use Rattle.std.proofs.lemmas.Map.Keys.{IsDistinct-cons, IsDistinct-from_apart}
-use Rattle.std.proofs.lemmas.Map.Made.{length-le_from_is_member}
-use Rattle.vic_log.proofs.Sets.{filter_has}
-use Rattle.vic_log.proofs.Supply.{asks_within}
-use Rattle.vic_verdict.specs.Demands.{all_needs}
-use Rattle.vic_verdict.specs.inner.Gathered.{all_chosen}
-use Rattle.vic_verdict.specs.Explained.{HasAllHeard}
+use Rattle.vic_verdict.proofs.Words.{take-append-drop, drop, ◌≡◌, ℕ, zero, suc, ◌+◌, ◌<◌, ◌≤◌, List, [], ◌∷◌, ◌++◌, length, take, get_or, Bool, true, false, ◌||◌, Option, Some, None, refl, sym, ap, ◌∙◌, subst, arith, inl, inr, ⊎_elim, length-append, ◌⊎◌, ◌==◌, nat_eq, slice_get, filter, All, sum_by, eq-eqb, ne_eqb, length-take, cases_Bool, IsStrictlyIncreasing, both_ways, false≢true, and_parts, and_from, or_cases, or_left, or_right, false_from_ne_true, cases_eq, not-true, not_from_false, list_any-append, slice_get_within, IsUid, has, AreDifferent, Entry, Collision, Heard, Garbled, IsPopulation, CouldHaveGiven, answers_at, Reading, ManyReplies, SomeReply, reading_of, slots_of, is_open, Asks, IsWithin, AreDifferent-population, AreDifferent-filter, has_filter, has_here, has_at, has_there, MeetsAll-iff, IsUid-from, CouldHaveGiven-slots, Found, Met, needs_of, IsFoundAt, IsFound, IsMet, is_other, chosen, gathered, answering, IsPossible, IsCertainUid, SameMembers, AllPairs-from_increasing, sum_by-cons, AllByRecursion, IsDistinct, or_parts, nat_eq_equiv, IsDistinct-cons, IsDistinct-from_apart, length-le_from_is_member, filter_has, asks_within, all_needs, all_chosen, HasAllHeard}
 use Rattle.vic_verdict.proofs.Decide.{IsPossibleUid-iff}
 use Rattle.vic_verdict.proofs.Demanding.{asked_two_or_one}
 use Rattle.vic_verdict.proofs.Entries.{EntryAsks, EntryForces, SuppliesBefore, SuppliesAll-places, forces_two_iff, forces_one_iff}

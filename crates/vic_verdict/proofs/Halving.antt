@@ -1,12 +1,7 @@
 -- Halving over the lines of a log.
-use Rattle.std.proofs.Common.{take-take, ◌≡◌, ℕ, zero, suc, ◌+◌, ◌<◌, ◌≤◌, List, [], ◌∷◌, ◌++◌, Some, length, take, drop, sym, ap, ◌∙◌, subst, arith, ⊎_elim, ◌⊎◌, slice_get, take-append-drop, length-take}
-use Rattle.vic_verdict.proofs.Words.{cases_lt, take-map, length-map, Sent, LogLine, IsPossible, IsContradictedAt, IsContradiction, entries, IsRisingFrom}
-use Rattle.std.proofs.lemmas.List.{map-append}
+use Rattle.vic_verdict.proofs.Words.{take-take, ◌≡◌, ℕ, zero, suc, ◌+◌, ◌<◌, ◌≤◌, List, [], ◌∷◌, ◌++◌, Some, length, take, drop, sym, ap, ◌∙◌, subst, arith, ⊎_elim, ◌⊎◌, slice_get, take-append-drop, length-take, cases_lt, take-map, length-map, Sent, LogLine, IsPossible, IsContradictedAt, IsContradiction, entries, IsRisingFrom, map-append, IsInOrder, AreLogLines, IsInOrder-front, still_there}
 use Rattle.vic_verdict.specs.declared.facts.Contradiction.{Contradiction}
 use Rattle.vic_verdict.proofs.Possibility.{IsPossible-front}
-use Rattle.vic_log.specs.Order.{IsInOrder}
-use Rattle.vic_verdict.specs.LogLines.{AreLogLines}
-use Rattle.vic_log.proofs.Order.{IsInOrder-front, still_there}
 
 pub record Between (lines : List LogLine) (low high : ℕ) : Type 0 where
   pub ordered : low < high

@@ -1,12 +1,6 @@
 -- Whether the UIDs that were heard could have answered, from position to position.
-use Rattle.std.proofs.Common.{◌≡◌, ℕ, ◌+◌, ◌<◌, ◌==◌, List, [], ◌∷◌, take, ◌≤◌, true, false, not, ◌&&◌, Some, refl, sym, ap, ◌∙◌, subst, arith, inl, inr, slice_get, Any, ◌⊎◌, if◌then◌else◌, All, IsPermutation, eq-eqb, eqb-true}
-use Rattle.vic_verdict.proofs.Words.{not_from_false, ReadSlot, Demand, Any-from_list_any, list_any-IsPermutation, cases_lt, and_parts, and_from, both_ways, false_from_ne_true, nat_tests, list_any_at, slice_get_within, IsUid, is_uid, mirror, Reply, Entry, Collision, Heard, Garbled, mask_at, lies_in_some, is_quiet, answers_at, reading_of, slots_of, is_open, answers_agree, IsUid-from, Mention, IsPossible, IsContradictedAt, answering, needs, reply_place, IsFirstQuietReply, is_quiet_by}
-use Rattle.std.proofs.lemmas.Bool.{true_from_ne_false}
-use Rattle.std.proofs.lemmas.List.Sorted.{IsPermutation-sym}
-use Rattle.std.proofs.lemmas.List.Elements.{All-weaker}
+use Rattle.vic_verdict.proofs.Words.{◌≡◌, ℕ, ◌+◌, ◌<◌, ◌==◌, List, [], ◌∷◌, take, ◌≤◌, true, false, not, ◌&&◌, Some, refl, sym, ap, ◌∙◌, subst, arith, inl, inr, slice_get, Any, ◌⊎◌, if◌then◌else◌, All, IsPermutation, eq-eqb, eqb-true, not_from_false, ReadSlot, Demand, Any-from_list_any, list_any-IsPermutation, cases_lt, and_parts, and_from, both_ways, false_from_ne_true, nat_tests, list_any_at, slice_get_within, IsUid, is_uid, mirror, Reply, Entry, Collision, Heard, Garbled, mask_at, lies_in_some, is_quiet, answers_at, reading_of, slots_of, is_open, answers_agree, IsUid-from, Mention, IsPossible, IsContradictedAt, answering, needs, reply_place, IsFirstQuietReply, is_quiet_by, true_from_ne_false, IsPermutation-sym, All-weaker, Answers, IsQuietReply, HasGathered, mentions_from}
 use Rattle.vic_verdict.proofs.Entries.{EntryAsks}
-use Rattle.vic_verdict.specs.inner.Replies.{Answers, IsQuietReply}
-use Rattle.vic_verdict.specs.inner.Stretches.{HasGathered, mentions_from}
 use Rattle.vic_verdict.proofs.Silencing.{silenced_permuted}
 use Rattle.vic_verdict.proofs.Lacking.{taken}
 use Rattle.vic_verdict.proofs.Mentioning.{IsReplyOf, is_reply_at, mentions_replies, reply_mentioned}

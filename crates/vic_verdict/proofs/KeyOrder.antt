@@ -1,10 +1,5 @@
 -- Lists of UIDs by their keys, and which of them aren't in a set.
-use Rattle.std.proofs.Common.{◌≡◌, ℕ, ◌+◌, ◌<◌, ◌^◌, ◌==◌, ◌||◌, List, [], ◌∷◌, ◌++◌, length, take, get_or, Bool, true, false, refl, sym, ap, ◌∙◌, subst, arith, ⊎_elim, ◌&&◌, not, nat_eq, eqb-true, ne_eqb}
-use Rattle.vic_verdict.proofs.Words.{or_false, list_all, both_ways, cases_Bool, and_from, and_parts, not-true, not_from_false, or_cases, list_any-append, list_any_more, Any-from_list_any, IsUid, has, is_uid, mirror, uid_of, uid_of_mirror, has_key, has_here, has_there, IsUid-from, is_uid_from, AreKeysOf, IsFailing, IsListOf, NoSuch}
-use Rattle.std.proofs.lemmas.Bool.{true_from_ne_false}
-use Rattle.std.proofs.lemmas.List.Folds.{list_all_at}
-use Rattle.vic_frame.proofs.MirrorLaws.{mirror_of_uid, same_test}
-use Rattle.vic_tree.specs.OpenSet.{AreOutside}
+use Rattle.vic_verdict.proofs.Words.{◌≡◌, ℕ, ◌+◌, ◌<◌, ◌^◌, ◌==◌, ◌||◌, List, [], ◌∷◌, ◌++◌, length, take, get_or, Bool, true, false, refl, sym, ap, ◌∙◌, subst, arith, ⊎_elim, ◌&&◌, not, nat_eq, eqb-true, ne_eqb, or_false, list_all, both_ways, cases_Bool, and_from, and_parts, not-true, not_from_false, or_cases, list_any-append, list_any_more, Any-from_list_any, IsUid, has, is_uid, mirror, uid_of, uid_of_mirror, has_key, has_here, has_there, IsUid-from, is_uid_from, AreKeysOf, IsFailing, IsListOf, NoSuch, true_from_ne_false, list_all_at, mirror_of_uid, same_test, AreOutside}
 
 -- the UIDs at the keys of a list that aren't in a set are those of the list that fail its test
 pub outside_are : (test : ℕ → Bool) (keys us vs : List ℕ) → AreKeysOf keys us → AreOutside test keys vs → IsListOf (IsFailing us test) vs

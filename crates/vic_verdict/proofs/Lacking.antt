@@ -1,7 +1,5 @@
 -- A slot that lacks the tags it requires contradicts the lines up to it, and up to the last one that may rule UIDs out.
-use Rattle.std.proofs.Common.{◌≡◌, ℕ, zero, suc, ◌+◌, ◌<◌, ◌≤◌, List, [], ◌∷◌, length, take, Bool, true, false, ◌&&◌, Option, Some, None, refl, sym, ap, ◌∙◌, subst, arith, add-one, ⊎_elim, slice_get, length-take-le}
-use Rattle.vic_verdict.proofs.Words.{cases_eq, slice_get_within, Entry, Silent, Heard, answers_at, Reading, NoReply, OneReply, ManyReplies, SomeReply, Slot, reading_of, slots_before, slots_of, is_open, Asks, AgreeBefore, answers_agree, IsContradictedAt, Lacks, rules_out, answering, and_true, with_entry}
-use Rattle.vic_verdict.specs.inner.Possible.{NoneRulesOutAfter}
+use Rattle.vic_verdict.proofs.Words.{◌≡◌, ℕ, zero, suc, ◌+◌, ◌<◌, ◌≤◌, List, [], ◌∷◌, length, take, Bool, true, false, ◌&&◌, Option, Some, None, refl, sym, ap, ◌∙◌, subst, arith, add-one, ⊎_elim, slice_get, length-take-le, cases_eq, slice_get_within, Entry, Silent, Heard, answers_at, Reading, NoReply, OneReply, ManyReplies, SomeReply, Slot, reading_of, slots_before, slots_of, is_open, Asks, AgreeBefore, answers_agree, IsContradictedAt, Lacks, rules_out, answering, and_true, with_entry, NoneRulesOutAfter}
 use Rattle.vic_verdict.proofs.Entries.{EntryAsks, entry_allows, open_reading}
 use Rattle.vic_verdict.proofs.Supplied.{supplied_each}
 

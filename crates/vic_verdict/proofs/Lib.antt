@@ -1,4 +1,4 @@
-pub mod Words
+mod Words
 pub mod Possibility
 pub mod Search
 pub mod Populations

@@ -1,7 +1,5 @@
 -- The UIDs that a log lists, line by line.
-use Rattle.std.proofs.Common.{◌≡◌, ℕ, zero, suc, ◌<◌, ◌+◌, List, [], ◌∷◌, ◌++◌, Some, take, refl, ap, ◌∙◌, arith, length, get_or, ◌^◌, slice_get}
-use Rattle.vic_log.proofs.Push.{entries_next, listed-append}
-use Rattle.vic_verdict.proofs.Words.{slice_get_read, LogLine, entries, listed, IsRisingFrom}
+use Rattle.vic_verdict.proofs.Words.{◌≡◌, ℕ, zero, suc, ◌<◌, ◌+◌, List, [], ◌∷◌, ◌++◌, Some, take, refl, ap, ◌∙◌, arith, length, get_or, ◌^◌, slice_get, entries_next, listed-append, slice_get_read, LogLine, entries, listed, IsRisingFrom}
 
 -- one line more
 pub listed_more : (lines : List LogLine) (i : ℕ) (l : LogLine) → slice_get lines i ≡ Some l → listed (entries (take (suc i) lines)) ≡ listed (entries (take i lines)) ++ listed (l.item ∷ [])

@@ -1,8 +1,5 @@
 -- Masks of at most 56 bits hold a UID, and one of 56 bits holds just one.
-use Rattle.std.proofs.Common.{◌≡◌, ℕ, ◌<◌, ◌≤◌, ◌+◌, ◌-◌, ◌*◌, ◌^◌, ◌%◌, true, sym, ap, ◌∙◌, arith, eqb-true, eq-eqb, pow-add}
-use Rattle.vic_verdict.proofs.Words.{BitMask, IsUid, lies_in}
-use Rattle.std.proofs.lemmas.Nat.{mod-mul-add}
-use Rattle.std.proofs.Math.Nat.{pow-le-pow_right}
+use Rattle.vic_verdict.proofs.Words.{◌≡◌, ℕ, ◌<◌, ◌≤◌, ◌+◌, ◌-◌, ◌*◌, ◌^◌, ◌%◌, true, sym, ap, ◌∙◌, arith, eqb-true, eq-eqb, pow-add, BitMask, IsUid, lies_in, mod-mul-add, pow-le-pow_right}
 
 -- the mask of the 56 low bits of a UID
 abbrev pub mask_of : ℕ → BitMask

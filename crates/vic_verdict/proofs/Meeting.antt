@@ -1,12 +1,6 @@
 -- What is met makes a log possible, and UIDs certain.
-use Rattle.std.proofs.Common.{eqb-true, ◌≡◌, ℕ, zero, suc, ◌+◌, ◌<◌, ◌≤◌, ◌++◌, List, [], ◌∷◌, length, get_or, Bool, true, false, Some, refl, sym, ap, ◌∙◌, subst, arith, inl, inr, ⊎_elim, ◌⊎◌, ◌↔◌, nat_eq, slice_get, Any}
-use Rattle.vic_verdict.proofs.Words.{list_all, cases_eq, cases_lt, and_parts, and_from, both_ways, false≢true, or_cases, or_left, or_right, slice_get_within, get_or_default, list_any-append, is_uid, has, AreDifferent, Reply, SameUids, Entry, Collision, Heard, Garbled, answers_at, OneReply, ManyReplies, SomeReply, reading_of, slots_before, slots_of, is_open, IsForcedBy, IsUid-from, has_at, has_there, has_cases, Found, Met, IsPossible, Lacks, answering, needs_of, HasHeard, IsFoundAt, IsFound, AreFound, IsMet}
-use Rattle.vic_verdict.specs.inner.Possible.{NoneRulesOutAfter}
-use Rattle.vic_verdict.specs.inner.Replies.{RepliesAnswer}
-use Rattle.vic_verdict.specs.Demands.{needs_at, Meets}
+use Rattle.vic_verdict.proofs.Words.{eqb-true, ◌≡◌, ℕ, zero, suc, ◌+◌, ◌<◌, ◌≤◌, ◌++◌, List, [], ◌∷◌, length, get_or, Bool, true, false, Some, refl, sym, ap, ◌∙◌, subst, arith, inl, inr, ⊎_elim, ◌⊎◌, ◌↔◌, nat_eq, slice_get, Any, list_all, cases_eq, cases_lt, and_parts, and_from, both_ways, false≢true, or_cases, or_left, or_right, slice_get_within, get_or_default, list_any-append, is_uid, has, AreDifferent, Reply, SameUids, Entry, Collision, Heard, Garbled, answers_at, OneReply, ManyReplies, SomeReply, reading_of, slots_before, slots_of, is_open, IsForcedBy, IsUid-from, has_at, has_there, has_cases, Found, Met, IsPossible, Lacks, answering, needs_of, HasHeard, IsFoundAt, IsFound, AreFound, IsMet, NoneRulesOutAfter, RepliesAnswer, needs_at, Meets, true_from_ne_false, asks_within}
 use Rattle.vic_verdict.proofs.Entries.{EntryAsks, EntryForces, forced_step}
-use Rattle.std.proofs.lemmas.Bool.{true_from_ne_false}
-use Rattle.vic_log.proofs.Supply.{asks_within}
 use Rattle.vic_verdict.proofs.Gathering.{exact_forces, has_take, no_more, one_of, two_of}
 use Rattle.vic_verdict.specs.Rising.{Adds}
 use Rattle.vic_verdict.proofs.KeyOrder.{not_all}

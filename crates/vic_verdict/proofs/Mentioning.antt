@@ -1,12 +1,5 @@
 -- The mentions of entries, and who is Quiet by them.
-use Rattle.std.proofs.Common.{◌≡◌, ℕ, min, zero, suc, ◌^◌, ◌<◌, ◌≤◌, ◌==◌, List, [], ◌∷◌, ◌++◌, Bool, true, false, ◌&&◌, ◌||◌, Option, Some, None, All, if◌then◌else◌, nat_le, nat_lt, slice_get, refl, sym, ap, ◌∙◌, subst, arith, inl, inr, eq-eqb, le-leb, ne_eqb}
-use Rattle.vic_verdict.proofs.Words.{IsUid, is_uid, mirror, Entry, Heard, Sent, Reply, silences, wakes, is_quiet, is_quiet_by, quiet_of, Mention, nat_tests, is_uid_from, IsUid-from, uid_of, uid_of_mirror, cases_lt, cases_eq, and_from, both_ways, false≢true, list_any, list_any-append, or_left, or_right, HaveKeys, is_mentioned}
-use Rattle.std.proofs.lemmas.List.Elements.{All-nil, All-cons, All-append}
-use Rattle.std.proofs.lemmas.List.Sums.{list_all-from_AllPass}
-use Rattle.vic_frame.proofs.MirrorLaws.{mirror_below, same_test}
-use Rattle.vic_frame.specs.declared.request.Request.TheVariants.{StayQuiet}
-use Rattle.vic_verdict.specs.inner.Stretches.{mention_at, mentions_at, mentions_from}
-use Rattle.vic_verdict.specs.inner.Sweep.{are_left}
+use Rattle.vic_verdict.proofs.Words.{◌≡◌, ℕ, min, zero, suc, ◌^◌, ◌<◌, ◌≤◌, ◌==◌, List, [], ◌∷◌, ◌++◌, Bool, true, false, ◌&&◌, ◌||◌, Option, Some, None, All, if◌then◌else◌, nat_le, nat_lt, slice_get, refl, sym, ap, ◌∙◌, subst, arith, inl, inr, eq-eqb, le-leb, ne_eqb, IsUid, is_uid, mirror, Entry, Heard, Sent, Reply, silences, wakes, is_quiet, is_quiet_by, quiet_of, Mention, nat_tests, is_uid_from, IsUid-from, uid_of, uid_of_mirror, cases_lt, cases_eq, and_from, both_ways, false≢true, list_any, list_any-append, or_left, or_right, HaveKeys, is_mentioned, All-nil, All-cons, All-append, list_all-from_AllPass, mirror_below, same_test, StayQuiet, mention_at, mentions_at, mentions_from, are_left}
 
 -- ---- UIDs by their keys
 

@@ -1,6 +1,5 @@
 -- Rising lists of numbers that are gone over side by side.
-use Rattle.std.proofs.Common.{◌≡◌, ℕ, ◌+◌, ◌<◌, ◌≤◌, ◌==◌, List, length, get_or, false, sym, ◌∙◌, arith, ⊎_elim, eq-eqb, ne_eqb}
-use Rattle.vic_verdict.proofs.Words.{get_or_default, IsStrictlyIncreasing, false_from_ne_true, cases_eq, cases_lt, has, AreBelow}
+use Rattle.vic_verdict.proofs.Words.{◌≡◌, ℕ, ◌+◌, ◌<◌, ◌≤◌, ◌==◌, List, length, get_or, false, sym, ◌∙◌, arith, ⊎_elim, eq-eqb, ne_eqb, get_or_default, IsStrictlyIncreasing, false_from_ne_true, cases_eq, cases_lt, has, AreBelow}
 use Rattle.vic_verdict.proofs.Failing.{member_at, place_of}
 use Rattle.vic_verdict.proofs.Inserted.{rising_order}
 use Rattle.vic_verdict.specs.inner.Merging.{IsPlaceOf}

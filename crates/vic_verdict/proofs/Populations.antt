@@ -1,7 +1,5 @@
 -- Which slots are possible, and which UIDs are possible and certain.
-use Rattle.std.proofs.Common.{◌≡◌, ℕ, ◌<◌, ◌*◌, ◌^◌, List, [], ◌∷◌, Bool, true, not, ◌&&◌, refl, sym, ◌∙◌, subst, inl, inr, ⊎_elim, ◌⊎◌, ◌≢◌, ◌↔◌, ◌==◌, ne_eqb}
-use Rattle.vic_verdict.proofs.Words.{and_parts, and_from, not_from_false, not-true, cases_eq, false≢true, both_ways, has, is_uid, IsUid, IsPopulation, Reading, NoReply, OneReply, ManyReplies, SomeReply, Slot, is_open, Asks, SuppliesAll, Forces, IsForcedBy, IsWithin, MeetsAll-iff, IsUid-from, eqb-false, has_with_member, with_member, with_member_keeps, with_member_cases, IsPopulation-with_member, asks_within, SuppliesAll-within}
-use Rattle.vic_log.proofs.Meeting.{MeetsAll}
+use Rattle.vic_verdict.proofs.Words.{◌≡◌, ℕ, ◌<◌, ◌*◌, ◌^◌, List, [], ◌∷◌, Bool, true, not, ◌&&◌, refl, sym, ◌∙◌, subst, inl, inr, ⊎_elim, ◌⊎◌, ◌≢◌, ◌↔◌, ◌==◌, ne_eqb, and_parts, and_from, not_from_false, not-true, cases_eq, false≢true, both_ways, has, is_uid, IsUid, IsPopulation, Reading, NoReply, OneReply, ManyReplies, SomeReply, Slot, is_open, Asks, SuppliesAll, Forces, IsForcedBy, IsWithin, MeetsAll-iff, IsUid-from, eqb-false, has_with_member, with_member, with_member_keeps, with_member_cases, IsPopulation-with_member, asks_within, SuppliesAll-within, MeetsAll}
 use Rattle.vic_verdict.proofs.Search.{search_below}
 
 -- a population meets every slot

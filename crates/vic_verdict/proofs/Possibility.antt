@@ -1,7 +1,5 @@
 -- Possible logs, possible and certain UIDs, by the slots of a log.
-use Rattle.std.proofs.Common.{◌≡◌, ℕ, List, ◌++◌, Some, ◌↔◌, slice_get, filter}
-use Rattle.vic_verdict.proofs.Words.{and_parts, Reply, Entry, Heard, answers_at, slots_of, OneReply, has_filter, AreDifferent-filter, AreDifferent-population, CouldHaveGiven-slots, IsPossible, IsPossibleUid, IsCertainUid, fits_asks}
-use Rattle.vic_log.proofs.Places.{CouldHaveGiven-front}
+use Rattle.vic_verdict.proofs.Words.{◌≡◌, ℕ, List, ◌++◌, Some, ◌↔◌, slice_get, filter, and_parts, Reply, Entry, Heard, answers_at, slots_of, OneReply, has_filter, AreDifferent-filter, AreDifferent-population, CouldHaveGiven-slots, IsPossible, IsPossibleUid, IsCertainUid, fits_asks, CouldHaveGiven-front}
 use Rattle.vic_verdict.proofs.Populations.{ArePossible, MayHave, MustHave}
 
 pub IsPossible-slots : (es : List Entry) → IsPossible es ↔ ArePossible (slots_of es)

@@ -1,10 +1,5 @@
 -- Which open UIDs answer, by the mentions.
-use Rattle.std.proofs.Common.{take-append-drop, ◌≡◌, ℕ, nat_eq, ◌+◌, ◌-◌, ◌^◌, ◌<◌, ◌≤◌, ◌==◌, ◌++◌, List, [], ◌∷◌, length, take, drop, get_or, Bool, true, false, not, ◌&&◌, ◌||◌, refl, sym, ap, ◌∙◌, subst, arith, inl, inr, ⊎_elim, map, nat_lt, All, eq-eqb, eqb-true, take_all, le-ltb}
-use Rattle.vic_verdict.proofs.Words.{list_any, and_parts, and_from, or_cases, or_left, or_right, both_ways, false≢true, nat_tests, take-map, length-map, get_or-map, All-head, All-tail, All-push, list_any-append, list_any_more, IsUid, is_uid, has, BitMask, lies_in, is_in_block, mirror, uid_of, KeyBlock, uid_of_mirror, IsUid-from, is_uid_from, Gathers, UpToThree, is_between, lt_yes, Mention, HasInside, IsReadyIn, is_ready_at, AreInOrder, HaveKeys, has_where, is_mentioned, is_quiet_by, quiet_of, not_from_false, false_from_ne_true, cases_Bool, drop-map, gathers_both, gathers_like, in_mask, without_keys, AreOpenMentions, HasMentionedIn, is_answering, is_awake, is_unmentioned_in}
-use Rattle.std.specs.List.Sorted.{IsNonDecreasing}
-use Rattle.std.proofs.lemmas.List.Sorted.{IsNonDecreasingBy-push}
-use Rattle.vic_frame.specs.LowBitsFirst.{IsKey}
-use Rattle.vic_frame.proofs.MirrorLaws.{mirror_below, mirror_of_uid}
+use Rattle.vic_verdict.proofs.Words.{take-append-drop, ◌≡◌, ℕ, nat_eq, ◌+◌, ◌-◌, ◌^◌, ◌<◌, ◌≤◌, ◌==◌, ◌++◌, List, [], ◌∷◌, length, take, drop, get_or, Bool, true, false, not, ◌&&◌, ◌||◌, refl, sym, ap, ◌∙◌, subst, arith, inl, inr, ⊎_elim, map, nat_lt, All, eq-eqb, eqb-true, take_all, le-ltb, list_any, and_parts, and_from, or_cases, or_left, or_right, both_ways, false≢true, nat_tests, take-map, length-map, get_or-map, All-head, All-tail, All-push, list_any-append, list_any_more, IsUid, is_uid, has, BitMask, lies_in, is_in_block, mirror, uid_of, KeyBlock, uid_of_mirror, IsUid-from, is_uid_from, Gathers, UpToThree, is_between, lt_yes, Mention, HasInside, IsReadyIn, is_ready_at, AreInOrder, HaveKeys, has_where, is_mentioned, is_quiet_by, quiet_of, not_from_false, false_from_ne_true, cases_Bool, drop-map, gathers_both, gathers_like, in_mask, without_keys, AreOpenMentions, HasMentionedIn, is_answering, is_awake, is_unmentioned_in, IsNonDecreasing, IsNonDecreasingBy-push, IsKey, mirror_below, mirror_of_uid}
 use Rattle.vic_verdict.proofs.Replying.{tells_own}
 use Rattle.vic_verdict.proofs.Silencing.{silenced_later}
 use Rattle.vic_verdict.proofs.Supplied.{UpToThree-same}

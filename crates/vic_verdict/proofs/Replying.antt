@@ -1,7 +1,5 @@
 -- Whether somebody was heard while Quiet, by mentions in the order of their keys.
-use Rattle.std.proofs.Common.{◌≡◌, ℕ, ◌+◌, ◌-◌, ◌<◌, ◌≤◌, ◌==◌, List, length, get_or, [], ◌∷◌, Bool, true, ◌&&◌, refl, sym, ap, ◌∙◌, subst, arith, ⊎_elim, ◌⊎◌, nat_lt, eq-eqb, eqb-true, All}
-use Rattle.vic_verdict.proofs.Words.{nat_tests, cases_eq, and_parts, and_from, list_any, get_or_default, All-head, All-tail, list_any_at, Any-from_list_any, Mention, NEVER, reply_place, IsFirstQuietReply, is_between, quiet_of, is_quiet_by, has_where, AreInOrder, lt_from, lt_yes}
-use Rattle.vic_verdict.specs.inner.Replies.{is_quiet_reply, IsQuietReply}
+use Rattle.vic_verdict.proofs.Words.{◌≡◌, ℕ, ◌+◌, ◌-◌, ◌<◌, ◌≤◌, ◌==◌, List, length, get_or, [], ◌∷◌, Bool, true, ◌&&◌, refl, sym, ap, ◌∙◌, subst, arith, ⊎_elim, ◌⊎◌, nat_lt, eq-eqb, eqb-true, All, nat_tests, cases_eq, and_parts, and_from, list_any, get_or_default, All-head, All-tail, list_any_at, Any-from_list_any, Mention, NEVER, reply_place, IsFirstQuietReply, is_between, quiet_of, is_quiet_by, has_where, AreInOrder, lt_from, lt_yes, is_quiet_reply, IsQuietReply}
 use Rattle.vic_verdict.proofs.Closing.{between_from}
 use Rattle.vic_verdict.proofs.Sweeping.{nobody}
 

@@ -1,6 +1,5 @@
 -- A search over the numbers below a bound, to decide, and never to be run.
-use Rattle.std.proofs.Common.{◌≡◌, ℕ, zero, suc, ◌<◌, Bool, true, false, subst, arith, inl, inr, ⊎_elim, ◌⊎◌, ◌↔◌}
-use Rattle.vic_verdict.proofs.Words.{cases_Bool, false_from_ne_true, cases_eq, cases_lt, both_ways, IsLeast, NoSuch}
+use Rattle.vic_verdict.proofs.Words.{◌≡◌, ℕ, zero, suc, ◌<◌, Bool, true, false, subst, arith, inl, inr, ⊎_elim, ◌⊎◌, ◌↔◌, cases_Bool, false_from_ne_true, cases_eq, cases_lt, both_ways, IsLeast, NoSuch}
 
 -- P holds or it doesn't
 abbrev pub Either : Type 0 → Type 0

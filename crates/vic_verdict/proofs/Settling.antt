@@ -1,10 +1,6 @@
 -- What the lines of a log leave open up to a position at which a reply could not be.
-use Rattle.std.proofs.Common.{◌≡◌, ℕ, ◌+◌, ◌<◌, ◌≤◌, ◌&&◌, List, [], length, take, Bool, Some, refl, sym, ap, ◌∙◌, subst, arith, false, inl, inr, add-one, slice_get, length-take-le}
-use Rattle.vic_verdict.proofs.Words.{cases_eq, and_true, Reply, is_quiet, length-map, take-map, slice_get_within, mirror, SameUids, is_outside, Entry, Heard, FieldCycle, LogLine, entries, slots_before, is_open, AgreeBefore, answers_agree, ReadSlot, Mention, Demand, Stretch, AreKept, needs, IsContradictedAt, IsFirstQuietReply, all_allow_to, ArePutInOrder}
+use Rattle.vic_verdict.proofs.Words.{◌≡◌, ℕ, ◌+◌, ◌<◌, ◌≤◌, ◌&&◌, List, [], length, take, Bool, Some, refl, sym, ap, ◌∙◌, subst, arith, false, inl, inr, add-one, slice_get, length-take-le, cases_eq, and_true, Reply, is_quiet, length-map, take-map, slice_get_within, mirror, SameUids, is_outside, Entry, Heard, FieldCycle, LogLine, entries, slots_before, is_open, AgreeBefore, answers_agree, ReadSlot, Mention, Demand, Stretch, AreKept, needs, IsContradictedAt, IsFirstQuietReply, all_allow_to, ArePutInOrder, Keeps, Answers, IsQuietReply, HasGathered, IsSettled}
 use Rattle.vic_verdict.specs.declared.stretches.Settled.{Settled}
-use Rattle.vic_verdict.specs.inner.Asked.{Keeps}
-use Rattle.vic_verdict.specs.inner.Replies.{Answers, IsQuietReply}
-use Rattle.vic_verdict.specs.inner.Stretches.{HasGathered, IsSettled}
 use Rattle.vic_verdict.proofs.Demanding.{kept_first, kept_cycle, kept_to}
 use Rattle.vic_verdict.proofs.Heard.{AreHeard, are_heard, answers_before, quiet_contradicts, quiet_since}
 use Rattle.vic_verdict.proofs.Lacking.{taken, open_agrees}

@@ -1,6 +1,5 @@
 -- What the Stay Quiets since the last field cycle tell, from position to position.
-use Rattle.std.proofs.Common.{◌≡◌, ℕ, ◌<◌, ◌≤◌, ◌==◌, ◌^◌, List, [], ◌∷◌, Bool, true, ◌&&◌, sym, ◌∙◌, subst, arith, nat_lt, IsPermutation}
-use Rattle.vic_verdict.proofs.Words.{false≢true, nat_tests, All-permutation, list_any-IsPermutation, Mention, AreInOrder, keep_all, quiet_of, is_quiet_by, ArePutInOrder}
+use Rattle.vic_verdict.proofs.Words.{◌≡◌, ℕ, ◌<◌, ◌≤◌, ◌==◌, ◌^◌, List, [], ◌∷◌, Bool, true, ◌&&◌, sym, ◌∙◌, subst, arith, nat_lt, IsPermutation, false≢true, nat_tests, All-permutation, list_any-IsPermutation, Mention, AreInOrder, keep_all, quiet_of, is_quiet_by, ArePutInOrder}
 use Rattle.vic_verdict.proofs.Sweeping.{keep-order, keep-keys, keep-quiet}
 
 pub silenced_permuted : (ns ms : List Mention) (k i : ℕ) → IsPermutation ns ms → is_quiet_by ms k i ≡ is_quiet_by ns k i

@@ -1,6 +1,5 @@
 -- The entries of a log's lines, and which UIDs are open from one to the next.
-use Rattle.std.proofs.Common.{◌≡◌, ℕ, ◌+◌, ◌<◌, List, Bool, true, ◌&&◌, Some, refl, sym, ap, ◌∙◌, subst, add-one, length, get_or, slice_get, option_map}
-use Rattle.vic_verdict.proofs.Words.{slice_get_read, IsUid, SameUids, Entry, LogLine, answers_at, reading_of, slots_before, is_open, entries, is_uid_from, and_true, slice_get-map}
+use Rattle.vic_verdict.proofs.Words.{◌≡◌, ℕ, ◌+◌, ◌<◌, List, Bool, true, ◌&&◌, Some, refl, sym, ap, ◌∙◌, subst, add-one, length, get_or, slice_get, option_map, slice_get_read, IsUid, SameUids, Entry, LogLine, answers_at, reading_of, slots_before, is_open, entries, is_uid_from, and_true, slice_get-map}
 use Rattle.vic_verdict.proofs.Entries.{entry_allows, open_step}
 
 -- the entry of a line

@@ -1,13 +1,5 @@
 -- What is gathered between two field cycles, entry by entry, and which UIDs it leaves open.
-use Rattle.std.proofs.Common.{◌≡◌, ◌⊎◌, ℕ, zero, suc, ◌+◌, ◌^◌, ◌<◌, ◌≤◌, ◌==◌, List, [], ◌∷◌, ◌++◌, Bool, true, false, not, ◌&&◌, ◌||◌, Option, Some, None, All, Any, nat_le, slice_get, refl, sym, ap, ◌∙◌, subst, arith, inl, inr, eq-eqb, add-one}
-use Rattle.vic_verdict.proofs.Words.{All-head, All-tail, All-push, IsUid, mirror, Entry, Heard, Silent, Reply, KeyBlock, is_in_some_block, wakes, is_quiet, is_quiet_by, Mention, ReadSlot, Demand, nat_tests, cases_lt, cases_eq, and_true, both_ways, lies_in_some, mask_at, answers_at, slots_before, is_open, SameUids, HaveKeys, is_heard, heard_of, list_all, read_allows, all_allow, all_allow_to, all_hear_mentioned, rules_out}
-use Rattle.std.proofs.lemmas.List.Elements.{All-nil, All-weaker}
-use Rattle.std.proofs.lemmas.List.Quantifiers.{Any-push}
-use Rattle.std.proofs.lemmas.List.Sums.{AllPass-from_list_all, list_all-from_AllPass}
-use Rattle.vic_tree.proofs.BoolLaws.{same_tests}
-use Rattle.vic_verdict.specs.inner.Asked.{AreAsked}
-use Rattle.vic_verdict.specs.inner.Stretches.{mentions_at, mentions_from, AddsReadSlot, HasRead, IsReadSlot, NobodyAt, HasGathered}
-use Rattle.vic_verdict.specs.inner.Sweep.{AreUnsettled, are_left, hears_mentioned, HasRange}
+use Rattle.vic_verdict.proofs.Words.{◌≡◌, ◌⊎◌, ℕ, zero, suc, ◌+◌, ◌^◌, ◌<◌, ◌≤◌, ◌==◌, List, [], ◌∷◌, ◌++◌, Bool, true, false, not, ◌&&◌, ◌||◌, Option, Some, None, All, Any, nat_le, slice_get, refl, sym, ap, ◌∙◌, subst, arith, inl, inr, eq-eqb, add-one, All-head, All-tail, All-push, IsUid, mirror, Entry, Heard, Silent, Reply, KeyBlock, is_in_some_block, wakes, is_quiet, is_quiet_by, Mention, ReadSlot, Demand, nat_tests, cases_lt, cases_eq, and_true, both_ways, lies_in_some, mask_at, answers_at, slots_before, is_open, SameUids, HaveKeys, is_heard, heard_of, list_all, read_allows, all_allow, all_allow_to, all_hear_mentioned, rules_out, All-nil, All-weaker, Any-push, AllPass-from_list_all, list_all-from_AllPass, same_tests, AreAsked, mentions_at, mentions_from, AddsReadSlot, HasRead, IsReadSlot, NobodyAt, HasGathered, AreUnsettled, are_left, hears_mentioned, HasRange}
 use Rattle.vic_verdict.proofs.Demanding.{any_kept, asked_anew}
 use Rattle.vic_verdict.proofs.Lacking.{place_allows, open_place}
 use Rattle.vic_verdict.proofs.Mentioning.{heard_key, heard_mentioned, mentions_keys, mentions_left, mentions_next, mentions_none, quiet_mentions}

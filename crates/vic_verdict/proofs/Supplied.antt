@@ -1,6 +1,5 @@
 -- What is asked of the open UIDs is what makes a log possible.
-use Rattle.std.proofs.Common.{◌≡◌, ℕ, List, length, Bool, Some, sym, ◌∙◌, slice_get}
-use Rattle.vic_verdict.proofs.Words.{slice_get_within, UpToThree, Entry, reading_of, slots_of, is_open, IsPossible, answering}
+use Rattle.vic_verdict.proofs.Words.{◌≡◌, ℕ, List, length, Bool, Some, sym, ◌∙◌, slice_get, slice_get_within, UpToThree, Entry, reading_of, slots_of, is_open, IsPossible, answering}
 use Rattle.vic_verdict.proofs.Decide.{IsPossible-iff}
 use Rattle.vic_verdict.proofs.Entries.{EntryAsks, SuppliesBefore, SuppliesAll-places}
 

@@ -1,13 +1,6 @@
 -- What the slots between two field cycles leave, mention by mention.
-use Rattle.std.proofs.Common.{◌≡◌, ℕ, ◌+◌, ◌-◌, ◌<◌, ◌≤◌, ◌==◌, List, [], ◌∷◌, length, take, filter, get_or, set, Bool, true, false, not, ◌&&◌, ◌||◌, Option, Some, None, refl, sym, ap, ◌∙◌, subst, arith, ◌++◌, inl, inr, ⊎_elim, ◌^◌, nat_lt, All, eqb-true, ext_get_or, get_or-set_same, get_or-set_other, length-set, IsPermutation}
-use Rattle.vic_verdict.proofs.Words.{cases_Bool, false_from_ne_true, length-map, list_all, list_any, cases_eq, cases_lt, false≢true, and_parts, and_from, or_cases, or_left, or_right, nat_tests, get_or-map, get_or_default, All-head, All-tail, Mention, ReadSlot, Run, is_between, quiet_of, first_of, last_of, heard_of, is_heard, is_in, all_leave, level_leaves, mask_leaves, run_leaves, keep_all, has_where, has_left, is_quiet_by, read_allows, all_allow, all_allow_to, is_mentioned, is_mentioned_if, all_hear_mentioned, AreInOrder, HaveKeys, list_any-IsPermutation, and_true, both_ways, lt_from, lt_yes}
-use Rattle.std.proofs.lemmas.List.Elements.{All-filter, All-from_get_or, All-map, All-weaker}
-use Rattle.std.proofs.lemmas.List.Folds.{list_all_more, list_any_none, map_fixed}
-use Rattle.std.proofs.lemmas.List.Sums.{AllPass-from_list_all, list_all-from_AllPass}
+use Rattle.vic_verdict.proofs.Words.{◌≡◌, ℕ, ◌+◌, ◌-◌, ◌<◌, ◌≤◌, ◌==◌, List, [], ◌∷◌, length, take, filter, get_or, set, Bool, true, false, not, ◌&&◌, ◌||◌, Option, Some, None, refl, sym, ap, ◌∙◌, subst, arith, ◌++◌, inl, inr, ⊎_elim, ◌^◌, nat_lt, All, eqb-true, ext_get_or, get_or-set_same, get_or-set_other, length-set, IsPermutation, cases_Bool, false_from_ne_true, length-map, list_all, list_any, cases_eq, cases_lt, false≢true, and_parts, and_from, or_cases, or_left, or_right, nat_tests, get_or-map, get_or_default, All-head, All-tail, Mention, ReadSlot, Run, is_between, quiet_of, first_of, last_of, heard_of, is_heard, is_in, all_leave, level_leaves, mask_leaves, run_leaves, keep_all, has_where, has_left, is_quiet_by, read_allows, all_allow, all_allow_to, is_mentioned, is_mentioned_if, all_hear_mentioned, AreInOrder, HaveKeys, list_any-IsPermutation, and_true, both_ways, lt_from, lt_yes, All-filter, All-from_get_or, All-map, All-weaker, list_all_more, list_any_none, map_fixed, AllPass-from_list_all, list_all-from_AllPass, slot_leaves, read_leaves, keep, hears_mentioned, are_left, IsStart, take-append_seam, and_thrice, same_tests}
 use Rattle.vic_verdict.specs.declared.sweep.Level.{Level}
-use Rattle.vic_verdict.specs.inner.Sweep.{slot_leaves, read_leaves, keep, hears_mentioned, are_left, IsStart}
-use Rattle.std.proofs.Math.Seq.{take-append_seam}
-use Rattle.vic_tree.proofs.BoolLaws.{and_thrice, same_tests}
 
 -- ---- mentions that are kept
 

@@ -1,10 +1,5 @@
 -- The main theorem says the same in the words of each version.
-use Rattle.std.proofs.Common.{◌≡◌, ◌⊎◌, inl, inr, ℕ, zero, suc, true, false, not, ◌&&◌, List, [], ◌∷◌, Option, Some, None, refl, sym, ap, subst, ◌∙◌, arith, ⊎_elim, ◌↔◌, slice_get, filter}
-use Rattle.vic_verdict.proofs.Words.{cases_eq, and_parts, and_from, both_ways, false_from_ne_true, not-true, has, AreDifferent, Entry, Silent, Collision, Heard, Garbled, FieldCycle, LogLine, entries, IsPopulation, answers_at, CouldHaveGiven, silences, wakes, is_quiet, mask_at, lies_in_some, has_here, has_there, has_cases, has_filter, AreDifferent-population, AreDifferent-filter, IsVerdict, Complete, or_parts, filter_has, IsWhole, has_at, and_cases, not-false}
-use Rattle.vic_log.specs.FirstVersion.{AreOfFirstVersion, CouldHaveGivenFirst}
-use Rattle.vic_log.specs.Populations.{Outcome, Nobody, Lone, Several, outcome_of, outcome_at, Fits}
-use Rattle.vic_log.proofs.FirstVersion.{given-first}
-use Rattle.vic_log.proofs.Quiet.{quiet-silenced}
+use Rattle.vic_verdict.proofs.Words.{◌≡◌, ◌⊎◌, inl, inr, ℕ, zero, suc, true, false, not, ◌&&◌, List, [], ◌∷◌, Option, Some, None, refl, sym, ap, subst, ◌∙◌, arith, ⊎_elim, ◌↔◌, slice_get, filter, cases_eq, and_parts, and_from, both_ways, false_from_ne_true, not-true, has, AreDifferent, Entry, Silent, Collision, Heard, Garbled, FieldCycle, LogLine, entries, IsPopulation, answers_at, CouldHaveGiven, silences, wakes, is_quiet, mask_at, lies_in_some, has_here, has_there, has_cases, has_filter, AreDifferent-population, AreDifferent-filter, IsVerdict, Complete, or_parts, filter_has, IsWhole, has_at, and_cases, not-false, AreOfFirstVersion, CouldHaveGivenFirst, Outcome, Nobody, Lone, Several, outcome_of, outcome_at, Fits, given-first, quiet-silenced}
 use Rattle.vic_verdict.specs.TwoVersions.{HasExactlyListed, IsWholeFirst, IsReady, Answers, AnswersAlone, SeveralAnswer, IsToldOf, CouldHaveGivenSecond, IsWholeSecond}
 use Rattle.vic_verdict.proofs.Verdicts.{complete_whole}
 

@@ -1,13 +1,7 @@
 -- Each log has exactly one verdict.
-use Rattle.std.proofs.Common.{◌≡◌, ℕ, suc, ◌<◌, ◌≤◌, ◌+◌, ◌^◌, List, [], ◌∷◌, ◌++◌, length, Bool, true, false, cond, refl, sym, ap, ◌∙◌, subst, arith, inl, inr, ⊎_elim, ◌⊎◌, ◌↔◌, nat_le, leb, filter, le_refl, le_of_lt, le-leb, leb-true, leb-false, sum_by}
-use Rattle.vic_verdict.proofs.Words.{cases_Bool, cases_lt, both_ways, BitMask, Entry, LogLine, Impossible, Complete, lies_in, has, is_uid, IsUid, IsPossible, IsPossibleUid, IsCertainUid, entries, IsRisingFrom, listed, IsAbsent, IsUnlisted, IsUnsettled, IsDoubtful, IsLeast, IsFirstMask, NoSuch, IsVerdict, is_uid_from, IsUid-from, true_from_ne_false, lt-leb, IsUid-member, entries_to, IsWhole, IsReached}
+use Rattle.vic_verdict.proofs.Words.{◌≡◌, ℕ, suc, ◌<◌, ◌≤◌, ◌+◌, ◌^◌, List, [], ◌∷◌, ◌++◌, length, Bool, true, false, cond, refl, sym, ap, ◌∙◌, subst, arith, inl, inr, ⊎_elim, ◌⊎◌, ◌↔◌, nat_le, leb, filter, le_refl, le_of_lt, le-leb, leb-true, leb-false, sum_by, cases_Bool, cases_lt, both_ways, BitMask, Entry, LogLine, Impossible, Complete, lies_in, has, is_uid, IsUid, IsPossible, IsPossibleUid, IsCertainUid, entries, IsRisingFrom, listed, IsAbsent, IsUnlisted, IsUnsettled, IsDoubtful, IsLeast, IsFirstMask, NoSuch, IsVerdict, is_uid_from, IsUid-from, true_from_ne_false, lt-leb, IsUid-member, entries_to, IsWhole, IsReached, sum_by_more_le, Version, IsLog, AreLogLines, Absent, Unlisted, Unsettled, Doubtful}
 use Rattle.vic_verdict.proofs.Failing.{place_of}
-use Rattle.std.proofs.lemmas.List.Sums.{sum_by_more_le}
-use Rattle.vic_log.specs.declared.entry.Version.{Version}
-use Rattle.vic_log.specs.Log.{IsLog}
-use Rattle.vic_verdict.specs.LogLines.{AreLogLines}
 use Rattle.vic_verdict.specs.declared.judging.Verdict.{Verdict}
-use Rattle.vic_verdict.specs.declared.judging.Verdict.TheVariants.{Absent, Unlisted, Unsettled, Doubtful}
 use Rattle.vic_verdict.proofs.Search.{Either, test_either, false_either, not_either, and_either, least_of, least_or_none}
 use Rattle.vic_verdict.proofs.Populations.{uid_end, uid_below}
 use Rattle.vic_verdict.proofs.Possibility.{IsPossible-front, Heard-certain}

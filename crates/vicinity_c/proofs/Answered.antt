@@ -1,14 +1,5 @@
 -- What is answered to arrays, and the kinds of these answers.
-use Rattle.std.proofs.Common.{◌≡◌, ℕ, List, [], ◌∷◌, Option, Some, None, length, map, refl, sym, ap, subst, ◌∙◌, arith, inl, inr, ◌<◌}
-use Rattle.vicinity_c.proofs.Words.{BitMask, AreNoneOf, AreTogether, IsPutInto, first_of, plain_answer, VicinityMask, HaveNoFault, faults_of, mask_in, AreFindingsBy}
-use Rattle.vic_log.specs.declared.entry.LogLine.{LogLine}
-use Rattle.vic_reconcile.specs.declared.surveys.PlainFindings.{PlainFindings}
-use Rattle.vic_reconcile.specs.Findings.{IsWhole}
-use Rattle.vic_answer.specs.declared.check.Answer.TheVariants.{Judged}
-use Rattle.vic_answer.specs.declared.finding_numbers.VicinityFinding.{VicinityFinding}
-use Rattle.vic_answer.specs.declared.numbers.VicinityAnswer.{VicinityAnswer}
-use Rattle.vic_answer.specs.Numbers.{numbers_of}
-use Rattle.vicinity_c.specs.Reconciled.{AreReconciled, AreRefused, IsReconciledBy, AreCompared}
+use Rattle.vicinity_c.proofs.Words.{◌≡◌, ℕ, List, [], ◌∷◌, Option, Some, None, length, map, refl, sym, ap, subst, ◌∙◌, arith, inl, inr, ◌<◌, BitMask, AreNoneOf, AreTogether, IsPutInto, first_of, plain_answer, VicinityMask, HaveNoFault, faults_of, mask_in, AreFindingsBy, LogLine, PlainFindings, IsWhole, Judged, VicinityFinding, VicinityAnswer, numbers_of, AreReconciled, AreRefused, IsReconciledBy, AreCompared}
 
 -- ---- the kinds of the answers
 

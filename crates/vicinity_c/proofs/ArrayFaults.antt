@@ -1,16 +1,5 @@
 -- The first fault of arrays.
-use Rattle.std.proofs.Common.{◌≡◌, ℕ, zero, suc, ◌+◌, ◌<◌, ◌≤◌, List, [], ◌∷◌, ◌++◌, Bool, true, false, ◌||◌, cond, length, map, take, Some, refl, sym, ap, subst, ◌∙◌, ⊎_elim, arith, append-nil, append_assoc, length-append, nat_cmp, nat_eq, slice_get, option_map}
-use Rattle.vicinity_c.proofs.Words.{length-map, take-append-le, take_all, take_more, get_or_from_slice_get, slice_get_within, IsUid, has, VicinityMask, HaveNoFault, IsFirst, expected_fault, expected_faults, faults_behind, faults_of, mask_fault, uid_fault, slice_get-map}
-use Rattle.vic_log.proofs.Places.{slice_get-append}
-use Rattle.std.specs.BTreeMap.{is_at}
-use Rattle.std.proofs.lemmas.Bool.{cases_eq, false_from_ne_true, false≢true, or_right}
-use Rattle.std.proofs.lemmas.Grind.{common_steps}
-use Rattle.std.proofs.lemmas.List.Folds.{list_any-append}
-use Rattle.std.proofs.lemmas.List.Elements.{All-append, All-push}
-use Rattle.std.proofs.Math.Bool.{or-false}
-use Rattle.std.proofs.Math.Seq.{take-append-add}
-use Rattle.vic_log.proofs.Sets.{has_at, has_cases}
-use Rattle.vic_log.proofs.Supply.{is_uid_from}
+use Rattle.vicinity_c.proofs.Words.{◌≡◌, ℕ, zero, suc, ◌+◌, ◌<◌, ◌≤◌, List, [], ◌∷◌, ◌++◌, Bool, true, false, ◌||◌, cond, length, map, take, Some, refl, sym, ap, subst, ◌∙◌, ⊎_elim, arith, append-nil, append_assoc, length-append, nat_cmp, nat_eq, slice_get, option_map, length-map, take-append-le, take_all, take_more, get_or_from_slice_get, slice_get_within, IsUid, has, VicinityMask, HaveNoFault, IsFirst, expected_fault, expected_faults, faults_behind, faults_of, mask_fault, uid_fault, slice_get-map, slice_get-append, is_at, cases_eq, false_from_ne_true, false≢true, or_right, common_steps, list_any-append, All-append, All-push, or-false, take-append-add, has_at, has_cases, is_uid_from}
 
 -- ---- one list of faults behind another
 

@@ -1,5 +1,5 @@
 -- A CRC as two bytes.
-use Rattle.std.proofs.Common.{◌≡◌, ℕ, ◌/◌, ◌%◌, ◌<◌, List, [], ◌∷◌, ◌++◌, arith, refl, append_assoc, ap, ◌∙◌, sym}
+use Rattle.vicinity_c.proofs.Words.{◌≡◌, ℕ, ◌/◌, ◌%◌, ◌<◌, List, [], ◌∷◌, ◌++◌, arith, refl, append_assoc, ap, ◌∙◌, sym}
 use Rattle.vic_frame.specs.Bytes.{bytes_of}
 
 two_bytes : (n : ℕ) → n < 65536 → bytes_of 2 n ≡ n % 256 ∷ n / 256 ∷ []

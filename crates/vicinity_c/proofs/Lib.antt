@@ -1,4 +1,4 @@
-pub mod Words
+mod Words
 mod CrcBytes
 mod ListedLines
 mod ArrayFaults

@@ -1,10 +1,5 @@
 -- UIDs on lines after a text.
-use Rattle.std.proofs.Common.{◌≡◌, ℕ, ◌+◌, ◌<◌, suc, List, [], ◌∷◌, ◌++◌, length, drop, drop-cons, slice_index, ap, sym, ◌∙◌, append_assoc, append-nil, arith, w64}
-use Rattle.vicinity_c.proofs.Words.{drop_all, entry_text, listed_text}
-use Rattle.std.specs.Int.{to_be_bytes}
-use Rattle.vic_log.specs.declared.entry.Entry.TheVariants.{Listed}
-use Rattle.vic_log.specs.Lines.{lf}
-use Rattle.vicinity_c.specs.Lines.{bytes_line}
+use Rattle.vicinity_c.proofs.Words.{◌≡◌, ℕ, ◌+◌, ◌<◌, suc, List, [], ◌∷◌, ◌++◌, length, drop, drop-cons, slice_index, ap, sym, ◌∙◌, append_assoc, append-nil, arith, w64, drop_all, entry_text, listed_text, to_be_bytes, Listed, lf, bytes_line}
 
 -- one line more
 pub next_uid : (text : List ℕ) (us : List ℕ) (i : ℕ) → i < length us

@@ -1,13 +1,42 @@
--- The words of proofs, from one place: what is from outside, by the modules that several files name.
+-- The words of proofs, from one place: what files name from outside of the crate, and the definitions that several of them name.
+pub use Rattle.std.proofs.Common.{Bool, Err, List, None, Ok, Option, Some, [], add-one, ap, append-nil, append_assoc, arith, cond, drop, drop-cons, false, get_or, inl, inr, length, length-append, map, nat_cmp, nat_eq, option_map, refl, replicate, slice_get, slice_index, subst, suc, sym, take, true, w64, zero, ℕ, ⊎_elim, ◌%◌, ◌++◌, ◌+◌, ◌/◌, ◌<◌, ◌||◌, ◌∙◌, ◌∷◌, ◌≡◌, ◌≤◌}
+pub use Rattle.std.proofs.Math.Bool.{or-false}
+pub use Rattle.std.proofs.Math.ListN.{set}
+pub use Rattle.std.proofs.Math.Seq.{take-append-add}
+pub use Rattle.std.proofs.lemmas.Bool.{cases_eq, false_from_ne_true, false≢true, not-true, or_right}
+pub use Rattle.std.proofs.lemmas.Grind.{common_steps}
 pub use Rattle.std.proofs.lemmas.List.{drop-replicate, drop_all, length-map, length-take-le, map-append, map-id, take-append-le, take_all, take_more}
+pub use Rattle.std.proofs.lemmas.List.Elements.{All-append, All-push}
+pub use Rattle.std.proofs.lemmas.List.Folds.{list_any-append}
 pub use Rattle.std.proofs.lemmas.Option.{get_or_from_slice_get, slice_get-get_or, slice_get-map, slice_get_within}
+pub use Rattle.std.proofs.lemmas.Result.{IfOk-weaker}
+pub use Rattle.std.specs.BTreeMap.{is_at}
 pub use Rattle.std.specs.BTreeSet.{contains}
+pub use Rattle.std.specs.Int.{to_be_bytes}
+pub use Rattle.vic_frame.specs.Bytes.{bytes_of}
+pub use Rattle.vic_frame.specs.Crc.{with_crc}
 pub use Rattle.vic_frame.specs.Masks.{BitMask}
 pub use Rattle.vic_frame.specs.Uids.{IsUid, has}
+pub use Rattle.vic_log.proofs.Places.{slice_get-append}
+pub use Rattle.vic_log.proofs.Sets.{has_at, has_cases}
+pub use Rattle.vic_log.proofs.Supply.{is_uid_from}
+pub use Rattle.vic_log.specs.Lines.{lf}
 pub use Rattle.vic_log.specs.Writing.{entry_text, listed_text}
+pub use Rattle.vic_log.specs.declared.entry.Entry.TheVariants.{Listed}
+pub use Rattle.vic_log.specs.declared.entry.LogLine.{LogLine}
+pub use Rattle.vic_reconcile.specs.Families.{IsCertainUid, IsPossibleUid}
+pub use Rattle.vic_reconcile.specs.Findings.{IsWhole}
 pub use Rattle.vic_reconcile.specs.Surveys.{AreCertainIn, AreFindingsBy, AreNoneOf, AreOpenIn, AreTogether, IsAmong, MayBe}
+pub use Rattle.vic_reconcile.specs.declared.surveys.PlainFindings.{PlainFindings}
+pub use Rattle.vic_answer.specs.CheckText.{IsCompleteText}
 pub use Rattle.vic_answer.specs.ExplainedNumbers.{IsPutInto}
+pub use Rattle.vic_answer.specs.Numbers.{numbers_of}
 pub use Rattle.vic_answer.specs.SurveyNumbers.{IsAnswerWith, first_of, plain_answer, refusal_numbers}
+pub use Rattle.vic_answer.specs.declared.check.Answer.TheVariants.{Judged}
+pub use Rattle.vic_answer.specs.declared.finding_numbers.VicinityFinding.{VicinityFinding}
+pub use Rattle.vic_answer.specs.declared.numbers.VicinityAnswer.{VicinityAnswer}
 pub use Rattle.vicinity_c.specs.Arrays.{AreRead, HaveNoFault, IsFirst, IsFirstFault, IsNextRead, expected_fault, expected_faults, faults_behind, faults_of, mask_fault, mask_in, uid_fault}
 pub use Rattle.vicinity_c.specs.Inventory.{mask_fields}
+pub use Rattle.vicinity_c.specs.Lines.{bytes_line}
+pub use Rattle.vicinity_c.specs.Reconciled.{AreCompared, AreReconciled, AreRefused, IsReconciledBy}
 pub use Rattle.vicinity_c.specs.declared.inventory.VicinityMask.{VicinityMask}

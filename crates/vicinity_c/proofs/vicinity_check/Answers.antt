@@ -1,6 +1,4 @@
-use Rattle.std.proofs.Common.{ℕ, ap, ◌∙◌, sym, arith, subst}
-use Rattle.vic_answer.specs.declared.numbers.VicinityAnswer.{VicinityAnswer}
-use Rattle.vic_answer.specs.CheckText.{IsCompleteText}
+use Rattle.vicinity_c.proofs.Words.{ℕ, ap, ◌∙◌, sym, arith, subst, VicinityAnswer, IsCompleteText}
 use Rattle.vicinity_c.proofs.vicinity_check.Goals as goal
 use Rattle.vicinity_c.proofs.vicinity_check.Goals.{in-Ok, in-Err}
 

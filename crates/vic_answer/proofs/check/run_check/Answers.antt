@@ -1,5 +1,4 @@
-use Rattle.std.proofs.Common.{refl, Some}
-use Rattle.vic_answer.proofs.Words.{IsCheckOf, answer_line, answer_status}
+use Rattle.vic_answer.proofs.Words.{refl, Some, IsCheckOf, answer_line, answer_status}
 use Rattle.vic_answer.proofs.CheckLines.{check_tells}
 use Rattle.vic_answer.proofs.CompleteRuns.{complete_where_said, complete_where_written}
 use Rattle.vic_answer.proofs.Standing.{ends_written}

@@ -1,8 +1,5 @@
-use Rattle.std.proofs.Common.{◌≡◌, List, ℕ, [], ◌++◌, Some, length, ap, sym, ◌∙◌, append_assoc, arith, option_map, unwrap_or}
-use Rattle.vic_answer.proofs.Words.{answer_line}
-use Rattle.vic_log.specs.Writing.{listed_text}
-use Rattle.vic_answer.specs.declared.explain.Explained.{Explained}
-use Rattle.vic_answer.specs.ExplainText.{answer_of, population_of, population_line, population_text, explained_text, uids_of}
+use Rattle.vic_answer.proofs.Words.{◌≡◌, List, ℕ, [], ◌++◌, Some, length, ap, sym, ◌∙◌, append_assoc, arith, option_map, unwrap_or, answer_line, listed_text, Explained, population_of, population_line, population_text, explained_text}
+use Rattle.vic_answer.specs.ExplainText.{answer_of, uids_of}
 use Rattle.vic_answer.proofs.explain.opening.Goals as goal
 
 with_population : (e : Explained) (us text : List ℕ) → population_of e ≡ Some us → text ≡ answer_line (answer_of e) ++ population_line (length us) → text ++ listed_text (uids_of e) ≡ explained_text e

@@ -1,4 +1,4 @@
-use Rattle.std.proofs.Common.{append_assoc}
+use Rattle.vic_answer.proofs.Words.{append_assoc}
 use Rattle.vic_answer.proofs.explain.put_size.Goals as goal
 
 pub returns : goal.returns

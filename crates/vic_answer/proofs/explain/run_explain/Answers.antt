@@ -1,6 +1,5 @@
-use Rattle.std.proofs.Common.{refl, Some}
-use Rattle.vic_answer.proofs.Words.{answer_status}
-use Rattle.vic_answer.specs.ExplainText.{IsExplanationOf, answer_of, explained_text}
+use Rattle.vic_answer.proofs.Words.{refl, Some, answer_status, IsExplanationOf, explained_text}
+use Rattle.vic_answer.specs.ExplainText.{answer_of}
 use Rattle.vic_answer.proofs.CheckLines.{explanation_tells}
 use Rattle.vic_answer.proofs.CompleteRuns.{complete_where_said, complete_where_written}
 use Rattle.vic_answer.proofs.Standing.{ends_written}

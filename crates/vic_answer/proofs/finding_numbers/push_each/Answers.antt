@@ -1,5 +1,4 @@
-use Rattle.std.proofs.Common.{[], ◌∷◌, ◌++◌, take, map, sym, ap, ◌∙◌, append_assoc, arith}
-use Rattle.vic_answer.proofs.Words.{take_all, map_more}
+use Rattle.vic_answer.proofs.Words.{[], ◌∷◌, ◌++◌, take, map, sym, ap, ◌∙◌, append_assoc, arith, take_all, map_more}
 use Rattle.vic_answer.proofs.finding_numbers.push_each.Goals as goal
 
 pub loop-item-preserved : goal.loop-item-preserved

@@ -1,4 +1,4 @@
-use Rattle.std.proofs.Common.{◌≡◌, ◌++◌, take, map}
+use Rattle.vic_answer.proofs.Words.{◌≡◌, ◌++◌, take, map}
 use Rattle.vic_answer.specs.declared.finding_numbers.VicinityFinding.{VicinityFinding}
 use Rattle.vic_answer.proofs.finding_numbers.push_each.Given as goal
 

@@ -1,4 +1,4 @@
-use Rattle.std.proofs.Common.{ap, ◌∙◌}
+use Rattle.vic_answer.proofs.Words.{ap, ◌∙◌}
 use Rattle.vic_answer.specs.FrameText.{readings_text, readings_status}
 use Rattle.vic_answer.proofs.Decoded.{decoded_bytes}
 use Rattle.vic_answer.proofs.frame.decoded.Goals as goal

@@ -1,10 +1,5 @@
-use Rattle.std.proofs.Common.{◌≡◌, ℕ, List, Option, Some, None, Err, inl, inr, ⊎_elim, subst}
-use Rattle.vic_answer.proofs.Words.{Consumes, HandsOut, TellsOn, lines_of_text, IsFirstFault, Stands}
-use Rattle.vic_log.specs.declared.fault.LineFault.{LineFault}
-use Rattle.vic_log.specs.declared.fault.LogFault.{LogFault}
-use Rattle.vic_log.specs.declared.fault.LogFault.TheVariants.{Line, Read}
-use Rattle.vic_log.specs.Early.{HasNoEarlyFault, ReadsWhere}
-use Rattle.vic_answer.specs.declared.input.Reading.TheVariants.{RefusedAt}
+use Rattle.vic_answer.proofs.Words.{◌≡◌, ℕ, List, Option, Some, None, Err, inl, inr, ⊎_elim, subst, Consumes, HandsOut, TellsOn, lines_of_text, IsFirstFault, Stands, LineFault, LogFault, Line, HasNoEarlyFault, ReadsWhere, RefusedAt}
+use Rattle.vic_log.specs.declared.fault.LogFault.TheVariants.{Read}
 use Rattle.vic_answer.proofs.input.read_source.Goals as goal
 
 consumed : (a b : Option (List ℕ)) (xs : List ℕ) → HandsOut a b xs → TellsOn a b → Consumes a b xs

@@ -1,7 +1,4 @@
-use Rattle.std.proofs.Common.{ap, sym, ◌∙◌, ◌++◌, codes, subst, IfOk}
-use Rattle.vic_answer.proofs.Words.{encode_upper, SpellsRequest, SpellsReply, spelled_text}
-use Rattle.vic_frame.proofs.RequestLaws.{request_found}
-use Rattle.vic_frame.proofs.ReplyLaws.{reply_found}
+use Rattle.vic_answer.proofs.Words.{ap, sym, ◌∙◌, ◌++◌, codes, subst, IfOk, encode_upper, SpellsRequest, SpellsReply, spelled_text, request_found, reply_found}
 use Rattle.vic_answer.proofs.SpellLaws.{request_back, reply_back}
 use Rattle.vic_answer.proofs.SpellOnly.{words_taken}
 use Rattle.vic_answer.proofs.laws.spell_undoes_frame.Goals as goal

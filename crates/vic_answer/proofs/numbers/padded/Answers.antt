@@ -1,5 +1,4 @@
-use Rattle.std.proofs.Common.{ℕ, List, ◌++◌, length, drop, replicate, ap, ◌∙◌}
-use Rattle.vic_answer.proofs.Words.{drop-replicate}
+use Rattle.vic_answer.proofs.Words.{ℕ, List, ◌++◌, length, drop, replicate, ap, ◌∙◌, drop-replicate}
 use Rattle.vic_answer.specs.declared.lines.TheConstants.{LINE_ROOM}
 use Rattle.vic_answer.proofs.numbers.padded.Goals as goal
 

@@ -1,6 +1,4 @@
-use Rattle.std.proofs.Common.{◌≡◌, ◌<◌, ◌+◌, ℕ, List, [], ◌∷◌, ◌++◌, take, drop, length, get_or, sym, ap, ◌∙◌, arith, take-append-drop, flat_map}
-use Rattle.vic_answer.proofs.Words.{take_more, take_all, flat_map_more}
-use Rattle.std.proofs.lemmas.List.Concat.{flat_map-append}
+use Rattle.vic_answer.proofs.Words.{◌≡◌, ◌<◌, ◌+◌, ℕ, List, [], ◌∷◌, ◌++◌, take, drop, length, get_or, sym, ap, ◌∙◌, arith, take-append-drop, flat_map, take_more, take_all, flat_map_more, flat_map-append}
 use Rattle.vic_answer.proofs.Waiting.{Puts-nil, Puts-then, Puts-longer, Puts-handed, Puts-same}
 use Rattle.vic_answer.proofs.pieces.put_each.Goals as goal
 

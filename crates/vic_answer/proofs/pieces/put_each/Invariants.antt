@@ -1,5 +1,4 @@
-use Rattle.std.proofs.Common.{◌≡◌, ℕ, List, take, Ok, flat_map}
-use Rattle.vic_answer.specs.inner.Pieces.{Puts}
+use Rattle.vic_answer.proofs.Words.{◌≡◌, ℕ, List, take, Ok, flat_map, Puts}
 use Rattle.vic_answer.proofs.pieces.put_each.Given as goal
 
 abbrev pub invariant-loop-item : goal.invariant-loop-item

@@ -1,4 +1,4 @@
-use Rattle.std.proofs.Common.{◌≡◌, ◌++◌, take, drop}
+use Rattle.vic_answer.proofs.Words.{◌≡◌, ◌++◌, take, drop}
 use Rattle.vic_answer.proofs.population.copy_uids.Given as goal
 
 abbrev pub invariant-loop-index : goal.invariant-loop-index

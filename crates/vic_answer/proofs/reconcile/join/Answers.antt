@@ -1,7 +1,4 @@
-use Rattle.std.proofs.Common.{ℕ, List, [], ◌∷◌, ◌++◌, map, subst, IfNone, IfSome}
-use Rattle.vic_answer.proofs.Words.{entries, listed, LogLine, IsVerdict, Impossible, IsReading, lines_of}
-use Rattle.vic_reconcile.specs.Joined.{IsJoined}
-use Rattle.vic_reconcile.specs.declared.reconciliation.Reconciliation.{Reconciliation}
+use Rattle.vic_answer.proofs.Words.{ℕ, List, [], ◌∷◌, ◌++◌, map, subst, IfNone, IfSome, entries, listed, LogLine, IsVerdict, Impossible, IsReading, lines_of, IsJoined, Reconciliation}
 use Rattle.vic_answer.proofs.Reconciles.{ends_impossible, ends_refused, kept_long, kept_more}
 use Rattle.vic_answer.proofs.reconcile.join.Goals as goal
 

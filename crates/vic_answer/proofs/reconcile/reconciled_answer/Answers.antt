@@ -1,6 +1,4 @@
-use Rattle.std.proofs.Common.{map, sym, subst, ◌∙◌}
-use Rattle.vic_answer.proofs.Words.{entries, listed, IsKept, IsReconciling, lines_of}
-use Rattle.std.proofs.lemmas.Bool.{false≢true}
+use Rattle.vic_answer.proofs.Words.{map, sym, subst, ◌∙◌, entries, listed, IsKept, IsReconciling, lines_of, false≢true}
 use Rattle.vic_answer.proofs.Reconciles.{reconciled_complete, reconciled_found}
 use Rattle.vic_answer.proofs.reconcile.reconciled_answer.Goals as goal
 

@@ -1,4 +1,4 @@
-use Rattle.std.proofs.Common.{◌++◌, map, ap, ◌∙◌, string_bytes}
+use Rattle.vic_answer.proofs.Words.{◌++◌, map, ap, ◌∙◌, string_bytes}
 use Rattle.vic_answer.proofs.Reconciles.{complete_written}
 use Rattle.vic_answer.proofs.reconcile.write_reconciled.Goals as goal
 

@@ -1,5 +1,4 @@
-use Rattle.std.proofs.Common.{◌≡◌, ◌++◌, take, flat_map}
-use Rattle.vic_answer.proofs.Words.{absent_line}
+use Rattle.vic_answer.proofs.Words.{◌≡◌, ◌++◌, take, flat_map, absent_line}
 use Rattle.vic_answer.proofs.reconcile_lines.add_absent.Given as goal
 
 abbrev pub invariant-loop-uid : goal.invariant-loop-uid

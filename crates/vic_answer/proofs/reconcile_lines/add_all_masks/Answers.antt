@@ -1,4 +1,4 @@
-use Rattle.std.proofs.Common.{map, string_bytes}
+use Rattle.vic_answer.proofs.Words.{map, string_bytes}
 use Rattle.vic_answer.proofs.Added.{masks_added}
 use Rattle.vic_answer.proofs.reconcile_lines.add_all_masks.Goals as goal
 

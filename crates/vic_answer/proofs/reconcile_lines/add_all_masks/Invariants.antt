@@ -1,5 +1,4 @@
-use Rattle.std.proofs.Common.{◌≡◌, ◌++◌, map, string_bytes, take}
-use Rattle.vic_answer.proofs.Words.{all_masks_text}
+use Rattle.vic_answer.proofs.Words.{◌≡◌, ◌++◌, map, string_bytes, take, all_masks_text}
 use Rattle.vic_answer.proofs.reconcile_lines.add_all_masks.Given as goal
 
 abbrev pub invariant-loop-log : goal.invariant-loop-log

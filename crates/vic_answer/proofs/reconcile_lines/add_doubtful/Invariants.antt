@@ -1,5 +1,4 @@
-use Rattle.std.proofs.Common.{◌≡◌, ◌++◌, map, string_bytes, take, flat_map}
-use Rattle.vic_answer.proofs.Words.{doubtful_text}
+use Rattle.vic_answer.proofs.Words.{◌≡◌, ◌++◌, map, string_bytes, take, flat_map, doubtful_text}
 use Rattle.vic_answer.proofs.reconcile_lines.add_doubtful.Given as goal
 
 abbrev pub invariant-loop-one : goal.invariant-loop-one

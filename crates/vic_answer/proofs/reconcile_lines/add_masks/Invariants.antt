@@ -1,5 +1,4 @@
-use Rattle.std.proofs.Common.{◌≡◌, ◌++◌, map, string_bytes, take, flat_map}
-use Rattle.vic_answer.proofs.Words.{open_text}
+use Rattle.vic_answer.proofs.Words.{◌≡◌, ◌++◌, map, string_bytes, take, flat_map, open_text}
 use Rattle.vic_answer.proofs.reconcile_lines.add_masks.Given as goal
 
 abbrev pub invariant-loop-mask : goal.invariant-loop-mask

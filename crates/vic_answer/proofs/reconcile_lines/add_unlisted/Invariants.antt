@@ -1,5 +1,4 @@
-use Rattle.std.proofs.Common.{◌≡◌, ◌++◌, map, string_bytes, take, flat_map}
-use Rattle.vic_answer.proofs.Words.{unlisted_text}
+use Rattle.vic_answer.proofs.Words.{◌≡◌, ◌++◌, map, string_bytes, take, flat_map, unlisted_text}
 use Rattle.vic_answer.proofs.reconcile_lines.add_unlisted.Given as goal
 
 abbrev pub invariant-loop-one : goal.invariant-loop-one

@@ -1,5 +1,4 @@
-use Rattle.std.proofs.Common.{ℕ, ◌≡◌, ◌<◌, length, subst, arith}
-use Rattle.vic_answer.proofs.Words.{AllGoing, IsReconciling, Reconciling}
+use Rattle.vic_answer.proofs.Words.{ℕ, ◌≡◌, ◌<◌, length, subst, arith, AllGoing, IsReconciling, Reconciling}
 use Rattle.vic_answer.specs.declared.reconcile.Reconciling.TheVariants.{Going, Ended}
 use Rattle.vic_answer.proofs.Turns.{all_read, one_more}
 use Rattle.vic_answer.proofs.reconcile_run.read_logs.Goals as goal

@@ -1,5 +1,4 @@
-use Rattle.std.proofs.Common.{◌≡◌, ℕ, List, [], true}
-use Rattle.vic_answer.proofs.Words.{IsReconciling, IsEnough}
+use Rattle.vic_answer.proofs.Words.{◌≡◌, ℕ, List, [], true, IsReconciling, IsEnough}
 use Rattle.vic_answer.proofs.Turns.{HaveRead}
 use Rattle.vic_answer.proofs.reconcile_run.read_logs.Given as goal
 

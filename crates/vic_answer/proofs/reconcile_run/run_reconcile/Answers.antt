@@ -1,5 +1,4 @@
-use Rattle.std.proofs.Common.{length, Result, Ok, Err, OnOk}
-use Rattle.vic_answer.proofs.Words.{AllRead, IsReconciled}
+use Rattle.vic_answer.proofs.Words.{length, Result, Ok, Err, OnOk, AllRead, IsReconciled}
 use Rattle.vic_answer.proofs.Reconciles.{all_where_complete, writes_answer}
 use Rattle.vic_answer.proofs.Turns.{read_to_ends, reconciles}
 use Rattle.vic_answer.proofs.reconcile_run.run_reconcile.Goals as goal

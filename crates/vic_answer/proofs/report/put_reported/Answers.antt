@@ -1,5 +1,4 @@
-use Rattle.std.proofs.Common.{sym, ap, ◌∙◌}
-use Rattle.vic_answer.proofs.Words.{reported_text}
+use Rattle.vic_answer.proofs.Words.{sym, ap, ◌∙◌, reported_text}
 use Rattle.vic_answer.proofs.Waiting.{Puts-same}
 use Rattle.vic_answer.proofs.report.put_reported.Goals as goal
 

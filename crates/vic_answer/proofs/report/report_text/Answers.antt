@@ -1,4 +1,4 @@
-use Rattle.vic_report.proofs.AllFindings.{report_begins}
+use Rattle.vic_answer.proofs.Words.{report_begins}
 use Rattle.vic_answer.proofs.CheckLines.{complete_text}
 use Rattle.vic_answer.proofs.report.report_text.Goals as goal
 

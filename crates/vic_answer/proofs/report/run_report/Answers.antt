@@ -1,5 +1,4 @@
-use Rattle.std.proofs.Common.{refl, Some}
-use Rattle.vic_answer.proofs.Words.{answer_status, IsReportOf, answer_of, reported_text}
+use Rattle.vic_answer.proofs.Words.{refl, Some, answer_status, IsReportOf, answer_of, reported_text}
 use Rattle.vic_answer.proofs.CheckLines.{report_tells}
 use Rattle.vic_answer.proofs.CompleteRuns.{complete_where_said, complete_where_written}
 use Rattle.vic_answer.proofs.Standing.{ends_written}

@@ -1,5 +1,4 @@
-use Rattle.std.proofs.Common.{subst}
-use Rattle.vic_answer.proofs.Words.{Writes}
+use Rattle.vic_answer.proofs.Words.{subst, Writes}
 use Rattle.vic_answer.proofs.Waiting.{Writes-behind}
 use Rattle.vic_answer.proofs.report.write_lines.Goals as goal
 

@@ -1,5 +1,4 @@
-use Rattle.std.proofs.Common.{ap, rules, flat_map}
-use Rattle.vic_answer.proofs.Words.{absent_text, unsettled_text, doubtful_line}
+use Rattle.vic_answer.proofs.Words.{ap, rules, flat_map, absent_text, unsettled_text, doubtful_line}
 use Rattle.vic_answer.specs.ReportText.{unlisted_text}
 use Rattle.vic_answer.proofs.Waiting.{Puts-then, Puts-longer, Puts-handed, Puts-same}
 use Rattle.vic_answer.proofs.report_lines.put_findings.Goals as goal

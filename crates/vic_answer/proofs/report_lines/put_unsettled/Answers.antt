@@ -1,5 +1,4 @@
-use Rattle.std.proofs.Common.{sym, ap, rules, flat_map}
-use Rattle.vic_answer.proofs.Words.{open_line, more_line, unsettled_text}
+use Rattle.vic_answer.proofs.Words.{sym, ap, rules, flat_map, open_line, more_line, unsettled_text}
 use Rattle.vic_answer.proofs.Waiting.{Puts-then, Puts-longer, Puts-handed, Puts-same}
 use Rattle.vic_answer.proofs.report_lines.put_unsettled.Goals as goal
 

@@ -1,5 +1,4 @@
-use Rattle.std.proofs.Common.{refl, Some}
-use Rattle.vic_answer.specs.SimulateText.{IsSimulationOf, simulated_text, simulated_status}
+use Rattle.vic_answer.proofs.Words.{refl, Some, IsSimulationOf, simulated_text, simulated_status}
 use Rattle.vic_answer.proofs.Standing.{ends_written}
 use Rattle.vic_answer.proofs.simulate.run_simulate.Goals as goal
 

@@ -1,6 +1,4 @@
-use Rattle.std.proofs.Common.{◌≡◌, ◌∙◌, ap, sym, subst, ℕ, List}
-use Rattle.vic_answer.proofs.Words.{Writes}
-use Rattle.vic_answer.specs.SimulateText.{simulated_text}
+use Rattle.vic_answer.proofs.Words.{◌≡◌, ◌∙◌, ap, sym, subst, ℕ, List, Writes, simulated_text}
 use Rattle.vic_answer.proofs.simulate.write_simulated.Goals as goal
 
 pub returns-in-OutcomeGiven-clause-written : goal.returns-in-OutcomeGiven-clause-written

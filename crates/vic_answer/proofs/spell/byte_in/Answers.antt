@@ -1,4 +1,4 @@
-use Rattle.std.proofs.Common.{◌∙◌, arith, sym}
+use Rattle.vic_answer.proofs.Words.{◌∙◌, arith, sym}
 use Rattle.vic_answer.proofs.SpelledWords.{byte_below}
 use Rattle.vic_answer.proofs.spell.byte_in.Goals as goal
 

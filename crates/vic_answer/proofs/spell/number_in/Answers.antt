@@ -1,5 +1,4 @@
-use Rattle.std.proofs.Common.{◌≡◌, ◌∙◌, arith, sym}
-use Rattle.vic_answer.proofs.Words.{bytes_eq-Decides}
+use Rattle.vic_answer.proofs.Words.{◌≡◌, ◌∙◌, arith, sym, bytes_eq-Decides}
 use Rattle.vic_answer.proofs.SpelledWords.{number_refused, number_found}
 use Rattle.vic_answer.proofs.spell.number_in.Goals as goal
 

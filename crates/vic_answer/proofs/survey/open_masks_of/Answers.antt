@@ -1,8 +1,4 @@
-use Rattle.std.proofs.Common.{◌≡◌, ℕ, List, sym, subst}
-use Rattle.vic_answer.proofs.Words.{BitMask, LogLine}
-use Rattle.std.proofs.lemmas.Result.{IfOk-weaker}
-use Rattle.vic_reconcile.specs.declared.surveys.Survey.{Survey}
-use Rattle.vic_reconcile.specs.Surveys.{AreOpenIn, IsSurvey}
+use Rattle.vic_answer.proofs.Words.{◌≡◌, ℕ, List, sym, subst, BitMask, LogLine, IfOk-weaker, Survey, AreOpenIn, IsSurvey}
 use Rattle.vic_answer.specs.declared.survey.Surveyed.{Surveyed}
 use Rattle.vic_answer.specs.declared.survey.Surveyed.TheVariants.{Judged}
 use Rattle.vic_answer.specs.SurveyNumbers.{IsAnswerWith, IsSurveyed, answer_of}

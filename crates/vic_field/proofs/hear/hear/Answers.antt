@@ -1,5 +1,4 @@
-use Rattle.std.proofs.Common.{ℕ, ◌+◌, ◌∷◌, ◌≡◌, Option, Some, None, get_or, refl, ap, sym, subst, ◌∙◌, arith}
-use Rattle.vic_field.proofs.Words.{get_or_default, IsKey, uid_of, heard}
+use Rattle.vic_field.proofs.Words.{ℕ, ◌+◌, ◌∷◌, ◌≡◌, Option, Some, None, get_or, refl, ap, sym, subst, ◌∙◌, arith, get_or_default, IsKey, uid_of, heard}
 use Rattle.vic_field.specs.declared.outcome.Outcome.TheVariants.{Lone}
 use Rattle.vic_field.proofs.RowLaws.{hears_from, hears_next, hears_none}
 use Rattle.vic_field.proofs.hear.hear.Goals as goal

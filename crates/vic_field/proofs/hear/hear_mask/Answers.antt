@@ -1,8 +1,4 @@
-use Rattle.std.proofs.Common.{ℕ, ◌∙◌, ◌&&◌, ap, sym, nat_le}
-use Rattle.vic_frame.specs.LowBitsFirst.{uid_of}
-use Rattle.vic_frame.proofs.KeyLaws.{is_uid}
-use Rattle.vic_frame.proofs.MirrorLaws.{mirror_of_uid}
-use Rattle.vic_field.proofs.Words.{heard}
+use Rattle.vic_field.proofs.Words.{ℕ, ◌∙◌, ◌&&◌, ap, sym, nat_le, uid_of, is_uid, mirror_of_uid, heard}
 use Rattle.vic_field.specs.Rows.{entries}
 use Rattle.vic_field.proofs.RowLaws.{small_entries}
 use Rattle.vic_field.proofs.TagLaws.{ready_by_key, none_ready}

@@ -1,7 +1,4 @@
-use Rattle.std.proofs.Common.{◌≡◌, ℕ, List, Some, length, take, [], ◌∷◌, refl, sym, ap, ◌∙◌, subst, add-one, slice_get}
-use Rattle.vic_field.proofs.Words.{slice_get_read, Entry, entries, listed, entries_next}
-use Rattle.vic_log.proofs.Push.{listed-append}
-use Rattle.vic_field.specs.Keys.{AreKeysOf}
+use Rattle.vic_field.proofs.Words.{◌≡◌, ℕ, List, Some, length, take, [], ◌∷◌, refl, sym, ap, ◌∙◌, subst, add-one, slice_get, slice_get_read, Entry, entries, listed, entries_next, listed-append, AreKeysOf}
 use Rattle.vic_field.proofs.populate.listed_keys.Goals as goal
 
 pub loop-line-preserved : goal.loop-line-preserved

@@ -1,6 +1,4 @@
-use Rattle.std.proofs.Common.{take}
-use Rattle.vic_field.proofs.Words.{entries, listed}
-use Rattle.vic_field.specs.Keys.{AreKeysOf}
+use Rattle.vic_field.proofs.Words.{take, entries, listed, AreKeysOf}
 use Rattle.vic_field.proofs.populate.listed_keys.Given as goal
 
 abbrev pub invariant-loop-line : goal.invariant-loop-line

@@ -1,12 +1,4 @@
-use Rattle.std.proofs.Common.{arith, ◌≡◌, ℕ, Bool, true, List, [], ◌∷◌, Some, None, sym, ap, subst, ◌∙◌, ◌||◌, refl, nat_eq, if◌then◌else◌, All, Contains, nat_cmp}
-use Rattle.vic_field.proofs.Words.{IsStrictlySortedBy, IsKey, uid_of, has, uids_at}
-use Rattle.std.specs.List.{dedup, list_any}
-use Rattle.std.proofs.lemmas.List.Filters.{All-dedup, dedup_is}
-use Rattle.std.proofs.lemmas.List.Folds.{Any-from_list_any, list_any_at}
-use Rattle.std.proofs.lemmas.List.Kept.{Contains-dedup_nat, Contains-from_dedup}
-use Rattle.std.proofs.lemmas.List.Sorted.{list_any-IsPermutation, All-permutation}
-use Rattle.std.proofs.lemmas.Map.Keys.{IsStrictlyIncreasing-dedup, sorted_from_strictly_increasing}
-use Rattle.std.proofs.lemmas.Result.{IfOk-weaker}
+use Rattle.vic_field.proofs.Words.{arith, ◌≡◌, ℕ, Bool, true, List, [], ◌∷◌, Some, None, sym, ap, subst, ◌∙◌, ◌||◌, refl, nat_eq, if◌then◌else◌, All, Contains, nat_cmp, IsStrictlySortedBy, IsKey, uid_of, has, uids_at, dedup, list_any, All-dedup, dedup_is, Any-from_list_any, list_any_at, Contains-dedup_nat, Contains-from_dedup, list_any-IsPermutation, All-permutation, IsStrictlyIncreasing-dedup, sorted_from_strictly_increasing, IfOk-weaker}
 use Rattle.vic_field.proofs.populate.populate.Goals as goal
 
 has_at : (ks : List ℕ) (u : ℕ) → has (uids_at ks) u ≡ list_any (λ k. nat_eq u (uid_of k)) ks

@@ -1,4 +1,4 @@
-use Rattle.std.proofs.Common.{◌<◌, ◌+◌, ◌≤◌, subst, sym, ◌∙◌}
+use Rattle.vic_field.proofs.Words.{◌<◌, ◌+◌, ◌≤◌, subst, sym, ◌∙◌}
 use Rattle.vic_field.proofs.PlaceLaws.{ones, ones_end, ones_within}
 use Rattle.vic_field.proofs.quiet.ones_from.Goals as goal
 

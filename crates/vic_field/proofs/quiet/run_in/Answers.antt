@@ -1,5 +1,4 @@
-use Rattle.std.proofs.Common.{◌≡◌, ◌/◌, ◌%◌, ◌+◌, ◌-◌, ap, refl, ◌∙◌, arith, nat_eq, eq-eqb}
-use Rattle.std.specs.Int.{bit_at}
+use Rattle.vic_field.proofs.Words.{◌≡◌, ◌/◌, ◌%◌, ◌+◌, ◌-◌, ap, refl, ◌∙◌, arith, nat_eq, eq-eqb, bit_at}
 use Rattle.vic_field.proofs.quiet.run_in.Goals as goal
 
 pub returns-clause-set : goal.returns-clause-set

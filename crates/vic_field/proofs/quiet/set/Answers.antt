@@ -1,5 +1,4 @@
-use Rattle.std.proofs.Common.{◌<◌, ◌/◌, length, subst, arith, eq-eqb, eqb-true}
-use Rattle.vic_field.specs.inner.Places.{HasBits}
+use Rattle.vic_field.proofs.Words.{◌<◌, ◌/◌, length, subst, arith, eq-eqb, eqb-true, HasBits}
 use Rattle.vic_field.proofs.PlaceLaws.{full_bits, set_bit, set_full}
 use Rattle.vic_field.proofs.quiet.set.Goals as goal
 

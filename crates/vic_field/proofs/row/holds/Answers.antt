@@ -1,5 +1,4 @@
-use Rattle.std.proofs.Common.{◌≡◌, ◌<◌, length, get_or, sym, ◌∙◌, arith, ⊎_elim, eq-eqb, ne_eqb, le-ltb}
-use Rattle.vic_field.proofs.Words.{cases_eq, get_or_default}
+use Rattle.vic_field.proofs.Words.{◌≡◌, ◌<◌, length, get_or, sym, ◌∙◌, arith, ⊎_elim, eq-eqb, ne_eqb, le-ltb, cases_eq, get_or_default}
 use Rattle.vic_field.proofs.RowLaws.{key_there, key_lacks}
 use Rattle.vic_field.proofs.row.holds.Goals as goal
 

@@ -1,4 +1,4 @@
-use Rattle.std.proofs.Common.{◌<◌, ◌≤◌, ◌∙◌, length, get_or, sym, arith, leb-true, ltb-true}
+use Rattle.vic_field.proofs.Words.{◌<◌, ◌≤◌, ◌∙◌, length, get_or, sym, arith, leb-true, ltb-true}
 use Rattle.vic_field.proofs.RowLaws.{between}
 use Rattle.vic_field.proofs.row.is_between.Goals as goal
 use Rattle.vic_field.proofs.row.is_between.Goals.{then-from-eq0, else-from-eq0}

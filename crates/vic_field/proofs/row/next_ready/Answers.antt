@@ -1,5 +1,4 @@
-use Rattle.std.proofs.Common.{◌<◌, ◌≤◌, length, arith, ⊎_elim}
-use Rattle.vic_field.proofs.Words.{cases_lt, get_or_default, non_decreasing_from_sorted}
+use Rattle.vic_field.proofs.Words.{◌<◌, ◌≤◌, length, arith, ⊎_elim, cases_lt, get_or_default, non_decreasing_from_sorted}
 use Rattle.vic_field.proofs.row.next_ready.Goals as goal
 
 pub loop-place-preserved : goal.loop-place-preserved

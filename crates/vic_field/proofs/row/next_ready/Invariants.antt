@@ -1,5 +1,4 @@
-use Rattle.std.proofs.Common.{◌≡◌, ◌-◌, ◌≤◌, ◌<◌, ℕ, true, length}
-use Rattle.vic_field.proofs.Words.{is_quiet_place}
+use Rattle.vic_field.proofs.Words.{◌≡◌, ◌-◌, ◌≤◌, ◌<◌, ℕ, true, length, is_quiet_place}
 use Rattle.vic_field.proofs.row.next_ready.Given as goal
 
 abbrev pub invariant-loop-place : goal.invariant-loop-place

@@ -1,8 +1,4 @@
-use Rattle.std.proofs.Common.{◌≡◌, ◌+◌, ◌-◌, true, false, ltb, ltb-true, ltb-false, List, ℕ, length, take, drop, subst, sym, arith, rules, nat_cmp, length-drop, length-take-le}
-use Rattle.vic_field.proofs.Words.{IsStrictlySortedBy, non_decreasing_from_sorted}
-use Rattle.std.specs.List.Sorted.{IsPartitionPoint}
-use Rattle.std.proofs.lemmas.List.Sorted.{IsNonDecreasingBy-drop, IsNonDecreasingBy-take, IsPartitionPoint-from_clause, IsPartitionedBy-ltb}
-use Rattle.vic_field.specs.inner.Rows.{HasKeyPlaceBetween, IsKeyPlace}
+use Rattle.vic_field.proofs.Words.{◌≡◌, ◌+◌, ◌-◌, true, false, ltb, ltb-true, ltb-false, List, ℕ, length, take, drop, subst, sym, arith, rules, nat_cmp, length-drop, length-take-le, IsStrictlySortedBy, non_decreasing_from_sorted, IsPartitionPoint, IsNonDecreasingBy-drop, IsNonDecreasingBy-take, IsPartitionPoint-from_clause, IsPartitionedBy-ltb, HasKeyPlaceBetween, IsKeyPlace}
 use Rattle.vic_field.proofs.RowLaws.{found}
 use Rattle.vic_field.proofs.row.place_of.Goals as goal
 

@@ -1,6 +1,4 @@
-use Rattle.std.proofs.Common.{length, ap, subst, sym, ◌∙◌, arith}
-use Rattle.vic_field.proofs.Words.{AreKeys}
-use Rattle.std.proofs.lemmas.List.Edits.{length-insert}
+use Rattle.vic_field.proofs.Words.{length, ap, subst, sym, ◌∙◌, arith, AreKeys, length-insert}
 use Rattle.vic_field.proofs.RowLaws.{inserted, inserted_keys}
 use Rattle.vic_field.proofs.row.put.Goals as goal
 

@@ -1,5 +1,4 @@
-use Rattle.std.proofs.Common.{◌≡◌, ◌<◌, length, get_or, sym, ◌∙◌, arith, refl}
-use Rattle.vic_field.proofs.Words.{get_or_default}
+use Rattle.vic_field.proofs.Words.{◌≡◌, ◌<◌, length, get_or, sym, ◌∙◌, arith, refl, get_or_default}
 use Rattle.vic_field.proofs.RowLaws.{lacks, silenced, with_quiet_none}
 use Rattle.vic_field.proofs.row.silence.Goals as goal
 use Rattle.vic_field.proofs.row.silence.Goals.{else-place-len-via-then-place-len+else-index-key, else-place-len-via-else-place-len}

@@ -1,4 +1,4 @@
-use Rattle.std.proofs.Common.{refl}
+use Rattle.vic_field.proofs.Words.{refl}
 use Rattle.vic_field.proofs.RowLaws.{all_ready}
 use Rattle.vic_field.proofs.row.wake.Goals as goal
 

@@ -1,5 +1,4 @@
-use Rattle.std.proofs.Common.{◌≡◌, Some, length, refl, sym, ◌∙◌, add-one, arith, slice_get}
-use Rattle.vic_field.proofs.Words.{slice_get_read}
+use Rattle.vic_field.proofs.Words.{◌≡◌, Some, length, refl, sym, ◌∙◌, add-one, arith, slice_get, slice_get_read}
 use Rattle.vic_field.proofs.Listing.{no_slots_next}
 use Rattle.vic_field.proofs.session.first_slot.Goals as goal
 

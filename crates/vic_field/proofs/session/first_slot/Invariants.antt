@@ -1,4 +1,4 @@
-use Rattle.vic_field.specs.Simulation.{HasNoSlotsBefore}
+use Rattle.vic_field.proofs.Words.{HasNoSlotsBefore}
 use Rattle.vic_field.proofs.session.first_slot.Given as goal
 
 abbrev pub invariant-loop-line : goal.invariant-loop-line

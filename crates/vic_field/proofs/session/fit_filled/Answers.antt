@@ -1,6 +1,4 @@
-use Rattle.std.proofs.Common.{◌≡◌, suc, ◌+◌, ◌≤◌, ◌<◌, ℕ, List, Some, false, length, take, refl, sym, ap, ◌∙◌, subst, add-one, arith, slice_get, nat_le}
-use Rattle.vic_field.proofs.Words.{nat_tests, slice_get_read, LogLine, MAX_LINES, entries, slots_opened, line_count, entries_next}
-use Rattle.vic_field.specs.Simulation.{last_needed}
+use Rattle.vic_field.proofs.Words.{◌≡◌, suc, ◌+◌, ◌≤◌, ◌<◌, ℕ, List, Some, false, length, take, refl, sym, ap, ◌∙◌, subst, add-one, arith, slice_get, nat_le, nat_tests, slice_get_read, LogLine, MAX_LINES, entries, slots_opened, line_count, entries_next, last_needed}
 use Rattle.vic_field.proofs.Follows.{line_count-front}
 use Rattle.vic_field.proofs.Listing.{entries_take}
 use Rattle.vic_field.proofs.Played.{line_count-next}

@@ -1,5 +1,4 @@
-use Rattle.std.proofs.Common.{◌≡◌, ◌≤◌, suc, take}
-use Rattle.vic_field.proofs.Words.{MAX_LINES, entries, line_count}
+use Rattle.vic_field.proofs.Words.{◌≡◌, ◌≤◌, suc, take, MAX_LINES, entries, line_count}
 use Rattle.vic_field.proofs.session.fit_filled.Given as goal
 
 abbrev pub invariant-loop-line : goal.invariant-loop-line

@@ -1,6 +1,4 @@
-use Rattle.std.proofs.Common.{◌≡◌, suc, ◌++◌, [], ◌∷◌, Some, sym, ap, ◌∙◌, arith}
-use Rattle.vic_field.proofs.Words.{slot_count, Entry, last_from, LogValue, entries, slots_opened, slot_lines_to, slot_lines, with_entries}
-use Rattle.std.proofs.lemmas.Result.{on_ok_weaker}
+use Rattle.vic_field.proofs.Words.{◌≡◌, suc, ◌++◌, [], ◌∷◌, Some, sym, ap, ◌∙◌, arith, slot_count, Entry, last_from, LogValue, entries, slots_opened, slot_lines_to, slot_lines, with_entries, on_ok_weaker}
 use Rattle.vic_field.proofs.Numbering.{entries-with, last_from-with, with-append}
 use Rattle.vic_field.proofs.session.play_entry.Goals as goal
 

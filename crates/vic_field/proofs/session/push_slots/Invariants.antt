@@ -1,5 +1,4 @@
-use Rattle.std.proofs.Common.{◌≡◌, ◌<◌}
-use Rattle.vic_field.proofs.Words.{IsPopulation, slot_lines_to, with_entries, uids}
+use Rattle.vic_field.proofs.Words.{◌≡◌, ◌<◌, IsPopulation, slot_lines_to, with_entries, uids}
 use Rattle.vic_field.proofs.session.push_slots.Given as goal
 
 abbrev pub invariant-loop-k : goal.invariant-loop-k

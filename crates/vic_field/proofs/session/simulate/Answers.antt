@@ -1,6 +1,4 @@
-use Rattle.std.proofs.Common.{◌≡◌, ℕ, true, suc, ◌≤◌, ◌++◌, [], ◌∷◌, Some, length, take, refl, sym, ap, ◌∙◌, subst, arith, add-one, slice_get, nat_le, take_all}
-use Rattle.vic_field.proofs.Words.{nat_tests, slice_get_read, Entry, MAX_LINES, entries, listed, IsPopulation, line_count, slot_lines, with_entries, entries_next}
-use Rattle.vic_field.specs.Simulation.{last_needed, IsSimulation}
+use Rattle.vic_field.proofs.Words.{◌≡◌, ℕ, true, suc, ◌≤◌, ◌++◌, [], ◌∷◌, Some, length, take, refl, sym, ap, ◌∙◌, subst, arith, add-one, slice_get, nat_le, take_all, nat_tests, slice_get_read, Entry, MAX_LINES, entries, listed, IsPopulation, line_count, slot_lines, with_entries, entries_next, last_needed, IsSimulation}
 use Rattle.vic_field.proofs.Follows.{follows, listed_population, line_count-front}
 use Rattle.vic_field.proofs.Listing.{entries_take, entry_at, valid_entry}
 use Rattle.vic_field.proofs.Numbering.{entries-with, last_is, numbers_next}

@@ -1,6 +1,4 @@
-use Rattle.std.proofs.Common.{◌≡◌, take}
-use Rattle.vic_field.proofs.Words.{entries, listed}
-use Rattle.vic_log.specs.Writing.{numbered}
+use Rattle.vic_field.proofs.Words.{◌≡◌, take, entries, listed, numbered}
 use Rattle.vic_field.proofs.Played.{IsPlayed}
 use Rattle.vic_field.proofs.session.simulate.Given as goal
 

@@ -1,4 +1,4 @@
-use Rattle.std.proofs.Common.{drop, arith, length-drop}
+use Rattle.vic_frame.proofs.Words.{drop, arith, length-drop}
 use Rattle.vic_frame.proofs.BytesLaws.{number_within, AreBytes-drop}
 use Rattle.vic_frame.proofs.bytes.number_of.Goals as goal
 

@@ -1,4 +1,4 @@
-use Rattle.std.proofs.Common.{◌≡◌, ◌≤◌, length, drop}
+use Rattle.vic_frame.proofs.Words.{◌≡◌, ◌≤◌, length, drop}
 use Rattle.vic_frame.specs.Bytes as spec
 use Rattle.vic_frame.proofs.bytes.number_of.Given as goal
 

@@ -1,5 +1,4 @@
-use Rattle.std.proofs.Common.{◌+◌, ◌-◌, ◌/◌, ◌++◌, ap, sym, ◌∙◌, arith}
-use Rattle.vic_frame.proofs.Words.{bytes_of}
+use Rattle.vic_frame.proofs.Words.{◌+◌, ◌-◌, ◌/◌, ◌++◌, ap, sym, ◌∙◌, arith, bytes_of}
 use Rattle.vic_frame.proofs.BytesLaws.{bytes_of-push, bytes_of-end}
 use Rattle.vic_frame.proofs.bytes.push_number.Goals as goal
 

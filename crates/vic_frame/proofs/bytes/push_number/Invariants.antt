@@ -1,4 +1,4 @@
-use Rattle.std.proofs.Common.{◌≡◌, ◌+◌, ◌++◌, length, ◌-◌}
+use Rattle.vic_frame.proofs.Words.{◌≡◌, ◌+◌, ◌++◌, length, ◌-◌}
 use Rattle.vic_frame.specs.Bytes as spec
 use Rattle.vic_frame.proofs.bytes.push_number.Given as goal
 

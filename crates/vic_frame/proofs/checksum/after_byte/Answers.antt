@@ -1,6 +1,4 @@
-use Rattle.std.proofs.Common.{◌/◌, ◌∙◌, ap, arith, bit_xor}
-use Rattle.vic_frame.specs.Bytes.{bits_of}
-use Rattle.vic_frame.specs.Crc.{after_bits}
+use Rattle.vic_frame.proofs.Words.{◌/◌, ◌∙◌, ap, arith, bit_xor, bits_of, after_bits}
 use Rattle.vic_frame.proofs.CrcLaws.{byte_by_low}
 use Rattle.vic_frame.proofs.checksum.after_byte.Goals as goal
 

@@ -1,6 +1,4 @@
-use Rattle.std.proofs.Common.{◌≡◌, ◌+◌, ◌-◌, ◌*◌, ◌∙◌, length, slice_index, ap, sym, drop, arith}
-use Rattle.vic_frame.specs.Bytes.{bits, bits_of}
-use Rattle.vic_frame.specs.Crc.{after_bits, register}
+use Rattle.vic_frame.proofs.Words.{◌≡◌, ◌+◌, ◌-◌, ◌*◌, ◌∙◌, length, slice_index, ap, sym, drop, arith, bits, bits_of, after_bits, register}
 use Rattle.vic_frame.proofs.CrcLaws.{after-next, after-end}
 use Rattle.vic_frame.proofs.checksum.crc.Goals as goal
 use Rattle.vic_frame.proofs.checksum.crc.Goals.{then-bytes-eq1, else-bytes-eq1}

@@ -1,5 +1,4 @@
-use Rattle.std.proofs.Common.{◌≡◌, ◌*◌, drop}
-use Rattle.vic_frame.specs.Bytes.{bits}
+use Rattle.vic_frame.proofs.Words.{◌≡◌, ◌*◌, drop, bits}
 use Rattle.vic_frame.specs.Crc as spec
 use Rattle.vic_frame.proofs.checksum.crc.Given as goal
 

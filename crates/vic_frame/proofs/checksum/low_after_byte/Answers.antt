@@ -1,4 +1,4 @@
-use Rattle.std.proofs.Common.{◌∙◌, ap, sym, arith}
+use Rattle.vic_frame.proofs.Words.{◌∙◌, ap, sym, arith}
 use Rattle.vic_frame.proofs.BytesLaws.{table_to}
 use Rattle.vic_frame.proofs.CrcLaws.{shifts, low_step}
 use Rattle.vic_frame.proofs.checksum.low_after_byte.Goals as goal

@@ -1,4 +1,4 @@
-use Rattle.std.proofs.Common.{◌∙◌, ap, sym, arith}
+use Rattle.vic_frame.proofs.Words.{◌∙◌, ap, sym, arith}
 use Rattle.vic_frame.proofs.BytesLaws.{table_to}
 use Rattle.vic_frame.proofs.CrcLaws.{shifts, low_two_steps}
 use Rattle.vic_frame.proofs.checksum.low_after_two_bytes.Goals as goal

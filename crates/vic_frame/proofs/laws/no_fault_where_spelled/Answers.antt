@@ -1,7 +1,4 @@
-use Rattle.std.proofs.Common.{◌∙◌, ap}
-use Rattle.vic_frame.proofs.Words.{first_fault, reply_in}
-use Rattle.vic_frame.specs.Faults.{request_faults, reply_faults}
-use Rattle.vic_frame.specs.Reading.{request_in}
+use Rattle.vic_frame.proofs.Words.{◌∙◌, ap, first_fault, reply_in, request_faults, reply_faults, request_in}
 use Rattle.vic_frame.proofs.RequestLaws.{request_sound, request_none}
 use Rattle.vic_frame.proofs.ReplyLaws.{reply_sound, reply_none}
 use Rattle.vic_frame.proofs.laws.no_fault_where_spelled.Goals as goal

@@ -1,5 +1,4 @@
-use Rattle.std.proofs.Common.{◌∙◌, sym, refl}
-use Rattle.vic_frame.proofs.Words.{request_spelling, reply_spelling}
+use Rattle.vic_frame.proofs.Words.{◌∙◌, sym, refl, request_spelling, reply_spelling}
 use Rattle.vic_frame.proofs.RequestLaws.{request_only}
 use Rattle.vic_frame.proofs.ReplyLaws.{reply_only}
 use Rattle.vic_frame.proofs.laws.one_spelling.Goals as goal

@@ -1,6 +1,4 @@
-use Rattle.std.proofs.Common.{IfOk, subst}
-use Rattle.vic_frame.specs.Requests.{SpellsRequest}
-use Rattle.vic_frame.specs.Replies.{SpellsReply}
+use Rattle.vic_frame.proofs.Words.{IfOk, subst, SpellsRequest, SpellsReply}
 use Rattle.vic_frame.proofs.RequestLaws.{request_found, request_only}
 use Rattle.vic_frame.proofs.ReplyLaws.{reply_found, reply_only}
 use Rattle.vic_frame.proofs.laws.read_where_spelled.Goals as goal

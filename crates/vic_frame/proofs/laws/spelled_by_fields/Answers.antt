@@ -1,5 +1,4 @@
-use Rattle.std.proofs.Common.{sym, subst}
-use Rattle.vic_frame.specs.Fields.{HasInventoryFields, HasStayQuietFields, HasReplyFields}
+use Rattle.vic_frame.proofs.Words.{sym, subst, HasInventoryFields, HasStayQuietFields, HasReplyFields}
 use Rattle.vic_frame.proofs.FieldLaws.{inventory_fields, inventory_from, stay_quiet_fields, stay_quiet_from, reply_fields, reply_from}
 use Rattle.vic_frame.proofs.laws.spelled_by_fields.Goals as goal
 

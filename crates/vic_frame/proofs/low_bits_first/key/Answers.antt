@@ -1,5 +1,4 @@
-use Rattle.std.proofs.Common.{◌∙◌, ap}
-use Rattle.vic_frame.proofs.Words.{mirror, uid_of}
+use Rattle.vic_frame.proofs.Words.{◌∙◌, ap, mirror, uid_of}
 use Rattle.vic_frame.proofs.MirrorLaws.{uid_of_mirror}
 use Rattle.vic_frame.proofs.low_bits_first.key.Goals as goal
 

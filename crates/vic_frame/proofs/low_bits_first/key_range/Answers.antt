@@ -1,6 +1,4 @@
-use Rattle.std.proofs.Common.{ℕ, ◌+◌, ◌-◌, ◌*◌, ◌^◌, ◌%◌, ◌∙◌, ap, arith, sym, ◌&&◌, nat_le}
-use Rattle.vic_frame.proofs.Words.{mirror}
-use Rattle.std.proofs.lemmas.Nat.{one_shl}
+use Rattle.vic_frame.proofs.Words.{ℕ, ◌+◌, ◌-◌, ◌*◌, ◌^◌, ◌%◌, ◌∙◌, ap, arith, sym, ◌&&◌, nat_le, mirror, one_shl}
 use Rattle.vic_frame.proofs.MirrorLaws.{in_span}
 use Rattle.vic_frame.proofs.low_bits_first.key_range.Goals as goal
 

@@ -1,6 +1,4 @@
-use Rattle.std.proofs.Common.{ℕ, ◌-◌, ◌∙◌, ap, subst, sym, arith}
-use Rattle.vic_frame.proofs.Words.{IsBlock, mirror}
-use Rattle.vic_frame.specs.LowBitsFirst.{is_in_block}
+use Rattle.vic_frame.proofs.Words.{ℕ, ◌-◌, ◌∙◌, ap, subst, sym, arith, IsBlock, mirror, is_in_block}
 use Rattle.vic_frame.proofs.MirrorLaws.{first_is_block, in_span}
 use Rattle.vic_frame.proofs.low_bits_first.keys_of.Goals as goal
 

@@ -1,7 +1,4 @@
-use Rattle.std.proofs.Common.{ℕ, ◌≡◌, ◌+◌, ◌-◌, ◌*◌, ◌/◌, ◌^◌, ◌%◌, ◌<◌, ◌≤◌, ◌∙◌, ap, subst, sym, arith, mod-eq_of_lt}
-use Rattle.vic_frame.proofs.Words.{IsBlock, mirror, mirror_bits}
-use Rattle.vic_frame.specs.Masks.{slot_of_sixteen}
-use Rattle.vic_frame.specs.LowBitsFirst.{is_in_block}
+use Rattle.vic_frame.proofs.Words.{ℕ, ◌≡◌, ◌+◌, ◌-◌, ◌*◌, ◌/◌, ◌^◌, ◌%◌, ◌<◌, ◌≤◌, ◌∙◌, ap, subst, sym, arith, mod-eq_of_lt, IsBlock, mirror, mirror_bits, slot_of_sixteen, is_in_block}
 use Rattle.vic_frame.proofs.MirrorLaws.{first_is_block, four_bits, in_span, mirror_below, mirror_of_slot, slot_is_mask}
 use Rattle.vic_frame.proofs.low_bits_first.keys_of_slot.Goals as goal
 

@@ -1,5 +1,4 @@
-use Rattle.std.proofs.Common.{ℕ, ◌≡◌, ◌+◌, ◌-◌, ◌^◌, ◌<◌, ◌∙◌, ◌&&◌, ap, subst, sym, arith, nat_le, mod-eq_of_lt}
-use Rattle.vic_frame.proofs.Words.{BitMask, lies_in, IsBlock, mirror}
+use Rattle.vic_frame.proofs.Words.{ℕ, ◌≡◌, ◌+◌, ◌-◌, ◌^◌, ◌<◌, ◌∙◌, ◌&&◌, ap, subst, sym, arith, nat_le, mod-eq_of_lt, BitMask, lies_in, IsBlock, mirror}
 use Rattle.vic_frame.proofs.MirrorLaws.{block_value, in_span, mirror_twice}
 use Rattle.vic_frame.proofs.low_bits_first.mask_of_keys.Goals as goal
 

@@ -1,4 +1,4 @@
-use Rattle.std.proofs.Common.{◌∙◌, ap, arith}
+use Rattle.vic_frame.proofs.Words.{◌∙◌, ap, arith}
 use Rattle.vic_frame.specs.LowBitsFirst.{mirror_bits}
 use Rattle.vic_frame.proofs.BytesLaws.{table_to}
 use Rattle.vic_frame.proofs.low_bits_first.turn_byte.Goals as goal

@@ -1,4 +1,4 @@
-use Rattle.std.proofs.Common.{ℕ, ◌≡◌, ◌+◌, ◌*◌, ◌/◌, ◌%◌, ◌<◌, ◌^◌, ◌∙◌, ap, sym, refl, arith, div-one}
+use Rattle.vic_frame.proofs.Words.{ℕ, ◌≡◌, ◌+◌, ◌*◌, ◌/◌, ◌%◌, ◌<◌, ◌^◌, ◌∙◌, ap, sym, refl, arith, div-one}
 use Rattle.vic_frame.specs.LowBitsFirst.{mirror_bits}
 use Rattle.vic_frame.proofs.MirrorLaws.{mirror_below, turn-next, rest-next, turned_below}
 use Rattle.vic_frame.proofs.low_bits_first.turn_round.Goals as goal

@@ -1,5 +1,4 @@
-use Rattle.std.proofs.Common.{◌≡◌, ◌*◌, ◌/◌, ◌^◌}
-use Rattle.vic_frame.proofs.Words.{mirror_bits}
+use Rattle.vic_frame.proofs.Words.{◌≡◌, ◌*◌, ◌/◌, ◌^◌, mirror_bits}
 use Rattle.vic_frame.proofs.low_bits_first.turn_round.Given as goal
 
 abbrev pub invariant-loop : goal.invariant-loop

@@ -1,5 +1,4 @@
-use Rattle.std.proofs.Common.{ℕ, ◌+◌, ◌*◌, ◌^◌, ◌∙◌, ap}
-use Rattle.vic_frame.proofs.Words.{mirror}
+use Rattle.vic_frame.proofs.Words.{ℕ, ◌+◌, ◌*◌, ◌^◌, ◌∙◌, ap, mirror}
 use Rattle.vic_frame.proofs.MirrorLaws.{mirror_of_uid}
 use Rattle.vic_frame.proofs.low_bits_first.uid_at.Goals as goal
 

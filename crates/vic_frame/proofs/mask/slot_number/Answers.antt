@@ -1,6 +1,4 @@
-use Rattle.std.proofs.Common.{◌≡◌, ◌+◌, ◌*◌, ◌^◌, ap, ◌∙◌, arith, pow-add}
-use Rattle.vic_frame.proofs.Words.{pow-le-pow_right}
-use Rattle.std.proofs.lemmas.Nat.{shl_whole}
+use Rattle.vic_frame.proofs.Words.{◌≡◌, ◌+◌, ◌*◌, ◌^◌, ap, ◌∙◌, arith, pow-add, pow-le-pow_right, shl_whole}
 use Rattle.vic_frame.proofs.BytesLaws.{sixteen_times}
 use Rattle.vic_frame.proofs.mask.slot_number.Goals as goal
 

@@ -1,5 +1,4 @@
-use Rattle.std.proofs.Common.{◌∙◌, sym, ap, arith}
-use Rattle.vic_frame.proofs.Words.{lies_in}
+use Rattle.vic_frame.proofs.Words.{◌∙◌, sym, ap, arith, lies_in}
 use Rattle.vic_frame.proofs.MaskLaws.{long_none, long_same}
 use Rattle.vic_frame.proofs.mask.without_top_byte.Goals as goal
 

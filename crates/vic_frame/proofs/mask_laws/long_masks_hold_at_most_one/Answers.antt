@@ -1,4 +1,4 @@
-use Rattle.std.proofs.Common.{◌∙◌, sym, arith}
+use Rattle.vic_frame.proofs.Words.{◌∙◌, sym, arith}
 use Rattle.vic_frame.proofs.MaskLaws.{is_only}
 use Rattle.vic_frame.proofs.mask_laws.long_masks_hold_at_most_one.Goals as goal
 

@@ -1,4 +1,4 @@
-use Rattle.std.proofs.Common.{◌∙◌, arith}
+use Rattle.vic_frame.proofs.Words.{◌∙◌, arith}
 use Rattle.vic_frame.proofs.RequestLaws.{request_found, request_only}
 use Rattle.vic_frame.proofs.request_frame.read_request.Goals as goal
 

@@ -1,4 +1,4 @@
-use Rattle.std.proofs.Common.{◌∙◌, arith}
+use Rattle.vic_frame.proofs.Words.{◌∙◌, arith}
 use Rattle.vic_frame.proofs.ReplyLaws.{reply_found, reply_only}
 use Rattle.vic_frame.proofs.response_frame.read_response.Goals as goal
 

@@ -1,5 +1,4 @@
-use Rattle.std.proofs.Common.{rules, add-one, arith}
-use Rattle.vic_log.proofs.Words.{nil_from_length, err_from_is_err_and}
+use Rattle.vic_log.proofs.Words.{rules, add-one, arith, nil_from_length, err_from_is_err_and}
 use Rattle.vic_log.proofs.Judged.{end-empty, end-lines, end-next, end-refused}
 use Rattle.vic_log.proofs.Passing.{AreRead-above, AreRead-none}
 use Rattle.vic_log.proofs.begun.end_text.Goals as goal

@@ -1,7 +1,4 @@
-use Rattle.std.proofs.Common.{◌≡◌, ℕ, ◌+◌, ◌<◌, ◌≤◌, eqb, Bool, false, true, not, List, length, map, get_or, sym, ap, subst, ◌∙◌, arith, w8, inl, inr}
-use Rattle.vic_log.proofs.Words.{cases_lt, lf}
-use Rattle.std.proofs.lemmas.Simd.{bitmask_splat, length-chunk, get_or-chunk, trailing_mask_l, run_in_chunk_fails, run_in_chunk_stops}
-use Rattle.std.specs.List.{prefix_len}
+use Rattle.vic_log.proofs.Words.{◌≡◌, ℕ, ◌+◌, ◌<◌, ◌≤◌, eqb, Bool, false, true, not, List, length, map, get_or, sym, ap, subst, ◌∙◌, arith, w8, inl, inr, cases_lt, lf, bitmask_splat, length-chunk, get_or-chunk, trailing_mask_l, run_in_chunk_fails, run_in_chunk_stops, prefix_len}
 use lib.Count.{count_trailing_zeros}
 use lib.Lanes.{chunk, mask_l}
 use Rattle.vic_log.proofs.Lanes.{some_marked}

@@ -1,5 +1,4 @@
-use Rattle.std.proofs.Common.{arith}
-use Rattle.vic_log.proofs.Words.{common_steps, eqb-true}
+use Rattle.vic_log.proofs.Words.{arith, common_steps, eqb-true}
 use Rattle.vic_log.proofs.Place.{lacks_all, split_at}
 use Rattle.vic_log.proofs.begun.split_line.Goals as goal
 

@@ -1,5 +1,4 @@
-use Rattle.std.proofs.Common.{rules, ◌+◌, ◌++◌, [], append-nil, length, subst, sym, refl, ◌∙◌, add-one, arith, inl, length-append}
-use Rattle.vic_log.proofs.Words.{common_steps, IsLong}
+use Rattle.vic_log.proofs.Words.{rules, ◌+◌, ◌++◌, [], append-nil, length, subst, sym, refl, ◌∙◌, add-one, arith, inl, length-append, common_steps, IsLong}
 use Rattle.vic_log.proofs.Judged.{HasCut-more, early-long, early-many}
 use Rattle.vic_log.proofs.Place.{over, on_ok}
 use Rattle.vic_log.proofs.begun.take_begun.Goals as goal

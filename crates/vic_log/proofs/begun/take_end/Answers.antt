@@ -1,5 +1,4 @@
-use Rattle.std.proofs.Common.{rules, ◌≡◌, false, ◌+◌, ◌++◌, ◌∷◌, [], ℕ, List, None, Result, Ok, Err, MatchResult, IfErr, OnOk, length, sym, ap, append_assoc, add-one, arith, inl, length-append}
-use Rattle.vic_log.proofs.Words.{nil_from_length, err_from_is_err_and, has, LogFault, HasJudged, IsEarly, lf, cr, without_last, LogValue, next_fault, after_line, RefusesNext}
+use Rattle.vic_log.proofs.Words.{rules, ◌≡◌, false, ◌+◌, ◌++◌, ◌∷◌, [], ℕ, List, None, Result, Ok, Err, MatchResult, IfErr, OnOk, length, sym, ap, append_assoc, add-one, arith, inl, length-append, nil_from_length, err_from_is_err_and, has, LogFault, HasJudged, IsEarly, lf, cr, without_last, LogValue, next_fault, after_line, RefusesNext}
 use Rattle.vic_log.proofs.Judged.{HasCut-more, HasJudged-end, early-refused, early-long, early-many}
 use Rattle.vic_log.proofs.Passing.{AreRead-above, AreRead-none}
 use Rattle.vic_log.proofs.Place.{over}

@@ -1,6 +1,4 @@
-use Rattle.std.proofs.Common.{◌++◌, ◌∷◌, [], refl, ap, sym, ◌∙◌, append_assoc, append-nil, length-append, arith}
-use Rattle.vic_log.proofs.Words.{common_steps, err_from_is_err_and, lf}
-use Rattle.std.proofs.lemmas.Result.{IfErr-weaker, on_ok_weaker}
+use Rattle.vic_log.proofs.Words.{◌++◌, ◌∷◌, [], refl, ap, sym, ◌∙◌, append_assoc, append-nil, length-append, arith, common_steps, err_from_is_err_and, lf, IfErr-weaker, on_ok_weaker}
 use Rattle.vic_log.proofs.begun.take_piece.Goals as goal
 
 pub loop-line-init : goal.loop-line-init

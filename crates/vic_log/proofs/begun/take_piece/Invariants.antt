@@ -1,6 +1,4 @@
-use Rattle.std.proofs.Common.{◌≡◌, ◌≤◌, ◌+◌, ◌++◌, ℕ, List, length}
-use Rattle.vic_log.proofs.Words.{HasJudged}
-use Rattle.vic_log.specs.Begun.{spare}
+use Rattle.vic_log.proofs.Words.{◌≡◌, ◌≤◌, ◌+◌, ◌++◌, ℕ, List, length, HasJudged, spare}
 use Rattle.vic_log.proofs.begun.take_piece.Given as goal
 
 abbrev pub invariant-loop-line : goal.invariant-loop-line

@@ -1,7 +1,5 @@
-use Rattle.std.proofs.Common.{◌+◌, ◌*◌, get_or, set, ap₂, sym, subst, ◌∙◌, arith}
+use Rattle.vic_log.proofs.Words.{◌+◌, ◌*◌, get_or, set, ap₂, sym, subst, ◌∙◌, arith, get_or-set_same, get_or-set_other, SpellsByte}
 use borrow.Author.Count.{below_more}
-use Rattle.std.proofs.lemmas.List.{get_or-set_same, get_or-set_other}
-use Rattle.vic_log.specs.inner.Digits.{SpellsByte}
 use Rattle.vic_log.proofs.HexPairs.{spelled_all, no_digit}
 use Rattle.vic_log.proofs.decoding.decode_each.Goals as goal
 use Rattle.vic_log.proofs.decoding.decode_each.Goals.{then-high-gt15-via-then-high-gt15, then-high-gt15-via-else-high-gt15+then-low-gt15}

@@ -1,5 +1,4 @@
-use Rattle.std.proofs.Common.{ℕ, ◌+◌, ◌*◌, ◌<◌, slice_index}
-use Rattle.vic_log.specs.inner.Digits.{SpellsByte}
+use Rattle.vic_log.proofs.Words.{ℕ, ◌+◌, ◌*◌, ◌<◌, slice_index, SpellsByte}
 use Rattle.vic_log.proofs.decoding.decode_each.Given as goal
 
 abbrev pub invariant-bytes : goal.invariant-bytes

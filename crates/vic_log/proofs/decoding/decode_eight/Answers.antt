@@ -1,9 +1,6 @@
-use Rattle.std.proofs.Common.{◌≡◌, ◌≢◌, ℕ, zero, suc, ◌+◌, ◌-◌, ◌*◌, ◌%◌, ◌<◌, ◌≤◌, leb, leb-false, leb-true, eqb-true, List, [], ◌∷◌, ◌++◌, map, length, get_or, refl, ap, ap₂, sym, ◌∙◌, arith}
-use Rattle.std.proofs.lemmas.List.{get_or-map, length-map, get_or_append_left}
-use Rattle.std.proofs.lemmas.Simd.{length-chunk, get_or-chunk, get_or-put_chunk_below, get_or-put_chunk_at}
-use Rattle.std.proofs.lemmas.Bool.{eqb-false}
+use Rattle.vic_log.proofs.Words.{◌≡◌, ◌≢◌, ℕ, zero, suc, ◌+◌, ◌-◌, ◌*◌, ◌%◌, ◌<◌, ◌≤◌, leb, leb-false, List, [], ◌∷◌, ◌++◌, map, length, get_or, refl, ap, ap₂, sym, ◌∙◌, arith, get_or-map, length-map, get_or_append_left, length-chunk, get_or-chunk, get_or-put_chunk_below, get_or-put_chunk_at, eqb-false, digit_or_255}
+use Rattle.std.proofs.Common.{leb-true, eqb-true}
 use lib.Lanes.{chunk, mask_l}
-use Rattle.vic_log.specs.inner.Digits.{digit_or_255}
 use Rattle.vic_log.proofs.Lanes.{marks, none_marked, some_marked}
 use Rattle.vic_log.proofs.HexPairs.{no_digit}
 use Rattle.vic_log.proofs.decoding.decode_eight.Goals as goal

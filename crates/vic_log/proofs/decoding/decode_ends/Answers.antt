@@ -1,6 +1,4 @@
-use Rattle.std.proofs.Common.{◌+◌, ◌-◌, ◌*◌, length, get_or, sym, subst, arith, inl, inr}
-use Rattle.std.proofs.lemmas.Bool.{cases_lt}
-use Rattle.vic_log.specs.inner.Digits.{SpellsByte}
+use Rattle.vic_log.proofs.Words.{◌+◌, ◌-◌, ◌*◌, length, get_or, sym, subst, arith, inl, inr, cases_lt, SpellsByte}
 use Rattle.vic_log.proofs.HexPairs.{spelled_all}
 use Rattle.vic_log.proofs.decoding.decode_ends.Goals as goal
 

@@ -1,9 +1,5 @@
-use Rattle.std.proofs.Common.{◌≡◌, ◌+◌, ◌<◌, ℕ, get_or, length, ap, ◌∙◌, arith}
+use Rattle.vic_log.proofs.Words.{◌≡◌, ◌+◌, ◌<◌, ℕ, get_or, length, ap, ◌∙◌, arith, get_or-map, get_or-range_with_len, length-range_with_len, range_with_len, digit_or_255}
 use Rattle.std.specs.Prelude.{map}
-use Rattle.std.proofs.lemmas.List.{get_or-map}
-use Rattle.std.proofs.lemmas.List.FromFn.{get_or-range_with_len, length-range_with_len}
-use Rattle.std.specs.List.{range_with_len}
-use Rattle.vic_log.specs.inner.Digits.{digit_or_255}
 use Rattle.vic_log.proofs.decoding.digit_value.Goals as goal
 
 table_at : (n i : ℕ) → i < n → get_or (map digit_or_255 (range_with_len 0 n)) i 0 ≡ digit_or_255 i

@@ -1,6 +1,4 @@
-use Rattle.std.proofs.Common.{◌≡◌, ℕ, length, refl, ◌∙◌}
-use Rattle.std.proofs.lemmas.Simd.{zip2_of_maps, splat_is_map}
-use Rattle.vic_log.specs.inner.Digits.{digit_or_255}
+use Rattle.vic_log.proofs.Words.{◌≡◌, ℕ, length, refl, ◌∙◌, zip2_of_maps, splat_is_map, digit_or_255}
 use Rattle.vic_log.proofs.Lanes.{itself, chosen, on_bytes}
 use Rattle.vic_log.proofs.decoding.values_of.Goals as goal
 

@@ -1,5 +1,4 @@
-use Rattle.std.proofs.Common.{sym, ◌∙◌, arith}
-use Rattle.vic_log.proofs.Words.{common_steps}
+use Rattle.vic_log.proofs.Words.{sym, ◌∙◌, arith, common_steps}
 use Rattle.vic_log.proofs.HexDigits.{with_digits, next_byte, no_byte}
 use Rattle.vic_log.proofs.digits.push_hex.Goals as goal
 

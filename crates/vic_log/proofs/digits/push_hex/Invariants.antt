@@ -1,6 +1,4 @@
-use Rattle.std.proofs.Common.{◌≡◌, ◌+◌, ◌*◌, ◌++◌, drop}
-use Rattle.vic_log.proofs.Words.{encode_upper}
-use Rattle.arrayvec.specs.ArrayVec.{array_vec_len}
+use Rattle.vic_log.proofs.Words.{◌≡◌, ◌+◌, ◌*◌, ◌++◌, drop, encode_upper, array_vec_len}
 use Rattle.vic_log.proofs.digits.push_hex.Given as goal
 
 abbrev pub invariant-loop-byte : goal.invariant-loop-byte

@@ -1,6 +1,4 @@
-use Rattle.std.proofs.Common.{◌≡◌, ◌++◌, ℕ, List, [], Some, Result, ap, sym, ◌∙◌, append-nil, arith}
-use Rattle.vic_log.proofs.Words.{common_steps, LogFault, LogValue}
-use Rattle.vic_log.specs.Early.{ReadsAs, Judges}
+use Rattle.vic_log.proofs.Words.{◌≡◌, ◌++◌, ℕ, List, [], Some, Result, ap, sym, ◌∙◌, append-nil, arith, common_steps, LogFault, LogValue, ReadsAs, Judges}
 use Rattle.vic_log.proofs.Early.{early}
 use Rattle.vic_log.proofs.laws.pieces_give_the_whole.Goals as goal
 

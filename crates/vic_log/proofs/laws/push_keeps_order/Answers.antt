@@ -1,4 +1,4 @@
-use Rattle.std.proofs.Common.{[]}
+use Rattle.vic_log.proofs.Words.{[]}
 use Rattle.vic_log.proofs.Push.{IsInOrder-push}
 use Rattle.vic_log.proofs.Follow.{first_reason-none}
 use Rattle.vic_log.proofs.laws.push_keeps_order.Goals as goal

@@ -1,5 +1,4 @@
-use Rattle.std.proofs.Common.{rules, ◌≡◌, ◌∙◌, ap, true, not, arith}
-use Rattle.vic_log.proofs.Words.{common_steps, has, IsUid, entries, listed}
+use Rattle.vic_log.proofs.Words.{rules, ◌≡◌, ◌∙◌, ap, true, not, arith, common_steps, has, IsUid, entries, listed}
 use Rattle.vic_log.proofs.UidSets.{IsIndex-held, IsSetOf-push, IsSetOf-same, has_unless}
 use Rattle.vic_log.proofs.log.index_uid.Goals as goal
 

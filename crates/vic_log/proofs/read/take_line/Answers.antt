@@ -1,4 +1,4 @@
-use Rattle.std.proofs.Common.{arith}
+use Rattle.vic_log.proofs.Words.{arith}
 use Rattle.vic_log.proofs.read.take_line.Goals as goal
 
 pub take_entry-requires-clause-above : goal.take_entry-requires-clause-above

@@ -1,8 +1,4 @@
-use Rattle.std.proofs.Common.{rules, ◌≡◌, ◌++◌, ℕ, List, Option, Some, None, Result, Ok, Err, MatchResult, IfErr, take, length-append, length-take-le, false, true, inl, inr, ap, sym, ◌∙◌, append-nil, append_assoc, arith, ◌↔◌}
-use Rattle.vic_log.proofs.Words.{common_steps, Consumes-trans, err_from_is_err_and, Consumes, LogFault, Line, Read, Memory, Spent, IsEarly, lines_of_text, LogValue, IsLogOf, Refuses}
-use Rattle.std.proofs.KnownBytes.{Consumes-nil}
-use Rattle.vic_log.specs.Device.{KeepsOrHides, HandsOut, TellsOn}
-use Rattle.vic_log.specs.Early.{ReadsWhere}
+use Rattle.vic_log.proofs.Words.{rules, ◌≡◌, ◌++◌, ℕ, List, Option, Some, None, Result, Ok, Err, MatchResult, IfErr, take, length-append, length-take-le, false, true, inl, inr, ap, sym, ◌∙◌, append-nil, append_assoc, arith, ◌↔◌, common_steps, Consumes-trans, err_from_is_err_and, Consumes, LogFault, Line, Read, Memory, Spent, IsEarly, lines_of_text, LogValue, IsLogOf, Refuses, Consumes-nil, KeepsOrHides, HandsOut, TellsOn, ReadsWhere}
 use Rattle.vic_log.proofs.reader.read_from.Goals as goal
 
 handed : (a b : Option (List ℕ)) (xs : List ℕ) → Consumes a b xs → HandsOut a b xs × TellsOn a b

@@ -1,7 +1,5 @@
-use Rattle.std.proofs.Common.{◌≡◌, ◌≤◌, ◌+◌, ◌-◌, ◌++◌, ℕ, List, [], Some, take, true, false, length, unwrap_or}
-use Rattle.vic_log.proofs.Words.{Consumes}
-use Rattle.std.specs.Io.KnownBytes.{IsAtEnd}
-use Rattle.vic_log.specs.Early.{HasNoEarlyFault}
+use Rattle.vic_log.proofs.Words.{◌≡◌, ◌≤◌, ◌+◌, ◌-◌, ◌++◌, ℕ, List, [], Some, take, true, false, length, Consumes, IsAtEnd, HasNoEarlyFault}
+use Rattle.std.proofs.Common.{unwrap_or}
 use Rattle.vic_log.proofs.reader.read_from.Given as goal
 
 abbrev pub invariant-loop-count : goal.invariant-loop-count

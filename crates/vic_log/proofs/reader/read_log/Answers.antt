@@ -1,5 +1,4 @@
-use Rattle.std.proofs.Common.{List, ℕ, arith}
-use Rattle.vic_log.proofs.Words.{common_steps, err_from_is_err_and, LogFault, Line, Read, Memory, Spent, IsEarly, Refuses}
+use Rattle.vic_log.proofs.Words.{List, ℕ, arith, common_steps, err_from_is_err_and, LogFault, Line, Read, Memory, Spent, IsEarly, Refuses}
 use Rattle.vic_log.proofs.reader.read_log.Goals as goal
 
 early_refuses : (e : LogFault) (text : List ℕ) → IsEarly e text → Refuses text e

@@ -1,6 +1,4 @@
-use Rattle.std.proofs.Common.{ℕ, ◌≤◌, ◌-◌, ◌∙◌, ap, subst, sym, arith}
-use Rattle.vic_frame.specs.LowBitsFirst.{IsBlock, is_in_block, mirror}
-use Rattle.vic_frame.proofs.MirrorLaws.{first_is_block, in_span}
+use Rattle.vic_log.proofs.Words.{ℕ, ◌≤◌, ◌-◌, ◌∙◌, ap, subst, sym, arith, IsBlock, is_in_block, mirror, first_is_block, in_span}
 use Rattle.vic_log.proofs.rounds.keys_in.Goals as goal
 
 pub returns-then-len-le-UID_BITS-clause-block : goal.returns-then-len-le-UID_BITS-clause-block

@@ -1,6 +1,4 @@
-use Rattle.std.proofs.Common.{◌≡◌, ◌+◌, ◌≤◌, Option, Some, sym, subst, rules, IfSome}
-use Rattle.vic_log.specs.declared.rounds.OpenRound.{OpenRound}
-use Rattle.vic_log.specs.OpenRounds.{round_at}
+use Rattle.vic_log.proofs.Words.{◌≡◌, ◌+◌, ◌≤◌, Option, Some, sym, subst, rules, IfSome, OpenRound, round_at}
 use Rattle.vic_log.proofs.OpenRounds.{round_passed}
 use Rattle.vic_log.proofs.rounds.pass_entry.Goals as goal
 

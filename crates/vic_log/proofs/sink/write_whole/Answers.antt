@@ -1,4 +1,4 @@
-use Rattle.std.proofs.Common.{rules, Some}
+use Rattle.vic_log.proofs.Words.{rules, Some}
 use Rattle.vic_log.proofs.Told.{appended-more}
 use Rattle.vic_log.proofs.sink.write_whole.Goals as goal
 

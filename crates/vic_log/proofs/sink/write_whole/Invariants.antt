@@ -1,5 +1,4 @@
-use Rattle.std.proofs.Common.{length, ◌-◌, ◌≡◌, ◌≤◌, ◌++◌, false, take}
-use Rattle.vic_log.proofs.Words.{Appends}
+use Rattle.vic_log.proofs.Words.{length, ◌-◌, ◌≡◌, ◌≤◌, ◌++◌, false, take, Appends}
 use Rattle.vic_log.proofs.sink.write_whole.Given as goal
 
 abbrev pub invariant-loop-at : goal.invariant-loop-at

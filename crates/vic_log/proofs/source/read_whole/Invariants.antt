@@ -1,5 +1,5 @@
-use Rattle.std.proofs.Common.{◌≡◌, ◌≤◌, ◌+◌, ◌-◌, false, vec_len}
-use Rattle.vic_log.proofs.Words.{Consumes}
+use Rattle.vic_log.proofs.Words.{◌≡◌, ◌≤◌, ◌+◌, ◌-◌, false, Consumes}
+use Rattle.std.proofs.Common.{vec_len}
 use Rattle.vic_log.proofs.source.read_whole.Given as goal
 
 abbrev pub invariant-loop-piece : goal.invariant-loop-piece

@@ -1,4 +1,4 @@
-use Rattle.std.proofs.Common.{arith}
+use Rattle.vic_log.proofs.Words.{arith}
 use Rattle.vic_log.proofs.UidSets.{none_has}
 use Rattle.vic_log.proofs.uid_set.free_place.Goals as goal
 

@@ -1,4 +1,4 @@
-use Rattle.std.proofs.Common.{◌≡◌, ℕ, ◌<◌, get_or}
+use Rattle.vic_log.proofs.Words.{◌≡◌, ℕ, ◌<◌, get_or}
 use Rattle.vic_log.proofs.uid_set.free_place.Given as goal
 
 abbrev pub invariant-loop-k : goal.invariant-loop-k

@@ -1,5 +1,4 @@
-use Rattle.std.proofs.Common.{◌≡◌, Some, false, [], ◌∷◌, take, length, refl, sym, ap, ◌∙◌, add-one, slice_get, nat_eq, arith}
-use Rattle.vic_log.proofs.Words.{common_steps, slice_get_read, list_any-append, has, entries, listed}
+use Rattle.vic_log.proofs.Words.{◌≡◌, Some, false, [], ◌∷◌, take, length, refl, sym, ap, ◌∙◌, add-one, slice_get, nat_eq, arith, common_steps, slice_get_read, list_any-append, has, entries, listed}
 use Rattle.vic_log.proofs.UidSets.{has_at_line, listed_next}
 use Rattle.vic_log.proofs.uid_set.is_listed.Goals as goal
 

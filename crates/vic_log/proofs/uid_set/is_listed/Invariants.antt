@@ -1,5 +1,4 @@
-use Rattle.std.proofs.Common.{◌≡◌, take, false}
-use Rattle.vic_log.proofs.Words.{has, entries, listed}
+use Rattle.vic_log.proofs.Words.{◌≡◌, take, false, has, entries, listed}
 use Rattle.vic_log.proofs.uid_set.is_listed.Given as goal
 
 abbrev pub invariant-loop-line : goal.invariant-loop-line

@@ -1,5 +1,4 @@
-use Rattle.std.proofs.Common.{◌≡◌, List, ℕ, Some, take, length, refl, sym, subst, add-one, slice_get}
-use Rattle.vic_log.proofs.Words.{slice_get_read, entries, listed, IsSetOf}
+use Rattle.vic_log.proofs.Words.{◌≡◌, List, ℕ, Some, take, length, refl, sym, subst, add-one, slice_get, slice_get_read, entries, listed, IsSetOf}
 use Rattle.vic_log.proofs.UidSets.{listed_next}
 use Rattle.vic_log.proofs.uid_set.listed_uids.Goals as goal
 

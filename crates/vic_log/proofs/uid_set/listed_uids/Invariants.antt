@@ -1,5 +1,4 @@
-use Rattle.std.proofs.Common.{take}
-use Rattle.vic_log.proofs.Words.{entries, listed, IsUidSet, IsSetOf}
+use Rattle.vic_log.proofs.Words.{take, entries, listed, IsUidSet, IsSetOf}
 use Rattle.vic_log.proofs.uid_set.listed_uids.Given as goal
 
 abbrev pub invariant-loop-line : goal.invariant-loop-line

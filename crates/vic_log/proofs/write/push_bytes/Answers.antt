@@ -1,5 +1,4 @@
-use Rattle.std.proofs.Common.{◌≡◌, ℕ, List, [], ◌∷◌, ◌++◌, ◌∙◌, append_assoc, arith}
-use Rattle.vic_log.proofs.Words.{common_steps, encode_upper}
+use Rattle.vic_log.proofs.Words.{◌≡◌, ℕ, List, [], ◌∷◌, ◌++◌, ◌∙◌, append_assoc, arith, common_steps, encode_upper}
 use Rattle.vic_log.proofs.write.push_bytes.Goals as goal
 
 two_first : (line bytes : List ℕ) (letter : ℕ) → ((line ++ letter ∷ []) ++ 32 ∷ []) ++ encode_upper bytes ≡ line ++ letter ∷ 32 ∷ encode_upper bytes

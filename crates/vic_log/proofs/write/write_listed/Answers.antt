@@ -1,5 +1,4 @@
-use Rattle.std.proofs.Common.{rules, Some, [], ◌∷◌, ◌++◌, drop, refl, arith}
-use Rattle.vic_log.proofs.Words.{Listed, lf, entry_text, listed_text}
+use Rattle.vic_log.proofs.Words.{rules, Some, [], ◌∷◌, ◌++◌, drop, refl, arith, Listed, lf, entry_text, listed_text}
 use Rattle.vic_log.proofs.Told.{line_next, none_left, HasTakenBut-all, HasTakenBut-line, HasTakenBut-part}
 use Rattle.vic_log.proofs.write.write_listed.Goals as goal
 

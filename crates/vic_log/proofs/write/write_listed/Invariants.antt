@@ -1,5 +1,4 @@
-use Rattle.std.proofs.Common.{◌≡◌, ◌++◌, drop, true}
-use Rattle.vic_log.proofs.Words.{HasTakenBut, HasWrittenBut, listed_text}
+use Rattle.vic_log.proofs.Words.{◌≡◌, ◌++◌, drop, true, HasTakenBut, HasWrittenBut, listed_text}
 use Rattle.vic_log.proofs.write.write_listed.Given as goal
 
 abbrev pub invariant-loop-uid : goal.invariant-loop-uid

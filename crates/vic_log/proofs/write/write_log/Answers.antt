@@ -1,5 +1,4 @@
-use Rattle.std.proofs.Common.{rules, Some, ℕ, zero, ◌<◌, suc, List, [], ◌∷◌, ◌++◌, length, drop, slice_index_or, refl, sym, arith}
-use Rattle.vic_log.proofs.Words.{LogLine, lf, IsValidEntry, AreValid, entries, entry_text, lines_text}
+use Rattle.vic_log.proofs.Words.{rules, Some, ℕ, zero, ◌<◌, suc, List, [], ◌∷◌, ◌++◌, length, drop, slice_index_or, refl, sym, arith, LogLine, lf, IsValidEntry, AreValid, entries, entry_text, lines_text}
 use Rattle.vic_log.proofs.Spelled.{valid_at}
 use Rattle.vic_log.proofs.Told.{line_next, none_left, HasTakenBut-all, HasTakenBut-line, HasTakenBut-part}
 use Rattle.vic_log.proofs.write.write_log.Goals as goal

@@ -1,6 +1,4 @@
-use Rattle.std.proofs.Common.{◌≡◌, ◌++◌, drop, true}
-use Rattle.vic_log.proofs.Words.{HasTakenBut, HasWrittenBut, lines_text}
-use Rattle.vic_log.specs.Writing.{text_of}
+use Rattle.vic_log.proofs.Words.{◌≡◌, ◌++◌, drop, true, HasTakenBut, HasWrittenBut, lines_text, text_of}
 use Rattle.vic_log.proofs.write.write_log.Given as goal
 
 abbrev pub invariant-loop-line : goal.invariant-loop-line

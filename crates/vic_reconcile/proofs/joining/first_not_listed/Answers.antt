@@ -1,5 +1,4 @@
-use Rattle.std.proofs.Common.{◌≡◌, true, ap, arith, subst, sym, ◌∙◌}
-use Rattle.vic_reconcile.proofs.Words.{take_all, All-more, LogLine, IsList, is_listed}
+use Rattle.vic_reconcile.proofs.Words.{◌≡◌, true, ap, arith, subst, sym, ◌∙◌, take_all, All-more, LogLine, IsList, is_listed}
 use Rattle.vic_reconcile.proofs.joining.first_not_listed.Goals as goal
 
 pub loop-line-preserved : goal.loop-line-preserved

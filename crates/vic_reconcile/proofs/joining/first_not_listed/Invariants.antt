@@ -1,5 +1,4 @@
-use Rattle.std.proofs.Common.{◌≡◌, true, take, All}
-use Rattle.vic_reconcile.proofs.Words.{LogLine, is_listed}
+use Rattle.vic_reconcile.proofs.Words.{◌≡◌, true, take, All, LogLine, is_listed}
 use Rattle.vic_reconcile.proofs.joining.first_not_listed.Given as goal
 
 abbrev pub invariant-loop-line : goal.invariant-loop-line

@@ -1,5 +1,4 @@
-use Rattle.std.proofs.Common.{◌≡◌, take, ◌+◌, ◌++◌, ◌∷◌, [], sym, subst, ap, ◌∙◌}
-use Rattle.vic_reconcile.proofs.Words.{take_more, AreNoted}
+use Rattle.vic_reconcile.proofs.Words.{◌≡◌, take, ◌+◌, ◌++◌, ◌∷◌, [], sym, subst, ap, ◌∙◌, take_more, AreNoted}
 use Rattle.vic_reconcile.proofs.Joins.{noted_before, noted_next}
 use Rattle.vic_reconcile.proofs.joining.note_all.Goals as goal
 use Rattle.vic_reconcile.proofs.joining.note_all.Goals.{then-not-contains_key+in_ok-insert, else-not-contains_key}

@@ -1,5 +1,4 @@
-use Rattle.std.proofs.Common.{take}
-use Rattle.vic_reconcile.proofs.Words.{AreNoted}
+use Rattle.vic_reconcile.proofs.Words.{take, AreNoted}
 use Rattle.vic_reconcile.proofs.joining.note_all.Given as goal
 
 abbrev pub invariant-loop-one : goal.invariant-loop-one

@@ -1,6 +1,4 @@
-use Rattle.std.proofs.Common.{List, subst, refl}
-use Rattle.vic_reconcile.proofs.Words.{has, is_open_in, LogLine, AreDifferences, IsFailing, IsListOf, AreListed, IsCertainUid, IsPossibleUid}
-use Rattle.vic_reconcile.specs.Surveys.{AreFindingsBy, AreTogether, IsAmong, MayBe}
+use Rattle.vic_reconcile.proofs.Words.{List, subst, refl, has, is_open_in, LogLine, AreDifferences, IsFailing, IsListOf, AreListed, IsCertainUid, IsPossibleUid, AreFindingsBy, AreTogether, IsAmong, MayBe}
 use Rattle.vic_reconcile.proofs.Surveyed.{array_facts, found, log_facts, none_found}
 use Rattle.vic_reconcile.proofs.surveys.compare_surveys.Goals as goal
 

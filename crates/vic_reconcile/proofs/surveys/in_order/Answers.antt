@@ -1,5 +1,4 @@
-use Rattle.std.proofs.Common.{[], ◌∷◌, ◌++◌, take, ap, sym, subst, ◌∙◌, ⊎_elim, arith, nat_eq}
-use Rattle.vic_reconcile.proofs.Words.{false≢true, or_cases, take_all, take_more, list_any-append, IsUid, has, has_cases}
+use Rattle.vic_reconcile.proofs.Words.{[], ◌∷◌, ◌++◌, take, ap, sym, subst, ◌∙◌, ⊎_elim, arith, nat_eq, false≢true, or_cases, take_all, take_more, list_any-append, IsUid, has, has_cases}
 use Rattle.vic_reconcile.proofs.surveys.in_order.Goals as goal
 
 pub loop-uid-preserved : goal.loop-uid-preserved

@@ -1,5 +1,4 @@
-use Rattle.std.proofs.Common.{◌≡◌, ℕ, take, true}
-use Rattle.vic_reconcile.proofs.Words.{IsUid, has}
+use Rattle.vic_reconcile.proofs.Words.{◌≡◌, ℕ, take, true, IsUid, has}
 use Rattle.vic_reconcile.proofs.surveys.in_order.Given as goal
 
 abbrev pub invariant-loop-uid : goal.invariant-loop-uid

@@ -1,5 +1,4 @@
-use Rattle.std.proofs.Common.{subst}
-use Rattle.vic_reconcile.proofs.Words.{SameUids, without_keys, is_open_in, entries, AreKeysOf, log_facts}
+use Rattle.vic_reconcile.proofs.Words.{subst, SameUids, without_keys, is_open_in, entries, AreKeysOf, log_facts}
 use Rattle.vic_reconcile.proofs.Joins.{left_by}
 use Rattle.vic_reconcile.proofs.surveys.survey_facts.Goals as goal
 

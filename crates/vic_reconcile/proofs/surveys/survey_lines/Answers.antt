@@ -1,5 +1,4 @@
-use Rattle.vic_reconcile.proofs.Words.{entries}
-use Rattle.vic_verdict.specs.Possible.{IsContradiction, IsPossible}
+use Rattle.vic_reconcile.proofs.Words.{entries, IsContradiction, IsPossible}
 use Rattle.vic_reconcile.proofs.Surveyed.{impossible_log}
 use Rattle.vic_reconcile.proofs.surveys.survey_lines.Goals as goal
 

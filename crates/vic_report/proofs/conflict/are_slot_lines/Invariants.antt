@@ -1,5 +1,4 @@
-use Rattle.std.proofs.Common.{◌≡◌, ℕ, true, take}
-use Rattle.vic_report.proofs.Words.{has, IsSlotLine}
+use Rattle.vic_report.proofs.Words.{◌≡◌, ℕ, true, take, has, IsSlotLine}
 use Rattle.vic_report.proofs.conflict.are_slot_lines.Given as goal
 
 abbrev pub invariant-loop-number : goal.invariant-loop-number

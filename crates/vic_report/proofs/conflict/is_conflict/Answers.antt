@@ -1,5 +1,4 @@
-use Rattle.std.proofs.Common.{◌∙◌, sym, subst}
-use Rattle.vic_report.proofs.Words.{entries, IsContradictedAt}
+use Rattle.vic_report.proofs.Words.{◌∙◌, sym, subst, entries, IsContradictedAt}
 use Rattle.vic_report.proofs.Conflicts.{err_of, kept_conflict}
 use Rattle.vic_report.proofs.conflict.is_conflict.Goals as goal
 

@@ -1,9 +1,4 @@
-use Rattle.std.proofs.Common.{ap, sym, ◌∙◌, nat_eq}
-use Rattle.vic_report.proofs.Words.{list_any-IsPermutation}
-use Rattle.std.specs.List.{list_any}
-use Rattle.std.proofs.lemmas.List.Filters.{dedup_is}
-use Rattle.std.proofs.lemmas.Map.Keys.{IsStrictlyIncreasing-dedup}
-use Rattle.vic_tree.proofs.GatheringLaws.{has_dedup}
+use Rattle.vic_report.proofs.Words.{ap, sym, ◌∙◌, nat_eq, list_any-IsPermutation, list_any, dedup_is, IsStrictlyIncreasing-dedup, has_dedup}
 use Rattle.vic_report.proofs.conflict.put_numbers_in_order.Goals as goal
 
 pub returns-clause-rising : goal.returns-clause-rising

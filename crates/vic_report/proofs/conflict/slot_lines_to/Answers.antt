@@ -1,5 +1,4 @@
-use Rattle.std.proofs.Common.{◌≡◌, Some, true, length, ap, refl, sym, subst, arith, ⊎_elim, ◌∙◌, slice_get}
-use Rattle.vic_report.proofs.Words.{cases_lt, slice_get_read, slice_get_within, has, LogLine}
+use Rattle.vic_report.proofs.Words.{◌≡◌, Some, true, length, ap, refl, sym, subst, arith, ⊎_elim, ◌∙◌, slice_get, cases_lt, slice_get_read, slice_get_within, has, LogLine}
 use Rattle.vic_report.proofs.Conflicts.{slots_conflict}
 use Rattle.vic_report.proofs.conflict.slot_lines_to.Goals as goal
 

@@ -1,5 +1,4 @@
-use Rattle.std.proofs.Common.{◌≡◌, ℕ, ◌<◌, ◌≤◌, Some, true, slice_get}
-use Rattle.vic_report.proofs.Words.{has, LogLine, is_slot, IsSlotLine}
+use Rattle.vic_report.proofs.Words.{◌≡◌, ℕ, ◌<◌, ◌≤◌, Some, true, slice_get, has, LogLine, is_slot, IsSlotLine}
 use Rattle.vic_report.proofs.conflict.slot_lines_to.Given as goal
 
 abbrev pub invariant-loop-line : goal.invariant-loop-line

@@ -1,9 +1,4 @@
-use Rattle.std.proofs.Common.{◌≡◌, ℕ, Bool, true, List, ◌∙◌, sym, ap, subst, MatchOption}
-use Rattle.vic_report.proofs.Words.{has, entries, listed, AreDifferences, IsLeftOpen, IsPossibleUid, IsCertainUid, IsFailing, IsListOf, IsAbsent, IsUnlisted, NoSuch, AreOpenMasks, IsUnsettledWith}
-use Rattle.vic_tree.specs.OpenSet.{has_key, without_keys}
-use Rattle.vic_tree.specs.Ranges.{is_open_in}
-use Rattle.vic_verdict.specs.declared.findings.Differences.{Differences}
-use Rattle.vic_verdict.proofs.Differing.{AreListed, log_facts, all_findings, doubtful_list}
+use Rattle.vic_report.proofs.Words.{◌≡◌, ℕ, Bool, true, List, ◌∙◌, sym, ap, subst, MatchOption, has, entries, listed, AreDifferences, IsLeftOpen, IsPossibleUid, IsCertainUid, IsFailing, IsListOf, IsAbsent, IsUnlisted, NoSuch, AreOpenMasks, IsUnsettledWith, has_key, without_keys, is_open_in, Differences, AreListed, log_facts, all_findings, doubtful_list}
 use Rattle.vic_report.proofs.AllFindings.{left_to_ask, open_set, shut_all}
 use Rattle.vic_report.proofs.findings.find_findings.Goals as goal
 

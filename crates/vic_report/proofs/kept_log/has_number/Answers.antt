@@ -1,5 +1,4 @@
-use Rattle.std.proofs.Common.{◌∙◌}
-use Rattle.vic_tree.proofs.GatheringLaws.{found_among}
+use Rattle.vic_report.proofs.Words.{◌∙◌, found_among}
 use Rattle.vic_report.proofs.kept_log.has_number.Goals as goal
 
 pub returns : goal.returns

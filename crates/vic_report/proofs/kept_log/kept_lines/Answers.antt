@@ -1,5 +1,4 @@
-use Rattle.std.proofs.Common.{Some, ap, sym, subst, length, refl, arith, ◌∙◌}
-use Rattle.vic_report.proofs.Words.{slice_get_read, has, Entry, entries, CouldHaveGiven, Fits, outcome_at, is_quiet, AreNumbered, entry_at}
+use Rattle.vic_report.proofs.Words.{Some, ap, sym, subst, length, refl, arith, ◌∙◌, slice_get_read, has, Entry, entries, CouldHaveGiven, Fits, outcome_at, is_quiet, AreNumbered, entry_at}
 use Rattle.vic_report.proofs.KeptLogs.{none_numbered, valid_entry}
 use Rattle.vic_report.proofs.kept_log.kept_lines.Goals as goal
 

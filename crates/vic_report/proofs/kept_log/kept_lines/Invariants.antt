@@ -1,6 +1,4 @@
-use Rattle.std.proofs.Common.{ℕ, ◌*◌, ◌≤◌, List, length}
-use Rattle.vic_report.proofs.Words.{entries, CouldHaveGiven, FitsLines, AreNumbered, SameQuiet}
-use Rattle.vic_log.specs.OpenRounds.{IsCursorAt}
+use Rattle.vic_report.proofs.Words.{ℕ, ◌*◌, ◌≤◌, List, length, entries, CouldHaveGiven, FitsLines, AreNumbered, SameQuiet, IsCursorAt}
 use Rattle.vic_report.proofs.kept_log.kept_lines.Given as goal
 
 abbrev pub invariant-loop-index : goal.invariant-loop-index

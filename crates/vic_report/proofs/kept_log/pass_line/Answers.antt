@@ -1,4 +1,4 @@
-use Rattle.std.proofs.Common.{rules}
+use Rattle.vic_report.proofs.Words.{rules}
 use Rattle.vic_report.proofs.KeptLogs.{entry_passed}
 use Rattle.vic_report.proofs.kept_log.pass_line.Goals as goal
 

@@ -1,5 +1,4 @@
-use Rattle.std.proofs.Common.{◌≡◌, None, sym, subst}
-use Rattle.vic_report.proofs.Words.{entries, refusal}
+use Rattle.vic_report.proofs.Words.{◌≡◌, None, sym, subst, entries, refusal}
 use Rattle.vic_report.proofs.KeptLogs.{slot_follows, slot_passed}
 use Rattle.vic_report.proofs.kept_log.push_if_kept.Goals as goal
 

@@ -1,6 +1,4 @@
-use Rattle.std.proofs.Common.{◌≡◌, ◌+◌, ◌∷◌, [], None, length, ap, arith, sym, subst, ◌∙◌}
-use Rattle.vic_report.proofs.Words.{entries, listed, refusal, LogLine, AreNumbered}
-use Rattle.vic_log.specs.Log.{IsValidEntry}
+use Rattle.vic_report.proofs.Words.{◌≡◌, ◌+◌, ◌∷◌, [], None, length, ap, arith, sym, subst, ◌∙◌, entries, listed, refusal, LogLine, AreNumbered, IsValidEntry}
 use Rattle.vic_report.proofs.KeptLogs.{numbered_more}
 use Rattle.vic_report.proofs.kept_log.push_next.Goals as goal
 

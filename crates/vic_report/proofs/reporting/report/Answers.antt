@@ -1,6 +1,4 @@
-use Rattle.std.proofs.Common.{arith}
-use Rattle.vic_log.proofs.Push.{rising_long}
-use Rattle.vic_verdict.proofs.Verdicts.{first_lines}
+use Rattle.vic_report.proofs.Words.{arith, rising_long, first_lines}
 use Rattle.vic_report.proofs.reporting.report.Goals as goal
 
 pub report_lines-requires : goal.report_lines-requires

@@ -1,5 +1,4 @@
-use Rattle.std.proofs.Common.{ap, subst, MatchOption}
-use Rattle.vic_report.proofs.Words.{entries, uids_of, IsLeftOpen, MayBeMissing, IsUnsettledWith, IsListOf, IsAbsent, IsUnlisted, NoSuch}
+use Rattle.vic_report.proofs.Words.{ap, subst, MatchOption, entries, uids_of, IsLeftOpen, MayBeMissing, IsUnsettledWith, IsListOf, IsAbsent, IsUnlisted, NoSuch}
 use Rattle.vic_report.proofs.AllFindings.{none_is_complete}
 use Rattle.vic_report.proofs.reporting.report_facts.Goals as goal
 

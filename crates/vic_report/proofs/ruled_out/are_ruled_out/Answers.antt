@@ -1,5 +1,4 @@
-use Rattle.std.proofs.Common.{Some, length, refl, sym, ap, ◌∙◌, subst, arith, All}
-use Rattle.vic_report.proofs.Words.{eqb-true, take_all, slice_get_read, Entry, entries, IsRuledOut, entry_at}
+use Rattle.vic_report.proofs.Words.{Some, length, refl, sym, ap, ◌∙◌, subst, arith, All, eqb-true, take_all, slice_get_read, Entry, entries, IsRuledOut, entry_at}
 use Rattle.vic_report.proofs.ruled_out.are_ruled_out.Goals as goal
 
 pub loop-line-init : goal.loop-line-init

@@ -1,5 +1,4 @@
-use Rattle.std.proofs.Common.{◌≤◌, length, take, All}
-use Rattle.vic_report.proofs.Words.{entries, IsFieldAt, IsRuledOut}
+use Rattle.vic_report.proofs.Words.{◌≤◌, length, take, All, entries, IsFieldAt, IsRuledOut}
 use Rattle.vic_report.proofs.ruled_out.are_ruled_out.Given as goal
 
 abbrev pub invariant-loop-line : goal.invariant-loop-line

@@ -1,6 +1,4 @@
-use Rattle.std.proofs.Common.{Some, length, refl, sym, ap, ◌∙◌, subst, rules, ◌&&◌}
-use Rattle.vic_report.proofs.Words.{and_from, slice_get_read, IsUid, Entry, entries, answers_at, RulesOut, lacks_reply_of, entry_at}
-use Rattle.vic_log.proofs.Supply.{is_uid_from}
+use Rattle.vic_report.proofs.Words.{Some, length, refl, sym, ap, ◌∙◌, subst, rules, ◌&&◌, and_from, slice_get_read, IsUid, Entry, entries, answers_at, RulesOut, lacks_reply_of, entry_at, is_uid_from}
 use Rattle.vic_report.proofs.RuledOut.{rules_out_from, open_passed}
 use Rattle.vic_report.proofs.ruled_out.first_ruling.Goals as goal
 

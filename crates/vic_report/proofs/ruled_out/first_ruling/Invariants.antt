@@ -1,5 +1,4 @@
-use Rattle.std.proofs.Common.{◌≡◌, true}
-use Rattle.vic_report.proofs.Words.{entries, slots_before, is_open, IsFieldAt}
+use Rattle.vic_report.proofs.Words.{◌≡◌, true, entries, slots_before, is_open, IsFieldAt}
 use Rattle.vic_report.proofs.ruled_out.first_ruling.Given as goal
 
 abbrev pub invariant-loop-line : goal.invariant-loop-line

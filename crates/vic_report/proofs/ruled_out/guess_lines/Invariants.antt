@@ -1,5 +1,4 @@
-use Rattle.std.proofs.Common.{◌≡◌, take}
-use Rattle.vic_report.proofs.Words.{uids_of}
+use Rattle.vic_report.proofs.Words.{◌≡◌, take, uids_of}
 use Rattle.vic_report.proofs.ruled_out.guess_lines.Given as goal
 
 abbrev pub invariant-loop-index : goal.invariant-loop-index

@@ -1,5 +1,4 @@
-use Rattle.std.proofs.Common.{◌∙◌, subst, All}
-use Rattle.vic_report.proofs.Words.{All-permutation, IsPermutation-sym, IsRuledOut}
+use Rattle.vic_report.proofs.Words.{◌∙◌, subst, All, All-permutation, IsPermutation-sym, IsRuledOut}
 use Rattle.vic_report.proofs.ruled_out.lines_of_absent.Goals as goal
 
 pub returns-then-branch-clause-shown : goal.returns-then-branch-clause-shown

@@ -1,5 +1,4 @@
-use Rattle.std.proofs.Common.{get_or, ap, ◌∙◌, arith, ◌&&◌}
-use Rattle.vic_report.proofs.Words.{entries, answers_at, lacks_reply_of}
+use Rattle.vic_report.proofs.Words.{get_or, ap, ◌∙◌, arith, ◌&&◌, entries, answers_at, lacks_reply_of}
 use Rattle.vic_report.proofs.RuledOut.{passed_more}
 use Rattle.vic_report.proofs.ruled_out.pass_ruled_out.Goals as goal
 

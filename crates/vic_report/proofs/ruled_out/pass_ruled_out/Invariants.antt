@@ -1,5 +1,4 @@
-use Rattle.std.proofs.Common.{◌≡◌, ◌≤◌, ◌-◌, ℕ, List, Some, length, take, slice_get, All}
-use Rattle.vic_report.proofs.Words.{LogLine, AreValid, entries, IsFieldAt, IsRuledOut}
+use Rattle.vic_report.proofs.Words.{◌≡◌, ◌≤◌, ◌-◌, ℕ, List, Some, length, take, slice_get, All, LogLine, AreValid, entries, IsFieldAt, IsRuledOut}
 use Rattle.vic_report.proofs.ruled_out.pass_ruled_out.Given as goal
 
 abbrev pub invariant-loop-next : goal.invariant-loop-next

@@ -1,5 +1,4 @@
-use Rattle.std.proofs.Common.{◌≡◌, take, All}
-use Rattle.vic_report.proofs.Words.{uids_of, IsRuledOut}
+use Rattle.vic_report.proofs.Words.{◌≡◌, take, All, uids_of, IsRuledOut}
 use Rattle.vic_report.proofs.ruled_out.search_lines.Given as goal
 
 abbrev pub invariant-loop-uid : goal.invariant-loop-uid

@@ -1,5 +1,4 @@
-use Rattle.std.proofs.Common.{◌≡◌, false, MatchOption}
-use Rattle.vic_report.proofs.Words.{entries, is_quiet, IsSilencedBefore}
+use Rattle.vic_report.proofs.Words.{◌≡◌, false, MatchOption, entries, is_quiet, IsSilencedBefore}
 use Rattle.vic_report.proofs.silencer.silencer_before.Given as goal
 
 abbrev pub invariant-loop-index : goal.invariant-loop-index

@@ -1,5 +1,4 @@
-use Rattle.std.proofs.Common.{◌≡◌, Some, length, ap, refl, sym, arith, ⊎_elim, ◌∙◌, slice_get}
-use Rattle.vic_report.proofs.Words.{cases_lt, slice_get_read, slice_get_within, LogLine}
+use Rattle.vic_report.proofs.Words.{◌≡◌, Some, length, ap, refl, sym, arith, ⊎_elim, ◌∙◌, slice_get, cases_lt, slice_get_read, slice_get_within, LogLine}
 use Rattle.vic_report.proofs.Conflicts.{silenced_there}
 use Rattle.vic_report.proofs.silencer.silencer_of.Goals as goal
 

@@ -1,5 +1,4 @@
-use Rattle.std.proofs.Common.{◌≡◌, ℕ, ◌<◌, Some, slice_get}
-use Rattle.vic_report.proofs.Words.{LogLine}
+use Rattle.vic_report.proofs.Words.{◌≡◌, ℕ, ◌<◌, Some, slice_get, LogLine}
 use Rattle.vic_report.proofs.silencer.silencer_of.Given as goal
 
 abbrev pub invariant-loop-index : goal.invariant-loop-index

@@ -1,5 +1,4 @@
-use Rattle.std.proofs.Common.{◌≡◌, Some, length, refl, sym, subst, ltb-true, arith, slice_get}
-use Rattle.vic_report.proofs.Words.{slice_get_read, ShowsCertain}
+use Rattle.vic_report.proofs.Words.{◌≡◌, Some, length, refl, sym, subst, ltb-true, arith, slice_get, slice_get_read, ShowsCertain}
 use Rattle.vic_report.proofs.Telling.{found_shows}
 use Rattle.vic_report.proofs.told.exact_line.Goals as goal
 

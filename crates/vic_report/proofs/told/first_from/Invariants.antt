@@ -1,4 +1,4 @@
-use Rattle.std.proofs.Common.{◌-◌, length}
+use Rattle.vic_report.proofs.Words.{◌-◌, length}
 use Rattle.vic_report.proofs.told.first_from.Given as goal
 
 abbrev pub decreases-loop-index : goal.decreases-loop-index

@@ -1,5 +1,4 @@
-use Rattle.std.proofs.Common.{[], ◌∷◌, ◌++◌, take, ap, ◌∙◌, sym, subst, All}
-use Rattle.vic_report.proofs.Words.{map-append, take_more, All-push, ShownUid, IsToldOf, uids_of}
+use Rattle.vic_report.proofs.Words.{[], ◌∷◌, ◌++◌, take, ap, ◌∙◌, sym, subst, All, map-append, take_more, All-push, ShownUid, IsToldOf, uids_of}
 use Rattle.vic_report.proofs.told.lines_of_certain.Goals as goal
 
 pub line_of-line-requires-clause-found : goal.line_of-line-requires-clause-found

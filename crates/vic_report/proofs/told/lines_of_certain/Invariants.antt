@@ -1,5 +1,4 @@
-use Rattle.std.proofs.Common.{◌≡◌, take, All}
-use Rattle.vic_report.proofs.Words.{uids_of, IsToldOf}
+use Rattle.vic_report.proofs.Words.{◌≡◌, take, All, uids_of, IsToldOf}
 use Rattle.vic_report.proofs.told.lines_of_certain.Given as goal
 
 abbrev pub invariant-loop-uid : goal.invariant-loop-uid

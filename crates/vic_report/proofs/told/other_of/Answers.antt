@@ -1,5 +1,4 @@
-use Rattle.std.proofs.Common.{subst, sym, ap, ◌∙◌}
-use Rattle.vic_report.proofs.Words.{eqb-true, has, entries, IsFound, member_at}
+use Rattle.vic_report.proofs.Words.{subst, sym, ap, ◌∙◌, eqb-true, has, entries, IsFound, member_at}
 use Rattle.vic_report.proofs.told.other_of.Goals as goal
 
 pub exact_line-requires-clause-found : goal.exact_line-requires-clause-found

@@ -1,6 +1,4 @@
-use Rattle.std.proofs.Common.{ℕ, ◌<◌, get_or}
-use Rattle.vic_verdict.specs.declared.demands.Found.{Found}
-use Rattle.vic_verdict.proofs.Meeting.{Exactly}
+use Rattle.vic_report.proofs.Words.{ℕ, ◌<◌, get_or, Found, Exactly}
 use Rattle.vic_report.proofs.told.other_of.Given as goal
 
 abbrev pub invariant-loop-one : goal.invariant-loop-one

@@ -1,5 +1,4 @@
-use Rattle.std.proofs.Common.{sym}
-use Rattle.vic_report.proofs.Words.{All-push, IsToldOf, member_at}
+use Rattle.vic_report.proofs.Words.{sym, All-push, IsToldOf, member_at}
 use Rattle.vic_report.proofs.told.push_uids.Goals as goal
 
 pub loop-uid-preserved : goal.loop-uid-preserved

@@ -1,5 +1,4 @@
-use Rattle.std.proofs.Common.{◌≡◌, ℕ, List, true, All}
-use Rattle.vic_report.proofs.Words.{has, LogLine, IsToldOf, ShowsCertain}
+use Rattle.vic_report.proofs.Words.{◌≡◌, ℕ, List, true, All, has, LogLine, IsToldOf, ShowsCertain}
 use Rattle.vic_report.proofs.told.push_uids.Given as goal
 
 abbrev pub invariant-loop-uid : goal.invariant-loop-uid

@@ -1,5 +1,4 @@
-use Rattle.std.proofs.Common.{◌≡◌, Some, length, refl, sym, ap, ◌∙◌, subst, arith, ⊎_elim, slice_get}
-use Rattle.vic_report.proofs.Words.{cases_eq, length-map, slice_get_read, slice_get_within, Heard, LogLine, entries, ShowsCertain, entry_at}
+use Rattle.vic_report.proofs.Words.{◌≡◌, Some, length, refl, sym, ap, ◌∙◌, subst, arith, ⊎_elim, slice_get, cases_eq, length-map, slice_get_read, slice_get_within, Heard, LogLine, entries, ShowsCertain, entry_at}
 use Rattle.vic_report.proofs.Telling.{reply_shows}
 use Rattle.vic_report.proofs.told.reply_of.Goals as goal
 

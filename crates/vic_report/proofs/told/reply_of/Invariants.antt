@@ -1,5 +1,4 @@
-use Rattle.std.proofs.Common.{◌≡◌, ℕ, ◌<◌, Some, slice_get}
-use Rattle.vic_report.proofs.Words.{Reply, Heard, entries}
+use Rattle.vic_report.proofs.Words.{◌≡◌, ℕ, ◌<◌, Some, slice_get, Reply, Heard, entries}
 use Rattle.vic_report.proofs.told.reply_of.Given as goal
 
 abbrev pub invariant-loop-line : goal.invariant-loop-line

@@ -1,5 +1,4 @@
-use Rattle.std.proofs.Common.{subst, sym}
-use Rattle.vic_report.proofs.Words.{All-permutation, entries, IsFound, IsToldOf}
+use Rattle.vic_report.proofs.Words.{subst, sym, All-permutation, entries, IsFound, IsToldOf}
 use Rattle.vic_report.proofs.told.told_by_others.Goals as goal
 
 pub push_exact-requires-clause-found : goal.push_exact-requires-clause-found

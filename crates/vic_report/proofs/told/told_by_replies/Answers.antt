@@ -1,5 +1,4 @@
-use Rattle.std.proofs.Common.{length, refl}
-use Rattle.vic_report.proofs.Words.{All-permutation, slice_get_read, IsToldOf}
+use Rattle.vic_report.proofs.Words.{length, refl, All-permutation, slice_get_read, IsToldOf}
 use Rattle.vic_report.proofs.told.told_by_replies.Goals as goal
 
 pub loop-line-preserved : goal.loop-line-preserved

@@ -1,5 +1,4 @@
-use Rattle.std.proofs.Common.{All}
-use Rattle.vic_report.proofs.Words.{IsToldOf}
+use Rattle.vic_report.proofs.Words.{All, IsToldOf}
 use Rattle.vic_report.proofs.told.told_by_replies.Given as goal
 
 abbrev pub invariant-loop-line : goal.invariant-loop-line

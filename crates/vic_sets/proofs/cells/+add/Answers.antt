@@ -1,7 +1,4 @@
-use Rattle.std.proofs.Common.{◌≡◌, ◌∙◌, not, Contains, filter, sym, ap, subst, arith, rules}
-use Rattle.vic_sets.proofs.Words.{BitMask, AreCells}
-use Rattle.std.proofs.lemmas.Fn.{filter_same}
-use Rattle.vic_sets.specs.Cells.{IsApart}
+use Rattle.vic_sets.proofs.Words.{◌≡◌, ◌∙◌, not, Contains, filter, sym, ap, subst, arith, rules, BitMask, AreCells, filter_same, IsApart}
 use Rattle.vic_sets.proofs.CellLaws.{same_mask, not_found, pushed_cells, merged_beside}
 use Rattle.vic_sets.proofs.cells.+add.Goals as goal
 use Rattle.vic_sets.proofs.cells.+add.Goals.{then-len-gt0+else-contains, else-len-gt0}

@@ -1,6 +1,4 @@
-use Rattle.std.proofs.Common.{◌≡◌, ◌∙◌, ℕ, ◌+◌, ◌||◌, ◌==◌, sym, ap, take, nat_eq, eqb-true}
-use Rattle.vic_sets.proofs.Words.{has, in_cells}
-use Rattle.std.proofs.lemmas.List.Folds.{list_any_more}
+use Rattle.vic_sets.proofs.Words.{◌≡◌, ◌∙◌, ℕ, ◌+◌, ◌||◌, ◌==◌, sym, ap, take, nat_eq, eqb-true, has, in_cells, list_any_more}
 use Rattle.vic_sets.proofs.CellLaws.{next_added, next_there, next_elsewhere}
 use Rattle.vic_sets.proofs.cells.add_back.Goals as goal
 use Rattle.vic_sets.proofs.cells.add_back.Goals.{then-is_in+then-not-is_in+in_ok-add, else-is_in, else-is_in-via-then-is_in+else-not-is_in, else-is_in-via-else-is_in}

@@ -1,5 +1,4 @@
-use Rattle.std.proofs.Common.{◌&&◌, ◌||◌, take}
-use Rattle.vic_sets.proofs.Words.{has, SameUids, in_cells, AreCells}
+use Rattle.vic_sets.proofs.Words.{◌&&◌, ◌||◌, take, has, SameUids, in_cells, AreCells}
 use Rattle.vic_sets.proofs.cells.add_back.Given as goal
 
 abbrev pub invariant-loop-uid : goal.invariant-loop-uid

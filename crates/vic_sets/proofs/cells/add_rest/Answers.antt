@@ -1,6 +1,4 @@
-use Rattle.std.proofs.Common.{◌≡◌, ◌∙◌, ◌≤◌, ◌&&◌, ◌||◌, Bool, true, not, sym, ap, refl, arith}
-use Rattle.vic_sets.proofs.Words.{BitMask, lies_in, in_cells, cut_at}
-use Rattle.std.proofs.lemmas.Bool.{and_parts}
+use Rattle.vic_sets.proofs.Words.{◌≡◌, ◌∙◌, ◌≤◌, ◌&&◌, ◌||◌, Bool, true, not, sym, ap, refl, arith, BitMask, lies_in, in_cells, cut_at, and_parts}
 use Rattle.vic_sets.proofs.CutLaws.{beside_is, cut_more, cut_less, cut_self, one_more}
 use Rattle.vic_sets.proofs.CellLaws.{rest_added}
 use Rattle.vic_sets.proofs.cells.add_rest.Goals as goal

@@ -1,5 +1,4 @@
-use Rattle.std.proofs.Common.{◌&&◌, ◌||◌, not}
-use Rattle.vic_sets.proofs.Words.{lies_in, SameUids, in_cells, AreCells, cut_at}
+use Rattle.vic_sets.proofs.Words.{◌&&◌, ◌||◌, not, lies_in, SameUids, in_cells, AreCells, cut_at}
 use Rattle.vic_sets.proofs.cells.add_rest.Given as goal
 
 abbrev pub invariant-loop-len : goal.invariant-loop-len

@@ -1,6 +1,4 @@
-use Rattle.std.proofs.Common.{take}
-use Rattle.vic_sets.proofs.Words.{in_cells, Gathers}
-use Rattle.vic_sets.specs.inner.Free.{IsFreeIn}
+use Rattle.vic_sets.proofs.Words.{take, in_cells, Gathers, IsFreeIn}
 use Rattle.vic_sets.proofs.cells.gather_cells.Given as goal
 
 abbrev pub invariant-loop-cell : goal.invariant-loop-cell

@@ -1,7 +1,4 @@
-use Rattle.std.proofs.Common.{◌≡◌, ◌∙◌, ◌+◌, ◌||◌, sym, ap, take}
-use Rattle.vic_sets.proofs.Words.{BitMask, lies_in, in_cells}
-use Rattle.std.proofs.lemmas.Bool.{and_left}
-use Rattle.std.proofs.lemmas.List.Folds.{list_any_more}
+use Rattle.vic_sets.proofs.Words.{◌≡◌, ◌∙◌, ◌+◌, ◌||◌, sym, ap, take, BitMask, lies_in, in_cells, and_left, list_any_more}
 use Rattle.vic_sets.proofs.CellLaws.{apart_before, next_outside}
 use Rattle.vic_sets.proofs.cells.outside.Goals as goal
 

@@ -1,5 +1,4 @@
-use Rattle.std.proofs.Common.{◌&&◌, not, take}
-use Rattle.vic_sets.proofs.Words.{lies_in, SameUids, in_cells, AreCells}
+use Rattle.vic_sets.proofs.Words.{◌&&◌, not, take, lies_in, SameUids, in_cells, AreCells}
 use Rattle.vic_sets.proofs.cells.outside.Given as goal
 
 abbrev pub invariant-loop-cell : goal.invariant-loop-cell

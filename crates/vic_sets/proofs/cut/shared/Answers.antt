@@ -1,4 +1,4 @@
-use Rattle.std.proofs.Common.{◌∙◌, sym, arith}
+use Rattle.vic_sets.proofs.Words.{◌∙◌, sym, arith}
 use Rattle.vic_sets.proofs.CutLaws.{held_both, held_both_turned, none_shared, cut_self}
 use Rattle.vic_sets.proofs.cut.shared.Goals as goal
 

@@ -1,8 +1,4 @@
-use Rattle.std.proofs.Common.{◌≡◌, ◌+◌, ◌-◌, ◌/◌, ◌^◌, ◌%◌, ◌<◌, inl, inr, sym, ◌∙◌, false, arith}
-use Rattle.vic_sets.proofs.Words.{has, cases_lt}
-use Rattle.std.proofs.lemmas.Nat.{one_shl}
-use Rattle.vic_tree.proofs.GatheringLaws.{gathers_both, gathers_like}
-use Rattle.vic_sets.specs.inner.Free.{IsFree}
+use Rattle.vic_sets.proofs.Words.{◌≡◌, ◌+◌, ◌-◌, ◌/◌, ◌^◌, ◌%◌, ◌<◌, inl, inr, sym, ◌∙◌, false, arith, has, cases_lt, one_shl, gathers_both, gathers_like, IsFree}
 use Rattle.vic_sets.proofs.Places.{is_uid_of, uid_is, high_below}
 use Rattle.vic_sets.proofs.gather.gather_all.Goals as goal
 

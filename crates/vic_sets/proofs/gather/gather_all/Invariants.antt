@@ -1,6 +1,4 @@
-use Rattle.std.proofs.Common.{◌/◌, ◌^◌, ◌%◌, ◌<◌}
-use Rattle.vic_sets.proofs.Words.{Gathers}
-use Rattle.vic_sets.specs.inner.Free.{IsFree}
+use Rattle.vic_sets.proofs.Words.{◌/◌, ◌^◌, ◌%◌, ◌<◌, Gathers, IsFree}
 use Rattle.vic_sets.proofs.gather.gather_all.Given as goal
 
 abbrev pub invariant-loop-high : goal.invariant-loop-high

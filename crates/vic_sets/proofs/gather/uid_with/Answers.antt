@@ -1,5 +1,4 @@
-use Rattle.std.proofs.Common.{◌+◌, ◌∙◌, ap, arith}
-use Rattle.vic_frame.specs.Uids.{uid_from_low_bits}
+use Rattle.vic_sets.proofs.Words.{◌+◌, ◌∙◌, ap, arith, uid_from_low_bits}
 use Rattle.vic_sets.proofs.Places.{place_small, shifted}
 use Rattle.vic_sets.proofs.gather.uid_with.Goals as goal
 

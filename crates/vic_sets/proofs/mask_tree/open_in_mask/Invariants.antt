@@ -1,5 +1,4 @@
-use Rattle.std.proofs.Common.{◌≡◌, ◌&&◌, filter, take}
-use Rattle.vic_sets.proofs.Words.{lies_in, open_at}
+use Rattle.vic_sets.proofs.Words.{◌≡◌, ◌&&◌, filter, take, lies_in, open_at}
 use Rattle.vic_sets.proofs.mask_tree.open_in_mask.Given as goal
 
 abbrev pub invariant-loop-uid : goal.invariant-loop-uid

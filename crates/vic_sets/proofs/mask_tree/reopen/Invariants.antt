@@ -1,7 +1,4 @@
-use Rattle.std.proofs.Common.{◌≡◌, ℕ, ◌≤◌, ◌||◌, take}
-use Rattle.vic_sets.proofs.Words.{has, open_at, height}
-use Rattle.vic_frame.specs.Uids.{IsUid}
-use Rattle.vic_sets.specs.Nodes.{IsReduced}
+use Rattle.vic_sets.proofs.Words.{◌≡◌, ℕ, ◌≤◌, ◌||◌, take, has, open_at, height, IsUid, IsReduced}
 use Rattle.vic_sets.proofs.mask_tree.reopen.Given as goal
 
 abbrev pub invariant-loop-uid : goal.invariant-loop-uid

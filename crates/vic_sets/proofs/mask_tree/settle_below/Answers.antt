@@ -1,5 +1,4 @@
-use Rattle.std.proofs.Common.{◌≡◌, ◌∙◌, cond, false, ◌&&◌, ℕ}
-use Rattle.vic_sets.proofs.Words.{has, lies_in, open_at}
+use Rattle.vic_sets.proofs.Words.{◌≡◌, ◌∙◌, cond, false, ◌&&◌, ℕ, has, lies_in, open_at}
 use Rattle.vic_sets.proofs.Settled.{has_kept, settled_bits}
 use Rattle.vic_sets.proofs.mask_tree.settle_below.Goals as goal
 

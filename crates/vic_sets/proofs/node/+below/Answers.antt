@@ -1,5 +1,4 @@
-use Rattle.std.proofs.Common.{◌≡◌, ◌∙◌, ap, ◌/◌, ◌<◌, ◌%◌, arith}
-use Rattle.vic_sets.proofs.Words.{open_at}
+use Rattle.vic_sets.proofs.Words.{◌≡◌, ◌∙◌, ap, ◌/◌, ◌<◌, ◌%◌, arith, open_at}
 use Rattle.vic_sets.proofs.LowBits.{halved, down}
 use Rattle.vic_sets.proofs.node.+below.Goals as goal
 

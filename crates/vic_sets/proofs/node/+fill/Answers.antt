@@ -1,5 +1,4 @@
-use Rattle.std.proofs.Common.{◌∙◌, ap, sym, cond, ◌/◌, ◌^◌, ◌%◌, ◌<◌, ◌==◌, max, arith}
-use Rattle.vic_sets.proofs.Words.{open_at, height}
+use Rattle.vic_sets.proofs.Words.{◌∙◌, ap, sym, cond, ◌/◌, ◌^◌, ◌%◌, ◌<◌, ◌==◌, max, arith, open_at, height}
 use Rattle.vic_sets.proofs.Bits.{half_below, fill_zero, fill_one}
 use Rattle.vic_sets.proofs.NodeLaws.{no_fork}
 use Rattle.vic_sets.proofs.node.+fill.Goals as goal

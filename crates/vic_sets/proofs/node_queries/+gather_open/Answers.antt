@@ -1,8 +1,4 @@
-use Rattle.std.proofs.Common.{◌≡◌, ◌+◌, ◌^◌, sym, arith, length, eqb-true}
-use Rattle.vic_sets.proofs.Words.{Gathers}
-use Rattle.std.proofs.lemmas.Nat.{one_shl}
-use Rattle.vic_tree.proofs.GatheringLaws.{gathers_both, gathers_full}
-use Rattle.vic_sets.specs.inner.Free.{IsFreeUnder}
+use Rattle.vic_sets.proofs.Words.{◌≡◌, ◌+◌, ◌^◌, sym, arith, length, eqb-true, Gathers, one_shl, gathers_both, gathers_full, IsFreeUnder}
 use Rattle.vic_sets.proofs.Places.{from_zero, from_one, to_half}
 use Rattle.vic_sets.proofs.node_queries.+gather_open.Goals as goal
 

@@ -1,6 +1,4 @@
-use Rattle.std.proofs.Common.{◌≡◌, ℕ, ◌⊎◌, inl, inr, false, arith, rules}
-use Rattle.vic_sets.proofs.Words.{open_at, IsAtMost, IsWidestOf}
-use Rattle.vic_sets.specs.inner.Widest.{with_low_bit}
+use Rattle.vic_sets.proofs.Words.{◌≡◌, ℕ, ◌⊎◌, inl, inr, false, arith, rules, open_at, IsAtMost, IsWidestOf, with_low_bit}
 use Rattle.vic_sets.proofs.WidestLaws.{fork_shut, even_widest, odd_widest, none_passes}
 use Rattle.vic_sets.proofs.node_queries.+widest_below.Goals as goal
 

@@ -1,5 +1,4 @@
-use Rattle.std.proofs.Common.{◌∙◌, nat_eq, ap, arith, take_all}
-use Rattle.vic_tree.proofs.Words.{list_any_more, mirror, has_key, nat_tests}
+use Rattle.vic_tree.proofs.Words.{◌∙◌, nat_eq, ap, arith, take_all, list_any_more, mirror, has_key, nat_tests}
 use Rattle.vic_tree.proofs.GatheringLaws.{has_pushed}
 use Rattle.vic_tree.proofs.RangeSets.{same_uids}
 use Rattle.vic_tree.proofs.at_keys.uids_at.Goals as goal

@@ -1,5 +1,4 @@
-use Rattle.std.proofs.Common.{◌≡◌, ℕ, take}
-use Rattle.vic_tree.proofs.Words.{IsUid, has, has_key}
+use Rattle.vic_tree.proofs.Words.{◌≡◌, ℕ, take, IsUid, has, has_key}
 use Rattle.vic_tree.proofs.at_keys.uids_at.Given as goal
 
 abbrev pub invariant-loop-key : goal.invariant-loop-key

@@ -1,4 +1,4 @@
-use Rattle.std.proofs.Common.{◌≡◌, ℕ, ◌-◌, arith}
+use Rattle.vic_tree.proofs.Words.{◌≡◌, ℕ, ◌-◌, arith}
 use Rattle.vic_tree.proofs.BlockLaws.{no_wider, few_bits}
 use Rattle.vic_tree.proofs.blocks.least_len.Goals as goal
 

@@ -1,6 +1,4 @@
-use Rattle.std.proofs.Common.{◌≡◌, ℕ, ◌+◌, ◌-◌, ◌*◌, ◌/◌, ◌%◌, ◌^◌, ◌≤◌, ◌∙◌, inl, inr, ap, arith}
-use Rattle.vic_tree.proofs.Words.{cases_lt}
-use Rattle.std.proofs.Math.Nat.{mod-one}
+use Rattle.vic_tree.proofs.Words.{◌≡◌, ℕ, ◌+◌, ◌-◌, ◌*◌, ◌/◌, ◌%◌, ◌^◌, ◌≤◌, ◌∙◌, inl, inr, ap, arith, cases_lt, mod-one}
 use Rattle.vic_tree.proofs.BlockLaws.{block_small, twice}
 use Rattle.vic_tree.proofs.blocks.mask_from.Goals as goal
 

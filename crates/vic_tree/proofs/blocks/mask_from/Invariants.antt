@@ -1,5 +1,4 @@
-use Rattle.std.proofs.Common.{◌+◌, ◌-◌, ◌≤◌}
-use Rattle.vic_tree.specs.inner.Ranges.{block_size}
+use Rattle.vic_tree.proofs.Words.{◌+◌, ◌-◌, ◌≤◌, block_size}
 use Rattle.vic_tree.proofs.blocks.mask_from.Given as goal
 
 abbrev pub invariant-loop-len : goal.invariant-loop-len

@@ -1,4 +1,4 @@
-use Rattle.std.proofs.Common.{arith}
+use Rattle.vic_tree.proofs.Words.{arith}
 use Rattle.vic_tree.proofs.BlockLaws.{too_wide}
 use Rattle.vic_tree.proofs.blocks.widest_with.Goals as goal
 

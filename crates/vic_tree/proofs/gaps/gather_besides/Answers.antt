@@ -1,5 +1,4 @@
-use Rattle.std.proofs.Common.{arith}
-use Rattle.vic_tree.proofs.Words.{is_left}
+use Rattle.vic_tree.proofs.Words.{arith, is_left}
 use Rattle.vic_tree.proofs.GapLaws.{all_gathered, run_gathered}
 use Rattle.vic_tree.proofs.gaps.gather_besides.Goals as goal
 

@@ -1,6 +1,4 @@
-use Rattle.std.proofs.Common.{◌<◌, ◌≤◌, ◌+◌, ◌-◌, ◌^◌}
-use Rattle.vic_tree.proofs.Words.{mirror, Gathers, PassFrom, is_left}
-use Rattle.vic_tree.specs.inner.Ranges.{IsFreeInRanges, is_passed}
+use Rattle.vic_tree.proofs.Words.{◌<◌, ◌≤◌, ◌+◌, ◌-◌, ◌^◌, mirror, Gathers, PassFrom, is_left, IsFreeInRanges, is_passed}
 use Rattle.vic_tree.proofs.gaps.gather_besides.Given as goal
 
 abbrev pub invariant-loop-run : goal.invariant-loop-run

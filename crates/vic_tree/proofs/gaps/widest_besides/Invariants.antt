@@ -1,6 +1,4 @@
-use Rattle.std.proofs.Common.{◌+◌, ◌-◌, ◌^◌}
-use Rattle.vic_tree.proofs.Words.{PassFrom, is_left}
-use Rattle.vic_tree.specs.inner.Ranges.{IsFoundBelow}
+use Rattle.vic_tree.proofs.Words.{◌+◌, ◌-◌, ◌^◌, PassFrom, is_left, IsFoundBelow}
 use Rattle.vic_tree.proofs.gaps.widest_besides.Given as goal
 
 abbrev pub invariant-loop-run : goal.invariant-loop-run

@@ -1,5 +1,4 @@
-use Rattle.std.proofs.Common.{◌≡◌, ◌∙◌, suc, ◌∷◌, inl, inr, sym, arith}
-use Rattle.vic_tree.proofs.Words.{cases_lt}
+use Rattle.vic_tree.proofs.Words.{◌≡◌, ◌∙◌, suc, ◌∷◌, inl, inr, sym, arith, cases_lt}
 use Rattle.vic_tree.proofs.LeftLaws.{is_behind, is_first}
 use Rattle.vic_tree.proofs.left.first_free.Goals as goal
 

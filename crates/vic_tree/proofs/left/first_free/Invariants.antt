@@ -1,6 +1,4 @@
-use Rattle.std.proofs.Common.{◌≡◌, ℕ, ◌<◌, ◌≤◌, true, length}
-use Rattle.vic_tree.proofs.Words.{IsNonDecreasing, has}
-use Rattle.vic_tree.specs.OpenSet.{AreKeys}
+use Rattle.vic_tree.proofs.Words.{◌≡◌, ℕ, ◌<◌, ◌≤◌, true, length, IsNonDecreasing, has, AreKeys}
 use Rattle.vic_tree.proofs.left.first_free.Given as goal
 
 abbrev pub invariant-loop-key : goal.invariant-loop-key

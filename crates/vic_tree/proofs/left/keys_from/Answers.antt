@@ -1,6 +1,4 @@
-use Rattle.std.proofs.Common.{◌∙◌, ◌-◌, drop, take, length, ltb, ltb-true, ap, rules, arith, length-drop, length-take-le, take_all, get_or-take}
-use Rattle.vic_tree.proofs.Words.{has}
-use Rattle.std.proofs.lemmas.List.Sorted.{IsNonDecreasingBy-take, IsPartitionPoint-from_clause, IsPartitionedBy-ltb}
+use Rattle.vic_tree.proofs.Words.{◌∙◌, ◌-◌, drop, take, length, ltb, ltb-true, ap, rules, arith, length-drop, length-take-le, take_all, get_or-take, has, IsNonDecreasingBy-take, IsPartitionPoint-from_clause, IsPartitionedBy-ltb}
 use Rattle.vic_tree.proofs.LeftLaws.{keys_dropped}
 use Rattle.vic_tree.proofs.left.keys_from.Goals as goal
 

@@ -1,4 +1,4 @@
-use Rattle.std.proofs.Common.{◌<◌, ◌-◌, length}
+use Rattle.vic_tree.proofs.Words.{◌<◌, ◌-◌, length}
 use Rattle.vic_tree.proofs.left.keys_from.Given as goal
 
 abbrev pub invariant-loop-near : goal.invariant-loop-near

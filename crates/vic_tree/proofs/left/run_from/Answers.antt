@@ -1,4 +1,4 @@
-use Rattle.std.proofs.Common.{◌≡◌, get_or, rules, arith}
+use Rattle.vic_tree.proofs.Words.{◌≡◌, get_or, rules, arith}
 use Rattle.vic_tree.proofs.LeftLaws.{is_before_all}
 use Rattle.vic_tree.proofs.left.run_from.Goals as goal
 

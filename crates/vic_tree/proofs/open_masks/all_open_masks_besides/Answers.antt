@@ -1,6 +1,4 @@
-use Rattle.std.proofs.Common.{◌≡◌, ◌∙◌, ◌+◌, ap, arith}
-use Rattle.vic_tree.proofs.Words.{IsGreatestIn, IsOpenBelow, IsOpenMask, without_keys, is_open_in, is_left}
-use Rattle.std.proofs.lemmas.List.Filters.{dedup_is}
+use Rattle.vic_tree.proofs.Words.{◌≡◌, ◌∙◌, ◌+◌, ap, arith, IsGreatestIn, IsOpenBelow, IsOpenMask, without_keys, is_open_in, is_left, dedup_is}
 use Rattle.vic_frame.specs.contracts.mask.MaskOrd.TheImpl.Laws.{matches_eq-law}
 use Rattle.vic_tree.proofs.AllMasks.{members_both, sorted_once}
 use Rattle.vic_tree.proofs.OpenBlocks.{all_opened, run_opened}

@@ -1,5 +1,4 @@
-use Rattle.std.proofs.Common.{◌≡◌, ℕ, ◌+◌, ◌-◌, ◌^◌, ◌↔◌, false, Contains}
-use Rattle.vic_tree.proofs.Words.{BitMask, IsOpenBelow, PassFrom, is_left}
+use Rattle.vic_tree.proofs.Words.{◌≡◌, ℕ, ◌+◌, ◌-◌, ◌^◌, ◌↔◌, false, Contains, BitMask, IsOpenBelow, PassFrom, is_left}
 use Rattle.vic_tree.proofs.open_masks.all_open_masks_besides.Given as goal
 
 abbrev pub invariant-loop-run : goal.invariant-loop-run

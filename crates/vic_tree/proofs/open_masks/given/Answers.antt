@@ -1,5 +1,4 @@
-use Rattle.std.proofs.Common.{◌≡◌, ◌==◌, ℕ, length, take, min, ap, take_all, refl}
-use Rattle.vic_tree.proofs.Words.{IsOpenMask}
+use Rattle.vic_tree.proofs.Words.{◌≡◌, ◌==◌, ℕ, length, take, min, ap, take_all, refl, IsOpenMask}
 use Rattle.vic_tree.proofs.FirstMasks.{given_first, given_more}
 use Rattle.vic_tree.proofs.open_masks.given.Goals as goal
 

@@ -1,4 +1,4 @@
-use Rattle.std.proofs.Common.{◌≡◌, ◌≤◌, length, take}
+use Rattle.vic_tree.proofs.Words.{◌≡◌, ◌≤◌, length, take}
 use Rattle.vic_tree.proofs.open_masks.given.Given as goal
 
 abbrev pub invariant-loop-mask : goal.invariant-loop-mask

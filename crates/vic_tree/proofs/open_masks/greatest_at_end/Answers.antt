@@ -1,4 +1,4 @@
-use Rattle.std.proofs.Common.{◌≡◌, ℕ, ◌+◌, ◌-◌, ◌*◌, ◌/◌, ◌^◌, ap, arith, Some}
+use Rattle.vic_tree.proofs.Words.{◌≡◌, ℕ, ◌+◌, ◌-◌, ◌*◌, ◌/◌, ◌^◌, ap, arith, Some}
 use Rattle.vic_tree.proofs.BlockLaws.{block_small}
 use Rattle.vic_tree.proofs.OpenBlocks.{edge_is_greatest, end_is_edge, end_is_only, mask_at}
 use Rattle.vic_tree.proofs.open_masks.greatest_at_end.Goals as goal

@@ -1,4 +1,4 @@
-use Rattle.std.proofs.Common.{◌-◌, ◌^◌, ◌≤◌, ap, arith, Some, pow_mono}
+use Rattle.vic_tree.proofs.Words.{◌-◌, ◌^◌, ◌≤◌, ap, arith, Some, pow_mono}
 use Rattle.vic_tree.proofs.BlockLaws.{first_block, block_small}
 use Rattle.vic_tree.proofs.OpenBlocks.{edge_is_greatest, mask_at, start_is_only}
 use Rattle.vic_tree.proofs.open_masks.greatest_at_start.Goals as goal

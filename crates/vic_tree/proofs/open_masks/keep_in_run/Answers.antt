@@ -1,5 +1,4 @@
-use Rattle.std.proofs.Common.{◌≡◌, ◌∙◌, ◌+◌, ◌<◌, ◌≤◌, ◌⊎◌, inl, inr, List, length, get_or, ap, Some, sym, arith}
-use Rattle.vic_tree.proofs.Words.{cases_lt, BitMask, mirror_bits, IsGreatestIn}
+use Rattle.vic_tree.proofs.Words.{◌≡◌, ◌∙◌, ◌+◌, ◌<◌, ◌≤◌, ◌⊎◌, inl, inr, List, length, get_or, ap, Some, sym, arith, cases_lt, BitMask, mirror_bits, IsGreatestIn}
 use Rattle.vic_tree.proofs.BlockLaws.{mask_block}
 use Rattle.vic_tree.proofs.FirstMasks.{kept_both, kept_like, none_kept, past_last}
 use Rattle.vic_tree.proofs.OpenBlocks.{greatest_of_len}

@@ -1,6 +1,4 @@
-use Rattle.std.proofs.Common.{◌<◌, ◌≤◌}
-use Rattle.vic_tree.proofs.Words.{AreKept, IsGreatestIn}
-use Rattle.vic_tree.specs.inner.KeptMasks.{Keeps}
+use Rattle.vic_tree.proofs.Words.{◌<◌, ◌≤◌, AreKept, IsGreatestIn, Keeps}
 use Rattle.vic_tree.proofs.open_masks.keep_in_run.Given as goal
 
 abbrev pub invariant-loop-len : goal.invariant-loop-len

@@ -1,5 +1,4 @@
-use Rattle.std.proofs.Common.{◌≡◌, ◌∙◌, ℕ, ◌+◌, ◌≤◌, List, false, refl, ap, arith}
-use Rattle.vic_tree.proofs.Words.{BitMask, IsOpenBelow, without_keys, is_open_in, is_left, AreFirst, IsOpenMask}
+use Rattle.vic_tree.proofs.Words.{◌≡◌, ◌∙◌, ℕ, ◌+◌, ◌≤◌, List, false, refl, ap, arith, BitMask, IsOpenBelow, without_keys, is_open_in, is_left, AreFirst, IsOpenMask}
 use Rattle.vic_tree.proofs.FirstMasks.{first_kept, first_like}
 use Rattle.vic_tree.proofs.OpenBlocks.{all_opened, none_yet, run_opened}
 use Rattle.vic_tree.proofs.open_masks.open_masks_besides.Goals as goal

@@ -1,5 +1,4 @@
-use Rattle.std.proofs.Common.{◌≡◌, ℕ, ◌+◌, ◌-◌, ◌^◌, false}
-use Rattle.vic_tree.proofs.Words.{AreKept, IsOpenBelow, AreFirst, PassFrom, is_left}
+use Rattle.vic_tree.proofs.Words.{◌≡◌, ℕ, ◌+◌, ◌-◌, ◌^◌, false, AreKept, IsOpenBelow, AreFirst, PassFrom, is_left}
 use Rattle.vic_tree.proofs.open_masks.open_masks_besides.Given as goal
 
 abbrev pub invariant-loop-run : goal.invariant-loop-run

@@ -1,5 +1,4 @@
-use Rattle.std.proofs.Common.{◌≡◌, ◌+◌, ◌<◌, ◌⊎◌, inl, inr, Some, arith}
-use Rattle.vic_tree.proofs.Words.{mirror_bits, IsGreatestIn}
+use Rattle.vic_tree.proofs.Words.{◌≡◌, ◌+◌, ◌<◌, ◌⊎◌, inl, inr, Some, arith, mirror_bits, IsGreatestIn}
 use Rattle.vic_tree.proofs.AllMasks.{adds_both}
 use Rattle.vic_tree.proofs.BlockLaws.{mask_block}
 use Rattle.vic_tree.proofs.OpenBlocks.{greatest_of_len}

@@ -1,6 +1,4 @@
-use Rattle.std.proofs.Common.{◌<◌, ◌≤◌}
-use Rattle.vic_tree.proofs.Words.{IsGreatestIn}
-use Rattle.vic_tree.specs.inner.KeptMasks.{Adds}
+use Rattle.vic_tree.proofs.Words.{◌<◌, ◌≤◌, IsGreatestIn, Adds}
 use Rattle.vic_tree.proofs.open_masks.push_in_run.Given as goal
 
 abbrev pub invariant-loop-len : goal.invariant-loop-len

@@ -1,7 +1,4 @@
-use Rattle.std.proofs.Common.{◌≡◌, ◌∙◌, ◌<◌, ◌++◌, ◌∷◌, [], length, get_or, true, false, ap}
-use Rattle.vic_tree.proofs.Words.{uid_of, mirror_of_uid}
-use Rattle.std.proofs.lemmas.List.{get_or-map}
-use Rattle.vic_frame.proofs.KeyLaws.{is_uid}
+use Rattle.vic_tree.proofs.Words.{◌≡◌, ◌∙◌, ◌<◌, ◌++◌, ◌∷◌, [], length, get_or, true, false, ap, uid_of, mirror_of_uid, get_or-map, is_uid}
 use Rattle.vic_tree.proofs.SetLaws.{outside_more}
 use Rattle.vic_tree.proofs.outside.uids_outside.Goals as goal
 use Rattle.vic_tree.proofs.outside.uids_outside.Goals.{then-not-index+in_ok-push, else-not-index}

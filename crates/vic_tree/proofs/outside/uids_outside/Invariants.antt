@@ -1,4 +1,4 @@
-use Rattle.std.proofs.Common.{take}
+use Rattle.vic_tree.proofs.Words.{take}
 use Rattle.vic_tree.proofs.SetLaws.{HasOutside}
 use Rattle.vic_tree.proofs.outside.uids_outside.Given as goal
 

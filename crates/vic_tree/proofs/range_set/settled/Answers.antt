@@ -1,6 +1,4 @@
-use Rattle.std.proofs.Common.{◌≡◌, ◌∙◌, ap, ◌&&◌, ◌-◌, arith, pow_pos}
-use Rattle.vic_tree.proofs.Words.{has, mirror, mirror_below, in_ranges, is_between, nat_tests}
-use Rattle.std.proofs.lemmas.Result.{IfOk-weaker}
+use Rattle.vic_tree.proofs.Words.{◌≡◌, ◌∙◌, ap, ◌&&◌, ◌-◌, arith, pow_pos, has, mirror, mirror_below, in_ranges, is_between, nat_tests, IfOk-weaker}
 use Rattle.vic_tree.proofs.BlockLaws.{mask_ends}
 use Rattle.vic_tree.proofs.RangeLaws.{firsts_rise}
 use Rattle.vic_tree.proofs.range_set.settled.Goals as goal

@@ -1,7 +1,4 @@
-use Rattle.std.proofs.Common.{◌≡◌, ◌∙◌, ℕ, ◌+◌, ◌-◌, ◌<◌, ◌≤◌, ◌&&◌, ◌||◌, nat_lt, true, inl, inr, take, length, get_or, [], ◌∷◌, ◌++◌, ◌^◌, max, sym, ap, ap₂, subst, List, Vec, Global, arith, All, nat_le, not, Bool}
-use Rattle.std.proofs.lemmas.List.{take_more_set, length-set, get_or-set_other}
-use Rattle.vic_tree.proofs.Words.{cases_lt, get_or_default, All-weaker, list_any_more, in_ranges, is_between, AreRanges, nat_tests}
-use Rattle.std.proofs.lemmas.List.Elements.{All-push}
+use Rattle.vic_tree.proofs.Words.{◌≡◌, ◌∙◌, ℕ, ◌+◌, ◌-◌, ◌<◌, ◌≤◌, ◌&&◌, ◌||◌, nat_lt, true, inl, inr, take, length, get_or, [], ◌∷◌, ◌++◌, ◌^◌, max, sym, ap, ap₂, subst, List, Vec, Global, arith, All, nat_le, not, Bool, take_more_set, length-set, get_or-set_other, cases_lt, get_or_default, All-weaker, list_any_more, in_ranges, is_between, AreRanges, nat_tests, All-push}
 use Rattle.vic_tree.specs.declared.key_range.KeyRange.{KeyRange}
 use Rattle.vic_tree.proofs.RangeLaws.{in_pushed, ranges_pushed}
 use Rattle.vic_tree.proofs.ranges.between.Goals as goal

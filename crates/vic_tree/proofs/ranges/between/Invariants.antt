@@ -1,5 +1,4 @@
-use Rattle.std.proofs.Common.{◌≡◌, ℕ, ◌+◌, ◌^◌, ◌<◌, ◌≤◌, ◌&&◌, not, nat_lt, true, take, length, get_or, All}
-use Rattle.vic_tree.proofs.Words.{in_ranges, AreRanges}
+use Rattle.vic_tree.proofs.Words.{◌≡◌, ℕ, ◌+◌, ◌^◌, ◌<◌, ◌≤◌, ◌&&◌, not, nat_lt, true, take, length, get_or, All, in_ranges, AreRanges}
 use Rattle.vic_tree.proofs.ranges.between.Given as goal
 
 abbrev pub invariant-loop-i : goal.invariant-loop-i

@@ -1,5 +1,4 @@
-use Rattle.std.proofs.Common.{ℕ, ltb, ltb-true, ltb-false, rules, arith}
-use Rattle.std.proofs.lemmas.List.Sorted.{IsPartitionPoint-from_clause, IsPartitionedBy-ltb}
+use Rattle.vic_tree.proofs.Words.{ℕ, ltb, ltb-true, ltb-false, rules, arith, IsPartitionPoint-from_clause, IsPartitionedBy-ltb}
 use Rattle.vic_tree.proofs.RangeLaws.{lasts_rise}
 use Rattle.vic_tree.proofs.ranges.count_before.Goals as goal
 

@@ -1,4 +1,4 @@
-use Rattle.std.proofs.Common.{◌≡◌, ◌∙◌, ◌<◌, length, get_or, drop, sym, ap, nat_le, rules}
+use Rattle.vic_tree.proofs.Words.{◌≡◌, ◌∙◌, ◌<◌, length, get_or, drop, sym, ap, nat_le, rules}
 use Rattle.vic_tree.proofs.RangeLaws.{drop_at, in_first}
 use Rattle.vic_tree.proofs.ranges.is_in_first.Goals as goal
 

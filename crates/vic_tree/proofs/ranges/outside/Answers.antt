@@ -1,7 +1,4 @@
-use Rattle.std.proofs.Common.{◌∙◌, ℕ, not, ap, sym, rules}
-use Rattle.vic_tree.proofs.Words.{list_any-IsPermutation, is_between}
-use Rattle.std.proofs.lemmas.List.Sorted.{IsNonDecreasingBy-from_sort_by_key}
-use Rattle.std.proofs.lemmas.Result.{IfOk-weaker}
+use Rattle.vic_tree.proofs.Words.{◌∙◌, ℕ, not, ap, sym, rules, list_any-IsPermutation, is_between, IsNonDecreasingBy-from_sort_by_key, IfOk-weaker}
 use Rattle.vic_tree.proofs.ranges.outside.Goals as goal
 
 pub between-requires : goal.between-requires

@@ -1,5 +1,4 @@
-use Rattle.std.proofs.Common.{◌≡◌, ℕ, ◌+◌, ◌-◌, ◌<◌, ◌≤◌, ◌&&◌, take, get_or, length, arith, take_all, nat_le, nat_lt, ◌||◌, refl, true, List, not, nat_eq, eq-eqb, Bool, ◌==◌}
-use Rattle.vic_tree.proofs.Words.{in_ranges, nat_tests, has, list_any_at, list_any_more}
+use Rattle.vic_tree.proofs.Words.{◌≡◌, ℕ, ◌+◌, ◌-◌, ◌<◌, ◌≤◌, ◌&&◌, take, get_or, length, arith, take_all, nat_le, nat_lt, ◌||◌, refl, true, List, not, nat_eq, eq-eqb, Bool, ◌==◌, in_ranges, nat_tests, has, list_any_at, list_any_more}
 use Rattle.vic_tree.proofs.RangeLaws.{in_pushed, inside_is}
 use Rattle.vic_tree.proofs.ranges.push_others.Goals as goal
 use Rattle.vic_tree.proofs.ranges.push_others.Goals.{then-from-key+in_ok-push, else-from-key}

@@ -1,5 +1,4 @@
-use Rattle.std.proofs.Common.{◌≡◌, ◌∙◌, ℕ, ◌<◌, ◌≤◌, List, get_or, length, length-drop, inl, inr, min, take, ap, sym, subst, arith, get_or-take, length-take}
-use Rattle.vic_tree.proofs.Words.{cases_lt, get_or_default, AreRanges}
+use Rattle.vic_tree.proofs.Words.{◌≡◌, ◌∙◌, ℕ, ◌<◌, ◌≤◌, List, get_or, length, length-drop, inl, inr, min, take, ap, sym, subst, arith, get_or-take, length-take, cases_lt, get_or_default, AreRanges}
 use Rattle.vic_tree.proofs.RangeLaws.{begins_ahead, in_dropped, lasts_rise, ranges_dropped, ranges_taken, take_dropped}
 use Rattle.vic_tree.proofs.ranges.skip_to.Goals as goal
 use Rattle.vic_tree.proofs.ranges.skip_to.Goals.{then-loop-step-test+else-last-key, else-loop-step-test}

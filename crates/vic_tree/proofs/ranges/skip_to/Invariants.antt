@@ -1,5 +1,4 @@
-use Rattle.std.proofs.Common.{length, get_or, ◌≡◌, ℕ, ◌≤◌, ◌<◌}
-use Rattle.vic_tree.proofs.Words.{in_ranges, AreRanges}
+use Rattle.vic_tree.proofs.Words.{length, get_or, ◌≡◌, ℕ, ◌≤◌, ◌<◌, in_ranges, AreRanges}
 use Rattle.vic_tree.proofs.ranges.skip_to.Given as goal
 
 abbrev pub invariant-loop-near : goal.invariant-loop-near

@@ -1,4 +1,4 @@
-use Rattle.std.proofs.Common.{◌∙◌}
+use Rattle.vic_tree.proofs.Words.{◌∙◌}
 use Rattle.vic_tree.proofs.GatheringLaws.{found_among}
 use Rattle.vic_tree.proofs.rising.is_among.Goals as goal
 

@@ -1,7 +1,4 @@
-use Rattle.std.proofs.Common.{ap, sym, ◌∙◌, nat_eq}
-use Rattle.vic_tree.proofs.Words.{list_any, list_any-IsPermutation}
-use Rattle.std.proofs.lemmas.List.Filters.{dedup_is}
-use Rattle.std.proofs.lemmas.Map.Keys.{IsStrictlyIncreasing-dedup}
+use Rattle.vic_tree.proofs.Words.{ap, sym, ◌∙◌, nat_eq, list_any, list_any-IsPermutation, dedup_is, IsStrictlyIncreasing-dedup}
 use Rattle.vic_tree.proofs.GatheringLaws.{has_dedup}
 use Rattle.vic_tree.proofs.rising.put_in_order.Goals as goal
 

@@ -1,5 +1,4 @@
-use Rattle.std.proofs.Common.{◌≡◌, ℕ, take}
-use Rattle.vic_tree.proofs.Words.{list_any, in_ranges}
+use Rattle.vic_tree.proofs.Words.{◌≡◌, ℕ, take, list_any, in_ranges}
 use Rattle.vic_tree.proofs.union.all_ranges.Given as goal
 
 abbrev pub invariant-loop-set : goal.invariant-loop-set

@@ -1,6 +1,4 @@
-use Rattle.std.proofs.Common.{◌+◌, ◌≤◌, arith, nat_lt, ◌&&◌, ℕ, List, false, Bool, [], ◌∷◌, ◌++◌, ◌∙◌, ◌≡◌}
-use Rattle.vic_tree.proofs.Words.{All-weaker, is_left, nat_tests, IsFirstRun, in_ranges}
-use Rattle.std.proofs.lemmas.List.Elements.{All-push}
+use Rattle.vic_tree.proofs.Words.{◌+◌, ◌≤◌, arith, nat_lt, ◌&&◌, ℕ, List, false, Bool, [], ◌∷◌, ◌++◌, ◌∙◌, ◌≡◌, All-weaker, is_left, nat_tests, IsFirstRun, in_ranges, All-push}
 use Rattle.vic_tree.proofs.RangeLaws.{ranges_pushed, in_pushed}
 use Rattle.vic_tree.proofs.GapLaws.{in_run}
 use Rattle.vic_tree.proofs.union.left_of.Goals as goal

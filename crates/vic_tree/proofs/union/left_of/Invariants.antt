@@ -1,5 +1,4 @@
-use Rattle.std.proofs.Common.{◌≡◌, ℕ, ◌+◌, ◌-◌, ◌^◌, ◌≤◌, ◌&&◌, nat_lt, All}
-use Rattle.vic_tree.proofs.Words.{AreRanges, in_ranges, PassFrom, is_left}
+use Rattle.vic_tree.proofs.Words.{◌≡◌, ℕ, ◌+◌, ◌-◌, ◌^◌, ◌≤◌, ◌&&◌, nat_lt, All, AreRanges, in_ranges, PassFrom, is_left}
 use Rattle.vic_tree.proofs.union.left_of.Given as goal
 
 abbrev pub invariant-loop-run : goal.invariant-loop-run

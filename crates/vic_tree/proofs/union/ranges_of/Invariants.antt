@@ -1,5 +1,4 @@
-use Rattle.std.proofs.Common.{take}
-use Rattle.vic_tree.proofs.Words.{list_any, lies_in, SameUids, is_open_in}
+use Rattle.vic_tree.proofs.Words.{take, list_any, lies_in, SameUids, is_open_in}
 use Rattle.vic_tree.proofs.union.ranges_of.Given as goal
 
 abbrev pub invariant-loop-mask : goal.invariant-loop-mask

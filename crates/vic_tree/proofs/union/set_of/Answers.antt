@@ -1,6 +1,4 @@
-use Rattle.std.proofs.Common.{◌∙◌, ap, not}
-use Rattle.vic_tree.proofs.Words.{mirror, mirror_below}
-use Rattle.std.proofs.Math.Bool.{not-not}
+use Rattle.vic_tree.proofs.Words.{◌∙◌, ap, not, mirror, mirror_below, not-not}
 use Rattle.vic_tree.proofs.RangeLaws.{firsts_rise}
 use Rattle.vic_tree.proofs.union.set_of.Goals as goal
 

@@ -1,5 +1,4 @@
-use Rattle.std.proofs.Common.{◌<◌, ◌≤◌, length, sym, ◌∙◌, subst, arith, eqb-true, take_all}
-use Rattle.vic_verdict.proofs.Words.{false≢true, Gathers, IsReadyIn, gathers_full}
+use Rattle.vic_verdict.proofs.Words.{◌<◌, ◌≤◌, length, sym, ◌∙◌, subst, arith, eqb-true, take_all, false≢true, Gathers, IsReadyIn, gathers_full}
 use Rattle.vic_verdict.proofs.Ready.{gathers_none, ready_more, ready_other, ready_so_far}
 use Rattle.vic_verdict.proofs.answering.gather_ready.Goals as goal
 use Rattle.vic_verdict.proofs.answering.gather_ready.Goals.{then-at-quiet, else-at-quiet}

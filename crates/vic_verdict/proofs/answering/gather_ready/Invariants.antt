@@ -1,5 +1,4 @@
-use Rattle.std.proofs.Common.{take}
-use Rattle.vic_verdict.proofs.Words.{Gathers, IsReadyIn}
+use Rattle.vic_verdict.proofs.Words.{take, Gathers, IsReadyIn}
 use Rattle.vic_verdict.proofs.answering.gather_ready.Given as goal
 
 abbrev pub invariant-loop-mention : goal.invariant-loop-mention

@@ -1,5 +1,4 @@
-use Rattle.std.proofs.Common.{get_or, take, ◌∙◌, ◌++◌, ◌∷◌, [], map, sym, ap, take_all}
-use Rattle.vic_verdict.proofs.Words.{Mention, take_more, map-append}
+use Rattle.vic_verdict.proofs.Words.{get_or, take, ◌∙◌, ◌++◌, ◌∷◌, [], map, sym, ap, take_all, Mention, take_more, map-append}
 use Rattle.vic_verdict.proofs.Sweeping.{nobody}
 use Rattle.vic_verdict.proofs.answering.keys_of.Goals as goal
 

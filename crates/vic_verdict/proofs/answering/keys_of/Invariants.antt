@@ -1,5 +1,4 @@
-use Rattle.std.proofs.Common.{◌≡◌, map, take}
-use Rattle.vic_verdict.proofs.Words.{Mention}
+use Rattle.vic_verdict.proofs.Words.{◌≡◌, map, take, Mention}
 use Rattle.vic_verdict.proofs.answering.keys_of.Given as goal
 
 abbrev pub invariant-loop-mention : goal.invariant-loop-mention

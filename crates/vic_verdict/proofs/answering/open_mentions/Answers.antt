@@ -1,5 +1,4 @@
-use Rattle.std.proofs.Common.{◌≡◌, ◌^◌, ◌<◌, ◌≤◌, ℕ, Bool, List, length, get_or, map, true, false, not, ◌&&◌, sym, ap, ◌∙◌, arith, nat_lt, le-ltb}
-use Rattle.vic_verdict.proofs.Words.{and_from, and_right, get_or-map, length-map, uid_of, lt_yes, Mention, NEVER, is_ready_at, is_quiet_by, quiet_of, All-map}
+use Rattle.vic_verdict.proofs.Words.{◌≡◌, ◌^◌, ◌<◌, ◌≤◌, ℕ, Bool, List, length, get_or, map, true, false, not, ◌&&◌, sym, ap, ◌∙◌, arith, nat_lt, le-ltb, and_from, and_right, get_or-map, length-map, uid_of, lt_yes, Mention, NEVER, is_ready_at, is_quiet_by, quiet_of, All-map}
 use Rattle.vic_verdict.proofs.Ready.{open_first, open_same, open_other, open_more, open_all, ready_key, keys_order}
 use Rattle.vic_verdict.proofs.Replying.{at, tells_own}
 use Rattle.vic_verdict.proofs.Sweeping.{nobody, start_here}

@@ -1,5 +1,4 @@
-use Rattle.std.proofs.Common.{[], length, sym, ◌∙◌, subst, arith, eqb-true, take_all}
-use Rattle.vic_verdict.proofs.Words.{mirror, Gathers, HasInside, gathers_full}
+use Rattle.vic_verdict.proofs.Words.{[], length, sym, ◌∙◌, subst, arith, eqb-true, take_all, mirror, Gathers, HasInside, gathers_full}
 use Rattle.vic_verdict.proofs.Closing.{between_from}
 use Rattle.vic_verdict.proofs.Ready.{gathers_none, inside_more, inside_other, inside_so_far}
 use Rattle.vic_verdict.proofs.Sweeping.{between_parts}

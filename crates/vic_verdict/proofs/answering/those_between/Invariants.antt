@@ -1,5 +1,4 @@
-use Rattle.std.proofs.Common.{[], take}
-use Rattle.vic_verdict.proofs.Words.{Gathers, HasInside}
+use Rattle.vic_verdict.proofs.Words.{[], take, Gathers, HasInside}
 use Rattle.vic_verdict.proofs.answering.those_between.Given as goal
 
 abbrev pub invariant-loop-uid : goal.invariant-loop-uid

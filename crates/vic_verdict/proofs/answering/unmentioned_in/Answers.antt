@@ -1,5 +1,4 @@
-use Rattle.std.proofs.Common.{ℕ, List, ◌-◌, length, sym, ◌∙◌, subst, arith, All}
-use Rattle.vic_verdict.proofs.Words.{All-push, UpToThree, is_mentioned, All-take, IsUnmentioned, is_unmentioned, is_unmentioned_in}
+use Rattle.vic_verdict.proofs.Words.{ℕ, List, ◌-◌, length, sym, ◌∙◌, subst, arith, All, All-push, UpToThree, is_mentioned, All-take, IsUnmentioned, is_unmentioned, is_unmentioned_in}
 use Rattle.vic_verdict.specs.declared.answering.Unmentioned.{Unmentioned}
 use Rattle.vic_verdict.proofs.Ready.{found_besides}
 use Rattle.vic_verdict.proofs.answering.unmentioned_in.Goals as goal

@@ -1,5 +1,4 @@
-use Rattle.std.proofs.Common.{◌∙◌, ap, sym, List, ℕ, ◌&&◌, nat_le, nat_lt}
-use Rattle.vic_verdict.proofs.Words.{list_any, mirror, quiet_of, is_quiet_by, IfOk-weaker}
+use Rattle.vic_verdict.proofs.Words.{◌∙◌, ap, sym, List, ℕ, ◌&&◌, nat_le, nat_lt, list_any, mirror, quiet_of, is_quiet_by, IfOk-weaker}
 use Rattle.vic_verdict.proofs.Ready.{first_answering, answering_inside}
 use Rattle.vic_verdict.proofs.answering.up_to_three_answering.Goals as goal
 

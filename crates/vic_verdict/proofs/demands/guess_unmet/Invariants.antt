@@ -1,5 +1,4 @@
-use Rattle.std.proofs.Common.{◌≤◌}
-use Rattle.vic_verdict.proofs.Words.{IsLearnt}
+use Rattle.vic_verdict.proofs.Words.{◌≤◌, IsLearnt}
 use Rattle.vic_verdict.proofs.demands.guess_unmet.Given as goal
 
 abbrev pub invariant-loop-index : goal.invariant-loop-index

@@ -1,6 +1,4 @@
-use Rattle.std.proofs.Common.{◌≡◌, ◌∙◌, ap, sym, subst, inl, inr, refl, rules, nat_lt, IsPermutation}
-use Rattle.vic_verdict.proofs.Words.{Demand, demands_to, nil_from_length}
-use Rattle.std.proofs.lemmas.Fn.{filter_same}
+use Rattle.vic_verdict.proofs.Words.{◌≡◌, ◌∙◌, ap, sym, subst, inl, inr, refl, rules, nat_lt, IsPermutation, Demand, demands_to, nil_from_length, filter_same}
 use Rattle.vic_verdict.proofs.demands.keep_stretch.Goals as goal
 
 pub returns-then-is_empty-clause-kept : goal.returns-then-is_empty-clause-kept

@@ -1,5 +1,4 @@
-use Rattle.std.proofs.Common.{◌≡◌, get_or, sym, subst, arith}
-use Rattle.vic_verdict.proofs.Words.{get_or_default, Found, IsDemandBy}
+use Rattle.vic_verdict.proofs.Words.{◌≡◌, get_or, sym, subst, arith, get_or_default, Found, IsDemandBy}
 use Rattle.vic_verdict.proofs.Demanding.{no_demand, met_skipped, met_found, met_all, found_at}
 use Rattle.vic_verdict.proofs.demands.meet_each.Goals as goal
 use Rattle.vic_verdict.proofs.demands.meet_each.Goals.{then-not-is_asked_again+in_ok-uids+else-len-need+in_ok-push, else-not-is_asked_again}

@@ -1,5 +1,4 @@
-use Rattle.std.proofs.Common.{List, All}
-use Rattle.vic_verdict.proofs.Words.{IsLearnt, SameUids, Entry, slots_of, is_open, IsDemandBy}
+use Rattle.vic_verdict.proofs.Words.{List, All, IsLearnt, SameUids, Entry, slots_of, is_open, IsDemandBy}
 use Rattle.vic_verdict.proofs.Demanding.{AreMetTo}
 use Rattle.vic_verdict.proofs.demands.meet_each.Given as goal
 

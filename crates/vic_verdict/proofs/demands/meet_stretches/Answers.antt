@@ -1,5 +1,4 @@
-use Rattle.std.proofs.Common.{◌≡◌, List, length, sym, subst, arith, All, ℕ, ◌<◌, get_or}
-use Rattle.vic_verdict.proofs.Words.{Entry, Demand, Stretch, Mention, IsDemandBy, AreInOrder, HaveKeys, HasBlock, HasBlocks, HasMentionsInOrder, IsKept, AreKept}
+use Rattle.vic_verdict.proofs.Words.{◌≡◌, List, length, sym, subst, arith, All, ℕ, ◌<◌, get_or, Entry, Demand, Stretch, Mention, IsDemandBy, AreInOrder, HaveKeys, HasBlock, HasBlocks, HasMentionsInOrder, IsKept, AreKept}
 use Rattle.vic_verdict.proofs.Demanding.{AreFoundTo, found_first, found_more, found_all, unmet_lacks}
 use Rattle.vic_verdict.proofs.demands.meet_stretches.Goals as goal
 

@@ -1,5 +1,4 @@
-use Rattle.std.proofs.Common.{List, length}
-use Rattle.vic_verdict.proofs.Words.{SameUids, Entry, slots_of, is_open, AreKept}
+use Rattle.vic_verdict.proofs.Words.{List, length, SameUids, Entry, slots_of, is_open, AreKept}
 use Rattle.vic_verdict.proofs.Demanding.{AreFoundTo}
 use Rattle.vic_verdict.proofs.demands.meet_stretches.Given as goal
 

@@ -1,5 +1,4 @@
-use Rattle.std.proofs.Common.{◌++◌, ◌+◌, drop, sym, ◌∙◌, arith, filter}
-use Rattle.vic_verdict.proofs.Words.{is_other, chosen}
+use Rattle.vic_verdict.proofs.Words.{◌++◌, ◌+◌, drop, sym, ◌∙◌, arith, filter, is_other, chosen}
 use Rattle.vic_verdict.proofs.Choosing.{is_taken, is_avoided, is_enough}
 use Rattle.vic_verdict.proofs.explanation.add_chosen.Goals as goal
 use Rattle.vic_verdict.proofs.explanation.add_chosen.Goals.{then-left-gt0+then-is_other+in_ok-push, else-left-gt0, else-left-gt0-via-then-left-gt0+else-is_other, else-left-gt0-via-else-left-gt0}

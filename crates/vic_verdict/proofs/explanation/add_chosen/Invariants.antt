@@ -1,5 +1,4 @@
-use Rattle.std.proofs.Common.{◌≡◌, ◌++◌, take, drop, filter}
-use Rattle.vic_verdict.proofs.Words.{is_other, chosen}
+use Rattle.vic_verdict.proofs.Words.{◌≡◌, ◌++◌, take, drop, filter, is_other, chosen}
 use Rattle.vic_verdict.proofs.explanation.add_chosen.Given as goal
 
 abbrev pub invariant-loop-uid : goal.invariant-loop-uid

@@ -1,5 +1,4 @@
-use Rattle.std.proofs.Common.{subst, ⊎_elim}
-use Rattle.vic_verdict.proofs.Words.{IsVerdict}
+use Rattle.vic_verdict.proofs.Words.{subst, ⊎_elim, IsVerdict}
 use Rattle.vic_verdict.proofs.Explaining.{absent_shown, unlisted_shown, unsettled_shown, doubtful_shown}
 use Rattle.vic_verdict.proofs.explanation.explain_facts.Goals as goal
 use Rattle.vic_verdict.proofs.explanation.explain_facts.Goals.{in-Impossible, in-Absent+in_ok-gather-in-Absent, in-Unsettled+in_ok-gather-in-Unsettled+in_ok-with_uid-in-Unsettled, in-Doubtful+in_ok-gather-in-Doubtful}

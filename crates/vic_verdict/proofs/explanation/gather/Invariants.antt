@@ -1,6 +1,4 @@
-use Rattle.std.proofs.Common.{◌≡◌, ◌++◌, drop}
-use Rattle.vic_verdict.proofs.Words.{gathered}
-use Rattle.vic_verdict.specs.inner.Gathered.{all_chosen}
+use Rattle.vic_verdict.proofs.Words.{◌≡◌, ◌++◌, drop, gathered, all_chosen}
 use Rattle.vic_verdict.proofs.explanation.gather.Given as goal
 
 abbrev pub invariant-loop-one : goal.invariant-loop-one

@@ -1,5 +1,4 @@
-use Rattle.std.proofs.Common.{◌≡◌, ◌<◌, ◌≤◌, ◌∙◌, sym, subst, List, length, get_or}
-use Rattle.vic_verdict.proofs.Words.{Found}
+use Rattle.vic_verdict.proofs.Words.{◌≡◌, ◌<◌, ◌≤◌, ◌∙◌, sym, subst, List, length, get_or, Found}
 use Rattle.vic_verdict.proofs.Meeting.{certain_first, certain_more, certain_all}
 use Rattle.vic_verdict.proofs.facts.certain_uids.Goals as goal
 

@@ -1,5 +1,4 @@
-use Rattle.std.proofs.Common.{◌+◌, ◌∙◌, ap, sym, subst, Some}
-use Rattle.vic_verdict.proofs.Words.{Entry, entries, HasHeard}
+use Rattle.vic_verdict.proofs.Words.{◌+◌, ◌∙◌, ap, sym, subst, Some, Entry, entries, HasHeard}
 use Rattle.vic_verdict.proofs.Stands.{entry_at}
 use Rattle.vic_verdict.proofs.Meeting.{heard_kept, heard_pushed}
 use Rattle.vic_verdict.proofs.facts.heard_uids.Goals as goal

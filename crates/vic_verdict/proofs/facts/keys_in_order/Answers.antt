@@ -1,6 +1,4 @@
-use Rattle.std.proofs.Common.{◌<◌, ◌^◌, ◌∙◌, ap, sym, arith, nat_eq, take_all}
-use Rattle.vic_verdict.proofs.Words.{All-push, All-permutation, list_any-IsPermutation, has, mirror, has_key}
-use Rattle.std.proofs.lemmas.List.Sorted.{IsNonDecreasingBy-from_sort}
+use Rattle.vic_verdict.proofs.Words.{◌<◌, ◌^◌, ◌∙◌, ap, sym, arith, nat_eq, take_all, All-push, All-permutation, list_any-IsPermutation, has, mirror, has_key, IsNonDecreasingBy-from_sort}
 use Rattle.vic_verdict.proofs.KeyOrder.{key_pushed, uid_more}
 use Rattle.vic_verdict.proofs.facts.keys_in_order.Goals as goal
 

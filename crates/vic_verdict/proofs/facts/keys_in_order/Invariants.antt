@@ -1,6 +1,4 @@
-use Rattle.std.proofs.Common.{◌≡◌, ℕ, true, take}
-use Rattle.vic_verdict.proofs.Words.{IsUid, has, has_key}
-use Rattle.vic_tree.specs.OpenSet.{AreKeys}
+use Rattle.vic_verdict.proofs.Words.{◌≡◌, ℕ, true, take, IsUid, has, has_key, AreKeys}
 use Rattle.vic_verdict.proofs.facts.keys_in_order.Given as goal
 
 abbrev pub invariant-loop-uid : goal.invariant-loop-uid

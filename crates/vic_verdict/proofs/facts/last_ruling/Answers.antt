@@ -1,5 +1,4 @@
-use Rattle.std.proofs.Common.{◌≡◌, ◌∙◌, Some, ap, sym, arith, ⊎_elim, slice_get}
-use Rattle.vic_verdict.proofs.Words.{cases_eq, slice_get_within, length-map, LogLine, Entry, entries, rules_out}
+use Rattle.vic_verdict.proofs.Words.{◌≡◌, ◌∙◌, Some, ap, sym, arith, ⊎_elim, slice_get, cases_eq, slice_get_within, length-map, LogLine, Entry, entries, rules_out}
 use Rattle.vic_verdict.proofs.Stands.{entry_at}
 use Rattle.vic_verdict.proofs.facts.last_ruling.Goals as goal
 use Rattle.vic_verdict.proofs.facts.last_ruling.Goals.{then-rules_out, else-rules_out}

@@ -1,5 +1,4 @@
-use Rattle.std.proofs.Common.{◌≡◌, ◌≤◌, ◌<◌, false, Some, length, ℕ, slice_get}
-use Rattle.vic_verdict.proofs.Words.{Entry, entries, rules_out}
+use Rattle.vic_verdict.proofs.Words.{◌≡◌, ◌≤◌, ◌<◌, false, Some, length, ℕ, slice_get, Entry, entries, rules_out}
 use Rattle.vic_verdict.proofs.facts.last_ruling.Given as goal
 
 abbrev pub invariant-loop-index : goal.invariant-loop-index

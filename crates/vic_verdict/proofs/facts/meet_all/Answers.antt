@@ -1,5 +1,4 @@
-use Rattle.std.proofs.Common.{◌∙◌, ap, sym, subst, List, ℕ, length, arith, MatchResult}
-use Rattle.vic_verdict.proofs.Words.{list_all, length-map, LogLine, entries, Lacks, AreFound}
+use Rattle.vic_verdict.proofs.Words.{◌∙◌, ap, sym, subst, List, ℕ, length, arith, MatchResult, list_all, length-map, LogLine, entries, Lacks, AreFound}
 use Rattle.vic_verdict.proofs.Demanding.{kept_blocks, kept_in_order}
 use Rattle.vic_verdict.proofs.Lacking.{lacking_within, contradicted}
 use Rattle.vic_verdict.proofs.Meeting.{LacksHeard, heard_lacks, met_is_possible, is_met}

@@ -1,5 +1,4 @@
-use Rattle.std.proofs.Common.{◌∙◌, sym, subst, length, take, MatchResult, length-take-le}
-use Rattle.vic_verdict.proofs.Words.{length-map, LogLine, entries, IsMet, AreKept, IsPossible, IsContradiction}
+use Rattle.vic_verdict.proofs.Words.{◌∙◌, sym, subst, length, take, MatchResult, length-take-le, length-map, LogLine, entries, IsMet, AreKept, IsPossible, IsContradiction}
 use Rattle.vic_verdict.proofs.Halving.{first_front, first_entries, front_contradiction}
 use Rattle.vic_verdict.proofs.facts.open_and_met.Goals as goal
 

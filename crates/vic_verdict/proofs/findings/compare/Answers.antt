@@ -1,5 +1,4 @@
-use Rattle.std.proofs.Common.{◌≡◌, ℕ, List, ◌++◌, ◌||◌, sym, ap, subst}
-use Rattle.vic_verdict.proofs.Words.{has, AreKeysOf}
+use Rattle.vic_verdict.proofs.Words.{◌≡◌, ℕ, List, ◌++◌, ◌||◌, sym, ap, subst, has, AreKeysOf}
 use Rattle.vic_verdict.proofs.Differing.{known_has, absent_by, unsettled_by}
 use Rattle.vic_verdict.proofs.findings.compare.Goals as goal
 

@@ -1,5 +1,4 @@
-use Rattle.std.proofs.Common.{length, take, refl, ap, ◌∙◌, arith, add-one, [], ◌∷◌, length-append}
-use Rattle.vic_verdict.proofs.Words.{slice_get_read, entries, listed}
+use Rattle.vic_verdict.proofs.Words.{length, take, refl, ap, ◌∙◌, arith, add-one, [], ◌∷◌, length-append, slice_get_read, entries, listed}
 use Rattle.vic_verdict.proofs.Listing.{listed_more, number_above}
 use Rattle.vic_verdict.proofs.findings.count_listed.Goals as goal
 

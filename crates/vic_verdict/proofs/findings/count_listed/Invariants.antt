@@ -1,5 +1,4 @@
-use Rattle.std.proofs.Common.{◌≡◌, ◌≤◌, take, length}
-use Rattle.vic_verdict.proofs.Words.{entries, listed}
+use Rattle.vic_verdict.proofs.Words.{◌≡◌, ◌≤◌, take, length, entries, listed}
 use Rattle.vic_verdict.proofs.findings.count_listed.Given as goal
 
 abbrev pub invariant-loop-line : goal.invariant-loop-line

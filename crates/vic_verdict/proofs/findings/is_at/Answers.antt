@@ -1,4 +1,4 @@
-use Rattle.std.proofs.Common.{sym, ◌∙◌}
+use Rattle.vic_verdict.proofs.Words.{sym, ◌∙◌}
 use Rattle.vic_verdict.proofs.Merging.{is_here, is_past}
 use Rattle.vic_verdict.proofs.findings.is_at.Goals as goal
 

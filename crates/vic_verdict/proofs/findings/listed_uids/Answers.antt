@@ -1,5 +1,4 @@
-use Rattle.std.proofs.Common.{length, take, refl, sym, ap, ◌∙◌, add-one, ⊎_elim, ◌++◌, [], ◌∷◌, nat_eq}
-use Rattle.vic_verdict.proofs.Words.{list_any, or_cases, list_any-append, slice_get_read, has, entries, listed}
+use Rattle.vic_verdict.proofs.Words.{length, take, refl, sym, ap, ◌∙◌, add-one, ⊎_elim, ◌++◌, [], ◌∷◌, nat_eq, list_any, or_cases, list_any-append, slice_get_read, has, entries, listed}
 use Rattle.vic_verdict.proofs.Listing.{listed_more}
 use Rattle.vic_verdict.proofs.findings.listed_uids.Goals as goal
 

@@ -1,5 +1,4 @@
-use Rattle.std.proofs.Common.{◌≡◌, ℕ, take, true}
-use Rattle.vic_verdict.proofs.Words.{IsUid, has, entries, listed}
+use Rattle.vic_verdict.proofs.Words.{◌≡◌, ℕ, take, true, IsUid, has, entries, listed}
 use Rattle.vic_verdict.proofs.findings.listed_uids.Given as goal
 
 abbrev pub invariant-loop-line : goal.invariant-loop-line

@@ -1,5 +1,4 @@
-use Rattle.std.proofs.Common.{ℕ, Bool, not, cond, take, ap, sym, ◌∙◌, [], ◌∷◌, ◌++◌, arith, subst, filter, take_all}
-use Rattle.vic_verdict.proofs.Words.{get_or_default, has, AreBelow, filter_more}
+use Rattle.vic_verdict.proofs.Words.{ℕ, Bool, not, cond, take, ap, sym, ◌∙◌, [], ◌∷◌, ◌++◌, arith, subst, filter, take_all, get_or_default, has, AreBelow, filter_more}
 use Rattle.vic_verdict.proofs.Failing.{failing_list}
 use Rattle.vic_verdict.proofs.Merging.{below_next}
 use Rattle.vic_verdict.proofs.findings.missing_from.Goals as goal

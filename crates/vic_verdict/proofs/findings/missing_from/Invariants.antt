@@ -1,5 +1,4 @@
-use Rattle.std.proofs.Common.{◌≡◌, ◌<◌, ◌≤◌, length, get_or, not, take, filter}
-use Rattle.vic_verdict.proofs.Words.{has, AreBelow}
+use Rattle.vic_verdict.proofs.Words.{◌≡◌, ◌<◌, ◌≤◌, length, get_or, not, take, filter, has, AreBelow}
 use Rattle.vic_verdict.proofs.findings.missing_from.Given as goal
 
 abbrev pub invariant-loop-uid : goal.invariant-loop-uid

@@ -1,5 +1,4 @@
-use Rattle.std.proofs.Common.{◌-◌, ◌≤◌, length}
-use Rattle.vic_verdict.proofs.Words.{AreBelow}
+use Rattle.vic_verdict.proofs.Words.{◌-◌, ◌≤◌, length, AreBelow}
 use Rattle.vic_verdict.proofs.findings.place_from.Given as goal
 
 abbrev pub invariant-loop-place : goal.invariant-loop-place

@@ -1,5 +1,4 @@
-use Rattle.std.proofs.Common.{◌≡◌, ℕ, ◌+◌, ◌<◌, length, take, get_or, sym, ap, subst, ◌∙◌, arith, add-one, inl, inr, ⊎_elim, MatchResult}
-use Rattle.vic_verdict.proofs.Words.{cases_lt, SameUids, LogLine, entries, slots_of, is_open, IsMet, IsPossible, IsContradiction, IsVerdict, Impossible, slice_get-get_or}
+use Rattle.vic_verdict.proofs.Words.{◌≡◌, ℕ, ◌+◌, ◌<◌, length, take, get_or, sym, ap, subst, ◌∙◌, arith, add-one, inl, inr, ⊎_elim, MatchResult, cases_lt, SameUids, LogLine, entries, slots_of, is_open, IsMet, IsPossible, IsContradiction, IsVerdict, Impossible, slice_get-get_or}
 use Rattle.vic_verdict.proofs.FirstLine.{first_impossible}
 use Rattle.vic_verdict.proofs.Halving.{between_first, between_more, between_earlier, between_raised, first_front, front_contradiction}
 use Rattle.vic_verdict.proofs.judging.first_impossible_line.Goals as goal

@@ -1,4 +1,4 @@
-use Rattle.std.proofs.Common.{◌+◌, ◌-◌}
+use Rattle.vic_verdict.proofs.Words.{◌+◌, ◌-◌}
 use Rattle.vic_verdict.proofs.Halving.{Between}
 use Rattle.vic_verdict.proofs.judging.first_impossible_line.Given as goal
 

@@ -1,6 +1,4 @@
-use Rattle.std.proofs.Common.{◌≡◌, ℕ, List, Option, Bool, sym, subst, MatchOption, slice_get, true, false, ◌∙◌}
-use Rattle.vic_verdict.proofs.Words.{BitMask, has, Entry, entries, AreKeysOf, IsFailing, IsListOf, IsAbsent, IsUnlisted, IsUnsettled, IsDoubtful, IsFirstMask, IsLeast, NoSuch, SameMembers, IsUid, listed}
-use Rattle.vic_verdict.specs.Facts.{IsTold}
+use Rattle.vic_verdict.proofs.Words.{◌≡◌, ℕ, List, Option, Bool, sym, subst, MatchOption, slice_get, true, false, ◌∙◌, BitMask, has, Entry, entries, AreKeysOf, IsFailing, IsListOf, IsAbsent, IsUnlisted, IsUnsettled, IsDoubtful, IsFirstMask, IsLeast, NoSuch, SameMembers, IsUid, listed, IsTold}
 use Rattle.vic_verdict.proofs.Differing.{IsJudged, absent_list, unlisted_list, unsettled_mask, doubtful_uids}
 use Rattle.vic_verdict.proofs.Failing.{first_is_least}
 use Rattle.vic_verdict.proofs.judging.judge_told.Goals as goal

@@ -1,5 +1,4 @@
-use Rattle.std.proofs.Common.{subst, length}
-use Rattle.vic_verdict.proofs.Words.{IfOk-weaker, entries, listed, IsRisingFrom, Complete, IsVerdict}
+use Rattle.vic_verdict.proofs.Words.{subst, length, IfOk-weaker, entries, listed, IsRisingFrom, Complete, IsVerdict}
 use Rattle.vic_verdict.proofs.Verdicts.{rising_lower, first_lines, complete_count, reached_complete, one_verdict}
 use Rattle.vic_verdict.proofs.TwoVersions.{complete_second}
 use Rattle.vic_verdict.proofs.judging.judge_with.Goals as goal

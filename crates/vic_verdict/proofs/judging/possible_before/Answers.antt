@@ -1,5 +1,4 @@
-use Rattle.std.proofs.Common.{sym, subst}
-use Rattle.vic_verdict.proofs.Words.{IsPossible}
+use Rattle.vic_verdict.proofs.Words.{sym, subst, IsPossible}
 use Rattle.vic_verdict.proofs.Halving.{first_entries}
 use Rattle.vic_verdict.proofs.judging.possible_before.Goals as goal
 

@@ -1,5 +1,4 @@
-use Rattle.std.proofs.Common.{Bool, subst}
-use Rattle.vic_verdict.proofs.Words.{IsPopulation, CouldHaveGiven, slots_of, CouldHaveGiven-slots, insert_if, with_member}
+use Rattle.vic_verdict.proofs.Words.{Bool, subst, IsPopulation, CouldHaveGiven, slots_of, CouldHaveGiven-slots, insert_if, with_member}
 use Rattle.vic_verdict.proofs.Decide.{IsPossibleUid-iff}
 use Rattle.vic_verdict.proofs.Populations.{MeetsAll-with_member}
 use Rattle.vic_verdict.proofs.laws.one_possible_uid_more.Goals as goal

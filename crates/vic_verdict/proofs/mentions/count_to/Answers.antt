@@ -1,6 +1,4 @@
-use Rattle.std.proofs.Common.{◌+◌, ◌-◌, leb, leb-true, leb-false, arith, rules}
-use Rattle.vic_verdict.proofs.Words.{Mention}
-use Rattle.std.proofs.lemmas.List.Sorted.{IsPartitionPoint-from_clause, IsPartitionedBy-leb}
+use Rattle.vic_verdict.proofs.Words.{◌+◌, ◌-◌, leb, leb-true, leb-false, arith, rules, Mention, IsPartitionPoint-from_clause, IsPartitionedBy-leb}
 use Rattle.vic_verdict.proofs.Sweeping.{start_here}
 use Rattle.vic_verdict.proofs.mentions.count_to.Goals as goal
 

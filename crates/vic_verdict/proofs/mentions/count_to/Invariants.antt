@@ -1,4 +1,4 @@
-use Rattle.std.proofs.Common.{ℕ, ◌<◌, ◌≤◌, get_or}
+use Rattle.vic_verdict.proofs.Words.{ℕ, ◌<◌, ◌≤◌, get_or}
 use Rattle.vic_verdict.proofs.Sweeping.{nobody}
 use Rattle.vic_verdict.proofs.mentions.count_to.Given as goal
 

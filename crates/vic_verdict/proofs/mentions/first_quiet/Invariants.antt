@@ -1,5 +1,4 @@
-use Rattle.std.proofs.Common.{ℕ, ◌≡◌, ◌≤◌, take, nat_lt}
-use Rattle.vic_verdict.proofs.Words.{list_any, Mention, NEVER, quiet_of}
+use Rattle.vic_verdict.proofs.Words.{ℕ, ◌≡◌, ◌≤◌, take, nat_lt, list_any, Mention, NEVER, quiet_of}
 use Rattle.vic_verdict.proofs.mentions.first_quiet.Given as goal
 
 abbrev pub invariant-loop-mention : goal.invariant-loop-mention

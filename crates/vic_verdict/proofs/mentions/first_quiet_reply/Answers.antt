@@ -1,5 +1,4 @@
-use Rattle.std.proofs.Common.{◌≡◌, ◌+◌, ◌-◌, ◌≤◌, refl, sym, subst, arith, inl, inr, ⊎_elim}
-use Rattle.vic_verdict.proofs.Words.{cases_lt, NEVER, reply_place}
+use Rattle.vic_verdict.proofs.Words.{◌≡◌, ◌+◌, ◌-◌, ◌≤◌, refl, sym, subst, arith, inl, inr, ⊎_elim, cases_lt, NEVER, reply_place}
 use Rattle.vic_verdict.proofs.Sweeping.{start_here}
 use Rattle.vic_verdict.proofs.Replying.{at, TellsFrom, tells_still, tells_own, IsFoundTo, found_more, found_all}
 use Rattle.vic_verdict.proofs.mentions.first_quiet_reply.Goals as goal

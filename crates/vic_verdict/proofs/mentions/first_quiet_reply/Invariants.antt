@@ -1,4 +1,4 @@
-use Rattle.std.proofs.Common.{◌-◌, ◌<◌}
+use Rattle.vic_verdict.proofs.Words.{◌-◌, ◌<◌}
 use Rattle.vic_verdict.proofs.Replying.{TellsFrom, IsFoundTo}
 use Rattle.vic_verdict.proofs.mentions.first_quiet_reply.Given as goal
 

@@ -1,5 +1,4 @@
-use Rattle.std.proofs.Common.{◌≡◌, false, take}
-use Rattle.vic_verdict.proofs.Words.{list_any, mirror, is_quiet_by}
+use Rattle.vic_verdict.proofs.Words.{◌≡◌, false, take, list_any, mirror, is_quiet_by}
 use Rattle.vic_verdict.proofs.mentions.is_any_quiet.Given as goal
 
 abbrev pub invariant-loop-uid : goal.invariant-loop-uid

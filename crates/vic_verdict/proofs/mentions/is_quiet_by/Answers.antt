@@ -1,5 +1,4 @@
-use Rattle.std.proofs.Common.{◌∙◌, sym, ap, arith}
-use Rattle.vic_verdict.proofs.Words.{is_quiet_by}
+use Rattle.vic_verdict.proofs.Words.{◌∙◌, sym, ap, arith, is_quiet_by}
 use Rattle.vic_verdict.proofs.Replying.{tells_own}
 use Rattle.vic_verdict.proofs.mentions.is_quiet_by.Goals as goal
 

@@ -1,5 +1,4 @@
-use Rattle.std.proofs.Common.{arith, eqb-true}
-use Rattle.vic_verdict.proofs.Words.{lt_from}
+use Rattle.vic_verdict.proofs.Words.{arith, eqb-true, lt_from}
 use Rattle.vic_verdict.proofs.Sweeping.{start_here}
 use Rattle.vic_verdict.proofs.mentions.is_start.Goals as goal
 

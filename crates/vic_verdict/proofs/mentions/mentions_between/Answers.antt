@@ -1,7 +1,4 @@
-use Rattle.std.proofs.Common.{◌≡◌, ℕ, ◌+◌, ◌-◌, ◌^◌, ◌<◌, true, List, length, take, drop, arith, sym, ap, ◌∙◌, subst, All, length-drop, take_all}
-use Rattle.vic_verdict.proofs.Words.{Mention, is_between, HaveKeys, has_where}
-use Rattle.std.proofs.lemmas.List.Elements.{All-drop, All-take}
-use Rattle.vic_verdict.specs.inner.Sweep.{IsStart}
+use Rattle.vic_verdict.proofs.Words.{◌≡◌, ℕ, ◌+◌, ◌-◌, ◌^◌, ◌<◌, true, List, length, take, drop, arith, sym, ap, ◌∙◌, subst, All, length-drop, take_all, Mention, is_between, HaveKeys, has_where, All-drop, All-take, IsStart}
 use Rattle.vic_verdict.proofs.Closing.{part_between, part_where}
 use Rattle.vic_verdict.proofs.mentions.mentions_between.Goals as goal
 

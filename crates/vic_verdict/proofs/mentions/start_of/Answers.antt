@@ -1,6 +1,4 @@
-use Rattle.std.proofs.Common.{ltb, ltb-true, ltb-false, arith, rules}
-use Rattle.vic_verdict.proofs.Words.{Mention}
-use Rattle.std.proofs.lemmas.List.Sorted.{IsPartitionPoint-from_clause, IsPartitionedBy-ltb}
+use Rattle.vic_verdict.proofs.Words.{ltb, ltb-true, ltb-false, arith, rules, Mention, IsPartitionPoint-from_clause, IsPartitionedBy-ltb}
 use Rattle.vic_verdict.proofs.mentions.start_of.Goals as goal
 
 pub returns : goal.returns

@@ -1,8 +1,4 @@
-use Rattle.std.proofs.Common.{◌≡◌, ◌++◌, [], ◌∷◌, ◌∙◌, Bool, true, false, Some, ap, sym, subst, append-nil, if◌then◌else◌}
-use Rattle.vic_verdict.proofs.Words.{IsUid, IsUid-from, false_from_ne_true, is_uid, is_uid_from, mirror, Sent}
-use Rattle.std.proofs.lemmas.Result.{on_ok_weaker}
-use Rattle.vic_frame.specs.declared.request.Request.{Request}
-use Rattle.vic_verdict.specs.inner.Stretches.{mention_at, mentions_at}
+use Rattle.vic_verdict.proofs.Words.{◌≡◌, ◌++◌, [], ◌∷◌, ◌∙◌, Bool, true, false, Some, ap, sym, subst, append-nil, if◌then◌else◌, IsUid, IsUid-from, false_from_ne_true, is_uid, is_uid_from, mirror, Sent, on_ok_weaker, Request, mention_at, mentions_at}
 use Rattle.vic_verdict.proofs.stretches.note_sent.Goals as goal
 
 pub returns-in-Some : goal.returns-in-Some

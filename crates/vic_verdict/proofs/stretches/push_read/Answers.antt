@@ -1,8 +1,4 @@
-use Rattle.std.proofs.Common.{◌≡◌, ◌+◌, ◌-◌, ◌*◌, ◌^◌, ◌<◌, ◌∙◌, Option, ap, sym, subst, refl, arith, inr, IfSome}
-use Rattle.vic_verdict.proofs.Words.{KeyBlock, is_in_some_block, ReadSlot, is_between, first_of, heard_of, last_of}
-use Rattle.std.proofs.lemmas.Nat.{div-mul-add, mod-mul-add}
-use Rattle.vic_frame.specs.LowBitsFirst.{IsBlock}
-use Rattle.vic_verdict.specs.inner.Sweep.{len_of}
+use Rattle.vic_verdict.proofs.Words.{◌≡◌, ◌+◌, ◌-◌, ◌*◌, ◌^◌, ◌<◌, ◌∙◌, Option, ap, sym, subst, refl, arith, inr, IfSome, KeyBlock, is_in_some_block, ReadSlot, is_between, first_of, heard_of, last_of, div-mul-add, mod-mul-add, IsBlock, len_of}
 use Rattle.vic_verdict.proofs.stretches.push_read.Goals as goal
 use Rattle.vic_verdict.proofs.stretches.push_read.Goals.{in-Some-heard, in-None}
 

@@ -1,11 +1,8 @@
-use Rattle.std.proofs.Common.{Some, ◌∙◌, ap, sym, subst, length, arith, ◌≡◌}
-use Rattle.vic_verdict.proofs.Words.{Entry, entries, is_outside}
-use Rattle.vic_verdict.specs.inner.Stretches.{IsSettled}
+use Rattle.vic_verdict.proofs.Words.{Some, ◌∙◌, ap, sym, subst, length, arith, ◌≡◌, Entry, entries, is_outside, IsSettled, AreUnsettled}
 use Rattle.vic_verdict.proofs.Listing.{place_bound}
 use Rattle.vic_verdict.proofs.Settling.{IsWalked, walked_first, walked_anew, settled_to}
 use Rattle.vic_verdict.proofs.Stands.{entry_at}
 use Rattle.vic_verdict.proofs.Stretching.{gathered_settles}
-use Rattle.vic_verdict.specs.inner.Sweep.{AreUnsettled}
 use Rattle.vic_verdict.proofs.stretches.settle.Goals as goal
 use Rattle.vic_verdict.proofs.stretches.settle.Goals.{in-FieldCycle+in_ok-cut+in_ok-keep_stretch+else-cut-index, in_default+in_ok-note_entry+else-not-branch}
 

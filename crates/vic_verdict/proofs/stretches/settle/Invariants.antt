@@ -1,5 +1,4 @@
-use Rattle.vic_verdict.proofs.Words.{is_outside, entries}
-use Rattle.vic_log.specs.OpenRounds.{IsCursorAt}
+use Rattle.vic_verdict.proofs.Words.{is_outside, entries, IsCursorAt}
 use Rattle.vic_verdict.proofs.Settling.{IsWalked}
 use Rattle.vic_verdict.proofs.stretches.settle.Given as goal
 

@@ -1,5 +1,4 @@
-use Rattle.std.proofs.Common.{◌≡◌, ◌+◌, ◌-◌, ◌<◌, ◌≤◌, ◌++◌, ◌∷◌, [], get_or, sym, ap, ◌∙◌, subst, arith}
-use Rattle.vic_verdict.proofs.Words.{is_between, Mention, Closes}
+use Rattle.vic_verdict.proofs.Words.{◌≡◌, ◌+◌, ◌-◌, ◌<◌, ◌≤◌, ◌++◌, ◌∷◌, [], get_or, sym, ap, ◌∙◌, subst, arith, is_between, Mention, Closes}
 use Rattle.vic_verdict.proofs.Sweeping.{nobody}
 use Rattle.vic_verdict.proofs.Closing.{closed_first, closed_passed, closed_left, closed_all, pushed_none, pushed_one}
 use Rattle.vic_verdict.proofs.sweep.close_between.Goals as goal

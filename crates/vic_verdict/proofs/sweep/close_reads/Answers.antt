@@ -1,6 +1,4 @@
-use Rattle.std.proofs.Common.{◌≡◌, ℕ, ◌||◌, ◌&&◌, ◌∙◌, get_or, take, not, refl, sym, ap, take_all}
-use Rattle.vic_verdict.proofs.Words.{get_or_default, is_between, in_ranges, or_false, ReadSlot, is_in_some, has_left}
-use Rattle.vic_verdict.specs.inner.Closed.{closes_with}
+use Rattle.vic_verdict.proofs.Words.{◌≡◌, ℕ, ◌||◌, ◌&&◌, ◌∙◌, get_or, take, not, refl, sym, ap, take_all, get_or_default, is_between, in_ranges, or_false, ReadSlot, is_in_some, has_left, closes_with}
 use Rattle.vic_verdict.proofs.Closing.{closes_more}
 use Rattle.vic_verdict.proofs.Sweeping.{nowhere}
 use Rattle.vic_verdict.proofs.sweep.close_reads.Goals as goal

@@ -1,6 +1,4 @@
-use Rattle.std.proofs.Common.{◌≡◌, ℕ, ◌||◌, ◌&&◌, not, take}
-use Rattle.vic_verdict.proofs.Words.{in_ranges, is_in_some, has_left}
-use Rattle.vic_verdict.specs.inner.Closed.{closes_with}
+use Rattle.vic_verdict.proofs.Words.{◌≡◌, ℕ, ◌||◌, ◌&&◌, not, take, in_ranges, is_in_some, has_left, closes_with}
 use Rattle.vic_verdict.proofs.sweep.close_reads.Given as goal
 
 abbrev pub invariant-loop-read : goal.invariant-loop-read

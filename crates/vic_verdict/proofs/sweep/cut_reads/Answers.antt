@@ -1,5 +1,4 @@
-use Rattle.std.proofs.Common.{sym, arith, rules}
-use Rattle.std.proofs.lemmas.Fn.{filter_same}
+use Rattle.vic_verdict.proofs.Words.{sym, arith, rules, filter_same}
 use Rattle.vic_verdict.proofs.Sweeping.{is_before_place, before_end}
 use Rattle.vic_verdict.proofs.sweep.cut_reads.Goals as goal
 

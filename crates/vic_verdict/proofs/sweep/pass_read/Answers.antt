@@ -1,6 +1,4 @@
-use Rattle.std.proofs.Common.{◌≡◌, ◌&&◌, ◌∙◌, ℕ, ap, sym, subst, Some, Option}
-use Rattle.vic_verdict.proofs.Words.{Run, level_leaves, keep_all, run_leaves, mask_leaves, AreInOrder}
-use Rattle.vic_verdict.specs.inner.Sweep.{slot_leaves, read_leaves}
+use Rattle.vic_verdict.proofs.Words.{◌≡◌, ◌&&◌, ◌∙◌, ℕ, ap, sym, subst, Some, Option, Run, level_leaves, keep_all, run_leaves, mask_leaves, AreInOrder, slot_leaves, read_leaves}
 use Rattle.vic_verdict.proofs.Sweeping.{keep-order, keep_none, run_next}
 use Rattle.vic_verdict.proofs.sweep.pass_read.Goals as goal
 use Rattle.vic_verdict.proofs.sweep.pass_read.Goals.{in-Some+else-r-first, in_default}

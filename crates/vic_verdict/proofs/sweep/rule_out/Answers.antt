@@ -1,5 +1,4 @@
-use Rattle.std.proofs.Common.{◌≡◌, Bool, ◌&&◌, get_or, arith, sym, ap, ◌∙◌}
-use Rattle.vic_verdict.proofs.Words.{Mention, level_leaves, mask_leaves, quiet_of}
+use Rattle.vic_verdict.proofs.Words.{◌≡◌, Bool, ◌&&◌, get_or, arith, sym, ap, ◌∙◌, Mention, level_leaves, mask_leaves, quiet_of}
 use Rattle.vic_verdict.proofs.Sweeping.{nobody, ruled_first, ruled_more, ruled_all, outside_below, outside_above, inside}
 use Rattle.vic_verdict.proofs.sweep.rule_out.Goals as goal
 use Rattle.vic_verdict.proofs.sweep.rule_out.Goals.{then-mention, else-mention}

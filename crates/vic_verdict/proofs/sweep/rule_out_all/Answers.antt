@@ -1,5 +1,4 @@
-use Rattle.std.proofs.Common.{◌∙◌, ap, get_or, sym, Option, take_all}
-use Rattle.vic_verdict.proofs.Words.{get_or_default, Run, keep_all, run_leaves, all_leave}
+use Rattle.vic_verdict.proofs.Words.{◌∙◌, ap, get_or, sym, Option, take_all, get_or_default, Run, keep_all, run_leaves, all_leave}
 use Rattle.vic_verdict.proofs.Sweeping.{nowhere, runs_more, keep_none}
 use Rattle.vic_verdict.proofs.sweep.rule_out_all.Goals as goal
 

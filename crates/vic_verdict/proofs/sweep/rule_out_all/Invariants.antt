@@ -1,6 +1,4 @@
-use Rattle.std.proofs.Common.{◌≡◌, take, IfSome}
-use Rattle.vic_verdict.proofs.Words.{keep_all, run_leaves, all_leave, AreInOrder}
-use Rattle.vic_verdict.specs.inner.Sweep.{IsLevel}
+use Rattle.vic_verdict.proofs.Words.{◌≡◌, take, IfSome, keep_all, run_leaves, all_leave, AreInOrder, IsLevel}
 use Rattle.vic_verdict.proofs.sweep.rule_out_all.Given as goal
 
 abbrev pub invariant-loop-read : goal.invariant-loop-read

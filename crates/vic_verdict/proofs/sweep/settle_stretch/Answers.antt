@@ -1,8 +1,4 @@
-use Rattle.std.proofs.Common.{◌≡◌, ℕ, ◌∙◌, ◌&&◌, ◌++◌, not, refl, ap, sym, subst, rules, length, take, filter, List, All}
-use Rattle.vic_verdict.proofs.Words.{length-map, All-permutation, mirror, Mention, ReadSlot, all_allow, all_hear_mentioned, keep_all, all_leave, AreInOrder, in_ranges, Closes, is_in_some, IsFirstQuietReply}
-use Rattle.std.proofs.lemmas.List.Elements.{All-filter}
-use Rattle.std.proofs.lemmas.List.Sorted.{IsNonDecreasingBy-from_sort_by_key}
-use Rattle.vic_verdict.specs.inner.Sweep.{HasRange, keep}
+use Rattle.vic_verdict.proofs.Words.{◌≡◌, ℕ, ◌∙◌, ◌&&◌, ◌++◌, not, refl, ap, sym, subst, rules, length, take, filter, List, All, length-map, All-permutation, mirror, Mention, ReadSlot, all_allow, all_hear_mentioned, keep_all, all_leave, AreInOrder, in_ranges, Closes, is_in_some, IsFirstQuietReply, All-filter, IsNonDecreasingBy-from_sort_by_key, HasRange, keep}
 use Rattle.vic_verdict.proofs.Sweeping.{keep-order, written, covered_allowed, left_permuted, mentioned_permuted, allow_permuted, is_before_place, allow_filtered, mentioned_filtered}
 use Rattle.vic_verdict.proofs.Closing.{outside_closed}
 use Rattle.vic_verdict.proofs.Heard.{first_permuted}

@@ -1,5 +1,4 @@
-use Rattle.std.proofs.Common.{◌∷◌, [], ◌++◌, get_or, map, take, ap, sym, ◌∙◌, arith}
-use Rattle.vicinity_c.proofs.Words.{length-map, take_all, take_more, slice_get-get_or, uid_fault}
+use Rattle.vicinity_c.proofs.Words.{◌∷◌, [], ◌++◌, get_or, map, take, ap, sym, ◌∙◌, arith, length-map, take_all, take_more, slice_get-get_or, uid_fault}
 use Rattle.vicinity_c.proofs.ArrayFaults.{map_get, none_all, none_next, uid_sound}
 use Rattle.vicinity_c.proofs.arrays.certain_uids.Goals as goal
 

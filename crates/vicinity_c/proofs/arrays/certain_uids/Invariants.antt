@@ -1,5 +1,4 @@
-use Rattle.std.proofs.Common.{◌≡◌, map, take}
-use Rattle.vicinity_c.proofs.Words.{HaveNoFault, uid_fault}
+use Rattle.vicinity_c.proofs.Words.{◌≡◌, map, take, HaveNoFault, uid_fault}
 use Rattle.vicinity_c.proofs.arrays.certain_uids.Given as goal
 
 abbrev pub invariant-loop-index : goal.invariant-loop-index

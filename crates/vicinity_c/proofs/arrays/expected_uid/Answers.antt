@@ -1,7 +1,4 @@
-use Rattle.std.proofs.Common.{◌≡◌, ◌<◌, true, false, cond, length, ap, sym, subst, ◌∙◌, arith, nat_cmp}
-use Rattle.vicinity_c.proofs.Words.{contains, has}
-use Rattle.std.specs.BTreeMap.{is_at}
-use Rattle.std.proofs.lemmas.Bool.{not-true}
+use Rattle.vicinity_c.proofs.Words.{◌≡◌, ◌<◌, true, false, cond, length, ap, sym, subst, ◌∙◌, arith, nat_cmp, contains, has, is_at, not-true}
 use Rattle.vicinity_c.proofs.ArrayFaults.{expected_sound, seen_more}
 use Rattle.vicinity_c.proofs.arrays.expected_uid.Goals as goal
 

@@ -1,5 +1,4 @@
-use Rattle.std.proofs.Common.{◌≡◌, Ok, Err, Some, ◌∷◌, [], ◌++◌, get_or, length, take, ap, sym, subst, ◌∙◌, arith, nat_cmp}
-use Rattle.vicinity_c.proofs.Words.{contains, length-take-le, take_all, take_more, slice_get-get_or, has, IsNextRead, expected_fault, expected_faults}
+use Rattle.vicinity_c.proofs.Words.{◌≡◌, Ok, Err, Some, ◌∷◌, [], ◌++◌, get_or, length, take, ap, sym, subst, ◌∙◌, arith, nat_cmp, contains, length-take-le, take_all, take_more, slice_get-get_or, has, IsNextRead, expected_fault, expected_faults}
 use Rattle.vicinity_c.proofs.ArrayFaults.{expected_get, length_expected, none_all, none_next}
 use Rattle.vicinity_c.proofs.arrays.expected_uids.Goals as goal
 

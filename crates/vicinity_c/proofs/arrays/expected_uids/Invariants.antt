@@ -1,5 +1,4 @@
-use Rattle.std.proofs.Common.{◌≡◌, ℕ, ◌≤◌, take, nat_cmp}
-use Rattle.vicinity_c.proofs.Words.{contains, has, HaveNoFault, expected_faults}
+use Rattle.vicinity_c.proofs.Words.{◌≡◌, ℕ, ◌≤◌, take, nat_cmp, contains, has, HaveNoFault, expected_faults}
 use Rattle.vicinity_c.specs.declared.arrays.TheConstants.{MOST}
 use Rattle.vicinity_c.proofs.arrays.expected_uids.Given as goal
 

@@ -1,5 +1,4 @@
-use Rattle.std.proofs.Common.{◌∷◌, [], ◌++◌, get_or, map, take, ap, sym, ◌∙◌, arith}
-use Rattle.vicinity_c.proofs.Words.{length-map, map-append, take_all, take_more, slice_get-get_or, VicinityMask, mask_fault, mask_in}
+use Rattle.vicinity_c.proofs.Words.{◌∷◌, [], ◌++◌, get_or, map, take, ap, sym, ◌∙◌, arith, length-map, map-append, take_all, take_more, slice_get-get_or, VicinityMask, mask_fault, mask_in}
 use Rattle.vicinity_c.proofs.ArrayFaults.{map_get, none_all, none_next}
 use Rattle.vicinity_c.proofs.arrays.open_masks.Goals as goal
 

@@ -1,5 +1,4 @@
-use Rattle.std.proofs.Common.{◌≡◌, map, take}
-use Rattle.vicinity_c.proofs.Words.{HaveNoFault, mask_fault, mask_in}
+use Rattle.vicinity_c.proofs.Words.{◌≡◌, map, take, HaveNoFault, mask_fault, mask_in}
 use Rattle.vicinity_c.proofs.arrays.open_masks.Given as goal
 
 abbrev pub invariant-loop-index : goal.invariant-loop-index

@@ -1,6 +1,4 @@
-use Rattle.std.proofs.Common.{◌≡◌, sym, subst, ◌+◌, ◌++◌, length, map, arith}
-use Rattle.vicinity_c.proofs.Words.{IsFirst, expected_faults, faults_of, mask_fault, uid_fault}
-use Rattle.std.proofs.lemmas.List.Elements.{All-append}
+use Rattle.vicinity_c.proofs.Words.{◌≡◌, sym, subst, ◌+◌, ◌++◌, length, map, arith, IsFirst, expected_faults, faults_of, mask_fault, uid_fault, All-append}
 use Rattle.vicinity_c.proofs.ArrayFaults.{first_certain, first_expected, first_mask}
 use Rattle.vicinity_c.proofs.arrays.read_arrays.Goals as goal
 

@@ -1,6 +1,4 @@
-use Rattle.std.proofs.Common.{◌≡◌, ℕ, List, [], ◌∷◌, ◌++◌, ◌/◌, ◌%◌, ap, ◌∙◌, arith}
-use Rattle.vic_frame.specs.Bytes.{bytes_of}
-use Rattle.vic_frame.specs.Crc.{with_crc}
+use Rattle.vicinity_c.proofs.Words.{◌≡◌, ℕ, List, [], ◌∷◌, ◌++◌, ◌/◌, ◌%◌, ap, ◌∙◌, arith, bytes_of, with_crc}
 use Rattle.vicinity_c.specs.Frames.{framed}
 use Rattle.vicinity_c.proofs.CrcBytes.{pushed_twice}
 use Rattle.vicinity_c.proofs.frames.with_crc.Goals as goal

@@ -1,5 +1,4 @@
-use Rattle.std.proofs.Common.{ℕ, List, ◌++◌, length, drop, replicate, ap, ◌∙◌}
-use Rattle.vicinity_c.proofs.Words.{drop-replicate}
+use Rattle.vicinity_c.proofs.Words.{ℕ, List, ◌++◌, length, drop, replicate, ap, ◌∙◌, drop-replicate}
 use Rattle.vicinity_c.specs.declared.lines.TheConstants.{LINE_ROOM}
 use Rattle.vicinity_c.specs.declared.lines.VicinityLine.{VicinityLine}
 use Rattle.vicinity_c.proofs.lines.lined.Goals as goal

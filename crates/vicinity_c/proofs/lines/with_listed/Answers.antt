@@ -1,7 +1,4 @@
-use Rattle.std.proofs.Common.{◌≡◌, ℕ, ◌+◌, List, ◌++◌, drop, slice_index, ap, ◌∙◌, w64}
-use Rattle.vicinity_c.proofs.Words.{listed_text}
-use Rattle.std.specs.Int.{to_be_bytes}
-use Rattle.vicinity_c.specs.Lines.{bytes_line}
+use Rattle.vicinity_c.proofs.Words.{◌≡◌, ℕ, ◌+◌, List, ◌++◌, drop, slice_index, ap, ◌∙◌, w64, listed_text, to_be_bytes, bytes_line}
 use Rattle.vicinity_c.proofs.ListedLines.{next_uid}
 use Rattle.vicinity_c.proofs.lines.with_listed.Goals as goal
 

@@ -1,5 +1,4 @@
-use Rattle.std.proofs.Common.{◌≡◌, ◌++◌, drop}
-use Rattle.vicinity_c.proofs.Words.{listed_text}
+use Rattle.vicinity_c.proofs.Words.{◌≡◌, ◌++◌, drop, listed_text}
 use Rattle.vicinity_c.proofs.lines.with_listed.Given as goal
 
 abbrev pub invariant-loop-uid : goal.invariant-loop-uid

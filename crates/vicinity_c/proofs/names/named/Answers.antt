@@ -1,5 +1,4 @@
-use Rattle.std.proofs.Common.{ℕ, List, ◌++◌, length, drop, replicate, ap, ◌∙◌}
-use Rattle.vicinity_c.proofs.Words.{drop-replicate}
+use Rattle.vicinity_c.proofs.Words.{ℕ, List, ◌++◌, length, drop, replicate, ap, ◌∙◌, drop-replicate}
 use Rattle.vicinity_c.specs.declared.names.TheConstants.{NAME_ROOM}
 use Rattle.vicinity_c.specs.declared.names.VicinityName.{VicinityName}
 use Rattle.vicinity_c.proofs.names.named.Goals as goal

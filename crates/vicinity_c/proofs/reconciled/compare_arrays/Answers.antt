@@ -1,10 +1,4 @@
-use Rattle.std.proofs.Common.{◌≡◌, ℕ, List, length, map, ap, subst, ◌∙◌}
-use Rattle.vicinity_c.proofs.Words.{BitMask, AreFindingsBy, AreNoneOf, AreTogether, IsAmong, MayBe, plain_answer, mask_in}
-use Rattle.vic_log.specs.declared.entry.LogLine.{LogLine}
-use Rattle.vic_reconcile.specs.declared.surveys.PlainFindings.{PlainFindings}
-use Rattle.vic_reconcile.specs.Families.{IsCertainUid, IsPossibleUid}
-use Rattle.vic_reconcile.specs.Findings.{IsWhole}
-use Rattle.vic_answer.specs.Numbers.{numbers_of}
+use Rattle.vicinity_c.proofs.Words.{◌≡◌, ℕ, List, length, map, ap, subst, ◌∙◌, BitMask, AreFindingsBy, AreNoneOf, AreTogether, IsAmong, MayBe, plain_answer, mask_in, LogLine, PlainFindings, IsCertainUid, IsPossibleUid, IsWhole, numbers_of}
 use Rattle.vicinity_c.proofs.reconciled.compare_arrays.Goals as goal
 
 -- what the findings of arrays are

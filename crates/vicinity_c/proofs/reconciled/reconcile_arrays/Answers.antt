@@ -1,8 +1,5 @@
-use Rattle.std.proofs.Common.{◌≡◌, ap, inl, inr, refl, sym, subst, ◌∙◌}
-use Rattle.vicinity_c.proofs.Words.{refusal_numbers, AreRead, IsFirstFault, faults_of}
-use Rattle.std.proofs.lemmas.Result.{IfOk-weaker}
+use Rattle.vicinity_c.proofs.Words.{◌≡◌, ap, inl, inr, refl, sym, subst, ◌∙◌, refusal_numbers, AreRead, IsFirstFault, faults_of, IfOk-weaker, AreRefused}
 use Rattle.vicinity_c.specs.Names.{fault_name}
-use Rattle.vicinity_c.specs.Reconciled.{AreRefused}
 use Rattle.vicinity_c.proofs.reconciled.reconcile_arrays.Goals as goal
 
 pub returns-in-Ok : goal.returns-in-Ok

@@ -1,5 +1,4 @@
-use Rattle.std.proofs.Common.{length, ap, subst, ◌∙◌}
-use Rattle.vicinity_c.proofs.Words.{IsPutInto}
+use Rattle.vicinity_c.proofs.Words.{length, ap, subst, ◌∙◌, IsPutInto}
 use Rattle.vicinity_c.proofs.Answered.{answered, count_where_complete, found_by, no_fault, put_nothing, refused, whole_where_complete}
 use Rattle.vicinity_c.proofs.reconciled.vicinity_reconcile.Goals as goal
 

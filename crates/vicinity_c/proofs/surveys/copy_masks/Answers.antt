@@ -1,6 +1,4 @@
-use Rattle.std.proofs.Common.{◌≡◌, ℕ, zero, suc, add-one, ◌<◌, ◌≤◌, List, [], ◌∷◌, ◌++◌, drop, get_or, length, map, take, ap, sym, ◌∙◌, arith}
-use Rattle.vicinity_c.proofs.Words.{BitMask, VicinityMask, mask_fields}
-use Rattle.std.proofs.Math.ListN.{set}
+use Rattle.vicinity_c.proofs.Words.{◌≡◌, ℕ, zero, suc, add-one, ◌<◌, ◌≤◌, List, [], ◌∷◌, ◌++◌, drop, get_or, length, map, take, ap, sym, ◌∙◌, arith, BitMask, VicinityMask, mask_fields, set}
 use Rattle.vicinity_c.proofs.surveys.copy_masks.Goals as goal
 
 set_next : (ms : List BitMask) (room : List VicinityMask) (i : ℕ) (m : BitMask) → i < length ms → length ms ≤ length room → m ≡ get_or ms i m

@@ -1,5 +1,4 @@
-use Rattle.std.proofs.Common.{◌≡◌, ◌++◌, take, drop, map}
-use Rattle.vicinity_c.proofs.Words.{mask_fields}
+use Rattle.vicinity_c.proofs.Words.{◌≡◌, ◌++◌, take, drop, map, mask_fields}
 use Rattle.vicinity_c.proofs.surveys.copy_masks.Given as goal
 
 abbrev pub invariant-loop-index : goal.invariant-loop-index

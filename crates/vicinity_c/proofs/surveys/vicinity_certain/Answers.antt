@@ -1,5 +1,4 @@
-use Rattle.std.proofs.Common.{refl, sym, subst}
-use Rattle.vicinity_c.proofs.Words.{map-id, AreCertainIn, IsPutInto, IsAnswerWith}
+use Rattle.vicinity_c.proofs.Words.{refl, sym, subst, map-id, AreCertainIn, IsPutInto, IsAnswerWith}
 use Rattle.vicinity_c.proofs.surveys.vicinity_certain.Goals as goal
 
 pub returns-clause-certain : goal.returns-clause-certain

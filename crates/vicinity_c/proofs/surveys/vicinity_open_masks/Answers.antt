@@ -1,5 +1,4 @@
-use Rattle.std.proofs.Common.{List, map, sym, subst, ◌∙◌}
-use Rattle.vicinity_c.proofs.Words.{BitMask, AreOpenIn, IsPutInto, IsAnswerWith, mask_fields}
+use Rattle.vicinity_c.proofs.Words.{List, map, sym, subst, ◌∙◌, BitMask, AreOpenIn, IsPutInto, IsAnswerWith, mask_fields}
 use Rattle.vicinity_c.proofs.surveys.vicinity_open_masks.Goals as goal
 
 pub returns-clause-open_masks : goal.returns-clause-open_masks

@@ -1,5 +1,4 @@
-use Rattle.std.proofs.Common.{ℕ, Bool, true, false, cond, List, Some, ◌≡◌, ◌∙◌, ◌==◌, ap, sym}
-use Rattle.vic_field.proofs.Words.{has, tags_of, readiness, uids}
+use Rattle.vic_field.proofs.Words.{ℕ, Bool, true, false, cond, List, Some, ◌≡◌, ◌∙◌, ◌==◌, ap, sym, has, tags_of, readiness, uids}
 use Rattle.vic_field.specs.Rows.{entries}
 use Rattle.vic_field.proofs.FieldRows.{more_readiness, uids_of_entries}
 use Rattle.vic_field.proofs.TagLaws.{has_key}

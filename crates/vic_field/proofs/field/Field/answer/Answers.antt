@@ -1,5 +1,4 @@
-use Rattle.std.proofs.Common.{ℕ, Bool, List, ◌∙◌, ap, subst}
-use Rattle.vic_field.proofs.Words.{IsPopulation, uids, ready_in, heard}
+use Rattle.vic_field.proofs.Words.{ℕ, Bool, List, ◌∙◌, ap, subst, IsPopulation, uids, ready_in, heard}
 use Rattle.vic_field.specs.Rows.{entries}
 use Rattle.vic_field.proofs.Keys.{population_of}
 use Rattle.vic_field.proofs.RowLaws.{rising_entries, small_entries}

@@ -1,5 +1,4 @@
-use Rattle.std.proofs.Common.{ℕ, Bool, List, ◌∙◌, ap, sym}
-use Rattle.vic_field.proofs.Words.{has, uids}
+use Rattle.vic_field.proofs.Words.{ℕ, Bool, List, ◌∙◌, ap, sym, has, uids}
 use Rattle.vic_field.proofs.FieldRows.{uids_of_entries}
 use Rattle.vic_field.proofs.TagLaws.{has_key}
 use Rattle.vic_field.proofs.field.Field.holds.Goals as goal

@@ -1,5 +1,4 @@
-use Rattle.std.proofs.Common.{length, [], ap, subst, sym, arith}
-use Rattle.vic_field.proofs.Words.{AreKeys}
+use Rattle.vic_field.proofs.Words.{length, [], ap, subst, sym, arith, AreKeys}
 use Rattle.std.specs.List.Sorted.{IsStrictlySortedBy}
 use Rattle.vic_field.proofs.field.Field.new.Goals as goal
 

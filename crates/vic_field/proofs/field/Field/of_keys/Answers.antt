@@ -1,5 +1,4 @@
-use Rattle.std.proofs.Common.{ℕ, Bool, List, ◌∙◌, ap}
-use Rattle.vic_field.proofs.Words.{tags_of, readiness}
+use Rattle.vic_field.proofs.Words.{ℕ, Bool, List, ◌∙◌, ap, tags_of, readiness}
 use Rattle.vic_field.proofs.FieldRows.{new_readiness}
 use Rattle.vic_field.proofs.field.Field.of_keys.Goals as goal
 

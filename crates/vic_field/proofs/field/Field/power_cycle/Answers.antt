@@ -1,6 +1,4 @@
-use Rattle.std.proofs.Common.{ℕ, Bool, true, List, ◌∙◌, ◌==◌, ap, option_map}
-use Rattle.vic_field.proofs.Words.{tags_of, readiness}
-use Rattle.std.proofs.lemmas.Map.Made.{lookup-map_values}
+use Rattle.vic_field.proofs.Words.{ℕ, Bool, true, List, ◌∙◌, ◌==◌, ap, option_map, tags_of, readiness, lookup-map_values}
 use Rattle.vic_field.specs.Rows.{entries}
 use Rattle.vic_field.proofs.TagLaws.{tags_of-map}
 use Rattle.vic_field.proofs.field.Field.power_cycle.Goals as goal

@@ -1,5 +1,4 @@
-use Rattle.std.proofs.Common.{ℕ, Bool, false, cond, List, ◌∙◌, ◌==◌, ap, option_map}
-use Rattle.vic_field.proofs.Words.{tags_of, with_quiet, readiness}
+use Rattle.vic_field.proofs.Words.{ℕ, Bool, false, cond, List, ◌∙◌, ◌==◌, ap, option_map, tags_of, with_quiet, readiness}
 use Rattle.vic_field.specs.Rows.{entries}
 use Rattle.vic_field.proofs.FieldRows.{quiet_readiness}
 use Rattle.vic_field.proofs.RowLaws.{small_entries}

@@ -1,5 +1,4 @@
-use Rattle.std.proofs.Common.{◌≡◌, ◌/◌, true, false, refl, subst, arith}
-use Rattle.vic_field.specs.inner.Places.{HasBitMore}
+use Rattle.vic_field.proofs.Words.{◌≡◌, ◌/◌, true, false, refl, subst, arith, HasBitMore}
 use Rattle.vic_field.proofs.PlaceLaws.{noted_after}
 use Rattle.vic_field.proofs.quiet.QuietPlaces.add.Goals as goal
 

@@ -1,6 +1,4 @@
-use Rattle.std.proofs.Common.{length, ap, ◌∙◌, arith}
-use Rattle.std.proofs.lemmas.List.{length-replicate}
-use Rattle.vic_field.specs.Places.{blank}
+use Rattle.vic_field.proofs.Words.{length, ap, ◌∙◌, arith, length-replicate, blank}
 use Rattle.vic_field.proofs.PlaceLaws.{all_blank, sound_later}
 use Rattle.vic_field.proofs.quiet.QuietPlaces.over.Goals as goal
 

@@ -1,6 +1,4 @@
-use Rattle.std.proofs.Common.{◌≡◌, ◌/◌, false, subst, arith}
-use Rattle.vic_field.proofs.Words.{both_ways}
-use Rattle.vic_field.specs.Places.{is_set}
+use Rattle.vic_field.proofs.Words.{◌≡◌, ◌/◌, false, subst, arith, both_ways, is_set}
 use Rattle.vic_field.proofs.quiet.QuietPlaces.run_from.Goals as goal
 use Rattle.vic_field.proofs.quiet.QuietPlaces.run_from.Goals.{then-place-eq0+else-groups-gt0, else-place-eq0, then-place-eq0-2+else-words-gt0, else-place-eq0-2}
 

@@ -1,4 +1,4 @@
-use Rattle.std.proofs.Common.{arith}
+use Rattle.vic_field.proofs.Words.{arith}
 use Rattle.vic_field.proofs.PlaceLaws.{sound_later}
 use Rattle.vic_field.proofs.quiet.QuietPlaces.wake.Goals as goal
 use Rattle.vic_field.proofs.quiet.QuietPlaces.wake.Goals.{then-self, else-self}

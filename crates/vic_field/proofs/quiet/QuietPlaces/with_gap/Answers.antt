@@ -1,5 +1,4 @@
-use Rattle.std.proofs.Common.{◌≡◌, ◌<◌, ◌+◌, ◌-◌, ◌&&◌, Bool, false, ap, subst, ◌∙◌, arith, ◌⊎◌, inl, inr, lt-ltb}
-use Rattle.vic_field.proofs.Words.{is_quiet_place}
+use Rattle.vic_field.proofs.Words.{◌≡◌, ◌<◌, ◌+◌, ◌-◌, ◌&&◌, Bool, false, ap, subst, ◌∙◌, arith, ◌⊎◌, inl, inr, lt-ltb, is_quiet_place}
 use Rattle.vic_field.proofs.PlaceLaws.{gapped_quiet, gapped_ready, none_gapped}
 use Rattle.vic_field.proofs.quiet.QuietPlaces.with_gap.Goals as goal
 use Rattle.vic_field.proofs.quiet.QuietPlaces.with_gap.Goals.{then-run_from-gt0, then-place-gap, else-place-gap, else-run_from-gt0}

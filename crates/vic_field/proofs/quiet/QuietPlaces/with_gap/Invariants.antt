@@ -1,5 +1,4 @@
-use Rattle.vic_field.proofs.Words.{is_quiet_place}
-use Rattle.vic_field.specs.Places.{HasRoomFor, IsSound}
+use Rattle.vic_field.proofs.Words.{is_quiet_place, HasRoomFor, IsSound}
 use Rattle.vic_field.proofs.PlaceLaws.{IsGapped}
 use Rattle.vic_field.proofs.quiet.QuietPlaces.with_gap.Given as goal
 

@@ -1,5 +1,4 @@
-use Rattle.std.proofs.Common.{ℕ, ◌<◌, ◌≤◌, ◌^◌, ◌%◌, ◌∙◌, ap, arith}
-use Rattle.vic_frame.proofs.Words.{pow-le-pow_right, BitMask}
+use Rattle.vic_frame.proofs.Words.{ℕ, ◌<◌, ◌≤◌, ◌^◌, ◌%◌, ◌∙◌, ap, arith, pow-le-pow_right, BitMask}
 use Rattle.vic_frame.proofs.MaskLaws.{least_inside, least_first}
 use Rattle.vic_frame.proofs.mask.Mask.least_uid.Goals as goal
 

@@ -1,5 +1,4 @@
-use Rattle.std.proofs.Common.{◌≡◌, ◌++◌, length, length-append, ap, subst, arith}
-use Rattle.vic_log.specs.Begun.{HasTaken}
+use Rattle.vic_log.proofs.Words.{◌≡◌, ◌++◌, length, length-append, ap, subst, arith, HasTaken}
 use Rattle.vic_log.proofs.Judged.{no-early}
 use Rattle.vic_log.proofs.feed.LogFeed.feed.Goals as goal
 

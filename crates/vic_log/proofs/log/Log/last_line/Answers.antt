@@ -1,5 +1,4 @@
-use Rattle.std.proofs.Common.{arith}
-use Rattle.vic_log.proofs.Words.{common_steps}
+use Rattle.vic_log.proofs.Words.{arith, common_steps}
 use Rattle.vic_log.proofs.Push.{last_from-last}
 use Rattle.vic_log.proofs.log.Log.last_line.Goals as goal
 

@@ -1,6 +1,4 @@
-use Rattle.std.proofs.Common.{rules, ◌≡◌, ap, sym, subst, ◌∙◌, ◌∷◌, [], ◌++◌, ◌||◌, List, ℕ, None, ◌<◌, refl, append-nil, not}
-use Rattle.vic_log.proofs.Words.{has, IsIndex, entries, listed, is_empty, refusal, LogValue, last_from, IsTyped, LogLine, V1, IsOfFirstVersion}
-use Rattle.vic_log.specs.Kept.{left_after}
+use Rattle.vic_log.proofs.Words.{rules, ◌≡◌, ap, sym, subst, ◌∙◌, ◌∷◌, [], ◌++◌, ◌||◌, List, ℕ, None, ◌<◌, refl, append-nil, not, has, IsIndex, entries, listed, is_empty, refusal, LogValue, last_from, IsTyped, LogLine, V1, IsOfFirstVersion, left_after}
 use Rattle.vic_log.proofs.Push.{Keeps-push, refusal_listed, lists_none, listed-append, entries-push}
 use Rattle.vic_log.proofs.log.Log.push.Goals as goal
 use Rattle.vic_log.proofs.log.Log.push.Goals.{in-Listed+in_ok-index_uid, in_default+in_default-refusal}

@@ -1,5 +1,4 @@
-use Rattle.std.proofs.Common.{◌≡◌, ℕ, Bool, List, refl, ap, sym, ◌∙◌, false, nat_eq, slice_get}
-use Rattle.vic_log.proofs.Words.{list_any, has, row_of}
+use Rattle.vic_log.proofs.Words.{◌≡◌, ℕ, Bool, List, refl, ap, sym, ◌∙◌, false, nat_eq, slice_get, list_any, has, row_of}
 use Rattle.vic_log.proofs.UidSets.{is_put, IsUidSet-put, held-put, absent_besides, row_is, has_searched, IsUidSet-beside, held-beside}
 use Rattle.vic_log.proofs.uid_set.UidSet.put.Goals as goal
 

@@ -1,5 +1,4 @@
-use Rattle.std.proofs.Common.{sym}
-use Rattle.vic_reconcile.proofs.Words.{first_lines}
+use Rattle.vic_reconcile.proofs.Words.{sym, first_lines}
 use Rattle.vic_reconcile.proofs.reconciliation.Reconciliation.add.Goals as goal
 
 pub add_lines-requires : goal.add_lines-requires

@@ -1,7 +1,4 @@
-use Rattle.std.proofs.Common.{◌≡◌, ℕ, subst, is_some, nat_cmp}
-use Rattle.vic_reconcile.proofs.Words.{get}
-use Rattle.std.specs.Ordering.{eq_by_cmp}
-use Rattle.std.specs.Set.{is_member}
+use Rattle.vic_reconcile.proofs.Words.{◌≡◌, ℕ, subst, is_some, nat_cmp, get, eq_by_cmp, is_member}
 use Rattle.vic_reconcile.proofs.reconciliation.Reconciliation.certain_uids.Goals as goal
 
 pub returns-clause-members : goal.returns-clause-members

@@ -1,7 +1,4 @@
-use Rattle.std.proofs.Common.{◌≡◌, true, sym, ap, subst, refl, ◌∙◌, IfSome, MatchOption, is_some, All, nat_cmp}
-use Rattle.vic_reconcile.proofs.Words.{get, IsStrictlyIncreasing, has, SameUids, is_open_in, AreDifferences, IsFailing, IsListOf, IsLeftToAsk, is_left}
-use Rattle.std.proofs.lemmas.Map.Keys.{IsStrictlyIncreasing-from_sorted}
-use Rattle.vic_report.proofs.AllFindings.{all_from_has}
+use Rattle.vic_reconcile.proofs.Words.{◌≡◌, true, sym, ap, subst, refl, ◌∙◌, IfSome, MatchOption, is_some, All, nat_cmp, get, IsStrictlyIncreasing, has, SameUids, is_open_in, AreDifferences, IsFailing, IsListOf, IsLeftToAsk, is_left, IsStrictlyIncreasing-from_sorted, all_from_has}
 use Rattle.vic_reconcile.proofs.Reconciling.{doubtful_left, findings_of, has_member}
 use Rattle.vic_reconcile.proofs.reconciliation.Reconciliation.findings.Goals as goal
 

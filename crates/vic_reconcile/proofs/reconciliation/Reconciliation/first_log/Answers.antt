@@ -1,5 +1,4 @@
-use Rattle.std.proofs.Common.{◌≡◌, true, not, sym, ap, subst, arith, ◌∙◌}
-use Rattle.vic_reconcile.proofs.Words.{not_from_false, take_all, All-more, AllPass, is_open_in}
+use Rattle.vic_reconcile.proofs.Words.{◌≡◌, true, not, sym, ap, subst, arith, ◌∙◌, not_from_false, take_all, All-more, AllPass, is_open_in}
 use Rattle.vic_reconcile.proofs.Telling.{none_left}
 use Rattle.vic_reconcile.proofs.reconciliation.Reconciliation.first_log.Goals as goal
 

@@ -1,5 +1,4 @@
-use Rattle.std.proofs.Common.{not, take}
-use Rattle.vic_reconcile.proofs.Words.{AllPass, is_open_in}
+use Rattle.vic_reconcile.proofs.Words.{not, take, AllPass, is_open_in}
 use Rattle.vic_reconcile.proofs.reconciliation.Reconciliation.first_log.Given as goal
 
 abbrev pub invariant-loop-log : goal.invariant-loop-log

@@ -1,5 +1,4 @@
-use Rattle.std.proofs.Common.{[], ◌∷◌, ◌++◌, take, map, ap, sym, ◌∙◌}
-use Rattle.vic_reconcile.proofs.Words.{map-append, take_more, All-push, DoubtfulUid, IsFirstLeft}
+use Rattle.vic_reconcile.proofs.Words.{[], ◌∷◌, ◌++◌, take, map, ap, sym, ◌∙◌, map-append, take_more, All-push, DoubtfulUid, IsFirstLeft}
 use Rattle.vic_reconcile.proofs.reconciliation.Reconciliation.first_logs.Goals as goal
 
 pub loop-uid-preserved : goal.loop-uid-preserved

@@ -1,5 +1,4 @@
-use Rattle.std.proofs.Common.{◌≡◌, map, take, All}
-use Rattle.vic_reconcile.proofs.Words.{DoubtfulUid, IsFirstLeft}
+use Rattle.vic_reconcile.proofs.Words.{◌≡◌, map, take, All, DoubtfulUid, IsFirstLeft}
 use Rattle.vic_reconcile.proofs.reconciliation.Reconciliation.first_logs.Given as goal
 
 abbrev pub invariant-loop-uid : goal.invariant-loop-uid

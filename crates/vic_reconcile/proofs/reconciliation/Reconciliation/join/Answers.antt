@@ -1,5 +1,4 @@
-use Rattle.std.proofs.Common.{subst, ◌∙◌, refl}
-use Rattle.vic_reconcile.proofs.Words.{SameUids, without_keys, is_open_in, entries, AreKeysOf, log_facts, AreNoted}
+use Rattle.vic_reconcile.proofs.Words.{subst, ◌∙◌, refl, SameUids, without_keys, is_open_in, entries, AreKeysOf, log_facts, AreNoted}
 use Rattle.vic_reconcile.proofs.Joins.{joined_more}
 use Rattle.vic_reconcile.proofs.reconciliation.Reconciliation.join.Goals as goal
 

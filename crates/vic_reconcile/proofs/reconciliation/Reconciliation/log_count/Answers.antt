@@ -1,5 +1,4 @@
-use Rattle.std.proofs.Common.{◌∙◌}
-use Rattle.vic_reconcile.proofs.Words.{IsLeftBy, AllZip-long}
+use Rattle.vic_reconcile.proofs.Words.{◌∙◌, IsLeftBy, AllZip-long}
 use Rattle.vic_reconcile.proofs.reconciliation.Reconciliation.log_count.Goals as goal
 
 pub returns : goal.returns

@@ -1,5 +1,4 @@
-use Rattle.std.proofs.Common.{◌<◌, [], ◌∷◌, ◌++◌, get_or, length, take, ap, sym, subst, ◌∙◌}
-use Rattle.vic_reconcile.proofs.Words.{take_more, all_zipped_more, AllZip, AreKeysOf, AreOpenBesides}
+use Rattle.vic_reconcile.proofs.Words.{◌<◌, [], ◌∷◌, ◌++◌, get_or, length, take, ap, sym, subst, ◌∙◌, take_more, all_zipped_more, AllZip, AreKeysOf, AreOpenBesides}
 use Rattle.vic_reconcile.proofs.reconciliation.Reconciliation.open_masks.Goals as goal
 
 pub loop-set-preserved : goal.loop-set-preserved

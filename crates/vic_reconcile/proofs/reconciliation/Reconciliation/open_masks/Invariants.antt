@@ -1,5 +1,4 @@
-use Rattle.std.proofs.Common.{take}
-use Rattle.vic_reconcile.proofs.Words.{AllZip, AreOpenBesides}
+use Rattle.vic_reconcile.proofs.Words.{take, AllZip, AreOpenBesides}
 use Rattle.vic_reconcile.proofs.reconciliation.Reconciliation.open_masks.Given as goal
 
 abbrev pub invariant-loop-set : goal.invariant-loop-set

@@ -1,5 +1,4 @@
-use Rattle.std.proofs.Common.{◌≡◌, Some, [], ◌∷◌, ◌++◌, take, map, ap, sym, ◌∙◌, is_some, option_copied, nat_cmp}
-use Rattle.vic_reconcile.proofs.Words.{get, false≢true, map-append, take_more, All-push, UnlistedUid}
+use Rattle.vic_reconcile.proofs.Words.{◌≡◌, Some, [], ◌∷◌, ◌++◌, take, map, ap, sym, ◌∙◌, is_some, option_copied, nat_cmp, get, false≢true, map-append, take_more, All-push, UnlistedUid}
 use Rattle.vic_reconcile.proofs.reconciliation.Reconciliation.places_of.Goals as goal
 
 pub unreachable-requires : goal.unreachable-requires

@@ -1,5 +1,4 @@
-use Rattle.std.proofs.Common.{◌≡◌, Some, map, take, nat_cmp, All}
-use Rattle.vic_reconcile.proofs.Words.{get, UnlistedUid}
+use Rattle.vic_reconcile.proofs.Words.{◌≡◌, Some, map, take, nat_cmp, All, get, UnlistedUid}
 use Rattle.vic_reconcile.proofs.reconciliation.Reconciliation.places_of.Given as goal
 
 abbrev pub invariant-loop-uid : goal.invariant-loop-uid

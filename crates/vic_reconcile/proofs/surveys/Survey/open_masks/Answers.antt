@@ -1,4 +1,4 @@
-use Rattle.std.proofs.lemmas.Result.{IfOk-weaker}
+use Rattle.vic_reconcile.proofs.Words.{IfOk-weaker}
 use Rattle.vic_reconcile.proofs.Surveyed.{surveyed_masks}
 use Rattle.vic_reconcile.proofs.surveys.Survey.open_masks.Goals as goal
 

@@ -1,4 +1,4 @@
-use Rattle.std.proofs.Common.{Some, sym, ap, ◌∙◌}
+use Rattle.vic_report.proofs.Words.{Some, sym, ap, ◌∙◌}
 use Rattle.vic_report.proofs.KeptLogs.{quiet_after, quiet_here}
 use Rattle.vic_report.proofs.field_cursor.FieldCursor.advance.Goals as goal
 

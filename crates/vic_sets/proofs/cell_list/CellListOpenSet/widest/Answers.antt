@@ -1,5 +1,4 @@
-use Rattle.std.proofs.Common.{List, Option, Some, None, All, Contains, IfSome}
-use Rattle.vic_sets.proofs.Words.{BitMask, IsAtMost, IsWidest, in_cells, AreCells}
+use Rattle.vic_sets.proofs.Words.{List, Option, Some, None, All, Contains, IfSome, BitMask, IsAtMost, IsWidest, in_cells, AreCells}
 use Rattle.vic_sets.proofs.Covered.{widest_cell}
 use Rattle.vic_sets.proofs.cell_list.CellListOpenSet.widest.Goals as goal
 

@@ -1,5 +1,4 @@
-use Rattle.std.proofs.Common.{◌≤◌, Option, Some, None, IfSome, arith}
-use Rattle.vic_sets.proofs.Words.{BitMask, Node, open_at, height, IsWidest, IsWidestOf}
+use Rattle.vic_sets.proofs.Words.{◌≤◌, Option, Some, None, IfSome, arith, BitMask, Node, open_at, height, IsWidest, IsWidestOf}
 use Rattle.vic_sets.proofs.LowBits.{widest_of_uids}
 use Rattle.vic_sets.proofs.mask_tree.MaskTreeOpenSet.widest.Goals as goal
 

@@ -1,5 +1,4 @@
-use Rattle.std.proofs.Common.{◌∙◌, inl, inr, arith}
-use Rattle.vic_tree.proofs.Words.{cases_lt}
+use Rattle.vic_tree.proofs.Words.{◌∙◌, inl, inr, arith, cases_lt}
 use Rattle.vic_tree.proofs.LeftLaws.{is_first_run, none_left, none_passed, pass_others}
 use Rattle.vic_tree.proofs.RangeLaws.{from_lower}
 use Rattle.vic_tree.proofs.left.Left.next_run.Goals as goal

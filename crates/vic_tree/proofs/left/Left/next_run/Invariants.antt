@@ -1,6 +1,4 @@
-use Rattle.std.proofs.Common.{◌≡◌, ℕ, ◌<◌, ◌≤◌, Bool, false, length}
-use Rattle.vic_tree.proofs.Words.{IsNonDecreasing, AreRanges, PassFrom}
-use Rattle.vic_tree.specs.OpenSet.{AreKeys}
+use Rattle.vic_tree.proofs.Words.{◌≡◌, ℕ, ◌<◌, ◌≤◌, Bool, false, length, IsNonDecreasing, AreRanges, PassFrom, AreKeys}
 use Rattle.vic_tree.proofs.left.Left.next_run.Given as goal
 
 abbrev pub invariant-loop-range : goal.invariant-loop-range

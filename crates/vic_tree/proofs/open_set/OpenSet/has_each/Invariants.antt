@@ -1,5 +1,4 @@
-use Rattle.std.proofs.Common.{◌≡◌, map, take}
-use Rattle.vic_tree.proofs.Words.{uid_of}
+use Rattle.vic_tree.proofs.Words.{◌≡◌, map, take, uid_of}
 use Rattle.vic_tree.proofs.open_set.OpenSet.has_each.Given as goal
 
 abbrev pub invariant-loop-key : goal.invariant-loop-key

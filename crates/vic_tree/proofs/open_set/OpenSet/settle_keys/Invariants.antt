@@ -1,5 +1,4 @@
-use Rattle.std.proofs.Common.{◌+◌, ◌-◌, ◌&&◌, ◌≤◌, not, nat_le, nat_lt}
-use Rattle.vic_tree.proofs.Words.{mirror, SameUids}
+use Rattle.vic_tree.proofs.Words.{◌+◌, ◌-◌, ◌&&◌, ◌≤◌, not, nat_le, nat_lt, mirror, SameUids}
 use Rattle.vic_tree.proofs.open_set.OpenSet.settle_keys.Given as goal
 
 abbrev pub invariant-loop-from : goal.invariant-loop-from

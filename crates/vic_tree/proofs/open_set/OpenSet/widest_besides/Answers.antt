@@ -1,5 +1,4 @@
-use Rattle.std.proofs.Common.{arith}
-use Rattle.vic_tree.proofs.Words.{nat_tests}
+use Rattle.vic_tree.proofs.Words.{arith, nat_tests}
 use Rattle.vic_tree.proofs.SetLaws.{without_more}
 use Rattle.vic_tree.proofs.open_set.OpenSet.widest_besides.Goals as goal
 

@@ -1,5 +1,4 @@
-use Rattle.std.proofs.Common.{take}
-use Rattle.vic_tree.proofs.Words.{SameUids, without_keys}
+use Rattle.vic_tree.proofs.Words.{take, SameUids, without_keys}
 use Rattle.vic_tree.proofs.open_set.OpenSet.widest_besides.Given as goal
 
 abbrev pub invariant-loop-key : goal.invariant-loop-key

@@ -1,5 +1,4 @@
-use Rattle.std.proofs.Common.{◌≡◌, ◌∙◌, ℕ, ◌<◌, List, length, get_or, ap, arith}
-use Rattle.vic_tree.proofs.Words.{list_any_more, mirror, is_between, nat_tests}
+use Rattle.vic_tree.proofs.Words.{◌≡◌, ◌∙◌, ℕ, ◌<◌, List, length, get_or, ap, arith, list_any_more, mirror, is_between, nat_tests}
 use Rattle.vic_tree.proofs.open_set.OpenSet.without.Goals as goal
 
 pub loop-range-preserved : goal.loop-range-preserved

@@ -1,6 +1,4 @@
-use Rattle.std.proofs.Common.{◌≡◌, ◌∙◌, ◌<◌, length, get_or, ap, sym, arith}
-use Rattle.vic_tree.proofs.Words.{uid_of, mirror_of_uid, in_ranges, is_open_in}
-use Rattle.std.proofs.lemmas.List.{map_more}
+use Rattle.vic_tree.proofs.Words.{◌≡◌, ◌∙◌, ◌<◌, length, get_or, ap, sym, arith, uid_of, mirror_of_uid, in_ranges, is_open_in, map_more}
 use Rattle.vic_tree.proofs.range_set.RangeSetOpenSet.has_each.Goals as goal
 
 pub loop-key-preserved : goal.loop-key-preserved

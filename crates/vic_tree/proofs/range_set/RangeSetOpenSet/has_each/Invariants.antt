@@ -1,5 +1,4 @@
-use Rattle.std.proofs.Common.{◌≡◌, ℕ, ◌≤◌, ◌<◌, get_or, length, map, take}
-use Rattle.vic_tree.proofs.Words.{uid_of, AreRanges, in_ranges, is_open_in}
+use Rattle.vic_tree.proofs.Words.{◌≡◌, ℕ, ◌≤◌, ◌<◌, get_or, length, map, take, uid_of, AreRanges, in_ranges, is_open_in}
 use Rattle.vic_tree.proofs.range_set.RangeSetOpenSet.has_each.Given as goal
 
 abbrev pub invariant-loop-key : goal.invariant-loop-key

@@ -1,4 +1,4 @@
-use Rattle.std.proofs.Common.{◌-◌, arith, pow_pos}
+use Rattle.vic_tree.proofs.Words.{◌-◌, arith, pow_pos}
 use Rattle.vic_tree.proofs.BlockLaws.{mask_ends}
 use Rattle.vic_tree.proofs.range_set.RangeSetOpenSet.up_to_three_besides.Goals as goal
 
