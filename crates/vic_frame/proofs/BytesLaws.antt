@@ -58,8 +58,7 @@ pow_bytes : (k : ℕ) → 2 ^ (8 * k) ≡ 256 ^ k
 pow_bytes zero = refl
 pow_bytes (suc k) =
     let split : 8 * suc k ≡ 8 + 8 * k = omega arith in
-    let more : 256 ^ suc k ≡ 256 * 256 ^ k = omega arith in
-    ap (λ n. 2 ^ n) split ∙ pow-add 2 8 (8 * k) ∙ ap (λ p. 256 * p) (pow_bytes k) ∙ sym more
+    ap (λ n. 2 ^ n) split ∙ omega (arith, pow-add 2 8 (8 * k), pow_bytes k)
 
 -- the least number of bytes for so many bits holds them
 pub holds_bits : (bits n : ℕ) → n < 2 ^ bits → n < 256 ^ ((bits + 7) / 8)

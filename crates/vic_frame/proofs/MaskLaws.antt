@@ -1,16 +1,12 @@
 -- Laws on masks.
 use Rattle.vic_frame.proofs.Words.{true, false, ◌==◌, ◌≡◌, ℕ, ◌+◌, ◌-◌, ◌*◌, ◌/◌, ◌^◌, ◌%◌, ◌<◌, ◌≤◌, inl, inr, sym, ap, ◌∙◌, arith, zero, suc, add_comm, mul_assoc, pow_pos, pow-add, pow-le-pow_right, nat_tests, BitMask, IsMask, lies_in, IsUid, mul-add-mod_self_right, mod-le, mod-pow-add, mod_low, mod_below, cases_eq, LiesIn}
+use lib.Pow.{mod-mod-pow}
 use Rattle.vic_frame.specs.Uids.{uid_from_low_bits}
 use Rattle.vic_frame.specs.MaskLaws.{NestedOrApart, IsParted}
 
 -- the low bits of the low bits
 pub mod_mod_pow : (u m n : ℕ) → m ≤ n → u % 2 ^ n % 2 ^ m ≡ u % 2 ^ m
-mod_mod_pow u m n le =
-    let j : ℕ = n - m in
-    let is : j + m ≡ n = omega arith in
-    let e : u % 2 ^ (j + m) ≡ (u / 2 ^ m % 2 ^ j) * 2 ^ m + u % 2 ^ m = mod-pow-add u j m in
-    let f : u % 2 ^ n ≡ (u / 2 ^ m % 2 ^ j) * 2 ^ m + u % 2 ^ m = rw is at e in
-    ap (λ x. x % 2 ^ m) f ∙ mod_low (u / 2 ^ m % 2 ^ j) m (u % 2 ^ m) (mod_below u (2 ^ m) (pow_pos m))
+mod_mod_pow u m n le = let is : n - m + m ≡ n = omega arith in rw is at (mod-mod-pow u (n - m) m)
 
 -- one bit more
 pub mod_pow_more : (u l : ℕ) → u % 2 ^ (l + 1) ≡ (u / 2 ^ l % 2) * 2 ^ l + u % 2 ^ l
@@ -63,8 +59,8 @@ least_inside m p short = ap (λ x. (x + m.value) % 2 ^ m.len) (top_is m.len shor
 
 pub least_is_uid : (m : BitMask) → IsMask m → m.len ≤ 56 → IsUid (uid_from_low_bits m.value)
 least_is_uid m p short =
-    let below : 2 ^ m.len ≤ 2 ^ 56 = pow-le-pow_right (let z : 0 < 2 = omega arith in z) short in
-    (omega arith, omega (arith, below, p.1))
+    let below : 2 ^ m.len ≤ 2 ^ 56 = pow-le-pow_right (omega arith) short in
+    omega (arith, below, p.1)
 
 -- a UID in the mask is at least its value above E0 and seven bytes 0
 pub least_first : (m : BitMask) (u : ℕ) → m.len ≤ 56 → IsUid u → LiesIn m u → uid_from_low_bits m.value ≤ u

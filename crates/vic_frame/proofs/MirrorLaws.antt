@@ -1,41 +1,29 @@
 -- Laws of the mirrored bits.
-use Rattle.vic_frame.proofs.Words.{add-zero, ◌&&◌, ◌==◌, ◌≡◌, ℕ, ◌+◌, ◌-◌, ◌*◌, ◌/◌, ◌^◌, ◌%◌, ◌<◌, ◌≤◌, refl, sym, ap, ◌∙◌, arith, zero, suc, add-one, nat_le, pow-add, shr-shr, pow_pos, div-one, mod-eq_of_lt, mul-le-mul_right, suc-mul, nat_tests, pow-le-pow_right, IsUid, BitMask, IsMask, IsBlock, mirror, uid_of, mod-pow-add, field_of, shr_high, mod_low, mod-one, div-eq_of_lt, mul-mod_left, slot_of_sixteen, IsKey}
+use Rattle.vic_frame.proofs.Words.{add-zero, ◌&&◌, ◌==◌, ◌≡◌, ℕ, ◌+◌, ◌-◌, ◌*◌, ◌/◌, ◌^◌, ◌%◌, ◌<◌, ◌≤◌, refl, sym, ap, ◌∙◌, arith, zero, suc, add-one, nat_le, pow-add, shr-shr, pow_pos, div-one, mod-eq_of_lt, mul-le-mul_right, nat_tests, pow-le-pow_right, IsUid, BitMask, IsMask, IsBlock, mirror, uid_of, mod-pow-add, field_of, shr_high, mod_low, mod-one, div-eq_of_lt, mul-mod_left, slot_of_sixteen, IsKey, mul-le, lies_in, is_in_block}
 use Rattle.vic_frame.proofs.BytesLaws.{sixteen_times}
 use Rattle.vic_frame.proofs.MaskLaws.{mod_mod_pow}
 use Rattle.vic_frame.specs.LowBitsFirst.{mirror_bits}
 
--- a bit above what is below t is below 2 * t
-bit_below : (b t r w : ℕ) → b < 2 → r < t → w ≡ 2 * t → b * t + r < w
-bit_below zero t r w p q e = omega arith
-bit_below (suc zero) t r w p q e = omega arith
-bit_below (suc (suc b)) t r w p q e = absurd (omega arith)
-
 pub mirror_below : (k n : ℕ) → mirror_bits k n < 2 ^ k
 unfolding mirror_bits
 mirror_below zero n = omega arith
-mirror_below (suc k) n = bit_below (n % 2) (2 ^ k) (mirror_bits k (n / 2)) (2 ^ suc k) (omega arith) (mirror_below k (n / 2)) (omega arith)
-
-joined : (b s t m a r x : ℕ) → m ≡ s * t → x ≡ a * t + r → b * m + x ≡ (b * s + a) * t + r
-joined b s t m a r x p q =
-    rw (p, q) (omega arith)
-
-none_above : (t r : ℕ) → r ≡ 0 * t + r
-none_above t r = omega arith
+mirror_below (suc k) n =
+    let top = mul-le (n % 2) (2 ^ k) 1 (2 ^ k) (omega arith) (omega arith) in
+    omega (arith, top, mirror_below k (n / 2))
 
 -- the first k bits stand above the next j
 pub mirror_split : (k j m n : ℕ) → m ≡ k + j → mirror_bits m n ≡ mirror_bits k n * 2 ^ j + mirror_bits j (n / 2 ^ k)
 unfolding mirror_bits
 mirror_split zero j m n e =
-    let f : m ≡ j = omega arith in
-    ap (λ (x : ℕ). mirror_bits x n) f ∙ ap (mirror_bits j) (sym (div-one n)) ∙ none_above (2 ^ j) (mirror_bits j (n / 1))
+    let same : m ≡ j = omega arith in
+    ap (λ (x : ℕ). mirror_bits x n) same ∙ ap (mirror_bits j) (sym (div-one n)) ∙ omega arith
 mirror_split (suc k) j zero n e = absurd (omega arith)
 mirror_split (suc k) j (suc m) n e =
     let f : m ≡ k + j = omega arith in
     let p : 2 ^ m ≡ 2 ^ k * 2 ^ j = ap (λ (x : ℕ). 2 ^ x) f ∙ pow-add 2 k j in
     let g : 1 + k ≡ suc k = omega arith in
     let h : n / 2 / 2 ^ k ≡ n / 2 ^ suc k = shr-shr n 1 k ∙ ap (λ (x : ℕ). n / 2 ^ x) g in
-    joined (n % 2) (2 ^ k) (2 ^ j) (2 ^ m) (mirror_bits k (n / 2)) (mirror_bits j (n / 2 ^ suc k)) (mirror_bits m (n / 2)) p
-    (mirror_split k j m (n / 2) f ∙ ap (λ (x : ℕ). mirror_bits k (n / 2) * 2 ^ j + mirror_bits j x) h)
+    rw (p, mirror_split k j m (n / 2) f, h) (omega arith)
 
 pub mirror_mod : (k n : ℕ) → mirror_bits k (n % 2 ^ k) ≡ mirror_bits k n
 unfolding mirror_bits
@@ -43,32 +31,26 @@ mirror_mod zero n = refl
 mirror_mod (suc k) n =
     let b : n % 2 ^ suc k % 2 ≡ n % 2 = mod_mod_pow n 1 (suc k) (omega arith) in
     let h : n % 2 ^ suc k / 2 ≡ n / 2 % 2 ^ k = rw add-one at (field_of n k 1) in
-    ap (λ (x : ℕ). x * 2 ^ k + mirror_bits k (n % 2 ^ suc k / 2)) b
-    ∙ ap (λ (x : ℕ). (n % 2) * 2 ^ k + x) (ap (mirror_bits k) h ∙ mirror_mod k (n / 2))
-
-one_bit : (b : ℕ) → b < 2 → mirror_bits 1 b ≡ b
-unfolding mirror_bits
-one_bit b h = omega arith
+    rw (b, h, mirror_mod k (n / 2)) refl
 
 -- mirrored twice, a number's low bits are back
 pub mirror_twice : (k n : ℕ) → mirror_bits k (mirror_bits k n) ≡ n % 2 ^ k
 unfolding mirror_bits
 mirror_twice zero n = sym (mod-one n)
 mirror_twice (suc k) n =
-    let b : ℕ = n % 2 in
     let r : ℕ = mirror_bits k (n / 2) in
-    let m : ℕ = b * 2 ^ k + r in
+    let m : ℕ = (n % 2) * 2 ^ k + r in
     let small : r < 2 ^ k = mirror_below k (n / 2) in
     let parts : mirror_bits (suc k) m ≡ mirror_bits k m * 2 + mirror_bits 1 (m / 2 ^ k) = mirror_split k 1 (suc k) m (omega arith) in
-    let low : mirror_bits k m ≡ n / 2 % 2 ^ k = sym (mirror_mod k m) ∙ ap (mirror_bits k) (mod_low b k r small) ∙ mirror_twice k (n / 2) in
-    let high : mirror_bits 1 (m / 2 ^ k) ≡ n % 2 = ap (mirror_bits 1) (shr_high b k r small) ∙ one_bit b (omega arith) in
+    let low : mirror_bits k m ≡ n / 2 % 2 ^ k = sym (mirror_mod k m) ∙ ap (mirror_bits k) (mod_low (n % 2) k r small) ∙ mirror_twice k (n / 2) in
+    let high : m / 2 ^ k ≡ n % 2 = shr_high (n % 2) k r small in
     let whole : n % 2 ^ suc k ≡ (n / 2 % 2 ^ k) * 2 + n % 2 = rw add-one at (mod-pow-add n k 1) in
-    parts ∙ ap (λ (x : ℕ). x * 2 + mirror_bits 1 (m / 2 ^ k)) low ∙ ap (λ (x : ℕ). (n / 2 % 2 ^ k) * 2 + x) high ∙ sym whole
+    parts ∙ ap (λ (x : ℕ). x * 2 + mirror_bits 1 (m / 2 ^ k)) low ∙ ap (λ (x : ℕ). (n / 2 % 2 ^ k) * 2 + mirror_bits 1 x) high ∙ omega (arith, whole)
 
 pub mirror_none : (k : ℕ) → mirror_bits k 0 ≡ 0
 unfolding mirror_bits
 mirror_none zero = refl
-mirror_none (suc k) = sym (none_above (2 ^ k) (mirror_bits k 0)) ∙ mirror_none k
+mirror_none (suc k) = omega (arith, mirror_none k)
 
 -- the byte that stands above i bytes, turned round behind them
 pub turn-next : (i n : ℕ) → mirror_bits (8 * (i + 1)) n ≡ mirror_bits (8 * i) n * 256 + mirror_bits 8 (n / 2 ^ (8 * i) % 256)
@@ -99,10 +81,7 @@ same_test x y a b f g = grind (arith, nat_tests)
 span_test : (a b t r x y : ℕ) → r < t → x ≡ a * t + r → y ≡ b * t → (a == b) ≡ (nat_le y x && nat_le x (y + (t - 1)))
 span_test a b t r x y h e f = plain (a * t) (b * t) (λ s. ap (λ (z : ℕ). z * t) s) (above a b) (above b a) e f where
   above : (a b : ℕ) → a < b → a * t + t ≤ b * t
-  above a b h =
-      let k : suc a * t ≤ b * t = mul-le-mul_right t h in
-      let m : suc a * t ≡ a * t + t = suc-mul a t in
-      omega arith
+  above a b h = let k : suc a * t ≤ b * t = mul-le-mul_right t h in omega arith
 
   plain : (p q : ℕ) → (a ≡ b → p ≡ q) → (a < b → p + t ≤ q) → (b < a → q + t ≤ p) → x ≡ p + r → y ≡ q → (a == b) ≡ (nat_le y x && nat_le x (y + (t - 1)))
   plain p q same less more e f = grind (arith, nat_tests)
@@ -137,48 +116,40 @@ first_is_block m is_mask short =
     let first : mirror m.value ≡ n * 2 ^ h = first_of m.len h m.value whole is_mask.1 in
     let below : n < 2 ^ m.len = mirror_below m.len m.value in
     let ends : suc n * 2 ^ h ≤ 2 ^ m.len * 2 ^ h = mul-le-mul_right (2 ^ h) below in
-    let next : suc n * 2 ^ h ≡ n * 2 ^ h + 2 ^ h = suc-mul n (2 ^ h) in
     let all : 2 ^ 56 ≡ 2 ^ m.len * 2 ^ h = ap (λ (x : ℕ). 2 ^ x) whole ∙ pow-add 2 m.len h in
-    let pos : 0 < 2 ^ h = pow_pos h in
     record {
       short = short;
-      keys = omega (arith, first, ends, next, all, pos);
+      keys = omega (arith, first, ends, all, pow_pos h);
       aligned = ap (λ (x : ℕ). x % 2 ^ h) first ∙ mul-mod_left n (2 ^ h);
     }
 
--- ---- the keys of slots
+-- a block by its first key and its bits, and what lies in it
+pub block_of : (m : BitMask) (first len : ℕ) → IsMask m → m.len ≤ 56 → first ≡ mirror m.value → len ≡ m.len → IsBlock first len × ((u : ℕ) → lies_in m u ≡ is_in_block first len (mirror u))
+block_of m first len is_mask short at_first same = rw (at_first, same) (first_is_block m is_mask short, λ u. in_span m.len (56 - m.len) m.value u (omega arith) is_mask.1)
 
--- what stands above l bits is turned round behind them
-mirror_above : (l h v k : ℕ) → 56 ≡ l + h → v < 2 ^ l → mirror (v + k * 2 ^ l) ≡ mirror v + mirror_bits h k
-mirror_above l h v k e below =
-    let n : ℕ = k * 2 ^ l + v in
-    let swap : v + k * 2 ^ l ≡ n = omega arith in
-    let low : mirror_bits l n ≡ mirror_bits l v = sym (mirror_mod l n) ∙ ap (mirror_bits l) (mod_low k l v below) in
-    ap mirror swap
-    ∙ mirror_split l h 56 n e
-    ∙ ap (λ (x : ℕ). x * 2 ^ h + mirror_bits h (n / 2 ^ l)) low
-    ∙ ap (λ (x : ℕ). mirror_bits l v * 2 ^ h + mirror_bits h x) (shr_high k l v below)
-    ∙ ap (λ (x : ℕ). x + mirror_bits h k) (sym (first_of l h v e below))
+-- ---- the keys of slots
 
 -- the four bits of a slot's number
 pub four_bits : (h k : ℕ) → 4 ≤ h → k ≤ 15 → mirror_bits h k ≡ mirror_bits 4 k * 2 ^ (h - 4)
-four_bits h k e few =
-    let none : k / 2 ^ 4 ≡ 0 = omega arith in
-    mirror_split 4 (h - 4) h k (omega arith)
-    ∙ ap (λ (x : ℕ). mirror_bits 4 k * 2 ^ (h - 4) + mirror_bits (h - 4) x) none
-    ∙ ap (λ (x : ℕ). mirror_bits 4 k * 2 ^ (h - 4) + x) (mirror_none (h - 4))
-    ∙ add-zero (mirror_bits 4 k * 2 ^ (h - 4))
+four_bits h k e few = rw add-zero at (mirror_split 4 (h - 4) h k (omega arith) ∙ ap (λ (x : ℕ). mirror_bits 4 k * 2 ^ (h - 4) + x) (above (k / 2 ^ 4) (omega arith))) where
+  above : (n : ℕ) → n ≡ 0 → mirror_bits (h - 4) n ≡ 0
+  above n none = ap (mirror_bits (h - 4)) none ∙ mirror_none (h - 4)
 
+-- what stands above l bits is turned round behind them
 pub mirror_of_slot : (l v k : ℕ) → l + 4 ≤ 56 → v < 2 ^ l → k ≤ 15 → mirror (v + k * 2 ^ l) ≡ mirror v + mirror_bits 4 k * 2 ^ (56 - (l + 4))
 mirror_of_slot l v k short below few =
-    let e : 56 - l - 4 ≡ 56 - (l + 4) = omega arith in
-    mirror_above l (56 - l) v k (omega arith) below
-    ∙ ap (λ (x : ℕ). mirror v + x) (four_bits (56 - l) k (omega arith) few)
-    ∙ ap (λ (x : ℕ). mirror v + mirror_bits 4 k * 2 ^ x) e
+    let h : ℕ = 56 - l in
+    let whole : 56 ≡ l + h = omega arith in
+    let n : ℕ = k * 2 ^ l + v in
+    let swap : v + k * 2 ^ l ≡ n = omega arith in
+    let low : mirror_bits l n ≡ mirror_bits l v = sym (mirror_mod l n) ∙ ap (mirror_bits l) (mod_low k l v below) in
+    let rest : 56 - l - 4 ≡ 56 - (l + 4) = omega arith in
+    ap mirror swap
+    ∙ mirror_split l h 56 n whole
+    ∙ ap (λ (x : ℕ). x * 2 ^ h + mirror_bits h (n / 2 ^ l)) low
+    ∙ ap (λ (x : ℕ). mirror_bits l v * 2 ^ h + mirror_bits h x) (shr_high k l v below)
+    ∙ cc (first_of l h v whole below, four_bits h k (omega arith) few, rest)
 
 pub slot_is_mask : (m : BitMask) (k : ℕ) → IsMask m → m.len + 4 ≤ 56 → k ≤ 15 → IsMask (slot_of_sixteen m k)
 slot_is_mask m k is_mask short few =
-    let below = is_mask.1 in
-    let most = sixteen_times k (2 ^ m.len) few in
-    let more : 2 ^ (m.len + 4) ≡ 2 ^ m.len * 2 ^ 4 = pow-add 2 m.len 4 in
-    (omega (arith, short), omega (arith, below, most, more))
+    (omega arith, omega (arith, is_mask.1, sixteen_times k (2 ^ m.len) few, pow-add 2 m.len 4))

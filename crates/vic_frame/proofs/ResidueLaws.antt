@@ -1,143 +1,88 @@
 -- The register of a frame with its CRC.
-use Rattle.vic_frame.proofs.Words.{◌≡◌, ℕ, zero, suc, ◌+◌, ◌-◌, ◌*◌, ◌/◌, ◌^◌, ◌%◌, ◌<◌, ◌≤◌, ◌↔◌, ◌==◌, nat_le, true, List, [], ◌∷◌, ◌++◌, length, take, drop, refl, sym, ap, subst, ◌∙◌, arith, bit_xor, bit_and, xor_comm, xor_block, xor_lt, and_mask, mod_below, and_parts, and_from, AreBytes, number_of, bits_of, after_bits, register, crc, crc_right}
-use lib.Bits.{xor_assoc, xor_self, xor_zero_r, xor_add_and}
-use Rattle.std.proofs.lemmas.List.{length-drop, take-append-drop}
-use Rattle.std.proofs.lemmas.Bool.{le-leb, eqb-true, eq-eqb}
-use Rattle.vic_frame.proofs.BytesLaws.{AreBytes-drop, AreBytes-take, number_below}
-use Rattle.vic_frame.proofs.CrcLaws.{after, after_is, shift, shifts, shifts-xor, shifts-high, after_bits-shifts, parts_of}
+use Rattle.vic_frame.proofs.Words.{◌≡◌, ℕ, zero, suc, ◌+◌, ◌-◌, ◌*◌, ◌/◌, ◌^◌, ◌%◌, ◌<◌, ◌≤◌, ◌↔◌, ◌==◌, nat_le, true, List, [], ◌∷◌, ◌++◌, length, take, drop, refl, sym, ap, ◌∙◌, arith, bit_xor, bit_and, xor_comm, xor_lt, and_mask, and_parts, and_from, AreBytes, number_of, bits, bits_of, register, crc, crc_right, le-leb, eqb-true, eq-eqb, length-drop, take-append-drop}
+use lib.Bits.{xor_assoc, xor_self, xor_zero_r, xor_add_and, xor_shifted}
+use Rattle.std.proofs.lemmas.List.Concat.{flat_map-append}
+use Rattle.vic_frame.specs.Crc.{after_bits, step}
+use Rattle.vic_frame.proofs.BytesLaws.{AreBytes-drop, number_within}
+use Rattle.vic_frame.proofs.CrcLaws.{shift, shifts, shifts-add, shifts-xor, shifts-high, after_bits-append, after_bits-shifts}
+
+xor_cancel : (a b : ℕ) → bit_xor a (bit_xor a b) ≡ b
+xor_cancel a b = sym (xor_assoc a a b) ∙ ap (λ x. bit_xor x b) (xor_self a)
+
+xor_zero : (a b : ℕ) → bit_xor a b ≡ 0 → a ≡ b
+xor_zero a b e = sym (xor_zero_r a) ∙ ap (bit_xor a) (sym e) ∙ xor_cancel a b
 
 -- ---- nothing but 0 is shifted to 0
 
-odd_shift : (h : ℕ) → h < 2 ^ 15 → 2 ^ 15 ≤ bit_xor h 0x8408
-odd_shift h small =
-    let e : bit_xor (0 * 2 ^ 15 + h) (1 * 2 ^ 15 + 0x408) ≡ bit_xor 0 1 * 2 ^ 15 + bit_xor h 0x408 = xor_block 15 0 1 h 0x408 small (omega arith) in
-    let plain : 0 * 2 ^ 15 + h ≡ h = omega arith in
-    let f : bit_xor h 0x8408 ≡ 1 * 2 ^ 15 + bit_xor h 0x408 = ap (λ x. bit_xor x 0x8408) (sym plain) ∙ e in
-    omega (arith, f)
-
-shift_at : (h b : ℕ) → b < 2 → h < 2 ^ 15 → bit_xor h (b * 0x8408) ≡ 0 → (h ≡ 0) × (b ≡ 0)
-shift_at h zero p q e = (sym (xor_zero_r h) ∙ e, refl)
-shift_at h (suc zero) p q e = let big = odd_shift h q in absurd (omega (arith, big, e))
-shift_at h (suc (suc b)) p q e = absurd (omega arith)
-
 shift_zero : (z : ℕ) → z < 2 ^ 16 → shift z ≡ 0 → z ≡ 0
-shift_zero z small e =
-    let both = shift_at (z / 2) (z % 2) (mod_below z 2 (omega arith)) (omega arith) e in
-    omega (arith, both.0, both.1)
+shift_zero z small e = omega (arith, xor_zero (z / 2) (z % 2 * 0x8408) e)
 
 shift_below : (z : ℕ) → z < 2 ^ 16 → shift z < 2 ^ 16
-shift_below z small =
-    let low : z % 2 < 2 = mod_below z 2 (omega arith) in
-    let worth : z % 2 * 0x8408 < 2 ^ 16 = omega arith in
-    xor_lt 16 (z / 2) (z % 2 * 0x8408) (omega arith) worth
+shift_below z small = xor_lt 16 (z / 2) (z % 2 * 0x8408) (omega arith) (omega arith)
 
 shifts_zero : (k z : ℕ) → z < 2 ^ 16 → shifts k z ≡ 0 → z ≡ 0
 unfolding shifts
 shifts_zero zero z small e = e
 shifts_zero (suc k) z small e = shift_zero z small (shifts_zero k (shift z) (shift_below z small) e)
 
-shifts_below : (k z : ℕ) → z < 2 ^ 16 → shifts k z < 2 ^ 16
-unfolding shifts
-shifts_below zero z small = small
-shifts_below (suc k) z small = shifts_below k (shift z) (shift_below z small)
-
 -- ---- two bytes more
-
-xor_cancel : (a b : ℕ) → bit_xor a (bit_xor a b) ≡ b
-xor_cancel a b = sym (xor_assoc a a b) ∙ ap (λ x. bit_xor x b) (xor_self a)
 
 complement : (r : ℕ) → r < 2 ^ 16 → bit_xor r 0xFFFF ≡ 0xFFFF - r
 complement r small =
-    let sum = xor_add_and r 0xFFFF in
     let mask : bit_and r 0xFFFF ≡ r % 2 ^ 16 = and_mask r 16 in
-    omega (arith, sum, mask)
+    omega (arith, xor_add_and r 0xFFFF, mask)
 
-ends : ℕ → ℕ
-ends x = shifts 8 (shifts 8 x)
-
-ends-xor : (a b : ℕ) → ends (bit_xor a b) ≡ bit_xor (ends a) (ends b)
-unfolding ends
-ends-xor a b = ap (shifts 8) (shifts-xor 8 a b) ∙ shifts-xor 8 (shifts 8 a) (shifts 8 b)
-
-ends_right : ends 0xFFFF ≡ 0xF0B8
-unfolding ends shifts
+ends_right : shifts 16 0xFFFF ≡ 0xF0B8
+unfolding shifts
 ends_right = refl
 
-ends_only : (x : ℕ) → x < 2 ^ 16 → ends x ≡ 0xF0B8 → x ≡ 0xFFFF
-unfolding ends
+ends_only : (x : ℕ) → x < 2 ^ 16 → shifts 16 x ≡ 0xF0B8 → x ≡ 0xFFFF
 ends_only x small e =
-    let none : ends (bit_xor x 0xFFFF) ≡ 0 = ends-xor x 0xFFFF ∙ ap (λ y. bit_xor y (ends 0xFFFF)) (e ∙ sym ends_right) ∙ xor_self (ends 0xFFFF) in
-    let below : bit_xor x 0xFFFF < 2 ^ 16 = xor_lt 16 x 0xFFFF small (omega arith) in
-    let zero_is : bit_xor x 0xFFFF ≡ 0 = shifts_zero 8 (bit_xor x 0xFFFF) below (shifts_zero 8 (shifts 8 (bit_xor x 0xFFFF)) (shifts_below 8 (bit_xor x 0xFFFF) below) none) in
-    let same = complement x small in
-    omega (arith, same, zero_is)
+    let none : shifts 16 (bit_xor x 0xFFFF) ≡ 0 = shifts-xor 16 x 0xFFFF ∙ ap (λ y. bit_xor y (shifts 16 0xFFFF)) (e ∙ sym ends_right) ∙ xor_self (shifts 16 0xFFFF) in
+    xor_zero x 0xFFFF (shifts_zero 16 (bit_xor x 0xFFFF) (xor_lt 16 x 0xFFFF small (omega arith)) none)
 
-after-two : (r : ℕ) (xs : List ℕ) → length xs ≡ 2 → AreBytes xs → after r xs ≡ ends (bit_xor r (number_of xs))
-unfolding ends after
-after-two r [] len h = absurd (omega arith)
-after-two r (x ∷ []) len h = absurd (omega arith)
-after-two r (x ∷ y ∷ z ∷ xs) len h = absurd (omega arith)
+after-two : (r : ℕ) (xs : List ℕ) → length xs ≡ 2 → AreBytes xs → after_bits r (bits xs) ≡ shifts 16 (bit_xor r (number_of xs))
+unfolding after_bits
 after-two r (x ∷ y ∷ []) len h =
-    let n : ℕ = number_of (x ∷ y ∷ []) in
-    let low : x < 256 = h 0 in
-    let high : y < 256 = h 1 in
-    let low_is : number_of (x ∷ y ∷ []) % 2 ^ 8 ≡ x = omega arith in
-    let high_is : number_of (x ∷ y ∷ []) / 2 ^ 8 ≡ y = omega arith in
-    let parts : bit_xor (y * 2 ^ 8) x ≡ number_of (x ∷ y ∷ []) = ap (λ a. bit_xor (a * 2 ^ 8) x) (sym high_is) ∙ ap (bit_xor (number_of (x ∷ y ∷ []) / 2 ^ 8 * 2 ^ 8)) (sym low_is) ∙ parts_of 8 (number_of (x ∷ y ∷ [])) in
-    let turned : bit_xor (bit_xor r x) (y * 2 ^ 8) ≡ bit_xor r (number_of (x ∷ y ∷ [])) = xor_assoc r x (y * 2 ^ 8) ∙ ap (bit_xor r) (xor_comm x (y * 2 ^ 8) ∙ parts) in
-    after_bits-shifts 8 (after_bits r (bits_of 8 x)) y high
-    ∙ ap (λ s. shifts 8 (bit_xor s y)) (after_bits-shifts 8 r x low)
+    let parts : bit_xor x (y * 2 ^ 8) ≡ number_of (x ∷ y ∷ []) = xor_comm x (y * 2 ^ 8) ∙ xor_shifted y 8 x (h 0) ∙ omega arith in
+    after_bits-append r (bits_of 8 x) (bits (y ∷ []))
+    ∙ after_bits-append (after_bits r (bits_of 8 x)) (bits_of 8 y) []
+    ∙ after_bits-shifts 8 (after_bits r (bits_of 8 x)) y (h 1)
+    ∙ ap (λ s. shifts 8 (bit_xor s y)) (after_bits-shifts 8 r x (h 0))
     ∙ ap (λ s. shifts 8 (bit_xor (shifts 8 (bit_xor r x)) s)) (sym (shifts-high 8 y))
-    ∙ ap (shifts 8) (sym (shifts-xor 8 (bit_xor r x) (y * 2 ^ 8)))
-    ∙ ap (λ s. shifts 8 (shifts 8 s)) turned
+    ∙ ap (shifts 8) (sym (shifts-xor 8 (bit_xor r x) (y * 2 ^ 8)) ∙ ap (shifts 8) (xor_assoc r x (y * 2 ^ 8) ∙ ap (bit_xor r) parts))
+    ∙ sym (shifts-add 8 8 (bit_xor r (number_of (x ∷ y ∷ []))))
+after-two r xs len h = absurd (omega arith)
 
-after-append : (r : ℕ) (xs ys : List ℕ) → after r (xs ++ ys) ≡ after (after r xs) ys
-unfolding after
-after-append r [] ys = refl
-after-append r (x ∷ xs) ys = after-append (after_bits r (bits_of 8 x)) xs ys
+step-below : (r b : ℕ) → r < 2 ^ 16 → step r b < 2 ^ 16
+unfolding step
+step-below r b small = let fed = xor_lt 16 (r / 2) 0x8408 (omega arith) (omega arith) in grind arith
 
-after-below : (r : ℕ) (xs : List ℕ) → r < 2 ^ 16 → AreBytes xs → after r xs < 2 ^ 16
-unfolding after
-after-below r [] small h = small
-after-below r (x ∷ xs) small h =
-    let low : x < 256 = h 0 in
-    let taken : bit_xor r x < 2 ^ 16 = xor_lt 16 r x small (omega arith) in
-    let one : after_bits r (bits_of 8 x) < 2 ^ 16 = subst (λ n. n < 2 ^ 16) (sym (after_bits-shifts 8 r x low)) (shifts_below 8 (bit_xor r x) taken) in
-    after-below (after_bits r (bits_of 8 x)) xs one (λ i. h (suc i))
+after-below : (r : ℕ) (bs : List ℕ) → r < 2 ^ 16 → after_bits r bs < 2 ^ 16
+unfolding after_bits
+after-below r [] small = small
+after-below r (b ∷ bs) small = after-below (step r b) bs (step-below r b small)
 
 -- the end that is right after a register
-right_end : (r n : ℕ) → r < 2 ^ 16 → n < 2 ^ 16 → (n ≡ 0xFFFF - r) ↔ (ends (bit_xor r n) ≡ 0xF0B8)
-right_end r n small fits = (forth, back) where
-  forth : n ≡ 0xFFFF - r → ends (bit_xor r n) ≡ 0xF0B8
-  forth e = ap (λ m. ends (bit_xor r m)) (e ∙ sym (complement r small)) ∙ ap ends (xor_cancel r 0xFFFF) ∙ ends_right
+right_end : (r n : ℕ) → r < 2 ^ 16 → n < 2 ^ 16 → (n ≡ 0xFFFF - r) ↔ (shifts 16 (bit_xor r n) ≡ 0xF0B8)
+right_end r n small fits = (
+  λ e. ap (λ m. shifts 16 (bit_xor r m)) (e ∙ sym (complement r small)) ∙ ap (shifts 16) (xor_cancel r 0xFFFF) ∙ ends_right,
+  λ e. sym (xor_cancel r n) ∙ ap (bit_xor r) (ends_only (bit_xor r n) (xor_lt 16 r n small fits) e) ∙ complement r small,
+)
 
-  back : ends (bit_xor r n) ≡ 0xF0B8 → n ≡ 0xFFFF - r
-  back e = sym (xor_cancel r n) ∙ ap (bit_xor r) (ends_only (bit_xor r n) (xor_lt 16 r n small fits) e) ∙ complement r small
+-- the register of bytes and two more
+register_with : (xs end : List ℕ) → length end ≡ 2 → AreBytes end → register (xs ++ end) ≡ shifts 16 (bit_xor (register xs) (number_of end))
+register_with xs end two h =
+    ap (after_bits 0xFFFF) (flat_map-append (bits_of 8) xs end) ∙ after_bits-append 0xFFFF (bits xs) (bits end) ∙ after-two (register xs) end two h
 
 pub residue : (f : List ℕ) → AreBytes f → 2 ≤ length f → (crc_right f ≡ true) ↔ (register f ≡ 0xF0B8)
-residue f h long = (forth, back) where
-  small : register (take (length f - 2) f) < 2 ^ 16
-  small = subst (λ n. n < 2 ^ 16) (sym (after_is 0xFFFF (take (length f - 2) f))) (after-below 0xFFFF (take (length f - 2) f) (omega arith) (AreBytes-take (length f - 2) f h))
-
-  two : length (drop (length f - 2) f) ≡ 2
-  two = omega (arith, length-drop (length f - 2) f)
-
-  bytes : AreBytes (drop (length f - 2) f)
-  bytes = AreBytes-drop (length f - 2) f h
-
-  fits : number_of (drop (length f - 2) f) < 2 ^ 16
-  fits = let below = number_below (drop (length f - 2) f) bytes in subst (λ n. number_of (drop (length f - 2) f) < 256 ^ n) two below
-
-  whole : register f ≡ ends (bit_xor (register (take (length f - 2) f)) (number_of (drop (length f - 2) f)))
-  whole = ap register (sym (take-append-drop (length f - 2) f))
-      ∙ after_is 0xFFFF (take (length f - 2) f ++ drop (length f - 2) f)
-      ∙ after-append 0xFFFF (take (length f - 2) f) (drop (length f - 2) f)
-      ∙ ap (λ r. after r (drop (length f - 2) f)) (sym (after_is 0xFFFF (take (length f - 2) f)))
-      ∙ after-two (register (take (length f - 2) f)) (drop (length f - 2) f) two bytes
-
-  forth : crc_right f ≡ true → register f ≡ 0xF0B8
-  forth e = whole ∙ (right_end (register (take (length f - 2) f)) (number_of (drop (length f - 2) f)) small fits).0 (eqb-true (number_of (drop (length f - 2) f)) (crc (take (length f - 2) f)) (and_parts (nat_le 2 (length f)) (number_of (drop (length f - 2) f) == crc (take (length f - 2) f)) e).1)
-
-  back : register f ≡ 0xF0B8 → crc_right f ≡ true
-  back e = and_from (nat_le 2 (length f)) (number_of (drop (length f - 2) f) == crc (take (length f - 2) f)) (le-leb 2 (length f) long)
-      (eq-eqb (number_of (drop (length f - 2) f)) (crc (take (length f - 2) f)) ((right_end (register (take (length f - 2) f)) (number_of (drop (length f - 2) f)) small fits).1 (sym whole ∙ e)))
+residue f h long =
+    let xs = take (length f - 2) f in
+    let end = drop (length f - 2) f in
+    let two : length end ≡ 2 = omega (arith, length-drop (length f - 2) f) in
+    let bytes = AreBytes-drop (length f - 2) f h in
+    let whole : register f ≡ shifts 16 (bit_xor (register xs) (number_of end)) = ap register (sym (take-append-drop (length f - 2) f)) ∙ register_with xs end two bytes in
+    let right = right_end (register xs) (number_of end) (after-below 0xFFFF (bits xs) (omega arith)) (number_within 2 end bytes (omega arith)) in (
+      λ e. whole ∙ right.0 (eqb-true (number_of end) (crc xs) (and_parts (nat_le 2 (length f)) (number_of end == crc xs) e).1),
+      λ e. and_from (nat_le 2 (length f)) (number_of end == crc xs) (le-leb 2 (length f) long) (eq-eqb (number_of end) (crc xs) (right.1 (sym whole ∙ e))),
+    )

@@ -2,7 +2,7 @@
 pub use Rattle.std.proofs.Common.{Bool, IfOk, Less, List, None, Ok, Option, Some, [], add-one, add-zero, add_comm, ap, append-nil, append_assoc, arith, bit_and, bit_xor, div-one, drop, drop-cons, eq-eqb, eqb-true, false, get_or, get_or-drop, get_or-take, if◌then◌else◌, inl, inr, is_eq, le-leb, le-ltb, leb-true, length, length-append, length-drop, length-take, lt-ltb, ltb-false, ltb-true, map, mod-eq_of_lt, mul-le-mul_right, mul_assoc, nat_cmp, nat_eq, nat_le, nat_lt, ne_eqb, not, pow-add, pow_pos, refl, shr-shr, slice_index, subst, suc, suc-mul, sym, take, take-append-drop, take_at, true, zero, ℕ, ◌%◌, ◌&&◌, ◌*◌, ◌++◌, ◌+◌, ◌-◌, ◌/◌, ◌<◌, ◌==◌, ◌^◌, ◌↔◌, ◌∙◌, ◌∷◌, ◌≡◌, ◌≤◌}
 pub use Rattle.std.proofs.Math.Nat.{div-eq_of_lt, mod-le, mod-one, mul-add-mod_self_right, mul-mod_left, pow-le-pow_right}
 pub use Rattle.std.proofs.Math.Seq.{drop-append_seam, take-append_seam}
-pub use Rattle.std.proofs.lemmas.Bool.{and_from, and_parts, cases_eq, eqb-false, not-false, not_from_true}
+pub use Rattle.std.proofs.lemmas.Bool.{and_from, and_parts, cases_Bool, cases_eq, eqb-false, not-false, not_from_true}
 pub use Rattle.std.proofs.lemmas.Bool.Decides.{nat_tests}
 pub use Rattle.std.proofs.lemmas.Cmp.{ranked}
 pub use Rattle.std.proofs.lemmas.List.{drop_all, get_or_past}

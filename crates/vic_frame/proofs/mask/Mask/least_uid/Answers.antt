@@ -1,15 +1,12 @@
-use Rattle.vic_frame.proofs.Words.{ℕ, ◌<◌, ◌≤◌, ◌^◌, ◌%◌, ◌∙◌, ap, arith, pow-le-pow_right, BitMask}
-use Rattle.vic_frame.proofs.MaskLaws.{least_inside, least_first}
+use Rattle.vic_frame.proofs.Words.{ℕ, ◌≤◌, ◌^◌, ◌%◌, ◌∙◌, ap, arith, BitMask}
+use Rattle.vic_frame.proofs.MaskLaws.{least_inside, least_first, least_is_uid}
 use Rattle.vic_frame.proofs.mask.Mask.least_uid.Goals as goal
-
-below : (len value : ℕ) → len ≤ 56 → value < 2 ^ len → value < 2 ^ 56
-below len value h k = let fits : 2 ^ len ≤ 2 ^ 56 = pow-le-pow_right (let z : 0 < 2 = omega arith in z) h in omega arith
 
 pub from_low_bits-requires : goal.from_low_bits-requires
 from_low_bits-requires c =
     let e = ap (λ (m : BitMask). m.len) c.self.view_is in
     let short : c.self.inside.len ≤ 56 = omega (arith, c.requires, e) in
-    below c.self.inside.len c.self.inside.value short c.self.invariant.1
+    omega (arith, least_is_uid (record { len = c.self.inside.len; value = c.self.inside.value }) c.self.invariant short)
 
 pub returns-clause-inside : goal.returns-clause-inside
 returns-clause-inside c =
