@@ -1,5 +1,5 @@
 -- The tags that a row's entries stand for.
-use Rattle.vic_field.proofs.Words.{◌≡◌, ℕ, zero, suc, Bool, true, false, cond, ◌==◌, List, [], ◌∷◌, map, Some, None, refl, ap, ◌∙◌, arith, nat_eq, All, insert, option_map, keys_of, All-head, All-tail, IsKey, uid_of, IsUid, has, tags_of, uids_at, with_quiet, readiness, uids, or_parts, nat_tests, mirror, mirror_of_uid, uid_of_mirror, Row}
+use Rattle.vic_field.proofs.Words.{◌≡◌, ℕ, zero, suc, Bool, true, false, cond, ◌==◌, List, [], ◌∷◌, map, Some, None, refl, ap, ◌∙◌, arith, nat_eq, All, insert, option_map, keys_of, All-head, All-tail, IsKey, uid_of, IsUid, has, tags_of, uids_at, with_quiet, readiness, uids, or_parts, nat_tests, mirror, mirror_of_uid, uid_of_mirror, Row, sym, map-map}
 use Rattle.vic_field.specs.Rows.{entries}
 use Rattle.vic_field.proofs.RowLaws.{keys_of_entries}
 
@@ -21,12 +21,10 @@ more_readiness u v key (x ∷ es) (suc i) e fresh =
     let parts = or_parts (nat_eq v (uid_of x.0)) (has (uids (tags_of es)) v) fresh in
     grind (arith, nat_tests, parts.0, more_readiness u v key es i e parts.1)
 
-pub uids_of_keys : (es : List (ℕ × Bool)) → uids (tags_of es) ≡ uids_at (keys_of es)
-uids_of_keys [] = refl
-uids_of_keys (e ∷ es) = ap (λ us. uid_of e.0 ∷ us) (uids_of_keys es)
-
 pub uids_of_entries : (r : Row) → uids (tags_of (entries r)) ≡ uids_at r.keys.items
-uids_of_entries r = uids_of_keys (entries r) ∙ ap uids_at (keys_of_entries r)
+uids_of_entries r =
+    map-map (λ (t : ℕ × Bool). t.0) (λ (e : ℕ × Bool). (uid_of e.0, e.1)) (entries r)
+    ∙ sym (map-map uid_of (λ (e : ℕ × Bool). e.0) (entries r)) ∙ ap uids_at (keys_of_entries r)
 
 -- new tags are Ready
 pub new_readiness : (u : ℕ) (ks : List ℕ) → readiness (tags_of (map (λ k. (k, true)) ks)) u ≡ cond (has (uids_at ks) u) (Some true) None

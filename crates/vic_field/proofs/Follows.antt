@@ -1,5 +1,5 @@
 -- What entries in order leave for the next entry, and which UIDs they list.
-use Rattle.vic_field.proofs.Words.{◌≡◌, ℕ, zero, suc, ◌<◌, ◌≤◌, Bool, true, false, not, List, [], ◌∷◌, take, Some, None, refl, sym, ap, ◌∙◌, arith, ⊎_elim, ◌≢◌, slice_get, if◌then◌else◌, false≢true, IsUid, has, Entry, Sent, Listed, FieldCycle, listed, IsPopulation, is_slot, line_count, false_from_ne_true, EntryAfterList, DuplicateListed, IsInOrder, is_empty, refusal, AreTyped, has_here, has_there, has_cases, without_slots}
+use Rattle.vic_field.proofs.Words.{◌≡◌, ℕ, zero, suc, ◌<◌, ◌≤◌, Bool, true, false, not, List, [], ◌∷◌, take, Some, None, refl, sym, ap, ◌∙◌, arith, ⊎_elim, ◌≢◌, slice_get, if◌then◌else◌, false≢true, IsUid, has, Entry, Sent, Listed, FieldCycle, listed, IsPopulation, is_slot, line_count, false_from_ne_true, EntryAfterList, DuplicateListed, IsInOrder, is_empty, refusal, AreTyped, has_here, has_there, has_cases, without_slots, still_there, slice_get_within, drop, length-take, take-append-drop}
 
 -- ---- which UIDs entries list
 
@@ -37,19 +37,12 @@ listed_kept (e ∷ es) = listed_kept es
 
 -- ---- what may follow
 
--- a position of the first entries
-front_place : (es : List Entry) (i j : ℕ) (e : Entry) → slice_get (take i es) j ≡ Some e → (j < i) × (slice_get es j ≡ Some e)
-front_place es zero j e h = absurd (cc)
-front_place [] (suc i) j e h = absurd (cc)
-front_place (x ∷ es) (suc i) zero e h = (omega arith, h)
-front_place (x ∷ es) (suc i) (suc j) e h = let w = front_place es i j e h in let less = w.0 in (omega arith, w.1)
-
 -- a UID listed in the filled entries was listed before position i
 listed_before : (given es : List Entry) (i u : ℕ) → without_slots es ≡ take i given → has (listed es) u ≡ true → (j : ℕ) × (j < i) × (slice_get given j ≡ Some (Listed u))
 listed_before given es i u kept h =
     let w = place_of (take i given) u (ap (λ (xs : List Entry). has (listed xs) u) (sym kept) ∙ (ap (λ (us : List ℕ). has us u) (listed_kept es) ∙ h)) in
-    let k = front_place given i w.0 (Listed u) w.1 in
-    (w.0, k.0, k.1)
+    let there = still_there (take i given) (drop i given) w.0 (Listed u) w.1 in
+    (w.0, omega (arith, slice_get_within (take i given) w.0 (Listed u) w.1, length-take i given), rw take-append-drop at there)
 
 none_listed : (us : List ℕ) → ((u : ℕ) → has us u ≡ true → ⊥) → is_empty us ≡ true
 none_listed [] h = refl

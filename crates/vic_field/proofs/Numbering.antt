@@ -1,9 +1,6 @@
 -- Entries on numbered lines.
 use Rattle.vic_field.proofs.Words.{◌≡◌, ℕ, suc, ◌+◌, List, [], ◌∷◌, ◌++◌, length, refl, sym, ap, ◌∙◌, arith, append_assoc, append-nil, Entry, LogLine, LogValue, last_from, entries, with_entries, map-append, numbered, entries-numbered}
 
-pub entries-append : (ls ms : List LogLine) → entries (ls ++ ms) ≡ entries ls ++ entries ms
-entries-append ls ms = map-append (λ (x : LogLine). x.item) ls ms
-
 last_from-append : (n : ℕ) (ls ms : List LogLine) → last_from n (ls ++ ms) ≡ last_from (last_from n ls) ms
 last_from-append n [] ms = refl
 last_from-append n (l ∷ ls) ms = last_from-append l.number ls ms
@@ -20,7 +17,7 @@ numbered-append n (e ∷ es) fs =
 
 -- the entries with more
 pub entries-with : (log : LogValue) (es : List Entry) → entries (with_entries log es).lines ≡ entries log.lines ++ es
-entries-with log es = entries-append log.lines (numbered (suc (last_from 1 log.lines)) es) ∙ ap (λ (fs : List Entry). entries log.lines ++ fs) (entries-numbered (suc (last_from 1 log.lines)) es)
+entries-with log es = map-append (λ (x : LogLine). x.item) log.lines (numbered (suc (last_from 1 log.lines)) es) ∙ ap (λ (fs : List Entry). entries log.lines ++ fs) (entries-numbered (suc (last_from 1 log.lines)) es)
 
 -- the last number with more
 pub last_from-with : (log : LogValue) (es : List Entry) → last_from 1 (with_entries log es).lines ≡ last_from 1 log.lines + length es

@@ -7,8 +7,8 @@ only x y h = ⊎_elim (λ e. e) (λ k. absurd (false≢true k)) (has_cases y x [
 
 two_in_one : (x y z : ℕ) (ys : List ℕ) → has (z ∷ ys) y ≡ false → IsWithin (has (y ∷ z ∷ ys)) (has (x ∷ [])) → ⊥
 two_in_one x y z ys apart g =
-    let first : y ≡ x = only x y (g y (has_here y (z ∷ ys))) in
-    let second : z ≡ x = only x z (g z (has_there z y (z ∷ ys) (has_here z ys))) in
+    let first = only x y (g y (has_here y (z ∷ ys))) in
+    let second = only x z (g z (has_there z y (z ∷ ys) (has_here z ys))) in
     both_ways (has (z ∷ ys) y) apart (has_at y z ys (first ∙ sym second))
 
 -- the outcome where different tags answer is told by which they are
@@ -16,7 +16,7 @@ pub same_outcome : (xs ys : List ℕ) → AreDifferent xs → AreDifferent ys �
 same_outcome [] [] dx dy f g = refl
 same_outcome [] (y ∷ ys) dx dy f g = absurd (false≢true (g y (has_here y ys)))
 same_outcome (x ∷ xs) [] dx dy f g = absurd (false≢true (f x (has_here x xs)))
-same_outcome (x ∷ []) (y ∷ []) dx dy f g = ⊎_elim (λ e. ap Lone e) (λ h. absurd (false≢true h)) (has_cases x y [] (f x (has_here x [])))
+same_outcome (x ∷ []) (y ∷ []) dx dy f g = ap Lone (only y x (f x (has_here x [])))
 same_outcome (x ∷ []) (y ∷ z ∷ ys) dx dy f g = absurd (two_in_one x y z ys dy.0 g)
 same_outcome (x ∷ y ∷ xs) (z ∷ []) dx dy f g = absurd (two_in_one z x y xs dx.0 f)
 same_outcome (x ∷ y ∷ xs) (z ∷ w ∷ ys) dx dy f g = refl

@@ -1,8 +1,8 @@
 -- A session in play: the entries of a log so far, filled, and the field's tags behind them.
-use Rattle.vic_field.proofs.Words.{◌≡◌, ℕ, zero, suc, ◌+◌, ◌<◌, ◌≤◌, Bool, true, false, not, ◌&&◌, ◌||◌, List, [], ◌∷◌, ◌++◌, length, Option, Some, None, refl, sym, ap, ◌∙◌, subst, arith, append_assoc, append-nil, length-append, ⊎_elim, slice_get, if◌then◌else◌, option_map, false≢true, Request, BitMask, lies_in, slot_count, mask_in, IsUid, has, Entry, Sent, IsPopulation, is_quiet, is_slot, slots_opened, line_count, slot_line, slot_lines_to, slot_lines, uids, readiness, ready_in, heard, filter-append, filter_agree, slice_get_cases, answers_at, outcome_of, outcome_at, Fits, CouldHaveGiven, silences, wakes, mask_at, lies_in_some, still_there, CouldHaveGiven-push, without_slots, HasAllSlots, IsPlain, ArePlain}
+use Rattle.vic_field.proofs.Words.{◌≡◌, ℕ, zero, suc, ◌+◌, ◌<◌, ◌≤◌, Bool, true, false, not, ◌&&◌, ◌||◌, List, [], ◌∷◌, ◌++◌, length, Option, Some, None, refl, sym, ap, ◌∙◌, subst, arith, append_assoc, append-nil, length-append, ⊎_elim, slice_get, if◌then◌else◌, option_map, false≢true, Request, BitMask, lies_in, slot_count, mask_in, IsUid, has, Entry, Sent, IsPopulation, is_quiet, is_slot, slots_opened, line_count, slot_line, slot_lines_to, slot_lines, uids, readiness, ready_in, heard, filter-append, filter_agree, answers_at, outcome_of, outcome_at, Fits, CouldHaveGiven, silences, wakes, mask_at, lies_in_some, still_there, CouldHaveGiven-push, without_slots, HasAllSlots, IsPlain, ArePlain, slice_get-get_or, get_or}
 use Rattle.vic_field.specs.inner.Steps.{ready_after}
 use Rattle.vic_field.proofs.Outcomes.{Tells, outcome_told, fits_told}
-use Rattle.vic_field.proofs.Rounds.{place_in, second_place, slot_line-is_slot, slot_lines-slots, slot_lines-plain, slot_lines-length, IsOpen, IsOpen-sent, IsOpen-slots, IsOpen-mask, quiet-next, quiet-slot}
+use Rattle.vic_field.proofs.Rounds.{place_in, second_place, slot_line-is_slot, slot_line-plain, slot_lines-each, slot_lines-length, IsOpen, IsOpen-sent, IsOpen-slots, IsOpen-mask, quiet-next, quiet-slot}
 
 -- ---- one slot
 
@@ -77,7 +77,7 @@ none_kept (s ∷ ss) h = rw (h 0 s refl) (none_kept ss (λ i e k. h (suc i) e k)
 
 kept_next : (done es : List Entry) (tags : List (ℕ × Bool)) (e : Entry) → is_slot e ≡ false → without_slots es ≡ done → without_slots (es ++ e ∷ slot_lines tags e) ≡ done ++ e ∷ []
 kept_next done es tags e s k =
-    rw (filter-append (λ x. not (is_slot x)) es (e ∷ slot_lines tags e), s, none_kept (slot_lines tags e) (slot_lines-slots tags e), k) refl
+    rw (filter-append (λ x. not (is_slot x)) es (e ∷ slot_lines tags e), s, none_kept (slot_lines tags e) (slot_lines-each (λ x. is_slot x ≡ true) slot_line-is_slot tags e), k) refl
 
 pub line_count-next : (es : List Entry) (e : Entry) → line_count (es ++ e ∷ []) ≡ line_count es + suc (slots_opened (Some e))
 line_count-next [] e = omega arith
@@ -86,31 +86,25 @@ line_count-next (x ∷ es) e = let h = line_count-next es e in omega arith
 count_next : (done es : List Entry) (tags : List (ℕ × Bool)) (e : Entry) → length es ≡ line_count done → length (es ++ e ∷ slot_lines tags e) ≡ line_count (done ++ e ∷ [])
 count_next done es tags e h = grind (arith, length-append es (e ∷ slot_lines tags e), slot_lines-length tags e, line_count-next done e)
 
--- an element of the list is there
-here_is : (xs : List Entry) (k : ℕ) → k < length xs → (x : Entry) × (slice_get xs k ≡ Some x)
-here_is xs k h = grind (arith, slice_get_cases xs k)
-
 -- the slots of one entry more
 slots_next : (es : List Entry) (tags : List (ℕ × Bool)) (e : Entry) → HasAllSlots es → HasAllSlots (es ++ e ∷ slot_lines tags e)
-slots_next es tags e h i k q at less = ⊎_elim before (λ w. at_place w.0 w.1 w.2) (place_in es (e ∷ slot_lines tags e) i (Sent q) at) where
-  before : slice_get es i ≡ Some (Sent q) → (x : Entry) × (slice_get (es ++ e ∷ slot_lines tags e) (suc i + k) ≡ Some x) × (is_slot x ≡ true)
-  before b = let w = h i k q b less in (w.0, still_there es (e ∷ slot_lines tags e) (suc i + k) w.0 w.1, w.2)
-
-  its_own : i ≡ length es → e ≡ Sent q → (x : Entry) × (slice_get (es ++ e ∷ slot_lines tags e) (suc i + k) ≡ Some x) × (is_slot x ≡ true)
-  its_own place same =
-      let long : length (slot_lines tags e) ≡ slot_count q = slot_lines-length tags e ∙ ap (λ (x : Entry). slots_opened (Some x)) same in
-      let w = here_is (slot_lines tags e) k (omega arith) in
-      (w.0, second_place es (e ∷ slot_lines tags e) (suc i + k) (suc k) (omega arith) ∙ w.1, slot_lines-slots tags e k w.0 w.1)
-
-  at_place : (j : ℕ) → i ≡ length es + j → slice_get (e ∷ slot_lines tags e) j ≡ Some (Sent q) → (x : Entry) × (slice_get (es ++ e ∷ slot_lines tags e) (suc i + k) ≡ Some x) × (is_slot x ≡ true)
-  at_place zero place b = let same : e ≡ Sent q = cc in its_own (omega arith) same
-  at_place (suc j) place b = absurd (false≢true (slot_lines-slots tags e j (Sent q) b))
+slots_next es tags e h i k q at less = ⊎_elim
+    (λ b. let w = h i k q b less in (w.0, still_there es (e ∷ slot_lines tags e) (suc i + k) w.0 w.1, w.2))
+    (λ w. behind w.0 w.1 w.2)
+    (place_in es (e ∷ slot_lines tags e) i (Sent q) at) where
+      behind : (j : ℕ) → i ≡ length es + j → slice_get (e ∷ slot_lines tags e) j ≡ Some (Sent q) → (x : Entry) × (slice_get (es ++ e ∷ slot_lines tags e) (suc i + k) ≡ Some x) × (is_slot x ≡ true)
+      behind zero place b =
+          let same : e ≡ Sent q = cc in
+          let long : length (slot_lines tags e) ≡ slot_count q = slot_lines-length tags e ∙ ap (λ (x : Entry). slots_opened (Some x)) same in
+          let there = slice_get-get_or (slot_lines tags e) k e (omega arith) in
+          (get_or (slot_lines tags e) k e, second_place es (e ∷ slot_lines tags e) (suc i + k) (suc k) (omega arith) ∙ there, slot_lines-each (λ x. is_slot x ≡ true) slot_line-is_slot tags e k _ there)
+      behind (suc j) place b = absurd (false≢true (slot_lines-each (λ x. is_slot x ≡ true) slot_line-is_slot tags e j (Sent q) b))
 
 plain_next : (es : List Entry) (tags : List (ℕ × Bool)) (e : Entry) → is_slot e ≡ false → ArePlain es → ArePlain (es ++ e ∷ slot_lines tags e)
 plain_next es tags e s h i x at = ⊎_elim (λ b. h i x b) (λ w. later w.0 w.2) (place_in es (e ∷ slot_lines tags e) i x at) where
   later : (j : ℕ) → slice_get (e ∷ slot_lines tags e) j ≡ Some x → IsPlain x
   later zero b = let same : e ≡ x = cc in subst IsPlain same (plain_any e s)
-  later (suc j) b = slot_lines-plain tags e j x b
+  later (suc j) b = slot_lines-each IsPlain slot_line-plain tags e j x b
 
 -- one entry more, with its slots
 pub IsPlayed-next : (p : List ℕ) (done es : List Entry) (tags after : List (ℕ × Bool)) (e : Entry) → IsPopulation p → is_slot e ≡ false → (0 < slots_opened (Some e) → IsPopulation (uids after))

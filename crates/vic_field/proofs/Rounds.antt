@@ -1,5 +1,5 @@
 -- The rounds of entries: what one entry more, and the slot lines of a request, leave as it was.
-use Rattle.vic_field.proofs.Words.{All, ◌≡◌, ℕ, zero, suc, ◌+◌, ◌-◌, ◌<◌, ◌⊎◌, inl, inr, Bool, true, false, not, ◌&&◌, ◌||◌, List, [], ◌∷◌, ◌++◌, length, Some, None, refl, sym, ap, ◌∙◌, subst, arith, append_assoc, append-nil, length-append, ⊎_elim, slice_get, nat_lt, if◌then◌else◌, lt-ltb, All-nil, All-push, Request, slot_count, mask_in, Entry, Sent, is_quiet, is_slot, slots_opened, slot_line, slot_lines_to, slot_lines, heard, ready_in, get_or_from_slice_get, slice_get_within, refusal, silences, wakes, ends_round, opener, left_since, slots_left, mask_of_slot, mask_since, mask_at, opener_agrees, quiet_agrees, agree_append, slice_get_last, IsPlain}
+use Rattle.vic_field.proofs.Words.{All, ◌≡◌, ℕ, zero, suc, ◌+◌, ◌-◌, ◌<◌, ◌⊎◌, inl, inr, Bool, true, false, not, ◌&&◌, ◌||◌, List, [], ◌∷◌, ◌++◌, length, Some, None, refl, sym, ap, ◌∙◌, subst, arith, append_assoc, append-nil, length-append, ⊎_elim, slice_get, nat_lt, if◌then◌else◌, lt-ltb, All-nil, All-push, Request, slot_count, mask_in, Entry, Sent, is_quiet, is_slot, slots_opened, slot_line, slot_lines_to, slot_lines, heard, ready_in, get_or_from_slice_get, slice_get_within, refusal, silences, wakes, ends_round, opener, slots_left, mask_at, opener_agrees, quiet_agrees, agree_append, slice_get_last, IsPlain}
 use Rattle.vic_field.specs.declared.outcome.Outcome.{Outcome as Told}
 
 -- ---- positions of joined lists
@@ -23,7 +23,7 @@ next_length es e = length-append es (e ∷ []) ∙ omega arith
 pub slot_line-is_slot : (o : Told) → is_slot (slot_line o) ≡ true
 slot_line-is_slot o = grind arith
 
-slot_line-plain : (o : Told) → IsPlain (slot_line o)
+pub slot_line-plain : (o : Told) → IsPlain (slot_line o)
 slot_line-plain o = grind arith
 
 pub slot_lines_to-length : (tags : List (ℕ × Bool)) (q : Request) (n : ℕ) → length (slot_lines_to tags q n) ≡ n
@@ -39,14 +39,8 @@ slot_lines-all : (P : Entry → Type 0) → ((o : Told) → P (slot_line o)) →
 slot_lines-all P each tags (Sent q) = slot_lines_to-all P each tags q (slot_count q)
 slot_lines-all P each tags x = All-nil P
 
-slot_lines-each : (P : Entry → Type 0) → ((o : Told) → P (slot_line o)) → (tags : List (ℕ × Bool)) (x : Entry) (i : ℕ) (e : Entry) → slice_get (slot_lines tags x) i ≡ Some e → P e
+pub slot_lines-each : (P : Entry → Type 0) → ((o : Told) → P (slot_line o)) → (tags : List (ℕ × Bool)) (x : Entry) (i : ℕ) (e : Entry) → slice_get (slot_lines tags x) i ≡ Some e → P e
 slot_lines-each P each tags x i e h = subst P (get_or_from_slice_get (slot_lines tags x) i e e h) (slot_lines-all P each tags x i e (slice_get_within (slot_lines tags x) i e h))
-
-pub slot_lines-slots : (tags : List (ℕ × Bool)) (x : Entry) (i : ℕ) (e : Entry) → slice_get (slot_lines tags x) i ≡ Some e → is_slot e ≡ true
-slot_lines-slots tags x i e h = slot_lines-each (λ y. is_slot y ≡ true) slot_line-is_slot tags x i e h
-
-pub slot_lines-plain : (tags : List (ℕ × Bool)) (x : Entry) (i : ℕ) (e : Entry) → slice_get (slot_lines tags x) i ≡ Some e → IsPlain e
-slot_lines-plain tags x i e h = slot_lines-each IsPlain slot_line-plain tags x i e h
 
 pub slot_lines-length : (tags : List (ℕ × Bool)) (x : Entry) → length (slot_lines tags x) ≡ slots_opened (Some x)
 slot_lines-length tags (Sent q) = slot_lines_to-length tags q (slot_count q)
@@ -62,10 +56,7 @@ pub record IsOpen (es : List Entry) (q : Request) (k : ℕ) : Type 0 where
   pub count : length es ≡ suc place + k
 
 opener-next : (es : List Entry) (e : Entry) → opener (es ++ e ∷ []) (length (es ++ e ∷ [])) ≡ (if ends_round (Some e) then Some (length es) else opener es (length es))
-opener-next es e =
-    ap (opener (es ++ e ∷ [])) (next_length es e)
-    ∙ ap (λ o. if ends_round o then Some (length es) else opener (es ++ e ∷ []) (length es)) (slice_get_last es e)
-    ∙ ap (λ o. if ends_round (Some e) then Some (length es) else o) (sym (opener_agrees (length es) es (es ++ e ∷ []) (agree_append es (e ∷ []))))
+opener-next es e = rw (next_length es e, slice_get_last es e, ← (opener_agrees (length es) es (es ++ e ∷ []) (agree_append es (e ∷ [])))) refl
 
 pub IsOpen-sent : (es : List Entry) (q : Request) → IsOpen (es ++ Sent q ∷ []) q 0
 IsOpen-sent es q = record {
@@ -98,39 +89,23 @@ IsOpen-slots es q tags (suc n) o =
 -- the mask of the next slot
 pub IsOpen-mask : (es : List Entry) (q : Request) (k : ℕ) → IsOpen es q k → k < slot_count q → mask_at es (length es) ≡ Some (mask_in q k)
 IsOpen-mask es q k o h =
-    let c = o.count in
-    let at : length es - suc o.place ≡ k = omega arith in
-    ap (mask_since es (length es)) o.opened
-    ∙ ap (λ e. mask_of_slot e (length es - suc o.place)) o.sent
-    ∙ ap (mask_of_slot (Some (Sent q))) at
-    ∙ ap (λ b. if b then Some (mask_in q k) else None) (lt-ltb k (slot_count q) h)
+    let at : length es - suc o.place ≡ k = omega (arith, o.count) in
+    rw (o.opened, o.sent, at, lt-ltb k (slot_count q) h) refl
 
-left_open : (es : List Entry) (q : Request) (k : ℕ) → IsOpen es q k → slots_left es (length es) ≡ slot_count q - k
-left_open es q k o =
-    let c = o.count in
-    let at : length es - suc o.place ≡ k = omega arith in
-    ap (left_since es (length es)) o.opened
-    ∙ ap (λ e. slots_opened e - (length es - suc o.place)) o.sent
-    ∙ ap (λ n. slot_count q - n) at
-
--- a slot line may follow where a slot is left
-pub slot_follows : (es : List Entry) (e : Entry) → is_slot e ≡ true → nat_lt 0 (slots_left es (length es)) ≡ true → refusal es e ≡ None
+slot_follows : (es : List Entry) (e : Entry) → is_slot e ≡ true → nat_lt 0 (slots_left es (length es)) ≡ true → refusal es e ≡ None
 slot_follows es e s h = grind arith
 
+-- a slot line may follow where a slot is left
 pub IsOpen-follows : (es : List Entry) (q : Request) (k : ℕ) (e : Entry) → IsOpen es q k → k < slot_count q → is_slot e ≡ true → refusal es e ≡ None
 IsOpen-follows es q k e o h s =
-    let left = left_open es q k o in
-    let some : 0 < slots_left es (length es) = omega arith in
-    slot_follows es e s (lt-ltb 0 (slots_left es (length es)) some)
+    let left : slots_left es (length es) ≡ slot_count q - (length es - suc o.place) = rw (o.opened, o.sent) refl in
+    slot_follows es e s (lt-ltb 0 (slots_left es (length es)) (omega (arith, left, o.count)))
 
 -- ---- Quiet tags
 
 -- which tags are Quiet behind one entry more
 pub quiet-next : (es : List Entry) (e : Entry) (u : ℕ) → is_quiet (es ++ e ∷ []) (length (es ++ e ∷ [])) u ≡ (silences (Some e) u || (not (wakes (Some e)) && is_quiet es (length es) u))
-quiet-next es e u =
-    ap (λ n. is_quiet (es ++ e ∷ []) n u) (next_length es e)
-    ∙ ap (λ o. silences o u || (not (wakes o) && is_quiet (es ++ e ∷ []) (length es) u)) (slice_get_last es e)
-    ∙ ap (λ b. silences (Some e) u || (not (wakes (Some e)) && b)) (sym (quiet_agrees (length es) es (es ++ e ∷ []) u (agree_append es (e ∷ []))))
+quiet-next es e u = rw (next_length es e, slice_get_last es e, ← (quiet_agrees (length es) es (es ++ e ∷ []) u (agree_append es (e ∷ [])))) refl
 
 -- a slot line changes none
 pub quiet-slot : (es : List Entry) (e : Entry) (u : ℕ) → is_slot e ≡ true → is_quiet (es ++ e ∷ []) (length (es ++ e ∷ [])) u ≡ is_quiet es (length es) u

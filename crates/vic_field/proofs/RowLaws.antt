@@ -1,5 +1,5 @@
 -- Tags in a row by their keys.
-use Rattle.vic_field.proofs.Words.{◌≡◌, ◌≢◌, ℕ, zero, suc, ◌+◌, ◌-◌, ◌<◌, ◌≤◌, Bool, true, false, List, [], ◌∷◌, ◌&&◌, ◌||◌, length, take, drop, get_or, map, not, refl, sym, ap, subst, ◌∙◌, arith, add-one, drop-cons, drop-drop, drop_of_length-le, length-drop, nat_eq, nat_le, nat_cmp, All, insert, ne_eqb, eq-eqb, le-leb, get_or-take, get_or-drop, IsStrictlySortedBy, keys_of, get_or_default, non_decreasing_from_sorted, IsKey, uid_of, has, AreKeys, is_quiet_place, with_quiet, AllByRecursion, IsDistinct, and-true, nat_tests, eq_swapped, or_parts, get_or-map, length-map, same_lists, get_or-insert_at, get_or-insert_below, get_or-insert_above, length-insert, All-cons, list_any_at, get_or-map-range_with_len, length-map-range_with_len, All-permutation, IsNonDecreasingBy-insert, IsPermutation-insert, IsDistinct-IsPermutation, IsDistinct-cons, IsDistinct-from_apart, IsStrictlyIncreasing-from_distinct, below_from_sorted, sorted_from_strictly_increasing, Row, ready_between, IsRow, entry_at, HasKeyPlaceBetween, IsKeyPlace, as_ready, HasNoneReady, IsNextReady}
+use Rattle.vic_field.proofs.Words.{◌≡◌, ◌≢◌, ℕ, zero, suc, ◌+◌, ◌-◌, ◌<◌, ◌≤◌, Bool, true, false, List, [], ◌∷◌, ◌&&◌, ◌||◌, length, take, drop, get_or, map, not, refl, sym, ap, subst, ◌∙◌, arith, add-one, drop-cons, drop-drop, drop_of_length-le, length-drop, nat_eq, nat_le, nat_cmp, insert, ne_eqb, eq-eqb, le-leb, get_or-take, get_or-drop, IsStrictlySortedBy, keys_of, get_or_default, non_decreasing_from_sorted, IsKey, uid_of, has, AreKeys, is_quiet_place, with_quiet, and-true, nat_tests, get_or-insert_at, get_or-insert_below, get_or-insert_above, length-insert, All-cons, list_any_at, get_or-map-range_with_len, length-map-range_with_len, All-permutation, IsPermutation-insert, below_from_sorted, sorted_from_strictly_increasing, Row, ready_between, IsRow, entry_at, HasKeyPlaceBetween, IsKeyPlace, as_ready, HasNoneReady, IsNextReady, both_ways, list_any_none, range_with_len, map-map, fill_by_all}
 use Rattle.vic_field.specs.Rows.{entries}
 
 -- ---- where keys stand
@@ -35,16 +35,13 @@ found ks key from to i h most below above =
 pub key_there : (ks : List ℕ) (q k : ℕ) → k < length ks → get_or ks k 0 ≡ q → has ks q ≡ true
 key_there ks q k h e = list_any_at (nat_eq q) ks k 0 h (eq-eqb q (get_or ks k 0) (sym e))
 
-none_there : (ks : List ℕ) (q : ℕ) → ((k : ℕ) → k < length ks → get_or ks k 0 ≢ q) → has ks q ≡ false
-none_there [] q none = refl
-none_there (k ∷ ks) q none = rw (ne_eqb q k (λ e. none 0 (omega arith) (sym e))) (none_there ks q (λ i h. none (suc i) (omega arith)))
-
 -- no key is this one, where none is at its position
 pub lacks : (ks : List ℕ) (q place : ℕ) → IsStrictlySortedBy nat_cmp ks → IsKeyPlace q ks place → (place < length ks → get_or ks place 0 ≢ q) → (k : ℕ) → k < length ks → get_or ks k 0 ≢ q
 lacks ks q place o p other k h e = grind (arith, p.below k, p.above place, non_decreasing_from_sorted ks o place k 0)
 
 pub key_lacks : (ks : List ℕ) (q place : ℕ) → IsStrictlySortedBy nat_cmp ks → IsKeyPlace q ks place → (place < length ks → get_or ks place 0 ≢ q) → has ks q ≡ false
-key_lacks ks q place o p other = none_there ks q (lacks ks q place o p other)
+key_lacks ks q place o p other =
+    list_any_none (nat_eq q) ks (λ k d lt. ne_eqb q (get_or ks k d) (λ e. lacks ks q place o p other k lt (get_or_default ks k 0 d lt ∙ sym e)))
 
 -- ---- entries
 
@@ -56,32 +53,17 @@ entry r k d h = get_or-map-range_with_len (entry_at r) 0 (length r.keys.items) k
 
 pub keys_of_entries : (r : Row) → keys_of (entries r) ≡ r.keys.items
 keys_of_entries r =
-    let size = length_entries r in
-    let long = length-map (entries r) (λ (e : ℕ × Bool). e.0) in
-    same_lists _ _ (long ∙ size) (λ k d h.
-    let lt : k < length r.keys.items = omega (arith, h, long, size) in
-    get_or-map (λ (e : ℕ × Bool). e.0) (entries r) k (0, false) d (omega (arith, lt, size))
-    ∙ ap (λ (e : ℕ × Bool). e.0) (entry r k (0, false) lt)
-    ∙ get_or_default r.keys.items k 0 d lt)
+    let ks = r.keys.items in
+    map-map (λ (e : ℕ × Bool). e.0) (entry_at r) (range_with_len 0 (length ks)) ∙ sym (fill_by_all (λ k. get_or ks k 0) ks (length ks) 0 refl (λ k lt. refl))
 
-pub small_entries : (r : Row) → IsRow r → All IsKey (keys_of (entries r))
-small_entries r i = subst (All IsKey) (sym (keys_of_entries r)) i.keys.small
-
-pub rising_entries : (r : Row) → IsRow r → IsStrictlySortedBy nat_cmp (keys_of (entries r))
-rising_entries r i = subst (IsStrictlySortedBy nat_cmp) (sym (keys_of_entries r)) i.keys.rising
+pub keys_are : (r : Row) → IsRow r → AreKeys (keys_of (entries r))
+keys_are r i = subst AreKeys (sym (keys_of_entries r)) i.keys
 
 -- entries that come from others one by one
 each : (f : ℕ × Bool → ℕ × Bool) (r new : Row) → length new.keys.items ≡ length r.keys.items → ((k : ℕ) → k < length r.keys.items → entry_at new k ≡ f (entry_at r k)) → entries new ≡ map f (entries r)
 each f r new size same =
-    let a = length_entries new in
-    let b = length_entries r in
-    let long = length-map (entries r) f in
-    same_lists _ _ (a ∙ size ∙ sym (long ∙ b)) (λ k d h.
-    let lt : k < length r.keys.items = omega (arith, h, a, size) in
-    entry new k d (omega (arith, lt, size))
-    ∙ same k lt
-    ∙ ap f (sym (entry r k d lt))
-    ∙ sym (get_or-map f (entries r) k d d (omega (arith, lt, b))))
+    fill_by_all (λ k. f (entry_at r k)) (entries new) (length r.keys.items) (0, false) (length_entries new ∙ size) (λ k lt. entry new k (0, false) (omega arith) ∙ same k lt)
+    ∙ sym (map-map f (entry_at r) (range_with_len 0 (length r.keys.items)))
 
 one_quiet : (ks : List ℕ) (place k key : ℕ) (q : Bool) → IsStrictlySortedBy nat_cmp ks → place < length ks → k < length ks → get_or ks place 0 ≡ key → not (nat_eq k place || q) ≡ (not q && not (nat_eq key (get_or ks k 0)))
 one_quiet ks place k key q o h lt e = grind (arith, nat_tests, below_from_sorted ks k place 0 o, below_from_sorted ks place k 0 o)
@@ -101,39 +83,36 @@ all_ready r new keys none = each (λ e. (e.0, true)) r new (ap length keys) (λ 
 
 pub new_entries : (r : Row) → ((k : ℕ) → is_quiet_place r.quiet k ≡ false) → entries r ≡ map (λ k. (k, true)) r.keys.items
 new_entries r none =
-    let size = length_entries r in
-    same_lists _ _ (size ∙ sym (length-map r.keys.items (λ (k : ℕ). (k, true)))) (λ k d h.
-    let lt : k < length r.keys.items = omega (arith, h, size) in
-    entry r k d lt ∙ ap (λ (b : Bool). (get_or r.keys.items k 0, not b)) (none k) ∙ sym (get_or-map (λ (n : ℕ). (n, true)) r.keys.items k 0 d lt))
+    all_ready r r refl none
+    ∙ sym (map-map (λ (k : ℕ). (k, true)) (λ (e : ℕ × Bool). e.0) (entries r))
+    ∙ ap (λ (ks : List ℕ). map (λ k. (k, true)) ks) (keys_of_entries r)
 
 -- ---- a tag more
 
-no_key : (q : ℕ) (ks : List ℕ) → has ks q ≡ false → AllByRecursion (λ y. nat_eq q y ≡ false) ks
-no_key q [] h = tt
-no_key q (k ∷ ks) h = let parts = or_parts (nat_eq q k) (has ks q) h in (parts.0, no_key q ks parts.1)
+-- what stands behind a place that was put between
+after_place : {X : Type 0} (xs : List X) (place : ℕ) (y d : X) (k : ℕ) → place < k → place ≤ length xs → get_or (insert xs place y) k d ≡ get_or xs (k - 1) d
+after_place xs place y d k past within = let back : k - 1 + 1 ≡ k = omega arith in rw back at (get_or-insert_above xs place y d (k - 1) (omega arith) within)
+
+rising_at : (ks : List ℕ) (place key k : ℕ) → IsStrictlySortedBy nat_cmp ks → IsKeyPlace key ks place → (place < length ks → get_or ks place 0 ≢ key) → k < length ks
+    → get_or (insert ks place key) k 0 < get_or (insert ks place key) (k + 1) 0
+rising_at ks place key k o p other lt =
+    grind (arith, get_or-insert_below ks place key 0 k, get_or-insert_below ks place key 0 (k + 1), get_or-insert_at ks place key 0, after_place ks place key 0 k, get_or-insert_above ks place key 0 k, p.below k, p.above k, other, below_from_sorted ks k (k + 1) 0 o, below_from_sorted ks (k - 1) k 0 o)
 
 -- keys with one more at its position
 pub inserted_keys : (ks : List ℕ) (place key : ℕ) → AreKeys ks → IsKeyPlace key ks place → has ks key ≡ false → IsKey key → AreKeys (insert ks place key)
 inserted_keys ks place key i p fresh small = record {
   small = All-permutation IsKey (key ∷ ks) (insert ks place key) (IsPermutation-insert ks place key) (All-cons IsKey key ks small i.small);
-  rising =
-      let up = IsNonDecreasingBy-insert (λ x. x) ks place key (non_decreasing_from_sorted ks i.rising) p.within
-      (λ k d lt. let low = p.below k lt in let within = p.within in let same = get_or_default ks k d 0 (omega (arith, lt, within)) in omega (arith, low, same))
-      (λ k d le lt. let high = p.above k le lt in let same = get_or_default ks k d 0 lt in omega (arith, high, same)) in
-      let apart : IsDistinct nat_eq ks = IsDistinct-from_apart nat_eq ks (λ j k d lt h. ne_eqb (get_or ks j d) (get_or ks k d) (λ e. let more = below_from_sorted ks j k d i.rising lt h in omega (arith, more, e))) in
-      let distinct = IsDistinct-IsPermutation nat_eq eq_swapped (key ∷ ks) (insert ks place key) (IsPermutation-insert ks place key) (IsDistinct-cons nat_eq key ks (no_key key ks fresh) apart) in
-      sorted_from_strictly_increasing (insert ks place key) (IsStrictlyIncreasing-from_distinct (insert ks place key) up distinct);
+  rising = sorted_from_strictly_increasing (insert ks place key) (λ k lt.
+      rising_at ks place key k i.rising p (λ there e. both_ways (has ks key) fresh (key_there ks key place there e)) (let more = length-insert ks place key p.within in omega (arith, lt, more)));
 }
 
 -- the tag at position k, where another is put at `place`
 moved : (ks : List ℕ) (es : List (ℕ × Bool)) (key place k : ℕ) (old new : ℕ → Bool) (d : ℕ × Bool) → place ≤ length ks → length es ≡ length ks → k < suc (length ks)
     → ((j : ℕ) → j < length ks → get_or es j d ≡ (get_or ks j 0, not (old j)))
-    → (k < place → new k ≡ old k) → new place ≡ false → (place < k → new k ≡ old (k - 1)) → (get_or (insert ks place key) k 0, not (new k)) ≡ get_or (insert es place (key, true)) k d
+    → (k < place → new k ≡ old k) → new place ≡ false → ((j : ℕ) → place ≤ j → j < length ks → new (j + 1) ≡ old j) → get_or (insert es place (key, true)) k d ≡ (get_or (insert ks place key) k 0, not (new k))
 moved ks es key place k old new d within size lt entry before put after =
-    let above : place < k → (k - 1) + 1 ≡ k = λ p. omega arith in
-    let key_above : place < k → get_or (insert ks place key) k 0 ≡ get_or ks (k - 1) 0 = λ p. rw (above p) at (get_or-insert_above ks place key 0 (k - 1) (omega arith) within) in
-    let tag_above : place < k → get_or (insert es place (key, true)) k d ≡ get_or es (k - 1) d = λ p. rw (above p) at (get_or-insert_above es place (key, true) d (k - 1) (omega arith) (omega arith)) in
-    grind (arith, key_above, tag_above, get_or-insert_below ks place key 0 k, get_or-insert_at ks place key 0, get_or-insert_below es place (key, true) d k, get_or-insert_at es place (key, true) d, entry k, entry (k - 1))
+    let past : place < k → new k ≡ old (k - 1) = λ p. let back : k - 1 + 1 ≡ k = omega arith in rw back at (after (k - 1) (omega arith) (omega arith)) in
+    grind (arith, past, after_place ks place key 0 k, after_place es place (key, true) d k, get_or-insert_below ks place key 0 k, get_or-insert_at ks place key 0, get_or-insert_below es place (key, true) d k, get_or-insert_at es place (key, true) d, entry k, entry (k - 1))
 
 -- a row with one tag more, Ready
 pub inserted : (r new : Row) (key place : ℕ) → place ≤ length r.keys.items → new.keys.items ≡ insert r.keys.items place key
@@ -142,13 +121,10 @@ pub inserted : (r new : Row) (key place : ℕ) → place ≤ length r.keys.items
 inserted r new key place within keys before put after =
     let ks = r.keys.items in
     let size = length_entries r in
-    let long = length_entries new in
     let more = ap length keys ∙ length-insert ks place key within in
     let one = length-insert (entries r) place (key, true) (omega arith) in
-    same_lists _ _ (omega arith) (λ k d h.
-    let last : place < k → k - 1 + 1 ≡ k = λ p. omega arith in
-    entry new k d (omega arith)
-    ∙ rw keys (moved ks (entries r) key place k (is_quiet_place r.quiet) (is_quiet_place new.quiet) d within size (omega arith) (λ j lt. entry r j d lt) (before k) put (λ p. rw (last p) at (after (k - 1) (omega arith) (omega arith)))))
+    sym (fill_by_all (entry_at new) (insert (entries r) place (key, true)) (length new.keys.items) (0, false) (omega arith) (λ k lt.
+    rw keys (moved ks (entries r) key place k (is_quiet_place r.quiet) (is_quiet_place new.quiet) (0, false) within size (omega arith) (λ j h. entry r j (0, false) h) (before k) put after)))
 
 -- ---- what is heard
 

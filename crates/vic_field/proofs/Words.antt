@@ -1,24 +1,25 @@
 -- The words of proofs, from one place: what files name from outside of the crate, and the definitions that several of them name.
-pub use Rattle.std.proofs.Common.{All, Bool, Contains, Less, List, None, Option, Some, [], add-one, add-zero, ap, append-nil, append_assoc, arith, bit_or, cond, drop, drop-cons, drop-drop, drop_of_length-le, eq-eqb, eqb-true, false, filter, get_or, get_or-drop, get_or-set_other, get_or-set_same, get_or-take, if◌then◌else◌, inl, inr, insert, le-leb, le-ltb, leb-true, length, length-append, length-drop, length-take-le, lt-ltb, ltb, ltb-false, ltb-true, map, nat_cmp, nat_eq, nat_le, nat_lt, ne_eqb, not, option_map, refl, replicate, rules, set, shr-shr, slice_get, subst, suc, sym, take, take_all, true, unwrap_or, w64, zero, ℕ, ⊎_elim, ◌%◌, ◌&&◌, ◌*◌, ◌++◌, ◌+◌, ◌-◌, ◌/◌, ◌<◌, ◌==◌, ◌^◌, ◌||◌, ◌∙◌, ◌∷◌, ◌≡◌, ◌≢◌, ◌≤◌, ◌⊎◌}
+pub use Rattle.std.proofs.Common.{All, Bool, Contains, Less, List, None, Option, Some, [], add-one, add-zero, ap, append-nil, append_assoc, arith, bit_or, cond, drop, drop-cons, drop-drop, drop_of_length-le, eq-eqb, eqb-true, false, filter, get_or, get_or-drop, get_or-set_other, get_or-set_same, get_or-take, if◌then◌else◌, inl, inr, insert, le-leb, le-ltb, leb-true, length, length-append, length-drop, length-take, length-take-le, lt-ltb, ltb, ltb-false, ltb-true, map, nat_cmp, nat_eq, nat_le, nat_lt, ne_eqb, not, option_map, refl, replicate, rules, set, shr-shr, slice_get, subst, suc, sym, take, take-append-drop, take_all, true, unwrap_or, w64, zero, ℕ, ⊎_elim, ◌%◌, ◌&&◌, ◌*◌, ◌++◌, ◌+◌, ◌-◌, ◌/◌, ◌<◌, ◌==◌, ◌^◌, ◌||◌, ◌∙◌, ◌∷◌, ◌≡◌, ◌≢◌, ◌≤◌, ◌⊎◌}
 pub use Rattle.std.proofs.Math.Bool.{and-true}
-pub use Rattle.std.proofs.lemmas.Bool.{and_parts, both_ways, cases_eq, cases_lt, false_from_ne_true, false≢true, or_cases, or_parts, or_right}
+pub use mathlib.Core.List.{map-map}
+pub use Rattle.std.proofs.lemmas.Bool.{and_parts, both_ways, cases_eq, cases_lt, false_from_ne_true, false≢true, lt-leb, or_cases, or_parts, or_right}
 pub use Rattle.std.proofs.lemmas.Bool.Decides.{nat_tests}
-pub use Rattle.std.proofs.lemmas.List.{get_or-map, get_or-replicate, get_or_default, get_or_past, length-map, length-replicate, map-append, same_lists}
+pub use Rattle.std.proofs.lemmas.List.{get_or-map, get_or-replicate, get_or_default, get_or_past, length-map, length-replicate, map-append, same_lists, take-map}
 pub use Rattle.std.proofs.lemmas.List.Edits.{get_or-insert_above, get_or-insert_at, get_or-insert_below, length-insert}
-pub use Rattle.std.proofs.lemmas.List.Elements.{All-cons, All-head, All-nil, All-push, All-tail, filter-append, filter_agree}
+pub use Rattle.std.proofs.lemmas.List.Elements.{All-cons, All-head, All-nil, All-push, All-replicate, All-tail, filter-append, filter_agree}
 pub use Rattle.std.proofs.lemmas.List.Filters.{All-dedup, dedup_is}
-pub use Rattle.std.proofs.lemmas.List.Folds.{Any-from_list_any, list_any_at}
-pub use Rattle.std.proofs.lemmas.List.FromFn.{get_or-map-range_with_len, length-map-range_with_len}
+pub use Rattle.std.proofs.lemmas.List.Folds.{Any-from_list_any, list_any_at, list_any_none}
+pub use Rattle.std.proofs.lemmas.List.FromFn.{fill_by_all, get_or-map-range_with_len, length-map-range_with_len}
 pub use Rattle.std.proofs.lemmas.List.Kept.{Contains-dedup_nat, Contains-from_dedup}
 pub use Rattle.std.proofs.lemmas.List.Sorted.{All-permutation, IsNonDecreasingBy-drop, IsNonDecreasingBy-insert, IsNonDecreasingBy-take, IsPartitionPoint-from_clause, IsPartitionedBy-ltb, IsPermutation-insert, list_any-IsPermutation}
 pub use Rattle.std.proofs.lemmas.Map.Keys.{IsDistinct-IsPermutation, IsDistinct-cons, IsDistinct-from_apart, IsStrictlyIncreasing-dedup, IsStrictlyIncreasing-from_distinct, below_from_sorted, non_decreasing_from_sorted, sorted_from_strictly_increasing, sorted_head, sorted_tail}
 pub use Rattle.std.proofs.lemmas.Map.Made.{is_some-lookup, lookup-map_values}
 pub use Rattle.std.proofs.lemmas.Nat.{or_lt, shr_le}
 pub use Rattle.std.proofs.lemmas.Nat.Bits.{bit_at-trailing_ones, bit_at_above, bit_at_ones, bit_at_set_other, bit_at_set_same, same_from_bits_below}
-pub use Rattle.std.proofs.lemmas.Option.{get_or_from_slice_get, slice_get-map, slice_get_cases, slice_get_read, slice_get_within}
+pub use Rattle.std.proofs.lemmas.Option.{get_or_from_slice_get, slice_get-get_or, slice_get-map, slice_get_cases, slice_get_read, slice_get_within}
 pub use Rattle.std.proofs.lemmas.Result.{IfOk-weaker, on_ok_weaker}
 pub use Rattle.std.specs.Int.{bit_at, trailing_ones}
-pub use Rattle.std.specs.List.{AllByRecursion, IsDistinct, dedup, list_any}
+pub use Rattle.std.specs.List.{AllByRecursion, IsDistinct, dedup, list_any, range_with_len}
 pub use Rattle.std.specs.List.Sorted.{IsPartitionPoint, IsStrictlySortedBy}
 pub use Rattle.std.specs.Map.{keys_of}
 pub use Rattle.vic_frame.proofs.KeyLaws.{differ, is_uid, key_test}

@@ -1,4 +1,4 @@
-use Rattle.vic_field.proofs.Words.{◌≡◌, suc, ◌+◌, ◌≤◌, ◌<◌, ℕ, List, Some, false, length, take, refl, sym, ap, ◌∙◌, subst, add-one, arith, slice_get, nat_le, nat_tests, slice_get_read, LogLine, MAX_LINES, entries, slots_opened, line_count, entries_next, last_needed}
+use Rattle.vic_field.proofs.Words.{◌≡◌, suc, ◌+◌, ◌≤◌, ℕ, List, Some, false, length, take, refl, sym, ap, ◌∙◌, subst, add-one, arith, slice_get, lt-leb, slice_get_read, LogLine, MAX_LINES, entries, slots_opened, line_count, entries_next, last_needed}
 use Rattle.vic_field.proofs.Follows.{line_count-front}
 use Rattle.vic_field.proofs.Listing.{entries_take}
 use Rattle.vic_field.proofs.Played.{line_count-next}
@@ -7,9 +7,6 @@ use Rattle.vic_field.proofs.session.fit_filled.Goals as goal
 -- the last number with one line more
 counted : (lines : List LogLine) (i : ℕ) (l : LogLine) → slice_get lines i ≡ Some l → line_count (entries (take (suc i) lines)) ≡ line_count (entries (take i lines)) + suc (slots_opened (Some l.item))
 counted lines i l at = ap line_count (entries_next lines i l at) ∙ line_count-next (entries (take i lines)) l.item
-
-above : (a b : ℕ) → b < a → false ≡ nat_le a b
-above a b h = grind (arith, nat_tests)
 
 pub returns-then-last-gt-MAX_LINES : goal.returns-then-last-gt-MAX_LINES
 returns-then-last-gt-MAX_LINES c =
@@ -22,8 +19,7 @@ returns-then-last-gt-MAX_LINES c =
     let last = c.loop-line.invariant.last in
     let many = c.if-last-gt-MAX_LINES.true in
     let front : line_count (entries (take (suc i) lines)) ≤ line_count (entries lines) = subst (λ es. line_count es ≤ line_count (entries lines)) (sym (entries_take lines (suc i))) (line_count-front (entries lines) (suc i)) in
-    let past : MAX_LINES < last_needed lines = omega arith in
-    above (last_needed lines) MAX_LINES past
+    sym (lt-leb (last_needed lines) MAX_LINES (omega arith))
 
 pub loop-line-preserved : goal.loop-line-preserved
 loop-line-preserved c =

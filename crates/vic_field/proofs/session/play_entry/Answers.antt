@@ -1,4 +1,4 @@
-use Rattle.vic_field.proofs.Words.{◌≡◌, suc, ◌++◌, [], ◌∷◌, Some, sym, ap, ◌∙◌, arith, slot_count, Entry, last_from, LogValue, entries, slots_opened, slot_lines_to, slot_lines, with_entries, on_ok_weaker}
+use Rattle.vic_field.proofs.Words.{◌≡◌, ◌++◌, [], ◌∷◌, Some, sym, ap, ◌∙◌, arith, slot_count, Entry, last_from, LogValue, entries, slots_opened, slot_lines_to, slot_lines, with_entries, on_ok_weaker}
 use Rattle.vic_field.proofs.Numbering.{entries-with, last_from-with, with-append}
 use Rattle.vic_field.proofs.session.play_entry.Goals as goal
 
@@ -10,13 +10,9 @@ push_slots-requires-clause-sent c = (
       ∙ ap (λ (e : Entry). entries c.args.filled.now.lines ++ e ∷ []) c.in-Sent.is,
 )
 
--- the last number with the entry
-last_is : (log now : LogValue) (e : Entry) → now ≡ with_entries log (e ∷ []) → last_from 1 now.lines ≡ suc (last_from 1 log.lines)
-last_is log now e h = ap (λ (v : LogValue). last_from 1 v.lines) h ∙ last_from-with log (e ∷ []) ∙ omega arith
-
 pub push_slots-requires-clause-room : goal.push_slots-requires-clause-room
 push_slots-requires-clause-room c =
-    let last = last_is c.args.filled.now c.push_next.new.filled c.args.item.now c.in_ok-push_next.ensures.added in
+    let last = ap (λ (v : LogValue). last_from 1 v.lines) c.in_ok-push_next.ensures.added ∙ last_from-with c.args.filled.now (c.args.item.now ∷ []) in
     let count : slots_opened (Some c.args.item.now) ≡ slot_count c.in-Sent.request = ap (λ (x : Entry). slots_opened (Some x)) c.in-Sent.is in
     let room = c.requires.room in
     omega arith

@@ -1,4 +1,4 @@
-use Rattle.vic_field.proofs.Words.{◌≡◌, ℕ, ◌+◌, ◌<◌, ◌++◌, [], ◌∷◌, List, Bool, sym, ap, ◌∙◌, subst, add-one, arith, Request, slot_count, mask_in, Entry, last_from, LogValue, entries, BitMask, slot_line, slot_lines_to, with_entries, heard, ready_in}
+use Rattle.vic_field.proofs.Words.{◌≡◌, ◌+◌, ◌<◌, ◌++◌, [], ◌∷◌, sym, ap, ◌∙◌, subst, add-one, arith, slot_count, mask_in, Entry, last_from, LogValue, entries, BitMask, slot_line, slot_lines_to, with_entries, heard, ready_in}
 use Rattle.vic_field.proofs.Numbering.{entries-with, last_from-with, with_none, with-append}
 use Rattle.vic_field.proofs.Rounds.{IsOpen, IsOpen-sent, IsOpen-slots, IsOpen-follows, slot_lines_to-length, slot_line-is_slot}
 use Rattle.vic_field.proofs.session.push_slots.Goals as goal
@@ -16,13 +16,10 @@ push_next-requires-clause-follows c =
     let more : c.loop-k.k < slot_count q = let e = c.slots-k-end.ensures in let b = c.loop-k-test.true in omega arith in
     rw (all, c.slot_line.ensures) (IsOpen-follows (entries c.args.filled.now.lines ++ slot_lines_to tags q c.loop-k.k) q c.loop-k.k (slot_line c.answer.result) (IsOpen-slots (entries c.args.filled.now.lines) q tags c.loop-k.k open_now) more (slot_line-is_slot c.answer.result))
 
--- the last number of the log so far
-last_is : (log now : LogValue) (tags : List (ℕ × Bool)) (q : Request) (k : ℕ) → now ≡ with_entries log (slot_lines_to tags q k) → last_from 1 now.lines ≡ last_from 1 log.lines + k
-last_is log now tags q k e = ap (λ (v : LogValue). last_from 1 v.lines) e ∙ last_from-with log (slot_lines_to tags q k) ∙ ap (λ n. last_from 1 log.lines + n) (slot_lines_to-length tags q k)
-
 pub push_next-requires-clause-room : goal.push_next-requires-clause-room
 push_next-requires-clause-room c =
-    let last = last_is c.args.filled.now c.loop-k.filled c.args.field.now c.args.request.now c.loop-k.k c.loop-k.invariant.filled in
+    let told = slot_lines_to-length c.args.field.now c.args.request.now c.loop-k.k in
+    let last = ap (λ (v : LogValue). last_from 1 v.lines) c.loop-k.invariant.filled ∙ last_from-with c.args.filled.now (slot_lines_to c.args.field.now c.args.request.now c.loop-k.k) in
     let more : c.loop-k.k < slot_count c.args.request.now = let e = c.slots-k-end.ensures in let b = c.loop-k-test.true in omega arith in
     let room = c.requires.room in
     omega arith

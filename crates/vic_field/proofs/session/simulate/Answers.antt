@@ -1,4 +1,4 @@
-use Rattle.vic_field.proofs.Words.{◌≡◌, ℕ, true, suc, ◌≤◌, ◌++◌, [], ◌∷◌, Some, length, take, refl, sym, ap, ◌∙◌, subst, arith, add-one, slice_get, nat_le, take_all, nat_tests, slice_get_read, Entry, MAX_LINES, entries, listed, IsPopulation, line_count, slot_lines, with_entries, entries_next, last_needed, IsSimulation}
+use Rattle.vic_field.proofs.Words.{◌≡◌, true, suc, ◌≤◌, ◌++◌, [], ◌∷◌, Some, length, take, refl, sym, ap, ◌∙◌, subst, arith, add-one, slice_get, take_all, leb-true, slice_get_read, Entry, MAX_LINES, entries, listed, IsPopulation, line_count, slot_lines, with_entries, entries_next, last_needed, IsSimulation}
 use Rattle.vic_field.proofs.Follows.{follows, listed_population, line_count-front}
 use Rattle.vic_field.proofs.Listing.{entries_take, entry_at, valid_entry}
 use Rattle.vic_field.proofs.Numbering.{entries-with, last_is, numbers_next}
@@ -54,9 +54,6 @@ loop-line-preserved c =
           (c.in_default.ensures i l c.loop-line-test.true at) (rw (sym c.item.ensures) c.in_ok-play_entry.ensures.population) (rw (sym c.item.ensures) c.in_ok-play_entry.ensures.tags) h.played);
     }
 
-fitting : (a b : ℕ) → nat_le a b ≡ true → a ≤ b
-fitting a b h = grind (arith, nat_tests)
-
 pub play_entry-requires-clause-room : goal.play_entry-requires-clause-room
 play_entry-requires-clause-room c =
     let lines = c.lines-lines.result.now in
@@ -67,7 +64,7 @@ play_entry-requires-clause-room c =
     let at : slice_get lines i ≡ Some l = slice_get_read lines (length lines) i l refl c.loop-line-test.true c.line-item.is in
     let counted = line_count-next (entries (take i lines)) l.item in
     let front : line_count (entries (take i lines) ++ l.item ∷ []) ≤ line_count (entries lines) = subst (λ es. line_count es ≤ line_count (entries lines)) (sym (entries_take lines (suc i)) ∙ entries_next lines i l at) (line_count-front (entries lines) (suc i)) in
-    let room : last_needed lines ≤ MAX_LINES = fitting (last_needed lines) MAX_LINES (sym c.fit_filled.ensures ∙ c.if-not-fit_filled.false) in
+    let room : last_needed lines ≤ MAX_LINES = leb-true (last_needed lines) MAX_LINES (sym c.fit_filled.ensures ∙ c.if-not-fit_filled.false) in
     rw c.item.ensures (omega arith)
 
 pub returns-clause-simulated : goal.returns-clause-simulated

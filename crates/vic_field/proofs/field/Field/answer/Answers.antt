@@ -1,7 +1,7 @@
 use Rattle.vic_field.proofs.Words.{ℕ, Bool, List, ◌∙◌, ap, subst, IsPopulation, uids, ready_in, heard}
 use Rattle.vic_field.specs.Rows.{entries}
 use Rattle.vic_field.proofs.Keys.{population_of}
-use Rattle.vic_field.proofs.RowLaws.{rising_entries, small_entries}
+use Rattle.vic_field.proofs.RowLaws.{keys_are}
 use Rattle.vic_field.proofs.field.Field.answer.Goals as goal
 
 pub returns-clause-heard : goal.returns-clause-heard
@@ -9,5 +9,5 @@ returns-clause-heard c = c.hear_mask.ensures ∙ ap (λ (ts : List (ℕ × Bool)
 
 pub returns-clause-population : goal.returns-clause-population
 returns-clause-population c =
-    let row = c.self.inside.row in
-    subst (λ (ts : List (ℕ × Bool)). IsPopulation (uids ts)) c.self.view_is (population_of (entries row) (small_entries row c.self.invariant) (rising_entries row c.self.invariant))
+    let keys = keys_are c.self.inside.row c.self.invariant in
+    subst (λ (ts : List (ℕ × Bool)). IsPopulation (uids ts)) c.self.view_is (population_of (entries c.self.inside.row) keys.small keys.rising)
