@@ -1,5 +1,5 @@
 -- Bits of words, and what they say of positions.
-use Rattle.vic_field.proofs.Words.{◌≡◌, ◌≢◌, ℕ, ◌+◌, ◌-◌, ◌*◌, ◌/◌, ◌%◌, ◌^◌, ◌<◌, ◌≤◌, Bool, true, false, List, length, get_or, set, replicate, refl, sym, ap, subst, ◌∙◌, ◌&&◌, ◌||◌, ◌⊎◌, arith, ⊎_elim, bit_or, w64, add-zero, nat_eq, nat_lt, eq-eqb, eqb-true, ne_eqb, get_or-set_same, get_or-set_other, shr-shr, nat_tests, both_ways, cases_lt, cases_eq, bit_at, trailing_ones, and_parts, or_cases, or_right, get_or_past, or_lt, shr_le, bit_at_above, bit_at_ones, bit_at-trailing_ones, bit_at_set_same, bit_at_set_other, same_from_bits_below, AreUpTo, IsFull, IsSound, NotesFull, blank, is_set, HasBitMore, HasBits, All-replicate}
+use Rattle.vic_field.proofs.Words.{◌≡◌, ◌≢◌, ℕ, ◌+◌, ◌-◌, ◌*◌, ◌/◌, ◌%◌, ◌^◌, ◌<◌, ◌≤◌, Bool, true, false, List, length, get_or, set, replicate, refl, sym, ap, subst, ◌∙◌, ◌&&◌, ◌||◌, ◌⊎◌, arith, ⊎_elim, bit_or, w64, add-zero, nat_eq, nat_lt, eq-eqb, eqb-true, ne_eqb, get_or-set_same, get_or-set_other, shr-shr, nat_tests, both_ways, cases_lt, cases_eq, bit_at, trailing_ones, and_parts, or_cases, or_right, get_or_past, or_lt, shr_le, bit_at_above, bit_at_ones, bit_at-trailing_ones, bit_at_set_same, bit_at_set_other, same_from_bits_below, AreUpTo, IsFull, IsSound, NotesFull, blank, is_set, HasBitMore, HasBits, All-replicate, length-replicate}
 use Rattle.vic_field.specs.declared.quiet.QuietPlaces.{QuietPlaces}
 use Rattle.vic_field.specs.declared.quiet.Word.{Word}
 
@@ -7,8 +7,8 @@ use Rattle.vic_field.specs.declared.quiet.Word.{Word}
 pub none_later : (t s k : ℕ) (ws : List Word) → AreUpTo t ws → t < s → is_set s ws k ≡ false
 none_later t s k ws up later = grind (arith, nat_tests, up (k / 64) blank, get_or_past ws (k / 64) blank)
 
-pub all_blank : (n : ℕ) (ws : List Word) → ws ≡ replicate n blank → AreUpTo 0 ws
-all_blank n ws e = subst (AreUpTo 0) (sym e) (All-replicate (λ (w : Word). w.stretch ≤ 0) n blank (omega arith))
+pub all_blank : (n : ℕ) (ws : List Word) → ws ≡ replicate n blank → AreUpTo 0 ws × (length ws ≡ n)
+all_blank n ws e = (subst (AreUpTo 0) (sym e) (All-replicate (λ (w : Word). w.stretch ≤ 0) n blank (omega arith)), ap length e ∙ length-replicate n blank)
 
 -- ---- ones of a number from a bit on
 

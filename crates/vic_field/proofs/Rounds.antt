@@ -35,12 +35,10 @@ slot_lines_to-all : (P : Entry → Type 0) → ((o : Told) → P (slot_line o)) 
 slot_lines_to-all P each tags q zero = All-nil P
 slot_lines_to-all P each tags q (suc n) = All-push P (slot_lines_to tags q n) _ (slot_lines_to-all P each tags q n) (each _)
 
-slot_lines-all : (P : Entry → Type 0) → ((o : Told) → P (slot_line o)) → (tags : List (ℕ × Bool)) (x : Entry) → All P (slot_lines tags x)
-slot_lines-all P each tags (Sent q) = slot_lines_to-all P each tags q (slot_count q)
-slot_lines-all P each tags x = All-nil P
-
 pub slot_lines-each : (P : Entry → Type 0) → ((o : Told) → P (slot_line o)) → (tags : List (ℕ × Bool)) (x : Entry) (i : ℕ) (e : Entry) → slice_get (slot_lines tags x) i ≡ Some e → P e
-slot_lines-each P each tags x i e h = subst P (get_or_from_slice_get (slot_lines tags x) i e e h) (slot_lines-all P each tags x i e (slice_get_within (slot_lines tags x) i e h))
+slot_lines-each P each tags (Sent q) i e h =
+    subst P (get_or_from_slice_get (slot_lines_to tags q (slot_count q)) i e e h) (slot_lines_to-all P each tags q (slot_count q) i e (slice_get_within (slot_lines_to tags q (slot_count q)) i e h))
+slot_lines-each P each tags x i e h = absurd cc
 
 pub slot_lines-length : (tags : List (ℕ × Bool)) (x : Entry) → length (slot_lines tags x) ≡ slots_opened (Some x)
 slot_lines-length tags (Sent q) = slot_lines_to-length tags q (slot_count q)

@@ -80,11 +80,10 @@ after_bits-shifts (suc k) r b h = after_bits-shifts k (step r (b % 2)) (b / 2) (
 -- a complete byte
 byte_step : (r b : ℕ) → b < 256 → after_bits r (bits_of 8 b) ≡ bit_xor (r / 256) (shifts 8 (bit_xor r b % 256))
 byte_step r b h =
+    let x : ℕ = bit_xor r b in
     let none : b / 256 ≡ 0 = omega arith in
-    after_bits-shifts 8 r b h
-    ∙ ap (shifts 8) (sym (parts_of 8 (bit_xor r b)))
-    ∙ shifts-xor 8 (bit_xor r b / 2 ^ 8 * 2 ^ 8) (bit_xor r b % 2 ^ 8)
-    ∙ ap (λ x. bit_xor x (shifts 8 (bit_xor r b % 256))) (shifts-high 8 (bit_xor r b / 2 ^ 8) ∙ xor_shr r b 8 ∙ ap (bit_xor (r / 256)) none ∙ xor_zero_r (r / 256))
+    after_bits-shifts 8 r b h ∙ ap (shifts 8) (sym (parts_of 8 x))
+    ∙ rw (shifts-xor 8 (x / 2 ^ 8 * 2 ^ 8) (x % 2 ^ 8), shifts-high 8 (x / 2 ^ 8), xor_shr r b 8, none, xor_zero_r (r / 256)) refl
 
 -- bits 0 are shifted in
 pub zero_steps : (k low : ℕ) → after_bits low (bits_of k 0) ≡ shifts k low
@@ -103,12 +102,8 @@ pub two_bytes_by_low : (r a b : ℕ) → a < 256 → b < 256 → bit_xor (after_
 two_bytes_by_low r a b ha hb =
     let low : ℕ = bit_xor r a % 256 in
     let high : ℕ = r / 256 in
-    let first : after_bits r (bits_of 8 a) ≡ bit_xor high (shifts 8 low) = byte_step r a ha in
-    ap (λ x. bit_xor x (after_bits (bit_xor high b) (bits_of 8 0))) (zero_steps 16 low ∙ shifts-add 8 8 low)
-    ∙ ap (bit_xor (shifts 8 (shifts 8 low))) (zero_steps 8 (bit_xor high b))
-    ∙ sym (shifts-xor 8 (shifts 8 low) (bit_xor high b))
-    ∙ ap (shifts 8) (sym (xor_assoc (shifts 8 low) high b) ∙ ap (λ x. bit_xor x b) (xor_comm (shifts 8 low) high ∙ sym first))
-    ∙ sym (after_bits-shifts 8 (after_bits r (bits_of 8 a)) b hb)
+    rw (zero_steps 16 low, shifts-add 8 8 low, zero_steps 8 (bit_xor high b), after_bits-shifts 8 (after_bits r (bits_of 8 a)) b hb, byte_step r a ha)
+    (sym (shifts-xor 8 (shifts 8 low) (bit_xor high b)) ∙ ap (shifts 8) (sym (xor_assoc (shifts 8 low) high b) ∙ ap (λ x. bit_xor x b) (xor_comm (shifts 8 low) high)))
 
 pub after_bits-append : (r : ℕ) (xs ys : List ℕ) → after_bits r (xs ++ ys) ≡ after_bits (after_bits r xs) ys
 unfolding after_bits

@@ -1,5 +1,5 @@
 -- Keys of 56 bits, in the order of low bits first, and the UIDs that they stand for.
-use Rattle.vic_frame.proofs.Words.{false, ◌==◌, ◌≡◌, ℕ, ◌^◌, ◌<◌, sym, ap, ◌∙◌, arith, nat_eq, Less, nat_cmp, is_eq, nat_tests, IsUid, mirror_bits, mirror, uid_of, ranked, IsKey}
+use Rattle.vic_frame.proofs.Words.{false, ◌==◌, ◌≡◌, ℕ, ◌^◌, ◌<◌, sym, ap, ◌∙◌, arith, nat_eq, Less, nat_cmp, is_eq, nat_tests, ne_eqb, IsUid, mirror_bits, mirror, uid_of, ranked, IsKey}
 use Rattle.vic_frame.proofs.MirrorLaws.{mirror_below, mirror_of_uid, uid_of_mirror, same_test}
 
 pub is_uid : (k : ℕ) → IsUid (uid_of k)
@@ -12,9 +12,7 @@ key_test u k h small = plain (mirror u) k ∙ same_test (mirror u) k u (uid_of k
 
 -- a key below another stands for another UID
 pub differ : (k j : ℕ) → IsKey k → IsKey j → nat_cmp k j ≡ Less → nat_eq (uid_of k) (uid_of j) ≡ false
-differ k j small low less = apart (uid_of k) (uid_of j) (λ e.
+differ k j small low less =
     let below : k < j = ranked k j Less (sym less) in
-    let same : k ≡ j = sym (mirror_of_uid k small) ∙ ap mirror e ∙ mirror_of_uid j low in
-    omega arith) where
-      apart : (a b : ℕ) → (a ≡ b → ⊥) → nat_eq a b ≡ false
-      apart a b other = grind (arith, nat_tests)
+    let same = λ (e : uid_of k ≡ uid_of j). sym (mirror_of_uid k small) ∙ ap mirror e ∙ mirror_of_uid j low in
+    ne_eqb (uid_of k) (uid_of j) (λ e. omega (arith, same e))

@@ -87,15 +87,15 @@ span_test a b t r x y h e f = plain (a * t) (b * t) (λ s. ap (λ (z : ℕ). z *
   plain p q same less more e f = grind (arith, nat_tests)
 
 -- a number of l bits, turned round
-first_of : (l h v : ℕ) → 56 ≡ l + h → v < 2 ^ l → mirror v ≡ mirror_bits l v * 2 ^ h
-first_of l h v e below = mirror_split l h 56 v e ∙ ap (λ (x : ℕ). mirror_bits l v * 2 ^ h + x) (ap (mirror_bits h) (div-eq_of_lt below) ∙ mirror_none h) ∙ add-zero (mirror_bits l v * 2 ^ h)
+pub first_of : (l h m v : ℕ) → m ≡ l + h → v < 2 ^ l → mirror_bits m v ≡ mirror_bits l v * 2 ^ h
+first_of l h m v e below = mirror_split l h m v e ∙ ap (λ (x : ℕ). mirror_bits l v * 2 ^ h + x) (ap (mirror_bits h) (div-eq_of_lt below) ∙ mirror_none h) ∙ add-zero (mirror_bits l v * 2 ^ h)
 
 pub in_span : (l h v u : ℕ) → 56 ≡ l + h → v < 2 ^ l → (u % 2 ^ l == v) ≡ (nat_le (mirror v) (mirror u) && nat_le (mirror u) (mirror v + (2 ^ h - 1)))
 in_span l h v u e below =
     let there = λ (s : u % 2 ^ l ≡ v). sym (mirror_mod l u) ∙ ap (mirror_bits l) s in
     let back = λ (s : mirror_bits l u ≡ mirror_bits l v). sym (mirror_twice l u) ∙ ap (mirror_bits l) s ∙ mirror_twice l v ∙ mod-eq_of_lt below in
     same_test (u % 2 ^ l) v (mirror_bits l u) (mirror_bits l v) there back
-    ∙ span_test (mirror_bits l u) (mirror_bits l v) (2 ^ h) (mirror_bits h (u / 2 ^ l)) (mirror u) (mirror v) (mirror_below h (u / 2 ^ l)) (mirror_split l h 56 u e) (first_of l h v e below)
+    ∙ span_test (mirror_bits l u) (mirror_bits l v) (2 ^ h) (mirror_bits h (u / 2 ^ l)) (mirror u) (mirror v) (mirror_below h (u / 2 ^ l)) (mirror_split l h 56 u e) (first_of l h 56 v e below)
 
 -- ---- blocks of keys
 
@@ -113,7 +113,7 @@ first_is_block m is_mask short =
     let h : ℕ = 56 - m.len in
     let n : ℕ = mirror_bits m.len m.value in
     let whole : 56 ≡ m.len + h = omega arith in
-    let first : mirror m.value ≡ n * 2 ^ h = first_of m.len h m.value whole is_mask.1 in
+    let first : mirror m.value ≡ n * 2 ^ h = first_of m.len h 56 m.value whole is_mask.1 in
     let below : n < 2 ^ m.len = mirror_below m.len m.value in
     let ends : suc n * 2 ^ h ≤ 2 ^ m.len * 2 ^ h = mul-le-mul_right (2 ^ h) below in
     let all : 2 ^ 56 ≡ 2 ^ m.len * 2 ^ h = ap (λ (x : ℕ). 2 ^ x) whole ∙ pow-add 2 m.len h in
@@ -129,12 +129,6 @@ block_of m first len is_mask short at_first same = rw (at_first, same) (first_is
 
 -- ---- the keys of slots
 
--- the four bits of a slot's number
-pub four_bits : (h k : ℕ) → 4 ≤ h → k ≤ 15 → mirror_bits h k ≡ mirror_bits 4 k * 2 ^ (h - 4)
-four_bits h k e few = rw add-zero at (mirror_split 4 (h - 4) h k (omega arith) ∙ ap (λ (x : ℕ). mirror_bits 4 k * 2 ^ (h - 4) + x) (above (k / 2 ^ 4) (omega arith))) where
-  above : (n : ℕ) → n ≡ 0 → mirror_bits (h - 4) n ≡ 0
-  above n none = ap (mirror_bits (h - 4)) none ∙ mirror_none (h - 4)
-
 -- what stands above l bits is turned round behind them
 pub mirror_of_slot : (l v k : ℕ) → l + 4 ≤ 56 → v < 2 ^ l → k ≤ 15 → mirror (v + k * 2 ^ l) ≡ mirror v + mirror_bits 4 k * 2 ^ (56 - (l + 4))
 mirror_of_slot l v k short below few =
@@ -143,12 +137,11 @@ mirror_of_slot l v k short below few =
     let n : ℕ = k * 2 ^ l + v in
     let swap : v + k * 2 ^ l ≡ n = omega arith in
     let low : mirror_bits l n ≡ mirror_bits l v = sym (mirror_mod l n) ∙ ap (mirror_bits l) (mod_low k l v below) in
-    let rest : 56 - l - 4 ≡ 56 - (l + 4) = omega arith in
     ap mirror swap
     ∙ mirror_split l h 56 n whole
     ∙ ap (λ (x : ℕ). x * 2 ^ h + mirror_bits h (n / 2 ^ l)) low
     ∙ ap (λ (x : ℕ). mirror_bits l v * 2 ^ h + mirror_bits h x) (shr_high k l v below)
-    ∙ cc (first_of l h v whole below, four_bits h k (omega arith) few, rest)
+    ∙ cc (first_of l h 56 v whole below, first_of 4 (56 - (l + 4)) h k (omega arith) (omega arith))
 
 pub slot_is_mask : (m : BitMask) (k : ℕ) → IsMask m → m.len + 4 ≤ 56 → k ≤ 15 → IsMask (slot_of_sixteen m k)
 slot_is_mask m k is_mask short few =

@@ -1,5 +1,5 @@
 -- The register of a frame with its CRC.
-use Rattle.vic_frame.proofs.Words.{◌≡◌, ℕ, zero, suc, ◌+◌, ◌-◌, ◌*◌, ◌/◌, ◌^◌, ◌%◌, ◌<◌, ◌≤◌, ◌↔◌, ◌==◌, nat_le, true, List, [], ◌∷◌, ◌++◌, length, take, drop, refl, sym, ap, ◌∙◌, arith, bit_xor, bit_and, xor_comm, xor_lt, and_mask, and_parts, and_from, AreBytes, number_of, bits, bits_of, register, crc, crc_right, le-leb, eqb-true, eq-eqb, length-drop, take-append-drop}
+use Rattle.vic_frame.proofs.Words.{◌≡◌, ℕ, zero, suc, ◌-◌, ◌*◌, ◌/◌, ◌^◌, ◌%◌, ◌<◌, ◌≤◌, ◌↔◌, ◌==◌, nat_le, true, List, [], ◌∷◌, ◌++◌, length, take, drop, refl, sym, ap, ◌∙◌, arith, bit_xor, bit_and, xor_comm, xor_lt, and_mask, and_parts, and_from, AreBytes, number_of, bits, bits_of, register, crc, crc_right, le-leb, eqb-true, eq-eqb, length-drop, take-append-drop}
 use lib.Bits.{xor_assoc, xor_self, xor_zero_r, xor_add_and, xor_shifted}
 use Rattle.std.proofs.lemmas.List.Concat.{flat_map-append}
 use Rattle.vic_frame.specs.Crc.{after_bits, step}

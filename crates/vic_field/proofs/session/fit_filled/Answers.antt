@@ -1,4 +1,4 @@
-use Rattle.vic_field.proofs.Words.{◌≡◌, suc, ◌+◌, ◌≤◌, ℕ, List, Some, false, length, take, refl, sym, ap, ◌∙◌, subst, add-one, arith, slice_get, lt-leb, slice_get_read, LogLine, MAX_LINES, entries, slots_opened, line_count, entries_next, last_needed}
+use Rattle.vic_field.proofs.Words.{◌≡◌, suc, ◌+◌, ◌≤◌, ℕ, List, Some, length, take, refl, sym, ap, ◌∙◌, subst, add-one, arith, slice_get, lt-leb, slice_get_read, LogLine, MAX_LINES, entries, slots_opened, line_count, entries_next, last_needed}
 use Rattle.vic_field.proofs.Follows.{line_count-front}
 use Rattle.vic_field.proofs.Listing.{entries_take}
 use Rattle.vic_field.proofs.Played.{line_count-next}

@@ -1,4 +1,4 @@
-use Rattle.vic_field.proofs.Words.{◌≡◌, ◌+◌, ◌<◌, ◌++◌, [], ◌∷◌, sym, ap, ◌∙◌, subst, add-one, arith, slot_count, mask_in, Entry, last_from, LogValue, entries, BitMask, slot_line, slot_lines_to, with_entries, heard, ready_in}
+use Rattle.vic_field.proofs.Words.{◌≡◌, ◌<◌, ◌++◌, [], ◌∷◌, sym, ap, ◌∙◌, subst, add-one, arith, slot_count, mask_in, Entry, last_from, LogValue, entries, BitMask, slot_line, slot_lines_to, with_entries, heard, ready_in}
 use Rattle.vic_field.proofs.Numbering.{entries-with, last_from-with, with_none, with-append}
 use Rattle.vic_field.proofs.Rounds.{IsOpen, IsOpen-sent, IsOpen-slots, IsOpen-follows, slot_lines_to-length, slot_line-is_slot}
 use Rattle.vic_field.proofs.session.push_slots.Goals as goal

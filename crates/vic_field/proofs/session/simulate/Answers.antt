@@ -1,4 +1,4 @@
-use Rattle.vic_field.proofs.Words.{◌≡◌, true, suc, ◌≤◌, ◌++◌, [], ◌∷◌, Some, length, take, refl, sym, ap, ◌∙◌, subst, arith, add-one, slice_get, take_all, leb-true, slice_get_read, Entry, MAX_LINES, entries, listed, IsPopulation, line_count, slot_lines, with_entries, entries_next, last_needed, IsSimulation}
+use Rattle.vic_field.proofs.Words.{◌≡◌, suc, ◌≤◌, ◌++◌, [], ◌∷◌, Some, length, take, refl, sym, ap, ◌∙◌, subst, arith, add-one, slice_get, take_all, leb-true, slice_get_read, Entry, MAX_LINES, entries, listed, IsPopulation, line_count, slot_lines, with_entries, entries_next, last_needed, IsSimulation}
 use Rattle.vic_field.proofs.Follows.{follows, listed_population, line_count-front}
 use Rattle.vic_field.proofs.Listing.{entries_take, entry_at, valid_entry}
 use Rattle.vic_field.proofs.Numbering.{entries-with, last_is, numbers_next}

@@ -1,11 +1,11 @@
-use Rattle.vic_frame.proofs.Words.{ℕ, ◌≡◌, ◌+◌, ◌-◌, ◌*◌, ◌/◌, ◌^◌, ◌%◌, ◌<◌, ◌≤◌, ap, arith, BitMask, IsMask, lies_in, IsBlock, mirror, mirror_bits, slot_of_sixteen, is_in_block}
-use Rattle.vic_frame.proofs.MirrorLaws.{block_of, four_bits, mirror_below, mirror_of_slot, slot_is_mask}
+use Rattle.vic_frame.proofs.Words.{ℕ, ◌≡◌, ◌+◌, ◌-◌, ◌*◌, ◌/◌, ◌^◌, ◌%◌, ◌<◌, ◌≤◌, refl, ap, arith, BitMask, IsMask, lies_in, IsBlock, mirror, mirror_bits, slot_of_sixteen, is_in_block}
+use Rattle.vic_frame.proofs.MirrorLaws.{block_of, first_of, mirror_below, mirror_of_slot, slot_is_mask}
 use Rattle.vic_frame.proofs.low_bits_first.keys_of_slot.Goals as goal
 
 first_of_slot : (first four t l len v k : ℕ) → l + 4 ≤ 56 → len ≡ l → v < 2 ^ l → k ≤ 15 → first ≡ mirror v → four ≡ t / 16 → t ≡ mirror_bits 8 k → first + four * 2 ^ (56 - (len + 4)) % 2 ^ 64 ≡ mirror (v + k * 2 ^ l)
 first_of_slot first four t l len v k short same below few at_first is byte =
     let slot = mirror_of_slot l v k short below few in
-    let four_is : four ≡ mirror_bits 4 k = omega (arith, is, byte, four_bits 8 k (omega arith) few) in
+    let four_is : four ≡ mirror_bits 4 k = omega (arith, is, byte, first_of 4 4 8 k refl (omega arith)) in
     let small : mirror_bits 56 (v + k * 2 ^ l) < 2 ^ 56 = mirror_below 56 (v + k * 2 ^ l) in
     rw (same, at_first, four_is) (omega (arith, slot, small))
 
