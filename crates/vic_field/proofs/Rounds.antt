@@ -30,15 +30,15 @@ pub slot_lines_to-length : (tags : List (ℕ × Bool)) (q : Request) (n : ℕ) �
 slot_lines_to-length tags q zero = refl
 slot_lines_to-length tags q (suc n) = next_length (slot_lines_to tags q n) (slot_line (heard (ready_in (mask_in q n) tags))) ∙ ap suc (slot_lines_to-length tags q n)
 
--- what holds of the line of any outcome holds of the lines of slots
-slot_lines_to-all : (P : Entry → Type 0) → ((o : Told) → P (slot_line o)) → (tags : List (ℕ × Bool)) (q : Request) (n : ℕ) → All P (slot_lines_to tags q n)
-slot_lines_to-all P each tags q zero = All-nil P
-slot_lines_to-all P each tags q (suc n) = All-push P (slot_lines_to tags q n) _ (slot_lines_to-all P each tags q n) (each _)
+slot_lines_to-slots : (tags : List (ℕ × Bool)) (q : Request) (n : ℕ) → All (λ e. is_slot e ≡ true) (slot_lines_to tags q n)
+slot_lines_to-slots tags q zero = All-nil (λ e. is_slot e ≡ true)
+slot_lines_to-slots tags q (suc n) = All-push (λ e. is_slot e ≡ true) (slot_lines_to tags q n) _ (slot_lines_to-slots tags q n) (slot_line-is_slot (heard (ready_in (mask_in q n) tags)))
 
-pub slot_lines-each : (P : Entry → Type 0) → ((o : Told) → P (slot_line o)) → (tags : List (ℕ × Bool)) (x : Entry) (i : ℕ) (e : Entry) → slice_get (slot_lines tags x) i ≡ Some e → P e
-slot_lines-each P each tags (Sent q) i e h =
-    subst P (get_or_from_slice_get (slot_lines_to tags q (slot_count q)) i e e h) (slot_lines_to-all P each tags q (slot_count q) i e (slice_get_within (slot_lines_to tags q (slot_count q)) i e h))
-slot_lines-each P each tags x i e h = absurd cc
+pub slot_lines-slots : (tags : List (ℕ × Bool)) (x : Entry) (i : ℕ) (e : Entry) → slice_get (slot_lines tags x) i ≡ Some e → is_slot e ≡ true
+slot_lines-slots tags (Sent q) i e h =
+    let all = slot_lines_to-slots tags q (slot_count q) i e (slice_get_within (slot_lines_to tags q (slot_count q)) i e h) in
+    subst (λ x. is_slot x ≡ true) (get_or_from_slice_get (slot_lines_to tags q (slot_count q)) i e e h) all
+slot_lines-slots tags x i e h = absurd cc
 
 pub slot_lines-length : (tags : List (ℕ × Bool)) (x : Entry) → length (slot_lines tags x) ≡ slots_opened (Some x)
 slot_lines-length tags (Sent q) = slot_lines_to-length tags q (slot_count q)
@@ -104,7 +104,3 @@ IsOpen-follows es q k e o h s =
 -- which tags are Quiet behind one entry more
 pub quiet-next : (es : List Entry) (e : Entry) (u : ℕ) → is_quiet (es ++ e ∷ []) (length (es ++ e ∷ [])) u ≡ (silences (Some e) u || (not (wakes (Some e)) && is_quiet es (length es) u))
 quiet-next es e u = rw (next_length es e, slice_get_last es e, ← (quiet_agrees (length es) es (es ++ e ∷ []) u (agree_append es (e ∷ [])))) refl
-
--- a slot line changes none
-pub quiet-slot : (es : List Entry) (e : Entry) (u : ℕ) → is_slot e ≡ true → is_quiet (es ++ e ∷ []) (length (es ++ e ∷ [])) u ≡ is_quiet es (length es) u
-quiet-slot es e u h = rw quiet-next (grind arith)

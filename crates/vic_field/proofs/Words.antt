@@ -31,7 +31,7 @@ pub use Rattle.vic_frame.specs.Slots.{mask_in, slot_count}
 pub use Rattle.vic_frame.specs.Uids.{AreDifferent, IsUid, has}
 pub use Rattle.vic_frame.specs.declared.request.Request.{Request}
 pub use Rattle.vic_log.proofs.Order.{still_there}
-pub use Rattle.vic_log.proofs.Places.{CouldHaveGiven-push, agree_append, opener_agrees, quiet_agrees, slice_get_last}
+pub use Rattle.vic_log.proofs.Places.{CouldHaveGiven-push, agree_append, last_or, opener_agrees, quiet_agrees, slice_get_last}
 pub use Rattle.vic_log.proofs.Push.{entries-numbered, entries_next, listed-append}
 pub use Rattle.vic_log.proofs.Sets.{AreDifferent-filter, AreDifferent-population, IsUid-member, IsWithin, filter_has, has_at, has_cases, has_filter, has_here, has_there}
 pub use Rattle.vic_log.specs.Log.{AreTyped, IsValidEntry, LogValue, last_from}

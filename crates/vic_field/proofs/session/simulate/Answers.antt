@@ -73,11 +73,5 @@ returns-clause-simulated c =
     let i = c.loop-line.line-index in
     let all : take i lines ≡ lines = take_all i lines (omega arith) in
     let played = subst (λ ls. IsPlayed (listed (entries lines)) (entries ls) (entries c.loop-line.filled.lines) c.loop-line.field) all c.loop-line.invariant.played in
-    subst (λ ls. IsSimulation ls c.loop-line.filled.lines) c.lines-lines.ensures.value record {
-      kept = played.kept;
-      slots = played.slots;
-      population = listed_population (entries lines) c.lines-lines.ensures.log.order c.lines-lines.ensures.log.typed;
-      outcomes = played.outcomes;
-      plain = played.plain;
-      numbers = c.loop-line.invariant.numbers;
-    }
+    let population = listed_population (entries lines) c.lines-lines.ensures.log.order c.lines-lines.ensures.log.typed in
+    subst (λ ls. IsSimulation ls c.loop-line.filled.lines) c.lines-lines.ensures.value (assumption (played, population, c.loop-line.invariant.numbers))

@@ -4,11 +4,8 @@ use Rattle.vic_field.proofs.quiet.QuietPlaces.with_gap.Goals as goal
 use Rattle.vic_field.proofs.quiet.QuietPlaces.with_gap.Goals.{then-run_from-gt0, then-place-gap, else-place-gap, else-run_from-gt0}
 
 pub loop-next-init : goal.loop-next-init
-loop-next-init c = record {
-  sound = c.in_ok-moved.ensures.sound;
-  room = c.in_ok-moved.ensures.room;
-  gapped = none_gapped c.args.gap (is_quiet_place c.args.self.now) (is_quiet_place c.in_ok-moved.moved) c.in_ok-moved.ensures.none;
-}
+loop-next-init c =
+    assumption (c.in_ok-moved.ensures.sound, c.in_ok-moved.ensures.room, none_gapped c.args.gap (is_quiet_place c.args.self.now) (is_quiet_place c.in_ok-moved.moved) c.in_ok-moved.ensures.none)
 
 pub loop-next-preserved : goal.loop-next-preserved
 loop-next-preserved c =
@@ -31,11 +28,8 @@ loop-next-preserved c =
           })
       | else-run_from-gt0 w ↦
           let none = w.if-run_from-gt0.false in
-          rw w.moved-is (record {
-            sound = i.sound;
-            room = i.room;
-            gapped = gapped_ready c.args.gap c.loop-next.next (is_quiet_place old) (is_quiet_place c.loop-next.moved) (λ k here. let same : c.loop-next.next - 1 ≡ k = omega (arith, here) in subst (λ n. is_quiet_place old n ≡ false) same (c.run_from.ensures.ready (omega (arith, none)))) i.gapped;
-          })
+          let gapped = gapped_ready c.args.gap c.loop-next.next (is_quiet_place old) (is_quiet_place c.loop-next.moved) (λ k here. let same : c.loop-next.next - 1 ≡ k = omega (arith, here) in subst (λ n. is_quiet_place old n ≡ false) same (c.run_from.ensures.ready (omega (arith, none)))) i.gapped in
+          rw w.moved-is (record { sound = i.sound; room = i.room; gapped = gapped })
     ]
 
 pub returns-clause-moved : goal.returns-clause-moved
