@@ -12,12 +12,6 @@ unfoldable pub shifts : ℕ → ℕ → ℕ
 shifts zero r = r
 shifts (suc k) r = shifts k (shift r)
 
-xor_half : (a b : ℕ) → bit_xor a b / 2 ≡ bit_xor (a / 2) (b / 2)
-xor_half a b = xor_shr a b 1
-
-xor_low : (a b : ℕ) → bit_xor a b % 2 ≡ bit_xor (a % 2) (b % 2)
-xor_low a b = xor_mod a b 1
-
 -- the second and the third change places
 swap_last : (a b c : ℕ) → bit_xor (bit_xor a b) c ≡ bit_xor (bit_xor a c) b
 swap_last a b c = xor_assoc a b c ∙ ap (bit_xor a) (xor_comm b c) ∙ sym (xor_assoc a c b)
@@ -33,7 +27,7 @@ times_xor p q hp hq = refl
 
 pub shift-xor : (a b : ℕ) → shift (bit_xor a b) ≡ bit_xor (shift a) (shift b)
 shift-xor a b =
-    rw (xor_half a b, xor_low a b, times_xor (a % 2) (b % 2) (mod_below a 2 (omega arith)) (mod_below b 2 (omega arith)))
+    rw (xor_shr a b 1, xor_mod a b 1, times_xor (a % 2) (b % 2) (mod_below a 2 (omega arith)) (mod_below b 2 (omega arith)))
     (swap_xor (a / 2) (b / 2) (a % 2 * 0x8408) (b % 2 * 0x8408))
 
 pub shifts-xor : (k a b : ℕ) → shifts k (bit_xor a b) ≡ bit_xor (shifts k a) (shifts k b)
@@ -66,7 +60,7 @@ unfolding step
 step-shift r b =
     let fed : ℕ = bit_xor (b % 2) (r % 2) in
     ap (λ x. bit_xor x (b / 2)) (chosen fed (r / 2) (xor_lt 1 (b % 2) (r % 2) (mod_below b 2 (omega arith)) (mod_below r 2 (omega arith))))
-    ∙ rw (xor_half r b, xor_low r b, xor_comm (r % 2) (b % 2)) (swap_last (r / 2) (fed * 0x8408) (b / 2))
+    ∙ rw (xor_shr r b 1, xor_mod r b 1, xor_comm (r % 2) (b % 2)) (swap_last (r / 2) (fed * 0x8408) (b / 2))
 
 -- the low bits beside the others
 parts_of : (k b : ℕ) → bit_xor (b / 2 ^ k * 2 ^ k) (b % 2 ^ k) ≡ b
