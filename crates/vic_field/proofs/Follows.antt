@@ -1,5 +1,5 @@
 -- What entries in order leave for the next entry, and which UIDs they list.
-use Rattle.vic_field.proofs.Words.{◌≡◌, ℕ, zero, suc, ◌<◌, ◌≤◌, Bool, true, false, not, List, [], ◌∷◌, take, Some, None, refl, sym, ap, ◌∙◌, arith, ⊎_elim, ◌≢◌, slice_get, if◌then◌else◌, false≢true, IsUid, has, Entry, Sent, Listed, FieldCycle, listed, IsPopulation, is_slot, line_count, false_from_ne_true, EntryAfterList, DuplicateListed, IsInOrder, is_empty, refusal, AreTyped, has_here, has_there, has_cases, without_slots, still_there, slice_get_within, drop, length-take, take-append-drop}
+use Rattle.vic_field.proofs.Words.{◌≡◌, ℕ, zero, suc, ◌<◌, ◌≤◌, true, false, List, [], ◌∷◌, take, Some, None, refl, sym, ap, ◌∙◌, arith, ⊎_elim, ◌≢◌, slice_get, false≢true, IsUid, has, Entry, Sent, Listed, FieldCycle, listed, IsPopulation, is_slot, line_count, false_from_ne_true, IsInOrder, is_empty, refusal, AreTyped, has_here, has_there, has_cases, without_slots, still_there, slice_get_within, drop, length-take, take-append-drop}
 
 -- ---- which UIDs entries list
 
@@ -51,14 +51,11 @@ none_listed (u ∷ us) h = absurd (h u (has_here u us))
 -- what follows in the order of a log follows in the filled one
 pub follows : (given es : List Entry) (i : ℕ) (e : Entry) → IsInOrder given → slice_get given i ≡ Some e → is_slot e ≡ false → without_slots es ≡ take i given → refusal es e ≡ None
 follows given es i (Sent q) o at s kept =
-    let none : is_empty (listed es) ≡ true = none_listed (listed es) (λ u h. let w = listed_before given es i u kept h in o.requests_first w.0 i u q w.1 w.2 at) in
-    ap (λ (b : Bool). if not b then Some EntryAfterList else None) none
+    rw (none_listed (listed es) (λ u h. let w = listed_before given es i u kept h in o.requests_first w.0 i u q w.1 w.2 at)) refl
 follows given es i FieldCycle o at s kept =
-    let none : is_empty (listed es) ≡ true = none_listed (listed es) (λ u h. let w = listed_before given es i u kept h in o.cycles_first w.0 i u w.1 w.2 at) in
-    ap (λ (b : Bool). if not b then Some EntryAfterList else None) none
+    rw (none_listed (listed es) (λ u h. let w = listed_before given es i u kept h in o.cycles_first w.0 i u w.1 w.2 at)) refl
 follows given es i (Listed v) o at s kept =
-    let fresh : has (listed es) v ≡ false = false_from_ne_true _ (λ h. let w = listed_before given es i v kept h in o.once w.0 i v v w.1 w.2 at refl) in
-    ap (λ (b : Bool). if b then Some DuplicateListed else None) fresh
+    rw (false_from_ne_true _ (λ h. let w = listed_before given es i v kept h in o.once w.0 i v v w.1 w.2 at refl)) refl
 follows given es i e o at s kept = absurd (cc)
 
 -- ---- how many lines

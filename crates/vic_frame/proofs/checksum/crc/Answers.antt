@@ -1,4 +1,4 @@
-use Rattle.vic_frame.proofs.Words.{◌≡◌, ◌+◌, ◌-◌, ◌*◌, ◌∙◌, length, slice_index, ap, sym, drop, arith, bits, bits_of, after_bits, register}
+use Rattle.vic_frame.proofs.Words.{◌≡◌, ◌+◌, ◌-◌, ◌*◌, ◌∙◌, length, slice_index, ap, sym, arith, bits_of, after_bits, register}
 use Rattle.vic_frame.proofs.CrcLaws.{after-next, after-end}
 use Rattle.vic_frame.proofs.checksum.crc.Goals as goal
 use Rattle.vic_frame.proofs.checksum.crc.Goals.{then-bytes-eq1, else-bytes-eq1}
@@ -9,12 +9,8 @@ loop-i-preserved c =
     let r = c.loop-i.register in
     let i = c.loop-i.i in
     let one = after_bits r (bits_of 8 (slice_index xs (2 * i))) in
-    let two = after_bits one (bits_of 8 (slice_index xs (2 * i + 1))) in
     let place : 2 * (i + 1) ≡ 2 * i + 1 + 1 = omega arith in
-    ap (λ s. after_bits s (bits (drop (2 * (i + 1)) xs))) c.after_two_bytes-register.ensures
-    ∙ ap (λ k. after_bits two (bits (drop k xs))) place
-    ∙ sym (after-next r xs (2 * i) (omega arith) ∙ after-next one xs (2 * i + 1) (omega arith))
-    ∙ c.loop-i.invariant
+    rw (c.after_two_bytes-register.ensures, place, ← (after-next one xs (2 * i + 1) (omega arith)), ← (after-next r xs (2 * i) (omega arith))) c.loop-i.invariant
 
 pub returns : goal.returns
 returns c =
