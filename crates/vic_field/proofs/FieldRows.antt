@@ -15,9 +15,8 @@ at_front u v key es e = ap (λ (w : ℕ). cond (u == w) (Some true) (readiness (
 
 pub more_readiness : (u v key : ℕ) (es : List (ℕ × Bool)) (i : ℕ) → uid_of key ≡ v → has (uids (tags_of es)) v ≡ false
     → readiness (tags_of (insert es i (key, true))) u ≡ cond (u == v) (Some true) (readiness (tags_of es) u)
-more_readiness u v key [] zero e fresh = at_front u v key [] e
+more_readiness u v key es zero e fresh = at_front u v key es e
 more_readiness u v key [] (suc i) e fresh = at_front u v key [] e
-more_readiness u v key (x ∷ es) zero e fresh = at_front u v key (x ∷ es) e
 more_readiness u v key (x ∷ es) (suc i) e fresh =
     let parts = or_parts (nat_eq v (uid_of x.0)) (has (uids (tags_of es)) v) fresh in
     grind (arith, nat_tests, parts.0, more_readiness u v key es i e parts.1)

@@ -44,7 +44,6 @@ pub use Rattle.vic_log.specs.declared.entry.Entry.{Entry}
 pub use Rattle.vic_log.specs.declared.entry.Entry.TheVariants.{FieldCycle, Listed, Sent}
 pub use Rattle.vic_log.specs.declared.entry.LogLine.{LogLine}
 pub use Rattle.vic_log.specs.declared.entry.TheConstants.{MAX_LINES}
-pub use Rattle.vic_log.specs.declared.fault.PushFault.TheVariants.{DuplicateListed, EntryAfterList}
 pub use Rattle.vic_field.specs.Keys.{AreKeys, AreKeysOf, ready_between, tags_of, uids_at}
 pub use Rattle.vic_field.specs.Places.{AreUpTo, HasRoomFor, IsFull, IsSound, NotesFull, blank, is_quiet_place, is_set}
 pub use Rattle.vic_field.specs.Rows.{IsRow, entry_at}

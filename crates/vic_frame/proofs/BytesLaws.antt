@@ -1,5 +1,5 @@
 -- Numbers and their bytes, and tables by a byte.
-use Rattle.vic_frame.proofs.Words.{get_or-take, ◌≡◌, ℕ, zero, suc, ◌+◌, ◌*◌, ◌/◌, ◌^◌, ◌%◌, ◌<◌, ◌≤◌, List, [], ◌∷◌, ◌++◌, length, get_or, map, take, drop, refl, sym, ap, ◌∙◌, arith, append_assoc, append-nil, get_or-drop, length-take, pow-add, pow-le-pow_right, number_of, AreBytes, get_or_past, get_or-map-range_with_len, range_with_len, mul-le}
+use Rattle.vic_frame.proofs.Words.{get_or-take, ◌≡◌, ℕ, zero, suc, ◌+◌, ◌*◌, ◌/◌, ◌^◌, ◌%◌, ◌<◌, ◌≤◌, List, [], ◌∷◌, ◌++◌, length, get_or, map, take, drop, refl, sym, ap, ◌∙◌, arith, append_assoc, append-nil, get_or-drop, length-take, pow-add, pow-le-pow_right, number_of, AreBytes, get_or_past, get_or-map-range_with_len, range_with_len}
 use Rattle.vic_frame.specs.Bytes.{bytes_of}
 
 pub length_bytes_of : (count n : ℕ) → length (bytes_of count n) ≡ count
@@ -64,10 +64,6 @@ pow_bytes (suc k) =
 pub holds_bits : (bits n : ℕ) → n < 2 ^ bits → n < 256 ^ ((bits + 7) / 8)
 holds_bits bits n h =
     omega (arith, pow-le-pow_right {n = 2} (omega arith) {i = bits} {j = 8 * ((bits + 7) / 8)} (omega arith), pow_bytes ((bits + 7) / 8))
-
--- four bits above others
-pub sixteen_times : (k p : ℕ) → k ≤ 15 → k * p + p ≤ 16 * p
-sixteen_times k p h = let most = mul-le k p 15 p h (omega arith) in omega (arith, most)
 
 -- an entry of a table of a function's values
 pub table_to : (f : ℕ → ℕ) (n i : ℕ) → i < n → get_or (map f (range_with_len 0 n)) i 0 ≡ f i

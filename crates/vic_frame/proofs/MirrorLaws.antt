@@ -1,6 +1,5 @@
 -- Laws of the mirrored bits.
 use Rattle.vic_frame.proofs.Words.{add-zero, ◌&&◌, ◌==◌, ◌≡◌, ℕ, ◌+◌, ◌-◌, ◌*◌, ◌/◌, ◌^◌, ◌%◌, ◌<◌, ◌≤◌, refl, sym, ap, ◌∙◌, arith, zero, suc, add-one, nat_le, pow-add, shr-shr, pow_pos, div-one, mod-eq_of_lt, mul-le-mul_right, nat_tests, pow-le-pow_right, IsUid, BitMask, IsMask, IsBlock, mirror, uid_of, mod-pow-add, field_of, shr_high, mod_low, mod-one, div-eq_of_lt, mul-mod_left, slot_of_sixteen, IsKey, mul-le, lies_in, is_in_block}
-use Rattle.vic_frame.proofs.BytesLaws.{sixteen_times}
 use Rattle.vic_frame.proofs.MaskLaws.{mod_mod_pow}
 use Rattle.vic_frame.specs.LowBitsFirst.{mirror_bits}
 
@@ -145,4 +144,4 @@ mirror_of_slot l v k short below few =
 
 pub slot_is_mask : (m : BitMask) (k : ℕ) → IsMask m → m.len + 4 ≤ 56 → k ≤ 15 → IsMask (slot_of_sixteen m k)
 slot_is_mask m k is_mask short few =
-    (omega arith, omega (arith, is_mask.1, sixteen_times k (2 ^ m.len) few, pow-add 2 m.len 4))
+    (omega arith, omega (arith, is_mask.1, mul-le k (2 ^ m.len) 15 (2 ^ m.len) few (omega arith), pow-add 2 m.len 4))

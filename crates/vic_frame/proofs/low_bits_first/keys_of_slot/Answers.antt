@@ -2,18 +2,14 @@ use Rattle.vic_frame.proofs.Words.{ℕ, ◌≡◌, ◌+◌, ◌-◌, ◌*◌, �
 use Rattle.vic_frame.proofs.MirrorLaws.{block_of, first_of, mirror_below, mirror_of_slot, slot_is_mask}
 use Rattle.vic_frame.proofs.low_bits_first.keys_of_slot.Goals as goal
 
-first_of_slot : (first four t l len v k : ℕ) → l + 4 ≤ 56 → len ≡ l → v < 2 ^ l → k ≤ 15 → first ≡ mirror v → four ≡ t / 16 → t ≡ mirror_bits 8 k → first + four * 2 ^ (56 - (len + 4)) % 2 ^ 64 ≡ mirror (v + k * 2 ^ l)
-first_of_slot first four t l len v k short same below few at_first is byte =
-    let slot = mirror_of_slot l v k short below few in
-    let four_is : four ≡ mirror_bits 4 k = omega (arith, is, byte, first_of 4 4 8 k refl (omega arith)) in
-    let small : mirror_bits 56 (v + k * 2 ^ l) < 2 ^ 56 = mirror_below 56 (v + k * 2 ^ l) in
-    rw (same, at_first, four_is) (omega (arith, slot, small))
-
 slot_keys : (m : BitMask) (first four t len k : ℕ) → IsMask m → m.len + 4 ≤ 56 → k ≤ 15 → len ≡ m.len → first ≡ mirror m.value → four ≡ t / 16 → t ≡ mirror_bits 8 k
     → IsBlock (first + four * 2 ^ (56 - (len + 4)) % 2 ^ 64) (len + 4) × ((u : ℕ) → lies_in (slot_of_sixteen m k) u ≡ is_in_block (first + four * 2 ^ (56 - (len + 4)) % 2 ^ 64) (len + 4) (mirror u))
 slot_keys m first four t len k is_mask short few same at_first is byte =
-    block_of (slot_of_sixteen m k) (first + four * 2 ^ (56 - (len + 4)) % 2 ^ 64) (len + 4) (slot_is_mask m k is_mask short few) short
-    (first_of_slot first four t m.len len m.value k short same is_mask.1 few at_first is byte) (ap (λ n. n + 4) same)
+    let slot = mirror_of_slot m.len m.value k short is_mask.1 few in
+    let four_is : four ≡ mirror_bits 4 k = omega (arith, is, byte, first_of 4 4 8 k refl (omega arith)) in
+    let small : mirror_bits 56 (m.value + k * 2 ^ m.len) < 2 ^ 56 = mirror_below 56 (m.value + k * 2 ^ m.len) in
+    let start : first + four * 2 ^ (56 - (len + 4)) % 2 ^ 64 ≡ mirror (m.value + k * 2 ^ m.len) = rw (same, at_first, four_is) (omega (arith, slot, small)) in
+    block_of (slot_of_sixteen m k) (first + four * 2 ^ (56 - (len + 4)) % 2 ^ 64) (len + 4) (slot_is_mask m k is_mask short few) short start (ap (λ n. n + 4) same)
 
 pub overflow_add-result : goal.overflow_add-result
 overflow_add-result c =
