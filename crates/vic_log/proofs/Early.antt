@@ -112,15 +112,16 @@ fronts_agree ls ks ms i below = sym (slice_get-append ls ks i below) ∙ slice_g
 fault_at : (ls : List (List ℕ)) (line : List ℕ) (others : List (List ℕ)) → fault_on (ls ++ line ∷ others) (suc (length ls)) ≡ line_fault (version_of (ls ++ line ∷ others)) (entries (log_upto ls (length ls))) (suc (length ls)) (Some line)
 fault_at ls line others = rw (slice_get_seam ls line others, log_agrees (length ls) (ls ++ line ∷ others) ls (λ i below. sym (slice_get-append ls (line ∷ others) i below))) refl
 
-grown : (ls : List (List ℕ)) (tail rest : List ℕ) (others : List (List ℕ)) (n : ℕ) (f : LineFault) → has tail 10 ≡ false → n ≡ suc (length ls) → IsJudged tail ⊎ (n ≡ 1000001)
-    → IsFirstFault (ls ++ content tail ∷ []) n f → IsFirstFault (ls ++ content (tail ++ rest) ∷ others) n f
-grown ls tail rest others n f h e j r =
-    let goes_on = ls ++ content (tail ++ rest) ∷ others in
+grown : (ls : List (List ℕ)) (tail rest : List ℕ) (others : List (List ℕ)) (f : LineFault) → has tail 10 ≡ false → IsJudged tail ⊎ (suc (length ls) ≡ 1000001)
+    → IsFirstFault (ls ++ content tail ∷ []) (suc (length ls)) f → IsFirstFault (ls ++ content (tail ++ rest) ∷ others) (suc (length ls)) f
+grown ls tail rest others f h j r =
+    let now_ = ls ++ content tail ∷ [] in
+    let then_ = ls ++ content (tail ++ rest) ∷ others in
     record {
-      here = ap (fault_on goes_on) e ∙ (fault_at ls (content (tail ++ rest)) others
-          ∙ (sym (same_fault (version_of (ls ++ content tail ∷ [])) (version_of goes_on) (entries (log_upto ls (length ls))) (suc (length ls)) tail rest h (subst (λ (m : ℕ). IsJudged tail ⊎ (m ≡ 1000001)) e j))
-          ∙ (sym (fault_at ls (content tail) []) ∙ (ap (fault_on (ls ++ content tail ∷ [])) (sym e) ∙ r.here))));
-      first = λ m lt. sym (fault_agrees m (ls ++ content tail ∷ []) goes_on (λ i below. fronts_agree ls (content tail ∷ []) (content (tail ++ rest) ∷ others) i (omega arith))) ∙ r.first m lt;
+      here = fault_at ls (content (tail ++ rest)) others
+          ∙ sym (same_fault (version_of now_) (version_of then_) (entries (log_upto ls (length ls))) (suc (length ls)) tail rest h j)
+          ∙ sym (fault_at ls (content tail) []) ∙ r.here;
+      first = λ m lt. sym (fault_agrees m now_ then_ (λ i below. fronts_agree ls (content tail ∷ []) (content (tail ++ rest) ∷ others) i (omega arith))) ∙ r.first m lt;
     }
 
 -- the lines of a text that goes on
@@ -131,20 +132,18 @@ pub early : (text more : List ℕ) (n : ℕ) (f : LineFault) → IsEarlyFault te
 early text more n f h =
     let s = split text in
     let tail = s.tail in
+    let no_lf = s.is_cut.no_lf in
     let ls = map content s.parts in
     let long : length ls ≡ length s.parts = length-map s.parts content in
     let number = h.number in
     let whole = cut-whole s.is_cut in
     let now_ = lines_are text s.parts (cut tail) whole in
-    let then_ = lines_are (text ++ more) s.parts (cut (tail ++ more)) (s.is_cut.cuts more) in
-    elim (cases_lt h.place (length s.parts)) [
-      | inl below ↦ subst (λ ks. IsFirstFault ks n f) (sym then_)
-          (first_agrees n (ls ++ map content (cut tail)) (ls ++ map content (cut (tail ++ more))) f (λ i lt. fronts_agree ls (map content (cut tail)) (map content (cut (tail ++ more))) i (omega arith)) (subst (λ ks. IsFirstFault ks n f) now_ h.fault))
+    rw (lines_are (text ++ more) s.parts (cut (tail ++ more)) (s.is_cut.cuts more)) (elim (cases_lt h.place (length s.parts)) [
+      | inl below ↦ first_agrees n _ _ f (λ i lt. fronts_agree ls (map content (cut tail)) (map content (cut (tail ++ more))) i (omega arith)) (rw now_ at h.fault)
       | inr above ↦
-          let last = last_part s.parts tail h.part h.place s.is_cut.no_lf (ap (λ ps. slice_get ps h.place) (sym whole) ∙ h.there) above in
+          let last = last_part s.parts tail h.part h.place no_lf (rw whole at h.there) above in
           let place = last.0 in
-          let g = begins tail more s.is_cut.no_lf last.2 in
-          subst (λ ks. IsFirstFault ks n f) (sym (then_ ∙ ap (λ ps. ls ++ map content ps) g.parts_are))
-          (grown ls tail g.rest (map content g.others) n f s.is_cut.no_lf (omega arith) (subst (λ p. IsJudged p ⊎ (n ≡ 1000001)) last.1 h.judged)
-          (subst (λ ks. IsFirstFault ks n f) (now_ ∙ ap (λ ps. ls ++ map content ps) (cut-only tail s.is_cut.no_lf last.2)) h.fault))
-    ]
+          let is : n ≡ suc (length ls) = omega arith in
+          let g = begins tail more no_lf last.2 in
+          rw (g.parts_are, is) (grown ls tail g.rest (map content g.others) f no_lf (rw (last.1, is) at h.judged) (rw (now_, cut-only tail no_lf last.2, is) at h.fault))
+    ])

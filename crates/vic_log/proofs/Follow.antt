@@ -1,31 +1,27 @@
 -- Where entries are in order, nothing refuses any of them.
-use Rattle.vic_log.proofs.Words.{◌≡◌, ℕ, suc, true, false, Some, None, List, [], ◌∷◌, ◌++◌, ◌<◌, length, refl, sym, ap, ◌∙◌, arith, ⊎_elim, inl, inr, slice_get, nat_eq, nat_lt, not, cases_Bool, cond-false, false_from_ne_true, or_cases, eqb-true, lt-ltb, slice_get_within, Entry, Sent, Listed, FieldCycle, has, slots_left, is_slot, listed, IsInOrder, is_empty, first_reason}
-use Rattle.vic_log.proofs.Places.{agree_append, agree_upto, slice_get_seam}
+use Rattle.vic_log.proofs.Words.{◌≡◌, ℕ, suc, true, false, Some, None, List, [], ◌∷◌, ◌++◌, ◌<◌, length, refl, sym, ap, arith, ⊎_elim, inl, inr, slice_get, nat_eq, nat_lt, not, cases_Bool, cond-false, false_from_ne_true, or_cases, eqb-true, lt-ltb, Entry, Sent, Listed, FieldCycle, has, slots_left, is_slot, listed, IsInOrder, is_empty, first_reason}
+use Rattle.vic_log.proofs.Places.{agree_upto, slice_get_seam}
 use Rattle.vic_log.proofs.Order.{in_round-slots_left}
 use Rattle.vic_log.proofs.Push.{slots_left_agrees}
 use Rattle.vic_log.proofs.Sets.{has_here}
 
--- a listed UID has a position
-pub has_place : (es : List Entry) (u : ℕ) → has (listed es) u ≡ true → (i : ℕ) × (slice_get es i ≡ Some (Listed u))
-has_place [] u h = cc
-has_place (Listed w ∷ es) u h = ⊎_elim
-    (λ here. (0, ap (λ v. Some (Listed v)) (sym (eqb-true u w here))))
-    (λ rest. let p = has_place es u rest in (suc p.0, p.1))
+-- a listed UID has a position, whatever follows
+has_place : (es fs : List Entry) (u : ℕ) → has (listed es) u ≡ true → (i : ℕ) × (i < length es) × (slice_get (es ++ fs) i ≡ Some (Listed u))
+has_place [] fs u h = cc
+has_place (Listed w ∷ es) fs u h = ⊎_elim
+    (λ here. (0, omega arith, ap (λ v. Some (Listed v)) (sym (eqb-true u w here))))
+    (λ rest. let p = has_place es fs u rest in (suc p.0, omega (arith, p.1), p.2))
     (or_cases (nat_eq u w) (has (listed es) u) h)
-has_place (e ∷ es) u h = let p = has_place es u h in (suc p.0, p.1)
+has_place (e ∷ es) fs u h = let p = has_place es fs u h in (suc p.0, omega (arith, p.1), p.2)
 
 some_of : (us : List ℕ) → is_empty us ≡ false → (u : ℕ) × (has us u ≡ true)
 some_of [] h = cc
 some_of (u ∷ us) h = (u, has_here u us)
 
-none_listed : (es fs : List Entry) (e : Entry) → ((i u : ℕ) → i < length es → slice_get (es ++ e ∷ fs) i ≡ Some (Listed u) → ⊥) → not (is_empty (listed es)) ≡ false
-none_listed es fs e none = elim (cases_Bool (is_empty (listed es))) [
+none_listed : (es fs : List Entry) → ((i u : ℕ) → i < length es → slice_get (es ++ fs) i ≡ Some (Listed u) → ⊥) → not (is_empty (listed es)) ≡ false
+none_listed es fs none = elim (cases_Bool (is_empty (listed es))) [
   | inl none_ ↦ ap not none_
-  | inr some ↦
-      let u = some_of (listed es) some in
-      let p = has_place es u.0 u.1 in
-      let below = slice_get_within es p.0 (Listed u.0) p.1 in
-      absurd (none p.0 u.0 below (sym (agree_append es (e ∷ fs) p.0 below) ∙ p.1))
+  | inr some ↦ let u = some_of (listed es) some in let p = has_place es fs u.0 u.1 in absurd (none p.0 u.0 p.1 p.2)
 ]
 
 slot_ok : (es fs : List Entry) (e : Entry) → IsInOrder (es ++ e ∷ fs) → is_slot e ≡ true → not (nat_lt 0 (slots_left es (length es))) ≡ false
@@ -36,10 +32,8 @@ slot_ok es fs e o s =
 
 -- there is no reason to refuse an entry of entries in order
 pub first_reason-none : {F : Type 0} (x y z : F) (es fs : List Entry) (e : Entry) → IsInOrder (es ++ e ∷ fs) → first_reason x y z es e ≡ None
-first_reason-none x y z es fs (Sent q) o = cond-false _ _ _ (none_listed es fs (Sent q) (λ i u lt at. o.requests_first i (length es) u q lt at (slice_get_seam es (Sent q) fs)))
-first_reason-none x y z es fs FieldCycle o = cond-false _ _ _ (none_listed es fs FieldCycle (λ i u lt at. o.cycles_first i (length es) u lt at (slice_get_seam es FieldCycle fs)))
+first_reason-none x y z es fs (Sent q) o = cond-false _ _ _ (none_listed es (Sent q ∷ fs) (λ i u lt at. o.requests_first i (length es) u q lt at (slice_get_seam es (Sent q) fs)))
+first_reason-none x y z es fs FieldCycle o = cond-false _ _ _ (none_listed es (FieldCycle ∷ fs) (λ i u lt at. o.cycles_first i (length es) u lt at (slice_get_seam es FieldCycle fs)))
 first_reason-none x y z es fs (Listed u) o = cond-false _ _ _ (false_from_ne_true _ (λ some.
-    let p = has_place es u some in
-    let below = slice_get_within es p.0 (Listed u) p.1 in
-    o.once p.0 (length es) u u below (sym (agree_append es (Listed u ∷ fs) p.0 below) ∙ p.1) (slice_get_seam es (Listed u) fs) refl))
+    let p = has_place es (Listed u ∷ fs) u some in o.once p.0 (length es) u u p.1 p.2 (slice_get_seam es (Listed u) fs) refl))
 first_reason-none x y z es fs e o = cond-false _ _ _ (slot_ok es fs e o refl)

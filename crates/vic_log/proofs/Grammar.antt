@@ -1,7 +1,7 @@
 -- A line reads as an entry if and only if it spells it.
-use Rattle.vic_log.proofs.Words.{◌≡◌, ◌⊎◌, inl, inr, ℕ, ◌+◌, ◌*◌, ◌/◌, ◌%◌, ◌<◌, ◌≤◌, true, false, Option, Some, None, Result, Ok, Err, List, [], ◌∷◌, length, refl, sym, ap, subst, ◌∙◌, arith, nat_lt, ◌==◌, ◌||◌, IfOk, nat_tests, cond_both, cond-false, eqb-true, ne_eqb, ltb-false, hex_digit_value, IsUid, Entry, Sent, Silent, Collision, Heard, Listed, Garbled, FieldCycle, Version, V2, LineFault, line_reading, to_be_bytes, w64, be_bytes_8, from_be_bytes-to_be_bytes_8, decode_of, digit_or_error, ◌>>=◌, FromHexError, decode_of-even, decode_pairs-ok, cons_byte, decode_pairs-ok_pair, AreBytes, SpellsRequest, Reply, SpellsReply, request_reading, reply_reading, Request, FrameFault, request_found, request_only, reply_found, reply_only, ⊤, IsDigitOf, AreDigitsOf, HasBytes, SpellsEntry, IsPassedOver}
+use Rattle.vic_log.proofs.Words.{◌≡◌, ◌⊎◌, inl, inr, ℕ, ◌+◌, ◌*◌, ◌/◌, ◌%◌, ◌<◌, ◌≤◌, true, false, Option, Some, None, Result, Ok, Err, List, [], ◌∷◌, length, refl, sym, ap, subst, ◌∙◌, arith, nat_lt, ◌==◌, ◌||◌, if◌then◌else◌, IfOk, nat_tests, cond_both, cond-false, eqb-true, ne_eqb, ltb-false, hex_digit_value, IsUid, Entry, Sent, Silent, Collision, Heard, Listed, Garbled, FieldCycle, Version, V2, LineFault, line_reading, to_be_bytes, w64, be_bytes_8, from_be_bytes-to_be_bytes_8, decode_of, digit_or_error, ◌>>=◌, FromHexError, decode_of-even, decode_pairs-ok, cons_byte, decode_pairs-ok_pair, AreBytes, SpellsRequest, Reply, SpellsReply, request_reading, reply_reading, Request, FrameFault, request_found, request_only, reply_found, reply_only, ⊤, IsDigitOf, AreDigitsOf, HasBytes, SpellsEntry, IsPassedOver}
 use Rattle.hex.specs.Hex.{decode_pairs}
-use Rattle.vic_log.specs.LineReading.{added_letter, one_letter, with_digits, with_bytes, sent, heard, listed_uid}
+use Rattle.vic_log.specs.LineReading.{one_letter, with_digits, with_bytes, sent, heard, listed_uid}
 use Rattle.vic_log.proofs.Supply.{IsUid-from, is_uid_from}
 use Rattle.vic_log.proofs.HexPairs.{both}
 use Rattle.vic_log.proofs.FrameBytes.{length-request, length-reply}
@@ -73,60 +73,36 @@ Says v line (Err f) = ⊤
 sent-says : (v : Version) (line frame : List ℕ) → HasBytes line 84 frame → (r : Result Request FrameFault) → IfOk r (λ q. SpellsRequest frame q) → Says v line (sent r)
 sent-says v line frame h r k = grind (arith, nat_tests)
 
-heard-says : (v : Version) (line frame : List ℕ) → HasBytes line 82 frame → (r : Result Reply FrameFault) → IfOk r (λ q. SpellsReply frame q) → Says v line (heard r)
-heard-says v line frame h r k = grind (arith, nat_tests)
+heard-says : (v : Version) (line frame : List ℕ) → HasBytes line 82 frame → Says v line (heard (reply_reading frame))
+heard-says v line frame h = grind (arith, nat_tests, reply_found, are_bytes)
 
 listed-says : (v : Version) (line bytes : List ℕ) → HasBytes line 85 bytes → Says v line (listed_uid bytes)
 listed-says v line bytes has = grind (arith, nat_tests, cond_both, IsUid-from, be_bytes_8, eqb-true, are_bytes)
 
-bytes-say : (v : Version) (line : List ℕ) (f : List ℕ → Result (Option Entry) LineFault) (r : Result (List ℕ) FromHexError) → ((bytes : List ℕ) → r ≡ Ok bytes → Says v line (f bytes)) → Says v line (with_bytes f r)
-bytes-say v line f r h = grind (arith, nat_tests)
-
 has_bytes : (x letter : ℕ) (digits bytes : List ℕ) → x == letter ≡ true → decode_of digits ≡ Ok bytes → HasBytes (x ∷ 32 ∷ digits) letter bytes
 has_bytes x letter digits bytes e h = (digits, ap (λ l. l ∷ 32 ∷ digits) (eqb-true x letter e), digits-of digits bytes h)
 
+-- one of the letters before digits, or another
+letter-says : (v : Version) (x letter : ℕ) (digits : List ℕ) (f : List ℕ → Result (Option Entry) LineFault) (other : Result (Option Entry) LineFault)
+    → ((bytes : List ℕ) → HasBytes (x ∷ 32 ∷ digits) letter bytes → Says v (x ∷ 32 ∷ digits) (f bytes)) → Says v (x ∷ 32 ∷ digits) other
+    → Says v (x ∷ 32 ∷ digits) (if x == letter then with_bytes f (decode_of digits) else other)
+letter-says v x letter digits f other h k = grind (arith, nat_tests, has_bytes)
+
 digits-say : (v : Version) (x : ℕ) (digits : List ℕ) → Says v (x ∷ 32 ∷ digits) (with_digits x digits)
 digits-say v x digits =
-    let line = x ∷ 32 ∷ digits in
-    cond_both (x == 84) _ _ (Says v line)
-    (λ t. bytes-say v line _ (decode_of digits) (λ frame h. let has = has_bytes x 84 digits frame t h in sent-says v line frame has (request_reading frame) (request_found frame (are_bytes has.0 frame has.2))))
-    (λ _. cond_both (x == 82) _ _ (Says v line)
-    (λ t. bytes-say v line _ (decode_of digits) (λ frame h. let has = has_bytes x 82 digits frame t h in heard-says v line frame has (reply_reading frame) (reply_found frame (are_bytes has.0 frame has.2))))
-    (λ _. cond_both (x == 85) _ _ (Says v line)
-    (λ t. bytes-say v line _ (decode_of digits) (λ bytes h. listed-says v line bytes (has_bytes x 85 digits bytes t h)))
-    (λ _. tt)))
+    letter-says v x 84 digits _ _ (λ frame h. sent-says v _ frame h (request_reading frame) (request_found frame (are_bytes h.0 frame h.2)))
+    (letter-says v x 82 digits _ _ (heard-says v _) (letter-says v x 85 digits _ _ (listed-says v _) tt))
 
-one : (x letter : ℕ) → x == letter ≡ true → x ∷ [] ≡ letter ∷ []
-one x letter t = ap (λ l. l ∷ []) (eqb-true x letter t)
-
-added-says : (v : Version) (x : ℕ) → Says v (x ∷ []) (added_letter v x)
-added-says v x = grind (arith, nat_tests)
-
-letter-says : (v : Version) (x : ℕ) → Says v (x ∷ []) (one_letter v x)
-letter-says v x = cond_both (x == 83) _ _ (Says v (x ∷ [])) (one x 83) (λ _. cond_both (x == 67) _ _ (Says v (x ∷ [])) (one x 67) (λ _. added-says v x))
-
-marked : (x : ℕ) (rest : List ℕ) → x == 35 ≡ true → (x ∷ rest ≡ []) ⊎ ((more : List ℕ) × (x ∷ rest ≡ 35 ∷ more))
-marked x rest t = inr (rest, ap (λ l. l ∷ rest) (eqb-true x 35 t))
-
-two_long : (x y : ℕ) (digits : List ℕ) → length (x ∷ y ∷ digits) == 1 ≡ false
-two_long x y digits = ne_eqb (length (x ∷ y ∷ digits)) 1 (λ e. absurd (omega arith))
-
-some_long : (x y : ℕ) (digits : List ℕ) → length (x ∷ y ∷ digits) == 0 ≡ false
-some_long x y digits = ne_eqb (length (x ∷ y ∷ digits)) 0 (λ e. absurd (omega arith))
+-- more than a letter
+longer-says : (v : Version) (x y : ℕ) (digits : List ℕ) (lone spaced : Result (Option Entry) LineFault) (long unknown : LineFault) → (y ≡ 32 → Says v (x ∷ y ∷ digits) spaced)
+    → Says v (x ∷ y ∷ digits) (if nat_lt 128 (length (x ∷ y ∷ digits)) then Err long
+    else if length (x ∷ y ∷ digits) == 0 || x == 35 then Ok None else if length (x ∷ y ∷ digits) == 1 then lone else if y == 32 then spaced else Err unknown)
+longer-says v x y digits lone spaced long unknown h = grind (arith, nat_tests)
 
 line-says : (v : Version) (line : List ℕ) → Says v line (line_reading v line)
 line-says v [] = (omega arith, inl refl)
-line-says v (x ∷ []) = cond_both (x == 35) (Ok None) (one_letter v x) (Says v (x ∷ [])) (λ t. (omega arith, marked x [] t)) (λ _. letter-says v x)
-line-says v (x ∷ y ∷ digits) =
-    let line = x ∷ y ∷ digits in
-    cond_both (nat_lt 128 (length line)) _ _ (Says v line)
-    (λ _. tt)
-    (λ short. cond_both (length line == 0 || x == 35) _ _ (Says v line)
-    (λ over. (ltb-false 128 (length line) short, marked x (y ∷ digits) (ap (λ b. b || x == 35) (sym (some_long x y digits)) ∙ over)))
-    (λ _. subst (Says v line) (sym (cond-false _ _ _ (two_long x y digits)))
-    (cond_both (y == 32) _ _ (Says v line)
-    (λ space. subst (λ b. Says v (x ∷ b ∷ digits) (with_digits x digits)) (sym (eqb-true y 32 space)) (digits-say v x digits))
-    (λ _. tt))))
+line-says v (x ∷ []) = grind (arith, nat_tests)
+line-says v (x ∷ y ∷ digits) = longer-says v x y digits (one_letter v x) (with_digits x digits) _ _ (λ space. rw space (digits-say v x digits))
 
 pub reads-spelled : (v : Version) (line : List ℕ) (e : Entry) → line_reading v line ≡ Ok (Some e) → SpellsEntry v line e
 reads-spelled v line e h = subst (Says v line) h (line-says v line)

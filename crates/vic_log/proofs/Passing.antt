@@ -8,9 +8,6 @@ use Rattle.vic_log.proofs.Push.{last_from-push}
 abbrev pub AgreeBelow : ℕ → List (List ℕ) → List (List ℕ) → Type 0
 AgreeBelow n ls ms = (i : ℕ) → i < n → slice_get ls i ≡ slice_get ms i
 
-pub version_agrees : (n : ℕ) (ls ms : List (List ℕ)) → AgreeBelow n ls ms → 0 < n → version_of ls ≡ version_of ms
-version_agrees n ls ms a some = ap named_version (a 0 some)
-
 pub log_agrees : (n : ℕ) (ls ms : List (List ℕ)) → AgreeBelow n ls ms → log_upto ls n ≡ log_upto ms n
 log_agrees zero ls ms a = refl
 log_agrees (suc n) ls ms a = grind (arith, nat_tests, log_agrees n ls ms)
@@ -49,7 +46,7 @@ module _ {ls : List (List ℕ)} {log : LogValue} {n : ℕ} (r : AreRead ls log n
   at = ap (slice_get (ls ++ line ∷ others)) (sym r.count) ∙ slice_get_seam ls line others
 
   version_before : 0 < n → log.version ≡ version_of (ls ++ line ∷ others)
-  version_before some = r.version some ∙ version_agrees n ls (ls ++ line ∷ others) agree some
+  version_before some = r.version some ∙ ap named_version (agree 0 some)
 
   log_before : log.lines ≡ log_upto (ls ++ line ∷ others) n
   log_before = r.log_is ∙ log_agrees n ls (ls ++ line ∷ others) agree

@@ -12,9 +12,6 @@ fits_entry answers e slots p = grind (arith, nat_tests)
 abbrev FitBefore : List ℕ → List Entry → ℕ → Type 0
 FitBefore p es n = (i : ℕ) (e : Entry) → i < n → slice_get es i ≡ Some e → Fits e (outcome_at es i p)
 
-fit_more : (p : List ℕ) (es : List Entry) (n : ℕ) → FitBefore p es n → ((e : Entry) → slice_get es n ≡ Some e → Fits e (outcome_at es n p)) → FitBefore p es (suc n)
-fit_more p es n below here i e h k = grind (arith, nat_tests)
-
 slot_step : (p : List ℕ) (answers : ℕ → Bool) (o : Option Entry) (slots : List Slot) → MeetsAll p (with_entry answers o slots) ↔ (((e : Entry) → o ≡ Some e → Fits e (outcome_of (filter answers p))) × MeetsAll p slots)
 slot_step p answers None slots = ((λ h. ((λ e k. cc), h)), (λ h. h.1))
 slot_step p answers (Some e) slots = (
@@ -24,7 +21,7 @@ slot_step p answers (Some e) slots = (
 
 pub MeetsAll-slots : (p : List ℕ) (es : List Entry) (n : ℕ) → MeetsAll p (slots_before es n) ↔ FitBefore p es n
 MeetsAll-slots p es zero = ((λ h i e k. absurd (omega arith)), (λ h. tt))
-MeetsAll-slots p es (suc n) = grind (arith, nat_tests, slot_step, fit_more, MeetsAll-slots p es n)
+MeetsAll-slots p es (suc n) = grind (arith, nat_tests, slot_step, MeetsAll-slots p es n)
 
 pub CouldHaveGiven-slots : (p : List ℕ) (es : List Entry) → CouldHaveGiven p es ↔ MeetsAll p (slots_of es)
 CouldHaveGiven-slots p es =
@@ -39,16 +36,13 @@ CouldHaveGiven-slots p es =
 abbrev pub AgreeBefore : ℕ → List Entry → List Entry → Type 0
 AgreeBefore n es fs = (i : ℕ) → i < n → slice_get es i ≡ slice_get fs i
 
-agree_less : (n : ℕ) (es fs : List Entry) → AgreeBefore (suc n) es fs → AgreeBefore n es fs
-agree_less n es fs a i h = a i (omega arith)
-
 pub opener_agrees : (n : ℕ) (es fs : List Entry) → AgreeBefore n es fs → opener es n ≡ opener fs n
 opener_agrees zero es fs a = refl
-opener_agrees (suc n) es fs a = grind (arith, nat_tests, agree_less, opener_agrees n es fs)
+opener_agrees (suc n) es fs a = grind (arith, nat_tests, opener_agrees n es fs)
 
 pub quiet_agrees : (n : ℕ) (es fs : List Entry) (u : ℕ) → AgreeBefore n es fs → is_quiet es n u ≡ is_quiet fs n u
 quiet_agrees zero es fs u a = refl
-quiet_agrees (suc n) es fs u a = grind (arith, nat_tests, agree_less, quiet_agrees n es fs u)
+quiet_agrees (suc n) es fs u a = grind (arith, nat_tests, quiet_agrees n es fs u)
 
 pub opener_below : (es : List Entry) (n j : ℕ) → opener es n ≡ Some j → j < n
 opener_below es zero j e = cc

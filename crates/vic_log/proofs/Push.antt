@@ -30,8 +30,8 @@ has-there (e ∷ es) zero u k = let same : e ≡ Listed u = cc in rw same (ap (�
 has-there (Listed w ∷ es) (suc i) u k = or_right (nat_eq u w) (has (listed es) u) (has-there es i u k)
 has-there (e ∷ es) (suc i) u k = has-there es i u k
 
-empty_has : (us : List ℕ) (u : ℕ) → is_empty us ≡ true → has us u ≡ false
-empty_has us u h = grind (arith, nat_tests)
+some_listed : (us : List ℕ) (u : ℕ) → has us u ≡ true → not (is_empty us) ≡ false → ⊥
+some_listed us u h k = grind (arith, nat_tests)
 
 empty-append : (us ws : List ℕ) → not (is_empty (us ++ ws)) ≡ (not (is_empty us) || not (is_empty ws))
 empty-append us ws = grind (arith, nat_tests)
@@ -51,12 +51,12 @@ lists_none e h = grind (arith, nat_tests)
 slot_has_left : (b : Bool) (left : ℕ) → b ≡ true → (if b then not (nat_lt 0 left) else false) ≡ false → 0 < left
 slot_has_left b left h k = grind (arith, nat_tests)
 
--- no UID is listed before an entry that may not follow one
-none_listed : (es : List Entry) (e : Entry) (i u : ℕ) → i < length es → slice_get (es ++ e ∷ []) i ≡ Some (Listed u) → not (is_empty (listed es)) ≡ false → ⊥
-none_listed es e i u lt a after =
-    let some : has (listed es) u ≡ true = has-there es i u (agree_append es (e ∷ []) i lt ∙ a) in
-    let none : has (listed es) u ≡ false = empty_has (listed es) u (not-false (is_empty (listed es)) after) in
-    cc
+-- a listed UID and an entry behind it in the list with one entry more: both were there, or that one is the last
+listed_or : {P : Type 0} (es : List Entry) (e f : Entry) (i j u : ℕ) → i < j → slice_get (es ++ e ∷ []) i ≡ Some (Listed u) → slice_get (es ++ e ∷ []) j ≡ Some f
+    → (slice_get es i ≡ Some (Listed u) → slice_get es j ≡ Some f → P) → (has (listed es) u ≡ true → e ≡ f → P) → P
+listed_or es e f i j u lt a b before last = last_or es e f j b
+    (λ below here. before (agree_append es (e ∷ []) i (omega arith) ∙ a) here)
+    (λ same it. last (has-there es i u (agree_append es (e ∷ []) i (omega arith) ∙ a)) it)
 
 -- entries in order with one more that nothing refuses are in order
 pub IsInOrder-push : (es : List Entry) (e : Entry) → IsInOrder es → refusal es e ≡ None → IsInOrder (es ++ e ∷ [])
@@ -68,20 +68,13 @@ IsInOrder-push es e o h =
       rounds = λ i f k s. (in_round-slots_left all i).1 (last_or es e f i k
           (λ below here. subst (λ n. 0 < n) (left_is i (omega arith)) ((in_round-slots_left es i).0 (o.rounds i f here s)))
           (λ same it. subst (λ n. 0 < n) (left_is i (omega arith)) (subst (λ j. 0 < slots_left es j) (sym same) (slot_has_left (is_slot e) (slots_left es (length es)) (ap is_slot it ∙ s) free.0))));
-      requests_first = λ i j u q lt a b. last_or es e (Sent q) j b
-          (λ below here. o.requests_first i j u q lt (agree_append es (e ∷ []) i (omega arith) ∙ a) here)
-          (λ same it. none_listed es e i u (omega arith) a (ap (is_after_list es) (sym it) ∙ free.1));
-      cycles_first = λ i j u lt a b. last_or es e FieldCycle j b
-          (λ below here. o.cycles_first i j u lt (agree_append es (e ∷ []) i (omega arith) ∙ a) here)
-          (λ same it. none_listed es e i u (omega arith) a (ap (is_after_list es) (sym it) ∙ free.1));
-      once = λ i j u w lt a b. last_or es e (Listed w) j b
-          (λ below here. o.once i j u w lt (agree_append es (e ∷ []) i (omega arith) ∙ a) here)
-          (λ same it d.
-          let there : slice_get es i ≡ Some (Listed u) = agree_append es (e ∷ []) i (omega arith) ∙ a in
-          let some : has (listed es) u ≡ true = has-there es i u there in
-          let none : has (listed es) w ≡ false = ap (is_duplicate es) (sym it) ∙ free.2 in
-          let same_uid : has (listed es) u ≡ has (listed es) w = ap (has (listed es)) d in
-          cc);
+      requests_first = λ i j u q lt a b. listed_or es e (Sent q) i j u lt a b (o.requests_first i j u q lt)
+          (λ some it. some_listed (listed es) u some (ap (is_after_list es) (sym it) ∙ free.1));
+      cycles_first = λ i j u lt a b. listed_or es e FieldCycle i j u lt a b (o.cycles_first i j u lt)
+          (λ some it. some_listed (listed es) u some (ap (is_after_list es) (sym it) ∙ free.1));
+      once = λ i j u w lt a b d. listed_or es e (Listed w) i j u lt a b
+          (λ here there. o.once i j u w lt here there d)
+          (λ some it. let none : has (listed es) w ≡ false = ap (is_duplicate es) (sym it) ∙ free.2 in let same = ap (has (listed es)) d in cc);
     }
 
 -- ---- numbers and requests

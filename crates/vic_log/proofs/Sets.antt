@@ -1,5 +1,5 @@
 -- Lists of UIDs as sets.
-use Rattle.vic_log.proofs.Words.{◌≡◌, ℕ, List, [], ◌∷◌, Bool, true, false, ◌&&◌, refl, sym, ap, ◌∙◌, inl, inr, ⊎_elim, ◌⊎◌, nat_eq, arith, nat_tests, filter, cases_eq, cases_Bool, cond_both, ne_eqb, eqb-true, eq-eqb, and_parts, and_from, or_cases, or_left, or_right, false≢true, IsUid, has, AreDifferent, IsPopulation, and_right, any-filter_same}
+use Rattle.vic_log.proofs.Words.{◌≡◌, ℕ, suc, ◌<◌, List, length, get_or, or_from, [], ◌∷◌, Bool, true, false, ◌&&◌, refl, sym, ap, ◌∙◌, inl, inr, ⊎_elim, ◌⊎◌, nat_eq, arith, nat_tests, filter, cases_eq, cases_Bool, cond_both, ne_eqb, eqb-true, eq-eqb, and_parts, and_from, or_cases, or_left, or_right, false≢true, IsUid, has, AreDifferent, IsPopulation, and_right, any-filter_same}
 
 -- a set of numbers within another
 abbrev pub IsWithin : (ℕ → Bool) → (ℕ → Bool) → Type 0
@@ -19,6 +19,11 @@ has_there u x us h = or_right _ _ h
 
 pub has_cases : (u x : ℕ) (us : List ℕ) → has (x ∷ us) u ≡ true → (u ≡ x) ⊎ (has us u ≡ true)
 has_cases u x us h = ⊎_elim (λ e. inl (eqb-true u x e)) (λ k. inr k) (or_cases (nat_eq u x) (has us u) h)
+
+-- what is at no place isn't there
+pub none_has : (us : List ℕ) (u : ℕ) → ((k : ℕ) → k < length us → get_or us k 0 ≡ u → ⊥) → has us u ≡ false
+none_has [] u none = refl
+none_has (x ∷ us) u none = or_from (nat_eq u x) (has us u) (ne_eqb u x (λ e. none 0 (omega arith) (sym e))) (none_has us u (λ k lt e. none (suc k) (omega arith) e))
 
 -- a filter keeps what passes
 has-filter : (t : ℕ → Bool) (us : List ℕ) (u : ℕ) → has (filter t us) u ≡ (t u && has us u)

@@ -65,17 +65,9 @@ pub SuppliesAll-within : (s t : ℕ → Bool) (slots : List Slot) → IsWithin s
 SuppliesAll-within s t [] k a = tt
 SuppliesAll-within s t (x ∷ slots) k a = (Supplies-within s t x k a.0, SuppliesAll-within s t slots k a.1)
 
-MeetsAll-allows : (p : List ℕ) (slots : List Slot) → MeetsAll p slots → (u : ℕ) → has p u ≡ true → list_all (allows u) slots ≡ true
-MeetsAll-allows p [] m u h = refl
-MeetsAll-allows p (s ∷ slots) m u h = and_from _ _ (Meets-allows p s m.0 u h) (MeetsAll-allows p slots m.1 u h)
-
-MeetsAll-supplies : (p : List ℕ) (slots : List Slot) → AreDifferent p → MeetsAll p slots → SuppliesAll (has p) slots
-MeetsAll-supplies p [] d m = tt
-MeetsAll-supplies p (s ∷ slots) d m = (Meets-supplies p s d m.0, MeetsAll-supplies p slots d m.1)
-
-MeetsAll-from : (p : List ℕ) (slots : List Slot) → AreDifferent p → ((u : ℕ) → has p u ≡ true → list_all (allows u) slots ≡ true) → SuppliesAll (has p) slots → MeetsAll p slots
-MeetsAll-from p [] d k a = tt
-MeetsAll-from p (s ∷ slots) d k a = grind (arith, nat_tests, Supplies-meets, and_parts, MeetsAll-from p slots d)
+MeetsAll-by : (p : List ℕ) (slots : List Slot) → AreDifferent p → MeetsAll p slots ↔ (((u : ℕ) → has p u ≡ true → list_all (allows u) slots ≡ true) × SuppliesAll (has p) slots)
+MeetsAll-by p [] d = ((λ m. ((λ u h. refl), tt)), (λ k. tt))
+MeetsAll-by p (s ∷ slots) d = grind (arith, nat_tests, Meets-allows, Meets-supplies, Supplies-meets, and_parts, and_from, MeetsAll-by p slots d)
 
 pub is_uid_from : (u : ℕ) → IsUid u → is_uid u ≡ true
 is_uid_from u h = and_from _ _ (le-leb _ _ h.0) (lt-ltb _ _ h.1)
@@ -85,5 +77,4 @@ IsUid-from u h = let w = and_parts _ _ h in (leb-true _ _ w.0, ltb-true _ _ w.1)
 
 -- a population meets all slots if and only if its members are open and it supplies what the slots require
 pub MeetsAll-iff : (p : List ℕ) (slots : List Slot) → IsPopulation p → MeetsAll p slots ↔ (IsWithin (has p) (is_open slots) × SuppliesAll (has p) slots)
-MeetsAll-iff p slots q =
-    grind (arith, nat_tests, AreDifferent-population, and_from, is_uid_from, IsUid-member, MeetsAll-allows, MeetsAll-supplies, MeetsAll-from, and_parts)
+MeetsAll-iff p slots q = grind (arith, nat_tests, AreDifferent-population, and_from, is_uid_from, IsUid-member, MeetsAll-by, and_parts)

@@ -1,37 +1,25 @@
 -- A set of UIDs, spread over rows.
-use Rattle.vic_log.proofs.Words.{◌≡◌, ℕ, zero, suc, ◌<◌, Bool, true, false, Some, List, [], ◌∷◌, ◌++◌, length, take, get_or, ⊎_elim, refl, sym, ap, ◌∙◌, arith, nat_eq, ◌||◌, not, slice_get, set, cond, common_steps, nat_tests, false_from_ne_true, cases_eq, ne_eqb, eq-eqb, or_from, or_right, list_any-append, list_any, has, IsUid, row_of, IsUidSet, IsSetOf, IsIndex, LogLine, entries, listed, length-set, get_or-set_same, get_or-set_other, or_comm, or_assoc, or-false, is_at, with_item, vec_len, nat_cmp}
+use Rattle.vic_log.proofs.Words.{◌≡◌, ℕ, zero, suc, ◌<◌, Bool, true, false, Some, List, [], ◌∷◌, ◌++◌, length, take, get_or, ⊎_elim, refl, sym, ap, ◌∙◌, arith, nat_eq, ◌||◌, not, slice_get, set, cond, common_steps, nat_tests, false_from_ne_true, cases_eq, ne_eqb, eq-eqb, or_from, or_right, list_any-append, list_any_at, list_any, get_or_from_slice_get, slice_get_within, has, IsUid, row_of, IsUidSet, IsSetOf, IsIndex, LogLine, entries, listed, length-set, get_or-set_same, get_or-set_other, or_comm, or_assoc, or-false, is_at, with_item, vec_len, nat_cmp}
 use Rattle.std.specs.BTreeSet as sorted
 use Rattle.vic_log.specs.declared.uid_set.UidSet.{UidSet}
 use Rattle.vic_log.specs.inner.UidSets.{place_of, is_held}
 use Rattle.vic_log.proofs.Push.{listed-append, entries_next}
 use Rattle.vic_log.proofs.Sets.{eq_swapped}
 
-pub none_has : (us : List ℕ) (u : ℕ) → ((k : ℕ) → k < length us → get_or us k 0 ≡ u → ⊥) → has us u ≡ false
-none_has [] u none = refl
-none_has (x ∷ us) u none = or_from (nat_eq u x) (has us u) (ne_eqb u x (λ e. none 0 (omega arith) (sym e))) (none_has us u (λ k lt e. none (suc k) (omega arith) e))
-
-pub has_got : (us : List ℕ) (k u : ℕ) → slice_get us k ≡ Some u → has us u ≡ true
-has_got [] k u h = cc
-has_got (x ∷ us) zero u h = let is : u ≡ x = cc in ap (λ b. b || has us u) (eq-eqb u x is)
-has_got (x ∷ us) (suc k) u h = or_right (nat_eq u x) (has us u) (has_got us k u h)
+has_got : (us : List ℕ) (k u : ℕ) → slice_get us k ≡ Some u → has us u ≡ true
+has_got us k u h = list_any_at (nat_eq u) us k 0 (slice_get_within us k u h) (eq-eqb u _ (sym (get_or_from_slice_get us k u 0 h)))
 
 -- a number put where 0 was
 has-set : (row : List ℕ) (k n u : ℕ) → slice_get row k ≡ Some 0 → 0 < u → has (set row k n) u ≡ (has row u || nat_eq u n)
 has-set [] k n u h pos = cc
-has-set (x ∷ row) zero n u h pos =
-    let free : x ≡ 0 = cc in
-    let other : nat_eq u x ≡ false = ne_eqb u x (λ e. omega (arith, pos, e, free)) in
-    rw other (or_comm (nat_eq u n) (has row u))
-has-set (x ∷ row) (suc k) n u h pos = ap (λ b. nat_eq u x || b) (has-set row k n u h pos) ∙ sym (or_assoc (nat_eq u x) (has row u) (nat_eq u n))
+has-set (x ∷ row) zero n u h pos = grind (arith, nat_tests)
+has-set (x ∷ row) (suc k) n u h pos = grind (arith, nat_tests, has-set row k n u)
 
 row-set_same : (rows : List (List ℕ)) (p u : ℕ) (row : List ℕ) → place_of u (length rows) ≡ p → p < length rows → row_of (set rows p row) u ≡ row
 row-set_same rows p u row is there = rw (length-set rows p row) (rw is (get_or-set_same rows p row [] there))
 
 row-set_other : (rows : List (List ℕ)) (p u : ℕ) (row : List ℕ) → (place_of u (length rows) ≡ p → ⊥) → row_of (set rows p row) u ≡ row_of rows u
 row-set_other rows p u row other = rw (length-set rows p row) (get_or-set_other rows p (place_of u (length rows)) row [] other)
-
-last_two : (a b d : Bool) → ((a || b) || d) ≡ ((a || d) || b)
-last_two a b d = grind arith
 
 -- a UID put into its row
 pub record IsPut (old new : UidSet) (uid k : ℕ) : Type 0 where
@@ -41,42 +29,14 @@ pub record IsPut (old new : UidSet) (uid k : ℕ) : Type 0 where
   pub others : new.others ≡ old.others
 
 pub held-put : (old new : UidSet) (uid k : ℕ) → IsPut old new uid k → (u : ℕ) → 0 < u → is_held new u ≡ (is_held old u || nat_eq u uid)
-held-put old new uid k h u pos =
-    let rows = old.rows.items in
-    let n = length rows in
-    let row = row_of rows uid in
-    let besides = sorted.contains nat_cmp old.others u in
-    rw (h.rows, h.others) (⊎_elim
-    (λ (same : place_of u n ≡ place_of uid n).
-    let mine : row_of rows u ≡ row = ap (λ p. get_or rows p []) same in
-    rw (row-set_same rows (place_of uid n) u (set row k uid) same h.there, mine)
-    (ap (λ b. b || besides) (has-set row k uid u h.free pos) ∙ last_two (has row u) (nat_eq u uid) besides))
-    (λ other.
-    let differ : nat_eq u uid ≡ false = ne_eqb u uid (λ e. other (ap (λ x. place_of x n) e)) in
-    rw (row-set_other rows (place_of uid n) u (set row k uid) other, differ) (sym (or-false (has (row_of rows u) u || besides))))
-    (cases_eq (place_of u n) (place_of uid n)))
+held-put old new uid k h u pos = grind (arith, nat_tests, has-set, row-set_same, row-set_other, ne_eqb)
 
 -- a set of which a row has a free element has none of its UIDs outside the rows
 pub absent_besides : (s : UidSet) (uid k : ℕ) → IsUidSet s → slice_get (row_of s.rows.items uid) k ≡ Some 0 → sorted.contains nat_cmp s.others uid ≡ false
 absent_besides s uid k h free = false_from_ne_true _ (λ there. let full = h.full uid there in let some = has_got (row_of s.rows.items uid) k 0 free in cc)
 
 pub IsUidSet-put : (old new : UidSet) (uid k : ℕ) → IsUidSet old → IsPut old new uid k → IsUidSet new
-IsUidSet-put old new uid k set_ h =
-    let rows = old.rows.items in
-    let n = length rows in
-    let row = row_of rows uid in
-    record {
-      some = rw (h.rows, length-set rows (place_of uid n) (set row k uid)) set_.some;
-      full = λ u there.
-          let before : sorted.contains nat_cmp old.others u ≡ true = ap (λ o. sorted.contains nat_cmp o u) (sym h.others) ∙ there in
-          let full = set_.full u before in
-          ⊎_elim
-          (λ (same : place_of u n ≡ place_of uid n).
-          let mine : row_of rows u ≡ row = ap (λ p. get_or rows p []) same in
-          let some = has_got row k 0 h.free in cc)
-          (λ other. rw (h.rows, row-set_other rows (place_of uid n) u (set row k uid) other) full)
-          (cases_eq (place_of u n) (place_of uid n));
-    }
+IsUidSet-put old new uid k s h = grind (arith, nat_tests, has_got, row-set_same, row-set_other, length-set)
 
 -- the row that was read is that of the UID
 pub row_is : (s : UidSet) (uid rows place : ℕ) (row : List ℕ) → rows ≡ vec_len s.rows → place ≡ place_of uid rows → place < rows → row ≡ get_or s.rows.items place row → row ≡ row_of s.rows.items uid

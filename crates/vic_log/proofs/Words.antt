@@ -7,15 +7,15 @@ pub use Rattle.std.proofs.Math.Seq.{take-add, take-append-add, take-append_seam,
 pub use Rattle.std.proofs.lemmas.Bool.{agree_below, agree_below_at, and_from, and_parts, and_right, both_ways, cases_Bool, cases_eq, cases_lt, cond-false, cond-true, cond_both, eq-eqb, eqb-false, eqb-true, false_from_ne_true, false≢true, le-leb, le-ltb, leb-true, lt-ltb, ltb-false, ltb-true, ne_eqb, not-false, or_cases, or_from, or_left, or_parts, or_right}
 pub use Rattle.std.proofs.lemmas.Bool.Decides.{nat_tests}
 pub use Rattle.std.proofs.lemmas.Grind.{common_steps}
-pub use Rattle.std.proofs.lemmas.List.{drop_all, get_or-map, get_or-set_other, get_or-set_same, get_or_append_left, length-drop, length-map, length-set, length-take, length_push, map-append, nil_from_length, take-append-le, take_all}
+pub use Rattle.std.proofs.lemmas.List.{drop_all, get_or-map, get_or-take, get_or-set_other, get_or-set_same, get_or_append_left, length-drop, length-map, length-set, length-take, length_push, map-append, nil_from_length, take-append-le, take_all}
 pub use Rattle.std.proofs.lemmas.List.Elements.{filter_agree}
-pub use Rattle.std.proofs.lemmas.List.Folds.{list_any-append}
-pub use Rattle.std.proofs.lemmas.List.FromFn.{get_or-range_with_len, length-range_with_len}
+pub use Rattle.std.proofs.lemmas.List.Folds.{list_any-append, list_any_at}
+pub use Rattle.std.proofs.lemmas.List.FromFn.{get_or-map-range_with_len}
 pub use Rattle.std.proofs.lemmas.Map.Views.{any-filter_same}
 pub use Rattle.std.proofs.lemmas.Nat.{be_bytes_8, from_be_bytes-to_be_bytes_8}
-pub use Rattle.std.proofs.lemmas.Option.{slice_get_past, slice_get_read, slice_get_within}
+pub use Rattle.std.proofs.lemmas.Option.{get_or_from_slice_get, slice_get_past, slice_get_read, slice_get_within}
 pub use Rattle.std.proofs.lemmas.Result.{IfErr-weaker, err_from_is_err_and, on_ok_weaker}
-pub use Rattle.std.proofs.lemmas.Simd.{bitmask_splat, get_or-chunk, get_or-put_chunk_at, get_or-put_chunk_below, length-chunk, mask_l-mod, run_in_chunk_fails, run_in_chunk_stops, splat_is_map, tops_compared, trailing_mask_l, zip2_of_maps, zip2_splat_left}
+pub use Rattle.std.proofs.lemmas.Simd.{bitmask_splat, get_or-chunk, get_or-put_chunk_at, get_or-put_chunk_below, length-chunk, map-map, mask_l-mod, none_from_empty_mask, run_in_chunk_fails, run_in_chunk_stops, splat_is_map, tops_compared, trailing_mask_l, zip2_of_maps}
 pub use Rattle.std.specs.BTreeMap.{is_at}
 pub use Rattle.std.specs.Int.{to_be_bytes, w64}
 pub use Rattle.std.specs.Io.KnownBytes.{Appends, Consumes, IsAtEnd}
@@ -46,7 +46,7 @@ pub use Rattle.vic_frame.specs.declared.fault.FrameFault.{FrameFault}
 pub use Rattle.vic_frame.specs.declared.request.Request.{Request}
 pub use Rattle.vic_frame.specs.declared.request.Request.TheVariants.{Inventory, StayQuiet}
 pub use Rattle.vic_log.specs.Begun.{AreRead, HasCut, HasJudged, HasTaken, IsCut, IsShort, IsSplit, spare}
-pub use Rattle.vic_log.specs.Device.{HandsOut, HasTakenBut, HasTakenPrefix, HasWrittenBut, KeepsOrHides, TellsOn}
+pub use Rattle.vic_log.specs.Device.{HandsOut, HasTakenBut, HasTakenPrefix, HasWrittenBut, HasWrittenPrefix, KeepsOrHides, TellsOn}
 pub use Rattle.vic_log.specs.Early.{HasNoEarlyFault, IsEarly, IsEarlyFault, IsJudged, IsLong, Judges, ReadsAs, ReadsWhere}
 pub use Rattle.vic_log.specs.FirstVersion.{AreOfFirstVersion, IsOfFirstVersion}
 pub use Rattle.vic_log.specs.Grammar.{AreDigitsOf, HasBytes, IsDigitOf, IsPassedOver, SpellsEntry}
@@ -75,3 +75,21 @@ pub use Rattle.vic_log.specs.declared.rounds.OpenRound.{OpenRound}
 pub use Rattle.vic_log.specs.inner.Digits.{SpellsByte, digit_or_255}
 pub use Rattle.vic_log.specs.inner.Text.{RefusesNext, after_line, next_fault}
 pub use Rattle.vic_log.specs.inner.UidSets.{IsIndex, IsSetOf, IsUidSet, row_of}
+pub use Rattle.std.proofs.raw_atomic.Walks.{proved}
+pub use base.Fml.{flft, ftrue}
+pub use base.Logic.{id⊢}
+pub use denote.Builtin.{u8}
+pub use denote.Exit.{yes}
+pub use denote.RattleType.{owns}
+pub use denote.Ref.{MutRef, mut_Tells, mut_vals}
+pub use denote.Shadow.{pure_i}
+pub use denote.Signature.{plain}
+pub use denote.Slice.{ShrSlice, shr_slice_Tells, shr_slice_vals}
+pub use denote.Steps.{closes, opens}
+pub use denote.Triple.Entry.{alive}
+pub use denote.Triple.Walked.{Goes-none_slice, Goes-ref, Stays, ends_at, says, stay_none_slice, stay_ref}
+pub use mir.Syntax.{named}
+pub use mir.Val.{Val, vnil, vstruct, vunit}
+pub use types.ByLocal.{alloc_all, free_all, look_at, pass_all, sets}
+pub use types.Part.{agg}
+pub use types.Run.{enter, no_more, of_opd, returns, unit_lit}

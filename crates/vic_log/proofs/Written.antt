@@ -84,11 +84,9 @@ reads_on v lines es (e ∷ rest) r o s few =
     let first = s 0 e refl in
     let clean : line_fault v (entries (numbered 2 es)) (suc n) (Some line) ≡ None = ap (λ fs. line_fault v fs (suc n) (Some line)) (entries-numbered 2 es) ∙ no_fault v es rest e (suc n) o first (omega arith) (omega arith) in
     let long : length (es ++ e ∷ []) ≡ n = omega (arith, length_push es e) in
-    let more : AreRead (lines ++ line ∷ []) (of_version v (es ++ e ∷ [])) (suc (length (es ++ e ∷ []))) =
-    rw (long, ← after_line-is v es e (suc n) (omega arith) first) (AreRead-push r line clean) in
-    subst (λ ls. IsLogOf ls (of_version v (es ++ e ∷ rest))) (append_assoc lines (line ∷ []) (map entry_text rest))
-    (subst (λ fs. IsLogOf ((lines ++ line ∷ []) ++ map entry_text rest) (of_version v fs)) (append_assoc es (e ∷ []) rest)
-    (reads_on v (lines ++ line ∷ []) (es ++ e ∷ []) rest more (subst IsInOrder (sym (append_assoc es (e ∷ []) rest)) o) (λ i f k. s (suc i) f k) (omega arith)))
+    let more : AreRead (lines ++ line ∷ []) (of_version v (es ++ e ∷ [])) (suc (length (es ++ e ∷ []))) = rw (long, ← after_line-is v es e (suc n) (omega arith) first) (AreRead-push r line clean) in
+    rw (← append_assoc lines (line ∷ []) (map entry_text rest), ← append_assoc es (e ∷ []) rest)
+    (reads_on v (lines ++ line ∷ []) (es ++ e ∷ []) rest more (rw append_assoc o) (λ i f k. s (suc i) f k) (omega arith))
 
 plain_all : (v : Version) (es : List Entry) → AreSpelled v es → AllByRecursion IsPlain (map entry_text es)
 plain_all v [] s = tt

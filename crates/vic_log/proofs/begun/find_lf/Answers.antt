@@ -1,4 +1,4 @@
-use Rattle.vic_log.proofs.Words.{◌≡◌, ℕ, ◌+◌, ◌<◌, ◌≤◌, eqb, Bool, false, true, not, List, length, map, get_or, sym, ap, subst, ◌∙◌, arith, w8, inl, inr, cases_lt, lf, bitmask_splat, length-chunk, get_or-chunk, trailing_mask_l, run_in_chunk_fails, run_in_chunk_stops, prefix_len}
+use Rattle.vic_log.proofs.Words.{◌≡◌, ℕ, ◌+◌, ◌<◌, ◌≤◌, eqb, Bool, false, true, not, List, length, map, get_or, sym, ap, ◌∙◌, arith, w8, lf, bitmask_splat, length-chunk, trailing_mask_l, run_in_chunk_fails, run_in_chunk_stops, prefix_len}
 use lib.Count.{count_trailing_zeros}
 use lib.Lanes.{chunk, mask_l}
 use Rattle.vic_log.proofs.Lanes.{some_marked}
@@ -6,31 +6,17 @@ use Rattle.vic_log.proofs.begun.find_lf.Goals as goal
 
 module _ (p : ℕ → Bool) (xs : List ℕ) (k : ℕ) (room : 32 ≤ length xs) (some : 0 < mask_l (map p (chunk 0 32 xs)))
     (is : k ≡ count_trailing_zeros 64 (mask_l (map p (chunk 0 32 xs)))) where
-  long : length (chunk 0 32 xs) ≡ 32
-  long = length-chunk 0 32 xs room
-
   counted : k ≡ prefix_len (λ x. not (p x)) (chunk 0 32 xs)
-  counted = is ∙ trailing_mask_l p 64 (chunk 0 32 xs) (omega (arith, long)) some
+  counted = is ∙ trailing_mask_l p 64 (chunk 0 32 xs) (omega (arith, length-chunk 0 32 xs room)) some
 
   before : (j : ℕ) → j < k → p (get_or xs j 0) ≡ false
   before j lt = run_in_chunk_fails p xs 0 32 k 0 room counted j (omega arith) (omega arith)
 
   within : k < 32
-  within = elim (cases_lt k 32) [
-    | inl lt ↦ lt
-    | inr le ↦
-        let r = some_marked p (chunk 0 32 xs) some in
-        let plain : 0 + r.0 ≡ r.0 = omega arith in
-        let at = get_or-chunk 0 32 xs r.0 0 (omega (arith, r.1, long)) ∙ ap (λ j. get_or xs j 0) plain in
-        let no = before r.0 (omega (arith, r.1, long)) in
-        let yes = r.2 in
-        absurd (cc (sym (ap p at) ∙ yes))
-  ]
+  within = omega (arith, counted, some_marked p xs 0 32 room some)
 
   there : p (get_or xs k 0) ≡ true
-  there =
-      let plain : 0 + k ≡ k = omega arith in
-      subst (λ j. p (get_or xs j 0) ≡ true) plain (run_in_chunk_stops p xs 0 32 k 0 room counted within)
+  there = let plain : 0 + k ≡ k = omega arith in rw plain at (run_in_chunk_stops p xs 0 32 k 0 room counted within)
 
 pub returns-then-marks-ne0 : goal.returns-then-marks-ne0
 returns-then-marks-ne0 c =

@@ -1,28 +1,23 @@
-use Rattle.vic_log.proofs.Words.{rules, ◌≡◌, false, ◌+◌, ◌++◌, ◌∷◌, [], ℕ, List, None, Result, Ok, Err, MatchResult, IfErr, OnOk, length, sym, ap, append_assoc, add-one, arith, inl, length-append, nil_from_length, err_from_is_err_and, has, LogFault, HasJudged, IsEarly, lf, cr, without_last, LogValue, next_fault, after_line, RefusesNext}
+use Rattle.vic_log.proofs.Words.{rules, ◌≡◌, false, ◌+◌, ◌++◌, ◌∷◌, [], ℕ, List, None, Result, Ok, Err, MatchResult, IfErr, OnOk, length, refl, sym, ap, append_assoc, add-one, arith, inl, length-append, nil_from_length, err_from_is_err_and, has, LogFault, HasJudged, IsEarly, lf, cr, without_last, LogValue, next_fault, after_line, RefusesNext}
 use Rattle.vic_log.proofs.Judged.{HasCut-more, HasJudged-end, early-refused, early-long, early-many}
 use Rattle.vic_log.proofs.Passing.{AreRead-above, AreRead-none}
 use Rattle.vic_log.proofs.Place.{over}
 use Rattle.vic_log.proofs.begun.take_end.Goals as goal
 
 -- the line begun and the bytes behind it are the whole line
-ended : {old new : LogValue} {n m : ℕ} {text line next whole : List ℕ} → HasJudged text old n line → (bytes : List ℕ) → has bytes lf ≡ false → whole ≡ line ++ bytes
-    → next_fault old (n + 1) (without_last cr whole) ≡ None → new ≡ after_line old (n + 1) (without_last cr whole) → m ≡ n + 1 → next ≡ []
-    → HasJudged (text ++ (bytes ++ lf ∷ [])) new m next
-ended {text = text} j bytes lacks w h l k e =
-    rw (l, k, e, w, add-one, ← append_assoc text bytes (lf ∷ [])) (HasJudged-end (HasCut-more j.begun bytes lacks) (rw (w, add-one) at h))
-
-refused : {log : LogValue} {n : ℕ} {text line whole : List ℕ} → HasJudged text log n line → (bytes : List ℕ) → has bytes lf ≡ false → whole ≡ line ++ bytes
-    → (fault : LogFault) → RefusesNext log (n + 1) (without_last cr whole) fault → (more : List ℕ) → IsEarly fault (text ++ (bytes ++ lf ∷ more))
-refused {text = text} j bytes lacks w fault h more =
-    rw (← append_assoc text bytes (lf ∷ more)) (early-refused (HasCut-more j.begun bytes lacks) fault (rw (w, add-one) at h) more)
-
-alone : {A : Type 0} {line : List ℕ} (old new : LogValue) (n m : ℕ) (bytes : List ℕ) (r : Result A LogFault) → line ≡ [] → has bytes lf ≡ false
-    → MatchResult r (λ _. next_fault old (n + 1) (without_last cr bytes) ≡ None) (RefusesNext old (n + 1) (without_last cr bytes))
-    → OnOk r (new ≡ after_line old (n + 1) (without_last cr bytes)) → OnOk r (m ≡ n + 1)
-    → OnOk r ((text : List ℕ) → HasJudged text old n line → HasJudged (text ++ (bytes ++ lf ∷ [])) new m line)
+taken : {A : Type 0} (old new : LogValue) (n m : ℕ) (line next whole bytes : List ℕ) (r : Result A LogFault) → has bytes lf ≡ false → whole ≡ line ++ bytes
+    → MatchResult r (λ _. next_fault old (n + 1) (without_last cr whole) ≡ None) (RefusesNext old (n + 1) (without_last cr whole))
+    → OnOk r (new ≡ after_line old (n + 1) (without_last cr whole)) → OnOk r (m ≡ n + 1) → next ≡ []
+    → OnOk r ((text : List ℕ) → HasJudged text old n line → HasJudged (text ++ (bytes ++ lf ∷ [])) new m next)
     × IfErr r (λ e. (text more : List ℕ) → HasJudged text old n line → IsEarly e (text ++ (bytes ++ lf ∷ more)))
-alone old new n m bytes (Ok x) none lacks h l k = ((λ text j. ended j bytes lacks (sym (ap (λ xs. xs ++ bytes) none)) h l k none), tt)
-alone old new n m bytes (Err f) none lacks h l k = (tt, λ text more j. refused j bytes lacks (sym (ap (λ xs. xs ++ bytes) none)) f h more)
+taken old new n m line next whole bytes (Ok x) lacks w h l k e = (
+  (λ text j. rw (l, k, e, w, add-one, ← append_assoc text bytes (lf ∷ [])) (HasJudged-end (HasCut-more j.begun bytes lacks) (rw (w, add-one) at h))),
+  tt,
+)
+taken old new n m line next whole bytes (Err f) lacks w h l k e = (
+  tt,
+  (λ text more j. rw (← append_assoc text bytes (lf ∷ more)) (early-refused (HasCut-more j.begun bytes lacks) f (rw (w, add-one) at h) more)),
+)
 
 pub returns-then-begun-eq-MAX_LINES-clause-err : goal.returns-then-begun-eq-MAX_LINES-clause-err
 returns-then-begun-eq-MAX_LINES-clause-err c = λ text more j.
@@ -43,11 +38,13 @@ end_line-requires-2-clause-above c = λ some. AreRead-above _ c.requires.judged.
 
 pub returns-then-is_empty-clause-ok : goal.returns-then-is_empty-clause-ok
 returns-then-is_empty-clause-ok c =
-    (alone _ _ _ _ _ c.end_line.result (nil_from_length c.args.begun.now.line.items (search rules)) c.requires.no_lf c.end_line.ensures.answer c.end_line.ensures.log c.end_line.ensures.number).0
+    let none = nil_from_length c.args.begun.now.line.items (search rules) in
+    (taken _ _ _ _ _ _ _ _ c.end_line.result c.requires.no_lf (sym (ap (λ xs. xs ++ c.args.bytes.now) none)) c.end_line.ensures.answer c.end_line.ensures.log c.end_line.ensures.number none).0
 
 pub returns-then-is_empty-clause-err : goal.returns-then-is_empty-clause-err
 returns-then-is_empty-clause-err c =
-    (alone _ _ _ _ _ c.end_line.result (nil_from_length c.args.begun.now.line.items (search rules)) c.requires.no_lf c.end_line.ensures.answer c.end_line.ensures.log c.end_line.ensures.number).1
+    let none = nil_from_length c.args.begun.now.line.items (search rules) in
+    (taken _ _ _ _ _ _ _ _ c.end_line.result c.requires.no_lf (sym (ap (λ xs. xs ++ c.args.bytes.now) none)) c.end_line.ensures.answer c.end_line.ensures.log c.end_line.ensures.number none).1
 
 pub returns-then-is_err-clause-err : goal.returns-then-is_err-clause-err
 returns-then-is_err-clause-err c = λ text more j.
@@ -61,7 +58,9 @@ returns-then-is_err-clause-err c = λ text more j.
 pub returns-in_err-end_line-clause-err : goal.returns-in_err-end_line-clause-err
 returns-in_err-end_line-clause-err c =
     let p = err_from_is_err_and c.from_residual.result c.from_residual.ensures.1 in
-    rw (p.1, p.2) (λ text more j. refused {whole = c.as_slice.result.now} j c.args.bytes.now c.requires.no_lf (search rules) c.in_err-end_line.field-0.0 c.in_err-end_line.ensures.answer more)
+    let old = c.args.begun.now in
+    rw (p.1, p.2) (taken {A = Unit {0}} old.log old.log old.number old.number old.line.items [] c.as_slice.result.now c.args.bytes.now (Err c.in_err-end_line.field-0.0) c.requires.no_lf (search rules) c.in_err-end_line.ensures.answer tt tt refl).1
 
 pub returns-clause-ok : goal.returns-clause-ok
-returns-clause-ok c = λ text j. ended {whole = c.as_slice.result.now} j c.args.bytes.now c.requires.no_lf (search rules) c.in_ok-end_line.ensures.answer c.in_ok-end_line.ensures.log c.in_ok-end_line.ensures.number (search rules)
+returns-clause-ok c =
+    (taken {A = Unit {0}} _ _ _ _ c.args.begun.now.line.items _ c.as_slice.result.now c.args.bytes.now (Ok tt) c.requires.no_lf (search rules) c.in_ok-end_line.ensures.answer c.in_ok-end_line.ensures.log c.in_ok-end_line.ensures.number (search rules)).0

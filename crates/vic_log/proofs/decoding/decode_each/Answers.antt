@@ -1,6 +1,6 @@
 use Rattle.vic_log.proofs.Words.{◌+◌, ◌*◌, get_or, set, ap₂, sym, subst, ◌∙◌, arith, get_or-set_same, get_or-set_other, SpellsByte}
 use borrow.Author.Count.{below_more}
-use Rattle.vic_log.proofs.HexPairs.{spelled_all, no_digit}
+use Rattle.vic_log.proofs.HexPairs.{spelled, no_digit}
 use Rattle.vic_log.proofs.decoding.decode_each.Goals as goal
 use Rattle.vic_log.proofs.decoding.decode_each.Goals.{then-high-gt15-via-then-high-gt15, then-high-gt15-via-else-high-gt15+then-low-gt15}
 
@@ -26,4 +26,4 @@ returns-then-high-gt15-clause-err c = λ _. elim c.then-high-gt15.branch [
 ]
 
 pub returns-clause-ok : goal.returns-clause-ok
-returns-clause-ok c = λ _. spelled_all c.args.digits.now c.bytes.bytes (omega arith) (λ k lt. c.bytes.invariant k (omega arith))
+returns-clause-ok c = λ _. spelled c.args.digits.now c.bytes.bytes 0 (omega arith) (λ k lt. c.bytes.invariant k (omega arith))

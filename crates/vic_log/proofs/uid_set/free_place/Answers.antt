@@ -1,5 +1,5 @@
 use Rattle.vic_log.proofs.Words.{arith}
-use Rattle.vic_log.proofs.UidSets.{none_has}
+use Rattle.vic_log.proofs.Sets.{none_has}
 use Rattle.vic_log.proofs.uid_set.free_place.Goals as goal
 
 pub returns-clause-full : goal.returns-clause-full
