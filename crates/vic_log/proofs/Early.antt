@@ -1,9 +1,9 @@
 -- An early fault stays the fault of each text that goes on.
-use Rattle.vic_log.proofs.Words.{◌≡◌, ◌⊎◌, ℕ, suc, ◌<◌, ◌≤◌, false, Some, List, [], ◌∷◌, ◌++◌, length, refl, sym, ap, subst, ◌∙◌, arith, append-nil, inl, inr, slice_get, nat_eq, nat_lt, if◌then◌else◌, ◌==◌, map, common_steps, nat_tests, cases_Bool, cases_lt, cond-true, cond-false, lt-ltb, length-map, length_push, map-append, slice_get_within, Entry, Version, LineFault, TooManyLines, LineTooLong, has, IsLong, IsJudged, IsEarlyFault, onto, cut, ends_with, content, lines_of_text, entries, version_of, line_fault, log_upto, fault_on, IsFirstFault, IsCut}
+use Rattle.vic_log.proofs.Words.{◌≡◌, ◌⊎◌, ℕ, suc, ◌<◌, ◌≤◌, false, Some, List, [], ◌∷◌, ◌++◌, length, refl, sym, ap, subst, ◌∙◌, arith, append-nil, append_assoc, or_from, eqb-true, inl, inr, slice_get, nat_lt, if◌then◌else◌, ◌==◌, map, common_steps, nat_tests, cases_Bool, cases_lt, cond-true, cond-false, lt-ltb, length-map, length_push, map-append, slice_get_within, Entry, Version, LineFault, TooManyLines, LineTooLong, has, IsLong, IsJudged, IsEarlyFault, onto, cut, content, lines_of_text, entries, version_of, line_fault, log_upto, fault_on, IsFirstFault, IsCut}
 use Rattle.vic_log.proofs.Passing.{AgreeBelow, log_agrees, fault_agrees, first_agrees}
 use Rattle.vic_log.proofs.Places.{slice_get-append, slice_get_seam}
 use Rattle.vic_log.proofs.Sets.{eq_swapped}
-use Rattle.vic_log.proofs.Written.{parted, not_last}
+use Rattle.vic_log.proofs.Written.{parted, not_last, cut-line}
 
 -- ---- bytes without LF
 
@@ -36,34 +36,32 @@ cut-some b more = grind (arith, nat_tests)
 
 -- ---- a text is parts with their LF, and bytes without one
 
+-- more bytes without LF
+pub IsCut-more : {text rest : List ℕ} {parts : List (List ℕ)} → IsCut text parts rest → (bytes : List ℕ) → has bytes 10 ≡ false → IsCut (text ++ bytes) parts (rest ++ bytes)
+IsCut-more c bytes lacks = grind (arith, common_steps)
+
+-- an LF
+pub cut-end : {text rest : List ℕ} {parts : List (List ℕ)} → IsCut text parts rest → (more : List ℕ) → cut (text ++ 10 ∷ more) ≡ parts ++ (rest ++ 10 ∷ []) ∷ cut more
+cut-end {rest = rest} {parts = parts} c more = c.cuts (10 ∷ more) ∙ ap (λ xs. parts ++ xs) (cut-line rest more c.no_lf)
+
+pub IsCut-end : {text rest : List ℕ} {parts : List (List ℕ)} → IsCut text parts rest → IsCut (text ++ 10 ∷ []) (parts ++ (rest ++ 10 ∷ []) ∷ []) []
+IsCut-end {text = text} {rest = rest} {parts = parts} c =
+    record { cuts = λ more. rw (append_assoc text (10 ∷ []) more, append_assoc parts ((rest ++ 10 ∷ []) ∷ []) (cut more)) (cut-end c more); no_lf = refl }
+
 record Split (text : List ℕ) : Type 0 where
   parts : List (List ℕ)
   tail : List ℕ
   is_cut : IsCut text parts tail
 
-split_by : (b : ℕ) (text tail : List ℕ) (parts : List (List ℕ)) → b == 10 ≡ false → IsCut text parts tail → Split (b ∷ text)
-split_by b text tail [] other c = record {
-  parts = [];
-  tail = b ∷ tail;
-  is_cut = record {
-    cuts = λ more. ap (λ ps. if b == 10 then (b ∷ []) ∷ ps else onto b ps) (c.cuts more);
-    no_lf = let first : nat_eq 10 b ≡ false = eq_swapped 10 b ∙ other in rw first c.no_lf;
-  };
-}
-split_by b text tail (part ∷ parts) other c = record {
-  parts = (b ∷ part) ∷ parts;
-  tail = tail;
-  is_cut = record { cuts = λ more. cond-false _ _ _ other ∙ ap (onto b) (c.cuts more); no_lf = c.no_lf };
-}
+split_on : {text rest : List ℕ} {parts : List (List ℕ)} → IsCut text parts rest → (more : List ℕ) → Split (text ++ more)
+split_on {text = text} {rest = rest} {parts = parts} c [] = rw append-nil (record { parts = parts; tail = rest; is_cut = c })
+split_on {text = text} c (b ∷ more) = rw (← append_assoc text (b ∷ []) more) (elim (cases_Bool (b == 10)) [
+  | inl ends ↦ rw (eqb-true b 10 ends) (split_on (IsCut-end c) more)
+  | inr other ↦ split_on (IsCut-more c (b ∷ []) (or_from _ _ (eq_swapped 10 b ∙ other) refl)) more
+])
 
 split : (text : List ℕ) → Split text
-split [] = record { parts = []; tail = []; is_cut = record { cuts = λ more. refl; no_lf = refl } }
-split (b ∷ text) =
-    let s = split text in
-    elim (cases_Bool (b == 10)) [
-      | inl ends ↦ record { parts = (b ∷ []) ∷ s.parts; tail = s.tail; is_cut = record { cuts = λ more. cond-true _ _ _ ends ∙ ap (λ ps. (b ∷ []) ∷ ps) (s.is_cut.cuts more); no_lf = s.is_cut.no_lf } }
-      | inr other ↦ split_by b text s.tail s.parts other s.is_cut
-    ]
+split text = let none : IsCut [] [] [] = record { cuts = λ more. refl; no_lf = refl } in split_on none text
 
 pub cut-whole : {text : List ℕ} {parts : List (List ℕ)} {rest : List ℕ} → IsCut text parts rest → cut text ≡ parts ++ cut rest
 cut-whole {text = text} {parts = parts} {rest = rest} c = ap cut (sym (append-nil text)) ∙ (c.cuts [] ∙ ap (λ xs. parts ++ cut xs) (append-nil rest))
@@ -83,9 +81,6 @@ last_part parts (b ∷ t) part place h k above =
 
 pub content-open : (part : List ℕ) → has part 10 ≡ false → content part ≡ part
 content-open part h = cond-false _ _ _ (not_last part 10 h)
-
-one_more : (part : List ℕ) (b : ℕ) → 129 ≤ length part → ends_with 13 part ≡ false → 129 ≤ length (content (part ++ b ∷ []))
-one_more part b long cr = grind (arith, common_steps)
 
 pub still_long : (part rest : List ℕ) → has part 10 ≡ false → IsLong part → 128 < length (content (part ++ rest))
 still_long part rest h k = grind (arith, common_steps)

@@ -1,5 +1,5 @@
 -- A line reads as an entry if and only if it spells it.
-use Rattle.vic_log.proofs.Words.{◌≡◌, ◌⊎◌, inl, inr, ℕ, ◌+◌, ◌*◌, ◌/◌, ◌%◌, ◌<◌, ◌≤◌, true, false, Option, Some, None, Result, Ok, Err, List, [], ◌∷◌, length, refl, sym, ap, subst, ◌∙◌, arith, nat_lt, ◌==◌, ◌||◌, if◌then◌else◌, IfOk, nat_tests, cond_both, cond-false, eqb-true, ne_eqb, ltb-false, hex_digit_value, IsUid, Entry, Sent, Silent, Collision, Heard, Listed, Garbled, FieldCycle, Version, V2, LineFault, line_reading, to_be_bytes, w64, be_bytes_8, from_be_bytes-to_be_bytes_8, decode_of, digit_or_error, ◌>>=◌, FromHexError, decode_of-even, decode_pairs-ok, cons_byte, decode_pairs-ok_pair, AreBytes, SpellsRequest, Reply, SpellsReply, request_reading, reply_reading, Request, FrameFault, request_found, request_only, reply_found, reply_only, ⊤, IsDigitOf, AreDigitsOf, HasBytes, SpellsEntry, IsPassedOver}
+use Rattle.vic_log.proofs.Words.{◌≡◌, inl, ℕ, ◌+◌, ◌*◌, ◌/◌, ◌%◌, ◌<◌, ◌≤◌, true, false, Option, Some, None, Result, Ok, Err, List, [], ◌∷◌, length, refl, ap, subst, ◌∙◌, arith, nat_lt, ◌==◌, ◌||◌, if◌then◌else◌, IfOk, nat_tests, cond_both, eqb-true, hex_digit_value, IsUid, Entry, Sent, Silent, Collision, Heard, Listed, Garbled, FieldCycle, Version, V2, LineFault, line_reading, to_be_bytes, w64, be_bytes_8, from_be_bytes-to_be_bytes_8, decode_of, digit_or_error, ◌>>=◌, FromHexError, decode_of-even, decode_pairs-ok, cons_byte, decode_pairs-ok_pair, AreBytes, SpellsRequest, request_reading, reply_reading, Request, FrameFault, request_found, request_only, reply_found, reply_only, ⊤, IsDigitOf, AreDigitsOf, HasBytes, SpellsEntry, IsPassedOver}
 use Rattle.hex.specs.Hex.{decode_pairs}
 use Rattle.vic_log.specs.LineReading.{one_letter, with_digits, with_bytes, sent, heard, listed_uid}
 use Rattle.vic_log.proofs.Supply.{IsUid-from, is_uid_from}
@@ -30,21 +30,16 @@ decoded i [] bytes h = let none : [] ≡ bytes = cc in subst (AreDigitsOf []) no
 decoded i (d ∷ []) bytes h = cc
 decoded i (a ∷ b ∷ rest) bytes h =
     let w = pair_parts a b i (hex_digit_value a) (hex_digit_value b) (decode_pairs (i + 2) rest) bytes h in
-    let x = w.0 in
-    let y = w.1 in
-    let high = value-digit a x w.3 in
-    let low = value-digit b y w.4 in
-    let fits = small b y low in
-    let upper : x ≡ (x * 16 + y) / 16 = omega arith in
-    let lower : y ≡ (x * 16 + y) % 16 = omega arith in
-    subst (AreDigitsOf (a ∷ b ∷ rest)) (sym w.6) (subst (IsDigitOf a) upper high, subst (IsDigitOf b) lower low, decoded (i + 2) rest w.2 w.5)
+    let fits = small b w.1 (value-digit b w.1 w.4) in
+    let upper : (w.0 * 16 + w.1) / 16 ≡ w.0 = omega arith in
+    let lower : (w.0 * 16 + w.1) % 16 ≡ w.1 = omega arith in
+    rw (w.6, upper, lower) (value-digit a w.0 w.3, value-digit b w.1 w.4, decoded (i + 2) rest w.2 w.5)
 
 decodes : (i : ℕ) (digits bytes : List ℕ) → AreDigitsOf digits bytes → decode_pairs i digits ≡ Ok bytes
 unfolding decode_pairs
 decodes i [] [] h = refl
 decodes i [] (v ∷ bytes) h = absurd h
-decodes i (d ∷ []) [] h = absurd h
-decodes i (d ∷ []) (v ∷ bytes) h = absurd h
+decodes i (d ∷ []) bytes h = absurd h
 decodes i (a ∷ b ∷ rest) [] h = absurd h
 decodes i (a ∷ b ∷ rest) (v ∷ bytes) h =
     let whole : v / 16 * 16 + v % 16 ≡ v = omega arith in

@@ -1,9 +1,9 @@
 -- A text that is read in pieces: more bytes, a fault, and the end.
-use Rattle.vic_log.proofs.Words.{◌≡◌, ◌⊎◌, inl, inr, ℕ, suc, ◌<◌, false, Some, None, List, [], ◌∷◌, ◌++◌, length, append_assoc, append-nil, refl, sym, ap, subst, ◌∙◌, arith, slice_get, map, common_steps, nat_tests, cases_lt, cond-false, le-ltb, length-map, map-append, nil_from_length, has, LineFault, TooManyLines, LineTooLong, Header, LogFault, Line, Read, Memory, Spent, HasJudged, IsLong, IsJudged, IsEarlyFault, IsEarly, lf, cr, cut, without_last, content, lines_of_text, LogValue, entries, fault_on, IsFirstFault, IsLogOf, Refuses, next_fault, after_line, RefusesNext, HasCut, IsShort}
-use Rattle.vic_log.proofs.Early.{begins, content-open, cut-only, cut-some, cut-whole, last_part, lines_are, still_long, too_many, too_long}
+use Rattle.vic_log.proofs.Words.{◌≡◌, ◌⊎◌, inl, inr, ℕ, suc, ◌<◌, false, Some, None, List, [], ◌∷◌, ◌++◌, length, append-nil, refl, sym, ap, subst, ◌∙◌, arith, slice_get, map, common_steps, nat_tests, cases_lt, cond-false, le-ltb, length-map, map-append, nil_from_length, has, LineFault, TooManyLines, LineTooLong, Header, LogFault, Line, Read, Memory, Spent, HasJudged, IsLong, IsJudged, IsEarlyFault, IsEarly, lf, cr, cut, without_last, content, lines_of_text, LogValue, entries, fault_on, IsFirstFault, IsLogOf, Refuses, next_fault, after_line, RefusesNext, HasCut, IsShort}
+use Rattle.vic_log.proofs.Early.{IsCut-end, IsCut-more, begins, content-open, cut-end, cut-only, cut-some, cut-whole, last_part, lines_are, still_long, too_many, too_long}
 use Rattle.vic_log.proofs.Passing.{AreRead-end, AreRead-entries, AreRead-fault, AreRead-push, fault_agrees, in_limit, no_header}
 use Rattle.vic_log.proofs.Places.{slice_get-append, slice_get_seam}
-use Rattle.vic_log.proofs.Written.{content-end, cut-line, ends_with-push}
+use Rattle.vic_log.proofs.Written.{content-end, ends_with-push}
 
 long_some : (line : List ℕ) → IsLong line → 0 < length line
 long_some line h = grind (arith, nat_tests)
@@ -14,48 +14,39 @@ long_more line rest h = grind (arith, common_steps)
 module _ {text line : List ℕ} {log : LogValue} {n : ℕ} (j : HasCut text log n line) where
   -- more bytes of the line begun
   pub HasCut-more : (bytes : List ℕ) → has bytes lf ≡ false → HasCut (text ++ bytes) log n (line ++ bytes)
-  HasCut-more bytes lacks = grind (arith, common_steps)
+  HasCut-more bytes lacks = record { parts = j.parts; is_cut = IsCut-more j.is_cut bytes lacks; read = j.read }
 
   -- the line's LF
-  cut-end : (more : List ℕ) → cut (text ++ lf ∷ more) ≡ j.parts ++ (line ++ lf ∷ []) ∷ cut more
-  cut-end more = j.is_cut.cuts (lf ∷ more) ∙ ap (λ xs. j.parts ++ xs) (cut-line line more j.is_cut.no_lf)
-
-  lines-end : (more : List ℕ) → lines_of_text (text ++ lf ∷ more) ≡ map content j.parts ++ without_last cr line ∷ map content (cut more)
-  lines-end more = lines_are (text ++ lf ∷ more) j.parts ((line ++ lf ∷ []) ∷ cut more) (cut-end more) ∙ ap (λ x. map content j.parts ++ x ∷ map content (cut more)) (content-end line)
-
   pub HasJudged-end : next_fault log (suc n) (without_last cr line) ≡ None → HasJudged (text ++ lf ∷ []) (after_line log (suc n) (without_last cr line)) (suc n) []
-  HasJudged-end h =
-      let part = line ++ lf ∷ [] in
-      let parts_are : map content (j.parts ++ part ∷ []) ≡ map content j.parts ++ without_last cr line ∷ [] = map-append content j.parts (part ∷ []) ∙ ap (λ x. map content j.parts ++ x ∷ []) (content-end line) in
-      record {
-        begun = record {
-          parts = j.parts ++ part ∷ [];
-          is_cut = record { cuts = λ more. ap cut (append_assoc text (lf ∷ []) more) ∙ (cut-end more ∙ sym (append_assoc j.parts (part ∷ []) (cut more))); no_lf = refl };
-          read = rw parts_are (AreRead-push j.read (without_last cr line) h);
-        };
-        limit = in_limit log.version (entries log.lines) (suc n) (without_last cr line) h;
-        short = inl (omega arith);
-        last = λ e. refl;
-      }
+  HasJudged-end h = record {
+    begun = record {
+      parts = j.parts ++ (line ++ lf ∷ []) ∷ [];
+      is_cut = IsCut-end j.is_cut;
+      read = rw (map-append, content-end line) (AreRead-push j.read (without_last cr line) h);
+    };
+    limit = in_limit log.version (entries log.lines) (suc n) (without_last cr line) h;
+    short = inl (omega arith);
+    last = λ e. refl;
+  }
 
   -- a fault of the part that comes next is the first fault of the text
-  early_part : (all x part : List ℕ) (ls others : List (List ℕ)) (f : LineFault) → lines_of_text all ≡ map content j.parts ++ x ∷ ls → cut all ≡ j.parts ++ part ∷ others
-      → next_fault log (suc n) x ≡ Some f → IsJudged part ⊎ (suc n ≡ 1000001) → IsEarlyFault all (suc n) f
-  early_part all x part ls others f l c h judged = record {
-    fault = rw l (AreRead-fault j.read x ls f h);
+  early_part : (all part : List ℕ) (others : List (List ℕ)) (f : LineFault) → cut all ≡ j.parts ++ part ∷ others
+      → next_fault log (suc n) (content part) ≡ Some f → IsJudged part ⊎ (suc n ≡ 1000001) → IsEarlyFault all (suc n) f
+  early_part all part others f c h judged = record {
+    fault = rw (lines_are all j.parts (part ∷ others) c) (AreRead-fault j.read (content part) (map content others) f h);
     place = n;
     number = refl;
     part = part;
     there =
         let long : n ≡ length j.parts = sym j.read.count ∙ length-map j.parts content in
-        ap (slice_get (cut all)) long ∙ (ap (λ ps. slice_get ps (length j.parts)) c ∙ slice_get_seam j.parts part others);
+        rw (long, c) (slice_get_seam j.parts part others);
     judged = judged;
   }
 
   -- why the line isn't taken, whose LF has come
   pub early-refused : (fault : LogFault) → RefusesNext log (suc n) (without_last cr line) fault → (more : List ℕ) → IsEarly fault (text ++ lf ∷ more)
-  early-refused (Line k f) h more = rw h.0 (early_part (text ++ lf ∷ more) _ (line ++ lf ∷ []) _ (cut more) f (lines-end more) (cut-end more) h.1 (inl (inl (ends_with-push line lf))))
-  early-refused Memory h more = (suc n, rw (lines-end more) (AreRead-entries j.read (without_last cr line) (map content (cut more)) h))
+  early-refused (Line k f) h more = rw h.0 (early_part (text ++ lf ∷ more) (line ++ lf ∷ []) (cut more) f (cut-end j.is_cut more) (rw (content-end line) h.1) (inl (inl (ends_with-push line lf))))
+  early-refused Memory h more = (suc n, rw (lines_are (text ++ lf ∷ more) j.parts _ (cut-end j.is_cut more), content-end line) (AreRead-entries j.read (without_last cr line) (map content (cut more)) h))
   early-refused Read h more = h
   early-refused Spent h more = h
 
@@ -65,15 +56,13 @@ module _ {text line : List ℕ} {log : LogValue} {n : ℕ} (j : HasCut text log 
       let s = begins line more j.is_cut.no_lf (long_some line l) in
       let part = line ++ s.rest in
       let c : cut (text ++ more) ≡ j.parts ++ part ∷ s.others = j.is_cut.cuts more ∙ ap (λ xs. j.parts ++ xs) s.parts_are in
-      early_part (text ++ more) (content part) part (map content s.others) s.others LineTooLong (lines_are (text ++ more) j.parts (part ∷ s.others) c) c
+      early_part (text ++ more) part s.others LineTooLong c
       (too_long log.version (entries log.lines) (suc n) (content part) (still_long line s.rest j.is_cut.no_lf l) ∙ cond-false _ _ _ (le-ltb 1000000 (suc n) (omega arith)))
       (inl (inr (long_more line s.rest l)))
 
   -- the last line, which has no LF
   lines-last : 0 < length line → lines_of_text text ≡ map content j.parts ++ line ∷ []
-  lines-last some =
-      lines_are text j.parts (line ∷ []) (cut-whole j.is_cut ∙ ap (λ xs. j.parts ++ xs) (cut-only line j.is_cut.no_lf some))
-      ∙ ap (λ x. map content j.parts ++ x ∷ []) (content-open line j.is_cut.no_lf)
+  lines-last some = rw (lines_are text j.parts (line ∷ []) (rw (cut-whole j.is_cut, cut-only line j.is_cut.no_lf some) refl), content-open line j.is_cut.no_lf) refl
 
   pub end-next : 0 < length line → next_fault log (suc n) line ≡ None → IsLogOf (lines_of_text text) (after_line log (suc n) line)
   end-next some h = rw (lines-last some) (AreRead-end (AreRead-push j.read line h) (omega arith))
@@ -102,7 +91,7 @@ early-many {text = text} {line = line} {log = log} {n = n} j (b ∷ more) all so
     let s = cut-some b more in
     let c : cut (text ++ b ∷ more) ≡ begun.parts ++ s.rest ∷ s.others = begun.is_cut.cuts (b ∷ more) ∙ (ap (λ xs. begun.parts ++ cut (xs ++ b ∷ more)) (j.last all) ∙ ap (λ ps. begun.parts ++ ps) s.parts_are) in
     subst (λ (k : ℕ). IsEarlyFault (text ++ b ∷ more) (suc k) TooManyLines) all
-    (early_part begun (text ++ b ∷ more) (content s.rest) s.rest (map content s.others) s.others TooManyLines (lines_are (text ++ b ∷ more) begun.parts (s.rest ∷ s.others) c) c
+    (early_part begun (text ++ b ∷ more) s.rest s.others TooManyLines c
     (too_many log.version (entries log.lines) (suc n) (content s.rest) (omega arith)) (inr (omega arith)))
 
 -- ---- bytes without an early fault
@@ -119,9 +108,9 @@ no-early {text = text} {line = line} {n = n} j m f e =
     let number = e.number in
     elim (cases_lt e.place n) [
       | inl below ↦
-          let rest = map content (cut line) in
           let whole = lines_are text begun.parts (cut line) (cut-whole begun.is_cut) in
-          let clean : fault_on (lines_of_text text) m ≡ None = ap (λ ks. fault_on ks m) whole ∙ (sym (fault_agrees m ls (ls ++ rest) (λ i lt. slice_get-append ls rest i (omega arith))) ∙ begun.read.clean m (omega arith)) in
+          let same = fault_agrees m ls (ls ++ map content (cut line)) (λ i lt. slice_get-append ls (map content (cut line)) i (omega arith)) in
+          let clean : fault_on (lines_of_text text) m ≡ None = rw whole (sym same ∙ begun.read.clean m (omega arith)) in
           let fault = e.fault.here in
           cc
       | inr above ↦

@@ -3,10 +3,6 @@ use Rattle.vic_log.proofs.Words.{◌≡◌, ℕ, ◌+◌, ◌%◌, ◌^◌, ◌<
 use Rattle.std.proofs.Common.{Fits}
 use lib.Lanes.{chunk, zip2, sel_l, top, Each1, mask_l}
 
-pub itself : (v : List ℕ) → v ≡ map (λ x. x) v
-itself [] = refl
-itself (x ∷ xs) = ap (λ r. x ∷ r) (itself xs)
-
 selected : (p : ℕ → Bool) (f g : ℕ → ℕ) (v : List ℕ) → sel_l (map p v) (map f v) (map g v) ≡ map (λ x. cond (p x) (f x) (g x)) v
 selected p f g [] = refl
 selected p f g (x ∷ xs) = ap (λ r. cond (p x) (f x) (g x) ∷ r) (selected p f g xs)

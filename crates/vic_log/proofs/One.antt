@@ -2,9 +2,6 @@
 use Rattle.vic_log.proofs.Words.{◌≡◌, ◌⊎◌, inl, inr, ℕ, zero, suc, ◌<◌, Some, None, List, length, refl, arith, ⊎_elim, common_steps, cases_eq, LineFault, LogValue, version_of, log_upto, fault_on, IsFirstFault, IsLogOf}
 use Rattle.vic_log.proofs.Passing.{clean_all}
 
-not_before : (lines : List (List ℕ)) (n m : ℕ) (f g : LineFault) → IsFirstFault lines n f → IsFirstFault lines m g → n < m → ⊥
-not_before lines n m f g h k lt = let some = h.here in let none = k.first n lt in cc
-
 pub one_line : (lines : List (List ℕ)) (n m : ℕ) (f g : LineFault) → IsFirstFault lines n f → IsFirstFault lines m g → n ≡ m
 one_line lines n m f g h k = grind (arith, common_steps)
 

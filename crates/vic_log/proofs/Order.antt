@@ -20,11 +20,8 @@ IsInOrder-front es fs o = record {
 }
 
 -- a position is in a round if and only if a slot of the round is left
-slots_left-in_round : (es : List Entry) (i : ℕ) → IsInRound es i → 0 < slots_left es i
-slots_left-in_round es i r = grind (arith, nat_tests)
-
-in_round_since : (es : List Entry) (i : ℕ) (o : Option ℕ) → opener es i ≡ o → 0 < left_since es i o → IsInRound es i
-in_round_since es i o h k = grind (arith, nat_tests)
+in_round_since : (es : List Entry) (i : ℕ) (o : Option ℕ) → opener es i ≡ o → IsInRound es i ↔ (0 < left_since es i o)
+in_round_since es i o h = grind (arith, nat_tests)
 
 pub in_round-slots_left : (es : List Entry) (i : ℕ) → IsInRound es i ↔ (0 < slots_left es i)
-in_round-slots_left es i = (slots_left-in_round es i, in_round_since es i (opener es i) refl)
+in_round-slots_left es i = in_round_since es i (opener es i) refl

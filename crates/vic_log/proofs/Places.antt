@@ -13,11 +13,8 @@ abbrev FitBefore : List ℕ → List Entry → ℕ → Type 0
 FitBefore p es n = (i : ℕ) (e : Entry) → i < n → slice_get es i ≡ Some e → Fits e (outcome_at es i p)
 
 slot_step : (p : List ℕ) (answers : ℕ → Bool) (o : Option Entry) (slots : List Slot) → MeetsAll p (with_entry answers o slots) ↔ (((e : Entry) → o ≡ Some e → Fits e (outcome_of (filter answers p))) × MeetsAll p slots)
-slot_step p answers None slots = ((λ h. ((λ e k. cc), h)), (λ h. h.1))
-slot_step p answers (Some e) slots = (
-  (λ h. let w = (fits_entry answers e slots p).0 h in ((λ f k. let same : e ≡ f = cc in subst (λ g. Fits g (outcome_of (filter answers p))) same w.0), w.1)),
-  (λ h. (fits_entry answers e slots p).1 (h.0 e refl, h.1)),
-)
+slot_step p answers None slots = grind (arith, nat_tests)
+slot_step p answers (Some e) slots = grind (arith, nat_tests, fits_entry answers e slots p)
 
 pub MeetsAll-slots : (p : List ℕ) (es : List Entry) (n : ℕ) → MeetsAll p (slots_before es n) ↔ FitBefore p es n
 MeetsAll-slots p es zero = ((λ h i e k. absurd (omega arith)), (λ h. tt))

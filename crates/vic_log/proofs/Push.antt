@@ -1,5 +1,5 @@
 -- One entry more: what entries in order keep, and what a log keeps.
-use Rattle.vic_log.proofs.Words.{◌≡◌, ℕ, zero, suc, ◌+◌, ◌-◌, ◌<◌, ◌≤◌, Bool, true, false, Some, None, List, [], ◌∷◌, ◌++◌, length, take, length-append, refl, sym, ap, subst, ◌∙◌, arith, slice_get, nat_eq, nat_lt, if◌then◌else◌, not, ◌||◌, nat_tests, eq-eqb, or_right, map-append, length-map, Entry, Sent, Listed, FieldCycle, LogLine, has, Version, V1, IsOfFirstVersion, AreOfFirstVersion, slots_left, is_slot, IsInOrder, entries, listed, AreValid, is_empty, refusal, last_from, IsValidEntry, IsTyped, AreTyped, numbered, not-false, IsRisingFrom, is_outside_round, is_after_list, is_duplicate, left_after, Keeps}
+use Rattle.vic_log.proofs.Words.{◌≡◌, ℕ, zero, suc, ◌+◌, ◌-◌, ◌<◌, ◌≤◌, Bool, true, false, Some, None, List, [], ◌∷◌, ◌++◌, length, take, length-append, refl, sym, ap, subst, ◌∙◌, arith, slice_get, nat_lt, if◌then◌else◌, not, ◌||◌, nat_tests, map-append, length-map, Entry, Sent, Listed, FieldCycle, LogLine, has, Version, V1, IsOfFirstVersion, slots_left, is_slot, IsInOrder, entries, listed, AreValid, is_empty, refusal, last_from, IsValidEntry, IsTyped, numbered, IsRisingFrom, is_outside_round, is_after_list, is_duplicate, left_after, Keeps}
 use Rattle.vic_log.specs.Log.{IsLog}
 use Rattle.vic_log.proofs.Places.{last_or, AgreeBefore, opener_agrees, opener_below, agree_append, slice_get_last, agree_upto}
 use Rattle.vic_log.proofs.Order.{in_round-slots_left}
@@ -26,9 +26,8 @@ listed-append (e ∷ es) fs = listed-append es fs
 
 pub has-there : (es : List Entry) (i u : ℕ) → slice_get es i ≡ Some (Listed u) → has (listed es) u ≡ true
 has-there [] i u k = cc
-has-there (e ∷ es) zero u k = let same : e ≡ Listed u = cc in rw same (ap (λ b. b || has (listed es) u) (eq-eqb u u refl))
-has-there (Listed w ∷ es) (suc i) u k = or_right (nat_eq u w) (has (listed es) u) (has-there es i u k)
-has-there (e ∷ es) (suc i) u k = has-there es i u k
+has-there (e ∷ es) zero u k = grind (arith, nat_tests)
+has-there (e ∷ es) (suc i) u k = grind (arith, nat_tests, has-there es i u)
 
 some_listed : (us : List ℕ) (u : ℕ) → has us u ≡ true → not (is_empty us) ≡ false → ⊥
 some_listed us u h k = grind (arith, nat_tests)
@@ -90,11 +89,8 @@ rising-push n (x ∷ ls) l r h = (r.0, rising-push x.number ls l r.1 h)
 pub valid-push : (es : List Entry) (e : Entry) → AreValid es → IsValidEntry e → AreValid (es ++ e ∷ [])
 valid-push es e v h i q k = last_or es e (Sent q) i k (λ below here. v i q here) (λ same it. subst IsValidEntry it h)
 
-typed-push : (es : List Entry) (e : Entry) → AreTyped es → IsTyped e → AreTyped (es ++ e ∷ [])
-typed-push es e t h i f k = last_or es e f i k (λ below here. t i f here) (λ same it. subst IsTyped it h)
-
-first_version-push : (es : List Entry) (e : Entry) → AreOfFirstVersion es → IsOfFirstVersion e → AreOfFirstVersion (es ++ e ∷ [])
-first_version-push es e v h i f k = last_or es e f i k (λ below here. v i f here) (λ same it. subst IsOfFirstVersion it h)
+each-push : (P : Entry → Type 0) (es : List Entry) (e : Entry) → ((i : ℕ) (f : Entry) → slice_get es i ≡ Some f → P f) → P e → (i : ℕ) (f : Entry) → slice_get (es ++ e ∷ []) i ≡ Some f → P f
+each-push P es e t h i f k = last_or es e f i k (λ below here. t i f here) (λ same it. subst P it h)
 
 pub entries-push : (ls : List LogLine) (l : LogLine) → entries (ls ++ l ∷ []) ≡ entries ls ++ l.item ∷ []
 entries-push ls l = map-append (λ (x : LogLine). x.item) ls (l ∷ [])
@@ -116,22 +112,19 @@ last_from-last n (x ∷ y ∷ ls) l k =
 
 pub IsLog-push : (v : Version) (ls : List LogLine) (l : LogLine) → IsLog v ls → refusal (entries ls) l.item ≡ None → last_from 1 ls < l.number → l.number ≤ 1000000 → IsValidEntry l.item → IsTyped l.item → (v ≡ V1 → IsOfFirstVersion l.item) → IsLog v (ls ++ l ∷ [])
 IsLog-push v ls l g h above limit valid typed first =
-    grind (arith, nat_tests, entries-push, IsInOrder-push, rising-push, last_from-push, valid-push, typed-push, first_version-push)
+    grind (arith, nat_tests, entries-push, IsInOrder-push, rising-push, last_from-push, valid-push, each-push IsTyped, each-push IsOfFirstVersion)
 
 pub Keeps-push : (v : Version) (ls : List LogLine) (l : LogLine) (listing further : Bool) (left rest : ℕ) → Keeps v ls listing left
     → refusal (entries ls) l.item ≡ None → last_from 1 ls < l.number → l.number ≤ 1000000 → IsValidEntry l.item → IsTyped l.item → (v ≡ V1 → IsOfFirstVersion l.item)
     → further ≡ (listing || not (is_empty (listed (l.item ∷ [])))) → rest ≡ left_after left l.item
     → Keeps v (ls ++ l ∷ []) further rest
 Keeps-push v ls l listing further left rest k h above limit valid typed first f r =
-    let es = entries ls in
-    let es_is : entries (ls ++ l ∷ []) ≡ es ++ l.item ∷ [] = entries-push ls l in
-    let listed_is : listed (entries (ls ++ l ∷ [])) ≡ listed es ++ listed (l.item ∷ []) = ap listed es_is ∙ listed-append es (l.item ∷ []) in
-    let es_long : length es ≡ length ls = length-map ls (λ (x : LogLine). x.item) in
-    let long : length (ls ++ l ∷ []) ≡ suc (length es) = length-append ls (l ∷ []) ∙ omega arith in
+    let es_long : length (entries ls) ≡ length ls = length-map ls (λ (x : LogLine). x.item) in
+    let long : length (ls ++ l ∷ []) ≡ suc (length (entries ls)) = omega (arith, length-append ls (l ∷ [])) in
     record {
       is_log = IsLog-push v ls l k.is_log h above limit valid typed first;
-      listing_is = f ∙ (ap (λ b. b || not (is_empty (listed (l.item ∷ [])))) k.listing_is ∙ (sym (empty-append (listed es) (listed (l.item ∷ []))) ∙ ap (λ us. not (is_empty us)) (sym listed_is)));
-      left_is = r ∙ (ap (λ n. left_after n l.item) (k.left_is ∙ ap (slots_left es) (sym es_long)) ∙ (sym (slots_left-push es l.item) ∙ (ap (λ x. slots_left x (suc (length es))) (sym es_is) ∙ ap (slots_left (entries (ls ++ l ∷ []))) (sym long))));
+      listing_is = rw (entries-push ls l, listed-append, empty-append, f, k.listing_is) refl;
+      left_is = rw (entries-push ls l, long, slots_left-push, r, k.left_is, es_long) refl;
     }
 
 -- ---- how many lines a log has

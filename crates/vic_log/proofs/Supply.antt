@@ -1,5 +1,5 @@
 -- A population meets the slots where its members are open and it supplies what the slots ask for.
-use Rattle.vic_log.proofs.Words.{◌≡◌, ℕ, List, [], ◌∷◌, Bool, true, refl, sym, ap, ◌∙◌, ⊎_elim, ◌≢◌, ◌↔◌, arith, nat_tests, eqb-true, leb-true, ltb-true, lt-ltb, and_parts, and_from, false≢true, both_ways, has, is_uid, IsUid, AreDifferent, IsPopulation, Lone, outcome_of, Reading, NoReply, OneReply, ManyReplies, SomeReply, Slot, list_all, le-leb, may_be, allows, is_open, Asks, Supplies, SuppliesAll}
+use Rattle.vic_log.proofs.Words.{◌≡◌, ℕ, List, [], ◌∷◌, Bool, true, refl, ⊎_elim, ◌≢◌, ◌↔◌, arith, nat_tests, eqb-true, leb-true, ltb-true, lt-ltb, and_parts, and_from, false≢true, both_ways, has, is_uid, IsUid, AreDifferent, IsPopulation, outcome_of, Reading, SomeReply, Slot, list_all, le-leb, may_be, allows, is_open, Asks, Supplies, SuppliesAll}
 use Rattle.vic_log.proofs.Meeting.{ReadingFits, Meets, MeetsAll}
 use Rattle.vic_log.proofs.Sets.{IsWithin, has_here, has_at, has_there, has_cases, has_filter, filter_has, AreDifferent-filter, AreDifferent-population, IsUid-member}
 
@@ -15,28 +15,15 @@ fits_allows : (r : Reading) (q : List ℕ) → ReadingFits r (outcome_of q) → 
 fits_allows r q h u k = grind (arith, nat_tests)
 
 pub fits_asks : (r : Reading) (q : List ℕ) → AreDifferent q → ReadingFits r (outcome_of q) → Asks r (has q)
-fits_asks NoReply q d f = tt
-fits_asks (OneReply w) [] d f = cc
-fits_asks (OneReply w) (x ∷ []) d f = let e : w ≡ x = cc in has_at w x [] e
-fits_asks (OneReply w) (x ∷ y ∷ q) d f = cc
-fits_asks ManyReplies [] d f = cc
-fits_asks ManyReplies (x ∷ []) d f = cc
-fits_asks ManyReplies (x ∷ y ∷ q) d f = grind (arith, nat_tests, two_differ, has_here, has_there)
-fits_asks SomeReply [] d f = absurd (f refl)
-fits_asks SomeReply (x ∷ q) d f = (x, has_here x q)
+fits_asks r [] d f = grind (arith, nat_tests)
+fits_asks SomeReply (x ∷ []) d f = (x, has_here x [])
+fits_asks r (x ∷ []) d f = grind (arith, nat_tests, has_at)
+fits_asks r (x ∷ y ∷ q) d f = grind (arith, nat_tests, two_differ, has_here, has_there)
 
 asks_fits : (r : Reading) (q : List ℕ) → AreDifferent q → ((u : ℕ) → has q u ≡ true → may_be r true u ≡ true) → Asks r (has q) → ReadingFits r (outcome_of q)
-asks_fits NoReply [] d m a = refl
-asks_fits NoReply (x ∷ q) d m a = absurd (false≢true (m x (has_here x q)))
-asks_fits (OneReply w) [] d m a = absurd (false≢true a)
-asks_fits (OneReply w) (x ∷ []) d m a = ap Lone (eqb-true x w (m x (has_here x [])))
-asks_fits (OneReply w) (x ∷ y ∷ q) d m a = grind (arith, nat_tests, eqb-true, has_here, has_there, two_differ)
-asks_fits ManyReplies [] d m a = absurd (false≢true a.3)
-asks_fits ManyReplies (x ∷ []) d m a = absurd (a.2 (only_member a.0 x a.3 ∙ sym (only_member a.1 x a.4)))
-asks_fits ManyReplies (x ∷ y ∷ q) d m a = refl
-asks_fits SomeReply [] d m a = absurd (false≢true a.1)
-asks_fits SomeReply (x ∷ []) d m a = λ e. cc
-asks_fits SomeReply (x ∷ y ∷ q) d m a = λ e. cc
+asks_fits r [] d m a = grind (arith, nat_tests)
+asks_fits r (x ∷ []) d m a = let may = m x (has_here x []) in grind (arith, nat_tests, eqb-true, only_member)
+asks_fits r (x ∷ y ∷ q) d m a = grind (arith, nat_tests, eqb-true, has_here, has_there, two_differ)
 
 -- ---- one slot, by the population
 

@@ -1,5 +1,5 @@
 -- Bytes that are taken in turn.
-use Rattle.vic_log.proofs.Words.{◌<◌, ◌≤◌, ◌∷◌, slice_index_or, arith, ◌≡◌, ◌+◌, ◌-◌, ℕ, List, [], ◌++◌, length, length-append, take, drop, None, Some, Option, refl, sym, ◌∙◌, ap, append_assoc, nat_tests, common_steps, lf, drop_all, take-append-le, Appends, HasTakenBut, Appends-trans, take-add, take-append-add, HasTakenPrefix}
+use Rattle.vic_log.proofs.Words.{◌<◌, ◌≤◌, ◌∷◌, slice_index_or, arith, ◌≡◌, ◌+◌, ◌-◌, ℕ, List, [], ◌++◌, length, length-append, take, drop, None, Some, Option, refl, ◌∙◌, ap, append_assoc, nat_tests, common_steps, lf, drop_all, take-append-le, Appends, HasTakenBut, Appends-trans, take-add, take-append-add, HasTakenPrefix, append-nil}
 
 -- the first n bytes, and then the next m of the rest
 pub appended-more : (a b c : Option (List ℕ)) (n m : ℕ) (xs : List ℕ) →
@@ -10,27 +10,16 @@ appended-more a b c n m xs h k = grind (arith, nat_tests, common_steps, take-add
 HasTakenBut-step : (a b c : Option (List ℕ)) (piece rest more text : List ℕ) → HasTakenBut a b more text → piece ++ rest ≡ more → Appends b c piece → HasTakenBut a c rest text
 HasTakenBut-step a b c piece rest more text h e k = grind (arith, nat_tests, Appends-trans, append_assoc)
 
--- the last piece was taken completely
-HasTakenBut-all : (a b c : Option (List ℕ)) (piece more text : List ℕ) → HasTakenBut a b more text → piece ++ [] ≡ more → Appends b c piece → Appends a c text
-HasTakenBut-all a b c piece more text h e k = grind (arith, common_steps)
-
--- a line was put behind what waited, of which some may have been taken
-HasTakenBut-line : (a b c : Option (List ℕ)) (piece piece' line rest more text : List ℕ) → HasTakenBut a b (piece ++ more) text → HasTakenBut b c piece' (piece ++ line) → line ++ rest ≡ more → HasTakenBut a c (piece' ++ rest) text
-HasTakenBut-line a b c piece piece' line rest more text h k e =
-    let same : k.0 ++ (piece' ++ rest) ≡ piece ++ more = sym (append_assoc k.0 piece' rest) ∙ (ap (λ xs. xs ++ rest) k.2 ∙ (append_assoc piece line rest ∙ ap (λ xs. piece ++ xs) e)) in
-    HasTakenBut-step a b c k.0 (piece' ++ rest) (piece ++ more) text h same k.1
-
 -- of the last piece only a first part was taken
-HasTakenBut-part : (a b c : Option (List ℕ)) (piece rest more text : List ℕ) → HasTakenBut a b more text → piece ++ rest ≡ more → HasTakenPrefix b c piece → HasTakenPrefix a c text
-HasTakenBut-part None b c piece rest more text h e k = tt
-HasTakenBut-part (Some xs) None c piece rest more text h e k = absurd h.1
-HasTakenBut-part (Some xs) (Some ys) None piece rest more text h e k = tt
-HasTakenBut-part (Some xs) (Some ys) (Some zs) piece rest more text h e k =
-    let sent = h.0 in
-    let whole : text ≡ sent ++ (piece ++ rest) = sym h.2 ∙ ap (λ ws. sent ++ ws) (sym e) in
-    let long : length text ≡ length sent + (length piece + length rest) = ap length whole ∙ (length-append sent (piece ++ rest) ∙ ap (λ n. length sent + n) (length-append piece rest)) in
-    let front : take (length sent + k.0) text ≡ sent ++ take k.0 piece = ap (take (length sent + k.0)) whole ∙ (take-append-add sent (piece ++ rest) k.0 ∙ ap (λ ws. sent ++ ws) (take-append-le k.0 piece rest k.1)) in
-    (length sent + k.0, omega arith, k.2 ∙ (ap (λ ws. ws ++ take k.0 piece) h.1 ∙ (append_assoc xs sent (take k.0 piece) ∙ ap (λ ws. xs ++ ws) (sym front))))
+HasTakenBut-part : (a b c : Option (List ℕ)) (piece rest text : List ℕ) → HasTakenBut a b (piece ++ rest) text → HasTakenPrefix b c piece → HasTakenPrefix a c text
+HasTakenBut-part None b c piece rest text h k = tt
+HasTakenBut-part (Some xs) None c piece rest text h k = absurd h.1
+HasTakenBut-part (Some xs) (Some ys) None piece rest text h k = tt
+HasTakenBut-part (Some xs) (Some ys) (Some zs) piece rest text h k = rw (← h.2) (
+  length h.0 + k.0,
+  omega (arith, k.1, length-append h.0 (piece ++ rest), length-append piece rest),
+  k.2 ∙ rw (h.1, append_assoc, take-append-add, take-append-le k.0 piece rest k.1) refl,
+)
 
 -- what comes before a piece that waits was taken of a text, and the rest follows
 pub record Waits (old new : Option (List ℕ)) (piece rest text : List ℕ) : Type 0 where
@@ -42,9 +31,9 @@ pub record Waits (old new : Option (List ℕ)) (piece rest text : List ℕ) : Ty
 waits : (a b : Option (List ℕ)) (piece rest text : List ℕ) → HasTakenBut a b (piece ++ rest) text → Waits a b piece rest text
 waits a b piece rest text h = record {
   told = h;
-  prefix = λ next. HasTakenBut-part a b next piece rest _ text h refl;
-  part = λ next. HasTakenBut-part a b (Some next) piece rest _ text h refl;
-  all = λ none next. HasTakenBut-all a b next piece _ text h (ap (λ xs. piece ++ xs) (sym none));
+  prefix = λ next. HasTakenBut-part a b next piece rest text h;
+  part = λ next. HasTakenBut-part a b (Some next) piece rest text h;
+  all = λ none next k. rw (← h.2, none, append-nil) (Appends-trans a b next h.0 piece h.1 k);
 }
 
 pub waits_none : (a : Option (List ℕ)) (piece rest text : List ℕ) → piece ++ rest ≡ text → Waits a a piece rest text
@@ -52,7 +41,8 @@ waits_none a piece rest text e = waits a a piece rest text (grind (arith, common
 
 -- a line was put behind what waited, of which some may have been taken
 pub waits_more : (a b c : Option (List ℕ)) (piece piece' line rest more text : List ℕ) → Waits a b piece more text → HasTakenBut b c piece' (piece ++ line) → line ++ rest ≡ more → Waits a c piece' rest text
-waits_more a b c piece piece' line rest more text h k e = waits a c piece' rest text (HasTakenBut-line a b c piece piece' line rest more text h.told k e)
+waits_more a b c piece piece' line rest more text h k e =
+    waits a c piece' rest text (HasTakenBut-step a b c k.0 (piece' ++ rest) (piece ++ more) text h.told (rw (← append_assoc k.0 piece' rest, k.2, append_assoc, e) refl) k.1)
 
 -- the line of the element at position i, and the lines behind it
 pub line_next : {X : Type 0} (line : X → List ℕ) (text : List X → List ℕ) → ((x : X) (xs : List X) → text (x ∷ xs) ≡ line x ++ lf ∷ text xs) → (xs : List X) (i : ℕ) (x : X) → i < length xs → x ≡ slice_index_or xs i x

@@ -1,5 +1,5 @@
 -- A set of UIDs, spread over rows.
-use Rattle.vic_log.proofs.Words.{◌≡◌, ℕ, zero, suc, ◌<◌, Bool, true, false, Some, List, [], ◌∷◌, ◌++◌, length, take, get_or, ⊎_elim, refl, sym, ap, ◌∙◌, arith, nat_eq, ◌||◌, not, slice_get, set, cond, common_steps, nat_tests, false_from_ne_true, cases_eq, ne_eqb, eq-eqb, or_from, or_right, list_any-append, list_any_at, list_any, get_or_from_slice_get, slice_get_within, has, IsUid, row_of, IsUidSet, IsSetOf, IsIndex, LogLine, entries, listed, length-set, get_or-set_same, get_or-set_other, or_comm, or_assoc, or-false, is_at, with_item, vec_len, nat_cmp}
+use Rattle.vic_log.proofs.Words.{◌≡◌, ℕ, zero, suc, ◌<◌, Bool, true, false, Some, List, [], ◌∷◌, ◌++◌, length, take, get_or, refl, sym, ap, ◌∙◌, arith, nat_eq, ◌||◌, not, slice_get, set, cond, common_steps, nat_tests, false_from_ne_true, ne_eqb, eq-eqb, list_any-append, list_any_at, list_any, get_or_from_slice_get, slice_get_within, has, IsUid, row_of, IsUidSet, IsSetOf, IsIndex, LogLine, entries, listed, length-set, get_or-set_same, get_or-set_other, or-false, is_at, with_item, vec_len, nat_cmp}
 use Rattle.std.specs.BTreeSet as sorted
 use Rattle.vic_log.specs.declared.uid_set.UidSet.{UidSet}
 use Rattle.vic_log.specs.inner.UidSets.{place_of, is_held}
@@ -52,12 +52,6 @@ has_searched [] u = refl
 has_searched (x ∷ row) u = rw (eq_swapped x u) (ap (λ b. nat_eq u x || b) (has_searched row u))
 
 -- a UID put beside the rows
-at_test : (k u : ℕ) → is_at (nat_cmp k) u ≡ nat_eq u k
-at_test k u = grind (arith, nat_tests)
-
-of_two : (t b : Bool) (P : Type 0) → (t ≡ true → P) → (b ≡ true → P) → cond t true b ≡ true → P
-of_two t b P h k g = grind (arith, nat_tests)
-
 pub held-beside : (old new : UidSet) (uid u : ℕ) → new.rows ≡ old.rows → sorted.contains nat_cmp new.others u ≡ cond (is_at (nat_cmp uid) u) true (sorted.contains nat_cmp old.others u) → is_held new u ≡ (is_held old u || nat_eq u uid)
 held-beside old new uid u rows h = grind (arith, nat_tests)
 
@@ -68,8 +62,8 @@ IsUidSet-beside old new uid h rows full e = grind (arith, nat_tests)
 
 pub has_at_line : (lines : List LogLine) (i u : ℕ) (l : LogLine) → slice_get lines i ≡ Some l → has (listed (l.item ∷ [])) u ≡ true → has (listed (entries lines)) u ≡ true
 has_at_line [] i u l k h = cc
-has_at_line (x ∷ lines) zero u l k h = let same : x ≡ l = cc in rw (listed-append (x.item ∷ []) (entries lines), list_any-append, same, h)
-has_at_line (x ∷ lines) (suc i) u l k h = rw (listed-append (x.item ∷ []) (entries lines), list_any-append) (or_right _ _ (has_at_line lines i u l k h))
+has_at_line (x ∷ lines) zero u l k h = grind (arith, nat_tests)
+has_at_line (x ∷ lines) (suc i) u l k h = grind (arith, nat_tests, has_at_line lines i u l)
 
 -- one line more
 pub listed_next : (lines : List LogLine) (i : ℕ) (l : LogLine) → slice_get lines i ≡ Some l → listed (entries (take (suc i) lines)) ≡ listed (entries (take i lines)) ++ listed (l.item ∷ [])
@@ -91,9 +85,6 @@ IsSetOf-same us uid old new h there more u pos = grind (arith, nat_tests)
 pub IsIndex-held : (us : List ℕ) (greatest : ℕ) (s : UidSet) → IsUidSet s → IsSetOf us s → IsIndex us greatest s
 IsIndex-held us greatest s set_ uids_ = grind (arith, nat_tests)
 
-unless : (a b : Bool) → a ≡ not b → not a ≡ b
-unless a b h = grind (arith, nat_tests)
-
 -- what the set answers at a UID of a tag
 pub has_unless : (us : List ℕ) (uid : ℕ) (s : UidSet) (is_new : Bool) → IsSetOf us s → IsUid uid → is_new ≡ not (is_held s uid) → has us uid ≡ not is_new
-has_unless us uid s is_new h typed e = let low = typed.0 in sym (h uid (omega (arith, low))) ∙ sym (unless is_new (is_held s uid) e)
+has_unless us uid s is_new h typed e = grind (arith, nat_tests, h uid)

@@ -1,26 +1,26 @@
 -- The words of proofs, from one place: what files name from outside of the crate, and the definitions that several of them name.
 pub use Rattle.std.proofs.Common.{Bool, Err, IfErr, IfOk, IfSome, IsErr, IsOk, List, MatchResult, None, Ok, OnOk, Option, Result, Some, [], add-one, ap, append-nil, append_assoc, ap₂, arith, cond, drop, drop-cons, eqb, false, get_or, if◌then◌else◌, inl, inr, is_ok, leb, leb-false, length, length-append, length-take-le, map, nat_eq, nat_lt, not, refl, replicate, rules, set, slice_get, slice_index, slice_index_or, subst, suc, sym, take, true, w8, zero, ℕ, ⊎_elim, ◌%◌, ◌&&◌, ◌*◌, ◌++◌, ◌+◌, ◌-◌, ◌/◌, ◌<◌, ◌==◌, ◌^◌, ◌||◌, ◌↔◌, ◌∙◌, ◌∷◌, ◌≡◌, ◌≢◌, ◌≤◌, ◌⊎◌}
 pub use Rattle.std.proofs.KnownBytes.{Appends-trans, Consumes-nil, Consumes-trans}
-pub use Rattle.std.proofs.Math.Bool.{or-false, or_assoc, or_comm}
+pub use Rattle.std.proofs.Math.Bool.{or-false}
 pub use Rattle.std.proofs.Math.Nat.{le_of_lt}
-pub use Rattle.std.proofs.Math.Seq.{take-add, take-append-add, take-append_seam, take-length}
-pub use Rattle.std.proofs.lemmas.Bool.{agree_below, agree_below_at, and_from, and_parts, and_right, both_ways, cases_Bool, cases_eq, cases_lt, cond-false, cond-true, cond_both, eq-eqb, eqb-false, eqb-true, false_from_ne_true, false≢true, le-leb, le-ltb, leb-true, lt-ltb, ltb-false, ltb-true, ne_eqb, not-false, or_cases, or_from, or_left, or_parts, or_right}
+pub use Rattle.std.proofs.Math.Seq.{take-add, take-append-add, take-append_seam}
+pub use Rattle.std.proofs.lemmas.Bool.{agree_below, agree_below_at, and_from, and_parts, and_right, both_ways, cases_Bool, cases_eq, cases_lt, cond-false, cond-true, cond_both, eq-eqb, eqb-false, eqb-true, false_from_ne_true, false≢true, le-leb, le-ltb, leb-true, lt-ltb, ltb-true, ne_eqb, or_cases, or_from, or_left, or_parts, or_right}
 pub use Rattle.std.proofs.lemmas.Bool.Decides.{nat_tests}
 pub use Rattle.std.proofs.lemmas.Grind.{common_steps}
-pub use Rattle.std.proofs.lemmas.List.{drop_all, get_or-map, get_or-take, get_or-set_other, get_or-set_same, get_or_append_left, length-drop, length-map, length-set, length-take, length_push, map-append, nil_from_length, take-append-le, take_all}
+pub use Rattle.std.proofs.lemmas.List.{drop_all, get_or-map, get_or-take, get_or-set_other, get_or-set_same, get_or_append_left, length-drop, length-map, length-set, length-take, length_push, map-append, map-id, nil_from_length, take-append-le, take_all}
 pub use Rattle.std.proofs.lemmas.List.Elements.{filter_agree}
 pub use Rattle.std.proofs.lemmas.List.Folds.{list_any-append, list_any_at}
 pub use Rattle.std.proofs.lemmas.List.FromFn.{get_or-map-range_with_len}
 pub use Rattle.std.proofs.lemmas.Map.Views.{any-filter_same}
 pub use Rattle.std.proofs.lemmas.Nat.{be_bytes_8, from_be_bytes-to_be_bytes_8}
-pub use Rattle.std.proofs.lemmas.Option.{get_or_from_slice_get, slice_get_past, slice_get_read, slice_get_within}
+pub use Rattle.std.proofs.lemmas.Option.{get_or_from_slice_get, slice_get-get_or, slice_get-map, slice_get_past, slice_get_read, slice_get_within}
 pub use Rattle.std.proofs.lemmas.Result.{IfErr-weaker, err_from_is_err_and, on_ok_weaker}
 pub use Rattle.std.proofs.lemmas.Simd.{bitmask_splat, get_or-chunk, get_or-put_chunk_at, get_or-put_chunk_below, length-chunk, map-map, mask_l-mod, none_from_empty_mask, run_in_chunk_fails, run_in_chunk_stops, splat_is_map, tops_compared, trailing_mask_l, zip2_of_maps}
 pub use Rattle.std.specs.BTreeMap.{is_at}
 pub use Rattle.std.specs.Int.{to_be_bytes, w64}
 pub use Rattle.std.specs.Io.KnownBytes.{Appends, Consumes, IsAtEnd}
 pub use Rattle.std.specs.List.{AllByRecursion, filter, list_all, list_any, prefix_len, range_with_len}
-pub use Rattle.std.specs.Option.{is_some, unwrap_or}
+pub use Rattle.std.specs.Option.{is_some, option_map, unwrap_or}
 pub use Rattle.std.specs.Ordering.{nat_cmp}
 pub use Rattle.std.specs.Prelude.{⊤}
 pub use Rattle.std.specs.Vec.{vec_len, with_item}
@@ -36,17 +36,15 @@ pub use Rattle.vic_frame.proofs.ReplyLaws.{reply_found, reply_only}
 pub use Rattle.vic_frame.proofs.RequestLaws.{request_found, request_only}
 pub use Rattle.vic_frame.specs.Bytes.{AreBytes}
 pub use Rattle.vic_frame.specs.Crc.{crc, with_crc}
-pub use Rattle.vic_frame.specs.LowBitsFirst.{IsBlock, is_in_block, mirror}
-pub use Rattle.vic_frame.specs.Masks.{BitMask, IsMask}
 pub use Rattle.vic_frame.specs.Reading.{reply_reading, request_reading}
-pub use Rattle.vic_frame.specs.Replies.{IsReply, Reply, SpellsReply, reply_body, reply_spelling}
+pub use Rattle.vic_frame.specs.Replies.{IsReply, Reply, reply_body, reply_spelling}
 pub use Rattle.vic_frame.specs.Requests.{IsInRange, IsValid, SpellsRequest, byte_count, request_body, request_spelling}
 pub use Rattle.vic_frame.specs.Uids.{AreDifferent, IsUid, has, is_uid}
 pub use Rattle.vic_frame.specs.declared.fault.FrameFault.{FrameFault}
 pub use Rattle.vic_frame.specs.declared.request.Request.{Request}
 pub use Rattle.vic_frame.specs.declared.request.Request.TheVariants.{Inventory, StayQuiet}
 pub use Rattle.vic_log.specs.Begun.{AreRead, HasCut, HasJudged, HasTaken, IsCut, IsShort, IsSplit, spare}
-pub use Rattle.vic_log.specs.Device.{HandsOut, HasTakenBut, HasTakenPrefix, HasWrittenBut, HasWrittenPrefix, KeepsOrHides, TellsOn}
+pub use Rattle.vic_log.specs.Device.{HandsOut, HasTakenBut, HasTakenPrefix, KeepsOrHides, TellsOn}
 pub use Rattle.vic_log.specs.Early.{HasNoEarlyFault, IsEarly, IsEarlyFault, IsJudged, IsLong, Judges, ReadsAs, ReadsWhere}
 pub use Rattle.vic_log.specs.FirstVersion.{AreOfFirstVersion, IsOfFirstVersion}
 pub use Rattle.vic_log.specs.Grammar.{AreDigitsOf, HasBytes, IsDigitOf, IsPassedOver, SpellsEntry}
@@ -57,8 +55,8 @@ pub use Rattle.vic_log.specs.Log.{AreTyped, IsTyped, IsValidEntry, LogValue, las
 pub use Rattle.vic_log.specs.OpenRounds.{IsCursorAt, round_at, round_of, round_since}
 pub use Rattle.vic_log.specs.Order.{AreValid, IsInOrder, IsRisingFrom, entries, first_reason, is_after_list, is_duplicate, is_empty, is_outside_round, listed, refusal}
 pub use Rattle.vic_log.specs.Populations.{CouldHaveGiven, Fits, IsPopulation, Lone, Nobody, Outcome, Several, answers_at, outcome_at, outcome_of}
-pub use Rattle.vic_log.specs.Quiet.{is_quiet, silences, wakes}
-pub use Rattle.vic_log.specs.Rounds.{IsInRound, ends_round, is_slot, left_since, mask_since, opener, slots_left, slots_opened}
+pub use Rattle.vic_log.specs.Quiet.{is_quiet, wakes}
+pub use Rattle.vic_log.specs.Rounds.{IsInRound, ends_round, is_slot, left_since, opener, slots_left}
 pub use Rattle.vic_log.specs.Slots.{Asks, ManyReplies, NoReply, OneReply, Reading, Slot, SomeReply, Supplies, SuppliesAll, allows, is_open, may_be, slots_before, slots_of, with_entry}
 pub use Rattle.vic_log.specs.Text.{GiveEntries, IsFirstFault, IsLogOf, Refuses, entry_line, fault_on, header, line_fault, log_upto, logged, named_version, reading_fault, version_of}
 pub use Rattle.vic_log.specs.Writing.{entry_text, joined, lines_text, listed_text, numbered, text_of}

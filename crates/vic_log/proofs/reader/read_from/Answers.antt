@@ -1,29 +1,17 @@
-use Rattle.vic_log.proofs.Words.{rules, ◌≡◌, ◌++◌, ℕ, List, Option, Some, None, Result, Ok, Err, MatchResult, IfErr, take, length-append, length-take-le, false, true, inl, inr, ap, sym, ◌∙◌, append-nil, append_assoc, arith, ◌↔◌, common_steps, Consumes-trans, err_from_is_err_and, Consumes, LogFault, Line, Read, Memory, Spent, IsEarly, lines_of_text, LogValue, IsLogOf, Refuses, Consumes-nil, KeepsOrHides, HandsOut, TellsOn, ReadsWhere}
+use Rattle.vic_log.proofs.Words.{rules, ◌≡◌, ◌++◌, ℕ, List, Option, Result, Err, MatchResult, IfErr, take, length-append, length-take-le, false, true, ap, ◌∙◌, append-nil, append_assoc, arith, ◌↔◌, common_steps, Consumes-trans, err_from_is_err_and, Consumes, LogFault, Read, IsEarly, lines_of_text, LogValue, IsLogOf, Refuses, Consumes-nil, KeepsOrHides, HandsOut, TellsOn, ReadsWhere}
 use Rattle.vic_log.proofs.reader.read_from.Goals as goal
 
 handed : (a b : Option (List ℕ)) (xs : List ℕ) → Consumes a b xs → HandsOut a b xs × TellsOn a b
-handed None b xs h = (tt, tt)
-handed (Some as_) None xs h = absurd h
-handed (Some as_) (Some bs) xs h = (h, tt)
+handed a b xs h = grind (arith, common_steps)
 
 handed_kept : (a b d : Option (List ℕ)) (xs : List ℕ) → Consumes a b xs → KeepsOrHides b d → HandsOut a d xs
-handed_kept None b d xs h k = tt
-handed_kept (Some as_) None d xs h k = absurd h
-handed_kept (Some as_) (Some bs) None xs h k = tt
-handed_kept (Some as_) (Some bs) (Some ds) xs h k = h ∙ ap (λ ys. xs ++ ys) (sym k)
+handed_kept a b d xs h k = grind (arith, common_steps)
 
 reads_early : (IsOver : Type 0) (text : List ℕ) (e : LogFault) → IsEarly e text → ReadsWhere IsOver text (Err e)
-reads_early IsOver text (Line n f) h = inl h
-reads_early IsOver text Memory h = h
-reads_early IsOver text Read h = absurd h
-reads_early IsOver text Spent h = h
+reads_early IsOver text e h = grind (arith, common_steps)
 
 reads_end : (IsOver : Type 0) (text : List ℕ) (r : Result LogValue LogFault) → IsOver → MatchResult r (IsLogOf (lines_of_text text)) (Refuses text) → ReadsWhere IsOver text r × IfErr r (λ e. (e ≡ Read) ↔ (false ≡ true))
-reads_end IsOver text (Ok log) e h = ((e, h), tt)
-reads_end IsOver text (Err (Line n f)) e h = (inr (e, h), ((λ k. cc), (λ k. cc)))
-reads_end IsOver text (Err Memory) e h = (h, ((λ k. cc), (λ k. cc)))
-reads_end IsOver text (Err Read) e h = absurd h
-reads_end IsOver text (Err Spent) e h = absurd h
+reads_end IsOver text r e h = grind (arith, common_steps)
 
 pub returns-in_err-count-clause-answer : goal.returns-in_err-count-clause-answer
 returns-in_err-count-clause-answer g c = grind (arith, common_steps, err_from_is_err_and, handed_kept, Consumes-nil, rules)

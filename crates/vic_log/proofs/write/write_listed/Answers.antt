@@ -1,4 +1,4 @@
-use Rattle.vic_log.proofs.Words.{◌≡◌, ap, rules, Some, [], ◌∷◌, ◌++◌, refl, arith, Listed, lf, entry_text, listed_text}
+use Rattle.vic_log.proofs.Words.{ap, rules, Some, [], ◌∷◌, ◌++◌, refl, arith, Listed, lf, entry_text, listed_text}
 use Rattle.vic_log.proofs.Told.{line_next, none_left, waits_none, waits_more}
 use Rattle.vic_log.proofs.write.write_listed.Goals as goal
 

@@ -1,16 +1,14 @@
-use Rattle.vic_log.proofs.Words.{◌≡◌, text_of, common_steps, rules, Some, ℕ, zero, ◌<◌, suc, List, [], ◌∷◌, ◌++◌, length, slice_index_or, refl, sym, arith, LogLine, lf, IsValidEntry, AreValid, entries, entry_text, lines_text}
+use Rattle.vic_log.proofs.Words.{◌≡◌, ◌∙◌, ap, slice_get-map, slice_get-get_or, option_map, text_of, common_steps, rules, Some, [], ◌∷◌, ◌++◌, refl, sym, arith, LogLine, lf, entries, entry_text, lines_text}
 use Rattle.vic_log.proofs.Spelled.{valid_at}
 use Rattle.vic_log.proofs.Told.{line_next, none_left, waits_none, waits_more}
 use Rattle.vic_log.proofs.write.write_log.Goals as goal
 
-valid_line : (lines : List LogLine) (i : ℕ) (other : LogLine) → AreValid (entries lines) → i < length lines → IsValidEntry (slice_index_or lines i other).item
-valid_line [] i other v h = absurd (omega arith)
-valid_line (l ∷ lines) zero other v h = valid_at (entries (l ∷ lines)) v 0 l.item refl
-valid_line (l ∷ lines) (suc i) other v h = valid_line lines i other (λ j q k. v (suc j) q k) (omega arith)
-
 pub put_entry-requires : goal.put_entry-requires
 put_entry-requires g c =
-    rw (c.item.ensures, c.line-item.is) (valid_line c.lines-lines.result.now c.loop-line.line-index c.line-item.result c.lines-lines.ensures.log.valid c.loop-line-test.true)
+    let lines = c.lines-lines.result.now in
+    let i = c.loop-line.line-index in
+    let at = slice_get-map (λ (l : LogLine). l.item) lines i ∙ ap (option_map (λ (l : LogLine). l.item)) (slice_get-get_or lines i c.line-item.result c.loop-line-test.true) in
+    rw (c.item.ensures, c.line-item.is) (valid_at (entries lines) c.lines-lines.ensures.log.valid i _ at)
 
 pub loop-line-init : goal.loop-line-init
 loop-line-init g c =

@@ -1,5 +1,5 @@
 -- An empty body. The borrow is opened and closed at another ghost value.
-use Rattle.vic_log.proofs.Words.{List, [], ◌∷◌, ◌++◌, refl, length, proved, flft, ftrue, id⊢, u8, yes, owns, MutRef, mut_Tells, mut_vals, plain, ShrSlice, shr_slice_Tells, shr_slice_vals, closes, opens, Goes-none_slice, Goes-ref, Stays, ends_at, says, stay_none_slice, stay_ref, named, Val, vunit, alloc_all, free_all, look_at, pass_all, sets, enter, of_opd, returns, unit_lit}
+use Rattle.vic_log.proofs.Words.{List, [], ◌∷◌, ◌++◌, refl, proved, flft, ftrue, id⊢, u8, yes, owns, MutRef, mut_Tells, mut_vals, plain, ShrSlice, shr_slice_Tells, shr_slice_vals, closes, opens, Goes-none_slice, Goes-ref, Stays, ends_at, says, stay_none_slice, stay_ref, named, Val, vunit, alloc_all, free_all, look_at, pass_all, sets, enter, of_opd, returns, unit_lit}
 use types.Kit.{‵, ◌⊛◌, ◌$◌, ◌∵◌, !, qed, move, keep, drop, use1, split, join, fsplit, fsplit3, fjoin, fjoin3, feq_i, suffices, frame, done}
 use Rattle.vic_log.specs.contracts.history.History.note as f
 use Rattle.vic_log.specs.contracts.history.History.{the_row as R}

@@ -8,9 +8,8 @@ not_found row seen uid number found at is searched none =
 
 pub returns-in-Some-clause-set : goal.returns-in-Some-clause-set
 returns-in-Some-clause-set c =
-    let old = c.args.self.now in
-    IsUidSet-put old _ c.args.uid c.in-Some.free c.requires
-    (is_put old c.args.uid c.len.result c.place_of-place.result c.in-Some.free c.number-in-Some.result c.index_mut.result.now c.index-2.result.now c.len.ensures c.place_of-place.ensures.value c.place_of-place.ensures.there c.index_mut.ensures.value c.index-2.ensures c.in-Some.ensures.free c.number-in-Some.ensures.value)
+    IsUidSet-put c.args.self.now _ c.args.uid c.in-Some.free c.requires
+    (is_put c.args.self.now c.args.uid c.len.result c.place_of-place.result c.in-Some.free c.number-in-Some.result c.index_mut.result.now c.index-2.result.now c.len.ensures c.place_of-place.ensures.value c.place_of-place.ensures.there c.index_mut.ensures.value c.index-2.ensures c.in-Some.ensures.free c.number-in-Some.ensures.value)
 
 pub returns-in-Some-clause-answer : goal.returns-in-Some-clause-answer
 returns-in-Some-clause-answer c =
@@ -24,9 +23,8 @@ returns-in-Some-clause-answer c =
 
 pub returns-in-Some-clause-more : goal.returns-in-Some-clause-more
 returns-in-Some-clause-more c =
-    let old = c.args.self.now in
-    held-put old _ c.args.uid c.in-Some.free
-    (is_put old c.args.uid c.len.result c.place_of-place.result c.in-Some.free c.number-in-Some.result c.index_mut.result.now c.index-2.result.now c.len.ensures c.place_of-place.ensures.value c.place_of-place.ensures.there c.index_mut.ensures.value c.index-2.ensures c.in-Some.ensures.free c.number-in-Some.ensures.value)
+    held-put c.args.self.now _ c.args.uid c.in-Some.free
+    (is_put c.args.self.now c.args.uid c.len.result c.place_of-place.result c.in-Some.free c.number-in-Some.result c.index_mut.result.now c.index-2.result.now c.len.ensures c.place_of-place.ensures.value c.place_of-place.ensures.there c.index_mut.ensures.value c.index-2.ensures c.in-Some.ensures.free c.number-in-Some.ensures.value)
 
 pub returns-in_ok-insert-in-None-clause-set : goal.returns-in_ok-insert-in-None-clause-set
 returns-in_ok-insert-in-None-clause-set c =
