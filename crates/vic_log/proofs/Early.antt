@@ -1,5 +1,5 @@
 -- An early fault stays the fault of each text that goes on.
-use Rattle.vic_log.proofs.Words.{◌≡◌, ◌⊎◌, ℕ, suc, ◌<◌, ◌≤◌, false, Some, List, [], ◌∷◌, ◌++◌, length, refl, sym, ap, subst, ◌∙◌, arith, append-nil, append_assoc, or_from, eqb-true, inl, inr, slice_get, nat_lt, if◌then◌else◌, ◌==◌, map, common_steps, nat_tests, cases_Bool, cases_lt, cond-true, cond-false, lt-ltb, length-map, length_push, map-append, slice_get_within, Entry, Version, LineFault, TooManyLines, LineTooLong, has, IsLong, IsJudged, IsEarlyFault, onto, cut, content, lines_of_text, entries, version_of, line_fault, log_upto, fault_on, IsFirstFault, IsCut}
+use Rattle.vic_log.proofs.Words.{◌≡◌, ◌⊎◌, ℕ, suc, ◌<◌, ◌≤◌, false, Some, List, [], ◌∷◌, ◌++◌, length, refl, sym, ap, ◌∙◌, arith, append-nil, append_assoc, or_from, eqb-true, inl, inr, slice_get, nat_lt, if◌then◌else◌, ◌==◌, map, common_steps, nat_tests, cases_Bool, cases_lt, cond-true, cond-false, lt-ltb, length-map, length_push, map-append, slice_get_within, Entry, Version, LineFault, TooManyLines, LineTooLong, has, IsLong, IsJudged, IsEarlyFault, onto, cut, content, lines_of_text, entries, version_of, line_fault, log_upto, fault_on, IsFirstFault, IsCut}
 use Rattle.vic_log.proofs.Passing.{AgreeBelow, log_agrees, fault_agrees, first_agrees}
 use Rattle.vic_log.proofs.Places.{slice_get-append, slice_get_seam}
 use Rattle.vic_log.proofs.Sets.{eq_swapped}
@@ -19,10 +19,7 @@ begun b parts = grind (arith, nat_tests)
 pub begins : (line more : List ℕ) → has line 10 ≡ false → 0 < length line → Begins line (cut (line ++ more))
 begins [] more h some = absurd (omega arith)
 begins (b ∷ []) more h some = rw (cond-false _ _ _ (parted b [] h).0) (begun b (cut more))
-begins (b ∷ x ∷ tail) more h some =
-    let p = parted b (x ∷ tail) h in
-    let s = begins (x ∷ tail) more p.1 (omega arith) in
-    record { rest = s.rest; others = s.others; parts_are = cond-false _ _ _ p.0 ∙ ap (onto b) s.parts_are }
+begins (b ∷ x ∷ tail) more h some = grind (arith, nat_tests, parted, begins (x ∷ tail) more)
 
 -- or are the only one
 pub cut-only : (line : List ℕ) → has line 10 ≡ false → 0 < length line → cut line ≡ line ∷ []
@@ -97,9 +94,7 @@ too_long v es n line h = ap (λ o. if nat_lt 1000000 n then Some TooManyLines el
 same_fault : (v w : Version) (es : List Entry) (n : ℕ) (part rest : List ℕ) → has part 10 ≡ false → IsJudged part ⊎ (n ≡ 1000001) → line_fault v es n (Some (content part)) ≡ line_fault w es n (Some (content (part ++ rest)))
 same_fault v w es n part rest h (inr last) = too_many v es n (content part) (omega arith) ∙ sym (too_many w es n (content (part ++ rest)) (omega arith))
 same_fault v w es n part rest h (inl (inl lf)) = let no_ = not_last part 10 h in cc
-same_fault v w es n part rest h (inl (inr l)) =
-    let long : 128 < length (content part) = subst (λ p. 128 < length (content p)) (append-nil part) (still_long part [] h l) in
-    too_long v es n (content part) long ∙ sym (too_long w es n (content (part ++ rest)) (still_long part rest h l))
+same_fault v w es n part rest h (inl (inr l)) = rw (too_long v es n (content part) (rw append-nil at (still_long part [] h l)), too_long w es n (content (part ++ rest)) (still_long part rest h l)) refl
 
 fronts_agree : (ls ks ms : List (List ℕ)) → AgreeBelow (length ls) (ls ++ ks) (ls ++ ms)
 fronts_agree ls ks ms i below = sym (slice_get-append ls ks i below) ∙ slice_get-append ls ms i below

@@ -1,18 +1,14 @@
 -- On entries of version 1 both versions say the same.
-use Rattle.vic_log.proofs.Words.{◌≡◌, ℕ, zero, suc, List, false, Option, Some, None, refl, sym, ap, subst, ◌∙◌, ◌↔◌, arith, nat_tests, filter, Entry, Sent, Listed, FieldCycle, IsInOrder, is_slot, ends_round, opener, wakes, is_quiet, Outcome, Fits, answers_at, outcome_of, CouldHaveGiven, IsOfFirstVersion, AreOfFirstVersion, filter_agree}
+use Rattle.vic_log.proofs.Words.{◌≡◌, ℕ, zero, suc, List, false, Option, Some, None, refl, sym, ap, subst, ◌∙◌, ◌↔◌, arith, nat_tests, filter, Entry, FieldCycle, IsInOrder, is_slot, ends_round, opener, wakes, is_quiet, Outcome, Fits, answers_at, outcome_of, CouldHaveGiven, IsOfFirstVersion, AreOfFirstVersion, filter_agree}
 use Rattle.vic_log.specs.FirstVersion.{ends_first_round, first_opener, is_first_quiet, FitsFirst, answers_first_at, CouldHaveGivenFirst, is_first_slot, IsInFirstOrder}
 
 ends_same : (o : Option Entry) → ((e : Entry) → o ≡ Some e → IsOfFirstVersion e) → ends_round o ≡ ends_first_round o
 ends_same None h = refl
-ends_same (Some FieldCycle) h = absurd (h FieldCycle refl)
-ends_same (Some (Sent q)) h = refl
-ends_same (Some (Listed u)) h = refl
-ends_same (Some e) h = refl
+ends_same (Some e) h = grind (arith, nat_tests, h e refl)
 
 wakes_none : (o : Option Entry) → ((e : Entry) → o ≡ Some e → IsOfFirstVersion e) → wakes o ≡ false
 wakes_none None h = refl
-wakes_none (Some FieldCycle) h = absurd (h FieldCycle refl)
-wakes_none (Some e) h = refl
+wakes_none (Some e) h = grind (arith, nat_tests, h e refl)
 
 pub opener-first : (es : List Entry) → AreOfFirstVersion es → (i : ℕ) → opener es i ≡ first_opener es i
 opener-first es h zero = refl

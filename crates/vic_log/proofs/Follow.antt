@@ -1,5 +1,5 @@
 -- Where entries are in order, nothing refuses any of them.
-use Rattle.vic_log.proofs.Words.{◌≡◌, ℕ, suc, true, false, Some, None, List, [], ◌∷◌, ◌++◌, ◌<◌, length, refl, sym, ap, arith, ⊎_elim, inl, inr, slice_get, nat_eq, nat_lt, not, cases_Bool, cond-false, false_from_ne_true, or_cases, eqb-true, lt-ltb, Entry, Sent, Listed, FieldCycle, has, slots_left, is_slot, listed, IsInOrder, is_empty, first_reason}
+use Rattle.vic_log.proofs.Words.{◌≡◌, ℕ, nat_tests, suc, true, false, Some, None, List, [], ◌∷◌, ◌++◌, ◌<◌, length, refl, sym, ap, arith, ⊎_elim, slice_get, nat_eq, nat_lt, not, cond-false, false_from_ne_true, or_cases, eqb-true, lt-ltb, Entry, Sent, Listed, FieldCycle, has, slots_left, is_slot, listed, IsInOrder, is_empty, first_reason}
 use Rattle.vic_log.proofs.Places.{agree_upto, slice_get_seam}
 use Rattle.vic_log.proofs.Order.{in_round-slots_left}
 use Rattle.vic_log.proofs.Push.{slots_left_agrees}
@@ -19,10 +19,7 @@ some_of [] h = cc
 some_of (u ∷ us) h = (u, has_here u us)
 
 none_listed : (es fs : List Entry) → ((i u : ℕ) → i < length es → slice_get (es ++ fs) i ≡ Some (Listed u) → ⊥) → not (is_empty (listed es)) ≡ false
-none_listed es fs none = elim (cases_Bool (is_empty (listed es))) [
-  | inl none_ ↦ ap not none_
-  | inr some ↦ let u = some_of (listed es) some in let p = has_place es fs u.0 u.1 in absurd (none p.0 u.0 p.1 p.2)
-]
+none_listed es fs none = grind (arith, nat_tests, some_of, has_place es fs)
 
 slot_ok : (es fs : List Entry) (e : Entry) → IsInOrder (es ++ e ∷ fs) → is_slot e ≡ true → not (nat_lt 0 (slots_left es (length es))) ≡ false
 slot_ok es fs e o s =

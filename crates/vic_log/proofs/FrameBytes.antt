@@ -1,5 +1,5 @@
 -- The bytes of a frame: each is a byte, and they are few.
-use Rattle.vic_log.proofs.Words.{◌≡◌, ℕ, zero, suc, ◌/◌, ◌≤◌, List, [], ◌∷◌, ◌++◌, length, ◌∙◌, arith, Request, Inventory, StayQuiet, AreBytes, crc, with_crc, Reply, IsReply, reply_body, reply_spelling, IsInRange, IsValid, byte_count, request_body, request_spelling, length_bytes_of, length-with_crc}
+use Rattle.vic_log.proofs.Words.{◌≡◌, ℕ, zero, suc, ◌/◌, ◌≤◌, List, [], ◌∷◌, ◌++◌, length, ◌∙◌, arith, Request, AreBytes, crc, with_crc, Reply, IsReply, reply_body, reply_spelling, IsInRange, IsValid, request_body, request_spelling, length_bytes_of, length-with_crc}
 use Rattle.vic_frame.specs.Bytes.{bytes_of}
 
 AreBytes-bytes_of : (k n : ℕ) → AreBytes (bytes_of k n)
@@ -23,8 +23,7 @@ pub AreBytes-request : (q : Request) → IsInRange q → IsValid q → AreBytes 
 AreBytes-request q r v = AreBytes-with_crc (request_body q) (AreBytes-body q r v)
 
 body_few : (q : Request) → IsInRange q → length (request_body q) ≤ 11
-body_few (Inventory link sixteen m) r = let e = length_bytes_of (byte_count m.len) m.value in let few = r.0 in omega arith
-body_few (StayQuiet link uid) r = let e = length_bytes_of 8 uid in omega arith
+body_few q r = grind (arith, length_bytes_of)
 
 pub length-request : (q : Request) → IsInRange q → length (request_spelling q) ≤ 13
 length-request q r = let e = length-with_crc (request_body q) in let few = body_few q r in omega arith

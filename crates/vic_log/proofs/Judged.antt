@@ -1,5 +1,5 @@
 -- A text that is read in pieces: more bytes, a fault, and the end.
-use Rattle.vic_log.proofs.Words.{◌≡◌, ◌⊎◌, inl, inr, ℕ, suc, ◌<◌, false, Some, None, List, [], ◌∷◌, ◌++◌, length, append-nil, refl, sym, ap, subst, ◌∙◌, arith, slice_get, map, common_steps, nat_tests, cases_lt, cond-false, le-ltb, length-map, map-append, nil_from_length, has, LineFault, TooManyLines, LineTooLong, Header, LogFault, Line, Read, Memory, Spent, HasJudged, IsLong, IsJudged, IsEarlyFault, IsEarly, lf, cr, cut, without_last, content, lines_of_text, LogValue, entries, fault_on, IsFirstFault, IsLogOf, Refuses, next_fault, after_line, RefusesNext, HasCut, IsShort}
+use Rattle.vic_log.proofs.Words.{◌≡◌, ◌⊎◌, inl, inr, ℕ, suc, ◌<◌, false, Some, None, List, [], ◌∷◌, ◌++◌, length, append-nil, refl, sym, ap, subst, ◌∙◌, arith, slice_get, map, common_steps, nat_tests, cases_lt, cond-false, le-ltb, length-map, map-append, nil_from_length, has, LineFault, TooManyLines, LineTooLong, Header, LogFault, Line, Memory, HasJudged, IsLong, IsJudged, IsEarlyFault, IsEarly, lf, cr, cut, without_last, content, lines_of_text, LogValue, entries, fault_on, IsFirstFault, IsLogOf, Refuses, next_fault, after_line, RefusesNext, HasCut, IsShort}
 use Rattle.vic_log.proofs.Early.{IsCut-end, IsCut-more, begins, content-open, cut-end, cut-only, cut-some, cut-whole, last_part, lines_are, still_long, too_many, too_long}
 use Rattle.vic_log.proofs.Passing.{AreRead-end, AreRead-entries, AreRead-fault, AreRead-push, fault_agrees, in_limit, no_header}
 use Rattle.vic_log.proofs.Places.{slice_get-append, slice_get_seam}
@@ -47,8 +47,7 @@ module _ {text line : List ℕ} {log : LogValue} {n : ℕ} (j : HasCut text log 
   pub early-refused : (fault : LogFault) → RefusesNext log (suc n) (without_last cr line) fault → (more : List ℕ) → IsEarly fault (text ++ lf ∷ more)
   early-refused (Line k f) h more = rw h.0 (early_part (text ++ lf ∷ more) (line ++ lf ∷ []) (cut more) f (cut-end j.is_cut more) (rw (content-end line) h.1) (inl (inl (ends_with-push line lf))))
   early-refused Memory h more = (suc n, rw (lines_are (text ++ lf ∷ more) j.parts _ (cut-end j.is_cut more), content-end line) (AreRead-entries j.read (without_last cr line) (map content (cut more)) h))
-  early-refused Read h more = h
-  early-refused Spent h more = h
+  early-refused fault h more = h
 
   -- a line that is too long whatever follows
   pub early-long : n < 1000000 → IsLong line → (more : List ℕ) → IsEarlyFault (text ++ more) (suc n) LineTooLong
@@ -70,8 +69,7 @@ module _ {text line : List ℕ} {log : LogValue} {n : ℕ} (j : HasCut text log 
   pub end-refused : 0 < length line → (fault : LogFault) → RefusesNext log (suc n) line fault → Refuses text fault
   end-refused some (Line k f) h = rw (h.0, lines-last some) (AreRead-fault j.read line [] f h.1)
   end-refused some Memory h = (suc n, rw (lines-last some) (AreRead-entries j.read line [] h))
-  end-refused some Read h = h
-  end-refused some Spent h = h
+  end-refused some fault h = h
 
   -- no line is begun at the end
   lines-all : line ≡ [] → lines_of_text text ≡ map content j.parts

@@ -6,10 +6,7 @@ pub one_line : (lines : List (List ℕ)) (n m : ℕ) (f g : LineFault) → IsFir
 one_line lines n m f g h k = grind (arith, common_steps)
 
 pub one_fault : (lines : List (List ℕ)) (n m : ℕ) (f g : LineFault) → IsFirstFault lines n f → IsFirstFault lines m g → (n ≡ m) × (f ≡ g)
-one_fault lines n m f g h k =
-    let same = one_line lines n m f g h k in
-    let it : f ≡ g = cc (same, h.here, k.here) in
-    (same, it)
+one_fault lines n m f g h k = let same = one_line lines n m f g h k in (same, cc (same, h.here, k.here))
 
 pub not_both : (lines : List (List ℕ)) (n : ℕ) (f : LineFault) (log : LogValue) → IsFirstFault lines n f → IsLogOf lines log → ⊥
 not_both lines n f log h k = let some = h.here in let none = k.no_fault n in cc

@@ -1,5 +1,5 @@
 -- The open round, from one position to the next.
-use Rattle.vic_log.proofs.Words.{◌≡◌, ℕ, suc, ◌<◌, ◌+◌, ◌-◌, List, Option, Some, None, ap, ◌∙◌, arith, add-one, slice_get, nat_tests, Entry, Sent, Listed, FieldCycle, IsInOrder, OpenRound, round_of, round_since, round_at, IsCursorAt}
+use Rattle.vic_log.proofs.Words.{◌≡◌, ℕ, suc, ◌+◌, List, Option, Some, None, arith, add-one, slice_get, nat_tests, Entry, Sent, Listed, FieldCycle, IsInOrder, OpenRound, round_at, IsCursorAt}
 use Rattle.vic_log.specs.declared.rounds.RoundCursor.{RoundCursor}
 use Rattle.vic_log.proofs.Places.{opener_below}
 
@@ -15,14 +15,8 @@ after_round round (Listed u) = None
 after_round round FieldCycle = None
 after_round round e = next_slot round
 
-next_since : (es : List Entry) (i : ℕ) (o : Option ℕ) → ((j : ℕ) → o ≡ Some j → j < i) → round_since es (suc i) o ≡ next_slot (round_since es i o)
-next_since es i o h = grind (arith, nat_tests)
-
-round_opens : (es : List Entry) (i : ℕ) (e : Entry) → slice_get es i ≡ Some e → round_since es (suc i) (Some i) ≡ round_of (Some e) 0
-round_opens es i e k = let z : suc i - suc i ≡ 0 = omega arith in ap (λ o. round_of o (suc i - suc i)) k ∙ ap (round_of (Some e)) z
-
 pub round_step : (es : List Entry) (i : ℕ) (e : Entry) → slice_get es i ≡ Some e → round_at es (suc i) ≡ after_round (round_at es i) e
-round_step es i e k = grind (arith, nat_tests, round_opens, next_since, opener_below)
+round_step es i e k = grind (arith, nat_tests, opener_below)
 
 pub round_passed : (es : List Entry) (i : ℕ) (e : Entry) (round next : Option OpenRound) → next ≡ after_round round e → slice_get es i ≡ Some e → round ≡ round_at es i → next ≡ round_at es (i + 1)
 round_passed es i e round next h k r = grind (arith, nat_tests, round_step, add-one)

@@ -1,5 +1,5 @@
 -- Slots in a round, and entries in order.
-use Rattle.vic_log.proofs.Words.{◌≡◌, ℕ, ◌<◌, List, Option, Some, refl, sym, ◌∙◌, ◌++◌, arith, ◌↔◌, slice_get, nat_tests, Entry, opener, left_since, slots_left, IsInRound, IsInOrder, Sent, Listed, FieldCycle, slice_get_within, le_of_lt}
+use Rattle.vic_log.proofs.Words.{◌≡◌, ℕ, ◌<◌, List, Some, sym, ◌∙◌, ◌++◌, arith, ◌↔◌, slice_get, nat_tests, Entry, slots_left, IsInRound, IsInOrder, Sent, Listed, FieldCycle, slice_get_within, le_of_lt}
 use Rattle.vic_log.proofs.Places.{agree_append, agree_upto, opener_agrees, opener_below}
 
 pub still_there : (es fs : List Entry) (i : ℕ) (e : Entry) → slice_get es i ≡ Some e → slice_get (es ++ fs) i ≡ Some e
@@ -20,8 +20,5 @@ IsInOrder-front es fs o = record {
 }
 
 -- a position is in a round if and only if a slot of the round is left
-in_round_since : (es : List Entry) (i : ℕ) (o : Option ℕ) → opener es i ≡ o → IsInRound es i ↔ (0 < left_since es i o)
-in_round_since es i o h = grind (arith, nat_tests)
-
 pub in_round-slots_left : (es : List Entry) (i : ℕ) → IsInRound es i ↔ (0 < slots_left es i)
-in_round-slots_left es i = in_round_since es i (opener es i) refl
+in_round-slots_left es i = grind (arith, nat_tests)

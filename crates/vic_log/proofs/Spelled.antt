@@ -1,5 +1,5 @@
 -- The line of an entry reads back as the entry.
-use Rattle.vic_log.proofs.Words.{◌≡◌, ℕ, suc, ◌*◌, ◌/◌, ◌%◌, ◌<◌, ◌≤◌, false, Some, None, List, [], ◌∷◌, length, refl, arith, slice_get, slice_index, nat_eq, nat_tests, or_from, encode_upper, upper_digits, hex_digit_value, has, Entry, Sent, Silent, Collision, Heard, Listed, Garbled, FieldCycle, Version, V1, V2, IsOfFirstVersion, AreOfFirstVersion, IsValidEntry, IsTyped, AreTyped, AreValid, entry_text, IsBytes, to_be_bytes, w64, decode_of-encode_upper, length-encode_with, request_spelling, reply_spelling, HasBytes, SpellsEntry}
+use Rattle.vic_log.proofs.Words.{◌≡◌, ℕ, suc, ◌*◌, ◌<◌, ◌≤◌, false, Some, None, List, [], ◌∷◌, length, refl, arith, slice_get, slice_index, nat_eq, nat_tests, encode_upper, upper_digits, hex_digit_value, has, Entry, Sent, Silent, Collision, Heard, Listed, Garbled, FieldCycle, Version, V1, V2, IsOfFirstVersion, AreOfFirstVersion, IsValidEntry, IsTyped, AreTyped, AreValid, entry_text, IsBytes, to_be_bytes, w64, decode_of-encode_upper, length-encode_with, request_spelling, reply_spelling, HasBytes, SpellsEntry}
 use Rattle.hex.specs.Hex.{encode_with}
 use Rattle.vic_log.proofs.FrameBytes.{AreBytes-request, length-request, AreBytes-reply, length-reply}
 use Rattle.vic_log.proofs.Grammar.{digits-of, spelled-reads}
@@ -13,9 +13,7 @@ no_digit_is w d none lt = grind (arith, nat_tests)
 hex_lacks : (w : ℕ) (bytes : List ℕ) → hex_digit_value w ≡ None → IsBytes bytes → has (encode_upper bytes) w ≡ false
 unfolding encode_with
 hex_lacks w [] none h = refl
-hex_lacks w (b ∷ bytes) none h =
-    let fits : b < 256 = h 0 in
-    or_from _ _ (no_digit_is w (b / 16) none (omega arith)) (or_from _ _ (no_digit_is w (b % 16) none (omega arith)) (hex_lacks w bytes none (λ k. h (suc k))))
+hex_lacks w (b ∷ bytes) none h = let fits : b < 256 = h 0 in grind (arith, nat_tests, no_digit_is, hex_lacks w bytes none (λ k. h (suc k)))
 
 hex_long : (bytes : List ℕ) → length (encode_upper bytes) ≡ 2 * length bytes
 hex_long bytes = length-encode_with upper_digits bytes

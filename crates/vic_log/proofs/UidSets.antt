@@ -15,12 +15,6 @@ has-set [] k n u h pos = cc
 has-set (x ∷ row) zero n u h pos = grind (arith, nat_tests)
 has-set (x ∷ row) (suc k) n u h pos = grind (arith, nat_tests, has-set row k n u)
 
-row-set_same : (rows : List (List ℕ)) (p u : ℕ) (row : List ℕ) → place_of u (length rows) ≡ p → p < length rows → row_of (set rows p row) u ≡ row
-row-set_same rows p u row is there = rw (length-set rows p row) (rw is (get_or-set_same rows p row [] there))
-
-row-set_other : (rows : List (List ℕ)) (p u : ℕ) (row : List ℕ) → (place_of u (length rows) ≡ p → ⊥) → row_of (set rows p row) u ≡ row_of rows u
-row-set_other rows p u row other = rw (length-set rows p row) (get_or-set_other rows p (place_of u (length rows)) row [] other)
-
 -- a UID put into its row
 pub record IsPut (old new : UidSet) (uid k : ℕ) : Type 0 where
   pub there : place_of uid (length old.rows.items) < length old.rows.items
@@ -29,14 +23,14 @@ pub record IsPut (old new : UidSet) (uid k : ℕ) : Type 0 where
   pub others : new.others ≡ old.others
 
 pub held-put : (old new : UidSet) (uid k : ℕ) → IsPut old new uid k → (u : ℕ) → 0 < u → is_held new u ≡ (is_held old u || nat_eq u uid)
-held-put old new uid k h u pos = grind (arith, nat_tests, has-set, row-set_same, row-set_other, ne_eqb)
+held-put old new uid k h u pos = grind (arith, nat_tests, has-set, length-set, get_or-set_same, get_or-set_other, ne_eqb)
 
 -- a set of which a row has a free element has none of its UIDs outside the rows
 pub absent_besides : (s : UidSet) (uid k : ℕ) → IsUidSet s → slice_get (row_of s.rows.items uid) k ≡ Some 0 → sorted.contains nat_cmp s.others uid ≡ false
 absent_besides s uid k h free = false_from_ne_true _ (λ there. let full = h.full uid there in let some = has_got (row_of s.rows.items uid) k 0 free in cc)
 
 pub IsUidSet-put : (old new : UidSet) (uid k : ℕ) → IsUidSet old → IsPut old new uid k → IsUidSet new
-IsUidSet-put old new uid k s h = grind (arith, nat_tests, has_got, row-set_same, row-set_other, length-set)
+IsUidSet-put old new uid k s h = grind (arith, nat_tests, has_got, length-set, get_or-set_same, get_or-set_other)
 
 -- the row that was read is that of the UID
 pub row_is : (s : UidSet) (uid rows place : ℕ) (row : List ℕ) → rows ≡ vec_len s.rows → place ≡ place_of uid rows → place < rows → row ≡ get_or s.rows.items place row → row ≡ row_of s.rows.items uid
@@ -71,12 +65,9 @@ listed_next lines i l k = ap listed (entries_next lines i l k) ∙ listed-append
 
 -- ---- the index of a log
 
-held_more : (us : List ℕ) (uid u : ℕ) → has (us ++ uid ∷ []) u ≡ (has us u || nat_eq u uid)
-held_more us uid u = list_any-append (nat_eq u) us (uid ∷ []) ∙ ap (λ b. has us u || b) (or-false (nat_eq u uid))
-
 -- a UID put into the set
 pub IsSetOf-push : (us : List ℕ) (uid : ℕ) (old new : UidSet) → IsSetOf us old → ((u : ℕ) → 0 < u → is_held new u ≡ (is_held old u || nat_eq u uid)) → IsSetOf (us ++ uid ∷ []) new
-IsSetOf-push us uid old new h more u pos = more u pos ∙ (ap (λ b. b || nat_eq u uid) (h u pos) ∙ sym (held_more us uid u))
+IsSetOf-push us uid old new h more u pos = rw (more u pos, h u pos, list_any-append, or-false) refl
 
 -- a UID put into the set once more
 pub IsSetOf-same : (us : List ℕ) (uid : ℕ) (old new : UidSet) → IsSetOf us old → has us uid ≡ true → ((u : ℕ) → 0 < u → is_held new u ≡ (is_held old u || nat_eq u uid)) → IsSetOf us new

@@ -38,11 +38,10 @@ pub use Rattle.vic_frame.specs.Bytes.{AreBytes}
 pub use Rattle.vic_frame.specs.Crc.{crc, with_crc}
 pub use Rattle.vic_frame.specs.Reading.{reply_reading, request_reading}
 pub use Rattle.vic_frame.specs.Replies.{IsReply, Reply, reply_body, reply_spelling}
-pub use Rattle.vic_frame.specs.Requests.{IsInRange, IsValid, SpellsRequest, byte_count, request_body, request_spelling}
+pub use Rattle.vic_frame.specs.Requests.{IsInRange, IsValid, SpellsRequest, request_body, request_spelling}
 pub use Rattle.vic_frame.specs.Uids.{AreDifferent, IsUid, has, is_uid}
 pub use Rattle.vic_frame.specs.declared.fault.FrameFault.{FrameFault}
 pub use Rattle.vic_frame.specs.declared.request.Request.{Request}
-pub use Rattle.vic_frame.specs.declared.request.Request.TheVariants.{Inventory, StayQuiet}
 pub use Rattle.vic_log.specs.Begun.{AreRead, HasCut, HasJudged, HasTaken, IsCut, IsShort, IsSplit, spare}
 pub use Rattle.vic_log.specs.Device.{HandsOut, HasTakenBut, HasTakenPrefix, KeepsOrHides, TellsOn}
 pub use Rattle.vic_log.specs.Early.{HasNoEarlyFault, IsEarly, IsEarlyFault, IsJudged, IsLong, Judges, ReadsAs, ReadsWhere}
@@ -52,11 +51,11 @@ pub use Rattle.vic_log.specs.Kept.{Keeps, left_after}
 pub use Rattle.vic_log.specs.LineReading.{line_reading}
 pub use Rattle.vic_log.specs.Lines.{all_but_last, content, cr, cut, ends_with, lf, lines_of_text, onto, without_last}
 pub use Rattle.vic_log.specs.Log.{AreTyped, IsTyped, IsValidEntry, LogValue, last_from}
-pub use Rattle.vic_log.specs.OpenRounds.{IsCursorAt, round_at, round_of, round_since}
+pub use Rattle.vic_log.specs.OpenRounds.{IsCursorAt, round_at}
 pub use Rattle.vic_log.specs.Order.{AreValid, IsInOrder, IsRisingFrom, entries, first_reason, is_after_list, is_duplicate, is_empty, is_outside_round, listed, refusal}
 pub use Rattle.vic_log.specs.Populations.{CouldHaveGiven, Fits, IsPopulation, Lone, Nobody, Outcome, Several, answers_at, outcome_at, outcome_of}
 pub use Rattle.vic_log.specs.Quiet.{is_quiet, wakes}
-pub use Rattle.vic_log.specs.Rounds.{IsInRound, ends_round, is_slot, left_since, opener, slots_left}
+pub use Rattle.vic_log.specs.Rounds.{IsInRound, ends_round, is_slot, opener, slots_left}
 pub use Rattle.vic_log.specs.Slots.{Asks, ManyReplies, NoReply, OneReply, Reading, Slot, SomeReply, Supplies, SuppliesAll, allows, is_open, may_be, slots_before, slots_of, with_entry}
 pub use Rattle.vic_log.specs.Text.{GiveEntries, IsFirstFault, IsLogOf, Refuses, entry_line, fault_on, header, line_fault, log_upto, logged, named_version, reading_fault, version_of}
 pub use Rattle.vic_log.specs.Writing.{entry_text, joined, lines_text, listed_text, numbered, text_of}
@@ -68,7 +67,7 @@ pub use Rattle.vic_log.specs.declared.entry.Version.TheVariants.{V1, V2}
 pub use Rattle.vic_log.specs.declared.fault.LineFault.{LineFault}
 pub use Rattle.vic_log.specs.declared.fault.LineFault.TheVariants.{Header, LineTooLong, TooManyLines}
 pub use Rattle.vic_log.specs.declared.fault.LogFault.{LogFault}
-pub use Rattle.vic_log.specs.declared.fault.LogFault.TheVariants.{Line, Memory, Read, Spent}
+pub use Rattle.vic_log.specs.declared.fault.LogFault.TheVariants.{Line, Memory, Read}
 pub use Rattle.vic_log.specs.declared.rounds.OpenRound.{OpenRound}
 pub use Rattle.vic_log.specs.inner.Digits.{SpellsByte, digit_or_255}
 pub use Rattle.vic_log.specs.inner.Text.{RefusesNext, after_line, next_fault}

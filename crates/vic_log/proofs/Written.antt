@@ -1,5 +1,5 @@
 -- The text of a log reads back.
-use Rattle.vic_log.proofs.Words.{◌≡◌, ℕ, suc, ◌+◌, ◌-◌, ◌<◌, ◌≤◌, true, false, Some, None, Ok, List, [], ◌∷◌, ◌++◌, length, refl, sym, ap, subst, ◌∙◌, arith, append_assoc, append-nil, slice_get, nat_eq, ◌==◌, map, common_steps, nat_tests, cond-true, cond-false, or_parts, ne_eqb, le-ltb, length_push, Entry, has, IsInOrder, entries, onto, cut, ends_with, all_but_last, without_last, content, lines_of_text, line_reading, line_fault, entry_line, logged, IsLogOf, after_line, LogValue, Version, entry_text, numbered, AreRead, take-append_seam, AllByRecursion, reading_fault, header, joined}
+use Rattle.vic_log.proofs.Words.{◌≡◌, ℕ, suc, ◌+◌, ◌-◌, ◌<◌, ◌≤◌, true, false, Some, None, Ok, List, [], ◌∷◌, ◌++◌, length, refl, sym, ap, subst, ◌∙◌, arith, append_assoc, append-nil, slice_get, nat_eq, ◌==◌, map, common_steps, nat_tests, cond-true, cond-false, or_parts, ne_eqb, le-ltb, length_push, Entry, has, IsInOrder, entries, onto, cut, ends_with, all_but_last, without_last, content, lines_of_text, line_reading, line_fault, IsLogOf, after_line, LogValue, Version, entry_text, numbered, AreRead, take-append_seam, AllByRecursion, reading_fault, header, joined}
 use Rattle.vic_log.proofs.Passing.{AreRead-push, AreRead-end}
 use Rattle.vic_log.proofs.Follow.{first_reason-none}
 use Rattle.vic_log.proofs.Push.{entries-numbered}
@@ -62,15 +62,12 @@ no_fault v es fs e n o s some few =
     cond-false _ _ _ (le-ltb 1000000 n few) ∙ (cond-false _ _ _ (le-ltb 128 (length (entry_text e)) s.short) ∙ (cond-false _ _ _ (not_first n some)
     ∙ (ap (reading_fault es) s.reads ∙ first_reason-none _ _ _ es fs e o)))
 
-logged_is : (v : Version) (e : Entry) (n : ℕ) → IsSpelled v e → 1 < n → logged v n (Some (entry_text e)) ≡ record { number = n; item = e } ∷ []
-logged_is v e n s some = cond-false _ _ _ (not_first n some) ∙ ap (entry_line n) s.reads
-
 -- these entries on the lines 2, 3, 4 and so on
 abbrev of_version : Version → List Entry → LogValue
 of_version v es = record { lines = numbered 2 es; version = v }
 
 after_line-is : (v : Version) (es : List Entry) (e : Entry) (n : ℕ) → n ≡ 2 + length es → IsSpelled v e → after_line (of_version v es) n (entry_text e) ≡ of_version v (es ++ e ∷ [])
-after_line-is v es e n at s = grind (arith, nat_tests, logged_is, numbered-push, cond-false, not_first)
+after_line-is v es e n at s = let reads = s.reads in grind (arith, nat_tests, numbered-push)
 
 abbrev pub AreSpelled : Version → List Entry → Type 0
 AreSpelled v es = (i : ℕ) (e : Entry) → slice_get es i ≡ Some e → IsSpelled v e
