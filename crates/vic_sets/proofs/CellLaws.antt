@@ -1,5 +1,5 @@
 -- How lists of cells change.
-use Rattle.vic_sets.proofs.Words.{◌≡◌, ℕ, zero, suc, ◌+◌, ◌-◌, ◌*◌, ◌/◌, ◌^◌, ◌%◌, ◌<◌, ◌⊎◌, inl, inr, refl, sym, ap, subst, ◌∙◌, arith, Bool, true, false, not, cond, ◌&&◌, ◌||◌, ◌==◌, List, [], ◌∷◌, ◌++◌, Contains, filter, length, get_or, take, pow_pos, mod-eq_of_lt, rules, mod-mul-add, BitMask, IsMask, lies_in, in_cells, AreCells, cut_at, nat_tests, list_any, or_cases, or_parts, not_from_true, not-false, cases_Bool, list_any-append, list_any_at, All-push, All-filter, All-contains, All-contains_itself, Contains-push_cases, div-mul-add, div-eq_of_lt, lower_half, upper_half, or_false, IsCell, IsApart, AreApart, NoHalves, beside}
+use Rattle.vic_sets.proofs.Words.{◌≡◌, ℕ, zero, suc, ◌+◌, ◌-◌, ◌*◌, ◌^◌, ◌<◌, ◌⊎◌, inl, inr, refl, sym, ap, subst, ◌∙◌, arith, Bool, true, false, not, cond, ◌&&◌, ◌||◌, ◌==◌, List, [], ◌∷◌, ◌++◌, Contains, filter, length, get_or, take, pow_pos, mod-eq_of_lt, rules, BitMask, IsMask, IsUid, lies_in, in_cells, AreCells, cut_at, nat_tests, list_any, or_parts, cases_Bool, list_any-append, list_any_at, All-push, All-filter, All-contains, All-contains_itself, Contains-push_cases, shr_high, mod_low, Any-from_list_any, any-filter_same, div-eq_of_lt, lower_half, upper_half, or_false, IsCell, IsApart, AreApart, NoHalves, beside}
 use Rattle.vic_sets.proofs.CutLaws.{cut_parted}
 
 -- a cell more
@@ -13,38 +13,30 @@ apart_pushed (x ∷ xs) m a h = (first, apart_pushed xs m a.1 (λ u i k. (or_par
   first u i k = rw (in_pushed xs m u) (grind (arith, nat_tests, a.0 u i, h u i))
 
 -- a mask of one bit more
-abbrev longer : BitMask → ℕ → BitMask
+abbrev pub longer : BitMask → ℕ → BitMask
 longer k v = record { len = k.len + 1; value = v }
 
 -- the halves of a mask lie beside each other
-beside_lower : (k : BitMask) → IsMask k → beside k.len (lower_half k) ≡ upper_half k
+beside_lower : (k : BitMask) → IsMask k → beside (k.len + 1 - 1) (lower_half k) ≡ upper_half k
 beside_lower k h =
-    let low : k.value % 2 ^ k.len ≡ k.value = mod-eq_of_lt h.1 in
-    let high : k.value / 2 ^ k.len ≡ 0 = div-eq_of_lt h.1 in
-    ap (longer k) (rw (high, low) refl)
+    let back : k.len + 1 - 1 ≡ k.len = omega arith in
+    rw back (ap (longer k) (rw (div-eq_of_lt h.1, mod-eq_of_lt h.1) refl))
 
-beside_upper : (k : BitMask) → IsMask k → beside k.len (upper_half k) ≡ lower_half k
+beside_upper : (k : BitMask) → IsMask k → beside (k.len + 1 - 1) (upper_half k) ≡ lower_half k
 beside_upper k h =
+    let back : k.len + 1 - 1 ≡ k.len = omega arith in
     let is : k.value + 2 ^ k.len ≡ 1 * 2 ^ k.len + k.value = omega arith in
-    let low : (k.value + 2 ^ k.len) % 2 ^ k.len ≡ k.value = ap (λ x. x % 2 ^ k.len) is ∙ mod-mul-add 1 (2 ^ k.len) k.value h.1 in
-    let high : (k.value + 2 ^ k.len) / 2 ^ k.len ≡ 1 = ap (λ x. x / 2 ^ k.len) is ∙ div-mul-add 1 (2 ^ k.len) k.value h.1 in
-    ap (longer k) (rw (high, low) (omega arith))
+    rw back (ap (longer k) (rw (is, shr_high 1 k.len k.value h.1, mod_low 1 k.len k.value h.1) (omega arith)))
 
 halves_differ : (k : BitMask) → lower_half k ≡ upper_half k → ⊥
 halves_differ k e = let v = ap (λ (m : BitMask). m.value) e in let p = pow_pos k.len in omega arith
 
 joined_pushed : (cells : List BitMask) (m : BitMask) → NoHalves cells → (0 < m.len → Contains cells (beside (m.len - 1) m) → ⊥) → NoHalves (cells ++ m ∷ [])
 joined_pushed cells m joined alone k is_mask lower upper = at_places (Contains-push_cases cells m (lower_half k) lower) (Contains-push_cases cells m (upper_half k) upper) where
-  of_half : {n : BitMask} → m ≡ n → n.len ≡ k.len + 1 → 0 < m.len
-  of_half e l = let f = ap (λ (x : BitMask). x.len) e in omega arith
-
-  at_half : (n : BitMask) → m ≡ n → n.len ≡ k.len + 1 → beside (m.len - 1) m ≡ beside k.len n
-  at_half n e l = let f : n.len - 1 ≡ k.len = omega arith in ap (λ (x : BitMask). beside (x.len - 1) x) e ∙ ap (λ i. beside i n) f
-
   at_places : Contains cells (lower_half k) ⊎ (m ≡ lower_half k) → Contains cells (upper_half k) ⊎ (m ≡ upper_half k) → ⊥
   at_places (inl a) (inl b) = joined k is_mask a b
-  at_places (inl a) (inr e) = alone (of_half e refl) (subst (Contains cells) (sym (at_half (upper_half k) e refl ∙ beside_upper k is_mask)) a)
-  at_places (inr e) (inl b) = alone (of_half e refl) (subst (Contains cells) (sym (at_half (lower_half k) e refl ∙ beside_lower k is_mask)) b)
+  at_places (inl a) (inr e) = (rw e at alone) (omega arith) (subst (Contains cells) (sym (beside_upper k is_mask)) a)
+  at_places (inr e) (inl b) = (rw e at alone) (omega arith) (subst (Contains cells) (sym (beside_lower k is_mask)) b)
   at_places (inr e) (inr f) = halves_differ k (sym e ∙ f)
 
 -- a cell in front, or behind
@@ -79,28 +71,6 @@ contains_kept p xs m h = All-contains (Contains xs) (filter p xs) m (All-filter 
 joined_kept : (p : BitMask → Bool) (xs : List BitMask) → NoHalves xs → NoHalves (filter p xs)
 joined_kept p xs h k is_mask lower upper = h k is_mask (contains_kept p xs (lower_half k) lower) (contains_kept p xs (upper_half k) upper)
 
--- all cells but one are kept
-record KeepsAllBut (p : BitMask → Bool) (s : BitMask) : Type 0 where
-  drops : p s ≡ false
-  keeps : (x : BitMask) → p x ≡ false → x ≡ s
-
-kept_or_that : (p : BitMask → Bool) (s : BitMask) (xs : List BitMask) (u : ℕ) → KeepsAllBut p s → in_cells xs u ≡ true → (in_cells (filter p xs) u || lies_in s u) ≡ true
-kept_or_that p s [] u k h = absurd (cc)
-kept_or_that p s (x ∷ xs) u k h =
-    let that : p x ≡ false → lies_in x u ≡ lies_in s u = λ e. ap (λ m. lies_in m u) (k.keeps x e) in
-    rw (in_next p x xs u) (grind (arith, nat_tests, that, kept_or_that p s xs u k))
-
--- a cell is taken out
-taken_out : (p : BitMask → Bool) (s : BitMask) (xs : List BitMask) (u : ℕ) → KeepsAllBut p s → Contains xs s → in_cells xs u ≡ (in_cells (filter p xs) u || lies_in s u)
-taken_out p s xs u k there = grind (arith, nat_tests, kept_or_that p s xs u k, in_kept p xs u, in_contained xs s u there)
-
-taken_apart : (p : BitMask → Bool) (s : BitMask) (xs : List BitMask) → KeepsAllBut p s → Contains xs s → AreApart xs → IsApart s (filter p xs)
-taken_apart p s [] k there a u i h = refl
-taken_apart p s (x ∷ xs) k there a u i h = rw (in_next p x xs u) (elim (contains_cases x s xs there) [
-  | inl f ↦ let out = ap p f ∙ k.drops in let same = ap (λ m. lies_in m u) f in grind (arith, nat_tests, out, same, a.0 u i, not_kept p xs u)
-  | inr c ↦ grind (arith, nat_tests, in_contained xs s u c h, a.0 u i, taken_apart p s xs k c a.1 u i h)
-])
-
 -- a UID of one cell lies in none before it
 pub apart_before : (xs : List BitMask) (i : ℕ) (m : BitMask) → AreApart xs → i < length xs → get_or xs i m ≡ m → IsApart m (take i xs)
 apart_before [] i m a h e u is_uid k = absurd (omega arith)
@@ -122,17 +92,27 @@ same_self : (a : BitMask) → same_mask a a ≡ true
 same_self a = grind (arith, nat_tests)
 
 found : (xs : List BitMask) (m : BitMask) → list_any (λ x. same_mask x m) xs ≡ true → Contains xs m
-found [] m h = absurd (cc)
-found (x ∷ xs) m h = elim (or_cases (same_mask x m) (list_any (λ y. same_mask y m) xs) h) [
-  | inl a ↦ (0, omega arith, is_same x m a)
-  | inr a ↦ let r = found xs m a in (suc r.0, omega (arith, r.1), r.2)
-]
+found xs m h = let one = Any-from_list_any (λ x. same_mask x m) xs h in subst (Contains xs) (is_same one.1 m one.4) (one.0, one.2, one.3)
 
 pub not_found : (xs : List BitMask) (m : BitMask) → list_any (λ x. same_mask x m) xs ≡ false → Contains xs m → ⊥
 not_found xs m h k = cc (list_any_at (λ x. same_mask x m) xs k.0 m k.1 (ap (λ x. same_mask x m) k.2 ∙ same_self m), h)
 
-all_but : (s : BitMask) → KeepsAllBut (λ x. not (same_mask x s)) s
-all_but s = record { drops = not_from_true (same_mask s s) (same_self s); keeps = λ x h. is_same x s (not-false (same_mask x s) h) }
+-- all cells but one
+abbrev without : BitMask → List BitMask → List BitMask
+without s xs = filter (λ x. not (same_mask x s)) xs
+
+taken_apart : (s : BitMask) (xs : List BitMask) → Contains xs s → AreApart xs → IsApart s (without s xs)
+taken_apart s [] there a u i h = refl
+taken_apart s (x ∷ xs) there a u i h = rw (in_next (λ m. not (same_mask m s)) x xs u) (elim (contains_cases x s xs there) [
+  | inl f ↦
+      let out : same_mask x s ≡ true = ap (λ m. same_mask m s) f ∙ same_self s in
+      let same = ap (λ m. lies_in m u) f in
+      grind (arith, nat_tests, out, same, a.0 u i, not_kept (λ m. not (same_mask m s)) xs u)
+  | inr c ↦ grind (arith, nat_tests, in_contained xs s u c h, a.0 u i, taken_apart s xs c a.1 u i h)
+])
+
+kept_others : (s : BitMask) (xs : List BitMask) (u : ℕ) → lies_in s u ≡ false → in_cells (without s xs) u ≡ in_cells xs u
+kept_others s xs u e = any-filter_same (λ x. lies_in x u) (λ x. not (same_mask x s)) true (λ x h. grind (arith, nat_tests)) xs
 
 -- cells that a test keeps
 kept_cells : (p : BitMask → Bool) (xs : List BitMask) → AreCells xs → AreCells (filter p xs)
@@ -142,32 +122,33 @@ kept_cells p xs h = record { are_cells = All-filter p IsCell xs h.are_cells; apa
 pub pushed_cells : (xs : List BitMask) (m : BitMask) → AreCells xs → IsCell m → IsApart m xs → (0 < m.len → Contains xs (beside (m.len - 1) m) → ⊥) → AreCells (xs ++ m ∷ [])
 pushed_cells xs m h cell apart alone = record { are_cells = All-push IsCell xs m h.are_cells cell; apart = apart_pushed xs m h.apart apart; joined = joined_pushed xs m h.joined alone }
 
--- a cell s is taken out, and the mask w put in its place, whose halves are s and a mask m that lies in none of the cells
-pub record Merged (p : BitMask → Bool) (m w : BitMask) (xs : List BitMask) : Type 0 where
-  pub cells : AreCells (filter p xs)
-  pub apart : IsApart w (filter p xs)
-  pub same : (u : ℕ) → (in_cells (filter p xs) u || lies_in w u) ≡ (in_cells xs u || lies_in m u)
+-- the cell beside a mask m that lies in none of them is taken out, and both together, the mask w, put in its place
+pub record Merged (m w : BitMask) (old new : List BitMask) : Type 0 where
+  pub cells : AreCells new
+  pub apart : IsApart w new
+  pub same : (u : ℕ) → IsUid u → (in_cells new u || lies_in w u) ≡ (in_cells old u || lies_in m u)
 
-merged : (p : BitMask → Bool) (s m w : BitMask) (xs : List BitMask) → KeepsAllBut p s → Contains xs s → AreCells xs → IsApart m xs → ((u : ℕ) → lies_in w u ≡ (lies_in m u || lies_in s u)) → Merged p m w xs
-merged p s m w xs k there h apart parts = record {
-  cells = kept_cells p xs h;
-  apart = λ u i e. grind (arith, nat_tests, parts u, apart u i, not_kept p xs u, taken_apart p s xs k there h.apart u i);
-  same = λ u. grind (arith, nat_tests, parts u, taken_out p s xs u k there);
-}
+pub merged : (s m w : BitMask) (old new : List BitMask) → new ≡ filter (λ x. not (same_mask x s)) old → 0 < m.len → IsMask m → s ≡ beside (m.len - 1) m → w ≡ cut_at (m.len - 1) m → list_any (λ x. same_mask x s) old ≡ true → AreCells old → IsApart m old → Merged m w old new
+merged s m w old new kept pos is_mask is cut found' h apart = rw kept record {
+  cells = kept_cells (λ x. not (same_mask x s)) old h;
+  apart = λ u i e. grind (arith, nat_tests, parts u, apart u i, kept_others s old u, out u i, not_kept (λ x. not (same_mask x s)) old u);
+  same = λ u i. grind (arith, nat_tests, parts u, kept_others s old u, out u i, in_contained old s u there);
+} where
+  there : Contains old s
+  there = found old s found'
 
--- the same, where s lies beside m
-pub merged_beside : (s m w : BitMask) (xs : List BitMask) → 0 < m.len → IsMask m → s ≡ beside (m.len - 1) m → w ≡ cut_at (m.len - 1) m → list_any (λ x. same_mask x s) xs ≡ true → AreCells xs → IsApart m xs → Merged (λ x. not (same_mask x s)) m w xs
-merged_beside s m w xs pos is_mask is cut there h apart = merged _ s m w xs (all_but s) (found xs s there) h apart (λ u. ap (λ x. lies_in x u) cut ∙ cut_parted m u is_mask pos ∙ ap (λ x. lies_in m u || lies_in x u) (sym is))
+  out : IsApart s (without s old)
+  out = taken_apart s old there h.apart
+
+  parts : (u : ℕ) → lies_in w u ≡ (lies_in m u || lies_in s u)
+  parts u = ap (λ x. lies_in x u) cut ∙ cut_parted m u is_mask pos ∙ ap (λ x. lies_in m u || lies_in x u) (sym is)
 
 -- x a UID was there before, c it lies in the cells, h it is among the UIDs so far, e it is the next of them
 pub next_added : (x c h e : Bool) → (e ≡ true → c ≡ true) → ((x || (c && h)) || e) ≡ (x || (c && (h || e)))
 next_added x c h e k = grind (arith, nat_tests)
 
-pub next_there : (x c h e : Bool) → (e ≡ true → (x || (c && h)) ≡ true) → (x || (c && h)) ≡ (x || (c && (h || e)))
+pub next_there : (x c h e : Bool) → (e ≡ true → c ≡ true → (x || (c && h)) ≡ true) → (x || (c && h)) ≡ (x || (c && (h || e)))
 next_there x c h e k = grind (arith, nat_tests)
-
-pub next_elsewhere : (x c h e : Bool) → (e ≡ true → c ≡ false) → (x || (c && h)) ≡ (x || (c && (h || e)))
-next_elsewhere x c h e k = grind (arith, nat_tests)
 
 -- t a UID lies in the cells so far, x in the next one, k in the mask
 pub next_outside : (t x k : Bool) → ((t && not k) || (x && not k)) ≡ ((t || x) && not k)

@@ -1,11 +1,10 @@
 -- A UID by its low bits and those above them.
-use Rattle.vic_sets.proofs.Words.{◌≡◌, ℕ, ◌+◌, ◌-◌, ◌*◌, ◌/◌, ◌^◌, ◌%◌, ◌<◌, ◌≤◌, ◌⊎◌, inl, inr, zero, suc, Box, List, true, refl, sym, ap, ◌∙◌, arith, pow-add, pow_pos, shr-shr, Global, mod-mul-add, mod_below, mod_mod_pow, Node, Fork, Halves, open_at, mul-add-lt, div-mul-add, div_below, shl_whole, shr_split, IsUid, uid_from_low_bits, mod_pow_more, IsFreeUnder}
-
-powers : (d : ℕ) → d ≤ 56 → 2 ^ (56 - d) * 2 ^ d ≡ 2 ^ 56
-powers d h = let e : 56 - d + d ≡ 56 = omega arith in let f : 2 ^ (56 - d + d) ≡ 2 ^ (56 - d) * 2 ^ d = pow-add 2 (56 - d) d in sym (rw e at f)
+use Rattle.vic_sets.proofs.Words.{◌≡◌, ℕ, ◌+◌, ◌-◌, ◌*◌, ◌/◌, ◌^◌, ◌%◌, ◌<◌, ◌≤◌, inl, inr, cases_eq, List, sym, ap, ◌∙◌, arith, pow-add, pow_pos, shr-shr, mod-mul-add, mod_below, mod_mod_pow, Node, open_at, mul-add-lt, div-mul-add, shr_below, shl_whole, shr_split, IsUid, uid_from_low_bits, mod_pow_more, same_from_place, Gathers, gathers_both, IsFreeUnder}
 
 pub place_small : (d low high : ℕ) → d ≤ 56 → low < 2 ^ d → high < 2 ^ (56 - d) → high * 2 ^ d + low < 2 ^ 56
-place_small d low high p q r = let e = powers d p in let f = mul-add-lt high (2 ^ d) low (2 ^ (56 - d)) r q in omega arith
+place_small d low high p q r =
+    let e : d + (56 - d) ≡ 56 = omega arith in
+    rw (← pow-add 2 d (56 - d), e) at (mul-add-lt high (2 ^ d) low (2 ^ (56 - d)) r q)
 
 pub shifted : (d high : ℕ) → d ≤ 56 → high < 2 ^ (56 - d) → high * 2 ^ d % 2 ^ 64 ≡ high * 2 ^ d
 shifted d high p r = shl_whole high (56 - d) d 64 r (omega arith)
@@ -29,7 +28,7 @@ is_uid_of d low high p q r =
     }
 
 pub high_below : (d u : ℕ) → d ≤ 56 → u % 2 ^ 56 / 2 ^ d < 2 ^ (56 - d)
-high_below d u p = let e = powers d p in let h = mod_below u (2 ^ 56) (omega arith) in div_below (u % 2 ^ 56) (2 ^ d) (2 ^ (56 - d)) (pow_pos d) (rw e h)
+high_below d u p = let e : 56 - d + d ≡ 56 = omega arith in shr_below (u % 2 ^ 56) (56 - d) d (rw e (mod_below u (2 ^ 56) (omega arith)))
 
 pub uid_is : (d u : ℕ) → d ≤ 56 → IsUid u → u ≡ uid_of d (u % 2 ^ d) (u % 2 ^ 56 / 2 ^ d)
 uid_is d u p is_uid =
@@ -37,41 +36,29 @@ uid_is d u p is_uid =
     let f = mod_mod_pow u d 56 p in
     omega arith
 
--- x has the bit b above the rest r, which is below t
-record Bit (x b t r v : ℕ) : Type 0 where
-  low : x ≡ v → (b ≡ 0) × (r ≡ v)
-  high : x ≡ v + t → (b ≡ 1) × (r ≡ v)
-  to_low : b ≡ 0 → r ≡ v → x ≡ v
-  to_high : b ≡ 1 → r ≡ v → x ≡ v + t
-
-bit_is : (x b t r v : ℕ) → b < 2 → r < t → v < t → x ≡ b * t + r → Bit x b t r v
-bit_is x zero t r v p q h e = record { low = λ k. (refl, omega arith); high = λ k. absurd (omega arith); to_low = λ k l. omega arith; to_high = λ k l. absurd (omega arith) }
-bit_is x (suc zero) t r v p q h e = record { low = λ k. absurd (omega arith); high = λ k. (refl, omega arith); to_low = λ k l. absurd (omega arith); to_high = λ k l. omega arith }
-bit_is x (suc (suc b)) t r v p q h e = absurd (omega arith)
-
-bit_of : (u d low : ℕ) → low < 2 ^ d → Bit (u % 2 ^ (d + 1)) (u / 2 ^ d % 2) (2 ^ d) (u % 2 ^ d) low
-bit_of u d low h = bit_is (u % 2 ^ (d + 1)) (u / 2 ^ d % 2) (2 ^ d) (u % 2 ^ d) low (mod_below (u / 2 ^ d) 2 (omega arith)) (mod_below u (2 ^ d) (pow_pos d)) h (mod_pow_more u d)
-
-deeper : (u d : ℕ) → u / 2 ^ (d + 1) ≡ u / 2 ^ d / 2
-deeper u d = sym (shr-shr u d 1)
-
 -- what is wanted below a fork is wanted below one of its halves
-pub from_zero : (n : Node) (halves : Box Halves Global) (d low : ℕ) (except : List ℕ) (u : ℕ) → n ≡ Fork halves → low < 2 ^ d → IsFreeUnder halves.value.zero (d + 1) low except u → IsFreeUnder n d low except u
-from_zero n halves d low except u is fits w =
-    let b = (bit_of u d low fits).low w.inside in
-    rw is (record { is_uid = w.is_uid; inside = b.1; is_open = rw b.0 (rw deeper at w.is_open); free = w.free })
+abbrev pub IsHalfOf : Node → ℕ → Node → Type 0
+IsHalfOf n b half = (w : ℕ) → w % 2 ≡ b → open_at n w ≡ open_at half (w / 2)
 
-pub from_one : (n : Node) (halves : Box Halves Global) (d low : ℕ) (except : List ℕ) (u : ℕ) → n ≡ Fork halves → low < 2 ^ d → IsFreeUnder halves.value.one (d + 1) (low + 2 ^ d) except u → IsFreeUnder n d low except u
-from_one n halves d low except u is fits w =
-    let b = (bit_of u d low fits).high w.inside in
-    rw is (record { is_uid = w.is_uid; inside = b.1; is_open = rw b.0 (rw deeper at w.is_open); free = w.free })
+pub from_half : (n half : Node) (d b low next : ℕ) (except : List ℕ) (u : ℕ) → low < 2 ^ d → next ≡ b * 2 ^ d + low → IsHalfOf n b half → IsFreeUnder half (d + 1) next except u → IsFreeUnder n d low except u
+from_half n half d b low next except u fits is opens w =
+    let at = same_from_place _ _ b low (2 ^ d) (mod_below u (2 ^ d) (pow_pos d)) fits (sym (mod_pow_more u d) ∙ w.inside ∙ is) in
+    record { is_uid = w.is_uid; inside = at.1; is_open = opens (u / 2 ^ d) at.0 ∙ ap (open_at half) (shr-shr u d 1) ∙ w.is_open; free = w.free }
 
-pub to_half : (n : Node) (halves : Box Halves Global) (d low : ℕ) (except : List ℕ) (u : ℕ) → n ≡ Fork halves → low < 2 ^ d → IsFreeUnder n d low except u → IsFreeUnder halves.value.zero (d + 1) low except u ⊎ IsFreeUnder halves.value.one (d + 1) (low + 2 ^ d) except u
-to_half n halves d low except u is fits w = at_bit (u / 2 ^ d % 2) refl (mod_below (u / 2 ^ d) 2 (omega arith)) where
-  there : open_at (Fork halves) (u / 2 ^ d) ≡ true
-  there = rw is at w.is_open
+to_half : (n half : Node) (d b low next : ℕ) (except : List ℕ) (u : ℕ) → next ≡ b * 2 ^ d + low → IsHalfOf n b half → u / 2 ^ d % 2 ≡ b → IsFreeUnder n d low except u → IsFreeUnder half (d + 1) next except u
+to_half n half d b low next except u is opens at w = record {
+  is_uid = w.is_uid;
+  inside = rw (mod_pow_more u d, at, w.inside) (sym is);
+  is_open = sym (opens (u / 2 ^ d) at ∙ ap (open_at half) (shr-shr u d 1)) ∙ w.is_open;
+  free = w.free;
+}
 
-  at_bit : (b : ℕ) → u / 2 ^ d % 2 ≡ b → b < 2 → IsFreeUnder halves.value.zero (d + 1) low except u ⊎ IsFreeUnder halves.value.one (d + 1) (low + 2 ^ d) except u
-  at_bit zero e h = inl (record { is_uid = w.is_uid; inside = (bit_of u d low fits).to_low e w.inside; is_open = rw deeper (rw e at there); free = w.free })
-  at_bit (suc zero) e h = inr (record { is_uid = w.is_uid; inside = (bit_of u d low fits).to_high e w.inside; is_open = rw deeper (rw e at there); free = w.free })
-  at_bit (suc (suc b)) e h = absurd (omega arith)
+pub halves_gathered : (n zero one : Node) (d low : ℕ) (except xs ys zs : List ℕ) → low < 2 ^ d → IsHalfOf n 0 zero → IsHalfOf n 1 one → Gathers (IsFreeUnder zero (d + 1) low except) xs ys → Gathers (IsFreeUnder one (d + 1) (low + 2 ^ d) except) ys zs → Gathers (IsFreeUnder n d low except) xs zs
+halves_gathered n zero one d low except xs ys zs fits of_zero of_one =
+    gathers_both (IsFreeUnder zero (d + 1) low except) (IsFreeUnder one (d + 1) (low + 2 ^ d) except) (IsFreeUnder n d low except) xs ys zs
+    (λ u w. from_half n zero d 0 low low except u fits (omega arith) of_zero w)
+    (λ u w. from_half n one d 1 low (low + 2 ^ d) except u fits (omega arith) of_one w)
+    (λ u w. elim (cases_eq (u / 2 ^ d % 2) 0) [
+      | inl e ↦ inl (to_half n zero d 0 low low except u (omega arith) of_zero e w)
+      | inr e ↦ inr (to_half n one d 1 low (low + 2 ^ d) except u (omega arith) of_one (omega arith) w)
+    ])

@@ -1,5 +1,5 @@
-use Rattle.vic_sets.proofs.Words.{◌≡◌, ◌∙◌, not, Contains, filter, sym, ap, subst, arith, rules, BitMask, AreCells, filter_same, IsApart}
-use Rattle.vic_sets.proofs.CellLaws.{same_mask, not_found, pushed_cells, merged_beside}
+use Rattle.vic_sets.proofs.Words.{◌≡◌, ◌∙◌, not, Contains, filter, sym, ap, subst, arith, rules, BitMask, AreCells, filter_same}
+use Rattle.vic_sets.proofs.CellLaws.{same_mask, not_found, pushed_cells, merged}
 use Rattle.vic_sets.proofs.cells.+add.Goals as goal
 use Rattle.vic_sets.proofs.cells.+add.Goals.{then-len-gt0+else-contains, else-len-gt0}
 
@@ -9,8 +9,8 @@ add-requires t c =
     let m = c.args.mask in
     let s = c.flipped-other.result in
     let kept : c.retain.new.self.items ≡ filter (λ x. not (same_mask x s)) xs = filter_same _ (λ x. not (same_mask x s)) _ (λ x b f' k. search rules) _ _ c.retain.ensures.filtered in
-    let merged = merged_beside s m c.widened.result xs (omega arith) c.requires.cell.0 (rw c.len-then-len-gt0.ensures.value at c.flipped-other.ensures.value) c.widened.ensures.value (rw c.as_slice.ensures.value at (sym c.contains.ensures.value ∙ c.if-contains.true)) c.requires.cells c.requires.apart in
-    (omega (arith, ap (λ (x : BitMask). x.len) c.widened.ensures.value), (subst AreCells (sym kept) merged.cells, (c.widened.ensures.cell, subst (IsApart c.widened.result) (sym kept) merged.apart)))
+    let both = merged s m c.widened.result xs _ kept (omega arith) c.requires.cell.0 (rw c.len-then-len-gt0.ensures.value at c.flipped-other.ensures.value) c.widened.ensures.value (rw c.as_slice.ensures.value at (sym c.contains.ensures.value ∙ c.if-contains.true)) c.requires.cells c.requires.apart in
+    (omega (arith, ap (λ (x : BitMask). x.len) c.widened.ensures.value), (both.cells, (c.widened.ensures.cell, both.apart)))
 
 pub returns-then-contains-clause-added : goal.returns-then-contains-clause-added
 returns-then-contains-clause-added t c u i =
@@ -18,8 +18,8 @@ returns-then-contains-clause-added t c u i =
     let m = c.args.mask in
     let s = c.flipped-other.result in
     let kept : c.retain.new.self.items ≡ filter (λ x. not (same_mask x s)) xs = filter_same _ (λ x. not (same_mask x s)) _ (λ x b f' k. search rules) _ _ c.retain.ensures.filtered in
-    let merged = merged_beside s m c.widened.result xs (omega arith) c.requires.cell.0 (rw c.len-then-len-gt0.ensures.value at c.flipped-other.ensures.value) c.widened.ensures.value (rw c.as_slice.ensures.value at (sym c.contains.ensures.value ∙ c.if-contains.true)) c.requires.cells c.requires.apart in
-    rw kept at (c.in_ok-add.ensures.added u i) ∙ merged.same u
+    let both = merged s m c.widened.result xs _ kept (omega arith) c.requires.cell.0 (rw c.len-then-len-gt0.ensures.value at c.flipped-other.ensures.value) c.widened.ensures.value (rw c.as_slice.ensures.value at (sym c.contains.ensures.value ∙ c.if-contains.true)) c.requires.cells c.requires.apart in
+    c.in_ok-add.ensures.added u i ∙ both.same u i
 
 pub returns-clause-cells : goal.returns-clause-cells
 returns-clause-cells t c = subst AreCells (sym c.in_ok-push.ensures.items) (pushed_cells c.args.cells.now.items c.args.mask c.requires.cells c.requires.cell c.requires.apart (λ pos. elim c.if-len-gt0.branch [

@@ -1,5 +1,5 @@
 use Rattle.vic_sets.proofs.Words.{◌≡◌, ◌∙◌, ℕ, ◌+◌, ◌||◌, ◌==◌, sym, ap, take, nat_eq, eqb-true, has, in_cells, list_any_more}
-use Rattle.vic_sets.proofs.CellLaws.{next_added, next_there, next_elsewhere}
+use Rattle.vic_sets.proofs.CellLaws.{next_added, next_there}
 use Rattle.vic_sets.proofs.cells.add_back.Goals as goal
 use Rattle.vic_sets.proofs.cells.add_back.Goals.{then-is_in+then-not-is_in+in_ok-add, else-is_in, else-is_in-via-then-is_in+else-not-is_in, else-is_in-via-else-is_in}
 
@@ -21,14 +21,11 @@ loop-uid-preserved c =
         cells = w.in_ok-add.ensures.cells;
         added = λ u i. w.in_ok-add.ensures.added u i ∙ rw (c.loop-uid.invariant.added u i, w.of_uid.ensures.alone u i, more u) (next_added (before u) (cells u) (has (take n uids) u) (u == x) (λ e. ap cells (eqb-true u x e) ∙ sym c.is_in.ensures ∙ w.if-is_in.true));
       })
-      | else-is_in w ↦ rw w.left-is (elim w.else-is_in.branch [
-        | else-is_in-via-then-is_in+else-not-is_in w' ↦ record {
-          cells = c.loop-uid.invariant.cells;
-          added = λ u i. c.loop-uid.invariant.added u i ∙ rw (more u) (next_there (before u) (cells u) (has (take n uids) u) (u == x) (λ e. sym (c.loop-uid.invariant.added u i) ∙ ap (in_cells c.loop-uid.left.items) (eqb-true u x e) ∙ rw w'.deref.ensures.value at (sym w'.is_in-then-is_in.ensures ∙ w'.if-not-is_in.false)));
-        }
-        | else-is_in-via-else-is_in w' ↦ record {
-          cells = c.loop-uid.invariant.cells;
-          added = λ u i. c.loop-uid.invariant.added u i ∙ rw (more u) (next_elsewhere (before u) (cells u) (has (take n uids) u) (u == x) (λ e. ap cells (eqb-true u x e) ∙ sym c.is_in.ensures ∙ w'.if-is_in.false));
-        }
-      ])
+      | else-is_in w ↦ rw w.left-is (record {
+        cells = c.loop-uid.invariant.cells;
+        added = λ u i. c.loop-uid.invariant.added u i ∙ rw (more u) (next_there (before u) (cells u) (has (take n uids) u) (u == x) (λ e there. elim w.else-is_in.branch [
+          | else-is_in-via-then-is_in+else-not-is_in w' ↦ sym (c.loop-uid.invariant.added u i) ∙ ap (in_cells c.loop-uid.left.items) (eqb-true u x e) ∙ rw w'.deref.ensures.value at (sym w'.is_in-then-is_in.ensures ∙ w'.if-not-is_in.false)
+          | else-is_in-via-else-is_in w' ↦ absurd (cc (sym there ∙ ap cells (eqb-true u x e) ∙ sym c.is_in.ensures, w'.if-is_in.false))
+        ]));
+      })
     ]
