@@ -1,8 +1,8 @@
 -- The words of proofs, from one place: what files name from outside of the crate, and the definitions that several of them name.
-pub use Rattle.std.proofs.Common.{All, Bool, Box, Contains, Global, IfSome, List, None, Option, Some, [], add-one, ap, arith, cond, eq-eqb, eqb-true, false, filter, get_or, inl, inr, le-leb, leb-true, length, max, mod-eq_of_lt, nat_eq, not, pow-add, pow-suc, pow_pos, refl, rules, shr-shr, subst, suc, sym, take, true, zero, ℕ, ◌%◌, ◌&&◌, ◌*◌, ◌++◌, ◌+◌, ◌-◌, ◌/◌, ◌<◌, ◌==◌, ◌^◌, ◌||◌, ◌∙◌, ◌∷◌, ◌≡◌, ◌≢◌, ◌≤◌, ◌⊎◌}
+pub use Rattle.std.proofs.Common.{All, Bool, Box, Contains, Global, IfSome, List, None, Option, Some, [], ap, arith, cond, eq-eqb, eqb-true, false, filter, get_or, inl, inr, length, max, mod-eq_of_lt, nat_eq, not, pow-add, pow-suc, pow_pos, refl, rules, shr-shr, subst, suc, sym, take, true, zero, ℕ, ◌%◌, ◌&&◌, ◌*◌, ◌++◌, ◌+◌, ◌-◌, ◌/◌, ◌<◌, ◌==◌, ◌^◌, ◌||◌, ◌∙◌, ◌∷◌, ◌≡◌, ◌≢◌, ◌≤◌, ◌⊎◌}
 pub use Rattle.std.proofs.Math.Bool.{and_comm}
 pub use Rattle.std.proofs.Math.Nat.{add-mod_right, div-eq_of_lt}
-pub use Rattle.std.proofs.lemmas.Bool.{and_from, and_left, and_parts, cases_Bool, cases_eq, cases_lt, false_from_ne_true, not-false, not_from_true, or_cases, or_parts}
+pub use Rattle.std.proofs.lemmas.Bool.{and_left, and_parts, cases_Bool, cases_eq, cases_lt, or_parts}
 pub use Rattle.std.proofs.lemmas.Bool.Decides.{nat_tests}
 pub use Rattle.std.proofs.lemmas.Fn.{filter_same}
 pub use Rattle.std.proofs.lemmas.Grind.{pow_more}
@@ -12,7 +12,7 @@ pub use Rattle.std.proofs.lemmas.Map.Views.{any-filter_same}
 pub use Rattle.std.proofs.lemmas.Nat.{div-mul-add, div_below, mod-mul-add, mod-pow-add, mod_below, mod_low, mul-add-lt, one_shl, same_from_place, shl_whole, shr_below, shr_high, shr_split}
 pub use Rattle.std.proofs.lemmas.Option.{IfSome_then}
 pub use Rattle.std.specs.List.{list_any}
-pub use Rattle.vic_frame.proofs.MaskLaws.{mod_mod_pow, mod_pow_more, parted}
+pub use Rattle.vic_frame.proofs.MaskLaws.{mod_mod_pow, mod_pow_more}
 pub use Rattle.vic_frame.specs.MaskLaws.{lower_half, upper_half}
 pub use Rattle.vic_frame.specs.Masks.{BitMask, IsMask, lies_in}
 pub use Rattle.vic_frame.specs.Uids.{IsUid, has, uid_from_low_bits}
@@ -22,7 +22,7 @@ pub use Rattle.vic_tree.proofs.GatheringLaws.{gathers_both, gathers_full, gather
 pub use Rattle.vic_tree.specs.Gathering.{Gathers}
 pub use Rattle.vic_tree.specs.OpenSet.{AllOpen, IsAtMost, IsWidest, SameUids}
 pub use Rattle.vic_sets.specs.Cells.{AreApart, AreCells, IsApart, IsCell, NoHalves, beside, cut_at, holds, in_cells}
-pub use Rattle.vic_sets.specs.Nodes.{AreOneLeaf, IsFork, IsReduced, height, open_at}
+pub use Rattle.vic_sets.specs.Nodes.{IsFork, IsReduced, height, open_at}
 pub use Rattle.vic_sets.specs.declared.node.Halves.{Halves}
 pub use Rattle.vic_sets.specs.declared.node.Node.{Fork', Node}
 pub use Rattle.vic_sets.specs.declared.node.Node.TheVariants.{Clear, Fork, Shut}

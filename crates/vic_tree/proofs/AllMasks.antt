@@ -1,5 +1,5 @@
 -- Lists that have all masks of a kind: in any order, then in order.
-use Rattle.vic_tree.proofs.Words.{◌≡◌, ◌⊎◌, ◌↔◌, Bool, true, List, [], ◌∷◌, Less, sym, ◌∙◌, arith, All, AllPairs, Contains, IsPermutation, IsSorted, All-nil, BitMask, IsEquivalence, IsTotalOrder, AllByRecursion, dedup, eq_by_cmp, eq_by_cmp_equiv, nat_cmp_total, on_total, then_total, All-cons, Contains-get_or, All-dedup, AllPairs-cons, Contains-dedup, IsStrictlySortedBy-dedup, All-permutation, Contains-permutation, Adds, AreAll, ComesBefore}
+use Rattle.vic_tree.proofs.Words.{◌≡◌, ◌⊎◌, ◌↔◌, Bool, List, [], ◌∷◌, Less, sym, refl, subst, arith, AllPairs, Contains, IsPermutation, IsSorted, BitMask, IsTotalOrder, dedup, eq_by_cmp, eq_by_cmp_equiv, nat_cmp_total, on_total, then_total, All-from_recursion, All-weaker, Contains-get_or, All-dedup, AllPairs-cons, Contains-dedup, IsStrictlySortedBy-dedup, All-permutation, Contains-permutation, Adds, AreAll, ComesBefore}
 use Rattle.std.specs.List.Sorted.{IsStrictlySortedBy}
 use Rattle.vic_tree.proofs.FirstMasks.{less_before, mask_cmp, or_both, equal_same}
 
@@ -12,33 +12,17 @@ pub adds_both : (P Q R : BitMask → Type 0) (xs ys zs : List BitMask) → ((m :
 adds_both P Q R xs ys zs like = members_both (λ m. Contains xs m ⊎ P m) Q (λ m. Contains xs m ⊎ R m) ys zs (λ m. or_both (Contains xs m) (P m) (Q m) (R m) (like m))
 
 -- what a sort leaves is in order, each mask once
-after : (m : BitMask) (ms : List BitMask) → AllByRecursion (λ n. mask_cmp m n ≡ Less) ms → All (ComesBefore m) ms
-after m [] h = All-nil (ComesBefore m)
-after m (n ∷ ms) h = All-cons (ComesBefore m) n ms (less_before m n h.0) (after m ms h.1)
-
 rising : (ms : List BitMask) → IsStrictlySortedBy mask_cmp ms → AllPairs ComesBefore ms
 unfolding IsStrictlySortedBy
 rising [] up = λ i j d lt within. absurd (omega arith)
-rising (m ∷ ms) up = AllPairs-cons ComesBefore m ms (after m ms up.0) (rising ms up.1)
+rising (m ∷ ms) up = AllPairs-cons ComesBefore m ms (All-weaker (λ n. mask_cmp m n ≡ Less) (ComesBefore m) (less_before m) ms (All-from_recursion (λ n. mask_cmp m n ≡ Less) ms up.0)) (rising ms up.1)
 
 total : IsTotalOrder mask_cmp
 total = then_total (on_total (λ m. m.len) nat_cmp_total) (on_total (λ m. m.value) nat_cmp_total)
 
 pub sorted_once : (E : BitMask → BitMask → Bool) → ((x y : BitMask) → E x y ≡ eq_by_cmp mask_cmp x y) → (P : BitMask → Type 0) (ms sorted : List BitMask) → ((m : BitMask) → P m ↔ Contains ms m) → IsPermutation ms sorted → IsSorted mask_cmp sorted → AreAll P (dedup E sorted)
-sorted_once E ties P ms sorted own same up = record {
-  rising = rising (dedup E sorted) (IsStrictlySortedBy-dedup total ties sorted up);
-  wanted = All-dedup E P sorted (All-permutation P ms sorted same (λ k d lt. (own _).1 (Contains-get_or ms k d lt)));
-  others = λ m w. Contains-dedup equal one sorted m (Contains-permutation ms sorted m same ((own m).0 w));
-} where
-  laws : IsEquivalence (eq_by_cmp mask_cmp)
-  laws = eq_by_cmp_equiv total
-
-  equal : IsEquivalence E
-  equal = record {
-    refl = λ x. ties x x ∙ laws.refl x;
-    symm = λ x y. ties x y ∙ laws.symm x y ∙ sym (ties y x);
-    congr = λ x y z e. ties x z ∙ laws.congr x y z (sym (ties x y) ∙ e) ∙ sym (ties y z);
-  }
-
-  one : (x y : BitMask) → E x y ≡ true → x ≡ y
-  one x y e = equal_same x y (sym (ties x y) ∙ e)
+sorted_once E ties P ms sorted own same up = subst (λ (D : BitMask → BitMask → Bool). AreAll P (dedup D sorted)) (λ i x y. sym (ties x y) i) (record {
+  rising = rising (dedup (eq_by_cmp mask_cmp) sorted) (IsStrictlySortedBy-dedup total (λ x y. refl) sorted up);
+  wanted = All-dedup (eq_by_cmp mask_cmp) P sorted (All-permutation P ms sorted same (λ k d lt. (own _).1 (Contains-get_or ms k d lt)));
+  others = λ m w. Contains-dedup (eq_by_cmp_equiv total) equal_same sorted m (Contains-permutation ms sorted m same ((own m).0 w));
+})

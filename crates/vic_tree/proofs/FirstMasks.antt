@@ -1,5 +1,5 @@
 -- Lists of masks in order, of which the last are left out.
-use Rattle.vic_tree.proofs.Words.{◌≡◌, ◌==◌, ◌↔◌, Bool, true, min, ℕ, suc, zero, ◌+◌, ◌-◌, ◌<◌, ◌≤◌, ◌⊎◌, inl, inr, List, [], ◌∷◌, length, get_or, take, Some, Err, Ordering, Less, Greater, refl, sym, ap, subst, ◌∙◌, arith, AllPairs, Contains, insert, nat_cmp, eqb-true, get_or-take, length-take, length-take-le, take_all, pow_pos, is_eq, rules, eq-eqb, IsNonDecreasingBy, cases_lt, cases_eq, nat_tests, get_or_default, All-nil, All-weaker, BitMask, IsAtMost, IsWidest, AreFirst, IsOpenMask, parent, AreKept, IsBinarySearchResult, ordering_index, ordering_then, length-insert, All-cons, All-contains, All-take, Contains-append_cases, Contains-append_right, Contains-get_or, Contains-push_cases, AllPairs-cons, All-permutation, Contains-permutation, IsPermutation-insert, IsPermutation-sym, ComesBefore, IsPast, Keeps}
+use Rattle.vic_tree.proofs.Words.{◌≡◌, ◌==◌, ◌↔◌, Bool, true, min, ℕ, suc, zero, ◌+◌, ◌-◌, ◌<◌, ◌≤◌, ◌⊎◌, inl, inr, List, [], ◌∷◌, length, get_or, take, Some, Err, Ordering, Less, Greater, refl, sym, ap, subst, ◌∙◌, arith, AllPairs, Contains, insert, nat_cmp, eqb-true, get_or-take, length-take, take_min, take_all, pow_pos, is_eq, rules, eq-eqb, IsNonDecreasingBy, cases_lt, cases_eq, nat_tests, get_or_default, All-nil, All-weaker, BitMask, IsAtMost, IsWidest, AreFirst, IsOpenMask, parent, AreKept, IsBinarySearchResult, ordering_index, ordering_then, length-insert, All-cons, All-contains, All-take, Contains-append_cases, Contains-append_right, Contains-get_or, Contains-push_cases, AllPairs-cons, All-permutation, Contains-permutation, IsPermutation-insert, IsPermutation-sym, ComesBefore, IsPast, Keeps}
 
 -- one element more in a list
 module _ {X : Type 0} where
@@ -62,21 +62,33 @@ in_order ms m i up found =
     (λ k d from lt. less_before (get_or ms k d) m (place.0 k d from lt))
     (λ k d from lt. greater_before (get_or ms k d) m (place.1 k d from lt))
 
--- a mask more is kept at its position, and the last one of too many left out
-take_pairs : (R : BitMask → BitMask → Type 0) (n : ℕ) (ms : List BitMask) → AllPairs R ms → AllPairs R (take n ms)
-take_pairs R n ms h i j d lt within = let long = length-take n ms in rw (get_or-take n ms i d (omega arith), get_or-take n ms j d (omega arith)) (h i j d lt (omega arith))
+-- the first masks of a list in order
+first_taken : (n most : ℕ) (P : BitMask → Type 0) (ms : List BitMask) → n ≤ most → AreFirst most P ms → AreFirst n P (take n ms)
+first_taken n most P ms le f =
+    let long = length-take n ms in
+    record {
+      rising = λ i j d lt within. rw (get_or-take n ms i d (omega arith), get_or-take n ms j d (omega arith)) (f.rising i j d lt (omega arith));
+      wanted = All-take P n ms f.wanted;
+      others = λ m p. elim (f.others m p) [
+        | inl h ↦ elim (cases_lt h.0 n) [
+          | inl lt ↦ inl (h.0, omega (arith, h.1), get_or-take n ms h.0 m lt ∙ h.2)
+          | inr from ↦ inr (
+            omega (arith, h.1),
+            λ k d lt. rw (get_or-take n ms k d (omega arith)) (subst (ComesBefore (get_or ms k d)) (get_or_default ms h.0 d m h.1 ∙ h.2) (f.rising k h.0 d (omega arith) h.1)),
+          )
+        ]
+        | inr past ↦ inr (omega (arith, past.0), All-take (λ x. ComesBefore x m) n ms past.1)
+      ];
+    }
 
+-- a mask more is kept at its position, and the last one of too many left out
 pub one_kept : (ms : List BitMask) (m : BitMask) (i : ℕ) → AreKept ms → i ≤ length ms → IsBinarySearchResult (λ x. mask_cmp x m) ms (Err i) → Keeps (λ n. Some m ≡ Some n) ms (take 17 (insert ms i m)) × AreKept (take 17 (insert ms i m))
 one_kept ms m i kept le found = (
   record {
-    first = record {
-      rising = rising;
-      wanted = All-take (λ n. Contains ms n ⊎ (Some m ≡ Some n)) 17 more (λ k d lt. let is = Contains-insert_cases ms i m (get_or more k d) (Contains-get_or more k d lt) in grind arith);
-      others = λ n h. in_front n (Contains-insert ms i m n (grind arith));
-    };
+    first = first;
     past = λ n h. (omega (arith, h.0, front, long), λ k d lt. let below : k < 17 = omega (arith, front) in rw (get_or-take 17 more k d below) (passed n h k d below));
   },
-  (rising, omega (arith, front)),
+  (first.rising, omega (arith, front)),
 ) where
   more : List BitMask
   more = insert ms i m
@@ -90,17 +102,12 @@ one_kept ms m i kept le found = (
   up : AllPairs ComesBefore more
   up = in_order ms m i kept.0 found
 
-  rising : AllPairs ComesBefore (take 17 more)
-  rising = take_pairs ComesBefore 17 more up
-
-  in_front : (n : BitMask) → Contains more n → Contains (take 17 more) n ⊎ IsPast 17 (take 17 more) n
-  in_front n h = elim (cases_lt h.0 17) [
-    | inl lt ↦ inl (h.0, omega (arith, h.1, front), get_or-take 17 more h.0 n lt ∙ h.2)
-    | inr from ↦ inr (
-      omega (arith, h.1, front),
-      λ k d lt. rw (get_or-take 17 more k d (omega (arith, front))) (subst (ComesBefore (get_or more k d)) (get_or_default more h.0 d n h.1 ∙ h.2) (up k h.0 d (omega (arith, front)) h.1)),
-    )
-  ]
+  first : AreFirst 17 (λ n. Contains ms n ⊎ (Some m ≡ Some n)) (take 17 more)
+  first = first_taken 17 18 (λ n. Contains ms n ⊎ (Some m ≡ Some n)) more (omega arith) (record {
+    rising = up;
+    wanted = λ k d lt. let is = Contains-insert_cases ms i m (get_or more k d) (Contains-get_or more k d lt) in grind arith;
+    others = λ n h. inl (Contains-insert ms i m n (grind arith));
+  })
 
   passed : (n : BitMask) → IsPast 17 ms n → (k : ℕ) (d : BitMask) → k < 17 → ComesBefore (get_or more k d) n
   passed n h k d lt =
@@ -136,9 +143,6 @@ past_last ms x m up full is before = (
 )
 
 -- a choice, said otherwise
-or_like : (A P Q : Type 0) → P ↔ Q → A ⊎ P ↔ A ⊎ Q
-or_like A P Q like = grind arith
-
 pub or_both : (A P Q R : Type 0) → P ⊎ Q ↔ R → (A ⊎ P) ⊎ Q ↔ A ⊎ R
 or_both A P Q R like = (λ w. grind arith, λ w. grind arith)
 
@@ -157,12 +161,6 @@ first_like n P Q xs like f = record {
   others = λ m q. f.others m ((like m).1 q);
 }
 
-pub kept_like : (P Q : BitMask → Type 0) (xs ys : List BitMask) → ((m : BitMask) → P m ↔ Q m) → Keeps P xs ys → Keeps Q xs ys
-kept_like P Q xs ys like g = record {
-  first = first_like 17 (λ m. Contains xs m ⊎ P m) (λ m. Contains xs m ⊎ Q m) ys (λ m. or_like (Contains xs m) (P m) (Q m) (like m)) g.first;
-  past = g.past;
-}
-
 -- one after another, said as one
 pub kept_both : (P Q R : BitMask → Type 0) (xs ys zs : List BitMask) → ((m : BitMask) → P m ⊎ Q m ↔ R m) → Keeps P xs ys → Keeps Q ys zs → Keeps R xs zs
 kept_both P Q R xs ys zs like g h = record {
@@ -170,46 +168,41 @@ kept_both P Q R xs ys zs like g h = record {
   past = λ m a. h.past m (g.past m a);
 }
 
+-- no mask that is left out was wanted, or they come after all that are kept
+pub rest_kept : (P : BitMask → Type 0) (len : ℕ) (old ms : List BitMask) → AreKept ms → Keeps (λ m. P m × (m.len < len)) old ms → ((m : BitMask) → P m → len ≤ m.len → IsPast 17 ms m) → Keeps P old ms
+rest_kept P len old ms kept keeps out =
+    kept_both (λ m. P m × (m.len < len)) (λ m. P m × (len ≤ m.len)) P old ms ms
+    (λ m. (λ w. elim w [ inl a ↦ a.0 | inr a ↦ a.0 ], λ p. elim (cases_lt m.len len) [ inl lt ↦ inl (p, lt) | inr le ↦ inr (p, le) ]))
+    keeps
+    (none_kept (λ m. P m × (len ≤ m.len)) ms kept (λ m w. inr (out m w.0 w.1)))
+
 -- what is given of those that are kept
+given_is : (ms masks : List BitMask) → masks ≡ take (min (length ms) 16) ms → masks ≡ take 16 ms
+given_is ms masks is = is ∙ ap (λ (n : ℕ). take n ms) (let e : min (length ms) 16 ≡ min 16 (length ms) = omega arith in e) ∙ take_min 16 ms
+
 pub given_first : (P : BitMask → Type 0) (ms masks : List BitMask) → masks ≡ take (min (length ms) 16) ms → AreFirst 17 P ms → AreFirst 16 P masks
-given_first P ms masks is f =
-    let n : ℕ = min (length ms) 16 in
-    let long : length (take n ms) ≡ n = length-take-le n ms (omega arith) in
-    let at : (k : ℕ) (d : BitMask) → k < n → get_or (take n ms) k d ≡ get_or ms k d = λ k d lt. get_or-take n ms k d lt in
-    subst (AreFirst 16 P) (sym is) (record {
-      rising = λ i j d lt within. rw (at i d (omega arith), at j d (omega arith)) (f.rising i j d lt (omega arith));
-      wanted = All-take P n ms f.wanted;
-      others = λ m p. elim (f.others m p) [
-        | inl h ↦ elim (cases_lt h.0 16) [
-          | inl lt ↦ inl (h.0, omega (arith, h.1, lt), at h.0 m (omega (arith, h.1, lt)) ∙ h.2)
-          | inr le ↦ inr (omega (arith, h.1, le), λ k d lt. rw (at k d (omega arith)) (subst (ComesBefore (get_or ms k d)) (get_or_default ms h.0 d m h.1 ∙ h.2) (f.rising k h.0 d (omega (arith, le)) h.1)))
-        ]
-        | inr past ↦ inr (omega (arith, past.0), All-take (λ x. ComesBefore x m) n ms past.1)
-      ];
-    })
+given_first P ms masks is f = rw (given_is ms masks is) (first_taken 16 17 P ms (omega arith) f)
 
 pub given_more : (P : BitMask → Type 0) (ms masks : List BitMask) (more : Bool) → length ms ≤ 17 → more ≡ (length ms == 17) → masks ≡ take (min (length ms) 16) ms → AreFirst 17 P ms → more ≡ true ↔ (m : BitMask) × P m × (¬ (Contains masks m))
 given_more P ms masks more short told is f =
-    let n : ℕ = min (length ms) 16 in
     let none : BitMask = record { len = 0; value = 0 } in
-    let long : length (take n ms) ≡ n = length-take-le n ms (omega arith) in (
-      λ e.
-          let full : length ms ≡ 17 = eqb-true _ 17 (sym told ∙ e) in
-          let last : BitMask = get_or ms 16 none in (
-            last,
-            f.wanted 16 none (omega arith),
-            λ h.
-                let k = subst (λ xs. Contains xs last) is h in
-                let lt : k.0 < 16 = omega (arith, k.1) in
-                let same : get_or ms k.0 none ≡ last = get_or_default ms k.0 none last (omega (arith, lt)) ∙ sym (get_or-take n ms k.0 last (omega (arith, lt))) ∙ k.2 in
-                before_itself last (subst (λ x. ComesBefore x last) same (f.rising k.0 16 none lt (omega arith))),
-          ),
-      λ w. elim (cases_lt (length ms) 17) [
-        | inr le ↦ told ∙ eq-eqb _ 17 (omega arith)
-        | inl lt ↦ elim (f.others w.0 w.1) [
-          | inl h ↦ absurd (w.2 (subst (λ xs. Contains xs w.0) (sym (is ∙ take_all n ms (omega arith))) h))
-          | inr past ↦ told ∙ eq-eqb _ 17 past.0
+    let last : BitMask = get_or ms 16 none in
+    let front = length-take 16 ms in
+    rw (given_is ms masks is) (
+      λ e. let full : length ms ≡ 17 = eqb-true _ 17 (sym told ∙ e) in (
+        last,
+        f.wanted 16 none (omega arith),
+        λ k.
+            let lt : k.0 < 16 = omega (arith, k.1) in
+            let same : get_or ms k.0 none ≡ last = get_or_default ms k.0 none last (omega arith) ∙ sym (get_or-take 16 ms k.0 last lt) ∙ k.2 in
+            before_itself last (subst (λ x. ComesBefore x last) same (f.rising k.0 16 none lt (omega arith))),
+      ),
+      λ w. elim (f.others w.0 w.1) [
+        | inl h ↦ elim (cases_lt (length ms) 17) [
+          | inl lt ↦ absurd (w.2 (rw (take_all 16 ms (omega arith)) h))
+          | inr le ↦ told ∙ eq-eqb _ 17 (omega arith)
         ]
+        | inr past ↦ told ∙ eq-eqb _ 17 past.0
       ],
     )
 

@@ -1,5 +1,5 @@
 -- Ranges of keys without some keys.
-use Rattle.vic_tree.proofs.Words.{◌≡◌, ℕ, ◌+◌, ◌-◌, ◌^◌, ◌<◌, ◌≤◌, ◌⊎◌, inl, inr, Bool, true, false, List, Option, Some, None, IfNone, IfSome, min, refl, sym, ap, subst, ◌∙◌, arith, pow_pos, cases_lt, has, BitMask, IsMask, lies_in, mirror, uid_of, mirror_of_uid, Gathers, AllOpen, IsAtMost, IsWidest, SameUids, has_key, without_keys, is_open_in, HoldsMask, IsFirstRun, IsFreeBetween, is_left, nat_tests, or_parts, is_uid, AllKeysPass, ComesFirstIn, IsFoundBelow, IsFreeInRanges, IsMaskIn, IsWidestBelow, is_passed}
+use Rattle.vic_tree.proofs.Words.{◌≡◌, ℕ, ◌+◌, ◌-◌, ◌^◌, ◌<◌, ◌≤◌, ◌⊎◌, ◌↔◌, inl, inr, Bool, true, false, List, Option, Some, None, IfNone, IfSome, min, refl, sym, ap, subst, ◌∙◌, arith, pow_pos, cases_lt, has, BitMask, IsMask, lies_in, mirror, uid_of, mirror_of_uid, Gathers, AllOpen, IsAtMost, IsWidest, SameUids, has_key, without_keys, is_open_in, HoldsMask, IsFirstRun, IsFreeBetween, is_left, nat_tests, or_parts, is_uid, AllKeysPass, ComesFirstIn, IsFoundBelow, IsFreeInRanges, IsMaskIn, IsWidestBelow, is_passed}
 use Rattle.vic_tree.proofs.BlockLaws.{key_in_mask, mask_ends}
 use Rattle.vic_tree.proofs.GatheringLaws.{gathers_both, gathers_like}
 use Rattle.vic_tree.proofs.RangeLaws.{inside_is, is_inside}
@@ -84,26 +84,28 @@ run_found p o m from x y run one first at w =
       ];
     }
 
--- all masks are looked at
-pub left_keys : (p : ℕ → Bool) (m : BitMask) → IsMask m → m.len ≤ 56 → AllOpen (λ u. p (mirror u)) m → AllKeysPass p m
-left_keys p m h k all x lo hi =
-    let pos = pow_pos (56 - m.len) in
-    let small : x < 2 ^ 56 = omega (arith, mask_ends m h k, pos, hi) in
-    let back : mirror (uid_of x) ≡ x = mirror_of_uid x small in
-    let inside : lies_in m (uid_of x) ≡ true = key_in_mask m (uid_of x) h k ∙ is_inside (mirror m.value) (mirror m.value + (2 ^ (56 - m.len) - 1)) (mirror (uid_of x)) (omega arith) (omega arith) in
-    sym (ap p back) ∙ all (uid_of x) (is_uid x) inside
+-- the keys of a mask pass if and only if its UIDs do
+pub keys_open : (p : ℕ → Bool) (m : BitMask) → IsMask m → m.len ≤ 56 → AllKeysPass p m ↔ AllOpen (λ u. p (mirror u)) m
+keys_open p m h k =
+    let last : ℕ = mirror m.value + (2 ^ (56 - m.len) - 1) in
+    let pos = pow_pos (56 - m.len) in (
+      λ pass u i inside.
+          let t = inside_is (mirror m.value) last (mirror u) (sym (key_in_mask m u h k) ∙ inside) in
+          pass (mirror u) t.0 (omega (arith, t.1)),
+      λ all x lo hi.
+          let back : mirror (uid_of x) ≡ x = mirror_of_uid x (omega (arith, mask_ends m h k)) in
+          let inside : lies_in m (uid_of x) ≡ true = key_in_mask m (uid_of x) h k ∙ is_inside (mirror m.value) last (mirror (uid_of x)) (omega arith) (omega arith) in
+          sym (ap p back) ∙ all (uid_of x) (is_uid x) inside,
+    )
 
 pub found_is_widest : (es : List (ℕ × ℕ)) (keys : List ℕ) (b : ℕ) (o : Option BitMask) → ((k : ℕ) → b ≤ k → is_left es keys k ≡ false) → IsFoundBelow (is_left es keys) b o → IfSome o (IsWidest (without_keys (is_open_in es) keys))
 found_is_widest es keys b None none w = tt
 found_is_widest es keys b (Some m) none w = record {
   is_mask = w.is_mask;
   short = w.short;
-  open_throughout = λ u i inside.
-      let t = inside_is (mirror m.value) (mirror m.value + (2 ^ (56 - m.len) - 1)) (mirror u) (sym (key_in_mask m u w.is_mask w.short) ∙ inside) in
-      let pos = pow_pos (56 - m.len) in
-      w.passes (mirror u) t.0 (omega (arith, t.1, pos));
+  open_throughout = (keys_open (is_left es keys) m w.is_mask w.short).0 w.passes;
   least = λ n is short all.
-      let pass = left_keys (is_left es keys) n is short all in
+      let pass = (keys_open (is_left es keys) n is short).1 all in
       grind (arith, w.least n is short pass, none (mirror n.value), first_passes (is_left es keys) n pass);
 }
 

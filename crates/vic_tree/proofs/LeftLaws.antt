@@ -1,6 +1,6 @@
 -- What is left of ranges of keys without some keys, run by run.
-use Rattle.vic_tree.proofs.Words.{◌≡◌, ℕ, zero, suc, ◌+◌, ◌<◌, ◌≤◌, ◌==◌, ◌&&◌, Bool, true, false, not, List, [], ◌∷◌, length, get_or, drop, nat_eq, max, ◌∙◌, refl, sym, arith, ne_eqb, IsNonDecreasing, nat_tests, has, AreRanges, in_ranges, IsFirstRun, PassFrom, All-from_get_or, list_any_none}
-use Rattle.vic_tree.proofs.RangeLaws.{none_below}
+use Rattle.vic_tree.proofs.Words.{◌≡◌, ℕ, ◌+◌, ◌<◌, ◌≤◌, ◌==◌, Bool, true, false, List, ◌∷◌, length, get_or, drop, nat_eq, max, arith, ne_eqb, IsNonDecreasing, nat_tests, has, AreRanges, IsFirstRun, PassFrom, All-from_get_or, list_any_none}
+use Rattle.vic_tree.proofs.RangeLaws.{any_dropped, none_below}
 
 -- a key in a list that rises, and one behind its first
 pub is_first : (key k : ℕ) (others : List ℕ) → k ≡ key → has (key ∷ others) k ≡ true
@@ -15,15 +15,7 @@ is_before_all keys k up low =
 
 -- without those that come before a key
 pub keys_dropped : (keys : List ℕ) (n from k : ℕ) → ((i d : ℕ) → i < n → get_or keys i d < from) → from ≤ k → has (drop n keys) k ≡ has keys k
-keys_dropped keys zero from k low le = refl
-keys_dropped [] (suc n) from k low le = refl
-keys_dropped (key ∷ keys) (suc n) from k low le =
-    keys_dropped keys n from k (λ i d lt. low (suc i) d (omega arith)) le ∙ sym (is_behind key k keys (let lt = low 0 0 (omega arith) in omega (arith, lt)))
-
--- nothing is left of no ranges
-pub none_left : (rs : List (ℕ × ℕ)) (keys : List ℕ) (k : ℕ) → length rs ≡ 0 → (in_ranges rs k && not (has keys k)) ≡ false
-none_left [] keys k e = refl
-none_left (r ∷ rs) keys k e = absurd (omega arith)
+keys_dropped keys n from k low le = any_dropped (nat_eq k) keys n (λ i d lt. ne_eqb k (get_or keys i d) (let a = low i d lt in λ e. omega arith))
 
 -- the keys before the first that is free don't pass
 pub none_passed : (p : ℕ → Bool) (from free : ℕ) (r : ℕ × ℕ) (others : List (ℕ × ℕ)) (keys : List ℕ) → AreRanges (r ∷ others) → PassFrom p (from, r ∷ others, keys) → ((k : ℕ) → max from r.0 ≤ k → k < free → has keys k ≡ true) → (k : ℕ) → from ≤ k → k < free → p k ≡ false

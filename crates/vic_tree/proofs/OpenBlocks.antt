@@ -1,9 +1,8 @@
 -- The greatest blocks of a run of keys.
-use Rattle.vic_tree.proofs.Words.{◌≡◌, ℕ, ◌+◌, ◌-◌, ◌*◌, ◌/◌, ◌^◌, ◌%◌, ◌<◌, ◌≤◌, ◌⊎◌, ◌↔◌, inl, inr, Bool, false, List, [], Option, Some, IfSome, sym, ap, subst, ◌∙◌, arith, pow_pos, lt_of_mul-lt-mul_right, cases_lt, cases_eq, BitMask, IsMask, mirror, mirror_bits, mirror_below, AreFirst, IsOpenMask, parent, AllOpen, without_keys, All-nil, IsGreatestIn, IsOpenBelow, is_open_in, HoldsMask, IsFirstRun, is_left, mirror_split, mirror_mod, IsGreatestAt, IsOpenBlock, AllKeysPass}
-use Rattle.vic_tree.proofs.BlockLaws.{IsBlockMask, key_in_mask, not_before, number_of_mask, twice, FirstBlock, value_is}
+use Rattle.vic_tree.proofs.Words.{◌≡◌, ℕ, ◌+◌, ◌-◌, ◌*◌, ◌/◌, ◌^◌, ◌%◌, ◌<◌, ◌≤◌, ◌⊎◌, ◌↔◌, inl, inr, Bool, false, List, Option, Some, IfSome, sym, ap, subst, ◌∙◌, arith, pow_pos, same_from_place, lt_of_mul-lt-mul_right, cases_lt, cases_eq, BitMask, IsMask, mirror, mirror_bits, mirror_below, IsOpenMask, parent, AllOpen, without_keys, IsGreatestIn, IsOpenBelow, is_open_in, HoldsMask, IsFirstRun, is_left, mirror_split, mirror_mod, IsGreatestAt, IsOpenBlock, AllKeysPass}
+use Rattle.vic_tree.proofs.BlockLaws.{IsBlockMask, not_before, number_of_mask, twice, FirstBlock, value_is}
 use Rattle.vic_tree.proofs.FirstMasks.{same_mask}
-use Rattle.vic_tree.proofs.GapLaws.{first_passes, in_gap, in_run, left_keys}
-use Rattle.vic_tree.proofs.RangeLaws.{inside_is}
+use Rattle.vic_tree.proofs.GapLaws.{first_passes, in_gap, in_run, keys_open}
 
 -- where a mask stands in its parent, by the number of its block
 pub record InParent (m : BitMask) : Type 0 where
@@ -18,7 +17,7 @@ in_parent m is short some =
     let n : ℕ = mirror_bits m.len m.value in
     let j : ℕ = mirror_bits l m.value in
     let back : l + 1 ≡ m.len = omega arith in
-    let size : 2 ^ (56 - l) ≡ 2 * s = twice l (omega arith) ∙ ap (λ (x : ℕ). 2 * 2 ^ (56 - x)) back in
+    let size : 2 ^ (56 - l) ≡ 2 * s = twice m.len (omega arith) short in
     let low : mirror_bits 1 (m.value / 2 ^ l) < 2 = mirror_below 1 (m.value / 2 ^ l) in
     let parts : n ≡ j * 2 + mirror_bits 1 (m.value / 2 ^ l) = mirror_split l 1 m.len m.value (sym back) in
     let pos = pow_pos l in
@@ -32,15 +31,11 @@ in_parent m is short some =
     }
 
 -- the number of a mask's block
-same_number : (a b s : ℕ) → 0 < s → a * s ≡ b * s → a ≡ b
-same_number a b s pos e =
-    let below : (x y : ℕ) → x * s ≡ y * s → x ≤ y = λ x y f. let lt : x * s < (y + 1) * s = omega arith in let r : x < y + 1 = lt_of_mul-lt-mul_right s lt in omega arith in
-    omega (arith, below a b e, below b a (sym e))
-
-pub number_is : (len q : ℕ) (m : BitMask) → len ≤ 56 → IsBlockMask len q m → mirror_bits len m.value ≡ q
+number_is : (len q : ℕ) (m : BitMask) → len ≤ 56 → IsBlockMask len q m → mirror_bits len m.value ≡ q
 number_is len q m h b =
-    let small : m.value < 2 ^ len = subst (λ (l : ℕ). m.value < 2 ^ l) b.len_is b.is_mask.1 in
-    same_number (mirror_bits len m.value) q (2 ^ (56 - len)) (pow_pos (56 - len)) (sym (number_of_mask len m.value h small) ∙ b.first_is)
+    let pos = pow_pos (56 - len) in
+    let same = sym (number_of_mask len m.value h (rw b.len_is at b.is_mask.1)) ∙ b.first_is in
+    (same_from_place (mirror_bits len m.value) 0 q 0 (2 ^ (56 - len)) pos pos (omega arith)).0
 
 -- a block in a run that begins near its start if the number is odd, and else ends near its end
 pub record IsEdge (from to s n : ℕ) : Type 0 where
@@ -48,55 +43,43 @@ pub record IsEdge (from to s n : ℕ) : Type 0 where
   pub upper : n % 2 ≡ 1 → n * s < from + s
   pub lower : n % 2 ≡ 0 → to + 1 < (n + 2) * s
 
--- such a block is greatest: its parent begins before the run, or ends behind it
-pub edge_is_greatest : (from to len q s odd : ℕ) (m : BitMask) → len ≤ 56 → s ≡ 2 ^ (56 - len) → IsBlockMask len q m → IsEdge from to s q → q % 2 ≡ odd → IsGreatestAt from to len odd m
-edge_is_greatest from to len q s odd m h size b edge is =
+-- such a block is greatest, and no other is: its parent begins before the run, or ends behind it
+greatest_edge : (from to : ℕ) (m : BitMask) → IsMask m → m.len ≤ 56 → to < 2 ^ 56 → IsGreatestIn from to m ↔ IsEdge from to (2 ^ (56 - m.len)) (mirror_bits m.len m.value)
+greatest_edge from to m is short small = elim (cases_eq m.len 0) [
+  | inl z ↦
+      let size : 2 ^ (56 - m.len) ≡ 2 ^ 56 = ap (λ (l : ℕ). 2 ^ (56 - l)) z in
+      let below : mirror_bits m.len m.value < 2 ^ 0 = subst (λ (l : ℕ). mirror_bits m.len m.value < 2 ^ l) z (mirror_below m.len m.value) in (
+        λ g. record { inside = held g; upper = λ odd. absurd (omega arith); lower = λ even. omega arith },
+        λ e. record { inside = (is, short, (omega (arith, own, e.inside.0), omega (arith, own, e.inside.1))); greatest = inl z },
+      )
+  | inr some ↦
+      let p = in_parent m is short some in (
+        λ g.
+            let out : HoldsMask from to (parent m) → ⊥ = elim g.greatest [ inl z ↦ absurd (some z) | inr out ↦ out ] in
+            record { inside = held g; upper = λ odd. grind (arith, own, p.upper, p.size, held g, out); lower = λ even. grind (arith, own, p.lower, p.size, held g, out) },
+        λ e. record {
+          inside = (is, short, (omega (arith, own, e.inside.0), omega (arith, own, e.inside.1)));
+          greatest = inr (λ w. grind (arith, own, w.0, w.1, p.size, p.upper, p.lower, e.upper, e.lower));
+        },
+      )
+] where
+  own : mirror m.value ≡ mirror_bits m.len m.value * 2 ^ (56 - m.len)
+  own = number_of_mask m.len m.value short is.1
+
+  held : IsGreatestIn from to m → (from ≤ mirror_bits m.len m.value * 2 ^ (56 - m.len)) × ((mirror_bits m.len m.value + 1) * 2 ^ (56 - m.len) ≤ to + 1)
+  held g = (omega (arith, own, g.inside.2.0), omega (arith, own, g.inside.2.1))
+
+pub edge_is_greatest : (from to len q s odd : ℕ) (m : BitMask) → len ≤ 56 → to < 2 ^ 56 → s ≡ 2 ^ (56 - len) → IsBlockMask len q m → IsEdge from to s q → q % 2 ≡ odd → IsGreatestAt from to len odd m
+edge_is_greatest from to len q s odd m h small size b edge is =
     let number : mirror_bits len m.value ≡ q = number_is len q m h b in
-    let own : 2 ^ (56 - m.len) ≡ s = ap (λ (l : ℕ). 2 ^ (56 - l)) b.len_is ∙ sym size in
-    let first : mirror m.value ≡ q * s = b.first_is ∙ ap (λ (x : ℕ). q * x) (sym size) in
-    let side : mirror_bits m.len m.value ≡ q = ap (λ (l : ℕ). mirror_bits l m.value) b.len_is ∙ number in
     record {
-      greatest = record {
-        inside = (b.is_mask, omega (arith, b.len_is), (omega (arith, edge.inside.0), omega (arith, edge.inside.1)));
-        greatest = elim (cases_eq m.len 0) [
-          | inl z ↦ inl z
-          | inr some ↦ inr (λ w. let p = in_parent m b.is_mask (omega (arith, b.len_is)) some in grind (arith, w.0, w.1, p.size, p.upper, p.lower, edge.upper, edge.lower))
-        ];
-      };
+      greatest = (greatest_edge from to m b.is_mask (omega (arith, b.len_is)) small).1 (rw (b.len_is, ← size, number) edge);
       len_is = b.len_is;
-      side = omega (arith, number);
+      side = rw number is;
     }
 
--- and no others are
-pub greatest_is_edge : (from to len odd s : ℕ) (m : BitMask) → s ≡ 2 ^ (56 - len) → to < 2 ^ 56 → IsGreatestAt from to len odd m → IsEdge from to s (mirror_bits len m.value)
-greatest_is_edge from to len odd s m size small g =
-    let n : ℕ = mirror_bits len m.value in
-    let is = g.greatest.inside.0 in
-    let short = g.greatest.inside.1 in
-    let held = g.greatest.inside.2 in
-    let own : 2 ^ (56 - m.len) ≡ s = ap (λ (l : ℕ). 2 ^ (56 - l)) g.len_is ∙ sym size in
-    let side : mirror_bits m.len m.value ≡ n = ap (λ (l : ℕ). mirror_bits l m.value) g.len_is in
-    let first : mirror m.value ≡ n * s = number_of_mask m.len m.value short is.1 ∙ ap (λ (x : ℕ). x * 2 ^ (56 - m.len)) side ∙ ap (λ (x : ℕ). n * x) own in
-    elim (cases_eq m.len 0) [
-      | inl z ↦
-          let below : n < 2 ^ 0 = subst (λ (l : ℕ). n < 2 ^ l) (sym g.len_is ∙ z) (mirror_below len m.value) in
-          let whole : s ≡ 2 ^ 56 = sym own ∙ ap (λ (l : ℕ). 2 ^ (56 - l)) z in
-          record { inside = (omega (arith, held.0), omega (arith, held.1)); upper = λ odd. absurd (omega arith); lower = λ even. omega arith }
-      | inr some ↦
-          let p = in_parent m is short some in
-          let out : HoldsMask from to (parent m) → ⊥ = elim g.greatest.greatest [ inl z ↦ absurd (some z) | inr out ↦ out ] in
-          record {
-            inside = (omega (arith, held.0), omega (arith, held.1));
-            upper = λ odd. let at = p.upper (omega arith) in elim (cases_lt (n * s) (from + s)) [
-              | inl lt ↦ lt
-              | inr le ↦ absurd (out (omega arith, omega (arith, held.1, p.size)))
-            ];
-            lower = λ even. let at = p.lower (omega arith) in elim (cases_lt (to + 1) ((n + 2) * s)) [
-              | inl lt ↦ lt
-              | inr le ↦ absurd (out (omega (arith, held.0), omega (arith, p.size)))
-            ];
-          }
-    ]
+greatest_is_edge : (from to len odd s : ℕ) (m : BitMask) → s ≡ 2 ^ (56 - len) → to < 2 ^ 56 → IsGreatestAt from to len odd m → IsEdge from to s (mirror_bits len m.value)
+greatest_is_edge from to len odd s m size small g = rw (g.len_is, ← size) at ((greatest_edge from to m g.greatest.inside.0 g.greatest.inside.1 small).0 g.greatest)
 
 pub start_is_only : (from to len q s : ℕ) (m : BitMask) → s ≡ 2 ^ (56 - len) → to < 2 ^ 56 → FirstBlock from s q → IsGreatestAt from to len 1 m → (mirror_bits len m.value ≡ q) × IsEdge from to s q
 start_is_only from to len q s m size small f g =
@@ -139,14 +122,6 @@ parent_held p from to m is short some before behind held all =
     let low : from ≤ mirror (parent m).value = grind (arith, all (from - 1), before (from - 1), held.0) in
     in_gap p from to (parent m) behind all low (omega (arith, near.0, held.1))
 
--- no mask is open before the first key
-pub none_yet : (p : ℕ → Bool) → AreFirst 17 (IsOpenBelow p 0) []
-none_yet p = record {
-  rising = λ i j d lt within. absurd (omega arith);
-  wanted = All-nil (IsOpenBelow p 0);
-  others = λ m w. absurd (omega (arith, w.1));
-}
-
 -- those that begin below the end of one run more
 pub run_opened : (p : ℕ → Bool) (from first last : ℕ) → ((k : ℕ) → k + 1 ≡ from → p k ≡ false) → first ≤ last → IsFirstRun p from first last → (m : BitMask) → IsOpenBelow p from m ⊎ IsGreatestIn first last m ↔ IsOpenBelow p (last + 2) m
 run_opened p from first last cut forward run m = (
@@ -181,45 +156,32 @@ run_opened p from first last cut forward run m = (
     }
 
 -- masks of the set and blocks of its keys
-parent_is_mask : (m : BitMask) → IsMask m → m.len ≤ 56 → IsMask (parent m) × ((parent m).len ≤ 56)
-parent_is_mask m is short = let pos = pow_pos (m.len - 1) in ((omega arith, omega arith), omega arith)
-
-open_keys : (p : ℕ → Bool) (m : BitMask) → IsMask m → m.len ≤ 56 → AllKeysPass p m → AllOpen (λ u. p (mirror u)) m
-open_keys p m is short pass u i inside =
-    let t = inside_is (mirror m.value) (mirror m.value + (2 ^ (56 - m.len) - 1)) (mirror u) (sym (key_in_mask m u is short) ∙ inside) in
-    let pos = pow_pos (56 - m.len) in
-    pass (mirror u) t.0 (omega (arith, t.1, pos))
-
-pub open_mask : (es : List (ℕ × ℕ)) (keys : List ℕ) (m : BitMask) → IsOpenBlock (is_left es keys) m → IsOpenMask (without_keys (is_open_in es) keys) m
-open_mask es keys m o =
-    let up = parent_is_mask m o.is_mask o.short in
-    record {
-      is_mask = o.is_mask;
-      short = o.short;
-      open_throughout = open_keys (is_left es keys) m o.is_mask o.short o.passes;
-      greatest = elim o.greatest [ inl z ↦ inl z | inr out ↦ inr (λ all. out (left_keys (is_left es keys) (parent m) up.0 up.1 all)) ];
-    }
-
-pub open_block : (es : List (ℕ × ℕ)) (keys : List ℕ) (m : BitMask) → IsOpenMask (without_keys (is_open_in es) keys) m → IsOpenBlock (is_left es keys) m
-open_block es keys m o =
-    let up = parent_is_mask m o.is_mask o.short in
-    record {
-      is_mask = o.is_mask;
-      short = o.short;
-      passes = left_keys (is_left es keys) m o.is_mask o.short o.open_throughout;
-      greatest = elim o.greatest [ inl z ↦ inl z | inr out ↦ inr (λ pass. out (open_keys (is_left es keys) (parent m) up.0 up.1 pass)) ];
-    }
+open_blocks : (p : ℕ → Bool) (m : BitMask) → IsOpenBlock p m ↔ IsOpenMask (λ u. p (mirror u)) m
+open_blocks p m = (
+  λ o. record {
+    is_mask = o.is_mask;
+    short = o.short;
+    open_throughout = (keys_open p m o.is_mask o.short).0 o.passes;
+    greatest = elim o.greatest [ inl z ↦ inl z | inr out ↦ inr (λ all. out ((parent_open o.is_mask o.short).1 all)) ];
+  },
+  λ o. record {
+    is_mask = o.is_mask;
+    short = o.short;
+    passes = (keys_open p m o.is_mask o.short).1 o.open_throughout;
+    greatest = elim o.greatest [ inl z ↦ inl z | inr out ↦ inr (λ pass. out ((parent_open o.is_mask o.short).0 pass)) ];
+  },
+) where
+  parent_open : IsMask m → m.len ≤ 56 → AllKeysPass p (parent m) ↔ AllOpen (λ u. p (mirror u)) (parent m)
+  parent_open is short = let pos = pow_pos (m.len - 1) in keys_open p (parent m) (omega arith, omega arith) (omega arith)
 
 -- once no key is left, they are all
 pub all_opened : (es : List (ℕ × ℕ)) (keys : List ℕ) (b : ℕ) → ((k : ℕ) → b ≤ k → is_left es keys k ≡ false) → (m : BitMask) → IsOpenBelow (is_left es keys) b m ↔ IsOpenMask (without_keys (is_open_in es) keys) m
 all_opened es keys b none m = (
-  λ w. open_mask es keys m w.0,
+  λ w. (open_blocks (is_left es keys) m).0 w.0,
   λ o.
-      let block = open_block es keys m o in
-      let t = first_passes (is_left es keys) m block.passes in (
-        block,
-        grind (arith, none (mirror m.value), t),
-      ),
+      let block = (open_blocks (is_left es keys) m).1 o in
+      let t = first_passes (is_left es keys) m block.passes in
+      (block, grind (arith, none (mirror m.value), t)),
 )
 
 -- the greatest masks of one length more

@@ -1,5 +1,5 @@
 -- The open masks of a set are apart, and hold all of it.
-use Rattle.vic_tree.proofs.Words.{◌≡◌, ℕ, zero, suc, ◌+◌, ◌-◌, ◌*◌, ◌^◌, ◌%◌, ◌<◌, ◌≤◌, ◌||◌, ◌⊎◌, inl, inr, Bool, true, false, not, List, refl, sym, ap, subst, ◌∙◌, arith, eq-eqb, eqb-true, pow_pos, below_more, list_any, cases_lt, list_any_at, IsUid, BitMask, lies_in, IsOpenMask, parent, AllOpen, SameUids, nat_tests, Any-from_list_any, or_parts, cases_Bool, not-false, mod_mod_pow, AreAll}
+use Rattle.vic_tree.proofs.Words.{◌≡◌, ℕ, zero, suc, ◌+◌, ◌-◌, ◌*◌, ◌^◌, ◌%◌, ◌<◌, ◌≤◌, ◌||◌, ◌⊎◌, inl, inr, Bool, true, false, not, List, refl, sym, ap, subst, ◌∙◌, arith, eq-eqb, eqb-true, pow_pos, below_more, list_any, list_any_at, IsUid, BitMask, lies_in, IsOpenMask, parent, AllOpen, SameUids, nat_tests, Any-from_list_any, or_parts, cases_Bool, not-false, mod_mod_pow, AreAll}
 use Rattle.vic_tree.proofs.BoolLaws.{same_tests}
 use Rattle.vic_tree.proofs.FirstMasks.{same_mask}
 
@@ -7,27 +7,19 @@ inside : (m : BitMask) (u : ℕ) → lies_in m u ≡ true → u % 2 ^ m.len ≡ 
 inside m u h = eqb-true (u % 2 ^ m.len) m.value h
 
 -- a mask that holds the parent of another one leaves it no greatest one
+in_longer : (m n : BitMask) (u v : ℕ) → m.len < n.len → lies_in m u ≡ true → lies_in n u ≡ true → lies_in (parent n) v ≡ true → lies_in m v ≡ true
+in_longer m n u v lt i j there = grind (arith, nat_tests, mod_mod_pow u (n.len - 1) n.len, mod_mod_pow v m.len (n.len - 1), mod_mod_pow u m.len (n.len - 1))
+
 under_parent : (set : ℕ → Bool) (m n : BitMask) (u : ℕ) → IsOpenMask set m → IsOpenMask set n → lies_in m u ≡ true → lies_in n u ≡ true → m.len < n.len → ⊥
 under_parent set m n u g h i j lt = elim h.greatest [
   | inl z ↦ omega arith
-  | inr out ↦ out (λ v is_uid there.
-      let l : ℕ = n.len - 1 in
-      let le : m.len ≤ l = omega arith in
-      let less : l ≤ n.len = omega arith in
-      let same : v % 2 ^ l ≡ u % 2 ^ l = inside (parent n) v there ∙ ap (λ x. x % 2 ^ l) (sym (inside n u j)) ∙ mod_mod_pow u l n.len less in
-      g.open_throughout v is_uid (eq-eqb (v % 2 ^ m.len) m.value (sym (mod_mod_pow v m.len l le) ∙ ap (λ x. x % 2 ^ m.len) same ∙ mod_mod_pow u m.len l le ∙ inside m u i)))
+  | inr out ↦ out (λ v is_uid there. g.open_throughout v is_uid (in_longer m n u v lt i j there))
 ]
 
 pub apart : (set : ℕ → Bool) (m n : BitMask) (u : ℕ) → IsOpenMask set m → IsOpenMask set n → lies_in m u ≡ true → lies_in n u ≡ true → m ≡ n
-apart set m n u g h i j = elim (cases_lt m.len n.len) [
-  | inl lt ↦ absurd (under_parent set m n u g h i j lt)
-  | inr le ↦ elim (cases_lt n.len m.len) [
-    | inl lt ↦ absurd (under_parent set n m u h g j i lt)
-    | inr ge ↦
-        let len : m.len ≡ n.len = omega arith in
-        same_mask m n len (sym (inside m u i) ∙ ap (λ (l : ℕ). u % 2 ^ l) len ∙ inside n u j)
-  ]
-]
+apart set m n u g h i j =
+    let len : m.len ≡ n.len = omega (arith, under_parent set m n u g h i j, under_parent set n m u h g j i) in
+    same_mask m n len (sym (inside m u i) ∙ ap (λ (l : ℕ). u % 2 ^ l) len ∙ inside n u j)
 
 -- all numbers below a bound pass a test, or one fails
 all_or_one : (q : ℕ → Bool) (n : ℕ) → ((k : ℕ) → k < n → q k ≡ true) ⊎ ((k : ℕ) × (k < n) × (q k ≡ false))

@@ -1,6 +1,6 @@
 use Rattle.vic_tree.proofs.Words.{◌∙◌, nat_eq, ap, arith, take_all, list_any_more, mirror, has_key, nat_tests}
 use Rattle.vic_tree.proofs.GatheringLaws.{has_pushed}
-use Rattle.vic_tree.proofs.RangeSets.{same_uids}
+use Rattle.vic_tree.proofs.SetLaws.{same_uids}
 use Rattle.vic_tree.proofs.at_keys.uids_at.Goals as goal
 
 pub loop-key-preserved : goal.loop-key-preserved

@@ -1,5 +1,5 @@
 use Rattle.vic_tree.proofs.Words.{◌≡◌, ℕ, ◌+◌, ◌-◌, ◌*◌, ◌/◌, ◌^◌, ap, arith, Some}
-use Rattle.vic_tree.proofs.BlockLaws.{block_small}
+use Rattle.vic_tree.proofs.BlockLaws.{IsBlockMask, block_small}
 use Rattle.vic_tree.proofs.OpenBlocks.{edge_is_greatest, end_is_edge, end_is_only, mask_at}
 use Rattle.vic_tree.proofs.open_masks.greatest_at_end.Goals as goal
 use Rattle.vic_tree.proofs.open_masks.greatest_at_end.Goals.{then-behind-eq0-via-then-behind-eq0, then-behind-eq0-via-else-behind-eq0+then-behind-size}
@@ -21,18 +21,14 @@ mask_of_block-requires-clause-small c =
     let size : (j + 1) * s.result ≡ (j + 1) * 2 ^ (56 - c.args.len) = ap (λ (x : ℕ). (j + 1) * x) s.ensures.value in
     block_small c.args.len j c.args.to c.requires.short c.requires.small (omega (arith, edge.inside.1))
 
-pub returns-clause-found : goal.returns-clause-found
-returns-clause-found c =
+pub returns : goal.returns
+returns c =
     let s = c.size_of_block-size in
     let j : ℕ = (c.args.to + 1) / s.result - 1 in
-    edge_is_greatest c.args.from c.args.to c.args.len j s.result 0 c.mask_of_block.result c.requires.short s.ensures.value
-    (record { len_is = c.mask_of_block.ensures.len; is_mask = c.mask_of_block.ensures.is_mask; first_is = c.mask_of_block.ensures.first })
-    (end_is_edge c.args.from c.args.to s.result j s.ensures.some (omega (arith, c.if-behind-eq0.false)) (omega (arith, c.if-behind-eq0.false)) c.if-behind-size.false)
-    (omega (arith, c.if-behind-eq0.false))
-
-pub returns-clause-only : goal.returns-clause-only
-returns-clause-only c m g =
-    let s = c.size_of_block-size in
-    let only = end_is_only c.args.from c.args.to c.args.len s.result m s.ensures.value s.ensures.some c.requires.small g in
-    ap Some (mask_at c.args.from c.args.to c.args.len ((c.args.to + 1) / s.result - 1) 0 m c.mask_of_block.result c.requires.short
-    (record { len_is = c.mask_of_block.ensures.len; is_mask = c.mask_of_block.ensures.is_mask; first_is = c.mask_of_block.ensures.first }) only.0 g)
+    let block : IsBlockMask c.args.len j c.mask_of_block.result = record { len_is = c.mask_of_block.ensures.len; is_mask = c.mask_of_block.ensures.is_mask; first_is = c.mask_of_block.ensures.first } in
+    record {
+      found = edge_is_greatest c.args.from c.args.to c.args.len j s.result 0 c.mask_of_block.result c.requires.short c.requires.small s.ensures.value block
+          (end_is_edge c.args.from c.args.to s.result j s.ensures.some (omega (arith, c.if-behind-eq0.false)) (omega (arith, c.if-behind-eq0.false)) c.if-behind-size.false)
+          (omega (arith, c.if-behind-eq0.false));
+      only = λ m g. ap Some (mask_at c.args.from c.args.to c.args.len j 0 m c.mask_of_block.result c.requires.short block (end_is_only c.args.from c.args.to c.args.len s.result m s.ensures.value s.ensures.some c.requires.small g).0 g);
+    }

@@ -1,6 +1,6 @@
-use Rattle.vic_tree.proofs.Words.{◌≡◌, ◌∙◌, ◌+◌, ◌<◌, ◌≤◌, ◌⊎◌, inl, inr, List, length, get_or, ap, Some, sym, arith, cases_lt, BitMask, mirror_bits, IsGreatestIn}
+use Rattle.vic_tree.proofs.Words.{◌≡◌, ◌∙◌, ◌+◌, ◌<◌, ◌⊎◌, List, length, get_or, ap, Some, sym, arith, BitMask, mirror_bits, IsGreatestIn}
 use Rattle.vic_tree.proofs.BlockLaws.{mask_block}
-use Rattle.vic_tree.proofs.FirstMasks.{kept_both, kept_like, none_kept, past_last}
+use Rattle.vic_tree.proofs.FirstMasks.{kept_both, none_kept, past_last, rest_kept}
 use Rattle.vic_tree.proofs.OpenBlocks.{greatest_of_len}
 use Rattle.vic_tree.proofs.open_masks.keep_in_run.Goals as goal
 
@@ -21,10 +21,8 @@ returns-then-len-clause-keeps c =
     let full : length ms ≡ 17 = sym c.len.ensures.value ∙ c.if-len-eq-KEPT.true in
     let is : last ≡ get_or ms 16 last = c.index-deref.is ∙ ap (λ (xs : List BitMask). get_or xs 16 last) c.deref.ensures.0 in
     let short : last.len < len = omega arith in
-    kept_both (λ m. IsGreatestIn c.args.from c.args.to m × (m.len < len)) (λ m. IsGreatestIn c.args.from c.args.to m × (len ≤ m.len)) (IsGreatestIn c.args.from c.args.to) c.args.kept.now.items ms ms
-    (λ m. (λ w. elim w [ inl a ↦ a.0 | inr a ↦ a.0 ], λ g. elim (cases_lt m.len len) [ inl lt ↦ inl (g, lt) | inr le ↦ inr (g, le) ]))
-    inv.keeps
-    (none_kept (λ m. IsGreatestIn c.args.from c.args.to m × (len ≤ m.len)) ms inv.kept (λ m w. inr (past_last ms last m inv.kept.0 full is (omega (arith, w.1, short), λ e. absurd (omega (arith, w.1, short))))))
+    rest_kept (IsGreatestIn c.args.from c.args.to) len c.args.kept.now.items ms inv.kept inv.keeps
+    (λ m g le. past_last ms last m inv.kept.0 full is (omega (arith, le, short), λ e. absurd (omega (arith, le, short))))
 
 pub loop-len-preserved : goal.loop-len-preserved
 loop-len-preserved c =
@@ -43,6 +41,6 @@ loop-len-preserved c =
 
 pub returns-clause-keeps : goal.returns-clause-keeps
 returns-clause-keeps c =
-    kept_like (λ m. IsGreatestIn c.args.from c.args.to m × (m.len < c.loop-len.len)) (IsGreatestIn c.args.from c.args.to) c.args.kept.now.items c.loop-len.kept.items
-    (λ m. (λ w. w.0, λ g. (g, omega (arith, g.inside.1, c.loop-len-test.false))))
-    c.loop-len.invariant.keeps
+    let inv = c.loop-len.invariant in
+    rest_kept (IsGreatestIn c.args.from c.args.to) c.loop-len.len c.args.kept.now.items c.loop-len.kept.items inv.kept inv.keeps
+    (λ m g le. absurd (omega (arith, g.inside.1, le, c.loop-len-test.false)))

@@ -1,6 +1,6 @@
-use Rattle.vic_tree.proofs.Words.{◌≡◌, ◌∙◌, ℕ, ◌+◌, ◌≤◌, List, false, refl, ap, arith, BitMask, IsOpenBelow, without_keys, is_open_in, is_left, AreFirst, IsOpenMask}
+use Rattle.vic_tree.proofs.Words.{◌≡◌, ◌∙◌, ◌+◌, refl, ap, arith, All-nil, IsOpenBelow, without_keys, is_open_in, is_left, IsOpenMask}
 use Rattle.vic_tree.proofs.FirstMasks.{first_kept, first_like}
-use Rattle.vic_tree.proofs.OpenBlocks.{all_opened, none_yet, run_opened}
+use Rattle.vic_tree.proofs.OpenBlocks.{all_opened, run_opened}
 use Rattle.vic_tree.proofs.open_masks.open_masks_besides.Goals as goal
 
 pub loop-run-init : goal.loop-run-init
@@ -8,7 +8,7 @@ loop-run-init c = record {
   pass = rw c.new-left.ensures (λ k h. refl);
   cut = rw c.new-left.ensures (λ k h. absurd (omega arith));
   kept = rw c.new-kept.ensures (λ i j d lt within. absurd (omega arith), omega arith);
-  first = rw (c.new-left.ensures, c.new-kept.ensures) (none_yet (is_left c.args.ranges.now c.args.keys.now));
+  first = rw (c.new-left.ensures, c.new-kept.ensures) (record { rising = λ i j d lt within. absurd (omega arith); wanted = All-nil (IsOpenBelow (is_left c.args.ranges.now c.args.keys.now) 0); others = λ m w. absurd (omega (arith, w.1)) });
 }
 
 pub loop-run-preserved : goal.loop-run-preserved
@@ -25,15 +25,10 @@ loop-run-preserved c =
       first = rw next.from (first_like 17 _ (IsOpenBelow p (c.in-Some.run'.1 + 2)) _ (run_opened p c.loop-run.left.0 _ _ inv.cut (omega arith) run) (first_kept (IsOpenBelow p c.loop-run.left.0) _ c.loop-run.kept.items _ inv.first keeps));
     }
 
-first_open : (es : List (ℕ × ℕ)) (keys : List ℕ) (b : ℕ) (ms : List BitMask) → ((k : ℕ) → b ≤ k → is_left es keys k ≡ false) → AreFirst 17 (IsOpenBelow (is_left es keys) b) ms → AreFirst 17 (IsOpenMask (without_keys (is_open_in es) keys)) ms
-first_open es keys b ms none = first_like 17 (IsOpenBelow (is_left es keys) b) (IsOpenMask (without_keys (is_open_in es) keys)) ms (all_opened es keys b none)
-
-pub returns-clause-first : goal.returns-clause-first
-returns-clause-first c =
+pub returns : goal.returns
+returns c =
     let inv = c.loop-run.invariant in
-    c.given.ensures.first (without_keys (is_open_in c.args.ranges.now) c.args.keys.now) (first_open c.args.ranges.now c.args.keys.now c.loop-run.left.0 c.loop-run.kept.items (c.in_default.ensures.none _ inv.pass) inv.first)
-
-pub returns-clause-more : goal.returns-clause-more
-returns-clause-more c =
-    let inv = c.loop-run.invariant in
-    c.given.ensures.more (without_keys (is_open_in c.args.ranges.now) c.args.keys.now) (first_open c.args.ranges.now c.args.keys.now c.loop-run.left.0 c.loop-run.kept.items (c.in_default.ensures.none _ inv.pass) inv.first)
+    let left = is_left c.args.ranges.now c.args.keys.now in
+    let set = without_keys (is_open_in c.args.ranges.now) c.args.keys.now in
+    let first = first_like 17 (IsOpenBelow left c.loop-run.left.0) (IsOpenMask set) c.loop-run.kept.items (all_opened c.args.ranges.now c.args.keys.now c.loop-run.left.0 (c.in_default.ensures.none _ inv.pass)) inv.first in
+    record { first = c.given.ensures.first set first; more = c.given.ensures.more set first }

@@ -1,5 +1,5 @@
-use Rattle.vic_tree.proofs.Words.{◌≡◌, ◌∙◌, ap, ◌&&◌, ◌-◌, arith, pow_pos, has, mirror, mirror_below, in_ranges, is_between, nat_tests, IfOk-weaker}
-use Rattle.vic_tree.proofs.BlockLaws.{mask_ends}
+use Rattle.vic_tree.proofs.Words.{◌≡◌, ◌∙◌, ap, ◌&&◌, arith, has, mirror, mirror_below, in_ranges, is_between, nat_tests, IfOk-weaker}
+use Rattle.vic_tree.proofs.BlockLaws.{mask_last}
 use Rattle.vic_tree.proofs.RangeLaws.{firsts_rise}
 use Rattle.vic_tree.proofs.range_set.settled.Goals as goal
 
@@ -7,10 +7,7 @@ pub between-requires : goal.between-requires
 between-requires c = rw c.in_ok-from_slice.ensures.items (firsts_rise 0 c.args.ranges.now c.requires.ranges)
 
 pub push_others-requires-clause-small : goal.push_others-requires-clause-small
-push_others-requires-clause-small c =
-    let e = mask_ends c.args.mask.now c.requires.short.0 c.requires.short.1 in
-    let p = pow_pos (56 - c.args.mask.now.len) in
-    omega (arith, c.key_range-first.ensures.last)
+push_others-requires-clause-small c = rw c.key_range-first.ensures.last (mask_last c.args.mask.now c.requires.short.0 c.requires.short.1)
 
 pub returns-clause-left : goal.returns-clause-left
 returns-clause-left c = IfOk-weaker c.outside.result _ _ (λ left keys u is_uid.

@@ -1,34 +1,47 @@
-use Rattle.vic_tree.proofs.Words.{◌≡◌, ℕ, ◌+◌, ◌-◌, ◌<◌, ◌≤◌, ◌&&◌, take, get_or, length, arith, take_all, nat_le, nat_lt, ◌||◌, refl, true, List, not, nat_eq, eq-eqb, Bool, ◌==◌, in_ranges, nat_tests, has, list_any_at, list_any_more}
+use Rattle.vic_tree.proofs.Words.{◌≡◌, ◌∙◌, ℕ, ◌+◌, ◌-◌, ◌<◌, ◌≤◌, ◌&&◌, drop, get_or, length, arith, nat_lt, ◌∷◌, ◌||◌, refl, sym, ap, true, false, List, not, nat_eq, eq-eqb, Bool, drop_all, drop_more, in_ranges, is_between, nat_tests, has, list_any_at, IsNonDecreasingBy-drop}
+use Rattle.vic_tree.proofs.LeftLaws.{is_before_all, is_behind}
 use Rattle.vic_tree.proofs.RangeLaws.{in_pushed, inside_is}
 use Rattle.vic_tree.proofs.ranges.push_others.Goals as goal
 use Rattle.vic_tree.proofs.ranges.push_others.Goals.{then-from-key+in_ok-push, else-from-key}
 
--- an element of a list is in it
-kept_key : (xs : List ℕ) (i : ℕ) → i < length xs → has xs (get_or xs i 0) ≡ true
-kept_key xs i lt = list_any_at (nat_eq (get_or xs i 0)) xs i 0 lt (eq-eqb (get_or xs i 0) (get_or xs i 0) refl)
+-- an element of a list is in it, so in the range
+kept_inside : (xs : List ℕ) (i first last : ℕ) → i < length xs → ((k : ℕ) → has xs k ≡ true → is_between first last k ≡ true) → (first ≤ get_or xs i 0) × (get_or xs i 0 ≤ last) × (has xs (get_or xs i 0) ≡ true)
+kept_inside xs i first last lt inside =
+    let there : has xs (get_or xs i 0) ≡ true = list_any_at (nat_eq (get_or xs i 0)) xs i 0 lt (eq-eqb (get_or xs i 0) (get_or xs i 0) refl) in
+    let at = inside_is first last (get_or xs i 0) (inside (get_or xs i 0) there) in
+    (at.0, at.1, there)
 
--- what is left of a key after a turn that takes out what lies between the kept keys
-turn_left : (old now new h more : Bool) (first from key k : ℕ) → from ≤ key + 1 → first ≤ from → first ≤ key → (h ≡ true → k < from) → (k + 1 ≡ from → first < from → h ≡ true)
-    → now ≡ (old || ((nat_le first k && nat_lt k from) && not h)) → new ≡ (now || (nat_le from k && nat_lt k key)) → more ≡ (h || (k == key))
-    → new ≡ (old || ((nat_le first k && nat_lt k (key + 1)) && not more))
-turn_left old now new h more first from key k p q r passed before is step one = grind (arith, nat_tests)
+none_yet : (old h : Bool) (first last k : ℕ) → old ≡ (old || (nat_lt k first && (is_between first last k && not h)))
+none_yet old h first last k = grind (arith, nat_tests)
+
+-- what is there after a turn that takes in what lies between the kept keys: h tells whether k is kept
+turn : (old now new h : Bool) (first last from key k : ℕ) → from ≤ key + 1 → first ≤ from → key ≤ last → (from ≤ k → k < key → h ≡ false) → (k ≡ key → h ≡ true)
+    → now ≡ (old || (nat_lt k from && (is_between first last k && not h))) → new ≡ (now || (nat_lt from key && is_between from (key - 1) k))
+    → new ≡ (old || (nat_lt k (key + 1) && (is_between first last k && not h)))
+turn old now new h first last from key k p q r none here is step = grind (arith, nat_tests)
+
+no_turn : (now b : Bool) (from key : ℕ) → key ≤ from → now ≡ (now || (nat_lt from key && b))
+no_turn now b from key le = grind (arith, nat_tests)
+
+a_turn : (now b : Bool) (from key : ℕ) → from < key → (now || b) ≡ (now || (nat_lt from key && b))
+a_turn now b from key lt = grind (arith, nat_tests)
+
+last_turn : (old now h : Bool) (first last from k : ℕ) → first ≤ from → (from ≤ k → h ≡ false) → now ≡ (old || (nat_lt k from && (is_between first last k && not h))) → (now || is_between from last k) ≡ (old || (is_between first last k && not h))
+last_turn old now h first last from k low none is = grind (arith, nat_tests)
 
 pub loop-key-init : goal.loop-key-init
 loop-key-init c = record {
-  keys = λ k. grind (arith, nat_tests);
+  keys = λ k. none_yet _ _ c.args.first c.args.last k;
   low = omega arith;
-  high = omega (arith, c.requires.forward);
-  passed = λ k h. cc;
-  before = λ k e lt. absurd (omega arith);
-  ahead = λ j le lt. let i = inside_is c.args.first c.args.last (get_or c.args.kept.now j 0) (c.requires.inside (get_or c.args.kept.now j 0) (kept_key c.args.kept.now j lt)) in omega (arith, i.0);
+  passed = λ k le. refl;
+  ahead = λ lt. omega (arith, (kept_inside c.args.kept.now 0 c.args.first c.args.last lt c.requires.inside).0);
 }
 
 pub new-requires-clause-small : goal.new-requires-clause-small
-new-requires-clause-small c =
-    let n = c.loop-key.key-index in
-    let key = get_or c.args.kept.now n 0 in
-    let i = inside_is c.args.first c.args.last key (c.requires.inside key (kept_key c.args.kept.now n c.loop-key-test.true)) in
-    omega (arith, i.1, c.requires.small)
+new-requires-clause-small c = omega (arith, (kept_inside c.args.kept.now c.loop-key.key-index c.args.first c.args.last c.loop-key-test.true c.requires.inside).1, c.requires.small)
+
+pub overflow_add-from : goal.overflow_add-from
+overflow_add-from c = omega (arith, (kept_inside c.args.kept.now c.loop-key.key-index c.args.first c.args.last c.loop-key-test.true c.requires.inside).1, c.requires.small)
 
 pub loop-key-preserved : goal.loop-key-preserved
 loop-key-preserved c =
@@ -38,25 +51,26 @@ loop-key-preserved c =
     let from = c.loop-key.from in
     let inv = c.loop-key.invariant in
     let lt : n < length kept = c.loop-key-test.true in
-    let i = inside_is c.args.first c.args.last key (c.requires.inside key (kept_key kept n lt)) in
-    let near : from ≤ key + 1 = inv.ahead n (omega arith) lt in
+    let i = kept_inside kept n c.args.first c.args.last lt c.requires.inside in
+    let near : from ≤ key + 1 = inv.ahead lt in
     let old = c.loop-key.ranges.items in
-    let step : (k : ℕ) → in_ranges c.if-from-key.ranges.items k ≡ (in_ranges old k || (nat_le from k && nat_lt k key)) = λ k. elim c.if-from-key.branch [
-      | then-from-key+in_ok-push w ↦ rw (w.ranges-is, w.in_ok-push.ensures.items, w.new.ensures, in_pushed old from (key - 1) k) (let l : from < key = w.if-from-key.true in grind (arith, nat_tests))
-      | else-from-key w ↦ rw w.ranges-is (let l : key ≤ from = w.if-from-key.false in grind (arith, nat_tests))
+    let split : drop n kept ≡ key ∷ drop (n + 1) kept = drop_more kept n 0 lt in
+    let none : (k : ℕ) → from ≤ k → k < key → has kept k ≡ false = λ k le less. sym (inv.passed k le) ∙ is_before_all (drop n kept) k (IsNonDecreasingBy-drop (λ (x : ℕ). x) n kept c.requires.order) (rw split (λ some. less)) in
+    let step : (k : ℕ) → in_ranges c.if-from-key.ranges.items k ≡ (in_ranges old k || (nat_lt from key && is_between from (key - 1) k)) = λ k. elim c.if-from-key.branch [
+      | then-from-key+in_ok-push w ↦ rw (w.ranges-is, w.in_ok-push.ensures.items, w.new.ensures, in_pushed old from (key - 1) k) (a_turn _ _ from key w.if-from-key.true)
+      | else-from-key w ↦ rw w.ranges-is (no_turn _ _ from key w.if-from-key.false)
     ] in
     record {
-      keys = λ k. turn_left _ _ _ _ _ c.args.first from key k near inv.low i.0 (inv.passed k) (inv.before k) (inv.keys k) (step k) (list_any_more (nat_eq k) kept n 0 lt);
+      keys = λ k. turn _ _ _ (has kept k) c.args.first c.args.last from key k near inv.low i.1 (none k) (λ e. ap (has kept) e ∙ i.2) (inv.keys k) (step k);
       low = omega (arith, i.0);
-      high = omega (arith, i.1);
-      passed = λ k h. grind (arith, nat_tests, inv.passed k, list_any_more (nat_eq k) kept n 0 lt);
-      before = λ k e l. grind (arith, nat_tests, list_any_more (nat_eq k) kept n 0 lt);
-      ahead = λ j le l. let up = c.requires.order n j 0 (omega arith) l in omega (arith, up);
+      passed = λ k le. sym (is_behind key k (drop (n + 1) kept) (omega arith)) ∙ ap (λ (ks : List ℕ). has ks k) (sym split) ∙ inv.passed k (omega (arith, near, le));
+      ahead = λ l. let up = c.requires.order n (n + 1) 0 (omega arith) l in omega (arith, up);
     }
 
 pub returns-in_ok-push-2 : goal.returns-in_ok-push-2
 returns-in_ok-push-2 c k =
+    let kept = c.args.kept.now in
     let from = c.loop-key.from in
-    let all : take c.loop-key.key-index c.args.kept.now ≡ c.args.kept.now = take_all c.loop-key.key-index c.args.kept.now (omega (arith, c.loop-key-test.false)) in
-    let inv = rw all at c.loop-key.invariant in
-    rw (c.in_ok-push-2.ensures.items, c.new-then-from-last.ensures, in_pushed c.loop-key.ranges.items from c.args.last k) (grind (arith, nat_tests, inv.keys k, inv.passed k, inv.low))
+    let inv = c.loop-key.invariant in
+    let none : from ≤ k → has kept k ≡ false = λ le. sym (inv.passed k le) ∙ ap (λ (ks : List ℕ). has ks k) (drop_all c.loop-key.key-index kept (omega (arith, c.loop-key-test.false))) in
+    rw (c.in_ok-push-2.ensures.items, c.new-then-from-last.ensures, in_pushed c.loop-key.ranges.items from c.args.last k) (last_turn _ _ (has kept k) c.args.first c.args.last from k inv.low none (inv.keys k))

@@ -1,5 +1,5 @@
-use Rattle.vic_tree.proofs.Words.{◌∙◌, inl, inr, arith, cases_lt}
-use Rattle.vic_tree.proofs.LeftLaws.{is_first_run, none_left, none_passed, pass_others}
+use Rattle.vic_tree.proofs.Words.{◌∙◌, ℕ, List, inl, inr, ap, arith, cases_lt, is_left, nil_from_length}
+use Rattle.vic_tree.proofs.LeftLaws.{is_first_run, none_passed, pass_others}
 use Rattle.vic_tree.proofs.RangeLaws.{from_lower}
 use Rattle.vic_tree.proofs.left.Left.next_run.Goals as goal
 
@@ -49,5 +49,5 @@ returns-clause-none c p h k le =
     let le = rw (← c.self.view_is) at le in
     elim (cases_lt k c.loop-range.from) [
       | inl below ↦ inv.none p h k (omega arith) below
-      | inr from ↦ inv.same p h k from ∙ none_left c.loop-range.ranges.now c.loop-range.keys.now k c.in_default.ensures.cases
+      | inr from ↦ inv.same p h k from ∙ ap (λ (rs : List (ℕ × ℕ)). is_left rs c.loop-range.keys.now k) (nil_from_length c.loop-range.ranges.now c.in_default.ensures.cases)
     ]
