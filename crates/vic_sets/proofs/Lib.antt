@@ -1,7 +1,5 @@
 mod Words
 pub mod Bits
-pub mod NodeLaws
-pub mod Settled
 pub mod WidestLaws
 pub mod Places
 pub mod LowBits

@@ -63,7 +63,7 @@ in_order ms m i up found =
     (λ k d from lt. greater_before (get_or ms k d) m (place.1 k d from lt))
 
 -- the first masks of a list in order
-first_taken : (n most : ℕ) (P : BitMask → Type 0) (ms : List BitMask) → n ≤ most → AreFirst most P ms → AreFirst n P (take n ms)
+pub first_taken : (n most : ℕ) (P : BitMask → Type 0) (ms : List BitMask) → n ≤ most → AreFirst most P ms → AreFirst n P (take n ms)
 first_taken n most P ms le f =
     let long = length-take n ms in
     record {
@@ -134,13 +134,12 @@ none_kept P ms kept out = record {
 
 -- what comes after the last one comes after all
 pub past_last : (ms : List BitMask) (x m : BitMask) → AllPairs ComesBefore ms → length ms ≡ 17 → x ≡ get_or ms 16 x → ComesBefore x m → IsPast 17 ms m
-past_last ms x m up full is before = (
-  full,
-  λ k d lt. elim (cases_lt k 16) [
-    | inl below ↦ before_then (get_or ms k d) (get_or ms 16 d) m (up k 16 d below (omega arith)) (subst (λ y. ComesBefore y m) (is ∙ get_or_default ms 16 x d (omega arith)) before)
-    | inr at ↦ subst (λ y. ComesBefore y m) (is ∙ get_or_default ms 16 x d (omega arith) ∙ ap (λ n. get_or ms n d) (let e : 16 ≡ k = omega arith in e)) before
-  ],
-)
+past_last ms x m up full is before = (full, λ k d lt.
+    let last = rw (is, get_or_default ms 16 x d (omega arith)) at before in
+    elim (cases_lt k 16) [
+      | inl below ↦ before_then (get_or ms k d) (get_or ms 16 d) m (up k 16 d below (omega arith)) last
+      | inr from ↦ let at : k ≡ 16 = omega arith in rw at last
+    ])
 
 -- a choice, said otherwise
 pub or_both : (A P Q R : Type 0) → P ⊎ Q ↔ R → (A ⊎ P) ⊎ Q ↔ A ⊎ R
@@ -177,18 +176,15 @@ rest_kept P len old ms kept keeps out =
     (none_kept (λ m. P m × (len ≤ m.len)) ms kept (λ m w. inr (out m w.0 w.1)))
 
 -- what is given of those that are kept
-given_is : (ms masks : List BitMask) → masks ≡ take (min (length ms) 16) ms → masks ≡ take 16 ms
-given_is ms masks is = is ∙ ap (λ (n : ℕ). take n ms) (let e : min (length ms) 16 ≡ min 16 (length ms) = omega arith in e) ∙ take_min 16 ms
+pub given_is : (ms : List BitMask) → take (min (length ms) 16) ms ≡ take 16 ms
+given_is ms = ap (λ (n : ℕ). take n ms) (let e : min (length ms) 16 ≡ min 16 (length ms) = omega arith in e) ∙ take_min 16 ms
 
-pub given_first : (P : BitMask → Type 0) (ms masks : List BitMask) → masks ≡ take (min (length ms) 16) ms → AreFirst 17 P ms → AreFirst 16 P masks
-given_first P ms masks is f = rw (given_is ms masks is) (first_taken 16 17 P ms (omega arith) f)
-
-pub given_more : (P : BitMask → Type 0) (ms masks : List BitMask) (more : Bool) → length ms ≤ 17 → more ≡ (length ms == 17) → masks ≡ take (min (length ms) 16) ms → AreFirst 17 P ms → more ≡ true ↔ (m : BitMask) × P m × (¬ (Contains masks m))
+pub given_more : (P : BitMask → Type 0) (ms masks : List BitMask) (more : Bool) → length ms ≤ 17 → more ≡ (length ms == 17) → masks ≡ take 16 ms → AreFirst 17 P ms → more ≡ true ↔ (m : BitMask) × P m × (¬ (Contains masks m))
 given_more P ms masks more short told is f =
     let none : BitMask = record { len = 0; value = 0 } in
     let last : BitMask = get_or ms 16 none in
     let front = length-take 16 ms in
-    rw (given_is ms masks is) (
+    rw is (
       λ e. let full : length ms ≡ 17 = eqb-true _ 17 (sym told ∙ e) in (
         last,
         f.wanted 16 none (omega arith),

@@ -98,17 +98,17 @@ keys_open p m h k =
           sym (ap p back) ∙ all (uid_of x) (is_uid x) inside,
     )
 
-pub found_is_widest : (es : List (ℕ × ℕ)) (keys : List ℕ) (b : ℕ) (o : Option BitMask) → ((k : ℕ) → b ≤ k → is_left es keys k ≡ false) → IsFoundBelow (is_left es keys) b o → IfSome o (IsWidest (without_keys (is_open_in es) keys))
-found_is_widest es keys b None none w = tt
-found_is_widest es keys b (Some m) none w = record {
-  is_mask = w.is_mask;
-  short = w.short;
-  open_throughout = (keys_open (is_left es keys) m w.is_mask w.short).0 w.passes;
-  least = λ n is short all.
-      let pass = (keys_open (is_left es keys) n is short).1 all in
-      grind (arith, w.least n is short pass, none (mirror n.value), first_passes (is_left es keys) n pass);
-}
-
-pub none_found : (es : List (ℕ × ℕ)) (keys : List ℕ) (b : ℕ) (o : Option BitMask) → ((k : ℕ) → b ≤ k → is_left es keys k ≡ false) → IsFoundBelow (is_left es keys) b o → IfNone o (SameUids (without_keys (is_open_in es) keys) (λ u. false))
-none_found es keys b (Some m) none w = tt
-none_found es keys b None none w = λ u i. elim (cases_lt (mirror u) b) [ inl lt ↦ w (mirror u) lt | inr le ↦ none (mirror u) le ]
+pub all_found : (es : List (ℕ × ℕ)) (keys : List ℕ) (b : ℕ) (o : Option BitMask) → ((k : ℕ) → b ≤ k → is_left es keys k ≡ false) → IsFoundBelow (is_left es keys) b o
+    → IfSome o (IsWidest (without_keys (is_open_in es) keys)) × IfNone o (SameUids (without_keys (is_open_in es) keys) (λ u. false))
+all_found es keys b None none w = (tt, λ u i. elim (cases_lt (mirror u) b) [ inl lt ↦ w (mirror u) lt | inr le ↦ none (mirror u) le ])
+all_found es keys b (Some m) none w = (
+  record {
+    is_mask = w.is_mask;
+    short = w.short;
+    open_throughout = (keys_open (is_left es keys) m w.is_mask w.short).0 w.passes;
+    least = λ n is short all.
+        let pass = (keys_open (is_left es keys) n is short).1 all in
+        grind (arith, w.least n is short pass, none (mirror n.value), first_passes (is_left es keys) n pass);
+  },
+  tt,
+)

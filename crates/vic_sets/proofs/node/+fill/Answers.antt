@@ -1,8 +1,13 @@
-use Rattle.vic_sets.proofs.Words.{◌∙◌, ap, sym, cond, ◌/◌, ◌^◌, ◌%◌, ◌==◌, max, arith, open_at, height}
+use Rattle.vic_sets.proofs.Words.{◌≡◌, ◌∙◌, refl, Box, Global, Node, Fork', Clear, Shut, Fork, Halves, IsFork, ap, sym, cond, ◌/◌, ◌^◌, ◌%◌, ◌==◌, max, arith, open_at, height}
 use Rattle.vic_sets.proofs.Bits.{half_below, fill_zero, fill_one}
-use Rattle.vic_sets.proofs.NodeLaws.{no_fork}
 use Rattle.vic_sets.proofs.node.+fill.Goals as goal
 use Rattle.vic_sets.proofs.node.+fill.Goals.{in-Fork+then-value-eq0+in_ok-fill, in-Fork+else-value-eq0+in_ok-fill-2, in_default-node}
+
+-- what is no fork isn't one
+no_fork : (n : Node) → IsFork n → ((x : Box Halves Global) → n ≡ Fork x → ⊥) → ⊥
+no_fork Clear f h = f
+no_fork Shut f h = f
+no_fork (Fork' p zero one) f h = h (record { ptr = p.ptr; alloc = p.alloc; value = record { zero = zero; one = one } }) refl
 
 pub fill-requires : goal.fill-requires
 fill-requires t c = (omega arith, (rw c.deref_mut.ensures.value (rw c.in-Fork.is at c.in_ok-split.ensures.reduced).0, half_below c.args.value c.args.len (omega arith) c.requires.in_mask))

@@ -1,5 +1,5 @@
 use Rattle.vic_tree.proofs.Words.{is_left}
-use Rattle.vic_tree.proofs.GapLaws.{found_is_widest, none_found, run_found}
+use Rattle.vic_tree.proofs.GapLaws.{all_found, run_found}
 use Rattle.vic_tree.proofs.gaps.widest_besides.Goals as goal
 
 pub loop-run-preserved : goal.loop-run-preserved
@@ -14,12 +14,8 @@ loop-run-preserved c =
       found = rw next.from (run_found p c.loop-run.widest c.widest_with.result _ _ _ (next.run p inv.pass) one least c.widest_with.ensures.at_most_found inv.found);
     }
 
-pub returns-clause-found : goal.returns-clause-found
-returns-clause-found c =
+pub returns : goal.returns
+returns c =
     let inv = c.loop-run.invariant in
-    found_is_widest c.args.ranges.now c.args.keys.now c.loop-run.left.0 c.loop-run.widest (c.in_default.ensures.none _ inv.pass) inv.found
-
-pub returns-clause-none : goal.returns-clause-none
-returns-clause-none c =
-    let inv = c.loop-run.invariant in
-    none_found c.args.ranges.now c.args.keys.now c.loop-run.left.0 c.loop-run.widest (c.in_default.ensures.none _ inv.pass) inv.found
+    let all = all_found c.args.ranges.now c.args.keys.now c.loop-run.left.0 c.loop-run.widest (c.in_default.ensures.none _ inv.pass) inv.found in
+    record { found = all.0; none = all.1 }

@@ -1,4 +1,5 @@
-use Rattle.vic_tree.proofs.Words.{length, get_or, ◌≡◌, ℕ, ◌≤◌, ◌<◌, in_ranges, AreRanges}
+use Rattle.vic_tree.proofs.Words.{length, get_or, ℕ, ◌≤◌, ◌<◌}
+use Rattle.vic_tree.proofs.RangeLaws.{AreRestFrom}
 use Rattle.vic_tree.proofs.ranges.skip_to.Given as goal
 
 abbrev pub invariant-loop-near : goal.invariant-loop-near
@@ -8,8 +9,7 @@ abbrev pub invariant-loop-step : goal.invariant-loop-step
 invariant-loop-step l = record {
   step : 1 ≤ l.step;
   shorter : length l.ahead ≤ length l.ranges;
-  ranges : AreRanges l.ahead;
-  same : (k : ℕ) → l.key ≤ k → in_ranges l.ahead k ≡ in_ranges l.ranges k;
+  rest : AreRestFrom l.key l.ranges l.ahead;
 }
 
 abbrev pub decreases-loop-step : goal.decreases-loop-step
