@@ -51,9 +51,6 @@ all_gathered rs except keys first last from old new none g =
 
 -- ---- the widest mask
 
-at_most_then : (a b c : BitMask) → IsAtMost a b → IsAtMost b c → IsAtMost a c
-at_most_then a b c h k = grind arith
-
 pub first_passes : (p : ℕ → Bool) (m : BitMask) → AllKeysPass p m → p (mirror m.value) ≡ true
 first_passes p m all = let pos = pow_pos (56 - m.len) in all (mirror m.value) (omega arith) (omega arith)
 
@@ -68,7 +65,7 @@ found_passes p o m b x y all (inr e) w = let v : IsWidestBelow p b m = subst (Is
 
 least_found : (p : ℕ → Bool) (o : Option BitMask) (m n : BitMask) (b : ℕ) → IfSome o (IsAtMost m) → IsFoundBelow p b o → IsMask n → n.len ≤ 56 → AllKeysPass p n → mirror n.value < b → IsAtMost m n
 least_found p None m n b at w is short all lt = absurd (let t = first_passes p n all in let f = w (mirror n.value) lt in cc (t, f))
-least_found p (Some y) m n b at w is short all lt = at_most_then m y n at (w.least n is short all lt)
+least_found p (Some y) m n b at w is short all lt = let le = w.least n is short all lt in (omega (arith, at.0, le.0), λ e. omega (arith, at.0, at.1, le.0, le.1))
 
 pub run_found : (p : ℕ → Bool) (o : Option BitMask) (m : BitMask) (from x y : ℕ) → IsFirstRun p from x y
     → IsMaskIn x y m ⊎ (o ≡ Some m) → ComesFirstIn x y m → IfSome o (IsAtMost m) → IsFoundBelow p from o → IsFoundBelow p (y + 2) (Some m)
@@ -98,6 +95,7 @@ keys_open p m h k =
           sym (ap p back) ∙ all (uid_of x) (is_uid x) inside,
     )
 
+-- once no key is left, what was found is the widest mask, or the set is empty
 pub all_found : (es : List (ℕ × ℕ)) (keys : List ℕ) (b : ℕ) (o : Option BitMask) → ((k : ℕ) → b ≤ k → is_left es keys k ≡ false) → IsFoundBelow (is_left es keys) b o
     → IfSome o (IsWidest (without_keys (is_open_in es) keys)) × IfNone o (SameUids (without_keys (is_open_in es) keys) (λ u. false))
 all_found es keys b None none w = (tt, λ u i. elim (cases_lt (mirror u) b) [ inl lt ↦ w (mirror u) lt | inr le ↦ none (mirror u) le ])

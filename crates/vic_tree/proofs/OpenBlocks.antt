@@ -127,7 +127,18 @@ pub run_opened : (p : ℕ → Bool) (from first last : ℕ) → ((k : ℕ) → k
 run_opened p from first last cut forward run m = (
   λ w. elim w [
     | inl old ↦ (old.0, let a = run.begins in omega (arith, old.1))
-    | inr g ↦ let pos = pow_pos (56 - m.len) in (opened g, omega (arith, g.inside.2.1))
+    | inr g ↦ let pos = pow_pos (56 - m.len) in (
+      record {
+        is_mask = g.inside.0;
+        short = g.inside.1;
+        passes = λ k lo hi. run.passes k (omega (arith, g.inside.2.0, lo)) (omega (arith, g.inside.2.1, hi));
+        greatest = elim g.greatest [
+          | inl z ↦ inl z
+          | inr out ↦ elim (cases_eq m.len 0) [ inl z ↦ inl z | inr some ↦ inr (λ all. out (parent_held p first last m g.inside.0 g.inside.1 some before run.ends g.inside.2 all)) ]
+        ];
+      },
+      omega (arith, g.inside.2.1),
+    )
   ],
   λ w. elim (in_run p from first last (mirror m.value) run (first_passes p m w.0.passes) w.1) [
     | inl lt ↦ inl (w.0, lt)
@@ -136,24 +147,9 @@ run_opened p from first last cut forward run m = (
       greatest = elim w.0.greatest [ inl z ↦ inl z | inr out ↦ inr (λ held. out (λ k lo hi. run.passes k (omega (arith, held.0, lo)) (omega (arith, held.1, hi)))) ];
     })
   ],
-)
-  where
-    before : (k : ℕ) → k + 1 ≡ first → p k ≡ false
-    before k e = grind (arith, cut k, run.before k, run.begins)
-
-    opened : IsGreatestIn first last m → IsOpenBlock p m
-    opened g = record {
-      is_mask = g.inside.0;
-      short = g.inside.1;
-      passes = λ k lo hi. run.passes k (omega (arith, g.inside.2.0, lo)) (omega (arith, g.inside.2.1, hi));
-      greatest = elim (cases_eq m.len 0) [
-        | inl z ↦ inl z
-        | inr some ↦ elim g.greatest [
-          | inl z ↦ inl z
-          | inr out ↦ inr (λ all. out (parent_held p first last m g.inside.0 g.inside.1 some before run.ends g.inside.2 all))
-        ]
-      ];
-    }
+) where
+  before : (k : ℕ) → k + 1 ≡ first → p k ≡ false
+  before k e = grind (arith, cut k, run.before k, run.begins)
 
 -- masks of the set and blocks of its keys
 open_blocks : (p : ℕ → Bool) (m : BitMask) → IsOpenBlock p m ↔ IsOpenMask (λ u. p (mirror u)) m

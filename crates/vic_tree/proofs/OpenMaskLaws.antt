@@ -1,15 +1,16 @@
 -- The open masks of a set are apart, and hold all of it.
-use Rattle.vic_tree.proofs.Words.{◌≡◌, ℕ, zero, suc, ◌+◌, ◌-◌, ◌*◌, ◌^◌, ◌%◌, ◌<◌, ◌≤◌, ◌||◌, ◌⊎◌, inl, inr, Bool, true, false, not, List, refl, sym, ap, subst, ◌∙◌, arith, eq-eqb, eqb-true, pow_pos, below_more, list_any, list_any_at, IsUid, BitMask, lies_in, IsOpenMask, parent, AllOpen, SameUids, nat_tests, Any-from_list_any, or_parts, cases_Bool, not-false, mod_mod_pow, AreAll}
+use Rattle.vic_tree.proofs.Words.{◌≡◌, ℕ, zero, suc, ◌+◌, ◌-◌, ◌*◌, ◌^◌, ◌%◌, ◌<◌, ◌≤◌, ◌||◌, ◌⊎◌, inl, inr, Bool, true, false, not, List, refl, sym, ap, subst, ◌∙◌, arith, eq-eqb, eqb-true, pow_pos, below_more, list_any, list_any_at, IsUid, BitMask, lies_in, IsOpenMask, parent, AllOpen, SameUids, nat_tests, All-contains, Any-from_list_any, or_parts, cases_Bool, not-false, mod_mod_pow, AreAll}
 use Rattle.vic_tree.proofs.BoolLaws.{same_tests}
 use Rattle.vic_tree.proofs.FirstMasks.{same_mask}
 
 inside : (m : BitMask) (u : ℕ) → lies_in m u ≡ true → u % 2 ^ m.len ≡ m.value
 inside m u h = eqb-true (u % 2 ^ m.len) m.value h
 
--- a mask that holds the parent of another one leaves it no greatest one
+-- of two masks that hold a UID the shorter holds the parent of the other
 in_longer : (m n : BitMask) (u v : ℕ) → m.len < n.len → lies_in m u ≡ true → lies_in n u ≡ true → lies_in (parent n) v ≡ true → lies_in m v ≡ true
 in_longer m n u v lt i j there = grind (arith, nat_tests, mod_mod_pow u (n.len - 1) n.len, mod_mod_pow v m.len (n.len - 1), mod_mod_pow u m.len (n.len - 1))
 
+-- so the other isn't a greatest one
 under_parent : (set : ℕ → Bool) (m n : BitMask) (u : ℕ) → IsOpenMask set m → IsOpenMask set n → lies_in m u ≡ true → lies_in n u ≡ true → m.len < n.len → ⊥
 under_parent set m n u g h i j lt = elim h.greatest [
   | inl z ↦ omega arith
@@ -81,5 +82,4 @@ all_held set ms all u is_uid =
     list_any_at (λ m. lies_in m u) ms at.0 h.0 at.1 (ap (λ m. lies_in m u) at.2 ∙ h.2))
     (λ e.
     let one = Any-from_list_any (λ m. lies_in m u) ms e in
-    let open' : IsOpenMask set one.1 = subst (IsOpenMask set) one.3 (all.wanted one.0 one.1 one.2) in
-    open'.open_throughout u is_uid one.4)
+    (All-contains (IsOpenMask set) ms one.1 all.wanted (one.0, one.2, one.3)).open_throughout u is_uid one.4)
