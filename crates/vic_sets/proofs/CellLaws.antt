@@ -51,9 +51,11 @@ in_contained xs m u h k = list_any_at (λ x. lies_in x u) xs h.0 m h.1 (ap (λ x
 in_next : (p : BitMask → Bool) (x : BitMask) (xs : List BitMask) (u : ℕ) → in_cells (filter p (x ∷ xs)) u ≡ ((p x && lies_in x u) || in_cells (filter p xs) u)
 in_next p x xs u = elim (cases_Bool (p x)) [ inl e ↦ rw e refl | inr e ↦ rw e refl ]
 
+contains_kept : (p : BitMask → Bool) (xs : List BitMask) (m : BitMask) → Contains (filter p xs) m → Contains xs m
+contains_kept p xs m h = All-contains (Contains xs) (filter p xs) m (All-filter p (Contains xs) xs (All-contains_itself xs)) h
+
 in_kept : (p : BitMask → Bool) (xs : List BitMask) (u : ℕ) → in_cells (filter p xs) u ≡ true → in_cells xs u ≡ true
-in_kept p [] u h = h
-in_kept p (x ∷ xs) u h = let next = sym (in_next p x xs u) ∙ h in grind (arith, nat_tests, next, in_kept p xs u)
+in_kept p xs u h = let one = Any-from_list_any (λ x. lies_in x u) (filter p xs) h in in_contained xs one.1 u (contains_kept p xs one.1 (one.0, one.2, one.3)) one.4
 
 not_kept : (p : BitMask → Bool) (xs : List BitMask) (u : ℕ) → in_cells xs u ≡ false → in_cells (filter p xs) u ≡ false
 not_kept p xs u h = grind (arith, nat_tests, in_kept p xs u)
@@ -64,9 +66,6 @@ apart_kept p (x ∷ xs) a = at_test (apart_kept p xs a.1) (p x) where
   at_test : AreApart (filter p xs) → (b : Bool) → AreApart (cond b (x ∷ filter p xs) (filter p xs))
   at_test rest true = (λ u i h. not_kept p xs u (a.0 u i h), rest)
   at_test rest false = rest
-
-contains_kept : (p : BitMask → Bool) (xs : List BitMask) (m : BitMask) → Contains (filter p xs) m → Contains xs m
-contains_kept p xs m h = All-contains (Contains xs) (filter p xs) m (All-filter p (Contains xs) xs (All-contains_itself xs)) h
 
 joined_kept : (p : BitMask → Bool) (xs : List BitMask) → NoHalves xs → NoHalves (filter p xs)
 joined_kept p xs h k is_mask lower upper = h k is_mask (contains_kept p xs (lower_half k) lower) (contains_kept p xs (upper_half k) upper)

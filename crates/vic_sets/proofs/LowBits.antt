@@ -1,18 +1,14 @@
 -- What a node says depends on the low bits alone.
-use Rattle.vic_sets.proofs.Words.{◌≡◌, ℕ, ◌+◌, ◌-◌, ◌*◌, ◌/◌, ◌^◌, ◌%◌, ◌<◌, ◌≤◌, refl, sym, ap, subst, ◌∙◌, arith, true, shr-shr, eqb-true, eq-eqb, mod_below, BitMask, mod_mod_pow, Node, Fork', Clear, Shut, open_at, height, IsWidest, IsWidestOf, AllOpen}
+use Rattle.vic_sets.proofs.Words.{◌≡◌, ℕ, ◌+◌, ◌-◌, ◌*◌, ◌/◌, ◌^◌, ◌%◌, ◌<◌, ◌≤◌, refl, sym, ap, ◌∙◌, arith, true, shr-shr, eqb-true, eq-eqb, mod_below, BitMask, mod_mod_pow, Node, Fork', Clear, Shut, open_at, height, IsWidest, IsWidestOf, AllOpen}
 use Rattle.vic_sets.proofs.Bits.{low_and_rest}
 
 -- the lowest bit and the rest of the low bits
-pub record IsHalved (u len v : ℕ) : Type 0 where
-  pub bit : u % 2 ≡ v % 2
-  pub rest : u / 2 % 2 ^ (len - 1) ≡ v / 2
-
-pub halved : (u len v : ℕ) → 0 < len → u % 2 ^ len ≡ v → IsHalved u len v
+pub halved : (u len v : ℕ) → 0 < len → u % 2 ^ len ≡ v → (u % 2 ≡ v % 2) × (u / 2 % 2 ^ (len - 1) ≡ v / 2)
 halved u len v pos h =
     let e : len - 1 + 1 ≡ len = omega arith in
-    let f : u % 2 ^ len ≡ (u / 2 % 2 ^ (len - 1)) * 2 + u % 2 = subst (λ (n : ℕ). u % 2 ^ n ≡ (u / 2 % 2 ^ (len - 1)) * 2 + u % 2) e (low_and_rest u (len - 1)) in
+    let parts = rw e at (low_and_rest u (len - 1)) in
     let b = mod_below u 2 (omega arith) in
-    record { bit = omega arith; rest = omega arith }
+    (omega arith, omega arith)
 
 -- further down is further along
 pub down : (u len : ℕ) → 0 < len → u / 2 ^ len ≡ u / 2 / 2 ^ (len - 1)
@@ -25,8 +21,8 @@ open_at_low (Fork' p l r) k u v h e =
     let pos : 0 < k = omega arith in
     let a = halved u k (v % 2 ^ k) pos e in
     let b = halved v k (v % 2 ^ k) pos refl in
-    let same : u / 2 % 2 ^ (k - 1) ≡ v / 2 % 2 ^ (k - 1) = a.rest ∙ sym b.rest in
-    let bit : u % 2 ≡ v % 2 = a.bit ∙ sym b.bit in
+    let same : u / 2 % 2 ^ (k - 1) ≡ v / 2 % 2 ^ (k - 1) = a.1 ∙ sym b.1 in
+    let bit : u % 2 ≡ v % 2 = a.0 ∙ sym b.0 in
     let left = open_at_low l (k - 1) (u / 2) (v / 2) (omega arith) same in
     let right = open_at_low r (k - 1) (u / 2) (v / 2) (omega arith) same in
     rw (bit, left, right) refl

@@ -18,8 +18,9 @@ pub keys_dropped : (keys : List ℕ) (n from k : ℕ) → ((i d : ℕ) → i < n
 keys_dropped keys n from k low le = any_dropped (nat_eq k) keys n (λ i d lt. ne_eqb k (get_or keys i d) (let a = low i d lt in λ e. omega arith))
 
 -- the keys before the first that is free don't pass
-pub none_passed : (p : ℕ → Bool) (from free : ℕ) (r : ℕ × ℕ) (others : List (ℕ × ℕ)) (keys : List ℕ) → AreRanges (r ∷ others) → PassFrom p (from, r ∷ others, keys) → ((k : ℕ) → max from r.0 ≤ k → k < free → has keys k ≡ true) → (k : ℕ) → from ≤ k → k < free → p k ≡ false
-none_passed p from free r others keys ranges pass taken k low lt = grind (arith, nat_tests, pass k low, none_below r.0 (r ∷ others) k (omega arith, ranges.1, ranges.2, ranges.3), taken k)
+pub none_passed : (p : ℕ → Bool) (begin from free : ℕ) (r : ℕ × ℕ) (others : List (ℕ × ℕ)) (keys : List ℕ) → AreRanges (r ∷ others) → PassFrom p (from, r ∷ others, keys) → ((k : ℕ) → begin ≤ k → k < from → p k ≡ false)
+    → ((k : ℕ) → max from r.0 ≤ k → k < free → has keys k ≡ true) → (k : ℕ) → begin ≤ k → k < free → p k ≡ false
+none_passed p begin from free r others keys ranges pass none taken k low lt = grind (arith, nat_tests, none k, pass k, none_below r.0 (r ∷ others) k (omega arith, ranges.1, ranges.2, ranges.3), taken k)
 
 -- a range that ends before it is passed
 pub pass_others : (p : ℕ → Bool) (from free : ℕ) (r : ℕ × ℕ) (others : List (ℕ × ℕ)) (keys rest : List ℕ) → from ≤ free → r.1 < free → PassFrom p (from, r ∷ others, keys) → ((k : ℕ) → free ≤ k → has rest k ≡ has keys k) → PassFrom p (free, others, rest)
@@ -35,7 +36,7 @@ pub is_first_run : (p : ℕ → Bool) (begin from first last : ℕ) (r : ℕ × 
     → IsFirstRun p begin first last
 is_first_run p begin from first last r others keys rest ranges pass none a b d e taken same free end = record {
   begins = omega arith;
-  before = λ k low lt. grind (arith, none k, none_passed p from first r others keys ranges pass taken k);
+  before = none_passed p begin from first r others keys ranges pass none taken;
   passes = λ k low high. grind (arith, nat_tests, pass k, same k low, free k high);
   ends = grind (arith, nat_tests, pass (last + 1), same (last + 1), end, none_below (r.1 + 2) others (last + 1) ranges.3);
 }

@@ -1,4 +1,5 @@
-use Rattle.vic_tree.proofs.Words.{◌≡◌, ◌∙◌, ℕ, ◌+◌, ◌-◌, ◌<◌, ◌≤◌, ◌&&◌, drop, get_or, length, arith, nat_lt, ◌∷◌, ◌||◌, refl, sym, ap, true, false, List, not, nat_eq, eq-eqb, Bool, drop_all, drop_more, in_ranges, is_between, nat_tests, has, list_any_at, IsNonDecreasingBy-drop}
+use Rattle.vic_tree.proofs.Words.{◌≡◌, ◌∙◌, ℕ, ◌+◌, ◌-◌, ◌<◌, ◌≤◌, ◌&&◌, drop, get_or, length, arith, nat_lt, ◌∷◌, ◌||◌, or-false, le-ltb, refl, sym, ap, true, false, List, not, nat_eq, eq-eqb, Bool, drop_all, drop_more, in_ranges, is_between, nat_tests, has, list_any_at, IsNonDecreasingBy-drop}
+use Rattle.vic_tree.proofs.BoolLaws.{lt_yes}
 use Rattle.vic_tree.proofs.LeftLaws.{is_before_all, is_behind}
 use Rattle.vic_tree.proofs.RangeLaws.{in_pushed, inside_is}
 use Rattle.vic_tree.proofs.ranges.push_others.Goals as goal
@@ -19,12 +20,6 @@ turn : (old now new h : Bool) (first last from key k : ℕ) → from ≤ key + 1
     → now ≡ (old || (nat_lt k from && (is_between first last k && not h))) → new ≡ (now || (nat_lt from key && is_between from (key - 1) k))
     → new ≡ (old || (nat_lt k (key + 1) && (is_between first last k && not h)))
 turn old now new h first last from key k p q r none here is step = grind (arith, nat_tests)
-
-no_turn : (now b : Bool) (from key : ℕ) → key ≤ from → now ≡ (now || (nat_lt from key && b))
-no_turn now b from key le = grind (arith, nat_tests)
-
-a_turn : (now b : Bool) (from key : ℕ) → from < key → (now || b) ≡ (now || (nat_lt from key && b))
-a_turn now b from key lt = grind (arith, nat_tests)
 
 last_turn : (old now h : Bool) (first last from k : ℕ) → first ≤ from → (from ≤ k → h ≡ false) → now ≡ (old || (nat_lt k from && (is_between first last k && not h))) → (now || is_between from last k) ≡ (old || (is_between first last k && not h))
 last_turn old now h first last from k low none is = grind (arith, nat_tests)
@@ -57,8 +52,8 @@ loop-key-preserved c =
     let split : drop n kept ≡ key ∷ drop (n + 1) kept = drop_more kept n 0 lt in
     let none : (k : ℕ) → from ≤ k → k < key → has kept k ≡ false = λ k le less. sym (inv.passed k le) ∙ is_before_all (drop n kept) k (IsNonDecreasingBy-drop (λ (x : ℕ). x) n kept c.requires.order) (rw split (λ some. less)) in
     let step : (k : ℕ) → in_ranges c.if-from-key.ranges.items k ≡ (in_ranges old k || (nat_lt from key && is_between from (key - 1) k)) = λ k. elim c.if-from-key.branch [
-      | then-from-key+in_ok-push w ↦ rw (w.ranges-is, w.in_ok-push.ensures.items, w.new.ensures, in_pushed old from (key - 1) k) (a_turn _ _ from key w.if-from-key.true)
-      | else-from-key w ↦ rw w.ranges-is (no_turn _ _ from key w.if-from-key.false)
+      | then-from-key+in_ok-push w ↦ rw (w.ranges-is, w.in_ok-push.ensures.items, w.new.ensures, in_pushed old from (key - 1) k, lt_yes from key w.if-from-key.true) refl
+      | else-from-key w ↦ rw (w.ranges-is, le-ltb from key w.if-from-key.false) (sym (or-false (in_ranges old k)))
     ] in
     record {
       keys = λ k. turn _ _ _ (has kept k) c.args.first c.args.last from key k near inv.low i.1 (none k) (λ e. ap (has kept) e ∙ i.2) (inv.keys k) (step k);

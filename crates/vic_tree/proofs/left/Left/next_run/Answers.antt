@@ -31,10 +31,7 @@ loop-range-preserved c =
     let keys = c.loop-range.keys.now in
     record {
       from = omega arith;
-      none = λ p h k low lt. elim (cases_lt k c.loop-range.from) [
-        | inl below ↦ inv.none p h k low below
-        | inr le ↦ none_passed p _ _ r others keys ranges (same p h) (λ k low lt. free.taken k (omega arith) lt) k le lt
-      ];
+      none = λ p h. none_passed p _ _ _ r others keys ranges (same p h) (inv.none p h) (λ k low lt. free.taken k (omega arith) lt);
       same = λ p h. pass_others p _ _ r others keys _ (omega arith) (omega arith) (same p h) free.same;
       ranges = from_lower _ 0 others (omega arith) ranges.3;
       keys = free.keys;
