@@ -1,5 +1,5 @@
 -- The words of proofs, from one place: what files name from outside of the crate, and the definitions that several of them name.
-pub use Rattle.std.proofs.Common.{All, Bool, Box, Contains, Global, IfSome, List, None, Option, Some, [], ap, arith, cond, eq-eqb, eqb-true, false, filter, get_or, inl, inr, length, max, mod-eq_of_lt, nat_eq, not, pow-add, pow-suc, pow_pos, refl, rules, shr-shr, subst, suc, sym, take, true, zero, ℕ, ◌%◌, ◌&&◌, ◌*◌, ◌++◌, ◌+◌, ◌-◌, ◌/◌, ◌<◌, ◌==◌, ◌^◌, ◌||◌, ◌∙◌, ◌∷◌, ◌≡◌, ◌≢◌, ◌≤◌, ◌⊎◌}
+pub use Rattle.std.proofs.Common.{All, Bool, Box, Contains, Global, IfSome, List, None, Option, Some, [], ap, arith, cond, eq-eqb, eqb-true, false, filter, get_or, inl, inr, length, max, mod-eq_of_lt, nat_eq, not, pow-add, pow_pos, refl, rules, shr-shr, subst, suc, sym, take, true, zero, ℕ, ◌%◌, ◌&&◌, ◌*◌, ◌++◌, ◌+◌, ◌-◌, ◌/◌, ◌<◌, ◌==◌, ◌^◌, ◌||◌, ◌∙◌, ◌∷◌, ◌≡◌, ◌≢◌, ◌≤◌, ◌⊎◌}
 pub use Rattle.std.proofs.Math.Bool.{and_comm}
 pub use Rattle.std.proofs.Math.Nat.{add-mod_right, div-eq_of_lt}
 pub use Rattle.std.proofs.lemmas.Bool.{and_left, and_parts, cases_Bool, cases_eq, cases_lt, or_parts}
@@ -9,7 +9,7 @@ pub use Rattle.std.proofs.lemmas.Grind.{pow_more}
 pub use Rattle.std.proofs.lemmas.List.Elements.{All-contains, All-contains_itself, All-filter, All-push, Contains-push_cases}
 pub use Rattle.std.proofs.lemmas.List.Folds.{Any-from_list_any, list_any-append, list_any_at, list_any_more}
 pub use Rattle.std.proofs.lemmas.Map.Views.{any-filter_same}
-pub use Rattle.std.proofs.lemmas.Nat.{div-mul-add, div_below, mod-mul-add, mod-pow-add, mod_below, mod_low, mul-add-lt, one_shl, same_from_place, shl_whole, shr_below, shr_high, shr_split}
+pub use Rattle.std.proofs.lemmas.Nat.{div-mul-add, mod-mul-add, mod-pow-add, mod_below, mod_low, mul-add-lt, one_shl, same_from_place, shl_whole, shr_below, shr_high, shr_split}
 pub use Rattle.std.proofs.lemmas.Option.{IfSome_then}
 pub use Rattle.std.specs.List.{list_any}
 pub use Rattle.vic_frame.proofs.MaskLaws.{mod_mod_pow, mod_pow_more}
