@@ -69,10 +69,7 @@ pub record SameUids (P C Q D : ℕ → Type 0) : Type 0 where
 
 module _ (P C Q D : ℕ → Type 0) (expected : List ℕ) (same : SameUids P C Q D) where
   open_as : (u : ℕ) → (P u × (C u → ⊥)) ↔ (Q u × (D u → ⊥))
-  open_as u = (
-    (λ h. ((same.possible u).0 h.0, λ d. h.1 ((same.certain u).1 d))),
-    (λ h. ((same.possible u).1 h.0, λ c. h.1 ((same.certain u).0 c))),
-  )
+  open_as u = let p = same.possible u in let c = same.certain u in search arith
 
   pub absent_as : (u : ℕ) → ((has expected u ≡ true) × (P u → ⊥)) ↔ ((has expected u ≡ true) × (Q u → ⊥))
   absent_as u = ((λ h. (h.0, λ q. h.1 ((same.possible u).1 q))), (λ h. (h.0, λ p. h.1 ((same.possible u).0 p))))

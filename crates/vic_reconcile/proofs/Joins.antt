@@ -1,15 +1,9 @@
 -- One possible log more is joined.
-use Rattle.vic_reconcile.proofs.Words.{◌≡◌, ℕ, ◌<◌, List, [], ◌∷◌, ◌++◌, length, true, false, Option, Some, None, refl, sym, ap, subst, ◌∙◌, arith, inl, inr, ⊎_elim, ◌⊎◌, ◌||◌, MatchOption, cond, is_some, nat_eq, slice_get, nat_cmp, All, Contains, is_at, AllZip, both_ways, cases_eq, false_from_ne_true, false≢true, or_cases, list_any-append, map-append, All-push, Contains-append_left, Contains-push, has, SameUids, without_keys, is_open_in, LogLine, entries, has_cases, AreKeysOf, IsListOf, SameMembers, AreFacts, Reconciliation, IsFirstLog, IsFirstTold, IsCertainInNone, IsJoined, IsLeftBy, AreNoted, slice_get_within, get_or_from_slice_get, AllZip-long, all_zipped_more, slice_get-append, slice_get_seam, common_steps, ShownUid, ShowsCertain, uids_of, open_set, Place}
+use Rattle.vic_reconcile.proofs.Words.{◌≡◌, ℕ, ◌<◌, List, [], ◌∷◌, ◌++◌, length, true, false, Option, Some, None, refl, sym, ap, subst, ◌∙◌, arith, inl, inr, ⊎_elim, ◌⊎◌, MatchOption, cond, is_some, nat_eq, slice_get, nat_cmp, All, Contains, is_at, AllZip, both_ways, cases_eq, false≢true, list_any-append, map-append, All-push, Contains-append_left, Contains-push, has, SameUids, without_keys, is_open_in, LogLine, entries, AreKeysOf, IsListOf, SameMembers, AreFacts, Reconciliation, IsFirstLog, IsFirstTold, IsCertainInNone, IsJoined, IsLeftBy, AreNoted, slice_get_within, get_or_from_slice_get, AllZip-long, all_zipped_more, slice_get-append, slice_get_seam, common_steps, ShownUid, ShowsCertain, uids_of, open_set, Place, ne_eqb}
 use Rattle.std.specs.BTreeMap as map
 use Rattle.vic_verdict.specs.Possible as one
 use Rattle.vic_report.specs.Findings.{IsToldOf}
 use Rattle.vic_reconcile.proofs.Families.{IsCertainIn, IsPossibleLog, has_mapped}
-
--- ---- places in a list that grows
-
-match_option : {X : Type 0} (P Q : X → Type 0) (A B : Type 0) (o : Option X) → (A → B) → ((x : X) → P x → Q x) → MatchOption o A P → MatchOption o B Q
-match_option P Q A B None none some h = none h
-match_option P Q A B (Some x) none some h = some x h
 
 -- ---- the certain UIDs
 
@@ -50,23 +44,25 @@ told_first logs lines certain told u p l is shown none at c =
           subst (λ ls. ShowsCertain ls p.line u) same (subst (IsToldOf lines) c.2 (shown c.0 s c.1));
     }
 
+-- what was noted of a UID, by its place
+abbrev IsNoted : ℕ → List ShownUid → ℕ → Option Place → Type 0
+IsNoted log told u o = MatchOption o (has (uids_of told) u ≡ false) (λ p. (p.log ≡ log) × Contains told (record { uid = u; line = p.line }))
+
 certain_more : (logs : List (List LogLine)) (lines : List LogLine) (certain : List ℕ) (told : List ShownUid) (old new : map.BTreeMap ℕ Place) (u : ℕ)
     → IsListOf (one.IsCertainUid (entries lines)) certain → uids_of told ≡ certain → All (IsToldOf lines) told
     → AreNoted old new (length logs) told
     → MatchOption (map.get nat_cmp old u) (IsCertainInNone logs u) (IsFirstTold logs u)
     → MatchOption (map.get nat_cmp new u) (IsCertainInNone (logs ++ lines ∷ []) u) (IsFirstTold (logs ++ lines ∷ []) u)
-certain_more logs lines certain told old new u l is shown n before = at (map.get nat_cmp old u) refl before
+certain_more logs lines certain told old new u l is shown n before = at (map.get nat_cmp old u) (map.get nat_cmp new u) (n.kept u) (n.others u) before
   where
     more : List (List LogLine)
     more = logs ++ lines ∷ []
 
-    at : (o : Option Place) → map.get nat_cmp old u ≡ o → MatchOption o (IsCertainInNone logs u) (IsFirstTold logs u) → MatchOption (map.get nat_cmp new u) (IsCertainInNone more u) (IsFirstTold more u)
-    at (Some p) e h = subst (λ o. MatchOption o (IsCertainInNone more u) (IsFirstTold more u)) (sym (n.kept u p e)) (told_later logs (lines ∷ []) u p h)
-    at None e h =
-        match_option (λ p. (p.log ≡ length logs) × Contains told (record { uid = u; line = p.line })) (IsFirstTold more u) (has (uids_of told) u ≡ false) (IsCertainInNone more u) (map.get nat_cmp new u)
-        (λ no. All-push (λ ls. IsCertainIn u ls → ⊥) logs lines h (λ c. both_ways (has certain u) (subst (λ us. has us u ≡ false) is no) ((l.members u).1 c)))
-        (λ p w. told_first logs lines certain told u p l is shown h w.0 w.1)
-        (n.others u e)
+    at : (o x : Option Place) → ((p : Place) → o ≡ Some p → x ≡ Some p) → (o ≡ None → IsNoted (length logs) told u x)
+        → MatchOption o (IsCertainInNone logs u) (IsFirstTold logs u) → MatchOption x (IsCertainInNone more u) (IsFirstTold more u)
+    at (Some p) x kept others h = subst (λ o. MatchOption o (IsCertainInNone more u) (IsFirstTold more u)) (sym (kept p refl)) (told_later logs (lines ∷ []) u p h)
+    at None None kept others h = All-push (λ ls. IsCertainIn u ls → ⊥) logs lines h (λ c. both_ways (has certain u) (subst (λ us. has us u ≡ false) is (others refl)) ((l.members u).1 c))
+    at None (Some p) kept others h = let w = others refl in told_first logs lines certain told u p l is shown h w.0 w.1
 
 -- ---- what the log leaves open
 
@@ -98,24 +94,9 @@ joined_more expected logs lines old new set besides certain keys told p facts is
 
 -- ---- what slots tell is noted
 
-not_at : (k u : ℕ) → (u ≡ k → ⊥) → is_at (nat_cmp k) u ≡ false
-not_at k u n = let m : k ≡ u → ⊥ = λ e. n (sym e) in grind (arith, common_steps, m)
-
-is_at_same : (k u : ℕ) → u ≡ k → is_at (nat_cmp k) u ≡ true
-is_at_same k u e = let f : k ≡ u = sym e in grind (arith, common_steps, f)
-
 has_other : (told : List ShownUid) (one : ShownUid) (u : ℕ) → (u ≡ one.uid → ⊥) → has (uids_of told) u ≡ false → has (uids_of (told ++ one ∷ [])) u ≡ false
-has_other told one u other none = false_from_ne_true _ (λ e.
-    ⊎_elim (λ h. both_ways (has (uids_of told) u) none h)
-    (λ h. ⊎_elim (λ same. other same) (λ no. false≢true no) (has_cases u one.uid [] h))
-    (or_cases _ _ (sym (has_more told one u) ∙ e)))
-  where
-    has_more : (told : List ShownUid) (one : ShownUid) (u : ℕ) → has (uids_of (told ++ one ∷ [])) u ≡ (has (uids_of told) u || has (one.uid ∷ []) u)
-    has_more told one u = ap (λ us. has us u) (map-append (λ (s : ShownUid). s.uid) told (one ∷ [])) ∙ list_any-append (nat_eq u) (uids_of told) (one.uid ∷ [])
-
--- what was noted of a UID, by its place
-abbrev IsNoted : ℕ → List ShownUid → ℕ → Option Place → Type 0
-IsNoted log told u o = MatchOption o (has (uids_of told) u ≡ false) (λ p. (p.log ≡ log) × Contains told (record { uid = u; line = p.line }))
+has_other told one u other none =
+    ap (λ us. has us u) (map-append (λ (s : ShownUid). s.uid) told (one ∷ [])) ∙ (list_any-append (nat_eq u) (uids_of told) (one.uid ∷ []) ∙ rw (none, ne_eqb u one.uid other) refl)
 
 -- stays so, unless it is the next one's and has no place
 noted_same : (o : Option Place) (log u : ℕ) (told : List ShownUid) (one : ShownUid) → (u ≡ one.uid → is_some o ≡ true) → IsNoted log told u o → IsNoted log (told ++ one ∷ []) u o
@@ -129,27 +110,24 @@ noted_before old now log told one there n = record {
   others = λ u e. noted_same (map.get nat_cmp now u) log u told one (λ same. ap (λ v. is_some (map.get nat_cmp now v)) same ∙ there) (n.others u e);
 }
 
+-- what a key has after a place was put at one
+put_at : (k u : ℕ) (place : Place) (old new : Option Place) → new ≡ cond (is_at (nat_cmp k) u) (Some place) old → ((u ≡ k) × (new ≡ Some place)) ⊎ ((u ≡ k → ⊥) × (new ≡ old))
+put_at k u place old new e = ⊎_elim
+    (λ same. inl (same, grind (arith, common_steps, e, same)))
+    (λ other. inr (other, grind (arith, common_steps, e, other)))
+    (cases_eq u k)
+
 -- one that has none gets one
 pub noted_next : (old now new : map.BTreeMap ℕ Place) (log : ℕ) (told : List ShownUid) (one : ShownUid) → is_some (map.get nat_cmp now one.uid) ≡ false
     → ((u : ℕ) → map.get nat_cmp new u ≡ cond (is_at (nat_cmp one.uid) u) (Some (record { log = log; line = one.line })) (map.get nat_cmp now u))
     → AreNoted old now log told → AreNoted old new log (told ++ one ∷ [])
 noted_next old now new log told one none is n = record {
-  kept = λ u p e. apart u (λ same. some_none (map.get nat_cmp now u) p (n.kept u p e) (ap (λ v. is_some (map.get nat_cmp now v)) same ∙ none)) ∙ n.kept u p e;
-  others = λ u e. at u (n.others u e) (cases_eq u one.uid);
+  kept = λ u p e. ⊎_elim
+      (λ w. absurd (false≢true (sym none ∙ (ap (λ v. is_some (map.get nat_cmp now v)) (sym w.0) ∙ ap is_some (n.kept u p e)))))
+      (λ w. w.1 ∙ n.kept u p e)
+      (put_at one.uid u _ _ _ (is u));
+  others = λ u e. ⊎_elim
+      (λ w. subst (IsNoted log (told ++ one ∷ []) u) (sym w.1) (refl, subst (λ v. Contains (told ++ one ∷ []) (record { uid = v; line = one.line })) (sym w.0) (Contains-push told one)))
+      (λ w. subst (IsNoted log (told ++ one ∷ []) u) (sym w.1) (noted_same (map.get nat_cmp now u) log u told one (λ same. absurd (w.0 same)) (n.others u e)))
+      (put_at one.uid u _ _ _ (is u));
 }
-  where
-    place : Place
-    place = record { log = log; line = one.line }
-
-    some_none : (o : Option Place) (p : Place) → o ≡ Some p → is_some o ≡ false → ⊥
-    some_none o p e f = false≢true (sym f ∙ ap is_some e)
-
-    apart : (u : ℕ) → (u ≡ one.uid → ⊥) → map.get nat_cmp new u ≡ map.get nat_cmp now u
-    apart u other = is u ∙ ap (λ b. cond b (Some place) (map.get nat_cmp now u)) (not_at one.uid u other)
-
-    here : (u : ℕ) → u ≡ one.uid → map.get nat_cmp new u ≡ Some place
-    here u same = is u ∙ ap (λ b. cond b (Some place) (map.get nat_cmp now u)) (is_at_same one.uid u same)
-
-    at : (u : ℕ) → IsNoted log told u (map.get nat_cmp now u) → (u ≡ one.uid) ⊎ (u ≡ one.uid → ⊥) → IsNoted log (told ++ one ∷ []) u (map.get nat_cmp new u)
-    at u h (inr other) = subst (IsNoted log (told ++ one ∷ []) u) (sym (apart u other)) (noted_same (map.get nat_cmp now u) log u told one (λ same. absurd (other same)) h)
-    at u h (inl same) = subst (IsNoted log (told ++ one ∷ []) u) (sym (here u same)) (refl, subst (λ v. Contains (told ++ one ∷ []) (record { uid = v; line = one.line })) (sym same) (Contains-push told one))

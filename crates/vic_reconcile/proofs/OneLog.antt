@@ -9,9 +9,8 @@ use Rattle.vic_reconcile.proofs.Families.{IsCertainIn, IsPossibleIn}
 
 -- a family of one log is one population
 of_one : (lines : List LogLine) (family : List (List ℕ)) → FitsLogs family (lines ∷ []) → (p : List ℕ) × FitsLog p lines × (family ≡ p ∷ [])
-of_one lines [] f = absurd f
 of_one lines (p ∷ []) f = (p, f.0, refl)
-of_one lines (p ∷ q ∷ family) f = absurd f.1
+of_one lines _ f = absurd assumption
 
 pub one_possible_uid : (lines : List LogLine) (u : ℕ) → IsPossibleUid (lines ∷ []) u ↔ IsPossibleIn u lines
 one_possible_uid lines u = (

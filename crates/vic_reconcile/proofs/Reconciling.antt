@@ -1,8 +1,8 @@
 -- The findings of joined logs, and that none of them means that everything is there.
-use Rattle.vic_reconcile.proofs.Words.{◌≡◌, ℕ, List, [], ◌∷◌, ◌++◌, get_or, map, Bool, true, false, Option, Some, None, refl, sym, ap, subst, ◌∙◌, arith, inl, inr, ⊎_elim, ◌⊎◌, ◌||◌, IfNone, IfSome, MatchOption, is_some, nat_eq, is_eq, nat_cmp, All, Any, IsStrictlyIncreasing, both_ways, cases_Bool, cases_eq, false≢true, or_cases, or_left, or_right, All-head, All-tail, list_any-append, IsUid, has, BitMask, SameUids, is_open_in, LogLine, entries, IsUid-member, has_at, AreDifferences, IsFailing, IsListOf, IsFirstMask, NoSuch, all_findings, doubtful_list, none_of, DoubtfulUid, Findings, UnlistedUid, Reconciliation, ArePossible, FitsLog, FitsLogs, IsCertainUid, IsPossibleUid, is_somewhere, AreFindings, AreNone, IsAbsent, IsDoubtful, IsFirstTold, IsToldOf, IsUnlisted, IsUnsettled, IsUnsettledWith, IsWhole, IsCertainInNone, IsJoined, IsFirstLeft, IsLeftToAsk, is_left, all_zipped_more, eq_by_cmp, is_member, common_steps, Differences, IsCertainUid-either, IsPossibleUid-either, IsUid-in, lies_in-uid_in, mask_of, mask_of-alone, mask_of-value, uid_in}
+use Rattle.vic_reconcile.proofs.Words.{◌≡◌, ℕ, List, [], ◌∷◌, ◌++◌, get_or, map, Bool, true, false, Option, Some, None, refl, sym, ap, subst, ◌∙◌, arith, ⊎_elim, ◌||◌, IfNone, IfSome, MatchOption, is_some, nat_eq, is_eq, nat_cmp, All, IsStrictlyIncreasing, both_ways, cases_Bool, cases_eq, or_left, list_any-append, IsUid, has, BitMask, SameUids, is_open_in, LogLine, IsUid-member, has_at, AreDifferences, IsFailing, IsListOf, IsFirstMask, NoSuch, all_findings, doubtful_list, none_of, DoubtfulUid, Findings, UnlistedUid, Reconciliation, ArePossible, FitsLog, FitsLogs, IsCertainUid, IsPossibleUid, is_somewhere, AreFindings, AreNone, IsAbsent, IsDoubtful, IsFirstTold, IsToldOf, IsUnlisted, IsUnsettled, IsUnsettledWith, IsWhole, IsCertainInNone, IsJoined, IsFirstLeft, IsLeftToAsk, is_left, all_zipped_more, eq_by_cmp, is_member, common_steps, Differences, IsUid-in, lies_in-uid_in, mask_of, mask_of-alone, mask_of-value, uid_in, length, take-append_seam, true_from_ne_false, map-id, All-take, slice_get-get_or, slice_get_read, slice_get-append, listed}
 use Rattle.std.specs.BTreeMap as tree
 use Rattle.vic_reconcile.specs.declared.findings.Unsettled.{Unsettled}
-use Rattle.vic_reconcile.proofs.Families.{has_mapped, IsCertainIn, IsCertainUid-iff, IsPossibleIn, IsPossibleLog, IsPossibleUid-iff, all_possible, any_cases, any_here, any_none, any_there, certain_by}
+use Rattle.vic_reconcile.proofs.Families.{has_mapped, IsCertainIn, IsCertainUid-iff, IsPossibleLog, all_possible, any_at, certain_by, somewhere_in}
 use Rattle.vic_reconcile.proofs.Telling.{all_open_masks, first_possible, joined_facts, listed_as}
 
 -- ---- the keys of the map
@@ -41,7 +41,7 @@ asked_as expected logs r certain None x j l none e s = subst (λ y. MatchOption 
 asked_as expected logs r certain (Some m) None j l first e s = absurd s
 asked_as expected logs r certain (Some m) (Some x) j l first e s = record {
   mask = subst (IsFirstMask (IsUnsettled expected logs)) (sym s.mask) first;
-  open_masks = all_open_masks logs logs r.left.items certain x.masks.items (λ u i. l.members u) (λ u a. certain_by logs u a) j.left s.masks;
+  open_masks = all_open_masks logs logs r.left.items certain x.masks.items (λ u i. l.members u) (λ k d lt u c. certain_by logs u (any_at (IsCertainIn u) logs k _ (slice_get-get_or logs k d lt) c)) j.left s.masks;
 }
 
 pub findings_of : (expected : List ℕ) (logs : List (List LogLine)) (r : Reconciliation) (all : List (ℕ × ℕ)) (certain some doubtful : List ℕ) (d : Differences) (f : Findings)
@@ -76,61 +76,23 @@ findings_of expected logs r all certain some doubtful d f j rising members same 
 
 -- ---- none of them
 
-any_either : (P : List LogLine → Type 0) (logs : List (List LogLine)) → ((l : List LogLine) → IsPossibleLog l → P l ⊎ (P l → ⊥)) → All IsPossibleLog logs → Any P logs ⊎ (Any P logs → ⊥)
-any_either P [] either all = inr (any_none P)
-any_either P (l ∷ logs) either all =
-    ⊎_elim
-    (λ (h : P l). inl (any_here P l logs h))
-    (λ (n : P l → ⊥). ⊎_elim
-    (λ a. inl (any_there P l logs a))
-    (λ (m : Any P logs → ⊥). inr (λ a. ⊎_elim n m (any_cases P l logs a)))
-    (any_either P logs either (All-tail IsPossibleLog l logs all)))
-    (either l (All-head IsPossibleLog l logs all))
-
 pub nothing_is_whole : (expected : List ℕ) (logs : List (List LogLine)) → ArePossible logs → NoSuch (IsAbsent expected logs) → NoSuch (IsUnlisted expected logs) → NoSuch (IsUnsettled expected logs) → NoSuch (IsDoubtful expected logs) → IsWhole expected logs
-nothing_is_whole expected logs p no_absent no_unlisted no_unsettled no_doubtful = (
-  p,
-  λ family fits u. (
-    (λ h. expected_of u (family, fits, h)),
-    (λ h. certain_of u h family fits),
-  ),
+nothing_is_whole expected logs possible no_absent no_unlisted no_unsettled no_doubtful = (
+  possible,
+  λ family fits u. (expected_of family fits u, certain_of family fits u),
 )
   where
-    all : All IsPossibleLog logs
-    all = all_possible logs p.0 p.1
-
-    certain_either : (u : ℕ) → Any (IsCertainIn u) logs ⊎ (Any (IsCertainIn u) logs → ⊥)
-    certain_either u = any_either (IsCertainIn u) logs (λ l. IsCertainUid-either (entries l) u) all
-
-    -- a UID that may be there is expected
-    expected_of : (u : ℕ) → IsPossibleUid logs u → has expected u ≡ true
-    expected_of u h =
-        let a = (IsPossibleUid-iff logs u all).0 h in
+    -- a UID that may be there is expected: otherwise it would be unlisted or unsettled
+    expected_of : (family : List (List ℕ)) → FitsLogs family logs → (u : ℕ) → is_somewhere family u ≡ true → has expected u ≡ true
+    expected_of family fits u h = true_from_ne_false (has expected u) (λ e.
+        let a = somewhere_in logs family u fits h in
         let i = IsUid-member a.4.0 u a.4.1 a.4.3 in
-        ⊎_elim
-        (λ e. e)
-        (λ e. ⊎_elim
-        (λ c. absurd (no_unlisted u (certain_by logs u c, e)))
-        (λ n. absurd (no_unsettled (mask_of u) (
-          omega arith,
-          mask_of-value u,
-          λ w iw k.
-              let same = mask_of-alone u w i iw k in
-              subst (λ x. (IsPossibleUid logs x × (IsCertainUid logs x → ⊥)) × (has expected x ≡ false)) (sym same) ((h, λ c. n ((IsCertainUid-iff logs u all).0 c)), e),
-        )))
-        (certain_either u))
-        (cases_Bool (has expected u))
+        no_unsettled (mask_of u) (omega arith, mask_of-value u, λ w iw k. rw (mask_of-alone u w i iw k) (((family, fits, h), λ c. no_unlisted u (c, e)), e)))
 
-    -- an expected UID is certain
-    certain_of : (u : ℕ) → has expected u ≡ true → IsCertainUid logs u
-    certain_of u h =
-        ⊎_elim
-        (λ c. certain_by logs u c)
-        (λ n. ⊎_elim
-        (λ a. absurd (no_doubtful u (h, ((IsPossibleUid-iff logs u all).1 a, λ c. n ((IsCertainUid-iff logs u all).0 c)))))
-        (λ m. absurd (no_absent u (h, λ x. m ((IsPossibleUid-iff logs u all).0 x))))
-        (any_either (IsPossibleIn u) logs (λ l. IsPossibleUid-either (entries l) u) all))
-        (certain_either u)
+    -- an expected UID is certain: otherwise it would be absent or doubtful
+    certain_of : (family : List (List ℕ)) → FitsLogs family logs → (u : ℕ) → has expected u ≡ true → is_somewhere family u ≡ true
+    certain_of family fits u h = true_from_ne_false (is_somewhere family u) (λ none.
+        no_absent u (h, λ p. no_doubtful u (h, (p, λ c. both_ways (is_somewhere family u) none (c family fits)))))
 
 pub none_is_whole : (expected : List ℕ) (logs : List (List LogLine)) (f : Findings) → ArePossible logs → AreFindings expected logs f → AreNone f → IsWhole expected logs
 none_is_whole expected logs f p found none =
@@ -141,13 +103,9 @@ none_is_whole expected logs f p found none =
     (none_of (IsDoubtful expected logs) (subst (λ (xs : List DoubtfulUid). IsListOf (IsDoubtful expected logs) (map (λ (s : DoubtfulUid). s.uid) xs)) none.doubtful found.doubtful))
 
 -- a list of what there is none of is empty
-none_list : (P : ℕ → Type 0) (us : List ℕ) → NoSuch P → IsListOf P us → us ≡ []
-none_list P [] none l = refl
-none_list P (u ∷ us) none l = absurd (none u ((l.members u).0 (has_at u u us refl)))
-
-no_uids : {X : Type 0} (uid : X → ℕ) (xs : List X) → map uid xs ≡ [] → xs ≡ []
-no_uids uid [] h = refl
-no_uids uid (x ∷ xs) h = cc
+none_list : {X : Type 0} (P : ℕ → Type 0) (uid : X → ℕ) (xs : List X) → NoSuch P → IsListOf P (map uid xs) → xs ≡ []
+none_list P uid [] none l = refl
+none_list P uid (x ∷ xs) none l = absurd (none (uid x) ((l.members (uid x)).0 (has_at (uid x) (uid x) (map uid xs) refl)))
 
 no_mask : (expected : List ℕ) (logs : List (List LogLine)) (x : Option Unsettled) → NoSuch (IsUnsettled expected logs) → MatchOption x (NoSuch (IsUnsettled expected logs)) (IsUnsettledWith expected logs) → x ≡ None
 no_mask expected logs None none h = refl
@@ -158,33 +116,24 @@ whole_has_none expected logs f found w =
     let somewhere : (u : ℕ) → has expected u ≡ true → IsCertainUid logs u = λ u h family fits. (w.1 family fits u).1 h in
     let listed : (u : ℕ) → IsPossibleUid logs u → has expected u ≡ true = λ u p. (w.1 p.0 p.1 u).0 p.2 in
     record {
-      absent = none_list (IsAbsent expected logs) f.absent.items (λ u h. h.1 (w.0.0, w.0.1, somewhere u h.0 w.0.0 w.0.1)) found.absent;
-      unlisted = no_uids _ f.unlisted.items (none_list (IsUnlisted expected logs) _ (λ u h. both_ways (has expected u) h.1 (listed u (w.0.0, w.0.1, h.0 w.0.0 w.0.1))) found.unlisted);
+      absent = none_list (IsAbsent expected logs) (λ u. u) f.absent.items (λ u h. h.1 (w.0.0, w.0.1, somewhere u h.0 w.0.0 w.0.1)) (rw (map-id f.absent.items) found.absent);
+      unlisted = none_list (IsUnlisted expected logs) _ f.unlisted.items (λ u h. both_ways (has expected u) h.1 (listed u (w.0.0, w.0.1, h.0 w.0.0 w.0.1))) found.unlisted;
       unsettled = no_mask expected logs f.unsettled (λ m h.
           let u = uid_in m in
           let x = h.2 u (IsUid-in m h.0 h.1) (lies_in-uid_in m h.0 h.1) in
           both_ways (has expected u) x.1 (listed u x.0.0)) found.unsettled;
-      doubtful = no_uids _ f.doubtful.items (none_list (IsDoubtful expected logs) _ (λ u h. h.1.1 (somewhere u h.0)) found.doubtful);
+      doubtful = none_list (IsDoubtful expected logs) _ f.doubtful.items (λ u h. h.1.1 (somewhere u h.0)) found.doubtful;
     }
 
 -- ---- one log more
 
--- a family of one log more has a family of the others
-front : (logs : List (List LogLine)) (lines : List LogLine) (family : List (List ℕ)) → FitsLogs family (logs ++ lines ∷ []) → (f : List (List ℕ)) × FitsLogs f logs × ((u : ℕ) → is_somewhere f u ≡ true → is_somewhere family u ≡ true)
-front [] lines family fits = ([], tt, λ u h. absurd (false≢true h))
-front (l ∷ logs) lines [] fits = absurd fits
-front (l ∷ logs) lines (p ∷ family) fits =
-    let r = front logs lines family fits.1 in (
-      p ∷ r.0,
-      (fits.0, r.1),
-      λ u h. ⊎_elim
-          (λ a. or_left (has p u) (is_somewhere family u) a)
-          (λ b. or_right (has p u) (is_somewhere family u) (r.2 u b))
-          (or_cases (has p u) (is_somewhere r.0 u) h),
-    )
-
 pub certain_later : (logs : List (List LogLine)) (lines : List LogLine) (u : ℕ) → IsCertainUid logs u → IsCertainUid (logs ++ lines ∷ []) u
-certain_later logs lines u c family fits = let r = front logs lines family fits in r.2 u (c r.0 r.1)
+certain_later logs lines u c family fits =
+    let more = logs ++ lines ∷ [] in
+    let all = subst (All IsPossibleLog) (take-append_seam logs (lines ∷ [])) (All-take IsPossibleLog (length logs) more (all_possible more family fits)) in
+    let a = (IsCertainUid-iff logs u all).0 c in
+    let there = slice_get_read logs (length logs) a.0 a.1 refl a.2 (sym a.3) in
+    certain_by more u (any_at (IsCertainIn u) more a.0 a.1 (sym (slice_get-append logs (lines ∷ []) a.0 a.2) ∙ there) a.4) family fits
 
 pub possible_later : (logs : List (List LogLine)) (lines : List LogLine) (u : ℕ) → IsPossibleLog lines → IsPossibleUid logs u → IsPossibleUid (logs ++ lines ∷ []) u
 possible_later logs lines u p h = (

@@ -1,10 +1,10 @@
 -- What surveys tell together is what their logs tell.
-use Rattle.vic_reconcile.proofs.Words.{◌≡◌, ℕ, ◌+◌, List, [], ◌∷◌, take, drop, Bool, true, false, refl, sym, subst, ◌∙◌, arith, inl, inr, ⊎_elim, ◌↔◌, MatchOption, All, Any, Contains, AllZip, list_any, IsStrictlyIncreasing, and_from, and_parts, both_ways, or_cases, or_left, or_right, take-append-drop, All-cons, All-contains, All-head, Any-from_list_any, list_any-from_Any, IsUid, has, BitMask, lies_in, SameUids, without_keys, is_open_in, LogLine, AreDifferences, IsFailing, IsListOf, SameMembers, IsFirstMask, NoSuch, AreFacts, AreListed, all_findings, doubtful_list, list_as, none_of, IsCertainUid, IsPossibleUid, IsAbsent, IsDoubtful, IsUnlisted, IsUnsettled, IsWhole, AreAll, IsOpenMask, held, Entry, Differences, Contradiction, IsContradiction, IsPossible, IsUid-in, lies_in-uid_in, uid_in, IsPossible-front, AreFindingsBy, AreNoneOf, AreOpenIn, AreTogether, IsAmong, IsSurvey, IsToldBy, IsUnsettledBy, MayBe}
+use Rattle.vic_reconcile.proofs.Words.{◌≡◌, ℕ, ◌+◌, List, [], ◌∷◌, take, drop, Bool, true, false, refl, sym, subst, ◌∙◌, inl, inr, ⊎_elim, ◌↔◌, MatchOption, All, Any, Contains, AllZip, list_any, IsStrictlyIncreasing, and_from, and_parts, both_ways, or_cases, or_left, or_right, take-append-drop, All-contains, All-head, Any-from_list_any, list_any-from_Any, IsUid, has, BitMask, lies_in, SameUids, without_keys, is_open_in, LogLine, AreDifferences, IsFailing, IsListOf, SameMembers, IsFirstMask, NoSuch, AreFacts, AreListed, all_findings, doubtful_list, list_as, none_of, IsCertainUid, IsPossibleUid, IsAbsent, IsDoubtful, IsUnlisted, IsUnsettled, IsWhole, AreAll, IsOpenMask, held, Entry, Differences, Contradiction, IsContradiction, IsPossible, IsUid-in, lies_in-uid_in, uid_in, IsPossible-front, AreFindingsBy, AreNoneOf, AreOpenIn, AreTogether, IsAmong, IsSurvey, IsToldBy, IsUnsettledBy, MayBe, ◌⊎◌, slice_get-get_or}
 use Rattle.vic_reconcile.specs.declared.surveys.PlainFindings.{PlainFindings}
 use Rattle.vic_reconcile.specs.declared.surveys.Survey.{Survey}
-use Rattle.vic_reconcile.proofs.Families.{IsCertainIn, IsCertainUid-iff, IsPossibleIn, IsPossibleLog, IsPossibleUid-iff, certain_by, family_of, any_zip, any_back, certain_is_possible}
+use Rattle.vic_reconcile.proofs.Families.{IsCertainIn, IsCertainUid-iff, IsPossibleLog, family_of, any_back, any_zip, beside, certain_is_possible}
 use Rattle.vic_reconcile.proofs.Reconciling.{nothing_is_whole}
-use Rattle.vic_reconcile.proofs.Telling.{IsOpenIn, open_or_certain, open_possible}
+use Rattle.vic_reconcile.proofs.Telling.{IsOpenIn, possible_iff}
 
 -- ---- the survey of a log
 
@@ -34,9 +34,7 @@ surveyed_masks lines s ms a is = (
 -- ---- what is told together
 
 possible_logs : (logs : List (List LogLine)) (surveys : List (List ℕ × List BitMask)) → AllZip IsToldBy logs surveys → All IsPossibleLog logs
-possible_logs [] surveys z = λ k d lt. absurd (omega (arith, lt))
-possible_logs (l ∷ logs) [] z = absurd z
-possible_logs (l ∷ logs) (s ∷ surveys) z = All-cons IsPossibleLog l logs z.0.possible (possible_logs logs surveys z.1)
+possible_logs logs surveys z = λ k d lt. (beside IsToldBy logs surveys k _ z (slice_get-get_or logs k d lt)).2.possible
 
 certain_same : (logs : List (List LogLine)) (certain : List ℕ) (masks : List BitMask) (u : ℕ) → AreTogether logs certain masks → IsAmong certain u ↔ IsCertainUid logs u
 certain_same logs certain masks u t =
@@ -51,21 +49,21 @@ HasMask u s = (m : BitMask) × Contains s.1 m × (lies_in m u ≡ true)
 
 possible_same : (logs : List (List LogLine)) (certain : List ℕ) (masks : List BitMask) (u : ℕ) → AreTogether logs certain masks → IsUid u → MayBe certain masks u ↔ IsPossibleUid logs u
 possible_same logs certain masks u t i = (
-  (λ h. ⊎_elim
-      (λ c. certain_is_possible logs u all ((certain_same logs certain masks u t).0 c))
-      (λ l. w.1 (open_possible logs u (in_mask (Any-from_list_any (λ m. lies_in m u) masks l))))
-      (or_cases (has certain u) (list_any (λ m. lies_in m u) masks) h)),
+  (λ h. possible.1 (⊎_elim
+      (λ c. inr (same.0 c))
+      (λ l. inl (in_mask (Any-from_list_any (λ m. lies_in m u) masks l)))
+      (or_cases (has certain u) (list_any (λ m. lies_in m u) masks) h))),
   (λ p. ⊎_elim
       (λ o. or_right (has certain u) (list_any (λ m. lies_in m u) masks) (of_mask (any_zip IsToldBy (IsOpenIn u) (HasMask u) logs t.surveys mask_there t.each o)))
-      (λ c. or_left (has certain u) (list_any (λ m. lies_in m u) masks) ((certain_same logs certain masks u t).1 (certain_by logs u c)))
-      (open_or_certain logs u all (w.0 p))),
+      (λ c. or_left (has certain u) (list_any (λ m. lies_in m u) masks) (same.1 c))
+      (possible.0 p)),
 )
   where
-    all : All IsPossibleLog logs
-    all = possible_logs logs t.surveys t.each
+    same : IsAmong certain u ↔ IsCertainUid logs u
+    same = certain_same logs certain masks u t
 
-    w : IsPossibleUid logs u ↔ Any (IsPossibleIn u) logs
-    w = IsPossibleUid-iff logs u all
+    possible : IsPossibleUid logs u ↔ (Any (IsOpenIn u) logs ⊎ IsCertainUid logs u)
+    possible = possible_iff logs u (possible_logs logs t.surveys t.each)
 
     in_mask : Any (λ m. lies_in m u ≡ true) masks → Any (IsOpenIn u) logs
     in_mask a = any_back IsToldBy (IsOpenIn u) (λ s. Contains s.1 a.1) logs t.surveys (λ lines s told c.

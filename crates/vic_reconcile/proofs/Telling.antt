@@ -1,19 +1,16 @@
 -- What joined logs tell, by what is kept of them.
-use Rattle.vic_reconcile.proofs.Words.{◌≡◌, ℕ, List, [], ◌∷◌, true, false, not, Option, Some, None, refl, sym, subst, ◌∙◌, arith, inl, inr, ⊎_elim, ◌↔◌, ◌⊎◌, MatchOption, is_some, slice_get, nat_cmp, All, Any, IsSomeAnd, length-take, get_or-take, AllPass, AllZip, IsStrictlyIncreasing, and_from, and_parts, both_ways, false≢true, not-true, not_from_false, false_from_ne_true, list_any_none, IsUid, has, OpenMasks, SameUids, has_key, without_keys, is_open_in, LogLine, entries, IsListOf, AreFacts, AreListed, DoubtfulUid, Reconciliation, IsCertainUid, IsPossibleUid, AreOpenMasksOf, IsFirstPossible, IsFirstTold, IsCertainInNone, IsJoined, IsLeftBy, AreOpenBesides, IsFirstLeft, is_left, slice_get_within, get_or_from_slice_get, list_any-from_Any, Any-from_list_any, AllZip-left, AllZip-right, MatchOption-at_some, IsCertainUid-either, Place}
+use Rattle.vic_reconcile.proofs.Words.{◌≡◌, ℕ, List, [], ◌∷◌, true, false, not, Option, Some, None, refl, sym, subst, ◌∙◌, arith, inl, inr, ⊎_elim, ◌↔◌, ◌⊎◌, MatchOption, is_some, nat_cmp, All, Any, length-take, get_or-take, AllPass, AllZip, IsStrictlyIncreasing, and_from, and_parts, both_ways, false≢true, not-true, not_from_false, false_from_ne_true, list_any_none, IsUid, has, OpenMasks, SameUids, has_key, without_keys, is_open_in, LogLine, entries, IsListOf, AreFacts, AreListed, DoubtfulUid, Reconciliation, IsCertainUid, IsPossibleUid, AreOpenMasksOf, IsFirstPossible, IsFirstTold, IsCertainInNone, IsJoined, IsLeftBy, AreOpenBesides, IsFirstLeft, is_left, slice_get_within, get_or_from_slice_get, list_any-from_Any, Any-from_list_any, IsCertainUid-either, Place, All-head, All-tail}
 use Rattle.std.specs.BTreeMap as map
 use Rattle.vic_verdict.specs.Differences as one
-use Rattle.vic_reconcile.proofs.Families.{IsCertainIn, IsCertainUid-iff, IsPossibleIn, IsPossibleLog, IsPossibleUid-iff, any_here, any_there, certain_by, any_zip, any_back, any_at, certain_is_possible}
+use Rattle.vic_reconcile.proofs.Families.{IsCertainIn, IsCertainUid-iff, IsPossibleIn, IsPossibleLog, IsPossibleUid-iff, any_at, any_back, any_zip, beside, beside_back, certain_by, certain_is_possible}
 
 -- ---- the certain UIDs
-
-none_any : (P : List LogLine → Type 0) (logs : List (List LogLine)) → All (λ lines. P lines → ⊥) logs → Any P logs → ⊥
-none_any P logs none a = none a.0 a.1 a.2 (subst P (sym a.3) a.4)
 
 pub certain_iff : (expected : List ℕ) (logs : List (List LogLine)) (r : Reconciliation) (u : ℕ) → IsJoined expected logs r → (is_some (map.get nat_cmp r.certain u) ≡ true) ↔ IsCertainUid logs u
 certain_iff expected logs r u j = at (map.get nat_cmp r.certain u) (j.certain u)
   where
     at : (o : Option Place) → MatchOption o (IsCertainInNone logs u) (IsFirstTold logs u) → (is_some o ≡ true) ↔ IsCertainUid logs u
-    at None none = ((λ h. absurd (false≢true h)), (λ c. absurd (none_any (IsCertainIn u) logs none ((IsCertainUid-iff logs u j.possible).0 c))))
+    at None none = ((λ h. absurd (false≢true h)), (λ c. let a = (IsCertainUid-iff logs u j.possible).0 c in absurd (none a.0 a.1 a.2 (subst (IsCertainIn u) (sym a.3) a.4))))
     at (Some p) told = ((λ h. certain_by logs u (any_at (IsCertainIn u) logs p.log told.first.lines told.first.there told.first.holds)), (λ c. refl))
 
 -- ---- the open UIDs
@@ -27,16 +24,20 @@ left_in logs sets u z i h = any_back IsLeftBy (IsOpenIn u) (λ s. is_open_in s u
 left_from : (logs : List (List LogLine)) (sets : List (List (ℕ × ℕ))) (u : ℕ) → AllZip IsLeftBy logs sets → IsUid u → Any (IsOpenIn u) logs → is_left sets u ≡ true
 left_from logs sets u z i a = list_any-from_Any (λ s. is_open_in s u) sets (any_zip IsLeftBy (IsOpenIn u) (λ s. is_open_in s u ≡ true) logs sets (λ l s by. (by u i).1) z a)
 
--- possible in one, it is open in it or certain
-pub open_or_certain : (logs : List (List LogLine)) (u : ℕ) → All IsPossibleLog logs → Any (IsPossibleIn u) logs → Any (IsOpenIn u) logs ⊎ Any (IsCertainIn u) logs
-open_or_certain logs u all a =
-    ⊎_elim
-    (λ c. inr (a.0, a.1, a.2, a.3, c))
-    (λ n. inl (a.0, a.1, a.2, a.3, (a.4, n)))
-    (IsCertainUid-either (entries a.1) u (subst IsPossibleLog a.3 (all a.0 a.1 a.2)))
-
-pub open_possible : (logs : List (List LogLine)) (u : ℕ) → Any (IsOpenIn u) logs → Any (IsPossibleIn u) logs
-open_possible logs u a = (a.0, a.1, a.2, a.3, a.4.0)
+-- a UID is possible where it is open in some log, or certain
+pub possible_iff : (logs : List (List LogLine)) (u : ℕ) → All IsPossibleLog logs → IsPossibleUid logs u ↔ (Any (IsOpenIn u) logs ⊎ IsCertainUid logs u)
+possible_iff logs u all = (
+  (λ p.
+      let a = possible.0 p in
+      ⊎_elim
+      (λ c. inr (certain_by logs u (a.0, a.1, a.2, a.3, c)))
+      (λ n. inl (a.0, a.1, a.2, a.3, (a.4, n)))
+      (IsCertainUid-either (entries a.1) u (subst IsPossibleLog a.3 (all a.0 a.1 a.2)))),
+  ⊎_elim (λ a. possible.1 (a.0, a.1, a.2, a.3, a.4.0)) (certain_is_possible logs u all),
+)
+  where
+    possible : IsPossibleUid logs u ↔ Any (IsPossibleIn u) logs
+    possible = IsPossibleUid-iff logs u all
 
 -- ---- the facts of all logs
 
@@ -46,14 +47,14 @@ pub joined_facts : (expected : List ℕ) (logs : List (List LogLine)) (r : Recon
     → AreFacts (IsPossibleUid logs) (IsCertainUid logs) (is_open_in all) certain
 joined_facts expected logs r all certain j rising members same = record {
   may = λ u i.
-      let possible = IsPossibleUid-iff logs u j.possible in (
+      let possible = possible_iff logs u j.possible in (
         ⊎_elim
-            (λ h. possible.1 (open_possible logs u (left_in logs r.left.items u j.left i (sym (same u i) ∙ h))))
-            (λ h. certain_is_possible logs u j.possible ((must.members u).0 h)),
+            (λ h. possible.1 (inl (left_in logs r.left.items u j.left i (sym (same u i) ∙ h))))
+            (λ h. possible.1 (inr ((must.members u).0 h))),
         (λ p. ⊎_elim
             (λ o. inl (same u i ∙ left_from logs r.left.items u j.left i o))
-            (λ c. inr ((must.members u).1 (certain_by logs u c)))
-            (open_or_certain logs u j.possible (possible.0 p))),
+            (λ c. inr ((must.members u).1 c))
+            (possible.0 p)),
       );
   must = must;
   sure = λ u. certain_is_possible logs u j.possible;
@@ -70,26 +71,15 @@ listed_as expected logs r j = record { members = j.members; are_uids = r.are_uid
 
 -- ---- the first log in which a UID is possible
 
-some_value : {X : Type 0} (o : Option X) (P : X → Type 0) → IsSomeAnd o P → (x : X) × (o ≡ Some x) × P x
-some_value None P h = absurd h
-some_value (Some x) P h = (x, refl, h)
-
--- the log beside a set, and the set beside a log
-log_beside : (logs : List (List LogLine)) (sets : List (List (ℕ × ℕ))) (n : ℕ) (set : List (ℕ × ℕ)) → AllZip IsLeftBy logs sets → slice_get sets n ≡ Some set → (lines : List LogLine) × (slice_get logs n ≡ Some lines) × IsLeftBy lines set
-log_beside logs sets n set z h = some_value (slice_get logs n) (λ l. IsLeftBy l set) (MatchOption-at_some _ (λ s. IsSomeAnd (slice_get logs n) (λ l. IsLeftBy l s)) set h (AllZip-right IsLeftBy logs sets z n))
-
-set_beside : (logs : List (List LogLine)) (sets : List (List (ℕ × ℕ))) (n : ℕ) (lines : List LogLine) → AllZip IsLeftBy logs sets → slice_get logs n ≡ Some lines → (set : List (ℕ × ℕ)) × (slice_get sets n ≡ Some set) × IsLeftBy lines set
-set_beside logs sets n lines z h = some_value (slice_get sets n) (IsLeftBy lines) (MatchOption-at_some _ (λ l. IsSomeAnd (slice_get sets n) (IsLeftBy l)) lines h (AllZip-left IsLeftBy logs sets z n))
-
 pub first_possible : (logs : List (List LogLine)) (sets : List (List (ℕ × ℕ))) (d : DoubtfulUid) → AllZip IsLeftBy logs sets → IsUid d.uid → (IsCertainUid logs d.uid → ⊥) → IsFirstLeft sets d → IsFirstPossible logs d
 first_possible logs sets d z i never f =
-    let here = log_beside logs sets d.log f.1.0 z f.1.1 in
+    let here = beside_back IsLeftBy logs sets d.log f.1.0 z f.1.1 in
     record {
       lines = here.0;
       there = here.1;
       holds = ((here.2 d.uid i).0 f.1.2).0;
       first = λ k others lt h p.
-          let b = set_beside logs sets k others z h in
+          let b = beside IsLeftBy logs sets k others z h in
           let is_open = (b.2 d.uid i).1 (p, λ c. never (certain_by logs d.uid (any_at (IsCertainIn d.uid) logs k others h c))) in
           let here = slice_get_within sets k b.0 b.1 in
           let none = f.0 k b.0 (omega (arith, length-take {A = List (ℕ × ℕ)})) in
@@ -98,7 +88,11 @@ first_possible logs sets d z i never f =
 
 -- ---- what is left to ask of a log
 
-open_masks_of : (logs : List (List LogLine)) (lines : List LogLine) (set : List (ℕ × ℕ)) (certain : List ℕ) (o : OpenMasks) → ((u : ℕ) → IsUid u → (has certain u ≡ true) ↔ IsCertainUid logs u) → ((u : ℕ) → IsCertainIn u lines → IsCertainUid logs u) → IsLeftBy lines set → AreOpenBesides certain set o → AreOpenMasksOf logs lines o
+-- what is certain in the log is certain in all
+abbrev IsTakenUp : List (List LogLine) → List LogLine → Type 0
+IsTakenUp all lines = (u : ℕ) → IsCertainIn u lines → IsCertainUid all u
+
+open_masks_of : (logs : List (List LogLine)) (lines : List LogLine) (set : List (ℕ × ℕ)) (certain : List ℕ) (o : OpenMasks) → ((u : ℕ) → IsUid u → (has certain u ≡ true) ↔ IsCertainUid logs u) → IsTakenUp logs lines → IsLeftBy lines set → AreOpenBesides certain set o → AreOpenMasksOf logs lines o
 open_masks_of logs lines set certain o named own left o-is = record {
   set = without_keys (is_open_in set) o-is.keys;
   uids = λ u i. (
@@ -112,16 +106,13 @@ open_masks_of logs lines set certain o named own left o-is = record {
   more = o-is.more;
 }
 
-pub all_open_masks : (all : List (List LogLine)) (logs : List (List LogLine)) (sets : List (List (ℕ × ℕ))) (certain : List ℕ) (os : List OpenMasks) → ((u : ℕ) → IsUid u → (has certain u ≡ true) ↔ IsCertainUid all u) → ((u : ℕ) → Any (IsCertainIn u) logs → IsCertainUid all u) → AllZip IsLeftBy logs sets → AllZip (AreOpenBesides certain) sets os → AllZip (AreOpenMasksOf all) logs os
+pub all_open_masks : (all : List (List LogLine)) (logs : List (List LogLine)) (sets : List (List (ℕ × ℕ))) (certain : List ℕ) (os : List OpenMasks) → ((u : ℕ) → IsUid u → (has certain u ≡ true) ↔ IsCertainUid all u) → All (IsTakenUp all) logs → AllZip IsLeftBy logs sets → AllZip (AreOpenBesides certain) sets os → AllZip (AreOpenMasksOf all) logs os
 all_open_masks all [] [] certain [] named own z w = tt
-all_open_masks all [] [] certain (o ∷ os) named own z w = absurd w
-all_open_masks all [] (s ∷ sets) certain os named own z w = absurd z
-all_open_masks all (l ∷ logs) [] certain os named own z w = absurd z
-all_open_masks all (l ∷ logs) (s ∷ sets) certain [] named own z w = absurd w
 all_open_masks all (l ∷ logs) (s ∷ sets) certain (o ∷ os) named own z w = (
-  open_masks_of all l s certain o named (λ u c. own u (any_here (IsCertainIn u) l logs c)) z.0 w.0,
-  all_open_masks all logs sets certain os named (λ u a. own u (any_there (IsCertainIn u) l logs a)) z.1 w.1,
+  open_masks_of all l s certain o named (All-head (IsTakenUp all) l logs own) z.0 w.0,
+  all_open_masks all logs sets certain os named (All-tail (IsTakenUp all) l logs own) z.1 w.1,
 )
+all_open_masks all _ _ certain _ named own z w = absurd assumption
 
 -- none of the sets has it
 pub none_left : (sets : List (List (ℕ × ℕ))) (u : ℕ) → AllPass (λ s. not (is_open_in s u)) sets → is_left sets u ≡ false

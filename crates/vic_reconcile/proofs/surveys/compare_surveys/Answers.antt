@@ -1,4 +1,4 @@
-use Rattle.vic_reconcile.proofs.Words.{List, subst, refl, has, is_open_in, LogLine, AreDifferences, IsFailing, IsListOf, AreListed, IsCertainUid, IsPossibleUid, AreFindingsBy, AreTogether, IsAmong, MayBe}
+use Rattle.vic_reconcile.proofs.Words.{List, refl, is_open_in, LogLine, AreListed, IsCertainUid, IsPossibleUid, AreFindingsBy, AreTogether, IsAmong, MayBe}
 use Rattle.vic_reconcile.proofs.Surveyed.{array_facts, found, log_facts, none_found}
 use Rattle.vic_reconcile.proofs.surveys.compare_surveys.Goals as goal
 
@@ -12,11 +12,10 @@ returns c =
     let set = is_open_in c.in_ok-set.set in
     let d = c.in_ok-found.found in
     let some = c.in_ok-uncertain.uncertain.items in
-    let doubtful = c.in_ok-doubtful.doubtful.items in
     let own : AreListed us expected = record { members = c.in_ok-listed.ensures.members; are_uids = c.in_ok-listed.ensures.uids } in
-    let differ = subst (λ vs. AreDifferences set sure vs d) c.deref-2.ensures.value (subst (λ vs. AreDifferences set vs c.deref-2.result.now d) c.deref.ensures.value c.in_ok-found.ensures) in
-    let un = subst (λ vs. IsListOf (IsFailing vs (has sure)) some) c.deref-3.ensures.value (subst (λ vs. IsListOf (IsFailing c.deref-3.result.now (has vs)) some) c.deref-4.ensures.value c.in_ok-uncertain.ensures) in
-    let l = subst (λ vs. IsListOf (IsFailing vs (has d.absent.items)) doubtful) c.deref-5.ensures.value (subst (λ vs. IsListOf (IsFailing c.deref-5.result.now (has vs)) doubtful) c.deref-6.ensures.value c.in_ok-doubtful.ensures) in
+    let differ = rw (c.deref.ensures.value, c.deref-2.ensures.value) at c.in_ok-found.ensures in
+    let un = rw (c.deref-3.ensures.value, c.deref-4.ensures.value) at c.in_ok-uncertain.ensures in
+    let l = rw (c.deref-5.ensures.value, c.deref-6.ensures.value) at c.in_ok-doubtful.ensures in
     let facts = array_facts certain sure masks set c.in_ok-sure.ensures.rising c.in_ok-sure.ensures.members c.in_ok-set.ensures in
     let by_logs : (logs : List (List LogLine)) → AreTogether logs certain masks → AreFindingsBy (IsPossibleUid logs) (IsCertainUid logs) expected (record { absent = d.absent; unlisted = d.unlisted; unsettled = d.unsettled; doubtful = c.in_ok-doubtful.doubtful }) = λ logs t. found (IsPossibleUid logs) (IsCertainUid logs) set sure us expected some d _ (log_facts logs certain sure masks set t facts) own differ un l refl refl refl in
     record {

@@ -8,9 +8,7 @@ loop-uid-preserved c =
     let u = c.uid-item.result in
     let before = c.loop-uid.invariant in
     record {
-      items =
-          c.in_ok-push.ensures.items
-          ∙ (ap (λ vs. vs ++ u ∷ []) before.items ∙ (ap (λ v. take i us ++ v ∷ []) c.uid-item.is ∙ sym (take_more us i u c.loop-uid-test.true)));
+      items = rw (c.in_ok-push.ensures.items, before.items, take_more us i u c.loop-uid-test.true) (ap (λ v. take i us ++ v ∷ []) c.uid-item.is);
       uids = λ v h. ⊎_elim
           (λ k. before.uids v k)
           (λ k. ⊎_elim (λ e. subst IsUid (sym e) c.number-number.ensures.range) (λ none. absurd (false≢true none)) (has_cases v u [] k))

@@ -1,4 +1,4 @@
-use Rattle.vic_reconcile.proofs.Words.{◌<◌, [], ◌∷◌, ◌++◌, get_or, length, take, ap, sym, subst, ◌∙◌, take_more, all_zipped_more, AllZip, AreKeysOf, AreOpenBesides}
+use Rattle.vic_reconcile.proofs.Words.{◌<◌, get_or, length, take, ap, sym, subst, ◌∙◌, take_more, all_zipped_more, AreKeysOf, AreOpenBesides}
 use Rattle.vic_reconcile.proofs.reconciliation.Reconciliation.open_masks.Goals as goal
 
 pub loop-set-preserved : goal.loop-set-preserved
@@ -15,5 +15,4 @@ loop-set-preserved c =
       first = c.open_masks_besides.ensures.first;
       more = c.open_masks_besides.ensures.more;
     } in
-    subst (λ ss. AllZip R ss c.push.new.self.items) (ap (λ x. take i sets ++ x ∷ []) is ∙ sym (take_more sets i s lt))
-    (subst (AllZip R (take i sets ++ s ∷ [])) (sym c.in_ok-push.ensures.items) (all_zipped_more R (take i sets) c.loop-set.masks.items s c.open_masks_besides.result c.loop-set.invariant own))
+    rw (take_more sets i s lt, ← is, c.in_ok-push.ensures.items) (all_zipped_more R (take i sets) c.loop-set.masks.items s c.open_masks_besides.result c.loop-set.invariant own)

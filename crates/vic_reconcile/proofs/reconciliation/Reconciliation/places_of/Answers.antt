@@ -1,4 +1,4 @@
-use Rattle.vic_reconcile.proofs.Words.{◌≡◌, Some, [], ◌∷◌, ◌++◌, take, map, ap, sym, ◌∙◌, is_some, option_copied, nat_cmp, get, false≢true, map-append, take_more, All-push, UnlistedUid}
+use Rattle.vic_reconcile.proofs.Words.{◌≡◌, Some, [], ◌∷◌, ◌++◌, take, ap, sym, ◌∙◌, is_some, option_copied, nat_cmp, get, false≢true, take_more, All-push, UnlistedUid, map_push}
 use Rattle.vic_reconcile.proofs.reconciliation.Reconciliation.places_of.Goals as goal
 
 pub unreachable-requires : goal.unreachable-requires
@@ -14,9 +14,6 @@ loop-uid-preserved c =
     let u = c.uid-item.result in
     let before = c.loop-uid.invariant in
     record {
-      uids =
-          ap (map (λ (s : UnlistedUid). s.uid)) c.in_ok-push.ensures.items
-          ∙ (map-append (λ (s : UnlistedUid). s.uid) c.loop-uid.placed.items _
-          ∙ (ap (λ vs. vs ++ u ∷ []) before.uids ∙ (ap (λ v. take i us ++ v ∷ []) c.uid-item.is ∙ sym (take_more us i u c.loop-uid-test.true))));
+      uids = rw (c.in_ok-push.ensures.items, map_push, before.uids, take_more us i u c.loop-uid-test.true) (ap (λ v. take i us ++ v ∷ []) c.uid-item.is);
       places = rw c.in_ok-push.ensures.items (All-push (λ (s : UnlistedUid). get nat_cmp c.args.self.now.certain s.uid ≡ Some s.place) c.loop-uid.placed.items _ before.places (sym c.get.ensures.value ∙ ap option_copied c.in-Some.is));
     }
