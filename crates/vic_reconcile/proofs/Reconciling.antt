@@ -1,5 +1,5 @@
 -- The findings of joined logs, and that none of them means that everything is there.
-use Rattle.vic_reconcile.proofs.Words.{◌≡◌, ℕ, List, [], ◌∷◌, ◌++◌, get_or, map, Bool, true, false, Option, Some, None, refl, sym, ap, subst, ◌∙◌, arith, ⊎_elim, ◌||◌, IfNone, IfSome, MatchOption, is_some, nat_eq, is_eq, nat_cmp, All, IsStrictlyIncreasing, both_ways, cases_Bool, cases_eq, or_left, list_any-append, IsUid, has, BitMask, SameUids, is_open_in, LogLine, IsUid-member, has_at, AreDifferences, IsFailing, IsListOf, IsFirstMask, NoSuch, all_findings, doubtful_list, none_of, DoubtfulUid, Findings, UnlistedUid, Reconciliation, ArePossible, FitsLog, FitsLogs, IsCertainUid, IsPossibleUid, is_somewhere, AreFindings, AreNone, IsAbsent, IsDoubtful, IsFirstTold, IsToldOf, IsUnlisted, IsUnsettled, IsUnsettledWith, IsWhole, IsCertainInNone, IsJoined, IsFirstLeft, IsLeftToAsk, is_left, all_zipped_more, eq_by_cmp, is_member, common_steps, Differences, IsUid-in, lies_in-uid_in, mask_of, mask_of-alone, mask_of-value, uid_in, length, take-append_seam, true_from_ne_false, map-id, All-take, slice_get-get_or, slice_get_read, slice_get-append, listed}
+use Rattle.vic_reconcile.proofs.Words.{◌≡◌, ℕ, List, [], ◌∷◌, ◌++◌, get_or, map, Bool, true, false, Option, Some, None, refl, sym, ap, subst, ◌∙◌, arith, ⊎_elim, ◌||◌, IfNone, IfSome, MatchOption, is_some, nat_eq, is_eq, nat_cmp, All, IsStrictlyIncreasing, both_ways, cases_Bool, cases_eq, or_left, list_any-append, IsUid, has, BitMask, SameUids, is_open_in, LogLine, IsUid-member, has_at, AreDifferences, IsFailing, IsListOf, IsFirstMask, NoSuch, all_findings, doubtful_list, none_of, DoubtfulUid, Findings, UnlistedUid, Reconciliation, ArePossible, FitsLog, FitsLogs, IsCertainUid, IsPossibleUid, is_somewhere, AreFindings, AreNone, IsAbsent, IsDoubtful, IsFirstTold, IsToldOf, IsUnlisted, IsUnsettled, IsUnsettledWith, IsWhole, IsCertainInNone, IsJoined, IsFirstLeft, IsLeftToAsk, is_left, all_zipped_more, eq_by_cmp, is_member, common_steps, Differences, IsUid-in, lies_in-uid_in, mask_of, mask_of-alone, mask_of-value, uid_in, length, take-append_seam, true_from_ne_false, map-id, All-take, slice_get-get_or, slice_get_read, slice_get-append}
 use Rattle.std.specs.BTreeMap as tree
 use Rattle.vic_reconcile.specs.declared.findings.Unsettled.{Unsettled}
 use Rattle.vic_reconcile.proofs.Families.{has_mapped, IsCertainIn, IsCertainUid-iff, IsPossibleLog, all_possible, any_at, certain_by, somewhere_in}

@@ -1,4 +1,4 @@
-use Rattle.vic_reconcile.proofs.Words.{[], ◌∷◌, ◌++◌, take, ap, sym, subst, ◌∙◌, ⊎_elim, arith, nat_eq, false≢true, or_cases, take_all, take_more, list_any-append, IsUid, has, has_cases}
+use Rattle.vic_reconcile.proofs.Words.{[], ◌∷◌, ◌++◌, take, ap, sym, subst, ◌∙◌, arith, take_all, take_more, IsUid, has, All-push, place_of}
 use Rattle.vic_reconcile.proofs.surveys.in_order.Goals as goal
 
 pub loop-uid-preserved : goal.loop-uid-preserved
@@ -9,10 +9,7 @@ loop-uid-preserved c =
     let before = c.loop-uid.invariant in
     record {
       items = rw (c.in_ok-push.ensures.items, before.items, take_more us i u c.loop-uid-test.true) (ap (λ v. take i us ++ v ∷ []) c.uid-item.is);
-      uids = λ v h. ⊎_elim
-          (λ k. before.uids v k)
-          (λ k. ⊎_elim (λ e. subst IsUid (sym e) c.number-number.ensures.range) (λ none. absurd (false≢true none)) (has_cases v u [] k))
-          (or_cases _ _ (sym (ap (λ vs. has vs v) c.in_ok-push.ensures.items ∙ list_any-append (nat_eq v) c.loop-uid.sorted.items (u ∷ [])) ∙ h));
+      uids = rw c.in_ok-push.ensures.items (All-push IsUid c.loop-uid.sorted.items u before.uids c.number-number.ensures.range);
     }
 
 pub returns-clause-members : goal.returns-clause-members
@@ -21,4 +18,6 @@ returns-clause-members c u =
     ∙ ap (λ vs. has vs u) (c.loop-uid.invariant.items ∙ take_all c.loop-uid.uid-index c.args.uids.now (let end = c.loop-uid-test.false in omega arith))
 
 pub returns-clause-uids : goal.returns-clause-uids
-returns-clause-uids c u h = c.loop-uid.invariant.uids u (sym (c.put_in_order.ensures.members u) ∙ h)
+returns-clause-uids c u h =
+    let p = place_of c.loop-uid.sorted.items u 0 (sym (c.put_in_order.ensures.members u) ∙ h) in
+    subst IsUid p.2 (c.loop-uid.invariant.uids p.0 0 p.1)
