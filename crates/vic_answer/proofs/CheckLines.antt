@@ -1,27 +1,25 @@
 -- Answers that begin with the line of `check`, and which of them with `complete `.
-use Rattle.vic_answer.proofs.Words.{◌≡◌, ℕ, List, [], ◌∷◌, ◌++◌, ap, append_assoc, append-nil, arith, slice_index, refl, subst, sym, ◌∙◌, codes, decimal, Option, Some, None, MatchOption, flat_map, option_map, LogValue, lines_of_text, IsLogOf, LogLine, IsVerdict, Impossible, Absent, Unlisted, Unsettled, Doubtful, Complete, BeginsAsCheck, IsAnswer, IsCheckOf, IsCompleteText, answer_line, verdict_line, Status, Entry, IsReport, first_finding, verdict_of, uids_of, LogReport, ShownUid, report_begins, none_where_complete, IsPopulationBehind, IsShownByNone, Shows, Verdict, complete_whole, complete_second, Answer, Judged, Explained}
+use Rattle.vic_answer.proofs.Words.{◌≡◌, ℕ, List, [], ◌∷◌, ◌++◌, ap, append_assoc, append-nil, arith, refl, subst, sym, ◌∙◌, codes, decimal, Option, Some, None, MatchOption, flat_map, option_map, LogLine, Impossible, Absent, Unlisted, Unsettled, Doubtful, Complete, BeginsAsCheck, IsAnswer, IsCheckOf, IsCompleteText, answer_line, verdict_line, Status, Entry, IsReport, first_finding, verdict_of, uids_of, LogReport, ShownUid, report_begins, none_where_complete, IsPopulationBehind, IsShownByNone, Shows, Verdict, complete_whole, complete_second, Answer, Judged, Explained, get_or}
 use Rattle.vic_report.specs.declared.findings.Unsettled.{Unsettled as LeftToAsk}
 use Rattle.vic_report.specs.declared.reporting.LogReport.TheVariants as report
 use Rattle.vic_answer.specs.ExplainText as explain
 use Rattle.vic_answer.specs.ReportText as reporting
-use Rattle.vic_answer.specs.declared.check.Answer.TheVariants.{RefusedAt}
 use Rattle.vic_answer.specs.declared.explain.Explained.TheVariants as explained
 use Rattle.vic_answer.specs.declared.report.Reported.{Reported}
 use Rattle.vic_answer.specs.declared.report.Reported.TheVariants as reported
 
 -- ---- a complete text
 
-is_complete : (text : List ℕ) (count : ℕ) (log : LogValue) → IsLogOf (lines_of_text text) log → IsVerdict log.lines (Complete count) → IsCompleteText text count
-is_complete text count log is_log verdict = record {
-  log = log;
-  is_log = is_log;
-  whole = complete_whole log.lines count verdict;
-  second = complete_second log.lines count verdict;
-  counted = verdict.5;
-}
-
 pub complete_text : (text : List ℕ) (answer : Answer) (count : ℕ) → answer ≡ Judged (Complete count) → IsAnswer text answer → IsCompleteText text count
-complete_text text answer count is right = let h = subst (IsAnswer text) is right in is_complete text count h.0 h.1 h.2
+complete_text text answer count is right =
+    let h = subst (IsAnswer text) is right in
+    record {
+      log = h.0;
+      is_log = h.1;
+      whole = complete_whole h.0.lines count h.2;
+      second = complete_second h.0.lines count h.2;
+      counted = h.2.5;
+    }
 
 -- ---- lines that begin with `complete `
 
@@ -31,18 +29,13 @@ record IsCompleteLine (answer : Answer) (rest more : List ℕ) : Type 0 where
   pub answer_is : answer ≡ Judged (Complete count)
   pub told : rest ≡ (decimal count ++ codes "\n") ++ more
 
--- lines that begin with different letters differ
-differ : (b d : ℕ) (xs ys : List ℕ) → b ∷ xs ≡ d ∷ ys → b ≡ d
-differ b d xs ys h = ap (λ (zs : List ℕ). slice_index zs 0) h
+-- lists that are the same begin with the same number
+pub first : {xs ys : List ℕ} → xs ≡ ys → get_or xs 0 0 ≡ get_or ys 0 0
+first h = ap (λ zs. get_or zs 0 0) h
 
 complete_line : (answer : Answer) (rest more : List ℕ) → codes "complete " ++ rest ≡ answer_line answer ++ more → IsCompleteLine answer rest more
 complete_line (Judged (Complete count)) rest more h = record { count = count; answer_is = refl; told = cc h }
-complete_line (Judged (Impossible n)) rest more h = absurd (omega (arith, differ 99 105 _ _ h))
-complete_line (Judged (Absent u)) rest more h = absurd (omega (arith, differ 99 97 _ _ h))
-complete_line (Judged (Unlisted u)) rest more h = absurd (omega (arith, differ 99 117 _ _ h))
-complete_line (Judged (Unsettled m)) rest more h = absurd (omega (arith, differ 99 117 _ _ h))
-complete_line (Judged (Doubtful u)) rest more h = absurd (omega (arith, differ 99 100 _ _ h))
-complete_line (RefusedAt n fault) rest more h = absurd (omega (arith, differ 99 114 _ _ h))
+complete_line _ rest more h = absurd (omega (arith, first h))
 
 -- the text is complete, and the rest of its answer tells the count
 pub record IsCompleteAnswer (text rest : List ℕ) : Type 0 where
@@ -100,48 +93,44 @@ explanation_tells text rest status h = alone text rest _ (explain.answer_of h.ex
 -- ---- report
 
 -- a text that begins with a line
-abbrev Begins : List ℕ → List ℕ → Type 0
-Begins line text = (more : List ℕ) × (text ≡ line ++ more)
+record Begins (line text : List ℕ) : Type 0 where
+  pub more : List ℕ
+  pub is : text ≡ line ++ more
 
-longer : (line xs ys : List ℕ) → Begins line xs → Begins line (xs ++ ys)
-longer line xs ys h = (h.0 ++ ys, ap (λ zs. zs ++ ys) h.1 ∙ append_assoc line h.0 ys)
+begins : (line more : List ℕ) → Begins line (line ++ more)
+begins line more = record { more = more; is = refl }
+
+alone_begins : (line : List ℕ) → Begins line line
+alone_begins line = record { more = []; is = sym (append-nil line) }
+
+longer : {line xs : List ℕ} (ys : List ℕ) → Begins line xs → Begins line (xs ++ ys)
+longer {line} ys h = record { more = h.more ++ ys; is = ap (λ zs. zs ++ ys) h.is ∙ append_assoc line h.more ys }
 
 -- of findings that aren't all empty the first line is that of the first
 findings_begin : (absent unlisted : List ShownUid) (x : Option LeftToAsk) (doubtful : List ℕ) → (absent ≡ [] → unlisted ≡ [] → x ≡ None → doubtful ≡ [] → ⊥)
     → Begins (verdict_line (first_finding (uids_of absent) (uids_of unlisted) (option_map (λ y. y.mask) x) doubtful))
     (flat_map reporting.absent_text absent ++ flat_map reporting.unlisted_text unlisted ++ reporting.unsettled_text x ++ flat_map reporting.doubtful_line doubtful)
 findings_begin (s ∷ absent) unlisted x doubtful some =
-    let line = verdict_line (Absent s.uid) in
-    let a = flat_map reporting.absent_text (s ∷ absent) in
-    let b = flat_map reporting.unlisted_text unlisted in
-    let c = reporting.unsettled_text x in
-    longer line (a ++ b ++ c) (flat_map reporting.doubtful_line doubtful) (longer line (a ++ b) c (longer line a b
-    (longer line (reporting.absent_text s) (flat_map reporting.absent_text absent) (reporting.by_line s.line, refl))))
+    longer (flat_map reporting.doubtful_line doubtful) (longer (reporting.unsettled_text x) (longer (flat_map reporting.unlisted_text unlisted)
+    (longer (flat_map reporting.absent_text absent) (begins (verdict_line (Absent s.uid)) (reporting.by_line s.line)))))
 findings_begin [] (s ∷ unlisted) x doubtful some =
-    let line = verdict_line (Unlisted s.uid) in
-    let b = flat_map reporting.unlisted_text (s ∷ unlisted) in
-    let c = reporting.unsettled_text x in
-    longer line (b ++ c) (flat_map reporting.doubtful_line doubtful) (longer line b c
-    (longer line (reporting.unlisted_text s) (flat_map reporting.unlisted_text unlisted) (reporting.by_line s.line, refl)))
+    longer (flat_map reporting.doubtful_line doubtful) (longer (reporting.unsettled_text x)
+    (longer (flat_map reporting.unlisted_text unlisted) (begins (verdict_line (Unlisted s.uid)) (reporting.by_line s.line))))
 findings_begin [] [] (Some x) doubtful some =
-    let line = verdict_line (Unsettled x.mask) in
-    let masks = flat_map reporting.open_line x.open.masks.items in
-    longer line (reporting.unsettled_text (Some x)) (flat_map reporting.doubtful_line doubtful)
-    (longer line (line ++ masks) (reporting.more_line x.open.more) (masks, refl))
-findings_begin [] [] None (u ∷ doubtful) some = (flat_map reporting.doubtful_line doubtful, refl)
+    longer (flat_map reporting.doubtful_line doubtful) (longer (reporting.more_line x.open.more)
+    (begins (verdict_line (Unsettled x.mask)) (flat_map reporting.open_line x.open.masks.items)))
+findings_begin [] [] None (u ∷ doubtful) some = begins (verdict_line (Doubtful u)) (flat_map reporting.doubtful_line doubtful)
 findings_begin [] [] None [] some = absurd (some refl refl refl refl)
 
 report_begins_so : (lines : List LogLine) (r : LogReport) → IsReport lines r → Begins (verdict_line (verdict_of r)) (reporting.report_text r)
 report_begins_so lines (report.Impossible c) h =
-    let line = verdict_line (Impossible c.line) in
-    let shown = flat_map reporting.by_line c.lines.items in
-    longer line (line ++ shown) (reporting.silenced_line c.silenced_by) (shown, refl)
+    longer (reporting.silenced_line c.silenced_by) (begins (verdict_line (Impossible c.line)) (flat_map reporting.by_line c.lines.items))
 report_begins_so lines (report.NotWhole f) h = findings_begin f.absent.items f.unlisted.items f.unsettled f.doubtful.items (λ a u x d. h.2 (record { absent = a; unlisted = u; unsettled = x; doubtful = d }))
-report_begins_so lines (report.Complete count) h = ([], sym (append-nil _))
+report_begins_so lines (report.Complete count) h = alone_begins (verdict_line (Complete count))
 
 reported_begins : (text : List ℕ) (r : Reported) → reporting.IsReported text r → Begins (answer_line (reporting.answer_of r)) (reporting.reported_text r)
 reported_begins text (reported.Judged r) h = report_begins_so h.0.lines r h.2
-reported_begins text (reported.RefusedAt n fault) h = ([], sym (append-nil _))
+reported_begins text (reported.RefusedAt n fault) h = alone_begins _
 
 reported_answer : (text : List ℕ) (r : Reported) → reporting.IsReported text r → IsAnswer text (reporting.answer_of r)
 reported_answer text (reported.Judged r) h = (h.0, h.1, report_begins h.0.lines r h.2)
@@ -152,9 +141,9 @@ report_begins_as_check text answer status h =
     let b = reported_begins text h.reported h.right in
     record {
       line = answer_line (reporting.answer_of h.reported);
-      more = b.0;
+      more = b.more;
       right = record { answer = reporting.answer_of h.reported; right = reported_answer text h.reported h.right; line_is = refl; status_is = h.status_is };
-      answer_is = h.answer_is ∙ b.1;
+      answer_is = h.answer_is ∙ b.is;
     }
 
 -- the report on a complete text is the line alone
@@ -168,6 +157,6 @@ pub report_tells : TellComplete reporting.IsReportOf
 report_tells text rest status h =
     let b = reported_begins text h.reported h.right in
     let right = reported_answer text h.reported h.right in
-    let l = complete_line (reporting.answer_of h.reported) rest b.0 (h.answer_is ∙ b.1) in
+    let l = complete_line (reporting.answer_of h.reported) rest b.more (h.answer_is ∙ b.is) in
     let line : codes "complete " ++ rest ≡ verdict_line (Complete l.count) = h.answer_is ∙ complete_alone text h.reported l.count h.right l.answer_is in
     record { count = l.count; complete = complete_text text _ l.count l.answer_is right; told = cc line }

@@ -9,5 +9,4 @@ mod Turns
 mod SpelledWords
 mod SpellLaws
 mod SpellOnly
-pub mod Added
 pub mod Reconciles

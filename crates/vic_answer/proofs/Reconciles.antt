@@ -1,11 +1,12 @@
 -- What a list and logs say together, text by text.
-use Rattle.vic_answer.proofs.Words.{◌≡◌, ℕ, List, [], ◌∷◌, ◌++◌, take, length, map, Some, None, Option, codes, refl, sym, ap, subst, ◌∙◌, IfOk, OnOk, Result, Ok, Err, decimal, slice_get, All, flat_map, get_or, arith, HasWrittenPrefix, append_cancel_left, length-map, map-append, lines_of_text, LogValue, entries, listed, IsFirstFault, IsVerdict, Impossible, Reconciling, RunFault, Status, AllGoing, AllRead, WritesAnswer, AreComplete, EndsAt, HasLog, HasPossibleLog, IsKept, IsReconciled, lines_of, absent_line, doubtful_text, ending_text, findings_text, reconciled_status, reconciled_text, unlisted_text, LogLine, AllZip, take-append_seam, AllZip-long, all_zipped_more, All-cons, All-head, All-nil, All-tail, LineFault, AreFindings, AreNone, IsJoined, DoubtfulUid, Findings, UnlistedUid, Reconciliation, IsPossibleLog, family_of, slice_get_seam, none_is_whole, Ending, Reconciled, Found, Ended, Read, Write, Memory}
+use Rattle.vic_answer.proofs.Words.{◌≡◌, ℕ, List, [], ◌∷◌, ◌++◌, take, length, map, Some, None, Option, codes, refl, sym, ap, subst, ◌∙◌, IfOk, OnOk, Result, Ok, Err, decimal, slice_get, All, flat_map, arith, HasWrittenPrefix, length-map, map-append, lines_of_text, LogValue, entries, listed, IsFirstFault, IsVerdict, Impossible, Reconciling, RunFault, Status, AllGoing, AllRead, WritesAnswer, AreComplete, EndsAt, HasLog, HasPossibleLog, IsKept, IsReconciled, lines_of, absent_line, doubtful_text, ending_text, reconciled_status, reconciled_text, unlisted_text, LogLine, AllZip, take-append_seam, AllZip-long, all_zipped_more, All-cons, All-head, All-nil, All-tail, LineFault, AreFindings, AreNone, IsJoined, DoubtfulUid, Findings, UnlistedUid, Reconciliation, IsPossibleLog, family_of, slice_get_seam, none_is_whole, Ending, Reconciled, Found, Ended, Write}
 use Rattle.vic_answer.specs.Reconciled.{HaveLogs}
 use Rattle.vic_reconcile.specs.declared.findings.Unsettled.{Unsettled}
-use Rattle.vic_answer.specs.declared.ending.Ending.TheVariants.{ListRefusedAt, NotListedAt, RefusedAt, ImpossibleAt}
+use Rattle.vic_answer.specs.declared.ending.Ending.TheVariants.{NotListedAt, RefusedAt, ImpossibleAt}
 use Rattle.vic_answer.specs.declared.reconcile.Reconciling.TheVariants as state
 use Rattle.vic_answer.specs.declared.reconcile.Reconciled.TheVariants.{Complete}
 use Rattle.vic_answer.specs.ReconcileText.{unsettled_text}
+use Rattle.vic_answer.proofs.CheckLines.{first}
 
 -- one log more is kept
 pub kept_more : (list text : List ℕ) (texts : List (List ℕ)) (log : LogValue) (old new : Reconciliation) (k : IsKept list texts old) → HasLog text log
@@ -66,29 +67,19 @@ reconciled_found list texts r f k found some = have_logs _ k (found, some)
 
 -- ---- what was written
 
--- lists that are the same begin with the same number
-first : {xs ys : List ℕ} → xs ≡ ys → get_or xs 0 0 ≡ get_or ys 0 0
-first h = ap (λ zs. get_or zs 0 0) h
-
 -- findings don't begin as a complete answer does
 found_begins : (names : List (List ℕ)) (absent : List ℕ) (unlisted : List UnlistedUid) (x : Option Unsettled) (doubtful : List DoubtfulUid) (rest : List ℕ) → (absent ≡ [] → unlisted ≡ [] → x ≡ None → doubtful ≡ [] → ⊥)
     → flat_map absent_line absent ++ flat_map (unlisted_text names) unlisted ++ unsettled_text names x ++ flat_map (doubtful_text names) doubtful ≡ codes "complete " ++ rest → ⊥
-found_begins names (u ∷ absent) unlisted x doubtful rest some h = let e : 97 ≡ 99 = first h in omega (arith, e)
-found_begins names [] (s ∷ unlisted) x doubtful rest some h = let e : 117 ≡ 99 = first h in omega (arith, e)
-found_begins names [] [] (Some x) doubtful rest some h = let e : 117 ≡ 99 = first h in omega (arith, e)
-found_begins names [] [] None (d ∷ doubtful) rest some h = let e : 100 ≡ 99 = first h in omega (arith, e)
 found_begins names [] [] None [] rest some h = some refl refl refl refl
+found_begins names _ _ _ _ rest some h = omega (arith, first h)
 
 ending_begins : (file : List ℕ) (names : List (List ℕ)) (e : Ending) (rest : List ℕ) → ending_text file names e ≡ codes "complete " ++ rest → ⊥
-ending_begins file names (ListRefusedAt n fault) rest h = let e : 114 ≡ 99 = first h in omega (arith, e)
-ending_begins file names (NotListedAt n) rest h = let e : 114 ≡ 99 = first h in omega (arith, e)
-ending_begins file names (RefusedAt k n fault) rest h = let e : 114 ≡ 99 = first h in omega (arith, e)
-ending_begins file names (ImpossibleAt k n) rest h = let e : 105 ≡ 99 = first h in omega (arith, e)
+ending_begins file names (NotListedAt n) rest h = omega (arith, first h)
+ending_begins file names _ rest h = omega (arith, first h)
 
-pub complete_written : (file : List ℕ) (names : List (List ℕ)) (r : Reconciled) (list : List ℕ) (texts : List (List ℕ)) (old new rest : List ℕ) → IsReconciled list texts r
-    → new ≡ old ++ reconciled_text file names r → new ≡ old ++ (codes "complete " ++ rest) → AreComplete list texts rest
-complete_written file names (Complete count) list texts old new rest right wrote now =
-    let same = append_cancel_left old (codes "complete " ++ rest) (reconciled_text file names (Complete count)) (sym now ∙ wrote) in
+pub complete_written : (file : List ℕ) (names : List (List ℕ)) (r : Reconciled) (list : List ℕ) (texts : List (List ℕ)) (rest : List ℕ) → IsReconciled list texts r
+    → reconciled_text file names r ≡ codes "complete " ++ rest → AreComplete list texts rest
+complete_written file names (Complete count) list texts rest right same =
     let told : rest ≡ decimal count ++ codes "\n" = cc same in
     record {
       expected = right.expected;
@@ -98,32 +89,24 @@ complete_written file names (Complete count) list texts old new rest right wrote
       are_logs = right.are_logs;
       holds = (right.holds.0, told ∙ ap (λ n. decimal n ++ codes "\n") right.holds.1);
     }
-complete_written file names (Found f) list texts old new rest right wrote now =
-    let same = append_cancel_left old (codes "complete " ++ rest) (findings_text names f) (sym now ∙ wrote) in
-    absurd (found_begins names f.absent.items f.unlisted.items f.unsettled f.doubtful.items rest (λ a u x d. right.holds.1 (record { absent = a; unlisted = u; unsettled = x; doubtful = d })) (sym same))
-complete_written file names (Ended e) list texts old new rest right wrote now =
-    let same = append_cancel_left old (codes "complete " ++ rest) (ending_text file names e) (sym now ∙ wrote) in
-    absurd (ending_begins file names e rest (sym same))
+complete_written file names (Found f) list texts rest right same =
+    absurd (found_begins names f.absent.items f.unlisted.items f.unsettled f.doubtful.items rest (λ a u x d. right.holds.1 (record { absent = a; unlisted = u; unsettled = x; doubtful = d })) same)
+complete_written file names (Ended e) list texts rest right same = absurd (ending_begins file names e rest same)
 
 -- ---- all logs were read
 
 pub answered_all : (r : Reconciling) (a : Reconciled) (logs texts : ℕ) → AllGoing r logs texts → ((e : Ending) → r ≡ state.Ended e → a ≡ Ended e) → AllRead a logs texts
-answered_all (state.Going j) (Complete count) logs texts all ended = all
-answered_all (state.Going j) (Found f) logs texts all ended = all
 answered_all (state.Going j) (Ended e) logs texts all ended = tt
+answered_all (state.Going j) _ logs texts all ended = all
 answered_all (state.Ended e) a logs texts all ended = subst (λ x. AllRead x logs texts) (sym (ended e refl)) tt
 
 -- where what was written begins as a complete answer does
-pub all_where_complete : (file : List ℕ) (names : List (List ℕ)) (r : Reconciled) (old new rest : List ℕ) (logs texts : ℕ) → new ≡ old ++ reconciled_text file names r → new ≡ old ++ (codes "complete " ++ rest) → AllRead r logs texts → texts ≡ logs
-all_where_complete file names (Complete count) old new rest logs texts wrote now all = all
-all_where_complete file names (Found f) old new rest logs texts wrote now all = all
-all_where_complete file names (Ended e) old new rest logs texts wrote now all =
-    let same = append_cancel_left old (codes "complete " ++ rest) (ending_text file names e) (sym now ∙ wrote) in
-    absurd (ending_begins file names e rest (sym same))
+pub all_where_complete : (file : List ℕ) (names : List (List ℕ)) (r : Reconciled) (rest : List ℕ) (logs texts : ℕ) → reconciled_text file names r ≡ codes "complete " ++ rest → AllRead r logs texts → texts ≡ logs
+all_where_complete file names (Ended e) rest logs texts same all = absurd (ending_begins file names e rest same)
+all_where_complete file names _ rest logs texts same all = all
 
 pub writes_answer : (IsRight : Reconciled → Type 0) (file : List ℕ) (names : List (List ℕ)) (a : Reconciled) (old new : List ℕ) (result : Result Status RunFault) → IsRight a
     → IfOk result (λ s. s ≡ reconciled_status a) → OnOk result (new ≡ old ++ reconciled_text file names a) → HasWrittenPrefix old new (reconciled_text file names a) → WritesAnswer IsRight file names old new result
 writes_answer IsRight file names a old new (Ok s) right status wrote part = (a, right, status, wrote)
 writes_answer IsRight file names a old new (Err Write) right status wrote part = (a, right, part)
-writes_answer IsRight file names a old new (Err Read) right status wrote part = tt
-writes_answer IsRight file names a old new (Err Memory) right status wrote part = tt
+writes_answer IsRight file names a old new _ right status wrote part = tt

@@ -1,12 +1,7 @@
 -- Words that `frame` writes are read back as what it read.
-use Rattle.vic_answer.proofs.Words.{◌≡◌, ℕ, zero, suc, ◌+◌, ◌-◌, ◌*◌, ◌/◌, ◌%◌, ◌^◌, ◌<◌, ◌≤◌, ◌==◌, Bool, true, false, ◌∷◌, ◌++◌, length, drop, replicate, Ok, decimal, arith, ap, refl, sym, ◌∙◌, lt-ltb, le-leb, eq-eqb, ne_eqb, if◌then◌else◌, w64, bytes_eq-Decides, decode_sized, encode_upper, upper_digits, IsBytes, BitMask, IsMask, IsInRange, IsValid, byte_count, Reply, IsReply, hex_bytes, value_text, words_reading, request_words, reply_words, number_up_to, number_ending, hex_number_in, sixteen_in, longest_mask, value_in, mask_in, bytes_high_first, byte_at, from_be_bytes, to_be_bytes, pow-le-pow_right, from_be_bytes-to_be_bytes_8, decode_sized-twice, decode_of-encode_upper, length-encode_with, Request, Inventory, StayQuiet, IsUid, is_uid, UID_BITS, holds_bits, Asked, Replied}
+use Rattle.vic_answer.proofs.Words.{◌≡◌, ℕ, zero, suc, ◌+◌, ◌-◌, ◌*◌, ◌/◌, ◌%◌, ◌^◌, ◌<◌, ◌≤◌, ◌==◌, Bool, true, false, ◌∷◌, ◌++◌, length, drop, replicate, Ok, decimal, arith, ap, refl, sym, ◌∙◌, lt-ltb, le-leb, eq-eqb, ne_eqb, if◌then◌else◌, w64, bytes_eq-Decides, decode_sized, encode_upper, upper_digits, IsBytes, BitMask, IsMask, IsInRange, IsValid, byte_count, Reply, IsReply, hex_bytes, value_text, words_reading, request_words, reply_words, number_up_to, number_ending, hex_number_in, sixteen_in, longest_mask, value_in, mask_in, bytes_high_first, byte_at, from_be_bytes, to_be_bytes, pow-le-pow_right, from_be_bytes-to_be_bytes_8, decode_sized-twice, decode_of-encode_upper, length-encode_with, Request, Inventory, StayQuiet, IsUid, is_uid, UID_BITS, holds_bits, Asked, Replied, subst, take, take-append-drop, get_or-drop, length-drop}
 use Rattle.std.specs.Fmt.{digits}
 use Rattle.vic_answer.proofs.SpelledWords.{number_found}
-
--- the last bytes of a number, and the zeros before them
-last_bytes : (pad count n : ℕ) → drop pad (bytes_high_first (pad + count) n) ≡ bytes_high_first count n
-last_bytes zero count n = let e : 0 + count ≡ count = omega arith in rw e refl
-last_bytes (suc pad) count n = let e : suc pad + count ≡ suc (pad + count) = omega arith in rw e (last_bytes pad count n)
 
 quotient_zero : (n d : ℕ) → n < d → n / d ≡ 0
 quotient_zero n d h = grind arith
@@ -15,17 +10,14 @@ byte_zero : (k n : ℕ) → n < 256 ^ k → byte_at k n ≡ 0
 byte_zero zero n h = omega arith
 byte_zero (suc k) n h = rw (quotient_zero n (256 ^ suc k) h) refl
 
-zeros_before : (pad count n : ℕ) → n < 256 ^ count → replicate pad 0 ++ bytes_high_first count n ≡ bytes_high_first (pad + count) n
-zeros_before zero count n h = let e : 0 + count ≡ count = omega arith in rw e refl
+-- the bytes before the last of a number are zeros
+zeros_before : (pad count n : ℕ) → n < 256 ^ count → take pad (bytes_high_first (pad + count) n) ≡ replicate pad 0
+zeros_before zero count n h = refl
 zeros_before (suc pad) count n h =
     let e : suc pad + count ≡ suc (pad + count) = omega arith in
     let most = pow-le-pow_right {n = 256} (omega arith) {i = count} {j = pad + count} (omega arith) in
     let none : byte_at (pad + count) n ≡ 0 = byte_zero (pad + count) n (omega (arith, h, most)) in
     rw (e, none) (ap (λ xs. 0 ∷ xs) (zeros_before pad count n h))
-
-length_high : (count n : ℕ) → length (bytes_high_first count n) ≡ count
-length_high zero n = refl
-length_high (suc count) n = ap suc (length_high count n)
 
 bytes_high : (count n : ℕ) → IsBytes (bytes_high_first count n)
 bytes_high zero n i = omega arith
@@ -33,29 +25,20 @@ bytes_high (suc zero) n zero = omega arith
 bytes_high (suc (suc count)) n zero = omega arith
 bytes_high (suc count) n (suc i) = bytes_high count n i
 
-tail_of : (count n : ℕ) → count ≤ 8 → drop (8 - count) (to_be_bytes w64 n) ≡ bytes_high_first count n
-tail_of count n h =
-    let e : (8 - count) + count ≡ 8 = omega arith in
-    ap (λ k. drop (8 - count) (bytes_high_first k n)) (sym e) ∙ last_bytes (8 - count) count n
-
-ending : (count n : ℕ) → count ≤ 8 → n < 256 ^ count → number_ending (bytes_high_first count n) ≡ n
-ending count n h small =
-    let e : (8 - count) + count ≡ 8 = omega arith in
-    let most = pow-le-pow_right {n = 256} (omega arith) {i = count} {j = 8} h in
-    let all : replicate (8 - length (bytes_high_first count n)) 0 ++ bytes_high_first count n ≡ to_be_bytes w64 n =
-    ap (λ k. replicate (8 - k) 0 ++ bytes_high_first count n) (length_high count n)
-    ∙ zeros_before (8 - count) count n small ∙ ap (λ k. bytes_high_first k n) e in
-    ap (from_be_bytes w64) all ∙ from_be_bytes-to_be_bytes_8 n (omega (arith, small, most))
-
 -- that many bytes of a number are read back as it
 pub hex_back : (count n : ℕ) → count ≤ 8 → n < 256 ^ count → hex_number_in count (hex_bytes count n) ≡ Ok n
 hex_back count n h small =
-    let bs = bytes_high_first count n in
-    let word : hex_bytes count n ≡ encode_upper bs = ap encode_upper (tail_of count n h) in
-    let len : length (encode_upper bs) ≡ 2 * count = omega (arith, length-encode_with upper_digits bs, length_high count n) in
-    let decoded : decode_sized (hex_bytes count n) count ≡ Ok bs =
-    ap (λ w. decode_sized w count) word ∙ decode_sized-twice (encode_upper bs) count len ∙ decode_of-encode_upper bs (bytes_high count n) in
-    rw (decoded, ending count n h small, (bytes_eq-Decides (hex_bytes count n) (hex_bytes count n)).1 refl) refl
+    let all = to_be_bytes w64 n in
+    let bs = drop (8 - count) all in
+    let len : length bs ≡ count = omega (arith, length-drop (8 - count) all, h) in
+    let bytes : IsBytes bs = λ i. subst (λ x. x < 256) (sym (get_or-drop (8 - count) all i 0)) (bytes_high 8 n ((8 - count) + i)) in
+    let decoded : decode_sized (hex_bytes count n) count ≡ Ok bs = decode_sized-twice (encode_upper bs) count (omega (arith, length-encode_with upper_digits bs, len)) ∙ decode_of-encode_upper bs bytes in
+    let e : (8 - count) + count ≡ 8 = omega arith in
+    let zeros : take (8 - count) all ≡ replicate (8 - count) 0 = ap (λ k. take (8 - count) (bytes_high_first k n)) (sym e) ∙ zeros_before (8 - count) count n small in
+    let whole : replicate (8 - length bs) 0 ++ bs ≡ all = ap (λ k. replicate (8 - k) 0 ++ bs) len ∙ ap (λ zs. zs ++ bs) (sym zeros) ∙ take-append-drop (8 - count) all in
+    let most = pow-le-pow_right {n = 256} (omega arith) {i = count} {j = 8} h in
+    let ending : number_ending bs ≡ n = ap (from_be_bytes w64) whole ∙ from_be_bytes-to_be_bytes_8 n (omega (arith, small, most)) in
+    rw (decoded, ending, (bytes_eq-Decides (hex_bytes count n) (hex_bytes count n)).1 refl) refl
 
 -- a number in decimal, up to a greatest one
 number_back : (most n : ℕ) → n ≤ most → n < 2 ^ 64 → number_up_to most (decimal n) ≡ Ok n

@@ -1,5 +1,8 @@
 -- Which number a word writes.
-use Rattle.vic_answer.proofs.Words.{◌≡◌, ◌^◌, ◌<◌, ◌&&◌, ℕ, Bool, true, false, List, [], ◌∷◌, length, slice_index, Result, Ok, Err, bytes_eq, nat_lt, decimal, arith, ap, refl, sym, ◌∙◌, lt-ltb, ltb-true, if◌then◌else◌, bytes_eq-Decides, decode_sized, FromHexError, hex_bytes, number_in, hex_number_in, hex_decoded, number_ending, and_parts, ParsesUnsigned, digits_value, decimal_is_IsNumeral, parse-decimal, SpellFault, Words, decode_sized-ok, decode_sized-twice, decode_of-ok}
+use Rattle.vic_answer.proofs.Words.{◌≡◌, ◌^◌, ◌<◌, ℕ, Bool, true, false, List, [], ◌∷◌, length, slice_index, Result, Ok, Err, bytes_eq, nat_lt, decimal, arith, ap, refl, sym, ◌∙◌, lt-ltb, if◌then◌else◌, bytes_eq-Decides, decode_sized, FromHexError, hex_bytes, number_in, hex_number_in, hex_decoded, number_ending, ParsesUnsigned, digits_value, decimal_is_IsNumeral, parse-decimal, SpellFault, Words, decode_sized-ok, decode_sized-twice, decode_of-ok}
+
+pub same : (v w : List ℕ) → bytes_eq v w ≡ true → (bytes_eq v w ≡ true) × (v ≡ w)
+same v w h = (h, (bytes_eq-Decides v w).0 h)
 
 -- the number that a word was written from
 pub number_found : (w : List ℕ) (n : ℕ) → n < 2 ^ 64 → w ≡ decimal n → number_in w ≡ Ok n
@@ -9,17 +12,9 @@ number_found w n small e =
     let same : bytes_eq (decimal n) w ≡ true = (bytes_eq-Decides (decimal n) w).1 (sym e) in
     rw (value, fits, same) refl
 
-by_test : (b : Bool) (n : ℕ) → (b ≡ true → ⊥) → (let r : Result ℕ SpellFault = if b then Ok n else Err Words in r) ≡ Err Words
-by_test true n unmet = absurd (unmet refl)
-by_test false n unmet = refl
-
 -- a word that no number was written as
 pub number_missing : (w : List ℕ) → ((n : ℕ) → n < 2 ^ 64 → w ≡ decimal n → ⊥) → number_in w ≡ Err Words
-number_missing w none =
-    let n = digits_value 10 w in
-    by_test (nat_lt n (2 ^ 64) && bytes_eq (decimal n) w) n (λ t.
-    let p = and_parts (nat_lt n (2 ^ 64)) (bytes_eq (decimal n) w) t in
-    none n (ltb-true n (2 ^ 64) p.0) (sym ((bytes_eq-Decides (decimal n) w).0 p.1)))
+number_missing w none = grind (arith, same, none (digits_value 10 w))
 
 -- the fault if parsing returns none, or another one
 pub number_refused : {E : Type 0} (w : List ℕ) (r : Result ℕ E) → ParsesUnsigned 64 10 w r → ((n : ℕ) → r ≡ Ok n → decimal n ≡ w → ⊥) → number_in w ≡ Err Words

@@ -1,5 +1,5 @@
 -- From what reading returns to what a run answers.
-use Rattle.vic_answer.proofs.Words.{◌≡◌, ℕ, List, Option, Result, Ok, Err, IfOk, IfErr, OnOk, inl, inr, subst, sym, Appends, HasTakenPrefix, RunFault, Status, GivesReading, Stands, IsEnough, RunsWhere, Given, RefusedAt, Read, Write, Memory}
+use Rattle.vic_answer.proofs.Words.{◌≡◌, ℕ, List, Option, Result, Ok, Err, IfOk, IfErr, OnOk, inl, inr, subst, sym, Appends, HasTakenPrefix, RunFault, Status, GivesReading, Stands, IsEnough, RunsWhere, Given, RefusedAt, Write, Bool, Some, IsReading, Writes}
 use Rattle.vic_answer.specs.declared.input.Reading.{Reading}
 
 -- bytes whose reading stands can be answered
@@ -10,7 +10,7 @@ enough IsOver text (RefusedAt n fault) (inr over) = inl over
 
 module _ (IsAnswerTo : List ℕ → List ℕ → Status → Type 0) (HasRead HadRead : List ℕ → Type 0) (IsOver : Type 0) (taken taken' : Option (List ℕ)) where
   -- a run that ends with the writing of its answer
-  pub ends_written : (reading : Reading) (given : GivesReading HasRead IsOver reading) (answer : List ℕ) (status : Status)
+  ends_written : (reading : Reading) (given : GivesReading HasRead IsOver reading) (answer : List ℕ) (status : Status)
       → IsAnswerTo given.text answer status → (r : Result Status RunFault) → IfOk r (λ s. s ≡ status) → OnOk r (Appends taken taken' answer) → HasTakenPrefix taken taken' answer → IfErr r (λ e. e ≡ Write)
       → RunsWhere IsAnswerTo HasRead HadRead IsOver taken taken' r
   ends_written reading given answer status right (Ok s) is written begun fault = record {
@@ -30,5 +30,17 @@ module _ (IsAnswerTo : List ℕ → List ℕ → Status → Type 0) (HasRead Had
     right = right;
     begun = begun;
   }
-  ends_written reading given answer status right (Err Read) is written begun fault = cc
-  ends_written reading given answer status right (Err Memory) is written begun fault = cc
+  ends_written reading given answer status right _ is written begun fault = cc
+
+-- the same, by what the sink tells and by what its writes accepted
+pub ends_told : {W : Type 0} {written : W → List ℕ} {taken : W → Option (List ℕ)} {is_flushed has_failed : W → Bool} {old new : W} {HasRead : List ℕ → Type 0} {IsOver : Type 0} {reading : Reading} {answer : List ℕ} {r : Result Status RunFault}
+    → (IsAnswerTo : List ℕ → List ℕ → Status → Type 0) (HadRead : List ℕ → Type 0) (status : Status) → GivesReading HasRead IsOver reading → ((text : List ℕ) → IsReading text reading → IsAnswerTo text answer status)
+    → IfOk r (λ s. s ≡ status) → Writes written taken is_flushed has_failed old new answer r → RunsWhere IsAnswerTo HasRead HadRead IsOver (taken old) (taken new) r
+ends_told {reading = reading} {answer = answer} {r = r} IsAnswerTo HadRead status given right is w =
+    ends_written IsAnswerTo _ HadRead _ _ _ reading given answer status (right given.text given.right) r is w.all w.begun w.fault
+
+pub ends_bytes : {W : Type 0} {written : W → List ℕ} {taken : W → Option (List ℕ)} {is_flushed has_failed : W → Bool} {old new : W} {HasRead : List ℕ → Type 0} {IsOver : Type 0} {reading : Reading} {answer : List ℕ} {r : Result Status RunFault}
+    → (IsAnswerTo : List ℕ → List ℕ → Status → Type 0) (HadRead : List ℕ → Type 0) (status : Status) → GivesReading HasRead IsOver reading → ((text : List ℕ) → IsReading text reading → IsAnswerTo text answer status)
+    → IfOk r (λ s. s ≡ status) → Writes written taken is_flushed has_failed old new answer r → RunsWhere IsAnswerTo HasRead HadRead IsOver (Some (written old)) (Some (written new)) r
+ends_bytes {written = written} {old = old} {new = new} {reading = reading} {answer = answer} {r = r} IsAnswerTo HadRead status given right is w =
+    ends_written IsAnswerTo _ HadRead _ (Some (written old)) (Some (written new)) reading given answer status (right given.text given.right) r is w.wrote w.part w.fault

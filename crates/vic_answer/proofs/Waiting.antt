@@ -12,23 +12,21 @@ more_waits a b c w w' w'' xs ys h k = (
 
 -- a prefix of a text is one of a longer text
 pub HasTakenPrefix-longer : (a b : Option (List ℕ)) (xs ys : List ℕ) → HasTakenPrefix a b xs → HasTakenPrefix a b (xs ++ ys)
-HasTakenPrefix-longer None b xs ys h = tt
-HasTakenPrefix-longer (Some us) None xs ys h = tt
 HasTakenPrefix-longer (Some us) (Some vs) xs ys h =
     let long = length-append xs ys in
     (h.0, omega arith, h.2 ∙ ap (λ zs. us ++ zs) (sym (take-append-le h.0 xs ys h.1)))
+HasTakenPrefix-longer _ _ xs ys h = tt
 
 -- of what waited and a text only a prefix was taken, behind what was taken before
 pub HasTakenPrefix-behind : (a b c : Option (List ℕ)) (w text more : List ℕ) → HasTakenBut a b w text → HasTakenPrefix b c (w ++ more) → HasTakenPrefix a c (text ++ more)
-HasTakenPrefix-behind None b c w text more h k = tt
-HasTakenPrefix-behind (Some us) None c w text more h k = absurd h.1
-HasTakenPrefix-behind (Some us) (Some vs) None w text more h k = tt
 HasTakenPrefix-behind (Some us) (Some vs) (Some ws) w text more h k =
     let sent = h.0 in
     let whole : text ++ more ≡ sent ++ (w ++ more) = ap (λ zs. zs ++ more) (sym h.2) ∙ append_assoc sent w more in
     let long : length (text ++ more) ≡ length sent + length (w ++ more) = ap length whole ∙ length-append sent (w ++ more) in
     let front : take (length sent + k.0) (text ++ more) ≡ sent ++ take k.0 (w ++ more) = ap (take (length sent + k.0)) whole ∙ take-append-add sent (w ++ more) k.0 in
     (length sent + k.0, omega arith, k.2 ∙ (ap (λ zs. zs ++ take k.0 (w ++ more)) h.1 ∙ (append_assoc us sent (take k.0 (w ++ more)) ∙ ap (λ zs. us ++ zs) (sym front))))
+HasTakenPrefix-behind (Some us) None c w text more h k = absurd h.1
+HasTakenPrefix-behind _ b _ w text more h k = tt
 
 PutsBehind-then : (a b c : Option (List ℕ)) (w w' w'' xs ys : List ℕ) (r : Result ⊤ RunFault) → PutsBehind a b w w' xs (Ok tt) → PutsBehind b c w' w'' ys r → PutsBehind a c w w'' (xs ++ ys) r
 PutsBehind-then a b c w w' w'' xs ys (Ok y) h k = record { told = more_waits a b c w w' w'' xs ys h.told k.told; begun = tt }

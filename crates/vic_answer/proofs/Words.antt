@@ -1,12 +1,13 @@
 -- The words of proofs, from one place: what files name from outside of the crate, and the definitions that several of them name.
-pub use Rattle.std.proofs.Common.{All, Bool, Err, IfErr, IfNone, IfOk, IfSome, IsErr, IsErrAnd, List, MatchOption, MatchResult, None, Ok, OnOk, Option, Result, Some, [], ap, append-nil, append_assoc, arith, bytes_eq, codes, decimal, drop, eq-eqb, eqb-true, false, flat_map, get_or, if◌then◌else◌, inl, inr, le-leb, length, lt-ltb, ltb-true, map, nat_le, nat_lt, ne_eqb, option_map, refl, replicate, rules, set, slice_get, slice_index, string_bytes, subst, suc, sym, take, take-append-drop, true, unwrap_or, w64, zero, ℕ, ⊎_elim, ◌%◌, ◌&&◌, ◌*◌, ◌++◌, ◌+◌, ◌-◌, ◌/◌, ◌<◌, ◌==◌, ◌^◌, ◌∙◌, ◌∷◌, ◌≡◌, ◌≤◌}
+pub use Rattle.std.proofs.Common.{All, Bool, Err, IfErr, IfOk, IsErr, IsErrAnd, List, MatchOption, MatchResult, None, Ok, OnOk, Option, Result, Some, [], ap, append-nil, append_assoc, arith, bytes_eq, codes, decimal, drop, eq-eqb, eqb-true, false, flat_map, get_or, if◌then◌else◌, inl, inr, le-leb, length, lt-ltb, map, nat_lt, ne_eqb, option_map, refl, replicate, rules, set, slice_get, slice_index, string_bytes, subst, suc, sym, take, take-append-drop, true, w64, zero, ℕ, ⊎_elim, ◌%◌, ◌&&◌, ◌*◌, ◌++◌, ◌+◌, ◌-◌, ◌/◌, ◌<◌, ◌==◌, ◌^◌, ◌∙◌, ◌∷◌, ◌≡◌, ◌≤◌}
 pub use Rattle.std.proofs.KnownBytes.{Appends-nil, Appends-trans}
 pub use Rattle.std.proofs.Math.Nat.{pow-le-pow_right}
 pub use Rattle.std.proofs.Math.Seq.{get_or-append_seam, take-append-add, take-append_seam}
 pub use Rattle.std.proofs.lemmas.Bool.{and_parts, cases_lt, false≢true}
 pub use Rattle.std.proofs.lemmas.Fmt.{decimal_is_IsNumeral, parse-decimal}
-pub use Rattle.std.proofs.lemmas.List.{append_cancel_left, drop-replicate, flat_map_more, get_or-set_other, get_or-set_same, get_or_append_left, get_or_default, length-append, length-map, map-append, map_more, take-append-le, take_all, take_more}
+pub use Rattle.std.proofs.lemmas.List.{append_cancel_left, at_drop_all, at_drop_more, drop-replicate, flat_map_more, get_or-drop, get_or-set_other, get_or-set_same, get_or_append_left, get_or_default, length-append, length-drop, length-map, map-append, map_more, take-append-le, take_all, take_more}
 pub use Rattle.std.proofs.lemmas.List.Concat.{flat_map-append}
+pub use Rattle.std.proofs.lemmas.List.FromFn.{fill_by_all}
 pub use Rattle.std.proofs.lemmas.List.Elements.{All-cons, All-head, All-nil, All-tail}
 pub use Rattle.std.proofs.lemmas.Nat.{from_be_bytes-to_be_bytes_8}
 pub use Rattle.std.proofs.lemmas.Result.{IfOk-weaker}
@@ -14,7 +15,7 @@ pub use Rattle.std.proofs.lemmas.Slice.Eq.{bytes_eq-Decides}
 pub use Rattle.std.proofs.lemmas.Slice.Zip.{AllZip-long, all_zipped_more}
 pub use Rattle.std.specs.Int.{byte_at, bytes_high_first, from_be_bytes, to_be_bytes}
 pub use Rattle.std.specs.Io.KnownBytes.{Appends, Consumes}
-pub use Rattle.std.specs.List.{AllZip}
+pub use Rattle.std.specs.List.{AllZip, range_with_len}
 pub use Rattle.std.specs.Prelude.{⊤}
 pub use Rattle.std.specs.Str.Parse.{ParsesUnsigned, digits_value}
 pub use Rattle.hex.proofs.HexLemmas.{decode_of-encode_upper, decode_of-ok, decode_sized-ok, decode_sized-twice, length-encode_with}
@@ -33,7 +34,7 @@ pub use Rattle.vic_frame.specs.declared.uid.TheConstants.{UID_BITS}
 pub use Rattle.vic_log.proofs.One.{not_both}
 pub use Rattle.vic_log.proofs.Places.{slice_get_seam}
 pub use Rattle.vic_log.specs.Device.{HandsOut, HasTakenBut, HasTakenPrefix, HasWrittenPrefix, TellsOn}
-pub use Rattle.vic_log.specs.Early.{HasNoEarlyFault, ReadsWhere}
+pub use Rattle.vic_log.specs.Early.{ReadsWhere}
 pub use Rattle.vic_log.specs.Lines.{lines_of_text}
 pub use Rattle.vic_log.specs.Log.{LogValue}
 pub use Rattle.vic_log.specs.Order.{entries, listed}
@@ -68,15 +69,15 @@ pub use Rattle.vic_reconcile.specs.declared.reconciliation.Reconciliation.{Recon
 pub use Rattle.vic_reconcile.specs.declared.surveys.Survey.{Survey}
 pub use Rattle.vic_answer.specs.CheckText.{BeginsAsCheck, IsAnswer, IsCheckOf, IsCompleteText, answer_line, answer_status, verdict_line}
 pub use Rattle.vic_answer.specs.Digits.{hex_bytes, value_text}
-pub use Rattle.vic_answer.specs.ExplainText.{IsExplanationOf, explained_text, population_line, population_of, population_text}
+pub use Rattle.vic_answer.specs.ExplainText.{IsExplanationOf, explained_text, population_line, population_of}
 pub use Rattle.vic_answer.specs.Readings.{GivesReading, IsReading, Stands}
 pub use Rattle.vic_answer.specs.ReconcileRun.{AllGoing, AllRead, HasReadText, ReadsListAndLogs, ReadsTexts, Reconciles, WritesAnswer}
-pub use Rattle.vic_answer.specs.ReconcileText.{absent_line, all_masks_text, doubtful_text, ending_text, findings_text, masks_text, open_text, reconciled_status, reconciled_text, unlisted_text}
+pub use Rattle.vic_answer.specs.ReconcileText.{absent_line, all_masks_text, doubtful_text, ending_text, masks_text, open_text, reconciled_status, reconciled_text, unlisted_text}
 pub use Rattle.vic_answer.specs.Reconciled.{AreComplete, EndsAt, HasLog, HasPossibleLog, IsKept, IsReconciled, IsReconciling, ReadsText, lines_of}
 pub use Rattle.vic_answer.specs.ReportText.{IsReportOf, absent_text, answer_of, by_line, doubtful_line, more_line, open_line, reported_text, silenced_line, unsettled_text}
 pub use Rattle.vic_answer.specs.Runs.{IsEnough, Runs, RunsOver, RunsWhere, Writes}
 pub use Rattle.vic_answer.specs.SimulateText.{IsSimulationOf, simulated_status, simulated_text}
-pub use Rattle.vic_answer.specs.SpellText.{and_then, hex_decoded, hex_number_in, inventory_in, longest_mask, mask_in, number_ending, number_in, number_up_to, reply_in, reply_of, reply_words, request_words, says_inventory, says_reply, says_stay_quiet, sixteen_in, spelled_text, stay_quiet_in, value_in, word, words_of, words_reading}
+pub use Rattle.vic_answer.specs.SpellText.{and_then, hex_decoded, hex_number_in, inventory_in, longest_mask, mask_in, number_ending, number_in, number_up_to, reply_in, reply_words, request_words, says_inventory, says_reply, says_stay_quiet, sixteen_in, spelled_text, stay_quiet_in, value_in, word, words_of, words_reading}
 pub use Rattle.vic_answer.specs.declared.check.Answer.{Answer}
 pub use Rattle.vic_answer.specs.declared.check.Answer.TheVariants.{Judged}
 pub use Rattle.vic_answer.specs.declared.ending.Ending.{Ending}
@@ -87,8 +88,8 @@ pub use Rattle.vic_answer.specs.declared.reconcile.Reconciled.TheVariants.{Ended
 pub use Rattle.vic_answer.specs.declared.reconcile.Reconciling.{Reconciling}
 pub use Rattle.vic_answer.specs.declared.spell.Said.TheVariants.{Asked, Replied}
 pub use Rattle.vic_answer.specs.declared.spell.SpellFault.{SpellFault}
-pub use Rattle.vic_answer.specs.declared.spell.SpellFault.TheVariants.{Range, Words}
+pub use Rattle.vic_answer.specs.declared.spell.SpellFault.TheVariants.{Words}
 pub use Rattle.vic_answer.specs.declared.status.RunFault.{RunFault}
-pub use Rattle.vic_answer.specs.declared.status.RunFault.TheVariants.{Memory, Read, Write}
+pub use Rattle.vic_answer.specs.declared.status.RunFault.TheVariants.{Write}
 pub use Rattle.vic_answer.specs.declared.status.Status.{Status}
 pub use Rattle.vic_answer.specs.inner.Pieces.{Puts, PutsBehind}

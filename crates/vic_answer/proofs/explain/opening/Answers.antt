@@ -1,14 +1,9 @@
-use Rattle.vic_answer.proofs.Words.{◌≡◌, List, ℕ, [], ◌++◌, Some, length, ap, sym, ◌∙◌, append_assoc, arith, option_map, unwrap_or, answer_line, listed_text, Explained, population_of, population_line, population_text, explained_text}
+use Rattle.vic_answer.proofs.Words.{◌≡◌, List, ℕ, ◌++◌, Some, length, ap, ◌∙◌, append_assoc, arith, option_map, answer_line, listed_text, Explained, population_of, population_line, explained_text}
 use Rattle.vic_answer.specs.ExplainText.{answer_of, uids_of}
 use Rattle.vic_answer.proofs.explain.opening.Goals as goal
 
 with_population : (e : Explained) (us text : List ℕ) → population_of e ≡ Some us → text ≡ answer_line (answer_of e) ++ population_line (length us) → text ++ listed_text (uids_of e) ≡ explained_text e
-with_population e us text is told =
-    let line = answer_line (answer_of e) in
-    let size = population_line (length us) in
-    ap (λ xs. xs ++ listed_text (uids_of e)) told
-    ∙ (ap (λ p. (line ++ size) ++ listed_text (unwrap_or p [])) is
-    ∙ (append_assoc line size (listed_text us) ∙ ap (λ p. line ++ population_text p) (sym is)))
+with_population e us text is told = rw (told, is) (append_assoc (answer_line (answer_of e)) (population_line (length us)) (listed_text us))
 
 pub returns-in-Some : goal.returns-in-Some
 returns-in-Some c =

@@ -1,27 +1,18 @@
-use Rattle.vic_answer.proofs.Words.{refl, Some, answer_status, IsExplanationOf, explained_text}
-use Rattle.vic_answer.specs.ExplainText.{answer_of}
+use Rattle.vic_answer.proofs.Words.{ℕ, List, refl, answer_status, Explained, IsExplanationOf, explained_text}
+use Rattle.vic_answer.specs.ExplainText.{IsExplained, answer_of}
 use Rattle.vic_answer.proofs.CheckLines.{explanation_tells}
 use Rattle.vic_answer.proofs.CompleteRuns.{complete_where_said, complete_where_written}
-use Rattle.vic_answer.proofs.Standing.{ends_written}
+use Rattle.vic_answer.proofs.Standing.{ends_bytes, ends_told}
 use Rattle.vic_answer.proofs.explain.run_explain.Goals as goal
 
+right : (e : Explained) (text : List ℕ) → IsExplained text e → IsExplanationOf text (explained_text e) (answer_status (answer_of e))
+right e text h = record { explained = e; right = h; answer_is = refl; status_is = refl }
+
 pub returns-clause-answer : goal.returns-clause-answer
-returns-clause-answer g c =
-    let r = c.in_ok-reading.ensures.reading in
-    let explained = c.in_ok-explained.explained in
-    let w = c.write_explained.ensures in
-    ends_written IsExplanationOf _ _ _ _ _ c.in_ok-reading.reading r (explained_text explained) (answer_status (answer_of explained))
-    record { explained = explained; right = c.in_ok-explained.ensures r.text r.right; answer_is = refl; status_is = refl }
-    c.write_explained.result w.status w.written.all w.written.begun w.written.fault
+returns-clause-answer g c = ends_told IsExplanationOf _ _ c.in_ok-reading.ensures.reading (λ text h. right c.in_ok-explained.explained text (c.in_ok-explained.ensures text h)) c.write_explained.ensures.status c.write_explained.ensures.written
 
 pub returns-clause-bytes : goal.returns-clause-bytes
-returns-clause-bytes g c =
-    let r = c.in_ok-reading.ensures.bytes in
-    let explained = c.in_ok-explained.explained in
-    let w = c.write_explained.ensures in
-    ends_written IsExplanationOf _ _ _ (Some _) (Some _) c.in_ok-reading.reading r (explained_text explained) (answer_status (answer_of explained))
-    record { explained = explained; right = c.in_ok-explained.ensures r.text r.right; answer_is = refl; status_is = refl }
-    c.write_explained.result w.status w.written.wrote w.written.part w.written.fault
+returns-clause-bytes g c = ends_bytes IsExplanationOf _ _ c.in_ok-reading.ensures.bytes (λ text h. right c.in_ok-explained.explained text (c.in_ok-explained.ensures text h)) c.write_explained.ensures.status c.write_explained.ensures.written
 
 pub returns-clause-whole : goal.returns-clause-whole
 returns-clause-whole g c = complete_where_said IsExplanationOf explanation_tells _ _ _ _ c.write_explained.result (returns-clause-answer g c)

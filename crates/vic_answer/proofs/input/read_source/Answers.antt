@@ -1,4 +1,4 @@
-use Rattle.vic_answer.proofs.Words.{◌≡◌, ℕ, List, Option, Some, None, Err, inl, inr, ⊎_elim, subst, Consumes, HandsOut, TellsOn, lines_of_text, IsFirstFault, Stands, LineFault, LogFault, Line, HasNoEarlyFault, ReadsWhere, RefusedAt}
+use Rattle.vic_answer.proofs.Words.{◌≡◌, ℕ, List, Option, Some, None, Err, inl, inr, ⊎_elim, subst, Consumes, HandsOut, TellsOn, lines_of_text, IsFirstFault, Stands, LineFault, LogFault, Line, ReadsWhere, RefusedAt}
 use Rattle.vic_log.specs.declared.fault.LogFault.TheVariants.{Read}
 use Rattle.vic_answer.proofs.input.read_source.Goals as goal
 
@@ -18,17 +18,14 @@ returns-in-Err-Line-clause-reading g c =
     let r = refused _ a.0 c.in-Err-Line.field-0 c.in-Err-Line.line c.in-Err-Line.fault c.in-Err-Line.field-0-is a.2 in
     record { text = a.0; given = consumed _ _ a.0 a.1 (c.in-Err-Line.ensures.tells (λ e. cc (e, c.in-Err-Line.field-0-is))); right = r.0; stands = r.1 }
 
-unread : (IsOver : Type 0) (text : List ℕ) (e : LogFault) → e ≡ Read → ReadsWhere IsOver text (Err e) → HasNoEarlyFault text
-unread IsOver text e is h = subst (λ (x : LogFault). ReadsWhere IsOver text (Err x)) is h
-
 pub returns-in-Err-Read-clause-reading : goal.returns-in-Err-Read-clause-reading
 returns-in-Err-Read-clause-reading g c =
     let a = c.in-Err-Read.ensures.answer c.new.ensures in
-    let none = unread _ a.0 c.in-Err-Read.field-0 c.in-Err-Read.field-0-is a.2 in
+    let none = rw c.in-Err-Read.field-0-is at a.2 in
     record { text = a.0; given = a.1; none = λ early. none early.line early.fault early.early }
 
 pub returns-in-Err-Read-clause-bytes : goal.returns-in-Err-Read-clause-bytes
 returns-in-Err-Read-clause-bytes g c =
     let a = c.in-Err-Read.ensures.returned c.new.ensures in
-    let none = unread _ a.0 c.in-Err-Read.field-0 c.in-Err-Read.field-0-is a.2 in
+    let none = rw c.in-Err-Read.field-0-is at a.2 in
     record { text = a.0; given = a.1; none = λ early. none early.line early.fault early.early }

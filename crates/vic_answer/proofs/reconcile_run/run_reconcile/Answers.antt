@@ -1,4 +1,4 @@
-use Rattle.vic_answer.proofs.Words.{length, Result, Ok, Err, OnOk, AllRead, IsReconciled}
+use Rattle.vic_answer.proofs.Words.{append_cancel_left, length, sym, ◌∙◌, Result, Ok, Err, OnOk, AllRead, IsReconciled}
 use Rattle.vic_answer.proofs.Reconciles.{all_where_complete, writes_answer}
 use Rattle.vic_answer.proofs.Turns.{read_to_ends, reconciles}
 use Rattle.vic_answer.proofs.reconcile_run.run_reconcile.Goals as goal
@@ -25,5 +25,5 @@ returns-clause-complete g c =
     (λ text texts. IsReconciled text texts answer × AllRead answer (length logs) (length texts)) rest
     (reconciles g.R.Source.returned g.R.Source.ended c.args.list.now c.read_expected.new.source logs c.read_logs.new.logs
     c.in_ok-begun.begun c.in_ok-read.read answer c.in_ok-begun.ensures.text c.in_ok-read.ensures.texts c.in_ok-answer.ensures.answer c.in_ok-answer.ensures.ended)
-    (λ text texts h. (complete text texts rest h.0 now, all_where_complete _ _ answer _ _ rest (length logs) (length texts) wrote now h.1)))
+    (λ text texts h. (complete text texts rest h.0 now, all_where_complete _ _ answer rest (length logs) (length texts) (append_cancel_left _ _ _ (sym wrote ∙ now)) h.1)))
     w.complete w.wrote

@@ -1,21 +1,14 @@
-use Rattle.vic_answer.proofs.Words.{refl, Some, IsSimulationOf, simulated_text, simulated_status}
-use Rattle.vic_answer.proofs.Standing.{ends_written}
+use Rattle.vic_answer.proofs.Words.{ℕ, List, refl, IsSimulationOf, simulated_text, simulated_status}
+use Rattle.vic_answer.specs.SimulateText.{IsSimulated}
+use Rattle.vic_answer.specs.declared.simulate.Simulated.{Simulated}
+use Rattle.vic_answer.proofs.Standing.{ends_bytes, ends_told}
 use Rattle.vic_answer.proofs.simulate.run_simulate.Goals as goal
 
+right : (s : Simulated) (text : List ℕ) → IsSimulated text s → IsSimulationOf text (simulated_text s) (simulated_status s)
+right s text h = record { simulated = s; right = h; answer_is = refl; status_is = refl }
+
 pub returns-clause-answer : goal.returns-clause-answer
-returns-clause-answer g c =
-    let r = c.in_ok-reading.ensures.reading in
-    let simulated = c.in_ok-simulated.simulated in
-    let w = c.write_simulated.ensures in
-    ends_written IsSimulationOf _ _ _ _ _ c.in_ok-reading.reading r (simulated_text simulated) (simulated_status simulated)
-    record { simulated = simulated; right = c.in_ok-simulated.ensures r.text r.right; answer_is = refl; status_is = refl }
-    c.write_simulated.result w.status w.written.all w.written.begun w.written.fault
+returns-clause-answer g c = ends_told IsSimulationOf _ _ c.in_ok-reading.ensures.reading (λ text h. right c.in_ok-simulated.simulated text (c.in_ok-simulated.ensures text h)) c.write_simulated.ensures.status c.write_simulated.ensures.written
 
 pub returns-clause-bytes : goal.returns-clause-bytes
-returns-clause-bytes g c =
-    let r = c.in_ok-reading.ensures.bytes in
-    let simulated = c.in_ok-simulated.simulated in
-    let w = c.write_simulated.ensures in
-    ends_written IsSimulationOf _ _ _ (Some _) (Some _) c.in_ok-reading.reading r (simulated_text simulated) (simulated_status simulated)
-    record { simulated = simulated; right = c.in_ok-simulated.ensures r.text r.right; answer_is = refl; status_is = refl }
-    c.write_simulated.result w.status w.written.wrote w.written.part w.written.fault
+returns-clause-bytes g c = ends_bytes IsSimulationOf _ _ c.in_ok-reading.ensures.bytes (λ text h. right c.in_ok-simulated.simulated text (c.in_ok-simulated.ensures text h)) c.write_simulated.ensures.status c.write_simulated.ensures.written
