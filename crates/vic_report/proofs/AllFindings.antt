@@ -3,7 +3,6 @@ use Rattle.vic_report.proofs.Words.{◌≡◌, ℕ, List, [], ◌∷◌, length,
 use Rattle.vic_report.specs.declared.findings.Unsettled.{Unsettled}
 use Rattle.vic_report.specs.declared.reporting.LogReport.{LogReport}
 use Rattle.vic_report.specs.declared.reporting.LogReport.TheVariants as report
-use Rattle.vic_verdict.specs.declared.judging.Verdict.TheVariants as verdict
 
 pub all_from_has : (P : ℕ → Type 0) (us : List ℕ) → ((u : ℕ) → has us u ≡ true → P u) → All P us
 all_from_has P us h k d below = h (get_or us k d) (member_at us k (get_or us k d) d below refl)
@@ -70,11 +69,9 @@ report_begins lines (report.NotWhole f) h =
 
 -- findings of which none is there begin with a count
 count_of_none : (absent unlisted doubtful : List ℕ) (m : Option BitMask) (count : ℕ) → first_finding absent unlisted m doubtful ≡ Complete count → (absent ≡ []) × (unlisted ≡ []) × (m ≡ None) × (doubtful ≡ [])
-count_of_none (u ∷ absent) unlisted doubtful m count h = cc
-count_of_none [] (u ∷ unlisted) doubtful m count h = cc
-count_of_none [] [] doubtful (Some m) count h = cc
-count_of_none [] [] (u ∷ doubtful) None count h = cc
 count_of_none [] [] [] None count h = (refl, refl, refl, refl)
+count_of_none [] [] doubtful (Some m) count h = cc
+count_of_none _ _ _ _ count h = cc
 
 pub none_where_complete : (lines : List LogLine) (r : LogReport) (count : ℕ) → IsReport lines r → verdict_of r ≡ Complete count → r ≡ report.Complete count
 none_where_complete lines (report.Impossible c) count h is = cc

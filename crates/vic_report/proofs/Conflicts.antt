@@ -1,5 +1,5 @@
 -- Slot lines that no population fits together: all up to the first impossible line do.
-use Rattle.vic_report.proofs.Words.{◌≡◌, ℕ, zero, suc, ◌<◌, ◌≤◌, ◌+◌, ◌-◌, List, [], ◌∷◌, ◌++◌, length, get_or, take, drop, Bool, true, false, cond, Some, refl, sym, ap, ◌∙◌, subst, arith, ⊎_elim, slice_get, nat_le, leb, None, Option, Result, Ok, Err, MatchOption, MatchResult, is_err, option_map, filter, cases_Bool, cases_lt, le-leb, leb-true, leb-false, lt-leb, false≢true, map-append, take-append-drop, All-get_or, filter_passes, slice_get-map, slice_get_within, get_or_from_slice_get, Reply, has, Entry, Sent, Silent, Collision, Heard, Listed, Garbled, FieldCycle, LogLine, entries, IsRisingFrom, Outcome, outcome_at, Fits, CouldHaveGiven, is_quiet, is_slot, FitsLines, IsConflictAt, IsNoQuietReply, IsSilencedBefore, IsSilencedBy, IsSlotLine, IsPossible, IsContradictedAt, entries_to, IsVerdict, place_of, member_at, IsStrictlyIncreasing, agree_upto, outcome_agrees, CouldHaveGiven-front, slice_get-append, Impossible, IsPossible-front, rising_order}
+use Rattle.vic_report.proofs.Words.{◌≡◌, ℕ, zero, suc, ◌<◌, ◌≤◌, ◌+◌, ◌-◌, List, [], ◌∷◌, ◌++◌, length, get_or, take, drop, Bool, true, false, cond, Some, refl, sym, ap, ◌∙◌, subst, arith, ⊎_elim, slice_get, nat_le, leb, None, Option, Result, Ok, Err, MatchOption, MatchResult, is_err, option_map, filter, cases_Bool, le-leb, leb-true, leb-false, lt-leb, map-append, take-append-drop, All-get_or, filter_passes, slice_get-map, slice_get_within, get_or_from_slice_get, Reply, has, Entry, Sent, Heard, Listed, FieldCycle, LogLine, entries, IsRisingFrom, Outcome, outcome_at, Fits, CouldHaveGiven, is_quiet, is_slot, FitsLines, IsConflictAt, IsNoQuietReply, IsSilencedBefore, IsSilencedBy, IsSlotLine, IsPossible, IsContradictedAt, entries_to, IsVerdict, place_of, member_at, IsStrictlyIncreasing, agree_upto, outcome_agrees, CouldHaveGiven-front, slice_get-append, Impossible, IsPossible-front, rising_order, cases_eq, true_from_ne_false}
 
 -- ---- the lines 1 to n
 
@@ -68,13 +68,10 @@ number_within n lines i x k =
 
 -- only slot lines have to fit
 fits_if_slot : (e : Entry) (o : Outcome) → (is_slot e ≡ true → Fits e o) → Fits e o
-fits_if_slot Silent o h = h refl
-fits_if_slot Collision o h = h refl
-fits_if_slot (Heard r) o h = h refl
-fits_if_slot Garbled o h = h refl
 fits_if_slot (Sent q) o h = tt
 fits_if_slot (Listed u) o h = tt
 fits_if_slot FieldCycle o h = tt
+fits_if_slot _ o h = h refl
 
 -- the numbers have all slot lines up to line n
 abbrev pub HaveSlotsTo : List LogLine → ℕ → List ℕ → Type 0
@@ -93,10 +90,7 @@ given_to lines n numbers p r all fits i e k =
     (fits i x.0 there (all i x.0 there (number_within n lines i x.0 x.1) (subst (λ f. is_slot f ≡ true) (sym x.2) slot)))))
 
 below_last : (m n : ℕ) (xs : List ℕ) → m ≤ suc n → has xs m ≡ true → has xs (suc n) ≡ false → m ≤ n
-below_last m n xs small here none =
-    ⊎_elim (λ lt. omega arith) (λ ge.
-    let same : m ≡ suc n = omega arith in
-    absurd (false≢true (sym none ∙ (ap (has xs) (sym same) ∙ here)))) (cases_lt m (suc n))
+below_last m n xs small here none = grind (arith, cases_eq m (suc n))
 
 -- a population that could have produced the lines up to n fits each of them
 pub fits_given : (lines : List LogLine) (n : ℕ) (p : List ℕ) (i : ℕ) (l : LogLine) → IsRisingFrom 0 lines → CouldHaveGiven p (entries_to n lines) → slice_get lines i ≡ Some l → l.number ≤ n → Fits l.item (outcome_at (entries lines) i p)
@@ -109,10 +103,7 @@ fits_given lines n p i l r given k small =
 pub last_is_slot : (lines : List LogLine) (n : ℕ) (xs : List ℕ) → IsRisingFrom 0 lines → IsVerdict lines (Impossible n) → ((m : ℕ) → has xs m ≡ true → m ≤ n) → HaveSlotsTo lines n xs → has xs n ≡ true
 last_is_slot lines zero xs r least upto all =
     absurd (least.0 (subst IsPossible (sym (ap entries (none_before 0 0 lines (omega arith) r))) ([], tt, λ i e k. cc)))
-last_is_slot lines (suc n) xs r least upto all =
-    ⊎_elim
-    (λ here. here)
-    (λ none.
+last_is_slot lines (suc n) xs r least upto all = true_from_ne_false (has xs (suc n)) (λ none.
     let possible_stays : IsPossible (entries_to n lines) → IsPossible (entries_to (suc n) lines) = λ q. (
       q.0,
       q.1,
@@ -121,8 +112,7 @@ last_is_slot lines (suc n) xs r least upto all =
           fits_given lines n q.0 i l r q.2 k (below_last l.number n xs small h none)),
     ) in
     let too_small = least.1 n (λ q. least.0 (possible_stays q)) in
-    absurd (omega arith))
-    (cases_Bool (has xs (suc n)))
+    omega arith)
 
 -- all slot lines up to the first impossible one are a conflict
 pub slots_conflict : (lines : List LogLine) (n : ℕ) (xs zs : List ℕ) → IsRisingFrom 0 lines → IsVerdict lines (Impossible n) → ((m : ℕ) → has xs m ≡ true → (m ≤ n) × IsSlotLine lines m) → HaveSlotsTo lines n xs → IsStrictlyIncreasing zs → ((m : ℕ) → has zs m ≡ has xs m) → IsConflictAt lines n zs
@@ -169,14 +159,8 @@ err_of P Q (Err e) err m = (e, m)
 same_place : (k : ℕ) (lines : List LogLine) (i j : ℕ) (l x : LogLine) → IsRisingFrom k lines → slice_get lines i ≡ Some l → slice_get lines j ≡ Some x → l.number ≡ x.number → i ≡ j
 same_place k [] i j l x r g h e = cc
 same_place k (y ∷ lines) zero zero l x r g h e = refl
-same_place k (y ∷ lines) zero (suc j) l x r g h e =
-    let above = number_above j y.number lines x r.1 h in
-    let same : y.number ≡ l.number = cc in
-    omega arith
-same_place k (y ∷ lines) (suc i) zero l x r g h e =
-    let above = number_above i y.number lines l r.1 g in
-    let same : y.number ≡ x.number = cc in
-    omega arith
+same_place k (y ∷ lines) zero (suc j) l x r g h e = grind (arith, number_above j y.number lines x r.1 h)
+same_place k (y ∷ lines) (suc i) zero l x r g h e = grind (arith, number_above i y.number lines l r.1 g)
 same_place k (y ∷ lines) (suc i) (suc j) l x r g h e = ap suc (same_place y.number lines i j l x r.1 g h e)
 
 line_with : (lines : List LogLine) (n i : ℕ) (l : LogLine) (r : Reply) → slice_get lines i ≡ Some l → l.number ≡ n → slice_get (entries lines) i ≡ Some (Heard r) → l ≡ record { number = n; item = Heard r }

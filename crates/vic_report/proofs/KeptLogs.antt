@@ -1,5 +1,5 @@
 -- Entries of which some slots are kept, each behind a request of its own: the same tags are Quiet, and a population that fits the kept slots could have produced them.
-use Rattle.vic_report.proofs.Words.{◌≡◌, ℕ, suc, ◌+◌, ◌-◌, List, [], ◌∷◌, ◌++◌, length, Bool, true, false, not, ◌&&◌, ◌||◌, Option, Some, sym, ap, ◌∙◌, subst, arith, length-append, add-one, refl, slice_get, if◌then◌else◌, None, Result, Ok, Err, OnOk, filter_agree, Entry, Sent, Silent, Collision, Heard, Listed, Garbled, FieldCycle, LogLine, is_slot, mask_at, mask_of_slot, mask_since, ends_round, opener, slots_left, is_quiet, silences, wakes, Outcome, answers_at, outcome_of, outcome_at, Fits, CouldHaveGiven, AreValid, entries, listed, refusal, AreNumbered, SameQuiet, HasSlotAdded, KeepsLine, BitMask, Inventory, Request, IsValidEntry, quiet_agrees, agree_upto, slice_get_last, CouldHaveGiven-push, IsInOrder-push, entries-push, last_from-push, listed-append, rising-push, slots_left-push, valid-push}
+use Rattle.vic_report.proofs.Words.{◌≡◌, ℕ, suc, ◌+◌, ◌-◌, List, [], ◌∷◌, ◌++◌, length, Bool, true, false, not, ◌&&◌, ◌||◌, Option, Some, sym, ap, ◌∙◌, subst, arith, length-append, add-one, refl, slice_get, if◌then◌else◌, None, Result, Ok, Err, OnOk, filter_agree, Entry, Sent, Listed, FieldCycle, LogLine, is_slot, mask_at, mask_of_slot, mask_since, ends_round, opener, slots_left, is_quiet, silences, wakes, Outcome, answers_at, outcome_of, outcome_at, Fits, CouldHaveGiven, AreValid, entries, listed, refusal, AreNumbered, SameQuiet, HasSlotAdded, KeepsLine, BitMask, Inventory, IsValidEntry, quiet_agrees, agree_upto, slice_get_last, CouldHaveGiven-push, IsInOrder-push, entries-push, last_from-push, listed-append, rising-push, slots_left-push, valid-push}
 
 -- who is Quiet after an entry
 abbrev pub quiet_after : Option Entry → Bool → ℕ → Bool
@@ -77,12 +77,6 @@ entry_passed (Err x) i mask is_kept e old new any added = tt
 
 -- ---- entries that may follow others that list nothing
 
-pub request_follows : (es : List Entry) (q : Request) → listed es ≡ [] → refusal es (Sent q) ≡ None
-request_follows es q none = rw none refl
-
-pub cycle_follows : (es : List Entry) → listed es ≡ [] → refusal es FieldCycle ≡ None
-cycle_follows es none = rw none refl
-
 slot_left : (es : List Entry) (m : BitMask) → slots_left (es ++ Sent (Inventory 2 false m) ∷ []) (length (es ++ Sent (Inventory 2 false m) ∷ [])) ≡ 1
 slot_left es m =
     let q = Sent (Inventory 2 false m) in
@@ -92,10 +86,7 @@ pub slot_follows : (es : List Entry) (m : BitMask) (e : Entry) → is_slot e ≡
 slot_follows es m (Sent q) slot = cc
 slot_follows es m (Listed u) slot = cc
 slot_follows es m FieldCycle slot = cc
-slot_follows es m Silent slot = rw (slot_left es m) refl
-slot_follows es m Collision slot = rw (slot_left es m) refl
-slot_follows es m (Heard r) slot = rw (slot_left es m) refl
-slot_follows es m Garbled slot = rw (slot_left es m) refl
+slot_follows es m _ slot = rw (slot_left es m) refl
 
 pub numbered_more : (lines : List LogLine) (l : LogLine) → AreNumbered lines → l.number ≡ length lines + 1 → IsValidEntry l.item → listed (l.item ∷ []) ≡ [] → refusal (entries lines) l.item ≡ None → AreNumbered (lines ++ l ∷ [])
 numbered_more lines l a number valid lists follows =
@@ -113,12 +104,7 @@ numbered_more lines l a number valid lists follows =
 
 pub valid_entry : (es : List Entry) (i : ℕ) (e : Entry) → AreValid es → slice_get es i ≡ Some e → IsValidEntry e
 valid_entry es i (Sent q) valid k = valid i q k
-valid_entry es i (Listed u) valid k = tt
-valid_entry es i FieldCycle valid k = tt
-valid_entry es i Silent valid k = tt
-valid_entry es i Collision valid k = tt
-valid_entry es i (Heard r) valid k = tt
-valid_entry es i Garbled valid k = tt
+valid_entry es i _ valid k = tt
 
 pub none_numbered : AreNumbered []
 none_numbered = record {

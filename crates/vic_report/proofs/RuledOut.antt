@@ -1,5 +1,5 @@
 -- Lines that rule out UIDs, and those that leave them open.
-use Rattle.vic_report.proofs.Words.{◌≡◌, ℕ, ◌+◌, ◌<◌, ◌==◌, ◌&&◌, List, length, get_or, take, Bool, true, false, not, Some, refl, sym, ap, ◌∙◌, subst, add-one, ⊎_elim, slice_get, All, and_parts, and_from, not_from_false, cases_eq, eq-eqb, ne_eqb, get_or_default, All-more, Entry, Sent, Silent, Collision, Heard, Listed, Garbled, FieldCycle, LogLine, entries, answers_at, reading_of, slots_before, is_open, ShownUid, IsRuledOut, RulesOut, lacks_reply_of, entry_allows, open_step}
+use Rattle.vic_report.proofs.Words.{◌≡◌, ℕ, ◌+◌, ◌<◌, ◌==◌, ◌&&◌, List, length, get_or, take, Bool, true, false, not, Some, refl, sym, ap, ◌∙◌, subst, add-one, ⊎_elim, slice_get, All, and_parts, and_from, not_from_false, cases_eq, eq-eqb, ne_eqb, get_or_default, All-more, Entry, Silent, Heard, LogLine, entries, answers_at, reading_of, slots_before, is_open, ShownUid, IsRuledOut, RulesOut, lacks_reply_of, entry_allows, open_step}
 
 -- the line at position i rules the UID out where a test says so
 pub rules_out_from : (lines : List LogLine) (i : ℕ) (l : LogLine) (u : ℕ) (b : Bool) → slice_get lines i ≡ Some l → b ≡ (lacks_reply_of l.item u && answers_at (entries lines) i u) → b ≡ true → RulesOut lines l.number u
@@ -14,12 +14,7 @@ allows_else (Heard r) true u h =
     (λ e. eq-eqb u r.uid (sym e))
     (λ ne. let other : (r.uid == u) ≡ false = ne_eqb r.uid u ne in let no = ap (λ b. not b && true) (sym other) ∙ h in cc)
     (cases_eq r.uid u)
-allows_else (Heard r) false u h = refl
-allows_else Collision answers u h = refl
-allows_else Garbled answers u h = refl
-allows_else (Sent q) answers u h = refl
-allows_else (Listed v) answers u h = refl
-allows_else FieldCycle answers u h = refl
+allows_else _ answers u h = refl
 
 -- and leaves it open where the test says no
 pub open_passed : (es : List Entry) (i : ℕ) (e : Entry) (u : ℕ) (b : Bool) → slice_get es i ≡ Some e → b ≡ (lacks_reply_of e u && answers_at es i u) → b ≡ false → is_open (slots_before es i) u ≡ true → is_open (slots_before es (i + 1)) u ≡ true

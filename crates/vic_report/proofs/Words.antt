@@ -1,8 +1,8 @@
 -- The words of proofs, from one place: what files name from outside of the crate, and the definitions that several of them name.
 pub use Rattle.std.proofs.Common.{All, Bool, Err, List, MatchOption, MatchResult, None, Ok, OnOk, Option, Result, Some, [], add-one, ap, arith, cond, drop, false, filter, get_or, if◌then◌else◌, is_err, leb, length, length-append, ltb-true, nat_eq, nat_le, not, option_map, refl, rules, slice_get, subst, suc, sym, take, true, zero, ℕ, ⊎_elim, ◌&&◌, ◌*◌, ◌++◌, ◌+◌, ◌-◌, ◌<◌, ◌==◌, ◌||◌, ◌↔◌, ◌∙◌, ◌∷◌, ◌≡◌, ◌≤◌}
-pub use Rattle.std.proofs.lemmas.Bool.{and_from, and_parts, cases_Bool, cases_eq, cases_lt, eq-eqb, eqb-true, false≢true, le-leb, leb-false, leb-true, lt-leb, ne_eqb, not-true, not_from_false}
-pub use Rattle.std.proofs.lemmas.List.{get_or_default, length-map, map-append, take-append-drop, take_all, take_more}
-pub use Rattle.std.proofs.lemmas.List.Elements.{All-get_or, All-more, All-push, filter_agree, filter_passes}
+pub use Rattle.std.proofs.lemmas.Bool.{and_from, and_parts, cases_Bool, cases_eq, cases_lt, eq-eqb, eqb-true, le-leb, leb-false, leb-true, lt-leb, ne_eqb, not-true, not_from_false, true_from_ne_false}
+pub use Rattle.std.proofs.lemmas.List.{get_or_default, length-map, map-append, map_push, take-append-drop, take_all, take_more}
+pub use Rattle.std.proofs.lemmas.List.Elements.{All-contains, All-get_or, All-more, All-push, filter_agree, filter_passes}
 pub use Rattle.std.proofs.lemmas.List.Filters.{dedup_is}
 pub use Rattle.std.proofs.lemmas.List.Sorted.{All-permutation, IsPermutation-sym, list_any-IsPermutation}
 pub use Rattle.std.proofs.lemmas.Map.Keys.{IsStrictlyIncreasing-dedup}
@@ -12,7 +12,6 @@ pub use Rattle.std.specs.List.Sorted.{IsStrictlyIncreasing}
 pub use Rattle.vic_frame.specs.Masks.{BitMask}
 pub use Rattle.vic_frame.specs.Replies.{Reply}
 pub use Rattle.vic_frame.specs.Uids.{IsUid, has}
-pub use Rattle.vic_frame.specs.declared.request.Request.{Request}
 pub use Rattle.vic_frame.specs.declared.request.Request.TheVariants.{Inventory}
 pub use Rattle.vic_log.proofs.Places.{CouldHaveGiven-front, CouldHaveGiven-push, agree_upto, outcome_agrees, quiet_agrees, slice_get-append, slice_get_last}
 pub use Rattle.vic_log.proofs.Push.{IsInOrder-push, entries-push, last_from-push, listed-append, rising-push, rising_long, slots_left-push, valid-push}
@@ -42,13 +41,12 @@ pub use Rattle.vic_verdict.proofs.Possibility.{IsPossible-front}
 pub use Rattle.vic_verdict.proofs.Stands.{entry_at}
 pub use Rattle.vic_verdict.proofs.Verdicts.{first_lines}
 pub use Rattle.vic_verdict.specs.Demands.{IsFound}
-pub use Rattle.vic_verdict.specs.Differences.{AreDifferences, IsLeftOpen, IsOpenUid, MayBeMissing}
+pub use Rattle.vic_verdict.specs.Differences.{IsLeftOpen, IsOpenUid, MayBeMissing}
 pub use Rattle.vic_verdict.specs.Places.{answering}
 pub use Rattle.vic_verdict.specs.Possible.{IsCertainUid, IsContradictedAt, IsPossible, IsPossibleUid}
 pub use Rattle.vic_verdict.specs.Rising.{IsFailing, IsListOf}
 pub use Rattle.vic_verdict.specs.Verdict.{IsAbsent, IsFirstMask, IsUnlisted, IsVerdict, NoSuch, entries_to}
 pub use Rattle.vic_verdict.specs.declared.demands.Found.{Found}
-pub use Rattle.vic_verdict.specs.declared.findings.Differences.{Differences}
 pub use Rattle.vic_verdict.specs.declared.judging.Verdict.TheVariants.{Complete, Impossible}
 pub use Rattle.vic_report.specs.Conflicts.{FitsLines, IsConflictAt, IsNoQuietReply, IsSilencedBefore, IsSilencedBy, IsSlotLine}
 pub use Rattle.vic_report.specs.Findings.{IsRuledOut, IsToldOf, MayAnswer, RulesOut, ShowsCertain, TellsOf, lacks_reply_of, uids_of}

@@ -1,13 +1,6 @@
-use Rattle.vic_report.proofs.Words.{◌≡◌, ℕ, Bool, true, List, ◌∙◌, sym, ap, subst, MatchOption, has, entries, listed, AreDifferences, IsLeftOpen, IsPossibleUid, IsCertainUid, IsFailing, IsListOf, IsAbsent, IsUnlisted, NoSuch, AreOpenMasks, IsUnsettledWith, has_key, without_keys, is_open_in, Differences, AreListed, log_facts, all_findings, doubtful_list}
+use Rattle.vic_report.proofs.Words.{◌≡◌, true, ◌∙◌, sym, ap, subst, MatchOption, has, entries, listed, IsLeftOpen, IsPossibleUid, IsCertainUid, IsListOf, IsAbsent, IsUnlisted, NoSuch, AreOpenMasks, IsUnsettledWith, has_key, without_keys, is_open_in, AreListed, log_facts, all_findings, doubtful_list}
 use Rattle.vic_report.proofs.AllFindings.{left_to_ask, open_set, shut_all}
 use Rattle.vic_report.proofs.findings.find_findings.Goals as goal
-
--- the members of one list that aren't in another, by other names of the two
-renamed : (us us' vs vs' ys : List ℕ) → us ≡ us' → vs ≡ vs' → IsListOf (IsFailing us (has vs)) ys → IsListOf (IsFailing us' (has vs')) ys
-renamed us us' vs vs' ys e f l = subst (λ ws. IsListOf (IsFailing ws (has vs')) ys) e (subst (λ ws. IsListOf (IsFailing us (has ws)) ys) f l)
-
-compared : (set : ℕ → Bool) (certain certain' us us' : List ℕ) (d : Differences) → certain ≡ certain' → us ≡ us' → AreDifferences set certain us d → AreDifferences set certain' us' d
-compared set certain certain' us us' d e f h = subst (λ ws. AreDifferences set certain' ws d) f (subst (λ ws. AreDifferences set ws us d) e h)
 
 pub lines_of_absent-requires-clause-shut : goal.lines_of_absent-requires-clause-shut
 lines_of_absent-requires-clause-shut c =
@@ -15,7 +8,7 @@ lines_of_absent-requires-clause-shut c =
     let us = c.in_ok-listed.listed.items in
     let certain = c.args.facts.certain.items in
     let d = c.in_ok-found.found in
-    let here = compared (is_open_in c.args.facts.open) c.deref-3.result.now certain c.deref-4.result.now us d c.deref-3.ensures.value c.deref-4.ensures.value c.in_ok-found.ensures in
+    let here = rw (c.deref-3.ensures.value, c.deref-4.ensures.value) at c.in_ok-found.ensures in
     rw c.deref-9.ensures.value (shut_all es (is_open_in c.args.facts.open) us certain d.absent.items c.requires.facts.told.uids_open c.in_ok-listed.ensures.uids here.absent)
 
 pub lines_of_certain-requires-clause-forced : goal.lines_of_certain-requires-clause-forced
@@ -34,7 +27,7 @@ returns c =
     let d = c.in_ok-found.found in
     let facts = log_facts es set certain c.requires.facts.told in
     let own : AreListed us (listed es) = record { members = c.in_ok-listed.ensures.members; are_uids = c.in_ok-listed.ensures.uids } in
-    let here = compared set c.deref-3.result.now certain c.deref-4.result.now us d c.deref-3.ensures.value c.deref-4.ensures.value c.in_ok-found.ensures in
+    let here = rw (c.deref-3.ensures.value, c.deref-4.ensures.value) at c.in_ok-found.ensures in
     let all = all_findings (IsPossibleUid es) (IsCertainUid es) set certain us (listed es) d facts own here in
     let masks : AreOpenMasks es c.open_masks_besides-masks.result = record {
       set = without_keys set keys;
@@ -49,7 +42,7 @@ returns c =
       unlisted_shown = c.in_ok-lines_of_certain.ensures.shown;
       unsettled = subst (λ o. MatchOption o (NoSuch (IsLeftOpen es)) (IsUnsettledWith es)) (sym c.left_to_ask.ensures) (left_to_ask es d.unsettled c.open_masks_besides-masks.result all.unsettled masks);
       doubtful = doubtful_list (IsPossibleUid es) (IsCertainUid es) set certain us (listed es) some d.absent.items c.in_ok-doubtful.doubtful.items facts own
-          (renamed c.deref-5.result.now us c.deref-6.result.now certain some c.deref-5.ensures.value c.deref-6.ensures.value c.in_ok-uncertain.ensures)
+          (rw (c.deref-5.ensures.value, c.deref-6.ensures.value) at c.in_ok-uncertain.ensures)
           here.absent
-          (renamed c.deref-7.result.now some c.deref-8.result.now d.absent.items c.in_ok-doubtful.doubtful.items c.deref-7.ensures.value c.deref-8.ensures.value c.in_ok-doubtful.ensures);
+          (rw (c.deref-7.ensures.value, c.deref-8.ensures.value) at c.in_ok-doubtful.ensures);
     }

@@ -1,4 +1,4 @@
-use Rattle.vic_report.proofs.Words.{[], ◌∷◌, ◌++◌, take, ap, ◌∙◌, sym, subst, All, map-append, take_more, All-push, ShownUid, IsToldOf, uids_of}
+use Rattle.vic_report.proofs.Words.{[], ◌∷◌, ◌++◌, take, ap, sym, subst, All, take_more, All-push, IsToldOf, map_push}
 use Rattle.vic_report.proofs.told.lines_of_certain.Goals as goal
 
 pub line_of-line-requires-clause-found : goal.line_of-line-requires-clause-found
@@ -15,9 +15,6 @@ loop-uid-preserved c =
     let u = c.uid-item.result in
     let before = c.loop-uid.invariant in
     record {
-      uids =
-          ap uids_of c.in_ok-push.ensures.items
-          ∙ (map-append (λ (s : ShownUid). s.uid) c.loop-uid.shown.items _
-          ∙ (ap (λ vs. vs ++ u ∷ []) before.uids ∙ (ap (λ v. take i us ++ v ∷ []) c.uid-item.is ∙ sym (take_more us i u c.loop-uid-test.true))));
+      uids = rw (c.in_ok-push.ensures.items, map_push, before.uids, take_more us i u c.loop-uid-test.true) (ap (λ v. take i us ++ v ∷ []) c.uid-item.is);
       shown = rw c.in_ok-push.ensures.items (All-push (IsToldOf c.args.lines.now) c.loop-uid.shown.items _ before.shown c.line_of-line.ensures);
     }
