@@ -1,5 +1,5 @@
 -- The first fault of arrays.
-use Rattle.vicinity_c.proofs.Words.{◌≡◌, ℕ, zero, suc, ◌+◌, ◌<◌, ◌≤◌, List, [], ◌∷◌, ◌++◌, Bool, true, false, ◌||◌, cond, length, map, take, Some, refl, sym, ap, subst, ◌∙◌, ⊎_elim, arith, append-nil, append_assoc, length-append, nat_cmp, nat_eq, slice_get, option_map, length-map, take-append-le, take_all, take_more, get_or_from_slice_get, slice_get_within, IsUid, has, VicinityMask, HaveNoFault, IsFirst, expected_fault, expected_faults, faults_behind, faults_of, mask_fault, uid_fault, slice_get-map, slice_get-append, is_at, cases_eq, false_from_ne_true, false≢true, or_right, common_steps, list_any-append, All-append, All-push, or-false, take-append-add, has_at, has_cases, is_uid_from}
+use Rattle.vicinity_c.proofs.Words.{◌≡◌, ℕ, zero, suc, ◌+◌, ◌<◌, ◌≤◌, List, [], ◌∷◌, ◌++◌, Bool, true, false, cond, length, map, take, Some, refl, sym, ap, subst, ◌∙◌, arith, append-nil, append_assoc, length-append, nat_cmp, nat_eq, slice_get, option_map, length-map, take-append-le, take_all, take_more, get_or_from_slice_get, slice_get_within, IsUid, has, VicinityMask, HaveNoFault, IsFirst, expected_fault, expected_faults, faults_behind, faults_of, mask_fault, uid_fault, slice_get-map, slice_get-append, is_at, common_steps, list_any-append, All-append, All-push, take-append-add, is_uid_from}
 
 -- ---- one list of faults behind another
 
@@ -78,20 +78,4 @@ expected_sound before u few i new = let is = is_uid_from u i in grind (arith, co
 
 -- one more was seen
 pub seen_more : (before : List ℕ) (u w : ℕ) (old new : Bool) → new ≡ cond (is_at (nat_cmp u) w) true old → old ≡ has before w → new ≡ has (before ++ u ∷ []) w
-seen_more before u w old new e h =
-    ⊎_elim
-    (λ same. e ∙ ap (λ b. cond b true old) (at_same u w same) ∙ sym (more ∙ or_right (has before w) _ (has_at w u [] same)))
-    (λ other. e ∙ ap (λ b. cond b true old) (not_at u w other) ∙ h ∙ sym (more ∙ ap (λ b. has before w || b) (none other) ∙ or-false (has before w)))
-    (cases_eq w u)
-  where
-    more : has (before ++ u ∷ []) w ≡ (has before w || has (u ∷ []) w)
-    more = list_any-append (nat_eq w) before (u ∷ [])
-
-    none : (w ≡ u → ⊥) → has (u ∷ []) w ≡ false
-    none other = false_from_ne_true _ (λ t. ⊎_elim other (λ n. false≢true n) (has_cases w u [] t))
-
-    at_same : (k v : ℕ) → v ≡ k → is_at (nat_cmp k) v ≡ true
-    at_same k v s = let f : k ≡ v = sym s in grind (arith, common_steps, f)
-
-    not_at : (k v : ℕ) → (v ≡ k → ⊥) → is_at (nat_cmp k) v ≡ false
-    not_at k v n = let m : k ≡ v → ⊥ = λ s. n (sym s) in grind (arith, common_steps, m)
+seen_more before u w old new e h = grind (arith, common_steps, e, h, list_any-append (nat_eq w) before (u ∷ []))

@@ -1,5 +1,5 @@
 -- UIDs on lines after a text.
-use Rattle.vicinity_c.proofs.Words.{◌≡◌, ℕ, ◌+◌, ◌<◌, suc, List, [], ◌∷◌, ◌++◌, length, drop, drop-cons, slice_index, ap, sym, ◌∙◌, append_assoc, append-nil, arith, w64, drop_all, entry_text, listed_text, to_be_bytes, Listed, lf, bytes_line}
+use Rattle.vicinity_c.proofs.Words.{◌≡◌, ℕ, ◌+◌, ◌<◌, suc, List, [], ◌∷◌, ◌++◌, length, drop, drop-cons, slice_index, ap, sym, ◌∙◌, append_assoc, arith, w64, entry_text, listed_text, to_be_bytes, Listed, lf, bytes_line}
 
 -- one line more
 pub next_uid : (text : List ℕ) (us : List ℕ) (i : ℕ) → i < length us
@@ -10,7 +10,3 @@ next_uid text us i h =
     append_assoc text (bytes_line 85 (to_be_bytes w64 u)) (listed_text (drop (i + 1) us))
     ∙ ap (λ xs. text ++ xs) (append_assoc (entry_text (Listed u)) (lf ∷ []) (listed_text (drop (i + 1) us))
     ∙ ap listed_text (ap (λ n. u ∷ drop n us) next ∙ sym (drop-cons us i 0 h)))
-
--- none is left
-pub all_listed : (text : List ℕ) (us : List ℕ) (i : ℕ) → length us ≡ i → text ++ listed_text (drop i us) ≡ text
-all_listed text us i e = ap (λ vs. text ++ listed_text vs) (drop_all i us (omega (arith, e))) ∙ append-nil text

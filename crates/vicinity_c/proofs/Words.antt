@@ -1,11 +1,10 @@
 -- The words of proofs, from one place: what files name from outside of the crate, and the definitions that several of them name.
-pub use Rattle.std.proofs.Common.{Bool, Err, List, None, Ok, Option, Some, [], add-one, ap, append-nil, append_assoc, arith, cond, drop, drop-cons, false, get_or, inl, inr, length, length-append, map, nat_cmp, nat_eq, option_map, refl, replicate, slice_get, slice_index, subst, suc, sym, take, true, w64, zero, ℕ, ⊎_elim, ◌%◌, ◌++◌, ◌+◌, ◌/◌, ◌<◌, ◌||◌, ◌∙◌, ◌∷◌, ◌≡◌, ◌≤◌}
-pub use Rattle.std.proofs.Math.Bool.{or-false}
+pub use Rattle.std.proofs.Common.{Bool, Err, List, None, Ok, Option, Some, [], add-one, ap, append-nil, append_assoc, arith, cond, drop, drop-cons, false, get_or, inl, inr, length, length-append, map, nat_cmp, nat_eq, option_map, refl, replicate, rules, slice_get, slice_index, subst, suc, sym, take, true, w64, zero, ℕ, ◌%◌, ◌++◌, ◌+◌, ◌/◌, ◌<◌, ◌∙◌, ◌∷◌, ◌≡◌, ◌≤◌}
 pub use Rattle.std.proofs.Math.ListN.{set}
 pub use Rattle.std.proofs.Math.Seq.{take-append-add}
-pub use Rattle.std.proofs.lemmas.Bool.{cases_eq, false_from_ne_true, false≢true, not-true, or_right}
+pub use Rattle.std.proofs.lemmas.Bool.{not-true}
 pub use Rattle.std.proofs.lemmas.Grind.{common_steps}
-pub use Rattle.std.proofs.lemmas.List.{drop-replicate, drop_all, length-map, length-take-le, map-append, map-id, take-append-le, take_all, take_more}
+pub use Rattle.std.proofs.lemmas.List.{drop-replicate, length-map, length-take-le, map-id, map_push, take-append-le, take_all, take_more}
 pub use Rattle.std.proofs.lemmas.List.Elements.{All-append, All-push}
 pub use Rattle.std.proofs.lemmas.List.Folds.{list_any-append}
 pub use Rattle.std.proofs.lemmas.Option.{get_or_from_slice_get, slice_get-get_or, slice_get-map, slice_get_within}
@@ -18,7 +17,6 @@ pub use Rattle.vic_frame.specs.Crc.{with_crc}
 pub use Rattle.vic_frame.specs.Masks.{BitMask}
 pub use Rattle.vic_frame.specs.Uids.{IsUid, has}
 pub use Rattle.vic_log.proofs.Places.{slice_get-append}
-pub use Rattle.vic_log.proofs.Sets.{has_at, has_cases}
 pub use Rattle.vic_log.proofs.Supply.{is_uid_from}
 pub use Rattle.vic_log.specs.Lines.{lf}
 pub use Rattle.vic_log.specs.Writing.{entry_text, listed_text}

@@ -1,4 +1,4 @@
-use Rattle.vicinity_c.proofs.Words.{◌∷◌, [], ◌++◌, get_or, map, take, ap, sym, ◌∙◌, arith, length-map, take_all, take_more, slice_get-get_or, uid_fault}
+use Rattle.vicinity_c.proofs.Words.{◌∷◌, [], ◌++◌, get_or, map, take, ap, ◌∙◌, arith, length-map, take_all, take_more, slice_get-get_or, uid_fault}
 use Rattle.vicinity_c.proofs.ArrayFaults.{map_get, none_all, none_next, uid_sound}
 use Rattle.vicinity_c.proofs.arrays.certain_uids.Goals as goal
 
@@ -9,17 +9,13 @@ loop-index-preserved c =
     let u = get_or us i 0 in
     let before = c.loop-index.invariant in
     record {
-      uids =
-          c.in_ok-push.ensures.items
-          ∙ (ap (λ vs. vs ++ c.in-Some.uid ∷ []) before.uids ∙ (ap (λ v. take i us ++ v ∷ []) c.in-Some.ensures.1 ∙ sym (take_more us i 0 c.loop-index-test.true)));
+      uids = rw (c.in_ok-push.ensures.items, before.uids, take_more us i 0 c.loop-index-test.true) (ap (λ v. take i us ++ v ∷ []) c.in-Some.ensures.1);
       none = none_next (map uid_fault us) i (uid_fault u) (map_get uid_fault us i u (slice_get-get_or us i 0 c.loop-index-test.true)) (uid_sound u c.in-Some.ensures.0) before.none;
     }
 
 pub returns : goal.returns
 returns c =
     let us = c.args.numbers.now in
+    let i = c.loop-index.index in
     let end = c.loop-index-test.false in
-    let long = length-map us uid_fault in (
-      c.loop-index.invariant.uids ∙ take_all c.loop-index.index us end,
-      none_all (map uid_fault us) c.loop-index.index (omega (arith, long, end)) c.loop-index.invariant.none,
-    )
+    (c.loop-index.invariant.uids ∙ take_all i us end, none_all (map uid_fault us) i (omega (arith, length-map us uid_fault, end)) c.loop-index.invariant.none)

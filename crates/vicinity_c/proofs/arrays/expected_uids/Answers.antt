@@ -13,9 +13,7 @@ loop-index-preserved c =
     let next : IsNextRead (take i us) u (contains nat_cmp c.expected_uid.new.seen) (Ok c.in-Ok.uid) = subst (IsNextRead (take i us) u (contains nat_cmp c.expected_uid.new.seen)) c.in-Ok.is (c.in_ok-uid.ensures (take i us) long before.seen) in
     let grown = take_more us i 0 lt in
     record {
-      uids =
-          c.in_ok-push-in-Ok.ensures.items
-          ∙ (ap (λ vs. vs ++ c.in-Ok.uid ∷ []) before.uids ∙ (ap (λ v. take i us ++ v ∷ []) next.0 ∙ sym grown));
+      uids = rw (c.in_ok-push-in-Ok.ensures.items, before.uids, grown) (ap (λ v. take i us ++ v ∷ []) next.0);
       seen = λ w. next.3 w ∙ ap (λ vs. has vs w) (sym grown);
       few = let room = next.2 in omega (arith, room, long);
       none = none_next (expected_faults us) i (expected_fault (take i us) u) (expected_get us i u (slice_get-get_or us i 0 lt)) next.1 before.none;
@@ -27,11 +25,7 @@ returns c =
     let i = c.loop-index.index in
     let end = c.loop-index-test.false in
     let few = c.loop-index.invariant.few in
-    let long = length_expected us in (
-      c.loop-index.invariant.uids ∙ take_all i us end,
-      omega (arith, few, end),
-      none_all (expected_faults us) i (omega (arith, long, end)) c.loop-index.invariant.none,
-    )
+    (c.loop-index.invariant.uids ∙ take_all i us end, omega (arith, few, end), none_all (expected_faults us) i (omega (arith, length_expected us, end)) c.loop-index.invariant.none)
 
 pub returns-in-Err : goal.returns-in-Err
 returns-in-Err c =
