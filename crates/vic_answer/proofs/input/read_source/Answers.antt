@@ -1,5 +1,4 @@
 use Rattle.vic_answer.proofs.Words.{◌≡◌, ℕ, List, Option, Some, None, Err, inl, inr, ⊎_elim, subst, Consumes, HandsOut, TellsOn, lines_of_text, IsFirstFault, Stands, LineFault, LogFault, Line, ReadsWhere, RefusedAt}
-use Rattle.vic_log.specs.declared.fault.LogFault.TheVariants.{Read}
 use Rattle.vic_answer.proofs.input.read_source.Goals as goal
 
 consumed : (a b : Option (List ℕ)) (xs : List ℕ) → HandsOut a b xs → TellsOn a b → Consumes a b xs

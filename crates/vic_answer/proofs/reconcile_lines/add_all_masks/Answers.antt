@@ -1,4 +1,4 @@
-use Rattle.vic_answer.proofs.Words.{◌≡◌, ◌<◌, ◌≤◌, ◌+◌, ℕ, List, [], ◌++◌, length, get_or, drop, map, sym, ap, ◌∙◌, arith, append-nil, append_assoc, at_drop_all, at_drop_more, string_bytes, all_masks_text, masks_text, OpenMasks}
+use Rattle.vic_answer.proofs.Words.{◌≡◌, ◌<◌, ◌≤◌, ◌+◌, ℕ, List, ◌++◌, length, get_or, drop, map, sym, ap, ◌∙◌, arith, append-nil, append_assoc, at_drop_all, at_drop_more, string_bytes, all_masks_text, masks_text, OpenMasks}
 use Rattle.vic_answer.proofs.reconcile_lines.add_all_masks.Goals as goal
 
 masks_added : (names : List (List ℕ)) (all now new : List ℕ) (os : List OpenMasks) (i : ℕ) (o : OpenMasks) → i < length os → o ≡ get_or os i o
