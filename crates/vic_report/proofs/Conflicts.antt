@@ -1,5 +1,5 @@
 -- Slot lines that no population fits together: all up to the first impossible line do.
-use Rattle.vic_report.proofs.Words.{◌≡◌, ℕ, zero, suc, ◌<◌, ◌≤◌, ◌+◌, ◌-◌, List, [], ◌∷◌, ◌++◌, length, get_or, take, drop, Bool, true, false, cond, Some, refl, sym, ap, ◌∙◌, subst, arith, ⊎_elim, slice_get, nat_le, leb, None, Option, Result, Ok, Err, MatchOption, MatchResult, is_err, option_map, filter, cases_Bool, le-leb, leb-true, leb-false, lt-leb, map-append, take-append-drop, All-get_or, filter_passes, slice_get-map, slice_get_within, get_or_from_slice_get, Reply, has, Entry, Sent, Heard, Listed, FieldCycle, LogLine, entries, IsRisingFrom, Outcome, outcome_at, Fits, CouldHaveGiven, is_quiet, is_slot, FitsLines, IsConflictAt, IsNoQuietReply, IsSilencedBefore, IsSilencedBy, IsSlotLine, IsPossible, IsContradictedAt, entries_to, IsVerdict, place_of, member_at, IsStrictlyIncreasing, agree_upto, outcome_agrees, CouldHaveGiven-front, slice_get-append, Impossible, IsPossible-front, rising_order, cases_eq, true_from_ne_false}
+use Rattle.vic_report.proofs.Words.{◌≡◌, ℕ, zero, suc, ◌<◌, ◌≤◌, ◌+◌, ◌-◌, List, [], ◌∷◌, ◌++◌, length, get_or, take, drop, Bool, true, false, cond, Some, refl, sym, ap, ◌∙◌, subst, arith, ⊎_elim, slice_get, nat_le, leb, None, Option, Result, Ok, Err, MatchOption, MatchResult, is_err, option_map, filter, cases_Bool, leb-true, leb-false, map-append, take-append-drop, All-get_or, filter_passes, slice_get-map, slice_get_within, get_or_from_slice_get, Reply, has, Entry, Sent, Heard, Listed, FieldCycle, LogLine, entries, IsRisingFrom, Outcome, outcome_at, Fits, CouldHaveGiven, is_quiet, is_slot, FitsLines, IsConflictAt, IsNoQuietReply, IsSilencedBefore, IsSilencedBy, IsSlotLine, IsPossible, IsContradictedAt, entries_to, IsVerdict, place_of, member_at, IsStrictlyIncreasing, agree_upto, outcome_agrees, CouldHaveGiven-front, slice_get-append, Impossible, IsPossible-front, rising_order, cases_eq, true_from_ne_false}
 
 -- ---- the lines 1 to n
 
@@ -11,10 +11,7 @@ lines_kept n l lines b = cond b (l ∷ lines_to n lines) (lines_to n lines)
 
 none_before : (n k : ℕ) (lines : List LogLine) → n ≤ k → IsRisingFrom k lines → lines_to n lines ≡ []
 none_before n k [] h r = refl
-none_before n k (l ∷ lines) h r =
-    let above = r.0 in
-    let out : leb l.number n ≡ false = lt-leb l.number n (omega arith) in
-    ap (lines_kept n l lines) out ∙ none_before n l.number lines (omega arith) r.1
+none_before n k (l ∷ lines) h r = grind (arith, r.0, none_before n l.number lines (let above = r.0 in omega arith) r.1)
 
 number_above : (i k : ℕ) (lines : List LogLine) (l : LogLine) → IsRisingFrom k lines → slice_get lines i ≡ Some l → k < l.number
 number_above i k [] l r g = cc
@@ -51,14 +48,8 @@ line_of (x ∷ lines) (suc i) e k = line_of lines i e k
 -- a line up to n stands among them, at its position
 front_there : (n k : ℕ) (lines : List LogLine) (i : ℕ) (l : LogLine) → IsRisingFrom k lines → slice_get lines i ≡ Some l → l.number ≤ n → slice_get (lines_to n lines) i ≡ Some l
 front_there n k [] i l r g small = cc
-front_there n k (x ∷ lines) zero l r g small =
-    let same : x ≡ l = cc in
-    let within : leb x.number n ≡ true = le-leb x.number n (subst (λ (y : LogLine). y.number ≤ n) (sym same) small) in
-    ap (λ b. slice_get (lines_kept n x lines b) zero) within ∙ g
-front_there n k (x ∷ lines) (suc i) l r g small =
-    let above = number_above i x.number lines l r.1 g in
-    let within : leb x.number n ≡ true = le-leb x.number n (omega arith) in
-    ap (λ b. slice_get (lines_kept n x lines b) (suc i)) within ∙ front_there n x.number lines i l r.1 g small
+front_there n k (x ∷ lines) zero l r g small = grind arith
+front_there n k (x ∷ lines) (suc i) l r g small = grind (arith, number_above i x.number lines l r.1 g, front_there n x.number lines i l r.1 g small)
 
 number_within : (n : ℕ) (lines : List LogLine) (i : ℕ) (x : LogLine) → slice_get (lines_to n lines) i ≡ Some x → x.number ≤ n
 number_within n lines i x k =
