@@ -1,13 +1,10 @@
 -- A slot that lacks the tags it requires contradicts the lines up to it, and up to the last one that may rule UIDs out.
-use Rattle.vic_verdict.proofs.Words.{◌≡◌, ℕ, zero, suc, ◌+◌, ◌<◌, ◌≤◌, List, [], ◌∷◌, length, take, Bool, true, false, ◌&&◌, Option, Some, None, refl, sym, ap, ◌∙◌, subst, arith, add-one, ⊎_elim, slice_get, length-take-le, cases_eq, slice_get_within, Entry, Silent, Heard, answers_at, Reading, NoReply, OneReply, ManyReplies, SomeReply, Slot, reading_of, slots_before, slots_of, is_open, Asks, AgreeBefore, answers_agree, IsContradictedAt, Lacks, rules_out, answering, and_true, with_entry, NoneRulesOutAfter}
-use Rattle.vic_verdict.proofs.Entries.{EntryAsks, entry_allows, open_reading}
-use Rattle.vic_verdict.proofs.Supplied.{supplied_each}
+use Rattle.vic_verdict.proofs.Words.{◌≡◌, ℕ, zero, suc, ◌+◌, ◌<◌, ◌≤◌, List, length, take, Bool, true, false, ◌&&◌, Option, Some, None, inl, inr, refl, sym, ap, ◌∙◌, subst, arith, nat_tests, common_steps, gets, slice_get, length-map, length-take-le, cases_eq, slice_get_within, Entry, LogLine, entries, answers_at, Slot, reading_of, slots_before, slots_of, is_open, Asks, SuppliesAll, AgreeBefore, answers_agree, IsPossible, IsContradictedAt, Lacks, rules_out, answering, with_entry, NoneRulesOutAfter}
+use Rattle.vic_verdict.proofs.Decide.{IsPossible-iff}
+use Rattle.vic_verdict.proofs.Entries.{SuppliesBefore, SuppliesAll-places, entry_allows}
 
 pub taken : (n : ℕ) (es : List Entry) (j : ℕ) → j < n → slice_get (take n es) j ≡ slice_get es j
-taken zero es j h = absurd (omega arith)
-taken (suc n) [] j h = refl
-taken (suc n) (e ∷ es) zero h = refl
-taken (suc n) (e ∷ es) (suc j) h = taken n es j (omega arith)
+taken n es j h = grind (arith, common_steps, gets)
 
 -- an entry, if there is one, leaves the UIDs open that it allows
 abbrev pub place_allows : Option Entry → Bool → ℕ → Bool
@@ -15,56 +12,58 @@ place_allows None answers u = true
 place_allows (Some e) answers u = entry_allows (reading_of e) answers u
 
 pub open_place : (answers : ℕ → Bool) (o : Option Entry) (slots : List Slot) (u : ℕ) → is_open (with_entry answers o slots) u ≡ (is_open slots u && place_allows o (answers u) u)
-open_place answers None slots u = sym (and_true (is_open slots u))
-open_place answers (Some e) slots u = open_reading answers e slots u
+open_place answers o slots u = grind (arith, nat_tests)
 
--- the same entries leave the same UIDs open
-pub open_agrees : (n : ℕ) (es fs : List Entry) (u : ℕ) → AgreeBefore n es fs → is_open (slots_before es n) u ≡ is_open (slots_before fs n) u
-open_agrees zero es fs u a = refl
-open_agrees (suc n) es fs u a =
+-- the same entries have the same slots, and leave the same UIDs open
+slots_agree : (n : ℕ) (es fs : List Entry) → AgreeBefore n es fs → slots_before es n ≡ slots_before fs n
+slots_agree zero es fs a = refl
+slots_agree (suc n) es fs a =
     let less : AgreeBefore n es fs = λ i h. a i (omega arith) in
-    rw (open_place (answers_at es n) (slice_get es n) (slots_before es n) u, open_place (answers_at fs n) (slice_get fs n) (slots_before fs n) u, a n (omega arith), open_agrees n es fs u less, answers_agree n es fs less u)
+    λ i. with_entry (λ u. answers_agree n es fs less u i) (a n (omega arith) i) (slots_agree n es fs less i)
 
-allows_all : (o : Option Entry) (b : Bool) (u : ℕ) → ((e : Entry) → o ≡ Some e → rules_out e ≡ false) → place_allows o b u ≡ true
-allows_all None b u h = refl
-allows_all (Some Silent) b u h = let bad = h Silent refl in cc
-allows_all (Some (Heard r)) b u h = let bad = h (Heard r) refl in cc
-allows_all (Some e) b u h = refl
+pub open_agrees : (n : ℕ) (es fs : List Entry) (u : ℕ) → AgreeBefore n es fs → is_open (slots_before es n) u ≡ is_open (slots_before fs n) u
+open_agrees n es fs u a = ap (λ slots. is_open slots u) (slots_agree n es fs a)
+
+-- what the slots of the first n entries require, where a population could have produced these
+pub supplied_front : (es : List Entry) (n : ℕ) → n ≤ length es → IsPossible (take n es) → SuppliesBefore (is_open (slots_before es n)) es n
+supplied_front es n le possible =
+    let same : slots_of (take n es) ≡ slots_before es n = ap (slots_before (take n es)) (length-take-le n es le) ∙ slots_agree n (take n es) es (taken n es) in
+    (SuppliesAll-places (is_open (slots_before es n)) es n).0 (subst (λ slots. SuppliesAll (is_open slots) slots) same ((IsPossible-iff (take n es)).0 possible))
+
+open_kept : (answers : ℕ → Bool) (o : Option Entry) (slots : List Slot) (u : ℕ) → ((e : Entry) → o ≡ Some e → rules_out e ≡ false) → is_open (with_entry answers o slots) u ≡ is_open slots u
+open_kept answers None slots u h = refl
+open_kept answers (Some e) slots u h = let none = h e refl in grind (arith, nat_tests)
 
 -- after a position behind which none is ruled out the same UIDs are open
-open_settled : (es : List Entry) (c n : ℕ) (u : ℕ) → NoneRulesOutAfter es c → c < n → is_open (slots_before es n) u ≡ is_open (slots_before es (suc c)) u
+open_settled : (es : List Entry) (c n u : ℕ) → NoneRulesOutAfter es c → c < n → is_open (slots_before es n) u ≡ is_open (slots_before es (c + 1)) u
 open_settled es c zero u h below = absurd (omega arith)
-open_settled es c (suc n) u h below =
-    ⊎_elim
-    (λ same. ap (λ m. is_open (slots_before es (suc m)) u) same)
-    (λ ne.
-    let later : c < n = omega (arith, ne) in
-    open_place (answers_at es n) (slice_get es n) (slots_before es n) u
-    ∙ ap (λ b. is_open (slots_before es n) u && b) (allows_all (slice_get es n) (answers_at es n u) u (λ e k. h n e later k))
-    ∙ and_true (is_open (slots_before es n) u)
-    ∙ open_settled es c n u h later)
-    (cases_eq n c)
+open_settled es c (suc n) u h below = elim (cases_eq n c) [
+  | inl same ↦ let last : suc n ≡ c + 1 = omega arith in ap (λ m. is_open (slots_before es m) u) last
+  | inr ne ↦ open_kept (answers_at es n) (slice_get es n) (slots_before es n) u (λ e k. h n e (omega (arith, ne)) k) ∙ open_settled es c n u h (omega (arith, ne))
+]
 
-asks_same : (r : Reading) (s t : ℕ → Bool) → ((u : ℕ) → s u ≡ t u) → Asks r s → Asks r t
-asks_same NoReply s t e h = h
-asks_same (OneReply v) s t e h = sym (e v) ∙ h
-asks_same ManyReplies s t e h = (h.0, h.1, h.2, sym (e h.0) ∙ h.3, sym (e h.1) ∙ h.4)
-asks_same SomeReply s t e h = (h.0, sym (e h.0) ∙ h.1)
+-- a slot that lacks tags is one of the lines, and contradicts those up to a later one after which none is ruled out
+pub lacking_lines : (lines : List LogLine) (i : ℕ) → Lacks (entries lines) i → (i < length lines) × ((c : ℕ) → i ≤ c → c < length lines → NoneRulesOutAfter (entries lines) c → IsContradictedAt (entries lines) c)
+lacking_lines lines i lacks =
+    let es = entries lines in
+    let long = length-map lines (λ (l : LogLine). l.item) in
+    let within = slice_get_within es i lacks.0 lacks.2 in
+    (omega arith, λ c upto lt settled. record {
+      within = omega arith;
+      impossible = λ possible.
+          let asks = supplied_front es (c + 1) (omega arith) possible i lacks.0 (omega arith) lacks.2 in
+          let left : is_open (slots_before es (c + 1)) ≡ is_open (slots_of es) = λ j u. sym (open_settled es c (length es) u settled (omega arith)) j in
+          lacks.4 (subst (λ (set : ℕ → Bool). Asks lacks.1 (answering set es i)) left (rw lacks.3 at asks));
+    })
 
-pub contradicted : (es : List Entry) (i c : ℕ) → Lacks es i → i ≤ c → c < length es → NoneRulesOutAfter es c → IsContradictedAt es c
-contradicted es i c lacks upto within settled = record {
-  within = within;
-  impossible = λ possible.
-      let fs = take (c + 1) es in
-      let size : length fs ≡ suc c = length-take-le (c + 1) es (omega arith) ∙ add-one c in
-      let agree : AgreeBefore (suc c) fs es = λ j h. taken (c + 1) es j (omega arith) in
-      let same : (u : ℕ) → answering (is_open (slots_of fs)) fs i u ≡ answering (is_open (slots_of es)) es i u = λ u.
-      let left : is_open (slots_of fs) u ≡ is_open (slots_of es) u =
-      ap (λ n. is_open (slots_before fs n) u) size ∙ open_agrees (suc c) fs es u agree ∙ sym (open_settled es c (length es) u settled within) in
-      rw (left, answers_agree i fs es (λ j h. agree j (omega arith)) u) in
-      lacks.4 (asks_same lacks.1 _ _ same (subst (λ (o : Option Reading). EntryAsks o (answering (is_open (slots_of fs)) fs i)) lacks.3 (supplied_each fs i lacks.0 (agree i (omega arith) ∙ lacks.2) possible)));
-}
+-- after a position, and before another, no entry may rule UIDs out
+abbrev pub NoneRulesOutTo : List Entry → ℕ → ℕ → Type 0
+NoneRulesOutTo es c n = (j : ℕ) (e : Entry) → c < j → j < n → slice_get es j ≡ Some e → rules_out e ≡ false
 
--- the slot is one of the log's
-pub lacking_within : (es : List Entry) (i : ℕ) → Lacks es i → i < length es
-lacking_within es i lacks = slice_get_within es i lacks.0 lacks.2
+pub none_more : (es : List Entry) (c n : ℕ) (e : Entry) → slice_get es n ≡ Some e → rules_out e ≡ false → NoneRulesOutTo es c n → NoneRulesOutTo es c (n + 1)
+none_more es c n e k none h j f above below g = grind (arith, nat_tests)
+
+pub none_after : (lines : List LogLine) (c n : ℕ) → length lines ≤ n → NoneRulesOutTo (entries lines) c n → NoneRulesOutAfter (entries lines) c
+none_after lines c n long h j e above k =
+    let size = length-map lines (λ (l : LogLine). l.item) in
+    h j e above (omega (arith, slice_get_within (entries lines) j e k)) k

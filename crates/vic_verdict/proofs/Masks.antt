@@ -1,5 +1,5 @@
 -- Masks of at most 56 bits hold a UID, and one of 56 bits holds just one.
-use Rattle.vic_verdict.proofs.Words.{◌≡◌, ℕ, ◌<◌, ◌≤◌, ◌+◌, ◌-◌, ◌*◌, ◌^◌, ◌%◌, true, sym, ap, ◌∙◌, arith, eqb-true, eq-eqb, pow-add, BitMask, IsUid, lies_in, mod-mul-add, pow-le-pow_right}
+use Rattle.vic_verdict.proofs.Words.{◌≡◌, ℕ, ◌<◌, ◌≤◌, ◌+◌, ◌*◌, ◌^◌, ◌%◌, true, arith, eqb-true, eq-eqb, BitMask, IsUid, lies_in, least_inside, least_is_uid}
 
 -- the mask of the 56 low bits of a UID
 abbrev pub mask_of : ℕ → BitMask
@@ -16,15 +16,7 @@ abbrev pub uid_in : BitMask → ℕ
 uid_in m = 0xE0 * 2 ^ 56 + m.value
 
 pub IsUid-in : (m : BitMask) → m.len ≤ 56 → m.value < 2 ^ m.len → IsUid (uid_in m)
-IsUid-in m h k =
-    let fits : 2 ^ m.len ≤ 2 ^ 56 = pow-le-pow_right (let z : 0 < 2 = omega arith in z) h in
-    (omega arith, omega arith)
+IsUid-in m h k = least_is_uid m (omega arith, k) h
 
 pub lies_in-uid_in : (m : BitMask) → m.len ≤ 56 → m.value < 2 ^ m.len → lies_in m (uid_in m) ≡ true
-lies_in-uid_in m h k =
-    let a = 2 ^ (56 - m.len) in
-    let w = 2 ^ m.len in
-    let whole : 56 - m.len + m.len ≡ 56 = omega arith in
-    let e : 2 ^ 56 ≡ a * w = sym (ap (λ n. 2 ^ n) whole) ∙ pow-add 2 (56 - m.len) m.len in
-    let f : uid_in m ≡ 0xE0 * a * w + m.value = omega arith in
-    eq-eqb _ _ (ap (λ n. n % w) f ∙ mod-mul-add (0xE0 * a) w m.value k)
+lies_in-uid_in m h k = eq-eqb _ _ (least_inside m (omega arith, k) h)

@@ -1,4 +1,4 @@
-use Rattle.vic_verdict.proofs.Words.{◌<◌, ◌^◌, ◌∙◌, ap, sym, arith, nat_eq, take_all, All-push, All-permutation, list_any-IsPermutation, has, mirror, has_key, IsNonDecreasingBy-from_sort}
+use Rattle.vic_verdict.proofs.Words.{◌<◌, ◌^◌, ◌∙◌, ap, sym, arith, nat_eq, take_all, All-push, All-permutation, list_any-IsPermutation, mirror, has_key, IsNonDecreasingBy-from_sort}
 use Rattle.vic_verdict.proofs.KeyOrder.{key_pushed, uid_more}
 use Rattle.vic_verdict.proofs.facts.keys_in_order.Goals as goal
 
@@ -12,12 +12,11 @@ loop-uid-preserved c = record {
 }
 
 pub returns : goal.returns
-returns c = record {
-  order = IsNonDecreasingBy-from_sort (λ x. x) c.sort_unstable.new.self.items c.sort_unstable.ensures.sorted;
-  keys = All-permutation (λ k. k < 2 ^ 56) _ _ c.sort_unstable.ensures.permutation c.loop-uid.invariant.keys;
-  members = λ u i.
-      sym (list_any-IsPermutation (nat_eq (mirror u)) _ _ c.sort_unstable.ensures.permutation)
-      ∙ c.loop-uid.invariant.members u i
-      ∙ ap (λ us. has us u) (take_all c.loop-uid.uid-index c.args.uids.now (omega arith));
-  are_uids = λ u some. c.loop-uid.invariant.are_uids u (ap (λ us. has us u) (take_all c.loop-uid.uid-index c.args.uids.now (omega arith)) ∙ some);
-}
+returns c =
+    let whole = take_all c.loop-uid.uid-index c.args.uids.now (omega arith) in
+    record {
+      order = IsNonDecreasingBy-from_sort (λ x. x) c.sort_unstable.new.self.items c.sort_unstable.ensures.sorted;
+      keys = All-permutation (λ k. k < 2 ^ 56) _ _ c.sort_unstable.ensures.permutation c.loop-uid.invariant.keys;
+      members = λ u i. sym (list_any-IsPermutation (nat_eq (mirror u)) _ _ c.sort_unstable.ensures.permutation) ∙ rw whole at (c.loop-uid.invariant.members u i);
+      are_uids = rw whole at c.loop-uid.invariant.are_uids;
+    }

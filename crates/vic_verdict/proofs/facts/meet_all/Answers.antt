@@ -1,32 +1,21 @@
-use Rattle.vic_verdict.proofs.Words.{◌∙◌, ap, sym, subst, List, ℕ, length, arith, MatchResult, list_all, length-map, LogLine, entries, Lacks, AreFound}
+use Rattle.vic_verdict.proofs.Words.{◌∙◌, sym, length, length-map, LogLine, entries}
 use Rattle.vic_verdict.proofs.Demanding.{kept_blocks, kept_in_order}
-use Rattle.vic_verdict.proofs.Lacking.{lacking_within, contradicted}
-use Rattle.vic_verdict.proofs.Meeting.{LacksHeard, heard_lacks, met_is_possible, is_met}
+use Rattle.vic_verdict.proofs.Lacking.{lacking_lines}
+use Rattle.vic_verdict.proofs.Meeting.{heard_lacks, met_all}
 use Rattle.vic_verdict.proofs.facts.meet_all.Goals as goal
 use Rattle.vic_verdict.proofs.facts.meet_all.Goals.{then-at-unmet, else-at-unmet}
 
 pub last_ruling-requires : goal.last_ruling-requires
 last_ruling-requires g c =
-    let lines = c.args.lines.now in
-    let es = entries lines in
-    let set = g.S.OpenSet.is_open c.args.set.now in
-    let some = ap (λ (us : List ℕ). list_all set us) (sym c.deref.ensures.value) ∙ (sym c.in_ok-are_open.ensures ∙ c.if-not-branch.true) in
-    let lacks : LacksHeard es = heard_lacks es (length lines) set c.in_ok-heard.heard.items c.requires.open c.in_ok-heard.ensures some in
-    let within = lacking_within es lacks.0 lacks.1 in
-    let long = length-map lines (λ (x : LogLine). x.item) in
-    omega arith
+    let some = sym (rw c.deref.ensures.value at c.in_ok-are_open.ensures) ∙ c.if-not-branch.true in
+    (heard_lacks c.args.lines.now (g.S.OpenSet.is_open c.args.set.now) c.in_ok-heard.heard.items c.requires.open c.in_ok-heard.ensures some).0
 
 pub returns-then-not-branch : goal.returns-then-not-branch
 returns-then-not-branch g c =
-    let lines = c.args.lines.now in
-    let es = entries lines in
-    let set = g.S.OpenSet.is_open c.args.set.now in
-    let some = ap (λ (us : List ℕ). list_all set us) (sym c.deref.ensures.value) ∙ (sym c.in_ok-are_open.ensures ∙ c.if-not-branch.true) in
-    let lacks : LacksHeard es = heard_lacks es (length lines) set c.in_ok-heard.heard.items c.requires.open c.in_ok-heard.ensures some in
+    let some = sym (rw c.deref.ensures.value at c.in_ok-are_open.ensures) ∙ c.if-not-branch.true in
     let last = c.last_ruling.ensures in
-    let long = length-map lines (λ (x : LogLine). x.item) in
     record {
-      impossible = contradicted es lacks.0 c.last_ruling.result lacks.1 (lacks.2 c.last_ruling.result last.after) (let within = last.within in omega arith) last.after;
+      impossible = (heard_lacks c.args.lines.now (g.S.OpenSet.is_open c.args.set.now) c.in_ok-heard.heard.items c.requires.open c.in_ok-heard.ensures some).1 c.last_ruling.result last.within last.after;
       before = λ e. absurd (cc);
     }
 
@@ -38,34 +27,21 @@ meet_stretches-requires-clause-blocks g c = kept_blocks (entries c.args.lines.no
 
 pub last_ruling-at-requires : goal.last_ruling-at-requires
 last_ruling-at-requires g c =
-    let lines = c.args.lines.now in
-    let es = entries lines in
-    let lacks = subst (λ r. MatchResult r (λ found. AreFound es found.items) (Lacks es)) c.in-Err.is (c.in_ok-found.ensures es c.requires.open c.requires.kept) in
-    let within = lacking_within es c.in-Err.unmet lacks in
-    let long = length-map lines (λ (x : LogLine). x.item) in
-    omega arith
+    let lacks = rw c.in-Err.is at (c.in_ok-found.ensures (entries c.args.lines.now) c.requires.open c.requires.kept) in
+    (lacking_lines c.args.lines.now c.in-Err.unmet lacks).0
 
 pub returns-in-Ok : goal.returns-in-Ok
 returns-in-Ok g c =
-    let lines = c.args.lines.now in
-    let es = entries lines in
-    let set = g.S.OpenSet.is_open c.args.set.now in
-    let long = length-map lines (λ (x : LogLine). x.item) in
-    let all = ap (λ (us : List ℕ). list_all set us) (sym c.deref.ensures.value) ∙ (sym c.in_ok-are_open.ensures ∙ c.if-not-branch.false) in
-    let found = subst (λ r. MatchResult r (λ f. AreFound es f.items) (Lacks es)) c.in-Ok.is (c.in_ok-found.ensures es c.requires.open c.requires.kept) in (
-      met_is_possible es set c.in_ok-heard.heard.items c.in-Ok.found.items (length lines) c.requires.answer c.requires.open c.in_ok-heard.ensures (omega arith) all found,
-      is_met es (record { heard = c.in_ok-heard.heard; found = c.in-Ok.found }) (length lines) c.in_ok-heard.ensures (omega arith) found,
-    )
+    let all = sym (rw c.deref.ensures.value at c.in_ok-are_open.ensures) ∙ c.if-not-branch.false in
+    let found = rw c.in-Ok.is at (c.in_ok-found.ensures (entries c.args.lines.now) c.requires.open c.requires.kept) in
+    met_all (entries c.args.lines.now) (length c.args.lines.now) (g.S.OpenSet.is_open c.args.set.now) (record { heard = c.in_ok-heard.heard; found = c.in-Ok.found }) (length-map c.args.lines.now (λ (l : LogLine). l.item)) c.requires.answer c.requires.open c.in_ok-heard.ensures all found
 
 pub returns-after-at-unmet : goal.returns-after-at-unmet
 returns-after-at-unmet g c =
-    let lines = c.args.lines.now in
-    let es = entries lines in
-    let lacks = subst (λ r. MatchResult r (λ found. AreFound es found.items) (Lacks es)) c.in-Err.is (c.in_ok-found.ensures es c.requires.open c.requires.kept) in
+    let lacks = rw c.in-Err.is at (c.in_ok-found.ensures (entries c.args.lines.now) c.requires.open c.requires.kept) in
     let last = c.last_ruling-at.ensures in
-    let long = length-map lines (λ (x : LogLine). x.item) in
     record {
-      impossible = contradicted es c.in-Err.unmet c.last_ruling-at.result lacks last.from (let within = last.within in omega arith) last.after;
+      impossible = (lacking_lines c.args.lines.now c.in-Err.unmet lacks).1 c.last_ruling-at.result last.from last.within last.after;
       before = λ e. elim c.if-at-unmet.branch [
         | then-at-unmet w ↦ absurd (let it = sym w.before-is ∙ e in cc)
         | else-at-unmet w ↦ absurd (let it = sym w.before-is ∙ e in cc)
