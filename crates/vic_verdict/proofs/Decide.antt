@@ -18,11 +18,10 @@ IsPossible-either es = iff_either (IsPossible-iff es) (supplies_either (is_open 
 -- a UID is possible where it is open
 pub IsPossibleUid-iff : (es : List Entry) (u : ℕ) → IsPossible es → IsPossibleUid es u ↔ (is_open (slots_of es) u ≡ true)
 IsPossibleUid-iff es u p =
-    let slots = slots_of es in (
-      (λ q. ((MeetsAll-iff q.0 slots q.1).0 ((CouldHaveGiven-slots q.0 es).0 q.2)).0 u q.3),
-      (λ h.
-          let w = MeetsAll-with_member p.0 slots u p.1 ((CouldHaveGiven-slots p.0 es).0 p.2) h in
-          (with_member u p.0, w.0, (CouldHaveGiven-slots (with_member u p.0) es).1 w.1, has_with_member u p.0)),
+    let q = (IsPossible-slots es).0 p in
+    simp CouldHaveGiven-slots (
+      (λ r. ((MeetsAll-iff r.0 (slots_of es) r.1).0 r.2).0 u r.3),
+      (λ h. let w = MeetsAll-with_member q.0 (slots_of es) u q.1 q.2 h in (with_member u q.0, w.0, w.1, has_with_member u q.0)),
     )
 
 pub IsPossibleUid-either : (es : List Entry) (u : ℕ) → IsPossible es → Either (IsPossibleUid es u)
