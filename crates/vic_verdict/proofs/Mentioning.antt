@@ -1,5 +1,5 @@
 -- The mentions of entries, and who is Quiet by them.
-use Rattle.vic_verdict.proofs.Words.{◌≡◌, ℕ, min, zero, suc, ◌^◌, ◌<◌, ◌≤◌, ◌==◌, List, [], ◌∷◌, ◌++◌, Bool, true, false, ◌&&◌, ◌||◌, Option, Some, None, All, if◌then◌else◌, nat_le, nat_lt, slice_get, refl, sym, ap, ◌∙◌, subst, arith, inl, inr, eq-eqb, le-leb, ne_eqb, IsUid, is_uid, mirror, Entry, Heard, Sent, Reply, silences, wakes, is_quiet, is_quiet_by, quiet_of, Mention, nat_tests, is_uid_from, IsUid-from, uid_of, uid_of_mirror, cases_lt, cases_eq, and_from, both_ways, false≢true, list_any, list_any-append, or_left, or_right, HaveKeys, is_mentioned, All-nil, All-cons, All-append, list_all-from_AllPass, mirror_below, same_test, StayQuiet, mention_at, mentions_at, mentions_from, are_left}
+use Rattle.vic_verdict.proofs.Words.{◌≡◌, ℕ, min, zero, suc, ◌^◌, ◌<◌, ◌≤◌, ◌==◌, List, [], ◌∷◌, ◌++◌, Bool, true, false, ◌&&◌, ◌||◌, Option, Some, None, All, if◌then◌else◌, nat_le, nat_lt, slice_get, refl, sym, ap, ◌∙◌, subst, arith, inl, inr, eq-eqb, le-leb, ne_eqb, IsUid, is_uid, mirror, Entry, Heard, Sent, Reply, silences, wakes, is_quiet, is_quiet_by, quiet_of, Mention, nat_tests, is_uid_from, IsUid-from, uid_of, uid_of_mirror, cases_lt, cases_eq, both_ways, false≢true, list_any, list_any-append, or_left, or_right, HaveKeys, is_mentioned, All-nil, All-cons, All-append, list_all-from_AllPass, mirror_below, same_test, StayQuiet, mention_at, mentions_at, mentions_from, are_left}
 
 -- ---- UIDs by their keys
 
@@ -64,12 +64,6 @@ pub record IsReplyOf (es : List Entry) (from i : ℕ) (n : Mention) : Type 0 whe
 
 pub mentions_replies : (es : List Entry) (from i : ℕ) → All (λ (n : Mention). n.is_heard ≡ true → IsReplyOf es from i n) (mentions_from es from i)
 mentions_replies es from i = mentions_each (λ (n : Mention). n.is_heard ≡ true → IsReplyOf es from i n) es from i (λ j u w late. absurd (false≢true late)) (λ j r since lt e late. record { reply = r; heard = e; key = refl; since = since; before = lt })
-
-abbrev pub is_reply_at : ℕ → Mention → Bool
-is_reply_at j n = (n.at == j) && n.is_heard
-
-pub reply_mentioned : (es : List Entry) (from i j : ℕ) (r : Reply) → from ≤ j → j < i → slice_get es j ≡ Some (Heard r) → list_any (is_reply_at j) (mentions_from es from i) ≡ true
-reply_mentioned es from i j r since lt k = mentions_some (is_reply_at j) es from i j since lt (rw k (or_left _ _ (and_from _ _ (eq-eqb j j refl) refl)))
 
 pub heard_mentioned : (es : List Entry) (from i j : ℕ) (r : Reply) → from ≤ j → j < i → slice_get es j ≡ Some (Heard r) → is_mentioned (mentions_from es from i) (mirror r.uid) ≡ true
 heard_mentioned es from i j r since lt k = mentions_some (λ (n : Mention). n.key == mirror r.uid) es from i j since lt (rw k (or_left _ _ (eq-eqb (mirror r.uid) (mirror r.uid) refl)))
