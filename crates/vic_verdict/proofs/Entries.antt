@@ -1,7 +1,6 @@
 -- What a judge that goes over the entries once needs: what each entry does to the open UIDs, and what the open UIDs that
 -- could have answered in a slot, up to three of them, tell.
-use Rattle.vic_verdict.proofs.Words.{◌≡◌, ℕ, zero, suc, ◌<◌, ◌≤◌, List, [], ◌∷◌, length, Bool, true, ◌&&◌, Option, Some, None, refl, ap, ◌∙◌, arith, nat_tests, inl, inr, ◌⊎◌, ◌↔◌, slice_get, both_ways, cases_eq, Entry, Collision, Garbled, has, AreDifferent, IsWithin, answers_at, Reading, ManyReplies, SomeReply, Slot, reading_of, slots_before, is_open, Asks, SuppliesAll, Forces, IsForcedBy, UpToThree, answering, asks_within, needs, has_here, has_at, has_there, with_entry, may_be, ⊤}
-use Rattle.vic_verdict.proofs.Populations.{tells}
+use Rattle.vic_verdict.proofs.Words.{◌≡◌, ℕ, zero, suc, ◌<◌, ◌≤◌, List, [], ◌∷◌, length, Bool, true, ◌&&◌, Option, Some, None, ap, ◌∙◌, arith, nat_tests, inl, inr, ◌⊎◌, ◌↔◌, slice_get, cases_eq, Reply, Entry, Heard, Collision, Garbled, has, AreDifferent, IsWithin, answers_at, Reading, ManyReplies, SomeReply, Slot, reading_of, slots_before, is_open, Asks, SuppliesAll, Forces, IsForcedBy, UpToThree, answering, asks_within, needs, with_entry, may_be, ⊤}
 
 -- what a slot line asks of the UIDs that answer there; an entry that is no slot line asks nothing
 abbrev pub EntryAsks : Option Reading → (ℕ → Bool) → Type 0
@@ -42,12 +41,7 @@ supplies_more set es n below here i e h k = grind (arith, nat_tests)
 
 pub SuppliesAll-places : (set : ℕ → Bool) (es : List Entry) (n : ℕ) → SuppliesAll set (slots_before es n) ↔ SuppliesBefore set es n
 SuppliesAll-places set es zero = ((λ h i e k. absurd (omega arith)), (λ h. tt))
-SuppliesAll-places set es (suc n) =
-    let step = supplies_step set (answers_at es n) (slice_get es n) (slots_before es n) in
-    let rest = SuppliesAll-places set es n in (
-      (λ h. let w = step.0 h in supplies_more set es n (rest.0 w.1) w.0),
-      (λ h. step.1 ((λ e k. h n e (omega arith) k), rest.1 (λ i e k g. h i e (omega arith) g))),
-    )
+SuppliesAll-places set es (suc n) = grind (arith, supplies_step set (answers_at es n) (slice_get es n) (slots_before es n), supplies_more set es n, SuppliesAll-places set es n)
 
 forced_step : (set answers : ℕ → Bool) (o : Option Entry) (slots : List Slot) (u : ℕ) → IsForcedBy set (with_entry answers o slots) u ↔ (((e : Entry) × (o ≡ Some e) × EntryForces (reading_of e) (λ w. set w && answers w) u) ⊎ IsForcedBy set slots u)
 forced_step set answers o slots u = grind (arith, nat_tests)
@@ -70,28 +64,21 @@ IsForcedBy-places set es (suc n) u =
 
 -- ---- up to three of a set
 
-two_asked : (t : ℕ → Bool) (x y : ℕ) (xs : List ℕ) → UpToThree t (x ∷ y ∷ xs) → Asks ManyReplies t
-two_asked t x y xs h =
-    (x, y, (λ e. both_ways _ h.different.0 (has_at x y xs e)), h.members x (has_here x (y ∷ xs)), h.members y (has_there y x (y ∷ xs) (has_here y xs)))
-
 -- a collision is possible where there are two
 pub asks_two_iff : (t : ℕ → Bool) (xs : List ℕ) → UpToThree t xs → Asks ManyReplies t ↔ (2 ≤ length xs)
-asks_two_iff t (x ∷ y ∷ xs) h = ((λ a. omega arith), (λ n. two_asked t x y xs h))
+asks_two_iff t (x ∷ y ∷ xs) h = grind (arith, nat_tests, h.members x, h.members y)
 asks_two_iff t xs h = grind (arith, nat_tests, h.all)
 
 -- and makes a UID certain where it is one of just two
 pub forces_two_iff : (t : ℕ → Bool) (xs : List ℕ) (u : ℕ) → UpToThree t xs → Forces ManyReplies t u ↔ ((length xs ≡ 2) × (has xs u ≡ true))
 forces_two_iff t (x ∷ y ∷ z ∷ xs) u h = grind (arith, nat_tests, h.members x, h.members y, h.members z)
-forces_two_iff t (x ∷ y ∷ []) u h = (
-  (λ f. (refl, h.all (omega arith) u f.2)),
-  (λ w. tells ManyReplies t u (two_asked t x y [] h) (λ a. grind (arith, nat_tests, h.all, w.1))),
-)
+forces_two_iff t (x ∷ y ∷ []) u h = grind (arith, nat_tests, h.members x, h.members y, h.all)
 forces_two_iff t xs u h = grind (arith, nat_tests, h.all)
 
 -- a garbled slot is possible where there is one
 pub asks_one_iff : (t : ℕ → Bool) (xs : List ℕ) → UpToThree t xs → Asks SomeReply t ↔ (1 ≤ length xs)
 asks_one_iff t [] h = grind (arith, nat_tests, h.all)
-asks_one_iff t (x ∷ xs) h = ((λ a. omega arith), (λ n. (x, h.members x (has_here x xs))))
+asks_one_iff t (x ∷ xs) h = grind (arith, nat_tests, h.members x)
 
 -- and makes it certain where it is the only one
 pub forces_one_iff : (t : ℕ → Bool) (xs : List ℕ) (u : ℕ) → UpToThree t xs → Forces SomeReply t u ↔ ((length xs ≡ 1) × (has xs u ≡ true))
@@ -117,3 +104,7 @@ pub enough_forced : (e : Entry) (t : ℕ → Bool) (xs : List ℕ) (u : ℕ) →
 enough_forced Collision t xs u some d n k f = (forces_two_iff (has xs) xs u (own xs d)).0 (forces_within ManyReplies (has xs) t u f k (enough_asked Collision (has xs) xs some d n (λ v h. h)))
 enough_forced Garbled t xs u some d n k f = (forces_one_iff (has xs) xs u (own xs d)).0 (forces_within SomeReply (has xs) t u f k (enough_asked Garbled (has xs) xs some d n (λ v h. h)))
 enough_forced e t xs u some d n k f = absurd (omega arith)
+
+-- an entry that forces a UID heard it, or needs tags
+pub forces_cases : (e : Entry) (t : ℕ → Bool) (u : ℕ) → EntryForces (reading_of e) t u → ((r : Reply) × (e ≡ Heard r) × (r.uid ≡ u)) ⊎ (0 < needs e)
+forces_cases e t u f = grind (arith, nat_tests)

@@ -1,6 +1,6 @@
 -- What is met makes a log possible, and UIDs certain.
-use Rattle.vic_verdict.proofs.Words.{eqb-true, eq-eqb, ◌≡◌, ℕ, ◌+◌, ◌<◌, ◌≤◌, ◌==◌, ◌&&◌, ◌||◌, ◌++◌, List, [], ◌∷◌, length, take, get_or, Bool, true, false, Some, refl, sym, ap, ◌∙◌, arith, nat_tests, inl, inr, ⊎_elim, ◌⊎◌, ◌↔◌, slice_get, Any, list_all, list_any, cases_eq, cases_lt, and_parts, and_from, both_ways, or_cases, slice_get_within, list_all_at, list_any-append, list_any-from_Any, list_any_more, or_left, or_right, take_all, Any-from_list_any, has, SameUids, LogLine, entries, Reply, Entry, Collision, Heard, Garbled, answers_at, OneReply, reading_of, slots_of, is_open, IsForcedBy, IsUid-from, Found, Met, IsPossible, IsContradictedAt, Lacks, answering, needs, needs_of, HasHeard, IsFound, AreFound, IsMet, IsMetFor, IsHeard, NoneRulesOutAfter, RepliesAnswer, AreDifferent, IsWithin}
-use Rattle.vic_verdict.proofs.Entries.{EntryAsks, EntryForces, IsForcedBy-places, enough_asked, enough_forced}
+use Rattle.vic_verdict.proofs.Words.{◌≡◌, ℕ, ◌+◌, ◌<◌, ◌≤◌, ◌==◌, ◌&&◌, ◌||◌, ◌++◌, List, [], ◌∷◌, length, take, get_or, Bool, true, false, Some, refl, sym, ap, ◌∙◌, arith, nat_tests, inl, inr, ◌⊎◌, ◌↔◌, slice_get, Any, list_all, list_any, cases_lt, and_parts, and_from, both_ways, slice_get_within, list_all_at, list_any-append, list_any-from_Any, list_any_more, take_all, Any-from_list_any, has, SameUids, LogLine, entries, Reply, Entry, Collision, Heard, Garbled, answers_at, OneReply, reading_of, slots_of, is_open, IsForcedBy, IsUid-from, Found, Met, IsPossible, IsContradictedAt, Lacks, answering, needs, needs_of, HasHeard, IsFound, AreFound, IsMet, IsMetFor, IsHeard, NoneRulesOutAfter, RepliesAnswer, AreDifferent, IsWithin}
+use Rattle.vic_verdict.proofs.Entries.{EntryAsks, EntryForces, IsForcedBy-places, enough_asked, enough_forced, forces_cases}
 use Rattle.vic_verdict.proofs.Gathering.{exact_forces}
 use Rattle.vic_verdict.specs.Rising.{Adds}
 use Rattle.vic_verdict.proofs.KeyOrder.{not_all}
@@ -14,23 +14,11 @@ pub has_pushed : (us : List ℕ) (v u : ℕ) → has (us ++ v ∷ []) u ≡ true
 has_pushed us v u h = grind (arith, nat_tests, list_any-append)
 
 -- an entry more, and whom it heard
-pub heard_next : (es : List Entry) (i : ℕ) (us vs : List ℕ) (e : Entry) → slice_get es i ≡ Some e → ((u : ℕ) → (has vs u ≡ true) ↔ ((has us u ≡ true) ⊎ ((r : Reply) × (e ≡ Heard r) × (r.uid ≡ u)))) → HasHeard es i us → HasHeard es (i + 1) vs
-heard_next es i us vs e k is h u = (
-  (λ m. elim ((is u).0 m) [
-    | inl old ↦ let w = (h u).0 old in (w.0, w.1, omega (arith, w.2), w.3, w.4)
-    | inr new ↦ (i, new.0, omega arith, k ∙ ap (λ x. Some x) new.1, new.2)
-  ]),
-  (λ w. (is u).1 (elim (cases_eq w.0 i) [
-    | inl here ↦ let both : Some e ≡ Some (Heard w.1) = sym k ∙ rw here at w.3 in inr (w.1, cc, w.4)
-    | inr ne ↦ inl ((h u).1 (w.0, w.1, omega (arith, w.2), w.3, w.4))
-  ])),
-)
-
 pub heard_kept : (es : List Entry) (i : ℕ) (us : List ℕ) (e : Entry) → slice_get es i ≡ Some e → ((r : Reply) → e ≡ Heard r → ⊥) → HasHeard es i us → HasHeard es (i + 1) us
-heard_kept es i us e k none h = heard_next es i us us e k (λ u. ((λ m. inl m), (λ w. ⊎_elim (λ m. m) (λ new. absurd (none new.0 new.1)) w))) h
+heard_kept es i us e k none h u = let before = h u in grind (arith, none)
 
-pub heard_one : (us : List ℕ) (r : Reply) (u : ℕ) → (has (us ++ r.uid ∷ []) u ≡ true) ↔ ((has us u ≡ true) ⊎ ((x : Reply) × (Heard r ≡ Heard x) × (x.uid ≡ u)))
-heard_one us r u = grind (arith, nat_tests, list_any-append)
+pub heard_pushed : (es : List Entry) (i : ℕ) (us : List ℕ) (r : Reply) → slice_get es i ≡ Some (Heard r) → HasHeard es i us → HasHeard es (i + 1) (us ++ r.uid ∷ [])
+heard_pushed es i us r k h u = let before = h u in grind (arith, nat_tests, list_any-append)
 
 -- ---- whether they are open
 
@@ -64,23 +52,20 @@ met_found es fs i e a k some =
     let need : needs e ≡ w.1.need = ap needs_of (sym k) ∙ w.4.need in
     (w.0, w.1, w.2, w.3, (found.1.uids.different, need, omega (arith, found.1.enough), w.4.answer))
 
+was_heard : (es : List Entry) (n : ℕ) (us : List ℕ) (u : ℕ) → length es ≡ n → HasHeard es n us → (has us u ≡ true) ↔ IsHeard es u
+was_heard es n us u long h = let heard = h u in grind (arith, slice_get_within)
+
 -- where all that were heard are open, and what the other slots need was found, the log is possible
 pub met_all : (es : List Entry) (n : ℕ) (set : ℕ → Bool) (m : Met) → length es ≡ n → RepliesAnswer es → SameUids set (is_open (slots_of es)) → HasHeard es n m.heard.items → list_all set m.heard.items ≡ true → AreFound es m.found.items → IsPossible es × IsMet es m
-met_all es n set m long replies same heard all found = (supplied_all es (λ i e below k. go i e k), record { heard = was_heard; found = found })
+met_all es n set m long replies same heard all found = (supplied_all es (λ i e below k. go i e k), record { heard = λ u. was_heard es n m.heard.items u long heard; found = found })
   where
-    was_heard : (u : ℕ) → (has m.heard.items u ≡ true) ↔ IsHeard es u
-    was_heard u = (
-      (λ k. let w = (heard u).0 k in (w.0, w.1, w.3, w.4)),
-      (λ w. (heard u).1 (w.0, w.1, omega (arith, slice_get_within es w.0 (Heard w.1) w.2), w.2, w.3)),
-    )
-
     needed : (i : ℕ) (e : Entry) → slice_get es i ≡ Some e → 0 < needs e → EntryAsks (reading_of e) (answering (is_open (slots_of es)) es i)
     needed i e k some = let w = met_found es m.found.items i e found k some in enough_asked e _ w.1.uids.items some w.4.0 w.4.2 w.4.3
 
     go : (i : ℕ) (e : Entry) → slice_get es i ≡ Some e → EntryAsks (reading_of e) (answering (is_open (slots_of es)) es i)
     go i (Heard r) k =
         let a = replies i r k in
-        and_from _ _ (sym (same r.uid a.0) ∙ all_has set m.heard.items r.uid all ((was_heard r.uid).1 (i, r, k, refl))) a.1
+        and_from _ _ (sym (same r.uid a.0) ∙ all_has set m.heard.items r.uid all ((was_heard es n m.heard.items r.uid long heard).1 (i, r, k, refl))) a.1
     go i Collision k = needed i Collision k (omega arith)
     go i Garbled k = needed i Garbled k (omega arith)
     go i e k = tt
@@ -108,25 +93,21 @@ certain_more heard old new ys fs k f below is same adds h u =
 
 pub certain_met : (m : Met) (us : List ℕ) (k : ℕ) → length m.found.items ≤ k → HasCertain m.heard.items (take k m.found.items) us → (u : ℕ) → (has us u ≡ true) ↔ IsMetFor m u
 certain_met m us k long h u =
-    let fs = m.found.items in
-    let is : has us u ≡ (has m.heard.items u || list_any (is_exact u) fs) = rw (take_all k fs long) at (h u) in (
-      (λ c. elim (or_cases _ _ (sym is ∙ c)) [
-        | inl heard ↦ inl heard
-        | inr some ↦
-            let w = Any-from_list_any (is_exact u) fs some in
-            let x = and_parts (length w.1.uids.items == w.1.need) (has w.1.uids.items u) w.4 in
-            inr (w.0, w.1, w.2, w.3, (eqb-true (length w.1.uids.items) w.1.need x.0, x.1))
-      ]),
-      (λ x. is ∙ elim x [
-        | inl heard ↦ or_left _ _ heard
-        | inr w ↦ or_right _ _ (list_any-from_Any (is_exact u) fs (w.0, w.1, w.2, w.3, and_from _ _ (eq-eqb _ _ w.4.0) w.4.1))
-      ]),
-    )
+    let is : has us u ≡ (has m.heard.items u || list_any (is_exact u) m.found.items) = rw (take_all k m.found.items long) at (h u) in
+    grind (arith, nat_tests, Any-from_list_any (is_exact u) m.found.items, list_any-from_Any (is_exact u) m.found.items)
 
 -- a UID is forced where it was met
 pub forced_iff : (es : List Entry) (m : Met) (u : ℕ) → IsMet es m → IsForcedBy (is_open (slots_of es)) (slots_of es) u ↔ IsMetFor m u
 forced_iff es m u met = (
-  (λ f. let w = (IsForcedBy-places (is_open (slots_of es)) es (length es) u).0 f in back w.0 w.1 w.3 w.4),
+  (λ f.
+      let w = (IsForcedBy-places (is_open (slots_of es)) es (length es) u).0 f in
+      elim (forces_cases w.1 _ u w.4) [
+        | inl x ↦ inl ((met.heard u).1 (w.0, x.0, w.3 ∙ ap (λ e. Some e) x.1, x.2))
+        | inr some ↦
+            let y = met_found es m.found.items w.0 w.1 met.found w.3 some in
+            let x = enough_forced w.1 _ y.1.uids.items u some y.4.0 y.4.2 y.4.3 w.4 in
+            inr (y.0, y.1, y.2, y.3, (x.0 ∙ y.4.1, x.1))
+      ]),
   (λ x. elim x [
     | inl heard ↦ let w = (met.heard u).0 heard in there w.0 (Heard w.1) w.2 w.3
     | inr some ↦
@@ -137,15 +118,3 @@ forced_iff es m u met = (
 ) where
   there : (i : ℕ) (e : Entry) → slice_get es i ≡ Some e → EntryForces (reading_of e) (answering (is_open (slots_of es)) es i) u → IsForcedBy (is_open (slots_of es)) (slots_of es) u
   there i e k f = (IsForcedBy-places (is_open (slots_of es)) es (length es) u).1 (i, e, slice_get_within es i e k, k, f)
-
-  exact : (i : ℕ) (e : Entry) → slice_get es i ≡ Some e → 0 < needs e → EntryForces (reading_of e) (answering (is_open (slots_of es)) es i) u → IsMetFor m u
-  exact i e k some f =
-      let w = met_found es m.found.items i e met.found k some in
-      let x = enough_forced e _ w.1.uids.items u some w.4.0 w.4.2 w.4.3 f in
-      inr (w.0, w.1, w.2, w.3, (x.0 ∙ w.4.1, x.1))
-
-  back : (i : ℕ) (e : Entry) → slice_get es i ≡ Some e → EntryForces (reading_of e) (answering (is_open (slots_of es)) es i) u → IsMetFor m u
-  back i (Heard r) k f = inl ((met.heard u).1 (i, r, k, f))
-  back i Collision k f = exact i Collision k (omega arith) f
-  back i Garbled k f = exact i Garbled k (omega arith) f
-  back i e k f = absurd f

@@ -51,10 +51,7 @@ population_within set slots k a =
 -- ---- possible slots
 
 pub ArePossible-iff : (slots : List Slot) → ArePossible slots ↔ SuppliesAll (is_open slots) slots
-ArePossible-iff slots = (
-  (λ p. let w = (MeetsAll-iff p.0 slots p.1).0 p.2 in SuppliesAll-within (has p.0) (is_open slots) slots w.0 w.1),
-  (λ a. let r = population_within (is_open slots) slots (λ u h. h) a in (r.0, r.1, r.2)),
-)
+ArePossible-iff slots = grind (arith, MeetsAll-iff, SuppliesAll-within, population_within (is_open slots) slots)
 
 -- ---- possible UIDs
 
@@ -103,7 +100,7 @@ two_force : (t : ℕ → Bool) (u v : ℕ) → (Asks ManyReplies (without u t) �
 two_force t u v few ne hu hv = (v, ne, hu, hv, λ w h. grind (arith, nat_tests, one_of_two t u few w v))
 
 -- a slot that has what it asks for, but not without the UID, tells that the UID is there
-pub tells : (r : Reading) (t : ℕ → Bool) (u : ℕ) → Asks r t → (Asks r (without u t) → ⊥) → Forces r t u
+tells : (r : Reading) (t : ℕ → Bool) (u : ℕ) → Asks r t → (Asks r (without u t) → ⊥) → Forces r t u
 tells NoReply t u a few = few tt
 tells (OneReply h) t u a few = ⊎_elim (λ e. e) (λ ne. absurd (few (without_from u t h a ne))) (cases_eq h u)
 tells ManyReplies t u a few = elim (one_of_two t u few a.0 a.1 a.2 a.3 a.4) [
@@ -143,7 +140,4 @@ pub MustHave-cases : (slots : List Slot) (u : ℕ) → ArePossible slots → Sup
 MustHave-cases slots u p = spare_all (is_open slots) slots uid_end (open_below slots) u ((ArePossible-iff slots).0 p)
 
 pub MustHave-iff : (slots : List Slot) (u : ℕ) → ArePossible slots → MustHave slots u ↔ IsForcedBy (is_open slots) slots u
-MustHave-iff slots u p = (
-  (λ m. ⊎_elim (λ a. let r = population_without slots u a in absurd (r.3 (m r.0 r.1 r.2))) (λ f. f) (MustHave-cases slots u p)),
-  (λ f q i m. let w = (MeetsAll-iff q slots i).0 m in forced_by (is_open slots) (has q) slots u f w.0 w.1),
-)
+MustHave-iff slots u p = grind (arith, MustHave-cases slots u p, population_without slots u, MeetsAll-iff, forced_by)

@@ -1,5 +1,5 @@
 -- A search over the numbers below a bound, to decide, and never to be run.
-use Rattle.vic_verdict.proofs.Words.{◌≡◌, ℕ, zero, suc, ◌<◌, Bool, true, false, subst, arith, inl, inr, ⊎_elim, ◌⊎◌, ◌↔◌, cases_Bool, cases_eq, cases_lt, both_ways, IsLeast, NoSuch}
+use Rattle.vic_verdict.proofs.Words.{◌≡◌, ℕ, zero, suc, ◌<◌, Bool, true, false, arith, inl, inr, ⊎_elim, ◌⊎◌, ◌↔◌, cases_Bool, cases_lt, both_ways, IsLeast, NoSuch}
 
 -- P holds or it doesn't
 abbrev pub Either : Type 0 → Type 0
@@ -26,13 +26,7 @@ least_by P k p none = (p, λ m h. ⊎_elim (λ below. absurd (none m below h)) (
 -- the least number of which P holds, or it holds of none below n
 first_below : (P : ℕ → Type 0) → ((k : ℕ) → Either (P k)) → (n : ℕ) → ((k : ℕ) × IsLeast P k) ⊎ ((k : ℕ) → k < n → P k → ⊥)
 first_below P d zero = inr (λ k h. absurd (omega arith))
-first_below P d (suc n) = elim (first_below P d n) [
-  | inl found ↦ inl found
-  | inr none ↦ elim (d n) [
-    | inl holds ↦ inl (n, least_by P n holds none)
-    | inr fails ↦ inr (λ k h p. ⊎_elim (λ e. fails (subst P e p)) (λ ne. none k (omega arith) p) (cases_eq k n))
-  ]
-]
+first_below P d (suc n) = grind (arith, d n, least_by P n, first_below P d n)
 
 -- the least number of which P holds, where it holds of one
 pub least_of : (P : ℕ → Type 0) → ((k : ℕ) → Either (P k)) → (n : ℕ) → P n → (k : ℕ) × IsLeast P k

@@ -1,6 +1,6 @@
-use Rattle.vic_verdict.proofs.Words.{◌∙◌, ap, sym, Some, Entry, Heard, entries}
+use Rattle.vic_verdict.proofs.Words.{◌∙◌, ap, sym, Some, Entry, entries}
 use Rattle.vic_verdict.proofs.Stands.{entry_at}
-use Rattle.vic_verdict.proofs.Meeting.{heard_kept, heard_next, heard_one}
+use Rattle.vic_verdict.proofs.Meeting.{heard_kept, heard_pushed}
 use Rattle.vic_verdict.proofs.facts.heard_uids.Goals as goal
 use Rattle.vic_verdict.proofs.facts.heard_uids.Goals.{in-Heard+in_ok-push, in_default}
 
@@ -11,6 +11,6 @@ loop-line-preserved c =
     let l = c.line-item.result in
     let here = entry_at c.args.lines.now i l c.loop-line-test.true c.line-item.is ∙ ap (λ (e : Entry). Some e) (sym c.item.ensures) in
     elim c.match-item.branch [
-      | in-Heard+in_ok-push w ↦ rw (w.heard-is, w.in_ok-push.ensures.items, w.uid.ensures.value) (heard_next es i c.loop-line.heard.items _ (Heard w.in-Heard.response) (here ∙ ap (λ (e : Entry). Some e) w.in-Heard.is) (heard_one c.loop-line.heard.items w.in-Heard.response) c.loop-line.invariant)
+      | in-Heard+in_ok-push w ↦ rw (w.heard-is, w.in_ok-push.ensures.items, w.uid.ensures.value) (heard_pushed es i c.loop-line.heard.items w.in-Heard.response (here ∙ ap (λ (e : Entry). Some e) w.in-Heard.is) c.loop-line.invariant)
       | in_default w ↦ rw w.heard-is (heard_kept es i c.loop-line.heard.items c.item.result here w.in_default.not-Heard c.loop-line.invariant)
     ]
