@@ -1,6 +1,6 @@
 -- What a judge that goes over the entries once needs: what each entry does to the open UIDs, and what the open UIDs that
 -- could have answered in a slot, up to three of them, tell.
-use Rattle.vic_verdict.proofs.Words.{◌≡◌, ℕ, zero, suc, ◌<◌, ◌≤◌, List, [], ◌∷◌, length, Bool, true, ◌&&◌, Option, Some, None, ap, ◌∙◌, arith, nat_tests, inl, inr, ◌⊎◌, ◌↔◌, slice_get, cases_eq, Reply, Entry, Heard, Collision, Garbled, has, AreDifferent, IsWithin, answers_at, Reading, ManyReplies, SomeReply, Slot, reading_of, slots_before, is_open, Asks, SuppliesAll, Forces, IsForcedBy, UpToThree, answering, asks_within, needs, with_entry, may_be, ⊤}
+use Rattle.vic_verdict.proofs.Words.{◌≡◌, ℕ, zero, suc, ◌<◌, ◌≤◌, List, [], ◌∷◌, length, Bool, true, ◌&&◌, Option, Some, None, ap, ◌∙◌, arith, nat_tests, inl, inr, ◌⊎◌, ◌↔◌, slice_get, cases_eq, Reply, Entry, Heard, Collision, Garbled, has, AreDifferent, IsWithin, answers_at, Reading, ManyReplies, SomeReply, Slot, reading_of, slots_before, is_open, Asks, SuppliesAll, Forces, IsForcedBy, UpToThree, answering, needs, with_entry, may_be, ⊤}
 
 -- what a slot line asks of the UIDs that answer there; an entry that is no slot line asks nothing
 abbrev pub EntryAsks : Option Reading → (ℕ → Bool) → Type 0
@@ -92,10 +92,9 @@ own : (xs : List ℕ) → AreDifferent xs → UpToThree (has xs) xs
 own xs d = record { different = d; members = λ u h. h; all = λ few u h. h }
 
 pub enough_asked : (e : Entry) (t : ℕ → Bool) (xs : List ℕ) → 0 < needs e → AreDifferent xs → needs e ≤ length xs → IsWithin (has xs) t → EntryAsks (reading_of e) t
-enough_asked Collision t xs some d n k = asks_within ManyReplies (has xs) t k ((asks_two_iff (has xs) xs (own xs d)).1 n)
-enough_asked Garbled t xs some d n k = asks_within SomeReply (has xs) t k ((asks_one_iff (has xs) xs (own xs d)).1 n)
-enough_asked e t xs some d n k = absurd (omega arith)
+enough_asked e t xs some d n k = grind (arith, nat_tests, asks_two_iff (has xs) xs (own xs d), asks_one_iff (has xs) xs (own xs d))
 
+-- what is forced by all that answer is forced by fewer of them, where these are what was asked for
 forces_within : (r : Reading) (s t : ℕ → Bool) (u : ℕ) → Forces r t u → IsWithin s t → Asks r s → Forces r s u
 forces_within r s t u f k a = grind (arith, nat_tests)
 

@@ -27,6 +27,7 @@ up_to_it es i r k none = unanswered es i (Heard r) k (λ set uids asks. none (an
 pub outside_reply : (es : List Entry) (i : ℕ) (r : Reply) → slice_get es i ≡ Some (Heard r) → lies_in_some (mask_at es i) r.uid ≡ false → IsContradictedAt es i
 outside_reply es i r k out = up_to_it es i r k (λ answers. both_ways _ out (and_parts (lies_in_some (mask_at es i) r.uid) _ answers).0)
 
+-- an entry that needs tags asks for some
 needed_none : (e : Entry) (t : ℕ → Bool) → 0 < needs e → ((u : ℕ) → t u ≡ true → ⊥) → EntryAsks (reading_of e) t → ⊥
 needed_none e t lt none a = grind (arith, nat_tests)
 

@@ -30,6 +30,7 @@ supplied_front es n le possible =
     let same : slots_of (take n es) ≡ slots_before es n = ap (slots_before (take n es)) (length-take-le n es le) ∙ slots_agree n (take n es) es (taken n es) in
     (SuppliesAll-places (is_open (slots_before es n)) es n).0 (subst (λ slots. SuppliesAll (is_open slots) slots) same ((IsPossible-iff (take n es)).0 possible))
 
+-- an entry that may rule none out leaves the same UIDs open
 open_kept : (answers : ℕ → Bool) (o : Option Entry) (slots : List Slot) (u : ℕ) → ((e : Entry) → o ≡ Some e → rules_out e ≡ false) → is_open (with_entry answers o slots) u ≡ is_open slots u
 open_kept answers None slots u h = refl
 open_kept answers (Some e) slots u h = let none = h e refl in grind (arith, nat_tests)

@@ -1,5 +1,5 @@
 -- Which slots are possible, and which UIDs are possible and certain.
-use Rattle.vic_verdict.proofs.Words.{◌≡◌, ℕ, zero, suc, ◌<◌, ◌*◌, ◌^◌, List, [], ◌∷◌, Bool, true, not, ◌&&◌, refl, sym, ◌∙◌, subst, arith, inl, inr, ⊎_elim, ◌⊎◌, ◌≢◌, ◌↔◌, ◌==◌, and_parts, and_thrice, cases_eq, cases_Bool, nat_tests, false≢true, both_ways, has, is_uid, IsUid, IsPopulation, Reading, NoReply, OneReply, ManyReplies, SomeReply, Slot, is_open, Asks, SuppliesAll, Forces, IsForcedBy, IsWithin, MeetsAll-iff, IsUid-from, has_with_member, with_member, with_member_keeps, with_member_cases, IsPopulation-with_member, SuppliesAll-within, MeetsAll}
+use Rattle.vic_verdict.proofs.Words.{◌≡◌, ℕ, zero, suc, ◌<◌, ◌*◌, ◌^◌, List, [], ◌∷◌, Bool, true, not, ◌&&◌, sym, ◌∙◌, subst, arith, inl, inr, ⊎_elim, ◌⊎◌, ◌≢◌, ◌↔◌, ◌==◌, and_parts, and_thrice, cases_eq, cases_Bool, nat_tests, false≢true, both_ways, has, is_uid, IsUid, IsPopulation, Reading, NoReply, OneReply, ManyReplies, SomeReply, Slot, is_open, Asks, SuppliesAll, Forces, IsForcedBy, IsWithin, MeetsAll-iff, IsUid-from, has_with_member, with_member, with_member_keeps, with_member_cases, IsPopulation-with_member, SuppliesAll-within, MeetsAll}
 use Rattle.vic_verdict.proofs.Search.{Either, test_either, and_either, some_either}
 
 -- a population meets every slot
@@ -132,9 +132,7 @@ spare_all set (s ∷ slots) n b u a =
 
 -- where a UID isn't told of, there is a population without it
 pub population_without : (slots : List Slot) (u : ℕ) → SuppliesAll (without u (is_open slots)) slots → (p : List ℕ) × IsPopulation p × MeetsAll p slots × (has p u ≡ true → ⊥)
-population_without slots u a =
-    let r = population_within (without u (is_open slots)) slots (λ w h. (without_parts u (is_open slots) w h).0) a in
-    (r.0, r.1, r.2, λ h. (without_parts u (is_open slots) u (r.3 u h)).1 refl)
+population_without slots u a = grind (arith, nat_tests, population_within (without u (is_open slots)) slots)
 
 pub MustHave-cases : (slots : List Slot) (u : ℕ) → ArePossible slots → SuppliesAll (without u (is_open slots)) slots ⊎ IsForcedBy (is_open slots) slots u
 MustHave-cases slots u p = spare_all (is_open slots) slots uid_end (open_below slots) u ((ArePossible-iff slots).0 p)
