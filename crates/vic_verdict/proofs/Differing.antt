@@ -1,5 +1,5 @@
 -- How a list differs from what logs tell, and that the first difference is the verdict.
-use Rattle.vic_verdict.proofs.Words.{◌≡◌, ℕ, ◌≤◌, ◌<◌, ◌^◌, List, ◌++◌, Bool, true, false, not, ◌&&◌, ◌||◌, Option, Some, None, sym, ap, ◌∙◌, arith, inl, inr, ⊎_elim, ◌↔◌, ◌⊎◌, nat_eq, IfSome, IfNone, MatchOption, and_parts, and_from, both_ways, cases_Bool, not-true, not_from_false, false_from_ne_true, or_cases, or_left, or_right, list_any-append, IsUid, has, BitMask, lies_in, SameUids, Entry, listed, AreKeysOf, IsPossible, IsPossibleUid, IsCertainUid, IsFailing, IsListOf, SameMembers, IsAbsent, IsUnlisted, IsUnsettled, IsDoubtful, IsLeast, IsFirstMask, NoSuch, IsWidest, without_keys, true_from_ne_false, UID_BITS, same_tests, widest_same, IsTold}
+use Rattle.vic_verdict.proofs.Words.{◌≡◌, ℕ, ◌≤◌, ◌<◌, ◌^◌, List, ◌++◌, Bool, true, false, not, ◌&&◌, ◌||◌, Option, Some, None, sym, ap, ◌∙◌, arith, nat_tests, ⊎_elim, ◌↔◌, ◌⊎◌, IfSome, IfNone, MatchOption, both_ways, list_any-append, IsUid, has, BitMask, lies_in, SameUids, Entry, listed, AreKeysOf, IsPossible, IsPossibleUid, IsCertainUid, IsFailing, IsListOf, SameMembers, IsAbsent, IsUnlisted, IsUnsettled, IsDoubtful, IsLeast, IsFirstMask, NoSuch, IsWidest, without_keys, UID_BITS, widest_same, IsTold}
 use Rattle.vic_verdict.specs.declared.findings.Differences.{Differences}
 use Rattle.vic_verdict.specs.Differences.{AreDifferences, IsLeftOpen, MayBeMissing, left_by}
 use Rattle.vic_verdict.proofs.Decide.{IsPossibleUid-iff, IsPossibleUid-either, IsCertainUid-iff}
@@ -9,30 +9,17 @@ use Rattle.vic_verdict.proofs.Masks.{uid_in, IsUid-in, lies_in-uid_in}
 -- ---- the differences, by the steps of `compare`
 
 -- the listed UIDs and the unlisted ones are the listed and the certain ones
-pub known_has : (us certain unlisted known : List ℕ) (u : ℕ) → known ≡ us ++ unlisted → IsListOf (IsFailing certain (has us)) unlisted → has known u ≡ (has certain u || has us u)
-known_has us certain unlisted known u is new =
-    ap (λ xs. has xs u) is
-    ∙ list_any-append (nat_eq u) us unlisted
-    ∙ same_tests (has us u || has unlisted u) (has certain u || has us u)
-    (λ h. ⊎_elim (λ e. or_right _ _ e) (λ e. or_left _ _ ((new.members u).0 e).0) (or_cases _ _ h))
-    (λ h. ⊎_elim (λ e. or_left _ _ e) (λ e. ⊎_elim (λ c. or_right _ _ ((new.members u).1 (c, e))) (λ m. or_left _ _ m) (or_cases _ _ h)) (cases_Bool (has us u)))
+pub known_has : (us certain unlisted : List ℕ) (u : ℕ) → IsListOf (IsFailing certain (has us)) unlisted → has (us ++ unlisted) u ≡ (has certain u || has us u)
+known_has us certain unlisted u new = grind (arith, nat_tests, list_any-append, new.members u)
 
 pub neither_by : (set : ℕ → Bool) (us certain outside absent : List ℕ) → IsListOf (IsFailing us set) outside → IsListOf (IsFailing outside (has certain)) absent → IsListOf (λ u. IsFailing us set u × (has certain u ≡ false)) absent
 neither_by set us certain outside absent out l =
-    list_as (IsFailing outside (has certain)) (λ u. IsFailing us set u × (has certain u ≡ false)) absent (λ u. (
-      (λ h. ((out.members u).0 h.0, h.1)),
-      (λ h. ((out.members u).1 h.0, h.1)),
-    )) l
+    list_as _ _ absent (λ u. grind (arith, out.members u)) l
 
 pub absent_by : (set : ℕ → Bool) (us certain known absent : List ℕ) → ((u : ℕ) → has known u ≡ (has certain u || has us u)) → IsListOf (λ u. IsFailing known set u × (has certain u ≡ false)) absent
     → IsListOf (λ u. IsFailing us set u × (has certain u ≡ false)) absent
 absent_by set us certain known absent all l =
-    list_as (λ u. IsFailing known set u × (has certain u ≡ false)) (λ u. IsFailing us set u × (has certain u ≡ false)) absent
-    (λ u. (
-      (λ h. ((⊎_elim (λ c. absurd (both_ways (has certain u) h.1 c)) (λ e. e) (or_cases _ _ (sym (all u) ∙ h.0.0)), h.0.1), h.1)),
-      (λ h. ((all u ∙ or_right _ _ h.0.0, h.0.1), h.1)),
-    ))
-    l
+    list_as _ _ absent (λ u. grind (arith, nat_tests, all u)) l
 
 left_same : (set : ℕ → Bool) (us certain known keys : List ℕ) → ((u : ℕ) → has known u ≡ (has certain u || has us u)) → AreKeysOf keys known → SameUids (without_keys set keys) (left_by set certain us)
 left_same set us certain known keys all own u i = ap (λ b. set u && not b) (own.members u i ∙ all u)
@@ -56,62 +43,22 @@ pub record AreListed (us all : List ℕ) : Type 0 where
   pub members : SameMembers us all
   pub are_uids : (u : ℕ) → has us u ≡ true → IsUid u
 
-uncertain_iff : (P C : ℕ → Type 0) (set : ℕ → Bool) (certain : List ℕ) (u : ℕ) → AreFacts P C set certain → (has certain u ≡ false) ↔ (C u → ⊥)
-uncertain_iff P C set certain u f = (
-  (λ h c. both_ways (has certain u) h ((f.must.members u).1 c)),
-  (λ h. false_from_ne_true _ (λ e. h ((f.must.members u).0 e))),
-)
-
 pub open_iff : (P C : ℕ → Type 0) (set : ℕ → Bool) (certain : List ℕ) (u : ℕ) → AreFacts P C set certain → IsUid u → ((set u ≡ true) × (has certain u ≡ false)) ↔ (P u × (C u → ⊥))
-open_iff P C set certain u f i =
-    let un = uncertain_iff P C set certain u f in
-    let may = f.may u i in (
-      (λ h. (may.0 (inl h.0), un.0 h.1)),
-      (λ h. let e = un.1 h.1 in (⊎_elim (λ s. s) (λ c. absurd (both_ways (has certain u) e c)) (may.1 h.0), e)),
-    )
+open_iff P C set certain u f i = grind (arith, nat_tests, f.may u i, f.must.members u)
 
 absent_iff : (P C : ℕ → Type 0) (set : ℕ → Bool) (certain us all : List ℕ) → AreFacts P C set certain → AreListed us all → (u : ℕ) → (IsFailing us set u × (has certain u ≡ false)) ↔ ((has all u ≡ true) × (P u → ⊥))
-absent_iff P C set certain us all f l u = (
-  (λ h. (
-    sym (l.members u) ∙ h.0.0,
-    λ p. ⊎_elim (λ s. both_ways (set u) h.0.1 s) (λ c. both_ways (has certain u) h.1 c) ((f.may u (l.are_uids u h.0.0)).1 p),
-  )),
-  (λ h.
-      let member = l.members u ∙ h.0 in
-      let may = f.may u (l.are_uids u member) in
-      ((member, false_from_ne_true _ (λ e. h.1 (may.0 (inl e)))), false_from_ne_true _ (λ e. h.1 (may.0 (inr e))))),
-)
+absent_iff P C set certain us all f l u = grind (arith, nat_tests, l.members u, l.are_uids u, f.may u)
 
 unlisted_iff : (P C : ℕ → Type 0) (set : ℕ → Bool) (certain us all : List ℕ) → AreFacts P C set certain → AreListed us all → (u : ℕ) → IsFailing certain (has us) u ↔ (C u × (has all u ≡ false))
-unlisted_iff P C set certain us all f l u = (
-  (λ h. ((f.must.members u).0 h.0, sym (l.members u) ∙ h.1)),
-  (λ h. ((f.must.members u).1 h.0, l.members u ∙ h.1)),
-)
+unlisted_iff P C set certain us all f l u = grind (arith, l.members u, f.must.members u)
 
 -- a listed UID that is neither certain nor absent may be there and may be missing
 pub doubtful_list : (P C : ℕ → Type 0) (set : ℕ → Bool) (certain us all some absent doubtful : List ℕ) → AreFacts P C set certain → AreListed us all → IsListOf (IsFailing us (has certain)) some → IsListOf (λ u. IsFailing us set u × (has certain u ≡ false)) absent → IsListOf (IsFailing some (has absent)) doubtful → IsListOf (λ u. (has all u ≡ true) × (P u × (C u → ⊥))) doubtful
 doubtful_list P C set certain us all some absent doubtful f l un out h =
-    list_as (IsFailing some (has absent)) (λ u. (has all u ≡ true) × (P u × (C u → ⊥))) doubtful (λ u. (
-      (λ k.
-          let w = (un.members u).0 k.0 in
-          (sym (l.members u) ∙ w.0, (open_iff P C set certain u f (l.are_uids u w.0)).0 (true_from_ne_false _ (λ e. both_ways (has absent u) k.1 ((out.members u).1 ((w.0, e), w.1))), w.1))),
-      (λ k.
-          let member = l.members u ∙ k.0 in
-          let w = (open_iff P C set certain u f (l.are_uids u member)).1 k.1 in
-          ((un.members u).1 (member, w.1), false_from_ne_true _ (λ e. both_ways (set u) ((out.members u).0 e).0.1 w.0))),
-    )) h
+    list_as _ _ doubtful (λ u. grind (arith, nat_tests, l.members u, l.are_uids u, open_iff P C set certain u f, un.members u, out.members u)) h
 
 left_iff : (P C : ℕ → Type 0) (set : ℕ → Bool) (certain us all : List ℕ) → AreFacts P C set certain → AreListed us all → (u : ℕ) → IsUid u → (left_by set certain us u ≡ true) ↔ ((P u × (C u → ⊥)) × (has all u ≡ false))
-left_iff P C set certain us all f l u i =
-    let here = open_iff P C set certain u f i in (
-      (λ h.
-          let w = and_parts (set u) (not (has certain u || has us u)) h in
-          let none = not-true _ w.1 in
-          (here.0 (w.0, false_from_ne_true _ (λ e. both_ways _ none (or_left _ _ e))), sym (l.members u) ∙ false_from_ne_true _ (λ e. both_ways _ none (or_right _ _ e)))),
-      (λ h.
-          let w = here.1 h.0 in
-          and_from _ _ w.0 (not_from_false _ (false_from_ne_true _ (λ e. ⊎_elim (λ c. both_ways _ w.1 c) (λ k. both_ways _ (l.members u ∙ h.1) k) (or_cases _ _ e))))),
-    )
+left_iff P C set certain us all f l u i = grind (arith, nat_tests, l.members u, open_iff P C set certain u f i)
 
 -- a mask of at most 56 bits all of whose UIDs may be there, may be missing, and aren't listed
 abbrev pub IsLeft : (P C : ℕ → Type 0) → List ℕ → BitMask → Type 0
@@ -145,10 +92,7 @@ all_findings P C set certain us all d f l h = record {
 
 pub log_facts : (es : List Entry) (set : ℕ → Bool) (certain : List ℕ) → IsTold es set certain → AreFacts (IsPossibleUid es) (IsCertainUid es) set certain
 log_facts es set certain t = record {
-  may = λ u i. (
-    ⊎_elim (λ h. (IsPossibleUid-iff es u t.possible).1 (sym (t.uids_open u i) ∙ h)) (λ h. sure u ((must.members u).0 h)),
-    (λ q. inl (t.uids_open u i ∙ (IsPossibleUid-iff es u t.possible).0 q)),
-  );
+  may = λ u i. grind (arith, IsPossibleUid-iff es u t.possible, t.uids_open u i, must.members u, sure u);
   must = must;
   sure = sure;
 }
@@ -181,49 +125,36 @@ missing_or_absent es u present none d = present u (d.0, λ possible. none (d.0, 
 pub missing_least : (es : List Entry) (u : ℕ) → IsPossible es → NoSuch (IsAbsent es) → IsLeast (MayBeMissing es) u → IsLeast (IsDoubtful es) u
 missing_least es u possible present h = (
   (h.0.0, h.0.1.1),
-  λ m d.
-      ⊎_elim
-      (λ (may : IsPossibleUid es m). h.1 m (d.0, (may, d.1)))
-      (λ (not_ : IsPossibleUid es m → ⊥). absurd (present m (d.0, not_)))
-      (IsPossibleUid-either es m possible),
+  λ m d. ⊎_elim (λ may. h.1 m (d.0, (may, d.1))) (λ no. absurd (present m (d.0, no))) (IsPossibleUid-either es m possible),
 )
 
 -- ---- the findings of one log, each by what the judge has of it
 
--- the log tells the set and the certain UIDs, and the list has the listed ones
-pub record IsJudged (es : List Entry) (set : ℕ → Bool) (certain us : List ℕ) : Type 0 where
-  pub told : IsTold es set certain
-  pub own : AreListed us (listed es)
+pub record AreFindings (es : List Entry) (set : ℕ → Bool) (certain us : List ℕ) : Type 0 where
+  pub absent : (u : ℕ) → (IsFailing us set u × (has certain u ≡ false)) ↔ IsAbsent es u
+  pub unlisted : (u : ℕ) → IsFailing certain (has us) u ↔ IsUnlisted es u
+  pub doubtful : (u : ℕ) → IsFailing us (has certain) u ↔ IsDoubtful es u
+  pub unsettled : (keys : List ℕ) (m : Option BitMask) → NoSuch (IsUnlisted es) → AreKeysOf keys us → IfSome m (IsWidest (without_keys set keys)) → IfNone m (SameUids (without_keys set keys) (λ _. false))
+      → MatchOption m (NoSuch (IsUnsettled es)) (IsFirstMask (IsUnsettled es))
 
-pub absent_list : (es : List Entry) (set : ℕ → Bool) (certain us absent : List ℕ) → IsJudged es set certain us → IsListOf (λ u. IsFailing us set u × (has certain u ≡ false)) absent → IsListOf (IsAbsent es) absent
-absent_list es set certain us absent j h = list_as _ (IsAbsent es) absent (absent_iff (IsPossibleUid es) (IsCertainUid es) set certain us (listed es) (log_facts es set certain j.told) j.own) h
-
-pub unlisted_list : (es : List Entry) (set : ℕ → Bool) (certain us unlisted : List ℕ) → IsJudged es set certain us → IsListOf (IsFailing certain (has us)) unlisted → IsListOf (IsUnlisted es) unlisted
-unlisted_list es set certain us unlisted j h = list_as _ (IsUnlisted es) unlisted (unlisted_iff (IsPossibleUid es) (IsCertainUid es) set certain us (listed es) (log_facts es set certain j.told) j.own) h
-
--- where none is unlisted
-pub unsettled_mask : (es : List Entry) (set : ℕ → Bool) (certain us keys : List ℕ) (m : Option BitMask) → IsJudged es set certain us → NoSuch (IsUnlisted es) → AreKeysOf keys us
-    → IfSome m (IsWidest (without_keys set keys)) → IfNone m (SameUids (without_keys set keys) (λ _. false)) → MatchOption m (NoSuch (IsUnsettled es)) (IsFirstMask (IsUnsettled es))
-unsettled_mask es set certain us keys m j none own found empty =
-    unsettled m (first_left (IsPossibleUid es) (IsCertainUid es) set certain us (listed es) m f j.own (unsettled_by set us certain us keys m all own found empty))
+-- where the log tells the set and the certain UIDs, and the list has the listed ones
+pub findings_of : (es : List Entry) (set : ℕ → Bool) (certain us : List ℕ) → IsTold es set certain → SameMembers us (listed es) → ((u : ℕ) → has us u ≡ true → IsUid u) → AreFindings es set certain us
+findings_of es set certain us told members uids = record {
+  absent = absent_iff (IsPossibleUid es) (IsCertainUid es) set certain us (listed es) f l;
+  unlisted = unlisted_iff (IsPossibleUid es) (IsCertainUid es) set certain us (listed es) f l;
+  doubtful = λ u. grind (arith, nat_tests, members u, f.must.members u);
+  unsettled = λ keys m none own found empty. unsettled m none (first_left (IsPossibleUid es) (IsCertainUid es) set certain us (listed es) m f l (unsettled_by set us certain us keys m (all none) own found empty));
+}
   where
     f : AreFacts (IsPossibleUid es) (IsCertainUid es) set certain
-    f = log_facts es set certain j.told
+    f = log_facts es set certain told
 
-    is_listed : (u : ℕ) → has certain u ≡ true → has us u ≡ true
-    is_listed u c = ⊎_elim (λ e. e) (λ e. absurd (none u ((unlisted_iff (IsPossibleUid es) (IsCertainUid es) set certain us (listed es) f j.own u).0 (c, e)))) (cases_Bool (has us u))
+    l : AreListed us (listed es)
+    l = record { members = members; are_uids = uids }
 
-    all : (u : ℕ) → has us u ≡ (has certain u || has us u)
-    all u = same_tests (has us u) (has certain u || has us u) (λ h. or_right _ _ h) (λ h. ⊎_elim (λ c. is_listed u c) (λ e. e) (or_cases _ _ h))
+    all : NoSuch (IsUnlisted es) → (u : ℕ) → has us u ≡ (has certain u || has us u)
+    all none u = grind (arith, nat_tests, none u, members u, f.must.members u)
 
-    unsettled : (m : Option BitMask) → MatchOption m (NoSuch (IsLeftOpen es)) (IsFirstMask (IsLeftOpen es)) → MatchOption m (NoSuch (IsUnsettled es)) (IsFirstMask (IsUnsettled es))
-    unsettled None h = none_unsettled es none h
-    unsettled (Some k) h = first_mask es k none h
-
-pub doubtful_uids : (es : List Entry) (set : ℕ → Bool) (certain us doubtful : List ℕ) → IsJudged es set certain us → IsListOf (IsFailing us (has certain)) doubtful → IsListOf (IsDoubtful es) doubtful
-doubtful_uids es set certain us doubtful j h =
-    list_as _ (IsDoubtful es) doubtful (λ u.
-    let un = uncertain_iff (IsPossibleUid es) (IsCertainUid es) set certain u (log_facts es set certain j.told) in (
-      (λ k. (sym (j.own.members u) ∙ k.0, un.0 k.1)),
-      (λ k. (j.own.members u ∙ k.0, un.1 k.1)),
-    )) h
+    unsettled : (m : Option BitMask) → NoSuch (IsUnlisted es) → MatchOption m (NoSuch (IsLeftOpen es)) (IsFirstMask (IsLeftOpen es)) → MatchOption m (NoSuch (IsUnsettled es)) (IsFirstMask (IsUnsettled es))
+    unsettled None none h = none_unsettled es none h
+    unsettled (Some k) none h = first_mask es k none h

@@ -1,54 +1,44 @@
 -- A gathered population shows the verdict.
-use Rattle.vic_verdict.proofs.Words.{◌≡◌, ℕ, ◌≤◌, List, [], ◌∷◌, ◌++◌, length, true, Some, None, sym, ◌∙◌, subst, arith, ⊎_elim, length-append, ◌⊎◌, IsStrictlyIncreasing, false_from_ne_true, IsUid, has, BitMask, lies_in, Entry, LogLine, entries, slots_of, is_open, IsWithin, AreDifferent-population, has_here, MeetsAll-iff, CouldHaveGiven-slots, Met, IsMet, gathered, IsPossible, IsPossibleUid, IsCertainUid, SameMembers, IsVerdict, IsUid-member, SuppliesAll-within, least_uid_in, Absent, Unlisted, Unsettled, Doubtful, IsSmallPopulation, IsPopulationBehind}
-use Rattle.vic_verdict.proofs.Decide.{IsPossibleUid-iff}
-use Rattle.vic_verdict.proofs.Meeting.{has_pushed}
-use Rattle.vic_verdict.proofs.Gathering.{IsGathered, append_left, append_right, rising_population, no_more, gathered_population, gathered_without}
+use Rattle.vic_verdict.proofs.Words.{◌≡◌, ℕ, List, [], ◌∷◌, ◌++◌, true, Option, Some, None, has_cases, sym, ap, ◌||◌, ◌∙◌, append-nil, arith, nat_eq, list_any-append, ⊎_elim, ◌⊎◌, inl, inr, subst, false≢true, IsStrictlyIncreasing, false_from_ne_true, has, BitMask, lies_in, Entry, LogLine, entries, has_here, Met, IsMet, gathered, IsPossible, IsPossibleUid, IsCertainUid, SameMembers, IsVerdict, least_uid_in, Absent, Unlisted, Unsettled, Doubtful, IsSmallPopulation, IsPopulationBehind}
+use Rattle.vic_verdict.specs.declared.judging.Verdict.{Verdict}
+use Rattle.vic_verdict.proofs.Gathering.{AvoidsNoneCertain, append_right, gathered_small, gathered_other}
 use Rattle.vic_verdict.proofs.Masks.{lies_in-uid_in, IsUid-in}
 
-small_from : (es : List Entry) (us : List ℕ) → IsGathered es us → IsSmallPopulation es us
-small_from es us g = record {
-  rising = g.rising;
-  population = g.population;
-  could = g.could;
-  few = λ heard all. let n = g.few heard all in omega arith;
-}
+-- what was gathered, without one more
+gathered_alone : (es : List Entry) (m : Met) (avoid : Option ℕ) (us : List ℕ) → IsPossible es → AvoidsNoneCertain es avoid → IsMet es m → IsStrictlyIncreasing us → SameMembers us (gathered avoid m) → IsSmallPopulation es us
+gathered_alone es m avoid us possible none met rising same =
+    gathered_small es m avoid [] us possible none met (λ u no. absurd (false≢true no)) (omega arith) rising (λ u. rw append-nil (same u))
 
-pub absent_shown : (lines : List LogLine) (m : Met) (us : List ℕ) (u : ℕ) → IsVerdict lines (Absent u) → IsMet (entries lines) m → IsStrictlyIncreasing us → SameMembers us (gathered None m) → IsPopulationBehind (entries lines) (Absent u) us
-absent_shown lines m us u v met rising same =
-    let g = gathered_population (entries lines) m None us v.0 (λ a e. cc) met rising same in
-    (small_from _ us g, false_from_ne_true _ (λ h. v.1.0.1 (us, g.population, g.could, h)))
-
-pub unlisted_shown : (lines : List LogLine) (m : Met) (us : List ℕ) (u : ℕ) → IsVerdict lines (Unlisted u) → IsMet (entries lines) m → IsStrictlyIncreasing us → SameMembers us (gathered None m) → IsPopulationBehind (entries lines) (Unlisted u) us
-unlisted_shown lines m us u v met rising same =
-    let g = gathered_population (entries lines) m None us v.0 (λ a e. cc) met rising same in
-    (small_from _ us g, v.2.0.0 us g.population g.could)
+-- it lacks an absent UID, and has an unlisted one
+pub known_shown : (lines : List LogLine) (m : Met) (us : List ℕ) (v : Verdict) → IsVerdict lines v → ((u : ℕ) × (v ≡ Absent u)) ⊎ ((u : ℕ) × (v ≡ Unlisted u)) → IsMet (entries lines) m → IsStrictlyIncreasing us → SameMembers us (gathered None m) → IsPopulationBehind (entries lines) v us
+known_shown lines m us v is which met rising same =
+    let small = λ (possible : IsPossible (entries lines)). gathered_alone (entries lines) m None us possible (λ a e. cc) met rising same in
+    elim which [
+      | inl a ↦
+          let here = subst (IsVerdict lines) a.1 is in
+          rw a.1 (small here.0, false_from_ne_true _ (λ h. here.1.0.1 (us, (small here.0).population, (small here.0).could, h)))
+      | inr a ↦
+          let here = subst (IsVerdict lines) a.1 is in
+          rw a.1 (small here.0, here.2.0.0 us (small here.0).population (small here.0).could)
+    ]
 
 pub doubtful_shown : (lines : List LogLine) (m : Met) (us : List ℕ) (u : ℕ) → IsVerdict lines (Doubtful u) → IsMet (entries lines) m → IsStrictlyIncreasing us → SameMembers us (gathered (Some u) m) → IsPopulationBehind (entries lines) (Doubtful u) us
 doubtful_shown lines m us u v met rising same =
     let es = entries lines in
-    (small_from es us (gathered_population es m (Some u) us v.0 (λ a e certain. let it : u ≡ a = cc in v.4.0.1 (subst (IsCertainUid es) (sym it) certain)) met rising same), gathered_without es m u us v.4.0.1 met same)
+    let uncertain = v.4.0.1 in (
+      gathered_alone es m (Some u) us v.0 (λ a e certain. let it : a ≡ u = cc in uncertain (subst (IsCertainUid es) it certain)) met rising same,
+      false_from_ne_true _ (λ h. gathered_other es m u uncertain met (sym (same u) ∙ h)),
+    )
 
--- a gathered population with one possible UID more
-with_possible : (es : List Entry) (x : ℕ) (us vs : List ℕ) → IsPossible es → IsUid x → IsPossibleUid es x → IsGathered es us → IsStrictlyIncreasing vs → SameMembers vs (us ++ x ∷ []) → IsSmallPopulation es vs
-with_possible es x us vs possible i p g rising same =
-    let slots = slots_of es in
-    let split : IsWithin (has vs) (has (us ++ x ∷ [])) = λ u h. sym (same u) ∙ h in
-    let parts : (u : ℕ) → has vs u ≡ true → (has us u ≡ true) ⊎ (u ≡ x) = λ u h. has_pushed us x u (split u h) in
-    let old = (MeetsAll-iff us slots g.population).0 ((CouldHaveGiven-slots us es).0 g.could) in
-    let within : IsWithin (has vs) (is_open slots) = λ u h. ⊎_elim (λ k. old.0 u k) (λ e. subst (λ z. is_open slots z ≡ true) (sym e) ((IsPossibleUid-iff es x possible).0 p)) (parts u h) in
-    let population = rising_population vs rising (λ u h. ⊎_elim (λ k. IsUid-member us u g.population k) (λ e. subst IsUid (sym e) i) (parts u h)) in
-    let longer : length vs ≤ length (us ++ x ∷ []) = no_more vs (us ++ x ∷ []) (AreDifferent-population vs population) split in
-    record {
-      rising = rising;
-      population = population;
-      could = (CouldHaveGiven-slots vs es).1 ((MeetsAll-iff vs slots population).1 (within, SuppliesAll-within (has us) (has vs) slots (λ u h. same u ∙ append_left us (x ∷ []) u h) old.1));
-      few = λ heard all. omega (arith, g.few heard all, length-append us (x ∷ []));
-    }
-
-pub unsettled_shown : (lines : List LogLine) (m : Met) (us vs : List ℕ) (k : BitMask) (x : ℕ) → IsVerdict lines (Unsettled k) → IsMet (entries lines) m → IsStrictlyIncreasing us → SameMembers us (gathered None m) → x ≡ least_uid_in k → IsStrictlyIncreasing vs → SameMembers vs (us ++ x ∷ []) → IsPopulationBehind (entries lines) (Unsettled k) vs
-unsettled_shown lines m us vs k x v met rising same is rising' same' =
+-- with the least UID of an unsettled mask
+pub unsettled_shown : (lines : List LogLine) (m : Met) (us vs : List ℕ) (k : BitMask) (x : ℕ) → IsVerdict lines (Unsettled k) → IsMet (entries lines) m → SameMembers us (gathered None m) → x ≡ least_uid_in k → IsStrictlyIncreasing vs → SameMembers vs (us ++ x ∷ []) → IsPopulationBehind (entries lines) (Unsettled k) vs
+unsettled_shown lines m us vs k x v met same is rising' same' =
     let es = entries lines in
+    let all = gathered None m in
     let mask = v.3.0 in
-    let i : IsUid x = subst IsUid (sym is) (IsUid-in k mask.0 mask.1) in
-    let inside : lies_in k x ≡ true = subst (λ z. lies_in k z ≡ true) (sym is) (lies_in-uid_in k mask.0 mask.1) in
-    (with_possible es x us vs v.0 i (mask.2 x i inside).0 (gathered_population es m None us v.0 (λ a e. cc) met rising same) rising' same', (x, inside, same' x ∙ append_right us (x ∷ []) x (has_here x [])))
+    let inside : lies_in k x ≡ true = rw is (lies_in-uid_in k mask.0 mask.1) in
+    let may : IsPossibleUid es x = (mask.2 x (rw is (IsUid-in k mask.0 mask.1)) inside).0 in
+    let members : SameMembers vs (all ++ x ∷ []) = λ u. same' u ∙ list_any-append (nat_eq u) us (x ∷ []) ∙ ap (λ b. b || has (x ∷ []) u) (same u) ∙ sym (list_any-append (nat_eq u) all (x ∷ [])) in (
+      gathered_small es m None (x ∷ []) vs v.0 (λ a e. cc) met (λ u h. ⊎_elim (λ e. subst (IsPossibleUid es) (sym e) may) (λ no. absurd (false≢true no)) (has_cases u x [] h)) (omega arith) rising' members,
+      (x, inside, members x ∙ append_right all (x ∷ []) x (has_here x [])),
+    )

@@ -1,5 +1,5 @@
 -- The members of a list that fail a test.
-use Rattle.vic_verdict.proofs.Words.{◌∙◌, ◌≡◌, ℕ, ◌<◌, ◌≤◌, List, [], ◌∷◌, length, get_or, Bool, true, not, sym, subst, arith, ◌↔◌, MatchOption, slice_get, filter, eq-eqb, eqb-true, nat_eq, IsStrictlyIncreasing, and_parts, and_from, not-true, not_from_false, false≢true, has, has_here, has_filter, IsFailing, IsListOf, IsLeast, NoSuch, Any-from_list_any, list_any_at, get_or_default, filter_has, IsStrictlyIncreasing-filter}
+use Rattle.vic_verdict.proofs.Words.{◌∙◌, ◌≡◌, ℕ, ◌<◌, ◌≤◌, List, [], ◌∷◌, length, get_or, Bool, true, not, sym, subst, arith, nat_tests, ◌↔◌, MatchOption, slice_get, filter, eq-eqb, eqb-true, nat_eq, IsStrictlyIncreasing, false≢true, has, has_here, has_filter, IsFailing, IsListOf, IsLeast, NoSuch, Any-from_list_any, list_any_at, get_or_default, filter_has, IsStrictlyIncreasing-filter}
 use Rattle.vic_verdict.proofs.Inserted.{rising_order}
 
 -- a member has a position
@@ -11,17 +11,11 @@ member_at us k u d lt e = list_any_at (nat_eq u) us k d lt (eq-eqb u _ (sym e))
 
 -- ---- lists of those that fail
 
-abbrev pub failing : (ℕ → Bool) → List ℕ → List ℕ
-failing test us = filter (λ u. not (test u)) us
-
 -- those of a rising list
-pub failing_list : (test : ℕ → Bool) (us ys : List ℕ) → IsStrictlyIncreasing us → ys ≡ failing test us → IsListOf (IsFailing us test) ys
+pub failing_list : (test : ℕ → Bool) (us ys : List ℕ) → IsStrictlyIncreasing us → ys ≡ filter (λ u. not (test u)) us → IsListOf (IsFailing us test) ys
 failing_list test us ys rising is = subst (IsListOf (IsFailing us test)) (sym is) (record {
   rising = IsStrictlyIncreasing-filter (λ u. not (test u)) us rising;
-  members = λ u. (
-    (λ h. let w = and_parts (has us u) (not (test u)) (has_filter (λ v. not (test v)) us u h) in (w.0, not-true _ w.1)),
-    (λ h. filter_has (λ v. not (test v)) us u (and_from (has us u) (not (test u)) h.0 (not_from_false _ h.1))),
-  );
+  members = λ u. grind (arith, nat_tests, has_filter (λ v. not (test v)) us u, filter_has (λ v. not (test v)) us u);
 })
 
 -- the same property has the same list

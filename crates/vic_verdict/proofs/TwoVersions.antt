@@ -1,26 +1,18 @@
 -- The main theorem says the same in the words of each version.
-use Rattle.vic_verdict.proofs.Words.{◌≡◌, ◌⊎◌, inl, inr, ℕ, zero, suc, true, false, not, ◌&&◌, List, [], ◌∷◌, Option, Some, None, refl, sym, ap, subst, ◌∙◌, arith, ⊎_elim, ◌↔◌, slice_get, filter, cases_eq, and_parts, and_from, both_ways, false_from_ne_true, not-true, has, AreDifferent, Entry, Silent, Collision, Heard, Garbled, FieldCycle, LogLine, entries, IsPopulation, answers_at, CouldHaveGiven, silences, wakes, is_quiet, mask_at, lies_in_some, has_here, has_there, has_cases, has_filter, AreDifferent-population, AreDifferent-filter, IsVerdict, Complete, or_parts, filter_has, IsWhole, has_at, and_cases, not-false, AreOfFirstVersion, CouldHaveGivenFirst, Outcome, Nobody, Lone, Several, outcome_of, outcome_at, Fits, given-first, quiet-silenced}
+use Rattle.vic_verdict.proofs.Words.{◌≡◌, ◌⊎◌, inl, inr, ℕ, zero, suc, true, false, List, [], ◌∷◌, Option, Some, refl, sym, ◌∙◌, arith, nat_tests, ⊎_elim, ◌↔◌, filter, cases_eq, both_ways, false_from_ne_true, has, AreDifferent, Entry, FieldCycle, LogLine, entries, IsPopulation, answers_at, CouldHaveGiven, wakes, is_quiet, has_here, has_there, has_cases, has_filter, AreDifferent-population, AreDifferent-filter, IsVerdict, Complete, or_parts, filter_has, IsWhole, has_at, and_cases, AreOfFirstVersion, CouldHaveGivenFirst, Outcome, Nobody, Lone, Several, outcome_of, outcome_at, Fits, given-first, quiet-silenced}
 use Rattle.vic_verdict.specs.TwoVersions.{HasExactlyListed, IsWholeFirst, IsReady, Answers, AnswersAlone, SeveralAnswer, IsToldOf, CouldHaveGivenSecond, IsWholeSecond}
+use Rattle.vic_verdict.proofs.Decide.{IsPossible-iff, IsPossibleUid-iff, IsCertainUid-iff}
 use Rattle.vic_verdict.proofs.Verdicts.{complete_whole}
 
 -- ---- Ready tags
 
 cycle_at : (o : Option Entry) → wakes o ≡ true → o ≡ Some FieldCycle
-cycle_at None h = cc
-cycle_at (Some FieldCycle) h = refl
-cycle_at (Some e) h = cc
+cycle_at o h = grind (arith, nat_tests)
 
 not_quiet-ready : (es : List Entry) (i u : ℕ) → is_quiet es i u ≡ false → IsReady es i u
 not_quiet-ready es zero u h j below s = absurd (omega arith)
 not_quiet-ready es (suc n) u h j below s =
-    let w = or_parts (silences (slice_get es n) u) (not (wakes (slice_get es n)) && is_quiet es n u) h in
-    ⊎_elim
-    (λ same. absurd (both_ways (silences (slice_get es j) u) (ap (λ k. silences (slice_get es k) u) same ∙ w.0) s))
-    (λ ne. ⊎_elim
-    (λ woken. (n, omega arith, omega arith, cycle_at (slice_get es n) (not-false _ woken)))
-    (λ before. let r = not_quiet-ready es n u before j (omega arith) s in (r.0, r.1, omega arith, r.3))
-    (and_cases (not (wakes (slice_get es n))) (is_quiet es n u) w.1))
-    (cases_eq j n)
+    grind (arith, nat_tests, cases_eq, or_parts, and_cases, cycle_at, not_quiet-ready es n u)
 
 ready-not_quiet : (es : List Entry) (i u : ℕ) → IsReady es i u → is_quiet es i u ≡ false
 ready-not_quiet es i u r = false_from_ne_true _ (λ q. let s = quiet-silenced es i u q in let k = r s.0 s.1 s.2 in s.3 k.0 k.1 k.2 k.3)
@@ -31,14 +23,10 @@ abbrev answerers : List ℕ → List Entry → ℕ → List ℕ
 answerers p es i = filter (answers_at es i) p
 
 answers-member : (p : List ℕ) (es : List Entry) (i u : ℕ) → Answers p es i u → has (answerers p es i) u ≡ true
-answers-member p es i u a =
-    filter_has (answers_at es i) p u (and_from _ _ a.0 (and_from _ _ a.2 (ap not (ready-not_quiet es i u a.1))))
+answers-member p es i u a = grind (arith, nat_tests, filter_has, ready-not_quiet es i u)
 
 member-answers : (p : List ℕ) (es : List Entry) (i u : ℕ) → has (answerers p es i) u ≡ true → Answers p es i u
-member-answers p es i u h =
-    let w = and_parts (has p u) (answers_at es i u) (has_filter (answers_at es i) p u h) in
-    let a = and_parts (lies_in_some (mask_at es i) u) (not (is_quiet es i u)) w.1 in
-    (w.0, not_quiet-ready es i u (not-true (is_quiet es i u) a.1), a.0)
+member-answers p es i u h = grind (arith, nat_tests, has_filter (answers_at es i) p u h, not_quiet-ready es i u)
 
 -- ---- outcomes, by the members of a list
 
@@ -57,22 +45,7 @@ not_several : (p : List ℕ) (es : List Entry) (i x : ℕ) → ((v : ℕ) → An
 not_several p es i x alone s = s.2 (alone s.0 s.3 ∙ sym (alone s.1 s.4))
 
 told-iff : (p : List ℕ) (es : List Entry) (i : ℕ) (e : Entry) (o : Outcome) → IsOutcome p es i o → Fits e o ↔ IsToldOf p es i e
-told-iff p es i Silent o (inl n) = ((λ k. n.1), (λ k. n.0))
-told-iff p es i Silent o (inr (inl w)) = ((λ k. let e = w.1 in cc), (λ k. absurd (k w.0 w.2.0)))
-told-iff p es i Silent o (inr (inr s)) = ((λ k. let e = s.0 in cc), (λ k. absurd (k s.1.0 s.1.3)))
-told-iff p es i (Heard r) o (inl n) = ((λ k. let e = n.0 in cc), (λ k. absurd (n.1 r.uid k.0)))
-told-iff p es i (Heard r) o (inr (inl w)) = (
-  (λ k. let e = w.1 in let same : w.0 ≡ r.uid = cc in subst (AnswersAlone p es i) same w.2),
-  (λ k. w.1 ∙ ap Lone (sym (w.2.1 r.uid k.0))),
-)
-told-iff p es i (Heard r) o (inr (inr s)) = ((λ k. let e = s.0 in cc), (λ k. absurd (not_several p es i r.uid k.1 s.1)))
-told-iff p es i Collision o (inl n) = ((λ k. let e = n.0 in cc), (λ k. absurd (n.1 k.0 k.3)))
-told-iff p es i Collision o (inr (inl w)) = ((λ k. let e = w.1 in cc), (λ k. absurd (not_several p es i w.0 w.2.1 k)))
-told-iff p es i Collision o (inr (inr s)) = ((λ k. s.1), (λ k. s.0))
-told-iff p es i Garbled o (inl n) = ((λ k. absurd (k n.0)), (λ k. absurd (⊎_elim (λ (w : (u : ℕ) × AnswersAlone p es i u). n.1 w.0 w.1.0) (λ (s : SeveralAnswer p es i). n.1 s.0 s.3) k)))
-told-iff p es i Garbled o (inr (inl w)) = ((λ k. inl (w.0, w.2)), (λ k none. let e = w.1 in cc))
-told-iff p es i Garbled o (inr (inr s)) = ((λ k. inr s.1), (λ k none. let e = s.0 in cc))
-told-iff p es i e o c = ((λ k. k), (λ k. k))
+told-iff p es i e o c = grind (arith, nat_tests, not_several)
 
 -- ---- what a population could have produced
 
@@ -91,12 +64,15 @@ same_headline F G es same = (
 pub whole-second : (es : List Entry) → IsWhole es ↔ IsWholeSecond es
 whole-second es = same_headline CouldHaveGiven CouldHaveGivenSecond es (given-second es)
 
-pub whole-first : (es : List Entry) → AreOfFirstVersion es → IsWhole es ↔ IsWholeFirst es
-whole-first es h = same_headline CouldHaveGiven CouldHaveGivenFirst es (λ p pop. given-first es h p)
-
 pub first-second : (es : List Entry) → AreOfFirstVersion es → IsWholeFirst es ↔ IsWholeSecond es
-first-second es h = ((λ w. (whole-second es).0 ((whole-first es h).1 w)), (λ w. (whole-first es h).0 ((whole-second es).1 w)))
+first-second es h = same_headline CouldHaveGivenFirst CouldHaveGivenSecond es (λ p pop.
+    let first = given-first es h p in
+    let second = given-second es p pop in
+    ((λ g. second.0 (first.1 g)), (λ g. first.0 (second.1 g))))
 
 -- if the verdict is `Complete`, the main theorem for version 2 holds
 pub complete_second : (lines : List LogLine) (count : ℕ) → IsVerdict lines (Complete count) → IsWholeSecond (entries lines)
 complete_second lines count h = (whole-second (entries lines)).0 (complete_whole lines count h)
+
+-- what the laws say
+pub ruleset law_lemmas = (IsPossible-iff, IsPossibleUid-iff, IsCertainUid-iff, complete_whole, first-second)

@@ -1,5 +1,7 @@
 //! Laws about the definitions. The functions do nothing: each stands for what its clauses say.
 
+#![tactic(auto, using(crate::proofs::TwoVersions::law_lemmas))]
+
 ghost use Rattle.std.specs.Prelude.{◌≡◌, ◌↔◌, ℕ, List, ◌∷◌, ◌++◌, true, false, length};
 ghost use Rattle.vic_frame.specs.Uids.{has};
 ghost use Rattle.vic_log.specs.Populations.{IsPopulation, CouldHaveGiven};

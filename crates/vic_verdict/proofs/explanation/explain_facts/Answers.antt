@@ -1,5 +1,5 @@
 use Rattle.vic_verdict.proofs.Words.{subst, ⊎_elim, IsVerdict}
-use Rattle.vic_verdict.proofs.Explaining.{absent_shown, unlisted_shown, unsettled_shown, doubtful_shown}
+use Rattle.vic_verdict.proofs.Explaining.{known_shown, unsettled_shown, doubtful_shown}
 use Rattle.vic_verdict.proofs.explanation.explain_facts.Goals as goal
 use Rattle.vic_verdict.proofs.explanation.explain_facts.Goals.{in-Impossible, in-Absent+in_ok-gather-in-Absent, in-Unsettled+in_ok-gather-in-Unsettled+in_ok-with_uid-in-Unsettled, in-Doubtful+in_ok-gather-in-Doubtful}
 
@@ -11,27 +11,17 @@ returns g c =
     elim c.match-verdict.branch [
       | in-Impossible w ↦ rw (w.verdict-is, w.population-is) record { verdict = verdict; population = ⊎_elim (λ h. rw h.1 tt) (λ h. rw h.1 tt) w.in-Impossible.is }
       | in-Absent+in_ok-gather-in-Absent w ↦
-          let given = w.in_ok-gather-in-Absent in
-          record {
-            verdict = rw w.verdict-is verdict;
-            population = rw (w.verdict-is, w.population-is) (⊎_elim
-                (λ h. rw h.1 (absent_shown lines c.args.facts.met given.field-0.items h.0 (subst (IsVerdict lines) h.1 verdict) met given.ensures.rising given.ensures.members))
-                (λ h. rw h.1 (unlisted_shown lines c.args.facts.met given.field-0.items h.0 (subst (IsVerdict lines) h.1 verdict) met given.ensures.rising given.ensures.members))
-                w.in-Absent.is);
-          }
+          let given = w.in_ok-gather-in-Absent.ensures in
+          rw (w.verdict-is, w.population-is) record { verdict = verdict; population = known_shown lines _ _ _ verdict w.in-Absent.is met given.rising given.members }
       | in-Unsettled+in_ok-gather-in-Unsettled+in_ok-with_uid-in-Unsettled w ↦
-          let given = w.in_ok-gather-in-Unsettled in
-          let more = w.in_ok-with_uid-in-Unsettled in
+          let more = w.in_ok-with_uid-in-Unsettled.ensures in
           let here = subst (IsVerdict lines) w.in-Unsettled.is verdict in
           rw (w.verdict-is, w.population-is) record {
             verdict = here;
-            population = unsettled_shown lines c.args.facts.met given.field-0.items more.field-0.items w.in-Unsettled.mask w.least_uid.result here met given.ensures.rising given.ensures.members w.least_uid.ensures.value more.ensures.rising more.ensures.members;
+            population = unsettled_shown lines _ _ _ _ _ here met w.in_ok-gather-in-Unsettled.ensures.members w.least_uid.ensures.value more.rising more.members;
           }
       | in-Doubtful+in_ok-gather-in-Doubtful w ↦
-          let given = w.in_ok-gather-in-Doubtful in
+          let given = w.in_ok-gather-in-Doubtful.ensures in
           let here = subst (IsVerdict lines) w.in-Doubtful.is verdict in
-          rw (w.verdict-is, w.population-is) record {
-            verdict = here;
-            population = doubtful_shown lines c.args.facts.met given.field-0.items w.in-Doubtful.uid here met given.ensures.rising given.ensures.members;
-          }
+          rw (w.verdict-is, w.population-is) record { verdict = here; population = doubtful_shown lines _ _ _ here met given.rising given.members }
     ]

@@ -1,20 +1,18 @@
-use Rattle.vic_verdict.proofs.Words.{length, take, refl, ap, ◌∙◌, arith, add-one, [], ◌∷◌, length-append, slice_get_read, entries, listed}
+use Rattle.vic_verdict.proofs.Words.{length, refl, ap, ◌∙◌, arith, add-one, [], ◌∷◌, length-append, slice_get_read, listed}
 use Rattle.vic_verdict.proofs.Listing.{listed_more, number_above}
 use Rattle.vic_verdict.proofs.findings.count_listed.Goals as goal
 
 pub overflow_add-count : goal.overflow_add-count
 overflow_add-count c =
     let lines = c.args.lines.now in
-    let i = c.loop-line.line-index in
     let l = c.line-item.result in
-    omega (arith, number_above 0 lines i l c.requires (slice_get_read lines (length lines) i l refl c.loop-line-test.true c.line-item.is), c.loop-line.invariant.small, c.count_one-count.ensures.small)
+    omega (arith, number_above 0 lines c.loop-line.line-index l c.requires (slice_get_read lines (length lines) c.loop-line.line-index l refl c.loop-line-test.true c.line-item.is), c.loop-line.invariant.small, c.count_one-count.ensures.small)
 
 pub loop-line-preserved : goal.loop-line-preserved
 loop-line-preserved c =
     let lines = c.args.lines.now in
     let i = c.loop-line.line-index in
     let l = c.line-item.result in
-    let more = ap length (listed_more lines i l (slice_get_read lines (length lines) i l refl c.loop-line-test.true c.line-item.is)) ∙ length-append (listed (entries (take i lines))) (listed (l.item ∷ [])) in
-    let next = ap (λ n. length (listed (entries (take n lines)))) (add-one i) in
+    let more = listed_more lines i l (slice_get_read lines (length lines) i l refl c.loop-line-test.true c.line-item.is) in
     let one = c.count_one-count.ensures.value ∙ ap (λ e. length (listed (e ∷ []))) c.item.ensures in
-    record { value = omega (arith, c.loop-line.invariant.value); small = omega (arith, c.loop-line.invariant.small, c.count_one-count.ensures.small) }
+    record { value = rw (add-one, more, length-append) (omega (arith, c.loop-line.invariant.value)); small = omega (arith, c.loop-line.invariant.small, c.count_one-count.ensures.small) }

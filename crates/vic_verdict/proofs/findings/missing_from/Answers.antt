@@ -1,4 +1,4 @@
-use Rattle.vic_verdict.proofs.Words.{ℕ, Bool, not, cond, take, ap, sym, ◌∙◌, [], ◌∷◌, ◌++◌, arith, subst, filter, take_all, get_or_default, has, AreBelow, filter_more}
+use Rattle.vic_verdict.proofs.Words.{not, ap, sym, ◌∙◌, arith, subst, filter, take_all, get_or_default, has, AreBelow, filter_more}
 use Rattle.vic_verdict.proofs.Failing.{failing_list}
 use Rattle.vic_verdict.proofs.Merging.{below_next}
 use Rattle.vic_verdict.proofs.findings.missing_from.Goals as goal
@@ -13,15 +13,10 @@ loop-uid-preserved c =
     let vs = c.args.others.now in
     let i = c.loop-uid.uid-index in
     let u = c.uid-item.result in
-    let p : ℕ → Bool = λ v. not (has vs v) in
     record {
       within = c.place_from-next.ensures.within;
       below = λ short. below_next us vs i c.place_from-next.result u c.requires.rising short c.uid-item.is c.place_from-next.ensures.below;
-      items =
-          c.in_ok-push_if.ensures
-          ∙ (ap (λ xs. xs ++ cond (not c.is_at.result) (u ∷ []) []) c.loop-uid.invariant.items
-          ∙ (ap (λ b. filter p (take i us) ++ cond (not b) (u ∷ []) []) c.is_at.ensures
-          ∙ (ap (λ v. filter p (take i us) ++ cond (p v) (v ∷ []) []) c.uid-item.is ∙ sym (filter_more p us i u c.loop-uid-test.true))));
+      items = rw (c.in_ok-push_if.ensures, c.loop-uid.invariant.items, c.is_at.ensures, filter_more (λ v. not (has vs v)) us i u c.loop-uid-test.true, ← c.uid-item.is);
     }
 
 pub returns : goal.returns
