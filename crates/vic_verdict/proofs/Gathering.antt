@@ -11,9 +11,7 @@ use Rattle.vic_verdict.proofs.Supplied.{supplied_each}
 -- ---- rising lists of UIDs are populations
 
 rising_tail : (x : ℕ) (us : List ℕ) → IsStrictlyIncreasing (x ∷ us) → IsStrictlyIncreasing us
-rising_tail x us r k h =
-    let e : suc k + 1 ≡ suc (k + 1) = omega arith in
-    subst (λ n. get_or us k 0 < get_or (x ∷ us) n 0) e (r (suc k) (omega arith))
+rising_tail x us r k h = grind (arith, r (suc k))
 
 rising_first : (x : ℕ) (us : List ℕ) → IsStrictlyIncreasing (x ∷ us) → has us x ≡ false
 rising_first x us r = list_any_none (nat_eq x) us (λ k d lt.

@@ -8,7 +8,6 @@ pub mod Verdicts
 pub mod TwoVersions
 pub mod Entries
 pub mod Stands
-pub mod FirstLine
 pub mod Supplied
 pub mod Lacking
 pub mod Halving

@@ -1,53 +1,59 @@
 -- Each log has exactly one verdict.
-use Rattle.vic_verdict.proofs.Words.{◌≡◌, ℕ, suc, ◌<◌, ◌≤◌, ◌+◌, ◌^◌, List, [], ◌∷◌, ◌++◌, length, Bool, true, false, cond, refl, sym, ap, ◌∙◌, subst, arith, inl, inr, ⊎_elim, ◌⊎◌, ◌↔◌, nat_le, leb, filter, le_refl, le_of_lt, le-leb, leb-true, leb-false, sum_by, cases_Bool, cases_lt, both_ways, BitMask, Entry, LogLine, Impossible, Complete, lies_in, has, is_uid, IsUid, IsPossible, IsPossibleUid, IsCertainUid, entries, IsRisingFrom, listed, IsAbsent, IsUnlisted, IsUnsettled, IsDoubtful, IsLeast, IsFirstMask, NoSuch, IsVerdict, is_uid_from, IsUid-from, true_from_ne_false, lt-leb, IsUid-member, entries_to, IsWhole, IsReached, sum_by_more_le, Version, IsLog, AreLogLines, Absent, Unlisted, Unsettled, Doubtful}
+use Rattle.vic_verdict.proofs.Words.{◌≡◌, ◌∙◌, ℕ, suc, ◌<◌, ◌≤◌, ◌+◌, ◌^◌, ◌*◌, ◌%◌, take, zero, Some, slice_get, sum_by-cons, nat_tests, pow-le-pow_right, List, [], ◌∷◌, length, true, false, refl, sym, ap, subst, arith, inl, inr, ⊎_elim, ◌⊎◌, ◌↔◌, nat_le, filter, le_refl, sum_by, cases_lt, BitMask, Entry, LogLine, Impossible, Complete, lies_in, has, is_uid, IsUid, IsPossible, IsPossibleUid, IsCertainUid, entries, IsRisingFrom, listed, IsAbsent, IsUnlisted, IsUnsettled, IsDoubtful, IsLeast, IsFirstMask, NoSuch, IsVerdict, is_uid_from, IsUid-from, IsUid-member, entries_to, IsWhole, IsReached, sum_by_more_le, Version, IsLog, AreLogLines, Absent, Unlisted, Unsettled, Doubtful}
+use Rattle.std.proofs.Common.{◌/◌}
 use Rattle.vic_verdict.proofs.Failing.{place_of}
 use Rattle.vic_verdict.specs.declared.judging.Verdict.{Verdict}
-use Rattle.vic_verdict.proofs.Search.{Either, test_either, false_either, not_either, and_either, least_of, least_or_none}
+use Rattle.vic_verdict.proofs.Halving.{possible_first, possible_shorter}
+use Rattle.vic_verdict.proofs.Listing.{number_above}
+use Rattle.vic_tree.specs.OpenSet.{IsAtMost}
+use Rattle.vic_verdict.proofs.Search.{Either, test_either, false_either, not_either, and_either, least_by, least_of, least_or_none}
 use Rattle.vic_verdict.proofs.Populations.{uid_end, uid_below}
-use Rattle.vic_verdict.proofs.Possibility.{IsPossible-front, Heard-certain}
+use Rattle.vic_verdict.proofs.Possibility.{Heard-certain}
 use Rattle.vic_verdict.proofs.Decide.{IsPossible-either, IsPossibleUid-either, IsCertainUid-either}
 use Rattle.vic_verdict.proofs.Masks.{mask_of, mask_of-alone, mask_of-value, uid_in, IsUid-in, lies_in-uid_in}
 
 -- ---- the lines 1 to n
 
-pub none_to : (n k : ℕ) (lines : List LogLine) → n ≤ k → IsRisingFrom k lines → entries_to n lines ≡ []
+abbrev lines_to : ℕ → List LogLine → List LogLine
+lines_to n lines = filter (λ l. nat_le l.number n) lines
+
+abbrev count_to : ℕ → List LogLine → ℕ
+count_to n lines = length (lines_to n lines)
+
+none_to : (n k : ℕ) (lines : List LogLine) → n ≤ k → IsRisingFrom k lines → lines_to n lines ≡ []
 none_to n k [] h r = refl
-none_to n k (l ∷ lines) h r =
-    let above : n < l.number = omega (arith, r.0) in
-    ap (λ b. entries (cond b (l ∷ filter (λ x. nat_le x.number n) lines) (filter (λ x. nat_le x.number n) lines))) (lt-leb l.number n above) ∙ none_to n l.number lines (le_of_lt above) r.1
+none_to n k (l ∷ lines) h r = grind (arith, nat_tests, none_to n l.number lines)
 
--- with one line more in front, kept or left out
-abbrev pub line_kept : ℕ → LogLine → List LogLine → Bool → List Entry
-line_kept n l lines b = entries (cond b (l ∷ filter (λ x. nat_le x.number n) lines) (filter (λ x. nat_le x.number n) lines))
+-- they are so many first lines
+lines_first : (n below : ℕ) (lines : List LogLine) → IsRisingFrom below lines → lines_to n lines ≡ take (count_to n lines) lines
+lines_first n below [] r = refl
+lines_first n below (l ∷ lines) r = grind (arith, nat_tests, none_to n l.number lines, lines_first n l.number lines)
 
--- the entries of the lines 1 to n are a front of those of the lines 1 to m
-pub entries_to_front : (n m k : ℕ) (lines : List LogLine) → n ≤ m → IsRisingFrom k lines → (rest : List Entry) × (entries_to n lines ++ rest ≡ entries_to m lines)
-entries_to_front n m k [] le r = ([], refl)
-entries_to_front n m k (l ∷ lines) le r =
-    let front = entries_to_front n m l.number lines le r.1 in
-    let all = entries_to m (l ∷ lines) in
-    ⊎_elim
-    (λ yes. (front.0, ap (λ b. line_kept n l lines b ++ front.0) yes ∙ (ap (λ es. l.item ∷ es) front.1 ∙ sym (ap (line_kept m l lines) (le-leb l.number m (omega (arith, leb-true l.number n yes)))))))
-    (λ out. (all, ap (λ es. es ++ all) (ap (line_kept n l lines) out ∙ none_to n l.number lines (le_of_lt (leb-false l.number n out)) r.1)))
-    (cases_Bool (leb l.number n))
+first_to : (n below : ℕ) (lines : List LogLine) → IsRisingFrom below lines → entries_to n lines ≡ entries (take (count_to n lines) lines)
+first_to n below lines r = ap entries (lines_first n below lines r)
 
--- a line number that no number is above
-last_line : List LogLine → ℕ
-last_line [] = 0
-last_line (l ∷ lines) = l.number + last_line lines
+-- those with a number up to n
+is_within : (n below : ℕ) (lines : List LogLine) (i : ℕ) (l : LogLine) → IsRisingFrom below lines → slice_get lines i ≡ Some l → (i < count_to n lines) ↔ (l.number ≤ n)
+is_within n below [] i l r k = cc
+is_within n below (x ∷ lines) zero l r k = grind (arith, nat_tests, none_to n x.number lines)
+is_within n below (x ∷ lines) (suc i) l r k = grind (arith, nat_tests, none_to n x.number lines, number_above x.number lines i l, is_within n x.number lines i l)
 
-all_to : (n : ℕ) (lines : List LogLine) → last_line lines ≤ n → entries_to n lines ≡ entries lines
-unfolding last_line
+-- all lines, up to a number that is above each
+all_to : (n : ℕ) (lines : List LogLine) → sum_by (λ (l : LogLine). l.number) lines ≤ n → entries_to n lines ≡ entries lines
 all_to n [] h = refl
-all_to n (l ∷ lines) h =
-    ap (λ b. entries (cond b (l ∷ filter (λ x. nat_le x.number n) lines) (filter (λ x. nat_le x.number n) lines))) (le-leb l.number n (omega arith)) ∙ ap (λ es. l.item ∷ es) (all_to n lines (omega arith))
+all_to n (l ∷ lines) h = grind (arith, nat_tests, sum_by-cons (λ (x : LogLine). x.number) l lines, all_to n lines)
 
 -- a possible log has no impossible line
-pub possible_to : (lines : List LogLine) → IsRisingFrom 0 lines → IsPossible (entries lines) → (n : ℕ) → IsPossible (entries_to n lines)
-possible_to lines r p n =
-    let all = n + last_line lines in
-    let front = entries_to_front n all 0 lines (omega arith) r in
-    IsPossible-front (entries_to n lines) front.0 (subst IsPossible (sym (front.1 ∙ all_to all lines (omega arith))) p)
+possible_to : (lines : List LogLine) → IsRisingFrom 0 lines → IsPossible (entries lines) → (n : ℕ) → IsPossible (entries_to n lines)
+possible_to lines r p n = subst IsPossible (sym (first_to n 0 lines r)) (possible_first (count_to n lines) lines p)
+
+-- where the first lines are possible and the line after some of them makes these impossible, its number is the verdict's
+pub first_impossible : (lines : List LogLine) (k low : ℕ) (l : LogLine) → IsRisingFrom 0 lines → slice_get lines k ≡ Some l → k ≤ low → IsPossible (entries (take low lines)) → (IsPossible (entries (take (k + 1) lines)) → ⊥) → IsVerdict lines (Impossible l.number)
+first_impossible lines k low l r g le p n =
+    let within = λ (m : ℕ). is_within m 0 lines k l r g in
+    least_by (λ m. IsPossible (entries_to m lines) → ⊥) l.number
+    (λ q. n (possible_shorter (k + 1) (count_to l.number lines) lines (let w = (within l.number).1 (omega arith) in omega arith) (subst IsPossible (first_to l.number 0 lines r) q)))
+    (λ m h q. q (subst IsPossible (sym (first_to m 0 lines r)) (possible_shorter (count_to m lines) low lines (grind (arith, within m)) p)))
 
 -- numbers that rise above 1 rise above 0
 pub rising_lower : (lines : List LogLine) → IsRisingFrom 1 lines → IsRisingFrom 0 lines
@@ -64,20 +70,12 @@ least_same : (P : ℕ → Type 0) (m n : ℕ) → IsLeast P m → IsLeast P n �
 least_same P m n h k = let a = h.1 n k.0 in let b = k.1 m h.0 in omega arith
 
 first_mask_same : (P : BitMask → Type 0) (m k : BitMask) → IsFirstMask P m → IsFirstMask P k → m ≡ k
-first_mask_same P m k h g =
-    let a = h.1 k g.0 in
-    let b = g.1 m h.0 in
-    let e : m.len ≡ k.len = omega (arith, a.0, b.0) in
-    let f : m.value ≡ k.value = omega (arith, a.1 e, b.1 (sym e)) in
-    λ i. record { len = e i; value = f i }
-
-impossible_not : (lines : List LogLine) → IsRisingFrom 0 lines → IsPossible (entries lines) → (n : ℕ) → IsLeast (λ k. IsPossible (entries_to k lines) → ⊥) n → ⊥
-impossible_not lines r p n h = h.0 (possible_to lines r p n)
+first_mask_same P m k h g = grind (arith, h.1 k g.0, g.1 m h.0)
 
 pub one_verdict : (lines : List LogLine) → IsRisingFrom 0 lines → (v w : Verdict) → IsVerdict lines v → IsVerdict lines w → v ≡ w
 one_verdict lines r (Impossible n1) (Impossible n2) h k = ap Impossible (least_same _ n1 n2 h k)
-one_verdict lines r (Impossible n1) w h k = absurd (impossible_not lines r k.0 n1 h)
-one_verdict lines r v (Impossible n2) h k = absurd (impossible_not lines r h.0 n2 k)
+one_verdict lines r (Impossible n1) w h k = absurd (h.0 (possible_to lines r k.0 n1))
+one_verdict lines r v (Impossible n2) h k = absurd (k.0 (possible_to lines r h.0 n2))
 one_verdict lines r (Absent u1) (Absent u2) h k = ap Absent (least_same (IsAbsent (entries lines)) u1 u2 h.1 k.1)
 one_verdict lines r (Absent u1) w h k = absurd (k.1 u1 h.1.0)
 one_verdict lines r v (Absent u2) h k = absurd (h.1 u2 k.1.0)
@@ -127,53 +125,45 @@ unsettled_either es m p =
     ⊎_elim (λ h. inl (h.0, h.1.0, h.1.1)) (λ no. inr (λ h. no (h.0, (h.1, h.2))))
     (and_either (le_either m.len 56) (and_either (le_either (suc m.value) (2 ^ m.len)) (all_either es m p)))
 
--- a mask by its length and value
-abbrev mask : ℕ → ℕ → BitMask
-mask len value = record { len = len; value = value }
+-- the masks by one number, which rises with the length, then with the value
+abbrev nth_mask : ℕ → BitMask
+nth_mask n = record { len = n / 2 ^ 56; value = n % 2 ^ 56 }
 
--- the least value of an unsettled mask of this length
-value_or_none : (es : List Entry) (len : ℕ) → IsPossible es → OrNone (λ w. IsUnsettled es (mask len w))
-value_or_none es len p =
-    least_or_none (λ w. IsUnsettled es (mask len w)) (λ w. unsettled_either es (mask len w) p) (2 ^ len) (λ w h. h.1)
+abbrev number_of : BitMask → ℕ
+number_of m = m.len * 2 ^ 56 + m.value
 
-abbrev HasUnsettled : List Entry → ℕ → Type 0
-HasUnsettled es len = (v : ℕ) × IsUnsettled es (mask len v)
+nth_mask-number_of : (m : BitMask) → m.len ≤ 56 → m.value < 2 ^ m.len → nth_mask (number_of m) ≡ m
+nth_mask-number_of m short fits =
+    let small : 2 ^ m.len ≤ 2 ^ 56 = pow-le-pow_right (let z : 0 < 2 = omega arith in z) short in
+    grind arith
 
-length_either : (es : List Entry) (len : ℕ) → IsPossible es → Either (HasUnsettled es len)
-length_either es len p =
-    ⊎_elim (λ v. inl (v.0, v.1.0)) (λ none. inr (λ h. none h.0 h.1)) (value_or_none es len p)
-
-first_mask_from : (es : List Entry) (len v : ℕ) → IsLeast (HasUnsettled es) len → IsLeast (λ w. IsUnsettled es (mask len w)) v → IsFirstMask (IsUnsettled es) (mask len v)
-first_mask_from es len v l least = (
-  least.0,
-  λ k h. (l.1 k.len (k.value, h), λ e. least.1 k.value (subst (λ n. IsUnsettled es (mask n k.value)) (sym e) h)),
-)
+first_by_number : (n : ℕ) (m : BitMask) → n ≤ number_of m → m.value < 2 ^ 56 → IsAtMost (nth_mask n) m
+first_by_number n m le small = omega arith
 
 unsettled_or_none : (es : List Entry) → IsPossible es → ((m : BitMask) × IsFirstMask (IsUnsettled es) m) ⊎ NoSuch (IsUnsettled es)
 unsettled_or_none es p =
-    elim (least_or_none (HasUnsettled es) (λ len. length_either es len p) 57 (λ len h. let short = h.1.0 in omega arith)) [
-      | inl len ↦ ⊎_elim (λ v. inl (mask len.0 v.0, first_mask_from es len.0 v.0 len.1 v.1)) (λ none. absurd (none len.1.0.0 len.1.0.1)) (value_or_none es len.0 p)
-      | inr none ↦ inr (λ m h. none m.len (m.value, h))
+    let numbered : (m : BitMask) → IsUnsettled es m → IsUnsettled es (nth_mask (number_of m)) = λ m h. subst (IsUnsettled es) (sym (nth_mask-number_of m h.0 h.1)) h in
+    let small : (m : BitMask) → IsUnsettled es m → m.value < 2 ^ 56 = λ m h. let fits = h.1 in let up : 2 ^ m.len ≤ 2 ^ 56 = pow-le-pow_right (let z : 0 < 2 = omega arith in z) h.0 in omega arith in
+    elim (least_or_none (λ n. IsUnsettled es (nth_mask n)) (λ n. unsettled_either es (nth_mask n) p) (57 * 2 ^ 56) (λ n h. let short : n / 2 ^ 56 ≤ 56 = h.0 in omega arith)) [
+      | inl n ↦ inl (nth_mask n.0, (n.1.0, λ m h. first_by_number n.0 m (n.1.1 (number_of m) (numbered m h)) (small m h)))
+      | inr none ↦ inr (λ m h. none (number_of m) (numbered m h))
     ]
 
-abbrev HasVerdict : List LogLine → Type 0
-HasVerdict lines = (v : Verdict) × IsVerdict lines v
-
-first_verdict : (lines : List LogLine) → IsPossible (entries lines) → OrNone (IsAbsent (entries lines)) → OrNone (IsUnlisted (entries lines)) → ((m : BitMask) × IsFirstMask (IsUnsettled (entries lines)) m) ⊎ NoSuch (IsUnsettled (entries lines)) → OrNone (IsDoubtful (entries lines)) → HasVerdict lines
+first_verdict : (lines : List LogLine) → IsPossible (entries lines) → OrNone (IsAbsent (entries lines)) → OrNone (IsUnlisted (entries lines)) → ((m : BitMask) × IsFirstMask (IsUnsettled (entries lines)) m) ⊎ NoSuch (IsUnsettled (entries lines)) → OrNone (IsDoubtful (entries lines)) → (v : Verdict) × IsVerdict lines v
 first_verdict lines p (inl a) b m d = (Absent a.0, (p, a.1))
 first_verdict lines p (inr a) (inl b) m d = (Unlisted b.0, (p, a, b.1))
 first_verdict lines p (inr a) (inr b) (inl m) d = (Unsettled m.0, (p, a, b, m.1))
 first_verdict lines p (inr a) (inr b) (inr m) (inl d) = (Doubtful d.0, (p, a, b, m, d.1))
 first_verdict lines p (inr a) (inr b) (inr m) (inr d) = (Complete (length (listed (entries lines))), (p, a, b, m, d, refl))
 
-pub some_verdict : (lines : List LogLine) → HasVerdict lines
+pub some_verdict : (lines : List LogLine) → (v : Verdict) × IsVerdict lines v
 some_verdict lines =
     let es = entries lines in
     elim (IsPossible-either es) [
       | inl p ↦ first_verdict lines p (listed_or_none es (IsPossibleUid es) (λ u. IsPossibleUid-either es u p)) (unlisted_or_none es p) (unsettled_or_none es p) (listed_or_none es (IsCertainUid es) (λ u. IsCertainUid-either es u p))
       | inr not_ ↦
-          let last = last_line lines in
-          let n = least_of (λ k. IsPossible (entries_to k lines) → ⊥) (λ k. not_either (IsPossible-either (entries_to k lines))) last (subst (λ fs. IsPossible fs → ⊥) (sym (all_to last lines (le_refl last))) not_) in
+          let last = sum_by (λ (l : LogLine). l.number) lines in
+          let n = least_of (λ k. IsPossible (entries_to k lines) → ⊥) (λ k. not_either (IsPossible-either (entries_to k lines))) last (rw (all_to last lines (le_refl last)) not_) in
           (Impossible n.0, n.1)
     ]
 
@@ -197,28 +187,10 @@ unsettled_iff es = (
 
 -- a log is complete where it is settled
 pub complete_whole : (lines : List LogLine) (count : ℕ) → IsVerdict lines (Complete count) → IsWhole (entries lines)
-complete_whole lines count h =
-    let es = entries lines in (
-      h.0,
-      λ p i g u. (
-        (λ k. true_from_ne_false _ (λ e. let m = (unsettled_iff es).1 (u, (p, i, g, k), e) in h.3 m.0 m.1)),
-        (λ k. true_from_ne_false _ (λ e. h.4 u (k, λ c. both_ways _ e (c p i g)))),
-      ),
-    )
-
-pub complete_count : (lines : List LogLine) (count : ℕ) → IsVerdict lines (Complete count) → IsWhole (entries lines) × (count ≡ length (listed (entries lines)))
-complete_count lines count h = (complete_whole lines count h, h.5)
+complete_whole lines count h = (h.0, λ p i g u. grind (arith, nat_tests, (unsettled_iff (entries lines)).1, h.3, h.4 u))
 
 pub whole_complete : (lines : List LogLine) → IsWhole (entries lines) → IsVerdict lines (Complete (length (listed (entries lines))))
-whole_complete lines h =
-    let p = h.0 in (
-      p,
-      (λ u a. a.1 (p.0, p.1, p.2, (h.1 p.0 p.1 p.2 u).1 a.0)),
-      (λ u a. both_ways _ a.1 ((h.1 p.0 p.1 p.2 u).0 (a.0 p.0 p.1 p.2))),
-      (λ m a. let w = (unsettled_iff (entries lines)).0 (m, a) in let q = w.1 in both_ways _ w.2 ((h.1 q.0 q.1 q.2 w.0).0 q.3)),
-      (λ u a. a.1 (λ q i g. (h.1 q i g u).1 a.0)),
-      refl,
-    )
+whole_complete lines h = let p = h.0 in grind (arith, nat_tests, h.1 p.0 p.1 p.2, unsettled_iff (entries lines))
 
 -- a log that is reached is complete
 pub reached_complete : (lines : List LogLine) → IsReached (entries lines) → IsVerdict lines (Complete (length (listed (entries lines))))

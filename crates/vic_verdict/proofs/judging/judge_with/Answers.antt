@@ -1,5 +1,5 @@
 use Rattle.vic_verdict.proofs.Words.{subst, length, IfOk-weaker, entries, listed, IsRisingFrom, Complete, IsVerdict}
-use Rattle.vic_verdict.proofs.Verdicts.{rising_lower, first_lines, complete_count, reached_complete, one_verdict}
+use Rattle.vic_verdict.proofs.Verdicts.{rising_lower, first_lines, complete_whole, reached_complete, one_verdict}
 use Rattle.vic_verdict.proofs.TwoVersions.{complete_second}
 use Rattle.vic_verdict.proofs.judging.judge_with.Goals as goal
 
@@ -9,7 +9,7 @@ judge_lines-requires g c = first_lines c.args.log.now.version c.lines.result.now
 pub returns-clause-whole : goal.returns-clause-whole
 returns-clause-whole g c =
     let lines = c.args.log.now.lines in
-    IfOk-weaker c.judge_lines.result (IsVerdict lines) _ (λ v h count e. complete_count lines count (subst (IsVerdict lines) e h)) (rw c.lines.ensures.value at c.judge_lines.ensures)
+    IfOk-weaker c.judge_lines.result (IsVerdict lines) _ (λ v h count e. let k = subst (IsVerdict lines) e h in (complete_whole lines count k, k.5)) (rw c.lines.ensures.value at c.judge_lines.ensures)
 
 pub returns-clause-second : goal.returns-clause-second
 returns-clause-second g c =
