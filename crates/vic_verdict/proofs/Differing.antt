@@ -21,14 +21,11 @@ pub absent_by : (set : ℕ → Bool) (us certain known absent : List ℕ) → ((
 absent_by set us certain known absent all l =
     list_as _ _ absent (λ u. grind (arith, nat_tests, all u)) l
 
-left_same : (set : ℕ → Bool) (us certain known keys : List ℕ) → ((u : ℕ) → has known u ≡ (has certain u || has us u)) → AreKeysOf keys known → SameUids (without_keys set keys) (left_by set certain us)
-left_same set us certain known keys all own u i = ap (λ b. set u && not b) (own.members u i ∙ all u)
-
 pub unsettled_by : (set : ℕ → Bool) (us certain known keys : List ℕ) (m : Option BitMask) → ((u : ℕ) → has known u ≡ (has certain u || has us u)) → AreKeysOf keys known
     → IfSome m (IsWidest (without_keys set keys)) → IfNone m (SameUids (without_keys set keys) (λ _. false))
     → MatchOption m (SameUids (left_by set certain us) (λ _. false)) (IsWidest (left_by set certain us))
-unsettled_by set us certain known keys None all own found empty = λ u i. sym (left_same set us certain known keys all own u i) ∙ empty u i
-unsettled_by set us certain known keys (Some m) all own found empty = widest_same (without_keys set keys) (left_by set certain us) m (left_same set us certain known keys all own) found
+unsettled_by set us certain known keys None all own found empty = λ u i. sym (ap (λ b. set u && not b) (own.members u i ∙ all u)) ∙ empty u i
+unsettled_by set us certain known keys (Some m) all own found empty = widest_same (without_keys set keys) (left_by set certain us) m (λ u i. ap (λ b. set u && not b) (own.members u i ∙ all u)) found
 
 -- ---- the same by the UIDs that may be there and those that must
 

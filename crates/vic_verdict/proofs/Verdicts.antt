@@ -137,15 +137,15 @@ nth_mask-number_of m short fits =
     let small : 2 ^ m.len ≤ 2 ^ 56 = pow-le-pow_right (let z : 0 < 2 = omega arith in z) short in
     grind arith
 
-first_by_number : (n : ℕ) (m : BitMask) → n ≤ number_of m → m.value < 2 ^ 56 → IsAtMost (nth_mask n) m
-first_by_number n m le small = omega arith
+first_by_number : (n : ℕ) (m : BitMask) → n ≤ number_of m → nth_mask (number_of m) ≡ m → IsAtMost (nth_mask n) m
+first_by_number n m le same = grind arith
 
 unsettled_or_none : (es : List Entry) → IsPossible es → ((m : BitMask) × IsFirstMask (IsUnsettled es) m) ⊎ NoSuch (IsUnsettled es)
 unsettled_or_none es p =
-    let numbered : (m : BitMask) → IsUnsettled es m → IsUnsettled es (nth_mask (number_of m)) = λ m h. subst (IsUnsettled es) (sym (nth_mask-number_of m h.0 h.1)) h in
-    let small : (m : BitMask) → IsUnsettled es m → m.value < 2 ^ 56 = λ m h. let fits = h.1 in let up : 2 ^ m.len ≤ 2 ^ 56 = pow-le-pow_right (let z : 0 < 2 = omega arith in z) h.0 in omega arith in
+    let same = λ (m : BitMask) (h : IsUnsettled es m). nth_mask-number_of m h.0 h.1 in
+    let numbered = λ (m : BitMask) (h : IsUnsettled es m). subst (IsUnsettled es) (sym (same m h)) h in
     elim (least_or_none (λ n. IsUnsettled es (nth_mask n)) (λ n. unsettled_either es (nth_mask n) p) (57 * 2 ^ 56) (λ n h. let short : n / 2 ^ 56 ≤ 56 = h.0 in omega arith)) [
-      | inl n ↦ inl (nth_mask n.0, (n.1.0, λ m h. first_by_number n.0 m (n.1.1 (number_of m) (numbered m h)) (small m h)))
+      | inl n ↦ inl (nth_mask n.0, (n.1.0, λ m h. first_by_number n.0 m (n.1.1 (number_of m) (numbered m h)) (same m h)))
       | inr none ↦ inr (λ m h. none (number_of m) (numbered m h))
     ]
 
@@ -194,11 +194,4 @@ whole_complete lines h = let p = h.0 in grind (arith, nat_tests, h.1 p.0 p.1 p.2
 
 -- a log that is reached is complete
 pub reached_complete : (lines : List LogLine) → IsReached (entries lines) → IsVerdict lines (Complete (length (listed (entries lines))))
-reached_complete lines h =
-    whole_complete lines (
-      h.0,
-      λ p i g u. (
-        (λ k. h.2 u (p, i, g, k)),
-        (λ k. let w = h.1 u k in subst (λ z. has p z ≡ true) w.3 (Heard-certain (entries lines) w.0 w.1 w.2 p i g)),
-      ),
-    )
+reached_complete lines h = whole_complete lines (h.0, λ p i g u. grind (arith, nat_tests, h.1 u, h.2 u, Heard-certain (entries lines)))
