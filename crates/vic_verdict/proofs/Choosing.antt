@@ -8,7 +8,3 @@ is_taken p xs us all i x left lt e more passes h = grind (arith, nat_tests, appe
 -- one is avoided
 pub is_avoided : (p : ℕ → Bool) (xs us all : List ℕ) (i x left : ℕ) → i < length xs → x ≡ get_or xs i x → p x ≡ false → us ++ take left (filter p (drop i xs)) ≡ all → us ++ take left (filter p (drop (i + 1) xs)) ≡ all
 is_avoided p xs us all i x left lt e fails h = grind (arith, nat_tests, drop_more xs i x lt)
-
--- no more are needed
-pub is_enough : (xs ys us all : List ℕ) (left : ℕ) → left ≡ 0 → us ++ take left xs ≡ all → us ++ take left ys ≡ all
-is_enough xs ys us all left none h = grind arith

@@ -1,5 +1,5 @@
 -- How a list differs from what logs tell, and that the first difference is the verdict.
-use Rattle.vic_verdict.proofs.Words.{◌≡◌, ℕ, ◌≤◌, ◌<◌, ◌^◌, List, ◌++◌, Bool, true, false, not, ◌&&◌, ◌||◌, Option, Some, None, sym, ap, ◌∙◌, arith, nat_tests, ⊎_elim, ◌↔◌, ◌⊎◌, IfSome, IfNone, MatchOption, both_ways, list_any-append, IsUid, has, BitMask, lies_in, SameUids, Entry, listed, AreKeysOf, IsPossible, IsPossibleUid, IsCertainUid, IsFailing, IsListOf, SameMembers, IsAbsent, IsUnlisted, IsUnsettled, IsDoubtful, IsLeast, IsFirstMask, NoSuch, IsWidest, without_keys, UID_BITS, widest_same, IsTold}
+use Rattle.vic_verdict.proofs.Words.{◌≡◌, ℕ, ◌≤◌, ◌<◌, ◌^◌, List, ◌++◌, Bool, true, false, not, ◌&&◌, ◌||◌, Option, Some, None, sym, ap, ◌∙◌, arith, nat_tests, ◌↔◌, ◌⊎◌, IfSome, IfNone, MatchOption, both_ways, list_any-append, IsUid, has, BitMask, lies_in, SameUids, Entry, listed, AreKeysOf, IsPossible, IsPossibleUid, IsCertainUid, IsFailing, IsListOf, SameMembers, IsAbsent, IsUnlisted, IsUnsettled, IsDoubtful, IsLeast, IsFirstMask, NoSuch, IsWidest, without_keys, UID_BITS, widest_same, IsTold}
 use Rattle.vic_verdict.specs.declared.findings.Differences.{Differences}
 use Rattle.vic_verdict.specs.Differences.{AreDifferences, IsLeftOpen, MayBeMissing, left_by}
 use Rattle.vic_verdict.proofs.Decide.{IsPossibleUid-iff, IsPossibleUid-either, IsCertainUid-iff}
@@ -104,10 +104,7 @@ log_facts es set certain t = record {
 
 -- where none is unlisted, the masks are the unsettled ones
 mask_iff : (es : List Entry) → NoSuch (IsUnlisted es) → (m : BitMask) → IsLeftOpen es m ↔ IsUnsettled es m
-mask_iff es none m = (
-  (λ h. (h.0, h.1, λ u i k. let w = h.2 u i k in (w.0.0, w.1))),
-  (λ h. (h.0, h.1, λ u i k. let w = h.2 u i k in ((w.0, λ c. none u (c, w.1)), w.1))),
-)
+mask_iff es none m = grind (arith, none)
 
 pub first_mask : (es : List Entry) (m : BitMask) → NoSuch (IsUnlisted es) → IsFirstMask (IsLeftOpen es) m → IsFirstMask (IsUnsettled es) m
 first_mask es m none h = ((mask_iff es none m).0 h.0, λ k g. h.1 k ((mask_iff es none k).1 g))
@@ -120,10 +117,7 @@ pub missing_or_absent : (es : List Entry) (u : ℕ) → NoSuch (IsAbsent es) →
 missing_or_absent es u present none d = present u (d.0, λ possible. none (d.0, (possible, d.1)))
 
 pub missing_least : (es : List Entry) (u : ℕ) → IsPossible es → NoSuch (IsAbsent es) → IsLeast (MayBeMissing es) u → IsLeast (IsDoubtful es) u
-missing_least es u possible present h = (
-  (h.0.0, h.0.1.1),
-  λ m d. ⊎_elim (λ may. h.1 m (d.0, (may, d.1))) (λ no. absurd (present m (d.0, no))) (IsPossibleUid-either es m possible),
-)
+missing_least es u possible present h = grind (arith, present, IsPossibleUid-either es)
 
 -- ---- the findings of one log, each by what the judge has of it
 

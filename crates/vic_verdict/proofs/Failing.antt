@@ -1,5 +1,5 @@
 -- The members of a list that fail a test.
-use Rattle.vic_verdict.proofs.Words.{◌∙◌, ◌≡◌, ℕ, ◌<◌, ◌≤◌, List, [], ◌∷◌, length, get_or, Bool, true, not, sym, subst, arith, nat_tests, ◌↔◌, MatchOption, slice_get, filter, eq-eqb, eqb-true, nat_eq, IsStrictlyIncreasing, false≢true, has, has_here, has_filter, IsFailing, IsListOf, IsLeast, NoSuch, Any-from_list_any, list_any_at, get_or_default, filter_has, IsStrictlyIncreasing-filter}
+use Rattle.vic_verdict.proofs.Words.{◌∙◌, ◌≡◌, ℕ, ◌<◌, List, [], ◌∷◌, length, get_or, Bool, true, not, sym, subst, arith, nat_tests, ◌↔◌, MatchOption, slice_get, filter, eq-eqb, eqb-true, nat_eq, IsStrictlyIncreasing, false≢true, has, has_here, has_filter, IsFailing, IsListOf, IsLeast, NoSuch, Any-from_list_any, list_any_at, get_or_default, filter_has, IsStrictlyIncreasing-filter}
 use Rattle.vic_verdict.proofs.Inserted.{rising_order}
 
 -- a member has a position
@@ -31,8 +31,7 @@ head_least P u us l = (
   (l.members u).0 (has_here u us),
   λ m h.
       let p = place_of (u ∷ us) m 0 ((l.members m).1 h) in
-      let o : u ≤ get_or (u ∷ us) p.0 0 = rising_order (u ∷ us) l.rising 0 p.0 (omega arith) p.1 in
-      omega (arith, p.2),
+      omega (arith, p.2, rising_order (u ∷ us) l.rising 0 p.0 (omega arith) p.1),
 )
 
 pub none_of : (P : ℕ → Type 0) → IsListOf P [] → NoSuch P

@@ -67,8 +67,7 @@ few_chosen avoid (f ∷ fs) = grind (arith, length-append, length-take, sum_by-c
 -- of different UIDs all are others, or all but the one to avoid
 most_are_others : (avoid : Option ℕ) (xs : List ℕ) → AreDifferent xs → (length xs ≤ length (filter (is_other avoid) xs)) ⊎ ((a : ℕ) × (avoid ≡ Some a) × (has xs a ≡ true) × (length xs ≤ length (filter (is_other avoid) xs) + 1))
 most_are_others avoid [] d = inl (omega arith)
-most_are_others None (x ∷ xs) d = grind (arith, nat_tests, most_are_others None xs d.1)
-most_are_others (Some a) (x ∷ xs) d = grind (arith, nat_tests, most_are_others (Some a) xs d.1)
+most_are_others avoid (x ∷ xs) d = grind (arith, nat_tests, most_are_others avoid xs d.1)
 
 pub two_of : (xs : List ℕ) → AreDifferent xs → 2 ≤ length xs → Asks ManyReplies (has (take 2 xs))
 two_of (x ∷ y ∷ xs) d h =
@@ -181,8 +180,7 @@ gathered_asks es m avoid possible none met i Garbled k =
 gathered_asks es m avoid possible none met i e k = tt
 
 asks_entry : (o : Option Reading) (s t : ℕ → Bool) → IsWithin s t → EntryAsks o s → EntryAsks o t
-asks_entry None s t w a = tt
-asks_entry (Some r) s t w a = asks_within r s t w a
+asks_entry o s t w a = grind (arith, nat_tests)
 
 -- with one more possible UID, or none, they are a small population
 pub gathered_small : (es : List Entry) (m : Met) (avoid : Option ℕ) (xs us : List ℕ) → IsPossible es → AvoidsNoneCertain es avoid → IsMet es m → ((u : ℕ) → has xs u ≡ true → IsPossibleUid es u) → length xs ≤ 1 → IsStrictlyIncreasing us → SameMembers us (gathered avoid m ++ xs) → IsSmallPopulation es us

@@ -77,18 +77,11 @@ one_verdict lines r (Impossible n1) (Impossible n2) h k = ap Impossible (least_s
 one_verdict lines r (Impossible n1) w h k = absurd (h.0 (possible_to lines r k.0 n1))
 one_verdict lines r v (Impossible n2) h k = absurd (k.0 (possible_to lines r h.0 n2))
 one_verdict lines r (Absent u1) (Absent u2) h k = ap Absent (least_same (IsAbsent (entries lines)) u1 u2 h.1 k.1)
-one_verdict lines r (Absent u1) w h k = absurd (k.1 u1 h.1.0)
-one_verdict lines r v (Absent u2) h k = absurd (h.1 u2 k.1.0)
 one_verdict lines r (Unlisted u1) (Unlisted u2) h k = ap Unlisted (least_same (IsUnlisted (entries lines)) u1 u2 h.2 k.2)
-one_verdict lines r (Unlisted u1) w h k = absurd (k.2 u1 h.2.0)
-one_verdict lines r v (Unlisted u2) h k = absurd (h.2 u2 k.2.0)
 one_verdict lines r (Unsettled m1) (Unsettled m2) h k = ap Unsettled (first_mask_same (IsUnsettled (entries lines)) m1 m2 h.3 k.3)
-one_verdict lines r (Unsettled m1) w h k = absurd (k.3 m1 h.3.0)
-one_verdict lines r v (Unsettled m2) h k = absurd (h.3 m2 k.3.0)
 one_verdict lines r (Doubtful u1) (Doubtful u2) h k = ap Doubtful (least_same (IsDoubtful (entries lines)) u1 u2 h.4 k.4)
-one_verdict lines r (Doubtful u1) w h k = absurd (k.4 u1 h.4.0)
-one_verdict lines r v (Doubtful u2) h k = absurd (h.4 u2 k.4.0)
 one_verdict lines r (Complete c1) (Complete c2) h k = ap Complete (h.5 ∙ sym k.5)
+one_verdict lines r v w h k = grind arith
 
 -- ---- at least one verdict
 
@@ -174,15 +167,8 @@ pub unsettled_iff : (es : List Entry) → ((m : BitMask) × IsUnsettled es m) �
 unsettled_iff es = (
   (λ h. let m = h.0 in let w = h.1.2 (uid_in m) (IsUid-in m h.1.0 h.1.1) (lies_in-uid_in m h.1.0 h.1.1) in (uid_in m, w.0, w.1)),
   (λ h.
-      let q = h.1 in
-      let i = IsUid-member q.0 h.0 q.1 q.3 in (
-        mask_of h.0,
-        (
-          le_refl 56,
-          mask_of-value h.0,
-          λ w j k. subst (λ z. IsPossibleUid es z × (has (listed es) z ≡ false)) (sym (mask_of-alone h.0 w i j k)) (q, h.2),
-        ),
-      )),
+      let i = IsUid-member h.1.0 h.0 h.1.1 h.1.3 in
+      (mask_of h.0, (le_refl 56, mask_of-value h.0, λ w j k. rw (mask_of-alone h.0 w i j k) (h.1, h.2)))),
 )
 
 -- a log is complete where it is settled

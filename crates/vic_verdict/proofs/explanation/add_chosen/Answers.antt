@@ -1,5 +1,5 @@
-use Rattle.vic_verdict.proofs.Words.{◌++◌, ◌+◌, drop, sym, ◌∙◌, arith, filter, is_other, chosen}
-use Rattle.vic_verdict.proofs.Choosing.{is_taken, is_avoided, is_enough}
+use Rattle.vic_verdict.proofs.Words.{◌≡◌, ◌++◌, sym, ◌∙◌, arith, is_other, chosen}
+use Rattle.vic_verdict.proofs.Choosing.{is_taken, is_avoided}
 use Rattle.vic_verdict.proofs.explanation.add_chosen.Goals as goal
 use Rattle.vic_verdict.proofs.explanation.add_chosen.Goals.{then-left-gt0+then-is_other+in_ok-push, else-left-gt0, else-left-gt0-via-then-left-gt0+else-is_other, else-left-gt0-via-else-left-gt0}
 
@@ -17,6 +17,6 @@ loop-uid-preserved c =
       | then-left-gt0+then-is_other+in_ok-push w ↦ rw (w.uids-is, w.left-is, w.in_ok-push.ensures.items) (is_taken p xs c.loop-uid.uids.items all i x c.loop-uid.left within here w.if-left-gt0.true (sym w.is_other.ensures ∙ w.if-is_other.true) before)
       | else-left-gt0 w ↦ elim w.else-left-gt0.branch [
         | else-left-gt0-via-then-left-gt0+else-is_other w' ↦ rw (w.uids-is, w.left-is) (is_avoided p xs c.loop-uid.uids.items all i x c.loop-uid.left within here (sym w'.is_other.ensures ∙ w'.if-is_other.false) before)
-        | else-left-gt0-via-else-left-gt0 w' ↦ rw (w.uids-is, w.left-is) (is_enough (filter p (drop i xs)) (filter p (drop (i + 1) xs)) c.loop-uid.uids.items all c.loop-uid.left (let none = w'.if-left-gt0.false in omega arith) before)
+        | else-left-gt0-via-else-left-gt0 w' ↦ let none : c.loop-uid.left ≡ 0 = omega (arith, w'.if-left-gt0.false) in rw (w.uids-is, w.left-is, none) (rw none at before)
       ]
     ]

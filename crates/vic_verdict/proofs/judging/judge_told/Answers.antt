@@ -1,10 +1,7 @@
-use Rattle.vic_verdict.proofs.Words.{◌≡◌, ℕ, List, Option, sym, subst, MatchOption, ◌↔◌, slice_get, ◌∙◌, BitMask, Entry, entries, IsListOf, IsUnsettled, IsFirstMask, IsLeast, NoSuch}
+use Rattle.vic_verdict.proofs.Words.{◌≡◌, ℕ, List, Option, sym, subst, MatchOption, ◌↔◌, slice_get, ◌∙◌, IsListOf, IsLeast, NoSuch}
 use Rattle.vic_verdict.proofs.Differing.{findings_of}
 use Rattle.vic_verdict.proofs.Failing.{first_is_least, list_as}
 use Rattle.vic_verdict.proofs.judging.judge_told.Goals as goal
-
-abbrev First : List Entry → Option BitMask → Type 0
-First es m = MatchOption m (NoSuch (IsUnsettled es)) (IsFirstMask (IsUnsettled es))
 
 -- the least of a rising list, by other mentions of the list
 least : (P Q : ℕ → Type 0) (xs ys : List ℕ) (r o : Option ℕ) → ((u : ℕ) → P u ↔ Q u) → IsListOf P xs → ys ≡ xs → r ≡ slice_get ys 0 → r ≡ o → MatchOption o (NoSuch Q) (IsLeast Q)
@@ -30,7 +27,7 @@ returns-in-Some-2 g c =
     let absent = least _ _ _ _ _ _ f.absent (c.in_ok-absent.ensures _ keys) c.deref-3.ensures.value c.first_of.ensures c.in_default.is in
     let unlisted = least _ _ _ _ _ _ f.unlisted (rw c.deref-4.ensures.value at c.in_ok-unlisted.ensures) c.deref-5.ensures.value c.first_of-2.ensures c.in_default-first_of.is in
     let keys_too = rw (c.deref.ensures.value, ← c.deref-6.ensures.value) at c.in_ok-keys.ensures in
-    (c.requires.told.possible, absent, unlisted, subst (First (entries c.args.lines.now)) c.in-Some-2.is (f.unsettled _ _ unlisted keys_too c.in_ok-mask.ensures.found c.in_ok-mask.ensures.empty))
+    (c.requires.told.possible, absent, unlisted, rw c.in-Some-2.is at (f.unsettled _ _ unlisted keys_too c.in_ok-mask.ensures.found c.in_ok-mask.ensures.empty))
 
 pub returns-in-Some-first_of-2 : goal.returns-in-Some-first_of-2
 returns-in-Some-first_of-2 g c =
@@ -39,7 +36,7 @@ returns-in-Some-first_of-2 g c =
     let absent = least _ _ _ _ _ _ f.absent (c.in_ok-absent.ensures _ keys) c.deref-3.ensures.value c.first_of.ensures c.in_default.is in
     let unlisted = least _ _ _ _ _ _ f.unlisted (rw c.deref-4.ensures.value at c.in_ok-unlisted.ensures) c.deref-5.ensures.value c.first_of-2.ensures c.in_default-first_of.is in
     let keys_too = rw (c.deref.ensures.value, ← c.deref-6.ensures.value) at c.in_ok-keys.ensures in
-    let mask = subst (First (entries c.args.lines.now)) c.in_default-2.is (f.unsettled _ _ unlisted keys_too c.in_ok-mask.ensures.found c.in_ok-mask.ensures.empty) in
+    let mask = rw c.in_default-2.is at (f.unsettled _ _ unlisted keys_too c.in_ok-mask.ensures.found c.in_ok-mask.ensures.empty) in
     (c.requires.told.possible, absent, unlisted, mask, least _ _ _ _ _ _ f.doubtful (rw c.deref-7.ensures.value at c.in_ok-doubtful.ensures) c.deref-8.ensures.value c.first_of-3.ensures c.in-Some-first_of-2.is)
 
 pub returns : goal.returns
@@ -49,6 +46,6 @@ returns g c =
     let absent = least _ _ _ _ _ _ f.absent (c.in_ok-absent.ensures _ keys) c.deref-3.ensures.value c.first_of.ensures c.in_default.is in
     let unlisted = least _ _ _ _ _ _ f.unlisted (rw c.deref-4.ensures.value at c.in_ok-unlisted.ensures) c.deref-5.ensures.value c.first_of-2.ensures c.in_default-first_of.is in
     let keys_too = rw (c.deref.ensures.value, ← c.deref-6.ensures.value) at c.in_ok-keys.ensures in
-    let mask = subst (First (entries c.args.lines.now)) c.in_default-2.is (f.unsettled _ _ unlisted keys_too c.in_ok-mask.ensures.found c.in_ok-mask.ensures.empty) in
+    let mask = rw c.in_default-2.is at (f.unsettled _ _ unlisted keys_too c.in_ok-mask.ensures.found c.in_ok-mask.ensures.empty) in
     let doubtful = least _ _ _ _ _ _ f.doubtful (rw c.deref-7.ensures.value at c.in_ok-doubtful.ensures) c.deref-8.ensures.value c.first_of-3.ensures c.in_default-first_of-2.is in
     (c.requires.told.possible, absent, unlisted, mask, doubtful, c.count_listed-count.ensures)
