@@ -64,9 +64,8 @@ IsLeft P C all m = (m.len ≤ UID_BITS) × (m.value < 2 ^ m.len) × ((u : ℕ) �
 first_left : (P C : ℕ → Type 0) (set : ℕ → Bool) (certain us all : List ℕ) (m : Option BitMask) → AreFacts P C set certain → AreListed us all
     → MatchOption m (SameUids (left_by set certain us) (λ _. false)) (IsWidest (left_by set certain us)) → MatchOption m (NoSuch (IsLeft P C all)) (IsFirstMask (IsLeft P C all))
 first_left P C set certain us all None f l none = λ m h.
-    let u = uid_in m in
     let i = IsUid-in m h.0 h.1 in
-    both_ways (left_by set certain us u) (none u i) ((left_iff P C set certain us all f l u i).1 (h.2 u i (lies_in-uid_in m h.0 h.1)))
+    both_ways _ (none (uid_in m) i) ((left_iff P C set certain us all f l (uid_in m) i).1 (h.2 (uid_in m) i (lies_in-uid_in m h.0 h.1)))
 first_left P C set certain us all (Some m) f l w = (
   (w.short, w.is_mask.1, λ u i k. (left_iff P C set certain us all f l u i).0 (w.open_throughout u i k)),
   λ k h. let short = h.0 in let fits = h.1 in w.least k (omega arith, fits) short (λ u i n. (left_iff P C set certain us all f l u i).1 (h.2 u i n)),

@@ -27,12 +27,8 @@ list_as P Q ys same l = record {
 
 -- the first is the least
 pub head_least : (P : ℕ → Type 0) (u : ℕ) (us : List ℕ) → IsListOf P (u ∷ us) → IsLeast P u
-head_least P u us l = (
-  (l.members u).0 (has_here u us),
-  λ m h.
-      let p = place_of (u ∷ us) m 0 ((l.members m).1 h) in
-      omega (arith, p.2, rising_order (u ∷ us) l.rising 0 p.0 (omega arith) p.1),
-)
+head_least P u us l =
+    ((l.members u).0 (has_here u us), λ m h. grind (arith, place_of (u ∷ us) m 0 ((l.members m).1 h), rising_order (u ∷ us) l.rising 0))
 
 pub none_of : (P : ℕ → Type 0) → IsListOf P [] → NoSuch P
 none_of P l u h = false≢true ((l.members u).1 h)

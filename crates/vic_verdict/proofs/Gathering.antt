@@ -1,10 +1,10 @@
 -- A small population, gathered from what the slots of a possible log ask for.
-use Rattle.vic_verdict.proofs.Words.{take-append-drop, drop, ◌≡◌, ℕ, suc, ◌+◌, ◌<◌, ◌≤◌, List, [], ◌∷◌, ◌++◌, length, take, get_or, Bool, true, false, ◌||◌, Option, Some, None, refl, sym, ap, ◌∙◌, subst, arith, nat_tests, inl, inr, ⊎_elim, length-append, ◌⊎◌, nat_eq, slice_get, filter, sum_by, ne_eqb, length-take, IsStrictlyIncreasing, both_ways, and_parts, and_from, or_cases, or_left, or_right, list_any, list_any_at, list_any_none, list_any-append, Any-from_list_any, slice_get_within, IsUid, has, AreDifferent, Entry, Collision, Heard, Garbled, IsPopulation, answers_at, Reading, ManyReplies, SomeReply, reading_of, slots_of, is_open, Asks, IsWithin, AreDifferent-population, AreDifferent-filter, has_filter, has_here, has_at, has_there, MeetsAll-iff, IsUid-from, CouldHaveGiven-slots, Found, Met, IsFoundAt, IsFound, IsMet, is_other, chosen, gathered, answering, IsPossible, IsPossibleUid, IsCertainUid, SameMembers, AllPairs-from_increasing, sum_by-cons, AllByRecursion, IsDistinct, or_parts, nat_eq_equiv, IsDistinct-cons, IsDistinct-from_apart, length-le_from_is_member, asks_within, all_chosen, needs_at, needs_of, IsSmallPopulation}
+use Rattle.vic_verdict.proofs.Words.{take-append-drop, drop, ◌≡◌, ℕ, suc, ◌+◌, ◌<◌, ◌≤◌, List, [], ◌∷◌, ◌++◌, length, take, get_or, Bool, true, false, ◌||◌, Option, Some, refl, sym, ap, ◌∙◌, subst, arith, nat_tests, inl, inr, ⊎_elim, length-append, ◌⊎◌, nat_eq, slice_get, filter, sum_by, ne_eqb, length-take, IsStrictlyIncreasing, both_ways, and_parts, and_from, or_cases, or_left, or_right, list_any, list_any_at, list_any_none, list_any-append, Any-from_list_any, slice_get_within, IsUid, has, AreDifferent, Entry, Collision, Heard, Garbled, IsPopulation, answers_at, Reading, ManyReplies, SomeReply, reading_of, slots_of, is_open, Asks, IsWithin, AreDifferent-population, AreDifferent-filter, has_filter, has_here, has_at, has_there, MeetsAll-iff, IsUid-from, CouldHaveGiven-slots, Found, Met, IsFoundAt, IsFound, IsMet, is_other, chosen, gathered, answering, IsPossible, IsPossibleUid, IsCertainUid, SameMembers, AllPairs-from_increasing, sum_by-cons, AllByRecursion, IsDistinct, or_parts, nat_eq_equiv, IsDistinct-cons, IsDistinct-from_apart, length-le_from_is_member, asks_within, all_chosen, needs_at, needs_of, IsSmallPopulation}
 use Rattle.vic_verdict.specs.Explained.{AreFew}
 use Rattle.vic_verdict.proofs.Decide.{IsPossibleUid-iff}
 use Rattle.vic_verdict.proofs.Demanding.{asked_two_or_one}
 use Rattle.vic_verdict.proofs.Entries.{EntryAsks, EntryForces, SuppliesBefore, SuppliesAll-places, forces_two_iff, forces_one_iff}
-use Rattle.vic_verdict.proofs.Populations.{forced, is_open-is_uid}
+use Rattle.vic_verdict.proofs.Populations.{is_open-is_uid}
 use Rattle.vic_verdict.proofs.Possibility.{Heard-certain}
 use Rattle.vic_verdict.proofs.Supplied.{supplied_each}
 
@@ -85,8 +85,7 @@ answering_within : (s t : ℕ → Bool) (es : List Entry) (i : ℕ) → IsWithin
 answering_within s t es i w u h = let x = and_parts (s u) (answers_at es i u) h in and_from _ _ (w u x.0) x.1
 
 forced_entry : (o : Option Reading) (s t : ℕ → Bool) (u : ℕ) → EntryForces o t u → IsWithin s t → EntryAsks o s → s u ≡ true
-forced_entry None s t u f w a = absurd f
-forced_entry (Some r) s t u f w a = forced r s t u f w a
+forced_entry o s t u f w a = grind (arith, nat_tests)
 
 -- the UID that a slot line shows to be there is certain
 certain_there : (es : List Entry) (i : ℕ) (e : Entry) (u : ℕ) → slice_get es i ≡ Some e → EntryForces (reading_of e) (answering (is_open (slots_of es)) es i) u → IsCertainUid es u
@@ -101,22 +100,11 @@ AvoidsNoneCertain es avoid = (a : ℕ) → avoid ≡ Some a → IsCertainUid es 
 
 -- exactly as many as are needed are forced there
 pub exact_forces : (es : List Entry) (i u : ℕ) (f : Found) → IsFoundAt es i f → length f.uids.items ≡ f.need → has f.uids.items u ≡ true → (e : Entry) × (slice_get es i ≡ Some e) × EntryForces (reading_of e) (answering (is_open (slots_of es)) es i) u
-exact_forces es i u f h long m =
-    ⊎_elim
-    (λ w. (Collision, w.0, (forces_two_iff _ f.uids.items u h.uids).1 (long ∙ w.1, m)))
-    (λ w. (Garbled, w.0, (forces_one_iff _ f.uids.items u h.uids).1 (long ∙ w.1, m)))
-    (asked_two_or_one (slice_get es i) f.need h.need h.asked)
+exact_forces es i u f h long m = grind (arith, asked_two_or_one (slice_get es i) f.need h.need h.asked, forces_two_iff _ f.uids.items u h.uids, forces_one_iff _ f.uids.items u h.uids)
 
 -- so there are enough others
 enough_others : (es : List Entry) (f : Found) (avoid : Option ℕ) → AvoidsNoneCertain es avoid → IsFound es f → f.need ≤ length (filter (is_other avoid) f.uids.items)
-enough_others es f avoid n h =
-    let enough = h.1.enough in
-    ⊎_elim
-    (λ all. omega (arith, all))
-    (λ but.
-    let ne : length f.uids.items ≡ f.need → ⊥ = λ long. let w = exact_forces es h.0 but.0 f h.1 long but.2 in n but.0 but.1 (certain_there es h.0 w.0 but.0 w.1 w.2) in
-    omega (arith, but.3))
-    (most_are_others avoid f.uids.items h.1.uids.different)
+enough_others es f avoid n h = grind (arith, most_are_others avoid f.uids.items h.1.uids.different, n, exact_forces es h.0, certain_there es h.0)
 
 -- ---- the UIDs that were gathered
 
@@ -132,11 +120,7 @@ gathered_from es m avoid u met h =
 
 -- all are open
 gathered_open : (es : List Entry) (m : Met) (avoid : Option ℕ) → IsPossible es → IsMet es m → IsWithin (has (gathered avoid m)) (is_open (slots_of es))
-gathered_open es m avoid possible met u h =
-    ⊎_elim
-    (λ certain. (IsPossibleUid-iff es u possible).0 (possible.0, possible.1, possible.2, certain possible.0 possible.1 possible.2))
-    (λ from. (and_parts _ _ (from.1.1.uids.members u (chosen_parts avoid from.0 u from.2).0)).0)
-    (gathered_from es m avoid u met h)
+gathered_open es m avoid possible met u h = grind (arith, nat_tests, gathered_from es m avoid u met h, chosen_parts avoid, IsPossibleUid-iff es u possible)
 
 -- the one to avoid isn't there
 pub gathered_other : (es : List Entry) (m : Met) (a : ℕ) → (IsCertainUid es a → ⊥) → IsMet es m → has (gathered (Some a) m) a ≡ true → ⊥

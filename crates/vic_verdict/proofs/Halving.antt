@@ -1,5 +1,5 @@
 -- Halving over the lines of a log.
-use Rattle.vic_verdict.proofs.Words.{take-take, ◌≡◌, ℕ, suc, ◌+◌, ◌<◌, ◌≤◌, List, ◌∷◌, ◌++◌, length, take, drop, min, sym, ap, ◌∙◌, subst, arith, take-append-drop, length-take, take-map, length-map, Sent, LogLine, IsPossible, IsContradictedAt, IsContradiction, entries, IsRisingFrom, map-append, AreLogLines, IsInOrder-front, still_there}
+use Rattle.vic_verdict.proofs.Words.{take-take, ◌≡◌, ℕ, suc, ◌+◌, ◌<◌, ◌≤◌, List, ◌∷◌, ◌++◌, length, take, drop, sym, ap, ◌∙◌, subst, arith, take-append-drop, length-take, take-map, length-map, Sent, LogLine, IsPossible, IsContradictedAt, IsContradiction, entries, IsRisingFrom, map-append, AreLogLines, IsInOrder-front, still_there}
 use Rattle.vic_verdict.specs.declared.facts.Contradiction.{Contradiction}
 use Rattle.vic_verdict.proofs.Possibility.{IsPossible-front}
 
@@ -35,15 +35,7 @@ pub front_contradiction : (lines : List LogLine) (n : ℕ) (c : Contradiction) �
 front_contradiction lines n c h =
     let es = entries lines in
     let k : IsContradiction (take n es) c = subst (λ fs. IsContradiction fs c) (first_entries n lines) h in
-    let within : c.at < min n (length es) = subst (λ z. c.at < z) (length-take n es) k.impossible.within in
-    let same = λ (m : ℕ) (le : m ≤ n). take-take m n es le in
-    record {
-      impossible = record {
-        within = omega arith;
-        impossible = λ possible. k.impossible.impossible (subst IsPossible (sym (same (c.at + 1) (omega arith))) possible);
-      };
-      before = λ e. subst IsPossible (same c.at (omega arith)) (k.before e);
-    }
+    grind (arith, length-take n es, take-take (c.at + 1) n es, take-take c.at n es)
 
 -- some first lines are possible, and those up to the one at a position aren't
 pub record Between (lines : List LogLine) (low last : ℕ) : Type 0 where
@@ -52,8 +44,4 @@ pub record Between (lines : List LogLine) (low last : ℕ) : Type 0 where
   pub impossible : IsPossible (entries (take (last + 1) lines)) → ⊥
 
 pub between : (lines : List LogLine) (low i : ℕ) → IsPossible (entries (take low lines)) → IsContradictedAt (entries lines) i → Between lines low i
-between lines low i possible c = record {
-  within = omega (arith, c.within, length-map lines (λ (l : LogLine). l.item));
-  possible = possible;
-  impossible = λ p. c.impossible (subst IsPossible (first_entries (i + 1) lines) p);
-}
+between lines low i possible c = grind (arith, length-map lines (λ (l : LogLine). l.item), first_entries (i + 1) lines)

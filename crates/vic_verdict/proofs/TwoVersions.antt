@@ -1,18 +1,14 @@
 -- The main theorem says the same in the words of each version.
-use Rattle.vic_verdict.proofs.Words.{◌≡◌, ◌⊎◌, inl, inr, ℕ, zero, suc, true, false, List, [], ◌∷◌, Option, Some, refl, sym, ◌∙◌, arith, nat_tests, ⊎_elim, ◌↔◌, filter, cases_eq, both_ways, false_from_ne_true, has, AreDifferent, Entry, FieldCycle, LogLine, entries, IsPopulation, answers_at, CouldHaveGiven, wakes, is_quiet, has_here, has_there, has_cases, has_filter, AreDifferent-population, AreDifferent-filter, IsVerdict, Complete, or_parts, filter_has, IsWhole, has_at, and_cases, AreOfFirstVersion, CouldHaveGivenFirst, Outcome, Nobody, Lone, Several, outcome_of, outcome_at, Fits, given-first, quiet-silenced}
+use Rattle.vic_verdict.proofs.Words.{◌≡◌, ◌⊎◌, inl, inr, ℕ, zero, suc, true, false, List, [], ◌∷◌, refl, arith, nat_tests, ⊎_elim, ◌↔◌, filter, cases_eq, both_ways, false_from_ne_true, has, AreDifferent, Entry, LogLine, entries, IsPopulation, answers_at, CouldHaveGiven, is_quiet, has_here, has_there, has_cases, has_filter, AreDifferent-population, AreDifferent-filter, IsVerdict, Complete, filter_has, IsWhole, has_at, AreOfFirstVersion, CouldHaveGivenFirst, Outcome, Nobody, Lone, Several, outcome_of, outcome_at, Fits, given-first, quiet-silenced}
 use Rattle.vic_verdict.specs.TwoVersions.{HasExactlyListed, IsWholeFirst, IsReady, Answers, AnswersAlone, SeveralAnswer, IsToldOf, CouldHaveGivenSecond, IsWholeSecond}
 use Rattle.vic_verdict.proofs.Decide.{IsPossible-iff, IsPossibleUid-iff, IsCertainUid-iff}
 use Rattle.vic_verdict.proofs.Verdicts.{complete_whole}
 
 -- ---- Ready tags
 
-cycle_at : (o : Option Entry) → wakes o ≡ true → o ≡ Some FieldCycle
-cycle_at o h = grind (arith, nat_tests)
-
 not_quiet-ready : (es : List Entry) (i u : ℕ) → is_quiet es i u ≡ false → IsReady es i u
 not_quiet-ready es zero u h j below s = absurd (omega arith)
-not_quiet-ready es (suc n) u h j below s =
-    grind (arith, nat_tests, cases_eq, or_parts, and_cases, cycle_at, not_quiet-ready es n u)
+not_quiet-ready es (suc n) u h j below s = grind (arith, nat_tests, cases_eq, not_quiet-ready es n u)
 
 ready-not_quiet : (es : List Entry) (i u : ℕ) → IsReady es i u → is_quiet es i u ≡ false
 ready-not_quiet es i u r = false_from_ne_true _ (λ q. let s = quiet-silenced es i u q in let k = r s.0 s.1 s.2 in s.3 k.0 k.1 k.2 k.3)
@@ -22,11 +18,8 @@ ready-not_quiet es i u r = false_from_ne_true _ (λ q. let s = quiet-silenced es
 abbrev answerers : List ℕ → List Entry → ℕ → List ℕ
 answerers p es i = filter (answers_at es i) p
 
-answers-member : (p : List ℕ) (es : List Entry) (i u : ℕ) → Answers p es i u → has (answerers p es i) u ≡ true
-answers-member p es i u a = grind (arith, nat_tests, filter_has, ready-not_quiet es i u)
-
-member-answers : (p : List ℕ) (es : List Entry) (i u : ℕ) → has (answerers p es i) u ≡ true → Answers p es i u
-member-answers p es i u h = grind (arith, nat_tests, has_filter (answers_at es i) p u h, not_quiet-ready es i u)
+answers-iff : (p : List ℕ) (es : List Entry) (i u : ℕ) → Answers p es i u ↔ (has (answerers p es i) u ≡ true)
+answers-iff p es i u = grind (arith, nat_tests, filter_has, has_filter (answers_at es i) p u, ready-not_quiet es i u, not_quiet-ready es i u)
 
 -- ---- outcomes, by the members of a list
 
@@ -36,22 +29,19 @@ IsOutcome p es i o =
     ((o ≡ Nobody) × ((u : ℕ) → Answers p es i u → ⊥))
     ⊎ (((x : ℕ) × (o ≡ Lone x) × AnswersAlone p es i x) ⊎ ((o ≡ Several) × SeveralAnswer p es i))
 
-is_outcome : (p : List ℕ) (es : List Entry) (i : ℕ) (xs : List ℕ) → AreDifferent xs → ((u : ℕ) → Answers p es i u → has xs u ≡ true) → ((u : ℕ) → has xs u ≡ true → Answers p es i u) → IsOutcome p es i (outcome_of xs)
-is_outcome p es i [] d to from = inl (refl, λ u a. let h = to u a in cc)
-is_outcome p es i (x ∷ []) d to from = inr (inl (x, refl, (from x (has_here x []), λ v a. ⊎_elim (λ e. e) (λ k. cc) (has_cases v x [] (to v a)))))
-is_outcome p es i (x ∷ y ∷ xs) d to from = inr (inr (refl, (x, y, (λ e. both_ways _ d.0 (has_at x y xs e)), from x (has_here x (y ∷ xs)), from y (has_there y x (y ∷ xs) (has_here y xs)))))
-
-not_several : (p : List ℕ) (es : List Entry) (i x : ℕ) → ((v : ℕ) → Answers p es i v → v ≡ x) → SeveralAnswer p es i → ⊥
-not_several p es i x alone s = s.2 (alone s.0 s.3 ∙ sym (alone s.1 s.4))
+is_outcome : (p : List ℕ) (es : List Entry) (i : ℕ) (xs : List ℕ) → AreDifferent xs → ((u : ℕ) → Answers p es i u ↔ (has xs u ≡ true)) → IsOutcome p es i (outcome_of xs)
+is_outcome p es i [] d is = inl (refl, λ u a. let h = (is u).0 a in cc)
+is_outcome p es i (x ∷ []) d is = inr (inl (x, refl, ((is x).1 (has_here x []), λ v a. ⊎_elim (λ e. e) (λ k. cc) (has_cases v x [] ((is v).0 a)))))
+is_outcome p es i (x ∷ y ∷ xs) d is = inr (inr (refl, (x, y, (λ e. both_ways _ d.0 (has_at x y xs e)), (is x).1 (has_here x (y ∷ xs)), (is y).1 (has_there y x (y ∷ xs) (has_here y xs)))))
 
 told-iff : (p : List ℕ) (es : List Entry) (i : ℕ) (e : Entry) (o : Outcome) → IsOutcome p es i o → Fits e o ↔ IsToldOf p es i e
-told-iff p es i e o c = grind (arith, nat_tests, not_several)
+told-iff p es i e o c = grind (arith, nat_tests)
 
 -- ---- what a population could have produced
 
 given-second : (es : List Entry) (p : List ℕ) → IsPopulation p → CouldHaveGiven p es ↔ CouldHaveGivenSecond p es
 given-second es p pop =
-    let told = λ (i : ℕ) (e : Entry). told-iff p es i e (outcome_at es i p) (is_outcome p es i (answerers p es i) (AreDifferent-filter (answers_at es i) p (AreDifferent-population p pop)) (answers-member p es i) (member-answers p es i)) in
+    let told = λ (i : ℕ) (e : Entry). told-iff p es i e (outcome_at es i p) (is_outcome p es i (answerers p es i) (AreDifferent-filter (answers_at es i) p (AreDifferent-population p pop)) (answers-iff p es i)) in
     ((λ g i e k. (told i e).0 (g i e k)), (λ g i e k. (told i e).1 (g i e k)))
 
 -- the main theorem over relations that say the same about populations

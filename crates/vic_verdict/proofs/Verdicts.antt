@@ -1,11 +1,9 @@
 -- Each log has exactly one verdict.
-use Rattle.vic_verdict.proofs.Words.{◌≡◌, ◌∙◌, ℕ, suc, ◌<◌, ◌≤◌, ◌+◌, ◌^◌, ◌*◌, ◌%◌, take, zero, Some, slice_get, sum_by-cons, nat_tests, pow-le-pow_right, List, [], ◌∷◌, length, true, false, refl, sym, ap, subst, arith, inl, inr, ⊎_elim, ◌⊎◌, ◌↔◌, nat_le, filter, le_refl, sum_by, cases_lt, BitMask, Entry, LogLine, Impossible, Complete, lies_in, has, is_uid, IsUid, IsPossible, IsPossibleUid, IsCertainUid, entries, IsRisingFrom, listed, IsAbsent, IsUnlisted, IsUnsettled, IsDoubtful, IsLeast, IsFirstMask, NoSuch, IsVerdict, is_uid_from, IsUid-from, IsUid-member, entries_to, IsWhole, IsReached, sum_by_more_le, Version, IsLog, AreLogLines, Absent, Unlisted, Unsettled, Doubtful}
-use Rattle.std.proofs.Common.{◌/◌}
+use Rattle.vic_verdict.proofs.Words.{◌≡◌, ◌∙◌, ℕ, suc, ◌<◌, ◌≤◌, ◌+◌, ◌^◌, ◌*◌, ◌%◌, ◌/◌, IsAtMost, take, zero, Some, slice_get, sum_by-cons, nat_tests, pow-le-pow_right, List, [], ◌∷◌, length, true, false, refl, sym, ap, subst, arith, inl, inr, ⊎_elim, ◌⊎◌, ◌↔◌, nat_le, filter, le_refl, sum_by, BitMask, Entry, LogLine, Impossible, Complete, lies_in, has, is_uid, IsUid, IsPossible, IsPossibleUid, IsCertainUid, entries, IsRisingFrom, listed, IsAbsent, IsUnlisted, IsUnsettled, IsDoubtful, IsLeast, IsFirstMask, NoSuch, IsVerdict, is_uid_from, IsUid-from, IsUid-member, entries_to, IsWhole, IsReached, sum_by_more_le, Version, IsLog, AreLogLines, Absent, Unlisted, Unsettled, Doubtful}
 use Rattle.vic_verdict.proofs.Failing.{place_of}
 use Rattle.vic_verdict.specs.declared.judging.Verdict.{Verdict}
 use Rattle.vic_verdict.proofs.Halving.{possible_first, possible_shorter}
 use Rattle.vic_verdict.proofs.Listing.{number_above}
-use Rattle.vic_tree.specs.OpenSet.{IsAtMost}
 use Rattle.vic_verdict.proofs.Search.{Either, test_either, false_either, not_either, and_either, least_by, least_of, least_or_none}
 use Rattle.vic_verdict.proofs.Populations.{uid_end, uid_below}
 use Rattle.vic_verdict.proofs.Possibility.{Heard-certain}
@@ -25,12 +23,9 @@ none_to n k [] h r = refl
 none_to n k (l ∷ lines) h r = grind (arith, nat_tests, none_to n l.number lines)
 
 -- they are so many first lines
-lines_first : (n below : ℕ) (lines : List LogLine) → IsRisingFrom below lines → lines_to n lines ≡ take (count_to n lines) lines
-lines_first n below [] r = refl
-lines_first n below (l ∷ lines) r = grind (arith, nat_tests, none_to n l.number lines, lines_first n l.number lines)
-
 first_to : (n below : ℕ) (lines : List LogLine) → IsRisingFrom below lines → entries_to n lines ≡ entries (take (count_to n lines) lines)
-first_to n below lines r = ap entries (lines_first n below lines r)
+first_to n below [] r = refl
+first_to n below (l ∷ lines) r = grind (arith, nat_tests, none_to n l.number lines, first_to n l.number lines)
 
 -- those with a number up to n
 is_within : (n below : ℕ) (lines : List LogLine) (i : ℕ) (l : LogLine) → IsRisingFrom below lines → slice_get lines i ≡ Some l → (i < count_to n lines) ↔ (l.number ≤ n)
@@ -101,9 +96,6 @@ unlisted_or_none es p =
     uid_end
     (λ u h. uid_below u (IsUid-member p.0 u p.1 (h.0 p.0 p.1 p.2)))
 
-le_either : (a b : ℕ) → Either (a ≤ b)
-le_either a b = ⊎_elim (λ h. inr (λ k. omega arith)) (λ h. inl h) (cases_lt b a)
-
 all_either : (es : List Entry) (m : BitMask) → IsPossible es → Either ((u : ℕ) → IsUid u → lies_in m u ≡ true → IsPossibleUid es u × (has (listed es) u ≡ false))
 all_either es m p =
     let P : ℕ → Type 0 = λ u. (is_uid u ≡ true) × ((lies_in m u ≡ true) × (IsPossibleUid es u × (has (listed es) u ≡ false) → ⊥)) in
@@ -114,9 +106,7 @@ all_either es m p =
     ]
 
 unsettled_either : (es : List Entry) (m : BitMask) → IsPossible es → Either (IsUnsettled es m)
-unsettled_either es m p =
-    ⊎_elim (λ h. inl (h.0, h.1.0, h.1.1)) (λ no. inr (λ h. no (h.0, (h.1, h.2))))
-    (and_either (le_either m.len 56) (and_either (le_either (suc m.value) (2 ^ m.len)) (all_either es m p)))
+unsettled_either es m p = grind (arith, all_either es m p)
 
 -- the masks by one number, which rises with the length, then with the value
 abbrev nth_mask : ℕ → BitMask

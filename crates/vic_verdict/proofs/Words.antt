@@ -1,15 +1,16 @@
 -- The words of proofs, from one place: what files name from outside of the crate, and the definitions that several of them name.
 pub use mathlib.Core.Logic.Iff.{trans}
-pub use Rattle.std.proofs.Common.{All, Any, Bool, IfNone, IfSome, IsPermutation, List, MatchOption, MatchResult, None, Option, Some, [], add-one, ap, append-nil, append_assoc, arith, cond, drop, eq-eqb, eqb-true, ext_get_or, false, filter, get_or, get_or-drop, get_or-set_other, get_or-set_same, get_or-take, if◌then◌else◌, inl, inr, le-leb, le-ltb, le_of_lt, le_refl, leb, leb-false, leb-true, length, length-append, length-drop, length-set, length-take, length-take-le, ltb, ltb-false, ltb-true, map, min, nat_eq, nat_le, nat_lt, ne_eqb, not, option_map, refl, rules, set, slice_get, subst, suc, sum_by, sym, take, take-append-drop, take-take, take_all, true, zero, ℕ, ⊎_elim, ◌%◌, ◌&&◌, ◌*◌, ◌++◌, ◌+◌, ◌-◌, ◌<◌, ◌==◌, ◌^◌, ◌||◌, ◌↔◌, ◌∙◌, ◌∷◌, ◌≡◌, ◌≢◌, ◌≤◌, ◌⊎◌}
+pub use Rattle.std.proofs.Common.{All, Any, Bool, IfNone, IfSome, IsPermutation, List, MatchOption, MatchResult, None, Option, Some, [], add-one, ap, append-nil, append_assoc, arith, cond, drop, eq-eqb, eqb-true, ext_get_or, false, filter, get_or, get_or-drop, get_or-set_other, get_or-set_same, get_or-take, if◌then◌else◌, inl, inr, le-leb, le-ltb, le_of_lt, le_refl, leb, leb-false, leb-true, length, length-append, length-drop, length-set, length-take, length-take-le, ltb, ltb-false, ltb-true, map, min, nat_eq, nat_le, nat_lt, ne_eqb, not, option_map, pow-add, refl, rules, set, slice_get, subst, suc, sum_by, sym, take, take-append-drop, take-take, take_all, true, zero, ℕ, ⊎_elim, ◌%◌, ◌&&◌, ◌*◌, ◌++◌, ◌+◌, ◌-◌, ◌/◌, ◌<◌, ◌==◌, ◌^◌, ◌||◌, ◌↔◌, ◌∙◌, ◌∷◌, ◌≡◌, ◌≢◌, ◌≤◌, ◌⊎◌}
+pub use Rattle.std.proofs.Math.Nat.{pow-le-pow_right}
 pub use Rattle.std.proofs.Math.Seq.{take-append_seam}
-pub use Rattle.std.proofs.lemmas.Bool.{and_cases, and_from, and_parts, and_right, both_ways, cases_Bool, cases_eq, cases_lt, false_from_ne_true, false≢true, lt-leb, not-false, not-true, not_from_false, or_cases, or_left, or_parts, or_right, true_from_ne_false}
+pub use Rattle.std.proofs.lemmas.Bool.{and_cases, and_from, and_parts, and_right, both_ways, cases_Bool, cases_eq, cases_lt, eqb-false, false_from_ne_true, false≢true, lt-leb, not-false, not-true, not_from_false, or_cases, or_left, or_parts, or_right, true_from_ne_false}
 pub use Rattle.std.proofs.lemmas.Bool.Decides.{nat_tests}
 pub use Rattle.std.proofs.lemmas.Cmp.{nat_eq_equiv}
 pub use Rattle.std.proofs.lemmas.Fn.{filter_same}
 pub use Rattle.std.proofs.lemmas.Grind.{common_steps}
 pub use Rattle.std.proofs.lemmas.List.{drop-map, drop_more, get_or-map, get_or_append_left, get_or_default, length-map, map-append, nil_from_length, take-map, take_more}
 pub use Rattle.std.proofs.lemmas.List.Elements.{All-append, All-cons, All-drop, All-filter, All-from_get_or, All-head, All-map, All-nil, All-push, All-tail, All-take, All-weaker, filter_more, filter_passes}
-pub use Rattle.std.proofs.lemmas.List.Folds.{Any-from_list_any, list_any-from_Any, list_all_at, list_all_more, list_any-append, list_any_at, list_any_more, list_any_none, map_fixed}
+pub use Rattle.std.proofs.lemmas.List.Folds.{Any-from_list_any, list_all_at, list_all_more, list_any-append, list_any-from_Any, list_any_at, list_any_more, list_any_none, map_fixed}
 pub use Rattle.std.proofs.lemmas.List.Kept.{AllPairs-from_increasing, IsStrictlyIncreasing-filter}
 pub use Rattle.std.proofs.lemmas.List.Quantifiers.{Any-push}
 pub use Rattle.std.proofs.lemmas.List.Sorted.{All-permutation, IsNonDecreasingBy-from_sort, IsNonDecreasingBy-from_sort_by_key, IsNonDecreasingBy-push, IsPartitionPoint-from_clause, IsPartitionedBy-leb, IsPartitionedBy-ltb, IsPermutation-sym, list_any-IsPermutation, sum_by-IsPermutation}
@@ -48,7 +49,7 @@ pub use Rattle.vic_log.specs.Order.{IsInOrder, IsRisingFrom, entries, listed}
 pub use Rattle.vic_log.specs.Populations.{CouldHaveGiven, Fits, IsPopulation, Lone, Nobody, Outcome, Several, answers_at, outcome_at, outcome_of}
 pub use Rattle.vic_log.specs.Quiet.{is_quiet, silences, wakes}
 pub use Rattle.vic_log.specs.Rounds.{lies_in_some, mask_at}
-pub use Rattle.vic_log.specs.Slots.{Asks, Forces, IsForcedBy, ManyReplies, NoReply, OneReply, Reading, Slot, SomeReply, SuppliesAll, allows, is_open, may_be, reading_of, slots_before, slots_of, with_entry}
+pub use Rattle.vic_log.specs.Slots.{Asks, Forces, IsForcedBy, ManyReplies, NoReply, OneReply, Reading, Slot, SomeReply, SuppliesAll, allows, is_open, may_be, reading_of, slots_before, slots_of, with_entry, with_reading}
 pub use Rattle.vic_log.specs.declared.entry.Entry.{Entry}
 pub use Rattle.vic_log.specs.declared.entry.Entry.TheVariants.{Collision, FieldCycle, Garbled, Heard, Listed, Sent, Silent}
 pub use Rattle.vic_log.specs.declared.entry.LogLine.{LogLine}
@@ -57,7 +58,7 @@ pub use Rattle.vic_tree.proofs.BoolLaws.{and_thrice, and_true, lt_from, lt_yes, 
 pub use Rattle.vic_tree.proofs.GatheringLaws.{gathers_both, gathers_full, gathers_like}
 pub use Rattle.vic_tree.proofs.SetLaws.{widest_same}
 pub use Rattle.vic_tree.specs.Gathering.{Gathers}
-pub use Rattle.vic_tree.specs.OpenSet.{AreKeys, AreOutside, IsWidest, SameUids, UpToThree, has_key, in_mask, without_keys}
+pub use Rattle.vic_tree.specs.OpenSet.{AreKeys, AreOutside, IsAtMost, IsWidest, SameUids, UpToThree, has_key, in_mask, without_keys}
 pub use Rattle.vic_tree.specs.Ranges.{in_ranges, is_between, is_outside}
 pub use Rattle.vic_verdict.specs.Demands.{AreFound, HasHeard, IsFound, IsFoundAt, IsMet, IsMetFor, Meets, all_needs, needs, needs_at, needs_of}
 pub use Rattle.vic_verdict.specs.Explained.{HasAllHeard, IsPopulationBehind, IsSmallPopulation}
