@@ -1,5 +1,6 @@
 -- What meets the demands of a stretch.
-use Rattle.vic_verdict.proofs.Words.{◌≡◌, ℕ, zero, suc, ◌+◌, ◌<◌, ◌≤◌, ◌++◌, List, [], ◌∷◌, length, take, get_or, length-append, Bool, true, not, ◌&&◌, Option, Some, None, refl, sym, ap, ◌∙◌, subst, arith, inl, inr, ⊎_elim, ◌⊎◌, ◌==◌, nat_lt, slice_get, All, Any, sum_by, eq-eqb, eqb-true, le-ltb, list_all, list_any, cases_eq, cases_lt, and_parts, and_from, or_left, or_right, slice_get_within, All-push, list_any-append, Any-from_list_any, All-permutation, list_any-IsPermutation, IsUid, is_uid, mirror, SameUids, UpToThree, Entry, Collision, Garbled, mask_at, lies_in_some, is_quiet, answers_at, ManyReplies, SomeReply, slots_of, is_open, AgreeBefore, answers_agree, IsUid-from, lt_yes, lt_from, Demand, Found, Stretch, Mention, Lacks, answering, HaveKeys, is_quiet_by, ArePutInOrder, needs, needs_of, IsFound, IsDemandBy, AreFound, AreKept, get_or_append_left, All-filter, filter_passes, get_or_from_slice_get, slice_get_past, allows, IsDemand, answers_by, IsUnmet, IsUnmetAt, IsImpliedBy, IsAskedAgain, HasBlock, HasBlocks, HasKeysAt, HasMentionsInOrder, IsKept, Keeps, AreMet, AreAsked, asked_by, demands_to, is_asked, any-filter_same, Any-push, sum_by-cons, sum_by_more, sum_by_push, sum_by-take-le, sum_by-IsPermutation, needs_at, all_needs, Meets, All-append, All-cons, All-more, All-nil, All-weaker, append-nil, sum_by-append, sum_by-filter_both, take_all}
+use Rattle.vic_verdict.proofs.Words.{◌≡◌, ℕ, zero, suc, ◌+◌, ◌<◌, ◌≤◌, ◌++◌, List, [], ◌∷◌, length, take, get_or, length-append, Bool, true, not, ◌&&◌, Option, Some, None, refl, sym, ap, ◌∙◌, subst, arith, inl, inr, ⊎_elim, ◌⊎◌, ◌==◌, nat_lt, slice_get, All, Any, sum_by, eq-eqb, eqb-true, le-ltb, list_all, list_any, cases_eq, cases_lt, and_parts, and_from, or_left, or_right, slice_get_within, All-push, list_any-append, All-permutation, list_any-IsPermutation, IsUid, is_uid, mirror, SameUids, UpToThree, Entry, Collision, Garbled, mask_at, lies_in_some, is_quiet, answers_at, ManyReplies, SomeReply, slots_of, is_open, AgreeBefore, answers_agree, IsUid-from, lt_yes, lt_from, Demand, Found, Stretch, Mention, Lacks, answering, HaveKeys, is_quiet_by, ArePutInOrder, needs, needs_of, IsFound, IsDemandBy, AreFound, AreKept, get_or_append_left, All-filter, filter_passes, get_or_from_slice_get, slice_get_past, allows, IsDemand, answers_by, IsUnmet, IsUnmetAt, IsImpliedBy, IsAskedAgain, HasBlock, HasBlocks, HasKeysAt, HasMentionsInOrder, IsKept, Keeps, AreMet, AreAsked, asked_by, demands_to, is_asked, any-filter_same, Any-push, sum_by-cons, sum_by_more, sum_by_push, sum_by-take-le, sum_by-IsPermutation, needs_at, all_needs, Meets, All-append, All-cons, All-more, All-nil, All-weaker, append-nil, sum_by-append, sum_by-filter_both, take_all, filter-append, rules}
+use Rattle.vic_verdict.proofs.Ready.{one_of}
 use Rattle.vic_verdict.proofs.Silencing.{silenced_later}
 use Rattle.vic_verdict.proofs.Entries.{asks_two_iff, asks_one_iff}
 use Rattle.vic_verdict.proofs.Supplied.{UpToThree-same}
@@ -19,12 +20,6 @@ found_answers : (es : List Entry) (set : ℕ → Bool) (ns : List Mention) (d : 
 found_answers es set ns d us same h found =
     UpToThree-same (ready_of set ns d) (answering (is_open (slots_of es)) es d.at) us (λ u. told_answers (is_uid u) (set u) (list_all (allows u) (slots_of es)) (answers_by ns d u) (answers_at es d.at u) (λ e. same u (IsUid-from u e)) (λ e. h.answers u (IsUid-from u e))) found
 
--- whoever answers where the next demand of the same mask asks again answers here too
-answers_before : (ns : List Mention) (d next : Demand) (u : ℕ) → IsImpliedBy d next → answers_by ns next u ≡ true → answers_by ns d u ≡ true
-answers_before ns d next u said e =
-    let later = silenced_later ns (mirror u) d.at next.at said.later in
-    rw (said.first, said.len) (grind arith)
-
 -- what the next demand of the same mask is met by meets this one too
 meets_again : (es : List Entry) (ns : List Mention) (d next : Demand) (f : Found) → IsDemandBy es ns d → IsDemandBy es ns next → IsImpliedBy d next → Meets es f next.at → Meets es f d.at
 meets_again es ns d next f h g said m = record {
@@ -32,8 +27,10 @@ meets_again es ns d next f h g said m = record {
   answer = λ u k.
       let w = and_parts _ _ (m.answer u k) in
       let uid = IsUid-from u (and_parts (is_uid u) _ w.0).0 in
-      and_from _ _ w.0 (sym (h.answers u uid) ∙ answers_before ns d next u said (g.answers u uid ∙ w.1));
-}
+      and_from _ _ w.0 (sym (h.answers u uid) ∙ still u (g.answers u uid ∙ w.1));
+} where
+  still : (u : ℕ) → answers_by ns next u ≡ true → answers_by ns d u ≡ true
+  still u e = let later = silenced_later ns (mirror u) d.at next.at said.later in rw (said.first, said.len) (grind arith)
 
 -- ---- a demand that is not
 
@@ -77,44 +74,34 @@ pub record AreMetTo (es : List Entry) (ds : List Demand) (k : ℕ) (old new : Li
   pub met : All (IsMetTo es ds k new) (take k ds)
   pub few : sum_by (λ (f : Found). f.need) new ≤ sum_by (λ (f : Found). f.need) old + asked_by (take k ds)
 
--- so is demand k itself
-met_upto : (es : List Entry) (ds : List Demand) (k : ℕ) (old now : List Found) → k < length ds → AreMetTo es ds k old now → All (IsMetTo es ds k now) (take (k + 1) ds)
-met_upto es ds k old now below h = All-more (IsMetTo es ds k now) ds k no_demand below h.met (inr (below, λ f m. m))
+-- a demand more, and what is found for it, if anything
+met_next : (es : List Entry) (ds : List Demand) (k : ℕ) (old now new : List Found) → k < length ds → (All (IsFound es) now → All (IsFound es) new) → ((i : ℕ) → Any (λ (f : Found). Meets es f i) now → Any (λ (f : Found). Meets es f i) new) → ((d : Demand) → ((f : Found) → Meets es f (get_or ds k no_demand).at → Meets es f d.at) → IsMetTo es ds (k + 1) new d) → sum_by (λ (f : Found). f.need) new ≤ sum_by (λ (f : Found). f.need) now + (get_or ds k no_demand).need → AreMetTo es ds k old now → AreMetTo es ds (k + 1) old new
+met_next es ds k old now new below found kept met few h = record {
+  found = λ g. found (h.found g);
+  kept = λ i g. kept i (h.kept i g);
+  met = All-weaker (IsMetTo es ds k now) (IsMetTo es ds (k + 1) new) (λ d w. ⊎_elim (λ a. inl (kept d.at a)) (λ b. met d b.1) w) (take (k + 1) ds)
+      (All-more (IsMetTo es ds k now) ds k no_demand below h.met (inr (below, λ f m. m)));
+  few = omega (arith, few, h.few, sum_by_more (λ (d : Demand). d.need) ds k no_demand below);
+}
 
 -- a demand that is asked again
 pub met_skipped : (es : List Entry) (ns : List Mention) (ds : List Demand) (k : ℕ) (old now : List Found) → k < length ds → All (IsDemandBy es ns) ds → IsAskedAgain ds k → AreMetTo es ds k old now → AreMetTo es ds (k + 1) old now
-met_skipped es ns ds k old now below by again h = record {
-  found = h.found;
-  kept = h.kept;
-  met = All-weaker (IsMetTo es ds k now) (IsMetTo es ds (k + 1) now) (λ d w. elim w [
-    | inl met ↦ inl met
-    | inr next ↦ inr (again.0, λ f m. next.1 f (meets_again es ns (get_or ds k no_demand) (get_or ds (k + 1) no_demand) f (by k no_demand below) (by (k + 1) no_demand again.0) (again.1 no_demand) m))
-  ]) (take (k + 1) ds) (met_upto es ds k old now below h);
-  few = omega (arith, h.few, sum_by_more (λ (d : Demand). d.need) ds k no_demand below);
-}
+met_skipped es ns ds k old now below by again =
+    let next = λ (f : Found). meets_again es ns (get_or ds k no_demand) (get_or ds (k + 1) no_demand) f (by k no_demand below) (by (k + 1) no_demand again.0) (again.1 no_demand) in
+    met_next es ds k old now now below (λ g. g) (λ i g. g) (λ d meets. inr (again.0, λ f m. meets f (next f m))) (omega arith)
 
 -- one that is met
 pub met_found : (es : List Entry) (set : ℕ → Bool) (ns : List Mention) (ds : List Demand) (k : ℕ) (f : Found) (old now : List Found) → k < length ds → SameUids set (is_open (slots_of es)) → All (IsDemandBy es ns) ds → UpToThree (ready_of set ns (get_or ds k no_demand)) f.uids.items → f.at ≡ (get_or ds k no_demand).at → f.need ≡ (get_or ds k no_demand).need → f.need ≤ length f.uids.items → AreMetTo es ds k old now → AreMetTo es ds (k + 1) old (now ++ f ∷ [])
-met_found es set ns ds k f old now below same by ready place need enough h = record {
-  found = λ g. All-push (IsFound es) now f (h.found g) (d.at, record { place = place; asked = omega (arith, here.asked); need = needed; uids = uids; enough = enough });
-  kept = λ i g. any_kept (λ x. Meets es x i) now f (h.kept i g);
-  met = All-weaker (IsMetTo es ds k now) (IsMetTo es ds (k + 1) (now ++ f ∷ [])) (λ c w. inl (elim w [
-    | inl met ↦ any_kept (λ x. Meets es x c.at) now f met
-    | inr next ↦ Any-push (λ x. Meets es x c.at) now f (next.1 f (record { need = needed; answer = uids.members }))
-  ])) (take (k + 1) ds) (met_upto es ds k old now below h);
-  few = omega (arith, h.few, need, sum_by_more (λ (x : Demand). x.need) ds k no_demand below, sum_by_push (λ (x : Found). x.need) now f);
-} where
-  d : Demand
-  d = get_or ds k no_demand
-
-  here : IsDemandBy es ns d
-  here = by k no_demand below
-
-  needed : needs_at es d.at ≡ f.need
-  needed = here.need ∙ sym need
-
-  uids : UpToThree (answering (is_open (slots_of es)) es d.at) f.uids.items
-  uids = found_answers es set ns d f.uids.items same here ready
+met_found es set ns ds k f old now below same by ready place need enough =
+    let d = get_or ds k no_demand in
+    let here : IsDemandBy es ns d = by k no_demand below in
+    let needed : needs_at es d.at ≡ f.need = here.need ∙ sym need in
+    let uids = found_answers es set ns d f.uids.items same here ready in
+    met_next es ds k old now (now ++ f ∷ []) below
+    (λ g. All-push (IsFound es) now f g (d.at, record { place = place; asked = omega (arith, here.asked); need = needed; uids = uids; enough = enough }))
+    (λ i g. any_kept (λ x. Meets es x i) now f g)
+    (λ c meets. inl (Any-push (λ x. Meets es x c.at) now f (meets f (record { need = needed; answer = uids.members }))))
+    (omega (arith, need, sum_by_push (λ (x : Found). x.need) now f))
 
 pub met_all : (es : List Entry) (ds : List Demand) (k : ℕ) (old new : List Found) → k ≡ length ds → AreMetTo es ds k old new → AreMet es ds old new
 met_all es ds k old new end h = subst (λ cs. AreMet es cs old new) (take_all k ds (omega arith)) (record {
@@ -131,63 +118,49 @@ needs_more : (es : List Entry) (i : ℕ) (e : Entry) → slice_get es i ≡ Some
 needs_more es i e k =
     sum_by_more needs es i e (slice_get_within es i e k) ∙ ap (λ x. all_needs (take i es) + needs x) (get_or_from_slice_get es i e e k)
 
--- a demand of a later position doesn't count
-to_before : (j : ℕ) (ds : List Demand) (d : Demand) → j ≤ d.at → demands_to j (ds ++ d ∷ []) ≡ demands_to j ds
-to_before j [] d late = rw (le-ltb d.at j late)
-to_before j (x ∷ ds) d late = rw (to_before j ds d late)
-
 -- up to position i they are all
 to_all : (i : ℕ) (ds : List Demand) → All (λ (d : Demand). d.at < i) ds → demands_to i ds ≡ ds
 to_all i [] h = refl
 to_all i (x ∷ ds) h = rw (lt_yes x.at i (h 0 x (omega arith)), to_all i ds (λ k d below. h (suc k) d (omega arith)))
 
--- an entry that asks for nothing is none of those that ask
-asks_before : (es : List Entry) (i j : ℕ) (e : Entry) → slice_get es i ≡ Some e → needs e ≡ 0 → j < i + 1 → 0 < needs_at es j → j < i
-asks_before es i j e k none lt some =
-    ⊎_elim (λ here. absurd (omega (arith, some, ap needs_of k ∙ none, ap (needs_at es) here))) (λ ne. omega arith) (cases_eq j i)
+demand_to : (es : List Entry) (from i j : ℕ) (d : Demand) → d.at < j → IsDemand es from i d → IsDemand es from j d
+demand_to es from i j d before h = record { asked = h.asked; need = h.need; block = h.block; inside = h.inside; since = h.since; before = before }
 
--- an entry, with what it adds to the demands
-asked_next : (es : List Entry) (from i : ℕ) (ds new : List Demand) (e : Entry) → from ≤ i → slice_get es i ≡ Some e → All (IsDemand es from (i + 1)) new → ((j : ℕ) → j ≤ i → demands_to j new ≡ demands_to j ds) → ((j : ℕ) → is_asked ds j ≡ true → is_asked new j ≡ true) → (0 < needs e → is_asked new i ≡ true) → asked_by new ≡ asked_by ds + needs e → AreAsked es from i ds → AreAsked es from (i + 1) new
-asked_next es from i ds new e begun k demands before kept here more h = record {
-  demands = demands;
-  asked = λ j since lt some. elim (cases_eq j i) [
-    | inl same ↦ rw same (here (omega (arith, some, ap (needs_at es) same, ap needs_of k)))
-    | inr ne ↦ kept j (h.asked j since (omega arith) some)
+-- an entry, with the demands that it adds
+asked_next : (es : List Entry) (from i : ℕ) (ds more : List Demand) (e : Entry) → from ≤ i → slice_get es i ≡ Some e → All (IsDemand es from (i + 1)) more → ((j : ℕ) → j ≤ i → demands_to j more ≡ []) → (0 < needs e → is_asked more i ≡ true) → asked_by more ≡ needs e → AreAsked es from i ds → AreAsked es from (i + 1) (ds ++ more)
+asked_next es from i ds more e begun k new late here need h = record {
+  demands = All-append (IsDemand es from (i + 1)) ds more (All-weaker (IsDemand es from i) (IsDemand es from (i + 1)) (λ d it. demand_to es from i (i + 1) d (omega (arith, it.before)) it) ds h.demands) new;
+  asked = λ j since lt some. list_any-append (λ (d : Demand). d.at == j) ds more ∙ elim (cases_eq j i) [
+    | inl same ↦ or_right (is_asked ds j) (is_asked more j) (rw same (here (omega (arith, some, ap (needs_at es) same, ap needs_of k))))
+    | inr ne ↦ or_left _ _ (h.asked j since (omega arith) some)
   ];
   few = λ j since upto. elim (cases_eq j (i + 1)) [
     | inl end ↦
         let needed = ap (λ n. all_needs (take n es)) end ∙ needs_more es i e k in
-        let part = sum_by-filter_both (λ (d : Demand). nat_lt d.at j) (λ (d : Demand). not (nat_lt d.at j)) (λ d. refl) (λ (d : Demand). d.need) new in
+        let part = sum_by-filter_both (λ (d : Demand). nat_lt d.at j) (λ (d : Demand). not (nat_lt d.at j)) (λ d. refl) (λ (d : Demand). d.need) (ds ++ more) in
         let all = ap asked_by (to_all i ds (λ n d below. (h.demands n d below).before)) in
-        omega (arith, h.few i begun (omega arith))
-    | inr ne ↦ omega (arith, h.few j since (omega arith), ap asked_by (before j (omega arith)))
+        omega (arith, h.few i begun (omega arith), sum_by-append (λ (d : Demand). d.need) ds more)
+    | inr ne ↦ rw (filter-append (λ (d : Demand). nat_lt d.at j) ds more, late j (omega arith), append-nil) (h.few j since (omega arith))
   ];
 }
-
-later_demand : (es : List Entry) (from i : ℕ) (d : Demand) → IsDemand es from i d → IsDemand es from (i + 1) d
-later_demand es from i d h = record { asked = h.asked; need = h.need; block = h.block; inside = h.inside; since = h.since; before = omega (arith, h.before) }
 
 -- an entry that asks for nothing
 pub asked_nothing : (es : List Entry) (from i : ℕ) (ds : List Demand) (e : Entry) → from ≤ i → slice_get es i ≡ Some e → needs e ≡ 0 → AreAsked es from i ds → AreAsked es from (i + 1) ds
 asked_nothing es from i ds e begun k none h =
-    asked_next es from i ds ds e begun k (All-weaker (IsDemand es from i) (IsDemand es from (i + 1)) (later_demand es from i) ds h.demands) (λ j le. refl) (λ j a. a) (λ some. absurd (omega arith)) (omega arith) h
+    subst (AreAsked es from (i + 1)) (append-nil ds) (asked_next es from i ds [] e begun k (All-nil (IsDemand es from (i + 1))) (λ j le. refl) (λ some. absurd (omega arith)) (sym none) h)
 
 -- an entry that asks for some
 pub asked_more : (es : List Entry) (from i : ℕ) (ds new : List Demand) (e : Entry) (d : Demand) → from ≤ i → slice_get es i ≡ Some e → needs e ≡ d.need → 0 < d.need → HasBlock d → HasKeysAt es i d → d.at ≡ i → new ≡ ds ++ d ∷ [] → AreAsked es from i ds → AreAsked es from (i + 1) new
-asked_more es from i ds new e d begun k need some block inside at is h = rw is (asked_next es from i ds (ds ++ d ∷ []) e begun k
-    (All-push (IsDemand es from (i + 1)) ds d (All-weaker (IsDemand es from i) (IsDemand es from (i + 1)) (later_demand es from i) ds h.demands) (record {
+asked_more es from i ds new e d begun k need some block inside at is h =
+    let it : IsDemand es from (i + 1) d = record {
       asked = some;
       need = ap (needs_at es) at ∙ (ap needs_of k ∙ need);
       block = block;
       inside = rw at inside;
       since = omega arith;
       before = omega arith;
-    }))
-    (λ j le. to_before j ds d (omega arith))
-    (λ j a. list_any-append (λ (x : Demand). x.at == j) ds (d ∷ []) ∙ or_left _ _ a)
-    (λ asks. list_any-append (λ (x : Demand). x.at == i) ds (d ∷ []) ∙ or_right _ _ (or_left _ _ (eq-eqb _ _ at)))
-    (sum_by_push (λ (x : Demand). x.need) ds d ∙ ap (λ n. asked_by ds + n) (sym need))
-    h)
+    } in
+    rw is (asked_next es from i ds (d ∷ []) e begun k (All-cons (IsDemand es from (i + 1)) d [] it (All-nil (IsDemand es from (i + 1)))) (λ j le. rw (le-ltb d.at j (omega arith))) (λ asks. or_left _ _ (eq-eqb _ _ at)) (omega arith) h)
 
 -- where a stretch begins
 pub asked_anew : (es : List Entry) (i : ℕ) → AreAsked es i i []
@@ -200,11 +173,7 @@ asked_anew es i = record {
 -- ---- the stretches that are kept
 
 pub kept_first : (es : List Entry) → AreKept es 0 []
-kept_first es = record {
-  kept = λ k s below. absurd (omega arith);
-  asked = λ j below some. absurd (omega arith);
-  few = omega arith;
-}
+kept_first es = search (rules, arith)
 
 -- entries that are the same ask for the same
 needs_agree : (n : ℕ) (es fs : List Entry) → AgreeBefore n es fs → all_needs (take n es) ≡ all_needs (take n fs)
@@ -230,60 +199,50 @@ kept_agree es fs i cut s agree le h = record {
   demands = λ k d below. demand_agrees es fs cut s.mentions.items (get_or s.demands.items k d) agree (omega (arith, h.places k d below)) (h.demands k d below);
 }
 
--- a field cycle asks for nothing
-pub kept_cycle : (es : List Entry) (i : ℕ) (ss : List Stretch) (e : Entry) → slice_get es i ≡ Some e → needs e ≡ 0 → AreKept es i ss → AreKept es (i + 1) ss
-kept_cycle es i ss e k none h = record {
-  kept = λ n s below. kept_agree es es i (i + 1) (get_or ss n s) (λ j lt. refl) (omega arith) (h.kept n s below);
-  asked = λ j lt some. h.asked j (asks_before es i j e k none lt some) some;
-  few = omega (arith, needs_more es i e k);
+-- with some stretches more that have the demands up to a cut
+kept_more : (es fs : List Entry) (from i cut : ℕ) (ds : List Demand) (old more : List Stretch) → AgreeBefore cut fs es → from ≤ cut → cut ≤ i → AreAsked es from i ds → AreKept es from old → All (IsKept fs cut) more → ((j : ℕ) → is_asked (demands_to cut ds) j ≡ true → list_any (λ (s : Stretch). is_asked s.demands.items j) more ≡ true) → sum_by (λ (s : Stretch). asked_by s.demands.items) more ≡ asked_by (demands_to cut ds) → AreKept fs cut (old ++ more)
+kept_more es fs from i cut ds old more agree since upto h before kept has few = record {
+  kept = All-append (IsKept fs cut) old more (All-weaker (IsKept es from) (IsKept fs cut) (λ s. kept_agree es fs from cut s agree since) old before.kept) kept;
+  asked = λ j lt asks.
+      let same = ap needs_of (agree j lt) in
+      list_any-append (λ (s : Stretch). is_asked s.demands.items j) old more ∙ elim (cases_lt j from) [
+        | inl early ↦ or_left _ _ (before.asked j early (omega (arith, asks)))
+        | inr late ↦ or_right _ _ (has j (any-filter_same (λ (d : Demand). d.at == j) (λ (d : Demand). nat_lt d.at cut) true (λ d e. lt_yes d.at cut (omega (arith, eqb-true d.at j e))) ds ∙ h.asked j late (omega arith) (omega (arith, asks))))
+      ];
+  few = omega (arith, sum_by-append (λ (s : Stretch). asked_by s.demands.items) old more, before.few, h.few cut since upto, needs_agree cut fs es agree);
 }
 
--- the demand of a slot before position i, as the mentions show it
-abbrev IsToldBy : List Entry → ℕ → List Mention → Demand → Type 0
-IsToldBy es i ns d = HasBlock d × (d.at < i) × IsDemandBy es ns d
+-- a field cycle asks for nothing
+pub kept_cycle : (es : List Entry) (i : ℕ) (ss : List Stretch) (e : Entry) → slice_get es i ≡ Some e → needs e ≡ 0 → AreKept es i ss → AreKept es (i + 1) ss
+kept_cycle es i ss e k none h =
+    subst (AreKept es (i + 1)) (append-nil ss) (kept_more es es i (i + 1) (i + 1) [] ss [] (λ j lt. refl) (omega arith) (omega arith) (asked_nothing es i i [] e (omega arith) k none (asked_anew es i)) h (All-nil (IsKept es (i + 1))) (λ j a. a) refl)
 
 -- the demands of a stretch up to a cut are kept
 pub kept_to : (es fs : List Entry) (from i cut : ℕ) (ns ms : List Mention) (ds : List Demand) (old new : List Stretch) → AgreeBefore cut fs es → from ≤ cut → cut ≤ i → HaveKeys ns → ((j u : ℕ) → from ≤ j → j ≤ i → IsUid u → is_quiet_by ns (mirror u) j ≡ is_quiet es j u) → ArePutInOrder ns ms → Keeps ms ds cut old new → AreAsked es from i ds → AreKept es from old → AreKept fs cut new
 kept_to es fs from i cut ns ms ds old new agree since upto keys quiet order keeps h before = elim keeps [
-  | inl w ↦ subst (AreKept fs cut) (append-nil old ∙ sym w.0) (with [] (All-nil (IsKept fs cut)) (λ j a. ap (λ xs. is_asked xs j) (sym w.1) ∙ a) (ap asked_by (sym w.1)))
+  | inl w ↦ subst (AreKept fs cut) (append-nil old ∙ sym w.0) (kept_more es fs from i cut ds old [] agree since upto h before (All-nil (IsKept fs cut)) (λ j a. ap (λ xs. is_asked xs j) (sym w.1) ∙ a) (ap asked_by (sym w.1)))
   | inr w ↦
       let s : Stretch = w.0 in
-      let told = All-permutation (IsToldBy fs cut ms) asked s.demands.items w.3 all_told in
-      subst (AreKept fs cut) (sym w.1) (with (s ∷ []) (All-cons (IsKept fs cut) s [] (record {
+      let asked = demands_to cut ds in
+      let told = All-permutation (IsDemand es from cut) asked s.demands.items w.3 (λ k d below. demand_to es from i cut (get_or asked k d) (lt_from _ _ (filter_passes (λ (x : Demand). nat_lt x.at cut) ds k d below)) (All-filter (λ (x : Demand). nat_lt x.at cut) (IsDemand es from i) ds h.demands k d below)) in
+      let kept : IsKept fs cut s = record {
         mentions = record { order = rw w.2 order.order; keys = rw w.2 (order.keys keys) };
-        blocks = λ k d below. (told k d below).0;
-        places = λ k d below. (told k d below).1;
-        demands = rw w.2 (λ k d below. (told k d below).2);
-      }) (All-nil (IsKept fs cut))) (λ j a. or_left _ _ (sym (list_any-IsPermutation (λ (d : Demand). d.at == j) asked s.demands.items w.3) ∙ a)) (omega (arith, sum_by-IsPermutation (λ (d : Demand). d.need) asked s.demands.items w.3)))
+        blocks = λ k d below. (told k d below).block;
+        places = λ k d below. (told k d below).before;
+        demands = rw w.2 (All-weaker (IsDemand es from cut) (IsDemandBy fs ms) shown s.demands.items told);
+      } in
+      subst (AreKept fs cut) (sym w.1) (kept_more es fs from i cut ds old (s ∷ []) agree since upto h before (All-cons (IsKept fs cut) s [] kept (All-nil (IsKept fs cut)))
+      (λ j a. or_left _ _ (sym (list_any-IsPermutation (λ (d : Demand). d.at == j) asked s.demands.items w.3) ∙ a))
+      (omega (arith, sum_by-IsPermutation (λ (d : Demand). d.need) asked s.demands.items w.3)))
 ] where
-  asked : List Demand
-  asked = demands_to cut ds
-
-  all_told : All (IsToldBy fs cut ms) asked
-  all_told k c below =
-      let d = get_or asked k c in
-      let it : IsDemand es from i d = All-filter (λ (x : Demand). nat_lt x.at cut) (IsDemand es from i) ds h.demands k c below in
-      let early : d.at < cut = lt_from _ _ (filter_passes (λ (x : Demand). nat_lt x.at cut) ds k c below) in
-      (it.block, early, demand_agrees es fs cut ms d agree early (record {
-        asked = it.asked;
-        need = it.need;
-        answers = λ u w.
-            ap (λ b. b && not (is_quiet_by ms (mirror u) d.at)) (it.inside u w)
-            ∙ ap (λ b. lies_in_some (mask_at es d.at) u && not b) (order.quiet (mirror u) d.at ∙ quiet d.at u it.since (omega arith) w);
-      }))
-
-  -- with some stretches more that have these demands
-  with : (more : List Stretch) → All (IsKept fs cut) more → ((j : ℕ) → is_asked asked j ≡ true → list_any (λ (s : Stretch). is_asked s.demands.items j) more ≡ true) → sum_by (λ (s : Stretch). asked_by s.demands.items) more ≡ asked_by asked → AreKept fs cut (old ++ more)
-  with more kept has few = record {
-    kept = All-append (IsKept fs cut) old more (All-weaker (IsKept es from) (IsKept fs cut) (λ s. kept_agree es fs from cut s agree since) old before.kept) kept;
-    asked = λ j lt asks.
-        let same = ap needs_of (agree j lt) in
-        list_any-append (λ (s : Stretch). is_asked s.demands.items j) old more ∙ elim (cases_lt j from) [
-          | inl early ↦ or_left _ _ (before.asked j early (omega (arith, asks)))
-          | inr late ↦ or_right _ _ (has j (any-filter_same (λ (d : Demand). d.at == j) (λ (d : Demand). nat_lt d.at cut) true (λ d e. lt_yes d.at cut (omega (arith, eqb-true d.at j e))) ds ∙ h.asked j late (omega arith) (omega (arith, asks))))
-        ];
-    few = omega (arith, sum_by-append (λ (s : Stretch). asked_by s.demands.items) old more, before.few, h.few cut since upto, needs_agree cut fs es agree);
-  }
+  shown : (d : Demand) → IsDemand es from cut d → IsDemandBy fs ms d
+  shown d it = demand_agrees es fs cut ms d agree it.before (record {
+    asked = it.asked;
+    need = it.need;
+    answers = λ u w.
+        ap (λ b. b && not (is_quiet_by ms (mirror u) d.at)) (it.inside u w)
+        ∙ ap (λ b. lies_in_some (mask_at es d.at) u && not b) (order.quiet (mirror u) d.at ∙ quiet d.at u it.since (omega (arith, it.before)) w);
+  })
 
 pub kept_in_order : (es : List Entry) (i : ℕ) (ss : List Stretch) → AreKept es i ss → All HasMentionsInOrder ss
 kept_in_order es i ss h k s below = (h.kept k s below).mentions
@@ -308,10 +267,6 @@ found_more es ss s ds old new all m h = record {
 
 needs_within : (es : List Entry) (j : ℕ) → 0 < needs_at es j → j < length es
 needs_within es j some = ⊎_elim (λ lt. lt) (λ past. absurd (let none = ap needs_of (slice_get_past es j past) in omega (arith, some))) (cases_lt j (length es))
-
--- one that passes, of which P holds as it does of all
-one_of : {X : Type 0} (P : X → Type 0) (test : X → Bool) (xs : List X) → All P xs → list_any test xs ≡ true → (x : X) × P x × (test x ≡ true)
-one_of P test xs all e = let w = Any-from_list_any test xs e in (w.1, subst P w.3 (all w.0 w.1 w.2), w.4)
 
 pub found_all : (es : List Entry) (ss : List Stretch) (fs : List Found) → AreKept es (length es) ss → AreFoundTo es ss fs → AreFound es fs
 found_all es ss fs kept h = record {

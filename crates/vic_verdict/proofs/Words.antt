@@ -8,8 +8,8 @@ pub use Rattle.std.proofs.lemmas.Bool.Decides.{nat_tests}
 pub use Rattle.std.proofs.lemmas.Cmp.{nat_eq_equiv}
 pub use Rattle.std.proofs.lemmas.Fn.{filter_same}
 pub use Rattle.std.proofs.lemmas.Grind.{common_steps}
-pub use Rattle.std.proofs.lemmas.List.{drop-map, drop_more, get_or-map, get_or_append_left, get_or_default, length-map, map-append, nil_from_length, take-map, take_more}
-pub use Rattle.std.proofs.lemmas.List.Elements.{All-append, All-cons, All-drop, All-filter, All-from_get_or, All-head, All-map, All-more, All-nil, All-push, All-tail, All-take, All-weaker, filter_more, filter_passes}
+pub use Rattle.std.proofs.lemmas.List.{drop-map, drop_more, get_or-map, get_or_append_left, get_or_default, length-map, map-append, map_more, nil_from_length, take-map, take_more}
+pub use Rattle.std.proofs.lemmas.List.Elements.{All-append, All-cons, All-drop, All-filter, All-from_get_or, All-head, All-map, All-more, All-nil, All-push, All-tail, All-take, All-weaker, filter-append, filter_more, filter_passes}
 pub use Rattle.std.proofs.lemmas.List.Filters.{sum_by-filter_both}
 pub use Rattle.std.proofs.lemmas.List.Folds.{Any-from_list_any, list_all_at, list_all_more, list_any-append, list_any-from_Any, list_any_at, list_any_more, list_any_none, map_fixed}
 pub use Rattle.std.proofs.lemmas.List.Kept.{AllPairs-from_increasing, IsStrictlyIncreasing-filter}
@@ -40,7 +40,7 @@ pub use Rattle.vic_log.proofs.Meeting.{MeetsAll}
 pub use Rattle.vic_log.proofs.Order.{IsInOrder-front, still_there}
 pub use Rattle.vic_log.proofs.Places.{AgreeBefore, CouldHaveGiven-front, CouldHaveGiven-slots, answers_agree}
 pub use Rattle.vic_log.proofs.Push.{entries_next, listed-append}
-pub use Rattle.vic_log.proofs.Quiet.{quiet-silenced}
+pub use Rattle.vic_log.proofs.Quiet.{quiet-silenced, silenced-quiet}
 pub use Rattle.vic_log.proofs.Sets.{AreDifferent-filter, AreDifferent-population, IsPopulation-with_member, IsUid-member, IsWithin, filter_has, has_at, has_cases, has_filter, has_here, has_there, has_with_member, insert_if, with_member, with_member_cases, with_member_keeps}
 pub use Rattle.vic_log.proofs.Supply.{IsUid-from, MeetsAll-iff, SuppliesAll-within, asks_within, fits_asks, is_uid_from}
 pub use Rattle.vic_log.specs.FirstVersion.{AreOfFirstVersion, CouldHaveGivenFirst}

@@ -1,25 +1,29 @@
-use Rattle.vic_verdict.proofs.Words.{◌<◌, ◌≤◌, length, sym, ◌∙◌, subst, arith, eqb-true, take_all, false≢true, Gathers, IsReadyIn, gathers_full}
-use Rattle.vic_verdict.proofs.Ready.{gathers_none, ready_more, ready_other, ready_so_far}
+use Rattle.vic_verdict.proofs.Words.{has, IsUid, and_from, and_parts, ap, both_ways, eq-eqb, eqb-true, le-ltb, lt_yes, not, subst, sym, take_all, uid_of, uid_of_mirror, ◌<◌, ◌∙◌, ◌≤◌, List, [], false, false≢true, refl, ℕ, ◌≡◌, Mention, is_awake, mirror, ◌&&◌, ◌==◌}
+use Rattle.vic_verdict.proofs.Ready.{gathers_none, told_more, told_full}
+use Rattle.vic_verdict.proofs.Sweeping.{nobody}
 use Rattle.vic_verdict.proofs.answering.gather_ready.Goals as goal
 use Rattle.vic_verdict.proofs.answering.gather_ready.Goals.{then-at-quiet, else-at-quiet}
 
 pub loop-mention-init : goal.loop-mention-init
-loop-mention-init c = gathers_none _ c.args.uids.now.items (λ u l p. absurd (false≢true p.1))
+loop-mention-init c = gathers_none _ c.args.uids.now.items (λ u p. false≢true p.1)
 
 pub loop-mention-preserved : goal.loop-mention-preserved
 loop-mention-preserved c =
-    let ns = c.args.mentions.now in
-    let i = c.loop-mention.mention-index in
-    let at = c.args.at in
-    let old = c.args.uids.now.items in
+    let tells = λ (u : ℕ) (n : Mention). (n.key == mirror u) && is_awake c.args.at n in
+    let more = λ (Q : ℕ → Type 0) (new : List ℕ). told_more IsUid Q tells c.args.mentions.now c.loop-mention.mention-index nobody c.args.uids.now.items c.loop-mention.uids.items new c.loop-mention-test.true in
     elim c.if-at-quiet.branch [
-      | then-at-quiet w ↦ rw w.uids-is (ready_more ns old c.loop-mention.uids.items _ i w.uid_at.result at c.loop-mention-test.true w.uid_at.ensures.is_uid w.uid_at.ensures.back (subst (λ q. at ≤ q) c.quiet.ensures w.if-at-quiet.true) c.loop-mention.invariant w.gather_one.ensures)
-      | else-at-quiet w ↦ rw w.uids-is (ready_other ns old c.loop-mention.uids.items i at c.loop-mention-test.true (subst (λ q. q < at) c.quiet.ensures w.if-at-quiet.false) c.loop-mention.invariant)
+      | then-at-quiet w ↦
+          let uid = w.uid_at.ensures in
+          rw w.uids-is (more (λ u. (u ≡ w.uid_at.result) × (has [] u ≡ false)) _
+          (λ u q. rw q.0 (uid.is_uid, and_from _ _ (eq-eqb _ _ (sym uid.back)) (ap not (le-ltb _ _ (subst (λ q. c.args.at ≤ q) c.quiet.ensures w.if-at-quiet.true)))))
+          (λ u v e. (sym (uid_of_mirror u v) ∙ (ap uid_of (sym (eqb-true _ _ (and_parts _ _ e).0) ∙ sym uid.back) ∙ uid_of_mirror _ uid.is_uid), refl))
+          c.loop-mention.invariant w.gather_one.ensures)
+      | else-at-quiet w ↦ rw w.uids-is (more (λ u. ⊥) _ (λ u q. absurd q) (λ u v e. both_ways _ (ap not (lt_yes _ _ (subst (λ q. q < c.args.at) c.quiet.ensures w.if-at-quiet.false))) (and_parts _ _ e).1) c.loop-mention.invariant (gathers_none (λ u. ⊥) _ (λ u q. q)))
     ]
 
 pub returns-then-is_full : goal.returns-then-is_full
 returns-then-is_full c =
-    gathers_full _ _ _ _ (λ u p. ready_so_far c.args.mentions.now c.loop-mention.mention-index c.args.at u p) (omega (arith, eqb-true (length c.loop-mention.uids.items) 3 (sym c.is_full.ensures.value ∙ c.if-is_full.true))) c.loop-mention.invariant
+    told_full IsUid _ c.args.mentions.now c.loop-mention.mention-index c.args.uids.now.items c.loop-mention.uids.items (sym c.is_full.ensures.value ∙ c.if-is_full.true) c.loop-mention.invariant
 
 pub returns : goal.returns
-returns c = subst (λ ns. Gathers (IsReadyIn ns c.args.at) c.args.uids.now.items c.loop-mention.uids.items) (take_all c.loop-mention.mention-index c.args.mentions.now c.loop-mention-test.false) c.loop-mention.invariant
+returns c = rw (take_all c.loop-mention.mention-index c.args.mentions.now c.loop-mention-test.false) at c.loop-mention.invariant

@@ -1,5 +1,5 @@
-use Rattle.vic_verdict.proofs.Words.{◌≡◌, ◌^◌, ◌<◌, ◌≤◌, ℕ, Bool, List, length, get_or, map, true, false, not, ◌&&◌, sym, ap, ◌∙◌, arith, nat_lt, le-ltb, and_from, and_right, get_or-map, length-map, uid_of, lt_yes, Mention, NEVER, is_ready_at, is_quiet_by, quiet_of, All-map}
-use Rattle.vic_verdict.proofs.Ready.{open_first, open_same, open_other, open_more, open_all, ready_key, keys_order}
+use Rattle.vic_verdict.proofs.Words.{◌≡◌, ◌^◌, ◌<◌, ◌≤◌, ℕ, Bool, List, length, get_or, map, true, false, not, ◌&&◌, sym, ap, ◌∙◌, arith, nat_lt, le-ltb, and_from, and_right, get_or-map, length-map, uid_of, lt_yes, Mention, NEVER, is_ready_at, All-map, is_mentioned, is_open, refl, take, rules, take_all}
+use Rattle.vic_verdict.proofs.Ready.{same_before, open_other, open_more, ready_key, keys_order}
 use Rattle.vic_verdict.proofs.Replying.{at, tells_own}
 use Rattle.vic_verdict.proofs.Sweeping.{nobody, start_here}
 use Rattle.vic_verdict.proofs.answering.open_mentions.Goals as goal
@@ -8,16 +8,13 @@ use Rattle.vic_verdict.proofs.answering.open_mentions.Goals.{then-i-eq0+then-fro
 -- whether a UID is open, by the key of its mention
 open_at : (is_left : ℕ → Bool) (ns : List Mention) (ks : List ℕ) (bs : List Bool) (i : ℕ) (b : Bool) → ks ≡ map (λ (n : Mention). n.key) ns → bs ≡ map (λ k. is_left (uid_of k)) ks → i < length ns → b ≡ get_or bs i b → b ≡ is_left (uid_of (at ns i).key)
 open_at is_left ns ks bs i b keys is lt read =
-    read
-    ∙ ap (λ xs. get_or xs i b) is
-    ∙ get_or-map (λ k. is_left (uid_of k)) ks i 0 b (rw (keys, length-map) lt)
-    ∙ ap (λ k. is_left (uid_of k)) (rw keys (get_or-map (λ (n : Mention). n.key) ns i nobody 0 lt))
+    read ∙ rw (is, keys, get_or-map (λ k. is_left (uid_of k)) (map (λ (n : Mention). n.key) ns) i 0 b (omega (arith, length-map ns (λ (n : Mention). n.key))), get_or-map (λ (n : Mention). n.key) ns i nobody 0 lt) refl
 
 pub has_each-requires : goal.has_each-requires
 has_each-requires g c = rw c.requires.keys record { order = keys_order c.args.mentions.now c.requires.order; keys = All-map (λ k. k < 2 ^ 56) (λ (n : Mention). n.key) c.args.mentions.now c.requires.mentioned }
 
 pub loop-i-init : goal.loop-i-init
-loop-i-init g c = rw c.new-mentioned.ensures.items (open_first _ _)
+loop-i-init g c = rw c.new-mentioned.ensures.items (search (rules, arith))
 
 pub mentions_between-requires-clause-start : goal.mentions_between-requires-clause-start
 mentions_between-requires-clause-start g c =
@@ -34,30 +31,33 @@ loop-i-preserved g c =
     let upto : from ≤ NEVER = omega (arith, c.ranges.from.fits) in
     let is_left = g.S.OpenSet.is_open c.args.set.now in
     let set = is_ready_at is_left ns from in
+    let key = (at ns i).key in
     let small = c.requires.mentioned i nobody c.loop-i-test.true in
     elim c.if-i-eq0.branch [
       | then-i-eq0+then-from-quiet+then-index+in_ok-push w ↦
-          let o : Mention = w.mention_quiet_after.result in
-          let key : o.key ≡ (at ns i).key = w.mention_quiet_after.ensures.key in
           let own = w.mentions_between.ensures in
-          let quiet : (j : ℕ) → j < 2 ^ 32 → nat_lt (quiet_of o) j ≡ is_quiet_by ns o.key j = λ j small.
-          w.mention_quiet_after.ensures.quiet j small
-          ∙ (sym (tells_own ns w.mentions_between.result.now (at ns i).key w.first_quiet-quiet.result j own.inside own.all (w.first_quiet-quiet.ensures j (omega arith)))
-          ∙ ap (λ k. is_quiet_by ns k j) (sym key)) in
+          let quiet = w.first_quiet-quiet.result in
           let is_open = sym (open_at is_left ns _ _ i _ c.requires.keys c.in_ok-is_open.ensures c.loop-i-test.true w.index.ensures) ∙ w.if-index.true in
-          let is_in : set (uid_of o.key) ≡ true = ap (λ k. set (uid_of k)) key ∙ (ready_key is_left ns _ from _ _ small own.inside own.all (w.first_quiet-quiet.ensures from upto) ∙ and_from _ _ is_open (ap not (le-ltb _ from w.if-from-quiet.true))) in
-          rw w.mentioned-is (open_more set ns i c.loop-i.mentioned.items w.push.new.self.items o c.requires.order c.requires.mentioned c.loop-i-test.true key is_in quiet w.in_ok-push.ensures.items c.loop-i.invariant)
+          rw (w.mentioned-is, w.in_ok-push.ensures.items) (open_more set ns i c.loop-i.mentioned.items w.mention_quiet_after.result c.requires.order c.requires.mentioned c.loop-i-test.true w.mention_quiet_after.ensures.key
+          (ready_key is_left ns _ from key quiet small own.inside own.all (w.first_quiet-quiet.ensures from upto) ∙ and_from _ _ is_open (ap not (le-ltb quiet from w.if-from-quiet.true)))
+          (λ j early. w.mention_quiet_after.ensures.quiet j early ∙ sym (tells_own ns w.mentions_between.result.now key quiet j own.inside own.all (w.first_quiet-quiet.ensures j (omega arith))))
+          c.loop-i.invariant)
       | then-i-eq0+else-from-quiet w ↦
           let own = w.mentions_between.ensures in
-          let key = (at ns i).key in
           let quiet = w.first_quiet-quiet.result in
           let out : (is_left (uid_of key) && not (nat_lt quiet from)) ≡ false = elim w.else-from-quiet.branch [
             | else-from-quiet-via-then-from-quiet+else-index w' ↦ ap (λ b. b && not (nat_lt quiet from)) (sym (open_at is_left ns _ _ i _ c.requires.keys c.in_ok-is_open.ensures c.loop-i-test.true w'.index.ensures) ∙ w'.if-index.false)
             | else-from-quiet-via-else-from-quiet w' ↦ and_right (is_left (uid_of key)) _ (ap not (lt_yes quiet from w'.if-from-quiet.false))
           ] in
-          rw w.mentioned-is (open_other set ns i c.loop-i.mentioned.items c.loop-i-test.true (ready_key is_left ns _ from key quiet small own.inside own.all (w.first_quiet-quiet.ensures from upto) ∙ out) c.loop-i.invariant)
-      | else-i-eq0+else-mentions-i w ↦ let some = w.if-i-eq0.false in rw w.mentioned-is (open_same set ns i c.loop-i.mentioned.items c.requires.order (omega arith) c.loop-i-test.true w.if-mentions-i.false c.loop-i.invariant)
+          rw w.mentioned-is (open_other set ns i c.loop-i.mentioned.items c.loop-i-test.true (ap (λ b. b && not (is_mentioned (take i ns) key)) (ready_key is_left ns _ from key quiet small own.inside own.all (w.first_quiet-quiet.ensures from upto) ∙ out)) c.loop-i.invariant)
+      | else-i-eq0+else-mentions-i w ↦ rw w.mentioned-is (open_other set ns i c.loop-i.mentioned.items c.loop-i-test.true (and_right (set (uid_of key)) _ (ap not (same_before ns i c.requires.order (omega (arith, w.if-i-eq0.false)) c.loop-i-test.true w.if-mentions-i.false))) c.loop-i.invariant)
     ]
 
 pub returns : goal.returns
-returns g c = open_all (is_ready_at (g.S.OpenSet.is_open c.args.set.now) c.args.mentions.now c.args.from) c.args.mentions.now c.loop-i.i c.loop-i.mentioned.items c.loop-i-test.false c.loop-i.invariant
+returns g c =
+    let h = c.loop-i.invariant in
+    record {
+      order = h.order;
+      keys = h.keys;
+      members = rw (take_all c.loop-i.i c.args.mentions.now c.loop-i-test.false) at h.members;
+    }

@@ -1,4 +1,4 @@
-use Rattle.vic_verdict.proofs.Words.{◌∙◌, ap, sym, List, ℕ, ◌&&◌, nat_le, nat_lt, list_any, mirror, quiet_of, is_quiet_by, IfOk-weaker}
+use Rattle.vic_verdict.proofs.Words.{◌∙◌, ap, sym, ◌&&◌, nat_le, nat_lt, quiet_of, IfOk-weaker}
 use Rattle.vic_verdict.proofs.Ready.{first_answering, answering_inside}
 use Rattle.vic_verdict.proofs.answering.up_to_three_answering.Goals as goal
 
@@ -6,18 +6,16 @@ pub returns-then-not-is_any_quiet-clause-uids : goal.returns-then-not-is_any_qui
 returns-then-not-is_any_quiet-clause-uids g c =
     let b = c.args.block.now in
     let at = c.args.at in
+    let set = g.S.OpenSet.is_open c.args.set.now in
     let inside = c.mentions_between-inside.result.now in
-    first_answering (g.S.OpenSet.is_open c.args.set.now) c.args.mentions.now inside b at c.mask_of_keys.result c.up_to_three-uids.result.items
-    c.mask_of_keys.ensures.inside
-    (λ u w lies. c.mentions_between-inside.ensures.all (λ n. nat_lt (quiet_of n) at) (mirror u) (ap (λ n. nat_le b.first (mirror u) && nat_le (mirror u) n) c.last.ensures ∙ (sym (c.mask_of_keys.ensures.inside u) ∙ lies)))
-    c.up_to_three-uids.ensures
-    (ap (λ (us : List ℕ). list_any (λ u. is_quiet_by inside (mirror u) at) us) (sym c.deref.ensures.0) ∙ (sym c.is_any_quiet.ensures ∙ c.if-not-is_any_quiet.true))
+    let us = c.up_to_three-uids.result.items in
+    answering_inside set c.args.mentions.now inside b at us (λ k lies. c.mentions_between-inside.ensures.all (λ n. nat_lt (quiet_of n) at) k (ap (λ n. nat_le b.first k && nat_le k n) c.last.ensures ∙ lies))
+    (first_answering set inside b at c.mask_of_keys.result us c.mask_of_keys.ensures.inside c.up_to_three-uids.ensures (rw c.deref.ensures.0 at (sym c.is_any_quiet.ensures ∙ c.if-not-is_any_quiet.true)))
 
 pub returns-then-spends-clause-uids : goal.returns-then-spends-clause-uids
 returns-then-spends-clause-uids g c =
     let b = c.args.block.now in
     let at = c.args.at in
     IfOk-weaker c.answering.result _ _
-    (λ uids. answering_inside (g.S.OpenSet.is_open c.args.set.now) c.args.mentions.now c.mentions_between-inside.result.now b at uids.items
-    (λ k lies. c.mentions_between-inside.ensures.all (λ n. nat_lt (quiet_of n) at) k (ap (λ n. nat_le b.first k && nat_le k n) c.last.ensures ∙ lies)))
+    (λ uids. answering_inside (g.S.OpenSet.is_open c.args.set.now) c.args.mentions.now c.mentions_between-inside.result.now b at uids.items (λ k lies. c.mentions_between-inside.ensures.all (λ n. nat_lt (quiet_of n) at) k (ap (λ n. nat_le b.first k && nat_le k n) c.last.ensures ∙ lies)))
     c.answering.ensures.uids
