@@ -1,5 +1,5 @@
 -- What meets the demands of a stretch.
-use Rattle.vic_verdict.proofs.Words.{◌≡◌, ℕ, zero, suc, ◌+◌, ◌<◌, ◌≤◌, ◌++◌, List, [], ◌∷◌, length, take, get_or, length-append, Bool, true, not, ◌&&◌, Option, Some, None, refl, sym, ap, ◌∙◌, subst, arith, inl, inr, ⊎_elim, ◌⊎◌, ◌==◌, nat_lt, slice_get, All, Any, sum_by, eq-eqb, eqb-true, le-ltb, list_all, list_any, cases_eq, cases_lt, and_parts, and_from, or_left, or_right, slice_get_within, All-push, list_any-append, All-permutation, list_any-IsPermutation, IsUid, is_uid, mirror, SameUids, UpToThree, Entry, Collision, Garbled, mask_at, lies_in_some, is_quiet, answers_at, ManyReplies, SomeReply, slots_of, is_open, AgreeBefore, answers_agree, IsUid-from, lt_yes, lt_from, Demand, Found, Stretch, Mention, Lacks, answering, HaveKeys, is_quiet_by, ArePutInOrder, needs, needs_of, IsFound, IsDemandBy, AreFound, AreKept, get_or_append_left, All-filter, filter_passes, get_or_from_slice_get, slice_get_past, allows, IsDemand, answers_by, IsUnmet, IsUnmetAt, IsImpliedBy, IsAskedAgain, HasBlock, HasBlocks, HasKeysAt, HasMentionsInOrder, IsKept, Keeps, AreMet, AreAsked, asked_by, demands_to, is_asked, any-filter_same, Any-push, sum_by-cons, sum_by_more, sum_by_push, sum_by-take-le, sum_by-IsPermutation, needs_at, all_needs, Meets, All-append, All-cons, All-more, All-nil, All-weaker, append-nil, sum_by-append, sum_by-filter_both, take_all, filter-append, rules}
+use Rattle.vic_verdict.proofs.Words.{◌≡◌, ℕ, zero, suc, ◌+◌, ◌<◌, ◌≤◌, ◌++◌, List, [], ◌∷◌, length, take, get_or, length-append, Bool, true, not, ◌&&◌, Option, Some, refl, sym, ap, ◌∙◌, subst, arith, inl, inr, ⊎_elim, ◌⊎◌, ◌==◌, nat_lt, slice_get, All, Any, sum_by, eq-eqb, eqb-true, le-ltb, list_any, cases_eq, cases_lt, and_parts, and_from, or_left, or_right, slice_get_within, All-push, list_any-append, All-permutation, list_any-IsPermutation, IsUid, is_uid, mirror, SameUids, UpToThree, Entry, Collision, Garbled, mask_at, lies_in_some, is_quiet, ManyReplies, SomeReply, slots_of, is_open, AgreeBefore, answers_agree, IsUid-from, lt_yes, lt_from, Demand, Found, Stretch, Mention, Lacks, answering, HaveKeys, is_quiet_by, ArePutInOrder, needs, needs_of, IsFound, IsDemandBy, AreFound, AreKept, get_or_append_left, All-filter, filter_passes, get_or_from_slice_get, slice_get_past, IsDemand, answers_by, IsUnmet, IsUnmetAt, IsImpliedBy, IsAskedAgain, HasBlock, HasBlocks, HasKeysAt, HasMentionsInOrder, IsKept, Keeps, AreMet, AreAsked, asked_by, demands_to, is_asked, any-filter_same, Any-push, sum_by-cons, sum_by_more, sum_by_push, sum_by-take-le, sum_by-IsPermutation, needs_at, all_needs, Meets, All-append, All-cons, All-more, All-nil, All-weaker, append-nil, sum_by-append, sum_by-filter_both, take_all, filter-append, rules}
 use Rattle.vic_verdict.proofs.Ready.{one_of}
 use Rattle.vic_verdict.proofs.Silencing.{silenced_later}
 use Rattle.vic_verdict.proofs.Entries.{asks_two_iff, asks_one_iff}
@@ -13,12 +13,11 @@ ready_of set ns d u = (is_uid u && set u) && answers_by ns d u
 
 -- ---- a demand that is met
 
-told_answers : (i s o a b : Bool) → (i ≡ true → s ≡ (i && o)) → (i ≡ true → a ≡ b) → ((i && s) && a) ≡ ((i && o) && b)
-told_answers i s o a b f g = grind (arith, f, g)
-
 found_answers : (es : List Entry) (set : ℕ → Bool) (ns : List Mention) (d : Demand) (us : List ℕ) → SameUids set (is_open (slots_of es)) → IsDemandBy es ns d → UpToThree (ready_of set ns d) us → UpToThree (answering (is_open (slots_of es)) es d.at) us
-found_answers es set ns d us same h found =
-    UpToThree-same (ready_of set ns d) (answering (is_open (slots_of es)) es d.at) us (λ u. told_answers (is_uid u) (set u) (list_all (allows u) (slots_of es)) (answers_by ns d u) (answers_at es d.at u) (λ e. same u (IsUid-from u e)) (λ e. h.answers u (IsUid-from u e))) found
+found_answers es set ns d us same h found = UpToThree-same (ready_of set ns d) (answering (is_open (slots_of es)) es d.at) us (λ u.
+    let open_too = λ (e : is_uid u ≡ true). same u (IsUid-from u e) in
+    let answers = λ (e : is_uid u ≡ true). h.answers u (IsUid-from u e) in
+    grind (arith, open_too, answers)) found
 
 -- what the next demand of the same mask is met by meets this one too
 meets_again : (es : List Entry) (ns : List Mention) (d next : Demand) (f : Found) → IsDemandBy es ns d → IsDemandBy es ns next → IsImpliedBy d next → Meets es f next.at → Meets es f d.at
@@ -27,18 +26,18 @@ meets_again es ns d next f h g said m = record {
   answer = λ u k.
       let w = and_parts _ _ (m.answer u k) in
       let uid = IsUid-from u (and_parts (is_uid u) _ w.0).0 in
-      and_from _ _ w.0 (sym (h.answers u uid) ∙ still u (g.answers u uid ∙ w.1));
-} where
-  still : (u : ℕ) → answers_by ns next u ≡ true → answers_by ns d u ≡ true
-  still u e = let later = silenced_later ns (mirror u) d.at next.at said.later in rw (said.first, said.len) (grind arith)
+      let later = silenced_later ns (mirror u) d.at next.at said.later in
+      let there = g.answers u uid ∙ w.1 in
+      let here : answers_by ns d u ≡ true = rw (said.first, said.len) (grind arith) in
+      and_from _ _ w.0 (sym (h.answers u uid) ∙ here);
+}
 
 -- ---- a demand that is not
 
 pub asked_two_or_one : (o : Option Entry) (n : ℕ) → needs_of o ≡ n → 0 < n → ((o ≡ Some Collision) × (n ≡ 2)) ⊎ ((o ≡ Some Garbled) × (n ≡ 1))
-asked_two_or_one None n e lt = absurd (omega arith)
 asked_two_or_one (Some Collision) n e lt = inl (refl, sym e)
 asked_two_or_one (Some Garbled) n e lt = inr (refl, sym e)
-asked_two_or_one (Some x) n e lt = absurd (omega arith)
+asked_two_or_one o n e lt = absurd (omega arith)
 
 pub unmet_lacks : (es : List Entry) (set : ℕ → Bool) (ns : List Mention) (ds : List Demand) (at : ℕ) → SameUids set (is_open (slots_of es)) → All (IsDemandBy es ns) ds → IsUnmetAt set ns ds at → Lacks es at
 unmet_lacks es set ns ds at same h w =
@@ -113,11 +112,6 @@ met_all es ds k old new end h = subst (λ cs. AreMet es cs old new) (take_all k 
 
 -- ---- an entry more
 
--- one entry more asks for what it asks for
-needs_more : (es : List Entry) (i : ℕ) (e : Entry) → slice_get es i ≡ Some e → all_needs (take (i + 1) es) ≡ all_needs (take i es) + needs e
-needs_more es i e k =
-    sum_by_more needs es i e (slice_get_within es i e k) ∙ ap (λ x. all_needs (take i es) + needs x) (get_or_from_slice_get es i e e k)
-
 -- up to position i they are all
 to_all : (i : ℕ) (ds : List Demand) → All (λ (d : Demand). d.at < i) ds → demands_to i ds ≡ ds
 to_all i [] h = refl
@@ -136,7 +130,8 @@ asked_next es from i ds more e begun k new late here need h = record {
   ];
   few = λ j since upto. elim (cases_eq j (i + 1)) [
     | inl end ↦
-        let needed = ap (λ n. all_needs (take n es)) end ∙ needs_more es i e k in
+        let needed = ap (λ n. all_needs (take n es)) end ∙ sum_by_more needs es i e (slice_get_within es i e k) in
+        let entry = ap needs (get_or_from_slice_get es i e e k) in
         let part = sum_by-filter_both (λ (d : Demand). nat_lt d.at j) (λ (d : Demand). not (nat_lt d.at j)) (λ d. refl) (λ (d : Demand). d.need) (ds ++ more) in
         let all = ap asked_by (to_all i ds (λ n d below. (h.demands n d below).before)) in
         omega (arith, h.few i begun (omega arith), sum_by-append (λ (d : Demand). d.need) ds more)
@@ -164,11 +159,7 @@ asked_more es from i ds new e d begun k need some block inside at is h =
 
 -- where a stretch begins
 pub asked_anew : (es : List Entry) (i : ℕ) → AreAsked es i i []
-asked_anew es i = record {
-  demands = λ k d below. absurd (omega arith);
-  asked = λ j since below some. absurd (omega arith);
-  few = λ j since upto. let e = ap (λ n. all_needs (take n es)) (let same : i ≡ j = omega arith in same) in omega arith;
-}
+asked_anew es i = search (rules, arith)
 
 -- ---- the stretches that are kept
 
@@ -181,8 +172,7 @@ needs_agree zero es fs agree = refl
 needs_agree (suc n) [] [] agree = refl
 needs_agree (suc n) (e ∷ es) (f ∷ fs) agree =
     omega (arith, sum_by-cons needs e (take n es), sum_by-cons needs f (take n fs), ap needs_of (agree 0 (omega arith)), needs_agree n es fs (λ j below. agree (suc j) (omega arith)))
-needs_agree (suc n) [] (f ∷ fs) agree = absurd (let none = agree 0 (omega arith) in cc)
-needs_agree (suc n) (e ∷ es) [] agree = absurd (let none = agree 0 (omega arith) in cc)
+needs_agree (suc n) es fs agree = absurd (let none = agree 0 (omega arith) in cc)
 
 demand_agrees : (es fs : List Entry) (cut : ℕ) (ns : List Mention) (d : Demand) → AgreeBefore cut fs es → d.at < cut → IsDemandBy es ns d → IsDemandBy fs ns d
 demand_agrees es fs cut ns d agree below h = record {
@@ -265,14 +255,12 @@ found_more es ss s ds old new all m h = record {
   few = omega (arith, m.few, h.few, ap asked_by all, sum_by_push (λ (x : Stretch). asked_by x.demands.items) ss s);
 }
 
-needs_within : (es : List Entry) (j : ℕ) → 0 < needs_at es j → j < length es
-needs_within es j some = ⊎_elim (λ lt. lt) (λ past. absurd (let none = ap needs_of (slice_get_past es j past) in omega (arith, some))) (cases_lt j (length es))
-
 pub found_all : (es : List Entry) (ss : List Stretch) (fs : List Found) → AreKept es (length es) ss → AreFoundTo es ss fs → AreFound es fs
 found_all es ss fs kept h = record {
   found = h.found;
   met = λ j some.
-      let s = one_of (λ (s : Stretch). All (λ (d : Demand). Any (λ (f : Found). Meets es f d.at) fs) s.demands.items) (λ (s : Stretch). is_asked s.demands.items j) ss h.met (kept.asked j (needs_within es j some) some) in
+      let within : j < length es = ⊎_elim (λ lt. lt) (λ past. absurd (let none = ap needs_of (slice_get_past es j past) in omega (arith, some))) (cases_lt j (length es)) in
+      let s = one_of (λ (s : Stretch). All (λ (d : Demand). Any (λ (f : Found). Meets es f d.at) fs) s.demands.items) (λ (s : Stretch). is_asked s.demands.items j) ss h.met (kept.asked j within some) in
       let d = one_of (λ (d : Demand). Any (λ (f : Found). Meets es f d.at) fs) (λ (d : Demand). d.at == j) s.0.demands.items s.1 s.2 in
       subst (λ n. Any (λ (f : Found). Meets es f n) fs) (eqb-true d.0.at j d.2) d.1;
   few = omega (arith, h.few, kept.few, sum_by-take-le needs es (length es));

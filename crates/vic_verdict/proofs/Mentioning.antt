@@ -1,5 +1,5 @@
 -- The mentions of entries, and who is Quiet by them.
-use Rattle.vic_verdict.proofs.Words.{◌≡◌, ℕ, min, zero, suc, ◌^◌, ◌<◌, ◌≤◌, ◌==◌, List, [], ◌∷◌, ◌++◌, Bool, true, false, ◌&&◌, ◌||◌, Option, Some, None, All, if◌then◌else◌, nat_le, nat_lt, slice_get, refl, sym, ap, ◌∙◌, subst, arith, inl, inr, eq-eqb, le-leb, ne_eqb, IsUid, is_uid, mirror, Entry, Heard, Sent, Reply, silences, wakes, is_quiet, is_quiet_by, quiet_of, Mention, nat_tests, is_uid_from, IsUid-from, uid_of, uid_of_mirror, cases_lt, cases_eq, both_ways, false≢true, list_any, list_any-append, or_left, or_right, HaveKeys, is_mentioned, All-nil, All-cons, All-append, list_all-from_AllPass, mirror_below, same_test, StayQuiet, mention_at, mentions_at, mentions_from, are_left, and_from, FieldCycle, NEVER, and_parts, eqb-true, lt-leb, lt_from, lt_yes, quiet-silenced, same_tests, silenced-quiet}
+use Rattle.vic_verdict.proofs.Words.{◌≡◌, ℕ, min, zero, suc, ◌^◌, ◌<◌, ◌≤◌, ◌==◌, List, [], ◌∷◌, ◌++◌, Bool, true, false, ◌&&◌, ◌||◌, Option, Some, None, All, if◌then◌else◌, nat_le, nat_lt, slice_get, refl, sym, ap, ◌∙◌, subst, arith, inl, inr, eq-eqb, le-leb, ne_eqb, IsUid, is_uid, mirror, Entry, Heard, Sent, Reply, silences, wakes, is_quiet, is_quiet_by, quiet_of, Mention, nat_tests, is_uid_from, IsUid-from, uid_of, uid_of_mirror, cases_lt, cases_eq, both_ways, false≢true, list_any, list_any-append, or_left, or_right, HaveKeys, is_mentioned, All-nil, All-cons, All-append, list_all-from_AllPass, mirror_below, same_test, StayQuiet, mention_at, mentions_at, mentions_from, are_left, and_from, FieldCycle, NEVER, and_parts, eqb-true, lt-leb, lt_from, lt_yes, quiet-silenced, same_tests, silenced-quiet, cases_Bool, ⊎_elim}
 use Rattle.vic_verdict.proofs.Ready.{one_of}
 
 -- ---- UIDs by their keys
@@ -18,14 +18,12 @@ mentions_next es from i since = rw (le-leb from i since) refl
 
 -- what is so of each mention that silences a UID, and of each that hears one
 mentions_by : (P : Mention → Type 0) (o : Option Entry) (i : ℕ) → ((u : ℕ) → IsUid u → silences o u ≡ true → P (mention_at (mirror u) i false)) → ((r : Reply) → o ≡ Some (Heard r) → P (mention_at (mirror r.uid) i true)) → All P (mentions_at o i)
-mentions_by P None i f g = All-nil P
 mentions_by P (Some (Heard r)) i f g = All-cons P _ [] (g r refl) (All-nil P)
-mentions_by P (Some (Sent (StayQuiet link uid))) i f g = go (is_uid uid) refl
-  where
-    go : (b : Bool) → is_uid uid ≡ b → All P (if b then mention_at (mirror uid) i false ∷ [] else [])
-    go true e = All-cons P _ [] (f uid (IsUid-from uid e) (eq-eqb uid uid refl)) (All-nil P)
-    go false e = All-nil P
-mentions_by P (Some e) i f g = All-nil P
+mentions_by P (Some (Sent (StayQuiet link uid))) i f g = elim (cases_Bool (is_uid uid)) [
+  | inl e ↦ rw e (All-cons P _ [] (f uid (IsUid-from uid e) (eq-eqb uid uid refl)) (All-nil P))
+  | inr e ↦ rw e (All-nil P)
+]
+mentions_by P o i f g = All-nil P
 
 pub mentions_each : (P : Mention → Type 0) (es : List Entry) (from i : ℕ) → ((j u : ℕ) → IsUid u → silences (slice_get es j) u ≡ true → from ≤ j → P (mention_at (mirror u) j false)) → ((j : ℕ) (r : Reply) → from ≤ j → j < i → slice_get es j ≡ Some (Heard r) → P (mention_at (mirror r.uid) j true)) → All P (mentions_from es from i)
 mentions_each P es from zero f g = All-nil P
@@ -69,8 +67,7 @@ silenced_here : (o : Option Entry) (k j u : ℕ) → k < j → IsUid u → silen
 silenced_here (Some (Sent (StayQuiet link uid))) k j u lt w e =
     let same : uid ≡ u = eqb-true uid u e in
     rw (same, is_uid_from u w) (or_left _ _ (and_from _ _ (eq-eqb (mirror u) (mirror u) refl) (lt_yes k j lt)))
-silenced_here None k j u lt w e = absurd (false≢true e)
-silenced_here (Some x) k j u lt w e = absurd (false≢true e)
+silenced_here o k j u lt w e = absurd (false≢true e)
 
 -- without a field cycle in between they show who is Quiet
 pub quiet_mentions : (es : List Entry) (from i j u : ℕ) → is_quiet es from u ≡ false → ((m : ℕ) → from ≤ m → m < i → wakes (slice_get es m) ≡ false) → from ≤ j → j ≤ i → i ≤ 2 ^ 32 → IsUid u → is_quiet_by (mentions_from es from i) (mirror u) j ≡ is_quiet es j u
@@ -93,8 +90,5 @@ quiet_mentions es from i j u ready awake since upto small w = same_tests _ _ tel
     told : is_quiet es j u ≡ true → is_quiet_by (mentions_from es from i) (mirror u) j ≡ true
     told e =
         let s = quiet-silenced es j u e in
-        let since : from ≤ s.0 = elim (cases_lt s.0 from) [
-          | inl lt ↦ absurd (both_ways _ ready (silenced-quiet es from u (s.0, lt, s.2, λ m after le. s.3 m after (omega arith))))
-          | inr ge ↦ ge
-        ] in
+        let since : from ≤ s.0 = ⊎_elim (λ lt. absurd (both_ways _ ready (silenced-quiet es from u (s.0, lt, s.2, λ m after le. s.3 m after (omega arith))))) (λ ge. ge) (cases_lt s.0 from) in
         mentions_some (λ (n : Mention). (n.key == mirror u) && nat_lt (quiet_of n) j) es from i s.0 since (omega (arith, s.1)) (silenced_here (slice_get es s.0) s.0 j u s.1 w s.2)

@@ -1,5 +1,5 @@
 -- Which open UIDs answer, by the mentions.
-use Rattle.vic_verdict.proofs.Words.{take-append-drop, ◌≡◌, ℕ, nat_eq, ◌+◌, ◌-◌, ◌^◌, ◌<◌, ◌≤◌, ◌==◌, ◌++◌, List, [], ◌∷◌, length, take, drop, get_or, Bool, true, false, not, ◌&&◌, ◌||◌, refl, sym, ap, ◌∙◌, subst, arith, inl, inr, ⊎_elim, map, nat_lt, All, eq-eqb, eqb-true, list_any, and_parts, or_cases, or_left, or_right, both_ways, nat_tests, take-map, length-map, get_or-map, All-push, list_any-append, list_any_more, is_uid, has, BitMask, lies_in, is_in_block, mirror, uid_of, KeyBlock, uid_of_mirror, IsUid-from, is_uid_from, Gathers, UpToThree, is_between, Mention, IsReadyIn, is_ready_at, AreInOrder, HaveKeys, has_where, is_mentioned, is_quiet_by, quiet_of, drop-map, gathers_both, gathers_like, in_mask, without_keys, AreOpenMentions, HasMentionedIn, is_answering, is_awake, is_unmentioned_in, IsNonDecreasing, IsNonDecreasingBy-push, IsKey, mirror_below, mirror_of_uid, Any-from_list_any, gathers_full, list_any_at, HasInside, and_from, false_from_ne_true, not_from_false, get_or-take, length-take-le}
+use Rattle.vic_verdict.proofs.Words.{take-append-drop, ◌≡◌, ℕ, nat_eq, ◌+◌, ◌-◌, ◌^◌, ◌<◌, ◌≤◌, ◌==◌, ◌++◌, List, [], ◌∷◌, length, take, drop, get_or, Bool, true, false, not, ◌&&◌, ◌||◌, refl, sym, ap, ◌∙◌, subst, arith, inl, inr, ⊎_elim, map, nat_lt, All, eq-eqb, eqb-true, list_any, and_parts, or_cases, or_left, or_right, both_ways, nat_tests, take-map, length-map, get_or-map, All-push, list_any-append, list_any_more, is_uid, has, BitMask, lies_in, is_in_block, mirror, uid_of, KeyBlock, uid_of_mirror, IsUid-from, is_uid_from, Gathers, UpToThree, is_between, Mention, IsReadyIn, is_ready_at, AreInOrder, HaveKeys, has_where, is_mentioned, is_quiet_by, quiet_of, drop-map, gathers_both, in_mask, without_keys, AreOpenMentions, HasMentionedIn, is_answering, is_awake, is_unmentioned_in, IsNonDecreasing, IsNonDecreasingBy-push, IsKey, mirror_below, mirror_of_uid, Any-from_list_any, gathers_full, list_any_at, and_from, false_from_ne_true, not_from_false, get_or-take, length-take-le}
 use Rattle.vic_verdict.proofs.Replying.{tells_own}
 use Rattle.vic_verdict.proofs.Silencing.{silenced_later}
 use Rattle.vic_verdict.proofs.Supplied.{UpToThree-same}
@@ -11,16 +11,13 @@ one_of P test xs all e = let w = Any-from_list_any test xs e in (w.1, subst P w.
 
 -- ---- what is found in a block
 
-any_has : (p : ℕ → Bool) (us : List ℕ) (u : ℕ) → has us u ≡ true → p u ≡ true → list_any p us ≡ true
-any_has p us u h e =
-    let w = Any-from_list_any (nat_eq u) us h in
-    list_any_at p us w.0 w.1 w.2 (subst (λ x. p x ≡ true) (eqb-true u w.1 w.4 ∙ sym w.3) e)
-
 -- the first UIDs found, where none of them is Quiet
 pub first_answering : (set : ℕ → Bool) (ns : List Mention) (b : KeyBlock) (i : ℕ) (m : BitMask) (us : List ℕ) → ((u : ℕ) → lies_in m u ≡ is_in_block b.first b.len (mirror u)) → UpToThree (in_mask set m []) us → list_any (λ u. is_quiet_by ns (mirror u) i) us ≡ false → UpToThree (is_answering set ns b i) us
 first_answering set ns b i m us same h none = record {
   different = h.different;
-  members = λ u k. answers u ∙ and_from _ _ (h.members u k) (not_from_false _ (false_from_ne_true _ (λ e. both_ways _ none (any_has (λ v. is_quiet_by ns (mirror v) i) us u k e))));
+  members = λ u k.
+      let v = Any-from_list_any (nat_eq u) us k in
+      answers u ∙ and_from _ _ (h.members u k) (not_from_false _ (false_from_ne_true _ (λ e. both_ways _ none (list_any_at (λ v. is_quiet_by ns (mirror v) i) us v.0 v.1 v.2 (subst (λ w. is_quiet_by ns (mirror w) i ≡ true) (eqb-true u v.1 v.4 ∙ sym v.3) e)))));
   all = λ few u k. h.all few u (and_parts _ _ (sym (answers u) ∙ k)).0;
 } where
   answers : (u : ℕ) → is_answering set ns b i u ≡ (in_mask set m [] u && not (is_quiet_by ns (mirror u) i))
@@ -73,16 +70,13 @@ pub record AreOpenTo (set : ℕ → Bool) (ns : List Mention) (i : ℕ) (os : Li
   pub lower : All (λ (o : Mention). (j : ℕ) → i ≤ j → j < length ns → o.key ≤ (get_or ns j nobody).key) os
   pub members : (k j : ℕ) → IsKey k → j < 2 ^ 32 → has_where (is_awake j) os k ≡ (set (uid_of k) && (is_mentioned (take i ns) k && not (is_quiet_by ns k j)))
 
-mentioned_next : (ns : List Mention) (i k : ℕ) → i < length ns → is_mentioned (take (i + 1) ns) k ≡ (is_mentioned (take i ns) k || ((get_or ns i nobody).key == k))
-mentioned_next ns i k below = list_any_more (λ (n : Mention). n.key == k) ns i nobody below
-
 -- a mention of a UID that isn't open, or that the mentions before it mention
 pub open_other : (set : ℕ → Bool) (ns : List Mention) (i : ℕ) (os : List Mention) → i < length ns → (set (uid_of (get_or ns i nobody).key) && not (is_mentioned (take i ns) (get_or ns i nobody).key)) ≡ false → AreOpenTo set ns i os → AreOpenTo set ns (i + 1) os
 open_other set ns i os below closed h = record {
   order = h.order;
   keys = h.keys;
   lower = λ n d lt j le more. h.lower n d lt j (omega arith) more;
-  members = λ k j small early. let next = mentioned_next ns i k below in h.members k j small early ∙ grind (arith, nat_tests);
+  members = λ k j small early. let next = list_any_more (λ (n : Mention). n.key == k) ns i nobody below in h.members k j small early ∙ grind (arith, nat_tests);
 }
 
 -- the mention before one of the same UID
@@ -99,7 +93,7 @@ open_more set ns i os o up small below key there quiet h = record {
   lower = All-push (λ (n : Mention). (j : ℕ) → i + 1 ≤ j → j < length ns → n.key ≤ (get_or ns j nobody).key) os o (λ n d lt j le more. h.lower n d lt j (omega arith) more) (λ j le more. omega (arith, up i j nobody (omega arith) more));
   members = λ k j key_small early.
       let before = h.members k j key_small early in
-      let next = mentioned_next ns i k below in
+      let next = list_any_more (λ (n : Mention). n.key == k) ns i nobody below in
       let same = quiet j early in
       list_any-append (λ (n : Mention). (n.key == k) && is_awake j n) os (o ∷ []) ∙ grind (arith, nat_tests);
 }
@@ -137,9 +131,6 @@ told_full P tells xs i old now full g =
 abbrev pub IsInside : ℕ → ℕ → ℕ → Type 0
 IsInside first last u = is_between first last (mirror u) ≡ true
 
-pub inside_told : (us xs : List ℕ) (first last : ℕ) → Gathers (IsToldIn (IsInside first last) nat_eq us) [] xs → Gathers (HasInside us first last) [] xs
-inside_told us xs first last g = gathers_like _ (HasInside us first last) [] xs (λ u p. (p.1, p.0)) (λ u p. (p.1, p.0)) g
-
 -- ---- the keys of the mentions of a block
 
 -- a part of the keys is the keys of a part
@@ -153,14 +144,11 @@ keys_order ns up i j d le lt =
     let below : j < length ns = omega (arith, length-map ns (λ (n : Mention). n.key)) in
     rw (get_or-map (λ (n : Mention). n.key) ns i nobody d (omega arith), get_or-map (λ (n : Mention). n.key) ns j nobody d below) (up i j nobody le below)
 
-has_keys : (ns : List Mention) (k : ℕ) → has (map (λ (n : Mention). n.key) ns) k ≡ has_where (λ n. true) ns k
-has_keys [] k = refl
-has_keys (n ∷ ns) k = grind (arith, nat_tests, has_keys ns k)
-
-mentioned_where : (ns : List Mention) (k : ℕ) → has_where (λ n. true) ns k ≡ is_mentioned ns k
-mentioned_where [] k = refl
-mentioned_where (n ∷ ns) k = grind (arith, mentioned_where ns k)
+-- the keys of all mentions are those mentioned
+keys_where : (ns : List Mention) (k : ℕ) → (has (map (λ (n : Mention). n.key) ns) k ≡ has_where (λ n. true) ns k) × (has_where (λ n. true) ns k ≡ is_mentioned ns k)
+keys_where [] k = (refl, refl)
+keys_where (n ∷ ns) k = let h = keys_where ns k in (grind (arith, nat_tests), grind (arith, nat_tests))
 
 pub mentioned_in : (ns inside : List Mention) (b : KeyBlock) (last : ℕ) (keys : List ℕ) → ((k : ℕ) → is_between b.first last k ≡ is_in_block b.first b.len k) → ((test : Mention → Bool) (k : ℕ) → is_between b.first last k ≡ true → has_where test inside k ≡ has_where test ns k) → keys ≡ map (λ (n : Mention). n.key) inside → HasMentionedIn ns b keys
 mentioned_in ns inside b last keys block all is k lies =
-    ap (λ ks. has ks k) is ∙ (has_keys inside k ∙ (all (λ n. true) k (block k ∙ lies) ∙ mentioned_where ns k))
+    ap (λ ks. has ks k) is ∙ ((keys_where inside k).0 ∙ (all (λ n. true) k (block k ∙ lies) ∙ (keys_where ns k).1))

@@ -1,6 +1,6 @@
-use Rattle.vic_verdict.proofs.Words.{has, [], arith, eq-eqb, eqb-true, mirror, nat_eq, subst, sym, take_all, ◌∙◌, List, false, false≢true, refl, ℕ, ◌≡◌}
+use Rattle.vic_verdict.proofs.Words.{has, [], arith, eq-eqb, eqb-true, mirror, nat_eq, subst, sym, take_all, ◌∙◌, List, false, false≢true, refl, ℕ, ◌≡◌, gathers_like}
 use Rattle.vic_verdict.proofs.Closing.{between_from}
-use Rattle.vic_verdict.proofs.Ready.{IsInside, inside_told, gathers_none, told_more, told_full}
+use Rattle.vic_verdict.proofs.Ready.{IsInside, gathers_none, told_more, told_full}
 use Rattle.vic_verdict.proofs.Sweeping.{between_parts}
 use Rattle.vic_verdict.proofs.answering.those_between.Goals as goal
 use Rattle.vic_verdict.proofs.answering.those_between.Goals.{then-first-key+then-key-last, else-first-key, else-first-key-via-then-first-key+else-key-last, else-first-key-via-else-first-key}
@@ -28,7 +28,7 @@ loop-uid-preserved c =
 
 pub returns-then-is_full : goal.returns-then-is_full
 returns-then-is_full c =
-    inside_told c.args.uids.now _ c.args.first c.args.last (told_full (IsInside c.args.first c.args.last) nat_eq c.args.uids.now c.loop-uid.uid-index [] c.loop-uid.inside.items (sym c.is_full.ensures.value ∙ c.if-is_full.true) c.loop-uid.invariant)
+    gathers_like _ _ _ _ (λ u p. (p.1, p.0)) (λ u p. (p.1, p.0)) (told_full (IsInside c.args.first c.args.last) nat_eq c.args.uids.now c.loop-uid.uid-index [] c.loop-uid.inside.items (sym c.is_full.ensures.value ∙ c.if-is_full.true) c.loop-uid.invariant)
 
 pub returns : goal.returns
-returns c = inside_told c.args.uids.now _ c.args.first c.args.last (rw (take_all c.loop-uid.uid-index c.args.uids.now c.loop-uid-test.false) at c.loop-uid.invariant)
+returns c = gathers_like _ _ _ _ (λ u p. (p.1, p.0)) (λ u p. (p.1, p.0)) (rw (take_all c.loop-uid.uid-index c.args.uids.now c.loop-uid-test.false) at c.loop-uid.invariant)

@@ -1,20 +1,19 @@
-use Rattle.vic_verdict.proofs.Words.{◌≡◌, ◌∙◌, ap, sym, subst, inl, inr, refl, rules, nat_lt, IsPermutation, Demand, demands_to, nil_from_length, filter_same}
+use Rattle.vic_verdict.proofs.Words.{◌∙◌, ap, sym, inl, inr, refl, rules, nat_lt, Demand, nil_from_length, filter_same}
 use Rattle.vic_verdict.proofs.demands.keep_stretch.Goals as goal
-
-pub returns-then-is_empty-clause-kept : goal.returns-then-is_empty-clause-kept
-returns-then-is_empty-clause-kept c =
-    let only : c.retain.new.self.items ≡ demands_to c.args.cut c.args.demands.now.items = filter_same _ (λ (d : Demand). nat_lt d.at c.args.cut) _ (λ x b f' k. search rules) _ _ c.retain.ensures.filtered in
-    inl (refl, sym only ∙ nil_from_length c.retain.new.self.items (let empty = sym c.is_empty.ensures ∙ c.if-is_empty.true in search rules))
 
 pub returns-then-is_empty-clause-demands : goal.returns-then-is_empty-clause-demands
 returns-then-is_empty-clause-demands c = nil_from_length c.retain.new.self.items (let empty = sym c.is_empty.ensures ∙ c.if-is_empty.true in search rules)
 
+pub returns-then-is_empty-clause-kept : goal.returns-then-is_empty-clause-kept
+returns-then-is_empty-clause-kept c =
+    inl (refl, sym (filter_same _ (λ (d : Demand). nat_lt d.at c.args.cut) _ (λ x b f' k. search rules) _ _ c.retain.ensures.filtered) ∙ returns-then-is_empty-clause-demands c)
+
 pub returns-clause-kept : goal.returns-clause-kept
 returns-clause-kept c =
-    let only : c.retain.new.self.items ≡ demands_to c.args.cut c.args.demands.now.items = filter_same _ (λ (d : Demand). nat_lt d.at c.args.cut) _ (λ x b f' k. search rules) _ _ c.retain.ensures.filtered in
+    let only = filter_same _ (λ (d : Demand). nat_lt d.at c.args.cut) _ (λ x b f' k. search rules) _ _ c.retain.ensures.filtered in
     inr (
       record { mentions = c.replace.result; demands = c.replace-2.result },
       c.in_ok-push.ensures.items,
       ap (λ v. v.items) c.replace.ensures.value,
-      subst (λ xs. IsPermutation xs c.replace-2.result.items) only (subst (IsPermutation c.retain.new.self.items) (sym (ap (λ v. v.items) c.replace-2.ensures.value)) c.sort_unstable_by_key.ensures.permutation),
+      rw (← only, c.replace-2.ensures.value) c.sort_unstable_by_key.ensures.permutation,
     )
