@@ -13,15 +13,15 @@ one_of P test xs all e = let w = Any-from_list_any test xs e in (w.1, subst P w.
 
 -- the first UIDs found, where none of them is Quiet
 pub first_answering : (set : ℕ → Bool) (ns : List Mention) (b : KeyBlock) (i : ℕ) (m : BitMask) (us : List ℕ) → ((u : ℕ) → lies_in m u ≡ is_in_block b.first b.len (mirror u)) → UpToThree (in_mask set m []) us → list_any (λ u. is_quiet_by ns (mirror u) i) us ≡ false → UpToThree (is_answering set ns b i) us
-first_answering set ns b i m us same h none = record {
-  different = h.different;
-  members = λ u k.
-      let v = Any-from_list_any (nat_eq u) us k in
-      answers u ∙ and_from _ _ (h.members u k) (not_from_false _ (false_from_ne_true _ (λ e. both_ways _ none (list_any_at (λ v. is_quiet_by ns (mirror v) i) us v.0 v.1 v.2 (subst (λ w. is_quiet_by ns (mirror w) i ≡ true) (eqb-true u v.1 v.4 ∙ sym v.3) e)))));
-  all = λ few u k. h.all few u (and_parts _ _ (sym (answers u) ∙ k)).0;
-} where
-  answers : (u : ℕ) → is_answering set ns b i u ≡ (in_mask set m [] u && not (is_quiet_by ns (mirror u) i))
-  answers u = let e = same u in grind arith
+first_answering set ns b i m us same h none =
+    let answers : (u : ℕ) → is_answering set ns b i u ≡ (in_mask set m [] u && not (is_quiet_by ns (mirror u) i)) = λ u. let e = same u in grind arith in
+    record {
+      different = h.different;
+      members = λ u k.
+          let v = Any-from_list_any (nat_eq u) us k in
+          answers u ∙ and_from _ _ (h.members u k) (not_from_false _ (false_from_ne_true _ (λ e. both_ways _ none (list_any_at (λ v. is_quiet_by ns (mirror v) i) us v.0 v.1 v.2 (subst (λ w. is_quiet_by ns (mirror w) i ≡ true) (eqb-true u v.1 v.4 ∙ sym v.3) e)))));
+      all = λ few u k. h.all few u (and_parts _ _ (sym (answers u) ∙ k)).0;
+    }
 
 -- the same by the mentions in the block alone
 pub answering_inside : (set : ℕ → Bool) (ns inside : List Mention) (b : KeyBlock) (i : ℕ) (us : List ℕ) → ((k : ℕ) → is_in_block b.first b.len k ≡ true → is_quiet_by inside k i ≡ is_quiet_by ns k i) → UpToThree (is_answering set inside b i) us → UpToThree (is_answering set ns b i) us
@@ -126,10 +126,6 @@ told_full P tells xs i old now full g =
     gathers_full (IsToldIn P tells (take i xs)) (IsToldIn P tells xs) old now
     (λ u p. (p.0, ap (list_any (tells u)) (sym (take-append-drop i xs)) ∙ (list_any-append (tells u) (take i xs) (drop i xs) ∙ or_left _ _ p.1)))
     (omega (arith, eqb-true (length now) 3 full)) g
-
--- a UID with a key from `first` to `last`
-abbrev pub IsInside : ℕ → ℕ → ℕ → Type 0
-IsInside first last u = is_between first last (mirror u) ≡ true
 
 -- ---- the keys of the mentions of a block
 

@@ -8,9 +8,8 @@ returns-then-not-is_any_quiet-clause-uids g c =
     let at = c.args.at in
     let set = g.S.OpenSet.is_open c.args.set.now in
     let inside = c.mentions_between-inside.result.now in
-    let us = c.up_to_three-uids.result.items in
-    answering_inside set c.args.mentions.now inside b at us (λ k lies. c.mentions_between-inside.ensures.all (λ n. nat_lt (quiet_of n) at) k (ap (λ n. nat_le b.first k && nat_le k n) c.last.ensures ∙ lies))
-    (first_answering set inside b at c.mask_of_keys.result us c.mask_of_keys.ensures.inside c.up_to_three-uids.ensures (rw c.deref.ensures.0 at (sym c.is_any_quiet.ensures ∙ c.if-not-is_any_quiet.true)))
+    answering_inside set c.args.mentions.now inside b at _ (λ k lies. c.mentions_between-inside.ensures.all (λ n. nat_lt (quiet_of n) at) k (ap (λ n. nat_le b.first k && nat_le k n) c.last.ensures ∙ lies))
+    (first_answering set inside b at c.mask_of_keys.result _ c.mask_of_keys.ensures.inside c.up_to_three-uids.ensures (rw c.deref.ensures.0 at (sym c.is_any_quiet.ensures ∙ c.if-not-is_any_quiet.true)))
 
 pub returns-then-spends-clause-uids : goal.returns-then-spends-clause-uids
 returns-then-spends-clause-uids g c =
