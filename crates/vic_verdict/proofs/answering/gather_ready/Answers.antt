@@ -1,11 +1,8 @@
-use Rattle.vic_verdict.proofs.Words.{has, IsUid, and_from, and_parts, ap, both_ways, eq-eqb, eqb-true, le-ltb, lt_yes, not, subst, sym, take_all, uid_of, uid_of_mirror, ◌<◌, ◌∙◌, ◌≤◌, List, [], false, false≢true, refl, ℕ, ◌≡◌, Mention, is_awake, mirror, ◌&&◌, ◌==◌}
+use Rattle.vic_verdict.proofs.Words.{has, IsUid, and_from, and_parts, ap, both_ways, eq-eqb, eqb-true, le-ltb, lt_yes, not, subst, sym, uid_of, uid_of_mirror, ◌<◌, ◌∙◌, ◌≤◌, List, [], false, refl, ℕ, ◌≡◌, Mention, is_awake, mirror, ◌&&◌, ◌==◌}
 use Rattle.vic_verdict.proofs.Ready.{gathers_none, told_more, told_full}
 use Rattle.vic_verdict.proofs.Sweeping.{nobody}
 use Rattle.vic_verdict.proofs.answering.gather_ready.Goals as goal
 use Rattle.vic_verdict.proofs.answering.gather_ready.Goals.{then-at-quiet, else-at-quiet}
-
-pub loop-mention-init : goal.loop-mention-init
-loop-mention-init c = gathers_none _ c.args.uids.now.items (λ u p. false≢true p.1)
 
 pub loop-mention-preserved : goal.loop-mention-preserved
 loop-mention-preserved c =
@@ -24,6 +21,3 @@ loop-mention-preserved c =
 pub returns-then-is_full : goal.returns-then-is_full
 returns-then-is_full c =
     told_full IsUid _ c.args.mentions.now c.loop-mention.mention-index c.args.uids.now.items c.loop-mention.uids.items (sym c.is_full.ensures.value ∙ c.if-is_full.true) c.loop-mention.invariant
-
-pub returns : goal.returns
-returns c = rw (take_all c.loop-mention.mention-index c.args.mentions.now c.loop-mention-test.false) at c.loop-mention.invariant

@@ -1,4 +1,4 @@
-use Rattle.vic_verdict.proofs.Words.{◌≡◌, ◌^◌, ◌<◌, ◌≤◌, ℕ, Bool, List, length, get_or, map, true, false, not, ◌&&◌, sym, ap, ◌∙◌, arith, nat_lt, le-ltb, and_from, and_right, get_or-map, length-map, uid_of, lt_yes, Mention, NEVER, is_ready_at, All-map, is_mentioned, is_open, refl, take, rules, take_all}
+use Rattle.vic_verdict.proofs.Words.{◌≡◌, ◌^◌, ◌<◌, ◌≤◌, ℕ, Bool, List, length, get_or, map, true, false, not, ◌&&◌, sym, ap, ◌∙◌, arith, nat_lt, le-ltb, and_from, and_right, get_or-map, length-map, uid_of, lt_yes, Mention, NEVER, is_ready_at, All-map, is_mentioned, refl, take}
 use Rattle.vic_verdict.proofs.Ready.{same_before, open_other, open_more, ready_key, keys_order}
 use Rattle.vic_verdict.proofs.Replying.{at, tells_own}
 use Rattle.vic_verdict.proofs.Sweeping.{nobody, start_here}
@@ -12,9 +12,6 @@ open_at is_left ns ks bs i b keys is lt read =
 
 pub has_each-requires : goal.has_each-requires
 has_each-requires g c = rw c.requires.keys record { order = keys_order c.args.mentions.now c.requires.order; keys = All-map (λ k. k < 2 ^ 56) (λ (n : Mention). n.key) c.args.mentions.now c.requires.mentioned }
-
-pub loop-i-init : goal.loop-i-init
-loop-i-init g c = rw c.new-mentioned.ensures.items (search (rules, arith))
 
 pub mentions_between-requires-clause-start : goal.mentions_between-requires-clause-start
 mentions_between-requires-clause-start g c =
@@ -52,12 +49,3 @@ loop-i-preserved g c =
           rw w.mentioned-is (open_other set ns i c.loop-i.mentioned.items c.loop-i-test.true (ap (λ b. b && not (is_mentioned (take i ns) key)) (ready_key is_left ns _ from key quiet small own.inside own.all (w.first_quiet-quiet.ensures from upto) ∙ out)) c.loop-i.invariant)
       | else-i-eq0+else-mentions-i w ↦ rw w.mentioned-is (open_other set ns i c.loop-i.mentioned.items c.loop-i-test.true (and_right (set (uid_of key)) _ (ap not (same_before ns i c.requires.order (omega (arith, w.if-i-eq0.false)) c.loop-i-test.true w.if-mentions-i.false))) c.loop-i.invariant)
     ]
-
-pub returns : goal.returns
-returns g c =
-    let h = c.loop-i.invariant in
-    record {
-      order = h.order;
-      keys = h.keys;
-      members = rw (take_all c.loop-i.i c.args.mentions.now c.loop-i-test.false) at h.members;
-    }

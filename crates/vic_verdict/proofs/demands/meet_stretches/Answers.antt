@@ -8,9 +8,6 @@ meet_each-requires-clause-order g c = rw (c.deref.ensures.value, c.stretch-item.
 pub meet_each-requires-clause-keys : goal.meet_each-requires-clause-keys
 meet_each-requires-clause-keys g c = rw (c.deref.ensures.value, c.stretch-item.is) (c.requires.mentions _ _ c.loop-stretch-test.true).keys
 
-pub meet_each-requires-clause-blocks : goal.meet_each-requires-clause-blocks
-meet_each-requires-clause-blocks g c = rw (c.deref-in-loop-stretch.ensures.value, c.stretch-item.is) (c.requires.blocks _ _ c.loop-stretch-test.true)
-
 pub returns-in-Some : goal.returns-in-Some
 returns-in-Some g c es same kept =
     unmet_lacks es (g.S.OpenSet.is_open c.args.set.now) c.deref.result.now c.deref-in-loop-stretch.result.now c.in-Some.at same
