@@ -117,8 +117,10 @@ to_all : (i : ℕ) (ds : List Demand) → All (λ (d : Demand). d.at < i) ds →
 to_all i [] h = refl
 to_all i (x ∷ ds) h = rw (lt_yes x.at i (h 0 x (omega arith)), to_all i ds (λ k d below. h (suc k) d (omega arith)))
 
+-- the demand of a slot is one before any later position
 demand_to : (es : List Entry) (from i j : ℕ) (d : Demand) → d.at < j → IsDemand es from i d → IsDemand es from j d
-demand_to es from i j d before h = record { asked = h.asked; need = h.need; block = h.block; inside = h.inside; since = h.since; before = before }
+demand_to es from i j d before h =
+    record { asked = h.asked; need = h.need; block = h.block; inside = h.inside; since = h.since; before = before }
 
 -- an entry, with the demands that it adds
 asked_next : (es : List Entry) (from i : ℕ) (ds more : List Demand) (e : Entry) → from ≤ i → slice_get es i ≡ Some e → All (IsDemand es from (i + 1)) more → ((j : ℕ) → j ≤ i → demands_to j more ≡ []) → (0 < needs e → is_asked more i ≡ true) → asked_by more ≡ needs e → AreAsked es from i ds → AreAsked es from (i + 1) (ds ++ more)

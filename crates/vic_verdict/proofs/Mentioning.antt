@@ -63,6 +63,7 @@ heard_mentioned es from i j r since lt k = mentions_some (λ (n : Mention). n.ke
 
 -- ---- who is Quiet
 
+-- whom an entry silences is Quiet by its mention
 silenced_here : (o : Option Entry) (k j u : ℕ) → k < j → IsUid u → silences o u ≡ true → is_quiet_by (mentions_at o k) (mirror u) j ≡ true
 silenced_here (Some (Sent (StayQuiet link uid))) k j u lt w e =
     let same : uid ≡ u = eqb-true uid u e in
@@ -79,13 +80,16 @@ quiet_mentions es from i j u ready awake since upto small w = same_tests _ _ tel
     shows : (n : Mention) → Type 0
     shows n = ((n.key == mirror u) && nat_lt (quiet_of n) j) ≡ true → is_quiet es j u ≡ true
 
-    tells : is_quiet_by (mentions_from es from i) (mirror u) j ≡ true → is_quiet es j u ≡ true
-    tells e =
-        let n = one_of shows (λ (n : Mention). (n.key == mirror u) && nat_lt (quiet_of n) j) (mentions_from es from i) (mentions_each shows es from i
-        (λ k v uid s le e. let p = and_parts _ _ e in let same : v ≡ u = sym (uid_of_mirror v uid) ∙ (ap uid_of (eqb-true _ _ p.0) ∙ uid_of_mirror u w) in
+    all_show : All shows (mentions_from es from i)
+    all_show = mentions_each shows es from i
+        (λ k v uid s le e.
+        let p = and_parts _ _ e in
+        let same : v ≡ u = sym (uid_of_mirror v uid) ∙ (ap uid_of (eqb-true _ _ p.0) ∙ uid_of_mirror u w) in
         silenced-quiet es j u (k, lt_from k j p.1, subst (λ x. silences (slice_get es k) x ≡ true) same s, λ m after lt. stays m (omega arith) lt))
-        (λ k r le lt h e. absurd (let late = lt_from NEVER j (and_parts (mirror r.uid == mirror u) (nat_lt NEVER j) e).1 in omega arith))) e in
-        n.1 n.2
+        (λ k r le lt h e. absurd (let late = lt_from NEVER j (and_parts (mirror r.uid == mirror u) (nat_lt NEVER j) e).1 in omega arith))
+
+    tells : is_quiet_by (mentions_from es from i) (mirror u) j ≡ true → is_quiet es j u ≡ true
+    tells e = let n = one_of shows (λ (n : Mention). (n.key == mirror u) && nat_lt (quiet_of n) j) (mentions_from es from i) all_show e in n.1 n.2
 
     told : is_quiet es j u ≡ true → is_quiet_by (mentions_from es from i) (mirror u) j ≡ true
     told e =

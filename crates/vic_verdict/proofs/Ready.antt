@@ -108,6 +108,7 @@ ready_key set ns own from key quiet small inside all first = ap (λ k. set (uid_
 abbrev pub IsToldIn : {X : Type 0} → (ℕ → Type 0) → (ℕ → X → Bool) → List X → ℕ → Type 0
 IsToldIn P tells xs u = P u × (list_any (tells u) xs ≡ true)
 
+-- nothing is gathered where nothing is wanted
 pub gathers_none : (P : ℕ → Type 0) (xs : List ℕ) → ((u : ℕ) → P u → ⊥) → Gathers P xs xs
 gathers_none P xs none = record { keeps = λ u h. h; only = λ u h. inl h; different = λ h. h; all = λ few u p. absurd (none u p); longer = omega arith }
 
