@@ -1,6 +1,7 @@
 -- The mentions between two keys, and which keys some slots close.
-use Rattle.vic_verdict.proofs.Words.{◌≡◌, ℕ, ◌+◌, ◌-◌, ◌<◌, ◌≤◌, ◌==◌, ◌++◌, List, [], ◌∷◌, length, take, drop, get_or, Bool, true, false, not, ◌&&◌, ◌||◌, refl, sym, ap, ◌∙◌, subst, arith, ⊎_elim, inl, inr, nat_le, nat_lt, All, eq-eqb, get_or-drop, get_or-take, length-drop, length-take-le, take-append-drop, list_any, or_false, and_from, cases_eq, cases_lt, false≢true, nat_tests, list_any-append, list_any_at, list_any_more, Mention, in_ranges, is_between, Closes, is_in_some, ReadSlot, AreInOrder, has_where, has_left, is_in, All-from_get_or, IsStart}
-use Rattle.vic_verdict.proofs.Sweeping.{all_cover, between_parts, nobody, where_none}
+use Rattle.vic_verdict.proofs.Words.{All, Bool, List, [], ap, arith, drop, false, get_or, if◌then◌else◌, length, nat_le, nat_lt, ne_eqb, not, refl, sym, take, take-append-drop, take_all, true, ℕ, ◌&&◌, ◌++◌, ◌+◌, ◌<◌, ◌==◌, ◌||◌, ◌∙◌, ◌∷◌, ◌≡◌, ◌≤◌, nat_tests, All-take, list_any-append, list_any_more, list_any_none, list_any, or_false, in_ranges, is_between, Mention, Closes, AreInOrder, IsStart, has_left, has_where}
+use Rattle.std.proofs.lemmas.List.Sorted.{IsNonDecreasingBy-drop}
+use Rattle.vic_verdict.proofs.Sweeping.{all_below, all_from, between_parts, nobody}
 
 -- ---- the mentions between two keys
 
@@ -8,128 +9,84 @@ pub between_from : (first last k : ℕ) → first ≤ k → k ≤ last → is_be
 between_from first last k a b = grind (arith, nat_tests)
 
 -- the m mentions from position s on lie between the keys
-pub part_between : (ns : List Mention) (first last s m : ℕ) → IsStart ns first s → IsStart (drop s ns) (last + 1) m → All (λ (n : Mention). is_between first last n.key ≡ true) (take m (drop s ns))
-part_between ns first last s m start end = All-from_get_or (λ (n : Mention). is_between first last n.key ≡ true) (take m (drop s ns)) nobody (λ j lt.
-    let upto = end.within in
-    let rest = length-drop s ns in
-    let long = length-take-le m (drop s ns) upto in
-    let low = start.rest (s + j) nobody (omega arith) (omega arith) in
-    let high = end.below j nobody (omega arith) in
-    let there = ap (λ (n : Mention). n.key) (get_or-drop s ns j nobody) in
-    rw (get_or-take m (drop s ns) j nobody (omega arith)) (between_from first last _ (omega arith) (omega arith)))
+pub part_between : (ns : List Mention) (first last s m : ℕ) → AreInOrder ns → IsStart ns first s → IsStart (drop s ns) (last + 1) m → All (λ (n : Mention). is_between first last n.key ≡ true) (take m (drop s ns))
+part_between ns first last s m up start end k d lt =
+    let low = All-take (λ (n : Mention). first ≤ n.key) m (drop s ns) (all_from ns first s up (λ h. start.rest s nobody (omega arith) h)) k d lt in
+    let high = all_below (drop s ns) (last + 1) m end k d lt in
+    between_from first last _ low (omega arith)
+
+-- a test of the elements before a position, and of the others
+any_split : (p : Mention → Bool) (i : ℕ) (ns : List Mention) → list_any p ns ≡ (list_any p (take i ns) || list_any p (drop i ns))
+any_split p i ns = ap (list_any p) (sym (take-append-drop i ns)) ∙ list_any-append p (take i ns) (drop i ns)
+
+where_none : (p : Mention → Bool) (ns : List Mention) (k : ℕ) → All (λ (n : Mention). n.key ≡ k → ⊥) ns → has_where p ns k ≡ false
+where_none p ns k h = list_any_none (λ n. (n.key == k) && p n) ns (λ j d lt. ap (λ b. b && p (get_or ns j d)) (ne_eqb (get_or ns j d).key k (h j d lt)))
 
 -- and all that do are among them
-pub part_where : (ns : List Mention) (first last s m : ℕ) → IsStart ns first s → IsStart (drop s ns) (last + 1) m → (p : Mention → Bool) (k : ℕ) → is_between first last k ≡ true → has_where p (take m (drop s ns)) k ≡ has_where p ns k
-part_where ns first last s m start end p k inside =
+pub part_where : (ns : List Mention) (first last s m : ℕ) → AreInOrder ns → IsStart ns first s → IsStart (drop s ns) (last + 1) m → (p : Mention → Bool) (k : ℕ) → is_between first last k ≡ true → has_where p (take m (drop s ns)) k ≡ has_where p ns k
+part_where ns first last s m up start end p k inside =
     let parts = between_parts first last k inside in
-    let behind = length-drop m (drop s ns) in
-    let front = length-take-le s ns start.within in
-    let none = where_none p (take s ns) k (λ j lt e _.
-    let at = ap (λ (n : Mention). n.key) (get_or-take s ns j nobody (omega arith)) in
-    let under = start.below j nobody (omega arith) in
-    omega arith) in
-    let past = where_none p (drop m (drop s ns)) k (λ j lt e _.
-    let at = ap (λ (n : Mention). n.key) (get_or-drop m (drop s ns) j nobody) in
-    let over = end.rest (m + j) nobody (omega arith) (omega arith) in
-    omega arith) in
+    let rest = all_from (drop s ns) (last + 1) m (IsNonDecreasingBy-drop (λ (n : Mention). n.key) s ns up) (λ h. end.rest m nobody (omega arith) h) in
+    let none = where_none p (take s ns) k (λ j d lt e. let under = all_below ns first s start j d lt in omega arith) in
+    let past = where_none p (drop m (drop s ns)) k (λ j d lt e. let over = rest j d lt in omega arith) in
     let test : Mention → Bool = λ (n : Mention). (n.key == k) && p n in
-    sym (ap (list_any test) (sym (take-append-drop s ns))
-    ∙ (list_any-append test (take s ns) (drop s ns)
-    ∙ (ap (λ b. b || list_any test (drop s ns)) none
-    ∙ (ap (list_any test) (sym (take-append-drop m (drop s ns)))
-    ∙ (list_any-append test (take m (drop s ns)) (drop m (drop s ns))
-    ∙ (ap (λ b. list_any test (take m (drop s ns)) || b) past ∙ or_false (list_any test (take m (drop s ns)))))))))
+    rw (any_split test s ns, none, any_split test m (drop s ns), past) (sym (or_false _))
 
 -- ---- the keys of a slot
 
--- the keys of a slot below a position are closed, but for those of mentions that are left, of which the first i are below it
+-- the keys of a slot below a position are closed, but for those of mentions that are left, by the first i mentions
 pub record IsClosedTo (old new : List (ℕ × ℕ)) (ns : List Mention) (first last from i : ℕ) : Type 0 where
   pub since : first ≤ from
   pub upto : from ≤ last + 1
   pub behind : i < length ns → from ≤ (get_or ns i nobody).key + 1
-  pub below : (j : ℕ) → j < i → (get_or ns j nobody).left ≡ true → (get_or ns j nobody).key < from
-  pub closed : (k : ℕ) → in_ranges new k ≡ (in_ranges old k || ((nat_le first k && nat_lt k from) && not (has_left ns k)))
-
--- the keys that are closed by a mention that is left, and in the end
-next_keys : (o l : Bool) (first from key k : ℕ) → first ≤ from → from ≤ key + 1 → (from ≤ k → k < key → l ≡ false) → (k ≡ key → l ≡ true) → ((o || ((nat_le first k && nat_lt k from) && not l)) || (nat_le from k && nat_lt k key)) ≡ (o || ((nat_le first k && nat_lt k (key + 1)) && not l))
-next_keys o l first from key k since at none here = grind (arith, nat_tests)
-
-all_keys : (o l m : Bool) (first last from k : ℕ) → first ≤ from → from ≤ last + 1 → (from ≤ k → l ≡ false) → (first ≤ k → k ≤ last → l ≡ m) → ((o || ((nat_le first k && nat_lt k from) && not l)) || (nat_le from k && nat_lt k (last + 1))) ≡ (o || ((nat_le first k && nat_le k last) && not m))
-all_keys o l m first last from k since upto none same = grind (arith, nat_tests)
-
--- no mention that is left has a key from one on that those from position i on don't reach
-none_left : (ns : List Mention) (from i k : ℕ) → ((j : ℕ) → j < i → (get_or ns j nobody).left ≡ true → (get_or ns j nobody).key < from) → from ≤ k → ((j : ℕ) → i ≤ j → j < length ns → k < (get_or ns j nobody).key) → has_left ns k ≡ false
-none_left ns from i k below le above = where_none (λ n. n.left) ns k (λ j within at left. elim (cases_lt j i) [
-  | inl lt ↦ let under = below j lt left in omega arith
-  | inr ge ↦ let over = above j ge within in omega arith
-])
+  pub none : (k : ℕ) → from ≤ k → has_left (take i ns) k ≡ false
+  pub edge : (k : ℕ) → first ≤ k → k + 1 ≡ from → has_left (take i ns) k ≡ true
+  pub closed : (k : ℕ) → in_ranges new k ≡ (in_ranges old k || ((nat_le first k && nat_lt k from) && not (has_left (take i ns) k)))
 
 pub closed_first : (old : List (ℕ × ℕ)) (ns : List Mention) (first last : ℕ) → first ≤ last + 1 → All (λ (n : Mention). is_between first last n.key ≡ true) ns → IsClosedTo old old ns first last first 0
 closed_first old ns first last le inside = record {
   since = omega arith;
   upto = le;
   behind = λ lt. let over = (between_parts first last _ (inside 0 nobody lt)).0 in omega arith;
-  below = λ j lt left. absurd (omega arith);
+  none = λ k since. refl;
+  edge = λ k since e. absurd (omega arith);
   closed = λ k. grind (arith, nat_tests);
 }
 
--- a mention that isn't left
-pub closed_passed : (old new : List (ℕ × ℕ)) (ns : List Mention) (first last from i : ℕ) → AreInOrder ns → i < length ns → (get_or ns i nobody).left ≡ false → IsClosedTo old new ns first last from i → IsClosedTo old new ns first last from (i + 1)
-closed_passed old new ns first last from i up lt gone h = record {
-  since = h.since;
-  upto = h.upto;
-  behind = λ more. let at = h.behind lt in let next = up i (i + 1) nobody (omega arith) more in omega arith;
-  below = λ j upto left. ⊎_elim
-      (λ e. absurd (false≢true (sym gone ∙ subst (λ n. (get_or ns n nobody).left ≡ true) e left)))
-      (λ ne. h.below j (omega arith) left)
-      (cases_eq j i);
-  closed = h.closed;
-}
+next_keys : (o w l : Bool) (first from after key k : ℕ) → first ≤ from → from ≤ key + 1 → first ≤ key → (from ≤ k → w ≡ false) → (first ≤ k → k + 1 ≡ from → w ≡ true) → after ≡ (if l then key + 1 else from) → ((o || ((nat_le first k && nat_lt k from) && not w)) || (l && (nat_le from k && nat_lt k key))) ≡ (o || ((nat_le first k && nat_lt k after) && not (w || ((key == k) && l))))
+next_keys o w l first from after key k since at inside none edge is = grind (arith, nat_tests)
 
--- a mention that is left: what is before it is closed
-pub closed_left : (old new next : List (ℕ × ℕ)) (ns : List Mention) (first last from i : ℕ) → AreInOrder ns → All (λ (n : Mention). is_between first last n.key ≡ true) ns → i < length ns → (get_or ns i nobody).left ≡ true → ((k : ℕ) → in_ranges next k ≡ (in_ranges new k || (nat_le from k && nat_lt k (get_or ns i nobody).key))) → IsClosedTo old new ns first last from i → IsClosedTo old next ns first last ((get_or ns i nobody).key + 1) (i + 1)
-closed_left old new next ns first last from i up inside lt left pushed h =
-    let key = (get_or ns i nobody).key in
+-- a mention more: if it is left, what is before it is closed
+pub closed_next : (old new next : List (ℕ × ℕ)) (ns : List Mention) (first last from after i : ℕ) → AreInOrder ns → All (λ (n : Mention). is_between first last n.key ≡ true) ns → i < length ns → (after ≡ (if (get_or ns i nobody).left then (get_or ns i nobody).key + 1 else from)) × ((k : ℕ) → in_ranges next k ≡ (in_ranges new k || ((get_or ns i nobody).left && (nat_le from k && nat_lt k (get_or ns i nobody).key)))) → IsClosedTo old new ns first last from i → IsClosedTo old next ns first last after (i + 1)
+closed_next old new next ns first last from after i up inside lt pushed h =
+    let n = get_or ns i nobody in
+    let b = between_parts first last n.key (inside i nobody lt) in
     let at = h.behind lt in
+    let more : (k : ℕ) → has_left (take (i + 1) ns) k ≡ (has_left (take i ns) k || ((n.key == k) && n.left)) = λ k. list_any_more (λ (m : Mention). (m.key == k) && m.left) ns i nobody lt in
     record {
-      since = let since = h.since in omega arith;
-      upto = let b = (between_parts first last key (inside i nobody lt)).1 in omega arith;
-      behind = λ more. let over = up i (i + 1) nobody (omega arith) more in omega arith;
-      below = λ j less is. let over = up j i nobody (omega arith) lt in omega arith;
-      closed = λ k. pushed k ∙ ap (λ b. b || (nat_le from k && nat_lt k key)) (h.closed k)
-          ∙ next_keys (in_ranges old k) (has_left ns k) first from key k h.since at
-          (λ since less. none_left ns from i k h.below since (λ j ge within. let over = up i j nobody ge within in omega arith))
-          (λ e. list_any_at (λ (n : Mention). (n.key == k) && n.left) ns i nobody lt (and_from _ _ (eq-eqb key k (sym e)) left));
+      since = grind (arith, pushed.0, h.since);
+      upto = grind (arith, pushed.0, h.upto);
+      behind = λ short. let over = up i (i + 1) nobody (omega arith) short in grind (arith, pushed.0);
+      none = λ k since. rw (more k) (grind (arith, nat_tests, h.none k));
+      edge = λ k since e. rw (more k) (grind (arith, nat_tests, h.edge k));
+      closed = λ k. rw (pushed.1 k, h.closed k, more k) (next_keys (in_ranges old k) (has_left (take i ns) k) n.left first from after n.key k h.since at b.0 (h.none k) (h.edge k) pushed.0);
     }
+
+-- at the end, with the keys that are left over
+pub closed_all : (old new next : List (ℕ × ℕ)) (ns all : List Mention) (first last from i : ℕ) → length ns ≤ i → ((k : ℕ) → is_between first last k ≡ true → has_left ns k ≡ has_left all k) → ((k : ℕ) → in_ranges next k ≡ (in_ranges new k || (nat_le from k && nat_lt k (last + 1)))) → IsClosedTo old new ns first last from i → Closes all (is_between first last) old next
+closed_all old new next ns all first last from i end same pushed h k =
+    rw (pushed k, h.closed k) (all_keys _ _ _ h.since h.upto (h.none k) (λ b. ap (λ ms. has_left ms k) (take_all i ns end) ∙ same k b))
+  where
+    all_keys : (o w m : Bool) → first ≤ from → from ≤ last + 1 → (from ≤ k → w ≡ false) → (is_between first last k ≡ true → w ≡ m) → ((o || ((nat_le first k && nat_lt k from) && not w)) || (nat_le from k && nat_lt k (last + 1))) ≡ (o || (is_between first last k && not m))
+    all_keys o w m since upto none same = grind (arith, nat_tests)
 
 -- where nothing is pushed, or one range is
 pub pushed_none : (new : List (ℕ × ℕ)) (from key : ℕ) → key ≤ from → (k : ℕ) → in_ranges new k ≡ (in_ranges new k || (nat_le from k && nat_lt k key))
 pushed_none new from key le k = grind (arith, nat_tests)
 
-pub pushed_one : (new next : List (ℕ × ℕ)) (from key : ℕ) → from < key → next ≡ new ++ (from, key - 1) ∷ [] → (k : ℕ) → in_ranges next k ≡ (in_ranges new k || (nat_le from k && nat_lt k key))
-pushed_one new next from key lt is k =
-    let pushed = list_any-append (λ (r : ℕ × ℕ). is_between r.0 r.1 k) new ((from, key - 1) ∷ []) in
-    rw is (grind (arith, nat_tests))
+pub pushed_one : (new next : List (ℕ × ℕ)) (from to key : ℕ) → from < key → key ≡ to + 1 → next ≡ new ++ (from, to) ∷ [] → (k : ℕ) → in_ranges next k ≡ (in_ranges new k || (nat_le from k && nat_lt k key))
+pushed_one new next from to key lt end is k = rw (is, list_any-append (λ (r : ℕ × ℕ). is_between r.0 r.1 k) new ((from, to) ∷ [])) (grind (arith, nat_tests))
 
--- at the end, with the keys that are left over
-pub closed_all : (old new next : List (ℕ × ℕ)) (ns all : List Mention) (first last from i : ℕ) → length ns ≤ i → ((k : ℕ) → is_between first last k ≡ true → has_left ns k ≡ has_left all k) → ((k : ℕ) → in_ranges next k ≡ (in_ranges new k || (nat_le from k && nat_lt k (last + 1)))) → IsClosedTo old new ns first last from i → Closes all (is_between first last) old next
-closed_all old new next ns all first last from i end same pushed h k =
-    pushed k ∙ ap (λ b. b || (nat_le from k && nat_lt k (last + 1))) (h.closed k)
-    ∙ all_keys (in_ranges old k) (has_left ns k) (has_left all k) first last from k h.since h.upto (λ since. none_left ns from i k h.below since (λ j ge within. absurd (omega arith))) (λ a b. same k (between_from first last k a b))
-
--- ---- the keys of some slots
-
--- a slot more
-pub closes_more : (ns : List Mention) (reads : List ReadSlot) (i : ℕ) (s : ReadSlot) (old : List (ℕ × ℕ)) (k : ℕ) → i < length reads → s ≡ get_or reads i s → ((in_ranges old k || (is_in_some (take i reads) k && not (has_left ns k))) || (is_in s k && not (has_left ns k))) ≡ (in_ranges old k || (is_in_some (take (i + 1) reads) k && not (has_left ns k)))
-closes_more ns reads i s old k below is =
-    let more = list_any_more (λ t. is_in t k) reads i s below in
-    let here = ap (λ t. is_in t k) is in
-    grind arith
-
--- what the ranges leave open is what they left before and all slots leave by mention
-pub outside_closed : (ns : List Mention) (reads : List ReadSlot) (old new : List (ℕ × ℕ)) (k : ℕ) → Closes ns (is_in_some reads) old new → not (in_ranges new k) ≡ (not (in_ranges old k) && all_cover ns reads k)
-outside_closed ns reads old new k closes = let closed = closes k in let kept = kept_by_slots reads in grind arith
-  where
-    kept_by_slots : (reads : List ReadSlot) → all_cover ns reads k ≡ (not (is_in_some reads k) || has_left ns k)
-    kept_by_slots [] = refl
-    kept_by_slots (s ∷ reads) = grind (arith, kept_by_slots reads)
+-- the keys of two sets but for those left
+pub or_and : (o a b l : Bool) → ((o || (a && not l)) || (b && not l)) ≡ (o || ((a || b) && not l))
+or_and o a b l = grind arith

@@ -1,5 +1,5 @@
 -- What is gathered between two field cycles, entry by entry, and which UIDs it leaves open.
-use Rattle.vic_verdict.proofs.Words.{◌≡◌, ◌⊎◌, ℕ, zero, suc, ◌+◌, ◌^◌, ◌<◌, ◌≤◌, ◌==◌, List, [], ◌∷◌, ◌++◌, Bool, true, false, not, ◌&&◌, ◌||◌, Option, Some, None, All, Any, nat_le, slice_get, refl, sym, ap, ◌∙◌, subst, arith, inl, inr, eq-eqb, add-one, All-head, All-tail, All-push, IsUid, mirror, Entry, Heard, Silent, Reply, KeyBlock, is_in_some_block, wakes, is_quiet, is_quiet_by, Mention, ReadSlot, Demand, nat_tests, cases_lt, cases_eq, and_true, both_ways, lies_in_some, mask_at, answers_at, slots_before, is_open, SameUids, HaveKeys, is_heard, heard_of, list_all, read_allows, all_allow, all_allow_to, all_hear_mentioned, rules_out, All-nil, All-weaker, Any-push, AllPass-from_list_all, list_all-from_AllPass, same_tests, AreAsked, mentions_at, mentions_from, AddsReadSlot, HasRead, IsReadSlot, NobodyAt, HasGathered, AreUnsettled, are_left, hears_mentioned, HasRange}
+use Rattle.vic_verdict.proofs.Words.{All, Any, Bool, List, None, Option, Some, [], add-one, ap, arith, eq-eqb, false, inl, inr, nat_le, not, refl, set, slice_get, suc, sym, true, zero, ℕ, ◌&&◌, ◌++◌, ◌+◌, ◌<◌, ◌==◌, ◌^◌, ◌||◌, ◌∙◌, ◌∷◌, ◌≡◌, ◌≤◌, ◌⊎◌, both_ways, cases_Bool, cases_eq, cases_lt, false≢true, nat_tests, All-nil, All-push, All-weaker, list_all_at, Any-push, list_all-from_AllPass, list_all, is_in_some_block, mirror, Reply, IsUid, KeyBlock, answers_at, is_quiet, wakes, lies_in_some, mask_at, is_open, slots_before, Entry, Heard, Silent, and_true, SameUids, Demand, Mention, ReadSlot, AreAsked, rules_out, AddsReadSlot, HasGathered, HasRead, IsReadSlot, NobodyAt, mentions_at, AreUnsettled, HasRange, HaveKeys, all_allow_to, are_left, hears_mentioned, is_quiet_by, read_allows}
 use Rattle.vic_verdict.proofs.Demanding.{any_kept, asked_anew}
 use Rattle.vic_verdict.proofs.Lacking.{place_allows, open_place}
 use Rattle.vic_verdict.proofs.Mentioning.{heard_key, heard_mentioned, mentions_keys, mentions_left, mentions_next, mentions_none, quiet_mentions}
@@ -20,7 +20,7 @@ read_told es i e keys heard ss ts inside read (inr w) = inr (
     before = let at = w.2.place in omega arith;
     read = rw (w.2.place, w.2.key) read;
     range = w.2.range;
-    inside = λ u v. w.2.inside (mirror u) ∙ (inside u v ∙ ap (λ j. lies_in_some (mask_at es j) u) (sym w.2.place));
+    inside = λ u v. rw w.2.place (w.2.inside (mirror u) ∙ inside u v);
   },
 )
 
@@ -36,26 +36,19 @@ gathered_first es i = record {
   asked = asked_anew es i;
 }
 
+-- what holds from a position on up to another, and there
+since_more : (P : ℕ → Type 0) (from i : ℕ) → ((j : ℕ) → from ≤ j → j < i → P j) → P i → (j : ℕ) → from ≤ j → j < i + 1 → P j
+since_more P from i before here j since lt = elim (cases_eq j i) [ inl same ↦ rw same here | inr ne ↦ before j since (omega arith) ]
+
 pub gathered_next : (es : List Entry) (from i : ℕ) (e : Entry) (ns ms : List Mention) (ss ts : List ReadSlot) (ds cs : List Demand) → slice_get es i ≡ Some e → i < 2 ^ 32 → wakes (Some e) ≡ false → ms ≡ ns ++ mentions_at (Some e) i → TellsReadSlot es i e ss ts → ((r : Reply) → e ≡ Heard r → IsUid r.uid × (lies_in_some (mask_at es i) r.uid ≡ true)) → (from ≤ i → AreAsked es from i ds → AreAsked es from (i + 1) cs) → HasGathered es from i ns ss ds → HasGathered es from (i + 1) ms ts cs
 gathered_next es from i e ns ms ss ts ds cs k small awake mentioned told fits asks h = record {
   begun = omega arith;
   small = λ _. omega arith;
-  awake = λ j since lt. elim (cases_eq j i) [ inl same ↦ rw (same, k) awake | inr ne ↦ h.awake j since (omega arith) ];
-  mentions = mentioned ∙ (ap (λ xs. xs ++ mentions_at (Some e) i) h.mentions ∙ (ap (λ o. mentions_from es from i ++ mentions_at o i) (sym k) ∙ (sym (mentions_next es from i h.begun) ∙ ap (mentions_from es from) (sym (add-one i)))));
+  awake = since_more (λ j. wakes (slice_get es j) ≡ false) from i h.awake (rw k awake);
+  mentions = rw (mentioned, h.mentions, add-one, mentions_next es from i h.begun, k) refl;
   reads = reads told;
-  read = λ j x since lt f out. elim (cases_eq j i) [
-    | inl same ↦
-        let both : Some e ≡ Some x = sym k ∙ (ap (slice_get es) (sym same) ∙ f) in
-        let it : x ≡ e = cc in
-        here j same (ap rules_out (sym it) ∙ out) told
-    | inr ne ↦ elim (h.read j x since (omega arith) f out) [ inl a ↦ inl (more j told a) | inr none ↦ inr none ]
-  ];
-  inside = λ j r since lt f. elim (cases_eq j i) [
-    | inl same ↦
-        let both : Some e ≡ Some (Heard r) = sym k ∙ (ap (slice_get es) (sym same) ∙ f) in
-        subst (λ m. IsUid r.uid × (lies_in_some (mask_at es m) r.uid ≡ true)) (sym same) (fits r (cc))
-    | inr ne ↦ h.inside j r since (omega arith) f
-  ];
+  read = λ j x since lt. since_more (λ j. (x : Entry) → slice_get es j ≡ Some x → rules_out x ≡ true → Any (λ (s : ReadSlot). s.at ≡ j) ts ⊎ NobodyAt es j) from i (λ j since lt x f out. more j told (h.read j x since lt f out)) (λ x f out. let it : x ≡ e = cc in here (ap rules_out (sym it) ∙ out) told) j since lt x;
+  inside = λ j r since lt. since_more (λ j. (r : Reply) → slice_get es j ≡ Some (Heard r) → IsUid r.uid × (lies_in_some (mask_at es j) r.uid ≡ true)) from i (λ j since lt r f. h.inside j r since lt f) (λ r f. fits r (cc)) j since lt r;
   asked = asks h.begun h.asked;
 } where
   later : (a b : ℕ) → from ≤ a → b ≤ i + 1 → (s : ReadSlot) → IsReadSlot es a b s → IsReadSlot es from (i + 1) s
@@ -68,16 +61,14 @@ gathered_next es from i e ns ms ss ts ds cs k small awake mentioned told fits as
   reads (inl w) = rw w.0 old
   reads (inr w) = rw w.1 (All-push (IsReadSlot es from (i + 1)) ss w.0 old (later i (i + 1) h.begun (omega arith) w.0 w.2))
 
-  more : (j : ℕ) → TellsReadSlot es i e ss ts → Any (λ (s : ReadSlot). s.at ≡ j) ss → Any (λ (s : ReadSlot). s.at ≡ j) ts
-  more j (inl w) a = rw w.0 a
-  more j (inr w) a = rw w.1 (any_kept (λ (s : ReadSlot). s.at ≡ j) ss w.0 a)
+  more : (j : ℕ) → TellsReadSlot es i e ss ts → Any (λ (s : ReadSlot). s.at ≡ j) ss ⊎ NobodyAt es j → Any (λ (s : ReadSlot). s.at ≡ j) ts ⊎ NobodyAt es j
+  more j told (inr none) = inr none
+  more j (inl w) (inl a) = inl (rw w.0 a)
+  more j (inr w) (inl a) = inl (rw w.1 (any_kept (λ (s : ReadSlot). s.at ≡ j) ss w.0 a))
 
-  here : (j : ℕ) → j ≡ i → rules_out e ≡ true → TellsReadSlot es i e ss ts → Any (λ (s : ReadSlot). s.at ≡ j) ts ⊎ NobodyAt es j
-  here j same out (inl w) = inr (subst (NobodyAt es) (sym same) (w.1 out))
-  here j same out (inr w) =
-      let since = w.2.since in
-      let before = w.2.before in
-      inl (subst (Any (λ (s : ReadSlot). s.at ≡ j)) (sym w.1) (Any-push (λ (s : ReadSlot). s.at ≡ j) ss w.0 (omega arith)))
+  here : rules_out e ≡ true → TellsReadSlot es i e ss ts → Any (λ (s : ReadSlot). s.at ≡ i) ts ⊎ NobodyAt es i
+  here out (inl w) = inr (w.1 out)
+  here out (inr w) = let since = w.2.since in let before = w.2.before in inl (rw w.1 (Any-push (λ (s : ReadSlot). s.at ≡ i) ss w.0 (omega arith)))
 
 -- an entry that rules none out
 pub gathered_passed : (es : List Entry) (from i : ℕ) (e : Entry) (ns ms : List Mention) (ss : List ReadSlot) (ds cs : List Demand) → slice_get es i ≡ Some e → i < 2 ^ 32 → wakes (Some e) ≡ false → ms ≡ ns ++ mentions_at (Some e) i → rules_out e ≡ false → (from ≤ i → AreAsked es from i ds → AreAsked es from (i + 1) cs) → HasGathered es from i ns ss ds → HasGathered es from (i + 1) ms ss cs
@@ -86,21 +77,18 @@ gathered_passed es from i e ns ms ss ds cs k small awake mentioned none asks h =
 -- ---- what is so of all mentions and slots
 
 pub gathered_keys : (es : List Entry) (from i : ℕ) (ns : List Mention) (ss : List ReadSlot) (ds : List Demand) → HasGathered es from i ns ss ds → HaveKeys ns
-gathered_keys es from i ns ss ds h = subst HaveKeys (sym h.mentions) (mentions_keys es from i)
+gathered_keys es from i ns ss ds h = rw h.mentions (mentions_keys es from i)
 
-gathered_mentioned : (es : List Entry) (from i : ℕ) (ns : List Mention) (ss : List ReadSlot) (ds : List Demand) → HasGathered es from i ns ss ds → all_hear_mentioned ns ss ≡ true
-gathered_mentioned es from i ns ss ds h = list_all-from_AllPass (hears_mentioned ns) ss (All-weaker (IsReadSlot es from i) (λ s. hears_mentioned ns s ≡ true) (λ s it. elim (it.read) [
-  | inl w ↦ rw w.1 refl
-  | inr w ↦ rw (w.3, h.mentions) (heard_mentioned es from i s.at w.0 it.since it.before w.1)
-]) ss h.reads)
-
--- so they can be settled
+-- they can be settled
 pub gathered_settles : (es : List Entry) (from i : ℕ) (ns : List Mention) (ss : List ReadSlot) (ds : List Demand) → HasGathered es from i ns ss ds → AreUnsettled ns ss i
 gathered_settles es from i ns ss ds h = record {
   left = ap are_left h.mentions ∙ mentions_left es from i;
   before = All-weaker (IsReadSlot es from i) (λ (s : ReadSlot). s.at < i) (λ s it. it.before) ss h.reads;
   ranges = All-weaker (IsReadSlot es from i) HasRange (λ s it. it.range) ss h.reads;
-  mentioned = gathered_mentioned es from i ns ss ds h;
+  mentioned = list_all-from_AllPass (hears_mentioned ns) ss (All-weaker (IsReadSlot es from i) (λ s. hears_mentioned ns s ≡ true) (λ s it. elim (it.read) [
+    | inl w ↦ rw w.1 refl
+    | inr w ↦ rw (w.3, h.mentions) (heard_mentioned es from i s.at w.0 it.since it.before w.1)
+  ]) ss h.reads);
 }
 
 pub gathered_quiet : (es : List Entry) (from i : ℕ) (ns : List Mention) (ss : List ReadSlot) (ds : List Demand) → HasGathered es from i ns ss ds → ((u : ℕ) → is_quiet es from u ≡ false) → (j u : ℕ) → from ≤ j → j ≤ i → IsUid u → is_quiet_by ns (mirror u) j ≡ is_quiet es j u
@@ -109,18 +97,10 @@ gathered_quiet es from i ns ss ds h ready j u since upto w =
       | inl lt ↦ quiet_mentions es from i j u (ready u) h.awake since upto (h.small lt) w
       | inr ge ↦
           let same : j ≡ from = omega arith in
-          ap (λ ms. is_quiet_by ms (mirror u) j) (mentions_none es from i ge) ∙ sym (ap (λ m. is_quiet es m u) same ∙ ready u)
+          rw (mentions_none es from i ge, same, ready u) refl
     ]
 
 -- ---- who is open
-
--- before the end of a stretch are all of its slots
-pub allow_all : (ns : List Mention) (k i : ℕ) (ss : List ReadSlot) → All (λ (s : ReadSlot). s.at < i) ss → all_allow_to ns ss i k ≡ all_allow ns ss k
-allow_all ns k i [] before = refl
-allow_all ns k i (s ∷ ss) before =
-    let lt = All-head (λ (t : ReadSlot). t.at < i) s ss before in
-    let rest = allow_all ns k i ss (All-tail (λ (t : ReadSlot). t.at < i) s ss before) in
-    grind (arith, nat_tests)
 
 -- what the slots at one position allow
 abbrev all_allow_at : List Mention → List ReadSlot → ℕ → ℕ → Bool
@@ -130,46 +110,42 @@ allow_next : (ns : List Mention) (k j : ℕ) (ss : List ReadSlot) → all_allow_
 allow_next ns k j [] = refl
 allow_next ns k j (s ∷ ss) = grind (arith, nat_tests, allow_next ns k j ss)
 
+-- each of them allows the same, and if that is false there is one
+allow_there : (ns : List Mention) (k j : ℕ) (b : Bool) (ss : List ReadSlot) → All (λ (s : ReadSlot). s.at ≡ j → read_allows ns s k ≡ b) ss → (b ≡ true) ⊎ Any (λ (s : ReadSlot). s.at ≡ j) ss → all_allow_at ns ss j k ≡ b
+allow_there ns k j true ss each some = list_all-from_AllPass _ ss (λ n d lt. let same = each n d lt in grind (arith, nat_tests))
+allow_there ns k j false ss each (inl e) = absurd (false≢true e)
+allow_there ns k j false ss each (inr a) =
+    let at = ap (λ (s : ReadSlot). s.at) a.3 ∙ a.4 in
+    list_all_at _ ss a.0 a.1 a.2 (rw (eq-eqb _ _ at, each a.0 a.1 a.2 at) refl)
+
 read_says : (es : List Entry) (from i : ℕ) (ns : List Mention) (s : ReadSlot) (u : ℕ) → IsReadSlot es from i s → IsUid u → is_quiet_by ns (mirror u) s.at ≡ is_quiet es s.at u → read_allows ns s (mirror u) ≡ place_allows (slice_get es s.at) (answers_at es s.at u) u
-read_says es from i ns s u it w quiet =
-    ap (λ b. not b || (is_quiet_by ns (mirror u) s.at || is_heard (heard_of s) (mirror u))) (it.inside u w)
-    ∙ (ap (λ b. not (lies_in_some (mask_at es s.at) u) || (b || is_heard (heard_of s) (mirror u))) quiet
-    ∙ elim (it.read) [
-      | inl z ↦ rw (z.1, z.0) (grind arith)
-      | inr z ↦ let key = heard_key z.0.uid u z.2 w in rw (z.3, z.1) (grind arith)
-    ])
+read_says es from i ns s u it w quiet = rw (it.inside u w, quiet) (elim (it.read) [
+  | inl z ↦ rw (z.1, z.0) (grind arith)
+  | inr z ↦ let key = heard_key z.0.uid u z.2 w in rw (z.3, z.1) (grind arith)
+])
+
+-- an entry allows all UIDs if it rules none out, or nobody answers
+allows_unless : (e : Entry) (answers : Bool) (u : ℕ) → (rules_out e && answers) ≡ false → place_allows (Some e) answers u ≡ true
+allows_unless Silent answers u none = rw none refl
+allows_unless (Heard r) answers u none = rw none refl
+allows_unless e answers u none = refl
 
 -- the slots at a position allow what its entry allows
 reads_say : (es : List Entry) (from i : ℕ) (ns : List Mention) (ss : List ReadSlot) (ds : List Demand) → HasGathered es from i ns ss ds → ((u : ℕ) → is_quiet es from u ≡ false) → (j u : ℕ) → from ≤ j → j < i → IsUid u → all_allow_at ns ss j (mirror u) ≡ place_allows (slice_get es j) (answers_at es j u) u
-reads_say es from i ns ss ds h ready j u since below w = same_tests _ _ (to (slice_get es j) refl) from_place
+reads_say es from i ns ss ds h ready j u since below w =
+    allow_there ns (mirror u) j _ ss (λ n d lt at.
+    let it = h.reads n d lt in
+    read_says es from i ns _ u it w (gathered_quiet es from i ns ss ds h ready _ u it.since (omega arith) w) ∙ ap (λ m. place_allows (slice_get es m) (answers_at es m u) u) at) (some (slice_get es j) refl)
   where
-    says : (s : ReadSlot) → IsReadSlot es from i s → s.at ≡ j → read_allows ns s (mirror u) ≡ place_allows (slice_get es j) (answers_at es j u) u
-    says s it at = read_says es from i ns s u it w (gathered_quiet es from i ns ss ds h ready s.at u it.since (omega arith) w) ∙ ap (λ m. place_allows (slice_get es m) (answers_at es m u) u) at
-
-    ruled : (e : Entry) → slice_get es j ≡ Some e → rules_out e ≡ true → place_allows (Some e) false u ≡ true → all_allow_at ns ss j (mirror u) ≡ true → place_allows (Some e) (answers_at es j u) u ≡ true
-    ruled e k out none all = elim (h.read j e since below k out) [
-      | inl a ↦
-          let s : ReadSlot = a.1 in
-          let pass = subst (λ (x : ReadSlot). (not (x.at == j) || read_allows ns x (mirror u)) ≡ true) a.3 (AllPass-from_list_all _ ss all a.0 s a.2) in
-          let at : s.at ≡ j = a.4 in
-          let it = subst (IsReadSlot es from i) a.3 (h.reads a.0 s a.2) in
-          let same = eq-eqb s.at j at in
-          let allowed : read_allows ns s (mirror u) ≡ true = grind arith in
-          subst (λ o. place_allows o (answers_at es j u) u ≡ true) k (sym (says s it at) ∙ allowed)
-      | inr nobody ↦ ap (λ b. place_allows (Some e) (b && not (is_quiet es j u)) u) (nobody u w) ∙ none
+    some : (o : Option Entry) → slice_get es j ≡ o → (place_allows o (answers_at es j u) u ≡ true) ⊎ Any (λ (s : ReadSlot). s.at ≡ j) ss
+    some None k = inl refl
+    some (Some e) k = elim (cases_Bool (rules_out e)) [
+      | inl out ↦ elim (h.read j e since below k out) [
+        | inl a ↦ inr a
+        | inr nobody ↦ inl (allows_unless e _ u (rw (out, nobody u w) refl))
+      ]
+      | inr none ↦ inl (allows_unless e _ u (rw none refl))
     ]
-
-    to : (o : Option Entry) → slice_get es j ≡ o → all_allow_at ns ss j (mirror u) ≡ true → place_allows o (answers_at es j u) u ≡ true
-    to None k all = refl
-    to (Some Silent) k all = ruled Silent k refl refl all
-    to (Some (Heard r)) k all = ruled (Heard r) k refl refl all
-    to (Some e) k all = refl
-
-    from_place : place_allows (slice_get es j) (answers_at es j u) u ≡ true → all_allow_at ns ss j (mirror u) ≡ true
-    from_place e = list_all-from_AllPass _ ss (All-weaker (IsReadSlot es from i) (λ s. (not (s.at == j) || read_allows ns s (mirror u)) ≡ true) (λ s it. elim (cases_eq s.at j) [
-      | inl same ↦ let allowed = says s it same ∙ e in grind arith
-      | inr ne ↦ grind (arith, nat_tests)
-    ]) ss h.reads)
 
 -- what a stretch tells of a position up to its end
 pub gathered_open : (es : List Entry) (from i : ℕ) (set : ℕ → Bool) (ns : List Mention) (ss : List ReadSlot) (ds : List Demand) → HasGathered es from i ns ss ds → ((u : ℕ) → is_quiet es from u ≡ false) → SameUids set (is_open (slots_before es from)) → (j : ℕ) → from ≤ j → j ≤ i → SameUids (λ u. set u && all_allow_to ns ss j (mirror u)) (is_open (slots_before es j))
@@ -177,8 +153,8 @@ gathered_open es from i set ns ss ds h ready same j since upto u w = go j since 
   where
     first : (j : ℕ) → j ≡ from → (set u && all_allow_to ns ss j (mirror u)) ≡ is_open (slots_before es j) u
     first j at =
-        let none : all_allow_to ns ss j (mirror u) ≡ true = list_all-from_AllPass _ ss (All-weaker (IsReadSlot es from i) (λ s. (nat_le j s.at || read_allows ns s (mirror u)) ≡ true) (λ s it. let after = it.since in grind (arith, nat_tests)) ss h.reads) in
-        ap (λ b. set u && b) none ∙ (and_true (set u) ∙ (same u w ∙ ap (λ m. is_open (slots_before es m) u) (sym at)))
+        let none : all_allow_to ns ss from (mirror u) ≡ true = list_all-from_AllPass _ ss (All-weaker (IsReadSlot es from i) (λ s. (nat_le from s.at || read_allows ns s (mirror u)) ≡ true) (λ s it. let after = it.since in grind (arith, nat_tests)) ss h.reads) in
+        rw (at, none) (and_true (set u) ∙ same u w)
 
     go : (j : ℕ) → from ≤ j → j ≤ i → (set u && all_allow_to ns ss j (mirror u)) ≡ is_open (slots_before es j) u
     go zero since upto = first zero (omega arith)

@@ -1,12 +1,13 @@
 -- What the slots between two field cycles leave, mention by mention.
-use Rattle.vic_verdict.proofs.Words.{◌≡◌, ℕ, ◌+◌, ◌-◌, ◌<◌, ◌≤◌, ◌==◌, List, [], ◌∷◌, length, take, filter, get_or, set, Bool, true, false, not, ◌&&◌, ◌||◌, Option, Some, None, refl, sym, ap, ◌∙◌, subst, arith, ◌++◌, inl, inr, ⊎_elim, ◌^◌, nat_lt, All, eqb-true, ext_get_or, get_or-set_same, get_or-set_other, length-set, IsPermutation, cases_Bool, false_from_ne_true, length-map, list_all, list_any, cases_eq, cases_lt, false≢true, and_parts, and_from, or_cases, or_left, or_right, nat_tests, get_or-map, get_or_default, All-head, All-tail, Mention, ReadSlot, Run, is_between, quiet_of, first_of, last_of, heard_of, is_heard, is_in, all_leave, level_leaves, mask_leaves, run_leaves, keep_all, has_where, has_left, is_quiet_by, read_allows, all_allow, all_allow_to, is_mentioned, is_mentioned_if, all_hear_mentioned, AreInOrder, HaveKeys, list_any-IsPermutation, and_true, both_ways, lt_from, lt_yes, All-filter, All-from_get_or, All-map, All-weaker, list_all_more, list_any_none, map_fixed, AllPass-from_list_all, list_all-from_AllPass, slot_leaves, read_leaves, keep, hears_mentioned, are_left, IsStart, take-append_seam, and_thrice, same_tests}
+use Rattle.vic_verdict.proofs.Words.{All, Bool, IsPermutation, List, None, Option, Some, [], ap, arith, drop, eqb-true, false, filter, get_or, get_or-drop, get_or-take, if◌then◌else◌, inl, inr, le_of_lt, length, length-append, length-drop, length-take-le, ltb-false, nat_lt, not, refl, rules, set, subst, sym, take, take-append-drop, true, ℕ, ◌&&◌, ◌++◌, ◌+◌, ◌-◌, ◌<◌, ◌==◌, ◌^◌, ◌||◌, ◌∙◌, ◌∷◌, ◌≡◌, ◌≤◌, ◌⊎◌, take-append_seam, and_parts, both_ways, cases_Bool, false≢true, nat_tests, drop_more, get_or-map, get_or_default, length-map, map-append, All-filter, All-head, All-map, All-tail, list_all_more, map_fixed, All-permutation, IsPermutation-sym, list_any-IsPermutation, AllPass-from_list_all, list_all-from_AllPass, list_all, has, and_thrice, and_true, lt_from, lt_yes, same_tests, in_ranges, is_between, Mention, ReadSlot, Run, Closes, is_in_some, AreInOrder, ArePutInOrder, IsStart, all_allow, all_allow_to, all_hear_mentioned, all_leave, are_left, first_of, has_left, has_where, heard_of, hears_mentioned, is_heard, is_in, is_mentioned, is_mentioned_if, is_quiet_by, keep, keep_all, last_of, level_leaves, mask_leaves, quiet_of, read_allows, read_leaves, run_leaves, slot_leaves}
+use Rattle.std.proofs.lemmas.List.{get_or_at}
+use Rattle.std.proofs.lemmas.List.Edits.{map_over_more}
+use Rattle.std.proofs.lemmas.List.Sorted.{IsPermutation-map}
+use Rattle.vic_verdict.proofs.Silencing.{silenced_later, silenced_permuted}
 use Rattle.vic_verdict.specs.declared.sweep.Level.{Level}
+use Rattle.vic_verdict.specs.inner.Sweep.{is_before}
 
 -- ---- mentions that are kept
-
--- a UID with this key lies in no slot, or is left by mention
-abbrev pub all_cover : List Mention → List ReadSlot → ℕ → Bool
-all_cover ns reads k = list_all (λ s. not (is_in s k) || has_left ns k) reads
 
 pub keep_twice : (p q : ℕ → ℕ → Bool) (ns : List Mention) → keep_all p (keep_all q ns) ≡ keep_all (λ k t. q k t && p k t) ns
 keep_twice p q [] = refl
@@ -16,34 +17,23 @@ pub keep_alike : (p q : ℕ → ℕ → Bool) → ((k t : ℕ) → p k t ≡ q k
 keep_alike p q same [] = refl
 keep_alike p q same (n ∷ ns) = rw (same n.key (quiet_of n), keep_alike p q same ns) refl
 
-pub kept_whole : (p : ℕ → ℕ → Bool) (n : Mention) → p n.key (quiet_of n) ≡ true → keep p n ≡ n
-kept_whole p n e = ap (λ (b : Bool). record { key = n.key; at = n.at; is_heard = n.is_heard; left = n.left && b }) e ∙ ap (λ (b : Bool). record { key = n.key; at = n.at; is_heard = n.is_heard; left = b }) (and_true n.left)
+-- mentions that pass stay as they are
+pub keep_fixed : (p : ℕ → ℕ → Bool) (ns : List Mention) → All (λ (n : Mention). p n.key (quiet_of n) ≡ true) ns → keep_all p ns ≡ ns
+keep_fixed p ns h = map_fixed (keep p) ns (λ j d lt. rw (h j d lt, and_true (get_or ns j d).left) refl)
 
 pub keep_none : (ns : List Mention) → keep_all (λ k t. true) ns ≡ ns
-keep_none ns = map_fixed (keep (λ k t. true)) ns (λ j d lt. kept_whole (λ k t. true) (get_or ns j d) refl)
+keep_none ns = keep_fixed (λ k t. true) ns (λ j d lt. refl)
 
 pub keep-order : (p : ℕ → ℕ → Bool) (ns : List Mention) → AreInOrder ns → AreInOrder (keep_all p ns)
 keep-order p ns up i j d le below =
     let short : j < length ns = subst (λ m. j < m) (length-map ns (keep p)) below in
     rw (get_or-map (keep p) ns i d d (omega arith), get_or-map (keep p) ns j d d short) (up i j d le short)
 
-pub keep-keys : (p : ℕ → ℕ → Bool) (ns : List Mention) → HaveKeys ns → HaveKeys (keep_all p ns)
-keep-keys p ns h = All-map (λ (n : Mention). n.key < 2 ^ 56) (keep p) ns h
-
 pub keep-quiet : (p : ℕ → ℕ → Bool) (ns : List Mention) (k i : ℕ) → is_quiet_by (keep_all p ns) k i ≡ is_quiet_by ns k i
 keep-quiet p [] k i = refl
 keep-quiet p (n ∷ ns) k i = ap (λ b. ((n.key == k) && nat_lt (quiet_of n) i) || b) (keep-quiet p ns k i)
 
--- ---- a mask rules mentions out
-
-pub outside_below : (first last : ℕ) (l : Level) (k q : ℕ) → k < first → mask_leaves first last l k q ≡ true
-outside_below first last l k q h = grind (arith, nat_tests)
-
-pub outside_above : (first last : ℕ) (l : Level) (k q : ℕ) → last < k → mask_leaves first last l k q ≡ true
-outside_above first last l k q h = grind (arith, nat_tests)
-
-pub inside : (first last : ℕ) (l : Level) (k q : ℕ) → first ≤ k → k ≤ last → mask_leaves first last l k q ≡ level_leaves l k q
-inside first last l k q f g = grind (arith, nat_tests)
+-- ---- mentions in order
 
 -- what stands past the end of a list
 abbrev pub nobody : Mention
@@ -51,6 +41,18 @@ nobody = record { key = 0; at = 0; is_heard = false; left = false }
 
 abbrev pub nowhere : ReadSlot
 nowhere = record { mask = 0; key = 0; at = 0; is_heard = false }
+
+pub all_from : (ns : List Mention) (first at : ℕ) → AreInOrder ns → (at < length ns → first ≤ (get_or ns at nobody).key) → All (λ (n : Mention). first ≤ n.key) (drop at ns)
+all_from ns first at up from k d lt =
+    let long = length-drop at ns in
+    let here = ap (λ (n : Mention). n.key) (get_or_default ns at d nobody (omega arith)) in
+    let le = up at (at + k) d (omega arith) (omega arith) in
+    rw (get_or-drop at ns k d) (omega (arith, from (omega arith)))
+
+pub all_below : (ns : List Mention) (first at : ℕ) → IsStart ns first at → All (λ (n : Mention). n.key < first) (take at ns)
+all_below ns first at s k d lt =
+    let short : k < at = omega (arith, length-take-le at ns s.within) in
+    rw (get_or-take at ns k d short) (s.below k d short)
 
 -- a mention that is the first from a key on
 pub start_here : (ns : List Mention) (first at : ℕ) → AreInOrder ns → at < length ns → first ≤ (get_or ns at nobody).key → (0 < at → (get_or ns (at - 1) nobody).key < first) → IsStart ns first at
@@ -67,35 +69,41 @@ start_here ns first at up lt from before = record {
       omega arith;
 }
 
+pub between_parts : (first last k : ℕ) → is_between first last k ≡ true → (first ≤ k) × (k ≤ last)
+between_parts first last k e = (grind (arith, nat_tests), grind (arith, nat_tests))
+
+-- ---- a mask rules mentions out
+
+outside : (first last : ℕ) (l : Level) (k q : ℕ) → (k < first) ⊎ (last + 1 ≤ k) → mask_leaves first last l k q ≡ true
+outside first last l k q h = grind (arith, nat_tests)
+
+pub inside : (first last : ℕ) (l : Level) (k q : ℕ) → first ≤ k → k ≤ last → mask_leaves first last l k q ≡ level_leaves l k q
+inside first last l k q f g = grind (arith, nat_tests)
+
 -- the first i mentions of a list were gone over
-pub record IsRuled (p : ℕ → ℕ → Bool) (old new : List Mention) (i : ℕ) : Type 0 where
-  pub same : length new ≡ length old
-  pub done : (k : ℕ) → k < i → k < length old → get_or new k nobody ≡ keep p (get_or old k nobody)
-  pub rest : (k : ℕ) → i ≤ k → get_or new k nobody ≡ get_or old k nobody
+abbrev pub ruled : (ℕ → ℕ → Bool) → List Mention → ℕ → List Mention
+ruled p ns i = keep_all p (take i ns) ++ drop i ns
 
-pub ruled_first : (p : ℕ → ℕ → Bool) (ns : List Mention) (i : ℕ) → ((k : ℕ) → k < i → p (get_or ns k nobody).key (quiet_of (get_or ns k nobody)) ≡ true) → IsRuled p ns ns i
-ruled_first p ns i h = record { same = refl; done = λ k below short. sym (kept_whole p (get_or ns k nobody) (h k below)); rest = λ k ge. refl }
+pub ruled_first : (first last : ℕ) (l : Level) (ns : List Mention) (i : ℕ) → IsStart ns first i → ns ≡ ruled (mask_leaves first last l) ns i
+ruled_first first last l ns i start =
+    rw (keep_fixed (mask_leaves first last l) (take i ns) (λ k d lt. outside first last l _ _ (inl (all_below ns first i start k d lt))))
+    (sym (take-append-drop i ns))
 
-pub ruled_more : (p : ℕ → ℕ → Bool) (old new : List Mention) (i : ℕ) (m : Mention) → IsRuled p old new i → i < length old → m ≡ keep p (get_or new i nobody) → IsRuled p old (set new i m) (i + 1)
-ruled_more p old new i m h short is = record {
-  same = length-set new i m ∙ h.same;
-  done = λ k below within.
-      ⊎_elim
-      (λ same. subst (λ j. get_or (set new i m) j nobody ≡ keep p (get_or old j nobody)) (sym same) (get_or-set_same new i m nobody (subst (λ n. i < n) (sym h.same) short) ∙ (is ∙ ap (keep p) (h.rest i (omega arith)))))
-      (λ other. get_or-set_other new i k m nobody other ∙ h.done k (omega (arith, below)) within)
-      (cases_eq k i);
-  rest = λ k ge. get_or-set_other new i k m nobody (λ e. absurd (omega arith)) ∙ h.rest k (omega arith);
-}
+pub ruled_at : (p : ℕ → ℕ → Bool) (ns ms : List Mention) (i : ℕ) → i < length ns → ms ≡ ruled p ns i → get_or ms i nobody ≡ get_or ns i nobody
+ruled_at p ns ms i lt is =
+    let front : length (keep_all p (take i ns)) ≡ i = length-map (take i ns) (keep p) ∙ length-take-le i ns (omega arith) in
+    rw (is, drop_more ns i nobody lt) (get_or_at (keep_all p (take i ns)) (get_or ns i nobody) (drop (i + 1) ns) nobody i front)
 
-pub ruled_all : (p : ℕ → ℕ → Bool) (old new : List Mention) (i : ℕ) → IsRuled p old new i → ((k : ℕ) → i ≤ k → k < length old → p (get_or old k nobody).key (quiet_of (get_or old k nobody)) ≡ true) → new ≡ keep_all p old
-ruled_all p old new i h above =
-    ext_get_or nobody new (keep_all p old) (h.same ∙ sym (length-map old (keep p))) (λ k below.
-    let short : k < length old = subst (λ m. k < m) h.same below in
-    let there = sym (get_or-map (keep p) old k nobody nobody short) in
-    ⊎_elim
-    (λ lt. h.done k lt short ∙ there)
-    (λ ge. h.rest k ge ∙ (sym (kept_whole p (get_or old k nobody) (above k ge short)) ∙ there))
-    (cases_lt k i))
+pub ruled_more : (p : ℕ → ℕ → Bool) (ns ms : List Mention) (i : ℕ) (m : Mention) → i < length ns → ms ≡ ruled p ns i → m ≡ keep p (get_or ms i nobody) → set ms i m ≡ ruled p ns (i + 1)
+ruled_more p ns ms i m lt is kept =
+    let long : length ms ≡ length ns = ap length is ∙ (length-append (keep_all p (take i ns)) (drop i ns) ∙ omega (arith, length-map (take i ns) (keep p), length-take-le i ns, length-drop i ns)) in
+    ap (set ms i) kept ∙ map_over_more (keep p) ns ms i (get_or ms i nobody) lt is (get_or_default ms i nobody _ (omega arith))
+
+pub ruled_all : (first last : ℕ) (l : Level) (ns : List Mention) (i : ℕ) → AreInOrder ns → (i < length ns → last < (get_or ns i nobody).key) → ruled (mask_leaves first last l) ns i ≡ keep_all (mask_leaves first last l) ns
+ruled_all first last l ns i up over =
+    let p = mask_leaves first last l in
+    let rest = keep_fixed p (drop i ns) (λ k d lt. outside first last l _ _ (inr (all_from ns (last + 1) i up (λ h. let far = over h in omega arith) k d lt))) in
+    ap (λ ms. keep_all p (take i ns) ++ ms) (sym rest) ∙ (sym (map-append (keep p) (take i ns) (drop i ns)) ∙ ap (keep_all p) (take-append-drop i ns))
 
 -- ---- a mask after another
 
@@ -113,126 +121,72 @@ runs_more o r reads i s old ns new below is before step =
     ∙ (keep_twice (read_leaves s) (all_leave (take i reads)) old
     ∙ keep_alike _ _ (λ k q. ap (λ x. all_leave (take i reads) k q && read_leaves x k q) is ∙ sym (list_all_more (λ t. read_leaves t k q) reads i s below)) old)))
 
--- ---- the mentions that pass a test
-
-pub where_none : (p : Mention → Bool) (ns : List Mention) (k : ℕ) → ((j : ℕ) → j < length ns → (get_or ns j nobody).key ≡ k → p (get_or ns j nobody) ≡ true → ⊥) → has_where p ns k ≡ false
-where_none p ns k none = list_any_none (λ n. (n.key == k) && p n) ns (All-from_get_or (λ n. ((n.key == k) && p n) ≡ false) ns nobody (λ j lt. false_from_ne_true _ (λ e.
-    let w = and_parts ((get_or ns j nobody).key == k) (p (get_or ns j nobody)) e in
-    none j lt (eqb-true (get_or ns j nobody).key k w.0) w.1)))
-
-pub between_parts : (first last k : ℕ) → is_between first last k ≡ true → (first ≤ k) × (k ≤ last)
-between_parts first last k e = (grind (arith, nat_tests), grind (arith, nat_tests))
-
 -- ---- mentions and slots
+
+-- the UID of a key is Quiet before a position, if there is one, by a mention
+abbrev quiet_before : List Mention → ℕ → Option ℕ → Bool
+quiet_before ns k o = has_where (λ n. is_before (quiet_of n) o) ns k
+
+quiet_none : (ns : List Mention) (k : ℕ) → quiet_before ns k None ≡ is_mentioned ns k
+quiet_none ns k = simp and_true
 
 silenced_mentioned : (ns : List Mention) (k i : ℕ) → is_quiet_by ns k i ≡ true → is_mentioned ns k ≡ true
 silenced_mentioned [] k i e = e
 silenced_mentioned (n ∷ ns) k i e = grind (arith, silenced_mentioned ns k i)
 
--- where the UID of a key falls silent first, by the mentions
-record Least (ns : List Mention) (k : ℕ) : Type 0 where
-  quiet : ℕ
-  left : (p : ℕ → ℕ → Bool) → p k quiet ≡ true → are_left ns ≡ true → has_left (keep_all p ns) k ≡ true
-  first : (i : ℕ) → is_quiet_by ns k i ≡ true → quiet < i
+quiet_since : (ns : List Mention) (k i : ℕ) (o : Option ℕ) → is_before i o ≡ true → is_quiet_by ns k i ≡ true → quiet_before ns k o ≡ true
+quiet_since ns k i None e f = quiet_none ns k ∙ silenced_mentioned ns k i f
+quiet_since ns k i (Some j) e f = silenced_later ns k i j (le_of_lt (lt_from i j e)) f
 
-least_here : (n : Mention) (ns : List Mention) (k : ℕ) → (n.key == k) ≡ true → ((i : ℕ) → is_quiet_by ns k i ≡ true → quiet_of n < i) → Least (n ∷ ns) k
-least_here n ns k here h = record {
-  quiet = quiet_of n;
-  left = λ p e all. let same = eqb-true n.key k here in grind arith;
-  first = λ i e. grind (arith, nat_tests, h i);
-}
+quiet_until : (ns : List Mention) (k i : ℕ) (o : Option ℕ) → is_before i o ≡ false → quiet_before ns k o ≡ true → is_quiet_by ns k i ≡ true
+quiet_until ns k i None e f = absurd (both_ways _ e refl)
+quiet_until ns k i (Some j) e f = silenced_later ns k j i (ltb-false i j e) f
 
-least : (ns : List Mention) (k : ℕ) → is_mentioned ns k ≡ true → Least ns k
-least [] k e = absurd (false≢true e)
-least (n ∷ ns) k e = elim (cases_Bool (is_mentioned ns k)) [
-  | inl more ↦ let t = least ns k more in elim (cases_Bool ((n.key == k) && nat_lt (quiet_of n) t.quiet)) [
-    | inl w ↦ let p = and_parts (n.key == k) (nat_lt (quiet_of n) t.quiet) w in least_here n ns k p.0 (λ i s. let f = t.first i s in let lt = lt_from (quiet_of n) t.quiet p.1 in omega arith)
-    | inr w ↦ record {
-      quiet = t.quiet;
-      left = λ p f all. or_right _ _ (t.left p f (and_parts n.left (are_left ns) all).1);
-      first = λ i s. grind (arith, nat_tests, t.first i);
-    }
-  ]
-  | inr none ↦ let here : (n.key == k) ≡ true = grind arith in least_here n ns k here (λ i s. absurd (both_ways _ none (silenced_mentioned ns k i s)))
-]
+-- the position before which the UID of a key has to be Quiet, if some slots are to leave it
+abbrev limit : List ReadSlot → ℕ → Option ℕ
+limit [] k = None
+limit (s ∷ ss) k =
+    if not (is_in s k) || (is_heard (heard_of s) k || not (is_before s.at (limit ss k))) then limit ss k else Some s.at
 
--- a mention that is left leaves the test true, and is silent where it fell silent before
-left_one : (p : ℕ → ℕ → Bool) (ns : List Mention) (k : ℕ) → has_left (keep_all p ns) k ≡ true → (q : ℕ) × (p k q ≡ true) × ((i : ℕ) → nat_lt q i ≡ true → is_quiet_by ns k i ≡ true)
-left_one p [] k e = absurd (false≢true e)
-left_one p (n ∷ ns) k e =
-    ⊎_elim
-    (λ here.
-    let a = and_parts (n.key == k) (n.left && p n.key (quiet_of n)) here in
-    let b = and_parts n.left (p n.key (quiet_of n)) a.1 in
-    (quiet_of n, subst (λ x. p x (quiet_of n) ≡ true) (eqb-true n.key k a.0) b.1, λ i lt. or_left _ _ (and_from _ _ a.0 lt)))
-    (λ there. let r = left_one p ns k there in (r.0, r.1, λ i lt. or_right _ _ (r.2 i lt)))
-    (or_cases _ _ e)
+limit_none : (ss : List ReadSlot) (k : ℕ) → is_in_some ss k ≡ false → limit ss k ≡ None
+limit_none [] k e = refl
+limit_none (s ∷ ss) k e = grind (arith, limit_none ss k)
 
--- a test that passes wherever another does
-all_weaker : {X : Type 0} (p q : X → Bool) → ((x : X) → p x ≡ true → q x ≡ true) → (xs : List X) → list_all p xs ≡ true → list_all q xs ≡ true
-all_weaker p q h xs e = list_all-from_AllPass q xs (All-weaker (λ x. p x ≡ true) (λ x. q x ≡ true) h xs (AllPass-from_list_all p xs e))
-
--- the slot allows a key that is not mentioned only where the key is not in it
-unmentioned_outside : (ns : List Mention) (s : ReadSlot) (k : ℕ) → is_mentioned ns k ≡ false → hears_mentioned ns s ≡ true → read_allows ns s k ≡ true → not (is_in s k) ≡ true
-unmentioned_outside ns s k none h e = grind (arith, silenced_mentioned ns k s.at, go (heard_of s))
+all_before : (ss : List ReadSlot) (k q : ℕ) → all_leave ss k q ≡ is_before q (limit ss k)
+all_before [] k q = refl
+all_before (s ∷ ss) k q = next (is_in s k) (is_heard (heard_of s) k) q s.at (limit ss k) (all_before ss k q)
   where
-    go : (o : Option ℕ) → is_heard o k ≡ true → is_mentioned_if ns o ≡ true → is_mentioned ns k ≡ true
-    go None f g = absurd (false≢true f)
-    go (Some x) f g = subst (λ y. is_mentioned ns y ≡ true) (eqb-true x k f) g
+    next : (b h : Bool) (q at : ℕ) (o : Option ℕ) → all_leave ss k q ≡ is_before q o → ((not b || (nat_lt q at || h)) && all_leave ss k q) ≡ is_before q (if not b || (h || not (is_before at o)) then o else Some at)
+    next b h q at None e = grind (arith, nat_tests)
+    next b h q at (Some j) e = grind (arith, nat_tests)
 
--- a key lies in no slot or is left by mention if and only if all slots allow it
-pub covered_allowed : (ns : List Mention) (ss : List ReadSlot) (k : ℕ) → are_left ns ≡ true → all_hear_mentioned ns ss ≡ true → all_cover (keep_all (all_leave ss) ns) ss k ≡ all_allow ns ss k
-covered_allowed ns ss k left mentioned = same_tests _ _ to from where
-  all_left : Bool
-  all_left = has_left (keep_all (all_leave ss) ns) k
+-- a mention is left where its test passes, if all were
+left_before : (p : ℕ → ℕ → Bool) (o : Option ℕ) (ns : List Mention) (k : ℕ) → ((q : ℕ) → p k q ≡ is_before q o) → are_left ns ≡ true → has_left (keep_all p ns) k ≡ quiet_before ns k o
+left_before p o [] k same e = refl
+left_before p o (n ∷ ns) k same e = grind (arith, nat_tests, same (quiet_of n), left_before p o ns k same)
 
-  allows : ReadSlot → Bool
-  allows s = read_allows ns s k
+heard_mentioned : (ns : List Mention) (o : Option ℕ) (k : ℕ) → is_heard o k ≡ true → is_mentioned_if ns o ≡ true → is_mentioned ns k ≡ true
+heard_mentioned ns None k e h = absurd (false≢true e)
+heard_mentioned ns (Some x) k e h = rw (eqb-true x k e) at h
 
-  to : all_cover (keep_all (all_leave ss) ns) ss k ≡ true → all_allow ns ss k ≡ true
-  to e = elim (cases_Bool all_left) [
-    | inl f ↦ let r = left_one (all_leave ss) ns k f in all_weaker (λ s. read_leaves s k r.0) allows (λ s w. grind (arith, r.2 s.at)) ss r.1
-    | inr f ↦ all_weaker (λ s. not (is_in s k) || all_left) allows (λ s w. grind arith) ss e
-  ]
+-- all slots allow a key if and only if it lies in none or is left by mention
+allowed_covered : (ns : List Mention) (k : ℕ) (ss : List ReadSlot) → all_hear_mentioned ns ss ≡ true → all_allow ns ss k ≡ (not (is_in_some ss k) || quiet_before ns k (limit ss k))
+allowed_covered ns k [] e = refl
+allowed_covered ns k (s ∷ ss) e =
+    let parts = and_parts _ _ e in
+    next (quiet_before ns k) (is_in s k) (is_heard (heard_of s) k) (is_in_some ss k) (limit ss k) s.at (quiet_since ns k s.at (limit ss k)) (quiet_until ns k s.at (limit ss k)) (limit_none ss k)
+    (λ h. quiet_none ns k ∙ heard_mentioned ns (heard_of s) k h parts.0) (λ q. quiet_none ns k ∙ silenced_mentioned ns k s.at q) _ (allowed_covered ns k ss parts.1)
+  where
+    next : (f : Option ℕ → Bool) (b h i : Bool) (o : Option ℕ) (at : ℕ) → (is_before at o ≡ true → f (Some at) ≡ true → f o ≡ true) → (is_before at o ≡ false → f o ≡ true → f (Some at) ≡ true) → (i ≡ false → o ≡ None) → (h ≡ true → f None ≡ true) → (f (Some at) ≡ true → f None ≡ true) → (a : Bool) → a ≡ (not i || f o) → ((not b || (f (Some at) || h)) && a) ≡ (not (b || i) || f (if not b || (h || not (is_before at o)) then o else Some at))
+    next f b h i o at since until none heard quiet a is = grind arith
 
-  from : all_allow ns ss k ≡ true → all_cover (keep_all (all_leave ss) ns) ss k ≡ true
-  from e = elim (cases_Bool (is_mentioned ns k)) [
-    | inl f ↦
-        let t = least ns k f in
-        let leave = all_weaker allows (λ s. read_leaves s k t.quiet) (λ s w. grind (arith, nat_tests, t.first s.at)) ss e in
-        let l = t.left (all_leave ss) leave left in
-        all_weaker allows (λ s. not (is_in s k) || all_left) (λ s w. grind arith) ss e
-    | inr f ↦ list_all-from_AllPass (λ s. not (is_in s k) || all_left) ss (λ j d lt.
-        let out = unmentioned_outside ns (get_or ss j d) k f (AllPass-from_list_all (hears_mentioned ns) ss mentioned j d lt) (AllPass-from_list_all allows ss e j d lt) in
-        grind arith)
-  ]
+-- ---- sorted, and those before a position
 
--- ---- sorted
-
-all_by_any : {X : Type 0} (p : X → Bool) (xs : List X) → list_all p xs ≡ not (list_any (λ x. not (p x)) xs)
-all_by_any p [] = refl
-all_by_any p (x ∷ xs) = grind (arith, all_by_any p xs)
+all_kept : {X : Type 0} (p : X → Bool) (xs ys : List X) → IsPermutation xs ys → list_all p xs ≡ true → list_all p ys ≡ true
+all_kept p xs ys m e = list_all-from_AllPass p ys (All-permutation (λ x. p x ≡ true) xs ys m (AllPass-from_list_all p xs e))
 
 all_permuted : {X : Type 0} (p : X → Bool) (xs ys : List X) → IsPermutation xs ys → list_all p xs ≡ list_all p ys
-all_permuted p xs ys m = all_by_any p xs ∙ (ap not (list_any-IsPermutation (λ x. not (p x)) xs ys m) ∙ sym (all_by_any p ys))
-
-pub left_permuted : (ns ms : List Mention) → IsPermutation ns ms → are_left ns ≡ true → are_left ms ≡ true
-left_permuted ns ms m e = sym (all_permuted (λ (n : Mention). n.left) ns ms m) ∙ e
-
-pub mentioned_permuted : (ns ms : List Mention) (ss ts : List ReadSlot) → IsPermutation ns ms → IsPermutation ss ts → all_hear_mentioned ns ss ≡ true → all_hear_mentioned ms ts ≡ true
-mentioned_permuted ns ms ss ts m w e =
-    all_weaker (hears_mentioned ns) (hears_mentioned ms) (λ s. go (heard_of s)) ts (sym (all_permuted (hears_mentioned ns) ss ts w) ∙ e)
-  where
-    go : (o : Option ℕ) → is_mentioned_if ns o ≡ true → is_mentioned_if ms o ≡ true
-    go None h = refl
-    go (Some x) h = sym (list_any-IsPermutation (λ (n : Mention). n.key == x) ns ms m) ∙ h
-
-pub allow_permuted : (ns ms : List Mention) (ss ts : List ReadSlot) (k : ℕ) → IsPermutation ns ms → IsPermutation ss ts → all_allow ms ts k ≡ all_allow ns ss k
-allow_permuted ns ms ss ts k m w =
-    let quiet : (i : ℕ) → is_quiet_by ms k i ≡ is_quiet_by ns k i = λ i. sym (list_any-IsPermutation (λ (n : Mention). (n.key == k) && nat_lt (quiet_of n) i) ns ms m) in
-    simp quiet (sym (all_permuted (λ s. read_allows ns s k) ss ts w))
-
--- ---- the slots before a position
+all_permuted p xs ys m = same_tests _ _ (all_kept p xs ys m) (all_kept p ys xs (IsPermutation-sym xs ys m))
 
 abbrev pub is_before_place : ℕ → ReadSlot → Bool
 is_before_place i s = nat_lt s.at i
@@ -244,15 +198,33 @@ before_end i j (s ∷ ss) le h =
     let lt = All-head (λ (t : ReadSlot). t.at < j) s ss h in
     rw (lt_yes s.at i (omega arith), before_end i j ss le (All-tail (λ (t : ReadSlot). t.at < j) s ss h)) refl
 
-pub allow_filtered : (ns : List Mention) (i k : ℕ) (ss : List ReadSlot) → all_allow ns (filter (is_before_place i) ss) k ≡ all_allow_to ns ss i k
-allow_filtered ns i k [] = refl
-allow_filtered ns i k (s ∷ ss) = elim (cases_Bool (nat_lt s.at i)) [
-  | inl e ↦ rw e (grind (arith, nat_tests, allow_filtered ns i k ss))
-  | inr e ↦ rw e (grind (arith, nat_tests, allow_filtered ns i k ss))
-]
+all_filtered : (p q : ReadSlot → Bool) (ss : List ReadSlot) → list_all p ss ≡ true → list_all p (filter q ss) ≡ true
+all_filtered p q ss e = list_all-from_AllPass p (filter q ss) (All-filter q (λ s. p s ≡ true) ss (AllPass-from_list_all p ss e))
 
-pub mentioned_filtered : (ns : List Mention) (p : ReadSlot → Bool) (ss : List ReadSlot) → all_hear_mentioned ns ss ≡ true → all_hear_mentioned ns (filter p ss) ≡ true
-mentioned_filtered ns p ss e = list_all-from_AllPass (hears_mentioned ns) (filter p ss) (All-filter p (λ s. hears_mentioned ns s ≡ true) ss (AllPass-from_list_all (hears_mentioned ns) ss e))
+allow_filtered : (ns : List Mention) (i k : ℕ) (ss : List ReadSlot) → all_allow ns (filter (is_before_place i) ss) k ≡ all_allow_to ns ss i k
+allow_filtered ns i k [] = refl
+allow_filtered ns i k (s ∷ ss) = grind (arith, nat_tests, allow_filtered ns i k ss)
+
+-- what the ranges leave open once the slots before a position, sorted, closed what they leave of sorted mentions
+pub settled_by : (ns ms : List Mention) (ss ts : List ReadSlot) (cut : ℕ) (old new : List (ℕ × ℕ)) (k : ℕ) → IsPermutation ns ms → IsPermutation (filter (is_before_place cut) ss) ts → are_left ns ≡ true → all_hear_mentioned ns ss ≡ true → Closes (keep_all (all_leave ts) ms) (is_in_some ts) old new → not (in_ranges new k) ≡ (not (in_ranges old k) && all_allow_to ns ss cut k)
+settled_by ns ms ss ts cut old new k m w left mentioned closes =
+    let early = filter (is_before_place cut) ss in
+    let p = all_leave ts in
+    let closed = closes k in
+    let sorted = list_any-IsPermutation (λ n. (n.key == k) && n.left) _ _ (IsPermutation-map (keep p) ns ms m) in
+    let kept = left_before p (limit ts k) ns k (all_before ts k) left in
+    let allowed = allowed_covered ns k ts (all_kept (hears_mentioned ns) early ts w (all_filtered (hears_mentioned ns) _ ss mentioned)) in
+    let slots = all_permuted (λ s. read_allows ns s k) early ts w in
+    let upto = allow_filtered ns cut k ss in
+    grind arith
+
+-- sorted, and some of them ruled out
+pub put_in_order : (p : ℕ → ℕ → Bool) (ns sorted : List Mention) → IsPermutation ns sorted → AreInOrder sorted → ArePutInOrder ns (keep_all p sorted)
+put_in_order p ns sorted m order = record {
+  order = keep-order p sorted order;
+  keys = λ h. All-map (λ (n : Mention). n.key < 2 ^ 56) (keep p) sorted (All-permutation (λ (n : Mention). n.key < 2 ^ 56) ns sorted m h);
+  quiet = λ k i. keep-quiet p sorted k i ∙ silenced_permuted ns sorted k i m;
+}
 
 -- a slice that was borrowed from a list and written
 pub written : (n : ℕ) (xs ys : List Mention) → n ≡ length xs → take n (xs ++ ys) ≡ xs

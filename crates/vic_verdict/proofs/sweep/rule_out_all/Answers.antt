@@ -1,4 +1,4 @@
-use Rattle.vic_verdict.proofs.Words.{◌∙◌, ap, get_or, sym, Option, take_all, get_or_default, Run, keep_all, run_leaves, all_leave}
+use Rattle.vic_verdict.proofs.Words.{◌∙◌, get_or, sym, take_all, get_or_default}
 use Rattle.vic_verdict.proofs.Sweeping.{nowhere, runs_more, keep_none}
 use Rattle.vic_verdict.proofs.sweep.rule_out_all.Goals as goal
 
@@ -14,14 +14,8 @@ loop-read-preserved c = record {
 
 pub returns-in-Some : goal.returns-in-Some
 returns-in-Some c =
-    c.rule_out.ensures
-    ∙ (ap (λ (o : Option Run). keep_all (run_leaves o) c.loop-read.mentions) (sym c.in-Some.is)
-    ∙ (c.loop-read.invariant.done
-    ∙ ap (λ ss. keep_all (all_leave ss) c.args.mentions.now) (take_all c.loop-read.read-index c.args.reads.now c.loop-read-test.false)))
+    c.rule_out.ensures ∙ (rw (c.in-Some.is, take_all c.loop-read.read-index c.args.reads.now c.loop-read-test.false) at c.loop-read.invariant.done)
 
 pub returns-in_default : goal.returns-in_default
 returns-in_default c =
-    sym (keep_none c.loop-read.mentions)
-    ∙ (ap (λ (o : Option Run). keep_all (run_leaves o) c.loop-read.mentions) (sym c.in_default.is)
-    ∙ (c.loop-read.invariant.done
-    ∙ ap (λ ss. keep_all (all_leave ss) c.args.mentions.now) (take_all c.loop-read.read-index c.args.reads.now c.loop-read-test.false)))
+    sym (keep_none c.loop-read.mentions) ∙ (rw (c.in_default.is, take_all c.loop-read.read-index c.args.reads.now c.loop-read-test.false) at c.loop-read.invariant.done)
