@@ -1,19 +1,14 @@
 -- Lists of UIDs by their keys, and which of them aren't in a set.
-use Rattle.vic_verdict.proofs.Words.{◌≡◌, ℕ, ◌+◌, ◌<◌, ◌^◌, ◌==◌, ◌||◌, List, [], ◌∷◌, ◌++◌, length, take, get_or, Bool, true, false, refl, sym, ap, ◌∙◌, subst, arith, ⊎_elim, ◌&&◌, not, nat_eq, eqb-true, ne_eqb, or_false, list_all, both_ways, cases_Bool, and_from, and_parts, not-true, not_from_false, or_cases, list_any-append, list_any_more, Any-from_list_any, IsUid, has, is_uid, mirror, uid_of, uid_of_mirror, has_key, has_here, has_there, IsUid-from, is_uid_from, AreKeysOf, IsFailing, IsListOf, NoSuch, true_from_ne_false, list_all_at, mirror_of_uid, same_test, AreOutside}
+use Rattle.vic_verdict.proofs.Words.{◌↔◌, ◌≡◌, ℕ, ◌+◌, ◌<◌, ◌^◌, ◌==◌, ◌||◌, List, [], ◌∷◌, ◌++◌, length, take, get_or, Bool, true, false, refl, sym, ap, ◌∙◌, subst, arith, ⊎_elim, ◌&&◌, not, nat_eq, eqb-true, ne_eqb, or_false, list_all, both_ways, cases_Bool, or_cases, list_any-append, list_any_more, Any-from_list_any, IsUid, has, is_uid, mirror, uid_of, uid_of_mirror, has_key, has_here, has_there, IsUid-from, is_uid_from, AreKeysOf, IsFailing, IsListOf, NoSuch, true_from_ne_false, list_all_at, mirror_of_uid, same_test, AreOutside}
+
+fails_iff : (i v h t a : Bool) → v ≡ (i && (h && not t)) → (i ≡ true → h ≡ a) → (a ≡ true → i ≡ true) → (v ≡ true) ↔ ((a ≡ true) × (t ≡ false))
+fails_iff i v h t a is same uid = (λ e. (grind arith, grind arith), λ e. grind arith)
 
 -- the UIDs at the keys of a list that aren't in a set are those of the list that fail its test
 pub outside_are : (test : ℕ → Bool) (keys us vs : List ℕ) → AreKeysOf keys us → AreOutside test keys vs → IsListOf (IsFailing us test) vs
 outside_are test keys us vs k out = record {
   rising = out.rising;
-  members = λ u. (
-    (λ h.
-        let parts = and_parts (is_uid u) (has_key keys u && not (test u)) (sym (out.members u) ∙ h) in
-        let rest = and_parts (has_key keys u) (not (test u)) parts.1 in
-        (sym (k.members u (IsUid-from u parts.0)) ∙ rest.0, not-true _ rest.1)),
-    (λ h.
-        let w = k.are_uids u h.0 in
-        out.members u ∙ and_from _ _ (is_uid_from u w) (and_from _ _ (k.members u w ∙ h.0) (not_from_false _ h.1))),
-  );
+  members = λ u. fails_iff (is_uid u) _ (has_key keys u) (test u) (has us u) (out.members u) (λ i. k.members u (IsUid-from u i)) (λ h. is_uid_from u (k.are_uids u h));
 }
 
 -- ---- all of a list

@@ -1,5 +1,6 @@
 -- Whether somebody was heard while Quiet, by mentions in the order of their keys.
-use Rattle.vic_verdict.proofs.Words.{◌≡◌, ℕ, ◌+◌, ◌-◌, ◌<◌, ◌≤◌, ◌==◌, List, length, get_or, [], ◌∷◌, Bool, true, ◌&&◌, refl, sym, ap, ◌∙◌, subst, arith, ⊎_elim, ◌⊎◌, nat_lt, eq-eqb, eqb-true, All, nat_tests, cases_eq, and_parts, and_from, list_any, get_or_default, All-head, All-tail, list_any_at, Any-from_list_any, Mention, NEVER, reply_place, IsFirstQuietReply, is_between, quiet_of, is_quiet_by, has_where, AreInOrder, lt_from, lt_yes, is_quiet_reply, IsQuietReply}
+use Rattle.vic_verdict.proofs.Words.{◌≡◌, ℕ, ◌+◌, ◌-◌, ◌<◌, ◌≤◌, ◌==◌, List, length, get_or, [], ◌∷◌, Bool, true, ◌&&◌, refl, sym, ap, ◌∙◌, arith, ◌⊎◌, nat_lt, eq-eqb, eqb-true, All, nat_tests, and_parts, and_from, list_any, All-head, All-tail, list_any_at, Any-from_list_any, Mention, NEVER, reply_place, IsFirstQuietReply, is_between, quiet_of, is_quiet_by, has_where, AreInOrder, is_quiet_reply, IsQuietReply, if◌then◌else◌, inl, inr, take, take_all, All-weaker, min}
+use Rattle.std.proofs.lemmas.List.Elements.{All-more}
 use Rattle.vic_verdict.proofs.Closing.{between_from}
 use Rattle.vic_verdict.proofs.Sweeping.{nobody}
 
@@ -29,27 +30,34 @@ tells_still ns k quiet up some below le tells i upto =
     let over = up (k - 1) k nobody (omega arith) below in
     ap (λ key. is_quiet_by ns key i) (omega arith) ∙ tells i upto
 
+-- if a mention is a reply of a Quiet UID, it comes no earlier
+abbrev pub ComesSince : List Mention → ℕ → Mention → Type 0
+ComesSince ns first n = is_quiet_reply ns n ≡ true → first ≤ reply_place n
+
 -- what is found of the first k mentions
 pub record IsFoundTo (ns : List Mention) (end k first : ℕ) : Type 0 where
   pub within : first ≤ end
   pub quiet : first < end → IsQuietReply ns first
-  pub least : (j : ℕ) → j < k → is_quiet_reply ns (at ns j) ≡ true → first ≤ reply_place (at ns j)
+  pub least : All (ComesSince ns first) (take k ns)
 
--- a reply of a Quiet UID
-quiet_here : (ns : List Mention) (k : ℕ) → k < length ns → is_quiet_reply ns (at ns k) ≡ true → IsQuietReply ns (reply_place (at ns k))
-quiet_here ns k below e = list_any_at (λ (n : Mention). (reply_place n == reply_place (at ns k)) && is_quiet_by ns n.key (reply_place (at ns k))) ns k nobody below (and_from _ _ (eq-eqb _ _ refl) e)
+lower : (b : Bool) (first place next : ℕ) → next ≡ (if b then min first place else first) → (next ≤ first) × (b ≡ true → next ≤ place) × ((next ≡ first) ⊎ ((next ≡ place) × (b ≡ true)))
+lower b first place next is = (grind arith, λ e. grind arith, grind arith)
 
--- a mention more, which may be one
-pub found_more : (ns : List Mention) (end quiet k first next : ℕ) → k < length ns → reply_place (at ns k) ≤ NEVER → TellsFrom ns k quiet → next ≤ first → (quiet < reply_place (at ns k) → next ≤ reply_place (at ns k)) → (next ≡ first) ⊎ ((next ≡ reply_place (at ns k)) × (quiet < reply_place (at ns k))) → IsFoundTo ns end k first → IsFoundTo ns end (k + 1) next
-found_more ns end quiet k first next below small tells le here is f = record {
-  within = omega arith;
-  quiet = λ lt. ⊎_elim (λ old. subst (IsQuietReply ns) (sym old) (f.quiet (omega arith))) (λ new. subst (IsQuietReply ns) (sym new.0) (quiet_here ns k below (tells _ small ∙ lt_yes _ _ new.1))) is;
-  least = λ j lt it.
-      ⊎_elim
-      (λ same. subst (λ i. next ≤ reply_place (at ns i)) (sym same) (here (lt_from _ _ (sym (tells _ small) ∙ subst (λ i. is_quiet_reply ns (at ns i) ≡ true) same it))))
-      (λ ne. let old = f.least j (omega arith) it in omega arith)
-      (cases_eq j k);
-}
+-- a mention more, which may be a reply of a Quiet UID
+pub found_more : (ns : List Mention) (end quiet k first place next : ℕ) → k < length ns → place ≡ reply_place (at ns k) → place ≤ NEVER → TellsFrom ns k quiet → next ≡ (if nat_lt quiet place then min first place else first) → IsFoundTo ns end k first → IsFoundTo ns end (k + 1) next
+found_more ns end quiet k first place next below placed small tells is f =
+    let here : is_quiet_reply ns (at ns k) ≡ nat_lt quiet place = rw placed (tells _ (omega arith)) in
+    let step = lower (nat_lt quiet place) first place next is in
+    record {
+      within = omega (arith, step.0, f.within);
+      quiet = λ lt. elim step.2 [
+        | inl old ↦ rw old (f.quiet (omega (arith, old)))
+        | inr new ↦ rw (new.0, placed) (list_any_at (λ (n : Mention). (reply_place n == reply_place (at ns k)) && is_quiet_by ns n.key (reply_place (at ns k))) ns k nobody below (and_from _ _ (eq-eqb _ _ refl) (here ∙ new.1)))
+      ];
+      least = All-more (ComesSince ns next) ns k nobody below
+          (All-weaker (ComesSince ns first) (ComesSince ns next) (λ n le e. omega (arith, le e, step.0)) (take k ns) f.least)
+          (λ e. omega (arith, placed, step.1 (sym here ∙ e)));
+    }
 
 pub found_all : (ns : List Mention) (end k first : ℕ) → length ns ≤ k → IsFoundTo ns end k first → IsFirstQuietReply ns end first
 found_all ns end k first past f = record {
@@ -57,13 +65,9 @@ found_all ns end k first past f = record {
   quiet = f.quiet;
   first = λ m e.
       let some = Any-from_list_any (λ (n : Mention). (reply_place n == m) && is_quiet_by ns n.key m) ns e in
-      let n : Mention = some.1 in
-      let within = some.2 in
-      let here : at ns some.0 ≡ n = sym (get_or_default ns some.0 n nobody within) ∙ some.3 in
-      let parts = and_parts (reply_place n == m) (is_quiet_by ns n.key m) some.4 in
-      let placed = eqb-true (reply_place n) m parts.0 in
-      let it : is_quiet_reply ns n ≡ true = subst (λ i. is_quiet_by ns n.key i ≡ true) (sym placed) parts.1 in
-      let far = f.least some.0 (omega arith) (ap (is_quiet_reply ns) here ∙ it) in
-      let same = ap reply_place here in
-      omega arith;
+      let parts = and_parts (reply_place some.1 == m) (is_quiet_by ns some.1.key m) some.4 in
+      let placed = eqb-true (reply_place some.1) m parts.0 in
+      let least : All (ComesSince ns first) ns = rw (take_all k ns past) at f.least in
+      let far : ComesSince ns first some.1 = rw some.3 at (least some.0 some.1 some.2) in
+      omega (arith, far (rw placed parts.1));
 }

@@ -1,5 +1,5 @@
 -- What the slots between two field cycles leave, mention by mention.
-use Rattle.vic_verdict.proofs.Words.{All, Bool, IsPermutation, List, None, Option, Some, [], ap, arith, drop, eqb-true, false, filter, get_or, get_or-drop, get_or-take, if◌then◌else◌, inl, inr, le_of_lt, length, length-append, length-drop, length-take-le, ltb-false, nat_lt, not, refl, rules, set, subst, sym, take, take-append-drop, true, ℕ, ◌&&◌, ◌++◌, ◌+◌, ◌-◌, ◌<◌, ◌==◌, ◌^◌, ◌||◌, ◌∙◌, ◌∷◌, ◌≡◌, ◌≤◌, ◌⊎◌, take-append_seam, and_parts, both_ways, cases_Bool, false≢true, nat_tests, drop_more, get_or-map, get_or_default, length-map, map-append, All-filter, All-head, All-map, All-tail, list_all_more, map_fixed, All-permutation, IsPermutation-sym, list_any-IsPermutation, AllPass-from_list_all, list_all-from_AllPass, list_all, has, and_thrice, and_true, lt_from, lt_yes, same_tests, in_ranges, is_between, Mention, ReadSlot, Run, Closes, is_in_some, AreInOrder, ArePutInOrder, IsStart, all_allow, all_allow_to, all_hear_mentioned, all_leave, are_left, first_of, has_left, has_where, heard_of, hears_mentioned, is_heard, is_in, is_mentioned, is_mentioned_if, is_quiet_by, keep, keep_all, last_of, level_leaves, mask_leaves, quiet_of, read_allows, read_leaves, run_leaves, slot_leaves}
+use Rattle.vic_verdict.proofs.Words.{All, Bool, IsPermutation, List, None, Option, Some, [], ap, arith, drop, eqb-true, false, filter, get_or, get_or-drop, get_or-take, if◌then◌else◌, inl, inr, le_of_lt, length, length-append, length-drop, length-take-le, ltb-false, nat_lt, not, refl, set, subst, sym, take, take-append-drop, true, ℕ, ◌&&◌, ◌++◌, ◌+◌, ◌-◌, ◌<◌, ◌==◌, ◌^◌, ◌||◌, ◌∙◌, ◌∷◌, ◌≡◌, ◌≤◌, ◌⊎◌, take-append_seam, and_parts, both_ways, false≢true, nat_tests, drop_more, get_or-map, get_or_default, length-map, map-append, All-filter, All-head, All-map, All-tail, list_all_more, map_fixed, All-permutation, IsPermutation-sym, list_any-IsPermutation, AllPass-from_list_all, list_all-from_AllPass, list_all, and_thrice, and_true, lt_from, lt_yes, same_tests, in_ranges, is_between, Mention, ReadSlot, Run, Closes, is_in_some, AreInOrder, ArePutInOrder, IsStart, all_allow, all_allow_to, all_hear_mentioned, all_leave, are_left, first_of, has_left, has_where, heard_of, hears_mentioned, is_heard, is_in, is_mentioned, is_mentioned_if, is_quiet_by, keep, keep_all, last_of, level_leaves, mask_leaves, quiet_of, read_allows, read_leaves, run_leaves, slot_leaves}
 use Rattle.std.proofs.lemmas.List.{get_or_at}
 use Rattle.std.proofs.lemmas.List.Edits.{map_over_more}
 use Rattle.std.proofs.lemmas.List.Sorted.{IsPermutation-map}

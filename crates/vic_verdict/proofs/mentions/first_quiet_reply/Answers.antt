@@ -1,4 +1,4 @@
-use Rattle.vic_verdict.proofs.Words.{◌≡◌, ◌+◌, ◌-◌, ◌≤◌, refl, sym, subst, arith, inl, inr, ⊎_elim, cases_lt, NEVER, reply_place}
+use Rattle.vic_verdict.proofs.Words.{le-ltb, lt_yes, ◌≡◌, ◌+◌, ◌-◌, refl, subst, arith}
 use Rattle.vic_verdict.proofs.Sweeping.{start_here}
 use Rattle.vic_verdict.proofs.Replying.{at, TellsFrom, tells_still, tells_own, IsFoundTo, found_more, found_all}
 use Rattle.vic_verdict.proofs.mentions.first_quiet_reply.Goals as goal
@@ -17,28 +17,15 @@ loop-i-preserved c =
     let k = c.loop-i.i in
     let quiet = c.if-i-eq0.quiet in
     let tells : TellsFrom ns k quiet = elim c.if-i-eq0.branch [
-      | then-i-eq0 w ↦ λ i upto. subst (λ q. TellsFrom ns k q) (sym w.quiet-is)
-          (λ j small. tells_own ns w.mentions_between.result.now (at ns k).key w.first_quiet-quiet.result j w.mentions_between.ensures.inside w.mentions_between.ensures.all (w.first_quiet-quiet.ensures j small)) i upto
-      | else-i-eq0+else-mentions-i w ↦ λ i upto. subst (λ q. TellsFrom ns k q) (sym w.quiet-is)
-          (let some = w.if-i-eq0.false in tells_still ns k c.loop-i.quiet c.requires (omega arith) c.loop-i-test.true w.if-mentions-i.false (c.loop-i.invariant.quiet (omega arith))) i upto
+      | then-i-eq0 w ↦ rw w.quiet-is (λ i upto. tells_own ns w.mentions_between.result.now (at ns k).key w.first_quiet-quiet.result i w.mentions_between.ensures.inside w.mentions_between.ensures.all (w.first_quiet-quiet.ensures i upto))
+      | else-i-eq0+else-mentions-i w ↦ rw w.quiet-is (let some = w.if-i-eq0.false in tells_still ns k c.loop-i.quiet c.requires (omega arith) c.loop-i-test.true w.if-mentions-i.false (c.loop-i.invariant.quiet (omega arith)))
     ] in
-    let place = c.reply_place-reply.ensures in
-    let bound = c.reply_place-reply.type_inv in
-    let small : reply_place (at ns k) ≤ NEVER = omega arith in
     record {
       quiet = λ some. subst (λ i. TellsFrom ns i quiet) (let e : k ≡ k + 1 - 1 = omega arith in e) tells;
-      found = elim c.if-quiet-reply.branch [
-        | then-quiet-reply w ↦
-            let late = w.if-quiet-reply.true in
-            let least = w.min-first.ensures in
-            subst (IsFoundTo ns c.args.end (k + 1)) (sym w.first-is)
-            (found_more ns c.args.end quiet k c.loop-i.first w.min-first.result c.loop-i-test.true small tells (omega arith) (λ _. omega arith)
-            (⊎_elim (λ lt. inl (omega arith)) (λ ge. inr (omega arith, omega arith)) (cases_lt c.loop-i.first c.reply_place-reply.result))
-            c.loop-i.invariant.found)
-        | else-quiet-reply w ↦
-            let early = w.if-quiet-reply.false in
-            subst (IsFoundTo ns c.args.end (k + 1)) (sym w.first-is) (found_more ns c.args.end quiet k c.loop-i.first c.loop-i.first c.loop-i-test.true small tells (omega arith) (λ late. absurd (omega arith)) (inl refl) c.loop-i.invariant.found)
-      ];
+      found = found_more ns c.args.end quiet k c.loop-i.first c.reply_place-reply.result _ c.loop-i-test.true c.reply_place-reply.ensures (omega (arith, c.reply_place-reply.type_inv)) tells (elim c.if-quiet-reply.branch [
+        | then-quiet-reply w ↦ rw (w.first-is, lt_yes _ _ w.if-quiet-reply.true) w.min-first.ensures
+        | else-quiet-reply w ↦ rw (w.first-is, le-ltb _ _ w.if-quiet-reply.false) refl
+      ]) c.loop-i.invariant.found;
     }
 
 pub returns : goal.returns

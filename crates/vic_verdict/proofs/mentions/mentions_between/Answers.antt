@@ -1,4 +1,4 @@
-use Rattle.vic_verdict.proofs.Words.{◌≡◌, ◌+◌, ◌-◌, ◌^◌, ◌<◌, length, take, drop, arith, ap, ◌∙◌, Mention, has_where, All-drop, All-take}
+use Rattle.vic_verdict.proofs.Words.{◌^◌, ◌<◌, take, drop, ap, ◌∙◌, Mention, has_where, All-drop, All-take}
 use Rattle.std.proofs.lemmas.List.{take_rest}
 use Rattle.vic_verdict.proofs.Closing.{part_between, part_where}
 use Rattle.vic_verdict.proofs.mentions.mentions_between.Goals as goal

@@ -1,49 +1,42 @@
-use Rattle.vic_verdict.proofs.Words.{false, ◌<◌, ◌^◌, ◌≡◌, ◌+◌, ℕ, List, [], ◌∷◌, ◌++◌, inl, inr, ⊎_elim, ◌∙◌, true, refl, ap, sym, Option, Some, None, subst, arith, IfSome, slice_get, append-nil, ReadSlot, Demand, wakes, rules_out, needs, IfOk-weaker, KeyBlock, is_in_some_block, mirror, IsUid, Entry, Sent, Silent, Collision, Garbled, Listed, Heard, Reply, lies_in_some, mask_at, Mention, IsBlock, HasGathered, mention_at, mentions_at}
+use Rattle.vic_verdict.proofs.Words.{Bool, false, ◌<◌, ◌^◌, ◌≡◌, ◌+◌, ℕ, List, [], ◌∷◌, ◌++◌, inl, inr, ◌∙◌, true, refl, ap, sym, Option, Some, None, subst, arith, IfSome, slice_get, append-nil, ReadSlot, Demand, wakes, rules_out, needs, IfOk-weaker, KeyBlock, is_in_some_block, mirror, IsUid, Entry, Sent, Silent, Collision, Garbled, Listed, Heard, Reply, lies_in_some, mask_at, Mention, IsBlock, HasGathered, mentions_at}
 use Rattle.vic_verdict.proofs.Demanding.{asked_nothing, asked_more}
 use Rattle.vic_verdict.proofs.Heard.{outside_reply, nobody_there}
 use Rattle.vic_verdict.proofs.Stretching.{gathered_next, gathered_passed, read_told}
 use Rattle.vic_verdict.proofs.stretches.note_entry.Goals as goal
 
+-- whether the UID that was heard lies in the mask of its slot
+lies_there : (es : List Entry) (i uid heard : ℕ) (r : Reply) (keys : Option KeyBlock) (b : Bool) → uid ≡ r.uid → heard ≡ mirror uid → IsUid uid → ((u : ℕ) → IsUid u → is_in_some_block keys (mirror u) ≡ lies_in_some (mask_at es i) u) → b ≡ is_in_some_block keys heard → lies_in_some (mask_at es i) r.uid ≡ b
+lies_there es i uid heard r keys b same key is_uid inside is = sym (is ∙ (ap (is_in_some_block keys) key ∙ (inside uid is_uid ∙ ap (λ u. lies_in_some (mask_at es i) u) same)))
+
 pub returns-then-not-is_in_some_block-clause-unfit : goal.returns-then-not-is_in_some_block-clause-unfit
 returns-then-not-is_in_some_block-clause-unfit c es k valid at failed =
-    let r = c.in-Heard.response in
-    outside_reply es c.args.index r (k ∙ ap (λ (e : Entry). Some e) c.in-Heard.is)
-    (ap (λ u. lies_in_some (mask_at es c.args.index) u) (sym c.uid.ensures.value)
-    ∙ (sym (c.keys-keys.ensures.inside es c.args.index c.uid.result valid at c.key-heard.ensures.is_uid)
-    ∙ (ap (is_in_some_block c.keys-keys.result) (sym c.key-heard.ensures.value) ∙ (sym c.is_in_some_block.ensures ∙ c.if-not-is_in_some_block.true))))
+    outside_reply es c.args.index c.in-Heard.response (k ∙ ap (λ (e : Entry). Some e) c.in-Heard.is)
+    (lies_there es c.args.index c.uid.result c.key-heard.result c.in-Heard.response c.keys-keys.result _ c.uid.ensures.value c.key-heard.ensures.value c.key-heard.ensures.is_uid (λ u w. c.keys-keys.ensures.inside es c.args.index u valid at w) c.is_in_some_block.ensures ∙ c.if-not-is_in_some_block.true)
 
 pub returns-in_ok-note_sent-in-Sent-clause-gathered : goal.returns-in_ok-note_sent-in-Sent-clause-gathered
 returns-in_ok-note_sent-in-Sent-clause-gathered c es from k valid at other fits h =
-    let e = Sent c.in-Sent.request in
     let here = k ∙ ap (λ x. Some x) c.in-Sent.is in
-    let ds = c.args.demands.now.items in
-    gathered_passed es from c.args.index e c.args.mentions.now.items c.note_sent.new.mentions.items c.args.reads.now.items ds ds here c.requires refl c.in_ok-note_sent-in-Sent.ensures refl (λ begun. asked_nothing es from c.args.index ds e begun here refl) h
+    gathered_passed es from _ (Sent c.in-Sent.request) _ _ _ _ _ here c.requires refl c.in_ok-note_sent-in-Sent.ensures refl (λ begun. asked_nothing es from _ _ _ begun here refl) h
 
 pub returns-in_ok-push_read-in-Silent-clause-gathered : goal.returns-in_ok-push_read-in-Silent-clause-gathered
 returns-in_ok-push_read-in-Silent-clause-gathered c es from k valid at other fits h =
     let here = k ∙ ap (λ e. Some e) c.in-Silent.is in
-    let i = c.args.index in
-    let ns = c.args.mentions.now.items in
-    let ds = c.args.demands.now.items in
-    let read = read_told es i Silent c.keys.result None c.args.reads.now.items c.push_read.new.reads.items (λ u w. c.keys.ensures.inside es i u valid at w) (inl (here, refl)) c.in_ok-push_read-in-Silent.ensures in
-    gathered_next es from i Silent ns ns c.args.reads.now.items c.push_read.new.reads.items ds ds here c.requires refl (sym (append-nil ns)) read (λ r e. absurd (cc)) (λ begun. asked_nothing es from i ds Silent begun here refl) h
+    let read = read_told es c.args.index Silent c.keys.result None _ _ (λ u w. c.keys.ensures.inside es c.args.index u valid at w) (inl (here, refl)) c.in_ok-push_read-in-Silent.ensures in
+    gathered_next es from _ Silent _ _ _ _ _ _ here c.requires refl (sym (append-nil _)) read (λ r e. absurd (cc)) (λ begun. asked_nothing es from _ _ Silent begun here refl) h
 
 pub returns-in_ok-push_read-in-Heard-clause-gathered : goal.returns-in_ok-push_read-in-Heard-clause-gathered
 returns-in_ok-push_read-in-Heard-clause-gathered c es from k valid at other fits h =
     let r = c.in-Heard.response in
     let here = k ∙ ap (λ e. Some e) c.in-Heard.is in
-    let i = c.args.index in
-    let ns = c.args.mentions.now.items in
-    let ds = c.args.demands.now.items in
     let told = c.key-heard.ensures in
     let key : c.key-heard.result ≡ mirror r.uid = told.value ∙ ap mirror c.uid.ensures.value in
-    let is_uid : IsUid r.uid = subst IsUid c.uid.ensures.value told.is_uid in
-    let inside : lies_in_some (mask_at es i) r.uid ≡ true = ap (λ u. lies_in_some (mask_at es i) u) (sym c.uid.ensures.value) ∙ (sym (c.keys-keys.ensures.inside es i c.uid.result valid at told.is_uid) ∙ (ap (is_in_some_block c.keys-keys.result) (sym told.value) ∙ (sym c.is_in_some_block.ensures ∙ c.if-not-is_in_some_block.false))) in
-    let read = read_told es i (Heard r) c.keys-keys.result (Some c.key-heard.result) c.args.reads.now.items c.push_read-in-Heard.new.reads.items (λ u w. c.keys-keys.ensures.inside es i u valid at w) (inr (r, here, is_uid, ap (λ x. Some x) key)) c.in_ok-push_read-in-Heard.ensures in
-    gathered_next es from i (Heard r) ns c.push_mention.new.mentions.items c.args.reads.now.items c.push_read-in-Heard.new.reads.items ds ds here c.requires refl
-    (c.in_ok-push_mention-in-Heard.ensures ∙ ap (λ x. ns ++ mention_at x i true ∷ []) key) read
-    (λ q e. let same : r ≡ q = cc in subst (λ (x : Reply). IsUid x.uid × (lies_in_some (mask_at es i) x.uid ≡ true)) same (is_uid, inside))
-    (λ begun. asked_nothing es from i ds (Heard r) begun here refl) h
+    let is_uid : IsUid r.uid = rw c.uid.ensures.value at told.is_uid in
+    let keys : (u : ℕ) → IsUid u → is_in_some_block c.keys-keys.result (mirror u) ≡ lies_in_some (mask_at es c.args.index) u = λ u w. c.keys-keys.ensures.inside es c.args.index u valid at w in
+    let inside = lies_there es c.args.index c.uid.result c.key-heard.result r c.keys-keys.result _ c.uid.ensures.value told.value told.is_uid keys c.is_in_some_block.ensures ∙ c.if-not-is_in_some_block.false in
+    let read = read_told es c.args.index (Heard r) c.keys-keys.result (Some c.key-heard.result) _ _ keys (inr (r, here, is_uid, ap (λ x. Some x) key)) c.in_ok-push_read-in-Heard.ensures in
+    gathered_next es from _ (Heard r) _ _ _ _ _ _ here c.requires refl (rw key at c.in_ok-push_mention-in-Heard.ensures) read
+    (λ q e. let same : r ≡ q = cc in subst (λ (x : Reply). IsUid x.uid × (lies_in_some (mask_at es c.args.index) x.uid ≡ true)) same (is_uid, inside))
+    (λ begun. asked_nothing es from _ _ (Heard r) begun here refl) h
 
 -- a slot that requires tags
 gathered_asked : (es : List Entry) (from i : ℕ) (e : Entry) (need : ℕ) (ns : List Mention) (ss : List ReadSlot) (ds cs : List Demand) (keys : Option KeyBlock) → slice_get es i ≡ Some e → i < 2 ^ 32 → wakes (Some e) ≡ false → mentions_at (Some e) i ≡ [] → rules_out e ≡ false → needs e ≡ need → 0 < need → ((u : ℕ) → IsUid u → is_in_some_block keys (mirror u) ≡ lies_in_some (mask_at es i) u) → IfSome keys (λ b. IsBlock b.first b.len) → (b : KeyBlock) × (keys ≡ Some b) × (cs ≡ ds ++ record { first = b.first; len = b.len; need = need; at = i } ∷ []) → HasGathered es from i ns ss ds → HasGathered es from (i + 1) ns ss cs
@@ -70,11 +63,9 @@ returns-in-Garbled-clause-unfit c = IfOk-weaker c.push_demand-in-Garbled.result 
     (λ u w. sym (c.keys-in-Garbled.ensures.inside es c.args.index u valid at w) ∙ ap (λ o. is_in_some_block o (mirror u)) (told failed).0)) c.push_demand-in-Garbled.ensures.none
 
 pub returns-in-Listed-clause-gathered : goal.returns-in-Listed-clause-gathered
-returns-in-Listed-clause-gathered c es from k valid at other fits h =
-    ⊎_elim (λ w. listed w.0 (k ∙ ap (λ e. Some e) w.1)) (λ f. absurd (other f)) c.in-Listed.is
-  where
-    ns : List Mention
-    ns = c.args.mentions.now.items
-
-    listed : (u : ℕ) → slice_get es c.args.index ≡ Some (Listed u) → HasGathered es from (c.args.index + 1) ns c.args.reads.now.items c.args.demands.now.items
-    listed u here = gathered_passed es from c.args.index (Listed u) ns ns c.args.reads.now.items c.args.demands.now.items c.args.demands.now.items here c.requires refl (sym (append-nil ns)) refl (λ begun. asked_nothing es from c.args.index c.args.demands.now.items (Listed u) begun here refl) h
+returns-in-Listed-clause-gathered c es from k valid at other fits h = elim c.in-Listed.is [
+  | inl w ↦
+      let here = k ∙ ap (λ e. Some e) w.1 in
+      gathered_passed es from _ (Listed w.0) _ _ _ _ _ here c.requires refl (sym (append-nil _)) refl (λ begun. asked_nothing es from _ _ (Listed w.0) begun here refl) h
+  | inr f ↦ absurd (other f)
+]

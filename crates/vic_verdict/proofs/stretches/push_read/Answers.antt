@@ -1,45 +1,36 @@
-use Rattle.vic_verdict.proofs.Words.{◌≡◌, ◌+◌, ◌-◌, ◌*◌, ◌^◌, ◌<◌, ◌∙◌, Option, ap, sym, subst, refl, arith, inr, IfSome, KeyBlock, is_in_some_block, ReadSlot, is_between, first_of, heard_of, last_of, div-mul-add, mod-mul-add, IsBlock, len_of}
+use Rattle.vic_verdict.proofs.Words.{◌≡◌, ◌%◌, ◌+◌, ◌*◌, ℕ, Bool, Option, Some, None, if◌then◌else◌, refl, arith, inr, KeyBlock, div-mul-add, mod-mul-add, IsBlock}
+use Rattle.std.proofs.Common.{◌/◌}
+use Rattle.vic_verdict.specs.inner.Stretches.{IsReadSlotOf}
 use Rattle.vic_verdict.proofs.stretches.push_read.Goals as goal
 use Rattle.vic_verdict.proofs.stretches.push_read.Goals.{in-Some-heard, in-None}
 
 pub overflow_mul-block : goal.overflow_mul-block
 overflow_mul-block c =
-    let block = subst (λ (o : Option KeyBlock). IfSome o (λ b. IsBlock b.first b.len)) c.in-Some.is c.requires in
-    let keys = block.keys in
-    omega arith
+    let block = rw c.in-Some.is at c.requires in
+    omega (arith, block.keys)
 
 pub overflow_add-block : goal.overflow_add-block
 overflow_add-block c =
-    let block = subst (λ (o : Option KeyBlock). IfSome o (λ b. IsBlock b.first b.len)) c.in-Some.is c.requires in
-    let keys = block.keys in
+    let block = rw c.in-Some.is at c.requires in
+    omega (arith, block.keys, block.short)
+
+-- the slot of a block
+slot_of : (keys : Option KeyBlock) (b : KeyBlock) (key at : ℕ) (is_heard : Bool) (heard : Option ℕ) → keys ≡ Some b → IsBlock b.first b.len → (if is_heard then Some key else None) ≡ heard → IsReadSlotOf keys at heard (record { mask = b.first * 256 + b.len; key = key; at = at; is_heard = is_heard })
+slot_of keys b key at is_heard heard is block told =
     let short = block.short in
-    omega arith
+    let end = block.keys in
+    let starts : (b.first * 256 + b.len) / 256 ≡ b.first = div-mul-add b.first 256 b.len (omega arith) in
+    let bits : (b.first * 256 + b.len) % 256 ≡ b.len = mod-mul-add b.first 256 b.len (omega arith) in
+    record {
+      place = refl;
+      key = told;
+      range = rw (starts, bits) (short, (omega arith, omega arith));
+      inside = λ k. rw (starts, bits, is) refl;
+    }
 
 pub returns : goal.returns
 returns c =
-    let old = c.args.reads.now.items in
-    let first = c.in-Some.block.first in
-    let len = c.in-Some.block.len in
-    let block = subst (λ (o : Option KeyBlock). IfSome o (λ b. IsBlock b.first b.len)) c.in-Some.is c.requires in
-    let s : ReadSlot = record { mask = first * 256 + len; key = c.match-heard.key; at = c.args.at; is_heard = c.is_some-is_heard.result } in
-    let items = c.in_ok-push.ensures.items in
-    let heard : heard_of s ≡ c.args.heard = elim c.match-heard.branch [
+    inr (_, c.in_ok-push.ensures.items, slot_of c.args.keys c.in-Some.block c.match-heard.key c.args.at c.is_some-is_heard.result c.args.heard c.in-Some.is (rw c.in-Some.is at c.requires) (elim c.match-heard.branch [
       | in-Some-heard w ↦ rw (c.is_some-is_heard.ensures, w.in-Some-heard.is, w.key-is) refl
       | in-None w ↦ rw (c.is_some-is_heard.ensures, w.in-None.is) refl
-    ] in
-    let short = block.short in
-    let keys = block.keys in
-    let few : len < 256 = omega arith in
-    let starts : first_of s ≡ first = div-mul-add first 256 len few in
-    let bits : len_of s ≡ len = mod-mul-add first 256 len few in
-    let ends : last_of s ≡ first + (2 ^ (56 - len) - 1) = ap (λ n. n + (2 ^ (56 - len_of s) - 1)) starts ∙ ap (λ l. first + (2 ^ (56 - l) - 1)) bits in
-    inr (
-      s,
-      items,
-      record {
-        place = refl;
-        key = heard;
-        range = (omega arith, (omega arith, omega arith));
-        inside = λ k. ap (λ n. is_between n (last_of s) k) starts ∙ (ap (λ n. is_between first n k) ends ∙ ap (λ o. is_in_some_block o k) (sym c.in-Some.is));
-      },
-    )
+    ]))

@@ -1,4 +1,4 @@
-use Rattle.vic_verdict.proofs.Words.{ArePutInOrder, filter, IsPermutation, ◌≡◌, ℕ, ◌∙◌, ◌++◌, refl, ap, sym, rules, length, take, List, All, length-map, All-permutation, mirror, Mention, ReadSlot, keep_all, all_leave, AreInOrder, Closes, is_in_some, IsFirstQuietReply, All-filter, IsNonDecreasingBy-from_sort_by_key, HasRange, keep, subst}
+use Rattle.vic_verdict.proofs.Words.{ArePutInOrder, filter, IsPermutation, ◌≡◌, ℕ, ◌∙◌, ◌++◌, refl, ap, sym, rules, length, take, List, All, length-map, All-permutation, mirror, Mention, ReadSlot, keep_all, all_leave, Closes, is_in_some, All-filter, IsNonDecreasingBy-from_sort_by_key, HasRange, keep, subst}
 use Rattle.vic_verdict.proofs.Sweeping.{keep-order, written, is_before_place, settled_by, put_in_order}
 use Rattle.vic_verdict.proofs.Heard.{first_permuted}
 use Rattle.vic_verdict.proofs.sweep.settle_stretch.Goals as goal
