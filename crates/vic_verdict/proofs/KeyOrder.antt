@@ -1,5 +1,5 @@
 -- Lists of UIDs by their keys, and which of them aren't in a set.
-use Rattle.vic_verdict.proofs.Words.{◌↔◌, ◌≡◌, ℕ, ◌+◌, ◌<◌, ◌^◌, ◌==◌, ◌||◌, List, [], ◌∷◌, ◌++◌, length, take, get_or, Bool, true, false, refl, sym, ap, ◌∙◌, subst, arith, ⊎_elim, ◌&&◌, not, nat_eq, eqb-true, ne_eqb, or_false, list_all, both_ways, cases_Bool, or_cases, list_any-append, list_any_more, Any-from_list_any, IsUid, has, is_uid, mirror, uid_of, uid_of_mirror, has_key, has_here, has_there, IsUid-from, is_uid_from, AreKeysOf, IsFailing, IsListOf, NoSuch, true_from_ne_false, list_all_at, mirror_of_uid, same_test, AreOutside}
+use Rattle.vic_verdict.proofs.Words.{◌↔◌, ◌≡◌, ℕ, ◌+◌, ◌<◌, ◌^◌, ◌==◌, ◌||◌, List, [], ◌∷◌, ◌++◌, length, take, get_or, Bool, true, false, refl, sym, ap, ◌∙◌, subst, arith, ⊎_elim, ◌&&◌, not, nat_eq, eqb-true, ne_eqb, or_false, list_all, both_ways, cases_Bool, or_cases, list_any-append, list_any_more, Any-from_list_any, IsUid, has, is_uid, mirror, uid_of, uid_of_mirror, has_key, has_here, has_there, IsUid-from, is_uid_from, AreKeysOf, IsFailing, IsListOf, true_from_ne_false, list_all_at, mirror_of_uid, same_test, AreOutside}
 
 fails_iff : (i v h t a : Bool) → v ≡ (i && (h && not t)) → (i ≡ true → h ≡ a) → (a ≡ true → i ≡ true) → (v ≡ true) ↔ ((a ≡ true) × (t ≡ false))
 fails_iff i v h t a is same uid = (λ e. (grind arith, grind arith), λ e. grind arith)
@@ -20,18 +20,13 @@ not_all p (x ∷ us) h = ⊎_elim
     (λ out. (x, has_here x us, out))
     (cases_Bool (p x))
 
-all_inside : (test : ℕ → Bool) (us : List ℕ) → NoSuch (IsFailing us test) → list_all test us ≡ true
-all_inside test us none = true_from_ne_false _ (λ e. let w = not_all test us e in none w.0 (w.1, w.2))
-
-one_outside : (test : ℕ → Bool) (us : List ℕ) (u : ℕ) → IsFailing us test u → list_all test us ≡ false
-one_outside test us u fails =
-    let some = Any-from_list_any (nat_eq u) us fails.0 in
-    list_all_at test us some.0 some.1 some.2 (ap test (some.3 ∙ sym (eqb-true u some.1 some.4)) ∙ fails.1)
-
 -- none of a list is outside if and only if all pass
 pub all_where_empty : (test : ℕ → Bool) (us vs : List ℕ) → IsListOf (IsFailing us test) vs → (length vs == 0) ≡ list_all test us
-all_where_empty test us [] l = sym (all_inside test us (λ u fails. absurd (both_ways (has [] u) refl ((l.members u).1 fails))))
-all_where_empty test us (v ∷ vs) l = ne_eqb (length (v ∷ vs)) 0 (λ e. omega arith) ∙ sym (one_outside test us v ((l.members v).0 (has_here v vs)))
+all_where_empty test us [] l = sym (true_from_ne_false _ (λ e. let w = not_all test us e in both_ways (has [] w.0) refl ((l.members w.0).1 (w.1, w.2))))
+all_where_empty test us (v ∷ vs) l =
+    let fails = (l.members v).0 (has_here v vs) in
+    let some = Any-from_list_any (nat_eq v) us fails.0 in
+    ne_eqb (length (v ∷ vs)) 0 (λ e. omega arith) ∙ sym (list_all_at test us some.0 some.1 some.2 (ap test (some.3 ∙ sym (eqb-true v some.1 some.4)) ∙ fails.1))
 
 -- a UID more of a list
 pub uid_more : (us : List ℕ) (i x u : ℕ) → i < length us → x ≡ get_or us i x → IsUid x → ((v : ℕ) → has (take i us) v ≡ true → IsUid v) → has (take (i + 1) us) u ≡ true → IsUid u

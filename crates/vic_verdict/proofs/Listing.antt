@@ -1,5 +1,5 @@
 -- The UIDs that a log lists, line by line.
-use Rattle.vic_verdict.proofs.Words.{◌≡◌, ℕ, zero, suc, ◌<◌, ◌+◌, List, [], ◌∷◌, ◌++◌, Some, take, refl, ap, ◌∙◌, arith, length, get_or, ◌^◌, slice_get, entries_next, listed-append, slice_get_read, LogLine, entries, listed, IsRisingFrom}
+use Rattle.vic_verdict.proofs.Words.{◌≡◌, ℕ, zero, suc, ◌<◌, ◌+◌, List, [], ◌∷◌, ◌++◌, Some, take, ap, ◌∙◌, arith, slice_get, entries_next, listed-append, LogLine, entries, listed, IsRisingFrom}
 
 -- one line more
 pub listed_more : (lines : List LogLine) (i : ℕ) (l : LogLine) → slice_get lines i ≡ Some l → listed (entries (take (suc i) lines)) ≡ listed (entries (take i lines)) ++ listed (l.item ∷ [])
@@ -10,10 +10,3 @@ pub number_above : (n : ℕ) (lines : List LogLine) (i : ℕ) (l : LogLine) → 
 number_above n [] i l r k = cc
 number_above n (x ∷ lines) zero l r k = let same : x ≡ l = cc in let e = ap (λ y. y.number) same in let h = r.0 in omega arith
 number_above n (x ∷ lines) (suc i) l r k = let h = number_above x.number lines i l r.1 k in let b = r.0 in omega arith
-
--- so a position has 32 bits as well
-pub place_bound : (lines : List LogLine) (i number : ℕ) (l : LogLine) → IsRisingFrom 0 lines → i < length lines → l ≡ get_or lines i l → number ≡ l.number → number < 2 ^ 32 → i < 2 ^ 32
-place_bound lines i number l up within here value small =
-    let at = slice_get_read lines (length lines) i l refl within here in
-    let above = number_above 0 lines i l up at in
-    omega arith

@@ -1,6 +1,5 @@
 -- Whether somebody was heard while Quiet, by mentions in the order of their keys.
-use Rattle.vic_verdict.proofs.Words.{◌≡◌, ℕ, ◌+◌, ◌-◌, ◌<◌, ◌≤◌, ◌==◌, List, length, get_or, [], ◌∷◌, Bool, true, ◌&&◌, refl, sym, ap, ◌∙◌, arith, ◌⊎◌, nat_lt, eq-eqb, eqb-true, All, nat_tests, and_parts, and_from, list_any, All-head, All-tail, list_any_at, Any-from_list_any, Mention, NEVER, reply_place, IsFirstQuietReply, is_between, quiet_of, is_quiet_by, has_where, AreInOrder, is_quiet_reply, IsQuietReply, if◌then◌else◌, inl, inr, take, take_all, All-weaker, min}
-use Rattle.std.proofs.lemmas.List.Elements.{All-more}
+use Rattle.vic_verdict.proofs.Words.{◌≡◌, ℕ, ◌+◌, ◌-◌, ◌<◌, ◌≤◌, ◌==◌, List, length, get_or, [], ◌∷◌, Bool, true, ◌&&◌, refl, sym, ap, ◌∙◌, arith, ◌⊎◌, nat_lt, eq-eqb, eqb-true, All, nat_tests, and_parts, and_from, list_any, All-head, All-tail, list_any_at, Any-from_list_any, Mention, NEVER, reply_place, IsFirstQuietReply, is_between, quiet_of, is_quiet_by, has_where, AreInOrder, is_quiet_reply, IsQuietReply, if◌then◌else◌, inl, inr, take, take_all, All-weaker, min, All-more}
 use Rattle.vic_verdict.proofs.Closing.{between_from}
 use Rattle.vic_verdict.proofs.Sweeping.{nobody}
 
@@ -16,9 +15,8 @@ TellsFrom ns k quiet = (i : ℕ) → i ≤ NEVER → is_quiet_by ns (at ns k).ke
 pub quiet_own : (own : List Mention) (key i : ℕ) → All (λ (n : Mention). is_between key key n.key ≡ true) own → is_quiet_by own key i ≡ list_any (λ (n : Mention). nat_lt (quiet_of n) i) own
 quiet_own [] key i inside = refl
 quiet_own (n ∷ own) key i inside =
-    let here = All-head (λ (m : Mention). is_between key key m.key ≡ true) n own inside in
-    let rest = quiet_own own key i (All-tail (λ (m : Mention). is_between key key m.key ≡ true) n own inside) in
-    grind (arith, nat_tests)
+    let Own : Mention → Type 0 = λ (m : Mention). is_between key key m.key ≡ true in
+    grind (arith, nat_tests, All-head Own n own inside, quiet_own own key i (All-tail Own n own inside))
 
 pub tells_own : (ns own : List Mention) (key quiet i : ℕ) → All (λ (n : Mention). is_between key key n.key ≡ true) own → ((test : Mention → Bool) (k : ℕ) → is_between key key k ≡ true → has_where test own k ≡ has_where test ns k) → nat_lt quiet i ≡ list_any (λ (n : Mention). nat_lt (quiet_of n) i) own → is_quiet_by ns key i ≡ nat_lt quiet i
 tells_own ns own key quiet i inside all first =

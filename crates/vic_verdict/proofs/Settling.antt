@@ -1,10 +1,10 @@
 -- What the lines of a log leave open up to a position at which a reply could not be.
-use Rattle.vic_verdict.proofs.Words.{◌≡◌, ℕ, ◌+◌, ◌<◌, ◌≤◌, ◌&&◌, List, [], length, take, Bool, Some, refl, sym, ap, ◌∙◌, arith, false, inl, inr, add-one, slice_get, length-take-le, cases_eq, and_true, Reply, is_quiet, length-map, take-map, slice_get_within, mirror, SameUids, is_outside, Entry, Heard, FieldCycle, LogLine, entries, slots_before, is_open, AgreeBefore, answers_agree, ReadSlot, Mention, Demand, Stretch, AreKept, IsContradictedAt, IsFirstQuietReply, all_allow_to, ArePutInOrder, Keeps, Answers, IsQuietReply, HasGathered, IsSettled}
+use Rattle.vic_verdict.proofs.Words.{◌≡◌, ℕ, ◌+◌, ◌<◌, ◌≤◌, ◌&&◌, List, [], length, take, Bool, Some, refl, sym, ap, ◌∙◌, arith, false, inl, inr, add-one, slice_get, length-take-le, cases_eq, and_true, Reply, is_quiet, length-map, take-map, slice_get_within, mirror, SameUids, is_outside, Entry, Heard, FieldCycle, LogLine, entries, slots_before, is_open, AgreeBefore, answers_agree, ReadSlot, Mention, Demand, Stretch, AreKept, IsContradictedAt, IsFirstQuietReply, all_allow_to, ArePutInOrder, Keeps, Answers, IsQuietReply, HasGathered, IsSettled, is_uid_from}
 use Rattle.vic_verdict.specs.declared.stretches.Settled.{Settled}
 use Rattle.vic_verdict.proofs.Demanding.{kept_first, kept_cycle, kept_to}
 use Rattle.vic_verdict.proofs.Heard.{are_heard, answers_before, quiet_contradicts, quiet_since}
 use Rattle.vic_verdict.proofs.Lacking.{taken, open_agrees}
-use Rattle.vic_verdict.proofs.Stands.{open_first, open_next}
+use Rattle.vic_verdict.proofs.Stands.{open_cycle}
 use Rattle.vic_verdict.proofs.Stretching.{gathered_first, gathered_keys, gathered_open}
 
 -- what is kept of the stretches that ended, before a field cycle from which on all are Ready: the UIDs heard before answer
@@ -21,7 +21,7 @@ IsWalked es i set ts ns ss ds = (from : ℕ) × HasGathered es from i ns ss ds �
 pub walked_first : (es : List Entry) → IsWalked es 0 (is_outside []) [] [] [] []
 walked_first es = (0, gathered_first es 0, record {
   ready = λ u. refl;
-  uids = open_first es (is_outside []) (λ u w. refl);
+  uids = λ u w. sym (and_true _ ∙ is_uid_from u w);
   answer = λ j r lt. absurd (omega arith);
   kept = kept_first es;
 })
@@ -34,7 +34,7 @@ walked_anew es i cut old set kept new ns sorted ss ds here upto first order keep
     let quick : (place : ℕ) → IsQuietReply ns place → i ≤ place = λ place quiet. let le = first.first place quiet in omega arith in
     (i + 1, gathered_first es (i + 1), record {
       ready = λ u. rw (add-one, here) refl;
-      uids = open_next es i FieldCycle set set here (λ u w. sym (and_true (set u))) (λ u w. settled u w ∙ (rw end (gathered_open es from i old ns ss ds g b.ready b.uids i g.begun (omega arith) u w)));
+      uids = open_cycle es i set here (λ u w. settled u w ∙ (rw end (gathered_open es from i old ns ss ds g b.ready b.uids i g.begun (omega arith) u w)));
       answer = λ j r lt f. elim (cases_eq j i) [
         | inl same ↦ absurd (let both : Some FieldCycle ≡ Some (Heard r) = sym here ∙ (rw same at f) in cc)
         | inr ne ↦ answers_before es from i i ns heard quick j r (omega arith) (omega arith) f

@@ -1,5 +1,5 @@
 -- What is gathered between two field cycles, entry by entry, and which UIDs it leaves open.
-use Rattle.vic_verdict.proofs.Words.{All, Any, Bool, List, None, Option, Some, [], add-one, ap, arith, eq-eqb, false, inl, inr, nat_le, not, refl, set, slice_get, suc, sym, true, zero, ℕ, ◌&&◌, ◌++◌, ◌+◌, ◌<◌, ◌==◌, ◌^◌, ◌||◌, ◌∙◌, ◌∷◌, ◌≡◌, ◌≤◌, ◌⊎◌, both_ways, cases_Bool, cases_eq, cases_lt, false≢true, nat_tests, All-nil, All-push, All-weaker, list_all_at, Any-push, list_all-from_AllPass, list_all, is_in_some_block, mirror, Reply, IsUid, KeyBlock, answers_at, is_quiet, wakes, lies_in_some, mask_at, is_open, slots_before, Entry, Heard, Silent, and_true, SameUids, Demand, Mention, ReadSlot, AreAsked, rules_out, AddsReadSlot, HasGathered, HasRead, IsReadSlot, NobodyAt, mentions_at, AreUnsettled, HasRange, HaveKeys, all_allow_to, are_left, hears_mentioned, is_quiet_by, read_allows}
+use Rattle.vic_verdict.proofs.Words.{All, Any, Bool, List, None, Option, Some, [], add-one, ap, arith, eq-eqb, false, inl, inr, nat_le, not, refl, set, slice_get, suc, sym, true, zero, ℕ, ◌&&◌, ◌++◌, ◌+◌, ◌<◌, ◌==◌, ◌^◌, ◌||◌, ◌∙◌, ◌∷◌, ◌≡◌, ◌≤◌, ◌⊎◌, both_ways, cases_eq, cases_lt, false≢true, nat_tests, All-nil, All-push, All-weaker, list_all_at, Any-push, list_all-from_AllPass, list_all, is_in_some_block, mirror, Reply, IsUid, KeyBlock, answers_at, is_quiet, wakes, lies_in_some, mask_at, is_open, slots_before, Entry, Heard, Silent, and_true, SameUids, Demand, Mention, ReadSlot, AreAsked, rules_out, AddsReadSlot, HasGathered, HasRead, IsReadSlot, NobodyAt, mentions_at, AreUnsettled, HasRange, HaveKeys, all_allow_to, are_left, hears_mentioned, is_quiet_by, read_allows, and_thrice}
 use Rattle.vic_verdict.proofs.Demanding.{any_kept, asked_anew}
 use Rattle.vic_verdict.proofs.Lacking.{place_allows, open_place}
 use Rattle.vic_verdict.proofs.Mentioning.{heard_key, heard_mentioned, mentions_keys, mentions_left, mentions_next, mentions_none, quiet_mentions}
@@ -124,12 +124,6 @@ read_says es from i ns s u it w quiet = rw (it.inside u w, quiet) (elim (it.read
   | inr z ↦ let key = heard_key z.0.uid u z.2 w in rw (z.3, z.1) (grind arith)
 ])
 
--- an entry allows all UIDs if it rules none out, or nobody answers
-allows_unless : (e : Entry) (answers : Bool) (u : ℕ) → (rules_out e && answers) ≡ false → place_allows (Some e) answers u ≡ true
-allows_unless Silent answers u none = rw none refl
-allows_unless (Heard r) answers u none = rw none refl
-allows_unless e answers u none = refl
-
 -- the slots at a position allow what its entry allows
 reads_say : (es : List Entry) (from i : ℕ) (ns : List Mention) (ss : List ReadSlot) (ds : List Demand) → HasGathered es from i ns ss ds → ((u : ℕ) → is_quiet es from u ≡ false) → (j u : ℕ) → from ≤ j → j < i → IsUid u → all_allow_at ns ss j (mirror u) ≡ place_allows (slice_get es j) (answers_at es j u) u
 reads_say es from i ns ss ds h ready j u since below w =
@@ -137,15 +131,14 @@ reads_say es from i ns ss ds h ready j u since below w =
     let it = h.reads n d lt in
     read_says es from i ns _ u it w (gathered_quiet es from i ns ss ds h ready _ u it.since (omega arith) w) ∙ ap (λ m. place_allows (slice_get es m) (answers_at es m u) u) at) (some (slice_get es j) refl)
   where
+    ruled : (e : Entry) → slice_get es j ≡ Some e → rules_out e ≡ true → (answers_at es j u ≡ false → place_allows (Some e) (answers_at es j u) u ≡ true) → (place_allows (Some e) (answers_at es j u) u ≡ true) ⊎ Any (λ (s : ReadSlot). s.at ≡ j) ss
+    ruled e k out none = elim (h.read j e since below k out) [ inl a ↦ inr a | inr nobody ↦ inl (none (rw (nobody u w) refl)) ]
+
     some : (o : Option Entry) → slice_get es j ≡ o → (place_allows o (answers_at es j u) u ≡ true) ⊎ Any (λ (s : ReadSlot). s.at ≡ j) ss
     some None k = inl refl
-    some (Some e) k = elim (cases_Bool (rules_out e)) [
-      | inl out ↦ elim (h.read j e since below k out) [
-        | inl a ↦ inr a
-        | inr nobody ↦ inl (allows_unless e _ u (rw (out, nobody u w) refl))
-      ]
-      | inr none ↦ inl (allows_unless e _ u (rw none refl))
-    ]
+    some (Some Silent) k = ruled Silent k refl (λ none. rw none refl)
+    some (Some (Heard r)) k = ruled (Heard r) k refl (λ none. rw none refl)
+    some (Some e) k = inl refl
 
 -- what a stretch tells of a position up to its end
 pub gathered_open : (es : List Entry) (from i : ℕ) (set : ℕ → Bool) (ns : List Mention) (ss : List ReadSlot) (ds : List Demand) → HasGathered es from i ns ss ds → ((u : ℕ) → is_quiet es from u ≡ false) → SameUids set (is_open (slots_before es from)) → (j : ℕ) → from ≤ j → j ≤ i → SameUids (λ u. set u && all_allow_to ns ss j (mirror u)) (is_open (slots_before es j))
@@ -161,9 +154,6 @@ gathered_open es from i set ns ss ds h ready same j since upto u w = go j since 
     go (suc j) since upto = elim (cases_lt j from) [
       | inl lt ↦ first (suc j) (omega arith)
       | inr ge ↦
-          let next = allow_next ns (mirror u) j ss in
-          let before = go j ge (omega arith) in
-          let here = reads_say es from i ns ss ds h ready j u ge (omega arith) w in
-          let all = open_place (answers_at es j) (slice_get es j) (slots_before es j) u in
-          grind arith
+          rw (allow_next ns (mirror u) j ss, reads_say es from i ns ss ds h ready j u ge (omega arith) w)
+          (sym (and_thrice (set u) (all_allow_to ns ss j (mirror u)) (place_allows (slice_get es j) (answers_at es j u) u)) ∙ (ap (λ b. b && place_allows (slice_get es j) (answers_at es j u) u) (go j ge (omega arith)) ∙ sym (open_place (answers_at es j) (slice_get es j) (slots_before es j) u)))
     ]

@@ -1,11 +1,8 @@
 -- What the slots between two field cycles leave, mention by mention.
-use Rattle.vic_verdict.proofs.Words.{All, Bool, IsPermutation, List, None, Option, Some, [], ap, arith, drop, eqb-true, false, filter, get_or, get_or-drop, get_or-take, if◌then◌else◌, inl, inr, le_of_lt, length, length-append, length-drop, length-take-le, ltb-false, nat_lt, not, refl, set, subst, sym, take, take-append-drop, true, ℕ, ◌&&◌, ◌++◌, ◌+◌, ◌-◌, ◌<◌, ◌==◌, ◌^◌, ◌||◌, ◌∙◌, ◌∷◌, ◌≡◌, ◌≤◌, ◌⊎◌, take-append_seam, and_parts, both_ways, false≢true, nat_tests, drop_more, get_or-map, get_or_default, length-map, map-append, All-filter, All-head, All-map, All-tail, list_all_more, map_fixed, All-permutation, IsPermutation-sym, list_any-IsPermutation, AllPass-from_list_all, list_all-from_AllPass, list_all, and_thrice, and_true, lt_from, lt_yes, same_tests, in_ranges, is_between, Mention, ReadSlot, Run, Closes, is_in_some, AreInOrder, ArePutInOrder, IsStart, all_allow, all_allow_to, all_hear_mentioned, all_leave, are_left, first_of, has_left, has_where, heard_of, hears_mentioned, is_heard, is_in, is_mentioned, is_mentioned_if, is_quiet_by, keep, keep_all, last_of, level_leaves, mask_leaves, quiet_of, read_allows, read_leaves, run_leaves, slot_leaves}
-use Rattle.std.proofs.lemmas.List.{get_or_at}
+use Rattle.vic_verdict.proofs.Words.{All, Bool, IsPermutation, List, None, Option, Some, [], ap, arith, drop, eqb-true, false, filter, get_or, get_or-drop, get_or-take, if◌then◌else◌, inl, inr, le_of_lt, length, length-append, length-drop, length-take-le, ltb-false, nat_lt, not, refl, set, subst, sym, take, take-append-drop, true, ℕ, ◌&&◌, ◌++◌, ◌+◌, ◌-◌, ◌<◌, ◌==◌, ◌^◌, ◌||◌, ◌∙◌, ◌∷◌, ◌≡◌, ◌≤◌, ◌⊎◌, and_parts, both_ways, false≢true, nat_tests, drop_more, get_or-map, get_or_default, length-map, map-append, All-filter, All-head, All-map, All-tail, list_all_more, map_fixed, All-permutation, IsPermutation-sym, list_any-IsPermutation, AllPass-from_list_all, list_all-from_AllPass, list_all, and_thrice, and_true, lt_from, lt_yes, same_tests, in_ranges, is_between, Mention, ReadSlot, Run, Closes, is_in_some, AreInOrder, ArePutInOrder, IsStart, all_allow, all_allow_to, all_hear_mentioned, all_leave, are_left, first_of, has_left, has_where, heard_of, hears_mentioned, is_heard, is_in, is_mentioned, is_mentioned_if, is_quiet_by, keep, keep_all, last_of, level_leaves, mask_leaves, quiet_of, read_allows, read_leaves, run_leaves, slot_leaves, get_or_at, IsPermutation-map, is_before}
 use Rattle.std.proofs.lemmas.List.Edits.{map_over_more}
-use Rattle.std.proofs.lemmas.List.Sorted.{IsPermutation-map}
 use Rattle.vic_verdict.proofs.Silencing.{silenced_later, silenced_permuted}
 use Rattle.vic_verdict.specs.declared.sweep.Level.{Level}
-use Rattle.vic_verdict.specs.inner.Sweep.{is_before}
 
 -- ---- mentions that are kept
 
@@ -42,12 +39,14 @@ nobody = record { key = 0; at = 0; is_heard = false; left = false }
 abbrev pub nowhere : ReadSlot
 nowhere = record { mask = 0; key = 0; at = 0; is_heard = false }
 
-pub all_from : (ns : List Mention) (first at : ℕ) → AreInOrder ns → (at < length ns → first ≤ (get_or ns at nobody).key) → All (λ (n : Mention). first ≤ n.key) (drop at ns)
-all_from ns first at up from k d lt =
-    let long = length-drop at ns in
+-- those from a position on, which has a key
+order_from : (ns : List Mention) (first at : ℕ) → AreInOrder ns → (at < length ns → first ≤ (get_or ns at nobody).key) → (k : ℕ) (d : Mention) → at ≤ k → k < length ns → first ≤ (get_or ns k d).key
+order_from ns first at up from k d ge lt =
     let here = ap (λ (n : Mention). n.key) (get_or_default ns at d nobody (omega arith)) in
-    let le = up at (at + k) d (omega arith) (omega arith) in
-    rw (get_or-drop at ns k d) (omega (arith, from (omega arith)))
+    omega (arith, up at k d ge lt, from (omega arith))
+
+pub all_from : (ns : List Mention) (first at : ℕ) → IsStart ns first at → All (λ (n : Mention). first ≤ n.key) (drop at ns)
+all_from ns first at s k d lt = rw (get_or-drop at ns k d) (s.rest (at + k) d (omega arith) (omega (arith, length-drop at ns)))
 
 pub all_below : (ns : List Mention) (first at : ℕ) → IsStart ns first at → All (λ (n : Mention). n.key < first) (take at ns)
 all_below ns first at s k d lt =
@@ -63,10 +62,7 @@ start_here ns first at up lt from before = record {
       let here = ap (λ (n : Mention). n.key) (get_or_default ns (at - 1) d nobody (omega (arith, less))) in
       let le = up k (at - 1) d (omega (arith, less)) (omega (arith, less)) in
       omega arith;
-  rest = λ k d ge short.
-      let here = ap (λ (n : Mention). n.key) (get_or_default ns at d nobody lt) in
-      let le = up at k d ge short in
-      omega arith;
+  rest = order_from ns first at up (λ _. from);
 }
 
 pub between_parts : (first last k : ℕ) → is_between first last k ≡ true → (first ≤ k) × (k ≤ last)
@@ -102,7 +98,8 @@ ruled_more p ns ms i m lt is kept =
 pub ruled_all : (first last : ℕ) (l : Level) (ns : List Mention) (i : ℕ) → AreInOrder ns → (i < length ns → last < (get_or ns i nobody).key) → ruled (mask_leaves first last l) ns i ≡ keep_all (mask_leaves first last l) ns
 ruled_all first last l ns i up over =
     let p = mask_leaves first last l in
-    let rest = keep_fixed p (drop i ns) (λ k d lt. outside first last l _ _ (inr (all_from ns (last + 1) i up (λ h. let far = over h in omega arith) k d lt))) in
+    let far : (k : ℕ) (d : Mention) → i ≤ k → k < length ns → last + 1 ≤ (get_or ns k d).key = order_from ns (last + 1) i up (λ h. omega (arith, over h)) in
+    let rest = keep_fixed p (drop i ns) (λ k d lt. outside first last l _ _ (inr (rw (get_or-drop i ns k d) (far (i + k) d (omega arith) (omega (arith, length-drop i ns)))))) in
     ap (λ ms. keep_all p (take i ns) ++ ms) (sym rest) ∙ (sym (map-append (keep p) (take i ns) (drop i ns)) ∙ ap (keep_all p) (take-append-drop i ns))
 
 -- ---- a mask after another
@@ -115,11 +112,8 @@ run_next o s m near ns new is h =
 -- one slot more of all
 pub runs_more : (o : Option Run) (r : Run) (reads : List ReadSlot) (i : ℕ) (s : ReadSlot) (old ns new : List Mention) → i < length reads → s ≡ get_or reads i s → keep_all (run_leaves o) ns ≡ keep_all (all_leave (take i reads)) old → keep_all (run_leaves (Some r)) new ≡ keep_all (λ k q. run_leaves o k q && read_leaves s k q) ns → keep_all (run_leaves (Some r)) new ≡ keep_all (all_leave (take (i + 1) reads)) old
 runs_more o r reads i s old ns new below is before step =
-    step
-    ∙ (sym (keep_twice (read_leaves s) (run_leaves o) ns)
-    ∙ (ap (keep_all (read_leaves s)) before
-    ∙ (keep_twice (read_leaves s) (all_leave (take i reads)) old
-    ∙ keep_alike _ _ (λ k q. ap (λ x. all_leave (take i reads) k q && read_leaves x k q) is ∙ sym (list_all_more (λ t. read_leaves t k q) reads i s below)) old)))
+    rw (step, ← keep_twice (read_leaves s) (run_leaves o) ns, before, keep_twice (read_leaves s) (all_leave (take i reads)) old)
+    (keep_alike _ _ (λ k q. ap (λ x. all_leave (take i reads) k q && read_leaves x k q) is ∙ sym (list_all_more (λ t. read_leaves t k q) reads i s below)) old)
 
 -- ---- mentions and slots
 
@@ -154,11 +148,7 @@ limit_none (s ∷ ss) k e = grind (arith, limit_none ss k)
 
 all_before : (ss : List ReadSlot) (k q : ℕ) → all_leave ss k q ≡ is_before q (limit ss k)
 all_before [] k q = refl
-all_before (s ∷ ss) k q = next (is_in s k) (is_heard (heard_of s) k) q s.at (limit ss k) (all_before ss k q)
-  where
-    next : (b h : Bool) (q at : ℕ) (o : Option ℕ) → all_leave ss k q ≡ is_before q o → ((not b || (nat_lt q at || h)) && all_leave ss k q) ≡ is_before q (if not b || (h || not (is_before at o)) then o else Some at)
-    next b h q at None e = grind (arith, nat_tests)
-    next b h q at (Some j) e = grind (arith, nat_tests)
+all_before (s ∷ ss) k q = grind (arith, nat_tests, all_before ss k q)
 
 -- a mention is left where its test passes, if all were
 left_before : (p : ℕ → ℕ → Bool) (o : Option ℕ) (ns : List Mention) (k : ℕ) → ((q : ℕ) → p k q ≡ is_before q o) → are_left ns ≡ true → has_left (keep_all p ns) k ≡ quiet_before ns k o
@@ -198,9 +188,6 @@ before_end i j (s ∷ ss) le h =
     let lt = All-head (λ (t : ReadSlot). t.at < j) s ss h in
     rw (lt_yes s.at i (omega arith), before_end i j ss le (All-tail (λ (t : ReadSlot). t.at < j) s ss h)) refl
 
-all_filtered : (p q : ReadSlot → Bool) (ss : List ReadSlot) → list_all p ss ≡ true → list_all p (filter q ss) ≡ true
-all_filtered p q ss e = list_all-from_AllPass p (filter q ss) (All-filter q (λ s. p s ≡ true) ss (AllPass-from_list_all p ss e))
-
 allow_filtered : (ns : List Mention) (i k : ℕ) (ss : List ReadSlot) → all_allow ns (filter (is_before_place i) ss) k ≡ all_allow_to ns ss i k
 allow_filtered ns i k [] = refl
 allow_filtered ns i k (s ∷ ss) = grind (arith, nat_tests, allow_filtered ns i k ss)
@@ -213,7 +200,7 @@ settled_by ns ms ss ts cut old new k m w left mentioned closes =
     let closed = closes k in
     let sorted = list_any-IsPermutation (λ n. (n.key == k) && n.left) _ _ (IsPermutation-map (keep p) ns ms m) in
     let kept = left_before p (limit ts k) ns k (all_before ts k) left in
-    let allowed = allowed_covered ns k ts (all_kept (hears_mentioned ns) early ts w (all_filtered (hears_mentioned ns) _ ss mentioned)) in
+    let allowed = allowed_covered ns k ts (list_all-from_AllPass (hears_mentioned ns) ts (All-permutation (λ s. hears_mentioned ns s ≡ true) early ts w (All-filter (is_before_place cut) (λ s. hears_mentioned ns s ≡ true) ss (AllPass-from_list_all (hears_mentioned ns) ss mentioned)))) in
     let slots = all_permuted (λ s. read_allows ns s k) early ts w in
     let upto = allow_filtered ns cut k ss in
     grind arith
@@ -225,7 +212,3 @@ put_in_order p ns sorted m order = record {
   keys = λ h. All-map (λ (n : Mention). n.key < 2 ^ 56) (keep p) sorted (All-permutation (λ (n : Mention). n.key < 2 ^ 56) ns sorted m h);
   quiet = λ k i. keep-quiet p sorted k i ∙ silenced_permuted ns sorted k i m;
 }
-
--- a slice that was borrowed from a list and written
-pub written : (n : ℕ) (xs ys : List Mention) → n ≡ length xs → take n (xs ++ ys) ≡ xs
-written n xs ys e = ap (λ m. take m (xs ++ ys)) e ∙ take-append_seam xs ys

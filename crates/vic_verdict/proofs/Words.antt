@@ -8,13 +8,13 @@ pub use Rattle.std.proofs.lemmas.Bool.Decides.{nat_tests}
 pub use Rattle.std.proofs.lemmas.Cmp.{nat_eq_equiv}
 pub use Rattle.std.proofs.lemmas.Fn.{filter_same}
 pub use Rattle.std.proofs.lemmas.Grind.{common_steps}
-pub use Rattle.std.proofs.lemmas.List.{drop-map, drop_more, get_or-map, get_or_append_left, get_or_default, length-map, map-append, map_more, nil_from_length, take-map, take_more}
+pub use Rattle.std.proofs.lemmas.List.{drop-map, drop_more, get_or-map, get_or_append_left, get_or_at, get_or_default, length-map, map-append, map_more, nil_from_length, take-map, take_at, take_more, take_rest}
 pub use Rattle.std.proofs.lemmas.List.Elements.{All-append, All-cons, All-drop, All-filter, All-from_get_or, All-head, All-map, All-more, All-nil, All-push, All-tail, All-take, All-weaker, filter-append, filter_more, filter_passes}
 pub use Rattle.std.proofs.lemmas.List.Filters.{sum_by-filter_both}
 pub use Rattle.std.proofs.lemmas.List.Folds.{Any-from_list_any, list_all_at, list_all_more, list_any-append, list_any-from_Any, list_any_at, list_any_more, list_any_none, map_fixed}
 pub use Rattle.std.proofs.lemmas.List.Kept.{AllPairs-from_increasing, IsStrictlyIncreasing-filter}
 pub use Rattle.std.proofs.lemmas.List.Quantifiers.{Any-push}
-pub use Rattle.std.proofs.lemmas.List.Sorted.{All-permutation, IsNonDecreasingBy-from_sort, IsNonDecreasingBy-from_sort_by_key, IsNonDecreasingBy-push, IsPartitionPoint-from_clause, IsPartitionedBy-leb, IsPartitionedBy-ltb, IsPermutation-sym, list_any-IsPermutation, sum_by-IsPermutation}
+pub use Rattle.std.proofs.lemmas.List.Sorted.{All-permutation, IsNonDecreasingBy-drop, IsNonDecreasingBy-from_sort, IsNonDecreasingBy-from_sort_by_key, IsNonDecreasingBy-push, IsPartitionPoint-from_clause, IsPartitionedBy-leb, IsPartitionedBy-ltb, IsPermutation-map, IsPermutation-sym, list_any-IsPermutation, sum_by-IsPermutation}
 pub use Rattle.std.proofs.lemmas.List.Sums.{AllPass-from_list_all, list_all-from_AllPass, sum_by-append, sum_by-cons, sum_by-take-le, sum_by_more, sum_by_more_le, sum_by_push}
 pub use Rattle.std.proofs.lemmas.Map.Keys.{IsDistinct-cons, IsDistinct-from_apart}
 pub use Rattle.std.proofs.lemmas.Map.Made.{length-le_from_is_member}
@@ -86,5 +86,5 @@ pub use Rattle.vic_verdict.specs.inner.Gathered.{all_chosen, chosen, gathered, i
 pub use Rattle.vic_verdict.specs.inner.Merging.{AreBelow}
 pub use Rattle.vic_verdict.specs.inner.Possible.{Lacks, NoneRulesOutAfter, rules_out}
 pub use Rattle.vic_verdict.specs.inner.Replies.{Answers, IsFirstQuietReply, IsQuietReply, RepliesAnswer, is_quiet_reply, reply_place}
-pub use Rattle.vic_verdict.specs.inner.Stretches.{AddsReadSlot, HasGathered, HasRead, IsReadSlot, IsSettled, NobodyAt, mention_at, mentions_at, mentions_from}
-pub use Rattle.vic_verdict.specs.inner.Sweep.{AreInOrder, ArePutInOrder, AreUnsettled, HasRange, HaveKeys, IsLevel, IsStart, all_allow, all_allow_to, all_hear_mentioned, all_leave, are_left, first_of, has_left, has_where, heard_of, hears_mentioned, is_heard, is_in, is_mentioned, is_mentioned_if, is_quiet_by, keep, keep_all, last_of, len_of, level_leaves, mask_leaves, quiet_of, read_allows, read_leaves, run_leaves, slot_leaves}
+pub use Rattle.vic_verdict.specs.inner.Stretches.{AddsReadSlot, HasGathered, HasRead, IsReadSlot, IsReadSlotOf, IsSettled, NobodyAt, mention_at, mentions_at, mentions_from}
+pub use Rattle.vic_verdict.specs.inner.Sweep.{AreInOrder, ArePutInOrder, AreUnsettled, HasRange, HaveKeys, IsLevel, IsStart, all_allow, all_allow_to, all_hear_mentioned, all_leave, are_left, first_of, has_left, has_where, heard_of, hears_mentioned, is_before, is_heard, is_in, is_mentioned, is_mentioned_if, is_quiet_by, keep, keep_all, last_of, len_of, level_leaves, mask_leaves, quiet_of, read_allows, read_leaves, run_leaves, slot_leaves}

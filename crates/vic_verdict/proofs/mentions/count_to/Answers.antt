@@ -4,9 +4,7 @@ use Rattle.vic_verdict.proofs.mentions.count_to.Goals as goal
 
 pub returns : goal.returns
 returns c =
-    let ns = c.args.mentions.now in
-    let parted = IsPartitionedBy-leb (λ (n : Mention). n.key) ns c.args.last c.requires in
-    let point = IsPartitionPoint-from_clause (λ (n : Mention). leb n.key c.args.last) _ _ c.partition_point.ensures.partitioned parted (λ a r q k. search rules) in
+    let point = IsPartitionPoint-from_clause (λ (n : Mention). leb n.key c.args.last) _ _ c.partition_point.ensures.partitioned (IsPartitionedBy-leb (λ (n : Mention). n.key) c.args.mentions.now c.args.last c.requires) (λ a r q k. search rules) in
     record {
       within = c.partition_point.ensures.bound;
       below = λ k d lt. let le = leb-true _ _ (point.0 k d (omega arith) lt) in omega arith;
@@ -15,8 +13,5 @@ returns c =
 
 pub returns-then-last-mentions : goal.returns-then-last-mentions
 returns-then-last-mentions c =
-    let at = c.loop-count.count in
-    let upto = c.loop-count-test.true in
-    let end = c.min-count-end.ensures in
-    let over = c.if-last-mentions.true in
-    start_here c.args.mentions.now (c.args.last + 1) at c.requires (omega arith) (omega arith) (λ some. let under = c.loop-count.invariant (at - 1) (omega arith) in omega arith)
+    start_here c.args.mentions.now (c.args.last + 1) c.loop-count.count c.requires (omega (arith, c.loop-count-test.true, c.min-count-end.ensures)) (omega (arith, c.if-last-mentions.true))
+    (λ some. omega (arith, c.loop-count.invariant (c.loop-count.count - 1) (omega arith)))

@@ -1,6 +1,6 @@
 use Rattle.vic_verdict.proofs.Words.{le-ltb, lt_yes, ◌≡◌, ◌+◌, ◌-◌, refl, subst, arith}
 use Rattle.vic_verdict.proofs.Sweeping.{start_here}
-use Rattle.vic_verdict.proofs.Replying.{at, TellsFrom, tells_still, tells_own, IsFoundTo, found_more, found_all}
+use Rattle.vic_verdict.proofs.Replying.{at, TellsFrom, tells_still, tells_own, found_more, found_all}
 use Rattle.vic_verdict.proofs.mentions.first_quiet_reply.Goals as goal
 use Rattle.vic_verdict.proofs.mentions.first_quiet_reply.Goals.{then-i-eq0, then-i-eq0-via-then-i-eq0, then-i-eq0-via-else-i-eq0+then-mentions-i, else-i-eq0+else-mentions-i, then-quiet-reply, else-quiet-reply}
 

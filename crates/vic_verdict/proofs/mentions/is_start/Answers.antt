@@ -4,8 +4,7 @@ use Rattle.vic_verdict.proofs.mentions.is_start.Goals as goal
 
 pub returns-then-at-eq0 : goal.returns-then-at-eq0
 returns-then-at-eq0 c none =
-    let zero = eqb-true c.args.at 0 none in
-    start_here c.args.mentions.now c.args.first c.args.at c.requires.order c.requires.within c.if-first-mentions.true (λ some. absurd (omega arith))
+    start_here c.args.mentions.now c.args.first c.args.at c.requires.order c.requires.within c.if-first-mentions.true (λ some. absurd (omega (arith, eqb-true c.args.at 0 none)))
 
 pub returns-else-at-eq0 : goal.returns-else-at-eq0
 returns-else-at-eq0 c less =

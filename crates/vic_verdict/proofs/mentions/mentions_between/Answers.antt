@@ -1,20 +1,14 @@
-use Rattle.vic_verdict.proofs.Words.{◌^◌, ◌<◌, take, drop, ap, ◌∙◌, Mention, has_where, All-drop, All-take}
-use Rattle.std.proofs.lemmas.List.{take_rest}
+use Rattle.vic_verdict.proofs.Words.{take, ap, ◌∙◌, has_where, take_rest}
 use Rattle.vic_verdict.proofs.Closing.{part_between, part_where}
 use Rattle.vic_verdict.proofs.mentions.mentions_between.Goals as goal
 
 pub returns-clause-inside : goal.returns-clause-inside
 returns-clause-inside c =
     let rest = take_rest c.args.mentions.now c.args.start in
-    rw rest (part_between c.args.mentions.now c.args.first c.args.last c.args.start c.count_to.result c.requires.order c.requires.start (rw rest at c.count_to.ensures))
-
-pub returns-clause-keys : goal.returns-clause-keys
-returns-clause-keys c have =
-    let small = All-drop (λ (n : Mention). n.key < 2 ^ 56) c.args.start c.args.mentions.now have in
-    rw (take_rest c.args.mentions.now c.args.start) (All-take (λ (n : Mention). n.key < 2 ^ 56) c.count_to.result (drop c.args.start c.args.mentions.now) small)
+    rw rest (part_between c.args.mentions.now c.args.first c.args.last c.args.start c.count_to.result c.requires.start (rw rest at c.count_to.ensures))
 
 pub returns-clause-all : goal.returns-clause-all
 returns-clause-all c test k inside =
     let rest = take_rest c.args.mentions.now c.args.start in
     ap (λ xs. has_where test (take c.count_to.result xs) k) rest
-    ∙ part_where c.args.mentions.now c.args.first c.args.last c.args.start c.count_to.result c.requires.order c.requires.start (rw rest at c.count_to.ensures) test k inside
+    ∙ part_where c.args.mentions.now c.args.first c.args.last c.args.start c.count_to.result c.requires.start (rw rest at c.count_to.ensures) test k inside

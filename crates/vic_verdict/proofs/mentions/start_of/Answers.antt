@@ -3,9 +3,7 @@ use Rattle.vic_verdict.proofs.mentions.start_of.Goals as goal
 
 pub returns : goal.returns
 returns c =
-    let ns = c.args.mentions.now in
-    let parted = IsPartitionedBy-ltb (λ (n : Mention). n.key) ns c.args.first c.requires in
-    let point = IsPartitionPoint-from_clause (λ (n : Mention). ltb n.key c.args.first) _ _ c.partition_point.ensures.partitioned parted (λ a r q k. search rules) in
+    let point = IsPartitionPoint-from_clause (λ (n : Mention). ltb n.key c.args.first) _ _ c.partition_point.ensures.partitioned (IsPartitionedBy-ltb (λ (n : Mention). n.key) c.args.mentions.now c.args.first c.requires) (λ a r q k. search rules) in
     record {
       within = c.partition_point.ensures.bound;
       below = λ k d lt. ltb-true _ _ (point.0 k d (omega arith) lt);

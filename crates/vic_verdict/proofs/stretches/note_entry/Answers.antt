@@ -4,14 +4,14 @@ use Rattle.vic_verdict.proofs.Heard.{outside_reply, nobody_there}
 use Rattle.vic_verdict.proofs.Stretching.{gathered_next, gathered_passed, read_told}
 use Rattle.vic_verdict.proofs.stretches.note_entry.Goals as goal
 
--- whether the UID that was heard lies in the mask of its slot
-lies_there : (es : List Entry) (i uid heard : ℕ) (r : Reply) (keys : Option KeyBlock) (b : Bool) → uid ≡ r.uid → heard ≡ mirror uid → IsUid uid → ((u : ℕ) → IsUid u → is_in_some_block keys (mirror u) ≡ lies_in_some (mask_at es i) u) → b ≡ is_in_some_block keys heard → lies_in_some (mask_at es i) r.uid ≡ b
-lies_there es i uid heard r keys b same key is_uid inside is = sym (is ∙ (ap (is_in_some_block keys) key ∙ (inside uid is_uid ∙ ap (λ u. lies_in_some (mask_at es i) u) same)))
+-- what was heard is a UID, and whether it lies in the mask of its slot
+lies_there : (es : List Entry) (i uid heard : ℕ) (r : Reply) (keys : Option KeyBlock) (b : Bool) → uid ≡ r.uid → heard ≡ mirror uid → IsUid uid → ((u : ℕ) → IsUid u → is_in_some_block keys (mirror u) ≡ lies_in_some (mask_at es i) u) → b ≡ is_in_some_block keys heard → IsUid r.uid × (lies_in_some (mask_at es i) r.uid ≡ b)
+lies_there es i uid heard r keys b same key is_uid inside is = (rw same at is_uid, sym (is ∙ (ap (is_in_some_block keys) key ∙ (inside uid is_uid ∙ ap (λ u. lies_in_some (mask_at es i) u) same))))
 
 pub returns-then-not-is_in_some_block-clause-unfit : goal.returns-then-not-is_in_some_block-clause-unfit
 returns-then-not-is_in_some_block-clause-unfit c es k valid at failed =
     outside_reply es c.args.index c.in-Heard.response (k ∙ ap (λ (e : Entry). Some e) c.in-Heard.is)
-    (lies_there es c.args.index c.uid.result c.key-heard.result c.in-Heard.response c.keys-keys.result _ c.uid.ensures.value c.key-heard.ensures.value c.key-heard.ensures.is_uid (λ u w. c.keys-keys.ensures.inside es c.args.index u valid at w) c.is_in_some_block.ensures ∙ c.if-not-is_in_some_block.true)
+    ((lies_there es c.args.index c.uid.result c.key-heard.result c.in-Heard.response c.keys-keys.result _ c.uid.ensures.value c.key-heard.ensures.value c.key-heard.ensures.is_uid (λ u w. c.keys-keys.ensures.inside es c.args.index u valid at w) c.is_in_some_block.ensures).1 ∙ c.if-not-is_in_some_block.true)
 
 pub returns-in_ok-note_sent-in-Sent-clause-gathered : goal.returns-in_ok-note_sent-in-Sent-clause-gathered
 returns-in_ok-note_sent-in-Sent-clause-gathered c es from k valid at other fits h =
@@ -30,12 +30,11 @@ returns-in_ok-push_read-in-Heard-clause-gathered c es from k valid at other fits
     let here = k ∙ ap (λ e. Some e) c.in-Heard.is in
     let told = c.key-heard.ensures in
     let key : c.key-heard.result ≡ mirror r.uid = told.value ∙ ap mirror c.uid.ensures.value in
-    let is_uid : IsUid r.uid = rw c.uid.ensures.value at told.is_uid in
     let keys : (u : ℕ) → IsUid u → is_in_some_block c.keys-keys.result (mirror u) ≡ lies_in_some (mask_at es c.args.index) u = λ u w. c.keys-keys.ensures.inside es c.args.index u valid at w in
-    let inside = lies_there es c.args.index c.uid.result c.key-heard.result r c.keys-keys.result _ c.uid.ensures.value told.value told.is_uid keys c.is_in_some_block.ensures ∙ c.if-not-is_in_some_block.false in
-    let read = read_told es c.args.index (Heard r) c.keys-keys.result (Some c.key-heard.result) _ _ keys (inr (r, here, is_uid, ap (λ x. Some x) key)) c.in_ok-push_read-in-Heard.ensures in
+    let fit = lies_there es c.args.index c.uid.result c.key-heard.result r c.keys-keys.result _ c.uid.ensures.value told.value told.is_uid keys c.is_in_some_block.ensures in
+    let read = read_told es c.args.index (Heard r) c.keys-keys.result (Some c.key-heard.result) _ _ keys (inr (r, here, fit.0, ap (λ x. Some x) key)) c.in_ok-push_read-in-Heard.ensures in
     gathered_next es from _ (Heard r) _ _ _ _ _ _ here c.requires refl (rw key at c.in_ok-push_mention-in-Heard.ensures) read
-    (λ q e. let same : r ≡ q = cc in subst (λ (x : Reply). IsUid x.uid × (lies_in_some (mask_at es c.args.index) x.uid ≡ true)) same (is_uid, inside))
+    (λ q e. let same : r ≡ q = cc in subst (λ (x : Reply). IsUid x.uid × (lies_in_some (mask_at es c.args.index) x.uid ≡ true)) same (fit.0, fit.1 ∙ c.if-not-is_in_some_block.false))
     (λ begun. asked_nothing es from _ _ (Heard r) begun here refl) h
 
 -- a slot that requires tags

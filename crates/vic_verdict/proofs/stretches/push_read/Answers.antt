@@ -1,18 +1,6 @@
-use Rattle.vic_verdict.proofs.Words.{◌≡◌, ◌%◌, ◌+◌, ◌*◌, ℕ, Bool, Option, Some, None, if◌then◌else◌, refl, arith, inr, KeyBlock, div-mul-add, mod-mul-add, IsBlock}
-use Rattle.std.proofs.Common.{◌/◌}
-use Rattle.vic_verdict.specs.inner.Stretches.{IsReadSlotOf}
+use Rattle.vic_verdict.proofs.Words.{◌≡◌, ◌%◌, ◌+◌, ◌*◌, ℕ, Bool, Option, Some, None, if◌then◌else◌, refl, arith, inr, KeyBlock, div-mul-add, mod-mul-add, IsBlock, ◌/◌, IsReadSlotOf}
 use Rattle.vic_verdict.proofs.stretches.push_read.Goals as goal
 use Rattle.vic_verdict.proofs.stretches.push_read.Goals.{in-Some-heard, in-None}
-
-pub overflow_mul-block : goal.overflow_mul-block
-overflow_mul-block c =
-    let block = rw c.in-Some.is at c.requires in
-    omega (arith, block.keys)
-
-pub overflow_add-block : goal.overflow_add-block
-overflow_add-block c =
-    let block = rw c.in-Some.is at c.requires in
-    omega (arith, block.keys, block.short)
 
 -- the slot of a block
 slot_of : (keys : Option KeyBlock) (b : KeyBlock) (key at : ℕ) (is_heard : Bool) (heard : Option ℕ) → keys ≡ Some b → IsBlock b.first b.len → (if is_heard then Some key else None) ≡ heard → IsReadSlotOf keys at heard (record { mask = b.first * 256 + b.len; key = key; at = at; is_heard = is_heard })

@@ -1,21 +1,21 @@
-use Rattle.vic_verdict.proofs.Words.{Some, ◌∙◌, ap, sym, length, arith, ◌≡◌, Entry, entries, is_outside}
-use Rattle.vic_verdict.proofs.Listing.{place_bound}
-use Rattle.vic_verdict.proofs.Settling.{IsWalked, walked_first, walked_anew, settled_to}
+use Rattle.vic_verdict.proofs.Words.{Some, ◌∙◌, ap, sym, length, arith, ◌≡◌, Entry, entries, is_outside, refl, slice_get_read}
+use Rattle.vic_verdict.proofs.Listing.{number_above}
+use Rattle.vic_verdict.proofs.Settling.{walked_first, walked_anew, settled_to}
 use Rattle.vic_verdict.proofs.Stands.{entry_at}
 use Rattle.vic_verdict.proofs.Stretching.{gathered_settles}
 use Rattle.vic_verdict.proofs.stretches.settle.Goals as goal
 use Rattle.vic_verdict.proofs.stretches.settle.Goals.{in-FieldCycle+in_ok-cut+in_ok-keep_stretch+else-cut-index, in_default+in_ok-note_entry+else-not-branch}
 
 pub loop-index-init : goal.loop-index-init
-loop-index-init c =
-    let es = entries c.args.lines.now in
-    record {
-      round = c.first-cursor.ensures es;
-      walked = rw (c.new-closed.ensures.items, c.new-stretches.ensures.items, c.in_ok-mentions.ensures.items, c.in_ok-reads.ensures.items, c.new-demands.ensures.items) (walked_first es);
-    }
+loop-index-init c = record {
+  round = c.first-cursor.ensures (entries c.args.lines.now);
+  walked = rw (c.new-closed.ensures.items, c.new-stretches.ensures.items, c.in_ok-mentions.ensures.items, c.in_ok-reads.ensures.items, c.new-demands.ensures.items) (walked_first (entries c.args.lines.now));
+}
 
 pub note_entry-requires : goal.note_entry-requires
-note_entry-requires c = place_bound c.args.lines.now c.loop-index.index c.number-number.result c.index-lines-index.result c.requires.rising c.loop-index-test.true c.index-lines-index.is c.number-number.ensures c.number-number.type_inv
+note_entry-requires c =
+    let at = slice_get_read c.args.lines.now (length c.args.lines.now) c.loop-index.index c.index-lines-index.result refl c.loop-index-test.true c.index-lines-index.is in
+    omega (arith, number_above 0 c.args.lines.now c.loop-index.index c.index-lines-index.result c.requires.rising at, c.number-number.ensures, c.number-number.type_inv)
 
 pub settle_stretch-requires : goal.settle_stretch-requires
 settle_stretch-requires c = gathered_settles _ _ _ _ _ _ c.loop-index.invariant.walked.1

@@ -5,11 +5,7 @@ use Rattle.vic_verdict.proofs.sweep.close_between.Goals as goal
 use Rattle.vic_verdict.proofs.sweep.close_between.Goals.{then-mention, then-from-mention+in_ok-push, then-from-last+in_ok-push-2, else-from-last, else-from-mention, else-mention}
 
 pub loop-mention-init : goal.loop-mention-init
-loop-mention-init c =
-    let forward = c.last-last.ensures.is_range.0 in
-    let from = c.first-first.ensures.value in
-    let to = c.last-last.ensures.value in
-    closed_first c.args.closed.now.items c.mentions_between-inside.result.now c.first-first.result c.last-last.result (omega arith) c.mentions_between-inside.ensures.inside
+loop-mention-init c = closed_first c.args.closed.now.items c.mentions_between-inside.result.now c.first-first.result c.last-last.result c.mentions_between-inside.ensures.inside
 
 pub loop-mention-preserved : goal.loop-mention-preserved
 loop-mention-preserved c =

@@ -2,9 +2,6 @@ use Rattle.vic_verdict.proofs.Words.{◌∙◌, get_or, sym, take_all, get_or_de
 use Rattle.vic_verdict.proofs.Sweeping.{nowhere, runs_more, keep_none}
 use Rattle.vic_verdict.proofs.sweep.rule_out_all.Goals as goal
 
-pub pass_read-requires-clause-range : goal.pass_read-requires-clause-range
-pass_read-requires-clause-range c = c.requires.ranges c.loop-read.read-index nowhere c.loop-read-test.true
-
 pub loop-read-preserved : goal.loop-read-preserved
 loop-read-preserved c = record {
   order = c.pass_read.ensures.order;

@@ -1,5 +1,5 @@
-use Rattle.vic_verdict.proofs.Words.{ArePutInOrder, filter, IsPermutation, ◌≡◌, ℕ, ◌∙◌, ◌++◌, refl, ap, sym, rules, length, take, List, All, length-map, All-permutation, mirror, Mention, ReadSlot, keep_all, all_leave, Closes, is_in_some, All-filter, IsNonDecreasingBy-from_sort_by_key, HasRange, keep, subst}
-use Rattle.vic_verdict.proofs.Sweeping.{keep-order, written, is_before_place, settled_by, put_in_order}
+use Rattle.vic_verdict.proofs.Words.{ArePutInOrder, filter, IsPermutation, ◌≡◌, ℕ, ◌∙◌, ◌++◌, refl, ap, sym, rules, length, take, List, All, length-map, All-permutation, mirror, Mention, ReadSlot, keep_all, all_leave, Closes, is_in_some, All-filter, IsNonDecreasingBy-from_sort_by_key, HasRange, keep, subst, take_at}
+use Rattle.vic_verdict.proofs.Sweeping.{keep-order, is_before_place, settled_by, put_in_order}
 use Rattle.vic_verdict.proofs.Heard.{first_permuted}
 use Rattle.vic_verdict.proofs.sweep.settle_stretch.Goals as goal
 
@@ -23,7 +23,7 @@ close_reads-requires-clause-ranges c = have_ranges _ _ _ _ _ c.requires.ranges c
 
 mentions_are : (n : ℕ) (ns now new sorted kept : List Mention) (ss reads : List ReadSlot) → now ≡ sorted → ss ≡ reads → new ≡ keep_all (all_leave ss) now → length now ≡ n → kept ≡ take n (new ++ ns) → kept ≡ keep_all (all_leave reads) sorted
 mentions_are n ns now new sorted kept ss reads a b d e f =
-    f ∙ (written n new ns (sym (ap length d ∙ (length-map now (keep (all_leave ss)) ∙ e))) ∙ (d ∙ (ap (λ ts. keep_all (all_leave ts) now) b ∙ ap (keep_all (all_leave reads)) a)))
+    f ∙ (take_at new ns n (ap length d ∙ (length-map now (keep (all_leave ss)) ∙ e)) ∙ (d ∙ (ap (λ ts. keep_all (all_leave ts) now) b ∙ ap (keep_all (all_leave reads)) a)))
 
 pub close_reads-requires-clause-order : goal.close_reads-requires-clause-order
 close_reads-requires-clause-order c =
