@@ -12,7 +12,7 @@ abbrev pub TellsFrom : List Mention → ℕ → ℕ → Type 0
 TellsFrom ns k quiet = (i : ℕ) → i ≤ NEVER → is_quiet_by ns (at ns k).key i ≡ nat_lt quiet i
 
 -- where a UID falls silent first by the mentions of its key
-pub quiet_own : (own : List Mention) (key i : ℕ) → All (λ (n : Mention). is_between key key n.key ≡ true) own → is_quiet_by own key i ≡ list_any (λ (n : Mention). nat_lt (quiet_of n) i) own
+quiet_own : (own : List Mention) (key i : ℕ) → All (λ (n : Mention). is_between key key n.key ≡ true) own → is_quiet_by own key i ≡ list_any (λ (n : Mention). nat_lt (quiet_of n) i) own
 quiet_own [] key i inside = refl
 quiet_own (n ∷ own) key i inside =
     let Own : Mention → Type 0 = λ (m : Mention). is_between key key m.key ≡ true in

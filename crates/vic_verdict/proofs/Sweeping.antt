@@ -6,16 +6,16 @@ use Rattle.vic_verdict.specs.declared.sweep.Level.{Level}
 
 -- ---- mentions that are kept
 
-pub keep_twice : (p q : ℕ → ℕ → Bool) (ns : List Mention) → keep_all p (keep_all q ns) ≡ keep_all (λ k t. q k t && p k t) ns
+keep_twice : (p q : ℕ → ℕ → Bool) (ns : List Mention) → keep_all p (keep_all q ns) ≡ keep_all (λ k t. q k t && p k t) ns
 keep_twice p q [] = refl
 keep_twice p q (n ∷ ns) = rw (keep_twice p q ns, and_thrice n.left (q n.key (quiet_of n)) (p n.key (quiet_of n))) refl
 
-pub keep_alike : (p q : ℕ → ℕ → Bool) → ((k t : ℕ) → p k t ≡ q k t) → (ns : List Mention) → keep_all p ns ≡ keep_all q ns
+keep_alike : (p q : ℕ → ℕ → Bool) → ((k t : ℕ) → p k t ≡ q k t) → (ns : List Mention) → keep_all p ns ≡ keep_all q ns
 keep_alike p q same [] = refl
 keep_alike p q same (n ∷ ns) = rw (same n.key (quiet_of n), keep_alike p q same ns) refl
 
 -- mentions that pass stay as they are
-pub keep_fixed : (p : ℕ → ℕ → Bool) (ns : List Mention) → All (λ (n : Mention). p n.key (quiet_of n) ≡ true) ns → keep_all p ns ≡ ns
+keep_fixed : (p : ℕ → ℕ → Bool) (ns : List Mention) → All (λ (n : Mention). p n.key (quiet_of n) ≡ true) ns → keep_all p ns ≡ ns
 keep_fixed p ns h = map_fixed (keep p) ns (λ j d lt. rw (h j d lt, and_true (get_or ns j d).left) refl)
 
 pub keep_none : (ns : List Mention) → keep_all (λ k t. true) ns ≡ ns
@@ -26,7 +26,7 @@ keep-order p ns up i j d le below =
     let short : j < length ns = subst (λ m. j < m) (length-map ns (keep p)) below in
     rw (get_or-map (keep p) ns i d d (omega arith), get_or-map (keep p) ns j d d short) (up i j d le short)
 
-pub keep-quiet : (p : ℕ → ℕ → Bool) (ns : List Mention) (k i : ℕ) → is_quiet_by (keep_all p ns) k i ≡ is_quiet_by ns k i
+keep-quiet : (p : ℕ → ℕ → Bool) (ns : List Mention) (k i : ℕ) → is_quiet_by (keep_all p ns) k i ≡ is_quiet_by ns k i
 keep-quiet p [] k i = refl
 keep-quiet p (n ∷ ns) k i = ap (λ b. ((n.key == k) && nat_lt (quiet_of n) i) || b) (keep-quiet p ns k i)
 
@@ -39,12 +39,13 @@ nobody = record { key = 0; at = 0; is_heard = false; left = false }
 abbrev pub nowhere : ReadSlot
 nowhere = record { mask = 0; key = 0; at = 0; is_heard = false }
 
--- those from a position on, which has a key
+-- the keys from a mention on are no less than its own
 order_from : (ns : List Mention) (first at : ℕ) → AreInOrder ns → (at < length ns → first ≤ (get_or ns at nobody).key) → (k : ℕ) (d : Mention) → at ≤ k → k < length ns → first ≤ (get_or ns k d).key
 order_from ns first at up from k d ge lt =
     let here = ap (λ (n : Mention). n.key) (get_or_default ns at d nobody (omega arith)) in
     omega (arith, up at k d ge lt, from (omega arith))
 
+-- the mentions from a start on, and those before it
 pub all_from : (ns : List Mention) (first at : ℕ) → IsStart ns first at → All (λ (n : Mention). first ≤ n.key) (drop at ns)
 all_from ns first at s k d lt = rw (get_or-drop at ns k d) (s.rest (at + k) d (omega arith) (omega (arith, length-drop at ns)))
 
@@ -121,15 +122,12 @@ runs_more o r reads i s old ns new below is before step =
 abbrev quiet_before : List Mention → ℕ → Option ℕ → Bool
 quiet_before ns k o = has_where (λ n. is_before (quiet_of n) o) ns k
 
-quiet_none : (ns : List Mention) (k : ℕ) → quiet_before ns k None ≡ is_mentioned ns k
-quiet_none ns k = simp and_true
-
-silenced_mentioned : (ns : List Mention) (k i : ℕ) → is_quiet_by ns k i ≡ true → is_mentioned ns k ≡ true
+silenced_mentioned : (ns : List Mention) (k i : ℕ) → is_quiet_by ns k i ≡ true → quiet_before ns k None ≡ true
 silenced_mentioned [] k i e = e
 silenced_mentioned (n ∷ ns) k i e = grind (arith, silenced_mentioned ns k i)
 
 quiet_since : (ns : List Mention) (k i : ℕ) (o : Option ℕ) → is_before i o ≡ true → is_quiet_by ns k i ≡ true → quiet_before ns k o ≡ true
-quiet_since ns k i None e f = quiet_none ns k ∙ silenced_mentioned ns k i f
+quiet_since ns k i None e f = silenced_mentioned ns k i f
 quiet_since ns k i (Some j) e f = silenced_later ns k i j (le_of_lt (lt_from i j e)) f
 
 quiet_until : (ns : List Mention) (k i : ℕ) (o : Option ℕ) → is_before i o ≡ false → quiet_before ns k o ≡ true → is_quiet_by ns k i ≡ true
@@ -155,9 +153,9 @@ left_before : (p : ℕ → ℕ → Bool) (o : Option ℕ) (ns : List Mention) (k
 left_before p o [] k same e = refl
 left_before p o (n ∷ ns) k same e = grind (arith, nat_tests, same (quiet_of n), left_before p o ns k same)
 
-heard_mentioned : (ns : List Mention) (o : Option ℕ) (k : ℕ) → is_heard o k ≡ true → is_mentioned_if ns o ≡ true → is_mentioned ns k ≡ true
-heard_mentioned ns None k e h = absurd (false≢true e)
-heard_mentioned ns (Some x) k e h = rw (eqb-true x k e) at h
+key_mentioned : (ns : List Mention) (o : Option ℕ) (k : ℕ) → is_heard o k ≡ true → is_mentioned_if ns o ≡ true → is_mentioned ns k ≡ true
+key_mentioned ns None k e h = absurd (false≢true e)
+key_mentioned ns (Some x) k e h = rw (eqb-true x k e) at h
 
 -- all slots allow a key if and only if it lies in none or is left by mention
 allowed_covered : (ns : List Mention) (k : ℕ) (ss : List ReadSlot) → all_hear_mentioned ns ss ≡ true → all_allow ns ss k ≡ (not (is_in_some ss k) || quiet_before ns k (limit ss k))
@@ -165,7 +163,7 @@ allowed_covered ns k [] e = refl
 allowed_covered ns k (s ∷ ss) e =
     let parts = and_parts _ _ e in
     next (quiet_before ns k) (is_in s k) (is_heard (heard_of s) k) (is_in_some ss k) (limit ss k) s.at (quiet_since ns k s.at (limit ss k)) (quiet_until ns k s.at (limit ss k)) (limit_none ss k)
-    (λ h. quiet_none ns k ∙ heard_mentioned ns (heard_of s) k h parts.0) (λ q. quiet_none ns k ∙ silenced_mentioned ns k s.at q) _ (allowed_covered ns k ss parts.1)
+    (λ h. simp and_true (key_mentioned ns (heard_of s) k h parts.0)) (silenced_mentioned ns k s.at) _ (allowed_covered ns k ss parts.1)
   where
     next : (f : Option ℕ → Bool) (b h i : Bool) (o : Option ℕ) (at : ℕ) → (is_before at o ≡ true → f (Some at) ≡ true → f o ≡ true) → (is_before at o ≡ false → f o ≡ true → f (Some at) ≡ true) → (i ≡ false → o ≡ None) → (h ≡ true → f None ≡ true) → (f (Some at) ≡ true → f None ≡ true) → (a : Bool) → a ≡ (not i || f o) → ((not b || (f (Some at) || h)) && a) ≡ (not (b || i) || f (if not b || (h || not (is_before at o)) then o else Some at))
     next f b h i o at since until none heard quiet a is = grind arith
