@@ -1,5 +1,5 @@
 -- What the slots between two field cycles leave, mention by mention.
-use Rattle.vic_verdict.proofs.Words.{All, Bool, IsPermutation, List, None, Option, Some, [], ap, arith, drop, eqb-true, false, filter, get_or, get_or-drop, get_or-take, if◌then◌else◌, inl, inr, le_of_lt, length, length-append, length-drop, length-take-le, ltb-false, nat_lt, not, refl, set, subst, sym, take, take-append-drop, true, ℕ, ◌&&◌, ◌++◌, ◌+◌, ◌-◌, ◌<◌, ◌==◌, ◌^◌, ◌||◌, ◌∙◌, ◌∷◌, ◌≡◌, ◌≤◌, ◌⊎◌, and_parts, both_ways, false≢true, nat_tests, drop_more, get_or-map, get_or_default, length-map, map-append, All-filter, All-head, All-map, All-tail, list_all_more, map_fixed, All-permutation, IsPermutation-sym, list_any-IsPermutation, AllPass-from_list_all, list_all-from_AllPass, list_all, and_thrice, and_true, lt_from, lt_yes, same_tests, in_ranges, is_between, Mention, ReadSlot, Run, Closes, is_in_some, AreInOrder, ArePutInOrder, IsStart, all_allow, all_allow_to, all_hear_mentioned, all_leave, are_left, first_of, has_left, has_where, heard_of, hears_mentioned, is_heard, is_in, is_mentioned, is_mentioned_if, is_quiet_by, keep, keep_all, last_of, level_leaves, mask_leaves, quiet_of, read_allows, read_leaves, run_leaves, slot_leaves, get_or_at, IsPermutation-map, is_before}
+use Rattle.vic_verdict.proofs.Words.{All, Bool, IsPermutation, List, None, Option, Some, [], ap, arith, drop, eqb-true, false, filter, get_or, get_or-drop, get_or-take, if◌then◌else◌, inl, inr, le_of_lt, length, length-append, length-drop, length-take-le, ltb-false, nat_lt, not, refl, set, subst, sym, take, take-append-drop, true, ℕ, ◌&&◌, ◌++◌, ◌+◌, ◌-◌, ◌<◌, ◌==◌, ◌^◌, ◌||◌, ◌∙◌, ◌∷◌, ◌≡◌, ◌≤◌, ◌⊎◌, and_parts, both_ways, false≢true, nat_tests, drop_more, get_or-map, get_or_default, length-map, map-append, All-filter, All-head, All-map, All-tail, list_all_more, map_fixed, All-permutation, IsPermutation-sym, list_any-IsPermutation, AllPass-from_list_all, list_all-from_AllPass, list_all, and_thrice, and_true, lt_from, lt_yes, same_tests, in_ranges, is_between, Mention, ReadSlot, Run, Closes, is_in_some, AreInOrder, ArePutInOrder, IsStart, all_allow, all_allow_to, all_hear_mentioned, all_leave, are_left, first_of, has_left, has_where, heard_of, hears_mentioned, is_heard, is_in, is_mentioned, is_mentioned_if, is_quiet_by, keep, keep_all, last_of, level_leaves, mask_leaves, quiet_of, read_allows, read_leaves, run_leaves, slot_leaves, get_or_at, IsPermutation-map, is_before, ⊎_elim, ext_get_or, get_or-set_same, get_or-set_other, length-set, cases_Bool, false_from_ne_true, list_any, cases_eq, cases_lt, and_from, or_cases, or_left, or_right, HaveKeys, All-from_get_or, All-weaker, list_any_none, take-append_seam}
 use Rattle.std.proofs.lemmas.List.Edits.{map_over_more}
 use Rattle.vic_verdict.proofs.Silencing.{silenced_later, silenced_permuted}
 use Rattle.vic_verdict.specs.declared.sweep.Level.{Level}
@@ -105,9 +105,9 @@ ruled_all first last l ns i up over =
 
 -- ---- a mask after another
 
-pub run_next : (o : Option Run) (s : ReadSlot) (m : Level) (near : ℕ) (ns new : List Mention) → new ≡ keep_all (run_leaves o) ns → ((k q : ℕ) → level_leaves m k q ≡ slot_leaves s.at (heard_of s) k q) → keep_all (run_leaves (Some (record { first = first_of s; last = last_of s; level = m; near = near }))) new ≡ keep_all (λ k q. run_leaves o k q && read_leaves s k q) ns
-run_next o s m near ns new is h =
-    keep_alike _ _ (λ k q. ap (λ b. not (is_between (first_of s) (last_of s) k) || b) (h k q)) new
+pub run_next : (o : Option Run) (s : ReadSlot) (keys : ℕ × ℕ) (m : Level) (ns new : List Mention) → keys ≡ (first_of s, last_of s) → new ≡ keep_all (run_leaves o) ns → ((k q : ℕ) → level_leaves m k q ≡ slot_leaves s.at (heard_of s) k q) → keep_all (run_leaves (Some (record { keys = keys; level = m }))) new ≡ keep_all (λ k q. run_leaves o k q && read_leaves s k q) ns
+run_next o s keys m ns new same is h =
+    keep_alike _ _ (λ k q. ap (λ (r : ℕ × ℕ). not (is_between r.0 r.1 k) || level_leaves m k q) same ∙ ap (λ b. not (is_in s k) || b) (h k q)) new
     ∙ (ap (keep_all (read_leaves s)) is ∙ keep_twice (read_leaves s) (run_leaves o) ns)
 
 -- one slot more of all

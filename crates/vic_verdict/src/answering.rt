@@ -17,7 +17,9 @@ ghost use Rattle.vic_verdict.specs.declared.answering.Unmentioned.{Unmentioned a
 ghost use Rattle.vic_verdict.specs.inner.Sweep.{AreInOrder, HaveKeys, is_mentioned, quiet_of};
 ghost use Rattle.vic_verdict.specs.inner.Answering.{AreOpenMentions, IsKnown, IsLearnt, IsReadyIn, IsUnmentioned, HasInside, HasMentionedIn, is_answering, is_ready_at, is_unmentioned, is_unmentioned_in};
 
-use crate::mentions::{Mention, first_quiet, is_any_quiet, mentions_between, start_near};
+use crate::mentions::{
+    Mention, MentionCursor, first_quiet, is_any_quiet, mentions_between, start_of,
+};
 use arrayvec::ArrayVec;
 use std::alloc::{AllocError, Global};
 use vic_frame::Uid;
@@ -137,7 +139,7 @@ impl Known {
         alloc: Global,
         set: &S,
         mentions: &[Mention],
-        near: usize,
+        cursor: &mut MentionCursor,
         block: &KeyBlock,
         at: usize,
     ) -> Result<ArrayVec<Uid, 3>, AllocError>
@@ -152,11 +154,11 @@ impl Known {
             (is_answering (S.is_open set.now) mentions.now block.now at) uids.items) }
     {
         let (first, last) = (block.first, block.last());
-        let start = start_near(mentions, near, first);
+        let start = cursor.seek(mentions, first);
         let end = start + mentions_between(mentions, start, first, last).len();
         let masks = &mut self.masks;
         let mut uids = unmentioned_in(alloc, set, &self.keys[start..end], masks, block)?;
-        let start = start_near(&self.mentioned, 0, first);
+        let start = start_of(&self.mentioned, first);
         gather_ready(
             &mut uids,
             mentions_between(&self.mentioned, start, first, last),
@@ -224,14 +226,13 @@ fn known_at<S: OpenSet>(
 
 /// Open UIDs that answer in a slot with a block of keys: all if there are fewer than three,
 /// otherwise three. Usually those that are found first aren't Quiet, and nothing more has to be
-/// known. The search for the first mention of the block begins near index `near`. No slot before
-/// position `from` will be asked for.
+/// known. No slot before position `from` will be asked for.
 pub(crate) fn up_to_three_answering<S: OpenSet>(
     alloc: Global,
     set: &S,
     mentions: &[Mention],
     learnt: &mut Learnt,
-    near: usize,
+    cursor: &mut MentionCursor,
     block: &KeyBlock,
     from: usize,
     at: u32,
@@ -246,17 +247,17 @@ pub(crate) fn up_to_three_answering<S: OpenSet>(
 {
     let at = at as usize;
     let uids = set.up_to_three(&mask_of_keys(block.first, block.len), &[]);
-    let start = start_near(mentions, near, block.first);
+    let start = cursor.seek(mentions, block.first);
     let inside = mentions_between(mentions, start, block.first, block.last());
     if !is_any_quiet(inside, &uids, at) {
         return Ok(uids);
     }
     if learnt.spends(inside) {
         let mut known = Known::of(alloc, set, inside, at)?;
-        return known.answering(alloc, set, inside, 0, block, at);
+        return known.answering(alloc, set, inside, &mut MentionCursor::first(), block, at);
     }
     let mut known = known_at(alloc, set, mentions, learnt.known.take(), from, at)?;
-    let uids = known.answering(alloc, set, mentions, near, block, at)?;
+    let uids = known.answering(alloc, set, mentions, cursor, block, at)?;
     learnt.known = Some(known);
     Ok(uids)
 }

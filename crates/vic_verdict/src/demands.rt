@@ -19,7 +19,7 @@ ghost use Rattle.vic_verdict.specs.Demands.{AreFound};
 ghost use Rattle.vic_verdict.specs.inner.Asked.{IsDemandBy, answers_by, IsUnmet, IsUnmetAt, IsAskedAgain, AreKept, AreMet, HasBlock, HasBlocks, HasMentionsInOrder, Keeps};
 
 use crate::answering::{Learnt, up_to_three_answering};
-use crate::mentions::{Mention, mentions_between, start_near};
+use crate::mentions::{Mention, MentionCursor, mentions_between, start_of};
 use arrayvec::ArrayVec;
 use std::alloc::{AllocError, Global};
 use std::mem::replace;
@@ -147,15 +147,14 @@ pub(crate) fn keep_stretch(
     Ok(())
 }
 
-/// Open UIDs that answer in a slot: all if there are fewer than three, otherwise three. The search
-/// for the first mention of the slot's mask begins near index `near`. No slot before position
-/// `from` will be asked for.
+/// Open UIDs that answer in a slot: all if there are fewer than three, otherwise three. No slot
+/// before position `from` will be asked for.
 fn answering<S: OpenSet>(
     alloc: Global,
     set: &S,
     mentions: &[Mention],
     learnt: &mut Learnt,
-    near: usize,
+    cursor: &mut MentionCursor,
     from: usize,
     demand: &Demand,
 ) -> Result<ArrayVec<Uid, 3>, AllocError>
@@ -172,7 +171,9 @@ fn answering<S: OpenSet>(
         first: demand.first,
         len: demand.len,
     };
-    up_to_three_answering(alloc, set, mentions, learnt, near, &block, from, demand.at)
+    up_to_three_answering(
+        alloc, set, mentions, learnt, cursor, &block, from, demand.at,
+    )
 }
 
 /// The position of the first of some slots. No answer rests on it: it says from where on it is
@@ -227,7 +228,7 @@ fn known_mentions<'a>(learnt: &'a Learnt, demand: &Demand) -> &'a [Mention]
     let Demand { first, len, .. } = *demand;
     match &learnt.known {
         Some(known) => {
-            let start = start_near(&known.mentioned, 0, first);
+            let start = start_of(&known.mentioned, first);
             mentions_between(
                 &known.mentioned,
                 start,
@@ -261,12 +262,19 @@ fn guess_unmet<S: OpenSet>(
     let mut guess = from;
     let mut least = usize::MAX;
     let mut start = from;
-    let mut near = 0;
+    let mut cursor = MentionCursor::first();
     for index in from..demands.len() {
         if !is_asked_again(demands, index) {
             let demand = demands[index];
-            near = start_near(mentions, near, demand.first);
-            let uids = answering(alloc, set, mentions, learnt, near, first_asked, &demand)?;
+            let uids = answering(
+                alloc,
+                set,
+                mentions,
+                learnt,
+                &mut cursor,
+                first_asked,
+                &demand,
+            )?;
             let need = usize::from(demand.need);
             if uids.len() < need {
                 let inside = known_mentions(learnt, &demand);
@@ -306,7 +314,16 @@ fn first_unmet<S: OpenSet>(
     let guess = guess_unmet(alloc, set, mentions, learnt, demands, from)?;
     if guess < demands.len() {
         let demand = demands[guess];
-        let uids = answering(alloc, set, mentions, learnt, 0, demand.place(), &demand)?;
+        let mut cursor = MentionCursor::first();
+        let uids = answering(
+            alloc,
+            set,
+            mentions,
+            learnt,
+            &mut cursor,
+            demand.place(),
+            &demand,
+        )?;
         if uids.len() < usize::from(demand.need) {
             return Ok(demand.place());
         }
@@ -335,12 +352,19 @@ fn meet_each<S: OpenSet>(
     let from = first_place(demands);
     let mut learnt = Learnt::nothing(mentions);
     let mut start = 0;
-    let mut near = 0;
+    let mut cursor = MentionCursor::first();
     for index in 0..demands.len() {
         if !is_asked_again(demands, index) {
             let demand = demands[index];
-            near = start_near(mentions, near, demand.first);
-            let uids = answering(alloc, set, mentions, &mut learnt, near, from, &demand)?;
+            let uids = answering(
+                alloc,
+                set,
+                mentions,
+                &mut learnt,
+                &mut cursor,
+                from,
+                &demand,
+            )?;
             let at = demand.place();
             let need = usize::from(demand.need);
             if uids.len() < need {

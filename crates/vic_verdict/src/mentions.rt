@@ -73,7 +73,7 @@ pub(crate) fn push_mention(
 }
 
 /// The index of the first mention whose key is at least `first`; the end if there is none.
-fn start_of(mentions: &[Mention], first: u64) -> usize
+pub(crate) fn start_of(mentions: &[Mention], first: u64) -> usize
     requires { AreInOrder mentions.now }
     ensures { IsStart mentions.now first result }
 {
@@ -93,8 +93,8 @@ fn is_start(mentions: &[Mention], at: usize, first: u64) -> bool
 const NEAR: usize = 8;
 
 /// The index of the first mention whose key is at least `first`. The `NEAR` mentions from `near` on
-/// are tried first, which are close if masks come in the order of their keys; then it bisects.
-pub(crate) fn start_near(mentions: &[Mention], near: usize, first: u64) -> usize
+/// are tried first; then it bisects.
+fn start_near(mentions: &[Mention], near: usize, first: u64) -> usize
     requires { AreInOrder mentions.now }
     ensures { IsStart mentions.now first result }
 {
@@ -104,6 +104,34 @@ pub(crate) fn start_near(mentions: &[Mention], near: usize, first: u64) -> usize
         }
     }
     start_of(mentions, first)
+}
+
+/// Where the last search among mentions ended. The next one begins there: if masks come in the
+/// order of their keys, it isn't far. No answer rests on it.
+#[derive(Clone, Copy)]
+pub(crate) struct MentionCursor {
+    index: usize,
+}
+
+impl MentionCursor {
+    /// At the first mention.
+    pub(crate) fn first() -> MentionCursor {
+        MentionCursor { index: 0 }
+    }
+
+    /// Moves to the first mention whose key is at least `first`, and returns its index.
+    pub(crate) fn seek(&mut self, mentions: &[Mention], first: u64) -> usize
+        requires { AreInOrder mentions.now }
+        ensures { IsStart mentions.now first result }
+    {
+        self.index = start_near(mentions, self.index, first);
+        self.index
+    }
+
+    /// Moves on by so many mentions.
+    pub(crate) fn pass(&mut self, count: usize) {
+        self.index = self.index.saturating_add(count);
+    }
 }
 
 /// How many mentions have keys up to `last`: counted one by one up to `NEAR`, and then by

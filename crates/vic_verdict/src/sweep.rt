@@ -14,7 +14,7 @@ ghost use Rattle.vic_verdict.specs.inner.Sweep.{AreInOrder, HasRange, first_of, 
 ghost use Rattle.vic_verdict.specs.inner.Replies.{IsFirstQuietReply};
 ghost use Rattle.vic_verdict.specs.declared.sweep.ReadSlot.{ReadSlot as ReadSlotValue};
 
-use crate::mentions::{Mention, first_quiet_reply, mentions_between, start_near};
+use crate::mentions::{Mention, MentionCursor, first_quiet_reply, mentions_between};
 use std::alloc::AllocError;
 use vic_frame::UID_BITS;
 use vic_tree::KeyRange;
@@ -53,13 +53,13 @@ impl ReadSlot {
         (self.mask % LENGTHS) as u8
     }
 
-    /// The first and the last key of its mask.
-    pub(crate) fn keys(&self) -> (u64, u64)
+    /// The keys of its mask.
+    pub(crate) fn keys(&self) -> KeyRange
         requires { HasRange self.now }
         ensures { result ≡ (first_of self.now, last_of self.now) }
     {
         let first = self.first();
-        (first, first + ((1 << (UID_BITS - self.len())) - 1))
+        KeyRange::new(first, first + ((1 << (UID_BITS - self.len())) - 1))
     }
 
     /// The key that was heard, if one was.
@@ -117,18 +117,24 @@ fn rule_out_all(mentions: &mut [Mention], reads: &[ReadSlot])
     requires ranges { All HasRange reads.now }
     ensures { mentions.new ≡ keep_all (all_leave reads.now) mentions.old }
 {
+    let mut cursor = MentionCursor::first();
     let mut run: Option<Run> = None;
     for read in reads {
-        run = Some(pass_read(mentions, run, read));
+        run = Some(pass_read(mentions, &mut cursor, run, read));
     }
-    if let Some(r) = run {
-        rule_out(mentions, r.near, r.first, r.last, &r.level);
+    if let Some(run) = run {
+        rule_out(mentions, &mut cursor, run.keys, &run.level);
     }
 }
 
 /// Adds a slot to a run of the same mask; otherwise rules out the mentions that the run doesn't
 /// leave, and begins a new one.
-fn pass_read(mentions: &mut [Mention], run: Option<Run>, read: &ReadSlot) -> Run
+fn pass_read(
+    mentions: &mut [Mention],
+    cursor: &mut MentionCursor,
+    run: Option<Run>,
+    read: &ReadSlot,
+) -> Run
     requires order { AreInOrder mentions.old }
     requires level { IfSome run (λ r. IsLevel r.level) }
     requires range { HasRange read.now }
@@ -137,52 +143,42 @@ fn pass_read(mentions: &mut [Mention], run: Option<Run>, read: &ReadSlot) -> Run
     ensures leaves { keep_all (run_leaves (Some result)) mentions.new
         ≡ keep_all (λ k q. run_leaves run k q && read_leaves read.now k q) mentions.old }
 {
-    let (first, last) = read.keys();
-    let mut near = 0;
-    if let Some(r) = run {
-        if r.first == first && r.last == last {
+    let keys = read.keys();
+    if let Some(before) = run {
+        if before.keys == keys {
             return Run {
-                first: r.first,
-                last: r.last,
-                level: r.level.with(read.at as usize, read.heard()),
-                near: r.near,
+                keys,
+                level: before.level.with(read.at as usize, read.heard()),
             };
         }
-        near = rule_out(mentions, r.near, r.first, r.last, &r.level);
+        rule_out(mentions, cursor, before.keys, &before.level);
     }
     Run {
-        first,
-        last,
+        keys,
         level: Level::of(read.at as usize, read.heard()),
-        near,
     }
 }
 
 /// Slots of one mask, one after another.
 #[derive(Clone, Copy)]
 pub(crate) struct Run {
-    pub first: u64,
-    pub last: u64,
+    pub keys: KeyRange,
     pub level: Level,
-    /// An index near that of its first mention.
-    pub near: usize,
 }
 
-/// Rules out those mentions from key `first` to `last` that a level doesn't leave. Returns the
-/// index of the first mention from key `first` on, near which that of the next mask may be.
-fn rule_out(mentions: &mut [Mention], near: usize, first: u64, last: u64, level: &Level) -> usize
+/// Rules out those mentions of a mask's keys that a level doesn't leave.
+fn rule_out(mentions: &mut [Mention], cursor: &mut MentionCursor, keys: KeyRange, level: &Level)
     requires { AreInOrder mentions.old }
-    ensures { mentions.new ≡ keep_all (mask_leaves first last level.now) mentions.old }
+    ensures { mentions.new ≡ keep_all (mask_leaves keys.0 keys.1 level.now) mentions.old }
 {
-    let start = start_near(mentions, near, first);
-    for i in start..mentions.len() {
+    let last = keys.last();
+    for i in cursor.seek(mentions, keys.first())..mentions.len() {
         let mention = mentions[i];
         if last < mention.key {
-            return start;
+            return;
         }
         mentions[i].left = mention.left && level.leaves(mention.key, mention.quiet());
     }
-    start
 }
 
 /// What the slots of one mask say together: the position of the first one, the key that it heard,
@@ -267,26 +263,23 @@ pub(crate) fn close_reads(
     ensures { OnOk result (Closes mentions.now (is_in_some reads.now)
         closed.old.items closed.new.items) }
 {
+    let mut cursor = MentionCursor::first();
     let mut range: Option<KeyRange> = None;
-    let mut near = 0;
     for read in reads {
-        let (first, last) = read.keys();
-        let keys = KeyRange::new(first, last);
-        range = Some(pass_keys(closed, mentions, &mut near, range, keys)?);
+        range = Some(pass_keys(closed, mentions, &mut cursor, range, read.keys())?);
     }
     if let Some(range) = range {
-        close_between(closed, mentions, near, range)?;
+        close_between(closed, mentions, &mut cursor, range)?;
     }
     Ok(())
 }
 
 /// Adds keys to the range before them if they adjoin it or lie in it; otherwise closes that range,
-/// if there is one. Returns the range to close next. `near` is an index near that of its first
-/// mention.
+/// if there is one. Returns the range to close next.
 fn pass_keys(
     closed: &mut Vec<KeyRange>,
     mentions: &[Mention],
-    near: &mut usize,
+    cursor: &mut MentionCursor,
     range: Option<KeyRange>,
     keys: KeyRange,
 ) -> Result<KeyRange, AllocError>
@@ -301,7 +294,7 @@ fn pass_keys(
     if let Some(wider) = joined(range, keys) {
         return Ok(wider);
     }
-    *near = close_between(closed, mentions, *near, range)?;
+    close_between(closed, mentions, cursor, range)?;
     Ok(keys)
 }
 
@@ -317,23 +310,23 @@ fn joined(range: KeyRange, next: KeyRange) -> Option<KeyRange>
     }
 }
 
-/// Closes the keys of a range, except those of mentions that are left. The search for its first
-/// mention begins near index `near`. Returns the index after its mentions, near which those of the
-/// next range may be.
+/// Closes the keys of a range, except those of mentions that are left. Moves the cursor past its
+/// mentions.
 fn close_between(
     closed: &mut Vec<KeyRange>,
     mentions: &[Mention],
-    near: usize,
+    cursor: &mut MentionCursor,
     range: KeyRange,
-) -> Result<usize, AllocError>
+) -> Result<(), AllocError>
     requires { AreInOrder mentions.now }
     ensures { OnOk result (Closes mentions.now (is_between range.0 range.1)
         closed.old.items closed.new.items) }
 {
     let first = range.first();
     let last = range.last();
-    let start = start_near(mentions, near, first);
+    let start = cursor.seek(mentions, first);
     let inside = mentions_between(mentions, start, first, last);
+    cursor.pass(inside.len());
     let mut from = first;
     for mention in inside {
         if mention.left {
@@ -346,5 +339,5 @@ fn close_between(
     if from <= last {
         closed.push(KeyRange::new(from, last))?;
     }
-    Ok(start.saturating_add(inside.len()))
+    Ok(())
 }

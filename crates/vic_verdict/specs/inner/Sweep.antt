@@ -73,7 +73,7 @@ mask_leaves first last l k q = not (is_between first last k) || level_leaves l k
 
 abbrev pub run_leaves : Option Run → ℕ → ℕ → Bool
 run_leaves None k q = true
-run_leaves (Some r) k q = mask_leaves r.first r.last r.level k q
+run_leaves (Some r) k q = mask_leaves r.keys.0 r.keys.1 r.level k q
 
 -- mentions stay left if a test of key and position passes
 abbrev pub keep : (ℕ → ℕ → Bool) → Mention → Mention

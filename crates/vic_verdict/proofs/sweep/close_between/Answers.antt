@@ -1,8 +1,8 @@
 use Rattle.vic_verdict.proofs.Words.{◌+◌, ◌-◌, ◌++◌, ◌∷◌, [], refl, get_or, sym, ap, ◌∙◌, arith, or_false, Mention}
 use Rattle.vic_verdict.proofs.Sweeping.{nobody}
 use Rattle.vic_verdict.proofs.Closing.{closed_first, closed_next, closed_all, pushed_none, pushed_one}
+use Rattle.vic_verdict.proofs.sweep.close_between.Goals.{then-mention, then-from-mention+in_ok-push, else-from-mention, else-mention}
 use Rattle.vic_verdict.proofs.sweep.close_between.Goals as goal
-use Rattle.vic_verdict.proofs.sweep.close_between.Goals.{then-mention, then-from-mention+in_ok-push, then-from-last+in_ok-push-2, else-from-last, else-from-mention, else-mention}
 
 pub loop-mention-init : goal.loop-mention-init
 loop-mention-init c = closed_first c.args.closed.now.items c.mentions_between-inside.result.now c.first-first.result c.last-last.result c.mentions_between-inside.ensures.inside
@@ -20,13 +20,20 @@ loop-mention-preserved c =
       | else-mention w ↦ (rw w.if-mention.false w.from-is, λ k. rw (w.closed-is, w.if-mention.false) (sym (or_false _)))
     ]) c.loop-mention.invariant
 
-pub returns : goal.returns
-returns c =
+pub returns-in_ok-push-2 : goal.returns-in_ok-push-2
+returns-in_ok-push-2 c =
     let new = c.loop-mention.closed.items in
     let from = c.loop-mention.from in
     let last = c.last-last.result in
     rw (← c.first-first.ensures.value, ← c.last-last.ensures.value)
-    (closed_all c.args.closed.now.items new _ c.mentions_between-inside.result.now c.args.mentions.now c.first-first.result last from c.loop-mention.mention-index c.loop-mention-test.false (c.mentions_between-inside.ensures.all (λ (n : Mention). n.left)) (elim c.if-from-last.branch [
-      | then-from-last+in_ok-push-2 w ↦ λ k. rw w.closed-is (pushed_one new w.push-then-from-last.new.self.items from last (last + 1) (omega (arith, w.if-from-last.true)) refl (w.in_ok-push-2.ensures.items ∙ ap (λ r. new ++ r ∷ []) w.new-then-from-last.ensures) k)
-      | else-from-last w ↦ λ k. rw w.closed-is (pushed_none new from (last + 1) (omega (arith, w.if-from-last.false)) k)
-    ]) c.loop-mention.invariant)
+    (closed_all c.args.closed.now.items new _ c.mentions_between-inside.result.now c.args.mentions.now c.first-first.result last from c.loop-mention.mention-index c.loop-mention-test.false (c.mentions_between-inside.ensures.all (λ (n : Mention). n.left))
+    (pushed_one new _ from last (last + 1) (omega (arith, c.if-from-last.true)) refl (c.in_ok-push-2.ensures.items ∙ ap (λ r. new ++ r ∷ []) c.new-then-from-last.ensures)) c.loop-mention.invariant)
+
+pub returns-else-from-last : goal.returns-else-from-last
+returns-else-from-last c =
+    let new = c.loop-mention.closed.items in
+    let from = c.loop-mention.from in
+    let last = c.last-last.result in
+    rw (← c.first-first.ensures.value, ← c.last-last.ensures.value)
+    (closed_all c.args.closed.now.items new new c.mentions_between-inside.result.now c.args.mentions.now c.first-first.result last from c.loop-mention.mention-index c.loop-mention-test.false (c.mentions_between-inside.ensures.all (λ (n : Mention). n.left))
+    (pushed_none new from (last + 1) (omega (arith, c.if-from-last.false))) c.loop-mention.invariant)

@@ -5,7 +5,7 @@ use Rattle.vic_verdict.proofs.answering.Known.answering.Goals as goal
 pub unmentioned_in-requires : goal.unmentioned_in-requires
 unmentioned_in-requires g c =
     let inside = c.mentions_between.result.now in
-    let part = keys_part c.args.mentions.now inside c.deref.result.now _ c.start_near-start.result _ (c.deref.ensures.value ∙ c.requires.known.keys) c.mentions_between.ensures.place refl refl in
+    let part = keys_part c.args.mentions.now inside c.deref.result.now _ c.seek-start.result _ (c.deref.ensures.value ∙ c.requires.known.keys) c.mentions_between.ensures.place refl refl in
     record {
       order = subst IsNonDecreasing (sym part) (keys_order inside c.mentions_between.ensures.order);
       keys = subst AreKeys (sym part) (All-map (λ k. k < 2 ^ 56) (λ (n : Mention). n.key) inside (c.mentions_between.ensures.keys c.requires.keys));
@@ -20,7 +20,7 @@ returns g c =
     let last = c.last-last.result in
     let known = c.requires.known in
     let block : (k : ℕ) → is_between b.first last k ≡ is_in_block b.first b.len k = λ k. ap (λ l. is_between b.first l k) c.last-last.ensures in
-    let mentioned = mentioned_in ns inside b last _ block c.mentions_between.ensures.all (keys_part ns inside c.deref.result.now _ c.start_near-start.result _ (c.deref.ensures.value ∙ known.keys) c.mentions_between.ensures.place refl refl) in
+    let mentioned = mentioned_in ns inside b last _ block c.mentions_between.ensures.all (keys_part ns inside c.deref.result.now _ c.seek-start.result _ (c.deref.ensures.value ∙ known.keys) c.mentions_between.ensures.place refl refl) in
     record {
       known = record { keys = known.keys; mentioned = known.mentioned; masks = c.in_ok-uids.ensures.masks ns mentioned known.masks };
       uids =
