@@ -84,8 +84,31 @@ inventory_read s link m h v =
     let has = inventory_fields link s m h in
     let size = has.size in
     let below : number_of (mask_bytes (request_spelling (Inventory link s m))) < 2 ^ m.len = rw has.mask_value h.1 in (
-      none_from (request_faults (request_spelling (Inventory link s m))) (le-ltb _ 4 (omega arith), (not_from_true _ has.crc, (refl, (refl, (refl, (refl, (refl, (refl,
-          (ne_eqb _ 4 (λ e. omega arith), (within_longest link s m h v, (not_from_true _ (eq-eqb _ _ size), (not_from_true _ (lt-ltb _ _ below), tt)))))))))))),
+      none_from (request_faults (request_spelling (Inventory link s m))) (
+        le-ltb _ 4 (omega arith),
+        (
+          not_from_true _ has.crc,
+          (
+            refl,
+            (
+              refl,
+              (
+                refl,
+                (
+                  refl,
+                  (
+                    refl,
+                    (
+                      refl,
+                      (ne_eqb _ 4 (λ e. omega arith), (within_longest link s m h v, (not_from_true _ (eq-eqb _ _ size), (not_from_true _ (lt-ltb _ _ below), tt)))),
+                    ),
+                  ),
+                ),
+              ),
+            ),
+          ),
+        ),
+      ),
       ap (λ n. Inventory link s (record { len = m.len; value = n })) has.mask_value,
     )
 
@@ -95,8 +118,34 @@ request_read (StayQuiet (suc (suc (suc (suc n)))) uid) h v = absurd (omega arith
 request_read (StayQuiet link uid) h v =
     let has = stay_quiet_fields link uid h in
     let size = has.size in (
-      none_from (request_faults (request_spelling (StayQuiet link uid))) (le-ltb _ 4 (omega arith), (not_from_true _ has.crc, (refl, (refl, (refl, (refl, (refl, (refl, (refl,
-          (not_from_true _ (eq-eqb _ 12 size), tt)))))))))),
+      none_from (request_faults (request_spelling (StayQuiet link uid))) (
+        le-ltb _ 4 (omega arith),
+        (
+          not_from_true _ has.crc,
+          (
+            refl,
+            (
+              refl,
+              (
+                refl,
+                (
+                  refl,
+                  (
+                    refl,
+                    (
+                      refl,
+                      (
+                        refl,
+                        (not_from_true _ (eq-eqb _ 12 size), tt),
+                      ),
+                    ),
+                  ),
+                ),
+              ),
+            ),
+          ),
+        ),
+      ),
       ap (StayQuiet link) has.uid,
     )
 

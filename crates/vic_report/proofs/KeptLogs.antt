@@ -52,7 +52,7 @@ given_with_slot old new es i m e p here added same fits given =
     (CouldHaveGiven-push p fs e (CouldHaveGiven-push p old (Sent (Inventory 2 false m)) given tt)
     (subst (Fits e) (same_outcome fs es (length fs) i p masks (same_quiet_opened old es i m same)) fits))
 
--- ---- what `pass_line` ensures
+-- ---- what `keep_line` ensures
 
 -- a slot line that is kept, behind its request
 pub slot_passed : {T E : Type 0} (r : Result T E) (m : BitMask) (is_kept : Bool) (e : Entry) (old mid new : List Entry) → is_kept ≡ true → mid ≡ old ++ Sent (Inventory 2 false m) ∷ [] → OnOk r (new ≡ mid ++ e ∷ []) → OnOk r ((es : List Entry) (i : ℕ) → slice_get es i ≡ Some e → Some m ≡ mask_at es i → KeepsLine es i is_kept e old new)

@@ -31,7 +31,7 @@ pub use Rattle.vic_tree.specs.OpenSet.{SameUids, has_key, without_keys}
 pub use Rattle.vic_tree.specs.Ranges.{is_open_in}
 pub use Rattle.vic_tree.specs.declared.open_masks.OpenMasks.{OpenMasks}
 pub use Rattle.vic_verdict.proofs.Decide.{IsPossibleUid-iff}
-pub use Rattle.vic_verdict.proofs.Demanding.{asked_two_or_one}
+pub use Rattle.vic_verdict.proofs.UnreadSlots.{asked_two_or_one}
 pub use Rattle.vic_verdict.proofs.Differing.{AreFacts, AreListed, all_findings, doubtful_list, first_mask, log_facts, missing_least, missing_or_absent, none_unsettled, open_iff}
 pub use Rattle.vic_verdict.proofs.Entries.{entry_allows, forces_one_iff, forces_two_iff, open_step}
 pub use Rattle.vic_verdict.proofs.Failing.{head_least, member_at, none_of, place_of}
@@ -40,13 +40,13 @@ pub use Rattle.vic_verdict.proofs.Meeting.{Exactly}
 pub use Rattle.vic_verdict.proofs.Possibility.{IsPossible-front}
 pub use Rattle.vic_verdict.proofs.Stands.{entry_at}
 pub use Rattle.vic_verdict.proofs.Verdicts.{first_lines}
-pub use Rattle.vic_verdict.specs.Demands.{IsFound}
+pub use Rattle.vic_verdict.specs.Needs.{IsFound}
 pub use Rattle.vic_verdict.specs.Differences.{IsLeftOpen, IsOpenUid, MayBeMissing}
 pub use Rattle.vic_verdict.specs.Places.{answering}
 pub use Rattle.vic_verdict.specs.Possible.{IsCertainUid, IsContradictedAt, IsPossible, IsPossibleUid}
 pub use Rattle.vic_verdict.specs.Rising.{IsFailing, IsListOf}
 pub use Rattle.vic_verdict.specs.Verdict.{IsAbsent, IsFirstMask, IsUnlisted, IsVerdict, NoSuch, entries_to}
-pub use Rattle.vic_verdict.specs.declared.demands.Found.{Found}
+pub use Rattle.vic_verdict.specs.declared.unread_slots.Found.{Found}
 pub use Rattle.vic_verdict.specs.declared.judging.Verdict.TheVariants.{Complete, Impossible}
 pub use Rattle.vic_report.specs.Conflicts.{FitsLines, IsConflictAt, IsNoQuietReply, IsSilencedBefore, IsSilencedBy, IsSlotLine}
 pub use Rattle.vic_report.specs.Findings.{IsRuledOut, IsToldOf, MayAnswer, RulesOut, ShowsCertain, TellsOf, lacks_reply_of, uids_of}

@@ -132,7 +132,7 @@ fn is_slot_line(lines: &[PackedLine], number: u32) -> bool
     }
 }
 
-/// The slot lines up to the first impossible line, which is one of them.
+/// The numbers of the slot lines up to the first impossible line, which is one of them.
 fn slot_lines_to(alloc: Global, lines: &[PackedLine], last: u32) -> Result<Vec<u32>, AllocError>
     requires lines { AreLogLines lines.now }
     requires impossible { IsVerdict lines.now (Impossible last) }

@@ -17,8 +17,9 @@ use std::alloc::{AllocError, Global};
 use vic_frame::{Mask, Request};
 use vic_log::{Entry, MAX_LINES, PackedLine, RoundCursor};
 
-/// The slot lines with some numbers. Each has a request of its own that asks for its mask, so there
-/// may be up to twice as many lines as a text can have.
+/// The slot lines with some numbers, every Stay Quiet and every field cycle. Each slot line has a
+/// request of its own that asks for its mask, so there may be up to twice as many lines as a text
+/// can have.
 pub(crate) fn kept_lines(
     alloc: Global,
     lines: &[PackedLine],
@@ -37,7 +38,7 @@ pub(crate) fn kept_lines(
         let entry = line.item();
         let mask = cursor.mask();
         let is_kept = has_number(numbers, line.number());
-        pass_line(&mut kept, &mask, index, &entry, is_kept)?;
+        keep_line(&mut kept, &mask, index, &entry, is_kept)?;
         cursor.advance(&entry);
     }
     Ok(kept)
@@ -51,8 +52,8 @@ fn has_number(numbers: &[u32], number: u32) -> bool
     numbers.binary_search(&number).is_ok()
 }
 
-/// Moves past a line, and adds its entry if it is kept or makes tags Quiet or Ready.
-fn pass_line(
+/// Adds the entry of a line if it is kept, or makes tags Quiet or Ready.
+fn keep_line(
     kept: &mut Vec<PackedLine>,
     mask: &Option<Mask>,
     index: usize,

@@ -76,7 +76,7 @@ fn are_ruled_out(
     let mut cursor = FieldCursor::first(alloc);
     let mut next = 0;
     for line in lines {
-        next = pass_ruled_out(&cursor, line, shown, next);
+        next = count_ruled_out(&cursor, line, shown, next);
         cursor.advance(&line.item())?;
     }
     Ok(next == shown.len())
@@ -84,7 +84,7 @@ fn are_ruled_out(
 
 /// How many UIDs, from the first on, are known to be ruled out by their lines after one more line
 /// of the log. Those before index `start` were known before it.
-fn pass_ruled_out(
+fn count_ruled_out(
     cursor: &FieldCursor,
     line: &PackedLine,
     shown: &[ShownUid],

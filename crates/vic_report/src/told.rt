@@ -12,7 +12,7 @@ ghost use Rattle.vic_log.specs.declared.entry.Entry.TheVariants.{Heard as HeardV
 ghost use Rattle.vic_log.specs.declared.entry.LogLine.{LogLine as LogLineValue};
 ghost use Rattle.vic_log.specs.Order.{entries};
 ghost use Rattle.vic_verdict.specs.Verdict.{IsHeard};
-ghost use Rattle.vic_verdict.specs.Demands.{IsExactFor, IsFound, IsMet, IsMetFor};
+ghost use Rattle.vic_verdict.specs.Needs.{IsExactFor, IsFound, IsMet, IsMetFor};
 ghost use Rattle.vic_report.specs.Findings.{IsToldOf, ShowsCertain, uids_of};
 ghost use Rattle.vic_verdict.specs.Possible.{IsPossible};
 

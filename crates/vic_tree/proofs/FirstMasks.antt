@@ -134,12 +134,15 @@ none_kept P ms kept out = record {
 
 -- what comes after the last one comes after all
 pub past_last : (ms : List BitMask) (x m : BitMask) → AllPairs ComesBefore ms → length ms ≡ 17 → x ≡ get_or ms 16 x → ComesBefore x m → IsPast 17 ms m
-past_last ms x m up full is before = (full, λ k d lt.
-    let last = rw (is, get_or_default ms 16 x d (omega arith)) at before in
-    elim (cases_lt k 16) [
-      | inl below ↦ before_then (get_or ms k d) (get_or ms 16 d) m (up k 16 d below (omega arith)) last
-      | inr from ↦ let at : k ≡ 16 = omega arith in rw at last
-    ])
+past_last ms x m up full is before = (
+  full,
+  λ k d lt.
+      let last = rw (is, get_or_default ms 16 x d (omega arith)) at before in
+      elim (cases_lt k 16) [
+        | inl below ↦ before_then (get_or ms k d) (get_or ms 16 d) m (up k 16 d below (omega arith)) last
+        | inr from ↦ let at : k ≡ 16 = omega arith in rw at last
+      ],
+)
 
 -- a choice, said otherwise
 pub or_both : (A P Q R : Type 0) → P ⊎ Q ↔ R → (A ⊎ P) ⊎ Q ↔ A ⊎ R

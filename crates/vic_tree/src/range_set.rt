@@ -14,7 +14,7 @@ use crate::gaps::{gather_besides, widest_besides};
 use crate::key_range::KeyRange;
 use crate::open_masks::{MAX_OPEN_MASKS, OpenMasks, all_open_masks_besides, open_masks_besides};
 use crate::open_set::OpenSet;
-use crate::ranges::{between, is_in, is_in_first, outside, push_others, skip_to};
+use crate::ranges::{complement, complement_in_order, is_in, is_in_first, push_others, skip_to};
 use arrayvec::ArrayVec;
 use std::alloc::{AllocError, Global};
 use std::marker::Model;
@@ -65,7 +65,7 @@ impl OpenSet for RangeSet {
     }
 
     fn without(alloc: Global, closed: Vec<KeyRange>) -> Result<RangeSet, AllocError> {
-        let ranges = outside(closed)?;
+        let ranges = complement(closed)?;
         Ok(RangeSet { ranges, alloc })
     }
 
@@ -162,9 +162,9 @@ fn settled(
 {
     let (first, last) = key_range(mask);
     let kept = keys_between(alloc, except, first, last)?;
-    let mut closed = between(Vec::from_slice(alloc, ranges)?)?;
+    let mut closed = complement_in_order(Vec::from_slice(alloc, ranges)?)?;
     push_others(&mut closed, first, last, &kept)?;
-    outside(closed)
+    complement(closed)
 }
 
 /// The keys from `first` to `last` of the UIDs of a list, in order.

@@ -13,7 +13,7 @@ ghost use Rattle.vic_tree.specs.inner.Ranges.{is_left};
 use crate::key_range::KeyRange;
 use crate::left::Left;
 use crate::range_set::RangeSet;
-use crate::ranges::{between, outside};
+use crate::ranges::{complement, complement_in_order};
 use std::alloc::{AllocError, Global};
 use vic_frame::Mask;
 use vic_frame::low_bits_first::keys_of;
@@ -68,8 +68,8 @@ fn left_of(alloc: Global, ranges: &[KeyRange], keys: &[u64]) -> Result<Vec<KeyRa
 fn set_of(alloc: Global, ranges: Vec<KeyRange>) -> Result<RangeSet, AllocError>
     ensures { IfOk result (λ set. SameUids (is_open_in set) (is_open_in ranges.items)) }
 {
-    // outside of what is outside: in order, and none adjoin
-    let ranges = between(outside(ranges)?)?;
+    // the complement of the complement: in order, and none adjoin
+    let ranges = complement_in_order(complement(ranges)?)?;
     Ok(RangeSet { ranges, alloc })
 }
 

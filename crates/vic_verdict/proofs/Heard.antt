@@ -1,5 +1,5 @@
 -- Whether the UIDs that were heard could have answered, from position to position.
-use Rattle.vic_verdict.proofs.Words.{◌≡◌, ℕ, ◌+◌, ◌<◌, ◌==◌, List, [], ◌∷◌, ◌≤◌, Bool, true, false, not, ◌&&◌, Some, refl, sym, ap, ◌∙◌, subst, arith, inl, inr, slice_get, if◌then◌else◌, All, IsPermutation, eq-eqb, not_from_false, ReadSlot, Demand, Any-from_list_any, list_any, list_any-IsPermutation, cases_lt, and_parts, and_from, or_left, both_ways, false_from_ne_true, nat_tests, slice_get_within, IsUid, is_uid, mirror, IsWithin, Reply, Entry, Heard, mask_at, lies_in_some, is_quiet, answers_at, reading_of, slots_before, is_open, IsUid-from, Mention, IsContradictedAt, answering, needs, reply_place, IsFirstQuietReply, is_quiet_by, IsPermutation-sym, Answers, IsQuietReply, HasGathered, mentions_from}
+use Rattle.vic_verdict.proofs.Words.{◌≡◌, ℕ, ◌+◌, ◌<◌, ◌==◌, List, [], ◌∷◌, ◌≤◌, Bool, true, false, not, ◌&&◌, Some, refl, sym, ap, ◌∙◌, subst, arith, inl, inr, slice_get, if◌then◌else◌, All, IsPermutation, eq-eqb, not_from_false, ReadSlot, UnreadSlot, Any-from_list_any, list_any, list_any-IsPermutation, cases_lt, and_parts, and_from, or_left, both_ways, false_from_ne_true, nat_tests, slice_get_within, IsUid, is_uid, mirror, IsWithin, Reply, Entry, Heard, mask_at, lies_in_some, is_quiet, answers_at, reading_of, slots_before, is_open, IsUid-from, Mention, IsContradictedAt, answering, needs, reply_place, IsFirstQuietReply, is_quiet_by, IsPermutation-sym, Answers, IsQuietReply, HasGathered, mentions_from}
 use Rattle.vic_verdict.proofs.Entries.{EntryAsks}
 use Rattle.vic_verdict.proofs.Silencing.{silenced_permuted}
 use Rattle.vic_verdict.proofs.Lacking.{supplied_front}
@@ -47,7 +47,7 @@ pub record AreHeard (es : List Entry) (from i : ℕ) (ns : List Mention) : Type 
   pub inside : (j : ℕ) (r : Reply) → from ≤ j → j < i → slice_get es j ≡ Some (Heard r) → IsUid r.uid × (lies_in_some (mask_at es j) r.uid ≡ true)
   pub before : (j : ℕ) (r : Reply) → j < from → slice_get es j ≡ Some (Heard r) → Answers es j r.uid
 
-pub are_heard : (es : List Entry) (from i : ℕ) (ns : List Mention) (ss : List ReadSlot) (ds : List Demand) → HasGathered es from i ns ss ds → ((u : ℕ) → is_quiet es from u ≡ false) → ((j : ℕ) (r : Reply) → j < from → slice_get es j ≡ Some (Heard r) → Answers es j r.uid) → AreHeard es from i ns
+pub are_heard : (es : List Entry) (from i : ℕ) (ns : List Mention) (ss : List ReadSlot) (ds : List UnreadSlot) → HasGathered es from i ns ss ds → ((u : ℕ) → is_quiet es from u ≡ false) → ((j : ℕ) (r : Reply) → j < from → slice_get es j ≡ Some (Heard r) → Answers es j r.uid) → AreHeard es from i ns
 are_heard es from i ns ss ds h ready before = record {
   begun = h.begun;
   mentions = h.mentions;
@@ -97,9 +97,9 @@ answers_before es from i cut ns a first j r below early k = elim (cases_lt j fro
   | inr since ↦
       let inside = a.inside j r since below k in
       let awake : is_quiet es j r.uid ≡ false = false_from_ne_true _ (λ quiet.
-          let by : is_quiet_by ns (mirror r.uid) j ≡ true = a.quiet j r.uid since (omega arith) inside.0 ∙ quiet in
-          let here = mentions_some (λ (n : Mention). (reply_place n == j) && is_quiet_by ns n.key j) es from i j since below (rw k (or_left _ _ (and_from _ _ (eq-eqb j j refl) by))) in
-          omega (arith, first j (ap (list_any (λ (n : Mention). (reply_place n == j) && is_quiet_by ns n.key j)) a.mentions ∙ here))) in
+      let by : is_quiet_by ns (mirror r.uid) j ≡ true = a.quiet j r.uid since (omega arith) inside.0 ∙ quiet in
+      let here = mentions_some (λ (n : Mention). (reply_place n == j) && is_quiet_by ns n.key j) es from i j since below (rw k (or_left _ _ (and_from _ _ (eq-eqb j j refl) by))) in
+      omega (arith, first j (ap (list_any (λ (n : Mention). (reply_place n == j) && is_quiet_by ns n.key j)) a.mentions ∙ here))) in
       (inside.0, and_from _ _ inside.1 (not_from_false _ awake))
 ]
 

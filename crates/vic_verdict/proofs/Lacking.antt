@@ -48,14 +48,16 @@ pub lacking_lines : (lines : List LogLine) (i : ℕ) → Lacks (entries lines) i
 lacking_lines lines i lacks =
     let es = entries lines in
     let long = length-map lines (λ (l : LogLine). l.item) in
-    let within = slice_get_within es i lacks.0 lacks.2 in
-    (omega arith, λ c upto lt settled. record {
-      within = omega arith;
-      impossible = λ possible.
-          let asks = supplied_front es (c + 1) (omega arith) possible i lacks.0 (omega arith) lacks.2 in
-          let left : is_open (slots_before es (c + 1)) ≡ is_open (slots_of es) = λ j u. sym (open_settled es c (length es) u settled (omega arith)) j in
-          lacks.4 (subst (λ (set : ℕ → Bool). Asks lacks.1 (answering set es i)) left (rw lacks.3 at asks));
-    })
+    let within = slice_get_within es i lacks.0 lacks.2 in (
+      omega arith,
+      λ c upto lt settled. record {
+        within = omega arith;
+        impossible = λ possible.
+            let asks = supplied_front es (c + 1) (omega arith) possible i lacks.0 (omega arith) lacks.2 in
+            let left : is_open (slots_before es (c + 1)) ≡ is_open (slots_of es) = λ j u. sym (open_settled es c (length es) u settled (omega arith)) j in
+            lacks.4 (subst (λ (set : ℕ → Bool). Asks lacks.1 (answering set es i)) left (rw lacks.3 at asks));
+      },
+    )
 
 -- after a position, and before another, no entry may rule UIDs out
 abbrev pub NoneRulesOutTo : List Entry → ℕ → ℕ → Type 0

@@ -24,7 +24,7 @@ pub mod Gathering
 pub mod Explaining
 pub mod Silencing
 pub mod Ready
-pub mod Demanding
+pub mod UnreadSlots
 pub mod KeyOrder
 pub mod Replying
 pub mod Heard

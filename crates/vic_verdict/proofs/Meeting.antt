@@ -33,11 +33,13 @@ heard_lacks lines set us same h some =
     let at = (h w.0).0 w.1 in
     let closed : is_open (slots_of es) w.0 ≡ true → ⊥ = λ yes. both_ways _ w.2 (same w.0 (IsUid-from w.0 (is_open-is_uid (slots_of es) w.0 yes)) ∙ yes) in
     let lacks : Lacks es at.0 = (Heard at.1, OneReply at.1.uid, at.3, refl, λ asks. closed (rw at.4 at (and_parts (is_open (slots_of es) at.1.uid) (answers_at es at.0 at.1.uid) asks).0)) in
-    let lacking = lacking_lines lines at.0 lacks in
-    (omega (arith, lacking.0), λ c lt settled. elim (cases_lt c at.0) [
-      | inl below ↦ absurd (both_ways _ (settled at.0 (Heard at.1) below at.3) refl)
-      | inr upto ↦ lacking.1 c upto lt settled
-    ])
+    let lacking = lacking_lines lines at.0 lacks in (
+      omega (arith, lacking.0),
+      λ c lt settled. elim (cases_lt c at.0) [
+        | inl below ↦ absurd (both_ways _ (settled at.0 (Heard at.1) below at.3) refl)
+        | inr upto ↦ lacking.1 c upto lt settled
+      ],
+    )
 
 -- ---- what makes a log possible
 

@@ -1,5 +1,5 @@
 -- The mentions of entries, and who is Quiet by them.
-use Rattle.vic_verdict.proofs.Words.{◌≡◌, ℕ, min, zero, suc, ◌^◌, ◌<◌, ◌≤◌, ◌==◌, List, [], ◌∷◌, ◌++◌, Bool, true, false, ◌&&◌, ◌||◌, Option, Some, None, All, if◌then◌else◌, nat_le, nat_lt, slice_get, refl, sym, ap, ◌∙◌, subst, arith, inl, inr, eq-eqb, le-leb, ne_eqb, IsUid, is_uid, mirror, Entry, Heard, Sent, Reply, silences, wakes, is_quiet, is_quiet_by, quiet_of, Mention, nat_tests, is_uid_from, IsUid-from, uid_of, uid_of_mirror, cases_lt, cases_eq, both_ways, false≢true, list_any, list_any-append, or_left, or_right, HaveKeys, is_mentioned, All-nil, All-cons, All-append, list_all-from_AllPass, mirror_below, same_test, StayQuiet, mention_at, mentions_at, mentions_from, are_left, and_from, FieldCycle, NEVER, and_parts, eqb-true, lt-leb, lt_from, lt_yes, quiet-silenced, same_tests, silenced-quiet, cases_Bool, ⊎_elim}
+use Rattle.vic_verdict.proofs.Words.{◌≡◌, ℕ, zero, suc, ◌^◌, ◌<◌, ◌≤◌, ◌==◌, List, [], ◌++◌, Bool, true, false, ◌&&◌, Option, Some, All, nat_lt, slice_get, refl, sym, ap, ◌∙◌, subst, arith, inl, inr, eq-eqb, le-leb, IsUid, is_uid, mirror, Entry, Heard, Sent, Reply, silences, wakes, is_quiet, is_quiet_by, quiet_of, Mention, is_uid_from, IsUid-from, uid_of, uid_of_mirror, cases_lt, cases_eq, both_ways, false≢true, list_any, list_any-append, or_left, or_right, HaveKeys, is_mentioned, All-nil, All-cons, All-append, list_all-from_AllPass, mirror_below, same_test, StayQuiet, mention_at, mentions_at, mentions_from, are_left, and_from, FieldCycle, NEVER, and_parts, eqb-true, lt-leb, lt_from, lt_yes, quiet-silenced, same_tests, silenced-quiet, cases_Bool, ⊎_elim}
 use Rattle.vic_verdict.proofs.Ready.{one_of}
 
 -- ---- UIDs by their keys

@@ -33,11 +33,11 @@ those_below set (suc n) uids =
     let r = those_below set n uids in
     elim (cases_Bool (set n)) [
       | inl member ↦ (
-          with_member n r.0,
-          IsPopulation-with_member n r.0 (IsUid-from n (uids n member)) r.1,
-          (λ u h. elim (with_member_cases n r.0 u h) [ inl e ↦ rw e member | inr old ↦ r.2 u old ]),
-          (λ u lt h. elim (cases_eq u n) [ inl e ↦ rw e (has_with_member n r.0) | inr ne ↦ with_member_keeps n r.0 u (r.3 u (omega arith) h) ]),
-        )
+        with_member n r.0,
+        IsPopulation-with_member n r.0 (IsUid-from n (uids n member)) r.1,
+        (λ u h. elim (with_member_cases n r.0 u h) [ inl e ↦ rw e member | inr old ↦ r.2 u old ]),
+        (λ u lt h. elim (cases_eq u n) [ inl e ↦ rw e (has_with_member n r.0) | inr ne ↦ with_member_keeps n r.0 u (r.3 u (omega arith) h) ]),
+      )
       | inr other ↦ (r.0, r.1, r.2, λ u lt h. r.3 u (let ne : u ≢ n = λ e. both_ways _ other (rw e at h) in omega arith) h)
     ]
 

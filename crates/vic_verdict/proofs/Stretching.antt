@@ -1,6 +1,6 @@
 -- What is gathered between two field cycles, entry by entry, and which UIDs it leaves open.
-use Rattle.vic_verdict.proofs.Words.{All, Any, Bool, List, None, Option, Some, [], add-one, ap, arith, eq-eqb, false, inl, inr, nat_le, not, refl, set, slice_get, suc, sym, true, zero, ℕ, ◌&&◌, ◌++◌, ◌+◌, ◌<◌, ◌==◌, ◌^◌, ◌||◌, ◌∙◌, ◌∷◌, ◌≡◌, ◌≤◌, ◌⊎◌, both_ways, cases_eq, cases_lt, false≢true, nat_tests, All-nil, All-push, All-weaker, list_all_at, Any-push, list_all-from_AllPass, list_all, is_in_some_block, mirror, Reply, IsUid, KeyBlock, answers_at, is_quiet, wakes, lies_in_some, mask_at, is_open, slots_before, Entry, Heard, Silent, and_true, SameUids, Demand, Mention, ReadSlot, AreAsked, rules_out, AddsReadSlot, HasGathered, HasRead, IsReadSlot, NobodyAt, mentions_at, AreUnsettled, HasRange, HaveKeys, all_allow_to, are_left, hears_mentioned, is_quiet_by, read_allows, and_thrice}
-use Rattle.vic_verdict.proofs.Demanding.{any_kept, asked_anew}
+use Rattle.vic_verdict.proofs.Words.{All, Any, Bool, List, None, Option, Some, [], add-one, ap, arith, eq-eqb, false, inl, inr, nat_le, not, refl, set, slice_get, suc, sym, true, zero, ℕ, ◌&&◌, ◌++◌, ◌+◌, ◌<◌, ◌==◌, ◌^◌, ◌||◌, ◌∙◌, ◌∷◌, ◌≡◌, ◌≤◌, ◌⊎◌, both_ways, cases_eq, cases_lt, false≢true, nat_tests, All-nil, All-push, All-weaker, list_all_at, Any-push, list_all-from_AllPass, list_all, is_in_some_block, mirror, Reply, IsUid, KeyBlock, answers_at, is_quiet, wakes, lies_in_some, mask_at, is_open, slots_before, Entry, Heard, Silent, and_true, SameUids, UnreadSlot, Mention, ReadSlot, AreAsked, rules_out, AddsReadSlot, HasGathered, HasRead, IsReadSlot, NobodyAt, mentions_at, AreGatheredBefore, HasRange, HaveKeys, all_allow_to, are_left, hears_mentioned, is_quiet_by, read_allows, and_thrice}
+use Rattle.vic_verdict.proofs.UnreadSlots.{any_kept, asked_anew}
 use Rattle.vic_verdict.proofs.Lacking.{place_allows, open_place}
 use Rattle.vic_verdict.proofs.Mentioning.{heard_key, heard_mentioned, mentions_keys, mentions_left, mentions_next, mentions_none, quiet_mentions}
 
@@ -40,7 +40,7 @@ gathered_first es i = record {
 since_more : (P : ℕ → Type 0) (from i : ℕ) → ((j : ℕ) → from ≤ j → j < i → P j) → P i → (j : ℕ) → from ≤ j → j < i + 1 → P j
 since_more P from i before here j since lt = elim (cases_eq j i) [ inl same ↦ rw same here | inr ne ↦ before j since (omega arith) ]
 
-pub gathered_next : (es : List Entry) (from i : ℕ) (e : Entry) (ns ms : List Mention) (ss ts : List ReadSlot) (ds cs : List Demand) → slice_get es i ≡ Some e → i < 2 ^ 32 → wakes (Some e) ≡ false → ms ≡ ns ++ mentions_at (Some e) i → TellsReadSlot es i e ss ts → ((r : Reply) → e ≡ Heard r → IsUid r.uid × (lies_in_some (mask_at es i) r.uid ≡ true)) → (from ≤ i → AreAsked es from i ds → AreAsked es from (i + 1) cs) → HasGathered es from i ns ss ds → HasGathered es from (i + 1) ms ts cs
+pub gathered_next : (es : List Entry) (from i : ℕ) (e : Entry) (ns ms : List Mention) (ss ts : List ReadSlot) (ds cs : List UnreadSlot) → slice_get es i ≡ Some e → i < 2 ^ 32 → wakes (Some e) ≡ false → ms ≡ ns ++ mentions_at (Some e) i → TellsReadSlot es i e ss ts → ((r : Reply) → e ≡ Heard r → IsUid r.uid × (lies_in_some (mask_at es i) r.uid ≡ true)) → (from ≤ i → AreAsked es from i ds → AreAsked es from (i + 1) cs) → HasGathered es from i ns ss ds → HasGathered es from (i + 1) ms ts cs
 gathered_next es from i e ns ms ss ts ds cs k small awake mentioned told fits asks h = record {
   begun = omega arith;
   small = λ _. omega arith;
@@ -71,16 +71,16 @@ gathered_next es from i e ns ms ss ts ds cs k small awake mentioned told fits as
   here out (inr w) = let since = w.2.since in let before = w.2.before in inl (rw w.1 (Any-push (λ (s : ReadSlot). s.at ≡ i) ss w.0 (omega arith)))
 
 -- an entry that rules none out
-pub gathered_passed : (es : List Entry) (from i : ℕ) (e : Entry) (ns ms : List Mention) (ss : List ReadSlot) (ds cs : List Demand) → slice_get es i ≡ Some e → i < 2 ^ 32 → wakes (Some e) ≡ false → ms ≡ ns ++ mentions_at (Some e) i → rules_out e ≡ false → (from ≤ i → AreAsked es from i ds → AreAsked es from (i + 1) cs) → HasGathered es from i ns ss ds → HasGathered es from (i + 1) ms ss cs
+pub gathered_passed : (es : List Entry) (from i : ℕ) (e : Entry) (ns ms : List Mention) (ss : List ReadSlot) (ds cs : List UnreadSlot) → slice_get es i ≡ Some e → i < 2 ^ 32 → wakes (Some e) ≡ false → ms ≡ ns ++ mentions_at (Some e) i → rules_out e ≡ false → (from ≤ i → AreAsked es from i ds → AreAsked es from (i + 1) cs) → HasGathered es from i ns ss ds → HasGathered es from (i + 1) ms ss cs
 gathered_passed es from i e ns ms ss ds cs k small awake mentioned none asks h = gathered_next es from i e ns ms ss ss ds cs k small awake mentioned (inl (refl, λ out. absurd (both_ways _ none out))) (λ r is. absurd (both_ways _ none (ap rules_out is))) asks h
 
 -- ---- what is so of all mentions and slots
 
-pub gathered_keys : (es : List Entry) (from i : ℕ) (ns : List Mention) (ss : List ReadSlot) (ds : List Demand) → HasGathered es from i ns ss ds → HaveKeys ns
+pub gathered_keys : (es : List Entry) (from i : ℕ) (ns : List Mention) (ss : List ReadSlot) (ds : List UnreadSlot) → HasGathered es from i ns ss ds → HaveKeys ns
 gathered_keys es from i ns ss ds h = rw h.mentions (mentions_keys es from i)
 
 -- they can be settled
-pub gathered_settles : (es : List Entry) (from i : ℕ) (ns : List Mention) (ss : List ReadSlot) (ds : List Demand) → HasGathered es from i ns ss ds → AreUnsettled ns ss i
+pub gathered_settles : (es : List Entry) (from i : ℕ) (ns : List Mention) (ss : List ReadSlot) (ds : List UnreadSlot) → HasGathered es from i ns ss ds → AreGatheredBefore ns ss i
 gathered_settles es from i ns ss ds h = record {
   left = ap are_left h.mentions ∙ mentions_left es from i;
   before = All-weaker (IsReadSlot es from i) (λ (s : ReadSlot). s.at < i) (λ s it. it.before) ss h.reads;
@@ -91,7 +91,7 @@ gathered_settles es from i ns ss ds h = record {
   ]) ss h.reads);
 }
 
-pub gathered_quiet : (es : List Entry) (from i : ℕ) (ns : List Mention) (ss : List ReadSlot) (ds : List Demand) → HasGathered es from i ns ss ds → ((u : ℕ) → is_quiet es from u ≡ false) → (j u : ℕ) → from ≤ j → j ≤ i → IsUid u → is_quiet_by ns (mirror u) j ≡ is_quiet es j u
+pub gathered_quiet : (es : List Entry) (from i : ℕ) (ns : List Mention) (ss : List ReadSlot) (ds : List UnreadSlot) → HasGathered es from i ns ss ds → ((u : ℕ) → is_quiet es from u ≡ false) → (j u : ℕ) → from ≤ j → j ≤ i → IsUid u → is_quiet_by ns (mirror u) j ≡ is_quiet es j u
 gathered_quiet es from i ns ss ds h ready j u since upto w =
     ap (λ ms. is_quiet_by ms (mirror u) j) h.mentions ∙ elim (cases_lt from i) [
       | inl lt ↦ quiet_mentions es from i j u (ready u) h.awake since upto (h.small lt) w
@@ -125,7 +125,7 @@ read_says es from i ns s u it w quiet = rw (it.inside u w, quiet) (elim (it.read
 ])
 
 -- the slots at a position allow what its entry allows
-reads_say : (es : List Entry) (from i : ℕ) (ns : List Mention) (ss : List ReadSlot) (ds : List Demand) → HasGathered es from i ns ss ds → ((u : ℕ) → is_quiet es from u ≡ false) → (j u : ℕ) → from ≤ j → j < i → IsUid u → all_allow_at ns ss j (mirror u) ≡ place_allows (slice_get es j) (answers_at es j u) u
+reads_say : (es : List Entry) (from i : ℕ) (ns : List Mention) (ss : List ReadSlot) (ds : List UnreadSlot) → HasGathered es from i ns ss ds → ((u : ℕ) → is_quiet es from u ≡ false) → (j u : ℕ) → from ≤ j → j < i → IsUid u → all_allow_at ns ss j (mirror u) ≡ place_allows (slice_get es j) (answers_at es j u) u
 reads_say es from i ns ss ds h ready j u since below w =
     allow_there ns (mirror u) j _ ss (λ n d lt at.
     let it = h.reads n d lt in
@@ -141,7 +141,7 @@ reads_say es from i ns ss ds h ready j u since below w =
     some (Some e) k = inl refl
 
 -- what a stretch tells of a position up to its end
-pub gathered_open : (es : List Entry) (from i : ℕ) (set : ℕ → Bool) (ns : List Mention) (ss : List ReadSlot) (ds : List Demand) → HasGathered es from i ns ss ds → ((u : ℕ) → is_quiet es from u ≡ false) → SameUids set (is_open (slots_before es from)) → (j : ℕ) → from ≤ j → j ≤ i → SameUids (λ u. set u && all_allow_to ns ss j (mirror u)) (is_open (slots_before es j))
+pub gathered_open : (es : List Entry) (from i : ℕ) (set : ℕ → Bool) (ns : List Mention) (ss : List ReadSlot) (ds : List UnreadSlot) → HasGathered es from i ns ss ds → ((u : ℕ) → is_quiet es from u ≡ false) → SameUids set (is_open (slots_before es from)) → (j : ℕ) → from ≤ j → j ≤ i → SameUids (λ u. set u && all_allow_to ns ss j (mirror u)) (is_open (slots_before es j))
 gathered_open es from i set ns ss ds h ready same j since upto u w = go j since upto
   where
     first : (j : ℕ) → j ≡ from → (set u && all_allow_to ns ss j (mirror u)) ≡ is_open (slots_before es j) u

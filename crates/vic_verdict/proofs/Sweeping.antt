@@ -1,8 +1,8 @@
 -- What the slots between two field cycles leave, mention by mention.
-use Rattle.vic_verdict.proofs.Words.{All, Bool, IsPermutation, List, None, Option, Some, [], ap, arith, drop, eqb-true, false, filter, get_or, get_or-drop, get_or-take, if◌then◌else◌, inl, inr, le_of_lt, length, length-append, length-drop, length-take-le, ltb-false, nat_lt, not, refl, set, subst, sym, take, take-append-drop, true, ℕ, ◌&&◌, ◌++◌, ◌+◌, ◌-◌, ◌<◌, ◌==◌, ◌^◌, ◌||◌, ◌∙◌, ◌∷◌, ◌≡◌, ◌≤◌, ◌⊎◌, and_parts, both_ways, false≢true, nat_tests, drop_more, get_or-map, get_or_default, length-map, map-append, All-filter, All-head, All-map, All-tail, list_all_more, map_fixed, All-permutation, IsPermutation-sym, list_any-IsPermutation, AllPass-from_list_all, list_all-from_AllPass, list_all, and_thrice, and_true, lt_from, lt_yes, same_tests, in_ranges, is_between, Mention, ReadSlot, Run, Closes, is_in_some, AreInOrder, ArePutInOrder, IsStart, all_allow, all_allow_to, all_hear_mentioned, all_leave, are_left, first_of, has_left, has_where, heard_of, hears_mentioned, is_heard, is_in, is_mentioned, is_mentioned_if, is_quiet_by, keep, keep_all, last_of, level_leaves, mask_leaves, quiet_of, read_allows, read_leaves, run_leaves, slot_leaves, get_or_at, IsPermutation-map, is_before, ⊎_elim, ext_get_or, get_or-set_same, get_or-set_other, length-set, cases_Bool, false_from_ne_true, list_any, cases_eq, cases_lt, and_from, or_cases, or_left, or_right, HaveKeys, All-from_get_or, All-weaker, list_any_none, take-append_seam}
+use Rattle.vic_verdict.proofs.Words.{All, Bool, IsPermutation, List, None, Option, Some, [], ap, arith, drop, eqb-true, false, filter, get_or, get_or-drop, get_or-take, if◌then◌else◌, inl, inr, le_of_lt, length, length-append, length-drop, length-take-le, ltb-false, nat_lt, not, refl, set, subst, sym, take, take-append-drop, true, ℕ, ◌&&◌, ◌++◌, ◌+◌, ◌-◌, ◌<◌, ◌==◌, ◌^◌, ◌||◌, ◌∙◌, ◌∷◌, ◌≡◌, ◌≤◌, ◌⊎◌, and_parts, both_ways, false≢true, nat_tests, drop_more, get_or-map, get_or_default, length-map, map-append, All-filter, All-head, All-map, All-tail, list_all_more, map_fixed, All-permutation, IsPermutation-sym, list_any-IsPermutation, AllPass-from_list_all, list_all-from_AllPass, list_all, and_thrice, and_true, lt_from, lt_yes, same_tests, in_ranges, is_between, Mention, ReadSlot, Run, Closes, is_in_some, AreInOrder, ArePutInOrder, IsStart, all_allow, all_allow_to, all_hear_mentioned, all_leave, are_left, first_of, has_left, has_where, heard_of, hears_mentioned, is_heard, is_in, is_mentioned, is_mentioned_if, is_quiet_by, keep, keep_all, last_of, summary_leaves, mask_leaves, quiet_of, read_allows, read_leaves, run_leaves, slot_leaves, get_or_at, IsPermutation-map, is_before}
 use Rattle.std.proofs.lemmas.List.Edits.{map_over_more}
 use Rattle.vic_verdict.proofs.Silencing.{silenced_later, silenced_permuted}
-use Rattle.vic_verdict.specs.declared.sweep.Level.{Level}
+use Rattle.vic_verdict.specs.declared.sweep.Summary.{Summary}
 
 -- ---- mentions that are kept
 
@@ -71,17 +71,17 @@ between_parts first last k e = (grind (arith, nat_tests), grind (arith, nat_test
 
 -- ---- a mask rules mentions out
 
-outside : (first last : ℕ) (l : Level) (k q : ℕ) → (k < first) ⊎ (last + 1 ≤ k) → mask_leaves first last l k q ≡ true
+outside : (first last : ℕ) (l : Summary) (k q : ℕ) → (k < first) ⊎ (last + 1 ≤ k) → mask_leaves first last l k q ≡ true
 outside first last l k q h = grind (arith, nat_tests)
 
-pub inside : (first last : ℕ) (l : Level) (k q : ℕ) → first ≤ k → k ≤ last → mask_leaves first last l k q ≡ level_leaves l k q
+pub inside : (first last : ℕ) (l : Summary) (k q : ℕ) → first ≤ k → k ≤ last → mask_leaves first last l k q ≡ summary_leaves l k q
 inside first last l k q f g = grind (arith, nat_tests)
 
 -- the first i mentions of a list were gone over
 abbrev pub ruled : (ℕ → ℕ → Bool) → List Mention → ℕ → List Mention
 ruled p ns i = keep_all p (take i ns) ++ drop i ns
 
-pub ruled_first : (first last : ℕ) (l : Level) (ns : List Mention) (i : ℕ) → IsStart ns first i → ns ≡ ruled (mask_leaves first last l) ns i
+pub ruled_first : (first last : ℕ) (l : Summary) (ns : List Mention) (i : ℕ) → IsStart ns first i → ns ≡ ruled (mask_leaves first last l) ns i
 ruled_first first last l ns i start =
     rw (keep_fixed (mask_leaves first last l) (take i ns) (λ k d lt. outside first last l _ _ (inl (all_below ns first i start k d lt))))
     (sym (take-append-drop i ns))
@@ -96,7 +96,7 @@ ruled_more p ns ms i m lt is kept =
     let long : length ms ≡ length ns = ap length is ∙ (length-append (keep_all p (take i ns)) (drop i ns) ∙ omega (arith, length-map (take i ns) (keep p), length-take-le i ns, length-drop i ns)) in
     ap (set ms i) kept ∙ map_over_more (keep p) ns ms i (get_or ms i nobody) lt is (get_or_default ms i nobody _ (omega arith))
 
-pub ruled_all : (first last : ℕ) (l : Level) (ns : List Mention) (i : ℕ) → AreInOrder ns → (i < length ns → last < (get_or ns i nobody).key) → ruled (mask_leaves first last l) ns i ≡ keep_all (mask_leaves first last l) ns
+pub ruled_all : (first last : ℕ) (l : Summary) (ns : List Mention) (i : ℕ) → AreInOrder ns → (i < length ns → last < (get_or ns i nobody).key) → ruled (mask_leaves first last l) ns i ≡ keep_all (mask_leaves first last l) ns
 ruled_all first last l ns i up over =
     let p = mask_leaves first last l in
     let far : (k : ℕ) (d : Mention) → i ≤ k → k < length ns → last + 1 ≤ (get_or ns k d).key = order_from ns (last + 1) i up (λ h. omega (arith, over h)) in
@@ -105,9 +105,9 @@ ruled_all first last l ns i up over =
 
 -- ---- a mask after another
 
-pub run_next : (o : Option Run) (s : ReadSlot) (keys : ℕ × ℕ) (m : Level) (ns new : List Mention) → keys ≡ (first_of s, last_of s) → new ≡ keep_all (run_leaves o) ns → ((k q : ℕ) → level_leaves m k q ≡ slot_leaves s.at (heard_of s) k q) → keep_all (run_leaves (Some (record { keys = keys; level = m }))) new ≡ keep_all (λ k q. run_leaves o k q && read_leaves s k q) ns
+pub run_next : (o : Option Run) (s : ReadSlot) (keys : ℕ × ℕ) (m : Summary) (ns new : List Mention) → keys ≡ (first_of s, last_of s) → new ≡ keep_all (run_leaves o) ns → ((k q : ℕ) → summary_leaves m k q ≡ slot_leaves s.at (heard_of s) k q) → keep_all (run_leaves (Some (record { keys = keys; summary = m }))) new ≡ keep_all (λ k q. run_leaves o k q && read_leaves s k q) ns
 run_next o s keys m ns new same is h =
-    keep_alike _ _ (λ k q. ap (λ (r : ℕ × ℕ). not (is_between r.0 r.1 k) || level_leaves m k q) same ∙ ap (λ b. not (is_in s k) || b) (h k q)) new
+    keep_alike _ _ (λ k q. ap (λ (r : ℕ × ℕ). not (is_between r.0 r.1 k) || summary_leaves m k q) same ∙ ap (λ b. not (is_in s k) || b) (h k q)) new
     ∙ (ap (keep_all (read_leaves s)) is ∙ keep_twice (read_leaves s) (run_leaves o) ns)
 
 -- one slot more of all

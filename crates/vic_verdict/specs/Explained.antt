@@ -11,7 +11,7 @@ use Rattle.vic_log.specs.Populations.{IsPopulation, CouldHaveGiven}
 use Rattle.vic_verdict.specs.declared.explanation.Explanation.{Explanation}
 use Rattle.vic_verdict.specs.declared.judging.Verdict.{Verdict}
 use Rattle.vic_verdict.specs.declared.judging.Verdict.TheVariants.{Impossible, Absent, Unlisted, Unsettled, Doubtful, Complete}
-use Rattle.vic_verdict.specs.Demands.{all_needs}
+use Rattle.vic_verdict.specs.Needs.{all_needs}
 use Rattle.vic_verdict.specs.Verdict.{IsVerdict, IsHeard}
 
 -- the list has every UID that was heard

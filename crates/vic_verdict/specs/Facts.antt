@@ -4,13 +4,13 @@ use Rattle.vic_frame.specs.Uids.{has}
 use Rattle.vic_tree.specs.OpenSet.{SameUids}
 use Rattle.vic_log.specs.declared.entry.Entry.{Entry}
 use Rattle.vic_log.specs.Slots.{slots_of, is_open, IsForcedBy}
-use Rattle.vic_verdict.specs.declared.demands.Met.{Met}
-use Rattle.vic_verdict.specs.Demands.{IsMet, IsMetFor}
+use Rattle.vic_verdict.specs.declared.unread_slots.Met.{Met}
+use Rattle.vic_verdict.specs.Needs.{IsMet, IsMetFor}
 use Rattle.vic_verdict.specs.Possible.{IsPossible}
 use Rattle.vic_verdict.specs.Rising.{IsListOf}
 
--- some population could have given the log; the set has the UIDs that its slots leave open, and the
--- list those that they force
+-- some population could have produced the log; the set has the UIDs that its slots leave open, and
+-- the list those that they force
 pub record IsTold (es : List Entry) (set : ℕ → Bool) (certain : List ℕ) : Type 0 where
   pub possible : IsPossible es
   pub uids_open : SameUids set (is_open (slots_of es))

@@ -5,7 +5,7 @@ pub mod TwoVersions
 pub mod Places
 pub mod Rising
 pub mod Differences
-pub mod Demands
+pub mod Needs
 pub mod Facts
 pub mod Explained
 pub mod Keys

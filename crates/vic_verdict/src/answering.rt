@@ -42,8 +42,8 @@ pub(crate) struct Known {
     pub from: usize,
     /// The keys of the mentions.
     pub keys: Vec<u64>,
-    /// One mention for each open UID that has any and isn't Quiet at that position, Quiet where the
-    /// UID is by all of them; in the order of keys.
+    /// For each open UID that has mentions and isn't Quiet at that position, one mention, which
+    /// makes it Quiet where all its mentions together do; in the order of keys.
     pub mentioned: Vec<Mention>,
     /// The masks that were searched for UIDs without a mention, each within the one before it if
     /// blocks come in order.
@@ -80,8 +80,8 @@ fn mention_quiet_after(key: u64, quiet: usize) -> Mention
     }
 }
 
-/// A mention for each UID of a set that has mentions and isn't Quiet at a position, Quiet where the
-/// UID is by all of them.
+/// For each UID of a set that has mentions and isn't Quiet at a position, one mention, which makes
+/// it Quiet where all its mentions together do.
 fn open_mentions<S: OpenSet>(
     alloc: Global,
     set: &S,
@@ -171,7 +171,8 @@ impl Known {
 /// What slots have taught about the mentions of a stretch.
 #[derive(Drop)]
 pub(crate) struct Learnt {
-    /// How many more mentions are looked at for one slot alone. Then all are, for all slots.
+    /// How many more mentions may be looked at for single slots. Once they are spent, all are
+    /// looked at once, for all slots.
     pub spare: usize,
     pub known: Option<Known>,
 }
@@ -226,7 +227,7 @@ fn known_at<S: OpenSet>(
 
 /// Open UIDs that answer in a slot with a block of keys: all if there are fewer than three,
 /// otherwise three. Usually those that are found first aren't Quiet, and nothing more has to be
-/// known. No slot before position `from` will be asked for.
+/// known. No slot before position `from` will be looked up.
 pub(crate) fn up_to_three_answering<S: OpenSet>(
     alloc: Global,
     set: &S,
@@ -301,7 +302,7 @@ impl Unmentioned {
 
 /// How many of the searched masks are kept: those up to the last one that doesn't end before a key.
 /// The ones after it have none of the blocks that are still to come.
-fn count_around(masks: &[Unmentioned], first: u64) -> usize {
+fn count_kept(masks: &[Unmentioned], first: u64) -> usize {
     for index in (0..masks.len()).rev() {
         if first <= masks[index].last {
             return index + 1;
@@ -333,7 +334,7 @@ fn unmentioned_in<S: OpenSet>(
         → UpToThree (is_unmentioned_in (S.is_open set.now) ns block.now) uids.items) }
 {
     let (first, last) = (block.first, block.last());
-    masks.truncate(count_around(masks, first));
+    masks.truncate(count_kept(masks, first));
     if let Some(around) = masks.last() {
         if let Some(uids) = around.between(first, last) {
             return Ok(uids);

@@ -9,9 +9,9 @@ ghost use Rattle.vic_verdict.specs.Explained.{IsExplanation};
 ghost use Rattle.vic_verdict.specs.inner.Gathered.{is_other, chosen, gathered};
 ghost use Rattle.vic_verdict.specs.Rising.{SameMembers};
 
-use crate::demands::{Found, Met};
 use crate::facts::{Facts, facts_of};
 use crate::judging::{Verdict, first_impossible_line, judge_told};
+use crate::unread_slots::{Found, Met};
 use std::alloc::{AllocError, Global};
 use vic_frame::Uid;
 use vic_log::{Log, PackedLine};

@@ -12,15 +12,15 @@ ghost use Rattle.vic_tree.specs.OpenSet.{SameUids};
 ghost use Rattle.vic_verdict.specs.Facts.{AreFactsOf};
 ghost use Rattle.vic_verdict.specs.LogLines.{AreLogLines};
 ghost use Rattle.vic_verdict.specs.Possible.{IsContradiction, IsPossible};
-ghost use Rattle.vic_verdict.specs.Demands.{IsMet, IsMetFor, HasHeard};
+ghost use Rattle.vic_verdict.specs.Needs.{IsMet, IsMetFor, HasHeard};
 ghost use Rattle.vic_verdict.specs.Rising.{Adds, IsListOf};
 ghost use Rattle.vic_verdict.specs.Keys.{AreKeysOf};
 ghost use Rattle.vic_verdict.specs.inner.Possible.{rules_out, NoneRulesOutAfter};
 ghost use Rattle.vic_verdict.specs.inner.Replies.{RepliesAnswer};
 ghost use Rattle.vic_verdict.specs.inner.Asked.{AreKept};
 
-use crate::demands::{Met, Stretch, meet_stretches};
 use crate::stretches::{Settled, settle};
+use crate::unread_slots::{Met, Stretch, meet_stretches};
 use std::alloc::{AllocError, Global};
 use vic_frame::Uid;
 use vic_frame::low_bits_first::key;
@@ -36,12 +36,12 @@ pub struct Facts<S: OpenSet> {
     pub open: S,
     /// What meets the slots in which tags answered.
     pub met: Met,
-    /// The UIDs that every population has that could have given the log, in rising order.
+    /// The UIDs that every population has that could have produced the log, in rising order.
     pub certain: Vec<Uid>,
 }
 
-/// What the lines of a log tell, if some population could have given them; else up to which place
-/// none could.
+/// What the lines of a log tell, if some population could have produced them; else the position of
+/// a line up to which none could.
 pub fn facts_of<S: OpenSet>(
     alloc: Global,
     lines: &[PackedLine],
@@ -98,7 +98,7 @@ pub struct Contradiction {
 /// The lines before a contradiction.
 #[derive(Clone, Copy)]
 pub enum Before {
-    /// Some population could have produced them: it is the first contradiction.
+    /// Some population could have produced them: the contradiction is the first one.
     ArePossible,
     /// Some population seems to fit them: only where the search for the first impossible line
     /// begins rests on it.
@@ -127,7 +127,7 @@ pub fn open_and_met<S: OpenSet>(
     let set = S::without(alloc, closed)?;
     match meet_all(alloc, &set, &lines[..cut], &stretches)? {
         Ok(met) => {
-            // the line at the cut is impossible by itself
+            // if there is a line at the cut, it is impossible by itself
             if cut < lines.len() {
                 return Ok(Err(Contradiction {
                     at: cut,
@@ -140,9 +140,8 @@ pub fn open_and_met<S: OpenSet>(
     }
 }
 
-/// What its stretches require, met by the UIDs that a log leaves open, if some population could
-/// have produced it. Each UID that it heard is known to be Ready there, and in the mask of its
-/// slot.
+/// The UIDs heard in a log, and the open UIDs that meet its unread slots; or a contradiction. Each
+/// UID heard is known to be Ready there, and in the mask of its slot.
 fn meet_all<S: OpenSet>(
     alloc: Global,
     set: &S,
@@ -192,7 +191,7 @@ fn heard_uids(alloc: Global, lines: &[PackedLine]) -> Result<Vec<Uid>, AllocErro
 }
 
 /// Whether all UIDs of a list are in a set.
-pub(crate) fn are_open<S: OpenSet>(alloc: Global, set: &S, uids: &[Uid]) -> Result<bool, AllocError>
+fn are_open<S: OpenSet>(alloc: Global, set: &S, uids: &[Uid]) -> Result<bool, AllocError>
     ensures { IfOk result (λ yes. yes ≡ list_all (S.is_open set.now) uids.now) }
 {
     let keys = keys_in_order(alloc, uids)?;

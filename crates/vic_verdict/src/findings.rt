@@ -101,7 +101,8 @@ pub fn missing_from(alloc: Global, uids: &[Uid], others: &[Uid]) -> Result<Vec<U
     Ok(missing)
 }
 
-/// The index of a UID in a rising list, from an index on that isn't after it.
+/// The index at which a rising list has a UID, or would have it, from an index on that isn't after
+/// it.
 fn place_from(uids: &[Uid], start: usize, uid: Uid) -> usize
     requires start { start ≤ length uids.now }
     requires below { AreBelow uids.now start uid }
@@ -144,14 +145,14 @@ pub fn listed_uids(alloc: Global, lines: &[PackedLine]) -> Result<Vec<Uid>, Allo
 {
     let mut uids = Vec::new(alloc);
     for line in lines {
-        pass_listed(&mut uids, &line.item())?;
+        push_listed(&mut uids, &line.item())?;
     }
     put_in_order(&mut uids);
     Ok(uids)
 }
 
 /// Adds the UID that an entry lists.
-fn pass_listed(uids: &mut Vec<Uid>, entry: &Entry) -> Result<(), AllocError>
+fn push_listed(uids: &mut Vec<Uid>, entry: &Entry) -> Result<(), AllocError>
     ensures items { OnOk result (uids.new.items ≡ uids.old.items ++ listed (entry.now ∷ [])) }
     ensures uids { OnOk result ((u : ℕ)
         → has (listed (entry.now ∷ [])) u ≡ true → IsUid u) }
@@ -164,14 +165,14 @@ fn pass_listed(uids: &mut Vec<Uid>, entry: &Entry) -> Result<(), AllocError>
     Ok(())
 }
 
-/// How many UIDs a log lists, none of them twice.
+/// How many lines of a log list a UID.
 pub fn count_listed(lines: &[PackedLine]) -> u32
     requires { IsRisingFrom 0 lines.now }
     ensures { result ≡ length (listed (entries lines.now)) }
 {
     let mut count = 0;
     for line in lines {
-        // bounds the count: the numbers of lines rise, and have 32 bits
+        // for the proof: the numbers of lines rise and have 32 bits, which bounds the count
         let _number = line.number();
         count += count_one(&line.item());
     }

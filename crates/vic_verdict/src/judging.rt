@@ -114,7 +114,7 @@ pub fn judge_told<S: OpenSet>(
     if let Some(uid) = first_of(&unlisted) {
         return Ok(Verdict::Unlisted(uid));
     }
-    // the certain UIDs are listed, too: no key of theirs is wanting
+    // all certain UIDs are listed by now, so their keys are among these
     if let Some(mask) = set.widest_besides(&keys)? {
         return Ok(Verdict::Unsettled(mask));
     }

@@ -1,14 +1,13 @@
 //! What the log of an inventory session proves about its list of tags.
 //!
 //! `judge` returns the verdict on a log, `explain` adds a small population that shows it. What they
-//! use is public for `vic_report`, which says more about a log than its verdict: which UIDs a
-//! possible log leaves open, and what meets its slots (`open_and_met`), at which line an impossible
-//! one became so, and which UIDs a log forces and lists. `laws` states what follows from the
-//! definitions.
+//! use is public for `vic_report` and `vic_reconcile`, which say more about a log than its verdict:
+//! which UIDs a possible log leaves open, and what meets its slots (`open_and_met`), at which line
+//! an impossible one became so, and which UIDs a log forces and lists. `laws` states what follows
+//! from the definitions.
 #![tactic(auto)]
 
 mod answering;
-mod demands;
 mod explanation;
 mod facts;
 mod findings;
@@ -17,11 +16,12 @@ pub mod laws;
 mod mentions;
 mod stretches;
 mod sweep;
+mod unread_slots;
 
-pub use demands::{Found, Met};
 pub use explanation::{Explanation, explain, explain_with};
 pub use facts::{
     Before, Contradiction, Facts, certain_uids, facts_of, keys_in_order, open_and_met,
 };
 pub use findings::{Differences, compare, count_listed, listed_uids, missing_from};
 pub use judging::{Verdict, first_impossible_line, judge, judge_told, judge_with};
+pub use unread_slots::{Found, Met};

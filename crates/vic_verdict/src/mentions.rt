@@ -92,13 +92,13 @@ fn is_start(mentions: &[Mention], at: usize, first: u64) -> bool
 /// How many mentions are looked at one by one before bisecting.
 const NEAR: usize = 8;
 
-/// The index of the first mention whose key is at least `first`. The `NEAR` mentions from `near` on
-/// are tried first; then it bisects.
-fn start_near(mentions: &[Mention], near: usize, first: u64) -> usize
+/// The index of the first mention whose key is at least `first`. The `NEAR` mentions from index
+/// `from` on are tried first; then it bisects.
+fn start_near(mentions: &[Mention], from: usize, first: u64) -> usize
     requires { AreInOrder mentions.now }
     ensures { IsStart mentions.now first result }
 {
-    for at in near..mentions.len().min(near.saturating_add(NEAR)) {
+    for at in from..mentions.len().min(from.saturating_add(NEAR)) {
         if is_start(mentions, at, first) {
             return at;
         }

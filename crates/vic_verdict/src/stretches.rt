@@ -1,5 +1,5 @@
 //! One walk over a log, from field cycle to field cycle: which keys its silent and answered slots
-//! close, and what its other slots require.
+//! close, and what its unread slots require.
 
 ghost use Rattle.std.specs.Prelude.{ℕ, ◌≡◌, ◌≢◌, ◌+◌, ◌^◌, ◌<◌, ◌++◌, false, List, Some, IsTrue, IfSome, IfOk, OnOk, slice_get};
 ghost use Rattle.vic_frame.specs.LowBitsFirst.{IsBlock, is_in_some_block};
@@ -11,9 +11,9 @@ ghost use Rattle.vic_log.specs.Order.{AreValid};
 ghost use Rattle.vic_verdict.specs.Possible.{IsContradictedAt};
 ghost use Rattle.vic_verdict.specs.inner.Stretches.{AddsReadSlot, HasGathered, IsSettled, mentions_at};
 
-use crate::demands::{Demand, Stretch, keep_stretch, push_demand};
 use crate::mentions::{Mention, push_mention};
 use crate::sweep::{LENGTHS, ReadSlot, settle_stretch};
+use crate::unread_slots::{Stretch, UnreadSlot, keep_stretch, push_unread};
 use std::alloc::{AllocError, Global};
 use vic_frame::low_bits_first::{KeyBlock, key};
 use vic_frame::{Request, Uid};
@@ -81,7 +81,7 @@ fn is_in_some_block(keys: Option<KeyBlock>, key: u64) -> bool
 fn note_entry(
     mentions: &mut Vec<Mention>,
     reads: &mut Vec<ReadSlot>,
-    demands: &mut Vec<Demand>,
+    unread: &mut Vec<UnreadSlot>,
     cursor: &RoundCursor,
     index: usize,
     entry: &Entry,
@@ -90,14 +90,14 @@ fn note_entry(
     ensures gathered { IfOk result (λ yes. (es : List EntryValue) (from : ℕ)
         → slice_get es index ≡ Some entry.now → AreValid es → IsCursorAt es index cursor.now
         → entry.now ≢ FieldCycle → IsTrue yes
-        → HasGathered es from index mentions.old.items reads.old.items demands.old.items
-        → HasGathered es from (index + 1) mentions.new.items reads.new.items demands.new.items) }
+        → HasGathered es from index mentions.old.items reads.old.items unread.old.items
+        → HasGathered es from (index + 1) mentions.new.items reads.new.items unread.new.items) }
     ensures unfit { IfOk result (λ yes. (es : List EntryValue)
         → slice_get es index ≡ Some entry.now → AreValid es → IsCursorAt es index cursor.now
         → yes ≡ false → IsContradictedAt es index) }
     ensures none { IfOk result (λ yes. yes ≡ false
         → (mentions.new.items ≡ mentions.old.items) × (reads.new.items ≡ reads.old.items)
-        × (demands.new.items ≡ demands.old.items)) }
+        × (unread.new.items ≡ unread.old.items)) }
 {
     match *entry {
         Entry::Sent(request) => note_sent(mentions, &request, index)?,
@@ -111,8 +111,8 @@ fn note_entry(
             push_mention(mentions, heard, index as u32, true)?;
             push_read(reads, keys, index as u32, Some(heard))?;
         }
-        Entry::Collision => return push_demand(demands, cursor.keys(), 2, index as u32),
-        Entry::Garbled => return push_demand(demands, cursor.keys(), 1, index as u32),
+        Entry::Collision => return push_unread(unread, cursor.keys(), 2, index as u32),
+        Entry::Garbled => return push_unread(unread, cursor.keys(), 1, index as u32),
         Entry::Listed(_) | Entry::FieldCycle => {}
     }
     Ok(true)
@@ -123,7 +123,7 @@ fn note_entry(
 pub(crate) struct Settled {
     /// The keys that its silent and answered slots close.
     pub closed: Vec<KeyRange>,
-    /// The stretches whose other slots require tags.
+    /// The stretches that have unread slots.
     pub stretches: Vec<Stretch>,
     /// The end of the log, or the position of an impossible line: a reply of a UID that couldn't
     /// have answered, or tags in a mask that holds no UID.
@@ -154,36 +154,36 @@ pub(crate) fn settle(alloc: Global, lines: &[PackedLine]) -> Result<Settled, All
     // copied. The first stretch that is kept takes the mentions with their capacity
     let mut mentions = Vec::with_capacity(alloc, lines.len())?;
     let mut reads = Vec::with_capacity(alloc, lines.len())?;
-    let mut demands = Vec::new(alloc);
+    let mut unread = Vec::new(alloc);
     let mut cursor = RoundCursor::first();
     for (index, line) in lines.iter().enumerate() {
         let entry = line.item();
         if let Entry::FieldCycle = entry {
             let cut = settle_stretch(&mut closed, &mut mentions, &mut reads, index)?;
-            keep_stretch(alloc, &mut stretches, &mut mentions, &mut demands, cut)?;
+            keep_stretch(alloc, &mut stretches, &mut mentions, &mut unread, cut)?;
             if cut < index {
                 return Ok(Settled::new(closed, stretches, cut));
             }
             reads.clear();
         } else {
-            // bounds the position: the numbers of lines rise, and have 32 bits
+            // for the proof: the numbers of lines rise and have 32 bits, which bounds the position
             let _number = line.number();
             if !note_entry(
                 &mut mentions,
                 &mut reads,
-                &mut demands,
+                &mut unread,
                 &cursor,
                 index,
                 &entry,
             )? {
                 let cut = settle_stretch(&mut closed, &mut mentions, &mut reads, index)?;
-                keep_stretch(alloc, &mut stretches, &mut mentions, &mut demands, cut)?;
+                keep_stretch(alloc, &mut stretches, &mut mentions, &mut unread, cut)?;
                 return Ok(Settled::new(closed, stretches, cut));
             }
         }
         cursor.advance(&entry);
     }
     let cut = settle_stretch(&mut closed, &mut mentions, &mut reads, lines.len())?;
-    keep_stretch(alloc, &mut stretches, &mut mentions, &mut demands, cut)?;
+    keep_stretch(alloc, &mut stretches, &mut mentions, &mut unread, cut)?;
     Ok(Settled::new(closed, stretches, cut))
 }

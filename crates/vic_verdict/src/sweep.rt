@@ -10,7 +10,7 @@ ghost use Rattle.vic_frame.specs.LowBitsFirst.{mirror};
 ghost use Rattle.vic_tree.specs.Ranges.{is_between, is_outside};
 ghost use Rattle.vic_tree.specs.OpenSet.{SameUids};
 ghost use Rattle.vic_verdict.specs.inner.Closed.{Closes, closes_with, is_in_some};
-ghost use Rattle.vic_verdict.specs.inner.Sweep.{AreInOrder, HasRange, first_of, has_left, heard_of, last_of, len_of, slot_leaves, level_leaves, read_leaves, all_leave, mask_leaves, run_leaves, IsLevel, keep_all, all_allow_to, ArePutInOrder, AreUnsettled};
+ghost use Rattle.vic_verdict.specs.inner.Sweep.{AreInOrder, HasRange, first_of, has_left, heard_of, last_of, len_of, slot_leaves, summary_leaves, read_leaves, all_leave, mask_leaves, run_leaves, IsSummary, keep_all, all_allow_to, ArePutInOrder, AreGatheredBefore};
 ghost use Rattle.vic_verdict.specs.inner.Replies.{IsFirstQuietReply};
 ghost use Rattle.vic_verdict.specs.declared.sweep.ReadSlot.{ReadSlot as ReadSlotValue};
 
@@ -23,8 +23,8 @@ use vic_tree::KeyRange;
 /// into one number.
 pub(crate) const LENGTHS: u64 = 256;
 
-/// A slot that was silent, or in which one tag was heard. A log may have a million of them, which
-/// are sorted, so its mask is one number.
+/// A slot that was read: silent, or with the reply of one tag. A log may have a million of them,
+/// which are sorted, so its mask is one number.
 #[derive(Clone, Copy)]
 pub(crate) struct ReadSlot {
     /// Its mask: the mask's first key, times `LENGTHS`, plus how many bits the mask has. In the
@@ -80,7 +80,7 @@ pub(crate) fn settle_stretch(
     reads: &mut Vec<ReadSlot>,
     end: usize,
 ) -> Result<usize, AllocError>
-    requires { AreUnsettled mentions.old.items reads.old.items end }
+    requires { AreGatheredBefore mentions.old.items reads.old.items end }
     ensures cut { IfOk result (IsFirstQuietReply mentions.old.items end) }
     ensures mentions { OnOk result (ArePutInOrder mentions.old.items mentions.new.items) }
     ensures settled { IfOk result (λ cut. SameUids (is_outside closed.new.items)
@@ -90,7 +90,7 @@ pub(crate) fn settle_stretch(
     mentions.sort_unstable_by_key(|mention| mention.key);
     let cut = first_quiet_reply(mentions, end);
     cut_reads(reads, cut, end);
-    // Those of one mask are then consecutive, with outer masks before inner ones.
+    // then the slots of one mask are consecutive, and outer masks come before inner ones
     reads.sort_unstable_by_key(|read| read.mask);
     rule_out_all(mentions, reads);
     // at most one range for each slot, and one more for each mention: a mention divides a range in
@@ -120,26 +120,26 @@ fn rule_out_all(mentions: &mut [Mention], reads: &[ReadSlot])
     let mut cursor = MentionCursor::first();
     let mut run: Option<Run> = None;
     for read in reads {
-        run = Some(pass_read(mentions, &mut cursor, run, read));
+        run = Some(extend_run(mentions, &mut cursor, run, read));
     }
     if let Some(run) = run {
-        rule_out(mentions, &mut cursor, run.keys, &run.level);
+        rule_out(mentions, &mut cursor, run.keys, &run.summary);
     }
 }
 
 /// Adds a slot to a run of the same mask; otherwise rules out the mentions that the run doesn't
 /// leave, and begins a new one.
-fn pass_read(
+fn extend_run(
     mentions: &mut [Mention],
     cursor: &mut MentionCursor,
     run: Option<Run>,
     read: &ReadSlot,
 ) -> Run
     requires order { AreInOrder mentions.old }
-    requires level { IfSome run (λ r. IsLevel r.level) }
+    requires summary { IfSome run (λ r. IsSummary r.summary) }
     requires range { HasRange read.now }
     ensures order { AreInOrder mentions.new }
-    ensures level { IsLevel result.level }
+    ensures summary { IsSummary result.summary }
     ensures leaves { keep_all (run_leaves (Some result)) mentions.new
         ≡ keep_all (λ k q. run_leaves run k q && read_leaves read.now k q) mentions.old }
 {
@@ -148,14 +148,14 @@ fn pass_read(
         if before.keys == keys {
             return Run {
                 keys,
-                level: before.level.with(read.at as usize, read.heard()),
+                summary: before.summary.with(read.at as usize, read.heard()),
             };
         }
-        rule_out(mentions, cursor, before.keys, &before.level);
+        rule_out(mentions, cursor, before.keys, &before.summary);
     }
     Run {
         keys,
-        level: Level::of(read.at as usize, read.heard()),
+        summary: Summary::of(read.at as usize, read.heard()),
     }
 }
 
@@ -163,13 +163,13 @@ fn pass_read(
 #[derive(Clone, Copy)]
 pub(crate) struct Run {
     pub keys: KeyRange,
-    pub level: Level,
+    pub summary: Summary,
 }
 
-/// Rules out those mentions of a mask's keys that a level doesn't leave.
-fn rule_out(mentions: &mut [Mention], cursor: &mut MentionCursor, keys: KeyRange, level: &Level)
+/// Rules out those mentions of a mask's keys that a summary doesn't leave.
+fn rule_out(mentions: &mut [Mention], cursor: &mut MentionCursor, keys: KeyRange, summary: &Summary)
     requires { AreInOrder mentions.old }
-    ensures { mentions.new ≡ keep_all (mask_leaves keys.0 keys.1 level.now) mentions.old }
+    ensures { mentions.new ≡ keep_all (mask_leaves keys.0 keys.1 summary.now) mentions.old }
 {
     let last = keys.last();
     for i in cursor.seek(mentions, keys.first())..mentions.len() {
@@ -177,27 +177,28 @@ fn rule_out(mentions: &mut [Mention], cursor: &mut MentionCursor, keys: KeyRange
         if last < mention.key {
             return;
         }
-        mentions[i].left = mention.left && level.leaves(mention.key, mention.quiet());
+        mentions[i].left = mention.left && summary.leaves(mention.key, mention.quiet());
     }
 }
 
 /// What the slots of one mask say together: the position of the first one, the key that it heard,
-/// if any, and the position of the first one that differs: it heard another key, or only one of the
-/// two heard one. So the key `heard` has to be Quiet before `other`, and any other key before `at`.
+/// if any, and the position of the first one that differs: it heard another key, or none where the
+/// first one heard one, or one where that heard none. So the key `heard` has to be Quiet before
+/// `other`, and any other key before `at`.
 #[derive(Clone, Copy)]
-pub(crate) struct Level {
+pub(crate) struct Summary {
     pub at: usize,
     pub heard: Option<u64>,
     pub other: Option<usize>,
 }
 
-impl Level {
-    /// One slot.
-    pub(crate) fn of(at: usize, heard: Option<u64>) -> Level
-        ensures level { IsLevel result }
-        ensures leaves { (k q : ℕ) → level_leaves result k q ≡ slot_leaves at heard k q }
+impl Summary {
+    /// What one slot says.
+    pub(crate) fn of(at: usize, heard: Option<u64>) -> Summary
+        ensures summary { IsSummary result }
+        ensures leaves { (k q : ℕ) → summary_leaves result k q ≡ slot_leaves at heard k q }
     {
-        Level {
+        Summary {
             at,
             heard,
             other: None,
@@ -205,20 +206,20 @@ impl Level {
     }
 
     /// With one more slot. Those of a mask come in any order.
-    pub(crate) fn with(&self, at: usize, heard: Option<u64>) -> Level
-        requires { IsLevel self.now }
-        ensures level { IsLevel result }
-        ensures leaves { (k q : ℕ) → level_leaves result k q
-            ≡ (level_leaves self.now k q && slot_leaves at heard k q) }
+    pub(crate) fn with(&self, at: usize, heard: Option<u64>) -> Summary
+        requires { IsSummary self.now }
+        ensures summary { IsSummary result }
+        ensures leaves { (k q : ℕ) → summary_leaves result k q
+            ≡ (summary_leaves self.now k q && slot_leaves at heard k q) }
     {
         if heard == self.heard {
-            Level {
+            Summary {
                 at: self.at.min(at),
                 heard,
                 other: self.other,
             }
         } else if at < self.at {
-            Level {
+            Summary {
                 at,
                 heard,
                 other: Some(self.at),
@@ -228,7 +229,7 @@ impl Level {
                 Some(other) => other.min(at),
                 None => at,
             };
-            Level {
+            Summary {
                 at: self.at,
                 heard: self.heard,
                 other: Some(other),
@@ -238,7 +239,7 @@ impl Level {
 
     /// Whether a key is left whose UID is Quiet after a position.
     pub(crate) fn leaves(&self, key: u64, quiet: usize) -> bool
-        ensures { result ≡ level_leaves self.now key quiet }
+        ensures { result ≡ summary_leaves self.now key quiet }
     {
         if self.heard == Some(key) {
             match self.other {
@@ -253,7 +254,7 @@ impl Level {
 
 /// Closes the keys of the masks of some slots, except those of mentions that are left. If the slots
 /// are in order, masks that adjoin or lie in one another are closed as one range.
-pub(crate) fn close_reads(
+fn close_reads(
     closed: &mut Vec<KeyRange>,
     mentions: &[Mention],
     reads: &[ReadSlot],
@@ -266,7 +267,7 @@ pub(crate) fn close_reads(
     let mut cursor = MentionCursor::first();
     let mut range: Option<KeyRange> = None;
     for read in reads {
-        range = Some(pass_keys(closed, mentions, &mut cursor, range, read.keys())?);
+        range = Some(extend_range(closed, mentions, &mut cursor, range, read.keys())?);
     }
     if let Some(range) = range {
         close_between(closed, mentions, &mut cursor, range)?;
@@ -276,7 +277,7 @@ pub(crate) fn close_reads(
 
 /// Adds keys to the range before them if they adjoin it or lie in it; otherwise closes that range,
 /// if there is one. Returns the range to close next.
-fn pass_keys(
+fn extend_range(
     closed: &mut Vec<KeyRange>,
     mentions: &[Mention],
     cursor: &mut MentionCursor,

@@ -67,6 +67,6 @@ pub record IsKnown (set : ℕ → Bool) (ns : List Mention) (known : Known) : Ty
   pub mentioned : AreOpenMentions (is_ready_at set ns known.from) ns known.mentioned.items
   pub masks : All (IsUnmentioned set ns) known.masks.items
 
--- and, if it is known yet, by what slots have taught
+-- what slots have taught is right: if the mentions are known, it is by these mentions
 abbrev pub IsLearnt : (ℕ → Bool) → List Mention → Learnt → Type 0
 IsLearnt set ns learnt = IfSome learnt.known (IsKnown set ns)

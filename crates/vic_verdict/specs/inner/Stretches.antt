@@ -22,7 +22,7 @@ use Rattle.vic_verdict.specs.inner.Replies.{RepliesAnswer}
 use Rattle.vic_verdict.specs.declared.mentions.Mention.{Mention}
 use Rattle.vic_verdict.specs.declared.sweep.ReadSlot.{ReadSlot}
 use Rattle.vic_verdict.specs.declared.stretches.Settled.{Settled}
-use Rattle.vic_verdict.specs.declared.demands.Demand.{Demand}
+use Rattle.vic_verdict.specs.declared.unread_slots.UnreadSlot.{UnreadSlot}
 use Rattle.vic_verdict.specs.inner.Asked.{AreAsked, AreKept}
 use Rattle.vic_verdict.specs.inner.Sweep.{HasRange, heard_of, is_in}
 
@@ -83,9 +83,9 @@ NobodyAt es i = (u : ℕ) → IsUid u → lies_in_some (mask_at es i) u ≡ fals
 -- ---- all of it
 
 -- what is gathered from the entries from a position on, up to position i, none of which is a field
--- cycle: their mentions, their slots that may rule UIDs out, and what the others require
+-- cycle: their mentions, their slots that may rule UIDs out, and their unread slots
 pub record HasGathered (es : List Entry) (from i : ℕ) (ns : List Mention) (ss : List ReadSlot)
-    (ds : List Demand) : Type 0 where
+    (ds : List UnreadSlot) : Type 0 where
   pub begun : from ≤ i
   pub small : from < i → i ≤ 2 ^ 32
   pub awake : (j : ℕ) → from ≤ j → j < i → wakes (slice_get es j) ≡ false

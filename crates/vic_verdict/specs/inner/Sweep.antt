@@ -10,7 +10,7 @@ use Rattle.vic_frame.specs.LowBitsFirst.{IsKey}
 use Rattle.vic_tree.specs.Ranges.{IsKeyRange, is_between}
 use Rattle.vic_verdict.specs.declared.mentions.Mention.{Mention}
 use Rattle.vic_verdict.specs.declared.sweep.ReadSlot.{ReadSlot}
-use Rattle.vic_verdict.specs.declared.sweep.Level.{Level}
+use Rattle.vic_verdict.specs.declared.sweep.Summary.{Summary}
 use Rattle.vic_verdict.specs.declared.sweep.Run.{Run}
 
 -- the position after which the UID of a mention is Quiet by its line
@@ -59,21 +59,21 @@ read_leaves s k q = not (is_in s k) || slot_leaves s.at (heard_of s) k q
 abbrev pub all_leave : List ReadSlot → ℕ → ℕ → Bool
 all_leave reads k q = list_all (λ s. read_leaves s k q) reads
 
--- what a level leaves of the keys in its mask
-abbrev pub level_leaves : Level → ℕ → ℕ → Bool
-level_leaves l k q = if is_heard l.heard k then is_before q l.other else nat_lt q l.at
+-- what a summary leaves of the keys in its mask
+abbrev pub summary_leaves : Summary → ℕ → ℕ → Bool
+summary_leaves l k q = if is_heard l.heard k then is_before q l.other else nat_lt q l.at
 
--- the first slot of a level is no later than the first that heard another
-abbrev pub IsLevel : Level → Type 0
-IsLevel l = IfSome l.other (λ o. l.at ≤ o)
+-- the first slot of a summary is no later than the first that heard another
+abbrev pub IsSummary : Summary → Type 0
+IsSummary l = IfSome l.other (λ o. l.at ≤ o)
 
 -- what a mask leaves of all keys
-abbrev pub mask_leaves : ℕ → ℕ → Level → ℕ → ℕ → Bool
-mask_leaves first last l k q = not (is_between first last k) || level_leaves l k q
+abbrev pub mask_leaves : ℕ → ℕ → Summary → ℕ → ℕ → Bool
+mask_leaves first last l k q = not (is_between first last k) || summary_leaves l k q
 
 abbrev pub run_leaves : Option Run → ℕ → ℕ → Bool
 run_leaves None k q = true
-run_leaves (Some r) k q = mask_leaves r.keys.0 r.keys.1 r.level k q
+run_leaves (Some r) k q = mask_leaves r.keys.0 r.keys.1 r.summary k q
 
 -- mentions stay left if a test of key and position passes
 abbrev pub keep : (ℕ → ℕ → Bool) → Mention → Mention
@@ -131,7 +131,7 @@ are_left ns = list_all (λ n. n.left) ns
 
 -- all mentions are left, and the slots, whose masks are ranges of keys, are before a position; a
 -- key that one of them heard is mentioned
-pub record AreUnsettled (ns : List Mention) (ss : List ReadSlot) (end : ℕ) : Type 0 where
+pub record AreGatheredBefore (ns : List Mention) (ss : List ReadSlot) (end : ℕ) : Type 0 where
   pub left : are_left ns ≡ true
   pub before : All (λ (s : ReadSlot). s.at < end) ss
   pub ranges : All HasRange ss

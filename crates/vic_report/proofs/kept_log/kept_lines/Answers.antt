@@ -13,8 +13,8 @@ loop-index-init c =
       given = λ p fits. subst (λ ls. CouldHaveGiven p (entries ls)) (sym none) (λ i e k. cc);
     }
 
-pub pass_line-requires-clause-valid : goal.pass_line-requires-clause-valid
-pass_line-requires-clause-valid c =
+pub keep_line-requires-clause-valid : goal.keep_line-requires-clause-valid
+keep_line-requires-clause-valid c =
     let i = c.loop-index.index in
     let l = c.index-lines-index.result in
     valid_entry (entries c.args.lines.now) i c.item-entry.result c.requires.lines.valid (entry_at c.args.lines.now i l c.loop-index-test.true c.index-lines-index.is ∙ ap (λ (e : Entry). Some e) (sym c.item-entry.ensures))
@@ -26,7 +26,7 @@ loop-index-preserved c =
     let l = c.index-lines-index.result in
     let before = c.loop-index.invariant in
     let here = entry_at c.args.lines.now i l c.loop-index-test.true c.index-lines-index.is ∙ ap (λ (e : Entry). Some e) (sym c.item-entry.ensures) in
-    let more = c.in_ok-pass_line.ensures in
+    let more = c.in_ok-keep_line.ensures in
     let kept = more.kept es here (c.mask-mask.ensures es i c.requires.lines.valid before.round) in
     record {
       round = c.advance.ensures es i c.requires.lines.order here before.round;

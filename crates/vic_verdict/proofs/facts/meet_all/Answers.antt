@@ -1,5 +1,5 @@
 use Rattle.vic_verdict.proofs.Words.{◌∙◌, sym, length, length-map, LogLine, entries}
-use Rattle.vic_verdict.proofs.Demanding.{kept_blocks, kept_in_order}
+use Rattle.vic_verdict.proofs.UnreadSlots.{kept_blocks, kept_in_order}
 use Rattle.vic_verdict.proofs.Lacking.{lacking_lines}
 use Rattle.vic_verdict.proofs.Meeting.{heard_lacks, met_all}
 use Rattle.vic_verdict.proofs.facts.meet_all.Goals as goal

@@ -1,5 +1,5 @@
-use Rattle.vic_verdict.proofs.Words.{Bool, false, ◌<◌, ◌^◌, ◌≡◌, ◌+◌, ℕ, List, [], ◌∷◌, ◌++◌, inl, inr, ◌∙◌, true, refl, ap, sym, Option, Some, None, subst, arith, IfSome, slice_get, append-nil, ReadSlot, Demand, wakes, rules_out, needs, IfOk-weaker, KeyBlock, is_in_some_block, mirror, IsUid, Entry, Sent, Silent, Collision, Garbled, Listed, Heard, Reply, lies_in_some, mask_at, Mention, IsBlock, HasGathered, mentions_at}
-use Rattle.vic_verdict.proofs.Demanding.{asked_nothing, asked_more}
+use Rattle.vic_verdict.proofs.Words.{Bool, false, ◌<◌, ◌^◌, ◌≡◌, ◌+◌, ℕ, List, [], ◌∷◌, ◌++◌, inl, inr, ◌∙◌, true, refl, ap, sym, Option, Some, None, subst, arith, IfSome, slice_get, append-nil, ReadSlot, UnreadSlot, wakes, rules_out, needs, IfOk-weaker, KeyBlock, is_in_some_block, mirror, IsUid, Entry, Sent, Silent, Collision, Garbled, Listed, Heard, Reply, lies_in_some, mask_at, Mention, IsBlock, HasGathered, mentions_at}
+use Rattle.vic_verdict.proofs.UnreadSlots.{asked_nothing, asked_more}
 use Rattle.vic_verdict.proofs.Heard.{outside_reply, nobody_there}
 use Rattle.vic_verdict.proofs.Stretching.{gathered_next, gathered_passed, read_told}
 use Rattle.vic_verdict.proofs.stretches.note_entry.Goals as goal
@@ -38,28 +38,28 @@ returns-in_ok-push_read-in-Heard-clause-gathered c es from k valid at other fits
     (λ begun. asked_nothing es from _ _ (Heard r) begun here refl) h
 
 -- a slot that requires tags
-gathered_asked : (es : List Entry) (from i : ℕ) (e : Entry) (need : ℕ) (ns : List Mention) (ss : List ReadSlot) (ds cs : List Demand) (keys : Option KeyBlock) → slice_get es i ≡ Some e → i < 2 ^ 32 → wakes (Some e) ≡ false → mentions_at (Some e) i ≡ [] → rules_out e ≡ false → needs e ≡ need → 0 < need → ((u : ℕ) → IsUid u → is_in_some_block keys (mirror u) ≡ lies_in_some (mask_at es i) u) → IfSome keys (λ b. IsBlock b.first b.len) → (b : KeyBlock) × (keys ≡ Some b) × (cs ≡ ds ++ record { first = b.first; len = b.len; need = need; at = i } ∷ []) → HasGathered es from i ns ss ds → HasGathered es from (i + 1) ns ss cs
+gathered_asked : (es : List Entry) (from i : ℕ) (e : Entry) (need : ℕ) (ns : List Mention) (ss : List ReadSlot) (ds cs : List UnreadSlot) (keys : Option KeyBlock) → slice_get es i ≡ Some e → i < 2 ^ 32 → wakes (Some e) ≡ false → mentions_at (Some e) i ≡ [] → rules_out e ≡ false → needs e ≡ need → 0 < need → ((u : ℕ) → IsUid u → is_in_some_block keys (mirror u) ≡ lies_in_some (mask_at es i) u) → IfSome keys (λ b. IsBlock b.first b.len) → (b : KeyBlock) × (keys ≡ Some b) × (cs ≡ ds ++ record { first = b.first; len = b.len; need = need; at = i } ∷ []) → HasGathered es from i ns ss ds → HasGathered es from (i + 1) ns ss cs
 gathered_asked es from i e need ns ss ds cs keys k small awake none open_ needed some inside block more h =
     gathered_passed es from i e ns ns ss ds cs k small awake (sym (ap (λ xs. ns ++ xs) none ∙ append-nil ns)) open_
     (λ begun. asked_more es from i ds cs e (record { first = more.0.first; len = more.0.len; need = need; at = i }) begun k needed some (subst (λ o. IfSome o (λ b. IsBlock b.first b.len)) more.1 block) (λ u w. ap (λ o. is_in_some_block o (mirror u)) (sym more.1) ∙ inside u w) refl more.2) h
 
 pub returns-in-Collision-clause-gathered : goal.returns-in-Collision-clause-gathered
-returns-in-Collision-clause-gathered c = IfOk-weaker c.push_demand.result _ _ (λ yes told es from k valid at other fits h.
-    gathered_asked es from c.args.index Collision 2 _ _ _ _ c.keys-in-Collision.result (k ∙ ap (λ e. Some e) c.in-Collision.is) c.requires refl refl refl refl (omega arith) (λ u w. c.keys-in-Collision.ensures.inside es c.args.index u valid at w) c.keys-in-Collision.ensures.block (told fits) h) c.push_demand.ensures.some
+returns-in-Collision-clause-gathered c = IfOk-weaker c.push_unread.result _ _ (λ yes told es from k valid at other fits h.
+    gathered_asked es from c.args.index Collision 2 _ _ _ _ c.keys-in-Collision.result (k ∙ ap (λ e. Some e) c.in-Collision.is) c.requires refl refl refl refl (omega arith) (λ u w. c.keys-in-Collision.ensures.inside es c.args.index u valid at w) c.keys-in-Collision.ensures.block (told fits) h) c.push_unread.ensures.some
 
 pub returns-in-Collision-clause-unfit : goal.returns-in-Collision-clause-unfit
-returns-in-Collision-clause-unfit c = IfOk-weaker c.push_demand.result _ _ (λ yes told es k valid at failed.
+returns-in-Collision-clause-unfit c = IfOk-weaker c.push_unread.result _ _ (λ yes told es k valid at failed.
     nobody_there es c.args.index Collision (k ∙ ap (λ e. Some e) c.in-Collision.is) (omega arith)
-    (λ u w. sym (c.keys-in-Collision.ensures.inside es c.args.index u valid at w) ∙ ap (λ o. is_in_some_block o (mirror u)) (told failed).0)) c.push_demand.ensures.none
+    (λ u w. sym (c.keys-in-Collision.ensures.inside es c.args.index u valid at w) ∙ ap (λ o. is_in_some_block o (mirror u)) (told failed).0)) c.push_unread.ensures.none
 
 pub returns-in-Garbled-clause-gathered : goal.returns-in-Garbled-clause-gathered
-returns-in-Garbled-clause-gathered c = IfOk-weaker c.push_demand-in-Garbled.result _ _ (λ yes told es from k valid at other fits h.
-    gathered_asked es from c.args.index Garbled 1 _ _ _ _ c.keys-in-Garbled.result (k ∙ ap (λ e. Some e) c.in-Garbled.is) c.requires refl refl refl refl (omega arith) (λ u w. c.keys-in-Garbled.ensures.inside es c.args.index u valid at w) c.keys-in-Garbled.ensures.block (told fits) h) c.push_demand-in-Garbled.ensures.some
+returns-in-Garbled-clause-gathered c = IfOk-weaker c.push_unread-in-Garbled.result _ _ (λ yes told es from k valid at other fits h.
+    gathered_asked es from c.args.index Garbled 1 _ _ _ _ c.keys-in-Garbled.result (k ∙ ap (λ e. Some e) c.in-Garbled.is) c.requires refl refl refl refl (omega arith) (λ u w. c.keys-in-Garbled.ensures.inside es c.args.index u valid at w) c.keys-in-Garbled.ensures.block (told fits) h) c.push_unread-in-Garbled.ensures.some
 
 pub returns-in-Garbled-clause-unfit : goal.returns-in-Garbled-clause-unfit
-returns-in-Garbled-clause-unfit c = IfOk-weaker c.push_demand-in-Garbled.result _ _ (λ yes told es k valid at failed.
+returns-in-Garbled-clause-unfit c = IfOk-weaker c.push_unread-in-Garbled.result _ _ (λ yes told es k valid at failed.
     nobody_there es c.args.index Garbled (k ∙ ap (λ e. Some e) c.in-Garbled.is) (omega arith)
-    (λ u w. sym (c.keys-in-Garbled.ensures.inside es c.args.index u valid at w) ∙ ap (λ o. is_in_some_block o (mirror u)) (told failed).0)) c.push_demand-in-Garbled.ensures.none
+    (λ u w. sym (c.keys-in-Garbled.ensures.inside es c.args.index u valid at w) ∙ ap (λ o. is_in_some_block o (mirror u)) (told failed).0)) c.push_unread-in-Garbled.ensures.none
 
 pub returns-in-Listed-clause-gathered : goal.returns-in-Listed-clause-gathered
 returns-in-Listed-clause-gathered c es from k valid at other fits h = elim c.in-Listed.is [

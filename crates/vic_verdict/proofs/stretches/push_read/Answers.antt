@@ -18,7 +18,11 @@ slot_of keys b key at is_heard heard is block told =
 
 pub returns : goal.returns
 returns c =
-    inr (_, c.in_ok-push.ensures.items, slot_of c.args.keys c.in-Some.block c.match-heard.key c.args.at c.is_some-is_heard.result c.args.heard c.in-Some.is (rw c.in-Some.is at c.requires) (elim c.match-heard.branch [
-      | in-Some-heard w ↦ rw (c.is_some-is_heard.ensures, w.in-Some-heard.is, w.key-is) refl
-      | in-None w ↦ rw (c.is_some-is_heard.ensures, w.in-None.is) refl
-    ]))
+    inr (
+      _,
+      c.in_ok-push.ensures.items,
+      slot_of c.args.keys c.in-Some.block c.match-heard.key c.args.at c.is_some-is_heard.result c.args.heard c.in-Some.is (rw c.in-Some.is at c.requires) (elim c.match-heard.branch [
+        | in-Some-heard w ↦ rw (c.is_some-is_heard.ensures, w.in-Some-heard.is, w.key-is) refl
+        | in-None w ↦ rw (c.is_some-is_heard.ensures, w.in-None.is) refl
+      ]),
+    )

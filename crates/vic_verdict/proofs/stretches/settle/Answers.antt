@@ -9,7 +9,7 @@ use Rattle.vic_verdict.proofs.stretches.settle.Goals.{in-FieldCycle+in_ok-cut+in
 pub loop-index-init : goal.loop-index-init
 loop-index-init c = record {
   round = c.first-cursor.ensures (entries c.args.lines.now);
-  walked = rw (c.new-closed.ensures.items, c.new-stretches.ensures.items, c.in_ok-mentions.ensures.items, c.in_ok-reads.ensures.items, c.new-demands.ensures.items) (walked_first (entries c.args.lines.now));
+  walked = rw (c.new-closed.ensures.items, c.new-stretches.ensures.items, c.in_ok-mentions.ensures.items, c.in_ok-reads.ensures.items, c.new-unread.ensures.items) (walked_first (entries c.args.lines.now));
 }
 
 pub note_entry-requires : goal.note_entry-requires
@@ -40,10 +40,10 @@ loop-index-preserved c =
       round = c.advance.ensures es l.index c.requires.order here l.invariant.round;
       walked = elim c.match-entry.branch [
         | in-FieldCycle+in_ok-cut+in_ok-keep_stretch+else-cut-index w ↦
-            rw (w.closed-is, w.stretches-is, w.mentions-is, w.reads-is, w.demands-is, w.in_ok-keep_stretch.ensures.mentions, w.clear.ensures.items, w.in_ok-keep_stretch.ensures.demands)
-            (walked_anew es l.index w.in_ok-cut.cut (is_outside l.closed.items) _ l.stretches.items _ l.mentions.items w.settle_stretch.new.mentions.items l.reads.items l.demands.items (here ∙ ap (λ (e : Entry). Some e) w.in-FieldCycle.is) w.if-cut-index.false w.in_ok-cut.ensures.cut w.in_ok-cut.ensures.mentions w.in_ok-keep_stretch.ensures.kept w.in_ok-cut.ensures.settled walked)
+            rw (w.closed-is, w.stretches-is, w.mentions-is, w.reads-is, w.unread-is, w.in_ok-keep_stretch.ensures.mentions, w.clear.ensures.items, w.in_ok-keep_stretch.ensures.unread)
+            (walked_anew es l.index w.in_ok-cut.cut (is_outside l.closed.items) _ l.stretches.items _ l.mentions.items w.settle_stretch.new.mentions.items l.reads.items l.unread.items (here ∙ ap (λ (e : Entry). Some e) w.in-FieldCycle.is) w.if-cut-index.false w.in_ok-cut.ensures.cut w.in_ok-cut.ensures.mentions w.in_ok-keep_stretch.ensures.kept w.in_ok-cut.ensures.settled walked)
         | in_default+in_ok-note_entry+else-not-branch w ↦
-            rw (w.closed-is, w.stretches-is, w.mentions-is, w.reads-is, w.demands-is)
+            rw (w.closed-is, w.stretches-is, w.mentions-is, w.reads-is, w.unread-is)
             (walked.0, w.in_ok-note_entry.ensures.gathered es walked.0 here c.requires.valid l.invariant.round w.in_default.not-FieldCycle w.if-not-branch.false walked.1, walked.2)
       ];
     }
@@ -59,7 +59,7 @@ returns-then-not-branch c =
     let here = entry_at c.args.lines.now l.index c.index-lines-index.result c.loop-index-test.true c.index-lines-index.is ∙ ap (λ (e : Entry). Some e) (sym c.item-entry.ensures) in
     let none = c.in_ok-note_entry.ensures.none c.if-not-branch.true in
     let told = c.in_ok-cut-2.ensures in
-    rw c.new-then-not-branch.ensures (settled_to c.args.lines.now _ l.index _ _ c.note_entry.new.mentions.items _ c.note_entry.new.reads.items c.note_entry.new.demands.items l.auto.index-end (rw (none.0, none.1, none.2) l.invariant.walked) told.cut told.mentions c.in_ok-keep_stretch-2.ensures.kept told.settled
+    rw c.new-then-not-branch.ensures (settled_to c.args.lines.now _ l.index _ _ c.note_entry.new.mentions.items _ c.note_entry.new.reads.items c.note_entry.new.unread.items l.auto.index-end (rw (none.0, none.1, none.2) l.invariant.walked) told.cut told.mentions c.in_ok-keep_stretch-2.ensures.kept told.settled
     (λ end more. c.in_ok-note_entry.ensures.unfit (entries c.args.lines.now) here c.requires.valid l.invariant.round c.if-not-branch.true))
 
 pub returns : goal.returns

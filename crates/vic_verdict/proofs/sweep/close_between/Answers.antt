@@ -13,10 +13,13 @@ loop-mention-preserved c =
     let from = c.loop-mention.from in
     let n = get_or c.mentions_between-inside.result.now c.loop-mention.mention-index nobody in
     closed_next c.args.closed.now.items new _ c.mentions_between-inside.result.now c.first-first.result c.last-last.result from _ c.loop-mention.mention-index c.mentions_between-inside.ensures.order c.mentions_between-inside.ensures.inside c.loop-mention-test.true (elim c.if-mention.branch [
-      | then-mention w ↦ (rw w.if-mention.true w.from-is, λ k. rw (w.closed-is, w.if-mention.true) (elim w.if-from-mention.branch [
-        | then-from-mention+in_ok-push v ↦ rw v.closed-is (pushed_one new v.push.new.self.items from (n.key - 1) n.key v.if-from-mention.true (omega (arith, v.if-from-mention.true)) (v.in_ok-push.ensures.items ∙ ap (λ r. new ++ r ∷ []) v.new.ensures) k)
-        | else-from-mention v ↦ rw v.closed-is (pushed_none new from n.key v.if-from-mention.false k)
-      ]))
+      | then-mention w ↦ (
+        rw w.if-mention.true w.from-is,
+        λ k. rw (w.closed-is, w.if-mention.true) (elim w.if-from-mention.branch [
+          | then-from-mention+in_ok-push v ↦ rw v.closed-is (pushed_one new v.push.new.self.items from (n.key - 1) n.key v.if-from-mention.true (omega (arith, v.if-from-mention.true)) (v.in_ok-push.ensures.items ∙ ap (λ r. new ++ r ∷ []) v.new.ensures) k)
+          | else-from-mention v ↦ rw v.closed-is (pushed_none new from n.key v.if-from-mention.false k)
+        ]),
+      )
       | else-mention w ↦ (rw w.if-mention.false w.from-is, λ k. rw (w.closed-is, w.if-mention.false) (sym (or_false _)))
     ]) c.loop-mention.invariant
 

@@ -1,6 +1,6 @@
 use Rattle.vic_verdict.proofs.Words.{◌≡◌, mask_leaves}
-use Rattle.vic_verdict.proofs.Sweeping.{ruled, IsRuled}
+use Rattle.vic_verdict.proofs.Sweeping.{ruled}
 use Rattle.vic_verdict.proofs.sweep.rule_out.Given as goal
 
 abbrev pub invariant-loop-i : goal.invariant-loop-i
-invariant-loop-i l = l.mentions ≡ ruled (mask_leaves l.fn.keys.0 l.fn.keys.1 l.fn.level) l.fn.mentions l.i
+invariant-loop-i l = l.mentions ≡ ruled (mask_leaves l.fn.keys.0 l.fn.keys.1 l.fn.summary) l.fn.mentions l.i

@@ -4,9 +4,9 @@ use Rattle.vic_verdict.proofs.sweep.rule_out_all.Goals as goal
 
 pub loop-read-preserved : goal.loop-read-preserved
 loop-read-preserved c = record {
-  order = c.pass_read.ensures.order;
-  level = c.pass_read.ensures.level;
-  done = runs_more c.loop-read.run c.pass_read.result c.args.reads.now c.loop-read.read-index (get_or c.args.reads.now c.loop-read.read-index nowhere) c.args.mentions.now c.loop-read.mentions c.pass_read.new.mentions c.loop-read-test.true (get_or_default c.args.reads.now c.loop-read.read-index nowhere _ c.loop-read-test.true) c.loop-read.invariant.done c.pass_read.ensures.leaves;
+  order = c.extend_run.ensures.order;
+  summary = c.extend_run.ensures.summary;
+  done = runs_more c.loop-read.run c.extend_run.result c.args.reads.now c.loop-read.read-index (get_or c.args.reads.now c.loop-read.read-index nowhere) c.args.mentions.now c.loop-read.mentions c.extend_run.new.mentions c.loop-read-test.true (get_or_default c.args.reads.now c.loop-read.read-index nowhere _ c.loop-read-test.true) c.loop-read.invariant.done c.extend_run.ensures.leaves;
 }
 
 pub returns-in-Some : goal.returns-in-Some

@@ -1,6 +1,6 @@
 use Rattle.vic_tree.proofs.Words.{◌≡◌, ℕ, ◌^◌, ◌≤◌, not, drop, take, length, in_ranges}
 use Rattle.vic_tree.proofs.RangeLaws.{AreRunsTo}
-use Rattle.vic_tree.proofs.ranges.between.Given as goal
+use Rattle.vic_tree.proofs.ranges.complement_in_order.Given as goal
 
 abbrev pub invariant-loop-i : goal.invariant-loop-i
 invariant-loop-i l = record {

@@ -1,5 +1,5 @@
 use Rattle.vic_report.proofs.Words.{◌≡◌, ◌≤◌, ◌-◌, ℕ, List, Some, length, take, slice_get, All, LogLine, AreValid, entries, IsFieldAt, IsRuledOut}
-use Rattle.vic_report.proofs.ruled_out.pass_ruled_out.Given as goal
+use Rattle.vic_report.proofs.ruled_out.count_ruled_out.Given as goal
 
 abbrev pub invariant-loop-next : goal.invariant-loop-next
 invariant-loop-next l = record {

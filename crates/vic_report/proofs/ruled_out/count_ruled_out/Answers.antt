@@ -1,6 +1,6 @@
 use Rattle.vic_report.proofs.Words.{get_or, ap, ◌∙◌, arith, ◌&&◌, entries, answers_at, lacks_reply_of}
 use Rattle.vic_report.proofs.RuledOut.{passed_more}
-use Rattle.vic_report.proofs.ruled_out.pass_ruled_out.Goals as goal
+use Rattle.vic_report.proofs.ruled_out.count_ruled_out.Goals as goal
 
 pub loop-next-preserved : goal.loop-next-preserved
 loop-next-preserved c = record {

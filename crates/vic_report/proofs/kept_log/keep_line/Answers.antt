@@ -1,6 +1,6 @@
 use Rattle.vic_report.proofs.Words.{rules}
 use Rattle.vic_report.proofs.KeptLogs.{entry_passed}
-use Rattle.vic_report.proofs.kept_log.pass_line.Goals as goal
+use Rattle.vic_report.proofs.kept_log.keep_line.Goals as goal
 
 pub returns-in-Sent-StayQuiet-clause-kept : goal.returns-in-Sent-StayQuiet-clause-kept
 returns-in-Sent-StayQuiet-clause-kept c =

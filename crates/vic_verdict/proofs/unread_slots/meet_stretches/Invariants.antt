@@ -1,6 +1,6 @@
 use Rattle.vic_verdict.proofs.Words.{List, length, take, SameUids, Entry, slots_of, is_open, AreKept}
-use Rattle.vic_verdict.proofs.Demanding.{AreFoundTo}
-use Rattle.vic_verdict.proofs.demands.meet_stretches.Given as goal
+use Rattle.vic_verdict.proofs.UnreadSlots.{AreFoundTo}
+use Rattle.vic_verdict.proofs.unread_slots.meet_stretches.Given as goal
 
 abbrev pub invariant-loop-stretch : goal.invariant-loop-stretch
 invariant-loop-stretch g l =

@@ -1,12 +1,12 @@
 use Rattle.vic_verdict.proofs.Words.{arith, Found}
-use Rattle.vic_verdict.proofs.Demanding.{met_skipped, met_found, met_all}
-use Rattle.vic_verdict.proofs.demands.meet_each.Goals as goal
-use Rattle.vic_verdict.proofs.demands.meet_each.Goals.{then-not-is_asked_again+in_ok-uids+else-len-need+in_ok-push, else-not-is_asked_again}
+use Rattle.vic_verdict.proofs.UnreadSlots.{met_skipped, met_found, met_all}
+use Rattle.vic_verdict.proofs.unread_slots.meet_each.Goals as goal
+use Rattle.vic_verdict.proofs.unread_slots.meet_each.Goals.{then-not-is_asked_again+in_ok-uids+else-len-need+in_ok-push, else-not-is_asked_again}
 
 pub loop-index-preserved : goal.loop-index-preserved
 loop-index-preserved g c =
     let ns = c.args.mentions.now in
-    let ds = c.args.demands.now in
+    let ds = c.args.unread.now in
     let old = c.args.found.now.items in
     let now = c.loop-index.found.items in
     let before = c.loop-index.invariant in
@@ -25,4 +25,4 @@ loop-index-preserved g c =
 
 pub returns-clause-met : goal.returns-clause-met
 returns-clause-met g c es same h done =
-    met_all es c.args.demands.now c.loop-index.index c.args.found.now.items c.loop-index.found.items (let last = c.loop-index-test.false in let within = c.loop-index.auto.index-end in omega arith) (c.loop-index.invariant.met es same h)
+    met_all es c.args.unread.now c.loop-index.index c.args.found.now.items c.loop-index.found.items (let last = c.loop-index-test.false in let within = c.loop-index.auto.index-end in omega arith) (c.loop-index.invariant.met es same h)

@@ -15,8 +15,8 @@ ghost use Rattle.vic_log.specs.Slots.{slots_of, is_open};
 ghost use Rattle.vic_verdict.specs.inner.Possible.{Lacks};
 ghost use Rattle.vic_verdict.specs.inner.Answering.{IsLearnt};
 ghost use Rattle.vic_verdict.specs.inner.Sweep.{AreInOrder, HaveKeys};
-ghost use Rattle.vic_verdict.specs.Demands.{AreFound};
-ghost use Rattle.vic_verdict.specs.inner.Asked.{IsDemandBy, answers_by, IsUnmet, IsUnmetAt, IsAskedAgain, AreKept, AreMet, HasBlock, HasBlocks, HasMentionsInOrder, Keeps};
+ghost use Rattle.vic_verdict.specs.Needs.{AreFound};
+ghost use Rattle.vic_verdict.specs.inner.Asked.{IsUnreadSlotBy, answers_by, IsUnmet, IsUnmetAt, IsAskedAgain, AreKept, AreMet, HasBlock, HasBlocks, HasMentionsInOrder, Keeps};
 
 use crate::answering::{Learnt, up_to_three_answering};
 use crate::mentions::{Mention, MentionCursor, mentions_between, start_of};
@@ -32,13 +32,13 @@ use vic_tree::OpenSet;
 pub struct Met {
     /// The UIDs that were heard, in any order.
     pub heard: Vec<Uid>,
-    /// What meets the slots in which tags answered and none was read: each of these slots is met by
-    /// one of them, and one may meet many.
+    /// What meets the unread slots: each of these slots is met by one of them, and one may meet
+    /// many.
     pub found: Vec<Found>,
 }
 
-/// Open UIDs that answer in a slot in which tags answered and none was read: all of them if there
-/// are fewer than three, otherwise three.
+/// Open UIDs that answer in an unread slot: all of them if there are fewer than three, otherwise
+/// three.
 #[derive(Drop)]
 pub struct Found {
     /// The position of its line.
@@ -48,14 +48,14 @@ pub struct Found {
     pub uids: ArrayVec<Uid, 3>,
 }
 
-/// A slot in which tags answered and none was read. A log may have a million of them, which are
-/// sorted.
+/// An unread slot: tags answered in it and none was read. A log may have a million of them, which
+/// are sorted.
 #[derive(Clone, Copy)]
-pub(crate) struct Demand {
+pub(crate) struct UnreadSlot {
     /// The first key of its mask.
     pub first: u64,
-    /// How many bits its mask has, at most 56: in a longer one that holds a UID, the low 56
-    /// determine it.
+    /// How many bits its mask has, at most 56: of a longer mask that holds a UID, only the low 56
+    /// are kept, which determine the UID.
     pub len: u8,
     /// How many tags have to be there: 2 in a collision, 1 in a garbled slot.
     pub need: u8,
@@ -63,8 +63,8 @@ pub(crate) struct Demand {
     pub at: u32,
 }
 
-impl Demand {
-    /// The number by which demands are sorted: by mask, by how many tags are required, and by
+impl UnreadSlot {
+    /// The number by which they are sorted: by mask, by how many tags are required, and by
     /// position. Then those of which only the last has to be looked at are consecutive
     /// (`is_asked_again` checks it). No answer rests on this order. One number is compared faster
     /// than four.
@@ -83,24 +83,23 @@ impl Demand {
     }
 }
 
-/// Adds the demand of a slot, given the keys of its mask. Returns false, and adds nothing, if no
-/// UID lies in it.
-pub(crate) fn push_demand(
-    demands: &mut Vec<Demand>,
+/// Adds a slot, given the keys of its mask. Returns false, and adds nothing, if no UID lies in it.
+pub(crate) fn push_unread(
+    unread: &mut Vec<UnreadSlot>,
     keys: Option<KeyBlock>,
     need: u8,
     at: u32,
 ) -> Result<bool, AllocError>
     ensures some { IfOk result (λ yes. yes ≡ true → (b : KeyBlockValue) × (keys ≡ Some b)
-        × (demands.new.items ≡ demands.old.items
+        × (unread.new.items ≡ unread.old.items
         ++ record { first = b.first; len = b.len; need = need; at = at } ∷ [])) }
     ensures none { IfOk result (λ yes. yes ≡ false
-        → (keys ≡ None) × (demands.new.items ≡ demands.old.items)) }
+        → (keys ≡ None) × (unread.new.items ≡ unread.old.items)) }
 {
     let Some(KeyBlock { first, len }) = keys else {
         return Ok(false);
     };
-    demands.push(Demand {
+    unread.push(UnreadSlot {
         first,
         len,
         need,
@@ -115,40 +114,40 @@ pub(crate) fn push_demand(
 pub(crate) struct Stretch {
     /// The UIDs that its lines mention, in the order of keys.
     pub mentions: Vec<Mention>,
-    pub demands: Vec<Demand>,
+    pub unread: Vec<UnreadSlot>,
 }
 
 /// Keeps what the slots of a stretch before a position require, if they require anything, and the
-/// UIDs that its lines mention. Afterwards `mentions` and `demands` are empty.
+/// UIDs that its lines mention. Afterwards `mentions` and `unread` are empty.
 pub(crate) fn keep_stretch(
     alloc: Global,
     stretches: &mut Vec<Stretch>,
     mentions: &mut Vec<Mention>,
-    demands: &mut Vec<Demand>,
+    unread: &mut Vec<UnreadSlot>,
     cut: usize,
 ) -> Result<(), AllocError>
-    ensures kept { OnOk result (Keeps mentions.old.items demands.old.items cut
+    ensures kept { OnOk result (Keeps mentions.old.items unread.old.items cut
         stretches.old.items stretches.new.items) }
     ensures mentions { OnOk result (mentions.new.items ≡ []) }
-    ensures demands { OnOk result (demands.new.items ≡ []) }
+    ensures unread { OnOk result (unread.new.items ≡ []) }
 {
-    demands.retain(|demand| demand.place() < cut);
-    if demands.is_empty() {
+    unread.retain(|slot| slot.place() < cut);
+    if unread.is_empty() {
         mentions.clear();
         return Ok(());
     }
-    demands.sort_unstable_by_key(|demand| demand.order());
+    unread.sort_unstable_by_key(|slot| slot.order());
     // the next stretch may well have as many
     let next = Vec::with_capacity(alloc, mentions.len())?;
     stretches.push(Stretch {
         mentions: replace(mentions, next),
-        demands: replace(demands, Vec::new(alloc)),
+        unread: replace(unread, Vec::new(alloc)),
     })?;
     Ok(())
 }
 
 /// Open UIDs that answer in a slot: all if there are fewer than three, otherwise three. No slot
-/// before position `from` will be asked for.
+/// before position `from` will be looked up.
 fn answering<S: OpenSet>(
     alloc: Global,
     set: &S,
@@ -156,47 +155,45 @@ fn answering<S: OpenSet>(
     learnt: &mut Learnt,
     cursor: &mut MentionCursor,
     from: usize,
-    demand: &Demand,
+    slot: &UnreadSlot,
 ) -> Result<ArrayVec<Uid, 3>, AllocError>
     requires order { AreInOrder mentions.now }
     requires keys { HaveKeys mentions.now }
-    requires block { HasBlock demand.now }
+    requires block { HasBlock slot.now }
     requires learnt { IsLearnt (S.is_open set.now) mentions.now learnt.old }
     ensures learnt { OnOk result (IsLearnt (S.is_open set.now) mentions.now learnt.new) }
     ensures uids { IfOk result (λ uids.
-        UpToThree (λ u. (is_uid u && S.is_open set.now u) && answers_by mentions.now demand.now u)
+        UpToThree (λ u. (is_uid u && S.is_open set.now u) && answers_by mentions.now slot.now u)
         uids.items) }
 {
     let block = KeyBlock {
-        first: demand.first,
-        len: demand.len,
+        first: slot.first,
+        len: slot.len,
     };
-    up_to_three_answering(
-        alloc, set, mentions, learnt, cursor, &block, from, demand.at,
-    )
+    up_to_three_answering(alloc, set, mentions, learnt, cursor, &block, from, slot.at)
 }
 
 /// The position of the first of some slots. No answer rests on it: it says from where on it is
 /// worth knowing who answers.
-fn first_place(demands: &[Demand]) -> usize {
+fn first_place(unread: &[UnreadSlot]) -> usize {
     let mut first = usize::MAX;
-    for demand in demands {
-        first = first.min(demand.place());
+    for slot in unread {
+        first = first.min(slot.place());
     }
     first
 }
 
 /// Whether the next slot requires as many tags of the same mask, and is no earlier: if it is met,
 /// so is this one.
-fn is_asked_again(demands: &[Demand], index: usize) -> bool
-    requires { index < length demands.now }
-    ensures { result ≡ true → IsAskedAgain demands.now index }
+fn is_asked_again(unread: &[UnreadSlot], index: usize) -> bool
+    requires { index < length unread.now }
+    ensures { result ≡ true → IsAskedAgain unread.now index }
 {
-    let demand = demands[index];
-    match demands.get(index + 1) {
+    let slot = unread[index];
+    match unread.get(index + 1) {
         Some(next) => {
-            let is_same = next.first == demand.first && next.len == demand.len;
-            is_same && next.need == demand.need && demand.at <= next.at
+            let is_same = next.first == slot.first && next.len == slot.len;
+            is_same && next.need == slot.need && slot.at <= next.at
         }
         None => false,
     }
@@ -221,11 +218,11 @@ fn end_of_enough(mentions: &[Mention], at: usize, lacking: usize) -> usize {
 
 /// The UIDs in the mask of a slot that the lines mention and the log leaves open; none if that
 /// isn't known.
-fn known_mentions<'a>(learnt: &'a Learnt, demand: &Demand) -> &'a [Mention]
+fn known_mentions<'a>(learnt: &'a Learnt, slot: &UnreadSlot) -> &'a [Mention]
     requires order { IfSome learnt.now.known (λ k. AreInOrder k.mentioned.items) }
-    requires block { HasBlock demand.now }
+    requires block { HasBlock slot.now }
 {
-    let Demand { first, len, .. } = *demand;
+    let UnreadSlot { first, len, .. } = *slot;
     match &learnt.known {
         Some(known) => {
             let start = start_of(&known.mentioned, first);
@@ -241,49 +238,50 @@ fn known_mentions<'a>(learnt: &'a Learnt, demand: &Demand) -> &'a [Mention]
 }
 
 /// The index of the slot that seems to be the first unmet one, from index `from` on. Those of one
-/// mask that require as many tags are in order: the last one shows how many are missing there, and
-/// the others lack theirs as soon as one of that many more is Quiet.
+/// mask that require as many tags are in order. The last of them shows how many tags are missing;
+/// the earlier ones lack some from where so many more UIDs were no longer Ready.
 fn guess_unmet<S: OpenSet>(
     alloc: Global,
     set: &S,
     mentions: &[Mention],
     learnt: &mut Learnt,
-    demands: &[Demand],
+    unread: &[UnreadSlot],
     from: usize,
 ) -> Result<usize, AllocError>
     requires order { AreInOrder mentions.now }
     requires keys { HaveKeys mentions.now }
-    requires blocks { All HasBlock demands.now }
+    requires blocks { All HasBlock unread.now }
     requires learnt { IsLearnt (S.is_open set.now) mentions.now learnt.old }
     ensures learnt { OnOk result (IsLearnt (S.is_open set.now) mentions.now learnt.new) }
 {
+    // so that what is learnt is about all mentions, as `known_mentions` needs it
     learnt.spare = 0;
-    let first_asked = first_place(demands);
+    let first_place = first_place(unread);
     let mut guess = from;
     let mut least = usize::MAX;
     let mut start = from;
     let mut cursor = MentionCursor::first();
-    for index in from..demands.len() {
-        if !is_asked_again(demands, index) {
-            let demand = demands[index];
+    for index in from..unread.len() {
+        if !is_asked_again(unread, index) {
+            let slot = unread[index];
             let uids = answering(
                 alloc,
                 set,
                 mentions,
                 learnt,
                 &mut cursor,
-                first_asked,
-                &demand,
+                first_place,
+                &slot,
             )?;
-            let need = usize::from(demand.need);
+            let need = usize::from(slot.need);
             if uids.len() < need {
-                let inside = known_mentions(learnt, &demand);
-                let end = end_of_enough(inside, demand.place(), need - uids.len());
-                let group = &demands[start..index];
+                let inside = known_mentions(learnt, &slot);
+                let end = end_of_enough(inside, slot.place(), need - uids.len());
+                let group = &unread[start..index];
                 let first = start + group.partition_point(|earlier| earlier.place() < end);
-                if demands[first].place() < least {
+                if unread[first].place() < least {
                     guess = first;
-                    least = demands[first].place();
+                    least = unread[first].place();
                 }
             }
             start = index + 1;
@@ -292,28 +290,28 @@ fn guess_unmet<S: OpenSet>(
     Ok(guess)
 }
 
-/// The position of the first unmet slot from index `from` on, if the guess is right; otherwise that
-/// of `unmet`, which is known to be unmet. The slots are ordered by mask, not by position, so
-/// those after that one are looked at too.
+/// The position of the first unmet slot from index `from` on, if the guess is right; otherwise
+/// `unmet`, the position of a slot that is known to be unmet. The slots are ordered by mask, not by
+/// position, so those after that one are looked at too.
 fn first_unmet<S: OpenSet>(
     alloc: Global,
     set: &S,
     mentions: &[Mention],
     learnt: &mut Learnt,
-    demands: &[Demand],
+    unread: &[UnreadSlot],
     from: usize,
     unmet: usize,
 ) -> Result<usize, AllocError>
     requires order { AreInOrder mentions.now }
     requires keys { HaveKeys mentions.now }
-    requires blocks { All HasBlock demands.now }
+    requires blocks { All HasBlock unread.now }
     requires learnt { IsLearnt (S.is_open set.now) mentions.now learnt.old }
-    requires unmet { IsUnmetAt (S.is_open set.now) mentions.now demands.now unmet }
-    ensures { IfOk result (IsUnmetAt (S.is_open set.now) mentions.now demands.now) }
+    requires unmet { IsUnmetAt (S.is_open set.now) mentions.now unread.now unmet }
+    ensures { IfOk result (IsUnmetAt (S.is_open set.now) mentions.now unread.now) }
 {
-    let guess = guess_unmet(alloc, set, mentions, learnt, demands, from)?;
-    if guess < demands.len() {
-        let demand = demands[guess];
+    let guess = guess_unmet(alloc, set, mentions, learnt, unread, from)?;
+    if guess < unread.len() {
+        let slot = unread[guess];
         let mut cursor = MentionCursor::first();
         let uids = answering(
             alloc,
@@ -321,54 +319,47 @@ fn first_unmet<S: OpenSet>(
             mentions,
             learnt,
             &mut cursor,
-            demand.place(),
-            &demand,
+            slot.place(),
+            &slot,
         )?;
-        if uids.len() < usize::from(demand.need) {
-            return Ok(demand.place());
+        if uids.len() < usize::from(slot.need) {
+            return Ok(slot.place());
         }
     }
     Ok(unmet)
 }
 
-/// Finds what meets slots. Returns the position of the first unmet one, if one is unmet.
+/// Finds what meets slots. Returns the position of an unmet one, if one is unmet: of the first, if
+/// the guess is right.
 fn meet_each<S: OpenSet>(
     alloc: Global,
     set: &S,
     mentions: &[Mention],
-    demands: &[Demand],
+    unread: &[UnreadSlot],
     found: &mut Vec<Found>,
 ) -> Result<Option<usize>, AllocError>
     requires order { AreInOrder mentions.now }
     requires keys { HaveKeys mentions.now }
-    requires blocks { All HasBlock demands.now }
+    requires blocks { All HasBlock unread.now }
     ensures met { IfOk result (λ r. (es : List EntryValue)
         → SameUids (S.is_open set.now) (is_open (slots_of es))
-        → All (IsDemandBy es mentions.now) demands.now → r ≡ None
-        → AreMet es demands.now found.old.items found.new.items) }
+        → All (IsUnreadSlotBy es mentions.now) unread.now → r ≡ None
+        → AreMet es unread.now found.old.items found.new.items) }
     ensures unmet { IfOk result (λ r. IfSome r
-        (IsUnmetAt (S.is_open set.now) mentions.now demands.now)) }
+        (IsUnmetAt (S.is_open set.now) mentions.now unread.now)) }
 {
-    let from = first_place(demands);
+    let from = first_place(unread);
     let mut learnt = Learnt::nothing(mentions);
     let mut start = 0;
     let mut cursor = MentionCursor::first();
-    for index in 0..demands.len() {
-        if !is_asked_again(demands, index) {
-            let demand = demands[index];
-            let uids = answering(
-                alloc,
-                set,
-                mentions,
-                &mut learnt,
-                &mut cursor,
-                from,
-                &demand,
-            )?;
-            let at = demand.place();
-            let need = usize::from(demand.need);
+    for index in 0..unread.len() {
+        if !is_asked_again(unread, index) {
+            let slot = unread[index];
+            let uids = answering(alloc, set, mentions, &mut learnt, &mut cursor, from, &slot)?;
+            let at = slot.place();
+            let need = usize::from(slot.need);
             if uids.len() < need {
-                let at = first_unmet(alloc, set, mentions, &mut learnt, demands, start, at)?;
+                let at = first_unmet(alloc, set, mentions, &mut learnt, unread, start, at)?;
                 return Ok(Some(at));
             }
             found.push(Found { at, need, uids })?;
@@ -378,9 +369,9 @@ fn meet_each<S: OpenSet>(
     Ok(None)
 }
 
-/// What meets the slots of a log in which tags answered and none was read, by the UIDs that it
-/// leaves open; or the position of a slot that lacks what it requires. It is the first such slot,
-/// which saves judging the log again; no answer rests on that.
+/// What meets the unread slots of a log, by the UIDs that it leaves open; or the position of a slot
+/// that lacks what it requires. It is the first such slot, which saves judging the log again; no
+/// answer rests on that.
 pub(crate) fn meet_stretches<S: OpenSet>(
     alloc: Global,
     set: &S,
@@ -395,7 +386,7 @@ pub(crate) fn meet_stretches<S: OpenSet>(
 {
     let mut found = Vec::new(alloc);
     for stretch in stretches {
-        let unmet = meet_each(alloc, set, &stretch.mentions, &stretch.demands, &mut found)?;
+        let unmet = meet_each(alloc, set, &stretch.mentions, &stretch.unread, &mut found)?;
         if let Some(at) = unmet {
             return Ok(Err(at));
         }

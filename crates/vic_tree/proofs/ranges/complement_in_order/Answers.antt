@@ -1,7 +1,7 @@
 use Rattle.vic_tree.proofs.Words.{◌≡◌, ◌∙◌, ℕ, ◌+◌, ◌-◌, ◌<◌, ◌≤◌, ◌||◌, false, take, drop, length, ◌∷◌, ◌^◌, max, sym, ap, subst, List, arith, not, Bool, take_more_set, length-set, drop-set-lt, drop_more, drop_more_same, in_ranges, is_between, nat_tests, IsNonDecreasingBy, IsNonDecreasingBy-drop}
 use Rattle.vic_tree.proofs.RangeLaws.{no_run, none_ahead, ranges_pushed, run_pushed}
-use Rattle.vic_tree.proofs.ranges.between.Goals as goal
-use Rattle.vic_tree.proofs.ranges.between.Goals.{then-from-first, else-from-first, then-from+in_ok-push, else-from}
+use Rattle.vic_tree.proofs.ranges.complement_in_order.Goals as goal
+use Rattle.vic_tree.proofs.ranges.complement_in_order.Goals.{then-from-first, else-from-first, then-from+in_ok-push, else-from}
 
 -- a key from `from` on: whether it is in a range at all, from the next one on, and behind that, from x to y
 module _ (all ahead behind : Bool) (from x y to k : ℕ) (reach : to ≡ max from (y + 1)) (low : from ≤ k) (same : ahead ≡ all) (next : ahead ≡ (is_between x y k || behind)) where

@@ -1,5 +1,5 @@
 use Rattle.vic_verdict.proofs.Words.{◌≤◌, IsLearnt}
-use Rattle.vic_verdict.proofs.demands.guess_unmet.Given as goal
+use Rattle.vic_verdict.proofs.unread_slots.guess_unmet.Given as goal
 
 abbrev pub invariant-loop-index : goal.invariant-loop-index
 invariant-loop-index g l = record {

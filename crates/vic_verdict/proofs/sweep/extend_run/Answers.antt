@@ -1,11 +1,11 @@
-use Rattle.vic_verdict.proofs.Words.{sym, mask_leaves, ◌≡◌, ◌&&◌, ◌∙◌, ℕ, ap, subst, Some, Option, Run, level_leaves, keep_all, run_leaves, AreInOrder, slot_leaves, read_leaves}
+use Rattle.vic_verdict.proofs.Words.{sym, mask_leaves}
 use Rattle.vic_verdict.proofs.Sweeping.{keep-order, keep_none, run_next}
-use Rattle.vic_verdict.proofs.sweep.pass_read.Goals.{in-Some+else-r-first, in_default, in-Some+else-eq}
-use Rattle.vic_verdict.proofs.sweep.pass_read.Goals as goal
+use Rattle.vic_verdict.proofs.sweep.extend_run.Goals.{in-Some+else-eq, in_default}
+use Rattle.vic_verdict.proofs.sweep.extend_run.Goals as goal
 
 pub returns-clause-order : goal.returns-clause-order
 returns-clause-order c = elim c.match-run.branch [
-  | in-Some+else-eq w ↦ rw (w.mentions-is, w.rule_out.ensures) (keep-order (mask_leaves w.in-Some.before.keys.0 w.in-Some.before.keys.1 w.in-Some.before.level) c.args.mentions.now c.requires.order)
+  | in-Some+else-eq w ↦ rw (w.mentions-is, w.rule_out.ensures) (keep-order (mask_leaves w.in-Some.before.keys.0 w.in-Some.before.keys.1 w.in-Some.before.summary) c.args.mentions.now c.requires.order)
   | in_default w ↦ rw w.mentions-is c.requires.order
 ]
 

@@ -1,9 +1,0 @@
-use Rattle.vic_verdict.proofs.Words.{List, All, IsLearnt, SameUids, Entry, slots_of, is_open, IsDemandBy}
-use Rattle.vic_verdict.proofs.Demanding.{AreMetTo}
-use Rattle.vic_verdict.proofs.demands.meet_each.Given as goal
-
-abbrev pub invariant-loop-index : goal.invariant-loop-index
-invariant-loop-index g l = record {
-  learnt : IsLearnt (g.S.OpenSet.is_open l.set) l.mentions l.learnt;
-  met : (es : List Entry) → SameUids (g.S.OpenSet.is_open l.set) (is_open (slots_of es)) → All (IsDemandBy es l.mentions) l.demands → AreMetTo es l.demands l.index l.fn.found.items l.found.items;
-}
