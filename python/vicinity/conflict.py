@@ -27,15 +27,15 @@ class Contradiction(NamedTuple):
 def contradiction(session: Session, told: Told) -> Contradiction:
     """What the conflict of an impossible log says."""
     slots = [session.slots[number] for number in told.conflict if number in session.slots]
-    demand = next((slot for slot in slots if slot.reading in (Reading.COLLISION, Reading.GARBLED)), None)
+    unread = next((slot for slot in slots if slot.reading in (Reading.COLLISION, Reading.GARBLED)), None)
     heard = [slot for slot in slots if slot.reading is Reading.HEARD]
-    others = [slot for slot in slots if slot is not (demand or heard[0])]
+    others = [slot for slot in slots if slot is not (unread or heard[0])]
     if told.silenced:
         return _woke(told, heard[-1])
     if not others:
         return _alone(session, slots[0])
-    if demand:
-        return _unmet(session, told, demand, others)
+    if unread:
+        return _unmet(session, told, unread, others)
     return _hidden(heard[0], heard[-1]) if len(heard) > 1 else _lost(session, heard[0], others[0])
 
 
@@ -88,29 +88,29 @@ def _hidden(first: Slot, last: Slot) -> Contradiction:
         "Move the two apart or lower the gain, and ask in sixteen slots, so that fewer tags answer at once.")
 
 
-def _unmet(session: Session, told: Told, demand: Slot, others: Sequence[Slot]) -> Contradiction:
-    rest = [number for number in told.conflict if number != demand.line]
-    is_collision = demand.reading is Reading.COLLISION
-    said = (f"in line {demand.line} {'two or more tags' if is_collision else 'a tag'} answered, but {lines(rest)} "
+def _unmet(session: Session, told: Told, unread: Slot, others: Sequence[Slot]) -> Contradiction:
+    rest = [number for number in told.conflict if number != unread.line]
+    is_collision = unread.reading is Reading.COLLISION
+    said = (f"in line {unread.line} {'two or more tags' if is_collision else 'a tag'} answered, but {lines(rest)} "
             f"leave{'s' * (len(rest) == 1)} {'at most one' if is_collision else 'none'}.")
     noise = NOISE if is_collision else NOISE_UNREAD
-    if demand.line > rest[-1]:
-        causes = [noise, f"A tag came into the field before line {demand.line}.", *[WOKE] * bool(session.counts.quiets)]
+    if unread.line > rest[-1]:
+        causes = [noise, f"A tag came into the field before line {unread.line}.", *[WOKE] * bool(session.counts.quiets)]
     else:
         lost = "A later reply of a tag of that slot was lost, so the later slot was logged as silent."
-        causes = [_unheard(session, demand, others) or lost, noise, f"A tag left the field after line {demand.line}."]
+        causes = [_unheard(session, unread, others) or lost, noise, f"A tag left the field after line {unread.line}."]
     if len(others) == 1 and others[0].uid is not None and is_collision:
         causes.insert(1, f"A strong reply in line {others[0].line} hid a weaker one.")
     causes.append(SECOND_READER)
-    return Contradiction(said, causes, f"Ask for the tags of line {demand.line} again, in sixteen slots.",
-                         [ask(session.link, 16 if demand.mask.length <= UID_BITS else 1, demand.mask)])
+    return Contradiction(said, causes, f"Ask for the tags of line {unread.line} again, in sixteen slots.",
+                         [ask(session.link, 16 if unread.mask.length <= UID_BITS else 1, unread.mask)])
 
 
-def _unheard(session: Session, demand: Slot, others: Sequence[Slot]) -> Optional[str]:
+def _unheard(session: Session, unread: Slot, others: Sequence[Slot]) -> Optional[str]:
     """A tag of a collision that was silenced later and never heard, and the silent slot in which it would have answered."""
     for line, number in session.unheard:
         slot = next((it for it in others if it.line < line and it.reading is Reading.SILENT and has(it.mask, number)), None)
-        if slot and has(demand.mask, number):
+        if slot and has(unread.mask, number):
             return f"The reply of {uid(number)} in line {slot.line} was lost: line {line} silences it, but it was never heard."
     return None
 

@@ -56,5 +56,5 @@ def _last_digits(masks: Iterable[Mask]) -> Counter[int]:
 def _contradicted(session: Session) -> Iterable[Mask]:
     """What lines that contradict each other are about: the mask that needs more tags than are left, or the UIDs heard."""
     slots = list(session.slots.values())
-    demands = [slot.mask for slot in slots if slot.reading in (Reading.COLLISION, Reading.GARBLED)]
-    return demands or [Mask(64, slot.uid) for slot in slots if slot.uid is not None]
+    unread = [slot.mask for slot in slots if slot.reading in (Reading.COLLISION, Reading.GARBLED)]
+    return unread or [Mask(64, slot.uid) for slot in slots if slot.uid is not None]
