@@ -2,7 +2,7 @@
 use Rattle.vic_tree.proofs.Words.{◌≡◌, ℕ, ◌+◌, ◌-◌, ◌*◌, ◌/◌, ◌^◌, ◌%◌, ◌<◌, ◌≤◌, ◌⊎◌, ◌↔◌, inl, inr, Bool, false, List, Option, Some, IfSome, sym, ap, subst, ◌∙◌, arith, pow_pos, same_from_place, lt_of_mul-lt-mul_right, cases_lt, cases_eq, BitMask, IsMask, mirror, mirror_bits, mirror_below, IsOpenMask, parent, AllOpen, without_keys, IsGreatestIn, IsOpenBelow, is_open_in, HoldsMask, IsFirstRun, is_left, mirror_split, mirror_mod, IsGreatestAt, IsOpenBlock, AllKeysPass}
 use Rattle.vic_tree.proofs.BlockLaws.{IsBlockMask, not_before, number_of_mask, twice, FirstBlock, value_is}
 use Rattle.vic_tree.proofs.FirstMasks.{same_mask}
-use Rattle.vic_tree.proofs.GapLaws.{first_passes, in_gap, in_run, keys_open}
+use Rattle.vic_tree.proofs.BesidesLaws.{first_passes, in_gap, in_run, keys_open}
 
 -- where a mask stands in its parent, by the number of its block
 pub record InParent (m : BitMask) : Type 0 where

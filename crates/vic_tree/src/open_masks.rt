@@ -16,7 +16,7 @@ ghost use Rattle.vic_tree.specs.Ranges.{AreRanges, is_open_in};
 
 use crate::blocks::{least_len, mask_of_block, size_of_block};
 use crate::key_range::KeyRange;
-use crate::left::Left;
+use crate::runs::Runs;
 use arrayvec::ArrayVec;
 use std::alloc::{AllocError, Global};
 use vic_frame::{Mask, UID_BITS};
@@ -53,7 +53,7 @@ pub(crate) fn open_masks_besides(ranges: &[KeyRange], keys: &[u64]) -> OpenMasks
         × (¬ (Contains result.masks.items m)) }
 {
     let mut kept = ArrayVec::new();
-    let mut left = Left::new(0, ranges, keys);
+    let mut left = Runs::new(0, ranges, keys);
     while let Some(run) = left.next_run() {
         keep_in_run(&mut kept, run.first(), run.last());
     }
@@ -110,7 +110,7 @@ pub(crate) fn all_open_masks_besides(
         (IsOpenMask (without_keys (is_open_in ranges.now) keys.now)) masks.items) }
 {
     let mut masks = Vec::new(alloc);
-    let mut left = Left::new(0, ranges, keys);
+    let mut left = Runs::new(0, ranges, keys);
     while let Some(run) = left.next_run() {
         push_in_run(&mut masks, run.first(), run.last())?;
     }

@@ -10,8 +10,8 @@ use std::alloc::{AllocError, Global};
 use vic_frame::Uid;
 use vic_frame::low_bits_first::uid_at;
 
-/// The UIDs with some keys, which come in order, that aren't in a set, from the least to the
-/// greatest.
+/// The UIDs with some keys that aren't in a set, from the least to the greatest. The keys are in
+/// order.
 pub fn uids_outside<S: OpenSet>(
     alloc: Global,
     set: &S,

@@ -10,7 +10,7 @@ ghost use Rattle.vic_tree.specs.OpenSet.{AreKeys, SameUids, settled, without_key
 ghost use Rattle.vic_tree.specs.OpenMasks.{AreAll, AreFirst, IsOpenMask};
 ghost use Rattle.vic_tree.specs.Ranges.{AreRanges, is_between, is_open_in};
 
-use crate::gaps::{gather_besides, widest_besides};
+use crate::besides::{gather_besides, widest_besides};
 use crate::key_range::KeyRange;
 use crate::open_masks::{MAX_OPEN_MASKS, OpenMasks, all_open_masks_besides, open_masks_besides};
 use crate::open_set::OpenSet;

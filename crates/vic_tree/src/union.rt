@@ -11,9 +11,9 @@ ghost use Rattle.vic_tree.specs.Ranges.{AreRanges, in_ranges, is_open_in};
 ghost use Rattle.vic_tree.specs.inner.Ranges.{is_left};
 
 use crate::key_range::KeyRange;
-use crate::left::Left;
 use crate::range_set::RangeSet;
 use crate::ranges::{complement, complement_in_order};
+use crate::runs::Runs;
 use std::alloc::{AllocError, Global};
 use vic_frame::Mask;
 use vic_frame::low_bits_first::keys_of;
@@ -57,7 +57,7 @@ fn left_of(alloc: Global, ranges: &[KeyRange], keys: &[u64]) -> Result<Vec<KeyRa
         → in_ranges runs.items k ≡ is_left ranges.now keys.now k) }
 {
     let mut runs = Vec::new(alloc);
-    let mut left = Left::new(0, ranges, keys);
+    let mut left = Runs::new(0, ranges, keys);
     while let Some(run) = left.next_run() {
         runs.push(run)?;
     }

@@ -1,6 +1,6 @@
 use Rattle.vic_tree.proofs.Words.{◌≡◌, ◌∙◌, ℕ, ◌+◌, ◌-◌, ◌<◌, ◌≤◌, ◌&&◌, drop, get_or, length, arith, nat_lt, ◌∷◌, ◌||◌, or-false, le-ltb, refl, sym, ap, true, false, List, not, nat_eq, eq-eqb, Bool, drop_all, drop_more, in_ranges, is_between, nat_tests, has, list_any_at, IsNonDecreasingBy-drop}
 use Rattle.vic_tree.proofs.BoolLaws.{lt_yes}
-use Rattle.vic_tree.proofs.LeftLaws.{is_before_all, is_behind}
+use Rattle.vic_tree.proofs.RunLaws.{is_before_all, is_behind}
 use Rattle.vic_tree.proofs.RangeLaws.{in_pushed, inside_is}
 use Rattle.vic_tree.proofs.ranges.push_others.Goals as goal
 use Rattle.vic_tree.proofs.ranges.push_others.Goals.{then-from-key+in_ok-push, else-from-key}

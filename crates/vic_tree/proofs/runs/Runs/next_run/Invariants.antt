@@ -1,5 +1,5 @@
 use Rattle.vic_tree.proofs.Words.{◌≡◌, ℕ, ◌<◌, ◌≤◌, Bool, false, length, IsNonDecreasing, AreRanges, PassFrom, AreKeys}
-use Rattle.vic_tree.proofs.left.Left.next_run.Given as goal
+use Rattle.vic_tree.proofs.runs.Runs.next_run.Given as goal
 
 abbrev pub invariant-loop-range : goal.invariant-loop-range
 invariant-loop-range l = record {

@@ -1,6 +1,6 @@
 use Rattle.vic_tree.proofs.Words.{is_left}
-use Rattle.vic_tree.proofs.GapLaws.{all_found, run_found}
-use Rattle.vic_tree.proofs.gaps.widest_besides.Goals as goal
+use Rattle.vic_tree.proofs.BesidesLaws.{all_found, run_found}
+use Rattle.vic_tree.proofs.besides.widest_besides.Goals as goal
 
 pub loop-run-preserved : goal.loop-run-preserved
 loop-run-preserved c =

@@ -1,6 +1,6 @@
 use Rattle.vic_tree.proofs.Words.{◌≡◌, get_or, rules, arith}
-use Rattle.vic_tree.proofs.LeftLaws.{is_before_all}
-use Rattle.vic_tree.proofs.left.run_from.Goals as goal
+use Rattle.vic_tree.proofs.RunLaws.{is_before_all}
+use Rattle.vic_tree.proofs.runs.run_from.Goals as goal
 
 pub returns-in-Some-clause-free : goal.returns-in-Some-clause-free
 returns-in-Some-clause-free c k le =

@@ -1,5 +1,5 @@
 use Rattle.vic_tree.proofs.Words.{◌+◌, ◌-◌, ◌^◌, PassFrom, is_left, IsFoundBelow}
-use Rattle.vic_tree.proofs.gaps.widest_besides.Given as goal
+use Rattle.vic_tree.proofs.besides.widest_besides.Given as goal
 
 abbrev pub invariant-loop-run : goal.invariant-loop-run
 invariant-loop-run l = record {

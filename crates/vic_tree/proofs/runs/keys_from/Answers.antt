@@ -1,6 +1,6 @@
 use Rattle.vic_tree.proofs.Words.{◌∙◌, ◌-◌, drop, take, length, ltb, ltb-true, ap, rules, arith, length-drop, length-take-le, take_all, get_or-take, has, IsNonDecreasingBy-take, IsPartitionPoint-from_clause, IsPartitionedBy-ltb}
-use Rattle.vic_tree.proofs.LeftLaws.{keys_dropped}
-use Rattle.vic_tree.proofs.left.keys_from.Goals as goal
+use Rattle.vic_tree.proofs.RunLaws.{keys_dropped}
+use Rattle.vic_tree.proofs.runs.keys_from.Goals as goal
 
 pub returns-clause-same : goal.returns-clause-same
 returns-clause-same c k le =

@@ -11,13 +11,13 @@ ghost use Rattle.vic_tree.specs.inner.Ranges.{IsFreeInRanges, is_passed};
 use crate::blocks::widest_with;
 use crate::gather_keys::gather_keys;
 use crate::key_range::KeyRange;
-use crate::left::Left;
 use crate::ranges::from_key;
+use crate::runs::Runs;
 use arrayvec::ArrayVec;
 use vic_frame::{Mask, Uid};
 
 /// Appends the UIDs with keys from `first` to `last` that are in some ranges, aren't exceptions and
-/// don't have one of some keys.
+/// don't have one of some keys, until there are three.
 pub(crate) fn gather_besides(
     out: &mut ArrayVec<Uid, 3>,
     except: &[Uid],
@@ -34,7 +34,7 @@ pub(crate) fn gather_besides(
     ensures { Gathers (IsFreeInRanges ranges.now first last
         (is_passed except.now keys.now)) out.old.items out.new.items }
 {
-    let mut left = Left::new(first, from_key(ranges, first), keys);
+    let mut left = Runs::new(first, from_key(ranges, first), keys);
     while let Some(run) = left.next_run() {
         if last < run.first() || out.is_full() {
             return;
@@ -54,7 +54,7 @@ pub(crate) fn widest_besides(ranges: &[KeyRange], keys: &[u64]) -> Option<Mask>
         (SameUids (without_keys (is_open_in ranges.now) keys.now) (λ _. false)) }
 {
     let mut widest: Option<Mask> = None;
-    let mut left = Left::new(0, ranges, keys);
+    let mut left = Runs::new(0, ranges, keys);
     while let Some(run) = left.next_run() {
         widest = Some(widest_with(widest, run.first(), run.last()));
     }

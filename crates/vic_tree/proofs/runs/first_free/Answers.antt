@@ -1,6 +1,6 @@
 use Rattle.vic_tree.proofs.Words.{◌≡◌, ◌∙◌, suc, ◌∷◌, inl, inr, sym, arith, cases_lt}
-use Rattle.vic_tree.proofs.LeftLaws.{is_behind, is_first}
-use Rattle.vic_tree.proofs.left.first_free.Goals as goal
+use Rattle.vic_tree.proofs.RunLaws.{is_behind, is_first}
+use Rattle.vic_tree.proofs.runs.first_free.Goals as goal
 
 pub loop-key-preserved : goal.loop-key-preserved
 loop-key-preserved c =

@@ -1,5 +1,5 @@
 use Rattle.vic_tree.proofs.Words.{◌<◌, ◌≤◌, ◌+◌, ◌-◌, ◌^◌, mirror, Gathers, PassFrom, is_left, IsFreeInRanges, is_passed}
-use Rattle.vic_tree.proofs.gaps.gather_besides.Given as goal
+use Rattle.vic_tree.proofs.besides.gather_besides.Given as goal
 
 abbrev pub invariant-loop-run : goal.invariant-loop-run
 invariant-loop-run l = record {

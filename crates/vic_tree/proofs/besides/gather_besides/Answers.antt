@@ -1,6 +1,6 @@
 use Rattle.vic_tree.proofs.Words.{arith, is_left}
-use Rattle.vic_tree.proofs.GapLaws.{all_gathered, run_gathered}
-use Rattle.vic_tree.proofs.gaps.gather_besides.Goals as goal
+use Rattle.vic_tree.proofs.BesidesLaws.{all_gathered, run_gathered}
+use Rattle.vic_tree.proofs.besides.gather_besides.Goals as goal
 
 pub loop-run-preserved : goal.loop-run-preserved
 loop-run-preserved c =

@@ -13,15 +13,15 @@ ghost use Rattle.vic_tree.specs.inner.Ranges.{IsFirstRun, PassFrom};
 use crate::key_range::KeyRange;
 use std::marker::Model;
 
-/// The keys, from key `from` on, that are in some ranges and not in a list.
+/// The runs of the keys, from key `from` on, that are in some ranges and not in a list.
 #[derive(Drop)]
-pub(crate) struct Left<'a> {
+pub(crate) struct Runs<'a> {
     from: u64,
     ranges: &'a [KeyRange],
     keys: &'a [u64],
 }
 
-impl<'a> Model for Left<'a> {
+impl<'a> Model for Runs<'a> {
     ghost use Rattle.std.specs.Prelude.{ℕ, List};
     ghost use Rattle.std.specs.List.Sorted.{IsNonDecreasing};
     ghost use Rattle.vic_tree.specs.OpenSet.{AreKeys};
@@ -35,15 +35,15 @@ impl<'a> Model for Left<'a> {
         × IsNonDecreasing a.keys.now };
 }
 
-impl<'a> Left<'a> {
-    /// The keys from key `from` on that are in `ranges` and not in `keys`.
-    pub(crate) fn new(from: u64, ranges: &'a [KeyRange], keys: &'a [u64]) -> Left<'a>
+impl<'a> Runs<'a> {
+    /// Those of the keys from key `from` on that are in `ranges` and not in `keys`.
+    pub(crate) fn new(from: u64, ranges: &'a [KeyRange], keys: &'a [u64]) -> Runs<'a>
         requires ranges { AreRanges ranges.now }
         requires keys { AreKeys keys.now }
         requires order { IsNonDecreasing keys.now }
         ensures { result ≡ (from, ranges.now, keys.now) }
     {
-        Left { from, ranges, keys }
+        Runs { from, ranges, keys }
     }
 
     /// Takes out their first run: consecutive keys, neither neighbour of which is left.
@@ -65,7 +65,7 @@ impl<'a> Left<'a> {
                 let run = run_from(from, range.last(), keys);
                 // the key after a run isn't left
                 from = run.last() + 2;
-                *self = Left { from, ranges, keys };
+                *self = Runs { from, ranges, keys };
                 return Some(run);
             }
             ranges = others;

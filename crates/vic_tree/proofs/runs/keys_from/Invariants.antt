@@ -1,5 +1,5 @@
 use Rattle.vic_tree.proofs.Words.{◌<◌, ◌-◌, length}
-use Rattle.vic_tree.proofs.left.keys_from.Given as goal
+use Rattle.vic_tree.proofs.runs.keys_from.Given as goal
 
 abbrev pub invariant-loop-near : goal.invariant-loop-near
 invariant-loop-near l = 0 < l.near

@@ -1,5 +1,5 @@
 use Rattle.vic_tree.proofs.Words.{◌≡◌, ℕ, ◌<◌, ◌≤◌, true, length, IsNonDecreasing, has, AreKeys}
-use Rattle.vic_tree.proofs.left.first_free.Given as goal
+use Rattle.vic_tree.proofs.runs.first_free.Given as goal
 
 abbrev pub invariant-loop-key : goal.invariant-loop-key
 invariant-loop-key l = record {

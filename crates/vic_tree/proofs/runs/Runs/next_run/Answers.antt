@@ -1,7 +1,7 @@
 use Rattle.vic_tree.proofs.Words.{◌∙◌, ℕ, List, inl, inr, ap, arith, cases_lt, is_left, nil_from_length}
-use Rattle.vic_tree.proofs.LeftLaws.{is_first_run, none_passed, pass_others}
+use Rattle.vic_tree.proofs.RunLaws.{is_first_run, none_passed, pass_others}
 use Rattle.vic_tree.proofs.RangeLaws.{from_lower}
-use Rattle.vic_tree.proofs.left.Left.next_run.Goals as goal
+use Rattle.vic_tree.proofs.runs.Runs.next_run.Goals as goal
 
 pub returns-then-from-last-clause-run : goal.returns-then-from-last-clause-run
 returns-then-from-last-clause-run c p h =
