@@ -33,13 +33,13 @@ doubtful_left set certain us some absent doubtful sets same uids out un l u h =
 told_at : (expected : List ℕ) (logs : List (List LogLine)) (r : Reconciliation) (s : UnlistedUid) → IsJoined expected logs r → tree.get nat_cmp r.certain s.uid ≡ Some s.place → IsToldOf logs s
 told_at expected logs r s j e = subst (λ o. MatchOption o (IsCertainInNone logs s.uid) (IsFirstTold logs s.uid)) e (j.certain s.uid)
 
-asked_as : (expected : List ℕ) (logs : List (List LogLine)) (r : Reconciliation) (certain : List ℕ) (m : Option BitMask) (x : Option Unsettled) → IsJoined expected logs r → IsListOf (IsCertainUid logs) certain
+needed_as : (expected : List ℕ) (logs : List (List LogLine)) (r : Reconciliation) (certain : List ℕ) (m : Option BitMask) (x : Option Unsettled) → IsJoined expected logs r → IsListOf (IsCertainUid logs) certain
     → MatchOption m (NoSuch (IsUnsettled expected logs)) (IsFirstMask (IsUnsettled expected logs))
     → IfNone m (x ≡ None) → IfSome m (λ k. MatchOption x ⊥ (IsLeftToAsk certain r.left.items k))
     → MatchOption x (NoSuch (IsUnsettled expected logs)) (IsUnsettledWith expected logs)
-asked_as expected logs r certain None x j l none e s = subst (λ y. MatchOption y (NoSuch (IsUnsettled expected logs)) (IsUnsettledWith expected logs)) (sym e) none
-asked_as expected logs r certain (Some m) None j l first e s = absurd s
-asked_as expected logs r certain (Some m) (Some x) j l first e s = record {
+needed_as expected logs r certain None x j l none e s = subst (λ y. MatchOption y (NoSuch (IsUnsettled expected logs)) (IsUnsettledWith expected logs)) (sym e) none
+needed_as expected logs r certain (Some m) None j l first e s = absurd s
+needed_as expected logs r certain (Some m) (Some x) j l first e s = record {
   mask = subst (IsFirstMask (IsUnsettled expected logs)) (sym s.mask) first;
   open_masks = all_open_masks logs logs r.left.items certain x.masks.items (λ u i. l.members u) (λ k d lt u c. certain_by logs u (any_at (IsCertainIn u) logs k _ (slice_get-get_or logs k d lt) c)) j.left s.masks;
 }
@@ -66,7 +66,7 @@ findings_of expected logs r all certain some doubtful d f j rising members same 
       absent = subst (λ v. IsListOf (IsAbsent expected logs) v.items) (sym is) found.absent;
       unlisted = subst (IsListOf (IsUnlisted expected logs)) (sym placed) found.unlisted;
       unlisted_shown = λ k s lt. told_at expected logs r (get_or f.unlisted.items k s) j (places k s lt);
-      unsettled = asked_as expected logs r certain d.unsettled f.unsettled j facts.must found.unsettled none asked;
+      unsettled = needed_as expected logs r certain d.unsettled f.unsettled j facts.must found.unsettled none asked;
       doubtful = subst (IsListOf (IsDoubtful expected logs)) (sym firsts) doubts;
       doubtful_first = λ k s lt.
           let x = get_or f.doubtful.items k s in

@@ -19,7 +19,7 @@ use vic_log::{Log, PackedLine};
 use vic_tree::RangeSet;
 use vic_tree::rising::put_in_order;
 use vic_verdict::{
-    Facts, Verdict, compare, facts_of, first_impossible_line, judge_told, keys_in_order,
+    Facts, Verdict, compare, facts_of, first_finding, first_impossible_line, keys_in_order,
     missing_from,
 };
 
@@ -87,7 +87,7 @@ fn survey_facts(
     } = facts;
     let keys = keys_in_order(alloc, &certain)?;
     let left = open.besides(alloc, &keys)?;
-    let verdict = judge_told(alloc, open, &certain, lines)?;
+    let verdict = first_finding(alloc, open, &certain, lines)?;
     Ok(Survey {
         verdict,
         certain,

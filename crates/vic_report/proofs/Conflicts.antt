@@ -1,5 +1,5 @@
 -- Slot lines that no population fits together: all up to the first impossible line do.
-use Rattle.vic_report.proofs.Words.{◌≡◌, ℕ, zero, suc, ◌<◌, ◌≤◌, ◌+◌, ◌-◌, List, [], ◌∷◌, ◌++◌, length, get_or, take, drop, Bool, true, false, cond, Some, refl, sym, ap, ◌∙◌, subst, arith, ⊎_elim, slice_get, nat_le, leb, None, Option, Result, Ok, Err, MatchOption, MatchResult, is_err, option_map, filter, cases_Bool, leb-true, leb-false, map-append, take-append-drop, All-get_or, filter_passes, slice_get-map, slice_get_within, get_or_from_slice_get, Reply, has, Entry, Sent, Heard, Listed, FieldCycle, LogLine, entries, IsRisingFrom, Outcome, outcome_at, Fits, CouldHaveGiven, is_quiet, is_slot, FitsLines, IsConflictAt, IsNoQuietReply, IsSilencedBefore, IsSilencedBy, IsSlotLine, IsPossible, IsContradictedAt, entries_to, IsVerdict, place_of, member_at, IsStrictlyIncreasing, agree_upto, outcome_agrees, CouldHaveGiven-front, slice_get-append, Impossible, IsPossible-front, rising_order, cases_eq, true_from_ne_false}
+use Rattle.vic_report.proofs.Words.{◌≡◌, ℕ, zero, suc, ◌<◌, ◌≤◌, ◌+◌, ◌-◌, List, [], ◌∷◌, ◌++◌, length, get_or, take, drop, Bool, true, false, cond, Some, refl, sym, ap, ◌∙◌, subst, arith, ⊎_elim, slice_get, nat_le, leb, None, Option, Result, Ok, Err, MatchOption, MatchResult, is_err, option_map, filter, cases_Bool, leb-true, leb-false, map-append, take-append-drop, All-get_or, filter_passes, slice_get-map, slice_get_within, get_or_from_slice_get, Reply, has, Entry, Sent, Heard, Listed, FieldCycle, LogLine, entries, IsRisingFrom, Outcome, outcome_at, Fits, CouldHaveGiven, is_quiet, is_slot, FitsLines, IsConflictAt, IsNoQuietReply, IsSilencedBefore, IsSilencedBy, IsSlotLine, IsPossible, IsContradictedAt, entries_to, IsVerdict, place_of, member_at, IsStrictlyIncreasing, agree_upto, outcome_agrees, CouldHaveGiven-front, slice_get-append, Impossible, IsPossible-front, rising_order, cases_eq, true_from_ne_false, get_or_default, slice_get_read, cases_lt, ltb, ltb-true, ltb-false, inl, inr, IsNonDecreasingBy, IsPartitionPoint, IsPartitionedBy, IsPartitionedBy-ltb}
 
 -- ---- the lines 1 to n
 
@@ -153,6 +153,31 @@ same_place k (y ∷ lines) zero zero l x r g h e = refl
 same_place k (y ∷ lines) zero (suc j) l x r g h e = grind (arith, number_above j y.number lines x r.1 h)
 same_place k (y ∷ lines) (suc i) zero l x r g h e = grind (arith, number_above i y.number lines l r.1 g)
 same_place k (y ∷ lines) (suc i) (suc j) l x r g h e = ap suc (same_place y.number lines i j l x r.1 g h e)
+
+-- the numbers of the lines, in order
+rising_lines : (k : ℕ) (lines : List LogLine) → IsRisingFrom k lines → IsNonDecreasingBy (λ (l : LogLine). l.number) lines
+rising_lines k [] r i j d le below = absurd (omega arith)
+rising_lines k (x ∷ lines) r zero zero d le below = omega arith
+rising_lines k (x ∷ lines) r zero (suc j) d le below =
+    let within : j < length lines = omega arith in
+    omega (arith, number_above j x.number lines (get_or lines j d) r.1 (slice_get_read lines (length lines) j (get_or lines j d) refl within (get_or_default lines j d (get_or lines j d) within)))
+rising_lines k (x ∷ lines) r (suc i) zero d le below = absurd (omega arith)
+rising_lines k (x ∷ lines) r (suc i) (suc j) d le below = rising_lines x.number lines r.1 i j d (omega arith) (omega arith)
+
+-- where the first number that is not below n would be, and is not n, no line has it
+pub no_number : (lines : List LogLine) (n place : ℕ) → (IsPartitionedBy (λ (l : LogLine). ltb l.number n) lines → IsPartitionPoint (λ (l : LogLine). ltb l.number n ≡ true) (λ (l : LogLine). ltb l.number n ≡ false) lines place) → ((l : LogLine) → slice_get lines place ≡ Some l → l.number ≡ n → ⊥) → IsRisingFrom 0 lines → (i : ℕ) (l : LogLine) → slice_get lines i ≡ Some l → l.number ≡ n → ⊥
+no_number lines n place point other rising i l k e =
+    let sorted = rising_lines 0 lines rising in
+    let halves = point (IsPartitionedBy-ltb (λ (x : LogLine). x.number) lines n sorted) in
+    let within = slice_get_within lines i l k in
+    let here : get_or lines i l ≡ l = get_or_from_slice_get lines i l l k in
+    elim (cases_lt i place) [
+      | inl before ↦ absurd (let h = ltb-true _ _ (halves.0 i l (omega arith) before) in omega (arith, ap (λ (x : LogLine). x.number) here))
+      | inr after ↦
+          let at : LogLine = get_or lines place l in
+          let there : slice_get lines place ≡ Some at = slice_get_read lines (length lines) place at refl (omega arith) (get_or_default lines place l at (omega arith)) in
+          other at there (let h = ltb-false _ _ (halves.1 place l (omega arith) (omega arith)) in omega (arith, sorted place i l after within, ap (λ (x : LogLine). x.number) here))
+    ]
 
 line_with : (lines : List LogLine) (n i : ℕ) (l : LogLine) (r : Reply) → slice_get lines i ≡ Some l → l.number ≡ n → slice_get (entries lines) i ≡ Some (Heard r) → l ≡ record { number = n; item = Heard r }
 line_with lines n i l r k here heard =

@@ -68,12 +68,12 @@ slot_passed (Err x) m is_kept e old mid new kept opened added = tt
 abbrev pub FitsAny : Entry → Type 0
 FitsAny e = (o : Outcome) → Fits e o
 
-pub entry_passed : {T E : Type 0} (r : Result T E) (i : ℕ) (mask : Option BitMask) (is_kept : Bool) (e : Entry) (old new : List Entry) → FitsAny e → OnOk r (new ≡ old ++ e ∷ []) → OnOk r ((es : List Entry) → slice_get es i ≡ Some e → mask ≡ mask_at es i → KeepsLine es i is_kept e old new)
-entry_passed (Ok x) i mask is_kept e old new any added = λ es k here. record {
+pub entry_passed : {T E : Type 0} (r : Result T E) (mask : Option BitMask) (is_kept : Bool) (e : Entry) (old new : List Entry) → FitsAny e → OnOk r (new ≡ old ++ e ∷ []) → OnOk r ((es : List Entry) (i : ℕ) → slice_get es i ≡ Some e → mask ≡ mask_at es i → KeepsLine es i is_kept e old new)
+entry_passed (Ok x) mask is_kept e old new any added = λ es i k here. record {
   quiet = λ same. subst (λ fs. SameQuiet fs es (i + 1)) (sym added) (same_quiet_pushed old es i e k same);
   given = λ p same fits g. subst (CouldHaveGiven p) (sym added) (CouldHaveGiven-push p old e g (any (outcome_at old (length old) p)));
 }
-entry_passed (Err x) i mask is_kept e old new any added = tt
+entry_passed (Err x) mask is_kept e old new any added = tt
 
 -- ---- entries that may follow others that list nothing
 

@@ -1,5 +1,5 @@
 -- Lines that tell of UIDs.
-use Rattle.vic_report.proofs.Words.{◌≡◌, ℕ, List, true, Some, refl, sym, ap, ◌∙◌, subst, ⊎_elim, slice_get, and_parts, and_from, Entry, Collision, Garbled, Heard, LogLine, entries, answers_at, slots_of, is_open, Forces, ManyReplies, SomeReply, Reply, IsFound, MayAnswer, TellsOf, ShowsCertain, IsPossible, Found, answering, IsPossibleUid-iff, asked_two_or_one, forces_two_iff, forces_one_iff, Exactly}
+use Rattle.vic_report.proofs.Words.{has, length, ◌≡◌, ℕ, List, true, Some, refl, sym, ap, ◌∙◌, subst, ⊎_elim, slice_get, and_parts, and_from, Entry, Collision, Garbled, Heard, LogLine, entries, answers_at, slots_of, is_open, Forces, ManyReplies, SomeReply, Reply, IsFound, MayAnswer, TellsOf, ShowsCertain, IsPossible, Found, answering, IsPossibleUid-iff, needs_two_or_one, forces_two_iff, forces_one_iff}
 use Rattle.vic_report.proofs.Conflicts.{line_of}
 
 -- ---- what a line tells
@@ -25,6 +25,10 @@ tells_two es i u p f here = (may es i u p here, (f.0, f.1, may es i f.0 p f.3, �
 tells_one : (es : List Entry) (i u : ℕ) → IsPossible es → Forces SomeReply (answering (is_open (slots_of es)) es i) u → TellsOf es i u Garbled
 tells_one es i u p f = (may es i u p f.0, λ w m. f.1 w (answers_back es i w p m))
 
+-- so many of a list's members
+abbrev pub Exactly : ℕ → List ℕ → ℕ → Type 0
+Exactly n us u = (length us ≡ n) × (has us u ≡ true)
+
 -- found where exactly as many are open, the slot tells of each
 pub found_shows : (lines : List LogLine) (f : Found) (l : LogLine) (u : ℕ) → IsPossible (entries lines) → IsFound (entries lines) f → slice_get lines f.at ≡ Some l → Exactly f.need f.uids.items u → ShowsCertain lines l.number u
 found_shows lines f l u p found k x =
@@ -42,4 +46,4 @@ found_shows lines f l u p found k x =
     ⊎_elim
     (λ w. let two = w.1 in shown Collision w.0 (tells_two es i u p ((forces_two_iff _ f.uids.items u at.uids).1 (x.0 ∙ two, x.1)) here))
     (λ w. let one = w.1 in shown Garbled w.0 (tells_one es i u p ((forces_one_iff _ f.uids.items u at.uids).1 (x.0 ∙ one, x.1))))
-    (asked_two_or_one (slice_get es i) f.need at.need at.asked)
+    (needs_two_or_one (slice_get es i) f.need at.need at.needed)

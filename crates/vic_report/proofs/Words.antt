@@ -1,14 +1,14 @@
 -- The words of proofs, from one place: what files name from outside of the crate, and the definitions that several of them name.
-pub use Rattle.std.proofs.Common.{All, Bool, Err, List, MatchOption, MatchResult, None, Ok, OnOk, Option, Result, Some, [], add-one, ap, arith, cond, drop, false, filter, get_or, if◌then◌else◌, is_err, leb, length, length-append, ltb-true, nat_eq, nat_le, not, option_map, refl, rules, slice_get, subst, suc, sym, take, true, zero, ℕ, ⊎_elim, ◌&&◌, ◌*◌, ◌++◌, ◌+◌, ◌-◌, ◌<◌, ◌==◌, ◌||◌, ◌↔◌, ◌∙◌, ◌∷◌, ◌≡◌, ◌≤◌}
+pub use Rattle.std.proofs.Common.{All, Bool, Err, List, MatchOption, MatchResult, None, Ok, OnOk, Option, Result, Some, [], add-one, ap, arith, cond, drop, false, filter, get_or, if◌then◌else◌, inl, inr, is_err, leb, length, length-append, ltb, ltb-false, ltb-true, nat_eq, nat_le, not, option_map, refl, rules, slice_get, subst, suc, sym, take, true, zero, ℕ, ⊎_elim, ◌&&◌, ◌*◌, ◌++◌, ◌+◌, ◌-◌, ◌<◌, ◌==◌, ◌||◌, ◌↔◌, ◌∙◌, ◌∷◌, ◌≡◌, ◌≤◌}
 pub use Rattle.std.proofs.lemmas.Bool.{and_from, and_parts, cases_Bool, cases_eq, cases_lt, eq-eqb, eqb-true, leb-false, leb-true, ne_eqb, not-true, not_from_false, true_from_ne_false}
 pub use Rattle.std.proofs.lemmas.List.{get_or_default, length-map, map-append, map_push, take-append-drop, take_all, take_more}
-pub use Rattle.std.proofs.lemmas.List.Elements.{All-contains, All-get_or, All-more, All-push, filter_agree, filter_passes}
+pub use Rattle.std.proofs.lemmas.List.Elements.{All-get_or, All-more, All-push, filter_agree, filter_passes}
 pub use Rattle.std.proofs.lemmas.List.Filters.{dedup_is}
-pub use Rattle.std.proofs.lemmas.List.Sorted.{All-permutation, IsPermutation-sym, list_any-IsPermutation}
+pub use Rattle.std.proofs.lemmas.List.Sorted.{All-permutation, IsPartitionPoint-from_clause, IsPartitionedBy-ltb, IsPermutation-sym, list_any-IsPermutation}
 pub use Rattle.std.proofs.lemmas.Map.Keys.{IsStrictlyIncreasing-dedup}
 pub use Rattle.std.proofs.lemmas.Option.{get_or_from_slice_get, slice_get-map, slice_get_read, slice_get_within}
 pub use Rattle.std.specs.List.{list_any}
-pub use Rattle.std.specs.List.Sorted.{IsStrictlyIncreasing}
+pub use Rattle.std.specs.List.Sorted.{IsNonDecreasingBy, IsPartitionPoint, IsPartitionedBy, IsStrictlyIncreasing}
 pub use Rattle.vic_frame.specs.Masks.{BitMask}
 pub use Rattle.vic_frame.specs.Replies.{Reply}
 pub use Rattle.vic_frame.specs.Uids.{IsUid, has}
@@ -31,12 +31,11 @@ pub use Rattle.vic_tree.specs.OpenSet.{SameUids, has_key, without_keys}
 pub use Rattle.vic_tree.specs.Ranges.{is_open_in}
 pub use Rattle.vic_tree.specs.declared.open_masks.OpenMasks.{OpenMasks}
 pub use Rattle.vic_verdict.proofs.Decide.{IsPossibleUid-iff}
-pub use Rattle.vic_verdict.proofs.UnreadSlots.{asked_two_or_one}
+pub use Rattle.vic_verdict.proofs.UnreadSlots.{needs_two_or_one}
 pub use Rattle.vic_verdict.proofs.Differing.{AreFacts, AreListed, all_findings, doubtful_list, first_mask, log_facts, missing_least, missing_or_absent, none_unsettled, open_iff}
 pub use Rattle.vic_verdict.proofs.Entries.{entry_allows, forces_one_iff, forces_two_iff, open_step}
 pub use Rattle.vic_verdict.proofs.Failing.{head_least, member_at, none_of, place_of}
 pub use Rattle.vic_verdict.proofs.Inserted.{rising_order}
-pub use Rattle.vic_verdict.proofs.Meeting.{Exactly}
 pub use Rattle.vic_verdict.proofs.Possibility.{IsPossible-front}
 pub use Rattle.vic_verdict.proofs.Stands.{entry_at}
 pub use Rattle.vic_verdict.proofs.Verdicts.{first_lines}

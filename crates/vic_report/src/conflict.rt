@@ -12,7 +12,7 @@ ghost use Rattle.vic_verdict.specs.Verdict.{IsVerdict};
 ghost use Rattle.vic_verdict.specs.declared.judging.Verdict.TheVariants.{Impossible};
 
 use crate::kept_log::kept_lines;
-use crate::silencer::silencer_of;
+use crate::silencer::{position_of, silencer_of};
 use std::alloc::{AllocError, Global};
 use vic_guess::guess_conflict;
 use vic_log::{MAX_LINES, PackedLine};
@@ -33,7 +33,7 @@ pub struct Conflict {
     pub silenced_by: Option<u32>,
 }
 
-/// The conflict of a log with a contradiction.
+/// The conflict of a log that is impossible, by a contradiction.
 pub(crate) fn find_conflict<S: OpenSet>(
     alloc: Global,
     lines: &[PackedLine],
@@ -47,7 +47,7 @@ pub(crate) fn find_conflict<S: OpenSet>(
     let line = first_impossible_line::<S>(alloc, lines, contradiction)?;
     let silenced_by = silencer_of(lines, line);
     let guess = match silenced_by {
-        // a reply of a Quiet tag needs no other line
+        // a reply of a Quiet tag needs no other line; that is tested like a guess, without a proof
         Some(_) => vec![in alloc; line]?,
         None => guess_conflict(alloc, lines, line)?,
     };
@@ -86,8 +86,8 @@ fn put_numbers_in_order(numbers: &mut Vec<u32>)
     numbers.dedup();
 }
 
-/// Whether rising numbers are those of slot lines, the last one a given line, and a log of only
-/// these lines is impossible.
+/// Whether rising numbers are those of slot lines, the last one a given line, and the log that keeps
+/// only these slot lines (`kept_lines`) is impossible.
 fn is_conflict<S: OpenSet>(
     alloc: Global,
     lines: &[PackedLine],
@@ -121,13 +121,12 @@ fn are_slot_lines(lines: &[PackedLine], numbers: &[u32]) -> bool
     true
 }
 
-/// Whether a number is that of a slot line. The numbers of the lines rise.
+/// Whether a number is that of a slot line.
 fn is_slot_line(lines: &[PackedLine], number: u32) -> bool
     ensures { result ≡ true → IsSlotLine lines.now number }
 {
-    let place = lines.partition_point(|line| line.number() < number);
-    match lines.get(place) {
-        Some(line) => line.number() == number && line.item().is_slot(),
+    match position_of(lines, number) {
+        Some(place) => lines[place].item().is_slot(),
         None => false,
     }
 }

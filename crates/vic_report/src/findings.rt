@@ -8,9 +8,9 @@ ghost use Rattle.vic_verdict.specs.Facts.{AreFactsOf};
 ghost use Rattle.vic_verdict.specs.LogLines.{AreLogLines};
 ghost use Rattle.vic_report.specs.Reports.{AreFindings, AreNone, first_of, left_with};
 
+use crate::certain_lines::lines_of_certain;
 use crate::ruled_out::lines_of_absent;
 use crate::shown::ShownUid;
-use crate::told::lines_of_certain;
 use std::alloc::{AllocError, Global};
 use vic_frame::{Mask, Uid};
 use vic_log::PackedLine;

@@ -17,9 +17,9 @@ use std::alloc::{AllocError, Global};
 use vic_frame::{Mask, Request};
 use vic_log::{Entry, MAX_LINES, PackedLine, RoundCursor};
 
-/// The slot lines with some numbers, every Stay Quiet and every field cycle. Each slot line has a
-/// request of its own that asks for its mask, so there may be up to twice as many lines as a text
-/// can have.
+/// The slot lines with some numbers, and up to the last of them every Stay Quiet and every field
+/// cycle. Each slot line has a request of its own that asks for its mask, so there may be up to
+/// twice as many lines as a text can have.
 pub(crate) fn kept_lines(
     alloc: Global,
     lines: &[PackedLine],
@@ -34,11 +34,16 @@ pub(crate) fn kept_lines(
 {
     let mut kept = Vec::new(alloc);
     let mut cursor = RoundCursor::first();
-    for (index, line) in lines.iter().enumerate() {
+    for line in lines {
+        let number = line.number();
+        // none is kept after the last number, nor if there is no number
+        if numbers.last() < Some(&number) {
+            break;
+        }
         let entry = line.item();
         let mask = cursor.mask();
-        let is_kept = has_number(numbers, line.number());
-        keep_line(&mut kept, &mask, index, &entry, is_kept)?;
+        let is_kept = has_number(numbers, number);
+        keep_line(&mut kept, &mask, &entry, is_kept)?;
         cursor.advance(&entry);
     }
     Ok(kept)
@@ -52,11 +57,10 @@ fn has_number(numbers: &[u32], number: u32) -> bool
     numbers.binary_search(&number).is_ok()
 }
 
-/// Adds the entry of a line if it is kept, or makes tags Quiet or Ready.
+/// Adds a Stay Quiet or a field cycle always, and a slot line if it is kept.
 fn keep_line(
     kept: &mut Vec<PackedLine>,
     mask: &Option<Mask>,
-    index: usize,
     entry: &Entry,
     is_kept: bool,
 ) -> Result<(), AllocError>
@@ -65,9 +69,9 @@ fn keep_line(
     requires valid { IsValidEntry entry.now }
     ensures numbered { OnOk result (AreNumbered kept.new.items) }
     ensures limit { OnOk result (length kept.new.items ≤ length kept.old.items + 2) }
-    ensures kept { OnOk result ((es : List EntryValue) → slice_get es index ≡ Some entry.now
-        → mask.now ≡ mask_at es index
-        → KeepsLine es index is_kept entry.now (entries kept.old.items) (entries kept.new.items)) }
+    ensures kept { OnOk result ((es : List EntryValue) (i : ℕ) → slice_get es i ≡ Some entry.now
+        → mask.now ≡ mask_at es i
+        → KeepsLine es i is_kept entry.now (entries kept.old.items) (entries kept.new.items)) }
 {
     match *entry {
         Entry::Sent(Request::StayQuiet { .. }) | Entry::FieldCycle => push_next(kept, *entry),

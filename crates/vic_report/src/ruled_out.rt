@@ -64,7 +64,7 @@ fn guess_lines(
     Ok(shown)
 }
 
-/// Whether each line that is shown rules out its UID. Those lines come in order.
+/// Whether each guessed line rules out its UID. These lines are in order.
 fn are_ruled_out(
     alloc: Global,
     lines: &[PackedLine],
@@ -82,8 +82,8 @@ fn are_ruled_out(
     Ok(next == shown.len())
 }
 
-/// How many UIDs, from the first on, are known to be ruled out by their lines after one more line
-/// of the log. Those before index `start` were known before it.
+/// The index after the UIDs, from index `start` on, that a line of the log rules out, as guessed.
+/// Those before `start` are known to be ruled out by their lines.
 fn count_ruled_out(
     cursor: &FieldCursor,
     line: &PackedLine,

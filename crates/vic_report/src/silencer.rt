@@ -1,9 +1,9 @@
 //! Which line silenced a tag whose reply was heard while it was Quiet.
 
-ghost use Rattle.std.specs.Prelude.{◌≡◌, ℕ, ◌+◌, ◌<◌, ◌≤◌, MatchOption, Some, List, length, slice_get, true, false};
+ghost use Rattle.std.specs.Prelude.{◌≡◌, ℕ, ◌+◌, ◌<◌, ◌≤◌, IfNone, IfSome, MatchOption, Some, List, length, slice_get, true, false};
 ghost use Rattle.vic_frame.specs.Replies.{Reply};
 ghost use Rattle.vic_log.specs.declared.entry.Entry.TheVariants.{Heard};
-ghost use Rattle.vic_log.specs.Order.{entries};
+ghost use Rattle.vic_log.specs.Order.{entries, IsRisingFrom};
 ghost use Rattle.vic_log.specs.Quiet.{is_quiet};
 ghost use Rattle.vic_log.specs.declared.entry.LogLine.{LogLine as LogLineValue};
 ghost use Rattle.vic_report.specs.Conflicts.{IsNoQuietReply, IsSilencedBefore, IsSilencedBy};
@@ -19,15 +19,29 @@ pub(crate) fn silencer_of(lines: &[PackedLine], number: u32) -> Option<u32>
     ensures { MatchOption result (IsNoQuietReply lines.now number)
         (IsSilencedBy lines.now number) }
 {
-    for index in 0..lines.len() {
-        if lines[index].number() == number {
-            return silencer_at(lines, index);
-        }
-    }
-    None
+    silencer_at(lines, position_of(lines, number)?)
 }
 
-/// The same for the line at a position.
+/// The position of the line with a number, if there is one. The numbers of the lines rise.
+pub(crate) fn position_of(lines: &[PackedLine], number: u32) -> Option<usize>
+    ensures there { IfSome result (λ i. (l : LogLineValue) × (slice_get lines.now i ≡ Some l)
+        × (l.number ≡ number)) }
+    ensures none { IfNone result (IsRisingFrom 0 lines.now → (i : ℕ) (l : LogLineValue)
+        → slice_get lines.now i ≡ Some l → l.number ≡ number → ⊥) }
+{
+    let place = lines.partition_point(|line| line.number() < number);
+    let Some(line) = lines.get(place) else {
+        return None;
+    };
+    if line.number() == number {
+        Some(place)
+    } else {
+        None
+    }
+}
+
+/// If the line at a position is a reply of a UID that is Quiet there, the number of the last Stay
+/// Quiet line with that UID.
 fn silencer_at(lines: &[PackedLine], place: usize) -> Option<u32>
     requires { place < length lines.now }
     ensures { MatchOption result
@@ -60,7 +74,8 @@ fn silencer_before(lines: &[PackedLine], place: usize, uid: Uid) -> Option<u32>
     silencer
 }
 
-/// The same after one more line.
+/// The number of the last Stay Quiet line with a UID, if it is Quiet after a line, by that before
+/// the line.
 fn silencer_after(before: Option<u32>, line: &PackedLine, uid: Uid) -> Option<u32>
     ensures { (lines : List LogLineValue) (i : ℕ) → slice_get lines i ≡ Some line.now
         → MatchOption before (is_quiet (entries lines) i uid ≡ false)

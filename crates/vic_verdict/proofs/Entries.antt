@@ -91,8 +91,8 @@ forces_one_iff t xs u h = grind (arith, nat_tests, h.all, h.members)
 own : (xs : List ℕ) → AreDifferent xs → UpToThree (has xs) xs
 own xs d = record { different = d; members = λ u h. h; all = λ few u h. h }
 
-pub enough_asked : (e : Entry) (t : ℕ → Bool) (xs : List ℕ) → 0 < needs e → AreDifferent xs → needs e ≤ length xs → IsWithin (has xs) t → EntryAsks (reading_of e) t
-enough_asked e t xs some d n k = grind (arith, nat_tests, asks_two_iff (has xs) xs (own xs d), asks_one_iff (has xs) xs (own xs d))
+pub enough_needed : (e : Entry) (t : ℕ → Bool) (xs : List ℕ) → 0 < needs e → AreDifferent xs → needs e ≤ length xs → IsWithin (has xs) t → EntryAsks (reading_of e) t
+enough_needed e t xs some d n k = grind (arith, nat_tests, asks_two_iff (has xs) xs (own xs d), asks_one_iff (has xs) xs (own xs d))
 
 -- what is forced by all that answer is forced by fewer of them, where these are what was asked for
 forces_within : (r : Reading) (s t : ℕ → Bool) (u : ℕ) → Forces r t u → IsWithin s t → Asks r s → Forces r s u
@@ -100,8 +100,8 @@ forces_within r s t u f k a = grind (arith, nat_tests)
 
 -- where a UID is forced, and so many answer, they are exactly as many as are needed, the UID among them
 pub enough_forced : (e : Entry) (t : ℕ → Bool) (xs : List ℕ) (u : ℕ) → 0 < needs e → AreDifferent xs → needs e ≤ length xs → IsWithin (has xs) t → EntryForces (reading_of e) t u → (length xs ≡ needs e) × (has xs u ≡ true)
-enough_forced Collision t xs u some d n k f = (forces_two_iff (has xs) xs u (own xs d)).0 (forces_within ManyReplies (has xs) t u f k (enough_asked Collision (has xs) xs some d n (λ v h. h)))
-enough_forced Garbled t xs u some d n k f = (forces_one_iff (has xs) xs u (own xs d)).0 (forces_within SomeReply (has xs) t u f k (enough_asked Garbled (has xs) xs some d n (λ v h. h)))
+enough_forced Collision t xs u some d n k f = (forces_two_iff (has xs) xs u (own xs d)).0 (forces_within ManyReplies (has xs) t u f k (enough_needed Collision (has xs) xs some d n (λ v h. h)))
+enough_forced Garbled t xs u some d n k f = (forces_one_iff (has xs) xs u (own xs d)).0 (forces_within SomeReply (has xs) t u f k (enough_needed Garbled (has xs) xs some d n (λ v h. h)))
 enough_forced e t xs u some d n k f = absurd (omega arith)
 
 -- an entry that forces a UID heard it, or needs tags

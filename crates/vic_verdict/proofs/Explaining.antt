@@ -1,16 +1,16 @@
 -- A gathered population shows the verdict.
-use Rattle.vic_verdict.proofs.Words.{◌≡◌, ℕ, List, [], ◌∷◌, ◌++◌, true, Option, Some, None, has_cases, sym, ap, ◌||◌, ◌∙◌, append-nil, arith, nat_eq, list_any-append, ⊎_elim, ◌⊎◌, inl, inr, subst, false≢true, IsStrictlyIncreasing, false_from_ne_true, has, BitMask, lies_in, Entry, LogLine, entries, has_here, Met, IsMet, gathered, IsPossible, IsPossibleUid, IsCertainUid, SameMembers, IsVerdict, least_uid_in, Absent, Unlisted, Unsettled, Doubtful, IsSmallPopulation, IsPopulationBehind}
+use Rattle.vic_verdict.proofs.Words.{◌≡◌, ℕ, List, [], ◌∷◌, ◌++◌, true, Option, Some, None, has_cases, sym, ap, ◌||◌, ◌∙◌, append-nil, arith, nat_eq, list_any-append, ⊎_elim, ◌⊎◌, inl, inr, subst, false≢true, IsStrictlyIncreasing, false_from_ne_true, has, BitMask, lies_in, Entry, LogLine, entries, has_here, Met, IsMet, chosen_population, IsPossible, IsPossibleUid, IsCertainUid, SameMembers, IsVerdict, least_uid_in, Absent, Unlisted, Unsettled, Doubtful, IsSmallPopulation, IsPopulationBehind}
 use Rattle.vic_verdict.specs.declared.judging.Verdict.{Verdict}
 use Rattle.vic_verdict.proofs.Gathering.{AvoidsNoneCertain, append_right, gathered_small, gathered_other}
 use Rattle.vic_verdict.proofs.Masks.{lies_in-uid_in, IsUid-in}
 
 -- what was gathered, without one more
-gathered_alone : (es : List Entry) (m : Met) (avoid : Option ℕ) (us : List ℕ) → IsPossible es → AvoidsNoneCertain es avoid → IsMet es m → IsStrictlyIncreasing us → SameMembers us (gathered avoid m) → IsSmallPopulation es us
+gathered_alone : (es : List Entry) (m : Met) (avoid : Option ℕ) (us : List ℕ) → IsPossible es → AvoidsNoneCertain es avoid → IsMet es m → IsStrictlyIncreasing us → SameMembers us (chosen_population avoid m) → IsSmallPopulation es us
 gathered_alone es m avoid us possible none met rising same =
     gathered_small es m avoid [] us possible none met (λ u no. absurd (false≢true no)) (omega arith) rising (λ u. rw append-nil (same u))
 
 -- it lacks an absent UID, and has an unlisted one
-pub known_shown : (lines : List LogLine) (m : Met) (us : List ℕ) (v : Verdict) → IsVerdict lines v → ((u : ℕ) × (v ≡ Absent u)) ⊎ ((u : ℕ) × (v ≡ Unlisted u)) → IsMet (entries lines) m → IsStrictlyIncreasing us → SameMembers us (gathered None m) → IsPopulationBehind (entries lines) v us
+pub known_shown : (lines : List LogLine) (m : Met) (us : List ℕ) (v : Verdict) → IsVerdict lines v → ((u : ℕ) × (v ≡ Absent u)) ⊎ ((u : ℕ) × (v ≡ Unlisted u)) → IsMet (entries lines) m → IsStrictlyIncreasing us → SameMembers us (chosen_population None m) → IsPopulationBehind (entries lines) v us
 known_shown lines m us v is which met rising same =
     let small = λ (possible : IsPossible (entries lines)). gathered_alone (entries lines) m None us possible (λ a e. cc) met rising same in
     elim which [
@@ -22,7 +22,7 @@ known_shown lines m us v is which met rising same =
           rw a.1 (small here.0, here.2.0.0 us (small here.0).population (small here.0).could)
     ]
 
-pub doubtful_shown : (lines : List LogLine) (m : Met) (us : List ℕ) (u : ℕ) → IsVerdict lines (Doubtful u) → IsMet (entries lines) m → IsStrictlyIncreasing us → SameMembers us (gathered (Some u) m) → IsPopulationBehind (entries lines) (Doubtful u) us
+pub doubtful_shown : (lines : List LogLine) (m : Met) (us : List ℕ) (u : ℕ) → IsVerdict lines (Doubtful u) → IsMet (entries lines) m → IsStrictlyIncreasing us → SameMembers us (chosen_population (Some u) m) → IsPopulationBehind (entries lines) (Doubtful u) us
 doubtful_shown lines m us u v met rising same =
     let es = entries lines in
     let uncertain = v.4.0.1 in (
@@ -31,10 +31,10 @@ doubtful_shown lines m us u v met rising same =
     )
 
 -- with the least UID of an unsettled mask
-pub unsettled_shown : (lines : List LogLine) (m : Met) (us vs : List ℕ) (k : BitMask) (x : ℕ) → IsVerdict lines (Unsettled k) → IsMet (entries lines) m → SameMembers us (gathered None m) → x ≡ least_uid_in k → IsStrictlyIncreasing vs → SameMembers vs (us ++ x ∷ []) → IsPopulationBehind (entries lines) (Unsettled k) vs
+pub unsettled_shown : (lines : List LogLine) (m : Met) (us vs : List ℕ) (k : BitMask) (x : ℕ) → IsVerdict lines (Unsettled k) → IsMet (entries lines) m → SameMembers us (chosen_population None m) → x ≡ least_uid_in k → IsStrictlyIncreasing vs → SameMembers vs (us ++ x ∷ []) → IsPopulationBehind (entries lines) (Unsettled k) vs
 unsettled_shown lines m us vs k x v met same is rising' same' =
     let es = entries lines in
-    let all = gathered None m in
+    let all = chosen_population None m in
     let mask = v.3.0 in
     let inside : lies_in k x ≡ true = rw is (lies_in-uid_in k mask.0 mask.1) in
     let may : IsPossibleUid es x = (mask.2 x (rw is (IsUid-in k mask.0 mask.1)) inside).0 in

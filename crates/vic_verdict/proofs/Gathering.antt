@@ -1,8 +1,8 @@
 -- A small population, gathered from what the slots of a possible log ask for.
-use Rattle.vic_verdict.proofs.Words.{take-append-drop, drop, ◌≡◌, ℕ, suc, ◌+◌, ◌<◌, ◌≤◌, List, [], ◌∷◌, ◌++◌, length, take, get_or, Bool, true, false, ◌||◌, Option, Some, refl, sym, ap, ◌∙◌, subst, arith, nat_tests, inl, inr, ⊎_elim, length-append, ◌⊎◌, nat_eq, slice_get, filter, sum_by, ne_eqb, length-take, IsStrictlyIncreasing, both_ways, and_parts, and_from, or_cases, or_left, or_right, list_any, list_any_at, list_any_none, list_any-append, Any-from_list_any, slice_get_within, IsUid, has, AreDifferent, Entry, Collision, Heard, Garbled, IsPopulation, answers_at, Reading, ManyReplies, SomeReply, reading_of, slots_of, is_open, Asks, IsWithin, AreDifferent-population, AreDifferent-filter, has_filter, has_here, has_at, has_there, MeetsAll-iff, IsUid-from, CouldHaveGiven-slots, Found, Met, IsFoundAt, IsFound, IsMet, is_other, chosen, gathered, answering, IsPossible, IsPossibleUid, IsCertainUid, SameMembers, AllPairs-from_increasing, sum_by-cons, AllByRecursion, IsDistinct, or_parts, nat_eq_equiv, IsDistinct-cons, IsDistinct-from_apart, length-le_from_is_member, asks_within, all_chosen, needs_at, needs_of, IsSmallPopulation}
+use Rattle.vic_verdict.proofs.Words.{take-append-drop, drop, ◌≡◌, ℕ, suc, ◌+◌, ◌<◌, ◌≤◌, List, [], ◌∷◌, ◌++◌, length, take, get_or, Bool, true, false, ◌||◌, Option, Some, refl, sym, ap, ◌∙◌, subst, arith, nat_tests, inl, inr, ⊎_elim, length-append, ◌⊎◌, nat_eq, slice_get, filter, sum_by, ne_eqb, length-take, IsStrictlyIncreasing, both_ways, and_parts, and_from, or_cases, or_left, or_right, list_any, list_any_at, list_any_none, list_any-append, Any-from_list_any, slice_get_within, IsUid, has, AreDifferent, Entry, Collision, Heard, Garbled, IsPopulation, answers_at, Reading, ManyReplies, SomeReply, reading_of, slots_of, is_open, Asks, IsWithin, AreDifferent-population, AreDifferent-filter, has_filter, has_here, has_at, has_there, MeetsAll-iff, IsUid-from, CouldHaveGiven-slots, Found, Met, IsFoundAt, IsFound, IsMet, is_other, chosen, chosen_population, answering, IsPossible, IsPossibleUid, IsCertainUid, SameMembers, AllPairs-from_increasing, sum_by-cons, AllByRecursion, IsDistinct, or_parts, nat_eq_equiv, IsDistinct-cons, IsDistinct-from_apart, length-le_from_is_member, asks_within, all_chosen, needs_at, needs_of, IsSmallPopulation}
 use Rattle.vic_verdict.specs.Explained.{AreFew}
 use Rattle.vic_verdict.proofs.Decide.{IsPossibleUid-iff}
-use Rattle.vic_verdict.proofs.UnreadSlots.{asked_two_or_one}
+use Rattle.vic_verdict.proofs.UnreadSlots.{needs_two_or_one}
 use Rattle.vic_verdict.proofs.Entries.{EntryAsks, EntryForces, SuppliesBefore, SuppliesAll-places, forces_two_iff, forces_one_iff}
 use Rattle.vic_verdict.proofs.Populations.{is_open-is_uid}
 use Rattle.vic_verdict.proofs.Possibility.{Heard-certain}
@@ -100,7 +100,7 @@ AvoidsNoneCertain es avoid = (a : ℕ) → avoid ≡ Some a → IsCertainUid es 
 
 -- exactly as many as are needed are forced there
 pub exact_forces : (es : List Entry) (i u : ℕ) (f : Found) → IsFoundAt es i f → length f.uids.items ≡ f.need → has f.uids.items u ≡ true → (e : Entry) × (slice_get es i ≡ Some e) × EntryForces (reading_of e) (answering (is_open (slots_of es)) es i) u
-exact_forces es i u f h long m = grind (arith, asked_two_or_one (slice_get es i) f.need h.need h.asked, forces_two_iff _ f.uids.items u h.uids, forces_one_iff _ f.uids.items u h.uids)
+exact_forces es i u f h long m = grind (arith, needs_two_or_one (slice_get es i) f.need h.need h.needed, forces_two_iff _ f.uids.items u h.uids, forces_one_iff _ f.uids.items u h.uids)
 
 -- so there are enough others
 enough_others : (es : List Entry) (f : Found) (avoid : Option ℕ) → AvoidsNoneCertain es avoid → IsFound es f → f.need ≤ length (filter (is_other avoid) f.uids.items)
@@ -109,7 +109,7 @@ enough_others es f avoid n h = grind (arith, most_are_others avoid f.uids.items 
 -- ---- the UIDs that were gathered
 
 -- each was heard, and is certain, or chosen of what was found
-gathered_from : (es : List Entry) (m : Met) (avoid : Option ℕ) (u : ℕ) → IsMet es m → has (gathered avoid m) u ≡ true → IsCertainUid es u ⊎ ((f : Found) × IsFound es f × (has (chosen avoid f) u ≡ true))
+gathered_from : (es : List Entry) (m : Met) (avoid : Option ℕ) (u : ℕ) → IsMet es m → has (chosen_population avoid m) u ≡ true → IsCertainUid es u ⊎ ((f : Found) × IsFound es f × (has (chosen avoid f) u ≡ true))
 gathered_from es m avoid u met h =
     ⊎_elim
     (λ a. let heard = (met.heard u).0 a in inl (subst (IsCertainUid es) heard.3 (Heard-certain es heard.0 heard.1 heard.2)))
@@ -119,24 +119,24 @@ gathered_from es m avoid u met h =
     (append_cases m.heard.items (all_chosen avoid m.found.items) u h)
 
 -- all are open
-gathered_open : (es : List Entry) (m : Met) (avoid : Option ℕ) → IsPossible es → IsMet es m → IsWithin (has (gathered avoid m)) (is_open (slots_of es))
+gathered_open : (es : List Entry) (m : Met) (avoid : Option ℕ) → IsPossible es → IsMet es m → IsWithin (has (chosen_population avoid m)) (is_open (slots_of es))
 gathered_open es m avoid possible met u h = grind (arith, nat_tests, gathered_from es m avoid u met h, chosen_parts avoid, IsPossibleUid-iff es u possible)
 
 -- the one to avoid isn't there
-pub gathered_other : (es : List Entry) (m : Met) (a : ℕ) → (IsCertainUid es a → ⊥) → IsMet es m → has (gathered (Some a) m) a ≡ true → ⊥
+pub gathered_other : (es : List Entry) (m : Met) (a : ℕ) → (IsCertainUid es a → ⊥) → IsMet es m → has (chosen_population (Some a) m) a ≡ true → ⊥
 gathered_other es m a n met h =
     ⊎_elim n (λ from. let other = (chosen_parts (Some a) from.0 a from.2).1 in grind (arith, nat_tests)) (gathered_from es m (Some a) a met h)
 
 -- they are few, also with one more
-gathered_few : (es : List Entry) (m : Met) (avoid : Option ℕ) (xs us : List ℕ) → IsMet es m → AreDifferent us → IsWithin (has us) (has (gathered avoid m ++ xs)) → length xs ≤ 1 → AreFew es us
+gathered_few : (es : List Entry) (m : Met) (avoid : Option ℕ) (xs us : List ℕ) → IsMet es m → AreDifferent us → IsWithin (has us) (has (chosen_population avoid m ++ xs)) → length xs ≤ 1 → AreFew es us
 gathered_few es m avoid xs us met different within one heard all =
     let picks = all_chosen avoid m.found.items in
     let le = no_more us (heard ++ (picks ++ xs)) different (λ u h. grind (arith, nat_tests, list_any-append, within u h, met.heard u, all u)) in
     omega (arith, length-append heard (picks ++ xs), length-append picks xs, few_chosen avoid m.found.items, met.found.few)
 
 -- what a position asks for
-asked_there : (es : List Entry) (m : Met) (avoid : Option ℕ) (i n : ℕ) → needs_at es i ≡ n → 0 < n → AvoidsNoneCertain es avoid → IsMet es m → (xs : List ℕ) × AreDifferent xs × (n ≤ length xs) × IsWithin (has (take n xs)) (answering (has (gathered avoid m)) es i)
-asked_there es m avoid i n is some none met =
+needed_there : (es : List Entry) (m : Met) (avoid : Option ℕ) (i n : ℕ) → needs_at es i ≡ n → 0 < n → AvoidsNoneCertain es avoid → IsMet es m → (xs : List ℕ) × AreDifferent xs × (n ≤ length xs) × IsWithin (has (take n xs)) (answering (has (chosen_population avoid m)) es i)
+needed_there es m avoid i n is some none met =
     let fs = m.found.items in
     let any = met.found.met i (omega arith) in
     let f = any.1 in
@@ -151,15 +151,15 @@ asked_there es m avoid i n is some none met =
           and_from _ _ (append_right m.heard.items (all_chosen avoid fs) u member) (and_parts (is_open (slots_of es) u) _ (any.4.answer u (chosen_parts avoid f u c).0)).1,
     )
 
-gathered_asks : (es : List Entry) (m : Met) (avoid : Option ℕ) → IsPossible es → AvoidsNoneCertain es avoid → IsMet es m → (i : ℕ) (e : Entry) → slice_get es i ≡ Some e → EntryAsks (reading_of e) (answering (has (gathered avoid m)) es i)
+gathered_asks : (es : List Entry) (m : Met) (avoid : Option ℕ) → IsPossible es → AvoidsNoneCertain es avoid → IsMet es m → (i : ℕ) (e : Entry) → slice_get es i ≡ Some e → EntryAsks (reading_of e) (answering (has (chosen_population avoid m)) es i)
 gathered_asks es m avoid possible none met i (Heard r) k =
     let member = append_left m.heard.items (all_chosen avoid m.found.items) r.uid ((met.heard r.uid).1 (i, r, k, refl)) in
     and_from _ _ member (and_parts _ _ (supplied_each es i (Heard r) k possible)).1
 gathered_asks es m avoid possible none met i Collision k =
-    let w = asked_there es m avoid i 2 (ap needs_of k) (omega arith) none met in
+    let w = needed_there es m avoid i 2 (ap needs_of k) (omega arith) none met in
     asks_within ManyReplies _ _ w.3 (two_of w.0 w.1 w.2)
 gathered_asks es m avoid possible none met i Garbled k =
-    let w = asked_there es m avoid i 1 (ap needs_of k) (omega arith) none met in
+    let w = needed_there es m avoid i 1 (ap needs_of k) (omega arith) none met in
     asks_within SomeReply _ _ w.3 (one_of w.0 w.2)
 gathered_asks es m avoid possible none met i e k = tt
 
@@ -167,10 +167,10 @@ asks_entry : (o : Option Reading) (s t : ℕ → Bool) → IsWithin s t → Entr
 asks_entry o s t w a = grind (arith, nat_tests)
 
 -- with one more possible UID, or none, they are a small population
-pub gathered_small : (es : List Entry) (m : Met) (avoid : Option ℕ) (xs us : List ℕ) → IsPossible es → AvoidsNoneCertain es avoid → IsMet es m → ((u : ℕ) → has xs u ≡ true → IsPossibleUid es u) → length xs ≤ 1 → IsStrictlyIncreasing us → SameMembers us (gathered avoid m ++ xs) → IsSmallPopulation es us
+pub gathered_small : (es : List Entry) (m : Met) (avoid : Option ℕ) (xs us : List ℕ) → IsPossible es → AvoidsNoneCertain es avoid → IsMet es m → ((u : ℕ) → has xs u ≡ true → IsPossibleUid es u) → length xs ≤ 1 → IsStrictlyIncreasing us → SameMembers us (chosen_population avoid m ++ xs) → IsSmallPopulation es us
 gathered_small es m avoid xs us possible none met may one rising same =
     let slots = slots_of es in
-    let all = gathered avoid m in
+    let all = chosen_population avoid m in
     let from : IsWithin (has us) (has (all ++ xs)) = λ u h. sym (same u) ∙ h in
     let within : IsWithin (has us) (is_open slots) = λ u h. ⊎_elim (λ old. gathered_open es m avoid possible met u old) (λ new. (IsPossibleUid-iff es u possible).0 (may u new)) (append_cases all xs u (from u h)) in
     let population = rising_population us rising (λ u h. IsUid-from u (is_open-is_uid slots u (within u h))) in

@@ -1,5 +1,5 @@
 -- A slot that lacks the tags it requires contradicts the lines up to it, and up to the last one that may rule UIDs out.
-use Rattle.vic_verdict.proofs.Words.{◌≡◌, ℕ, zero, suc, ◌+◌, ◌<◌, ◌≤◌, List, length, take, Bool, true, false, ◌&&◌, Option, Some, None, inl, inr, refl, sym, ap, ◌∙◌, subst, arith, nat_tests, common_steps, gets, slice_get, length-map, length-take-le, cases_eq, slice_get_within, Entry, LogLine, entries, answers_at, Slot, reading_of, slots_before, slots_of, is_open, Asks, SuppliesAll, AgreeBefore, answers_agree, IsPossible, IsContradictedAt, Lacks, rules_out, answering, with_entry, NoneRulesOutAfter}
+use Rattle.vic_verdict.proofs.Words.{◌≡◌, ℕ, zero, suc, ◌+◌, ◌-◌, ◌<◌, ◌≤◌, List, length, take, Bool, true, false, ◌&&◌, Option, Some, None, inl, inr, refl, sym, ap, ◌∙◌, subst, arith, nat_tests, common_steps, gets, slice_get, length-map, length-take-le, cases_eq, slice_get_within, Entry, LogLine, entries, answers_at, Slot, reading_of, slots_before, slots_of, is_open, Asks, SuppliesAll, AgreeBefore, answers_agree, IsPossible, IsContradictedAt, Lacks, rules_out, answering, with_entry, NoneRulesOutAfter}
 use Rattle.vic_verdict.proofs.Decide.{IsPossible-iff}
 use Rattle.vic_verdict.proofs.Entries.{SuppliesBefore, SuppliesAll-places, entry_allows}
 
@@ -59,14 +59,6 @@ lacking_lines lines i lacks =
       },
     )
 
--- after a position, and before another, no entry may rule UIDs out
-abbrev pub NoneRulesOutTo : List Entry → ℕ → ℕ → Type 0
-NoneRulesOutTo es c n = (j : ℕ) (e : Entry) → c < j → j < n → slice_get es j ≡ Some e → rules_out e ≡ false
-
-pub none_more : (es : List Entry) (c n : ℕ) (e : Entry) → slice_get es n ≡ Some e → rules_out e ≡ false → NoneRulesOutTo es c n → NoneRulesOutTo es c (n + 1)
-none_more es c n e k none h j f above below g = grind (arith, nat_tests)
-
-pub none_after : (lines : List LogLine) (c n : ℕ) → length lines ≤ n → NoneRulesOutTo (entries lines) c n → NoneRulesOutAfter (entries lines) c
-none_after lines c n long h j e above k =
-    let size = length-map lines (λ (l : LogLine). l.item) in
-    h j e above (omega (arith, slice_get_within (entries lines) j e k)) k
+-- where the entry at a position does not rule UIDs out either
+pub none_before : (es : List Entry) (n : ℕ) (e : Entry) → slice_get es n ≡ Some e → rules_out e ≡ false → NoneRulesOutAfter es n → NoneRulesOutAfter es (n - 1)
+none_before es n e k none h j f above g = grind (arith, nat_tests)

@@ -17,6 +17,7 @@ pub mod Listing
 pub mod Differing
 pub mod Merging
 pub mod Sweeping
+pub mod Joining
 pub mod Closing
 pub mod Stretching
 pub mod Choosing

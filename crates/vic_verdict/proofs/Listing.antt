@@ -1,5 +1,10 @@
 -- The UIDs that a log lists, line by line.
-use Rattle.vic_verdict.proofs.Words.{◌≡◌, ℕ, zero, suc, ◌<◌, ◌+◌, List, [], ◌∷◌, ◌++◌, Some, take, ap, ◌∙◌, arith, slice_get, entries_next, listed-append, LogLine, entries, listed, IsRisingFrom}
+use Rattle.vic_verdict.proofs.Words.{◌≡◌, ℕ, zero, suc, ◌<◌, ◌+◌, List, [], ◌∷◌, ◌++◌, Some, take, refl, Entry, Listed, ap, ◌∙◌, arith, slice_get, entries_next, listed-append, LogLine, entries, listed, IsRisingFrom}
+
+-- an entry that is no listed UID lists none
+pub lists_none : (e : Entry) → ((u : ℕ) → e ≡ Listed u → ⊥) → listed (e ∷ []) ≡ []
+lists_none (Listed u) none = absurd (none u refl)
+lists_none e none = refl
 
 -- one line more
 pub listed_more : (lines : List LogLine) (i : ℕ) (l : LogLine) → slice_get lines i ≡ Some l → listed (entries (take (suc i) lines)) ≡ listed (entries (take i lines)) ++ listed (l.item ∷ [])

@@ -1,6 +1,6 @@
 -- What is met makes a log possible, and UIDs certain.
-use Rattle.vic_verdict.proofs.Words.{◌≡◌, ℕ, ◌+◌, ◌<◌, ◌≤◌, ◌==◌, ◌&&◌, ◌||◌, ◌++◌, List, [], ◌∷◌, length, take, get_or, Bool, true, false, Some, refl, sym, ap, ◌∙◌, arith, nat_tests, inl, inr, ◌⊎◌, ◌↔◌, slice_get, Any, list_all, list_any, cases_lt, and_parts, and_from, both_ways, slice_get_within, list_all_at, list_any-append, list_any-from_Any, list_any_more, take_all, Any-from_list_any, has, SameUids, LogLine, entries, Reply, Entry, Collision, Heard, Garbled, answers_at, OneReply, reading_of, slots_of, is_open, IsForcedBy, IsUid-from, Found, Met, IsPossible, IsContradictedAt, Lacks, answering, needs, needs_of, HasHeard, IsFound, AreFound, IsMet, IsMetFor, IsHeard, NoneRulesOutAfter, RepliesAnswer, AreDifferent, IsWithin}
-use Rattle.vic_verdict.proofs.Entries.{EntryAsks, EntryForces, IsForcedBy-places, enough_asked, enough_forced, forces_cases}
+use Rattle.vic_verdict.proofs.Words.{◌≡◌, ℕ, ◌+◌, ◌<◌, ◌≤◌, ◌==◌, ◌&&◌, ◌||◌, ◌++◌, List, [], ◌∷◌, length, take, get_or, Bool, true, false, Some, refl, sym, ap, ◌∙◌, arith, nat_tests, inl, inr, ◌↔◌, slice_get, Any, list_all, list_any, cases_lt, and_parts, and_from, both_ways, slice_get_within, list_all_at, list_any-append, list_any-from_Any, list_any_more, take_all, Any-from_list_any, has, SameUids, LogLine, entries, Reply, Entry, Collision, Heard, Garbled, answers_at, OneReply, reading_of, slots_of, is_open, IsForcedBy, IsUid-from, Found, Met, IsPossible, IsContradictedAt, Lacks, answering, needs, needs_of, HasHeard, IsFound, AreFound, IsMet, IsMetFor, IsHeard, NoneRulesOutAfter, RepliesAnswer, AreDifferent, IsWithin}
+use Rattle.vic_verdict.proofs.Entries.{EntryAsks, EntryForces, IsForcedBy-places, enough_needed, enough_forced, forces_cases}
 use Rattle.vic_verdict.proofs.Gathering.{exact_forces}
 use Rattle.vic_verdict.specs.Rising.{Adds}
 use Rattle.vic_verdict.proofs.KeyOrder.{not_all}
@@ -9,9 +9,6 @@ use Rattle.vic_verdict.proofs.Populations.{is_open-is_uid}
 use Rattle.vic_verdict.proofs.Supplied.{supplied_all}
 
 -- ---- who was heard
-
-pub has_pushed : (us : List ℕ) (v u : ℕ) → has (us ++ v ∷ []) u ≡ true → (has us u ≡ true) ⊎ (u ≡ v)
-has_pushed us v u h = grind (arith, nat_tests, list_any-append)
 
 -- an entry more, and whom it heard
 pub heard_kept : (es : List Entry) (i : ℕ) (us : List ℕ) (e : Entry) → slice_get es i ≡ Some e → ((r : Reply) → e ≡ Heard r → ⊥) → HasHeard es i us → HasHeard es (i + 1) us
@@ -62,7 +59,7 @@ pub met_all : (es : List Entry) (n : ℕ) (set : ℕ → Bool) (m : Met) → len
 met_all es n set m long replies same heard all found = (supplied_all es (λ i e below k. go i e k), record { heard = λ u. was_heard es n m.heard.items u long heard; found = found })
   where
     needed : (i : ℕ) (e : Entry) → slice_get es i ≡ Some e → 0 < needs e → EntryAsks (reading_of e) (answering (is_open (slots_of es)) es i)
-    needed i e k some = let w = met_found es m.found.items i e found k some in enough_asked e _ w.1.uids.items some w.4.0 w.4.2 w.4.3
+    needed i e k some = let w = met_found es m.found.items i e found k some in enough_needed e _ w.1.uids.items some w.4.0 w.4.2 w.4.3
 
     go : (i : ℕ) (e : Entry) → slice_get es i ≡ Some e → EntryAsks (reading_of e) (answering (is_open (slots_of es)) es i)
     go i (Heard r) k =
@@ -74,10 +71,6 @@ met_all es n set m long replies same heard all found = (supplied_all es (λ i e 
 
 -- ---- what makes a UID certain
 
--- so many of a list's members
-abbrev pub Exactly : ℕ → List ℕ → ℕ → Type 0
-Exactly n us u = (length us ≡ n) × (has us u ≡ true)
-
 -- exactly as many were found as are needed, the UID among them
 abbrev pub is_exact : ℕ → Found → Bool
 is_exact u f = (length f.uids.items == f.need) && has f.uids.items u
@@ -88,10 +81,8 @@ HasCertain heard fs us = (u : ℕ) → has us u ≡ (has heard u || list_any (is
 
 pub certain_more : (heard old new ys : List ℕ) (fs : List Found) (k : ℕ) (f : Found) → k < length fs → f ≡ get_or fs k f → ys ≡ f.uids.items → Adds (λ u. (length ys ≡ f.need) × (has ys u ≡ true)) old new → HasCertain heard (take k fs) old → HasCertain heard (take (k + 1) fs) new
 certain_more heard old new ys fs k f below is same adds h u =
-    let more : list_any (is_exact u) (take (k + 1) fs) ≡ (list_any (is_exact u) (take k fs) || is_exact u f) = list_any_more (is_exact u) fs k f below ∙ ap (λ g. list_any (is_exact u) (take k fs) || is_exact u g) (sym is) in
     let own = rw same at (adds u) in
-    let before = h u in
-    rw more (grind (arith, nat_tests))
+    rw (list_any_more (is_exact u) fs k f below, ← is) (grind (arith, nat_tests, h u))
 
 pub certain_met : (m : Met) (us : List ℕ) (k : ℕ) → length m.found.items ≤ k → HasCertain m.heard.items (take k m.found.items) us → (u : ℕ) → (has us u ≡ true) ↔ IsMetFor m u
 certain_met m us k long h u =

@@ -1,5 +1,5 @@
 -- The mentions of entries, and who is Quiet by them.
-use Rattle.vic_verdict.proofs.Words.{◌≡◌, ℕ, zero, suc, ◌^◌, ◌<◌, ◌≤◌, ◌==◌, List, [], ◌++◌, Bool, true, false, ◌&&◌, Option, Some, All, nat_lt, slice_get, refl, sym, ap, ◌∙◌, subst, arith, inl, inr, eq-eqb, le-leb, IsUid, is_uid, mirror, Entry, Heard, Sent, Reply, silences, wakes, is_quiet, is_quiet_by, quiet_of, Mention, is_uid_from, IsUid-from, uid_of, uid_of_mirror, cases_lt, cases_eq, both_ways, false≢true, list_any, list_any-append, or_left, or_right, HaveKeys, is_mentioned, All-nil, All-cons, All-append, list_all-from_AllPass, mirror_below, same_test, StayQuiet, mention_at, mentions_at, mentions_from, are_left, and_from, FieldCycle, NEVER, and_parts, eqb-true, lt-leb, lt_from, lt_yes, quiet-silenced, same_tests, silenced-quiet, cases_Bool, ⊎_elim}
+use Rattle.vic_verdict.proofs.Words.{◌≡◌, ℕ, zero, suc, ◌^◌, ◌<◌, ◌≤◌, ◌==◌, List, [], ◌++◌, Bool, true, false, ◌&&◌, Option, Some, All, nat_lt, nat_tests, slice_get, refl, sym, ap, ◌∙◌, subst, arith, inl, inr, eq-eqb, le-leb, IsUid, mirror, Entry, Heard, Reply, silences, wakes, is_quiet, is_quiet_by, quiet_of, Mention, is_uid_from, IsUid-from, uid_of, uid_of_mirror, cases_lt, both_ways, false≢true, list_any, list_any-append, or_left, HaveKeys, is_mentioned, All-nil, All-cons, All-append, list_all-from_AllPass, mirror_below, same_test, mention_at, mentions_at, mentions_from, are_left, FieldCycle, NEVER, and_parts, eqb-true, lt-leb, lt_from, quiet-silenced, same_tests, silenced-quiet, ⊎_elim, is_heard}
 use Rattle.vic_verdict.proofs.Ready.{one_of}
 
 -- ---- UIDs by their keys
@@ -18,12 +18,7 @@ mentions_next es from i since = rw (le-leb from i since) refl
 
 -- what is so of each mention that silences a UID, and of each that hears one
 mentions_by : (P : Mention → Type 0) (o : Option Entry) (i : ℕ) → ((u : ℕ) → IsUid u → silences o u ≡ true → P (mention_at (mirror u) i false)) → ((r : Reply) → o ≡ Some (Heard r) → P (mention_at (mirror r.uid) i true)) → All P (mentions_at o i)
-mentions_by P (Some (Heard r)) i f g = All-cons P _ [] (g r refl) (All-nil P)
-mentions_by P (Some (Sent (StayQuiet link uid))) i f g = elim (cases_Bool (is_uid uid)) [
-  | inl e ↦ rw e (All-cons P _ [] (f uid (IsUid-from uid e) (eq-eqb uid uid refl)) (All-nil P))
-  | inr e ↦ rw e (All-nil P)
-]
-mentions_by P o i f g = All-nil P
+mentions_by P o i f g = grind (arith, nat_tests, All-nil P, All-cons P, IsUid-from)
 
 pub mentions_each : (P : Mention → Type 0) (es : List Entry) (from i : ℕ) → ((j u : ℕ) → IsUid u → silences (slice_get es j) u ≡ true → from ≤ j → P (mention_at (mirror u) j false)) → ((j : ℕ) (r : Reply) → from ≤ j → j < i → slice_get es j ≡ Some (Heard r) → P (mention_at (mirror r.uid) j true)) → All P (mentions_from es from i)
 mentions_each P es from zero f g = All-nil P
@@ -36,10 +31,7 @@ mentions_each P es from (suc i) f g = elim (cases_lt i from) [
 pub mentions_some : (p : Mention → Bool) (es : List Entry) (from i j : ℕ) → from ≤ j → j < i → list_any p (mentions_at (slice_get es j) j) ≡ true → list_any p (mentions_from es from i) ≡ true
 mentions_some p es from zero j since lt e = absurd (omega arith)
 mentions_some p es from (suc i) j since lt e =
-    ap (list_any p) (mentions_next es from i (omega arith)) ∙ (list_any-append p (mentions_from es from i) (mentions_at (slice_get es i) i) ∙ elim (cases_eq j i) [
-      | inl same ↦ or_right _ _ (subst (λ m. list_any p (mentions_at (slice_get es m) m) ≡ true) same e)
-      | inr ne ↦ or_left _ _ (mentions_some p es from i j since (omega arith) e)
-    ])
+    grind (arith, nat_tests, list_any-append p (mentions_from es from i) (mentions_at (slice_get es i) i), mentions_some p es from i j since)
 
 pub mentions_keys : (es : List Entry) (from i : ℕ) → HaveKeys (mentions_from es from i)
 mentions_keys es from i = mentions_each (λ (n : Mention). n.key < 2 ^ 56) es from i (λ j u w s since. mirror_below 56 u) (λ j r since lt e. mirror_below 56 r.uid)
@@ -65,10 +57,7 @@ heard_mentioned es from i j r since lt k = mentions_some (λ (n : Mention). n.ke
 
 -- whom an entry silences is Quiet by its mention
 silenced_here : (o : Option Entry) (k j u : ℕ) → k < j → IsUid u → silences o u ≡ true → is_quiet_by (mentions_at o k) (mirror u) j ≡ true
-silenced_here (Some (Sent (StayQuiet link uid))) k j u lt w e =
-    let same : uid ≡ u = eqb-true uid u e in
-    rw (same, is_uid_from u w) (or_left _ _ (and_from _ _ (eq-eqb (mirror u) (mirror u) refl) (lt_yes k j lt)))
-silenced_here o k j u lt w e = absurd (false≢true e)
+silenced_here o k j u lt w e = grind (arith, nat_tests, is_uid_from u w)
 
 -- without a field cycle in between they show who is Quiet
 pub quiet_mentions : (es : List Entry) (from i j u : ℕ) → is_quiet es from u ≡ false → ((m : ℕ) → from ≤ m → m < i → wakes (slice_get es m) ≡ false) → from ≤ j → j ≤ i → i ≤ 2 ^ 32 → IsUid u → is_quiet_by (mentions_from es from i) (mirror u) j ≡ is_quiet es j u

@@ -2,10 +2,10 @@
 use Rattle.vic_verdict.proofs.Words.{◌≡◌, ℕ, ◌+◌, ◌<◌, ◌≤◌, ◌==◌, List, length, get_or, true, false, sym, ◌∙◌, arith, inl, inr, eq-eqb, eqb-true, get_or_default, IsStrictlyIncreasing, false_from_ne_true, cases_lt, has, same_tests, AreBelow}
 use Rattle.vic_verdict.proofs.Failing.{member_at, place_of}
 use Rattle.vic_verdict.proofs.Inserted.{rising_order}
-use Rattle.vic_verdict.specs.inner.Merging.{IsPlaceOf}
+use Rattle.vic_verdict.specs.inner.Merging.{IsIndexOf}
 
 -- a number that a rising list has is at its index
-at_place : (us : List ℕ) (n u : ℕ) → IsStrictlyIncreasing us → IsPlaceOf us n u → has us u ≡ true → (n < length us) × (get_or us n 0 ≡ u)
+at_place : (us : List ℕ) (n u : ℕ) → IsStrictlyIncreasing us → IsIndexOf us n u → has us u ≡ true → (n < length us) × (get_or us n 0 ≡ u)
 at_place us n u rising place e =
     let p = place_of us u 0 e in
     let within = p.1 in
@@ -16,12 +16,12 @@ at_place us n u rising place e =
           (short, omega (arith, p.2, place.above short, rising_order us rising n p.0 ge within))
     ]
 
-pub is_here : (us : List ℕ) (n u x : ℕ) → IsStrictlyIncreasing us → IsPlaceOf us n u → n < length us → x ≡ get_or us n x → (x == u) ≡ has us u
+pub is_here : (us : List ℕ) (n u x : ℕ) → IsStrictlyIncreasing us → IsIndexOf us n u → n < length us → x ≡ get_or us n x → (x == u) ≡ has us u
 is_here us n u x rising place within is =
     let here : get_or us n 0 ≡ x = get_or_default us n 0 x within ∙ sym is in
     same_tests _ _ (λ e. member_at us n u 0 within (here ∙ eqb-true x u e)) (λ h. eq-eqb x u (sym here ∙ (at_place us n u rising place h).1))
 
-pub is_past : (us : List ℕ) (n u : ℕ) → IsStrictlyIncreasing us → IsPlaceOf us n u → length us ≤ n → has us u ≡ false
+pub is_past : (us : List ℕ) (n u : ℕ) → IsStrictlyIncreasing us → IsIndexOf us n u → length us ≤ n → has us u ≡ false
 is_past us n u rising place past = false_from_ne_true _ (λ h. omega (arith, (at_place us n u rising place h).0))
 
 -- a later member of another rising list comes after all before the position of an earlier one

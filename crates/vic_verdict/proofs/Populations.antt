@@ -75,16 +75,16 @@ without_from u set w h ne = grind (arith, nat_tests)
 without_parts : (u : ℕ) (set : ℕ → Bool) (w : ℕ) → without u set w ≡ true → (set w ≡ true) × (w ≢ u)
 without_parts u set w h = grind (arith, nat_tests)
 
-some_asked : (t : ℕ → Bool) (n : ℕ) → ((w : ℕ) → t w ≡ true → w < n) → Either (Asks SomeReply t)
-some_asked t n b = some_either (λ u. t u ≡ true) (λ u. test_either (t u)) n b
+some_needed : (t : ℕ → Bool) (n : ℕ) → ((w : ℕ) → t w ≡ true → w < n) → Either (Asks SomeReply t)
+some_needed t n b = some_either (λ u. t u ≡ true) (λ u. test_either (t u)) n b
 
 -- whether a slot has what it asks for
 pub asks_either : (r : Reading) (t : ℕ → Bool) (n : ℕ) → ((w : ℕ) → t w ≡ true → w < n) → Either (Asks r t)
 asks_either NoReply t n b = inl tt
 asks_either (OneReply h) t n b = test_either (t h)
-asks_either SomeReply t n b = some_asked t n b
+asks_either SomeReply t n b = some_needed t n b
 asks_either ManyReplies t n b =
-    let other = λ (u : ℕ). some_asked (without u t) n (λ w h. b w (without_parts u t w h).0) in
+    let other = λ (u : ℕ). some_needed (without u t) n (λ w h. b w (without_parts u t w h).0) in
     elim (some_either (λ u. (t u ≡ true) × Asks SomeReply (without u t)) (λ u. and_either (test_either (t u)) (other u)) n (λ u h. b u h.0)) [
       | inl w ↦ let x = without_parts w.0 t w.1.1.0 w.1.1.1 in inl (w.1.1.0, w.0, x.1, x.0, w.1.0)
       | inr none ↦ inr (λ h. none (h.0, (h.3, (h.1, without_from h.0 t h.1 h.4 (λ e. h.2 (sym e))))))

@@ -1,5 +1,5 @@
 -- Whether somebody was heard while Quiet, by mentions in the order of their keys.
-use Rattle.vic_verdict.proofs.Words.{◌≡◌, ℕ, ◌+◌, ◌-◌, ◌<◌, ◌≤◌, ◌==◌, List, length, get_or, [], ◌∷◌, Bool, true, ◌&&◌, refl, sym, ap, ◌∙◌, arith, ◌⊎◌, nat_lt, eq-eqb, eqb-true, All, nat_tests, and_parts, and_from, list_any, All-head, All-tail, list_any_at, Any-from_list_any, Mention, NEVER, reply_place, IsFirstQuietReply, is_between, quiet_of, is_quiet_by, has_where, AreInOrder, is_quiet_reply, IsQuietReply, if◌then◌else◌, inl, inr, take, take_all, All-weaker, min, All-more}
+use Rattle.vic_verdict.proofs.Words.{◌≡◌, ℕ, ◌+◌, ◌-◌, ◌<◌, ◌≤◌, ◌==◌, List, length, get_or, [], ◌∷◌, Bool, true, ◌&&◌, refl, sym, ap, ◌∙◌, arith, nat_lt, All, nat_tests, list_any, All-head, All-tail, list_any_at, Any-from_list_any, Mention, NEVER, reply_place, IsFirstQuietReply, is_between, quiet_of, is_quiet_by, has_where, AreInOrder, is_quiet_reply, IsQuietReply, if◌then◌else◌, take, take_all, All-weaker, min, All-more}
 use Rattle.vic_verdict.proofs.Closing.{between_from}
 use Rattle.vic_verdict.proofs.Sweeping.{nobody}
 
@@ -38,23 +38,14 @@ pub record IsFoundTo (ns : List Mention) (end k first : ℕ) : Type 0 where
   pub quiet : first < end → IsQuietReply ns first
   pub least : All (ComesSince ns first) (take k ns)
 
-lower : (b : Bool) (first place next : ℕ) → next ≡ (if b then min first place else first) → (next ≤ first) × (b ≡ true → next ≤ place) × ((next ≡ first) ⊎ ((next ≡ place) × (b ≡ true)))
-lower b first place next is = (grind arith, λ e. grind arith, grind arith)
-
 -- a mention more, which may be a reply of a Quiet UID
 pub found_more : (ns : List Mention) (end quiet k first place next : ℕ) → k < length ns → place ≡ reply_place (at ns k) → place ≤ NEVER → TellsFrom ns k quiet → next ≡ (if nat_lt quiet place then min first place else first) → IsFoundTo ns end k first → IsFoundTo ns end (k + 1) next
 found_more ns end quiet k first place next below placed small tells is f =
-    let here : is_quiet_reply ns (at ns k) ≡ nat_lt quiet place = rw placed (tells _ (omega arith)) in
-    let step = lower (nat_lt quiet place) first place next is in
+    let here : is_quiet_by ns (at ns k).key place ≡ nat_lt quiet place = tells place small in
     record {
-      within = omega (arith, step.0, f.within);
-      quiet = λ lt. elim step.2 [
-        | inl old ↦ rw old (f.quiet (omega (arith, old)))
-        | inr new ↦ rw (new.0, placed) (list_any_at (λ (n : Mention). (reply_place n == reply_place (at ns k)) && is_quiet_by ns n.key (reply_place (at ns k))) ns k nobody below (and_from _ _ (eq-eqb _ _ refl) (here ∙ new.1)))
-      ];
-      least = All-more (ComesSince ns next) ns k nobody below
-          (All-weaker (ComesSince ns first) (ComesSince ns next) (λ n le e. omega (arith, le e, step.0)) (take k ns) f.least)
-          (λ e. omega (arith, placed, step.1 (sym here ∙ e)));
+      within = grind (arith, f.within);
+      quiet = λ lt. grind (arith, nat_tests, f.quiet, tells next, list_any_at (λ (n : Mention). (reply_place n == next) && is_quiet_by ns n.key next) ns k nobody below);
+      least = All-more (ComesSince ns next) ns k nobody below (All-weaker (ComesSince ns first) (ComesSince ns next) (λ n le e. grind (arith, le e)) (take k ns) f.least) (λ e. grind arith);
     }
 
 pub found_all : (ns : List Mention) (end k first : ℕ) → length ns ≤ k → IsFoundTo ns end k first → IsFirstQuietReply ns end first
@@ -62,10 +53,6 @@ found_all ns end k first past f = record {
   within = f.within;
   quiet = f.quiet;
   first = λ m e.
-      let some = Any-from_list_any (λ (n : Mention). (reply_place n == m) && is_quiet_by ns n.key m) ns e in
-      let parts = and_parts (reply_place some.1 == m) (is_quiet_by ns some.1.key m) some.4 in
-      let placed = eqb-true (reply_place some.1) m parts.0 in
       let least : All (ComesSince ns first) ns = rw (take_all k ns past) at f.least in
-      let far : ComesSince ns first some.1 = rw some.3 at (least some.0 some.1 some.2) in
-      omega (arith, far (rw placed parts.1));
+      grind (arith, nat_tests, Any-from_list_any (λ (n : Mention). (reply_place n == m) && is_quiet_by ns n.key m) ns e, least);
 }

@@ -1,5 +1,5 @@
 -- What the slots between two field cycles leave, mention by mention.
-use Rattle.vic_verdict.proofs.Words.{All, Bool, IsPermutation, List, None, Option, Some, [], ap, arith, drop, eqb-true, false, filter, get_or, get_or-drop, get_or-take, if◌then◌else◌, inl, inr, le_of_lt, length, length-append, length-drop, length-take-le, ltb-false, nat_lt, not, refl, set, subst, sym, take, take-append-drop, true, ℕ, ◌&&◌, ◌++◌, ◌+◌, ◌-◌, ◌<◌, ◌==◌, ◌^◌, ◌||◌, ◌∙◌, ◌∷◌, ◌≡◌, ◌≤◌, ◌⊎◌, and_parts, both_ways, false≢true, nat_tests, drop_more, get_or-map, get_or_default, length-map, map-append, All-filter, All-head, All-map, All-tail, list_all_more, map_fixed, All-permutation, IsPermutation-sym, list_any-IsPermutation, AllPass-from_list_all, list_all-from_AllPass, list_all, and_thrice, and_true, lt_from, lt_yes, same_tests, in_ranges, is_between, Mention, ReadSlot, Run, Closes, is_in_some, AreInOrder, ArePutInOrder, IsStart, all_allow, all_allow_to, all_hear_mentioned, all_leave, are_left, first_of, has_left, has_where, heard_of, hears_mentioned, is_heard, is_in, is_mentioned, is_mentioned_if, is_quiet_by, keep, keep_all, last_of, summary_leaves, mask_leaves, quiet_of, read_allows, read_leaves, run_leaves, slot_leaves, get_or_at, IsPermutation-map, is_before}
+use Rattle.vic_verdict.proofs.Words.{All, Bool, IsPermutation, List, None, Option, Some, [], ap, arith, drop, eqb-true, false, get_or, get_or-drop, get_or-take, if◌then◌else◌, inl, inr, le_of_lt, length, length-append, length-drop, length-take-le, ltb-false, nat_lt, not, refl, set, subst, sym, take, take-append-drop, true, ℕ, ◌&&◌, ◌++◌, ◌+◌, ◌-◌, ◌<◌, ◌==◌, ◌^◌, ◌||◌, ◌∙◌, ◌∷◌, ◌≡◌, ◌≤◌, ◌⊎◌, and_parts, both_ways, false≢true, nat_tests, drop_more, get_or-map, get_or_default, length-map, map-append, All-map, list_all_more, map_fixed, All-permutation, IsPermutation-sym, AllPass-from_list_all, list_all-from_AllPass, list_all, and_thrice, and_true, lt_from, same_tests, in_ranges, is_between, Mention, ReadSlot, MaskSummary, Closes, is_in_any, AreInOrder, IsStart, all_allow, all_hear_mentioned, all_leave, are_left, first_of, has_left, has_where, heard_of, hears_mentioned, is_heard, is_in, is_mentioned, is_mentioned_if, is_quiet_by, keep, keep_all, last_of, summary_leaves, mask_leaves, quiet_of, read_allows, read_leaves, some_mask_leaves, slot_leaves, get_or_at, is_before, AreSameMentions}
 use Rattle.std.proofs.lemmas.List.Edits.{map_over_more}
 use Rattle.vic_verdict.proofs.Silencing.{silenced_later, silenced_permuted}
 use Rattle.vic_verdict.specs.declared.sweep.Summary.{Summary}
@@ -37,7 +37,7 @@ abbrev pub nobody : Mention
 nobody = record { key = 0; at = 0; is_heard = false; left = false }
 
 abbrev pub nowhere : ReadSlot
-nowhere = record { mask = 0; key = 0; at = 0; is_heard = false }
+nowhere = record { mask_number = 0; key = 0; at = 0; is_heard = false }
 
 -- the keys from a mention on are no less than its own
 order_from : (ns : List Mention) (first at : ℕ) → AreInOrder ns → (at < length ns → first ≤ (get_or ns at nobody).key) → (k : ℕ) (d : Mention) → at ≤ k → k < length ns → first ≤ (get_or ns k d).key
@@ -105,15 +105,15 @@ ruled_all first last l ns i up over =
 
 -- ---- a mask after another
 
-pub run_next : (o : Option Run) (s : ReadSlot) (keys : ℕ × ℕ) (m : Summary) (ns new : List Mention) → keys ≡ (first_of s, last_of s) → new ≡ keep_all (run_leaves o) ns → ((k q : ℕ) → summary_leaves m k q ≡ slot_leaves s.at (heard_of s) k q) → keep_all (run_leaves (Some (record { keys = keys; summary = m }))) new ≡ keep_all (λ k q. run_leaves o k q && read_leaves s k q) ns
-run_next o s keys m ns new same is h =
+pub mask_next : (o : Option MaskSummary) (s : ReadSlot) (keys : ℕ × ℕ) (m : Summary) (ns new : List Mention) → keys ≡ (first_of s, last_of s) → new ≡ keep_all (some_mask_leaves o) ns → ((k q : ℕ) → summary_leaves m k q ≡ slot_leaves s.at (heard_of s) k q) → keep_all (some_mask_leaves (Some (record { keys = keys; summary = m }))) new ≡ keep_all (λ k q. some_mask_leaves o k q && read_leaves s k q) ns
+mask_next o s keys m ns new same is h =
     keep_alike _ _ (λ k q. ap (λ (r : ℕ × ℕ). not (is_between r.0 r.1 k) || summary_leaves m k q) same ∙ ap (λ b. not (is_in s k) || b) (h k q)) new
-    ∙ (ap (keep_all (read_leaves s)) is ∙ keep_twice (read_leaves s) (run_leaves o) ns)
+    ∙ (ap (keep_all (read_leaves s)) is ∙ keep_twice (read_leaves s) (some_mask_leaves o) ns)
 
 -- one slot more of all
-pub runs_more : (o : Option Run) (r : Run) (reads : List ReadSlot) (i : ℕ) (s : ReadSlot) (old ns new : List Mention) → i < length reads → s ≡ get_or reads i s → keep_all (run_leaves o) ns ≡ keep_all (all_leave (take i reads)) old → keep_all (run_leaves (Some r)) new ≡ keep_all (λ k q. run_leaves o k q && read_leaves s k q) ns → keep_all (run_leaves (Some r)) new ≡ keep_all (all_leave (take (i + 1) reads)) old
-runs_more o r reads i s old ns new below is before step =
-    rw (step, ← keep_twice (read_leaves s) (run_leaves o) ns, before, keep_twice (read_leaves s) (all_leave (take i reads)) old)
+pub masks_more : (o : Option MaskSummary) (r : MaskSummary) (reads : List ReadSlot) (i : ℕ) (s : ReadSlot) (old ns new : List Mention) → i < length reads → s ≡ get_or reads i s → keep_all (some_mask_leaves o) ns ≡ keep_all (all_leave (take i reads)) old → keep_all (some_mask_leaves (Some r)) new ≡ keep_all (λ k q. some_mask_leaves o k q && read_leaves s k q) ns → keep_all (some_mask_leaves (Some r)) new ≡ keep_all (all_leave (take (i + 1) reads)) old
+masks_more o r reads i s old ns new below is before step =
+    rw (step, ← keep_twice (read_leaves s) (some_mask_leaves o) ns, before, keep_twice (read_leaves s) (all_leave (take i reads)) old)
     (keep_alike _ _ (λ k q. ap (λ x. all_leave (take i reads) k q && read_leaves x k q) is ∙ sym (list_all_more (λ t. read_leaves t k q) reads i s below)) old)
 
 -- ---- mentions and slots
@@ -140,7 +140,7 @@ limit [] k = None
 limit (s ∷ ss) k =
     if not (is_in s k) || (is_heard (heard_of s) k || not (is_before s.at (limit ss k))) then limit ss k else Some s.at
 
-limit_none : (ss : List ReadSlot) (k : ℕ) → is_in_some ss k ≡ false → limit ss k ≡ None
+limit_none : (ss : List ReadSlot) (k : ℕ) → is_in_any ss k ≡ false → limit ss k ≡ None
 limit_none [] k e = refl
 limit_none (s ∷ ss) k e = grind (arith, limit_none ss k)
 
@@ -158,17 +158,17 @@ key_mentioned ns None k e h = absurd (false≢true e)
 key_mentioned ns (Some x) k e h = rw (eqb-true x k e) at h
 
 -- all slots allow a key if and only if it lies in none or is left by mention
-allowed_covered : (ns : List Mention) (k : ℕ) (ss : List ReadSlot) → all_hear_mentioned ns ss ≡ true → all_allow ns ss k ≡ (not (is_in_some ss k) || quiet_before ns k (limit ss k))
+allowed_covered : (ns : List Mention) (k : ℕ) (ss : List ReadSlot) → all_hear_mentioned ns ss ≡ true → all_allow ns ss k ≡ (not (is_in_any ss k) || quiet_before ns k (limit ss k))
 allowed_covered ns k [] e = refl
 allowed_covered ns k (s ∷ ss) e =
     let parts = and_parts _ _ e in
-    next (quiet_before ns k) (is_in s k) (is_heard (heard_of s) k) (is_in_some ss k) (limit ss k) s.at (quiet_since ns k s.at (limit ss k)) (quiet_until ns k s.at (limit ss k)) (limit_none ss k)
+    next (quiet_before ns k) (is_in s k) (is_heard (heard_of s) k) (is_in_any ss k) (limit ss k) s.at (quiet_since ns k s.at (limit ss k)) (quiet_until ns k s.at (limit ss k)) (limit_none ss k)
     (λ h. simp and_true (key_mentioned ns (heard_of s) k h parts.0)) (silenced_mentioned ns k s.at) _ (allowed_covered ns k ss parts.1)
   where
     next : (f : Option ℕ → Bool) (b h i : Bool) (o : Option ℕ) (at : ℕ) → (is_before at o ≡ true → f (Some at) ≡ true → f o ≡ true) → (is_before at o ≡ false → f o ≡ true → f (Some at) ≡ true) → (i ≡ false → o ≡ None) → (h ≡ true → f None ≡ true) → (f (Some at) ≡ true → f None ≡ true) → (a : Bool) → a ≡ (not i || f o) → ((not b || (f (Some at) || h)) && a) ≡ (not (b || i) || f (if not b || (h || not (is_before at o)) then o else Some at))
     next f b h i o at since until none heard quiet a is = grind arith
 
--- ---- sorted, and those before a position
+-- ---- in another order
 
 all_kept : {X : Type 0} (p : X → Bool) (xs ys : List X) → IsPermutation xs ys → list_all p xs ≡ true → list_all p ys ≡ true
 all_kept p xs ys m e = list_all-from_AllPass p ys (All-permutation (λ x. p x ≡ true) xs ys m (AllPass-from_list_all p xs e))
@@ -176,37 +176,19 @@ all_kept p xs ys m e = list_all-from_AllPass p ys (All-permutation (λ x. p x �
 all_permuted : {X : Type 0} (p : X → Bool) (xs ys : List X) → IsPermutation xs ys → list_all p xs ≡ list_all p ys
 all_permuted p xs ys m = same_tests _ _ (all_kept p xs ys m) (all_kept p ys xs (IsPermutation-sym xs ys m))
 
-abbrev pub is_before_place : ℕ → ReadSlot → Bool
-is_before_place i s = nat_lt s.at i
-
--- all of them, where the position is behind them
-pub before_end : (i j : ℕ) (ss : List ReadSlot) → j ≤ i → All (λ (s : ReadSlot). s.at < j) ss → filter (is_before_place i) ss ≡ ss
-before_end i j [] le h = refl
-before_end i j (s ∷ ss) le h =
-    let lt = All-head (λ (t : ReadSlot). t.at < j) s ss h in
-    rw (lt_yes s.at i (omega arith), before_end i j ss le (All-tail (λ (t : ReadSlot). t.at < j) s ss h)) refl
-
-allow_filtered : (ns : List Mention) (i k : ℕ) (ss : List ReadSlot) → all_allow ns (filter (is_before_place i) ss) k ≡ all_allow_to ns ss i k
-allow_filtered ns i k [] = refl
-allow_filtered ns i k (s ∷ ss) = grind (arith, nat_tests, allow_filtered ns i k ss)
-
--- what the ranges leave open once the slots before a position, sorted, closed what they leave of sorted mentions
-pub settled_by : (ns ms : List Mention) (ss ts : List ReadSlot) (cut : ℕ) (old new : List (ℕ × ℕ)) (k : ℕ) → IsPermutation ns ms → IsPermutation (filter (is_before_place cut) ss) ts → are_left ns ≡ true → all_hear_mentioned ns ss ≡ true → Closes (keep_all (all_leave ts) ms) (is_in_some ts) old new → not (in_ranges new k) ≡ (not (in_ranges old k) && all_allow_to ns ss cut k)
-settled_by ns ms ss ts cut old new k m w left mentioned closes =
-    let early = filter (is_before_place cut) ss in
-    let p = all_leave ts in
+-- what the ranges leave open once the slots, sorted, closed what they leave of the mentions
+pub settled_by : (ns : List Mention) (ss ts : List ReadSlot) (old new : List (ℕ × ℕ)) (k : ℕ) → IsPermutation ss ts → are_left ns ≡ true → all_hear_mentioned ns ss ≡ true → Closes (keep_all (all_leave ts) ns) (is_in_any ts) old new → not (in_ranges new k) ≡ (not (in_ranges old k) && all_allow ns ss k)
+settled_by ns ss ts old new k m left mentioned closes =
     let closed = closes k in
-    let sorted = list_any-IsPermutation (λ n. (n.key == k) && n.left) _ _ (IsPermutation-map (keep p) ns ms m) in
-    let kept = left_before p (limit ts k) ns k (all_before ts k) left in
-    let allowed = allowed_covered ns k ts (list_all-from_AllPass (hears_mentioned ns) ts (All-permutation (λ s. hears_mentioned ns s ≡ true) early ts w (All-filter (is_before_place cut) (λ s. hears_mentioned ns s ≡ true) ss (AllPass-from_list_all (hears_mentioned ns) ss mentioned)))) in
-    let slots = all_permuted (λ s. read_allows ns s k) early ts w in
-    let upto = allow_filtered ns cut k ss in
+    let kept = left_before (all_leave ts) (limit ts k) ns k (all_before ts k) left in
+    let allowed = allowed_covered ns k ts (all_kept (hears_mentioned ns) ss ts m mentioned) in
+    let slots = all_permuted (λ s. read_allows ns s k) ss ts m in
     grind arith
 
--- sorted, and some of them ruled out
-pub put_in_order : (p : ℕ → ℕ → Bool) (ns sorted : List Mention) → IsPermutation ns sorted → AreInOrder sorted → ArePutInOrder ns (keep_all p sorted)
-put_in_order p ns sorted m order = record {
-  order = keep-order p sorted order;
-  keys = λ h. All-map (λ (n : Mention). n.key < 2 ^ 56) (keep p) sorted (All-permutation (λ (n : Mention). n.key < 2 ^ 56) ns sorted m h);
-  quiet = λ k i. keep-quiet p sorted k i ∙ silenced_permuted ns sorted k i m;
+-- mentions of which some are ruled out
+pub kept_same : (p : ℕ → ℕ → Bool) (ns : List Mention) → AreInOrder ns → AreSameMentions ns (keep_all p ns)
+kept_same p ns order = record {
+  order = keep-order p ns order;
+  keys = λ h. All-map (λ (n : Mention). n.key < 2 ^ 56) (keep p) ns h;
+  quiet = λ k i. keep-quiet p ns k i;
 }

@@ -1,5 +1,5 @@
 -- Each log has exactly one verdict.
-use Rattle.vic_verdict.proofs.Words.{◌≡◌, ◌∙◌, ℕ, suc, ◌<◌, ◌≤◌, ◌+◌, ◌^◌, ◌*◌, ◌%◌, ◌/◌, IsAtMost, take, zero, Some, slice_get, sum_by-cons, nat_tests, pow-le-pow_right, List, [], ◌∷◌, length, true, false, refl, sym, ap, subst, arith, inl, inr, ⊎_elim, ◌⊎◌, ◌↔◌, nat_le, filter, le_refl, sum_by, BitMask, Entry, LogLine, Impossible, Complete, lies_in, has, is_uid, IsUid, IsPossible, IsPossibleUid, IsCertainUid, entries, IsRisingFrom, listed, IsAbsent, IsUnlisted, IsUnsettled, IsDoubtful, IsLeast, IsFirstMask, NoSuch, IsVerdict, is_uid_from, IsUid-from, IsUid-member, entries_to, IsWhole, IsReached, sum_by_more_le, Version, IsLog, AreLogLines, Absent, Unlisted, Unsettled, Doubtful}
+use Rattle.vic_verdict.proofs.Words.{◌≡◌, ℕ, suc, ◌<◌, ◌≤◌, ◌+◌, ◌^◌, ◌*◌, ◌%◌, ◌/◌, IsAtMost, take, zero, Some, slice_get, sum_by-cons, nat_tests, pow-le-pow_right, List, [], ◌∷◌, length, true, false, refl, sym, ap, subst, arith, inl, inr, ⊎_elim, ◌⊎◌, ◌↔◌, nat_le, filter, le_refl, sum_by, BitMask, Entry, LogLine, Impossible, Complete, lies_in, has, is_uid, IsUid, IsPossible, IsPossibleUid, IsCertainUid, entries, IsRisingFrom, listed, IsAbsent, IsUnlisted, IsUnsettled, IsDoubtful, IsLeast, IsFirstMask, NoSuch, IsVerdict, is_uid_from, IsUid-from, IsUid-member, entries_to, IsWhole, IsReached, sum_by_more_le, Version, IsLog, AreLogLines, Absent, Unlisted, Unsettled, Doubtful}
 use Rattle.vic_verdict.proofs.Failing.{place_of}
 use Rattle.vic_verdict.specs.declared.judging.Verdict.{Verdict}
 use Rattle.vic_verdict.proofs.Halving.{possible_first, possible_shorter}
@@ -71,11 +71,7 @@ pub one_verdict : (lines : List LogLine) → IsRisingFrom 0 lines → (v w : Ver
 one_verdict lines r (Impossible n1) (Impossible n2) h k = ap Impossible (least_same _ n1 n2 h k)
 one_verdict lines r (Impossible n1) w h k = absurd (h.0 (possible_to lines r k.0 n1))
 one_verdict lines r v (Impossible n2) h k = absurd (k.0 (possible_to lines r h.0 n2))
-one_verdict lines r (Absent u1) (Absent u2) h k = ap Absent (least_same (IsAbsent (entries lines)) u1 u2 h.1 k.1)
-one_verdict lines r (Unlisted u1) (Unlisted u2) h k = ap Unlisted (least_same (IsUnlisted (entries lines)) u1 u2 h.2 k.2)
 one_verdict lines r (Unsettled m1) (Unsettled m2) h k = ap Unsettled (first_mask_same (IsUnsettled (entries lines)) m1 m2 h.3 k.3)
-one_verdict lines r (Doubtful u1) (Doubtful u2) h k = ap Doubtful (least_same (IsDoubtful (entries lines)) u1 u2 h.4 k.4)
-one_verdict lines r (Complete c1) (Complete c2) h k = ap Complete (h.5 ∙ sym k.5)
 one_verdict lines r v w h k = grind arith
 
 -- ---- at least one verdict

@@ -43,7 +43,7 @@ HasHeard es i us = (u : ℕ) → (has us u ≡ true)
 -- the UIDs are open and answer at position i, and there are as many as needed
 pub record IsFoundAt (es : List Entry) (i : ℕ) (f : Found) : Type 0 where
   pub place : f.at ≡ i
-  pub asked : 0 < f.need
+  pub needed : 0 < f.need
   pub need : needs_at es i ≡ f.need
   pub uids : UpToThree (answering (is_open (slots_of es)) es i) f.uids.items
   pub enough : f.need ≤ length f.uids.items

@@ -4,7 +4,7 @@ pub mod Sweep
 pub mod Closed
 pub mod Replies
 pub mod Answering
-pub mod Asked
+pub mod Unread
 pub mod Stretches
-pub mod Gathered
-pub mod Possible
+pub mod Chosen
+pub mod Ruling

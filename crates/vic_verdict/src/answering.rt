@@ -201,8 +201,8 @@ impl Learnt {
     }
 }
 
-/// What is known at a position: what has been found already, or what is known from position `from`
-/// on.
+/// What is known at a position: what has been found already, if it holds there; otherwise it is
+/// found anew, from position `from` on.
 fn known_at<S: OpenSet>(
     alloc: Global,
     set: &S,
@@ -227,7 +227,7 @@ fn known_at<S: OpenSet>(
 
 /// Open UIDs that answer in a slot with a block of keys: all if there are fewer than three,
 /// otherwise three. Usually those that are found first aren't Quiet, and nothing more has to be
-/// known. No slot before position `from` will be looked up.
+/// known. `from` is a hint: it saves time if no slot before that position is looked up.
 pub(crate) fn up_to_three_answering<S: OpenSet>(
     alloc: Global,
     set: &S,

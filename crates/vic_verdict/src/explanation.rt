@@ -6,11 +6,11 @@ ghost use Rattle.vic_log.specs.Order.{entries};
 ghost use Rattle.vic_verdict.specs.LogLines.{AreLogLines};
 ghost use Rattle.vic_verdict.specs.Facts.{AreFactsOf};
 ghost use Rattle.vic_verdict.specs.Explained.{IsExplanation};
-ghost use Rattle.vic_verdict.specs.inner.Gathered.{is_other, chosen, gathered};
+ghost use Rattle.vic_verdict.specs.inner.Chosen.{is_other, chosen, chosen_population};
 ghost use Rattle.vic_verdict.specs.Rising.{SameMembers};
 
 use crate::facts::{Facts, facts_of};
-use crate::judging::{Verdict, first_impossible_line, judge_told};
+use crate::judging::{Verdict, first_finding, first_impossible_line};
 use crate::unread_slots::{Found, Met};
 use std::alloc::{AllocError, Global};
 use vic_frame::Uid;
@@ -73,12 +73,12 @@ fn explain_facts<S: OpenSet>(
     ensures { IfOk result (IsExplanation lines.now) }
 {
     let Facts { open, met, certain } = facts;
-    let verdict = judge_told(alloc, open, &certain, lines)?;
+    let verdict = first_finding(alloc, open, &certain, lines)?;
     let population = match verdict {
         Verdict::Impossible { .. } | Verdict::Complete { .. } => None,
-        Verdict::Absent(_) | Verdict::Unlisted(_) => Some(gather(met, &None)?),
-        Verdict::Unsettled(mask) => Some(with_uid(gather(met, &None)?, mask.least_uid())?),
-        Verdict::Doubtful(uid) => Some(gather(met, &Some(uid))?),
+        Verdict::Absent(_) | Verdict::Unlisted(_) => Some(choose(met, &None)?),
+        Verdict::Unsettled(mask) => Some(with_uid(choose(met, &None)?, mask.least_uid())?),
+        Verdict::Doubtful(uid) => Some(choose(met, &Some(uid))?),
     };
     Ok(Explanation {
         verdict,
@@ -88,9 +88,9 @@ fn explain_facts<S: OpenSet>(
 
 /// The UIDs that were heard, two that answer in each collision, and one in each garbled slot, other
 /// than the one to avoid: in rising order.
-fn gather(met: Met, avoid: &Option<Uid>) -> Result<Vec<Uid>, AllocError>
+fn choose(met: Met, avoid: &Option<Uid>) -> Result<Vec<Uid>, AllocError>
     ensures rising { IfOk result (λ v. IsStrictlyIncreasing v.items) }
-    ensures members { IfOk result (λ v. SameMembers v.items (gathered avoid.now met)) }
+    ensures members { IfOk result (λ v. SameMembers v.items (chosen_population avoid.now met)) }
 {
     let Met {
         heard: mut uids,

@@ -15,12 +15,12 @@ ghost use Rattle.vic_verdict.specs.Possible.{IsContradiction, IsPossible};
 ghost use Rattle.vic_verdict.specs.Needs.{IsMet, IsMetFor, HasHeard};
 ghost use Rattle.vic_verdict.specs.Rising.{Adds, IsListOf};
 ghost use Rattle.vic_verdict.specs.Keys.{AreKeysOf};
-ghost use Rattle.vic_verdict.specs.inner.Possible.{rules_out, NoneRulesOutAfter};
+ghost use Rattle.vic_verdict.specs.inner.Ruling.{rules_out, NoneRulesOutAfter};
 ghost use Rattle.vic_verdict.specs.inner.Replies.{RepliesAnswer};
-ghost use Rattle.vic_verdict.specs.inner.Asked.{AreKept};
+ghost use Rattle.vic_verdict.specs.inner.Unread.{AreKept};
 
 use crate::stretches::{Settled, settle};
-use crate::unread_slots::{Met, Stretch, meet_stretches};
+use crate::unread_slots::{KeptStretch, Met, meet_stretches};
 use std::alloc::{AllocError, Global};
 use vic_frame::Uid;
 use vic_frame::low_bits_first::key;
@@ -127,7 +127,7 @@ pub fn open_and_met<S: OpenSet>(
     let set = S::without(alloc, closed)?;
     match meet_all(alloc, &set, &lines[..cut], &stretches)? {
         Ok(met) => {
-            // if there is a line at the cut, it is impossible by itself
+            // if there is a line at the cut, the requests before it make it impossible
             if cut < lines.len() {
                 return Ok(Err(Contradiction {
                     at: cut,
@@ -146,7 +146,7 @@ fn meet_all<S: OpenSet>(
     alloc: Global,
     set: &S,
     lines: &[PackedLine],
-    stretches: &[Stretch],
+    stretches: &[KeptStretch],
 ) -> Result<Result<Met, Contradiction>, AllocError>
     requires lines { AreLogLines lines.now }
     requires kept { AreKept (entries lines.now) (length (entries lines.now)) stretches.now }
@@ -211,20 +211,18 @@ pub fn keys_in_order(alloc: Global, uids: &[Uid]) -> Result<Vec<u64>, AllocError
     Ok(keys)
 }
 
-/// A position, from a given one on, after which no line rules UIDs out, so that the open UIDs stay
-/// the same: up to a contradiction there, they are those by which it was found. It is the first
-/// such position; no answer rests on that.
+/// The position of the last line after `from` that may rule UIDs out; `from` if there is none. The
+/// log up to that line leaves the same UIDs open as the complete log, so a contradiction that these
+/// show is one there, too.
 fn last_ruling(lines: &[PackedLine], from: usize) -> usize
     requires { from < length lines.now }
     ensures from { from ≤ result }
     ensures within { result < length lines.now }
     ensures after { NoneRulesOutAfter (entries lines.now) result }
 {
-    let mut last = from;
-    for index in from + 1..lines.len() {
-        if rules_out(&lines[index].item()) {
-            last = index;
-        }
+    let mut last = lines.len() - 1;
+    while from < last && !rules_out(&lines[last].item()) {
+        last -= 1;
     }
     last
 }

@@ -1,7 +1,7 @@
 //! How a list differs from what a log tells. UIDs are looked for in the order of their keys, so
 //! that a set in that order is walked once.
 
-ghost use Rattle.std.specs.Prelude.{◌≡◌, ◌++◌, ℕ, false, IfOk, List, ◌≤◌, [], ◌∷◌, if◌then◌else◌, OnOk, length, true};
+ghost use Rattle.std.specs.Prelude.{◌<◌, ◌^◌, ◌≡◌, ◌++◌, ℕ, false, IfOk, List, ◌≤◌, [], ◌∷◌, if◌then◌else◌, OnOk, length, true};
 ghost use Rattle.std.specs.List.Sorted.{IsNonDecreasing, IsStrictlyIncreasing};
 ghost use Rattle.vic_frame.specs.Uids.{has, IsUid};
 ghost use Rattle.vic_log.specs.Order.{entries, listed, IsRisingFrom};
@@ -9,7 +9,7 @@ ghost use Rattle.vic_tree.specs.OpenSet.{AreKeys};
 ghost use Rattle.vic_verdict.specs.Differences.{AreDifferences};
 ghost use Rattle.vic_verdict.specs.Keys.{AreKeysOf};
 ghost use Rattle.vic_verdict.specs.Rising.{IsFailing, IsListOf, SameMembers};
-ghost use Rattle.vic_verdict.specs.inner.Merging.{AreBelow, IsPlaceOf};
+ghost use Rattle.vic_verdict.specs.inner.Merging.{AreBelow, IsIndexOf};
 
 use crate::facts::keys_in_order;
 use std::alloc::{AllocError, Global};
@@ -95,7 +95,7 @@ pub fn missing_from(alloc: Global, uids: &[Uid], others: &[Uid]) -> Result<Vec<U
     let mut missing = Vec::new(alloc);
     let mut next = 0;
     for uid in uids {
-        next = place_from(others, next, *uid);
+        next = index_from(others, next, *uid);
         push_if(&mut missing, *uid, !is_at(others, next, *uid))?;
     }
     Ok(missing)
@@ -103,26 +103,26 @@ pub fn missing_from(alloc: Global, uids: &[Uid], others: &[Uid]) -> Result<Vec<U
 
 /// The index at which a rising list has a UID, or would have it, from an index on that isn't after
 /// it.
-fn place_from(uids: &[Uid], start: usize, uid: Uid) -> usize
+fn index_from(uids: &[Uid], start: usize, uid: Uid) -> usize
     requires start { start ≤ length uids.now }
     requires below { AreBelow uids.now start uid }
-    ensures { IsPlaceOf uids.now result uid }
+    ensures { IsIndexOf uids.now result uid }
 {
-    let mut place = start;
-    while place < uids.len() && uids[place] < uid {
-        place += 1;
+    let mut index = start;
+    while index < uids.len() && uids[index] < uid {
+        index += 1;
     }
-    place
+    index
 }
 
 /// Whether a rising list has a UID, by its index there.
-fn is_at(uids: &[Uid], place: usize, uid: Uid) -> bool
+fn is_at(uids: &[Uid], index: usize, uid: Uid) -> bool
     requires rising { IsStrictlyIncreasing uids.now }
-    requires place { IsPlaceOf uids.now place uid }
+    requires index { IsIndexOf uids.now index uid }
     ensures { result ≡ has uids.now uid }
 {
-    if place < uids.len() {
-        return uids[place] == uid;
+    if index < uids.len() {
+        return uids[index] == uid;
     }
     false
 }
@@ -145,24 +145,12 @@ pub fn listed_uids(alloc: Global, lines: &[PackedLine]) -> Result<Vec<Uid>, Allo
 {
     let mut uids = Vec::new(alloc);
     for line in lines {
-        push_listed(&mut uids, &line.item())?;
+        if let Entry::Listed(uid) = line.item() {
+            uids.push(uid)?;
+        }
     }
     put_in_order(&mut uids);
     Ok(uids)
-}
-
-/// Adds the UID that an entry lists.
-fn push_listed(uids: &mut Vec<Uid>, entry: &Entry) -> Result<(), AllocError>
-    ensures items { OnOk result (uids.new.items ≡ uids.old.items ++ listed (entry.now ∷ [])) }
-    ensures uids { OnOk result ((u : ℕ)
-        → has (listed (entry.now ∷ [])) u ≡ true → IsUid u) }
-{
-    if let Entry::Listed(uid) = *entry {
-        // for the clause `uids`: its number is that of a UID
-        let _number = uid.number();
-        uids.push(uid)?;
-    }
-    Ok(())
 }
 
 /// How many lines of a log list a UID.
@@ -171,20 +159,19 @@ pub fn count_listed(lines: &[PackedLine]) -> u32
     ensures { result ≡ length (listed (entries lines.now)) }
 {
     let mut count = 0;
-    for line in lines {
-        // for the proof: the numbers of lines rise and have 32 bits, which bounds the count
-        let _number = line.number();
-        count += count_one(&line.item());
+    for &line in lines {
+        count += count_one(line);
     }
     count
 }
 
-/// Whether an entry lists a UID, as a count.
-fn count_one(entry: &Entry) -> u32
-    ensures value { result ≡ length (listed (entry.now ∷ [])) }
+/// How many UIDs a line lists, one or none.
+fn count_one(line: PackedLine) -> u32
+    ensures value { result ≡ length (listed (line.item ∷ [])) }
     ensures small { result ≤ 1 }
+    ensures number { line.number < 2 ^ 32 }
 {
-    match *entry {
+    match line.item() {
         Entry::Listed(_) => 1,
         Entry::Sent(_)
         | Entry::Silent

@@ -84,7 +84,7 @@ fn judge_lines<S: OpenSet>(alloc: Global, lines: &[PackedLine]) -> Result<Verdic
                 met: _,
                 certain,
             },
-        ) => judge_told(alloc, open, &certain, lines),
+        ) => first_finding(alloc, open, &certain, lines),
         Err(contradiction) => {
             let line = first_impossible_line::<S>(alloc, lines, contradiction)?;
             Ok(Verdict::Impossible { line })
@@ -92,9 +92,9 @@ fn judge_lines<S: OpenSet>(alloc: Global, lines: &[PackedLine]) -> Result<Verdic
     }
 }
 
-/// The verdict on a possible log, by what its facts tell, the UIDs that it leaves open and those
-/// that are certain: the first finding. No later one is looked for.
-pub fn judge_told<S: OpenSet>(
+/// The first finding about a possible log, by the UIDs that it leaves open and those that are
+/// certain. No later one is looked for.
+pub fn first_finding<S: OpenSet>(
     alloc: Global,
     set: S,
     certain: &[Uid],
@@ -152,16 +152,16 @@ pub fn first_impossible_line<S: OpenSet>(
     let mut guess = first_guess(contradiction);
     let mut step: usize = 1;
     while low < last {
-        let place = match guess {
-            Some(place) => place,
+        let guessed = match guess {
+            Some(count) => count,
             None => guess_impossible_line(alloc, &lines[..last])?,
         };
-        let count = between(low, last, place);
+        let count = between(low, last, guessed);
         match open_and_met::<S>(alloc, &lines[..count])? {
             Ok(_) => {
                 low = count;
                 // if the guess was right, the line after it is the first impossible one
-                guess = Some(place.saturating_add(step));
+                guess = Some(guessed.saturating_add(step));
                 step = step.saturating_mul(2);
             }
             Err(earlier) => {
@@ -174,7 +174,7 @@ pub fn first_impossible_line<S: OpenSet>(
     Ok(lines[last].number())
 }
 
-/// A position above `low` and up to `last`: the guess if it is one, otherwise the middle.
+/// A count of lines above `low` and up to `last`: the guess if it is one, otherwise the middle.
 fn between(low: usize, last: usize, guess: usize) -> usize
     requires { low < last }
     ensures above { low < result }

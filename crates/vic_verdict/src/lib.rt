@@ -23,5 +23,5 @@ pub use facts::{
     Before, Contradiction, Facts, certain_uids, facts_of, keys_in_order, open_and_met,
 };
 pub use findings::{Differences, compare, count_listed, listed_uids, missing_from};
-pub use judging::{Verdict, first_impossible_line, judge, judge_told, judge_with};
+pub use judging::{Verdict, first_finding, first_impossible_line, judge, judge_with};
 pub use unread_slots::{Found, Met};

@@ -81,12 +81,12 @@ pub(crate) fn start_of(mentions: &[Mention], first: u64) -> usize
 }
 
 /// Whether a mention is the first whose key is at least `first`.
-fn is_start(mentions: &[Mention], at: usize, first: u64) -> bool
+fn is_start(mentions: &[Mention], index: usize, first: u64) -> bool
     requires order { AreInOrder mentions.now }
-    requires within { at < length mentions.now }
-    ensures { result ≡ true → IsStart mentions.now first at }
+    requires within { index < length mentions.now }
+    ensures { result ≡ true → IsStart mentions.now first index }
 {
-    first <= mentions[at].key && (at == 0 || mentions[at - 1].key < first)
+    first <= mentions[index].key && (index == 0 || mentions[index - 1].key < first)
 }
 
 /// How many mentions are looked at one by one before bisecting.
@@ -98,9 +98,9 @@ fn start_near(mentions: &[Mention], from: usize, first: u64) -> usize
     requires { AreInOrder mentions.now }
     ensures { IsStart mentions.now first result }
 {
-    for at in from..mentions.len().min(from.saturating_add(NEAR)) {
-        if is_start(mentions, at, first) {
-            return at;
+    for index in from..mentions.len().min(from.saturating_add(NEAR)) {
+        if is_start(mentions, index, first) {
+            return index;
         }
     }
     start_of(mentions, first)

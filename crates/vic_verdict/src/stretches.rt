@@ -1,51 +1,52 @@
 //! One walk over a log, from field cycle to field cycle: which keys its silent and answered slots
 //! close, and what its unread slots require.
 
-ghost use Rattle.std.specs.Prelude.{ℕ, ◌≡◌, ◌≢◌, ◌+◌, ◌^◌, ◌<◌, ◌++◌, false, List, Some, IsTrue, IfSome, IfOk, OnOk, slice_get};
+ghost use Rattle.std.specs.Prelude.{ℕ, ◌≡◌, ◌+◌, ◌^◌, ◌<◌, ◌≤◌, ◌++◌, List, [], Some, IfSome, IfOk, OnOk, length, slice_get};
+ghost use Rattle.std.specs.List.{All};
 ghost use Rattle.vic_frame.specs.LowBitsFirst.{IsBlock, is_in_some_block};
-ghost use Rattle.vic_verdict.specs.LogLines.{AreLogLines};
 ghost use Rattle.vic_log.specs.declared.entry.Entry.{Entry as EntryValue};
-ghost use Rattle.vic_log.specs.declared.entry.Entry.TheVariants.{FieldCycle, Sent};
+ghost use Rattle.vic_log.specs.declared.entry.Entry.TheVariants.{Sent};
 ghost use Rattle.vic_log.specs.OpenRounds.{IsCursorAt};
-ghost use Rattle.vic_log.specs.Order.{AreValid};
-ghost use Rattle.vic_verdict.specs.Possible.{IsContradictedAt};
-ghost use Rattle.vic_verdict.specs.inner.Stretches.{AddsReadSlot, HasGathered, IsSettled, mentions_at};
+ghost use Rattle.vic_log.specs.Order.{AreValid, entries};
+ghost use Rattle.vic_log.specs.Quiet.{wakes};
+ghost use Rattle.vic_verdict.specs.LogLines.{AreLogLines};
+ghost use Rattle.vic_verdict.specs.Needs.{needs};
+ghost use Rattle.vic_verdict.specs.declared.stretches.Noted.TheVariants.{GoesOn, Ends};
+ghost use Rattle.vic_verdict.specs.inner.Replies.{IsFirstQuietReply};
+ghost use Rattle.vic_verdict.specs.inner.Stretches.{BeginsAt, EndsAt, HasGathered, IsSettled, mentions_at};
+ghost use Rattle.vic_verdict.specs.inner.Sweep.{AreInOrder, IsSilentSlot};
 
-use crate::mentions::{Mention, push_mention};
-use crate::sweep::{LENGTHS, ReadSlot, settle_stretch};
-use crate::unread_slots::{Stretch, UnreadSlot, keep_stretch, push_unread};
+use crate::mentions::{Mention, first_quiet_reply, push_mention};
+use crate::sweep::{ReadSlot, close_stretch, join_silent, push_read};
+use crate::unread_slots::{KeptStretch, UnreadSlot, keep_stretch};
 use std::alloc::{AllocError, Global};
 use vic_frame::low_bits_first::{KeyBlock, key};
 use vic_frame::{Request, Uid};
 use vic_log::{Entry, PackedLine, RoundCursor};
 use vic_tree::KeyRange;
 
-/// Adds a silent or an answered slot with the keys of its mask, unless no UID lies in it.
-#[inline(always)]
-fn push_read(
-    reads: &mut Vec<ReadSlot>,
-    keys: Option<KeyBlock>,
-    at: u32,
-    heard: Option<u64>,
-) -> Result<(), AllocError>
-    requires { IfSome keys (λ b. IsBlock b.first b.len) }
-    ensures { OnOk result (AddsReadSlot keys at heard reads.old.items reads.new.items) }
-{
-    let Some(block) = keys else {
-        return Ok(());
-    };
-    let is_heard = heard.is_some();
-    let key = match heard {
-        Some(key) => key,
-        None => block.first,
-    };
-    reads.push(ReadSlot {
-        mask: block.first * LENGTHS + block.len as u64,
-        key,
-        at,
-        is_heard,
-    })?;
-    Ok(())
+/// What the lines of a stretch, between two field cycles, say.
+#[derive(Drop)]
+struct Gathered {
+    /// The UIDs that they silence or hear.
+    pub mentions: Vec<Mention>,
+    /// The silent slots of the rounds that have ended, joined where they are the halves of a mask,
+    /// and the slots in which one tag was heard.
+    pub reads: Vec<ReadSlot>,
+    /// The silent slots of the last round.
+    pub silent: Vec<ReadSlot>,
+    /// The slots in which tags answered and none was read.
+    pub unread: Vec<UnreadSlot>,
+}
+
+/// What becomes of an entry.
+#[derive(Clone, Copy)]
+enum Noted {
+    /// What it says is gathered.
+    GoesOn,
+    /// The stretch ends before it: it is a field cycle, or the requests before it make it
+    /// impossible.
+    Ends,
 }
 
 /// Gathers the UID that a request silences, if it silences one.
@@ -74,48 +75,174 @@ fn is_in_some_block(keys: Option<KeyBlock>, key: u64) -> bool
     }
 }
 
-/// Gathers what an entry other than a field cycle says. Returns false, and gathers nothing, if the
-/// UID that it heard doesn't lie in the mask of its slot, or if tags answered in a mask that holds
-/// no UID.
-#[inline(always)]
-fn note_entry(
-    mentions: &mut Vec<Mention>,
-    reads: &mut Vec<ReadSlot>,
-    unread: &mut Vec<UnreadSlot>,
-    cursor: &RoundCursor,
-    index: usize,
-    entry: &Entry,
-) -> Result<bool, AllocError>
-    requires { index < 2 ^ 32 }
-    ensures gathered { IfOk result (λ yes. (es : List EntryValue) (from : ℕ)
-        → slice_get es index ≡ Some entry.now → AreValid es → IsCursorAt es index cursor.now
-        → entry.now ≢ FieldCycle → IsTrue yes
-        → HasGathered es from index mentions.old.items reads.old.items unread.old.items
-        → HasGathered es from (index + 1) mentions.new.items reads.new.items unread.new.items) }
-    ensures unfit { IfOk result (λ yes. (es : List EntryValue)
-        → slice_get es index ≡ Some entry.now → AreValid es → IsCursorAt es index cursor.now
-        → yes ≡ false → IsContradictedAt es index) }
-    ensures none { IfOk result (λ yes. yes ≡ false
-        → (mentions.new.items ≡ mentions.old.items) × (reads.new.items ≡ reads.old.items)
-        × (unread.new.items ≡ unread.old.items)) }
+/// How many tags, at least, answered in a slot without being named by its line.
+fn needs(entry: &Entry) -> u8
+    ensures { result ≡ needs entry.now }
 {
     match *entry {
-        Entry::Sent(request) => note_sent(mentions, &request, index)?,
-        Entry::Silent => push_read(reads, cursor.keys(), index as u32, None)?,
-        Entry::Heard(response) => {
-            let keys = cursor.keys();
-            let heard = key(response.uid());
-            if !is_in_some_block(keys, heard) {
-                return Ok(false);
-            }
-            push_mention(mentions, heard, index as u32, true)?;
-            push_read(reads, keys, index as u32, Some(heard))?;
-        }
-        Entry::Collision => return push_unread(unread, cursor.keys(), 2, index as u32),
-        Entry::Garbled => return push_unread(unread, cursor.keys(), 1, index as u32),
-        Entry::Listed(_) | Entry::FieldCycle => {}
+        Entry::Collision => 2,
+        Entry::Garbled => 1,
+        Entry::Sent(_) | Entry::Silent | Entry::Heard(_) | Entry::Listed(_) | Entry::FieldCycle =>
+            0,
     }
-    Ok(true)
+}
+
+impl Gathered {
+    /// Nothing. There is room for a mention and a slot of each of so many lines, since what grows
+    /// step by step is copied; the first stretch that is kept takes the mentions with their room.
+    fn with_capacity(alloc: Global, lines: usize) -> Result<Gathered, AllocError> {
+        Ok(Gathered {
+            mentions: Vec::with_capacity(alloc, lines)?,
+            reads: Vec::with_capacity(alloc, lines)?,
+            silent: Vec::new(alloc),
+            unread: Vec::new(alloc),
+        })
+    }
+
+    /// Drops it all.
+    fn clear(&mut self)
+        ensures { (es : List EntryValue) (i : ℕ) → HasGathered es i i self.new }
+    {
+        self.mentions.clear();
+        self.reads.clear();
+        self.silent.clear();
+        self.unread.clear();
+    }
+
+    /// Gathers what an entry says, unless the stretch ends before it.
+    #[inline(always)]
+    fn note(
+        &mut self,
+        cursor: &RoundCursor,
+        index: usize,
+        entry: &Entry,
+    ) -> Result<Noted, AllocError>
+        requires small { index < 2 ^ 32 }
+        requires silent { All IsSilentSlot self.old.silent.items }
+        ensures gathered { IfOk result (λ r. r ≡ GoesOn → (es : List EntryValue) (from : ℕ)
+            → slice_get es index ≡ Some entry.now → AreValid es → IsCursorAt es index cursor.now
+            → HasGathered es from index self.old → HasGathered es from (index + 1) self.new) }
+        ensures ends { IfOk result (λ r. r ≡ Ends → (es : List EntryValue)
+            → slice_get es index ≡ Some entry.now → AreValid es → IsCursorAt es index cursor.now
+            → EndsAt es index) }
+        ensures same { IfOk result (λ r. r ≡ Ends → self.new ≡ self.old) }
+    {
+        match *entry {
+            // a request ends the round
+            Entry::Sent(request) => {
+                join_silent(&mut self.reads, &mut self.silent)?;
+                note_sent(&mut self.mentions, &request, index)?;
+            }
+            Entry::Silent => push_read(&mut self.silent, cursor.keys(), index as u32, None)?,
+            Entry::Heard(response) => {
+                let keys = cursor.keys();
+                let heard = key(response.uid());
+                if !is_in_some_block(keys, heard) {
+                    return Ok(Noted::Ends);
+                }
+                push_mention(&mut self.mentions, heard, index as u32, true)?;
+                push_read(&mut self.reads, keys, index as u32, Some(heard))?;
+            }
+            Entry::Collision | Entry::Garbled => {
+                let Some(KeyBlock { first, len }) = cursor.keys() else {
+                    return Ok(Noted::Ends);
+                };
+                self.unread.push(UnreadSlot {
+                    first,
+                    len,
+                    need: needs(entry),
+                    at: index as u32,
+                })?;
+            }
+            Entry::Listed(_) => {}
+            Entry::FieldCycle => return Ok(Noted::Ends),
+        }
+        Ok(Noted::GoesOn)
+    }
+}
+
+/// The entry of a line. Since the numbers of lines rise, `number` bounds their positions, too.
+fn entry_of(line: PackedLine) -> Entry
+    ensures value { result ≡ line.item }
+    ensures number { line.number < 2 ^ 32 }
+{
+    line.item()
+}
+
+/// Gathers what the lines from position `from` on say, up to position `end`, or to a line before it
+/// at which the stretch ends. Returns the position up to which it is gathered.
+fn gather(
+    gathered: &mut Gathered,
+    lines: &[PackedLine],
+    from: usize,
+    end: usize,
+) -> Result<usize, AllocError>
+    requires lines { AreLogLines lines.now }
+    requires begins { BeginsAt (entries lines.now) from }
+    requires forward { from ≤ end }
+    requires within { end ≤ length lines.now }
+    ensures gathered { IfOk result (λ at. HasGathered (entries lines.now) from at gathered.new) }
+    ensures joined { OnOk result (gathered.new.silent.items ≡ []) }
+    ensures upto { IfOk result (λ at. at ≤ end) }
+    ensures ends { IfOk result (λ at. at < end → EndsAt (entries lines.now) at) }
+{
+    gathered.clear();
+    let mut cursor = RoundCursor::first();
+    let mut stop = end;
+    for index in from..end {
+        let entry = entry_of(lines[index]);
+        if let Noted::Ends = gathered.note(&cursor, index, &entry)? {
+            stop = index;
+            break;
+        }
+        cursor.advance(&entry);
+    }
+    join_silent(&mut gathered.reads, &mut gathered.silent)?;
+    Ok(stop)
+}
+
+/// Gathers what the lines of a stretch say, from position `from` on: up to the next field cycle, to
+/// the end of the log, or to the first line that the requests before it make impossible: a reply of
+/// a UID that couldn't have answered, or tags in a mask that holds no UID. Returns the position up
+/// to which it is gathered. Afterwards the mentions are in order.
+fn gather_stretch(
+    gathered: &mut Gathered,
+    lines: &[PackedLine],
+    from: usize,
+) -> Result<usize, AllocError>
+    requires lines { AreLogLines lines.now }
+    requires begins { BeginsAt (entries lines.now) from }
+    requires within { from ≤ length lines.now }
+    ensures gathered { IfOk result (λ at. HasGathered (entries lines.now) from at gathered.new) }
+    ensures joined { OnOk result (gathered.new.silent.items ≡ []) }
+    ensures order { OnOk result (AreInOrder gathered.new.mentions.items) }
+    ensures ready { IfOk result (λ at. IsFirstQuietReply gathered.new.mentions.items at at) }
+    ensures upto { IfOk result (λ at. at ≤ length lines.now) }
+    ensures ends { IfOk result (λ at. at < length lines.now → EndsAt (entries lines.now) at) }
+{
+    let mut end = lines.len();
+    loop {
+        let stop = gather(gathered, lines, from, end)?;
+        gathered
+            .mentions
+            .sort_unstable_by_key(|mention| mention.key);
+        let quiet = first_quiet_reply(&gathered.mentions, stop);
+        if quiet == stop {
+            return Ok(stop);
+        }
+        // once more, up to that reply: joined slots can't be taken apart
+        end = quiet;
+    }
+}
+
+/// Whether a line, if there is one at a position, is a field cycle.
+fn is_field_cycle(lines: &[PackedLine], at: usize) -> bool
+    ensures { result ≡ wakes (slice_get (entries lines.now) at) }
+{
+    match lines.get(at) {
+        Some(line) => matches!(line.item(), Entry::FieldCycle),
+        None => false,
+    }
 }
 
 /// What the lines of a log, up to a position, say about the UIDs that it leaves open.
@@ -124,66 +251,37 @@ pub(crate) struct Settled {
     /// The keys that its silent and answered slots close.
     pub closed: Vec<KeyRange>,
     /// The stretches that have unread slots.
-    pub stretches: Vec<Stretch>,
+    pub stretches: Vec<KeptStretch>,
     /// The end of the log, or the position of an impossible line: a reply of a UID that couldn't
     /// have answered, or tags in a mask that holds no UID.
     pub cut: usize,
 }
 
-impl Settled {
-    /// What the lines up to `cut` say.
-    fn new(closed: Vec<KeyRange>, stretches: Vec<Stretch>, cut: usize) -> Settled
-        ensures { result ≡ record { closed = closed; stretches = stretches; cut = cut } }
-    {
-        Settled {
-            closed,
-            stretches,
-            cut,
-        }
-    }
-}
-
-/// What the lines of a log say about the UIDs that it leaves open: one walk, stretch by stretch.
+/// What the lines of a log say about the UIDs that it leaves open, stretch by stretch.
 pub(crate) fn settle(alloc: Global, lines: &[PackedLine]) -> Result<Settled, AllocError>
     requires { AreLogLines lines.now }
     ensures { IfOk result (IsSettled lines.now) }
 {
     let mut closed = Vec::new(alloc);
     let mut stretches = Vec::new(alloc);
-    // allocated once for a mention and a slot of each line, since what grows step by step is
-    // copied. The first stretch that is kept takes the mentions with their capacity
-    let mut mentions = Vec::with_capacity(alloc, lines.len())?;
-    let mut reads = Vec::with_capacity(alloc, lines.len())?;
-    let mut unread = Vec::new(alloc);
-    let mut cursor = RoundCursor::first();
-    for (index, line) in lines.iter().enumerate() {
-        let entry = line.item();
-        if let Entry::FieldCycle = entry {
-            let cut = settle_stretch(&mut closed, &mut mentions, &mut reads, index)?;
-            keep_stretch(alloc, &mut stretches, &mut mentions, &mut unread, cut)?;
-            if cut < index {
-                return Ok(Settled::new(closed, stretches, cut));
-            }
-            reads.clear();
-        } else {
-            // for the proof: the numbers of lines rise and have 32 bits, which bounds the position
-            let _number = line.number();
-            if !note_entry(
-                &mut mentions,
-                &mut reads,
-                &mut unread,
-                &cursor,
-                index,
-                &entry,
-            )? {
-                let cut = settle_stretch(&mut closed, &mut mentions, &mut reads, index)?;
-                keep_stretch(alloc, &mut stretches, &mut mentions, &mut unread, cut)?;
-                return Ok(Settled::new(closed, stretches, cut));
-            }
+    let mut gathered = Gathered::with_capacity(alloc, lines.len())?;
+    let mut from = 0;
+    loop {
+        let cut = gather_stretch(&mut gathered, lines, from)?;
+        close_stretch(&mut closed, &mut gathered.mentions, &mut gathered.reads)?;
+        keep_stretch(
+            alloc,
+            &mut stretches,
+            &mut gathered.mentions,
+            &mut gathered.unread,
+        )?;
+        if !is_field_cycle(lines, cut) {
+            return Ok(Settled {
+                closed,
+                stretches,
+                cut,
+            });
         }
-        cursor.advance(&entry);
+        from = cut + 1;
     }
-    let cut = settle_stretch(&mut closed, &mut mentions, &mut reads, lines.len())?;
-    keep_stretch(alloc, &mut stretches, &mut mentions, &mut unread, cut)?;
-    Ok(Settled::new(closed, stretches, cut))
 }

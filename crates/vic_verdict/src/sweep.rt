@@ -4,36 +4,37 @@
 //! a mask are consecutive. Each mask is looked at once, however many slots it had: for each mention
 //! in it, and no other UID. A UID without a mention is ruled out if it lies in any of the masks.
 
-ghost use Rattle.std.specs.Prelude.{◌≡◌, ℕ, ◌||◌, ◌&&◌, not, Some, IfSome, IfOk, OnOk, ◌<◌, nat_lt, true};
-ghost use Rattle.std.specs.List.{All, filter};
-ghost use Rattle.vic_frame.specs.LowBitsFirst.{mirror};
+ghost use Rattle.std.specs.Prelude.{◌≡◌, ℕ, ◌||◌, ◌&&◌, ◌++◌, ◌∷◌, [], ◌≤◌, not, List, Some, IfSome, IfOk, OnOk, length, take, drop};
+ghost use Rattle.std.specs.List.{All};
+ghost use Rattle.vic_frame.specs.LowBitsFirst.{IsBlock, mirror};
 ghost use Rattle.vic_tree.specs.Ranges.{is_between, is_outside};
 ghost use Rattle.vic_tree.specs.OpenSet.{SameUids};
-ghost use Rattle.vic_verdict.specs.inner.Closed.{Closes, closes_with, is_in_some};
-ghost use Rattle.vic_verdict.specs.inner.Sweep.{AreInOrder, HasRange, first_of, has_left, heard_of, last_of, len_of, slot_leaves, summary_leaves, read_leaves, all_leave, mask_leaves, run_leaves, IsSummary, keep_all, all_allow_to, ArePutInOrder, AreGatheredBefore};
-ghost use Rattle.vic_verdict.specs.inner.Replies.{IsFirstQuietReply};
+ghost use Rattle.vic_verdict.specs.inner.Closed.{Closes, closes_with};
+ghost use Rattle.vic_verdict.specs.inner.Sweep.{AreInOrder, HasRange, first_of, has_left, heard_of, last_of, len_of, slot_leaves, summary_leaves, read_leaves, all_leave, mask_leaves, some_mask_leaves, IsSummary, keep_all, all_allow, is_in, is_in_any, AddsReadSlot, AreGathered, AreJoined, AreSameMentions, IsSilentSlot};
 ghost use Rattle.vic_verdict.specs.declared.sweep.ReadSlot.{ReadSlot as ReadSlotValue};
 
-use crate::mentions::{Mention, MentionCursor, first_quiet_reply, mentions_between};
+use crate::mentions::{Mention, MentionCursor, mentions_between};
 use std::alloc::AllocError;
 use vic_frame::UID_BITS;
+use vic_frame::low_bits_first::KeyBlock;
 use vic_tree::KeyRange;
 
 /// More than the number of bits of any mask: it packs a mask's first key and its number of bits
 /// into one number.
-pub(crate) const LENGTHS: u64 = 256;
+pub(crate) const LENGTH_BASE: u64 = 256;
 
-/// A slot that was read: silent, or with the reply of one tag. A log may have a million of them,
-/// which are sorted, so its mask is one number.
+/// A slot that was read: silent, or with the reply of one tag; or several silent ones of a round,
+/// joined. A log may have a million of them, which are sorted, so they are small, and a mask is one
+/// number.
 #[derive(Clone, Copy)]
 pub(crate) struct ReadSlot {
-    /// Its mask: the mask's first key, times `LENGTHS`, plus how many bits the mask has. In the
+    /// Its mask: the mask's first key, times `LENGTH_BASE`, plus how many bits the mask has. In the
     /// order of these numbers the slots of one mask are consecutive, with outer masks before inner
     /// ones.
-    pub mask: u64,
+    pub mask_number: u64,
     /// The key that was heard; the first key of its mask if no tag was.
     pub key: u64,
-    /// The position of its line.
+    /// The position of its line; of joined slots, that of one of their lines.
     pub at: u32,
     pub is_heard: bool,
 }
@@ -43,14 +44,14 @@ impl ReadSlot {
     pub(crate) fn first(&self) -> u64
         ensures { result ≡ first_of self.now }
     {
-        self.mask / LENGTHS
+        self.mask_number / LENGTH_BASE
     }
 
     /// How many bits its mask has.
     fn len(&self) -> u8
         ensures { result ≡ len_of self.now }
     {
-        (self.mask % LENGTHS) as u8
+        (self.mask_number % LENGTH_BASE) as u8
     }
 
     /// The keys of its mask.
@@ -70,45 +71,123 @@ impl ReadSlot {
     }
 }
 
-/// Settles what the silent and answered slots of some lines say, by the UIDs that these lines
-/// mention: closes the keys that are ruled out by the slots before the first reply of a Quiet UID.
-/// Returns the position of that reply, or `end`, after all these lines, if there is none.
-/// Afterwards the mentions are in order, and the slots from that position on are dropped.
-pub(crate) fn settle_stretch(
+/// Adds a silent or an answered slot with the keys of its mask, unless no UID lies in it.
+#[inline(always)]
+pub(crate) fn push_read(
+    reads: &mut Vec<ReadSlot>,
+    keys: Option<KeyBlock>,
+    at: u32,
+    heard: Option<u64>,
+) -> Result<(), AllocError>
+    requires { IfSome keys (λ b. IsBlock b.first b.len) }
+    ensures { OnOk result (AddsReadSlot keys at heard reads.old.items reads.new.items) }
+{
+    let Some(block) = keys else {
+        return Ok(());
+    };
+    let is_heard = heard.is_some();
+    let key = match heard {
+        Some(key) => key,
+        None => block.first,
+    };
+    reads.push(ReadSlot {
+        mask_number: block.first * LENGTH_BASE + block.len as u64,
+        key,
+        at,
+        is_heard,
+    })?;
+    Ok(())
+}
+
+/// Adds the silent slots of a round to others: joined, as far as they are the halves of a mask, into
+/// the one slot of that mask. No tag becomes Quiet during a round, so it doesn't matter which of
+/// their positions that slot has. Afterwards `silent` is empty.
+pub(crate) fn join_silent(
+    reads: &mut Vec<ReadSlot>,
+    silent: &mut Vec<ReadSlot>,
+) -> Result<(), AllocError>
+    requires { All IsSilentSlot silent.old.items }
+    ensures joined { OnOk result ((js : List ReadSlotValue)
+        × (reads.new.items ≡ reads.old.items ++ js) × AreJoined silent.old.items js) }
+    ensures empty { OnOk result (silent.new.items ≡ []) }
+{
+    // then the halves of a mask are consecutive
+    silent.sort_unstable_by_key(|slot| slot.mask_number);
+    let others = reads.len();
+    for slot in &*silent {
+        push_joined(reads, others, *slot)?;
+    }
+    silent.clear();
+    Ok(())
+}
+
+/// Adds a silent slot after `others` slots and those of its round that are already joined: joined
+/// with the last of these as long as both are the halves of a mask.
+fn push_joined(reads: &mut Vec<ReadSlot>, others: usize, slot: ReadSlot) -> Result<(), AllocError>
+    requires others { others ≤ length reads.old.items }
+    requires joined { All IsSilentSlot (drop others reads.old.items) }
+    requires slot { IsSilentSlot slot }
+    ensures { OnOk result ((js : List ReadSlotValue)
+        × (reads.new.items ≡ take others reads.old.items ++ js)
+        × AreJoined (drop others reads.old.items ++ slot ∷ []) js) }
+{
+    let mut wider = slot;
+    while reads.len() > others {
+        let Some(both) = both_halves(&reads[reads.len() - 1], &wider) else {
+            break;
+        };
+        wider = both;
+        reads.truncate(reads.len() - 1);
+    }
+    reads.push(wider)?;
+    Ok(())
+}
+
+/// Two silent slots of a round as one, if their masks are the lower and the upper half of one.
+fn both_halves(lower: &ReadSlot, upper: &ReadSlot) -> Option<ReadSlot>
+    requires lower { IsSilentSlot lower.now }
+    requires upper { IsSilentSlot upper.now }
+    ensures { IfSome result (λ s. IsSilentSlot s × (s.at ≡ lower.now.at)
+        × ((k : ℕ) → is_in s k ≡ (is_in lower.now k || is_in upper.now k))) }
+{
+    let len = lower.len();
+    if len == 0 || upper.len() != len {
+        return None;
+    }
+    let keys = lower.keys();
+    let half = keys.last() - keys.first() + 1;
+    if keys.first() & half != 0 || upper.first() != keys.last() + 1 {
+        return None;
+    }
+    // one bit less
+    Some(ReadSlot {
+        mask_number: lower.mask_number - 1,
+        ..*lower
+    })
+}
+
+/// Closes the keys that some silent and answered slots rule out, by the UIDs that the lines between
+/// two field cycles mention. Afterwards the field `left` of each mention says whether they leave it.
+pub(crate) fn close_stretch(
     closed: &mut Vec<KeyRange>,
     mentions: &mut Vec<Mention>,
     reads: &mut Vec<ReadSlot>,
-    end: usize,
-) -> Result<usize, AllocError>
-    requires { AreGatheredBefore mentions.old.items reads.old.items end }
-    ensures cut { IfOk result (IsFirstQuietReply mentions.old.items end) }
-    ensures mentions { OnOk result (ArePutInOrder mentions.old.items mentions.new.items) }
-    ensures settled { IfOk result (λ cut. SameUids (is_outside closed.new.items)
+) -> Result<(), AllocError>
+    requires order { AreInOrder mentions.old.items }
+    requires gathered { AreGathered mentions.old.items reads.old.items }
+    ensures mentions { OnOk result (AreSameMentions mentions.old.items mentions.new.items) }
+    ensures closed { OnOk result (SameUids (is_outside closed.new.items)
         (λ u. is_outside closed.old.items u
-        && all_allow_to mentions.old.items reads.old.items cut (mirror u))) }
+        && all_allow mentions.old.items reads.old.items (mirror u))) }
 {
-    mentions.sort_unstable_by_key(|mention| mention.key);
-    let cut = first_quiet_reply(mentions, end);
-    cut_reads(reads, cut, end);
     // then the slots of one mask are consecutive, and outer masks come before inner ones
-    reads.sort_unstable_by_key(|read| read.mask);
+    reads.sort_unstable_by_key(|read| read.mask_number);
     rule_out_all(mentions, reads);
     // at most one range for each slot, and one more for each mention: a mention divides a range in
     // two
     closed.reserve(reads.len().saturating_add(mentions.len()))?;
     close_reads(closed, mentions, reads)?;
-    Ok(cut)
-}
-
-/// Drops the slots that don't come before a cut. All come before `end`: if that is the cut, all
-/// stay.
-fn cut_reads(reads: &mut Vec<ReadSlot>, cut: usize, end: usize)
-    requires { All (λ (s : ReadSlotValue). s.at < end) reads.old.items }
-    ensures { reads.new.items ≡ filter (λ (s : ReadSlotValue). nat_lt s.at cut) reads.old.items }
-{
-    if cut < end {
-        reads.retain(|read| (read.at as usize) < cut);
-    }
+    Ok(())
 }
 
 /// Rules out the mentions that some slot doesn't leave.
@@ -118,50 +197,50 @@ fn rule_out_all(mentions: &mut [Mention], reads: &[ReadSlot])
     ensures { mentions.new ≡ keep_all (all_leave reads.now) mentions.old }
 {
     let mut cursor = MentionCursor::first();
-    let mut run: Option<Run> = None;
+    let mut mask: Option<MaskSummary> = None;
     for read in reads {
-        run = Some(extend_run(mentions, &mut cursor, run, read));
+        mask = Some(extend_mask(mentions, &mut cursor, mask, read));
     }
-    if let Some(run) = run {
-        rule_out(mentions, &mut cursor, run.keys, &run.summary);
+    if let Some(mask) = mask {
+        rule_out(mentions, &mut cursor, mask.keys, &mask.summary);
     }
 }
 
-/// Adds a slot to a run of the same mask; otherwise rules out the mentions that the run doesn't
-/// leave, and begins a new one.
-fn extend_run(
+/// Adds a slot to those of the mask before it, if it is the same mask; otherwise rules out the
+/// mentions that these don't leave, and begins with the next mask.
+fn extend_mask(
     mentions: &mut [Mention],
     cursor: &mut MentionCursor,
-    run: Option<Run>,
+    mask: Option<MaskSummary>,
     read: &ReadSlot,
-) -> Run
+) -> MaskSummary
     requires order { AreInOrder mentions.old }
-    requires summary { IfSome run (λ r. IsSummary r.summary) }
+    requires summary { IfSome mask (λ r. IsSummary r.summary) }
     requires range { HasRange read.now }
     ensures order { AreInOrder mentions.new }
     ensures summary { IsSummary result.summary }
-    ensures leaves { keep_all (run_leaves (Some result)) mentions.new
-        ≡ keep_all (λ k q. run_leaves run k q && read_leaves read.now k q) mentions.old }
+    ensures leaves { keep_all (some_mask_leaves (Some result)) mentions.new
+        ≡ keep_all (λ k q. some_mask_leaves mask k q && read_leaves read.now k q) mentions.old }
 {
     let keys = read.keys();
-    if let Some(before) = run {
+    if let Some(before) = mask {
         if before.keys == keys {
-            return Run {
+            return MaskSummary {
                 keys,
                 summary: before.summary.with(read.at as usize, read.heard()),
             };
         }
         rule_out(mentions, cursor, before.keys, &before.summary);
     }
-    Run {
+    MaskSummary {
         keys,
         summary: Summary::of(read.at as usize, read.heard()),
     }
 }
 
-/// Slots of one mask, one after another.
+/// A mask's keys, and what its slots say together.
 #[derive(Clone, Copy)]
-pub(crate) struct Run {
+pub(crate) struct MaskSummary {
     pub keys: KeyRange,
     pub summary: Summary,
 }
@@ -184,12 +263,12 @@ fn rule_out(mentions: &mut [Mention], cursor: &mut MentionCursor, keys: KeyRange
 /// What the slots of one mask say together: the position of the first one, the key that it heard,
 /// if any, and the position of the first one that differs: it heard another key, or none where the
 /// first one heard one, or one where that heard none. So the key `heard` has to be Quiet before
-/// `other`, and any other key before `at`.
+/// `differs_at`, and any other key before `at`.
 #[derive(Clone, Copy)]
 pub(crate) struct Summary {
     pub at: usize,
     pub heard: Option<u64>,
-    pub other: Option<usize>,
+    pub differs_at: Option<usize>,
 }
 
 impl Summary {
@@ -201,7 +280,7 @@ impl Summary {
         Summary {
             at,
             heard,
-            other: None,
+            differs_at: None,
         }
     }
 
@@ -216,23 +295,23 @@ impl Summary {
             Summary {
                 at: self.at.min(at),
                 heard,
-                other: self.other,
+                differs_at: self.differs_at,
             }
         } else if at < self.at {
             Summary {
                 at,
                 heard,
-                other: Some(self.at),
+                differs_at: Some(self.at),
             }
         } else {
-            let other = match self.other {
+            let other = match self.differs_at {
                 Some(other) => other.min(at),
                 None => at,
             };
             Summary {
                 at: self.at,
                 heard: self.heard,
-                other: Some(other),
+                differs_at: Some(other),
             }
         }
     }
@@ -242,7 +321,7 @@ impl Summary {
         ensures { result ≡ summary_leaves self.now key quiet }
     {
         if self.heard == Some(key) {
-            match self.other {
+            match self.differs_at {
                 Some(other) => quiet < other,
                 None => true,
             }
@@ -261,7 +340,7 @@ fn close_reads(
 ) -> Result<(), AllocError>
     requires order { AreInOrder mentions.now }
     requires ranges { All HasRange reads.now }
-    ensures { OnOk result (Closes mentions.now (is_in_some reads.now)
+    ensures { OnOk result (Closes mentions.now (is_in_any reads.now)
         closed.old.items closed.new.items) }
 {
     let mut cursor = MentionCursor::first();
@@ -292,7 +371,7 @@ fn extend_range(
     let Some(range) = range else {
         return Ok(keys);
     };
-    if let Some(wider) = joined(range, keys) {
+    if let Some(wider) = as_one(range, keys) {
         return Ok(wider);
     }
     close_between(closed, mentions, cursor, range)?;
@@ -300,7 +379,7 @@ fn extend_range(
 }
 
 /// Two ranges as one, if the first begins no later than the second and no key is between them.
-fn joined(range: KeyRange, next: KeyRange) -> Option<KeyRange>
+fn as_one(range: KeyRange, next: KeyRange) -> Option<KeyRange>
     ensures { IfSome result (λ r. (k : ℕ) → is_between r.0 r.1 k
         ≡ (is_between range.0 range.1 k || is_between next.0 next.1 k)) }
 {

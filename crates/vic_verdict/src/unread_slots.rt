@@ -8,15 +8,15 @@
 ghost use Rattle.std.specs.Prelude.{◌≡◌, ◌≤◌, ◌<◌, ◌&&◌, ◌++◌, ◌∷◌, [], true, false, None, Some, IfSome, List, IfOk, OnOk, MatchResult, length};
 ghost use Rattle.std.specs.List.{All};
 ghost use Rattle.vic_frame.specs.declared.low_bits_first.KeyBlock.{KeyBlock as KeyBlockValue};
-ghost use Rattle.vic_frame.specs.Uids.{is_uid};
+ghost use Rattle.vic_frame.specs.LowBitsFirst.{IsBlock};
 ghost use Rattle.vic_tree.specs.OpenSet.{SameUids, UpToThree};
 ghost use Rattle.vic_log.specs.declared.entry.Entry.{Entry as EntryValue};
 ghost use Rattle.vic_log.specs.Slots.{slots_of, is_open};
-ghost use Rattle.vic_verdict.specs.inner.Possible.{Lacks};
+ghost use Rattle.vic_verdict.specs.inner.Ruling.{Lacks};
 ghost use Rattle.vic_verdict.specs.inner.Answering.{IsLearnt};
 ghost use Rattle.vic_verdict.specs.inner.Sweep.{AreInOrder, HaveKeys};
 ghost use Rattle.vic_verdict.specs.Needs.{AreFound};
-ghost use Rattle.vic_verdict.specs.inner.Asked.{IsUnreadSlotBy, answers_by, IsUnmet, IsUnmetAt, IsAskedAgain, AreKept, AreMet, HasBlock, HasBlocks, HasMentionsInOrder, Keeps};
+ghost use Rattle.vic_verdict.specs.inner.Unread.{IsUnreadSlotBy, answers_by, IsUnmet, IsUnmetAt, IsImpliedByNext, AreKept, AreMet, HasBlock, HasBlocks, HasMentionsInOrder, Keeps};
 
 use crate::answering::{Learnt, up_to_three_answering};
 use crate::mentions::{Mention, MentionCursor, mentions_between, start_of};
@@ -49,7 +49,7 @@ pub struct Found {
 }
 
 /// An unread slot: tags answered in it and none was read. A log may have a million of them, which
-/// are sorted.
+/// are sorted, so it is small.
 #[derive(Clone, Copy)]
 pub(crate) struct UnreadSlot {
     /// The first key of its mask.
@@ -66,7 +66,7 @@ pub(crate) struct UnreadSlot {
 impl UnreadSlot {
     /// The number by which they are sorted: by mask, by how many tags are required, and by
     /// position. Then those of which only the last has to be looked at are consecutive
-    /// (`is_asked_again` checks it). No answer rests on this order. One number is compared faster
+    /// (`is_implied_by_next` checks it). No answer rests on this order. One number is compared faster
     /// than four.
     fn order(&self) -> u128 {
         u128::from(self.first) << 64
@@ -81,96 +81,47 @@ impl UnreadSlot {
     {
         self.at as usize
     }
-}
 
-/// Adds a slot, given the keys of its mask. Returns false, and adds nothing, if no UID lies in it.
-pub(crate) fn push_unread(
-    unread: &mut Vec<UnreadSlot>,
-    keys: Option<KeyBlock>,
-    need: u8,
-    at: u32,
-) -> Result<bool, AllocError>
-    ensures some { IfOk result (λ yes. yes ≡ true → (b : KeyBlockValue) × (keys ≡ Some b)
-        × (unread.new.items ≡ unread.old.items
-        ++ record { first = b.first; len = b.len; need = need; at = at } ∷ [])) }
-    ensures none { IfOk result (λ yes. yes ≡ false
-        → (keys ≡ None) × (unread.new.items ≡ unread.old.items)) }
-{
-    let Some(KeyBlock { first, len }) = keys else {
-        return Ok(false);
-    };
-    unread.push(UnreadSlot {
-        first,
-        len,
-        need,
-        at,
-    })?;
-    Ok(true)
+    /// The keys of its mask.
+    fn block(&self) -> KeyBlock
+        ensures { result ≡ record { first = self.now.first; len = self.now.len } }
+    {
+        KeyBlock {
+            first: self.first,
+            len: self.len,
+        }
+    }
 }
 
 /// What a stretch (the lines between two field cycles) requires: kept until it is known which UIDs
 /// the log leaves open.
 #[derive(Drop)]
-pub(crate) struct Stretch {
+pub(crate) struct KeptStretch {
     /// The UIDs that its lines mention, in the order of keys.
     pub mentions: Vec<Mention>,
     pub unread: Vec<UnreadSlot>,
 }
 
-/// Keeps what the slots of a stretch before a position require, if they require anything, and the
-/// UIDs that its lines mention. Afterwards `mentions` and `unread` are empty.
+/// Keeps what the slots of a stretch require, if they require anything, and the UIDs that its lines
+/// mention. Then `mentions` and `unread` are taken.
 pub(crate) fn keep_stretch(
     alloc: Global,
-    stretches: &mut Vec<Stretch>,
+    stretches: &mut Vec<KeptStretch>,
     mentions: &mut Vec<Mention>,
     unread: &mut Vec<UnreadSlot>,
-    cut: usize,
 ) -> Result<(), AllocError>
-    ensures kept { OnOk result (Keeps mentions.old.items unread.old.items cut
+    ensures { OnOk result (Keeps mentions.old.items unread.old.items
         stretches.old.items stretches.new.items) }
-    ensures mentions { OnOk result (mentions.new.items ≡ []) }
-    ensures unread { OnOk result (unread.new.items ≡ []) }
 {
-    unread.retain(|slot| slot.place() < cut);
     if unread.is_empty() {
-        mentions.clear();
         return Ok(());
     }
     unread.sort_unstable_by_key(|slot| slot.order());
-    // the next stretch may well have as many
-    let next = Vec::with_capacity(alloc, mentions.len())?;
-    stretches.push(Stretch {
-        mentions: replace(mentions, next),
+    stretches.push(KeptStretch {
+        mentions: replace(mentions, Vec::new(alloc)),
         unread: replace(unread, Vec::new(alloc)),
     })?;
     Ok(())
-}
-
-/// Open UIDs that answer in a slot: all if there are fewer than three, otherwise three. No slot
-/// before position `from` will be looked up.
-fn answering<S: OpenSet>(
-    alloc: Global,
-    set: &S,
-    mentions: &[Mention],
-    learnt: &mut Learnt,
-    cursor: &mut MentionCursor,
-    from: usize,
-    slot: &UnreadSlot,
-) -> Result<ArrayVec<Uid, 3>, AllocError>
-    requires order { AreInOrder mentions.now }
-    requires keys { HaveKeys mentions.now }
-    requires block { HasBlock slot.now }
-    requires learnt { IsLearnt (S.is_open set.now) mentions.now learnt.old }
-    ensures learnt { OnOk result (IsLearnt (S.is_open set.now) mentions.now learnt.new) }
-    ensures uids { IfOk result (λ uids.
-        UpToThree (λ u. (is_uid u && S.is_open set.now u) && answers_by mentions.now slot.now u)
-        uids.items) }
-{
-    let block = KeyBlock {
-        first: slot.first,
-        len: slot.len,
-    };
-    up_to_three_answering(alloc, set, mentions, learnt, cursor, &block, from, slot.at)
 }
 
 /// The position of the first of some slots. No answer rests on it: it says from where on it is
@@ -185,9 +136,9 @@ fn first_place(unread: &[UnreadSlot]) -> usize {
 
 /// Whether the next slot requires as many tags of the same mask, and is no earlier: if it is met,
 /// so is this one.
-fn is_asked_again(unread: &[UnreadSlot], index: usize) -> bool
+fn is_implied_by_next(unread: &[UnreadSlot], index: usize) -> bool
     requires { index < length unread.now }
-    ensures { result ≡ true → IsAskedAgain unread.now index }
+    ensures { result ≡ true → IsImpliedByNext unread.now index }
 {
     let slot = unread[index];
     match unread.get(index + 1) {
@@ -216,37 +167,30 @@ fn end_of_enough(mentions: &[Mention], at: usize, lacking: usize) -> usize {
     if lacking == 1 { last } else { last_but_one }
 }
 
-/// The UIDs in the mask of a slot that the lines mention and the log leaves open; none if that
-/// isn't known.
-fn known_mentions<'a>(learnt: &'a Learnt, slot: &UnreadSlot) -> &'a [Mention]
+/// The UIDs with some keys that the lines mention and the log leaves open; none if nothing had to
+/// be learnt, since no UID was Quiet.
+fn known_mentions<'a>(learnt: &'a Learnt, block: &KeyBlock) -> &'a [Mention]
     requires order { IfSome learnt.now.known (λ k. AreInOrder k.mentioned.items) }
-    requires block { HasBlock slot.now }
+    requires block { IsBlock block.now.first block.now.len }
 {
-    let UnreadSlot { first, len, .. } = *slot;
     match &learnt.known {
         Some(known) => {
-            let start = start_of(&known.mentioned, first);
-            mentions_between(
-                &known.mentioned,
-                start,
-                first,
-                KeyBlock { first, len }.last(),
-            )
+            let start = start_of(&known.mentioned, block.first);
+            mentions_between(&known.mentioned, start, block.first, block.last())
         }
         None => &[],
     }
 }
 
-/// The index of the slot that seems to be the first unmet one, from index `from` on. Those of one
-/// mask that require as many tags are in order. The last of them shows how many tags are missing;
-/// the earlier ones lack some from where so many more UIDs were no longer Ready.
+/// The index of the slot that seems to be the first unmet one. Those of one mask that require as
+/// many tags are in order. The last of them shows how many tags are missing; the earlier ones lack
+/// some from where so many more UIDs were no longer Ready.
 fn guess_unmet<S: OpenSet>(
     alloc: Global,
     set: &S,
     mentions: &[Mention],
     learnt: &mut Learnt,
     unread: &[UnreadSlot],
-    from: usize,
 ) -> Result<usize, AllocError>
     requires order { AreInOrder mentions.now }
     requires keys { HaveKeys mentions.now }
@@ -256,26 +200,28 @@ fn guess_unmet<S: OpenSet>(
 {
     // so that what is learnt is about all mentions, as `known_mentions` needs it
     learnt.spare = 0;
-    let first_place = first_place(unread);
-    let mut guess = from;
+    let from = first_place(unread);
+    let mut guess = 0;
     let mut least = usize::MAX;
-    let mut start = from;
+    let mut start = 0;
     let mut cursor = MentionCursor::first();
-    for index in from..unread.len() {
-        if !is_asked_again(unread, index) {
+    for index in 0..unread.len() {
+        if !is_implied_by_next(unread, index) {
             let slot = unread[index];
-            let uids = answering(
+            let block = slot.block();
+            let uids = up_to_three_answering(
                 alloc,
                 set,
                 mentions,
                 learnt,
                 &mut cursor,
-                first_place,
-                &slot,
+                &block,
+                from,
+                slot.at,
             )?;
             let need = usize::from(slot.need);
             if uids.len() < need {
-                let inside = known_mentions(learnt, &slot);
+                let inside = known_mentions(learnt, &block);
                 let end = end_of_enough(inside, slot.place(), need - uids.len());
                 let group = &unread[start..index];
                 let first = start + group.partition_point(|earlier| earlier.place() < end);
@@ -290,16 +236,15 @@ fn guess_unmet<S: OpenSet>(
     Ok(guess)
 }
 
-/// The position of the first unmet slot from index `from` on, if the guess is right; otherwise
-/// `unmet`, the position of a slot that is known to be unmet. The slots are ordered by mask, not by
-/// position, so those after that one are looked at too.
+/// The position of the first unmet slot, if the guess is right; otherwise `unmet`, the position of
+/// a slot that is known to be unmet. The slots are ordered by mask, not by position, so those after
+/// that one are looked at too.
 fn first_unmet<S: OpenSet>(
     alloc: Global,
     set: &S,
     mentions: &[Mention],
     learnt: &mut Learnt,
     unread: &[UnreadSlot],
-    from: usize,
     unmet: usize,
 ) -> Result<usize, AllocError>
     requires order { AreInOrder mentions.now }
@@ -309,18 +254,18 @@ fn first_unmet<S: OpenSet>(
     requires unmet { IsUnmetAt (S.is_open set.now) mentions.now unread.now unmet }
     ensures { IfOk result (IsUnmetAt (S.is_open set.now) mentions.now unread.now) }
 {
-    let guess = guess_unmet(alloc, set, mentions, learnt, unread, from)?;
+    let guess = guess_unmet(alloc, set, mentions, learnt, unread)?;
     if guess < unread.len() {
         let slot = unread[guess];
-        let mut cursor = MentionCursor::first();
-        let uids = answering(
+        let uids = up_to_three_answering(
             alloc,
             set,
             mentions,
             learnt,
-            &mut cursor,
+            &mut MentionCursor::first(),
+            &slot.block(),
             slot.place(),
-            &slot,
+            slot.at,
         )?;
         if uids.len() < usize::from(slot.need) {
             return Ok(slot.place());
@@ -353,13 +298,24 @@ fn meet_each<S: OpenSet>(
     let mut start = 0;
     let mut cursor = MentionCursor::first();
     for index in 0..unread.len() {
-        if !is_asked_again(unread, index) {
+        if !is_implied_by_next(unread, index) {
             let slot = unread[index];
-            let uids = answering(alloc, set, mentions, &mut learnt, &mut cursor, from, &slot)?;
+            let uids = up_to_three_answering(
+                alloc,
+                set,
+                mentions,
+                &mut learnt,
+                &mut cursor,
+                &slot.block(),
+                from,
+                slot.at,
+            )?;
             let at = slot.place();
             let need = usize::from(slot.need);
             if uids.len() < need {
-                let at = first_unmet(alloc, set, mentions, &mut learnt, unread, start, at)?;
+                // those before `start` are met
+                let rest = &unread[start..];
+                let at = first_unmet(alloc, set, mentions, &mut learnt, rest, at)?;
                 return Ok(Some(at));
             }
             found.push(Found { at, need, uids })?;
@@ -370,12 +326,12 @@ fn meet_each<S: OpenSet>(
 }
 
 /// What meets the unread slots of a log, by the UIDs that it leaves open; or the position of a slot
-/// that lacks what it requires. It is the first such slot, which saves judging the log again; no
-/// answer rests on that.
+/// that lacks what it requires. It is the first such slot if the guess is right, which saves judging
+/// the log again; no answer rests on that.
 pub(crate) fn meet_stretches<S: OpenSet>(
     alloc: Global,
     set: &S,
-    stretches: &[Stretch],
+    stretches: &[KeptStretch],
 ) -> Result<Result<Vec<Found>, usize>, AllocError>
     requires mentions { All HasMentionsInOrder stretches.now }
     requires blocks { All HasBlocks stretches.now }

@@ -6,10 +6,6 @@ use Rattle.vic_verdict.specs.declared.sweep.ReadSlot.{ReadSlot}
 use Rattle.vic_verdict.specs.declared.mentions.Mention.{Mention}
 use Rattle.vic_verdict.specs.inner.Sweep.{is_in, has_left}
 
--- the key is in the mask of one of the slots
-abbrev pub is_in_some : List ReadSlot → ℕ → Bool
-is_in_some reads k = list_any (λ s. is_in s k) reads
-
 -- the key is in the range, if there is one
 abbrev pub is_in_some_range : Option (ℕ × ℕ) → ℕ → Bool
 is_in_some_range None k = false

@@ -6,7 +6,7 @@ abbrev pub AreBelow : List ℕ → ℕ → ℕ → Type 0
 AreBelow us n u = (k : ℕ) → k < n → slice_index_or us k 0 < u
 
 -- and those from the index on aren't
-pub record IsPlaceOf (us : List ℕ) (n u : ℕ) : Type 0 where
+pub record IsIndexOf (us : List ℕ) (n u : ℕ) : Type 0 where
   pub within : n ≤ length us
   pub below : AreBelow us n u
   pub above : n < length us → u ≤ slice_index_or us n 0

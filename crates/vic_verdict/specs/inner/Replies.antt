@@ -10,13 +10,13 @@ use Rattle.vic_verdict.specs.declared.mentions.Mention.{Mention}
 use Rattle.vic_verdict.specs.inner.Sweep.{is_quiet_by}
 
 -- a tag with this UID, if it is in the field, answers in the slot at position i
-abbrev pub Answers : List Entry → ℕ → ℕ → Type 0
-Answers es i u = IsUid u × (answers_at es i u ≡ true)
+abbrev pub CanAnswer : List Entry → ℕ → ℕ → Type 0
+CanAnswer es i u = IsUid u × (answers_at es i u ≡ true)
 
 -- each UID that was heard answers in its slot, if it is in the field
 abbrev pub RepliesAnswer : List Entry → Type 0
 RepliesAnswer es =
-    (i : ℕ) (r : Reply) → slice_get es i ≡ Some (Heard r) → Answers es i r.uid
+    (i : ℕ) (r : Reply) → slice_get es i ≡ Some (Heard r) → CanAnswer es i r.uid
 
 -- the position at which the line of a mention hears its UID; 0 if it silences it
 abbrev pub reply_place : Mention → ℕ

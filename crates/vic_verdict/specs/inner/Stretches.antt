@@ -1,30 +1,30 @@
 -- What the lines between two field cycles say: which UIDs they silence or hear, what their slots
 -- rule out, and what these require.
-use Rattle.std.specs.Prelude.{◌≡◌, ◌⊎◌, ℕ, zero, suc, ◌^◌, ◌<◌, ◌≤◌, Bool, true, false, Option, Some, None, List, [], ◌∷◌, ◌++◌, length, take, nat_le, slice_get, if◌then◌else◌}
+use Rattle.std.specs.Prelude.{◌≡◌, ◌⊎◌, ℕ, zero, suc, ◌^◌, ◌<◌, ◌≤◌, Bool, true, false, Option, Some, None, List, [], ◌∷◌, ◌++◌, length, take, nat_le, slice_get, if◌then◌else◌, ⊤}
 use Rattle.std.specs.List.{All, Any}
+use Rattle.std.specs.List.Sorted.{IsPermutation}
 use Rattle.vic_frame.specs.Uids.{IsUid, is_uid}
 use Rattle.vic_frame.specs.Replies.{Reply}
-use Rattle.vic_frame.specs.declared.low_bits_first.KeyBlock.{KeyBlock}
 use Rattle.vic_frame.specs.declared.request.Request.TheVariants.{StayQuiet}
-use Rattle.vic_frame.specs.LowBitsFirst.{is_in_some_block, mirror}
+use Rattle.vic_frame.specs.LowBitsFirst.{mirror}
 use Rattle.vic_tree.specs.OpenSet.{SameUids}
 use Rattle.vic_tree.specs.Ranges.{is_outside}
 use Rattle.vic_log.specs.declared.entry.Entry.{Entry}
-use Rattle.vic_log.specs.declared.entry.Entry.TheVariants.{Sent, Silent, Heard}
+use Rattle.vic_log.specs.declared.entry.Entry.TheVariants.{Sent, Silent, Heard, FieldCycle}
 use Rattle.vic_log.specs.declared.entry.LogLine.{LogLine}
 use Rattle.vic_log.specs.Order.{entries}
-use Rattle.vic_log.specs.Quiet.{wakes}
+use Rattle.vic_log.specs.Quiet.{is_quiet, wakes}
 use Rattle.vic_log.specs.Rounds.{mask_at, lies_in_some}
 use Rattle.vic_log.specs.Slots.{slots_of, is_open}
 use Rattle.vic_verdict.specs.Possible.{IsContradictedAt}
-use Rattle.vic_verdict.specs.inner.Possible.{rules_out}
+use Rattle.vic_verdict.specs.inner.Ruling.{rules_out}
 use Rattle.vic_verdict.specs.inner.Replies.{RepliesAnswer}
 use Rattle.vic_verdict.specs.declared.mentions.Mention.{Mention}
 use Rattle.vic_verdict.specs.declared.sweep.ReadSlot.{ReadSlot}
+use Rattle.vic_verdict.specs.declared.stretches.Gathered.{Gathered}
 use Rattle.vic_verdict.specs.declared.stretches.Settled.{Settled}
-use Rattle.vic_verdict.specs.declared.unread_slots.UnreadSlot.{UnreadSlot}
-use Rattle.vic_verdict.specs.inner.Asked.{AreAsked, AreKept}
-use Rattle.vic_verdict.specs.inner.Sweep.{HasRange, heard_of, is_in}
+use Rattle.vic_verdict.specs.inner.Unread.{AreUnreadSlots, AreKept}
+use Rattle.vic_verdict.specs.inner.Sweep.{HasRange, IsSilentSlot, heard_of, is_in}
 
 -- ---- the mentions
 
@@ -48,54 +48,63 @@ mentions_from es from (suc i) =
 
 -- ---- the slots that were silent, or in which one tag was heard
 
--- the slot at a position, whose mask has these keys, which heard this key or none
-pub record IsReadSlotOf (keys : Option KeyBlock) (at : ℕ) (heard : Option ℕ) (s : ReadSlot)
-    : Type 0 where
-  pub place : s.at ≡ at
-  pub key : heard_of s ≡ heard
-  pub range : HasRange s
-  pub inside : (k : ℕ) → is_in s k ≡ is_in_some_block keys k
-
--- the list has one more slot, unless no UID lies in its mask
-abbrev pub AddsReadSlot : Option KeyBlock → ℕ → Option ℕ → List ReadSlot → List ReadSlot → Type 0
-AddsReadSlot keys at heard old new =
-    ((keys ≡ None) × (new ≡ old))
-    ⊎ ((s : ReadSlot) × (new ≡ old ++ s ∷ []) × IsReadSlotOf keys at heard s)
-
 -- the entry is a slot line that heard this key, or none
 abbrev pub HasRead : Option Entry → Option ℕ → Type 0
 HasRead e heard =
     ((e ≡ Some Silent) × (heard ≡ None))
     ⊎ ((r : Reply) × (e ≡ Some (Heard r)) × IsUid r.uid × (heard ≡ Some (mirror r.uid)))
 
--- the slot is that of an entry from a position on, up to position i
+-- the entry at position j says of a UID in its mask what a slot says of it
+pub record SaysAt (es : List Entry) (j u : ℕ) (s : ReadSlot) : Type 0 where
+  pub read : HasRead (slice_get es j) (heard_of s)
+  pub lies : lies_in_some (mask_at es j) u ≡ true
+  pub inside : is_in s (mirror u) ≡ true
+  pub quiet : is_quiet es s.at u ≡ is_quiet es j u
+
+-- the slot is that of an entry from a position on, up to position i, or several of one round joined
 pub record IsReadSlot (es : List Entry) (from i : ℕ) (s : ReadSlot) : Type 0 where
   pub since : from ≤ s.at
   pub before : s.at < i
   pub read : HasRead (slice_get es s.at) (heard_of s)
   pub range : HasRange s
-  pub inside : (u : ℕ) → IsUid u → is_in s (mirror u) ≡ lies_in_some (mask_at es s.at) u
+  pub said : (u : ℕ) → IsUid u → is_in s (mirror u) ≡ true
+      → (j : ℕ) × (from ≤ j) × (j < i) × SaysAt es j u s
 
--- no UID lies in the mask at position i
-abbrev pub NobodyAt : List Entry → ℕ → Type 0
-NobodyAt es i = (u : ℕ) → IsUid u → lies_in_some (mask_at es i) u ≡ false
+-- the slot was silent, and since then no tag became Quiet
+pub record IsSilentSince (es : List Entry) (i : ℕ) (s : ReadSlot) : Type 0 where
+  pub silent : IsSilentSlot s
+  pub quiet : (u : ℕ) → IsUid u → is_quiet es s.at u ≡ is_quiet es i u
 
 -- ---- all of it
 
+-- a stretch begins at position i: before all entries, or after a field cycle
+abbrev pub BeginsAt : List Entry → ℕ → Type 0
+BeginsAt es zero = ⊤
+BeginsAt es (suc j) = slice_get es j ≡ Some FieldCycle
+
+-- a stretch ends before position i: its entry is a field cycle, or makes the entries impossible
+abbrev pub EndsAt : List Entry → ℕ → Type 0
+EndsAt es i = (slice_get es i ≡ Some FieldCycle) ⊎ IsContradictedAt es i
+
+-- the slots that were silent, or in which one tag was heard
+abbrev pub read_slots : Gathered → List ReadSlot
+read_slots g = g.reads.items ++ g.silent.items
+
 -- what is gathered from the entries from a position on, up to position i, none of which is a field
 -- cycle: their mentions, their slots that may rule UIDs out, and their unread slots
-pub record HasGathered (es : List Entry) (from i : ℕ) (ns : List Mention) (ss : List ReadSlot)
-    (ds : List UnreadSlot) : Type 0 where
+pub record HasGathered (es : List Entry) (from i : ℕ) (g : Gathered) : Type 0 where
   pub begun : from ≤ i
   pub small : from < i → i ≤ 2 ^ 32
   pub awake : (j : ℕ) → from ≤ j → j < i → wakes (slice_get es j) ≡ false
-  pub mentions : ns ≡ mentions_from es from i
-  pub reads : All (IsReadSlot es from i) ss
-  pub read : (j : ℕ) (e : Entry) → from ≤ j → j < i → slice_get es j ≡ Some e
-      → rules_out e ≡ true → Any (λ (s : ReadSlot). s.at ≡ j) ss ⊎ NobodyAt es j
+  pub mentions : IsPermutation (mentions_from es from i) g.mentions.items
+  pub reads : All (IsReadSlot es from i) (read_slots g)
+  pub read : (j : ℕ) (e : Entry) (u : ℕ) → from ≤ j → j < i → slice_get es j ≡ Some e
+      → rules_out e ≡ true → IsUid u → lies_in_some (mask_at es j) u ≡ true
+      → Any (SaysAt es j u) (read_slots g)
+  pub silent : All (IsSilentSince es i) g.silent.items
   pub inside : (j : ℕ) (r : Reply) → from ≤ j → j < i → slice_get es j ≡ Some (Heard r)
       → IsUid r.uid × (lies_in_some (mask_at es j) r.uid ≡ true)
-  pub asked : AreAsked es from i ds
+  pub unread : AreUnreadSlots es from i g.unread.items
 
 -- a set is what the first lines of a log leave open, and the UIDs heard there answer. The line
 -- after them, if there is one, makes the log impossible

@@ -1,17 +1,18 @@
 -- What the slots between two field cycles leave, in terms of keys: UIDs in the order of their low
 -- bits.
-use Rattle.std.specs.Prelude.{◌≡◌, ℕ, ◌+◌, ◌-◌, ◌/◌, ◌%◌, ◌^◌, ◌==◌, ◌<◌, ◌≤◌, Bool, true, false, not, ◌&&◌, ◌||◌, Option, Some, None, List, length, slice_index_or, nat_le, nat_lt, map, if◌then◌else◌, IfSome}
+use Rattle.std.specs.Prelude.{◌≡◌, ℕ, ◌+◌, ◌-◌, ◌/◌, ◌%◌, ◌^◌, ◌==◌, ◌<◌, ◌≤◌, Bool, true, false, not, ◌&&◌, ◌||◌, Option, Some, None, List, length, slice_index_or, nat_le, nat_lt, map, if◌then◌else◌, IfSome, [], ◌∷◌, ◌++◌, ◌⊎◌}
 use Rattle.std.specs.List.Sorted.{IsNonDecreasingBy}
 use Rattle.std.specs.List.{list_all, list_any, All}
 use Rattle.vic_frame.specs.declared.uid.TheConstants.{UID_BITS}
-use Rattle.vic_verdict.specs.declared.sweep.TheConstants.{LENGTHS}
+use Rattle.vic_verdict.specs.declared.sweep.TheConstants.{LENGTH_BASE}
 use Rattle.vic_verdict.specs.declared.mentions.TheConstants.{NEVER}
-use Rattle.vic_frame.specs.LowBitsFirst.{IsKey}
+use Rattle.vic_frame.specs.declared.low_bits_first.KeyBlock.{KeyBlock}
+use Rattle.vic_frame.specs.LowBitsFirst.{IsKey, is_in_some_block}
 use Rattle.vic_tree.specs.Ranges.{IsKeyRange, is_between}
 use Rattle.vic_verdict.specs.declared.mentions.Mention.{Mention}
 use Rattle.vic_verdict.specs.declared.sweep.ReadSlot.{ReadSlot}
 use Rattle.vic_verdict.specs.declared.sweep.Summary.{Summary}
-use Rattle.vic_verdict.specs.declared.sweep.Run.{Run}
+use Rattle.vic_verdict.specs.declared.sweep.MaskSummary.{MaskSummary}
 
 -- the position after which the UID of a mention is Quiet by its line
 abbrev pub quiet_of : Mention → ℕ
@@ -34,11 +35,11 @@ is_before q (Some at) = nat_lt q at
 
 -- how many bits a slot's mask has
 abbrev pub len_of : ReadSlot → ℕ
-len_of s = s.mask % LENGTHS
+len_of s = s.mask_number % LENGTH_BASE
 
 -- the first and the last key of its mask
 abbrev pub first_of : ReadSlot → ℕ
-first_of s = s.mask / LENGTHS
+first_of s = s.mask_number / LENGTH_BASE
 
 abbrev pub last_of : ReadSlot → ℕ
 last_of s = first_of s + (2 ^ (UID_BITS - len_of s) - 1)
@@ -51,6 +52,10 @@ heard_of s = if s.is_heard then Some s.key else None
 abbrev pub is_in : ReadSlot → ℕ → Bool
 is_in s k = is_between (first_of s) (last_of s) k
 
+-- the key is in the mask of one of the slots
+abbrev pub is_in_any : List ReadSlot → ℕ → Bool
+is_in_any reads k = list_any (λ s. is_in s k) reads
+
 -- the slot leaves the key
 abbrev pub read_leaves : ReadSlot → ℕ → ℕ → Bool
 read_leaves s k q = not (is_in s k) || slot_leaves s.at (heard_of s) k q
@@ -61,19 +66,20 @@ all_leave reads k q = list_all (λ s. read_leaves s k q) reads
 
 -- what a summary leaves of the keys in its mask
 abbrev pub summary_leaves : Summary → ℕ → ℕ → Bool
-summary_leaves l k q = if is_heard l.heard k then is_before q l.other else nat_lt q l.at
+summary_leaves summary k q =
+    if is_heard summary.heard k then is_before q summary.differs_at else nat_lt q summary.at
 
 -- the first slot of a summary is no later than the first that heard another
 abbrev pub IsSummary : Summary → Type 0
-IsSummary l = IfSome l.other (λ o. l.at ≤ o)
+IsSummary summary = IfSome summary.differs_at (λ o. summary.at ≤ o)
 
 -- what a mask leaves of all keys
 abbrev pub mask_leaves : ℕ → ℕ → Summary → ℕ → ℕ → Bool
-mask_leaves first last l k q = not (is_between first last k) || summary_leaves l k q
+mask_leaves first last summary k q = not (is_between first last k) || summary_leaves summary k q
 
-abbrev pub run_leaves : Option Run → ℕ → ℕ → Bool
-run_leaves None k q = true
-run_leaves (Some r) k q = mask_leaves r.keys.0 r.keys.1 r.summary k q
+abbrev pub some_mask_leaves : Option MaskSummary → ℕ → ℕ → Bool
+some_mask_leaves None k q = true
+some_mask_leaves (Some r) k q = mask_leaves r.keys.0 r.keys.1 r.summary k q
 
 -- mentions stay left if a test of key and position passes
 abbrev pub keep : (ℕ → ℕ → Bool) → Mention → Mention
@@ -102,10 +108,6 @@ read_allows ns s k = not (is_in s k) || (is_quiet_by ns k s.at || is_heard (hear
 abbrev pub all_allow : List Mention → List ReadSlot → ℕ → Bool
 all_allow ns reads k = list_all (λ s. read_allows ns s k) reads
 
--- all slots before position i do
-abbrev pub all_allow_to : List Mention → List ReadSlot → ℕ → ℕ → Bool
-all_allow_to ns reads i k = list_all (λ s. nat_le i s.at || read_allows ns s k) reads
-
 -- the keys of the slot's mask are a range of keys
 abbrev pub HasRange : ReadSlot → Type 0
 HasRange s = (len_of s ≤ UID_BITS) × IsKeyRange (first_of s, last_of s)
@@ -129,11 +131,10 @@ all_hear_mentioned ns reads = list_all (hears_mentioned ns) reads
 abbrev pub are_left : List Mention → Bool
 are_left ns = list_all (λ n. n.left) ns
 
--- all mentions are left, and the slots, whose masks are ranges of keys, are before a position; a
--- key that one of them heard is mentioned
-pub record AreGatheredBefore (ns : List Mention) (ss : List ReadSlot) (end : ℕ) : Type 0 where
+-- all mentions are left, and the masks of the slots are ranges of keys; a key that one of them heard
+-- is mentioned
+pub record AreGathered (ns : List Mention) (ss : List ReadSlot) : Type 0 where
   pub left : are_left ns ≡ true
-  pub before : All (λ (s : ReadSlot). s.at < end) ss
   pub ranges : All HasRange ss
   pub mentioned : all_hear_mentioned ns ss ≡ true
 
@@ -152,8 +153,39 @@ pub record IsStart (ns : List Mention) (first at : ℕ) : Type 0 where
 abbrev pub HaveKeys : List Mention → Type 0
 HaveKeys ns = All (λ (n : Mention). IsKey n.key) ns
 
--- the mentions are in order, and show the same UIDs as Quiet as before
-pub record ArePutInOrder (old new : List Mention) : Type 0 where
+-- the new mentions are in order, too, and show the same UIDs as Quiet
+pub record AreSameMentions (old new : List Mention) : Type 0 where
   pub order : AreInOrder new
   pub keys : HaveKeys old → HaveKeys new
   pub quiet : (k i : ℕ) → is_quiet_by new k i ≡ is_quiet_by old k i
+
+-- ---- slots that are added, and slots that are joined
+
+-- the slot at a position, whose mask has these keys, which heard this key or none
+pub record IsReadSlotOf (keys : Option KeyBlock) (at : ℕ) (heard : Option ℕ) (s : ReadSlot)
+    : Type 0 where
+  pub place : s.at ≡ at
+  pub key : heard_of s ≡ heard
+  pub range : HasRange s
+  pub inside : (k : ℕ) → is_in s k ≡ is_in_some_block keys k
+
+-- the list has one more slot, unless no UID lies in its mask
+abbrev pub AddsReadSlot : Option KeyBlock → ℕ → Option ℕ → List ReadSlot → List ReadSlot → Type 0
+AddsReadSlot keys at heard old new =
+    ((keys ≡ None) × (new ≡ old))
+    ⊎ ((s : ReadSlot) × (new ≡ old ++ s ∷ []) × IsReadSlotOf keys at heard s)
+
+-- no tag was heard in the slot
+pub record IsSilentSlot (s : ReadSlot) : Type 0 where
+  pub none : heard_of s ≡ None
+  pub range : HasRange s
+
+-- one of the slots is at a position
+abbrev pub has_read_at : List ReadSlot → ℕ → Bool
+has_read_at ss i = list_any (λ s. s.at == i) ss
+
+-- silent slots at the positions of others, with the same keys together
+pub record AreJoined (old new : List ReadSlot) : Type 0 where
+  pub silent : All IsSilentSlot new
+  pub places : (i : ℕ) → has_read_at new i ≡ true → has_read_at old i ≡ true
+  pub keys : (k : ℕ) → is_in_any new k ≡ is_in_any old k

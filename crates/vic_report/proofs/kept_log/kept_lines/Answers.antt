@@ -2,8 +2,8 @@ use Rattle.vic_report.proofs.Words.{Some, ap, sym, subst, length, refl, arith, �
 use Rattle.vic_report.proofs.KeptLogs.{none_numbered, valid_entry}
 use Rattle.vic_report.proofs.kept_log.kept_lines.Goals as goal
 
-pub loop-index-init : goal.loop-index-init
-loop-index-init c =
+pub loop-line-init : goal.loop-line-init
+loop-line-init c =
     let none = c.new-kept.ensures.items in
     record {
       round = c.first-cursor.ensures (entries c.args.lines.now);
@@ -15,19 +15,19 @@ loop-index-init c =
 
 pub keep_line-requires-clause-valid : goal.keep_line-requires-clause-valid
 keep_line-requires-clause-valid c =
-    let i = c.loop-index.index in
-    let l = c.index-lines-index.result in
-    valid_entry (entries c.args.lines.now) i c.item-entry.result c.requires.lines.valid (entry_at c.args.lines.now i l c.loop-index-test.true c.index-lines-index.is ∙ ap (λ (e : Entry). Some e) (sym c.item-entry.ensures))
+    let i = c.loop-line.line-index in
+    let l = c.line-item.result in
+    valid_entry (entries c.args.lines.now) i c.item-entry.result c.requires.lines.valid (entry_at c.args.lines.now i l c.loop-line-test.true c.line-item.is ∙ ap (λ (e : Entry). Some e) (sym c.item-entry.ensures))
 
-pub loop-index-preserved : goal.loop-index-preserved
-loop-index-preserved c =
+pub loop-line-preserved : goal.loop-line-preserved
+loop-line-preserved c =
     let es = entries c.args.lines.now in
-    let i = c.loop-index.index in
-    let l = c.index-lines-index.result in
-    let before = c.loop-index.invariant in
-    let here = entry_at c.args.lines.now i l c.loop-index-test.true c.index-lines-index.is ∙ ap (λ (e : Entry). Some e) (sym c.item-entry.ensures) in
+    let i = c.loop-line.line-index in
+    let l = c.line-item.result in
+    let before = c.loop-line.invariant in
+    let here = entry_at c.args.lines.now i l c.loop-line-test.true c.line-item.is ∙ ap (λ (e : Entry). Some e) (sym c.item-entry.ensures) in
     let more = c.in_ok-keep_line.ensures in
-    let kept = more.kept es here (c.mask-mask.ensures es i c.requires.lines.valid before.round) in
+    let kept = more.kept es i here (c.mask-mask.ensures es i c.requires.lines.valid before.round) in
     record {
       round = c.advance.ensures es i c.requires.lines.order here before.round;
       numbered = more.numbered;
@@ -35,5 +35,5 @@ loop-index-preserved c =
       quiet = kept.quiet before.quiet;
       given = λ p fits. kept.given p before.quiet (λ yes.
           subst (λ e. Fits e (outcome_at es i p)) (sym c.item-entry.ensures)
-          (fits i l (slice_get_read c.args.lines.now (length c.args.lines.now) i l refl c.loop-index-test.true c.index-lines-index.is) (ap (has c.args.numbers.now) (sym c.number.ensures) ∙ (sym c.has_number-is_kept.ensures ∙ yes)))) (before.given p fits);
+          (fits i l (slice_get_read c.args.lines.now (length c.args.lines.now) i l refl c.loop-line-test.true c.line-item.is) (ap (has c.args.numbers.now) (sym c.number-number.ensures) ∙ (sym c.has_number-is_kept.ensures ∙ yes)))) (before.given p fits);
     }

@@ -1,11 +1,11 @@
 use Rattle.vic_report.proofs.Words.{ℕ, ◌*◌, ◌≤◌, List, length, entries, CouldHaveGiven, FitsLines, AreNumbered, SameQuiet, IsCursorAt}
 use Rattle.vic_report.proofs.kept_log.kept_lines.Given as goal
 
-abbrev pub invariant-loop-index : goal.invariant-loop-index
-invariant-loop-index l = record {
-  round : IsCursorAt (entries l.lines) l.index l.cursor;
+abbrev pub invariant-loop-line : goal.invariant-loop-line
+invariant-loop-line l = record {
+  round : IsCursorAt (entries l.lines) l.line-index l.cursor;
   numbered : AreNumbered l.kept.items;
-  limit : length l.kept.items ≤ 2 * l.index;
-  quiet : SameQuiet (entries l.kept.items) (entries l.lines) l.index;
+  limit : length l.kept.items ≤ 2 * l.line-index;
+  quiet : SameQuiet (entries l.kept.items) (entries l.lines) l.line-index;
   given : (p : List ℕ) → FitsLines l.lines l.numbers p → CouldHaveGiven p (entries l.kept.items);
 }

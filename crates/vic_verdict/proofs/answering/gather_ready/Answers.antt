@@ -1,4 +1,4 @@
-use Rattle.vic_verdict.proofs.Words.{has, IsUid, and_from, and_parts, ap, both_ways, eq-eqb, eqb-true, le-ltb, lt_yes, not, subst, sym, uid_of, uid_of_mirror, ◌<◌, ◌∙◌, ◌≤◌, List, [], false, refl, ℕ, ◌≡◌, Mention, is_awake, mirror, ◌&&◌, ◌==◌}
+use Rattle.vic_verdict.proofs.Words.{has, IsUid, and_from, and_parts, ap, both_ways, eq-eqb, eqb-true, le-ltb, lt_yes, not, subst, sym, uid_of, uid_of_mirror, ◌<◌, ◌∙◌, ◌≤◌, List, [], false, refl, ℕ, ◌≡◌, Mention, is_awake, mirror, ◌&&◌, ◌==◌, is_uid}
 use Rattle.vic_verdict.proofs.Ready.{gathers_none, told_more, told_full}
 use Rattle.vic_verdict.proofs.Sweeping.{nobody}
 use Rattle.vic_verdict.proofs.answering.gather_ready.Goals as goal

@@ -1,4 +1,4 @@
-use Rattle.vic_verdict.proofs.Words.{◌≡◌, ◌^◌, ◌<◌, ◌≤◌, ℕ, Bool, List, length, get_or, map, false, not, ◌&&◌, sym, ap, ◌∙◌, arith, nat_lt, le-ltb, and_from, and_right, get_or-map, length-map, uid_of, lt_yes, Mention, NEVER, is_ready_at, All-map, is_mentioned, refl, take}
+use Rattle.vic_verdict.proofs.Words.{◌≡◌, ◌^◌, ◌<◌, ◌≤◌, ℕ, Bool, List, length, get_or, map, false, not, ◌&&◌, sym, ap, ◌∙◌, arith, nat_lt, le-ltb, and_from, and_right, get_or-map, length-map, uid_of, lt_yes, Mention, NEVER, is_ready_at, All-map, is_mentioned, refl, take, is_open}
 use Rattle.vic_verdict.proofs.Ready.{same_before, open_other, open_more, ready_key, keys_order}
 use Rattle.vic_verdict.proofs.Replying.{at, tells_own}
 use Rattle.vic_verdict.proofs.Sweeping.{nobody, start_here}

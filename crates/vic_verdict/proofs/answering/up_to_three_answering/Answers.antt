@@ -1,4 +1,4 @@
-use Rattle.vic_verdict.proofs.Words.{◌∙◌, ap, sym, ◌&&◌, nat_le, nat_lt, quiet_of, IfOk-weaker}
+use Rattle.vic_verdict.proofs.Words.{◌∙◌, ap, sym, ◌&&◌, nat_le, nat_lt, quiet_of, IfOk-weaker, is_open}
 use Rattle.vic_verdict.proofs.Ready.{first_answering, answering_inside}
 use Rattle.vic_verdict.proofs.answering.up_to_three_answering.Goals as goal
 

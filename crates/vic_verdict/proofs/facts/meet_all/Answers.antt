@@ -1,4 +1,4 @@
-use Rattle.vic_verdict.proofs.Words.{◌∙◌, sym, length, length-map, LogLine, entries}
+use Rattle.vic_verdict.proofs.Words.{◌∙◌, sym, length, length-map, LogLine, entries, is_open}
 use Rattle.vic_verdict.proofs.UnreadSlots.{kept_blocks, kept_in_order}
 use Rattle.vic_verdict.proofs.Lacking.{lacking_lines}
 use Rattle.vic_verdict.proofs.Meeting.{heard_lacks, met_all}

@@ -1,4 +1,4 @@
-use Rattle.vic_verdict.proofs.Words.{length, refl, ap, ◌∙◌, arith, add-one, [], ◌∷◌, length-append, slice_get_read, listed}
+use Rattle.vic_verdict.proofs.Words.{length, refl, arith, add-one, length-append, slice_get_read}
 use Rattle.vic_verdict.proofs.Listing.{listed_more, number_above}
 use Rattle.vic_verdict.proofs.findings.count_listed.Goals as goal
 
@@ -6,7 +6,7 @@ pub overflow_add-count : goal.overflow_add-count
 overflow_add-count c =
     let lines = c.args.lines.now in
     let l = c.line-item.result in
-    omega (arith, number_above 0 lines c.loop-line.line-index l c.requires (slice_get_read lines (length lines) c.loop-line.line-index l refl c.loop-line-test.true c.line-item.is), c.loop-line.invariant.small, c.count_one-count.ensures.small)
+    omega (arith, number_above 0 lines c.loop-line.line-index l c.requires (slice_get_read lines (length lines) c.loop-line.line-index l refl c.loop-line-test.true c.line-item.is), c.loop-line.invariant.small, c.count_one-count.ensures.small, c.count_one-count.ensures.number)
 
 pub loop-line-preserved : goal.loop-line-preserved
 loop-line-preserved c =
@@ -14,5 +14,4 @@ loop-line-preserved c =
     let i = c.loop-line.line-index in
     let l = c.line-item.result in
     let more = listed_more lines i l (slice_get_read lines (length lines) i l refl c.loop-line-test.true c.line-item.is) in
-    let one = c.count_one-count.ensures.value ∙ ap (λ e. length (listed (e ∷ []))) c.item.ensures in
-    record { value = rw (add-one, more, length-append) (omega (arith, c.loop-line.invariant.value)); small = omega (arith, c.loop-line.invariant.small, c.count_one-count.ensures.small) }
+    record { value = rw (add-one, more, length-append) (omega (arith, c.loop-line.invariant.value, c.count_one-count.ensures.value)); small = omega (arith, c.loop-line.invariant.small, c.count_one-count.ensures.small) }

@@ -1,4 +1,4 @@
-use Rattle.vic_verdict.proofs.Words.{◌≡◌, refl, Bool, ◌&&◌, get_or, arith, ap, ◌∙◌, Mention, mask_leaves, quiet_of}
+use Rattle.vic_verdict.proofs.Words.{◌≡◌, refl, Bool, ◌&&◌, get_or, arith, ap, ◌∙◌, Mention, mask_leaves, quiet_of, in_mask, is_heard}
 use Rattle.vic_verdict.proofs.Sweeping.{nobody, ruled_first, ruled_at, ruled_more, ruled_all, inside}
 use Rattle.vic_verdict.proofs.sweep.rule_out.Goals.{then-mention, else-mention}
 use Rattle.vic_verdict.proofs.sweep.rule_out.Goals as goal

@@ -1,12 +1,12 @@
 use Rattle.vic_verdict.proofs.Words.{◌∙◌, get_or, sym, take_all, get_or_default}
-use Rattle.vic_verdict.proofs.Sweeping.{nowhere, runs_more, keep_none}
+use Rattle.vic_verdict.proofs.Sweeping.{nowhere, masks_more, keep_none}
 use Rattle.vic_verdict.proofs.sweep.rule_out_all.Goals as goal
 
 pub loop-read-preserved : goal.loop-read-preserved
 loop-read-preserved c = record {
-  order = c.extend_run.ensures.order;
-  summary = c.extend_run.ensures.summary;
-  done = runs_more c.loop-read.run c.extend_run.result c.args.reads.now c.loop-read.read-index (get_or c.args.reads.now c.loop-read.read-index nowhere) c.args.mentions.now c.loop-read.mentions c.extend_run.new.mentions c.loop-read-test.true (get_or_default c.args.reads.now c.loop-read.read-index nowhere _ c.loop-read-test.true) c.loop-read.invariant.done c.extend_run.ensures.leaves;
+  order = c.extend_mask.ensures.order;
+  summary = c.extend_mask.ensures.summary;
+  done = masks_more c.loop-read.mask c.extend_mask.result c.args.reads.now c.loop-read.read-index (get_or c.args.reads.now c.loop-read.read-index nowhere) c.args.mentions.now c.loop-read.mentions c.extend_mask.new.mentions c.loop-read-test.true (get_or_default c.args.reads.now c.loop-read.read-index nowhere _ c.loop-read-test.true) c.loop-read.invariant.done c.extend_mask.ensures.leaves;
 }
 
 pub returns-in-Some : goal.returns-in-Some

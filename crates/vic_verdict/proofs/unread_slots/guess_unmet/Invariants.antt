@@ -1,4 +1,4 @@
-use Rattle.vic_verdict.proofs.Words.{◌≤◌, IsLearnt}
+use Rattle.vic_verdict.proofs.Words.{◌≤◌, IsLearnt, is_open}
 use Rattle.vic_verdict.proofs.unread_slots.guess_unmet.Given as goal
 
 abbrev pub invariant-loop-index : goal.invariant-loop-index

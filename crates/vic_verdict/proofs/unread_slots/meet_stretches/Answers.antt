@@ -1,4 +1,4 @@
-use Rattle.vic_verdict.proofs.Words.{take, All, take_all, take_more, IsUnreadSlotBy}
+use Rattle.vic_verdict.proofs.Words.{take, All, take_all, take_more, IsUnreadSlotBy, is_open}
 use Rattle.vic_verdict.proofs.UnreadSlots.{found_more, found_all, unmet_lacks}
 use Rattle.vic_verdict.proofs.unread_slots.meet_stretches.Goals as goal
 

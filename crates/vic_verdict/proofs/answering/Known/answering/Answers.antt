@@ -1,4 +1,4 @@
-use Rattle.vic_verdict.proofs.Words.{◌≡◌, ◌^◌, ◌<◌, ℕ, refl, sym, ap, ◌∙◌, subst, is_in_block, is_between, Mention, has_where, All-map, AreKeys, is_awake, IsNonDecreasing}
+use Rattle.vic_verdict.proofs.Words.{◌≡◌, ◌^◌, ◌<◌, ℕ, refl, sym, ap, ◌∙◌, subst, is_in_block, is_between, Mention, has_where, All-map, AreKeys, is_awake, IsNonDecreasing, is_open}
 use Rattle.vic_verdict.proofs.Ready.{both_answering, keys_order, keys_part, mentioned_in}
 use Rattle.vic_verdict.proofs.answering.Known.answering.Goals as goal
 

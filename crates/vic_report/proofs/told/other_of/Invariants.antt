@@ -1,5 +1,0 @@
-use Rattle.vic_report.proofs.Words.{ℕ, ◌<◌, get_or, Found, Exactly}
-use Rattle.vic_report.proofs.told.other_of.Given as goal
-
-abbrev pub invariant-loop-one : goal.invariant-loop-one
-invariant-loop-one l = (k : ℕ) (d : Found) → k < l.one-index → Exactly (get_or l.found k d).need (get_or l.found k d).uids.items l.uid → ⊥

@@ -1,9 +1,0 @@
-use Rattle.vic_report.proofs.Words.{subst, sym, All-permutation, entries, IsFound, IsToldOf}
-use Rattle.vic_report.proofs.told.told_by_others.Goals as goal
-
-pub push_exact-requires-clause-found : goal.push_exact-requires-clause-found
-push_exact-requires-clause-found c =
-    subst (IsFound (entries c.args.lines.now)) (sym c.one-item.is) (c.requires.found c.loop-one.one-index c.one-item.result c.loop-one-test.true)
-
-pub returns : goal.returns
-returns c = All-permutation (IsToldOf c.args.lines.now) _ _ c.sort_unstable_by_key.ensures.permutation c.loop-one.invariant

@@ -1,6 +1,0 @@
-use Rattle.vic_verdict.proofs.Words.{◌≡◌, ◌++◌, drop, gathered, all_chosen}
-use Rattle.vic_verdict.proofs.explanation.gather.Given as goal
-
-abbrev pub invariant-loop-one : goal.invariant-loop-one
-invariant-loop-one l =
-    l.uids.items ++ all_chosen l.avoid (drop l.one-index l.one-items) ≡ gathered l.avoid l.fn.met
