@@ -4,11 +4,11 @@ use Rattle.vic_tree.proofs.BlockLaws.{key_in_mask, mask_ends}
 use Rattle.vic_tree.proofs.GatheringLaws.{gathers_both, gathers_like}
 use Rattle.vic_tree.proofs.RangeLaws.{inside_is, is_inside}
 
--- a key that passes lies before a position, or in the first run from there on
+-- a key that passes lies below another, or in the first run from that one on
 pub in_run : (p : ℕ → Bool) (from x y k : ℕ) → IsFirstRun p from x y → p k ≡ true → k < y + 2 → (k < from) ⊎ ((x ≤ k) × (k ≤ y))
 in_run p from x y k run t lt = grind (arith, nat_tests, run.before k, run.ends)
 
--- a UID is left if it's free, and is in a range and not in the list if it's left
+-- a UID is left if it's free, and is in a range and not removed if it's left
 free_is_left : (rs : List (ℕ × ℕ)) (except keys : List ℕ) (first last u : ℕ) → IsFreeInRanges rs first last (is_passed except keys) u → is_left rs keys (mirror u) ≡ true
 free_is_left rs except keys first last u w = rw (w.is_open, (or_parts (has except u) (has_key keys u) w.free).1) refl
 

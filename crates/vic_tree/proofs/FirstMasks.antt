@@ -48,7 +48,7 @@ equal_same a b e = same_mask a b (grind (arith, nat_tests)) (grind (arith, nat_t
 index_rises : (a b m : BitMask) → ComesBefore a b → ordering_index (mask_cmp a m) ≤ ordering_index (mask_cmp b m)
 index_rises a b m h = let le = h.0 in let lt = h.1 in grind (arith, nat_tests)
 
--- the position that a search of masks in order finds
+-- the index that a search of masks in order finds
 rises : (ms : List BitMask) (m : BitMask) → AllPairs ComesBefore ms → IsNonDecreasingBy (λ x. ordering_index (mask_cmp x m)) ms
 rises ms m up i j d le lt = elim (cases_lt i j) [
   | inl before ↦ index_rises (get_or ms i d) (get_or ms j d) m (up i j d before lt)
@@ -57,10 +57,10 @@ rises ms m up i j d le lt = elim (cases_lt i j) [
 
 in_order : (ms : List BitMask) (m : BitMask) (i : ℕ) → AllPairs ComesBefore ms → IsBinarySearchResult (λ x. mask_cmp x m) ms (Err i) → AllPairs ComesBefore (insert ms i m)
 in_order ms m i up found =
-    let place = found (rises ms m up) in
+    let sides = found (rises ms m up) in
     AllPairs-insert ComesBefore ms i m up
-    (λ k d from lt. less_before (get_or ms k d) m (place.0 k d from lt))
-    (λ k d from lt. greater_before (get_or ms k d) m (place.1 k d from lt))
+    (λ k d from lt. less_before (get_or ms k d) m (sides.0 k d from lt))
+    (λ k d from lt. greater_before (get_or ms k d) m (sides.1 k d from lt))
 
 -- the first masks of a list in order
 pub first_taken : (n most : ℕ) (P : BitMask → Type 0) (ms : List BitMask) → n ≤ most → AreFirst most P ms → AreFirst n P (take n ms)
@@ -81,7 +81,7 @@ first_taken n most P ms le f =
       ];
     }
 
--- a mask more is kept at its position, and the last one of too many left out
+-- a mask more is kept at its index, and the last one of too many left out
 pub one_kept : (ms : List BitMask) (m : BitMask) (i : ℕ) → AreKept ms → i ≤ length ms → IsBinarySearchResult (λ x. mask_cmp x m) ms (Err i) → Keeps (λ n. Some m ≡ Some n) ms (take 17 (insert ms i m)) × AreKept (take 17 (insert ms i m))
 one_kept ms m i kept le found = (
   record {

@@ -1,4 +1,4 @@
--- What is left of ranges of keys without some keys, run by run.
+-- What is left of ranges of keys when some keys are removed, run by run.
 use Rattle.vic_tree.proofs.Words.{◌≡◌, ℕ, ◌+◌, ◌<◌, ◌≤◌, ◌==◌, Bool, true, false, List, ◌∷◌, length, get_or, drop, nat_eq, max, arith, ne_eqb, IsNonDecreasing, nat_tests, has, AreRanges, IsFirstRun, PassFrom, All-from_get_or, list_any_none}
 use Rattle.vic_tree.proofs.RangeLaws.{any_dropped, none_below}
 

@@ -15,7 +15,7 @@ pub use Rattle.std.proofs.lemmas.List.Kept.{AllPairs-cons, AllPairs-from_increas
 pub use Rattle.std.proofs.lemmas.List.Sorted.{All-permutation, Contains-permutation, IsNonDecreasingBy-drop, IsNonDecreasingBy-from_all_adjacent, IsNonDecreasingBy-from_sort, IsNonDecreasingBy-from_sort_by_key, IsNonDecreasingBy-take, IsPartitionPoint-from_clause, IsPartitionedBy-ltb, IsPermutation-insert, IsPermutation-sym, list_any-IsPermutation, searched}
 pub use Rattle.std.proofs.lemmas.Map.Keys.{IsStrictlyIncreasing-dedup}
 pub use Rattle.std.proofs.lemmas.Map.Views.{Contains-from_any}
-pub use Rattle.std.proofs.lemmas.Nat.{one_shl, pow_below, same_from_place, shl-shr, shl_whole}
+pub use Rattle.std.proofs.lemmas.Nat.{pow_below, same_from_place}
 pub use Rattle.std.proofs.lemmas.Result.{IfOk-weaker}
 pub use Rattle.std.specs.Cmp.{IsTotalOrder}
 pub use Rattle.std.specs.List.{AllAdjacentBelow, dedup, list_any}
@@ -24,7 +24,7 @@ pub use Rattle.std.specs.Ordering.{eq_by_cmp, ordering_index, ordering_then}
 pub use Rattle.vic_frame.proofs.KeyLaws.{is_uid}
 pub use Rattle.vic_frame.proofs.MaskLaws.{mod_mod_pow}
 pub use Rattle.vic_frame.proofs.MirrorLaws.{in_span, mirror_below, mirror_mod, mirror_none, mirror_of_uid, mirror_split, mirror_twice, same_test, uid_of_mirror}
-pub use Rattle.vic_frame.specs.LowBitsFirst.{mirror, mirror_bits, uid_of}
+pub use Rattle.vic_frame.specs.LowBitsFirst.{IsBlock, mirror, mirror_bits, uid_of}
 pub use Rattle.vic_frame.specs.Masks.{BitMask, IsMask, lies_in}
 pub use Rattle.vic_frame.specs.Uids.{IsUid, has}
 pub use Rattle.vic_tree.specs.Gathering.{Gathers}

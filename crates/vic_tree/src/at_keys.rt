@@ -1,4 +1,4 @@
-//! UIDs by their keys, which are their positions in the order of low bits first.
+//! UIDs by their keys, which are their numbers in the order of low bits first.
 
 ghost use Rattle.std.specs.Prelude.{◌≡◌, ℕ, IfOk};
 ghost use Rattle.std.specs.List.Sorted.{IsStrictlyIncreasing};

@@ -1,12 +1,12 @@
-//! Ranges of keys without some keys: what is gathered from them, and their widest mask.
+//! Ranges of keys without some keys: as ranges, what is gathered from them, and their widest mask.
 
-ghost use Rattle.std.specs.Prelude.{◌≡◌, ℕ, ◌≤◌, false, IfSome, IfNone};
+ghost use Rattle.std.specs.Prelude.{◌≡◌, ℕ, false, IfOk, IfSome, IfNone};
 ghost use Rattle.std.specs.List.Sorted.{IsNonDecreasing, IsStrictlyIncreasing};
 ghost use Rattle.vic_frame.specs.LowBitsFirst.{IsKey};
 ghost use Rattle.vic_tree.specs.Gathering.{Gathers};
 ghost use Rattle.vic_tree.specs.OpenSet.{AreKeys, IsWidest, SameUids, without_keys};
-ghost use Rattle.vic_tree.specs.Ranges.{AreRanges, is_open_in};
-ghost use Rattle.vic_tree.specs.inner.Ranges.{IsFreeInRanges, is_passed};
+ghost use Rattle.vic_tree.specs.Ranges.{AreRanges, in_ranges, is_open_in};
+ghost use Rattle.vic_tree.specs.inner.Ranges.{IsFreeInRanges, is_left, is_passed};
 
 use crate::blocks::widest_with;
 use crate::gather_keys::gather_keys;
@@ -14,10 +14,32 @@ use crate::key_range::KeyRange;
 use crate::ranges::from_key;
 use crate::runs::Runs;
 use arrayvec::ArrayVec;
+use std::alloc::{AllocError, Global};
 use vic_frame::{Mask, Uid};
 
-/// Appends the UIDs with keys from `first` to `last` that are in some ranges, aren't exceptions and
-/// don't have one of some keys, until there are three.
+/// What is left of some ranges without the keys of a list.
+pub(crate) fn ranges_besides(
+    alloc: Global,
+    ranges: &[KeyRange],
+    keys: &[u64],
+) -> Result<Vec<KeyRange>, AllocError>
+    requires ranges { AreRanges ranges.now }
+    requires keys { AreKeys keys.now }
+    requires order { IsNonDecreasing keys.now }
+    ensures ranges { IfOk result (λ runs. AreRanges runs.items) }
+    ensures keys { IfOk result (λ runs. (k : ℕ)
+        → in_ranges runs.items k ≡ is_left ranges.now keys.now k) }
+{
+    let mut runs = Vec::new(alloc);
+    let mut left = Runs::new(0, ranges, keys);
+    while let Some(run) = left.next_run() {
+        runs.push(run)?;
+    }
+    Ok(runs)
+}
+
+/// Appends the UIDs whose keys are from `first` to `last`, in some ranges and not in a list, and
+/// that aren't exceptions, until there are three.
 pub(crate) fn gather_besides(
     out: &mut ArrayVec<Uid, 3>,
     except: &[Uid],

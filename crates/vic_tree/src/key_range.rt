@@ -6,8 +6,8 @@ ghost use Rattle.vic_tree.specs.Ranges.{IsKeyRange};
 
 use std::marker::Model;
 
-/// The keys from a first one to a last one, inclusive: positions of UIDs in the order of low bits
-/// first, so below `2^56`.
+/// The keys from a first one to a last one, inclusive. A key is a UID's number in the order of low
+/// bits first, below `2^56`.
 #[derive(Clone, Copy, Debug, PartialEq, Eq)]
 pub struct KeyRange {
     first: u64,

@@ -4,7 +4,7 @@
 //! The keys that are left form runs. Of the blocks of one size in a run, only the first and the
 //! last can fail to be half of a greater block in it.
 
-ghost use Rattle.std.specs.Prelude.{◌≡◌, ℕ, ◌≤◌, ◌↔◌, ◌⊎◌, Bool, true, IfOk, OnOk, IfSome, Some, length};
+ghost use Rattle.std.specs.Prelude.{◌≡◌, ℕ, ◌≤◌, ◌↔◌, Bool, true, IfOk, OnOk, IfSome, Some, length};
 ghost use Rattle.std.specs.List.{Contains};
 ghost use Rattle.std.specs.List.Sorted.{IsNonDecreasing};
 ghost use Rattle.vic_frame.specs.Masks.{BitMask};
@@ -14,11 +14,12 @@ ghost use Rattle.vic_tree.specs.OpenMasks.{AreAll, AreFirst, IsOpenMask};
 ghost use Rattle.vic_tree.specs.inner.KeptMasks.{Adds, AreKept, IsGreatestAt, IsGreatestIn, Keeps};
 ghost use Rattle.vic_tree.specs.Ranges.{AreRanges, is_open_in};
 
-use crate::blocks::{least_len, mask_of_block, size_of_block};
+use crate::blocks::{least_len, size_of_block};
 use crate::key_range::KeyRange;
 use crate::runs::Runs;
 use arrayvec::ArrayVec;
 use std::alloc::{AllocError, Global};
+use vic_frame::low_bits_first::mask_of_keys;
 use vic_frame::{Mask, UID_BITS};
 
 /// How many open masks are returned at most.
@@ -57,11 +58,11 @@ pub(crate) fn open_masks_besides(ranges: &[KeyRange], keys: &[u64]) -> OpenMasks
     while let Some(run) = left.next_run() {
         keep_in_run(&mut kept, run.first(), run.last());
     }
-    given(&kept)
+    first_of_kept(&kept)
 }
 
 /// The masks that were kept, up to the limit, and whether there are more.
-fn given(kept: &ArrayVec<Mask, BUFFER>) -> OpenMasks
+fn first_of_kept(kept: &ArrayVec<Mask, BUFFER>) -> OpenMasks
     requires { length kept.now.items ≤ KEPT }
     ensures first { (set : ℕ → Bool) → AreFirst KEPT (IsOpenMask set) kept.now.items
         → AreFirst MAX_OPEN_MASKS (IsOpenMask set) result.masks.items }
@@ -81,19 +82,19 @@ fn given(kept: &ArrayVec<Mask, BUFFER>) -> OpenMasks
 
 /// Keeps the greatest masks in a run of keys. Once the list of kept masks is full, and all are
 /// shorter than those to come, no others are looked at.
-fn keep_in_run(kept: &mut ArrayVec<Mask, BUFFER>, from: u64, to: u64)
-    requires forward { from ≤ to }
-    requires small { IsKey to }
+fn keep_in_run(kept: &mut ArrayVec<Mask, BUFFER>, first: u64, last: u64)
+    requires forward { first ≤ last }
+    requires small { IsKey last }
     requires kept { AreKept kept.old.items }
-    ensures keeps { Keeps (IsGreatestIn from to) kept.old.items kept.new.items }
+    ensures keeps { Keeps (IsGreatestIn first last) kept.old.items kept.new.items }
     ensures kept { AreKept kept.new.items }
 {
-    for len in least_len(from, to)..UID_BITS + 1 {
+    for len in least_len(first, last)..UID_BITS + 1 {
         if kept.len() == KEPT && kept[KEPT - 1].len() < len {
             return;
         }
-        keep(kept, greatest_at_start(from, to, len));
-        keep(kept, greatest_at_end(from, to, len));
+        keep(kept, greatest_at_start(first, last, len));
+        keep(kept, greatest_at_end(first, last, len));
     }
 }
 
@@ -121,50 +122,51 @@ pub(crate) fn all_open_masks_besides(
 }
 
 /// Appends the greatest masks in a run of keys.
-fn push_in_run(masks: &mut Vec<Mask>, from: u64, to: u64) -> Result<(), AllocError>
-    requires forward { from ≤ to }
-    requires small { IsKey to }
-    ensures { OnOk result (Adds (IsGreatestIn from to) masks.old.items masks.new.items) }
+fn push_in_run(masks: &mut Vec<Mask>, first: u64, last: u64) -> Result<(), AllocError>
+    requires forward { first ≤ last }
+    requires small { IsKey last }
+    ensures { OnOk result (Adds (IsGreatestIn first last) masks.old.items masks.new.items) }
 {
-    for len in least_len(from, to)..UID_BITS + 1 {
-        push_found(masks, greatest_at_start(from, to, len))?;
-        push_found(masks, greatest_at_end(from, to, len))?;
+    for len in least_len(first, last)..UID_BITS + 1 {
+        push_found(masks, greatest_at_start(first, last, len))?;
+        push_found(masks, greatest_at_end(first, last, len))?;
     }
     Ok(())
 }
 
 /// The first mask of `len` bits in a run, if it is the upper half of one that begins before the
 /// run.
-fn greatest_at_start(from: u64, to: u64, len: u8) -> Option<Mask>
+fn greatest_at_start(first: u64, last: u64, len: u8) -> Option<Mask>
     requires short { len ≤ UID_BITS }
-    requires forward { from ≤ to }
-    requires small { IsKey to }
-    ensures found { IfSome result (IsGreatestAt from to len 1) }
-    ensures only { (m : BitMask) → IsGreatestAt from to len 1 m → result ≡ Some m }
+    requires forward { first ≤ last }
+    requires small { IsKey last }
+    ensures found { IfSome result (IsGreatestAt first last len 1) }
+    ensures only { (m : BitMask) → IsGreatestAt first last len 1 m → result ≡ Some m }
 {
     let size = size_of_block(len);
-    let number = from.div_ceil(size);
-    if number % 2 == 0 || to + 1 < (number + 1) * size {
+    let number = first.div_ceil(size);
+    if number % 2 == 0 || last + 1 < (number + 1) * size {
         return None;
     }
-    Some(mask_of_block(len, number))
+    Some(mask_of_keys(number * size, len))
 }
 
 /// The last mask of `len` bits in a run, if it is the lower half of one that ends after the run, or
 /// holds all keys.
-fn greatest_at_end(from: u64, to: u64, len: u8) -> Option<Mask>
+fn greatest_at_end(first: u64, last: u64, len: u8) -> Option<Mask>
     requires short { len ≤ UID_BITS }
-    requires forward { from ≤ to }
-    requires small { IsKey to }
-    ensures found { IfSome result (IsGreatestAt from to len 0) }
-    ensures only { (m : BitMask) → IsGreatestAt from to len 0 m → result ≡ Some m }
+    requires forward { first ≤ last }
+    requires small { IsKey last }
+    ensures found { IfSome result (IsGreatestAt first last len 0) }
+    ensures only { (m : BitMask) → IsGreatestAt first last len 0 m → result ≡ Some m }
 {
     let size = size_of_block(len);
-    let behind = (to + 1) / size;
-    if behind % 2 == 0 || (behind - 1) * size < from {
+    // how many blocks of this size, from key 0 on, end by `last`
+    let count = (last + 1) / size;
+    if count % 2 == 0 || (count - 1) * size < first {
         return None;
     }
-    Some(mask_of_block(len, behind - 1))
+    Some(mask_of_keys((count - 1) * size, len))
 }
 
 /// Keeps a mask in order, if one was found, and drops the last one if there are too many.
@@ -176,8 +178,8 @@ fn keep(kept: &mut ArrayVec<Mask, BUFFER>, found: Option<Mask>)
     let Some(mask) = found else {
         return;
     };
-    if let Err(place) = kept.as_slice().binary_search(&mask) {
-        kept.insert(place, mask);
+    if let Err(index) = kept.as_slice().binary_search(&mask) {
+        kept.insert(index, mask);
         kept.truncate(KEPT);
     }
 }

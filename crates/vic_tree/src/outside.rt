@@ -10,7 +10,7 @@ use std::alloc::{AllocError, Global};
 use vic_frame::Uid;
 use vic_frame::low_bits_first::uid_at;
 
-/// The UIDs with some keys that aren't in a set, from the least to the greatest. The keys are in
+/// The UIDs with some keys that aren't in a set, from the least to the greatest. The keys come in
 /// order.
 pub fn uids_outside<S: OpenSet>(
     alloc: Global,

@@ -1,16 +1,16 @@
 //! A set of open UIDs as ranges of their keys, in the order of low bits first.
 
-ghost use Rattle.std.specs.Prelude.{◌≡◌, ℕ, ◌≤◌, ◌&&◌, ◌↔◌, true, IfOk};
+ghost use Rattle.std.specs.Prelude.{◌≡◌, ℕ, ◌≤◌, ◌&&◌, ◌||◌, ◌↔◌, not, true, IfOk};
 ghost use Rattle.std.specs.List.{Contains};
 ghost use Rattle.std.specs.List.Sorted.{IsNonDecreasing};
 ghost use Rattle.vic_frame.specs.Uids.{IsUid, has};
-ghost use Rattle.vic_frame.specs.Masks.{BitMask, IsMask};
-ghost use Rattle.vic_frame.specs.LowBitsFirst.{mirror};
-ghost use Rattle.vic_tree.specs.OpenSet.{AreKeys, SameUids, settled, without_keys};
+ghost use Rattle.vic_frame.specs.Masks.{BitMask};
+ghost use Rattle.vic_frame.specs.LowBitsFirst.{IsKey, mirror};
+ghost use Rattle.vic_tree.specs.OpenSet.{AreKeys, SameUids, without_keys};
 ghost use Rattle.vic_tree.specs.OpenMasks.{AreAll, AreFirst, IsOpenMask};
 ghost use Rattle.vic_tree.specs.Ranges.{AreRanges, is_between, is_open_in};
 
-use crate::besides::{gather_besides, widest_besides};
+use crate::besides::{gather_besides, ranges_besides, widest_besides};
 use crate::key_range::KeyRange;
 use crate::open_masks::{MAX_OPEN_MASKS, OpenMasks, all_open_masks_besides, open_masks_besides};
 use crate::open_set::OpenSet;
@@ -18,12 +18,12 @@ use crate::ranges::{complement, complement_in_order, is_in, is_in_first, push_ot
 use arrayvec::ArrayVec;
 use std::alloc::{AllocError, Global};
 use std::marker::Model;
-use vic_frame::low_bits_first::{key, key_range};
-use vic_frame::{Mask, UID_BITS, Uid, without_top_byte};
+use vic_frame::low_bits_first::{key, keys_of};
+use vic_frame::{Mask, Uid};
 
 /// A set of UIDs as ranges of their keys in the order of low bits first, in which the UIDs of a
 /// mask are consecutive: as few ranges as possible. It is built in one go from the closed ranges,
-/// and searched by bisection. Settling one more mask rebuilds it.
+/// and searched by halving. Settling one more mask rebuilds it.
 #[derive(Drop)]
 pub struct RangeSet {
     pub(crate) ranges: Vec<KeyRange>,
@@ -49,10 +49,10 @@ impl OpenSet for RangeSet {
     }
 
     fn settle(&mut self, mask: &Mask, except: &[Uid]) -> Result<(), AllocError> {
-        let Some(mask) = without_top_byte(mask) else {
+        let Some(block) = keys_of(mask) else {
             return Ok(());
         };
-        match settled(self.alloc, &self.ranges, &mask, except) {
+        match settled(self.alloc, &self.ranges, block.first, block.last(), except) {
             Ok(left) => {
                 self.ranges = left;
                 Ok(())
@@ -75,9 +75,15 @@ impl OpenSet for RangeSet {
 
     fn up_to_three(&self, mask: &Mask, except: &[Uid]) -> ArrayVec<Uid, 3> {
         let mut found = ArrayVec::new();
-        if let Some(mask) = without_top_byte(mask) {
-            let (first, last) = key_range(&mask);
-            gather_besides(&mut found, except, &[], &self.ranges, first, last);
+        if let Some(block) = keys_of(mask) {
+            gather_besides(
+                &mut found,
+                except,
+                &[],
+                &self.ranges,
+                block.first,
+                block.last(),
+            );
         }
         found
     }
@@ -103,9 +109,15 @@ impl OpenSet for RangeSet {
         keys: &[u64],
     ) -> Result<ArrayVec<Uid, 3>, AllocError> {
         let mut found = ArrayVec::new();
-        if let Some(mask) = without_top_byte(mask) {
-            let (first, last) = key_range(&mask);
-            gather_besides(&mut found, &[], keys, &self.ranges, first, last);
+        if let Some(block) = keys_of(mask) {
+            gather_besides(
+                &mut found,
+                &[],
+                keys,
+                &self.ranges,
+                block.first,
+                block.last(),
+            );
         }
         Ok(found)
     }
@@ -116,6 +128,17 @@ impl OpenSet for RangeSet {
 }
 
 impl RangeSet {
+    /// The set without the UIDs with some keys, which come in order.
+    pub fn besides(&self, alloc: Global, keys: &[u64]) -> Result<RangeSet, AllocError>
+        requires order { IsNonDecreasing keys.now }
+        requires keys { AreKeys keys.now }
+        ensures { IfOk result (λ set. SameUids (is_open_in set)
+            (without_keys (is_open_in self.now) keys.now)) }
+    {
+        let ranges = ranges_besides(alloc, &self.ranges, keys)?;
+        Ok(RangeSet { ranges, alloc })
+    }
+
     /// The first open masks of the set without the UIDs with some keys, which come in order: the
     /// masks of at most 56 bits that lie entirely in it, and whose parent doesn't; by length, then
     /// by value, at most sixteen; and whether there are more.
@@ -147,20 +170,22 @@ impl RangeSet {
     }
 }
 
-/// What is left of some ranges after a mask is removed, except some UIDs.
+/// What is left of some ranges after the keys from `first` to `last` are removed, except those of
+/// some UIDs.
 fn settled(
     alloc: Global,
     ranges: &[KeyRange],
-    mask: &Mask,
+    first: u64,
+    last: u64,
     except: &[Uid],
 ) -> Result<Vec<KeyRange>, AllocError>
     requires ranges { AreRanges ranges.now }
-    requires short { IsMask mask.now × (mask.now.len ≤ UID_BITS) }
+    requires forward { first ≤ last }
+    requires small { IsKey last }
     ensures ranges { IfOk result (λ left. AreRanges left.items) }
-    ensures left { IfOk result (λ left. SameUids (is_open_in left.items)
-        (settled (is_open_in ranges.now) mask.now except.now)) }
+    ensures left { IfOk result (λ left. SameUids (is_open_in left.items) (λ u.
+        is_open_in ranges.now u && (not (is_between first last (mirror u)) || has except.now u))) }
 {
-    let (first, last) = key_range(mask);
     let kept = keys_between(alloc, except, first, last)?;
     let mut closed = complement_in_order(Vec::from_slice(alloc, ranges)?)?;
     push_others(&mut closed, first, last, &kept)?;

@@ -1,35 +1,19 @@
-//! Sets as ranges, made of others: a set without the UIDs at some keys, and the union of some sets
-//! or masks.
+//! The union of some sets, or of some masks, as one set.
 
-ghost use Rattle.std.specs.Prelude.{◌≡◌, ℕ, ◌&&◌, not, IfOk};
+ghost use Rattle.std.specs.Prelude.{◌≡◌, ℕ, IfOk};
 ghost use Rattle.std.specs.List.{list_any};
-ghost use Rattle.std.specs.List.Sorted.{IsNonDecreasing};
 ghost use Rattle.vic_frame.specs.Masks.{lies_in};
-ghost use Rattle.vic_frame.specs.Uids.{has};
-ghost use Rattle.vic_tree.specs.OpenSet.{AreKeys, SameUids, without_keys};
-ghost use Rattle.vic_tree.specs.Ranges.{AreRanges, in_ranges, is_open_in};
-ghost use Rattle.vic_tree.specs.inner.Ranges.{is_left};
+ghost use Rattle.vic_tree.specs.OpenSet.{SameUids};
+ghost use Rattle.vic_tree.specs.Ranges.{in_ranges, is_open_in};
 
 use crate::key_range::KeyRange;
 use crate::range_set::RangeSet;
 use crate::ranges::{complement, complement_in_order};
-use crate::runs::Runs;
 use std::alloc::{AllocError, Global};
 use vic_frame::Mask;
 use vic_frame::low_bits_first::keys_of;
 
 impl RangeSet {
-    /// The set without the UIDs at some keys, which come in order.
-    pub fn besides(&self, alloc: Global, keys: &[u64]) -> Result<RangeSet, AllocError>
-        requires order { IsNonDecreasing keys.now }
-        requires keys { AreKeys keys.now }
-        ensures { IfOk result (λ set. SameUids (is_open_in set)
-            (without_keys (is_open_in self.now) keys.now)) }
-    {
-        let ranges = left_of(alloc, &self.ranges, keys)?;
-        Ok(RangeSet { ranges, alloc })
-    }
-
     /// The UIDs that are in at least one of some sets.
     pub fn union(alloc: Global, sets: &[RangeSet]) -> Result<RangeSet, AllocError>
         ensures { IfOk result (λ set. SameUids (is_open_in set)
@@ -45,23 +29,6 @@ impl RangeSet {
     {
         set_of(alloc, ranges_of(alloc, masks)?)
     }
-}
-
-/// What is left of some ranges without the keys of a list.
-fn left_of(alloc: Global, ranges: &[KeyRange], keys: &[u64]) -> Result<Vec<KeyRange>, AllocError>
-    requires ranges { AreRanges ranges.now }
-    requires keys { AreKeys keys.now }
-    requires order { IsNonDecreasing keys.now }
-    ensures ranges { IfOk result (λ runs. AreRanges runs.items) }
-    ensures keys { IfOk result (λ runs. (k : ℕ)
-        → in_ranges runs.items k ≡ is_left ranges.now keys.now k) }
-{
-    let mut runs = Vec::new(alloc);
-    let mut left = Runs::new(0, ranges, keys);
-    while let Some(run) = left.next_run() {
-        runs.push(run)?;
-    }
-    Ok(runs)
 }
 
 /// The set of the UIDs with keys in some ranges, which may come in any order, adjoin and overlap.
@@ -93,8 +60,8 @@ fn ranges_of(alloc: Global, masks: &[Mask]) -> Result<Vec<KeyRange>, AllocError>
 {
     let mut ranges = Vec::with_capacity(alloc, masks.len())?;
     for mask in masks {
-        if let Some(keys) = keys_of(mask) {
-            ranges.push(KeyRange::new(keys.first, keys.last()))?;
+        if let Some(block) = keys_of(mask) {
+            ranges.push(KeyRange::new(block.first, block.last()))?;
         }
     }
     Ok(ranges)

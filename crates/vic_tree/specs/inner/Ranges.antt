@@ -67,11 +67,11 @@ abbrev pub IsFoundBelow : (ℕ → Bool) → ℕ → Option BitMask → Type 0
 IsFoundBelow p bound (Some m) = IsWidestBelow p bound m
 IsFoundBelow p bound None = (k : ℕ) → k < bound → p k ≡ false
 
--- the key is in one of the ranges, and not in the list
+-- the key is in one of the ranges, and not removed
 abbrev pub is_left : List (ℕ × ℕ) → List ℕ → ℕ → Bool
-is_left rs keys k = in_ranges rs k && not (has keys k)
+is_left rs removed k = in_ranges rs k && not (has removed k)
 
--- from a key on, the keys that pass are those left of some ranges without the keys of a list
+-- from a key on, the keys that pass are those left of some ranges when some keys are removed
 abbrev pub PassFrom : (ℕ → Bool) → ℕ × List (ℕ × ℕ) × List ℕ → Type 0
 PassFrom p left = (k : ℕ) → left.0 ≤ k → p k ≡ is_left left.1 left.2 k
 

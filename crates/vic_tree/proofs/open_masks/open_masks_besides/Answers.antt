@@ -31,4 +31,4 @@ returns c =
     let left = is_left c.args.ranges.now c.args.keys.now in
     let set = without_keys (is_open_in c.args.ranges.now) c.args.keys.now in
     let first = first_like 17 (IsOpenBelow left c.loop-run.left.0) (IsOpenMask set) c.loop-run.kept.items (all_opened c.args.ranges.now c.args.keys.now c.loop-run.left.0 (c.in_default.ensures.none _ inv.pass)) inv.first in
-    record { first = c.given.ensures.first set first; more = c.given.ensures.more set first }
+    record { first = c.first_of_kept.ensures.first set first; more = c.first_of_kept.ensures.more set first }

@@ -9,7 +9,7 @@ loop-len-init c = record {
   adds = λ m. (
     λ w. elim w [
       | inl old ↦ old
-      | inr g ↦ absurd (c.least_len-len.ensures.none m.len (mirror_bits m.len m.value) g.1 (mask_block c.args.from c.args.to m g.0.inside.0 g.0.inside.1 g.0.inside.2))
+      | inr g ↦ absurd (c.least_len-len.ensures.none m.len (mirror_bits m.len m.value) g.1 (mask_block c.args.first c.args.last m g.0.inside.0 g.0.inside.1 g.0.inside.2))
     ],
     λ old. inl old,
   );
@@ -18,15 +18,15 @@ loop-len-init c = record {
 
 pub loop-len-preserved : goal.loop-len-preserved
 loop-len-preserved c =
-    let from = c.args.from in
-    let to = c.args.to in
+    let first = c.args.first in
+    let last = c.args.last in
     let len = c.loop-len.len in
     let a = c.greatest_at_start in
     let b = c.greatest_at_end in
-    let first = adds_both (λ m. IsGreatestIn from to m × (m.len < len)) (λ m. a.result ≡ Some m) (λ m. (IsGreatestIn from to m × (m.len < len)) ⊎ (a.result ≡ Some m)) _ _ _ (λ m. (λ w. w, λ w. w)) c.loop-len.invariant.adds c.in_ok-push_found.ensures in
-    let told = greatest_of_len from to len a.result b.result a.ensures.found a.ensures.only b.ensures.found b.ensures.only in
+    let one = adds_both (λ m. IsGreatestIn first last m × (m.len < len)) (λ m. a.result ≡ Some m) (λ m. (IsGreatestIn first last m × (m.len < len)) ⊎ (a.result ≡ Some m)) _ _ _ (λ m. (λ w. w, λ w. w)) c.loop-len.invariant.adds c.in_ok-push_found.ensures in
+    let told = greatest_of_len first last len a.result b.result a.ensures.found a.ensures.only b.ensures.found b.ensures.only in
     record {
-      adds = adds_both (λ m. (IsGreatestIn from to m × (m.len < len)) ⊎ (a.result ≡ Some m)) (λ m. b.result ≡ Some m) (λ m. IsGreatestIn from to m × (m.len < len + 1)) _ _ _ told first c.in_ok-push_found-2.ensures;
+      adds = adds_both (λ m. (IsGreatestIn first last m × (m.len < len)) ⊎ (a.result ≡ Some m)) (λ m. b.result ≡ Some m) (λ m. IsGreatestIn first last m × (m.len < len + 1)) _ _ _ told one c.in_ok-push_found-2.ensures;
       most = omega (arith, c.loop-len-test.true);
     }
 

@@ -6,7 +6,17 @@ use Rattle.vic_tree.proofs.ranges.skip_to.Goals.{then-loop-step-test+else-last-k
 pub returns-then-key-last-clause-same : goal.returns-then-key-last-clause-same
 returns-then-key-last-clause-same c =
     let es = c.args.ranges.now in
-    rw (take_rest es c.loop-near.near) (rest_dropped c.args.key es es c.loop-near.near (record { ranges = c.requires; same = λ k from. refl }) c.loop-near.invariant).same
+    rw (take_rest es c.loop-i.i) (rest_dropped c.args.key es es c.loop-i.i (record { ranges = c.requires; same = λ k from. refl }) c.loop-i.invariant).same
+
+pub loop-step-init : goal.loop-step-init
+loop-step-init c =
+    let es = c.args.ranges.now in
+    let n = c.min-near.result in
+    rw (take_rest es n) (record {
+      step = omega arith;
+      shorter = omega (arith, length-drop n es);
+      rest = rest_dropped c.args.key es es n (record { ranges = c.requires; same = λ k from. refl }) (λ i d lt. c.loop-i.invariant i d (omega (arith, lt, c.loop-i-test.false)));
+    })
 
 pub loop-step-preserved : goal.loop-step-preserved
 loop-step-preserved c =

@@ -13,8 +13,8 @@ loop-key-preserved c =
     let same = rw is at inv.same in
     record {
       from = omega arith;
-      taken = λ k low lt. elim (cases_lt k c.loop-key.free) [
-        | inl below ↦ inv.taken k low below
+      before = λ k low lt. elim (cases_lt k c.loop-key.free) [
+        | inl below ↦ inv.before k low below
         | inr le ↦ sym (same k le) ∙ is_first key k others (omega arith)
       ];
       same = λ k le. sym (is_behind key k others (omega arith)) ∙ same k (omega arith);

@@ -4,8 +4,8 @@ use Rattle.vic_tree.proofs.runs.first_free.Given as goal
 abbrev pub invariant-loop-key : goal.invariant-loop-key
 invariant-loop-key l = record {
   from : l.from ≤ l.free;
-  taken : (k : ℕ) → l.from ≤ k → k < l.free → has l.keys k ≡ true;
-  same : (k : ℕ) → l.free ≤ k → has l.rest k ≡ has l.keys k;
+  before : (k : ℕ) → l.from ≤ k → k < l.free → has l.removed k ≡ true;
+  same : (k : ℕ) → l.free ≤ k → has l.rest k ≡ has l.removed k;
   keys : AreKeys l.rest;
   order : IsNonDecreasing l.rest;
 }

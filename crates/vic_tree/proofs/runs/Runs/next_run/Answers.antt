@@ -10,9 +10,9 @@ returns-then-from-last-clause-run c p h =
     let run = c.run_from-run.ensures in
     let is = c.in-Some.ensures.cases.0 in
     let h = rw (← c.self.view_is) at h in
-    rw (← c.self.view_is) (is_first_run p _ c.loop-range.from _ _ c.in-Some.range.now c.in-Some.others.now c.loop-range.keys.now c.first_free.result.1.now
+    rw (← c.self.view_is) (is_first_run p _ c.loop-range.from _ _ c.in-Some.range.now c.in-Some.others.now c.loop-range.removed.now c.first_free.result.1.now
     (rw is at inv.ranges) (rw is at (inv.same p h)) (inv.none p h) inv.from (omega arith) (omega arith) (omega arith)
-    (λ k low lt. free.taken k (omega arith) (omega arith)) (λ k le. free.same k (omega arith)) run.free (λ lt. run.end (omega arith)))
+    (λ k low lt. free.before k (omega arith) (omega arith)) (λ k le. free.same k (omega arith)) run.free (λ lt. run.end (omega arith)))
 
 pub returns-then-from-last-clause-rest : goal.returns-then-from-last-clause-rest
 returns-then-from-last-clause-rest c p h k le =
@@ -28,11 +28,11 @@ loop-range-preserved c =
     let same = rw is at inv.same in
     let r = c.in-Some.range.now in
     let others = c.in-Some.others.now in
-    let keys = c.loop-range.keys.now in
+    let removed = c.loop-range.removed.now in
     record {
       from = omega arith;
-      none = λ p h. none_passed p _ _ _ r others keys ranges (same p h) (inv.none p h) (λ k low lt. free.taken k (omega arith) lt);
-      same = λ p h. pass_others p _ _ r others keys _ (omega arith) (omega arith) (same p h) free.same;
+      none = λ p h. none_passed p _ _ _ r others removed ranges (same p h) (inv.none p h) (λ k low lt. free.before k (omega arith) lt);
+      same = λ p h. pass_others p _ _ r others removed _ (omega arith) (omega arith) (same p h) free.same;
       ranges = from_lower _ 0 others (omega arith) ranges.3;
       keys = free.keys;
       order = free.order;
@@ -46,5 +46,5 @@ returns-clause-none c p h k le =
     let le = rw (← c.self.view_is) at le in
     elim (cases_lt k c.loop-range.from) [
       | inl below ↦ inv.none p h k (omega arith) below
-      | inr from ↦ inv.same p h k from ∙ ap (λ (rs : List (ℕ × ℕ)). is_left rs c.loop-range.keys.now k) (nil_from_length c.loop-range.ranges.now c.in_default.ensures.cases)
+      | inr from ↦ inv.same p h k from ∙ ap (λ (rs : List (ℕ × ℕ)). is_left rs c.loop-range.removed.now k) (nil_from_length c.loop-range.ranges.now c.in_default.ensures.cases)
     ]

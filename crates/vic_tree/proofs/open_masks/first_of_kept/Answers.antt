@@ -1,6 +1,6 @@
 use Rattle.vic_tree.proofs.Words.{◌≡◌, ◌==◌, ℕ, take, ap, arith, take_all, IsOpenMask}
 use Rattle.vic_tree.proofs.FirstMasks.{first_taken, given_is, given_more}
-use Rattle.vic_tree.proofs.open_masks.given.Goals as goal
+use Rattle.vic_tree.proofs.open_masks.first_of_kept.Goals as goal
 
 pub returns : goal.returns
 returns c =

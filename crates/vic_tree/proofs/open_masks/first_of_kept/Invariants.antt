@@ -1,5 +1,5 @@
 use Rattle.vic_tree.proofs.Words.{◌≡◌, ◌≤◌, length, take}
-use Rattle.vic_tree.proofs.open_masks.given.Given as goal
+use Rattle.vic_tree.proofs.open_masks.first_of_kept.Given as goal
 
 abbrev pub invariant-loop-mask : goal.invariant-loop-mask
 invariant-loop-mask l = record {

@@ -1,6 +1,6 @@
 use Rattle.vic_tree.proofs.Words.{◌+◌, ◌<◌, ◌≤◌, arith, ℕ, Bool, ◌≡◌, is_left, is_between, nat_tests, IsFirstRun}
 use Rattle.vic_tree.proofs.RangeLaws.{all_runs, run_pushed}
-use Rattle.vic_tree.proofs.union.left_of.Goals as goal
+use Rattle.vic_tree.proofs.besides.ranges_besides.Goals as goal
 
 -- of the keys up to the one behind a run those in it pass
 in_run_alone : (p : ℕ → Bool) (from x y k : ℕ) → IsFirstRun p from x y → from ≤ k → k < y + 2 → p k ≡ is_between x y k

@@ -1,6 +1,6 @@
 use Rattle.vic_tree.proofs.Words.{◌+◌, ◌-◌, ◌^◌, PassFrom, is_left}
 use Rattle.vic_tree.proofs.RangeLaws.{AreRunsTo}
-use Rattle.vic_tree.proofs.union.left_of.Given as goal
+use Rattle.vic_tree.proofs.besides.ranges_besides.Given as goal
 
 abbrev pub invariant-loop-run : goal.invariant-loop-run
 invariant-loop-run l = record {
