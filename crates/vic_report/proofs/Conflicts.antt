@@ -1,5 +1,5 @@
--- Slot lines that no population fits together: all up to the first impossible line do.
-use Rattle.vic_report.proofs.Words.{◌≡◌, ℕ, zero, suc, ◌<◌, ◌≤◌, ◌+◌, ◌-◌, List, [], ◌∷◌, ◌++◌, length, get_or, take, drop, Bool, true, false, cond, Some, refl, sym, ap, ◌∙◌, subst, arith, ⊎_elim, slice_get, nat_le, leb, None, Option, Result, Ok, Err, MatchOption, MatchResult, is_err, option_map, filter, cases_Bool, leb-true, leb-false, map-append, take-append-drop, All-get_or, filter_passes, slice_get-map, slice_get_within, get_or_from_slice_get, Reply, has, Entry, Sent, Heard, Listed, FieldCycle, LogLine, entries, IsRisingFrom, Outcome, outcome_at, Fits, CouldHaveGiven, is_quiet, is_slot, FitsLines, IsConflictAt, IsNoQuietReply, IsSilencedBefore, IsSilencedBy, IsSlotLine, IsPossible, IsContradictedAt, entries_to, IsVerdict, place_of, member_at, IsStrictlyIncreasing, agree_upto, outcome_agrees, CouldHaveGiven-front, slice_get-append, Impossible, IsPossible-front, rising_order, cases_eq, true_from_ne_false, get_or_default, slice_get_read, cases_lt, ltb, ltb-true, ltb-false, inl, inr, IsNonDecreasingBy, IsPartitionPoint, IsPartitionedBy, IsPartitionedBy-ltb}
+-- Slot lines that no population fits together: all up to the first impossible line; or one reply of a UID that is Quiet there.
+use Rattle.vic_report.proofs.Words.{◌≡◌, ℕ, zero, suc, ◌<◌, ◌≤◌, ◌+◌, ◌-◌, List, [], ◌∷◌, ◌++◌, length, get_or, take, drop, Bool, true, false, cond, Some, refl, sym, ap, ◌∙◌, subst, arith, ⊎_elim, slice_get, nat_le, leb, None, Option, Result, Ok, Err, MatchOption, MatchResult, is_err, option_map, filter, cases_Bool, leb-true, leb-false, map-append, take-append-drop, All-get_or, filter_passes, slice_get-map, slice_get_within, get_or_from_slice_get, Reply, has, Entry, Sent, Heard, Listed, FieldCycle, LogLine, entries, IsRisingFrom, Outcome, outcome_at, Fits, CouldHaveGiven, is_quiet, is_slot, FitsLines, IsConflictAt, IsNoQuietReply, IsSilencedBefore, IsSilencedBy, IsSlotLine, IsPossible, IsContradictedAt, entries_to, IsVerdict, place_of, member_at, IsStrictlyIncreasing, agree_upto, outcome_agrees, CouldHaveGiven-front, slice_get-append, Impossible, IsPossible-front, rising_order, cases_eq, true_from_ne_false, get_or_default, slice_get_read, cases_lt, inl, inr, IsNonDecreasingBy, IsPartitionPoint, All, AllPairs, AllPairs-filter, Equal, Greater, HoldsAt, Less, Lone, and_from, and_parts, answers_at, cond_both, false≢true, get_or-map, has_cases, has_here, has_there, le-leb, length-map, map, nat_cmp, nat_tests, not-true, ordering_index, outcome_of, ranked, silenced-quiet, silences, slot_numbers_to, ◌&&◌}
 
 -- ---- the lines 1 to n
 
@@ -105,15 +105,72 @@ last_is_slot lines (suc n) xs r least upto all = true_from_ne_false (has xs (suc
     let too_small = least.1 n (λ q. least.0 (possible_stays q)) in
     omega arith)
 
--- all slot lines up to the first impossible one are a conflict
-pub slots_conflict : (lines : List LogLine) (n : ℕ) (xs zs : List ℕ) → IsRisingFrom 0 lines → IsVerdict lines (Impossible n) → ((m : ℕ) → has xs m ≡ true → (m ≤ n) × IsSlotLine lines m) → HaveSlotsTo lines n xs → IsStrictlyIncreasing zs → ((m : ℕ) → has zs m ≡ has xs m) → IsConflictAt lines n zs
-slots_conflict lines n xs zs r least among all rising same = record {
-  rising = rising;
-  ends = same n ∙ last_is_slot lines n xs r least (λ m h. (among m h).0) all;
-  upto = λ m h. (among m (sym (same m) ∙ h)).0;
-  slots = λ m h. (among m (sym (same m) ∙ h)).1;
-  unfit = λ p population fits. least.0 (p, population, given_to lines n zs p r (λ k x g small slot. same x.number ∙ all k x g small slot) fits);
-}
+-- ---- the numbers of the slot lines up to n
+
+numbers_rise : (k : ℕ) (lines : List LogLine) → IsRisingFrom k lines → AllPairs (λ (x y : LogLine). x.number < y.number) lines
+numbers_rise k [] r i j d lt below = absurd (omega arith)
+numbers_rise k (x ∷ lines) r i zero d lt below = absurd (omega arith)
+numbers_rise k (x ∷ lines) r zero (suc j) d lt below =
+    let within : j < length lines = omega arith in
+    number_above j x.number lines (get_or lines j d) r.1 (slice_get_read lines (length lines) j (get_or lines j d) refl within (get_or_default lines j d (get_or lines j d) within))
+numbers_rise k (x ∷ lines) r (suc i) (suc j) d lt below = numbers_rise x.number lines r.1 i j d (omega arith) (omega arith)
+
+abbrev is_slot_to : ℕ → LogLine → Bool
+is_slot_to n l = nat_le l.number n && is_slot l.item
+
+abbrev slots_to : ℕ → List LogLine → List LogLine
+slots_to n lines = filter (is_slot_to n) lines
+
+slots_rise : (n : ℕ) (lines : List LogLine) → IsRisingFrom 0 lines → IsStrictlyIncreasing (slot_numbers_to n lines)
+slots_rise n lines r k within =
+    let number = λ (l : LogLine). l.number in
+    let slots = slots_to n lines in
+    let d : LogLine = record { number = 0; item = FieldCycle } in
+    let long = length-map slots number in
+    let up = AllPairs-filter (λ (x y : LogLine). x.number < y.number) (is_slot_to n) lines (numbers_rise 0 lines r) k (k + 1) d (omega arith) (omega arith) in
+    omega (arith, up, get_or-map number slots k d 0 (omega arith), get_or-map number slots (k + 1) d 0 (omega arith))
+
+slot_behind : (n m : ℕ) (x : LogLine) (lines : List LogLine) → (m ≤ n) × IsSlotLine lines m → (m ≤ n) × IsSlotLine (x ∷ lines) m
+slot_behind n m x lines w = (w.0, record { place = suc w.1.place; line = w.1.line; there = w.1.there; number = w.1.number; slot = w.1.slot })
+
+slots_among : (n m : ℕ) (lines : List LogLine) → has (slot_numbers_to n lines) m ≡ true → (m ≤ n) × IsSlotLine lines m
+slots_among n m [] h = absurd (false≢true h)
+slots_among n m (x ∷ lines) h =
+    let rest = slots_to n lines in
+    let later = λ (t : has (slot_numbers_to n lines) m ≡ true). slot_behind n m x lines (slots_among n m lines t) in
+    cond_both (is_slot_to n x) (x ∷ rest) rest (λ (ls : List LogLine). has (map (λ (l : LogLine). l.number) ls) m ≡ true → (m ≤ n) × IsSlotLine (x ∷ lines) m)
+    (λ yes g.
+    let w = and_parts (nat_le x.number n) (is_slot x.item) yes in
+    let small = leb-true x.number n w.0 in
+    ⊎_elim (λ e. (omega arith, record { place = 0; line = x; there = refl; number = sym e; slot = w.1 })) later (has_cases m x.number (slot_numbers_to n lines) g))
+    (λ no g. later g) h
+
+slots_all : (n : ℕ) (lines : List LogLine) → HaveSlotsTo lines n (slot_numbers_to n lines)
+slots_all n [] k x g small slot = cc
+slots_all n (y ∷ lines) zero x g small slot =
+    let same : y ≡ x = cc in
+    let rest = slots_to n lines in
+    subst (λ (z : LogLine). has (slot_numbers_to n (z ∷ lines)) x.number ≡ true) (sym same)
+    (cond_both (is_slot_to n x) (x ∷ rest) rest (λ (ls : List LogLine). has (map (λ (l : LogLine). l.number) ls) x.number ≡ true)
+    (λ yes. has_here x.number (slot_numbers_to n lines))
+    (λ no. absurd (false≢true (sym no ∙ and_from _ _ (le-leb x.number n small) slot))))
+slots_all n (y ∷ lines) (suc k) x g small slot =
+    let rest = slots_to n lines in
+    let later = slots_all n lines k x g small slot in
+    cond_both (is_slot_to n y) (y ∷ rest) rest (λ (ls : List LogLine). has (map (λ (l : LogLine). l.number) ls) x.number ≡ true)
+    (λ yes. has_there x.number y.number (slot_numbers_to n lines) later) (λ no. later)
+
+-- all of them are a conflict, if n is the first impossible line
+pub slots_conflict : (lines : List LogLine) (n : ℕ) → IsRisingFrom 0 lines → IsVerdict lines (Impossible n) → IsConflictAt lines n (slot_numbers_to n lines)
+slots_conflict lines n r least =
+    let numbers = slot_numbers_to n lines in
+    record {
+      rising = slots_rise n lines r;
+      ends = last_is_slot lines n numbers r least (λ m h. (slots_among n m lines h).0) (slots_all n lines);
+      upto = λ m h. (slots_among n m lines h).0;
+      slots = λ m h. (slots_among n m lines h).1;
+      unfit = λ p population fits. least.0 (p, population, given_to lines n numbers p r (slots_all n lines) fits);
+    }
 
 -- ---- rising numbers that end with one, whose lines no population fits
 
@@ -154,29 +211,26 @@ same_place k (y ∷ lines) zero (suc j) l x r g h e = grind (arith, number_above
 same_place k (y ∷ lines) (suc i) zero l x r g h e = grind (arith, number_above i y.number lines l r.1 g)
 same_place k (y ∷ lines) (suc i) (suc j) l x r g h e = ap suc (same_place y.number lines i j l x r.1 g h e)
 
--- the numbers of the lines, in order
-rising_lines : (k : ℕ) (lines : List LogLine) → IsRisingFrom k lines → IsNonDecreasingBy (λ (l : LogLine). l.number) lines
-rising_lines k [] r i j d le below = absurd (omega arith)
-rising_lines k (x ∷ lines) r zero zero d le below = omega arith
-rising_lines k (x ∷ lines) r zero (suc j) d le below =
-    let within : j < length lines = omega arith in
-    omega (arith, number_above j x.number lines (get_or lines j d) r.1 (slice_get_read lines (length lines) j (get_or lines j d) refl within (get_or_default lines j d (get_or lines j d) within)))
-rising_lines k (x ∷ lines) r (suc i) zero d le below = absurd (omega arith)
-rising_lines k (x ∷ lines) r (suc i) (suc j) d le below = rising_lines x.number lines r.1 i j d (omega arith) (omega arith)
+rising_lines : (lines : List LogLine) → IsRisingFrom 0 lines → IsNonDecreasingBy (λ (l : LogLine). l.number) lines
+rising_lines lines r i j d le below = elim (cases_lt i j) [
+  | inl lt ↦ omega (arith, numbers_rise 0 lines r i j d lt below)
+  | inr ge ↦ let same : i ≡ j = omega arith in omega (arith, ap (λ k. (get_or lines k d).number) same)
+]
 
--- where the first number that is not below n would be, and is not n, no line has it
-pub no_number : (lines : List LogLine) (n place : ℕ) → (IsPartitionedBy (λ (l : LogLine). ltb l.number n) lines → IsPartitionPoint (λ (l : LogLine). ltb l.number n ≡ true) (λ (l : LogLine). ltb l.number n ≡ false) lines place) → ((l : LogLine) → slice_get lines place ≡ Some l → l.number ≡ n → ⊥) → IsRisingFrom 0 lines → (i : ℕ) (l : LogLine) → slice_get lines i ≡ Some l → l.number ≡ n → ⊥
-no_number lines n place point other rising i l k e =
-    let sorted = rising_lines 0 lines rising in
-    let halves = point (IsPartitionedBy-ltb (λ (x : LogLine). x.number) lines n sorted) in
+-- what a search for the number finds
+pub found_number : (lines : List LogLine) (n i : ℕ) (l : LogLine) → HoldsAt (λ (x : LogLine). nat_cmp x.number n ≡ Equal) lines i → slice_get lines i ≡ Some l → l.number ≡ n
+found_number lines n i l found k =
+    ap (λ (x : LogLine). x.number) (sym (get_or_from_slice_get lines i l l k)) ∙ ranked (get_or lines i l).number n Equal (sym (found l))
+
+-- and what it doesn't, no line has
+pub no_number : (lines : List LogLine) (n place : ℕ) → (IsNonDecreasingBy (λ (x : LogLine). ordering_index (nat_cmp x.number n)) lines → IsPartitionPoint (λ (x : LogLine). nat_cmp x.number n ≡ Less) (λ (x : LogLine). nat_cmp x.number n ≡ Greater) lines place) → IsRisingFrom 0 lines → (i : ℕ) (l : LogLine) → slice_get lines i ≡ Some l → l.number ≡ n → ⊥
+no_number lines n place point rising i l k e =
+    let halves = point (λ a b d le below. let up = rising_lines lines rising a b d le below in grind (arith, nat_tests)) in
     let within = slice_get_within lines i l k in
-    let here : get_or lines i l ≡ l = get_or_from_slice_get lines i l l k in
+    let number = ap (λ (x : LogLine). x.number) (get_or_from_slice_get lines i l l k) in
     elim (cases_lt i place) [
-      | inl before ↦ absurd (let h = ltb-true _ _ (halves.0 i l (omega arith) before) in omega (arith, ap (λ (x : LogLine). x.number) here))
-      | inr after ↦
-          let at : LogLine = get_or lines place l in
-          let there : slice_get lines place ≡ Some at = slice_get_read lines (length lines) place at refl (omega arith) (get_or_default lines place l at (omega arith)) in
-          other at there (let h = ltb-false _ _ (halves.1 place l (omega arith) (omega arith)) in omega (arith, sorted place i l after within, ap (λ (x : LogLine). x.number) here))
+      | inl before ↦ absurd (omega (arith, number, ranked (get_or lines i l).number n Less (sym (halves.0 i l (omega arith) before))))
+      | inr after ↦ absurd (omega (arith, number, ranked (get_or lines i l).number n Greater (sym (halves.1 i l after within))))
     ]
 
 line_with : (lines : List LogLine) (n i : ℕ) (l : LogLine) (r : Reply) → slice_get lines i ≡ Some l → l.number ≡ n → slice_get (entries lines) i ≡ Some (Heard r) → l ≡ record { number = n; item = Heard r }
@@ -199,6 +253,38 @@ silenced_there lines n i l (Some m) rising k here some = record {
   there = k ∙ ap (λ (x : LogLine). Some x) (line_with lines n i l some.0 k here some.1);
   by = some.2;
 }
+
+-- ---- a reply of a UID that is Quiet there
+
+quiet_before : (lines : List LogLine) (i u n : ℕ) → IsSilencedBefore lines i u n → is_quiet (entries lines) i u ≡ true
+quiet_before lines i u n s =
+    let there = slice_get-map (λ (x : LogLine). x.item) lines s.place ∙ ap (option_map (λ (x : LogLine). x.item)) s.there in
+    silenced-quiet (entries lines) i u (s.place, s.before, ap (λ o. silences o u) there ∙ s.stay_quiet, s.powered)
+
+lone_passes : (test : ℕ → Bool) (us : List ℕ) (u : ℕ) → All (λ v. test v ≡ true) us → outcome_of us ≡ Lone u → test u ≡ true
+lone_passes test [] u all lone = cc
+lone_passes test (v ∷ []) u all lone = let same : v ≡ u = cc in subst (λ w. test w ≡ true) same (all 0 v (omega arith))
+lone_passes test (v ∷ w ∷ us) u all lone = cc
+
+alone : (m n : ℕ) → has (n ∷ []) m ≡ true → m ≡ n
+alone m n h = ⊎_elim (λ e. e) (λ none. absurd (false≢true none)) (has_cases m n [] h)
+
+-- is a conflict by itself
+pub quiet_reply_conflict : (lines : List LogLine) (n silencer : ℕ) → IsSilencedBy lines n silencer → IsConflictAt lines n (n ∷ [])
+quiet_reply_conflict lines n silencer s =
+    let es = entries lines in
+    let u = s.reply.uid in
+    let here = has_here n [] in
+    record {
+      rising = λ k below. absurd (omega arith);
+      ends = here;
+      upto = λ m h. omega (arith, alone m n h);
+      slots = λ m h. record { place = s.place; line = record { number = n; item = Heard s.reply }; there = s.there; number = sym (alone m n h); slot = refl };
+      unfit = λ p population fits.
+          let answers = lone_passes (answers_at es s.place) (filter (answers_at es s.place) p) u (filter_passes (answers_at es s.place) p) (fits s.place (record { number = n; item = Heard s.reply }) s.there here) in
+          let ready = not-true _ (and_parts _ _ answers).1 in
+          false≢true (sym ready ∙ quiet_before lines s.place u silencer s.by);
+    }
 
 -- ---- more lines
 

@@ -1,25 +1,31 @@
 -- The words of proofs, from one place: what files name from outside of the crate, and the definitions that several of them name.
-pub use Rattle.std.proofs.Common.{All, Bool, Err, List, MatchOption, MatchResult, None, Ok, OnOk, Option, Result, Some, [], add-one, ap, arith, cond, drop, false, filter, get_or, if◌then◌else◌, inl, inr, is_err, leb, length, length-append, ltb, ltb-false, ltb-true, nat_eq, nat_le, not, option_map, refl, rules, slice_get, subst, suc, sym, take, true, zero, ℕ, ⊎_elim, ◌&&◌, ◌*◌, ◌++◌, ◌+◌, ◌-◌, ◌<◌, ◌==◌, ◌||◌, ◌↔◌, ◌∙◌, ◌∷◌, ◌≡◌, ◌≤◌}
-pub use Rattle.std.proofs.lemmas.Bool.{and_from, and_parts, cases_Bool, cases_eq, cases_lt, eq-eqb, eqb-true, leb-false, leb-true, ne_eqb, not-true, not_from_false, true_from_ne_false}
-pub use Rattle.std.proofs.lemmas.List.{get_or_default, length-map, map-append, map_push, take-append-drop, take_all, take_more}
+pub use Rattle.std.proofs.Common.{All, Bool, Equal, Err, Greater, Less, List, MatchOption, MatchResult, None, Ok, OnOk, Option, Result, Some, [], add-one, ap, arith, cond, drop, false, filter, get_or, if◌then◌else◌, inl, inr, is_err, leb, length, length-append, ltb-true, map, nat_cmp, nat_eq, nat_le, not, option_map, refl, rules, slice_get, subst, suc, sym, take, true, zero, ℕ, ⊎_elim, ◌&&◌, ◌*◌, ◌++◌, ◌+◌, ◌-◌, ◌<◌, ◌==◌, ◌||◌, ◌↔◌, ◌∙◌, ◌∷◌, ◌≡◌, ◌≤◌}
+pub use Rattle.std.proofs.lemmas.Bool.{and_from, and_parts, cases_Bool, cases_eq, cases_lt, cond_both, eq-eqb, eqb-true, false≢true, le-leb, leb-false, leb-true, ne_eqb, not-true, not_from_false, true_from_ne_false}
+pub use Rattle.std.proofs.lemmas.Bool.Decides.{nat_tests}
+pub use Rattle.std.proofs.lemmas.Cmp.{ranked}
+pub use Rattle.std.proofs.lemmas.List.{get_or-map, get_or_default, length-map, map-append, map_push, take-append-drop, take_all, take_more}
 pub use Rattle.std.proofs.lemmas.List.Elements.{All-get_or, All-more, All-push, filter_agree, filter_passes}
 pub use Rattle.std.proofs.lemmas.List.Filters.{dedup_is}
-pub use Rattle.std.proofs.lemmas.List.Sorted.{All-permutation, IsPartitionPoint-from_clause, IsPartitionedBy-ltb, IsPermutation-sym, list_any-IsPermutation}
+pub use Rattle.std.proofs.lemmas.List.Kept.{AllPairs-filter}
+pub use Rattle.std.proofs.lemmas.List.Sorted.{All-permutation, IsPermutation-sym, answers_always, list_any-IsPermutation}
 pub use Rattle.std.proofs.lemmas.Map.Keys.{IsStrictlyIncreasing-dedup}
 pub use Rattle.std.proofs.lemmas.Option.{get_or_from_slice_get, slice_get-map, slice_get_read, slice_get_within}
-pub use Rattle.std.specs.List.{list_any}
-pub use Rattle.std.specs.List.Sorted.{IsNonDecreasingBy, IsPartitionPoint, IsPartitionedBy, IsStrictlyIncreasing}
+pub use Rattle.std.specs.List.{AllPairs, HoldsAt, list_any}
+pub use Rattle.std.specs.List.Sorted.{IsNonDecreasingBy, IsPartitionPoint, IsStrictlyIncreasing}
+pub use Rattle.std.specs.Ordering.{ordering_index}
 pub use Rattle.vic_frame.specs.Masks.{BitMask}
 pub use Rattle.vic_frame.specs.Replies.{Reply}
 pub use Rattle.vic_frame.specs.Uids.{IsUid, has}
 pub use Rattle.vic_frame.specs.declared.request.Request.TheVariants.{Inventory}
 pub use Rattle.vic_log.proofs.Places.{CouldHaveGiven-front, CouldHaveGiven-push, agree_upto, outcome_agrees, quiet_agrees, slice_get-append, slice_get_last}
 pub use Rattle.vic_log.proofs.Push.{IsInOrder-push, entries-push, last_from-push, listed-append, rising-push, rising_long, slots_left-push, valid-push}
+pub use Rattle.vic_log.proofs.Quiet.{silenced-quiet}
+pub use Rattle.vic_log.proofs.Sets.{has_cases, has_here, has_there}
 pub use Rattle.vic_log.proofs.Supply.{is_uid_from}
 pub use Rattle.vic_log.specs.Log.{IsValidEntry}
 pub use Rattle.vic_log.specs.OpenRounds.{IsCursorAt}
 pub use Rattle.vic_log.specs.Order.{AreValid, IsRisingFrom, entries, listed, refusal}
-pub use Rattle.vic_log.specs.Populations.{CouldHaveGiven, Fits, Outcome, answers_at, outcome_at, outcome_of}
+pub use Rattle.vic_log.specs.Populations.{CouldHaveGiven, Fits, Lone, Outcome, answers_at, outcome_at, outcome_of}
 pub use Rattle.vic_log.specs.Quiet.{is_quiet, silences, wakes}
 pub use Rattle.vic_log.specs.Rounds.{ends_round, is_slot, mask_at, mask_of_slot, mask_since, opener, slots_left}
 pub use Rattle.vic_log.specs.Slots.{Forces, ManyReplies, SomeReply, is_open, reading_of, slots_before, slots_of}
@@ -34,10 +40,9 @@ pub use Rattle.vic_verdict.proofs.Decide.{IsPossibleUid-iff}
 pub use Rattle.vic_verdict.proofs.UnreadSlots.{needs_two_or_one}
 pub use Rattle.vic_verdict.proofs.Differing.{AreFacts, AreListed, all_findings, doubtful_list, first_mask, log_facts, missing_least, missing_or_absent, none_unsettled, open_iff}
 pub use Rattle.vic_verdict.proofs.Entries.{entry_allows, forces_one_iff, forces_two_iff, open_step}
-pub use Rattle.vic_verdict.proofs.Failing.{head_least, member_at, none_of, place_of}
-pub use Rattle.vic_verdict.proofs.Inserted.{rising_order}
+pub use Rattle.vic_verdict.proofs.Failing.{head_least, member_at, none_of, place_of, rising_order}
 pub use Rattle.vic_verdict.proofs.Possibility.{IsPossible-front}
-pub use Rattle.vic_verdict.proofs.Stands.{entry_at}
+pub use Rattle.vic_verdict.proofs.Listing.{entry_at}
 pub use Rattle.vic_verdict.proofs.Verdicts.{first_lines}
 pub use Rattle.vic_verdict.specs.Needs.{IsFound}
 pub use Rattle.vic_verdict.specs.Differences.{IsLeftOpen, IsOpenUid, MayBeMissing}
@@ -53,3 +58,4 @@ pub use Rattle.vic_report.specs.Reports.{AreFindings, AreOpenMasks, IsReport, Is
 pub use Rattle.vic_report.specs.declared.shown.ShownUid.{ShownUid}
 pub use Rattle.vic_report.specs.inner.FieldCursors.{IsFieldAt}
 pub use Rattle.vic_report.specs.inner.KeptLogs.{AreNumbered, HasSlotAdded, KeepsLine, SameQuiet}
+pub use Rattle.vic_report.specs.inner.SlotLines.{slot_numbers_to}

@@ -41,12 +41,12 @@ pub fn lines_of_certain(
     }
     let replies = shown_by_replies(alloc, lines)?;
     let unread = shown_by_unread(alloc, lines, &met.found)?;
-    let mut reply = 0;
-    let mut slot = 0;
+    let mut next_reply = 0;
+    let mut next_unread = 0;
     for uid in certain {
-        reply = first_from(&replies, reply, *uid);
-        slot = first_from(&unread, slot, *uid);
-        let known = line_among(&replies, reply, &unread, slot, *uid);
+        next_reply = first_from(&replies, next_reply, *uid);
+        next_unread = first_from(&unread, next_unread, *uid);
+        let known = line_among(&replies, next_reply, &unread, next_unread, *uid);
         let line = line_of(lines, met, *uid, known);
         shown.push(ShownUid { uid: *uid, line })?;
     }
@@ -80,8 +80,8 @@ fn push_reply(shown: &mut Vec<ShownUid>, line: &PackedLine) -> Result<(), AllocE
     Ok(())
 }
 
-/// The UIDs that answered in unread slots, with the lines of these, where no further UIDs could have
-/// met the slot: by UID, those of one UID by line.
+/// The UIDs that answered in unread slots, with the lines of these, where no further UIDs could
+/// have met the slot: by UID, those of one UID by line.
 fn shown_by_unread(
     alloc: Global,
     lines: &[PackedLine],
@@ -159,17 +159,17 @@ fn first_from(shown: &[ShownUid], start: usize, uid: Uid) -> usize {
 /// there.
 fn line_among(
     replies: &[ShownUid],
-    reply: usize,
+    next_reply: usize,
     unread: &[ShownUid],
-    slot: usize,
+    next_unread: usize,
     uid: Uid,
 ) -> Option<u32>
     ensures { (lines : List LogLineValue) → All (IsToldOf lines) replies.now
         → All (IsToldOf lines) unread.now → IfSome result (λ n. ShowsCertain lines n uid) }
 {
-    match line_at(replies, reply, uid) {
+    match line_at(replies, next_reply, uid) {
         Some(line) => Some(line),
-        None => line_at(unread, slot, uid),
+        None => line_at(unread, next_unread, uid),
     }
 }
 

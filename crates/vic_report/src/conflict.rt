@@ -1,18 +1,18 @@
 //! Why a log became impossible: slot lines that contradict each other.
 
-ghost use Rattle.std.specs.Prelude.{◌≡◌, ◌⊎◌, ℕ, ◌≤◌, IfOk, OnOk, length, true};
+ghost use Rattle.std.specs.Prelude.{◌≡◌, ℕ, ◌≤◌, IfOk, length, true};
 ghost use Rattle.std.specs.List.Sorted.{IsStrictlyIncreasing};
 ghost use Rattle.vic_frame.specs.Uids.{has};
 ghost use Rattle.vic_log.specs.Order.{entries};
-ghost use Rattle.vic_log.specs.Rounds.{is_slot};
 ghost use Rattle.vic_report.specs.Conflicts.{IsConflict, IsConflictAt, IsSlotLine};
+ghost use Rattle.vic_report.specs.inner.SlotLines.{slot_numbers_to};
 ghost use Rattle.vic_verdict.specs.LogLines.{AreLogLines};
 ghost use Rattle.vic_verdict.specs.Possible.{IsContradiction};
 ghost use Rattle.vic_verdict.specs.Verdict.{IsVerdict};
 ghost use Rattle.vic_verdict.specs.declared.judging.Verdict.TheVariants.{Impossible};
 
 use crate::kept_log::kept_lines;
-use crate::silencer::{position_of, silencer_of};
+use crate::silencer::silencer_of;
 use std::alloc::{AllocError, Global};
 use vic_guess::guess_conflict;
 use vic_log::{MAX_LINES, PackedLine};
@@ -46,23 +46,23 @@ pub(crate) fn find_conflict<S: OpenSet>(
 {
     let line = first_impossible_line::<S>(alloc, lines, contradiction)?;
     let silenced_by = silencer_of(lines, line);
-    let guess = match silenced_by {
-        // a reply of a Quiet tag needs no other line; that is tested like a guess, without a proof
+    let numbers = match silenced_by {
+        // no population fits a reply of a Quiet tag, so it needs no other line
         Some(_) => vec![in alloc; line]?,
-        None => guess_conflict(alloc, lines, line)?,
+        None => lines_of_conflict::<S>(alloc, lines, line)?,
     };
     Ok(Conflict {
         line,
-        lines: lines_of_conflict::<S>(alloc, lines, guess, line)?,
+        lines: numbers,
         silenced_by,
     })
 }
 
-/// Lines of a conflict: the guess if it is one, otherwise all slot lines up to the last.
+/// Lines of a conflict, `last` being the first impossible line: the guess if it is one, otherwise
+/// all slot lines up to `last`.
 fn lines_of_conflict<S: OpenSet>(
     alloc: Global,
     lines: &[PackedLine],
-    mut guess: Vec<u32>,
     last: u32,
 ) -> Result<Vec<u32>, AllocError>
     requires lines { AreLogLines lines.now }
@@ -70,6 +70,7 @@ fn lines_of_conflict<S: OpenSet>(
     requires impossible { IsVerdict lines.now (Impossible last) }
     ensures { IfOk result (λ numbers. IsConflictAt lines.now last numbers.items) }
 {
+    let mut guess = guess_conflict(alloc, lines, last)?;
     put_numbers_in_order(&mut guess);
     if is_conflict::<S>(alloc, lines, &guess, last)? {
         return Ok(guess);
@@ -86,8 +87,8 @@ fn put_numbers_in_order(numbers: &mut Vec<u32>)
     numbers.dedup();
 }
 
-/// Whether rising numbers are those of slot lines, the last one a given line, and the log that keeps
-/// only these slot lines (`kept_lines`) is impossible.
+/// Whether rising numbers are those of slot lines, the last one a given line, and the log that
+/// keeps only these slot lines (`kept_lines`) is impossible.
 fn is_conflict<S: OpenSet>(
     alloc: Global,
     lines: &[PackedLine],
@@ -125,38 +126,19 @@ fn are_slot_lines(lines: &[PackedLine], numbers: &[u32]) -> bool
 fn is_slot_line(lines: &[PackedLine], number: u32) -> bool
     ensures { result ≡ true → IsSlotLine lines.now number }
 {
-    match position_of(lines, number) {
-        Some(place) => lines[place].item().is_slot(),
-        None => false,
+    match lines.binary_search_by_key(&number, |line| line.number()) {
+        Ok(place) => lines[place].item().is_slot(),
+        Err(_) => false,
     }
 }
 
-/// The numbers of the slot lines up to the first impossible line, which is one of them.
+/// The numbers of the slot lines up to line `last`. They rise, as those of all lines do.
 fn slot_lines_to(alloc: Global, lines: &[PackedLine], last: u32) -> Result<Vec<u32>, AllocError>
-    requires lines { AreLogLines lines.now }
-    requires impossible { IsVerdict lines.now (Impossible last) }
-    ensures { IfOk result (λ numbers. IsConflictAt lines.now last numbers.items) }
+    ensures { IfOk result (λ numbers. numbers.items ≡ slot_numbers_to last lines.now) }
 {
-    let mut numbers = Vec::new(alloc);
-    for line in lines {
-        push_slot_line(&mut numbers, line, last)?;
-    }
-    put_numbers_in_order(&mut numbers);
-    Ok(numbers)
-}
-
-/// Adds the number of a line, if it is a slot line up to number `last`.
-fn push_slot_line(numbers: &mut Vec<u32>, line: &PackedLine, last: u32) -> Result<(), AllocError>
-    ensures upto { OnOk result ((m : ℕ) → has numbers.new.items m ≡ true
-        → (has numbers.old.items m ≡ true)
-        ⊎ ((line.now.number ≡ m) × (m ≤ last) × (is_slot line.now.item ≡ true))) }
-    ensures kept { OnOk result ((m : ℕ) → has numbers.old.items m ≡ true
-        → has numbers.new.items m ≡ true) }
-    ensures added { OnOk result (line.now.number ≤ last → is_slot line.now.item ≡ true
-        → has numbers.new.items line.now.number ≡ true) }
-{
-    if line.number() <= last && line.item().is_slot() {
-        numbers.push(line.number())?;
-    }
-    Ok(())
+    lines
+        .iter()
+        .filter(|line| line.number() <= last && line.item().is_slot())
+        .map(|line| line.number())
+        .collect(alloc)
 }

@@ -52,7 +52,9 @@ impl Findings {
             && self.doubtful.is_empty()
     }
 
-    /// The first of them, as a verdict; `Complete` with the count 0 if there is none.
+    /// The first of them, as a verdict. If there is none, it is `Complete` with the count 0: no
+    /// report has such findings, but anyone can build them, and `LogReport::verdict` answers for
+    /// every value.
     pub(crate) fn first(&self) -> Verdict
         ensures { result ≡ first_of self.now }
     {
@@ -86,6 +88,8 @@ pub(crate) fn find_findings(
     let Facts { open, met, certain } = facts;
     let listed = listed_uids(alloc, lines)?;
     let keys = keys_in_order(alloc, &certain)?;
+    // made before it is known whether a mask is unsettled, since `compare` consumes the set; that
+    // takes one walk over its ranges, and no memory
     let masks = open.open_masks_besides(&keys);
     let found = compare(alloc, open, &certain, &listed)?;
     let uncertain = missing_from(alloc, &listed, &certain)?;

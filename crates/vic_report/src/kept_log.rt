@@ -11,7 +11,7 @@ ghost use Rattle.vic_log.specs.Populations.{CouldHaveGiven};
 ghost use Rattle.vic_log.specs.Rounds.{is_slot, mask_at};
 ghost use Rattle.vic_report.specs.Conflicts.{FitsLines};
 ghost use Rattle.vic_verdict.specs.LogLines.{AreLogLines};
-ghost use Rattle.vic_report.specs.inner.KeptLogs.{AreNumbered, HasSlotAdded, KeepsLine};
+ghost use Rattle.vic_report.specs.inner.KeptLogs.{AreNumbered, KeepsLine};
 
 use std::alloc::{AllocError, Global};
 use vic_frame::{Mask, Request};
@@ -57,7 +57,7 @@ fn has_number(numbers: &[u32], number: u32) -> bool
     numbers.binary_search(&number).is_ok()
 }
 
-/// Adds a Stay Quiet or a field cycle always, and a slot line if it is kept.
+/// Adds a Stay Quiet or a field cycle always, a slot line if it is kept, and nothing else.
 fn keep_line(
     kept: &mut Vec<PackedLine>,
     mask: &Option<Mask>,
@@ -78,6 +78,7 @@ fn keep_line(
         Entry::Sent(Request::Inventory { .. }) | Entry::Listed(_) => Ok(()),
         Entry::Silent | Entry::Collision | Entry::Heard(_) | Entry::Garbled => match mask {
             Some(mask) => push_if_kept(kept, mask, entry, is_kept),
+            // not in a log, whose slots have masks
             None => Ok(()),
         },
     }

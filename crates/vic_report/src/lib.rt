@@ -2,8 +2,9 @@
 //!
 //! `report` begins with the verdict of `vic_verdict::judge`. It reports the findings of a possible
 //! log, or the conflict of an impossible one. The lines of absent UIDs and of a conflict are
-//! guessed by `vic_guess` and checked here; those of certain UIDs are looked up. That lines are the
-//! first ones, and that none of a conflict's can be left out, is only tested.
+//! guessed by `vic_guess` and checked here, except that a reply of a Quiet tag is a conflict by
+//! itself; those of certain UIDs are looked up. That the line of an absent UID, or of a reply, is
+//! the first one, and that no line of a conflict can be left out, is only tested.
 #![tactic(auto)]
 
 mod certain_lines;

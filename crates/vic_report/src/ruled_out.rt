@@ -64,7 +64,7 @@ fn guess_lines(
     Ok(shown)
 }
 
-/// Whether each guessed line rules out its UID. These lines are in order.
+/// Whether each guessed line rules out its UID. The UIDs come in the order of these lines.
 fn are_ruled_out(
     alloc: Global,
     lines: &[PackedLine],
@@ -76,22 +76,22 @@ fn are_ruled_out(
     let mut cursor = FieldCursor::first(alloc);
     let mut next = 0;
     for line in lines {
-        next = count_ruled_out(&cursor, line, shown, next);
+        next = end_of_ruled_out(&cursor, line, shown, next);
         cursor.advance(&line.item())?;
     }
     Ok(next == shown.len())
 }
 
-/// The index after the UIDs, from index `start` on, that a line of the log rules out, as guessed.
-/// Those before `start` are known to be ruled out by their lines.
-fn count_ruled_out(
+/// The index after the UIDs, from index `start` on, whose guessed line is this one, and which it
+/// rules out. If each UID before `start` is ruled out by its line, so is each before this index.
+fn end_of_ruled_out(
     cursor: &FieldCursor,
     line: &PackedLine,
     shown: &[ShownUid],
     start: usize,
 ) -> usize
     requires { start ≤ length shown.now }
-    ensures count { result ≤ length shown.now }
+    ensures within { result ≤ length shown.now }
     ensures shown { (lines : List LogLineValue) (i : ℕ) → AreValid (entries lines)
         → slice_get lines i ≡ Some line.now → IsFieldAt (entries lines) i cursor.now
         → All (IsRuledOut lines) (take start shown.now)

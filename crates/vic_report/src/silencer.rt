@@ -1,9 +1,9 @@
 //! Which line silenced a tag whose reply was heard while it was Quiet.
 
-ghost use Rattle.std.specs.Prelude.{◌≡◌, ℕ, ◌+◌, ◌<◌, ◌≤◌, IfNone, IfSome, MatchOption, Some, List, length, slice_get, true, false};
+ghost use Rattle.std.specs.Prelude.{◌≡◌, ℕ, ◌+◌, ◌<◌, MatchOption, Some, List, length, slice_get, false};
 ghost use Rattle.vic_frame.specs.Replies.{Reply};
 ghost use Rattle.vic_log.specs.declared.entry.Entry.TheVariants.{Heard};
-ghost use Rattle.vic_log.specs.Order.{entries, IsRisingFrom};
+ghost use Rattle.vic_log.specs.Order.{entries};
 ghost use Rattle.vic_log.specs.Quiet.{is_quiet};
 ghost use Rattle.vic_log.specs.declared.entry.LogLine.{LogLine as LogLineValue};
 ghost use Rattle.vic_report.specs.Conflicts.{IsNoQuietReply, IsSilencedBefore, IsSilencedBy};
@@ -19,24 +19,9 @@ pub(crate) fn silencer_of(lines: &[PackedLine], number: u32) -> Option<u32>
     ensures { MatchOption result (IsNoQuietReply lines.now number)
         (IsSilencedBy lines.now number) }
 {
-    silencer_at(lines, position_of(lines, number)?)
-}
-
-/// The position of the line with a number, if there is one. The numbers of the lines rise.
-pub(crate) fn position_of(lines: &[PackedLine], number: u32) -> Option<usize>
-    ensures there { IfSome result (λ i. (l : LogLineValue) × (slice_get lines.now i ≡ Some l)
-        × (l.number ≡ number)) }
-    ensures none { IfNone result (IsRisingFrom 0 lines.now → (i : ℕ) (l : LogLineValue)
-        → slice_get lines.now i ≡ Some l → l.number ≡ number → ⊥) }
-{
-    let place = lines.partition_point(|line| line.number() < number);
-    let Some(line) = lines.get(place) else {
-        return None;
-    };
-    if line.number() == number {
-        Some(place)
-    } else {
-        None
+    match lines.binary_search_by_key(&number, |line| line.number()) {
+        Ok(place) => silencer_at(lines, place),
+        Err(_) => None,
     }
 }
 
@@ -84,8 +69,8 @@ fn silencer_after(before: Option<u32>, line: &PackedLine, uid: Uid) -> Option<u3
         (IsSilencedBefore lines (i + 1) uid) }
 {
     match line.item() {
-        Entry::Sent(Request::StayQuiet { uid: number, .. }) => {
-            if number == uid.number() {
+        Entry::Sent(Request::StayQuiet { uid: silenced, .. }) => {
+            if silenced == uid.number() {
                 Some(line.number())
             } else {
                 before

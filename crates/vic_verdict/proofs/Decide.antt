@@ -1,5 +1,6 @@
 -- Whether a log is possible, and a UID possible or certain, can be decided.
-use Rattle.vic_verdict.proofs.Words.{◌≡◌, ℕ, ◌<◌, List, [], ◌∷◌, Bool, true, ◌&&◌, inl, inr, ◌↔◌, trans, and_parts, CouldHaveGiven-slots, MeetsAll-iff, with_member, has_with_member, IsPossible, IsPossibleUid, IsCertainUid, Entry, slots_of, Slot, is_open, SuppliesAll, IsForcedBy}
+use Rattle.vic_verdict.proofs.Words.{◌≡◌, ℕ, ◌<◌, List, [], ◌∷◌, Bool, true, ◌&&◌, inl, inr, ◌↔◌, trans, and_parts, CouldHaveGiven-slots, MeetsAll-iff, with_member, has_with_member, IsPossible, IsPossibleUid, IsCertainUid, Entry, slots_of, Slot, is_open, SuppliesAll, IsForcedBy, Some, answering, length, reading_of, slice_get, slice_get_within}
+use Rattle.vic_verdict.proofs.Entries.{EntryAsks, SuppliesBefore, SuppliesAll-places}
 use Rattle.vic_verdict.proofs.Search.{Either, test_either, and_either, iff_either}
 use Rattle.vic_verdict.proofs.Populations.{asks_either, ArePossible-iff, MeetsAll-with_member, MustHave-iff, MustHave-cases, population_without, uid_end, open_below}
 use Rattle.vic_verdict.proofs.Possibility.{IsPossible-slots, IsCertainUid-slots}
@@ -36,3 +37,12 @@ IsCertainUid-either es u p = elim (MustHave-cases (slots_of es) u ((IsPossible-s
   | inl a ↦ let r = population_without (slots_of es) u a in inr (λ h. r.3 ((IsCertainUid-slots es u).0 h r.0 r.1 r.2))
   | inr f ↦ inl ((IsCertainUid-iff es u p).1 f)
 ]
+
+-- ---- what is asked of the open UIDs is what makes a log possible
+
+pub supplied_all : (es : List Entry) → SuppliesBefore (is_open (slots_of es)) es (length es) → IsPossible es
+supplied_all es h = (IsPossible-iff es).1 ((SuppliesAll-places (is_open (slots_of es)) es (length es)).1 h)
+
+pub supplied_each : (es : List Entry) (i : ℕ) (e : Entry) → slice_get es i ≡ Some e → IsPossible es → EntryAsks (reading_of e) (answering (is_open (slots_of es)) es i)
+supplied_each es i e k possible =
+    (SuppliesAll-places (is_open (slots_of es)) es (length es)).0 ((IsPossible-iff es).0 possible) i e (slice_get_within es i e k) k

@@ -1,6 +1,6 @@
 -- What a judge that goes over the entries once needs: what each entry does to the open UIDs, and what the open UIDs that
 -- could have answered in a slot, up to three of them, tell.
-use Rattle.vic_verdict.proofs.Words.{◌≡◌, ℕ, zero, suc, ◌<◌, ◌≤◌, List, [], ◌∷◌, length, Bool, true, ◌&&◌, Option, Some, None, ap, ◌∙◌, arith, nat_tests, inl, inr, ◌⊎◌, ◌↔◌, slice_get, cases_eq, Reply, Entry, Heard, Collision, Garbled, has, AreDifferent, IsWithin, answers_at, Reading, ManyReplies, SomeReply, Slot, reading_of, slots_before, is_open, Asks, SuppliesAll, Forces, IsForcedBy, UpToThree, answering, needs, with_entry, may_be, ⊤}
+use Rattle.vic_verdict.proofs.Words.{◌≡◌, ℕ, zero, suc, ◌<◌, ◌≤◌, List, [], ◌∷◌, length, Bool, true, ◌&&◌, Option, Some, None, ap, ◌∙◌, arith, nat_tests, inl, inr, ◌⊎◌, ◌↔◌, slice_get, cases_eq, Reply, Entry, Heard, Collision, Garbled, has, AreDifferent, IsWithin, answers_at, Reading, ManyReplies, SomeReply, Slot, reading_of, slots_before, is_open, Asks, SuppliesAll, Forces, IsForcedBy, UpToThree, answering, needs, with_entry, may_be, ⊤, subst}
 
 -- what a slot line asks of the UIDs that answer there; an entry that is no slot line asks nothing
 abbrev pub EntryAsks : Option Reading → (ℕ → Bool) → Type 0
@@ -19,13 +19,18 @@ abbrev pub entry_allows : Option Reading → Bool → ℕ → Bool
 entry_allows None answers u = true
 entry_allows (Some r) answers u = may_be r answers u
 
-open_reading : (answers : ℕ → Bool) (e : Entry) (slots : List Slot) (u : ℕ) → is_open (with_entry answers (Some e) slots) u ≡ (is_open slots u && entry_allows (reading_of e) (answers u) u)
-open_reading answers e slots u = grind (arith, nat_tests)
+-- an entry, if there is one, leaves the UIDs open that it allows
+abbrev pub place_allows : Option Entry → Bool → ℕ → Bool
+place_allows None answers u = true
+place_allows (Some e) answers u = entry_allows (reading_of e) answers u
+
+pub open_place : (answers : ℕ → Bool) (o : Option Entry) (slots : List Slot) (u : ℕ) → is_open (with_entry answers o slots) u ≡ (is_open slots u && place_allows o (answers u) u)
+open_place answers o slots u = grind (arith, nat_tests)
 
 -- one entry more
 pub open_step : (es : List Entry) (i : ℕ) (e : Entry) (u : ℕ) → slice_get es i ≡ Some e → is_open (slots_before es (suc i)) u ≡ (is_open (slots_before es i) u && entry_allows (reading_of e) (answers_at es i u) u)
 open_step es i e u k =
-    ap (λ o. is_open (with_entry (answers_at es i) o (slots_before es i)) u) k ∙ open_reading (answers_at es i) e (slots_before es i) u
+    ap (λ o. is_open (with_entry (answers_at es i) o (slots_before es i)) u) k ∙ open_place (answers_at es i) (Some e) (slots_before es i) u
 
 -- ---- slot by slot, by positions
 
@@ -63,6 +68,10 @@ IsForcedBy-places set es (suc n) u =
     )
 
 -- ---- up to three of a set
+
+-- the same set
+pub UpToThree-same : (s t : ℕ → Bool) (us : List ℕ) → ((u : ℕ) → s u ≡ t u) → UpToThree s us → UpToThree t us
+UpToThree-same s t us e h = subst (λ (set : ℕ → Bool). UpToThree set us) (λ i u. e u i) h
 
 -- a collision is possible where there are two
 pub asks_two_iff : (t : ℕ → Bool) (xs : List ℕ) → UpToThree t xs → Asks ManyReplies t ↔ (2 ≤ length xs)

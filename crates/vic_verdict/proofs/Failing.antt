@@ -1,6 +1,9 @@
 -- The members of a list that fail a test.
-use Rattle.vic_verdict.proofs.Words.{◌∙◌, ◌≡◌, ℕ, ◌<◌, List, [], ◌∷◌, length, get_or, Bool, true, not, sym, subst, arith, nat_tests, ◌↔◌, MatchOption, slice_get, filter, eq-eqb, eqb-true, nat_eq, IsStrictlyIncreasing, false≢true, has, has_here, has_filter, IsFailing, IsListOf, IsLeast, NoSuch, Any-from_list_any, list_any_at, get_or_default, filter_has, IsStrictlyIncreasing-filter}
-use Rattle.vic_verdict.proofs.Inserted.{rising_order}
+use Rattle.vic_verdict.proofs.Words.{⊎_elim, ◌≤◌, ◌∙◌, ◌≡◌, ℕ, ◌<◌, List, [], ◌∷◌, length, get_or, Bool, true, not, sym, subst, arith, nat_tests, ◌↔◌, MatchOption, slice_get, filter, eq-eqb, eqb-true, nat_eq, IsStrictlyIncreasing, false≢true, has, has_here, has_filter, IsFailing, IsListOf, IsLeast, NoSuch, Any-from_list_any, list_any_at, get_or_default, filter_has, IsStrictlyIncreasing-filter, AllPairs-from_increasing, cases_eq, le_of_lt, ap}
+
+pub rising_order : (xs : List ℕ) → IsStrictlyIncreasing xs → (i j : ℕ) → i ≤ j → j < length xs → get_or xs i 0 ≤ get_or xs j 0
+rising_order xs r i j le lt =
+    ⊎_elim (λ e. omega (arith, ap (λ n. get_or xs n 0) e)) (λ ne. le_of_lt (AllPairs-from_increasing xs r i j 0 (omega arith) lt)) (cases_eq i j)
 
 -- a member has a position
 pub place_of : (us : List ℕ) (u d : ℕ) → has us u ≡ true → (k : ℕ) × (k < length us) × (get_or us k d ≡ u)

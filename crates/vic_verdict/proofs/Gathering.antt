@@ -1,12 +1,11 @@
 -- A small population, gathered from what the slots of a possible log ask for.
 use Rattle.vic_verdict.proofs.Words.{take-append-drop, drop, ◌≡◌, ℕ, suc, ◌+◌, ◌<◌, ◌≤◌, List, [], ◌∷◌, ◌++◌, length, take, get_or, Bool, true, false, ◌||◌, Option, Some, refl, sym, ap, ◌∙◌, subst, arith, nat_tests, inl, inr, ⊎_elim, length-append, ◌⊎◌, nat_eq, slice_get, filter, sum_by, ne_eqb, length-take, IsStrictlyIncreasing, both_ways, and_parts, and_from, or_cases, or_left, or_right, list_any, list_any_at, list_any_none, list_any-append, Any-from_list_any, slice_get_within, IsUid, has, AreDifferent, Entry, Collision, Heard, Garbled, IsPopulation, answers_at, Reading, ManyReplies, SomeReply, reading_of, slots_of, is_open, Asks, IsWithin, AreDifferent-population, AreDifferent-filter, has_filter, has_here, has_at, has_there, MeetsAll-iff, IsUid-from, CouldHaveGiven-slots, Found, Met, IsFoundAt, IsFound, IsMet, is_other, chosen, chosen_population, answering, IsPossible, IsPossibleUid, IsCertainUid, SameMembers, AllPairs-from_increasing, sum_by-cons, AllByRecursion, IsDistinct, or_parts, nat_eq_equiv, IsDistinct-cons, IsDistinct-from_apart, length-le_from_is_member, asks_within, all_chosen, needs_at, needs_of, IsSmallPopulation}
 use Rattle.vic_verdict.specs.Explained.{AreFew}
-use Rattle.vic_verdict.proofs.Decide.{IsPossibleUid-iff}
+use Rattle.vic_verdict.proofs.Decide.{IsPossibleUid-iff, supplied_each}
 use Rattle.vic_verdict.proofs.UnreadSlots.{needs_two_or_one}
 use Rattle.vic_verdict.proofs.Entries.{EntryAsks, EntryForces, SuppliesBefore, SuppliesAll-places, forces_two_iff, forces_one_iff}
 use Rattle.vic_verdict.proofs.Populations.{is_open-is_uid}
 use Rattle.vic_verdict.proofs.Possibility.{Heard-certain}
-use Rattle.vic_verdict.proofs.Supplied.{supplied_each}
 
 -- ---- rising lists of UIDs are populations
 

@@ -1,18 +1,10 @@
 -- A slot that lacks the tags it requires contradicts the lines up to it, and up to the last one that may rule UIDs out.
-use Rattle.vic_verdict.proofs.Words.{◌≡◌, ℕ, zero, suc, ◌+◌, ◌-◌, ◌<◌, ◌≤◌, List, length, take, Bool, true, false, ◌&&◌, Option, Some, None, inl, inr, refl, sym, ap, ◌∙◌, subst, arith, nat_tests, common_steps, gets, slice_get, length-map, length-take-le, cases_eq, slice_get_within, Entry, LogLine, entries, answers_at, Slot, reading_of, slots_before, slots_of, is_open, Asks, SuppliesAll, AgreeBefore, answers_agree, IsPossible, IsContradictedAt, Lacks, rules_out, answering, with_entry, NoneRulesOutAfter}
+use Rattle.vic_verdict.proofs.Words.{◌≡◌, ℕ, zero, suc, ◌+◌, ◌-◌, ◌<◌, ◌≤◌, List, length, take, Bool, false, Option, Some, None, inl, inr, refl, sym, ap, ◌∙◌, subst, arith, nat_tests, common_steps, gets, slice_get, length-map, length-take-le, cases_eq, slice_get_within, Entry, LogLine, entries, answers_at, Slot, slots_before, slots_of, is_open, Asks, SuppliesAll, AgreeBefore, answers_agree, IsPossible, IsContradictedAt, Lacks, rules_out, answering, with_entry, NoneRulesOutAfter}
 use Rattle.vic_verdict.proofs.Decide.{IsPossible-iff}
-use Rattle.vic_verdict.proofs.Entries.{SuppliesBefore, SuppliesAll-places, entry_allows}
+use Rattle.vic_verdict.proofs.Entries.{SuppliesBefore, SuppliesAll-places}
 
 pub taken : (n : ℕ) (es : List Entry) (j : ℕ) → j < n → slice_get (take n es) j ≡ slice_get es j
 taken n es j h = grind (arith, common_steps, gets)
-
--- an entry, if there is one, leaves the UIDs open that it allows
-abbrev pub place_allows : Option Entry → Bool → ℕ → Bool
-place_allows None answers u = true
-place_allows (Some e) answers u = entry_allows (reading_of e) answers u
-
-pub open_place : (answers : ℕ → Bool) (o : Option Entry) (slots : List Slot) (u : ℕ) → is_open (with_entry answers o slots) u ≡ (is_open slots u && place_allows o (answers u) u)
-open_place answers o slots u = grind (arith, nat_tests)
 
 -- the same entries have the same slots, and leave the same UIDs open
 slots_agree : (n : ℕ) (es fs : List Entry) → AgreeBefore n es fs → slots_before es n ≡ slots_before fs n
@@ -36,11 +28,11 @@ open_kept answers None slots u h = refl
 open_kept answers (Some e) slots u h = let none = h e refl in grind (arith, nat_tests)
 
 -- after a position behind which none is ruled out the same UIDs are open
-open_settled : (es : List Entry) (c n u : ℕ) → NoneRulesOutAfter es c → c < n → is_open (slots_before es n) u ≡ is_open (slots_before es (c + 1)) u
-open_settled es c zero u h below = absurd (omega arith)
-open_settled es c (suc n) u h below = elim (cases_eq n c) [
+open_after : (es : List Entry) (c n u : ℕ) → NoneRulesOutAfter es c → c < n → is_open (slots_before es n) u ≡ is_open (slots_before es (c + 1)) u
+open_after es c zero u h below = absurd (omega arith)
+open_after es c (suc n) u h below = elim (cases_eq n c) [
   | inl same ↦ let last : suc n ≡ c + 1 = omega arith in ap (λ m. is_open (slots_before es m) u) last
-  | inr ne ↦ open_kept (answers_at es n) (slice_get es n) (slots_before es n) u (λ e k. h n e (omega (arith, ne)) k) ∙ open_settled es c n u h (omega (arith, ne))
+  | inr ne ↦ open_kept (answers_at es n) (slice_get es n) (slots_before es n) u (λ e k. h n e (omega (arith, ne)) k) ∙ open_after es c n u h (omega (arith, ne))
 ]
 
 -- a slot that lacks tags is one of the lines, and contradicts those up to a later one after which none is ruled out
@@ -54,7 +46,7 @@ lacking_lines lines i lacks =
         within = omega arith;
         impossible = λ possible.
             let asks = supplied_front es (c + 1) (omega arith) possible i lacks.0 (omega arith) lacks.2 in
-            let left : is_open (slots_before es (c + 1)) ≡ is_open (slots_of es) = λ j u. sym (open_settled es c (length es) u settled (omega arith)) j in
+            let left : is_open (slots_before es (c + 1)) ≡ is_open (slots_of es) = λ j u. sym (open_after es c (length es) u settled (omega arith)) j in
             lacks.4 (subst (λ (set : ℕ → Bool). Asks lacks.1 (answering set es i)) left (rw lacks.3 at asks));
       },
     )

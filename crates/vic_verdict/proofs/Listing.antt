@@ -1,5 +1,10 @@
--- The UIDs that a log lists, line by line.
-use Rattle.vic_verdict.proofs.Words.{◌≡◌, ℕ, zero, suc, ◌<◌, ◌+◌, List, [], ◌∷◌, ◌++◌, Some, take, refl, Entry, Listed, ap, ◌∙◌, arith, slice_get, entries_next, listed-append, LogLine, entries, listed, IsRisingFrom}
+-- The entries of lines, and the UIDs that they list.
+use Rattle.vic_verdict.proofs.Words.{◌≡◌, ℕ, zero, suc, ◌<◌, ◌+◌, List, [], ◌∷◌, ◌++◌, Some, take, refl, Entry, Listed, ap, ◌∙◌, arith, slice_get, entries_next, listed-append, LogLine, entries, listed, IsRisingFrom, get_or, length, option_map, slice_get-map, slice_get_read}
+
+-- the entry of a line
+pub entry_at : (lines : List LogLine) (i : ℕ) (l : LogLine) → i < length lines → l ≡ get_or lines i l → slice_get (entries lines) i ≡ Some l.item
+entry_at lines i l h e =
+    slice_get-map (λ (x : LogLine). x.item) lines i ∙ ap (option_map (λ (x : LogLine). x.item)) (slice_get_read lines (length lines) i l refl h e)
 
 -- an entry that is no listed UID lists none
 pub lists_none : (e : Entry) → ((u : ℕ) → e ≡ Listed u → ⊥) → listed (e ∷ []) ≡ []

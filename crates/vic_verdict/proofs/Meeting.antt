@@ -6,7 +6,7 @@ use Rattle.vic_verdict.specs.Rising.{Adds}
 use Rattle.vic_verdict.proofs.KeyOrder.{not_all}
 use Rattle.vic_verdict.proofs.Lacking.{lacking_lines}
 use Rattle.vic_verdict.proofs.Populations.{is_open-is_uid}
-use Rattle.vic_verdict.proofs.Supplied.{supplied_all}
+use Rattle.vic_verdict.proofs.Decide.{supplied_all}
 
 -- ---- who was heard
 

@@ -1,5 +1,5 @@
 -- The mentions of entries, and who is Quiet by them.
-use Rattle.vic_verdict.proofs.Words.{◌≡◌, ℕ, zero, suc, ◌^◌, ◌<◌, ◌≤◌, ◌==◌, List, [], ◌++◌, Bool, true, false, ◌&&◌, Option, Some, All, nat_lt, nat_tests, slice_get, refl, sym, ap, ◌∙◌, subst, arith, inl, inr, eq-eqb, le-leb, IsUid, mirror, Entry, Heard, Reply, silences, wakes, is_quiet, is_quiet_by, quiet_of, Mention, is_uid_from, IsUid-from, uid_of, uid_of_mirror, cases_lt, both_ways, false≢true, list_any, list_any-append, or_left, HaveKeys, is_mentioned, All-nil, All-cons, All-append, list_all-from_AllPass, mirror_below, same_test, mention_at, mentions_at, mentions_from, are_left, FieldCycle, NEVER, and_parts, eqb-true, lt-leb, lt_from, quiet-silenced, same_tests, silenced-quiet, ⊎_elim, is_heard}
+use Rattle.vic_verdict.proofs.Words.{◌≡◌, ℕ, zero, suc, ◌^◌, ◌<◌, ◌≤◌, ◌==◌, List, [], ◌++◌, Bool, true, false, ◌&&◌, Option, Some, All, nat_lt, nat_tests, slice_get, refl, sym, ap, ◌∙◌, subst, arith, inl, inr, eq-eqb, le-leb, IsUid, mirror, Entry, Heard, Reply, silences, wakes, is_quiet, is_quiet_by, quiet_of, Mention, is_uid_from, IsUid-from, uid_of, uid_of_mirror, cases_lt, both_ways, false≢true, list_any, list_any-append, or_left, HaveKeys, is_mentioned, All-nil, All-cons, All-append, list_all-from_AllPass, mirror_below, same_test, mention_at, mentions_at, mentions_from, are_left, FieldCycle, NEVER, and_parts, eqb-true, lt-leb, lt_from, quiet-silenced, same_tests, silenced-quiet, ⊎_elim}
 use Rattle.vic_verdict.proofs.Ready.{one_of}
 
 -- ---- UIDs by their keys

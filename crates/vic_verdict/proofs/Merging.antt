@@ -1,7 +1,6 @@
 -- Rising lists of numbers that are gone over side by side.
 use Rattle.vic_verdict.proofs.Words.{◌≡◌, ℕ, ◌+◌, ◌<◌, ◌≤◌, ◌==◌, List, length, get_or, true, false, sym, ◌∙◌, arith, inl, inr, eq-eqb, eqb-true, get_or_default, IsStrictlyIncreasing, false_from_ne_true, cases_lt, has, same_tests, AreBelow}
-use Rattle.vic_verdict.proofs.Failing.{member_at, place_of}
-use Rattle.vic_verdict.proofs.Inserted.{rising_order}
+use Rattle.vic_verdict.proofs.Failing.{member_at, place_of, rising_order}
 use Rattle.vic_verdict.specs.inner.Merging.{IsIndexOf}
 
 -- a number that a rising list has is at its index

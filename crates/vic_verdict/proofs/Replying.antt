@@ -1,5 +1,5 @@
 -- Whether somebody was heard while Quiet, by mentions in the order of their keys.
-use Rattle.vic_verdict.proofs.Words.{◌≡◌, ℕ, ◌+◌, ◌-◌, ◌<◌, ◌≤◌, ◌==◌, List, length, get_or, [], ◌∷◌, Bool, true, ◌&&◌, refl, sym, ap, ◌∙◌, arith, nat_lt, All, nat_tests, list_any, All-head, All-tail, list_any_at, Any-from_list_any, Mention, NEVER, reply_place, IsFirstQuietReply, is_between, quiet_of, is_quiet_by, has_where, AreInOrder, is_quiet_reply, IsQuietReply, if◌then◌else◌, take, take_all, All-weaker, min, All-more}
+use Rattle.vic_verdict.proofs.Words.{◌≡◌, ℕ, ◌+◌, ◌-◌, ◌<◌, ◌≤◌, ◌==◌, List, length, get_or, [], ◌∷◌, Bool, true, ◌&&◌, ◌||◌, eq-eqb, refl, sym, ap, ◌∙◌, arith, nat_lt, All, nat_tests, list_any, All-head, All-tail, list_any_at, Any-from_list_any, Mention, NEVER, reply_place, IsFirstQuietReply, is_between, quiet_of, is_quiet_by, has_where, AreInOrder, is_quiet_reply, IsQuietReply, if◌then◌else◌, take, take_all, All-weaker, min, All-more}
 use Rattle.vic_verdict.proofs.Closing.{between_from}
 use Rattle.vic_verdict.proofs.Sweeping.{nobody}
 
@@ -18,9 +18,16 @@ quiet_own (n ∷ own) key i inside =
     let Own : Mention → Type 0 = λ (m : Mention). is_between key key m.key ≡ true in
     grind (arith, nat_tests, All-head Own n own inside, quiet_own own key i (All-tail Own n own inside))
 
-pub tells_own : (ns own : List Mention) (key quiet i : ℕ) → All (λ (n : Mention). is_between key key n.key ≡ true) own → ((test : Mention → Bool) (k : ℕ) → is_between key key k ≡ true → has_where test own k ≡ has_where test ns k) → nat_lt quiet i ≡ list_any (λ (n : Mention). nat_lt (quiet_of n) i) own → is_quiet_by ns key i ≡ nat_lt quiet i
-tells_own ns own key quiet i inside all first =
-    sym (all (λ (n : Mention). nat_lt (quiet_of n) i) key (between_from key key key (omega arith) (omega arith))) ∙ (quiet_own own key i inside ∙ sym first)
+pub tells_own : (ns own : List Mention) (key i : ℕ) → All (λ (n : Mention). is_between key key n.key ≡ true) own → ((test : Mention → Bool) (k : ℕ) → is_between key key k ≡ true → has_where test own k ≡ has_where test ns k) → is_quiet_by ns key i ≡ list_any (λ (n : Mention). nat_lt (quiet_of n) i) own
+tells_own ns own key i inside all =
+    sym (all (λ (n : Mention). nat_lt (quiet_of n) i) key (between_from key key key (omega arith) (omega arith))) ∙ quiet_own own key i inside
+
+-- by one of them beside its own
+pub tells_first : (ns own : List Mention) (key quiet i k : ℕ) → k < length ns → (at ns k).key ≡ key → All (λ (n : Mention). is_between key key n.key ≡ true) own → ((test : Mention → Bool) (k : ℕ) → is_between key key k ≡ true → has_where test own k ≡ has_where test ns k) → nat_lt quiet i ≡ (nat_lt (quiet_of (at ns k)) i || list_any (λ (n : Mention). nat_lt (quiet_of n) i) own) → is_quiet_by ns key i ≡ nat_lt quiet i
+tells_first ns own key quiet i k below same inside all first =
+    let here = list_any_at (λ (n : Mention). (n.key == key) && nat_lt (quiet_of n) i) ns k nobody below in
+    let own_all = tells_own ns own key i inside all in
+    grind (arith, nat_tests, eq-eqb (at ns k).key key same)
 
 -- and so for the next mention, of the same key
 pub tells_still : (ns : List Mention) (k quiet : ℕ) → AreInOrder ns → 0 < k → k < length ns → (at ns k).key ≤ (at ns (k - 1)).key → TellsFrom ns (k - 1) quiet → TellsFrom ns k quiet

@@ -1,7 +1,6 @@
 -- What the slots between two field cycles leave, mention by mention.
 use Rattle.vic_verdict.proofs.Words.{All, Bool, IsPermutation, List, None, Option, Some, [], ap, arith, drop, eqb-true, false, get_or, get_or-drop, get_or-take, if◌then◌else◌, inl, inr, le_of_lt, length, length-append, length-drop, length-take-le, ltb-false, nat_lt, not, refl, set, subst, sym, take, take-append-drop, true, ℕ, ◌&&◌, ◌++◌, ◌+◌, ◌-◌, ◌<◌, ◌==◌, ◌^◌, ◌||◌, ◌∙◌, ◌∷◌, ◌≡◌, ◌≤◌, ◌⊎◌, and_parts, both_ways, false≢true, nat_tests, drop_more, get_or-map, get_or_default, length-map, map-append, All-map, list_all_more, map_fixed, All-permutation, IsPermutation-sym, AllPass-from_list_all, list_all-from_AllPass, list_all, and_thrice, and_true, lt_from, same_tests, in_ranges, is_between, Mention, ReadSlot, MaskSummary, Closes, is_in_any, AreInOrder, IsStart, all_allow, all_hear_mentioned, all_leave, are_left, first_of, has_left, has_where, heard_of, hears_mentioned, is_heard, is_in, is_mentioned, is_mentioned_if, is_quiet_by, keep, keep_all, last_of, summary_leaves, mask_leaves, quiet_of, read_allows, read_leaves, some_mask_leaves, slot_leaves, get_or_at, is_before, AreSameMentions}
 use Rattle.std.proofs.lemmas.List.Edits.{map_over_more}
-use Rattle.vic_verdict.proofs.Silencing.{silenced_later, silenced_permuted}
 use Rattle.vic_verdict.specs.declared.sweep.Summary.{Summary}
 
 -- ---- mentions that are kept
@@ -126,6 +125,11 @@ silenced_mentioned : (ns : List Mention) (k i : ℕ) → is_quiet_by ns k i ≡ 
 silenced_mentioned [] k i e = e
 silenced_mentioned (n ∷ ns) k i e = grind (arith, silenced_mentioned ns k i)
 
+-- whoever is Quiet stays so
+pub silenced_later : (ns : List Mention) (k i j : ℕ) → i ≤ j → is_quiet_by ns k i ≡ true → is_quiet_by ns k j ≡ true
+silenced_later [] k i j le e = absurd (false≢true e)
+silenced_later (n ∷ ns) k i j le e = grind (arith, nat_tests, silenced_later ns k i j le)
+
 quiet_since : (ns : List Mention) (k i : ℕ) (o : Option ℕ) → is_before i o ≡ true → is_quiet_by ns k i ≡ true → quiet_before ns k o ≡ true
 quiet_since ns k i None e f = silenced_mentioned ns k i f
 quiet_since ns k i (Some j) e f = silenced_later ns k i j (le_of_lt (lt_from i j e)) f
@@ -177,8 +181,8 @@ all_permuted : {X : Type 0} (p : X → Bool) (xs ys : List X) → IsPermutation 
 all_permuted p xs ys m = same_tests _ _ (all_kept p xs ys m) (all_kept p ys xs (IsPermutation-sym xs ys m))
 
 -- what the ranges leave open once the slots, sorted, closed what they leave of the mentions
-pub settled_by : (ns : List Mention) (ss ts : List ReadSlot) (old new : List (ℕ × ℕ)) (k : ℕ) → IsPermutation ss ts → are_left ns ≡ true → all_hear_mentioned ns ss ≡ true → Closes (keep_all (all_leave ts) ns) (is_in_any ts) old new → not (in_ranges new k) ≡ (not (in_ranges old k) && all_allow ns ss k)
-settled_by ns ss ts old new k m left mentioned closes =
+pub closed_by : (ns : List Mention) (ss ts : List ReadSlot) (old new : List (ℕ × ℕ)) (k : ℕ) → IsPermutation ss ts → are_left ns ≡ true → all_hear_mentioned ns ss ≡ true → Closes (keep_all (all_leave ts) ns) (is_in_any ts) old new → not (in_ranges new k) ≡ (not (in_ranges old k) && all_allow ns ss k)
+closed_by ns ss ts old new k m left mentioned closes =
     let closed = closes k in
     let kept = left_before (all_leave ts) (limit ts k) ns k (all_before ts k) left in
     let allowed = allowed_covered ns k ts (all_kept (hears_mentioned ns) ss ts m mentioned) in

@@ -1,9 +1,8 @@
 -- What meets the slots of a stretch.
-use Rattle.vic_verdict.proofs.Words.{◌≡◌, ℕ, zero, suc, ◌+◌, ◌<◌, ◌≤◌, ◌++◌, List, [], ◌∷◌, length, take, get_or, length-append, Bool, true, ◌&&◌, Option, Some, refl, sym, ap, ◌∙◌, subst, arith, inl, inr, ⊎_elim, ◌⊎◌, ◌==◌, slice_get, All, Any, sum_by, eq-eqb, eqb-true, list_any, cases_eq, cases_lt, or_left, or_right, slice_get_within, All-push, list_any-append, All-permutation, list_any-IsPermutation, IsUid, is_uid, mirror, SameUids, UpToThree, Entry, Collision, Garbled, is_quiet, ManyReplies, SomeReply, slots_of, is_open, AgreeBefore, answers_agree, answers_at, IsUid-from, UnreadSlot, Found, KeptStretch, Mention, Lacks, answering, HaveKeys, is_quiet_by, AreSameMentions, needs, needs_of, IsFound, IsUnreadSlotBy, AreFound, AreKept, get_or_append_left, get_or_from_slice_get, slice_get_past, IsUnreadSlot, answers_by, IsUnmet, IsUnmetAt, IsImpliedBy, IsImpliedByNext, HasBlock, HasBlocks, HasKeysAt, HasMentionsInOrder, IsKept, Keeps, AreMet, AreUnreadSlots, needed_by, has_slot_at, Any-push, sum_by-cons, sum_by_more, sum_by_push, sum_by-take-le, sum_by-IsPermutation, needs_at, all_needs, Meets, All-append, All-cons, All-more, All-nil, All-weaker, append-nil, sum_by-append, take_all, rules, drop, get_or-drop, length-drop, ◌-◌}
+use Rattle.vic_verdict.proofs.Words.{◌≡◌, ℕ, zero, suc, ◌+◌, ◌<◌, ◌≤◌, ◌++◌, List, [], ◌∷◌, length, take, get_or, length-append, Bool, true, ◌&&◌, Option, Some, refl, sym, ap, ◌∙◌, subst, arith, inl, inr, ⊎_elim, ◌⊎◌, ◌==◌, slice_get, All, Any, sum_by, eq-eqb, eqb-true, list_any, cases_eq, cases_lt, or_left, or_right, slice_get_within, All-push, list_any-append, All-permutation, list_any-IsPermutation, IsUid, is_uid, mirror, SameUids, UpToThree, Entry, Collision, Garbled, is_quiet, ManyReplies, SomeReply, slots_of, is_open, AgreeBefore, answers_agree, answers_at, IsUid-from, UnreadSlot, Found, KeptStretch, Mention, Lacks, answering, HaveKeys, is_quiet_by, AreSameMentions, needs, needs_of, IsFound, IsUnreadSlotBy, AreFound, AreKept, get_or_append_left, get_or_from_slice_get, slice_get_past, IsUnreadSlot, answers_by, IsUnmet, IsUnmetAt, IsImpliedBy, IsImpliedByNext, HasBlock, HasKeysAt, HasMentionsInOrder, IsKept, Keeps, AreMet, AreUnreadSlots, needed_by, has_slot_at, Any-push, sum_by-cons, sum_by_more, sum_by_push, sum_by-take-le, sum_by-IsPermutation, needs_at, all_needs, Meets, All-append, All-cons, All-more, All-nil, All-weaker, append-nil, sum_by-append, take_all, rules, drop, get_or-drop, length-drop, ◌-◌}
 use Rattle.vic_verdict.proofs.Ready.{one_of}
-use Rattle.vic_verdict.proofs.Silencing.{silenced_later}
-use Rattle.vic_verdict.proofs.Entries.{asks_two_iff, asks_one_iff}
-use Rattle.vic_verdict.proofs.Supplied.{UpToThree-same}
+use Rattle.vic_verdict.proofs.Sweeping.{silenced_later}
+use Rattle.vic_verdict.proofs.Entries.{asks_two_iff, asks_one_iff, UpToThree-same}
 
 -- ---- who answers, by the mentions
 
@@ -51,9 +50,9 @@ unmet_lacks es set ns ds at same h w =
 abbrev pub no_slot : UnreadSlot
 no_slot = record { first = 0; len = 0; need = 0; at = 0 }
 
--- an element of a list with one more is one of it, or the one more
-pub any_kept : {X : Type 0} (P : X → Type 0) (xs : List X) (y : X) → Any P xs → Any P (xs ++ y ∷ [])
-any_kept P xs y h = (h.0, h.1, omega (arith, length-append xs (y ∷ []), h.2), get_or_append_left xs (y ∷ []) h.1 h.0 h.2 ∙ h.3, h.4)
+-- an element of a list is one of it with others behind it
+pub any_left : {X : Type 0} (P : X → Type 0) (xs ys : List X) → Any P xs → Any P (xs ++ ys)
+any_left P xs ys h = (h.0, h.1, omega (arith, length-append xs ys, h.2), get_or_append_left xs ys h.1 h.0 h.2 ∙ h.3, h.4)
 
 -- the rest of a list has an element of it from there on, and no other
 pub any_in_rest : {X : Type 0} (P : X → Type 0) (xs : List X) (n k : ℕ) (x : X) → n ≤ k → k < length xs → get_or xs k x ≡ x → P x → Any P (drop n xs)
@@ -102,7 +101,7 @@ met_found es set ns ds k f old now below same by ready place need enough =
     let uids = found_answers es set ns d f.uids.items same here ready in
     met_next es ds k old now (now ++ f ∷ []) below
     (λ g. All-push (IsFound es) now f g (d.at, record { place = place; needed = omega (arith, here.needed); need = needed; uids = uids; enough = enough }))
-    (λ i g. any_kept (λ x. Meets es x i) now f g)
+    (λ i g. any_left (λ x. Meets es x i) now (f ∷ []) g)
     (λ c meets. inl (Any-push (λ x. Meets es x c.at) now f (meets f (record { need = needed; answer = uids.members }))))
     (omega (arith, need, sum_by_push (λ (x : Found). x.need) now f))
 
@@ -203,12 +202,6 @@ kept_to es from i ns ms ds old new since keys quiet same keeps h before = elim k
     need = it.need;
     answers = λ u w. let silent = quiet d.at u it.since (omega (arith, it.before)) w in grind (arith, it.inside u w, same.quiet (mirror u) d.at, silent);
   }
-
-pub kept_in_order : (es : List Entry) (i : ℕ) (ss : List KeptStretch) → AreKept es i ss → All HasMentionsInOrder ss
-kept_in_order es i ss h k s below = (h.kept k s below).mentions
-
-pub kept_blocks : (es : List Entry) (i : ℕ) (ss : List KeptStretch) → AreKept es i ss → All HasBlocks ss
-kept_blocks es i ss h k s below = (h.kept k s below).blocks
 
 -- ---- what meets them
 

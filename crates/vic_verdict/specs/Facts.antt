@@ -4,7 +4,7 @@ use Rattle.vic_frame.specs.Uids.{has}
 use Rattle.vic_tree.specs.OpenSet.{SameUids}
 use Rattle.vic_log.specs.declared.entry.Entry.{Entry}
 use Rattle.vic_log.specs.Slots.{slots_of, is_open, IsForcedBy}
-use Rattle.vic_verdict.specs.declared.unread_slots.Met.{Met}
+use Rattle.vic_verdict.specs.declared.facts.Met.{Met}
 use Rattle.vic_verdict.specs.Needs.{IsMet, IsMetFor}
 use Rattle.vic_verdict.specs.Possible.{IsPossible}
 use Rattle.vic_verdict.specs.Rising.{IsListOf}

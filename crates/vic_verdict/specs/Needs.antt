@@ -8,7 +8,7 @@ use Rattle.vic_log.specs.declared.entry.Entry.{Entry}
 use Rattle.vic_log.specs.declared.entry.Entry.TheVariants.{Sent, Silent, Collision, Heard, Listed, Garbled, FieldCycle}
 use Rattle.vic_log.specs.Slots.{slots_of, is_open}
 use Rattle.vic_verdict.specs.declared.unread_slots.Found.{Found}
-use Rattle.vic_verdict.specs.declared.unread_slots.Met.{Met}
+use Rattle.vic_verdict.specs.declared.facts.Met.{Met}
 use Rattle.vic_verdict.specs.Places.{answering}
 use Rattle.vic_verdict.specs.Verdict.{IsHeard}
 

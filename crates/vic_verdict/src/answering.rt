@@ -15,10 +15,10 @@ ghost use Rattle.vic_tree.specs.OpenSet.{AreKeys, UpToThree};
 ghost use Rattle.vic_verdict.specs.declared.mentions.Mention.{Mention as MentionValue};
 ghost use Rattle.vic_verdict.specs.declared.answering.Unmentioned.{Unmentioned as UnmentionedValue};
 ghost use Rattle.vic_verdict.specs.inner.Sweep.{AreInOrder, HaveKeys, is_mentioned, quiet_of};
-ghost use Rattle.vic_verdict.specs.inner.Answering.{AreOpenMentions, IsKnown, IsLearnt, IsReadyIn, IsUnmentioned, HasInside, HasMentionedIn, is_answering, is_ready_at, is_unmentioned, is_unmentioned_in};
+ghost use Rattle.vic_verdict.specs.inner.Answering.{AreOpenMentions, IsKnown, AreLookups, IsReadyIn, IsUnmentioned, HasInside, HasMentionedIn, is_answering, is_ready_at, is_unmentioned, is_unmentioned_in};
 
 use crate::mentions::{
-    Mention, MentionCursor, first_quiet, is_any_quiet, mentions_between, start_of,
+    Mention, MentionCursor, first_to_silence, is_any_quiet, mentions_between, start_of,
 };
 use arrayvec::ArrayVec;
 use std::alloc::{AllocError, Global};
@@ -42,16 +42,16 @@ pub(crate) struct Known {
     pub from: usize,
     /// The keys of the mentions.
     pub keys: Vec<u64>,
-    /// For each open UID that has mentions and isn't Quiet at that position, one mention, which
-    /// makes it Quiet where all its mentions together do; in the order of keys.
+    /// For each open UID that has mentions and isn't Quiet at that position, the mention by which
+    /// it is Quiet first; in the order of keys.
     pub mentioned: Vec<Mention>,
-    /// The masks that were searched for UIDs without a mention, each within the one before it if
-    /// blocks come in order.
+    /// The masks that were searched for UIDs without a mention: a stack, in which each lies in the
+    /// one below it, if blocks come in order.
     pub masks: Vec<Unmentioned>,
 }
 
 /// The keys of mentions.
-fn keys_of(alloc: Global, mentions: &[Mention]) -> Result<Vec<u64>, AllocError>
+fn mention_keys(alloc: Global, mentions: &[Mention]) -> Result<Vec<u64>, AllocError>
     ensures { IfOk result (λ keys.
         keys.items ≡ map (λ (n : MentionValue). n.key) mentions.now) }
 {
@@ -62,26 +62,8 @@ fn keys_of(alloc: Global, mentions: &[Mention]) -> Result<Vec<u64>, AllocError>
     Ok(keys)
 }
 
-/// A mention with a key whose UID is Quiet after a position; if no position of a log is as late,
-/// one of a line that hears it.
-fn mention_quiet_after(key: u64, quiet: usize) -> Mention
-    ensures key { result.key ≡ key }
-    ensures quiet { (i : ℕ) → i < 2 ^ 32 → nat_lt (quiet_of result) i ≡ nat_lt quiet i }
-{
-    let (at, is_heard) = match u32::try_from(quiet) {
-        Ok(at) => (at, false),
-        Err(_) => (0, true),
-    };
-    Mention {
-        key,
-        at,
-        is_heard,
-        left: true,
-    }
-}
-
-/// For each UID of a set that has mentions and isn't Quiet at a position, one mention, which makes
-/// it Quiet where all its mentions together do.
+/// For each UID of a set that has mentions and isn't Quiet at a position, the mention by which it
+/// is Quiet first.
 fn open_mentions<S: OpenSet>(
     alloc: Global,
     set: &S,
@@ -100,9 +82,9 @@ fn open_mentions<S: OpenSet>(
     for i in 0..mentions.len() {
         let key = mentions[i].key;
         if i == 0 || mentions[i - 1].key < key {
-            let quiet = first_quiet(mentions_between(mentions, i, key, key));
-            if from <= quiet && is_open[i] {
-                mentioned.push(mention_quiet_after(key, quiet))?;
+            let first = first_to_silence(mentions[i], mentions_between(mentions, i, key, key));
+            if from <= first.quiet_after() && is_open[i] {
+                mentioned.push(first)?;
             }
         }
     }
@@ -122,7 +104,7 @@ impl Known {
         ensures known { IfOk result (IsKnown (S.is_open set.now) mentions.now) }
         ensures from { IfOk result (λ known. known.from ≡ from) }
     {
-        let keys = keys_of(alloc, mentions)?;
+        let keys = mention_keys(alloc, mentions)?;
         let mentioned = open_mentions(alloc, set, mentions, &keys, from)?;
         let masks = Vec::new(alloc);
         Ok(Known {
@@ -146,7 +128,6 @@ impl Known {
         requires order { AreInOrder mentions.now }
         requires keys { HaveKeys mentions.now }
         requires block { IsBlock block.now.first block.now.len }
-        requires place { at < 2 ^ 32 }
         requires from { self.old.from ≤ at }
         requires known { IsKnown (S.is_open set.now) mentions.now self.old }
         ensures known { OnOk result (IsKnown (S.is_open set.now) mentions.now self.new) }
@@ -168,29 +149,38 @@ impl Known {
     }
 }
 
-/// What slots have taught about the mentions of a stretch.
+/// How the slots of a stretch are looked up: a few by the mentions in their masks, the others by
+/// what is known of all mentions.
 #[derive(Drop)]
-pub(crate) struct Learnt {
+pub(crate) struct Lookups {
     /// How many more mentions may be looked at for single slots. Once they are spent, all are
     /// looked at once, for all slots.
     pub spare: usize,
     pub known: Option<Known>,
 }
 
-impl Learnt {
-    /// Nothing. Until it is known where each UID becomes Quiet, a quarter of the mentions may be
-    /// looked at slot by slot, since most stretches have only a few such slots.
-    pub(crate) fn nothing(mentions: &[Mention]) -> Learnt
+impl Lookups {
+    /// Nothing is known yet. Until it is known where each UID becomes Quiet, a quarter of the
+    /// mentions may be looked at slot by slot, since most stretches have only a few such slots.
+    pub(crate) fn new(mentions: &[Mention]) -> Lookups
         ensures { result.known ≡ None }
     {
-        Learnt {
+        Lookups {
             spare: mentions.len() / 4,
             known: None,
         }
     }
 
-    /// Whether a slot with some mentions is worth looking at alone; if so, they are spent.
-    fn spends(&mut self, mentions: &[Mention]) -> bool
+    /// Leaves none to be looked at for single slots.
+    pub(crate) fn spend_all(&mut self)
+        ensures { self.new.known ≡ self.old.known }
+    {
+        self.spare = 0;
+    }
+
+    /// Whether a slot with some mentions is worth looking at alone; if so, they are spent. None is
+    /// once all mentions are known.
+    fn try_spend(&mut self, mentions: &[Mention]) -> bool
         ensures { self.new.known ≡ self.old.known }
     {
         if self.known.is_some() || self.spare < mentions.len() {
@@ -232,34 +222,33 @@ pub(crate) fn up_to_three_answering<S: OpenSet>(
     alloc: Global,
     set: &S,
     mentions: &[Mention],
-    learnt: &mut Learnt,
+    lookups: &mut Lookups,
     cursor: &mut MentionCursor,
     block: &KeyBlock,
     from: usize,
-    at: u32,
+    at: usize,
 ) -> Result<ArrayVec<Uid, 3>, AllocError>
     requires order { AreInOrder mentions.now }
     requires keys { HaveKeys mentions.now }
     requires block { IsBlock block.now.first block.now.len }
-    requires learnt { IsLearnt (S.is_open set.now) mentions.now learnt.old }
-    ensures learnt { OnOk result (IsLearnt (S.is_open set.now) mentions.now learnt.new) }
+    requires lookups { AreLookups (S.is_open set.now) mentions.now lookups.old }
+    ensures lookups { OnOk result (AreLookups (S.is_open set.now) mentions.now lookups.new) }
     ensures uids { IfOk result (λ uids. UpToThree
         (is_answering (S.is_open set.now) mentions.now block.now at) uids.items) }
 {
-    let at = at as usize;
     let uids = set.up_to_three(&mask_of_keys(block.first, block.len), &[]);
     let start = cursor.seek(mentions, block.first);
     let inside = mentions_between(mentions, start, block.first, block.last());
     if !is_any_quiet(inside, &uids, at) {
         return Ok(uids);
     }
-    if learnt.spends(inside) {
+    if lookups.try_spend(inside) {
         let mut known = Known::of(alloc, set, inside, at)?;
         return known.answering(alloc, set, inside, &mut MentionCursor::first(), block, at);
     }
-    let mut known = known_at(alloc, set, mentions, learnt.known.take(), from, at)?;
+    let mut known = known_at(alloc, set, mentions, lookups.known.take(), from, at)?;
     let uids = known.answering(alloc, set, mentions, cursor, block, at)?;
-    learnt.known = Some(known);
+    lookups.known = Some(known);
     Ok(uids)
 }
 
@@ -358,7 +347,7 @@ fn gather_ready(uids: &mut ArrayVec<Uid, 3>, mentions: &[Mention], at: usize)
         if uids.is_full() {
             return;
         }
-        if at <= mention.quiet() {
+        if at <= mention.quiet_after() {
             gather_one(uids, &[], uid_at(mention.key));
         }
     }

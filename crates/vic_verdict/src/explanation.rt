@@ -9,9 +9,9 @@ ghost use Rattle.vic_verdict.specs.Explained.{IsExplanation};
 ghost use Rattle.vic_verdict.specs.inner.Chosen.{is_other, chosen, chosen_population};
 ghost use Rattle.vic_verdict.specs.Rising.{SameMembers};
 
-use crate::facts::{Facts, facts_of};
+use crate::facts::{Facts, Met, facts_of};
 use crate::judging::{Verdict, first_finding, first_impossible_line};
-use crate::unread_slots::{Found, Met};
+use crate::unread_slots::Found;
 use std::alloc::{AllocError, Global};
 use vic_frame::Uid;
 use vic_log::{Log, PackedLine};
@@ -103,7 +103,8 @@ fn choose(met: Met, avoid: &Option<Uid>) -> Result<Vec<Uid>, AllocError>
     Ok(uids)
 }
 
-/// Adds as many UIDs as a slot needs, other than the one to avoid.
+/// Adds as many UIDs as a slot needs, other than the one to avoid. That one isn't certain, so there
+/// are enough without it.
 fn add_chosen(uids: &mut Vec<Uid>, found: &Found, avoid: &Option<Uid>) -> Result<(), AllocError>
     ensures { OnOk result (uids.new.items ≡ uids.old.items ++ chosen avoid.now found.now) }
 {

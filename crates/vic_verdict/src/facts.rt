@@ -19,8 +19,8 @@ ghost use Rattle.vic_verdict.specs.inner.Ruling.{rules_out, NoneRulesOutAfter};
 ghost use Rattle.vic_verdict.specs.inner.Replies.{RepliesAnswer};
 ghost use Rattle.vic_verdict.specs.inner.Unread.{AreKept};
 
-use crate::stretches::{Settled, settle};
-use crate::unread_slots::{KeptStretch, Met, meet_stretches};
+use crate::stretches::{Stretches, stretches_of};
+use crate::unread_slots::{Found, KeptStretch, meet_stretches};
 use std::alloc::{AllocError, Global};
 use vic_frame::Uid;
 use vic_frame::low_bits_first::key;
@@ -38,6 +38,16 @@ pub struct Facts<S: OpenSet> {
     pub met: Met,
     /// The UIDs that every population has that could have produced the log, in rising order.
     pub certain: Vec<Uid>,
+}
+
+/// The UIDs that meet the slots of a possible log.
+#[derive(Drop)]
+pub struct Met {
+    /// The UIDs that were heard, in any order.
+    pub heard: Vec<Uid>,
+    /// What meets the unread slots: each of these slots is met by one of them, and one may meet
+    /// many.
+    pub found: Vec<Found>,
 }
 
 /// What the lines of a log tell, if some population could have produced them; else the position of
@@ -100,14 +110,15 @@ pub struct Contradiction {
 pub enum Before {
     /// Some population could have produced them: the contradiction is the first one.
     ArePossible,
-    /// Some population seems to fit them: only where the search for the first impossible line
-    /// begins rests on it.
+    /// Some population seems to fit them. This is a guess, which decides only where the search for
+    /// the first impossible line begins.
     SeemPossible,
     /// Nothing is known about them.
     AreUnknown,
 }
 
-/// The UIDs that a log leaves open, and what they meet, if some population could have produced it.
+/// The UIDs that a log leaves open, and which of them meet its slots, if some population could have
+/// produced it.
 pub fn open_and_met<S: OpenSet>(
     alloc: Global,
     lines: &[PackedLine],
@@ -119,13 +130,9 @@ pub fn open_and_met<S: OpenSet>(
         × IsMet (entries lines.now) p.1)
         (IsContradiction (entries lines.now))) }
 {
-    let Settled {
-        closed,
-        stretches,
-        cut,
-    } = settle(alloc, lines)?;
+    let Stretches { closed, kept, cut } = stretches_of(alloc, lines)?;
     let set = S::without(alloc, closed)?;
-    match meet_all(alloc, &set, &lines[..cut], &stretches)? {
+    match meet_log(alloc, &set, &lines[..cut], &kept)? {
         Ok(met) => {
             // if there is a line at the cut, the requests before it make it impossible
             if cut < lines.len() {
@@ -142,7 +149,7 @@ pub fn open_and_met<S: OpenSet>(
 
 /// The UIDs heard in a log, and the open UIDs that meet its unread slots; or a contradiction. Each
 /// UID heard is known to be Ready there, and in the mask of its slot.
-fn meet_all<S: OpenSet>(
+fn meet_log<S: OpenSet>(
     alloc: Global,
     set: &S,
     lines: &[PackedLine],
@@ -167,6 +174,7 @@ fn meet_all<S: OpenSet>(
         Ok(found) => Ok(Ok(Met { heard, found })),
         Err(unmet) => {
             let at = last_ruling(lines, unmet);
+            // then the lines before leave the same UIDs open, and this seems the first unmet slot
             let before = if at == unmet {
                 Before::SeemPossible
             } else {
@@ -199,7 +207,7 @@ fn are_open<S: OpenSet>(alloc: Global, set: &S, uids: &[Uid]) -> Result<bool, Al
     Ok(outside.is_empty())
 }
 
-/// The keys of UIDs, in order.
+/// The keys of UIDs, in order; those of UIDs that come twice come twice.
 pub fn keys_in_order(alloc: Global, uids: &[Uid]) -> Result<Vec<u64>, AllocError>
     ensures { IfOk result (λ keys. AreKeysOf keys.items uids.now) }
 {
@@ -212,8 +220,8 @@ pub fn keys_in_order(alloc: Global, uids: &[Uid]) -> Result<Vec<u64>, AllocError
 }
 
 /// The position of the last line after `from` that may rule UIDs out; `from` if there is none. The
-/// log up to that line leaves the same UIDs open as the complete log, so a contradiction that these
-/// show is one there, too.
+/// log up to that line leaves the same UIDs open as the complete log, so what contradicts these
+/// contradicts the lines up to that one.
 fn last_ruling(lines: &[PackedLine], from: usize) -> usize
     requires { from < length lines.now }
     ensures from { from ≤ result }
@@ -227,7 +235,7 @@ fn last_ruling(lines: &[PackedLine], from: usize) -> usize
     last
 }
 
-/// Whether an entry may rule UIDs out.
+/// Whether an entry may rule UIDs out: whether it is a read slot.
 fn rules_out(entry: &Entry) -> bool
     ensures { result ≡ rules_out entry.now }
 {

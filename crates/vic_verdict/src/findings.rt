@@ -46,7 +46,8 @@ pub fn compare<S: OpenSet>(
 {
     let unlisted = missing_from(alloc, certain, listed)?;
     let keys = keys_of_both(alloc, listed, &unlisted)?;
-    let absent = neither_of(alloc, &set, certain, &keys)?;
+    // those unlisted are certain, so only listed ones can be absent
+    let absent = absent_from(alloc, &set, certain, &keys)?;
     let unsettled = set.widest_besides(&keys)?;
     Ok(Differences {
         absent,
@@ -55,9 +56,10 @@ pub fn compare<S: OpenSet>(
     })
 }
 
-/// The UIDs at some keys, which come in order, that are neither in a set nor in a list, in rising
-/// order.
-pub(crate) fn neither_of<S: OpenSet>(
+/// The UIDs at some keys, which come in order, that can't be there, since they are neither in a set
+/// nor certain; in rising order. The set of one log has its certain UIDs, that of several logs
+/// together (`vic_reconcile`) has none.
+pub(crate) fn absent_from<S: OpenSet>(
     alloc: Global,
     set: &S,
     certain: &[Uid],
@@ -101,8 +103,8 @@ pub fn missing_from(alloc: Global, uids: &[Uid], others: &[Uid]) -> Result<Vec<U
     Ok(missing)
 }
 
-/// The index at which a rising list has a UID, or would have it, from an index on that isn't after
-/// it.
+/// The first index from `start` on at which a rising list has a UID that isn't below `uid`; the end
+/// if there is none.
 fn index_from(uids: &[Uid], start: usize, uid: Uid) -> usize
     requires start { start ≤ length uids.now }
     requires below { AreBelow uids.now start uid }
@@ -153,7 +155,8 @@ pub fn listed_uids(alloc: Global, lines: &[PackedLine]) -> Result<Vec<Uid>, Allo
     Ok(uids)
 }
 
-/// How many lines of a log list a UID.
+/// How many lines of a log list a UID. None is listed twice; they are counted line by line, so that
+/// a proof sees by the numbers of lines that the count fits 32 bits.
 pub fn count_listed(lines: &[PackedLine]) -> u32
     requires { IsRisingFrom 0 lines.now }
     ensures { result ≡ length (listed (entries lines.now)) }

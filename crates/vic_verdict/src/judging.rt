@@ -12,7 +12,7 @@ ghost use Rattle.vic_verdict.specs.Possible.{IsContradiction, IsPossible};
 ghost use Rattle.vic_verdict.specs.declared.judging.Verdict.TheVariants.{Complete, Impossible};
 
 use crate::facts::{Before, Contradiction, Facts, facts_of, keys_in_order, open_and_met};
-use crate::findings::{count_listed, listed_uids, missing_from, neither_of};
+use crate::findings::{absent_from, count_listed, listed_uids, missing_from};
 use std::alloc::{AllocError, Global};
 use vic_frame::{Mask, Uid};
 use vic_guess::guess_impossible_line;
@@ -106,7 +106,7 @@ pub fn first_finding<S: OpenSet>(
 {
     let listed = listed_uids(alloc, lines)?;
     let keys = keys_in_order(alloc, &listed)?;
-    let absent = neither_of(alloc, &set, certain, &keys)?;
+    let absent = absent_from(alloc, &set, certain, &keys)?;
     if let Some(uid) = first_of(&absent) {
         return Ok(Verdict::Absent(uid));
     }
@@ -118,6 +118,7 @@ pub fn first_finding<S: OpenSet>(
     if let Some(mask) = set.widest_besides(&keys)? {
         return Ok(Verdict::Unsettled(mask));
     }
+    // none is absent by now
     let doubtful = missing_from(alloc, &listed, certain)?;
     if let Some(uid) = first_of(&doubtful) {
         return Ok(Verdict::Doubtful(uid));
@@ -147,6 +148,7 @@ pub fn first_impossible_line<S: OpenSet>(
     requires impossible { IsContradiction (entries lines.now) contradiction }
     ensures { IfOk result (λ n. IsVerdict lines.now (Impossible n)) }
 {
+    // the first `low` lines are possible, those up to the one at position `last` aren't
     let mut low = possible_before(contradiction);
     let mut last = contradiction.at;
     let mut guess = first_guess(contradiction);
@@ -160,7 +162,7 @@ pub fn first_impossible_line<S: OpenSet>(
         match open_and_met::<S>(alloc, &lines[..count])? {
             Ok(_) => {
                 low = count;
-                // if the guess was right, the line after it is the first impossible one
+                // further on by 1, which shows whether the guess was right; then by 2, 4, ..
                 guess = Some(guessed.saturating_add(step));
                 step = step.saturating_mul(2);
             }

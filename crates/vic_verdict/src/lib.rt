@@ -20,8 +20,8 @@ mod unread_slots;
 
 pub use explanation::{Explanation, explain, explain_with};
 pub use facts::{
-    Before, Contradiction, Facts, certain_uids, facts_of, keys_in_order, open_and_met,
+    Before, Contradiction, Facts, Met, certain_uids, facts_of, keys_in_order, open_and_met,
 };
 pub use findings::{Differences, compare, count_listed, listed_uids, missing_from};
 pub use judging::{Verdict, first_finding, first_impossible_line, judge, judge_with};
-pub use unread_slots::{Found, Met};
+pub use unread_slots::Found;

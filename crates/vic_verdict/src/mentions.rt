@@ -1,7 +1,7 @@
 //! The UIDs that lines silence or hear between two field cycles, in the order of their keys: which
 //! of them are Quiet at a position, and whether those that were heard were Ready.
 
-ghost use Rattle.std.specs.Prelude.{◌≡◌, ◌<◌, ◌≤◌, ◌+◌, ℕ, Bool, true, length, nat_lt, ◌++◌, ◌∷◌, [], IfOk, OnOk, take, drop};
+ghost use Rattle.std.specs.Prelude.{◌≡◌, ◌<◌, ◌≤◌, ◌+◌, ◌||◌, ℕ, Bool, true, length, nat_lt, ◌++◌, ◌∷◌, [], IfOk, OnOk, take, drop};
 ghost use Rattle.std.specs.List.{All, list_any};
 ghost use Rattle.std.specs.List.Sorted.{IsNonDecreasing};
 ghost use Rattle.vic_frame.specs.Uids.{has};
@@ -17,25 +17,26 @@ use std::alloc::{AllocError, Global};
 use vic_frame::Uid;
 use vic_frame::low_bits_first::key;
 
-/// The position after which a UID is Quiet by a line that hears it, which doesn't make it Quiet:
-/// after all positions.
+/// Later than any position: a line that only hears a UID makes it Quiet at none.
 pub(crate) const NEVER: usize = usize::MAX;
 
-/// A line that silences a UID or hears it: the UID's key and the line's position. `left` is whether
-/// every slot looked at so far leaves the UID open if this line alone says from where on it is
-/// Quiet. The first Stay Quiet counts, so a UID is left if one of its mentions is. A log may have a
-/// million mentions, which are sorted.
+/// A line that silences a UID or hears it. A log may have a million mentions, which are sorted.
 #[derive(Clone, Copy)]
 pub(crate) struct Mention {
+    /// The UID's key.
     pub key: u64,
+    /// The line's position.
     pub at: u32,
     pub is_heard: bool,
+    /// For `sweep` alone: whether the slots looked at so far leave the UID, as if this line alone
+    /// said from where on it is Quiet. A UID is left if one of its mentions is: of two Stay Quiets
+    /// at positions 5 and 10, a silent slot at 7 leaves the first one, and so the UID.
     pub left: bool,
 }
 
 impl Mention {
     /// The position after which the UID is Quiet by the line.
-    pub(crate) fn quiet(&self) -> usize
+    pub(crate) fn quiet_after(&self) -> usize
         ensures { result ≡ quiet_of self.now }
     {
         if self.is_heard {
@@ -45,7 +46,7 @@ impl Mention {
         }
     }
 
-    /// The position at which the line hears the UID; 0 if it silences it.
+    /// The position at which the line hears the UID; if it silences it, 0, at which none is Quiet.
     fn reply_place(&self) -> usize
         ensures { result ≡ reply_place self.now }
     {
@@ -89,7 +90,7 @@ fn is_start(mentions: &[Mention], index: usize, first: u64) -> bool
     first <= mentions[index].key && (index == 0 || mentions[index - 1].key < first)
 }
 
-/// How many mentions are looked at one by one before bisecting.
+/// How many mentions are looked at one by one before bisecting: most masks of a log have few.
 const NEAR: usize = 8;
 
 /// The index of the first mention whose key is at least `first`. The `NEAR` mentions from index
@@ -148,8 +149,7 @@ fn count_to(mentions: &[Mention], last: u64) -> usize
     mentions.partition_point(|mention| mention.key <= last)
 }
 
-/// The mentions from key `first` to `last`, the first of which has the index `start`. For any test:
-/// if some mention with a key in between passes, one of these does.
+/// The mentions from key `first` to `last`, the first of which has the index `start`.
 pub(crate) fn mentions_between(
     mentions: &[Mention],
     start: usize,
@@ -176,7 +176,12 @@ pub(crate) fn is_quiet_by(mentions: &[Mention], uid: Uid, at: usize) -> bool
     ensures { result ≡ is_quiet_by mentions.now (mirror uid) at }
 {
     let key = key(uid);
-    first_quiet(mentions_between(mentions, start_of(mentions, key), key, key)) < at
+    for mention in mentions_between(mentions, start_of(mentions, key), key, key) {
+        if mention.quiet_after() < at {
+            return true;
+        }
+    }
+    false
 }
 
 /// Whether one of some UIDs is Quiet at a position.
@@ -192,14 +197,19 @@ pub(crate) fn is_any_quiet(mentions: &[Mention], uids: &[Uid], at: usize) -> boo
     false
 }
 
-/// The position after which a UID is Quiet, by all its mentions.
-pub(crate) fn first_quiet(own: &[Mention]) -> usize
-    ensures { (i : ℕ) → i ≤ NEVER
-        → nat_lt result i ≡ list_any (λ n. nat_lt (quiet_of n) i) own.now }
+/// The mention by which a UID is Quiet first, of one and others of the same UID; any of them if
+/// none silences it.
+pub(crate) fn first_to_silence(mention: Mention, others: &[Mention]) -> Mention
+    requires { All (λ n. n.key ≡ mention.key) others.now }
+    ensures key { result.key ≡ mention.key }
+    ensures quiet { (i : ℕ) → nat_lt (quiet_of result) i
+        ≡ (nat_lt (quiet_of mention) i || list_any (λ n. nat_lt (quiet_of n) i) others.now) }
 {
-    let mut first = NEVER;
-    for mention in own {
-        first = first.min(mention.quiet());
+    let mut first = mention;
+    for other in others {
+        if other.quiet_after() < first.quiet_after() {
+            first = *other;
+        }
     }
     first
 }
@@ -215,7 +225,8 @@ pub(crate) fn first_quiet_reply(mentions: &[Mention], end: usize) -> usize
     for i in 0..mentions.len() {
         let key = mentions[i].key;
         if i == 0 || mentions[i - 1].key < key {
-            quiet = first_quiet(mentions_between(mentions, i, key, key));
+            let own = mentions_between(mentions, i, key, key);
+            quiet = first_to_silence(mentions[i], own).quiet_after();
         }
         let reply = mentions[i].reply_place();
         if quiet < reply {

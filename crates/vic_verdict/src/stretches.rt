@@ -1,7 +1,7 @@
-//! One walk over a log, from field cycle to field cycle: which keys its silent and answered slots
-//! close, and what its unread slots require.
+//! One walk over a log, stretch by stretch, from field cycle to field cycle: which keys its read
+//! slots close, and what its unread slots require.
 
-ghost use Rattle.std.specs.Prelude.{ℕ, ◌≡◌, ◌+◌, ◌^◌, ◌<◌, ◌≤◌, ◌++◌, List, [], Some, IfSome, IfOk, OnOk, length, slice_get};
+ghost use Rattle.std.specs.Prelude.{ℕ, ◌≡◌, ◌⊎◌, ◌+◌, ◌^◌, ◌<◌, ◌≤◌, ◌++◌, List, [], Some, None, IfSome, IfOk, OnOk, true, false, length, slice_get};
 ghost use Rattle.std.specs.List.{All};
 ghost use Rattle.vic_frame.specs.LowBitsFirst.{IsBlock, is_in_some_block};
 ghost use Rattle.vic_log.specs.declared.entry.Entry.{Entry as EntryValue};
@@ -13,11 +13,11 @@ ghost use Rattle.vic_verdict.specs.LogLines.{AreLogLines};
 ghost use Rattle.vic_verdict.specs.Needs.{needs};
 ghost use Rattle.vic_verdict.specs.declared.stretches.Noted.TheVariants.{GoesOn, Ends};
 ghost use Rattle.vic_verdict.specs.inner.Replies.{IsFirstQuietReply};
-ghost use Rattle.vic_verdict.specs.inner.Stretches.{BeginsAt, EndsAt, HasGathered, IsSettled, mentions_at};
-ghost use Rattle.vic_verdict.specs.inner.Sweep.{AreInOrder, IsSilentSlot};
+ghost use Rattle.vic_verdict.specs.inner.Stretches.{BeginsAt, EndsAt, HasGathered, AreStretchesOf, mentions_at};
+ghost use Rattle.vic_verdict.specs.inner.Sweep.{AreInOrder, IsMaskNumber};
 
 use crate::mentions::{Mention, first_quiet_reply, push_mention};
-use crate::sweep::{ReadSlot, close_stretch, join_silent, push_read};
+use crate::sweep::{ReadSlot, close_stretch, join_silent, mask_number};
 use crate::unread_slots::{KeptStretch, UnreadSlot, keep_stretch};
 use std::alloc::{AllocError, Global};
 use vic_frame::low_bits_first::{KeyBlock, key};
@@ -33,8 +33,8 @@ struct Gathered {
     /// The silent slots of the rounds that have ended, joined where they are the halves of a mask,
     /// and the slots in which one tag was heard.
     pub reads: Vec<ReadSlot>,
-    /// The silent slots of the last round.
-    pub silent: Vec<ReadSlot>,
+    /// The numbers of the masks of the last round's silent slots.
+    pub silent: Vec<u64>,
     /// The slots in which tags answered and none was read.
     pub unread: Vec<UnreadSlot>,
 }
@@ -64,14 +64,15 @@ fn note_sent(mentions: &mut Vec<Mention>, request: &Request, index: usize) -> Re
     }
 }
 
-/// Whether a key is in a mask's block; none is if the mask holds no UID.
-fn is_in_some_block(keys: Option<KeyBlock>, key: u64) -> bool
+/// The keys of a mask, if there are any and one of them is this key.
+fn block_with(keys: Option<KeyBlock>, key: u64) -> Option<KeyBlock>
     requires { IfSome keys (λ b. IsBlock b.first b.len) }
-    ensures { result ≡ is_in_some_block keys key }
+    ensures some { IfSome result (λ b. (keys ≡ Some b) × (is_in_some_block keys key ≡ true)) }
+    ensures none { result ≡ None → is_in_some_block keys key ≡ false }
 {
     match keys {
-        Some(block) => block.holds(key),
-        None => false,
+        Some(block) => if block.holds(key) { Some(block) } else { None },
+        None => None,
     }
 }
 
@@ -88,8 +89,9 @@ fn needs(entry: &Entry) -> u8
 }
 
 impl Gathered {
-    /// Nothing. There is room for a mention and a slot of each of so many lines, since what grows
-    /// step by step is copied; the first stretch that is kept takes the mentions with their room.
+    /// Nothing. There is room for as many mentions and read slots as lines, since what grows step
+    /// by step is copied. The first stretch that is kept takes the mentions; those of later ones
+    /// grow.
     fn with_capacity(alloc: Global, lines: usize) -> Result<Gathered, AllocError> {
         Ok(Gathered {
             mentions: Vec::with_capacity(alloc, lines)?,
@@ -101,12 +103,29 @@ impl Gathered {
 
     /// Drops it all.
     fn clear(&mut self)
-        ensures { (es : List EntryValue) (i : ℕ) → HasGathered es i i self.new }
+        ensures gathered { (es : List EntryValue) (i : ℕ) → HasGathered es i i self.new }
+        ensures empty { self.new.silent.items ≡ [] }
     {
         self.mentions.clear();
         self.reads.clear();
         self.silent.clear();
         self.unread.clear();
+    }
+
+    /// Joins the silent slots of the round that ends before a position.
+    #[inline(always)]
+    fn end_round(&mut self, index: usize) -> Result<(), AllocError>
+        requires small { (self.old.silent.items ≡ []) ⊎ (index < 2 ^ 32) }
+        requires silent { All IsMaskNumber self.old.silent.items }
+        ensures gathered { OnOk result ((es : List EntryValue) (from : ℕ)
+            → HasGathered es from index self.old → HasGathered es from index self.new) }
+        ensures joined { OnOk result (self.new.silent.items ≡ []) }
+    {
+        if self.silent.is_empty() {
+            return Ok(());
+        }
+        join_silent(&mut self.reads, &mut self.silent, index as u32)?;
+        Ok(())
     }
 
     /// Gathers what an entry says, unless the stretch ends before it.
@@ -117,8 +136,8 @@ impl Gathered {
         index: usize,
         entry: &Entry,
     ) -> Result<Noted, AllocError>
-        requires small { index < 2 ^ 32 }
-        requires silent { All IsSilentSlot self.old.silent.items }
+        requires small { index + 1 < 2 ^ 32 }
+        requires silent { All IsMaskNumber self.old.silent.items }
         ensures gathered { IfOk result (λ r. r ≡ GoesOn → (es : List EntryValue) (from : ℕ)
             → slice_get es index ≡ Some entry.now → AreValid es → IsCursorAt es index cursor.now
             → HasGathered es from index self.old → HasGathered es from (index + 1) self.new) }
@@ -130,18 +149,24 @@ impl Gathered {
         match *entry {
             // a request ends the round
             Entry::Sent(request) => {
-                join_silent(&mut self.reads, &mut self.silent)?;
+                self.end_round(index)?;
                 note_sent(&mut self.mentions, &request, index)?;
             }
-            Entry::Silent => push_read(&mut self.silent, cursor.keys(), index as u32, None)?,
-            Entry::Heard(response) => {
-                let keys = cursor.keys();
-                let heard = key(response.uid());
-                if !is_in_some_block(keys, heard) {
-                    return Ok(Noted::Ends);
+            Entry::Silent => {
+                if let Some(block) = cursor.keys() {
+                    self.silent.push(mask_number(&block))?;
                 }
-                push_mention(&mut self.mentions, heard, index as u32, true)?;
-                push_read(&mut self.reads, keys, index as u32, Some(heard))?;
+            }
+            Entry::Heard(response) => {
+                let heard = key(response.uid());
+                let block = match block_with(cursor.keys(), heard) {
+                    Some(block) => block,
+                    None => return Ok(Noted::Ends),
+                };
+                let at = index as u32;
+                push_mention(&mut self.mentions, heard, at, true)?;
+                self.reads
+                    .push(ReadSlot::heard_in(mask_number(&block), at, heard))?;
             }
             Entry::Collision | Entry::Garbled => {
                 let Some(KeyBlock { first, len }) = cursor.keys() else {
@@ -161,7 +186,8 @@ impl Gathered {
     }
 }
 
-/// The entry of a line. Since the numbers of lines rise, `number` bounds their positions, too.
+/// The entry of a line. By clause `number` a proof sees that positions fit 32 bits, since the
+/// numbers of lines rise.
 fn entry_of(line: PackedLine) -> Entry
     ensures value { result ≡ line.item }
     ensures number { line.number < 2 ^ 32 }
@@ -182,23 +208,20 @@ fn gather(
     requires forward { from ≤ end }
     requires within { end ≤ length lines.now }
     ensures gathered { IfOk result (λ at. HasGathered (entries lines.now) from at gathered.new) }
-    ensures joined { OnOk result (gathered.new.silent.items ≡ []) }
+    ensures begun { IfOk result (λ at. at ≡ from → gathered.new.silent.items ≡ []) }
     ensures upto { IfOk result (λ at. at ≤ end) }
     ensures ends { IfOk result (λ at. at < end → EndsAt (entries lines.now) at) }
 {
     gathered.clear();
     let mut cursor = RoundCursor::first();
-    let mut stop = end;
     for index in from..end {
         let entry = entry_of(lines[index]);
         if let Noted::Ends = gathered.note(&cursor, index, &entry)? {
-            stop = index;
-            break;
+            return Ok(index);
         }
         cursor.advance(&entry);
     }
-    join_silent(&mut gathered.reads, &mut gathered.silent)?;
-    Ok(stop)
+    Ok(end)
 }
 
 /// Gathers what the lines of a stretch say, from position `from` on: up to the next field cycle, to
@@ -223,15 +246,18 @@ fn gather_stretch(
     let mut end = lines.len();
     loop {
         let stop = gather(gathered, lines, from, end)?;
+        gathered.end_round(stop)?;
+        // by key alone: the mentions of one UID come in any order
         gathered
             .mentions
             .sort_unstable_by_key(|mention| mention.key);
-        let quiet = first_quiet_reply(&gathered.mentions, stop);
-        if quiet == stop {
+        let reply = first_quiet_reply(&gathered.mentions, stop);
+        if reply == stop {
             return Ok(stop);
         }
-        // once more, up to that reply: joined slots can't be taken apart
-        end = quiet;
+        // once more, up to that reply, since joined slots can't be taken apart: no earlier one is
+        // of a Quiet UID, so the second time is the last
+        end = reply;
     }
 }
 
@@ -245,43 +271,43 @@ fn is_field_cycle(lines: &[PackedLine], at: usize) -> bool
     }
 }
 
-/// What the lines of a log, up to a position, say about the UIDs that it leaves open.
+/// What the stretches of a log, up to a position, close and require.
 #[derive(Drop)]
-pub(crate) struct Settled {
-    /// The keys that its silent and answered slots close.
+pub(crate) struct Stretches {
+    /// The keys that their read slots close.
     pub closed: Vec<KeyRange>,
-    /// The stretches that have unread slots.
-    pub stretches: Vec<KeptStretch>,
+    /// Those that have unread slots.
+    pub kept: Vec<KeptStretch>,
     /// The end of the log, or the position of an impossible line: a reply of a UID that couldn't
     /// have answered, or tags in a mask that holds no UID.
     pub cut: usize,
 }
 
-/// What the lines of a log say about the UIDs that it leaves open, stretch by stretch.
-pub(crate) fn settle(alloc: Global, lines: &[PackedLine]) -> Result<Settled, AllocError>
+/// What the stretches of a log close and require, one after another.
+pub(crate) fn stretches_of(alloc: Global, lines: &[PackedLine]) -> Result<Stretches, AllocError>
     requires { AreLogLines lines.now }
-    ensures { IfOk result (IsSettled lines.now) }
+    ensures { IfOk result (AreStretchesOf lines.now) }
 {
     let mut closed = Vec::new(alloc);
-    let mut stretches = Vec::new(alloc);
+    let mut kept = Vec::new(alloc);
     let mut gathered = Gathered::with_capacity(alloc, lines.len())?;
     let mut from = 0;
     loop {
-        let cut = gather_stretch(&mut gathered, lines, from)?;
+        let stop = gather_stretch(&mut gathered, lines, from)?;
         close_stretch(&mut closed, &mut gathered.mentions, &mut gathered.reads)?;
         keep_stretch(
             alloc,
-            &mut stretches,
+            &mut kept,
             &mut gathered.mentions,
             &mut gathered.unread,
         )?;
-        if !is_field_cycle(lines, cut) {
-            return Ok(Settled {
+        if !is_field_cycle(lines, stop) {
+            return Ok(Stretches {
                 closed,
-                stretches,
-                cut,
+                kept,
+                cut: stop,
             });
         }
-        from = cut + 1;
+        from = stop + 1;
     }
 }

@@ -1,16 +1,17 @@
-//! What the slots between two field cycles rule out, mask by mask: which keys they close.
+//! What the read slots of a stretch (the lines between two field cycles) rule out, mask by mask:
+//! which keys they close.
 //!
 //! The UIDs that the lines there mention are kept in the order of their low bits, in which those of
 //! a mask are consecutive. Each mask is looked at once, however many slots it had: for each mention
 //! in it, and no other UID. A UID without a mention is ruled out if it lies in any of the masks.
 
-ghost use Rattle.std.specs.Prelude.{◌≡◌, ℕ, ◌||◌, ◌&&◌, ◌++◌, ◌∷◌, [], ◌≤◌, not, List, Some, IfSome, IfOk, OnOk, length, take, drop};
+ghost use Rattle.std.specs.Prelude.{◌≡◌, ℕ, ◌||◌, ◌&&◌, ◌++◌, ◌∷◌, [], ◌≤◌, not, List, Some, IfSome, IfOk, OnOk, length, map, take, drop};
 ghost use Rattle.std.specs.List.{All};
 ghost use Rattle.vic_frame.specs.LowBitsFirst.{IsBlock, mirror};
 ghost use Rattle.vic_tree.specs.Ranges.{is_between, is_outside};
 ghost use Rattle.vic_tree.specs.OpenSet.{SameUids};
 ghost use Rattle.vic_verdict.specs.inner.Closed.{Closes, closes_with};
-ghost use Rattle.vic_verdict.specs.inner.Sweep.{AreInOrder, HasRange, first_of, has_left, heard_of, last_of, len_of, slot_leaves, summary_leaves, read_leaves, all_leave, mask_leaves, some_mask_leaves, IsSummary, keep_all, all_allow, is_in, is_in_any, AddsReadSlot, AreGathered, AreJoined, AreSameMentions, IsSilentSlot};
+ghost use Rattle.vic_verdict.specs.inner.Sweep.{AreInOrder, HasRange, first_of, has_left, heard_of, last_of, len_of, slot_leaves, summary_leaves, read_leaves, all_leave, mask_leaves, some_mask_leaves, IsSummary, keep_all, all_allow, is_in, is_in_any, AreGathered, AreJoined, AreSameMentions, IsMaskNumber, IsNumberOf, IsSilentSlot, heard_slot, silent_slot};
 ghost use Rattle.vic_verdict.specs.declared.sweep.ReadSlot.{ReadSlot as ReadSlotValue};
 
 use crate::mentions::{Mention, MentionCursor, mentions_between};
@@ -23,25 +24,58 @@ use vic_tree::KeyRange;
 /// into one number.
 pub(crate) const LENGTH_BASE: u64 = 256;
 
+/// The number of the mask whose keys are a block: the first of them, times `LENGTH_BASE`, plus how
+/// many bits the mask has.
+#[inline(always)]
+pub(crate) fn mask_number(block: &KeyBlock) -> u64
+    requires { IsBlock block.now.first block.now.len }
+    ensures { IsNumberOf block.now result }
+{
+    block.first * LENGTH_BASE + u64::from(block.len)
+}
+
 /// A slot that was read: silent, or with the reply of one tag; or several silent ones of a round,
-/// joined. A log may have a million of them, which are sorted, so they are small, and a mask is one
-/// number.
+/// joined. A log may have a million of them, which are sorted by mask alone, so they are small, and
+/// a mask is one number.
 #[derive(Clone, Copy)]
 pub(crate) struct ReadSlot {
-    /// Its mask: the mask's first key, times `LENGTH_BASE`, plus how many bits the mask has. In the
-    /// order of these numbers the slots of one mask are consecutive, with outer masks before inner
-    /// ones.
+    /// The number of its mask. In the order of these numbers the slots of one mask are consecutive,
+    /// with outer masks before inner ones.
     pub mask_number: u64,
-    /// The key that was heard; the first key of its mask if no tag was.
+    /// The key that was heard, if one was.
     pub key: u64,
-    /// The position of its line; of joined slots, that of one of their lines.
+    /// The position of its line if a tag was heard; otherwise of the line after its round.
     pub at: u32,
     pub is_heard: bool,
 }
 
 impl ReadSlot {
+    /// The slot at a position in which a key was heard, by the number of its mask.
+    pub(crate) fn heard_in(mask_number: u64, at: u32, key: u64) -> ReadSlot
+        ensures { result ≡ heard_slot at mask_number key }
+    {
+        ReadSlot {
+            mask_number,
+            key,
+            at,
+            is_heard: true,
+        }
+    }
+
+    /// A silent slot with a position, by the number of its mask.
+    fn silent_in(mask_number: u64, at: u32) -> ReadSlot
+        ensures { result ≡ silent_slot at mask_number }
+    {
+        ReadSlot {
+            mask_number,
+            key: 0,
+            at,
+            is_heard: false,
+        }
+    }
+
     /// The first key of its mask.
-    pub(crate) fn first(&self) -> u64
+    fn first(&self) -> u64
         ensures { result ≡ first_of self.now }
     {
         self.mask_number / LENGTH_BASE
@@ -71,68 +105,46 @@ impl ReadSlot {
     }
 }
 
-/// Adds a silent or an answered slot with the keys of its mask, unless no UID lies in it.
-#[inline(always)]
-pub(crate) fn push_read(
-    reads: &mut Vec<ReadSlot>,
-    keys: Option<KeyBlock>,
-    at: u32,
-    heard: Option<u64>,
-) -> Result<(), AllocError>
-    requires { IfSome keys (λ b. IsBlock b.first b.len) }
-    ensures { OnOk result (AddsReadSlot keys at heard reads.old.items reads.new.items) }
-{
-    let Some(block) = keys else {
-        return Ok(());
-    };
-    let is_heard = heard.is_some();
-    let key = match heard {
-        Some(key) => key,
-        None => block.first,
-    };
-    reads.push(ReadSlot {
-        mask_number: block.first * LENGTH_BASE + block.len as u64,
-        key,
-        at,
-        is_heard,
-    })?;
-    Ok(())
-}
-
-/// Adds the silent slots of a round to others: joined, as far as they are the halves of a mask, into
-/// the one slot of that mask. No tag becomes Quiet during a round, so it doesn't matter which of
-/// their positions that slot has. Afterwards `silent` is empty.
+/// Adds the silent slots of a round, by the numbers of their masks, to others: joined, as far as
+/// they are the halves of a mask, into the one slot of that mask. No tag becomes Quiet during a
+/// round, so they get the position of the line after it. Afterwards `silent` is empty.
 pub(crate) fn join_silent(
     reads: &mut Vec<ReadSlot>,
-    silent: &mut Vec<ReadSlot>,
+    silent: &mut Vec<u64>,
+    at: u32,
 ) -> Result<(), AllocError>
-    requires { All IsSilentSlot silent.old.items }
+    requires { All IsMaskNumber silent.old.items }
     ensures joined { OnOk result ((js : List ReadSlotValue)
-        × (reads.new.items ≡ reads.old.items ++ js) × AreJoined silent.old.items js) }
+        × (reads.new.items ≡ reads.old.items ++ js)
+        × AreJoined at (map (silent_slot at) silent.old.items) js) }
     ensures empty { OnOk result (silent.new.items ≡ []) }
 {
     // then the halves of a mask are consecutive
-    silent.sort_unstable_by_key(|slot| slot.mask_number);
-    let others = reads.len();
-    for slot in &*silent {
-        push_joined(reads, others, *slot)?;
+    silent.sort_unstable();
+    let before_round = reads.len();
+    for number in &*silent {
+        push_joined(reads, before_round, ReadSlot::silent_in(*number, at))?;
     }
     silent.clear();
     Ok(())
 }
 
-/// Adds a silent slot after `others` slots and those of its round that are already joined: joined
-/// with the last of these as long as both are the halves of a mask.
-fn push_joined(reads: &mut Vec<ReadSlot>, others: usize, slot: ReadSlot) -> Result<(), AllocError>
-    requires others { others ≤ length reads.old.items }
-    requires joined { All IsSilentSlot (drop others reads.old.items) }
-    requires slot { IsSilentSlot slot }
+/// Adds a silent slot of a round, those of which that are already joined come from index
+/// `before_round` on: joined with the last of these as long as both are the halves of a mask.
+fn push_joined(
+    reads: &mut Vec<ReadSlot>,
+    before_round: usize,
+    slot: ReadSlot,
+) -> Result<(), AllocError>
+    requires within { before_round ≤ length reads.old.items }
+    requires joined { All (IsSilentSlot slot.at) (drop before_round reads.old.items) }
+    requires slot { IsSilentSlot slot.at slot }
     ensures { OnOk result ((js : List ReadSlotValue)
-        × (reads.new.items ≡ take others reads.old.items ++ js)
-        × AreJoined (drop others reads.old.items ++ slot ∷ []) js) }
+        × (reads.new.items ≡ take before_round reads.old.items ++ js)
+        × AreJoined slot.at (drop before_round reads.old.items ++ slot ∷ []) js) }
 {
     let mut wider = slot;
-    while reads.len() > others {
+    while reads.len() > before_round {
         let Some(both) = both_halves(&reads[reads.len() - 1], &wider) else {
             break;
         };
@@ -145,9 +157,9 @@ fn push_joined(reads: &mut Vec<ReadSlot>, others: usize, slot: ReadSlot) -> Resu
 
 /// Two silent slots of a round as one, if their masks are the lower and the upper half of one.
 fn both_halves(lower: &ReadSlot, upper: &ReadSlot) -> Option<ReadSlot>
-    requires lower { IsSilentSlot lower.now }
-    requires upper { IsSilentSlot upper.now }
-    ensures { IfSome result (λ s. IsSilentSlot s × (s.at ≡ lower.now.at)
+    requires lower { IsSilentSlot lower.now.at lower.now }
+    requires upper { IsSilentSlot lower.now.at upper.now }
+    ensures { IfSome result (λ s. IsSilentSlot lower.now.at s
         × ((k : ℕ) → is_in s k ≡ (is_in lower.now k || is_in upper.now k))) }
 {
     let len = lower.len();
@@ -166,8 +178,8 @@ fn both_halves(lower: &ReadSlot, upper: &ReadSlot) -> Option<ReadSlot>
     })
 }
 
-/// Closes the keys that some silent and answered slots rule out, by the UIDs that the lines between
-/// two field cycles mention. Afterwards the field `left` of each mention says whether they leave it.
+/// Closes the keys that the read slots of a stretch rule out, by the UIDs that its lines mention.
+/// Afterwards the field `left` of each mention says whether they leave it.
 pub(crate) fn close_stretch(
     closed: &mut Vec<KeyRange>,
     mentions: &mut Vec<Mention>,
@@ -199,16 +211,16 @@ fn rule_out_all(mentions: &mut [Mention], reads: &[ReadSlot])
     let mut cursor = MentionCursor::first();
     let mut mask: Option<MaskSummary> = None;
     for read in reads {
-        mask = Some(extend_mask(mentions, &mut cursor, mask, read));
+        mask = Some(add_or_rule_out(mentions, &mut cursor, mask, read));
     }
     if let Some(mask) = mask {
-        rule_out(mentions, &mut cursor, mask.keys, &mask.summary);
+        rule_out(mentions, &mut cursor, &mask);
     }
 }
 
-/// Adds a slot to those of the mask before it, if it is the same mask; otherwise rules out the
-/// mentions that these don't leave, and begins with the next mask.
-fn extend_mask(
+/// Adds a slot to the summary of the mask before it, if it has the same mask; otherwise rules out
+/// the mentions that this summary doesn't leave, and begins with the next one.
+fn add_or_rule_out(
     mentions: &mut [Mention],
     cursor: &mut MentionCursor,
     mask: Option<MaskSummary>,
@@ -230,7 +242,7 @@ fn extend_mask(
                 summary: before.summary.with(read.at as usize, read.heard()),
             };
         }
-        rule_out(mentions, cursor, before.keys, &before.summary);
+        rule_out(mentions, cursor, &before);
     }
     MaskSummary {
         keys,
@@ -245,25 +257,27 @@ pub(crate) struct MaskSummary {
     pub summary: Summary,
 }
 
-/// Rules out those mentions of a mask's keys that a summary doesn't leave.
-fn rule_out(mentions: &mut [Mention], cursor: &mut MentionCursor, keys: KeyRange, summary: &Summary)
+/// Rules out those mentions of a mask's keys that its slots don't leave. The cursor stays before
+/// them, since the next mask may lie in this one.
+fn rule_out(mentions: &mut [Mention], cursor: &mut MentionCursor, mask: &MaskSummary)
     requires { AreInOrder mentions.old }
-    ensures { mentions.new ≡ keep_all (mask_leaves keys.0 keys.1 summary.now) mentions.old }
+    ensures { mentions.new
+        ≡ keep_all (mask_leaves mask.now.keys.0 mask.now.keys.1 mask.now.summary) mentions.old }
 {
-    let last = keys.last();
-    for i in cursor.seek(mentions, keys.first())..mentions.len() {
+    let last = mask.keys.last();
+    for i in cursor.seek(mentions, mask.keys.first())..mentions.len() {
         let mention = mentions[i];
         if last < mention.key {
             return;
         }
-        mentions[i].left = mention.left && summary.leaves(mention.key, mention.quiet());
+        mentions[i].left = mention.left && mask.summary.leaves(mention.key, mention.quiet_after());
     }
 }
 
 /// What the slots of one mask say together: the position of the first one, the key that it heard,
-/// if any, and the position of the first one that differs: it heard another key, or none where the
-/// first one heard one, or one where that heard none. So the key `heard` has to be Quiet before
-/// `differs_at`, and any other key before `at`.
+/// if any, and the position of the first one that heard otherwise: another key, none, or one where
+/// the first heard none. So the key `heard` has to be Quiet before `differs_at`, and any other key
+/// before `at`.
 #[derive(Clone, Copy)]
 pub(crate) struct Summary {
     pub at: usize,
@@ -346,7 +360,7 @@ fn close_reads(
     let mut cursor = MentionCursor::first();
     let mut range: Option<KeyRange> = None;
     for read in reads {
-        range = Some(extend_range(closed, mentions, &mut cursor, range, read.keys())?);
+        range = Some(widen_or_close(closed, mentions, &mut cursor, range, read.keys())?);
     }
     if let Some(range) = range {
         close_between(closed, mentions, &mut cursor, range)?;
@@ -356,7 +370,7 @@ fn close_reads(
 
 /// Adds keys to the range before them if they adjoin it or lie in it; otherwise closes that range,
 /// if there is one. Returns the range to close next.
-fn extend_range(
+fn widen_or_close(
     closed: &mut Vec<KeyRange>,
     mentions: &[Mention],
     cursor: &mut MentionCursor,

@@ -2,8 +2,8 @@
 //! UIDs that meet it.
 //!
 //! Between two field cycles tags only become Quiet. So a tag that answers in the last of some slots
-//! of one mask answered in the earlier ones too. Of those that require as many tags, only the last
-//! one has to be looked at.
+//! of one mask answered in the earlier ones too. Of those that require the same number of tags,
+//! only the last one has to be looked at.
 
 ghost use Rattle.std.specs.Prelude.{◌≡◌, ◌≤◌, ◌<◌, ◌&&◌, ◌++◌, ◌∷◌, [], true, false, None, Some, IfSome, List, IfOk, OnOk, MatchResult, length};
 ghost use Rattle.std.specs.List.{All};
@@ -13,12 +13,12 @@ ghost use Rattle.vic_tree.specs.OpenSet.{SameUids, UpToThree};
 ghost use Rattle.vic_log.specs.declared.entry.Entry.{Entry as EntryValue};
 ghost use Rattle.vic_log.specs.Slots.{slots_of, is_open};
 ghost use Rattle.vic_verdict.specs.inner.Ruling.{Lacks};
-ghost use Rattle.vic_verdict.specs.inner.Answering.{IsLearnt};
+ghost use Rattle.vic_verdict.specs.inner.Answering.{AreLookups};
 ghost use Rattle.vic_verdict.specs.inner.Sweep.{AreInOrder, HaveKeys};
 ghost use Rattle.vic_verdict.specs.Needs.{AreFound};
 ghost use Rattle.vic_verdict.specs.inner.Unread.{IsUnreadSlotBy, answers_by, IsUnmet, IsUnmetAt, IsImpliedByNext, AreKept, AreMet, HasBlock, HasBlocks, HasMentionsInOrder, Keeps};
 
-use crate::answering::{Learnt, up_to_three_answering};
+use crate::answering::{Lookups, up_to_three_answering};
 use crate::mentions::{Mention, MentionCursor, mentions_between, start_of};
 use arrayvec::ArrayVec;
 use std::alloc::{AllocError, Global};
@@ -26,16 +26,6 @@ use std::mem::replace;
 use vic_frame::Uid;
 use vic_frame::low_bits_first::KeyBlock;
 use vic_tree::OpenSet;
-
-/// What the slots of a possible log require, met by its open UIDs.
-#[derive(Drop)]
-pub struct Met {
-    /// The UIDs that were heard, in any order.
-    pub heard: Vec<Uid>,
-    /// What meets the unread slots: each of these slots is met by one of them, and one may meet
-    /// many.
-    pub found: Vec<Found>,
-}
 
 /// Open UIDs that answer in an unread slot: all of them if there are fewer than three, otherwise
 /// three.
@@ -66,8 +56,8 @@ pub(crate) struct UnreadSlot {
 impl UnreadSlot {
     /// The number by which they are sorted: by mask, by how many tags are required, and by
     /// position. Then those of which only the last has to be looked at are consecutive
-    /// (`is_implied_by_next` checks it). No answer rests on this order. One number is compared faster
-    /// than four.
+    /// (`is_implied_by_next` checks it). No answer rests on this order. One number is compared
+    /// faster than four.
     fn order(&self) -> u128 {
         u128::from(self.first) << 64
             | u128::from(self.len) << 40
@@ -76,7 +66,7 @@ impl UnreadSlot {
     }
 
     /// The position of its line.
-    fn place(&self) -> usize
+    fn position(&self) -> usize
         ensures { result ≡ self.now.at }
     {
         self.at as usize
@@ -126,16 +116,16 @@ pub(crate) fn keep_stretch(
 
 /// The position of the first of some slots. No answer rests on it: it says from where on it is
 /// worth knowing who answers.
-fn first_place(unread: &[UnreadSlot]) -> usize {
+fn first_position(unread: &[UnreadSlot]) -> usize {
     let mut first = usize::MAX;
     for slot in unread {
-        first = first.min(slot.place());
+        first = first.min(slot.position());
     }
     first
 }
 
-/// Whether the next slot requires as many tags of the same mask, and is no earlier: if it is met,
-/// so is this one.
+/// Whether the next slot requires the same number of tags of the same mask, and is no earlier: if
+/// it is met, so is this one.
 fn is_implied_by_next(unread: &[UnreadSlot], index: usize) -> bool
     requires { index < length unread.now }
     ensures { result ≡ true → IsImpliedByNext unread.now index }
@@ -151,29 +141,30 @@ fn is_implied_by_next(unread: &[UnreadSlot], index: usize) -> bool
 }
 
 /// A guess: the position from which on the slots of a mask lack tags, if one lacks `lacking`, one
-/// or two, at position `at`. The mentions are those of the mask's open UIDs, each of which answers
-/// until it becomes Quiet. Of the positions where that happens, up to `at`, the last one counts, or
-/// the last but one; 0 if there is none.
-fn end_of_enough(mentions: &[Mention], at: usize, lacking: usize) -> usize {
+/// or two, at position `at`. The mentions are one for each open UID that has some, and wasn't Quiet
+/// yet at the first slot. If one tag is lacking, it is where the last of these became Quiet; if
+/// two, the last but one; 0 if there is none. So a collision in which one UID answers has lacked
+/// another since the last one that could have been it became Quiet.
+fn lacks_from(mentions: &[Mention], at: usize, lacking: usize) -> usize {
     let mut last = 0;
     let mut last_but_one = 0;
     for mention in mentions {
-        let end = mention.quiet().saturating_add(1);
-        if end <= at && last_but_one < end {
-            last_but_one = end.min(last);
-            last = end.max(last);
+        let from = mention.quiet_after().saturating_add(1);
+        if from <= at && last_but_one < from {
+            last_but_one = from.min(last);
+            last = from.max(last);
         }
     }
     if lacking == 1 { last } else { last_but_one }
 }
 
-/// The UIDs with some keys that the lines mention and the log leaves open; none if nothing had to
-/// be learnt, since no UID was Quiet.
-fn known_mentions<'a>(learnt: &'a Learnt, block: &KeyBlock) -> &'a [Mention]
-    requires order { IfSome learnt.now.known (λ k. AreInOrder k.mentioned.items) }
+/// The UIDs with some keys that the lines mention and the log leaves open; none if the mentions
+/// didn't have to be looked through, since no UID was Quiet.
+fn known_mentions<'a>(lookups: &'a Lookups, block: &KeyBlock) -> &'a [Mention]
+    requires order { IfSome lookups.now.known (λ k. AreInOrder k.mentioned.items) }
     requires block { IsBlock block.now.first block.now.len }
 {
-    match &learnt.known {
+    match &lookups.known {
         Some(known) => {
             let start = start_of(&known.mentioned, block.first);
             mentions_between(&known.mentioned, start, block.first, block.last())
@@ -182,25 +173,25 @@ fn known_mentions<'a>(learnt: &'a Learnt, block: &KeyBlock) -> &'a [Mention]
     }
 }
 
-/// The index of the slot that seems to be the first unmet one. Those of one mask that require as
-/// many tags are in order. The last of them shows how many tags are missing; the earlier ones lack
-/// some from where so many more UIDs were no longer Ready.
+/// The index of the slot that seems to be the first unmet one. Those of one mask that require the
+/// same number of tags are in order. The last of them shows how many tags are missing; the earlier
+/// ones lack some from where so many more UIDs were no longer Ready.
 fn guess_unmet<S: OpenSet>(
     alloc: Global,
     set: &S,
     mentions: &[Mention],
-    learnt: &mut Learnt,
+    lookups: &mut Lookups,
     unread: &[UnreadSlot],
 ) -> Result<usize, AllocError>
     requires order { AreInOrder mentions.now }
     requires keys { HaveKeys mentions.now }
     requires blocks { All HasBlock unread.now }
-    requires learnt { IsLearnt (S.is_open set.now) mentions.now learnt.old }
-    ensures learnt { OnOk result (IsLearnt (S.is_open set.now) mentions.now learnt.new) }
+    requires lookups { AreLookups (S.is_open set.now) mentions.now lookups.old }
+    ensures lookups { OnOk result (AreLookups (S.is_open set.now) mentions.now lookups.new) }
 {
-    // so that what is learnt is about all mentions, as `known_mentions` needs it
-    learnt.spare = 0;
-    let from = first_place(unread);
+    // then what is known is of all mentions, as `known_mentions` needs it
+    lookups.spend_all();
+    let from = first_position(unread);
     let mut guess = 0;
     let mut least = usize::MAX;
     let mut start = 0;
@@ -209,25 +200,26 @@ fn guess_unmet<S: OpenSet>(
         if !is_implied_by_next(unread, index) {
             let slot = unread[index];
             let block = slot.block();
+            let at = slot.position();
             let uids = up_to_three_answering(
                 alloc,
                 set,
                 mentions,
-                learnt,
+                lookups,
                 &mut cursor,
                 &block,
                 from,
-                slot.at,
+                at,
             )?;
             let need = usize::from(slot.need);
             if uids.len() < need {
-                let inside = known_mentions(learnt, &block);
-                let end = end_of_enough(inside, slot.place(), need - uids.len());
+                let inside = known_mentions(lookups, &block);
+                let lacks = lacks_from(inside, at, need - uids.len());
                 let group = &unread[start..index];
-                let first = start + group.partition_point(|earlier| earlier.place() < end);
-                if unread[first].place() < least {
+                let first = start + group.partition_point(|earlier| earlier.position() < lacks);
+                if unread[first].position() < least {
                     guess = first;
-                    least = unread[first].place();
+                    least = unread[first].position();
                 }
             }
             start = index + 1;
@@ -239,36 +231,37 @@ fn guess_unmet<S: OpenSet>(
 /// The position of the first unmet slot, if the guess is right; otherwise `unmet`, the position of
 /// a slot that is known to be unmet. The slots are ordered by mask, not by position, so those after
 /// that one are looked at too.
-fn first_unmet<S: OpenSet>(
+fn unmet_by_guess<S: OpenSet>(
     alloc: Global,
     set: &S,
     mentions: &[Mention],
-    learnt: &mut Learnt,
+    lookups: &mut Lookups,
     unread: &[UnreadSlot],
     unmet: usize,
 ) -> Result<usize, AllocError>
     requires order { AreInOrder mentions.now }
     requires keys { HaveKeys mentions.now }
     requires blocks { All HasBlock unread.now }
-    requires learnt { IsLearnt (S.is_open set.now) mentions.now learnt.old }
+    requires lookups { AreLookups (S.is_open set.now) mentions.now lookups.old }
     requires unmet { IsUnmetAt (S.is_open set.now) mentions.now unread.now unmet }
     ensures { IfOk result (IsUnmetAt (S.is_open set.now) mentions.now unread.now) }
 {
-    let guess = guess_unmet(alloc, set, mentions, learnt, unread)?;
+    let guess = guess_unmet(alloc, set, mentions, lookups, unread)?;
     if guess < unread.len() {
         let slot = unread[guess];
+        let at = slot.position();
         let uids = up_to_three_answering(
             alloc,
             set,
             mentions,
-            learnt,
+            lookups,
             &mut MentionCursor::first(),
             &slot.block(),
-            slot.place(),
-            slot.at,
+            at,
+            at,
         )?;
         if uids.len() < usize::from(slot.need) {
-            return Ok(slot.place());
+            return Ok(at);
         }
     }
     Ok(unmet)
@@ -276,7 +269,7 @@ fn first_unmet<S: OpenSet>(
 
 /// Finds what meets slots. Returns the position of an unmet one, if one is unmet: of the first, if
 /// the guess is right.
-fn meet_each<S: OpenSet>(
+fn meet_stretch<S: OpenSet>(
     alloc: Global,
     set: &S,
     mentions: &[Mention],
@@ -293,29 +286,29 @@ fn meet_each<S: OpenSet>(
     ensures unmet { IfOk result (λ r. IfSome r
         (IsUnmetAt (S.is_open set.now) mentions.now unread.now)) }
 {
-    let from = first_place(unread);
-    let mut learnt = Learnt::nothing(mentions);
+    let from = first_position(unread);
+    let mut lookups = Lookups::new(mentions);
     let mut start = 0;
     let mut cursor = MentionCursor::first();
     for index in 0..unread.len() {
         if !is_implied_by_next(unread, index) {
             let slot = unread[index];
+            let at = slot.position();
             let uids = up_to_three_answering(
                 alloc,
                 set,
                 mentions,
-                &mut learnt,
+                &mut lookups,
                 &mut cursor,
                 &slot.block(),
                 from,
-                slot.at,
+                at,
             )?;
-            let at = slot.place();
             let need = usize::from(slot.need);
             if uids.len() < need {
                 // those before `start` are met
                 let rest = &unread[start..];
-                let at = first_unmet(alloc, set, mentions, &mut learnt, rest, at)?;
+                let at = unmet_by_guess(alloc, set, mentions, &mut lookups, rest, at)?;
                 return Ok(Some(at));
             }
             found.push(Found { at, need, uids })?;
@@ -326,8 +319,8 @@ fn meet_each<S: OpenSet>(
 }
 
 /// What meets the unread slots of a log, by the UIDs that it leaves open; or the position of a slot
-/// that lacks what it requires. It is the first such slot if the guess is right, which saves judging
-/// the log again; no answer rests on that.
+/// that lacks what it requires. It is the first such slot if the guess is right, which saves
+/// judging the log again; no answer rests on that.
 pub(crate) fn meet_stretches<S: OpenSet>(
     alloc: Global,
     set: &S,
@@ -342,7 +335,7 @@ pub(crate) fn meet_stretches<S: OpenSet>(
 {
     let mut found = Vec::new(alloc);
     for stretch in stretches {
-        let unmet = meet_each(alloc, set, &stretch.mentions, &stretch.unread, &mut found)?;
+        let unmet = meet_stretch(alloc, set, &stretch.mentions, &stretch.unread, &mut found)?;
         if let Some(at) = unmet {
             return Ok(Err(at));
         }

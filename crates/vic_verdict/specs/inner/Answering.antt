@@ -1,5 +1,5 @@
 -- Which open UIDs answer in a slot, by the mentions of a stretch.
-use Rattle.std.specs.Prelude.{IfSome, ◌≡◌, ℕ, ◌+◌, ◌-◌, ◌^◌, ◌<◌, Bool, true, not, ◌&&◌, List, map, nat_lt}
+use Rattle.std.specs.Prelude.{IfSome, ◌≡◌, ℕ, ◌+◌, ◌-◌, ◌^◌, Bool, true, not, ◌&&◌, List, map, nat_lt}
 use Rattle.std.specs.List.{All}
 use Rattle.vic_frame.specs.declared.uid.TheConstants.{UID_BITS}
 use Rattle.vic_frame.specs.declared.low_bits_first.KeyBlock.{KeyBlock}
@@ -10,7 +10,7 @@ use Rattle.vic_tree.specs.Ranges.{is_between}
 use Rattle.vic_verdict.specs.declared.mentions.Mention.{Mention}
 use Rattle.vic_verdict.specs.declared.answering.Unmentioned.{Unmentioned}
 use Rattle.vic_verdict.specs.declared.answering.Known.{Known}
-use Rattle.vic_verdict.specs.declared.answering.Learnt.{Learnt}
+use Rattle.vic_verdict.specs.declared.answering.Lookups.{Lookups}
 use Rattle.vic_verdict.specs.inner.Sweep.{AreInOrder, HaveKeys, has_where, is_mentioned, is_quiet_by, quiet_of}
 
 -- a UID of a set has a key in the block, and isn't Quiet at position i by the mentions
@@ -54,7 +54,7 @@ IsReadyIn ns i u = IsUid u × (has_where (is_awake i) ns (mirror u) ≡ true)
 pub record AreOpenMentions (set : ℕ → Bool) (ns os : List Mention) : Type 0 where
   pub order : AreInOrder os
   pub keys : HaveKeys os
-  pub members : (k i : ℕ) → IsKey k → i < 2 ^ 32 → has_where (is_awake i) os k
+  pub members : (k i : ℕ) → IsKey k → has_where (is_awake i) os k
       ≡ (set (uid_of k) && (is_mentioned ns k && not (is_quiet_by ns k i)))
 
 -- a UID of a set isn't Quiet at position i by the mentions
@@ -68,5 +68,5 @@ pub record IsKnown (set : ℕ → Bool) (ns : List Mention) (known : Known) : Ty
   pub masks : All (IsUnmentioned set ns) known.masks.items
 
 -- what slots have taught is right: if the mentions are known, it is by these mentions
-abbrev pub IsLearnt : (ℕ → Bool) → List Mention → Learnt → Type 0
-IsLearnt set ns learnt = IfSome learnt.known (IsKnown set ns)
+abbrev pub AreLookups : (ℕ → Bool) → List Mention → Lookups → Type 0
+AreLookups set ns lookups = IfSome lookups.known (IsKnown set ns)

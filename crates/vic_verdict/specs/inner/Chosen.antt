@@ -1,7 +1,7 @@
 -- A population gathered from what the slots of a log require.
 use Rattle.std.specs.Prelude.{ℕ, ◌==◌, Bool, true, not, Option, Some, None, List, [], ◌∷◌, ◌++◌, take}
 use Rattle.std.specs.List.{filter}
-use Rattle.vic_verdict.specs.declared.unread_slots.Met.{Met}
+use Rattle.vic_verdict.specs.declared.facts.Met.{Met}
 use Rattle.vic_verdict.specs.declared.unread_slots.Found.{Found}
 
 -- the UID isn't the one to avoid

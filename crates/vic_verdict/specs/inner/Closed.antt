@@ -1,10 +1,8 @@
--- Which keys the silent and answered slots between two field cycles close.
+-- Which keys the read slots between two field cycles close.
 use Rattle.std.specs.Prelude.{◌≡◌, ℕ, Bool, false, not, Option, Some, None, ◌&&◌, ◌||◌, List}
-use Rattle.std.specs.List.{list_any}
 use Rattle.vic_tree.specs.Ranges.{in_ranges, is_between}
-use Rattle.vic_verdict.specs.declared.sweep.ReadSlot.{ReadSlot}
 use Rattle.vic_verdict.specs.declared.mentions.Mention.{Mention}
-use Rattle.vic_verdict.specs.inner.Sweep.{is_in, has_left}
+use Rattle.vic_verdict.specs.inner.Sweep.{has_left}
 
 -- the key is in the range, if there is one
 abbrev pub is_in_some_range : Option (ℕ × ℕ) → ℕ → Bool

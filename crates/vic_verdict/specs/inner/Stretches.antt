@@ -22,9 +22,9 @@ use Rattle.vic_verdict.specs.inner.Replies.{RepliesAnswer}
 use Rattle.vic_verdict.specs.declared.mentions.Mention.{Mention}
 use Rattle.vic_verdict.specs.declared.sweep.ReadSlot.{ReadSlot}
 use Rattle.vic_verdict.specs.declared.stretches.Gathered.{Gathered}
-use Rattle.vic_verdict.specs.declared.stretches.Settled.{Settled}
+use Rattle.vic_verdict.specs.declared.stretches.Stretches.{Stretches}
 use Rattle.vic_verdict.specs.inner.Unread.{AreUnreadSlots, AreKept}
-use Rattle.vic_verdict.specs.inner.Sweep.{HasRange, IsSilentSlot, heard_of, is_in}
+use Rattle.vic_verdict.specs.inner.Sweep.{HasRange, IsMaskNumber, heard_of, is_in, is_in_masks}
 
 -- ---- the mentions
 
@@ -64,16 +64,30 @@ pub record SaysAt (es : List Entry) (j u : ℕ) (s : ReadSlot) : Type 0 where
 -- the slot is that of an entry from a position on, up to position i, or several of one round joined
 pub record IsReadSlot (es : List Entry) (from i : ℕ) (s : ReadSlot) : Type 0 where
   pub since : from ≤ s.at
-  pub before : s.at < i
-  pub read : HasRead (slice_get es s.at) (heard_of s)
+  pub before : s.at ≤ i
+  pub heard : (heard_of s ≡ None) ⊎ ((s.at < i) × HasRead (slice_get es s.at) (heard_of s))
   pub range : HasRange s
   pub said : (u : ℕ) → IsUid u → is_in s (mirror u) ≡ true
       → (j : ℕ) × (from ≤ j) × (j < i) × SaysAt es j u s
 
--- the slot was silent, and since then no tag became Quiet
-pub record IsSilentSince (es : List Entry) (i : ℕ) (s : ReadSlot) : Type 0 where
-  pub silent : IsSilentSlot s
-  pub quiet : (u : ℕ) → IsUid u → is_quiet es s.at u ≡ is_quiet es i u
+-- the slot at position j was silent, the UID lies in its mask, and is Quiet at position i if it was
+-- Quiet then
+pub record WasSilentAt (es : List Entry) (i j u : ℕ) : Type 0 where
+  pub silent : slice_get es j ≡ Some Silent
+  pub lies : lies_in_some (mask_at es j) u ≡ true
+  pub quiet : is_quiet es i u ≡ is_quiet es j u
+
+-- each UID in the masks with these numbers lies in the mask of a slot from a position on that was
+-- silent, up to position i
+pub record AreSilentTo (es : List Entry) (from i : ℕ) (ns : List ℕ) : Type 0 where
+  pub ranges : All IsMaskNumber ns
+  pub said : (u : ℕ) → IsUid u → is_in_masks ns (mirror u) ≡ true
+      → (j : ℕ) × (from ≤ j) × (j < i) × WasSilentAt es i j u
+
+-- what the entry at position j says of a UID is gathered: in a slot, or in the mask of a silent one
+abbrev pub IsGatheredAt : List Entry → ℕ → Gathered → ℕ → ℕ → Type 0
+IsGatheredAt es i g j u = Any (SaysAt es j u) g.reads.items
+    ⊎ ((is_in_masks g.silent.items (mirror u) ≡ true) × WasSilentAt es i j u)
 
 -- ---- all of it
 
@@ -86,22 +100,18 @@ BeginsAt es (suc j) = slice_get es j ≡ Some FieldCycle
 abbrev pub EndsAt : List Entry → ℕ → Type 0
 EndsAt es i = (slice_get es i ≡ Some FieldCycle) ⊎ IsContradictedAt es i
 
--- the slots that were silent, or in which one tag was heard
-abbrev pub read_slots : Gathered → List ReadSlot
-read_slots g = g.reads.items ++ g.silent.items
-
 -- what is gathered from the entries from a position on, up to position i, none of which is a field
 -- cycle: their mentions, their slots that may rule UIDs out, and their unread slots
 pub record HasGathered (es : List Entry) (from i : ℕ) (g : Gathered) : Type 0 where
   pub begun : from ≤ i
-  pub small : from < i → i ≤ 2 ^ 32
+  pub small : from < i → i < 2 ^ 32
   pub awake : (j : ℕ) → from ≤ j → j < i → wakes (slice_get es j) ≡ false
   pub mentions : IsPermutation (mentions_from es from i) g.mentions.items
-  pub reads : All (IsReadSlot es from i) (read_slots g)
+  pub reads : All (IsReadSlot es from i) g.reads.items
   pub read : (j : ℕ) (e : Entry) (u : ℕ) → from ≤ j → j < i → slice_get es j ≡ Some e
       → rules_out e ≡ true → IsUid u → lies_in_some (mask_at es j) u ≡ true
-      → Any (SaysAt es j u) (read_slots g)
-  pub silent : All (IsSilentSince es i) g.silent.items
+      → IsGatheredAt es i g j u
+  pub silent : AreSilentTo es from i g.silent.items
   pub inside : (j : ℕ) (r : Reply) → from ≤ j → j < i → slice_get es j ≡ Some (Heard r)
       → IsUid r.uid × (lies_in_some (mask_at es j) r.uid ≡ true)
   pub unread : AreUnreadSlots es from i g.unread.items
@@ -114,8 +124,8 @@ pub record IsOpenTo (lines : List LogLine) (set : ℕ → Bool) (cut : ℕ) : Ty
   pub uids : SameUids set (is_open (slots_of (entries (take cut lines))))
   pub beyond : cut < length lines → IsContradictedAt (entries lines) cut
 
--- the UIDs outside the closed ranges are those open up to the cut, and the stretches keep what is
--- required there
-pub record IsSettled (lines : List LogLine) (s : Settled) : Type 0 where
+-- the UIDs outside the closed ranges are those open up to the cut, and what is required there is
+-- kept
+pub record AreStretchesOf (lines : List LogLine) (s : Stretches) : Type 0 where
   pub uids : IsOpenTo lines (is_outside s.closed.items) s.cut
-  pub kept : AreKept (entries (take s.cut lines)) s.cut s.stretches.items
+  pub kept : AreKept (entries (take s.cut lines)) s.cut s.kept.items

@@ -1,13 +1,13 @@
 -- What the slots between two field cycles leave, in terms of keys: UIDs in the order of their low
 -- bits.
-use Rattle.std.specs.Prelude.{◌≡◌, ℕ, ◌+◌, ◌-◌, ◌/◌, ◌%◌, ◌^◌, ◌==◌, ◌<◌, ◌≤◌, Bool, true, false, not, ◌&&◌, ◌||◌, Option, Some, None, List, length, slice_index_or, nat_le, nat_lt, map, if◌then◌else◌, IfSome, [], ◌∷◌, ◌++◌, ◌⊎◌}
+use Rattle.std.specs.Prelude.{◌≡◌, ℕ, ◌+◌, ◌-◌, ◌/◌, ◌%◌, ◌^◌, ◌==◌, ◌<◌, ◌≤◌, Bool, true, false, not, ◌&&◌, ◌||◌, Option, Some, None, List, length, slice_index_or, nat_lt, map, if◌then◌else◌, IfSome}
 use Rattle.std.specs.List.Sorted.{IsNonDecreasingBy}
 use Rattle.std.specs.List.{list_all, list_any, All}
 use Rattle.vic_frame.specs.declared.uid.TheConstants.{UID_BITS}
 use Rattle.vic_verdict.specs.declared.sweep.TheConstants.{LENGTH_BASE}
 use Rattle.vic_verdict.specs.declared.mentions.TheConstants.{NEVER}
 use Rattle.vic_frame.specs.declared.low_bits_first.KeyBlock.{KeyBlock}
-use Rattle.vic_frame.specs.LowBitsFirst.{IsKey, is_in_some_block}
+use Rattle.vic_frame.specs.LowBitsFirst.{IsKey, is_in_block}
 use Rattle.vic_tree.specs.Ranges.{IsKeyRange, is_between}
 use Rattle.vic_verdict.specs.declared.mentions.Mention.{Mention}
 use Rattle.vic_verdict.specs.declared.sweep.ReadSlot.{ReadSlot}
@@ -131,8 +131,8 @@ all_hear_mentioned ns reads = list_all (hears_mentioned ns) reads
 abbrev pub are_left : List Mention → Bool
 are_left ns = list_all (λ n. n.left) ns
 
--- all mentions are left, and the masks of the slots are ranges of keys; a key that one of them heard
--- is mentioned
+-- all mentions are left, and the masks of the slots are ranges of keys; a key that one of them
+-- heard is mentioned
 pub record AreGathered (ns : List Mention) (ss : List ReadSlot) : Type 0 where
   pub left : are_left ns ≡ true
   pub ranges : All HasRange ss
@@ -161,31 +161,34 @@ pub record AreSameMentions (old new : List Mention) : Type 0 where
 
 -- ---- slots that are added, and slots that are joined
 
--- the slot at a position, whose mask has these keys, which heard this key or none
-pub record IsReadSlotOf (keys : Option KeyBlock) (at : ℕ) (heard : Option ℕ) (s : ReadSlot)
-    : Type 0 where
+-- a silent slot, by the number of its mask
+abbrev pub silent_slot : ℕ → ℕ → ReadSlot
+silent_slot at n = record { mask_number = n; key = 0; at = at; is_heard = false }
+
+-- a slot in which a key was heard
+abbrev pub heard_slot : ℕ → ℕ → ℕ → ReadSlot
+heard_slot at n k = record { mask_number = n; key = k; at = at; is_heard = true }
+
+-- the keys of the mask with this number are a range of keys
+abbrev pub IsMaskNumber : ℕ → Type 0
+IsMaskNumber n = HasRange (silent_slot 0 n)
+
+-- the key is in one of the masks with these numbers
+abbrev pub is_in_masks : List ℕ → ℕ → Bool
+is_in_masks ns k = list_any (λ n. is_in (silent_slot 0 n) k) ns
+
+-- the number is that of the mask with these keys
+pub record IsNumberOf (block : KeyBlock) (n : ℕ) : Type 0 where
+  pub range : IsMaskNumber n
+  pub inside : (k : ℕ) → is_in (silent_slot 0 n) k ≡ is_in_block block.first block.len k
+
+-- no tag was heard in the slot, which has this position
+pub record IsSilentSlot (at : ℕ) (s : ReadSlot) : Type 0 where
   pub place : s.at ≡ at
-  pub key : heard_of s ≡ heard
-  pub range : HasRange s
-  pub inside : (k : ℕ) → is_in s k ≡ is_in_some_block keys k
-
--- the list has one more slot, unless no UID lies in its mask
-abbrev pub AddsReadSlot : Option KeyBlock → ℕ → Option ℕ → List ReadSlot → List ReadSlot → Type 0
-AddsReadSlot keys at heard old new =
-    ((keys ≡ None) × (new ≡ old))
-    ⊎ ((s : ReadSlot) × (new ≡ old ++ s ∷ []) × IsReadSlotOf keys at heard s)
-
--- no tag was heard in the slot
-pub record IsSilentSlot (s : ReadSlot) : Type 0 where
   pub none : heard_of s ≡ None
   pub range : HasRange s
 
--- one of the slots is at a position
-abbrev pub has_read_at : List ReadSlot → ℕ → Bool
-has_read_at ss i = list_any (λ s. s.at == i) ss
-
--- silent slots at the positions of others, with the same keys together
-pub record AreJoined (old new : List ReadSlot) : Type 0 where
-  pub silent : All IsSilentSlot new
-  pub places : (i : ℕ) → has_read_at new i ≡ true → has_read_at old i ≡ true
+-- silent slots at a position, with the keys of others together
+pub record AreJoined (at : ℕ) (old new : List ReadSlot) : Type 0 where
+  pub silent : All (IsSilentSlot at) new
   pub keys : (k : ℕ) → is_in_any new k ≡ is_in_any old k

@@ -1,6 +1,6 @@
 -- What the slots between two field cycles require.
-use Rattle.std.specs.Prelude.{◌≡◌, ◌==◌, ◌⊎◌, ℕ, ◌+◌, ◌<◌, ◌≤◌, Bool, true, not, ◌&&◌, List, [], ◌∷◌, ◌++◌, length, take, nat_lt, slice_index_or}
-use Rattle.std.specs.List.{filter, All, Any, list_any, sum_by}
+use Rattle.std.specs.Prelude.{◌≡◌, ◌==◌, ◌⊎◌, ℕ, ◌+◌, ◌<◌, ◌≤◌, Bool, true, not, ◌&&◌, List, [], ◌∷◌, ◌++◌, length, take, slice_index_or}
+use Rattle.std.specs.List.{All, Any, list_any, sum_by}
 use Rattle.std.specs.List.Sorted.{IsPermutation}
 use Rattle.vic_frame.specs.Uids.{IsUid, is_uid}
 use Rattle.vic_tree.specs.OpenSet.{UpToThree}

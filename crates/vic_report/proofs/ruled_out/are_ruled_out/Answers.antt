@@ -4,7 +4,7 @@ use Rattle.vic_report.proofs.ruled_out.are_ruled_out.Goals as goal
 pub loop-line-init : goal.loop-line-init
 loop-line-init c = record {
   field_at = c.first-cursor.ensures (entries c.args.lines.now);
-  count = omega arith;
+  within = omega arith;
   passed = λ k d below. absurd (omega arith);
 }
 
@@ -17,8 +17,8 @@ loop-line-preserved c =
     let here = entry_at lines i l c.loop-line-test.true c.line-item.is ∙ ap (λ (e : Entry). Some e) (sym c.item.ensures) in
     record {
       field_at = c.in_ok-advance.ensures (entries lines) i c.requires.order here before.field_at;
-      count = c.count_ruled_out-next.ensures.count;
-      passed = c.count_ruled_out-next.ensures.shown lines i c.requires.valid (slice_get_read lines (length lines) i l refl c.loop-line-test.true c.line-item.is) before.field_at before.passed;
+      within = c.end_of_ruled_out-next.ensures.within;
+      passed = c.end_of_ruled_out-next.ensures.shown lines i c.requires.valid (slice_get_read lines (length lines) i l refl c.loop-line-test.true c.line-item.is) before.field_at before.passed;
     }
 
 pub returns : goal.returns

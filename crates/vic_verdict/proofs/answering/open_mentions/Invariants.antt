@@ -1,4 +1,4 @@
-use Rattle.vic_verdict.proofs.Words.{is_ready_at, is_open}
+use Rattle.vic_verdict.proofs.Words.{is_ready_at}
 use Rattle.vic_verdict.proofs.Ready.{AreOpenTo}
 use Rattle.vic_verdict.proofs.answering.open_mentions.Given as goal
 

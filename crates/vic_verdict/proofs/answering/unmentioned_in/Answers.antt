@@ -1,4 +1,4 @@
-use Rattle.vic_verdict.proofs.Words.{◌-◌, length, sym, ◌∙◌, subst, arith, All, All-push, UpToThree, is_mentioned, All-take, IsUnmentioned, is_unmentioned, is_open}
+use Rattle.vic_verdict.proofs.Words.{◌-◌, length, sym, ◌∙◌, subst, arith, All, All-push, UpToThree, is_mentioned, All-take, IsUnmentioned, is_unmentioned}
 use Rattle.vic_verdict.specs.declared.answering.Unmentioned.{Unmentioned}
 use Rattle.vic_verdict.proofs.Ready.{found_besides}
 use Rattle.vic_verdict.proofs.answering.unmentioned_in.Goals as goal

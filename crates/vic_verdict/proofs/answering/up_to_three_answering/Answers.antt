@@ -1,4 +1,4 @@
-use Rattle.vic_verdict.proofs.Words.{◌∙◌, ap, sym, ◌&&◌, nat_le, nat_lt, quiet_of, IfOk-weaker, is_open}
+use Rattle.vic_verdict.proofs.Words.{◌∙◌, ap, sym, ◌&&◌, nat_le, nat_lt, quiet_of, IfOk-weaker}
 use Rattle.vic_verdict.proofs.Ready.{first_answering, answering_inside}
 use Rattle.vic_verdict.proofs.answering.up_to_three_answering.Goals as goal
 
@@ -11,8 +11,8 @@ returns-then-not-is_any_quiet-clause-uids g c =
     answering_inside set c.args.mentions.now inside b at _ (λ k lies. c.mentions_between-inside.ensures.all (λ n. nat_lt (quiet_of n) at) k (ap (λ n. nat_le b.first k && nat_le k n) c.last.ensures ∙ lies))
     (first_answering set inside b at c.mask_of_keys.result _ c.mask_of_keys.ensures.inside c.up_to_three-uids.ensures (rw c.deref.ensures.0 at (sym c.is_any_quiet.ensures ∙ c.if-not-is_any_quiet.true)))
 
-pub returns-then-spends-clause-uids : goal.returns-then-spends-clause-uids
-returns-then-spends-clause-uids g c =
+pub returns-then-try_spend-clause-uids : goal.returns-then-try_spend-clause-uids
+returns-then-try_spend-clause-uids g c =
     let b = c.args.block.now in
     let at = c.args.at in
     IfOk-weaker c.answering.result _ _

@@ -1,7 +1,14 @@
-use Rattle.vic_verdict.proofs.Words.{◌≡◌, ◌++◌, sym, ◌∙◌, arith, is_other, chosen}
-use Rattle.vic_verdict.proofs.Choosing.{is_taken, is_avoided}
+use Rattle.vic_verdict.proofs.Words.{[], ◌∷◌, ◌++◌, ◌+◌, ◌-◌, ◌<◌, ◌≡◌, sym, ◌∙◌, arith, is_other, chosen, Bool, List, append_assoc, drop, drop_more, false, filter, get_or, length, nat_tests, take, true, ℕ}
 use Rattle.vic_verdict.proofs.explanation.add_chosen.Goals as goal
 use Rattle.vic_verdict.proofs.explanation.add_chosen.Goals.{then-left-gt0+then-is_other+in_ok-push, else-left-gt0, else-left-gt0-via-then-left-gt0+else-is_other, else-left-gt0-via-else-left-gt0}
+
+-- one is taken
+is_taken : (p : ℕ → Bool) (xs us all : List ℕ) (i x left : ℕ) → i < length xs → x ≡ get_or xs i x → 0 < left → p x ≡ true → us ++ take left (filter p (drop i xs)) ≡ all → (us ++ x ∷ []) ++ take (left - 1) (filter p (drop (i + 1) xs)) ≡ all
+is_taken p xs us all i x left lt e more passes h = grind (arith, nat_tests, append_assoc, drop_more)
+
+-- one is avoided
+is_avoided : (p : ℕ → Bool) (xs us all : List ℕ) (i x left : ℕ) → i < length xs → x ≡ get_or xs i x → p x ≡ false → us ++ take left (filter p (drop i xs)) ≡ all → us ++ take left (filter p (drop (i + 1) xs)) ≡ all
+is_avoided p xs us all i x left lt e fails h = grind (arith, nat_tests, drop_more xs i x lt)
 
 pub loop-uid-preserved : goal.loop-uid-preserved
 loop-uid-preserved c =

@@ -1,4 +1,4 @@
-use Rattle.vic_verdict.proofs.Words.{List, ℕ, ◌==◌, sym, ap, subst, ◌∙◌, AreKeysOf, is_open}
+use Rattle.vic_verdict.proofs.Words.{List, ℕ, ◌==◌, sym, ap, subst, ◌∙◌, AreKeysOf}
 use Rattle.vic_verdict.proofs.KeyOrder.{all_where_empty, outside_are}
 use Rattle.vic_verdict.proofs.facts.are_open.Goals as goal
 

@@ -1,5 +1,5 @@
 use Rattle.vic_verdict.proofs.Words.{◌∙◌, ap, sym, Some, Entry, entries}
-use Rattle.vic_verdict.proofs.Stands.{entry_at}
+use Rattle.vic_verdict.proofs.Listing.{entry_at}
 use Rattle.vic_verdict.proofs.Meeting.{heard_kept, heard_pushed}
 use Rattle.vic_verdict.proofs.facts.heard_uids.Goals as goal
 use Rattle.vic_verdict.proofs.facts.heard_uids.Goals.{in-Heard+in_ok-push, in_default}

@@ -1,4 +1,4 @@
-use Rattle.vic_verdict.proofs.Words.{◌<◌, ◌^◌, ◌∙◌, ap, sym, arith, nat_eq, take_all, All-push, All-permutation, list_any-IsPermutation, mirror, has_key, IsNonDecreasingBy-from_sort, is_uid}
+use Rattle.vic_verdict.proofs.Words.{◌<◌, ◌^◌, ◌∙◌, ap, sym, arith, nat_eq, take_all, All-push, All-permutation, list_any-IsPermutation, mirror, has_key, IsNonDecreasingBy-from_sort}
 use Rattle.vic_verdict.proofs.KeyOrder.{key_pushed, uid_more}
 use Rattle.vic_verdict.proofs.facts.keys_in_order.Goals as goal
 

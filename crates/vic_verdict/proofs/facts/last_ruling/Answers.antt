@@ -1,6 +1,6 @@
-use Rattle.vic_verdict.proofs.Words.{◌∙◌, Some, ap, sym, arith, Entry, entries, rules_out}
+use Rattle.vic_verdict.proofs.Words.{◌∙◌, Some, ap, sym, arith, Entry, entries}
 use Rattle.vic_verdict.proofs.Lacking.{none_before}
-use Rattle.vic_verdict.proofs.Stands.{entry_at}
+use Rattle.vic_verdict.proofs.Listing.{entry_at}
 use Rattle.vic_verdict.proofs.facts.last_ruling.Goals as goal
 
 pub loop-last-preserved : goal.loop-last-preserved

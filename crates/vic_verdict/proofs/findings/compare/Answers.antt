@@ -1,4 +1,4 @@
-use Rattle.vic_verdict.proofs.Words.{ℕ, ◌++◌, is_open}
+use Rattle.vic_verdict.proofs.Words.{ℕ, ◌++◌}
 use Rattle.vic_verdict.proofs.Differing.{known_has, absent_by, unsettled_by}
 use Rattle.vic_verdict.proofs.findings.compare.Goals as goal
 

@@ -1,4 +1,4 @@
-use Rattle.vic_verdict.proofs.Words.{◌≡◌, ℕ, List, Option, sym, subst, MatchOption, ◌↔◌, slice_get, ◌∙◌, IsListOf, IsLeast, NoSuch, first_of}
+use Rattle.vic_verdict.proofs.Words.{◌≡◌, ℕ, List, Option, sym, subst, MatchOption, ◌↔◌, slice_get, ◌∙◌, IsListOf, IsLeast, NoSuch}
 use Rattle.vic_verdict.proofs.Differing.{findings_of}
 use Rattle.vic_verdict.proofs.Failing.{first_is_least, list_as}
 use Rattle.vic_verdict.proofs.judging.first_finding.Goals as goal

@@ -1,5 +1,5 @@
 use Rattle.vic_verdict.proofs.Words.{All-permutation, AreSameMentions, Closes, HasRange, List, Mention, ReadSlot, all_leave, ap, is_in_any, keep, keep_all, length, length-map, mirror, refl, subst, sym, take, take_at, ℕ, ◌++◌, ◌∙◌, ◌≡◌}
-use Rattle.vic_verdict.proofs.Sweeping.{keep-order, kept_same, settled_by}
+use Rattle.vic_verdict.proofs.Sweeping.{keep-order, kept_same, closed_by}
 use Rattle.vic_verdict.proofs.sweep.close_stretch.Goals as goal
 
 pub rule_out_all-requires-clause-ranges : goal.rule_out_all-requires-clause-ranges
@@ -25,7 +25,7 @@ returns-clause-closed c u w =
     let reads = c.sort_unstable_by_key.new.self.items in
     let are = are_kept _ old c.deref_mut.result.now c.rule_out_all.new.mentions _ c.deref-2.result.now c.deref.result.now reads c.deref_mut.ensures.value c.deref.ensures.value c.rule_out_all.ensures c.deref_mut.ensures.len c.deref-2.ensures.value in
     let closes : Closes (keep_all (all_leave reads) old) (is_in_any reads) c.args.closed.now.items c.close_reads.new.closed.items = rw (c.deref-3.ensures.value, c.reserve.ensures.items, are) at c.in_ok-close_reads.ensures in
-    settled_by old c.args.reads.now.items reads _ _ (mirror u) c.sort_unstable_by_key.ensures.permutation c.requires.gathered.left c.requires.gathered.mentioned closes
+    closed_by old c.args.reads.now.items reads _ _ (mirror u) c.sort_unstable_by_key.ensures.permutation c.requires.gathered.left c.requires.gathered.mentioned closes
 
 pub returns-clause-mentions : goal.returns-clause-mentions
 returns-clause-mentions c =

@@ -4,9 +4,9 @@ use Rattle.vic_verdict.proofs.sweep.rule_out_all.Goals as goal
 
 pub loop-read-preserved : goal.loop-read-preserved
 loop-read-preserved c = record {
-  order = c.extend_mask.ensures.order;
-  summary = c.extend_mask.ensures.summary;
-  done = masks_more c.loop-read.mask c.extend_mask.result c.args.reads.now c.loop-read.read-index (get_or c.args.reads.now c.loop-read.read-index nowhere) c.args.mentions.now c.loop-read.mentions c.extend_mask.new.mentions c.loop-read-test.true (get_or_default c.args.reads.now c.loop-read.read-index nowhere _ c.loop-read-test.true) c.loop-read.invariant.done c.extend_mask.ensures.leaves;
+  order = c.add_or_rule_out.ensures.order;
+  summary = c.add_or_rule_out.ensures.summary;
+  done = masks_more c.loop-read.mask c.add_or_rule_out.result c.args.reads.now c.loop-read.read-index (get_or c.args.reads.now c.loop-read.read-index nowhere) c.args.mentions.now c.loop-read.mentions c.add_or_rule_out.new.mentions c.loop-read-test.true (get_or_default c.args.reads.now c.loop-read.read-index nowhere _ c.loop-read-test.true) c.loop-read.invariant.done c.add_or_rule_out.ensures.leaves;
 }
 
 pub returns-in-Some : goal.returns-in-Some

@@ -1,12 +1,12 @@
-use Rattle.vic_verdict.proofs.Words.{take, All, take_all, take_more, IsUnreadSlotBy, is_open}
+use Rattle.vic_verdict.proofs.Words.{take, All, take_all, take_more, IsUnreadSlotBy}
 use Rattle.vic_verdict.proofs.UnreadSlots.{found_more, found_all, unmet_lacks}
 use Rattle.vic_verdict.proofs.unread_slots.meet_stretches.Goals as goal
 
-pub meet_each-requires-clause-order : goal.meet_each-requires-clause-order
-meet_each-requires-clause-order g c = rw (c.deref.ensures.value, c.stretch-item.is) (c.requires.mentions _ _ c.loop-stretch-test.true).order
+pub meet_stretch-requires-clause-order : goal.meet_stretch-requires-clause-order
+meet_stretch-requires-clause-order g c = rw (c.deref.ensures.value, c.stretch-item.is) (c.requires.mentions _ _ c.loop-stretch-test.true).order
 
-pub meet_each-requires-clause-keys : goal.meet_each-requires-clause-keys
-meet_each-requires-clause-keys g c = rw (c.deref.ensures.value, c.stretch-item.is) (c.requires.mentions _ _ c.loop-stretch-test.true).keys
+pub meet_stretch-requires-clause-keys : goal.meet_stretch-requires-clause-keys
+meet_stretch-requires-clause-keys g c = rw (c.deref.ensures.value, c.stretch-item.is) (c.requires.mentions _ _ c.loop-stretch-test.true).keys
 
 pub returns-in-Some : goal.returns-in-Some
 returns-in-Some g c es same kept =

@@ -1,4 +1,4 @@
-use Rattle.vic_verdict.proofs.Words.{◌≡◌, ◌^◌, ◌<◌, ℕ, refl, sym, ap, ◌∙◌, subst, is_in_block, is_between, Mention, has_where, All-map, AreKeys, is_awake, IsNonDecreasing, is_open}
+use Rattle.vic_verdict.proofs.Words.{◌≡◌, ◌^◌, ◌<◌, ℕ, refl, sym, ap, ◌∙◌, subst, is_in_block, is_between, Mention, has_where, All-map, AreKeys, is_awake, IsNonDecreasing}
 use Rattle.vic_verdict.proofs.Ready.{both_answering, keys_order, keys_part, mentioned_in}
 use Rattle.vic_verdict.proofs.answering.Known.answering.Goals as goal
 
@@ -24,7 +24,7 @@ returns g c =
     record {
       known = record { keys = known.keys; mentioned = known.mentioned; masks = c.in_ok-uids.ensures.masks ns mentioned known.masks };
       uids =
-          both_answering (g.S.OpenSet.is_open c.args.set.now) ns c.args.self.now.mentioned.items c.mentions_between-2.result.now b c.args.self.now.from c.args.at last c.in_ok-uids.uids.items c.gather_ready.new.uids.items c.requires.from c.requires.place block known.mentioned
+          both_answering (g.S.OpenSet.is_open c.args.set.now) ns c.args.self.now.mentioned.items c.mentions_between-2.result.now b c.args.self.now.from c.args.at last c.in_ok-uids.uids.items c.gather_ready.new.uids.items c.requires.from block known.mentioned
           (λ k lies. c.mentions_between-2.ensures.all (is_awake c.args.at) k lies ∙ ap (λ xs. has_where (is_awake c.args.at) xs k) c.deref-3.ensures.value)
           c.mentions_between-2.ensures.inside (c.in_ok-uids.ensures.uids ns mentioned known.masks) c.gather_ready.ensures;
     }

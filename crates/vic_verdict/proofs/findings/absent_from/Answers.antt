@@ -1,7 +1,7 @@
-use Rattle.vic_verdict.proofs.Words.{◌≡◌, ℕ, List, false, subst, IfOk-weaker, has, AreKeysOf, IsFailing, IsListOf, is_open}
+use Rattle.vic_verdict.proofs.Words.{◌≡◌, ℕ, List, false, subst, IfOk-weaker, has, AreKeysOf, IsFailing, IsListOf}
 use Rattle.vic_verdict.proofs.Differing.{neither_by}
 use Rattle.vic_verdict.proofs.KeyOrder.{outside_are}
-use Rattle.vic_verdict.proofs.findings.neither_of.Goals as goal
+use Rattle.vic_verdict.proofs.findings.absent_from.Goals as goal
 
 pub returns : goal.returns
 returns g c =

@@ -1,7 +1,7 @@
 use Rattle.vic_verdict.proofs.Words.{sym, mask_leaves}
 use Rattle.vic_verdict.proofs.Sweeping.{keep-order, keep_none, mask_next}
-use Rattle.vic_verdict.proofs.sweep.extend_mask.Goals.{in-Some+else-eq, in_default}
-use Rattle.vic_verdict.proofs.sweep.extend_mask.Goals as goal
+use Rattle.vic_verdict.proofs.sweep.add_or_rule_out.Goals.{in-Some+else-eq, in_default}
+use Rattle.vic_verdict.proofs.sweep.add_or_rule_out.Goals as goal
 
 pub returns-clause-order : goal.returns-clause-order
 returns-clause-order c = elim c.match-mask.branch [

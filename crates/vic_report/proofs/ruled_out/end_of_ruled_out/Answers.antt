@@ -1,10 +1,10 @@
 use Rattle.vic_report.proofs.Words.{get_or, ap, ◌∙◌, arith, ◌&&◌, entries, answers_at, lacks_reply_of}
 use Rattle.vic_report.proofs.RuledOut.{passed_more}
-use Rattle.vic_report.proofs.ruled_out.count_ruled_out.Goals as goal
+use Rattle.vic_report.proofs.ruled_out.end_of_ruled_out.Goals as goal
 
 pub loop-next-preserved : goal.loop-next-preserved
 loop-next-preserved c = record {
-  count = let below = c.loop-next-test.true in omega arith;
+  within = let below = c.loop-next-test.true in omega arith;
   passed = λ lines i valid k f before.
       let u = (get_or c.args.shown.now c.loop-next.next c.index-shown-next-then-shown-next.result).uid in
       let lacks = ap (λ e. lacks_reply_of e u && answers_at (entries lines) i u) c.item-entry.ensures in

@@ -1,9 +1,8 @@
-use Rattle.vic_verdict.proofs.Words.{◌∙◌, sym, length, length-map, LogLine, entries, is_open}
-use Rattle.vic_verdict.proofs.UnreadSlots.{kept_blocks, kept_in_order}
+use Rattle.vic_verdict.proofs.Words.{◌∙◌, sym, length, length-map, LogLine, entries}
 use Rattle.vic_verdict.proofs.Lacking.{lacking_lines}
 use Rattle.vic_verdict.proofs.Meeting.{heard_lacks, met_all}
-use Rattle.vic_verdict.proofs.facts.meet_all.Goals as goal
-use Rattle.vic_verdict.proofs.facts.meet_all.Goals.{then-at-unmet, else-at-unmet}
+use Rattle.vic_verdict.proofs.facts.meet_log.Goals as goal
+use Rattle.vic_verdict.proofs.facts.meet_log.Goals.{then-at-unmet, else-at-unmet}
 
 pub last_ruling-requires : goal.last_ruling-requires
 last_ruling-requires g c =
@@ -20,10 +19,10 @@ returns-then-not-branch g c =
     }
 
 pub meet_stretches-requires-clause-mentions : goal.meet_stretches-requires-clause-mentions
-meet_stretches-requires-clause-mentions g c = kept_in_order (entries c.args.lines.now) _ c.args.stretches.now c.requires.kept
+meet_stretches-requires-clause-mentions g c = λ k s below. (c.requires.kept.kept k s below).mentions
 
 pub meet_stretches-requires-clause-blocks : goal.meet_stretches-requires-clause-blocks
-meet_stretches-requires-clause-blocks g c = kept_blocks (entries c.args.lines.now) _ c.args.stretches.now c.requires.kept
+meet_stretches-requires-clause-blocks g c = λ k s below. (c.requires.kept.kept k s below).blocks
 
 pub last_ruling-at-requires : goal.last_ruling-at-requires
 last_ruling-at-requires g c =

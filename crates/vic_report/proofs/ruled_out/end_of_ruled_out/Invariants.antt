@@ -1,9 +1,9 @@
 use Rattle.vic_report.proofs.Words.{◌≡◌, ◌≤◌, ◌-◌, ℕ, List, Some, length, take, slice_get, All, LogLine, AreValid, entries, IsFieldAt, IsRuledOut}
-use Rattle.vic_report.proofs.ruled_out.count_ruled_out.Given as goal
+use Rattle.vic_report.proofs.ruled_out.end_of_ruled_out.Given as goal
 
 abbrev pub invariant-loop-next : goal.invariant-loop-next
 invariant-loop-next l = record {
-  count : l.next ≤ length l.shown;
+  within : l.next ≤ length l.shown;
   passed : (lines : List LogLine) (i : ℕ) → AreValid (entries lines) → slice_get lines i ≡ Some l.line → IsFieldAt (entries lines) i l.cursor → All (IsRuledOut lines) (take l.start l.shown) → All (IsRuledOut lines) (take l.next l.shown);
 }
 

@@ -1,0 +1,19 @@
+use Rattle.vic_report.proofs.Words.{ap, sym, subst, ◌∙◌, IsConflictAt}
+use Rattle.vic_report.proofs.Conflicts.{quiet_reply_conflict}
+use Rattle.vic_report.proofs.conflict.find_conflict.Goals.{in-Some+in_ok-numbers-in-Some, in-None+in_ok-numbers-in-None}
+use Rattle.vic_report.proofs.conflict.find_conflict.Goals as goal
+
+pub returns : goal.returns
+returns g c =
+    let lines = c.args.lines.now in
+    let line = c.in_ok-line.line in
+    record {
+      line = c.in_ok-line.ensures;
+      lines_unfit = elim c.match-silenced_by.branch [
+        | in-Some+in_ok-numbers-in-Some w ↦
+            subst (IsConflictAt lines line) (sym (ap (λ v. v.items) w.numbers-is ∙ w.in_ok-numbers-in-Some.ensures.items))
+            (quiet_reply_conflict lines line w.in-Some.field-0 w.in-Some.ensures)
+        | in-None+in_ok-numbers-in-None w ↦ subst (λ v. IsConflictAt lines line v.items) (sym w.numbers-is) w.in_ok-numbers-in-None.ensures
+      ];
+      silenced = c.silencer_of-silenced_by.ensures;
+    }
