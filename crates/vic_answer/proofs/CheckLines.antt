@@ -1,5 +1,5 @@
 -- Answers that begin with the line of `check`, and which of them with `complete `.
-use Rattle.vic_answer.proofs.Words.{◌≡◌, ℕ, List, [], ◌∷◌, ◌++◌, ap, append_assoc, append-nil, arith, refl, subst, sym, ◌∙◌, codes, decimal, Option, Some, None, MatchOption, flat_map, option_map, LogLine, Impossible, Absent, Unlisted, Unsettled, Doubtful, Complete, BeginsAsCheck, IsAnswer, IsCheckOf, IsCompleteText, answer_line, verdict_line, Status, Entry, IsReport, first_finding, verdict_of, uids_of, LogReport, ShownUid, report_begins, none_where_complete, IsPopulationBehind, IsShownByNone, Shows, Verdict, complete_whole, complete_second, Answer, Judged, Explained, get_or}
+use Rattle.vic_answer.proofs.Words.{◌≡◌, ℕ, List, [], ◌∷◌, ◌++◌, ap, append_assoc, append-nil, arith, refl, subst, sym, ◌∙◌, codes, decimal, Option, Some, None, MatchOption, flat_map, option_map, LogLine, Impossible, Absent, Unlisted, Unsettled, Doubtful, Complete, BeginsAsCheck, IsAnswer, IsCheckOf, IsCompleteText, answer_line, verdict_line, Status, Entry, IsReport, verdict_by, verdict_of, uids_of, LogReport, ShownUid, report_begins, none_where_complete, IsPopulationBehind, IsShownByNone, Shows, Verdict, complete_whole, complete_second, Answer, Judged, Explained, get_or}
 use Rattle.vic_report.specs.declared.findings.Unsettled.{Unsettled as LeftToAsk}
 use Rattle.vic_report.specs.declared.reporting.LogReport.TheVariants as report
 use Rattle.vic_answer.specs.ExplainText as explain
@@ -108,7 +108,7 @@ longer {line} ys h = record { more = h.more ++ ys; is = ap (λ zs. zs ++ ys) h.i
 
 -- of findings that aren't all empty the first line is that of the first
 findings_begin : (absent unlisted : List ShownUid) (x : Option LeftToAsk) (doubtful : List ℕ) → (absent ≡ [] → unlisted ≡ [] → x ≡ None → doubtful ≡ [] → ⊥)
-    → Begins (verdict_line (first_finding (uids_of absent) (uids_of unlisted) (option_map (λ y. y.mask) x) doubtful))
+    → Begins (verdict_line (verdict_by (uids_of absent) (uids_of unlisted) (option_map (λ y. y.mask) x) doubtful))
     (flat_map reporting.absent_text absent ++ flat_map reporting.unlisted_text unlisted ++ reporting.unsettled_text x ++ flat_map reporting.doubtful_line doubtful)
 findings_begin (s ∷ absent) unlisted x doubtful some =
     longer (flat_map reporting.doubtful_line doubtful) (longer (reporting.unsettled_text x) (longer (flat_map reporting.unlisted_text unlisted)

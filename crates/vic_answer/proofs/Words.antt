@@ -54,7 +54,7 @@ pub use Rattle.vic_verdict.specs.declared.judging.Verdict.{Verdict}
 pub use Rattle.vic_verdict.specs.declared.judging.Verdict.TheVariants.{Absent, Complete, Doubtful, Impossible, Unlisted, Unsettled}
 pub use Rattle.vic_report.proofs.AllFindings.{none_where_complete, report_begins}
 pub use Rattle.vic_report.specs.Findings.{uids_of}
-pub use Rattle.vic_report.specs.Reports.{IsReport, first_finding, verdict_of}
+pub use Rattle.vic_report.specs.Reports.{IsReport, verdict_by, verdict_of}
 pub use Rattle.vic_report.specs.declared.reporting.LogReport.{LogReport}
 pub use Rattle.vic_report.specs.declared.shown.ShownUid.{ShownUid}
 pub use Rattle.vic_reconcile.proofs.Families.{IsPossibleLog, family_of}

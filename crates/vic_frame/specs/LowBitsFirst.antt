@@ -11,7 +11,7 @@ unfoldable pub mirror_bits : ℕ → ℕ → ℕ
 mirror_bits zero n = 0
 mirror_bits (suc k) n = (n % 2) * 2 ^ k + mirror_bits k (n / 2)
 
--- a key: the position of a UID in the order
+-- a key: the number of a UID in the order
 abbrev pub IsKey : ℕ → Type 0
 IsKey k = k < 2 ^ UID_BITS
 

@@ -1,7 +1,7 @@
 //! UIDs in the order of their bits, lowest bit first.
 //!
 //! In this order the UIDs of a mask are consecutive, so a sorted set finds them as one range. A
-//! UID's key is its position in the order: its 56 low bits reversed, a number below `2^56`.
+//! UID's key is its 56 low bits reversed, a number below `2^56`: in this order the keys rise.
 
 ghost use Rattle.std.specs.Prelude.{◌≡◌, ℕ, ◌+◌, ◌-◌, ◌^◌, ◌≤◌, ◌&&◌, IfSome, nat_le};
 ghost use Rattle.vic_frame.specs.Uids.{IsUid};
@@ -58,8 +58,8 @@ pub fn uid_at(key: u64) -> Uid
     Uid::from_low_bits(turn_round(key))
 }
 
-/// The first and the last key of a mask's UIDs: a UID lies in the mask if and only if its key is
-/// between them, inclusive. For a longer mask call `without_top_byte` first.
+/// The first and the last key of the UIDs of a mask of at most 56 bits: a UID lies in the mask if
+/// and only if its key is between them, inclusive. `keys_of` answers for a mask of any length.
 pub fn key_range(mask: &Mask) -> (u64, u64)
     requires { mask.now.len ≤ UID_BITS }
     ensures first { result.0 ≡ mirror mask.now.value }

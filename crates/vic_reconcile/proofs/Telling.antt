@@ -16,7 +16,7 @@ certain_iff expected logs r u j = at (map.get nat_cmp r.certain u) (j.certain u)
 -- ---- the open UIDs
 
 abbrev pub IsOpenIn : ℕ → List LogLine → Type 0
-IsOpenIn u lines = one.IsOpenUid (entries lines) u
+IsOpenIn u lines = one.IsUndecided (entries lines) u
 
 left_in : (logs : List (List LogLine)) (sets : List (List (ℕ × ℕ))) (u : ℕ) → AllZip IsLeftBy logs sets → IsUid u → is_left sets u ≡ true → Any (IsOpenIn u) logs
 left_in logs sets u z i h = any_back IsLeftBy (IsOpenIn u) (λ s. is_open_in s u ≡ true) logs sets (λ l s by. (by u i).0) z (Any-from_list_any (λ s. is_open_in s u) sets h)

@@ -23,8 +23,8 @@ use Rattle.vic_reconcile.specs.declared.findings.Unsettled.{Unsettled}
 use Rattle.vic_reconcile.specs.Families.{FitsLogs, ArePossible, IsPossibleUid, IsCertainUid, is_somewhere}
 
 -- a UID that may be somewhere and may be nowhere
-abbrev pub IsOpenUid : List (List LogLine) → ℕ → Type 0
-IsOpenUid logs u = IsPossibleUid logs u × (IsCertainUid logs u → ⊥)
+abbrev pub IsUndecided : List (List LogLine) → ℕ → Type 0
+IsUndecided logs u = IsPossibleUid logs u × (IsCertainUid logs u → ⊥)
 
 -- an expected UID that is nowhere
 abbrev pub IsAbsent : List ℕ → List (List LogLine) → ℕ → Type 0
@@ -39,11 +39,11 @@ abbrev pub IsUnsettled : List ℕ → List (List LogLine) → BitMask → Type 0
 IsUnsettled expected logs m =
     (m.len ≤ UID_BITS) × (m.value < 2 ^ m.len)
     × ((u : ℕ) → IsUid u → lies_in m u ≡ true
-    → IsOpenUid logs u × (has expected u ≡ false))
+    → IsUndecided logs u × (has expected u ≡ false))
 
 -- an expected UID that may be somewhere and may be nowhere
 abbrev pub IsDoubtful : List ℕ → List (List LogLine) → ℕ → Type 0
-IsDoubtful expected logs u = (has expected u ≡ true) × IsOpenUid logs u
+IsDoubtful expected logs u = (has expected u ≡ true) × IsUndecided logs u
 
 -- the log with this number, from 0, is the first of which P holds
 pub record IsFirstLog (P : List LogLine → Type 0) (logs : List (List LogLine)) (n : ℕ)

@@ -16,7 +16,7 @@ use Rattle.vic_reconcile.specs.Findings.{IsFirstTold}
 -- what a log leaves open: the UIDs that are possible in it and not certain
 abbrev pub IsLeftBy : List LogLine → List (ℕ × ℕ) → Type 0
 IsLeftBy lines set =
-    (u : ℕ) → IsUid u → (is_open_in set u ≡ true) ↔ one.IsOpenUid (entries lines) u
+    (u : ℕ) → IsUid u → (is_open_in set u ≡ true) ↔ one.IsUndecided (entries lines) u
 
 -- the UID is certain in none of the logs
 abbrev pub IsCertainInNone : List (List LogLine) → ℕ → Type 0

@@ -10,7 +10,7 @@ use Rattle.vic_tree.specs.OpenSet.{SameUids}
 use Rattle.vic_tree.specs.Ranges.{is_open_in}
 use Rattle.vic_log.specs.declared.entry.LogLine.{LogLine}
 use Rattle.vic_log.specs.Order.{entries}
-use Rattle.vic_verdict.specs.Differences.{IsOpenUid}
+use Rattle.vic_verdict.specs.Differences.{IsUndecided}
 use Rattle.vic_verdict.specs.Possible.{IsPossible, IsCertainUid}
 use Rattle.vic_verdict.specs.Rising.{IsListOf}
 use Rattle.vic_verdict.specs.Verdict.{IsFirstMask, IsVerdict, NoSuch}
@@ -33,7 +33,7 @@ AreCertainIn lines us =
 -- all open masks of the UIDs that are possible in a log and not certain
 pub record AreAllOpen (lines : List LogLine) (ms : List BitMask) : Type 0 where
   pub set : ℕ → Bool
-  pub uids : (u : ℕ) → IsUid u → (set u ≡ true) ↔ IsOpenUid (entries lines) u
+  pub uids : (u : ℕ) → IsUid u → (set u ≡ true) ↔ IsUndecided (entries lines) u
   pub all : AreAll (IsOpenMask set) ms
 
 -- the same, none if it is impossible

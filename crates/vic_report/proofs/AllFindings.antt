@@ -1,5 +1,5 @@
 -- All findings of a possible log, and that the first of them is its verdict.
-use Rattle.vic_report.proofs.Words.{◌≡◌, ℕ, List, [], ◌∷◌, length, get_or, Bool, true, false, not, ◌&&◌, Option, Some, None, refl, sym, ap, ◌∙◌, ◌↔◌, MatchOption, option_map, All, and_parts, and_from, not-true, not_from_false, IsUid, has, Entry, LogLine, entries, listed, slots_of, is_open, uids_of, IsOpenUid, IsLeftOpen, MayBeMissing, IsPossible, IsPossibleUid, IsCertainUid, ShownUid, AreFindings, AreOpenMasks, IsReport, IsUnsettledWith, first_finding, left_with, verdict_of, IsListOf, IsFailing, IsAbsent, IsUnlisted, IsFirstMask, NoSuch, IsVerdict, head_least, none_of, member_at, BitMask, SameUids, has_key, without_keys, OpenMasks, Complete, AreFacts, first_mask, missing_least, missing_or_absent, none_unsettled, open_iff}
+use Rattle.vic_report.proofs.Words.{◌≡◌, ℕ, List, [], ◌∷◌, length, get_or, Bool, true, false, not, ◌&&◌, Option, Some, None, refl, sym, ap, ◌∙◌, ◌↔◌, MatchOption, option_map, All, and_parts, and_from, not-true, not_from_false, IsUid, has, Entry, LogLine, entries, listed, slots_of, is_open, uids_of, IsUndecided, IsLeftOpen, MayBeMissing, IsPossible, IsPossibleUid, IsCertainUid, ShownUid, AreFindings, AreOpenMasks, IsReport, IsUnsettledWith, verdict_by, unsettled_with, verdict_of, IsListOf, IsFailing, IsAbsent, IsUnlisted, IsFirstMask, NoSuch, IsVerdict, head_least, none_of, member_at, BitMask, SameUids, has_key, without_keys, OpenMasks, Complete, AreFacts, first_mask, missing_least, missing_or_absent, none_unsettled, open_iff}
 use Rattle.vic_report.specs.declared.findings.Unsettled.{Unsettled}
 use Rattle.vic_report.specs.declared.reporting.LogReport.{LogReport}
 use Rattle.vic_report.specs.declared.reporting.LogReport.TheVariants as report
@@ -8,7 +8,7 @@ pub all_from_has : (P : ℕ → Type 0) (us : List ℕ) → ((u : ℕ) → has u
 all_from_has P us h k d below = h (get_or us k d) (member_at us k (get_or us k d) d below refl)
 
 -- the set without the certain UIDs
-pub open_set : (es : List Entry) (set : ℕ → Bool) (certain keys : List ℕ) → AreFacts (IsPossibleUid es) (IsCertainUid es) set certain → ((u : ℕ) → IsUid u → has_key keys u ≡ has certain u) → (u : ℕ) → IsUid u → (without_keys set keys u ≡ true) ↔ IsOpenUid es u
+pub open_set : (es : List Entry) (set : ℕ → Bool) (certain keys : List ℕ) → AreFacts (IsPossibleUid es) (IsCertainUid es) set certain → ((u : ℕ) → IsUid u → has_key keys u ≡ has certain u) → (u : ℕ) → IsUid u → (without_keys set keys u ≡ true) ↔ IsUndecided es u
 open_set es set certain keys facts named u i =
     let open_ = open_iff (IsPossibleUid es) (IsCertainUid es) set certain u facts i in
     let is : without_keys set keys u ≡ (set u && not (has certain u)) = ap (λ b. set u && not b) (named u i) in (
@@ -17,7 +17,7 @@ open_set es set certain keys facts named u i =
     )
 
 -- what is left to ask for, with the open masks
-pub left_to_ask : (es : List Entry) (m : Option BitMask) (o : OpenMasks) → MatchOption m (NoSuch (IsLeftOpen es)) (IsFirstMask (IsLeftOpen es)) → AreOpenMasks es o → MatchOption (option_map (λ k. left_with k o) m) (NoSuch (IsLeftOpen es)) (IsUnsettledWith es)
+pub left_to_ask : (es : List Entry) (m : Option BitMask) (o : OpenMasks) → MatchOption m (NoSuch (IsLeftOpen es)) (IsFirstMask (IsLeftOpen es)) → AreOpenMasks es o → MatchOption (option_map (λ k. unsettled_with k o) m) (NoSuch (IsLeftOpen es)) (IsUnsettledWith es)
 left_to_ask es None o none masks = none
 left_to_ask es (Some m) o first masks = record { mask = first; open_masks = masks }
 
@@ -25,7 +25,7 @@ left_to_ask es (Some m) o first masks = record { mask = first; open_masks = mask
 
 pub first_is_verdict : (lines : List LogLine) (absent unlisted doubtful : List ℕ) (m : Option BitMask) → IsPossible (entries lines) → IsListOf (IsAbsent (entries lines)) absent → IsListOf (IsUnlisted (entries lines)) unlisted
     → MatchOption m (NoSuch (IsLeftOpen (entries lines))) (IsFirstMask (IsLeftOpen (entries lines))) → IsListOf (MayBeMissing (entries lines)) doubtful
-    → (absent ≡ [] → unlisted ≡ [] → m ≡ None → doubtful ≡ [] → ⊥) → IsVerdict lines (first_finding absent unlisted m doubtful)
+    → (absent ≡ [] → unlisted ≡ [] → m ≡ None → doubtful ≡ [] → ⊥) → IsVerdict lines (verdict_by absent unlisted m doubtful)
 first_is_verdict lines (u ∷ absent) unlisted doubtful m p a l f d some = (p, head_least (IsAbsent (entries lines)) u absent a)
 first_is_verdict lines [] (u ∷ unlisted) doubtful m p a l f d some = (p, none_of (IsAbsent (entries lines)) a, head_least (IsUnlisted (entries lines)) u unlisted l)
 first_is_verdict lines [] [] doubtful (Some m) p a l f d some =
@@ -68,7 +68,7 @@ report_begins lines (report.NotWhole f) h =
     (λ a u m d. h.2 (record { absent = no_uids f.absent.items a; unlisted = no_uids f.unlisted.items u; unsettled = no_mask f.unsettled m; doubtful = d }))
 
 -- findings of which none is there begin with a count
-count_of_none : (absent unlisted doubtful : List ℕ) (m : Option BitMask) (count : ℕ) → first_finding absent unlisted m doubtful ≡ Complete count → (absent ≡ []) × (unlisted ≡ []) × (m ≡ None) × (doubtful ≡ [])
+count_of_none : (absent unlisted doubtful : List ℕ) (m : Option BitMask) (count : ℕ) → verdict_by absent unlisted m doubtful ≡ Complete count → (absent ≡ []) × (unlisted ≡ []) × (m ≡ None) × (doubtful ≡ [])
 count_of_none [] [] [] None count h = (refl, refl, refl, refl)
 count_of_none [] [] doubtful (Some m) count h = cc
 count_of_none _ _ _ _ count h = cc

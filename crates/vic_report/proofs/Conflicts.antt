@@ -1,5 +1,5 @@
 -- Slot lines that no population fits together: all up to the first impossible line; or one reply of a UID that is Quiet there.
-use Rattle.vic_report.proofs.Words.{◌≡◌, ℕ, zero, suc, ◌<◌, ◌≤◌, ◌+◌, ◌-◌, List, [], ◌∷◌, ◌++◌, length, get_or, take, drop, Bool, true, false, cond, Some, refl, sym, ap, ◌∙◌, subst, arith, ⊎_elim, slice_get, nat_le, leb, None, Option, Result, Ok, Err, MatchOption, MatchResult, is_err, option_map, filter, cases_Bool, leb-true, leb-false, map-append, take-append-drop, All-get_or, filter_passes, slice_get-map, slice_get_within, get_or_from_slice_get, Reply, has, Entry, Sent, Heard, Listed, FieldCycle, LogLine, entries, IsRisingFrom, Outcome, outcome_at, Fits, CouldHaveGiven, is_quiet, is_slot, FitsLines, IsConflictAt, IsNoQuietReply, IsSilencedBefore, IsSilencedBy, IsSlotLine, IsPossible, IsContradictedAt, entries_to, IsVerdict, place_of, member_at, IsStrictlyIncreasing, agree_upto, outcome_agrees, CouldHaveGiven-front, slice_get-append, Impossible, IsPossible-front, rising_order, cases_eq, true_from_ne_false, get_or_default, slice_get_read, cases_lt, inl, inr, IsNonDecreasingBy, IsPartitionPoint, All, AllPairs, AllPairs-filter, Equal, Greater, HoldsAt, Less, Lone, and_from, and_parts, answers_at, cond_both, false≢true, get_or-map, has_cases, has_here, has_there, le-leb, length-map, map, nat_cmp, nat_tests, not-true, ordering_index, outcome_of, ranked, silenced-quiet, silences, slot_numbers_to, ◌&&◌}
+use Rattle.vic_report.proofs.Words.{◌≡◌, ℕ, zero, suc, ◌<◌, ◌≤◌, ◌+◌, ◌-◌, List, [], ◌∷◌, ◌++◌, length, get_or, take, drop, Bool, true, false, cond, Some, refl, sym, ap, ◌∙◌, subst, arith, ⊎_elim, slice_get, nat_le, leb, None, Option, Result, Ok, Err, MatchOption, MatchResult, is_err, option_map, filter, cases_Bool, leb-true, leb-false, map-append, take-append-drop, All-get_or, filter_passes, slice_get-map, slice_get_within, get_or_from_slice_get, Reply, has, Entry, Sent, Heard, Listed, FieldCycle, LogLine, entries, IsRisingFrom, Outcome, outcome_at, Fits, CouldHaveGiven, is_quiet, is_slot, FitsLines, IsConflictAt, IsNoQuietReply, IsSilencedBefore, IsSilencedBy, IsSlotLine, IsPossible, IsContradictedAt, entries_to, IsVerdict, place_of, member_at, IsStrictlyIncreasing, agree_upto, outcome_agrees, CouldHaveGiven-front, slice_get-append, Impossible, IsPossible-front, rising_order, cases_eq, true_from_ne_false, get_or_default, slice_get_read, cases_lt, inl, inr, IsNonDecreasingBy, IsPartitionPoint, All, AllPairs, AllPairs-filter, Equal, Greater, HoldsAt, Less, Lone, and_from, and_parts, answers_at, cond_both, false≢true, get_or-map, has_cases, has_here, has_there, le-leb, length-map, map, nat_cmp, nat_tests, not-true, ordering_index, outcome_of, ranked, silenced-quiet, silences, AreSlotLinesTo, ◌&&◌}
 
 -- ---- the lines 1 to n
 
@@ -65,11 +65,11 @@ fits_if_slot FieldCycle o h = tt
 fits_if_slot _ o h = h refl
 
 -- the numbers have all slot lines up to line n
-abbrev pub HaveSlotsTo : List LogLine → ℕ → List ℕ → Type 0
+abbrev HaveSlotsTo : List LogLine → ℕ → List ℕ → Type 0
 HaveSlotsTo lines n numbers =
     (k : ℕ) (x : LogLine) → slice_get lines k ≡ Some x → x.number ≤ n → is_slot x.item ≡ true → has numbers x.number ≡ true
 
-pub given_to : (lines : List LogLine) (n : ℕ) (numbers p : List ℕ) → IsRisingFrom 0 lines → HaveSlotsTo lines n numbers → FitsLines lines numbers p → CouldHaveGiven p (entries_to n lines)
+given_to : (lines : List LogLine) (n : ℕ) (numbers p : List ℕ) → IsRisingFrom 0 lines → HaveSlotsTo lines n numbers → FitsLines lines numbers p → CouldHaveGiven p (entries_to n lines)
 given_to lines n numbers p r all fits i e k =
     let front = lines_to n lines in
     let rest = lines_front n 0 lines r in
@@ -115,11 +115,14 @@ numbers_rise k (x ∷ lines) r zero (suc j) d lt below =
     number_above j x.number lines (get_or lines j d) r.1 (slice_get_read lines (length lines) j (get_or lines j d) refl within (get_or_default lines j d (get_or lines j d) within))
 numbers_rise k (x ∷ lines) r (suc i) (suc j) d lt below = numbers_rise x.number lines r.1 i j d (omega arith) (omega arith)
 
-abbrev is_slot_to : ℕ → LogLine → Bool
+abbrev pub is_slot_to : ℕ → LogLine → Bool
 is_slot_to n l = nat_le l.number n && is_slot l.item
 
 abbrev slots_to : ℕ → List LogLine → List LogLine
 slots_to n lines = filter (is_slot_to n) lines
+
+abbrev slot_numbers_to : ℕ → List LogLine → List ℕ
+slot_numbers_to n lines = map (λ l. l.number) (slots_to n lines)
 
 slots_rise : (n : ℕ) (lines : List LogLine) → IsRisingFrom 0 lines → IsStrictlyIncreasing (slot_numbers_to n lines)
 slots_rise n lines r k within =
@@ -160,16 +163,25 @@ slots_all n (y ∷ lines) (suc k) x g small slot =
     cond_both (is_slot_to n y) (y ∷ rest) rest (λ (ls : List LogLine). has (map (λ (l : LogLine). l.number) ls) x.number ≡ true)
     (λ yes. has_there x.number y.number (slot_numbers_to n lines) later) (λ no. later)
 
+pub slots_to_line : (n : ℕ) (lines : List LogLine) → IsRisingFrom 0 lines → AreSlotLinesTo lines n (slot_numbers_to n lines)
+slots_to_line n lines r = record {
+  rising = slots_rise n lines r;
+  members = λ m. (
+    slots_among n m lines,
+    λ w. let all = slots_all n lines w.1.place w.1.line w.1.there (omega (arith, w.0, w.1.number)) w.1.slot in subst (λ k. has (slot_numbers_to n lines) k ≡ true) w.1.number all,
+  );
+}
+
 -- all of them are a conflict, if n is the first impossible line
-pub slots_conflict : (lines : List LogLine) (n : ℕ) → IsRisingFrom 0 lines → IsVerdict lines (Impossible n) → IsConflictAt lines n (slot_numbers_to n lines)
-slots_conflict lines n r least =
-    let numbers = slot_numbers_to n lines in
+pub slots_conflict : (lines : List LogLine) (n : ℕ) (numbers : List ℕ) → IsRisingFrom 0 lines → IsVerdict lines (Impossible n) → AreSlotLinesTo lines n numbers → IsConflictAt lines n numbers
+slots_conflict lines n numbers r least slots =
+    let all : HaveSlotsTo lines n numbers = λ k x there small slot. (slots.members x.number).1 (small, record { place = k; line = x; there = there; number = refl; slot = slot }) in
     record {
-      rising = slots_rise n lines r;
-      ends = last_is_slot lines n numbers r least (λ m h. (slots_among n m lines h).0) (slots_all n lines);
-      upto = λ m h. (slots_among n m lines h).0;
-      slots = λ m h. (slots_among n m lines h).1;
-      unfit = λ p population fits. least.0 (p, population, given_to lines n numbers p r (slots_all n lines) fits);
+      rising = slots.rising;
+      ends = last_is_slot lines n numbers r least (λ m h. ((slots.members m).0 h).0) all;
+      upto = λ m h. ((slots.members m).0 h).0;
+      slots = λ m h. ((slots.members m).0 h).1;
+      unfit = λ p population fits. least.0 (p, population, given_to lines n numbers p r all fits);
     }
 
 -- ---- rising numbers that end with one, whose lines no population fits

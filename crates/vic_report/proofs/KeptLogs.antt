@@ -1,5 +1,5 @@
 -- Entries of which some slots are kept, each behind a request of its own: the same tags are Quiet, and a population that fits the kept slots could have produced them.
-use Rattle.vic_report.proofs.Words.{◌≡◌, ℕ, suc, ◌+◌, ◌-◌, List, [], ◌∷◌, ◌++◌, length, Bool, true, false, not, ◌&&◌, ◌||◌, Option, Some, sym, ap, ◌∙◌, subst, arith, length-append, add-one, refl, slice_get, if◌then◌else◌, None, Result, Ok, Err, OnOk, filter_agree, Entry, Sent, Listed, FieldCycle, LogLine, is_slot, mask_at, mask_of_slot, mask_since, ends_round, opener, slots_left, is_quiet, silences, wakes, Outcome, answers_at, outcome_of, outcome_at, Fits, CouldHaveGiven, AreValid, entries, listed, refusal, AreNumbered, SameQuiet, HasSlotAdded, KeepsLine, BitMask, Inventory, IsValidEntry, quiet_agrees, agree_upto, slice_get_last, CouldHaveGiven-push, IsInOrder-push, entries-push, last_from-push, listed-append, rising-push, slots_left-push, valid-push}
+use Rattle.vic_report.proofs.Words.{◌≡◌, ℕ, suc, ◌+◌, ◌-◌, List, [], ◌∷◌, ◌++◌, length, Bool, true, false, not, ◌&&◌, ◌||◌, Option, Some, sym, ap, ◌∙◌, subst, arith, length-append, add-one, refl, slice_get, if◌then◌else◌, None, Result, Ok, Err, OnOk, filter_agree, Entry, Sent, Listed, FieldCycle, LogLine, is_slot, mask_at, mask_of_slot, mask_since, ends_round, opener, slots_left, is_quiet, silences, wakes, Outcome, answers_at, outcome_of, outcome_at, Fits, CouldHaveGiven, AreValid, entries, listed, refusal, IsKeptLog, SameQuiet, KeepsLine, BitMask, Inventory, IsValidEntry, quiet_agrees, agree_upto, slice_get_last, CouldHaveGiven-push, IsInOrder-push, entries-push, last_from-push, listed-append, rising-push, slots_left-push, valid-push}
 
 -- who is Quiet after an entry
 abbrev pub quiet_after : Option Entry → Bool → ℕ → Bool
@@ -33,6 +33,10 @@ mask_opened es m =
 
 same_quiet_opened : (kept es : List Entry) (i : ℕ) (m : BitMask) → SameQuiet kept es i → SameQuiet (kept ++ Sent (Inventory 2 false m) ∷ []) es i
 same_quiet_opened kept es i m same u = quiet_pushed kept (Sent (Inventory 2 false m)) u ∙ same u
+
+-- two more entries: a request of one slot with this mask, and what was found in its slot
+abbrev pub HasSlotAdded : List Entry → BitMask → Entry → List Entry → Type 0
+HasSlotAdded old m e new = new ≡ (old ++ Sent (Inventory 2 false m) ∷ []) ++ e ∷ []
 
 pub same_quiet_slot : (old new es : List Entry) (i : ℕ) (m : BitMask) (e : Entry) → slice_get es i ≡ Some e → HasSlotAdded old m e new → SameQuiet old es i → SameQuiet new es (i + 1)
 same_quiet_slot old new es i m e k added same =
@@ -88,7 +92,7 @@ slot_follows es m (Listed u) slot = cc
 slot_follows es m FieldCycle slot = cc
 slot_follows es m _ slot = rw (slot_left es m) refl
 
-pub numbered_more : (lines : List LogLine) (l : LogLine) → AreNumbered lines → l.number ≡ length lines + 1 → IsValidEntry l.item → listed (l.item ∷ []) ≡ [] → refusal (entries lines) l.item ≡ None → AreNumbered (lines ++ l ∷ [])
+pub numbered_more : (lines : List LogLine) (l : LogLine) → IsKeptLog lines → l.number ≡ length lines + 1 → IsValidEntry l.item → listed (l.item ∷ []) ≡ [] → refusal (entries lines) l.item ≡ None → IsKeptLog (lines ++ l ∷ [])
 numbered_more lines l a number valid lists follows =
     let es = entries-push lines l in
     let last = a.last in
@@ -106,7 +110,7 @@ pub valid_entry : (es : List Entry) (i : ℕ) (e : Entry) → AreValid es → sl
 valid_entry es i (Sent q) valid k = valid i q k
 valid_entry es i _ valid k = tt
 
-pub none_numbered : AreNumbered []
+pub none_numbered : IsKeptLog []
 none_numbered = record {
   log = record {
     order = record { rounds = λ i e k s. cc; requests_first = λ i j u q below k. cc; cycles_first = λ i j u below k. cc; once = λ i j u w below k. cc };

@@ -45,7 +45,7 @@ pub use Rattle.vic_verdict.proofs.Possibility.{IsPossible-front}
 pub use Rattle.vic_verdict.proofs.Listing.{entry_at}
 pub use Rattle.vic_verdict.proofs.Verdicts.{first_lines}
 pub use Rattle.vic_verdict.specs.Needs.{IsFound}
-pub use Rattle.vic_verdict.specs.Differences.{IsLeftOpen, IsOpenUid, MayBeMissing}
+pub use Rattle.vic_verdict.specs.Differences.{IsLeftOpen, IsUndecided, MayBeMissing}
 pub use Rattle.vic_verdict.specs.Places.{answering}
 pub use Rattle.vic_verdict.specs.Possible.{IsCertainUid, IsContradictedAt, IsPossible, IsPossibleUid}
 pub use Rattle.vic_verdict.specs.Rising.{IsFailing, IsListOf}
@@ -54,8 +54,8 @@ pub use Rattle.vic_verdict.specs.declared.unread_slots.Found.{Found}
 pub use Rattle.vic_verdict.specs.declared.judging.Verdict.TheVariants.{Complete, Impossible}
 pub use Rattle.vic_report.specs.Conflicts.{FitsLines, IsConflictAt, IsNoQuietReply, IsSilencedBefore, IsSilencedBy, IsSlotLine}
 pub use Rattle.vic_report.specs.Findings.{IsRuledOut, IsToldOf, MayAnswer, RulesOut, ShowsCertain, TellsOf, lacks_reply_of, uids_of}
-pub use Rattle.vic_report.specs.Reports.{AreFindings, AreOpenMasks, IsReport, IsUnsettledWith, first_finding, left_with, verdict_of}
+pub use Rattle.vic_report.specs.Reports.{AreFindings, AreOpenMasks, IsReport, IsUnsettledWith, verdict_by, unsettled_with, verdict_of}
 pub use Rattle.vic_report.specs.declared.shown.ShownUid.{ShownUid}
-pub use Rattle.vic_report.specs.inner.FieldCursors.{IsFieldAt}
-pub use Rattle.vic_report.specs.inner.KeptLogs.{AreNumbered, HasSlotAdded, KeepsLine, SameQuiet}
-pub use Rattle.vic_report.specs.inner.SlotLines.{slot_numbers_to}
+pub use Rattle.vic_report.specs.inner.FieldCursors.{IsFieldCursorAt}
+pub use Rattle.vic_report.specs.inner.KeptLogs.{IsKeptLog, KeepsLine, SameQuiet}
+pub use Rattle.vic_report.specs.inner.SlotLines.{AreSlotLinesTo}

@@ -1,5 +1,4 @@
--- Why a log became impossible (profile): some of its slot lines contradict each other, since no
--- population fits them all.
+-- Why a log became impossible (profile): no population fits all of some slot lines.
 use Rattle.std.specs.Prelude.{◌≡◌, ◌≢◌, ℕ, ◌<◌, ◌≤◌, true, false, Some, List, slice_get, MatchOption}
 use Rattle.std.specs.List.Sorted.{IsStrictlyIncreasing}
 use Rattle.vic_frame.specs.Uids.{has}
@@ -14,7 +13,8 @@ use Rattle.vic_report.specs.declared.conflict.Conflict.{Conflict}
 use Rattle.vic_verdict.specs.declared.judging.Verdict.TheVariants.{Impossible}
 use Rattle.vic_verdict.specs.Verdict.{IsVerdict}
 
--- the population fits the lines with these numbers: each that is a slot line is its outcome there
+-- the population fits the lines with these numbers: each of them that is a slot line fits the
+-- outcome that the population has there
 abbrev pub FitsLines : List LogLine → List ℕ → List ℕ → Type 0
 FitsLines lines numbers p =
     (i : ℕ) (l : LogLine) → slice_get lines i ≡ Some l → has numbers l.number ≡ true
@@ -36,8 +36,8 @@ pub record IsConflictAt (lines : List LogLine) (n : ℕ) (numbers : List ℕ) : 
   pub slots : (m : ℕ) → has numbers m ≡ true → IsSlotLine lines m
   pub unfit : (p : List ℕ) → IsPopulation p → FitsLines lines numbers p → ⊥
 
--- the line with this number is the last Stay Quiet with the UID before position i, with no field
--- cycle in between
+-- the UID is Quiet at position i by the line with number n: the last Stay Quiet with the UID before
+-- i, with no field cycle in between
 pub record IsSilencedBefore (lines : List LogLine) (i u n : ℕ) : Type 0 where
   pub place : ℕ
   pub before : place < i
@@ -61,8 +61,8 @@ IsNoQuietReply lines n =
     (i : ℕ) (r : Reply) → slice_get lines i ≡ Some (record { number = n; item = Heard r })
     → is_quiet (entries lines) i r.uid ≡ false
 
--- the first impossible line, lines that contradict each other, and, if and only if that first line
--- is a reply of a tag that was Quiet there, the line that silenced the tag
+-- the first impossible line, slot lines up to it that no population fits, and, if and only if that
+-- first line is a reply of a tag that was Quiet there, the line that silenced the tag
 pub record IsConflict (lines : List LogLine) (c : Conflict) : Type 0 where
   pub line : IsVerdict lines (Impossible c.line)
   pub lines_unfit : IsConflictAt lines c.line c.lines.items

@@ -1,4 +1,4 @@
--- What a report on a log is (profile): its findings, or lines that contradict each other.
+-- What a report on a log is (profile): its findings, or slot lines that no population fits.
 use Rattle.std.specs.Prelude.{◌≡◌, ◌↔◌, ℕ, Bool, true, [], ◌∷◌, None, Some, Option, List, MatchOption}
 use Rattle.std.specs.Option.{option_map}
 use Rattle.std.specs.List.{All, Contains}
@@ -19,28 +19,31 @@ use Rattle.vic_verdict.specs.declared.judging.Verdict.TheVariants as verdict
 use Rattle.vic_report.specs.Conflicts.{IsConflict}
 use Rattle.vic_report.specs.Findings.{IsRuledOut, IsToldOf, uids_of}
 use Rattle.vic_verdict.specs.Possible.{IsPossible}
-use Rattle.vic_verdict.specs.Differences.{IsOpenUid, IsLeftOpen, MayBeMissing}
+use Rattle.vic_verdict.specs.Differences.{IsUndecided, IsLeftOpen, MayBeMissing}
 use Rattle.vic_verdict.specs.Rising.{IsListOf}
 use Rattle.vic_verdict.specs.Verdict.{IsAbsent, IsUnlisted, IsFirstMask, IsVerdict, NoSuch}
 
--- the first open masks of the UIDs that may be there and may be missing, and whether there are more
+-- the first open masks of the UIDs, listed or not, that may be there or not, and whether there are
+-- more
 pub record AreOpenMasks (es : List Entry) (o : OpenMasks) : Type 0 where
   pub set : ℕ → Bool
-  pub uids : (u : ℕ) → IsUid u → (set u ≡ true) ↔ IsOpenUid es u
+  pub uids : (u : ℕ) → IsUid u → (set u ≡ true) ↔ IsUndecided es u
   pub first : AreFirst MAX_OPEN_MASKS (IsOpenMask set) o.masks.items
   pub more : (o.more ≡ true)
       ↔ ((m : BitMask) × IsOpenMask set m × (Contains o.masks.items m → ⊥))
 
 -- a mask, and the open masks
-abbrev pub left_with : BitMask → OpenMasks → Unsettled
-left_with m o = record { mask = m; «open» = o }
+abbrev pub unsettled_with : BitMask → OpenMasks → Unsettled
+unsettled_with m o = record { mask = m; «open» = o }
 
 -- what is left to ask for
 pub record IsUnsettledWith (es : List Entry) (x : Unsettled) : Type 0 where
   pub mask : IsFirstMask (IsLeftOpen es) x.mask
   pub open_masks : AreOpenMasks es x.open
 
--- the findings of the lines of a possible log
+-- the findings of the lines of a possible log; they come side by side, so `IsLeftOpen` leaves out
+-- the UIDs that are certain, and `MayBeMissing` those that are absent; `IsUnsettled` and
+-- `IsDoubtful` don't, since these verdicts come only if no UID is absent or unlisted
 pub record AreFindings (lines : List LogLine) (f : Findings) : Type 0 where
   pub absent : IsListOf (IsAbsent (entries lines)) (uids_of f.absent.items)
   pub absent_shown : All (IsRuledOut lines) f.absent.items
@@ -65,20 +68,21 @@ IsReport lines (NotWhole f) =
 IsReport lines (Complete count) = IsVerdict lines (verdict.Complete count)
 
 -- the first of some findings, which is the verdict; `Complete 0` if there is none
-abbrev pub first_finding : List ℕ → List ℕ → Option BitMask → List ℕ → Verdict
-first_finding (u ∷ absent) unlisted unsettled doubtful = verdict.Absent u
-first_finding [] (u ∷ unlisted) unsettled doubtful = verdict.Unlisted u
-first_finding [] [] (Some m) doubtful = verdict.Unsettled m
-first_finding [] [] None (u ∷ doubtful) = verdict.Doubtful u
-first_finding [] [] None [] = verdict.Complete 0
+abbrev pub verdict_by : List ℕ → List ℕ → Option BitMask → List ℕ → Verdict
+verdict_by (u ∷ absent) unlisted unsettled doubtful = verdict.Absent u
+verdict_by [] (u ∷ unlisted) unsettled doubtful = verdict.Unlisted u
+verdict_by [] [] (Some m) doubtful = verdict.Unsettled m
+verdict_by [] [] None (u ∷ doubtful) = verdict.Doubtful u
+verdict_by [] [] None [] = verdict.Complete 0
 
-abbrev pub first_of : Findings → Verdict
-first_of f =
-    first_finding (uids_of f.absent.items) (uids_of f.unlisted.items)
+-- the first of the findings, as a verdict
+abbrev pub first_verdict : Findings → Verdict
+first_verdict f =
+    verdict_by (uids_of f.absent.items) (uids_of f.unlisted.items)
     (option_map (λ x. x.mask) f.unsettled) f.doubtful.items
 
 -- the verdict that a report begins with
 abbrev pub verdict_of : LogReport → Verdict
 verdict_of (Impossible c) = verdict.Impossible c.line
-verdict_of (NotWhole f) = first_of f
+verdict_of (NotWhole f) = first_verdict f
 verdict_of (Complete count) = verdict.Complete count

@@ -23,6 +23,7 @@ use vic_log::{Entry, PackedLine};
 use vic_verdict::{Found, Met};
 
 /// For each of some UIDs that are certain by a possible log, a line that shows that it is there.
+/// If they come in rising order, one walk finds all of them.
 pub fn lines_of_certain(
     alloc: Global,
     lines: &[PackedLine],
@@ -80,8 +81,8 @@ fn push_reply(shown: &mut Vec<ShownUid>, line: &PackedLine) -> Result<(), AllocE
     Ok(())
 }
 
-/// The UIDs that answered in unread slots, with the lines of these, where no further UIDs could
-/// have met the slot: by UID, those of one UID by line.
+/// The UIDs of the unread slots in which no more open UIDs answer than have to be there, with the
+/// lines of these slots: by UID, those of one UID by line.
 fn shown_by_unread(
     alloc: Global,
     lines: &[PackedLine],
@@ -92,43 +93,43 @@ fn shown_by_unread(
     ensures { IfOk result (λ v. All (IsToldOf lines.now) v.items) }
 {
     let mut shown = Vec::new(alloc);
-    for one in found {
-        push_exact(&mut shown, lines, one)?;
+    for slot in found {
+        push_exact(&mut shown, lines, slot)?;
     }
     shown.sort_unstable_by_key(|one| (one.uid, one.line));
     Ok(shown)
 }
 
-/// Adds the UIDs of a slot, if no other UIDs could have met it.
+/// Adds the UIDs that answer in a slot, if no more do than have to be there.
 fn push_exact(
     shown: &mut Vec<ShownUid>,
     lines: &[PackedLine],
-    one: &Found,
+    slot: &Found,
 ) -> Result<(), AllocError>
     requires possible { IsPossible (entries lines.now) }
-    requires found { IsFound (entries lines.now) one.now }
+    requires found { IsFound (entries lines.now) slot.now }
     ensures { OnOk result (All (IsToldOf lines.now) shown.old.items
         → All (IsToldOf lines.now) shown.new.items) }
 {
-    let Some(line) = exact_line(lines, one) else {
+    let Some(line) = exact_line(lines, slot) else {
         return Ok(());
     };
-    push_uids(shown, &one.uids, line)
+    push_uids(shown, &slot.uids, line)
 }
 
-/// The line of a slot, if no UIDs but those found could have met it: it shows that each of them is
-/// there.
-fn exact_line(lines: &[PackedLine], one: &Found) -> Option<u32>
+/// The line of a slot in which no more open UIDs answer than have to be there: it shows that each
+/// of them is there. None if more answer.
+fn exact_line(lines: &[PackedLine], slot: &Found) -> Option<u32>
     requires possible { IsPossible (entries lines.now) }
-    requires found { IsFound (entries lines.now) one.now }
-    ensures shows { IfSome result (λ n. (u : ℕ) → has one.now.uids.items u ≡ true
+    requires found { IsFound (entries lines.now) slot.now }
+    ensures shows { IfSome result (λ n. (u : ℕ) → has slot.now.uids.items u ≡ true
         → ShowsCertain lines.now n u) }
-    ensures exact { IfNone result (length one.now.uids.items ≡ one.now.need → ⊥) }
+    ensures exact { IfNone result (length slot.now.uids.items ≡ slot.now.need → ⊥) }
 {
-    if one.uids.len() != one.need {
+    if slot.uids.len() != slot.need {
         return None;
     }
-    let Some(line) = lines.get(one.at) else {
+    let Some(line) = lines.get(slot.at) else {
         unreachable!()
     };
     Some(line.number())
@@ -146,7 +147,9 @@ fn push_uids(shown: &mut Vec<ShownUid>, uids: &[Uid], line: u32) -> Result<(), A
     Ok(())
 }
 
-/// The first index, from `start` on, of a UID that isn't below `uid`.
+/// The first index, from `start` on, of a UID that isn't below `uid`; the end if there is none. It
+/// has no contract: with another index a later line would be shown, or the line be searched for,
+/// since `line_at` compares the UIDs.
 fn first_from(shown: &[ShownUid], start: usize, uid: Uid) -> usize {
     let mut index = start;
     while index < shown.len() && shown[index].uid < uid {
@@ -155,8 +158,8 @@ fn first_from(shown: &[ShownUid], start: usize, uid: Uid) -> usize {
     index
 }
 
-/// The line of a UID at an index among replies, or otherwise at one among unread slots, if it is
-/// there.
+/// The line at `next_reply` among the replies if it is that of the UID, otherwise the one at
+/// `next_unread` among the unread slots if it is.
 fn line_among(
     replies: &[ShownUid],
     next_reply: usize,
@@ -182,16 +185,16 @@ fn line_at(shown: &[ShownUid], index: usize, uid: Uid) -> Option<u32>
     if one.uid == uid { Some(one.line) } else { None }
 }
 
-/// A line that shows that a UID, which is certain by a possible log, is there: the one that was
-/// found, or one that is searched for.
-fn line_of(lines: &[PackedLine], met: &Met, uid: Uid, found: Option<u32>) -> u32
+/// A line that shows that a UID, which is certain by a possible log, is there: the known one, or
+/// one that is searched for.
+fn line_of(lines: &[PackedLine], met: &Met, uid: Uid, known: Option<u32>) -> u32
     requires possible { IsPossible (entries lines.now) }
     requires met { IsMet (entries lines.now) met.now }
     requires forced { IsMetFor met.now uid }
-    requires found { IfSome found (λ n. ShowsCertain lines.now n uid) }
+    requires known { IfSome known (λ n. ShowsCertain lines.now n uid) }
     ensures { ShowsCertain lines.now result uid }
 {
-    match found {
+    match known {
         Some(line) => line,
         None => search_line(lines, met, uid),
     }
@@ -204,17 +207,17 @@ fn search_line(lines: &[PackedLine], met: &Met, uid: Uid) -> u32
     requires forced { IsMetFor met.now uid }
     ensures { ShowsCertain lines.now result uid }
 {
-    if let Some(line) = reply_of(lines, uid) {
+    if let Some(line) = reply_line_of(lines, uid) {
         return line;
     }
-    let Some(line) = unread_of(lines, &met.found, uid) else {
+    let Some(line) = unread_line_of(lines, &met.found, uid) else {
         unreachable!()
     };
     line
 }
 
-/// The first line that is a reply of a UID.
-fn reply_of(lines: &[PackedLine], uid: Uid) -> Option<u32>
+/// The number of the first line that is a reply of a UID.
+fn reply_line_of(lines: &[PackedLine], uid: Uid) -> Option<u32>
     ensures shows { IfSome result (λ n. ShowsCertain lines.now n uid) }
     ensures heard { IfNone result (IsHeard (entries lines.now) uid → ⊥) }
 {
@@ -244,16 +247,16 @@ fn is_reply_of(line: &PackedLine, uid: Uid) -> bool
     }
 }
 
-/// The line of a slot that a UID meets and that no other UIDs could have met.
-fn unread_of(lines: &[PackedLine], found: &[Found], uid: Uid) -> Option<u32>
+/// The line of a slot in which a UID answers, and no more open UIDs than have to be there.
+fn unread_line_of(lines: &[PackedLine], found: &[Found], uid: Uid) -> Option<u32>
     requires possible { IsPossible (entries lines.now) }
     requires found { All (IsFound (entries lines.now)) found.now }
     ensures shows { IfSome result (λ n. ShowsCertain lines.now n uid) }
     ensures exact { IfNone result (IsExactFor found.now uid → ⊥) }
 {
-    for one in found {
-        if one.uids.contains(&uid) {
-            if let Some(line) = exact_line(lines, one) {
+    for slot in found {
+        if slot.uids.contains(&uid) {
+            if let Some(line) = exact_line(lines, slot) {
                 return Some(line);
             }
         }

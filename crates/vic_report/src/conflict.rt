@@ -1,40 +1,43 @@
-//! Why a log became impossible: slot lines that contradict each other.
+//! Why a log became impossible: slot lines that no population fits.
 
 ghost use Rattle.std.specs.Prelude.{◌≡◌, ℕ, ◌≤◌, IfOk, length, true};
 ghost use Rattle.std.specs.List.Sorted.{IsStrictlyIncreasing};
 ghost use Rattle.vic_frame.specs.Uids.{has};
 ghost use Rattle.vic_log.specs.Order.{entries};
 ghost use Rattle.vic_report.specs.Conflicts.{IsConflict, IsConflictAt, IsSlotLine};
-ghost use Rattle.vic_report.specs.inner.SlotLines.{slot_numbers_to};
+ghost use Rattle.vic_report.specs.inner.SlotLines.{AreSlotLinesTo};
 ghost use Rattle.vic_verdict.specs.LogLines.{AreLogLines};
 ghost use Rattle.vic_verdict.specs.Possible.{IsContradiction};
 ghost use Rattle.vic_verdict.specs.Verdict.{IsVerdict};
 ghost use Rattle.vic_verdict.specs.declared.judging.Verdict.TheVariants.{Impossible};
 
 use crate::kept_log::kept_lines;
-use crate::silencer::silencer_of;
+use crate::silencer::silencer_of_line;
 use std::alloc::{AllocError, Global};
 use vic_guess::guess_conflict;
 use vic_log::{MAX_LINES, PackedLine};
-use vic_tree::OpenSet;
+use vic_tree::RangeSet;
 use vic_verdict::{Contradiction, first_impossible_line, open_and_met};
 
-/// The first line up to which no population could have produced a log, and lines up to it that
-/// contradict each other.
+/// The first line up to which no population could have produced a log, and slot lines up to it that
+/// no population fits.
 #[derive(Drop)]
 pub struct Conflict {
     /// The number of that first line.
     pub line: u32,
-    /// The numbers of the lines that contradict each other, in rising order; `line` is the last.
-    /// That none of them can be left out is only tested.
+    /// The numbers of slot lines that no population fits together, in rising order; `line` is the
+    /// last. It is alone if no population fits it, as none fits a reply of a Quiet tag. Each line
+    /// counts with its mask and with the tags that are Quiet there. That none can be left out is
+    /// only tested.
     pub lines: Vec<u32>,
     /// If `line` is a reply of a tag that is Quiet there, the number of the last Stay Quiet that
     /// silenced it.
     pub silenced_by: Option<u32>,
 }
 
-/// The conflict of a log that is impossible, by a contradiction.
-pub(crate) fn find_conflict<S: OpenSet>(
+/// The conflict of an impossible log; `contradiction` is a position up to which it is impossible,
+/// perhaps not the first.
+pub(crate) fn find_conflict(
     alloc: Global,
     lines: &[PackedLine],
     contradiction: Contradiction,
@@ -44,12 +47,12 @@ pub(crate) fn find_conflict<S: OpenSet>(
     requires impossible { IsContradiction (entries lines.now) contradiction }
     ensures { IfOk result (IsConflict lines.now) }
 {
-    let line = first_impossible_line::<S>(alloc, lines, contradiction)?;
-    let silenced_by = silencer_of(lines, line);
+    let line = first_impossible_line::<RangeSet>(alloc, lines, contradiction)?;
+    let silenced_by = silencer_of_line(lines, line);
     let numbers = match silenced_by {
-        // no population fits a reply of a Quiet tag, so it needs no other line
+        // no population fits a reply of a Quiet tag: that line alone is the conflict
         Some(_) => vec![in alloc; line]?,
-        None => lines_of_conflict::<S>(alloc, lines, line)?,
+        None => numbers_of_conflict(alloc, lines, line)?,
     };
     Ok(Conflict {
         line,
@@ -58,9 +61,9 @@ pub(crate) fn find_conflict<S: OpenSet>(
     })
 }
 
-/// Lines of a conflict, `last` being the first impossible line: the guess if it is one, otherwise
-/// all slot lines up to `last`.
-fn lines_of_conflict<S: OpenSet>(
+/// The numbers of the lines of a conflict, `last` being that of the first impossible line: the
+/// guess if it is one, otherwise those of all slot lines up to that line.
+fn numbers_of_conflict(
     alloc: Global,
     lines: &[PackedLine],
     last: u32,
@@ -72,10 +75,10 @@ fn lines_of_conflict<S: OpenSet>(
 {
     let mut guess = guess_conflict(alloc, lines, last)?;
     put_numbers_in_order(&mut guess);
-    if is_conflict::<S>(alloc, lines, &guess, last)? {
+    if is_conflict_at(alloc, lines, &guess, last)? {
         return Ok(guess);
     }
-    slot_lines_to(alloc, lines, last)
+    slot_numbers_to(alloc, lines, last)
 }
 
 /// Puts numbers in rising order, each once.
@@ -89,7 +92,7 @@ fn put_numbers_in_order(numbers: &mut Vec<u32>)
 
 /// Whether rising numbers are those of slot lines, the last one a given line, and the log that
 /// keeps only these slot lines (`kept_lines`) is impossible.
-fn is_conflict<S: OpenSet>(
+fn is_conflict_at(
     alloc: Global,
     lines: &[PackedLine],
     numbers: &[u32],
@@ -107,7 +110,7 @@ fn is_conflict<S: OpenSet>(
         return Ok(false);
     }
     let kept = kept_lines(alloc, lines, numbers)?;
-    Ok(open_and_met::<S>(alloc, &kept)?.is_err())
+    Ok(open_and_met::<RangeSet>(alloc, &kept)?.is_err())
 }
 
 /// Whether each of some numbers is that of a slot line.
@@ -132,9 +135,11 @@ fn is_slot_line(lines: &[PackedLine], number: u32) -> bool
     }
 }
 
-/// The numbers of the slot lines up to line `last`. They rise, as those of all lines do.
-fn slot_lines_to(alloc: Global, lines: &[PackedLine], last: u32) -> Result<Vec<u32>, AllocError>
-    ensures { IfOk result (λ numbers. numbers.items ≡ slot_numbers_to last lines.now) }
+/// The numbers of the slot lines up to the line with number `last`. They rise, as those of all
+/// lines do.
+fn slot_numbers_to(alloc: Global, lines: &[PackedLine], last: u32) -> Result<Vec<u32>, AllocError>
+    requires { AreLogLines lines.now }
+    ensures { IfOk result (λ numbers. AreSlotLinesTo lines.now last numbers.items) }
 {
     lines
         .iter()

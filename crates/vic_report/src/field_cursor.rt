@@ -8,7 +8,7 @@ ghost use Rattle.vic_log.specs.declared.entry.Entry.{Entry as EntryValue};
 ghost use Rattle.vic_log.specs.Order.{AreValid, IsInOrder};
 ghost use Rattle.vic_log.specs.Populations.{answers_at};
 ghost use Rattle.vic_log.specs.Quiet.{silences, wakes};
-ghost use Rattle.vic_report.specs.inner.FieldCursors.{IsFieldAt};
+ghost use Rattle.vic_report.specs.inner.FieldCursors.{IsFieldCursorAt};
 
 use std::alloc::{AllocError, Global};
 use std::collections::BTreeSet;
@@ -26,7 +26,7 @@ pub(crate) struct FieldCursor {
 impl FieldCursor {
     /// A cursor before the first entry.
     pub(crate) fn first(alloc: Global) -> FieldCursor
-        ensures { (es : List EntryValue) → IsFieldAt es 0 result }
+        ensures { (es : List EntryValue) → IsFieldCursorAt es 0 result }
     {
         FieldCursor {
             rounds: RoundCursor::first(),
@@ -37,8 +37,8 @@ impl FieldCursor {
     /// Moves past an entry.
     pub(crate) fn advance(&mut self, entry: &Entry) -> Result<(), AllocError>
         ensures { OnOk result ((es : List EntryValue) (i : ℕ) → IsInOrder es
-            → slice_get es i ≡ Some entry.now → IsFieldAt es i self.old
-            → IsFieldAt es (i + 1) self.new) }
+            → slice_get es i ≡ Some entry.now → IsFieldCursorAt es i self.old
+            → IsFieldCursorAt es (i + 1) self.new) }
     {
         self.rounds.advance(entry);
         note_quiet(&mut self.quiet, entry)?;
@@ -47,7 +47,7 @@ impl FieldCursor {
 
     /// Whether a tag with a UID answers in the slot at the cursor's position.
     pub(crate) fn answers(&self, uid: Uid) -> bool
-        ensures { (es : List EntryValue) (i : ℕ) → AreValid es → IsFieldAt es i self.now
+        ensures { (es : List EntryValue) (i : ℕ) → AreValid es → IsFieldCursorAt es i self.now
             → result ≡ answers_at es i uid }
     {
         match self.rounds.mask() {
@@ -65,8 +65,8 @@ fn note_quiet(quiet: &mut BTreeSet<Uid>, entry: &Entry) -> Result<(), AllocError
 {
     match *entry {
         Entry::Sent(Request::StayQuiet { uid, .. }) => {
-            if let Some(tag) = Uid::new(uid) {
-                quiet.insert(tag)?;
+            if let Some(named) = Uid::new(uid) {
+                quiet.insert(named)?;
             }
             Ok(())
         }

@@ -6,7 +6,7 @@ ghost use Rattle.vic_tree.specs.Ranges.{is_open_in};
 ghost use Rattle.vic_log.specs.Order.{entries};
 ghost use Rattle.vic_verdict.specs.Facts.{AreFactsOf};
 ghost use Rattle.vic_verdict.specs.LogLines.{AreLogLines};
-ghost use Rattle.vic_report.specs.Reports.{AreFindings, AreNone, first_of, left_with};
+ghost use Rattle.vic_report.specs.Reports.{AreFindings, AreNone, first_verdict, unsettled_with};
 
 use crate::certain_lines::lines_of_certain;
 use crate::ruled_out::lines_of_absent;
@@ -37,7 +37,8 @@ pub struct Unsettled {
     /// The first mask by length, then by value, of at most 56 bits, all of whose UIDs may be there
     /// or not and aren't listed.
     pub mask: Mask,
-    /// The open masks of all UIDs, listed or not, that may be there or not.
+    /// The first open masks of the UIDs, listed or not, that may be there or not, and whether there
+    /// are more.
     pub open: OpenMasks,
 }
 
@@ -56,7 +57,7 @@ impl Findings {
     /// report has such findings, but anyone can build them, and `LogReport::verdict` answers for
     /// every value.
     pub(crate) fn first(&self) -> Verdict
-        ensures { result ≡ first_of self.now }
+        ensures { result ≡ first_verdict self.now }
     {
         if let Some(shown) = self.absent.first() {
             return Verdict::Absent(shown.uid);
@@ -88,23 +89,23 @@ pub(crate) fn find_findings(
     let Facts { open, met, certain } = facts;
     let listed = listed_uids(alloc, lines)?;
     let keys = keys_in_order(alloc, &certain)?;
-    // made before it is known whether a mask is unsettled, since `compare` consumes the set; that
-    // takes one walk over its ranges, and no memory
+    // made before it is known whether a mask is unsettled, since `compare` consumes the set; they
+    // take one walk over its ranges, and no memory
     let masks = open.open_masks_besides(&keys);
-    let found = compare(alloc, open, &certain, &listed)?;
+    let differences = compare(alloc, open, &certain, &listed)?;
     let uncertain = missing_from(alloc, &listed, &certain)?;
-    let doubtful = missing_from(alloc, &uncertain, &found.absent)?;
+    let doubtful = missing_from(alloc, &uncertain, &differences.absent)?;
     Ok(Findings {
-        absent: lines_of_absent(alloc, lines, &found.absent)?,
-        unlisted: lines_of_certain(alloc, lines, &met, &found.unlisted)?,
-        unsettled: left_to_ask(found.unsettled, masks),
+        absent: lines_of_absent(alloc, lines, &differences.absent)?,
+        unlisted: lines_of_certain(alloc, lines, &met, &differences.unlisted)?,
+        unsettled: left_to_ask(differences.unsettled, masks),
         doubtful,
     })
 }
 
 /// What is left to ask for, if a mask is unsettled.
 fn left_to_ask(unsettled: Option<Mask>, masks: OpenMasks) -> Option<Unsettled>
-    ensures { result ≡ option_map (λ m. left_with m masks) unsettled }
+    ensures { result ≡ option_map (λ m. unsettled_with m masks) unsettled }
 {
     match unsettled {
         Some(mask) => Some(Unsettled { mask, open: masks }),

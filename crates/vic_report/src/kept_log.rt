@@ -1,5 +1,5 @@
-//! The lines of some slots of a log, each with the mask that it has there, and with the same tags
-//! Quiet.
+//! A log that keeps some slot lines of another, each with the mask that it has there, and with the
+//! same tags Quiet. If this log is impossible, these slot lines are a conflict.
 
 ghost use Rattle.std.specs.Prelude.{◌≡◌, ℕ, ◌+◌, ◌*◌, ◌<◌, ◌≤◌, ◌++◌, ◌∷◌, [], List, None, Some, IfOk, OnOk, true, false, length, slice_get};
 ghost use Rattle.std.specs.List.Sorted.{IsStrictlyIncreasing};
@@ -11,15 +11,15 @@ ghost use Rattle.vic_log.specs.Populations.{CouldHaveGiven};
 ghost use Rattle.vic_log.specs.Rounds.{is_slot, mask_at};
 ghost use Rattle.vic_report.specs.Conflicts.{FitsLines};
 ghost use Rattle.vic_verdict.specs.LogLines.{AreLogLines};
-ghost use Rattle.vic_report.specs.inner.KeptLogs.{AreNumbered, KeepsLine};
+ghost use Rattle.vic_report.specs.inner.KeptLogs.{IsKeptLog, KeepsLine};
 
 use std::alloc::{AllocError, Global};
 use vic_frame::{Mask, Request};
 use vic_log::{Entry, MAX_LINES, PackedLine, RoundCursor};
 
 /// The slot lines with some numbers, and up to the last of them every Stay Quiet and every field
-/// cycle. Each slot line has a request of its own that asks for its mask, so there may be up to
-/// twice as many lines as a text can have.
+/// cycle. They are numbered anew, from 1. Each slot line has a request of its own that asks for its
+/// mask, so there may be up to twice as many lines as a text can have.
 pub(crate) fn kept_lines(
     alloc: Global,
     lines: &[PackedLine],
@@ -36,7 +36,7 @@ pub(crate) fn kept_lines(
     let mut cursor = RoundCursor::first();
     for line in lines {
         let number = line.number();
-        // none is kept after the last number, nor if there is no number
+        // nothing is kept after the last number; nothing at all if `numbers` is empty
         if numbers.last() < Some(&number) {
             break;
         }
@@ -57,17 +57,18 @@ fn has_number(numbers: &[u32], number: u32) -> bool
     numbers.binary_search(&number).is_ok()
 }
 
-/// Adds a Stay Quiet or a field cycle always, a slot line if it is kept, and nothing else.
+/// Adds a Stay Quiet or a field cycle always; a slot line, after a request of its own, if it is
+/// kept; for other entries nothing.
 fn keep_line(
     kept: &mut Vec<PackedLine>,
     mask: &Option<Mask>,
     entry: &Entry,
     is_kept: bool,
 ) -> Result<(), AllocError>
-    requires numbered { AreNumbered kept.old.items }
+    requires log { IsKeptLog kept.old.items }
     requires limit { length kept.old.items < 2 * MAX_LINES }
     requires valid { IsValidEntry entry.now }
-    ensures numbered { OnOk result (AreNumbered kept.new.items) }
+    ensures log { OnOk result (IsKeptLog kept.new.items) }
     ensures limit { OnOk result (length kept.new.items ≤ length kept.old.items + 2) }
     ensures kept { OnOk result ((es : List EntryValue) (i : ℕ) → slice_get es i ≡ Some entry.now
         → mask.now ≡ mask_at es i
@@ -84,17 +85,17 @@ fn keep_line(
     }
 }
 
-/// Adds what was found in a slot, if it is kept, after a request of one slot with its mask.
+/// Adds a slot line, if it is kept, after a request of one slot with its mask.
 fn push_if_kept(
     kept: &mut Vec<PackedLine>,
     mask: &Mask,
     entry: &Entry,
     is_kept: bool,
 ) -> Result<(), AllocError>
-    requires numbered { AreNumbered kept.old.items }
+    requires log { IsKeptLog kept.old.items }
     requires limit { length kept.old.items < 2 * MAX_LINES }
     requires slot { is_slot entry.now ≡ true }
-    ensures numbered { OnOk result (AreNumbered kept.new.items) }
+    ensures log { OnOk result (IsKeptLog kept.new.items) }
     ensures limit { OnOk result (length kept.new.items ≤ length kept.old.items + 2) }
     ensures kept { OnOk result ((es : List EntryValue) (i : ℕ) → slice_get es i ≡ Some entry.now
         → Some mask.now ≡ mask_at es i
@@ -104,6 +105,7 @@ fn push_if_kept(
         return Ok(());
     }
     let request = Request::Inventory {
+        // any link: it doesn't change which tags answer
         link: 2,
         sixteen: false,
         mask: *mask,
@@ -112,14 +114,14 @@ fn push_if_kept(
     push_next(kept, *entry)
 }
 
-/// Adds an entry, which may follow the others, with the next number.
+/// Adds an entry that is in order after the others, on a line with the next number.
 fn push_next(kept: &mut Vec<PackedLine>, entry: Entry) -> Result<(), AllocError>
-    requires numbered { AreNumbered kept.old.items }
+    requires log { IsKeptLog kept.old.items }
     requires limit { length kept.old.items ≤ 2 * MAX_LINES }
     requires valid { IsValidEntry entry }
     requires unlisted { listed (entry ∷ []) ≡ [] }
     requires follows { refusal (entries kept.old.items) entry ≡ None }
-    ensures numbered { OnOk result (AreNumbered kept.new.items) }
+    ensures log { OnOk result (IsKeptLog kept.new.items) }
     ensures limit { OnOk result (length kept.new.items ≡ length kept.old.items + 1) }
     ensures added { OnOk result
         (entries kept.new.items ≡ entries kept.old.items ++ entry ∷ []) }

@@ -11,7 +11,7 @@ ghost use Rattle.vic_report.specs.Reports.{IsReport, verdict_of};
 ghost use Rattle.vic_report.specs.declared.reporting.LogReport.{LogReport};
 ghost use Rattle.vic_report.specs.declared.reporting.LogReport.TheVariants as reported;
 
-/// The first finding of a report is the verdict; if that is `Complete`, there is none.
+/// A report begins with the verdict; if that is `Complete`, the report is too.
 pub fn first_finding_is_the_verdict()
     ensures first { (lines : List LogLine) (r : LogReport) → IsReport lines r
         → IsVerdict lines (verdict_of r) }
@@ -19,7 +19,7 @@ pub fn first_finding_is_the_verdict()
         → verdict_of r ≡ Complete count → r ≡ reported.Complete count }
 {}
 
-/// Lines that contradict each other still do, whatever follows.
+/// A log with lines that no population fits is impossible, whatever follows them.
 pub fn conflict_stays()
     ensures { (lines more : List LogLine) (n : ℕ) (numbers : List ℕ)
         → IsConflictAt lines n numbers → IsPossible (entries (lines ++ more)) → ⊥ }

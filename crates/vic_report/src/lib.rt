@@ -1,10 +1,11 @@
-//! Every finding of a log, with its lines.
+//! All findings of a log, and the lines that show them; or the conflict of an impossible one.
 //!
 //! `report` begins with the verdict of `vic_verdict::judge`. It reports the findings of a possible
 //! log, or the conflict of an impossible one. The lines of absent UIDs and of a conflict are
 //! guessed by `vic_guess` and checked here, except that a reply of a Quiet tag is a conflict by
-//! itself; those of certain UIDs are looked up. That the line of an absent UID, or of a reply, is
-//! the first one, and that no line of a conflict can be left out, is only tested.
+//! itself; those of certain UIDs are looked up. Only tested: that the line of an absent UID is the
+//! first that rules it out, that the reply shown for a certain UID is its first, and that no line
+//! of a conflict can be left out.
 #![tactic(auto)]
 
 mod certain_lines;

@@ -1,4 +1,4 @@
-//! Every finding of a log, with its lines.
+//! All findings of a log, and the lines that show them; or the conflict of an impossible one.
 
 ghost use Rattle.std.specs.Prelude.{◌≡◌, ◌≤◌, IfOk, length};
 ghost use Rattle.vic_tree.specs.Ranges.{is_open_in};
@@ -17,8 +17,8 @@ use vic_verdict::{Facts, Verdict, count_listed, facts_of};
 /// The report on a log (profile): its findings, or the conflict that makes it impossible.
 #[derive(Drop)]
 pub enum LogReport {
-    /// No population could have produced the log: the first line up to which none could, and lines
-    /// that contradict each other.
+    /// No population could have produced the log: the first line up to which none could, and slot
+    /// lines that no population fits.
     Impossible(Conflict),
     /// The log is possible, and its list isn't known to be complete: at least one finding.
     NotWhole(Findings),
@@ -56,7 +56,7 @@ fn report_lines(alloc: Global, lines: &[PackedLine]) -> Result<LogReport, AllocE
 {
     match facts_of::<RangeSet>(alloc, lines)? {
         Ok(facts) => report_facts(alloc, facts, lines),
-        Err(contradiction) => Ok(LogReport::Impossible(find_conflict::<RangeSet>(
+        Err(contradiction) => Ok(LogReport::Impossible(find_conflict(
             alloc,
             lines,
             contradiction,

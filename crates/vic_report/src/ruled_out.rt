@@ -11,7 +11,7 @@ ghost use Rattle.vic_log.specs.declared.entry.LogLine.{LogLine as LogLineValue};
 ghost use Rattle.vic_log.specs.Order.{AreValid, entries};
 ghost use Rattle.vic_log.specs.Populations.{answers_at};
 ghost use Rattle.vic_log.specs.Slots.{slots_of, is_open};
-ghost use Rattle.vic_report.specs.inner.FieldCursors.{IsFieldAt};
+ghost use Rattle.vic_report.specs.inner.FieldCursors.{IsFieldCursorAt};
 ghost use Rattle.vic_report.specs.Findings.{IsRuledOut, RulesOut, lacks_reply_of, uids_of};
 ghost use Rattle.vic_verdict.specs.LogLines.{AreLogLines};
 
@@ -29,7 +29,7 @@ pub(crate) fn lines_of_absent(
     absent: &[Uid],
 ) -> Result<Vec<ShownUid>, AllocError>
     requires lines { AreLogLines lines.now }
-    requires shut { All (λ u. is_open (slots_of (entries lines.now)) u ≡ false) absent.now }
+    requires not_open { All (λ u. is_open (slots_of (entries lines.now)) u ≡ false) absent.now }
     ensures uids { IfOk result (λ v. uids_of v.items ≡ absent.now) }
     ensures shown { IfOk result (λ v. All (IsRuledOut lines.now) v.items) }
 {
@@ -53,6 +53,7 @@ fn guess_lines(
 ) -> Result<Vec<ShownUid>, AllocError>
     ensures { IfOk result (λ v. uids_of v.items ≡ absent.now) }
 {
+    // one number for each UID
     let numbers = guess_ruling_lines(alloc, lines, absent)?;
     let mut shown = Vec::new(alloc);
     for (index, uid) in absent.iter().enumerate() {
@@ -76,15 +77,16 @@ fn are_ruled_out(
     let mut cursor = FieldCursor::first(alloc);
     let mut next = 0;
     for line in lines {
-        next = end_of_ruled_out(&cursor, line, shown, next);
+        next = pass_ruled_out(&cursor, line, shown, next);
         cursor.advance(&line.item())?;
     }
     Ok(next == shown.len())
 }
 
-/// The index after the UIDs, from index `start` on, whose guessed line is this one, and which it
-/// rules out. If each UID before `start` is ruled out by its line, so is each before this index.
-fn end_of_ruled_out(
+/// Passes the UIDs, from index `start` on, whose guessed line is this one and which it rules out.
+/// Returns the index of the next one. A UID whose guess is wrong is never passed, and so none after
+/// it.
+fn pass_ruled_out(
     cursor: &FieldCursor,
     line: &PackedLine,
     shown: &[ShownUid],
@@ -93,7 +95,7 @@ fn end_of_ruled_out(
     requires { start ≤ length shown.now }
     ensures within { result ≤ length shown.now }
     ensures shown { (lines : List LogLineValue) (i : ℕ) → AreValid (entries lines)
-        → slice_get lines i ≡ Some line.now → IsFieldAt (entries lines) i cursor.now
+        → slice_get lines i ≡ Some line.now → IsFieldCursorAt (entries lines) i cursor.now
         → All (IsRuledOut lines) (take start shown.now)
         → All (IsRuledOut lines) (take result shown.now) }
 {
@@ -111,7 +113,7 @@ fn end_of_ruled_out(
 
 /// Whether an entry at the position of a cursor rules out a UID.
 fn rules_out(cursor: &FieldCursor, entry: &Entry, uid: Uid) -> bool
-    ensures { (es : List EntryValue) (i : ℕ) → AreValid es → IsFieldAt es i cursor.now
+    ensures { (es : List EntryValue) (i : ℕ) → AreValid es → IsFieldCursorAt es i cursor.now
         → result ≡ (lacks_reply_of entry.now uid && answers_at es i uid) }
 {
     match *entry {
@@ -129,13 +131,13 @@ fn search_lines(
     absent: &[Uid],
 ) -> Result<Vec<ShownUid>, AllocError>
     requires lines { AreLogLines lines.now }
-    requires shut { All (λ u. is_open (slots_of (entries lines.now)) u ≡ false) absent.now }
+    requires not_open { All (λ u. is_open (slots_of (entries lines.now)) u ≡ false) absent.now }
     ensures uids { IfOk result (λ v. uids_of v.items ≡ absent.now) }
     ensures shown { IfOk result (λ v. All (IsRuledOut lines.now) v.items) }
 {
     let mut shown = Vec::new(alloc);
     for uid in absent {
-        let Some(line) = first_ruling(alloc, lines, *uid)? else {
+        let Some(line) = ruling_line_of(alloc, lines, *uid)? else {
             unreachable!()
         };
         shown.push(ShownUid { uid: *uid, line })?;
@@ -143,8 +145,9 @@ fn search_lines(
     Ok(shown)
 }
 
-/// A line that rules out a UID, if one does.
-fn first_ruling(alloc: Global, lines: &[PackedLine], uid: Uid) -> Result<Option<u32>, AllocError>
+/// The number of the first line that rules out a UID, if one does. That it is the first isn't
+/// proved.
+fn ruling_line_of(alloc: Global, lines: &[PackedLine], uid: Uid) -> Result<Option<u32>, AllocError>
     requires { AreLogLines lines.now }
     ensures { IfOk result (λ r. MatchOption r
         (is_open (slots_of (entries lines.now)) uid ≡ true) (λ n. RulesOut lines.now n uid)) }

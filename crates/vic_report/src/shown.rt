@@ -2,7 +2,7 @@
 
 use vic_frame::Uid;
 
-/// A UID, and a line that shows the finding about it.
+/// A UID, and a line that rules it out or shows that it is there.
 #[derive(Clone, Copy, Debug, PartialEq, Eq)]
 pub struct ShownUid {
     pub uid: Uid,

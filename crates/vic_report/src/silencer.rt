@@ -13,21 +13,21 @@ use vic_frame::{Request, Uid};
 use vic_log::{Entry, PackedLine};
 
 /// If the line with a number is a reply of a UID that is Quiet there, the number of the last Stay
-/// Quiet line with that UID.
-pub(crate) fn silencer_of(lines: &[PackedLine], number: u32) -> Option<u32>
+/// Quiet line with that UID before it.
+pub(crate) fn silencer_of_line(lines: &[PackedLine], number: u32) -> Option<u32>
     requires { AreLogLines lines.now }
     ensures { MatchOption result (IsNoQuietReply lines.now number)
         (IsSilencedBy lines.now number) }
 {
     match lines.binary_search_by_key(&number, |line| line.number()) {
-        Ok(place) => silencer_at(lines, place),
+        Ok(place) => silencer_of_reply(lines, place),
         Err(_) => None,
     }
 }
 
 /// If the line at a position is a reply of a UID that is Quiet there, the number of the last Stay
-/// Quiet line with that UID.
-fn silencer_at(lines: &[PackedLine], place: usize) -> Option<u32>
+/// Quiet line with that UID before it.
+fn silencer_of_reply(lines: &[PackedLine], place: usize) -> Option<u32>
     requires { place < length lines.now }
     ensures { MatchOption result
         ((r : Reply) → slice_get (entries lines.now) place ≡ Some (Heard r)
@@ -54,16 +54,16 @@ fn silencer_before(lines: &[PackedLine], place: usize, uid: Uid) -> Option<u32>
 {
     let mut silencer = None;
     for index in 0..place {
-        silencer = silencer_after(silencer, &lines[index], uid);
+        silencer = next_silencer(silencer, &lines[index], uid);
     }
     silencer
 }
 
-/// The number of the last Stay Quiet line with a UID, if it is Quiet after a line, by that before
-/// the line.
-fn silencer_after(before: Option<u32>, line: &PackedLine, uid: Uid) -> Option<u32>
+/// The number of the last Stay Quiet line with a UID, if it is Quiet after a line; `silencer` is
+/// the same before that line.
+fn next_silencer(silencer: Option<u32>, line: &PackedLine, uid: Uid) -> Option<u32>
     ensures { (lines : List LogLineValue) (i : ℕ) → slice_get lines i ≡ Some line.now
-        → MatchOption before (is_quiet (entries lines) i uid ≡ false)
+        → MatchOption silencer (is_quiet (entries lines) i uid ≡ false)
         (IsSilencedBefore lines i uid)
         → MatchOption result (is_quiet (entries lines) (i + 1) uid ≡ false)
         (IsSilencedBefore lines (i + 1) uid) }
@@ -73,7 +73,7 @@ fn silencer_after(before: Option<u32>, line: &PackedLine, uid: Uid) -> Option<u3
             if silenced == uid.number() {
                 Some(line.number())
             } else {
-                before
+                silencer
             }
         }
         Entry::FieldCycle => None,
@@ -82,6 +82,6 @@ fn silencer_after(before: Option<u32>, line: &PackedLine, uid: Uid) -> Option<u3
         | Entry::Collision
         | Entry::Heard(_)
         | Entry::Garbled
-        | Entry::Listed(_) => before,
+        | Entry::Listed(_) => silencer,
     }
 }

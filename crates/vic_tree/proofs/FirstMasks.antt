@@ -216,7 +216,7 @@ widest_is_first set m most masks some w f = go masks f (f.others m opened) where
     is_mask = w.is_mask;
     short = w.short;
     open_throughout = w.open_throughout;
-    greatest = elim (cases_eq m.len 0) [
+    maximal = elim (cases_eq m.len 0) [
       | inl z ↦ inl z
       | inr some ↦ inr (λ all.
           let pos = pow_pos (m.len - 1) in

@@ -10,9 +10,9 @@ inside m u h = eqb-true (u % 2 ^ m.len) m.value h
 in_longer : (m n : BitMask) (u v : ℕ) → m.len < n.len → lies_in m u ≡ true → lies_in n u ≡ true → lies_in (parent n) v ≡ true → lies_in m v ≡ true
 in_longer m n u v lt i j there = grind (arith, nat_tests, mod_mod_pow u (n.len - 1) n.len, mod_mod_pow v m.len (n.len - 1), mod_mod_pow u m.len (n.len - 1))
 
--- so the other isn't a greatest one
+-- so the other isn't a maximal one
 under_parent : (set : ℕ → Bool) (m n : BitMask) (u : ℕ) → IsOpenMask set m → IsOpenMask set n → lies_in m u ≡ true → lies_in n u ≡ true → m.len < n.len → ⊥
-under_parent set m n u g h i j lt = elim h.greatest [
+under_parent set m n u g h i j lt = elim h.maximal [
   | inl z ↦ omega arith
   | inr out ↦ out (λ v is_uid there. g.open_throughout v is_uid (in_longer m n u v lt i j there))
 ]
@@ -51,7 +51,7 @@ abbrev low : ℕ → ℕ → BitMask
 low l u = record { len = l; value = u % 2 ^ l }
 
 open_above : (set : ℕ → Bool) (u l : ℕ) → l ≤ 56 → AllOpen set (low l u) → (m : BitMask) × IsOpenMask set m × (lies_in m u ≡ true)
-open_above set u zero h all = (low 0 u, record { is_mask = (omega arith, omega arith); short = omega arith; open_throughout = all; greatest = inl refl }, eq-eqb (u % 2 ^ 0) (u % 2 ^ 0) refl)
+open_above set u zero h all = (low 0 u, record { is_mask = (omega arith, omega arith); short = omega arith; open_throughout = all; maximal = inl refl }, eq-eqb (u % 2 ^ 0) (u % 2 ^ 0) refl)
 open_above set u (suc l) h all =
     let back : suc l - 1 ≡ l = omega arith in
     let less : suc l - 1 ≤ suc l = omega arith in
@@ -61,7 +61,7 @@ open_above set u (suc l) h all =
       | inl more ↦ open_above set u l (omega arith) more
       | inr out ↦ (
         low (suc l) u,
-        record { is_mask = (omega arith, omega arith); short = h; open_throughout = all; greatest = inr (λ a. out (subst (AllOpen set) up a)) },
+        record { is_mask = (omega arith, omega arith); short = h; open_throughout = all; maximal = inr (λ a. out (subst (AllOpen set) up a)) },
         eq-eqb (u % 2 ^ suc l) (u % 2 ^ suc l) refl,
       )
     ]

@@ -31,5 +31,5 @@ pub use Rattle.vic_tree.specs.Gathering.{Gathers}
 pub use Rattle.vic_tree.specs.OpenMasks.{AreAll, AreFirst, ComesBefore, IsOpenMask, IsPast, parent}
 pub use Rattle.vic_tree.specs.OpenSet.{AllOpen, AreKeys, IsAtMost, IsWidest, SameUids, has_key, without_keys}
 pub use Rattle.vic_tree.specs.Ranges.{AreRanges, AreRangesFrom, in_ranges, is_between, is_open_in, is_outside}
-pub use Rattle.vic_tree.specs.inner.KeptMasks.{Adds, AreKept, IsGreatestAt, IsGreatestIn, IsOpenBelow, IsOpenBlock, Keeps}
-pub use Rattle.vic_tree.specs.inner.Ranges.{AllKeysPass, ComesFirstIn, HoldsBlock, HoldsMask, IsFirstRun, IsFoundBelow, IsFreeBetween, IsFreeInRanges, IsMaskIn, IsWidestBelow, PassFrom, block_size, is_left, is_passed}
+pub use Rattle.vic_tree.specs.inner.KeptMasks.{Adds, AreKept, IsMaximalAt, IsMaximalIn, IsOpenBelow, IsOpenBlock, Keeps}
+pub use Rattle.vic_tree.specs.inner.Ranges.{AllKeysPass, ComesFirstIn, HoldsBlock, HoldsMask, IsFirstRun, IsFoundBelow, IsFreeBetween, IsFreeInRanges, IsMaskIn, IsWidestBelow, PassFrom, block_size, is_left, is_left_out}

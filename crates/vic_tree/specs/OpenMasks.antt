@@ -1,4 +1,4 @@
--- The open masks of a set: the greatest masks that lie entirely in it.
+-- The open masks of a set: the maximal masks that lie entirely in it.
 use Rattle.std.specs.Prelude.{◌≡◌, ℕ, ◌-◌, ◌^◌, ◌%◌, ◌<◌, ◌≤◌, ◌⊎◌, Bool, List, length}
 use Rattle.std.specs.List.{All, AllPairs, Contains}
 use Rattle.vic_frame.specs.declared.uid.TheConstants.{UID_BITS}
@@ -14,7 +14,7 @@ pub record IsOpenMask (set : ℕ → Bool) (m : BitMask) : Type 0 where
   pub is_mask : IsMask m
   pub short : m.len ≤ UID_BITS
   pub open_throughout : AllOpen set m
-  pub greatest : (m.len ≡ 0) ⊎ ¬ (AllOpen set (parent m))
+  pub maximal : (m.len ≡ 0) ⊎ ¬ (AllOpen set (parent m))
 
 -- the first mask comes before the second by length, then by value
 abbrev pub ComesBefore : BitMask → BitMask → Type 0
@@ -24,7 +24,7 @@ ComesBefore m n = (m.len ≤ n.len) × (m.len ≡ n.len → m.value < n.value)
 abbrev pub IsPast : ℕ → List BitMask → BitMask → Type 0
 IsPast most ms m = (length ms ≡ most) × All (λ n. ComesBefore n m) ms
 
--- the first of the wanted masks, at most `most`, in order
+-- wanted masks, in order: all of them, or at least the first `most`
 pub record AreFirst (most : ℕ) (IsWanted : BitMask → Type 0) (ms : List BitMask) : Type 0 where
   pub rising : AllPairs ComesBefore ms
   pub wanted : All IsWanted ms

@@ -1,3 +1,3 @@
--- Definitions that private contracts alone cite.
+-- Definitions that only private contracts and proofs cite.
 pub mod Ranges
 pub mod KeptMasks

@@ -6,7 +6,7 @@ ghost use Rattle.vic_frame.specs.LowBitsFirst.{IsKey};
 ghost use Rattle.vic_tree.specs.Gathering.{Gathers};
 ghost use Rattle.vic_tree.specs.OpenSet.{AreKeys, IsWidest, SameUids, without_keys};
 ghost use Rattle.vic_tree.specs.Ranges.{AreRanges, in_ranges, is_open_in};
-ghost use Rattle.vic_tree.specs.inner.Ranges.{IsFreeInRanges, is_left, is_passed};
+ghost use Rattle.vic_tree.specs.inner.Ranges.{IsFreeInRanges, is_left, is_left_out};
 
 use crate::blocks::widest_with;
 use crate::gather_keys::gather_keys;
@@ -17,46 +17,46 @@ use arrayvec::ArrayVec;
 use std::alloc::{AllocError, Global};
 use vic_frame::{Mask, Uid};
 
-/// What is left of some ranges without the keys of a list.
-pub(crate) fn ranges_besides(
+/// What is left of some ranges when some keys are removed, as ranges.
+pub(crate) fn ranges_left(
     alloc: Global,
     ranges: &[KeyRange],
-    keys: &[u64],
+    removed: &[u64],
 ) -> Result<Vec<KeyRange>, AllocError>
     requires ranges { AreRanges ranges.now }
-    requires keys { AreKeys keys.now }
-    requires order { IsNonDecreasing keys.now }
+    requires keys { AreKeys removed.now }
+    requires order { IsNonDecreasing removed.now }
     ensures ranges { IfOk result (λ runs. AreRanges runs.items) }
     ensures keys { IfOk result (λ runs. (k : ℕ)
-        → in_ranges runs.items k ≡ is_left ranges.now keys.now k) }
+        → in_ranges runs.items k ≡ is_left ranges.now removed.now k) }
 {
     let mut runs = Vec::new(alloc);
-    let mut left = Runs::new(0, ranges, keys);
+    let mut left = Runs::new(0, ranges, removed);
     while let Some(run) = left.next_run() {
         runs.push(run)?;
     }
     Ok(runs)
 }
 
-/// Appends the UIDs whose keys are from `first` to `last`, in some ranges and not in a list, and
-/// that aren't exceptions, until there are three.
-pub(crate) fn gather_besides(
+/// Appends the UIDs whose keys are from `first` to `last`, in some ranges and not removed, and that
+/// aren't exceptions, until there are three. In each call `except` or `removed` is empty.
+pub(crate) fn gather_left(
     out: &mut ArrayVec<Uid, 3>,
     except: &[Uid],
-    keys: &[u64],
+    removed: &[u64],
     ranges: &[KeyRange],
     first: u64,
     last: u64,
 )
     requires rising { IsStrictlyIncreasing except.now }
-    requires keys { AreKeys keys.now }
-    requires order { IsNonDecreasing keys.now }
+    requires keys { AreKeys removed.now }
+    requires order { IsNonDecreasing removed.now }
     requires ranges { AreRanges ranges.now }
     requires small { IsKey last }
     ensures { Gathers (IsFreeInRanges ranges.now first last
-        (is_passed except.now keys.now)) out.old.items out.new.items }
+        (is_left_out except.now removed.now)) out.old.items out.new.items }
 {
-    let mut left = Runs::new(first, from_key(ranges, first), keys);
+    let mut left = Runs::new(first, from_key(ranges, first), removed);
     while let Some(run) = left.next_run() {
         if last < run.first() || out.is_full() {
             return;
@@ -65,18 +65,18 @@ pub(crate) fn gather_besides(
     }
 }
 
-/// The widest mask in some ranges without the keys of a list.
-pub(crate) fn widest_besides(ranges: &[KeyRange], keys: &[u64]) -> Option<Mask>
-    requires keys { AreKeys keys.now }
-    requires order { IsNonDecreasing keys.now }
+/// The widest mask in what is left of some ranges when some keys are removed.
+pub(crate) fn widest_left(ranges: &[KeyRange], removed: &[u64]) -> Option<Mask>
+    requires keys { AreKeys removed.now }
+    requires order { IsNonDecreasing removed.now }
     requires ranges { AreRanges ranges.now }
     ensures found { IfSome result
-        (IsWidest (without_keys (is_open_in ranges.now) keys.now)) }
+        (IsWidest (without_keys (is_open_in ranges.now) removed.now)) }
     ensures none { IfNone result
-        (SameUids (without_keys (is_open_in ranges.now) keys.now) (λ _. false)) }
+        (SameUids (without_keys (is_open_in ranges.now) removed.now) (λ _. false)) }
 {
     let mut widest: Option<Mask> = None;
-    let mut left = Runs::new(0, ranges, keys);
+    let mut left = Runs::new(0, ranges, removed);
     while let Some(run) = left.next_run() {
         widest = Some(widest_with(widest, run.first(), run.last()));
     }

@@ -1,8 +1,8 @@
-//! The open masks of ranges of keys without some keys: the greatest blocks of the keys that are
+//! The open masks of ranges of keys without some keys: the maximal blocks of the keys that are
 //! left.
 //!
-//! The keys that are left form runs. Of the blocks of one size in a run, only the first and the
-//! last can fail to be half of a greater block in it.
+//! The keys that are left form runs. Of the blocks of one size in a run, each but the first and the
+//! last is half of a greater block in the run. So at most these two are open masks.
 
 ghost use Rattle.std.specs.Prelude.{◌≡◌, ℕ, ◌≤◌, ◌↔◌, Bool, true, IfOk, OnOk, IfSome, Some, length};
 ghost use Rattle.std.specs.List.{Contains};
@@ -11,7 +11,7 @@ ghost use Rattle.vic_frame.specs.Masks.{BitMask};
 ghost use Rattle.vic_frame.specs.LowBitsFirst.{IsKey};
 ghost use Rattle.vic_tree.specs.OpenSet.{AreKeys, without_keys};
 ghost use Rattle.vic_tree.specs.OpenMasks.{AreAll, AreFirst, IsOpenMask};
-ghost use Rattle.vic_tree.specs.inner.KeptMasks.{Adds, AreKept, IsGreatestAt, IsGreatestIn, Keeps};
+ghost use Rattle.vic_tree.specs.inner.KeptMasks.{Adds, AreKept, IsMaximalAt, IsMaximalIn, Keeps};
 ghost use Rattle.vic_tree.specs.Ranges.{AreRanges, is_open_in};
 
 use crate::blocks::{least_len, size_of_block};
@@ -22,7 +22,7 @@ use std::alloc::{AllocError, Global};
 use vic_frame::low_bits_first::mask_of_keys;
 use vic_frame::{Mask, UID_BITS};
 
-/// How many open masks are returned at most.
+/// How many an `OpenMasks` has at most.
 pub const MAX_OPEN_MASKS: usize = 16;
 
 /// How many are kept: one more, to show whether there are more.
@@ -31,9 +31,9 @@ const KEPT: usize = MAX_OPEN_MASKS + 1;
 /// How many there is room for: one more is put in order before the last one is dropped.
 const BUFFER: usize = KEPT + 1;
 
-/// The first of a set's open masks: the masks of at most 56 bits that lie entirely in the set, and
-/// aren't half of another such mask. All open masks together are disjoint, and hold all UIDs of the
-/// set.
+/// The first few of a set's open masks: the masks of at most 56 bits that lie entirely in the set,
+/// and aren't half of another such mask. All open masks together are disjoint, and hold all UIDs of
+/// the set.
 #[derive(Drop)]
 pub struct OpenMasks {
     /// At most sixteen, by length, then by value.
@@ -42,19 +42,20 @@ pub struct OpenMasks {
     pub more: bool,
 }
 
-/// The first open masks of some ranges without the keys of a list.
-pub(crate) fn open_masks_besides(ranges: &[KeyRange], keys: &[u64]) -> OpenMasks
-    requires keys { AreKeys keys.now }
-    requires order { IsNonDecreasing keys.now }
+/// The first open masks of what is left of some ranges when some keys are removed, found without
+/// memory from the heap.
+pub(crate) fn open_masks_left(ranges: &[KeyRange], removed: &[u64]) -> OpenMasks
+    requires keys { AreKeys removed.now }
+    requires order { IsNonDecreasing removed.now }
     requires ranges { AreRanges ranges.now }
     ensures first { AreFirst MAX_OPEN_MASKS
-        (IsOpenMask (without_keys (is_open_in ranges.now) keys.now)) result.masks.items }
+        (IsOpenMask (without_keys (is_open_in ranges.now) removed.now)) result.masks.items }
     ensures more { result.more ≡ true ↔ (m : BitMask)
-        × IsOpenMask (without_keys (is_open_in ranges.now) keys.now) m
+        × IsOpenMask (without_keys (is_open_in ranges.now) removed.now) m
         × (¬ (Contains result.masks.items m)) }
 {
     let mut kept = ArrayVec::new();
-    let mut left = Runs::new(0, ranges, keys);
+    let mut left = Runs::new(0, ranges, removed);
     while let Some(run) = left.next_run() {
         keep_in_run(&mut kept, run.first(), run.last());
     }
@@ -80,38 +81,38 @@ fn first_of_kept(kept: &ArrayVec<Mask, BUFFER>) -> OpenMasks
     }
 }
 
-/// Keeps the greatest masks in a run of keys. Once the list of kept masks is full, and all are
-/// shorter than those to come, no others are looked at.
+/// Keeps the open masks of a run. Once the list of kept masks is full, and all are shorter than
+/// those to come, no others are looked at.
 fn keep_in_run(kept: &mut ArrayVec<Mask, BUFFER>, first: u64, last: u64)
     requires forward { first ≤ last }
     requires small { IsKey last }
     requires kept { AreKept kept.old.items }
-    ensures keeps { Keeps (IsGreatestIn first last) kept.old.items kept.new.items }
+    ensures keeps { Keeps (IsMaximalIn first last) kept.old.items kept.new.items }
     ensures kept { AreKept kept.new.items }
 {
     for len in least_len(first, last)..UID_BITS + 1 {
         if kept.len() == KEPT && kept[KEPT - 1].len() < len {
             return;
         }
-        keep(kept, greatest_at_start(first, last, len));
-        keep(kept, greatest_at_end(first, last, len));
+        keep(kept, maximal_at_start(first, last, len));
+        keep(kept, maximal_at_end(first, last, len));
     }
 }
 
-/// All open masks of some ranges without the keys of a list.
-pub(crate) fn all_open_masks_besides(
+/// All open masks of what is left of some ranges when some keys are removed.
+pub(crate) fn all_open_masks_left(
     alloc: Global,
     ranges: &[KeyRange],
-    keys: &[u64],
+    removed: &[u64],
 ) -> Result<Vec<Mask>, AllocError>
-    requires keys { AreKeys keys.now }
-    requires order { IsNonDecreasing keys.now }
+    requires keys { AreKeys removed.now }
+    requires order { IsNonDecreasing removed.now }
     requires ranges { AreRanges ranges.now }
     ensures { IfOk result (λ masks. AreAll
-        (IsOpenMask (without_keys (is_open_in ranges.now) keys.now)) masks.items) }
+        (IsOpenMask (without_keys (is_open_in ranges.now) removed.now)) masks.items) }
 {
     let mut masks = Vec::new(alloc);
-    let mut left = Runs::new(0, ranges, keys);
+    let mut left = Runs::new(0, ranges, removed);
     while let Some(run) = left.next_run() {
         push_in_run(&mut masks, run.first(), run.last())?;
     }
@@ -121,27 +122,27 @@ pub(crate) fn all_open_masks_besides(
     Ok(masks)
 }
 
-/// Appends the greatest masks in a run of keys.
+/// Appends the open masks of a run.
 fn push_in_run(masks: &mut Vec<Mask>, first: u64, last: u64) -> Result<(), AllocError>
     requires forward { first ≤ last }
     requires small { IsKey last }
-    ensures { OnOk result (Adds (IsGreatestIn first last) masks.old.items masks.new.items) }
+    ensures { OnOk result (Adds (IsMaximalIn first last) masks.old.items masks.new.items) }
 {
     for len in least_len(first, last)..UID_BITS + 1 {
-        push_found(masks, greatest_at_start(first, last, len))?;
-        push_found(masks, greatest_at_end(first, last, len))?;
+        push_found(masks, maximal_at_start(first, last, len))?;
+        push_found(masks, maximal_at_end(first, last, len))?;
     }
     Ok(())
 }
 
 /// The first mask of `len` bits in a run, if it is the upper half of one that begins before the
 /// run.
-fn greatest_at_start(first: u64, last: u64, len: u8) -> Option<Mask>
+fn maximal_at_start(first: u64, last: u64, len: u8) -> Option<Mask>
     requires short { len ≤ UID_BITS }
     requires forward { first ≤ last }
     requires small { IsKey last }
-    ensures found { IfSome result (IsGreatestAt first last len 1) }
-    ensures only { (m : BitMask) → IsGreatestAt first last len 1 m → result ≡ Some m }
+    ensures found { IfSome result (IsMaximalAt first last len 1) }
+    ensures only { (m : BitMask) → IsMaximalAt first last len 1 m → result ≡ Some m }
 {
     let size = size_of_block(len);
     let number = first.div_ceil(size);
@@ -151,14 +152,14 @@ fn greatest_at_start(first: u64, last: u64, len: u8) -> Option<Mask>
     Some(mask_of_keys(number * size, len))
 }
 
-/// The last mask of `len` bits in a run, if it is the lower half of one that ends after the run, or
-/// holds all keys.
-fn greatest_at_end(first: u64, last: u64, len: u8) -> Option<Mask>
+/// The last mask of `len` bits in a run, if it is the mask of no bits, or the lower half of one
+/// that ends after the run.
+fn maximal_at_end(first: u64, last: u64, len: u8) -> Option<Mask>
     requires short { len ≤ UID_BITS }
     requires forward { first ≤ last }
     requires small { IsKey last }
-    ensures found { IfSome result (IsGreatestAt first last len 0) }
-    ensures only { (m : BitMask) → IsGreatestAt first last len 0 m → result ≡ Some m }
+    ensures found { IfSome result (IsMaximalAt first last len 0) }
+    ensures only { (m : BitMask) → IsMaximalAt first last len 0 m → result ≡ Some m }
 {
     let size = size_of_block(len);
     // how many blocks of this size, from key 0 on, end by `last`
@@ -178,6 +179,7 @@ fn keep(kept: &mut ArrayVec<Mask, BUFFER>, found: Option<Mask>)
     let Some(mask) = found else {
         return;
     };
+    // no mask comes twice
     if let Err(index) = kept.as_slice().binary_search(&mask) {
         kept.insert(index, mask);
         kept.truncate(KEPT);

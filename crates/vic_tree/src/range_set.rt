@@ -1,6 +1,6 @@
-//! A set of open UIDs as ranges of their keys, in the order of low bits first.
+//! A set of UIDs as ranges of their keys, in the order of low bits first.
 
-ghost use Rattle.std.specs.Prelude.{◌≡◌, ℕ, ◌≤◌, ◌&&◌, ◌||◌, ◌↔◌, not, true, IfOk};
+ghost use Rattle.std.specs.Prelude.{◌≡◌, ℕ, ◌≤◌, ◌&&◌, ◌||◌, ◌↔◌, not, true, IfOk, OnOk};
 ghost use Rattle.std.specs.List.{Contains};
 ghost use Rattle.std.specs.List.Sorted.{IsNonDecreasing};
 ghost use Rattle.vic_frame.specs.Uids.{IsUid, has};
@@ -8,13 +8,13 @@ ghost use Rattle.vic_frame.specs.Masks.{BitMask};
 ghost use Rattle.vic_frame.specs.LowBitsFirst.{IsKey, mirror};
 ghost use Rattle.vic_tree.specs.OpenSet.{AreKeys, SameUids, without_keys};
 ghost use Rattle.vic_tree.specs.OpenMasks.{AreAll, AreFirst, IsOpenMask};
-ghost use Rattle.vic_tree.specs.Ranges.{AreRanges, is_between, is_open_in};
+ghost use Rattle.vic_tree.specs.Ranges.{AreRanges, in_ranges, is_between, is_open_in};
 
-use crate::besides::{gather_besides, ranges_besides, widest_besides};
+use crate::besides::{gather_left, ranges_left, widest_left};
 use crate::key_range::KeyRange;
-use crate::open_masks::{MAX_OPEN_MASKS, OpenMasks, all_open_masks_besides, open_masks_besides};
+use crate::open_masks::{MAX_OPEN_MASKS, OpenMasks, all_open_masks_left, open_masks_left};
 use crate::open_set::OpenSet;
-use crate::ranges::{complement, complement_in_order, is_in, is_in_first, push_others, skip_to};
+use crate::ranges::{complement, complement_in_order, is_in, is_in_first, skip_to};
 use arrayvec::ArrayVec;
 use std::alloc::{AllocError, Global};
 use std::marker::Model;
@@ -22,8 +22,9 @@ use vic_frame::low_bits_first::{key, keys_of};
 use vic_frame::{Mask, Uid};
 
 /// A set of UIDs as ranges of their keys in the order of low bits first, in which the UIDs of a
-/// mask are consecutive: as few ranges as possible. It is built in one go from the closed ranges,
-/// and searched by halving. Settling one more mask rebuilds it.
+/// mask are consecutive: as few ranges as possible. The judge makes it in one go, from the closed
+/// ranges (`without`); it can also be made of other sets or of masks. Settling one more mask
+/// rebuilds it.
 #[derive(Drop)]
 pub struct RangeSet {
     pub(crate) ranges: Vec<KeyRange>,
@@ -52,7 +53,7 @@ impl OpenSet for RangeSet {
         let Some(block) = keys_of(mask) else {
             return Ok(());
         };
-        match settled(self.alloc, &self.ranges, block.first, block.last(), except) {
+        match ranges_after(self.alloc, &self.ranges, block.first, block.last(), except) {
             Ok(left) => {
                 self.ranges = left;
                 Ok(())
@@ -76,7 +77,7 @@ impl OpenSet for RangeSet {
     fn up_to_three(&self, mask: &Mask, except: &[Uid]) -> ArrayVec<Uid, 3> {
         let mut found = ArrayVec::new();
         if let Some(block) = keys_of(mask) {
-            gather_besides(
+            gather_left(
                 &mut found,
                 except,
                 &[],
@@ -89,7 +90,7 @@ impl OpenSet for RangeSet {
     }
 
     fn widest(&self) -> Option<Mask> {
-        widest_besides(&self.ranges, &[])
+        widest_left(&self.ranges, &[])
     }
 
     fn has_each(&self, alloc: Global, keys: &[u64]) -> Result<Vec<bool>, AllocError> {
@@ -110,7 +111,7 @@ impl OpenSet for RangeSet {
     ) -> Result<ArrayVec<Uid, 3>, AllocError> {
         let mut found = ArrayVec::new();
         if let Some(block) = keys_of(mask) {
-            gather_besides(
+            gather_left(
                 &mut found,
                 &[],
                 keys,
@@ -123,7 +124,7 @@ impl OpenSet for RangeSet {
     }
 
     fn widest_besides(self, keys: &[u64]) -> Result<Option<Mask>, AllocError> {
-        Ok(widest_besides(&self.ranges, keys))
+        Ok(widest_left(&self.ranges, keys))
     }
 }
 
@@ -135,13 +136,12 @@ impl RangeSet {
         ensures { IfOk result (λ set. SameUids (is_open_in set)
             (without_keys (is_open_in self.now) keys.now)) }
     {
-        let ranges = ranges_besides(alloc, &self.ranges, keys)?;
+        let ranges = ranges_left(alloc, &self.ranges, keys)?;
         Ok(RangeSet { ranges, alloc })
     }
 
-    /// The first open masks of the set without the UIDs with some keys, which come in order: the
-    /// masks of at most 56 bits that lie entirely in it, and whose parent doesn't; by length, then
-    /// by value, at most sixteen; and whether there are more.
+    /// The first open masks (see `OpenMasks`) of the set without the UIDs with some keys, which
+    /// come in order; and whether there are more.
     pub fn open_masks_besides(&self, keys: &[u64]) -> OpenMasks
         requires order { IsNonDecreasing keys.now }
         requires keys { AreKeys keys.now }
@@ -151,11 +151,11 @@ impl RangeSet {
             × IsOpenMask (without_keys (is_open_in self.now) keys.now) m
             × (¬ (Contains result.masks.items m)) }
     {
-        open_masks_besides(&self.ranges, keys)
+        open_masks_left(&self.ranges, keys)
     }
 
-    /// All open masks of the set without the UIDs with some keys, which come in order: by length,
-    /// then by value.
+    /// All open masks of the set without the UIDs with some keys, which come in order. The masks
+    /// are sorted by length, then by value.
     pub fn all_open_masks_besides(
         &self,
         alloc: Global,
@@ -166,13 +166,13 @@ impl RangeSet {
         ensures { IfOk result (λ masks. AreAll
             (IsOpenMask (without_keys (is_open_in self.now) keys.now)) masks.items) }
     {
-        all_open_masks_besides(alloc, &self.ranges, keys)
+        all_open_masks_left(alloc, &self.ranges, keys)
     }
 }
 
 /// What is left of some ranges after the keys from `first` to `last` are removed, except those of
 /// some UIDs.
-fn settled(
+fn ranges_after(
     alloc: Global,
     ranges: &[KeyRange],
     first: u64,
@@ -209,4 +209,32 @@ fn keys_between(alloc: Global, uids: &[Uid], first: u64, last: u64) -> Result<Ve
     }
     keys.sort_unstable();
     Ok(keys)
+}
+
+/// Appends the ranges of the keys from `first` to `last` that aren't in `except`, which comes in
+/// order; `ranges` needn't.
+fn push_others(
+    ranges: &mut Vec<KeyRange>,
+    first: u64,
+    last: u64,
+    except: &[u64],
+) -> Result<(), AllocError>
+    requires forward { first ≤ last }
+    requires small { IsKey last }
+    requires order { IsNonDecreasing except.now }
+    requires inside { (k : ℕ) → has except.now k ≡ true → is_between first last k ≡ true }
+    ensures { OnOk result ((k : ℕ) → in_ranges ranges.new.items k
+        ≡ (in_ranges ranges.old.items k || (is_between first last k && not (has except.now k)))) }
+{
+    let mut from = first;
+    for key in except {
+        if from < *key {
+            ranges.push(KeyRange::new(from, *key - 1))?;
+        }
+        from = *key + 1;
+    }
+    if from <= last {
+        ranges.push(KeyRange::new(from, last))?;
+    }
+    Ok(())
 }

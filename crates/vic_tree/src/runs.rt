@@ -36,7 +36,7 @@ impl<'a> Model for Runs<'a> {
 }
 
 impl<'a> Runs<'a> {
-    /// Those of the keys from key `from` on that are in `ranges` and not in `removed`.
+    /// The runs of the keys from key `from` on that are in `ranges` and not in `removed`.
     pub(crate) fn new(from: u64, ranges: &'a [KeyRange], removed: &'a [u64]) -> Runs<'a>
         requires ranges { AreRanges ranges.now }
         requires keys { AreKeys removed.now }
@@ -50,7 +50,8 @@ impl<'a> Runs<'a> {
         }
     }
 
-    /// Takes out the first run: consecutive keys, neither neighbour of which is left.
+    /// Takes out the first run: the first key from `from` on that is left, and those after it up to
+    /// the next that isn't.
     pub(crate) fn next_run(&mut self) -> Option<KeyRange>
         ensures run { (p : ℕ → Bool) → PassFrom p self.old
             → IfSome result (λ r. IsFirstRun p self.old.0 r.0 r.1) }
@@ -106,8 +107,8 @@ fn first_free(from: u64, removed: &[u64]) -> (u64, &[u64])
     (free, rest)
 }
 
-/// The removed keys without those below `from`; if that is only the first one, it may stay. They
-/// are passed in steps that double, so that many take little time.
+/// The removed keys from `from` on; if at most one is below it, that one may stay. The index
+/// doubles until the key there isn't below `from`; halving then finds how many are.
 fn removed_from(removed: &[u64], from: u64) -> &[u64]
     requires keys { AreKeys removed.now }
     requires order { IsNonDecreasing removed.now }
@@ -115,18 +116,19 @@ fn removed_from(removed: &[u64], from: u64) -> &[u64]
     ensures keys { AreKeys result.now }
     ensures order { IsNonDecreasing result.now }
 {
-    let mut near = 1;
-    while near < removed.len() && removed[near] < from {
-        near *= 2;
+    let mut bound = 1;
+    while bound < removed.len() && removed[bound] < from {
+        bound *= 2;
     }
-    if near == 1 {
+    if bound == 1 {
         return removed;
     }
-    let passed = removed[..near.min(removed.len())].partition_point(|key| *key < from);
-    &removed[passed..]
+    let below = removed[..bound.min(removed.len())].partition_point(|key| *key < from);
+    &removed[below..]
 }
 
-/// The keys from `first` on, up to `last` or the one before the first removed key.
+/// The keys from `first` on, up to `last`, or to the one before the first removed key, if that
+/// comes first.
 fn run_from(first: u64, last: u64, removed: &[u64]) -> KeyRange
     requires forward { first ≤ last }
     requires small { IsKey last }

@@ -19,7 +19,7 @@ impl RangeSet {
         ensures { IfOk result (λ set. SameUids (is_open_in set)
             (λ u. list_any (λ one. is_open_in one u) sets.now)) }
     {
-        set_of(alloc, all_ranges(alloc, sets)?)
+        set_of(alloc, ranges_of_sets(alloc, sets)?)
     }
 
     /// The UIDs that lie in at least one of some masks.
@@ -27,11 +27,12 @@ impl RangeSet {
         ensures { IfOk result (λ set. SameUids (is_open_in set)
             (λ u. list_any (λ m. lies_in m u) masks.now)) }
     {
-        set_of(alloc, ranges_of(alloc, masks)?)
+        set_of(alloc, ranges_of_masks(alloc, masks)?)
     }
 }
 
-/// The set of the UIDs with keys in some ranges, which may come in any order, adjoin and overlap.
+/// The set of the UIDs with keys in some ranges. The ranges may come in any order, adjoin and
+/// overlap.
 fn set_of(alloc: Global, ranges: Vec<KeyRange>) -> Result<RangeSet, AllocError>
     ensures { IfOk result (λ set. SameUids (is_open_in set) (is_open_in ranges.items)) }
 {
@@ -41,7 +42,7 @@ fn set_of(alloc: Global, ranges: Vec<KeyRange>) -> Result<RangeSet, AllocError>
 }
 
 /// The ranges of all sets, one set after another.
-fn all_ranges(alloc: Global, sets: &[RangeSet]) -> Result<Vec<KeyRange>, AllocError>
+fn ranges_of_sets(alloc: Global, sets: &[RangeSet]) -> Result<Vec<KeyRange>, AllocError>
     ensures { IfOk result (λ all. (k : ℕ)
         → in_ranges all.items k ≡ list_any (λ one. in_ranges one k) sets.now) }
 {
@@ -53,8 +54,8 @@ fn all_ranges(alloc: Global, sets: &[RangeSet]) -> Result<Vec<KeyRange>, AllocEr
     Ok(all)
 }
 
-/// The keys of each mask that holds a UID.
-fn ranges_of(alloc: Global, masks: &[Mask]) -> Result<Vec<KeyRange>, AllocError>
+/// The range of the keys of each mask that holds a UID.
+fn ranges_of_masks(alloc: Global, masks: &[Mask]) -> Result<Vec<KeyRange>, AllocError>
     ensures { IfOk result (λ ranges. SameUids (is_open_in ranges.items)
         (λ u. list_any (λ m. lies_in m u) masks.now)) }
 {

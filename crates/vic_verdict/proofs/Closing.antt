@@ -1,6 +1,6 @@
 -- The mentions between two keys, and which keys some slots close.
 use Rattle.vic_verdict.proofs.Words.{All, Bool, List, [], ap, arith, drop, false, get_or, if◌then◌else◌, length, nat_le, nat_lt, ne_eqb, not, refl, sym, take, take-append-drop, take_all, true, ℕ, ◌&&◌, ◌++◌, ◌+◌, ◌<◌, ◌==◌, ◌||◌, ◌∙◌, ◌∷◌, ◌≡◌, ◌≤◌, nat_tests, All-take, list_any-append, list_any_more, list_any_none, list_any, or_false, in_ranges, is_between, Mention, Closes, AreInOrder, IsStart, has_left, has_where}
-use Rattle.vic_verdict.proofs.Sweeping.{all_below, all_from, between_parts, nobody}
+use Rattle.vic_verdict.proofs.ReadSlots.{all_below, all_from, between_parts, nobody}
 
 -- ---- the mentions between two keys
 

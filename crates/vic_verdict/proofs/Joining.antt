@@ -1,6 +1,6 @@
 -- Silent slots that are joined, two by two.
-use Rattle.vic_verdict.proofs.Words.{All, map, silent_slot, is_in_masks, is_in_any, length-append, IsPermutation, list_any-IsPermutation, append-nil, AreJoined, append_assoc, subst, All-cons, All-head, All-nil, All-push, All-tail, IsSilentSlot, List, ReadSlot, [], ap, arith, drop, first_of, get_or, is_between, is_in, last_of, length, length-take-le, list_any-append, nat_tests, refl, sym, take, take_all, take_more, ℕ, ◌%◌, ◌*◌, ◌++◌, ◌+◌, ◌-◌, ◌/◌, ◌<◌, ◌^◌, ◌||◌, ◌∙◌, ◌∷◌, ◌≡◌, ◌≤◌}
-use Rattle.vic_verdict.specs.inner.Sweep.{len_of}
+use Rattle.vic_verdict.proofs.Words.{All, map, silent_slot, is_in_masks, is_in_any, length-append, IsPermutation, list_any-IsPermutation, append-nil, AreJoined, append_assoc, subst, All-cons, All-head, All-nil, All-push, All-tail, IsSilentSlot, List, ReadSlot, [], ap, arith, drop, first_key_of, get_or, is_between, is_in, last_key_of, length, length-take-le, list_any-append, nat_tests, refl, sym, take, take_all, take_more, ℕ, ◌%◌, ◌*◌, ◌++◌, ◌+◌, ◌-◌, ◌/◌, ◌<◌, ◌^◌, ◌||◌, ◌∙◌, ◌∷◌, ◌≡◌, ◌≤◌}
+use Rattle.vic_verdict.specs.inner.ReadSlots.{len_of}
 use Rattle.std.proofs.Math.Seq.{drop-append_seam, take-append_seam}
 use Rattle.std.proofs.lemmas.List.{drop-append-le}
 use Rattle.std.proofs.lemmas.Nat.{pow_pos}
@@ -18,14 +18,14 @@ abbrev pub wider : ReadSlot → ReadSlot
 wider s = record { mask_number = s.mask_number - 1; key = s.key; at = s.at; is_heard = s.is_heard }
 
 -- the slot with one bit less has the keys of both
-pub both : (at : ℕ) (s t : ReadSlot) → IsSilentSlot at s → IsSilentSlot at t → 0 < len_of s → len_of t ≡ len_of s → first_of t ≡ last_of s + 1 → IsSilentSlot at (wider s) × ((k : ℕ) → is_in (wider s) k ≡ (is_in s k || is_in t k))
+pub both : (at : ℕ) (s t : ReadSlot) → IsSilentSlot at s → IsSilentSlot at t → 0 < len_of s → len_of t ≡ len_of s → first_key_of t ≡ last_key_of s + 1 → IsSilentSlot at (wider s) × ((k : ℕ) → is_in (wider s) k ≡ (is_in s k || is_in t k))
 both at s t a b some same next =
     let parts = less s.mask_number some in
     let size = twice (len_of s) some a.range.0 in
     let pos : 0 < 2 ^ (56 - len_of s) = pow_pos (56 - len_of s) in
-    let end : last_of s + 1 + (2 ^ (56 - len_of s) - 1) < 2 ^ 56 = rw (next, same) at b.range.1.1 in (
+    let end : last_key_of s + 1 + (2 ^ (56 - len_of s) - 1) < 2 ^ 56 = rw (next, same) at b.range.1.1 in (
       record { place = a.place; none = a.none; range = rw (parts.0, parts.1, size) (let short = a.range.0 in omega arith, (omega arith, omega arith)) },
-      λ k. rw (parts.0, parts.1, size, same) (halves (first_of s) (last_of s) (first_of t) (2 ^ (56 - len_of s)) k pos refl next),
+      λ k. rw (parts.0, parts.1, size, same) (halves (first_key_of s) (last_key_of s) (first_key_of t) (2 ^ (56 - len_of s)) k pos refl next),
     )
 
 -- ---- a slot more

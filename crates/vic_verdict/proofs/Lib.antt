@@ -13,7 +13,7 @@ pub mod Failing
 pub mod Listing
 pub mod Differing
 pub mod Merging
-pub mod Sweeping
+pub mod ReadSlots
 pub mod Joining
 pub mod Closing
 pub mod Stretching

@@ -1,6 +1,6 @@
 -- Which open UIDs answer, by the mentions.
-use Rattle.vic_verdict.proofs.Words.{take-append-drop, ◌≡◌, ℕ, nat_eq, ◌+◌, ◌-◌, ◌^◌, ◌<◌, ◌≤◌, ◌==◌, ◌++◌, List, [], ◌∷◌, length, take, drop, get_or, Bool, true, false, not, ◌&&◌, ◌||◌, refl, sym, ap, ◌∙◌, subst, arith, inl, inr, ⊎_elim, map, nat_lt, All, eq-eqb, eqb-true, list_any, and_parts, or_cases, or_left, or_right, both_ways, nat_tests, take-map, length-map, get_or-map, All-push, list_any-append, list_any_more, is_uid, has, BitMask, lies_in, is_in_block, mirror, uid_of, KeyBlock, uid_of_mirror, IsUid-from, is_uid_from, Gathers, UpToThree, is_between, Mention, IsReadyIn, is_ready_at, AreInOrder, HaveKeys, has_where, is_mentioned, is_quiet_by, quiet_of, drop-map, gathers_both, in_mask, without_keys, AreOpenMentions, HasMentionedIn, is_answering, is_awake, is_unmentioned_in, IsNonDecreasing, IsNonDecreasingBy-push, IsKey, mirror_below, mirror_of_uid, Any-from_list_any, gathers_full, list_any_at, and_from, false_from_ne_true, not_from_false, get_or-take, length-take-le}
-use Rattle.vic_verdict.proofs.Sweeping.{silenced_later, nobody}
+use Rattle.vic_verdict.proofs.Words.{take-append-drop, ◌≡◌, ℕ, nat_eq, ◌+◌, ◌-◌, ◌^◌, ◌<◌, ◌≤◌, ◌==◌, ◌++◌, List, [], ◌∷◌, length, take, drop, get_or, Bool, true, false, not, ◌&&◌, ◌||◌, refl, sym, ap, ◌∙◌, subst, arith, inl, inr, ⊎_elim, map, nat_lt, All, eq-eqb, eqb-true, list_any, and_parts, or_cases, or_left, or_right, both_ways, nat_tests, take-map, length-map, get_or-map, All-push, list_any-append, list_any_more, is_uid, has, BitMask, lies_in, is_in_block, mirror, uid_of, KeyBlock, uid_of_mirror, IsUid-from, is_uid_from, Gathers, UpToThree, is_between, Mention, IsReadyIn, is_ready_at, AreInOrder, HaveKeys, has_where, is_mentioned, is_quiet_by, quiet_of, drop-map, gathers_both, in_mask, without_keys, AreOpenMentions, HasMentionedIn, is_answering, is_ready_by, is_unmentioned_in, IsNonDecreasing, IsNonDecreasingBy-push, IsKey, mirror_below, mirror_of_uid, Any-from_list_any, gathers_full, list_any_at, and_from, false_from_ne_true, not_from_false, get_or-take, length-take-le}
+use Rattle.vic_verdict.proofs.ReadSlots.{silenced_later, nobody}
 use Rattle.vic_verdict.proofs.Entries.{UpToThree-same}
 
 -- an element that passes, of which P holds as it does of all
@@ -43,7 +43,7 @@ where_between p ns first last k inside e =
     subst (λ j. is_between first last j ≡ true) (eqb-true n.0.key k (and_parts _ _ n.2).0) n.1
 
 -- those without a mention, and then those with one
-pub both_answering : (set : ℕ → Bool) (ns os inside : List Mention) (b : KeyBlock) (from i last : ℕ) (us vs : List ℕ) → from ≤ i → ((k : ℕ) → is_between b.first last k ≡ is_in_block b.first b.len k) → AreOpenMentions (is_ready_at set ns from) ns os → ((k : ℕ) → is_between b.first last k ≡ true → has_where (is_awake i) inside k ≡ has_where (is_awake i) os k) → All (λ (n : Mention). is_between b.first last n.key ≡ true) inside → UpToThree (is_unmentioned_in set ns b) us → Gathers (IsReadyIn inside i) us vs → UpToThree (is_answering set ns b i) vs
+pub both_answering : (set : ℕ → Bool) (ns os inside : List Mention) (b : KeyBlock) (from i last : ℕ) (us vs : List ℕ) → from ≤ i → ((k : ℕ) → is_between b.first last k ≡ is_in_block b.first b.len k) → AreOpenMentions (is_ready_at set ns from) ns os → ((k : ℕ) → is_between b.first last k ≡ true → has_where (is_ready_by i) inside k ≡ has_where (is_ready_by i) os k) → All (λ (n : Mention). is_between b.first last n.key ≡ true) inside → UpToThree (is_unmentioned_in set ns b) us → Gathers (IsReadyIn inside i) us vs → UpToThree (is_answering set ns b i) vs
 both_answering set ns os inside b from i last us vs asked block o alike within h g = record {
   different = g.different h.different;
   members = λ u k. both u ∙ ⊎_elim (λ old. or_left _ _ (h.members u old)) (λ new. or_right _ _ (and_from _ _ (is_uid_from u new.0) new.1)) (g.only u k);
@@ -56,8 +56,8 @@ both_answering set ns os inside b from i last us vs asked block o alike within h
   table : (u s p q m l b h o : Bool) → (p ≡ true → q ≡ true) → (m ≡ false → q ≡ false) → l ≡ b → (l ≡ true → h ≡ o) → (h ≡ true → l ≡ true) → (u ≡ true → o ≡ ((s && not p) && (m && not q))) → ((u && s) && (b && not q)) ≡ (((u && s) && (b && not m)) || (u && h))
   table u s p q m l b h o later none block alike within is = grind (arith, later, none, alike, within, is)
 
-  both : (u : ℕ) → is_answering set ns b i u ≡ (is_unmentioned_in set ns b u || (is_uid u && has_where (is_awake i) inside (mirror u)))
-  both u = table (is_uid u) (set u) (is_quiet_by ns (mirror u) from) (is_quiet_by ns (mirror u) i) (is_mentioned ns (mirror u)) _ (is_in_block b.first b.len (mirror u)) _ _ (silenced_later ns (mirror u) from i asked) (quiet_mentioned ns (mirror u) i) (block (mirror u)) (alike (mirror u)) (where_between (is_awake i) inside b.first last (mirror u) within) (λ e. rw (uid_of_mirror u (IsUid-from u e)) at (o.members (mirror u) i (mirror_below 56 u)))
+  both : (u : ℕ) → is_answering set ns b i u ≡ (is_unmentioned_in set ns b u || (is_uid u && has_where (is_ready_by i) inside (mirror u)))
+  both u = table (is_uid u) (set u) (is_quiet_by ns (mirror u) from) (is_quiet_by ns (mirror u) i) (is_mentioned ns (mirror u)) _ (is_in_block b.first b.len (mirror u)) _ _ (silenced_later ns (mirror u) from i asked) (quiet_mentioned ns (mirror u) i) (block (mirror u)) (alike (mirror u)) (where_between (is_ready_by i) inside b.first last (mirror u) within) (λ e. rw (uid_of_mirror u (IsUid-from u e)) at (o.members (mirror u) i (mirror_below 56 u)))
 
 -- ---- a mention for each open UID that has one
 
@@ -66,7 +66,7 @@ pub record AreOpenTo (set : ℕ → Bool) (ns : List Mention) (i : ℕ) (os : Li
   pub order : AreInOrder os
   pub keys : HaveKeys os
   pub lower : All (λ (o : Mention). (j : ℕ) → i ≤ j → j < length ns → o.key ≤ (get_or ns j nobody).key) os
-  pub members : (k j : ℕ) → IsKey k → has_where (is_awake j) os k ≡ (set (uid_of k) && (is_mentioned (take i ns) k && not (is_quiet_by ns k j)))
+  pub members : (k j : ℕ) → IsKey k → has_where (is_ready_by j) os k ≡ (set (uid_of k) && (is_mentioned (take i ns) k && not (is_quiet_by ns k j)))
 
 -- a mention of a UID that isn't open, or that the mentions before it mention
 pub open_other : (set : ℕ → Bool) (ns : List Mention) (i : ℕ) (os : List Mention) → i < length ns → (set (uid_of (get_or ns i nobody).key) && not (is_mentioned (take i ns) (get_or ns i nobody).key)) ≡ false → AreOpenTo set ns i os → AreOpenTo set ns (i + 1) os
@@ -93,7 +93,7 @@ open_more set ns i os o up small below key there quiet h = record {
       let before = h.members k j key_small in
       let next = list_any_more (λ (n : Mention). n.key == k) ns i nobody below in
       let same = quiet j in
-      list_any-append (λ (n : Mention). (n.key == k) && is_awake j n) os (o ∷ []) ∙ grind (arith, nat_tests);
+      list_any-append (λ (n : Mention). (n.key == k) && is_ready_by j n) os (o ∷ []) ∙ grind (arith, nat_tests);
 }
 
 -- whether a UID with a key is one of a set and isn't Quiet at a position, from which on it is Quiet

@@ -1,7 +1,7 @@
 -- Whether somebody was heard while Quiet, by mentions in the order of their keys.
 use Rattle.vic_verdict.proofs.Words.{◌≡◌, ℕ, ◌+◌, ◌-◌, ◌<◌, ◌≤◌, ◌==◌, List, length, get_or, [], ◌∷◌, Bool, true, ◌&&◌, ◌||◌, eq-eqb, refl, sym, ap, ◌∙◌, arith, nat_lt, All, nat_tests, list_any, All-head, All-tail, list_any_at, Any-from_list_any, Mention, NEVER, reply_place, IsFirstQuietReply, is_between, quiet_of, is_quiet_by, has_where, AreInOrder, is_quiet_reply, IsQuietReply, if◌then◌else◌, take, take_all, All-weaker, min, All-more}
 use Rattle.vic_verdict.proofs.Closing.{between_from}
-use Rattle.vic_verdict.proofs.Sweeping.{nobody}
+use Rattle.vic_verdict.proofs.ReadSlots.{nobody}
 
 -- the mention at a position of a list
 abbrev pub at : List Mention → ℕ → Mention

@@ -1,6 +1,6 @@
 -- The main theorem says the same in the words of each version.
 use Rattle.vic_verdict.proofs.Words.{◌≡◌, ◌⊎◌, inl, inr, ℕ, zero, suc, true, false, List, [], ◌∷◌, refl, arith, nat_tests, ⊎_elim, ◌↔◌, filter, cases_eq, both_ways, false_from_ne_true, has, AreDifferent, Entry, LogLine, entries, IsPopulation, answers_at, CouldHaveGiven, is_quiet, has_here, has_there, has_cases, has_filter, AreDifferent-population, AreDifferent-filter, IsVerdict, Complete, filter_has, IsWhole, has_at, AreOfFirstVersion, CouldHaveGivenFirst, Outcome, Nobody, Lone, Several, outcome_of, outcome_at, Fits, given-first, quiet-silenced}
-use Rattle.vic_verdict.specs.TwoVersions.{HasExactlyListed, IsWholeFirst, IsReady, Answers, AnswersAlone, SeveralAnswer, IsToldOf, CouldHaveGivenSecond, IsWholeSecond}
+use Rattle.vic_verdict.specs.TwoVersions.{HasExactlyListed, IsWholeFirst, IsReady, Answers, AnswersAlone, SeveralAnswer, IsTrueOf, CouldHaveGivenSecond, IsWholeSecond}
 use Rattle.vic_verdict.proofs.Decide.{IsPossible-iff, IsPossibleUid-iff, IsCertainUid-iff}
 use Rattle.vic_verdict.proofs.Verdicts.{complete_whole}
 
@@ -34,7 +34,7 @@ is_outcome p es i [] d is = inl (refl, λ u a. let h = (is u).0 a in cc)
 is_outcome p es i (x ∷ []) d is = inr (inl (x, refl, ((is x).1 (has_here x []), λ v a. ⊎_elim (λ e. e) (λ k. cc) (has_cases v x [] ((is v).0 a)))))
 is_outcome p es i (x ∷ y ∷ xs) d is = inr (inr (refl, (x, y, (λ e. both_ways _ d.0 (has_at x y xs e)), (is x).1 (has_here x (y ∷ xs)), (is y).1 (has_there y x (y ∷ xs) (has_here y xs)))))
 
-told-iff : (p : List ℕ) (es : List Entry) (i : ℕ) (e : Entry) (o : Outcome) → IsOutcome p es i o → Fits e o ↔ IsToldOf p es i e
+told-iff : (p : List ℕ) (es : List Entry) (i : ℕ) (e : Entry) (o : Outcome) → IsOutcome p es i o → Fits e o ↔ IsTrueOf p es i e
 told-iff p es i e o c = grind (arith, nat_tests)
 
 -- ---- what a population could have produced

@@ -1,7 +1,7 @@
 -- What meets the slots of a stretch.
 use Rattle.vic_verdict.proofs.Words.{◌≡◌, ℕ, zero, suc, ◌+◌, ◌<◌, ◌≤◌, ◌++◌, List, [], ◌∷◌, length, take, get_or, length-append, Bool, true, ◌&&◌, Option, Some, refl, sym, ap, ◌∙◌, subst, arith, inl, inr, ⊎_elim, ◌⊎◌, ◌==◌, slice_get, All, Any, sum_by, eq-eqb, eqb-true, list_any, cases_eq, cases_lt, or_left, or_right, slice_get_within, All-push, list_any-append, All-permutation, list_any-IsPermutation, IsUid, is_uid, mirror, SameUids, UpToThree, Entry, Collision, Garbled, is_quiet, ManyReplies, SomeReply, slots_of, is_open, AgreeBefore, answers_agree, answers_at, IsUid-from, UnreadSlot, Found, KeptStretch, Mention, Lacks, answering, HaveKeys, is_quiet_by, AreSameMentions, needs, needs_of, IsFound, IsUnreadSlotBy, AreFound, AreKept, get_or_append_left, get_or_from_slice_get, slice_get_past, IsUnreadSlot, answers_by, IsUnmet, IsUnmetAt, IsImpliedBy, IsImpliedByNext, HasBlock, HasKeysAt, HasMentionsInOrder, IsKept, Keeps, AreMet, AreUnreadSlots, needed_by, has_slot_at, Any-push, sum_by-cons, sum_by_more, sum_by_push, sum_by-take-le, sum_by-IsPermutation, needs_at, all_needs, Meets, All-append, All-cons, All-more, All-nil, All-weaker, append-nil, sum_by-append, take_all, rules, drop, get_or-drop, length-drop, ◌-◌}
 use Rattle.vic_verdict.proofs.Ready.{one_of}
-use Rattle.vic_verdict.proofs.Sweeping.{silenced_later}
+use Rattle.vic_verdict.proofs.ReadSlots.{silenced_later}
 use Rattle.vic_verdict.proofs.Entries.{asks_two_iff, asks_one_iff, UpToThree-same}
 
 -- ---- who answers, by the mentions

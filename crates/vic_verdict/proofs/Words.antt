@@ -75,9 +75,9 @@ pub use Rattle.vic_verdict.specs.declared.unread_slots.KeptStretch.{KeptStretch}
 pub use Rattle.vic_verdict.specs.declared.judging.Verdict.TheVariants.{Absent, Complete, Doubtful, Impossible, Unlisted, Unsettled}
 pub use Rattle.vic_verdict.specs.declared.mentions.Mention.{Mention}
 pub use Rattle.vic_verdict.specs.declared.mentions.TheConstants.{NEVER}
-pub use Rattle.vic_verdict.specs.declared.sweep.ReadSlot.{ReadSlot}
-pub use Rattle.vic_verdict.specs.declared.sweep.MaskSummary.{MaskSummary}
-pub use Rattle.vic_verdict.specs.inner.Answering.{AreOpenMentions, HasMentionedIn, AreLookups, IsReadyIn, IsUnmentioned, is_answering, is_awake, is_ready_at, is_unmentioned, is_unmentioned_in}
+pub use Rattle.vic_verdict.specs.declared.read_slots.ReadSlot.{ReadSlot}
+pub use Rattle.vic_verdict.specs.declared.read_slots.MaskSummary.{MaskSummary}
+pub use Rattle.vic_verdict.specs.inner.Answering.{AreOpenMentions, HasMentionedIn, AreLookups, IsReadyIn, IsUnmentioned, is_answering, is_ready_by, is_ready_at, is_unmentioned, is_unmentioned_in}
 pub use Rattle.vic_verdict.specs.inner.Unread.{AreUnreadSlots, AreKept, AreMet, HasBlock, HasBlocks, HasKeysAt, HasMentionsInOrder, IsImpliedByNext, IsUnreadSlot, IsUnreadSlotBy, IsImpliedBy, IsKept, IsUnmet, IsUnmetAt, Keeps, answers_by, needed_by, has_slot_at}
 pub use Rattle.vic_verdict.specs.inner.Closed.{Closes, closes_with}
 pub use Rattle.vic_verdict.specs.inner.Chosen.{all_chosen, chosen, chosen_population, is_other}
@@ -85,4 +85,4 @@ pub use Rattle.vic_verdict.specs.inner.Merging.{AreBelow}
 pub use Rattle.vic_verdict.specs.inner.Ruling.{Lacks, NoneRulesOutAfter, rules_out}
 pub use Rattle.vic_verdict.specs.inner.Replies.{CanAnswer, IsFirstQuietReply, IsQuietReply, RepliesAnswer, is_quiet_reply, reply_place}
 pub use Rattle.vic_verdict.specs.inner.Stretches.{BeginsAt, EndsAt, HasGathered, HasRead, IsReadSlot, AreSilentTo, AreStretchesOf, IsGatheredAt, SaysAt, WasSilentAt, mention_at, mentions_at, mentions_from}
-pub use Rattle.vic_verdict.specs.inner.Sweep.{AreInOrder, AreGathered, AreJoined, AreSameMentions, HasRange, IsMaskNumber, IsNumberOf, IsSilentSlot, heard_slot, silent_slot, is_in_masks, HaveKeys, IsSummary, IsStart, all_allow, all_hear_mentioned, all_leave, are_left, first_of, has_left, has_where, heard_of, hears_mentioned, is_before, is_heard, is_in, is_in_any, is_mentioned, is_mentioned_if, is_quiet_by, keep, keep_all, last_of, summary_leaves, mask_leaves, quiet_of, read_allows, read_leaves, some_mask_leaves, slot_leaves}
+pub use Rattle.vic_verdict.specs.inner.ReadSlots.{AreInOrder, AreGathered, AreJoined, AreSameMentions, HasRange, IsMaskNumber, IsNumberOf, IsSilentSlot, heard_slot, silent_slot, is_in_masks, HaveKeys, IsSummary, IsStart, all_allow, all_hear_mentioned, all_leave, are_left, first_key_of, has_left, has_where, heard_of, hears_mentioned, is_before, is_heard, is_in, is_in_any, is_mentioned, is_mentioned_if, is_quiet_by, keep, keep_all, last_key_of, summary_leaves, mask_leaves, quiet_of, read_allows, read_leaves, some_mask_leaves, slot_leaves}

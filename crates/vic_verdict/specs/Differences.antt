@@ -12,19 +12,19 @@ use Rattle.vic_verdict.specs.Rising.{IsFailing, IsListOf}
 use Rattle.vic_verdict.specs.declared.findings.Differences.{Differences}
 
 -- a UID that may be there and may be missing: possible, and not certain
-abbrev pub IsOpenUid : List Entry → ℕ → Type 0
-IsOpenUid es u = IsPossibleUid es u × (IsCertainUid es u → ⊥)
+abbrev pub IsUndecided : List Entry → ℕ → Type 0
+IsUndecided es u = IsPossibleUid es u × (IsCertainUid es u → ⊥)
 
 -- a mask of at most 56 bits all of whose UIDs may be there, may be missing, and aren't listed
 abbrev pub IsLeftOpen : List Entry → BitMask → Type 0
 IsLeftOpen es m =
     (m.len ≤ UID_BITS) × (m.value < 2 ^ m.len)
     × ((u : ℕ) → IsUid u → lies_in m u ≡ true
-    → IsOpenUid es u × (has (listed es) u ≡ false))
+    → IsUndecided es u × (has (listed es) u ≡ false))
 
 -- a listed UID that may be there and may be missing
 abbrev pub MayBeMissing : List Entry → ℕ → Type 0
-MayBeMissing es u = (has (listed es) u ≡ true) × IsOpenUid es u
+MayBeMissing es u = (has (listed es) u ≡ true) × IsUndecided es u
 
 -- ---- the same by a set of open UIDs and the list of the certain ones
 

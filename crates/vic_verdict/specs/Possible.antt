@@ -19,7 +19,7 @@ IsPossibleUid es u = (p : List ℕ) × IsPopulation p × CouldHaveGiven p es × 
 abbrev pub IsCertainUid : List Entry → ℕ → Type 0
 IsCertainUid es u = (p : List ℕ) → IsPopulation p → CouldHaveGiven p es → has p u ≡ true
 
--- no population could have produced the entries up to position i
+-- no population could have produced the entries up to position i, the one there included
 pub record IsContradictedAt (es : List Entry) (i : ℕ) : Type 0 where
   pub within : i < length es
   pub impossible : IsPossible (take (i + 1) es) → ⊥

@@ -42,20 +42,20 @@ AnswersAlone p es i u = Answers p es i u × ((v : ℕ) → Answers p es i v → 
 abbrev pub SeveralAnswer : List ℕ → List Entry → ℕ → Type 0
 SeveralAnswer p es i = (u v : ℕ) × (u ≢ v) × Answers p es i u × Answers p es i v
 
--- what the entry at position i says about its slot
-abbrev pub IsToldOf : List ℕ → List Entry → ℕ → Entry → Type 0
-IsToldOf p es i Silent = (u : ℕ) → Answers p es i u → ⊥
-IsToldOf p es i (Heard r) = AnswersAlone p es i r.uid
-IsToldOf p es i Collision = SeveralAnswer p es i
-IsToldOf p es i Garbled = ((u : ℕ) × AnswersAlone p es i u) ⊎ SeveralAnswer p es i
-IsToldOf p es i (Sent q) = ⊤
-IsToldOf p es i (Listed u) = ⊤
-IsToldOf p es i FieldCycle = ⊤
+-- what the entry at position i says of its slot is true of the population
+abbrev pub IsTrueOf : List ℕ → List Entry → ℕ → Entry → Type 0
+IsTrueOf p es i Silent = (u : ℕ) → Answers p es i u → ⊥
+IsTrueOf p es i (Heard r) = AnswersAlone p es i r.uid
+IsTrueOf p es i Collision = SeveralAnswer p es i
+IsTrueOf p es i Garbled = ((u : ℕ) × AnswersAlone p es i u) ⊎ SeveralAnswer p es i
+IsTrueOf p es i (Sent q) = ⊤
+IsTrueOf p es i (Listed u) = ⊤
+IsTrueOf p es i FieldCycle = ⊤
 
 -- every slot line is true of the population
 abbrev pub CouldHaveGivenSecond : List ℕ → List Entry → Type 0
 CouldHaveGivenSecond p es =
-    (i : ℕ) (e : Entry) → slice_get es i ≡ Some e → IsToldOf p es i e
+    (i : ℕ) (e : Entry) → slice_get es i ≡ Some e → IsTrueOf p es i e
 
 -- the main theorem for version 2
 abbrev pub IsWholeSecond : List Entry → Type 0

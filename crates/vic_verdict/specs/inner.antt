@@ -1,6 +1,6 @@
 -- Definitions that private contracts alone cite.
 pub mod Merging
-pub mod Sweep
+pub mod ReadSlots
 pub mod Closed
 pub mod Replies
 pub mod Answering

@@ -14,11 +14,11 @@ ghost use Rattle.vic_tree.specs.Gathering.{Gathers};
 ghost use Rattle.vic_tree.specs.OpenSet.{AreKeys, UpToThree};
 ghost use Rattle.vic_verdict.specs.declared.mentions.Mention.{Mention as MentionValue};
 ghost use Rattle.vic_verdict.specs.declared.answering.Unmentioned.{Unmentioned as UnmentionedValue};
-ghost use Rattle.vic_verdict.specs.inner.Sweep.{AreInOrder, HaveKeys, is_mentioned, quiet_of};
+ghost use Rattle.vic_verdict.specs.inner.ReadSlots.{AreInOrder, HaveKeys, is_mentioned, quiet_of};
 ghost use Rattle.vic_verdict.specs.inner.Answering.{AreOpenMentions, IsKnown, AreLookups, IsReadyIn, IsUnmentioned, HasInside, HasMentionedIn, is_answering, is_ready_at, is_unmentioned, is_unmentioned_in};
 
 use crate::mentions::{
-    Mention, MentionCursor, first_to_silence, is_any_quiet, mentions_between, start_of,
+    Mention, MentionCursor, first_to_silence, is_any_quiet, mentions_to, start_of,
 };
 use arrayvec::ArrayVec;
 use std::alloc::{AllocError, Global};
@@ -35,7 +35,8 @@ pub(crate) struct Unmentioned {
     pub uids: Vec<Uid>,
 }
 
-/// What is known about the mentions of a stretch, and about the UIDs without a mention.
+/// What is known about some mentions, all of a stretch or those in one mask, and about the UIDs
+/// without a mention.
 #[derive(Drop)]
 pub(crate) struct Known {
     /// The position from which on it is known which UIDs answer.
@@ -80,9 +81,7 @@ fn open_mentions<S: OpenSet>(
     let is_open = set.has_each(alloc, keys)?;
     let mut mentioned = Vec::new(alloc);
     for i in 0..mentions.len() {
-        let key = mentions[i].key;
-        if i == 0 || mentions[i - 1].key < key {
-            let first = first_to_silence(mentions[i], mentions_between(mentions, i, key, key));
+        if let Some(first) = first_to_silence(mentions, i) {
             if from <= first.quiet_after() && is_open[i] {
                 mentioned.push(first)?;
             }
@@ -136,15 +135,11 @@ impl Known {
     {
         let (first, last) = (block.first, block.last());
         let start = cursor.seek(mentions, first);
-        let end = start + mentions_between(mentions, start, first, last).len();
+        let end = start + mentions_to(mentions, start, last).len();
         let masks = &mut self.masks;
         let mut uids = unmentioned_in(alloc, set, &self.keys[start..end], masks, block)?;
         let start = start_of(&self.mentioned, first);
-        gather_ready(
-            &mut uids,
-            mentions_between(&self.mentioned, start, first, last),
-            at,
-        );
+        gather_ready(&mut uids, mentions_to(&self.mentioned, start, last), at);
         Ok(uids)
     }
 }
@@ -153,15 +148,15 @@ impl Known {
 /// what is known of all mentions.
 #[derive(Drop)]
 pub(crate) struct Lookups {
-    /// How many more mentions may be looked at for single slots. Once they are spent, all are
-    /// looked at once, for all slots.
+    /// How many more mentions may be looked at for single slots. Once a slot has more than that,
+    /// all are looked at, once for all slots.
     pub spare: usize,
     pub known: Option<Known>,
 }
 
 impl Lookups {
-    /// Nothing is known yet. Until it is known where each UID becomes Quiet, a quarter of the
-    /// mentions may be looked at slot by slot, since most stretches have only a few such slots.
+    /// Nothing is known yet. A quarter of the mentions may be looked at slot by slot, since most
+    /// stretches have only a few slots in which a UID that is found first is Quiet.
     pub(crate) fn new(mentions: &[Mention]) -> Lookups
         ensures { result.known ≡ None }
     {
@@ -178,8 +173,24 @@ impl Lookups {
         self.spare = 0;
     }
 
-    /// Whether a slot with some mentions is worth looking at alone; if so, they are spent. None is
-    /// once all mentions are known.
+    /// The mentions in a block of keys, one for each open UID that has some and isn't Quiet at
+    /// `Known::from`; an empty list if nothing had to be known, since the UIDs that were found
+    /// first weren't Quiet.
+    pub(crate) fn mentioned_in(&self, block: &KeyBlock) -> &[Mention]
+        requires order { IfSome self.now.known (λ k. AreInOrder k.mentioned.items) }
+        requires block { IsBlock block.now.first block.now.len }
+    {
+        match &self.known {
+            Some(known) => {
+                let start = start_of(&known.mentioned, block.first);
+                mentions_to(&known.mentioned, start, block.last())
+            }
+            None => &[],
+        }
+    }
+
+    /// Whether a slot is looked up by the mentions in its mask alone; if so, they are spent. It
+    /// isn't if too few are left to spend, or all mentions have been looked at.
     fn try_spend(&mut self, mentions: &[Mention]) -> bool
         ensures { self.new.known ≡ self.old.known }
     {
@@ -192,7 +203,7 @@ impl Lookups {
 }
 
 /// What is known at a position: what has been found already, if it holds there; otherwise it is
-/// found anew, from position `from` on.
+/// found anew, from position `from` on, or from `at` on if that is earlier.
 fn known_at<S: OpenSet>(
     alloc: Global,
     set: &S,
@@ -238,7 +249,7 @@ pub(crate) fn up_to_three_answering<S: OpenSet>(
 {
     let uids = set.up_to_three(&mask_of_keys(block.first, block.len), &[]);
     let start = cursor.seek(mentions, block.first);
-    let inside = mentions_between(mentions, start, block.first, block.last());
+    let inside = mentions_to(mentions, start, block.last());
     if !is_any_quiet(inside, &uids, at) {
         return Ok(uids);
     }
@@ -290,7 +301,7 @@ impl Unmentioned {
 }
 
 /// How many of the searched masks are kept: those up to the last one that doesn't end before a key.
-/// The ones after it have none of the blocks that are still to come.
+/// If blocks come in order, the ones after it have none of those that are still to come.
 fn count_kept(masks: &[Unmentioned], first: u64) -> usize {
     for index in (0..masks.len()).rev() {
         if first <= masks[index].last {
@@ -301,8 +312,8 @@ fn count_kept(masks: &[Unmentioned], first: u64) -> usize {
 }
 
 /// Open UIDs without a mention in a block of keys, by the keys of the mentions there: three, or all
-/// if there are fewer. Blocks come in the order of their first keys, outer ones before inner ones,
-/// so that hardly any keys are searched twice.
+/// if there are fewer. If blocks come in the order of their first keys, outer ones before inner
+/// ones, hardly any keys are searched twice.
 fn unmentioned_in<S: OpenSet>(
     alloc: Global,
     set: &S,

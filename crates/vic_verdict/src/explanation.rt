@@ -108,12 +108,12 @@ fn choose(met: Met, avoid: &Option<Uid>) -> Result<Vec<Uid>, AllocError>
 fn add_chosen(uids: &mut Vec<Uid>, found: &Found, avoid: &Option<Uid>) -> Result<(), AllocError>
     ensures { OnOk result (uids.new.items ≡ uids.old.items ++ chosen avoid.now found.now) }
 {
-    let mut left = found.need;
+    let mut lacking = found.need;
     let candidates: &[Uid] = &found.uids;
     for uid in candidates {
-        if left > 0 && is_other(avoid, *uid) {
+        if lacking > 0 && is_other(avoid, *uid) {
             uids.push(*uid)?;
-            left -= 1;
+            lacking -= 1;
         }
     }
     Ok(())
@@ -130,11 +130,11 @@ fn is_other(avoid: &Option<Uid>, uid: Uid) -> bool
 }
 
 /// UIDs with one more UID, in rising order.
-fn with_uid(mut tags: Vec<Uid>, uid: Uid) -> Result<Vec<Uid>, AllocError>
+fn with_uid(mut uids: Vec<Uid>, uid: Uid) -> Result<Vec<Uid>, AllocError>
     ensures rising { IfOk result (λ v. IsStrictlyIncreasing v.items) }
-    ensures members { IfOk result (λ v. SameMembers v.items (tags.items ++ uid ∷ [])) }
+    ensures members { IfOk result (λ v. SameMembers v.items (uids.items ++ uid ∷ [])) }
 {
-    tags.push(uid)?;
-    put_in_order(&mut tags);
-    Ok(tags)
+    uids.push(uid)?;
+    put_in_order(&mut uids);
+    Ok(uids)
 }

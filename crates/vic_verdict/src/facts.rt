@@ -45,7 +45,7 @@ pub struct Facts<S: OpenSet> {
 pub struct Met {
     /// The UIDs that were heard, in any order.
     pub heard: Vec<Uid>,
-    /// What meets the unread slots: each of these slots is met by one of them, and one may meet
+    /// What meets the unread slots: each of them is met by the UIDs of one `Found`, which may meet
     /// many.
     pub found: Vec<Found>,
 }
@@ -97,28 +97,28 @@ fn add_if_exactly(certain: &mut Vec<Uid>, uids: &[Uid], count: usize) -> Result<
     Ok(())
 }
 
-/// The position of a line, counted from 0: no population could have produced the lines of the log
-/// up to that one, itself included. There may be earlier such positions.
+/// That no population could have produced the lines of a log up to one of them, itself included.
 #[derive(Clone, Copy)]
 pub struct Contradiction {
+    /// The position of that line, counted from 0. There may be earlier ones.
     pub at: usize,
     pub before: Before,
 }
 
-/// The lines before a contradiction.
+/// What is known, or guessed, of the lines before a contradiction.
 #[derive(Clone, Copy)]
 pub enum Before {
     /// Some population could have produced them: the contradiction is the first one.
     ArePossible,
-    /// Some population seems to fit them. This is a guess, which decides only where the search for
-    /// the first impossible line begins.
+    /// Some population seems to fit them. This is a guess, which decides only how many lines
+    /// `first_impossible_line` judges next.
     SeemPossible,
     /// Nothing is known about them.
     AreUnknown,
 }
 
 /// The UIDs that a log leaves open, and which of them meet its slots, if some population could have
-/// produced it.
+/// produced it; else a contradiction.
 pub fn open_and_met<S: OpenSet>(
     alloc: Global,
     lines: &[PackedLine],
@@ -147,16 +147,17 @@ pub fn open_and_met<S: OpenSet>(
     }
 }
 
-/// The UIDs heard in a log, and the open UIDs that meet its unread slots; or a contradiction. Each
-/// UID heard is known to be Ready there, and in the mask of its slot.
+/// The UIDs heard in a log, and the open UIDs that meet its unread slots; or a contradiction, if
+/// one heard isn't open, or a slot is unmet. The caller has seen that each UID heard was Ready, and
+/// lies in the mask of its slot.
 fn meet_log<S: OpenSet>(
     alloc: Global,
     set: &S,
     lines: &[PackedLine],
-    stretches: &[KeptStretch],
+    kept: &[KeptStretch],
 ) -> Result<Result<Met, Contradiction>, AllocError>
     requires lines { AreLogLines lines.now }
-    requires kept { AreKept (entries lines.now) (length (entries lines.now)) stretches.now }
+    requires kept { AreKept (entries lines.now) (length (entries lines.now)) kept.now }
     requires answer { RepliesAnswer (entries lines.now) }
     requires open { SameUids (S.is_open set.now) (is_open (slots_of (entries lines.now))) }
     ensures { IfOk result (λ r. MatchResult r
@@ -170,7 +171,7 @@ fn meet_log<S: OpenSet>(
             before: Before::AreUnknown,
         }));
     }
-    match meet_stretches(alloc, set, stretches)? {
+    match meet_stretches(alloc, set, kept)? {
         Ok(found) => Ok(Ok(Met { heard, found })),
         Err(unmet) => {
             let at = last_ruling(lines, unmet);
@@ -220,8 +221,8 @@ pub fn keys_in_order(alloc: Global, uids: &[Uid]) -> Result<Vec<u64>, AllocError
 }
 
 /// The position of the last line after `from` that may rule UIDs out; `from` if there is none. The
-/// log up to that line leaves the same UIDs open as the complete log, so what contradicts these
-/// contradicts the lines up to that one.
+/// lines up to that one leave the same UIDs open as all of `lines`, so if those UIDs don't meet a
+/// slot up to it, these lines are impossible already.
 fn last_ruling(lines: &[PackedLine], from: usize) -> usize
     requires { from < length lines.now }
     ensures from { from ≤ result }

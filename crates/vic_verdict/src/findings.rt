@@ -19,8 +19,8 @@ use vic_tree::OpenSet;
 use vic_tree::outside::uids_outside;
 use vic_tree::rising::put_in_order;
 
-/// How a list of UIDs differs from what a log says. The other findings, the listed UIDs that may be
-/// there or not, follow from these: they are neither certain nor absent.
+/// How a list of UIDs differs from what a log says. The doubtful UIDs can't be told from it alone:
+/// they are the listed ones that are neither certain nor absent (`missing_from`, called twice).
 #[derive(Drop)]
 pub struct Differences {
     /// The listed UIDs that can't be there, in rising order.
@@ -28,7 +28,8 @@ pub struct Differences {
     /// The UIDs that must be there and aren't listed, in rising order.
     pub unlisted: Vec<Uid>,
     /// The first mask by length, then by value, of at most 56 bits, all of whose UIDs may be there
-    /// or not and aren't listed.
+    /// or not and aren't listed. Unlike that of a verdict it has no certain UIDs; if all of those
+    /// are listed, both are the same mask.
     pub unsettled: Option<Mask>,
 }
 
@@ -47,7 +48,7 @@ pub fn compare<S: OpenSet>(
     let unlisted = missing_from(alloc, certain, listed)?;
     let keys = keys_of_both(alloc, listed, &unlisted)?;
     // those unlisted are certain, so only listed ones can be absent
-    let absent = absent_from(alloc, &set, certain, &keys)?;
+    let absent = absent_from(alloc, &keys, &set, certain)?;
     let unsettled = set.widest_besides(&keys)?;
     Ok(Differences {
         absent,
@@ -57,13 +58,13 @@ pub fn compare<S: OpenSet>(
 }
 
 /// The UIDs at some keys, which come in order, that can't be there, since they are neither in a set
-/// nor certain; in rising order. The set of one log has its certain UIDs, that of several logs
-/// together (`vic_reconcile`) has none.
+/// nor certain; in rising order. The open UIDs of one log contain its certain ones, so these change
+/// nothing; the set that `vic_reconcile` makes of several logs contains none of them.
 pub(crate) fn absent_from<S: OpenSet>(
     alloc: Global,
+    keys: &[u64],
     set: &S,
     certain: &[Uid],
-    keys: &[u64],
 ) -> Result<Vec<Uid>, AllocError>
     requires certain { IsStrictlyIncreasing certain.now }
     requires order { IsNonDecreasing keys.now }

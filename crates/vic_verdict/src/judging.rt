@@ -42,8 +42,8 @@ pub enum Verdict {
 ///
 /// If it is `Complete`, some population could have produced the log, and every population that
 /// could has exactly the listed UIDs (clause `whole`; clause `second` says the same in the words of
-/// version 2, whose logs have field cycles and garbled slots). A possible log that leaves nothing
-/// open but what it heard and lists is `Complete` (clause `reached`).
+/// version 2, whose logs have field cycles and garbled slots). If a possible log heard each UID
+/// that it lists, and leaves no other UID open, the verdict is `Complete` (clause `reached`).
 pub fn judge(alloc: Global, log: &Log) -> Result<Verdict, AllocError>
     ensures verdict { IfOk result (λ v. IsVerdict log.now.lines v) }
     ensures whole { IfOk result (λ v. (count : ℕ) → v ≡ Complete count
@@ -106,7 +106,7 @@ pub fn first_finding<S: OpenSet>(
 {
     let listed = listed_uids(alloc, lines)?;
     let keys = keys_in_order(alloc, &listed)?;
-    let absent = absent_from(alloc, &set, certain, &keys)?;
+    let absent = absent_from(alloc, &keys, &set, certain)?;
     if let Some(uid) = first_of(&absent) {
         return Ok(Verdict::Absent(uid));
     }
@@ -114,11 +114,12 @@ pub fn first_finding<S: OpenSet>(
     if let Some(uid) = first_of(&unlisted) {
         return Ok(Verdict::Unlisted(uid));
     }
-    // all certain UIDs are listed by now, so their keys are among these
+    // `compare` leaves the certain UIDs out of the mask, and its callers leave the absent ones out
+    // of the doubtful ones. Neither is needed here: by now all certain UIDs are listed, and no
+    // listed UID is absent
     if let Some(mask) = set.widest_besides(&keys)? {
         return Ok(Verdict::Unsettled(mask));
     }
-    // none is absent by now
     let doubtful = missing_from(alloc, &listed, certain)?;
     if let Some(uid) = first_of(&doubtful) {
         return Ok(Verdict::Doubtful(uid));
@@ -135,10 +136,11 @@ fn first_of(uids: &[Uid]) -> Option<Uid>
 }
 
 /// The number of the first line up to which no population could have produced the log, found by
-/// bisection: what is impossible stays so when lines follow. Bisection begins at a guess: before
-/// the contradiction if it seems to be the first, otherwise where a pass over the lines before it
-/// suggests; a guess that is too early is moved on in steps that double. As long as that pass is
-/// right, the lines are judged at most three times here, usually once or not at all.
+/// bisection: what is impossible stays so when lines follow. Bisection begins at a guess, and so
+/// again at each earlier contradiction: before it if it seems to be the first, otherwise where a
+/// pass over the lines before it suggests; a guess that is too early is moved on in steps that
+/// double. As long as that pass is right, the lines are judged at most three times here, usually
+/// once or not at all.
 pub fn first_impossible_line<S: OpenSet>(
     alloc: Global,
     lines: &[PackedLine],
@@ -151,14 +153,14 @@ pub fn first_impossible_line<S: OpenSet>(
     // the first `low` lines are possible, those up to the one at position `last` aren't
     let mut low = possible_before(contradiction);
     let mut last = contradiction.at;
-    let mut guess = first_guess(contradiction);
+    let mut guess = next_guess(contradiction);
     let mut step: usize = 1;
     while low < last {
         let guessed = match guess {
             Some(count) => count,
             None => guess_impossible_line(alloc, &lines[..last])?,
         };
-        let count = between(low, last, guessed);
+        let count = probe(low, last, guessed);
         match open_and_met::<S>(alloc, &lines[..count])? {
             Ok(_) => {
                 low = count;
@@ -169,15 +171,16 @@ pub fn first_impossible_line<S: OpenSet>(
             Err(earlier) => {
                 low = low.max(possible_before(earlier));
                 last = earlier.at;
-                guess = first_guess(earlier);
+                guess = next_guess(earlier);
             }
         }
     }
     Ok(lines[last].number())
 }
 
-/// A count of lines above `low` and up to `last`: the guess if it is one, otherwise the middle.
-fn between(low: usize, last: usize, guess: usize) -> usize
+/// How many lines to judge next, more than `low` and at most `last`: as many as guessed if that is
+/// between them, otherwise half-way.
+fn probe(low: usize, last: usize, guess: usize) -> usize
     requires { low < last }
     ensures above { low < result }
     ensures within { result ≤ last }
@@ -202,8 +205,8 @@ fn possible_before(contradiction: Contradiction) -> usize
     }
 }
 
-/// How many lines to judge next: those before a contradiction, if they seem possible.
-fn first_guess(contradiction: Contradiction) -> Option<usize> {
+/// A guess at how many lines to judge next: those before a contradiction, if they seem possible.
+fn next_guess(contradiction: Contradiction) -> Option<usize> {
     match contradiction.before {
         Before::ArePossible | Before::SeemPossible => Some(contradiction.at),
         Before::AreUnknown => None,

@@ -14,8 +14,8 @@ mod findings;
 mod judging;
 pub mod laws;
 mod mentions;
+mod read_slots;
 mod stretches;
-mod sweep;
 mod unread_slots;
 
 pub use explanation::{Explanation, explain, explain_with};

@@ -1,7 +1,7 @@
 //! The UIDs that lines silence or hear between two field cycles, in the order of their keys: which
 //! of them are Quiet at a position, and whether those that were heard were Ready.
 
-ghost use Rattle.std.specs.Prelude.{◌≡◌, ◌<◌, ◌≤◌, ◌+◌, ◌||◌, ℕ, Bool, true, length, nat_lt, ◌++◌, ◌∷◌, [], IfOk, OnOk, take, drop};
+ghost use Rattle.std.specs.Prelude.{◌≡◌, ◌<◌, ◌≤◌, ◌+◌, ◌-◌, ◌||◌, ℕ, Bool, true, false, length, nat_lt, ◌++◌, ◌∷◌, [], IfOk, IfSome, IfNone, OnOk, take, drop, slice_index_or};
 ghost use Rattle.std.specs.List.{All, list_any};
 ghost use Rattle.std.specs.List.Sorted.{IsNonDecreasing};
 ghost use Rattle.vic_frame.specs.Uids.{has};
@@ -10,7 +10,7 @@ ghost use Rattle.vic_tree.specs.OpenSet.{AreKeys};
 ghost use Rattle.vic_verdict.specs.declared.mentions.Mention.{Mention as MentionValue};
 ghost use Rattle.vic_verdict.specs.declared.mentions.TheConstants.{NEVER};
 ghost use Rattle.vic_tree.specs.Ranges.{is_between};
-ghost use Rattle.vic_verdict.specs.inner.Sweep.{quiet_of, is_quiet_by, AreInOrder, HaveKeys, IsStart, has_where};
+ghost use Rattle.vic_verdict.specs.inner.ReadSlots.{quiet_of, is_quiet_by, AreInOrder, HaveKeys, IsStart, has_where};
 ghost use Rattle.vic_verdict.specs.inner.Replies.{reply_place, IsFirstQuietReply};
 
 use std::alloc::{AllocError, Global};
@@ -28,9 +28,9 @@ pub(crate) struct Mention {
     /// The line's position.
     pub at: u32,
     pub is_heard: bool,
-    /// For `sweep` alone: whether the slots looked at so far leave the UID, as if this line alone
-    /// said from where on it is Quiet. A UID is left if one of its mentions is: of two Stay Quiets
-    /// at positions 5 and 10, a silent slot at 7 leaves the first one, and so the UID.
+    /// For `read_slots` alone: whether the slots looked at so far leave the UID, as if this line
+    /// alone said from where on it is Quiet. A UID is left if one of its mentions is: of two Stay
+    /// Quiets at positions 5 and 10, a silent slot at 7 leaves the first one, and so the UID.
     pub left: bool,
 }
 
@@ -54,7 +54,7 @@ impl Mention {
     }
 }
 
-/// Adds a line that mentions the UID with a key.
+/// Adds a mention of the UID with a key, by the line at a position.
 pub(crate) fn push_mention(
     mentions: &mut Vec<Mention>,
     key: u64,
@@ -85,7 +85,10 @@ pub(crate) fn start_of(mentions: &[Mention], first: u64) -> usize
 fn is_start(mentions: &[Mention], index: usize, first: u64) -> bool
     requires order { AreInOrder mentions.now }
     requires within { index < length mentions.now }
-    ensures { result ≡ true → IsStart mentions.now first index }
+    ensures yes { result ≡ true → IsStart mentions.now first index }
+    ensures no { result ≡ false → (d : MentionValue)
+        → first ≤ (slice_index_or mentions.now index d).key
+        → (0 < index) × (first ≤ (slice_index_or mentions.now (index - 1) d).key) }
 {
     first <= mentions[index].key && (index == 0 || mentions[index - 1].key < first)
 }
@@ -149,21 +152,19 @@ fn count_to(mentions: &[Mention], last: u64) -> usize
     mentions.partition_point(|mention| mention.key <= last)
 }
 
-/// The mentions from key `first` to `last`, the first of which has the index `start`.
-pub(crate) fn mentions_between(
-    mentions: &[Mention],
-    start: usize,
-    first: u64,
-    last: u64,
-) -> &[Mention]
+/// The mentions from index `start` on with keys up to `last`. If `start` is that of the first one
+/// whose key is at least some key `first`, they are those with keys from `first` to `last`.
+pub(crate) fn mentions_to(mentions: &[Mention], start: usize, last: u64) -> &[Mention]
     requires order { AreInOrder mentions.now }
-    requires start { IsStart mentions.now first start }
+    requires start { start ≤ length mentions.now }
     ensures order { AreInOrder result.now }
     ensures keys { HaveKeys mentions.now → HaveKeys result.now }
-    ensures inside { All (λ n. is_between first last n.key ≡ true) result.now }
     ensures within { start + length result.now ≤ length mentions.now }
     ensures place { result.now ≡ take (length result.now) (drop start mentions.now) }
-    ensures all { (test : MentionValue → Bool) (k : ℕ) → is_between first last k ≡ true
+    ensures inside { (first : ℕ) → IsStart mentions.now first start
+        → All (λ n. is_between first last n.key ≡ true) result.now }
+    ensures all { (first : ℕ) → IsStart mentions.now first start
+        → (test : MentionValue → Bool) (k : ℕ) → is_between first last k ≡ true
         → has_where test result.now k ≡ has_where test mentions.now k }
 {
     let rest = &mentions[start..];
@@ -176,7 +177,7 @@ pub(crate) fn is_quiet_by(mentions: &[Mention], uid: Uid, at: usize) -> bool
     ensures { result ≡ is_quiet_by mentions.now (mirror uid) at }
 {
     let key = key(uid);
-    for mention in mentions_between(mentions, start_of(mentions, key), key, key) {
+    for mention in mentions_to(mentions, start_of(mentions, key), key) {
         if mention.quiet_after() < at {
             return true;
         }
@@ -199,7 +200,7 @@ pub(crate) fn is_any_quiet(mentions: &[Mention], uids: &[Uid], at: usize) -> boo
 
 /// The mention by which a UID is Quiet first, of one and others of the same UID; any of them if
 /// none silences it.
-pub(crate) fn first_to_silence(mention: Mention, others: &[Mention]) -> Mention
+fn earliest_of(mention: Mention, others: &[Mention]) -> Mention
     requires { All (λ n. n.key ≡ mention.key) others.now }
     ensures key { result.key ≡ mention.key }
     ensures quiet { (i : ℕ) → nat_lt (quiet_of result) i
@@ -214,8 +215,28 @@ pub(crate) fn first_to_silence(mention: Mention, others: &[Mention]) -> Mention
     first
 }
 
+/// At the first mention of a UID, the one by which it is Quiet first, or any of them if none
+/// silences it; `None` at the others. The mentions of one UID are consecutive.
+pub(crate) fn first_to_silence(mentions: &[Mention], index: usize) -> Option<Mention>
+    requires order { AreInOrder mentions.now }
+    requires within { index < length mentions.now }
+    ensures key { (d : MentionValue)
+        → IfSome result (λ n. n.key ≡ (slice_index_or mentions.now index d).key) }
+    ensures quiet { IfSome result (λ n. (i : ℕ)
+        → nat_lt (quiet_of n) i ≡ is_quiet_by mentions.now n.key i) }
+    ensures again { (d : MentionValue) → IfNone result ((0 < index)
+        × ((slice_index_or mentions.now index d).key
+        ≤ (slice_index_or mentions.now (index - 1) d).key)) }
+{
+    let mention = mentions[index];
+    if !is_start(mentions, index, mention.key) {
+        return None;
+    }
+    Some(earliest_of(mention, mentions_to(mentions, index, mention.key)))
+}
+
 /// The first position before `end` at which a UID was heard while it was Quiet; `end` if there is
-/// none. The mentions of one UID are consecutive.
+/// none.
 pub(crate) fn first_quiet_reply(mentions: &[Mention], end: usize) -> usize
     requires { AreInOrder mentions.now }
     ensures { IsFirstQuietReply mentions.now end result }
@@ -223,10 +244,8 @@ pub(crate) fn first_quiet_reply(mentions: &[Mention], end: usize) -> usize
     let mut quiet = NEVER;
     let mut first = end;
     for i in 0..mentions.len() {
-        let key = mentions[i].key;
-        if i == 0 || mentions[i - 1].key < key {
-            let own = mentions_between(mentions, i, key, key);
-            quiet = first_to_silence(mentions[i], own).quiet_after();
+        if let Some(silencing) = first_to_silence(mentions, i) {
+            quiet = silencing.quiet_after();
         }
         let reply = mentions[i].reply_place();
         if quiet < reply {

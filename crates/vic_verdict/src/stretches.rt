@@ -14,10 +14,10 @@ ghost use Rattle.vic_verdict.specs.Needs.{needs};
 ghost use Rattle.vic_verdict.specs.declared.stretches.Noted.TheVariants.{GoesOn, Ends};
 ghost use Rattle.vic_verdict.specs.inner.Replies.{IsFirstQuietReply};
 ghost use Rattle.vic_verdict.specs.inner.Stretches.{BeginsAt, EndsAt, HasGathered, AreStretchesOf, mentions_at};
-ghost use Rattle.vic_verdict.specs.inner.Sweep.{AreInOrder, IsMaskNumber};
+ghost use Rattle.vic_verdict.specs.inner.ReadSlots.{AreInOrder, IsMaskNumber};
 
 use crate::mentions::{Mention, first_quiet_reply, push_mention};
-use crate::sweep::{ReadSlot, close_stretch, join_silent, mask_number};
+use crate::read_slots::{ReadSlot, close_stretch, join_silent, mask_number};
 use crate::unread_slots::{KeptStretch, UnreadSlot, keep_stretch};
 use std::alloc::{AllocError, Global};
 use vic_frame::low_bits_first::{KeyBlock, key};
@@ -42,14 +42,14 @@ struct Gathered {
 /// What becomes of an entry.
 #[derive(Clone, Copy)]
 enum Noted {
-    /// What it says is gathered.
+    /// What it says is noted.
     GoesOn,
     /// The stretch ends before it: it is a field cycle, or the requests before it make it
     /// impossible.
     Ends,
 }
 
-/// Gathers the UID that a request silences, if it silences one.
+/// Notes the UID that a request silences, if it silences one.
 fn note_sent(mentions: &mut Vec<Mention>, request: &Request, index: usize) -> Result<(), AllocError>
     requires { index < 2 ^ 32 }
     ensures { OnOk result (mentions.new.items
@@ -90,8 +90,8 @@ fn needs(entry: &Entry) -> u8
 
 impl Gathered {
     /// Nothing. There is room for as many mentions and read slots as lines, since what grows step
-    /// by step is copied. The first stretch that is kept takes the mentions; those of later ones
-    /// grow.
+    /// by step is copied. The first stretch that is kept takes this room for mentions with it; in
+    /// later ones they grow step by step.
     fn with_capacity(alloc: Global, lines: usize) -> Result<Gathered, AllocError> {
         Ok(Gathered {
             mentions: Vec::with_capacity(alloc, lines)?,
@@ -128,7 +128,7 @@ impl Gathered {
         Ok(())
     }
 
-    /// Gathers what an entry says, unless the stretch ends before it.
+    /// Notes what an entry says, unless the stretch ends before it.
     #[inline(always)]
     fn note(
         &mut self,
@@ -153,6 +153,7 @@ impl Gathered {
                 note_sent(&mut self.mentions, &request, index)?;
             }
             Entry::Silent => {
+                // where no UID lies in the mask, silence says nothing
                 if let Some(block) = cursor.keys() {
                     self.silent.push(mask_number(&block))?;
                 }
@@ -170,6 +171,7 @@ impl Gathered {
             }
             Entry::Collision | Entry::Garbled => {
                 let Some(KeyBlock { first, len }) = cursor.keys() else {
+                    // tags answered where no UID lies in the mask
                     return Ok(Noted::Ends);
                 };
                 self.unread.push(UnreadSlot {
@@ -179,6 +181,7 @@ impl Gathered {
                     at: index as u32,
                 })?;
             }
+            // only UIDs of the list follow: `gather_stretch` ends the last round
             Entry::Listed(_) => {}
             Entry::FieldCycle => return Ok(Noted::Ends),
         }
@@ -276,7 +279,7 @@ fn is_field_cycle(lines: &[PackedLine], at: usize) -> bool
 pub(crate) struct Stretches {
     /// The keys that their read slots close.
     pub closed: Vec<KeyRange>,
-    /// Those that have unread slots.
+    /// What the stretches with unread slots require.
     pub kept: Vec<KeptStretch>,
     /// The end of the log, or the position of an impossible line: a reply of a UID that couldn't
     /// have answered, or tags in a mask that holds no UID.

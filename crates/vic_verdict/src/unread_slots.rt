@@ -14,12 +14,12 @@ ghost use Rattle.vic_log.specs.declared.entry.Entry.{Entry as EntryValue};
 ghost use Rattle.vic_log.specs.Slots.{slots_of, is_open};
 ghost use Rattle.vic_verdict.specs.inner.Ruling.{Lacks};
 ghost use Rattle.vic_verdict.specs.inner.Answering.{AreLookups};
-ghost use Rattle.vic_verdict.specs.inner.Sweep.{AreInOrder, HaveKeys};
+ghost use Rattle.vic_verdict.specs.inner.ReadSlots.{AreInOrder, HaveKeys};
 ghost use Rattle.vic_verdict.specs.Needs.{AreFound};
 ghost use Rattle.vic_verdict.specs.inner.Unread.{IsUnreadSlotBy, answers_by, IsUnmet, IsUnmetAt, IsImpliedByNext, AreKept, AreMet, HasBlock, HasBlocks, HasMentionsInOrder, Keeps};
 
 use crate::answering::{Lookups, up_to_three_answering};
-use crate::mentions::{Mention, MentionCursor, mentions_between, start_of};
+use crate::mentions::{Mention, MentionCursor};
 use arrayvec::ArrayVec;
 use std::alloc::{AllocError, Global};
 use std::mem::replace;
@@ -92,8 +92,8 @@ pub(crate) struct KeptStretch {
     pub unread: Vec<UnreadSlot>,
 }
 
-/// Keeps what the slots of a stretch require, if they require anything, and the UIDs that its lines
-/// mention. Then `mentions` and `unread` are taken.
+/// Keeps what the slots of a stretch require, and the UIDs that its lines mention: then `mentions`
+/// and `unread` are left empty. If there are no slots, nothing is kept, and nothing changes.
 pub(crate) fn keep_stretch(
     alloc: Global,
     stretches: &mut Vec<KeptStretch>,
@@ -140,11 +140,11 @@ fn is_implied_by_next(unread: &[UnreadSlot], index: usize) -> bool
     }
 }
 
-/// A guess: the position from which on the slots of a mask lack tags, if one lacks `lacking`, one
-/// or two, at position `at`. The mentions are one for each open UID that has some, and wasn't Quiet
-/// yet at the first slot. If one tag is lacking, it is where the last of these became Quiet; if
-/// two, the last but one; 0 if there is none. So a collision in which one UID answers has lacked
-/// another since the last one that could have been it became Quiet.
+/// A guess at the position from which on the slots of a mask lack tags, if the one at position `at`
+/// lacks `lacking` of them, one or two. Going back from `at`, one tag more answered before the last
+/// UID became Quiet, and two more before the last but one did. So if one tag is lacking, the slots
+/// after the last of these places lack tags; if two are, those after the last but one. 0 if there
+/// is no such place. There is one mention for each UID, that by which it is Quiet first.
 fn lacks_from(mentions: &[Mention], at: usize, lacking: usize) -> usize {
     let mut last = 0;
     let mut last_but_one = 0;
@@ -158,24 +158,9 @@ fn lacks_from(mentions: &[Mention], at: usize, lacking: usize) -> usize {
     if lacking == 1 { last } else { last_but_one }
 }
 
-/// The UIDs with some keys that the lines mention and the log leaves open; none if the mentions
-/// didn't have to be looked through, since no UID was Quiet.
-fn known_mentions<'a>(lookups: &'a Lookups, block: &KeyBlock) -> &'a [Mention]
-    requires order { IfSome lookups.now.known (λ k. AreInOrder k.mentioned.items) }
-    requires block { IsBlock block.now.first block.now.len }
-{
-    match &lookups.known {
-        Some(known) => {
-            let start = start_of(&known.mentioned, block.first);
-            mentions_between(&known.mentioned, start, block.first, block.last())
-        }
-        None => &[],
-    }
-}
-
 /// The index of the slot that seems to be the first unmet one. Those of one mask that require the
-/// same number of tags are in order. The last of them shows how many tags are missing; the earlier
-/// ones lack some from where so many more UIDs were no longer Ready.
+/// same number of tags are in order. The last of them shows how many tags it lacks; the earlier
+/// ones are met as long as that many more UIDs were Ready (`lacks_from`).
 fn guess_unmet<S: OpenSet>(
     alloc: Global,
     set: &S,
@@ -189,7 +174,7 @@ fn guess_unmet<S: OpenSet>(
     requires lookups { AreLookups (S.is_open set.now) mentions.now lookups.old }
     ensures lookups { OnOk result (AreLookups (S.is_open set.now) mentions.now lookups.new) }
 {
-    // then what is known is of all mentions, as `known_mentions` needs it
+    // then a lookup for a slot leaves what it found in `lookups`, as `mentioned_in` needs it
     lookups.spend_all();
     let from = first_position(unread);
     let mut guess = 0;
@@ -213,10 +198,10 @@ fn guess_unmet<S: OpenSet>(
             )?;
             let need = usize::from(slot.need);
             if uids.len() < need {
-                let inside = known_mentions(lookups, &block);
-                let lacks = lacks_from(inside, at, need - uids.len());
+                let unmet_from = lacks_from(lookups.mentioned_in(&block), at, need - uids.len());
                 let group = &unread[start..index];
-                let first = start + group.partition_point(|earlier| earlier.position() < lacks);
+                let first = start
+                    + group.partition_point(|earlier| earlier.position() < unmet_from);
                 if unread[first].position() < least {
                     guess = first;
                     least = unread[first].position();
@@ -228,9 +213,9 @@ fn guess_unmet<S: OpenSet>(
     Ok(guess)
 }
 
-/// The position of the first unmet slot, if the guess is right; otherwise `unmet`, the position of
-/// a slot that is known to be unmet. The slots are ordered by mask, not by position, so those after
-/// that one are looked at too.
+/// The position of the slot that is guessed to be the first unmet one, if it is unmet; otherwise
+/// `unmet`, the position of one that is known to be. The slots are ordered by mask, not by
+/// position, so those after that one are looked at too.
 fn unmet_by_guess<S: OpenSet>(
     alloc: Global,
     set: &S,
@@ -308,8 +293,8 @@ fn meet_stretch<S: OpenSet>(
             if uids.len() < need {
                 // those before `start` are met
                 let rest = &unread[start..];
-                let at = unmet_by_guess(alloc, set, mentions, &mut lookups, rest, at)?;
-                return Ok(Some(at));
+                let first = unmet_by_guess(alloc, set, mentions, &mut lookups, rest, at)?;
+                return Ok(Some(first));
             }
             found.push(Found { at, need, uids })?;
             start = index + 1;

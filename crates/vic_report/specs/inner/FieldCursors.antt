@@ -9,6 +9,6 @@ use Rattle.vic_log.specs.Quiet.{is_quiet}
 use Rattle.vic_report.specs.declared.field_cursor.FieldCursor.{FieldCursor}
 
 -- the cursor is at position i
-pub record IsFieldAt (es : List Entry) (i : ℕ) (c : FieldCursor) : Type 0 where
+pub record IsFieldCursorAt (es : List Entry) (i : ℕ) (c : FieldCursor) : Type 0 where
   pub rounds : IsCursorAt es i c.rounds
   pub quiet : (u : ℕ) → IsUid u → sorted.contains nat_cmp c.quiet u ≡ is_quiet es i u

@@ -1,9 +1,6 @@
 -- Lines of some slots of a log.
-use Rattle.std.specs.Prelude.{◌≡◌, ℕ, ◌+◌, Bool, true, false, List, [], ◌∷◌, ◌++◌, length}
-use Rattle.vic_frame.specs.Masks.{BitMask}
-use Rattle.vic_frame.specs.declared.request.Request.TheVariants.{Inventory}
+use Rattle.std.specs.Prelude.{◌≡◌, ℕ, ◌+◌, Bool, true, List, [], length}
 use Rattle.vic_log.specs.declared.entry.Entry.{Entry}
-use Rattle.vic_log.specs.declared.entry.Entry.TheVariants.{Sent}
 use Rattle.vic_log.specs.declared.entry.LogLine.{LogLine}
 use Rattle.vic_log.specs.Log.{last_from}
 use Rattle.vic_log.specs.Order.{entries, listed}
@@ -15,17 +12,15 @@ use Rattle.vic_verdict.specs.LogLines.{AreLogLines}
 abbrev pub SameQuiet : List Entry → List Entry → ℕ → Type 0
 SameQuiet kept es i = (u : ℕ) → is_quiet kept (length kept) u ≡ is_quiet es i u
 
--- two more entries: a request of one slot with this mask, and what was found in its slot
-abbrev pub HasSlotAdded : List Entry → BitMask → Entry → List Entry → Type 0
-HasSlotAdded old m e new = new ≡ (old ++ Sent (Inventory 2 false m) ∷ []) ++ e ∷ []
-
 -- the lines of a log that lists nothing, numbered from 1
-pub record AreNumbered (lines : List LogLine) : Type 0 where
+pub record IsKeptLog (lines : List LogLine) : Type 0 where
   pub log : AreLogLines lines
   pub unlisted : listed (entries lines) ≡ []
   pub last : last_from 0 lines ≡ length lines
 
--- the kept entries before and after position i, whose entry e is added if it is kept
+-- the kept entries before and after position i is passed: the same tags stay Quiet, and a
+-- population that could have produced those before could have produced those after, if it fits
+-- entry e or e isn't kept
 pub record KeepsLine (es : List Entry) (i : ℕ) (is_kept : Bool) (e : Entry)
     (old new : List Entry) : Type 0 where
   pub quiet : SameQuiet old es i → SameQuiet new es (i + 1)

@@ -1,10 +1,11 @@
 -- The slot lines of a log up to one of its lines.
-use Rattle.std.specs.Prelude.{ℕ, ◌&&◌, List, nat_le, map}
-use Rattle.std.specs.List.{filter}
+use Rattle.std.specs.Prelude.{◌≡◌, ◌↔◌, ℕ, ◌≤◌, true, List}
+use Rattle.std.specs.List.Sorted.{IsStrictlyIncreasing}
+use Rattle.vic_frame.specs.Uids.{has}
 use Rattle.vic_log.specs.declared.entry.LogLine.{LogLine}
-use Rattle.vic_log.specs.Rounds.{is_slot}
+use Rattle.vic_report.specs.Conflicts.{IsSlotLine}
 
--- the numbers of the slot lines up to line n
-abbrev pub slot_numbers_to : ℕ → List LogLine → List ℕ
-slot_numbers_to n lines =
-    map (λ l. l.number) (filter (λ l. nat_le l.number n && is_slot l.item) lines)
+-- the numbers of the slot lines up to the line with number n, in rising order
+pub record AreSlotLinesTo (lines : List LogLine) (n : ℕ) (numbers : List ℕ) : Type 0 where
+  pub rising : IsStrictlyIncreasing numbers
+  pub members : (m : ℕ) → (has numbers m ≡ true) ↔ ((m ≤ n) × IsSlotLine lines m)

@@ -9,13 +9,14 @@ use Rattle.vic_tree.specs.OpenMasks.{AreFirst, ComesBefore, IsPast, parent}
 use Rattle.vic_tree.specs.inner.Ranges.{AllKeysPass, HoldsMask, IsMaskIn}
 
 -- the keys of the mask lie in the range, and those of its parent don't
-pub record IsGreatestIn (first last : ℕ) (m : BitMask) : Type 0 where
+pub record IsMaximalIn (first last : ℕ) (m : BitMask) : Type 0 where
   pub inside : IsMaskIn first last m
-  pub greatest : (m.len ≡ 0) ⊎ ¬ (HoldsMask first last (parent m))
+  pub maximal : (m.len ≡ 0) ⊎ ¬ (HoldsMask first last (parent m))
 
--- such a mask of `len` bits, whose block has an odd or even number
-pub record IsGreatestAt (first last len odd : ℕ) (m : BitMask) : Type 0 where
-  pub greatest : IsGreatestIn first last m
+-- such a mask of `len` bits: the upper half of its parent if `odd` is 1; the lower one, or the mask
+-- of no bits, if 0
+pub record IsMaximalAt (first last len odd : ℕ) (m : BitMask) : Type 0 where
+  pub maximal : IsMaximalIn first last m
   pub len_is : m.len ≡ len
   pub side : mirror_bits len m.value % 2 ≡ odd
 
@@ -24,7 +25,7 @@ pub record IsOpenBlock (p : ℕ → Bool) (m : BitMask) : Type 0 where
   pub is_mask : IsMask m
   pub short : m.len ≤ UID_BITS
   pub passes : AllKeysPass p m
-  pub greatest : (m.len ≡ 0) ⊎ ¬ (AllKeysPass p (parent m))
+  pub maximal : (m.len ≡ 0) ⊎ ¬ (AllKeysPass p (parent m))
 
 -- such a mask that begins below a key
 abbrev pub IsOpenBelow : (ℕ → Bool) → ℕ → BitMask → Type 0

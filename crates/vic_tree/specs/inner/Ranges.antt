@@ -1,4 +1,4 @@
--- The UIDs of a range without exceptions, the masks whose keys lie in a range, and runs of keys
+-- The UIDs of a range that aren't exceptions, the masks whose keys lie in a range, and runs of keys
 -- that pass a test.
 use Rattle.std.specs.Prelude.{◌≡◌, ℕ, ◌+◌, ◌-◌, ◌*◌, ◌^◌, ◌<◌, ◌≤◌, ◌&&◌, Bool, true, false, not, ◌||◌, List, Option, Some, None}
 use Rattle.vic_frame.specs.declared.uid.TheConstants.{UID_BITS}
@@ -14,7 +14,7 @@ pub record IsFreeBetween (first last : ℕ) (is_except : ℕ → Bool) (u : ℕ)
   pub inside : is_between first last (mirror u) ≡ true
   pub free : is_except u ≡ false
 
--- a UID of a range of keys that is in one of some ranges and isn't an exception
+-- a UID whose key is from `first` to `last` and in one of some ranges, and that isn't an exception
 pub record IsFreeInRanges (rs : List (ℕ × ℕ)) (first last : ℕ)
     (is_except : ℕ → Bool) (u : ℕ) : Type 0 where
   pub is_uid : IsUid u
@@ -22,9 +22,9 @@ pub record IsFreeInRanges (rs : List (ℕ × ℕ)) (first last : ℕ)
   pub inside : is_between first last (mirror u) ≡ true
   pub free : is_except u ≡ false
 
--- the UID is an exception, or its key is in the list
-abbrev pub is_passed : List ℕ → List ℕ → ℕ → Bool
-is_passed except keys u = has except u || has_key keys u
+-- the UID is left out: it is an exception, or its key is in the list
+abbrev pub is_left_out : List ℕ → List ℕ → ℕ → Bool
+is_left_out except keys u = has except u || has_key keys u
 
 -- how many keys agree in their highest `len` bits
 abbrev pub block_size : ℕ → ℕ

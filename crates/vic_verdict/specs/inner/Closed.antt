@@ -2,7 +2,7 @@
 use Rattle.std.specs.Prelude.{◌≡◌, ℕ, Bool, false, not, Option, Some, None, ◌&&◌, ◌||◌, List}
 use Rattle.vic_tree.specs.Ranges.{in_ranges, is_between}
 use Rattle.vic_verdict.specs.declared.mentions.Mention.{Mention}
-use Rattle.vic_verdict.specs.inner.Sweep.{has_left}
+use Rattle.vic_verdict.specs.inner.ReadSlots.{has_left}
 
 -- the key is in the range, if there is one
 abbrev pub is_in_some_range : Option (ℕ × ℕ) → ℕ → Bool

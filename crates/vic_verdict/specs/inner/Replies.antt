@@ -7,7 +7,7 @@ use Rattle.vic_log.specs.declared.entry.Entry.{Entry}
 use Rattle.vic_log.specs.declared.entry.Entry.TheVariants.{Heard}
 use Rattle.vic_log.specs.Populations.{answers_at}
 use Rattle.vic_verdict.specs.declared.mentions.Mention.{Mention}
-use Rattle.vic_verdict.specs.inner.Sweep.{is_quiet_by}
+use Rattle.vic_verdict.specs.inner.ReadSlots.{is_quiet_by}
 
 -- a tag with this UID, if it is in the field, answers in the slot at position i
 abbrev pub CanAnswer : List Entry → ℕ → ℕ → Type 0

@@ -20,11 +20,11 @@ use Rattle.vic_verdict.specs.Possible.{IsContradictedAt}
 use Rattle.vic_verdict.specs.inner.Ruling.{rules_out}
 use Rattle.vic_verdict.specs.inner.Replies.{RepliesAnswer}
 use Rattle.vic_verdict.specs.declared.mentions.Mention.{Mention}
-use Rattle.vic_verdict.specs.declared.sweep.ReadSlot.{ReadSlot}
+use Rattle.vic_verdict.specs.declared.read_slots.ReadSlot.{ReadSlot}
 use Rattle.vic_verdict.specs.declared.stretches.Gathered.{Gathered}
 use Rattle.vic_verdict.specs.declared.stretches.Stretches.{Stretches}
 use Rattle.vic_verdict.specs.inner.Unread.{AreUnreadSlots, AreKept}
-use Rattle.vic_verdict.specs.inner.Sweep.{HasRange, IsMaskNumber, heard_of, is_in, is_in_masks}
+use Rattle.vic_verdict.specs.inner.ReadSlots.{HasRange, IsMaskNumber, heard_of, is_in, is_in_masks}
 
 -- ---- the mentions
 

@@ -12,7 +12,7 @@ use Rattle.vic_verdict.specs.declared.unread_slots.Found.{Found}
 use Rattle.vic_verdict.specs.declared.unread_slots.UnreadSlot.{UnreadSlot}
 use Rattle.vic_verdict.specs.declared.unread_slots.KeptStretch.{KeptStretch}
 use Rattle.vic_verdict.specs.declared.mentions.Mention.{Mention}
-use Rattle.vic_verdict.specs.inner.Sweep.{AreInOrder, HaveKeys, is_quiet_by}
+use Rattle.vic_verdict.specs.inner.ReadSlots.{AreInOrder, HaveKeys, is_quiet_by}
 use Rattle.vic_verdict.specs.Needs.{needs_at, all_needs, IsFound, Meets}
 
 -- the keys of the slot's mask are a block
@@ -85,8 +85,8 @@ has_slot_at slots i = list_any (λ (slot : UnreadSlot). slot.at == i) slots
 abbrev pub needed_by : List UnreadSlot → ℕ
 needed_by slots = sum_by (λ (slot : UnreadSlot). slot.need) slots
 
--- the unread slots of the entries from a position on, after the last field cycle, up to position
--- i: no more than these entries require
+-- the unread slots of the entries from a position on, up to position i; what they require, with
+-- what the entries before them do, is no more than all these entries require
 pub record AreUnreadSlots (es : List Entry) (from i : ℕ) (slots : List UnreadSlot) : Type 0 where
   pub unread : All (IsUnreadSlot es from i) slots
   pub needed : (j : ℕ) → from ≤ j → j < i → 0 < needs_at es j → has_slot_at slots j ≡ true
@@ -109,7 +109,8 @@ pub record IsKept (es : List Entry) (i : ℕ) (s : KeptStretch) : Type 0 where
   pub places : All (λ (slot : UnreadSlot). slot.at < i) s.unread.items
   pub unread : All (IsUnreadSlotBy es s.mentions.items) s.unread.items
 
--- the stretches have the unread slots of the entries up to position i, no more than these require
+-- the stretches have the unread slots of the entries up to position i, and require no more than
+-- these entries
 pub record AreKept (es : List Entry) (i : ℕ) (ss : List KeptStretch) : Type 0 where
   pub kept : All (IsKept es i) ss
   pub needed : (j : ℕ) → j < i → 0 < needs_at es j

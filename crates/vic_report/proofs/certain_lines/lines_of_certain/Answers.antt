@@ -1,8 +1,8 @@
 use Rattle.vic_report.proofs.Words.{[], ◌∷◌, ◌++◌, take, ap, sym, subst, All, take_more, All-push, IsToldOf, map_push}
 use Rattle.vic_report.proofs.certain_lines.lines_of_certain.Goals as goal
 
-pub line_of-line-requires-clause-found : goal.line_of-line-requires-clause-found
-line_of-line-requires-clause-found c =
+pub line_of-line-requires-clause-known : goal.line_of-line-requires-clause-known
+line_of-line-requires-clause-known c =
     let P = All (IsToldOf c.args.lines.now) in
     c.line_among-known.ensures c.args.lines.now
     (subst P (sym c.deref-in-loop-uid-3.ensures.value) c.in_ok-replies.ensures)

@@ -4,7 +4,7 @@ use Rattle.vic_report.proofs.conflict.find_conflict.Goals.{in-Some+in_ok-numbers
 use Rattle.vic_report.proofs.conflict.find_conflict.Goals as goal
 
 pub returns : goal.returns
-returns g c =
+returns c =
     let lines = c.args.lines.now in
     let line = c.in_ok-line.line in
     record {
@@ -15,5 +15,5 @@ returns g c =
             (quiet_reply_conflict lines line w.in-Some.field-0 w.in-Some.ensures)
         | in-None+in_ok-numbers-in-None w ↦ subst (λ v. IsConflictAt lines line v.items) (sym w.numbers-is) w.in_ok-numbers-in-None.ensures
       ];
-      silenced = c.silencer_of-silenced_by.ensures;
+      silenced = c.silencer_of_line-silenced_by.ensures;
     }

@@ -2,18 +2,18 @@ use Rattle.vic_report.proofs.Words.{◌≡◌, true, ◌∙◌, sym, ap, subst, 
 use Rattle.vic_report.proofs.AllFindings.{left_to_ask, open_set, shut_all}
 use Rattle.vic_report.proofs.findings.find_findings.Goals as goal
 
-pub lines_of_absent-requires-clause-shut : goal.lines_of_absent-requires-clause-shut
-lines_of_absent-requires-clause-shut c =
+pub lines_of_absent-requires-clause-not_open : goal.lines_of_absent-requires-clause-not_open
+lines_of_absent-requires-clause-not_open c =
     let es = entries c.args.lines.now in
     let us = c.in_ok-listed.listed.items in
     let certain = c.args.facts.certain.items in
-    let d = c.in_ok-found.found in
-    let here = rw (c.deref-3.ensures.value, c.deref-4.ensures.value) at c.in_ok-found.ensures in
+    let d = c.in_ok-differences.differences in
+    let here = rw (c.deref-3.ensures.value, c.deref-4.ensures.value) at c.in_ok-differences.ensures in
     rw c.deref-9.ensures.value (shut_all es (is_open_in c.args.facts.open) us certain d.absent.items c.requires.facts.told.uids_open c.in_ok-listed.ensures.uids here.absent)
 
 pub lines_of_certain-requires-clause-forced : goal.lines_of_certain-requires-clause-forced
 lines_of_certain-requires-clause-forced c u h =
-    let w = (c.in_ok-found.ensures.unlisted.members u).0 (subst (λ xs. has xs u ≡ true) c.deref-10.ensures.value h) in
+    let w = (c.in_ok-differences.ensures.unlisted.members u).0 (subst (λ xs. has xs u ≡ true) c.deref-10.ensures.value h) in
     c.requires.facts.met_for u (subst (λ xs. has xs u ≡ true) c.deref-3.ensures.value w.0)
 
 pub returns : goal.returns
@@ -24,10 +24,10 @@ returns c =
     let certain = c.args.facts.certain.items in
     let keys = c.deref-2.result.now in
     let some = c.in_ok-uncertain.uncertain.items in
-    let d = c.in_ok-found.found in
+    let d = c.in_ok-differences.differences in
     let facts = log_facts es set certain c.requires.facts.told in
     let own : AreListed us (listed es) = record { members = c.in_ok-listed.ensures.members; are_uids = c.in_ok-listed.ensures.uids } in
-    let here = rw (c.deref-3.ensures.value, c.deref-4.ensures.value) at c.in_ok-found.ensures in
+    let here = rw (c.deref-3.ensures.value, c.deref-4.ensures.value) at c.in_ok-differences.ensures in
     let all = all_findings (IsPossibleUid es) (IsCertainUid es) set certain us (listed es) d facts own here in
     let masks : AreOpenMasks es c.open_masks_besides-masks.result = record {
       set = without_keys set keys;

@@ -1,4 +1,4 @@
-use Rattle.vic_report.proofs.Words.{Some, ap, sym, subst, length, refl, arith, ◌∙◌, slice_get_read, has, Entry, entries, CouldHaveGiven, Fits, outcome_at, is_quiet, AreNumbered, entry_at}
+use Rattle.vic_report.proofs.Words.{Some, ap, sym, subst, length, refl, arith, ◌∙◌, slice_get_read, has, Entry, entries, CouldHaveGiven, Fits, outcome_at, is_quiet, IsKeptLog, entry_at}
 use Rattle.vic_report.proofs.KeptLogs.{none_numbered, valid_entry}
 use Rattle.vic_report.proofs.kept_log.kept_lines.Goals as goal
 
@@ -7,7 +7,7 @@ loop-line-init c =
     let none = c.new-kept.ensures.items in
     record {
       round = c.first-cursor.ensures (entries c.args.lines.now);
-      numbered = subst AreNumbered (sym none) none_numbered;
+      log = subst IsKeptLog (sym none) none_numbered;
       limit = rw none (omega arith);
       quiet = λ u. ap (λ ls. is_quiet (entries ls) (length (entries ls)) u) none;
       given = λ p fits. subst (λ ls. CouldHaveGiven p (entries ls)) (sym none) (λ i e k. cc);
@@ -30,7 +30,7 @@ loop-line-preserved c =
     let kept = more.kept es i here (c.mask-mask.ensures es i c.requires.lines.valid before.round) in
     record {
       round = c.advance.ensures es i c.requires.lines.order here before.round;
-      numbered = more.numbered;
+      log = more.log;
       limit = let h = more.limit in let b = before.limit in omega arith;
       quiet = kept.quiet before.quiet;
       given = λ p fits. kept.given p before.quiet (λ yes.

@@ -17,8 +17,8 @@ loop-line-preserved c =
     let here = entry_at lines i l c.loop-line-test.true c.line-item.is ∙ ap (λ (e : Entry). Some e) (sym c.item.ensures) in
     record {
       field_at = c.in_ok-advance.ensures (entries lines) i c.requires.order here before.field_at;
-      within = c.end_of_ruled_out-next.ensures.within;
-      passed = c.end_of_ruled_out-next.ensures.shown lines i c.requires.valid (slice_get_read lines (length lines) i l refl c.loop-line-test.true c.line-item.is) before.field_at before.passed;
+      within = c.pass_ruled_out-next.ensures.within;
+      passed = c.pass_ruled_out-next.ensures.shown lines i c.requires.valid (slice_get_read lines (length lines) i l refl c.loop-line-test.true c.line-item.is) before.field_at before.passed;
     }
 
 pub returns : goal.returns

@@ -1,7 +1,7 @@
-use Rattle.vic_tree.proofs.Words.{◌≡◌, ◌+◌, ◌<◌, ◌⊎◌, inl, inr, Some, arith, mirror_bits, IsGreatestIn}
+use Rattle.vic_tree.proofs.Words.{◌≡◌, ◌+◌, ◌<◌, ◌⊎◌, inl, inr, Some, arith, mirror_bits, IsMaximalIn}
 use Rattle.vic_tree.proofs.AllMasks.{adds_both}
 use Rattle.vic_tree.proofs.BlockLaws.{mask_block}
-use Rattle.vic_tree.proofs.OpenBlocks.{greatest_of_len}
+use Rattle.vic_tree.proofs.OpenBlocks.{maximal_of_len}
 use Rattle.vic_tree.proofs.open_masks.push_in_run.Goals as goal
 
 pub loop-len-init : goal.loop-len-init
@@ -21,12 +21,12 @@ loop-len-preserved c =
     let first = c.args.first in
     let last = c.args.last in
     let len = c.loop-len.len in
-    let a = c.greatest_at_start in
-    let b = c.greatest_at_end in
-    let one = adds_both (λ m. IsGreatestIn first last m × (m.len < len)) (λ m. a.result ≡ Some m) (λ m. (IsGreatestIn first last m × (m.len < len)) ⊎ (a.result ≡ Some m)) _ _ _ (λ m. (λ w. w, λ w. w)) c.loop-len.invariant.adds c.in_ok-push_found.ensures in
-    let told = greatest_of_len first last len a.result b.result a.ensures.found a.ensures.only b.ensures.found b.ensures.only in
+    let a = c.maximal_at_start in
+    let b = c.maximal_at_end in
+    let one = adds_both (λ m. IsMaximalIn first last m × (m.len < len)) (λ m. a.result ≡ Some m) (λ m. (IsMaximalIn first last m × (m.len < len)) ⊎ (a.result ≡ Some m)) _ _ _ (λ m. (λ w. w, λ w. w)) c.loop-len.invariant.adds c.in_ok-push_found.ensures in
+    let told = maximal_of_len first last len a.result b.result a.ensures.found a.ensures.only b.ensures.found b.ensures.only in
     record {
-      adds = adds_both (λ m. (IsGreatestIn first last m × (m.len < len)) ⊎ (a.result ≡ Some m)) (λ m. b.result ≡ Some m) (λ m. IsGreatestIn first last m × (m.len < len + 1)) _ _ _ told one c.in_ok-push_found-2.ensures;
+      adds = adds_both (λ m. (IsMaximalIn first last m × (m.len < len)) ⊎ (a.result ≡ Some m)) (λ m. b.result ≡ Some m) (λ m. IsMaximalIn first last m × (m.len < len + 1)) _ _ _ told one c.in_ok-push_found-2.ensures;
       most = omega (arith, c.loop-len-test.true);
     }
 

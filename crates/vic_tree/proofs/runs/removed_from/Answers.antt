@@ -6,11 +6,11 @@ pub returns-clause-same : goal.returns-clause-same
 returns-clause-same c k le =
     let removed = c.args.removed.now in
     let from = c.args.from in
-    let n = c.partition_point-passed.result in
-    let near = c.min.result in
-    let parted = IsPartitionedBy-ltb (λ x. x) (take near removed) from (IsNonDecreasingBy-take (λ x. x) near removed c.requires.order) in
-    let point = IsPartitionPoint-from_clause (λ x. ltb x from) (take near removed) n c.partition_point-passed.ensures.partitioned parted (λ a r q k. search rules) in
+    let n = c.partition_point-below.result in
+    let bound = c.min.result in
+    let parted = IsPartitionedBy-ltb (λ x. x) (take bound removed) from (IsNonDecreasingBy-take (λ x. x) bound removed c.requires.order) in
+    let point = IsPartitionPoint-from_clause (λ x. ltb x from) (take bound removed) n c.partition_point-below.ensures.partitioned parted (λ a r q k. search rules) in
     let rest = length-drop n removed in
-    let short = length-take-le near removed in
+    let short = length-take-le bound removed in
     ap (λ ks. has ks k) (take_all (length removed - n) (drop n removed) (omega arith))
-    ∙ keys_dropped removed n from k (λ i d lt. let below = ltb-true _ _ (point.0 i d (omega arith) lt) in omega (arith, below, get_or-take near removed i d (omega (arith, lt, short)))) le
+    ∙ keys_dropped removed n from k (λ i d lt. let below = ltb-true _ _ (point.0 i d (omega arith) lt) in omega (arith, below, get_or-take bound removed i d (omega (arith, lt, short)))) le

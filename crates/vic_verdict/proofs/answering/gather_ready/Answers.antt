@@ -1,12 +1,12 @@
-use Rattle.vic_verdict.proofs.Words.{has, IsUid, and_from, and_parts, ap, both_ways, eq-eqb, eqb-true, le-ltb, lt_yes, not, subst, sym, uid_of, uid_of_mirror, ◌<◌, ◌∙◌, ◌≤◌, List, [], false, refl, ℕ, ◌≡◌, Mention, is_awake, mirror, ◌&&◌, ◌==◌}
+use Rattle.vic_verdict.proofs.Words.{has, IsUid, and_from, and_parts, ap, both_ways, eq-eqb, eqb-true, le-ltb, lt_yes, not, subst, sym, uid_of, uid_of_mirror, ◌<◌, ◌∙◌, ◌≤◌, List, [], false, refl, ℕ, ◌≡◌, Mention, is_ready_by, mirror, ◌&&◌, ◌==◌}
 use Rattle.vic_verdict.proofs.Ready.{gathers_none, told_more, told_full}
-use Rattle.vic_verdict.proofs.Sweeping.{nobody}
+use Rattle.vic_verdict.proofs.ReadSlots.{nobody}
 use Rattle.vic_verdict.proofs.answering.gather_ready.Goals as goal
 use Rattle.vic_verdict.proofs.answering.gather_ready.Goals.{then-at-quiet_after, else-at-quiet_after}
 
 pub loop-mention-preserved : goal.loop-mention-preserved
 loop-mention-preserved c =
-    let tells = λ (u : ℕ) (n : Mention). (n.key == mirror u) && is_awake c.args.at n in
+    let tells = λ (u : ℕ) (n : Mention). (n.key == mirror u) && is_ready_by c.args.at n in
     let more = λ (Q : ℕ → Type 0) (new : List ℕ). told_more IsUid Q tells c.args.mentions.now c.loop-mention.mention-index nobody c.args.uids.now.items c.loop-mention.uids.items new c.loop-mention-test.true in
     elim c.if-at-quiet_after.branch [
       | then-at-quiet_after w ↦

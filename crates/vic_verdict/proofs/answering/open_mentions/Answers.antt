@@ -1,9 +1,9 @@
-use Rattle.vic_verdict.proofs.Words.{◌≡◌, ◌^◌, ◌<◌, ℕ, Bool, List, length, get_or, map, false, not, ◌&&◌, sym, ap, ◌∙◌, arith, nat_lt, le-ltb, and_from, and_right, get_or-map, length-map, uid_of, lt_yes, Mention, quiet_of, is_ready_at, All-map, is_mentioned, refl, take}
+use Rattle.vic_verdict.proofs.Words.{◌≡◌, ◌^◌, ◌<◌, ℕ, Bool, List, length, get_or, map, false, not, ◌&&◌, sym, ap, ◌∙◌, arith, nat_lt, le-ltb, and_from, and_right, get_or-map, length-map, uid_of, lt_yes, Mention, quiet_of, is_ready_at, All-map, is_mentioned, is_quiet_by, refl, take}
 use Rattle.vic_verdict.proofs.Ready.{same_before, open_other, open_more, ready_key, keys_order}
-use Rattle.vic_verdict.proofs.Replying.{at, tells_first}
-use Rattle.vic_verdict.proofs.Sweeping.{nobody, start_here}
+use Rattle.vic_verdict.proofs.Replying.{at}
+use Rattle.vic_verdict.proofs.ReadSlots.{nobody}
 use Rattle.vic_verdict.proofs.answering.open_mentions.Goals as goal
-use Rattle.vic_verdict.proofs.answering.open_mentions.Goals.{then-i-eq0+then-from-quiet_after+then-index+in_ok-push, then-i-eq0-via-then-i-eq0, then-i-eq0-via-else-i-eq0+then-mentions-i, then-i-eq0+else-from-quiet_after, else-from-quiet_after-via-then-from-quiet_after+else-index, else-from-quiet_after-via-else-from-quiet_after, else-i-eq0+else-mentions-i}
+use Rattle.vic_verdict.proofs.answering.open_mentions.Goals.{in-Some+then-from-quiet_after+then-index+in_ok-push, in-Some+else-from-quiet_after, else-from-quiet_after-via-then-from-quiet_after+else-index, else-from-quiet_after-via-else-from-quiet_after, in_default}
 
 -- whether a UID is open, by the key of its mention
 open_at : (is_left : ℕ → Bool) (ns : List Mention) (ks : List ℕ) (bs : List Bool) (i : ℕ) (b : Bool) → ks ≡ map (λ (n : Mention). n.key) ns → bs ≡ map (λ k. is_left (uid_of k)) ks → i < length ns → b ≡ get_or bs i b → b ≡ is_left (uid_of (at ns i).key)
@@ -12,13 +12,6 @@ open_at is_left ns ks bs i b keys is lt read =
 
 pub has_each-requires : goal.has_each-requires
 has_each-requires g c = rw c.requires.keys record { order = keys_order c.args.mentions.now c.requires.order; keys = All-map (λ k. k < 2 ^ 56) (λ (n : Mention). n.key) c.args.mentions.now c.requires.mentioned }
-
-pub mentions_between-requires-clause-start : goal.mentions_between-requires-clause-start
-mentions_between-requires-clause-start g c =
-    start_here c.args.mentions.now (at c.args.mentions.now c.loop-i.i).key c.loop-i.i c.requires.order c.loop-i-test.true (omega arith) (λ some. elim c.then-i-eq0.branch [
-      | then-i-eq0-via-then-i-eq0 w ↦ absurd (let none = w.if-i-eq0.true in omega arith)
-      | then-i-eq0-via-else-i-eq0+then-mentions-i w ↦ w.if-mentions-i.true
-    ])
 
 pub loop-i-preserved : goal.loop-i-preserved
 loop-i-preserved g c =
@@ -29,22 +22,26 @@ loop-i-preserved g c =
     let set = is_ready_at is_left ns from in
     let key = (at ns i).key in
     let small = c.requires.mentioned i nobody c.loop-i-test.true in
-    elim c.if-i-eq0.branch [
-      | then-i-eq0+then-from-quiet_after+then-index+in_ok-push w ↦
-          let quiet = quiet_of w.first_to_silence-first.result in
-          let tells = λ (j : ℕ). tells_first ns w.mentions_between.result.now key quiet j i c.loop-i-test.true refl w.mentions_between.ensures.inside w.mentions_between.ensures.all (w.first_to_silence-first.ensures.quiet j) in
+    let told = c.first_to_silence.ensures in
+    elim c.match-first_to_silence.branch [
+      | in-Some+then-from-quiet_after+then-index+in_ok-push w ↦
+          let first = rw w.in-Some.is at told in
+          let tells = λ (j : ℕ). ap (λ k. is_quiet_by ns k j) (sym (first.key nobody)) ∙ sym (first.quiet j) in
           let is_open = sym (open_at is_left ns _ _ i _ c.requires.keys c.in_ok-is_open.ensures c.loop-i-test.true w.index.ensures) ∙ w.if-index.true in
-          rw (w.mentioned-is, w.in_ok-push.ensures.items) (open_more set ns i c.loop-i.mentioned.items w.first_to_silence-first.result c.requires.order c.requires.mentioned c.loop-i-test.true w.first_to_silence-first.ensures.key
-          (ready_key is_left ns from key quiet small (tells from) ∙ and_from _ _ is_open (ap not (le-ltb quiet from (rw w.quiet_after.ensures at w.if-from-quiet_after.true))))
+          rw (w.mentioned-is, w.in_ok-push.ensures.items) (open_more set ns i c.loop-i.mentioned.items w.in-Some.first c.requires.order c.requires.mentioned c.loop-i-test.true (first.key nobody)
+          (ready_key is_left ns from key (quiet_of w.in-Some.first) small (tells from) ∙ and_from _ _ is_open (ap not (le-ltb (quiet_of w.in-Some.first) from (rw w.quiet_after.ensures at w.if-from-quiet_after.true))))
           (λ j. sym (tells j))
           c.loop-i.invariant)
-      | then-i-eq0+else-from-quiet_after w ↦
-          let quiet = quiet_of w.first_to_silence-first.result in
-          let tells = λ (j : ℕ). tells_first ns w.mentions_between.result.now key quiet j i c.loop-i-test.true refl w.mentions_between.ensures.inside w.mentions_between.ensures.all (w.first_to_silence-first.ensures.quiet j) in
+      | in-Some+else-from-quiet_after w ↦
+          let first = rw w.in-Some.is at told in
+          let quiet = quiet_of w.in-Some.first in
+          let tells = λ (j : ℕ). ap (λ k. is_quiet_by ns k j) (sym (first.key nobody)) ∙ sym (first.quiet j) in
           let out : (is_left (uid_of key) && not (nat_lt quiet from)) ≡ false = elim w.else-from-quiet_after.branch [
             | else-from-quiet_after-via-then-from-quiet_after+else-index w' ↦ ap (λ b. b && not (nat_lt quiet from)) (sym (open_at is_left ns _ _ i _ c.requires.keys c.in_ok-is_open.ensures c.loop-i-test.true w'.index.ensures) ∙ w'.if-index.false)
             | else-from-quiet_after-via-else-from-quiet_after w' ↦ and_right (is_left (uid_of key)) _ (ap not (lt_yes quiet from (rw w.quiet_after.ensures at w'.if-from-quiet_after.false)))
           ] in
           rw w.mentioned-is (open_other set ns i c.loop-i.mentioned.items c.loop-i-test.true (ap (λ b. b && not (is_mentioned (take i ns) key)) (ready_key is_left ns from key quiet small (tells from) ∙ out)) c.loop-i.invariant)
-      | else-i-eq0+else-mentions-i w ↦ rw w.mentioned-is (open_other set ns i c.loop-i.mentioned.items c.loop-i-test.true (and_right (set (uid_of key)) _ (ap not (same_before ns i c.requires.order (omega (arith, w.if-i-eq0.false)) c.loop-i-test.true w.if-mentions-i.false))) c.loop-i.invariant)
+      | in_default w ↦
+          let again = rw w.in_default.is at told.again nobody in
+          rw w.mentioned-is (open_other set ns i c.loop-i.mentioned.items c.loop-i-test.true (and_right (set (uid_of key)) _ (ap not (same_before ns i c.requires.order again.0 c.loop-i-test.true again.1))) c.loop-i.invariant)
     ]

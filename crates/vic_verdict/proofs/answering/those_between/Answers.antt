@@ -1,7 +1,7 @@
 use Rattle.vic_verdict.proofs.Words.{has, [], arith, eq-eqb, eqb-true, mirror, nat_eq, subst, sym, take_all, ◌∙◌, List, false, refl, ℕ, ◌≡◌, gathers_like, is_between, true}
 use Rattle.vic_verdict.proofs.Closing.{between_from}
 use Rattle.vic_verdict.proofs.Ready.{gathers_none, told_more, told_full}
-use Rattle.vic_verdict.proofs.Sweeping.{between_parts}
+use Rattle.vic_verdict.proofs.ReadSlots.{between_parts}
 use Rattle.vic_verdict.proofs.answering.those_between.Goals as goal
 use Rattle.vic_verdict.proofs.answering.those_between.Goals.{then-first-key+then-key-last, else-first-key, else-first-key-via-then-first-key+else-key-last, else-first-key-via-else-first-key}
 

@@ -7,8 +7,8 @@ returns-then-not-is_any_quiet-clause-uids g c =
     let b = c.args.block.now in
     let at = c.args.at in
     let set = g.S.OpenSet.is_open c.args.set.now in
-    let inside = c.mentions_between-inside.result.now in
-    answering_inside set c.args.mentions.now inside b at _ (λ k lies. c.mentions_between-inside.ensures.all (λ n. nat_lt (quiet_of n) at) k (ap (λ n. nat_le b.first k && nat_le k n) c.last.ensures ∙ lies))
+    let inside = c.mentions_to-inside.result.now in
+    answering_inside set c.args.mentions.now inside b at _ (λ k lies. c.mentions_to-inside.ensures.all b.first c.seek-start.ensures (λ n. nat_lt (quiet_of n) at) k (ap (λ n. nat_le b.first k && nat_le k n) c.last.ensures ∙ lies))
     (first_answering set inside b at c.mask_of_keys.result _ c.mask_of_keys.ensures.inside c.up_to_three-uids.ensures (rw c.deref.ensures.0 at (sym c.is_any_quiet.ensures ∙ c.if-not-is_any_quiet.true)))
 
 pub returns-then-try_spend-clause-uids : goal.returns-then-try_spend-clause-uids
@@ -16,5 +16,5 @@ returns-then-try_spend-clause-uids g c =
     let b = c.args.block.now in
     let at = c.args.at in
     IfOk-weaker c.answering.result _ _
-    (λ uids. answering_inside (g.S.OpenSet.is_open c.args.set.now) c.args.mentions.now c.mentions_between-inside.result.now b at uids.items (λ k lies. c.mentions_between-inside.ensures.all (λ n. nat_lt (quiet_of n) at) k (ap (λ n. nat_le b.first k && nat_le k n) c.last.ensures ∙ lies)))
+    (λ uids. answering_inside (g.S.OpenSet.is_open c.args.set.now) c.args.mentions.now c.mentions_to-inside.result.now b at uids.items (λ k lies. c.mentions_to-inside.ensures.all b.first c.seek-start.ensures (λ n. nat_lt (quiet_of n) at) k (ap (λ n. nat_le b.first k && nat_le k n) c.last.ensures ∙ lies)))
     c.answering.ensures.uids

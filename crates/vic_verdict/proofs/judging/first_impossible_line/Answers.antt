@@ -8,7 +8,7 @@ pub loop-low-init : goal.loop-low-init
 loop-low-init g c = between c.args.lines.now _ _ (c.possible_before-low.ensures.possible c.args.lines.now c.requires.impossible) c.requires.impossible.impossible
 
 pub open_and_met-requires : goal.open_and_met-requires
-open_and_met-requires g c = first_front c.between-count.result c.args.lines.now c.requires.lines
+open_and_met-requires g c = first_front c.probe-count.result c.args.lines.now c.requires.lines
 
 pub loop-low-preserved : goal.loop-low-preserved
 loop-low-preserved g c =
@@ -19,7 +19,7 @@ loop-low-preserved g c =
           let told = rw w.in-Ok.is at c.in_ok-earlier.ensures in
           rw (w.low-is, w.last-is) record { within = b.within; possible = told.0; impossible = b.impossible }
       | in-Err w ↦
-          let told = front_contradiction lines c.between-count.result w.in-Err.earlier (rw w.in-Err.is at c.in_ok-earlier.ensures) in
+          let told = front_contradiction lines c.probe-count.result w.in-Err.earlier (rw w.in-Err.is at c.in_ok-earlier.ensures) in
           let low = c.loop-low.low in
           let more = w.possible_before.result in
           let next = w.max-low.result in

@@ -1,5 +1,5 @@
 use Rattle.vic_verdict.proofs.Words.{◌+◌, ◌-◌, leb, leb-true, leb-false, arith, rules, Mention, IsPartitionPoint-from_clause, IsPartitionedBy-leb}
-use Rattle.vic_verdict.proofs.Sweeping.{start_here}
+use Rattle.vic_verdict.proofs.ReadSlots.{start_here}
 use Rattle.vic_verdict.proofs.mentions.count_to.Goals as goal
 
 pub returns : goal.returns

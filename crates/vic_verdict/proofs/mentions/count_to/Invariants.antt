@@ -1,5 +1,5 @@
 use Rattle.vic_verdict.proofs.Words.{ℕ, ◌<◌, ◌≤◌, get_or}
-use Rattle.vic_verdict.proofs.Sweeping.{nobody}
+use Rattle.vic_verdict.proofs.ReadSlots.{nobody}
 use Rattle.vic_verdict.proofs.mentions.count_to.Given as goal
 
 abbrev pub invariant-loop-count : goal.invariant-loop-count

@@ -1,24 +1,18 @@
-use Rattle.vic_verdict.proofs.Words.{quiet_of, le-ltb, lt_yes, ◌≡◌, ◌+◌, ◌-◌, refl, subst, arith}
-use Rattle.vic_verdict.proofs.Sweeping.{start_here}
-use Rattle.vic_verdict.proofs.Replying.{at, TellsFrom, tells_still, tells_first, found_more, found_all}
+use Rattle.vic_verdict.proofs.Words.{le-ltb, lt_yes, ◌≡◌, ◌+◌, ◌-◌, refl, subst, arith, sym, ap, ◌∙◌, is_quiet_by}
+use Rattle.vic_verdict.proofs.ReadSlots.{nobody}
+use Rattle.vic_verdict.proofs.Replying.{TellsFrom, tells_still, found_more, found_all}
 use Rattle.vic_verdict.proofs.mentions.first_quiet_reply.Goals as goal
-use Rattle.vic_verdict.proofs.mentions.first_quiet_reply.Goals.{then-i-eq0, then-i-eq0-via-then-i-eq0, then-i-eq0-via-else-i-eq0+then-mentions-i, else-i-eq0+else-mentions-i, then-quiet-reply, else-quiet-reply}
-
-pub mentions_between-own-requires-clause-start : goal.mentions_between-own-requires-clause-start
-mentions_between-own-requires-clause-start c =
-    start_here c.args.mentions.now (at c.args.mentions.now c.loop-i.i).key c.loop-i.i c.requires c.loop-i-test.true (omega arith) (λ some. elim c.then-i-eq0.branch [
-      | then-i-eq0-via-then-i-eq0 w ↦ absurd (let none = w.if-i-eq0.true in omega arith)
-      | then-i-eq0-via-else-i-eq0+then-mentions-i w ↦ w.if-mentions-i.true
-    ])
+use Rattle.vic_verdict.proofs.mentions.first_quiet_reply.Goals.{in-Some, in_default, then-quiet-reply, else-quiet-reply}
 
 pub loop-i-preserved : goal.loop-i-preserved
 loop-i-preserved c =
     let ns = c.args.mentions.now in
     let k = c.loop-i.i in
-    let quiet = c.if-i-eq0.quiet in
-    let tells : TellsFrom ns k quiet = elim c.if-i-eq0.branch [
-      | then-i-eq0 w ↦ rw (w.quiet-is, w.quiet_after-quiet.ensures) (λ i upto. tells_first ns w.mentions_between-own.result.now (at ns k).key (quiet_of w.first_to_silence.result) i k c.loop-i-test.true refl w.mentions_between-own.ensures.inside w.mentions_between-own.ensures.all (w.first_to_silence.ensures.quiet i))
-      | else-i-eq0+else-mentions-i w ↦ rw w.quiet-is (let some = w.if-i-eq0.false in tells_still ns k c.loop-i.quiet c.requires (omega arith) c.loop-i-test.true w.if-mentions-i.false (c.loop-i.invariant.quiet (omega arith)))
+    let quiet = c.match-first_to_silence.quiet in
+    let told = c.first_to_silence.ensures in
+    let tells : TellsFrom ns k quiet = elim c.match-first_to_silence.branch [
+      | in-Some w ↦ rw (w.quiet-is, w.quiet_after-quiet.ensures) (λ i upto. let first = rw w.in-Some.is at told in ap (λ key. is_quiet_by ns key i) (sym (first.key nobody)) ∙ sym (first.quiet i))
+      | in_default w ↦ rw w.quiet-is (let again = rw w.in_default.is at told.again nobody in tells_still ns k c.loop-i.quiet c.requires again.0 c.loop-i-test.true again.1 (c.loop-i.invariant.quiet again.0))
     ] in
     record {
       quiet = λ some. subst (λ i. TellsFrom ns i quiet) (let e : k ≡ k + 1 - 1 = omega arith in e) tells;

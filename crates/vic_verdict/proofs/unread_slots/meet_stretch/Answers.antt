@@ -35,7 +35,7 @@ unmet_by_guess-requires-clause-unmet g c =
 
 pub returns-then-len-need-clause-unmet : goal.returns-then-len-need-clause-unmet
 returns-then-len-need-clause-unmet g c =
-    any_of_rest _ c.args.unread.now c.loop-index.start (rw (take_rest c.args.unread.now c.loop-index.start) at c.in_ok-at.ensures)
+    any_of_rest _ c.args.unread.now c.loop-index.start (rw (take_rest c.args.unread.now c.loop-index.start) at c.in_ok-first.ensures)
 
 pub returns-clause-met : goal.returns-clause-met
 returns-clause-met g c es same h done =
